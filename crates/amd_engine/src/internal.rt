@@ -1,0 +1,49 @@
+// Reading numbers of the caller's integer type, and making them. Later proofs speak of the integers alone, and never of the
+// laws of generic numbers. Called by the walk, the engines, and every module of the crate `amd` that reads an input.
+
+ghost use Rattle.std.specs.Prelude.{◌≡◌, ◌<◌, ◌↔◌, ◌<ℤ◌, IsTrue, length, map, pos};
+ghost use Rattle.num_traits.specs.Laws.{Checks, ChecksUnsigned};
+ghost use Rattle.amd_model.specs.Input.Columns.{at};
+
+use num_traits::PrimInt;
+
+/// The number at a place.
+#[inline]
+pub fn value_at<I: PrimInt>(numbers: &[I], place: usize) -> I
+    requires { place < length numbers.now }
+    ensures { I.value result ≡ at (map I.value numbers.now) place }
+{
+    numbers[place]
+}
+
+/// The number as a count, where it is one.
+#[inline]
+pub fn to_count<I: PrimInt>(number: I) -> Option<usize>
+    ensures { ChecksUnsigned 64 (I.value number) result }
+{
+    number.to_usize()
+}
+
+/// Whether a number is below another one.
+#[inline]
+pub fn is_below<I: PrimInt>(a: I, b: I) -> bool
+    ensures { IsTrue result ↔ (I.value a <ℤ I.value b) }
+{
+    a < b
+}
+
+/// Whether a number is below 0.
+#[inline]
+pub fn is_negative<I: PrimInt>(number: I) -> bool
+    ensures { IsTrue result ↔ (I.value number <ℤ pos 0) }
+{
+    is_below(number, I::zero())
+}
+
+/// The number of the caller's type that a count is, where the type has it.
+#[inline]
+pub fn from_count<I: PrimInt>(count: usize) -> Option<I>
+    ensures { Checks I.value I.fits (pos count) result }
+{
+    num_traits::cast::<usize, I>(count)
+}

@@ -1,0 +1,1 @@
+-- Eliminations worked out in full.

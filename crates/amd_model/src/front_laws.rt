@@ -1,0 +1,8 @@
+// Laws on fronts, true degrees and bounds, in each state of an elimination. Source: Amestoy, Davis and Duff 1996.
+
+ghost use Rattle.amd_model.specs.Laws.{InEachState, FrontsArePaths};
+
+/// In each state the front of a class is exactly what each of its rows reaches through eliminated rows.
+pub fn law_fronts_are_paths()
+    ensures { InEachState (λ g aggressive s. FrontsArePaths g s) }
+{}

@@ -1,0 +1,8 @@
+//! What an approximate minimum degree ordering is: the definitions stand in `specs/`, and each law over them is the
+//! contract of a public function of this crate, with an empty body. No code here runs.
+//!
+//! Source: Amestoy, Davis and Duff 1996 and 2004, the AMD user guide, George and Liu 1981.
+#![tactic(auto)]
+
+pub mod front_laws;
+pub mod sum_laws;
