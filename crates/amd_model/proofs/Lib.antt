@@ -1,4 +1,5 @@
 pub mod BelowLemmas
+pub mod Pigeonhole
 pub mod StateLemmas
 pub mod Sound
 pub mod SoundStep
