@@ -11,6 +11,8 @@ pub mod Next
 pub mod NewParts
 pub mod ListingLemmas
 pub mod Columns
+pub mod Points
+pub mod Leaf
 pub mod TieLists
 pub mod TieLaw
 pub mod TieSums
