@@ -13,6 +13,7 @@ pub mod ListingLemmas
 pub mod Columns
 pub mod Points
 pub mod Leaf
+pub mod Thin
 pub mod TieLists
 pub mod TieLaw
 pub mod TieSums
