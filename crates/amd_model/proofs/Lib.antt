@@ -11,6 +11,7 @@ pub mod Next
 pub mod NewParts
 pub mod ListingLemmas
 pub mod Columns
+pub mod EndState
 pub mod TieLists
 pub mod TieLaw
 pub mod TieSums
