@@ -12,6 +12,8 @@ pub mod NewParts
 pub mod ListingLemmas
 pub mod Columns
 pub mod EndState
+pub mod Places
+pub mod ListedOnce
 pub mod TieLists
 pub mod TieLaw
 pub mod TieSums
