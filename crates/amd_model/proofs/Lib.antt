@@ -14,6 +14,7 @@ pub mod Columns
 pub mod EndState
 pub mod Places
 pub mod ListedOnce
+pub mod ColumnsInside
 pub mod TieLists
 pub mod TieLaw
 pub mod TieSums
