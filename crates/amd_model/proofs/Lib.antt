@@ -14,6 +14,10 @@ pub mod Columns
 pub mod Points
 pub mod Leaf
 pub mod Thin
+pub mod EndState
+pub mod Places
+pub mod ListedOnce
+pub mod ColumnsInside
 pub mod TieLists
 pub mod TieLaw
 pub mod TieSums

@@ -5,4 +5,5 @@
 #![tactic(auto)]
 
 pub mod front_laws;
+pub mod listing_laws;
 pub mod sum_laws;
