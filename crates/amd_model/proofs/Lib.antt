@@ -14,6 +14,7 @@ pub mod Columns
 pub mod Points
 pub mod Leaf
 pub mod Thin
+pub mod EdgesWithin
 pub mod EndState
 pub mod Places
 pub mod ListedOnce
