@@ -15,6 +15,7 @@ pub mod Points
 pub mod Leaf
 pub mod Thin
 pub mod EdgesWithin
+pub mod EntriesMade
 pub mod EndState
 pub mod Places
 pub mod ListedOnce

@@ -113,7 +113,7 @@ module _ (g : Graph) (laws : IsGraph g) (forest : IsForest g) (aggressive : Bool
       let d = bounded c pivot_home in
       omega (arith, few, a, b, d)
 
-  front_size : (v : ℕ) → front g old c v ≡ true → v < g.size
+  pub front_size : (v : ℕ) → front g old c v ≡ true → v < g.size
   front_size v f = live_in_size v (front_live g laws old sound c v f)
 
   pub front_single : (v w : ℕ) → front g old c v ≡ true → front g old c w ≡ true → v ≡ w
@@ -124,7 +124,7 @@ module _ (g : Graph) (laws : IsGraph g) (forest : IsForest g) (aggressive : Bool
       (λ q. clash (class_from c (old.home v) (ap old.home (sym q) ∙ pivot_home)) (front_gives g old c v f).0)
       (front_reached g laws old sound c c v pivot_home f)
 
-  border_front : (v : ℕ) → border_of g aggressive old c v ≡ true → front g old c v ≡ true
+  pub border_front : (v : ℕ) → border_of g aggressive old c v ≡ true → front g old c v ≡ true
   border_front v b = (border_gives g laws aggressive c old new sound step v b).0
 
   mass_front : (d : ℕ) → mass g aggressive old c d ≡ true → front g old c d ≡ true
@@ -142,7 +142,7 @@ module _ (g : Graph) (laws : IsGraph g) (forest : IsForest g) (aggressive : Bool
     | inr k ↦ subst (λ m. front g old c m ≡ true) (sym (thin.alone v k.0 k.2)) (mass_front k.0 k.1)
   ]
 
-  block_live : (v : ℕ) → block g aggressive old c v ≡ true → live old v ≡ true
+  pub block_live : (v : ℕ) → block g aggressive old c v ≡ true → live old v ≡ true
   block_live v b = elim (block_gives' g laws aggressive c old new sound step v b) [
     | inl h ↦ live_from c (old.home v) h
     | inr k ↦ live_from k.0 (old.home v) k.2
