@@ -1,11 +1,11 @@
 -- In a run on a forest the entries of the elements made so far and the edges among the live rows are all edges.
-use Rattle.std.proofs.Common.{ℕ, zero, suc, Bool, true, false, ◌≡◌, ◌≢◌, ◌<◌, ◌≤◌, ◌+◌, ◌*◌, ◌&&◌, not, cond, ◌⊎◌, inl, inr, refl, sym, ◌∙◌, ap, subst, arith}
+use Rattle.std.proofs.Common.{ℕ, Bool, true, false, ◌≡◌, ◌≢◌, ◌<◌, ◌≤◌, ◌+◌, ◌&&◌, not, cond, inl, inr, refl, sym, ◌∙◌, ap, subst, arith}
 use Rattle.std.specs.Prelude.{◌==◌, nat_lt}
 use Rattle.std.proofs.lemmas.Bool.{cases_Bool, true≢false, false≢true, cases_eq, and_parts, and_from, not-true, not_from_false, eq-eqb, ne_eqb, lt-ltb}
-use Rattle.amd_model.specs.Below.{any_below, sum_below, count_below}
+use Rattle.amd_model.specs.Below.{sum_below, count_below}
 use Rattle.amd_model.specs.Graph.{Graph, IsGraph, degree, edge_count}
 use Rattle.amd_model.specs.Forest.{IsForest}
-use Rattle.amd_model.specs.State.{State, Home, Last, Live, Gone, block_at, live, eliminated, in_class, in_block, is_element, front, IsStart}
+use Rattle.amd_model.specs.State.{State, Live, live, in_class, in_block, is_element, front, IsStart}
 use Rattle.amd_model.specs.Step.{StepAt, block, border_of}
 use Rattle.amd_model.specs.Figures.{front_sum, is_made, figure, entries}
 use Rattle.amd_model.specs.Reach.{direct}
@@ -14,12 +14,12 @@ use Rattle.amd_model.proofs.BelowLemmas.{count_mono, count_same, count_split, co
 use Rattle.amd_model.proofs.Points.{sum_at, sum_zero, count_zero, zero_counted, count_drop}
 use Rattle.amd_model.proofs.EdgesWithin.{within, without, within_same, within_without}
 use Rattle.amd_model.proofs.Sums.{entries_sum}
-use Rattle.amd_model.proofs.StateLemmas.{class_gives, class_from, live_gives, live_from, block_gives, block_from, front_gives}
+use Rattle.amd_model.proofs.StateLemmas.{class_gives, live_gives, live_from, block_gives, block_from}
 use Rattle.amd_model.proofs.Sound.{live_small, front_live, reached_front}
-use Rattle.amd_model.proofs.SoundStep.{Fate, goes, moves, stays, fate, block_pivot, border_gives, was_live, block_reaches, live_not_block}
+use Rattle.amd_model.proofs.SoundStep.{Fate, goes, moves, stays, fate, block_pivot, was_live, block_reaches, live_not_block}
 use Rattle.amd_model.proofs.SoundStart.{begins, is_last, is_empty, is_live}
 use Rattle.amd_model.proofs.Bounds.{Bounded}
-use Rattle.amd_model.proofs.Thin.{IsThin, edge_live, pivot_home, front_few, front_single, front_edge, front_size, border_front, block_row, block_live, gone_from_old}
+use Rattle.amd_model.proofs.Thin.{IsThin, edge_live, pivot_home, front_few, front_single, front_edge, border_front, block_row, block_live, gone_from_old}
 
 -- the edges among the live rows
 unfoldable pub edges_left : Graph → State → ℕ

@@ -1,10 +1,10 @@
 -- In a forest each set of rows has a row with at most one neighbour in the set: a walk that never turns back meets itself, or ends there.
-use Rattle.std.proofs.Common.{ℕ, zero, suc, Bool, true, false, ◌≡◌, ◌≢◌, ◌<◌, ◌≤◌, ◌+◌, ◌-◌, ◌&&◌, not, inl, inr, refl, sym, ◌∙◌, ap, subst, arith, List, [], ◌∷◌, length}
+use Rattle.std.proofs.Common.{ℕ, zero, suc, Bool, true, ◌≡◌, ◌≢◌, ◌<◌, ◌≤◌, ◌+◌, ◌-◌, ◌&&◌, not, inl, inr, refl, sym, ◌∙◌, ap, subst, arith, List, [], ◌∷◌, length}
 use Rattle.std.specs.Prelude.{◌==◌, slice_index}
-use Rattle.std.proofs.lemmas.Bool.{and_parts, and_from, cases_eq, cases_lt, cases_Bool, true≢false, eqb-true, eq-eqb, ne_eqb, not-true, not_from_false}
+use Rattle.std.proofs.lemmas.Bool.{and_parts, and_from, cases_eq, cases_Bool, true≢false, eq-eqb, ne_eqb, not-true, not_from_false}
 use Rattle.amd_model.specs.Below.{any_below, count_below}
 use Rattle.amd_model.specs.Graph.{Graph, IsGraph}
-use Rattle.amd_model.specs.Forest.{IsCycle, IsForest}
+use Rattle.amd_model.specs.Forest.{IsForest}
 use Rattle.amd_model.proofs.BelowLemmas.{any_gives, any_none}
 use Rattle.amd_model.proofs.Points.{count_one, pigeonhole}
 

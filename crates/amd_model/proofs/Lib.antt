@@ -20,6 +20,7 @@ pub mod EndState
 pub mod Places
 pub mod ListedOnce
 pub mod ColumnsInside
+pub mod NoFill
 pub mod TieLists
 pub mod TieLaw
 pub mod TieSums

@@ -1,9 +1,9 @@
 -- Sums and counts that differ at one number, counts of few numbers, and the pigeonhole principle.
-use Rattle.std.proofs.Common.{ℕ, zero, suc, Bool, true, false, ◌≡◌, ◌≢◌, ◌<◌, ◌≤◌, ◌+◌, ◌&&◌, ◌||◌, not, cond, inl, inr, refl, sym, ◌∙◌, ap, subst, arith}
+use Rattle.std.proofs.Common.{ℕ, zero, suc, Bool, true, false, ◌≡◌, ◌≢◌, ◌<◌, ◌≤◌, ◌+◌, ◌&&◌, ◌||◌, not, cond, inl, inr, refl, sym, ap, subst, arith}
 use Rattle.std.specs.Prelude.{◌==◌}
-use Rattle.std.proofs.lemmas.Bool.{and_parts, and_from, or_left, cases_eq, cases_Bool, true≢false, eqb-true, eq-eqb, ne_eqb, not_from_false}
+use Rattle.std.proofs.lemmas.Bool.{and_from, cases_eq, cases_Bool, true≢false, eqb-true, eq-eqb, ne_eqb, not_from_false}
 use Rattle.amd_model.specs.Below.{any_below, sum_below, count_below}
-use Rattle.amd_model.proofs.BelowLemmas.{none_any, sum_same, count_split, count_pos}
+use Rattle.amd_model.proofs.BelowLemmas.{none_any, sum_same, count_pos}
 
 -- two functions that differ at one number by d have sums that differ by d
 pub sum_at : (n : ℕ) (f h : ℕ → ℕ) (x d : ℕ) → x < n → ((k : ℕ) → k < n → k ≢ x → f k ≡ h k) → f x ≡ h x + d → sum_below n f ≡ sum_below n h + d

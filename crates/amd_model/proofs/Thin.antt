@@ -1,20 +1,20 @@
 -- Each state of a run on a forest with no dense row is thin: its classes are single rows, its borders have at most one row, and paths are edges.
-use Rattle.std.proofs.Common.{ℕ, Bool, true, false, ◌≡◌, ◌≢◌, ◌<◌, ◌≤◌, ◌+◌, ◌&&◌, not, cond, ◌⊎◌, inl, inr, refl, sym, ◌∙◌, ap, subst, arith}
+use Rattle.std.proofs.Common.{ℕ, Bool, true, false, ◌≡◌, ◌≢◌, ◌<◌, ◌≤◌, ◌&&◌, not, cond, ◌⊎◌, inl, inr, refl, sym, ◌∙◌, ap, subst, arith}
 use Rattle.std.specs.Prelude.{◌==◌}
 use Rattle.std.proofs.lemmas.Bool.{cases_Bool, true≢false, cases_eq, cases_lt, and_parts, and_from, not-true, eq-eqb}
 use Rattle.amd_model.specs.Below.{any_below, sum_below, count_below}
 use Rattle.amd_model.specs.Graph.{Graph, IsGraph, degree}
 use Rattle.amd_model.specs.Forest.{IsForest}
-use Rattle.amd_model.specs.State.{State, Home, Last, Live, Gone, live, eliminated, in_class, is_class, holds, neighbours, front, IsStart}
+use Rattle.amd_model.specs.State.{State, Last, Live, Gone, live, eliminated, in_class, is_class, holds, neighbours, front, IsStart}
 use Rattle.amd_model.specs.Step.{StepAt, other, outer, mass, block, border_of, beyond, outside, new_bound}
 use Rattle.amd_model.specs.Reach.{Reach, direct}
 use Rattle.amd_model.specs.Sound.{IsSound}
 use Rattle.amd_model.proofs.BelowLemmas.{any_gives, count_mono, count_pos}
 use Rattle.amd_model.proofs.Points.{sum_zero, count_zero, one_counted}
 use Rattle.amd_model.proofs.Leaf.{leaf}
-use Rattle.amd_model.proofs.StateLemmas.{class_gives, class_from, live_gives, live_from, holds_gives, neighbours_gives, front_gives, reach_split, reach_flip}
+use Rattle.amd_model.proofs.StateLemmas.{class_gives, class_from, live_gives, live_from, holds_gives, front_gives, reach_split, reach_flip}
 use Rattle.amd_model.proofs.Sound.{live_small, front_live, front_reached, neighbours_edge}
-use Rattle.amd_model.proofs.SoundStep.{step_sound, Fate, goes, moves, stays, fate, pivot_live, block_pivot, block_gives', border_gives, live_not_block, was_live, was_eliminated, block_reaches, other_border}
+use Rattle.amd_model.proofs.SoundStep.{step_sound, Fate, goes, moves, stays, fate, pivot_live, block_pivot, block_gives', border_gives, was_live, was_eliminated, block_reaches, other_border}
 use Rattle.amd_model.proofs.SoundStart.{begins, is_last, is_empty, is_live, own, no_edge, path_is_edge}
 use Rattle.amd_model.proofs.NewParts.{was_class}
 use Rattle.amd_model.proofs.Bounds.{Bounded}
