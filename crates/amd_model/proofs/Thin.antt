@@ -23,6 +23,7 @@ use Rattle.amd_model.proofs.Bounds.{Bounded}
 abbrev pub live_neighbour : Graph → State → ℕ → ℕ → Bool
 live_neighbour g s v w = live s w && g.edge v w
 
+-- every live row is a class and a path between live rows is an edge, bounds are at most live degrees, and no row is held last
 pub record IsThin (g : Graph) (s : State) : Type 0 where
   pub last : (v : ℕ) → s.home v ≡ Last → g.size ≤ v
   pub alone : (v c : ℕ) → s.home v ≡ Live c → v ≡ c
