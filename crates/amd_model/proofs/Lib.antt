@@ -12,6 +12,16 @@ pub mod Next
 pub mod NewParts
 pub mod ListingLemmas
 pub mod Columns
+pub mod Points
+pub mod Leaf
+pub mod Thin
+pub mod EdgesWithin
+pub mod EntriesMade
+pub mod EndState
+pub mod Places
+pub mod ListedOnce
+pub mod ColumnsInside
+pub mod NoFill
 pub mod TieLists
 pub mod TieLaw
 pub mod TieSums

@@ -52,7 +52,7 @@ module _ (g : Graph) (laws : IsGraph g) (aggressive : Bool) (c : ℕ) (old new :
     | stays ni nf q ↦ q ∙ h
   ]
 
-  last_stays : (v : ℕ) → old.home v ≡ Last → new.home v ≡ Last
+  pub last_stays : (v : ℕ) → old.home v ≡ Last → new.home v ≡ Last
   last_stays v h = elim (fate' v) [
     | goes b q ↦ absurd (let x = (block_live v b).1 in cc)
     | moves s x j p q r a o w ↦ absurd (cc)
@@ -218,7 +218,7 @@ some_same p q = cc
 gone_same : {a b : ℕ} {h : Home} → h ≡ Gone a → h ≡ Gone b → a ≡ b
 gone_same p q = cc
 
-chain_descends : {s : State} {v e f : ℕ} → Chain s v e f → Descends s e f
+pub chain_descends : {s : State} {v e f : ℕ} → Chain s v e f → Descends s e f
 chain_descends (ends b p h) = via p self
 chain_descends (link b p r) = via p (chain_descends r)
 
