@@ -17,3 +17,5 @@ pub mod TieSums
 pub mod TieRun
 pub mod TieBuckets
 pub mod Classes
+pub mod Counts
+pub mod Exact

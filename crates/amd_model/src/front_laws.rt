@@ -1,6 +1,6 @@
 // Laws on fronts, true degrees and bounds, in each state of an elimination. Source: Amestoy, Davis and Duff 1996.
 
-ghost use Rattle.amd_model.specs.Laws.{InEachState, FrontsArePaths, ClassesAreWhole};
+ghost use Rattle.amd_model.specs.Laws.{InEachState, FrontsArePaths, BoundsMeetDegrees, ClassesAreWhole};
 
 /// In each state the front of a class is exactly what each of its rows reaches through eliminated rows.
 pub fn law_fronts_are_paths()
@@ -11,4 +11,10 @@ pub fn law_fronts_are_paths()
 /// to each row of a direct neighbour.
 pub fn law_classes_are_whole()
     ensures { InEachState ClassesAreWhole }
+{}
+
+/// In each state the size of a front is the true external degree of its class, and the bound of the class is no lower. It is
+/// equal where one or two elements hold the class, and greater by the dense neighbours where none does.
+pub fn law_bounds()
+    ensures { InEachState (λ g aggressive s. BoundsMeetDegrees g s) }
 {}
