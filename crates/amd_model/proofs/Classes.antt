@@ -1,5 +1,6 @@
 -- What is tested at the representative of a class holds of its rows alike.
-use Rattle.std.proofs.Common.{ℕ, Bool, true, false, ◌≡◌, ◌&&◌, ◌||◌, not, refl, sym, ◌∙◌, ap}
+use Rattle.std.proofs.Common.{ℕ, Bool, ◌≡◌, ◌&&◌, ◌||◌, not, sym, ◌∙◌, ap}
+use Rattle.std.specs.Cmp.{both_ways}
 use Rattle.amd_model.specs.Below.{any_below}
 use Rattle.amd_model.specs.Graph.{Graph, IsGraph}
 use Rattle.amd_model.specs.State.{State, Home, Live, class_at, holds, front}
@@ -11,12 +12,6 @@ use Rattle.amd_model.proofs.Sound.{live_small, holds_class, neighbours_edge, fro
 use Rattle.amd_model.proofs.SoundStart.{start_sound}
 use Rattle.amd_model.proofs.Paths.{sound_states}
 
--- two tests of which each gives the other are one
-pub same_test : (a b : Bool) → (a ≡ true → b ≡ true) → (b ≡ true → a ≡ true) → a ≡ b
-same_test true b f h = sym (f refl)
-same_test false true f h = h refl
-same_test false false f h = refl
-
 module _ (g : Graph) (laws : IsGraph g) (aggressive : Bool) (s : State) (sound : IsSound g s) where
   -- the block reads of a row no more than where it is
   block_same : (c v w : ℕ) → s.home v ≡ s.home w → block g aggressive s c v ≡ block g aggressive s c w
@@ -24,7 +19,7 @@ module _ (g : Graph) (laws : IsGraph g) (aggressive : Bool) (s : State) (sound :
   block_same c v w e = ap (λ (h : Home). class_at c h || any_below g.size (λ d. mass g aggressive s c d && class_at d h)) e
 
   front_same : (c v w d : ℕ) → s.home v ≡ Live d → s.home w ≡ Live d → front g s c v ≡ front g s c w
-  front_same c v w d hv hw = same_test (front g s c v) (front g s c w) (front_whole g laws s sound c d v w hv hw) (front_whole g laws s sound c d w v hw hv)
+  front_same c v w d hv hw = both_ways (front g s c v) (front g s c w) (front_whole g laws s sound c d v w hv hw) (front_whole g laws s sound c d w v hw hv)
 
   border_same : (c v w d : ℕ) → s.home v ≡ Live d → s.home w ≡ Live d → border_of g aggressive s c v ≡ border_of g aggressive s c w
   unfolding border_of
@@ -33,7 +28,7 @@ module _ (g : Graph) (laws : IsGraph g) (aggressive : Bool) (s : State) (sound :
 
   pub classes_are_whole : ClassesAreWhole g aggressive s
   classes_are_whole = record {
-    held = λ e d v st i. let hv = class_gives d (s.home v) i in same_test (holds g s e d) (s.border e v)
+    held = λ e d v st i. let hv = class_gives d (s.home v) i in both_ways (holds g s e d) (s.border e v)
         (λ h. (holds_gives g s e d h).rows v (live_small g laws s sound v d hv) hv)
         (λ b. holds_class g laws s sound e d v st hv b);
     fronts = λ c d v i. let hv = class_gives d (s.home v) i in front_same c d v d (sound.named v d hv) hv;

@@ -2,7 +2,7 @@
 use Rattle.std.proofs.Common.{ℕ, zero, suc, Bool, true, false, ◌≡◌, ◌≢◌, ◌<◌, ◌≤◌, ◌+◌, ◌&&◌, ◌||◌, ◌==◌, not, cond, refl, arith}
 use Rattle.std.proofs.lemmas.Bool.{and_parts, and_from, eq-eqb, ne_eqb, not_from_false}
 use Rattle.amd_model.specs.Below.{any_below, sum_below, count_below}
-use Rattle.amd_model.proofs.BelowLemmas.{any_gives, sum_plus, sum_mono, count_split, count_pos, count_mono}
+use Rattle.amd_model.proofs.BelowLemmas.{any_gives, sum_plus, sum_mono, count_split, count_pos, count_mono, none_counted}
 
 le_or : (a b : Bool) → (a ≡ true → b ≡ true → ⊥) → cond a 1 0 + cond b 1 0 ≤ cond (a || b) 1 0
 le_or true true apart = absurd (apart refl refl)
@@ -55,11 +55,6 @@ count_three n p a b c la lb lc pa pb pc ba ca cb =
     let third : 0 < count_below n (λ k. p' k && not (k == b)) = count_pos n (λ k. p' k && not (k == b)) c lc
     (and_from (p' c) (not (c == b)) pc' (not_from_false (c == b) (ne_eqb c b cb))) in
     omega (arith, first, second, third)
-
-none_counted : (n : ℕ) → count_below n (λ v. false) ≤ 0
-unfolding count_below sum_below
-none_counted zero = omega arith
-none_counted (suc n) = let there : count_below n (λ v. false) ≤ 0 = none_counted n in omega arith
 
 -- a set with no member
 pub count_none : (n : ℕ) (p : ℕ → Bool) → ((k : ℕ) → k < n → p k ≡ true → ⊥) → count_below n p ≡ 0

@@ -1,6 +1,7 @@
 -- The bound of a class that one or two elements hold is the size of its front, and that of a class that none holds is its degree.
 use Rattle.std.proofs.Common.{ℕ, Bool, true, false, ◌≡◌, ◌≢◌, ◌<◌, ◌≤◌, ◌+◌, ◌-◌, ◌&&◌, ◌||◌, ◌==◌, not, inl, inr, refl, sym, ◌∙◌, ap, arith, cond, List, [], ◌∷◌}
 use Rattle.std.proofs.lemmas.Bool.{cases_Bool, true≢false, and_parts, and_from, or_cases, not-true, eq-eqb}
+use Rattle.std.specs.Cmp.{both_ways}
 use Rattle.amd_model.specs.Below.{any_below, count_below, sum_below}
 use Rattle.amd_model.specs.Graph.{Graph, IsGraph, degree}
 use Rattle.amd_model.specs.State.{State, Home, Last, Live, Gone, live_at, gone_at, live, eliminated, in_class, holds, neighbours, front, IsStart}
@@ -18,7 +19,6 @@ use Rattle.amd_model.proofs.SoundStart.{none_stands, own, no_edge, is_last as st
 use Rattle.amd_model.proofs.Bounds.{Bounded, kept_class, near_count, step_bounded}
 use Rattle.amd_model.proofs.Paths.{start_bounded}
 use Rattle.amd_model.proofs.NewParts.{was_class, holds_new, neighbours_new}
-use Rattle.amd_model.proofs.Classes.{same_test}
 
 -- a class that one or two elements hold has the size of its front as bound, at most
 abbrev pub IsExact : Graph → State → Type 0
@@ -33,12 +33,12 @@ pub record IsUntouched (g : Graph) (s : State) (i : ℕ) : Type 0 where
 abbrev pub AreUntouched : Graph → State → Type 0
 AreUntouched g s = (i : ℕ) → s.home i ≡ Live i → ((e : ℕ) → holds g s e i ≡ true → ⊥) → IsUntouched g s i
 
+clash : {b : Bool} {P : Type 0} → b ≡ true → b ≡ false → P
+clash t f = absurd (true≢false (sym t ∙ f))
+
 module _ (g : Graph) (laws : IsGraph g) (aggressive : Bool) (c : ℕ) (old new : State) (sound : IsSound g old) (step : StepAt g aggressive c old new) where
   after : IsSound g new
   after = step_sound g laws aggressive c old new sound step
-
-  clash : {b : Bool} {P : Type 0} → b ≡ true → b ≡ false → P
-  clash t f = absurd (true≢false (sym t ∙ f))
 
   -- a class outside S is held as before
   holds_kept : (e i : ℕ) → new.home i ≡ Live i → border_of g aggressive old c i ≡ false → holds g old e i ≡ true → holds g new e i ≡ true
@@ -62,7 +62,7 @@ module _ (g : Graph) (laws : IsGraph g) (aggressive : Bool) (c : ℕ) (old new :
   holders_kept : (i : ℕ) → new.home i ≡ Live i → border_of g aggressive old c i ≡ false → holders g new i ≡ holders g old i
   unfolding holders
   holders_kept i hi off = count_same g.size (λ e. holds g new e i) (λ e. holds g old e i)
-      (λ e l. same_test (holds g new e i) (holds g old e i) (holds_before e i hi off) (holds_kept e i hi off))
+      (λ e l. both_ways (holds g new e i) (holds g old e i) (holds_before e i hi off) (holds_kept e i hi off))
 
   -- L of a class outside S has lost no row
   front_kept : (i v : ℕ) → new.home i ≡ Live i → border_of g aggressive old c i ≡ false → front g old i v ≡ true → front g new i v ≡ true
@@ -265,19 +265,16 @@ start_untouched g laws dense s start i hi none = record {
 }
 
 module _ (g : Graph) (laws : IsGraph g) (s : State) (sound : IsSound g s) where
-  clash' : {b : Bool} {P : Type 0} → b ≡ true → b ≡ false → P
-  clash' t f = absurd (true≢false (sym t ∙ f))
-
   -- the live neighbours of the row of an untouched class are its front
   live_edge : (i v : ℕ) → s.home i ≡ Live i → IsUntouched g s i → ((e : ℕ) → holds g s e i ≡ true → ⊥) → front g s i v ≡ (g.edge i v && live s v)
-  live_edge i v hi u none = same_test (front g s i v) (g.edge i v && live s v)
+  live_edge i v hi u none = both_ways (front g s i v) (g.edge i v && live s v)
       (λ f. and_from (g.edge i v) (live s v) (elim ((front_gives g s i v f).1) [
         | by_element e l h b ↦ absurd (none e h)
         | by_neighbour d l n hv ↦ neighbours_edge g laws s sound i d i v n hi hv
       ]) (front_live g laws s sound i v f))
       (λ h. let p = and_parts (g.edge i v) (live s v) h in
       let out : in_class s i v ≡ false = elim (cases_Bool (in_class s i v)) [
-        | inl k ↦ clash' (ap (g.edge i) (sym (u.alone v (class_gives i (s.home v) k))) ∙ p.0) (laws.no_loop i)
+        | inl k ↦ clash (ap (g.edge i) (sym (u.alone v (class_gives i (s.home v) k))) ∙ p.0) (laws.no_loop i)
         | inr k ↦ k
       ] in
       reached_front g laws s sound i i v hi p.1 out (direct p.0))
@@ -286,7 +283,7 @@ module _ (g : Graph) (laws : IsGraph g) (s : State) (sound : IsSound g s) where
   last_edge : (i v : ℕ) → v < g.size → s.home i ≡ Live i → IsUntouched g s i →
       (is_last (s.home v) && any_below g.size (λ w. in_class s i w && g.edge w v)) ≡ (g.edge i v && not (live s v))
   unfolding is_last live_at gone_at
-  last_edge i v l hi u = same_test (is_last (s.home v) && any_below g.size near) (g.edge i v && not (live s v))
+  last_edge i v l hi u = both_ways (is_last (s.home v) && any_below g.size near) (g.edge i v && not (live s v))
       (λ h. let p = and_parts (is_last (s.home v)) (any_below g.size near) h in
       let r = any_gives g.size near p.1 in let q = and_parts (in_class s i r.0) (g.edge r.0 v) r.2 in
       and_from (g.edge i v) (not (live s v)) (ap (λ k. g.edge k v) (sym (u.alone r.0 (class_gives i (s.home r.0) q.0))) ∙ q.1) (last_not_live (s.home v) p.0))
