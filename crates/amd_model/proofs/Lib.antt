@@ -27,3 +27,6 @@ pub mod TieLaw
 pub mod TieSums
 pub mod TieRun
 pub mod TieBuckets
+pub mod Classes
+pub mod Counts
+pub mod Exact
