@@ -15,6 +15,7 @@ pub mod EndState
 pub mod Places
 pub mod ListedOnce
 pub mod ColumnsInside
+pub mod ReachTest
 pub mod TieLists
 pub mod TieLaw
 pub mod TieSums
