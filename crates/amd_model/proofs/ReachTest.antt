@@ -13,7 +13,7 @@ use Rattle.amd_model.proofs.StateLemmas.{reach_join}
 use Rattle.amd_model.proofs.ListingLemmas.{has_below, below_has}
 use Rattle.amd_model.proofs.Places.{contains_has, has_contains, length_below, below_increasing}
 
--- w is reached from v through rows of the set below m: not through m - 1, or through it
+-- w is reached from v through rows of the set that lie below m
 unfoldable pub reaches : Graph → (ℕ → Bool) → ℕ → ℕ → ℕ → Bool
 reaches g through zero v w = g.edge v w
 reaches g through (suc m) v w = reaches g through m v w || (through m && reaches g through m v m && reaches g through m m w)
