@@ -22,3 +22,4 @@ pub mod TieSums
 pub mod TieRun
 pub mod TieBuckets
 pub mod FrontSums
+pub mod SmallFigures
