@@ -23,3 +23,4 @@ pub mod TieRun
 pub mod TieBuckets
 pub mod FrontSums
 pub mod SmallFigures
+pub mod ListCounts
