@@ -3,7 +3,7 @@ use Rattle.std.proofs.Common.{ℕ, zero, suc, Bool, true, false, ◌≡◌, ◌�
 use Rattle.std.proofs.lemmas.Bool.{cases_eq, cases_Bool, cond-true, cond-false}
 use Rattle.amd_model.specs.Below.{sum_below, count_below}
 use Rattle.amd_model.specs.Figures.{front_sum, entries, max_below}
-use Rattle.amd_model.proofs.BelowLemmas.{sum_same}
+use Rattle.amd_model.proofs.BelowLemmas.{sum_same, sum_mono}
 use Rattle.amd_model.proofs.Sums.{entries_closed}
 
 -- two sums whose terms differ at one number only
@@ -16,6 +16,30 @@ sum_at (suc n) f h c l same = elim (cases_eq c n) [
   | inr ne ↦ (let here : f n ≡ h n = same n (omega arith) (λ e. ne (sym e)) in
       let there : sum_below n f + h c ≡ sum_below n h + f c = sum_at n f h c (omega arith) (λ k lk off. same k (omega arith) off) in omega arith)
 ]
+
+-- a sum of terms that are no less, and at one number greater by m, is greater by m
+pub sum_more : (n : ℕ) (f h : ℕ → ℕ) (c m : ℕ) → c < n → ((k : ℕ) → k < n → f k ≤ h k) → f c + m ≤ h c → sum_below n f + m ≤ sum_below n h
+unfolding sum_below
+sum_more zero f h c m l le more = absurd (omega arith)
+sum_more (suc n) f h c m l le more = elim (cases_eq c n) [
+  | inl q ↦ (let rest : sum_below n f ≤ sum_below n h = sum_mono n f h (λ k lk. le k (omega arith)) in
+      let a : f c ≡ f n = ap f q in let b : h c ≡ h n = ap h q in omega arith)
+  | inr ne ↦ (let here : f n ≤ h n = le n (omega arith) in
+      let there : sum_below n f + m ≤ sum_below n h = sum_more n f h c m (omega arith) (λ k lk. le k (omega arith)) more in omega arith)
+]
+
+-- a front with more rows in its block has a greater sum
+pub front_grows : (share : ℕ → ℕ) (f m r : ℕ) → f ≤ m → front_sum share f r ≤ front_sum share m r
+unfolding front_sum sum_below
+front_grows share f zero r l = let e : f ≡ zero = omega arith in let q = ap (λ k. front_sum share k r) e in omega (arith, q)
+front_grows share f (suc m) r l = elim (cases_eq f (suc m)) [
+  | inl e ↦ (let q = ap (λ k. front_sum share k r) e in omega (arith, q))
+  | inr ne ↦ (let h = front_grows share f m r (omega arith) in omega (arith, h))
+]
+
+pub front_more : (share : ℕ → ℕ) (f r : ℕ) → front_sum share (suc f) r ≡ share (r + f) + front_sum share f r
+unfolding front_sum sum_below
+front_more share f r = refl
 
 one_of : (a b : Bool) → (a ≡ true → b ≡ true → ⊥) → cond a 1 0 + cond b 1 0 ≤ 1
 one_of true true h = absurd (h refl refl)

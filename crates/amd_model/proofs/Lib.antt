@@ -24,3 +24,5 @@ pub mod TieBuckets
 pub mod FrontSums
 pub mod SmallFigures
 pub mod ListCounts
+pub mod EmptyRows
+pub mod NeededColumns
