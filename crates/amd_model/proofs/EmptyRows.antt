@@ -2,7 +2,7 @@
 use Rattle.std.proofs.Common.{ℕ, Bool, ◌≡◌, ◌<◌, inl, inr, sym, ◌∙◌, ap, arith, List, [], ◌∷◌}
 use Rattle.std.proofs.lemmas.Bool.{cases_Bool, cases_eq}
 use Rattle.amd_model.specs.Graph.{Graph, IsGraph, degree}
-use Rattle.amd_model.specs.State.{State, Last, Live, Gone, IsStart}
+use Rattle.amd_model.specs.State.{State, Live, Gone, IsStart}
 use Rattle.amd_model.specs.Step.{StepAt}
 use Rattle.amd_model.specs.Run.{Steps, last_state}
 use Rattle.amd_model.specs.Sound.{IsSound}

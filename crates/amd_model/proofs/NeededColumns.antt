@@ -1,18 +1,18 @@
 -- What the columns under a listing need is no more than the figures of the run.
 -- The column of a row lies in the later rows of its block, on its border and in the dense rows, and the rows of a block have
 -- each number of later ones once.
-use Rattle.std.proofs.Common.{ℕ, zero, suc, Bool, true, false, ◌≡◌, ◌<◌, ◌≤◌, ◌+◌, ◌-◌, ◌*◌, ◌/◌, ◌&&◌, ◌||◌, max, cond, inl, inr, refl, sym, ◌∙◌, ap, subst, arith, List, [], ◌∷◌, ◌++◌, length, slice_index, slice_index_or, count_by, get_or-append-add, append_assoc, length-append, mul-le-mul, ltb-false, lt-ltb}
+use Rattle.std.proofs.Common.{ℕ, suc, Bool, true, false, ◌≡◌, ◌<◌, ◌≤◌, ◌+◌, ◌-◌, ◌*◌, ◌||◌, max, cond, inl, inr, refl, sym, ◌∙◌, ap, subst, arith, List, [], ◌∷◌, ◌++◌, length, slice_index, slice_index_or, count_by, get_or-append-add, append_assoc, length-append, mul-le-mul, lt-ltb}
 use Rattle.std.specs.Prelude.{nat_lt}
 use Rattle.std.proofs.Math.Seq.{get_or-append_seam}
-use Rattle.std.proofs.lemmas.Bool.{cases_Bool, cases_eq, cases_lt, true≢false, false≢true, and_from, or_left, or_right, cond-true, cond-false}
+use Rattle.std.proofs.lemmas.Bool.{cases_Bool, cases_eq, false≢true, and_from, or_left, or_right, cond-true, cond-false}
 use Rattle.std.proofs.lemmas.List.Sums.{sum_by-cons}
 use Rattle.std.proofs.lemmas.List.Elements.{Contains-get_or}
 use Rattle.amd_model.specs.Below.{sum_below, count_below, list_below}
-use Rattle.amd_model.specs.Graph.{Graph, IsGraph, degree}
-use Rattle.amd_model.specs.State.{State, Home, Last, Live, Gone, live, in_block, is_element}
-use Rattle.amd_model.specs.Run.{Run, last_state}
+use Rattle.amd_model.specs.Graph.{Graph, degree}
+use Rattle.amd_model.specs.State.{State, Home, Last, Live, Gone, in_block, is_element}
+use Rattle.amd_model.specs.Run.{last_state}
 use Rattle.amd_model.specs.Reach.{Reach}
-use Rattle.amd_model.specs.Listing.{assembly_tree, IsPostorder, IsPermutation}
+use Rattle.amd_model.specs.Listing.{IsPostorder, IsPermutation}
 use Rattle.amd_model.specs.Factor.{before, IsColumn, IsFactor, needed, needed_front}
 use Rattle.amd_model.specs.Figures.{front_sum, is_made, figure, entries, ldl_steps, lu_steps, greatest_front}
 use Rattle.amd_model.specs.Laws.{is_last, ColumnsInside, EmptyColumns, Covers, OfEachListing}
@@ -27,7 +27,7 @@ use Rattle.amd_model.proofs.ColumnsInside.{columns_inside, empty_columns}
 use Rattle.amd_model.proofs.ReachTest.{columns, factor_of}
 use Rattle.amd_model.proofs.TieLists.{clash}
 use Rattle.amd_model.proofs.FrontSums.{sum_more, front_grows, front_more, max_term, max_base}
-use Rattle.amd_model.proofs.ListCounts.{count_here, count_later, count_right, count_either, count_permuted, PassesAt, rising_bound, rising_pairs}
+use Rattle.amd_model.proofs.ListCounts.{count_here, count_later, count_right, count_either, count_permuted, rising_bound, rising_pairs}
 
 -- each column is no longer than the bound at its row and the rows after it
 pub data EachWithin (most : ℕ → List ℕ → ℕ) : List (List ℕ) → List ℕ → Type 0 where
@@ -56,8 +56,8 @@ later_row ps rest v j l w =
 
 module _ (g : Graph) (dense : ℕ → Bool) (s : State) (end : IsEnd g dense s) (busy : IsBusy g s) (p : List ℕ) (post : IsPostorder g dense s p)
     (inside : ColumnsInside g s p) (empty : EmptyColumns g p) (permutes : IsPermutation g.size p) where
-  D : ℕ
-  D = count_below g.size dense
+  dense_count : ℕ
+  dense_count = count_below g.size dense
 
   held : ℕ → Bool
   held v = is_last (s.home v)
@@ -70,7 +70,7 @@ module _ (g : Graph) (dense : ℕ → Bool) (s : State) (end : IsEnd g dense s) 
   most_at : Home → List ℕ → ℕ
   most_at Last rest = count_by held rest
   most_at (Live c) rest = 0
-  most_at (Gone e) rest = cond (is_made g s e) (count_by (in_block s e) rest + (count_below g.size (s.border e) + D)) 0
+  most_at (Gone e) rest = cond (is_made g s e) (count_by (in_block s e) rest + (count_below g.size (s.border e) + dense_count)) 0
 
   most : ℕ → List ℕ → ℕ
   most v rest = most_at (s.home v) rest
@@ -83,7 +83,7 @@ module _ (g : Graph) (dense : ℕ → Bool) (s : State) (end : IsEnd g dense s) 
   unfolding most_at
   most_last rest = refl
 
-  most_made : (e : ℕ) (rest : List ℕ) → is_made g s e ≡ true → most_at (Gone e) rest ≡ count_by (in_block s e) rest + (count_below g.size (s.border e) + D)
+  most_made : (e : ℕ) (rest : List ℕ) → is_made g s e ≡ true → most_at (Gone e) rest ≡ count_by (in_block s e) rest + (count_below g.size (s.border e) + dense_count)
   unfolding most_at
   most_made e rest h = cond-true (is_made g s e) _ 0 h
 
@@ -91,8 +91,8 @@ module _ (g : Graph) (dense : ℕ → Bool) (s : State) (end : IsEnd g dense s) 
   unfolding most_at
   most_unmade e rest h = cond-false (is_made g s e) _ 0 h
 
-  held_few : count_below g.size held ≤ D
-  unfolding held D
+  held_few : count_below g.size held ≤ dense_count
+  unfolding held dense_count
   held_few = count_mono g.size held dense (λ v l h. end.made.last_dense v l (last_gives (s.home v) h))
 
   -- an element that was not made is an empty row
@@ -178,12 +178,12 @@ module _ (g : Graph) (dense : ℕ → Bool) (s : State) (end : IsEnd g dense s) 
 
   -- the sum over the fronts, with the rows of a part of the listing alone
   part_share : (ℕ → ℕ) → List ℕ → ℕ → ℕ
-  part_share share bs e = cond (is_made g s e) (front_sum share (count_by (in_block s e) bs) (count_below g.size (s.border e) + D)) 0
+  part_share share bs e = cond (is_made g s e) (front_sum share (count_by (in_block s e) bs) (count_below g.size (s.border e) + dense_count)) 0
 
   part_sum : (ℕ → ℕ) → List ℕ → ℕ
   part_sum share bs = sum_below g.size (part_share share bs) + front_sum share (count_by held bs) 0
 
-  made_share : (share : ℕ → ℕ) (bs : List ℕ) (e : ℕ) → is_made g s e ≡ true → part_share share bs e ≡ front_sum share (count_by (in_block s e) bs) (count_below g.size (s.border e) + D)
+  made_share : (share : ℕ → ℕ) (bs : List ℕ) (e : ℕ) → is_made g s e ≡ true → part_share share bs e ≡ front_sum share (count_by (in_block s e) bs) (count_below g.size (s.border e) + dense_count)
   unfolding part_share
   made_share share bs e y = cond-true (is_made g s e) _ 0 y
 
@@ -194,7 +194,7 @@ module _ (g : Graph) (dense : ℕ → Bool) (s : State) (end : IsEnd g dense s) 
   share_grows : (share : ℕ → ℕ) (v : ℕ) (rest : List ℕ) (e : ℕ) → part_share share rest e ≤ part_share share (v ∷ rest) e
   share_grows share v rest e = elim (cases_Bool (is_made g s e)) [
     | inl y ↦ (let a = made_share share rest e y in let b = made_share share (v ∷ rest) e y in
-        let c = front_grows share (count_by (in_block s e) rest) (count_by (in_block s e) (v ∷ rest)) (count_below g.size (s.border e) + D) (count_later (in_block s e) v rest) in omega (arith, a, b, c))
+        let c = front_grows share (count_by (in_block s e) rest) (count_by (in_block s e) (v ∷ rest)) (count_below g.size (s.border e) + dense_count) (count_later (in_block s e) v rest) in omega (arith, a, b, c))
     | inr n ↦ (let a = unmade_share share rest e n in omega (arith, a))
   ]
 
@@ -217,7 +217,7 @@ module _ (g : Graph) (dense : ℕ → Bool) (s : State) (end : IsEnd g dense s) 
           let a = sums in omega (arith, is, c, d, a)
       go (Live c) h = clash (live_from c (s.home v) h) (end.over v)
       go (Gone e) h = elim (cases_Bool (is_made g s e)) [
-        | inl y ↦ (let r : ℕ = count_below g.size (s.border e) + D in let f : ℕ = count_by (in_block s e) rest in
+        | inl y ↦ (let r : ℕ = count_below g.size (s.border e) + dense_count in let f : ℕ = count_by (in_block s e) rest in
             let is : share (most v rest) ≡ share (r + f) = ap share (let a = most_is v rest (Gone e) h in let b = most_made e rest y in omega (arith, a, b)) in
             let c : front_sum share (count_by (in_block s e) (v ∷ rest)) r ≡ front_sum share (suc f) r = ap (λ k. front_sum share k r) (count_here (in_block s e) v rest (block_from e (s.home v) h)) in
             let d : front_sum share (suc f) r ≡ share (r + f) + front_sum share f r = front_more share f r in
@@ -238,24 +238,24 @@ module _ (g : Graph) (dense : ℕ → Bool) (s : State) (end : IsEnd g dense s) 
 
   -- the whole listing has no more rows of a block than there are
   part_figure : (share : ℕ → ℕ) → part_sum share p ≤ figure share g dense s
-  unfolding part_sum figure part_share D
+  unfolding part_sum figure part_share dense_count
   part_figure share =
-      let a = sum_mono g.size (part_share share p) (λ e. cond (is_made g s e) (front_sum share (count_below g.size (in_block s e)) (count_below g.size (s.border e) + D)) 0) (λ e l. each e (is_made g s e)) in
-      let b = front_grows share (count_by held p) D 0 (let x = count_permuted g.size held p permutes in let z = held_few in omega (arith, x, z)) in omega (arith, a, b)
+      let a = sum_mono g.size (part_share share p) (λ e. cond (is_made g s e) (front_sum share (count_below g.size (in_block s e)) (count_below g.size (s.border e) + dense_count)) 0) (λ e l. each e (is_made g s e)) in
+      let b = front_grows share (count_by held p) dense_count 0 (let x = count_permuted g.size held p permutes in let z = held_few in omega (arith, x, z)) in omega (arith, a, b)
     where
-      each : (e : ℕ) (m : Bool) → cond m (front_sum share (count_by (in_block s e) p) (count_below g.size (s.border e) + D)) 0 ≤ cond m (front_sum share (count_below g.size (in_block s e)) (count_below g.size (s.border e) + D)) 0
-      each e true = front_grows share (count_by (in_block s e) p) (count_below g.size (in_block s e)) (count_below g.size (s.border e) + D) (count_permuted g.size (in_block s e) p permutes)
+      each : (e : ℕ) (m : Bool) → cond m (front_sum share (count_by (in_block s e) p) (count_below g.size (s.border e) + dense_count)) 0 ≤ cond m (front_sum share (count_below g.size (in_block s e)) (count_below g.size (s.border e) + dense_count)) 0
+      each e true = front_grows share (count_by (in_block s e) p) (count_below g.size (in_block s e)) (count_below g.size (s.border e) + dense_count) (count_permuted g.size (in_block s e) p permutes)
       each e false = omega arith
 
   row_front : (ps rest : List ℕ) (v : ℕ) → p ≡ ps ++ v ∷ rest → most v rest + 1 ≤ greatest_front g dense s
-  unfolding greatest_front D
+  unfolding greatest_front dense_count
   row_front ps rest v q = go (s.home v) refl
     where
       rows : ℕ → ℕ
-      rows e = count_below g.size (in_block s e) + (count_below g.size (s.border e) + D)
+      rows e = count_below g.size (in_block s e) + (count_below g.size (s.border e) + dense_count)
 
-      base : max 1 D ≤ greatest_front g dense s
-      base = max_base g.size (is_made g s) (λ e. count_below g.size (in_block s e) + (count_below g.size (s.border e) + count_below g.size dense)) (max 1 D)
+      base : max 1 dense_count ≤ greatest_front g dense s
+      base = max_base g.size (is_made g s) (λ e. count_below g.size (in_block s e) + (count_below g.size (s.border e) + count_below g.size dense)) (max 1 dense_count)
 
       go : (h : Home) → s.home v ≡ h → most v rest + 1 ≤ greatest_front g dense s
       go Last h = let a = most_is v rest Last h in let b = most_last rest in let c = count_here held v rest (held_from v h) in let d = rest_few held ps rest v q in let e = held_few in
@@ -264,7 +264,7 @@ module _ (g : Graph) (dense : ℕ → Bool) (s : State) (end : IsEnd g dense s) 
       go (Gone e) h = elim (cases_Bool (is_made g s e)) [
         | inl y ↦ (let a = most_is v rest (Gone e) h in let b = most_made e rest y in
             let c = count_here (in_block s e) v rest (block_from e (s.home v) h) in let d = rest_few (in_block s e) ps rest v q in
-            let t = max_term g.size (is_made g s) (λ e. count_below g.size (in_block s e) + (count_below g.size (s.border e) + count_below g.size dense)) (max 1 D) e (end.small e e (end.made.tree.named v e h)) y in
+            let t = max_term g.size (is_made g s) (λ e. count_below g.size (in_block s e) + (count_below g.size (s.border e) + count_below g.size dense)) (max 1 dense_count) e (end.small e e (end.made.tree.named v e h)) y in
             omega (arith, a, b, c, d, t))
         | inr n ↦ (let a = most_is v rest (Gone e) h in let b = most_unmade e rest n in let f = base in omega (arith, a, b, f))
       ]
@@ -275,3 +275,55 @@ module _ (g : Graph) (dense : ℕ → Bool) (s : State) (end : IsEnd g dense s) 
   front_within ps q (more {column} {columns = cs} {v} {rest} l r) =
       let a = row_front ps rest v q in
       let b = front_within (ps ++ v ∷ []) (q ∙ sym (append_assoc ps (v ∷ []) rest)) r in omega (arith, l, a, b)
+
+  -- any columns of the factor need no more than the figures
+  factor_within : (cs : List (List ℕ)) → IsFactor g p cs → EachWithin most cs p
+  factor_within cs is = all_within p cs [] refl is.places (λ i d l. let e : i ≡ length {A = ℕ} [] + i = omega arith in subst (λ k. IsColumn g p k (slice_index_or cs i d)) e (is.each i d l))
+
+  needed_figure : (share : ℕ → ℕ) → share 0 ≡ 0 → ((a b : ℕ) → a ≤ b → share a ≤ share b) → (cs : List (List ℕ)) → IsFactor g p cs → needed share cs ≤ figure share g dense s
+  needed_figure share zero_share rises cs is = let a = needed_within share zero_share rises (factor_within cs is) in let b = part_figure share in omega (arith, a, b)
+
+  needed_greatest : (cs : List (List ℕ)) → IsFactor g p cs → needed_front cs ≤ greatest_front g dense s
+  needed_greatest cs is = front_within [] refl (factor_within cs is)
+
+entries_rise : (a b : ℕ) → a ≤ b → entries a ≤ entries b
+unfolding entries
+entries_rise a b l = l
+
+lu_rise : (a b : ℕ) → a ≤ b → lu_steps a ≤ lu_steps b
+unfolding lu_steps
+lu_rise a b l = mul-le-mul l l
+
+ldl_rise : (a b : ℕ) → a ≤ b → ldl_steps a ≤ ldl_steps b
+unfolding ldl_steps
+ldl_rise a b l = let m : a + 1 ≤ b + 1 = omega arith in let p : a * (a + 1) ≤ b * (b + 1) = mul-le-mul l m in omega (arith, p)
+
+entries_zero : entries 0 ≡ 0
+unfolding entries
+entries_zero = refl
+
+ldl_zero : ldl_steps 0 ≡ 0
+unfolding ldl_steps
+ldl_zero = refl
+
+lu_zero : lu_steps 0 ≡ 0
+unfolding lu_steps
+lu_zero = refl
+
+pub figures_cover : OfEachListing Covers
+figures_cover g dense aggressive first states laws run p post =
+    let s : State = last_state first states in
+    let end : IsEnd g dense s = at_the_end g dense aggressive first states laws run in
+    let busy : IsBusy g s = busy_at_the_end g laws dense aggressive first states run.start run.steps in
+    let inside : ColumnsInside g s p = columns_inside g dense aggressive first states laws run p post in
+    let empty : EmptyColumns g p = empty_columns g dense aggressive first states laws run p post in
+    let permutes : IsPermutation g.size p = listings_are_permutations g dense aggressive first states laws run p post in
+    let factor : IsFactor g p (columns g p) = factor_of g p laws in
+    record {
+      columns = columns g p;
+      factor = factor;
+      entries_need = needed_figure g dense s end busy p post inside empty permutes entries entries_zero entries_rise (columns g p) factor;
+      ldl_need = needed_figure g dense s end busy p post inside empty permutes ldl_steps ldl_zero ldl_rise (columns g p) factor;
+      lu_need = needed_figure g dense s end busy p post inside empty permutes lu_steps lu_zero lu_rise (columns g p) factor;
+      front_need = needed_greatest g dense s end busy p post inside empty permutes (columns g p) factor;
+    }

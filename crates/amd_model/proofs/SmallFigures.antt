@@ -97,20 +97,20 @@ module _ (g : Graph) (laws : IsGraph g) (aggressive : Bool) (c : ℕ) (old new :
   pub pivot_unmade : is_made g old c ≡ false
   pivot_unmade = elim (cases_Bool (is_made g old c)) [ inl h ↦ absurd (pivot_free c (made_gives g old c h).element) | inr h ↦ h ]
 
--- the share of an element, with D dense rows
+-- the share of an element, with that many dense rows
 unfoldable pub share_at : (ℕ → ℕ) → Graph → ℕ → State → ℕ → ℕ
-share_at share g D s e = cond (is_made g s e) (front_sum share (count_below g.size (in_block s e)) (count_below g.size (s.border e) + D)) 0
+share_at share g dense_count s e = cond (is_made g s e) (front_sum share (count_below g.size (in_block s e)) (count_below g.size (s.border e) + dense_count)) 0
 
--- what holds of each state of a run with D dense rows
-pub record IsSmall (g : Graph) (D : ℕ) (s : State) : Type 0 where
-  pub room : count_below g.size (live s) + D ≤ g.size
-  pub sum : sum_below g.size (share_at entries g D s) + front_sum entries (count_below g.size (live s) + D) 0 ≤ front_sum entries g.size 0
-  pub fronts : (e : ℕ) → e < g.size → is_made g s e ≡ true → count_below g.size (in_block s e) + (count_below g.size (s.border e) + D) ≤ g.size
+-- what holds of each state of a run with that many dense rows
+pub record IsSmall (g : Graph) (dense_count : ℕ) (s : State) : Type 0 where
+  pub room : count_below g.size (live s) + dense_count ≤ g.size
+  pub sum : sum_below g.size (share_at entries g dense_count s) + front_sum entries (count_below g.size (live s) + dense_count) 0 ≤ front_sum entries g.size 0
+  pub fronts : (e : ℕ) → e < g.size → is_made g s e ≡ true → count_below g.size (in_block s e) + (count_below g.size (s.border e) + dense_count) ≤ g.size
 
 pub start_small : (g : Graph) → IsGraph g → (dense : ℕ → Bool) (s : State) → IsStart g dense s → IsSmall g (count_below g.size dense) s
 unfolding share_at
 start_small g laws dense s start =
-    let D : ℕ = count_below g.size dense in
+    let dense_count : ℕ = count_below g.size dense in
     let none : (e : ℕ) → is_made g s e ≡ false = λ e. elim (cases_Bool (is_made g s e)) [
       | inr h ↦ h
       | inl h ↦ (let m = made_gives g s e h in let k = m.element in elim (begins g laws dense s start e) [
@@ -119,19 +119,19 @@ start_small g laws dense s start =
         | is_live q ↦ absurd (cc)
       ])
     ] in
-    let room : count_below g.size (live s) + D ≤ g.size = count_apart g.size (live s) dense (λ v l a b.
+    let room : count_below g.size (live s) + dense_count ≤ g.size = count_apart g.size (live s) dense (λ v l a b.
     let k = live_gives (s.home v) a in let q = start.last v l b in let z = k.1 in cc) in
-    let zero_sum = sum_none g.size (share_at entries g D s) (λ e l. cond-false (is_made g s e) _ 0 (none e)) in
-    let rise = first_sums_rise (count_below g.size (live s) + D) g.size room in
+    let zero_sum = sum_none g.size (share_at entries g dense_count s) (λ e l. cond-false (is_made g s e) _ 0 (none e)) in
+    let rise = first_sums_rise (count_below g.size (live s) + dense_count) g.size room in
     record {
       room = room;
       sum = omega (arith, zero_sum, rise);
       fronts = λ e l h. clash h (none e);
     }
 
-pub step_small : (g : Graph) → IsGraph g → (aggressive : Bool) (D c : ℕ) (old new : State) → IsSound g old → IsTree g old → StepAt g aggressive c old new → IsSmall g D old → IsSmall g D new
+pub step_small : (g : Graph) → IsGraph g → (aggressive : Bool) (dense_count c : ℕ) (old new : State) → IsSound g old → IsTree g old → StepAt g aggressive c old new → IsSmall g dense_count old → IsSmall g dense_count new
 unfolding share_at
-step_small g laws aggressive D c old new sound tree step small =
+step_small g laws aggressive dense_count c old new sound tree step small =
     let f : ℕ = count_below g.size (block g aggressive old c) in
     let b : ℕ = count_below g.size (border_of g aggressive old c) in
     let n : ℕ = count_below g.size (live new) in
@@ -141,20 +141,20 @@ step_small g laws aggressive D c old new sound tree step small =
     let rows : count_below g.size (in_block new c) ≡ f = rows_new g laws aggressive c old new sound step tree in
     let border : count_below g.size (new.border c) ≡ b = border_new g laws aggressive c old new sound step tree in
     let l : c < g.size = live_small g laws old sound c c (pivot_live g laws aggressive c old new sound step) in
-    let room : o + D ≤ g.size = small.room in
-    let at : sum_below g.size (share_at entries g D new) + share_at entries g D old c ≡ sum_below g.size (share_at entries g D old) + share_at entries g D new c
-    = sum_at g.size (share_at entries g D new) (share_at entries g D old) c l (λ e le ne.
+    let room : o + dense_count ≤ g.size = small.room in
+    let at : sum_below g.size (share_at entries g dense_count new) + share_at entries g dense_count old c ≡ sum_below g.size (share_at entries g dense_count old) + share_at entries g dense_count new c
+    = sum_at g.size (share_at entries g dense_count new) (share_at entries g dense_count old) c l (λ e le ne.
     let m = made_stays g laws aggressive c old new sound step tree e ne in
     let r = rows_stay g laws aggressive c old new sound step tree e ne in
     let k = border_stays g laws aggressive c old new sound step tree e ne in cc) in
-    let before : share_at entries g D old c ≡ 0 = cond-false (is_made g old c) _ 0 (pivot_unmade g laws aggressive c old new sound step tree) in
-    let after : share_at entries g D new c ≤ front_sum entries f (b + D) = elim (cases_Bool (is_made g new c)) [
-      | inl y ↦ (let q = cond-true (is_made g new c) (front_sum entries (count_below g.size (in_block new c)) (count_below g.size (new.border c) + D)) 0 y in
-          let e : front_sum entries (count_below g.size (in_block new c)) (count_below g.size (new.border c) + D) ≡ front_sum entries f (b + D) = cc in omega (arith, q, e))
-      | inr y ↦ (let q = cond-false (is_made g new c) (front_sum entries (count_below g.size (in_block new c)) (count_below g.size (new.border c) + D)) 0 y in omega (arith, q))
+    let before : share_at entries g dense_count old c ≡ 0 = cond-false (is_made g old c) _ 0 (pivot_unmade g laws aggressive c old new sound step tree) in
+    let after : share_at entries g dense_count new c ≤ front_sum entries f (b + dense_count) = elim (cases_Bool (is_made g new c)) [
+      | inl y ↦ (let q = cond-true (is_made g new c) (front_sum entries (count_below g.size (in_block new c)) (count_below g.size (new.border c) + dense_count)) 0 y in
+          let e : front_sum entries (count_below g.size (in_block new c)) (count_below g.size (new.border c) + dense_count) ≡ front_sum entries f (b + dense_count) = cc in omega (arith, q, e))
+      | inr y ↦ (let q = cond-false (is_made g new c) (front_sum entries (count_below g.size (in_block new c)) (count_below g.size (new.border c) + dense_count)) 0 y in omega (arith, q))
     ] in
-    let fits : front_sum entries f (b + D) + front_sum entries (n + D) 0 ≤ front_sum entries (n + D + f) 0 = front_fits f (b + D) (n + D) (omega arith) in
-    let same : front_sum entries (n + D + f) 0 ≡ front_sum entries (o + D) 0 = ap (λ k. front_sum entries k 0) (let e : n + D + f ≡ o + D = omega arith in e) in
+    let fits : front_sum entries f (b + dense_count) + front_sum entries (n + dense_count) 0 ≤ front_sum entries (n + dense_count + f) 0 = front_fits f (b + dense_count) (n + dense_count) (omega arith) in
+    let same : front_sum entries (n + dense_count + f) 0 ≡ front_sum entries (o + dense_count) 0 = ap (λ k. front_sum entries k 0) (let e : n + dense_count + f ≡ o + dense_count = omega arith in e) in
     let sum = small.sum in
     record {
       room = omega arith;
@@ -167,25 +167,25 @@ step_small g laws aggressive D c old new sound tree step small =
       ];
     }
 
-pub steps_small : (g : Graph) → IsGraph g → (aggressive : Bool) (D : ℕ) (s : State) (states : List State) → IsSound g s → IsTree g s → IsSmall g D s → Steps g aggressive s states → IsSmall g D (last_state s states)
-steps_small g laws aggressive D s [] sound tree small steps = small
-steps_small g laws aggressive D s (t ∷ rest) sound tree small steps =
+pub steps_small : (g : Graph) → IsGraph g → (aggressive : Bool) (dense_count : ℕ) (s : State) (states : List State) → IsSound g s → IsTree g s → IsSmall g dense_count s → Steps g aggressive s states → IsSmall g dense_count (last_state s states)
+steps_small g laws aggressive dense_count s [] sound tree small steps = small
+steps_small g laws aggressive dense_count s (t ∷ rest) sound tree small steps =
     let c : ℕ = (steps.0).0 in let step = (steps.0).1 in
-    steps_small g laws aggressive D t rest (step_sound g laws aggressive c s t sound step) (step_tree g laws aggressive c s t sound step tree)
-    (step_small g laws aggressive D c s t sound tree step small) steps.1
+    steps_small g laws aggressive dense_count t rest (step_sound g laws aggressive c s t sound step) (step_tree g laws aggressive c s t sound step tree)
+    (step_small g laws aggressive dense_count c s t sound tree step small) steps.1
 
 -- at the end no row is live, and the dense rows are one front more
 pub figures_are_small : AtTheEnd FiguresAreSmall
 unfolding figure share_at greatest_front
 figures_are_small g dense aggressive first states laws run =
     let s : State = last_state first states in
-    let D : ℕ = count_below g.size dense in
-    let small = steps_small g laws aggressive D first states (start_sound g laws dense first run.start) (start_tree g laws dense first run.start) (start_small g laws dense first run.start) run.steps in
-    let sum : sum_below g.size (share_at entries g D s) + front_sum entries (count_below g.size (live s) + D) 0 ≤ front_sum entries g.size 0 = small.sum in
-    let room : count_below g.size (live s) + D ≤ g.size = small.room in
-    let rise : front_sum entries D 0 ≤ front_sum entries (count_below g.size (live s) + D) 0 = first_sums_rise D (count_below g.size (live s) + D) (omega arith) in
+    let dense_count : ℕ = count_below g.size dense in
+    let small = steps_small g laws aggressive dense_count first states (start_sound g laws dense first run.start) (start_tree g laws dense first run.start) (start_small g laws dense first run.start) run.steps in
+    let sum : sum_below g.size (share_at entries g dense_count s) + front_sum entries (count_below g.size (live s) + dense_count) 0 ≤ front_sum entries g.size 0 = small.sum in
+    let room : count_below g.size (live s) + dense_count ≤ g.size = small.room in
+    let rise : front_sum entries dense_count 0 ≤ front_sum entries (count_below g.size (live s) + dense_count) 0 = first_sums_rise dense_count (count_below g.size (live s) + dense_count) (omega arith) in
     let closed = first_sum g.size in
     record {
       entries_most = omega (arith, sum, rise, closed);
-      front_most = λ some. max_most g.size (is_made g s) (λ e. count_below g.size (in_block s e) + (count_below g.size (s.border e) + D)) (max 1 D) g.size small.fronts (omega arith);
+      front_most = λ some. max_most g.size (is_made g s) (λ e. count_below g.size (in_block s e) + (count_below g.size (s.border e) + dense_count)) (max 1 dense_count) g.size small.fronts (omega arith);
     }
