@@ -60,6 +60,7 @@ module _ (g : Graph) (dense : ℕ → Bool) (s : State) (end : IsEnd g dense s) 
         | inr a ↦ in_after u c.1 c.3 (descends_join c.4 (via parent self)) a
       ])
 
+  -- the root of the tree of an element
   record Root (e : ℕ) : Type 0 where
     root : ℕ
     element : s.home root ≡ Gone root

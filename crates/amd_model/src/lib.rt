@@ -5,6 +5,7 @@
 #![tactic(auto)]
 
 pub mod forest_laws;
+pub mod figure_laws;
 pub mod front_laws;
 pub mod listing_laws;
 pub mod sum_laws;
