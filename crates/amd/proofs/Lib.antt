@@ -1,1 +1,4 @@
 pub mod Classes
+pub mod Listings
+pub mod SamePairs
+pub mod Orderings

@@ -43,7 +43,8 @@ count_equal (suc n) r =
           let k : counted (nat_lt r (suc n)) ≡ counted (nat_lt r n) = ap counted same in omega (arith, e, h, k))
     ]
 
-count_most : (n : ℕ) (p : ℕ → Bool) → count_below n p ≤ n
+-- at most n of n numbers pass
+pub count_most : (n : ℕ) (p : ℕ → Bool) → count_below n p ≤ n
 unfolding sum_below count_below
 count_most zero p = omega arith
 count_most (suc n) p = let e : count_below n p ≤ n = count_most n p in elim (cases_Bool (p n)) [
