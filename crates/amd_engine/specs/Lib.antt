@@ -1,2 +1,5 @@
 pub mod Records
 pub mod Classes
+pub mod Counts
+pub mod Visits
+pub mod Walk

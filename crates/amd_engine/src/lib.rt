@@ -4,3 +4,4 @@
 
 pub mod amd;
 pub mod internal;
+pub mod walk;
