@@ -16,3 +16,4 @@ pub mod TieLaw
 pub mod TieSums
 pub mod TieRun
 pub mod TieBuckets
+pub mod Pointers

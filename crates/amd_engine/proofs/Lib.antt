@@ -1,0 +1,5 @@
+pub mod Places
+pub mod Forms
+pub mod Scans
+pub mod Uppers
+pub mod Ends
