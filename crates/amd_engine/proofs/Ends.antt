@@ -1,11 +1,10 @@
 -- The start and the end of the walk.
-use Rattle.std.proofs.Common.{◌≡◌, ◌≢◌, ◌+◌, ◌-◌, ◌<◌, ◌≤◌, ◌⊎◌, inl, inr, ℕ, zero, suc, Bool, true, false, List, length, get_or, arith, refl, ap, sym, ◌∙◌, subst, cond, leb, eqb, ltb, ◌||◌, ◌&&◌, not}
-use Rattle.std.proofs.lemmas.Bool.{and_parts, or_cases, and_from, or_left, or_right, cases_eq, cases_lt, cases_Bool, true≢false, ltb-true, eq-eqb, lt-ltb, le-ltb, ne_eqb}
-use Rattle.std.proofs.lemmas.List.{get_or_past}
+use Rattle.std.proofs.Common.{◌≡◌, ◌+◌, ◌<◌, ◌⊎◌, inl, inr, ℕ, Bool, true, false, List, length, get_or, arith, refl, cond, eqb, ltb, ◌||◌, ◌&&◌}
+use Rattle.std.proofs.lemmas.Bool.{or_left, cases_eq, cases_lt, eq-eqb, lt-ltb, le-ltb, ne_eqb}
 use Rattle.amd_engine.proofs.Forms.{IsSortedForm}
-use Rattle.amd_engine.specs.Counts.{is_before, is_entry, is_edge, count_graph}
+use Rattle.amd_engine.specs.Counts.{is_before, is_entry, is_edge}
 use Rattle.amd_engine.specs.Walk.{IsScan, is_read, is_met, met}
-use Rattle.amd_engine.proofs.Places.{funext2, false_if, same_tests, before_from, before_gives, before_none, entry_from, entry_gives, entry_none}
+use Rattle.amd_engine.proofs.Places.{funext2, same_tests, before_from, before_gives, before_none, entry_from, entry_gives, entry_none}
 
 module _ (n : ℕ) (ap' ai : List ℕ) (form : IsSortedForm n ap' ai) (t : List ℕ) where
   pub start_met : ((a : ℕ) → get_or t a 0 ≡ 0) → met n ap' ai t 0 0 ≡ (λ a b. false)

@@ -1,5 +1,5 @@
 -- A sorted column form read as counts: any two rows of a column rise, and the pairs and the graph are the same.
-use Rattle.std.proofs.Common.{◌≡◌, ◌+◌, ◌-◌, ◌^◌, ◌<◌, ◌≤◌, ℕ, ℤ, zero, suc, Bool, true, pos, negsuc, List, length, get_or, map, refl, ap, sym, ◌∙◌, subst, arith, ltb, ◌&&◌, ◌||◌, not, eqb, unsigned_abs}
+use Rattle.std.proofs.Common.{◌≡◌, ◌+◌, ◌-◌, ◌^◌, ◌<◌, ◌≤◌, ℕ, ℤ, zero, suc, Bool, true, pos, negsuc, List, length, get_or, refl, ap, sym, ◌∙◌, subst, arith, ltb, ◌&&◌, unsigned_abs}
 use Rattle.std.specs.Prelude.{◌≤ℤ◌, ◌<ℤ◌, int_le, int_lt}
 use Rattle.std.specs.Int.{FitsUnsignedBits}
 use Rattle.std.specs.Ordering.{int_eq}
@@ -9,7 +9,6 @@ use Rattle.std.proofs.lemmas.Int.{ints}
 use Rattle.std.proofs.lemmas.Bool.{and_parts, and_from, leb-true, ltb-true, le-leb, lt-ltb}
 use Rattle.std.proofs.lemmas.Bool.Decides.{Decides-int_eq}
 use Rattle.amd_model.specs.Below.{count_below}
-use Rattle.amd_model.specs.Graph.{Graph}
 use Rattle.amd_model.specs.Input.Columns.{at, IsRow, IsColumnForm, IsSorted}
 use Rattle.amd_model.specs.Input.Pattern.{holds_row, is_pair, graph_of, diagonal_count}
 use Rattle.amd_model.proofs.BelowLemmas.{any_from, any_gives, count_same}

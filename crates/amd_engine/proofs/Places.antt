@@ -1,9 +1,8 @@
 -- Where rows stand.
-use Rattle.std.proofs.Common.{◌≡◌, ◌≢◌, ◌+◌, ◌-◌, ◌<◌, ◌≤◌, ◌⊎◌, inl, inr, ℕ, zero, suc, Bool, true, false, List, length, get_or, arith, refl, ap, sym, ◌∙◌, add-one, cond, leb, eqb, ltb, ◌||◌, ◌&&◌, not}
-use Rattle.std.proofs.lemmas.Bool.{and_parts, or_cases, and_from, or_left, or_right, cases_eq, cases_lt, cases_Bool, true≢false, leb-true, eqb-true, ltb-true, le-leb, eq-eqb, lt-ltb, le-ltb, ne_eqb}
-use Rattle.amd_model.specs.Below.{any_below}
+use Rattle.std.proofs.Common.{◌≡◌, ◌+◌, ◌<◌, ◌≤◌, inl, inr, ℕ, Bool, true, false, List, get_or, arith, refl, ap, sym, eqb, ◌||◌}
+use Rattle.std.proofs.lemmas.Bool.{and_parts, or_cases, and_from, or_left, or_right, cases_eq, cases_Bool, leb-true, eqb-true, ltb-true, le-leb, eq-eqb, lt-ltb}
 use Rattle.amd_model.proofs.BelowLemmas.{any_from, any_gives}
-use Rattle.amd_engine.specs.Counts.{is_before, is_entry, is_edge}
+use Rattle.amd_engine.specs.Counts.{is_before, is_entry}
 
 pub funext : {A B : Type 0} (f g : A → B) → ((x : A) → f x ≡ g x) → f ≡ g
 funext f g h = λ i. λ x. h x i

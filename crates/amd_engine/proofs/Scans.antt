@@ -1,14 +1,12 @@
 -- Steps of the walk.
-use Rattle.std.proofs.Common.{◌≡◌, ◌≢◌, ◌+◌, ◌-◌, ◌<◌, ◌≤◌, ◌⊎◌, inl, inr, ℕ, zero, suc, Bool, true, false, List, length, get_or, set, get_or-set_same, get_or-set_other, arith, refl, ap, sym, ◌∙◌, subst, add-one, cond, leb, eqb, ltb, ◌||◌, ◌&&◌, not}
-use Rattle.std.proofs.lemmas.Bool.{and_parts, or_cases, and_from, and_left, or_left, or_right, cases_eq, cases_lt, cases_Bool, true≢false, leb-true, eqb-true, ltb-true, le-leb, eq-eqb, lt-ltb, le-ltb, ne_eqb}
-use Rattle.std.proofs.lemmas.Bool.Decides.{nat_tests}
+use Rattle.std.proofs.Common.{◌≡◌, ◌≢◌, ◌+◌, ◌<◌, ◌≤◌, ◌⊎◌, inl, inr, ℕ, Bool, true, false, List, length, get_or, set, get_or-set_same, get_or-set_other, arith, refl, sym, ◌∙◌, cond, eqb, ltb, ◌||◌, ◌&&◌, not}
+use Rattle.std.proofs.lemmas.Bool.{and_parts, or_cases, and_from, or_left, or_right, cases_eq, cases_lt, eqb-true, ltb-true, eq-eqb, lt-ltb, le-ltb, ne_eqb}
 use Rattle.std.proofs.lemmas.List.{length-set, get_or_past}
-use Rattle.amd_model.specs.Below.{any_below}
 use Rattle.amd_engine.specs.Visits.{with_arc, IsNew}
 use Rattle.amd_engine.proofs.Forms.{IsSortedForm}
 use Rattle.amd_engine.specs.Counts.{is_before, is_entry, is_edge, count_graph}
 use Rattle.amd_engine.specs.Walk.{IsScan, is_read, is_met, met}
-use Rattle.amd_engine.proofs.Places.{funext2, false_if, same_tests, before_from, before_gives, before_none, before_more, entry_from, entry_gives, entry_none}
+use Rattle.amd_engine.proofs.Places.{funext2, false_if, before_gives, before_none, before_more, entry_from}
 
 -- two arcs of an edge (i, j) join a half where only (i, j) is new
 both_arcs : (h : ℕ → ℕ → Bool) (h' : ℕ → ℕ → Bool) (i j : ℕ) → ((a b : ℕ) → h' a b ≡ h a b || (eqb a j && eqb b i)) → with_arc (with_arc (λ a b. h a b || h b a) i j) j i ≡ (λ a b. h' a b || h' b a)

@@ -1,13 +1,12 @@
 -- Steps of the walk over the upper entries.
-use Rattle.std.proofs.Common.{◌≡◌, ◌≢◌, ◌+◌, ◌-◌, ◌<◌, ◌≤◌, ◌⊎◌, inl, inr, ℕ, zero, suc, Bool, true, false, List, length, get_or, set, get_or-set_same, get_or-set_other, arith, refl, ap, sym, ◌∙◌, subst, cond, leb, eqb, ltb, ◌||◌, ◌&&◌, not}
-use Rattle.std.proofs.lemmas.Bool.{and_parts, or_cases, and_from, or_left, or_right, cases_eq, cases_lt, cases_Bool, true≢false, ltb-true, eq-eqb, lt-ltb, le-ltb, ne_eqb}
-use Rattle.std.proofs.lemmas.Bool.Decides.{nat_tests}
+use Rattle.std.proofs.Common.{◌≡◌, ◌≢◌, ◌+◌, ◌<◌, ◌≤◌, ◌⊎◌, inl, inr, ℕ, Bool, true, false, List, get_or, set, get_or-set_same, get_or-set_other, arith, refl, ap, sym, ◌∙◌, cond, eqb, ltb, ◌||◌, ◌&&◌}
+use Rattle.std.proofs.lemmas.Bool.{cases_eq, cases_lt, cases_Bool, true≢false, eq-eqb, lt-ltb, le-ltb, ne_eqb}
 use Rattle.std.proofs.lemmas.List.{length-set}
 use Rattle.amd_engine.specs.Visits.{with_arc, IsNew}
 use Rattle.amd_engine.proofs.Forms.{IsSortedForm}
-use Rattle.amd_engine.specs.Counts.{is_before, is_entry, is_edge, count_graph}
+use Rattle.amd_engine.specs.Counts.{is_before, is_entry, count_graph}
 use Rattle.amd_engine.specs.Walk.{IsScan, is_read, is_met, met}
-use Rattle.amd_engine.proofs.Places.{funext2, false_if, same_tests, before_gives, before_none, entry_from, entry_gives, entry_none}
+use Rattle.amd_engine.proofs.Places.{funext2, before_none, entry_gives, entry_none}
 use Rattle.amd_engine.proofs.Scans.{two_new, met_within, in_column}
 
 both_arcs : (h h' : ℕ → ℕ → Bool) (i j : ℕ) → ((a b : ℕ) → h' a b ≡ h a b || (eqb a i && eqb b j)) → with_arc (with_arc (λ a b. h a b || h b a) i j) j i ≡ (λ a b. h' a b || h' b a)

@@ -1,7 +1,7 @@
 use Rattle.std.proofs.Common.{inl, inr, ◌≡◌, ◌+◌, ◌<◌, ◌≤◌, ◌≢◌, ℕ, map, length, get_or, arith, sym, true, false, ◌∙◌}
 use Rattle.std.proofs.lemmas.Bool.{cases_lt, eqb-true, eqb-false, true≢false, le-ltb}
 use Rattle.std.proofs.lemmas.List.{length-map}
-use Rattle.amd_engine.specs.Counts.{counts, is_entry}
+use Rattle.amd_engine.specs.Counts.{counts}
 use Rattle.amd_engine.proofs.Forms.{pointer_fits, row_fits, place_within, sorted_form}
 use Rattle.amd_engine.proofs.Places.{entry_from}
 use Rattle.amd_engine.proofs.Uppers.{upper_new, upper_after, upper_scan, upper_gap, end_scan, end_met, exit_uppers, exit_rest, exit_rest_next, exit_behind, exit_behind_next, exit_none}

@@ -1,4 +1,4 @@
-use Rattle.std.proofs.Common.{◌≡◌, ◌+◌, ◌-◌, ◌<◌, ◌≤◌, ℕ, map, length, get_or, set}
+use Rattle.std.proofs.Common.{◌-◌, ◌<◌, ◌≤◌, ℕ, map, length, get_or}
 use Rattle.amd_engine.specs.Counts.{counts, count_graph}
 use Rattle.amd_engine.specs.Walk.{IsScan, met}
 use Rattle.amd_engine.proofs.walk.column.Given as goal

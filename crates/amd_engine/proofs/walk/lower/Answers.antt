@@ -1,8 +1,5 @@
-use Rattle.std.proofs.Common.{◌≡◌, ◌+◌, ◌<◌, ◌≤◌, ◌^◌, ℕ, map, pos, length, get_or, set, arith, sym, ◌∙◌}
+use Rattle.std.proofs.Common.{◌+◌, arith}
 use Rattle.std.proofs.lemmas.List.{length-map, set-get_or}
-use Rattle.amd_engine.specs.Counts.{counts, count_graph}
-use Rattle.amd_engine.specs.Visits.{with_arc}
-use Rattle.amd_engine.specs.Walk.{IsScan, met}
 use Rattle.amd_engine.proofs.Forms.{pointer_fits, row_fits, place_within, sorted_form}
 use Rattle.amd_engine.proofs.Scans.{lower_new, lower_after, lower_mirror, lower_end, lower_behind, lower_next}
 use Rattle.amd_engine.proofs.walk.lower.Goals as goal

@@ -1,6 +1,6 @@
-use Rattle.std.proofs.Common.{◌≡◌, ◌+◌, ◌-◌, ◌<◌, ◌≤◌, ℕ, map, length, get_or, set}
+use Rattle.std.proofs.Common.{◌+◌, ◌-◌, ◌≤◌, map, length, get_or, set}
 use Rattle.amd_engine.specs.Counts.{counts, count_graph}
-use Rattle.amd_engine.specs.Walk.{IsScan, met}
+use Rattle.amd_engine.specs.Walk.{met}
 use Rattle.amd_engine.proofs.walk.lower.Given as goal
 
 abbrev pub invariant-rows : goal.invariant-rows

@@ -1,10 +1,13 @@
-use Rattle.std.proofs.Common.{◌≡◌, ◌+◌, ℕ, map, length, arith, sym, ◌∙◌, refl, ap, add-one, suc, cond}
+use Rattle.std.proofs.Common.{◌≡◌, ◌+◌, ℕ, Bool, map, length, arith, sym, ◌∙◌, refl, ap, add-one, suc, cond}
 use Rattle.amd_model.specs.Below.{sum_below, count_below}
 use Rattle.amd_engine.specs.Counts.{counts, is_entry}
 use Rattle.amd_engine.proofs.Forms.{sorted_form, same_graph, same_diagonals}
 use Rattle.amd_engine.proofs.Ends.{start_met, start_scan, rest_met, done_met}
 use Rattle.amd_engine.proofs.walk.walk.Goals as goal
 use Rattle.amd_engine.proofs.walk.walk.Goals.{then-column, else-column}
+
+abbrev one_if : Bool → ℕ
+one_if b = cond b 1 0
 
 pub column-requires : goal.column-requires
 column-requires g c =
@@ -33,9 +36,9 @@ columns-preserved g c =
     let e = rw c.columns.auto.next at c.column.ensures in
     let n = length c.args.next.now in
     let ap' = counts (map g.I.Number.value c.args.a_p.now) in let ai = counts (map g.I.Number.value c.args.a_i.now) in
-    let last : count_below (suc c.columns.k) (λ j. is_entry n ap' ai j j) ≡ cond (is_entry n ap' ai c.columns.k c.columns.k) 1 0 + count_below c.columns.k (λ j. is_entry n ap' ai j j) = refl in
-    let here : cond c.column.result 1 0 ≡ cond (is_entry n ap' ai c.columns.k c.columns.k) 1 0 = ap (λ b. cond b 1 0) e.diagonal in
-    let plus : c.if-column.diagonals ≡ c.columns.diagonals + cond c.column.result 1 0 = elim c.if-column.branch [
+    let last : count_below (suc c.columns.k) (λ j. is_entry n ap' ai j j) ≡ one_if (is_entry n ap' ai c.columns.k c.columns.k) + count_below c.columns.k (λ j. is_entry n ap' ai j j) = refl in
+    let here : one_if c.column.result ≡ one_if (is_entry n ap' ai c.columns.k c.columns.k) = ap one_if e.diagonal in
+    let plus : c.if-column.diagonals ≡ c.columns.diagonals + one_if c.column.result = elim c.if-column.branch [
       | then-column w ↦ rw w.if-column.true w.diagonals-is
       | else-column w ↦ rw w.if-column.false (w.diagonals-is ∙ omega arith)
     ] in

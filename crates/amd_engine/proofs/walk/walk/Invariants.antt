@@ -1,4 +1,4 @@
-use Rattle.std.proofs.Common.{◌≡◌, ◌+◌, ◌-◌, ◌<◌, ◌≤◌, ℕ, map, length}
+use Rattle.std.proofs.Common.{◌≡◌, ◌≤◌, map, length}
 use Rattle.amd_model.specs.Below.{count_below}
 use Rattle.amd_engine.specs.Counts.{counts, count_graph, is_entry}
 use Rattle.amd_engine.specs.Walk.{IsScan, met}
