@@ -17,3 +17,4 @@ pub mod TieSums
 pub mod TieRun
 pub mod TieBuckets
 pub mod Pointers
+pub mod DegreeSums
