@@ -1,1 +1,4 @@
 pub mod Classes
+pub mod Counting
+pub mod Symmetry
+pub mod PatternLemmas

@@ -3,3 +3,4 @@ pub mod Forms
 pub mod Scans
 pub mod Uppers
 pub mod Ends
+pub mod Arcs
