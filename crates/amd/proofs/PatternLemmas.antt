@@ -1,12 +1,11 @@
 -- What the walk over the edges tells of a matrix: its degrees and the figures of its pattern.
-use Rattle.std.proofs.Common.{◌≡◌, ◌-◌, ◌*◌, ◌^◌, ◌<◌, ◌≤◌, ℕ, ℤ, pos, negsuc, Bool, true, List, length, get_or, arith, refl, ap, sym, ◌∙◌, subst, eqb, unsigned_abs}
-use Rattle.std.specs.Prelude.{◌<ℤ◌}
+use Rattle.std.proofs.Common.{◌≡◌, ◌-◌, ◌^◌, ◌<◌, ℕ, ℤ, pos, negsuc, List, length, get_or, arith, refl, sym, ◌∙◌, eqb, unsigned_abs}
 use Rattle.std.specs.Int.{FitsUnsignedBits}
 use Rattle.std.proofs.lemmas.Bool.{eqb-true, eq-eqb}
 use Rattle.amd_model.specs.Below.{sum_below, count_below}
-use Rattle.amd_model.specs.Graph.{Graph, degree, degree_sum, edge_count}
+use Rattle.amd_model.specs.Graph.{degree, degree_sum}
 use Rattle.amd_model.specs.Input.Columns.{IsColumnForm, IsSorted, IsInput, IsSortedInput}
-use Rattle.amd_model.specs.Input.Pattern.{graph_of, pair_count, diagonal_count, IsSymmetric}
+use Rattle.amd_model.specs.Input.Pattern.{graph_of, pair_count, diagonal_count}
 use Rattle.amd_model.proofs.BelowLemmas.{sum_same}
 use Rattle.amd_model.proofs.DegreeSums.{degrees_twice, pattern_graph}
 use Rattle.amd_engine.specs.Counts.{counts}

@@ -1,4 +1,4 @@
-use Rattle.std.proofs.Common.{◌≡◌, ◌+◌, ◌≤◌, ◌<◌, ◌^◌, ℕ, length, get_or, arith, add-one, refl, suc, sym, ◌∙◌}
+use Rattle.std.proofs.Common.{◌≡◌, ◌+◌, ◌≤◌, ◌^◌, length, get_or, arith, add-one, refl, suc}
 use Rattle.amd_model.specs.Below.{sum_below}
 use Rattle.amd.proofs.Counting.{sum_upto}
 use Rattle.amd.proofs.aat.total.Goals as goal

@@ -1,6 +1,4 @@
-use Rattle.std.proofs.Common.{◌≡◌, ◌+◌, ◌<◌, ◌^◌, ℕ, length, get_or, set, arith, sym, rules}
-use Rattle.amd_engine.specs.Visits.{with_arc}
-use Rattle.amd.specs.Degrees.{AreCounts}
+use Rattle.std.proofs.Common.{◌<◌, ◌^◌, length, arith, rules}
 use Rattle.std.proofs.lemmas.Grind.{get_or_default_zero}
 use Rattle.amd_engine.proofs.Arcs.{count_room}
 use Rattle.amd.proofs.Counting.{counts_more}
