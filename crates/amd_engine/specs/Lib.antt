@@ -1,3 +1,6 @@
 pub mod Records
 pub mod Classes
 pub mod Permutations
+pub mod Counts
+pub mod Visits
+pub mod Walk
