@@ -6,7 +6,7 @@ use Rattle.std.specs.Int.{FitsUnsignedBits}
 use Rattle.std.proofs.lemmas.Int.{ints}
 use Rattle.amd_model.specs.Input.Columns.{at, IsColumnForm, IsSorted, IsJumbled, IsInput}
 use Rattle.amd_model.proofs.Pointers.{pointer_in, small_fits}
-use Rattle.amd_engine.specs.Classes.{IsClass}
+use Rattle.amd_engine.specs.Statuses.{IsStatusOf}
 use Rattle.amd.specs.Scans.{AreRows, Rise, HaveDescent, IsColumnClass}
 use Rattle.amd_engine.specs.declared.amd.Status.{Status}
 use Rattle.amd_engine.specs.declared.amd.Status.TheVariants.{OK, Invalid, OkButJumbled, OutOfMemory}
@@ -69,8 +69,8 @@ module _ (m : ℤ) (ap ai : List ℤ) where
   pub descent_jumbles : (j from to : ℕ) → at ap j ≡ pos from → at ap (j + 1) ≡ pos to → HaveDescent ai from to → IsJumbled (j + 1) ap ai
   descent_jumbles j from to a b (k, low, high, down) = (j, k, omega arith, omega (arith, ints), omega (arith, ints), down)
 
-  pub class_of : (n : ℤ) (k : ℕ) (s : Status) → pos k ≡ n → IsColumnForm m k ap ai → IsRunSoFar k ap ai s → IsClass m n ap ai s
-  class_of n k OK e f run = let P : ℤ → Type 0 = λ z. IsClass m z ap ai OK in subst P e (f, run)
-  class_of n k OkButJumbled e f run = let P : ℤ → Type 0 = λ z. IsClass m z ap ai OkButJumbled in subst P e (f, run)
+  pub class_of : (n : ℤ) (k : ℕ) (s : Status) → pos k ≡ n → IsColumnForm m k ap ai → IsRunSoFar k ap ai s → IsStatusOf m n ap ai s
+  class_of n k OK e f run = let P : ℤ → Type 0 = λ z. IsStatusOf m z ap ai OK in subst P e (f, run)
+  class_of n k OkButJumbled e f run = let P : ℤ → Type 0 = λ z. IsStatusOf m z ap ai OkButJumbled in subst P e (f, run)
   class_of n k Invalid e f run = absurd run
   class_of n k OutOfMemory e f run = absurd run

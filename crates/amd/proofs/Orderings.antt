@@ -5,13 +5,13 @@ use Rattle.std.proofs.lemmas.List.{drop-map}
 use Rattle.amd_model.specs.Below.{count_below, list_below}
 use Rattle.amd_model.specs.Graph.{Graph, edge_count}
 use Rattle.amd_model.specs.Input.Pattern.{graph_of, is_pair, pair_count, diagonal_count, SamePattern}
-use Rattle.amd_model.specs.Input.Dense.{IsGreatest, IsRoot, IsThreshold, is_dense}
-use Rattle.amd_model.specs.Listing.{IsPermutation}
+use Rattle.amd_model.specs.Input.Dense.{IsGreatest, IsRawThreshold, IsThreshold, is_dense}
+use Rattle.amd_model.specs.Listing.{ListsEachRow}
 use Rattle.amd_model.proofs.BelowLemmas.{count_same, sum_same}
 use Rattle.amd_engine.specs.Permutations.{AreInverse}
 use Rattle.amd_engine.specs.declared.amd.Info.{Info}
 use Rattle.amd_engine.specs.declared.amd.Status.{Status}
-use Rattle.amd.specs.Answers.{OrdersWell, DenseStandLast, IsOrdering, HaveEqualFigures}
+use Rattle.amd.specs.Answers.{OrdersMatrix, DenseStandLast, IsOrdering, HaveEqualFigures}
 use Rattle.amd.specs.Transposes.{IsCleanTranspose}
 use Rattle.amd.specs.PatternFigures.{HasPatternFigures}
 use Rattle.amd.specs.Degrees.{AreDegrees}
@@ -20,10 +20,11 @@ use Rattle.amd.proofs.SamePairs.{figures_turned, graph_turned, graph_same, pairs
 
 -- an ordering of the transpose is one of the matrix, whatever status its record gets
 pub orders_turned : (n t : ℤ) (a_p a_i b_p b_i p q : List ℤ) (info : Info) (status : Status) → IsCleanTranspose n a_p a_i b_p b_i →
-    OrdersWell (unsigned_abs n) t b_p b_i p q info → OrdersWell (unsigned_abs n) t a_p a_i p q (record info { status = status })
+    OrdersMatrix (unsigned_abs n) t b_p b_i p q info → OrdersMatrix (unsigned_abs n) t a_p a_i p q (record info { status = status })
 orders_turned (pos n) t a_p a_i b_p b_i p q info status clean o = let f = figures_turned n a_p a_i b_p b_i info clean.transpose o.figures in record {
   inverse = o.inverse;
   figures = record { size = f.size; entries = f.entries; diagonal = f.diagonal; off_diagonal = f.off_diagonal; symmetric = f.symmetric };
+  compactions = o.compactions;
   threshold = o.threshold;
   is_threshold = o.is_threshold;
   dense = subst (λ g. DenseStandLast g o.threshold p info.n_dense) (graph_turned n a_p a_i b_p b_i clean.transpose) o.dense;
@@ -43,13 +44,14 @@ above_dense n threshold a_p a_i total len degrees i l = ap (nat_lt threshold) (d
 
 -- a listing of the rows with the dense ones behind, and its inverse, order the matrix
 pub listing_orders : (n : ℕ) (t : ℤ) (threshold : ℕ) (a_p a_i p q : List ℤ) (len rows : List ℕ) (total n_dense : ℕ) (info : Info) →
-    AreDegrees n a_p a_i total len → HasPatternFigures n a_p a_i info → IsThreshold n t threshold → IsPermutation (length len) rows →
+    AreDegrees n a_p a_i total len → HasPatternFigures n a_p a_i info → IsThreshold n t threshold → ListsEachRow (length len) rows →
     n_dense ≡ count_below (length len) (is_above len threshold) → drop (length len - n_dense) rows ≡ list_below (length len) (is_above len threshold) →
-    p ≡ map pos rows → AreInverse (length rows) p q → OrdersWell n t a_p a_i p q (record info { n_dense = n_dense })
+    p ≡ map pos rows → AreInverse (length rows) p q → info.n_cmp_a ≤ n → OrdersMatrix n t a_p a_i p q (record info { n_dense = n_dense })
 unfolding graph_of
-listing_orders n t threshold a_p a_i p q len rows total n_dense info degrees f is_threshold permutation count last listed inverse = record {
+listing_orders n t threshold a_p a_i p q len rows total n_dense info degrees f is_threshold permutation count last listed inverse compactions = record {
   inverse = subst (λ m. AreInverse m p q) (permutation.places ∙ degrees.size) inverse;
   figures = record { size = f.size; entries = f.entries; diagonal = f.diagonal; off_diagonal = f.off_diagonal; symmetric = f.symmetric };
+  compactions = compactions;
   threshold = threshold;
   is_threshold = is_threshold;
   dense = record {
@@ -64,7 +66,7 @@ listing_orders n t threshold a_p a_i p q len rows total n_dense info degrees f i
 greatest_one : (P : ℕ → Type 0) (d e : ℕ) → IsGreatest P d → IsGreatest P e → d ≡ e
 greatest_one P d e a b = let up = b.most d a.has in let down = a.most e b.has in omega (arith, up, down)
 
-root_one : (n : ℕ) (t : ℤ) (d e : ℕ) → IsRoot n t d → IsRoot n t e → d ≡ e
+root_one : (n : ℕ) (t : ℤ) (d e : ℕ) → IsRawThreshold n t d → IsRawThreshold n t e → d ≡ e
 root_one n (pos t) d e a b = greatest_one (λ m. (1000 * m) * (1000 * m) ≤ t * t * n) d e a b
 root_one n (negsuc t) d e a b = a ∙ sym b
 
@@ -80,7 +82,7 @@ same_truth true false p q = sym (q.1 (p.0 refl))
 same_truth false true p q = p.1 (q.0 refl)
 
 -- orderings of two inputs with the same pairs tell the same
-wells_equal : (n : ℕ) (t : ℤ) (a_p a_i b_p b_i p q r s : List ℤ) (one other : Info) → OrdersWell n t a_p a_i p q one → OrdersWell n t b_p b_i r s other → SamePattern n a_p a_i b_p b_i → HaveEqualFigures one other
+wells_equal : (n : ℕ) (t : ℤ) (a_p a_i b_p b_i p q r s : List ℤ) (one other : Info) → OrdersMatrix n t a_p a_i p q one → OrdersMatrix n t b_p b_i r s other → SamePattern n a_p a_i b_p b_i → HaveEqualFigures one other
 unfolding graph_of pair_count diagonal_count
 wells_equal n t a_p a_i b_p b_i p q r s one other o k same =
     let pairs = pairs_same n a_p a_i b_p b_i same in

@@ -1,11 +1,11 @@
 -- What `order` answers.
-use Rattle.std.specs.Prelude.{◌≡◌, ◌≢◌, ◌-◌, ℕ, ℤ, pos, List, [], map, drop, unsigned_abs}
+use Rattle.std.specs.Prelude.{◌≡◌, ◌≢◌, ◌≤◌, ◌-◌, ℕ, ℤ, pos, List, [], map, drop, unsigned_abs}
 use Rattle.amd_model.specs.Below.{count_below, list_below}
 use Rattle.amd_model.specs.Graph.{Graph}
 use Rattle.amd_model.specs.Input.Columns.{IsInput}
 use Rattle.amd_model.specs.Input.Pattern.{graph_of}
 use Rattle.amd_model.specs.Input.Dense.{IsThreshold, is_dense}
-use Rattle.amd_engine.specs.Classes.{IsClass}
+use Rattle.amd_engine.specs.Statuses.{IsStatusOf}
 use Rattle.amd_engine.specs.Permutations.{AreInverse}
 use Rattle.amd_engine.specs.Records.{fresh_info}
 use Rattle.amd_engine.specs.declared.amd.Info.{Info}
@@ -19,9 +19,10 @@ pub record DenseStandLast (g : Graph) (threshold : ℕ) (p : List ℤ) (n_dense 
   pub last : drop (g.size - n_dense) p ≡ map pos (list_below g.size (is_dense g threshold))
 
 -- what an ordering of a matrix with n rows, n at least 1, and a dense row parameter of t thousandths promises
-pub record OrdersWell (n : ℕ) (t : ℤ) (ap ai p q : List ℤ) (info : Info) : Type 0 where
+pub record OrdersMatrix (n : ℕ) (t : ℤ) (ap ai p q : List ℤ) (info : Info) : Type 0 where
   pub inverse : AreInverse n p q
   pub figures : HasPatternFigures n ap ai info
+  pub compactions : info.n_cmp_a ≤ n
   pub threshold : ℕ
   pub is_threshold : IsThreshold n t threshold
   pub dense : DenseStandLast (graph_of n ap ai) threshold p info.n_dense
@@ -32,12 +33,12 @@ pub record IsNothing (p q : List ℤ) (info : Info) : Type 0 where
   pub q_empty : q ≡ []
   pub fresh : info ≡ fresh_info 0
 
--- an answer: that for n = 0, and else an ordering of a column form, with its class
+-- an answer: that for n = 0, and else an ordering of a column form, with its status
 pub record IsOrdering (n t : ℤ) (ap ai p q : List ℤ) (info : Info) : Type 0 where
   pub nothing : n ≡ pos 0 → IsNothing p q info
   pub form : n ≢ pos 0 → IsInput n n ap ai
-  pub class : n ≢ pos 0 → IsClass n n ap ai info.status
-  pub orders : n ≢ pos 0 → OrdersWell (unsigned_abs n) t ap ai p q info
+  pub status : n ≢ pos 0 → IsStatusOf n n ap ai info.status
+  pub orders : n ≢ pos 0 → OrdersMatrix (unsigned_abs n) t ap ai p q info
 
 -- a refusal: `Invalid` exactly where n is not 0 and the input is no column form; `OutOfMemory` only for a column form
 abbrev pub IsRefusal : ℤ → List ℤ → List ℤ → Status → Type 0

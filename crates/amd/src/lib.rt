@@ -6,14 +6,14 @@
 
 pub mod aat;
 mod by_degree;
+pub mod laws;
 pub mod preprocess;
 pub mod valid;
 
-ghost use Rattle.std.specs.Prelude.{◌≡◌, ◌≢◌, ◌+◌, ◌/◌, ◌^◌, ◌<◌, ◌<ℤ◌, ℕ, ℤ, List, map, pos, unsigned_abs, MatchResult, IfOk, IfErr};
+ghost use Rattle.std.specs.Prelude.{◌≡◌, ◌+◌, ◌/◌, ◌^◌, ◌<◌, ◌<ℤ◌, map, pos, unsigned_abs, MatchResult, IfOk, IfErr};
 ghost use Rattle.std.specs.Option.{SomeIff};
 ghost use Rattle.amd_model.specs.Input.Columns.{IsInput, IsSortedInput, IsJumbledInput};
-ghost use Rattle.amd_model.specs.Input.Pattern.{SamePattern};
-ghost use Rattle.amd.specs.Answers.{IsOrdering, IsRefusal, OrdersWell, HaveEqualFigures};
+ghost use Rattle.amd.specs.Answers.{IsOrdering, IsRefusal, OrdersMatrix};
 
 use crate::aat::aat;
 use crate::by_degree::by_degree;
@@ -47,7 +47,7 @@ fn order_sorted<I: PrimInt, A: Allocator + Copy>(
     requires positive { pos 0 <ℤ I.value n }
     requires form { IsInput (I.value n) (I.value n) (map I.value a_p.now) (map I.value a_i.now) }
     requires sorted { IsSortedInput (I.value n) (map I.value a_p.now) (map I.value a_i.now) }
-    ensures orders { IfOk result (λ a. OrdersWell (unsigned_abs (I.value n)) control.now.dense (map I.value a_p.now) (map I.value a_i.now) (map I.value a.0.items) (map I.value a.1.items) a.2) }
+    ensures orders { IfOk result (λ a. OrdersMatrix (unsigned_abs (I.value n)) control.now.dense (map I.value a_p.now) (map I.value a_i.now) (map I.value a.0.items) (map I.value a.1.items) a.2) }
     ensures status { IfOk result (λ a. a.2.status ≡ Status.OK) }
     ensures refused { IfErr result (λ e. e ≡ Status.OutOfMemory) }
 {
@@ -77,7 +77,7 @@ fn order_jumbled<I: PrimInt, A: Allocator + Copy>(
     requires fits { I.fits (I.value n) }
     requires positive { pos 0 <ℤ I.value n }
     requires form { IsInput (I.value n) (I.value n) (map I.value a_p.now) (map I.value a_i.now) }
-    ensures orders { IfOk result (λ a. OrdersWell (unsigned_abs (I.value n)) control.now.dense (map I.value a_p.now) (map I.value a_i.now) (map I.value a.0.items) (map I.value a.1.items) a.2) }
+    ensures orders { IfOk result (λ a. OrdersMatrix (unsigned_abs (I.value n)) control.now.dense (map I.value a_p.now) (map I.value a_i.now) (map I.value a.0.items) (map I.value a.1.items) a.2) }
     ensures status { IfOk result (λ a. a.2.status ≡ Status.OkButJumbled) }
     ensures refused { IfErr result (λ e. e ≡ Status.OutOfMemory) }
 {
@@ -129,9 +129,3 @@ pub fn order<I: PrimInt, A: Allocator + Copy>(
         Status::OutOfMemory => unreachable!(),
     }
 }
-
-/// Two inputs with the same `n` and the same set of pairs get the same figures of the pattern, and by one parameter the same
-/// number of dense rows.
-pub fn law_equal_figures()
-    ensures { (n t : ℤ) (ap ai bp bi p q r s : List ℤ) (one other : Info) → IsOrdering n t ap ai p q one → IsOrdering n t bp bi r s other → SamePattern (unsigned_abs n) ap ai bp bi → HaveEqualFigures one other }
-{}

@@ -31,7 +31,7 @@ impl Default for Control {
 /// How a call went.
 #[derive(PartialEq, Clone, Debug, Drop)]
 pub enum Status {
-    /// The input is a column form whose columns are strictly rising.
+    /// The input has no columns, or is a column form whose columns are strictly rising.
     OK,
     /// The input is no column form.
     Invalid,

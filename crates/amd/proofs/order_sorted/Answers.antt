@@ -1,8 +1,9 @@
-use Rattle.std.proofs.Common.{ℕ, ℤ, List, pos, ◌≡◌, ◌-◌, map, length, drop, ap, subst, sym, ◌∙◌}
+use Rattle.std.proofs.Common.{ℕ, ℤ, List, pos, ◌≡◌, ◌-◌, map, length, drop, ap, subst, sym, ◌∙◌, arith}
 use Rattle.std.specs.Prelude.{unsigned_abs}
 use Rattle.amd_model.specs.Input.Dense.{IsThreshold}
-use Rattle.amd_model.specs.Listing.{IsPermutation}
+use Rattle.amd_model.specs.Listing.{ListsEachRow}
 use Rattle.amd_model.specs.Below.{list_below}
+use Rattle.amd_engine.specs.declared.amd.Info.{Info}
 use Rattle.amd.specs.Degrees.{AreDegrees}
 use Rattle.amd.specs.ByDegree.{is_above}
 use Rattle.amd.proofs.Orderings.{listing_orders}
@@ -23,8 +24,9 @@ returns-clause-orders g c =
     (subst (AreDegrees n a_p a_i c.in_ok-nzaat.nzaat) (sym c.deref.ensures.value) c.in_ok-nzaat.ensures.degrees)
     c.in_ok-nzaat.ensures.figures
     threshold
-    (subst (IsPermutation (length len)) same c.in_ok-rows.ensures.listing)
+    (subst (ListsEachRow (length len)) same c.in_ok-rows.ensures.listing)
     c.in_ok-rows.ensures.count
     (subst (λ xs. drop (length len - c.in_ok-rows.n_dense) xs ≡ list_below (length len) (is_above len c.dense_threshold-threshold.result)) same c.in_ok-rows.ensures.dense)
     c.in_ok-p.ensures.listed
     c.in_ok-p.ensures.inverse
+    (let stays : c.aat.new.info.n_cmp_a ≡ 0 = ap (λ (x : Info). x.n_cmp_a) c.in_ok-nzaat.ensures.others ∙ ap (λ (x : Info). x.n_cmp_a) c.new-info.ensures in omega (arith, stays))
