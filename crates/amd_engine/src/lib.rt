@@ -6,3 +6,4 @@ pub mod amd;
 pub mod dense;
 pub mod internal;
 pub mod permutations;
+pub mod walk;

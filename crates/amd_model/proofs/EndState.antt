@@ -19,6 +19,7 @@ pub record IsMade (g : Graph) (dense : ℕ → Bool) (s : State) : Type 0 where
   pub dense_last : (v : ℕ) → v < g.size → dense v ≡ true → s.home v ≡ Last
   pub last_dense : (v : ℕ) → v < g.size → s.home v ≡ Last → dense v ≡ true
 
+-- what holds of the last one: besides, no row is live, and eliminated rows lie below the size
 pub record IsEnd (g : Graph) (dense : ℕ → Bool) (s : State) : Type 0 where
   pub made : IsMade g dense s
   pub over : (v : ℕ) → live s v ≡ false

@@ -22,6 +22,7 @@ pub mod Places
 pub mod ListedOnce
 pub mod ColumnsInside
 pub mod NoFill
+pub mod ReachTest
 pub mod TieLists
 pub mod TieLaw
 pub mod TieSums
@@ -30,3 +31,10 @@ pub mod TieBuckets
 pub mod Classes
 pub mod Counts
 pub mod Exact
+pub mod FrontSums
+pub mod SmallFigures
+pub mod ListCounts
+pub mod EmptyRows
+pub mod NeededColumns
+pub mod Pointers
+pub mod DegreeSums

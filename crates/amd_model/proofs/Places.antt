@@ -1,12 +1,14 @@
 -- The places of a list: what stands where, and lists in which no number stands twice.
-use Rattle.std.proofs.Common.{ℕ, zero, suc, Bool, true, ◌≡◌, ◌≢◌, ◌<◌, ◌≤◌, ◌==◌, not, inl, inr, refl, sym, ◌∙◌, ap, subst, arith, List, [], ◌∷◌, ◌++◌, length, cond}
-use Rattle.std.specs.Prelude.{filter, slice_index, slice_index_or, take, drop}
-use Rattle.std.proofs.Math.Seq.{take-suc}
-use Rattle.std.proofs.lemmas.Bool.{true≢false, cases_eq, or_cases, or_left, or_right, not_from_true, eqb-true, eq-eqb, ne_eqb, not-true, not_from_false}
-use Rattle.amd_model.specs.Below.{any_below}
+use Rattle.std.proofs.Common.{ℕ, zero, suc, Bool, true, false, ◌≡◌, ◌≢◌, ◌<◌, ◌≤◌, ◌==◌, not, inl, inr, refl, sym, ◌∙◌, ap, subst, arith, List, [], ◌∷◌, ◌++◌, length, cond, ◌+◌}
+use Rattle.std.specs.Prelude.{filter, slice_index, slice_index_or, take, drop, Contains}
+use Rattle.std.specs.List.Sorted.{IsStrictlyIncreasing}
+use Rattle.std.proofs.Math.Seq.{take-suc, get_or-append_seam}
+use Rattle.std.proofs.lemmas.List.{append-nil, get_or_append_left, length-append}
+use Rattle.std.proofs.lemmas.Bool.{true≢false, cases_eq, or_cases, or_left, or_right, not_from_true, eqb-true, eq-eqb, ne_eqb, not-true, not_from_false, cases_lt}
+use Rattle.amd_model.specs.Below.{any_below, list_below, count_below, sum_below}
 use Rattle.amd_model.specs.Factor.{before}
 use Rattle.amd_model.proofs.BelowLemmas.{any_gives}
-use Rattle.amd_model.proofs.ListingLemmas.{has, has_head, has_tail, has_cases, has_none, has_append, has_left, has_right, has_filter, filter_has, Distinct, distinct_filter}
+use Rattle.amd_model.proofs.ListingLemmas.{has, has_head, has_tail, has_cases, has_none, has_append, has_left, has_right, has_filter, filter_has, Distinct, distinct_filter, has_below}
 
 -- a number of the list has a place
 pub place_of : (xs : List ℕ) (u : ℕ) → has u xs ≡ true → (k : ℕ) × (k < length xs) × ((d : ℕ) → slice_index_or xs k d ≡ u)
@@ -104,3 +106,41 @@ length_once (suc n) xs d small all =
     ])
     (λ u l. filter_has p xs u (all u (omega arith)) (not_from_false (u == n) (ne_eqb u n (omega arith)))) in
     one_dropped xs n d (all n (omega arith)) ∙ ap suc rest
+
+-- a greater number put behind a rising list
+increasing_push : (xs : List ℕ) (n : ℕ) → IsStrictlyIncreasing xs → ((u : ℕ) → has u xs ≡ true → u < n) → IsStrictlyIncreasing (xs ++ n ∷ [])
+increasing_push xs n up small k l = let len = length-append xs (n ∷ []) in elim (cases_lt (k + 1) (length xs)) [
+  | inl h ↦ (let a = get_or_append_left xs (n ∷ []) 0 k (omega arith) in let b = get_or_append_left xs (n ∷ []) 0 (k + 1) h in let c = up k h in omega (arith, a, b, c))
+  | inr h ↦ (let q : k + 1 ≡ length xs = omega (arith, len) in let a = get_or_append_left xs (n ∷ []) 0 k (omega arith) in
+      let b : slice_index (xs ++ n ∷ []) (k + 1) ≡ n = subst (λ i. slice_index (xs ++ n ∷ []) i ≡ n) (sym q) (get_or-append_seam xs n [] 0) in
+      let c = small (slice_index xs k) (has_place xs k (omega arith)) in omega (arith, a, b, c))
+]
+
+-- the numbers below a bound that pass stand in rising order
+pub below_increasing : (n : ℕ) (p : ℕ → Bool) → IsStrictlyIncreasing (list_below n p)
+unfolding list_below
+below_increasing zero p = λ k l. absurd (omega arith)
+below_increasing (suc n) p = go (p n) (below_increasing n p)
+  where
+    go : (b : Bool) → IsStrictlyIncreasing (list_below n p) → IsStrictlyIncreasing (list_below n p ++ cond b (n ∷ []) [])
+    go true up = increasing_push (list_below n p) n up (λ u h. (has_below n p u h).0)
+    go false up = subst IsStrictlyIncreasing (sym (append-nil (list_below n p))) up
+
+-- as many are listed as are counted
+pub length_below : (n : ℕ) (p : ℕ → Bool) → length (list_below n p) ≡ count_below n p
+unfolding list_below count_below sum_below
+length_below zero p = refl
+length_below (suc n) p = let there : length (list_below n p) ≡ count_below n p = length_below n p in
+    let joined = length-append (list_below n p) (cond (p n) (n ∷ []) []) in let last = one (p n) in omega (arith, there, joined, last)
+  where
+    one : (b : Bool) → length (cond b (n ∷ []) []) ≡ cond b 1 0
+    one true = refl
+    one false = refl
+
+pub contains_has : (xs : List ℕ) (u : ℕ) → Contains xs u → has u xs ≡ true
+contains_has [] u c = absurd (let l = c.1 in omega (arith, l))
+contains_has (x ∷ xs) u (zero, l, q) = has_head u x xs (sym q)
+contains_has (x ∷ xs) u (suc k, l, q) = has_tail u x xs (contains_has xs u (k, omega arith, q))
+
+pub has_contains : (xs : List ℕ) (u : ℕ) → has u xs ≡ true → Contains xs u
+has_contains xs u h = let r = place_of xs u h in (r.0, r.1, r.2 u)
