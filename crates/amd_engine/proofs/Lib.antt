@@ -4,3 +4,4 @@ pub mod Scans
 pub mod Uppers
 pub mod Ends
 pub mod Arcs
+pub mod Listing

@@ -4,4 +4,5 @@
 
 pub mod amd;
 pub mod internal;
+pub mod lists;
 pub mod walk;
