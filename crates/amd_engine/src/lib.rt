@@ -5,5 +5,6 @@
 pub mod amd;
 pub mod dense;
 pub mod internal;
+pub mod lists;
 pub mod permutations;
 pub mod walk;
