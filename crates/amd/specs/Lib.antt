@@ -1,2 +1,3 @@
 pub mod Scans
 pub mod PatternFigures
+pub mod Transposes

@@ -1,6 +1,7 @@
 // Reading numbers of the caller's integer type, and making them. Later proofs speak of the integers alone, and never of the
 // laws of generic numbers. Called by the walk, the engines, and every module of the crate `amd` that reads an input.
 
+ghost use Rattle.std.specs.Int.{FitsUnsignedBits};
 ghost use Rattle.std.specs.Prelude.{◌≡◌, ◌<◌, ◌↔◌, ◌<ℤ◌, IsTrue, length, map, pos};
 ghost use Rattle.num_traits.specs.Laws.{Checks, ChecksUnsigned};
 ghost use Rattle.amd_model.specs.Input.Columns.{at};
@@ -46,4 +47,17 @@ pub fn from_count<I: PrimInt>(count: usize) -> Option<I>
     ensures { Checks I.value I.fits (pos count) result }
 {
     num_traits::cast::<usize, I>(count)
+}
+
+/// The count at a place.
+#[inline]
+pub fn count_at<I: PrimInt>(numbers: &[I], place: usize) -> usize
+    requires within { place < length numbers.now }
+    requires count { FitsUnsignedBits 64 (at (map I.value numbers.now) place) }
+    ensures { pos result ≡ at (map I.value numbers.now) place }
+{
+    let Some(count) = to_count(value_at(numbers, place)) else {
+        unreachable!();
+    };
+    count
 }
