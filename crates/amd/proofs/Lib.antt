@@ -1,1 +1,4 @@
 pub mod Classes
+pub mod NamedPairs
+pub mod RowMarks
+pub mod ColumnCounts
