@@ -2,3 +2,4 @@ pub mod Classes
 pub mod NamedPairs
 pub mod RowMarks
 pub mod ColumnCounts
+pub mod PrefixSums
