@@ -3,3 +3,4 @@ pub mod NamedPairs
 pub mod RowMarks
 pub mod ColumnCounts
 pub mod PrefixSums
+pub mod ColumnLists
