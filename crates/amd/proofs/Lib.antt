@@ -4,3 +4,4 @@ pub mod RowMarks
 pub mod ColumnCounts
 pub mod PrefixSums
 pub mod ColumnLists
+pub mod RowForms
