@@ -2,4 +2,5 @@
 //! pattern in a plain, slow form to compare with.
 #![tactic(auto)]
 
+pub mod plain;
 pub mod refusing;
