@@ -260,3 +260,41 @@ pub fn are_inverse(n: usize, p: &[i64], p_inv: &[i64]) -> bool {
     }
     p.len() == n && p_inv.len() == n
 }
+
+#[cfg(test)]
+mod tests {
+    use super::{are_inverse, clean_transpose, is_column_form, is_jumbled, threshold};
+    use std::test::Fail;
+
+    #[test]
+    fn thresholds(rt: HostRuntime) {
+        for (t, n, want) in [
+            (10000, 1, 1),
+            (-1, 1, 1),
+            (-1, 17, 16),
+            (-1, 18, 16),
+            (-1, 19, 17),
+            (4006, 18, 16),
+            (4007, 18, 17),
+            (1160, 625, 29),
+            (8200, 225, 123),
+            (i32::MIN, 40, 38),
+            (i32::MAX, 40, 40),
+        ] {
+            assert_eq!(rt; threshold(t, n), want, "at {t} {n}");
+        }
+    }
+
+    #[test]
+    fn jumbled_columns(rt: HostRuntime) -> Result<(), Fail> {
+        let a_p = [0, 3, 3, 4];
+        let a_i = [2, 0, 2, 1];
+        assert!(rt; is_column_form(3, 3, &a_p, &a_i) && is_jumbled(3, &a_p, &a_i));
+        let (pointers, columns) = clean_transpose(rt.alloc(), 3, &a_p, &a_i)?;
+        assert_eq!(rt; pointers.as_slice(), [0, 1, 2, 3].as_slice());
+        assert_eq!(rt; columns.as_slice(), [0, 2, 0].as_slice());
+        assert!(rt; are_inverse(3, &[1, 2, 0], &[2, 0, 1]));
+        assert!(rt; !are_inverse(3, &[1, 2, 0], &[1, 2, 0]));
+        Ok(())
+    }
+}
