@@ -1,6 +1,8 @@
 // Families of inputs for tests, in column form with `n` rows and columns: named graphs, and matrices drawn from a seed by a
 // linear congruential generator. Called by tests alone.
 
+ghost use Rattle.std.specs.Prelude.{◌≤◌};
+
 use std::alloc::{AllocError, AllocFailed, Allocator};
 
 /// Adds the rows of the entries in column `j`, in the order in which they stand.
@@ -79,20 +81,50 @@ fn draw(state: &mut u64, n: u64) -> i64 {
     i64::try_from(*state / 8589934592 % n.max(1)).unwrap_or(0)
 }
 
-/// A matrix drawn from a seed: `1 + seed % 40` rows, and three entries for each of them, the row drawn before the column. Most
-/// of these inputs are jumbled. The answer begins with the number of rows.
-pub fn drawn<A: Allocator + Copy>(
-    alloc: A,
+/// The number of rows of a matrix that is drawn from a seed: from 1 to 40.
+fn rows_of(seed: u64) -> u64
+    ensures { result ≤ 40 }
+{
+    1 + seed % 40
+}
+
+/// Adds three entries for each row, drawn from a seed, the row of an entry before its column.
+fn push_drawn<A: Allocator>(
     seed: u64,
-) -> Result<(i64, Vec<i64, A>, Vec<i64, A>), AllocError> {
-    let n = 1 + seed % 40;
+    entries: &mut Vec<(i64, i64), A>,
+) -> Result<(), AllocFailed<(i64, i64)>> {
+    let n = rows_of(seed);
     let mut state = seed;
-    let mut entries = Vec::new(alloc);
     for _ in 0..3 * n {
         let row = draw(&mut state, n);
         entries.push((row, draw(&mut state, n)))?;
     }
-    let rows = i64::try_from(n).unwrap_or(0);
-    let (a_p, a_i) = columns_of(alloc, rows, &entries)?;
-    Ok((rows, a_p, a_i))
+    Ok(())
+}
+
+/// A matrix drawn from a seed. Most of them are jumbled. The answer begins with the number of rows.
+pub fn drawn<A: Allocator + Copy>(
+    alloc: A,
+    seed: u64,
+) -> Result<(i64, Vec<i64, A>, Vec<i64, A>), AllocError> {
+    let n = i64::try_from(rows_of(seed)).unwrap_or(0);
+    let mut entries = Vec::new(alloc);
+    push_drawn(seed, &mut entries)?;
+    let (a_p, a_i) = columns_of(alloc, n, &entries)?;
+    Ok((n, a_p, a_i))
+}
+
+/// A matrix drawn from a seed, with a column 0 that has each row, so that row 0 may be dense.
+pub fn drawn_with_hub<A: Allocator + Copy>(
+    alloc: A,
+    seed: u64,
+) -> Result<(i64, Vec<i64, A>, Vec<i64, A>), AllocError> {
+    let n = i64::try_from(rows_of(seed)).unwrap_or(0);
+    let mut entries = Vec::new(alloc);
+    for i in 0..n {
+        entries.push((i, 0))?;
+    }
+    push_drawn(seed, &mut entries)?;
+    let (a_p, a_i) = columns_of(alloc, n, &entries)?;
+    Ok((n, a_p, a_i))
 }

@@ -218,6 +218,21 @@ pub fn how_many(answers: &[bool]) -> usize {
     count
 }
 
+/// Whether the chosen rows stand last in a list of all rows, rising.
+pub fn stand_last(chosen: &[bool], p: &[i64]) -> bool {
+    let start = p.len().saturating_sub(how_many(chosen));
+    for k in 0..p.len() {
+        let row = count_at(p, k);
+        let Some(&is_chosen) = chosen.get(row) else {
+            return false;
+        };
+        if is_chosen != (k >= start) || (k > start && count_at(p, k - 1) >= row) {
+            return false;
+        }
+    }
+    true
+}
+
 /// Adds the columns in which row `i` stands, rising.
 fn push_columns<A: Allocator>(
     n: usize,
