@@ -1,7 +1,9 @@
 // The demo that orders one small matrix and prints what the ordering tells of its pattern, after the first demo of the AMD user
 // guide. Called by the program `demo_simple` and by tests.
 
-ghost use Rattle.std.specs.Prelude.{◌≤◌};
+ghost use Rattle.std.specs.Prelude.{◌≡◌, ◌≤◌, OnOk};
+ghost use Rattle.std.specs.Io.KnownBytes.{Appends};
+ghost use Rattle.amd_demos.specs.Lines.{figures_line, HasFiguresLine};
 
 use amd::{Control, Info, Status, order};
 use std::alloc::Allocator;
@@ -9,7 +11,9 @@ use std::io;
 use std::io::Write;
 
 /// Writes the figures of a pattern, in one line.
-fn print_figures<W: Write>(info: &Info, out: &mut W) -> io::Result<()> {
+fn print_figures<W: Write>(info: &Info, out: &mut W) -> io::Result<()>
+    ensures { OnOk result (Appends (W.contents out.old) (W.contents out.new) (figures_line info.now)) }
+{
     let nz = info.nz;
     let nz_diag = info.nz_diag;
     let nz_a_plus_at = info.nz_a_plus_at;
@@ -35,7 +39,8 @@ pub fn simple_to<W: Write, A: Allocator + Copy>(
     a_i: &[i32],
     out: &mut W,
 ) -> u8
-    ensures { result ≤ 1 }
+    ensures status { result ≤ 1 }
+    ensures written { result ≡ 0 → HasFiguresLine n a_p.now a_i.now (W.contents out.old) (W.contents out.new) }
 {
     match order(alloc, n, a_p, a_i, &Control::default()) {
         Ok((_, _, info)) if info.status == Status::OK => match print_figures(&info, out) {
