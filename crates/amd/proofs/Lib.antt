@@ -5,3 +5,9 @@ pub mod Orderings
 pub mod Counting
 pub mod Symmetry
 pub mod PatternLemmas
+pub mod NamedPairs
+pub mod RowMarks
+pub mod ColumnCounts
+pub mod PrefixSums
+pub mod ColumnLists
+pub mod RowForms

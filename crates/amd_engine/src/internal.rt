@@ -67,7 +67,8 @@ pub fn known_count<I: PrimInt>(number: I) -> usize
 pub fn count_at<I: PrimInt>(numbers: &[I], place: usize) -> usize
     requires within { place < length numbers.now }
     requires fits { FitsUnsignedBits 64 (at (map I.value numbers.now) place) }
-    ensures { result ≡ slice_index (counts (map I.value numbers.now)) place }
+    ensures value { pos result ≡ at (map I.value numbers.now) place }
+    ensures count { result ≡ slice_index (counts (map I.value numbers.now)) place }
 {
     known_count(value_at(numbers, place))
 }

@@ -50,7 +50,7 @@ overflow_sub-info g c =
     let form = input_form _ _ _ c.requires.form in
     let sorted = input_sorted _ _ _ c.requires.sorted in
     let diagonals : c.walk-diagonals.result ≡ diagonal_count n ap' ai = rw (is ∙ size) at c.walk-diagonals.ensures.diagonals in
-    let places : c.count_at-entries.result ≡ get_or (counts ap') n 0 = rw size at c.count_at-entries.ensures in
+    let places : c.count_at-entries.result ≡ get_or (counts ap') n 0 = rw size at c.count_at-entries.ensures.count in
     let pairs = pairs_counted n ap' ai form sorted in
     let part = diagonal_part n ap' ai in
     omega (arith, diagonals, places, pairs, part)
@@ -66,7 +66,7 @@ returns g c =
     let numbers = c.walk-diagonals.new.visitor.degrees.items in
     let diagonals : c.walk-diagonals.result ≡ diagonal_count n ap' ai = rw (is ∙ size) at c.walk-diagonals.ensures.diagonals in
     let held : AreCounts (graph_of n ap' ai) ((graph_of n ap' ai).edge) numbers = rw (is ∙ size) at c.walk-diagonals.ensures.held in
-    let places : c.count_at-entries.result ≡ get_or (counts ap') n 0 = rw size at c.count_at-entries.ensures in
+    let places : c.count_at-entries.result ≡ get_or (counts ap') n 0 = rw size at c.count_at-entries.ensures.count in
     let total : c.in-Some.sum ≡ sum_below (length numbers) (λ k. get_or numbers k 0) = rw c.deref.ensures.value at c.in-Some.ensures in
     let degrees = degrees_are n ap' ai numbers c.in-Some.sum held total in
     record {

@@ -16,42 +16,42 @@ count_at-place-requires-clause-fits g c = pointer_fits _ _ _ c.requires.form c.a
 
 pub count_at-requires-clause-within : goal.count_at-requires-clause-within
 count_at-requires-clause-within g c =
-    let end = c.count_at-end.ensures in
+    let end = c.count_at-end.ensures.count in
     let inside = place_within _ _ _ c.requires.form c.args.k c.upper.place (omega arith) (omega arith) in
     simp length-map at inside
 
 pub count_at-requires-clause-fits : goal.count_at-requires-clause-fits
 count_at-requires-clause-fits g c =
-    let end = c.count_at-end.ensures in
+    let end = c.count_at-end.ensures.count in
     row_fits _ _ _ c.requires.form c.args.k c.upper.place (omega arith) (omega arith) (omega arith)
 
 pub count_at-j-requires-clause-within : goal.count_at-j-requires-clause-within
 count_at-j-requires-clause-within g c =
-    let end = c.count_at-end.ensures in
+    let end = c.count_at-end.ensures.count in
     let inside = place_within _ _ _ c.requires.form c.args.k c.upper.place (omega arith) (omega arith) in
     simp length-map at inside
 
 pub count_at-j-requires-clause-fits : goal.count_at-j-requires-clause-fits
 count_at-j-requires-clause-fits g c =
-    let end = c.count_at-end.ensures in
+    let end = c.count_at-end.ensures.count in
     row_fits _ _ _ c.requires.form c.args.k c.upper.place (omega arith) (omega arith) (omega arith)
 
 pub count_at-requires-then-place-end-clause-within : goal.count_at-requires-then-place-end-clause-within
 count_at-requires-then-place-end-clause-within g c =
-    let end = c.count_at-end.ensures in
+    let end = c.count_at-end.ensures.count in
     let inside = place_within _ _ _ c.requires.form c.args.k c.upper.place (omega arith) (omega arith) in
     simp length-map at inside
 
 pub count_at-requires-then-place-end-clause-fits : goal.count_at-requires-then-place-end-clause-fits
 count_at-requires-then-place-end-clause-fits g c =
-    let end = c.count_at-end.ensures in
+    let end = c.count_at-end.ensures.count in
     row_fits _ _ _ c.requires.form c.args.k c.upper.place (omega arith) (omega arith) (omega arith)
 
 pub arc-requires : goal.arc-requires
 arc-requires g c =
     let i = c.upper.invariant.1 in let r = c.requires in let m = c.upper.invariant.0 in let t = c.upper.next in let k = c.args.k in let p = c.upper.place in let j = c.count_at-j.result in
     let form = sorted_form _ _ _ r.form r.sorted in
-    let end = c.count_at-end.ensures in let same = c.count_at-j.ensures in let first = c.count_at.ensures in
+    let end = c.count_at-end.ensures.count in let same = c.count_at-j.ensures.count in let first = c.count_at.ensures.count in
     let below : j < k = omega arith in
     let left = i.left p (omega arith) c.upper-test.true in
     let gap = λ (a : ℕ) (x : m ≤ a) (y : a < j). upper_gap _ _ _ form t k m r.k_in i.scan p i.from (omega arith) i.read a x (omega arith) in
@@ -62,7 +62,7 @@ pub arc-requires-in-upper : goal.arc-requires-in-upper
 arc-requires-in-upper g c =
     let i = c.upper.invariant.1 in let r = c.requires in let m = c.upper.invariant.0 in let t = c.upper.next in let k = c.args.k in let p = c.upper.place in let j = c.count_at-j.result in
     let form = sorted_form _ _ _ r.form r.sorted in
-    let end = c.count_at-end.ensures in let same = c.count_at-j.ensures in let first = c.count_at.ensures in
+    let end = c.count_at-end.ensures.count in let same = c.count_at-j.ensures.count in let first = c.count_at.ensures.count in
     let below : j < k = omega arith in
     let left = i.left p (omega arith) c.upper-test.true in
     let gap = λ (a : ℕ) (x : m ≤ a) (y : a < j). upper_gap _ _ _ form t k m r.k_in i.scan p i.from (omega arith) i.read a x (omega arith) in
@@ -74,7 +74,7 @@ pub lower-requires : goal.lower-requires
 lower-requires g c =
     let i = c.upper.invariant.1 in let r = c.requires in let m = c.upper.invariant.0 in let t = c.upper.next in let k = c.args.k in let p = c.upper.place in let j = c.count_at-j.result in
     let form = sorted_form _ _ _ r.form r.sorted in
-    let end = c.count_at-end.ensures in let same = c.count_at-j.ensures in let first = c.count_at.ensures in
+    let end = c.count_at-end.ensures.count in let same = c.count_at-j.ensures.count in let first = c.count_at.ensures.count in
     let below : j < k = omega arith in
     let left = i.left p (omega arith) c.upper-test.true in
     let low : m ≤ j = omega arith in
@@ -96,7 +96,7 @@ pub upper-preserved : goal.upper-preserved
 upper-preserved g c =
     let i = c.upper.invariant.1 in let r = c.requires in let k = c.args.k in let p = c.upper.place in let j = c.count_at-j.result in
     let form = sorted_form _ _ _ r.form r.sorted in
-    let end = c.count_at-end.ensures in let same = c.count_at-j.ensures in let first = c.count_at.ensures in
+    let end = c.count_at-end.ensures.count in let same = c.count_at-j.ensures.count in let first = c.count_at.ensures.count in
     let e = rw c.upper.auto.next at c.lower.ensures in (
       j + 1,
       record {
@@ -114,7 +114,7 @@ pub upper-init : goal.upper-init
 upper-init g c =
     let r = c.requires in
     let form = sorted_form _ _ _ r.form r.sorted in
-    let end = c.count_at-end.ensures in let start = c.count_at-place.ensures in
+    let end = c.count_at-end.ensures.count in let start = c.count_at-place.ensures.count in
     let rising = form.rising c.args.k r.k_in in (
       0,
       record {
@@ -132,20 +132,20 @@ pub returns : goal.returns
 returns g c =
     let i = c.upper.invariant.1 in let r = c.requires in let m = c.upper.invariant.0 in let t = c.upper.next in let k = c.args.k in let p = c.upper.place in
     let form = sorted_form _ _ _ r.form r.sorted in
-    let ends = c.count_at-end.ensures in
+    let ends = c.count_at-end.ensures.count in
     let ap' = counts (map g.I.Number.value c.args.a_p.now) in
     let ai = counts (map g.I.Number.value c.args.a_i.now) in
     let stop : p < get_or ap' (k + 1) 0 → k ≤ get_or ai p 0 = λ inside. elim c.upper-test.branch [
-      | then-upper-test+else-count_at-k w ↦ (let x = w.if-count_at-k.false in let y = w.count_at.ensures in omega arith)
+      | then-upper-test+else-count_at-k w ↦ (let x = w.if-count_at-k.false in let y = w.count_at.ensures.count in omega arith)
       | else-upper-test w ↦ (let x = w.upper-test.false in absurd (omega arith))
     ] in
     let uppers = exit_uppers _ _ _ form t k m r.k_in i.scan p i.from stop i.low i.read in
     let found : c.if-place-end.diagonal ≡ true → (p < get_or ap' (k + 1) 0) × (get_or ai p 0 ≡ k) = λ e. elim c.if-place-end.branch [
-      | then-place-end w ↦ (let x = w.if-place-end.true in let y = w.count_at-then-place-end.ensures in let z = eqb-true _ _ (sym w.diagonal-is ∙ e) in (omega arith, omega arith))
+      | then-place-end w ↦ (let x = w.if-place-end.true in let y = w.count_at-then-place-end.ensures.count in let z = eqb-true _ _ (sym w.diagonal-is ∙ e) in (omega arith, omega arith))
       | else-place-end w ↦ (let x = w.if-place-end.false in absurd (true≢false (sym e ∙ w.diagonal-is ∙ le-ltb p c.count_at-end.result x)))
     ] in
     let missed : c.if-place-end.diagonal ≡ false → p < get_or ap' (k + 1) 0 → get_or ai p 0 ≢ k = λ e inside. elim c.if-place-end.branch [
-      | then-place-end w ↦ (let y = w.count_at-then-place-end.ensures in let z = eqb-false _ _ (sym w.diagonal-is ∙ e) in λ same. z (y ∙ same))
+      | then-place-end w ↦ (let y = w.count_at-then-place-end.ensures.count in let z = eqb-false _ _ (sym w.diagonal-is ∙ e) in λ same. z (y ∙ same))
       | else-place-end w ↦ (let x = w.if-place-end.false in absurd (omega arith))
     ] in
     elim c.if-diagonal.branch [
