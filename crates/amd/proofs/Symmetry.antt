@@ -1,13 +1,14 @@
 -- The pairs of a sorted form are as many as its places, and a pattern is symmetric where its graph has as many arcs as the
 -- pattern has pairs off the diagonal.
-use Rattle.std.proofs.Common.{◌≡◌, ◌≢◌, ◌+◌, ◌-◌, ◌<◌, ◌≤◌, inl, inr, ℕ, ℤ, zero, suc, Bool, true, false, pos, List, get_or, arith, refl, ap, sym, ◌∙◌, cond, eqb, ltb, ◌||◌, ◌&&◌, not}
+use Rattle.std.proofs.Common.{◌≡◌, ◌≢◌, ◌+◌, ◌-◌, ◌*◌, ◌<◌, ◌≤◌, inl, inr, ℕ, ℤ, zero, suc, Bool, true, false, pos, List, get_or, arith, refl, ap, sym, ◌∙◌, cond, eqb, ltb, ◌||◌, ◌&&◌, not}
 use Rattle.std.proofs.lemmas.Bool.{and_parts, and_from, or_left, or_right, cases_eq, cases_Bool, eq-eqb, ne_eqb, lt-ltb, ltb-true}
 use Rattle.std.proofs.lemmas.Int.{ints}
 use Rattle.amd_model.specs.Below.{sum_below, count_below}
 use Rattle.amd_model.specs.Graph.{degree, degree_sum}
 use Rattle.amd_model.specs.Input.Columns.{IsColumnForm, IsSorted}
 use Rattle.amd_model.specs.Input.Pattern.{is_pair, graph_of, pair_count, diagonal_count, IsSymmetric}
-use Rattle.amd_model.proofs.BelowLemmas.{sum_mono, sum_same, count_mono, count_same}
+use Rattle.amd_model.proofs.BelowLemmas.{sum_mono, sum_plus, sum_same, count_mono, count_or, count_same}
+use Rattle.amd_model.proofs.Pigeonhole.{sum_swap}
 use Rattle.amd_engine.specs.Counts.{counts, is_before, is_entry}
 use Rattle.amd_engine.proofs.Forms.{IsSortedForm, sorted_form, same_pair, pointer_is}
 use Rattle.amd_engine.proofs.Places.{before_none, before_more}
@@ -95,6 +96,22 @@ module _ (n : ℕ) (pair : ℕ → ℕ → Bool) where
   unfolding off arc
   off_arc j i e = (let p = and_parts (not (eqb j i)) _ e in and_from (not (eqb j i)) _ p.0 (or_right _ _ p.1))
 
+  row_bound : (j : ℕ) → count_below n (arc j) ≤ count_below n (λ i. pair j i) + count_below n (λ i. pair i j)
+  unfolding arc
+  row_bound j =
+      let drop = count_mono n (arc j) (λ i. pair j i || pair i j) (λ i l e. (and_parts (not (eqb j i)) _ e).1) in
+      let parts = count_or n (λ i. pair j i) (λ i. pair i j) in
+      omega (arith, drop, parts)
+
+  -- each pair gives two arcs at most
+  pub arc_bound : sum_below n (λ j. count_below n (arc j)) ≤ 2 * sum_below n (λ j. count_below n (λ i. pair i j))
+  unfolding count_below
+  arc_bound =
+      let rows = sum_mono n (λ j. count_below n (arc j)) (λ j. count_below n (λ i. pair j i) + count_below n (λ i. pair i j)) (λ j l. row_bound j) in
+      let parted = sum_plus n (λ j. count_below n (λ i. pair j i)) (λ j. count_below n (λ i. pair i j)) in
+      let turned = sum_swap n n (λ j i. cond (pair j i) 1 0) in
+      omega (arith, rows, parted, turned)
+
   -- where there are as many arcs as pairs off the diagonal, each pair has a mirror
   pub mirrors : ((i j : ℕ) → pair i j ≡ true → (i < n) × (j < n)) →
       sum_below n (λ j. count_below n (arc j)) + count_below n (λ j. pair j j) ≡ sum_below n (λ j. count_below n (λ i. pair i j)) →
@@ -168,3 +185,8 @@ symmetric_when n ap' ai e =
 pub symmetric_only : (n : ℕ) (ap' ai : List ℤ) → IsSymmetric n ap' ai → degree_sum (graph_of n ap' ai) ≡ pair_count n ap' ai - diagonal_count n ap' ai
 unfolding graph_of degree_sum degree pair_count diagonal_count arc
 symmetric_only n ap' ai turned = (let e = mirrored n (is_pair n ap' ai) turned in omega (arith, e))
+
+-- there are at most two arcs for each pair
+pub arcs_most : (n : ℕ) (ap' ai : List ℤ) → degree_sum (graph_of n ap' ai) ≤ 2 * pair_count n ap' ai
+unfolding graph_of degree_sum degree pair_count arc
+arcs_most n ap' ai = arc_bound n (is_pair n ap' ai)

@@ -1,7 +1,7 @@
 // The degrees of the rows of a matrix, and the figures of its pattern: those of the pattern of A + A' (Amestoy, Davis and Duff
 // 2004). Called by `order`.
 
-ghost use Rattle.std.specs.Prelude.{◌≡◌, ◌<ℤ◌, ◌≤◌, ◌^◌, ℕ, pos, map, length, slice_index, unsigned_abs, IfOk, IfErr, OnOk, OnErr, MatchOption};
+ghost use Rattle.std.specs.Prelude.{◌≡◌, ◌<◌, ◌<ℤ◌, ◌^◌, ℕ, pos, map, length, slice_index, unsigned_abs, IfOk, IfErr, OnOk, OnErr};
 ghost use Rattle.amd_model.specs.Below.{sum_below};
 ghost use Rattle.amd_model.specs.Input.Columns.{IsInput, IsSortedInput};
 ghost use Rattle.amd_engine.specs.Visits.{AreCounts};
@@ -29,15 +29,16 @@ impl<A: Allocator> Visitor for Counts<A> {
     }
 }
 
-/// The sum of the numbers, where it is a `usize`.
-fn total(numbers: &[usize]) -> Option<usize>
-    ensures { MatchOption result (2 ^ 64 ≤ sum_below (length numbers.now) (λ k. slice_index numbers.now k)) (λ s. s ≡ sum_below (length numbers.now) (λ k. slice_index numbers.now k)) }
+/// The sum of the numbers.
+fn total(numbers: &[usize]) -> usize
+    requires fits { sum_below (length numbers.now) (λ k. slice_index numbers.now k) < 2 ^ 64 }
+    ensures { result ≡ sum_below (length numbers.now) (λ k. slice_index numbers.now k) }
 {
-    let mut sum: usize = 0;
+    let mut sum = 0;
     'numbers: for k in 0..numbers.len() {
-        sum = sum.checked_add(numbers[k])?;
+        sum += numbers[k];
     }
-    Some(sum)
+    sum
 }
 
 /// The sum of the degrees and the degree of each row of a matrix with `n` rows; the figures of its pattern go to `info`.
@@ -59,6 +60,11 @@ pub fn aat<I: PrimInt, A: Allocator + Copy>(
     ensures unchanged { OnErr result (info.new ≡ info.old) }
 {
     let size = known_count(n);
+    let entries = count_at(a_p, size);
+    // There are at most two arcs for each entry, so that below their sum fits.
+    if entries >= 1 << 63 {
+        return Err(Status::OutOfMemory);
+    }
     let Ok(mut next) = vec![in alloc; 0; size] else {
         return Err(Status::OutOfMemory);
     };
@@ -67,10 +73,7 @@ pub fn aat<I: PrimInt, A: Allocator + Copy>(
     };
     let mut counts = Counts { degrees };
     let diagonals = walk(a_p, a_i, &mut next, &mut counts);
-    let Some(sum) = total(&counts.degrees) else {
-        return Err(Status::OutOfMemory);
-    };
-    let entries = count_at(a_p, size);
+    let sum = total(&counts.degrees);
     info.n = size;
     info.nz = entries;
     info.nz_diag = diagonals;

@@ -16,7 +16,8 @@ use std::env;
 use std::rt::Runtime;
 use std::time::{Duration, Instant};
 
-/// The times of calls of `valid`.
+/// The times of calls of `valid`. It is compiled apart from its caller, so that no other loop takes its registers.
+#[inline(never)]
 fn valid_times<R: Runtime + Alloc<A = Global>, I: PrimInt>(
     rt: &R,
     pattern: &Pattern<I>,
@@ -32,7 +33,8 @@ fn valid_times<R: Runtime + Alloc<A = Global>, I: PrimInt>(
     Ok(times)
 }
 
-/// The times of calls of `aat`, each with the release of what it gives.
+/// The times of calls of `aat`, each with the release of what it gives. It is compiled apart from its caller.
+#[inline(never)]
 fn aat_times<R: Runtime + Alloc<A = Global>, I: PrimInt>(
     rt: &R,
     pattern: &Pattern<I>,

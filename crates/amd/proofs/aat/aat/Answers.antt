@@ -7,7 +7,7 @@ use Rattle.amd_engine.specs.Counts.{counts}
 use Rattle.amd_engine.proofs.Forms.{pointer_fits}
 use Rattle.amd_engine.specs.Visits.{AreCounts}
 use Rattle.amd.proofs.Counting.{counts_none}
-use Rattle.amd.proofs.Symmetry.{pairs_counted, diagonal_part}
+use Rattle.amd.proofs.Symmetry.{pairs_counted, diagonal_part, arcs_most}
 use Rattle.amd.proofs.PatternLemmas.{input_form, input_sorted, input_fits, degrees_are, figures_are}
 use Rattle.amd.proofs.aat.aat.Goals as goal
 
@@ -41,6 +41,21 @@ count_at-entries-requires g c =
       fits = rw size (pointer_fits _ _ _ form _ (omega arith) (simp length-map (omega arith)));
     }
 
+pub total-sum-requires : goal.total-sum-requires
+total-sum-requires g c =
+    let n = unsigned_abs (g.I.Number.value c.args.n) in
+    let ap' = map g.I.Number.value c.args.a_p.now in let ai = map g.I.Number.value c.args.a_i.now in
+    let size = c.known_count-size.ensures in
+    let is : length c.deref_mut.result.now ≡ c.known_count-size.result = search rules in
+    let numbers = c.walk-diagonals.new.visitor.degrees.items in
+    let held : AreCounts (graph_of n ap' ai) ((graph_of n ap' ai).edge) numbers = rw (is ∙ size) at c.walk-diagonals.ensures.held in
+    let places : c.count_at-entries.result ≡ get_or (counts ap') n 0 = rw size at c.count_at-entries.ensures.count in
+    let pairs = pairs_counted n ap' ai (input_form _ _ _ c.requires.form) (input_sorted _ _ _ c.requires.sorted) in
+    let sum = (degrees_are n ap' ai numbers _ held refl).sum in
+    let most = arcs_most n ap' ai in
+    let few = c.if-entries.false in
+    record { fits = rw c.deref.ensures.value (omega (arith, sum, places, pairs, most, few)) }
+
 pub overflow_sub-info : goal.overflow_sub-info
 overflow_sub-info g c =
     let n = unsigned_abs (g.I.Number.value c.args.n) in
@@ -67,8 +82,8 @@ returns g c =
     let diagonals : c.walk-diagonals.result ≡ diagonal_count n ap' ai = rw (is ∙ size) at c.walk-diagonals.ensures.diagonals in
     let held : AreCounts (graph_of n ap' ai) ((graph_of n ap' ai).edge) numbers = rw (is ∙ size) at c.walk-diagonals.ensures.held in
     let places : c.count_at-entries.result ≡ get_or (counts ap') n 0 = rw size at c.count_at-entries.ensures.count in
-    let total : c.in-Some.sum ≡ sum_below (length numbers) (λ k. get_or numbers k 0) = rw c.deref.ensures.value at c.in-Some.ensures in
-    let degrees = degrees_are n ap' ai numbers c.in-Some.sum held total in
+    let total : c.total-sum.result ≡ sum_below (length numbers) (λ k. get_or numbers k 0) = rw c.deref.ensures.value at c.total-sum.ensures in
+    let degrees = degrees_are n ap' ai numbers c.total-sum.result held total in
     record {
       degrees = degrees;
       figures = figures_are n ap' ai form sorted _ size places diagonals degrees.sum refl;
