@@ -65,14 +65,14 @@ pub fn aat<I: PrimInt, A: Allocator + Copy>(
     if entries >= 1 << 63 {
         return Err(Status::OutOfMemory);
     }
-    let Ok(mut next) = vec![in alloc; 0; size] else {
+    let Ok(mut next) = Vec::with_capacity(alloc, size) else {
         return Err(Status::OutOfMemory);
     };
     let Ok(degrees) = vec![in alloc; 0; size] else {
         return Err(Status::OutOfMemory);
     };
     let mut counts = Counts { degrees };
-    let diagonals = walk(a_p, a_i, &mut next, &mut counts);
+    let diagonals = walk(size, a_p, a_i, &mut next, &mut counts);
     let sum = total(&counts.degrees);
     info.n = size;
     info.nz = entries;

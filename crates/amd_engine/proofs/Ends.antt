@@ -2,6 +2,7 @@
 use Rattle.std.proofs.Common.{◌≡◌, ◌+◌, inl, inr, ℕ, Bool, true, false, List, length, get_or, arith, refl, cond, eqb, ltb, ◌||◌, ◌&&◌}
 use Rattle.std.proofs.Math.Bool.{or_comm, or-false}
 use Rattle.std.proofs.lemmas.Bool.{or_left, cases_eq, cases_lt, eq-eqb, lt-ltb, le-ltb, ne_eqb}
+use Rattle.std.proofs.lemmas.List.{get_or_past}
 use Rattle.amd_engine.proofs.Forms.{IsSortedForm}
 use Rattle.amd_engine.specs.Counts.{is_before, is_entry, is_edge}
 use Rattle.amd_engine.specs.Walk.{IsScan, is_read, is_met, met}
@@ -21,13 +22,16 @@ module _ (n : ℕ) (ap' ai : List ℕ) (form : IsSortedForm n ap' ai) (t : List 
       half : (a b : ℕ) → is_met n ap' ai t 0 0 a b ≡ false
       half a b = rw (zeros a, before_none ap' ai 0 b a (λ q low high e. omega arith), le-ltb b 0 (omega arith), le-ltb a 0 (omega arith)) (drops (ltb a b) (is_entry n ap' ai a b) (eqb b 0))
 
-  pub start_scan : length t ≡ n → ((a : ℕ) → get_or t a 0 ≡ 0) → IsScan n ap' ai t 0 0
-  start_scan size zeros = record {
+  pub start_zeros : length t ≡ 0 → (a : ℕ) → get_or t a 0 ≡ 0
+  start_zeros empty a = get_or_past t a 0 (omega arith)
+
+  pub start_scan : length t ≡ 0 → IsScan n ap' ai t 0 0
+  start_scan size = record {
     size = size;
     start = λ a x y. absurd (omega arith);
     stop = λ a x y. absurd (omega arith);
     low = λ a r x y z w. absurd (omega arith);
-    unset = λ a x. zeros a;
+    unset = λ a x. start_zeros size a;
     passed = λ a c r x y z w l h le. elim z [ inl v ↦ absurd (omega arith) | inr v ↦ (let u = v.1 in absurd (omega arith)) ];
   }
 

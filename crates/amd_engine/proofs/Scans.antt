@@ -86,7 +86,7 @@ module _ (n : ℕ) (ap' ai : List ℕ) (form : IsSortedForm n ap' ai) where
   in_column t k m s a h = elim (cases_lt a k) [ inl x ↦ s.stop a x h | inr x ↦ (let z = s.unset a x in omega arith) ]
 
   -- each arc that was met is one of the graph
-  pub met_within : (t : List ℕ) (k m : ℕ) → length t ≡ n → ((a : ℕ) → a < n → get_or t a 0 ≤ get_or ap' (a + 1) 0) →
+  pub met_within : (t : List ℕ) (k m : ℕ) → length t ≤ n → ((a : ℕ) → a < n → get_or t a 0 ≤ get_or ap' (a + 1) 0) →
       (a b : ℕ) → met n ap' ai t k m a b ≡ true → is_edge n ap' ai a b ≡ true
   unfolding met is_met is_edge
   met_within t k m size inside a b e = elim (or_cases _ _ e) [
@@ -193,7 +193,7 @@ module _ (n : ℕ) (ap' ai : List ℕ) (form : IsSortedForm n ap' ai) where
           let moved = scan_moves t k j j q before (omega arith) from (omega arith) scan in
           let fresh = lower_fresh (set t j q) k (j + 1) j i q here (omega arith) (omega arith) to (sym is) never in
           two_new _ i j (omega arith) (omega arith) (λ e. omega arith) (entry_from ap' ai n i j q (omega arith) (omega arith) to (sym is)) fresh.0 fresh.1
-          (met_within (set t j q) k (j + 1) moved.size (in_column (set t j q) k j moved))
+          (met_within (set t j q) k (j + 1) (let z = moved.size in omega arith) (in_column (set t j q) k j moved))
 
       pub lower_after : i < k → with_arc (with_arc (met n ap' ai (set t j q) k (j + 1)) i j) j i ≡ met n ap' ai (set t j (q + 1)) k (j + 1)
       lower_after below =

@@ -1,8 +1,8 @@
 -- Steps of the walk over the upper entries.
-use Rattle.std.proofs.Common.{◌≡◌, ◌≢◌, ◌+◌, ◌<◌, ◌≤◌, ◌⊎◌, inl, inr, ℕ, Bool, true, false, List, get_or, set, get_or-set_same, get_or-set_other, arith, refl, ap, sym, ◌∙◌, cond, eqb, ltb, ◌||◌, ◌&&◌}
+use Rattle.std.proofs.Common.{◌≡◌, ◌≢◌, ◌+◌, ◌<◌, ◌≤◌, ◌⊎◌, inl, inr, ℕ, Bool, true, false, List, [], ◌∷◌, ◌++◌, get_or, arith, refl, ap, sym, ◌∙◌, cond, eqb, ltb, ◌||◌, ◌&&◌}
 use Rattle.std.proofs.Math.Bool.{and_comm}
 use Rattle.std.proofs.lemmas.Bool.{cases_eq, cases_lt, cases_Bool, true≢false, eq-eqb, lt-ltb, le-ltb, ne_eqb}
-use Rattle.std.proofs.lemmas.List.{length-set}
+use Rattle.std.proofs.lemmas.List.{length_push, get_or_push, get_or_append_left, get_or_past}
 use Rattle.amd_engine.specs.Visits.{with_arc, IsNew}
 use Rattle.amd_engine.proofs.Forms.{IsSortedForm}
 use Rattle.amd_engine.specs.Counts.{is_before, is_entry, count_graph}
@@ -69,7 +69,7 @@ module _ (n : ℕ) (ap' ai : List ℕ) (form : IsSortedForm n ap' ai) (t : List 
 
     pub upper_new : IsNew (count_graph n ap' ai) (met n ap' ai t k m) j k × IsNew (count_graph n ap' ai) (with_arc (met n ap' ai t k m) j k) k j
     upper_new = two_new n ap' ai form _ j k (omega arith) k_in (λ e. omega arith) pair fresh.0 fresh.1
-        (met_within n ap' ai form t k m scan.size (in_column n ap' ai form t k m scan))
+        (met_within n ap' ai form t k m (let z = scan.size in omega arith) (in_column n ap' ai form t k m scan))
 
     pub upper_scan : IsScan n ap' ai t k j
     upper_scan = record {
@@ -100,16 +100,19 @@ module _ (n : ℕ) (ap' ai : List ℕ) (form : IsSortedForm n ap' ai) (t : List 
 
   module _ (p : ℕ) (from : get_or ap' k 0 ≤ p) (to : p ≤ get_or ap' (k + 1) 0) (behind : (r : ℕ) → get_or ap' k 0 ≤ r → r < p → get_or ai r 0 ≤ k)
       (rest : (r : ℕ) → p ≤ r → r < get_or ap' (k + 1) 0 → k < get_or ai r 0) (uppers : (a : ℕ) → a < k → is_entry n ap' ai a k ≡ true → a < m) where
-    here : get_or (set t k p) k 0 ≡ p
-    here = get_or-set_same t k p 0 (let z = scan.size in omega arith)
+    here : get_or (t ++ p ∷ []) k 0 ≡ p
+    here = get_or_push t p 0 k scan.size
 
-    there : (a : ℕ) → a ≢ k → get_or (set t k p) a 0 ≡ get_or t a 0
-    there a ne = get_or-set_other t k a p 0 ne
+    there : (a : ℕ) → a ≢ k → get_or (t ++ p ∷ []) a 0 ≡ get_or t a 0
+    there a ne = elim (cases_lt a k) [
+      | inl x ↦ get_or_append_left t (p ∷ []) 0 a (let z = scan.size in omega arith)
+      | inr x ↦ (let z = scan.size in let l = length_push t p in get_or_past (t ++ p ∷ []) a 0 (omega arith) ∙ sym (get_or_past t a 0 (omega arith)))
+    ]
 
-    -- the pointer of column k is set
-    pub end_scan : IsScan n ap' ai (set t k p) (k + 1) 0
+    -- the pointer of column k is added
+    pub end_scan : IsScan n ap' ai (t ++ p ∷ []) (k + 1) 0
     end_scan = record {
-      size = length-set t k p ∙ scan.size;
+      size = length_push t p ∙ ap (λ x. x + 1) scan.size;
       start = λ a x y. elim (cases_eq a k) [ inl e ↦ rw (e, here) from | inr e ↦ rw (there a e) (scan.start a (omega arith) y) ];
       stop = λ a x y. elim (cases_eq a k) [ inl e ↦ rw (e, here) to | inr e ↦ rw (there a e) (scan.stop a (omega arith) y) ];
       low = λ a r x y z w. elim (cases_eq a k) [ inl e ↦ (let u = rw (e, here) at z in let v = rw e at w in rw e (rest r u v)) | inr e ↦ scan.low a r (omega arith) y (rw (there a e) at z) w ];
@@ -126,7 +129,7 @@ module _ (n : ℕ) (ap' ai : List ℕ) (form : IsSortedForm n ap' ai) (t : List 
           | inr e ↦ inl (omega arith)
         ]
 
-    pub end_met : met n ap' ai (set t k p) (k + 1) 0 ≡ met n ap' ai t k m
+    pub end_met : met n ap' ai (t ++ p ∷ []) (k + 1) 0 ≡ met n ap' ai t k m
     unfolding met is_met is_read
     end_met = funext2 _ _ (λ a b. rw (half a b, half b a) refl)
       where
@@ -140,7 +143,7 @@ module _ (n : ℕ) (ap' ai : List ℕ) (form : IsSortedForm n ap' ai) (t : List 
         and_false true false = refl
         and_false false y = refl
 
-        half : (a b : ℕ) → is_met n ap' ai (set t k p) (k + 1) 0 a b ≡ is_met n ap' ai t k m a b
+        half : (a b : ℕ) → is_met n ap' ai (t ++ p ∷ []) (k + 1) 0 a b ≡ is_met n ap' ai t k m a b
         half a b = elim (cases_lt a b) [
           | inr x ↦ rw (le-ltb a b x) refl
           | inl x ↦ elim (cases_Bool (is_entry n ap' ai a b)) [

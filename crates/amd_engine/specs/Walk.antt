@@ -16,7 +16,7 @@ met n ap ai t k m a b = is_met n ap ai t k m a b || is_met n ap ai t k m b a
 
 -- the pointers t are right where the upper entries of the columns before k, and of column k above row m, were read
 pub record IsScan (n : ℕ) (ap ai t : List ℕ) (k m : ℕ) : Type 0 where
-  pub size : length t ≡ n
+  pub size : length t ≡ k
   pub start : (a : ℕ) → a < k → a < n → slice_index ap a ≤ slice_index t a
   pub stop : (a : ℕ) → a < k → a < n → slice_index t a ≤ slice_index ap (a + 1)
   pub low : (a r : ℕ) → a < k → a < n → slice_index t a ≤ r → r < slice_index ap (a + 1) → a < slice_index ai r

@@ -62,11 +62,11 @@ pub fn neighbours<I: PrimInt, A: Allocator + Copy>(
     ensures { IfOk result (λ l. AreLists (graph_of size (map I.value a_p.now) (map I.value a_i.now)) ((graph_of size (map I.value a_p.now) (map I.value a_i.now)).edge) l.next.items l.rows.items) }
 {
     let next = starts(alloc, degrees, room)?;
-    let mut pointers = vec![in alloc; 0; size]?;
+    let mut pointers = Vec::with_capacity(alloc, size)?;
     let mut lists = Lists {
         next,
         rows: vec![in alloc; 0; room]?,
     };
-    let _ = walk(a_p, a_i, &mut pointers, &mut lists);
+    let _ = walk(size, a_p, a_i, &mut pointers, &mut lists);
     Ok(lists)
 }

@@ -4,6 +4,7 @@
 // forming of A + A'). Called by `aat` of the crate `amd`, and by what lists the neighbours of each row.
 
 ghost use Rattle.std.specs.Prelude.{◌≡◌, ◌<◌, ◌≤◌, ◌+◌, ℕ, Bool, true, false, pos, map, length, slice_index};
+ghost use Rattle.std.specs.Vec.{vec_capacity};
 ghost use Rattle.amd_model.specs.Graph.{Graph};
 ghost use Rattle.amd_model.specs.Input.Columns.{IsColumnForm, IsSorted};
 ghost use Rattle.amd_model.specs.Input.Pattern.{graph_of, diagonal_count};
@@ -13,6 +14,7 @@ ghost use Rattle.amd_engine.specs.Walk.{IsScan, met};
 
 use crate::internal::count_at;
 use num_traits::PrimInt;
+use std::alloc::Allocator;
 
 /// What takes the arcs of a graph, one at a time.
 pub trait Visitor {
@@ -25,23 +27,25 @@ pub trait Visitor {
 }
 
 /// Reads the lower entries of column `j` that were not read yet, up to row `k`.
-fn lower<I: PrimInt, V: Visitor>(
+fn lower<I: PrimInt, V: Visitor, A: Allocator>(
+    size: usize,
     j: usize,
     k: usize,
     a_p: &[I],
     a_i: &[I],
-    next: &mut [usize],
+    next: &mut Vec<usize, A>,
     visitor: &mut V,
 )
-    requires form { IsColumnForm (pos (length next.old)) (length next.old) (map I.value a_p.now) (map I.value a_i.now) }
-    requires sorted { IsSorted (length next.old) (map I.value a_p.now) (map I.value a_i.now) }
+    requires form { IsColumnForm (pos size) size (map I.value a_p.now) (map I.value a_i.now) }
+    requires sorted { IsSorted size (map I.value a_p.now) (map I.value a_i.now) }
     requires before { j < k }
-    requires k_in { k ≤ length next.old }
-    requires mirror { k < length next.old → is_entry (length next.old) (counts (map I.value a_p.now)) (counts (map I.value a_i.now)) j k ≡ true }
-    requires scan { IsScan (length next.old) (counts (map I.value a_p.now)) (counts (map I.value a_i.now)) next.old k j }
-    requires held { V.holds (count_graph (length next.old) (counts (map I.value a_p.now)) (counts (map I.value a_i.now))) (met (length next.old) (counts (map I.value a_p.now)) (counts (map I.value a_i.now)) next.old k (j + 1)) visitor.old }
-    ensures scan { IsScan (length next.old) (counts (map I.value a_p.now)) (counts (map I.value a_i.now)) next.new k (j + 1) }
-    ensures held { V.holds (count_graph (length next.old) (counts (map I.value a_p.now)) (counts (map I.value a_i.now))) (met (length next.old) (counts (map I.value a_p.now)) (counts (map I.value a_i.now)) next.new k (j + 1)) visitor.new }
+    requires k_in { k ≤ size }
+    requires mirror { k < size → is_entry size (counts (map I.value a_p.now)) (counts (map I.value a_i.now)) j k ≡ true }
+    requires scan { IsScan size (counts (map I.value a_p.now)) (counts (map I.value a_i.now)) next.old.items k j }
+    requires held { V.holds (count_graph size (counts (map I.value a_p.now)) (counts (map I.value a_i.now))) (met size (counts (map I.value a_p.now)) (counts (map I.value a_i.now)) next.old.items k (j + 1)) visitor.old }
+    ensures scan { IsScan size (counts (map I.value a_p.now)) (counts (map I.value a_i.now)) next.new.items k (j + 1) }
+    ensures held { V.holds (count_graph size (counts (map I.value a_p.now)) (counts (map I.value a_i.now))) (met size (counts (map I.value a_p.now)) (counts (map I.value a_i.now)) next.new.items k (j + 1)) visitor.new }
+    ensures room { vec_capacity next.new ≡ vec_capacity next.old }
 {
     let end = count_at(a_p, j + 1);
     let mut place = next[j];
@@ -58,21 +62,24 @@ fn lower<I: PrimInt, V: Visitor>(
 }
 
 /// Reads the upper entries of column `k`, and says whether it has a diagonal entry.
-fn column<I: PrimInt, V: Visitor>(
+fn column<I: PrimInt, V: Visitor, A: Allocator>(
+    size: usize,
     k: usize,
     a_p: &[I],
     a_i: &[I],
-    next: &mut [usize],
+    next: &mut Vec<usize, A>,
     visitor: &mut V,
 ) -> bool
-    requires form { IsColumnForm (pos (length next.old)) (length next.old) (map I.value a_p.now) (map I.value a_i.now) }
-    requires sorted { IsSorted (length next.old) (map I.value a_p.now) (map I.value a_i.now) }
-    requires k_in { k < length next.old }
-    requires scan { IsScan (length next.old) (counts (map I.value a_p.now)) (counts (map I.value a_i.now)) next.old k 0 }
-    requires held { V.holds (count_graph (length next.old) (counts (map I.value a_p.now)) (counts (map I.value a_i.now))) (met (length next.old) (counts (map I.value a_p.now)) (counts (map I.value a_i.now)) next.old k 0) visitor.old }
-    ensures scan { IsScan (length next.old) (counts (map I.value a_p.now)) (counts (map I.value a_i.now)) next.new (k + 1) 0 }
-    ensures held { V.holds (count_graph (length next.old) (counts (map I.value a_p.now)) (counts (map I.value a_i.now))) (met (length next.old) (counts (map I.value a_p.now)) (counts (map I.value a_i.now)) next.new (k + 1) 0) visitor.new }
-    ensures diagonal { result ≡ is_entry (length next.old) (counts (map I.value a_p.now)) (counts (map I.value a_i.now)) k k }
+    requires form { IsColumnForm (pos size) size (map I.value a_p.now) (map I.value a_i.now) }
+    requires sorted { IsSorted size (map I.value a_p.now) (map I.value a_i.now) }
+    requires k_in { k < size }
+    requires room { size ≤ vec_capacity next.old }
+    requires scan { IsScan size (counts (map I.value a_p.now)) (counts (map I.value a_i.now)) next.old.items k 0 }
+    requires held { V.holds (count_graph size (counts (map I.value a_p.now)) (counts (map I.value a_i.now))) (met size (counts (map I.value a_p.now)) (counts (map I.value a_i.now)) next.old.items k 0) visitor.old }
+    ensures scan { IsScan size (counts (map I.value a_p.now)) (counts (map I.value a_i.now)) next.new.items (k + 1) 0 }
+    ensures held { V.holds (count_graph size (counts (map I.value a_p.now)) (counts (map I.value a_i.now))) (met size (counts (map I.value a_p.now)) (counts (map I.value a_i.now)) next.new.items (k + 1) 0) visitor.new }
+    ensures room { vec_capacity next.new ≡ vec_capacity next.old }
+    ensures diagonal { result ≡ is_entry size (counts (map I.value a_p.now)) (counts (map I.value a_i.now)) k k }
 {
     let end = count_at(a_p, k + 1);
     let mut place = count_at(a_p, k);
@@ -80,45 +87,46 @@ fn column<I: PrimInt, V: Visitor>(
         let j = count_at(a_i, place);
         visitor.arc(j, k);
         visitor.arc(k, j);
-        lower(j, k, a_p, a_i, next, visitor);
+        lower(size, j, k, a_p, a_i, next, visitor);
         place += 1;
     }
     let diagonal = place < end && count_at(a_i, place) == k;
     if diagonal {
         place += 1;
     }
-    next[k] = place;
+    next.push_reserved(place);
     diagonal
 }
 
-/// Meets each edge of a column form that is sorted once, and counts the diagonal entries. The matrix has as many rows and
-/// columns as there are pointers in `next`, which begin as zeros.
+/// Meets each edge of a column form that is sorted once, and counts the diagonal entries. The matrix has `size` rows and
+/// columns, and `next` is empty and has room for a pointer of each column.
 ///
 /// For each column `k` in turn: each upper entry `j < k` of it, rising, gives the edge of `j` and `k`, and after it the lower
 /// entries of column `j` that were not read yet and are below `k` give theirs; an entry `k` itself is passed over. At the end
 /// the lower entries that were never read give theirs.
-pub fn walk<I: PrimInt, V: Visitor>(
+pub fn walk<I: PrimInt, V: Visitor, A: Allocator>(
+    size: usize,
     a_p: &[I],
     a_i: &[I],
-    next: &mut [usize],
+    next: &mut Vec<usize, A>,
     visitor: &mut V,
 ) -> usize
-    requires form { IsColumnForm (pos (length next.old)) (length next.old) (map I.value a_p.now) (map I.value a_i.now) }
-    requires sorted { IsSorted (length next.old) (map I.value a_p.now) (map I.value a_i.now) }
-    requires zeros { (a : ℕ) → slice_index next.old a ≡ 0 }
-    requires held { V.holds (graph_of (length next.old) (map I.value a_p.now) (map I.value a_i.now)) (λ a b. false) visitor.old }
-    ensures held { V.holds (graph_of (length next.old) (map I.value a_p.now) (map I.value a_i.now)) ((graph_of (length next.old) (map I.value a_p.now) (map I.value a_i.now)).edge) visitor.new }
-    ensures diagonals { result ≡ diagonal_count (length next.old) (map I.value a_p.now) (map I.value a_i.now) }
+    requires form { IsColumnForm (pos size) size (map I.value a_p.now) (map I.value a_i.now) }
+    requires sorted { IsSorted size (map I.value a_p.now) (map I.value a_i.now) }
+    requires empty { length next.old.items ≡ 0 }
+    requires room { size ≤ vec_capacity next.old }
+    requires held { V.holds (graph_of size (map I.value a_p.now) (map I.value a_i.now)) (λ a b. false) visitor.old }
+    ensures held { V.holds (graph_of size (map I.value a_p.now) (map I.value a_i.now)) ((graph_of size (map I.value a_p.now) (map I.value a_i.now)).edge) visitor.new }
+    ensures diagonals { result ≡ diagonal_count size (map I.value a_p.now) (map I.value a_i.now) }
 {
-    let size = next.len();
     let mut diagonals = 0;
     'columns: for k in 0..size {
-        if column(k, a_p, a_i, next, visitor) {
+        if column(size, k, a_p, a_i, next, visitor) {
             diagonals += 1;
         }
     }
     'rest: for j in 0..size {
-        lower(j, size, a_p, a_i, next, visitor);
+        lower(size, j, size, a_p, a_i, next, visitor);
     }
     diagonals
 }

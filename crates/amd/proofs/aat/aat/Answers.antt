@@ -1,4 +1,4 @@
-use Rattle.std.proofs.Common.{◌≡◌, ℕ, map, length, get_or, arith, rules, refl, ◌∙◌, unsigned_abs}
+use Rattle.std.proofs.Common.{◌≡◌, ℕ, map, length, get_or, arith, rules, refl, unsigned_abs}
 use Rattle.std.proofs.lemmas.Grind.{common_steps}
 use Rattle.std.proofs.lemmas.List.{length-map}
 use Rattle.amd_model.specs.Below.{sum_below}
@@ -16,20 +16,18 @@ known_count-size-requires g c = input_fits _ _ _ c.requires.form (simp length-ma
 
 pub walk-diagonals-requires-clause-form : goal.walk-diagonals-requires-clause-form
 walk-diagonals-requires-clause-form g c =
-    let is : length c.deref_mut.result.now ≡ c.known_count-size.result = search rules in
-    rw (is ∙ c.known_count-size.ensures) (input_form _ _ _ c.requires.form)
+    rw c.known_count-size.ensures (input_form _ _ _ c.requires.form)
 
 pub walk-diagonals-requires-clause-sorted : goal.walk-diagonals-requires-clause-sorted
 walk-diagonals-requires-clause-sorted g c =
-    let is : length c.deref_mut.result.now ≡ c.known_count-size.result = search rules in
-    rw (is ∙ c.known_count-size.ensures) (input_sorted _ _ _ c.requires.sorted)
+    rw c.known_count-size.ensures (input_sorted _ _ _ c.requires.sorted)
 
 pub walk-diagonals-requires-clause-held : goal.walk-diagonals-requires-clause-held
 unfolding graph_of
 walk-diagonals-requires-clause-held g c =
-    let size : length c.in-Ok-vec.degrees.items ≡ length c.deref_mut.result.now = search rules in
+    let size : length c.in-Ok-vec.degrees.items ≡ c.known_count-size.result = search rules in
     let zeros : (a : ℕ) → get_or c.in-Ok-vec.degrees.items a 0 ≡ 0 = grind (arith, common_steps) in
-    counts_none (graph_of (length c.deref_mut.result.now) (map g.I.Number.value c.args.a_p.now) (map g.I.Number.value c.args.a_i.now)) c.in-Ok-vec.degrees.items size zeros
+    counts_none (graph_of c.known_count-size.result (map g.I.Number.value c.args.a_p.now) (map g.I.Number.value c.args.a_i.now)) c.in-Ok-vec.degrees.items size zeros
 
 pub count_at-entries-requires : goal.count_at-entries-requires
 count_at-entries-requires g c =
@@ -46,9 +44,8 @@ total-sum-requires g c =
     let n = unsigned_abs (g.I.Number.value c.args.n) in
     let ap' = map g.I.Number.value c.args.a_p.now in let ai = map g.I.Number.value c.args.a_i.now in
     let size = c.known_count-size.ensures in
-    let is : length c.deref_mut.result.now ≡ c.known_count-size.result = search rules in
     let numbers = c.walk-diagonals.new.visitor.degrees.items in
-    let held : AreCounts (graph_of n ap' ai) ((graph_of n ap' ai).edge) numbers = rw (is ∙ size) at c.walk-diagonals.ensures.held in
+    let held : AreCounts (graph_of n ap' ai) ((graph_of n ap' ai).edge) numbers = rw size at c.walk-diagonals.ensures.held in
     let places : c.count_at-entries.result ≡ get_or (counts ap') n 0 = rw size at c.count_at-entries.ensures.count in
     let pairs = pairs_counted n ap' ai (input_form _ _ _ c.requires.form) (input_sorted _ _ _ c.requires.sorted) in
     let sum = (degrees_are n ap' ai numbers _ held refl).sum in
@@ -61,10 +58,9 @@ overflow_sub-info g c =
     let n = unsigned_abs (g.I.Number.value c.args.n) in
     let ap' = map g.I.Number.value c.args.a_p.now in let ai = map g.I.Number.value c.args.a_i.now in
     let size = c.known_count-size.ensures in
-    let is : length c.deref_mut.result.now ≡ c.known_count-size.result = search rules in
     let form = input_form _ _ _ c.requires.form in
     let sorted = input_sorted _ _ _ c.requires.sorted in
-    let diagonals : c.walk-diagonals.result ≡ diagonal_count n ap' ai = rw (is ∙ size) at c.walk-diagonals.ensures.diagonals in
+    let diagonals : c.walk-diagonals.result ≡ diagonal_count n ap' ai = rw size at c.walk-diagonals.ensures.diagonals in
     let places : c.count_at-entries.result ≡ get_or (counts ap') n 0 = rw size at c.count_at-entries.ensures.count in
     let pairs = pairs_counted n ap' ai form sorted in
     let part = diagonal_part n ap' ai in
@@ -75,12 +71,11 @@ returns g c =
     let n = unsigned_abs (g.I.Number.value c.args.n) in
     let ap' = map g.I.Number.value c.args.a_p.now in let ai = map g.I.Number.value c.args.a_i.now in
     let size = c.known_count-size.ensures in
-    let is : length c.deref_mut.result.now ≡ c.known_count-size.result = search rules in
     let form = input_form _ _ _ c.requires.form in
     let sorted = input_sorted _ _ _ c.requires.sorted in
     let numbers = c.walk-diagonals.new.visitor.degrees.items in
-    let diagonals : c.walk-diagonals.result ≡ diagonal_count n ap' ai = rw (is ∙ size) at c.walk-diagonals.ensures.diagonals in
-    let held : AreCounts (graph_of n ap' ai) ((graph_of n ap' ai).edge) numbers = rw (is ∙ size) at c.walk-diagonals.ensures.held in
+    let diagonals : c.walk-diagonals.result ≡ diagonal_count n ap' ai = rw size at c.walk-diagonals.ensures.diagonals in
+    let held : AreCounts (graph_of n ap' ai) ((graph_of n ap' ai).edge) numbers = rw size at c.walk-diagonals.ensures.held in
     let places : c.count_at-entries.result ≡ get_or (counts ap') n 0 = rw size at c.count_at-entries.ensures.count in
     let total : c.total-sum.result ≡ sum_below (length numbers) (λ k. get_or numbers k 0) = rw c.deref.ensures.value at c.total-sum.ensures in
     let degrees = degrees_are n ap' ai numbers c.total-sum.result held total in

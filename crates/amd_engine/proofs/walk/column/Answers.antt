@@ -1,4 +1,4 @@
-use Rattle.std.proofs.Common.{inl, inr, ◌≡◌, ◌+◌, ◌<◌, ◌≤◌, ◌≢◌, ℕ, map, length, get_or, arith, sym, true, false, ◌∙◌}
+use Rattle.std.proofs.Common.{inl, inr, ◌≡◌, ◌+◌, ◌<◌, ◌≤◌, ◌≢◌, ℕ, map, get_or, arith, sym, true, false, refl, ◌∙◌}
 use Rattle.std.proofs.lemmas.Bool.{cases_lt, eqb-true, eqb-false, true≢false, le-ltb}
 use Rattle.std.proofs.lemmas.List.{length-map}
 use Rattle.amd_engine.specs.Counts.{counts}
@@ -49,40 +49,40 @@ count_at-requires-then-place-end-clause-fits g c =
 
 pub arc-requires : goal.arc-requires
 arc-requires g c =
-    let i = c.upper.invariant.1 in let r = c.requires in let m = c.upper.invariant.0 in let t = c.upper.next in let k = c.args.k in let p = c.upper.place in let j = c.count_at-j.result in
+    let i = c.upper.invariant.1 in let r = c.requires in let m = c.upper.invariant.0 in let t = c.upper.next.items in let k = c.args.k in let p = c.upper.place in let j = c.count_at-j.result in
     let form = sorted_form _ _ _ r.form r.sorted in
     let end = c.count_at-end.ensures.count in let same = c.count_at-j.ensures.count in let first = c.count_at.ensures.count in
     let below : j < k = omega arith in
     let left = i.left p (omega arith) c.upper-test.true in
     let gap = λ (a : ℕ) (x : m ≤ a) (y : a < j). upper_gap _ _ _ form t k m r.k_in i.scan p i.from (omega arith) i.read a x (omega arith) in
-    let entry = entry_from (counts (map g.I.Number.value c.args.a_p.now)) (counts (map g.I.Number.value c.args.a_i.now)) (length c.args.next.now) j k p r.k_in i.from (omega arith) (sym same) in
+    let entry = entry_from (counts (map g.I.Number.value c.args.a_p.now)) (counts (map g.I.Number.value c.args.a_i.now)) c.args.size j k p r.k_in i.from (omega arith) (sym same) in
     (_, _, i.held, (upper_new _ _ _ form t k m r.k_in i.scan j below entry (omega arith) gap).0)
 
 pub arc-requires-in-upper : goal.arc-requires-in-upper
 arc-requires-in-upper g c =
-    let i = c.upper.invariant.1 in let r = c.requires in let m = c.upper.invariant.0 in let t = c.upper.next in let k = c.args.k in let p = c.upper.place in let j = c.count_at-j.result in
+    let i = c.upper.invariant.1 in let r = c.requires in let m = c.upper.invariant.0 in let t = c.upper.next.items in let k = c.args.k in let p = c.upper.place in let j = c.count_at-j.result in
     let form = sorted_form _ _ _ r.form r.sorted in
     let end = c.count_at-end.ensures.count in let same = c.count_at-j.ensures.count in let first = c.count_at.ensures.count in
     let below : j < k = omega arith in
     let left = i.left p (omega arith) c.upper-test.true in
     let gap = λ (a : ℕ) (x : m ≤ a) (y : a < j). upper_gap _ _ _ form t k m r.k_in i.scan p i.from (omega arith) i.read a x (omega arith) in
-    let entry = entry_from (counts (map g.I.Number.value c.args.a_p.now)) (counts (map g.I.Number.value c.args.a_i.now)) (length c.args.next.now) j k p r.k_in i.from (omega arith) (sym same) in
+    let entry = entry_from (counts (map g.I.Number.value c.args.a_p.now)) (counts (map g.I.Number.value c.args.a_i.now)) c.args.size j k p r.k_in i.from (omega arith) (sym same) in
     let new = upper_new _ _ _ form t k m r.k_in i.scan j below entry (omega arith) gap in
     (_, _, c.arc.ensures _ _ i.held new.0, new.1)
 
 pub lower-requires : goal.lower-requires
 lower-requires g c =
-    let i = c.upper.invariant.1 in let r = c.requires in let m = c.upper.invariant.0 in let t = c.upper.next in let k = c.args.k in let p = c.upper.place in let j = c.count_at-j.result in
+    let i = c.upper.invariant.1 in let r = c.requires in let m = c.upper.invariant.0 in let t = c.upper.next.items in let k = c.args.k in let p = c.upper.place in let j = c.count_at-j.result in
     let form = sorted_form _ _ _ r.form r.sorted in
     let end = c.count_at-end.ensures.count in let same = c.count_at-j.ensures.count in let first = c.count_at.ensures.count in
     let below : j < k = omega arith in
     let left = i.left p (omega arith) c.upper-test.true in
     let low : m ≤ j = omega arith in
     let gap = λ (a : ℕ) (x : m ≤ a) (y : a < j). upper_gap _ _ _ form t k m r.k_in i.scan p i.from (omega arith) i.read a x (omega arith) in
-    let entry = entry_from (counts (map g.I.Number.value c.args.a_p.now)) (counts (map g.I.Number.value c.args.a_i.now)) (length c.args.next.now) j k p r.k_in i.from (omega arith) (sym same) in
+    let entry = entry_from (counts (map g.I.Number.value c.args.a_p.now)) (counts (map g.I.Number.value c.args.a_i.now)) c.args.size j k p r.k_in i.from (omega arith) (sym same) in
     let new = upper_new _ _ _ form t k m r.k_in i.scan j below entry low gap in
     let after = upper_after _ _ _ form t k m r.k_in i.scan j below entry low gap in
-    rw c.upper.auto.next (record {
+    record {
       form = r.form;
       sorted = r.sorted;
       before = below;
@@ -90,14 +90,14 @@ lower-requires g c =
       mirror = λ x. entry;
       scan = upper_scan _ _ _ form t k m r.k_in i.scan j below entry low gap;
       held = rw (← after) (c.arc-in-upper.ensures _ _ (c.arc.ensures _ _ i.held new.0) new.1);
-    })
+    }
 
 pub upper-preserved : goal.upper-preserved
 upper-preserved g c =
     let i = c.upper.invariant.1 in let r = c.requires in let k = c.args.k in let p = c.upper.place in let j = c.count_at-j.result in
     let form = sorted_form _ _ _ r.form r.sorted in
     let end = c.count_at-end.ensures.count in let same = c.count_at-j.ensures.count in let first = c.count_at.ensures.count in
-    let e = rw c.upper.auto.next at c.lower.ensures in (
+    let e = c.lower.ensures in (
       j + 1,
       record {
         from = (let x = i.from in omega arith);
@@ -105,6 +105,7 @@ upper-preserved g c =
         read = λ x y z. (elim (cases_lt x p) [ inl u ↦ (let w = form.ascend k x p r.k_in y u (omega arith) in omega arith) | inr u ↦ (let w : x ≡ p = omega arith in rw w (omega arith)) ]);
         left = λ x y z. (let w = form.ascend k p x r.k_in i.from (omega arith) (omega arith) in omega arith);
         low = omega arith;
+        room = e.room ∙ i.room;
         scan = e.scan;
         held = e.held;
       },
@@ -123,6 +124,7 @@ upper-init g c =
         read = λ x y z. absurd (omega arith);
         left = λ x y z. omega arith;
         low = omega arith;
+        room = refl;
         scan = r.scan;
         held = r.held;
       },
@@ -130,7 +132,7 @@ upper-init g c =
 
 pub returns : goal.returns
 returns g c =
-    let i = c.upper.invariant.1 in let r = c.requires in let m = c.upper.invariant.0 in let t = c.upper.next in let k = c.args.k in let p = c.upper.place in
+    let i = c.upper.invariant.1 in let r = c.requires in let m = c.upper.invariant.0 in let t = c.upper.next.items in let k = c.args.k in let p = c.upper.place in
     let form = sorted_form _ _ _ r.form r.sorted in
     let ends = c.count_at-end.ensures.count in
     let ap' = counts (map g.I.Number.value c.args.a_p.now) in
@@ -148,6 +150,8 @@ returns g c =
       | then-place-end w ↦ (let y = w.count_at-then-place-end.ensures.count in let z = eqb-false _ _ (sym w.diagonal-is ∙ e) in λ same. z (y ∙ same))
       | else-place-end w ↦ (let x = w.if-place-end.false in absurd (omega arith))
     ] in
+    let items = c.push_reserved.ensures.items in
+    let room = c.push_reserved.ensures.capacity ∙ i.room in
     elim c.if-diagonal.branch [
       | then-diagonal w ↦ (
           let is = found w.if-diagonal.true in
@@ -156,8 +160,9 @@ returns g c =
           let behind = exit_behind_next _ _ _ form t k m r.k_in i.scan p i.from stop i.low i.read is.1 in
           let from : get_or ap' k 0 ≤ p + 1 = (let x = i.from in omega arith) in
           record {
-            scan = rw w.place-is (end_scan _ _ _ form t k m r.k_in i.scan (p + 1) from (omega arith) behind rest uppers);
-            held = rw (w.place-is, end_met _ _ _ form t k m r.k_in i.scan (p + 1) from (omega arith) behind rest uppers) i.held;
+            scan = rw (items, w.place-is) (end_scan _ _ _ form t k m r.k_in i.scan (p + 1) from (omega arith) behind rest uppers);
+            held = rw (items, w.place-is, end_met _ _ _ form t k m r.k_in i.scan (p + 1) from (omega arith) behind rest uppers) i.held;
+            room = room;
             diagonal = w.if-diagonal.true ∙ sym (entry_from _ _ _ k k p r.k_in i.from inside is.1);
           })
       | else-diagonal w ↦ (
@@ -166,8 +171,9 @@ returns g c =
           let rest = exit_rest _ _ _ form t k m r.k_in i.scan p i.from stop i.low i.read ne in
           let behind = exit_behind _ _ _ form t k m r.k_in i.scan p i.from stop i.low i.read in
           record {
-            scan = rw w.place-is (end_scan _ _ _ form t k m r.k_in i.scan p i.from to behind rest uppers);
-            held = rw (w.place-is, end_met _ _ _ form t k m r.k_in i.scan p i.from to behind rest uppers) i.held;
+            scan = rw (items, w.place-is) (end_scan _ _ _ form t k m r.k_in i.scan p i.from to behind rest uppers);
+            held = rw (items, w.place-is, end_met _ _ _ form t k m r.k_in i.scan p i.from to behind rest uppers) i.held;
+            room = room;
             diagonal = w.if-diagonal.false ∙ sym (exit_none _ _ _ form t k m r.k_in i.scan p i.from stop i.low i.read ne);
           })
     ]

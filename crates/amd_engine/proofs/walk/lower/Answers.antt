@@ -1,5 +1,6 @@
-use Rattle.std.proofs.Common.{◌+◌, arith}
+use Rattle.std.proofs.Common.{◌≡◌, ◌+◌, ◌<◌, arith, length, get_or, refl}
 use Rattle.std.proofs.lemmas.List.{length-map, set-get_or}
+use Rattle.std.proofs.lemmas.Grind.{get_or_default_zero}
 use Rattle.amd_engine.proofs.Forms.{pointer_fits, row_fits, place_within, sorted_form}
 use Rattle.amd_engine.proofs.Scans.{lower_new, lower_after, lower_mirror, lower_end, lower_behind, lower_next}
 use Rattle.amd_engine.proofs.walk.lower.Goals as goal
@@ -46,7 +47,11 @@ rows-init g c =
     let r = c.requires in
     let end = c.count_at-end.ensures.count in
     let stop = r.scan.stop c.args.j r.before (omega arith) in
-    record { from = omega arith; to = omega arith; held = rw set-get_or r.held }
+    let inside : c.args.j < length c.args.next.now.items = (let z = r.scan.size in let b = r.before in omega arith) in
+    let value = c.index-place.ensures in
+    let same = get_or_default_zero c.args.next.now.items c.args.j c.index-place.result.now inside in
+    let is : c.index-place.result.now ≡ get_or c.args.next.now.items c.args.j 0 = omega (arith, value, same) in
+    record { from = omega (arith, is); to = omega (arith, is, end, stop); held = rw (is, set-get_or) r.held }
 
 pub arc-requires : goal.arc-requires
 arc-requires g c =
@@ -54,7 +59,7 @@ arc-requires g c =
     let end = c.count_at-end.ensures.count in
     let same = c.count_at-i.ensures.count in
     let first = c.count_at.ensures.count in
-    let new = lower_new _ _ _ (sorted_form _ _ _ r.form r.sorted) c.args.next.now c.args.k c.args.j c.rows.place r.scan r.before r.k_in i.from _ same (omega arith) (omega arith) in
+    let new = lower_new _ _ _ (sorted_form _ _ _ r.form r.sorted) c.args.next.now.items c.args.k c.args.j c.rows.place r.scan r.before r.k_in i.from _ same (omega arith) (omega arith) in
     (_, _, i.held, new.0)
 
 pub arc-requires-in-rows : goal.arc-requires-in-rows
@@ -63,7 +68,7 @@ arc-requires-in-rows g c =
     let end = c.count_at-end.ensures.count in
     let same = c.count_at-i.ensures.count in
     let first = c.count_at.ensures.count in
-    let new = lower_new _ _ _ (sorted_form _ _ _ r.form r.sorted) c.args.next.now c.args.k c.args.j c.rows.place r.scan r.before r.k_in i.from _ same (omega arith) (omega arith) in
+    let new = lower_new _ _ _ (sorted_form _ _ _ r.form r.sorted) c.args.next.now.items c.args.k c.args.j c.rows.place r.scan r.before r.k_in i.from _ same (omega arith) (omega arith) in
     (_, _, c.arc.ensures _ _ i.held new.0, new.1)
 
 pub rows-preserved : goal.rows-preserved
@@ -73,8 +78,8 @@ rows-preserved g c =
     let same = c.count_at-i.ensures.count in
     let first = c.count_at.ensures.count in
     let form = sorted_form _ _ _ r.form r.sorted in
-    let new = lower_new _ _ _ form c.args.next.now c.args.k c.args.j c.rows.place r.scan r.before r.k_in i.from _ same (omega arith) (omega arith) in
-    let after = lower_after _ _ _ form c.args.next.now c.args.k c.args.j c.rows.place r.scan r.before r.k_in i.from _ same (omega arith) (omega arith) in
+    let new = lower_new _ _ _ form c.args.next.now.items c.args.k c.args.j c.rows.place r.scan r.before r.k_in i.from _ same (omega arith) (omega arith) in
+    let after = lower_after _ _ _ form c.args.next.now.items c.args.k c.args.j c.rows.place r.scan r.before r.k_in i.from _ same (omega arith) (omega arith) in
     record {
       from = omega arith;
       to = omega arith;
@@ -91,13 +96,14 @@ returns g c =
           let same = w.count_at-then-place-end.ensures.count in
           let inside = w.if-place-end.true in
           record {
-            scan = rw w.place-is (lower_end _ _ _ form c.args.next.now c.args.k c.args.j (c.rows.place + 1) r.scan r.before r.k_in (let f = i.from in omega arith) (omega arith)
-                (lower_next _ _ _ form c.args.next.now c.args.k c.args.j c.rows.place r.scan r.before r.k_in i.from _ same (omega arith) w.if-count_at-k-2.true));
-            held = rw (w.place-is, lower_mirror _ _ _ form c.args.next.now c.args.k c.args.j c.rows.place r.scan r.before r.k_in i.from _ same (omega arith) w.if-count_at-k-2.true r.mirror) i.held;
+            scan = rw w.place-is (lower_end _ _ _ form c.args.next.now.items c.args.k c.args.j (c.rows.place + 1) r.scan r.before r.k_in (let f = i.from in omega arith) (omega arith)
+                (lower_next _ _ _ form c.args.next.now.items c.args.k c.args.j c.rows.place r.scan r.before r.k_in i.from _ same (omega arith) w.if-count_at-k-2.true));
+            held = rw (w.place-is, lower_mirror _ _ _ form c.args.next.now.items c.args.k c.args.j c.rows.place r.scan r.before r.k_in i.from _ same (omega arith) w.if-count_at-k-2.true r.mirror) i.held;
+            room = refl;
           })
       | else-place-end w ↦ record {
-        scan = rw w.place-is (lower_end _ _ _ form c.args.next.now c.args.k c.args.j c.rows.place r.scan r.before r.k_in i.from (let t = i.to in omega arith)
-            (lower_behind _ _ _ form c.args.next.now c.args.k c.args.j c.rows.place r.scan r.before r.k_in i.from (λ inside. elim c.rows-test.branch [
+        scan = rw w.place-is (lower_end _ _ _ form c.args.next.now.items c.args.k c.args.j c.rows.place r.scan r.before r.k_in i.from (let t = i.to in omega arith)
+            (lower_behind _ _ _ form c.args.next.now.items c.args.k c.args.j c.rows.place r.scan r.before r.k_in i.from (λ inside. elim c.rows-test.branch [
               | then-rows-test+else-count_at-k v ↦ (let low = v.if-count_at-k.false in let one = v.count_at.ensures in elim w.else-place-end.branch [
                 | else-place-end-via-then-place-end+else-count_at-k-2 u ↦ (let ne = u.if-count_at-k-2.false in let two = u.count_at-then-place-end.ensures in omega arith)
                 | else-place-end-via-else-place-end u ↦ (let past = u.if-place-end.false in absurd (omega arith))
@@ -105,5 +111,6 @@ returns g c =
               | else-rows-test v ↦ (let past = v.rows-test.false in absurd (omega arith))
             ])));
         held = rw w.place-is i.held;
+        room = refl;
       }
     ]

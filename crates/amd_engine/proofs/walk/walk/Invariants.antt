@@ -1,4 +1,5 @@
-use Rattle.std.proofs.Common.{◌≡◌, ◌≤◌, map, length}
+use Rattle.std.proofs.Common.{◌≡◌, ◌≤◌, map}
+use Rattle.std.specs.Vec.{vec_capacity}
 use Rattle.amd_model.specs.Below.{count_below}
 use Rattle.amd_engine.specs.Counts.{counts, count_graph, is_entry}
 use Rattle.amd_engine.specs.Walk.{IsScan, met}
@@ -6,14 +7,15 @@ use Rattle.amd_engine.proofs.walk.walk.Given as goal
 
 abbrev pub invariant-columns : goal.invariant-columns
 invariant-columns g l = record {
-  count : l.diagonals ≡ count_below l.k (λ j. is_entry (length l.fn.next) (counts (map g.I.Number.value l.a_p)) (counts (map g.I.Number.value l.a_i)) j j);
+  count : l.diagonals ≡ count_below l.k (λ j. is_entry l.fn.size (counts (map g.I.Number.value l.a_p)) (counts (map g.I.Number.value l.a_i)) j j);
   small : l.diagonals ≤ l.k;
-  scan : IsScan (length l.fn.next) (counts (map g.I.Number.value l.a_p)) (counts (map g.I.Number.value l.a_i)) l.next l.k 0;
-  held : g.V.Visitor.holds (count_graph (length l.fn.next) (counts (map g.I.Number.value l.a_p)) (counts (map g.I.Number.value l.a_i))) (met (length l.fn.next) (counts (map g.I.Number.value l.a_p)) (counts (map g.I.Number.value l.a_i)) l.next l.k 0) l.visitor;
+  room : l.fn.size ≤ vec_capacity l.next;
+  scan : IsScan l.fn.size (counts (map g.I.Number.value l.a_p)) (counts (map g.I.Number.value l.a_i)) l.next.items l.k 0;
+  held : g.V.Visitor.holds (count_graph l.fn.size (counts (map g.I.Number.value l.a_p)) (counts (map g.I.Number.value l.a_i))) (met l.fn.size (counts (map g.I.Number.value l.a_p)) (counts (map g.I.Number.value l.a_i)) l.next.items l.k 0) l.visitor;
 }
 
 abbrev pub invariant-rest : goal.invariant-rest
 invariant-rest g l = record {
-  scan : IsScan (length l.fn.next) (counts (map g.I.Number.value l.a_p)) (counts (map g.I.Number.value l.a_i)) l.next (length l.fn.next) l.j;
-  held : g.V.Visitor.holds (count_graph (length l.fn.next) (counts (map g.I.Number.value l.a_p)) (counts (map g.I.Number.value l.a_i))) (met (length l.fn.next) (counts (map g.I.Number.value l.a_p)) (counts (map g.I.Number.value l.a_i)) l.next (length l.fn.next) l.j) l.visitor;
+  scan : IsScan l.fn.size (counts (map g.I.Number.value l.a_p)) (counts (map g.I.Number.value l.a_i)) l.next.items l.fn.size l.j;
+  held : g.V.Visitor.holds (count_graph l.fn.size (counts (map g.I.Number.value l.a_p)) (counts (map g.I.Number.value l.a_i))) (met l.fn.size (counts (map g.I.Number.value l.a_p)) (counts (map g.I.Number.value l.a_i)) l.next.items l.fn.size l.j) l.visitor;
 }
