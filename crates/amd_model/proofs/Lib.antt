@@ -14,5 +14,6 @@ pub mod Columns
 pub mod TieLists
 pub mod TieLaw
 pub mod TieSums
+pub mod TieStart
 pub mod TieRun
 pub mod TieBuckets

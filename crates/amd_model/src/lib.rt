@@ -6,3 +6,4 @@
 
 pub mod front_laws;
 pub mod sum_laws;
+pub mod tie_laws;
