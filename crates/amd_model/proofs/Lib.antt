@@ -16,4 +16,7 @@ pub mod TieLaw
 pub mod TieSums
 pub mod TieStart
 pub mod TieRun
+pub mod StepTest
+pub mod PatternGraph
+pub mod Examples
 pub mod TieBuckets

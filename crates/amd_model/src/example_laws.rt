@@ -1,0 +1,92 @@
+// Eliminations worked out in full: that the definitions give the values which Amestoy, Davis and Duff's rules give by hand.
+// Source: evaluations of the definitions in specs/. Called by: nobody, the contracts are the values.
+
+ghost use Rattle.std.specs.Prelude.{◌≡◌, true, false, [], ◌∷◌, map, Some, None};
+ghost use Rattle.amd_model.specs.Below.{list_below};
+ghost use Rattle.amd_model.specs.Graph.{edge_count, degree_sum};
+ghost use Rattle.amd_model.specs.State.{front};
+ghost use Rattle.amd_model.specs.Step.{absorbed, block, border_of, new_bound};
+ghost use Rattle.amd_model.specs.Run.{Run};
+ghost use Rattle.amd_model.specs.Figures.{figure, entries, ldl_steps, lu_steps, greatest_front};
+ghost use Rattle.amd_model.specs.Listing.{IsPostorder};
+ghost use Rattle.amd_model.specs.Input.Dense.{is_dense};
+ghost use Rattle.amd_model.specs.Input.Pattern.{is_pair, pair_count, diagonal_count};
+ghost use Rattle.amd_model.specs.Tie.{starting_list, pivot, next, after_rounds};
+ghost use Rattle.amd_model.specs.Examples.Table.{none_dense};
+ghost use Rattle.amd_model.specs.Examples.Cycle.{cycle, cycle_tie};
+ghost use Rattle.amd_model.specs.Examples.Seven.{seven, seven_tie};
+ghost use Rattle.amd_model.specs.Examples.Eight.{eight, eight_tie, row_three};
+ghost use Rattle.amd_model.specs.Examples.Cycle;
+ghost use Rattle.amd_model.specs.Examples.Seven;
+ghost use Rattle.amd_model.specs.Examples.Eight;
+
+/// The cycle of four rows: pivots 3 and 2.
+pub fn example_cycle()
+    ensures run { Run cycle none_dense true Cycle.at_start (Cycle.after_one ∷ Cycle.after_two ∷ []) }
+    ensures listing { IsPostorder cycle none_dense Cycle.after_two (3 ∷ 0 ∷ 1 ∷ 2 ∷ []) }
+    ensures lnz { figure entries cycle none_dense Cycle.after_two ≡ 5 }
+    ensures ldl { figure ldl_steps cycle none_dense Cycle.after_two ≡ 7 }
+    ensures lu { figure lu_steps cycle none_dense Cycle.after_two ≡ 9 }
+    ensures d_max { greatest_front cycle none_dense Cycle.after_two ≡ 3 }
+    ensures first_front { list_below 4 (front cycle Cycle.at_start 3) ≡ 0 ∷ 2 ∷ [] }
+    ensures first_bound { new_bound cycle true Cycle.at_start Cycle.after_one 3 2 ≡ 1 }
+    ensures second_block { list_below 4 (block cycle true Cycle.after_one 2) ≡ 0 ∷ 1 ∷ 2 ∷ [] }
+{}
+
+/// The same in lists: the starting lists, the pivots, and where the rows are at the end.
+pub fn example_cycle_lists()
+    ensures lists { map (starting_list 4 (is_pair 4 Cycle.pointers Cycle.rows)) (0 ∷ 1 ∷ 2 ∷ 3 ∷ []) ≡ (1 ∷ 3 ∷ []) ∷ (0 ∷ 2 ∷ []) ∷ (1 ∷ 3 ∷ []) ∷ (0 ∷ 2 ∷ []) ∷ [] }
+    ensures first_pivot { pivot cycle_tie.bound cycle_tie.placed ≡ 3 }
+    ensures second_pivot { pivot (next true cycle_tie).bound (next true cycle_tie).placed ≡ 2 }
+    ensures homes { map (after_rounds 4 true cycle_tie).home (0 ∷ 1 ∷ 2 ∷ 3 ∷ []) ≡ Cycle.two_table.homes }
+{}
+
+/// A graph of seven rows: pivots 0, 6 and 2, and three rows that become one class.
+pub fn example_seven()
+    ensures run { Run seven none_dense true Seven.at_start (Seven.after_one ∷ Seven.after_two ∷ Seven.after_three ∷ []) }
+    ensures listing { IsPostorder seven none_dense Seven.after_three (0 ∷ 6 ∷ 1 ∷ 3 ∷ 4 ∷ 5 ∷ 2 ∷ []) }
+    ensures lnz { figure entries seven none_dense Seven.after_three ≡ 15 }
+    ensures ldl { figure ldl_steps seven none_dense Seven.after_three ≡ 29 }
+    ensures lu { figure lu_steps seven none_dense Seven.after_three ≡ 43 }
+    ensures d_max { greatest_front seven none_dense Seven.after_three ≡ 5 }
+    ensures second_front { list_below 7 (front seven Seven.after_one 6) ≡ 2 ∷ 3 ∷ 5 ∷ [] }
+    ensures second_bound { new_bound seven true Seven.after_one Seven.after_two 6 2 ≡ 2 }
+    ensures third_block { list_below 7 (block seven true Seven.after_two 2) ≡ 1 ∷ 2 ∷ 3 ∷ 4 ∷ 5 ∷ [] }
+{}
+
+/// The same in lists: the starting lists, the pivots, and where the rows are at the end.
+pub fn example_seven_lists()
+    ensures lists { map (starting_list 7 (is_pair 7 Seven.pointers Seven.rows)) (0 ∷ 1 ∷ 2 ∷ 3 ∷ 4 ∷ 5 ∷ 6 ∷ []) ≡ (5 ∷ 6 ∷ []) ∷ (2 ∷ 3 ∷ 4 ∷ 5 ∷ []) ∷ (1 ∷ 3 ∷ 4 ∷ 6 ∷ []) ∷ (1 ∷ 2 ∷ 4 ∷ 6 ∷ []) ∷ (1 ∷ 2 ∷ 3 ∷ 5 ∷ []) ∷ (0 ∷ 1 ∷ 4 ∷ []) ∷ (0 ∷ 2 ∷ 3 ∷ []) ∷ [] }
+    ensures first_pivot { pivot seven_tie.bound seven_tie.placed ≡ 0 }
+    ensures second_pivot { pivot (next true seven_tie).bound (next true seven_tie).placed ≡ 6 }
+    ensures third_pivot { pivot (next true (next true seven_tie)).bound (next true (next true seven_tie)).placed ≡ 2 }
+    ensures homes { map (after_rounds 7 true seven_tie).home (0 ∷ 1 ∷ 2 ∷ 3 ∷ 4 ∷ 5 ∷ 6 ∷ []) ≡ Seven.three_table.homes }
+{}
+
+/// A graph of eight rows, of which row 3 is held last and row 0 is empty: pivots 7, 4, 2 and 6.
+pub fn example_eight()
+    ensures run { Run eight row_three true Eight.at_start (Eight.after_one ∷ Eight.after_two ∷ Eight.after_three ∷ Eight.after_four ∷ []) }
+    ensures listing { IsPostorder eight row_three Eight.after_four (0 ∷ 7 ∷ 4 ∷ 2 ∷ 1 ∷ 5 ∷ 6 ∷ 3 ∷ []) }
+    ensures lnz { figure entries eight row_three Eight.after_four ≡ 13 }
+    ensures ldl { figure ldl_steps eight row_three Eight.after_four ≡ 22 }
+    ensures lu { figure lu_steps eight row_three Eight.after_four ≡ 31 }
+    ensures d_max { greatest_front eight row_three Eight.after_four ≡ 4 }
+    ensures third_border { list_below 8 (border_of eight true Eight.after_two 2) ≡ 1 ∷ 6 ∷ [] }
+    ensures fourth_absorbed { list_below 8 (absorbed eight true Eight.after_three 6) ≡ 2 ∷ 7 ∷ [] }
+    ensures fourth_plainly { list_below 8 (absorbed eight false Eight.after_three 6) ≡ 2 ∷ [] }
+    ensures pairs { pair_count 8 Eight.pointers Eight.rows ≡ 10 }
+    ensures diagonal { diagonal_count 8 Eight.pointers Eight.rows ≡ 2 }
+    ensures edges { edge_count eight ≡ 7 }
+    ensures degrees { degree_sum eight ≡ 14 }
+    ensures dense_rows { list_below 8 (is_dense eight 2) ≡ 2 ∷ 5 ∷ 6 ∷ [] }
+{}
+
+/// The same in lists: the starting lists, the pivots, and where the rows are at the end.
+pub fn example_eight_lists()
+    ensures lists { map (starting_list 8 (is_pair 8 Eight.pointers Eight.rows)) (0 ∷ 1 ∷ 2 ∷ 3 ∷ 4 ∷ 5 ∷ 6 ∷ 7 ∷ []) ≡ [] ∷ (2 ∷ 5 ∷ []) ∷ (4 ∷ 6 ∷ 1 ∷ []) ∷ (6 ∷ []) ∷ (2 ∷ []) ∷ (6 ∷ 1 ∷ 7 ∷ []) ∷ (2 ∷ 5 ∷ 3 ∷ []) ∷ (5 ∷ []) ∷ [] }
+    ensures first_pivot { pivot eight_tie.bound eight_tie.placed ≡ 7 }
+    ensures second_pivot { pivot (next true eight_tie).bound (next true eight_tie).placed ≡ 4 }
+    ensures third_pivot { pivot (next true (next true eight_tie)).bound (next true (next true eight_tie)).placed ≡ 2 }
+    ensures fourth_pivot { pivot (next true (next true (next true eight_tie))).bound (next true (next true (next true eight_tie))).placed ≡ 6 }
+    ensures homes { map (after_rounds 8 true eight_tie).home (0 ∷ 1 ∷ 2 ∷ 3 ∷ 4 ∷ 5 ∷ 6 ∷ 7 ∷ []) ≡ Eight.four_table.homes }
+{}
