@@ -1,2 +1,3 @@
 pub mod Records
 pub mod Classes
+pub mod Permutations

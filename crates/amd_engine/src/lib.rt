@@ -3,4 +3,6 @@
 #![tactic(auto)]
 
 pub mod amd;
+pub mod dense;
 pub mod internal;
+pub mod permutations;

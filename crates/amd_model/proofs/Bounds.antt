@@ -24,7 +24,7 @@ module _ (g : Graph) (laws : IsGraph g) (aggressive : Bool) (c : ℕ) (old new :
   clash t f = absurd (true≢false (sym t ∙ f))
 
   -- a class outside S is as it was
-  kept_class : (i v : ℕ) → border_of g aggressive old c i ≡ false → new.home i ≡ Live i → new.home v ≡ Live i → old.home v ≡ Live i
+  pub kept_class : (i v : ℕ) → border_of g aggressive old c i ≡ false → new.home i ≡ Live i → new.home v ≡ Live i → old.home v ≡ Live i
   kept_class i v off hi hv = elim (fate g laws aggressive c old new sound step v) [
     | goes b q ↦ absurd (cc)
     | moves s x j p q r a o w ↦ clash (class_border g laws aggressive c old new sound step v i i hv hi s) off
@@ -77,7 +77,7 @@ module _ (g : Graph) (laws : IsGraph g) (aggressive : Bool) (c : ℕ) (old new :
   byE i e v = old.border e v && not (front g old c v)
 
   module _ (i : ℕ) (hi : new.home i ≡ Live i) (oi : old.home i ≡ Live i) (on : border_of g aggressive old c i ≡ true) where
-    near_count : count_below g.size (λ v. border_of g aggressive old c v && not (in_class new i v)) ≡ count_below g.size (border_of g aggressive old c) - count_below g.size (in_class new i)
+    pub near_count : count_below g.size (λ v. border_of g aggressive old c v && not (in_class new i v)) ≡ count_below g.size (border_of g aggressive old c) - count_below g.size (in_class new i)
     near_count = count_minus g.size (border_of g aggressive old c) (in_class new i)
         (λ v l k. class_border g laws aggressive c old new sound step i v i hi (class_gives i (new.home v) k) on)
 

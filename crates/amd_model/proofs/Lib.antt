@@ -1,4 +1,5 @@
 pub mod BelowLemmas
+pub mod Pigeonhole
 pub mod StateLemmas
 pub mod Sound
 pub mod SoundStep
@@ -11,6 +12,17 @@ pub mod Next
 pub mod NewParts
 pub mod ListingLemmas
 pub mod Columns
+pub mod Points
+pub mod Leaf
+pub mod Thin
+pub mod EdgesWithin
+pub mod EntriesMade
+pub mod EndState
+pub mod Places
+pub mod ListedOnce
+pub mod ColumnsInside
+pub mod NoFill
+pub mod ReachTest
 pub mod TieLists
 pub mod TieLaw
 pub mod TieSums
@@ -20,3 +32,11 @@ pub mod StepTest
 pub mod PatternGraph
 pub mod Examples
 pub mod TieBuckets
+pub mod Classes
+pub mod Counts
+pub mod Exact
+pub mod FrontSums
+pub mod SmallFigures
+pub mod ListCounts
+pub mod EmptyRows
+pub mod NeededColumns

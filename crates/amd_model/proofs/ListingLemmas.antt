@@ -10,23 +10,23 @@ use Rattle.std.proofs.lemmas.List.{append-nil}
 use Rattle.amd_model.proofs.StateLemmas.{block_gives, block_from}
 use Rattle.amd_model.proofs.Tree.{IsTree, Descends, self, via, Proper, descends_join}
 
-pub has : ℕ → List ℕ → Bool
+unfoldable pub has : ℕ → List ℕ → Bool
 has u [] = false
 has u (x ∷ xs) = eqb u x || has u xs
 
-has_head : (u x : ℕ) (xs : List ℕ) → u ≡ x → has u (x ∷ xs) ≡ true
+pub has_head : (u x : ℕ) (xs : List ℕ) → u ≡ x → has u (x ∷ xs) ≡ true
 unfolding has
 has_head u x xs q = or_left (eqb u x) (has u xs) (eq-eqb u x q)
 
-has_tail : (u x : ℕ) (xs : List ℕ) → has u xs ≡ true → has u (x ∷ xs) ≡ true
+pub has_tail : (u x : ℕ) (xs : List ℕ) → has u xs ≡ true → has u (x ∷ xs) ≡ true
 unfolding has
 has_tail u x xs q = or_right (eqb u x) (has u xs) q
 
-has_cases : (u x : ℕ) (xs : List ℕ) → has u (x ∷ xs) ≡ true → (u ≡ x) ⊎ (has u xs ≡ true)
+pub has_cases : (u x : ℕ) (xs : List ℕ) → has u (x ∷ xs) ≡ true → (u ≡ x) ⊎ (has u xs ≡ true)
 unfolding has
 has_cases u x xs h = elim (or_cases (eqb u x) (has u xs) h) [ inl a ↦ inl (eqb-true u x a) | inr a ↦ inr a ]
 
-has_none : (u : ℕ) → has u [] ≡ true → ⊥
+pub has_none : (u : ℕ) → has u [] ≡ true → ⊥
 unfolding has
 has_none u h = false≢true h
 
@@ -71,7 +71,7 @@ has_below (suc n) p u h = elim (has_append u (list_below n p) (cond (p n) (n ∷
     last true q k = elim (has_cases u n [] k) [ inl e ↦ (omega arith, ap p e ∙ q) | inr e ↦ absurd (has_none u e) ]
     last false q k = absurd (has_none u k)
 
-below_has : (n : ℕ) (p : ℕ → Bool) (u : ℕ) → u < n → p u ≡ true → has u (list_below n p) ≡ true
+pub below_has : (n : ℕ) (p : ℕ → Bool) (u : ℕ) → u < n → p u ≡ true → has u (list_below n p) ≡ true
 unfolding list_below
 below_has zero p u l h = absurd (omega arith)
 below_has (suc n) p u l h = elim (cases_eq u n) [
@@ -79,7 +79,7 @@ below_has (suc n) p u l h = elim (cases_eq u n) [
   | inr ne ↦ has_left u (list_below n p) (cond (p n) (n ∷ []) []) (below_has n p u (omega arith) h)
 ]
 
-has_filter : (p : ℕ → Bool) (xs : List ℕ) (u : ℕ) → has u (filter p xs) ≡ true → (has u xs ≡ true) × (p u ≡ true)
+pub has_filter : (p : ℕ → Bool) (xs : List ℕ) (u : ℕ) → has u (filter p xs) ≡ true → (has u xs ≡ true) × (p u ≡ true)
 has_filter p [] u h = absurd (has_none u h)
 has_filter p (x ∷ xs) u h = go (p x) refl (has_filter p xs u) h
   where
@@ -87,7 +87,7 @@ has_filter p (x ∷ xs) u h = go (p x) refl (has_filter p xs u) h
     go true q on k = elim (has_cases u x (filter p xs) k) [ inl e ↦ (has_head u x xs e, ap p e ∙ q) | inr e ↦ (let r = on e in (has_tail u x xs r.0, r.1)) ]
     go false q on k = let r = on k in (has_tail u x xs r.0, r.1)
 
-filter_has : (p : ℕ → Bool) (xs : List ℕ) (u : ℕ) → has u xs ≡ true → p u ≡ true → has u (filter p xs) ≡ true
+pub filter_has : (p : ℕ → Bool) (xs : List ℕ) (u : ℕ) → has u xs ≡ true → p u ≡ true → has u (filter p xs) ≡ true
 filter_has p [] u h k = absurd (has_none u h)
 filter_has p (x ∷ xs) u h k = go (p x) refl (filter_has p xs u) (has_cases u x xs h)
   where
@@ -123,11 +123,11 @@ has_moved w (k ∷ rest) u h = let m : ℕ = heaviest w k rest in elim (has_appe
   | inr a ↦ elim (has_cases u m [] a) [ inl q ↦ subst (λ z. has z (k ∷ rest) ≡ true) (sym q) (heaviest_in w k rest) | inr q ↦ absurd (has_none u q) ]
 ]
 
-pub Distinct : List ℕ → Type 0
+unfoldable pub Distinct : List ℕ → Type 0
 Distinct [] = Unit {0}
 Distinct (x ∷ xs) = (has x xs ≡ true → ⊥) × Distinct xs
 
-distinct_push : (xs : List ℕ) (m : ℕ) → Distinct xs → (has m xs ≡ true → ⊥) → Distinct (xs ++ m ∷ [])
+pub distinct_push : (xs : List ℕ) (m : ℕ) → Distinct xs → (has m xs ≡ true → ⊥) → Distinct (xs ++ m ∷ [])
 unfolding Distinct
 distinct_push [] m d n = ((λ h. has_none m h), tt)
 distinct_push (x ∷ xs) m d n = (
@@ -135,7 +135,7 @@ distinct_push (x ∷ xs) m d n = (
   distinct_push xs m d.1 (λ h. n (has_tail m x xs h)),
 )
 
-distinct_below : (n : ℕ) (p : ℕ → Bool) → Distinct (list_below n p)
+pub distinct_below : (n : ℕ) (p : ℕ → Bool) → Distinct (list_below n p)
 unfolding list_below Distinct
 distinct_below zero p = tt
 distinct_below (suc n) p = go (p n) (distinct_below n p)
@@ -144,7 +144,7 @@ distinct_below (suc n) p = go (p n) (distinct_below n p)
     go true d = distinct_push (list_below n p) n d (λ h. let r = has_below n p n h in absurd (omega (arith, r.0)))
     go false d = subst Distinct (sym (append-nil (list_below n p))) d
 
-distinct_filter : (p : ℕ → Bool) (xs : List ℕ) → Distinct xs → Distinct (filter p xs)
+pub distinct_filter : (p : ℕ → Bool) (xs : List ℕ) → Distinct xs → Distinct (filter p xs)
 unfolding Distinct
 distinct_filter p [] d = tt
 distinct_filter p (x ∷ xs) d = go (p x) (distinct_filter p xs d.1)
@@ -170,7 +170,7 @@ module _ (g : Graph) (s : State) (tree : IsTree g s) (rows : (v : ℕ) → g.siz
   gone_in : (v e : ℕ) → s.home v ≡ Gone e → v < g.size
   gone_in v e h = elim (cases_lt v g.size) [ inl l ↦ l | inr l ↦ absurd (let q = rows v l in cc) ]
 
-  rank_up : {a b : ℕ} → Descends s a b → tree.rank a ≤ tree.rank b
+  pub rank_up : {a b : ℕ} → Descends s a b → tree.rank a ≤ tree.rank b
   rank_up self = omega arith
   rank_up (via {e = a} {m = m} p d) = let k = tree.later a m p in let r = rank_up d in omega (arith, k, r)
 
@@ -187,7 +187,7 @@ module _ (g : Graph) (s : State) (tree : IsTree g s) (rows : (v : ℕ) → g.siz
     | inr r ↦ inr (r.0, r.1, via p r.2)
   ]
 
-  two_up : {f a b : ℕ} → Descends s f a → Descends s f b → (a ≡ b) ⊎ Proper s a b ⊎ Proper s b a
+  pub two_up : {f a b : ℕ} → Descends s f a → Descends s f b → (a ≡ b) ⊎ Proper s a b ⊎ Proper s b a
   two_up {f = f} {b = b} self d = elim' d
     where
       elim' : {f b : ℕ} → Descends s f b → (f ≡ b) ⊎ Proper s f b ⊎ Proper s b f
@@ -196,7 +196,7 @@ module _ (g : Graph) (s : State) (tree : IsTree g s) (rows : (v : ℕ) → g.siz
   two_up (via {m = m} p d) self = inr (inr (record { next = m; parent = p; rest = d }))
   two_up {b = b} (via {m = m} p d) (via {m = m'} p' d') = two_up d (subst (λ k. Descends s k b) (let q : m' ≡ m = cc in q) d')
 
-  child_parent : (e k : ℕ) → has k (children (assembly_tree g s) e) ≡ true → (s.home k ≡ Gone k) × (s.parent k ≡ Some e)
+  pub child_parent : (e k : ℕ) → has k (children (assembly_tree g s) e) ≡ true → (s.home k ≡ Gone k) × (s.parent k ≡ Some e)
   unfolding children is_child is_some_of
   child_parent e k h =
       let b = has_below g.size (is_child (assembly_tree g s) e) k (has_moved (weight g s) (list_below g.size (is_child (assembly_tree g s) e)) k h) in
@@ -212,7 +212,7 @@ module _ (g : Graph) (s : State) (tree : IsTree g s) (rows : (v : ℕ) → g.siz
   parent_child e k h = let hk = tree.under k e h in moved_has (weight g s) (list_below g.size (is_child (assembly_tree g s) e)) k
       (below_has g.size (is_child (assembly_tree g s) e) k (gone_in k k hk) (and_from (is_element s k) (is_some_of e (s.parent k)) (block_from k (s.home k) hk) (subst (λ o. is_some_of e o ≡ true) (sym h) (eq-eqb e e refl))))
 
-  children_level : (e : ℕ) → IsLevel s (children (assembly_tree g s) e)
+  pub children_level : (e : ℕ) → IsLevel s (children (assembly_tree g s) e)
   unfolding children
   children_level e = record {
     distinct = distinct_moved (weight g s) (list_below g.size (is_child (assembly_tree g s) e)) (distinct_below g.size (is_child (assembly_tree g s) e));
@@ -222,7 +222,7 @@ module _ (g : Graph) (s : State) (tree : IsTree g s) (rows : (v : ℕ) → g.siz
         let r = rank_up d in let k = tree.later b e pb in absurd (omega (arith, r, k));
   }
 
-  block_rows : (e u : ℕ) → s.home e ≡ Gone e → has u (block_list g s e) ≡ true → s.home u ≡ Gone e
+  pub block_rows : (e u : ℕ) → s.home e ≡ Gone e → has u (block_list g s e) ≡ true → s.home u ≡ Gone e
   unfolding block_list
   block_rows e u he h = elim (has_append u (list_below g.size (λ v. in_block s e v && not (v == e))) (e ∷ []) h) [
     | inl a ↦ block_gives e (s.home u) (and_parts (in_block s e u) (not (u == e)) (has_below g.size (λ v. in_block s e v && not (v == e)) u a).1).0
@@ -237,10 +237,10 @@ module _ (g : Graph) (s : State) (tree : IsTree g s) (rows : (v : ℕ) → g.siz
         (below_has g.size (λ v. in_block s e v && not (v == e)) u (gone_in u e h) (and_from (in_block s e u) (not (u == e)) (block_from e (s.home u) h) (not_from_false (u == e) (ne_eqb u e ne))))
   ]
 
-  head_level : {e : ℕ} {rest : List ℕ} → IsLevel s (e ∷ rest) → s.home e ≡ Gone e
+  pub head_level : {e : ℕ} {rest : List ℕ} → IsLevel s (e ∷ rest) → s.home e ≡ Gone e
   head_level {e} {rest} l = l.elements e (has_head e e rest refl)
 
-  tail_level : {e : ℕ} {rest : List ℕ} → IsLevel s (e ∷ rest) → IsLevel s rest
+  pub tail_level : {e : ℕ} {rest : List ℕ} → IsLevel s (e ∷ rest) → IsLevel s rest
   unfolding Distinct
   tail_level {e} {rest} l = record { distinct = l.distinct.1; elements = λ k h. l.elements k (has_tail k e rest h); apart = λ a b ha hb. l.apart a b (has_tail a e rest ha) (has_tail b e rest hb) }
 
@@ -256,7 +256,7 @@ module _ (g : Graph) (s : State) (tree : IsTree g s) (rows : (v : ℕ) → g.siz
   ]
 
   -- what descends from a root is listed
-  listed : {es xs : List ℕ} → ListsTrees (assembly_tree g s) es xs → (u f k : ℕ) → has k es ≡ true → s.home u ≡ Gone f → Descends s f k → has u xs ≡ true
+  pub listed : {es xs : List ℕ} → ListsTrees (assembly_tree g s) es xs → (u f k : ℕ) → has k es ≡ true → s.home u ≡ Gone f → Descends s f k → has u xs ≡ true
   listed none u f k h hu d = absurd (has_none k h)
   listed (more {e} {rest} {below} {after} t r) u f k h hu d = elim (has_cases k e rest h) [
     | inl q ↦ elim (from_last d) [

@@ -31,7 +31,7 @@ front_degree g laws s sound c n k t = sym t.count ∙ count_same g.size t.test (
     same v false true f h = h refl
     same v false false f h = refl
 
-start_bounded : (g : Graph) → IsGraph g → (dense : ℕ → Bool) (s : State) → IsStart g dense s → Bounded g s
+pub start_bounded : (g : Graph) → IsGraph g → (dense : ℕ → Bool) (s : State) → IsStart g dense s → Bounded g s
 unfolding degree
 start_bounded g laws dense s start c h =
     let sound = start_sound g laws dense s start in

@@ -42,24 +42,24 @@ module _ (g : Graph) (laws : IsGraph g) (aggressive : Bool) (c : ℕ) (old new :
   clash : {b : Bool} {P : Type 0} → b ≡ true → b ≡ false → P
   clash t f = absurd (true≢false (sym t ∙ f))
 
-  block_live : (v : ℕ) → block g aggressive old c v ≡ true → (x : ℕ) × (old.home v ≡ Live x)
+  pub block_live : (v : ℕ) → block g aggressive old c v ≡ true → (x : ℕ) × (old.home v ≡ Live x)
   block_live v b = elim (block_gives' g laws aggressive c old new sound step v b) [ inl h ↦ (c, h) | inr k ↦ (k.0, k.2) ]
 
-  gone_stays : (v e : ℕ) → old.home v ≡ Gone e → new.home v ≡ Gone e
+  pub gone_stays : (v e : ℕ) → old.home v ≡ Gone e → new.home v ≡ Gone e
   gone_stays v e h = elim (fate' v) [
     | goes b q ↦ absurd (let x = (block_live v b).1 in cc)
     | moves s x j p q r a o w ↦ absurd (cc)
     | stays ni nf q ↦ q ∙ h
   ]
 
-  last_stays : (v : ℕ) → old.home v ≡ Last → new.home v ≡ Last
+  pub last_stays : (v : ℕ) → old.home v ≡ Last → new.home v ≡ Last
   last_stays v h = elim (fate' v) [
     | goes b q ↦ absurd (let x = (block_live v b).1 in cc)
     | moves s x j p q r a o w ↦ absurd (cc)
     | stays ni nf q ↦ q ∙ h
   ]
 
-  not_pivot : (e : ℕ) → old.home e ≡ Gone e → e ≢ c
+  pub not_pivot : (e : ℕ) → old.home e ≡ Gone e → e ≢ c
   not_pivot e h q = let p = pivot_live g laws aggressive c old new sound step in let m : old.home e ≡ Live c = ap old.home q ∙ p in cc
 
   absorbed_stands : (e : ℕ) → absorbed g aggressive old c e ≡ true → stands g old e ≡ true
@@ -218,7 +218,7 @@ some_same p q = cc
 gone_same : {a b : ℕ} {h : Home} → h ≡ Gone a → h ≡ Gone b → a ≡ b
 gone_same p q = cc
 
-chain_descends : {s : State} {v e f : ℕ} → Chain s v e f → Descends s e f
+pub chain_descends : {s : State} {v e f : ℕ} → Chain s v e f → Descends s e f
 chain_descends (ends b p h) = via p self
 chain_descends (link b p r) = via p (chain_descends r)
 

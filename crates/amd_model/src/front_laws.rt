@@ -1,8 +1,20 @@
 // Laws on fronts, true degrees and bounds, in each state of an elimination. Source: Amestoy, Davis and Duff 1996.
 
-ghost use Rattle.amd_model.specs.Laws.{InEachState, FrontsArePaths};
+ghost use Rattle.amd_model.specs.Laws.{InEachState, FrontsArePaths, BoundsMeetDegrees, ClassesAreWhole};
 
 /// In each state the front of a class is exactly what each of its rows reaches through eliminated rows.
 pub fn law_fronts_are_paths()
     ensures { InEachState (λ g aggressive s. FrontsArePaths g s) }
+{}
+
+/// In each state a test at the representative of a class holds of all its rows alike, and each row of a class has an edge
+/// to each row of a direct neighbour.
+pub fn law_classes_are_whole()
+    ensures { InEachState ClassesAreWhole }
+{}
+
+/// In each state the size of a front is the true external degree of its class, and the bound of the class is no lower. It is
+/// equal where one or two elements hold the class, and greater by the dense neighbours where none does.
+pub fn law_bounds()
+    ensures { InEachState (λ g aggressive s. BoundsMeetDegrees g s) }
 {}

@@ -1,0 +1,2 @@
+pub mod NumberReads
+pub mod Inverses

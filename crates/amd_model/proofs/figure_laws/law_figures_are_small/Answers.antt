@@ -1,0 +1,5 @@
+use Rattle.amd_model.proofs.SmallFigures.{figures_are_small}
+use Rattle.amd_model.proofs.figure_laws.law_figures_are_small.Goals as goal
+
+pub returns : goal.returns
+returns c = figures_are_small

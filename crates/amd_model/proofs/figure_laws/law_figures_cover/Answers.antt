@@ -1,0 +1,5 @@
+use Rattle.amd_model.proofs.NeededColumns.{figures_cover}
+use Rattle.amd_model.proofs.figure_laws.law_figures_cover.Goals as goal
+
+pub returns : goal.returns
+returns c = figures_cover

@@ -1,0 +1,5 @@
+use Rattle.amd_model.proofs.EndState.{edges_follow_tree}
+use Rattle.amd_model.proofs.listing_laws.law_edges_follow_tree.Goals as goal
+
+pub returns : goal.returns
+returns c = edges_follow_tree
