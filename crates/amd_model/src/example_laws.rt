@@ -8,6 +8,7 @@ ghost use Rattle.amd_model.specs.State.{front};
 ghost use Rattle.amd_model.specs.Step.{absorbed, block, border_of, new_bound};
 ghost use Rattle.amd_model.specs.Run.{Run};
 ghost use Rattle.amd_model.specs.Figures.{figure, entries, ldl_steps, lu_steps, greatest_front};
+ghost use Rattle.amd_model.specs.Factor.{IsFactor, needed, needed_front};
 ghost use Rattle.amd_model.specs.Listing.{IsPostorder};
 ghost use Rattle.amd_model.specs.Input.Dense.{is_dense};
 ghost use Rattle.amd_model.specs.Input.Pattern.{is_pair, pair_count, diagonal_count};
@@ -41,6 +42,13 @@ pub fn example_cycle_lists()
     ensures homes { map (after_rounds 4 true cycle_tie).home (0 ∷ 1 ∷ 2 ∷ 3 ∷ []) ≡ Cycle.two_table.homes }
 {}
 
+/// The columns of its factor under that listing.
+pub fn example_cycle_factor()
+    ensures factor { IsFactor cycle (3 ∷ 0 ∷ 1 ∷ 2 ∷ []) ((1 ∷ 3 ∷ []) ∷ (2 ∷ 3 ∷ []) ∷ (3 ∷ []) ∷ [] ∷ []) }
+    ensures entries_needed { needed entries ((1 ∷ 3 ∷ []) ∷ (2 ∷ 3 ∷ []) ∷ (3 ∷ []) ∷ [] ∷ []) ≡ 5 }
+    ensures front_needed { needed_front ((1 ∷ 3 ∷ []) ∷ (2 ∷ 3 ∷ []) ∷ (3 ∷ []) ∷ [] ∷ []) ≡ 3 }
+{}
+
 /// A graph of seven rows: pivots 0, 6 and 2, and three rows that become one class.
 pub fn example_seven()
     ensures run { Run seven none_dense true Seven.at_start (Seven.after_one ∷ Seven.after_two ∷ Seven.after_three ∷ []) }
@@ -61,6 +69,13 @@ pub fn example_seven_lists()
     ensures second_pivot { pivot (next true seven_tie).bound (next true seven_tie).placed ≡ 6 }
     ensures third_pivot { pivot (next true (next true seven_tie)).bound (next true (next true seven_tie)).placed ≡ 2 }
     ensures homes { map (after_rounds 7 true seven_tie).home (0 ∷ 1 ∷ 2 ∷ 3 ∷ 4 ∷ 5 ∷ 6 ∷ []) ≡ Seven.three_table.homes }
+{}
+
+/// The columns of its factor under that listing.
+pub fn example_seven_factor()
+    ensures factor { IsFactor seven (0 ∷ 6 ∷ 1 ∷ 3 ∷ 4 ∷ 5 ∷ 2 ∷ []) ((1 ∷ 5 ∷ []) ∷ (3 ∷ 5 ∷ 6 ∷ []) ∷ (3 ∷ 4 ∷ 5 ∷ 6 ∷ []) ∷ (4 ∷ 5 ∷ 6 ∷ []) ∷ (5 ∷ 6 ∷ []) ∷ (6 ∷ []) ∷ [] ∷ []) }
+    ensures entries_needed { needed entries ((1 ∷ 5 ∷ []) ∷ (3 ∷ 5 ∷ 6 ∷ []) ∷ (3 ∷ 4 ∷ 5 ∷ 6 ∷ []) ∷ (4 ∷ 5 ∷ 6 ∷ []) ∷ (5 ∷ 6 ∷ []) ∷ (6 ∷ []) ∷ [] ∷ []) ≡ 15 }
+    ensures front_needed { needed_front ((1 ∷ 5 ∷ []) ∷ (3 ∷ 5 ∷ 6 ∷ []) ∷ (3 ∷ 4 ∷ 5 ∷ 6 ∷ []) ∷ (4 ∷ 5 ∷ 6 ∷ []) ∷ (5 ∷ 6 ∷ []) ∷ (6 ∷ []) ∷ [] ∷ []) ≡ 5 }
 {}
 
 /// A graph of eight rows, of which row 3 is held last and row 0 is empty: pivots 7, 4, 2 and 6.
@@ -89,4 +104,11 @@ pub fn example_eight_lists()
     ensures third_pivot { pivot (next true (next true eight_tie)).bound (next true (next true eight_tie)).placed ≡ 2 }
     ensures fourth_pivot { pivot (next true (next true (next true eight_tie))).bound (next true (next true (next true eight_tie))).placed ≡ 6 }
     ensures homes { map (after_rounds 8 true eight_tie).home (0 ∷ 1 ∷ 2 ∷ 3 ∷ 4 ∷ 5 ∷ 6 ∷ 7 ∷ []) ≡ Eight.four_table.homes }
+{}
+
+/// The columns of its factor under that listing.
+pub fn example_eight_factor()
+    ensures factor { IsFactor eight (0 ∷ 7 ∷ 4 ∷ 2 ∷ 1 ∷ 5 ∷ 6 ∷ 3 ∷ []) ([] ∷ (5 ∷ []) ∷ (3 ∷ []) ∷ (4 ∷ 6 ∷ []) ∷ (5 ∷ 6 ∷ []) ∷ (6 ∷ []) ∷ (7 ∷ []) ∷ [] ∷ []) }
+    ensures entries_needed { needed entries ([] ∷ (5 ∷ []) ∷ (3 ∷ []) ∷ (4 ∷ 6 ∷ []) ∷ (5 ∷ 6 ∷ []) ∷ (6 ∷ []) ∷ (7 ∷ []) ∷ [] ∷ []) ≡ 8 }
+    ensures front_needed { needed_front ([] ∷ (5 ∷ []) ∷ (3 ∷ []) ∷ (4 ∷ 6 ∷ []) ∷ (5 ∷ 6 ∷ []) ∷ (6 ∷ []) ∷ (7 ∷ []) ∷ [] ∷ []) ≡ 3 }
 {}

@@ -5,8 +5,8 @@
 #![tactic(auto)]
 
 pub mod example_laws;
-pub mod forest_laws;
 pub mod figure_laws;
+pub mod forest_laws;
 pub mod front_laws;
 pub mod listing_laws;
 pub mod sum_laws;

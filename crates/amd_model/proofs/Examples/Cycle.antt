@@ -11,6 +11,8 @@ use Rattle.amd_model.specs.Input.Pattern.{graph_of, is_pair, holds_row}
 use Rattle.amd_model.specs.Tie.{has, each, is_empty, turned, last_that, add_new, was_read, met_below, met_at, met_edges, other_end, starting_list, start_tie, pivot, gathered, takes, kept_elements, kept_variables, done, rest, alike, represents, made, ends, new_size, far, left, next_bound, new_home, round, next, after_rounds}
 use Rattle.amd_model.specs.Examples.Table.{none_dense}
 use Rattle.amd_model.specs.Examples.Cycle.{cycle, pointers, rows, start_table, one_table, two_table, at_start, after_one, after_two, cycle_tie}
+use Rattle.amd_model.specs.Factor.{before, IsFactor}
+use Rattle.amd_model.proofs.ReachTest.{reaches, in_column, column, columns_to, columns, factor_of}
 use Rattle.amd_model.proofs.PatternGraph.{pattern_graph}
 use Rattle.amd_model.proofs.StepTest.{passes, same_home, same_parent, same_test, implies, alike_test, moved_test, least_at, block_goes, kept_at, moved_at, merged_at, made_at, taken_at, border_at, parent_at, bound_at, bound_stays_at, step_tests, first_home, start_tests}
 use Rattle.amd_model.proofs.Examples.Table.{is_within, steps_test, run_test, tables_run}
@@ -70,3 +72,7 @@ first_bound = refl
 pub second_block : list_below 4 (block cycle true after_one 2) ≡ 0 ∷ 1 ∷ 2 ∷ []
 unfolding any_below all_below sum_below count_below list_below graph_of is_pair holds_row degree live_at class_at block_at stands inside holds joined neighbours front absorbed other outer mass block border_of beyond outside new_bound has
 second_block = refl
+
+pub factor : IsFactor cycle (3 ∷ 0 ∷ 1 ∷ 2 ∷ []) ((1 ∷ 3 ∷ []) ∷ (2 ∷ 3 ∷ []) ∷ (3 ∷ []) ∷ [] ∷ [])
+unfolding any_below list_below graph_of is_pair holds_row degree before reaches in_column column columns_to columns
+factor = factor_of cycle (3 ∷ 0 ∷ 1 ∷ 2 ∷ []) (pattern_graph 4 pointers rows)

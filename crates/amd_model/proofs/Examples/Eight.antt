@@ -11,6 +11,8 @@ use Rattle.amd_model.specs.Input.Pattern.{graph_of, is_pair, holds_row, pair_cou
 use Rattle.amd_model.specs.Input.Dense.{is_dense}
 use Rattle.amd_model.specs.Tie.{has, each, is_empty, turned, last_that, add_new, was_read, met_below, met_at, met_edges, other_end, starting_list, start_tie, pivot, gathered, takes, kept_elements, kept_variables, done, rest, alike, represents, made, ends, new_size, far, left, next_bound, new_home, round, next, after_rounds}
 use Rattle.amd_model.specs.Examples.Eight.{eight, pointers, rows, row_three, start_table, one_table, two_table, three_table, four_table, at_start, after_one, after_two, after_three, after_four, eight_tie}
+use Rattle.amd_model.specs.Factor.{before, IsFactor}
+use Rattle.amd_model.proofs.ReachTest.{reaches, in_column, column, columns_to, columns, factor_of}
 use Rattle.amd_model.proofs.PatternGraph.{pattern_graph}
 use Rattle.amd_model.proofs.StepTest.{passes, same_home, same_parent, same_test, implies, alike_test, moved_test, least_at, block_goes, kept_at, moved_at, merged_at, made_at, taken_at, border_at, parent_at, bound_at, bound_stays_at, step_tests, first_home, start_tests}
 use Rattle.amd_model.proofs.Examples.Table.{is_within, steps_test, run_test, tables_run}
@@ -98,3 +100,7 @@ degrees = refl
 pub dense_rows : list_below 8 (is_dense eight 2) ≡ 2 ∷ 5 ∷ 6 ∷ []
 unfolding any_below sum_below count_below graph_of is_pair holds_row degree list_below is_dense
 dense_rows = refl
+
+pub factor : IsFactor eight (0 ∷ 7 ∷ 4 ∷ 2 ∷ 1 ∷ 5 ∷ 6 ∷ 3 ∷ []) ([] ∷ (5 ∷ []) ∷ (3 ∷ []) ∷ (4 ∷ 6 ∷ []) ∷ (5 ∷ 6 ∷ []) ∷ (6 ∷ []) ∷ (7 ∷ []) ∷ [] ∷ [])
+unfolding any_below list_below graph_of is_pair holds_row degree before reaches in_column column columns_to columns
+factor = factor_of eight (0 ∷ 7 ∷ 4 ∷ 2 ∷ 1 ∷ 5 ∷ 6 ∷ 3 ∷ []) (pattern_graph 8 pointers rows)

@@ -11,6 +11,8 @@ use Rattle.amd_model.specs.Input.Pattern.{graph_of, is_pair, holds_row}
 use Rattle.amd_model.specs.Tie.{has, each, is_empty, turned, last_that, add_new, was_read, met_below, met_at, met_edges, other_end, starting_list, start_tie, pivot, gathered, takes, kept_elements, kept_variables, done, rest, alike, represents, made, ends, new_size, far, left, next_bound, new_home, round, next, after_rounds}
 use Rattle.amd_model.specs.Examples.Table.{none_dense}
 use Rattle.amd_model.specs.Examples.Seven.{seven, pointers, rows, start_table, one_table, two_table, three_table, at_start, after_one, after_two, after_three, seven_tie}
+use Rattle.amd_model.specs.Factor.{before, IsFactor}
+use Rattle.amd_model.proofs.ReachTest.{reaches, in_column, column, columns_to, columns, factor_of}
 use Rattle.amd_model.proofs.PatternGraph.{pattern_graph}
 use Rattle.amd_model.proofs.StepTest.{passes, same_home, same_parent, same_test, implies, alike_test, moved_test, least_at, block_goes, kept_at, moved_at, merged_at, made_at, taken_at, border_at, parent_at, bound_at, bound_stays_at, step_tests, first_home, start_tests}
 use Rattle.amd_model.proofs.Examples.Table.{is_within, steps_test, run_test, tables_run}
@@ -74,3 +76,7 @@ second_bound = refl
 pub third_block : list_below 7 (block seven true after_two 2) ≡ 1 ∷ 2 ∷ 3 ∷ 4 ∷ 5 ∷ []
 unfolding any_below all_below sum_below count_below list_below graph_of is_pair holds_row degree live_at class_at block_at stands inside holds joined neighbours front absorbed other outer mass block border_of beyond outside new_bound has
 third_block = refl
+
+pub factor : IsFactor seven (0 ∷ 6 ∷ 1 ∷ 3 ∷ 4 ∷ 5 ∷ 2 ∷ []) ((1 ∷ 5 ∷ []) ∷ (3 ∷ 5 ∷ 6 ∷ []) ∷ (3 ∷ 4 ∷ 5 ∷ 6 ∷ []) ∷ (4 ∷ 5 ∷ 6 ∷ []) ∷ (5 ∷ 6 ∷ []) ∷ (6 ∷ []) ∷ [] ∷ [])
+unfolding any_below list_below graph_of is_pair holds_row degree before reaches in_column column columns_to columns
+factor = factor_of seven (0 ∷ 6 ∷ 1 ∷ 3 ∷ 4 ∷ 5 ∷ 2 ∷ []) (pattern_graph 7 pointers rows)
