@@ -2,4 +2,4 @@
 pub mod Table
 pub mod Cycle
 pub mod Seven
-pub mod Eight
+pub mod Eleven

@@ -16,10 +16,10 @@ ghost use Rattle.amd_model.specs.Tie.{starting_list, pivot, next, after_rounds};
 ghost use Rattle.amd_model.specs.Examples.Table.{none_dense};
 ghost use Rattle.amd_model.specs.Examples.Cycle.{cycle, cycle_tie};
 ghost use Rattle.amd_model.specs.Examples.Seven.{seven, seven_tie};
-ghost use Rattle.amd_model.specs.Examples.Eight.{eight, eight_tie, row_three};
+ghost use Rattle.amd_model.specs.Examples.Eleven.{eleven, eleven_tie, row_one};
 ghost use Rattle.amd_model.specs.Examples.Cycle;
 ghost use Rattle.amd_model.specs.Examples.Seven;
-ghost use Rattle.amd_model.specs.Examples.Eight;
+ghost use Rattle.amd_model.specs.Examples.Eleven;
 
 /// The cycle of four rows: pivots 3 and 2.
 pub fn example_cycle()
@@ -78,37 +78,40 @@ pub fn example_seven_factor()
     ensures front_needed { needed_front ((1 ∷ 5 ∷ []) ∷ (3 ∷ 5 ∷ 6 ∷ []) ∷ (3 ∷ 4 ∷ 5 ∷ 6 ∷ []) ∷ (4 ∷ 5 ∷ 6 ∷ []) ∷ (5 ∷ 6 ∷ []) ∷ (6 ∷ []) ∷ [] ∷ []) ≡ 5 }
 {}
 
-/// A graph of eight rows, of which row 3 is held last and row 0 is empty: pivots 7, 4, 2 and 6.
-pub fn example_eight()
-    ensures run { Run eight row_three true Eight.at_start (Eight.after_one ∷ Eight.after_two ∷ Eight.after_three ∷ Eight.after_four ∷ []) }
-    ensures listing { IsPostorder eight row_three Eight.after_four (0 ∷ 7 ∷ 4 ∷ 2 ∷ 1 ∷ 5 ∷ 6 ∷ 3 ∷ []) }
-    ensures lnz { figure entries eight row_three Eight.after_four ≡ 13 }
-    ensures ldl { figure ldl_steps eight row_three Eight.after_four ≡ 22 }
-    ensures lu { figure lu_steps eight row_three Eight.after_four ≡ 31 }
-    ensures d_max { greatest_front eight row_three Eight.after_four ≡ 4 }
-    ensures third_border { list_below 8 (border_of eight true Eight.after_two 2) ≡ 1 ∷ 6 ∷ [] }
-    ensures fourth_absorbed { list_below 8 (absorbed eight true Eight.after_three 6) ≡ 2 ∷ 7 ∷ [] }
-    ensures fourth_plainly { list_below 8 (absorbed eight false Eight.after_three 6) ≡ 2 ∷ [] }
-    ensures pairs { pair_count 8 Eight.pointers Eight.rows ≡ 10 }
-    ensures diagonal { diagonal_count 8 Eight.pointers Eight.rows ≡ 2 }
-    ensures edges { edge_count eight ≡ 7 }
-    ensures degrees { degree_sum eight ≡ 14 }
-    ensures dense_rows { list_below 8 (is_dense eight 2) ≡ 2 ∷ 5 ∷ 6 ∷ [] }
+/// A graph of eleven rows, of which row 1 is held last and row 8 is empty: pivots 10, 6, 5, 3 and 4.
+pub fn example_eleven()
+    ensures run { Run eleven row_one true Eleven.at_start (Eleven.after_one ∷ Eleven.after_two ∷ Eleven.after_three ∷ Eleven.after_four ∷ Eleven.after_five ∷ []) }
+    ensures listing { IsPostorder eleven row_one Eleven.after_five (10 ∷ 5 ∷ 6 ∷ 3 ∷ 0 ∷ 2 ∷ 7 ∷ 9 ∷ 4 ∷ 8 ∷ 1 ∷ []) }
+    ensures lnz { figure entries eleven row_one Eleven.after_five ≡ 32 }
+    ensures ldl { figure ldl_steps eleven row_one Eleven.after_five ≡ 80 }
+    ensures lu { figure lu_steps eleven row_one Eleven.after_five ≡ 128 }
+    ensures d_max { greatest_front eleven row_one Eleven.after_five ≡ 6 }
+    ensures second_border { list_below 11 (border_of eleven true Eleven.after_one 6) ≡ 2 ∷ 3 ∷ 9 ∷ [] }
+    ensures second_bound { new_bound eleven true Eleven.after_one Eleven.after_two 6 3 ≡ 5 }
+    ensures fourth_bound { new_bound eleven true Eleven.after_three Eleven.after_four 3 2 ≡ 3 }
+    ensures fifth_absorbed { list_below 11 (absorbed eleven true Eleven.after_four 4) ≡ 3 ∷ 10 ∷ [] }
+    ensures fifth_plainly { list_below 11 (absorbed eleven false Eleven.after_four 4) ≡ 3 ∷ [] }
+    ensures pairs { pair_count 11 Eleven.pointers Eleven.rows ≡ 23 }
+    ensures diagonal { diagonal_count 11 Eleven.pointers Eleven.rows ≡ 1 }
+    ensures edges { edge_count eleven ≡ 19 }
+    ensures degrees { degree_sum eleven ≡ 38 }
+    ensures dense_rows { list_below 11 (is_dense eleven 4) ≡ 0 ∷ 4 ∷ 9 ∷ [] }
 {}
 
 /// The same in lists: the starting lists, the pivots, and where the rows are at the end.
-pub fn example_eight_lists()
-    ensures lists { map (starting_list 8 (is_pair 8 Eight.pointers Eight.rows)) (0 ∷ 1 ∷ 2 ∷ 3 ∷ 4 ∷ 5 ∷ 6 ∷ 7 ∷ []) ≡ [] ∷ (2 ∷ 5 ∷ []) ∷ (4 ∷ 6 ∷ 1 ∷ []) ∷ (6 ∷ []) ∷ (2 ∷ []) ∷ (6 ∷ 1 ∷ 7 ∷ []) ∷ (2 ∷ 5 ∷ 3 ∷ []) ∷ (5 ∷ []) ∷ [] }
-    ensures first_pivot { pivot eight_tie.bound eight_tie.placed ≡ 7 }
-    ensures second_pivot { pivot (next true eight_tie).bound (next true eight_tie).placed ≡ 4 }
-    ensures third_pivot { pivot (next true (next true eight_tie)).bound (next true (next true eight_tie)).placed ≡ 2 }
-    ensures fourth_pivot { pivot (next true (next true (next true eight_tie))).bound (next true (next true (next true eight_tie))).placed ≡ 6 }
-    ensures homes { map (after_rounds 8 true eight_tie).home (0 ∷ 1 ∷ 2 ∷ 3 ∷ 4 ∷ 5 ∷ 6 ∷ 7 ∷ []) ≡ Eight.four_table.homes }
+pub fn example_eleven_lists()
+    ensures lists { map (starting_list 11 (is_pair 11 Eleven.pointers Eleven.rows)) (0 ∷ 1 ∷ 2 ∷ 3 ∷ 4 ∷ 5 ∷ 6 ∷ 7 ∷ 8 ∷ 9 ∷ 10 ∷ []) ≡ (3 ∷ 1 ∷ 2 ∷ 4 ∷ 5 ∷ 7 ∷ []) ∷ (0 ∷ 4 ∷ []) ∷ (0 ∷ 10 ∷ 6 ∷ []) ∷ (0 ∷ 4 ∷ 5 ∷ 6 ∷ []) ∷ (3 ∷ 7 ∷ 0 ∷ 1 ∷ 9 ∷ []) ∷ (3 ∷ 0 ∷ 9 ∷ []) ∷ (9 ∷ 2 ∷ 3 ∷ []) ∷ (4 ∷ 9 ∷ 0 ∷ 10 ∷ []) ∷ [] ∷ (6 ∷ 7 ∷ 10 ∷ 4 ∷ 5 ∷ []) ∷ (2 ∷ 9 ∷ 7 ∷ []) ∷ [] }
+    ensures first_pivot { pivot eleven_tie.bound eleven_tie.placed ≡ 10 }
+    ensures second_pivot { pivot (next true eleven_tie).bound (next true eleven_tie).placed ≡ 6 }
+    ensures third_pivot { pivot (next true (next true eleven_tie)).bound (next true (next true eleven_tie)).placed ≡ 5 }
+    ensures fourth_pivot { pivot (next true (next true (next true eleven_tie))).bound (next true (next true (next true eleven_tie))).placed ≡ 3 }
+    ensures fifth_pivot { pivot (next true (next true (next true (next true eleven_tie)))).bound (next true (next true (next true (next true eleven_tie)))).placed ≡ 4 }
+    ensures homes { map (after_rounds 11 true eleven_tie).home (0 ∷ 1 ∷ 2 ∷ 3 ∷ 4 ∷ 5 ∷ 6 ∷ 7 ∷ 8 ∷ 9 ∷ 10 ∷ []) ≡ Eleven.five_table.homes }
 {}
 
 /// The columns of its factor under that listing.
-pub fn example_eight_factor()
-    ensures factor { IsFactor eight (0 ∷ 7 ∷ 4 ∷ 2 ∷ 1 ∷ 5 ∷ 6 ∷ 3 ∷ []) ([] ∷ (5 ∷ []) ∷ (3 ∷ []) ∷ (4 ∷ 6 ∷ []) ∷ (5 ∷ 6 ∷ []) ∷ (6 ∷ []) ∷ (7 ∷ []) ∷ [] ∷ []) }
-    ensures entries_needed { needed entries ([] ∷ (5 ∷ []) ∷ (3 ∷ []) ∷ (4 ∷ 6 ∷ []) ∷ (5 ∷ 6 ∷ []) ∷ (6 ∷ []) ∷ (7 ∷ []) ∷ [] ∷ []) ≡ 8 }
-    ensures front_needed { needed_front ([] ∷ (5 ∷ []) ∷ (3 ∷ []) ∷ (4 ∷ 6 ∷ []) ∷ (5 ∷ 6 ∷ []) ∷ (6 ∷ []) ∷ (7 ∷ []) ∷ [] ∷ []) ≡ 3 }
+pub fn example_eleven_factor()
+    ensures factor { IsFactor eleven (10 ∷ 5 ∷ 6 ∷ 3 ∷ 0 ∷ 2 ∷ 7 ∷ 9 ∷ 4 ∷ 8 ∷ 1 ∷ []) ((5 ∷ 6 ∷ 7 ∷ []) ∷ (3 ∷ 4 ∷ 7 ∷ []) ∷ (3 ∷ 5 ∷ 7 ∷ []) ∷ (4 ∷ 5 ∷ 7 ∷ 8 ∷ []) ∷ (5 ∷ 6 ∷ 7 ∷ 8 ∷ 10 ∷ []) ∷ (6 ∷ 7 ∷ 8 ∷ 10 ∷ []) ∷ (7 ∷ 8 ∷ 10 ∷ []) ∷ (8 ∷ 10 ∷ []) ∷ (10 ∷ []) ∷ [] ∷ [] ∷ []) }
+    ensures entries_needed { needed entries ((5 ∷ 6 ∷ 7 ∷ []) ∷ (3 ∷ 4 ∷ 7 ∷ []) ∷ (3 ∷ 5 ∷ 7 ∷ []) ∷ (4 ∷ 5 ∷ 7 ∷ 8 ∷ []) ∷ (5 ∷ 6 ∷ 7 ∷ 8 ∷ 10 ∷ []) ∷ (6 ∷ 7 ∷ 8 ∷ 10 ∷ []) ∷ (7 ∷ 8 ∷ 10 ∷ []) ∷ (8 ∷ 10 ∷ []) ∷ (10 ∷ []) ∷ [] ∷ [] ∷ []) ≡ 28 }
+    ensures front_needed { needed_front ((5 ∷ 6 ∷ 7 ∷ []) ∷ (3 ∷ 4 ∷ 7 ∷ []) ∷ (3 ∷ 5 ∷ 7 ∷ []) ∷ (4 ∷ 5 ∷ 7 ∷ 8 ∷ []) ∷ (5 ∷ 6 ∷ 7 ∷ 8 ∷ 10 ∷ []) ∷ (6 ∷ 7 ∷ 8 ∷ 10 ∷ []) ∷ (7 ∷ 8 ∷ 10 ∷ []) ∷ (8 ∷ 10 ∷ []) ∷ (10 ∷ []) ∷ [] ∷ [] ∷ []) ≡ 6 }
 {}

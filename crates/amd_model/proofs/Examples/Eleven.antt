@@ -1,4 +1,4 @@
--- The elimination of the graph eight, evaluated.
+-- The elimination of the graph eleven, evaluated.
 use Rattle.std.proofs.Common.{true, false, ◌≡◌, refl, [], ◌∷◌, map}
 use Rattle.amd_model.specs.Below.{any_below, all_below, sum_below, count_below, list_below}
 use Rattle.amd_model.specs.Graph.{degree, is_empty_row, edge_count, degree_sum}
@@ -10,97 +10,109 @@ use Rattle.amd_model.specs.Listing.{block_list, weight, is_child, is_some_of, he
 use Rattle.amd_model.specs.Input.Pattern.{graph_of, is_pair, holds_row, pair_count, diagonal_count}
 use Rattle.amd_model.specs.Input.Dense.{is_dense}
 use Rattle.amd_model.specs.Tie.{has, each, is_empty, turned, last_that, add_new, was_read, met_below, met_at, met_edges, other_end, starting_list, start_tie, pivot, gathered, takes, kept_elements, kept_variables, done, rest, alike, represents, made, ends, new_size, far, left, next_bound, new_home, round, next, after_rounds}
-use Rattle.amd_model.specs.Examples.Eight.{eight, pointers, rows, row_three, start_table, one_table, two_table, three_table, four_table, at_start, after_one, after_two, after_three, after_four, eight_tie}
+use Rattle.amd_model.specs.Examples.Eleven.{eleven, pointers, rows, row_one, start_table, one_table, two_table, three_table, four_table, five_table, at_start, after_one, after_two, after_three, after_four, after_five, eleven_tie}
 use Rattle.amd_model.specs.Factor.{before, IsFactor}
 use Rattle.amd_model.proofs.ReachTest.{reaches, in_column, column, columns_to, columns, factor_of}
 use Rattle.amd_model.proofs.PatternGraph.{pattern_graph}
 use Rattle.amd_model.proofs.StepTest.{passes, same_home, same_parent, same_test, implies, alike_test, moved_test, least_at, block_goes, kept_at, moved_at, merged_at, made_at, taken_at, border_at, parent_at, bound_at, bound_stays_at, step_tests, first_home, start_tests}
 use Rattle.amd_model.proofs.Examples.Table.{is_within, steps_test, run_test, tables_run}
 
-pub run : Run eight row_three true at_start (after_one ∷ after_two ∷ after_three ∷ after_four ∷ [])
+pub run : Run eleven row_one true at_start (after_one ∷ after_two ∷ after_three ∷ after_four ∷ after_five ∷ [])
 unfolding any_below all_below sum_below count_below graph_of is_pair holds_row degree live_at class_at block_at stands inside holds joined neighbours front absorbed other outer mass block border_of beyond outside new_bound has each is_within passes same_home same_parent same_test implies alike_test moved_test least_at block_goes kept_at moved_at merged_at made_at taken_at border_at parent_at bound_at bound_stays_at step_tests first_home start_tests steps_test run_test
-run = tables_run eight (pattern_graph 8 pointers rows) row_three true start_table.homes start_table.bounds ((7, one_table) ∷ (4, two_table) ∷ (2, three_table) ∷ (6, four_table) ∷ []) refl
+run = tables_run eleven (pattern_graph 11 pointers rows) row_one true start_table.homes start_table.bounds ((10, one_table) ∷ (6, two_table) ∷ (5, three_table) ∷ (3, four_table) ∷ (4, five_table) ∷ []) refl
 
-pub listing : IsPostorder eight row_three after_four (0 ∷ 7 ∷ 4 ∷ 2 ∷ 1 ∷ 5 ∷ 6 ∷ 3 ∷ [])
+pub listing : IsPostorder eleven row_one after_five (10 ∷ 5 ∷ 6 ∷ 3 ∷ 0 ∷ 2 ∷ 7 ∷ 9 ∷ 4 ∷ 8 ∷ 1 ∷ [])
 unfolding sum_below count_below list_below graph_of class_at block_at block_list weight is_child is_some_of heaviest heaviest_last children roots has
 listing = record {
-  blocks = 0 ∷ 7 ∷ 4 ∷ 2 ∷ 1 ∷ 5 ∷ 6 ∷ [];
-  lists = more {e = 0} {rest = 6 ∷ []} {below = []} {after = 7 ∷ 4 ∷ 2 ∷ 1 ∷ 5 ∷ 6 ∷ []} none (more {e = 6} {rest = []} {below = 7 ∷ 4 ∷ 2 ∷ []} {after = []} (more {e = 7} {rest = 2 ∷ []} {below = []} {after = 4 ∷ 2 ∷ []} none (more {e = 2} {rest = []} {below = 4 ∷ []} {after = []} (more {e = 4} {rest = []} {below = []} {after = []} none none) none)) none);
+  blocks = 10 ∷ 5 ∷ 6 ∷ 3 ∷ 0 ∷ 2 ∷ 7 ∷ 9 ∷ 4 ∷ 8 ∷ [];
+  lists = more {e = 4} {rest = 8 ∷ []} {below = 10 ∷ 5 ∷ 6 ∷ 3 ∷ []} {after = 8 ∷ []} (more {e = 10} {rest = 3 ∷ []} {below = []} {after = 5 ∷ 6 ∷ 3 ∷ []} none (more {e = 3} {rest = []} {below = 5 ∷ 6 ∷ []} {after = []} (more {e = 5} {rest = 6 ∷ []} {below = []} {after = 6 ∷ []} none (more {e = 6} {rest = []} {below = []} {after = []} none none)) none)) (more {e = 8} {rest = []} {below = []} {after = []} none none);
   is = refl;
 }
 
-pub lnz : figure entries eight row_three after_four ≡ 13
+pub lnz : figure entries eleven row_one after_five ≡ 32
 unfolding any_below sum_below count_below graph_of is_pair holds_row degree class_at block_at is_made front_sum figure entries has
 lnz = refl
 
-pub ldl : figure ldl_steps eight row_three after_four ≡ 22
+pub ldl : figure ldl_steps eleven row_one after_five ≡ 80
 unfolding any_below sum_below count_below graph_of is_pair holds_row degree class_at block_at is_made front_sum figure ldl_steps has
 ldl = refl
 
-pub lu : figure lu_steps eight row_three after_four ≡ 31
+pub lu : figure lu_steps eleven row_one after_five ≡ 128
 unfolding any_below sum_below count_below graph_of is_pair holds_row degree class_at block_at is_made front_sum figure lu_steps has
 lu = refl
 
-pub d_max : greatest_front eight row_three after_four ≡ 4
+pub d_max : greatest_front eleven row_one after_five ≡ 6
 unfolding any_below sum_below count_below graph_of is_pair holds_row degree class_at block_at is_made max_below greatest_front has
 d_max = refl
 
-pub lists : map (starting_list 8 (is_pair 8 pointers rows)) (0 ∷ 1 ∷ 2 ∷ 3 ∷ 4 ∷ 5 ∷ 6 ∷ 7 ∷ []) ≡ [] ∷ (2 ∷ 5 ∷ []) ∷ (4 ∷ 6 ∷ 1 ∷ []) ∷ (6 ∷ []) ∷ (2 ∷ []) ∷ (6 ∷ 1 ∷ 7 ∷ []) ∷ (2 ∷ 5 ∷ 3 ∷ []) ∷ (5 ∷ []) ∷ []
+pub lists : map (starting_list 11 (is_pair 11 pointers rows)) (0 ∷ 1 ∷ 2 ∷ 3 ∷ 4 ∷ 5 ∷ 6 ∷ 7 ∷ 8 ∷ 9 ∷ 10 ∷ []) ≡ (3 ∷ 1 ∷ 2 ∷ 4 ∷ 5 ∷ 7 ∷ []) ∷ (0 ∷ 4 ∷ []) ∷ (0 ∷ 10 ∷ 6 ∷ []) ∷ (0 ∷ 4 ∷ 5 ∷ 6 ∷ []) ∷ (3 ∷ 7 ∷ 0 ∷ 1 ∷ 9 ∷ []) ∷ (3 ∷ 0 ∷ 9 ∷ []) ∷ (9 ∷ 2 ∷ 3 ∷ []) ∷ (4 ∷ 9 ∷ 0 ∷ 10 ∷ []) ∷ [] ∷ (6 ∷ 7 ∷ 10 ∷ 4 ∷ 5 ∷ []) ∷ (2 ∷ 9 ∷ 7 ∷ []) ∷ []
 unfolding any_below list_below is_pair holds_row was_read met_below met_at met_edges other_end starting_list
 lists = refl
 
-pub first_pivot : pivot eight_tie.bound eight_tie.placed ≡ 7
+pub first_pivot : pivot eleven_tie.bound eleven_tie.placed ≡ 10
 unfolding any_below list_below sum_below count_below graph_of is_pair holds_row degree is_empty_row has each is_empty turned last_that add_new was_read met_below met_at met_edges other_end starting_list start_tie pivot gathered takes kept_elements kept_variables done rest alike represents made ends new_size far left next_bound new_home round next after_rounds
 first_pivot = refl
 
-pub second_pivot : pivot (next true eight_tie).bound (next true eight_tie).placed ≡ 4
+pub second_pivot : pivot (next true eleven_tie).bound (next true eleven_tie).placed ≡ 6
 unfolding any_below list_below sum_below count_below graph_of is_pair holds_row degree is_empty_row has each is_empty turned last_that add_new was_read met_below met_at met_edges other_end starting_list start_tie pivot gathered takes kept_elements kept_variables done rest alike represents made ends new_size far left next_bound new_home round next after_rounds
 second_pivot = refl
 
-pub third_pivot : pivot (next true (next true eight_tie)).bound (next true (next true eight_tie)).placed ≡ 2
+pub third_pivot : pivot (next true (next true eleven_tie)).bound (next true (next true eleven_tie)).placed ≡ 5
 unfolding any_below list_below sum_below count_below graph_of is_pair holds_row degree is_empty_row has each is_empty turned last_that add_new was_read met_below met_at met_edges other_end starting_list start_tie pivot gathered takes kept_elements kept_variables done rest alike represents made ends new_size far left next_bound new_home round next after_rounds
 third_pivot = refl
 
-pub fourth_pivot : pivot (next true (next true (next true eight_tie))).bound (next true (next true (next true eight_tie))).placed ≡ 6
+pub fourth_pivot : pivot (next true (next true (next true eleven_tie))).bound (next true (next true (next true eleven_tie))).placed ≡ 3
 unfolding any_below list_below sum_below count_below graph_of is_pair holds_row degree is_empty_row has each is_empty turned last_that add_new was_read met_below met_at met_edges other_end starting_list start_tie pivot gathered takes kept_elements kept_variables done rest alike represents made ends new_size far left next_bound new_home round next after_rounds
 fourth_pivot = refl
 
-pub homes : map (after_rounds 8 true eight_tie).home (0 ∷ 1 ∷ 2 ∷ 3 ∷ 4 ∷ 5 ∷ 6 ∷ 7 ∷ []) ≡ four_table.homes
+pub fifth_pivot : pivot (next true (next true (next true (next true eleven_tie)))).bound (next true (next true (next true (next true eleven_tie)))).placed ≡ 4
+unfolding any_below list_below sum_below count_below graph_of is_pair holds_row degree is_empty_row has each is_empty turned last_that add_new was_read met_below met_at met_edges other_end starting_list start_tie pivot gathered takes kept_elements kept_variables done rest alike represents made ends new_size far left next_bound new_home round next after_rounds
+fifth_pivot = refl
+
+pub homes : map (after_rounds 11 true eleven_tie).home (0 ∷ 1 ∷ 2 ∷ 3 ∷ 4 ∷ 5 ∷ 6 ∷ 7 ∷ 8 ∷ 9 ∷ 10 ∷ []) ≡ five_table.homes
 unfolding any_below list_below sum_below count_below graph_of is_pair holds_row degree is_empty_row has each is_empty turned last_that add_new was_read met_below met_at met_edges other_end starting_list start_tie pivot gathered takes kept_elements kept_variables done rest alike represents made ends new_size far left next_bound new_home round next after_rounds
 homes = refl
 
-pub third_border : list_below 8 (border_of eight true after_two 2) ≡ 1 ∷ 6 ∷ []
+pub second_border : list_below 11 (border_of eleven true after_one 6) ≡ 2 ∷ 3 ∷ 9 ∷ []
 unfolding any_below all_below sum_below count_below list_below graph_of is_pair holds_row degree live_at class_at block_at stands inside holds joined neighbours front absorbed other outer mass block border_of beyond outside new_bound has
-third_border = refl
+second_border = refl
 
-pub fourth_absorbed : list_below 8 (absorbed eight true after_three 6) ≡ 2 ∷ 7 ∷ []
+pub second_bound : new_bound eleven true after_one after_two 6 3 ≡ 5
 unfolding any_below all_below sum_below count_below list_below graph_of is_pair holds_row degree live_at class_at block_at stands inside holds joined neighbours front absorbed other outer mass block border_of beyond outside new_bound has
-fourth_absorbed = refl
+second_bound = refl
 
-pub fourth_plainly : list_below 8 (absorbed eight false after_three 6) ≡ 2 ∷ []
+pub fourth_bound : new_bound eleven true after_three after_four 3 2 ≡ 3
 unfolding any_below all_below sum_below count_below list_below graph_of is_pair holds_row degree live_at class_at block_at stands inside holds joined neighbours front absorbed other outer mass block border_of beyond outside new_bound has
-fourth_plainly = refl
+fourth_bound = refl
 
-pub pairs : pair_count 8 pointers rows ≡ 10
+pub fifth_absorbed : list_below 11 (absorbed eleven true after_four 4) ≡ 3 ∷ 10 ∷ []
+unfolding any_below all_below sum_below count_below list_below graph_of is_pair holds_row degree live_at class_at block_at stands inside holds joined neighbours front absorbed other outer mass block border_of beyond outside new_bound has
+fifth_absorbed = refl
+
+pub fifth_plainly : list_below 11 (absorbed eleven false after_four 4) ≡ 3 ∷ []
+unfolding any_below all_below sum_below count_below list_below graph_of is_pair holds_row degree live_at class_at block_at stands inside holds joined neighbours front absorbed other outer mass block border_of beyond outside new_bound has
+fifth_plainly = refl
+
+pub pairs : pair_count 11 pointers rows ≡ 23
 unfolding any_below sum_below count_below graph_of is_pair holds_row degree pair_count
 pairs = refl
 
-pub diagonal : diagonal_count 8 pointers rows ≡ 2
+pub diagonal : diagonal_count 11 pointers rows ≡ 1
 unfolding any_below sum_below count_below graph_of is_pair holds_row degree diagonal_count
 diagonal = refl
 
-pub edges : edge_count eight ≡ 7
+pub edges : edge_count eleven ≡ 19
 unfolding any_below sum_below count_below graph_of is_pair holds_row degree edge_count
 edges = refl
 
-pub degrees : degree_sum eight ≡ 14
+pub degrees : degree_sum eleven ≡ 38
 unfolding any_below sum_below count_below graph_of is_pair holds_row degree degree_sum
 degrees = refl
 
-pub dense_rows : list_below 8 (is_dense eight 2) ≡ 2 ∷ 5 ∷ 6 ∷ []
+pub dense_rows : list_below 11 (is_dense eleven 4) ≡ 0 ∷ 4 ∷ 9 ∷ []
 unfolding any_below sum_below count_below graph_of is_pair holds_row degree list_below is_dense
 dense_rows = refl
 
-pub factor : IsFactor eight (0 ∷ 7 ∷ 4 ∷ 2 ∷ 1 ∷ 5 ∷ 6 ∷ 3 ∷ []) ([] ∷ (5 ∷ []) ∷ (3 ∷ []) ∷ (4 ∷ 6 ∷ []) ∷ (5 ∷ 6 ∷ []) ∷ (6 ∷ []) ∷ (7 ∷ []) ∷ [] ∷ [])
+pub factor : IsFactor eleven (10 ∷ 5 ∷ 6 ∷ 3 ∷ 0 ∷ 2 ∷ 7 ∷ 9 ∷ 4 ∷ 8 ∷ 1 ∷ []) ((5 ∷ 6 ∷ 7 ∷ []) ∷ (3 ∷ 4 ∷ 7 ∷ []) ∷ (3 ∷ 5 ∷ 7 ∷ []) ∷ (4 ∷ 5 ∷ 7 ∷ 8 ∷ []) ∷ (5 ∷ 6 ∷ 7 ∷ 8 ∷ 10 ∷ []) ∷ (6 ∷ 7 ∷ 8 ∷ 10 ∷ []) ∷ (7 ∷ 8 ∷ 10 ∷ []) ∷ (8 ∷ 10 ∷ []) ∷ (10 ∷ []) ∷ [] ∷ [] ∷ [])
 unfolding any_below list_below graph_of is_pair holds_row degree before reaches in_column column columns_to columns
-factor = factor_of eight (0 ∷ 7 ∷ 4 ∷ 2 ∷ 1 ∷ 5 ∷ 6 ∷ 3 ∷ []) (pattern_graph 8 pointers rows)
+factor = factor_of eleven (10 ∷ 5 ∷ 6 ∷ 3 ∷ 0 ∷ 2 ∷ 7 ∷ 9 ∷ 4 ∷ 8 ∷ 1 ∷ []) (pattern_graph 11 pointers rows)
