@@ -27,6 +27,7 @@ pub mod TieLists
 pub mod TieLaw
 pub mod TieSums
 pub mod TieStart
+pub mod StartingLists
 pub mod TieRun
 pub mod StepTest
 pub mod PatternGraph
