@@ -12,7 +12,7 @@ ghost use Rattle.amd_model.specs.Factor.{IsFactor, needed, needed_front};
 ghost use Rattle.amd_model.specs.Listing.{IsPostorder};
 ghost use Rattle.amd_model.specs.Input.Dense.{is_dense};
 ghost use Rattle.amd_model.specs.Input.Pattern.{is_pair, pair_count, diagonal_count};
-ghost use Rattle.amd_model.specs.Tie.{starting_list, pivot, next, after_rounds};
+ghost use Rattle.amd_model.specs.Tie.{Fits, starting_list, pivot, next, after_rounds};
 ghost use Rattle.amd_model.specs.Examples.Table.{none_dense};
 ghost use Rattle.amd_model.specs.Examples.Cycle.{cycle, cycle_tie};
 ghost use Rattle.amd_model.specs.Examples.Seven.{seven, seven_tie};
@@ -31,6 +31,7 @@ pub fn example_cycle()
     ensures d_max { greatest_front cycle none_dense Cycle.after_two ≡ 3 }
     ensures first_front { list_below 4 (front cycle Cycle.at_start 3) ≡ 0 ∷ 2 ∷ [] }
     ensures first_bound { new_bound cycle true Cycle.at_start Cycle.after_one 3 2 ≡ 1 }
+    ensures old_bound_counts { new_bound cycle true Cycle.unbound Cycle.after_one 3 2 ≡ 0 }
     ensures second_block { list_below 4 (block cycle true Cycle.after_one 2) ≡ 0 ∷ 1 ∷ 2 ∷ [] }
 {}
 
@@ -39,6 +40,7 @@ pub fn example_cycle_lists()
     ensures lists { map (starting_list 4 (is_pair 4 Cycle.pointers Cycle.rows)) (0 ∷ 1 ∷ 2 ∷ 3 ∷ []) ≡ (1 ∷ 3 ∷ []) ∷ (0 ∷ 2 ∷ []) ∷ (1 ∷ 3 ∷ []) ∷ (0 ∷ 2 ∷ []) ∷ [] }
     ensures first_pivot { pivot cycle_tie.bound cycle_tie.placed ≡ 3 }
     ensures second_pivot { pivot (next true cycle_tie).bound (next true cycle_tie).placed ≡ 2 }
+    ensures fits { Fits cycle cycle_tie Cycle.at_start }
     ensures homes { map (after_rounds 4 true cycle_tie).home (0 ∷ 1 ∷ 2 ∷ 3 ∷ []) ≡ Cycle.two_table.homes }
 {}
 
@@ -68,6 +70,7 @@ pub fn example_seven_lists()
     ensures first_pivot { pivot seven_tie.bound seven_tie.placed ≡ 0 }
     ensures second_pivot { pivot (next true seven_tie).bound (next true seven_tie).placed ≡ 6 }
     ensures third_pivot { pivot (next true (next true seven_tie)).bound (next true (next true seven_tie)).placed ≡ 2 }
+    ensures fits { Fits seven seven_tie Seven.at_start }
     ensures homes { map (after_rounds 7 true seven_tie).home (0 ∷ 1 ∷ 2 ∷ 3 ∷ 4 ∷ 5 ∷ 6 ∷ []) ≡ Seven.three_table.homes }
 {}
 
@@ -106,6 +109,7 @@ pub fn example_eleven_lists()
     ensures third_pivot { pivot (next true (next true eleven_tie)).bound (next true (next true eleven_tie)).placed ≡ 5 }
     ensures fourth_pivot { pivot (next true (next true (next true eleven_tie))).bound (next true (next true (next true eleven_tie))).placed ≡ 3 }
     ensures fifth_pivot { pivot (next true (next true (next true (next true eleven_tie)))).bound (next true (next true (next true (next true eleven_tie)))).placed ≡ 4 }
+    ensures fits { Fits eleven eleven_tie Eleven.at_start }
     ensures homes { map (after_rounds 11 true eleven_tie).home (0 ∷ 1 ∷ 2 ∷ 3 ∷ 4 ∷ 5 ∷ 6 ∷ 7 ∷ 8 ∷ 9 ∷ 10 ∷ []) ≡ Eleven.five_table.homes }
 {}
 

@@ -1,25 +1,32 @@
 -- The elimination of the graph eleven, evaluated.
-use Rattle.std.proofs.Common.{true, false, ◌≡◌, refl, [], ◌∷◌, map}
+use Rattle.std.proofs.Common.{true, false, ◌≡◌, refl, [], ◌∷◌, map, ℕ}
+use Rattle.std.specs.Prelude.{None, Some, List}
 use Rattle.amd_model.specs.Below.{any_below, all_below, sum_below, count_below, list_below}
 use Rattle.amd_model.specs.Graph.{degree, is_empty_row, edge_count, degree_sum}
-use Rattle.amd_model.specs.State.{live_at, class_at, block_at, stands, inside, holds, joined, neighbours, front}
+use Rattle.amd_model.specs.State.{Last, Live, Gone, live_at, class_at, block_at, stands, inside, holds, joined, neighbours, front}
 use Rattle.amd_model.specs.Step.{absorbed, other, outer, mass, block, border_of, beyond, outside, new_bound}
 use Rattle.amd_model.specs.Run.{Run}
 use Rattle.amd_model.specs.Figures.{front_sum, is_made, figure, entries, ldl_steps, lu_steps, max_below, greatest_front}
 use Rattle.amd_model.specs.Listing.{block_list, weight, is_child, is_some_of, heaviest, heaviest_last, children, roots, none, more, IsPostorder}
 use Rattle.amd_model.specs.Input.Pattern.{graph_of, is_pair, holds_row, pair_count, diagonal_count}
 use Rattle.amd_model.specs.Input.Dense.{is_dense}
-use Rattle.amd_model.specs.Tie.{has, each, is_empty, turned, last_that, add_new, was_read, met_below, met_at, met_edges, other_end, starting_list, start_tie, pivot, gathered, takes, kept_elements, kept_variables, done, rest, alike, represents, made, ends, new_size, far, left, next_bound, new_home, round, next, after_rounds}
+use Rattle.amd_model.specs.Tie.{Fits, has, each, is_empty, turned, last_that, add_new, was_read, met_below, met_at, met_edges, other_end, starting_list, start_tie, pivot, gathered, takes, kept_elements, kept_variables, done, rest, alike, represents, made, ends, new_size, far, left, next_bound, new_home, round, next, after_rounds}
+use Rattle.amd_model.specs.Examples.Table.{none_dense}
 use Rattle.amd_model.specs.Examples.Eleven.{eleven, pointers, rows, row_one, start_table, one_table, two_table, three_table, four_table, five_table, at_start, after_one, after_two, after_three, after_four, after_five, eleven_tie}
 use Rattle.amd_model.specs.Factor.{before, IsFactor}
 use Rattle.amd_model.proofs.ReachTest.{reaches, in_column, column, columns_to, columns, factor_of}
 use Rattle.amd_model.proofs.PatternGraph.{pattern_graph}
+use Rattle.amd_model.proofs.TieStart.{start_fits}
+use Rattle.amd_model.proofs.StartingLists.{starting_lists}
 use Rattle.amd_model.proofs.StepTest.{passes, same_home, same_parent, same_test, implies, alike_test, moved_test, least_at, block_goes, kept_at, moved_at, merged_at, made_at, taken_at, border_at, parent_at, bound_at, bound_stays_at, step_tests, first_home, start_tests}
 use Rattle.amd_model.proofs.Examples.Table.{is_within, steps_test, run_test, tables_run}
 
-pub run : Run eleven row_one true at_start (after_one ∷ after_two ∷ after_three ∷ after_four ∷ after_five ∷ [])
+pub tested : run_test eleven row_one true start_table ((10, one_table) ∷ (6, two_table) ∷ (5, three_table) ∷ (3, four_table) ∷ (4, five_table) ∷ []) ≡ true
 unfolding any_below all_below sum_below count_below graph_of is_pair holds_row degree live_at class_at block_at stands inside holds joined neighbours front absorbed other outer mass block border_of beyond outside new_bound has each is_within passes same_home same_parent same_test implies alike_test moved_test least_at block_goes kept_at moved_at merged_at made_at taken_at border_at parent_at bound_at bound_stays_at step_tests first_home start_tests steps_test run_test
-run = tables_run eleven (pattern_graph 11 pointers rows) row_one true start_table.homes start_table.bounds ((10, one_table) ∷ (6, two_table) ∷ (5, three_table) ∷ (3, four_table) ∷ (4, five_table) ∷ []) refl
+tested = refl
+
+pub run : Run eleven row_one true at_start (after_one ∷ after_two ∷ after_three ∷ after_four ∷ after_five ∷ [])
+run = tables_run eleven (pattern_graph 11 pointers rows) row_one true start_table.homes start_table.bounds ((10, one_table) ∷ (6, two_table) ∷ (5, three_table) ∷ (3, four_table) ∷ (4, five_table) ∷ []) tested
 
 pub listing : IsPostorder eleven row_one after_five (10 ∷ 5 ∷ 6 ∷ 3 ∷ 0 ∷ 2 ∷ 7 ∷ 9 ∷ 4 ∷ 8 ∷ 1 ∷ [])
 unfolding sum_below count_below list_below graph_of class_at block_at block_list weight is_child is_some_of heaviest heaviest_last children roots has
@@ -68,6 +75,9 @@ fourth_pivot = refl
 pub fifth_pivot : pivot (next true (next true (next true (next true eleven_tie)))).bound (next true (next true (next true (next true eleven_tie)))).placed ≡ 4
 unfolding any_below list_below sum_below count_below graph_of is_pair holds_row degree is_empty_row has each is_empty turned last_that add_new was_read met_below met_at met_edges other_end starting_list start_tie pivot gathered takes kept_elements kept_variables done rest alike represents made ends new_size far left next_bound new_home round next after_rounds
 fifth_pivot = refl
+
+pub fits : Fits eleven eleven_tie at_start
+fits = start_fits eleven row_one at_start (starting_list 11 (is_pair 11 pointers rows)) (pattern_graph 11 pointers rows) run.start (λ i h. starting_lists 11 pointers rows i)
 
 pub homes : map (after_rounds 11 true eleven_tie).home (0 ∷ 1 ∷ 2 ∷ 3 ∷ 4 ∷ 5 ∷ 6 ∷ 7 ∷ 8 ∷ 9 ∷ 10 ∷ []) ≡ five_table.homes
 unfolding any_below list_below sum_below count_below graph_of is_pair holds_row degree is_empty_row has each is_empty turned last_that add_new was_read met_below met_at met_edges other_end starting_list start_tie pivot gathered takes kept_elements kept_variables done rest alike represents made ends new_size far left next_bound new_home round next after_rounds

@@ -1,7 +1,7 @@
 -- The cycle 0 1 2 3: two pivots, of which the first merges the two rows beside it, and the second takes the last row with it.
-use Rattle.std.specs.Prelude.{ℤ, pos, None, Some, List, [], ◌∷◌}
+use Rattle.std.specs.Prelude.{ℕ, ℤ, pos, Bool, None, Some, List, [], ◌∷◌, ◌==◌}
 use Rattle.amd_model.specs.Graph.{Graph}
-use Rattle.amd_model.specs.State.{State, Live, Gone}
+use Rattle.amd_model.specs.State.{State, Last, Live, Gone}
 use Rattle.amd_model.specs.Input.Pattern.{graph_of, is_pair}
 use Rattle.amd_model.specs.Tie.{Tie, start_tie, starting_list}
 use Rattle.amd_model.specs.Examples.Table.{Table, state_of, none_dense}
@@ -28,6 +28,10 @@ start_table = record {
 -- each row has two neighbours
 abbrev pub at_start : State
 at_start = state_of start_table
+
+-- the same with bounds that are all 0, which no run has: of the old bound and what is outside the lesser one counts
+abbrev pub unbound : State
+unbound = record at_start { bound = λ v. 0 }
 
 abbrev pub one_table : Table
 one_table = record {
