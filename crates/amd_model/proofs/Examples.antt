@@ -3,3 +3,4 @@ pub mod Table
 pub mod Cycle
 pub mod Seven
 pub mod Eleven
+pub mod Inputs

@@ -1,7 +1,7 @@
 // Eliminations worked out in full: that the definitions give the values which Amestoy, Davis and Duff's rules give by hand.
 // Source: evaluations of the definitions in specs/. Called by: nobody, the contracts are the values.
 
-ghost use Rattle.std.specs.Prelude.{◌≡◌, true, false, [], ◌∷◌, map, Some, None};
+ghost use Rattle.std.specs.Prelude.{◌≡◌, pos, negsuc, true, false, [], ◌∷◌, map, Some, None};
 ghost use Rattle.amd_model.specs.Below.{list_below};
 ghost use Rattle.amd_model.specs.Graph.{edge_count, degree_sum};
 ghost use Rattle.amd_model.specs.State.{front};
@@ -10,7 +10,8 @@ ghost use Rattle.amd_model.specs.Run.{Run};
 ghost use Rattle.amd_model.specs.Figures.{figure, entries, ldl_steps, lu_steps, greatest_front};
 ghost use Rattle.amd_model.specs.Factor.{IsFactor, needed, needed_front};
 ghost use Rattle.amd_model.specs.Listing.{IsPostorder};
-ghost use Rattle.amd_model.specs.Input.Dense.{is_dense};
+ghost use Rattle.amd_model.specs.Input.Columns.{IsInput, IsJumbledInput};
+ghost use Rattle.amd_model.specs.Input.Dense.{IsThreshold, is_dense};
 ghost use Rattle.amd_model.specs.Input.Pattern.{is_pair, pair_count, diagonal_count};
 ghost use Rattle.amd_model.specs.Tie.{Fits, starting_list, pivot, next, after_rounds};
 ghost use Rattle.amd_model.specs.Examples.Table.{none_dense};
@@ -118,4 +119,16 @@ pub fn example_eleven_factor()
     ensures factor { IsFactor eleven (10 ∷ 5 ∷ 6 ∷ 3 ∷ 0 ∷ 2 ∷ 7 ∷ 9 ∷ 4 ∷ 8 ∷ 1 ∷ []) ((5 ∷ 6 ∷ 7 ∷ []) ∷ (3 ∷ 4 ∷ 7 ∷ []) ∷ (3 ∷ 5 ∷ 7 ∷ []) ∷ (4 ∷ 5 ∷ 7 ∷ 8 ∷ []) ∷ (5 ∷ 6 ∷ 7 ∷ 8 ∷ 10 ∷ []) ∷ (6 ∷ 7 ∷ 8 ∷ 10 ∷ []) ∷ (7 ∷ 8 ∷ 10 ∷ []) ∷ (8 ∷ 10 ∷ []) ∷ (10 ∷ []) ∷ [] ∷ [] ∷ []) }
     ensures entries_needed { needed entries ((5 ∷ 6 ∷ 7 ∷ []) ∷ (3 ∷ 4 ∷ 7 ∷ []) ∷ (3 ∷ 5 ∷ 7 ∷ []) ∷ (4 ∷ 5 ∷ 7 ∷ 8 ∷ []) ∷ (5 ∷ 6 ∷ 7 ∷ 8 ∷ 10 ∷ []) ∷ (6 ∷ 7 ∷ 8 ∷ 10 ∷ []) ∷ (7 ∷ 8 ∷ 10 ∷ []) ∷ (8 ∷ 10 ∷ []) ∷ (10 ∷ []) ∷ [] ∷ [] ∷ []) ≡ 28 }
     ensures front_needed { needed_front ((5 ∷ 6 ∷ 7 ∷ []) ∷ (3 ∷ 4 ∷ 7 ∷ []) ∷ (3 ∷ 5 ∷ 7 ∷ []) ∷ (4 ∷ 5 ∷ 7 ∷ 8 ∷ []) ∷ (5 ∷ 6 ∷ 7 ∷ 8 ∷ 10 ∷ []) ∷ (6 ∷ 7 ∷ 8 ∷ 10 ∷ []) ∷ (7 ∷ 8 ∷ 10 ∷ []) ∷ (8 ∷ 10 ∷ []) ∷ (10 ∷ []) ∷ [] ∷ [] ∷ []) ≡ 6 }
+{}
+
+/// Column forms, jumbled columns, and thresholds of dense rows.
+pub fn example_inputs()
+    ensures cycle_form { IsInput (pos 4) (pos 4) Cycle.pointers Cycle.rows }
+    ensures jumbled_form { IsInput (pos 2) (pos 2) (pos 0 ∷ pos 2 ∷ pos 2 ∷ []) (pos 1 ∷ pos 1 ∷ []) }
+    ensures jumbled { IsJumbledInput (pos 2) (pos 0 ∷ pos 2 ∷ pos 2 ∷ []) (pos 1 ∷ pos 1 ∷ []) }
+    ensures not_jumbled { IsJumbledInput (pos 2) (pos 0 ∷ pos 1 ∷ pos 2 ∷ []) (pos 1 ∷ pos 0 ∷ []) → ⊥ }
+    ensures threshold { IsThreshold 400 (pos 1000) 20 }
+    ensures raised { IsThreshold 400 (pos 0) 16 }
+    ensures cut { IsThreshold 9 (pos 10000) 9 }
+    ensures none_held { IsThreshold 30 (negsuc 499) 28 }
 {}

@@ -1,15 +1,13 @@
 -- The elimination of the graph seven, evaluated.
-use Rattle.std.proofs.Common.{true, false, ◌≡◌, refl, [], ◌∷◌, map, ℕ}
-use Rattle.std.specs.Prelude.{None, Some, List}
+use Rattle.std.proofs.Common.{true, ◌≡◌, refl, [], ◌∷◌, map}
 use Rattle.amd_model.specs.Below.{any_below, all_below, sum_below, count_below, list_below}
-use Rattle.amd_model.specs.Graph.{degree, is_empty_row, edge_count, degree_sum}
-use Rattle.amd_model.specs.State.{Last, Live, Gone, live_at, class_at, block_at, stands, inside, holds, joined, neighbours, front}
+use Rattle.amd_model.specs.Graph.{degree, is_empty_row}
+use Rattle.amd_model.specs.State.{live_at, class_at, block_at, stands, inside, holds, joined, neighbours, front}
 use Rattle.amd_model.specs.Step.{absorbed, other, outer, mass, block, border_of, beyond, outside, new_bound}
 use Rattle.amd_model.specs.Run.{Run}
 use Rattle.amd_model.specs.Figures.{front_sum, is_made, figure, entries, ldl_steps, lu_steps, max_below, greatest_front}
 use Rattle.amd_model.specs.Listing.{block_list, weight, is_child, is_some_of, heaviest, heaviest_last, children, roots, none, more, IsPostorder}
-use Rattle.amd_model.specs.Input.Pattern.{graph_of, is_pair, holds_row, pair_count, diagonal_count}
-use Rattle.amd_model.specs.Input.Dense.{is_dense}
+use Rattle.amd_model.specs.Input.Pattern.{graph_of, is_pair, holds_row}
 use Rattle.amd_model.specs.Tie.{Fits, has, each, is_empty, turned, last_that, add_new, was_read, met_below, met_at, met_edges, other_end, starting_list, start_tie, pivot, gathered, takes, kept_elements, kept_variables, done, rest, alike, represents, made, ends, new_size, far, left, next_bound, new_home, round, next, after_rounds}
 use Rattle.amd_model.specs.Examples.Table.{none_dense}
 use Rattle.amd_model.specs.Examples.Seven.{seven, pointers, rows, start_table, one_table, two_table, three_table, at_start, after_one, after_two, after_three, seven_tie}

@@ -1,7 +1,7 @@
 -- The cycle 0 1 2 3: two pivots, of which the first merges the two rows beside it, and the second takes the last row with it.
-use Rattle.std.specs.Prelude.{ℕ, ℤ, pos, Bool, None, Some, List, [], ◌∷◌, ◌==◌}
+use Rattle.std.specs.Prelude.{ℤ, pos, None, Some, List, [], ◌∷◌}
 use Rattle.amd_model.specs.Graph.{Graph}
-use Rattle.amd_model.specs.State.{State, Last, Live, Gone}
+use Rattle.amd_model.specs.State.{State, Live, Gone}
 use Rattle.amd_model.specs.Input.Pattern.{graph_of, is_pair}
 use Rattle.amd_model.specs.Tie.{Tie, start_tie, starting_list}
 use Rattle.amd_model.specs.Examples.Table.{Table, state_of, none_dense}

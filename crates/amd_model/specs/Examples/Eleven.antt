@@ -5,7 +5,7 @@ use Rattle.amd_model.specs.Graph.{Graph}
 use Rattle.amd_model.specs.State.{State, Last, Live, Gone}
 use Rattle.amd_model.specs.Input.Pattern.{graph_of, is_pair}
 use Rattle.amd_model.specs.Tie.{Tie, start_tie, starting_list}
-use Rattle.amd_model.specs.Examples.Table.{Table, state_of, none_dense}
+use Rattle.amd_model.specs.Examples.Table.{Table, state_of}
 
 -- the column pointers and the row indices
 abbrev pub pointers : List ℤ

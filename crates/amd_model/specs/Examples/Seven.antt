@@ -1,8 +1,8 @@
 -- A graph of seven rows: its second pivot merges three rows, of which one is held by an element, and its third pivot takes the two
 -- rows that are left with it.
-use Rattle.std.specs.Prelude.{ℕ, ℤ, pos, Bool, None, Some, List, [], ◌∷◌, ◌==◌}
+use Rattle.std.specs.Prelude.{ℤ, pos, None, Some, List, [], ◌∷◌}
 use Rattle.amd_model.specs.Graph.{Graph}
-use Rattle.amd_model.specs.State.{State, Last, Live, Gone}
+use Rattle.amd_model.specs.State.{State, Live, Gone}
 use Rattle.amd_model.specs.Input.Pattern.{graph_of, is_pair}
 use Rattle.amd_model.specs.Tie.{Tie, start_tie, starting_list}
 use Rattle.amd_model.specs.Examples.Table.{Table, state_of, none_dense}
