@@ -1,12 +1,12 @@
 -- Classes of columns, one more row or column at a time.
-use Rattle.std.proofs.Common.{◌≡◌, ◌+◌, ◌-◌, ◌^◌, ◌<◌, ◌≤◌, ◌⊎◌, inl, inr, ℕ, ℤ, zero, suc, pos, negsuc, List, length, arith, add-zero, sym, subst, below_more}
+use Rattle.std.proofs.Common.{◌≡◌, ◌+◌, ◌^◌, ◌<◌, ◌≤◌, ◌⊎◌, inl, inr, ℕ, ℤ, pos, List, length, arith, sym, subst, below_more}
 use native.Mathlib.Decide.{dec_lt}
 use Prim.{yes, no}
 use Rattle.std.specs.Int.{FitsUnsignedBits}
-use Rattle.std.specs.Prelude.{◌≤ℤ◌}
 use Rattle.std.proofs.lemmas.Int.{ints}
 use Rattle.amd_model.specs.Input.Columns.{at, IsColumnForm, IsSorted, IsJumbled, IsInput}
-use Rattle.amd_engine.specs.Classes.{IsClass}
+use Rattle.amd_model.proofs.Pointers.{pointer_in, small_fits}
+use Rattle.amd_engine.specs.Statuses.{IsStatusOf}
 use Rattle.amd.specs.Scans.{AreRows, Rise, HaveDescent, IsColumnClass}
 use Rattle.amd_engine.specs.declared.amd.Status.{Status}
 use Rattle.amd_engine.specs.declared.amd.Status.TheVariants.{OK, Invalid, OkButJumbled, OutOfMemory}
@@ -25,37 +25,10 @@ IsRunSoFar j ap ai Invalid = ⊥
 IsRunSoFar j ap ai OkButJumbled = IsJumbled j ap ai
 IsRunSoFar j ap ai OutOfMemory = ⊥
 
--- pointers rise over any stretch
-pub stretch : (m : ℤ) (n : ℕ) (ap ai : List ℤ) → IsColumnForm m n ap ai → (i d : ℕ) → i + d ≤ n → at ap i ≤ℤ at ap (i + d)
-stretch m n ap ai f i zero h = rw add-zero (omega (arith, ints))
-stretch m n ap ai f i (suc d) h =
-    let before = stretch m n ap ai f i d (omega arith) in
-    let step = f.ascending (i + d) (omega arith) in
-    let e : i + suc d ≡ (i + d) + 1 = omega arith in
-    rw e (omega (arith, ints))
-
--- each pointer of a column form is a place of the rows, or their end
-pub pointer_in : (m : ℤ) (n : ℕ) (ap ai : List ℤ) → IsColumnForm m n ap ai → (j : ℕ) → j ≤ n → (pos 0 ≤ℤ at ap j) × (at ap j ≤ℤ at ap n) × (at ap j ≤ℤ pos (length ai))
-pointer_in m n ap ai f j h =
-    let low : at ap 0 ≤ℤ at ap (0 + j) = stretch m n ap ai f 0 j (omega arith) in
-    let high : at ap j ≤ℤ at ap (j + (n - j)) = stretch m n ap ai f j (n - j) (omega arith) in
-    let e : 0 + j ≡ j = omega arith in
-    let e2 : j + (n - j) ≡ n = omega arith in
-    let low2 = rw e at low in
-    let high2 = rw e2 at high in
-    let z = f.first in
-    let w = f.within in
-    (omega (arith, ints), high2, omega (arith, ints))
-
 module _ (m : ℤ) (ap ai : List ℤ) where
   -- an input with a count of columns that is natural
   pub input_of : (n : ℤ) (k : ℕ) → pos k ≡ n → IsInput m n ap ai → IsColumnForm m k ap ai
   input_of n k e f = let P : ℤ → Type 0 = λ z. IsInput m z ap ai in subst P (sym e) f
-
-  -- a pointer of a column form is a count
-  small_fits : (z : ℤ) (b : ℕ) → pos 0 ≤ℤ z → z ≤ℤ pos b → b < 2 ^ 64 → FitsUnsignedBits 64 z
-  small_fits (pos x) b low high h = omega (arith, ints)
-  small_fits (negsuc x) b low high h = absurd (omega (arith, ints))
 
   pub no_count : (n : ℤ) (k j : ℕ) (z : ℤ) → pos k ≡ n → j < k → length ai < 2 ^ 64 → z ≡ at ap (j + 1) → (FitsUnsignedBits 64 z → ⊥) → IsInput m n ap ai → ⊥
   no_count n k j z e h short is never f =
@@ -96,8 +69,8 @@ module _ (m : ℤ) (ap ai : List ℤ) where
   pub descent_jumbles : (j from to : ℕ) → at ap j ≡ pos from → at ap (j + 1) ≡ pos to → HaveDescent ai from to → IsJumbled (j + 1) ap ai
   descent_jumbles j from to a b (k, low, high, down) = (j, k, omega arith, omega (arith, ints), omega (arith, ints), down)
 
-  pub class_of : (n : ℤ) (k : ℕ) (s : Status) → pos k ≡ n → IsColumnForm m k ap ai → IsRunSoFar k ap ai s → IsClass m n ap ai s
-  class_of n k OK e f run = let P : ℤ → Type 0 = λ z. IsClass m z ap ai OK in subst P e (f, run)
-  class_of n k OkButJumbled e f run = let P : ℤ → Type 0 = λ z. IsClass m z ap ai OkButJumbled in subst P e (f, run)
+  pub class_of : (n : ℤ) (k : ℕ) (s : Status) → pos k ≡ n → IsColumnForm m k ap ai → IsRunSoFar k ap ai s → IsStatusOf m n ap ai s
+  class_of n k OK e f run = let P : ℤ → Type 0 = λ z. IsStatusOf m z ap ai OK in subst P e (f, run)
+  class_of n k OkButJumbled e f run = let P : ℤ → Type 0 = λ z. IsStatusOf m z ap ai OkButJumbled in subst P e (f, run)
   class_of n k Invalid e f run = absurd run
   class_of n k OutOfMemory e f run = absurd run

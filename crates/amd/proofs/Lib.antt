@@ -1,1 +1,13 @@
 pub mod Classes
+pub mod Listings
+pub mod SamePairs
+pub mod Orderings
+pub mod Counting
+pub mod Symmetry
+pub mod PatternLemmas
+pub mod NamedPairs
+pub mod RowMarks
+pub mod ColumnCounts
+pub mod PrefixSums
+pub mod ColumnLists
+pub mod RowForms

@@ -1,6 +1,131 @@
 //! An approximate minimum degree ordering of sparse matrices.
+//!
+//! [`order`] takes the pattern of a square matrix by columns and answers a permutation of its rows, its inverse, and figures.
+//! In this version the rows are listed by rising degree, with the dense rows last; the elimination takes that place next.
 #![tactic(auto)]
 
+pub mod aat;
+mod by_degree;
+pub mod laws;
+pub mod preprocess;
 pub mod valid;
 
+ghost use Rattle.std.specs.Prelude.{◌≡◌, ◌+◌, ◌/◌, ◌^◌, ◌<◌, ◌<ℤ◌, map, pos, unsigned_abs, MatchResult, IfOk, IfErr};
+ghost use Rattle.std.specs.Option.{SomeIff};
+ghost use Rattle.amd_model.specs.Input.Columns.{IsInput, IsSortedInput, IsJumbledInput};
+ghost use Rattle.amd.specs.Answers.{IsOrdering, IsRefusal, OrdersMatrix};
+
+use crate::aat::aat;
+use crate::by_degree::by_degree;
+use crate::preprocess::preprocess;
+use crate::valid::valid;
 pub use amd_engine::amd::{Control, Info, Status};
+use amd_engine::dense::dense_threshold;
+use amd_engine::internal::to_count;
+use amd_engine::permutations::inverse_pair;
+use num_traits::PrimInt;
+use std::alloc::Allocator;
+
+/// The words of a workspace for lists of `nzaat` entries in all, with a fifth more and `n` words of elbow room, where they
+/// are at most the greatest `isize`.
+fn workspace_words(nzaat: usize, n: usize) -> Option<usize>
+    ensures { SomeIff result (nzaat + nzaat / 5 + n < 2 ^ 63) (nzaat + nzaat / 5 + n) }
+{
+    let words = nzaat.checked_add(nzaat / 5)?.checked_add(n)?;
+    if words < 1 << 63 { Some(words) } else { None }
+}
+
+/// Orders a matrix whose columns are sorted.
+fn order_sorted<I: PrimInt, A: Allocator + Copy>(
+    alloc: A,
+    n: I,
+    a_p: &[I],
+    a_i: &[I],
+    control: &Control,
+) -> Result<(Vec<I, A>, Vec<I, A>, Info), Status>
+    requires fits { I.fits (I.value n) }
+    requires positive { pos 0 <ℤ I.value n }
+    requires form { IsInput (I.value n) (I.value n) (map I.value a_p.now) (map I.value a_i.now) }
+    requires sorted { IsSortedInput (I.value n) (map I.value a_p.now) (map I.value a_i.now) }
+    ensures orders { IfOk result (λ a. OrdersMatrix (unsigned_abs (I.value n)) control.now.dense (map I.value a_p.now) (map I.value a_i.now) (map I.value a.0.items) (map I.value a.1.items) a.2) }
+    ensures status { IfOk result (λ a. a.2.status ≡ Status.OK) }
+    ensures refused { IfErr result (λ e. e ≡ Status.OutOfMemory) }
+{
+    let Some(count) = to_count(n) else {
+        unreachable!();
+    };
+    let mut info = Info::new(count);
+    let (nzaat, len) = aat(alloc, n, a_p, a_i, &mut info)?;
+    if workspace_words(nzaat, count).is_none() {
+        return Err(Status::OutOfMemory);
+    }
+    let threshold = dense_threshold(count, control);
+    let (rows, n_dense) = by_degree(alloc, &len, threshold)?;
+    info.n_dense = n_dense;
+    let (p, p_inv) = inverse_pair(alloc, n, &rows)?;
+    Ok((p, p_inv, info))
+}
+
+/// Orders a jumbled matrix, by its transpose with sorted columns, which has the same edges.
+fn order_jumbled<I: PrimInt, A: Allocator + Copy>(
+    alloc: A,
+    n: I,
+    a_p: &[I],
+    a_i: &[I],
+    control: &Control,
+) -> Result<(Vec<I, A>, Vec<I, A>, Info), Status>
+    requires fits { I.fits (I.value n) }
+    requires positive { pos 0 <ℤ I.value n }
+    requires form { IsInput (I.value n) (I.value n) (map I.value a_p.now) (map I.value a_i.now) }
+    ensures orders { IfOk result (λ a. OrdersMatrix (unsigned_abs (I.value n)) control.now.dense (map I.value a_p.now) (map I.value a_i.now) (map I.value a.0.items) (map I.value a.1.items) a.2) }
+    ensures status { IfOk result (λ a. a.2.status ≡ Status.OkButJumbled) }
+    ensures refused { IfErr result (λ e. e ≡ Status.OutOfMemory) }
+{
+    let (c_p, c_i) = preprocess(alloc, n, a_p, a_i)?;
+    let (p, p_inv, mut info) = order_sorted(alloc, n, &c_p, &c_i, control)?;
+    info.status = Status::OkButJumbled;
+    Ok((p, p_inv, info))
+}
+
+/// Orders the rows of the square matrix with `n` columns whose column `j` holds the rows `a_i[a_p[j]] .. a_i[a_p[j + 1] - 1]`,
+/// by the pattern of `A + A'`, and answers the permutation, its inverse, and what is known of the matrix: row `p[k]` stands at
+/// place `k`, and `p_inv[p[k]]` is `k`.
+///
+/// `a_p` has at least `n + 1` pointers, of which the first is 0; up to `a_p[n]`, which is at most the length of `a_i`, they
+/// never descend; and the row indices before place `a_p[n]` lie in `0..n`. What stands behind is ignored. Columns may be out
+/// of order and have repeats. A sorted input is used as it is, and a jumbled one is replaced by its sorted transpose.
+///
+/// For `n = 0` two empty vectors and `Info::new(0)`, whatever the pointers are.
+///
+/// # Errors
+///
+/// `Invalid` exactly where `n` is not 0 and the input is no column form; no memory is asked before. `OutOfMemory` where an
+/// allocation was refused, or the workspace would have more than the greatest `isize` of words.
+///
+/// Source: AMD user guide; Amestoy, Davis and Duff 1996 and 2004.
+pub fn order<I: PrimInt, A: Allocator + Copy>(
+    alloc: A,
+    n: I,
+    a_p: &[I],
+    a_i: &[I],
+    control: &Control,
+) -> Result<(Vec<I, A>, Vec<I, A>, Info), Status>
+    // A number of a primitive type is always in range.
+    requires { I.fits (I.value n) }
+    ensures { MatchResult result
+        (λ a. IsOrdering (I.value n) control.now.dense (map I.value a_p.now) (map I.value a_i.now) (map I.value a.0.items) (map I.value a.1.items) a.2)
+        (λ e. IsRefusal (I.value n) (map I.value a_p.now) (map I.value a_i.now) e) }
+{
+    let Some(count) = to_count(n) else {
+        return Err(Status::Invalid);
+    };
+    if count == 0 {
+        return Ok((Vec::new(alloc), Vec::new(alloc), Info::new(0)));
+    }
+    match valid(n, n, a_p, a_i) {
+        Status::OK => order_sorted(alloc, n, a_p, a_i, control),
+        Status::OkButJumbled => order_jumbled(alloc, n, a_p, a_i, control),
+        Status::Invalid => Err(Status::Invalid),
+        Status::OutOfMemory => unreachable!(),
+    }
+}

@@ -2,7 +2,7 @@
 // later column wins over a jumbled earlier one. Called by `order`.
 
 ghost use Rattle.std.specs.Prelude.{◌≡◌, ◌<◌, ◌≤◌, length, map};
-ghost use Rattle.amd_engine.specs.Classes.{IsClass};
+ghost use Rattle.amd_engine.specs.Statuses.{IsStatusOf};
 ghost use Rattle.amd.specs.Scans.{IsColumnClass};
 
 use amd_engine::amd::Status;
@@ -32,7 +32,7 @@ fn column_class<I: PrimInt>(n_row: I, a_i: &[I], from: usize, to: usize) -> Stat
 /// `OkButJumbled` where some column is out of order or has a repeat, else `OK`. For `n_col = 0` one pointer, 0, is needed.
 /// Any arguments are allowed, and no memory is taken.
 pub fn valid<I: PrimInt>(n_row: I, n_col: I, a_p: &[I], a_i: &[I]) -> Status
-    ensures { IsClass (I.value n_row) (I.value n_col) (map I.value a_p.now) (map I.value a_i.now) result }
+    ensures { IsStatusOf (I.value n_row) (I.value n_col) (map I.value a_p.now) (map I.value a_i.now) result }
 {
     let Some(columns) = to_count(n_col) else {
         return Status::Invalid;

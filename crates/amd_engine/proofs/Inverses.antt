@@ -3,11 +3,11 @@ use Rattle.std.proofs.Common.{◌≡◌, ◌<◌, ℕ, ℤ, List, map, pos, leng
 use Rattle.std.specs.Prelude.{Contains, slice_index}
 use Rattle.std.proofs.lemmas.List.{length-map, get_or_default, get_or-map}
 use Rattle.amd_model.specs.Input.Columns.{at}
-use Rattle.amd_model.specs.Listing.{IsPermutation}
+use Rattle.amd_model.specs.Listing.{ListsEachRow}
 use Rattle.amd_model.proofs.Pigeonhole.{permutation_below}
 use Rattle.amd_engine.specs.Permutations.{AreInverse}
 
-module _ (n : ℕ) (rows : List ℕ) (listing : IsPermutation n rows) (p q : List ℤ) (listed : p ≡ map pos rows) (room : length q ≡ n)
+module _ (n : ℕ) (rows : List ℕ) (listing : ListsEachRow n rows) (p q : List ℤ) (listed : p ≡ map pos rows) (room : length q ≡ n)
     (placed : (k : ℕ) → k < n → at q (slice_index rows k) ≡ pos k) where
   -- p reads as the listing
   listed_at : (k : ℕ) → k < n → at p k ≡ pos (slice_index rows k)

@@ -1,2 +1,9 @@
 pub mod NumberReads
 pub mod Inverses
+pub mod Places
+pub mod Forms
+pub mod Scans
+pub mod Uppers
+pub mod Ends
+pub mod Arcs
+pub mod Listing

@@ -1,3 +1,7 @@
+-- What the inner parts of an ordering promise. The definitions that they cite stand in the crate amd_model.
 pub mod Records
-pub mod Classes
+pub mod Statuses
 pub mod Permutations
+pub mod Counts
+pub mod Visits
+pub mod Walk

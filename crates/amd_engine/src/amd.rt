@@ -3,6 +3,9 @@
 
 ghost use Rattle.std.specs.Prelude.{◌≡◌, ◌↔◌, pos, false, true, IsTrue};
 ghost use Rattle.amd_engine.specs.Records.{fresh_info};
+ghost use Rattle.amd_engine.specs.declared.amd.Status.TheVariants.{OutOfMemory};
+
+use std::alloc::AllocError;
 
 /// What a caller chooses.
 #[derive(Clone, Debug, Drop)]
@@ -28,7 +31,7 @@ impl Default for Control {
 /// How a call went.
 #[derive(PartialEq, Clone, Debug, Drop)]
 pub enum Status {
-    /// The input is a column form whose columns are strictly rising.
+    /// The input has no columns, or is a column form whose columns are strictly rising.
     OK,
     /// The input is no column form.
     Invalid,
@@ -36,6 +39,14 @@ pub enum Status {
     OkButJumbled,
     /// Memory was refused.
     OutOfMemory,
+}
+
+impl From<AllocError> for Status {
+    ghost from_gives = { λ _ r. r ≡ OutOfMemory };
+
+    fn from(_: AllocError) -> Status {
+        Status::OutOfMemory
+    }
 }
 
 /// What the ordering tells beside the permutations.

@@ -2,12 +2,14 @@
 // and a whole root in place of a float's. Called by every engine.
 
 ghost use Rattle.std.specs.Prelude.{◌≡◌, ◌^◌, ◌<◌, pos};
-ghost use Rattle.amd_model.specs.Input.Dense.{IsRoot, IsThreshold};
+ghost use Rattle.amd_model.specs.Input.Dense.{IsRawThreshold, IsThreshold};
+
+use crate::amd::Control;
 
 /// The greatest `d` with `(1000 d)^2 <= dense^2 n`.
 fn dense_root(n: usize, dense: u32) -> usize
     requires { dense < 2 ^ 32 }
-    ensures { IsRoot n (pos dense) result }
+    ensures { IsRawThreshold n (pos dense) result }
 {
     let dense = dense as u128;
     let square = dense * dense * (n as u128);
@@ -16,9 +18,10 @@ fn dense_root(n: usize, dense: u32) -> usize
 
 /// The threshold of a matrix with `n` rows: a row with more edges is dense. For a parameter of `dense` thousandths it is
 /// `dense / 1000 * sqrt(n)`, cut to a whole number, and for a negative one `n - 2`; raised to 16, and afterwards cut to `n`.
-pub fn dense_threshold(n: usize, dense: i32) -> usize
-    ensures { IsThreshold n dense result }
+pub fn dense_threshold(n: usize, control: &Control) -> usize
+    ensures { IsThreshold n control.now.dense result }
 {
+    let dense = control.dense;
     let root = if dense < 0 {
         n.saturating_sub(2)
     } else {

@@ -1,9 +1,11 @@
 // Reading numbers of the caller's integer type, and making them. Later proofs speak of the integers alone, and never of the
 // laws of generic numbers. Called by the walk, the engines, and every module of the crate `amd` that reads an input.
 
-ghost use Rattle.std.specs.Prelude.{◌≡◌, ◌<◌, ◌↔◌, ◌<ℤ◌, IsTrue, length, map, pos};
+ghost use Rattle.std.specs.Prelude.{◌≡◌, ◌<◌, ◌↔◌, ◌<ℤ◌, IsTrue, length, map, pos, slice_index, unsigned_abs};
+ghost use Rattle.std.specs.Int.{FitsUnsignedBits};
 ghost use Rattle.num_traits.specs.Laws.{Checks, ChecksUnsigned};
 ghost use Rattle.amd_model.specs.Input.Columns.{at};
+ghost use Rattle.amd_engine.specs.Counts.{counts};
 
 use num_traits::PrimInt;
 
@@ -46,4 +48,27 @@ pub fn from_count<I: PrimInt>(count: usize) -> Option<I>
     ensures { Checks I.value I.fits (pos count) result }
 {
     num_traits::cast::<usize, I>(count)
+}
+
+/// The count that a number is, where it is known to be one.
+#[inline]
+pub fn known_count<I: PrimInt>(number: I) -> usize
+    requires { FitsUnsignedBits 64 (I.value number) }
+    ensures { result ≡ unsigned_abs (I.value number) }
+{
+    let Some(count) = to_count(number) else {
+        unreachable!()
+    };
+    count
+}
+
+/// The count at a place, where the number there is known to be one.
+#[inline]
+pub fn count_at<I: PrimInt>(numbers: &[I], place: usize) -> usize
+    requires within { place < length numbers.now }
+    requires fits { FitsUnsignedBits 64 (at (map I.value numbers.now) place) }
+    ensures value { pos result ≡ at (map I.value numbers.now) place }
+    ensures count { result ≡ slice_index (counts (map I.value numbers.now)) place }
+{
+    known_count(value_at(numbers, place))
 }

@@ -2,7 +2,7 @@
 
 ghost use Rattle.std.specs.Prelude.{ℕ, ◌≡◌, ◌<◌, ◌<ℤ◌, IfOk, length, map, pos, slice_index};
 ghost use Rattle.amd_model.specs.Input.Columns.{at};
-ghost use Rattle.amd_model.specs.Listing.{IsPermutation};
+ghost use Rattle.amd_model.specs.Listing.{ListsEachRow};
 ghost use Rattle.amd_engine.specs.Permutations.{AreInverse};
 
 use crate::internal::from_count;
@@ -39,7 +39,7 @@ fn places_of<I: PrimInt, A: Allocator>(
     requires fits { I.fits (I.value n) }
     requires size { I.value n ≡ pos (length rows.now) }
     requires room { length any.now ≡ length rows.now }
-    requires listing { IsPermutation (length rows.now) rows.now }
+    requires listing { ListsEachRow (length rows.now) rows.now }
     ensures room { IfOk result (λ v. length v.items ≡ length rows.now) }
     ensures places { IfOk result (λ v. (k : ℕ) → k < length rows.now → at (map I.value v.items) (slice_index rows.now k) ≡ pos k) }
 {
@@ -61,7 +61,7 @@ pub fn inverse_pair<I: PrimInt, A: Allocator + Copy>(
 ) -> Result<(Vec<I, A>, Vec<I, A>), AllocError>
     requires fits { I.fits (I.value n) }
     requires size { I.value n ≡ pos (length rows.now) }
-    requires listing { IsPermutation (length rows.now) rows.now }
+    requires listing { ListsEachRow (length rows.now) rows.now }
     ensures listed { IfOk result (λ r. map I.value r.0.items ≡ map pos rows.now) }
     ensures inverse { IfOk result (λ r. AreInverse (length rows.now) (map I.value r.0.items) (map I.value r.1.items)) }
 {

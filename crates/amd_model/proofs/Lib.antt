@@ -41,3 +41,5 @@ pub mod SmallFigures
 pub mod ListCounts
 pub mod EmptyRows
 pub mod NeededColumns
+pub mod Pointers
+pub mod DegreeSums

@@ -5,7 +5,7 @@ use Rattle.std.proofs.lemmas.Bool.{cases_Bool, true≢false, cond-true, cond-fal
 use Rattle.std.proofs.lemmas.List.Sums.{sum_by-cons, sum_by-append}
 use Rattle.std.proofs.lemmas.List.Kept.{AllPairs-from_increasing}
 use Rattle.amd_model.specs.Below.{sum_below, count_below}
-use Rattle.amd_model.specs.Listing.{IsPermutation}
+use Rattle.amd_model.specs.Listing.{ListsEachRow}
 use Rattle.amd_model.proofs.BelowLemmas.{count_split}
 use Rattle.amd_model.proofs.TieSums.{sum_none}
 
@@ -93,7 +93,7 @@ count_listed n q (x ∷ xs) h =
     let sum = count_cons q x xs in omega (arith, parts, one, is, rest, less, sum)
 
 -- in a permutation no more places pass than numbers
-pub count_permuted : (n : ℕ) (q : ℕ → Bool) (p : List ℕ) → IsPermutation n p → count_by q p ≤ count_below n q
+pub count_permuted : (n : ℕ) (q : ℕ → Bool) (p : List ℕ) → ListsEachRow n p → count_by q p ≤ count_below n q
 count_permuted n q p is =
     let a = count_both q p in let b = both_below n q in let c = count_listed n (λ x. not (q x)) p (λ v l t. is.all v l) in
     let d = is.places in omega (arith, a, b, c, d)

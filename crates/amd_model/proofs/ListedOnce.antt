@@ -5,7 +5,7 @@ use Rattle.amd_model.specs.Below.{list_below, sum_below}
 use Rattle.amd_model.specs.Graph.{Graph}
 use Rattle.amd_model.specs.State.{State, Home, Last, Live, Gone, in_block, is_element}
 use Rattle.amd_model.specs.Run.{last_state}
-use Rattle.amd_model.specs.Listing.{assembly_tree, block_list, roots, ListsTrees, none, more, IsPostorder, IsPermutation}
+use Rattle.amd_model.specs.Listing.{assembly_tree, block_list, roots, ListsTrees, none, more, IsPostorder, ListsEachRow}
 use Rattle.amd_model.specs.Laws.{OfEachListing}
 use Rattle.amd_model.proofs.BelowLemmas.{term_le_sum}
 use Rattle.amd_model.proofs.StateLemmas.{live_from, block_from}
@@ -111,12 +111,12 @@ module _ (g : Graph) (dense : ℕ → Bool) (s : State) (end : IsEnd g dense s) 
         (trees_distinct (roots_level g s tree outside_last) post.lists) (distinct_below g.size dense)
         (λ u b d. let r = block_home u b in let k = has_below g.size dense u d in let last = end.made.dense_last u k.0 k.1 in let gone = r.1 in absurd (cc)))
 
-    pub listing_permutes : IsPermutation g.size p
+    pub listing_permutes : ListsEachRow g.size p
     listing_permutes = record {
       places = length_once g.size p listing_distinct listed_small each_listed;
       all = λ v l. let r = place_of p v (each_listed v l) in (r.0, r.1, r.2 v);
     }
 
-pub listings_are_permutations : OfEachListing (λ g dense s p. IsPermutation g.size p)
+pub listings_are_permutations : OfEachListing (λ g dense s p. ListsEachRow g.size p)
 listings_are_permutations g dense aggressive first states laws run p post =
     listing_permutes g dense (last_state first states) (at_the_end g dense aggressive first states laws run) p post

@@ -12,7 +12,7 @@ use Rattle.amd_model.specs.Graph.{Graph, degree}
 use Rattle.amd_model.specs.State.{State, Home, Last, Live, Gone, in_block, is_element}
 use Rattle.amd_model.specs.Run.{last_state}
 use Rattle.amd_model.specs.Reach.{Reach}
-use Rattle.amd_model.specs.Listing.{IsPostorder, IsPermutation}
+use Rattle.amd_model.specs.Listing.{IsPostorder, ListsEachRow}
 use Rattle.amd_model.specs.Factor.{before, IsColumn, IsFactor, needed, needed_front}
 use Rattle.amd_model.specs.Figures.{front_sum, is_made, figure, entries, ldl_steps, lu_steps, greatest_front}
 use Rattle.amd_model.specs.Laws.{is_last, ColumnsInside, EmptyColumns, Covers, OfEachListing}
@@ -55,7 +55,7 @@ later_row ps rest v j l w =
     (i, is, omega (arith, long, w, is), ap (slice_index (ps ++ v ∷ rest)) at ∙ get_or-append-add ps (v ∷ rest) (suc i) 0)
 
 module _ (g : Graph) (dense : ℕ → Bool) (s : State) (end : IsEnd g dense s) (busy : IsBusy g s) (p : List ℕ) (post : IsPostorder g dense s p)
-    (inside : ColumnsInside g s p) (empty : EmptyColumns g p) (permutes : IsPermutation g.size p) where
+    (inside : ColumnsInside g s p) (empty : EmptyColumns g p) (permutes : ListsEachRow g.size p) where
   dense_count : ℕ
   dense_count = count_below g.size dense
 
@@ -317,7 +317,7 @@ figures_cover g dense aggressive first states laws run p post =
     let busy : IsBusy g s = busy_at_the_end g laws dense aggressive first states run.start run.steps in
     let inside : ColumnsInside g s p = columns_inside g dense aggressive first states laws run p post in
     let empty : EmptyColumns g p = empty_columns g dense aggressive first states laws run p post in
-    let permutes : IsPermutation g.size p = listings_are_permutations g dense aggressive first states laws run p post in
+    let permutes : ListsEachRow g.size p = listings_are_permutations g dense aggressive first states laws run p post in
     let factor : IsFactor g p (columns g p) = factor_of g p laws in
     record {
       columns = columns g p;

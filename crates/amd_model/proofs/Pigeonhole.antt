@@ -1,11 +1,11 @@
 -- A list of n places that names each number below n names each once, and nothing else.
-use Rattle.std.proofs.Common.{ℕ, zero, suc, Bool, true, false, ◌≡◌, ◌≢◌, ◌<◌, ◌≤◌, ◌+◌, cond, inl, inr, refl, sym, ◌∙◌, ap, arith}
+use Rattle.std.proofs.Common.{ℕ, zero, suc, Bool, true, false, ◌≡◌, ◌≢◌, ◌<◌, ◌≤◌, ◌+◌, ◌||◌, cond, inl, inr, refl, sym, ◌∙◌, ap, subst, arith}
 use Rattle.std.specs.Prelude.{◌==◌, nat_lt, List, length, slice_index, slice_index_or, Contains}
 use Rattle.std.proofs.lemmas.List.{get_or_default}
-use Rattle.std.proofs.lemmas.Bool.{cases_Bool, cases_eq, cases_lt, eq-eqb, ne_eqb, lt-ltb, le-ltb, ltb-true}
+use Rattle.std.proofs.lemmas.Bool.{cases_Bool, cases_eq, cases_lt, eq-eqb, ne_eqb, lt-ltb, le-ltb, ltb-true, eqb-true, true≢false}
 use Rattle.amd_model.specs.Below.{sum_below, count_below}
-use Rattle.amd_model.specs.Listing.{IsPermutation}
-use Rattle.amd_model.proofs.BelowLemmas.{sum_plus, sum_same, count_pos}
+use Rattle.amd_model.specs.Listing.{ListsEachRow}
+use Rattle.amd_model.proofs.BelowLemmas.{sum_plus, sum_same, sum_mono, term_le_sum, count_pos}
 
 -- 1 for true, 0 for false
 abbrev counted : Bool → ℕ
@@ -43,7 +43,8 @@ count_equal (suc n) r =
           let k : counted (nat_lt r (suc n)) ≡ counted (nat_lt r n) = ap counted same in omega (arith, e, h, k))
     ]
 
-count_most : (n : ℕ) (p : ℕ → Bool) → count_below n p ≤ n
+-- at most n of n numbers pass
+pub count_most : (n : ℕ) (p : ℕ → Bool) → count_below n p ≤ n
 unfolding sum_below count_below
 count_most zero p = omega arith
 count_most (suc n) p = let e : count_below n p ≤ n = count_most n p in elim (cases_Bool (p n)) [
@@ -85,7 +86,7 @@ sum_excess (suc n) f each v h = elim (cases_eq v n) [
     ones zero k = omega arith
     ones (suc m) k = let a = ones m (λ u l. k u (omega arith)) in let b = k m (omega arith) in omega (arith, a, b)
 
-module _ (n : ℕ) (p : List ℕ) (listing : IsPermutation n p) where
+module _ (n : ℕ) (p : List ℕ) (listing : ListsEachRow n p) where
   -- how often v stands in p
   times : ℕ → ℕ
   times v = count_below n (λ k. slice_index p k == v)

@@ -3,7 +3,7 @@ use Rattle.std.proofs.Common.{ℕ, zero, suc, Bool, true, false, ◌≡◌, ◌<
 use Rattle.std.specs.Prelude.{◌==◌, nat_lt}
 use Rattle.std.proofs.lemmas.Bool.{cases_Bool, cases_eq, cases_lt, false≢true, cond-true, cond-false, and_from, and_parts, eqb-true, eq-eqb, ne_eqb, not_from_false, not-true, or_cases, or_parts, or_from, or_left, or_right, lt-ltb, ltb-true}
 use Rattle.amd_model.specs.Below.{count_below, sum_below, list_below}
-use Rattle.amd_model.specs.Graph.{Graph, IsGraph, degree, is_empty_row}
+use Rattle.amd_model.specs.Graph.{Graph, IsGraph, degree}
 use Rattle.amd_model.specs.State.{State, Last, Live, Gone, in_class, is_class, holds, neighbours, IsStart}
 use Rattle.amd_model.specs.Tie.{Tie, Fits, Once, has, start_tie}
 use Rattle.amd_model.specs.TieLaws.{NamesNeighbours, StartFits}
@@ -67,20 +67,17 @@ once_below (suc n) p = once_append (list_below n p) (cond (p n) (n ∷ []) []) (
 module _ (g : Graph) (dense : ℕ → Bool) (s : State) (lists : ℕ → List ℕ) (laws : IsGraph g) (start : IsStart g dense s)
     (names : (i : ℕ) → s.home i ≡ Live i → NamesNeighbours g i (lists i)) where
   -- a live row is below the size, not dense, and has an edge
-  live_row : (i : ℕ) → s.home i ≡ Live i → (i < g.size) × (dense i ≡ false) × (is_empty_row g i ≡ false)
-  unfolding is_empty_row
+  live_row : (i : ℕ) → s.home i ≡ Live i → (i < g.size) × (dense i ≡ false) × ((degree g i == 0) ≡ false)
   live_row i h = let l = live_small g laws s (start_sound g laws dense s start) i i h in let d = light l in (l, d, ne_eqb (degree g i) 0 (λ z. let k = start.empty i l d z in cc))
     where
       light : i < g.size → dense i ≡ false
       light l = elim (cases_Bool (dense i)) [ inr n ↦ n | inl y ↦ absurd (let k = start.last i l y in cc) ]
 
-  row_live : (i : ℕ) → i < g.size → dense i ≡ false → is_empty_row g i ≡ false → s.home i ≡ Live i
-  unfolding is_empty_row
+  row_live : (i : ℕ) → i < g.size → dense i ≡ false → (degree g i == 0) ≡ false → s.home i ≡ Live i
   row_live i l d e = start.alone i l d (elim (cases_eq (degree g i) 0) [ inl z ↦ clash (eq-eqb (degree g i) 0 z) e | inr nz ↦ omega (arith, nz) ])
 
   -- both ends of an edge have an edge
-  edge_rows : (i j : ℕ) → g.edge i j ≡ true → (j < g.size) × (is_empty_row g j ≡ false)
-  unfolding is_empty_row
+  edge_rows : (i j : ℕ) → g.edge i j ≡ true → (j < g.size) × ((degree g j == 0) ≡ false)
   edge_rows i j e = let back = laws.symmetric j i ∙ e in let l = small j i back in
       (l, ne_eqb (degree g j) 0 (λ z. no_edge g laws dense s start j i z back))
     where
@@ -95,11 +92,11 @@ module _ (g : Graph) (dense : ℕ → Bool) (s : State) (lists : ℕ → List �
 
   start_placed : (i : ℕ) → has t.placed i ≡ is_class s i
   unfolding t start_tie
-  start_placed i = has_below g.size (λ v. not (dense v || is_empty_row g v)) i ∙ same_bool (nat_lt i g.size && not (dense i || is_empty_row g i)) (is_class s i)
-      (λ h. let q = and_parts (nat_lt i g.size) (not (dense i || is_empty_row g i)) h in let r = or_parts (dense i) (is_empty_row g i) (not-true (dense i || is_empty_row g i) q.1) in
+  start_placed i = has_below g.size (λ v. not (dense v || (degree g v == 0))) i ∙ same_bool (nat_lt i g.size && not (dense i || (degree g i == 0))) (is_class s i)
+      (λ h. let q = and_parts (nat_lt i g.size) (not (dense i || (degree g i == 0))) h in let r = or_parts (dense i) ((degree g i == 0)) (not-true (dense i || (degree g i == 0)) q.1) in
       class_from i (s.home i) (row_live i (ltb-true i g.size q.0) r.0 r.1))
       (λ h. let r = live_row i (class_gives i (s.home i) h) in
-      and_from (nat_lt i g.size) (not (dense i || is_empty_row g i)) (lt-ltb i g.size r.0) (not_from_false (dense i || is_empty_row g i) (or_from (dense i) (is_empty_row g i) r.1 r.2)))
+      and_from (nat_lt i g.size) (not (dense i || (degree g i == 0))) (lt-ltb i g.size r.0) (not_from_false (dense i || (degree g i == 0)) (or_from (dense i) ((degree g i == 0)) r.1 r.2)))
 
   start_variables : (i j : ℕ) → s.home i ≡ Live i → has (t.variables i) j ≡ neighbours g s i j
   unfolding t start_tie
@@ -123,7 +120,7 @@ module _ (g : Graph) (dense : ℕ → Bool) (s : State) (lists : ℕ → List �
       (λ h. eq-eqb i v (sym (own g laws dense s start v i (class_gives i (s.home v) h)))))
 
   start_home : (v : ℕ) → t.home v ≡ s.home v
-  unfolding t start_tie is_empty_row
+  unfolding t start_tie
   start_home v = elim (cases_Bool (dense v || not (nat_lt v g.size))) [
     | inl y ↦ cond-true (dense v || not (nat_lt v g.size)) Last _ y ∙ sym (elim (cases_lt v g.size) [
       | inr l ↦ start.outside v l
@@ -163,7 +160,7 @@ module _ (g : Graph) (dense : ℕ → Bool) (s : State) (lists : ℕ → List �
     variables = start_variables;
     elements = λ i e h. start_elements i e;
     members = start_members;
-    placed_once = once_below g.size (λ v. not (dense v || is_empty_row g v));
+    placed_once = once_below g.size (λ v. not (dense v || (degree g v == 0)));
     variables_once = start_variables_once;
     elements_once = λ i h. tt;
     members_once = λ e. tt;

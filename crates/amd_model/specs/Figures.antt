@@ -13,7 +13,8 @@ front_sum share f r = sum_below f (λ j. share (r + j))
 unfoldable pub is_made : Graph → State → ℕ → Bool
 is_made g s e = is_element s e && nat_lt 0 (degree g e)
 
--- the figure of the elements of a state: one front for each that was made, and one for the dense rows
+-- the figure of the elements of a state: one front for each that was made, and one for the dense rows; the rows outside a
+-- front are those of its border and the dense rows
 unfoldable pub figure : (ℕ → ℕ) → Graph → (ℕ → Bool) → State → ℕ
 figure share g dense s =
     sum_below g.size (λ e. cond (is_made g s e) (front_sum share (count_below g.size (in_block s e)) (count_below g.size (s.border e) + count_below g.size dense)) 0)
@@ -42,6 +43,6 @@ greatest_front g dense s =
     max_below g.size (is_made g s) (λ e. count_below g.size (in_block s e) + (count_below g.size (s.border e) + count_below g.size dense))
     (max 1 (count_below g.size dense))
 
--- the lesser of a sum and the greatest number of 64 bits
+-- what a field of 64 bits holds of a figure: the lesser of it and the greatest such number
 unfoldable pub cut : ℕ → ℕ
 cut x = min x 18446744073709551615

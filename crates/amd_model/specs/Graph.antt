@@ -1,5 +1,5 @@
 -- Graphs of rows: rows are numbers below a size, and an edge joins two different rows. Source: George and Liu 1981.
-use Rattle.std.specs.Prelude.{ℕ, Bool, false, ◌≡◌, ◌≤◌, ◌==◌}
+use Rattle.std.specs.Prelude.{ℕ, Bool, false, ◌≡◌, ◌≤◌}
 use Rattle.amd_model.specs.Below.{count_below, sum_below}
 
 pub record Graph : Type 0 where
@@ -15,10 +15,6 @@ pub record IsGraph (g : Graph) : Type 0 where
 -- the number of edges of a row
 unfoldable pub degree : Graph → ℕ → ℕ
 degree g v = count_below g.size (g.edge v)
-
--- a row with no edge
-unfoldable pub is_empty_row : Graph → ℕ → Bool
-is_empty_row g v = degree g v == 0
 
 -- the number of edges, each counted at the greater one of its rows
 unfoldable pub edge_count : Graph → ℕ

@@ -1,4 +1,5 @@
 -- The laws of eliminations, in the words of the field. They hold for every permitted choice of pivot and representative.
+-- No statement here is a law by itself: each is the contract of a function in src/, where it is proved.
 -- Source: Amestoy, Davis and Duff 1996, 2004; George and Liu 1981.
 use Rattle.std.specs.Prelude.{ℕ, Bool, true, false, List, Some, ◌≡◌, ◌≤◌, ◌<◌, ◌↔◌, ◌⊎◌, ◌+◌, ◌*◌, ◌-◌, ◌/◌, ◌&&◌, length, slice_index}
 use Rattle.amd_model.specs.Below.{any_below, count_below}
@@ -26,6 +27,7 @@ front_size g s c = count_below g.size (front g s c)
 unfoldable pub holders : Graph → State → ℕ → ℕ
 holders g s c = count_below g.size (λ e. holds g s e c)
 
+-- the row is held last
 unfoldable pub is_last : Home → Bool
 is_last Last = true
 is_last (Live c) = false

@@ -1,4 +1,5 @@
 -- The definitions of an approximate minimum degree ordering, in an order in which they can be read.
+-- Words and notation: docs/ARCHITECTURE.md, "The elimination in words". Full titles of the sources: README.md.
 pub mod Below
 pub mod Graph
 pub mod Input

@@ -12,10 +12,12 @@ pub record Tree : Type 0 where
   pub weight : ℕ → ℕ
   pub block : ℕ → List ℕ
 
+-- the parent is e
 unfoldable pub is_some_of : ℕ → Option ℕ → Bool
 is_some_of e None = false
 is_some_of e (Some p) = p == e
 
+-- k is a child of e
 unfoldable pub is_child : Tree → ℕ → ℕ → Bool
 is_child t e k = t.is_node k && is_some_of e (t.parent k)
 
@@ -61,7 +63,7 @@ pub record IsPostorder (g : Graph) (dense : ℕ → Bool) (s : State) (p : List 
   pub lists : ListsTrees (assembly_tree g s) (roots (assembly_tree g s)) blocks
   pub is : p ≡ blocks ++ list_below g.size dense
 
--- p names each number below n, and has n places
-pub record IsPermutation (n : ℕ) (p : List ℕ) : Type 0 where
+-- p names each number below n, and has n places: a permutation of the rows
+pub record ListsEachRow (n : ℕ) (p : List ℕ) : Type 0 where
   pub places : length p ≡ n
   pub all : (v : ℕ) → v < n → Contains p v

@@ -9,6 +9,7 @@ abbrev pub Steps : Graph → Bool → State → List State → Type 0
 Steps g aggressive s [] = Unit {0}
 Steps g aggressive s (t ∷ rest) = Step g aggressive s t × Steps g aggressive t rest
 
+-- the state that the steps lead to
 abbrev pub last_state : State → List State → State
 last_state s [] = s
 last_state s (t ∷ rest) = last_state t rest

@@ -1,5 +1,7 @@
 -- The state of an elimination with element absorption: where each row is, the bound of each class, and the border and the
 -- parent of each element. A class (a supervariable) is named by its representative, and an element by its pivot row.
+-- A pivot leaves an element behind: its block, the rows eliminated with it, and its border, the live rows that they reached.
+-- A state is four functions of a row; a bound, border or parent at a number that names no class or element means nothing.
 -- Source: Amestoy, Davis and Duff 1996 (quotient graph, elements, supervariables).
 use Rattle.std.specs.Prelude.{ℕ, Bool, true, false, Option, None, ◌==◌, ◌&&◌, ◌||◌, not, is_none, ◌≡◌, ◌≤◌, ◌<◌}
 use Rattle.amd_model.specs.Below.{any_below, all_below}
@@ -17,6 +19,7 @@ pub record State : Type 0 where
   pub border : ℕ → ℕ → Bool
   pub parent : ℕ → Option ℕ
 
+-- the same of one place: live, eliminated, in the class c, in the block of e
 unfoldable pub live_at : Home → Bool
 live_at Last = false
 live_at (Live c) = true
@@ -62,7 +65,7 @@ is_element s e = in_block s e e
 unfoldable pub stands : Graph → State → ℕ → Bool
 stands g s e = is_element s e && is_none (s.parent e) && any_below g.size (s.border e)
 
--- each number that passes p passes q
+-- each row that passes p passes q
 unfoldable pub inside : Graph → (ℕ → Bool) → (ℕ → Bool) → Bool
 inside g p q = all_below g.size (λ v. not (p v) || q v)
 
@@ -79,7 +82,8 @@ unfoldable pub neighbours : Graph → State → ℕ → ℕ → Bool
 neighbours g s c d = is_class s c && is_class s d && not (c == d) && joined g s c d
     && not (any_below g.size (λ e. holds g s e c && holds g s e d))
 
--- L(c): the borders of the standing elements that hold c and its direct neighbours, without the rows of c
+-- the front of a class, L(c): the borders of the standing elements that hold it and the rows of its direct neighbours, without
+-- its own rows. (The front whose columns a figure counts is another thing: a block, its border, and the rows held last.)
 unfoldable pub front : Graph → State → ℕ → ℕ → Bool
 front g s c v = not (in_class s c v)
     && (any_below g.size (λ e. holds g s e c && s.border e v) || any_below g.size (λ d. neighbours g s c d && in_class s d v))
@@ -89,6 +93,7 @@ pub record IsStart (g : Graph) (dense : ℕ → Bool) (s : State) : Type 0 where
   pub last : (v : ℕ) → v < g.size → dense v ≡ true → s.home v ≡ Last
   pub empty : (v : ℕ) → v < g.size → dense v ≡ false → degree g v ≡ 0 → s.home v ≡ Gone v
   pub alone : (v : ℕ) → v < g.size → dense v ≡ false → 0 < degree g v → s.home v ≡ Live v
+  -- numbers that name no row count as held last
   pub outside : (v : ℕ) → g.size ≤ v → s.home v ≡ Last
   pub bounds : (v : ℕ) → s.home v ≡ Live v → s.bound v ≡ degree g v
   pub borders : (e v : ℕ) → s.border e v ≡ false

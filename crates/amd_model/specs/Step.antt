@@ -1,16 +1,19 @@
 -- One step of the elimination, as a relation: any class of least bound may be the pivot, and any class that goes into a
--- merged one may represent it. Source: Amestoy, Davis and Duff 1996 (absorption, mass elimination, approximate degree), 2004.
+-- merged one may represent it. In comments c is the pivot, L its front, P the block and S the border of the new element, and
+-- others are the elements that stand beside it.
+-- Source: Amestoy, Davis and Duff 1996 and 2004 (absorption, mass elimination, approximate degree).
 use Rattle.std.specs.Prelude.{ℕ, Bool, true, false, None, Some, ◌==◌, ◌&&◌, ◌||◌, not, ◌≡◌, ◌≤◌, ◌<◌, ◌+◌, ◌-◌, min, cond}
 use Rattle.amd_model.specs.Below.{any_below, count_below, sum_below}
 use Rattle.amd_model.specs.Graph.{Graph}
 use Rattle.amd_model.specs.State.{State, Live, Gone, live, in_class, is_class, stands, inside, holds, neighbours, front}
 
 -- The parts of a step from the state s with the pivot c.
--- the elements that the new one absorbs
+
+-- the elements that the new one absorbs: those that hold c and, if aggressive, those whose border lies inside the front of c
 unfoldable pub absorbed : Graph → Bool → State → ℕ → ℕ → Bool
 absorbed g aggressive s c e = holds g s e c || (aggressive && stands g s e && inside g (s.border e) (front g s c))
 
--- the elements that still stand
+-- the others: the elements that still stand beside the new one
 unfoldable pub other : Graph → Bool → State → ℕ → ℕ → Bool
 other g aggressive s c e = stands g s e && not (absorbed g aggressive s c e)
 
@@ -40,12 +43,14 @@ pub record Alike (g : Graph) (aggressive : Bool) (s : State) (c x y : ℕ) : Typ
 unfoldable pub beyond : Graph → State → ℕ → ℕ → ℕ
 beyond g s c e = count_below g.size (λ v. s.border e v && not (front g s c v))
 
--- outside(i), of the class i of the new state
+-- of the class i of the new state: the rows outside L of the borders of the others that hold it, and the rows of its direct
+-- neighbours outside L and c
 unfoldable pub outside : Graph → Bool → State → State → ℕ → ℕ → ℕ
 outside g aggressive old new c i =
     sum_below g.size (λ e. cond (other g aggressive old c e && holds g new e i) (beyond g old c e) 0)
     + count_below g.size (λ v. any_below g.size (λ d. outer g old c i d && in_class old d v))
 
+-- min(min(old bound, outside) + |S| - |class|, rows still live - |class|)
 unfoldable pub new_bound : Graph → Bool → State → State → ℕ → ℕ → ℕ
 new_bound g aggressive old new c i =
     min (min (old.bound i) (outside g aggressive old new c i) + (count_below g.size (border_of g aggressive old c) - count_below g.size (in_class new i)))
@@ -75,5 +80,6 @@ pub record StepAt (g : Graph) (aggressive : Bool) (c : ℕ) (old new : State) : 
   pub bounds : (i : ℕ) → is_class new i ≡ true → border_of g aggressive old c i ≡ true → new.bound i ≡ new_bound g aggressive old new c i
   pub bound_stays : (i : ℕ) → is_class new i ≡ true → border_of g aggressive old c i ≡ false → new.bound i ≡ old.bound i
 
+-- a step with some pivot
 abbrev pub Step : Graph → Bool → State → State → Type 0
 Step g aggressive old new = (c : ℕ) × StepAt g aggressive c old new

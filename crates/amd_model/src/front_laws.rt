@@ -1,4 +1,5 @@
 // Laws on fronts, true degrees and bounds, in each state of an elimination. Source: Amestoy, Davis and Duff 1996.
+// Called by: nobody, the contracts are the laws.
 
 ghost use Rattle.amd_model.specs.Laws.{InEachState, FrontsArePaths, BoundsMeetDegrees, ClassesAreWhole};
 

@@ -1,8 +1,8 @@
-// Laws on the last state of an elimination and on its listing: the elimination tree of the blocks, and the columns of the factor.
+// Laws on the last state of an elimination and on its listing: the assembly tree, and the columns of the factor.
 // Source: Amestoy, Davis and Duff 2004; George and Liu 1981. Called by: nobody, the contracts are the laws.
 
 ghost use Rattle.amd_model.specs.Laws.{AtTheEnd, OfEachListing, EdgesFollowTree, ColumnsInside, EmptyColumns};
-ghost use Rattle.amd_model.specs.Listing.{IsPermutation};
+ghost use Rattle.amd_model.specs.Listing.{ListsEachRow};
 
 /// An edge between rows that are not dense joins rows of one block, or of two blocks on one way up the tree.
 pub fn law_edges_follow_tree()
@@ -11,7 +11,7 @@ pub fn law_edges_follow_tree()
 
 /// Each listing of the blocks in postorder, with the dense rows at the end, names each row once.
 pub fn law_listings_are_permutations()
-    ensures { OfEachListing (λ g dense s p. IsPermutation g.size p) }
+    ensures { OfEachListing (λ g dense s p. ListsEachRow g.size p) }
 {}
 
 /// The column of a row lies in the later rows of its block, on the border of its element, and in the dense rows.

@@ -1,7 +1,7 @@
 -- The elimination of the graph cycle, evaluated.
 use Rattle.std.proofs.Common.{true, ◌≡◌, refl, [], ◌∷◌, map}
 use Rattle.amd_model.specs.Below.{any_below, all_below, sum_below, count_below, list_below}
-use Rattle.amd_model.specs.Graph.{degree, is_empty_row}
+use Rattle.amd_model.specs.Graph.{degree}
 use Rattle.amd_model.specs.State.{live_at, class_at, block_at, stands, inside, holds, joined, neighbours, front}
 use Rattle.amd_model.specs.Step.{absorbed, other, outer, mass, block, border_of, beyond, outside, new_bound}
 use Rattle.amd_model.specs.Run.{Run}
@@ -55,18 +55,18 @@ unfolding any_below list_below is_pair holds_row was_read met_below met_at met_e
 lists = refl
 
 pub first_pivot : pivot cycle_tie.bound cycle_tie.placed ≡ 3
-unfolding any_below list_below sum_below count_below graph_of is_pair holds_row degree is_empty_row has each is_empty turned last_that add_new was_read met_below met_at met_edges other_end starting_list start_tie pivot gathered takes kept_elements kept_variables done rest alike represents made ends new_size far left next_bound new_home round next after_rounds
+unfolding any_below list_below sum_below count_below graph_of is_pair holds_row degree has each is_empty turned last_that add_new was_read met_below met_at met_edges other_end starting_list start_tie pivot gathered takes kept_elements kept_variables done rest alike represents made ends new_size far left next_bound new_home round next after_rounds
 first_pivot = refl
 
 pub second_pivot : pivot (next true cycle_tie).bound (next true cycle_tie).placed ≡ 2
-unfolding any_below list_below sum_below count_below graph_of is_pair holds_row degree is_empty_row has each is_empty turned last_that add_new was_read met_below met_at met_edges other_end starting_list start_tie pivot gathered takes kept_elements kept_variables done rest alike represents made ends new_size far left next_bound new_home round next after_rounds
+unfolding any_below list_below sum_below count_below graph_of is_pair holds_row degree has each is_empty turned last_that add_new was_read met_below met_at met_edges other_end starting_list start_tie pivot gathered takes kept_elements kept_variables done rest alike represents made ends new_size far left next_bound new_home round next after_rounds
 second_pivot = refl
 
 pub fits : Fits cycle cycle_tie at_start
 fits = start_fits cycle none_dense at_start (starting_list 4 (is_pair 4 pointers rows)) (pattern_graph 4 pointers rows) run.start (λ i h. starting_lists 4 pointers rows i)
 
 pub homes : map (after_rounds 4 true cycle_tie).home (0 ∷ 1 ∷ 2 ∷ 3 ∷ []) ≡ two_table.homes
-unfolding any_below list_below sum_below count_below graph_of is_pair holds_row degree is_empty_row has each is_empty turned last_that add_new was_read met_below met_at met_edges other_end starting_list start_tie pivot gathered takes kept_elements kept_variables done rest alike represents made ends new_size far left next_bound new_home round next after_rounds
+unfolding any_below list_below sum_below count_below graph_of is_pair holds_row degree has each is_empty turned last_that add_new was_read met_below met_at met_edges other_end starting_list start_tie pivot gathered takes kept_elements kept_variables done rest alike represents made ends new_size far left next_bound new_home round next after_rounds
 homes = refl
 
 pub first_front : list_below 4 (front cycle at_start 3) ≡ 0 ∷ 2 ∷ []

@@ -1,7 +1,7 @@
 -- The elimination of the graph eleven, evaluated.
 use Rattle.std.proofs.Common.{true, false, ◌≡◌, refl, [], ◌∷◌, map}
 use Rattle.amd_model.specs.Below.{any_below, all_below, sum_below, count_below, list_below}
-use Rattle.amd_model.specs.Graph.{degree, is_empty_row, edge_count, degree_sum}
+use Rattle.amd_model.specs.Graph.{degree, edge_count, degree_sum}
 use Rattle.amd_model.specs.State.{live_at, class_at, block_at, stands, inside, holds, joined, neighbours, front}
 use Rattle.amd_model.specs.Step.{absorbed, other, outer, mass, block, border_of, beyond, outside, new_bound}
 use Rattle.amd_model.specs.Run.{Run}
@@ -55,30 +55,30 @@ unfolding any_below list_below is_pair holds_row was_read met_below met_at met_e
 lists = refl
 
 pub first_pivot : pivot eleven_tie.bound eleven_tie.placed ≡ 10
-unfolding any_below list_below sum_below count_below graph_of is_pair holds_row degree is_empty_row has each is_empty turned last_that add_new was_read met_below met_at met_edges other_end starting_list start_tie pivot gathered takes kept_elements kept_variables done rest alike represents made ends new_size far left next_bound new_home round next after_rounds
+unfolding any_below list_below sum_below count_below graph_of is_pair holds_row degree has each is_empty turned last_that add_new was_read met_below met_at met_edges other_end starting_list start_tie pivot gathered takes kept_elements kept_variables done rest alike represents made ends new_size far left next_bound new_home round next after_rounds
 first_pivot = refl
 
 pub second_pivot : pivot (next true eleven_tie).bound (next true eleven_tie).placed ≡ 6
-unfolding any_below list_below sum_below count_below graph_of is_pair holds_row degree is_empty_row has each is_empty turned last_that add_new was_read met_below met_at met_edges other_end starting_list start_tie pivot gathered takes kept_elements kept_variables done rest alike represents made ends new_size far left next_bound new_home round next after_rounds
+unfolding any_below list_below sum_below count_below graph_of is_pair holds_row degree has each is_empty turned last_that add_new was_read met_below met_at met_edges other_end starting_list start_tie pivot gathered takes kept_elements kept_variables done rest alike represents made ends new_size far left next_bound new_home round next after_rounds
 second_pivot = refl
 
 pub third_pivot : pivot (next true (next true eleven_tie)).bound (next true (next true eleven_tie)).placed ≡ 5
-unfolding any_below list_below sum_below count_below graph_of is_pair holds_row degree is_empty_row has each is_empty turned last_that add_new was_read met_below met_at met_edges other_end starting_list start_tie pivot gathered takes kept_elements kept_variables done rest alike represents made ends new_size far left next_bound new_home round next after_rounds
+unfolding any_below list_below sum_below count_below graph_of is_pair holds_row degree has each is_empty turned last_that add_new was_read met_below met_at met_edges other_end starting_list start_tie pivot gathered takes kept_elements kept_variables done rest alike represents made ends new_size far left next_bound new_home round next after_rounds
 third_pivot = refl
 
 pub fourth_pivot : pivot (next true (next true (next true eleven_tie))).bound (next true (next true (next true eleven_tie))).placed ≡ 3
-unfolding any_below list_below sum_below count_below graph_of is_pair holds_row degree is_empty_row has each is_empty turned last_that add_new was_read met_below met_at met_edges other_end starting_list start_tie pivot gathered takes kept_elements kept_variables done rest alike represents made ends new_size far left next_bound new_home round next after_rounds
+unfolding any_below list_below sum_below count_below graph_of is_pair holds_row degree has each is_empty turned last_that add_new was_read met_below met_at met_edges other_end starting_list start_tie pivot gathered takes kept_elements kept_variables done rest alike represents made ends new_size far left next_bound new_home round next after_rounds
 fourth_pivot = refl
 
 pub fifth_pivot : pivot (next true (next true (next true (next true eleven_tie)))).bound (next true (next true (next true (next true eleven_tie)))).placed ≡ 4
-unfolding any_below list_below sum_below count_below graph_of is_pair holds_row degree is_empty_row has each is_empty turned last_that add_new was_read met_below met_at met_edges other_end starting_list start_tie pivot gathered takes kept_elements kept_variables done rest alike represents made ends new_size far left next_bound new_home round next after_rounds
+unfolding any_below list_below sum_below count_below graph_of is_pair holds_row degree has each is_empty turned last_that add_new was_read met_below met_at met_edges other_end starting_list start_tie pivot gathered takes kept_elements kept_variables done rest alike represents made ends new_size far left next_bound new_home round next after_rounds
 fifth_pivot = refl
 
 pub fits : Fits eleven eleven_tie at_start
 fits = start_fits eleven row_one at_start (starting_list 11 (is_pair 11 pointers rows)) (pattern_graph 11 pointers rows) run.start (λ i h. starting_lists 11 pointers rows i)
 
 pub homes : map (after_rounds 11 true eleven_tie).home (0 ∷ 1 ∷ 2 ∷ 3 ∷ 4 ∷ 5 ∷ 6 ∷ 7 ∷ 8 ∷ 9 ∷ 10 ∷ []) ≡ five_table.homes
-unfolding any_below list_below sum_below count_below graph_of is_pair holds_row degree is_empty_row has each is_empty turned last_that add_new was_read met_below met_at met_edges other_end starting_list start_tie pivot gathered takes kept_elements kept_variables done rest alike represents made ends new_size far left next_bound new_home round next after_rounds
+unfolding any_below list_below sum_below count_below graph_of is_pair holds_row degree has each is_empty turned last_that add_new was_read met_below met_at met_edges other_end starting_list start_tie pivot gathered takes kept_elements kept_variables done rest alike represents made ends new_size far left next_bound new_home round next after_rounds
 homes = refl
 
 pub second_border : list_below 11 (border_of eleven true after_one 6) ≡ 2 ∷ 3 ∷ 9 ∷ []

@@ -1,7 +1,7 @@
 -- The elimination of the graph seven, evaluated.
 use Rattle.std.proofs.Common.{true, ◌≡◌, refl, [], ◌∷◌, map}
 use Rattle.amd_model.specs.Below.{any_below, all_below, sum_below, count_below, list_below}
-use Rattle.amd_model.specs.Graph.{degree, is_empty_row}
+use Rattle.amd_model.specs.Graph.{degree}
 use Rattle.amd_model.specs.State.{live_at, class_at, block_at, stands, inside, holds, joined, neighbours, front}
 use Rattle.amd_model.specs.Step.{absorbed, other, outer, mass, block, border_of, beyond, outside, new_bound}
 use Rattle.amd_model.specs.Run.{Run}
@@ -55,22 +55,22 @@ unfolding any_below list_below is_pair holds_row was_read met_below met_at met_e
 lists = refl
 
 pub first_pivot : pivot seven_tie.bound seven_tie.placed ≡ 0
-unfolding any_below list_below sum_below count_below graph_of is_pair holds_row degree is_empty_row has each is_empty turned last_that add_new was_read met_below met_at met_edges other_end starting_list start_tie pivot gathered takes kept_elements kept_variables done rest alike represents made ends new_size far left next_bound new_home round next after_rounds
+unfolding any_below list_below sum_below count_below graph_of is_pair holds_row degree has each is_empty turned last_that add_new was_read met_below met_at met_edges other_end starting_list start_tie pivot gathered takes kept_elements kept_variables done rest alike represents made ends new_size far left next_bound new_home round next after_rounds
 first_pivot = refl
 
 pub second_pivot : pivot (next true seven_tie).bound (next true seven_tie).placed ≡ 6
-unfolding any_below list_below sum_below count_below graph_of is_pair holds_row degree is_empty_row has each is_empty turned last_that add_new was_read met_below met_at met_edges other_end starting_list start_tie pivot gathered takes kept_elements kept_variables done rest alike represents made ends new_size far left next_bound new_home round next after_rounds
+unfolding any_below list_below sum_below count_below graph_of is_pair holds_row degree has each is_empty turned last_that add_new was_read met_below met_at met_edges other_end starting_list start_tie pivot gathered takes kept_elements kept_variables done rest alike represents made ends new_size far left next_bound new_home round next after_rounds
 second_pivot = refl
 
 pub third_pivot : pivot (next true (next true seven_tie)).bound (next true (next true seven_tie)).placed ≡ 2
-unfolding any_below list_below sum_below count_below graph_of is_pair holds_row degree is_empty_row has each is_empty turned last_that add_new was_read met_below met_at met_edges other_end starting_list start_tie pivot gathered takes kept_elements kept_variables done rest alike represents made ends new_size far left next_bound new_home round next after_rounds
+unfolding any_below list_below sum_below count_below graph_of is_pair holds_row degree has each is_empty turned last_that add_new was_read met_below met_at met_edges other_end starting_list start_tie pivot gathered takes kept_elements kept_variables done rest alike represents made ends new_size far left next_bound new_home round next after_rounds
 third_pivot = refl
 
 pub fits : Fits seven seven_tie at_start
 fits = start_fits seven none_dense at_start (starting_list 7 (is_pair 7 pointers rows)) (pattern_graph 7 pointers rows) run.start (λ i h. starting_lists 7 pointers rows i)
 
 pub homes : map (after_rounds 7 true seven_tie).home (0 ∷ 1 ∷ 2 ∷ 3 ∷ 4 ∷ 5 ∷ 6 ∷ []) ≡ three_table.homes
-unfolding any_below list_below sum_below count_below graph_of is_pair holds_row degree is_empty_row has each is_empty turned last_that add_new was_read met_below met_at met_edges other_end starting_list start_tie pivot gathered takes kept_elements kept_variables done rest alike represents made ends new_size far left next_bound new_home round next after_rounds
+unfolding any_below list_below sum_below count_below graph_of is_pair holds_row degree has each is_empty turned last_that add_new was_read met_below met_at met_edges other_end starting_list start_tie pivot gathered takes kept_elements kept_variables done rest alike represents made ends new_size far left next_bound new_home round next after_rounds
 homes = refl
 
 pub second_front : list_below 7 (front seven after_one 6) ≡ 2 ∷ 3 ∷ 5 ∷ []

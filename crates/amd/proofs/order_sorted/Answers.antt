@@ -1,0 +1,32 @@
+use Rattle.std.proofs.Common.{ℕ, ℤ, List, pos, ◌≡◌, ◌-◌, map, length, drop, ap, subst, sym, ◌∙◌, arith}
+use Rattle.std.specs.Prelude.{unsigned_abs}
+use Rattle.amd_model.specs.Input.Dense.{IsThreshold}
+use Rattle.amd_model.specs.Listing.{ListsEachRow}
+use Rattle.amd_model.specs.Below.{list_below}
+use Rattle.amd_engine.specs.declared.amd.Info.{Info}
+use Rattle.amd.specs.Degrees.{AreDegrees}
+use Rattle.amd.specs.ByDegree.{is_above}
+use Rattle.amd.proofs.Orderings.{listing_orders}
+use Rattle.amd.proofs.order_sorted.Goals as goal
+
+pub returns-clause-orders : goal.returns-clause-orders
+returns-clause-orders g c =
+    let value = g.I.Number.value in
+    let n : ℕ = unsigned_abs (value c.args.n) in
+    let size : n ≡ c.in-Some.count = sym (ap unsigned_abs c.in-Some.ensures.1) in
+    let threshold = subst (λ m. IsThreshold m c.args.control.now.dense c.dense_threshold-threshold.result) (sym size) c.dense_threshold-threshold.ensures in
+    let a_p : List ℤ = map value c.args.a_p.now in
+    let a_i : List ℤ = map value c.args.a_i.now in
+    let len : List ℕ = c.deref.result.now in
+    let rows : List ℕ = c.deref-2.result.now in
+    let same = sym c.deref-2.ensures.value in
+    listing_orders n c.args.control.now.dense c.dense_threshold-threshold.result a_p a_i (map value c.in_ok-p.p.items) (map value c.in_ok-p.p_inv.items) len rows c.in_ok-nzaat.nzaat c.in_ok-rows.n_dense c.aat.new.info
+    (subst (AreDegrees n a_p a_i c.in_ok-nzaat.nzaat) (sym c.deref.ensures.value) c.in_ok-nzaat.ensures.degrees)
+    c.in_ok-nzaat.ensures.figures
+    threshold
+    (subst (ListsEachRow (length len)) same c.in_ok-rows.ensures.listing)
+    c.in_ok-rows.ensures.count
+    (subst (λ xs. drop (length len - c.in_ok-rows.n_dense) xs ≡ list_below (length len) (is_above len c.dense_threshold-threshold.result)) same c.in_ok-rows.ensures.dense)
+    c.in_ok-p.ensures.listed
+    c.in_ok-p.ensures.inverse
+    (let stays : c.aat.new.info.n_cmp_a ≡ 0 = ap (λ (x : Info). x.n_cmp_a) c.in_ok-nzaat.ensures.others ∙ ap (λ (x : Info). x.n_cmp_a) c.new-info.ensures in omega (arith, stays))

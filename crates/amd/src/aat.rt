@@ -1,0 +1,123 @@
+// The degrees of the rows of a matrix, and the figures of its pattern: those of the pattern of A + A' (Amestoy, Davis and Duff
+// 2004). Called by `order`.
+
+ghost use Rattle.std.specs.Prelude.{◌≡◌, ◌<ℤ◌, ◌≤◌, ◌^◌, ℕ, pos, map, length, slice_index, unsigned_abs, IfOk, IfErr, OnOk, OnErr, MatchOption};
+ghost use Rattle.amd_model.specs.Below.{sum_below};
+ghost use Rattle.amd_model.specs.Input.Columns.{IsInput, IsSortedInput};
+ghost use Rattle.amd_engine.specs.Visits.{AreCounts};
+ghost use Rattle.amd.specs.Degrees.{AreDegrees};
+ghost use Rattle.amd.specs.PatternFigures.{HasPatternFigures};
+ghost use Rattle.amd_engine.specs.declared.amd.Status.TheVariants.{OutOfMemory};
+
+use amd_engine::amd::{Info, Status};
+use amd_engine::internal::{count_at, known_count};
+use amd_engine::walk::{Visitor, walk};
+use num_traits::PrimInt;
+use std::alloc::Allocator;
+
+/// The number of arcs of each row.
+#[derive(Drop)]
+struct Counts<A: Allocator> {
+    degrees: Vec<usize, A>,
+}
+
+impl<A: Allocator> Visitor for Counts<A> {
+    ghost holds = { λ g seen v. AreCounts g seen v.degrees.items };
+
+    fn arc(&mut self, i: usize, j: usize) {
+        self.degrees[i] += 1;
+    }
+}
+
+/// The sum of the numbers, where it is a `usize`.
+fn total(numbers: &[usize]) -> Option<usize>
+    ensures { MatchOption result (2 ^ 64 ≤ sum_below (length numbers.now) (λ k. slice_index numbers.now k)) (λ s. s ≡ sum_below (length numbers.now) (λ k. slice_index numbers.now k)) }
+{
+    let mut sum: usize = 0;
+    'numbers: for k in 0..numbers.len() {
+        sum = sum.checked_add(numbers[k])?;
+    }
+    Some(sum)
+}
+
+/// The sum of the degrees and the degree of each row of a matrix with `n` rows; the figures of its pattern go to `info`.
+/// The pattern is symmetric where there are as many arcs as entries off the diagonal.
+pub fn aat<I: PrimInt, A: Allocator + Copy>(
+    alloc: A,
+    n: I,
+    a_p: &[I],
+    a_i: &[I],
+    info: &mut Info,
+) -> Result<(usize, Vec<usize, A>), Status>
+    requires positive { pos 0 <ℤ I.value n }
+    requires form { IsInput (I.value n) (I.value n) (map I.value a_p.now) (map I.value a_i.now) }
+    requires sorted { IsSortedInput (I.value n) (map I.value a_p.now) (map I.value a_i.now) }
+    ensures degrees { IfOk result (λ a. AreDegrees (unsigned_abs (I.value n)) (map I.value a_p.now) (map I.value a_i.now) a.0 a.1.items) }
+    ensures figures { OnOk result (HasPatternFigures (unsigned_abs (I.value n)) (map I.value a_p.now) (map I.value a_i.now) info.new) }
+    ensures others { OnOk result (info.new ≡ record info.old { n = info.new.n; nz = info.new.nz; symmetry = info.new.symmetry; nz_diag = info.new.nz_diag; nz_a_plus_at = info.new.nz_a_plus_at }) }
+    ensures refused { IfErr result (λ e. e ≡ OutOfMemory) }
+    ensures unchanged { OnErr result (info.new ≡ info.old) }
+{
+    let size = known_count(n);
+    let Ok(mut next) = vec![in alloc; 0; size] else {
+        return Err(Status::OutOfMemory);
+    };
+    let Ok(degrees) = vec![in alloc; 0; size] else {
+        return Err(Status::OutOfMemory);
+    };
+    let mut counts = Counts { degrees };
+    let diagonals = walk(a_p, a_i, &mut next, &mut counts);
+    let Some(sum) = total(&counts.degrees) else {
+        return Err(Status::OutOfMemory);
+    };
+    let entries = count_at(a_p, size);
+    info.n = size;
+    info.nz = entries;
+    info.nz_diag = diagonals;
+    info.nz_a_plus_at = sum;
+    info.symmetry = sum == entries - diagonals;
+    Ok((sum, counts.degrees))
+}
+
+#[cfg(test)]
+mod tests {
+    use super::*;
+    use crate::valid::valid;
+    use std::test::Fail;
+
+    #[test]
+    fn counts_the_arcs_of_a_pattern(rt: HostRuntime) -> Result<(), Fail> {
+        let a_p: [i32; 6] = [0, 2, 6, 10, 12, 14];
+        let a_i: [i32; 14] = [0, 1, 0, 1, 2, 4, 1, 2, 3, 4, 2, 3, 1, 4];
+        let mut info = Info::new(0);
+        let Status::OK = valid(5, 5, &a_p, &a_i) else {
+            return Err(Fail::from("not sorted"));
+        };
+        let (sum, degrees) = aat(rt.alloc(), 5, &a_p, &a_i, &mut info)?;
+        assert_eq!(rt; sum, 10);
+        assert_eq!(rt; degrees.as_slice(), [1, 3, 3, 1, 2].as_slice());
+        assert_eq!(rt;
+            [info.n, info.nz, info.nz_diag, info.nz_a_plus_at].as_slice(),
+            [5, 14, 5, 10].as_slice()
+        );
+        assert_eq!(rt; info.symmetry, false);
+        Ok(())
+    }
+
+    #[test]
+    fn sees_a_symmetric_pattern(rt: HostRuntime) -> Result<(), Fail> {
+        let a_p: [i32; 4] = [0, 3, 6, 9];
+        let a_i: [i32; 9] = [0, 1, 2, 0, 1, 2, 0, 1, 2];
+        let mut info = Info::new(0);
+        let Status::OK = valid(3, 3, &a_p, &a_i) else {
+            return Err(Fail::from("not sorted"));
+        };
+        let (sum, _) = aat(rt.alloc(), 3, &a_p, &a_i, &mut info)?;
+        assert_eq!(rt;
+            [sum, info.nz, info.nz_diag].as_slice(),
+            [6, 9, 3].as_slice()
+        );
+        assert_eq!(rt; info.symmetry, true);
+        Ok(())
+    }
+}

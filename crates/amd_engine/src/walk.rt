@@ -1,0 +1,124 @@
+// A walk over the edges of a matrix: each edge is met once, whether the pattern holds it once or twice, and a visitor is told
+// both of its arcs. For each column in turn its upper entries are read, and with each of them the lower entries of that row's
+// own column that come before; a pointer of each column says how far it was read. Source: Amestoy, Davis and Duff 2004 (the
+// forming of A + A'). Called by `aat` of the crate `amd`, and by what lists the neighbours of each row.
+
+ghost use Rattle.std.specs.Prelude.{◌≡◌, ◌<◌, ◌≤◌, ◌+◌, ℕ, Bool, true, false, pos, map, length, slice_index};
+ghost use Rattle.amd_model.specs.Graph.{Graph};
+ghost use Rattle.amd_model.specs.Input.Columns.{IsColumnForm, IsSorted};
+ghost use Rattle.amd_model.specs.Input.Pattern.{graph_of, diagonal_count};
+ghost use Rattle.amd_engine.specs.Counts.{counts, is_entry, count_graph};
+ghost use Rattle.amd_engine.specs.Visits.{IsNew, with_arc};
+ghost use Rattle.amd_engine.specs.Walk.{IsScan, met};
+
+use crate::internal::count_at;
+use num_traits::PrimInt;
+
+/// What takes the arcs of a graph, one at a time.
+pub trait Visitor {
+    ghost holds: { Graph → (ℕ → ℕ → Bool) → Self → Type 0 };
+
+    /// Takes the arc from `i` to `j`.
+    fn arc(&mut self, i: usize, j: usize)
+        requires { (g : Graph) × (seen : ℕ → ℕ → Bool) × holds g seen self.old × IsNew g seen i j }
+        ensures { (g : Graph) (seen : ℕ → ℕ → Bool) → holds g seen self.old → IsNew g seen i j → holds g (with_arc seen i j) self.new };
+}
+
+/// Reads the lower entries of column `j` that were not read yet, up to row `k`.
+fn lower<I: PrimInt, V: Visitor>(
+    j: usize,
+    k: usize,
+    a_p: &[I],
+    a_i: &[I],
+    next: &mut [usize],
+    visitor: &mut V,
+)
+    requires form { IsColumnForm (pos (length next.old)) (length next.old) (map I.value a_p.now) (map I.value a_i.now) }
+    requires sorted { IsSorted (length next.old) (map I.value a_p.now) (map I.value a_i.now) }
+    requires before { j < k }
+    requires k_in { k ≤ length next.old }
+    requires mirror { k < length next.old → is_entry (length next.old) (counts (map I.value a_p.now)) (counts (map I.value a_i.now)) j k ≡ true }
+    requires scan { IsScan (length next.old) (counts (map I.value a_p.now)) (counts (map I.value a_i.now)) next.old k j }
+    requires held { V.holds (count_graph (length next.old) (counts (map I.value a_p.now)) (counts (map I.value a_i.now))) (met (length next.old) (counts (map I.value a_p.now)) (counts (map I.value a_i.now)) next.old k (j + 1)) visitor.old }
+    ensures scan { IsScan (length next.old) (counts (map I.value a_p.now)) (counts (map I.value a_i.now)) next.new k (j + 1) }
+    ensures held { V.holds (count_graph (length next.old) (counts (map I.value a_p.now)) (counts (map I.value a_i.now))) (met (length next.old) (counts (map I.value a_p.now)) (counts (map I.value a_i.now)) next.new k (j + 1)) visitor.new }
+{
+    let end = count_at(a_p, j + 1);
+    let mut place = next[j];
+    'rows: while place < end && count_at(a_i, place) < k {
+        let i = count_at(a_i, place);
+        visitor.arc(i, j);
+        visitor.arc(j, i);
+        place += 1;
+    }
+    if place < end && count_at(a_i, place) == k {
+        place += 1;
+    }
+    next[j] = place;
+}
+
+/// Reads the upper entries of column `k`, and says whether it has a diagonal entry.
+fn column<I: PrimInt, V: Visitor>(
+    k: usize,
+    a_p: &[I],
+    a_i: &[I],
+    next: &mut [usize],
+    visitor: &mut V,
+) -> bool
+    requires form { IsColumnForm (pos (length next.old)) (length next.old) (map I.value a_p.now) (map I.value a_i.now) }
+    requires sorted { IsSorted (length next.old) (map I.value a_p.now) (map I.value a_i.now) }
+    requires k_in { k < length next.old }
+    requires scan { IsScan (length next.old) (counts (map I.value a_p.now)) (counts (map I.value a_i.now)) next.old k 0 }
+    requires held { V.holds (count_graph (length next.old) (counts (map I.value a_p.now)) (counts (map I.value a_i.now))) (met (length next.old) (counts (map I.value a_p.now)) (counts (map I.value a_i.now)) next.old k 0) visitor.old }
+    ensures scan { IsScan (length next.old) (counts (map I.value a_p.now)) (counts (map I.value a_i.now)) next.new (k + 1) 0 }
+    ensures held { V.holds (count_graph (length next.old) (counts (map I.value a_p.now)) (counts (map I.value a_i.now))) (met (length next.old) (counts (map I.value a_p.now)) (counts (map I.value a_i.now)) next.new (k + 1) 0) visitor.new }
+    ensures diagonal { result ≡ is_entry (length next.old) (counts (map I.value a_p.now)) (counts (map I.value a_i.now)) k k }
+{
+    let end = count_at(a_p, k + 1);
+    let mut place = count_at(a_p, k);
+    'upper: while place < end && count_at(a_i, place) < k {
+        let j = count_at(a_i, place);
+        visitor.arc(j, k);
+        visitor.arc(k, j);
+        lower(j, k, a_p, a_i, next, visitor);
+        place += 1;
+    }
+    let diagonal = place < end && count_at(a_i, place) == k;
+    if diagonal {
+        place += 1;
+    }
+    next[k] = place;
+    diagonal
+}
+
+/// Meets each edge of a column form that is sorted once, and counts the diagonal entries. The matrix has as many rows and
+/// columns as there are pointers in `next`, which begin as zeros.
+///
+/// For each column `k` in turn: each upper entry `j < k` of it, rising, gives the edge of `j` and `k`, and after it the lower
+/// entries of column `j` that were not read yet and are below `k` give theirs; an entry `k` itself is passed over. At the end
+/// the lower entries that were never read give theirs.
+pub fn walk<I: PrimInt, V: Visitor>(
+    a_p: &[I],
+    a_i: &[I],
+    next: &mut [usize],
+    visitor: &mut V,
+) -> usize
+    requires form { IsColumnForm (pos (length next.old)) (length next.old) (map I.value a_p.now) (map I.value a_i.now) }
+    requires sorted { IsSorted (length next.old) (map I.value a_p.now) (map I.value a_i.now) }
+    requires zeros { (a : ℕ) → slice_index next.old a ≡ 0 }
+    requires held { V.holds (graph_of (length next.old) (map I.value a_p.now) (map I.value a_i.now)) (λ a b. false) visitor.old }
+    ensures held { V.holds (graph_of (length next.old) (map I.value a_p.now) (map I.value a_i.now)) ((graph_of (length next.old) (map I.value a_p.now) (map I.value a_i.now)).edge) visitor.new }
+    ensures diagonals { result ≡ diagonal_count (length next.old) (map I.value a_p.now) (map I.value a_i.now) }
+{
+    let size = next.len();
+    let mut diagonals = 0;
+    'columns: for k in 0..size {
+        if column(k, a_p, a_i, next, visitor) {
+            diagonals += 1;
+        }
+    }
+    'rest: for j in 0..size {
+        lower(j, size, a_p, a_i, next, visitor);
+    }
+    diagonals
+}
