@@ -30,7 +30,6 @@ pub mod TieStart
 pub mod StartingLists
 pub mod TieRun
 pub mod StepTest
-pub mod PatternGraph
 pub mod Examples
 pub mod TieBuckets
 pub mod Classes

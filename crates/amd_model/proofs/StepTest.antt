@@ -12,6 +12,7 @@ use Rattle.amd_model.proofs.StateLemmas.{class_gives, live_gives, holds_gives}
 use Rattle.amd_model.proofs.Sound.{live_small, standing_small, front_live}
 use Rattle.amd_model.proofs.TieLists.{clash}
 
+-- tests of equality, and of what follows from a test
 unfoldable pub same_home : Home → Home → Bool
 same_home Last Last = true
 same_home (Live c) (Live d) = c == d
@@ -59,6 +60,7 @@ implied : {a b : Bool} → implies a b ≡ true → a ≡ true → b ≡ true
 unfolding implies
 implied {a} {b} e h = sym (ap (λ m. implies m b) h) ∙ e
 
+-- each test is passed, as a product
 abbrev AllTrue : List Bool → Type 0
 AllTrue [] = Unit {0}
 AllTrue (b ∷ bs) = (b ≡ true) × AllTrue bs
@@ -88,6 +90,7 @@ module _ (g : Graph) (dense : ℕ → Bool) (s : State) where
   unfoldable pub start_tests : List Bool
   start_tests = all_below g.size (λ v. same_home (s.home v) (first_home v)) ∷ all_below g.size (λ v. s.bound v == degree g v) ∷ []
 
+-- a state that ends with the graph and passes the tests is a start, if it has no border and no parent
 pub start_from : (g : Graph) (dense : ℕ → Bool) (s : State) → Ends g s → passes (start_tests g dense s) ≡ true → ((e v : ℕ) → s.border e v ≡ false) → ((e : ℕ) → s.parent e ≡ None) →
     IsStart g dense s
 unfolding first_home start_tests
@@ -109,10 +112,12 @@ start_from g dense s ends passed borders parents =
     }
 
 module _ (g : Graph) (aggressive : Bool) (c : ℕ) (old new : State) where
+  -- the classes x and y are alike
   unfoldable pub alike_test : ℕ → ℕ → Bool
   alike_test x y = all_below g.size (λ e. implies (other g aggressive old c e) (same_test (holds g old e x) (holds g old e y)))
       && all_below g.size (λ z. same_test (outer g old c x z) (outer g old c y z))
 
+  -- a row of the class x of S goes where a step may put it
   unfoldable pub moved_test : ℕ → Home → Bool
   moved_test x Last = false
   moved_test x (Live i) = same_home (new.home i) (Live i) && same_home (old.home i) (Live i) && border_of g aggressive old c i && alike_test x i
@@ -159,6 +164,7 @@ module _ (g : Graph) (aggressive : Bool) (c : ℕ) (old new : State) where
       ∷ same_parent (new.parent c) None ∷ all_below g.size taken_at ∷ all_below g.size (λ e. all_below g.size (border_at e)) ∷ all_below g.size parent_at
       ∷ all_below g.size bound_at ∷ all_below g.size bound_stays_at ∷ []
 
+  -- the same by name
   record StepTests : Type 0 where
     class : is_class old c ≡ true
     least : all_below g.size least_at ≡ true

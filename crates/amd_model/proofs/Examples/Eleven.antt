@@ -13,7 +13,7 @@ use Rattle.amd_model.specs.Tie.{Fits, has, each, is_empty, turned, last_that, ad
 use Rattle.amd_model.specs.Examples.Eleven.{eleven, pointers, rows, row_one, start_table, one_table, two_table, three_table, four_table, five_table, at_start, after_one, after_two, after_three, after_four, after_five, eleven_tie}
 use Rattle.amd_model.specs.Factor.{before, IsFactor}
 use Rattle.amd_model.proofs.ReachTest.{reaches, in_column, column, columns_to, columns, factor_of}
-use Rattle.amd_model.proofs.PatternGraph.{pattern_graph}
+use Rattle.amd_model.proofs.DegreeSums.{pattern_graph}
 use Rattle.amd_model.proofs.TieStart.{start_fits}
 use Rattle.amd_model.proofs.StartingLists.{starting_lists}
 use Rattle.amd_model.proofs.StepTest.{passes, same_home, same_parent, same_test, implies, alike_test, moved_test, least_at, block_goes, kept_at, moved_at, merged_at, made_at, taken_at, border_at, parent_at, bound_at, bound_stays_at, step_tests, first_home, start_tests}
