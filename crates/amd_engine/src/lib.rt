@@ -5,6 +5,6 @@
 pub mod amd;
 pub mod dense;
 pub mod internal;
-pub mod permutations;
 pub mod lists;
+pub mod permutations;
 pub mod walk;
