@@ -8,8 +8,8 @@ pub fn law_fronts_are_paths()
     ensures { InEachState (λ g aggressive s. FrontsArePaths g s) }
 {}
 
-/// In each state a test at the representative of a class holds of all its rows alike, and each row of a class has an edge
-/// to each row of a direct neighbour.
+/// In each state a test at the representative of a class holds of all its rows alike, each row of a class has an edge to each
+/// row of a direct neighbour, and the direct neighbours of a class outside a front can be told from any of its rows.
 pub fn law_classes_are_whole()
     ensures { InEachState ClassesAreWhole }
 {}
