@@ -20,6 +20,7 @@ pub mod EntriesMade
 pub mod EndState
 pub mod Places
 pub mod ListedOnce
+pub mod ListingsExist
 pub mod ColumnsInside
 pub mod NoFill
 pub mod ReachTest

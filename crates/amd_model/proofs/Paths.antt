@@ -48,3 +48,7 @@ sound_states P g laws aggressive each s (t ∷ rest) sound steps =
 pub fronts_in_each_state : InEachState (λ g aggressive s. FrontsArePaths g s)
 fronts_in_each_state g dense aggressive first states laws start steps =
     sound_states (FrontsArePaths g) g laws aggressive (fronts_are_paths g laws) first states (start_sound g laws dense first start) steps
+
+pub sound_in_each_state : InEachState (λ g aggressive s. IsSound g s)
+sound_in_each_state g dense aggressive first states laws start steps =
+    sound_states (IsSound g) g laws aggressive (λ s sound. sound) first states (start_sound g laws dense first start) steps

@@ -61,6 +61,16 @@ pub record ClassesAreWhole (g : Graph) (aggressive : Bool) (s : State) : Type 0 
 
 -- ---- of the last state of a run, and of its listing
 
+-- exactly the dense rows are held last, and each other row was eliminated
+pub record DenseAreLast (g : Graph) (dense : ℕ → Bool) (s : State) : Type 0 where
+  pub held : (v : ℕ) → v < g.size → dense v ≡ true → s.home v ≡ Last
+  pub others : (v : ℕ) → v < g.size → dense v ≡ false → eliminated s v ≡ true
+
+-- the state has a listing in postorder
+pub record HasListing (g : Graph) (dense : ℕ → Bool) (s : State) : Type 0 where
+  pub listing : List ℕ
+  pub lists : IsPostorder g dense s listing
+
 -- e is f, or a descendant of f
 pub data Under (s : State) : ℕ → ℕ → Type 0 where
   itself : {e : ℕ} → Under s e e

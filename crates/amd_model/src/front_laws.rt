@@ -2,6 +2,12 @@
 // Called by: nobody, the contracts are the laws.
 
 ghost use Rattle.amd_model.specs.Laws.{InEachState, FrontsArePaths, BoundsMeetDegrees, ClassesAreWhole};
+ghost use Rattle.amd_model.specs.Sound.{IsSound};
+
+/// Each state is sound: what its classes, borders and edges say of each other and of the paths through eliminated rows holds.
+pub fn law_states_are_sound()
+    ensures { InEachState (λ g aggressive s. IsSound g s) }
+{}
 
 /// In each state the front of a class is exactly what each of its rows reaches through eliminated rows.
 pub fn law_fronts_are_paths()
