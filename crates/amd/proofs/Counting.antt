@@ -1,13 +1,12 @@
--- The counts of the arcs of each row, one arc more; and partial sums.
-use Rattle.std.proofs.Common.{◌≡◌, ◌+◌, ◌-◌, ◌<◌, ◌≤◌, inl, inr, ℕ, zero, suc, Bool, false, List, length, get_or, set, get_or-set_same, get_or-set_other, arith, ap, sym, ◌∙◌, subst}
+-- The counts of the arcs of each row, one arc more.
+use Rattle.std.proofs.Common.{◌≡◌, ◌+◌, inl, inr, ℕ, Bool, false, List, length, get_or, set, get_or-set_same, get_or-set_other, arith, ap, sym, ◌∙◌}
 use Rattle.std.proofs.lemmas.Bool.{cases_eq}
 use Rattle.std.proofs.lemmas.List.{length-set}
 use Rattle.std.proofs.lemmas.Grind.{get_or_default_zero}
-use Rattle.amd_model.specs.Below.{sum_below, count_below}
+use Rattle.amd_model.specs.Below.{count_below}
 use Rattle.amd_model.specs.Graph.{Graph}
-use Rattle.amd_engine.specs.Visits.{IsNew, with_arc}
+use Rattle.amd_engine.specs.Visits.{IsNew, with_arc, AreCounts}
 use Rattle.amd_engine.proofs.Arcs.{arc_same, arc_counts, count_none}
-use Rattle.amd.specs.Degrees.{AreCounts}
 
 pub counts_more : (g : Graph) (seen : ℕ → ℕ → Bool) (i j : ℕ) → IsNew g seen i j → (numbers : List ℕ) (v : ℕ) → v ≡ get_or numbers i v → AreCounts g seen numbers →
     AreCounts g (with_arc seen i j) (set numbers i (v + 1))
@@ -21,13 +20,3 @@ counts_more g seen i j new numbers v is h = record {
 
 pub counts_none : (g : Graph) (numbers : List ℕ) → length numbers ≡ g.size → ((a : ℕ) → get_or numbers a 0 ≡ 0) → AreCounts g (λ a b. false) numbers
 counts_none g numbers size zeros = record { size = size; each = λ i h. zeros i ∙ sym (count_none g.size) }
-
-sum_stretch : (d i : ℕ) (f : ℕ → ℕ) → sum_below i f ≤ sum_below (i + d) f
-unfolding sum_below
-sum_stretch zero i f = (let e : i + 0 ≡ i = omega arith in rw e (omega arith))
-sum_stretch (suc d) i f = (let e : i + suc d ≡ suc (i + d) = omega arith in let w = sum_stretch d i f in rw e (omega (arith, w)))
-
--- one term more than a partial sum is at most the sum
-pub sum_upto : (i n : ℕ) (f : ℕ → ℕ) → i < n → f i + sum_below i f ≤ sum_below n f
-unfolding sum_below
-sum_upto i n f h = (let e : suc i + (n - suc i) ≡ n = omega arith in subst (λ z. sum_below (suc i) f ≤ sum_below z f) e (sum_stretch (n - suc i) (suc i) f))

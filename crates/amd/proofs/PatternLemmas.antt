@@ -10,7 +10,8 @@ use Rattle.amd_model.proofs.BelowLemmas.{sum_same}
 use Rattle.amd_model.proofs.DegreeSums.{degrees_twice, pattern_graph}
 use Rattle.amd_engine.specs.Counts.{counts}
 use Rattle.amd_engine.specs.declared.amd.Info.{Info}
-use Rattle.amd.specs.Degrees.{AreCounts, AreDegrees}
+use Rattle.amd_engine.specs.Visits.{AreCounts}
+use Rattle.amd.specs.Degrees.{AreDegrees}
 use Rattle.amd.specs.PatternFigures.{HasPatternFigures}
 use Rattle.amd.proofs.Symmetry.{pairs_counted, symmetric_when, symmetric_only}
 

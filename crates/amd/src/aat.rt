@@ -4,7 +4,8 @@
 ghost use Rattle.std.specs.Prelude.{◌≡◌, ◌<ℤ◌, ◌≤◌, ◌^◌, ℕ, pos, map, length, slice_index, unsigned_abs, IfOk, IfErr, OnOk, OnErr, MatchOption};
 ghost use Rattle.amd_model.specs.Below.{sum_below};
 ghost use Rattle.amd_model.specs.Input.Columns.{IsInput, IsSortedInput};
-ghost use Rattle.amd.specs.Degrees.{AreCounts, AreDegrees};
+ghost use Rattle.amd_engine.specs.Visits.{AreCounts};
+ghost use Rattle.amd.specs.Degrees.{AreDegrees};
 ghost use Rattle.amd.specs.PatternFigures.{HasPatternFigures};
 ghost use Rattle.amd_engine.specs.declared.amd.Status.TheVariants.{OutOfMemory};
 

@@ -1,5 +1,6 @@
 -- Counting the arcs of a row, one more at a time: for visitors that count or list them.
 use Rattle.std.proofs.Common.{◌≡◌, ◌≢◌, ◌+◌, ◌<◌, ◌≤◌, inl, inr, ℕ, zero, suc, Bool, true, false, arith, refl, ap, sym, ◌∙◌, eqb, cond, ◌||◌}
+use Rattle.std.proofs.Math.Bool.{or-false, or-true}
 use Rattle.std.proofs.lemmas.Bool.{or_cases, cases_eq, eqb-true, eq-eqb, ne_eqb}
 use Rattle.amd_model.specs.Below.{sum_below, count_below}
 use Rattle.amd_model.specs.Graph.{Graph}
@@ -10,28 +11,20 @@ use Rattle.amd_engine.proofs.Places.{funext}
 abbrev one_if : Bool → ℕ
 one_if b = cond b 1 0
 
-or_false : (x : Bool) → (x || false) ≡ x
-or_false true = refl
-or_false false = refl
-
-or_true : (x : Bool) → (x || true) ≡ true
-or_true true = refl
-or_true false = refl
-
 -- a set with one number more
 pub count_more : (n : ℕ) (p q : ℕ → Bool) (j : ℕ) → j < n → p j ≡ false → ((b : ℕ) → q b ≡ (p b || eqb b j)) → count_below n q ≡ count_below n p + 1
 unfolding count_below sum_below
 count_more zero p q j l f e = absurd (omega arith)
 count_more (suc n) p q j l f e = elim (cases_eq j n) [
   | inl same ↦ (
-      let rest : count_below n q ≡ count_below n p = count_same n q p (λ k h. e k ∙ rw (ne_eqb k j (λ x. omega arith)) (or_false (p k))) in
+      let rest : count_below n q ≡ count_below n p = count_same n q p (λ k h. e k ∙ rw (ne_eqb k j (λ x. omega arith)) (or-false (p k))) in
       let old : one_if (p n) ≡ 0 = ap one_if (ap p (sym same) ∙ f) in
-      let passes : q n ≡ true = e n ∙ rw (eq-eqb n j (sym same)) (or_true (p n)) in
+      let passes : q n ≡ true = e n ∙ rw (eq-eqb n j (sym same)) (or-true (p n)) in
       let new : one_if (q n) ≡ 1 = ap one_if passes in
       omega (arith, rest, old, new))
   | inr other ↦ (
       let rest = count_more n p q j (omega arith) f e in
-      let stays : q n ≡ p n = e n ∙ rw (ne_eqb n j (λ x. other (sym x))) (or_false (p n)) in
+      let stays : q n ≡ p n = e n ∙ rw (ne_eqb n j (λ x. other (sym x))) (or-false (p n)) in
       let here = ap one_if stays in
       omega (arith, rest, here))
 ]
@@ -52,7 +45,7 @@ count_none (suc n) = let e = count_none n in omega (arith, e)
 
 pub arc_same : (seen : ℕ → ℕ → Bool) (i j a : ℕ) → a ≢ i → with_arc seen i j a ≡ seen a
 unfolding with_arc
-arc_same seen i j a ne = funext _ _ (λ b. rw (ne_eqb a i ne) (or_false (seen a b)))
+arc_same seen i j a ne = funext _ _ (λ b. rw (ne_eqb a i ne) (or-false (seen a b)))
 
 pub arc_here : (seen : ℕ → ℕ → Bool) (i j b : ℕ) → with_arc seen i j i b ≡ (seen i b || eqb b j)
 unfolding with_arc

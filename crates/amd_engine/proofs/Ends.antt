@@ -1,10 +1,11 @@
 -- The start and the end of the walk.
-use Rattle.std.proofs.Common.{◌≡◌, ◌+◌, ◌<◌, ◌⊎◌, inl, inr, ℕ, Bool, true, false, List, length, get_or, arith, refl, cond, eqb, ltb, ◌||◌, ◌&&◌}
+use Rattle.std.proofs.Common.{◌≡◌, ◌+◌, inl, inr, ℕ, Bool, true, false, List, length, get_or, arith, refl, cond, eqb, ltb, ◌||◌, ◌&&◌}
+use Rattle.std.proofs.Math.Bool.{or_comm, or-false}
 use Rattle.std.proofs.lemmas.Bool.{or_left, cases_eq, cases_lt, eq-eqb, lt-ltb, le-ltb, ne_eqb}
 use Rattle.amd_engine.proofs.Forms.{IsSortedForm}
 use Rattle.amd_engine.specs.Counts.{is_before, is_entry, is_edge}
 use Rattle.amd_engine.specs.Walk.{IsScan, is_read, is_met, met}
-use Rattle.amd_engine.proofs.Places.{funext2, same_tests, before_from, before_gives, before_none, entry_from, entry_gives, entry_none}
+use Rattle.amd_engine.proofs.Places.{cases_order, funext2, same_tests, before_from, before_gives, before_none, entry_from, entry_gives, entry_none}
 
 module _ (n : ℕ) (ap' ai : List ℕ) (form : IsSortedForm n ap' ai) (t : List ℕ) where
   pub start_met : ((a : ℕ) → get_or t a 0 ≡ 0) → met n ap' ai t 0 0 ≡ (λ a b. false)
@@ -43,27 +44,14 @@ module _ (n : ℕ) (ap' ai : List ℕ) (form : IsSortedForm n ap' ai) (t : List 
 
   pub done_met : IsScan n ap' ai t n n → met n ap' ai t n n ≡ is_edge n ap' ai
   unfolding met is_met is_read is_edge
-  done_met scan = funext2 _ _ (λ a b. elim (cases_order3 a b) [
-    | inl x ↦ rw (half a b, half b a, lt-ltb a b x, le-ltb b a (omega arith), ne_eqb a b (λ e. omega arith)) (or_false _)
+  done_met scan = funext2 _ _ (λ a b. elim (cases_order a b) [
+    | inl x ↦ rw (half a b, half b a, lt-ltb a b x, le-ltb b a (omega arith), ne_eqb a b (λ e. omega arith)) (or-false _)
     | inr y ↦ elim y [
       | inl x ↦ rw (half a b, half b a, le-ltb a b (omega arith), le-ltb b a (omega arith), eq-eqb a b x) refl
-      | inr x ↦ rw (half a b, half b a, lt-ltb b a x, le-ltb a b (omega arith), ne_eqb a b (λ e. omega arith)) (or_swap (is_entry n ap' ai a b) _)
+      | inr x ↦ rw (half a b, half b a, lt-ltb b a x, le-ltb a b (omega arith), ne_eqb a b (λ e. omega arith)) (or_comm _ (is_entry n ap' ai a b))
     ]
   ])
     where
-      cases_order3 : (b k : ℕ) → (b < k) ⊎ ((b ≡ k) ⊎ (k < b))
-      cases_order3 b k = elim (cases_lt b k) [ inl x ↦ inl x | inr x ↦ inr (elim (cases_eq b k) [ inl y ↦ inl y | inr y ↦ inr (omega arith) ]) ]
-
-      or_false : (x : Bool) → (x || false) ≡ x
-      or_false true = refl
-      or_false false = refl
-
-      or_swap : (x y : Bool) → (y || x) ≡ (x || y)
-      or_swap true true = refl
-      or_swap true false = refl
-      or_swap false true = refl
-      or_swap false false = refl
-
       -- what stands before the pointer is now all of the column
       whole : (a b : ℕ) → is_before ap' ai (get_or t a 0) b a ≡ is_entry n ap' ai b a
       whole a b = same_tests _ _

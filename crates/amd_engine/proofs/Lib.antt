@@ -6,3 +6,4 @@ pub mod Scans
 pub mod Uppers
 pub mod Ends
 pub mod Arcs
+pub mod Listing

@@ -1,6 +1,6 @@
 -- Where rows stand.
-use Rattle.std.proofs.Common.{◌≡◌, ◌+◌, ◌<◌, ◌≤◌, inl, inr, ℕ, Bool, true, false, List, get_or, arith, refl, ap, sym, eqb, ◌||◌}
-use Rattle.std.proofs.lemmas.Bool.{and_parts, or_cases, and_from, or_left, or_right, cases_eq, cases_Bool, leb-true, eqb-true, ltb-true, le-leb, eq-eqb, lt-ltb}
+use Rattle.std.proofs.Common.{◌≡◌, ◌+◌, ◌<◌, ◌≤◌, ◌⊎◌, inl, inr, ℕ, Bool, true, false, List, get_or, arith, refl, ap, sym, eqb, ◌||◌}
+use Rattle.std.proofs.lemmas.Bool.{and_parts, or_cases, and_from, or_left, or_right, cases_eq, cases_lt, cases_Bool, leb-true, eqb-true, ltb-true, le-leb, eq-eqb, lt-ltb}
 use Rattle.amd_model.proofs.BelowLemmas.{any_from, any_gives}
 use Rattle.amd_engine.specs.Counts.{is_before, is_entry}
 
@@ -18,6 +18,10 @@ pub same_tests : (b c : Bool) → (b ≡ true → c ≡ true) → (c ≡ true �
 same_tests true c f g = sym (f refl)
 same_tests false true f g = g refl
 same_tests false false f g = refl
+
+-- below, the same, or above
+pub cases_order : (b k : ℕ) → (b < k) ⊎ ((b ≡ k) ⊎ (k < b))
+cases_order b k = elim (cases_lt b k) [ inl x ↦ inl x | inr x ↦ inr (elim (cases_eq b k) [ inl y ↦ inl y | inr y ↦ inr (omega arith) ]) ]
 
 module _ (ap' ai : List ℕ) where
   pub before_from : (limit i j q : ℕ) → get_or ap' j 0 ≤ q → q < limit → get_or ai q 0 ≡ i → is_before ap' ai limit i j ≡ true

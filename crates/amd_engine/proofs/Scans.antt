@@ -1,5 +1,6 @@
 -- Steps of the walk.
-use Rattle.std.proofs.Common.{◌≡◌, ◌≢◌, ◌+◌, ◌<◌, ◌≤◌, ◌⊎◌, inl, inr, ℕ, Bool, true, false, List, length, get_or, set, get_or-set_same, get_or-set_other, arith, refl, sym, ◌∙◌, cond, eqb, ltb, ◌||◌, ◌&&◌, not}
+use Rattle.std.proofs.Common.{ap, ◌≡◌, ◌≢◌, ◌+◌, ◌<◌, ◌≤◌, ◌⊎◌, inl, inr, ℕ, Bool, true, false, List, length, get_or, set, get_or-set_same, get_or-set_other, arith, refl, sym, ◌∙◌, cond, eqb, ltb, ◌||◌, ◌&&◌, not}
+use Rattle.std.proofs.Math.Bool.{and_comm, or_comm}
 use Rattle.std.proofs.lemmas.Bool.{and_parts, or_cases, and_from, or_left, or_right, cases_eq, cases_lt, eqb-true, ltb-true, eq-eqb, lt-ltb, le-ltb, ne_eqb}
 use Rattle.std.proofs.lemmas.List.{length-set, get_or_past}
 use Rattle.amd_engine.specs.Visits.{with_arc, IsNew}
@@ -8,28 +9,18 @@ use Rattle.amd_engine.specs.Counts.{is_before, is_entry, is_edge, count_graph}
 use Rattle.amd_engine.specs.Walk.{IsScan, is_read, is_met, met}
 use Rattle.amd_engine.proofs.Places.{funext2, false_if, before_gives, before_none, before_more, entry_from}
 
--- two arcs of an edge (i, j) join a half where only (i, j) is new
-both_arcs : (h : ℕ → ℕ → Bool) (h' : ℕ → ℕ → Bool) (i j : ℕ) → ((a b : ℕ) → h' a b ≡ h a b || (eqb a j && eqb b i)) → with_arc (with_arc (λ a b. h a b || h b a) i j) j i ≡ (λ a b. h' a b || h' b a)
+-- both arcs of an edge are new where one half of the set gains the test x, which passes one of them
+pub both_arcs : (h h' x : ℕ → ℕ → Bool) (i j : ℕ) → ((a b : ℕ) → h' a b ≡ (h a b || x a b)) → ((a b : ℕ) → (x a b || x b a) ≡ ((eqb a i && eqb b j) || (eqb a j && eqb b i))) →
+    with_arc (with_arc (λ a b. h a b || h b a) i j) j i ≡ (λ a b. h' a b || h' b a)
 unfolding with_arc
-both_arcs h h' i j e = funext2 _ _ (λ a b. rw (e a b, e b a) (mix (h a b) (h b a) (eqb a i) (eqb b j) (eqb a j) (eqb b i)))
+both_arcs h h' x i j e f = funext2 _ _ (λ a b. rw (e a b, e b a) (mix (h a b) (h b a) _ _ (x a b) (x b a) (f a b)))
   where
-    mix : (x y p q r s : Bool) → ((x || y) || (p && q)) || (r && s) ≡ (x || (r && s)) || (y || (q && p))
-    mix true y p q r s = refl
-    mix false true p q true true = refl
-    mix false true p q true false = refl
-    mix false true p q false s = refl
-    mix false false true true true true = refl
-    mix false false true true true false = refl
-    mix false false true true false s = refl
-    mix false false true false true true = refl
-    mix false false true false true false = refl
-    mix false false true false false s = refl
-    mix false false false true true true = refl
-    mix false false false true true false = refl
-    mix false false false true false s = refl
-    mix false false false false true true = refl
-    mix false false false false true false = refl
-    mix false false false false false s = refl
+    mix : (p q u v r s : Bool) → (r || s) ≡ (u || v) → (((p || q) || u) || v) ≡ ((p || r) || (q || s))
+    mix true q u v r s e = refl
+    mix false true u v true s e = refl
+    mix false true u v false s e = refl
+    mix false false u v true s e = sym e
+    mix false false u v false s e = sym e
 
 apart : (a b : ℕ) → a ≢ b → not (eqb a b) ≡ true
 apart a b ne = rw (ne_eqb a b ne) refl
@@ -68,7 +59,7 @@ module _ (n : ℕ) (ap' ai : List ℕ) (form : IsSortedForm n ap' ai) where
       with_arc (with_arc (met n ap' ai t k m) i j) j i ≡ met n ap' ai u k m
   unfolding met
   lower_meets t u k m j i q et eu other up low e never =
-      both_arcs (is_met n ap' ai t k m) (is_met n ap' ai u k m) i j (half_lower t u k m j i q et eu other up low e never)
+      both_arcs (is_met n ap' ai t k m) (is_met n ap' ai u k m) (λ a b. eqb a j && eqb b i) i j (half_lower t u k m j i q et eu other up low e never) (λ a b. or_comm (eqb a j && eqb b i) _ ∙ ap (λ y. y || (eqb a j && eqb b i)) (and_comm (eqb b j) (eqb a i)))
 
   -- the entry (k, j) of the lower part, which has a mirror
   pub mirror_meets : (t u : List ℕ) (k m j q : ℕ) → get_or t j 0 ≡ q → get_or u j 0 ≡ q + 1 → ((a : ℕ) → a ≢ j → get_or u a 0 ≡ get_or t a 0) →

@@ -1,30 +1,14 @@
 -- Steps of the walk over the upper entries.
 use Rattle.std.proofs.Common.{◌≡◌, ◌≢◌, ◌+◌, ◌<◌, ◌≤◌, ◌⊎◌, inl, inr, ℕ, Bool, true, false, List, get_or, set, get_or-set_same, get_or-set_other, arith, refl, ap, sym, ◌∙◌, cond, eqb, ltb, ◌||◌, ◌&&◌}
+use Rattle.std.proofs.Math.Bool.{and_comm}
 use Rattle.std.proofs.lemmas.Bool.{cases_eq, cases_lt, cases_Bool, true≢false, eq-eqb, lt-ltb, le-ltb, ne_eqb}
 use Rattle.std.proofs.lemmas.List.{length-set}
 use Rattle.amd_engine.specs.Visits.{with_arc, IsNew}
 use Rattle.amd_engine.proofs.Forms.{IsSortedForm}
 use Rattle.amd_engine.specs.Counts.{is_before, is_entry, count_graph}
 use Rattle.amd_engine.specs.Walk.{IsScan, is_read, is_met, met}
-use Rattle.amd_engine.proofs.Places.{funext2, before_none, entry_gives, entry_none}
-use Rattle.amd_engine.proofs.Scans.{two_new, met_within, in_column}
-
-both_arcs : (h h' : ℕ → ℕ → Bool) (i j : ℕ) → ((a b : ℕ) → h' a b ≡ h a b || (eqb a i && eqb b j)) → with_arc (with_arc (λ a b. h a b || h b a) i j) j i ≡ (λ a b. h' a b || h' b a)
-unfolding with_arc
-both_arcs h h' i j e = funext2 _ _ (λ a b. rw (e a b, e b a) (mix (h a b) (h b a) (eqb a i && eqb b j) (eqb a j) (eqb b i)))
-  where
-    mix : (x y p r s : Bool) → ((x || y) || p) || (r && s) ≡ (x || p) || (y || (s && r))
-    mix true y p r s = refl
-    mix false true true r s = refl
-    mix false true false r s = refl
-    mix false false true r s = refl
-    mix false false false true true = refl
-    mix false false false true false = refl
-    mix false false false false true = refl
-    mix false false false false false = refl
-
-cases_order3 : (b k : ℕ) → (b < k) ⊎ ((b ≡ k) ⊎ (k < b))
-cases_order3 b k = elim (cases_lt b k) [ inl x ↦ inl x | inr x ↦ inr (elim (cases_eq b k) [ inl y ↦ inl y | inr y ↦ inr (omega arith) ]) ]
+use Rattle.amd_engine.proofs.Places.{cases_order, funext2, before_none, entry_gives, entry_none}
+use Rattle.amd_engine.proofs.Scans.{both_arcs, two_new, met_within, in_column}
 
 module _ (n : ℕ) (ap' ai : List ℕ) (form : IsSortedForm n ap' ai) (t : List ℕ) (k m : ℕ) (k_in : k < n) (scan : IsScan n ap' ai t k m) where
   module _ (j : ℕ) (up : j < k) (pair : is_entry n ap' ai j k ≡ true) (low : m ≤ j) (gap : (a : ℕ) → m ≤ a → a < j → is_entry n ap' ai a k ≡ false) where
@@ -77,7 +61,7 @@ module _ (n : ℕ) (ap' ai : List ℕ) (form : IsSortedForm n ap' ai) (t : List 
 
     pub upper_after : with_arc (with_arc (met n ap' ai t k m) j k) k j ≡ met n ap' ai t k (j + 1)
     unfolding met
-    upper_after = both_arcs (is_met n ap' ai t k m) (is_met n ap' ai t k (j + 1)) j k upper_half
+    upper_after = both_arcs (is_met n ap' ai t k m) (is_met n ap' ai t k (j + 1)) (λ a b. eqb a j && eqb b k) j k upper_half (λ a b. ap (λ y. (eqb a j && eqb b k) || y) (and_comm (eqb b j) (eqb a k)))
 
     fresh : (met n ap' ai t k m j k ≡ false) × (met n ap' ai t k m k j ≡ false)
     unfolding met is_met is_read
@@ -160,7 +144,7 @@ module _ (n : ℕ) (ap' ai : List ℕ) (form : IsSortedForm n ap' ai) (t : List 
         half a b = elim (cases_lt a b) [
           | inr x ↦ rw (le-ltb a b x) refl
           | inl x ↦ elim (cases_Bool (is_entry n ap' ai a b)) [
-            | inl yes' ↦ rw yes' (elim (cases_order3 b k) [
+            | inl yes' ↦ rw yes' (elim (cases_order b k) [
               | inl y ↦ rw (lt-ltb b (k + 1) (omega arith), lt-ltb b k y) refl
               | inr y ↦ elim y [
                 | inl z ↦ rw (lt-ltb b (k + 1) (omega arith), eq-eqb b k z, lt-ltb a m (uppers a (omega arith) (rw z at yes'))) (or_true (ltb a b) (ltb b k))

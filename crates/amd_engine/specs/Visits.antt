@@ -1,5 +1,6 @@
--- Sets of arcs: an edge is two arcs, one in each direction, and a set of arcs is a test of two rows.
-use Rattle.std.specs.Prelude.{◌≡◌, ◌<◌, ◌&&◌, ◌||◌, ℕ, Bool, true, false, nat_eq}
+-- Sets of arcs: an edge is two arcs, one in each direction, and a set of arcs is a test of two rows. What visitors make of them.
+use Rattle.std.specs.Prelude.{◌≡◌, ◌≢◌, ◌+◌, ◌<◌, ◌≤◌, ◌&&◌, ◌||◌, ℕ, Bool, true, false, nat_eq, List, length, slice_index}
+use Rattle.amd_model.specs.Below.{sum_below, count_below}
 use Rattle.amd_model.specs.Graph.{Graph}
 
 -- the arcs so far, and one more
@@ -13,3 +14,21 @@ pub record IsNew (g : Graph) (seen : ℕ → ℕ → Bool) (i j : ℕ) : Type 0 
   pub edge : g.edge i j ≡ true
   pub fresh : seen i j ≡ false
   pub within : (a b : ℕ) → seen a b ≡ true → g.edge a b ≡ true
+
+-- the numbers of arcs of each row
+pub record AreCounts (g : Graph) (seen : ℕ → ℕ → Bool) (numbers : List ℕ) : Type 0 where
+  pub size : length numbers ≡ g.size
+  pub each : (i : ℕ) → i < g.size → slice_index numbers i ≡ count_below g.size (seen i)
+
+-- where the list of row i starts, if the lists of all neighbours stand one after another
+unfoldable pub start_of : Graph → ℕ → ℕ
+start_of g i = sum_below i (λ a. count_below g.size (g.edge a))
+
+-- the lists of the arcs of each row: each is filled from its start up to its `next`, and names a row at most once
+pub record AreLists (g : Graph) (seen : ℕ → ℕ → Bool) (next rows : List ℕ) : Type 0 where
+  pub size : length next ≡ g.size
+  pub room : start_of g g.size ≤ length rows
+  pub ends : (i : ℕ) → i < g.size → slice_index next i ≡ start_of g i + count_below g.size (seen i)
+  pub named : (i q : ℕ) → i < g.size → start_of g i ≤ q → q < slice_index next i → seen i (slice_index rows q) ≡ true
+  pub found : (i j : ℕ) → i < g.size → j < g.size → seen i j ≡ true → (q : ℕ) × (start_of g i ≤ q) × (q < slice_index next i) × (slice_index rows q ≡ j)
+  pub once : (i q r : ℕ) → i < g.size → start_of g i ≤ q → q < r → r < slice_index next i → slice_index rows q ≢ slice_index rows r

@@ -6,4 +6,5 @@ pub mod amd;
 pub mod dense;
 pub mod internal;
 pub mod permutations;
+pub mod lists;
 pub mod walk;

@@ -1,5 +1,6 @@
 -- The sum of the degrees is twice the number of edges, and the graph of a pattern is a graph.
 use Rattle.std.proofs.Common.{ℕ, ℤ, zero, suc, Bool, true, false, ◌≡◌, ◌≤◌, ◌*◌, ◌&&◌, ◌||◌, not, cond, eqb, ltb, List, inl, inr, refl, sym, ap, arith}
+use Rattle.std.proofs.Math.Bool.{or_comm}
 use Rattle.std.proofs.lemmas.Bool.{cases_eq, eq-eqb, ne_eqb, le-ltb}
 use Rattle.amd_model.specs.Below.{sum_below, count_below}
 use Rattle.amd_model.specs.Graph.{Graph, IsGraph, degree, degree_sum, edge_count}
@@ -33,14 +34,8 @@ module _ (n : ℕ) (ap' ai : List ℤ) where
   unfolding edge_at
   edge_turned i j = elim (cases_eq i j) [
     | inl same ↦ rw same refl
-    | inr ne ↦ rw (ne_eqb i j ne, ne_eqb j i (λ e. ne (sym e))) (either (is_pair n ap' ai i j) (is_pair n ap' ai j i))
+    | inr ne ↦ rw (ne_eqb i j ne, ne_eqb j i (λ e. ne (sym e))) (or_comm (is_pair n ap' ai i j) (is_pair n ap' ai j i))
   ]
-    where
-      either : (x y : Bool) → (x || y) ≡ (y || x)
-      either true true = refl
-      either true false = refl
-      either false true = refl
-      either false false = refl
 
   edge_inside : (i j : ℕ) → n ≤ i → edge_at i j ≡ false
   unfolding edge_at is_pair

@@ -27,7 +27,11 @@ pub mod ReachTest
 pub mod TieLists
 pub mod TieLaw
 pub mod TieSums
+pub mod TieStart
+pub mod StartingLists
 pub mod TieRun
+pub mod StepTest
+pub mod Examples
 pub mod TieBuckets
 pub mod Classes
 pub mod Counts

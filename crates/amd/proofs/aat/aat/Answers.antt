@@ -5,7 +5,7 @@ use Rattle.amd_model.specs.Below.{sum_below}
 use Rattle.amd_model.specs.Input.Pattern.{graph_of, diagonal_count}
 use Rattle.amd_engine.specs.Counts.{counts}
 use Rattle.amd_engine.proofs.Forms.{pointer_fits}
-use Rattle.amd.specs.Degrees.{AreCounts}
+use Rattle.amd_engine.specs.Visits.{AreCounts}
 use Rattle.amd.proofs.Counting.{counts_none}
 use Rattle.amd.proofs.Symmetry.{pairs_counted, diagonal_part}
 use Rattle.amd.proofs.PatternLemmas.{input_form, input_sorted, input_fits, degrees_are, figures_are}

@@ -1,6 +1,6 @@
 use Rattle.std.proofs.Common.{◌≡◌, ◌+◌, ◌≤◌, ◌^◌, length, get_or, arith, add-one, refl, suc}
 use Rattle.amd_model.specs.Below.{sum_below}
-use Rattle.amd.proofs.Counting.{sum_upto}
+use Rattle.amd_model.proofs.BelowLemmas.{sum_upto}
 use Rattle.amd.proofs.aat.total.Goals as goal
 
 pub numbers-init : goal.numbers-init

@@ -1,0 +1,55 @@
+// The demo that orders one small matrix and prints what the ordering tells of its pattern, after the first demo of the AMD user
+// guide. Called by the program `demo_simple` and by tests.
+
+ghost use Rattle.std.specs.Prelude.{◌≡◌, ◌≤◌, OnOk};
+ghost use Rattle.std.specs.Io.KnownBytes.{Appends};
+ghost use Rattle.amd_demos.specs.Lines.{figures_line, HasFiguresLine};
+
+use amd::{Control, Info, Status, order};
+use std::alloc::Allocator;
+use std::io;
+use std::io::Write;
+
+/// Writes the figures of a pattern, in one line.
+fn print_figures<W: Write>(info: &Info, out: &mut W) -> io::Result<()>
+    ensures { OnOk result (Appends (W.contents out.old) (W.contents out.new) (figures_line info.now)) }
+{
+    let nz = info.nz;
+    let nz_diag = info.nz_diag;
+    let nz_a_plus_at = info.nz_a_plus_at;
+    let symmetry = info.symmetry;
+    writeln!(
+        out,
+        "nz {nz}, nz_diag {nz_diag}, nz_a_plus_at {nz_a_plus_at}, symmetry {symmetry}"
+    )
+}
+
+/// Writes that there is no ordering.
+fn print_failure<W: Write>(out: &mut W) -> io::Result<()> {
+    out.write_all(b"AMD failed\n")
+}
+
+/// Orders a matrix in column form with `n` rows and sorted columns, and writes the figures of its pattern in one line. Where
+/// there is no ordering, or the columns are not sorted, the line is `AMD failed`. The answer is the exit status: 0 where the
+/// figures were written, else 1. After a fault of the writer nothing more is written.
+pub fn simple_to<W: Write, A: Allocator + Copy>(
+    alloc: A,
+    n: i32,
+    a_p: &[i32],
+    a_i: &[i32],
+    out: &mut W,
+) -> u8
+    ensures status { result ≤ 1 }
+    ensures written { result ≡ 0 → HasFiguresLine n a_p.now a_i.now (W.contents out.old) (W.contents out.new) }
+{
+    match order(alloc, n, a_p, a_i, &Control::default()) {
+        Ok((_, _, info)) if info.status == Status::OK => match print_figures(&info, out) {
+            Ok(()) => 0,
+            Err(_) => 1,
+        },
+        _ => {
+            let _ = print_failure(out);
+            1
+        }
+    }
+}

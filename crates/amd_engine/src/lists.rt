@@ -1,0 +1,72 @@
+// The lists of the neighbours of each row, one after another: a visitor of the walk over the edges that fills them, each in
+// the order in which the walk meets the edges of its row. Source: Amestoy, Davis and Duff 2004. Called by the engines.
+
+ghost use Rattle.std.specs.Prelude.{◌≡◌, ◌<◌, ◌≤◌, ℕ, pos, map, length, slice_index, IfOk};
+ghost use Rattle.amd_model.specs.Below.{sum_below};
+ghost use Rattle.amd_model.specs.Input.Columns.{IsColumnForm, IsSorted};
+ghost use Rattle.amd_model.specs.Input.Pattern.{graph_of};
+ghost use Rattle.amd_engine.specs.Visits.{AreCounts, AreLists, start_of};
+
+use crate::walk::{Visitor, walk};
+use num_traits::PrimInt;
+use std::alloc::{AllocError, Allocator};
+
+/// The lists of the rows, one after another: `next` says where each one ends.
+#[derive(Drop)]
+pub struct Lists<A: Allocator> {
+    pub next: Vec<usize, A>,
+    pub rows: Vec<usize, A>,
+}
+
+impl<A: Allocator> Visitor for Lists<A> {
+    ghost holds = { λ g seen l. AreLists g seen l.next.items l.rows.items };
+
+    fn arc(&mut self, i: usize, j: usize) {
+        let place = self.next[i];
+        self.rows[place] = j;
+        self.next[i] = place + 1;
+    }
+}
+
+/// Where the list of each row starts.
+fn starts<A: Allocator + Copy>(
+    alloc: A,
+    degrees: &[usize],
+    room: usize,
+) -> Result<Vec<usize, A>, AllocError>
+    requires { sum_below (length degrees.now) (λ a. slice_index degrees.now a) ≤ room }
+    ensures { IfOk result (λ v. (length v.items ≡ length degrees.now) × ((i : ℕ) → i < length degrees.now → slice_index v.items i ≡ sum_below i (λ a. slice_index degrees.now a))) }
+{
+    let mut next = Vec::new(alloc);
+    let mut total = 0;
+    'rows: for i in 0..degrees.len() {
+        next.push(total)?;
+        total += degrees[i];
+    }
+    Ok(next)
+}
+
+/// The lists of the neighbours of each of `size` rows, whose degrees are known, in a workspace of `room` places.
+pub fn neighbours<I: PrimInt, A: Allocator + Copy>(
+    alloc: A,
+    size: usize,
+    a_p: &[I],
+    a_i: &[I],
+    degrees: &[usize],
+    room: usize,
+) -> Result<Lists<A>, AllocError>
+    requires form { IsColumnForm (pos size) size (map I.value a_p.now) (map I.value a_i.now) }
+    requires sorted { IsSorted size (map I.value a_p.now) (map I.value a_i.now) }
+    requires degrees { AreCounts (graph_of size (map I.value a_p.now) (map I.value a_i.now)) ((graph_of size (map I.value a_p.now) (map I.value a_i.now)).edge) degrees.now }
+    requires room { start_of (graph_of size (map I.value a_p.now) (map I.value a_i.now)) size ≤ room }
+    ensures { IfOk result (λ l. AreLists (graph_of size (map I.value a_p.now) (map I.value a_i.now)) ((graph_of size (map I.value a_p.now) (map I.value a_i.now)).edge) l.next.items l.rows.items) }
+{
+    let next = starts(alloc, degrees, room)?;
+    let mut pointers = vec![in alloc; 0; size]?;
+    let mut lists = Lists {
+        next,
+        rows: vec![in alloc; 0; room]?,
+    };
+    let _ = walk(a_p, a_i, &mut pointers, &mut lists);
+    Ok(lists)
+}

@@ -1,0 +1,130 @@
+// Families of inputs for tests, in column form with `n` rows and columns: named graphs, and matrices drawn from a seed by a
+// linear congruential generator. Called by tests alone.
+
+ghost use Rattle.std.specs.Prelude.{◌≤◌};
+
+use std::alloc::{AllocError, AllocFailed, Allocator};
+
+/// Adds the rows of the entries in column `j`, in the order in which they stand.
+fn push_rows<A: Allocator>(
+    entries: &[(i64, i64)],
+    j: i64,
+    a_i: &mut Vec<i64, A>,
+) -> Result<(), AllocFailed<i64>> {
+    for &(row, column) in entries {
+        if column == j {
+            a_i.push(row)?;
+        }
+    }
+    Ok(())
+}
+
+/// The column form of a list of entries, each a row and a column. A column has its rows in the order in which they stand there.
+pub fn columns_of<A: Allocator + Copy>(
+    alloc: A,
+    n: i64,
+    entries: &[(i64, i64)],
+) -> Result<(Vec<i64, A>, Vec<i64, A>), AllocError> {
+    let mut a_p = Vec::new(alloc);
+    let mut a_i = Vec::new(alloc);
+    a_p.push(0)?;
+    for j in 0..n {
+        push_rows(entries, j, &mut a_i)?;
+        a_p.push(i64::try_from(a_i.len()).unwrap_or(i64::MAX))?;
+    }
+    Ok((a_p, a_i))
+}
+
+/// A star whose centre is row 0.
+pub fn star<A: Allocator + Copy>(
+    alloc: A,
+    n: i64,
+) -> Result<(Vec<i64, A>, Vec<i64, A>), AllocError> {
+    let mut entries = Vec::new(alloc);
+    for i in 1..n {
+        entries.push((i, 0))?;
+    }
+    columns_of(alloc, n, &entries)
+}
+
+/// Adds the entries of column `j` of a full matrix without its diagonal.
+fn push_full_column<A: Allocator>(
+    n: i64,
+    j: i64,
+    entries: &mut Vec<(i64, i64), A>,
+) -> Result<(), AllocFailed<(i64, i64)>> {
+    for i in 0..n {
+        if i != j {
+            entries.push((i, j))?;
+        }
+    }
+    Ok(())
+}
+
+/// A complete graph: a full matrix without its diagonal.
+pub fn complete<A: Allocator + Copy>(
+    alloc: A,
+    n: i64,
+) -> Result<(Vec<i64, A>, Vec<i64, A>), AllocError> {
+    let mut entries = Vec::new(alloc);
+    for j in 0..n {
+        push_full_column(n, j, &mut entries)?;
+    }
+    columns_of(alloc, n, &entries)
+}
+
+/// Draws a number below `n`, or 0 where `n` is 0: the generator's state makes one step, and its upper 31 bits are taken.
+fn draw(state: &mut u64, n: u64) -> i64 {
+    *state = state
+        .wrapping_mul(6364136223846793005)
+        .wrapping_add(1442695040888963407);
+    i64::try_from(*state / 8589934592 % n.max(1)).unwrap_or(0)
+}
+
+/// The number of rows of a matrix that is drawn from a seed: from 1 to 40.
+fn rows_of(seed: u64) -> u64
+    ensures { result ≤ 40 }
+{
+    1 + seed % 40
+}
+
+/// Adds three entries for each row, drawn from a seed, the row of an entry before its column.
+fn push_drawn<A: Allocator>(
+    seed: u64,
+    entries: &mut Vec<(i64, i64), A>,
+) -> Result<(), AllocFailed<(i64, i64)>> {
+    let n = rows_of(seed);
+    let mut state = seed;
+    for _ in 0..3 * n {
+        let row = draw(&mut state, n);
+        entries.push((row, draw(&mut state, n)))?;
+    }
+    Ok(())
+}
+
+/// A matrix drawn from a seed. Most of them are jumbled. The answer begins with the number of rows.
+pub fn drawn<A: Allocator + Copy>(
+    alloc: A,
+    seed: u64,
+) -> Result<(i64, Vec<i64, A>, Vec<i64, A>), AllocError> {
+    let n = i64::try_from(rows_of(seed)).unwrap_or(0);
+    let mut entries = Vec::new(alloc);
+    push_drawn(seed, &mut entries)?;
+    let (a_p, a_i) = columns_of(alloc, n, &entries)?;
+    Ok((n, a_p, a_i))
+}
+
+/// A matrix drawn from a seed, with a column 0 that has each row, so that row 0 may be dense.
+pub fn drawn_with_hub<A: Allocator + Copy>(
+    alloc: A,
+    seed: u64,
+) -> Result<(i64, Vec<i64, A>, Vec<i64, A>), AllocError> {
+    let n = i64::try_from(rows_of(seed)).unwrap_or(0);
+    let mut entries = Vec::new(alloc);
+    for i in 0..n {
+        entries.push((i, 0))?;
+    }
+    push_drawn(seed, &mut entries)?;
+    let (a_p, a_i) = columns_of(alloc, n, &entries)?;
+    Ok((n, a_p, a_i))
+}

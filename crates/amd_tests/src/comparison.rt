@@ -1,0 +1,187 @@
+// The calls beside the definitions in their plain form, on matrices drawn from seeds, jumbled and sorted, with and without a row
+// that has an edge to each other one.
+
+use amd::aat::aat;
+use amd::preprocess::preprocess;
+use amd::valid::valid;
+use amd::{Control, Info, Status, order};
+use amd_testing::inputs::{drawn, drawn_with_hub};
+use amd_testing::plain;
+use std::alloc::{AllocError, Global};
+use std::process::Abort;
+use std::test::Fail;
+
+/// The figures of a pattern by their definitions.
+fn figures_of(n: usize, a_p: &[i64], a_i: &[i64]) -> [usize; 4] {
+    [
+        n,
+        plain::nz(n, a_p, a_i),
+        plain::nz_diag(n, a_p, a_i),
+        plain::nz_a_plus_at(n, a_p, a_i),
+    ]
+}
+
+/// The figures that a record tells.
+fn figures_in(info: &Info) -> [usize; 4] {
+    [info.n, info.nz, info.nz_diag, info.nz_a_plus_at]
+}
+
+/// The class of a column form by the definition.
+fn class_of(n: usize, a_p: &[i64], a_i: &[i64]) -> Status {
+    if plain::is_jumbled(n, a_p, a_i) {
+        Status::OkButJumbled
+    } else {
+        Status::OK
+    }
+}
+
+/// Whether the first `live` rows of a list rise by degree, and those of one degree by index.
+fn rise_by_degree(n: usize, a_p: &[i64], a_i: &[i64], live: usize, p: &[i64]) -> bool {
+    let mut last = (0, 0);
+    for (k, &row) in p.iter().enumerate() {
+        let number = usize::try_from(row).unwrap_or(usize::MAX);
+        let this = (plain::degree(n, a_p, a_i, number), number);
+        if k < live && k > 0 && this <= last {
+            return false;
+        }
+        last = this;
+    }
+    true
+}
+
+/// Orders with one dense row parameter, and asserts that the answer is what the definitions say.
+fn compare_order(
+    rt: &impl Abort,
+    alloc: Global,
+    dense: i32,
+    n: i64,
+    a_p: &[i64],
+    a_i: &[i64],
+) -> Result<(), AllocError> {
+    let control = Control {
+        dense,
+        aggressive: true,
+    };
+    let Ok((p, p_inv, info)) = order(alloc, n, a_p, a_i, &control) else {
+        panic!(rt; "no answer at {dense} {n} {a_p:?} {a_i:?}");
+    };
+    let size = usize::try_from(n).unwrap_or(0);
+    let chosen = plain::dense_rows(alloc, dense, size, a_p, a_i)?;
+    assert!(rt; info.status == class_of(size, a_p, a_i), "{a_p:?} {a_i:?}");
+    assert_eq!(rt;
+        figures_in(&info),
+        figures_of(size, a_p, a_i),
+        "{a_p:?} {a_i:?}"
+    );
+    assert_eq!(rt;
+        info.symmetry,
+        plain::symmetric(size, a_p, a_i),
+        "{a_p:?} {a_i:?}"
+    );
+    assert_eq!(rt;
+        info.n_dense,
+        plain::how_many(&chosen),
+        "{dense} {a_p:?} {a_i:?}"
+    );
+    assert!(rt;
+        plain::are_inverse(size, &p, &p_inv),
+        "{dense} {a_p:?} {a_i:?}"
+    );
+    assert!(rt; plain::stand_last(&chosen, &p), "{dense} {a_p:?} {a_i:?}");
+    let live = size.saturating_sub(info.n_dense);
+    assert!(rt;
+        rise_by_degree(size, a_p, a_i, live, &p),
+        "{dense} {a_p:?} {a_i:?}"
+    );
+    Ok(())
+}
+
+/// Asserts that `preprocess` answers the transpose of a column form, cleaned.
+fn compare_preprocess(
+    rt: &impl Abort,
+    alloc: Global,
+    n: i64,
+    a_p: &[i64],
+    a_i: &[i64],
+    b_p: &[i64],
+    b_i: &[i64],
+) {
+    match valid(n, n, a_p, a_i) {
+        Status::OK => {}
+        Status::OkButJumbled => {}
+        _ => panic!(rt; "no column form: {a_p:?} {a_i:?}"),
+    }
+    let Ok((pointers, columns)) = preprocess(alloc, n, a_p, a_i) else {
+        panic!(rt; "no answer: {a_p:?} {a_i:?}");
+    };
+    assert_eq!(rt; pointers.as_slice(), b_p);
+    assert!(rt; columns.len() >= b_i.len());
+    assert_eq!(rt; &columns[..b_i.len()], b_i);
+}
+
+/// Asserts that `aat` answers the degrees and figures of a sorted column form.
+fn compare_aat(rt: &impl Abort, alloc: Global, n: i64, a_p: &[i64], a_i: &[i64]) {
+    assert!(rt; n > 0);
+    let Status::OK = valid(n, n, a_p, a_i) else {
+        panic!(rt; "not sorted: {a_p:?} {a_i:?}");
+    };
+    let mut info = Info::new(0);
+    let Ok((total, degrees)) = aat(alloc, n, a_p, a_i, &mut info) else {
+        panic!(rt; "no answer: {a_p:?} {a_i:?}");
+    };
+    let size = usize::try_from(n).unwrap_or(0);
+    assert_eq!(rt; degrees.len(), size);
+    for (i, &degree) in degrees.iter().enumerate() {
+        assert_eq!(rt;
+            degree,
+            plain::degree(size, a_p, a_i, i),
+            "row {i} of {a_p:?} {a_i:?}"
+        );
+    }
+    assert_eq!(rt;
+        total,
+        plain::nz_a_plus_at(size, a_p, a_i),
+        "{a_p:?} {a_i:?}"
+    );
+    assert_eq!(rt;
+        figures_in(&info),
+        figures_of(size, a_p, a_i),
+        "{a_p:?} {a_i:?}"
+    );
+    assert_eq!(rt;
+        info.symmetry,
+        plain::symmetric(size, a_p, a_i),
+        "{a_p:?} {a_i:?}"
+    );
+}
+
+/// Compares each call on a matrix and on its transpose, which is sorted.
+fn compare(
+    rt: &impl Abort,
+    alloc: Global,
+    n: i64,
+    a_p: &[i64],
+    a_i: &[i64],
+) -> Result<(), AllocError> {
+    assert!(rt; plain::is_column_form(n, n, a_p, a_i));
+    let (b_p, b_i) = plain::clean_transpose(alloc, usize::try_from(n).unwrap_or(0), a_p, a_i)?;
+    compare_preprocess(rt, alloc, n, a_p, a_i, &b_p, &b_i);
+    compare_aat(rt, alloc, n, &b_p, &b_i);
+    for dense in [10000, 0, -1] {
+        compare_order(rt, alloc, dense, n, a_p, a_i)?;
+        compare_order(rt, alloc, dense, n, &b_p, &b_i)?;
+    }
+    Ok(())
+}
+
+#[test]
+fn calls_agree_with_the_definitions(rt: HostRuntime) -> Result<(), Fail> {
+    let heap = rt.alloc();
+    for seed in 1..=64 {
+        let (n, a_p, a_i) = drawn(heap, seed)?;
+        compare(&rt, heap, n, &a_p, &a_i)?;
+        let (hub_n, hub_p, hub_i) = drawn_with_hub(heap, seed)?;
+        compare(&rt, heap, hub_n, &hub_p, &hub_i)?;
+    }
+    Ok(())
+}

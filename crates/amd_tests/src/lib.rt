@@ -1,0 +1,19 @@
+//! Tests of the ordering through its calls: worked inputs with their answers, hostile inputs, refused memory, and a comparison
+//! with the definitions in a plain form. The answers come from outside: worked by hand, from the literature's demos, or from
+//! other programs.
+#![tactic(auto)]
+
+#[cfg(test)]
+mod can_24;
+#[cfg(test)]
+mod classes;
+#[cfg(test)]
+mod comparison;
+#[cfg(test)]
+mod demos;
+#[cfg(test)]
+mod memory;
+#[cfg(test)]
+mod numbers;
+#[cfg(test)]
+mod worked;

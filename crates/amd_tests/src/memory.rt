@@ -1,0 +1,217 @@
+// Refused memory: each request in turn is refused, until a run makes no request of that number. Each run that met a refusal
+// answers `OutOfMemory`, and the first one without gives the answer.
+
+use amd::aat::aat;
+use amd::preprocess::preprocess;
+use amd::valid::valid;
+use amd::{Control, Info, Status, order};
+use amd_testing::inputs::star;
+use amd_testing::refusing::Refusing;
+use std::alloc::Global;
+use std::process::Abort;
+use std::test::Fail;
+
+/// More requests than any of these calls makes.
+const MANY: u64 = 200;
+
+/// Orders with one request refused, and says whether it was made.
+fn order_refusing(
+    rt: &impl Abort,
+    alloc: Global,
+    refuse_at: u64,
+    n: i64,
+    a_p: &[i64],
+    a_i: &[i64],
+    dense: i32,
+    p: &[i64],
+) -> bool {
+    let heap = Refusing::new(alloc, refuse_at);
+    let control = Control {
+        dense,
+        aggressive: true,
+    };
+    match order(&heap, n, a_p, a_i, &control) {
+        Ok((rows, _places, _info)) => {
+            assert!(rt; !heap.refused(), "at {refuse_at}");
+            assert_eq!(rt; rows.as_slice(), p);
+        }
+        Err(status) => {
+            assert!(rt; heap.refused(), "at {refuse_at}");
+            assert!(rt; status == Status::OutOfMemory, "at {refuse_at}");
+        }
+    }
+    heap.refused()
+}
+
+/// Orders with each request refused in turn.
+fn check_order(
+    rt: &impl Abort,
+    alloc: Global,
+    n: i64,
+    a_p: &[i64],
+    a_i: &[i64],
+    dense: i32,
+    p: &[i64],
+) {
+    let mut refusals = 0;
+    for refuse_at in 1..MANY {
+        if !order_refusing(rt, alloc, refuse_at, n, a_p, a_i, dense, p) {
+            break;
+        }
+        refusals = refuse_at;
+    }
+    assert!(rt; 0 < refusals && refusals < MANY - 1);
+}
+
+#[test]
+fn each_request_of_order(rt: HostRuntime) -> Result<(), Fail> {
+    let heap = rt.alloc();
+    let (cycle_p, cycle_i) = ([0, 2, 3, 4, 4], [1, 3, 2, 3]);
+    check_order(&rt, heap, 4, &cycle_p, &cycle_i, 10000, &[0, 1, 2, 3]);
+    assert_eq!(rt; (cycle_p, cycle_i), ([0, 2, 3, 4, 4], [1, 3, 2, 3]));
+    let (jumbled_p, jumbled_i) = ([0, 3, 3, 4], [2, 0, 2, 1]);
+    check_order(&rt, heap, 3, &jumbled_p, &jumbled_i, 10000, &[0, 1, 2]);
+    assert_eq!(rt; (jumbled_p, jumbled_i), ([0, 3, 3, 4], [2, 0, 2, 1]));
+    let (star_p, star_i) = star(heap, 18)?;
+    let centre_last = [1, 2, 3, 4, 5, 6, 7, 8, 9, 10, 11, 12, 13, 14, 15, 16, 17, 0];
+    check_order(&rt, heap, 18, &star_p, &star_i, -1, &centre_last);
+    let (again_p, again_i) = star(heap, 18)?;
+    assert_eq!(rt;
+        (star_p.as_slice(), star_i.as_slice()),
+        (again_p.as_slice(), again_i.as_slice())
+    );
+    Ok(())
+}
+
+#[test]
+fn calls_that_ask_no_memory(rt: HostRuntime) {
+    let heap = Refusing::new(rt.alloc(), 1);
+    let control = Control::default();
+    assert!(rt; order(&heap, 0i64, &[], &[], &control).is_ok());
+    assert!(rt; order(&heap, 0i64, &[7], &[], &control).is_ok());
+    for (n, a_p, a_i) in [
+        (2i64, [0, 2, 1].as_slice(), [0, 1].as_slice()),
+        (1, [1, 1].as_slice(), [0].as_slice()),
+        (1, [0, 1].as_slice(), [1].as_slice()),
+        (-1, [0].as_slice(), [].as_slice()),
+        (2, [0, 1].as_slice(), [0].as_slice()),
+        (2, [0, 1, 3].as_slice(), [0, 1].as_slice()),
+        (2, [0, 2, 3].as_slice(), [1, 0, 5].as_slice()),
+    ] {
+        match order(&heap, n, a_p, a_i, &control) {
+            Ok(_) => panic!(rt; "an answer for {a_p:?} {a_i:?}"),
+            Err(status) => assert!(rt; status == Status::Invalid),
+        }
+    }
+    assert_eq!(rt; heap.requests(), 0);
+}
+
+/// Transposes with one request refused, and says whether it was made.
+fn preprocess_refusing(rt: &impl Abort, alloc: Global, refuse_at: u64) -> bool {
+    let heap = Refusing::new(alloc, refuse_at);
+    let a_p = [0i64, 3, 3, 4];
+    let a_i = [2, 0, 2, 1];
+    let Status::OkButJumbled = valid(3, 3, &a_p, &a_i) else {
+        panic!(rt; "not jumbled");
+    };
+    match preprocess(&heap, 3, &a_p, &a_i) {
+        Ok((pointers, columns)) => {
+            assert!(rt; !heap.refused(), "at {refuse_at}");
+            assert_eq!(rt; pointers.as_slice(), [0, 1, 2, 3].as_slice());
+            assert!(rt; columns.len() >= 3);
+            assert_eq!(rt; [columns[0], columns[1], columns[2]], [0, 2, 0]);
+        }
+        Err(status) => {
+            assert!(rt; heap.refused(), "at {refuse_at}");
+            assert!(rt; status == Status::OutOfMemory, "at {refuse_at}");
+        }
+    }
+    heap.refused()
+}
+
+/// The numbers of a record.
+fn numbers_of(info: &Info) -> [usize; 11] {
+    [
+        info.n,
+        info.nz,
+        info.nz_diag,
+        info.nz_a_plus_at,
+        info.n_dense,
+        info.n_cmp_a,
+        info.lnz,
+        info.n_div,
+        info.n_mult_subs_ldl,
+        info.n_mult_subs_lu,
+        info.d_max,
+    ]
+}
+
+/// A record in which each number is another one.
+fn filled_info() -> Info {
+    Info {
+        status: Status::OkButJumbled,
+        n: 101,
+        nz: 102,
+        symmetry: true,
+        nz_diag: 103,
+        nz_a_plus_at: 104,
+        n_dense: 105,
+        n_cmp_a: 106,
+        lnz: 107,
+        n_div: 108,
+        n_mult_subs_ldl: 109,
+        n_mult_subs_lu: 110,
+        d_max: 111,
+    }
+}
+
+/// Counts the edges with one request refused, and says whether it was made.
+fn aat_refusing(rt: &impl Abort, alloc: Global, refuse_at: u64) -> bool {
+    let heap = Refusing::new(alloc, refuse_at);
+    let a_p = [0i64, 2, 6, 10, 12, 14];
+    let a_i = [0, 1, 0, 1, 2, 4, 1, 2, 3, 4, 2, 3, 1, 4];
+    let mut info = filled_info();
+    let Status::OK = valid(5, 5, &a_p, &a_i) else {
+        panic!(rt; "not sorted");
+    };
+    match aat(&heap, 5, &a_p, &a_i, &mut info) {
+        Ok((total, degrees)) => {
+            assert!(rt; !heap.refused(), "at {refuse_at}");
+            assert_eq!(rt; total, 10);
+            assert_eq!(rt; degrees.as_slice(), [1, 3, 3, 1, 2].as_slice());
+            assert_eq!(rt;
+                numbers_of(&info),
+                [5, 14, 5, 10, 105, 106, 107, 108, 109, 110, 111]
+            );
+            assert!(rt; !info.symmetry);
+        }
+        Err(status) => {
+            assert!(rt; heap.refused(), "at {refuse_at}");
+            assert!(rt; status == Status::OutOfMemory, "at {refuse_at}");
+            assert_eq!(rt;
+                numbers_of(&info),
+                numbers_of(&filled_info()),
+                "at {refuse_at}"
+            );
+            assert!(rt; info.symmetry, "at {refuse_at}");
+        }
+    }
+    assert!(rt; info.status == Status::OkButJumbled);
+    heap.refused()
+}
+
+#[test]
+fn each_request_of_the_inner_calls(rt: HostRuntime) {
+    let mut transposes = 0;
+    let mut counts = 0;
+    for refuse_at in 1..MANY {
+        if preprocess_refusing(&rt, rt.alloc(), refuse_at) {
+            transposes = refuse_at;
+        }
+        if aat_refusing(&rt, rt.alloc(), refuse_at) {
+            counts = refuse_at;
+        }
+    }
+    assert!(rt; 0 < transposes && transposes < MANY - 1);
+    assert!(rt; 0 < counts && counts < MANY - 1);
+}
