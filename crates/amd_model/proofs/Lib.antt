@@ -30,6 +30,7 @@ pub mod TieSums
 pub mod TieStart
 pub mod StartingLists
 pub mod TieRun
+pub mod RunsExist
 pub mod StepTest
 pub mod Examples
 pub mod TieBuckets

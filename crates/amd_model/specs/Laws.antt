@@ -123,3 +123,7 @@ AtTheEnd P = (g : Graph) (dense : ℕ → Bool) (aggressive : Bool) (first : Sta
 -- P holds of each listing of the last state of each run
 abbrev pub OfEachListing : (Graph → (ℕ → Bool) → State → List ℕ → Type 0) → Type 0
 OfEachListing P = AtTheEnd (λ g dense s. (p : List ℕ) → IsPostorder g dense s p → P g dense s p)
+
+-- each graph and each set of rows held last have a run
+abbrev pub RunsExist : Type 0
+RunsExist = (g : Graph) (dense : ℕ → Bool) (aggressive : Bool) → IsGraph g → (first : State) × (states : List State) × Run g dense aggressive first states
