@@ -1,8 +1,8 @@
 -- A state after a step, made from a choice of representatives.
 use Rattle.std.proofs.Common.{ℕ, Bool, true, false, ◌≡◌, ◌≢◌, ◌≤◌, ◌&&◌, ◌⊎◌, inl, inr, refl, sym, ◌∙◌, ap, cond, None, Some, eqb, not}
-use Rattle.std.proofs.lemmas.Bool.{cases_Bool, true≢false, eq-eqb, ne_eqb, and_parts, or_cases, cond-true, cond-false, not-true, not_from_false, and_from, or_left, or_right}
+use Rattle.std.proofs.lemmas.Bool.{cases_Bool, eq-eqb, ne_eqb, and_parts, or_cases, cond-true, cond-false, not-true, not_from_false, and_from, or_left, or_right}
 use Rattle.amd_model.specs.Below.{any_below}
-use Rattle.amd_model.proofs.BelowLemmas.{any_gives, any_from}
+use Rattle.amd_model.proofs.BelowLemmas.{any_gives, any_from, clash}
 use Rattle.amd_model.specs.Graph.{Graph, IsGraph}
 use Rattle.amd_model.specs.State.{State, Home, Last, Live, Gone, in_class, is_class, front, holds, stands, inside}
 use Rattle.amd_model.specs.Step.{StepAt, Alike, absorbed, other, outer, mass, block, border_of, new_bound, outside}
@@ -39,9 +39,6 @@ module _ (g : Graph) (aggressive : Bool) (c : ℕ) (s : State) (pick : ℕ → �
 
 module _ (g : Graph) (laws : IsGraph g) (aggressive : Bool) (c : ℕ) (s : State) (sound : IsSound g s) (pick : ℕ → ℕ) (is : IsPick g aggressive s c pick)
     (class : is_class s c ≡ true) (least : (d : ℕ) → is_class s d ≡ true → s.bound c ≤ s.bound d) where
-  clash : {b : Bool} {P : Type 0} → b ≡ true → b ≡ false → P
-  clash t f = absurd (true≢false (sym t ∙ f))
-
   pub block_cases : (v : ℕ) → block g aggressive s c v ≡ true → (s.home v ≡ Live c) ⊎ ((d : ℕ) × (mass g aggressive s c d ≡ true) × (s.home v ≡ Live d))
   unfolding block
   block_cases v b = elim (or_cases (in_class s c v) (any_below g.size (λ d. mass g aggressive s c d && in_class s d v)) b) [

@@ -1,21 +1,18 @@
 -- A step leads from a sound state to a sound one.
 use Rattle.std.proofs.Common.{ℕ, Bool, true, false, ◌≡◌, ◌≢◌, ◌<◌, ◌≤◌, ◌&&◌, not, ◌==◌, ◌⊎◌, inl, inr, sym, ◌∙◌, ap, subst, is_none}
-use Rattle.std.proofs.lemmas.Bool.{cases_Bool, true≢false, false≢true, and_parts, and_from, or_cases, or_left, or_right, cases_eq, not-true, not_from_false, ne_eqb}
+use Rattle.std.proofs.lemmas.Bool.{cases_Bool, false≢true, and_parts, and_from, or_cases, or_left, or_right, cases_eq, not-true, not_from_false, ne_eqb}
 use Rattle.amd_model.specs.Below.{any_below}
 use Rattle.amd_model.specs.Graph.{Graph, IsGraph}
 use Rattle.amd_model.specs.State.{State, Last, Live, Gone, live, eliminated, in_class, is_class, stands, inside, holds, neighbours, front}
 use Rattle.amd_model.specs.Step.{StepAt, Alike, absorbed, other, outer, mass, block, border_of}
 use Rattle.amd_model.specs.Reach.{Reach}
-use Rattle.amd_model.proofs.BelowLemmas.{any_gives, any_from, any_none}
+use Rattle.amd_model.proofs.BelowLemmas.{any_gives, any_from, any_none, clash}
 use Rattle.amd_model.proofs.StateLemmas.{class_gives, class_from, live_gives, live_from, gone_gives, gone_from, inside_gives, stands_gives, stands_from, holds_gives, neighbours_gives, neighbours_from, by_element, by_neighbour, front_gives, front_from, reach_more, reach_join, reach_flip, reach_split}
 use Rattle.amd_model.specs.Sound.{Together}
 use Rattle.amd_model.specs.Sound.{IsSound}
 use Rattle.amd_model.proofs.Sound.{live_small, holds_class, standing_small, neighbours_edge, front_live, front_whole, front_reached, reached_front}
 
 module _ (g : Graph) (laws : IsGraph g) (aggressive : Bool) (c : ℕ) (old new : State) (sound : IsSound g old) (step : StepAt g aggressive c old new) where
-  clash : {b : Bool} {P : Type 0} → b ≡ true → b ≡ false → P
-  clash t f = absurd (true≢false (sym t ∙ f))
-
   pub pivot_live : old.home c ≡ Live c
   pivot_live = class_gives c (old.home c) step.class
 

@@ -9,8 +9,8 @@ use Rattle.amd_model.specs.State.{State, Last, Live, Gone, live, eliminated, in_
 use Rattle.amd_model.specs.Step.{StepAt, other, outer, mass, block, border_of, beyond, outside, new_bound}
 use Rattle.amd_model.specs.Reach.{Reach, direct}
 use Rattle.amd_model.specs.Sound.{IsSound}
-use Rattle.amd_model.proofs.BelowLemmas.{any_gives, count_mono, count_pos}
-use Rattle.amd_model.proofs.Points.{sum_zero, count_zero, one_counted}
+use Rattle.amd_model.proofs.BelowLemmas.{any_gives, count_mono, count_pos, clash, sum_zero}
+use Rattle.amd_model.proofs.Points.{count_zero, one_counted}
 use Rattle.amd_model.proofs.Leaf.{leaf}
 use Rattle.amd_model.proofs.StateLemmas.{class_gives, class_from, live_gives, live_from, holds_gives, front_gives, reach_split, reach_flip}
 use Rattle.amd_model.proofs.Sound.{live_small, front_live, front_reached, neighbours_edge}
@@ -86,9 +86,6 @@ module _ (g : Graph) (laws : IsGraph g) (forest : IsForest g) (aggressive : Bool
     (step : StepAt g aggressive c old new) (thin : IsThin g old) where
   after : IsSound g new
   after = step_sound g laws aggressive c old new sound step
-
-  clash : {b : Bool} {P : Type 0} → b ≡ true → b ≡ false → P
-  clash t f = absurd (true≢false (sym t ∙ f))
 
   fate' : (v : ℕ) → Fate g laws aggressive c old new sound step v
   fate' = fate g laws aggressive c old new sound step
