@@ -2,7 +2,7 @@
 use Rattle.std.proofs.Common.{ℕ, Bool, true, false, ◌≡◌, ◌≢◌, ◌&&◌, ◌||◌, not, ◌==◌, refl, sym, ◌∙◌, ap}
 use Rattle.std.specs.Prelude.{◌↔◌}
 use Rattle.std.specs.Cmp.{both_ways}
-use Rattle.std.proofs.lemmas.Bool.{and_parts, and_from, not-true, not_from_false}
+use Rattle.std.proofs.lemmas.Bool.{and_from, not_from_false, ne_eqb}
 use Rattle.amd_model.specs.Below.{any_below}
 use Rattle.amd_model.specs.Graph.{Graph, IsGraph}
 use Rattle.amd_model.specs.State.{State, Home, Live, class_at, in_class, holds, neighbours, front}
@@ -10,6 +10,7 @@ use Rattle.amd_model.specs.Step.{outer, mass, block, border_of}
 use Rattle.amd_model.specs.Laws.{ClassesAreWhole, InEachState}
 use Rattle.amd_model.specs.Sound.{IsSound, Together}
 use Rattle.amd_model.proofs.StateLemmas.{class_gives, holds_gives, neighbours_gives, neighbours_from}
+use Rattle.amd_model.proofs.StepLemmas.{outer_parts}
 use Rattle.amd_model.proofs.Sound.{live_small, standing_small, holds_class, neighbours_edge, front_whole}
 use Rattle.amd_model.proofs.SoundStart.{start_sound}
 use Rattle.amd_model.proofs.Paths.{sound_states}
@@ -40,11 +41,11 @@ module _ (g : Graph) (laws : IsGraph g) (aggressive : Bool) (s : State) (sound :
       let hd = sound.named v d hv in let hz = sound.named w z hw in
       let named_w : (z == c) ≡ in_class s c w = sym (class_live c z (s.home w) hw) in
       let fronts : front g s c z ≡ front g s c w = front_same c z w z hz hw in (
-        (λ o. let a = and_parts (neighbours g s d z && not (front g s c z)) (not (z == c)) o in let b = and_parts (neighbours g s d z) (not (front g s c z)) a.0 in (
-          neighbours_edge g laws s sound d z v w b.0 hv hw,
-          sym fronts ∙ not-true (front g s c z) b.1,
-          sym named_w ∙ not-true (z == c) a.1,
-          (λ t. (neighbours_gives g s d z b.0).apart t.element (standing_small g laws s sound t.element t.standing)
+        (λ o. let p = outer_parts g s c d z o in (
+          neighbours_edge g laws s sound d z v w p.0 hv hw,
+          sym fronts ∙ p.1,
+          sym named_w ∙ ne_eqb z c p.2,
+          (λ t. (neighbours_gives g s d z p.0).apart t.element (standing_small g laws s sound t.element t.standing)
               (holds_class g laws s sound t.element d v t.standing hv t.first) (holds_class g laws s sound t.element z w t.standing hw t.second)),
         )),
         (λ t. and_from (neighbours g s d z && not (front g s c z)) (not (z == c))

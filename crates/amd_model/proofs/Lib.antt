@@ -1,6 +1,7 @@
 pub mod BelowLemmas
 pub mod Pigeonhole
 pub mod StateLemmas
+pub mod StepLemmas
 pub mod Sound
 pub mod SoundStep
 pub mod SoundStart

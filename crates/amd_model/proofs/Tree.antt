@@ -10,8 +10,9 @@ use Rattle.amd_model.proofs.BelowLemmas.{term_le_sum, any_from, clash}
 use Rattle.amd_model.proofs.StateLemmas.{live_gives, live_from, stands_gives, stands_from, holds_gives}
 use Rattle.amd_model.specs.Sound.{IsSound}
 use Rattle.amd_model.proofs.Sound.{live_small, gone_small, front_live}
-use Rattle.amd_model.proofs.SoundStep.{step_sound, Fate, goes, moves, stays, fate, pivot_live, block_pivot, block_gives', border_gives, absorbed_border, block_reaches}
+use Rattle.amd_model.proofs.SoundStep.{step_sound, Fate, goes, moves, stays, fate, pivot_live, block_pivot, border_gives, absorbed_border, block_reaches}
 use Rattle.amd_model.proofs.SoundStart.{is_last, is_empty, is_live, begins, no_edge}
+use Rattle.amd_model.proofs.StepLemmas.{block_cases}
 
 pub data Linked (s : State) (e u w : ℕ) : Type 0 where
   to_last : s.home w ≡ Last → Linked s e u w
@@ -40,7 +41,7 @@ module _ (g : Graph) (laws : IsGraph g) (aggressive : Bool) (c : ℕ) (old new :
   fate' = fate g laws aggressive c old new sound step
 
   pub block_live : (v : ℕ) → block g aggressive old c v ≡ true → (x : ℕ) × (old.home v ≡ Live x)
-  block_live v b = elim (block_gives' g laws aggressive c old new sound step v b) [ inl h ↦ (c, h) | inr k ↦ (k.0, k.2) ]
+  block_live v b = elim (block_cases g aggressive old c v b) [ inl h ↦ (c, h) | inr k ↦ (k.0, k.2) ]
 
   pub gone_stays : (v e : ℕ) → old.home v ≡ Gone e → new.home v ≡ Gone e
   gone_stays v e h = elim (fate' v) [
