@@ -8,11 +8,12 @@ use Rattle.amd_model.specs.Listing.{Tree, assembly_tree, children, roots, ListsT
 use Rattle.amd_model.specs.Laws.{AtTheEnd, HasListing}
 use Rattle.amd_model.proofs.BelowLemmas.{term_le_sum}
 use Rattle.amd_model.proofs.Tree.{IsTree}
-use Rattle.amd_model.proofs.ListingLemmas.{has, has_head, has_tail, child_parent, roots_level}
+use Rattle.amd_model.proofs.ListingLemmas.{has_head, has_tail, child_parent, roots_level}
 use Rattle.amd_model.proofs.EndState.{IsEnd, at_the_end}
+use Rattle.amd_model.specs.Tie.{has}
 
 -- subtrees can be listed one after another if the children of each can
-each_listed : (t : Tree) (es : List ℕ) → ((e : ℕ) → has e es ≡ true → (xs : List ℕ) × ListsTrees t (children t e) xs) → (xs : List ℕ) × ListsTrees t es xs
+each_listed : (t : Tree) (es : List ℕ) → ((e : ℕ) → has es e ≡ true → (xs : List ℕ) × ListsTrees t (children t e) xs) → (xs : List ℕ) × ListsTrees t es xs
 each_listed t [] f = ([], none)
 each_listed t (e ∷ rest) f =
     let below = f e (has_head e e rest refl) in
@@ -24,7 +25,7 @@ module _ (g : Graph) (dense : ℕ → Bool) (s : State) (end : IsEnd g dense s) 
   tree = end.made.tree
 
   -- children have lower ranks than their parent, so elements of ranks below n have listings
-  listed_within : (n : ℕ) (es : List ℕ) → ((e : ℕ) → has e es ≡ true → tree.rank e < n) → (xs : List ℕ) × ListsTrees (assembly_tree g s) es xs
+  listed_within : (n : ℕ) (es : List ℕ) → ((e : ℕ) → has es e ≡ true → tree.rank e < n) → (xs : List ℕ) × ListsTrees (assembly_tree g s) es xs
   listed_within zero es low = each_listed (assembly_tree g s) es (λ e h. absurd (let k = low e h in omega (arith, k)))
   listed_within (suc n) es low = each_listed (assembly_tree g s) es (λ e h. listed_within n (children (assembly_tree g s) e) (λ k i.
       let l = tree.later k e (child_parent g s tree end.made.sound.rows e k i).1 in let m = low e h in omega (arith, l, m)))
