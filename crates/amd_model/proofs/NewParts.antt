@@ -22,9 +22,6 @@ module _ (g : Graph) (laws : IsGraph g) (aggressive : Bool) (c : ℕ) (old new :
   after : IsSound g new
   after = step_sound g laws aggressive c old new sound step
 
-  S : ℕ → Bool
-  S v = border_of g aggressive old c v
-
   -- a class of the new state was one, with the same name
   pub was_class : (i : ℕ) → new.home i ≡ Live i → old.home i ≡ Live i
   was_class i h = elim (fate g laws aggressive c old new sound step i) [

@@ -6,7 +6,7 @@ use Rattle.amd_model.proofs.BelowLemmas.{any_from, clash}
 use Rattle.amd_model.specs.Graph.{Graph, IsGraph}
 use Rattle.amd_model.specs.State.{State, Home, Last, Live, Gone, in_class, is_class, front, holds, stands, inside}
 use Rattle.amd_model.specs.Step.{StepAt, Alike, absorbed, mass, block, border_of, new_bound, outside}
-use Rattle.amd_model.proofs.StateLemmas.{class_gives, class_from, holds_gives, stands_gives, front_gives}
+use Rattle.amd_model.proofs.StateLemmas.{class_gives, class_from, holds_gives, stands_gives}
 use Rattle.amd_model.specs.Sound.{IsSound}
 use Rattle.amd_model.proofs.Sound.{front_whole, live_small}
 use Rattle.amd_model.proofs.StepLemmas.{mass_gives, block_cases}
@@ -106,9 +106,6 @@ module _ (g : Graph) (laws : IsGraph g) (aggressive : Bool) (c : ℕ) (s : State
   picked v x b h = let hx = sound.named v x h in let bx = border_rep v x b h in let hp = is.class x hx bx in
       home_moved (pick x) (pick x) (is.in_border x hx bx) hp
       ∙ ap Live (sym (is.same x (pick x) hx hp bx (is.in_border x hx bx) (is.alike x hx bx)))
-
-  pub border_not_pivot : border_of g aggressive s c c ≡ true → ⊥
-  border_not_pivot b = clash class (front_gives g s c c (in_front c b)).0
 
   pub next_is_step : StepAt g aggressive c s (next_state g aggressive c s pick)
   unfolding next_state unbounded next_home new_bound outside holds stands

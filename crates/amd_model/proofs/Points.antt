@@ -33,18 +33,6 @@ count_drop n p x l =
     here true false q = absurd (true≢false (sym q))
     here false b q = refl
 
--- one number
-pub count_same_number : (n x : ℕ) → x < n → count_below n (λ k. k == x) ≡ 1
-count_same_number n x l =
-    let drop : count_below n (λ k. k == x) ≡ count_below n (λ k. (k == x) && not (k == x)) + cond (x == x) 1 0 = count_drop n (λ k. k == x) x l in
-    let none : count_below n (λ k. (k == x) && not (k == x)) ≡ 0 = count_zero n (λ k. (k == x) && not (k == x)) (λ k lk. never (k == x)) in
-    let one : cond {A = ℕ} (x == x) 1 0 ≡ 1 = ap (λ b. cond b 1 0) (eq-eqb x x refl) in
-    omega arith
-  where
-    never : (b : Bool) → (b && not b) ≡ false
-    never true = refl
-    never false = refl
-
 -- numbers that all are one number count for one at most
 pub count_one : (n : ℕ) (p : ℕ → Bool) (x : ℕ) → ((k : ℕ) → k < n → p k ≡ true → k ≡ x) → count_below n p ≤ 1
 unfolding count_below sum_below

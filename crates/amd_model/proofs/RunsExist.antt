@@ -1,7 +1,7 @@
 -- Each graph and each set of rows held last have a start, and the rounds of the elimination in lists make a run from it.
-use Rattle.std.proofs.Common.{ℕ, Bool, true, false, ◌≡◌, ◌&&◌, cond, refl, sym, ◌∙◌, arith, List, inl, inr, None}
+use Rattle.std.proofs.Common.{ℕ, Bool, false, ◌&&◌, cond, refl, ◌∙◌, arith, List, None}
 use Rattle.std.specs.Prelude.{nat_lt, ◌==◌}
-use Rattle.std.proofs.lemmas.Bool.{cases_lt, true≢false, eq-eqb, ne_eqb, lt-ltb, le-ltb, and_from, and_parts}
+use Rattle.std.proofs.lemmas.Bool.{eq-eqb, ne_eqb, lt-ltb, le-ltb, and_from, and_parts}
 use Rattle.std.specs.Cmp.{both_ways}
 use Rattle.amd_model.specs.Below.{list_below}
 use Rattle.amd_model.specs.Graph.{Graph, IsGraph, degree}
@@ -11,6 +11,7 @@ use Rattle.amd_model.specs.TieLaws.{NamesNeighbours}
 use Rattle.amd_model.specs.Laws.{RunsExist}
 use Rattle.amd_model.proofs.TieStart.{has_below, once_below, start_fits}
 use Rattle.amd_model.proofs.TieRun.{rounds_are_a_run}
+use Rattle.amd_model.proofs.StateLemmas.{edge_small}
 
 module _ (g : Graph) (dense : ℕ → Bool) where
   first_home : ℕ → Home
@@ -36,15 +37,9 @@ names_neighbours : (g : Graph) → IsGraph g → (i : ℕ) → NamesNeighbours g
 names_neighbours g laws i = record {
   named = λ j. has_below g.size (g.edge i) j ∙ both_ways (nat_lt j g.size && g.edge i j) (g.edge i j)
       (λ h. (and_parts (nat_lt j g.size) (g.edge i j) h).1)
-      (λ e. and_from (nat_lt j g.size) (g.edge i j) (small j e) e);
+      (λ e. and_from (nat_lt j g.size) (g.edge i j) (lt-ltb j g.size (edge_small g laws i j e).1) e);
   once = once_below g.size (g.edge i);
 }
-  where
-    small : (j : ℕ) → g.edge i j ≡ true → nat_lt j g.size ≡ true
-    small j e = elim (cases_lt j g.size) [
-      | inl l ↦ lt-ltb j g.size l
-      | inr l ↦ absurd (true≢false (sym e ∙ laws.symmetric i j ∙ laws.in_size j i l))
-    ]
 
 pub runs_exist : RunsExist
 runs_exist g dense aggressive laws =
