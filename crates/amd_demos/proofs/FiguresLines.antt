@@ -2,7 +2,7 @@
 use Rattle.std.proofs.Common.{◌≡◌, subst}
 use Rattle.std.specs.Prelude.{ℕ, ℤ, Option, List}
 use Rattle.std.specs.Io.KnownBytes.{Appends}
-use Rattle.amd_engine.specs.Classes.{IsClass}
+use Rattle.amd_engine.specs.Statuses.{IsStatusOf}
 use Rattle.amd_engine.specs.declared.amd.Info.{Info}
 use Rattle.amd_engine.specs.declared.amd.Status.TheVariants.{OK}
 use Rattle.amd.specs.Answers.{IsOrdering}
@@ -18,7 +18,7 @@ ordering-line m n t bp ap bi ai p q info old new same_n same_p same_i ordering s
     record {
       info = info;
       nothing = λ h. (three.nothing h).fresh;
-      sorted = λ h. subst (λ s. IsClass n n ap ai s) sorted (three.class h);
+      sorted = λ h. subst (λ s. IsStatusOf n n ap ai s) sorted (three.status h);
       figures = λ h. (three.orders h).figures;
       line = line;
     }

@@ -2,7 +2,7 @@
 use Rattle.std.specs.Prelude.{◌≡◌, ◌≢◌, ◌++◌, ℕ, ℤ, pos, Option, List, codes, unsigned_abs, if◌then◌else◌}
 use Rattle.std.specs.Fmt.{decimal}
 use Rattle.std.specs.Io.KnownBytes.{Appends}
-use Rattle.amd_engine.specs.Classes.{IsClass}
+use Rattle.amd_engine.specs.Statuses.{IsStatusOf}
 use Rattle.amd_engine.specs.Records.{fresh_info}
 use Rattle.amd_engine.specs.declared.amd.Info.{Info}
 use Rattle.amd_engine.specs.declared.amd.Status.TheVariants.{OK}
@@ -18,6 +18,6 @@ figures_line info =
 pub record HasFiguresLine (n : ℤ) (ap ai : List ℤ) (old new : Option (List ℕ)) : Type 0 where
   pub info : Info
   pub nothing : n ≡ pos 0 → info ≡ fresh_info 0
-  pub sorted : n ≢ pos 0 → IsClass n n ap ai OK
+  pub sorted : n ≢ pos 0 → IsStatusOf n n ap ai OK
   pub figures : n ≢ pos 0 → HasPatternFigures (unsigned_abs n) ap ai info
   pub line : Appends old new (figures_line info)

@@ -1,5 +1,5 @@
 // The lists of the neighbours of each row, one after another: a visitor of the walk over the edges that fills them, each in
-// the order in which the walk meets the edges of its row. Source: Amestoy, Davis and Duff 2004. Called by the engines.
+// the order in which the walk meets the edges of its row. Source: Amestoy, Davis and Duff 2004. An engine will start from them.
 
 ghost use Rattle.std.specs.Prelude.{◌≡◌, ◌<◌, ◌≤◌, ℕ, pos, map, length, slice_index, IfOk};
 ghost use Rattle.amd_model.specs.Below.{sum_below};

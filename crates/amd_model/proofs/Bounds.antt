@@ -1,12 +1,12 @@
 -- The bound of a class is at least the number of rows in L(c).
 use Rattle.std.proofs.Common.{ℕ, Bool, true, false, ◌≡◌, ◌≤◌, ◌+◌, ◌-◌, ◌&&◌, ◌||◌, not, inl, inr, sym, ◌∙◌, ap, subst, arith}
-use Rattle.std.proofs.lemmas.Bool.{cases_Bool, true≢false, and_parts, and_from, or_left, or_right, not-true, not_from_false}
+use Rattle.std.proofs.lemmas.Bool.{cases_Bool, and_parts, and_from, or_left, or_right, not-true, not_from_false}
 use Rattle.amd_model.specs.Below.{any_below, count_below}
 use Rattle.amd_model.specs.Graph.{Graph, IsGraph}
 use Rattle.amd_model.specs.State.{State, Live, live, eliminated, in_class, holds, front}
 use Rattle.amd_model.specs.Step.{StepAt, absorbed, other, outer, block, border_of, beyond, outside, new_bound}
 use Rattle.amd_model.specs.Reach.{Reach}
-use Rattle.amd_model.proofs.BelowLemmas.{any_from, count_mono, count_or, count_union, count_minus}
+use Rattle.amd_model.proofs.BelowLemmas.{any_from, count_mono, count_or, count_union, count_minus, clash}
 use Rattle.amd_model.proofs.StateLemmas.{class_gives, class_from, live_gives, live_from, holds_gives, neighbours_gives, by_element, by_neighbour, front_gives, reach_split, reach_flip}
 use Rattle.amd_model.specs.Sound.{IsSound}
 use Rattle.amd_model.proofs.Sound.{live_small, holds_class, front_live, front_whole, front_reached, reached_front}
@@ -19,9 +19,6 @@ Bounded g s = (c : ℕ) → s.home c ≡ Live c → count_below g.size (front g 
 module _ (g : Graph) (laws : IsGraph g) (aggressive : Bool) (c : ℕ) (old new : State) (sound : IsSound g old) (step : StepAt g aggressive c old new) where
   after : IsSound g new
   after = step_sound g laws aggressive c old new sound step
-
-  clash : {b : Bool} {P : Type 0} → b ≡ true → b ≡ false → P
-  clash t f = absurd (true≢false (sym t ∙ f))
 
   -- a class outside S is as it was
   pub kept_class : (i v : ℕ) → border_of g aggressive old c i ≡ false → new.home i ≡ Live i → new.home v ≡ Live i → old.home v ≡ Live i

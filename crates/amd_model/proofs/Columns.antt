@@ -6,7 +6,8 @@ use Rattle.amd_model.specs.State.{State, Last, Gone, live}
 use Rattle.amd_model.specs.Reach.{Reach}
 use Rattle.amd_model.specs.Listing.{assembly_tree, roots, IsPostorder}
 use Rattle.amd_model.proofs.Tree.{IsTree, self, in_dense, in_block_e, in_border, path_inside}
-use Rattle.amd_model.proofs.ListingLemmas.{has, has_mid, has_left, split_append, has_below, IsLevel, roots_level, listed_from, lower_first, upper_later}
+use Rattle.amd_model.proofs.ListingLemmas.{has_mid, has_left, split_append, has_below, IsLevel, roots_level, listed_from, lower_first, upper_later}
+use Rattle.amd_model.specs.Tie.{has}
 
 module _ (g : Graph) (s : State) (tree : IsTree g s) (over : (v : ℕ) → live s v ≡ false) (rows : (v : ℕ) → g.size ≤ v → s.home v ≡ Last)
     (gone_below : (f e : ℕ) → s.home f ≡ Gone e → f < g.size)
@@ -23,14 +24,14 @@ module _ (g : Graph) (s : State) (tree : IsTree g s) (over : (v : ℕ) → live 
   ]
 
   -- each row later than v that v reaches through earlier rows is dense, of the block of v, or on the border of its element
-  pub column_inside : (p ps bs : List ℕ) (v w e : ℕ) → IsPostorder g dense s p → p ≡ ps ++ v ∷ bs → s.home v ≡ Gone e → has w ps ≡ false → Reach g (λ u. has u ps) v w →
+  pub column_inside : (p ps bs : List ℕ) (v w e : ℕ) → IsPostorder g dense s p → p ≡ ps ++ v ∷ bs → s.home v ≡ Gone e → has ps w ≡ false → Reach g (λ u. has ps u) v w →
       (s.home w ≡ Last) ⊎ (s.home w ≡ Gone e) ⊎ (s.border e w ≡ true)
   column_inside p ps bs v w e post q hv n r =
       let split = in_blocks post.blocks ps bs v e hv (sym post.is ∙ q) in
       let level : IsLevel s (roots (assembly_tree g s)) = roots_level g s tree rows in
-      elim (path_inside g s tree over gone_below e (λ u. has u ps)
-      (λ u h. not_true (has u ps) (λ k. let a = listed_from g s tree rows level post.lists u (subst (λ m. has u m ≡ true) (sym split.1) (has_left u ps (v ∷ split.0) k)) in let b = a.3 in cc))
-      (λ u f h a. not_true (has u ps) (λ k. upper_later g s tree rows level post.lists ps split.0 v e u f split.1 hv h a k))
+      elim (path_inside g s tree over gone_below e (λ u. has ps u)
+      (λ u h. not_true (has ps u) (λ k. let a = listed_from g s tree rows level post.lists u (subst (λ m. has m u ≡ true) (sym split.1) (has_left u ps (v ∷ split.0) k)) in let b = a.3 in cc))
+      (λ u f h a. not_true (has ps u) (λ k. upper_later g s tree rows level post.lists ps split.0 v e u f split.1 hv h a k))
       (λ u f h a. lower_first g s tree rows level post.lists ps split.0 v e u f split.1 hv h a)
       e hv self n r) [
         | in_dense h ↦ inl h

@@ -11,21 +11,21 @@ use Rattle.amd_model.specs.Listing.{IsPostorder}
 use Rattle.amd_model.specs.Laws.{OfEachListing, ColumnsInside, EmptyColumns}
 use Rattle.amd_model.proofs.SoundStart.{no_edge}
 use Rattle.amd_model.proofs.StateLemmas.{reach_more}
-use Rattle.amd_model.proofs.ListingLemmas.{has}
 use Rattle.amd_model.proofs.Columns.{column_inside}
 use Rattle.amd_model.proofs.Places.{part_at, before_has, later_not_before}
 use Rattle.amd_model.proofs.EndState.{IsEnd, at_the_end}
 use Rattle.amd_model.proofs.ListedOnce.{listing_distinct}
+use Rattle.amd_model.specs.Tie.{has}
 
 -- the column of a place lies in the later rows of its block, on the border of its element, and in the dense rows
 pub end_columns : (g : Graph) (dense : ℕ → Bool) (s : State) → IsEnd g dense s → (p : List ℕ) → IsPostorder g dense s p → ColumnsInside g s p
 end_columns g dense s end p post k j e l m hv r =
-    let not_yet : has (slice_index p j) (take k p) ≡ false = elim (cases_Bool (has (slice_index p j) (take k p))) [
+    let not_yet : has (take k p) (slice_index p j) ≡ false = elim (cases_Bool (has (take k p) (slice_index p j))) [
       | inl h ↦ absurd (later_not_before p (listing_distinct g dense s end p post) k j (omega arith) m h)
       | inr h ↦ h
     ] in
     elim (column_inside g s end.made.tree end.over end.made.sound.rows end.small dense end.made.dense_last p (take k p) (drop (suc k) p) (slice_index p k) (slice_index p j) e post
-    (part_at p k (omega arith)) hv not_yet (reach_more g (before p k) (λ u. has u (take k p)) (λ u h. before_has p k u (omega arith) h) r)) [
+    (part_at p k (omega arith)) hv not_yet (reach_more g (before p k) (λ u. has (take k p) u) (λ u h. before_has p k u (omega arith) h) r)) [
       | inl h ↦ inr (inr h)
       | inr h ↦ elim h [ inl q ↦ inl q | inr q ↦ inr (inl q) ]
     ]

@@ -1,8 +1,9 @@
 -- Counts of sets that share no number: the count of their union is the sum.
-use Rattle.std.proofs.Common.{ℕ, zero, suc, Bool, true, false, ◌≡◌, ◌≢◌, ◌<◌, ◌≤◌, ◌+◌, ◌&&◌, ◌||◌, ◌==◌, not, cond, refl, arith}
-use Rattle.std.proofs.lemmas.Bool.{and_parts, and_from, eq-eqb, ne_eqb, not_from_false}
+use Rattle.std.proofs.Common.{ℕ, zero, suc, Bool, true, false, ◌≡◌, ◌≢◌, ◌<◌, ◌≤◌, ◌+◌, ◌&&◌, ◌||◌, ◌==◌, not, cond, refl, ap, arith}
+use Rattle.std.proofs.lemmas.Bool.{and_parts, and_from, ne_eqb, not_from_false}
 use Rattle.amd_model.specs.Below.{any_below, sum_below, count_below}
-use Rattle.amd_model.proofs.BelowLemmas.{any_gives, sum_plus, sum_mono, count_split, count_pos, count_mono, none_counted}
+use Rattle.amd_model.proofs.BelowLemmas.{any_gives, sum_plus, sum_mono, count_pos}
+use Rattle.amd_model.proofs.Points.{count_drop}
 
 le_or : (a b : Bool) → (a ≡ true → b ≡ true → ⊥) → cond a 1 0 + cond b 1 0 ≤ cond (a || b) 1 0
 le_or true true apart = absurd (apart refl refl)
@@ -39,10 +40,7 @@ count_all_apart (suc m) n h q apart =
 
 -- a set without one of its members
 pub count_without : (n : ℕ) (p : ℕ → Bool) (a : ℕ) → a < n → p a ≡ true → count_below n (λ k. p k && not (k == a)) + 1 ≤ count_below n p
-count_without n p a l e =
-    let split = count_split n p (λ k. k == a) in
-    let one : 0 < count_below n (λ k. p k && k == a) = count_pos n (λ k. p k && k == a) a l (and_from (p a) (a == a) e (eq-eqb a a refl)) in
-    omega (arith, split)
+count_without n p a l e = let drop = count_drop n p a l in let one : cond {A = ℕ} (p a) 1 0 ≡ 1 = ap (λ b. cond b 1 0) e in omega (arith, drop, one)
 
 -- a set with three different members
 pub count_three : (n : ℕ) (p : ℕ → Bool) (a b c : ℕ) → a < n → b < n → c < n → p a ≡ true → p b ≡ true → p c ≡ true → b ≢ a → c ≢ a → c ≢ b → 3 ≤ count_below n p
@@ -55,9 +53,3 @@ count_three n p a b c la lb lc pa pb pc ba ca cb =
     let third : 0 < count_below n (λ k. p' k && not (k == b)) = count_pos n (λ k. p' k && not (k == b)) c lc
     (and_from (p' c) (not (c == b)) pc' (not_from_false (c == b) (ne_eqb c b cb))) in
     omega (arith, first, second, third)
-
--- a set with no member
-pub count_none : (n : ℕ) (p : ℕ → Bool) → ((k : ℕ) → k < n → p k ≡ true → ⊥) → count_below n p ≡ 0
-count_none n p none =
-    let most : count_below n p ≤ count_below n (λ v. false) = count_mono n p (λ v. false) (λ k l e. absurd (none k l e)) in
-    let zero' = none_counted n in omega (arith, most, zero')

@@ -1,12 +1,13 @@
 -- The last state of a run: it is sound, its elements make a tree, no row is live, and the rows held last are the dense ones.
-use Rattle.std.proofs.Common.{ℕ, Bool, true, false, ◌≡◌, ◌<◌, ◌⊎◌, inl, inr, sym, ◌∙◌, subst, arith, List, [], ◌∷◌}
-use Rattle.std.proofs.lemmas.Bool.{cases_Bool, cases_eq}
+use Rattle.std.proofs.Common.{ℕ, Bool, true, false, ◌≡◌, ◌<◌, ◌⊎◌, inl, inr, refl, sym, ◌∙◌, subst, arith, List, [], ◌∷◌}
+use Rattle.std.proofs.lemmas.Bool.{cases_Bool, cases_eq, true≢false}
 use Rattle.amd_model.specs.Graph.{Graph, IsGraph, degree}
-use Rattle.amd_model.specs.State.{State, Last, Live, Gone, live, IsStart}
+use Rattle.amd_model.specs.State.{State, Home, Last, Live, Gone, live, eliminated, IsStart}
 use Rattle.amd_model.specs.Step.{StepAt}
 use Rattle.amd_model.specs.Run.{Run, Steps, last_state}
 use Rattle.amd_model.specs.Sound.{IsSound}
-use Rattle.amd_model.specs.Laws.{Under, itself, over, EdgesFollowTree, AtTheEnd}
+use Rattle.amd_model.specs.Laws.{Under, itself, over, DenseAreLast, EdgesFollowTree, AtTheEnd}
+use Rattle.amd_model.proofs.StateLemmas.{live_from, gone_from}
 use Rattle.amd_model.proofs.Sound.{gone_small}
 use Rattle.amd_model.proofs.SoundStep.{step_sound, goes, moves, stays, fate}
 use Rattle.amd_model.proofs.SoundStart.{start_sound}
@@ -76,3 +77,14 @@ end_edges g dense s end v w e f ed hv hw = elim (edge_line g s end.made.tree end
 
 pub edges_follow_tree : AtTheEnd (λ g dense s. EdgesFollowTree g s)
 edges_follow_tree g dense aggressive first states laws run = end_edges g dense (last_state first states) (at_the_end g dense aggressive first states laws run)
+
+end_dense : (g : Graph) (dense : ℕ → Bool) (s : State) → IsEnd g dense s → DenseAreLast g dense s
+end_dense g dense s end = record { held = end.made.dense_last; others = λ v l d. gone v l d (s.home v) refl }
+  where
+    gone : (v : ℕ) → v < g.size → dense v ≡ false → (h : Home) → s.home v ≡ h → eliminated s v ≡ true
+    gone v l d Last h = absurd (true≢false (sym (end.made.last_dense v l h) ∙ d))
+    gone v l d (Live c) h = absurd (true≢false (sym (live_from c (s.home v) h) ∙ end.over v))
+    gone v l d (Gone e) h = gone_from e (s.home v) h
+
+pub dense_are_last : AtTheEnd DenseAreLast
+dense_are_last g dense aggressive first states laws run = end_dense g dense (last_state first states) (at_the_end g dense aggressive first states laws run)

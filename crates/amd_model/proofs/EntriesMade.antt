@@ -1,7 +1,8 @@
 -- In a run on a forest the entries of the elements made so far and the edges among the live rows are all edges.
 use Rattle.std.proofs.Common.{ℕ, Bool, true, false, ◌≡◌, ◌≢◌, ◌<◌, ◌≤◌, ◌+◌, ◌&&◌, not, cond, inl, inr, refl, sym, ◌∙◌, ap, subst, arith}
 use Rattle.std.specs.Prelude.{◌==◌, nat_lt}
-use Rattle.std.proofs.lemmas.Bool.{cases_Bool, true≢false, false≢true, cases_eq, and_parts, and_from, not-true, not_from_false, eq-eqb, ne_eqb, lt-ltb}
+use Rattle.std.proofs.lemmas.Bool.{cases_Bool, false≢true, cases_eq, and_parts, and_from, not-true, not_from_false, eq-eqb, ne_eqb, lt-ltb}
+use Rattle.std.specs.Cmp.{both_ways}
 use Rattle.amd_model.specs.Below.{sum_below, count_below}
 use Rattle.amd_model.specs.Graph.{Graph, IsGraph, degree, edge_count}
 use Rattle.amd_model.specs.Forest.{IsForest}
@@ -10,8 +11,8 @@ use Rattle.amd_model.specs.Step.{StepAt, block, border_of}
 use Rattle.amd_model.specs.Figures.{front_sum, is_made, figure, entries}
 use Rattle.amd_model.specs.Reach.{direct}
 use Rattle.amd_model.specs.Sound.{IsSound}
-use Rattle.amd_model.proofs.BelowLemmas.{count_mono, count_same, count_split, count_pos, sum_same}
-use Rattle.amd_model.proofs.Points.{sum_at, sum_zero, count_zero, zero_counted, count_drop}
+use Rattle.amd_model.proofs.BelowLemmas.{count_mono, count_same, count_split, count_pos, sum_same, clash, sum_at, sum_zero}
+use Rattle.amd_model.proofs.Points.{count_zero, zero_counted, count_drop}
 use Rattle.amd_model.proofs.EdgesWithin.{within, without, within_same, within_without}
 use Rattle.amd_model.proofs.Sums.{entries_sum}
 use Rattle.amd_model.proofs.StateLemmas.{class_gives, live_gives, live_from, block_gives, block_from}
@@ -25,11 +26,6 @@ use Rattle.amd_model.proofs.Thin.{IsThin, edge_live, pivot_home, front_few, fron
 unfoldable pub edges_left : Graph → State → ℕ
 edges_left g s = within g.edge g.size (live s)
 
-same_test : (a b : Bool) → (a ≡ true → b ≡ true) → (b ≡ true → a ≡ true) → a ≡ b
-same_test true b f h = sym (f refl)
-same_test false true f h = h refl
-same_test false false f h = refl
-
 -- the entries of a front with at most two rows are the rows besides the pivot row
 few_entries : (f r l : ℕ) → f + r ≡ l + 1 → 0 < f → l ≤ 1 → front_sum entries f r ≡ l
 few_entries f r l sum some few = elim (cases_eq f 1) [
@@ -40,9 +36,6 @@ few_entries f r l sum some few = elim (cases_eq f 1) [
 
 module _ (g : Graph) (laws : IsGraph g) (forest : IsForest g) (aggressive : Bool) (c : ℕ) (old new : State) (sound : IsSound g old) (bounded : Bounded g old)
     (step : StepAt g aggressive c old new) (thin : IsThin g old) where
-  clash : {b : Bool} {P : Type 0} → b ≡ true → b ≡ false → P
-  clash t f = absurd (true≢false (sym t ∙ f))
-
   fate' : (v : ℕ) → Fate g laws aggressive c old new sound step v
   fate' = fate g laws aggressive c old new sound step
 
@@ -93,7 +86,7 @@ module _ (g : Graph) (laws : IsGraph g) (forest : IsForest g) (aggressive : Bool
   left_after : within g.edge g.size (without (live old) c) ≡ within g.edge g.size (live new)
   left_after = within_same g.edge g.size (without (live old) c) (live new) (λ w v lw lv.
       let a : Bool = without (live old) c w in let b : Bool = without (live old) c v in
-      same_test (a && (b && g.edge w v)) (live new w && (live new v && g.edge w v))
+      both_ways (a && (b && g.edge w v)) (live new w && (live new v && g.edge w v))
       (λ h. let p = and_parts a (b && g.edge w v) h in let q = and_parts b (g.edge w v) p.1 in let w' = without_gives w p.0 in let v' = without_gives v q.0 in
       and_from (live new w) (live new v && g.edge w v) (edge_stays w v w'.0 v'.0 w'.1 v'.1 q.1)
       (and_from (live new v) (g.edge w v) (edge_stays v w v'.0 w'.0 v'.1 w'.1 (laws.symmetric v w ∙ q.1)) q.1))
@@ -102,7 +95,7 @@ module _ (g : Graph) (laws : IsGraph g) (forest : IsForest g) (aggressive : Bool
 
   -- L has the live neighbours of the pivot row
   front_neighbours : count_below g.size (λ v. live old v && g.edge c v) ≡ count_below g.size (front g old c)
-  front_neighbours = count_same g.size (λ v. live old v && g.edge c v) (front g old c) (λ v l. same_test (live old v && g.edge c v) (front g old c v)
+  front_neighbours = count_same g.size (λ v. live old v && g.edge c v) (front g old c) (λ v l. both_ways (live old v && g.edge c v) (front g old c v)
       (λ h. let p = and_parts (live old v) (g.edge c v) h in reached_front g laws old sound c c v home_c p.0
       (elim (cases_Bool (in_class old c v)) [
         | inl k ↦ absurd (joined_differ c v p.1 (sym (thin.alone v c (class_gives c (old.home v) k))))
@@ -118,7 +111,7 @@ module _ (g : Graph) (laws : IsGraph g) (forest : IsForest g) (aggressive : Bool
 
   -- the block and the border of an element made before stay as they were
   block_same : (e v : ℕ) → e ≢ c → in_block new e v ≡ in_block old e v
-  block_same e v ne = same_test (in_block new e v) (in_block old e v)
+  block_same e v ne = both_ways (in_block new e v) (in_block old e v)
       (λ h. elim (gone_from_old g laws forest aggressive c old new sound bounded step thin v e (block_gives e (new.home v) h)) [
         | inl p ↦ absurd (ne p.0)
         | inr p ↦ block_from e (old.home v) p.1
@@ -141,7 +134,7 @@ module _ (g : Graph) (laws : IsGraph g) (forest : IsForest g) (aggressive : Bool
   new_rows : count_below g.size (in_block new c) + count_below g.size (new.border c) ≡ count_below g.size (front g old c) + 1
   new_rows =
       let B : ℕ → Bool = block g aggressive old c in let F : ℕ → Bool = front g old c in
-      let a : count_below g.size (in_block new c) ≡ count_below g.size B = count_same g.size (in_block new c) B (λ v l. same_test (in_block new c v) (B v)
+      let a : count_below g.size (in_block new c) ≡ count_below g.size B = count_same g.size (in_block new c) B (λ v l. both_ways (in_block new c v) (B v)
       (λ h. elim (gone_from_old g laws forest aggressive c old new sound bounded step thin v c (block_gives c (new.home v) h)) [ inl p ↦ p.1 | inr p ↦ absurd (p.0 refl) ])
       (λ h. block_from c (new.home v) (step.gone v h))) in
       let b : count_below g.size (new.border c) ≡ count_below g.size (λ v. F v && not (B v)) = count_same g.size (new.border c) (λ v. F v && not (B v)) (λ v l. step.made v ∙ border_is v) in
@@ -152,7 +145,7 @@ module _ (g : Graph) (laws : IsGraph g) (forest : IsForest g) (aggressive : Bool
       omega arith
     where
       besides : (v : ℕ) → (block g aggressive old c v && not (v == c)) ≡ (front g old c v && block g aggressive old c v)
-      besides v = same_test (block g aggressive old c v && not (v == c)) (front g old c v && block g aggressive old c v)
+      besides v = both_ways (block g aggressive old c v && not (v == c)) (front g old c v && block g aggressive old c v)
           (λ h. let p = and_parts (block g aggressive old c v) (not (v == c)) h in
           and_from (front g old c v) (block g aggressive old c v) (row_of v p.0 (λ q. clash (eq-eqb v c q) (not-true (v == c) p.1))) p.0)
           (λ h. let p = and_parts (front g old c v) (block g aggressive old c v) h in
@@ -211,9 +204,8 @@ module _ (g : Graph) (laws : IsGraph g) (forest : IsForest g) (aggressive : Bool
     unfolding figure part
     figure_step =
         let a = part_made in let b = part_before in
-        let s : sum_below g.size (part new) ≡ sum_below g.size (part old) + count_below g.size (front g old c)
-        = sum_at g.size (part new) (part old) c (count_below g.size (front g old c)) size_c (λ e l ne. part_same e ne) (omega (arith, a, b)) in
-        omega (arith, s)
+        let s : sum_below g.size (part new) + part old c ≡ sum_below g.size (part old) + part new c = sum_at g.size (part new) (part old) c size_c (λ e l ne. part_same e ne) in
+        omega (arith, a, b, s)
 
 -- at the start no entry is made, and all edges are left
 pub start_entries : (g : Graph) → IsGraph g → (dense : ℕ → Bool) → count_below g.size dense ≡ 0 → (s : State) → IsStart g dense s → figure entries g dense s + edges_left g s ≡ edge_count g
@@ -226,7 +218,7 @@ start_entries g laws dense none_dense s start =
     let last : front_sum entries (count_below g.size dense) 0 ≡ 0 = ap (λ f. front_sum entries f 0) none_dense ∙ few_none in
     let left : sum_below g.size (λ w. count_below w (λ v. live s w && (live s v && g.edge w v))) ≡ sum_below g.size (λ w. count_below w (g.edge w))
     = sum_same g.size (λ w. count_below w (λ v. live s w && (live s v && g.edge w v))) (λ w. count_below w (g.edge w)) (λ w lw. count_same w (λ v. live s w && (live s v && g.edge w v)) (g.edge w) (λ v lv.
-    same_test (live s w && (live s v && g.edge w v)) (g.edge w v)
+    both_ways (live s w && (live s v && g.edge w v)) (g.edge w v)
     (λ h. (and_parts (live s v) (g.edge w v) (and_parts (live s w) (live s v && g.edge w v) h).1).1)
     (λ e. and_from (live s w) (live s v && g.edge w v) (edge_live g laws dense free s start v w (laws.symmetric v w ∙ e)) (and_from (live s v) (g.edge w v) (edge_live g laws dense free s start w v e) e)))) in
     omega arith

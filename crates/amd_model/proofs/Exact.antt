@@ -1,6 +1,6 @@
 -- The bound of a class that one or two elements hold is the size of its front, and that of a class that none holds is its degree.
 use Rattle.std.proofs.Common.{ℕ, Bool, true, false, ◌≡◌, ◌≢◌, ◌<◌, ◌≤◌, ◌+◌, ◌-◌, ◌&&◌, ◌||◌, ◌==◌, not, inl, inr, refl, sym, ◌∙◌, ap, arith, cond, List, [], ◌∷◌}
-use Rattle.std.proofs.lemmas.Bool.{cases_Bool, true≢false, and_parts, and_from, or_cases, not-true, eq-eqb}
+use Rattle.std.proofs.lemmas.Bool.{false_from_ne_true, cases_Bool, true≢false, and_parts, and_from, or_cases, not-true, eq-eqb}
 use Rattle.std.specs.Cmp.{both_ways}
 use Rattle.amd_model.specs.Below.{any_below, count_below, sum_below}
 use Rattle.amd_model.specs.Graph.{Graph, IsGraph, degree}
@@ -10,8 +10,8 @@ use Rattle.amd_model.specs.Run.{Steps, EachState}
 use Rattle.amd_model.specs.Reach.{direct}
 use Rattle.amd_model.specs.Laws.{InEachState, BoundsMeetDegrees, front_size, holders, last_neighbours, is_last}
 use Rattle.amd_model.specs.Sound.{IsSound}
-use Rattle.amd_model.proofs.BelowLemmas.{any_gives, any_from, count_mono, count_same, count_split, count_pos}
-use Rattle.amd_model.proofs.Counts.{count_apart, count_all_apart, count_three, count_none}
+use Rattle.amd_model.proofs.BelowLemmas.{any_gives, any_from, count_mono, count_same, count_split, count_pos, clash}
+use Rattle.amd_model.proofs.Counts.{count_apart, count_all_apart, count_three}
 use Rattle.amd_model.proofs.StateLemmas.{class_gives, class_from, live_gives, live_from, gone_gives, holds_gives, neighbours_gives, by_element, by_neighbour, front_gives, front_from, reach_more, reach_flip}
 use Rattle.amd_model.proofs.Sound.{live_small, holds_class, standing_small, neighbours_edge, front_live, front_whole, front_reached, reached_front}
 use Rattle.amd_model.proofs.SoundStep.{step_sound, goes, moves, stays, fate, other_from, other_border, other_not_pivot, absorbed_border, border_gives, class_border, live_border, live_not_pivot, was_eliminated, still_eliminated, block_reaches}
@@ -19,6 +19,7 @@ use Rattle.amd_model.proofs.SoundStart.{none_stands, own, no_edge, is_last as st
 use Rattle.amd_model.proofs.Bounds.{Bounded, kept_class, near_count, step_bounded}
 use Rattle.amd_model.proofs.Paths.{start_bounded}
 use Rattle.amd_model.proofs.NewParts.{was_class, holds_new, neighbours_new}
+use Rattle.amd_model.proofs.Points.{count_zero}
 
 -- a class that one or two elements hold has the size of its front as bound, at most
 abbrev pub IsExact : Graph → State → Type 0
@@ -32,9 +33,6 @@ pub record IsUntouched (g : Graph) (s : State) (i : ℕ) : Type 0 where
 
 abbrev pub AreUntouched : Graph → State → Type 0
 AreUntouched g s = (i : ℕ) → s.home i ≡ Live i → ((e : ℕ) → holds g s e i ≡ true → ⊥) → IsUntouched g s i
-
-clash : {b : Bool} {P : Type 0} → b ≡ true → b ≡ false → P
-clash t f = absurd (true≢false (sym t ∙ f))
 
 module _ (g : Graph) (laws : IsGraph g) (aggressive : Bool) (c : ℕ) (old new : State) (sound : IsSound g old) (step : StepAt g aggressive c old new) where
   after : IsSound g new
@@ -250,7 +248,7 @@ module _ (g : Graph) (laws : IsGraph g) (aggressive : Bool) (c : ℕ) (old new :
 start_exact : (g : Graph) → IsGraph g → (dense : ℕ → Bool) (s : State) → IsStart g dense s → IsExact g s
 unfolding holders
 start_exact g laws dense s start i hi some few =
-    let none = count_none g.size (λ e. holds g s e i) (λ e l h. none_stands g laws dense s start e (holds_gives g s e i h).standing) in
+    let none = count_zero g.size (λ e. holds g s e i) (λ e l. false_from_ne_true (holds g s e i) (λ h. none_stands g laws dense s start e (holds_gives g s e i h).standing)) in
     omega (arith, none, some)
 
 start_untouched : (g : Graph) → IsGraph g → (dense : ℕ → Bool) (s : State) → IsStart g dense s → AreUntouched g s

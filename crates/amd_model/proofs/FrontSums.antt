@@ -1,21 +1,10 @@
--- Sums that differ at one number, sums over fronts, and the greatest of several numbers.
-use Rattle.std.proofs.Common.{ℕ, zero, suc, Bool, true, false, ◌≡◌, ◌≢◌, ◌<◌, ◌≤◌, ◌+◌, ◌-◌, ◌*◌, ◌/◌, cond, inl, inr, refl, sym, ◌∙◌, ap, arith}
+-- Sums over fronts, and the greatest of several numbers.
+use Rattle.std.proofs.Common.{ℕ, zero, suc, Bool, true, ◌≡◌, ◌<◌, ◌≤◌, ◌+◌, ◌-◌, ◌*◌, ◌/◌, cond, inl, inr, refl, sym, ◌∙◌, ap, arith}
 use Rattle.std.proofs.lemmas.Bool.{cases_eq, cases_Bool, cond-true, cond-false}
-use Rattle.amd_model.specs.Below.{sum_below, count_below}
+use Rattle.amd_model.specs.Below.{sum_below}
 use Rattle.amd_model.specs.Figures.{front_sum, entries, max_below}
-use Rattle.amd_model.proofs.BelowLemmas.{sum_same, sum_mono}
+use Rattle.amd_model.proofs.BelowLemmas.{sum_mono}
 use Rattle.amd_model.proofs.Sums.{entries_closed}
-
--- two sums whose terms differ at one number only
-pub sum_at : (n : ℕ) (f h : ℕ → ℕ) (c : ℕ) → c < n → ((k : ℕ) → k < n → k ≢ c → f k ≡ h k) → sum_below n f + h c ≡ sum_below n h + f c
-unfolding sum_below
-sum_at zero f h c l same = absurd (omega arith)
-sum_at (suc n) f h c l same = elim (cases_eq c n) [
-  | inl q ↦ (let rest : sum_below n f ≡ sum_below n h = sum_same n f h (λ k lk. same k (omega arith) (λ e. omega arith)) in
-      let a : f c ≡ f n = ap f q in let b : h c ≡ h n = ap h q in omega arith)
-  | inr ne ↦ (let here : f n ≡ h n = same n (omega arith) (λ e. ne (sym e)) in
-      let there : sum_below n f + h c ≡ sum_below n h + f c = sum_at n f h c (omega arith) (λ k lk off. same k (omega arith) off) in omega arith)
-]
 
 -- a sum of terms that are no less, and at one number greater by m, is greater by m
 pub sum_more : (n : ℕ) (f h : ℕ → ℕ) (c m : ℕ) → c < n → ((k : ℕ) → k < n → f k ≤ h k) → f c + m ≤ h c → sum_below n f + m ≤ sum_below n h
@@ -40,20 +29,6 @@ front_grows share f (suc m) r l = elim (cases_eq f (suc m)) [
 pub front_more : (share : ℕ → ℕ) (f r : ℕ) → front_sum share (suc f) r ≡ share (r + f) + front_sum share f r
 unfolding front_sum sum_below
 front_more share f r = refl
-
-one_of : (a b : Bool) → (a ≡ true → b ≡ true → ⊥) → cond a 1 0 + cond b 1 0 ≤ 1
-one_of true true h = absurd (h refl refl)
-one_of true false h = omega arith
-one_of false true h = omega arith
-one_of false false h = omega arith
-
--- two sets that are apart have no more numbers than there are
-pub count_apart : (n : ℕ) (p q : ℕ → Bool) → ((k : ℕ) → k < n → p k ≡ true → q k ≡ true → ⊥) → count_below n p + count_below n q ≤ n
-unfolding count_below sum_below
-count_apart zero p q h = omega arith
-count_apart (suc n) p q h =
-    let there : count_below n p + count_below n q ≤ n = count_apart n p q (λ k l. h k (omega arith)) in
-    let here : cond (p n) 1 0 + cond (q n) 1 0 ≤ 1 = one_of (p n) (q n) (h n (omega arith)) in omega arith
 
 -- the sum of one front more fits between two sums of the first numbers
 pub front_fits : (f r m : ℕ) → r ≤ m → front_sum entries f r + front_sum entries m 0 ≤ front_sum entries (m + f) 0

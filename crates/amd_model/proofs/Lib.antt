@@ -1,6 +1,7 @@
 pub mod BelowLemmas
 pub mod Pigeonhole
 pub mod StateLemmas
+pub mod StepLemmas
 pub mod Sound
 pub mod SoundStep
 pub mod SoundStart
@@ -20,13 +21,19 @@ pub mod EntriesMade
 pub mod EndState
 pub mod Places
 pub mod ListedOnce
+pub mod ListingsExist
 pub mod ColumnsInside
 pub mod NoFill
 pub mod ReachTest
 pub mod TieLists
 pub mod TieLaw
 pub mod TieSums
+pub mod TieStart
+pub mod StartingLists
 pub mod TieRun
+pub mod RunsExist
+pub mod StepTest
+pub mod Examples
 pub mod TieBuckets
 pub mod Classes
 pub mod Counts

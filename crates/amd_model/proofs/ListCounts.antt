@@ -6,8 +6,7 @@ use Rattle.std.proofs.lemmas.List.Sums.{sum_by-cons, sum_by-append}
 use Rattle.std.proofs.lemmas.List.Kept.{AllPairs-from_increasing}
 use Rattle.amd_model.specs.Below.{sum_below, count_below}
 use Rattle.amd_model.specs.Listing.{ListsEachRow}
-use Rattle.amd_model.proofs.BelowLemmas.{count_split}
-use Rattle.amd_model.proofs.TieSums.{sum_none}
+use Rattle.amd_model.proofs.BelowLemmas.{count_split, sum_zero, or_le}
 
 pub count_cons : (q : ℕ → Bool) (x : ℕ) (xs : List ℕ) → count_by q (x ∷ xs) ≡ cond (q x) 1 0 + count_by q xs
 count_cons q x xs = sum_by-cons (λ y. cond (q y) 1 0) x xs
@@ -30,14 +29,10 @@ count_weaker q r [] h = omega arith
 count_weaker q r (x ∷ xs) h = let a = count_cons q x xs in let b = count_cons r x xs in let c = count_weaker q r xs h in
     let d = one_test (q x) (r x) (h x) in omega (arith, a, b, c, d)
 
-either : (a b : Bool) → cond (a || b) 1 0 ≤ cond a 1 0 + cond b 1 0
-either true b = omega arith
-either false b = omega arith
-
 pub count_either : (q r : ℕ → Bool) (xs : List ℕ) → count_by (λ x. q x || r x) xs ≤ count_by q xs + count_by r xs
 count_either q r [] = omega arith
 count_either q r (x ∷ xs) = let a = count_cons q x xs in let b = count_cons r x xs in let c = count_cons (λ x. q x || r x) x xs in
-    let d = either (q x) (r x) in let e = count_either q r xs in omega (arith, a, b, c, d, e)
+    let d = or_le (q x) (r x) in let e = count_either q r xs in omega (arith, a, b, c, d, e)
 
 one_or_other : (a : Bool) → cond a 1 0 + cond (not a) 1 0 ≡ 1
 one_or_other true = omega arith
@@ -59,7 +54,7 @@ unfolding count_below sum_below
 one_counted zero q x only = omega arith
 one_counted (suc n) q x only = elim (cases_Bool (q n)) [
   | inl y ↦ (let e = only n y in
-      let none : sum_below n (λ k. cond (q k) 1 0) ≡ 0 = sum_none n (λ k. cond (q k) 1 0) (λ k l. elim (cases_Bool (q k)) [
+      let none : sum_below n (λ k. cond (q k) 1 0) ≡ 0 = sum_zero n (λ k. cond (q k) 1 0) (λ k l. elim (cases_Bool (q k)) [
         | inl t ↦ absurd (let i = only k t in omega arith)
         | inr f ↦ ap (λ b. cond b 1 0) f
       ]) in
@@ -74,7 +69,7 @@ cons_cases x xs v (suc k) l h = inr (k, omega arith, h)
 -- a list with each of the numbers that pass has no fewer places that pass
 pub count_listed : (n : ℕ) (q : ℕ → Bool) (xs : List ℕ) → ((v : ℕ) → v < n → q v ≡ true → Contains xs v) → count_below n q ≤ count_by q xs
 unfolding count_below
-count_listed n q [] h = let z : count_below n q ≡ 0 = sum_none n (λ k. cond (q k) 1 0) (λ k l. elim (cases_Bool (q k)) [
+count_listed n q [] h = let z : count_below n q ≡ 0 = sum_zero n (λ k. cond (q k) 1 0) (λ k l. elim (cases_Bool (q k)) [
   | inl t ↦ absurd (let r = (h k l t).1 in omega arith)
   | inr f ↦ ap (λ b. cond b 1 0) f
 ]) in omega arith

@@ -18,7 +18,7 @@ use Rattle.amd_model.specs.Figures.{front_sum, is_made, figure, entries, ldl_ste
 use Rattle.amd_model.specs.Laws.{is_last, ColumnsInside, EmptyColumns, Covers, OfEachListing}
 use Rattle.amd_model.proofs.BelowLemmas.{count_mono, sum_mono}
 use Rattle.amd_model.proofs.StateLemmas.{live_from, block_from}
-use Rattle.amd_model.proofs.ListingLemmas.{has, has_tail, has_right, has_mid, split_append, has_below, roots_level, listed_from}
+use Rattle.amd_model.proofs.ListingLemmas.{has_tail, has_right, has_mid, split_append, has_below, roots_level, listed_from}
 use Rattle.amd_model.proofs.Places.{has_place}
 use Rattle.amd_model.proofs.EndState.{IsEnd, at_the_end}
 use Rattle.amd_model.proofs.EmptyRows.{IsBusy, busy_at_the_end}
@@ -28,6 +28,7 @@ use Rattle.amd_model.proofs.ReachTest.{columns, factor_of}
 use Rattle.amd_model.proofs.TieLists.{clash}
 use Rattle.amd_model.proofs.FrontSums.{sum_more, front_grows, front_more, max_term, max_base}
 use Rattle.amd_model.proofs.ListCounts.{count_here, count_later, count_right, count_either, count_permuted, rising_bound, rising_pairs}
+use Rattle.amd_model.specs.Tie.{has}
 
 -- each column is no longer than the bound at its row and the rows after it
 pub data EachWithin (most : ℕ → List ℕ → ℕ) : List (List ℕ) → List ℕ → Type 0 where
@@ -110,7 +111,7 @@ module _ (g : Graph) (dense : ℕ → Bool) (s : State) (end : IsEnd g dense s) 
     | inl r ↦ absurd (let k = listed_from g s end.made.tree end.made.sound.rows (roots_level g s end.made.tree end.made.sound.rows) post.lists v (has_mid v post.blocks ps r.0 r.1) in
         let gone = k.3 in cc)
     | inr r ↦ (let u : ℕ = slice_index rest i in
-        let k = has_below g.size dense u (subst (λ xs. has u xs ≡ true) (sym r.2) (has_right u r.0 (v ∷ rest) (has_tail u v rest (has_place rest i l)))) in
+        let k = has_below g.size dense u (subst (λ xs. has xs u ≡ true) (sym r.2) (has_right u r.0 (v ∷ rest) (has_tail u v rest (has_place rest i l)))) in
         last_from (s.home u) (end.made.dense_last u k.0 k.1))
   ]
 

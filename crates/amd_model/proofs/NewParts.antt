@@ -5,7 +5,7 @@ use Rattle.amd_model.specs.Below.{any_below}
 use Rattle.amd_model.specs.Graph.{Graph, IsGraph}
 use Rattle.amd_model.specs.State.{State, Live, stands, holds, neighbours, front, is_class}
 use Rattle.amd_model.specs.Step.{StepAt, other, outer, mass, border_of}
-use Rattle.amd_model.proofs.BelowLemmas.{none_any}
+use Rattle.amd_model.proofs.BelowLemmas.{none_any, clash}
 use Rattle.amd_model.proofs.StateLemmas.{class_from, holds_gives, neighbours_gives, neighbours_from}
 use Rattle.amd_model.specs.Sound.{IsSound}
 use Rattle.amd_model.proofs.Sound.{live_small, holds_class, standing_small, neighbours_edge}
@@ -21,12 +21,6 @@ holds_by_rep g laws s sound e i hi = (
 module _ (g : Graph) (laws : IsGraph g) (aggressive : Bool) (c : ℕ) (old new : State) (sound : IsSound g old) (step : StepAt g aggressive c old new) where
   after : IsSound g new
   after = step_sound g laws aggressive c old new sound step
-
-  clash : {b : Bool} {P : Type 0} → b ≡ true → b ≡ false → P
-  clash t f = absurd (true≢false (sym t ∙ f))
-
-  S : ℕ → Bool
-  S v = border_of g aggressive old c v
 
   -- a class of the new state was one, with the same name
   pub was_class : (i : ℕ) → new.home i ≡ Live i → old.home i ≡ Live i

@@ -1,14 +1,15 @@
 -- A state after a step, made from a choice of representatives.
-use Rattle.std.proofs.Common.{ℕ, Bool, true, false, ◌≡◌, ◌≢◌, ◌≤◌, ◌&&◌, ◌⊎◌, inl, inr, refl, sym, ◌∙◌, ap, cond, None, Some, eqb, not}
-use Rattle.std.proofs.lemmas.Bool.{cases_Bool, true≢false, eq-eqb, ne_eqb, and_parts, or_cases, cond-true, cond-false, not-true, not_from_false, and_from, or_left, or_right}
+use Rattle.std.proofs.Common.{ℕ, Bool, true, false, ◌≡◌, ◌≢◌, ◌≤◌, ◌&&◌, inl, inr, refl, sym, ◌∙◌, ap, cond, None, Some, eqb, not}
+use Rattle.std.proofs.lemmas.Bool.{cases_Bool, eq-eqb, ne_eqb, and_parts, or_cases, cond-true, cond-false, not-true, not_from_false, and_from, or_left, or_right}
 use Rattle.amd_model.specs.Below.{any_below}
-use Rattle.amd_model.proofs.BelowLemmas.{any_gives, any_from}
+use Rattle.amd_model.proofs.BelowLemmas.{any_from, clash}
 use Rattle.amd_model.specs.Graph.{Graph, IsGraph}
 use Rattle.amd_model.specs.State.{State, Home, Last, Live, Gone, in_class, is_class, front, holds, stands, inside}
-use Rattle.amd_model.specs.Step.{StepAt, Alike, absorbed, other, outer, mass, block, border_of, new_bound, outside}
-use Rattle.amd_model.proofs.StateLemmas.{class_gives, class_from, holds_gives, stands_gives, front_gives}
+use Rattle.amd_model.specs.Step.{StepAt, Alike, absorbed, mass, block, border_of, new_bound, outside}
+use Rattle.amd_model.proofs.StateLemmas.{class_gives, class_from, holds_gives, stands_gives}
 use Rattle.amd_model.specs.Sound.{IsSound}
 use Rattle.amd_model.proofs.Sound.{front_whole, live_small}
+use Rattle.amd_model.proofs.StepLemmas.{mass_gives, block_cases}
 
 unfoldable pub class_in : Home → ℕ
 class_in Last = 0
@@ -39,28 +40,12 @@ module _ (g : Graph) (aggressive : Bool) (c : ℕ) (s : State) (pick : ℕ → �
 
 module _ (g : Graph) (laws : IsGraph g) (aggressive : Bool) (c : ℕ) (s : State) (sound : IsSound g s) (pick : ℕ → ℕ) (is : IsPick g aggressive s c pick)
     (class : is_class s c ≡ true) (least : (d : ℕ) → is_class s d ≡ true → s.bound c ≤ s.bound d) where
-  clash : {b : Bool} {P : Type 0} → b ≡ true → b ≡ false → P
-  clash t f = absurd (true≢false (sym t ∙ f))
-
-  pub block_cases : (v : ℕ) → block g aggressive s c v ≡ true → (s.home v ≡ Live c) ⊎ ((d : ℕ) × (mass g aggressive s c d ≡ true) × (s.home v ≡ Live d))
-  unfolding block
-  block_cases v b = elim (or_cases (in_class s c v) (any_below g.size (λ d. mass g aggressive s c d && in_class s d v)) b) [
-    | inl h ↦ inl (class_gives c (s.home v) h)
-    | inr h ↦ (let r = any_gives g.size (λ d. mass g aggressive s c d && in_class s d v) h in
-        let p = and_parts (mass g aggressive s c r.0) (in_class s r.0 v) r.2 in inr (r.0, p.0, class_gives r.0 (s.home v) p.1))
-  ]
-
   pub mass_front : (d : ℕ) → mass g aggressive s c d ≡ true → (s.home d ≡ Live d) × (front g s c d ≡ true)
-  unfolding mass
-  mass_front d h =
-      let o : Bool = not (any_below g.size (λ e. other g aggressive s c e && holds g s e d)) in
-      let m = and_parts (is_class s d && front g s c d && o) (not (any_below g.size (outer g s c d))) h in
-      let k = and_parts (is_class s d) (front g s c d) (and_parts (is_class s d && front g s c d) o m.0).0 in
-      (class_gives d (s.home d) k.0, k.1)
+  mass_front d h = let m = mass_gives g aggressive s c d h in (m.class, m.in_front)
 
   block_whole : (x v w : ℕ) → s.home v ≡ Live x → s.home w ≡ Live x → block g aggressive s c v ≡ true → block g aggressive s c w ≡ true
   unfolding block
-  block_whole x v w hv hw b = elim (block_cases v b) [
+  block_whole x v w hv hw b = elim (block_cases g aggressive s c v b) [
     | inl h ↦ or_left (in_class s c w) (any_below g.size (λ d. mass g aggressive s c d && in_class s d w)) (class_from c (s.home w) (hw ∙ sym hv ∙ h))
     | inr k ↦ or_right (in_class s c w) (any_below g.size (λ d. mass g aggressive s c d && in_class s d w))
         (any_from g.size (λ d. mass g aggressive s c d && in_class s d w) k.0 (live_small g laws s sound k.0 k.0 (mass_front k.0 k.1).0)
@@ -70,7 +55,7 @@ module _ (g : Graph) (laws : IsGraph g) (aggressive : Bool) (c : ℕ) (s : State
   kept_block : (v : ℕ) → in_class s c v ≡ false → front g s c v ≡ false → block g aggressive s c v ≡ false
   kept_block v out nf = elim (cases_Bool (block g aggressive s c v)) [
     | inr b ↦ b
-    | inl b ↦ elim (block_cases v b) [
+    | inl b ↦ elim (block_cases g aggressive s c v b) [
       | inl h ↦ clash (class_from c (s.home v) h) out
       | inr k ↦ (let m = mass_front k.0 k.1 in clash (front_whole g laws s sound c k.0 k.0 v m.0 k.2 m.1) nf)
     ]
@@ -121,9 +106,6 @@ module _ (g : Graph) (laws : IsGraph g) (aggressive : Bool) (c : ℕ) (s : State
   picked v x b h = let hx = sound.named v x h in let bx = border_rep v x b h in let hp = is.class x hx bx in
       home_moved (pick x) (pick x) (is.in_border x hx bx) hp
       ∙ ap Live (sym (is.same x (pick x) hx hp bx (is.in_border x hx bx) (is.alike x hx bx)))
-
-  pub border_not_pivot : border_of g aggressive s c c ≡ true → ⊥
-  border_not_pivot b = clash class (front_gives g s c c (in_front c b)).0
 
   pub next_is_step : StepAt g aggressive c s (next_state g aggressive c s pick)
   unfolding next_state unbounded next_home new_bound outside holds stands

@@ -1,7 +1,7 @@
 -- A run on a forest with no dense row makes no fill.
 use Rattle.std.proofs.Common.{ℕ, Bool, true, ◌≡◌, ◌≢◌, ◌<◌, ◌+◌, inl, inr, refl, sym, ◌∙◌, subst, arith, List, [], ◌∷◌, length}
 use Rattle.std.specs.Prelude.{slice_index}
-use Rattle.std.proofs.lemmas.Bool.{true≢false, cases_eq, cases_lt}
+use Rattle.std.proofs.lemmas.Bool.{true≢false, cases_eq}
 use Rattle.amd_model.specs.Below.{count_below}
 use Rattle.amd_model.specs.Graph.{Graph, IsGraph, edge_count}
 use Rattle.amd_model.specs.Forest.{IsForest}
@@ -14,7 +14,7 @@ use Rattle.amd_model.specs.Factor.{before}
 use Rattle.amd_model.specs.Sound.{IsSound}
 use Rattle.amd_model.specs.Laws.{OfEachListing, HasNoFill}
 use Rattle.amd_model.proofs.Points.{zero_counted}
-use Rattle.amd_model.proofs.StateLemmas.{live_from, reach_flip}
+use Rattle.amd_model.proofs.StateLemmas.{live_from, reach_flip, edge_small}
 use Rattle.amd_model.proofs.SoundStep.{step_sound}
 use Rattle.amd_model.proofs.SoundStart.{start_sound}
 use Rattle.amd_model.proofs.Bounds.{Bounded, step_bounded}
@@ -58,8 +58,8 @@ module _ (g : Graph) (laws : IsGraph g) (dense : ℕ → Bool) (none_dense : cou
 
   -- a path begins at a row below the size
   reach_small : (through : ℕ → Bool) {v w : ℕ} → Reach g through v w → v < g.size
-  reach_small through (direct {v} {w} e) = elim (cases_lt v g.size) [ inl l ↦ l | inr l ↦ absurd (true≢false (sym e ∙ laws.in_size v w l)) ]
-  reach_small through (by {v} {u} {w} e t r) = elim (cases_lt v g.size) [ inl l ↦ l | inr l ↦ absurd (true≢false (sym e ∙ laws.in_size v u l)) ]
+  reach_small through (direct {v} {w} e) = (edge_small g laws v w e).0
+  reach_small through (by {v} {u} {w} e t r) = (edge_small g laws v u e).0
 
   -- different rows of one block are joined by an edge, and so are a row of a block and the row on its border
   block_joined : (s : State) → IsThin g s → (v w e : ℕ) → s.home v ≡ Gone e → s.home w ≡ Gone e → v ≢ w → g.edge v w ≡ true

@@ -1,12 +1,11 @@
 -- The path theorem over runs.
-use Rattle.std.proofs.Common.{ℕ, Bool, true, false, ◌≡◌, ◌≤◌, refl, sym, ◌∙◌, arith, List, [], ◌∷◌}
+use Rattle.std.proofs.Common.{ℕ, Bool, ◌≤◌, arith, List, [], ◌∷◌}
 use Rattle.amd_model.specs.Below.{count_below}
 use Rattle.amd_model.specs.Graph.{Graph, IsGraph, degree}
-use Rattle.amd_model.specs.State.{State, is_class, front, IsStart}
+use Rattle.amd_model.specs.State.{State, front, IsStart}
 use Rattle.amd_model.specs.Run.{Steps, EachState}
-use Rattle.amd_model.specs.Reach.{TrueDegree}
 use Rattle.amd_model.specs.Laws.{FrontsArePaths, InEachState}
-use Rattle.amd_model.proofs.BelowLemmas.{count_mono, count_same}
+use Rattle.amd_model.proofs.BelowLemmas.{count_mono}
 use Rattle.amd_model.proofs.StateLemmas.{class_gives, front_gives}
 use Rattle.amd_model.specs.Sound.{IsSound}
 use Rattle.amd_model.proofs.Sound.{front_live, front_reached, reached_front}
@@ -19,17 +18,6 @@ fronts_are_paths g laws s sound c v w i = let hv = class_gives c (s.home v) i in
   (λ f. (front_live g laws s sound c w f, (front_gives g s c w f).0, front_reached g laws s sound c v w hv f)),
   (λ t. reached_front g laws s sound c v w hv t.0 t.1 t.2),
 )
-
--- the size of L is the true degree
-pub front_degree : (g : Graph) → IsGraph g → (s : State) → IsSound g s → (c n : ℕ) → is_class s c ≡ true → TrueDegree g s c n → n ≡ count_below g.size (front g s c)
-front_degree g laws s sound c n k t = sym t.count ∙ count_same g.size t.test (front g s c) (λ v l. same v (t.test v) (front g s c v)
-    (λ q. let r = (t.exact v l).0 q in let p = r.2 in reached_front g laws s sound c p.0 v (class_gives c (s.home p.0) p.1) r.0 r.1 p.2)
-    (λ f. (t.exact v l).1 (front_live g laws s sound c v f, (front_gives g s c v f).0, (c, k, front_reached g laws s sound c c v (class_gives c (s.home c) k) f))))
-  where
-    same : (v : ℕ) (a b : Bool) → (a ≡ true → b ≡ true) → (b ≡ true → a ≡ true) → a ≡ b
-    same v true b f h = sym (f refl)
-    same v false true f h = h refl
-    same v false false f h = refl
 
 pub start_bounded : (g : Graph) → IsGraph g → (dense : ℕ → Bool) (s : State) → IsStart g dense s → Bounded g s
 unfolding degree
@@ -48,3 +36,7 @@ sound_states P g laws aggressive each s (t ∷ rest) sound steps =
 pub fronts_in_each_state : InEachState (λ g aggressive s. FrontsArePaths g s)
 fronts_in_each_state g dense aggressive first states laws start steps =
     sound_states (FrontsArePaths g) g laws aggressive (fronts_are_paths g laws) first states (start_sound g laws dense first start) steps
+
+pub sound_in_each_state : InEachState (λ g aggressive s. IsSound g s)
+sound_in_each_state g dense aggressive first states laws start steps =
+    sound_states (IsSound g) g laws aggressive (λ s sound. sound) first states (start_sound g laws dense first start) steps

@@ -1,25 +1,20 @@
 -- A list of n places that names each number below n names each once, and nothing else.
-use Rattle.std.proofs.Common.{ℕ, zero, suc, Bool, true, false, ◌≡◌, ◌≢◌, ◌<◌, ◌≤◌, ◌+◌, ◌||◌, cond, inl, inr, refl, sym, ◌∙◌, ap, subst, arith}
+use Rattle.std.proofs.Common.{ℕ, zero, suc, Bool, true, false, ◌≡◌, ◌≢◌, ◌<◌, ◌≤◌, ◌+◌, cond, inl, inr, refl, sym, ◌∙◌, ap, arith}
 use Rattle.std.specs.Prelude.{◌==◌, nat_lt, List, length, slice_index, slice_index_or, Contains}
 use Rattle.std.proofs.lemmas.List.{get_or_default}
-use Rattle.std.proofs.lemmas.Bool.{cases_Bool, cases_eq, cases_lt, eq-eqb, ne_eqb, lt-ltb, le-ltb, ltb-true, eqb-true, true≢false}
+use Rattle.std.proofs.lemmas.Bool.{cases_Bool, cases_eq, cases_lt, eq-eqb, ne_eqb, lt-ltb, le-ltb, ltb-true}
 use Rattle.amd_model.specs.Below.{sum_below, count_below}
 use Rattle.amd_model.specs.Listing.{ListsEachRow}
-use Rattle.amd_model.proofs.BelowLemmas.{sum_plus, sum_same, sum_mono, term_le_sum, count_pos}
+use Rattle.amd_model.proofs.BelowLemmas.{sum_plus, sum_same, count_pos, sum_zero, count_most}
 
 -- 1 for true, 0 for false
 abbrev counted : Bool → ℕ
 counted b = cond b 1 0
 
-pub sum_zero : (n : ℕ) → sum_below n (λ k. 0) ≡ 0
-unfolding sum_below
-sum_zero zero = refl
-sum_zero (suc n) = let e = sum_zero n in omega (arith, e)
-
 -- a double sum, by rows or by columns
 pub sum_swap : (m n : ℕ) (f : ℕ → ℕ → ℕ) → sum_below m (λ i. sum_below n (λ j. f i j)) ≡ sum_below n (λ j. sum_below m (λ i. f i j))
 unfolding sum_below
-sum_swap zero n f = sym (sum_zero n)
+sum_swap zero n f = sym (sum_zero n (λ k. 0) (λ k l. refl))
 sum_swap (suc m) n f =
     let e = sum_swap m n f in
     let s = sum_plus n (λ j. f m j) (λ j. sum_below m (λ i. f i j)) in
@@ -42,15 +37,6 @@ count_equal (suc n) r =
           ] in
           let k : counted (nat_lt r (suc n)) ≡ counted (nat_lt r n) = ap counted same in omega (arith, e, h, k))
     ]
-
--- at most n of n numbers pass
-pub count_most : (n : ℕ) (p : ℕ → Bool) → count_below n p ≤ n
-unfolding sum_below count_below
-count_most zero p = omega arith
-count_most (suc n) p = let e : count_below n p ≤ n = count_most n p in elim (cases_Bool (p n)) [
-  | inl t ↦ (let h : counted (p n) ≡ 1 = ap counted t in omega (arith, e, h))
-  | inr t ↦ (let h : counted (p n) ≡ 0 = ap counted t in omega (arith, e, h))
-]
 
 -- where n of n numbers pass, each passes
 pub count_all : (n : ℕ) (p : ℕ → Bool) → n ≤ count_below n p → (k : ℕ) → k < n → p k ≡ true

@@ -1,25 +1,9 @@
--- Sums and counts that differ at one number, counts of few numbers, and the pigeonhole principle.
-use Rattle.std.proofs.Common.{ℕ, zero, suc, Bool, true, false, ◌≡◌, ◌≢◌, ◌<◌, ◌≤◌, ◌+◌, ◌&&◌, ◌||◌, not, cond, inl, inr, refl, sym, ap, subst, arith}
+-- Counts that differ at one number, counts of few numbers, and the pigeonhole principle.
+use Rattle.std.proofs.Common.{ℕ, zero, suc, Bool, true, false, ◌≡◌, ◌≢◌, ◌<◌, ◌≤◌, ◌+◌, ◌&&◌, ◌||◌, not, cond, inl, inr, refl, sym, ap, arith}
 use Rattle.std.specs.Prelude.{◌==◌}
 use Rattle.std.proofs.lemmas.Bool.{and_from, cases_eq, cases_Bool, true≢false, eqb-true, eq-eqb, ne_eqb, not_from_false}
 use Rattle.amd_model.specs.Below.{any_below, sum_below, count_below}
-use Rattle.amd_model.proofs.BelowLemmas.{none_any, sum_same, count_pos}
-
--- two functions that differ at one number by d have sums that differ by d
-pub sum_at : (n : ℕ) (f h : ℕ → ℕ) (x d : ℕ) → x < n → ((k : ℕ) → k < n → k ≢ x → f k ≡ h k) → f x ≡ h x + d → sum_below n f ≡ sum_below n h + d
-unfolding sum_below
-sum_at zero f h x d l same here = absurd (omega arith)
-sum_at (suc n) f h x d l same here = elim (cases_eq x n) [
-  | inl q ↦ (let at : f n ≡ h n + d = subst (λ k. f k ≡ h k + d) q here in
-      let rest : sum_below n f ≡ sum_below n h = sum_same n f h (λ k lk. same k (omega arith) (λ e. absurd (omega arith))) in omega arith)
-  | inr ne ↦ (let at : f n ≡ h n = same n (omega arith) (λ e. ne (sym e)) in
-      let rest : sum_below n f ≡ sum_below n h + d = sum_at n f h x d (omega arith) (λ k lk. same k (omega arith)) here in omega arith)
-]
-
-pub sum_zero : (n : ℕ) (f : ℕ → ℕ) → ((k : ℕ) → k < n → f k ≡ 0) → sum_below n f ≡ 0
-unfolding sum_below
-sum_zero zero f z = refl
-sum_zero (suc n) f z = let here : f n ≡ 0 = z n (omega arith) in let rest : sum_below n f ≡ 0 = sum_zero n f (λ k l. z k (omega arith)) in omega arith
+use Rattle.amd_model.proofs.BelowLemmas.{none_any, count_pos, sum_zero, sum_at, count_most}
 
 pub count_zero : (n : ℕ) (p : ℕ → Bool) → ((k : ℕ) → k < n → p k ≡ false) → count_below n p ≡ 0
 unfolding count_below
@@ -31,21 +15,13 @@ zero_counted n p z k l = elim (cases_Bool (p k)) [
   | inr no' ↦ no'
 ]
 
-pub count_most : (n : ℕ) (p : ℕ → Bool) → count_below n p ≤ n
-unfolding count_below sum_below
-count_most zero p = omega arith
-count_most (suc n) p = let rest : count_below n p ≤ n = count_most n p in one (p n) rest
-  where
-    one : (b : Bool) → count_below n p ≤ n → cond b 1 0 + count_below n p ≤ suc n
-    one true rest = omega arith
-    one false rest = omega arith
-
 -- a set without one number, and that number
 pub count_drop : (n : ℕ) (p : ℕ → Bool) (x : ℕ) → x < n → count_below n p ≡ count_below n (λ k. p k && not (k == x)) + cond (p x) 1 0
 unfolding count_below
-count_drop n p x l = sum_at n (λ k. cond (p k) 1 0) (λ k. cond (p k && not (k == x)) 1 0) x (cond (p x) 1 0) l
-    (λ k lk ne. ap (λ b. cond b 1 0) (apart (p k) (k == x) (ne_eqb k x ne)))
-    (here (p x) (x == x) (eq-eqb x x refl))
+count_drop n p x l =
+    let at = sum_at n (λ k. cond (p k) 1 0) (λ k. cond (p k && not (k == x)) 1 0) x l (λ k lk ne. ap (λ b. cond b 1 0) (apart (p k) (k == x) (ne_eqb k x ne))) in
+    let gap = here (p x) (x == x) (eq-eqb x x refl) in
+    omega (arith, at, gap)
   where
     apart : (a b : Bool) → b ≡ false → a ≡ (a && not b)
     apart true true q = absurd (true≢false q)
@@ -56,18 +32,6 @@ count_drop n p x l = sum_at n (λ k. cond (p k) 1 0) (λ k. cond (p k && not (k 
     here true true q = refl
     here true false q = absurd (true≢false (sym q))
     here false b q = refl
-
--- one number
-pub count_same_number : (n x : ℕ) → x < n → count_below n (λ k. k == x) ≡ 1
-count_same_number n x l =
-    let drop : count_below n (λ k. k == x) ≡ count_below n (λ k. (k == x) && not (k == x)) + cond (x == x) 1 0 = count_drop n (λ k. k == x) x l in
-    let none : count_below n (λ k. (k == x) && not (k == x)) ≡ 0 = count_zero n (λ k. (k == x) && not (k == x)) (λ k lk. never (k == x)) in
-    let one : cond {A = ℕ} (x == x) 1 0 ≡ 1 = ap (λ b. cond b 1 0) (eq-eqb x x refl) in
-    omega arith
-  where
-    never : (b : Bool) → (b && not b) ≡ false
-    never true = refl
-    never false = refl
 
 -- numbers that all are one number count for one at most
 pub count_one : (n : ℕ) (p : ℕ → Bool) (x : ℕ) → ((k : ℕ) → k < n → p k ≡ true → k ≡ x) → count_below n p ≤ 1
@@ -104,9 +68,9 @@ count_range n (suc m) f small differ =
     let rest : count_below n (λ v. any_below m (λ k. f k == v)) ≡ m = count_range n m f (λ k l. small k (omega arith)) (λ j k l lk. differ j k l (omega arith)) in
     let unmet : any_below m (λ k. f k == f m) ≡ false = none_any m (λ k. f k == f m) (λ k l e. differ k m l (omega arith) (eqb-true (f k) (f m) e)) in
     let step : count_below n (λ v. (f m == v) || any_below m (λ k. f k == v)) ≡ count_below n (λ v. any_below m (λ k. f k == v)) + 1
-    = sum_at n (λ v. cond ((f m == v) || any_below m (λ k. f k == v)) 1 0) (λ v. cond (any_below m (λ k. f k == v)) 1 0) (f m) 1 (small m (omega arith))
-    (λ v l ne. ap (λ b. cond b 1 0) (skip (f m == v) (any_below m (λ k. f k == v)) (ne_eqb (f m) v (λ e. ne (sym e)))))
-    (meet (f m == f m) (any_below m (λ k. f k == f m)) (eq-eqb (f m) (f m) refl) unmet) in
+    = (let at = sum_at n (λ v. cond ((f m == v) || any_below m (λ k. f k == v)) 1 0) (λ v. cond (any_below m (λ k. f k == v)) 1 0) (f m) (small m (omega arith))
+    (λ v l ne. ap (λ b. cond b 1 0) (skip (f m == v) (any_below m (λ k. f k == v)) (ne_eqb (f m) v (λ e. ne (sym e))))) in
+    let gap = meet (f m == f m) (any_below m (λ k. f k == f m)) (eq-eqb (f m) (f m) refl) unmet in omega (arith, at, gap)) in
     omega arith
   where
     skip : (a b : Bool) → a ≡ false → (a || b) ≡ b

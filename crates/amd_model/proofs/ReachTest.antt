@@ -1,17 +1,16 @@
 -- A test for paths (Warshall's recursion), and with it the factor under an order of the rows.
-use Rattle.std.proofs.Common.{ℕ, zero, suc, Bool, true, ◌≡◌, ◌<◌, ◌≤◌, ◌+◌, ◌&&◌, ◌||◌, ◌⊎◌, inl, inr, refl, sym, ◌∙◌, ap, subst, arith, List, [], ◌∷◌, ◌++◌, length}
+use Rattle.std.proofs.Common.{ℕ, zero, suc, Bool, true, ◌≡◌, ◌<◌, ◌&&◌, ◌||◌, ◌⊎◌, inl, inr, refl, sym, ◌∙◌, ap, subst, arith, List, [], ◌∷◌, ◌++◌, length}
 use Rattle.std.specs.Prelude.{nat_lt, slice_index, slice_index_or, ◌↔◌}
-use Rattle.std.proofs.lemmas.Bool.{true≢false, cases_eq, cases_lt, and_parts, and_from, or_cases, or_left, or_right, ltb-true, lt-ltb}
+use Rattle.std.proofs.lemmas.Bool.{cases_eq, and_parts, and_from, or_cases, or_left, or_right, ltb-true, lt-ltb}
 use Rattle.std.proofs.lemmas.List.{get_or_append_left, length-append}
 use Rattle.std.proofs.Math.Seq.{get_or-append_seam}
-use Rattle.std.proofs.lemmas.List.Sums.{sum_by_push}
-use Rattle.amd_model.specs.Below.{list_below, count_below, sum_below}
+use Rattle.amd_model.specs.Below.{list_below}
 use Rattle.amd_model.specs.Graph.{Graph, IsGraph}
 use Rattle.amd_model.specs.Reach.{Reach, direct, by}
-use Rattle.amd_model.specs.Factor.{before, IsColumn, IsFactor, needed, needed_front}
-use Rattle.amd_model.proofs.StateLemmas.{reach_join}
+use Rattle.amd_model.specs.Factor.{before, IsColumn, IsFactor}
+use Rattle.amd_model.proofs.StateLemmas.{reach_join, edge_small}
 use Rattle.amd_model.proofs.ListingLemmas.{has_below, below_has}
-use Rattle.amd_model.proofs.Places.{contains_has, has_contains, length_below, below_increasing}
+use Rattle.amd_model.proofs.Places.{contains_has, has_contains, below_increasing}
 
 -- w is reached from v through rows of the set that lie below m
 unfoldable pub reaches : Graph → (ℕ → Bool) → ℕ → ℕ → ℕ → Bool
@@ -74,24 +73,13 @@ module _ (g : Graph) (through : ℕ → Bool) where
   ]
 
   module _ (laws : IsGraph g) where
-    edge_small : (v w : ℕ) → g.edge v w ≡ true → w < g.size
-    edge_small v w e = elim (cases_lt w g.size) [
-      | inl l ↦ l
-      | inr l ↦ absurd (true≢false (sym e ∙ laws.symmetric v w ∙ laws.in_size w v l))
-    ]
-
     within : {v w : ℕ} → Reach g through v w → Reach g (below g.size) v w
     within (direct e) = direct e
-    within (by {v = v} {u = u} e x r) = by e (below_from g.size u x (edge_small v u e)) (within r)
+    within (by {v = v} {u = u} e x r) = by e (below_from g.size u x (edge_small g laws v u e).1) (within r)
 
     -- the test is exact
     pub reach_test : (v w : ℕ) → (reaches g through g.size v w ≡ true) ↔ Reach g through v w
     reach_test v w = (reaches_path g.size v w, λ r. path_reaches g.size (within r))
-
-front_push : (xs : List (List ℕ)) (c : List ℕ) (b : ℕ) → needed_front xs ≤ b → length c + 1 ≤ b → needed_front (xs ++ c ∷ []) ≤ b
-unfolding needed_front
-front_push [] c b l h = omega arith
-front_push (x ∷ xs) c b l h = let r = front_push xs c b (omega arith) h in omega (arith, r)
 
 module _ (g : Graph) (p : List ℕ) where
   -- place j is in the column of place k
@@ -109,10 +97,6 @@ module _ (g : Graph) (p : List ℕ) where
   unfoldable pub columns : List (List ℕ)
   columns = columns_to (length p)
 
-  pub column_length : (k : ℕ) → length (column k) ≡ count_below (length p) (in_column k)
-  unfolding column
-  column_length k = length_below (length p) (in_column k)
-
   length_columns_to : (n : ℕ) → length (columns_to n) ≡ n
   unfolding columns_to
   length_columns_to zero = refl
@@ -126,28 +110,6 @@ module _ (g : Graph) (p : List ℕ) where
         (get_or-append_seam (columns_to n) (column n) [] d ∙ ap column (sym q))
     | inr ne ↦ get_or_append_left (columns_to n) (column n ∷ []) d k (omega (arith, len)) ∙ column_at n k d (omega arith)
   ]
-
-  needed_to : (share : ℕ → ℕ) (n : ℕ) → needed share (columns_to n) ≡ sum_below n (λ k. share (count_below (length p) (in_column k)))
-  unfolding columns_to sum_below
-  needed_to share zero = refl
-  needed_to share (suc n) = let push = sum_by_push (λ c. share (length c)) (columns_to n) (column n) in let there = needed_to share n in
-      let here : share (length (column n)) ≡ share (count_below (length p) (in_column n)) = ap share (column_length n) in omega (arith, push, there, here)
-
-  -- what the columns need, as a sum over the places
-  pub needed_columns : (share : ℕ → ℕ) → needed share columns ≡ sum_below (length p) (λ k. share (count_below (length p) (in_column k)))
-  unfolding columns
-  needed_columns share = needed_to share (length p)
-
-  needed_front_to : (n b : ℕ) → ((k : ℕ) → k < n → count_below (length p) (in_column k) + 1 ≤ b) → needed_front (columns_to n) ≤ b
-  unfolding columns_to needed_front
-  needed_front_to zero b h = omega arith
-  needed_front_to (suc n) b h = front_push (columns_to n) (column n) b (needed_front_to n b (λ k l. h k (omega arith)))
-      (let q = column_length n in let l = h n (omega arith) in omega (arith, q, l))
-
-  -- a bound of each column bounds the longest one
-  pub needed_front_most : (b : ℕ) → ((k : ℕ) → k < length p → count_below (length p) (in_column k) + 1 ≤ b) → needed_front columns ≤ b
-  unfolding columns
-  needed_front_most b h = needed_front_to (length p) b h
 
   module _ (laws : IsGraph g) where
     pub in_column_exact : (k j : ℕ) → (in_column k j ≡ true) ↔ ((k < j) × Reach g (before p k) (slice_index p k) (slice_index p j))

@@ -1,8 +1,9 @@
 -- The figures of a run are at most those of a full matrix: by induction over its steps.
-use Rattle.std.proofs.Common.{ℕ, Bool, true, false, ◌≡◌, ◌≢◌, ◌<◌, ◌≤◌, ◌+◌, ◌&&◌, max, cond, inl, inr, sym, ◌∙◌, ap, arith, List, [], ◌∷◌}
+use Rattle.std.proofs.Common.{ℕ, Bool, true, false, ◌≡◌, ◌||◌, ◌≢◌, ◌<◌, ◌≤◌, ◌+◌, ◌&&◌, max, cond, inl, inr, sym, ◌∙◌, ap, arith, List, [], ◌∷◌}
 use Rattle.std.specs.Prelude.{nat_lt}
 use Rattle.std.proofs.lemmas.Bool.{cases_Bool, cases_eq, and_parts, cond-true, cond-false}
 use Rattle.std.proofs.Common.{ltb-true}
+use Rattle.std.specs.Cmp.{both_ways}
 use Rattle.amd_model.specs.Below.{sum_below, count_below}
 use Rattle.amd_model.specs.Graph.{Graph, IsGraph, degree}
 use Rattle.amd_model.specs.State.{State, Gone, live, live_at, in_block, is_element, IsStart}
@@ -11,15 +12,14 @@ use Rattle.amd_model.specs.Run.{Steps, last_state}
 use Rattle.amd_model.specs.Figures.{front_sum, is_made, figure, entries, greatest_front}
 use Rattle.amd_model.specs.Laws.{FiguresAreSmall, AtTheEnd}
 use Rattle.amd_model.specs.Sound.{IsSound}
-use Rattle.amd_model.proofs.BelowLemmas.{sum_plus, sum_same, count_same, count_mono}
+use Rattle.amd_model.proofs.BelowLemmas.{sum_plus, sum_same, count_same, count_mono, sum_at, sum_zero, count_most, clash}
 use Rattle.amd_model.proofs.StateLemmas.{live_gives, live_from, block_gives, block_from}
 use Rattle.amd_model.proofs.Sound.{live_small}
 use Rattle.amd_model.proofs.SoundStep.{step_sound, goes, moves, stays, fate, pivot_live, border_gives}
 use Rattle.amd_model.proofs.SoundStart.{start_sound, begins, is_last, is_empty, is_live}
 use Rattle.amd_model.proofs.Tree.{IsTree, block_live, gone_stays, step_tree, start_tree}
-use Rattle.amd_model.proofs.TieLists.{same_bool, clash}
-use Rattle.amd_model.proofs.TieSums.{sum_none}
-use Rattle.amd_model.proofs.FrontSums.{sum_at, count_apart, front_fits, first_sums_rise, first_sum, max_most}
+use Rattle.amd_model.proofs.FrontSums.{front_fits, first_sums_rise, first_sum, max_most}
+use Rattle.amd_model.proofs.Counts.{count_apart}
 
 pub record Made (g : Graph) (s : State) (e : ℕ) : Type 0 where
   pub element : s.home e ≡ Gone e
@@ -42,7 +42,7 @@ module _ (g : Graph) (laws : IsGraph g) (aggressive : Bool) (c : ℕ) (old new :
   ]
 
   pub block_new : (v : ℕ) → in_block new c v ≡ block g aggressive old c v
-  block_new v = same_bool (in_block new c v) (block g aggressive old c v)
+  block_new v = both_ways (in_block new c v) (block g aggressive old c v)
       (λ h. let k = block_gives c (new.home v) h in elim (fate g laws aggressive c old new sound step v) [
         | goes b q ↦ b
         | moves s x j p q r a o w ↦ absurd (cc)
@@ -51,7 +51,7 @@ module _ (g : Graph) (laws : IsGraph g) (aggressive : Bool) (c : ℕ) (old new :
       (λ b. block_from c (new.home v) (step.gone v b))
 
   pub block_stays : (e v : ℕ) → e ≢ c → in_block new e v ≡ in_block old e v
-  block_stays e v ne = same_bool (in_block new e v) (in_block old e v)
+  block_stays e v ne = both_ways (in_block new e v) (in_block old e v)
       (λ h. let k = block_gives e (new.home v) h in elim (fate g laws aggressive c old new sound step v) [
         | goes b q ↦ absurd (ne (let z : Gone e ≡ Gone c = sym k ∙ q in cc))
         | moves s x j p q r a o w ↦ absurd (cc)
@@ -119,9 +119,10 @@ start_small g laws dense s start =
         | is_live q ↦ absurd (cc)
       ])
     ] in
-    let room : count_below g.size (live s) + dense_count ≤ g.size = count_apart g.size (live s) dense (λ v l a b.
-    let k = live_gives (s.home v) a in let q = start.last v l b in let z = k.1 in cc) in
-    let zero_sum = sum_none g.size (share_at entries g dense_count s) (λ e l. cond-false (is_made g s e) _ 0 (none e)) in
+    let apart = count_apart g.size (live s) dense (λ v l a b. let k = live_gives (s.home v) a in let q = start.last v l b in let z = k.1 in cc) in
+    let most = count_most g.size (λ v. live s v || dense v) in
+    let room : count_below g.size (live s) + dense_count ≤ g.size = omega (arith, apart, most) in
+    let zero_sum = sum_zero g.size (share_at entries g dense_count s) (λ e l. cond-false (is_made g s e) _ 0 (none e)) in
     let rise = first_sums_rise (count_below g.size (live s) + dense_count) g.size room in
     record {
       room = room;

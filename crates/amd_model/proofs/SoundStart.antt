@@ -6,7 +6,7 @@ use Rattle.amd_model.specs.State.{State, Last, Live, Gone, eliminated, stands, I
 use Rattle.amd_model.specs.Run.{Steps, last_state}
 use Rattle.amd_model.specs.Reach.{Reach, direct, by}
 use Rattle.amd_model.proofs.BelowLemmas.{any_gives, count_pos}
-use Rattle.amd_model.proofs.StateLemmas.{stands_gives, gone_gives}
+use Rattle.amd_model.proofs.StateLemmas.{stands_gives, gone_gives, edge_small}
 use Rattle.amd_model.specs.Sound.{IsSound}
 use Rattle.amd_model.proofs.SoundStep.{step_sound}
 
@@ -31,10 +31,7 @@ module _ (g : Graph) (laws : IsGraph g) (dense : ℕ → Bool) (s : State) (star
 
   pub no_edge : (v w : ℕ) → degree g v ≡ 0 → g.edge v w ≡ true → ⊥
   unfolding degree
-  no_edge v w z e = elim (cases_lt w g.size) [
-    | inl l ↦ (let t : 0 < degree g v = count_pos g.size (g.edge v) w l e in omega arith)
-    | inr l ↦ absurd (true≢false (sym e ∙ laws.symmetric v w ∙ laws.in_size w v l))
-  ]
+  no_edge v w z e = let t : 0 < degree g v = count_pos g.size (g.edge v) w (edge_small g laws v w e).1 e in omega arith
 
   -- no element stands
   pub none_stands : (e : ℕ) → stands g s e ≡ true → ⊥

@@ -1,21 +1,19 @@
 -- A step leads from a sound state to a sound one.
 use Rattle.std.proofs.Common.{ℕ, Bool, true, false, ◌≡◌, ◌≢◌, ◌<◌, ◌≤◌, ◌&&◌, not, ◌==◌, ◌⊎◌, inl, inr, sym, ◌∙◌, ap, subst, is_none}
-use Rattle.std.proofs.lemmas.Bool.{cases_Bool, true≢false, false≢true, and_parts, and_from, or_cases, or_left, or_right, cases_eq, not-true, not_from_false, ne_eqb}
+use Rattle.std.proofs.lemmas.Bool.{cases_Bool, false≢true, and_parts, and_from, or_cases, or_left, or_right, cases_eq, not-true, not_from_false, ne_eqb}
 use Rattle.amd_model.specs.Below.{any_below}
 use Rattle.amd_model.specs.Graph.{Graph, IsGraph}
-use Rattle.amd_model.specs.State.{State, Last, Live, Gone, live, eliminated, in_class, is_class, stands, inside, holds, neighbours, front}
+use Rattle.amd_model.specs.State.{State, Last, Live, Gone, live, eliminated, in_class, stands, inside, holds, neighbours, front}
 use Rattle.amd_model.specs.Step.{StepAt, Alike, absorbed, other, outer, mass, block, border_of}
 use Rattle.amd_model.specs.Reach.{Reach}
-use Rattle.amd_model.proofs.BelowLemmas.{any_gives, any_from, any_none}
+use Rattle.amd_model.proofs.BelowLemmas.{any_gives, any_from, clash}
 use Rattle.amd_model.proofs.StateLemmas.{class_gives, class_from, live_gives, live_from, gone_gives, gone_from, inside_gives, stands_gives, stands_from, holds_gives, neighbours_gives, neighbours_from, by_element, by_neighbour, front_gives, front_from, reach_more, reach_join, reach_flip, reach_split}
 use Rattle.amd_model.specs.Sound.{Together}
 use Rattle.amd_model.specs.Sound.{IsSound}
 use Rattle.amd_model.proofs.Sound.{live_small, holds_class, standing_small, neighbours_edge, front_live, front_whole, front_reached, reached_front}
+use Rattle.amd_model.proofs.StepLemmas.{outer_parts, mass_gives, block_cases}
 
 module _ (g : Graph) (laws : IsGraph g) (aggressive : Bool) (c : ℕ) (old new : State) (sound : IsSound g old) (step : StepAt g aggressive c old new) where
-  clash : {b : Bool} {P : Type 0} → b ≡ true → b ≡ false → P
-  clash t f = absurd (true≢false (sym t ∙ f))
-
   pub pivot_live : old.home c ≡ Live c
   pivot_live = class_gives c (old.home c) step.class
 
@@ -40,43 +38,10 @@ module _ (g : Graph) (laws : IsGraph g) (aggressive : Bool) (c : ℕ) (old new :
     | inr h ↦ inside_gives g (old.border e) (front g old c) (and_parts (aggressive && stands g old e) (inside g (old.border e) (front g old c)) h).1 v l b
   ]
 
-  record Mass (d : ℕ) : Type 0 where
-    class : old.home d ≡ Live d
-    in_front : front g old c d ≡ true
-    no_other : (e : ℕ) → e < g.size → other g aggressive old c e ≡ true → holds g old e d ≡ true → ⊥
-    no_outer : (x : ℕ) → x < g.size → outer g old c d x ≡ false
-
-  mass_gives : (d : ℕ) → mass g aggressive old c d ≡ true → Mass d
-  unfolding mass
-  mass_gives d h =
-      let byE : ℕ → Bool = λ e. other g aggressive old c e && holds g old e d in
-      let a = and_parts (is_class old d && front g old c d && not (any_below g.size byE)) (not (any_below g.size (outer g old c d))) h in
-      let b = and_parts (is_class old d && front g old c d) (not (any_below g.size byE)) a.0 in
-      let k = and_parts (is_class old d) (front g old c d) b.0 in
-      record {
-        class = class_gives d (old.home d) k.0;
-        in_front = k.1;
-        no_other = λ e l o hd. clash (and_from (other g aggressive old c e) (holds g old e d) o hd) (any_none g.size byE (not-true (any_below g.size byE) b.1) e l);
-        no_outer = any_none g.size (outer g old c d) (not-true (any_below g.size (outer g old c d)) a.1);
-      }
-
   pub outer_from : (x z : ℕ) → neighbours g old x z ≡ true → front g old c z ≡ false → z ≢ c → outer g old c x z ≡ true
   unfolding outer
   outer_from x z n f ne = and_from (neighbours g old x z && not (front g old c z)) (not (z == c))
       (and_from (neighbours g old x z) (not (front g old c z)) n (not_from_false (front g old c z) f)) (not_from_false (z == c) (ne_eqb z c ne))
-
-  outer_gives : (x z : ℕ) → outer g old c x z ≡ true → neighbours g old x z ≡ true
-  unfolding outer
-  outer_gives x z h = (and_parts (neighbours g old x z) (not (front g old c z)) (and_parts (neighbours g old x z && not (front g old c z)) (not (z == c)) h).0).0
-
-  -- a row of the block is of the pivot, or of a mass-eliminated class
-  pub block_gives' : (v : ℕ) → block g aggressive old c v ≡ true → (old.home v ≡ Live c) ⊎ ((d : ℕ) × (mass g aggressive old c d ≡ true) × (old.home v ≡ Live d))
-  unfolding block
-  block_gives' v h = elim (or_cases (in_class old c v) (any_below g.size (λ d. mass g aggressive old c d && in_class old d v)) h) [
-    | inl a ↦ inl (class_gives c (old.home v) a)
-    | inr a ↦ (let r = any_gives g.size (λ d. mass g aggressive old c d && in_class old d v) a in
-        let p = and_parts (mass g aggressive old c r.0) (in_class old r.0 v) r.2 in inr (r.0, p.0, class_gives r.0 (old.home v) p.1))
-  ]
 
   pub block_pivot : (v : ℕ) → old.home v ≡ Live c → block g aggressive old c v ≡ true
   unfolding block
@@ -85,7 +50,7 @@ module _ (g : Graph) (laws : IsGraph g) (aggressive : Bool) (c : ℕ) (old new :
   block_mass : (v d : ℕ) → mass g aggressive old c d ≡ true → old.home v ≡ Live d → block g aggressive old c v ≡ true
   unfolding block
   block_mass v d m h = or_right (in_class old c v) (any_below g.size (λ d. mass g aggressive old c d && in_class old d v))
-      (any_from g.size (λ d. mass g aggressive old c d && in_class old d v) d (live_small g laws old sound d d (mass_gives d m).class)
+      (any_from g.size (λ d. mass g aggressive old c d && in_class old d v) d (live_small g laws old sound d d (mass_gives g aggressive old c d m).class)
       (and_from (mass g aggressive old c d) (in_class old d v) m (class_from d (old.home v) h)))
 
   pub border_gives : (v : ℕ) → border_of g aggressive old c v ≡ true → (front g old c v ≡ true) × (block g aggressive old c v ≡ false)
@@ -144,7 +109,7 @@ module _ (g : Graph) (laws : IsGraph g) (aggressive : Bool) (c : ℕ) (old new :
   pub border_whole : (x v w : ℕ) → old.home v ≡ Live x → old.home w ≡ Live x → border_of g aggressive old c v ≡ true → border_of g aggressive old c w ≡ true
   border_whole x v w hv hw s = let p = border_gives v s in
       border_from w (front_whole g laws old sound c x v w hv hw p.0) (elim (cases_Bool (block g aggressive old c w)) [
-        | inl b ↦ clash (elim (block_gives' w b) [
+        | inl b ↦ clash (elim (block_cases g aggressive old c w b) [
           | inl k ↦ block_pivot v (hv ∙ sym hw ∙ k)
           | inr k ↦ block_mass v k.0 k.1 (hv ∙ sym hw ∙ k.2)
         ]) p.1
@@ -194,7 +159,7 @@ module _ (g : Graph) (laws : IsGraph g) (aggressive : Bool) (c : ℕ) (old new :
   other_stands e o =
       let a = other_gives e o in let k = stands_gives g old e a.0 in let ne = other_not_pivot e o in
       let home : new.home e ≡ Gone e = elim (fate e) [
-        | goes b q ↦ absurd (elim (block_gives' e b) [ inl h ↦ (let f = k.element in cc) | inr h ↦ (let f = k.element in let z = h.2 in cc) ])
+        | goes b q ↦ absurd (elim (block_cases g aggressive old c e b) [ inl h ↦ (let f = k.element in cc) | inr h ↦ (let f = k.element in let z = h.2 in cc) ])
         | moves s x j p q r z t w ↦ absurd (let f = k.element in cc)
         | stays ni nf q ↦ q ∙ k.element
       ] in
@@ -244,9 +209,9 @@ module _ (g : Graph) (laws : IsGraph g) (aggressive : Bool) (c : ℕ) (old new :
   -- a live row that a row of the block reached is on the border
   pub block_reaches : (p w i : ℕ) → block g aggressive old c p ≡ true → new.home w ≡ Live i → Reach g (eliminated old) p w → border_of g aggressive old c w ≡ true
   block_reaches p w i b hw r = let y = was_live w i hw in let lw = live_small g laws old sound w y.0 y.1 in
-      live_border w i hw (elim (block_gives' p b) [
+      live_border w i hw (elim (block_cases g aggressive old c p b) [
         | inl hp ↦ reached_front g laws old sound c p w hp (live_from y.0 (old.home w) y.1) (live_not_pivot w i hw) r
-        | inr k ↦ (let d : ℕ = k.0 in let m = mass_gives d k.1 in
+        | inr k ↦ (let d : ℕ = k.0 in let m = mass_gives g aggressive old c d k.1 in
             let apart : in_class old d w ≡ false = elim (cases_Bool (in_class old d w)) [
               | inl q ↦ absurd (live_not_block w i hw (block_mass w d k.1 (class_gives d (old.home w) q)))
               | inr q ↦ q
@@ -266,7 +231,7 @@ module _ (g : Graph) (laws : IsGraph g) (aggressive : Bool) (c : ℕ) (old new :
   -- the parts of soundness
   new_rows : (v : ℕ) → g.size ≤ v → new.home v ≡ Last
   new_rows v l = let o = sound.rows v l in elim (fate v) [
-    | goes b q ↦ absurd (elim (block_gives' v b) [ inl h ↦ cc | inr h ↦ (let z = h.2 in cc) ])
+    | goes b q ↦ absurd (elim (block_cases g aggressive old c v b) [ inl h ↦ cc | inr h ↦ (let z = h.2 in cc) ])
     | moves s x j p q r z t w ↦ absurd (cc)
     | stays ni nf q ↦ q ∙ o
   ]
@@ -276,7 +241,7 @@ module _ (g : Graph) (laws : IsGraph g) (aggressive : Bool) (c : ℕ) (old new :
     | goes b q ↦ absurd (cc)
     | moves s x j p q r z t w ↦ (let e : j ≡ k = (let f : Live j ≡ Live k = sym q ∙ h in cc) in subst (λ m. new.home m ≡ Live m) e w)
     | stays ni nf q ↦ (let o : old.home v ≡ Live k = sym q ∙ h in let n = sound.named v k o in elim (fate k) [
-      | goes b q' ↦ absurd (elim (block_gives' k b) [
+      | goes b q' ↦ absurd (elim (block_cases g aggressive old c k b) [
         | inl y ↦ live_not_block v k h (block_pivot v (o ∙ sym n ∙ y))
         | inr y ↦ live_not_block v k h (block_mass v y.0 y.1 (o ∙ sym n ∙ y.2))
       ])
@@ -294,9 +259,9 @@ module _ (g : Graph) (laws : IsGraph g) (aggressive : Bool) (c : ℕ) (old new :
     ])
     | inr o ↦ (let ob : old.border e v ≡ true = sym (other_border e v o.1) ∙ b in let st' = (other_gives e o.1).0 in
         let x = live_gives (old.home v) (sound.borders_live e v st' ob) in elim (fate v) [
-          | goes b' h ↦ absurd (elim (block_gives' v b') [
+          | goes b' h ↦ absurd (elim (block_cases g aggressive old c v b') [
             | inl hv ↦ other_holds e o.1 (holds_class g laws old sound e c v st' hv ob)
-            | inr k ↦ (mass_gives k.0 k.1).no_other e (standing_small g laws old sound e st') o.1 (holds_class g laws old sound e k.0 v st' k.2 ob)
+            | inr k ↦ (mass_gives g aggressive old c k.0 k.1).no_other e (standing_small g laws old sound e st') o.1 (holds_class g laws old sound e k.0 v st' k.2 ob)
           ])
           | moves t y j p h r z u w ↦ live_from j (new.home v) h
           | stays ni nf h ↦ live_from x.0 (new.home v) (h ∙ x.1)
@@ -374,7 +339,7 @@ module _ (g : Graph) (laws : IsGraph g) (aggressive : Bool) (c : ℕ) (old new :
                   ] in
                   let out : outer g old c y z ≡ true = outer_from y z n far (λ e. live_not_block w d hw (block_pivot w (ow.1 ∙ ap Live e))) in
                   let out' : outer g old c y' z ≡ true = a'.same_neighbours z lz ∙ ap (λ i. outer g old c i z) (sym q) ∙ sym (a.same_neighbours z lz) ∙ out in
-                  neighbours_edge g laws old sound y' z x w (outer_gives y' z out') p' ow.1)
+                  neighbours_edge g laws old sound y' z x w ((outer_parts g old c y' z out').0) p' ow.1)
             ])
       ]
 

@@ -1,23 +1,23 @@
 -- Each state of a run on a forest with no dense row is thin: its classes are single rows, its borders have at most one row, and paths are edges.
 use Rattle.std.proofs.Common.{ℕ, Bool, true, false, ◌≡◌, ◌≢◌, ◌<◌, ◌≤◌, ◌&&◌, not, cond, ◌⊎◌, inl, inr, refl, sym, ◌∙◌, ap, subst, arith}
-use Rattle.std.specs.Prelude.{◌==◌}
-use Rattle.std.proofs.lemmas.Bool.{cases_Bool, true≢false, cases_eq, cases_lt, and_parts, and_from, not-true, eq-eqb}
+use Rattle.std.proofs.lemmas.Bool.{cases_Bool, true≢false, cases_eq, cases_lt, and_parts, and_from, not-true}
 use Rattle.amd_model.specs.Below.{any_below, sum_below, count_below}
 use Rattle.amd_model.specs.Graph.{Graph, IsGraph, degree}
 use Rattle.amd_model.specs.Forest.{IsForest}
-use Rattle.amd_model.specs.State.{State, Last, Live, Gone, live, eliminated, in_class, is_class, holds, neighbours, front, IsStart}
-use Rattle.amd_model.specs.Step.{StepAt, other, outer, mass, block, border_of, beyond, outside, new_bound}
+use Rattle.amd_model.specs.State.{State, Last, Live, Gone, live, eliminated, in_class, holds, front, IsStart}
+use Rattle.amd_model.specs.Step.{StepAt, other, outer, block, border_of, beyond, outside, new_bound}
 use Rattle.amd_model.specs.Reach.{Reach, direct}
 use Rattle.amd_model.specs.Sound.{IsSound}
-use Rattle.amd_model.proofs.BelowLemmas.{any_gives, count_mono, count_pos}
-use Rattle.amd_model.proofs.Points.{sum_zero, count_zero, one_counted}
+use Rattle.amd_model.proofs.BelowLemmas.{any_gives, count_mono, count_pos, clash, sum_zero}
+use Rattle.amd_model.proofs.Points.{count_zero, one_counted}
 use Rattle.amd_model.proofs.Leaf.{leaf}
 use Rattle.amd_model.proofs.StateLemmas.{class_gives, class_from, live_gives, live_from, holds_gives, front_gives, reach_split, reach_flip}
 use Rattle.amd_model.proofs.Sound.{live_small, front_live, front_reached, neighbours_edge}
-use Rattle.amd_model.proofs.SoundStep.{step_sound, Fate, goes, moves, stays, fate, pivot_live, block_pivot, block_gives', border_gives, was_live, was_eliminated, block_reaches, other_border}
+use Rattle.amd_model.proofs.SoundStep.{step_sound, Fate, goes, moves, stays, fate, pivot_live, block_pivot, border_gives, was_live, was_eliminated, block_reaches, other_border}
 use Rattle.amd_model.proofs.SoundStart.{begins, is_last, is_empty, is_live, own, no_edge, path_is_edge}
 use Rattle.amd_model.proofs.NewParts.{was_class}
 use Rattle.amd_model.proofs.Bounds.{Bounded}
+use Rattle.amd_model.proofs.StepLemmas.{outer_parts, mass_gives, block_cases}
 
 -- the live neighbours of a row
 abbrev pub live_neighbour : Graph → State → ℕ → ℕ → Bool
@@ -87,9 +87,6 @@ module _ (g : Graph) (laws : IsGraph g) (forest : IsForest g) (aggressive : Bool
   after : IsSound g new
   after = step_sound g laws aggressive c old new sound step
 
-  clash : {b : Bool} {P : Type 0} → b ≡ true → b ≡ false → P
-  clash t f = absurd (true≢false (sym t ∙ f))
-
   fate' : (v : ℕ) → Fate g laws aggressive c old new sound step v
   fate' = fate g laws aggressive c old new sound step
 
@@ -128,23 +125,15 @@ module _ (g : Graph) (laws : IsGraph g) (forest : IsForest g) (aggressive : Bool
   pub border_front : (v : ℕ) → border_of g aggressive old c v ≡ true → front g old c v ≡ true
   border_front v b = (border_gives g laws aggressive c old new sound step v b).0
 
-  mass_front : (d : ℕ) → mass g aggressive old c d ≡ true → front g old c d ≡ true
-  unfolding mass
-  mass_front d m =
-      let apart : Bool = not (any_below g.size (λ e. other g aggressive old c e && holds g old e d)) in
-      let a = and_parts (is_class old d && front g old c d && apart) (not (any_below g.size (outer g old c d))) m in
-      let b = and_parts (is_class old d && front g old c d) apart a.0 in
-      (and_parts (is_class old d) (front g old c d) b.0).1
-
   -- a row of the block is the pivot row or the one row of L
   pub block_row : (v : ℕ) → block g aggressive old c v ≡ true → v ≢ c → front g old c v ≡ true
-  block_row v b ne = elim (block_gives' g laws aggressive c old new sound step v b) [
+  block_row v b ne = elim (block_cases g aggressive old c v b) [
     | inl h ↦ absurd (ne (thin.alone v c h))
-    | inr k ↦ subst (λ m. front g old c m ≡ true) (sym (thin.alone v k.0 k.2)) (mass_front k.0 k.1)
+    | inr k ↦ subst (λ m. front g old c m ≡ true) (sym (thin.alone v k.0 k.2)) (mass_gives g aggressive old c k.0 k.1).in_front
   ]
 
   pub block_live : (v : ℕ) → block g aggressive old c v ≡ true → live old v ≡ true
-  block_live v b = elim (block_gives' g laws aggressive c old new sound step v b) [
+  block_live v b = elim (block_cases g aggressive old c v b) [
     | inl h ↦ live_from c (old.home v) h
     | inr k ↦ live_from k.0 (old.home v) k.2
   ]
@@ -211,13 +200,6 @@ module _ (g : Graph) (laws : IsGraph g) (forest : IsForest g) (aggressive : Bool
             (border_front w (block_reaches g laws aggressive c old new sound step t.leave w j.0 t.leaves j.1 t.on))))
       ]
 
-  outer_parts : (d x : ℕ) → outer g old c d x ≡ true → (neighbours g old d x ≡ true) × (front g old c x ≡ false) × (x ≢ c)
-  unfolding outer
-  outer_parts d x h =
-      let a = and_parts (neighbours g old d x && not (front g old c x)) (not (x == c)) h in
-      let b = and_parts (neighbours g old d x) (not (front g old c x)) a.0 in
-      (b.0, not-true (front g old c x) b.1, (λ q. clash (eq-eqb x c q) (not-true (x == c) a.1)))
-
   -- an other element that holds the row of L has no row beyond L
   none_beyond : (i e : ℕ) → new.home i ≡ Live i → border_of g aggressive old c i ≡ true → other g aggressive old c e ≡ true → holds g new e i ≡ true → beyond g old c e ≡ 0
   unfolding beyond
@@ -234,7 +216,7 @@ module _ (g : Graph) (laws : IsGraph g) (forest : IsForest g) (aggressive : Bool
       let oi = was_class g laws aggressive c old new sound step i hi in
       let d = any_gives g.size (λ d. outer g old c i d && in_class old d v) h in
       let p = and_parts (outer g old c i d.0) (in_class old d.0 v) d.2 in
-      let o = outer_parts i d.0 p.0 in
+      let o = outer_parts g old c i d.0 p.0 in
       let hv = class_gives d.0 (old.home v) p.1 in
       let same : v ≡ d.0 = thin.alone v d.0 hv in
       and_from (live new v) (g.edge i v)

@@ -6,7 +6,7 @@ use Rattle.amd_model.specs.Below.{any_below, count_below}
 use Rattle.amd_model.specs.Graph.{Graph, IsGraph}
 use Rattle.amd_model.specs.State.{State, Home, Last, Live, Gone, live, in_class, is_class, stands, inside, holds, neighbours, front}
 use Rattle.amd_model.specs.Step.{StepAt, Alike, absorbed, other, outer, mass, block, border_of}
-use Rattle.amd_model.specs.Tie.{Tie, has, each, is_empty, turned, pivot, gathered, takes, kept_elements, kept_variables, done, rest, alike, represents, made, ends, new_size, far, left, next_bound, new_home, round, next}
+use Rattle.amd_model.specs.Tie.{Tie, has, each, is_empty, turned, pivot, gathered, takes, kept_elements, kept_variables, done, rest, alike, represents, made, ends, new_size, far, left, next_bound, new_home, round, next, Once, Fits}
 use Rattle.amd_model.proofs.BelowLemmas.{any_gives, any_from, any_none}
 use Rattle.amd_model.proofs.StateLemmas.{class_gives, class_from, live_gives, stands_gives, holds_gives, inside_gives, inside_from, neighbours_gives, by_element, by_neighbour, front_gives, front_from}
 use Rattle.amd_model.specs.Sound.{IsSound}
@@ -21,22 +21,7 @@ use Rattle.amd_model.proofs.BelowLemmas.{sum_same, count_same, count_split}
 use Rattle.amd_model.proofs.SoundStep.{border_whole, class_border}
 use Rattle.amd_model.proofs.TieSums.{named, named_gives, named_from, home_cases, class_sum, sum_over}
 use Rattle.amd_model.proofs.NewParts.{mass_from, was_class, holds_new, neighbours_new}
-use Rattle.amd_model.proofs.TieLists.{same_bool, clash, has_append, has_turned, has_filter, each_gives, each_from, empty_gives, empty_from, some_of, Once, pivot_least, pivot_named, once_append, once_filter, once_turned, firsts, once_firsts, flat_gives, flat_from, last_passes, last_named, last_same'}
-
--- the lists name what the state has, each once
-pub record Fits (g : Graph) (t : Tie) (s : State) : Type 0 where
-  pub placed : (i : ℕ) → has t.placed i ≡ is_class s i
-  pub variables : (i j : ℕ) → s.home i ≡ Live i → has (t.variables i) j ≡ neighbours g s i j
-  pub elements : (i e : ℕ) → s.home i ≡ Live i → has (t.elements i) e ≡ holds g s e i
-  pub members : (e i : ℕ) → has (t.members e) i ≡ holds g s e i
-  pub placed_once : Once t.placed
-  pub variables_once : (i : ℕ) → s.home i ≡ Live i → Once (t.variables i)
-  pub elements_once : (i : ℕ) → s.home i ≡ Live i → Once (t.elements i)
-  pub members_once : (e : ℕ) → Once (t.members e)
-  pub size : (i : ℕ) → s.home i ≡ Live i → t.size i ≡ count_below g.size (in_class s i)
-  pub bound : (i : ℕ) → s.home i ≡ Live i → t.bound i ≡ s.bound i
-  pub home : (v : ℕ) → t.home v ≡ s.home v
-  pub parent : (e : ℕ) → t.parent e ≡ s.parent e
+use Rattle.amd_model.proofs.TieLists.{same_bool, clash, has_append, has_turned, has_filter, each_gives, each_from, empty_gives, empty_from, some_of, pivot_least, pivot_named, once_append, once_filter, once_turned, firsts, once_firsts, flat_gives, flat_from, last_passes, last_named, last_same'}
 
 module _ (g : Graph) (laws : IsGraph g) (aggressive : Bool) (t : Tie) (s : State) (sound : IsSound g s) (fits : Fits g t s) (c : ℕ) (class : is_class s c ≡ true)
     (least : (d : ℕ) → is_class s d ≡ true → s.bound c ≤ s.bound d) where

@@ -2,7 +2,7 @@
 use Rattle.std.proofs.Common.{ℕ, Bool, true, false, ◌≡◌, ◌≤◌, ◌&&◌, ◌||◌, not, cond, ◌⊎◌, inl, inr, refl, sym, ◌∙◌, ap, subst, arith, List, [], ◌∷◌, ◌++◌}
 use Rattle.std.specs.Prelude.{filter, fold, flat_map, ◌==◌, sum_by}
 use Rattle.std.proofs.lemmas.Bool.{cases_Bool, true≢false, false≢true, and_parts, and_from, or_cases, or_left, or_right, eqb-true, eq-eqb, ne_eqb, cases_eq, cond-true, cond-false, not_from_false, not_from_true, not-true}
-use Rattle.amd_model.specs.Tie.{has, each, is_empty, turned, last_that, add_new, pivot}
+use Rattle.amd_model.specs.Tie.{has, each, is_empty, turned, last_that, add_new, pivot, Once}
 
 -- two tests agree if each gives the other
 pub same_bool : (a b : Bool) → (a ≡ true → b ≡ true) → (b ≡ true → a ≡ true) → a ≡ b
@@ -94,11 +94,6 @@ pub some_of : (xs : List ℕ) → is_empty xs ≡ false → (x : ℕ) × (has xs
 unfolding has is_empty
 some_of [] e = absurd (true≢false e)
 some_of (y ∷ xs) e = (y, or_left (y == y) (has xs y) (eq-eqb y y refl))
-
--- each number once
-abbrev pub Once : List ℕ → Type 0
-Once [] = Unit {0}
-Once (x ∷ xs) = (has xs x ≡ false) × Once xs
 
 pub once_append : (xs ys : List ℕ) → Once xs → Once ys → ((x : ℕ) → has xs x ≡ true → has ys x ≡ true → ⊥) → Once (xs ++ ys)
 unfolding has

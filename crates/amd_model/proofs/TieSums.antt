@@ -6,9 +6,9 @@ use Rattle.std.proofs.lemmas.List.Sums.{sum_by-cons}
 use Rattle.amd_model.specs.Below.{sum_below, count_below}
 use Rattle.amd_model.specs.Graph.{Graph}
 use Rattle.amd_model.specs.State.{State, Home, Last, Live, Gone, class_at, in_class}
-use Rattle.amd_model.specs.Tie.{has}
+use Rattle.amd_model.specs.Tie.{has, Once}
 use Rattle.amd_model.proofs.BelowLemmas.{sum_plus, sum_same, count_same, count_split}
-use Rattle.amd_model.proofs.TieLists.{clash, Once}
+use Rattle.amd_model.proofs.TieLists.{clash}
 
 -- the row is in a class of the list
 unfoldable pub named : List ℕ → Home → Bool
@@ -24,7 +24,7 @@ zeros (suc n) = let a : sum_below n (λ k. 0) ≡ 0 = zeros n in omega (arith, a
 pub sum_none : (n : ℕ) (f : ℕ → ℕ) → ((k : ℕ) → k < n → f k ≡ 0) → sum_below n f ≡ 0
 sum_none n f h = sum_same n f (λ k. 0) h ∙ zeros n
 
-sum_one : (n : ℕ) (f : ℕ → ℕ) (x : ℕ) → x < n → sum_below n (λ k. cond (x == k) (f k) 0) ≡ f x
+pub sum_one : (n : ℕ) (f : ℕ → ℕ) (x : ℕ) → x < n → sum_below n (λ k. cond (x == k) (f k) 0) ≡ f x
 unfolding sum_below
 sum_one zero f x l = absurd (omega (arith, l))
 sum_one (suc n) f x l = elim (cases_eq x n) [

@@ -6,12 +6,13 @@ use Rattle.amd_model.specs.Graph.{Graph, IsGraph}
 use Rattle.amd_model.specs.State.{State, Home, Last, Live, Gone, live, stands, inside, holds, front, IsStart}
 use Rattle.amd_model.specs.Step.{StepAt, absorbed, block, border_of}
 use Rattle.amd_model.specs.Reach.{Reach, direct, by}
-use Rattle.amd_model.proofs.BelowLemmas.{term_le_sum, any_from}
+use Rattle.amd_model.proofs.BelowLemmas.{term_le_sum, any_from, clash}
 use Rattle.amd_model.proofs.StateLemmas.{live_gives, live_from, stands_gives, stands_from, holds_gives}
 use Rattle.amd_model.specs.Sound.{IsSound}
 use Rattle.amd_model.proofs.Sound.{live_small, gone_small, front_live}
-use Rattle.amd_model.proofs.SoundStep.{step_sound, Fate, goes, moves, stays, fate, pivot_live, block_pivot, block_gives', border_gives, absorbed_border, block_reaches}
+use Rattle.amd_model.proofs.SoundStep.{step_sound, Fate, goes, moves, stays, fate, pivot_live, block_pivot, border_gives, absorbed_border, block_reaches}
 use Rattle.amd_model.proofs.SoundStart.{is_last, is_empty, is_live, begins, no_edge}
+use Rattle.amd_model.proofs.StepLemmas.{block_cases}
 
 pub data Linked (s : State) (e u w : ℕ) : Type 0 where
   to_last : s.home w ≡ Last → Linked s e u w
@@ -39,11 +40,8 @@ module _ (g : Graph) (laws : IsGraph g) (aggressive : Bool) (c : ℕ) (old new :
   fate' : (v : ℕ) → Fate g laws aggressive c old new sound step v
   fate' = fate g laws aggressive c old new sound step
 
-  clash : {b : Bool} {P : Type 0} → b ≡ true → b ≡ false → P
-  clash t f = absurd (true≢false (sym t ∙ f))
-
   pub block_live : (v : ℕ) → block g aggressive old c v ≡ true → (x : ℕ) × (old.home v ≡ Live x)
-  block_live v b = elim (block_gives' g laws aggressive c old new sound step v b) [ inl h ↦ (c, h) | inr k ↦ (k.0, k.2) ]
+  block_live v b = elim (block_cases g aggressive old c v b) [ inl h ↦ (c, h) | inr k ↦ (k.0, k.2) ]
 
   pub gone_stays : (v e : ℕ) → old.home v ≡ Gone e → new.home v ≡ Gone e
   gone_stays v e h = elim (fate' v) [
@@ -289,12 +287,9 @@ module _ (g : Graph) (s : State) (tree : IsTree g s) (over : (v : ℕ) → live 
         in_block_e : s.home w ≡ Gone e → InFrontOf w
         in_border : s.border e w ≡ true → InFrontOf w
 
-      clash' : {b : Bool} {P : Type 0} → b ≡ true → b ≡ false → P
-      clash' t f = absurd (true≢false (sym t ∙ f))
-
       lower : {f : ℕ} (w : ℕ) → s.home w ≡ Gone f → Descends s f e → before w ≡ false → InFrontOf w
       lower w h self n = in_block_e h
-      lower {f} w h (via {m = m} p d) n = clash' (below_before w f h (record { next = m; parent = p; rest = d })) n
+      lower {f} w h (via {m = m} p d) n = clash (below_before w f h (record { next = m; parent = p; rest = d })) n
 
       step_to : (u w f f' : ℕ) → s.home w ≡ Gone f' → Line u w f f' → Descends s f e → Descends s f' e ⊎ ((s.border e w ≡ true) × Proper s e f')
       step_to u w f f' hw (one_block q) d = inl (subst (λ k. Descends s k e) q d)
@@ -306,7 +301,7 @@ module _ (g : Graph) (s : State) (tree : IsTree g s) (over : (v : ℕ) → live 
         where
           go : (h : Home) → s.home w ≡ h → InFrontOf w
           go Last k = in_dense k
-          go (Live i) k = clash' (live_from i (s.home w) k) (over w)
+          go (Live i) k = clash (live_from i (s.home w) k) (over w)
           go (Gone f') k = elim (step_to u w f f' k (edge_line u w f f' hu k ed) d) [
             | inl d' ↦ lower w k d' n
             | inr b ↦ in_border b.0
@@ -314,9 +309,9 @@ module _ (g : Graph) (s : State) (tree : IsTree g s) (over : (v : ℕ) → live 
       path_inside {u} {w} f hu d n (by {u = x} ed bx r) = go (s.home x) refl (λ f' k d'. path_inside f' k d' n r)
         where
           go : (h : Home) → s.home x ≡ h → ((f' : ℕ) → s.home x ≡ Gone f' → Descends s f' e → InFrontOf w) → InFrontOf w
-          go Last k on = clash' bx (dense_later x k)
-          go (Live i) k on = clash' (live_from i (s.home x) k) (over x)
+          go Last k on = clash bx (dense_later x k)
+          go (Live i) k on = clash (live_from i (s.home x) k) (over x)
           go (Gone f') k on = elim (step_to u x f f' k (edge_line u x f f' hu k ed) d) [
             | inl d' ↦ on f' k d'
-            | inr b ↦ clash' bx (above_later x f' k b.1)
+            | inr b ↦ clash bx (above_later x f' k b.1)
           ]

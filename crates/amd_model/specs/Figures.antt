@@ -1,6 +1,5 @@
 -- The figures of a run: sums over its fronts, and the greatest front. Source: AMD user guide; Amestoy, Davis and Duff 2004.
-use Rattle.std.specs.Prelude.{ℕ, Bool, ◌+◌, ◌*◌, ◌/◌, ◌&&◌, cond, max, min, nat_lt}
-use Rattle.std.proofs.Common.{zero, suc}
+use Rattle.std.specs.Prelude.{ℕ, zero, suc, Bool, ◌+◌, ◌*◌, ◌/◌, ◌&&◌, cond, max, min, nat_lt}
 use Rattle.amd_model.specs.Below.{count_below, sum_below}
 use Rattle.amd_model.specs.Graph.{Graph, degree}
 use Rattle.amd_model.specs.State.{State, in_block, is_element}

@@ -1,15 +1,16 @@
 -- The laws of eliminations, in the words of the field. They hold for every permitted choice of pivot and representative.
 -- No statement here is a law by itself: each is the contract of a function in src/, where it is proved.
 -- Source: Amestoy, Davis and Duff 1996, 2004; George and Liu 1981.
-use Rattle.std.specs.Prelude.{ℕ, Bool, true, false, List, Some, ◌≡◌, ◌≤◌, ◌<◌, ◌↔◌, ◌⊎◌, ◌+◌, ◌*◌, ◌-◌, ◌/◌, ◌&&◌, length, slice_index}
+use Rattle.std.specs.Prelude.{ℕ, Bool, true, false, List, Some, ◌≡◌, ◌≢◌, ◌≤◌, ◌<◌, ◌↔◌, ◌⊎◌, ◌+◌, ◌*◌, ◌-◌, ◌/◌, ◌&&◌, length, slice_index}
 use Rattle.amd_model.specs.Below.{any_below, count_below}
 use Rattle.amd_model.specs.Graph.{Graph, IsGraph, degree, edge_count}
 use Rattle.amd_model.specs.State.{State, Home, Last, Live, Gone, live, eliminated, in_class, is_class, stands, holds, neighbours, front, IsStart}
-use Rattle.amd_model.specs.Step.{block, border_of}
+use Rattle.amd_model.specs.Step.{outer, block, border_of}
 use Rattle.amd_model.specs.Run.{Run, Steps, EachState, last_state}
 use Rattle.amd_model.specs.Figures.{figure, entries, ldl_steps, lu_steps, greatest_front}
 use Rattle.amd_model.specs.Listing.{IsPostorder}
 use Rattle.amd_model.specs.Reach.{Reach, TrueDegree}
+use Rattle.amd_model.specs.Sound.{Together}
 use Rattle.amd_model.specs.Factor.{before, IsFactor, needed, needed_front}
 
 -- ---- of one state
@@ -46,15 +47,29 @@ pub record BoundsMeetDegrees (g : Graph) (s : State) : Type 0 where
   pub untouched : (c : ℕ) → is_class s c ≡ true → holders g s c ≡ 0 → s.bound c ≡ front_size g s c + last_neighbours g s c
 
 -- what is tested at the representative of a class holds of its rows alike: lying on a border, in a front, in a block and on a
--- border to be made; and each row of a class has an edge to each row of a direct neighbour
+-- border to be made, and being alike; and each row of a class has an edge to each row of a direct neighbour
 pub record ClassesAreWhole (g : Graph) (aggressive : Bool) (s : State) : Type 0 where
   pub held : (e d v : ℕ) → stands g s e ≡ true → in_class s d v ≡ true → holds g s e d ≡ s.border e v
   pub fronts : (c d v : ℕ) → in_class s d v ≡ true → front g s c d ≡ front g s c v
   pub blocks : (c d v : ℕ) → in_class s d v ≡ true → block g aggressive s c d ≡ block g aggressive s c v
   pub borders : (c d v : ℕ) → in_class s d v ≡ true → border_of g aggressive s c d ≡ border_of g aggressive s c v
   pub edges : (c d v w : ℕ) → neighbours g s c d ≡ true → in_class s c v ≡ true → in_class s d w ≡ true → g.edge v w ≡ true
+  -- being alike: a class has a direct neighbour outside L and c exactly if each row of the one has an edge to each row of the
+  -- other, no standing element has both rows on its border, and the other row lies outside L and c
+  pub likeness : (c d z v w : ℕ) → in_class s d v ≡ true → in_class s z w ≡ true → d ≢ z →
+      (outer g s c d z ≡ true) ↔ ((g.edge v w ≡ true) × (front g s c w ≡ false) × (in_class s c w ≡ false) × (Together g s v w → ⊥))
 
 -- ---- of the last state of a run, and of its listing
+
+-- exactly the dense rows are held last, and each other row was eliminated
+pub record DenseAreLast (g : Graph) (dense : ℕ → Bool) (s : State) : Type 0 where
+  pub held : (v : ℕ) → v < g.size → dense v ≡ true → s.home v ≡ Last
+  pub others : (v : ℕ) → v < g.size → dense v ≡ false → eliminated s v ≡ true
+
+-- the state has a listing in postorder
+pub record HasListing (g : Graph) (dense : ℕ → Bool) (s : State) : Type 0 where
+  pub listing : List ℕ
+  pub lists : IsPostorder g dense s listing
 
 -- e is f, or a descendant of f
 pub data Under (s : State) : ℕ → ℕ → Type 0 where
@@ -108,3 +123,7 @@ AtTheEnd P = (g : Graph) (dense : ℕ → Bool) (aggressive : Bool) (first : Sta
 -- P holds of each listing of the last state of each run
 abbrev pub OfEachListing : (Graph → (ℕ → Bool) → State → List ℕ → Type 0) → Type 0
 OfEachListing P = AtTheEnd (λ g dense s. (p : List ℕ) → IsPostorder g dense s p → P g dense s p)
+
+-- each graph and each set of rows held last have a run
+abbrev pub RunsExist : Type 0
+RunsExist = (g : Graph) (dense : ℕ → Bool) (aggressive : Bool) → IsGraph g → (first : State) × (states : List State) × Run g dense aggressive first states

@@ -14,4 +14,5 @@ pub mod Forest
 pub mod Laws
 pub mod Sound
 pub mod Tie
+pub mod TieLaws
 pub mod Examples

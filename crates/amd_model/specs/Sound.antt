@@ -12,8 +12,11 @@ pub record Together (g : Graph) (s : State) (v w : ℕ) : Type 0 where
   pub second : s.border element w ≡ true
 
 pub record IsSound (g : Graph) (s : State) : Type 0 where
+  -- numbers that name no row count as held last
   pub rows : (v : ℕ) → g.size ≤ v → s.home v ≡ Last
+  -- the representative of a class is a row of the class
   pub named : (v c : ℕ) → s.home v ≡ Live c → s.home c ≡ Live c
+  -- the rows on the border of a standing element are live
   pub borders_live : (e v : ℕ) → stands g s e ≡ true → s.border e v ≡ true → live s v ≡ true
   -- a border has whole classes
   pub whole : (e c v w : ℕ) → stands g s e ≡ true → s.home v ≡ Live c → s.home w ≡ Live c → s.border e v ≡ true → s.border e w ≡ true

@@ -4,8 +4,11 @@
 //! Source: Amestoy, Davis and Duff 1996 and 2004, the AMD user guide, George and Liu 1981.
 #![tactic(auto)]
 
+pub mod example_laws;
 pub mod figure_laws;
 pub mod forest_laws;
 pub mod front_laws;
 pub mod listing_laws;
+pub mod run_laws;
 pub mod sum_laws;
+pub mod tie_laws;

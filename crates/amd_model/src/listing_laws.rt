@@ -1,8 +1,18 @@
 // Laws on the last state of an elimination and on its listing: the assembly tree, and the columns of the factor.
 // Source: Amestoy, Davis and Duff 2004; George and Liu 1981. Called by: nobody, the contracts are the laws.
 
-ghost use Rattle.amd_model.specs.Laws.{AtTheEnd, OfEachListing, EdgesFollowTree, ColumnsInside, EmptyColumns};
+ghost use Rattle.amd_model.specs.Laws.{AtTheEnd, OfEachListing, DenseAreLast, HasListing, EdgesFollowTree, ColumnsInside, EmptyColumns};
 ghost use Rattle.amd_model.specs.Listing.{ListsEachRow};
+
+/// At the end exactly the dense rows are held last, and each other row was eliminated.
+pub fn law_dense_are_last()
+    ensures { AtTheEnd DenseAreLast }
+{}
+
+/// The last state of a run has a listing in postorder.
+pub fn law_listings_exist()
+    ensures { AtTheEnd HasListing }
+{}
 
 /// An edge between rows that are not dense joins rows of one block, or of two blocks on one way up the tree.
 pub fn law_edges_follow_tree()

@@ -28,148 +28,208 @@ fn check_refusal(rt: &impl Abort, alloc: Global, fault: &Fault) {
     }
 }
 
+/// Inputs that are no column form.
+static FAULTS: [Fault<'static>; 14] = [
+    Fault {
+        what: "descending pointers",
+        n: 2,
+        a_p: &[0, 2, 1],
+        a_i: &[0, 1],
+    },
+    Fault {
+        what: "a first pointer that is not 0",
+        n: 1,
+        a_p: &[1, 1],
+        a_i: &[0],
+    },
+    Fault {
+        what: "a row past the last one",
+        n: 1,
+        a_p: &[0, 1],
+        a_i: &[1],
+    },
+    Fault {
+        what: "a negative row",
+        n: 1,
+        a_p: &[0, 1],
+        a_i: &[-1],
+    },
+    Fault {
+        what: "a negative number of rows",
+        n: -1,
+        a_p: &[0],
+        a_i: &[],
+    },
+    Fault {
+        what: "the least number of rows",
+        n: i32::MIN,
+        a_p: &[0],
+        a_i: &[],
+    },
+    Fault {
+        what: "too few pointers",
+        n: 2,
+        a_p: &[0, 1],
+        a_i: &[0],
+    },
+    Fault {
+        what: "no pointer",
+        n: 1,
+        a_p: &[],
+        a_i: &[],
+    },
+    Fault {
+        what: "a last pointer past the end",
+        n: 2,
+        a_p: &[0, 1, 3],
+        a_i: &[0, 1],
+    },
+    Fault {
+        what: "a negative pointer",
+        n: 2,
+        a_p: &[0, -1, 1],
+        a_i: &[0],
+    },
+    Fault {
+        what: "a jumbled column, and a row out of range in a later one",
+        n: 2,
+        a_p: &[0, 2, 3],
+        a_i: &[1, 0, 5],
+    },
+    Fault {
+        what: "a jumbled column, and a descending pointer after it",
+        n: 2,
+        a_p: &[0, 2, 1],
+        a_i: &[1, 0],
+    },
+    Fault {
+        what: "a jumbled column, and a pointer past the end after it",
+        n: 2,
+        a_p: &[0, 2, 4],
+        a_i: &[1, 0, 0],
+    },
+    Fault {
+        what: "a row out of range in a jumbled column",
+        n: 3,
+        a_p: &[0, 3, 3, 3],
+        a_i: &[1, 0, 3],
+    },
+];
+
 #[test]
 fn inputs_that_are_no_column_form(rt: HostRuntime) {
-    let faults = [
-        Fault {
-            what: "descending pointers",
-            n: 2,
-            a_p: &[0, 2, 1],
-            a_i: &[0, 1],
-        },
-        Fault {
-            what: "a first pointer that is not 0",
-            n: 1,
-            a_p: &[1, 1],
-            a_i: &[0],
-        },
-        Fault {
-            what: "a row past the last one",
-            n: 1,
-            a_p: &[0, 1],
-            a_i: &[1],
-        },
-        Fault {
-            what: "a negative row",
-            n: 1,
-            a_p: &[0, 1],
-            a_i: &[-1],
-        },
-        Fault {
-            what: "a negative number of rows",
-            n: -1,
-            a_p: &[0],
-            a_i: &[],
-        },
-        Fault {
-            what: "the least number of rows",
-            n: i32::MIN,
-            a_p: &[0],
-            a_i: &[],
-        },
-        Fault {
-            what: "too few pointers",
-            n: 2,
-            a_p: &[0, 1],
-            a_i: &[0],
-        },
-        Fault {
-            what: "no pointer",
-            n: 1,
-            a_p: &[],
-            a_i: &[],
-        },
-        Fault {
-            what: "a last pointer past the end",
-            n: 2,
-            a_p: &[0, 1, 3],
-            a_i: &[0, 1],
-        },
-        Fault {
-            what: "a negative pointer",
-            n: 2,
-            a_p: &[0, -1, 1],
-            a_i: &[0],
-        },
-        Fault {
-            what: "a jumbled column, and a row out of range in a later one",
-            n: 2,
-            a_p: &[0, 2, 3],
-            a_i: &[1, 0, 5],
-        },
-        Fault {
-            what: "a jumbled column, and a descending pointer after it",
-            n: 2,
-            a_p: &[0, 2, 1],
-            a_i: &[1, 0],
-        },
-        Fault {
-            what: "a jumbled column, and a pointer past the end after it",
-            n: 2,
-            a_p: &[0, 2, 4],
-            a_i: &[1, 0, 0],
-        },
-        Fault {
-            what: "a row out of range in a jumbled column",
-            n: 3,
-            a_p: &[0, 3, 3, 3],
-            a_i: &[1, 0, 3],
-        },
-    ];
-    for fault in &faults {
+    for fault in &FAULTS {
         check_refusal(&rt, rt.alloc(), fault);
     }
 }
 
+/// An input with its status. It may have fewer columns than rows, or more.
+#[derive(Drop)]
+struct Class<'a> {
+    n_row: i32,
+    n_col: i32,
+    a_p: &'a [i32],
+    a_i: &'a [i32],
+    status: Status,
+}
+
+/// Inputs of any shape with their statuses.
+static CLASSES: [Class<'static>; 12] = [
+    Class {
+        n_row: 2,
+        n_col: 2,
+        a_p: &[0, 1, 1],
+        a_i: &[1],
+        status: Status::OK,
+    },
+    Class {
+        n_row: 2,
+        n_col: 2,
+        a_p: &[0, 2, 2],
+        a_i: &[1, 1],
+        status: Status::OkButJumbled,
+    },
+    Class {
+        n_row: 2,
+        n_col: 2,
+        a_p: &[0, 2, 3],
+        a_i: &[1, 0, 1],
+        status: Status::OkButJumbled,
+    },
+    Class {
+        n_row: 2,
+        n_col: 2,
+        a_p: &[0, 1, 2],
+        a_i: &[1, 0],
+        status: Status::OK,
+    },
+    Class {
+        n_row: 2,
+        n_col: 2,
+        a_p: &[0, 1, 1],
+        a_i: &[0, -1],
+        status: Status::OK,
+    },
+    Class {
+        n_row: 2,
+        n_col: 3,
+        a_p: &[0, 1, 1, 3],
+        a_i: &[1, 0, 1],
+        status: Status::OK,
+    },
+    Class {
+        n_row: 1,
+        n_col: 3,
+        a_p: &[0, 1, 1, 3],
+        a_i: &[1, 0, 1],
+        status: Status::Invalid,
+    },
+    Class {
+        n_row: 3,
+        n_col: 1,
+        a_p: &[0, 2],
+        a_i: &[2, 1],
+        status: Status::OkButJumbled,
+    },
+    Class {
+        n_row: 0,
+        n_col: 2,
+        a_p: &[0, 0, 0],
+        a_i: &[],
+        status: Status::OK,
+    },
+    Class {
+        n_row: 0,
+        n_col: 0,
+        a_p: &[0],
+        a_i: &[],
+        status: Status::OK,
+    },
+    Class {
+        n_row: 0,
+        n_col: 0,
+        a_p: &[],
+        a_i: &[],
+        status: Status::Invalid,
+    },
+    Class {
+        n_row: 0,
+        n_col: 0,
+        a_p: &[7],
+        a_i: &[],
+        status: Status::Invalid,
+    },
+];
+
 #[test]
 fn classes_of_inputs(rt: HostRuntime) {
-    let none = [].as_slice();
-    for (n_row, n_col, a_p, a_i, want) in [
-        (2i32, 2i32, [0, 1, 1].as_slice(), [1].as_slice(), Status::OK),
-        (
-            2,
-            2,
-            [0, 2, 2].as_slice(),
-            [1, 1].as_slice(),
-            Status::OkButJumbled,
-        ),
-        (
-            2,
-            2,
-            [0, 2, 3].as_slice(),
-            [1, 0, 1].as_slice(),
-            Status::OkButJumbled,
-        ),
-        (2, 2, [0, 1, 2].as_slice(), [1, 0].as_slice(), Status::OK),
-        (2, 2, [0, 1, 1].as_slice(), [0, -1].as_slice(), Status::OK),
-        (
-            2,
-            3,
-            [0, 1, 1, 3].as_slice(),
-            [1, 0, 1].as_slice(),
-            Status::OK,
-        ),
-        (
-            1,
-            3,
-            [0, 1, 1, 3].as_slice(),
-            [1, 0, 1].as_slice(),
-            Status::Invalid,
-        ),
-        (
-            3,
-            1,
-            [0, 2].as_slice(),
-            [2, 1].as_slice(),
-            Status::OkButJumbled,
-        ),
-        (0, 2, [0, 0, 0].as_slice(), none, Status::OK),
-        (0, 0, [0].as_slice(), none, Status::OK),
-        (0, 0, none, none, Status::Invalid),
-        (0, 0, [7].as_slice(), none, Status::Invalid),
-    ] {
+    for class in &CLASSES {
+        let a_p = class.a_p;
+        let a_i = class.a_i;
+        let n_row = class.n_row;
+        let n_col = class.n_col;
         assert!(rt;
-            valid(n_row, n_col, a_p, a_i) == want,
+            valid(n_row, n_col, a_p, a_i) == class.status,
             "at {n_row} {n_col} {a_p:?} {a_i:?}"
         );
     }

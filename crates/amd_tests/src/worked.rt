@@ -49,151 +49,153 @@ fn check(rt: &impl Abort, alloc: Global, dense: i32, case: &Case) {
     assert_eq!(rt; info.symmetry, case.symmetric, "{what}");
 }
 
+/// Small matrices with their answers.
+static SMALL_MATRICES: [Case<'static>; 14] = [
+    Case {
+        what: "one row without entries",
+        n: 1,
+        a_p: &[0, 0],
+        a_i: &[],
+        jumbled: false,
+        p: &[0],
+        figures: [0, 0, 0, 0],
+        symmetric: true,
+    },
+    Case {
+        what: "one entry on the diagonal, and numbers after the end that are ignored",
+        n: 1,
+        a_p: &[0, 1, 7],
+        a_i: &[0, 9],
+        jumbled: false,
+        p: &[0],
+        figures: [1, 1, 0, 0],
+        symmetric: true,
+    },
+    Case {
+        what: "a diagonal",
+        n: 2,
+        a_p: &[0, 1, 2],
+        a_i: &[0, 1],
+        jumbled: false,
+        p: &[0, 1],
+        figures: [2, 2, 0, 0],
+        symmetric: true,
+    },
+    Case {
+        what: "one edge and an empty row",
+        n: 3,
+        a_p: &[0, 1, 1, 1],
+        a_i: &[2],
+        jumbled: false,
+        p: &[1, 0, 2],
+        figures: [1, 0, 2, 0],
+        symmetric: false,
+    },
+    Case {
+        what: "one edge",
+        n: 2,
+        a_p: &[0, 1, 1],
+        a_i: &[1],
+        jumbled: false,
+        p: &[0, 1],
+        figures: [1, 0, 2, 0],
+        symmetric: false,
+    },
+    Case {
+        what: "one edge, whose entry is repeated",
+        n: 2,
+        a_p: &[0, 2, 2],
+        a_i: &[1, 1],
+        jumbled: true,
+        p: &[0, 1],
+        figures: [1, 0, 2, 0],
+        symmetric: false,
+    },
+    Case {
+        what: "the five-row matrix of the demo",
+        n: 5,
+        a_p: &[0, 2, 6, 10, 12, 14],
+        a_i: &[0, 1, 0, 1, 2, 4, 1, 2, 3, 4, 2, 3, 1, 4],
+        jumbled: false,
+        p: &[0, 3, 4, 1, 2],
+        figures: [14, 5, 10, 0],
+        symmetric: false,
+    },
+    Case {
+        what: "a path of three rows",
+        n: 3,
+        a_p: &[0, 1, 2, 2],
+        a_i: &[1, 2],
+        jumbled: false,
+        p: &[0, 2, 1],
+        figures: [2, 0, 4, 0],
+        symmetric: false,
+    },
+    Case {
+        what: "a path of three rows, jumbled with a repeat, and rows out of range after the end",
+        n: 3,
+        a_p: &[0, 3, 3, 4],
+        a_i: &[2, 0, 2, 1, -5, 77],
+        jumbled: true,
+        p: &[0, 1, 2],
+        figures: [3, 1, 4, 0],
+        symmetric: false,
+    },
+    Case {
+        what: "a four-cycle",
+        n: 4,
+        a_p: &[0, 2, 3, 4, 4],
+        a_i: &[1, 3, 2, 3],
+        jumbled: false,
+        p: &[0, 1, 2, 3],
+        figures: [4, 0, 8, 0],
+        symmetric: false,
+    },
+    Case {
+        what: "a four-cycle, and rows out of range after the end",
+        n: 4,
+        a_p: &[0, 2, 3, 4, 4, -1],
+        a_i: &[1, 3, 2, 3, 4, -1],
+        jumbled: false,
+        p: &[0, 1, 2, 3],
+        figures: [4, 0, 8, 0],
+        symmetric: false,
+    },
+    Case {
+        what: "a full matrix with three rows",
+        n: 3,
+        a_p: &[0, 3, 6, 9],
+        a_i: &[0, 1, 2, 0, 1, 2, 0, 1, 2],
+        jumbled: false,
+        p: &[0, 1, 2],
+        figures: [9, 3, 6, 0],
+        symmetric: true,
+    },
+    Case {
+        what: "seven rows with two pairs of equal sums of neighbours",
+        n: 7,
+        a_p: &[0, 2, 6, 9, 11, 12, 12, 12],
+        a_i: &[5, 6, 2, 3, 4, 5, 3, 4, 6, 4, 6, 5],
+        jumbled: false,
+        p: &[0, 5, 6, 1, 2, 3, 4],
+        figures: [12, 0, 24, 0],
+        symmetric: false,
+    },
+    Case {
+        what: "a cycle of fourteen rows",
+        n: 14,
+        a_p: &[0, 2, 3, 4, 5, 6, 7, 8, 9, 10, 11, 12, 13, 14, 14],
+        a_i: &[1, 13, 2, 3, 4, 5, 6, 7, 8, 9, 10, 11, 12, 13],
+        jumbled: false,
+        p: &[0, 1, 2, 3, 4, 5, 6, 7, 8, 9, 10, 11, 12, 13],
+        figures: [14, 0, 28, 0],
+        symmetric: false,
+    },
+];
+
 #[test]
 fn small_matrices(rt: HostRuntime) {
-    let cases = [
-        Case {
-            what: "one row without entries",
-            n: 1,
-            a_p: &[0, 0],
-            a_i: &[],
-            jumbled: false,
-            p: &[0],
-            figures: [0, 0, 0, 0],
-            symmetric: true,
-        },
-        Case {
-            what: "one entry on the diagonal, and numbers after the end that are ignored",
-            n: 1,
-            a_p: &[0, 1, 7],
-            a_i: &[0, 9],
-            jumbled: false,
-            p: &[0],
-            figures: [1, 1, 0, 0],
-            symmetric: true,
-        },
-        Case {
-            what: "a diagonal",
-            n: 2,
-            a_p: &[0, 1, 2],
-            a_i: &[0, 1],
-            jumbled: false,
-            p: &[0, 1],
-            figures: [2, 2, 0, 0],
-            symmetric: true,
-        },
-        Case {
-            what: "one edge and an empty row",
-            n: 3,
-            a_p: &[0, 1, 1, 1],
-            a_i: &[2],
-            jumbled: false,
-            p: &[1, 0, 2],
-            figures: [1, 0, 2, 0],
-            symmetric: false,
-        },
-        Case {
-            what: "one edge",
-            n: 2,
-            a_p: &[0, 1, 1],
-            a_i: &[1],
-            jumbled: false,
-            p: &[0, 1],
-            figures: [1, 0, 2, 0],
-            symmetric: false,
-        },
-        Case {
-            what: "one edge, whose entry is repeated",
-            n: 2,
-            a_p: &[0, 2, 2],
-            a_i: &[1, 1],
-            jumbled: true,
-            p: &[0, 1],
-            figures: [1, 0, 2, 0],
-            symmetric: false,
-        },
-        Case {
-            what: "the five-row matrix of the demo",
-            n: 5,
-            a_p: &[0, 2, 6, 10, 12, 14],
-            a_i: &[0, 1, 0, 1, 2, 4, 1, 2, 3, 4, 2, 3, 1, 4],
-            jumbled: false,
-            p: &[0, 3, 4, 1, 2],
-            figures: [14, 5, 10, 0],
-            symmetric: false,
-        },
-        Case {
-            what: "a path of three rows",
-            n: 3,
-            a_p: &[0, 1, 2, 2],
-            a_i: &[1, 2],
-            jumbled: false,
-            p: &[0, 2, 1],
-            figures: [2, 0, 4, 0],
-            symmetric: false,
-        },
-        Case {
-            what: "a path of three rows, jumbled with a repeat, and rows out of range after the end",
-            n: 3,
-            a_p: &[0, 3, 3, 4],
-            a_i: &[2, 0, 2, 1, -5, 77],
-            jumbled: true,
-            p: &[0, 1, 2],
-            figures: [3, 1, 4, 0],
-            symmetric: false,
-        },
-        Case {
-            what: "a four-cycle",
-            n: 4,
-            a_p: &[0, 2, 3, 4, 4],
-            a_i: &[1, 3, 2, 3],
-            jumbled: false,
-            p: &[0, 1, 2, 3],
-            figures: [4, 0, 8, 0],
-            symmetric: false,
-        },
-        Case {
-            what: "a four-cycle, and rows out of range after the end",
-            n: 4,
-            a_p: &[0, 2, 3, 4, 4, -1],
-            a_i: &[1, 3, 2, 3, 4, -1],
-            jumbled: false,
-            p: &[0, 1, 2, 3],
-            figures: [4, 0, 8, 0],
-            symmetric: false,
-        },
-        Case {
-            what: "a full matrix with three rows",
-            n: 3,
-            a_p: &[0, 3, 6, 9],
-            a_i: &[0, 1, 2, 0, 1, 2, 0, 1, 2],
-            jumbled: false,
-            p: &[0, 1, 2],
-            figures: [9, 3, 6, 0],
-            symmetric: true,
-        },
-        Case {
-            what: "seven rows with two pairs of equal sums of neighbours",
-            n: 7,
-            a_p: &[0, 2, 6, 9, 11, 12, 12, 12],
-            a_i: &[5, 6, 2, 3, 4, 5, 3, 4, 6, 4, 6, 5],
-            jumbled: false,
-            p: &[0, 5, 6, 1, 2, 3, 4],
-            figures: [12, 0, 24, 0],
-            symmetric: false,
-        },
-        Case {
-            what: "a cycle of fourteen rows",
-            n: 14,
-            a_p: &[0, 2, 3, 4, 5, 6, 7, 8, 9, 10, 11, 12, 13, 14, 14],
-            a_i: &[1, 13, 2, 3, 4, 5, 6, 7, 8, 9, 10, 11, 12, 13],
-            jumbled: false,
-            p: &[0, 1, 2, 3, 4, 5, 6, 7, 8, 9, 10, 11, 12, 13],
-            figures: [14, 0, 28, 0],
-            symmetric: false,
-        },
-    ];
-    for case in &cases {
+    for case in &SMALL_MATRICES {
         check(&rt, rt.alloc(), 10000, case);
     }
 }
@@ -230,9 +232,8 @@ fn matrices_without_rows(rt: HostRuntime) {
 }
 
 #[test]
-fn dense_rows(rt: HostRuntime) -> Result<(), Fail> {
+fn one_dense_row(rt: HostRuntime) -> Result<(), Fail> {
     let centre_last = [1, 2, 3, 4, 5, 6, 7, 8, 9, 10, 11, 12, 13, 14, 15, 16, 17, 0];
-    let rising = [0, 1, 2, 3, 4, 5, 6, 7, 8, 9, 10, 11, 12, 13, 14, 15, 16, 17];
     let heap = rt.alloc();
     let (star_p, star_i) = star(heap, 18)?;
     // In a star with 18 rows the centre is dense exactly where the threshold is 16.
@@ -257,6 +258,13 @@ fn dense_rows(rt: HostRuntime) -> Result<(), Fail> {
         };
         check(&rt, heap, dense, &case);
     }
+    Ok(())
+}
+
+#[test]
+fn all_rows_dense(rt: HostRuntime) -> Result<(), Fail> {
+    let rising = [0, 1, 2, 3, 4, 5, 6, 7, 8, 9, 10, 11, 12, 13, 14, 15, 16, 17];
+    let heap = rt.alloc();
     let (full_p, full_i) = complete(heap, 18)?;
     let full = Case {
         what: "a complete graph with eighteen rows",

@@ -1,0 +1,62 @@
+-- The cycle 0 1 2 3: two pivots, of which the first merges the two rows beside it, and the second takes the last row with it.
+use Rattle.std.specs.Prelude.{ℤ, pos, None, Some, List, [], ◌∷◌}
+use Rattle.amd_model.specs.Graph.{Graph}
+use Rattle.amd_model.specs.State.{State, Live, Gone}
+use Rattle.amd_model.specs.Input.Pattern.{graph_of, is_pair}
+use Rattle.amd_model.specs.Tie.{Tie, start_tie, starting_list}
+use Rattle.amd_model.specs.Examples.Table.{Table, state_of, none_dense}
+
+-- the column pointers and the row indices
+abbrev pub pointers : List ℤ
+pointers = pos 0 ∷ pos 2 ∷ pos 3 ∷ pos 4 ∷ pos 4 ∷ []
+
+abbrev pub rows : List ℤ
+rows = pos 1 ∷ pos 3 ∷ pos 2 ∷ pos 3 ∷ []
+
+-- four edges, each in the column of its lesser row
+abbrev pub cycle : Graph
+cycle = graph_of 4 pointers rows
+
+abbrev pub start_table : Table
+start_table = record {
+  homes = Live 0 ∷ Live 1 ∷ Live 2 ∷ Live 3 ∷ [];
+  bounds = 2 ∷ 2 ∷ 2 ∷ 2 ∷ [];
+  borders = [];
+  parents = [];
+}
+
+-- each row has two neighbours
+abbrev pub at_start : State
+at_start = state_of start_table
+
+-- the same with bounds that are all 0, which no run has: of the old bound and what is outside the lesser one counts
+abbrev pub unbound : State
+unbound = record at_start { bound = λ v. 0 }
+
+abbrev pub one_table : Table
+one_table = record {
+  homes = Live 2 ∷ Live 1 ∷ Live 2 ∷ Gone 3 ∷ [];
+  bounds = 2 ∷ 2 ∷ 1 ∷ 2 ∷ [];
+  borders = [] ∷ [] ∷ [] ∷ (0 ∷ 2 ∷ []) ∷ [];
+  parents = [];
+}
+
+-- after pivot 3: rows 0 and 2 are one class, of bound 1
+abbrev pub after_one : State
+after_one = state_of one_table
+
+abbrev pub two_table : Table
+two_table = record {
+  homes = Gone 2 ∷ Gone 2 ∷ Gone 2 ∷ Gone 3 ∷ [];
+  bounds = 2 ∷ 2 ∷ 1 ∷ 2 ∷ [];
+  borders = [] ∷ [] ∷ [] ∷ (0 ∷ 2 ∷ []) ∷ [];
+  parents = None ∷ None ∷ None ∷ Some 2 ∷ [];
+}
+
+-- after pivot 2, which takes row 1 too, and is the parent of 3
+abbrev pub after_two : State
+after_two = state_of two_table
+
+-- the same in lists, from the starting lists of the pattern
+abbrev pub cycle_tie : Tie
+cycle_tie = start_tie cycle none_dense (starting_list 4 (is_pair 4 pointers rows))
