@@ -26,7 +26,7 @@ pub trait Visitor {
         ensures { (g : Graph) (seen : ℕ → ℕ → Bool) → holds g seen self.old → IsNew g seen i j → holds g (with_arc seen i j) self.new };
 }
 
-/// Reads the lower entries of column `j` that were not read yet, up to row `k`.
+/// Reads the lower entries of column `j`, one of `size`, that were not read yet, up to row `k`.
 fn lower<I: PrimInt, V: Visitor, A: Allocator>(
     size: usize,
     j: usize,
@@ -61,7 +61,7 @@ fn lower<I: PrimInt, V: Visitor, A: Allocator>(
     next[j] = place;
 }
 
-/// Reads the upper entries of column `k`, and says whether it has a diagonal entry.
+/// Reads the upper entries of column `k`, one of `size`, adds its pointer, and says whether it has a diagonal entry.
 fn column<I: PrimInt, V: Visitor, A: Allocator>(
     size: usize,
     k: usize,
