@@ -1,5 +1,5 @@
 -- From what the parts of an ordering promise to what the whole does.
-use Rattle.std.proofs.Common.{ℕ, ℤ, List, zero, suc, pos, negsuc, [], ◌∷◌, ◌++◌, ◌≡◌, ◌*◌, ◌+◌, ◌-◌, ◌<◌, ◌≤◌, map, length, drop, cond, Bool, true, false, inl, inr, refl, sym, ◌∙◌, ap, subst, arith}
+use Rattle.std.proofs.Common.{ℕ, ℤ, List, zero, suc, pos, negsuc, [], ◌∷◌, ◌++◌, ◌≡◌, ◌*◌, ◌+◌, ◌-◌, ◌/◌, ◌^◌, ◌<◌, ◌≤◌, map, length, drop, cond, Bool, true, false, inl, inr, refl, sym, ◌∙◌, ap, subst, arith}
 use Rattle.std.specs.Prelude.{unsigned_abs, nat_lt, min, max, ◌↔◌, IsTrue}
 use Rattle.std.proofs.lemmas.List.{drop-map}
 use Rattle.amd_model.specs.Below.{count_below, list_below}
@@ -7,6 +7,7 @@ use Rattle.amd_model.specs.Graph.{Graph, edge_count}
 use Rattle.amd_model.specs.Input.Pattern.{graph_of, is_pair, pair_count, diagonal_count, SamePattern}
 use Rattle.amd_model.specs.Input.Dense.{IsGreatest, IsRawThreshold, IsThreshold, is_dense}
 use Rattle.amd_model.specs.Listing.{ListsEachRow}
+use Rattle.amd_model.proofs.DegreeSums.{degrees_twice, pattern_graph}
 use Rattle.amd_model.proofs.BelowLemmas.{count_same, sum_same}
 use Rattle.amd_engine.specs.Permutations.{AreInverse}
 use Rattle.amd_engine.specs.declared.amd.Info.{Info}
@@ -28,6 +29,7 @@ orders_turned (pos n) t a_p a_i b_p b_i p q info status clean o = let f = figure
   threshold = o.threshold;
   is_threshold = o.is_threshold;
   dense = subst (λ g. DenseStandLast g o.threshold p info.n_dense) (graph_turned n a_p a_i b_p b_i clean.transpose) o.dense;
+  room = o.room;
 }
 orders_turned (negsuc n) t a_p a_i b_p b_i p q info status clean o = absurd clean
 
@@ -46,9 +48,9 @@ above_dense n threshold a_p a_i total len degrees i l = ap (nat_lt threshold) (d
 pub listing_orders : (n : ℕ) (t : ℤ) (threshold : ℕ) (a_p a_i p q : List ℤ) (len rows : List ℕ) (total n_dense : ℕ) (info : Info) →
     AreDegrees n a_p a_i total len → HasPatternFigures n a_p a_i info → IsThreshold n t threshold → ListsEachRow (length len) rows →
     n_dense ≡ count_below (length len) (is_above len threshold) → drop (length len - n_dense) rows ≡ list_below (length len) (is_above len threshold) →
-    p ≡ map pos rows → AreInverse (length rows) p q → info.n_cmp_a ≤ n → OrdersMatrix n t a_p a_i p q (record info { n_dense = n_dense })
+    total + total / 5 + n < 2 ^ 63 → p ≡ map pos rows → AreInverse (length rows) p q → info.n_cmp_a ≤ n → OrdersMatrix n t a_p a_i p q (record info { n_dense = n_dense })
 unfolding graph_of
-listing_orders n t threshold a_p a_i p q len rows total n_dense info degrees f is_threshold permutation count last listed inverse compactions = record {
+listing_orders n t threshold a_p a_i p q len rows total n_dense info degrees f is_threshold permutation count last room listed inverse compactions = record {
   inverse = subst (λ m. AreInverse m p q) (permutation.places ∙ degrees.size) inverse;
   figures = record { size = f.size; entries = f.entries; diagonal = f.diagonal; off_diagonal = f.off_diagonal; symmetric = f.symmetric };
   compactions = compactions;
@@ -60,6 +62,7 @@ listing_orders n t threshold a_p a_i p q len rows total n_dense info degrees f i
         ∙ ap (map pos) (subst (λ m. drop (m - n_dense) rows ≡ list_below m (is_above len threshold)) degrees.size last
         ∙ list_same n (is_above len threshold) (is_dense (graph_of n a_p a_i) threshold) (above_dense n threshold a_p a_i total len degrees));
   };
+  room = subst (λ m. m + m / 5 + n < 2 ^ 63) (degrees.sum ∙ degrees_twice (graph_of n a_p a_i) (pattern_graph n a_p a_i) ∙ sym f.off_diagonal) room;
 }
 
 -- there is one greatest number with a property

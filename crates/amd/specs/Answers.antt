@@ -1,5 +1,5 @@
 -- What `order` answers.
-use Rattle.std.specs.Prelude.{◌≡◌, ◌≢◌, ◌≤◌, ◌-◌, ℕ, ℤ, pos, List, [], map, drop, unsigned_abs}
+use Rattle.std.specs.Prelude.{◌≡◌, ◌≢◌, ◌≤◌, ◌+◌, ◌-◌, ◌/◌, ◌^◌, ◌<◌, ℕ, ℤ, pos, List, [], map, drop, unsigned_abs}
 use Rattle.amd_model.specs.Below.{count_below, list_below}
 use Rattle.amd_model.specs.Graph.{Graph}
 use Rattle.amd_model.specs.Input.Columns.{IsInput}
@@ -26,6 +26,8 @@ pub record OrdersMatrix (n : ℕ) (t : ℤ) (ap ai p q : List ℤ) (info : Info)
   pub threshold : ℕ
   pub is_threshold : IsThreshold n t threshold
   pub dense : DenseStandLast (graph_of n ap ai) threshold p info.n_dense
+  -- a workspace for the lists of that many rows, with a fifth more and n words, has at most the greatest `isize` of words
+  pub room : info.nz_a_plus_at + info.nz_a_plus_at / 5 + n < 2 ^ 63
 
 -- an answer for n = 0: two empty lists, and the record of nothing
 pub record IsNothing (p q : List ℤ) (info : Info) : Type 0 where

@@ -1,5 +1,7 @@
-use Rattle.std.proofs.Common.{ℕ, ℤ, List, pos, ◌≡◌, ◌-◌, map, length, drop, ap, subst, sym, ◌∙◌, arith}
-use Rattle.std.specs.Prelude.{unsigned_abs}
+use Rattle.std.proofs.Common.{ℕ, ℤ, List, pos, ◌≡◌, ◌+◌, ◌-◌, ◌/◌, ◌^◌, ◌<◌, map, length, drop, ap, subst, sym, ◌∙◌, arith}
+use Rattle.std.specs.Prelude.{unsigned_abs, Option, None, Some, is_none, not, false}
+use Rattle.std.specs.Option.{SomeIff}
+use Rattle.std.proofs.lemmas.Bool.{true≢false}
 use Rattle.amd_model.specs.Input.Dense.{IsThreshold}
 use Rattle.amd_model.specs.Listing.{ListsEachRow}
 use Rattle.amd_model.specs.Below.{list_below}
@@ -8,6 +10,11 @@ use Rattle.amd.specs.Degrees.{AreDegrees}
 use Rattle.amd.specs.ByDegree.{is_above}
 use Rattle.amd.proofs.Orderings.{listing_orders}
 use Rattle.amd.proofs.order_sorted.Goals as goal
+
+-- the number of words is at most the greatest `isize` where it was answered
+fits : (total count : ℕ) (words : Option ℕ) → SomeIff words (total + total / 5 + count < 2 ^ 63) (total + total / 5 + count) → is_none words ≡ false → total + total / 5 + count < 2 ^ 63
+fits total count None words there = absurd (true≢false there)
+fits total count (Some x) words there = words.0
 
 pub returns-clause-orders : goal.returns-clause-orders
 returns-clause-orders g c =
@@ -27,6 +34,7 @@ returns-clause-orders g c =
     (subst (ListsEachRow (length len)) same c.in_ok-rows.ensures.listing)
     c.in_ok-rows.ensures.count
     (subst (λ xs. drop (length len - c.in_ok-rows.n_dense) xs ≡ list_below (length len) (is_above len c.dense_threshold-threshold.result)) same c.in_ok-rows.ensures.dense)
+    (subst (λ m. c.in_ok-nzaat.nzaat + c.in_ok-nzaat.nzaat / 5 + m < 2 ^ 63) (sym size) (fits c.in_ok-nzaat.nzaat c.in-Some.count c.workspace_words.result c.workspace_words.ensures (ap not (c.is_none.ensures ∙ ap not c.if-is_none.false))))
     c.in_ok-p.ensures.listed
     c.in_ok-p.ensures.inverse
     (let stays : c.aat.new.info.n_cmp_a ≡ 0 = ap (λ (x : Info). x.n_cmp_a) c.in_ok-nzaat.ensures.others ∙ ap (λ (x : Info). x.n_cmp_a) c.new-info.ensures in omega (arith, stays))

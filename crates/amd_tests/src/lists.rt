@@ -1,0 +1,80 @@
+// The lists of the neighbours of each row, in the order in which the walk meets the edges.
+
+use amd::aat::aat;
+use amd::valid::valid;
+use amd::{Info, Status};
+use amd_engine::lists::{Lists, neighbours};
+use std::alloc::Global;
+use std::process::Abort;
+
+/// A sorted matrix, and the list of each of its rows.
+#[derive(Drop)]
+struct Case<'a> {
+    what: &'a str,
+    n: i64,
+    a_p: &'a [i64],
+    a_i: &'a [i64],
+    lists: &'a [&'a [usize]],
+}
+
+/// Matrices with their lists, as another program laid them out. Those of the last one do not all rise.
+static MATRICES: [Case<'static>; 3] = [
+    Case {
+        what: "a four-cycle",
+        n: 4,
+        a_p: &[0, 2, 3, 4, 4],
+        a_i: &[1, 3, 2, 3],
+        lists: &[&[1, 3], &[0, 2], &[1, 3], &[0, 2]],
+    },
+    Case {
+        what: "the five-row matrix of the demo",
+        n: 5,
+        a_p: &[0, 2, 6, 10, 12, 14],
+        a_i: &[0, 1, 0, 1, 2, 4, 1, 2, 3, 4, 2, 3, 1, 4],
+        lists: &[&[1], &[0, 2, 4], &[1, 3, 4], &[2], &[1, 2]],
+    },
+    Case {
+        what: "five rows whose lists do not all rise",
+        n: 5,
+        a_p: &[0, 1, 2, 3, 3, 6],
+        a_i: &[4, 3, 3, 1, 2, 3],
+        lists: &[&[4], &[4, 3], &[4, 3], &[1, 2, 4], &[1, 2, 3, 0]],
+    },
+];
+
+/// Lays out the lists of a sorted matrix.
+fn lists_of(rt: &impl Abort, alloc: Global, n: i64, a_p: &[i64], a_i: &[i64]) -> Lists<Global> {
+    assert!(rt; n > 0);
+    let Status::OK = valid(n, n, a_p, a_i) else {
+        panic!(rt; "not sorted: {a_p:?} {a_i:?}");
+    };
+    let mut info = Info::new(0);
+    let Ok((sum, degrees)) = aat(alloc, n, a_p, a_i, &mut info) else {
+        panic!(rt; "no degrees: {a_p:?} {a_i:?}");
+    };
+    let Ok(lists) = neighbours(alloc, degrees.len(), a_p, a_i, &degrees, sum) else {
+        panic!(rt; "no lists: {a_p:?} {a_i:?}");
+    };
+    lists
+}
+
+/// Asserts that the lists of a matrix are those of the case, one after another.
+fn check(rt: &impl Abort, alloc: Global, case: &Case) {
+    let what = case.what;
+    let lists = lists_of(rt, alloc, case.n, case.a_p, case.a_i);
+    assert_eq!(rt; lists.next.len(), case.lists.len(), "{what}");
+    let mut start = 0;
+    for (list, &end) in case.lists.iter().zip(&lists.next) {
+        assert!(rt; start <= end && end <= lists.rows.len(), "{what}");
+        assert_eq!(rt; &lists.rows[start..end], *list, "{what}");
+        start = end;
+    }
+    assert_eq!(rt; start, lists.rows.len(), "{what}");
+}
+
+#[test]
+fn lists_stand_in_the_order_of_the_walk(rt: HostRuntime) {
+    for case in &MATRICES {
+        check(&rt, rt.alloc(), case);
+    }
+}
