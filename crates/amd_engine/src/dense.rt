@@ -1,14 +1,13 @@
 // The number of edges above which a row is dense. The rule is that of the AMD user guide, with the parameter in thousandths
 // and a whole root in place of a float's. Called by every engine.
 
-ghost use Rattle.std.specs.Prelude.{◌≡◌, ◌^◌, ◌<◌, pos};
+ghost use Rattle.std.specs.Prelude.{pos};
 ghost use Rattle.amd_model.specs.Input.Dense.{IsRawThreshold, IsThreshold};
 
 use crate::amd::Control;
 
 /// The greatest `d` with `(1000 d)^2 <= dense^2 n`.
 fn dense_root(n: usize, dense: u32) -> usize
-    requires { dense < 2 ^ 32 }
     ensures { IsRawThreshold n (pos dense) result }
 {
     let dense = dense as u128;
