@@ -1,7 +1,7 @@
 // The degrees of the rows of a matrix, and the figures of its pattern: those of the pattern of A + A' (Amestoy, Davis and Duff
 // 2004). Called by `order`.
 
-ghost use Rattle.std.specs.Prelude.{◌≡◌, ◌<◌, ◌<ℤ◌, ◌^◌, ℕ, pos, map, length, slice_index, unsigned_abs, IfOk, IfErr, OnOk, OnErr};
+ghost use Rattle.std.specs.Prelude.{◌≡◌, ◌<◌, ◌^◌, map, length, slice_index, unsigned_abs, IfOk, IfErr, OnOk, OnErr};
 ghost use Rattle.amd_model.specs.Below.{sum_below};
 ghost use Rattle.amd_model.specs.Input.Columns.{IsInput, IsSortedInput};
 ghost use Rattle.amd_engine.specs.Visits.{AreCounts};
@@ -50,7 +50,6 @@ pub fn aat<I: PrimInt, A: Allocator + Copy>(
     a_i: &[I],
     info: &mut Info,
 ) -> Result<(usize, Vec<usize, A>), Status>
-    requires positive { pos 0 <ℤ I.value n }
     requires form { IsInput (I.value n) (I.value n) (map I.value a_p.now) (map I.value a_i.now) }
     requires sorted { IsSortedInput (I.value n) (map I.value a_p.now) (map I.value a_i.now) }
     ensures degrees { IfOk result (λ a. AreDegrees (unsigned_abs (I.value n)) (map I.value a_p.now) (map I.value a_i.now) a.0 a.1.items) }

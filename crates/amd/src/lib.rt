@@ -10,9 +10,9 @@ pub mod laws;
 pub mod preprocess;
 pub mod valid;
 
-ghost use Rattle.std.specs.Prelude.{◌≡◌, ◌+◌, ◌/◌, ◌^◌, ◌<◌, ◌<ℤ◌, map, pos, unsigned_abs, MatchResult, IfOk, IfErr};
+ghost use Rattle.std.specs.Prelude.{◌≡◌, ◌+◌, ◌/◌, ◌^◌, ◌<◌, map, unsigned_abs, MatchResult, IfOk, IfErr};
 ghost use Rattle.std.specs.Option.{SomeIff};
-ghost use Rattle.amd_model.specs.Input.Columns.{IsInput, IsSortedInput, IsJumbledInput};
+ghost use Rattle.amd_model.specs.Input.Columns.{IsInput, IsSortedInput};
 ghost use Rattle.amd.specs.Answers.{IsOrdering, IsRefusal, OrdersMatrix};
 
 use crate::aat::aat;
@@ -44,7 +44,6 @@ fn order_sorted<I: PrimInt, A: Allocator + Copy>(
     control: &Control,
 ) -> Result<(Vec<I, A>, Vec<I, A>, Info), Status>
     requires fits { I.fits (I.value n) }
-    requires positive { pos 0 <ℤ I.value n }
     requires form { IsInput (I.value n) (I.value n) (map I.value a_p.now) (map I.value a_i.now) }
     requires sorted { IsSortedInput (I.value n) (map I.value a_p.now) (map I.value a_i.now) }
     ensures orders { IfOk result (λ a. OrdersMatrix (unsigned_abs (I.value n)) control.now.dense (map I.value a_p.now) (map I.value a_i.now) (map I.value a.0.items) (map I.value a.1.items) a.2) }
@@ -75,7 +74,6 @@ fn order_jumbled<I: PrimInt, A: Allocator + Copy>(
     control: &Control,
 ) -> Result<(Vec<I, A>, Vec<I, A>, Info), Status>
     requires fits { I.fits (I.value n) }
-    requires positive { pos 0 <ℤ I.value n }
     requires form { IsInput (I.value n) (I.value n) (map I.value a_p.now) (map I.value a_i.now) }
     ensures orders { IfOk result (λ a. OrdersMatrix (unsigned_abs (I.value n)) control.now.dense (map I.value a_p.now) (map I.value a_i.now) (map I.value a.0.items) (map I.value a.1.items) a.2) }
     ensures status { IfOk result (λ a. a.2.status ≡ Status.OkButJumbled) }

@@ -1,7 +1,7 @@
 // Whether an input is a column form, and whether its columns are sorted. The rule is that of the AMD user guide; a fault in a
 // later column wins over a jumbled earlier one. Called by `order`.
 
-ghost use Rattle.std.specs.Prelude.{◌≡◌, ◌<◌, ◌≤◌, length, map};
+ghost use Rattle.std.specs.Prelude.{◌<◌, ◌≤◌, length, map};
 ghost use Rattle.amd_engine.specs.Statuses.{IsStatusOf};
 ghost use Rattle.amd.specs.Scans.{IsColumnClass};
 

@@ -1,7 +1,7 @@
 // The types that callers see: what they choose, what they are told, and how a call went.
 // Names and fields are those of the Rust crate `amd`; `dense` is a whole number of thousandths.
 
-ghost use Rattle.std.specs.Prelude.{◌≡◌, ◌↔◌, pos, false, true, IsTrue};
+ghost use Rattle.std.specs.Prelude.{◌≡◌, pos, false, true};
 ghost use Rattle.amd_engine.specs.Records.{fresh_info};
 ghost use Rattle.amd_engine.specs.declared.amd.Status.TheVariants.{OutOfMemory};
 
