@@ -4,6 +4,7 @@ use Rattle.amd_model.specs.Graph.{edge_count}
 use Rattle.amd_model.specs.Input.Pattern.{graph_of, pair_count, diagonal_count, IsSymmetric}
 use Rattle.amd_engine.specs.declared.amd.Info.{Info}
 
+-- the figures of the pattern stand in the record
 pub record HasPatternFigures (n : ℕ) (ap ai : List ℤ) (info : Info) : Type 0 where
   pub size : info.n ≡ n
   -- the pairs of the pattern, those on the diagonal, and twice the edges

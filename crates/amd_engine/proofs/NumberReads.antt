@@ -1,12 +1,8 @@
--- Reading a list of a caller's numbers, and reading it after a write.
+-- Reading a list of a caller's numbers after a write.
 use Rattle.std.proofs.Common.{◌≡◌, ◌≢◌, ◌<◌, ℕ, ℤ, List, map, pos, get_or, length, ◌∙◌, ap}
 use Rattle.std.proofs.Math.ListN.{set}
-use Rattle.std.proofs.lemmas.List.{length-map, map-set, get_or-map, get_or-set_same, get_or-set_other}
+use Rattle.std.proofs.lemmas.List.{length-map, map-set, get_or-set_same, get_or-set_other}
 use Rattle.amd_model.specs.Input.Columns.{at}
-
--- the number at a place of the list
-pub at_within : {X : Type 0} (value : X → ℤ) (xs : List X) (k : ℕ) (d : X) → k < length xs → at (map value xs) k ≡ value (get_or xs k d)
-at_within value xs k d within = get_or-map value xs k d (pos 0) within
 
 pub at_set_same : {X : Type 0} (value : X → ℤ) (xs : List X) (k : ℕ) (x : X) → k < length xs → at (map value (set xs k x)) k ≡ value x
 at_set_same value xs k x within = ap (λ ys. at ys k) (map-set value xs k x) ∙ get_or-set_same (map value xs) k (value x) (pos 0) (simp length-map within)

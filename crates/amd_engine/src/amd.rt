@@ -13,7 +13,8 @@ pub struct Control {
     /// The dense row parameter in thousandths: a row with more than `max(16, dense / 1000 * sqrt(n))` edges is dense.
     /// Any number is allowed; a negative one makes only rows of degree `n - 1` dense, from `n = 18` on.
     pub dense: i32,
-    /// Whether elements that lie inside a new one are absorbed by it although they do not hold the pivot.
+    /// Whether elements that lie inside a new one are absorbed by it although they do not hold the pivot. Not read until the
+    /// elimination is built.
     pub aggressive: bool,
 }
 
@@ -31,13 +32,13 @@ impl Default for Control {
 /// How a call went.
 #[derive(PartialEq, Clone, Debug, Drop)]
 pub enum Status {
-    /// The input has no columns, or is a column form whose columns are strictly rising.
+    /// The input is a column form whose columns are strictly rising; in the record of `order`, also any input with `n = 0`.
     OK,
     /// The input is no column form.
     Invalid,
     /// The input is a column form in which some column is out of order or has a repeat.
     OkButJumbled,
-    /// Memory was refused.
+    /// Memory was refused, or the workspace would have more words than the greatest `isize`.
     OutOfMemory,
 }
 
@@ -66,17 +67,18 @@ pub struct Info {
     pub nz_a_plus_at: usize,
     /// The number of dense rows.
     pub n_dense: usize,
-    /// How often the workspace was compacted.
+    /// How often the workspace was compacted. 0 until the elimination is built.
     pub n_cmp_a: usize,
-    /// The entries of the factor `L` below the diagonal, at most.
+    /// Will be an upper bound on the entries of the factor `L` below the diagonal. 0 until the elimination is built: reserve
+    /// nothing by it.
     pub lnz: usize,
-    /// The divisions of a factorization, at most.
+    /// Will be an upper bound on the divisions of a factorization. 0 until the elimination is built.
     pub n_div: usize,
-    /// The multiply-subtract steps of a factorization `LDL'`, at most.
+    /// Will be an upper bound on the multiply-subtract steps of a factorization `LDL'`. 0 until the elimination is built.
     pub n_mult_subs_ldl: usize,
-    /// The multiply-subtract steps of a factorization `LU`, at most.
+    /// Will be an upper bound on the multiply-subtract steps of a factorization `LU`. 0 until the elimination is built.
     pub n_mult_subs_lu: usize,
-    /// The rows of the greatest front.
+    /// Will be the number of rows of the greatest front. 0 until the elimination is built: reserve nothing by it.
     pub d_max: usize,
 }
 

@@ -1,5 +1,5 @@
 // Reading numbers of the caller's integer type, and making them. Later proofs speak of the integers alone, and never of the
-// laws of generic numbers. Called by the walk, the engines, and every module of the crate `amd` that reads an input.
+// laws of generic numbers. Called by `walk` and `permutations`, by the modules of the crate `amd`, and by `amd_bench`.
 
 ghost use Rattle.std.specs.Prelude.{◌≡◌, ◌<◌, ◌↔◌, ◌<ℤ◌, IsTrue, length, map, pos, slice_index, unsigned_abs};
 ghost use Rattle.std.specs.Int.{FitsUnsignedBits};

@@ -1,5 +1,6 @@
-//! The engine of an approximate minimum degree ordering: the types that callers see, the reading of numbers of a caller's
-//! type, and the walk over the edges of a matrix. The crate `amd` stands on it and hands the types on.
+//! The parts under an ordering: the types that callers see, the reading of numbers of a caller's type, the walk over the
+//! edges of a matrix, the lists of neighbours, the threshold of dense rows, and the two permutations that a listing gives. The
+//! crate `amd` stands on it and hands the types on. No engine stands here yet.
 #![tactic(auto)]
 
 pub mod amd;

@@ -34,7 +34,6 @@ pub mod TieRun
 pub mod RunsExist
 pub mod StepTest
 pub mod Examples
-pub mod TieBuckets
 pub mod Classes
 pub mod Counts
 pub mod Exact

@@ -43,10 +43,6 @@ filter_yes p y xs h = cond-true (p y) (y ∷ filter p xs) (filter p xs) h
 filter_no : (p : ℕ → Bool) (y : ℕ) (xs : List ℕ) → p y ≡ false → filter p (y ∷ xs) ≡ filter p xs
 filter_no p y xs h = cond-false (p y) (y ∷ filter p xs) (filter p xs) h
 
-and_true : (a : Bool) → (a && true) ≡ a
-and_true true = refl
-and_true false = refl
-
 and_false : (a : Bool) → (a && false) ≡ false
 and_false true = refl
 and_false false = refl
@@ -194,10 +190,6 @@ flat_from f (z ∷ xs) x y h k = has_append (f z) (flat_map f xs) x ∙ elim (or
   | inl q ↦ or_left (has (f z) x) (has (flat_map f xs) x) (ap (λ m. has (f m) x) (eqb-true z y q) ∙ k)
   | inr q ↦ or_right (has (f z) x) (has (flat_map f xs) x) (flat_from f xs x y q k)
 ]
-
--- the last one that passes
-unfoldable step_of : (ℕ → Bool) → ℕ → ℕ → ℕ
-step_of p r x = cond (p x) x r
 
 pub last_passes : (p : ℕ → Bool) (d : ℕ) (xs : List ℕ) → p d ≡ true → p (last_that p d xs) ≡ true
 unfolding last_that

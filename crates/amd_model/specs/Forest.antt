@@ -9,5 +9,6 @@ pub record IsCycle (g : Graph) (rows : List ℕ) : Type 0 where
   pub joined : (k : ℕ) → k + 1 < length rows → g.edge (slice_index rows k) (slice_index rows (k + 1)) ≡ true
   pub closed : g.edge (slice_index rows (length rows - 1)) (slice_index rows 0) ≡ true
 
+-- no list of rows is a cycle
 abbrev pub IsForest : Graph → Type 0
 IsForest g = (rows : List ℕ) → IsCycle g rows → ⊥

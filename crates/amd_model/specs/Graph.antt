@@ -2,6 +2,7 @@
 use Rattle.std.specs.Prelude.{ℕ, Bool, false, ◌≡◌, ◌≤◌}
 use Rattle.amd_model.specs.Below.{count_below, sum_below}
 
+-- a number of rows, and which of them are joined
 pub record Graph : Type 0 where
   pub size : ℕ
   pub edge : ℕ → ℕ → Bool

@@ -11,6 +11,7 @@ pub record Together (g : Graph) (s : State) (v w : ℕ) : Type 0 where
   pub first : s.border element v ≡ true
   pub second : s.border element w ≡ true
 
+-- what the classes, the borders and the edges say of each other, and of paths through eliminated rows
 pub record IsSound (g : Graph) (s : State) : Type 0 where
   -- numbers that name no row count as held last
   pub rows : (v : ℕ) → g.size ≤ v → s.home v ≡ Last

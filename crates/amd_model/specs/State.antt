@@ -13,13 +13,14 @@ pub data Home : Type 0 where
   Live : ℕ → Home
   Gone : ℕ → Home
 
+-- where each row is, the bound of each class, and the border and the parent of each element
 pub record State : Type 0 where
   pub home : ℕ → Home
   pub bound : ℕ → ℕ
   pub border : ℕ → ℕ → Bool
   pub parent : ℕ → Option ℕ
 
--- the same of one place: live, eliminated, in the class c, in the block of e
+-- what a home says: live, eliminated, in the class c, in the block of e
 unfoldable pub live_at : Home → Bool
 live_at Last = false
 live_at (Live c) = true
@@ -40,9 +41,11 @@ block_at e Last = false
 block_at e (Live d) = false
 block_at e (Gone f) = f == e
 
+-- row v is live
 abbrev pub live : State → ℕ → Bool
 live s v = live_at (s.home v)
 
+-- row v was eliminated
 abbrev pub eliminated : State → ℕ → Bool
 eliminated s v = gone_at (s.home v)
 
@@ -58,6 +61,7 @@ in_block s e v = block_at e (s.home v)
 abbrev pub is_class : State → ℕ → Bool
 is_class s c = in_class s c c
 
+-- an element is named by its pivot row
 abbrev pub is_element : State → ℕ → Bool
 is_element s e = in_block s e e
 

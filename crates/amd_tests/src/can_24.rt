@@ -1,5 +1,5 @@
 // The 24-by-24 matrix can_24 of the Harwell/Boeing collection, as the demos of the AMD user guide give it: whole, and in a
-// jumbled form with repeats and with entries left out.
+// jumbled form with repeats and with entries left out. The data are those demos' (BSD 3-clause, see LICENSE).
 
 pub static POINTERS: [i64; 25] = [
     0, 9, 15, 21, 27, 33, 39, 48, 57, 61, 70, 76, 82, 88, 94, 100, 106, 110, 119, 128, 137, 143,

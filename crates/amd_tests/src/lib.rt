@@ -1,6 +1,6 @@
 //! Tests of the ordering through its calls: worked inputs with their answers, hostile inputs, refused memory, and a comparison
 //! with the definitions in a plain form. The answers come from outside: worked by hand, from the literature's demos, or from
-//! other programs.
+//! the Rust crate `amd` and a plain program that follows the rules.
 #![tactic(auto)]
 
 #[cfg(test)]

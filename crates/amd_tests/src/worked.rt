@@ -172,7 +172,7 @@ static SMALL_MATRICES: [Case<'static>; 14] = [
         symmetric: true,
     },
     Case {
-        what: "seven rows with two pairs of equal sums of neighbours",
+        what: "seven rows, four of which have degree 4",
         n: 7,
         a_p: &[0, 2, 6, 9, 11, 12, 12, 12],
         a_i: &[5, 6, 2, 3, 4, 5, 3, 4, 6, 4, 6, 5],
