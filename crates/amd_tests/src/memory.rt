@@ -118,8 +118,7 @@ fn preprocess_refusing(rt: &impl Abort, alloc: Global, refuse_at: u64) -> bool {
         Ok((pointers, columns)) => {
             assert!(rt; !heap.refused(), "at {refuse_at}");
             assert_eq!(rt; pointers.as_slice(), [0, 1, 2, 3].as_slice());
-            assert!(rt; columns.len() >= 3);
-            assert_eq!(rt; [columns[0], columns[1], columns[2]], [0, 2, 0]);
+            assert_eq!(rt; columns.as_slice(), [0, 2, 0].as_slice());
         }
         Err(status) => {
             assert!(rt; heap.refused(), "at {refuse_at}");
