@@ -64,12 +64,8 @@ pub fn aat<I: PrimInt, A: Allocator + Copy>(
     if entries >= 1 << 63 {
         return Err(Status::OutOfMemory);
     }
-    let Ok(mut next) = Vec::with_capacity(alloc, size) else {
-        return Err(Status::OutOfMemory);
-    };
-    let Ok(degrees) = vec![in alloc; 0; size] else {
-        return Err(Status::OutOfMemory);
-    };
+    let mut next = Vec::with_capacity(alloc, size)?;
+    let degrees = vec![in alloc; 0; size]?;
     let mut counts = Counts { degrees };
     let diagonals = walk(size, a_p, a_i, &mut next, &mut counts);
     let sum = total(&counts.degrees);
