@@ -52,12 +52,12 @@ fn order_sorted<I: PrimInt, A: Allocator + Copy>(
 {
     let count = known_count(n);
     let mut info = Info::new(count);
-    let (nzaat, len) = aat(alloc, n, a_p, a_i, &mut info)?;
+    let (nzaat, degrees) = aat(alloc, n, a_p, a_i, &mut info)?;
     if workspace_words(nzaat, count).is_none() {
         return Err(Status::OutOfMemory);
     }
     let threshold = dense_threshold(count, control);
-    let (rows, n_dense) = by_degree(alloc, &len, threshold)?;
+    let (rows, n_dense) = by_degree(alloc, &degrees, threshold)?;
     info.n_dense = n_dense;
     let (p, p_inv) = inverse_pair(alloc, n, &rows)?;
     Ok((p, p_inv, info))

@@ -24,16 +24,16 @@ returns-clause-orders g c =
     let threshold = subst (λ m. IsThreshold m c.args.control.now.dense c.dense_threshold-threshold.result) (sym size) c.dense_threshold-threshold.ensures in
     let a_p : List ℤ = map value c.args.a_p.now in
     let a_i : List ℤ = map value c.args.a_i.now in
-    let len : List ℕ = c.deref.result.now in
+    let degrees : List ℕ = c.deref.result.now in
     let rows : List ℕ = c.deref-2.result.now in
     let same = sym c.deref-2.ensures.value in
-    listing_orders n c.args.control.now.dense c.dense_threshold-threshold.result a_p a_i (map value c.in_ok-p.p.items) (map value c.in_ok-p.p_inv.items) len rows c.in_ok-nzaat.nzaat c.in_ok-rows.n_dense c.aat.new.info
+    listing_orders n c.args.control.now.dense c.dense_threshold-threshold.result a_p a_i (map value c.in_ok-p.p.items) (map value c.in_ok-p.p_inv.items) degrees rows c.in_ok-nzaat.nzaat c.in_ok-rows.n_dense c.aat.new.info
     (subst (AreDegrees n a_p a_i c.in_ok-nzaat.nzaat) (sym c.deref.ensures.value) c.in_ok-nzaat.ensures.degrees)
     c.in_ok-nzaat.ensures.figures
     threshold
-    (subst (ListsEachRow (length len)) same c.in_ok-rows.ensures.listing)
+    (subst (ListsEachRow (length degrees)) same c.in_ok-rows.ensures.listing)
     c.in_ok-rows.ensures.count
-    (subst (λ xs. drop (length len - c.in_ok-rows.n_dense) xs ≡ list_below (length len) (is_above len c.dense_threshold-threshold.result)) same c.in_ok-rows.ensures.dense)
+    (subst (λ xs. drop (length degrees - c.in_ok-rows.n_dense) xs ≡ list_below (length degrees) (is_above degrees c.dense_threshold-threshold.result)) same c.in_ok-rows.ensures.dense)
     (subst (λ m. c.in_ok-nzaat.nzaat + c.in_ok-nzaat.nzaat / 5 + m < 2 ^ 63) (sym size) (fits c.in_ok-nzaat.nzaat c.known_count-count.result c.workspace_words.result c.workspace_words.ensures (ap not (c.is_none.ensures ∙ ap not c.if-is_none.false))))
     c.in_ok-p.ensures.listed
     c.in_ok-p.ensures.inverse
