@@ -1,9 +1,9 @@
 -- From what the parts of an ordering promise to what the whole does.
-use Rattle.std.proofs.Common.{ℕ, ℤ, List, zero, suc, pos, negsuc, [], ◌∷◌, ◌++◌, ◌≡◌, ◌*◌, ◌+◌, ◌-◌, ◌/◌, ◌^◌, ◌<◌, ◌≤◌, map, length, drop, cond, Bool, true, false, inl, inr, refl, sym, ◌∙◌, ap, subst, arith}
+use Rattle.std.proofs.Common.{ℕ, ℤ, List, zero, suc, pos, negsuc, [], ◌∷◌, ◌++◌, ◌≡◌, ◌*◌, ◌+◌, ◌-◌, ◌/◌, ◌^◌, ◌<◌, ◌≤◌, map, length, drop, cond, Bool, true, false, refl, sym, ◌∙◌, ap, subst, arith}
 use Rattle.std.specs.Prelude.{unsigned_abs, nat_lt, min, max, ◌↔◌, IsTrue}
 use Rattle.std.proofs.lemmas.List.{drop-map}
 use Rattle.amd_model.specs.Below.{count_below, list_below}
-use Rattle.amd_model.specs.Graph.{Graph, edge_count}
+use Rattle.amd_model.specs.Graph.{edge_count}
 use Rattle.amd_model.specs.Input.Pattern.{graph_of, is_pair, pair_count, diagonal_count, SamePattern}
 use Rattle.amd_model.specs.Input.Dense.{IsGreatest, IsRawThreshold, IsThreshold, is_dense}
 use Rattle.amd_model.specs.Listing.{ListsEachRow}

@@ -1,4 +1,4 @@
-use Rattle.std.proofs.Common.{ℕ, ℤ, List, pos, ◌≡◌, ◌+◌, ◌-◌, ◌/◌, ◌^◌, ◌<◌, map, length, drop, ap, subst, sym, ◌∙◌, arith}
+use Rattle.std.proofs.Common.{ℕ, ℤ, List, ◌≡◌, ◌+◌, ◌-◌, ◌/◌, ◌^◌, ◌<◌, map, length, drop, ap, subst, sym, ◌∙◌, arith}
 use Rattle.std.specs.Prelude.{unsigned_abs, Option, None, Some, is_none, not, false}
 use Rattle.std.specs.Option.{SomeIff}
 use Rattle.std.proofs.lemmas.Bool.{true≢false}
