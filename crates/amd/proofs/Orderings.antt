@@ -1,9 +1,9 @@
 -- From what the parts of an ordering promise to what the whole does.
-use Rattle.std.proofs.Common.{ℕ, ℤ, List, zero, suc, pos, negsuc, [], ◌∷◌, ◌++◌, ◌≡◌, ◌*◌, ◌+◌, ◌-◌, ◌/◌, ◌^◌, ◌<◌, ◌≤◌, map, length, drop, cond, Bool, true, false, inl, inr, refl, sym, ◌∙◌, ap, subst, arith}
+use Rattle.std.proofs.Common.{ℕ, ℤ, List, zero, suc, pos, negsuc, [], ◌∷◌, ◌++◌, ◌≡◌, ◌*◌, ◌+◌, ◌-◌, ◌/◌, ◌^◌, ◌<◌, ◌≤◌, map, length, drop, cond, Bool, true, false, refl, sym, ◌∙◌, ap, subst, arith}
 use Rattle.std.specs.Prelude.{unsigned_abs, nat_lt, min, max, ◌↔◌, IsTrue}
 use Rattle.std.proofs.lemmas.List.{drop-map}
 use Rattle.amd_model.specs.Below.{count_below, list_below}
-use Rattle.amd_model.specs.Graph.{Graph, edge_count}
+use Rattle.amd_model.specs.Graph.{edge_count}
 use Rattle.amd_model.specs.Input.Pattern.{graph_of, is_pair, pair_count, diagonal_count, SamePattern}
 use Rattle.amd_model.specs.Input.Dense.{IsGreatest, IsRawThreshold, IsThreshold, is_dense}
 use Rattle.amd_model.specs.Listing.{ListsEachRow}
@@ -40,27 +40,27 @@ list_same zero p q h = refl
 list_same (suc n) p q h = ap (λ xs. xs ++ cond (p n) (n ∷ []) []) (list_same n p q (λ k l. h k (omega arith))) ∙ ap (λ b. list_below n q ++ cond b (n ∷ []) []) (h n (omega arith))
 
 -- the degrees tell which rows are dense
-above_dense : (n threshold : ℕ) (a_p a_i : List ℤ) (total : ℕ) (len : List ℕ) → AreDegrees n a_p a_i total len → (i : ℕ) → i < n → is_above len threshold i ≡ is_dense (graph_of n a_p a_i) threshold i
+above_dense : (n threshold : ℕ) (a_p a_i : List ℤ) (total : ℕ) (numbers : List ℕ) → AreDegrees n a_p a_i total numbers → (i : ℕ) → i < n → is_above numbers threshold i ≡ is_dense (graph_of n a_p a_i) threshold i
 unfolding is_dense
-above_dense n threshold a_p a_i total len degrees i l = ap (nat_lt threshold) (degrees.each i l)
+above_dense n threshold a_p a_i total numbers degrees i l = ap (nat_lt threshold) (degrees.each i l)
 
 -- a listing of the rows with the dense ones behind, and its inverse, order the matrix
-pub listing_orders : (n : ℕ) (t : ℤ) (threshold : ℕ) (a_p a_i p q : List ℤ) (len rows : List ℕ) (total n_dense : ℕ) (info : Info) →
-    AreDegrees n a_p a_i total len → HasPatternFigures n a_p a_i info → IsThreshold n t threshold → ListsEachRow (length len) rows →
-    n_dense ≡ count_below (length len) (is_above len threshold) → drop (length len - n_dense) rows ≡ list_below (length len) (is_above len threshold) →
+pub listing_orders : (n : ℕ) (t : ℤ) (threshold : ℕ) (a_p a_i p q : List ℤ) (numbers rows : List ℕ) (total n_dense : ℕ) (info : Info) →
+    AreDegrees n a_p a_i total numbers → HasPatternFigures n a_p a_i info → IsThreshold n t threshold → ListsEachRow (length numbers) rows →
+    n_dense ≡ count_below (length numbers) (is_above numbers threshold) → drop (length numbers - n_dense) rows ≡ list_below (length numbers) (is_above numbers threshold) →
     total + total / 5 + n < 2 ^ 63 → p ≡ map pos rows → AreInverse (length rows) p q → info.n_cmp_a ≤ n → OrdersMatrix n t a_p a_i p q (record info { n_dense = n_dense })
 unfolding graph_of
-listing_orders n t threshold a_p a_i p q len rows total n_dense info degrees f is_threshold permutation count last room listed inverse compactions = record {
+listing_orders n t threshold a_p a_i p q numbers rows total n_dense info degrees f is_threshold permutation count last room listed inverse compactions = record {
   inverse = subst (λ m. AreInverse m p q) (permutation.places ∙ degrees.size) inverse;
   figures = record { size = f.size; entries = f.entries; diagonal = f.diagonal; off_diagonal = f.off_diagonal; symmetric = f.symmetric };
   compactions = compactions;
   threshold = threshold;
   is_threshold = is_threshold;
   dense = record {
-    count = count ∙ ap (λ m. count_below m (is_above len threshold)) degrees.size ∙ count_same n (is_above len threshold) (is_dense (graph_of n a_p a_i) threshold) (above_dense n threshold a_p a_i total len degrees);
+    count = count ∙ ap (λ m. count_below m (is_above numbers threshold)) degrees.size ∙ count_same n (is_above numbers threshold) (is_dense (graph_of n a_p a_i) threshold) (above_dense n threshold a_p a_i total numbers degrees);
     last = ap (drop (n - n_dense)) listed ∙ drop-map (λ x. pos x) (n - n_dense) rows
-        ∙ ap (map pos) (subst (λ m. drop (m - n_dense) rows ≡ list_below m (is_above len threshold)) degrees.size last
-        ∙ list_same n (is_above len threshold) (is_dense (graph_of n a_p a_i) threshold) (above_dense n threshold a_p a_i total len degrees));
+        ∙ ap (map pos) (subst (λ m. drop (m - n_dense) rows ≡ list_below m (is_above numbers threshold)) degrees.size last
+        ∙ list_same n (is_above numbers threshold) (is_dense (graph_of n a_p a_i) threshold) (above_dense n threshold a_p a_i total numbers degrees));
   };
   room = subst (λ m. m + m / 5 + n < 2 ^ 63) (degrees.sum ∙ degrees_twice (graph_of n a_p a_i) (pattern_graph n a_p a_i) ∙ sym f.off_diagonal) room;
 }

@@ -1,10 +1,10 @@
 -- Column forms with the same pairs, or with transposed ones, have the same graph and the same figures.
-use Rattle.std.proofs.Common.{ℕ, ℤ, Bool, true, false, List, ◌≡◌, ◌+◌, ◌*◌, ◌<◌, ◌≤◌, ◌&&◌, ◌||◌, ◌⊎◌, not, cond, inl, inr, refl, sym, ◌∙◌, ap, subst, arith}
-use Rattle.std.specs.Prelude.{◌==◌, ◌↔◌, IsTrue, nat_lt, pos, negsuc, unsigned_abs}
+use Rattle.std.proofs.Common.{ℕ, ℤ, Bool, true, false, List, ◌≡◌, ◌*◌, ◌<◌, ◌≤◌, ◌&&◌, ◌||◌, ◌⊎◌, not, cond, inl, inr, refl, sym, ◌∙◌, ap}
+use Rattle.std.specs.Prelude.{◌==◌, nat_lt}
 use Rattle.std.proofs.lemmas.Bool.{cases_lt, le-ltb}
-use Rattle.amd_model.specs.Below.{sum_below, count_below, list_below}
-use Rattle.amd_model.specs.Graph.{Graph, edge_count}
-use Rattle.amd_model.specs.Input.Pattern.{holds_row, is_pair, graph_of, pair_count, diagonal_count, IsSymmetric, SamePattern, IsTranspose}
+use Rattle.amd_model.specs.Below.{sum_below, count_below}
+use Rattle.amd_model.specs.Graph.{edge_count}
+use Rattle.amd_model.specs.Input.Pattern.{holds_row, is_pair, graph_of, pair_count, diagonal_count, SamePattern, IsTranspose}
 use Rattle.amd_model.proofs.BelowLemmas.{sum_same, count_same}
 use Rattle.amd_model.proofs.Pigeonhole.{sum_swap}
 use Rattle.amd_engine.specs.declared.amd.Info.{Info}

@@ -18,7 +18,7 @@ pub record DenseStandLast (g : Graph) (threshold : ℕ) (p : List ℤ) (n_dense 
   pub count : n_dense ≡ count_below g.size (is_dense g threshold)
   pub last : drop (g.size - n_dense) p ≡ map pos (list_below g.size (is_dense g threshold))
 
--- what an ordering of a matrix with n rows, n at least 1, and a dense row parameter of t thousandths promises
+-- what an ordering of a matrix with n rows and a dense row parameter of t thousandths promises
 pub record OrdersMatrix (n : ℕ) (t : ℤ) (ap ai p q : List ℤ) (info : Info) : Type 0 where
   pub inverse : AreInverse n p q
   pub figures : HasPatternFigures n ap ai info

@@ -41,8 +41,18 @@ fn total(numbers: &[usize]) -> usize
     sum
 }
 
-/// The sum of the degrees and the degree of each row of a matrix with `n` rows; the figures of its pattern go to `info`.
-/// The pattern is symmetric where there are as many arcs as entries off the diagonal.
+/// The sum of the degrees and the degree of each row of a matrix with `n` rows, by the pattern of `A + A'`; the figures of the
+/// pattern go to `info`, of which the other fields stay. The pattern is symmetric where there are as many arcs as entries off
+/// the diagonal.
+///
+/// The input is a column form with `n` rows and columns, each of which strictly rises: `valid` tells `OK`. `a_p` has at least
+/// `n + 1` pointers, and `a_i` at least `a_p[n]` row indices; what stands behind is ignored. The list that is answered has `n`
+/// degrees.
+///
+/// # Errors
+///
+/// `OutOfMemory` where an allocation was refused, or there are 2^63 entries or more, so that the sum of the degrees may not
+/// fit; `info` is then as it was.
 pub fn aat<I: PrimInt, A: Allocator + Copy>(
     alloc: A,
     n: I,
@@ -64,12 +74,8 @@ pub fn aat<I: PrimInt, A: Allocator + Copy>(
     if entries >= 1 << 63 {
         return Err(Status::OutOfMemory);
     }
-    let Ok(mut next) = Vec::with_capacity(alloc, size) else {
-        return Err(Status::OutOfMemory);
-    };
-    let Ok(degrees) = vec![in alloc; 0; size] else {
-        return Err(Status::OutOfMemory);
-    };
+    let mut next = Vec::with_capacity(alloc, size)?;
+    let degrees = vec![in alloc; 0; size]?;
     let mut counts = Counts { degrees };
     let diagonals = walk(size, a_p, a_i, &mut next, &mut counts);
     let sum = total(&counts.degrees);

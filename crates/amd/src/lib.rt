@@ -21,7 +21,7 @@ use crate::preprocess::preprocess;
 use crate::valid::valid;
 pub use amd_engine::amd::{Control, Info, Status};
 use amd_engine::dense::dense_threshold;
-use amd_engine::internal::to_count;
+use amd_engine::internal::{known_count, to_count};
 use amd_engine::permutations::inverse_pair;
 use num_traits::PrimInt;
 use std::alloc::Allocator;
@@ -50,16 +50,14 @@ fn order_sorted<I: PrimInt, A: Allocator + Copy>(
     ensures status { IfOk result (λ a. a.2.status ≡ Status.OK) }
     ensures refused { IfErr result (λ e. e ≡ Status.OutOfMemory) }
 {
-    let Some(count) = to_count(n) else {
-        unreachable!();
-    };
+    let count = known_count(n);
     let mut info = Info::new(count);
-    let (nzaat, len) = aat(alloc, n, a_p, a_i, &mut info)?;
+    let (nzaat, degrees) = aat(alloc, n, a_p, a_i, &mut info)?;
     if workspace_words(nzaat, count).is_none() {
         return Err(Status::OutOfMemory);
     }
     let threshold = dense_threshold(count, control);
-    let (rows, n_dense) = by_degree(alloc, &len, threshold)?;
+    let (rows, n_dense) = by_degree(alloc, &degrees, threshold)?;
     info.n_dense = n_dense;
     let (p, p_inv) = inverse_pair(alloc, n, &rows)?;
     Ok((p, p_inv, info))

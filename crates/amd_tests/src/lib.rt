@@ -19,3 +19,24 @@ mod memory;
 mod numbers;
 #[cfg(test)]
 mod worked;
+
+#[cfg(test)]
+use amd::Info;
+
+/// The numbers of a record.
+#[cfg(test)]
+fn numbers_of(info: &Info) -> [usize; 11] {
+    [
+        info.n,
+        info.nz,
+        info.nz_diag,
+        info.nz_a_plus_at,
+        info.n_dense,
+        info.n_cmp_a,
+        info.lnz,
+        info.n_div,
+        info.n_mult_subs_ldl,
+        info.n_mult_subs_lu,
+        info.d_max,
+    ]
+}

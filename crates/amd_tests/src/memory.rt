@@ -1,6 +1,7 @@
 // Refused memory: each request in turn is refused, until a run makes no request of that number. Each run that met a refusal
 // answers `OutOfMemory`, and the first one without gives the answer.
 
+use crate::numbers_of;
 use amd::aat::aat;
 use amd::preprocess::preprocess;
 use amd::valid::valid;
@@ -68,18 +69,13 @@ fn each_request_of_order(rt: HostRuntime) -> Result<(), Fail> {
     let heap = rt.alloc();
     let (cycle_p, cycle_i) = ([0, 2, 3, 4, 4], [1, 3, 2, 3]);
     check_order(&rt, heap, 4, &cycle_p, &cycle_i, 10000, &[0, 1, 2, 3]);
+    // The input is as it was, as the shared references say.
     assert_eq!(rt; (cycle_p, cycle_i), ([0, 2, 3, 4, 4], [1, 3, 2, 3]));
     let (jumbled_p, jumbled_i) = ([0, 3, 3, 4], [2, 0, 2, 1]);
     check_order(&rt, heap, 3, &jumbled_p, &jumbled_i, 10000, &[0, 1, 2]);
-    assert_eq!(rt; (jumbled_p, jumbled_i), ([0, 3, 3, 4], [2, 0, 2, 1]));
     let (star_p, star_i) = star(heap, 18)?;
     let centre_last = [1, 2, 3, 4, 5, 6, 7, 8, 9, 10, 11, 12, 13, 14, 15, 16, 17, 0];
     check_order(&rt, heap, 18, &star_p, &star_i, -1, &centre_last);
-    let (again_p, again_i) = star(heap, 18)?;
-    assert_eq!(rt;
-        (star_p.as_slice(), star_i.as_slice()),
-        (again_p.as_slice(), again_i.as_slice())
-    );
     Ok(())
 }
 
@@ -118,8 +114,7 @@ fn preprocess_refusing(rt: &impl Abort, alloc: Global, refuse_at: u64) -> bool {
         Ok((pointers, columns)) => {
             assert!(rt; !heap.refused(), "at {refuse_at}");
             assert_eq!(rt; pointers.as_slice(), [0, 1, 2, 3].as_slice());
-            assert!(rt; columns.len() >= 3);
-            assert_eq!(rt; [columns[0], columns[1], columns[2]], [0, 2, 0]);
+            assert_eq!(rt; columns.as_slice(), [0, 2, 0].as_slice());
         }
         Err(status) => {
             assert!(rt; heap.refused(), "at {refuse_at}");
@@ -127,23 +122,6 @@ fn preprocess_refusing(rt: &impl Abort, alloc: Global, refuse_at: u64) -> bool {
         }
     }
     heap.refused()
-}
-
-/// The numbers of a record.
-fn numbers_of(info: &Info) -> [usize; 11] {
-    [
-        info.n,
-        info.nz,
-        info.nz_diag,
-        info.nz_a_plus_at,
-        info.n_dense,
-        info.n_cmp_a,
-        info.lnz,
-        info.n_div,
-        info.n_mult_subs_ldl,
-        info.n_mult_subs_lu,
-        info.d_max,
-    ]
 }
 
 /// A record in which each number is another one.

@@ -1,6 +1,6 @@
 // Worked inputs of `order` with their answers: the rows by rising degree, ties by index, and then the dense rows, rising.
 
-use crate::can_24;
+use crate::{can_24, numbers_of};
 use amd::{Control, Info, Status, order};
 use amd_testing::inputs::{complete, star};
 use amd_testing::plain::are_inverse;
@@ -203,20 +203,7 @@ fn small_matrices(rt: HostRuntime) {
 /// Asserts that a record is that of a matrix without rows.
 fn check_nothing(rt: &impl Abort, info: &Info) {
     assert!(rt; info.status == Status::OK && !info.symmetry);
-    let counts = [
-        info.n,
-        info.nz,
-        info.nz_diag,
-        info.nz_a_plus_at,
-        info.n_dense,
-        info.n_cmp_a,
-        info.lnz,
-        info.n_div,
-        info.n_mult_subs_ldl,
-        info.n_mult_subs_lu,
-        info.d_max,
-    ];
-    assert_eq!(rt; counts, [0; 11]);
+    assert_eq!(rt; numbers_of(info), [0; 11]);
 }
 
 #[test]

@@ -1,4 +1,4 @@
-use Rattle.std.proofs.Common.{ℤ, List, ◌≡◌, map, ap, subst}
+use Rattle.std.proofs.Common.{ℤ, List, map, subst}
 use Rattle.std.specs.Prelude.{unsigned_abs}
 use Rattle.amd_engine.specs.declared.amd.Status.TheVariants.{OkButJumbled}
 use Rattle.amd.specs.Answers.{OrdersMatrix}

@@ -1,4 +1,4 @@
-use Rattle.std.proofs.Common.{ℕ, ℤ, List, pos, ◌≡◌, ◌+◌, ◌-◌, ◌/◌, ◌^◌, ◌<◌, map, length, drop, ap, subst, sym, ◌∙◌, arith}
+use Rattle.std.proofs.Common.{ℕ, ℤ, List, ◌≡◌, ◌+◌, ◌-◌, ◌/◌, ◌^◌, ◌<◌, map, length, drop, ap, subst, sym, ◌∙◌, arith}
 use Rattle.std.specs.Prelude.{unsigned_abs, Option, None, Some, is_none, not, false}
 use Rattle.std.specs.Option.{SomeIff}
 use Rattle.std.proofs.lemmas.Bool.{true≢false}
@@ -20,21 +20,21 @@ pub returns-clause-orders : goal.returns-clause-orders
 returns-clause-orders g c =
     let value = g.I.Number.value in
     let n : ℕ = unsigned_abs (value c.args.n) in
-    let size : n ≡ c.in-Some.count = sym (ap unsigned_abs c.in-Some.ensures.1) in
+    let size : n ≡ c.known_count-count.result = sym c.known_count-count.ensures in
     let threshold = subst (λ m. IsThreshold m c.args.control.now.dense c.dense_threshold-threshold.result) (sym size) c.dense_threshold-threshold.ensures in
     let a_p : List ℤ = map value c.args.a_p.now in
     let a_i : List ℤ = map value c.args.a_i.now in
-    let len : List ℕ = c.deref.result.now in
+    let degrees : List ℕ = c.deref.result.now in
     let rows : List ℕ = c.deref-2.result.now in
     let same = sym c.deref-2.ensures.value in
-    listing_orders n c.args.control.now.dense c.dense_threshold-threshold.result a_p a_i (map value c.in_ok-p.p.items) (map value c.in_ok-p.p_inv.items) len rows c.in_ok-nzaat.nzaat c.in_ok-rows.n_dense c.aat.new.info
+    listing_orders n c.args.control.now.dense c.dense_threshold-threshold.result a_p a_i (map value c.in_ok-p.p.items) (map value c.in_ok-p.p_inv.items) degrees rows c.in_ok-nzaat.nzaat c.in_ok-rows.n_dense c.aat.new.info
     (subst (AreDegrees n a_p a_i c.in_ok-nzaat.nzaat) (sym c.deref.ensures.value) c.in_ok-nzaat.ensures.degrees)
     c.in_ok-nzaat.ensures.figures
     threshold
-    (subst (ListsEachRow (length len)) same c.in_ok-rows.ensures.listing)
+    (subst (ListsEachRow (length degrees)) same c.in_ok-rows.ensures.listing)
     c.in_ok-rows.ensures.count
-    (subst (λ xs. drop (length len - c.in_ok-rows.n_dense) xs ≡ list_below (length len) (is_above len c.dense_threshold-threshold.result)) same c.in_ok-rows.ensures.dense)
-    (subst (λ m. c.in_ok-nzaat.nzaat + c.in_ok-nzaat.nzaat / 5 + m < 2 ^ 63) (sym size) (fits c.in_ok-nzaat.nzaat c.in-Some.count c.workspace_words.result c.workspace_words.ensures (ap not (c.is_none.ensures ∙ ap not c.if-is_none.false))))
+    (subst (λ xs. drop (length degrees - c.in_ok-rows.n_dense) xs ≡ list_below (length degrees) (is_above degrees c.dense_threshold-threshold.result)) same c.in_ok-rows.ensures.dense)
+    (subst (λ m. c.in_ok-nzaat.nzaat + c.in_ok-nzaat.nzaat / 5 + m < 2 ^ 63) (sym size) (fits c.in_ok-nzaat.nzaat c.known_count-count.result c.workspace_words.result c.workspace_words.ensures (ap not (c.is_none.ensures ∙ ap not c.if-is_none.false))))
     c.in_ok-p.ensures.listed
     c.in_ok-p.ensures.inverse
     (let stays : c.aat.new.info.n_cmp_a ≡ 0 = ap (λ (x : Info). x.n_cmp_a) c.in_ok-nzaat.ensures.others ∙ ap (λ (x : Info). x.n_cmp_a) c.new-info.ensures in omega (arith, stays))

@@ -25,9 +25,9 @@ walk-diagonals-requires-clause-sorted g c =
 pub walk-diagonals-requires-clause-held : goal.walk-diagonals-requires-clause-held
 unfolding graph_of
 walk-diagonals-requires-clause-held g c =
-    let size : length c.in-Ok-vec.degrees.items ≡ c.known_count-size.result = search rules in
-    let zeros : (a : ℕ) → get_or c.in-Ok-vec.degrees.items a 0 ≡ 0 = grind (arith, common_steps) in
-    counts_none (graph_of c.known_count-size.result (map g.I.Number.value c.args.a_p.now) (map g.I.Number.value c.args.a_i.now)) c.in-Ok-vec.degrees.items size zeros
+    let size : length c.in_ok-degrees.degrees.items ≡ c.known_count-size.result = search rules in
+    let zeros : (a : ℕ) → get_or c.in_ok-degrees.degrees.items a 0 ≡ 0 = grind (arith, common_steps) in
+    counts_none (graph_of c.known_count-size.result (map g.I.Number.value c.args.a_p.now) (map g.I.Number.value c.args.a_i.now)) c.in_ok-degrees.degrees.items size zeros
 
 pub count_at-entries-requires : goal.count_at-entries-requires
 count_at-entries-requires g c =
