@@ -59,8 +59,8 @@ fn print_outcome<W: Write, A: Allocator + Copy>(
 /// those of nothing, whatever the columns are. The answer is the exit status: 0 where the figures were written, else 1. After a
 /// fault of the writer nothing more is written.
 ///
-/// The contract speaks of the status 0 alone, as what a writer holds does not tell its faults. Where there was none, the
-/// contract of `print_outcome` tells the line.
+/// The contract speaks of the status 0 alone: what a writer holds does not tell its faults. The contract of `print_outcome`
+/// tells the line where there was no fault.
 pub fn simple_to<W: Write, A: Allocator + Copy>(
     alloc: A,
     n: i32,

@@ -43,7 +43,7 @@ fn starts<A: Allocator + Copy>(
     let mut next = Vec::with_capacity(alloc, degrees.len())?;
     let mut total = 0;
     'rows: for i in 0..degrees.len() {
-        next.push(total)?;
+        next.push_reserved(total);
         total += degrees[i];
     }
     Ok(next)
