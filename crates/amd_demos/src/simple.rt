@@ -1,7 +1,7 @@
 // The demo that orders one small matrix and prints what the ordering tells of its pattern, after the first demo of the AMD user
 // guide. Called by the program `demo_simple` and by tests.
 
-ghost use Rattle.std.specs.Prelude.{◌≡◌, ◌≤◌, true, false, IfOk, OnOk};
+ghost use Rattle.std.specs.Prelude.{◌≡◌, ◌≢◌, ◌≤◌, pos, true, false, IfOk, OnOk};
 ghost use Rattle.std.specs.Io.KnownBytes.{Appends};
 ghost use Rattle.amd_demos.specs.Lines.{figures_line, failure_line, HasFiguresLine};
 
@@ -31,7 +31,8 @@ fn print_failure<W: Write>(out: &mut W) -> io::Result<()>
     out.write_all(b"AMD failed\n")
 }
 
-/// Orders a matrix, and writes the line of its figures, or that there is no ordering. Answers whether it was the former.
+/// Orders a matrix, and writes the line of its figures, or that there is no ordering, which is never so for `n = 0`. Answers
+/// whether it was the former.
 fn print_outcome<W: Write, A: Allocator + Copy>(
     alloc: A,
     n: i32,
@@ -41,6 +42,7 @@ fn print_outcome<W: Write, A: Allocator + Copy>(
 ) -> io::Result<bool>
     ensures figures { IfOk result (λ ordered. ordered ≡ true → HasFiguresLine n a_p.now a_i.now (W.contents out.old) (W.contents out.new)) }
     ensures failure { IfOk result (λ ordered. ordered ≡ false → Appends (W.contents out.old) (W.contents out.new) failure_line) }
+    ensures some_rows { IfOk result (λ ordered. ordered ≡ false → n ≢ pos 0) }
 {
     match order(alloc, n, a_p, a_i, &Control::default()) {
         Ok((_, _, info)) if info.status == Status::OK => {
