@@ -1,1 +1,2 @@
+-- What the demos promise to write.
 pub mod Lines

@@ -14,6 +14,10 @@ figures_line info =
     codes "nz " ++ decimal info.nz ++ codes ", nz_diag " ++ decimal info.nz_diag ++ codes ", nz_a_plus_at " ++ decimal info.nz_a_plus_at
     ++ codes ", symmetry " ++ (if info.symmetry then codes "true" else codes "false") ++ codes "\n"
 
+-- the line where there is no ordering
+abbrev pub failure_line : List ℕ
+failure_line = codes "AMD failed\n"
+
 -- a writer that tells its bytes has one line more: the figures of a column form with n rows whose columns are sorted
 pub record HasFiguresLine (n : ℤ) (ap ai : List ℤ) (old new : Option (List ℕ)) : Type 0 where
   pub info : Info

@@ -1,5 +1,6 @@
 // The lists of the neighbours of each row, one after another: a visitor of the walk over the edges that fills them, each in
-// the order in which the walk meets the edges of its row. Source: Amestoy, Davis and Duff 2004. An engine will start from them.
+// the order in which the walk meets the edges of its row. Source: Amestoy, Davis and Duff 2004. Called by tests alone so far;
+// an engine will start from them.
 
 ghost use Rattle.std.specs.Prelude.{◌≡◌, ◌<◌, ◌≤◌, ℕ, pos, map, length, slice_index, IfOk};
 ghost use Rattle.amd_model.specs.Below.{sum_below};
@@ -14,7 +15,9 @@ use std::alloc::{AllocError, Allocator};
 /// The lists of the rows, one after another: `next` says where each one ends.
 #[derive(Drop)]
 pub struct Lists<A: Allocator> {
+    /// The place behind the last entry of the list of each row.
     pub next: Vec<usize, A>,
+    /// The entries of the lists.
     pub rows: Vec<usize, A>,
 }
 
@@ -37,16 +40,23 @@ fn starts<A: Allocator + Copy>(
     requires { sum_below (length degrees.now) (λ a. slice_index degrees.now a) ≤ room }
     ensures { IfOk result (λ v. (length v.items ≡ length degrees.now) × ((i : ℕ) → i < length degrees.now → slice_index v.items i ≡ sum_below i (λ a. slice_index degrees.now a))) }
 {
-    let mut next = Vec::new(alloc);
+    let mut next = Vec::with_capacity(alloc, degrees.len())?;
     let mut total = 0;
     'rows: for i in 0..degrees.len() {
-        next.push(total)?;
+        next.push_reserved(total);
         total += degrees[i];
     }
     Ok(next)
 }
 
 /// The lists of the neighbours of each of `size` rows, whose degrees are known, in a workspace of `room` places.
+///
+/// List `i` starts where the degrees before `i` add up to, and ends at `next[i]`. The contract says neither the order in a list
+/// (a test shows it) nor that `rows` has no further place.
+///
+/// # Errors
+///
+/// A refused request for memory.
 pub fn neighbours<I: PrimInt, A: Allocator + Copy>(
     alloc: A,
     size: usize,

@@ -1,7 +1,7 @@
 // A walk over the edges of a matrix: each edge is met once, whether the pattern holds it once or twice, and a visitor is told
 // both of its arcs. For each column in turn its upper entries are read, and with each of them the lower entries of that row's
 // own column that come before; a pointer of each column says how far it was read. Source: Amestoy, Davis and Duff 2004 (the
-// forming of A + A'). Called by `aat` of the crate `amd`, and by what lists the neighbours of each row.
+// forming of A + A'). Called by `aat` of the crate `amd`, and by `lists`.
 
 ghost use Rattle.std.specs.Prelude.{◌≡◌, ◌<◌, ◌≤◌, ◌+◌, ℕ, Bool, true, false, pos, map, length, slice_index};
 ghost use Rattle.std.specs.Vec.{vec_capacity};
@@ -98,6 +98,25 @@ fn column<I: PrimInt, V: Visitor, A: Allocator>(
     diagonal
 }
 
+/// Reads the lower entries of each of the `size` columns that were not read yet.
+fn rest<I: PrimInt, V: Visitor, A: Allocator>(
+    size: usize,
+    a_p: &[I],
+    a_i: &[I],
+    next: &mut Vec<usize, A>,
+    visitor: &mut V,
+)
+    requires form { IsColumnForm (pos size) size (map I.value a_p.now) (map I.value a_i.now) }
+    requires sorted { IsSorted size (map I.value a_p.now) (map I.value a_i.now) }
+    requires scan { IsScan size (counts (map I.value a_p.now)) (counts (map I.value a_i.now)) next.old.items size 0 }
+    requires held { V.holds (count_graph size (counts (map I.value a_p.now)) (counts (map I.value a_i.now))) (met size (counts (map I.value a_p.now)) (counts (map I.value a_i.now)) next.old.items size 0) visitor.old }
+    ensures held { V.holds (graph_of size (map I.value a_p.now) (map I.value a_i.now)) ((graph_of size (map I.value a_p.now) (map I.value a_i.now)).edge) visitor.new }
+{
+    'columns: for j in 0..size {
+        lower(size, j, size, a_p, a_i, next, visitor);
+    }
+}
+
 /// Meets each edge of a column form that is sorted once, and counts the diagonal entries. The matrix has `size` rows and
 /// columns, and `next` is empty and has room for a pointer of each column.
 ///
@@ -125,8 +144,6 @@ pub fn walk<I: PrimInt, V: Visitor, A: Allocator>(
             diagonals += 1;
         }
     }
-    'rest: for j in 0..size {
-        lower(size, j, size, a_p, a_i, next, visitor);
-    }
+    rest(size, a_p, a_i, next, visitor);
     diagonals
 }

@@ -17,9 +17,10 @@ unfolding sum_below
 rows-preserved g c =
     let i = c.rows.invariant in
     let t = i.total in
-    let items = c.in_ok-push.ensures.items in
+    let items = c.push_reserved.ensures.items in
     let last : sum_below (suc c.rows.i) (λ b. get_or c.args.degrees.now b 0) ≡ get_or c.args.degrees.now c.rows.i 0 + sum_below c.rows.i (λ b. get_or c.args.degrees.now b 0) = refl in
     record {
+      room = (let r = i.room in let e = c.push_reserved.ensures.capacity in omega (arith, r, e));
       size = (let e = i.size in rw items (length_push c.rows.next.items c.rows.total ∙ omega (arith, e)));
       each = λ a h. rw items (starts_more c.rows.next.items c.args.degrees.now c.rows.i c.rows.total i.size i.each t a h);
       total = rw add-one (omega (arith, last, t));
@@ -27,4 +28,4 @@ rows-preserved g c =
 
 pub rows-init : goal.rows-init
 unfolding sum_below
-rows-init g c = record { size = search rules; each = λ a h. absurd (omega arith); total = refl }
+rows-init g c = record { room = search rules; size = search rules; each = λ a h. absurd (omega arith); total = refl }

@@ -2,7 +2,7 @@ use Rattle.std.proofs.Common.{◌≡◌, ◌+◌, ℕ, Bool, map, arith, sym, �
 use Rattle.amd_model.specs.Below.{sum_below, count_below}
 use Rattle.amd_engine.specs.Counts.{counts, is_entry}
 use Rattle.amd_engine.proofs.Forms.{sorted_form, same_graph, same_diagonals}
-use Rattle.amd_engine.proofs.Ends.{start_met, start_scan, start_zeros, rest_met, done_met}
+use Rattle.amd_engine.proofs.Ends.{start_met, start_scan, start_zeros}
 use Rattle.amd_engine.proofs.walk.walk.Goals as goal
 use Rattle.amd_engine.proofs.walk.walk.Goals.{then-column, else-column}
 
@@ -51,42 +51,19 @@ columns-preserved g c =
       held = e.held;
     }
 
-pub lower-requires-clause-mirror : goal.lower-requires-clause-mirror
-lower-requires-clause-mirror g c = λ x. absurd (omega arith)
-
-pub lower-requires-clause-scan : goal.lower-requires-clause-scan
-lower-requires-clause-scan g c = c.rest.invariant.scan
-
-pub lower-requires-clause-held : goal.lower-requires-clause-held
-lower-requires-clause-held g c =
-    let ap' = counts (map g.I.Number.value c.args.a_p.now) in let ai = counts (map g.I.Number.value c.args.a_i.now) in
-    let form = sorted_form c.args.size _ _ c.requires.form c.requires.sorted in
-    rw (rest_met c.args.size ap' ai form c.rest.next.items c.rest.j) c.rest.invariant.held
-
-pub rest-init : goal.rest-init
-rest-init g c =
+pub rest-requires : goal.rest-requires
+rest-requires g c =
     let i = c.columns.invariant in
     let e : c.columns.k ≡ c.args.size = (let x = c.columns-test.false in let y = c.columns.auto.k-end in omega arith) in
     let s = rw e at i.scan in
     let h = rw e at i.held in
-    record { scan = s; held = h }
-
-pub rest-preserved : goal.rest-preserved
-rest-preserved g c = record { scan = c.lower.ensures.scan; held = c.lower.ensures.held }
+    record { form = c.requires.form; sorted = c.requires.sorted; scan = s; held = h }
 
 pub returns : goal.returns
 returns g c =
-    let i = c.rest.invariant in let r = c.requires in
     let n = c.args.size in
-    let ap' = counts (map g.I.Number.value c.args.a_p.now) in let ai = counts (map g.I.Number.value c.args.a_i.now) in
-    let form = sorted_form n _ _ r.form r.sorted in
-    let graph = same_graph n _ _ r.form in
     let e : c.columns.k ≡ n = (let x = c.columns-test.false in let y = c.columns.auto.k-end in omega arith) in
-    let f : c.rest.j ≡ n = (let x = c.rest-test.false in let y = c.rest.auto.j-end in omega arith) in
-    let s = rw f at i.scan in
-    let h = rw f at i.held in
-    let all = rw (done_met n ap' ai form c.rest.next.items s) at h in
     record {
-      held = rw graph all;
-      diagonals = rw e at c.columns.invariant.count ∙ sym (same_diagonals n _ _ r.form);
+      held = c.rest.ensures.held;
+      diagonals = rw e at c.columns.invariant.count ∙ sym (same_diagonals n _ _ c.requires.form);
     }
