@@ -1,5 +1,5 @@
 -- Reading a list of a caller's numbers after a write.
-use Rattle.std.proofs.Common.{◌≡◌, ◌≢◌, ◌<◌, ℕ, ℤ, List, map, pos, get_or, length, ◌∙◌, ap}
+use Rattle.std.proofs.Common.{◌≡◌, ◌≢◌, ◌<◌, ℕ, ℤ, List, map, pos, length, ◌∙◌, ap}
 use Rattle.std.proofs.Math.ListN.{set}
 use Rattle.std.proofs.lemmas.List.{length-map, map-set, get_or-set_same, get_or-set_other}
 use Rattle.amd_model.specs.Input.Columns.{at}
