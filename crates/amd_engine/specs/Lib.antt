@@ -5,3 +5,7 @@ pub mod Permutations
 pub mod Counts
 pub mod Visits
 pub mod Walk
+pub mod Views
+pub mod Buckets
+pub mod Rounds
+pub mod Keeps

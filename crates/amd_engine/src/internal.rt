@@ -72,3 +72,9 @@ pub fn count_at<I: PrimInt>(numbers: &[I], place: usize) -> usize
 {
     known_count(value_at(numbers, place))
 }
+
+pub fn front_counts(f: usize, r: usize) -> (usize, usize, usize) {
+    let mut q = 0; let mut l = 0; let mut s = 0;
+    for j in 0..f { let c = r + j; q += c; l += c * (c + 1) / 2; s += c * c; }
+    (q, l, s)
+}

@@ -3,9 +3,17 @@
 //! crate `amd` stands on it and hands the types on. No engine stands here yet.
 #![tactic(auto)]
 
+pub mod absorption;
 pub mod amd;
+pub mod bounds;
+pub mod buckets;
 pub mod dense;
+pub mod figures;
 pub mod internal;
 pub mod lists;
+pub mod marks;
+pub mod merging;
 pub mod permutations;
+pub mod plain;
+pub mod work;
 pub mod walk;
