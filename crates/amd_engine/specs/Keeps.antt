@@ -7,7 +7,8 @@ use Rattle.amd_model.specs.Figures.{figure, entries, ldl_steps, lu_steps, greate
 use Rattle.amd_model.specs.Listing.{weight}
 use Rattle.amd_model.specs.Sound.{IsSound}
 use Rattle.amd_model.specs.Step.{StepAt}
-use Rattle.amd_model.specs.Run.{Steps, last_state}
+use Rattle.amd_model.specs.Run.{last_state}
+use Rattle.amd_model.specs.Ordering.{Follows}
 use Rattle.amd_model.specs.Tie.{Tie, Fits, has, is_empty, pivot, next}
 use Rattle.amd_engine.specs.Views.{num, at, some_at, list_at, live_of, Below, ListsBelow, Clear}
 use Rattle.amd_engine.specs.Buckets.{live_in, lasts}
@@ -89,18 +90,13 @@ pub record Stands {A : Type 0} (g : Graph) (dense : ℕ → Bool) (w : Work A) (
   pub joined : (v : ℕ) → live s v ≡ true → 0 < degree g v
   pub fronts : KeepsFronts g dense w s
 
--- rounds of the elimination kept in lists, while a class is left
-pub data Rounds (aggressive : Bool) : Tie → Tie → Type 0 where
-  none : {t : Tie} → Rounds aggressive t t
-  more : {t u : Tie} → is_empty t.placed ≡ false → Rounds aggressive (next aggressive t) u → Rounds aggressive t u
-
 -- whatever lists and state the old record stands for, the new one stands for the lists of the next round, and for a state that the
 -- step with the pivot of the rules leads to
 abbrev pub IsRound : {A : Type 0} → Bool → Work A → Work A → Type 0
 IsRound aggressive old new = (g : Graph) (dense : ℕ → Bool) (t : Tie) (s : State) → Stands g dense old t s →
     (is_empty t.placed ≡ false) × ((u : State) × StepAt g aggressive (pivot t.bound t.placed) s u × Stands g dense new (next aggressive t) u)
 
--- and here for lists some rounds later
+-- and here for lists and a state some rounds later
 abbrev pub AreRounds : {A : Type 0} → Bool → Work A → Work A → Type 0
 AreRounds aggressive old new = (g : Graph) (dense : ℕ → Bool) (t : Tie) (s : State) → Stands g dense old t s →
-    (u : Tie) × Rounds aggressive t u × ((states : List State) × Steps g aggressive s states × Stands g dense new u (last_state s states))
+    (u : Tie) × ((states : List State) × Follows g aggressive t s states u × Stands g dense new u (last_state s states))

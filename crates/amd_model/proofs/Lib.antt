@@ -44,3 +44,4 @@ pub mod EmptyRows
 pub mod NeededColumns
 pub mod Pointers
 pub mod DegreeSums
+pub mod Orderings

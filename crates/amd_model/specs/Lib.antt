@@ -16,3 +16,4 @@ pub mod Sound
 pub mod Tie
 pub mod TieLaws
 pub mod Examples
+pub mod Ordering
