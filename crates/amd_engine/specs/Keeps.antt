@@ -48,6 +48,7 @@ pub record LinksEnd (links : List (Option ℕ)) (rank : ℕ → ℕ) (top : ℕ)
 pub record LinksLead (links : List (Option ℕ)) (home : ℕ → Home) : Type 0 where
   pub linked : (v u : ℕ) → some_at links v ≡ Some u → home v ≡ home u
   pub alone : (v : ℕ) → some_at links v ≡ None → (home v ≡ Live v) ⊎ (home v ≡ Gone v) ⊎ (home v ≡ Last)
+  pub free : (v : ℕ) → (home v ≡ Live v) ⊎ (home v ≡ Gone v) → some_at links v ≡ None
   pub rank : ℕ → ℕ
   pub top : ℕ
   pub end : LinksEnd links rank top
@@ -86,8 +87,9 @@ pub record Stands {A : Type 0} (g : Graph) (dense : ℕ → Bool) (w : Work A) (
   pub fits : Fits g t s
   pub sized : IsSized g.size w
   pub keeps : Keeps w t
-  -- each live row has an edge
+  -- each live row has an edge, and no parent
   pub joined : (v : ℕ) → live s v ≡ true → 0 < degree g v
+  pub no_parent : (v : ℕ) → live s v ≡ true → s.parent v ≡ None
   pub fronts : KeepsFronts g dense w s
 
 -- whatever lists and state the old record stands for, the new one stands for the lists of the next round, and for a state that the
