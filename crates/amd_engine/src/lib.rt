@@ -5,6 +5,7 @@
 
 pub mod amd;
 pub mod dense;
+pub mod figures;
 pub mod internal;
 pub mod lists;
 pub mod permutations;
