@@ -23,6 +23,7 @@ pub struct Figures {
 
 impl Figures {
     /// Adds a front with `f` rows in its block and `r` rows outside, where `f + r` is at most the greatest `usize`.
+    #[tactic(auto, using(crate::proofs::CutSums::add_cut))]
     pub fn add_front(&mut self, f: usize, r: usize)
         requires { f + r < 2 ^ 64 }
         ensures lnz { self.new.lnz ≡ cut (self.old.lnz + front_sum entries f r) }

@@ -76,6 +76,7 @@ pub fn count_at<I: PrimInt>(numbers: &[I], place: usize) -> usize
 }
 
 /// A figure, or the greatest count where the figure passes it.
+#[tactic(auto, unfolding(amd_model::specs::Figures::cut))]
 fn cut_to_count(figure: u128) -> usize
     ensures { result ≡ cut figure }
 {
