@@ -1,9 +1,11 @@
 // Reading numbers of the caller's integer type, and making them. Later proofs speak of the integers alone, and never of the
 // laws of generic numbers. Called by `walk` and `permutations`, by the modules of the crate `amd`, and by `amd_bench`.
+// At the end, the shares of a front in the figures, called by `figures`: the rule is that of the AMD user guide.
 
 ghost use Rattle.std.specs.Prelude.{◌≡◌, ◌<◌, ◌↔◌, ◌<ℤ◌, IsTrue, length, map, pos, slice_index, unsigned_abs};
 ghost use Rattle.std.specs.Int.{FitsUnsignedBits};
 ghost use Rattle.num_traits.specs.Laws.{Checks, ChecksUnsigned};
+ghost use Rattle.amd_model.specs.Figures.{cut, entries, front_sum, ldl_steps, lu_steps};
 ghost use Rattle.amd_model.specs.Input.Columns.{at};
 ghost use Rattle.amd_engine.specs.Counts.{counts};
 
@@ -73,8 +75,37 @@ pub fn count_at<I: PrimInt>(numbers: &[I], place: usize) -> usize
     known_count(value_at(numbers, place))
 }
 
-pub fn front_counts(f: usize, r: usize) -> (usize, usize, usize) {
-    let mut q = 0; let mut l = 0; let mut s = 0;
-    for j in 0..f { let c = r + j; q += c; l += c * (c + 1) / 2; s += c * c; }
-    (q, l, s)
+/// A figure, or the greatest count where the figure passes it.
+#[tactic(auto, unfolding(amd_model::specs::Figures::cut))]
+fn cut_to_count(figure: u128) -> usize
+    ensures { result ≡ cut figure }
+{
+    figure.min(usize::MAX as u128) as usize
+}
+
+/// The shares of a front with `f` rows in its block and `r` rows outside: its entries below the diagonal, and its
+/// multiply-subtract steps in a factorization `LDL'` and in a factorization `LU`. They are the sums of `c`, of `c (c + 1) / 2`
+/// and of `c^2` over the columns, where `c` runs from `r` to `r + f - 1`. Any `f` and `r` are allowed, and each sum is exact up
+/// to the greatest count, which stands for all that pass it. Source: AMD user guide.
+pub fn front_counts(f: usize, r: usize) -> (usize, usize, usize)
+    ensures lnz { result.0 ≡ cut (front_sum entries f r) }
+    ensures ldl { result.1 ≡ cut (front_sum ldl_steps f r) }
+    ensures lu { result.2 ≡ cut (front_sum lu_steps f r) }
+{
+    if f == 0 {
+        return (0, 0, 0);
+    }
+    let rows = f as u128;
+    let outside = r as u128;
+    let last = rows - 1;
+    let border = rows * outside;
+    let pairs = rows * last / 2;
+    let lnz = border.saturating_add(pairs);
+    // A third of a product that saturates still passes the greatest count, and so does the half of such a sum.
+    let squares = pairs.saturating_mul(2 * rows - 1) / 3;
+    let lu = border
+        .saturating_mul(outside + last)
+        .saturating_add(squares);
+    let ldl = lu.saturating_add(lnz) / 2;
+    (cut_to_count(lnz), cut_to_count(ldl), cut_to_count(lu))
 }

@@ -12,6 +12,8 @@ mod comparison;
 #[cfg(test)]
 mod demos;
 #[cfg(test)]
+mod fronts;
+#[cfg(test)]
 mod lists;
 #[cfg(test)]
 mod memory;

@@ -1,0 +1,86 @@
+// The shares of a front in the figures, and their sums. The expected numbers are sums over columns, worked outside.
+
+use crate::numbers_of;
+use amd::Info;
+use amd_engine::figures::Figures;
+use amd_engine::internal::front_counts;
+
+/// A front, and its shares.
+#[derive(Drop)]
+struct Case {
+    rows: usize,
+    outside: usize,
+    shares: [usize; 3],
+}
+
+/// Fronts with their shares: the last one's all pass the greatest count, and of the one before only the last does.
+static FRONTS: [Case; 6] = [
+    Case {
+        rows: 0,
+        outside: 5,
+        shares: [0, 0, 0],
+    },
+    Case {
+        rows: 1,
+        outside: 2,
+        shares: [2, 3, 4],
+    },
+    Case {
+        rows: 3,
+        outside: 0,
+        shares: [3, 4, 5],
+    },
+    Case {
+        rows: 18,
+        outside: 0,
+        shares: [153, 969, 1785],
+    },
+    Case {
+        rows: 1,
+        outside: 4294967296,
+        shares: [4294967296, 9223372039002259456, usize::MAX],
+    },
+    Case {
+        rows: 9223372036854775808,
+        outside: 0,
+        shares: [usize::MAX, usize::MAX, usize::MAX],
+    },
+];
+
+#[test]
+fn shares_of_a_front(rt: HostRuntime) {
+    for case in &FRONTS {
+        let (lnz, ldl, lu) = front_counts(case.rows, case.outside);
+        assert_eq!(rt;
+            [lnz, ldl, lu],
+            case.shares,
+            "{} {}",
+            case.rows,
+            case.outside
+        );
+    }
+}
+
+/// Two fronts of a full matrix with four rows, and then one whose share of `n_mult_subs_lu` passes the greatest count.
+#[test]
+fn sums_of_fronts(rt: HostRuntime) {
+    let mut figures = Figures {
+        lnz: 0,
+        n_mult_subs_ldl: 0,
+        n_mult_subs_lu: 0,
+        d_max: 1,
+    };
+    let mut info = Info::new(4);
+    info.nz = 12;
+    figures.add_front(1, 3);
+    figures.add_front(3, 0);
+    figures.write_figures(&mut info);
+    assert_eq!(rt; numbers_of(&info), [4, 12, 0, 0, 0, 0, 6, 6, 10, 14, 4]);
+    figures.add_front(1, 4294967296);
+    figures.write_figures(&mut info);
+    let (lnz, ldl, lu) = (4294967302, 9223372039002259466, usize::MAX);
+    assert_eq!(rt;
+        numbers_of(&info),
+        [4, 12, 0, 0, 0, 0, lnz, lnz, ldl, lu, 4294967297]
+    );
+}
