@@ -1,19 +1,20 @@
 -- A round of the plain engine computes the next lists of the machine, in the sizes, bounds and lists of classes and elements.
 use Rattle.std.proofs.Common.{ℕ, zero, suc, Bool, true, false, Option, None, Some, List, [], ◌∷◌, ◌++◌, ◌≡◌, ◌≢◌, ◌≤◌, ◌<◌, ◌+◌, ◌-◌, ◌∙◌, ◌&&◌, ◌||◌, not, min, cond, ap, sym, refl, subst, inl, inr, arith, length}
 use Rattle.std.specs.Prelude.{filter, sum_by, nat_lt, ◌==◌}
-use Rattle.std.proofs.lemmas.Bool.{true≢false, false≢true, cases_Bool, cases_eq, cond-true, cond-false, or_left, or_right, or_from, or_parts, and_from, and_parts, and_left, eqb-true, eq-eqb, ne_eqb, lt-ltb, le-ltb, ltb-lt, not-true, not_from_false}
+use Rattle.std.proofs.lemmas.Bool.{true≢false, false≢true, cases_Bool, cases_eq, cond-true, cond-false, or_left, or_right, or_from, or_parts, or_cases, and_from, and_parts, and_left, eqb-true, eq-eqb, ne_eqb, lt-ltb, le-ltb, not-true, not_from_false}
 use Rattle.amd_model.specs.Below.{count_below}
 use Rattle.amd_model.specs.Graph.{Graph, IsGraph}
 use Rattle.amd_model.specs.Figures.{cut}
-use Rattle.amd_model.specs.State.{State, Live, in_class, is_class}
+use Rattle.amd_model.specs.State.{State, Live, in_class, is_class, front}
 use Rattle.amd_model.specs.Step.{StepAt}
 use Rattle.amd_model.specs.Sound.{IsSound}
 use Rattle.amd_model.specs.Tie.{Tie, Fits, has, is_empty, turned, Once, pivot, gathered, takes, kept_elements, kept_variables, done, rest, represents, made, ends, new_size, far, left, next_bound, round, next}
 use Rattle.amd_model.proofs.BelowLemmas.{count_pos}
-use Rattle.amd_model.proofs.StateLemmas.{class_gives, class_from}
+use Rattle.amd_model.proofs.StateLemmas.{class_gives, class_from, front_gives, neighbours_gives}
 use Rattle.amd_model.proofs.Sound.{live_small}
+use Rattle.amd_model.proofs.SoundStep.{step_sound}
 use Rattle.amd_model.proofs.TieLists.{same_bool, clash, has_append, has_filter, has_turned, empty_gives, some_of}
-use Rattle.amd_model.proofs.TieLaw.{front_class, rest_class, after, is_step, now, now_fits}
+use Rattle.amd_model.proofs.TieLaw.{L as front_list, front_class, rest_class, after, is_step, now, now_fits}
 use Rattle.amd_engine.specs.Views.{num, some_at, list_at, live_of}
 use Rattle.amd_engine.specs.Rounds.{keeps_none}
 use Rattle.amd_engine.specs.Keeps.{Keeps, Stands}
@@ -35,17 +36,32 @@ pub record Found {A : Type 0} (aggressive : Bool) (w v : Work A) (t : Tie) (r : 
   pub into_is : (i : ℕ) → has (rest aggressive t r.c (gathered t r.c)) i ≡ true → num r.into i ≡ represents aggressive t r.c (gathered t r.c) i
   pub made_is : r.made ≡ made aggressive t r.c (gathered t r.c)
 
+and_false : (a : Bool) → (a && false) ≡ false
+and_false true = refl
+and_false false = refl
+
+and_true : (a : Bool) → (a && true) ≡ a
+and_true true = refl
+and_true false = refl
+
+-- a list that has something left had something
+had_some : (xs : List ℕ) (p : ℕ → Bool) → is_empty (filter p xs) ≡ false → is_empty xs ≡ false
+had_some xs p h = elim (cases_Bool (is_empty xs)) [
+  | inr n ↦ n
+  | inl y ↦ (let x = some_of (filter p xs) h in absurd (empty_gives xs y x.0 (and_parts (has xs x.0) (p x.0) (sym (has_filter p xs x.0) ∙ x.1)).0))
+]
+
 module _ {A : Type 0} (g : Graph) (dense : ℕ → Bool) (aggressive : Bool) (w v : Work A) (t : Tie) (s : State) (st : Stands g dense w t s) (r : Rounding aggressive w v) (f : Found aggressive w v t r) where
-  c : ℕ
+  abbrev c : ℕ
   c = r.c
 
-  L : List ℕ
+  abbrev L : List ℕ
   L = gathered t r.c
 
-  R : List ℕ
+  abbrev R : List ℕ
   R = rest aggressive t r.c (gathered t r.c)
 
-  M : List ℕ
+  abbrev M : List ℕ
   M = made aggressive t r.c (gathered t r.c)
 
   class_of : (i : ℕ) → has t.placed i ≡ true → s.home i ≡ Live i
@@ -54,32 +70,38 @@ module _ {A : Type 0} (g : Graph) (dense : ℕ → Bool) (aggressive : Bool) (w 
   placed_of : (i : ℕ) → s.home i ≡ Live i → has t.placed i ≡ true
   placed_of i h = st.fits.placed i ∙ class_from i (s.home i) h
 
-  class : is_class s r.c ≡ true
+  abbrev class : is_class s r.c ≡ true
   class = sym (st.fits.placed r.c) ∙ f.placed
 
-  least : (d : ℕ) → is_class s d ≡ true → s.bound r.c ≤ s.bound d
+  abbrev least : (d : ℕ) → is_class s d ≡ true → s.bound r.c ≤ s.bound d
   least d k = let l = f.least d (st.fits.placed d ∙ k) in
       let a = st.fits.bound r.c (class_gives r.c (s.home r.c) class) in let b = st.fits.bound d (class_gives d (s.home d) k) in omega (arith, l, a, b)
 
-  pub new_state : State
+  abbrev pub new_state : State
   new_state = after g st.graph aggressive t s st.sound st.fits r.c class least
 
-  pub new_lists : Tie
+  abbrev pub new_lists : Tie
   new_lists = round aggressive t r.c (gathered t r.c)
 
   pub step : StepAt g aggressive r.c s new_state
   step = is_step g st.graph aggressive t s st.sound st.fits r.c class least
 
   pub new_fits : Fits g new_lists new_state
-  unfolding now L
+  unfolding now front_list
   new_fits = now_fits g st.graph aggressive t s st.sound st.fits r.c class least
 
+  front_row : (i : ℕ) → has L i ≡ true → (s.home i ≡ Live i) × (front g s r.c i ≡ true)
+  unfolding front_list
+  front_row i h = front_class g st.graph aggressive t s st.sound st.fits r.c class least i h
+
   front_placed : (i : ℕ) → has L i ≡ true → has t.placed i ≡ true
-  front_placed i h = placed_of i (front_class g st.graph aggressive t s st.sound st.fits r.c class least i h).0
+  front_placed i h = placed_of i (front_row i h).0
 
   not_pivot : has L r.c ≡ false
-  unfolding gathered
-  not_pivot = no_first
+  not_pivot = elim (cases_Bool (has L r.c)) [
+    | inr n ↦ n
+    | inl y ↦ clash class (front_gives g s r.c r.c (front_row r.c y).1).0
+  ]
 
   rest_front : (i : ℕ) → has R i ≡ true → has L i ≡ true
   unfolding rest
@@ -96,3 +118,214 @@ module _ {A : Type 0} (g : Graph) (dense : ℕ → Bool) (aggressive : Bool) (w 
   rest_made : (i : ℕ) → has R i ≡ true → represents aggressive t r.c L i ≡ i → has M i ≡ true
   unfolding made
   rest_made i h e = has_filter (λ i. represents aggressive t r.c L i == i) R i ∙ and_from (has R i) (represents aggressive t r.c L i == i) h (eq-eqb (represents aggressive t r.c L i) i e)
+
+  -- what becomes of a class
+  none_kept : (i : ℕ) → has L i ≡ true → keeps_none r.kept.elements.items r.kept.variables.items i ≡ done aggressive t r.c L i
+  unfolding done
+  none_kept i h = ap (λ l. is_empty l && is_empty (list_at r.kept.variables.items i)) (f.elements i h) ∙ ap (λ l. is_empty (kept_elements aggressive t r.c L i) && is_empty l) (f.variables i h)
+
+  in_front : (i : ℕ) → has r.front i ≡ has L i
+  in_front i = ap (λ l. has l i) f.front_is
+
+  in_rest : (i : ℕ) → has r.rest i ≡ has R i
+  in_rest i = ap (λ l. has l i) f.rest_is
+
+  in_made : (i : ℕ) → has r.made i ≡ has M i
+  in_made i = ap (λ l. has l i) f.made_is
+
+  made_front : (i : ℕ) → has M i ≡ true → has L i ≡ true
+  made_front i h = rest_front i (made_rest i h).0
+
+  not_c : (i : ℕ) → has L i ≡ true → (i == r.c) ≡ false
+  not_c i h = ne_eqb i r.c (λ e. clash h (ap (has L) e ∙ not_pivot))
+
+  retired_rest : (j : ℕ) → has R j ≡ true → num r.retired j ≡ t.size j
+  retired_rest j h = r.retired_is j
+      ∙ cond-false (has r.front j && keeps_none r.kept.elements.items r.kept.variables.items j) 0 (num w.size.items j)
+        (ap (λ b. has r.front j && b) (none_kept j (rest_front j h) ∙ rest_keeps j h) ∙ and_false (has r.front j))
+      ∙ st.keeps.size j (front_placed j (rest_front j h))
+
+  size_at : (x : ℕ) → (x == r.c) ≡ false → num v.size.items x ≡ num r.joined x
+  size_at x e = r.size_is x ∙ cond-false (x == r.c) 0 (num r.joined x) e
+
+  in_left : (x : ℕ) → has L x ≡ true → done aggressive t r.c L x ≡ false → has R x ≡ true
+  unfolding rest
+  in_left x h n = has_filter (λ i. not (done aggressive t r.c L i)) L x ∙ and_from (has L x) (not (done aggressive t r.c L x)) h (not_from_false (done aggressive t r.c L x) n)
+
+  outside_rest : (x : ℕ) → has L x ≡ false → has R x ≡ false
+  outside_rest x n = elim (cases_Bool (has R x)) [ inr k ↦ k | inl k ↦ clash (rest_front x k) n ]
+
+  not_ends : (i : ℕ) → (i == r.c) ≡ false → has L i ≡ false → not (ends aggressive t r.c L i) ≡ true
+  unfolding ends
+  not_ends i ne n = not_from_false (i == r.c || (has L i && not (has M i))) (or_from (i == r.c) (has L i && not (has M i)) ne (and_left (has L i) (not (has M i)) n))
+
+  none_taken : (e : ℕ) → (e == r.c) ≡ false → takes aggressive t r.c L e ≡ true → is_empty (cond (e == r.c) M (cond (takes aggressive t r.c L e) [] (filter (λ j. not (ends aggressive t r.c L j)) (t.members e)))) ≡ true
+  unfolding is_empty
+  none_taken e n y = ap is_empty (cond-false (e == r.c) M (cond (takes aggressive t r.c L e) [] (filter (λ j. not (ends aggressive t r.c L j)) (t.members e))) n
+      ∙ cond-true (takes aggressive t r.c L e) [] (filter (λ j. not (ends aggressive t r.c L j)) (t.members e)) y)
+
+  new_sound : IsSound g new_state
+  new_sound = step_sound g st.graph aggressive r.c s new_state st.sound step
+
+  size_made : (x : ℕ) → has M x ≡ true → num v.size.items x ≡ new_size aggressive t r.c L x
+  unfolding new_size
+  size_made x h = let m = made_rest x h in let k = in_rest x ∙ m.0 in let same = f.into_is x m.0 ∙ m.1 in
+      size_at x (not_c x (made_front x h)) ∙ r.joined_is x
+      ∙ cond-true (has r.rest x) (cond (num r.into x == x) (sum_by (num r.retired) (filter (λ j. num r.into j == x) r.rest)) 0) (num r.retired x) k
+      ∙ cond-true (num r.into x == x) (sum_by (num r.retired) (filter (λ j. num r.into j == x) r.rest)) 0 (eq-eqb (num r.into x) x same)
+      ∙ ap (λ l. sum_by (num r.retired) (filter (λ j. num r.into j == x) l)) f.rest_is
+      ∙ ap (sum_by (num r.retired)) (filter_named (λ j. num r.into j == x) (λ j. represents aggressive t r.c L j == x) R (λ j a. ap (λ n. n == x) (f.into_is j a)))
+      ∙ sum_named (num r.retired) t.size (filter (λ j. represents aggressive t r.c L j == x) R) (λ j a. retired_rest j (and_parts (has R j) (represents aggressive t r.c L j == x) (sym (has_filter (λ j. represents aggressive t r.c L j == x) R j) ∙ a)).0)
+
+  size_ended : (x : ℕ) → has L x ≡ true → has M x ≡ false → num v.size.items x ≡ 0
+  size_ended x h n = size_at x (not_c x h) ∙ r.joined_is x ∙ elim (cases_Bool (has R x)) [
+    | inl y ↦ cond-true (has r.rest x) (cond (num r.into x == x) (sum_by (num r.retired) (filter (λ j. num r.into j == x) r.rest)) 0) (num r.retired x) (in_rest x ∙ y)
+        ∙ cond-false (num r.into x == x) (sum_by (num r.retired) (filter (λ j. num r.into j == x) r.rest)) 0 (ne_eqb (num r.into x) x (λ e. clash (rest_made x y (sym (f.into_is x y) ∙ e)) n))
+    | inr k ↦ cond-false (has r.rest x) (cond (num r.into x == x) (sum_by (num r.retired) (filter (λ j. num r.into j == x) r.rest)) 0) (num r.retired x) (in_rest x ∙ k)
+        ∙ r.retired_is x ∙ cond-true (has r.front x && keeps_none r.kept.elements.items r.kept.variables.items x) 0 (num w.size.items x)
+          (and_from (has r.front x) (keeps_none r.kept.elements.items r.kept.variables.items x) (in_front x ∙ h) (none_kept x h ∙ not_rest x h k))
+  ]
+    where
+      not_rest : (x : ℕ) → has L x ≡ true → has R x ≡ false → done aggressive t r.c L x ≡ true
+      not_rest x h k = elim (cases_Bool (done aggressive t r.c L x)) [ inl y ↦ y | inr n ↦ clash (in_left x h n) k ]
+
+  size_outside : (x : ℕ) → (x == r.c) ≡ false → has L x ≡ false → num v.size.items x ≡ num w.size.items x
+  size_outside x e n = size_at x e ∙ r.joined_is x
+      ∙ cond-false (has r.rest x) (cond (num r.into x == x) (sum_by (num r.retired) (filter (λ j. num r.into j == x) r.rest)) 0) (num r.retired x) (in_rest x ∙ outside_rest x n)
+      ∙ r.retired_is x ∙ cond-false (has r.front x && keeps_none r.kept.elements.items r.kept.variables.items x) 0 (num w.size.items x)
+        (and_left (has r.front x) (keeps_none r.kept.elements.items r.kept.variables.items x) (in_front x ∙ n))
+
+  -- what is placed after the round
+  new_placed : (i : ℕ) → has new_lists.placed i ≡ (has t.placed i && not (ends aggressive t r.c L i))
+  unfolding round ends
+  new_placed i = has_append (filter (λ i. not (i == r.c || has L i)) t.placed) M i ∙ same_bool (has (filter (λ i. not (i == r.c || has L i)) t.placed) i || has M i) (has t.placed i && not (i == r.c || (has L i && not (has M i))))
+      (λ h. elim (or_cases (has (filter (λ i. not (i == r.c || has L i)) t.placed) i) (has M i) h) [
+        | inl a ↦ (let p = and_parts (has t.placed i) (not (i == r.c || has L i)) (sym (has_filter (λ i. not (i == r.c || has L i)) t.placed i) ∙ a) in
+            let q = or_parts (i == r.c) (has L i) (not-true (i == r.c || has L i) p.1) in
+            and_from (has t.placed i) (not (i == r.c || (has L i && not (has M i)))) p.0
+            (not_from_false (i == r.c || (has L i && not (has M i))) (or_from (i == r.c) (has L i && not (has M i)) q.0 (and_left (has L i) (not (has M i)) q.1))))
+        | inr a ↦ and_from (has t.placed i) (not (i == r.c || (has L i && not (has M i)))) (front_placed i (made_front i a))
+            (not_from_false (i == r.c || (has L i && not (has M i))) (or_from (i == r.c) (has L i && not (has M i)) (not_c i (made_front i a)) (ap (λ b. has L i && not b) a ∙ and_false (has L i))))
+      ])
+      (λ h. let p = and_parts (has t.placed i) (not (i == r.c || (has L i && not (has M i)))) h in
+      let q = or_parts (i == r.c) (has L i && not (has M i)) (not-true (i == r.c || (has L i && not (has M i))) p.1) in
+      elim (cases_Bool (has M i)) [
+        | inl a ↦ or_right (has (filter (λ i. not (i == r.c || has L i)) t.placed) i) (has M i) a
+        | inr n ↦ or_left (has (filter (λ i. not (i == r.c || has L i)) t.placed) i) (has M i)
+            (has_filter (λ i. not (i == r.c || has L i)) t.placed i ∙ and_from (has t.placed i) (not (i == r.c || has L i)) p.0
+            (not_from_false (i == r.c || has L i) (or_from (i == r.c) (has L i) q.0 (sym (ap (λ b. has L i && not b) n ∙ and_true (has L i)) ∙ q.1))))
+      ])
+
+  -- a class of the next lists is one of the new element's list, or stands outside of it
+  placed_cases : (i : ℕ) → has new_lists.placed i ≡ true → has M i ≡ false → (has t.placed i ≡ true) × ((i == r.c) ≡ false) × (has L i ≡ false)
+  unfolding ends
+  placed_cases i h n = let p = and_parts (has t.placed i) (not (ends aggressive t r.c L i)) (sym (new_placed i) ∙ h) in
+      let q = or_parts (i == r.c) (has L i && not (has M i)) (not-true (i == r.c || (has L i && not (has M i))) p.1) in
+      (p.0, q.0, sym (ap (λ b. has L i && not b) n ∙ and_true (has L i)) ∙ q.1)
+
+  made_placed : (i : ℕ) → has M i ≡ true → has new_lists.placed i ≡ true
+  unfolding round
+  made_placed i h = has_append (filter (λ i. not (i == r.c || has L i)) t.placed) M i ∙ or_right (has (filter (λ i. not (i == r.c || has L i)) t.placed) i) (has M i) h
+
+  -- the sizes are kept
+  pub size_kept : (i : ℕ) → has new_lists.placed i ≡ true → num v.size.items i ≡ new_lists.size i
+  unfolding round
+  size_kept i h = elim (cases_Bool (has M i)) [
+    | inl m ↦ size_made i m ∙ sym (cond-true (has M i) (new_size aggressive t r.c L i) (t.size i) m)
+    | inr n ↦ (let p = placed_cases i h n in size_outside i p.1 p.2 ∙ st.keeps.size i p.0 ∙ sym (cond-false (has M i) (new_size aggressive t r.c L i) (t.size i) n))
+  ]
+
+  pub size_none : (i : ℕ) → has new_lists.placed i ≡ false → num v.size.items i ≡ 0
+  size_none i h = elim (cases_Bool (i == r.c)) [
+    | inl e ↦ r.size_is i ∙ cond-true (i == r.c) 0 (num r.joined i) e
+    | inr ne ↦ elim (cases_Bool (has L i)) [
+      | inl l ↦ size_ended i l (elim (cases_Bool (has M i)) [ inr n ↦ n | inl m ↦ clash (made_placed i m) h ])
+      | inr n ↦ size_outside i ne n ∙ st.keeps.no_class i (elim (cases_Bool (has t.placed i)) [ inr k ↦ k | inl k ↦ clash (new_placed i ∙ and_from (has t.placed i) (not (ends aggressive t r.c L i)) k (stays i ne n)) h ])
+    ]
+  ]
+    where
+      stays : (i : ℕ) → (i == r.c) ≡ false → has L i ≡ false → not (ends aggressive t r.c L i) ≡ true
+      stays i ne n = not_ends i ne n
+
+  -- what has rows is a class
+  class_size : (i : ℕ) → has t.placed i ≡ true → 0 < t.size i
+  class_size i h = let l = live_small g st.graph s st.sound i i (class_of i h) in
+      let k = count_pos g.size (in_class s i) i l (class_from i (s.home i) (class_of i h)) in let e = st.fits.size i (class_of i h) in omega (arith, k, e)
+
+  new_class_size : (i : ℕ) → has new_lists.placed i ≡ true → 0 < new_lists.size i
+  new_class_size i h = let hi = class_gives i (new_state.home i) (sym (new_fits.placed i) ∙ h) in let l = live_small g st.graph new_state new_sound i i hi in
+      let k = count_pos g.size (in_class new_state i) i l (class_from i (new_state.home i) hi) in let e = new_fits.size i hi in omega (arith, k, e)
+
+  old_live : (j : ℕ) → nat_lt 0 (num w.size.items j) ≡ has t.placed j
+  old_live j = elim (cases_Bool (has t.placed j)) [
+    | inl y ↦ (let e = st.keeps.size j y in let k = class_size j y in lt-ltb 0 (num w.size.items j) (omega (arith, e, k))) ∙ sym y
+    | inr n ↦ le-ltb 0 (num w.size.items j) (let e = st.keeps.no_class j n in omega (arith, e)) ∙ sym n
+  ]
+
+  new_live : (j : ℕ) → nat_lt 0 (num v.size.items j) ≡ has new_lists.placed j
+  new_live j = elim (cases_Bool (has new_lists.placed j)) [
+    | inl y ↦ (let e = size_kept j y in let k = new_class_size j y in lt-ltb 0 (num v.size.items j) (omega (arith, e, k))) ∙ sym y
+    | inr n ↦ le-ltb 0 (num v.size.items j) (let e = size_none j n in omega (arith, e)) ∙ sym n
+  ]
+
+  live_new : (xs : List ℕ) → live_of v.size.items xs ≡ filter (λ j. not (ends aggressive t r.c L j)) (live_of w.size.items xs)
+  live_new xs = filter_named (λ j. nat_lt 0 (num v.size.items j)) (λ j. nat_lt 0 (num w.size.items j) && not (ends aggressive t r.c L j)) xs
+      (λ j a. new_live j ∙ new_placed j ∙ ap (λ b. b && not (ends aggressive t r.c L j)) (sym (old_live j)))
+      ∙ filter_both (λ j. nat_lt 0 (num w.size.items j)) (λ j. not (ends aggressive t r.c L j)) xs
+
+  -- what a class of the front keeps are classes outside
+  kept_placed : (i : ℕ) → has L i ≡ true → (j : ℕ) → has (kept_variables aggressive t r.c L i) j ≡ true → has new_lists.placed j ≡ true
+  unfolding kept_variables
+  kept_placed i l j a = let p = and_parts (has (t.variables i) j) (not (j == r.c || has L j)) (sym (has_filter (λ j. not (j == r.c || has L j)) (t.variables i) j) ∙ a) in
+      let q = or_parts (j == r.c) (has L j) (not-true (j == r.c || has L j) p.1) in
+      let n = neighbours_gives g s i j (sym (st.fits.variables i j (class_of i (front_placed i l))) ∙ p.0) in
+      new_placed j ∙ and_from (has t.placed j) (not (ends aggressive t r.c L j)) (placed_of j n.second) (not_ends j q.0 q.1)
+
+  -- the lists are kept
+  pub variables_kept : (i : ℕ) → has new_lists.placed i ≡ true → live_of v.size.items (list_at v.lists.variables.items i) ≡ new_lists.variables i
+  unfolding round
+  variables_kept i h = elim (cases_Bool (has M i)) [
+    | inl m ↦ (let l = made_front i m in let kv : List ℕ = kept_variables aggressive t r.c L i in
+        ap (live_of v.size.items) (r.variables_is i ∙ cond-true (has r.made i) (turned (list_at r.kept.variables.items i)) (list_at r.kept.variables.items i) (in_made i ∙ m) ∙ ap turned (f.variables i l))
+        ∙ filter_all (λ j. nat_lt 0 (num v.size.items j)) (turned kv) (λ j a. new_live j ∙ kept_placed i l j (sym (has_turned kv j) ∙ a))
+        ∙ sym (cond-true (has M i) (turned kv) (filter (λ j. not (ends aggressive t r.c L j)) (t.variables i)) m))
+    | inr n ↦ (let p = placed_cases i h n in
+        ap (live_of v.size.items) (r.variables_is i ∙ cond-false (has r.made i) (turned (list_at r.kept.variables.items i)) (list_at r.kept.variables.items i) (in_made i ∙ n)
+          ∙ r.absorbed.variables i ∙ cond-false (has r.front i) _ _ (in_front i ∙ p.2))
+        ∙ live_new (list_at w.lists.variables.items i) ∙ ap (filter (λ j. not (ends aggressive t r.c L j))) (st.keeps.variables i p.0)
+        ∙ sym (cond-false (has M i) (turned (kept_variables aggressive t r.c L i)) (filter (λ j. not (ends aggressive t r.c L j)) (t.variables i)) n))
+  ]
+
+  pub elements_kept : (i : ℕ) → has new_lists.placed i ≡ true → list_at v.lists.elements.items i ≡ new_lists.elements i
+  unfolding round
+  elements_kept i h = elim (cases_Bool (has M i)) [
+    | inl m ↦ r.elements_is i ∙ cond-true (has r.made i) (r.c ∷ turned (list_at r.kept.elements.items i)) (list_at r.kept.elements.items i) (in_made i ∙ m)
+        ∙ ap (λ l. r.c ∷ turned l) (f.elements i (made_front i m)) ∙ sym (cond-true (has M i) (r.c ∷ turned (kept_elements aggressive t r.c L i)) (t.elements i) m)
+    | inr n ↦ (let p = placed_cases i h n in
+        r.elements_is i ∙ cond-false (has r.made i) (r.c ∷ turned (list_at r.kept.elements.items i)) (list_at r.kept.elements.items i) (in_made i ∙ n)
+        ∙ r.absorbed.elements i ∙ cond-false (has r.front i) _ _ (in_front i ∙ p.2) ∙ st.keeps.elements i p.0
+        ∙ sym (cond-false (has M i) (r.c ∷ turned (kept_elements aggressive t r.c L i)) (t.elements i) n))
+  ]
+
+  pub members_kept : (e : ℕ) → is_empty (new_lists.members e) ≡ false → live_of v.size.items (list_at v.lists.members.items e) ≡ new_lists.members e
+  unfolding round
+  members_kept e some = elim (cases_Bool (e == r.c)) [
+    | inl y ↦ ap (live_of v.size.items) (r.members_is e ∙ cond-true (e == r.c) r.made (list_at w.lists.members.items e) y ∙ f.made_is)
+        ∙ filter_all (λ j. nat_lt 0 (num v.size.items j)) M (λ j a. new_live j ∙ made_placed j a)
+        ∙ sym (cond-true (e == r.c) M (cond (takes aggressive t r.c L e) [] (filter (λ j. not (ends aggressive t r.c L j)) (t.members e))) y)
+    | inr n ↦ elim (cases_Bool (takes aggressive t r.c L e)) [
+      | inl y ↦ clash (empty_at e n y) some
+      | inr k ↦ (let e1 = cond-false (e == r.c) M (cond (takes aggressive t r.c L e) [] (filter (λ j. not (ends aggressive t r.c L j)) (t.members e))) n in
+          let e2 = cond-false (takes aggressive t r.c L e) [] (filter (λ j. not (ends aggressive t r.c L j)) (t.members e)) k in
+          ap (live_of v.size.items) (r.members_is e ∙ cond-false (e == r.c) r.made (list_at w.lists.members.items e) n)
+          ∙ live_new (list_at w.lists.members.items e)
+          ∙ ap (filter (λ j. not (ends aggressive t r.c L j))) (st.keeps.members e (had_some (t.members e) (λ j. not (ends aggressive t r.c L j)) (sym (ap is_empty (e1 ∙ e2)) ∙ some)))
+          ∙ sym (e1 ∙ e2))
+    ]
+  ]
+    where
+      empty_at : (e : ℕ) → (e == r.c) ≡ false → takes aggressive t r.c L e ≡ true → is_empty (cond (e == r.c) M (cond (takes aggressive t r.c L e) [] (filter (λ j. not (ends aggressive t r.c L j)) (t.members e)))) ≡ true
+      empty_at e n y = none_taken e n y
+
+pub and_false_law : (x : ℕ) → x ≡ x
+and_false_law x = refl

@@ -15,5 +15,6 @@ pub mod marks;
 pub mod merging;
 pub mod permutations;
 pub mod plain;
+pub mod scratch;
 pub mod work;
 pub mod walk;

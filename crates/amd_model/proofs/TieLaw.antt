@@ -25,7 +25,7 @@ use Rattle.amd_model.proofs.TieLists.{same_bool, clash, has_append, has_turned, 
 
 module _ (g : Graph) (laws : IsGraph g) (aggressive : Bool) (t : Tie) (s : State) (sound : IsSound g s) (fits : Fits g t s) (c : ℕ) (class : is_class s c ≡ true)
     (least : (d : ℕ) → is_class s d ≡ true → s.bound c ≤ s.bound d) where
-  pub L : List ℕ
+  unfoldable pub L : List ℕ
   L = gathered t c
 
   hc : s.home c ≡ Live c
@@ -257,7 +257,7 @@ module _ (g : Graph) (laws : IsGraph g) (aggressive : Bool) (t : Tie) (s : State
   unfolding after
   is_step = next_is_step g laws aggressive c s sound (represents aggressive t c L) pick_is class least
 
-  pub now : Tie
+  unfoldable pub now : Tie
   now = round aggressive t c L
 
   fate_of : (v : ℕ) → Rattle.amd_model.proofs.SoundStep.Fate g laws aggressive c s after sound is_step v

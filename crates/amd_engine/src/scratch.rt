@@ -1,0 +1,5 @@
+// scratch
+ghost use Rattle.std.specs.Prelude.{◌≡◌, ℕ};
+pub fn law_scratch()
+    ensures { (x : ℕ) → x ≡ x }
+{}
