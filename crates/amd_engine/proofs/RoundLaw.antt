@@ -1,23 +1,24 @@
 -- A round of the plain engine computes the next lists of the machine, in the sizes, bounds and lists of classes and elements.
 use Rattle.std.proofs.Common.{ℕ, zero, suc, Bool, true, false, Option, None, Some, List, [], ◌∷◌, ◌++◌, ◌≡◌, ◌≢◌, ◌≤◌, ◌<◌, ◌+◌, ◌-◌, ◌∙◌, ◌&&◌, ◌||◌, not, min, cond, ap, sym, refl, subst, inl, inr, arith, length}
-use Rattle.std.specs.Prelude.{filter, sum_by, nat_lt, ◌==◌}
+use Rattle.std.specs.Prelude.{filter, sum_by, nat_lt, is_none, ◌==◌, ◌⊎◌}
 use Rattle.std.proofs.lemmas.Bool.{true≢false, false≢true, cases_Bool, cases_eq, cond-true, cond-false, or_left, or_right, or_from, or_parts, or_cases, and_from, and_parts, and_left, eqb-true, eq-eqb, ne_eqb, lt-ltb, le-ltb, not-true, not_from_false}
 use Rattle.amd_model.specs.Below.{count_below}
 use Rattle.amd_model.specs.Graph.{Graph, IsGraph}
 use Rattle.amd_model.specs.Figures.{cut}
-use Rattle.amd_model.specs.State.{State, Live, in_class, is_class, front}
+use Rattle.amd_model.specs.State.{State, Home, Last, Live, Gone, in_class, is_class, front}
 use Rattle.amd_model.specs.Step.{StepAt}
 use Rattle.amd_model.specs.Sound.{IsSound}
-use Rattle.amd_model.specs.Tie.{Tie, Fits, has, is_empty, turned, Once, pivot, gathered, takes, kept_elements, kept_variables, done, rest, represents, made, ends, new_size, far, left, next_bound, round, next}
+use Rattle.amd_model.specs.Tie.{Tie, Fits, has, is_empty, turned, Once, pivot, gathered, takes, kept_elements, kept_variables, done, rest, represents, made, ends, new_size, far, left, next_bound, new_home, round, next}
 use Rattle.amd_model.proofs.BelowLemmas.{count_pos}
 use Rattle.amd_model.proofs.StateLemmas.{class_gives, class_from, front_gives, neighbours_gives}
 use Rattle.amd_model.proofs.Sound.{live_small}
 use Rattle.amd_model.proofs.SoundStep.{step_sound}
 use Rattle.amd_model.proofs.TieLists.{same_bool, clash, has_append, has_filter, has_turned, empty_gives, some_of}
+use Rattle.amd_model.proofs.TieSums.{home_cases}
 use Rattle.amd_model.proofs.TieLaw.{L as front_list, front_class, rest_class, after, is_step, now, now_fits}
 use Rattle.amd_engine.specs.Views.{num, some_at, list_at, live_of}
 use Rattle.amd_engine.specs.Rounds.{keeps_none}
-use Rattle.amd_engine.specs.Keeps.{Keeps, Stands}
+use Rattle.amd_engine.specs.Keeps.{Keeps, LinksLead, Stands}
 use Rattle.amd_engine.specs.declared.work.Work.{Work}
 use Rattle.amd_engine.proofs.Named.{filter_named, sum_named, filter_all, filter_both}
 use Rattle.amd_engine.proofs.Rounding.{Rounding}
@@ -35,6 +36,7 @@ pub record Found {A : Type 0} (aggressive : Bool) (w v : Work A) (t : Tie) (r : 
   pub rest_is : r.rest ≡ rest aggressive t r.c (gathered t r.c)
   pub into_is : (i : ℕ) → has (rest aggressive t r.c (gathered t r.c)) i ≡ true → num r.into i ≡ represents aggressive t r.c (gathered t r.c) i
   pub made_is : r.made ≡ made aggressive t r.c (gathered t r.c)
+  pub one_made : (i : ℕ) → has (rest aggressive t r.c (gathered t r.c)) i ≡ true → has (made aggressive t r.c (gathered t r.c)) (represents aggressive t r.c (gathered t r.c) i) ≡ true
 
 and_false : (a : Bool) → (a && false) ≡ false
 and_false true = refl
@@ -326,6 +328,238 @@ module _ {A : Type 0} (g : Graph) (dense : ℕ → Bool) (aggressive : Bool) (w 
     where
       empty_at : (e : ℕ) → (e == r.c) ≡ false → takes aggressive t r.c L e ≡ true → is_empty (cond (e == r.c) M (cond (takes aggressive t r.c L e) [] (filter (λ j. not (ends aggressive t r.c L j)) (t.members e)))) ≡ true
       empty_at e n y = none_taken e n y
+
+  -- ---- links
+
+  home_of : (i : ℕ) → has t.placed i ≡ true → t.home i ≡ Live i
+  home_of i h = st.fits.home i ∙ class_of i h
+
+  abbrev moved : Home → Home
+  moved h = new_home aggressive t r.c L h
+
+  moved_pivot : moved (Live r.c) ≡ Gone r.c
+  unfolding new_home
+  moved_pivot = cond-true (r.c == r.c || (has L r.c && done aggressive t r.c L r.c)) (Gone r.c) (cond (has R r.c) (Live (represents aggressive t r.c L r.c)) (Live r.c))
+      (or_left (r.c == r.c) (has L r.c && done aggressive t r.c L r.c) (eq-eqb r.c r.c refl))
+
+  moved_done : (d : ℕ) → has L d ≡ true → done aggressive t r.c L d ≡ true → moved (Live d) ≡ Gone r.c
+  unfolding new_home
+  moved_done d h k = cond-true (d == r.c || (has L d && done aggressive t r.c L d)) (Gone r.c) (cond (has R d) (Live (represents aggressive t r.c L d)) (Live d))
+      (or_right (d == r.c) (has L d && done aggressive t r.c L d) (and_from (has L d) (done aggressive t r.c L d) h k))
+
+  moved_rest : (d : ℕ) → has R d ≡ true → moved (Live d) ≡ Live (represents aggressive t r.c L d)
+  unfolding new_home
+  moved_rest d h = cond-false (d == r.c || (has L d && done aggressive t r.c L d)) (Gone r.c) (cond (has R d) (Live (represents aggressive t r.c L d)) (Live d))
+      (or_from (d == r.c) (has L d && done aggressive t r.c L d) (not_c d (rest_front d h)) (ap (λ b. has L d && b) (rest_keeps d h) ∙ and_false (has L d)))
+      ∙ cond-true (has R d) (Live (represents aggressive t r.c L d)) (Live d) h
+
+  moved_other : (d : ℕ) → (d == r.c) ≡ false → has L d ≡ false → moved (Live d) ≡ Live d
+  unfolding new_home
+  moved_other d e n = cond-false (d == r.c || (has L d && done aggressive t r.c L d)) (Gone r.c) (cond (has R d) (Live (represents aggressive t r.c L d)) (Live d))
+      (or_from (d == r.c) (has L d && done aggressive t r.c L d) e (and_left (has L d) (done aggressive t r.c L d) n))
+      ∙ cond-false (has R d) (Live (represents aggressive t r.c L d)) (Live d) (outside_rest d n)
+
+  moved_gone : (e : ℕ) → moved (Gone e) ≡ Gone e
+  unfolding new_home
+  moved_gone e = refl
+
+  moved_last : moved Last ≡ Last
+  unfolding new_home
+  moved_last = refl
+
+  new_home_is : (x : ℕ) → new_lists.home x ≡ moved (t.home x)
+  unfolding round
+  new_home_is x = refl
+
+  abbrev merges : ℕ → Bool
+  merges x = has R x && not (represents aggressive t r.c L x == x)
+
+  abbrev leaves : ℕ → Bool
+  leaves x = has L x && done aggressive t r.c L x
+
+  merges_is : (x : ℕ) → (has r.rest x && not (num r.into x == x)) ≡ merges x
+  merges_is x = elim (cases_Bool (has R x)) [
+    | inl y ↦ ap (λ b. b && not (num r.into x == x)) (in_rest x) ∙ ap (λ n. has R x && not (n == x)) (f.into_is x y)
+    | inr n ↦ and_left (has r.rest x) (not (num r.into x == x)) (in_rest x ∙ n) ∙ sym (and_left (has R x) (not (represents aggressive t r.c L x == x)) n)
+  ]
+
+  leaves_is : (x : ℕ) → (has r.front x && keeps_none r.kept.elements.items r.kept.variables.items x) ≡ leaves x
+  leaves_is x = elim (cases_Bool (has L x)) [
+    | inl y ↦ ap (λ b. b && keeps_none r.kept.elements.items r.kept.variables.items x) (in_front x) ∙ ap (λ b. has L x && b) (none_kept x y)
+    | inr n ↦ and_left (has r.front x) (keeps_none r.kept.elements.items r.kept.variables.items x) (in_front x ∙ n) ∙ sym (and_left (has L x) (done aggressive t r.c L x) n)
+  ]
+
+  -- the new link of a row: to its representative, to the pivot, or the old one
+  data NewLink (x : ℕ) : Type 0 where
+    merged : has R x ≡ true → represents aggressive t r.c L x ≢ x → some_at v.link.items x ≡ Some (represents aggressive t r.c L x) → NewLink x
+    left_out : has L x ≡ true → done aggressive t r.c L x ≡ true → some_at v.link.items x ≡ Some r.c → NewLink x
+    as_before : (has R x ≡ true → represents aggressive t r.c L x ≡ x) → (has L x ≡ true → has R x ≡ true) → some_at v.link.items x ≡ some_at w.link.items x → NewLink x
+
+  new_link : (x : ℕ) → NewLink x
+  new_link x = elim (cases_Bool (merges x)) [
+    | inl y ↦ (let p = and_parts (has R x) (not (represents aggressive t r.c L x == x)) y in
+        merged p.0 (λ e. clash (eq-eqb (represents aggressive t r.c L x) x e) (not-true (represents aggressive t r.c L x == x) p.1))
+        (r.link_is x ∙ cond-true (has r.rest x && not (num r.into x == x)) _ _ (merges_is x ∙ y) ∙ ap (λ n. Some n) (f.into_is x p.0)))
+    | inr n ↦ elim (cases_Bool (leaves x)) [
+      | inl y ↦ (let p = and_parts (has L x) (done aggressive t r.c L x) y in
+          left_out p.0 p.1 (r.link_is x ∙ cond-false (has r.rest x && not (num r.into x == x)) _ _ (merges_is x ∙ n) ∙ cond-true (has r.front x && keeps_none r.kept.elements.items r.kept.variables.items x) _ _ (leaves_is x ∙ y)))
+      | inr k ↦ as_before
+          (λ h. elim (cases_eq (represents aggressive t r.c L x) x) [
+            | inl q ↦ q
+            | inr ne ↦ clash (and_from (has R x) (not (represents aggressive t r.c L x == x)) h (not_from_false (represents aggressive t r.c L x == x) (ne_eqb (represents aggressive t r.c L x) x ne))) n
+          ])
+          (λ h. in_left x h (elim (cases_Bool (done aggressive t r.c L x)) [ inr m ↦ m | inl m ↦ clash (and_from (has L x) (done aggressive t r.c L x) h m) k ]))
+          (r.link_is x ∙ cond-false (has r.rest x && not (num r.into x == x)) _ _ (merges_is x ∙ n) ∙ cond-false (has r.front x && keeps_none r.kept.elements.items r.kept.variables.items x) _ _ (leaves_is x ∙ k))
+    ]
+  ]
+
+  some_same : {a b : ℕ} → Some a ≡ Some b → a ≡ b
+  some_same e = cc
+
+  rest_home : (x : ℕ) → has R x ≡ true → new_lists.home x ≡ Live (represents aggressive t r.c L x)
+  rest_home x h = new_home_is x ∙ ap moved (home_of x (front_placed x (rest_front x h))) ∙ moved_rest x h
+
+  made_home : (x : ℕ) → has M x ≡ true → new_lists.home x ≡ Live x
+  made_home x h = let m = made_rest x h in rest_home x m.0 ∙ ap Live m.1
+
+  pivot_home : new_lists.home r.c ≡ Gone r.c
+  pivot_home = new_home_is r.c ∙ ap moved (home_of r.c f.placed) ∙ moved_pivot
+
+  done_home : (x : ℕ) → has L x ≡ true → done aggressive t r.c L x ≡ true → new_lists.home x ≡ Gone r.c
+  done_home x h k = new_home_is x ∙ ap moved (home_of x (front_placed x h)) ∙ moved_done x h k
+
+  linked_kept : (x u : ℕ) → some_at v.link.items x ≡ Some u → new_lists.home x ≡ new_lists.home u
+  linked_kept x u e = elim (new_link x) [
+    | merged h ne q ↦ (let same = some_same (sym q ∙ e) in rest_home x h ∙ sym (made_home (represents aggressive t r.c L x) (f.one_made x h)) ∙ ap new_lists.home same)
+    | left_out h k q ↦ done_home x h k ∙ sym pivot_home ∙ ap new_lists.home (some_same (sym q ∙ e))
+    | as_before a b q ↦ new_home_is x ∙ ap moved (st.keeps.links.linked x u (sym q ∙ e)) ∙ sym (new_home_is u)
+  ]
+
+  alone_kept : (x : ℕ) → some_at v.link.items x ≡ None → (new_lists.home x ≡ Live x) ⊎ (new_lists.home x ≡ Gone x) ⊎ (new_lists.home x ≡ Last)
+  alone_kept x e = elim (new_link x) [
+    | merged h ne q ↦ absurd (let k = sym q ∙ e in cc)
+    | left_out h k q ↦ absurd (let m = sym q ∙ e in cc)
+    | as_before a b q ↦ elim (st.keeps.links.alone x (sym q ∙ e)) [
+      | inl h ↦ elim (cases_eq x r.c) [
+        | inl y ↦ inr (inl (ap new_lists.home y ∙ pivot_home ∙ sym (ap Gone y)))
+        | inr ne ↦ elim (cases_Bool (has L x)) [
+          | inl l ↦ inl (rest_home x (b l) ∙ ap Live (a (b l)))
+          | inr n ↦ inl (new_home_is x ∙ ap moved h ∙ moved_other x (ne_eqb x r.c ne) n)
+        ]
+      ]
+      | inr (inl h) ↦ inr (inl (new_home_is x ∙ ap moved h ∙ moved_gone x))
+      | inr (inr h) ↦ inr (inr (new_home_is x ∙ ap moved h ∙ moved_last))
+    ]
+  ]
+
+  -- a row that names a class or an element did so before, or is the pivot
+  was_live : (x : ℕ) → new_lists.home x ≡ Live x → t.home x ≡ Live x
+  was_live x h = elim (home_cases (t.home x)) [
+    | inl z ↦ absurd (let k = sym h ∙ new_home_is x ∙ ap moved z ∙ moved_last in cc)
+    | inr (inl (d, z)) ↦ (let m = sym h ∙ new_home_is x ∙ ap moved z in elim (cases_eq d r.c) [
+        | inl y ↦ absurd (let k = m ∙ ap moved (ap Live y) ∙ moved_pivot in cc)
+        | inr ne ↦ elim (cases_Bool (has L d)) [
+          | inl l ↦ elim (cases_Bool (done aggressive t r.c L d)) [
+            | inl k ↦ absurd (let q = m ∙ moved_done d l k in cc)
+            | inr k ↦ (let q : Live x ≡ Live (represents aggressive t r.c L d) = m ∙ moved_rest d (in_left d l k) in
+                let e : x ≡ represents aggressive t r.c L d = cc in
+                home_of x (front_placed x (made_front x (ap (has M) e ∙ f.one_made d (in_left d l k)))))
+          ]
+          | inr n ↦ (let q : Live x ≡ Live d = m ∙ moved_other d (ne_eqb d r.c ne) n in z ∙ sym q)
+        ]
+      ])
+    | inr (inr (e, z)) ↦ absurd (let k = sym h ∙ new_home_is x ∙ ap moved z ∙ moved_gone e in cc)
+  ]
+
+  was_gone : (x : ℕ) → new_lists.home x ≡ Gone x → (t.home x ≡ Live x) ⊎ (t.home x ≡ Gone x)
+  was_gone x h = elim (home_cases (t.home x)) [
+    | inl z ↦ absurd (let k = sym h ∙ new_home_is x ∙ ap moved z ∙ moved_last in cc)
+    | inr (inl (d, z)) ↦ inl (let m = sym h ∙ new_home_is x ∙ ap moved z in elim (cases_eq d r.c) [
+        | inl y ↦ (let k : Gone x ≡ Gone r.c = m ∙ ap moved (ap Live y) ∙ moved_pivot in let e : x ≡ r.c = cc in z ∙ ap Live (y ∙ sym e))
+        | inr ne ↦ elim (cases_Bool (has L d)) [
+          | inl l ↦ elim (cases_Bool (done aggressive t r.c L d)) [
+            | inl k ↦ (let q : Gone x ≡ Gone r.c = m ∙ moved_done d l k in let e : x ≡ r.c = cc in ap t.home e ∙ home_of r.c f.placed ∙ sym (ap Live e))
+            | inr k ↦ absurd (let q = m ∙ moved_rest d (in_left d l k) in cc)
+          ]
+          | inr n ↦ absurd (let q = m ∙ moved_other d (ne_eqb d r.c ne) n in cc)
+        ]
+      ])
+    | inr (inr (e, z)) ↦ inr (let k : Gone x ≡ Gone e = sym h ∙ new_home_is x ∙ ap moved z ∙ moved_gone e in z ∙ sym k)
+  ]
+
+  free_kept : (x : ℕ) → (new_lists.home x ≡ Live x) ⊎ (new_lists.home x ≡ Gone x) → some_at v.link.items x ≡ None
+  free_kept x h = elim (new_link x) [
+    | merged k ne q ↦ absurd (elim h [
+      | inl y ↦ ne (let e : Live (represents aggressive t r.c L x) ≡ Live x = sym (rest_home x k) ∙ y in cc)
+      | inr y ↦ (let e : Live (represents aggressive t r.c L x) ≡ Gone x = sym (rest_home x k) ∙ y in cc)
+    ])
+    | left_out k d q ↦ absurd (elim h [
+      | inl y ↦ (let e : Gone r.c ≡ Live x = sym (done_home x k d) ∙ y in cc)
+      | inr y ↦ (let e : Gone r.c ≡ Gone x = sym (done_home x k d) ∙ y in let same : r.c ≡ x = cc in clash k (sym (ap (has L) same) ∙ not_pivot))
+    ])
+    | as_before a b q ↦ q ∙ st.keeps.links.free x (elim h [ inl y ↦ inl (was_live x y) | inr y ↦ was_gone x y ])
+  ]
+
+  abbrev old_rank : ℕ → ℕ
+  old_rank = st.keeps.links.rank
+
+  abbrev old_top : ℕ
+  old_top = st.keeps.links.top
+
+  abbrev new_rank : ℕ → ℕ
+  new_rank x = cond (is_none (some_at v.link.items x)) (suc old_top) (old_rank x)
+
+  -- what is linked now had a rank no higher than the top
+  old_small : (x : ℕ) → old_rank x ≤ old_top
+  old_small x = low (some_at w.link.items x) refl
+    where
+      low : (o : Option ℕ) → some_at w.link.items x ≡ o → old_rank x ≤ old_top
+      low None e = let k = st.keeps.links.end.ends x e in omega (arith, k)
+      low (Some u) e = let k = st.keeps.links.end.below x u e in omega (arith, k)
+
+  rank_linked : (x u : ℕ) → some_at v.link.items x ≡ Some u → new_rank x ≡ old_rank x
+  rank_linked x u e = ap (λ o. cond (is_none o) (suc old_top) (old_rank x)) e
+
+  rank_free : (x : ℕ) → some_at v.link.items x ≡ None → new_rank x ≡ suc old_top
+  rank_free x e = ap (λ o. cond (is_none o) (suc old_top) (old_rank x)) e
+
+  rank_least : (x : ℕ) → old_rank x ≤ new_rank x
+  rank_least x = low (some_at v.link.items x) refl
+    where
+      low : (o : Option ℕ) → some_at v.link.items x ≡ o → old_rank x ≤ new_rank x
+      low None e = let a = rank_free x e in let b = old_small x in omega (arith, a, b)
+      low (Some u) e = let a = rank_linked x u e in omega (arith, a)
+
+  row_small : (x : ℕ) → has t.placed x ≡ true → x < g.size
+  row_small x h = live_small g st.graph s st.sound x x (class_of x h)
+
+  linked_small : (x u : ℕ) → some_at v.link.items x ≡ Some u → u < g.size
+  linked_small x u e = elim (new_link x) [
+    | merged h ne q ↦ subst (λ n. n < g.size) (some_same (sym q ∙ e)) (row_small (represents aggressive t r.c L x) (front_placed (represents aggressive t r.c L x) (made_front (represents aggressive t r.c L x) (f.one_made x h))))
+    | left_out h k q ↦ subst (λ n. n < g.size) (some_same (sym q ∙ e)) (row_small r.c f.placed)
+    | as_before a b q ↦ (let k = (st.keeps.links.end.rise x u (sym q ∙ e)).1 in let n = st.sized.link in omega (arith, k, n))
+  ]
+
+  rank_rises : (x u : ℕ) → some_at v.link.items x ≡ Some u → new_rank x < new_rank u
+  rank_rises x u e = let a = rank_linked x u e in let o = old_small x in elim (new_link x) [
+    | merged h ne q ↦ (let same = some_same (sym q ∙ e) in let k = rank_free u (free_kept u (inl (subst (λ n. new_lists.home n ≡ Live n) same (made_home (represents aggressive t r.c L x) (f.one_made x h))))) in omega (arith, a, o, k))
+    | left_out h d q ↦ (let same = some_same (sym q ∙ e) in let k = rank_free u (free_kept u (inr (subst (λ n. new_lists.home n ≡ Gone n) same pivot_home))) in omega (arith, a, o, k))
+    | as_before m b q ↦ (let k = (st.keeps.links.end.rise x u (sym q ∙ e)).0 in let l = rank_least u in omega (arith, a, k, l))
+  ]
+
+  pub links_kept : LinksLead v.link.items new_lists.home
+  links_kept = record {
+    linked = linked_kept;
+    alone = alone_kept;
+    free = free_kept;
+    rank = new_rank;
+    top = suc old_top;
+    end = record {
+      rise = λ x u e. (rank_rises x u e, (let k = linked_small x u e in let n = (r.sized g.size st.sized).link in omega (arith, k, n)));
+      ends = rank_free;
+      below = λ x u e. (let a = rank_linked x u e in let o = old_small x in omega (arith, a, o));
+    };
+  }
 
 pub and_false_law : (x : ℕ) → x ≡ x
 and_false_law x = refl
