@@ -1,25 +1,27 @@
 -- A round of the plain engine computes the next lists of the machine, in the sizes, bounds and lists of classes and elements.
 use Rattle.std.proofs.Common.{ℕ, zero, suc, Bool, true, false, Option, None, Some, List, [], ◌∷◌, ◌++◌, ◌≡◌, ◌≢◌, ◌≤◌, ◌<◌, ◌+◌, ◌-◌, ◌∙◌, ◌&&◌, ◌||◌, not, min, cond, ap, sym, refl, subst, inl, inr, arith, length}
-use Rattle.std.specs.Prelude.{filter, sum_by, nat_lt, is_none, ◌==◌, ◌⊎◌}
+use Rattle.std.specs.Prelude.{filter, sum_by, nat_lt, is_none, ◌==◌, ◌⊎◌, ◌^◌}
 use Rattle.std.proofs.lemmas.Bool.{true≢false, false≢true, cases_Bool, cases_eq, cond-true, cond-false, or_left, or_right, or_from, or_parts, or_cases, and_from, and_parts, and_left, eqb-true, eq-eqb, ne_eqb, lt-ltb, le-ltb, not-true, not_from_false}
+use Rattle.std.proofs.lemmas.List.Sums.{sum_by-cons}
 use Rattle.amd_model.specs.Below.{count_below}
 use Rattle.amd_model.specs.Graph.{Graph, IsGraph}
 use Rattle.amd_model.specs.Figures.{cut}
-use Rattle.amd_model.specs.State.{State, Home, Last, Live, Gone, in_class, is_class, front}
-use Rattle.amd_model.specs.Step.{StepAt}
+use Rattle.amd_model.specs.State.{State, Home, Last, Live, Gone, in_class, is_class, front, holds, stands, inside}
+use Rattle.amd_model.specs.Step.{StepAt, absorbed}
 use Rattle.amd_model.specs.Sound.{IsSound}
 use Rattle.amd_model.specs.Tie.{Tie, Fits, has, is_empty, turned, Once, pivot, gathered, takes, kept_elements, kept_variables, done, rest, represents, made, ends, new_size, far, left, next_bound, new_home, round, next}
 use Rattle.amd_model.proofs.BelowLemmas.{count_pos}
-use Rattle.amd_model.proofs.StateLemmas.{class_gives, class_from, front_gives, neighbours_gives}
+use Rattle.amd_model.proofs.StateLemmas.{class_gives, class_from, live_from, front_gives, neighbours_gives, holds_gives, stands_gives}
 use Rattle.amd_model.proofs.Sound.{live_small}
 use Rattle.amd_model.proofs.SoundStep.{step_sound}
 use Rattle.amd_model.proofs.TieLists.{same_bool, clash, has_append, has_filter, has_turned, empty_gives, some_of}
 use Rattle.amd_model.proofs.TieSums.{home_cases}
-use Rattle.amd_model.proofs.TieLaw.{L as front_list, front_class, rest_class, after, is_step, now, now_fits}
+use Rattle.amd_model.proofs.TieLaw.{L as front_list, takes_is, front_class, rest_class, after, is_step, now, now_fits}
 use Rattle.amd_engine.specs.Views.{num, some_at, list_at, live_of}
 use Rattle.amd_engine.specs.Rounds.{keeps_none}
 use Rattle.amd_engine.specs.Keeps.{Keeps, LinksLead, Stands}
 use Rattle.amd_engine.specs.declared.work.Work.{Work}
+use Rattle.amd_engine.proofs.CutSums.{cut_add}
 use Rattle.amd_engine.proofs.Named.{filter_named, sum_named, filter_all, filter_both}
 use Rattle.amd_engine.proofs.Rounding.{Rounding}
 
@@ -33,6 +35,7 @@ pub record Found {A : Type 0} (aggressive : Bool) (w v : Work A) (t : Tie) (r : 
   pub variables : (i : ℕ) → has (gathered t r.c) i ≡ true → list_at r.kept.variables.items i ≡ kept_variables aggressive t r.c (gathered t r.c) i
   pub beyond : (i e : ℕ) → has (gathered t r.c) i ≡ true → has (kept_elements aggressive t r.c (gathered t r.c) i) e ≡ true →
       num r.beyond e ≡ cut (sum_by t.size (filter (λ j. not (has (gathered t r.c) j)) (t.members e)))
+  pub parents : (e : ℕ) → some_at v.parent.items e ≡ cond (takes aggressive t r.c (gathered t r.c) e) (Some r.c) (t.parent e)
   pub rest_is : r.rest ≡ rest aggressive t r.c (gathered t r.c)
   pub into_is : (i : ℕ) → has (rest aggressive t r.c (gathered t r.c)) i ≡ true → num r.into i ≡ represents aggressive t r.c (gathered t r.c) i
   pub made_is : r.made ≡ made aggressive t r.c (gathered t r.c)
@@ -45,6 +48,23 @@ and_false false = refl
 and_true : (a : Bool) → (a && true) ≡ a
 and_true true = refl
 and_true false = refl
+
+-- sums of numbers that a word holds, cut
+cut_more : (x y : ℕ) → cut (x + cut y) ≡ cut (x + y)
+unfolding cut
+cut_more x y = omega arith
+
+cut_sums : (h : ℕ → ℕ) (xs : List ℕ) (y : ℕ) → cut (sum_by (λ e. cut (h e)) xs + y) ≡ cut (sum_by h xs + y)
+cut_sums h [] y = refl
+cut_sums h (x ∷ xs) y =
+    let a : sum_by (λ e. cut (h e)) (x ∷ xs) + y ≡ cut (h x) + (sum_by (λ e. cut (h e)) xs + y) = (let k = sum_by-cons (λ e. cut (h e)) x xs in omega (arith, k)) in
+    let b : sum_by h (x ∷ xs) + y ≡ h x + (sum_by h xs + y) = (let k = sum_by-cons h x xs in omega (arith, k)) in
+    ap cut a ∙ cut_add (h x) (sum_by (λ e. cut (h e)) xs + y) ∙ sym (cut_more (h x) (sum_by (λ e. cut (h e)) xs + y)) ∙ ap (λ n. cut (h x + n)) (cut_sums h xs y)
+    ∙ cut_more (h x) (sum_by h xs + y) ∙ ap cut (sym b)
+
+min_cut : (a x : ℕ) → a < 2 ^ 64 → min a (cut x) ≡ min a x
+unfolding cut
+min_cut a x l = omega (arith, l)
 
 -- a list that has something left had something
 had_some : (xs : List ℕ) (p : ℕ → Bool) → is_empty (filter p xs) ≡ false → is_empty xs ≡ false
@@ -282,6 +302,16 @@ module _ {A : Type 0} (g : Graph) (dense : ℕ → Bool) (aggressive : Bool) (w 
       let q = or_parts (j == r.c) (has L j) (not-true (j == r.c || has L j) p.1) in
       let n = neighbours_gives g s i j (sym (st.fits.variables i j (class_of i (front_placed i l))) ∙ p.0) in
       new_placed j ∙ and_from (has t.placed j) (not (ends aggressive t r.c L j)) (placed_of j n.second) (not_ends j q.0 q.1)
+
+  -- and they have the rows that they had
+  kept_outside : (i : ℕ) → has L i ≡ true → (j : ℕ) → has (kept_variables aggressive t r.c L i) j ≡ true → (has t.placed j ≡ true) × ((j == r.c) ≡ false) × (has L j ≡ false)
+  unfolding kept_variables
+  kept_outside i l j a = let p = and_parts (has (t.variables i) j) (not (j == r.c || has L j)) (sym (has_filter (λ j. not (j == r.c || has L j)) (t.variables i) j) ∙ a) in
+      let q = or_parts (j == r.c) (has L j) (not-true (j == r.c || has L j) p.1) in
+      let n = neighbours_gives g s i j (sym (st.fits.variables i j (class_of i (front_placed i l))) ∙ p.0) in (placed_of j n.second, q.0, q.1)
+
+  outside_size : (j : ℕ) → (has t.placed j ≡ true) × ((j == r.c) ≡ false) × (has L j ≡ false) → num v.size.items j ≡ t.size j
+  outside_size j p = size_outside j p.1 p.2 ∙ st.keeps.size j p.0
 
   -- the lists are kept
   pub variables_kept : (i : ℕ) → has new_lists.placed i ≡ true → live_of v.size.items (list_at v.lists.variables.items i) ≡ new_lists.variables i
@@ -560,6 +590,86 @@ module _ {A : Type 0} (g : Graph) (dense : ℕ → Bool) (aggressive : Bool) (w 
       below = λ x u e. (let a = rank_linked x u e in let o = old_small x in omega (arith, a, o));
     };
   }
+
+  -- ---- parents
+
+  taken_is : (e : ℕ) → takes aggressive t r.c L e ≡ absorbed g aggressive s r.c e
+  unfolding front_list
+  taken_is e = takes_is g st.graph aggressive t s st.sound st.fits r.c class least e
+
+  no_takes : takes aggressive t r.c L r.c ≡ false
+  unfolding absorbed
+  no_takes = elim (cases_Bool (takes aggressive t r.c L r.c)) [
+    | inr n ↦ n
+    | inl y ↦ absurd (let h : absorbed g aggressive s r.c r.c ≡ true = sym (takes_here r.c) ∙ y in elim (or_cases (holds g s r.c r.c) (aggressive && stands g s r.c && inside g (s.border r.c) (front g s r.c)) h) [
+      | inl k ↦ no_stand (holds_gives g s r.c r.c k).standing
+      | inr k ↦ no_stand (and_parts aggressive (stands g s r.c) (and_parts (aggressive && stands g s r.c) (inside g (s.border r.c) (front g s r.c)) k).0).1
+    ])
+  ]
+    where
+      takes_here : (e : ℕ) → takes aggressive t r.c L e ≡ absorbed g aggressive s r.c e
+      takes_here e = taken_is e
+
+      no_stand : stands g s r.c ≡ true → ⊥
+      no_stand k = let e = (stands_gives g s r.c k).element in let h = class_of r.c f.placed in cc
+
+  pub parents_kept : (e : ℕ) → some_at v.parent.items e ≡ new_lists.parent e
+  unfolding round
+  parents_kept e = elim (cases_eq e r.c) [
+    | inl y ↦ ap (λ n. some_at v.parent.items n) y ∙ f.parents r.c ∙ cond-false (takes aggressive t r.c L r.c) (Some r.c) (t.parent r.c) no_takes
+        ∙ st.fits.parent r.c ∙ st.no_parent r.c (live_from r.c (s.home r.c) (class_of r.c f.placed))
+        ∙ sym (cond-true (e == r.c) None (cond (takes aggressive t r.c L e) (Some r.c) (t.parent e)) (eq-eqb e r.c y))
+    | inr ne ↦ f.parents e ∙ sym (cond-false (e == r.c) None (cond (takes aggressive t r.c L e) (Some r.c) (t.parent e)) (ne_eqb e r.c ne))
+  ]
+
+  -- ---- bounds
+
+  module _ (few : g.size < 2 ^ 64) (border_is : r.border ≡ sum_by t.size (rest aggressive t r.c (gathered t r.c))) (live_is : v.live ≡ left aggressive t r.c (gathered t r.c)) (live_small : v.live ≤ g.size) where
+    least_of : (i : ℕ) → next_bound aggressive t r.c L i ≤ left aggressive t r.c L - new_size aggressive t r.c L i
+    unfolding next_bound
+    least_of i = omega arith
+
+    old_bound : (i : ℕ) → has t.placed i ≡ true → num w.bound.items i < 2 ^ 64
+    old_bound i h = let a = st.keeps.small i h in let b = st.sized.size in omega (arith, a, b, few)
+
+    far_is : (i : ℕ) → has L i ≡ true → cut (sum_by (num r.beyond) (list_at r.kept.elements.items i) + sum_by (num v.size.items) (list_at r.kept.variables.items i)) ≡ cut (far aggressive t r.c L i)
+    unfolding far
+    far_is i l =
+        let h : ℕ → ℕ = λ e. sum_by t.size (filter (λ j. not (has L j)) (t.members e)) in
+        let ke : List ℕ = kept_elements aggressive t r.c L i in let kv : List ℕ = kept_variables aggressive t r.c L i in
+        let one : sum_by (num r.beyond) (list_at r.kept.elements.items i) ≡ sum_by (λ e. cut (h e)) ke = ap (sum_by (num r.beyond)) (f.elements i l) ∙ sum_named (num r.beyond) (λ e. cut (h e)) ke (λ e k. f.beyond i e l k) in
+        let two : sum_by (num v.size.items) (list_at r.kept.variables.items i) ≡ sum_by t.size kv = ap (sum_by (num v.size.items)) (f.variables i l) ∙ sum_named (num v.size.items) t.size kv (λ j k. outside_size j (kept_outside i l j k)) in
+        ap (λ m. cut (m + sum_by (num v.size.items) (list_at r.kept.variables.items i))) one ∙ ap (λ m. cut (sum_by (λ e. cut (h e)) ke + m)) two ∙ cut_sums h ke (sum_by t.size kv)
+
+    made_bound : (i : ℕ) → has M i ≡ true → num v.bound.items i ≡ next_bound aggressive t r.c L i
+    unfolding next_bound
+    made_bound i m = let l = made_front i m in let p = front_placed i l in
+        r.bound_is i ∙ cond-true (has r.made i) _ _ (in_made i ∙ m)
+        ∙ formula (num w.bound.items i) (t.bound i) (cut (sum_by (num r.beyond) (list_at r.kept.elements.items i) + sum_by (num v.size.items) (list_at r.kept.variables.items i))) (far aggressive t r.c L i)
+          r.border (sum_by t.size R) (num v.size.items i) (new_size aggressive t r.c L i) v.live (left aggressive t r.c L) (st.keeps.bound i p) (far_is i l) (old_bound i p) border_is (size_made i m) live_is
+      where
+        formula : (a a' x f' b b' z z' l l' : ℕ) → a ≡ a' → x ≡ cut f' → a < 2 ^ 64 → b ≡ b' → z ≡ z' → l ≡ l' → min (min a x + (b - z)) (l - z) ≡ min (min a' f' + (b' - z')) (l' - z')
+        formula a a' x f' b b' z z' l l' ea ex la eb ez el = let k : min a x ≡ min a' f' = ap (min a) ex ∙ min_cut a f' la ∙ ap (λ n. min n f') ea in rw (k, eb, ez, el) refl
+
+    other_bound : (i : ℕ) → has M i ≡ false → num v.bound.items i ≡ num w.bound.items i
+    other_bound i n = r.bound_is i ∙ cond-false (has r.made i) _ _ (in_made i ∙ n)
+
+    pub bound_kept : (i : ℕ) → has new_lists.placed i ≡ true → num v.bound.items i ≡ new_lists.bound i
+    unfolding round
+    bound_kept i h = elim (cases_Bool (has M i)) [
+      | inl m ↦ made_bound i m ∙ sym (cond-true (has M i) (next_bound aggressive t r.c L i) (t.bound i) m)
+      | inr n ↦ (let p = placed_cases i h n in other_bound i n ∙ st.keeps.bound i p.0 ∙ sym (cond-false (has M i) (next_bound aggressive t r.c L i) (t.bound i) n))
+    ]
+
+    pub small_kept : (i : ℕ) → has new_lists.placed i ≡ true → num v.bound.items i < length v.size.items
+    small_kept i h = let n = (r.sized g.size st.sized).size in elim (cases_Bool (has M i)) [
+      | inl m ↦ (let a = made_bound i m in let b = bound_low i in let k = new_class_size i h in let e = sym (size_kept i h) ∙ size_made i m in
+          let z = live_is in let y = row_small i (front_placed i (made_front i m)) in omega (arith, a, b, k, e, n, z, y, live_small))
+      | inr o ↦ (let p = placed_cases i h o in let a = other_bound i o in let b = st.keeps.small i p.0 in let k = st.sized.size in omega (arith, a, b, k, n))
+    ]
+      where
+        bound_low : (i : ℕ) → next_bound aggressive t r.c L i ≤ left aggressive t r.c L - new_size aggressive t r.c L i
+        bound_low i = least_of i
 
 pub and_false_law : (x : ℕ) → x ≡ x
 and_false_law x = refl
