@@ -530,6 +530,29 @@ module _ {A : Type 0} (g : Graph) (dense : ℕ → Bool) (aggressive : Bool) (w 
     | as_before a b q ↦ q ∙ st.keeps.links.free x (elim h [ inl y ↦ inl (was_live x y) | inr y ↦ was_gone x y ])
   ]
 
+  was_last : (x : ℕ) → new_lists.home x ≡ Last → t.home x ≡ Last
+  was_last x h = elim (home_cases (t.home x)) [
+    | inl z ↦ z
+    | inr (inl (d, z)) ↦ absurd (let m = sym h ∙ new_home_is x ∙ ap moved z in elim (cases_eq d r.c) [
+        | inl y ↦ (let k = m ∙ ap moved (ap Live y) ∙ moved_pivot in cc)
+        | inr ne ↦ elim (cases_Bool (has L d)) [
+          | inl l ↦ elim (cases_Bool (done aggressive t r.c L d)) [
+            | inl k ↦ (let q = m ∙ moved_done d l k in cc)
+            | inr k ↦ (let q = m ∙ moved_rest d (in_left d l k) in cc)
+          ]
+          | inr n ↦ (let q = m ∙ moved_other d (ne_eqb d r.c ne) n in cc)
+        ]
+      ])
+    | inr (inr (e, z)) ↦ absurd (let k = sym h ∙ new_home_is x ∙ ap moved z ∙ moved_gone e in cc)
+  ]
+
+  last_kept : (x : ℕ) → new_lists.home x ≡ Last → some_at v.link.items x ≡ None
+  last_kept x h = elim (new_link x) [
+    | merged k ne q ↦ absurd (let e = sym (rest_home x k) ∙ h in cc)
+    | left_out k d q ↦ absurd (let e = sym (done_home x k d) ∙ h in cc)
+    | as_before a b q ↦ q ∙ st.keeps.links.last x (was_last x h)
+  ]
+
   abbrev old_rank : ℕ → ℕ
   old_rank = st.keeps.links.rank
 
@@ -582,6 +605,7 @@ module _ {A : Type 0} (g : Graph) (dense : ℕ → Bool) (aggressive : Bool) (w 
     linked = linked_kept;
     alone = alone_kept;
     free = free_kept;
+    last = last_kept;
     rank = new_rank;
     top = suc old_top;
     end = record {

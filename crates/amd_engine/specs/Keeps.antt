@@ -49,6 +49,7 @@ pub record LinksLead (links : List (Option ℕ)) (home : ℕ → Home) : Type 0 
   pub linked : (v u : ℕ) → some_at links v ≡ Some u → home v ≡ home u
   pub alone : (v : ℕ) → some_at links v ≡ None → (home v ≡ Live v) ⊎ (home v ≡ Gone v) ⊎ (home v ≡ Last)
   pub free : (v : ℕ) → (home v ≡ Live v) ⊎ (home v ≡ Gone v) → some_at links v ≡ None
+  pub last : (v : ℕ) → home v ≡ Last → some_at links v ≡ None
   pub rank : ℕ → ℕ
   pub top : ℕ
   pub end : LinksEnd links rank top
