@@ -5,3 +5,4 @@ pub mod Permutations
 pub mod Counts
 pub mod Visits
 pub mod Walk
+pub mod Trees

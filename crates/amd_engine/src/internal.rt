@@ -1,11 +1,12 @@
 // Reading numbers of the caller's integer type, and making them. Later proofs speak of the integers alone, and never of the
 // laws of generic numbers. Called by `walk` and `permutations`, by the modules of the crate `amd`, and by `amd_bench`.
 
-ghost use Rattle.std.specs.Prelude.{◌≡◌, ◌<◌, ◌↔◌, ◌<ℤ◌, IsTrue, length, map, pos, slice_index, unsigned_abs};
+ghost use Rattle.std.specs.Prelude.{◌≡◌, ◌<◌, ◌^◌, ◌↔◌, ◌<ℤ◌, IsTrue, length, map, pos, slice_index, slice_set, unsigned_abs};
 ghost use Rattle.std.specs.Int.{FitsUnsignedBits};
 ghost use Rattle.num_traits.specs.Laws.{Checks, ChecksUnsigned};
 ghost use Rattle.amd_model.specs.Input.Columns.{at};
 ghost use Rattle.amd_engine.specs.Counts.{counts};
+ghost use Rattle.amd_engine.specs.Trees.{named};
 
 use num_traits::PrimInt;
 
@@ -71,4 +72,36 @@ pub fn count_at<I: PrimInt>(numbers: &[I], place: usize) -> usize
     ensures count { result ≡ slice_index (counts (map I.value numbers.now)) place }
 {
     known_count(value_at(numbers, place))
+}
+
+/// No place: the end of a list of links, and what an element without a parent has as parent.
+pub const EMPTY: isize = -1;
+
+/// The place that the link at a place names, if it names one.
+#[inline]
+pub fn link_at(links: &[isize], place: usize) -> Option<usize>
+    requires { place < length links.now }
+    ensures { result ≡ named (at links.now place) }
+{
+    usize::try_from(links[place]).ok()
+}
+
+/// Makes the link at a place name another place.
+#[inline]
+pub fn set_link(links: &mut [isize], place: usize, to: usize)
+    requires within { place < length links.old }
+    requires fits { to < 2 ^ 63 }
+    ensures { links.new ≡ slice_set links.old place (pos to) }
+{
+    links[place] = to as isize;
+}
+
+/// Makes the link at a place the same as one of another list.
+#[inline]
+pub fn copy_link(links: &mut [isize], place: usize, from: &[isize], other: usize)
+    requires within { place < length links.old }
+    requires other_within { other < length from.now }
+    ensures { links.new ≡ slice_set links.old place (at from.now other) }
+{
+    links[place] = from[other];
 }

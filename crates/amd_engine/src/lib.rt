@@ -8,4 +8,5 @@ pub mod dense;
 pub mod internal;
 pub mod lists;
 pub mod permutations;
+pub mod post_tree;
 pub mod walk;
