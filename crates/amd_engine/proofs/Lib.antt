@@ -8,3 +8,4 @@ pub mod Ends
 pub mod Arcs
 pub mod Listing
 mod Links
+mod ChildLinks

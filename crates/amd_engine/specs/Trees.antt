@@ -80,28 +80,33 @@ StaysOutside listing old new = (e : ℕ) → has listing e ≡ false → at new 
 
 -- ---- the children
 
--- the link to the last one of largest weight of a list, -1 where it is empty
-abbrev pub heaviest_of : (ℕ → ℕ) → List ℕ → ℤ
-heaviest_of w [] = negsuc 0
-heaviest_of w (e ∷ rest) = pos (heaviest w e rest)
+-- the link to a place, -1 where there is none
+abbrev pub link_of : Option ℕ → ℤ
+link_of None = negsuc 0
+link_of (Some e) = pos e
 
--- the heavier one of what a link names and j; j where they weigh the same, or the link names none
-abbrev pub heavier : (ℕ → ℕ) → ℤ → ℕ → ℤ
-heavier w (negsuc k) j = pos j
-heavier w (pos e) j = pos (cond (nat_le (w e) (w j)) j e)
+-- the last one of largest weight of a list
+abbrev pub heaviest_of : (ℕ → ℕ) → List ℕ → Option ℕ
+heaviest_of w [] = None
+heaviest_of w (e ∷ rest) = Some (heaviest w e rest)
 
--- the links to the heaviest child of each place
-pub record AreHeaviest (t : Tree) (links : List ℤ) : Type 0 where
+-- the heavier one of a node, if there is one, and j; j where they weigh the same
+abbrev pub heavier : (ℕ → ℕ) → Option ℕ → ℕ → ℕ
+heavier w None j = j
+heavier w (Some e) j = cond (nat_le (w e) (w j)) j e
+
+-- no place has a link
+pub record AreUnlinked (nn : ℕ) (links : List ℤ) : Type 0 where
+  pub room : length links ≡ nn
+  pub each : (e : ℕ) → e < nn → at links e ≡ negsuc 0
+
+-- the links from each place to the heaviest of its children below j
+pub record AreHeaviest (t : Tree) (j : ℕ) (links : List ℤ) : Type 0 where
   pub room : length links ≡ t.size
-  pub each : (e : ℕ) → e < t.size → at links e ≡ heaviest_of t.weight (list_below t.size (is_child t e))
+  pub each : (e : ℕ) → e < t.size → at links e ≡ link_of (heaviest_of t.weight (list_below j (is_child t e)))
 
 -- child and sibling link the children of each place
 pub record AreLinked (t : Tree) (child sibling : List ℤ) : Type 0 where
   pub child_room : length child ≡ t.size
   pub sibling_room : length sibling ≡ t.size
   pub each : (e : ℕ) → e < t.size → IsChain sibling (at child e) (children t e)
-
--- no link so far
-pub record AreUnlinked (nn : ℕ) (links : List ℤ) : Type 0 where
-  pub room : length links ≡ nn
-  pub each : (e : ℕ) → e < nn → at links e ≡ negsuc 0

@@ -9,4 +9,5 @@ pub mod internal;
 pub mod lists;
 pub mod permutations;
 pub mod post_tree;
+pub mod postorder;
 pub mod walk;
