@@ -9,3 +9,4 @@ pub mod Arcs
 pub mod Listing
 mod Links
 mod ChildLinks
+mod ChildChains
