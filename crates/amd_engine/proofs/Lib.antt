@@ -10,3 +10,5 @@ pub mod Listing
 mod Links
 mod ChildLinks
 mod ChildChains
+mod ForestListings
+mod TreeNumbers
