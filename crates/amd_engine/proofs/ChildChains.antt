@@ -1,5 +1,5 @@
 -- The chains of children while they grow at the front: rising, and the heaviest one at the end from the first.
-use Rattle.std.proofs.Common.{eqb, Bool, Option, None, Some, ◌≡◌, ◌≢◌, ◌+◌, ◌<◌, ◌≤◌, ◌⊎◌, ◌==◌, not, inl, inr, ℕ, ℤ, zero, suc, pos, negsuc, true, false, cond, List, [], ◌∷◌, ◌++◌, length, refl, sym, ◌∙◌, ap, subst, arith}
+use Rattle.std.proofs.Common.{eqb, Option, None, Some, ◌≡◌, ◌≢◌, ◌<◌, ◌⊎◌, ◌==◌, not, inl, inr, ℕ, ℤ, suc, pos, negsuc, true, false, cond, List, [], ◌∷◌, ◌++◌, length, refl, sym, ◌∙◌, ap, subst, arith}
 use Rattle.std.specs.Prelude.{filter}
 use Rattle.std.specs.Option.{option_eq}
 use Rattle.std.proofs.Math.ListN.{set}
@@ -10,7 +10,7 @@ use Rattle.amd_model.specs.Input.Columns.{at}
 use Rattle.amd_model.specs.Listing.{Tree, is_child, heaviest_last, children}
 use Rattle.amd_model.specs.Tie.{has, Once}
 use Rattle.amd_model.proofs.BelowLemmas.{clash}
-use Rattle.amd_model.proofs.ListingLemmas.{has_head, has_tail, has_none, has_cases, has_append, has_left, has_right, has_below, below_has, has_filter}
+use Rattle.amd_model.proofs.ListingLemmas.{has_head, has_tail, has_none, has_cases, has_append, has_right, has_below, below_has, has_filter}
 use Rattle.amd_model.proofs.TieStart.{once_below}
 use Rattle.amd_engine.specs.Trees.{IsChain, named, link_of, heaviest_of, AreUnlinked, AreHeaviest, AreLinked}
 use Rattle.amd_engine.proofs.Links.{once_parts}
@@ -116,8 +116,12 @@ module _ (t : Tree) (j p : ℕ) (its : is_child t p j ≡ true) (other : (e : �
   }
     where
       here : GoesFrom t (suc j) child sibling p → GoesFrom t j child sibling p
-      here r = (j ∷ r.0, one_more r.0 r.1, subst (λ o. IsChain sibling (at child p) (with_last o (j ∷ r.0))) (sym is)
-          (subst (IsChain sibling (at child p)) (sym (with_last_skip j r.0)) (subst (λ o. IsChain sibling (at child p) (with_last o r.0)) is r.2)))
+      here r = (
+        j ∷ r.0,
+        one_more r.0 r.1,
+        subst (λ o. IsChain sibling (at child p) (with_last o (j ∷ r.0))) (sym is)
+            (subst (IsChain sibling (at child p)) (sym (with_last_skip j r.0)) (subst (λ o. IsChain sibling (at child p) (with_last o r.0)) is r.2)),
+      )
 
   -- another child is put in front of the others
   pub chains_take : (big t p ≡ Some j → ⊥) → j < t.size → p < t.size → AreLinkedFrom t (suc j) child sibling → AreLinkedFrom t j (set child p (pos j)) (set sibling j (at child p))
@@ -131,11 +135,15 @@ module _ (t : Tree) (j p : ℕ) (its : is_child t p j ≡ true) (other : (e : �
   }
     where
       there : (e : ℕ) → e ≢ p → GoesFrom t (suc j) child sibling e → GoesFrom t (suc j) (set child p (pos j)) (set sibling j (at child p)) e
-      there e ne r = (r.0, r.1, subst (λ z. IsChain (set sibling j (at child p)) z (with_last (big t e) r.0)) (sym (get_or-set_other child p e (pos j) (pos 0) ne))
-          (chain_kept sibling j (at child p) (at child e) (with_last (big t e) r.0) (λ k. clash (elim (with_last_has (big t e) r.0 j k) [
-            | inl b ↦ (has_below t.size (is_child t e) j (subst (λ m. has m j ≡ true) (sym r.1) (has_right j (list_below (suc j) (is_child t e)) r.0 b))).1
-            | inr b ↦ big_child t e j b
-          ]) (other e ne)) r.2))
+      there e ne r = (
+        r.0,
+        r.1,
+        subst (λ z. IsChain (set sibling j (at child p)) z (with_last (big t e) r.0)) (sym (get_or-set_other child p e (pos j) (pos 0) ne))
+            (chain_kept sibling j (at child p) (at child e) (with_last (big t e) r.0) (λ k. clash (elim (with_last_has (big t e) r.0 j k) [
+              | inl b ↦ (has_below t.size (is_child t e) j (subst (λ m. has m j ≡ true) (sym r.1) (has_right j (list_below (suc j) (is_child t e)) r.0 b))).1
+              | inr b ↦ big_child t e j b
+            ]) (other e ne)) r.2),
+      )
 
       here : GoesFrom t (suc j) child sibling p → GoesFrom t j (set child p (pos j)) (set sibling j (at child p)) p
       here r =
@@ -148,9 +156,12 @@ module _ (t : Tree) (j p : ℕ) (its : is_child t p j ≡ true) (other : (e : �
           ]) in
           let rest : IsChain sibling' (at sibling' j) (with_last (big t p) r.0) =
           subst (λ z. IsChain sibling' z (with_last (big t p) r.0)) (sym (get_or-set_same sibling j (at child p) (pos 0) (let q = l.sibling_room in omega (arith, small, q))))
-          (chain_kept sibling j (at child p) (at child p) (with_last (big t p) r.0) apart r.2) in
-          (j ∷ r.0, one_more r.0 r.1, subst (IsChain sibling' (at (set child p (pos j)) p)) (sym (with_last_take (big t p) j r.0 not_big))
-          (get_or-set_same child p (pos j) (pos 0) (let q = l.child_room in omega (arith, above, q)), rest))
+          (chain_kept sibling j (at child p) (at child p) (with_last (big t p) r.0) apart r.2) in (
+            j ∷ r.0,
+            one_more r.0 r.1,
+            subst (IsChain sibling' (at (set child p (pos j)) p)) (sym (with_last_take (big t p) j r.0 not_big))
+                (get_or-set_same child p (pos j) (pos 0) (let q = l.child_room in omega (arith, above, q)), rest),
+          )
 
 pub same_option : (o : Option ℕ) (j : ℕ) → option_eq eqb o (Some j) ≡ true → o ≡ Some j
 same_option None j h = absurd (false≢true h)

@@ -1,18 +1,16 @@
 -- Links to children: the heaviest child of each place, and the chain of the children with the heaviest one last.
-use Rattle.std.proofs.Common.{Bool, Option, None, Some, ◌≡◌, ◌≢◌, ◌+◌, ◌<◌, ◌≤◌, ◌&&◌, ◌⊎◌, ◌==◌, not, inl, inr, ℕ, ℤ, zero, suc, pos, negsuc, true, false, cond, List, [], ◌∷◌, ◌++◌, length, refl, sym, ◌∙◌, ap, subst, arith}
+use Rattle.std.proofs.Common.{Bool, Option, None, Some, ◌≡◌, ◌≢◌, ◌<◌, ◌&&◌, inl, inr, ℕ, ℤ, suc, pos, negsuc, true, false, cond, List, [], ◌∷◌, ◌++◌, length, refl, sym, ◌∙◌, ap, subst, arith}
 use Rattle.std.specs.Prelude.{IfSome, ◌≤ℤ◌, filter, nat_le, unsigned_abs}
 use Rattle.std.proofs.Math.ListN.{set}
 use Rattle.std.proofs.lemmas.Bool.{cases_eq, cases_Bool, true≢false, false≢true, false_from_ne_true, and_parts, and_from, eqb-true, eq-eqb, ne_eqb, not_from_false, not_from_true}
-use Rattle.std.proofs.lemmas.List.{append_assoc, append-nil, length-set, get_or-set_same, get_or-set_other}
+use Rattle.std.proofs.lemmas.List.{append-nil, length-set, get_or-set_same, get_or-set_other}
 use Rattle.amd_model.specs.Below.{list_below}
 use Rattle.amd_model.specs.Input.Columns.{at}
-use Rattle.amd_model.specs.Listing.{is_some_of, is_child, heaviest, heaviest_last, children}
-use Rattle.amd_model.specs.Tie.{has, Once}
-use Rattle.amd_model.proofs.BelowLemmas.{clash}
-use Rattle.amd_model.proofs.ListingLemmas.{has_head, has_tail, has_none, has_cases, has_append, has_left, has_right, has_below, has_filter, heaviest_in}
-use Rattle.amd_model.proofs.TieStart.{once_below}
-use Rattle.amd_engine.specs.Trees.{is_element, named, tree_of, IsForest, IsChain, link_of, heaviest_of, heavier, AreUnlinked, AreHeaviest, AreLinked}
-use Rattle.amd_engine.proofs.Links.{once_parts, names_some}
+use Rattle.amd_model.specs.Listing.{is_some_of, is_child, heaviest}
+use Rattle.amd_model.specs.Tie.{has}
+use Rattle.amd_model.proofs.ListingLemmas.{has_below, heaviest_in}
+use Rattle.amd_engine.specs.Trees.{is_element, named, tree_of, IsForest, link_of, heaviest_of, heavier, AreUnlinked, AreHeaviest}
+use Rattle.amd_engine.proofs.Links.{names_some}
 
 -- ---- lists of the numbers below a bound
 
@@ -81,11 +79,14 @@ module _ (nn : ℕ) (parent nv f_size : List ℤ) (forest : IsForest nn parent n
   unfolding is_child is_some_of
   child_gives e j h =
       let r = and_parts (is_element nn nv j) (is_some_of e (named (at parent j))) h in
-      let link : at parent j ≡ pos e = names_some (at parent j) e (sym (some (named (at parent j)) r.1)) in
-      (r.0, link, elim (forest.parents j r.0) [
-        | inl q ↦ absurd (let b : negsuc 0 ≡ pos e = sym q ∙ link in cc)
-        | inr q ↦ subst (λ m. is_element nn nv m ≡ true) (let b : pos q.0 ≡ pos e = sym q.1 ∙ link in let s : q.0 ≡ e = cc in s) q.2
-      ])
+      let link : at parent j ≡ pos e = names_some (at parent j) e (sym (some (named (at parent j)) r.1)) in (
+        r.0,
+        link,
+        elim (forest.parents j r.0) [
+          | inl q ↦ absurd (let b : negsuc 0 ≡ pos e = sym q ∙ link in cc)
+          | inr q ↦ subst (λ m. is_element nn nv m ≡ true) (let b : pos q.0 ≡ pos e = sym q.1 ∙ link in let s : q.0 ≡ e = cc in s) q.2
+        ],
+      )
     where
       some : (o : Option ℕ) → is_some_of e o ≡ true → o ≡ Some e
       some None q = absurd (false≢true q)

@@ -1,5 +1,5 @@
 -- Listings of trees whose nodes have ranks that rise upwards: each tree has one, and it names its nodes, each once.
-use Rattle.std.proofs.Common.{Bool, Option, None, Some, ◌≡◌, ◌≢◌, ◌+◌, ◌<◌, ◌≤◌, ◌&&◌, ◌⊎◌, inl, inr, ℕ, zero, suc, true, false, List, [], ◌∷◌, ◌++◌, refl, sym, ◌∙◌, ap, subst, arith, is_none}
+use Rattle.std.proofs.Common.{Bool, Option, None, Some, ◌≡◌, ◌+◌, ◌<◌, ◌≤◌, ◌&&◌, ◌⊎◌, inl, inr, ℕ, zero, suc, true, List, [], ◌∷◌, ◌++◌, refl, sym, ◌∙◌, ap, subst, arith, is_none}
 use Rattle.std.proofs.lemmas.Bool.{false_from_ne_true, false≢true, and_parts, and_from, eqb-true, eq-eqb}
 use Rattle.std.proofs.lemmas.List.{append_assoc}
 use Rattle.amd_model.specs.Below.{list_below, sum_below}

@@ -1,18 +1,17 @@
 -- The trees of the roots, numbered one after another: links to the children of each node hold its trees.
-use Rattle.std.proofs.Common.{Bool, Option, None, Some, ◌≡◌, ◌≢◌, ◌+◌, ◌-◌, ◌<◌, ◌≤◌, ◌&&◌, ◌⊎◌, inl, inr, ℕ, ℤ, zero, suc, pos, negsuc, true, false, List, [], ◌∷◌, ◌++◌, length, refl, sym, ◌∙◌, ap, subst, arith, is_none}
+use Rattle.std.proofs.Common.{Option, ◌≡◌, ◌+◌, ◌-◌, ◌<◌, ◌≤◌, ◌&&◌, inl, inr, ℕ, ℤ, suc, pos, negsuc, true, false, List, [], ◌∷◌, ◌++◌, length, refl, sym, ◌∙◌, ap, subst, arith, is_none}
 use Rattle.std.specs.Prelude.{slice_index}
-use Rattle.std.proofs.lemmas.Bool.{cases_lt, false_from_ne_true, or_parts, and_parts, true≢false}
-use Rattle.std.proofs.lemmas.List.{append_assoc, append-nil, length-append, get_or_append_left, get_or-append_right}
-use Rattle.amd_model.specs.Below.{list_below}
+use Rattle.std.proofs.lemmas.Bool.{cases_lt, false_from_ne_true, or_parts, and_parts}
+use Rattle.std.proofs.lemmas.List.{length-append, get_or_append_left, get_or-append_right}
 use Rattle.amd_model.specs.Input.Columns.{at}
 use Rattle.amd_model.specs.Listing.{Tree, children, roots, ListsTrees, none as no_trees, more as more_trees}
 use Rattle.amd_model.specs.Tie.{has, Once}
 use Rattle.amd_model.proofs.BelowLemmas.{clash}
-use Rattle.amd_model.proofs.ListingLemmas.{has_head, has_tail, has_none, has_left, has_right}
+use Rattle.amd_model.proofs.ListingLemmas.{has_head, has_left, has_right}
 use Rattle.amd_model.proofs.Places.{has_place, places_differ}
 use Rattle.amd_model.proofs.Points.{pigeonhole}
 use Rattle.amd_model.proofs.TieLists.{has_append as append_names}
-use Rattle.amd_engine.specs.Trees.{is_element, named, tree_of, IsForest, IsChain, ListsLinks, none, more, ListsTree, FitsTree, NumbersFrom, StaysOutside, AreLinked, AreUnlinked, IsPostorderOf}
+use Rattle.amd_engine.specs.Trees.{is_element, tree_of, IsForest, IsChain, ListsLinks, none, more, ListsTree, FitsTree, NumbersFrom, StaysOutside, AreLinked, AreUnlinked, IsPostorderOf}
 use Rattle.amd_engine.proofs.Links.{once_parts, once_back, links_kept, names_some}
 use Rattle.amd_engine.proofs.ChildLinks.{below_skip, below_take, below_none, element_small}
 use Rattle.amd_engine.proofs.ForestListings.{IsRanked, AreSiblings, head_node, tail_siblings, children_siblings, roots_below, roots_siblings, trees_append, listed_from, trees_distinct, tree_listed, each_node}

@@ -1,7 +1,6 @@
-use Rattle.std.proofs.Common.{◌≡◌, ◌-◌, Option, None, Some, ℕ, suc, true, false, subst, sym, ap, ◌∙◌, arith, rules}
-use Rattle.amd_model.specs.Input.Columns.{at}
-use Rattle.amd_engine.specs.Trees.{named, heaviest_of, tree_of}
-use Rattle.amd_engine.proofs.ChildLinks.{no_child, its_child, other_child, child_gives, element_small, named_link}
+use Rattle.std.proofs.Common.{◌≡◌, ◌-◌, Some, suc, subst, sym, ◌∙◌, arith}
+use Rattle.amd_engine.specs.Trees.{tree_of}
+use Rattle.amd_engine.proofs.ChildLinks.{no_child, its_child, other_child, child_gives, element_small}
 use Rattle.amd_engine.proofs.ChildChains.{AreLinkedFrom, big, chains_start, chains_end, chains_skip, chains_heaviest, chains_take, same_option, other_option, big_is}
 use Rattle.amd_engine.proofs.postorder.link_children.Goals as goal
 

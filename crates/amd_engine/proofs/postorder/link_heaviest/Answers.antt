@@ -1,8 +1,7 @@
-use Rattle.std.proofs.Common.{◌≡◌, ◌<◌, ◌∙◌, ℕ, pos, length, sym, ap, arith, add-one}
+use Rattle.std.proofs.Common.{◌≡◌, ◌<◌, ◌∙◌, pos, length, sym, ap, add-one}
 use Rattle.std.specs.Prelude.{◌≤ℤ◌, unsigned_abs}
-use Rattle.std.proofs.Math.ListN.{set}
 use Rattle.amd_model.specs.Input.Columns.{at}
-use Rattle.amd_engine.specs.Trees.{heavier, named, AreHeaviest, tree_of}
+use Rattle.amd_engine.specs.Trees.{heavier, named}
 use Rattle.amd_engine.proofs.Links.{names_some}
 use Rattle.amd_engine.proofs.ChildLinks.{heaviest_start, heaviest_skip, heaviest_take, heaviest_sized, if_some, its_child, child_gives, element_small}
 use Rattle.amd_engine.proofs.postorder.link_heaviest.Goals as goal

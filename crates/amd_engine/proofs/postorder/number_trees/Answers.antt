@@ -1,4 +1,4 @@
-use Rattle.std.proofs.Common.{◌≡◌, ◌&&◌, Bool, true, false, length, sym, ap, ◌∙◌, subst, arith, add-one, is_none}
+use Rattle.std.proofs.Common.{◌≡◌, ◌&&◌, true, false, sym, ap, ◌∙◌, subst, arith, add-one, is_none}
 use Rattle.amd_model.specs.Input.Columns.{at}
 use Rattle.amd_engine.specs.Trees.{is_element, named, tree_of}
 use Rattle.amd_engine.proofs.TreeNumbers.{AreNumbered, ranked, numbers_start, numbers_skip, numbers_take, numbers_end, fits}

@@ -1,4 +1,4 @@
-use Rattle.std.proofs.Common.{◌≡◌, List, ℤ, length, sym, ap, ◌∙◌, subst, arith}
+use Rattle.std.proofs.Common.{◌≡◌, length, sym, ◌∙◌, subst, arith}
 use Rattle.std.proofs.lemmas.List.{take_at}
 use Rattle.amd_engine.specs.Trees.{tree_of, AreHeaviest, AreLinked}
 use Rattle.amd_engine.proofs.postorder.postorder.Goals as goal
