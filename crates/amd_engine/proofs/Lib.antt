@@ -12,3 +12,8 @@ pub mod FrontShares
 pub mod CutSums
 pub mod Named
 pub mod RoundLaw
+mod Links
+mod ChildLinks
+mod ChildChains
+mod ForestListings
+mod TreeNumbers

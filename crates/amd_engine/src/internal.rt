@@ -2,12 +2,13 @@
 // laws of generic numbers. Called by `walk` and `permutations`, by the modules of the crate `amd`, and by `amd_bench`.
 // At the end, the shares of a front in the figures, called by `figures`: the rule is that of the AMD user guide.
 
-ghost use Rattle.std.specs.Prelude.{◌≡◌, ◌<◌, ◌↔◌, ◌<ℤ◌, IsTrue, length, map, pos, slice_index, unsigned_abs};
+ghost use Rattle.std.specs.Prelude.{◌≡◌, ◌<◌, ◌^◌, ◌↔◌, ◌<ℤ◌, IsTrue, length, map, pos, slice_index, slice_set, unsigned_abs};
 ghost use Rattle.std.specs.Int.{FitsUnsignedBits};
 ghost use Rattle.num_traits.specs.Laws.{Checks, ChecksUnsigned};
 ghost use Rattle.amd_model.specs.Figures.{cut, entries, front_sum, ldl_steps, lu_steps};
 ghost use Rattle.amd_model.specs.Input.Columns.{at};
 ghost use Rattle.amd_engine.specs.Counts.{counts};
+ghost use Rattle.amd_engine.specs.Trees.{named};
 
 use num_traits::PrimInt;
 
@@ -108,4 +109,34 @@ pub fn front_counts(f: usize, r: usize) -> (usize, usize, usize)
         .saturating_add(squares);
     let ldl = lu.saturating_add(lnz) / 2;
     (cut_to_count(lnz), cut_to_count(ldl), cut_to_count(lu))
+/// No place: the end of a list of links, and what an element without a parent has as parent.
+pub const EMPTY: isize = -1;
+
+/// The place that the link at a place names, if it names one.
+#[inline]
+pub fn link_at(links: &[isize], place: usize) -> Option<usize>
+    requires { place < length links.now }
+    ensures { result ≡ named (at links.now place) }
+{
+    usize::try_from(links[place]).ok()
+}
+
+/// Makes the link at a place name another place.
+#[inline]
+pub fn set_link(links: &mut [isize], place: usize, to: usize)
+    requires within { place < length links.old }
+    requires fits { to < 2 ^ 63 }
+    ensures { links.new ≡ slice_set links.old place (pos to) }
+{
+    links[place] = to as isize;
+}
+
+/// Makes the link at a place the same as one of another list.
+#[inline]
+pub fn copy_link(links: &mut [isize], place: usize, from: &[isize], other: usize)
+    requires within { place < length links.old }
+    requires other_within { other < length from.now }
+    ensures { links.new ≡ slice_set links.old place (at from.now other) }
+{
+    links[place] = from[other];
 }

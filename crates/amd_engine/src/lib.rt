@@ -17,4 +17,6 @@ pub mod permutations;
 pub mod plain;
 pub mod scratch;
 pub mod work;
+pub mod post_tree;
+pub mod postorder;
 pub mod walk;

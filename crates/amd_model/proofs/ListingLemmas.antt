@@ -63,7 +63,7 @@ has_filter p xs u h = and_parts (has xs u) (p u) (sym (filter_names p xs u) ∙ 
 pub filter_has : (p : ℕ → Bool) (xs : List ℕ) (u : ℕ) → has xs u ≡ true → p u ≡ true → has (filter p xs) u ≡ true
 filter_has p xs u h k = filter_names p xs u ∙ and_from (has xs u) (p u) h k
 
-heaviest_in : (w : ℕ → ℕ) (e : ℕ) (xs : List ℕ) → has (e ∷ xs) (heaviest w e xs) ≡ true
+pub heaviest_in : (w : ℕ → ℕ) (e : ℕ) (xs : List ℕ) → has (e ∷ xs) (heaviest w e xs) ≡ true
 unfolding heaviest
 heaviest_in w e [] = has_head e e [] refl
 heaviest_in w e (k ∷ rest) = go (nat_le (w e) (w k)) (λ b. heaviest_in w (cond b k e) rest)
@@ -73,7 +73,7 @@ heaviest_in w e (k ∷ rest) = go (nat_le (w e) (w k)) (λ b. heaviest_in w (con
     go false on = elim (has_cases (heaviest w e rest) e rest (on false)) [ inl q ↦ has_head (heaviest w e rest) e (k ∷ rest) q | inr q ↦ has_tail (heaviest w e rest) e (k ∷ rest) (has_tail (heaviest w e rest) k rest q) ]
 
 -- moving the heaviest keeps the members
-moved_has : (w : ℕ → ℕ) (xs : List ℕ) (u : ℕ) → has xs u ≡ true → has (heaviest_last w xs) u ≡ true
+pub moved_has : (w : ℕ → ℕ) (xs : List ℕ) (u : ℕ) → has xs u ≡ true → has (heaviest_last w xs) u ≡ true
 unfolding heaviest_last
 moved_has w [] u h = h
 moved_has w (k ∷ rest) u h = let m : ℕ = heaviest w k rest in elim (cases_eq u m) [
@@ -81,7 +81,7 @@ moved_has w (k ∷ rest) u h = let m : ℕ = heaviest w k rest in elim (cases_eq
   | inr ne ↦ has_left u (filter (λ x. not (x == m)) (k ∷ rest)) (m ∷ []) (filter_has (λ x. not (x == m)) (k ∷ rest) u h (not_from_false (u == m) (ne_eqb u m ne)))
 ]
 
-has_moved : (w : ℕ → ℕ) (xs : List ℕ) (u : ℕ) → has (heaviest_last w xs) u ≡ true → has xs u ≡ true
+pub has_moved : (w : ℕ → ℕ) (xs : List ℕ) (u : ℕ) → has (heaviest_last w xs) u ≡ true → has xs u ≡ true
 unfolding heaviest_last
 has_moved w [] u h = h
 has_moved w (k ∷ rest) u h = let m : ℕ = heaviest w k rest in elim (has_append u (filter (λ x. not (x == m)) (k ∷ rest)) (m ∷ []) h) [
@@ -89,7 +89,7 @@ has_moved w (k ∷ rest) u h = let m : ℕ = heaviest w k rest in elim (has_appe
   | inr a ↦ elim (has_cases u m [] a) [ inl q ↦ subst (λ z. has (k ∷ rest) z ≡ true) (sym q) (heaviest_in w k rest) | inr q ↦ absurd (has_none u q) ]
 ]
 
-distinct_moved : (w : ℕ → ℕ) (xs : List ℕ) → Once xs → Once (heaviest_last w xs)
+pub distinct_moved : (w : ℕ → ℕ) (xs : List ℕ) → Once xs → Once (heaviest_last w xs)
 unfolding heaviest_last
 distinct_moved w [] d = d
 distinct_moved w (k ∷ rest) d = let m : ℕ = heaviest w k rest in

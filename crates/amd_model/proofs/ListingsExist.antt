@@ -13,7 +13,7 @@ use Rattle.amd_model.proofs.EndState.{IsEnd, at_the_end}
 use Rattle.amd_model.specs.Tie.{has}
 
 -- subtrees can be listed one after another if the children of each can
-each_listed : (t : Tree) (es : List ℕ) → ((e : ℕ) → has es e ≡ true → (xs : List ℕ) × ListsTrees t (children t e) xs) → (xs : List ℕ) × ListsTrees t es xs
+pub each_listed : (t : Tree) (es : List ℕ) → ((e : ℕ) → has es e ≡ true → (xs : List ℕ) × ListsTrees t (children t e) xs) → (xs : List ℕ) × ListsTrees t es xs
 each_listed t [] f = ([], none)
 each_listed t (e ∷ rest) f =
     let below = f e (has_head e e rest refl) in
