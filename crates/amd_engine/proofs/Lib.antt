@@ -6,4 +6,5 @@ pub mod Scans
 pub mod Uppers
 pub mod Ends
 pub mod Arcs
+pub mod Orders
 pub mod Listing

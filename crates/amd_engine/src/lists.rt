@@ -2,11 +2,12 @@
 // the order in which the walk meets the edges of its row. Source: Amestoy, Davis and Duff 2004. Called by tests alone so far;
 // an engine will start from them.
 
-ghost use Rattle.std.specs.Prelude.{◌≡◌, ◌<◌, ◌≤◌, ℕ, pos, map, length, slice_index, IfOk};
+ghost use Rattle.std.specs.Prelude.{◌≡◌, ◌<◌, ◌≤◌, ℕ, pos, map, length, slice_index, slice_range, IfOk};
 ghost use Rattle.amd_model.specs.Below.{sum_below};
 ghost use Rattle.amd_model.specs.Input.Columns.{IsColumnForm, IsSorted};
-ghost use Rattle.amd_model.specs.Input.Pattern.{graph_of};
-ghost use Rattle.amd_engine.specs.Visits.{AreCounts, AreLists, start_of};
+ghost use Rattle.amd_model.specs.Input.Pattern.{graph_of, is_pair};
+ghost use Rattle.amd_model.specs.Tie.{met_edges, starting_list};
+ghost use Rattle.amd_engine.specs.Visits.{AreCounts, AreLists, arcs_of, start_of};
 
 use crate::walk::{Visitor, walk};
 use num_traits::PrimInt;
@@ -22,7 +23,7 @@ pub struct Lists<A: Allocator> {
 }
 
 impl<A: Allocator> Visitor for Lists<A> {
-    ghost holds = { λ g seen l. AreLists g seen l.next.items l.rows.items };
+    ghost holds = { λ g seen arcs l. AreLists g seen arcs l.next.items l.rows.items };
 
     fn arc(&mut self, i: usize, j: usize) {
         let place = self.next[i];
@@ -51,8 +52,8 @@ fn starts<A: Allocator + Copy>(
 
 /// The lists of the neighbours of each of `size` rows, whose degrees are known, in a workspace of `room` places.
 ///
-/// List `i` starts where the degrees before `i` add up to, and ends at `next[i]`. The contract says neither the order in a list
-/// (a test shows it) nor that `rows` has no further place.
+/// List `i` starts where the degrees before `i` add up to, and ends at `next[i]`. Its entries stand in the order in which the walk
+/// meets the edges. The contract does not say that `rows` has no further place.
 ///
 /// # Errors
 ///
@@ -69,7 +70,8 @@ pub fn neighbours<I: PrimInt, A: Allocator + Copy>(
     requires sorted { IsSorted size (map I.value a_p.now) (map I.value a_i.now) }
     requires degrees { AreCounts (graph_of size (map I.value a_p.now) (map I.value a_i.now)) ((graph_of size (map I.value a_p.now) (map I.value a_i.now)).edge) degrees.now }
     requires room { start_of (graph_of size (map I.value a_p.now) (map I.value a_i.now)) size ≤ room }
-    ensures { IfOk result (λ l. AreLists (graph_of size (map I.value a_p.now) (map I.value a_i.now)) ((graph_of size (map I.value a_p.now) (map I.value a_i.now)).edge) l.next.items l.rows.items) }
+    ensures lists { IfOk result (λ l. AreLists (graph_of size (map I.value a_p.now) (map I.value a_i.now)) ((graph_of size (map I.value a_p.now) (map I.value a_i.now)).edge) (arcs_of (met_edges size (is_pair size (map I.value a_p.now) (map I.value a_i.now)))) l.next.items l.rows.items) }
+    ensures order { IfOk result (λ l. (i : ℕ) → i < size → slice_range l.rows.items (start_of (graph_of size (map I.value a_p.now) (map I.value a_i.now)) i) (slice_index l.next.items i) ≡ starting_list size (is_pair size (map I.value a_p.now) (map I.value a_i.now)) i) }
 {
     let next = starts(alloc, degrees, room)?;
     let mut pointers = Vec::with_capacity(alloc, size)?;
