@@ -7,4 +7,5 @@ pub mod Uppers
 pub mod Ends
 pub mod Arcs
 pub mod Orders
+pub mod RowLists
 pub mod Listing
