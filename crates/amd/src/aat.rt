@@ -22,7 +22,7 @@ struct Counts<A: Allocator> {
 }
 
 impl<A: Allocator> Visitor for Counts<A> {
-    ghost holds = { λ g seen v. AreCounts g seen v.degrees.items };
+    ghost holds = { λ g seen arcs v. AreCounts g seen v.degrees.items };
 
     fn arc(&mut self, i: usize, j: usize) {
         self.degrees[i] += 1;

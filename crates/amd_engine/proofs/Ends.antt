@@ -33,6 +33,7 @@ module _ (n : ℕ) (ap' ai : List ℕ) (form : IsSortedForm n ap' ai) (t : List 
     low = λ a r x y z w. absurd (omega arith);
     unset = λ a x. start_zeros size a;
     passed = λ a c r x y z w l h le. elim z [ inl v ↦ absurd (omega arith) | inr v ↦ (let u = v.1 in absurd (omega arith)) ];
+    reached = λ a r x y h. (let z = start_zeros size a in absurd (omega arith));
   }
 
   -- there is no column n

@@ -6,6 +6,8 @@ pub mod Scans
 pub mod Uppers
 pub mod Ends
 pub mod Arcs
+pub mod Orders
+pub mod RowLists
 pub mod Listing
 pub mod Rounding
 pub mod FrontShares

@@ -1,12 +1,14 @@
 -- The lists of the arcs of each row, one arc more.
-use Rattle.std.proofs.Common.{◌≡◌, ◌≢◌, ◌+◌, ◌-◌, ◌<◌, ◌≤◌, ◌⊎◌, inl, inr, ℕ, zero, suc, Bool, true, false, List, length, get_or, set, get_or-set_same, get_or-set_other, arith, refl, ap, sym, ◌∙◌, subst, eqb, ◌++◌, ◌∷◌, []}
+use Rattle.std.proofs.Common.{◌≡◌, ◌≢◌, ◌+◌, ◌-◌, ◌<◌, ◌≤◌, ◌⊎◌, inl, inr, ℕ, zero, suc, Bool, true, false, List, length, get_or, take, drop, length-drop, set, get_or-set_same, get_or-set_other, arith, refl, ap, sym, ◌∙◌, subst, eqb, ◌++◌, ◌∷◌, []}
 use Rattle.std.proofs.lemmas.Bool.{or_cases, or_left, or_right, cases_eq, cases_lt, true≢false, eqb-true, eq-eqb}
-use Rattle.std.proofs.lemmas.List.{length-set, get_or_append_left, get_or_push}
+use Rattle.std.specs.Prelude.{slice_range}
+use Rattle.std.proofs.lemmas.List.{length-set, get_or_append_left, get_or_push, drop-set-lt, drop-set-add, take-set-le, take_more_set}
 use Rattle.amd_model.specs.Below.{sum_below, count_below}
 use Rattle.amd_model.specs.Graph.{Graph}
 use Rattle.amd_model.proofs.BelowLemmas.{sum_same, count_mono}
-use Rattle.amd_engine.specs.Visits.{IsNew, with_arc, AreCounts, AreLists, start_of}
+use Rattle.amd_engine.specs.Visits.{IsNew, with_arc, AreCounts, AreLists, start_of, ends_of}
 use Rattle.amd_engine.proofs.Arcs.{arc_same, arc_here, arc_counts, arc_room, count_none}
+use Rattle.amd_engine.proofs.Orders.{ends_same, ends_other}
 
 start_next : (g : Graph) (i : ℕ) → start_of g (suc i) ≡ start_of g i + count_below g.size (g.edge i)
 unfolding start_of sum_below
@@ -19,7 +21,25 @@ start_stretch g i (suc d) = (let e : i + suc d ≡ suc (i + d) = omega arith in 
 pub start_later : (g : Graph) (i j : ℕ) → i < j → start_of g i + count_below g.size (g.edge i) ≤ start_of g j
 start_later g i j h = (let e : suc i + (j - suc i) ≡ j = omega arith in let w : start_of g (suc i) ≤ start_of g j = subst (λ z. start_of g (suc i) ≤ start_of g z) e (start_stretch g (suc i) (j - suc i)) in let n = start_next g i in omega (arith, w, n))
 
-module _ (g : Graph) (seen : ℕ → ℕ → Bool) (i j : ℕ) (new : IsNew g seen i j) (next rows : List ℕ) (h : AreLists g seen next rows) where
+-- a stretch of a list, where a number is written behind it, and where it is written outside
+stretch_more : (rows : List ℕ) (s e j : ℕ) → s ≤ e → e < length rows → slice_range (set rows e j) s (e + 1) ≡ slice_range rows s e ++ j ∷ []
+stretch_more rows s e j low high =
+    let at : s + (e - s) ≡ e = omega arith in
+    let long : e + 1 - s ≡ e - s + 1 = omega arith in
+    let within : e - s < length (drop s rows) = (let l = length-drop s rows in omega (arith, l)) in
+    let moved : drop s (set rows e j) ≡ set (drop s rows) (e - s) j = subst (λ x. drop s (set rows x j) ≡ set (drop s rows) (e - s) j) at (drop-set-add s rows (e - s) j) in
+    rw (moved, long) (take_more_set (drop s rows) (e - s) j within)
+
+stretch_same : (rows : List ℕ) (s e v j : ℕ) → (v < s) ⊎ (e ≤ v) → slice_range (set rows v j) s e ≡ slice_range rows s e
+stretch_same rows s e v j (inl x) = ap (take (e - s)) (drop-set-lt s rows v j x)
+stretch_same rows s e v j (inr x) = elim (cases_lt v s) [
+  | inl y ↦ ap (take (e - s)) (drop-set-lt s rows v j y)
+  | inr y ↦ (let at : s + (v - s) ≡ v = omega arith in
+      let moved : drop s (set rows v j) ≡ set (drop s rows) (v - s) j = subst (λ x. drop s (set rows x j) ≡ set (drop s rows) (v - s) j) at (drop-set-add s rows (v - s) j) in
+      ap (take (e - s)) moved ∙ take-set-le (e - s) (drop s rows) (v - s) j (omega arith))
+]
+
+module _ (g : Graph) (seen : ℕ → ℕ → Bool) (arcs : List (ℕ × ℕ)) (i j : ℕ) (new : IsNew g seen i j) (next rows : List ℕ) (h : AreLists g seen arcs next rows) where
   place : ℕ
   place = get_or next i 0
 
@@ -66,7 +86,16 @@ module _ (g : Graph) (seen : ℕ → ℕ → Bool) (i j : ℕ) (new : IsNew g se
       ])
     ]
 
-    pub lists_more : AreLists g (with_arc seen i j) (set next i (value + 1)) (set rows value j)
+    -- the list of another row stays away from the place
+    outside : (a : ℕ) → a < g.size → a ≢ i → (get_or next i 0 < start_of g a) ⊎ (get_or next a 0 ≤ get_or next i 0)
+    outside a x ne =
+        let e = ends_before a x in let r = place_room in let f = h.ends i new.i_row in
+        elim (cases_lt a i) [
+          | inl y ↦ (let w = start_later g a i y in inr (omega (arith, e, f, w)))
+          | inr y ↦ (let w = start_later g i a (omega arith) in inl (omega (arith, r, w)))
+        ]
+
+    pub lists_more : AreLists g (with_arc seen i j) (arcs ++ (i, j) ∷ []) (set next i (value + 1)) (set rows value j)
     lists_more = record {
       size = length-set next i _ ∙ h.size;
       room = (let l = length-set rows value j in let r = h.room in omega (arith, l, r));
@@ -96,6 +125,11 @@ module _ (g : Graph) (seen : ℕ → ℕ → Bool) (i j : ℕ) (new : IsNew g se
             let w : get_or rows q 0 ≡ j = sym (row_other q (λ z. omega arith)) ∙ e ∙ rw o1 row_here in
             true≢false (sym (rw w at s) ∙ new.fresh))
       ];
+      order = λ a x. elim (cases_eq a i) [
+        | inl e ↦ (let f = h.ends i new.i_row in let more = stretch_more rows (start_of g i) (get_or next i 0) j (omega (arith, f)) place_in in
+            rw (e, next_here, is) (more ∙ ap (λ l. l ++ j ∷ []) (h.order i new.i_row) ∙ sym (ends_same i j arcs)))
+        | inr e ↦ rw (next_other a e, is) (stretch_same rows (start_of g a) (get_or next a 0) (get_or next i 0) j (outside a x e) ∙ h.order a x ∙ sym (ends_other a i j arcs e))
+      ];
     }
       where
         kept : (a b : ℕ) → seen a b ≡ true → with_arc seen i j a b ≡ true
@@ -113,7 +147,8 @@ module _ (g : Graph) (seen : ℕ → ℕ → Bool) (i j : ℕ) (new : IsNew g se
             let up : get_or next a 0 ≤ get_or (set next i (value + 1)) a 0 = elim (cases_eq a i) [ inl same ↦ rw (same, next_here) (omega arith) | inr other ↦ rw (next_other a other) (omega arith) ] in
             (f.0, f.1, (let f2 = f.2 in omega (arith, f2, up)), row_other f.0 ne ∙ f.3))
 
-pub lists_none : (g : Graph) (next rows : List ℕ) → length next ≡ g.size → start_of g g.size ≤ length rows → ((i : ℕ) → i < g.size → get_or next i 0 ≡ start_of g i) → AreLists g (λ a b. false) next rows
+pub lists_none : (g : Graph) (next rows : List ℕ) → length next ≡ g.size → start_of g g.size ≤ length rows → ((i : ℕ) → i < g.size → get_or next i 0 ≡ start_of g i) → AreLists g (λ a b. false) [] next rows
+unfolding ends_of
 lists_none g next rows size room each = record {
   size = size;
   room = room;
@@ -121,6 +156,7 @@ lists_none g next rows size room each = record {
   named = λ i q h low high. (let e = each i h in absurd (omega (arith, e, low, high)));
   found = λ i j x y e. absurd (true≢false (sym e));
   once = λ i q r h low lt high. (let e = each i h in absurd (omega (arith, e, low, lt, high)));
+  order = λ i h. (let e = each i h in let none : get_or next i 0 - start_of g i ≡ 0 = omega (arith, e) in rw none refl);
 }
 
 -- sums of degrees

@@ -6,7 +6,7 @@ use Rattle.std.proofs.lemmas.List.{length-set, get_or_past}
 use Rattle.amd_engine.specs.Visits.{with_arc, IsNew}
 use Rattle.amd_engine.proofs.Forms.{IsSortedForm}
 use Rattle.amd_engine.specs.Counts.{is_before, is_entry, is_edge, count_graph}
-use Rattle.amd_engine.specs.Walk.{IsScan, is_read, is_met, met}
+use Rattle.amd_engine.specs.Walk.{IsScan, IsReached, is_read, is_met, met}
 use Rattle.amd_engine.proofs.Places.{funext2, false_if, before_gives, before_none, before_more, entry_from}
 
 -- both arcs of an edge are new where one half of the set gains the test x, which passes one of them
@@ -118,40 +118,50 @@ module _ (n : ℕ) (ap' ai : List ℕ) (form : IsSortedForm n ap' ai) where
       let none : is_before ap' ai q i j ≡ false = before_none ap' ai q i j (λ r low below same. let w = form.ascend j r q h low below high in omega arith) in
       rw (et, never, none, le-ltb i j (omega arith), lt-ltb j i up) (refl, refl)
 
-  -- the scan goes on where a pointer moves within its column
-  pub scan_moves : (t : List ℕ) (k m j q : ℕ) → j < k → j < n → get_or t j 0 ≤ q → q ≤ get_or ap' (j + 1) 0 → IsScan n ap' ai t k m → IsScan n ap' ai (set t j q) k m
-  scan_moves t k m j q before h from to s =
+  -- a pointer that moves stays within its column
+  pub moved_in : (t : List ℕ) (k m j q : ℕ) → j < k → q ≤ get_or ap' (j + 1) 0 → IsScan n ap' ai t k m → (a : ℕ) → a < n → get_or (set t j q) a 0 ≤ get_or ap' (a + 1) 0
+  moved_in t k m j q before to s a h = elim (cases_eq a j) [
+    | inl same ↦ (let here : get_or (set t j q) j 0 ≡ q = get_or-set_same t j q 0 (let z = s.size in omega arith) in rw (same, here) to)
+    | inr ne ↦ (let there : get_or (set t j q) a 0 ≡ get_or t a 0 = get_or-set_other t j a q 0 ne in rw there (in_column t k m s a h))
+  ]
+
+  -- what was reached stays so
+  pub reached_on : (k m k2 m2 a b : ℕ) → ((c : ℕ) → (c < k) ⊎ ((c ≡ k) × (a < m)) → (c < k2) ⊎ ((c ≡ k2) × (a < m2))) → (b ≤ a) ⊎ IsReached n ap' ai k m a b → (b ≤ a) ⊎ IsReached n ap' ai k2 m2 a b
+  reached_on k m k2 m2 a b f h = elim h [ inl x ↦ inl x | inr x ↦ inr (x.0, f x.0 x.1, x.2, x.3) ]
+
+  -- column k has read the lower entries of column j up to the place q
+  pub scan_swept : (t : List ℕ) (k j q : ℕ) → j < k → j < n → get_or t j 0 ≤ q → q ≤ get_or ap' (j + 1) 0 → (k < n → is_entry n ap' ai j k ≡ true) →
+      ((r : ℕ) → get_or t j 0 ≤ r → r < q → get_or ai r 0 ≤ k) → ((r : ℕ) → q ≤ r → r < get_or ap' (j + 1) 0 → k < get_or ai r 0) →
+      IsScan n ap' ai t k j → IsScan n ap' ai (set t j q) k (j + 1)
+  scan_swept t k j q before h from to mirror behind rest s =
       let here : get_or (set t j q) j 0 ≡ q = get_or-set_same t j q 0 (let z = s.size in omega arith) in
       let there : (a : ℕ) → a ≢ j → get_or (set t j q) a 0 ≡ get_or t a 0 = λ a ne. get_or-set_other t j a q 0 ne in
       let grows : (a : ℕ) → get_or t a 0 ≤ get_or (set t j q) a 0 = λ a. elim (cases_eq a j) [ inl x ↦ rw (x, here) from | inr x ↦ (let z = there a x in omega arith) ] in
+      let later : (a c : ℕ) → (c < k) ⊎ ((c ≡ k) × (a < j)) → (c < k) ⊎ ((c ≡ k) × (a < j + 1)) = λ a c x. elim x [ inl y ↦ inl y | inr y ↦ inr (y.0, (let z = y.1 in omega arith)) ] in
       record {
         size = length-set t j q ∙ s.size;
         start = λ a x y. (let z = s.start a x y in let w = grows a in omega arith);
-        stop = λ a x y. elim (cases_eq a j) [ inl z ↦ rw (z, here) to | inr z ↦ (let w = there a z in let v = s.stop a x y in omega arith) ];
+        stop = λ a x y. moved_in t k j j q before to s a y;
         low = λ a r x y z w. s.low a r x y (let g = grows a in omega arith) w;
         unset = λ a x. (let w = there a (λ e. omega arith) in let v = s.unset a x in omega arith);
-        passed = λ a c r x y z w low high le. (let g = grows a in let v = s.passed a c r x y z w low high le in omega arith);
+        passed = λ a c r x y z w low high le. elim z [
+          | inl v ↦ (let g = grows a in let u = s.passed a c r x y (inl v) w low high le in omega arith)
+          | inr v ↦ elim (cases_eq a j) [
+            | inr ne ↦ (let g = grows a in let u = s.passed a c r x y (inr (v.0, (let d = v.1 in omega arith))) w low high le in omega arith)
+            | inl same ↦ elim (cases_lt r q) [
+              | inl g ↦ rw (same, here) g
+              | inr g ↦ (let e = rest r g (rw same at high) in let u = v.0 in absurd (omega arith))
+            ]
+          ]
+        ];
+        reached = λ a r x low high. elim (cases_eq a j) [
+          | inr ne ↦ reached_on k j k (j + 1) a (get_or ai r 0) (later a) (s.reached a r x low (rw (there a ne) at high))
+          | inl same ↦ elim (cases_lt r (get_or t a 0)) [
+            | inl g ↦ reached_on k j k (j + 1) a (get_or ai r 0) (later a) (s.reached a r x low g)
+            | inr g ↦ inr (k, inr (refl, omega arith), λ y. rw same (mirror y), behind r (rw same at g) (rw (same, here) at high))
+          ]
+        ];
       }
-
-  -- all lower entries of column j up to row k are passed
-  pub scan_swept : (t : List ℕ) (k j : ℕ) → ((r : ℕ) → get_or t j 0 ≤ r → r < get_or ap' (j + 1) 0 → k < get_or ai r 0) → IsScan n ap' ai t k j → IsScan n ap' ai t k (j + 1)
-  scan_swept t k j rest s = record {
-    size = s.size;
-    start = s.start;
-    stop = s.stop;
-    low = s.low;
-    unset = s.unset;
-    passed = λ a c r x y z w low high le. elim z [
-      | inl v ↦ s.passed a c r x y (inl v) w low high le
-      | inr v ↦ elim (cases_eq a j) [
-        | inr ne ↦ s.passed a c r x y (inr (v.0, (let u = v.1 in omega arith))) w low high le
-        | inl same ↦ elim (cases_lt r (get_or t a 0)) [
-          | inl g ↦ g
-          | inr g ↦ (let e = rest r (rw same at g) (rw same at high) in let u = v.0 in absurd (omega arith))
-        ]
-      ]
-    ];
-  }
 
   -- the two arcs of an entry (i, j) that was not met
   pub two_new : (seen : ℕ → ℕ → Bool) (i j : ℕ) → i < n → j < n → i ≢ j → is_entry n ap' ai i j ≡ true → seen i j ≡ false → seen j i ≡ false →
@@ -190,10 +200,10 @@ module _ (n : ℕ) (ap' ai : List ℕ) (form : IsSortedForm n ap' ai) where
           let low = scan.start j before (omega arith) in
           let never = lower_never below in
           let here : get_or (set t j q) j 0 ≡ q = get_or-set_same t j q 0 (let z = scan.size in omega arith) in
-          let moved = scan_moves t k j j q before (omega arith) from (omega arith) scan in
+          let size = length-set t j q in
           let fresh = lower_fresh (set t j q) k (j + 1) j i q here (omega arith) (omega arith) to (sym is) never in
           two_new _ i j (omega arith) (omega arith) (λ e. omega arith) (entry_from ap' ai n i j q (omega arith) (omega arith) to (sym is)) fresh.0 fresh.1
-          (met_within (set t j q) k (j + 1) (let z = moved.size in omega arith) (in_column (set t j q) k j moved))
+          (met_within (set t j q) k (j + 1) (let z = scan.size in omega arith) (moved_in t k j j q before (omega arith) scan))
 
       pub lower_after : i < k → with_arc (with_arc (met n ap' ai (set t j q) k (j + 1)) i j) j i ≡ met n ap' ai (set t j (q + 1)) k (j + 1)
       lower_after below =
@@ -220,16 +230,15 @@ module _ (n : ℕ) (ap' ai : List ℕ) (form : IsSortedForm n ap' ai) where
           let w = form.ascend j q r (omega arith) (omega arith) (omega arith) y in omega arith
 
     -- the pointer stands behind all rows up to k
-    pub lower_end : q ≤ get_or ap' (j + 1) 0 → ((r : ℕ) → q ≤ r → r < get_or ap' (j + 1) 0 → k < get_or ai r 0) → IsScan n ap' ai (set t j q) k (j + 1)
-    lower_end to rest =
-        let here : get_or (set t j q) j 0 ≡ q = get_or-set_same t j q 0 (let z = scan.size in omega arith) in
-        scan_swept (set t j q) k j (λ r x y. rest r (omega arith) y) (scan_moves t k j j q before (omega arith) from to scan)
+    pub lower_end : q ≤ get_or ap' (j + 1) 0 → (k < n → is_entry n ap' ai j k ≡ true) → ((r : ℕ) → get_or t j 0 ≤ r → r < q → get_or ai r 0 ≤ k) →
+        ((r : ℕ) → q ≤ r → r < get_or ap' (j + 1) 0 → k < get_or ai r 0) → IsScan n ap' ai (set t j q) k (j + 1)
+    lower_end to mirror behind rest = scan_swept t k j q before (omega arith) from to mirror behind rest scan
 
-    -- the rows behind the place
-    pub lower_behind : (q < get_or ap' (j + 1) 0 → k < get_or ai q 0) → (r : ℕ) → q ≤ r → r < get_or ap' (j + 1) 0 → k < get_or ai r 0
-    lower_behind stop r x y =
+    -- the rows behind the place are no lesser than the one there
+    pub lower_behind : (x : ℕ) → (q < get_or ap' (j + 1) 0 → x ≤ get_or ai q 0) → (r : ℕ) → q ≤ r → r < get_or ap' (j + 1) 0 → x ≤ get_or ai r 0
+    lower_behind x stop r y z =
         let low = scan.start j before (omega arith) in
         elim (cases_eq q r) [
           | inl same ↦ rw same at stop (omega arith)
-          | inr other ↦ (let w = form.ascend j q r (omega arith) (omega arith) (omega arith) y in let v = stop (omega arith) in omega arith)
+          | inr other ↦ (let w = form.ascend j q r (omega arith) (omega arith) (omega arith) z in let v = stop (omega arith) in omega arith)
         ]

@@ -8,7 +8,7 @@ use Rattle.amd_engine.proofs.Forms.{IsSortedForm}
 use Rattle.amd_engine.specs.Counts.{is_before, is_entry, count_graph}
 use Rattle.amd_engine.specs.Walk.{IsScan, is_read, is_met, met}
 use Rattle.amd_engine.proofs.Places.{cases_order, funext2, before_none, entry_gives, entry_none}
-use Rattle.amd_engine.proofs.Scans.{both_arcs, two_new, met_within, in_column}
+use Rattle.amd_engine.proofs.Scans.{both_arcs, two_new, met_within, in_column, reached_on}
 
 module _ (n : ℕ) (ap' ai : List ℕ) (form : IsSortedForm n ap' ai) (t : List ℕ) (k m : ℕ) (k_in : k < n) (scan : IsScan n ap' ai t k m) where
   module _ (j : ℕ) (up : j < k) (pair : is_entry n ap' ai j k ≡ true) (low : m ≤ j) (gap : (a : ℕ) → m ≤ a → a < j → is_entry n ap' ai a k ≡ false) where
@@ -85,6 +85,7 @@ module _ (n : ℕ) (ap' ai : List ℕ) (form : IsSortedForm n ap' ai) (t : List 
           | inr left ↦ (let e : c ≡ k = v.0 in absurd (true≢false (sym (w (omega arith)) ∙ ap (λ b. is_entry n ap' ai a b) e ∙ gap a left v.1)))
         ]
       ];
+      reached = λ a r x y h. reached_on n ap' ai form k m k j a (get_or ai r 0) (λ c z. elim z [ inl v ↦ inl v | inr v ↦ inr (v.0, (let w = v.1 in omega arith)) ]) (scan.reached a r x y h);
     }
 
   -- no row stands between those that were read and the next one
@@ -120,6 +121,10 @@ module _ (n : ℕ) (ap' ai : List ℕ) (form : IsSortedForm n ap' ai) (t : List 
       passed = λ a c r x y z w l h le. elim z [
         | inl v ↦ rw (there a (λ e. omega arith)) (scan.passed a c r x y (before a c x y v w) w l h le)
         | inr v ↦ (let u = v.1 in absurd (omega arith))
+      ];
+      reached = λ a r x y h. elim (cases_eq a k) [
+        | inl e ↦ inl (let w = behind r (rw e at y) (rw (e, here) at h) in omega arith)
+        | inr e ↦ reached_on n ap' ai form k m (k + 1) 0 a (get_or ai r 0) (λ c z. elim z [ inl v ↦ inl (omega arith) | inr v ↦ inl (let w = v.0 in omega arith) ]) (scan.reached a r x y (rw (there a e) at h))
       ];
     }
       where

@@ -1,6 +1,7 @@
 use Rattle.std.proofs.Common.{◌≡◌, map, length, arith, rules, ◌∙◌}
-use Rattle.amd_model.specs.Input.Pattern.{graph_of}
+use Rattle.amd_model.specs.Input.Pattern.{graph_of, is_pair}
 use Rattle.amd_engine.proofs.Listing.{lists_none, start_sums}
+use Rattle.amd_engine.proofs.Orders.{ends_starting}
 use Rattle.amd_engine.proofs.lists.neighbours.Goals as goal
 
 pub starts-requires : goal.starts-requires
@@ -23,3 +24,11 @@ walk-requires-clause-held g c =
     let enough = r.room in
     lists_none graph c.in_ok-next.next.items c.in_ok-vec.field-0.items (omega (arith, size, n)) (omega (arith, room, enough))
     (λ i h. each i (omega (arith, h, n)) ∙ start_sums graph c.args.degrees.now r.degrees i (omega (arith, h)))
+
+pub returns-clause-lists : goal.returns-clause-lists
+returns-clause-lists g c = c.walk.ensures.held
+
+pub returns-clause-order : goal.returns-clause-order
+unfolding graph_of
+returns-clause-order g c = λ i h.
+    c.walk.ensures.held.order i h ∙ ends_starting c.args.size (is_pair c.args.size (map g.I.Number.value c.args.a_p.now) (map g.I.Number.value c.args.a_i.now)) i

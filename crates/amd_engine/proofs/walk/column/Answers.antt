@@ -1,9 +1,11 @@
-use Rattle.std.proofs.Common.{inl, inr, ◌≡◌, ◌+◌, ◌<◌, ◌≤◌, ◌≢◌, ℕ, map, get_or, arith, sym, true, false, refl, ◌∙◌}
+use Rattle.std.proofs.Common.{inl, inr, ◌≡◌, ◌+◌, ◌<◌, ◌≤◌, ◌≢◌, ◌++◌, ◌∷◌, [], ℕ, map, get_or, arith, sym, true, false, refl, ◌∙◌}
 use Rattle.std.proofs.lemmas.Bool.{cases_lt, eqb-true, eqb-false, true≢false, le-ltb}
 use Rattle.std.proofs.lemmas.List.{length-map}
-use Rattle.amd_engine.specs.Counts.{counts}
+use Rattle.amd_engine.specs.Counts.{counts, is_entry}
+use Rattle.amd_engine.specs.Visits.{arcs_of}
 use Rattle.amd_engine.proofs.Forms.{pointer_fits, row_fits, place_within, sorted_form}
-use Rattle.amd_engine.proofs.Places.{entry_from}
+use Rattle.amd_engine.proofs.Places.{entry_from, false_if}
+use Rattle.amd_engine.proofs.Orders.{edges_until, until_start, until_next, until_end}
 use Rattle.amd_engine.proofs.Uppers.{upper_new, upper_after, upper_scan, upper_gap, end_scan, end_met, exit_uppers, exit_rest, exit_rest_next, exit_behind, exit_behind_next, exit_none}
 use Rattle.amd_engine.proofs.walk.column.Goals as goal
 use Rattle.amd_engine.proofs.walk.column.Goals.{then-upper-test+else-count_at-k, else-upper-test, then-place-end, else-place-end, then-diagonal, else-diagonal}
@@ -56,7 +58,7 @@ arc-requires g c =
     let left = i.left p (omega arith) c.upper-test.true in
     let gap = λ (a : ℕ) (x : m ≤ a) (y : a < j). upper_gap _ _ _ form t k m r.k_in i.scan p i.from (omega arith) i.read a x (omega arith) in
     let entry = entry_from (counts (map g.I.Number.value c.args.a_p.now)) (counts (map g.I.Number.value c.args.a_i.now)) c.args.size j k p r.k_in i.from (omega arith) (sym same) in
-    (_, _, i.held, (upper_new _ _ _ form t k m r.k_in i.scan j below entry (omega arith) gap).0)
+    (_, _, _, i.held, (upper_new _ _ _ form t k m r.k_in i.scan j below entry (omega arith) gap).0)
 
 pub arc-requires-in-upper : goal.arc-requires-in-upper
 arc-requires-in-upper g c =
@@ -68,7 +70,7 @@ arc-requires-in-upper g c =
     let gap = λ (a : ℕ) (x : m ≤ a) (y : a < j). upper_gap _ _ _ form t k m r.k_in i.scan p i.from (omega arith) i.read a x (omega arith) in
     let entry = entry_from (counts (map g.I.Number.value c.args.a_p.now)) (counts (map g.I.Number.value c.args.a_i.now)) c.args.size j k p r.k_in i.from (omega arith) (sym same) in
     let new = upper_new _ _ _ form t k m r.k_in i.scan j below entry (omega arith) gap in
-    (_, _, c.arc.ensures _ _ i.held new.0, new.1)
+    (_, _, _, c.arc.ensures _ _ _ i.held new.0, new.1)
 
 pub lower-requires : goal.lower-requires
 lower-requires g c =
@@ -82,6 +84,7 @@ lower-requires g c =
     let entry = entry_from (counts (map g.I.Number.value c.args.a_p.now)) (counts (map g.I.Number.value c.args.a_i.now)) c.args.size j k p r.k_in i.from (omega arith) (sym same) in
     let new = upper_new _ _ _ form t k m r.k_in i.scan j below entry low gap in
     let after = upper_after _ _ _ form t k m r.k_in i.scan j below entry low gap in
+    let pair = is_entry c.args.size (counts (map g.I.Number.value c.args.a_p.now)) (counts (map g.I.Number.value c.args.a_i.now)) in
     record {
       form = r.form;
       sorted = r.sorted;
@@ -89,7 +92,7 @@ lower-requires g c =
       k_in = omega arith;
       mirror = λ x. entry;
       scan = upper_scan _ _ _ form t k m r.k_in i.scan j below entry low gap;
-      held = rw (← after) (c.arc-in-upper.ensures _ _ (c.arc.ensures _ _ i.held new.0) new.1);
+      held = ((arcs_of (edges_until pair k m) ++ (j, k) ∷ []) ++ (k, j) ∷ [], rw (← after) (c.arc-in-upper.ensures _ _ _ (c.arc.ensures _ _ _ i.held new.0) new.1));
     }
 
 pub upper-preserved : goal.upper-preserved
@@ -97,6 +100,16 @@ upper-preserved g c =
     let i = c.upper.invariant.1 in let r = c.requires in let k = c.args.k in let p = c.upper.place in let j = c.count_at-j.result in
     let form = sorted_form _ _ _ r.form r.sorted in
     let end = c.count_at-end.ensures.count in let same = c.count_at-j.ensures.count in let first = c.count_at.ensures.count in
+    let below : j < k = omega arith in
+    let m = c.upper.invariant.0 in let t = c.upper.next.items in
+    let left = i.left p (omega arith) c.upper-test.true in
+    let low : m ≤ j = omega arith in
+    let gap = λ (a : ℕ) (x : m ≤ a) (y : a < j). upper_gap _ _ _ form t k m r.k_in i.scan p i.from (omega arith) i.read a x (omega arith) in
+    let pair = is_entry c.args.size (counts (map g.I.Number.value c.args.a_p.now)) (counts (map g.I.Number.value c.args.a_i.now)) in
+    let entry = entry_from (counts (map g.I.Number.value c.args.a_p.now)) (counts (map g.I.Number.value c.args.a_i.now)) c.args.size j k p r.k_in i.from (omega arith) (sym same) in
+    let new = upper_new _ _ _ form t k m r.k_in i.scan j below entry low gap in
+    let after = upper_after _ _ _ form t k m r.k_in i.scan j below entry low gap in
+    let next = until_next pair k m j low gap entry in
     let e = c.lower.ensures in (
       j + 1,
       record {
@@ -107,7 +120,7 @@ upper-preserved g c =
         low = omega arith;
         room = e.room ∙ i.room;
         scan = e.scan;
-        held = e.held;
+        held = rw (← next) (e.held ((arcs_of (edges_until pair k m) ++ (j, k) ∷ []) ++ (k, j) ∷ []) (rw (← after) (c.arc-in-upper.ensures _ _ _ (c.arc.ensures _ _ _ i.held new.0) new.1)));
       },
     )
 
@@ -126,7 +139,7 @@ upper-init g c =
         low = omega arith;
         room = refl;
         scan = r.scan;
-        held = r.held;
+        held = rw (until_start (is_entry c.args.size (counts (map g.I.Number.value c.args.a_p.now)) (counts (map g.I.Number.value c.args.a_i.now))) c.args.k) r.held;
       },
     )
 
@@ -142,6 +155,7 @@ returns g c =
       | else-upper-test w ↦ (let x = w.upper-test.false in absurd (omega arith))
     ] in
     let uppers = exit_uppers _ _ _ form t k m r.k_in i.scan p i.from stop i.low i.read in
+    let edges = until_end (is_entry c.args.size ap' ai) k m i.low (λ a x y. false_if _ (λ e. let z = uppers a y e in omega arith)) in
     let found : c.if-place-end.diagonal ≡ true → (p < get_or ap' (k + 1) 0) × (get_or ai p 0 ≡ k) = λ e. elim c.if-place-end.branch [
       | then-place-end w ↦ (let x = w.if-place-end.true in let y = w.count_at-then-place-end.ensures.count in let z = eqb-true _ _ (sym w.diagonal-is ∙ e) in (omega arith, omega arith))
       | else-place-end w ↦ (let x = w.if-place-end.false in absurd (true≢false (sym e ∙ w.diagonal-is ∙ le-ltb p c.count_at-end.result x)))
@@ -161,7 +175,7 @@ returns g c =
           let from : get_or ap' k 0 ≤ p + 1 = (let x = i.from in omega arith) in
           record {
             scan = rw (items, w.place-is) (end_scan _ _ _ form t k m r.k_in i.scan (p + 1) from (omega arith) behind rest uppers);
-            held = rw (items, w.place-is, end_met _ _ _ form t k m r.k_in i.scan (p + 1) from (omega arith) behind rest uppers) i.held;
+            held = rw (edges, items, w.place-is, end_met _ _ _ form t k m r.k_in i.scan (p + 1) from (omega arith) behind rest uppers) i.held;
             room = room;
             diagonal = w.if-diagonal.true ∙ sym (entry_from _ _ _ k k p r.k_in i.from inside is.1);
           })
@@ -172,7 +186,7 @@ returns g c =
           let behind = exit_behind _ _ _ form t k m r.k_in i.scan p i.from stop i.low i.read in
           record {
             scan = rw (items, w.place-is) (end_scan _ _ _ form t k m r.k_in i.scan p i.from to behind rest uppers);
-            held = rw (items, w.place-is, end_met _ _ _ form t k m r.k_in i.scan p i.from to behind rest uppers) i.held;
+            held = rw (edges, items, w.place-is, end_met _ _ _ form t k m r.k_in i.scan p i.from to behind rest uppers) i.held;
             room = room;
             diagonal = w.if-diagonal.false ∙ sym (exit_none _ _ _ form t k m r.k_in i.scan p i.from stop i.low i.read ne);
           })

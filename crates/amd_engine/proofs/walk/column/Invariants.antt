@@ -1,7 +1,9 @@
 use Rattle.std.proofs.Common.{◌≡◌, ◌-◌, ◌<◌, ◌≤◌, ℕ, map, get_or}
 use Rattle.std.specs.Vec.{vec_capacity}
-use Rattle.amd_engine.specs.Counts.{counts, count_graph}
+use Rattle.amd_engine.specs.Counts.{counts, count_graph, is_entry}
+use Rattle.amd_engine.specs.Visits.{arcs_of}
 use Rattle.amd_engine.specs.Walk.{IsScan, met}
+use Rattle.amd_engine.proofs.Orders.{edges_until}
 use Rattle.amd_engine.proofs.walk.column.Given as goal
 
 abbrev pub invariant-upper : goal.invariant-upper
@@ -13,7 +15,7 @@ invariant-upper g l = (m : ℕ) × record {
   low : m ≤ l.k;
   room : vec_capacity l.next ≡ vec_capacity l.fn.next;
   scan : IsScan l.fn.size (counts (map g.I.Number.value l.a_p)) (counts (map g.I.Number.value l.a_i)) l.next.items l.k m;
-  held : g.V.Visitor.holds (count_graph l.fn.size (counts (map g.I.Number.value l.a_p)) (counts (map g.I.Number.value l.a_i))) (met l.fn.size (counts (map g.I.Number.value l.a_p)) (counts (map g.I.Number.value l.a_i)) l.next.items l.k m) l.visitor;
+  held : g.V.Visitor.holds (count_graph l.fn.size (counts (map g.I.Number.value l.a_p)) (counts (map g.I.Number.value l.a_i))) (met l.fn.size (counts (map g.I.Number.value l.a_p)) (counts (map g.I.Number.value l.a_i)) l.next.items l.k m) (arcs_of (edges_until (is_entry l.fn.size (counts (map g.I.Number.value l.a_p)) (counts (map g.I.Number.value l.a_i))) l.k m)) l.visitor;
 }
 
 abbrev pub decreases-upper : goal.decreases-upper

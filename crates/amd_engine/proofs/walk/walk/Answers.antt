@@ -3,6 +3,7 @@ use Rattle.amd_model.specs.Below.{sum_below, count_below}
 use Rattle.amd_engine.specs.Counts.{counts, is_entry}
 use Rattle.amd_engine.proofs.Forms.{sorted_form, same_graph, same_diagonals}
 use Rattle.amd_engine.proofs.Ends.{start_met, start_scan, start_zeros}
+use Rattle.amd_engine.proofs.Orders.{start_edges}
 use Rattle.amd_engine.proofs.walk.walk.Goals as goal
 use Rattle.amd_engine.proofs.walk.walk.Goals.{then-column, else-column}
 
@@ -27,7 +28,7 @@ columns-init g c =
       small = omega arith;
       room = r.room;
       scan = start_scan n ap' ai form c.args.next.now.items r.empty;
-      held = rw (← graph, start_met n ap' ai form c.args.next.now.items (start_zeros n ap' ai form c.args.next.now.items r.empty)) r.held;
+      held = rw (start_edges (is_entry n ap' ai), ← graph, start_met n ap' ai form c.args.next.now.items (start_zeros n ap' ai form c.args.next.now.items r.empty)) r.held;
     }
 
 pub columns-preserved : goal.columns-preserved
