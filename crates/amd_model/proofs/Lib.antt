@@ -45,3 +45,4 @@ pub mod NeededColumns
 pub mod Pointers
 pub mod DegreeSums
 pub mod Orderings
+pub mod StepFronts

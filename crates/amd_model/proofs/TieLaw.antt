@@ -430,7 +430,7 @@ module _ (g : Graph) (laws : IsGraph g) (aggressive : Bool) (t : Tie) (s : State
         ]
       ]
 
-  L_once : Once L
+  pub L_once : Once L
   unfolding L gathered
   L_once = once_firsts (λ x. x == c) [] (flat_map t.members (t.elements c) ++ t.variables c) tt
 
@@ -478,7 +478,7 @@ module _ (g : Graph) (laws : IsGraph g) (aggressive : Bool) (t : Tie) (s : State
   row_border : (v x : ℕ) → s.home v ≡ Live x → border_of g aggressive s c x ≡ true → border_of g aggressive s c v ≡ true
   row_border v x h b = border_whole g laws aggressive c s after sound is_step x x v (sound.named v x h) h b
 
-  row_front : (v x : ℕ) → s.home v ≡ Live x → has L x ≡ front g s c v
+  pub row_front : (v x : ℕ) → s.home v ≡ Live x → has L x ≡ front g s c v
   row_front v x h = let hx = sound.named v x h in class_front x hx ∙ same_bool (front g s c x) (front g s c v) (front_whole g laws s sound c x x v hx h) (front_whole g laws s sound c x v x h hx)
 
   rest_not_done : (x : ℕ) → has (rest aggressive t c L) x ≡ true → (has L x ≡ true) × (done aggressive t c L x ≡ false)
@@ -534,11 +534,11 @@ module _ (g : Graph) (laws : IsGraph g) (aggressive : Bool) (t : Tie) (s : State
   unfolding rest
   rest_once = once_filter (λ i. not (done aggressive t c L i)) L L_once
 
-  rest_sum : sum_by t.size (rest aggressive t c L) ≡ count_below g.size (border_of g aggressive s c)
+  pub rest_sum : sum_by t.size (rest aggressive t c L) ≡ count_below g.size (border_of g aggressive s c)
   rest_sum = class_sum g s t.size (rest aggressive t c L) rest_once (λ x k. fits.size x (rest_class x k).0)
       ∙ count_same g.size (λ v. named (rest aggressive t c L) (s.home v)) (border_of g aggressive s c) (λ v l. rest_rows v)
 
-  size_is : (i : ℕ) → after.home i ≡ Live i → border_of g aggressive s c i ≡ true → new_size aggressive t c L i ≡ count_below g.size (in_class after i)
+  pub size_is : (i : ℕ) → after.home i ≡ Live i → border_of g aggressive s c i ≡ true → new_size aggressive t c L i ≡ count_below g.size (in_class after i)
   unfolding new_size
   size_is i hi bi = let xs : List ℕ = rest aggressive t c L in let p : ℕ → Bool = λ j. represents aggressive t c L j == i in
       class_sum g s t.size (filter p xs) (once_filter p xs rest_once) (λ x k. fits.size x (rest_class x (and_parts (has xs x) (p x) (sym (has_filter p xs x) ∙ k)).0).0)
@@ -609,7 +609,7 @@ module _ (g : Graph) (laws : IsGraph g) (aggressive : Bool) (t : Tie) (s : State
       ]) in
       ap (λ m. m + sum_by t.size (kept_variables aggressive t c L i)) (a ∙ b) ∙ ap (λ m. sum_below g.size (λ e. cond (other g aggressive s c e && holds g after e i) (beyond g s c e) 0) + m) (near_rows i h)
 
-  left_is : left aggressive t c L ≡ count_below g.size (live after)
+  pub left_is : left aggressive t c L ≡ count_below g.size (live after)
   unfolding left
   left_is = let p : ℕ → Bool = λ i. not (i == c || has L i) in let xs : List ℕ = filter p t.placed in
       let parts : (x : ℕ) → has xs x ≡ true → (s.home x ≡ Live x) × (x ≢ c) × (has L x ≡ false)
