@@ -10,3 +10,4 @@ pub mod Buckets
 pub mod Rounds
 pub mod Keeps
 pub mod Trees
+pub mod Starts

@@ -109,6 +109,8 @@ pub fn front_counts(f: usize, r: usize) -> (usize, usize, usize)
         .saturating_add(squares);
     let ldl = lu.saturating_add(lnz) / 2;
     (cut_to_count(lnz), cut_to_count(ldl), cut_to_count(lu))
+}
+
 /// No place: the end of a list of links, and what an element without a parent has as parent.
 pub const EMPTY: isize = -1;
 

@@ -1,5 +1,5 @@
 // What an elimination keeps between two rounds. Source: Amestoy, Davis and Duff 1996 (quotient graph). Filled by `start`, changed
-// by the rounds of `plain`, read by `listing`.
+// by the rounds of `plain`, read by `blocks`.
 
 use crate::figures::Figures;
 use std::alloc::Allocator;
