@@ -21,6 +21,9 @@ use Rattle.amd_engine.specs.Views.{num, some_at, list_at, live_of}
 use Rattle.amd_engine.specs.Rounds.{keeps_none}
 use Rattle.amd_engine.specs.Keeps.{Keeps, LinksLead, Stands}
 use Rattle.amd_engine.specs.declared.work.Work.{Work}
+use Rattle.amd_model.proofs.StepFronts.{placed_small}
+use Rattle.amd_engine.specs.Buckets.{live_in, lasts}
+use Rattle.amd_engine.proofs.FrontsLaw.{border_is as border_rows, live_left as live_after, live_less, live_is as live_sum, joined as joined_after, no_parent as no_parent_after, fronts_kept}
 use Rattle.amd_engine.proofs.CutSums.{cut_add}
 use Rattle.amd_engine.proofs.Named.{filter_named, sum_named, filter_all, filter_both}
 use Rattle.amd_engine.proofs.Rounding.{Rounding}
@@ -30,6 +33,7 @@ pub record Found {A : Type 0} (aggressive : Bool) (w v : Work A) (t : Tie) (r : 
   pub pivot_is : r.c ≡ pivot t.bound t.placed
   pub placed : has t.placed r.c ≡ true
   pub least : (d : ℕ) → has t.placed d ≡ true → t.bound r.c ≤ t.bound d
+  pub lowest : r.least ≡ t.bound r.c
   pub front_is : r.front ≡ gathered t r.c
   pub elements : (i : ℕ) → has (gathered t r.c) i ≡ true → list_at r.kept.elements.items i ≡ kept_elements aggressive t r.c (gathered t r.c) i
   pub variables : (i : ℕ) → has (gathered t r.c) i ≡ true → list_at r.kept.variables.items i ≡ kept_variables aggressive t r.c (gathered t r.c) i
@@ -694,6 +698,62 @@ module _ {A : Type 0} (g : Graph) (dense : ℕ → Bool) (aggressive : Bool) (w 
       where
         bound_low : (i : ℕ) → next_bound aggressive t r.c L i ≤ left aggressive t r.c L - new_size aggressive t r.c L i
         bound_low i = least_of i
+
+    pub least_kept : (i : ℕ) → has new_lists.placed i ≡ true → v.least ≤ new_lists.bound i
+    least_kept i h = let b = bound_kept i h in elim (cases_Bool (has M i)) [
+      | inl m ↦ (let k = r.least_is.1 i (in_made i ∙ m) in omega (arith, b, k))
+      | inr n ↦ (let p = placed_cases i h n in let k = f.least i p.0 in let q = f.lowest in let l = r.least_is.0 in
+          let o = other_bound i n ∙ st.keeps.bound i p.0 in omega (arith, b, k, q, l, o))
+    ]
+
+  -- the record stands for the next lists, and for the state that the step leads to
+  module _ (few : g.size < 2 ^ 64) (buckets : (b : ℕ) → lasts (live_in v.size.items v.bound.items b (list_at v.placed.items b)) ≡ filter (λ i. new_lists.bound i == b) new_lists.placed) where
+    border_is : r.border ≡ sum_by t.size (rest aggressive t r.c (gathered t r.c))
+    border_is = border_rows g dense aggressive w v t s st r class least f.front_is f.rest_is
+
+    live_left : v.live ≡ left aggressive t r.c (gathered t r.c)
+    live_left = live_after g dense aggressive w v t s st r class least f.front_is f.rest_is
+
+    live_fits : v.live ≤ g.size
+    live_fits = let a = live_less g dense aggressive w v t s st r class least f.front_is f.rest_is in let b = st.keeps.live in
+        let k = placed_small g st.graph aggressive t s st.sound st.fits r.c class least in omega (arith, a, b, k)
+
+    pub stands : Stands g dense v new_lists new_state
+    stands = record {
+      graph = st.graph;
+      sound = new_sound;
+      fits = new_fits;
+      sized = r.sized g.size st.sized;
+      keeps = record {
+        size = size_kept;
+        no_class = size_none;
+        bound = bound_kept few border_is live_left live_fits;
+        small = small_kept few border_is live_left live_fits;
+        variables = variables_kept;
+        elements = elements_kept;
+        members = members_kept;
+        placed = buckets;
+        least = least_kept few border_is live_left live_fits;
+        live = live_sum g dense aggressive w v t s st r class least f.front_is f.rest_is;
+        parents = parents_kept;
+        links = links_kept;
+      };
+      joined = joined_after g dense aggressive w v t s st r class least f.front_is f.rest_is;
+      no_parent = no_parent_after g dense aggressive w v t s st r class least f.front_is f.rest_is;
+      fronts = fronts_kept g dense aggressive w v t s st r class least f.front_is f.rest_is;
+    }
+
+  as_next : new_lists ≡ next aggressive t
+  unfolding next
+  as_next = ap (λ c. round aggressive t c (gathered t c)) f.pivot_is
+
+  -- the record is one round further
+  pub one_round : g.size < 2 ^ 64 → ((b : ℕ) → lasts (live_in v.size.items v.bound.items b (list_at v.placed.items b)) ≡ filter (λ i. new_lists.bound i == b) new_lists.placed) →
+      (is_empty t.placed ≡ false) × ((u : State) × StepAt g aggressive (pivot t.bound t.placed) s u × Stands g dense v (next aggressive t) u)
+  one_round few buckets = (some_placed, new_state, subst (λ c. StepAt g aggressive c s new_state) f.pivot_is step, subst (λ u. Stands g dense v u new_state) as_next (stands few buckets))
+    where
+      some_placed : is_empty t.placed ≡ false
+      some_placed = elim (cases_Bool (is_empty t.placed)) [ inr n ↦ n | inl y ↦ absurd (empty_gives t.placed y r.c f.placed) ]
 
 pub and_false_law : (x : ℕ) → x ≡ x
 and_false_law x = refl
