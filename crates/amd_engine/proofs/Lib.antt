@@ -10,3 +10,6 @@ pub mod Listing
 pub mod Rounding
 pub mod FrontShares
 pub mod CutSums
+pub mod Named
+pub mod RoundLaw
+pub mod FrontsLaw
