@@ -19,3 +19,4 @@ mod ChildLinks
 mod ChildChains
 mod ForestListings
 mod TreeNumbers
+pub mod FrontsLaw
