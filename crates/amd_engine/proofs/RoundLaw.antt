@@ -718,8 +718,8 @@ module _ {A : Type 0} (g : Graph) (dense : ℕ → Bool) (aggressive : Bool) (w 
     live_fits = let a = live_less g dense aggressive w v t s st r class least f.front_is f.rest_is in let b = st.keeps.live in
         let k = placed_small g st.graph aggressive t s st.sound st.fits r.c class least in omega (arith, a, b, k)
 
-    pub stands : Stands g dense v new_lists new_state
-    stands = record {
+    pub stands_after : Stands g dense v new_lists new_state
+    stands_after = record {
       graph = st.graph;
       sound = new_sound;
       fits = new_fits;
@@ -750,7 +750,7 @@ module _ {A : Type 0} (g : Graph) (dense : ℕ → Bool) (aggressive : Bool) (w 
   -- the record is one round further
   pub one_round : g.size < 2 ^ 64 → ((b : ℕ) → lasts (live_in v.size.items v.bound.items b (list_at v.placed.items b)) ≡ filter (λ i. new_lists.bound i == b) new_lists.placed) →
       (is_empty t.placed ≡ false) × ((u : State) × StepAt g aggressive (pivot t.bound t.placed) s u × Stands g dense v (next aggressive t) u)
-  one_round few buckets = (some_placed, new_state, subst (λ c. StepAt g aggressive c s new_state) f.pivot_is step, subst (λ u. Stands g dense v u new_state) as_next (stands few buckets))
+  one_round few buckets = (some_placed, (new_state, subst (λ c. StepAt g aggressive c s new_state) f.pivot_is step, subst (λ u. Stands g dense v u new_state) as_next (stands_after few buckets)))
     where
       some_placed : is_empty t.placed ≡ false
       some_placed = elim (cases_Bool (is_empty t.placed)) [ inr n ↦ n | inl y ↦ absurd (empty_gives t.placed y r.c f.placed) ]
