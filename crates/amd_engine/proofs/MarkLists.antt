@@ -1,0 +1,116 @@
+-- Lists that are gathered with marks: what is marked is passed over, and what is added is marked.
+use Rattle.std.proofs.Common.{ℕ, Bool, true, false, ◌≡◌, ◌<◌, ◌≤◌, ◌+◌, ◌&&◌, ◌||◌, not, cond, ◌⊎◌, inl, inr, refl, sym, ◌∙◌, ap, arith, List, [], ◌∷◌, ◌++◌, length, set, get_or-set_same, get_or-set_other}
+use Rattle.std.specs.Prelude.{filter, fold, ◌==◌}
+use Rattle.std.proofs.lemmas.Bool.{cases_Bool, cases_eq, eq-eqb, ne_eqb, or_left, or_right, or_parts, cond-true, cond-false}
+use Rattle.amd_model.specs.Tie.{has, add_new}
+use Rattle.amd_model.proofs.TieLists.{has_append, add_old, add_fresh, firsts, clash}
+use Rattle.amd_engine.specs.Views.{at}
+
+pub or_true : (a : Bool) → (a || true) ≡ true
+or_true true = refl
+or_true false = refl
+
+pub or_none : (a : Bool) → (a || false) ≡ a
+or_none true = refl
+or_none false = refl
+
+pub or_assoc : (a b c : Bool) → (a || (b || c)) ≡ ((a || b) || c)
+or_assoc true b c = refl
+or_assoc false b c = refl
+
+and_all : (a : Bool) → (a && true) ≡ a
+and_all true = refl
+and_all false = refl
+
+and_none : (a : Bool) → (a && false) ≡ false
+and_none true = refl
+and_none false = refl
+
+-- the next number of a list is marked
+pub marks_next : (marks : List Bool) (i j : ℕ) (xs : List ℕ) → i < length marks → (at (set marks i true) j || has xs j) ≡ (at marks j || has (i ∷ xs) j)
+unfolding has
+marks_next marks i j xs l = elim (cases_eq j i) [
+  | inl q ↦ ap (λ b. b || has xs j) (ap (at (set marks i true)) q ∙ get_or-set_same marks i true false l) ∙ sym (ap (λ b. at marks j || (b || has xs j)) (eq-eqb i j (sym q)) ∙ or_true (at marks j))
+  | inr n ↦ ap (λ b. b || has xs j) (get_or-set_other marks i j true false n) ∙ sym (ap (λ b. at marks j || (b || has xs j)) (ne_eqb i j (λ e. n (sym e))))
+]
+
+-- the next number of a list is cleared
+pub clears_next : (marks : List Bool) (i j : ℕ) (xs : List ℕ) → i < length marks → (at (set marks i false) j && not (has xs j)) ≡ (at marks j && not (has (i ∷ xs) j))
+unfolding has
+clears_next marks i j xs l = elim (cases_eq j i) [
+  | inl q ↦ ap (λ b. b && not (has xs j)) (ap (at (set marks i false)) q ∙ get_or-set_same marks i false false l) ∙ sym (ap (λ b. at marks j && not (b || has xs j)) (eq-eqb i j (sym q)) ∙ and_none (at marks j))
+  | inr n ↦ ap (λ b. b && not (has xs j)) (get_or-set_other marks i j false false n) ∙ sym (ap (λ b. at marks j && not (b || has xs j)) (ne_eqb i j (λ e. n (sym e))))
+]
+
+pub marks_end : (marks : List Bool) (j : ℕ) → (at marks j || has [] j) ≡ at marks j
+unfolding has
+marks_end marks j = or_none (at marks j)
+
+pub clears_end : (marks : List Bool) (j : ℕ) → (at marks j && not (has [] j)) ≡ at marks j
+unfolding has
+clears_end marks j = and_all (at marks j)
+
+-- a list grows alike by two tests, if what either skips or lists is the same
+pub same_adds : (s t : ℕ → Bool) (out xs : List ℕ) → ((x : ℕ) → (s x || has out x) ≡ (t x || has out x)) → fold (add_new s) out xs ≡ fold (add_new t) out xs
+unfolding has
+same_adds s t out [] h = refl
+same_adds s t out (y ∷ ys) h = elim (cases_Bool (t y || has out y)) [
+  | inl k ↦ ap (λ o. fold (add_new s) o ys) (add_old s out y (h y ∙ k)) ∙ same_adds s t out ys h ∙ sym (ap (λ o. fold (add_new t) o ys) (add_old t out y k))
+  | inr k ↦ ap (λ o. fold (add_new s) o ys) (add_fresh s out y (h y ∙ k))
+      ∙ same_adds s t (out ++ y ∷ []) ys (λ x. ap (λ b. s x || b) (has_append out (y ∷ []) x) ∙ or_assoc (s x) (has out x) (has (y ∷ []) x) ∙ ap (λ b. b || has (y ∷ []) x) (h x)
+          ∙ sym (ap (λ b. t x || b) (has_append out (y ∷ []) x) ∙ or_assoc (t x) (has out x) (has (y ∷ []) x)))
+      ∙ sym (ap (λ o. fold (add_new t) o ys) (add_fresh t out y k))
+]
+
+-- what is listed is marked
+abbrev pub Known : List Bool → List ℕ → Type 0
+Known marks out = (j : ℕ) → has out j ≡ true → at marks j ≡ true
+
+-- a number that is marked is passed over
+pub marked_passed : (marks : List Bool) (out xs : List ℕ) (y : ℕ) → at marks y ≡ true → fold (add_new (at marks)) out (y ∷ xs) ≡ fold (add_new (at marks)) out xs
+marked_passed marks out xs y h = ap (λ o. fold (add_new (at marks)) o xs) (add_old (at marks) out y (or_left (at marks y) (has out y) h))
+
+not_listed : (marks : List Bool) (out : List ℕ) (y : ℕ) → Known marks out → at marks y ≡ false → (at marks y || has out y) ≡ false
+not_listed marks out y k h = elim (cases_Bool (has out y)) [
+  | inl m ↦ clash (k y m) h
+  | inr m ↦ ap (λ b. b || has out y) h ∙ m
+]
+
+-- a number that is not marked is added and marked
+pub unmarked_added : (marks : List Bool) (out xs : List ℕ) (y : ℕ) → y < length marks → Known marks out → at marks y ≡ false →
+    fold (add_new (at marks)) out (y ∷ xs) ≡ fold (add_new (at (set marks y true))) (out ++ y ∷ []) xs
+unfolding has
+unmarked_added marks out xs y l k h = ap (λ o. fold (add_new (at marks)) o xs) (add_fresh (at marks) out y (not_listed marks out y k h))
+    ∙ same_adds (at marks) (at (set marks y true)) (out ++ y ∷ []) xs agree
+  where
+    agree : (x : ℕ) → (at marks x || has (out ++ y ∷ []) x) ≡ (at (set marks y true) x || has (out ++ y ∷ []) x)
+    agree x = elim (cases_eq x y) [
+      | inl q ↦ (let named : has (out ++ y ∷ []) x ≡ true = has_append out (y ∷ []) x ∙ or_right (has out x) (has (y ∷ []) x) (or_left (y == x) false (eq-eqb y x (sym q))) in
+          or_right (at marks x) (has (out ++ y ∷ []) x) named ∙ sym (or_right (at (set marks y true) x) (has (out ++ y ∷ []) x) named))
+      | inr n ↦ ap (λ b. b || has (out ++ y ∷ []) x) (sym (get_or-set_other marks y x true false n))
+    ]
+
+-- and what is listed stays marked
+pub known_added : (marks : List Bool) (out : List ℕ) (y : ℕ) → y < length marks → Known marks out → Known (set marks y true) (out ++ y ∷ [])
+unfolding has
+known_added marks out y l k j h = elim (cases_eq j y) [
+  | inl q ↦ ap (at (set marks y true)) q ∙ get_or-set_same marks y true false l
+  | inr n ↦ get_or-set_other marks y j true false n ∙ k j (sym (ap (λ b. has out j || (b || false)) (ne_eqb y j (λ e. n (sym e))) ∙ or_none (has out j)) ∙ sym (has_append out (y ∷ []) j) ∙ h)
+]
+
+-- a marked number adds no mark
+pub marks_old : (marks : List Bool) (y j : ℕ) (xs : List ℕ) → at marks y ≡ true → (at marks j || has xs j) ≡ (at marks j || has (y ∷ xs) j)
+unfolding has
+marks_old marks y j xs h = elim (cases_eq j y) [
+  | inl q ↦ (let m : at marks j ≡ true = ap (at marks) q ∙ h in or_left (at marks j) (has xs j) m ∙ sym (or_left (at marks j) (has (y ∷ xs) j) m))
+  | inr n ↦ sym (ap (λ b. at marks j || (b || has xs j)) (ne_eqb y j (λ e. n (sym e))))
+]
+
+-- the numbers that are passed over or listed in the end are those from before, and those of the list
+pub adds_marks : (skip : ℕ → Bool) (out xs : List ℕ) (j : ℕ) → (skip j || has (fold (add_new skip) out xs) j) ≡ ((skip j || has out j) || has xs j)
+adds_marks skip out xs j = ap (λ b. skip j || b) (firsts skip out xs j) ∙ tests (skip j) (has out j) (has xs j)
+  where
+    tests : (a b c : Bool) → (a || (b || (c && not a))) ≡ ((a || b) || c)
+    tests true b c = refl
+    tests false true c = refl
+    tests false false c = and_all c
