@@ -114,3 +114,11 @@ adds_marks skip out xs j = ap (λ b. skip j || b) (firsts skip out xs j) ∙ tes
     tests true b c = refl
     tests false true c = refl
     tests false false c = and_all c
+
+-- the first number of a list passes
+pub filter_yes : (p : ℕ → Bool) (y : ℕ) (xs : List ℕ) → p y ≡ true → filter p (y ∷ xs) ≡ y ∷ filter p xs
+filter_yes p y xs h = cond-true (p y) (y ∷ filter p xs) (filter p xs) h
+
+-- or does not
+pub filter_no : (p : ℕ → Bool) (y : ℕ) (xs : List ℕ) → p y ≡ false → filter p (y ∷ xs) ≡ filter p xs
+filter_no p y xs h = cond-false (p y) (y ∷ filter p xs) (filter p xs) h
