@@ -1,10 +1,13 @@
 -- Lists that are gathered with marks: what is marked is passed over, and what is added is marked.
-use Rattle.std.proofs.Common.{ℕ, Bool, true, false, ◌≡◌, ◌<◌, ◌≤◌, ◌+◌, ◌&&◌, ◌||◌, not, cond, ◌⊎◌, inl, inr, refl, sym, ◌∙◌, ap, arith, List, [], ◌∷◌, ◌++◌, length, set, get_or-set_same, get_or-set_other}
-use Rattle.std.specs.Prelude.{filter, fold, ◌==◌}
-use Rattle.std.proofs.lemmas.Bool.{cases_Bool, cases_eq, eq-eqb, ne_eqb, or_left, or_right, or_parts, cond-true, cond-false}
+use Rattle.std.proofs.Common.{ℕ, Bool, true, false, ◌≡◌, ◌<◌, ◌≤◌, ◌+◌, ◌&&◌, ◌||◌, not, cond, ◌⊎◌, inl, inr, refl, sym, ◌∙◌, ap, subst, arith, List, [], ◌∷◌, ◌++◌, Vec, map, length, get_or, set, get_or-set_same, get_or-set_other}
+use Rattle.std.specs.Prelude.{filter, fold, flat_map, ◌==◌}
+use Rattle.std.proofs.lemmas.Bool.{cases_Bool, cases_eq, cases_lt, eq-eqb, ne_eqb, or_left, or_right, or_parts, cond-true, cond-false}
+use Rattle.std.proofs.lemmas.List.{get_or-map, get_or_past, length-map}
+use Rattle.std.proofs.lemmas.List.Elements.{All-nil}
+use Rattle.std.proofs.lemmas.List.Sums.{fold-append}
 use Rattle.amd_model.specs.Tie.{has, add_new}
 use Rattle.amd_model.proofs.TieLists.{has_append, add_old, add_fresh, firsts, clash}
-use Rattle.amd_engine.specs.Views.{at}
+use Rattle.amd_engine.specs.Views.{at, list_at, Below, ListsBelow, Clear}
 
 pub or_true : (a : Bool) → (a || true) ≡ true
 or_true true = refl
@@ -122,3 +125,48 @@ filter_yes p y xs h = cond-true (p y) (y ∷ filter p xs) (filter p xs) h
 -- or does not
 pub filter_no : (p : ℕ → Bool) (y : ℕ) (xs : List ℕ) → p y ≡ false → filter p (y ∷ xs) ≡ filter p xs
 filter_no p y xs h = cond-false (p y) (y ∷ filter p xs) (filter p xs) h
+
+-- what stands at the place of a list of lists
+pub list_read : {A : Type 0} (lists : List (Vec ℕ A)) (e : ℕ) (v : Vec ℕ A) → e < length lists → v ≡ get_or lists e v → list_at lists e ≡ v.items
+list_read lists e v l h = get_or-map (λ w. w.items) lists e v [] l ∙ ap (λ w. w.items) (sym h)
+
+-- each list of a list of lists is in range
+pub list_below : {A : Type 0} (n : ℕ) (lists : List (Vec ℕ A)) → ListsBelow n lists → (e : ℕ) → Below n (list_at lists e)
+list_below {A} n [] h e = subst (Below n) (sym (get_or_past {X = List ℕ} [] e [] (omega arith))) (All-nil (λ j. j < n))
+list_below {A} n (v ∷ vs) h e = elim (cases_lt e (length (v ∷ vs))) [
+  | inl l ↦ subst (Below n) (sym (get_or-map (λ w. w.items) (v ∷ vs) e v [] l)) (h.1 e v l)
+  | inr l ↦ subst (Below n) (sym (get_or_past (map (λ w. w.items) (v ∷ vs)) e [] (let m = length-map (v ∷ vs) (λ (w : Vec ℕ A). w.items) in omega (arith, m, l)))) (All-nil (λ j. j < n))
+]
+
+or_twice : (a b : Bool) → ((a || b) || b) ≡ (a || b)
+or_twice true b = refl
+or_twice false true = refl
+or_twice false false = refl
+
+-- a list of lists is gathered: what is marked is what is skipped or listed so far
+module _ (skip : ℕ → Bool) (marks : List Bool) (out grown xs : List ℕ) (marked : (j : ℕ) → at marks j ≡ (skip j || has out j)) (is_grown : grown ≡ fold (add_new (at marks)) out xs) where
+  -- so each list of them adds what the rule says
+  pub gathered_list : grown ≡ fold (add_new skip) out xs
+  gathered_list = is_grown ∙ same_adds (at marks) skip out xs (λ x. ap (λ b. b || has out x) (marked x) ∙ or_twice (skip x) (has out x))
+
+  -- and what is marked is what is skipped or listed then
+  pub gathered_marks : (after : List Bool) → ((j : ℕ) → at after j ≡ (at marks j || has xs j)) → (j : ℕ) → at after j ≡ (skip j || has grown j)
+  gathered_marks after h j = h j ∙ ap (λ b. b || has xs j) (marked j) ∙ sym (adds_marks skip out xs j) ∙ ap (λ l. skip j || has l j) (sym gathered_list)
+
+-- the next one of a list of lists
+pub gathered_next : (skip : ℕ → Bool) (f : ℕ → List ℕ) (out grown es : List ℕ) (e : ℕ) → grown ≡ fold (add_new skip) out (f e) →
+    fold (add_new skip) grown (flat_map f es) ≡ fold (add_new skip) out (flat_map f (e ∷ es))
+gathered_next skip f out grown es e h = ap (λ o. fold (add_new skip) o (flat_map f es)) h ∙ sym (fold-append (add_new skip) out (f e) (flat_map f es))
+
+-- one number alone is marked, and nothing is listed
+pub marks_one : (marks : List Bool) (c : ℕ) (out : List ℕ) → c < length marks → Clear marks → out ≡ [] → (j : ℕ) → at (set marks c true) j ≡ (j == c || has out j)
+unfolding has
+marks_one marks c out l none e j = elim (cases_eq j c) [
+  | inl q ↦ ap (at (set marks c true)) q ∙ get_or-set_same marks c true false l ∙ sym (or_left (j == c) (has out j) (eq-eqb j c q))
+  | inr n ↦ get_or-set_other marks c j true false n ∙ none j ∙ sym (ap (λ b. b || has out j) (ne_eqb j c n) ∙ ap (λ l. has l j) e)
+]
+
+-- a list alone is marked, and nothing is listed
+pub marks_list : (marks : List Bool) (xs out : List ℕ) (was : List Bool) → Clear was → out ≡ [] → ((j : ℕ) → at marks j ≡ (at was j || has xs j)) → (j : ℕ) → at marks j ≡ (has xs j || has out j)
+unfolding has
+marks_list marks xs out was none e h j = h j ∙ ap (λ b. b || has xs j) (none j) ∙ sym (ap (λ l. has xs j || has l j) e ∙ or_none (has xs j))
