@@ -1,11 +1,12 @@
 -- Lists of lists in which one list is written.
-use Rattle.std.proofs.Common.{ℕ, zero, suc, Bool, true, false, ◌≡◌, ◌<◌, ◌≤◌, ◌+◌, ◌⊎◌, inl, inr, refl, sym, ◌∙◌, ap, subst, arith, List, [], ◌∷◌, ◌++◌, Vec, map, length, get_or, drop, set, get_or-set_same, get_or-set_other, append_assoc}
+use Rattle.std.proofs.Common.{ℕ, zero, suc, Bool, true, false, ◌≡◌, ◌<◌, ◌≤◌, ◌+◌, ◌⊎◌, inl, inr, refl, sym, ◌∙◌, ap, subst, arith, List, [], ◌∷◌, ◌++◌, Vec, Option, None, Some, map, length, get_or, take, drop, set, get_or-set_same, get_or-set_other, append_assoc, take_all}
 use Rattle.std.specs.Prelude.{filter, ◌==◌}
 use Rattle.std.proofs.lemmas.Bool.{cases_Bool, cases_eq, cases_lt, eq-eqb, ne_eqb, eqb-true, or_cases, or_left, or_right, true≢false, false≢true}
-use Rattle.std.proofs.lemmas.List.{map-set, length-set, length-map, at_drop_more, at_drop_all}
-use Rattle.std.proofs.lemmas.List.Elements.{All-set, All-push}
+use Rattle.std.proofs.lemmas.List.{map-set, length-set, length-map, get_or_past, take-append-le, at_drop_more, at_drop_all}
+use Rattle.std.proofs.lemmas.List.Elements.{All-set, All-nil, All-take}
 use Rattle.amd_model.specs.Tie.{has}
 use Rattle.amd_engine.specs.Views.{num, list_at, Below, ListsBelow}
+use Rattle.amd_engine.specs.Buckets.{live_in, Popped}
 use Rattle.amd_engine.proofs.MarkLists.{filter_yes, filter_no}
 
 -- the list that is written
@@ -57,3 +58,33 @@ pub least_end : (made : List ℕ) (i least bound j : ℕ) → length made ≤ i 
 unfolding has
 least_end made i least bound j past (inr k) = k
 least_end made i least bound j past (inl k) = absurd (false≢true (sym (at_drop_all (λ xs. has xs j) made i past) ∙ k))
+
+-- past the end there is no list
+pub list_past : {A : Type 0} (lists : List (Vec ℕ A)) (b : ℕ) → length lists ≤ b → list_at lists b ≡ []
+list_past {A} lists b l = get_or_past (map (λ w. w.items) lists) b [] (let m = length-map lists (λ (w : Vec ℕ A). w.items) in omega (arith, m, l))
+
+-- the list that names a class stands among the lists
+pub place_of_class : {A : Type 0} (size bound : List ℕ) (lists : List (Vec ℕ A)) (b i : ℕ) → has (live_in size bound b (list_at lists b)) i ≡ true → b < length lists
+unfolding has
+place_of_class size bound lists b i h = elim (cases_lt b (length lists)) [
+  | inl l ↦ l
+  | inr l ↦ absurd (false≢true (sym (ap (λ xs. has (live_in size bound b xs) i) (list_past lists b l)) ∙ h))
+]
+
+-- what is left of a list is in range
+pub popped_below : (n : ℕ) (size bound : List ℕ) (b : ℕ) (old new : List ℕ) (r : Option ℕ) → Popped size bound b old new r → Below n old → Below n new
+popped_below n size bound b old new None h k = subst (Below n) (sym h.0) (All-nil (λ j. j < n))
+popped_below n size bound b old new (Some i) h k = subst (Below n) (ap (take (length new)) h.1 ∙ take-append-le (length new) new (i ∷ h.0) (omega arith) ∙ take_all (length new) new (omega arith)) (All-take (λ j. j < n) (length new) old k)
+
+-- and the same for equal lists
+pub popped_same : (size bound : List ℕ) (b : ℕ) (old new old' new' : List ℕ) (i : ℕ) → old' ≡ old → new' ≡ new → Popped size bound b old new (Some i) → Popped size bound b old' new' (Some i)
+popped_same size bound b old new old' new' i p q h = (h.0, p ∙ h.1 ∙ ap (λ xs. xs ++ (i ∷ h.0)) (sym q), h.2, h.3)
+
+-- where the list of a bound names no class, a class stands in the list of a greater one
+pub next_some : {A : Type 0} (size bound : List ℕ) (lists : List (Vec ℕ A)) (least : ℕ) → live_in size bound least (list_at lists least) ≡ [] →
+    (b : ℕ) × (i : ℕ) × (least ≤ b) × (has (live_in size bound b (list_at lists b)) i ≡ true) → (b : ℕ) × (i : ℕ) × (least + 1 ≤ b) × (has (live_in size bound b (list_at lists b)) i ≡ true)
+unfolding has
+next_some size bound lists least none some = elim (cases_eq some.0 least) [
+  | inl e ↦ absurd (false≢true (sym (ap (λ b. has (live_in size bound b (list_at lists b)) some.1) e ∙ ap (λ xs. has xs some.1) none) ∙ some.3))
+  | inr n ↦ (some.0, some.1, (let l = some.2 in omega (arith, n, l)), some.3)
+]
