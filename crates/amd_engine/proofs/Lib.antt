@@ -9,3 +9,4 @@ pub mod Arcs
 pub mod Listing
 pub mod MarkLists
 pub mod BucketLists
+pub mod BucketsLaw
