@@ -1,11 +1,11 @@
 -- Lists of lists in which one list is written.
-use Rattle.std.proofs.Common.{ℕ, zero, suc, Bool, true, false, ◌≡◌, ◌<◌, ◌≤◌, ◌+◌, ◌⊎◌, inl, inr, refl, sym, ◌∙◌, ap, subst, arith, List, [], ◌∷◌, ◌++◌, Vec, Option, None, Some, map, length, get_or, take, drop, set, get_or-set_same, get_or-set_other, append_assoc, take_all}
+use Rattle.std.proofs.Common.{ℕ, zero, suc, Bool, true, ◌≡◌, ◌<◌, ◌≤◌, ◌+◌, ◌⊎◌, inl, inr, refl, sym, ◌∙◌, ap, subst, arith, List, [], ◌∷◌, ◌++◌, Vec, Option, None, Some, map, length, get_or, take, drop, set, get_or-set_same, get_or-set_other, append_assoc, take_all}
 use Rattle.std.specs.Prelude.{filter, ◌==◌}
-use Rattle.std.proofs.lemmas.Bool.{cases_Bool, cases_eq, cases_lt, eq-eqb, ne_eqb, eqb-true, or_cases, or_left, or_right, true≢false, false≢true}
+use Rattle.std.proofs.lemmas.Bool.{cases_eq, cases_lt, eq-eqb, ne_eqb, eqb-true, or_cases, or_left, or_right, false≢true}
 use Rattle.std.proofs.lemmas.List.{map-set, length-set, length-map, get_or_past, take-append-le, at_drop_more, at_drop_all}
 use Rattle.std.proofs.lemmas.List.Elements.{All-set, All-nil, All-take}
 use Rattle.amd_model.specs.Tie.{has}
-use Rattle.amd_engine.specs.Views.{num, list_at, Below, ListsBelow}
+use Rattle.amd_engine.specs.Views.{list_at, Below, ListsBelow}
 use Rattle.amd_engine.specs.Buckets.{live_in, Popped}
 use Rattle.amd_engine.proofs.MarkLists.{filter_yes, filter_no}
 

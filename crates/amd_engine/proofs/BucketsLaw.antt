@@ -1,8 +1,8 @@
 -- The lists of the classes by bound stand for the order of placing: a round keeps that, and the pivot that they give is the one of
 -- the rules.
-use Rattle.std.proofs.Common.{ℕ, Bool, true, false, ◌≡◌, ◌≤◌, ◌<◌, ◌&&◌, ◌||◌, not, ◌⊎◌, inl, inr, refl, sym, ◌∙◌, ap, List, [], ◌∷◌, ◌++◌, Vec, Some, cond, arith, append_assoc}
+use Rattle.std.proofs.Common.{ℕ, Bool, true, false, ◌≡◌, ◌≤◌, ◌<◌, ◌&&◌, ◌||◌, not, inl, inr, refl, sym, ◌∙◌, ap, subst, List, [], ◌∷◌, ◌++◌, Vec, Some, cond, arith}
 use Rattle.std.specs.Prelude.{fold, filter, nat_le, nat_lt, ◌==◌}
-use Rattle.std.proofs.lemmas.Bool.{cases_Bool, cond-true, cond-false, cond_both, cases_eq, cases_lt, cases_order, eq-eqb, ne_eqb, eqb-true, le-leb, lt-ltb, or_left, or_right, or_parts, or_cases, and_parts, and_from, false≢true}
+use Rattle.std.proofs.lemmas.Bool.{cases_Bool, cond-true, cond-false, cond_both, cases_eq, cases_lt, cases_order, eq-eqb, ne_eqb, eqb-true, le-leb, lt-ltb, or_left, or_right, or_cases, and_parts, and_from, not-true, false≢true}
 use Rattle.std.proofs.lemmas.List.{append-nil}
 use Rattle.std.proofs.lemmas.List.Elements.{filter-append}
 use Rattle.std.proofs.lemmas.List.Sums.{fold_push}
@@ -65,8 +65,8 @@ pub once_lasts : (xs : List ℕ) → Once (lasts xs)
 unfolding lasts
 once_lasts [] = tt
 once_lasts (y ∷ ys) = elim (cases_Bool (has ys y)) [
-  | inl h ↦ Rattle.std.proofs.Common.subst Once (sym (lasts_old y ys h)) (once_lasts ys)
-  | inr h ↦ Rattle.std.proofs.Common.subst Once (sym (lasts_new y ys h)) (has_lasts ys y ∙ h, once_lasts ys)
+  | inl h ↦ subst Once (sym (lasts_old y ys h)) (once_lasts ys)
+  | inr h ↦ subst Once (sym (lasts_new y ys h)) (has_lasts ys y ∙ h, once_lasts ys)
 ]
 
 -- a list without repeats stays
@@ -172,3 +172,164 @@ choose_pivot bound (d ∷ ds) m c xs low is =
     let same : bound p ≡ m = omega (arith, bound_c, up, down) in
     sym (pivot_last bound d ds) ∙ ap (λ n. last_that (λ y. bound y == n) d ds) same ∙ last_filter (λ y. bound y == m) d ds ∙ last_head (λ y. bound y == m) d ds
     ∙ ap (fold (λ r x. x) d) is ∙ fold_push (λ r x. x) d xs c
+
+-- ---- a round
+
+and_none : (a : Bool) → (a && false) ≡ false
+and_none true = refl
+and_none false = refl
+
+and_all : (a : Bool) → (a && true) ≡ a
+and_all true = refl
+and_all false = refl
+
+-- the classes of a list from which the last one was taken
+popped_live : (size bound : List ℕ) (b : ℕ) (old new : List ℕ) (c : ℕ) → Popped size bound b old new (Some c) → live_in size bound b old ≡ live_in size bound b new ++ c ∷ []
+popped_live size bound b old new c h =
+    let live = live_in size bound b in let is_class = λ (x : ℕ). nat_lt 0 (num size x) && num bound x == b in
+    ap live h.1 ∙ filter-append is_class new (c ∷ h.0) ∙ ap (λ l. live new ++ l) (filter-append is_class (c ∷ []) h.0 ∙ ap (λ l. l ++ live h.0) h.2 ∙ ap (λ l. c ∷ l) h.3)
+
+-- where c is left out, a list of which c is taken stays
+lasts_without : (p : ℕ → Bool) (c : ℕ) (xs : List ℕ) → p c ≡ false → filter p (lasts (xs ++ c ∷ [])) ≡ filter p (lasts xs)
+lasts_without p c xs f = ap (filter p) (lasts_push xs c) ∙ filter-append p (filter (λ x. not (x == c)) (lasts xs)) (c ∷ [])
+    ∙ ap (λ l. filter p (filter (λ x. not (x == c)) (lasts xs)) ++ l) (filter_no p c [] f) ∙ append-nil (filter p (filter (λ x. not (x == c)) (lasts xs)))
+    ∙ filter_twice p (λ x. not (x == c)) (lasts xs) ∙ filter_on (λ x. not (x == c) && p x) p (lasts xs) (λ x h. elim (cases_eq x c) [
+      | inl e ↦ (let q : p x ≡ false = ap p e ∙ f in ap (λ b. not (x == c) && b) q ∙ and_none (not (x == c)) ∙ sym q)
+      | inr n ↦ ap (λ b. not b && p x) (ne_eqb x c n)
+    ])
+
+-- the lists of the classes by bound, old, and after the class c was chosen, stand for the order of placing
+module _ {A : Type 0} (size bound : List ℕ) (old mid : List (Vec ℕ A)) (before least c : ℕ) (placed : List ℕ) (bound_of : ℕ → ℕ)
+    (chosen : Chosen size bound old mid before least c)
+    (stands : (b : ℕ) → lasts (live_in size bound b (list_at old b)) ≡ filter (λ i. bound_of i == b) placed)
+    (low : (i : ℕ) → has placed i ≡ true → before ≤ bound_of i) where
+  -- no class has a bound below the one that was chosen
+  pub least_low : (i : ℕ) → has placed i ≡ true → least ≤ bound_of i
+  unfolding has lasts
+  least_low i h = elim (cases_lt (bound_of i) least) [
+    | inr l ↦ l
+    | inl l ↦ (
+        let none = (chosen.lower (bound_of i) (low i h) l).1 in
+        let is = sym (stands (bound_of i)) ∙ ap lasts none in
+        let named = has_filter (λ j. bound_of j == bound_of i) placed i ∙ and_from (has placed i) (bound_of i == bound_of i) h (eq-eqb (bound_of i) (bound_of i) refl) in
+        clash named (ap (λ l. has l i) is))
+  ]
+
+  -- the class that was chosen is the pivot
+  pub chosen_pivot : pivot bound_of placed ≡ c
+  chosen_pivot =
+      let live = live_in size bound least (list_at mid least) in
+      choose_pivot bound_of placed least c (filter (λ x. not (x == c)) (lasts live)) least_low
+      (sym (stands least) ∙ ap lasts (popped_live size bound least (list_at old least) (list_at mid least) c chosen.popped) ∙ lasts_push live c)
+
+  -- the class apart, the classes of each bound stay
+  pub chosen_rest : (p : ℕ → Bool) → p c ≡ false → (b : ℕ) → filter p (lasts (live_in size bound b (list_at mid b))) ≡ filter p (lasts (live_in size bound b (list_at old b)))
+  chosen_rest p f b = elim (cases_order b least) [
+    | inl e ↦ subst (λ a. filter p (lasts (live_in size bound a (list_at mid a))) ≡ filter p (lasts (live_in size bound a (list_at old a)))) (sym e)
+        (sym (ap (λ l. filter p (lasts l)) (popped_live size bound least (list_at old least) (list_at mid least) c chosen.popped) ∙ lasts_without p c (live_in size bound least (list_at mid least)) f))
+    | inr k ↦ elim k [
+      | inr l ↦ ap (λ l. filter p (lasts (live_in size bound b l))) (chosen.others b (inr l))
+      | inl l ↦ elim (cases_lt b before) [
+        | inl m ↦ ap (λ l. filter p (lasts (live_in size bound b l))) (chosen.others b (inl m))
+        | inr m ↦ (let both = chosen.lower b m l in ap (λ l. filter p (lasts (live_in size bound b l))) both.0 ∙ sym (ap (λ l. filter p (lasts l)) both.1))
+      ]
+    ]
+  ]
+
+  -- after the round: the classes `made` of the list `front` are placed behind the others with their new bounds, and the other
+  -- classes of `front` have ended, as c has
+  module _ (new : List (Vec ℕ A)) (sizes bounds front made : List ℕ) (bound_after : ℕ → ℕ)
+      (placing : (b : ℕ) → list_at new b ≡ list_at mid b ++ filter (λ i. num bounds i == b) made)
+      (made_once : Once made)
+      (of_front : (i : ℕ) → has made i ≡ true → has front i ≡ true)
+      (stay : (i : ℕ) → (i == c || has front i) ≡ false → (num sizes i ≡ num size i) × (num bounds i ≡ num bound i))
+      (made_live : (i : ℕ) → has made i ≡ true → 0 < num sizes i)
+      (ended : (i : ℕ) → (i == c || has front i) ≡ true → has made i ≡ false → num sizes i ≡ 0)
+      (bound_is : (i : ℕ) → has placed i ≡ true → bound_of i ≡ num bound i)
+      (after_is : (i : ℕ) → has (filter (λ i. not (i == c || has front i)) placed ++ made) i ≡ true → bound_after i ≡ num bounds i) where
+    -- of the classes that were placed before, those of a bound are those that had it and have neither ended nor been placed anew
+    still : (b x : ℕ) → ((nat_lt 0 (num sizes x) && num bounds x == b) && not (has (filter (λ i. num bounds i == b) made) x))
+        ≡ ((nat_lt 0 (num size x) && num bound x == b) && not (x == c || has front x))
+    still b x =
+        let live : Bool = nat_lt 0 (num sizes x) && num bounds x == b in
+        let was_live : Bool = nat_lt 0 (num size x) && num bound x == b in
+        let again : Bool = has (filter (λ i. num bounds i == b) made) x in
+        let again_is : again ≡ (has made x && num bounds x == b) = has_filter (λ i. num bounds i == b) made x in
+        elim (cases_Bool (x == c || has front x)) [
+          | inr out ↦ (
+              let kept = stay x out in
+              let not_made : has made x ≡ false = elim (cases_Bool (has made x)) [
+                | inr k ↦ k
+                | inl k ↦ clash (or_right (x == c) (has front x) (of_front x k)) out
+              ] in
+              let same : live ≡ was_live = ap (λ n. nat_lt 0 n && num bounds x == b) kept.0 ∙ ap (λ n. nat_lt 0 (num size x) && n == b) kept.1 in
+              ap (λ t. live && not t) (again_is ∙ ap (λ t. t && num bounds x == b) not_made) ∙ and_all live ∙ same ∙ sym (ap (λ t. was_live && not t) out ∙ and_all was_live))
+          | inl inside ↦ elim (cases_Bool (has made x)) [
+            | inl k ↦ ap (λ t. live && not t) (again_is ∙ ap (λ t. t && num bounds x == b) k) ∙ and_own (nat_lt 0 (num sizes x)) (num bounds x == b) ∙ sym (ap (λ t. was_live && not t) inside ∙ and_none was_live)
+            | inr k ↦ ap (λ n. (nat_lt 0 n && num bounds x == b) && not again) (ended x inside k) ∙ sym (ap (λ t. was_live && not t) inside ∙ and_none was_live)
+          ]
+        ]
+      where
+        and_own : (a b : Bool) → ((a && b) && not b) ≡ false
+        and_own true true = refl
+        and_own true false = refl
+        and_own false b = refl
+
+    -- the lists of the classes by bound stand for the new order of placing
+    pub bucket_step : (b : ℕ) → lasts (live_in sizes bounds b (list_at new b)) ≡ filter (λ i. bound_after i == b) (filter (λ i. not (i == c || has front i)) placed ++ made)
+    bucket_step b =
+        let live = λ (x : ℕ). nat_lt 0 (num sizes x) && num bounds x == b in
+        let was_live = λ (x : ℕ). nat_lt 0 (num size x) && num bound x == b in
+        let other = λ (i : ℕ). not (i == c || has front i) in
+        let again : List ℕ = filter (λ i. num bounds i == b) made in
+        let before_list : List ℕ = list_at mid b in
+        -- those that are placed again
+        let again_live : filter live again ≡ again = filter_twice live (λ i. num bounds i == b) made
+        ∙ filter_on (λ x. num bounds x == b && live x) (λ i. num bounds i == b) made (λ x h. and_same (nat_lt 0 (num sizes x)) (num bounds x == b) (lt-ltb 0 (num sizes x) (made_live x h))) in
+        let again_after : again ≡ filter (λ i. bound_after i == b) made = filter_on (λ i. num bounds i == b) (λ i. bound_after i == b) made
+        (λ x h. ap (λ n. n == b) (sym (after_is x (has_append (filter other placed) made x ∙ or_right (has (filter other placed) x) (has made x) h)))) in
+        -- the others
+        let other_c : other c ≡ false = ap not (or_left (c == c) (has front c) (eq-eqb c c refl)) in
+        let rest : filter (λ x. not (has again x)) (lasts (filter live before_list)) ≡ filter other (filter (λ i. bound_of i == b) placed) =
+        ap (filter (λ x. not (has again x))) (lasts_filter live before_list)
+        ∙ filters_on (λ x. not (has again x)) live other was_live (lasts before_list) (λ x h. still b x)
+        ∙ ap (filter other) (sym (lasts_filter was_live before_list))
+        ∙ chosen_rest other other_c b ∙ ap (filter other) (stands b) in
+        let rest_after : filter other (filter (λ i. bound_of i == b) placed) ≡ filter (λ i. bound_after i == b) (filter other placed) =
+        filters_on other (λ i. bound_of i == b) (λ i. bound_after i == b) other placed (λ x h. agree b x h) in
+        ap (λ l. lasts (filter live l)) (placing b) ∙ ap lasts (filter-append live before_list again ∙ ap (λ l. filter live before_list ++ l) again_live)
+        ∙ lasts_append (filter live before_list) again
+        ∙ ap (λ l. filter (λ x. not (has again x)) (lasts (filter live before_list)) ++ l) (lasts_once again (once_filter (λ i. num bounds i == b) made made_once) ∙ again_after)
+        ∙ ap (λ l. l ++ filter (λ i. bound_after i == b) made) (rest ∙ rest_after)
+        ∙ sym (filter-append (λ i. bound_after i == b) (filter other placed) made)
+      where
+        and_same : (a b : Bool) → a ≡ true → (b && (a && b)) ≡ b
+        and_same true true h = refl
+        and_same true false h = refl
+        and_same false b h = absurd (false≢true h)
+
+        agree : (b x : ℕ) → has placed x ≡ true → (bound_of x == b && not (x == c || has front x)) ≡ (not (x == c || has front x) && bound_after x == b)
+        agree b x h = elim (cases_Bool (x == c || has front x)) [
+          | inl inside ↦ ap (λ t. bound_of x == b && not t) inside ∙ and_none (bound_of x == b) ∙ sym (ap (λ t. not t && bound_after x == b) inside)
+          | inr out ↦ (
+              let other = λ (i : ℕ). not (i == c || has front i) in
+              let stays : has (filter other placed) x ≡ true = has_filter other placed x ∙ and_from (has placed x) (other x) h (ap not out) in
+              let same : bound_of x ≡ bound_after x = bound_is x h ∙ sym (stay x out).1 ∙ sym (after_is x (has_append (filter other placed) made x ∙ or_left (has (filter other placed) x) (has made x) stays)) in
+              ap (λ t. bound_of x == b && not t) out ∙ and_all (bound_of x == b) ∙ ap (λ n. n == b) same ∙ sym (ap (λ t. not t && bound_after x == b) out))
+        ]
+
+    -- what is below the bound that was chosen and the bounds of those that are placed is below all of them
+    pub least_step : (lower : ℕ) → lower ≤ least → ((i : ℕ) → has made i ≡ true → lower ≤ num bounds i) →
+        (i : ℕ) → has (filter (λ i. not (i == c || has front i)) placed ++ made) i ≡ true → lower ≤ bound_after i
+    least_step lower l k i h =
+        let other = λ (j : ℕ). not (j == c || has front j) in
+        let is = after_is i h in
+        elim (or_cases (has (filter other placed) i) (has made i) (sym (has_append (filter other placed) made i) ∙ h)) [
+          | inr m ↦ (let d = k i m in omega (arith, d, is))
+          | inl m ↦ (
+              let parts = and_parts (has placed i) (other i) (sym (has_filter other placed i) ∙ m) in
+              let d = least_low i parts.0 in
+              let was = bound_is i parts.0 in
+              let same = (stay i (not-true (i == c || has front i) parts.1)).1 in
+              omega (arith, l, d, is, was, same))
+        ]

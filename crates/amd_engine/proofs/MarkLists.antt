@@ -1,7 +1,7 @@
 -- Lists that are gathered with marks: what is marked is passed over, and what is added is marked.
-use Rattle.std.proofs.Common.{ℕ, Bool, true, false, ◌≡◌, ◌<◌, ◌≤◌, ◌+◌, ◌&&◌, ◌||◌, not, cond, ◌⊎◌, inl, inr, refl, sym, ◌∙◌, ap, subst, arith, List, [], ◌∷◌, ◌++◌, Vec, map, length, get_or, set, get_or-set_same, get_or-set_other}
+use Rattle.std.proofs.Common.{ℕ, Bool, true, false, ◌≡◌, ◌<◌, ◌&&◌, ◌||◌, not, inl, inr, refl, sym, ◌∙◌, ap, subst, arith, List, [], ◌∷◌, ◌++◌, Vec, map, length, get_or, set, get_or-set_same, get_or-set_other}
 use Rattle.std.specs.Prelude.{filter, fold, flat_map, ◌==◌}
-use Rattle.std.proofs.lemmas.Bool.{cases_Bool, cases_eq, cases_lt, eq-eqb, ne_eqb, or_left, or_right, or_parts, cond-true, cond-false}
+use Rattle.std.proofs.lemmas.Bool.{cases_Bool, cases_eq, cases_lt, eq-eqb, ne_eqb, or_left, or_right, cond-true, cond-false}
 use Rattle.std.proofs.lemmas.List.{get_or-map, get_or_past, length-map}
 use Rattle.std.proofs.lemmas.List.Elements.{All-nil}
 use Rattle.std.proofs.lemmas.List.Sums.{fold-append}
@@ -61,7 +61,7 @@ same_adds s t out (y ∷ ys) h = elim (cases_Bool (t y || has out y)) [
   | inl k ↦ ap (λ o. fold (add_new s) o ys) (add_old s out y (h y ∙ k)) ∙ same_adds s t out ys h ∙ sym (ap (λ o. fold (add_new t) o ys) (add_old t out y k))
   | inr k ↦ ap (λ o. fold (add_new s) o ys) (add_fresh s out y (h y ∙ k))
       ∙ same_adds s t (out ++ y ∷ []) ys (λ x. ap (λ b. s x || b) (has_append out (y ∷ []) x) ∙ or_assoc (s x) (has out x) (has (y ∷ []) x) ∙ ap (λ b. b || has (y ∷ []) x) (h x)
-          ∙ sym (ap (λ b. t x || b) (has_append out (y ∷ []) x) ∙ or_assoc (t x) (has out x) (has (y ∷ []) x)))
+      ∙ sym (ap (λ b. t x || b) (has_append out (y ∷ []) x) ∙ or_assoc (t x) (has out x) (has (y ∷ []) x)))
       ∙ sym (ap (λ o. fold (add_new t) o ys) (add_fresh t out y k))
 ]
 

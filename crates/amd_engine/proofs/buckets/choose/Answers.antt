@@ -1,8 +1,7 @@
-use Rattle.std.proofs.Common.{ℕ, List, true, [], ◌≡◌, ◌<◌, ◌≤◌, ◌+◌, ◌∙◌, ◌⊎◌, inl, inr, sym, ap, arith, subst, length, set}
-use Rattle.std.proofs.lemmas.Bool.{cases_lt, cases_eq, false≢true}
-use Rattle.amd_model.specs.Tie.{has}
-use Rattle.amd_engine.specs.Views.{num, list_at, Below}
-use Rattle.amd_engine.specs.Buckets.{live_in, Popped, Chosen}
+use Rattle.std.proofs.Common.{ℕ, [], ◌≡◌, ◌<◌, ◌∙◌, inl, inr, sym, ap, arith, subst, length, set}
+use Rattle.std.proofs.lemmas.Bool.{cases_eq}
+use Rattle.amd_engine.specs.Views.{list_at, Below}
+use Rattle.amd_engine.specs.Buckets.{live_in}
 use Rattle.amd_engine.proofs.MarkLists.{list_read, list_below}
 use Rattle.amd_engine.proofs.BucketLists.{list_set_same, list_set_other, lists_set, place_of_class, popped_below, popped_same, next_some}
 use Rattle.amd_engine.proofs.buckets.choose.Goals as goal

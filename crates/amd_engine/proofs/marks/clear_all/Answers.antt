@@ -1,4 +1,4 @@
-use Rattle.std.proofs.Common.{ℕ, List, true, false, ◌≡◌, ◌<◌, ◌+◌, ◌∙◌, sym, ap, arith, length, length-set, get_or, drop, ◌&&◌, not}
+use Rattle.std.proofs.Common.{ℕ, List, false, ◌<◌, ◌+◌, ◌∙◌, sym, arith, length, length-set, get_or, drop, ◌&&◌, not}
 use Rattle.std.proofs.lemmas.List.{at_drop_more, at_drop_all}
 use Rattle.amd_model.specs.Tie.{has}
 use Rattle.amd_engine.specs.Views.{at}

@@ -1,4 +1,4 @@
-use Rattle.std.proofs.Common.{ℕ, List, Bool, true, false, [], ◌∷◌, ◌++◌, fold, flat_map, ◌≡◌, ◌<◌, ◌≤◌, ◌+◌, ◌∙◌, ◌||◌, sym, ap, arith, length, set, length-set, get_or, drop}
+use Rattle.std.proofs.Common.{ℕ, List, Bool, true, [], fold, flat_map, ◌≡◌, ◌<◌, ◌≤◌, ◌+◌, ◌∙◌, ◌||◌, sym, ap, arith, length, length-set, get_or, drop}
 use Rattle.std.specs.Prelude.{◌==◌}
 use Rattle.std.proofs.lemmas.List.{at_drop_more, at_drop_all}
 use Rattle.std.proofs.lemmas.List.Sums.{fold-append}
@@ -43,7 +43,7 @@ elements-preserved g c =
     let e_now : ℕ = get_or c.deref-e-items.result.now i 0 in
     let small_now : e_now < length lists.members.items = omega (arith, small, same) in
     let list : list_at lists.members.items e ≡ c.deref.result.now
-        = ap (list_at lists.members.items) (sym same) ∙ list_read lists.members.items e_now c.index-in-elements.result.now small_now c.index-in-elements.ensures ∙ sym c.deref.ensures.value in
+    = ap (list_at lists.members.items) (sym same) ∙ list_read lists.members.items e_now c.index-in-elements.result.now small_now c.index-in-elements.ensures ∙ sym c.deref.ensures.value in
     let grows : grown ≡ fold (add_new (at c.elements.marks.items)) out (f e) = c.in_ok-add_classes.ensures.list ∙ ap (λ xs. fold (add_new (at c.elements.marks.items)) out (live_of sizes xs)) (sym list) in
     record {
       size = c.in_ok-add_classes.ensures.size ∙ was.size;
