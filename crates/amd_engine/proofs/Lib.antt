@@ -20,3 +20,6 @@ mod ChildChains
 mod ForestListings
 mod TreeNumbers
 pub mod FrontsLaw
+pub mod MarkLists
+pub mod BucketLists
+pub mod BucketsLaw
