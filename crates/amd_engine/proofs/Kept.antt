@@ -136,11 +136,12 @@ below_next n p now x v w small at_place kept was =
     let here : Below n v.items = subst (λ u. Below n u.items) (sym at_place) (was.1 x v small) in
     (length-set now x w ∙ was.0, All-set (λ u. Below n u.items) now x w (subst (Below n) (sym kept) (All-filter p (λ j. j < n) v.items here)) was.1)
 
--- a vector without numbers
+-- a list without numbers has no length
+pub none_long : (xs : List ℕ) (n : ℕ) → n ≡ length xs → (n == 0) ≡ is_empty xs
+unfolding is_empty
+none_long [] n e = eq-eqb n 0 e
+none_long (x ∷ xs) n e = ne_eqb n 0 (λ q. omega (arith, e, q))
+
+-- nor has its vector
 pub none_is : {A : Type 0} (v : Vec ℕ A) → (v.len == 0) ≡ is_empty v.items
-none_is v = none (v.items) (v.len) (v.ok.0)
-  where
-    none : (xs : List ℕ) (n : ℕ) → n ≡ length xs → (n == 0) ≡ is_empty xs
-    unfolding is_empty
-    none [] n e = eq-eqb n 0 e
-    none (x ∷ xs) n e = ne_eqb n 0 (λ q. omega (arith, e, q))
+none_is v = none_long v.items v.len v.ok.0
