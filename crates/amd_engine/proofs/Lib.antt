@@ -8,3 +8,4 @@ pub mod Ends
 pub mod Arcs
 pub mod Listing
 pub mod Kept
+pub mod MarkLists
