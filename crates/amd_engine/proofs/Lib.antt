@@ -9,3 +9,4 @@ pub mod Arcs
 pub mod Listing
 pub mod Kept
 pub mod MarkLists
+pub mod KeptParts
