@@ -10,3 +10,4 @@ pub mod Listing
 pub mod Kept
 pub mod MarkLists
 pub mod KeptParts
+pub mod KeptLaw
