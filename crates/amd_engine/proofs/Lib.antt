@@ -23,3 +23,7 @@ pub mod FrontsLaw
 pub mod MarkLists
 pub mod BucketLists
 pub mod BucketsLaw
+pub mod Kept
+pub mod MarkLists
+pub mod KeptParts
+pub mod KeptLaw

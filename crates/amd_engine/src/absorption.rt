@@ -85,6 +85,40 @@ fn adopt<A: Allocator>(
     }
 }
 
+/// A number is marked.
+fn is_marked(marks: &[bool], j: usize) -> bool
+    ensures { result ≡ at marks.now j }
+{
+    match marks.get(j) {
+        Some(mark) => *mark,
+        None => false,
+    }
+}
+
+/// A number names a class that is not marked.
+fn is_outside(size: &[usize], marks: &[bool], j: usize) -> bool
+    ensures { result ≡ (nat_lt 0 (num size.now j) && not (at marks.now j)) }
+{
+    match size.get(j) {
+        Some(rows) => *rows > 0 && !is_marked(marks, j),
+        None => false,
+    }
+}
+
+/// Leaves in a list the elements that are not absorbed.
+fn keep_elements<A: Allocator>(taken: &[bool], list: &mut Vec<usize, A>)
+    ensures { list.new.items ≡ filter (λ e. not (at taken.now e)) list.old.items }
+{
+    list.retain(|e| !is_marked(taken, *e));
+}
+
+/// Leaves in a list the classes that are not marked.
+fn keep_variables<A: Allocator>(size: &[usize], marks: &[bool], list: &mut Vec<usize, A>)
+    ensures { list.new.items ≡ filter (λ j. nat_lt 0 (num size.now j) && not (at marks.now j)) list.old.items }
+{
+    list.retain(|j| is_outside(size, marks, *j));
+}
+
 /// Leaves in the lists of each class of the front the elements that are not absorbed, and the classes that are not marked.
 fn shorten<A: Allocator>(
     front: &[usize],
@@ -105,8 +139,8 @@ fn shorten<A: Allocator>(
     ensures variables { ListsBelow (length size.now) lists.new.variables.items }
 {
     for i in front {
-        lists.elements[*i].retain(|e| !taken[*e]);
-        lists.variables[*i].retain(|j| size[*j] > 0 && !marks[*j]);
+        keep_elements(taken, &mut lists.elements[*i]);
+        keep_variables(size, marks, &mut lists.variables[*i]);
     }
 }
 
@@ -158,6 +192,15 @@ pub fn absorb<A: Allocator + Copy>(
     Ok(())
 }
 
+/// A class keeps neither an element nor a variable.
+fn keeps_nothing<A: Allocator>(lists: &Lists<A>, i: usize) -> bool
+    requires elements { i < length lists.now.elements.items }
+    requires variables { i < length lists.now.variables.items }
+    ensures { result ≡ keeps_none lists.now.elements.items lists.now.variables.items i }
+{
+    lists.elements[i].is_empty() && lists.variables[i].is_empty()
+}
+
 /// The classes of a list that keep an element or a variable.
 pub fn others_left<A: Allocator + Copy>(
     alloc: A,
@@ -170,7 +213,7 @@ pub fn others_left<A: Allocator + Copy>(
 {
     let mut rest = Vec::new(alloc);
     for i in front {
-        if !(lists.elements[*i].is_empty() && lists.variables[*i].is_empty()) {
+        if !keeps_nothing(lists, *i) {
             rest.push(*i)?;
         }
     }
@@ -192,7 +235,7 @@ pub fn retire<A: Allocator>(
     ensures lengths { (length size.new.items ≡ length size.old.items) × (length link.new.items ≡ length link.old.items) }
 {
     for i in front {
-        if lists.elements[*i].is_empty() && lists.variables[*i].is_empty() {
+        if keeps_nothing(lists, *i) {
             size[*i] = 0;
             link[*i] = Some(pivot);
         }
