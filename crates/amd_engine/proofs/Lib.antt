@@ -24,6 +24,5 @@ pub mod MarkLists
 pub mod BucketLists
 pub mod BucketsLaw
 pub mod Kept
-pub mod MarkLists
 pub mod KeptParts
 pub mod KeptLaw
