@@ -7,3 +7,4 @@ pub mod Uppers
 pub mod Ends
 pub mod Arcs
 pub mod Listing
+pub mod BoundLists
