@@ -1,11 +1,12 @@
 -- What a loop over a list has met: the numbers before an index, each once.
-use Rattle.std.proofs.Common.{ℕ, zero, suc, Bool, true, false, ◌≡◌, ◌≢◌, ◌<◌, ◌≤◌, ◌+◌, ◌||◌, cond, ◌⊎◌, inl, inr, refl, sym, ◌∙◌, ap, arith, List, [], ◌∷◌, ◌++◌, take, length, get_or, add-one}
+use Rattle.std.proofs.Common.{ℕ, zero, suc, Bool, true, false, ◌≡◌, ◌≢◌, ◌<◌, ◌≤◌, ◌+◌, ◌||◌, cond, ◌⊎◌, inl, inr, refl, sym, ◌∙◌, ap, subst, arith, List, [], ◌∷◌, ◌++◌, take, set, map, length, get_or, Vec}
 use Rattle.std.specs.Prelude.{◌==◌, min, All}
 use Rattle.std.proofs.lemmas.Bool.{cases_Bool, false≢true, or_cases, or_left, or_right, or_parts, eqb-true, eq-eqb, ne_eqb, cases_eq, cond-true, cond-false}
-use Rattle.std.proofs.lemmas.List.{take_more, take_all}
+use Rattle.std.proofs.lemmas.List.{take_more, take_all, get_or-map, map-set, length-map, length-set, get_or-set_same, get_or-set_other}
 use Rattle.amd_model.specs.Figures.{cut}
-use Rattle.amd_model.specs.Tie.{has, Once}
-use Rattle.amd_model.proofs.TieLists.{clash, has_append}
+use Rattle.amd_model.specs.Tie.{has, turned, Once}
+use Rattle.amd_model.proofs.TieLists.{clash, has_append, has_turned}
+use Rattle.amd_engine.specs.Views.{list_at, Below, ListsBelow}
 
 -- a number cut to a word stays what it is when more is added first
 pub cut_more : (t a b : ℕ) → t ≡ cut a → cut (t + b) ≡ cut (a + b)
@@ -75,7 +76,7 @@ not_met (y ∷ xs) (suc k) d l o =
 
 -- each number that a list names has what each number of the list has
 pub each_named : (P : ℕ → Type 0) (xs : List ℕ) → All P xs → (x : ℕ) → has xs x ≡ true → P x
-each_named P xs all x h = let r = at_has xs x x h in Rattle.std.proofs.Common.subst P r.2 (all r.0 r.1)
+each_named P xs all x h = let r = at_has xs x x h in subst P r.2 (all r.0 x r.1)
 
 -- a step of a loop that changes a function at the number that it meets
 module _ {X : Type 0} (xs : List ℕ) (k d : ℕ) (within : k < length xs) (new old before after : ℕ → X) (so_far : (x : ℕ) → before x ≡ cond (has (take k xs) x) (new x) (old x)) where
@@ -103,3 +104,47 @@ changed_all xs k l new old after f x = f x ∙ ap (λ b. cond b (new x) (old x))
 pub changed_none : {X : Type 0} (xs : List ℕ) (new old : ℕ → X) → (x : ℕ) → old x ≡ cond (has (take 0 xs) x) (new x) (old x)
 unfolding has
 changed_none xs new old x = refl
+
+-- the list at a place of a vector of lists
+pub list_read : {A : Type 0} (lists : List (Vec ℕ A)) (e : ℕ) (v : Vec ℕ A) → e < length lists → v ≡ get_or lists e v → list_at lists e ≡ v.items
+list_read lists e v l h = get_or-map (λ w. w.items) lists e v [] l ∙ ap (λ w. w.items) (sym h)
+
+pub list_put : {A : Type 0} (lists : List (Vec ℕ A)) (e : ℕ) (v : Vec ℕ A) → e < length lists → list_at (set lists e v) e ≡ v.items
+list_put lists e v l = ap (λ ys. get_or ys e []) (map-set (λ w. w.items) lists e v) ∙ get_or-set_same (map (λ w. w.items) lists) e v.items [] (simp length-map l)
+
+pub list_other : {A : Type 0} (lists : List (Vec ℕ A)) (e x : ℕ) (v : Vec ℕ A) → x ≢ e → list_at (set lists e v) x ≡ list_at lists x
+list_other lists e x v ne = ap (λ ys. get_or ys x []) (map-set (λ w. w.items) lists e v) ∙ get_or-set_other (map (λ w. w.items) lists) e x v.items [] ne
+
+pub all_put : {X : Type 0} (P : X → Type 0) (xs : List X) (i : ℕ) (y : X) → All P xs → P y → All P (set xs i y)
+all_put P xs i y all here k d l = elim (cases_eq k i) [
+  | inl same ↦ (let within : i < length xs = omega (arith, l, same, length-set xs i y) in
+      subst P (sym (ap (λ m. get_or (set xs i y) m d) same ∙ get_or-set_same xs i y d within)) here)
+  | inr ne ↦ subst P (sym (get_or-set_other xs i k y d ne)) (all k d (omega (arith, l, length-set xs i y)))
+]
+
+pub lists_put : {A : Type 0} (n : ℕ) (lists : List (Vec ℕ A)) (i : ℕ) (v : Vec ℕ A) → ListsBelow n lists → Below n v.items → ListsBelow n (set lists i v)
+lists_put n lists i v below here = (length-set lists i v ∙ below.0, all_put (λ w. Below n w.items) lists i v below.1 here)
+
+pub list_below : {A : Type 0} (n : ℕ) (lists : List (Vec ℕ A)) (e : ℕ) → ListsBelow n lists → e < n → Below n (list_at lists e)
+list_below n lists e below l = let within : e < length lists = (let s = below.0 in omega (arith, l, s)) in all_map n lists e below within
+  where
+    all_map : {A : Type 0} (n : ℕ) (lists : List (Vec ℕ A)) (e : ℕ) → ListsBelow n lists → e < length lists → Below n (list_at lists e)
+    all_map n [] e below l = absurd (omega (arith, l))
+    all_map n (v ∷ vs) e below l = subst (Below n) (sym (get_or-map (λ w. w.items) (v ∷ vs) e v [] l)) (below.1 e v l)
+
+pub below_named : (n : ℕ) (xs : List ℕ) → Below n xs → (x : ℕ) → has xs x ≡ true → x < n
+below_named n xs b x h = each_named (λ j. j < n) xs b x h
+
+pub named_below : (n : ℕ) (xs : List ℕ) → ((x : ℕ) → has xs x ≡ true → x < n) → Below n xs
+named_below n xs f = λ k d l. f (get_or xs k d) (has_at xs k d l)
+
+-- a list of rows turned, and with one more row before it
+pub below_turned : (n : ℕ) (xs : List ℕ) → Below n xs → Below n (turned xs)
+below_turned n xs b = named_below n (turned xs) (λ x h. below_named n xs b x (sym (has_turned xs x) ∙ h))
+
+pub below_cons : (n x : ℕ) (xs : List ℕ) → x < n → Below n xs → Below n (x ∷ xs)
+unfolding has
+below_cons n x xs l b = named_below n (x ∷ xs) (λ y h. elim (or_cases (x == y) (has xs y) h) [
+  | inl q ↦ (let e = eqb-true x y q in omega (arith, l, e))
+  | inr q ↦ below_named n xs b y q
+])
