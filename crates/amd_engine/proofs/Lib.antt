@@ -8,3 +8,5 @@ pub mod Ends
 pub mod Arcs
 pub mod Listing
 pub mod BoundLists
+pub mod Joins
+pub mod SameLists
