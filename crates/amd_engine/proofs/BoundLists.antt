@@ -148,3 +148,14 @@ below_cons n x xs l b = named_below n (x ∷ xs) (λ y h. elim (or_cases (x == y
   | inl q ↦ (let e = eqb-true x y q in omega (arith, l, e))
   | inr q ↦ below_named n xs b y q
 ])
+
+-- what a slice of such a list reads
+pub list_deref : {A : Type 0} (lists : List (Vec ℕ A)) (e : ℕ) (v : Vec ℕ A) (xs : List ℕ) → e < length lists → v ≡ get_or lists e v → xs ≡ v.items → xs ≡ list_at lists e
+list_deref lists e v xs l h same = same ∙ sym (list_read lists e v l h)
+
+pub below_push : (n x : ℕ) (xs : List ℕ) → x < n → Below n xs → Below n (xs ++ x ∷ [])
+unfolding has
+below_push n x xs l b = named_below n (xs ++ x ∷ []) (λ y h. elim (or_cases (has xs y) (has (x ∷ []) y) (sym (has_append xs (x ∷ []) y) ∙ h)) [
+  | inl q ↦ below_named n xs b y q
+  | inr q ↦ elim (or_cases (x == y) false q) [ inl e ↦ (let k = eqb-true x y e in omega (arith, l, k)) | inr f ↦ absurd (false≢true f) ]
+])

@@ -10,3 +10,4 @@ pub mod Listing
 pub mod BoundLists
 pub mod Joins
 pub mod SameLists
+pub mod Representatives

@@ -9,3 +9,4 @@ pub mod Views
 pub mod Buckets
 pub mod Rounds
 pub mod Keeps
+pub mod Groups
