@@ -159,3 +159,6 @@ below_push n x xs l b = named_below n (xs ++ x ∷ []) (λ y h. elim (or_cases (
   | inl q ↦ below_named n xs b y q
   | inr q ↦ elim (or_cases (x == y) false q) [ inl e ↦ (let k = eqb-true x y e in omega (arith, l, k)) | inr f ↦ absurd (false≢true f) ]
 ])
+
+pub empties_below : {A : Type 0} (n : ℕ) (lists : List (Vec ℕ A)) → length lists ≡ n → ((b : ℕ) → list_at lists b ≡ []) → ListsBelow n lists
+empties_below n lists size empty = (size, λ k d l m e within. absurd (let a = ap length (sym (get_or-map (λ w. w.items) lists k d [] l) ∙ empty k) in omega (arith, a, within)))

@@ -11,3 +11,4 @@ pub mod BoundLists
 pub mod Joins
 pub mod SameLists
 pub mod Representatives
+pub mod MergeLaw
