@@ -1,7 +1,7 @@
 -- The rows of classes while each is merged into its representative.
-use Rattle.std.proofs.Common.{ℕ, zero, suc, Bool, true, false, ◌≡◌, ◌≢◌, ◌<◌, ◌≤◌, ◌+◌, ◌&&◌, ◌||◌, not, cond, ◌⊎◌, inl, inr, refl, sym, ◌∙◌, ap, subst, arith, List, [], ◌∷◌, ◌++◌, take, drop, length, get_or}
+use Rattle.std.proofs.Common.{ℕ, Bool, true, false, ◌≡◌, ◌≢◌, ◌<◌, ◌≤◌, ◌+◌, ◌&&◌, ◌||◌, not, cond, inl, inr, refl, sym, ◌∙◌, ap, arith, List, [], ◌∷◌, take, drop, length, get_or}
 use Rattle.std.specs.Prelude.{◌==◌, filter, sum_by}
-use Rattle.std.proofs.lemmas.Bool.{cases_Bool, false≢true, and_parts, and_from, and_left, and_right, or_cases, or_left, or_right, or_parts, eqb-true, eq-eqb, ne_eqb, cases_eq, cond-true, cond-false, not_from_false, not_from_true}
+use Rattle.std.proofs.lemmas.Bool.{cases_Bool, false≢true, and_from, and_left, and_right, or_cases, or_parts, eqb-true, eq-eqb, ne_eqb, cases_eq, cond-true, cond-false, not_from_false, not_from_true}
 use Rattle.std.proofs.lemmas.List.{take_more, take_all, take-append-drop}
 use Rattle.std.proofs.lemmas.List.Elements.{filter-append}
 use Rattle.std.proofs.lemmas.List.Sums.{sum_by-append, sum_by-cons}
@@ -104,9 +104,9 @@ module _ (rest : List ℕ) (into old : ℕ → ℕ) where
     unfolding i
     merged_stays self = record {
       kept = λ x h e. (let a = so.kept x h e in let b = none_more x (elim (cases_eq i x) [
-          | inl q ↦ and_right (into i == x) (not (i == x)) (not_from_true (i == x) (eq-eqb i x q))
-          | inr ne ↦ and_left (into i == x) (not (i == x)) (ne_eqb (into i) x (λ q. ne (sym self ∙ q)))
-        ]) in omega (arith, a, b));
+        | inl q ↦ and_right (into i == x) (not (i == x)) (not_from_true (i == x) (eq-eqb i x q))
+        | inr ne ↦ and_left (into i == x) (not (i == x)) (ne_eqb (into i) x (λ q. ne (sym self ∙ q)))
+      ]) in omega (arith, a, b));
       gone = λ x h e. so.gone x (met_before x h (λ q. e (ap into q ∙ self ∙ sym q))) e;
       left = λ x h e. so.left x (unmet_before x h).0 e;
       apart = so.apart;

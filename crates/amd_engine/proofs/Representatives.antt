@@ -1,7 +1,7 @@
 -- The representative of each class of a list, the last one alike, and the groups in which it is found from the last to the first.
-use Rattle.std.proofs.Common.{ℕ, zero, suc, Bool, true, false, ◌≡◌, ◌≢◌, ◌<◌, ◌≤◌, ◌+◌, ◌%◌, ◌^◌, ◌&&◌, ◌||◌, not, cond, ◌⊎◌, inl, inr, refl, sym, ◌∙◌, ap, subst, arith, List, [], ◌∷◌, ◌++◌, take, drop, length, get_or, add-one, Vec}
+use Rattle.std.proofs.Common.{ℕ, zero, suc, Bool, true, false, ◌≡◌, ◌≢◌, ◌<◌, ◌+◌, ◌%◌, ◌^◌, ◌&&◌, ◌||◌, cond, inl, inr, refl, sym, ◌∙◌, ap, subst, arith, List, [], ◌∷◌, ◌++◌, take, drop, length, get_or, add-one, Vec}
 use Rattle.std.specs.Prelude.{◌==◌, fold}
-use Rattle.std.proofs.lemmas.Bool.{cases_Bool, false≢true, and_parts, and_from, and_left, and_right, or_cases, or_left, or_right, or_parts, eqb-true, eq-eqb, ne_eqb, cases_eq, cond-true, cond-false}
+use Rattle.std.proofs.lemmas.Bool.{cases_Bool, false≢true, and_parts, and_from, and_left, and_right, or_left, or_right, eqb-true, eq-eqb, ne_eqb, cases_eq, cond-true, cond-false}
 use Rattle.std.proofs.lemmas.List.{drop_more, take-append-drop, drop_all}
 use Rattle.std.proofs.lemmas.List.Sums.{fold-append}
 use Rattle.amd_model.specs.Tie.{has, each, Once, last_that}
@@ -207,7 +207,7 @@ module _ (alike : ℕ → ℕ → Bool) (self : (x : ℕ) → alike x x ≡ true
               let r_back = rep_behind (k + 1) x h in
               let r_group : group (rep x) ≡ group y = sym (grouped x (rep x) in_rest (rep_in x in_rest) (rep_alike x)) ∙ sym (grouped y x (here_in once k within) in_rest t) in
               let listed = so.groups (group y) (rep x) ∙ and_from (has back (rep x) && rep (rep x) == rep x) (group (rep x) == group y)
-                  (and_from (has back (rep x)) (rep (rep x) == rep x) r_back (eq-eqb (rep (rep x)) (rep x) (rep_rep x in_rest))) (eq-eqb (group (rep x)) (group y) r_group) in
+              (and_from (has back (rep x)) (rep (rep x) == rep x) r_back (eq-eqb (rep (rep x)) (rep x) (rep_rep x in_rest))) (eq-eqb (group (rep x)) (group y) r_group) in
               clash (through y x (rep x) t (rep_alike x)) (f (rep x) listed))
         ] in
         let is : rep y ≡ y = rep_alone once k within none in

@@ -1,10 +1,10 @@
 -- Lists that name each number once, and name the same numbers: they are of one length, and have one sum.
-use Rattle.std.proofs.Common.{ℕ, zero, suc, Bool, true, false, ◌≡◌, ◌≢◌, ◌<◌, ◌≤◌, ◌+◌, ◌&&◌, ◌||◌, not, cond, ◌⊎◌, inl, inr, refl, sym, ◌∙◌, ap, subst, arith, List, [], ◌∷◌, length}
+use Rattle.std.proofs.Common.{ℕ, true, false, ◌≡◌, ◌≢◌, ◌≤◌, ◌+◌, ◌&&◌, not, inl, inr, refl, sym, ◌∙◌, ap, arith, List, [], ◌∷◌, length}
 use Rattle.std.specs.Prelude.{◌==◌, filter, sum_by}
-use Rattle.std.proofs.lemmas.Bool.{cases_Bool, false≢true, and_parts, and_from, and_left, or_cases, or_left, or_right, eqb-true, eq-eqb, ne_eqb, cases_eq, not_from_false}
+use Rattle.std.proofs.lemmas.Bool.{cases_Bool, and_parts, and_from, and_left, or_left, or_right, eq-eqb, ne_eqb, not_from_false}
 use Rattle.std.proofs.lemmas.List.Sums.{sum_by-cons, length-filter}
 use Rattle.amd_model.specs.Tie.{has, each, Once}
-use Rattle.amd_model.proofs.TieLists.{clash, same_bool, has_filter, once_filter, each_gives, each_from}
+use Rattle.amd_model.proofs.TieLists.{clash, has_filter, once_filter, each_gives, each_from}
 use Rattle.amd_engine.proofs.Joins.{sum_apart}
 
 -- the others of a list
@@ -31,7 +31,7 @@ part_sum f [] xs o p h = omega arith
 part_sum f (y ∷ ys) xs o p h =
     let in_xs = h y (or_left (y == y) (has ys y) (eq-eqb y y refl)) in
     let rest = part_sum f ys (others_of y xs) o.1 (once_filter (λ j. true && not (j == y)) xs p)
-        (λ z k. other_in y z xs (h z (or_right (y == z) (has ys z) k)) (λ e. clash (ap (has ys) (sym e) ∙ k) o.0)) in
+    (λ z k. other_in y z xs (h z (or_right (y == z) (has ys z) k)) (λ e. clash (ap (has ys) (sym e) ∙ k) o.0)) in
     let whole = sum_others f y xs p in_xs in
     let first = sum_by-cons f y ys in
     omega (arith, rest, whole, first)
@@ -53,7 +53,7 @@ unfolding others_of
 fills xs ys o p h l = each_from (has ys) xs (λ x k. elim (cases_Bool (has ys x)) [
   | inl t ↦ t
   | inr f ↦ (let a = part_sum (λ j. 1) ys (others_of x xs) p (once_filter (λ j. true && not (j == x)) xs o)
-        (λ y m. other_in x y xs (each_gives (has xs) ys h y m) (λ e. clash (ap (has ys) (sym e) ∙ m) f)) in
+      (λ y m. other_in x y xs (each_gives (has xs) ys h y m) (λ e. clash (ap (has ys) (sym e) ∙ m) f)) in
       let b = sum_others (λ j. 1) x xs o k in let c = length_sum xs in let d = length_sum ys in
       absurd (omega (arith, a, b, c, d, l)))
 ])

@@ -1,7 +1,7 @@
 -- The groups in which classes alike are looked for.
-use Rattle.std.specs.Prelude.{ℕ, Bool, true, false, Option, None, Some, List, [], ◌∷◌, ◌++◌, Vec, ◌≡◌, ◌<◌, ◌+◌, ◌%◌, ◌^◌, ◌==◌, ◌⊎◌, cond, length, sum_by}
+use Rattle.std.specs.Prelude.{ℕ, true, false, Option, None, Some, List, [], ◌∷◌, ◌++◌, Vec, ◌≡◌, ◌+◌, ◌%◌, ◌^◌, ◌==◌, ◌⊎◌, cond, length, sum_by}
 use Rattle.amd_model.specs.Tie.{has}
-use Rattle.amd_engine.specs.Views.{num, list_at, Below, ListsBelow, Clear}
+use Rattle.amd_engine.specs.Views.{list_at, ListsBelow, Clear}
 use Rattle.amd_engine.specs.Rounds.{alike_in}
 use Rattle.amd_engine.specs.declared.work.Scratch.{Scratch}
 
@@ -35,4 +35,4 @@ abbrev pub Looked : {A : Type 0} → List (Vec ℕ A) → List (Vec ℕ A) → �
 Looked elements variables i before after r =
     ((has (before (group_in elements variables i)) r ≡ true) × (alike_in elements variables i r ≡ true) × ((b : ℕ) → after b ≡ before b))
     ⊎ (((x : ℕ) → has (before (group_in elements variables i)) x ≡ true → alike_in elements variables i x ≡ false) × (r ≡ i)
-      × ((b : ℕ) → after b ≡ cond (b == group_in elements variables i) (before b ++ i ∷ []) (before b)))
+    × ((b : ℕ) → after b ≡ cond (b == group_in elements variables i) (before b ++ i ∷ []) (before b)))

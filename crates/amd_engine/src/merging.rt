@@ -2,7 +2,7 @@
 // represents. Only classes whose lists have equal lengths and an equal sum of members are compared.
 // Source: Amestoy, Davis and Duff 1996 (supervariables, approximate hashing). Called by the rounds of `plain`.
 
-ghost use Rattle.std.specs.Prelude.{[], ◌≡◌, ◌≢◌, ◌<◌, ◌^◌, ◌||◌, ◌&&◌, ◌==◌, not, cond, nat_eq, ℕ, Some, None, true, false, filter, length, sum_by, OnOk, IfOk};
+ghost use Rattle.std.specs.Prelude.{[], ◌≡◌, ◌≢◌, ◌<◌, ◌^◌, ◌&&◌, ◌==◌, not, cond, ℕ, Some, true, filter, length, sum_by, OnOk, IfOk};
 ghost use Rattle.amd_model.specs.Tie.{has, each, Once, last_that};
 ghost use Rattle.amd_engine.specs.Views.{num, at, some_at, list_at, Below, ListsBelow, Clear};
 ghost use Rattle.amd_engine.specs.Rounds.{alike_in};
@@ -177,11 +177,7 @@ fn represent_all<A: Allocator>(
 }
 
 /// Empties the groups of the classes of a list, which hold no others.
-fn empty_groups<A: Allocator>(
-    rest: &[usize],
-    lists: &Lists<A>,
-    groups: &mut Vec<Vec<usize, A>, A>,
-)
+fn empty_groups<A: Allocator>(rest: &[usize], lists: &Lists<A>, groups: &mut Vec<Vec<usize, A>, A>)
     requires variables { length lists.now.variables.items ≡ length lists.now.elements.items }
     requires range { Below (length lists.now.elements.items) rest.now }
     requires groups { length groups.old.items ≡ length lists.now.elements.items }

@@ -6,7 +6,7 @@ use Rattle.amd_model.specs.Figures.{cut}
 use Rattle.amd_model.specs.Tie.{has}
 use Rattle.amd_engine.specs.Views.{num, list_at}
 use Rattle.amd_engine.specs.Rounds.{bound_after}
-use Rattle.amd_engine.proofs.BoundLists.{cut_more, has_at, changed_more, changed_none, unchanged, changed_all, list_read}
+use Rattle.amd_engine.proofs.BoundLists.{cut_more, has_at, changed_more, changed_none, unchanged, list_read}
 use Rattle.amd_engine.proofs.bounds.renew_bounds.Goals as goal
 
 pub loop-i-init : goal.loop-i-init
@@ -64,7 +64,7 @@ loop-i-preserved g c =
     let near : ℕ = sum_by (num size) (list_at lists.variables.items i) in
     let first : c.sum_at.result ≡ cut far = c.sum_at.ensures ∙ ap cut (zero_first _) ∙ ap (λ xs. cut (sum_by (num beyond) xs)) (c.deref.ensures.value ∙ sym es) in
     let both : c.sum_at-outside.result ≡ cut (far + near) = c.sum_at-outside.ensures ∙ ap (λ xs. cut (c.sum_at.result + sum_by (num size) xs)) (c.deref-in-loop-i.ensures.value ∙ sym vs)
-        ∙ cut_more c.sum_at.result far near first in
+    ∙ cut_more c.sum_at.result far near first in
     let least : c.min.result ≡ min (num old i) (cut (far + near)) = c.min.ensures ∙ ap (λ m. min m c.sum_at-outside.result) read ∙ ap (min (num old i)) both in
     record {
       bounds = changed_more made k 0 c.loop-i-test.true new (num old) (num now) _ c.loop-i.invariant.bounds

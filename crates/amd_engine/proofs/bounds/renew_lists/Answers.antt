@@ -1,6 +1,6 @@
-use Rattle.std.proofs.Common.{◌≡◌, ◌<◌, ◌∷◌, ℕ, List, length, get_or, set, arith, ap, sym, refl, subst, ◌∙◌}
+use Rattle.std.proofs.Common.{◌≡◌, ◌<◌, ◌∷◌, ℕ, length, get_or, set, arith, ap, sym, refl, subst, ◌∙◌}
 use Rattle.amd_model.specs.Tie.{turned}
-use Rattle.amd_engine.specs.Views.{list_at, Below, ListsBelow}
+use Rattle.amd_engine.specs.Views.{list_at, Below}
 use Rattle.amd_engine.proofs.BoundLists.{changed_more, changed_none, unchanged, list_read, list_put, list_other, lists_put, list_below, below_turned, below_cons}
 use Rattle.amd_engine.proofs.bounds.renew_lists.Goals as goal
 

@@ -1,6 +1,5 @@
-use Rattle.std.proofs.Common.{◌≡◌, ◌++◌, List, [], ◌∷◌, ℕ, length, take, drop, sym, ◌∙◌, refl, true, arith}
+use Rattle.std.proofs.Common.{◌≡◌, ◌++◌, List, [], ◌∷◌, ℕ, length, take, drop, sym, ◌∙◌, refl, arith}
 use Rattle.std.proofs.lemmas.Bool.{eqb-true}
-use Rattle.std.specs.Prelude.{◌==◌}
 use Rattle.amd_model.specs.Tie.{turned}
 use Rattle.amd_engine.proofs.bounds.turn.Goals as goal
 
@@ -18,6 +17,6 @@ pub returns-then-not-is_empty : goal.returns-then-not-is_empty
 returns-then-not-is_empty g c = c.rotate_left.ensures.items ∙ turned_is c.args.list.now.items
 
 pub returns-else-not-is_empty : goal.returns-else-not-is_empty
-returns-else-not-is_empty g c = 
+returns-else-not-is_empty g c =
     let none = eqb-true c.args.list.now.len 0 (sym c.is_empty.ensures ∙ c.if-not-is_empty.false) in
     none_turned c.args.list.now.items (omega (arith, none, c.args.list.now.ok.0))

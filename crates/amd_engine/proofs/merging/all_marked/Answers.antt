@@ -1,6 +1,6 @@
-use Rattle.std.proofs.Common.{◌≡◌, ◌<◌, ◌+◌, ◌∷◌, [], inl, inr, ℕ, Bool, true, false, List, take, length, get_or, arith, ap, sym, refl, ◌∙◌}
+use Rattle.std.proofs.Common.{◌+◌, inl, inr, take, get_or, ap, sym, refl, ◌∙◌}
 use Rattle.std.specs.Prelude.{◌==◌}
-use Rattle.std.proofs.lemmas.Bool.{false≢true, true≢false, and_from, or_cases, eqb-true, cases_Bool}
+use Rattle.std.proofs.lemmas.Bool.{or_cases, eqb-true, cases_Bool}
 use Rattle.std.proofs.lemmas.List.{take_all}
 use Rattle.amd_model.specs.Tie.{has, each}
 use Rattle.amd_model.proofs.TieLists.{each_gives, each_from, clash}

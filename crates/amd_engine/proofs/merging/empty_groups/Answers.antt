@@ -6,7 +6,7 @@ use Rattle.amd_model.specs.Tie.{has}
 use Rattle.amd_model.proofs.TieLists.{clash}
 use Rattle.amd_engine.specs.Views.{list_at}
 use Rattle.amd_engine.specs.Groups.{group_in}
-use Rattle.amd_engine.proofs.BoundLists.{has_at, has_more, has_all, list_put, list_other}
+use Rattle.amd_engine.proofs.BoundLists.{has_more, has_all, list_put, list_other}
 use Rattle.amd_engine.proofs.merging.empty_groups.Goals as goal
 
 -- a list that names nothing

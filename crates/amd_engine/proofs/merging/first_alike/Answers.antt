@@ -1,4 +1,4 @@
-use Rattle.std.proofs.Common.{◌≡◌, ◌<◌, ◌+◌, ◌&&◌, ◌||◌, inl, inr, ℕ, Bool, true, false, List, length, get_or, take, arith, sym, ap, subst, refl, ◌∙◌, Vec}
+use Rattle.std.proofs.Common.{◌≡◌, ◌&&◌, inl, inr, ℕ, Bool, true, false, List, get_or, take, arith, sym, ap, subst, refl, ◌∙◌, Vec}
 use Rattle.std.specs.Prelude.{◌==◌}
 use Rattle.std.proofs.lemmas.Bool.{and_from, and_left, and_right, or_cases, eqb-true, false≢true}
 use Rattle.amd_model.specs.Tie.{has, each, Once}

@@ -84,12 +84,12 @@ loop-i-preserved g c =
           let one = set size (into i) sum in
           let one_in : i < length one = omega (arith, i_in, length-set size (into i) sum) in
           let sizes : Merged rest into old (k + 1) (num (set one i 0)) = merged_moves rest into old k test (num size) inv.sizes c.requires.once ne target (num (set one i 0))
-              (get_or-set_same one i 0 0 one_in)
-              (get_or-set_other one i (into i) 0 0 ne ∙ get_or-set_same size (into i) sum 0 r_in ∙ sum_is)
-              (λ x a b. get_or-set_other one i x 0 0 a ∙ get_or-set_other size (into i) x sum 0 b) in
+          (get_or-set_same one i 0 0 one_in)
+          (get_or-set_other one i (into i) 0 0 ne ∙ get_or-set_same size (into i) sum 0 r_in ∙ sum_is)
+          (λ x a b. get_or-set_other one i x 0 0 a ∙ get_or-set_other size (into i) x sum 0 b) in
           let links = changed_more rest k 0 test new olds (some_at link) (some_at (set link i (Some (into i)))) inv.links
-              (λ x a. get_or-set_other link i x (Some (into i)) None a)
-              (get_or-set_same link i (Some (into i)) None l_in ∙ sym (cond-true (not (into i == i)) (Some (into i)) (olds i) (not_from_false (into i == i) (ne_eqb (into i) i ne)))) in
+          (λ x a. get_or-set_other link i x (Some (into i)) None a)
+          (get_or-set_same link i (Some (into i)) None l_in ∙ sym (cond-true (not (into i == i)) (Some (into i)) (olds i) (not_from_false (into i == i) (ne_eqb (into i) i ne)))) in
           record {
             sizes = subst (λ xs. Merged rest into old (k + 1) (num xs)) (sym (ap (λ v. v.items) w.size-is)) sizes;
             links = rw (ap (λ v. v.items) w.link-is) links;
@@ -99,8 +99,8 @@ loop-i-preserved g c =
       | else-r-i w ↦ (
           let self : into i ≡ i = w.if-r-i.false in
           let links = changed_more rest k 0 test new olds (some_at link) (some_at link) inv.links
-              (λ x a. refl)
-              (unchanged rest k 0 test new olds (some_at link) (some_at link) inv.links c.requires.once ∙ sym (cond-false (not (into i == i)) (Some (into i)) (olds i) (not_from_true (into i == i) (eq-eqb (into i) i self)))) in
+          (λ x a. refl)
+          (unchanged rest k 0 test new olds (some_at link) (some_at link) inv.links c.requires.once ∙ sym (cond-false (not (into i == i)) (Some (into i)) (olds i) (not_from_true (into i == i) (eq-eqb (into i) i self)))) in
           record {
             sizes = subst (λ xs. Merged rest into old (k + 1) (num xs)) (sym (ap (λ v. v.items) w.size-is)) (merged_stays rest into old k test (num size) inv.sizes self);
             links = rw (ap (λ v. v.items) w.link-is) links;

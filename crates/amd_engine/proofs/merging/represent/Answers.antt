@@ -1,8 +1,8 @@
-use Rattle.std.proofs.Common.{◌≡◌, ◌<◌, ◌++◌, ◌∷◌, [], inl, inr, ℕ, List, true, length, get_or, set, arith, sym, ap, subst, cond, ◌∙◌}
+use Rattle.std.proofs.Common.{◌≡◌, ◌<◌, ◌++◌, ◌∷◌, [], inl, inr, ℕ, length, set, arith, sym, ap, subst, ◌∙◌}
 use Rattle.std.specs.Prelude.{◌==◌}
 use Rattle.std.proofs.lemmas.Bool.{cases_eq, eq-eqb, ne_eqb, cond-true, cond-false}
 use Rattle.std.proofs.lemmas.List.{length-set, get_or-set_same}
-use Rattle.amd_model.specs.Tie.{has, Once}
+use Rattle.amd_model.specs.Tie.{has}
 use Rattle.amd_engine.specs.Views.{list_at, Below}
 use Rattle.amd_engine.specs.Groups.{group_in}
 use Rattle.amd_engine.proofs.BoundLists.{list_deref, list_put, list_other, list_read, list_below, lists_put, below_push}

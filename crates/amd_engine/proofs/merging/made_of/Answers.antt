@@ -1,2 +1,0 @@
-use Rattle.std.proofs.Common.{◌≡◌}
-use Rattle.amd_engine.proofs.merging.made_of.Goals as goal
