@@ -26,3 +26,8 @@ pub mod BucketsLaw
 pub mod Kept
 pub mod KeptParts
 pub mod KeptLaw
+pub mod BoundLists
+pub mod Joins
+pub mod SameLists
+pub mod Representatives
+pub mod MergeLaw

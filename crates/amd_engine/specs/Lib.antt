@@ -11,3 +11,4 @@ pub mod Rounds
 pub mod Keeps
 pub mod Trees
 pub mod Starts
+pub mod Groups

@@ -2,18 +2,21 @@
 // represents. Only classes whose lists have equal lengths and an equal sum of members are compared.
 // Source: Amestoy, Davis and Duff 1996 (supervariables, approximate hashing). Called by the rounds of `plain`.
 
-ghost use Rattle.std.specs.Prelude.{◌≡◌, ◌<◌, ◌^◌, ◌||◌, ◌&&◌, ◌==◌, not, cond, nat_eq, ℕ, Some, None, true, false, filter, length, sum_by, OnOk, IfOk};
+ghost use Rattle.std.specs.Prelude.{[], ◌≡◌, ◌≢◌, ◌<◌, ◌^◌, ◌&&◌, ◌==◌, not, cond, ℕ, Some, true, filter, length, sum_by, OnOk, IfOk};
 ghost use Rattle.amd_model.specs.Tie.{has, each, Once, last_that};
 ghost use Rattle.amd_engine.specs.Views.{num, at, some_at, list_at, Below, ListsBelow, Clear};
 ghost use Rattle.amd_engine.specs.Rounds.{alike_in};
 ghost use Rattle.amd_engine.specs.Keeps.{IsIdle};
+ghost use Rattle.amd_engine.specs.Groups.{wrapped_sum, group_in, FoundIn, AreGrouped, IsReady, Looked};
 
 use crate::marks::{clear_all, mark_all};
 use crate::work::{Lists, Scratch};
 use std::alloc::{AllocError, Allocator};
 
 /// The sum of a list, modulo the numbers of a word.
-fn sum_of(list: &[usize]) -> usize {
+fn sum_of(list: &[usize]) -> usize
+    ensures { result ≡ wrapped_sum list.now }
+{
     let mut total: usize = 0;
     for j in list {
         total = total.wrapping_add(*j);
@@ -37,24 +40,43 @@ fn all_marked(list: &[usize], marks: &[bool]) -> bool
 /// The group in which a class is looked for, one of as many as there are rows.
 fn group_of<A: Allocator>(i: usize, lists: &Lists<A>) -> usize
     requires row { (i < length lists.now.elements.items) × (i < length lists.now.variables.items) }
+    ensures group { result ≡ group_in lists.now.elements.items lists.now.variables.items i }
     ensures range { result < length lists.now.elements.items }
 {
     sum_of(&lists.elements[i]).wrapping_add(sum_of(&lists.variables[i])) % lists.elements.len()
 }
 
-/// The first class of a group whose lists are as long as those of the class `i`, and name marked elements and variables alone.
+/// Two lists that name each number once name the same ones, of which those of the second are marked.
+fn same_list(list: &[usize], other: &[usize], marks: &[bool]) -> bool
+    requires range { Below (length marks.now) list.now }
+    requires once { Once list.now × Once other.now }
+    requires marked { (j : ℕ) → at marks.now j ≡ has other.now j }
+    ensures { result ≡ (each (has other.now) list.now && each (has list.now) other.now) }
+{
+    list.len() == other.len() && all_marked(list, marks)
+}
+
+/// The first class of a group that keeps the same elements and the same variables as the class `i`, whose lists are marked.
 fn first_alike<A: Allocator>(
     i: usize,
     group: &[usize],
     lists: &Lists<A>,
     elements: &[bool],
     rows: &[bool],
-) -> Option<usize> {
+) -> Option<usize>
+    requires row { i < length lists.now.elements.items }
+    requires lists_elements { ListsBelow (length lists.now.elements.items) lists.now.elements.items }
+    requires lists_variables { ListsBelow (length lists.now.elements.items) lists.now.variables.items }
+    requires range { Below (length lists.now.elements.items) group.now }
+    requires once { Once (list_at lists.now.elements.items i) × Once (list_at lists.now.variables.items i) }
+    requires group_once { (r : ℕ) → has group.now r ≡ true → Once (list_at lists.now.elements.items r) × Once (list_at lists.now.variables.items r) }
+    requires elements { (length elements.now ≡ length lists.now.elements.items) × ((j : ℕ) → at elements.now j ≡ has (list_at lists.now.elements.items i) j) }
+    requires rows { (length rows.now ≡ length lists.now.elements.items) × ((j : ℕ) → at rows.now j ≡ has (list_at lists.now.variables.items i) j) }
+    ensures { FoundIn lists.now.elements.items lists.now.variables.items i group.now result }
+{
     for r in group {
-        if lists.elements[*r].len() == lists.elements[i].len()
-            && lists.variables[*r].len() == lists.variables[i].len()
-            && all_marked(&lists.elements[*r], elements)
-            && all_marked(&lists.variables[*r], rows)
+        if same_list(&lists.elements[*r], &lists.elements[i], elements)
+            && same_list(&lists.variables[*r], &lists.variables[i], rows)
         {
             return Some(*r);
         }
@@ -70,7 +92,19 @@ fn representative_in<A: Allocator>(
     lists: &Lists<A>,
     elements: &mut Vec<bool, A>,
     rows: &mut Vec<bool, A>,
-) -> Option<usize> {
+) -> Option<usize>
+    requires row { i < length lists.now.elements.items }
+    requires lists_elements { ListsBelow (length lists.now.elements.items) lists.now.elements.items }
+    requires lists_variables { ListsBelow (length lists.now.elements.items) lists.now.variables.items }
+    requires range { Below (length lists.now.elements.items) group.now }
+    requires once { Once (list_at lists.now.elements.items i) × Once (list_at lists.now.variables.items i) }
+    requires group_once { (r : ℕ) → has group.now r ≡ true → Once (list_at lists.now.elements.items r) × Once (list_at lists.now.variables.items r) }
+    requires elements { (length elements.old.items ≡ length lists.now.elements.items) × Clear elements.old.items }
+    requires rows { (length rows.old.items ≡ length lists.now.elements.items) × Clear rows.old.items }
+    ensures found { FoundIn lists.now.elements.items lists.now.variables.items i group.now result }
+    ensures elements { (length elements.new.items ≡ length lists.now.elements.items) × Clear elements.new.items }
+    ensures rows { (length rows.new.items ≡ length lists.now.elements.items) × Clear rows.new.items }
+{
     if group.is_empty() {
         return None;
     }
@@ -82,38 +116,75 @@ fn representative_in<A: Allocator>(
     found
 }
 
-/// Finds the representative of each class of a list, from the last to the first: a class alike that was met before, or itself.
-fn represent_all<A: Allocator>(
-    rest: &[usize],
+/// Finds the representative of a class: a class alike that was met before, or itself, and then others may find it.
+fn represent<A: Allocator>(
+    i: usize,
     lists: &Lists<A>,
     scratch: &mut Scratch<A>,
-) -> Result<(), AllocError> {
-    let mut left = rest.len();
-    'classes: while left > 0 {
-        left -= 1;
-        let i = rest[left];
-        let group = group_of(i, lists);
-        let found = representative_in(
-            i,
-            &scratch.groups[group],
-            lists,
-            &mut scratch.elements,
-            &mut scratch.rows,
-        );
-        if found.is_none() {
+) -> Result<(), AllocError>
+    requires row { i < length lists.now.elements.items }
+    requires elements { ListsBelow (length lists.now.elements.items) lists.now.elements.items }
+    requires variables { ListsBelow (length lists.now.elements.items) lists.now.variables.items }
+    requires once { Once (list_at lists.now.elements.items i) × Once (list_at lists.now.variables.items i) }
+    requires ready { IsReady (length lists.now.elements.items) scratch.old }
+    requires group_once { (b : ℕ) (r : ℕ) → has (list_at scratch.old.groups.items b) r ≡ true → Once (list_at lists.now.elements.items r) × Once (list_at lists.now.variables.items r) }
+    ensures looked { OnOk result (Looked lists.now.elements.items lists.now.variables.items i (list_at scratch.old.groups.items) (list_at scratch.new.groups.items) (num scratch.new.into.items i)) }
+    ensures others { OnOk result ((x : ℕ) → x ≢ i → num scratch.new.into.items x ≡ num scratch.old.into.items x) }
+    ensures ready { OnOk result (IsReady (length lists.now.elements.items) scratch.new) }
+    ensures beyond { OnOk result (scratch.new.beyond ≡ scratch.old.beyond) }
+{
+    let group = group_of(i, lists);
+    let found = representative_in(
+        i,
+        &scratch.groups[group],
+        lists,
+        &mut scratch.elements,
+        &mut scratch.rows,
+    );
+    match found {
+        Some(r) => scratch.into[i] = r,
+        None => {
             scratch.groups[group].push(i)?;
+            scratch.into[i] = i;
         }
-        scratch.into[i] = found.unwrap_or(i);
     }
     Ok(())
 }
 
-/// Empties the groups of the classes of a list.
-fn empty_groups<A: Allocator>(
+/// Finds the representative of each class of a list, from the last to the first.
+fn represent_all<A: Allocator>(
     rest: &[usize],
     lists: &Lists<A>,
-    groups: &mut Vec<Vec<usize, A>, A>,
-) {
+    scratch: &mut Scratch<A>,
+) -> Result<(), AllocError>
+    requires idle { IsIdle (length lists.now.elements.items) scratch.old }
+    requires elements { ListsBelow (length lists.now.elements.items) lists.now.elements.items }
+    requires variables { ListsBelow (length lists.now.elements.items) lists.now.variables.items }
+    requires range { Below (length lists.now.elements.items) rest.now }
+    requires once { Once rest.now }
+    requires lists_once { (i : ℕ) → has rest.now i ≡ true → Once (list_at lists.now.elements.items i) × Once (list_at lists.now.variables.items i) }
+    ensures into { OnOk result ((i : ℕ) → has rest.now i ≡ true → num scratch.new.into.items i ≡ last_that (alike_in lists.now.elements.items lists.now.variables.items i) i rest.now) }
+    ensures grouped { OnOk result (AreGrouped lists.now.elements.items lists.now.variables.items rest.now (list_at scratch.new.groups.items)) }
+    ensures ready { OnOk result (IsReady (length lists.now.elements.items) scratch.new) }
+    ensures beyond { OnOk result (scratch.new.beyond ≡ scratch.old.beyond) }
+{
+    let mut left = rest.len();
+    'classes: while left > 0 {
+        left -= 1;
+        represent(rest[left], lists, scratch)?;
+    }
+    Ok(())
+}
+
+/// Empties the groups of the classes of a list, which hold no others.
+fn empty_groups<A: Allocator>(rest: &[usize], lists: &Lists<A>, groups: &mut Vec<Vec<usize, A>, A>)
+    requires variables { length lists.now.variables.items ≡ length lists.now.elements.items }
+    requires range { Below (length lists.now.elements.items) rest.now }
+    requires groups { length groups.old.items ≡ length lists.now.elements.items }
+    requires grouped { AreGrouped lists.now.elements.items lists.now.variables.items rest.now (list_at groups.old.items) }
+    ensures size { length groups.new.items ≡ length groups.old.items }
+    ensures empty { (b : ℕ) → list_at groups.new.items b ≡ [] }
+{
     for i in rest {
         let group = group_of(*i, lists);
         groups[group].clear();
