@@ -3,7 +3,7 @@
 use amd::aat::aat;
 use amd::valid::valid;
 use amd::{Info, Status};
-use amd_engine::lists::{Lists, neighbours};
+use amd_engine::lists::{Lists, neighbours, starting_lists};
 use std::alloc::Global;
 use std::process::Abort;
 
@@ -43,8 +43,14 @@ static MATRICES: [Case<'static>; 3] = [
     },
 ];
 
-/// Lays out the lists of a sorted matrix.
-fn lists_of(rt: &impl Abort, alloc: Global, n: i64, a_p: &[i64], a_i: &[i64]) -> Lists<Global> {
+/// Lays out the lists of a sorted matrix, one after another, and each in a vector of its own.
+fn lists_of(
+    rt: &impl Abort,
+    alloc: Global,
+    n: i64,
+    a_p: &[i64],
+    a_i: &[i64],
+) -> (Lists<Global>, Vec<Vec<usize>>) {
     assert!(rt; n > 0);
     let Status::OK = valid(n, n, a_p, a_i) else {
         panic!(rt; "not sorted: {a_p:?} {a_i:?}");
@@ -53,16 +59,20 @@ fn lists_of(rt: &impl Abort, alloc: Global, n: i64, a_p: &[i64], a_i: &[i64]) ->
     let Ok((sum, degrees)) = aat(alloc, n, a_p, a_i, &mut info) else {
         panic!(rt; "no degrees: {a_p:?} {a_i:?}");
     };
-    let Ok(lists) = neighbours(alloc, degrees.len(), a_p, a_i, &degrees, sum) else {
+    let size = degrees.len();
+    let Ok(lists) = neighbours(alloc, size, a_p, a_i, &degrees, sum) else {
         panic!(rt; "no lists: {a_p:?} {a_i:?}");
     };
-    lists
+    let Ok(rows) = starting_lists(alloc, size, a_p, a_i, &degrees) else {
+        panic!(rt; "no lists apart: {a_p:?} {a_i:?}");
+    };
+    (lists, rows)
 }
 
-/// Asserts that the lists of a matrix are those of the case, one after another.
+/// Asserts that the lists of a matrix are those of the case, in both forms.
 fn check(rt: &impl Abort, alloc: Global, case: &Case) {
     let what = case.what;
-    let lists = lists_of(rt, alloc, case.n, case.a_p, case.a_i);
+    let (lists, rows) = lists_of(rt, alloc, case.n, case.a_p, case.a_i);
     assert_eq!(rt; lists.next.len(), case.lists.len(), "{what}");
     let mut start = 0;
     for (list, &end) in case.lists.iter().zip(&lists.next) {
@@ -71,6 +81,10 @@ fn check(rt: &impl Abort, alloc: Global, case: &Case) {
         start = end;
     }
     assert_eq!(rt; start, lists.rows.len(), "{what}");
+    assert_eq!(rt; rows.len(), case.lists.len(), "{what}");
+    for (list, row) in case.lists.iter().zip(&rows) {
+        assert_eq!(rt; row.as_slice(), *list, "{what}");
+    }
 }
 
 #[test]
