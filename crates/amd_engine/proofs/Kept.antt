@@ -1,8 +1,8 @@
 -- A loop over a list writes at its numbers: what stands at each place then, and what is counted so far.
-use Rattle.std.proofs.Common.{ℕ, zero, suc, Bool, true, false, List, [], ◌∷◌, ◌++◌, ◌≡◌, ◌≢◌, ◌<◌, ◌+◌, ◌&&◌, ◌||◌, not, cond, ◌⊎◌, inl, inr, refl, sym, ◌∙◌, ap, subst, arith, length, get_or, take, set, get_or-set_same, get_or-set_other, length-set}
+use Rattle.std.proofs.Common.{ℕ, zero, suc, Bool, true, false, List, [], ◌∷◌, ◌++◌, ◌≡◌, ◌≢◌, ◌<◌, ◌+◌, ◌&&◌, ◌||◌, not, cond, inl, inr, refl, sym, ◌∙◌, ap, subst, arith, length, get_or, take, set, get_or-set_same, get_or-set_other, length-set}
 use Rattle.std.specs.Prelude.{filter, sum_by, min, ◌==◌}
-use Rattle.std.proofs.lemmas.Bool.{cases_Bool, cases_eq, cond-true, cond-false, and_from, eq-eqb, ne_eqb, or_left, or_right, or_from, or_parts, not_from_true, not_from_false, and_left, and_right}
-use Rattle.std.proofs.lemmas.List.{take_more, append-nil, get_or-map, map-set, length-map}
+use Rattle.std.proofs.lemmas.Bool.{cases_eq, cond-true, cond-false, and_from, eq-eqb, ne_eqb, or_left, or_right, or_from, not_from_true, not_from_false, and_right}
+use Rattle.std.proofs.lemmas.List.{take_more, append-nil, map-set, length-map}
 use Rattle.std.specs.Prelude.{Vec, map}
 use Rattle.std.proofs.lemmas.List.Elements.{filter_more, All-filter, All-set}
 use Rattle.std.proofs.lemmas.List.Sums.{sum_by-append}
@@ -11,6 +11,7 @@ use Rattle.amd_model.specs.Tie.{has, is_empty, Once}
 use Rattle.amd_model.proofs.TieLists.{has_append, clash}
 use Rattle.amd_engine.specs.Views.{num, list_at, Below, ListsBelow}
 use Rattle.amd_engine.specs.Rounds.{rows_outside}
+use Rattle.amd_engine.proofs.MarkLists.{list_read}
 
 -- what stands at a place of a list is named by it
 pub has_at : (xs : List ℕ) (k : ℕ) → k < length xs → has xs (get_or xs k 0) ≡ true
@@ -114,17 +115,13 @@ rows_same inside size xs k here pass = ap (λ l. cut (sum_by (num size) l)) (fil
 
 -- ---- lists at places
 
--- the list at a place is that of the vector there
-pub list_is : {A : Type 0} (lists : List (Vec ℕ A)) (x : ℕ) (v : Vec ℕ A) → x < length lists → v ≡ get_or lists x v → v.items ≡ list_at lists x
-list_is lists x v small here = ap (λ w. w.items) here ∙ sym (get_or-map (λ w. w.items) lists x v [] small)
-
 -- of the list at the next number of a list without repeats what passes is kept
 pub keep_next : {A : Type 0} (p : ℕ → Bool) (old now : List (Vec ℕ A)) (front : List ℕ) (k : ℕ) (v w : Vec ℕ A) → k < length front → Once front → get_or front k 0 < length now →
     v ≡ get_or now (get_or front k 0) v → w.items ≡ filter p v.items →
     ((i : ℕ) → list_at now i ≡ cond (has (take k front) i) (filter p (list_at old i)) (list_at old i)) →
     (i : ℕ) → list_at (set now (get_or front k 0) w) i ≡ cond (has (take (k + 1) front) i) (filter p (list_at old i)) (list_at old i)
 keep_next p old now front k v w here once small at_place kept was i = let x : ℕ = get_or front k 0 in
-    let before : v.items ≡ list_at old x = list_is now x v small at_place ∙ was x ∙ cond-false (has (take k front) x) (filter p (list_at old x)) (list_at old x) (has_before front k here once) in
+    let before : v.items ≡ list_at old x = sym (list_read now x v small at_place) ∙ was x ∙ cond-false (has (take k front) x) (filter p (list_at old x)) (list_at old x) (has_before front k here once) in
     let room : length (map (λ u. u.items) now) ≡ length now = search (arith, length-map) in
     ap (λ l. get_or l i []) (map-set (λ u. u.items) now x w)
     ∙ set_next (λ j. filter p (list_at old j)) (list_at old) front k (map (λ u. u.items) now) [] w.items here (omega (arith, small, room)) (kept ∙ ap (filter p) before) was i

@@ -1,14 +1,14 @@
 -- What an absorption finds and leaves in the lists of a record is what the rules say of the lists that it keeps.
-use Rattle.std.proofs.Common.{ℕ, Bool, true, false, Option, Some, List, [], ◌∷◌, ◌++◌, ◌≡◌, ◌≢◌, ◌<◌, ◌≤◌, ◌+◌, ◌&&◌, ◌||◌, not, cond, inl, inr, refl, sym, ◌∙◌, ap, arith}
+use Rattle.std.proofs.Common.{ℕ, Bool, true, false, Option, Some, List, [], ◌∷◌, ◌++◌, ◌≡◌, ◌<◌, ◌≤◌, ◌+◌, ◌&&◌, ◌||◌, not, cond, inl, inr, refl, sym, ◌∙◌, ap, arith}
 use Rattle.std.specs.Prelude.{filter, flat_map, sum_by, nat_eq, nat_lt, ◌==◌}
-use Rattle.std.proofs.lemmas.Bool.{cases_Bool, true≢false, false≢true, cond-true, cond-false, and_parts, and_from, or_cases, or_left, or_right, or_parts, eqb-true, eq-eqb, ne_eqb, not-true, not_from_true, not_from_false, ltb-true, ltb-false}
+use Rattle.std.proofs.lemmas.Bool.{cases_Bool, cond-true, cond-false, and_parts, and_from, or_cases, or_left, or_right, or_parts, eqb-true, eq-eqb, ne_eqb, not-true, not_from_true, not_from_false, ltb-true, ltb-false}
 use Rattle.std.proofs.lemmas.List.Sums.{sum_by-cons}
 use Rattle.amd_model.specs.Figures.{cut}
 use Rattle.amd_model.specs.Graph.{Graph}
 use Rattle.amd_model.specs.State.{State, Live}
-use Rattle.amd_model.specs.Tie.{Tie, Fits, Once, has, each, is_empty, add_new, gathered, takes, kept_elements, kept_variables}
+use Rattle.amd_model.specs.Tie.{Tie, Fits, Once, has, each, is_empty, gathered, takes, kept_elements, kept_variables}
 use Rattle.amd_model.proofs.StateLemmas.{class_gives, class_from, holds_gives, neighbours_gives}
-use Rattle.amd_model.proofs.TieLists.{same_bool, clash, has_append, has_filter, each_gives, each_from, empty_gives, some_of, once_firsts, flat_gives, flat_from, firsts as firsts_names}
+use Rattle.amd_model.proofs.TieLists.{same_bool, clash, has_append, has_filter, each_gives, empty_gives, some_of, once_firsts, flat_gives, flat_from, firsts as firsts_names}
 use Rattle.amd_engine.specs.Views.{num, some_at, list_at, live_of}
 use Rattle.amd_engine.specs.Rounds.{firsts, rows_outside, Absorbed}
 use Rattle.amd_engine.specs.Keeps.{Keeps}
@@ -134,20 +134,23 @@ module _ (g : Graph) (s : State) (t : Tie) (fits : Fits g t s) {A : Type 0} (w :
       and_parts (has vs i) (not (i == c)) (sym (firsts_names (λ x. x == c) [] vs i) ∙ h)
 
   -- it names classes, each once, and not the pivot
-  pub front_once : Once (gathered t c)
+  front_once : Once (gathered t c)
   unfolding gathered
   front_once = once_firsts (λ x. x == c) [] (flat_map t.members (t.elements c) ++ t.variables c) tt
 
-  pub front_apart : has (gathered t c) c ≡ false
+  front_apart : has (gathered t c) c ≡ false
   unfolding L
   front_apart = elim (cases_Bool (has (gathered t c) c)) [ inr k ↦ k | inl k ↦ clash (eq-eqb c c refl) (not-true (c == c) (front_parts c k).1) ]
 
-  pub front_placed : (i : ℕ) → has (gathered t c) i ≡ true → has t.placed i ≡ true
+  front_placed : (i : ℕ) → has (gathered t c) i ≡ true → has t.placed i ≡ true
   unfolding L
   front_placed i h = elim (or_cases (has (flat_map t.members (t.elements c)) i) (has (t.variables c) i) (sym (has_append (flat_map t.members (t.elements c)) (t.variables c) i) ∙ (front_parts i h).0)) [
     | inl m ↦ (let e = flat_gives t.members (t.elements c) i m in member_class e.0 i e.2)
     | inr v ↦ fits.placed i ∙ class_from i (s.home i) (neighbours_gives g s c i (sym (fits.variables c i (home c class)) ∙ v)).second
   ]
+
+  pub front_facts : Once (gathered t c) × (has (gathered t c) c ≡ false) × ((i : ℕ) → has (gathered t c) i ≡ true → has t.placed i ≡ true)
+  front_facts = (front_once, front_apart, front_placed)
 
   -- a member of an element has rows
   member_rows : (e i : ℕ) → has (t.members e) i ≡ true → 0 < t.size i

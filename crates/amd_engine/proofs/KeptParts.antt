@@ -1,12 +1,12 @@
 -- What the parts of an absorption make together.
-use Rattle.std.proofs.Common.{ℕ, Bool, true, false, Option, Some, List, [], ◌∷◌, ◌++◌, ◌≡◌, ◌≢◌, ◌<◌, ◌&&◌, ◌||◌, not, cond, inl, inr, refl, sym, ◌∙◌, ap, arith, length, get_or, set, get_or-set_same, get_or-set_other}
-use Rattle.std.specs.Prelude.{Vec, filter, flat_map, sum_by, nat_eq, nat_lt, ◌==◌}
-use Rattle.std.proofs.lemmas.Bool.{cases_Bool, cases_eq, cond-true, cond-false, and_parts, and_from, and_left, or_cases, or_left, or_right, eqb-true, eq-eqb, ne_eqb, not-true, not_from_false}
-use Rattle.std.proofs.lemmas.List.Elements.{All-from_get_or, All-get_or}
+use Rattle.std.proofs.Common.{ℕ, suc, Bool, true, false, List, [], ◌∷◌, ◌≡◌, ◌<◌, ◌&&◌, ◌||◌, not, cond, inl, inr, refl, sym, ◌∙◌, ap, arith, length, get_or, set, get_or-set_same, get_or-set_other}
+use Rattle.std.specs.Prelude.{Vec, filter, flat_map, sum_by, ◌==◌}
+use Rattle.std.proofs.lemmas.Bool.{true≢false, false≢true, cases_eq, and_parts, or_cases, eqb-true, ne_eqb, not-true}
+use Rattle.std.proofs.lemmas.List.Elements.{All-from_get_or}
 use Rattle.amd_model.specs.Figures.{cut}
-use Rattle.amd_model.specs.Tie.{has, Once}
-use Rattle.amd_model.proofs.TieLists.{clash, same_bool, flat_gives, firsts as firsts_names}
-use Rattle.amd_engine.specs.Views.{num, at, some_at, list_at, Below, ListsBelow, Clear}
+use Rattle.amd_model.specs.Tie.{has}
+use Rattle.amd_model.proofs.TieLists.{flat_gives, firsts as firsts_names}
+use Rattle.amd_engine.specs.Views.{num, at, list_at, Below, ListsBelow, Clear}
 use Rattle.amd_engine.specs.Rounds.{firsts, rows_outside}
 use Rattle.amd_engine.proofs.Kept.{has_at}
 use Rattle.amd_engine.proofs.MarkLists.{list_below}
@@ -17,10 +17,10 @@ below_from n xs small = All-from_get_or (λ j. j < n) xs 0 (λ i h. small (get_o
 
 pub below_gives : (n : ℕ) (xs : List ℕ) → Below n xs → (x : ℕ) → has xs x ≡ true → x < n
 unfolding has
-below_gives n [] small x h = absurd (Rattle.std.proofs.lemmas.Bool.false≢true h)
+below_gives n [] small x h = absurd (false≢true h)
 below_gives n (y ∷ ys) small x h = elim (or_cases (y == x) (has ys x) h) [
   | inl q ↦ (let e = eqb-true y x q in let b = small 0 0 (omega arith) in omega (arith, e, b))
-  | inr q ↦ below_gives n ys (λ k d l. small (Prim.Native.Nat.suc k) d (omega (arith, l))) x q
+  | inr q ↦ below_gives n ys (λ k d l. small (suc k) d (omega (arith, l))) x q
 ]
 
 -- what is gathered from lists of numbers below n is below n
@@ -46,7 +46,7 @@ rows_agree p q size xs same = ap (λ l. cut (sum_by (num size) l)) (filter_agree
 
 -- of marks on two lists, those of the second stay where a test says so
 pub spared_is : (own new stays : Bool) → (new ≡ true → own ≡ false) → ((own || new) && not (new && not stays)) ≡ (own || (new && stays))
-spared_is true true stays apart = absurd (Rattle.std.proofs.lemmas.Bool.true≢false (apart refl))
+spared_is true true stays apart = absurd (true≢false (apart refl))
 spared_is true false stays apart = refl
 spared_is false true true apart = refl
 spared_is false true false apart = refl
@@ -64,7 +64,7 @@ pub adopted_is : {X : Type 0} (own new marked : Bool) (c before middle after : X
 adopted_is true true true c before middle after in' first then = then
 adopted_is true false true c before middle after in' first then = then ∙ first
 adopted_is false true true c before middle after in' first then = then
-adopted_is false false true c before middle after in' first then = absurd (Rattle.std.proofs.lemmas.Bool.false≢true (in' refl))
+adopted_is false false true c before middle after in' first then = absurd (false≢true (in' refl))
 adopted_is true true false c before middle after in' first then = then ∙ first
 adopted_is true false false c before middle after in' first then = then ∙ first
 adopted_is false true false c before middle after in' first then = then ∙ first
@@ -85,6 +85,6 @@ pivot_cleared marks c front small was j = elim (cases_eq j c) [
 ]
   where
     gone : (a b : Bool) → a ≡ false → ((a || b) && not b) ≡ false
-    gone true b e = absurd (Rattle.std.proofs.lemmas.Bool.true≢false e)
+    gone true b e = absurd (true≢false e)
     gone false true e = refl
     gone false false e = refl

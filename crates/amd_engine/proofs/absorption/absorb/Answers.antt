@@ -1,7 +1,7 @@
-use Rattle.std.proofs.Common.{ℕ, Bool, true, false, Option, Some, List, [], ◌≡◌, ◌<◌, ◌∙◌, ◌&&◌, ◌||◌, ◌==◌, not, cond, nat_eq, nat_lt, ap, refl, sym, arith, length, get_or, set, length-set, filter, flat_map}
-use Rattle.std.proofs.lemmas.Bool.{cond-false, eq-eqb, or_left, or_right}
+use Rattle.std.proofs.Common.{ℕ, Bool, true, false, Some, List, ◌≡◌, ◌<◌, ◌∙◌, ◌&&◌, ◌||◌, ◌==◌, not, cond, nat_eq, nat_lt, ap, sym, arith, length, length-set, filter, flat_map}
+use Rattle.std.proofs.lemmas.Bool.{cond-true, cond-false}
 use Rattle.amd_model.specs.Tie.{has}
-use Rattle.amd_engine.specs.Views.{num, at, some_at, list_at, Below}
+use Rattle.amd_engine.specs.Views.{num, at, some_at, list_at}
 use Rattle.amd_engine.specs.Rounds.{firsts, rows_outside}
 use Rattle.amd_engine.proofs.MarkLists.{list_read}
 use Rattle.amd_engine.proofs.KeptParts.{touched_below, touched_new, filter_agree, rows_agree, spared_is, adopted_is, in_either, cleared_is, pivot_cleared}
@@ -49,29 +49,29 @@ returns g c =
     let first : c.deref-5.result.now ≡ own = c.deref-5.ensures.value ∙ sym (list_read elements p c.index.result.now row c.index.ensures) in
     let rows_marked : (j : ℕ) → at c.deref-9.result.now j ≡ inside j = λ j. ap (λ l. at l j) c.deref-9.ensures.value ∙ r.rows.1 j in
     let counted : (e : ℕ) → has touched e ≡ true → num beyond e ≡ rows_outside inside size (list_at members e) = λ e h.
-        c.count_beyond.ensures.counted e ∙ Rattle.std.proofs.lemmas.Bool.cond-true _ _ _ (ap (λ l. has l e) c.deref.ensures.value ∙ h)
-        ∙ rows_agree (at c.deref-2.result.now) inside size (list_at members e) (λ j. ap (λ l. at l j) c.deref-2.ensures.value ∙ r.rows.1 j) in
+    c.count_beyond.ensures.counted e ∙ cond-true _ _ _ (ap (λ l. has l e) c.deref.ensures.value ∙ h)
+    ∙ rows_agree (at c.deref-2.result.now) inside size (list_at members e) (λ j. ap (λ l. at l j) c.deref-2.ensures.value ∙ r.rows.1 j) in
     let taken_is : (e : ℕ) → at taken e ≡ (has own e || (has touched e && whole e)) = λ e.
-        c.spare.ensures.spared e
-        ∙ ap (λ l. at marked e && not (has l e && not (c.args.aggressive && nat_eq (num c.deref-4.result.now e) 0))) c.deref-3.ensures.value
-        ∙ ap (λ l. at marked e && not (has touched e && not (c.args.aggressive && nat_eq (num l e) 0))) c.deref-4.ensures.value
-        ∙ ap (λ b. b && not (has touched e && not (whole e))) (c.in_ok-touched.ensures.marked e) ∙ spared_is (has own e) (has touched e) (whole e) (apart e) in
+    c.spare.ensures.spared e
+    ∙ ap (λ l. at marked e && not (has l e && not (c.args.aggressive && nat_eq (num c.deref-4.result.now e) 0))) c.deref-3.ensures.value
+    ∙ ap (λ l. at marked e && not (has touched e && not (c.args.aggressive && nat_eq (num l e) 0))) c.deref-4.ensures.value
+    ∙ ap (λ b. b && not (has touched e && not (whole e))) (c.in_ok-touched.ensures.marked e) ∙ spared_is (has own e) (has touched e) (whole e) (apart e) in
     let parents : (e : ℕ) → some_at c.adopt-2.new.parent.items e ≡ cond (at taken e) (Some p) (some_at c.args.parent.now.items e) = λ e.
-        adopted_is (has own e) (has touched e) (at taken e) (Some p) (some_at c.args.parent.now.items e) (some_at c.adopt.new.parent.items e) (some_at c.adopt-2.new.parent.items e)
-        (λ h. in_either (has own e) (has touched e) (whole e) (sym (taken_is e) ∙ h))
-        (c.adopt.ensures.adopted e ∙ ap (λ l. cond (has l e && at c.deref-6.result.now e) (Some p) (some_at c.args.parent.now.items e)) first
-            ∙ ap (λ l. cond (has own e && at l e) (Some p) (some_at c.args.parent.now.items e)) c.deref-6.ensures.value)
-        (c.adopt-2.ensures.adopted e ∙ ap (λ l. cond (has l e && at c.deref-8.result.now e) (Some p) (some_at c.adopt.new.parent.items e)) c.deref-7.ensures.value
-            ∙ ap (λ l. cond (has touched e && at l e) (Some p) (some_at c.adopt.new.parent.items e)) c.deref-8.ensures.value) in
+    adopted_is (has own e) (has touched e) (at taken e) (Some p) (some_at c.args.parent.now.items e) (some_at c.adopt.new.parent.items e) (some_at c.adopt-2.new.parent.items e)
+    (λ h. in_either (has own e) (has touched e) (whole e) (sym (taken_is e) ∙ h))
+    (c.adopt.ensures.adopted e ∙ ap (λ l. cond (has l e && at c.deref-6.result.now e) (Some p) (some_at c.args.parent.now.items e)) first
+    ∙ ap (λ l. cond (has own e && at l e) (Some p) (some_at c.args.parent.now.items e)) c.deref-6.ensures.value)
+    (c.adopt-2.ensures.adopted e ∙ ap (λ l. cond (has l e && at c.deref-8.result.now e) (Some p) (some_at c.adopt.new.parent.items e)) c.deref-7.ensures.value
+    ∙ ap (λ l. cond (has touched e && at l e) (Some p) (some_at c.adopt.new.parent.items e)) c.deref-8.ensures.value) in
     let after = c.shorten.new.lists.elements.items in
     let room : p < length after = (let a = r.pivot.0 in let b = c.shorten.ensures.elements.0 in omega (arith, a, b)) in
     let second : c.deref-11.result.now ≡ own = c.deref-11.ensures.value ∙ sym (list_read after p c.index-2.result.now room c.index-2.ensures) ∙ c.shorten.ensures.kept_elements p ∙ cond-false _ _ _ r.pivot.1 in
     let marks : List Bool = c.clear_all-3.new.marks.items in
     let long : length marks ≡ length size = c.clear_all-3.ensures.size ∙ r.rows.0 in
     let clear : (j : ℕ) → at c.clear_all-2.new.marks.items j ≡ false = λ j.
-        c.clear_all-2.ensures.cleared j ∙ ap (λ l. at c.clear_all.new.marks.items j && not (has l j)) c.deref-12.ensures.value
-        ∙ ap (λ b. b && not (has touched j)) (c.clear_all.ensures.cleared j ∙ ap (λ l. at taken j && not (has l j)) second ∙ ap (λ b. b && not (has own j)) (taken_is j))
-        ∙ cleared_is (has own j) (has touched j) (whole j) in
+    c.clear_all-2.ensures.cleared j ∙ ap (λ l. at c.clear_all.new.marks.items j && not (has l j)) c.deref-12.ensures.value
+    ∙ ap (λ b. b && not (has touched j)) (c.clear_all.ensures.cleared j ∙ ap (λ l. at taken j && not (has l j)) second ∙ ap (λ b. b && not (has own j)) (taken_is j))
+    ∙ cleared_is (has own j) (has touched j) (whole j) in
     record {
       absorbed = record {
         touched = touched;

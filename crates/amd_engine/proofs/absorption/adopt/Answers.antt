@@ -1,4 +1,4 @@
-use Rattle.std.proofs.Common.{ℕ, Bool, true, false, Option, Some, None, List, [], ◌∷◌, ◌++◌, ◌≡◌, ◌<◌, ◌+◌, ◌∙◌, ap, refl, sym, arith, length, get_or, take, set, length-set, cond, not, ◌&&◌, ◌||◌, nat_eq, nat_lt, map, filter}
+use Rattle.std.proofs.Common.{ℕ, Option, Some, None, List, ◌≡◌, ◌<◌, ◌∙◌, ap, refl, arith, length, get_or, set, length-set}
 use Rattle.amd_engine.specs.Views.{at, some_at}
 use Rattle.amd_model.specs.Tie.{has}
 use Rattle.amd_engine.proofs.Kept.{set_passing, set_none}
@@ -17,9 +17,9 @@ loop-e-preserved g c =
     let written : Option ℕ = Some c.args.pivot in
     elim c.if-taken-e.branch [
       | then-taken-e w ↦ (let e : c.if-taken-e.parent.items ≡ set now (get_or list k 0) written = ap (λ v. v.items) w.parent-is in record {
-          size = rw e (length-set now (get_or list k 0) written ∙ was.size);
-          adopted = rw e (set_passing (λ e. written) (some_at c.args.parent.now.items) (at c.args.taken.now) list k now None written here small w.if-taken-e.true refl was.adopted);
-        })
+        size = rw e (length-set now (get_or list k 0) written ∙ was.size);
+        adopted = rw e (set_passing (λ e. written) (some_at c.args.parent.now.items) (at c.args.taken.now) list k now None written here small w.if-taken-e.true refl was.adopted);
+      })
       | else-taken-e w ↦ record {
         size = ap (λ v. length v.items) w.parent-is ∙ was.size;
         adopted = rw w.parent-is (set_none (λ e. written) (some_at c.args.parent.now.items) (at c.args.taken.now) list k (some_at now) here w.if-taken-e.false was.adopted);

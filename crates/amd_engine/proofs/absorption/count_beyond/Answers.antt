@@ -1,8 +1,9 @@
-use Rattle.std.proofs.Common.{ℕ, Bool, true, false, Option, Some, None, List, [], ◌∷◌, ◌++◌, ◌≡◌, ◌<◌, ◌+◌, ◌∙◌, ap, refl, sym, arith, length, get_or, take, set, length-set, cond, not, ◌&&◌, ◌||◌, nat_eq, nat_lt, map, filter}
+use Rattle.std.proofs.Common.{ℕ, List, ◌≡◌, ◌<◌, ◌∙◌, ap, refl, sym, arith, length, get_or, length-set}
 use Rattle.amd_engine.specs.Views.{at, num, list_at}
 use Rattle.amd_model.specs.Tie.{has}
 use Rattle.amd_engine.specs.Rounds.{rows_outside}
-use Rattle.amd_engine.proofs.Kept.{set_next, list_is}
+use Rattle.amd_engine.proofs.Kept.{set_next}
+use Rattle.amd_engine.proofs.MarkLists.{list_read}
 use Rattle.amd_engine.proofs.absorption.count_beyond.Goals as goal
 
 pub loop-e-init : goal.loop-e-init
@@ -17,7 +18,7 @@ loop-e-preserved g c =
     let place : get_or list k 0 < length c.args.members.now.items = (let b = c.requires.members.0 in omega (arith, range, b)) in
     let rows : ℕ → ℕ = λ e. rows_outside (at c.args.marks.now) c.args.size.now (list_at c.args.members.now.items e) in
     let counted : c.rows_beyond.result ≡ rows (get_or list k 0) = c.rows_beyond.ensures ∙ ap (rows_outside (at c.args.marks.now) c.args.size.now)
-        (c.deref.ensures.value ∙ list_is c.args.members.now.items (get_or list k 0) c.index.result.now place c.index.ensures) in
+    (c.deref.ensures.value ∙ sym (list_read c.args.members.now.items (get_or list k 0) c.index.result.now place c.index.ensures)) in
     record {
       size = length-set now (get_or list k 0) c.rows_beyond.result ∙ was.size;
       counted = set_next rows (num c.args.beyond.now.items) list k now 0 c.rows_beyond.result here small counted was.counted;

@@ -1,4 +1,4 @@
-use Rattle.std.proofs.Common.{ℕ, Bool, true, false, Option, Some, None, List, [], ◌∷◌, ◌++◌, ◌≡◌, ◌<◌, ◌+◌, ◌∙◌, ap, refl, sym, arith, length, get_or, take, set, length-set, cond, not, ◌&&◌, ◌||◌, nat_eq, nat_lt, map, filter}
+use Rattle.std.proofs.Common.{ℕ, Bool, List, [], ◌∷◌, ◌++◌, ◌<◌, ◌∙◌, ap, sym, length, get_or}
 use Rattle.amd_engine.specs.Rounds.{keeps_none}
 use Rattle.amd_engine.proofs.Kept.{filter_next, filter_passed}
 use Rattle.amd_engine.proofs.absorption.others_left.Goals as goal

@@ -1,4 +1,4 @@
-use Rattle.std.proofs.Common.{ℕ, Bool, true, false, Option, Some, None, List, [], ◌∷◌, ◌++◌, ◌≡◌, ◌<◌, ◌+◌, ◌∙◌, ap, refl, sym, arith, length, get_or, take, set, length-set, cond, not, ◌&&◌, ◌||◌, nat_eq, nat_lt, map, filter}
+use Rattle.std.proofs.Common.{ℕ, Bool, Option, Some, None, List, ◌≡◌, ◌<◌, ◌∙◌, ap, refl, sym, arith, length, get_or, set, length-set}
 use Rattle.amd_engine.specs.Views.{num, some_at}
 use Rattle.amd_engine.specs.Rounds.{keeps_none}
 use Rattle.amd_model.specs.Tie.{has}

@@ -1,5 +1,5 @@
 use Rattle.amd_model.specs.Figures.{cut}
-use Rattle.std.proofs.Common.{◌+◌, ℕ, List, ◌≡◌, ◌<◌, ◌∙◌, ap, length, get_or}
+use Rattle.std.proofs.Common.{◌+◌, ℕ, List, ◌<◌, ◌∙◌, ap, length, get_or}
 use Rattle.amd_engine.specs.Views.{at, num}
 use Rattle.amd_engine.proofs.Kept.{cut_none, cut_min, rows_more, rows_same}
 use Rattle.amd_engine.proofs.absorption.rows_beyond.Goals as goal

@@ -1,4 +1,4 @@
-use Rattle.std.proofs.Common.{◌+◌, arith}
+use Rattle.std.proofs.Common.{arith}
 use Rattle.std.proofs.lemmas.List.Sums.{sum_by_more_le}
 use Rattle.amd_engine.specs.Views.{num}
 use Rattle.amd_engine.proofs.absorption.rows_of.Goals as goal

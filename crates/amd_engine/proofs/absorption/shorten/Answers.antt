@@ -1,4 +1,4 @@
-use Rattle.std.proofs.Common.{ℕ, Bool, true, false, Option, Some, None, List, [], ◌∷◌, ◌++◌, ◌≡◌, ◌<◌, ◌+◌, ◌∙◌, ap, refl, sym, arith, length, get_or, take, set, length-set, cond, not, ◌&&◌, ◌||◌, nat_eq, nat_lt, map, filter}
+use Rattle.std.proofs.Common.{ℕ, Bool, List, ◌<◌, refl, arith, length, get_or, not, ◌&&◌, nat_lt}
 use Rattle.amd_engine.specs.Views.{num, at}
 use Rattle.amd_model.specs.Tie.{has}
 use Rattle.amd_engine.proofs.Kept.{keep_next, below_next}

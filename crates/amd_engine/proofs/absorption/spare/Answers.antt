@@ -1,4 +1,4 @@
-use Rattle.std.proofs.Common.{ℕ, Bool, true, false, Option, Some, None, List, [], ◌∷◌, ◌++◌, ◌≡◌, ◌<◌, ◌+◌, ◌∙◌, ap, refl, sym, arith, length, get_or, take, set, length-set, cond, not, ◌&&◌, ◌||◌, nat_eq, nat_lt, map, filter}
+use Rattle.std.proofs.Common.{ℕ, Bool, false, List, ◌≡◌, ◌<◌, ◌∙◌, ap, refl, sym, arith, length, get_or, set, length-set, not, ◌&&◌, nat_eq}
 use Rattle.std.proofs.lemmas.Bool.{and_left, not_from_false, not_from_true}
 use Rattle.amd_engine.specs.Views.{at, num}
 use Rattle.amd_model.specs.Tie.{has}
@@ -22,9 +22,9 @@ loop-e-preserved g c =
     ] in
     elim c.if-not-beyond-e.branch [
       | then-not-beyond-e w ↦ (let e : c.if-not-beyond-e.taken.items ≡ set now (get_or list k 0) false = ap (λ v. v.items) w.taken-is in record {
-          size = rw e (length-set now (get_or list k 0) false ∙ was.size);
-          spared = rw e (set_passing (λ e. false) (at c.args.taken.now.items) (λ e. not (whole e)) list k now false false here small (not_from_false (whole (get_or list k 0)) (value ∙ w.if-not-beyond-e.true)) refl was.spared);
-        })
+        size = rw e (length-set now (get_or list k 0) false ∙ was.size);
+        spared = rw e (set_passing (λ e. false) (at c.args.taken.now.items) (λ e. not (whole e)) list k now false false here small (not_from_false (whole (get_or list k 0)) (value ∙ w.if-not-beyond-e.true)) refl was.spared);
+      })
       | else-not-beyond-e w ↦ record {
         size = ap (λ v. length v.items) w.taken-is ∙ was.size;
         spared = rw w.taken-is (set_none (λ e. false) (at c.args.taken.now.items) (λ e. not (whole e)) list k (at now) here (not_from_true (whole (get_or list k 0)) (value ∙ w.if-not-beyond-e.false)) was.spared);
