@@ -88,3 +88,7 @@ next_some size bound lists least none some = elim (cases_eq some.0 least) [
   | inl e ↦ absurd (false≢true (sym (ap (λ b. has (live_in size bound b (list_at lists b)) some.1) e ∙ ap (λ xs. has xs some.1) none) ∙ some.3))
   | inr n ↦ (some.0, some.1, (let l = some.2 in omega (arith, n, l)), some.3)
 ]
+
+-- the list of a bound up to which none was found
+pub least_place : {A : Type 0} (size bound : List ℕ) (lists : List (Vec ℕ A)) (least : ℕ) → (b : ℕ) × (i : ℕ) × (least ≤ b) × (has (live_in size bound b (list_at lists b)) i ≡ true) → least < length lists
+least_place size bound lists least some = let place = place_of_class size bound lists some.0 some.1 some.3 in let l = some.2 in omega (arith, place, l)

@@ -10,7 +10,7 @@ use Rattle.amd_model.specs.Tie.{has, Once, pivot, last_that}
 use Rattle.amd_model.proofs.TieLists.{clash, has_append, has_filter, once_filter, pivot_least, pivot_named}
 use Rattle.amd_engine.specs.Views.{num, list_at}
 use Rattle.amd_engine.specs.Buckets.{live_in, lasts, Popped, Chosen}
-use Rattle.amd_engine.proofs.MarkLists.{filter_yes, filter_no, or_none}
+use Rattle.amd_engine.proofs.MarkLists.{or_none, and_all, and_none, filter_yes, filter_no}
 
 -- ---- what filters keep
 
@@ -94,7 +94,7 @@ pub lasts_filter : (p : ℕ → Bool) (xs : List ℕ) → lasts (filter p xs) �
 unfolding lasts
 lasts_filter p [] = refl
 lasts_filter p (x ∷ xs) = elim (cases_Bool (p x)) [
-  | inl a ↦ (let named : has (filter p xs) x ≡ has xs x = has_filter p xs x ∙ ap (λ b. has xs x && b) a ∙ and_true (has xs x) in
+  | inl a ↦ (let named : has (filter p xs) x ≡ has xs x = has_filter p xs x ∙ ap (λ b. has xs x && b) a ∙ and_all (has xs x) in
       ap lasts (filter_yes p x xs a) ∙ elim (cases_Bool (has xs x)) [
         | inl h ↦ lasts_old x (filter p xs) (named ∙ h) ∙ lasts_filter p xs ∙ sym (ap (filter p) (lasts_old x xs h))
         | inr h ↦ lasts_new x (filter p xs) (named ∙ h) ∙ ap (λ l. x ∷ l) (lasts_filter p xs) ∙ sym (ap (filter p) (lasts_new x xs h) ∙ filter_yes p x (lasts xs) a)
@@ -104,10 +104,6 @@ lasts_filter p (x ∷ xs) = elim (cases_Bool (p x)) [
     | inr h ↦ sym (ap (filter p) (lasts_new x xs h) ∙ filter_no p x (lasts xs) a)
   ]
 ]
-  where
-    and_true : (a : Bool) → (a && true) ≡ a
-    and_true true = refl
-    and_true false = refl
 
 -- a number is placed behind the others
 pub lasts_push : (xs : List ℕ) (c : ℕ) → lasts (xs ++ c ∷ []) ≡ filter (λ x. not (x == c)) (lasts xs) ++ c ∷ []
@@ -174,14 +170,6 @@ choose_pivot bound (d ∷ ds) m c xs low is =
     ∙ ap (fold (λ r x. x) d) is ∙ fold_push (λ r x. x) d xs c
 
 -- ---- a round
-
-and_none : (a : Bool) → (a && false) ≡ false
-and_none true = refl
-and_none false = refl
-
-and_all : (a : Bool) → (a && true) ≡ a
-and_all true = refl
-and_all false = refl
 
 -- the classes of a list from which the last one was taken
 popped_live : (size bound : List ℕ) (b : ℕ) (old new : List ℕ) (c : ℕ) → Popped size bound b old new (Some c) → live_in size bound b old ≡ live_in size bound b new ++ c ∷ []

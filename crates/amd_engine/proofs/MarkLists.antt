@@ -21,11 +21,11 @@ pub or_assoc : (a b c : Bool) → (a || (b || c)) ≡ ((a || b) || c)
 or_assoc true b c = refl
 or_assoc false b c = refl
 
-and_all : (a : Bool) → (a && true) ≡ a
+pub and_all : (a : Bool) → (a && true) ≡ a
 and_all true = refl
 and_all false = refl
 
-and_none : (a : Bool) → (a && false) ≡ false
+pub and_none : (a : Bool) → (a && false) ≡ false
 and_none true = refl
 and_none false = refl
 
