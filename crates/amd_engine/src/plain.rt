@@ -21,6 +21,7 @@ use std::alloc::{AllocError, Allocator};
 
 /// Chooses a pivot and makes its element: it absorbs what it may, and the classes of its front keep what is left. Answers the pivot
 /// and the front.
+#[tactic(none)]
 fn make_element<A: Allocator + Copy>(
     work: &mut Work<A>,
     aggressive: bool,
@@ -52,6 +53,7 @@ fn make_element<A: Allocator + Copy>(
 
 /// Eliminates the pivot and the classes of its front that keep nothing, and merges others that are alike. Answers the classes that
 /// are left, and the rows of the border and of the block.
+#[tactic(none)]
 fn merge_classes<A: Allocator + Copy>(
     work: &mut Work<A>,
     pivot: usize,
@@ -78,6 +80,7 @@ fn merge_classes<A: Allocator + Copy>(
 }
 
 /// Gives the classes of the new element their new bounds and lists, places them, and keeps the numbers of the element.
+#[tactic(none)]
 fn renew_classes<A: Allocator + Copy>(
     work: &mut Work<A>,
     pivot: usize,
@@ -115,6 +118,7 @@ fn renew_classes<A: Allocator + Copy>(
 }
 
 /// One round: chooses a pivot, makes its element, and gives the classes of the element their new lists, rows and bounds.
+#[tactic(none)]
 pub fn round<A: Allocator + Copy>(work: &mut Work<A>, control: &Control) -> Result<(), AllocError>
     requires stands { (g : Graph) × (dense : ℕ → Bool) × (t : Tie) × (s : State) × Stands g dense work.old t s }
     requires left { 0 < work.old.live }
