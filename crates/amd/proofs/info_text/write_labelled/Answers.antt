@@ -1,3 +1,4 @@
+-- The line is what the format writes, as the label is ASCII.
 use Rattle.std.proofs.Common.{◌∙◌, ap, arith}
 use Rattle.std.specs.Fmt.{styled_text}
 use Rattle.amd.proofs.Padding.{labelled-from_format, padded-label}
