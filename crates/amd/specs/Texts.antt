@@ -30,7 +30,8 @@ parameter_line t = codes "    dense row parameter: " ++ thousandths t ++ codes "
 
 -- the lines on the number of entries that a row may have
 abbrev pub threshold_lines : ℤ → List ℕ
-threshold_lines t = codes "    (rows with more than max (" ++ thousandths t ++ codes " * sqrt(n), 16) entries are\n    considered \"dense\", and placed last in output permutation)\n"
+threshold_lines t = codes "    (rows with more than max (" ++ thousandths t
+    ++ codes " * sqrt(n), 16) entries are\n    considered \"dense\", and placed last in output permutation)\n"
 
 -- the lines on dense rows
 abbrev pub dense_lines : ℤ → List ℕ
@@ -97,4 +98,9 @@ total_lines i =
 
 -- the text of what the ordering tells
 abbrev pub info_text : Info → List ℕ
-info_text i = codes "\nAMD results:\n" ++ matrix_lines i ++ codes "\n" ++ note_lines ++ codes "\n" ++ factor_lines i ++ codes "\n" ++ total_lines i ++ codes "\n"
+info_text i =
+    codes "\nAMD results:\n" ++ matrix_lines i
+    ++ codes "\n" ++ note_lines
+    ++ codes "\n" ++ factor_lines i
+    ++ codes "\n" ++ total_lines i
+    ++ codes "\n"

@@ -89,9 +89,9 @@ fn write_absorption<W: Write>(control: &Control, out: &mut W) -> io::Result<()>
     Ok(())
 }
 
-/// Writes what a caller chooses, as five or six lines between two empty ones: a title, the dense row parameter, which rows are
-/// dense, whether absorption is aggressive, and the bytes of a number. The parameter is a decimal fraction of as many places as
-/// it needs: `10` for 10000 thousandths, `-0.5` for -500. Any record is written as it is.
+/// Writes what a caller chooses, as five or six lines between two empty ones: a title, the dense row parameter, which rows
+/// are dense, whether absorption is aggressive, and the bytes of a number. The parameter is a decimal fraction of as many
+/// places as it needs: `10` for 10000 thousandths, `-0.5` for -500. Any record is written as it is.
 ///
 /// # Errors
 ///

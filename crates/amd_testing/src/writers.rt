@@ -1,5 +1,5 @@
-// Writers for tests: one that has a fault at a chosen call and counts its calls, and one that takes one byte a call. Each keeps
-// the bytes that it took. Code that writes is run with the fault at each call in turn. Called by tests alone.
+// Writers for tests: one that has a fault at a chosen call and counts its calls, and one that takes one byte a call. Each
+// keeps the bytes that it took. Code that writes is run with the fault at each call in turn. Called by tests alone.
 
 use std::io;
 use std::io::{ErrorKind, Write};
