@@ -11,3 +11,5 @@ pub mod ColumnCounts
 pub mod PrefixSums
 pub mod ColumnLists
 pub mod RowForms
+pub mod Written
+pub mod Padding

@@ -5,3 +5,4 @@ pub mod Transposes
 pub mod Degrees
 pub mod ByDegree
 pub mod Answers
+pub mod Texts

@@ -2,10 +2,13 @@
 //!
 //! [`order`] takes the pattern of a square matrix by columns and answers a permutation of its rows, its inverse, and figures.
 //! In this version the rows are listed by rising degree, with the dense rows last; the elimination takes that place next.
+//! [`control`] and [`info`] write what a caller chooses and what the ordering tells, as text.
 #![tactic(auto)]
 
 pub mod aat;
 mod by_degree;
+mod control_text;
+mod info_text;
 pub mod laws;
 pub mod preprocess;
 pub mod valid;
@@ -17,6 +20,8 @@ ghost use Rattle.amd.specs.Answers.{IsOrdering, IsRefusal, OrdersMatrix};
 
 use crate::aat::aat;
 use crate::by_degree::by_degree;
+pub use crate::control_text::control;
+pub use crate::info_text::info;
 use crate::preprocess::preprocess;
 use crate::valid::valid;
 pub use amd_engine::amd::{Control, Info, Status};

@@ -20,6 +20,8 @@ mod memory;
 #[cfg(test)]
 mod numbers;
 #[cfg(test)]
+mod texts;
+#[cfg(test)]
 mod worked;
 
 #[cfg(test)]

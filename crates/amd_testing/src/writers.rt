@@ -1,0 +1,144 @@
+// Writers for tests: one that has a fault at a chosen call and counts its calls, and one that takes one byte a call. Each
+// keeps the bytes that it took. Code that writes is run with the fault at each call in turn. Called by tests alone.
+
+use std::io;
+use std::io::{ErrorKind, Write};
+
+/// What goes wrong at the chosen call.
+#[derive(Clone, Copy, Debug)]
+pub enum Fault {
+    /// The call fails, with kind `Other`.
+    Fails,
+    /// The call takes no byte.
+    TakesNothing,
+}
+
+/// Takes all bytes, but at the call that has the chosen number.
+#[derive(Drop)]
+pub struct Faulty {
+    bytes: Vec<u8>,
+    fault: Fault,
+    fault_at: u64,
+    calls: u64,
+    faults: u64,
+}
+
+impl Faulty {
+    /// Appends to `bytes`, with a fault at the call `fault_at`, counted from 1, and none where that is 0.
+    pub fn new(bytes: Vec<u8>, fault: Fault, fault_at: u64) -> Faulty {
+        Faulty {
+            bytes,
+            fault,
+            fault_at,
+            calls: 0,
+            faults: 0,
+        }
+    }
+
+    /// The bytes that it took.
+    pub fn bytes(&self) -> &[u8] {
+        self.bytes.as_slice()
+    }
+
+    /// How often it was asked to write.
+    pub fn calls(&self) -> u64 {
+        self.calls
+    }
+
+    /// How often it had its fault.
+    pub fn faults(&self) -> u64 {
+        self.faults
+    }
+}
+
+impl Write for Faulty {
+    fn write(&mut self, buf: &[u8]) -> io::Result<usize> {
+        self.calls = self.calls.wrapping_add(1);
+        if self.calls == self.fault_at {
+            self.faults = self.faults.wrapping_add(1);
+            return match self.fault {
+                Fault::Fails => Err(io::Error::from(ErrorKind::Other)),
+                Fault::TakesNothing => Ok(0),
+            };
+        }
+        self.bytes.extend_from_slice(buf)?;
+        Ok(buf.len())
+    }
+
+    fn flush(&mut self) -> io::Result<()> {
+        Ok(())
+    }
+}
+
+/// Takes one byte at each call.
+#[derive(Drop)]
+pub struct Slow {
+    bytes: Vec<u8>,
+}
+
+impl Slow {
+    /// Appends to `bytes`.
+    pub fn new(bytes: Vec<u8>) -> Slow {
+        Slow { bytes }
+    }
+
+    /// The bytes that it took.
+    pub fn bytes(&self) -> &[u8] {
+        self.bytes.as_slice()
+    }
+}
+
+impl Write for Slow {
+    fn write(&mut self, buf: &[u8]) -> io::Result<usize> {
+        let Some(first) = buf.first() else {
+            return Ok(0);
+        };
+        self.bytes.push(*first)?;
+        Ok(1)
+    }
+
+    fn flush(&mut self) -> io::Result<()> {
+        Ok(())
+    }
+}
+
+#[cfg(test)]
+mod tests {
+    use super::{Fault, Faulty, Slow};
+    use std::io;
+    use std::io::Write;
+
+    /// Writes three words.
+    fn three_words<W: Write>(out: &mut W) -> io::Result<()> {
+        for word in [b"one".as_slice(), b"two", b"three"] {
+            out.write_all(word)?;
+        }
+        Ok(())
+    }
+
+    #[test]
+    fn has_its_fault_at_the_chosen_call(rt: HostRuntime) {
+        for fault in [Fault::Fails, Fault::TakesNothing] {
+            for (fault_at, calls, text) in [
+                (0, 3, b"onetwothree".as_slice()),
+                (1, 1, b""),
+                (2, 2, b"one"),
+                (3, 3, b"onetwo"),
+                (4, 3, b"onetwothree"),
+            ] {
+                let mut out = Faulty::new(Vec::new(rt.alloc()), fault, fault_at);
+                let fails = three_words(&mut out).is_err();
+                assert_eq!(rt; fails, out.faults() == 1, "{fault:?} at {fault_at}");
+                assert_eq!(rt; out.calls(), calls, "{fault:?} at {fault_at}");
+                assert_eq!(rt; out.bytes(), text, "{fault:?} at {fault_at}");
+            }
+        }
+    }
+
+    #[test]
+    fn takes_all_in_the_end(rt: HostRuntime) {
+        let mut out = Slow::new(Vec::new(rt.alloc()));
+        assert!(rt; three_words(&mut out).is_ok());
+        assert_eq!(rt; out.bytes(), b"onetwothree".as_slice());
+    }
+}
