@@ -107,7 +107,7 @@ fn number_trees(
     ensures { (f_size : List ℤ) → IsForest nn parent.now nv.now f_size → AreLinked (tree_of nn parent.now nv.now f_size) child.old sibling.now → IsPostorderOf (tree_of nn parent.now nv.now f_size) order.new }
 {
     let mut next = 0;
-    'elements: for j in 0..nn {
+    'roots: for j in 0..nn {
         if !is_root(j, parent, nv) {
             continue;
         }

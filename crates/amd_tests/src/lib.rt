@@ -18,6 +18,8 @@ mod memory;
 #[cfg(test)]
 mod numbers;
 #[cfg(test)]
+mod trees;
+#[cfg(test)]
 mod worked;
 
 #[cfg(test)]
