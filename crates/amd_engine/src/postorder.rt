@@ -135,6 +135,7 @@ pub fn postorder<A: Allocator + Copy>(
     requires numbers { nn < 2 ^ 63 }
     ensures { MatchResult result (λ v. IsPostorderOf (tree_of nn parent.now nv.now f_size.now) v.items) (λ s. s ≡ Status.OutOfMemory) }
 {
+    // The stack's memory holds the links to the heaviest children first.
     let mut stack = vec![in alloc; EMPTY; nn]?;
     link_heaviest(nn, parent, nv, f_size, &mut stack);
     let mut child = Vec::from_slice(alloc, &stack)?;
