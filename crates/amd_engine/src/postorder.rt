@@ -107,7 +107,7 @@ fn number_trees(
     ensures { (f_size : List ℤ) → IsForest nn parent.now nv.now f_size → AreLinked (tree_of nn parent.now nv.now f_size) child.old sibling.now → IsPostorderOf (tree_of nn parent.now nv.now f_size) order.new }
 {
     let mut next = 0;
-    'elements: for j in 0..nn {
+    'roots: for j in 0..nn {
         if !is_root(j, parent, nv) {
             continue;
         }
@@ -135,6 +135,7 @@ pub fn postorder<A: Allocator + Copy>(
     requires numbers { nn < 2 ^ 63 }
     ensures { MatchResult result (λ v. IsPostorderOf (tree_of nn parent.now nv.now f_size.now) v.items) (λ s. s ≡ Status.OutOfMemory) }
 {
+    // The stack's memory holds the links to the heaviest children first.
     let mut stack = vec![in alloc; EMPTY; nn]?;
     link_heaviest(nn, parent, nv, f_size, &mut stack);
     let mut child = Vec::from_slice(alloc, &stack)?;

@@ -74,7 +74,7 @@ pub fn complete<A: Allocator + Copy>(
 }
 
 /// Draws a number below `n`, or 0 where `n` is 0: the generator's state makes one step, and its upper 31 bits are taken.
-fn draw(state: &mut u64, n: u64) -> i64 {
+pub fn draw(state: &mut u64, n: u64) -> i64 {
     *state = state
         .wrapping_mul(6364136223846793005)
         .wrapping_add(1442695040888963407);

@@ -2,6 +2,7 @@
 //! call, families of inputs, and the definitions of an input and its pattern in a plain, slow form to compare with.
 #![tactic(auto)]
 
+pub mod forests;
 pub mod inputs;
 pub mod plain;
 pub mod refusing;

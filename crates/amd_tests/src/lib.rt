@@ -21,6 +21,7 @@ mod memory;
 mod numbers;
 #[cfg(test)]
 mod texts;
+mod trees;
 #[cfg(test)]
 mod worked;
 

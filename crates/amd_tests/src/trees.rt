@@ -1,0 +1,198 @@
+// The postorder of forests: a worked one, hundreds that are drawn, and refused memory.
+
+ghost use Rattle.std.specs.Prelude.{◌≡◌, ◌≤ℤ◌, ◌<◌, ◌⊎◌, ℕ, IsTrue, true, length, pos, negsuc, slice_index};
+ghost use Rattle.amd_model.specs.Input.Columns.{at};
+ghost use Rattle.amd_engine.specs.Trees.{IsForest, is_element};
+
+use amd_engine::amd::Status;
+use amd_engine::internal::{EMPTY, link_at};
+use amd_engine::post_tree::post_tree;
+use amd_engine::postorder::postorder;
+use amd_testing::forests::{drawn_forest, listing_of};
+use amd_testing::refusing::Refusing;
+use std::alloc::{Allocator, Global};
+use std::process::Abort;
+use std::test::Fail;
+
+/// Whether element `e` has a size, and no parent, or one of a higher rank.
+fn is_placed(e: usize, parent: &[isize], nv: &[isize], f_size: &[isize], rank: &[usize]) -> bool
+    requires in_parent { e < length parent.now }
+    requires in_f_size { e < length f_size.now }
+    requires in_rank { e < length rank.now }
+    requires nv_room { length nv.now ≡ length parent.now }
+    requires rank_room { length rank.now ≡ length parent.now }
+    ensures size { IsTrue result → pos 0 ≤ℤ at f_size.now e }
+    ensures parent { IsTrue result → (at parent.now e ≡ negsuc 0) ⊎ ((p : ℕ) × (at parent.now e ≡ pos p) × (is_element (length parent.now) nv.now p ≡ true) × (slice_index rank.now e < slice_index rank.now p)) }
+{
+    if f_size[e] < 0 {
+        return false;
+    }
+    match link_at(parent, e) {
+        Some(p) => p < parent.len() && nv[p] > 0 && rank[e] < rank[p],
+        None => parent[e] == EMPTY,
+    }
+}
+
+/// Whether ranks show that the elements with their parents are a forest.
+fn is_forest(parent: &[isize], nv: &[isize], f_size: &[isize], rank: &[usize]) -> bool
+    ensures { IsTrue result → IsForest (length parent.now) parent.now nv.now f_size.now }
+{
+    let nn = parent.len();
+    if nv.len() != nn || f_size.len() != nn || rank.len() != nn {
+        return false;
+    }
+    'elements: for e in 0..nn {
+        if nv[e] <= 0 {
+            continue;
+        }
+        if !is_placed(e, parent, nv, f_size, rank) {
+            return false;
+        }
+    }
+    true
+}
+
+/// The places of a forest's elements. The ranks show that it is one.
+fn places<A: Allocator + Copy>(
+    rt: &impl Abort,
+    alloc: A,
+    parent: &[isize],
+    nv: &[isize],
+    f_size: &[isize],
+    rank: &[usize],
+) -> Result<Vec<isize, A>, Status> {
+    assert!(rt; parent.len() < 1000);
+    assert!(rt;
+        is_forest(parent, nv, f_size, rank),
+        "{parent:?} {nv:?} {f_size:?}"
+    );
+    postorder(alloc, parent.len(), parent, nv, f_size)
+}
+
+/// Seven places, of which the last holds no element, and the place of each in the postorder. Elements 0 to 3 are children of 5,
+/// and 1 and 2 have the largest size among them.
+#[derive(Drop)]
+struct Worked {
+    parent: [isize; 7],
+    nv: [isize; 7],
+    f_size: [isize; 7],
+    rank: [usize; 7],
+    order: [isize; 7],
+}
+
+const WORKED: Worked = Worked {
+    parent: [5, 5, 5, 5, -1, -1, 5],
+    nv: [1, 1, 1, 1, 1, 2, 0],
+    f_size: [2, 4, 4, 3, 1, 5, -1],
+    rank: [0, 0, 0, 0, 0, 1, 0],
+    order: [1, 2, 4, 3, 0, 5, -1],
+};
+
+#[test]
+fn worked_forest(rt: HostRuntime) {
+    let worked = WORKED;
+    let Ok(order) = places(
+        &rt,
+        rt.alloc(),
+        &worked.parent,
+        &worked.nv,
+        &worked.f_size,
+        &worked.rank,
+    ) else {
+        panic!(rt; "no postorder");
+    };
+    assert_eq!(rt; order.as_slice(), worked.order.as_slice());
+}
+
+#[test]
+fn no_places(rt: HostRuntime) {
+    let heap = Refusing::new(rt.alloc(), 1);
+    let Ok(order) = places(&rt, &heap, &[], &[], &[], &[]) else {
+        panic!(rt; "no postorder");
+    };
+    assert!(rt; order.is_empty());
+}
+
+/// Lists the worked forest with one request refused, and says whether it was made.
+fn places_refusing(rt: &impl Abort, alloc: Global, refuse_at: u64) -> bool {
+    let heap = Refusing::new(alloc, refuse_at);
+    let worked = WORKED;
+    match places(
+        rt,
+        &heap,
+        &worked.parent,
+        &worked.nv,
+        &worked.f_size,
+        &worked.rank,
+    ) {
+        Ok(order) => {
+            assert!(rt; !heap.refused(), "at {refuse_at}");
+            assert_eq!(rt; order.as_slice(), worked.order.as_slice());
+        }
+        Err(status) => {
+            assert!(rt; heap.refused(), "at {refuse_at}");
+            assert!(rt; status == Status::OutOfMemory, "at {refuse_at}");
+        }
+    }
+    heap.refused()
+}
+
+#[test]
+fn each_request_of_postorder(rt: HostRuntime) {
+    let mut refusals = 0;
+    for refuse_at in 1..50 {
+        if places_refusing(&rt, rt.alloc(), refuse_at) {
+            refusals = refuse_at;
+        }
+    }
+    assert_eq!(rt; refusals, 4);
+}
+
+/// Asserts that places are those of a listing, and `EMPTY` for what is not listed.
+fn check_places(rt: &impl Abort, order: &[isize], listing: &[usize]) {
+    let mut numbered = 0usize;
+    for (e, &number) in order.iter().enumerate() {
+        match usize::try_from(number) {
+            Ok(k) => {
+                assert_eq!(rt; listing.get(k).copied(), Some(e), "{order:?} {listing:?}");
+                numbered = numbered.saturating_add(1);
+            }
+            Err(_) => assert_eq!(rt; number, EMPTY),
+        }
+    }
+    assert_eq!(rt; numbered, listing.len(), "{order:?} {listing:?}");
+}
+
+#[test]
+fn drawn_forests(rt: HostRuntime) -> Result<(), Fail> {
+    for seed in 0..400 {
+        let forest = drawn_forest(rt.alloc(), seed)?;
+        let listing = listing_of(rt.alloc(), &forest.parent, &forest.nv, &forest.f_size)?;
+        let Ok(order) = places(
+            &rt,
+            rt.alloc(),
+            &forest.parent,
+            &forest.nv,
+            &forest.f_size,
+            &forest.rank,
+        ) else {
+            panic!(rt; "no postorder at {seed}");
+        };
+        assert_eq!(rt; order.len(), forest.nv.len());
+        check_places(&rt, &order, &listing);
+    }
+    Ok(())
+}
+
+/// Nodes 0, 1, 3 and 2 are the children of node 5, in this order; places 4 and 6 hold no node.
+#[test]
+fn one_tree(rt: HostRuntime) {
+    let mut child = [-1, -1, -1, -1, -7, 0, -7];
+    let sibling = [1, 3, -1, 2, -7, -7, -7];
+    let mut order = [-7; 7];
+    let mut stack = [0; 5];
+    let next = post_tree(5, 1, &mut child, &sibling, &mut order, &mut stack, 6);
+    assert_eq!(rt; next, 6);
+    assert_eq!(rt; order, [1, 2, 4, 3, -7, 5, -7]);
+    assert_eq!(rt; (child[4], child[6]), (-7, -7));
+}
