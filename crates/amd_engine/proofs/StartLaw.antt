@@ -1,26 +1,26 @@
 -- What the start of the plain engine fills in stands for the start of an elimination.
-use Rattle.std.proofs.Common.{ℕ, zero, suc, Bool, true, false, Option, None, Some, List, [], ◌∷◌, Vec, ◌≡◌, ◌≤◌, ◌<◌, ◌+◌, ◌∙◌, ◌&&◌, ◌||◌, not, cond, max, ap, sym, refl, subst, inl, inr, arith, length, map, replicate}
+use Rattle.std.proofs.Common.{ℕ, zero, suc, Bool, true, false, Option, None, Some, List, [], Vec, ◌≡◌, ◌≤◌, ◌<◌, ◌+◌, ◌∙◌, ◌&&◌, ◌||◌, not, cond, max, ap, sym, refl, subst, inl, inr, arith, length, map, replicate}
 use Rattle.std.specs.Prelude.{filter, sum_by, nat_lt, nat_le, nat_eq, ◌==◌, ◌⊎◌}
-use Rattle.std.proofs.lemmas.Bool.{cases_Bool, cases_eq, cases_lt, cond-true, cond-false, and_parts, or_right, or_from, eq-eqb, ne_eqb, eqb-true, lt-ltb, le-ltb, ltb-true, le-leb, lt-leb}
+use Rattle.std.proofs.lemmas.Bool.{cases_Bool, cases_eq, cases_lt, cond-false, and_parts, or_right, or_from, eq-eqb, ne_eqb, eqb-true, lt-ltb, le-ltb, ltb-true, le-leb, lt-leb}
 use Rattle.std.proofs.lemmas.List.{length-map, length-replicate, get_or-map, get_or-replicate, get_or_past}
-use Rattle.amd_model.specs.Below.{count_below, sum_below, list_below}
+use Rattle.amd_model.specs.Below.{count_below, list_below}
 use Rattle.amd_model.specs.Graph.{Graph, IsGraph, degree}
 use Rattle.amd_model.specs.State.{State, Home, Last, Live, Gone, in_block, is_element, live, IsStart}
 use Rattle.amd_model.specs.Figures.{figure, front_sum, is_made, max_below, entries, ldl_steps, lu_steps, greatest_front, cut}
 use Rattle.amd_model.specs.Listing.{weight}
-use Rattle.amd_model.specs.Tie.{Tie, has, start_tie}
+use Rattle.amd_model.specs.Tie.{has, start_tie}
 use Rattle.amd_model.specs.TieLaws.{NamesNeighbours}
 use Rattle.amd_model.specs.Input.Dense.{is_dense}
 use Rattle.amd_model.proofs.BelowLemmas.{count_same, sum_zero}
 use Rattle.amd_model.proofs.StateLemmas.{live_gives, block_gives, block_from, edge_small}
 use Rattle.amd_model.proofs.Sound.{live_small}
-use Rattle.amd_model.proofs.SoundStart.{Begins, is_last, is_empty, is_live, begins, start_sound, no_edge}
+use Rattle.amd_model.proofs.SoundStart.{is_last, is_empty, is_live, begins, start_sound, no_edge}
 use Rattle.amd_model.proofs.TieLists.{same_bool}
 use Rattle.amd_model.proofs.TieStart.{has_below, once_below, start_fits}
 use Rattle.amd_model.proofs.TieSums.{sum_one, sum_over}
 use Rattle.amd_engine.specs.Views.{num, some_at, list_at, live_of, Below, ListsBelow}
 use Rattle.amd_engine.specs.Buckets.{live_in, lasts}
-use Rattle.amd_engine.specs.Keeps.{IsIdle, IsSized, LinksLead, LinksEnd, Keeps, KeepsFronts, Stands}
+use Rattle.amd_engine.specs.Keeps.{IsIdle, IsSized, LinksLead, Keeps, KeepsFronts, Stands}
 use Rattle.amd_engine.specs.Starts.{StandsAtStart}
 use Rattle.amd_engine.specs.declared.work.Work.{Work}
 use Rattle.amd_engine.proofs.Named.{filter_named}
@@ -245,7 +245,7 @@ module _ {A : Type 0} (rows : List (Vec ℕ A)) (degrees : List ℕ) (threshold 
     parents = λ e. ap (λ xs. some_at xs e) begun.parent ∙ none_at (length degrees) e;
     links = subst (λ xs. LinksLead xs (λ v. cond (dense v || not (nat_lt v g.size)) Last (cond (degree g v == 0) (Gone v) (Live v)))) (sym begun.link)
         (links_none (length degrees) (λ v. cond (dense v || not (nat_lt v g.size)) Last (cond (degree g v == 0) (Gone v) (Live v)))
-          (λ v. home_cases v (dense v || not (nat_lt v g.size)) (degree g v == 0) (cond (dense v || not (nat_lt v g.size)) Last (cond (degree g v == 0) (Gone v) (Live v))) refl));
+        (λ v. home_cases v (dense v || not (nat_lt v g.size)) (degree g v == 0) (cond (dense v || not (nat_lt v g.size)) Last (cond (degree g v == 0) (Gone v) (Live v))) refl));
   }
 
   sized : IsSized g.size w
@@ -295,8 +295,8 @@ module _ {A : Type 0} (rows : List (Vec ℕ A)) (degrees : List ℕ) (threshold 
   unfolding count_below
   block_one e y = let r = empty_row e y in
       count_same g.size (in_block s e) (λ v. e == v) (λ v l. same_bool (in_block s e v) (e == v)
-        (λ h. eq-eqb e v (own_block v e (block_gives e (s.home v) h)))
-        (λ h. block_from e (s.home v) (subst (λ k. s.home k ≡ Gone e) (eqb-true e v h) r.2)))
+      (λ h. eq-eqb e v (own_block v e (block_gives e (s.home v) h)))
+      (λ h. block_from e (s.home v) (subst (λ k. s.home k ≡ Gone e) (eqb-true e v h) r.2)))
       ∙ sum_one g.size (λ k. 1) e r.0
 
   border_none : (e : ℕ) → count_below g.size (s.border e) ≡ 0
@@ -332,7 +332,7 @@ module _ {A : Type 0} (rows : List (Vec ℕ A)) (degrees : List ℕ) (threshold 
   unfolding figure
   figure_start share = add_none _ (front_sum share (count_below g.size dense) 0)
       (sum_zero g.size (λ e. cond (is_made g s e) (front_sum share (count_below g.size (in_block s e)) (count_below g.size (s.border e) + count_below g.size dense)) 0)
-        (λ e l. cond-false (is_made g s e) (front_sum share (count_below g.size (in_block s e)) (count_below g.size (s.border e) + count_below g.size dense)) 0 (not_made e)))
+      (λ e l. cond-false (is_made g s e) (front_sum share (count_below g.size (in_block s e)) (count_below g.size (s.border e) + count_below g.size dense)) 0 (not_made e)))
 
   figure_kept : (share : ℕ → ℕ) (x : ℕ) → x ≡ cut (0 + front_sum share w.n_dense 0) → x ≡ cut (figure share g dense s)
   figure_kept share x e = e ∙ ap cut (add_none 0 (front_sum share w.n_dense 0) refl ∙ ap (λ n. front_sum share n 0) dense_count ∙ sym (figure_start share))
@@ -386,6 +386,3 @@ pub stands_at_start : {A : Type 0} (rows : List (Vec ℕ A)) (degrees : List ℕ
     ListsBelow (length degrees) rows → Below (length degrees) degrees → StandsAtStart rows degrees threshold w
 stands_at_start rows degrees threshold w begun rows_in small g lists s laws size_is degree_is list_is names start =
     stands_start rows degrees threshold w begun rows_in small g lists s laws size_is degree_is list_is names start
-
-pub and_false_law : (x : ℕ) → x ≡ x
-and_false_law x = refl

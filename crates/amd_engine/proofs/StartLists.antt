@@ -1,13 +1,12 @@
 -- Lists and counts that are filled row by row, from which an elimination starts.
-use Rattle.std.proofs.Common.{ℕ, zero, suc, Bool, true, false, ◌≡◌, ◌<◌, ◌≤◌, ◌+◌, ◌&&◌, cond, inl, inr, refl, sym, ◌∙◌, ap, subst, arith, add-one, List, [], ◌∷◌, ◌++◌, Vec, map, length, get_or, set}
+use Rattle.std.proofs.Common.{ℕ, zero, suc, Bool, true, false, ◌≡◌, ◌<◌, ◌+◌, ◌&&◌, cond, inl, inr, refl, sym, ◌∙◌, ap, subst, arith, add-one, List, [], ◌∷◌, ◌++◌, Vec, map, length, get_or, set}
 use Rattle.std.specs.Prelude.{filter, ◌==◌}
-use Rattle.std.proofs.lemmas.Bool.{cases_Bool, cases_eq, cases_lt, eq-eqb, ne_eqb, cond-true, cond-false}
-use Rattle.std.proofs.lemmas.List.{append-nil, length-map, length-set, map-set, get_or-map, get_or_past, get_or-set_same, get_or-set_other}
+use Rattle.std.proofs.lemmas.Bool.{cases_eq, eq-eqb, ne_eqb, cond-true, cond-false}
+use Rattle.std.proofs.lemmas.List.{append-nil, length-map, length-set, map-set, get_or-map, get_or-set_same, get_or-set_other}
 use Rattle.std.proofs.lemmas.List.Elements.{All-nil, All-push, All-set, filter-append}
 use Rattle.amd_model.specs.Below.{count_below, sum_below, list_below}
 use Rattle.amd_model.specs.Tie.{Once, has}
-use Rattle.amd_model.proofs.TieLists.{clash}
-use Rattle.amd_engine.specs.Views.{num, list_at, Below, ListsBelow}
+use Rattle.amd_engine.specs.Views.{list_at, Below, ListsBelow}
 use Rattle.amd_engine.specs.Buckets.{lasts}
 
 abbrev one_if : Bool → ℕ
@@ -87,5 +86,7 @@ module _ {A : Type 0} (n : ℕ) (lists : List (Vec ℕ A)) (bound : ℕ → ℕ)
     ]
 
     pub range_yes : ListsBelow n lists → i < n → ListsBelow n (set lists (bound i) w)
-    range_yes r l = (length-set lists (bound i) w ∙ r.0,
-        All-set (λ u. Below n u.items) lists (bound i) w (subst (Below n) (sym pushed) (All-push (λ j. j < n) v.items i (subst (λ u. Below n u.items) (sym is) (r.1 (bound i) v here)) l)) r.1)
+    range_yes r l = (
+      length-set lists (bound i) w ∙ r.0,
+      All-set (λ u. Below n u.items) lists (bound i) w (subst (Below n) (sym pushed) (All-push (λ j. j < n) v.items i (subst (λ u. Below n u.items) (sym is) (r.1 (bound i) v here)) l)) r.1,
+    )

@@ -12,10 +12,7 @@ use crate::work::{Lists, Scratch, Work};
 use std::alloc::{AllocError, Allocator};
 
 /// As many lists as there are rows, with nothing in them.
-fn empty_lists<A: Allocator + Copy>(
-    alloc: A,
-    n: usize,
-) -> Result<Vec<Vec<usize, A>, A>, AllocError>
+fn empty_lists<A: Allocator + Copy>(alloc: A, n: usize) -> Result<Vec<Vec<usize, A>, A>, AllocError>
     ensures { IfOk result (λ v. (length v.items ≡ n) × ((i : ℕ) → list_at v.items i ≡ [])) }
 {
     let mut lists = Vec::with_capacity(alloc, n)?;
@@ -55,11 +52,7 @@ fn first_sizes<A: Allocator + Copy>(
 fn block_size(degree: usize) -> usize
     ensures { result ≡ cond (nat_eq degree 0) 1 0 }
 {
-    if degree == 0 {
-        1
-    } else {
-        0
-    }
+    if degree == 0 { 1 } else { 0 }
 }
 
 /// The rows of each element: 1 for an empty row.

@@ -1,4 +1,4 @@
-use Rattle.std.proofs.Common.{◌≡◌, ◌≤◌, ◌+◌, ℕ, Bool, arith, length, refl}
+use Rattle.std.proofs.Common.{ℕ, Bool, arith, refl}
 use Rattle.std.specs.Prelude.{nat_lt}
 use Rattle.std.proofs.lemmas.Bool.{lt-ltb, le-ltb}
 use Rattle.amd_model.specs.Below.{count_below, sum_below}
@@ -23,7 +23,9 @@ pub loop-k-preserved : goal.loop-k-preserved
 loop-k-preserved c =
     let k : ℕ = c.loop-k.k-index in
     let p : ℕ → Bool = λ i. nat_lt c.args.limit (num c.args.numbers.now i) in
-    record { count = elim c.if-k-limit.branch [
-      | then-k-limit w ↦ rw w.count-is (count_yes p k c.loop-k.count c.loop-k.invariant.count (lt-ltb c.args.limit (num c.args.numbers.now k) w.if-k-limit.true))
-      | else-k-limit w ↦ rw w.count-is (count_no p k c.loop-k.count c.loop-k.invariant.count (le-ltb c.args.limit (num c.args.numbers.now k) w.if-k-limit.false))
-    ] }
+    record {
+      count = elim c.if-k-limit.branch [
+        | then-k-limit w ↦ rw w.count-is (count_yes p k c.loop-k.count c.loop-k.invariant.count (lt-ltb c.args.limit (num c.args.numbers.now k) w.if-k-limit.true))
+        | else-k-limit w ↦ rw w.count-is (count_no p k c.loop-k.count c.loop-k.invariant.count (le-ltb c.args.limit (num c.args.numbers.now k) w.if-k-limit.false))
+      ];
+    }

@@ -1,4 +1,4 @@
-use Rattle.std.proofs.Common.{◌≡◌, ◌≤◌, ℕ, length}
+use Rattle.std.proofs.Common.{◌≡◌}
 use Rattle.std.specs.Prelude.{nat_lt}
 use Rattle.amd_model.specs.Below.{count_below}
 use Rattle.amd_engine.specs.Views.{num}

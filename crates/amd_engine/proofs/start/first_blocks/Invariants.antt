@@ -1,4 +1,4 @@
-use Rattle.std.proofs.Common.{◌≡◌, ◌≤◌, ℕ, length, map, take}
+use Rattle.std.proofs.Common.{◌≡◌, ◌≤◌, length, map, take}
 use Rattle.std.specs.Prelude.{cond, nat_eq}
 use Rattle.std.specs.Vec.{vec_capacity}
 use Rattle.amd_engine.proofs.start.first_blocks.Given as goal

@@ -1,8 +1,8 @@
-use Rattle.std.proofs.Common.{◌≡◌, ◌<◌, ◌≤◌, ◌+◌, ◌∙◌, ℕ, Bool, arith, length, refl, get_or, ap}
+use Rattle.std.proofs.Common.{◌<◌, ℕ, Bool, arith, length}
 use Rattle.std.specs.Prelude.{nat_lt}
 use Rattle.std.proofs.lemmas.Bool.{lt-ltb, le-ltb}
 use Rattle.amd_model.specs.Below.{list_below}
-use Rattle.amd_engine.specs.Views.{num, list_at, ListsBelow}
+use Rattle.amd_engine.specs.Views.{num}
 use Rattle.amd_engine.proofs.StartLists.{empty_below, placed_no, placed_yes, range_yes}
 use Rattle.amd_engine.proofs.start.first_placed.Goals as goal
 use Rattle.amd_engine.proofs.start.first_placed.Goals.{then-size-i-gt0+in_ok-push, else-size-i-gt0}
@@ -26,12 +26,12 @@ rows-preserved g c =
     let here : bound i < length lists = (let small = c.requires.degrees i 0 end in omega (arith, small, was.range.0)) in
     elim c.if-size-i-gt0.branch [
       | then-size-i-gt0+in_ok-push w ↦ rw w.placed-is (record {
-          range = range_yes n lists bound light i was.lists w.index_mut.result.now here w.index_mut.ensures.value w.push.new.self w.in_ok-push.ensures.items was.range end;
-          lists = placed_yes n lists bound light i was.lists w.index_mut.result.now here w.index_mut.ensures.value w.push.new.self w.in_ok-push.ensures.items
-              (lt-ltb 0 (num c.args.size.now i) w.if-size-i-gt0.true);
-        })
+        range = range_yes n lists bound light i was.lists w.index_mut.result.now here w.index_mut.ensures.value w.push.new.self w.in_ok-push.ensures.items was.range end;
+        lists = placed_yes n lists bound light i was.lists w.index_mut.result.now here w.index_mut.ensures.value w.push.new.self w.in_ok-push.ensures.items
+            (lt-ltb 0 (num c.args.size.now i) w.if-size-i-gt0.true);
+      })
       | else-size-i-gt0 w ↦ rw w.placed-is (record {
-          range = was.range;
-          lists = placed_no n lists bound light i was.lists (le-ltb 0 (num c.args.size.now i) w.if-size-i-gt0.false);
-        })
+        range = was.range;
+        lists = placed_no n lists bound light i was.lists (le-ltb 0 (num c.args.size.now i) w.if-size-i-gt0.false);
+      })
     ]
