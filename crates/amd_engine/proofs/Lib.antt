@@ -14,6 +14,8 @@ pub mod FrontShares
 pub mod CutSums
 pub mod Named
 pub mod RoundLaw
+pub mod StartLists
+pub mod StartLaw
 mod Links
 mod ChildLinks
 mod ChildChains

@@ -12,17 +12,25 @@ use crate::work::{Lists, Scratch, Work};
 use std::alloc::{AllocError, Allocator};
 
 /// As many lists as there are rows, with nothing in them.
-fn empty_lists<A: Allocator + Copy>(
-    alloc: A,
-    n: usize,
-) -> Result<Vec<Vec<usize, A>, A>, AllocError>
+fn empty_lists<A: Allocator + Copy>(alloc: A, n: usize) -> Result<Vec<Vec<usize, A>, A>, AllocError>
     ensures { IfOk result (λ v. (length v.items ≡ n) × ((i : ℕ) → list_at v.items i ≡ [])) }
 {
     let mut lists = Vec::with_capacity(alloc, n)?;
-    for _ in 0..n {
+    'rows: for _ in 0..n {
         lists.push_reserved(Vec::new(alloc));
     }
     Ok(lists)
+}
+
+/// The rows of the class of a row: 1 if it is neither dense nor empty.
+fn class_size(degree: usize, threshold: usize) -> usize
+    ensures { result ≡ cond (nat_lt 0 degree && nat_le degree threshold) 1 0 }
+{
+    if degree > 0 && degree <= threshold {
+        1
+    } else {
+        0
+    }
 }
 
 /// The rows of each class: 1 for a row that is neither dense nor empty.
@@ -35,9 +43,16 @@ fn first_sizes<A: Allocator + Copy>(
 {
     let mut sizes = Vec::with_capacity(alloc, degrees.len())?;
     for d in degrees {
-        sizes.push_reserved(if *d > 0 && *d <= threshold { 1 } else { 0 });
+        sizes.push_reserved(class_size(*d, threshold));
     }
     Ok(sizes)
+}
+
+/// The rows of the element of a row: 1 if it is empty.
+fn block_size(degree: usize) -> usize
+    ensures { result ≡ cond (nat_eq degree 0) 1 0 }
+{
+    if degree == 0 { 1 } else { 0 }
 }
 
 /// The rows of each element: 1 for an empty row.
@@ -49,7 +64,7 @@ fn first_blocks<A: Allocator + Copy>(
 {
     let mut blocks = Vec::with_capacity(alloc, degrees.len())?;
     for d in degrees {
-        blocks.push_reserved(if *d == 0 { 1 } else { 0 });
+        blocks.push_reserved(block_size(*d));
     }
     Ok(blocks)
 }
@@ -74,26 +89,13 @@ fn first_placed<A: Allocator + Copy>(
     Ok(placed)
 }
 
-/// The number of dense rows.
-fn dense_rows(degrees: &[usize], threshold: usize) -> usize
-    ensures { result ≡ count_below (length degrees.now) (λ i. nat_lt threshold (num degrees.now i)) }
+/// How many of the numbers are greater than a limit.
+fn count_above(numbers: &[usize], limit: usize) -> usize
+    ensures { result ≡ count_below (length numbers.now) (λ i. nat_lt limit (num numbers.now i)) }
 {
     let mut count = 0;
-    for d in degrees {
-        if *d > threshold {
-            count += 1;
-        }
-    }
-    count
-}
-
-/// The sum of numbers that are 0 or 1.
-fn live_rows(size: &[usize]) -> usize
-    ensures { result ≡ count_below (length size.now) (λ i. nat_lt 0 (num size.now i)) }
-{
-    let mut count = 0;
-    for s in size {
-        if *s > 0 {
+    for k in numbers {
+        if *k > limit {
             count += 1;
         }
     }
@@ -128,7 +130,7 @@ pub fn start<A: Allocator + Copy>(
     let n = degrees.len();
     let size = first_sizes(alloc, degrees, threshold)?;
     let placed = first_placed(alloc, degrees, &size)?;
-    let n_dense = dense_rows(degrees, threshold);
+    let n_dense = count_above(degrees, threshold);
     let mut figures = Figures {
         lnz: 0,
         n_mult_subs_ldl: 0,
@@ -143,7 +145,7 @@ pub fn start<A: Allocator + Copy>(
             elements: empty_lists(alloc, n)?,
             members: empty_lists(alloc, n)?,
         },
-        live: live_rows(&size),
+        live: count_above(&size, 0),
         size,
         bound: Vec::from_slice(alloc, degrees)?,
         placed,
