@@ -1,0 +1,3 @@
+pub mod WordLemmas
+pub mod NumberLemmas
+pub mod ItemLemmas

@@ -1,0 +1,4 @@
+-- What the lines of a case spell.
+pub mod Words
+pub mod Items
+pub mod Drafts
