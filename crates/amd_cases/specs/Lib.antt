@@ -2,3 +2,4 @@
 pub mod Words
 pub mod Items
 pub mod Drafts
+pub mod Reading

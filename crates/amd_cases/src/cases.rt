@@ -1,7 +1,7 @@
 // A case, and what is known of one while its lines are read. Called by `reader`.
 // The items of a case, and what they mean where they are left out, are those of the format; see the root.
 
-ghost use Rattle.std.specs.Prelude.{◌≡◌, ◌≢◌, ◌+◌, None, Some, IsSome, OnOk, IfErr, MatchResult};
+ghost use Rattle.std.specs.Prelude.{◌≡◌, ◌≢◌, ◌+◌, false, None, Some, IsSome, OnOk, IfErr, MatchResult};
 ghost use Rattle.amd_cases.specs.Items.{item_keyword};
 ghost use Rattle.amd_cases.specs.Drafts.{Adds, Finishes, is_complete, free_slots};
 ghost use Rattle.amd_cases.specs.declared.items.Keyword.TheVariants as key;
@@ -92,13 +92,19 @@ impl<A: Allocator> Draft<A> {
     {
         let Draft {
             number,
-            n: Some(n),
+            n,
             dense,
             aggressive,
-            a_p: Some(a_p),
-            a_i: Some(a_i),
-        } = self
-        else {
+            a_p,
+            a_i,
+        } = self;
+        let Some(n) = n else {
+            return Err(Fault::Missing);
+        };
+        let Some(a_p) = a_p else {
+            return Err(Fault::Missing);
+        };
+        let Some(a_i) = a_i else {
             return Err(Fault::Missing);
         };
         Ok(Case {

@@ -23,4 +23,6 @@
 pub mod cases;
 pub mod faults;
 pub mod items;
+pub mod matrix;
+pub mod reader;
 pub mod words;
