@@ -1,6 +1,6 @@
 -- A line spells one item at most.
 use Rattle.std.proofs.Common.{◌≡◌, ℕ, ℤ, List, [], ◌∷◌, cond, eqb, get_or, drop, refl, sym, ap, ◌∙◌, subst}
-use Rattle.amd_cases.specs.Words.{words, SpellsNumber, SpellsNumbers}
+use Rattle.amd_cases.specs.Words.{words, SpellsNumbers}
 use Rattle.amd_cases.specs.Items.{keyword_text, item_keyword, item_numbers, FitsItem, SpellsItem}
 use Rattle.amd_cases.specs.declared.items.Keyword.{Keyword}
 use Rattle.amd_cases.specs.declared.items.Keyword.TheVariants.{Case, Size, Dense, Aggressive, Pointers, Rows, End}
@@ -48,8 +48,8 @@ one-item line w ws k zs taken is numbers never i h =
 pub this-item : {Z : Type 0} (line w : List ℕ) (ws : List (List ℕ)) (k : Keyword) (zs : List ℤ) (i : Item Z) → words line ≡ w ∷ ws → w ≡ keyword_text k → SpellsNumbers ws zs
     → FitsItem i → item_keyword i ≡ k → item_numbers i ≡ zs → SpellsItem line i
 this-item line w ws k zs i taken is numbers fits key those = record {
-    behind = ws;
-    begins = taken ∙ ap (λ t. t ∷ ws) (is ∙ ap keyword_text (sym key));
-    numbers = subst (SpellsNumbers ws) (sym those) numbers;
-    fits = fits;
-  }
+  behind = ws;
+  begins = taken ∙ ap (λ t. t ∷ ws) (is ∙ ap keyword_text (sym key));
+  numbers = subst (SpellsNumbers ws) (sym those) numbers;
+  fits = fits;
+}

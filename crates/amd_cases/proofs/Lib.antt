@@ -1,3 +1,5 @@
 pub mod WordLemmas
 pub mod NumberLemmas
 pub mod ItemLemmas
+pub mod ReadingLemmas
+pub mod DraftLemmas

@@ -1,13 +1,13 @@
 -- The words of a line, taken off its front one by one.
-use Rattle.std.proofs.Common.{◌≡◌, ◌<◌, ◌≤◌, ◌+◌, ℕ, suc, Bool, true, false, List, [], ◌∷◌, length, take, drop, get_or, not, cond, ltb, refl, sym, ap, ◌∙◌, subst, length-drop, drop-cons, arith, Option, Some, None}
-use Rattle.std.specs.Prelude.{filter, nat_lt, unwrap_or}
+use Rattle.std.proofs.Common.{◌≡◌, ◌<◌, ◌+◌, ℕ, suc, Bool, true, false, List, [], ◌∷◌, length, take, drop, get_or, not, cond, ltb, refl, sym, ap, ◌∙◌, subst, length-drop, drop-cons, arith, Option, Some, None}
+use Rattle.std.specs.Prelude.{filter, unwrap_or}
 use Rattle.std.proofs.lemmas.Bool.{lt-ltb, ltb-false}
 use Rattle.std.proofs.lemmas.List.{drop_all}
 use Rattle.std.proofs.lemmas.List.Sums.{prefix_len-le-length}
 use Rattle.std.proofs.lemmas.List.Folds.{length-prefix_len}
 use Rattle.std.proofs.lemmas.List.Quantifiers.{position-Some}
-use Rattle.std.specs.List.{slice_split, onto_first, position, position_or_len}
-use Rattle.amd_cases.specs.Words.{words, has_bytes}
+use Rattle.std.specs.List.{slice_split, position, position_or_len}
+use Rattle.amd_cases.specs.Words.{has_bytes}
 
 -- the parts of a list between elements that pass, but for empty ones
 abbrev parts : (ℕ → Bool) → List ℕ → List (List ℕ)

@@ -1,5 +1,5 @@
 -- A case of which some items were read.
-use Rattle.std.specs.Prelude.{◌≡◌, ℕ, ◌+◌, ℤ, pos, Bool, true, false, ◌&&◌, Option, None, Some, List, [], ◌∷◌, ◌++◌, is_some, unwrap_or, option_to_list, option_map, if◌then◌else◌}
+use Rattle.std.specs.Prelude.{◌≡◌, ℕ, ◌+◌, ℤ, pos, Bool, true, ◌&&◌, Option, None, Some, List, [], ◌∷◌, ◌++◌, is_some, unwrap_or, option_to_list}
 use Rattle.std.specs.declared.vec.Vec.{Vec}
 use Rattle.amd_cases.specs.Items.{size_of, dense_of, aggressive_of, pointers_of, rows_of, IsInside}
 use Rattle.amd_cases.specs.declared.items.Item.{Item}

@@ -2,4 +2,5 @@
 pub mod Words
 pub mod Items
 pub mod Drafts
+pub mod Spelling
 pub mod Reading

@@ -17,9 +17,6 @@
 //! input inside a case.
 #![tactic(auto)]
 
-
-
-
 pub mod cases;
 pub mod faults;
 pub mod items;

@@ -1,8 +1,8 @@
 // A reader of cases, one after another, which holds one line and one case. Called by programs that order cases.
 // The format is that of the root; a line ends at a line feed or at the end of the input.
 
-ghost use Rattle.std.specs.Prelude.{◌≡◌, ◌+◌, ◌-◌, ◌^◌, min, true, false, Ok, Err, None, IfOk, IfErr, OnOk, OnErr, IsErr, is_err};
-ghost use Rattle.amd_cases.specs.Reading.{lines_read, has_failed, source_of};
+ghost use Rattle.std.specs.Prelude.{◌≡◌, ◌∷◌, [], true, false, IfOk, IfErr, MatchOption, is_err};
+ghost use Rattle.amd_cases.specs.Reading.{TakesLine, TakesItems, IsAtEnd, ReadsBody, ReadsCase, NamesLine, lines_read, has_failed, source_of};
 ghost use Rattle.amd_cases.specs.declared.reader.ReadError.TheVariants as error;
 
 use crate::cases::{Case, Draft};
@@ -75,6 +75,8 @@ impl<R: BufRead + Drop, A: Allocator + Copy> CaseReader<R, A> {
 
     /// Reads a line, and says whether there was one.
     fn take_line(&mut self) -> Result<bool, ReadError>
+        ensures takes { IfOk result (λ some. TakesLine R.remaining self.old self.new some) }
+        ensures line { IfErr result (λ e. NamesLine e (lines_read self.new)) }
     {
         self.line.clear();
         match self.input.read_until(b'\n', &mut self.line) {
@@ -95,6 +97,8 @@ impl<R: BufRead + Drop, A: Allocator + Copy> CaseReader<R, A> {
 
     /// The item of the next line, if there is one.
     fn take_item(&mut self) -> Result<Option<Item<A>>, ReadError>
+        ensures takes { IfOk result (λ o. MatchOption o (IsAtEnd R.remaining self.old self.new) (λ i. TakesItems R.remaining self.old self.new (i ∷ []))) }
+        ensures line { IfErr result (λ e. NamesLine e (lines_read self.new)) }
     {
         if !self.take_line()? {
             return Ok(None);
@@ -106,12 +110,18 @@ impl<R: BufRead + Drop, A: Allocator + Copy> CaseReader<R, A> {
     }
 
     /// The rest of a case behind its first line.
-    fn take_body(&mut self, number: i64) -> Result<Case<A>, ReadError> {
+    fn take_body(&mut self, number: i64) -> Result<Case<A>, ReadError>
+        ensures takes { IfOk result (ReadsBody R.remaining self.old self.new number) }
+        ensures line { IfErr result (λ e. NamesLine e (lines_read self.new)) }
+    {
         let mut draft = Draft::new(number);
         'items: loop {
             match self.take_item()? {
                 None => return Err(self.at_line(Fault::Unfinished)),
-                Some(Item::End) => return draft.finish().map_err(|fault| self.at_line(fault)),
+                Some(Item::End) => match draft.finish() {
+                    Ok(case) => return Ok(case),
+                    Err(fault) => return Err(self.at_line(fault)),
+                },
                 Some(item) => {
                     if let Err(fault) = draft.add(item) {
                         return Err(self.at_line(fault));
@@ -122,7 +132,10 @@ impl<R: BufRead + Drop, A: Allocator + Copy> CaseReader<R, A> {
     }
 
     /// The next case, where no error came before.
-    fn take_case(&mut self) -> Result<Option<Case<A>>, ReadError> {
+    fn take_case(&mut self) -> Result<Option<Case<A>>, ReadError>
+        ensures takes { IfOk result (λ o. MatchOption o (IsAtEnd R.remaining self.old self.new) (ReadsCase R.remaining self.old self.new)) }
+        ensures line { IfErr result (λ e. NamesLine e (lines_read self.new)) }
+    {
         match self.take_item()? {
             None => Ok(None),
             Some(Item::Case(number)) => Ok(Some(self.take_body(number)?)),
@@ -131,7 +144,12 @@ impl<R: BufRead + Drop, A: Allocator + Copy> CaseReader<R, A> {
     }
 
     /// The next case, and `None` at the end of the input. After an error each further call answers `Stopped`.
-    pub fn next_case(&mut self) -> Result<Option<Case<A>>, ReadError> {
+    pub fn next_case(&mut self) -> Result<Option<Case<A>>, ReadError>
+        ensures takes { IfOk result (λ o. MatchOption o (IsAtEnd R.remaining self.old self.new) (ReadsCase R.remaining self.old self.new)) }
+        ensures line { IfErr result (λ e. NamesLine e (lines_read self.new)) }
+        ensures stopped { has_failed self.old ≡ true → result ≡ Err error.Stopped }
+        ensures fails { has_failed self.new ≡ is_err result }
+    {
         if self.failed {
             return Err(ReadError::Stopped);
         }

@@ -1,5 +1,5 @@
 -- An item has the keyword of the line's first word, and its numbers are those of the other words.
-use Rattle.amd_cases.proofs.ItemLemmas.{no-item, one-item, this-item}
+use Rattle.amd_cases.proofs.ItemLemmas.{one-item, this-item}
 use Rattle.amd_cases.proofs.items.item_of.Goals as goal
 
 pub returns : goal.returns

@@ -1,5 +1,5 @@
 -- The first word is a part of the line, and the others are those of what stands behind it.
-use Rattle.std.proofs.Common.{◌≡◌, sym, ◌∙◌}
+use Rattle.std.proofs.Common.{sym, ◌∙◌}
 use Rattle.std.specs.Char.{is_ascii_whitespace}
 use Rattle.amd_cases.proofs.WordLemmas.{no-parts, parts-off}
 use Rattle.amd_cases.proofs.words.first_word.Goals as goal
