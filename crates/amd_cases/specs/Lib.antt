@@ -4,3 +4,4 @@ pub mod Items
 pub mod Drafts
 pub mod Spelling
 pub mod Reading
+pub mod Matrices

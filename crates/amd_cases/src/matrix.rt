@@ -1,8 +1,10 @@
 // A matrix file, which is binary and little endian: `n` and the number of entries as 64-bit numbers, `n + 1` pointers of 64 bits,
 // and the row of each entry in 32 bits. Called by programs that time an ordering.
 
-ghost use Rattle.std.specs.Prelude.{◌≡◌};
-ghost use Rattle.amd_cases.specs.declared.matrix.MatrixError.TheVariants.{OutOfMemory};
+ghost use Rattle.std.specs.Prelude.{◌≡◌, ◌∷◌, [], true, length, map, IfOk, IfSome, MatchResult};
+ghost use Rattle.std.specs.Io.KnownBytes.{IsAtEnd};
+ghost use Rattle.amd_cases.specs.Matrices.{wide_of, narrow_of, ReadsNumbers, EndsWith, HoldsMatrix};
+ghost use Rattle.amd_cases.specs.declared.matrix.MatrixError.TheVariants.{OutOfMemory, TooLarge};
 
 use num_traits::PrimInt;
 use std::alloc::{AllocFailed, Allocator};
@@ -66,22 +68,60 @@ impl From<io::Error> for MatrixError {
 }
 
 /// The next number of 64 bits.
-fn wide_number<R: Read>(input: &mut R) -> Result<i64, MatrixError> {
+fn wide_number<R: Read>(input: &mut R) -> Result<i64, MatrixError>
+    ensures { IfOk result (λ z. ReadsNumbers 8 wide_of (R.remaining input.old) (R.remaining input.new) (z ∷ [])) }
+{
     let mut bytes = [0; 8];
     input.read_exact(&mut bytes)?;
     Ok(i64::from_le_bytes(bytes))
 }
 
 /// The next number of 32 bits.
-fn narrow_number<R: Read>(input: &mut R) -> Result<i32, MatrixError> {
+fn narrow_number<R: Read>(input: &mut R) -> Result<i32, MatrixError>
+    ensures { IfOk result (λ z. ReadsNumbers 4 narrow_of (R.remaining input.old) (R.remaining input.new) (z ∷ [])) }
+{
     let mut bytes = [0; 4];
     input.read_exact(&mut bytes)?;
     Ok(i32::from_le_bytes(bytes))
 }
 
 /// A number in the type that was asked for.
-fn converted<I: PrimInt>(number: i64) -> Result<I, MatrixError> {
+fn converted<I: PrimInt>(number: i64) -> Result<I, MatrixError>
+    ensures { MatchResult result (λ x. I.fits number × (I.value x ≡ number)) (λ e. (e ≡ TooLarge) × (I.fits number → ⊥)) }
+{
     num_traits::cast::<i64, I>(number).ok_or(MatrixError::TooLarge)
+}
+
+/// The next numbers of 64 bits, as many as asked for.
+fn wide_numbers<I: PrimInt, R: Read, A: Allocator>(
+    alloc: A,
+    input: &mut R,
+    count: usize,
+) -> Result<Vec<I, A>, MatrixError>
+    ensures { IfOk result (λ v. ReadsNumbers 8 wide_of (R.remaining input.old) (R.remaining input.new) (map I.value v.items) × (length v.items ≡ count)) }
+{
+    let mut numbers = Vec::new(alloc);
+    'numbers: for _done in 0..count {
+        let number = wide_number(input)?;
+        numbers.push(converted(number)?)?;
+    }
+    Ok(numbers)
+}
+
+/// The next numbers of 32 bits, as many as asked for.
+fn narrow_numbers<I: PrimInt, R: Read, A: Allocator>(
+    alloc: A,
+    input: &mut R,
+    count: usize,
+) -> Result<Vec<I, A>, MatrixError>
+    ensures { IfOk result (λ v. ReadsNumbers 4 narrow_of (R.remaining input.old) (R.remaining input.new) (map I.value v.items) × (length v.items ≡ count)) }
+{
+    let mut numbers = Vec::new(alloc);
+    'numbers: for _done in 0..count {
+        let number = narrow_number(input)?;
+        numbers.push(converted(i64::from(number))?)?;
+    }
+    Ok(numbers)
 }
 
 /// The pointers of `n` columns, of which the last has to be the number of entries.
@@ -90,38 +130,26 @@ fn pointers<I: PrimInt, R: Read, A: Allocator>(
     input: &mut R,
     n: usize,
     entries: i64,
-) -> Result<Vec<I, A>, MatrixError> {
-    let mut numbers = Vec::new(alloc);
-    let mut last = 0;
-    'columns: for _ in 0..=n {
-        last = wide_number(input)?;
-        numbers.push(converted(last)?)?;
-    }
+) -> Result<Vec<I, A>, MatrixError>
+    ensures { IfOk result (λ v. ReadsNumbers 8 wide_of (R.remaining input.old) (R.remaining input.new) (map I.value v.items) × EndsWith (map I.value v.items) n entries) }
+{
+    let mut numbers = wide_numbers(alloc, input, n)?;
+    let last = wide_number(input)?;
     if last != entries {
         return Err(MatrixError::Pointers);
     }
-    Ok(numbers)
-}
-
-/// The rows of some entries.
-fn rows<I: PrimInt, R: Read, A: Allocator>(
-    alloc: A,
-    input: &mut R,
-    entries: usize,
-) -> Result<Vec<I, A>, MatrixError> {
-    let mut numbers = Vec::new(alloc);
-    'entries: for _ in 0..entries {
-        numbers.push(converted(i64::from(narrow_number(input)?))?)?;
-    }
+    numbers.push(converted(last)?)?;
     Ok(numbers)
 }
 
 /// Whether no byte is left.
-fn is_at_end<R: Read>(input: &mut R) -> Result<bool, MatrixError> {
-    match input.read_exact(&mut [0]) {
-        Ok(()) => Ok(false),
-        Err(error) if error.kind() == ErrorKind::UnexpectedEof => Ok(true),
-        Err(error) => Err(MatrixError::from(error)),
+fn is_at_end<R: Read>(input: &mut R) -> Result<bool, MatrixError>
+    ensures { IfOk result (λ end. end ≡ true → IsAtEnd (R.remaining input.old)) }
+{
+    match input.bytes().next() {
+        None => Ok(true),
+        Some(Ok(_)) => Ok(false),
+        Some(Err(error)) => Err(MatrixError::from(error)),
     }
 }
 
@@ -129,20 +157,20 @@ fn is_at_end<R: Read>(input: &mut R) -> Result<bool, MatrixError> {
 pub fn read_matrix<I: PrimInt, R: Read, A: Allocator + Copy>(
     alloc: A,
     input: &mut R,
-) -> Result<Matrix<I, A>, MatrixError> {
-    let rows_and_columns = wide_number(input)?;
+) -> Result<Matrix<I, A>, MatrixError>
+    ensures fits { IfOk result (λ m. I.fits (I.value m.n)) }
+    ensures holds { IfOk result (λ m. IfSome (R.remaining input.old) (HoldsMatrix (I.value m.n) (map I.value m.a_p.items) (map I.value m.a_i.items))) }
+{
+    let columns = wide_number(input)?;
     let entries = wide_number(input)?;
-    let (Ok(n), Ok(nz)) = (usize::try_from(rows_and_columns), usize::try_from(entries)) else {
+    let (Ok(n), Ok(nz)) = (usize::try_from(columns), usize::try_from(entries)) else {
         return Err(MatrixError::Negative);
     };
     let a_p = pointers(alloc, input, n, entries)?;
-    let a_i = rows(alloc, input, nz)?;
+    let a_i = narrow_numbers(alloc, input, nz)?;
     if !is_at_end(input)? {
         return Err(MatrixError::Long);
     }
-    Ok(Matrix {
-        n: converted(rows_and_columns)?,
-        a_p,
-        a_i,
-    })
+    let n = converted(columns)?;
+    Ok(Matrix { n, a_p, a_i })
 }
