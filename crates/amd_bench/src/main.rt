@@ -1,101 +1,115 @@
-//! Times `valid` and `aat` on a square grid, in `i32` and in `i64`: `amd_bench SIDE REPEATS`. Each line of its output holds
-//! the best and the median time of the repeats. With no arguments it says on standard error how it is called.
+//! Times `order` on a matrix file: `amd_bench FILE i32|i64|isize REPEATS`. The format of the file is that of `amd_cases`.
+//!
+//! It prints one line: the type of numbers, the name of the file, the figures of the ordering, a hash of the permutation, and the
+//! least and the median time of a call in nanoseconds. Reading the file is not timed. With no arguments it says how it is called.
 #![tactic(auto)]
 
-mod grid;
-
-use crate::grid::{Pattern, grid};
-use amd::aat::aat;
-use amd::valid::valid;
-use amd::{Info, Status};
-use amd_engine::internal::is_below;
+use amd::{Control, Info, Status, order};
+use amd_cases::matrix::{Matrix, read_matrix};
 use anyhow::{Context, Result, bail, ensure};
 use num_traits::PrimInt;
 use std::alloc::Global;
-use std::env;
+use std::io::BufReader;
 use std::rt::Runtime;
 use std::time::{Duration, Instant};
+use std::{env, fs};
 
-/// The times of calls of `valid`. It is compiled apart from its caller, so that no other loop takes its registers.
-#[inline(never)]
-fn valid_times<R: Runtime + Alloc<A = Global>, I: PrimInt>(
-    rt: &R,
-    pattern: &Pattern<I>,
-    repeats: usize,
-) -> Result<Vec<Duration>> {
-    let mut times = Vec::new(rt.alloc());
-    'repeats: for _ in 0..repeats {
-        let start = Instant::now(rt)?;
-        let status = valid(pattern.n, pattern.n, &pattern.a_p, &pattern.a_i);
-        times.push(start.elapsed(rt)?)?;
-        ensure!(status == Status::OK, "the grid is not sorted");
-    }
-    Ok(times)
+/// What the calls answered, which is the same each time, and how long each took.
+#[derive(Drop)]
+struct Outcome<I: PrimInt> {
+    p: Vec<I>,
+    info: Info,
+    times: Vec<Duration>,
 }
 
-/// The times of calls of `aat`, each with the release of what it gives. It is compiled apart from its caller.
+/// Orders a matrix by the default control some times. It is compiled apart from its caller, so that no other loop takes its
+/// registers.
 #[inline(never)]
-fn aat_times<R: Runtime + Alloc<A = Global>, I: PrimInt>(
+fn order_often<R: Runtime + Alloc<A = Global>, I: PrimInt>(
     rt: &R,
-    pattern: &Pattern<I>,
+    matrix: &Matrix<I, Global>,
     repeats: usize,
-) -> Result<Vec<Duration>> {
-    let Status::OK = valid(pattern.n, pattern.n, &pattern.a_p, &pattern.a_i) else {
-        bail!("the grid is not sorted")
-    };
-    ensure!(is_below(I::zero(), pattern.n), "the grid is empty");
+) -> Result<Outcome<I>>
+    requires { I.fits (I.value matrix.now.n) }
+{
+    let control = Control::default();
     let mut times = Vec::new(rt.alloc());
+    let mut last = None;
     'repeats: for _ in 0..repeats {
-        let mut info = Info::new(0);
         let start = Instant::now(rt)?;
-        let Ok((sum, degrees)) = aat(rt.alloc(), pattern.n, &pattern.a_p, &pattern.a_i, &mut info)
-        else {
-            bail!("no memory")
-        };
-        drop(degrees);
+        let answer = order(rt.alloc(), matrix.n, &matrix.a_p, &matrix.a_i, &control);
         times.push(start.elapsed(rt)?)?;
-        ensure!(sum == info.nz_a_plus_at, "the degrees do not add up");
+        match answer {
+            Ok((p, _, info)) => last = Some((p, info)),
+            Err(Status::Invalid) => bail!("the file holds no column form"),
+            Err(_) => bail!("out of memory"),
+        }
     }
-    Ok(times)
+    let (p, info) = last.context("no repeats")?;
+    Ok(Outcome { p, info, times })
 }
 
-/// Prints the best and the median of some times.
-fn print_times<R: Runtime>(rt: &R, name: &str, kind: &str, mut times: Vec<Duration>) -> Result<()> {
-    times.sort_unstable();
-    let best = times.first().context("no repeats")?.as_secs_f64() * 1e3;
-    let middle = times.get(times.len() / 2).context("no repeats")?;
-    let median = middle.as_secs_f64() * 1e3;
-    println!(rt; "{name} {kind}: best {best:.3} ms, median {median:.3} ms")?;
+/// A hash of a list: from a fixed start, each number is mixed in by an exclusive or and a product.
+fn hash_of<I: PrimInt>(numbers: &[I]) -> Result<u64> {
+    let mut hash: u64 = 1469598103934665603;
+    'numbers: for number in numbers {
+        let number = number.to_u64().context("a negative row")?;
+        hash = (hash ^ number).wrapping_mul(1099511628211);
+    }
+    Ok(hash)
+}
+
+/// Prints what the calls answered, and the least and the median of their times.
+fn print_outcome<R: Runtime, I: PrimInt>(
+    rt: &R,
+    kind: &str,
+    name: &str,
+    mut outcome: Outcome<I>,
+) -> Result<()> {
+    outcome.times.sort_unstable();
+    let least = outcome.times.first().context("no repeats")?.as_nanos();
+    let middle = outcome.times.get(outcome.times.len() / 2);
+    let median = middle.context("no repeats")?.as_nanos();
+    let hash = hash_of(&outcome.p)?;
+    let info = outcome.info;
+    print!(rt; "rattle {kind} {name} n={} nz={}", info.n, info.nz)?;
+    print!(rt; " nzaat={} lnz={}", info.nz_a_plus_at, info.lnz)?;
+    print!(rt; " ldl={} lu={}", info.n_mult_subs_ldl, info.n_mult_subs_lu)?;
+    print!(rt;
+        " dmax={} ndense={} ncmpa={}",
+        info.d_max, info.n_dense, info.n_cmp_a
+    )?;
+    println!(rt; " phash={hash:016x} min_ns={least} med_ns={median}")?;
     Ok(())
 }
 
-/// Times both functions on the grid in one type of numbers.
-fn time_both<R: Runtime + Alloc<A = Global>, I: PrimInt>(
+/// Times the ordering of the matrix of a file in one type of numbers.
+fn time_file<R: Runtime + Alloc<A = Global>, I: PrimInt>(
     rt: &R,
+    path: &str,
     kind: &str,
-    pattern: &Pattern<I>,
     repeats: usize,
 ) -> Result<()> {
-    let times = valid_times(rt, pattern, repeats)?;
-    print_times(rt, "valid", kind, times)?;
-    let times = aat_times(rt, pattern, repeats)?;
-    print_times(rt, "aat", kind, times)
-}
-
-/// Times both functions in both types, and releases the grid in one before it makes that in the other.
-fn time_all<R: Runtime + Alloc<A = Global>>(rt: &R, side: usize, repeats: usize) -> Result<()> {
-    let narrow: Pattern<i32> = grid(rt.alloc(), side).context("the grid does not fit")?;
-    time_both(rt, "i32", &narrow, repeats)?;
-    drop(narrow);
-    let wide: Pattern<i64> = grid(rt.alloc(), side).context("the grid does not fit")?;
-    time_both(rt, "i64", &wide, repeats)
+    let mut file = BufReader::new(rt.alloc(), fs::open(rt, path)?)?;
+    let matrix: Matrix<I, Global> = read_matrix(rt.alloc(), &mut file)?;
+    drop(file);
+    let outcome = order_often(rt, &matrix, repeats)?;
+    let name = path.rsplit('/').next().unwrap_or(path);
+    print_outcome(rt, kind, name, outcome)
 }
 
 fn main(rt: HostRuntime) -> Result<()> {
     let words: Vec<String> = env::args(&rt)?.collect(rt.alloc())?;
-    let (Some(side), Some(repeats)) = (words.get(1), words.get(2)) else {
-        eprintln!(rt; "usage: amd_bench SIDE REPEATS")?;
+    let (Some(path), Some(kind), Some(repeats)) = (words.get(1), words.get(2), words.get(3)) else {
+        println!(rt; "usage: amd_bench FILE i32|i64|isize REPEATS")?;
         return Ok(());
     };
-    time_all(&rt, side.parse()?, repeats.parse()?)
+    let repeats = repeats.parse().context("the number of repeats")?;
+    ensure!(0 < repeats, "the number of repeats is 0");
+    match kind.as_str() {
+        "i32" => time_file::<_, i32>(&rt, path, kind, repeats),
+        "i64" => time_file::<_, i64>(&rt, path, kind, repeats),
+        "isize" => time_file::<_, isize>(&rt, path, kind, repeats),
+        _ => bail!("no type of numbers: {kind}"),
+    }
 }

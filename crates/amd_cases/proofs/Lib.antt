@@ -1,0 +1,6 @@
+pub mod WordLemmas
+pub mod NumberLemmas
+pub mod ItemLemmas
+pub mod ReadingLemmas
+pub mod DraftLemmas
+pub mod MatrixLemmas

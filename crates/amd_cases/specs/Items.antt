@@ -1,0 +1,87 @@
+-- The items of a case, and the lines that spell them.
+use Rattle.std.specs.Prelude.{◌≡◌, ℕ, ℤ, pos, Bool, true, false, List, [], ◌∷◌, codes, FitsSigned}
+use Rattle.std.specs.Int.{w32}
+use Rattle.amd_cases.specs.Words.{words, SpellsNumbers}
+use Rattle.amd_cases.specs.declared.items.Keyword.{Keyword}
+use Rattle.amd_cases.specs.declared.items.Keyword.TheVariants as key
+use Rattle.amd_cases.specs.declared.items.Item.{Item}
+use Rattle.amd_cases.specs.declared.items.Item.TheVariants.{Case, Size, Dense, Aggressive, Pointers, Rows, End}
+
+-- the word that a keyword is
+abbrev pub keyword_text : Keyword → List ℕ
+keyword_text key.Case = codes "CASE"
+keyword_text key.Size = codes "N"
+keyword_text key.Dense = codes "T"
+keyword_text key.Aggressive = codes "AGG"
+keyword_text key.Pointers = codes "AP"
+keyword_text key.Rows = codes "AI"
+keyword_text key.End = codes "END"
+
+-- the keyword that an item has
+abbrev pub item_keyword : {Z : Type 0} → Item Z → Keyword
+item_keyword (Case k) = key.Case
+item_keyword (Size n) = key.Size
+item_keyword (Dense t) = key.Dense
+item_keyword (Aggressive b) = key.Aggressive
+item_keyword (Pointers v) = key.Pointers
+item_keyword (Rows v) = key.Rows
+item_keyword End = key.End
+
+-- 1 for yes, 0 for no
+abbrev pub truth_number : Bool → ℤ
+truth_number true = pos 1
+truth_number false = pos 0
+
+-- the numbers of an item
+abbrev pub item_numbers : {Z : Type 0} → Item Z → List ℤ
+item_numbers (Case k) = k ∷ []
+item_numbers (Size n) = n ∷ []
+item_numbers (Dense t) = t ∷ []
+item_numbers (Aggressive b) = truth_number b ∷ []
+item_numbers (Pointers v) = v.items
+item_numbers (Rows v) = v.items
+item_numbers End = []
+
+-- the dense row parameter fits 32 bits
+abbrev pub FitsItem : {Z : Type 0} → Item Z → Type 0
+FitsItem (Case k) = Unit {0}
+FitsItem (Size n) = Unit {0}
+FitsItem (Dense t) = FitsSigned w32 t
+FitsItem (Aggressive b) = Unit {0}
+FitsItem (Pointers v) = Unit {0}
+FitsItem (Rows v) = Unit {0}
+FitsItem End = Unit {0}
+
+-- a line is the keyword of an item, and then words that spell its numbers
+pub record SpellsItem {Z : Type 0} (line : List ℕ) (item : Item Z) : Type 0 where
+  pub behind : List (List ℕ)
+  pub begins : words line ≡ keyword_text (item_keyword item) ∷ behind
+  pub numbers : SpellsNumbers behind (item_numbers item)
+  pub fits : FitsItem item
+
+-- what an item tells of each field of a case: one value or none
+abbrev pub size_of : {Z : Type 0} → Item Z → List ℤ
+size_of (Size n) = n ∷ []
+size_of _ = []
+
+abbrev pub dense_of : {Z : Type 0} → Item Z → List ℤ
+dense_of (Dense t) = t ∷ []
+dense_of _ = []
+
+abbrev pub aggressive_of : {Z : Type 0} → Item Z → List Bool
+aggressive_of (Aggressive b) = b ∷ []
+aggressive_of _ = []
+
+abbrev pub pointers_of : {Z : Type 0} → Item Z → List (List ℤ)
+pointers_of (Pointers v) = v.items ∷ []
+pointers_of _ = []
+
+abbrev pub rows_of : {Z : Type 0} → Item Z → List (List ℤ)
+rows_of (Rows v) = v.items ∷ []
+rows_of _ = []
+
+-- the item is neither the first nor the last of a case
+abbrev pub IsInside : {Z : Type 0} → Item Z → Type 0
+IsInside (Case k) = ⊥
+IsInside End = ⊥
+IsInside _ = Unit {0}

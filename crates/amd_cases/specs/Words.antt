@@ -1,0 +1,27 @@
+-- The words of a line, and the numbers that words spell.
+use Rattle.std.specs.Prelude.{◌≡◌, ℕ, ℤ, Bool, List, [], ◌∷◌, length, nat_lt, filter, FitsSigned}
+use Rattle.std.specs.Int.{w64}
+use Rattle.std.specs.Char.{is_ascii_whitespace}
+use Rattle.std.specs.List.{slice_split}
+use Rattle.std.specs.Str.Parse.{IsNumeral, without_leading_sign, signed_digits_value}
+
+-- whether a part of a line has a byte
+abbrev pub has_bytes : List ℕ → Bool
+has_bytes part = nat_lt 0 (length part)
+
+-- the words of a line: its parts between white space that are not empty
+abbrev pub words : List ℕ → List (List ℕ)
+words line = filter has_bytes (slice_split is_ascii_whitespace line)
+
+-- a word is a sign or none and then decimal digits, of which the number is z, and 64 bits hold it
+pub record SpellsNumber (word : List ℕ) (z : ℤ) : Type 0 where
+  pub numeral : IsNumeral 10 (without_leading_sign word)
+  pub value : z ≡ signed_digits_value 10 word
+  pub fits : FitsSigned w64 z
+
+-- as many words as numbers, and each word spells its number
+abbrev pub SpellsNumbers : List (List ℕ) → List ℤ → Type 0
+SpellsNumbers [] [] = Unit {0}
+SpellsNumbers (w ∷ ws) (z ∷ zs) = SpellsNumber w z × SpellsNumbers ws zs
+SpellsNumbers [] (z ∷ zs) = ⊥
+SpellsNumbers (w ∷ ws) [] = ⊥

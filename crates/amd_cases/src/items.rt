@@ -1,0 +1,141 @@
+// The item that a line spells: a keyword, and the numbers that it takes. Called by `reader`.
+// The format is that of cases; see the root.
+
+ghost use Rattle.std.specs.Prelude.{◌≡◌, ◌≢◌, ◌∷◌, Bool, List, [], ℤ, MatchOption, MatchResult};
+ghost use Rattle.amd_cases.specs.Words.{words, SpellsNumbers};
+ghost use Rattle.amd_cases.specs.Items.{keyword_text, item_keyword, truth_number, item_numbers, FitsItem, SpellsItem};
+
+use crate::faults::Fault;
+use crate::words::{first_word, number_of};
+use std::alloc::Allocator;
+
+/// What a line begins with.
+#[derive(Clone, Copy, PartialEq, Debug)]
+pub enum Keyword {
+    /// `CASE`
+    Case,
+    /// `N`
+    Size,
+    /// `T`
+    Dense,
+    /// `AGG`
+    Aggressive,
+    /// `AP`
+    Pointers,
+    /// `AI`
+    Rows,
+    /// `END`
+    End,
+}
+
+/// What a line of a case says.
+#[derive(Debug, Drop)]
+pub enum Item<A: Allocator> {
+    /// The number of the case.
+    Case(i64),
+    /// The number of rows and columns.
+    Size(i64),
+    /// The dense row parameter in thousandths.
+    Dense(i32),
+    /// Whether absorption is aggressive.
+    Aggressive(bool),
+    /// The pointers.
+    Pointers(Vec<i64, A>),
+    /// The rows.
+    Rows(Vec<i64, A>),
+    /// The end of the case.
+    End,
+}
+
+/// The keyword that a word is.
+pub fn keyword_of(word: &[u8]) -> Option<Keyword>
+    ensures { MatchOption result ((k : Keyword) → word.now ≢ keyword_text k) (λ k. word.now ≡ keyword_text k) }
+{
+    match word {
+        b"CASE" => Some(Keyword::Case),
+        b"N" => Some(Keyword::Size),
+        b"T" => Some(Keyword::Dense),
+        b"AGG" => Some(Keyword::Aggressive),
+        b"AP" => Some(Keyword::Pointers),
+        b"AI" => Some(Keyword::Rows),
+        b"END" => Some(Keyword::End),
+        _ => None,
+    }
+}
+
+/// The numbers that the words of a text spell.
+pub fn numbers_of<A: Allocator + Copy>(alloc: A, text: &[u8]) -> Result<Vec<i64, A>, Fault>
+    ensures { MatchResult result (λ v. SpellsNumbers (words text.now) v.items)
+        (λ e. e ≢ Fault.OutOfMemory → (zs : List ℤ) → SpellsNumbers (words text.now) zs → ⊥) }
+{
+    let mut numbers = Vec::new(alloc);
+    let mut left = text;
+    'words: while let Some((word, behind)) = first_word(left) {
+        let Some(number) = number_of(word) else {
+            return Err(Fault::Numbers);
+        };
+        numbers.push(number)?;
+        left = behind;
+    }
+    Ok(numbers)
+}
+
+/// The number of a list that has one.
+fn only(numbers: &[i64]) -> Option<i64>
+    ensures { MatchOption result ((z : ℤ) → numbers.now ≢ z ∷ []) (λ z. numbers.now ≡ z ∷ []) }
+{
+    match numbers {
+        [number] => Some(*number),
+        _ => None,
+    }
+}
+
+/// Whether a number says yes, which is 1, or no, which is 0.
+fn truth_of(number: i64) -> Option<bool>
+    ensures { MatchOption result ((b : Bool) → truth_number b ≢ number) (λ b. truth_number b ≡ number) }
+{
+    match number {
+        0 => Some(false),
+        1 => Some(true),
+        _ => None,
+    }
+}
+
+/// The item of a keyword with its numbers.
+fn item_from<A: Allocator>(keyword: Keyword, numbers: Vec<i64, A>) -> Option<Item<A>>
+    ensures { MatchOption result ((i : Item A) → FitsItem i → item_keyword i ≡ keyword → item_numbers i ≢ numbers.items)
+        (λ i. FitsItem i × (item_keyword i ≡ keyword) × (item_numbers i ≡ numbers.items)) }
+{
+    match keyword {
+        Keyword::Case => Some(Item::Case(only(&numbers)?)),
+        Keyword::Size => Some(Item::Size(only(&numbers)?)),
+        Keyword::Dense => Some(Item::Dense(i32::try_from(only(&numbers)?).ok()?)),
+        Keyword::Aggressive => Some(Item::Aggressive(truth_of(only(&numbers)?)?)),
+        Keyword::Pointers => Some(Item::Pointers(numbers)),
+        Keyword::Rows => Some(Item::Rows(numbers)),
+        Keyword::End => {
+            if numbers.is_empty() {
+                Some(Item::End)
+            } else {
+                None
+            }
+        }
+    }
+}
+
+/// The item that a line spells.
+pub fn item_of<A: Allocator + Copy>(alloc: A, line: &[u8]) -> Result<Item<A>, Fault>
+    ensures { MatchResult result (SpellsItem line.now) (λ e. e ≢ Fault.OutOfMemory → (i : Item A) → SpellsItem line.now i → ⊥) }
+{
+    let Some((word, text)) = first_word(line) else {
+        return Err(Fault::Keyword);
+    };
+    let Some(keyword) = keyword_of(word) else {
+        return Err(Fault::Keyword);
+    };
+    let numbers = numbers_of(alloc, text)?;
+    let Some(item) = item_from(keyword, numbers) else {
+        return Err(Fault::Numbers);
+    };
+    Ok(item)
+}

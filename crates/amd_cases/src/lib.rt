@@ -1,0 +1,25 @@
+//! Reads inputs of an ordering: cases, which are text, and matrix files, which are binary.
+//!
+//! A case is one item a line, its numbers parted by white space:
+//!
+//!     CASE k        the number of the case; it comes first
+//!     N n           the number of rows and columns
+//!     T t           the dense row parameter in thousandths, an `i32`; left out, it is 10000
+//!     AGG 0|1       whether absorption is aggressive; left out, it is
+//!     AP ..         the pointers
+//!     AI ..         the rows
+//!     END           it comes last
+//!
+//! Numbers are those that `parse::<i64>` takes: a sign or none, and decimal digits. The lists may be empty. Between `CASE` and
+//! `END` the items may come in any order, each of them once. Refused are: a first word that is no keyword, and a line without a
+//! word; a number that is no number or does not fit, and more or fewer numbers than the keyword takes; an item that was there
+//! already, and `CASE` inside a case; an item outside of a case; `END` where `N`, `AP` or `AI` is missing; and an end of the
+//! input inside a case.
+#![tactic(auto)]
+
+pub mod cases;
+pub mod faults;
+pub mod items;
+pub mod matrix;
+pub mod reader;
+pub mod words;

@@ -1,0 +1,176 @@
+// A matrix file, which is binary and little endian: `n` and the number of entries as 64-bit numbers, `n + 1` pointers of 64 bits,
+// and the row of each entry in 32 bits. Called by programs that time an ordering.
+
+ghost use Rattle.std.specs.Prelude.{◌≡◌, ◌∷◌, [], true, length, map, IfOk, IfSome, MatchResult};
+ghost use Rattle.std.specs.Io.KnownBytes.{IsAtEnd};
+ghost use Rattle.amd_cases.specs.Matrices.{wide_of, narrow_of, ReadsNumbers, EndsWith, HoldsMatrix};
+ghost use Rattle.amd_cases.specs.declared.matrix.MatrixError.TheVariants.{OutOfMemory, TooLarge};
+
+use num_traits::PrimInt;
+use std::alloc::{AllocFailed, Allocator};
+use std::io;
+use std::io::{ErrorKind, Read};
+use thiserror::Error;
+
+/// A square matrix in column form.
+#[derive(Debug, Drop)]
+pub struct Matrix<I: PrimInt, A: Allocator> {
+    /// The number of rows and columns.
+    pub n: I,
+    /// Where each column begins, and where the last one ends.
+    pub a_p: Vec<I, A>,
+    /// The row of each entry.
+    pub a_i: Vec<I, A>,
+}
+
+/// Why a file is no matrix.
+#[derive(Debug, Drop, Error)]
+pub enum MatrixError {
+    /// The file ends before the last row.
+    #[error("the file is too short")]
+    Short,
+    /// Bytes are left behind the last row.
+    #[error("bytes are left behind the last row")]
+    Long,
+    /// The number of rows or that of entries is negative.
+    #[error("a negative number of rows or entries")]
+    Negative,
+    /// The last pointer is not the number of entries.
+    #[error("the last pointer is not the number of entries")]
+    Pointers,
+    /// A number does not fit the type that was asked for.
+    #[error("a number does not fit")]
+    TooLarge,
+    /// Memory was refused.
+    #[error("out of memory")]
+    OutOfMemory,
+    /// The file could not be read.
+    #[error("{0}")]
+    Input(io::Error),
+}
+
+impl<T: Drop> From<AllocFailed<T>> for MatrixError {
+    ghost from_gives = { λ _ e. e ≡ OutOfMemory };
+
+    fn from(_: AllocFailed<T>) -> MatrixError {
+        MatrixError::OutOfMemory
+    }
+}
+
+impl From<io::Error> for MatrixError {
+    fn from(error: io::Error) -> MatrixError {
+        match error.kind() {
+            ErrorKind::UnexpectedEof => MatrixError::Short,
+            ErrorKind::OutOfMemory => MatrixError::OutOfMemory,
+            _ => MatrixError::Input(error),
+        }
+    }
+}
+
+/// The next number of 64 bits.
+fn wide_number<R: Read>(input: &mut R) -> Result<i64, MatrixError>
+    ensures { IfOk result (λ z. ReadsNumbers 8 wide_of (R.remaining input.old) (R.remaining input.new) (z ∷ [])) }
+{
+    let mut bytes = [0; 8];
+    input.read_exact(&mut bytes)?;
+    Ok(i64::from_le_bytes(bytes))
+}
+
+/// The next number of 32 bits.
+fn narrow_number<R: Read>(input: &mut R) -> Result<i32, MatrixError>
+    ensures { IfOk result (λ z. ReadsNumbers 4 narrow_of (R.remaining input.old) (R.remaining input.new) (z ∷ [])) }
+{
+    let mut bytes = [0; 4];
+    input.read_exact(&mut bytes)?;
+    Ok(i32::from_le_bytes(bytes))
+}
+
+/// A number in the type that was asked for.
+fn converted<I: PrimInt>(number: i64) -> Result<I, MatrixError>
+    ensures { MatchResult result (λ x. I.fits number × (I.value x ≡ number)) (λ e. (e ≡ TooLarge) × (I.fits number → ⊥)) }
+{
+    num_traits::cast::<i64, I>(number).ok_or(MatrixError::TooLarge)
+}
+
+/// The next numbers of 64 bits, as many as asked for.
+fn wide_numbers<I: PrimInt, R: Read, A: Allocator>(
+    alloc: A,
+    input: &mut R,
+    count: usize,
+) -> Result<Vec<I, A>, MatrixError>
+    ensures { IfOk result (λ v. ReadsNumbers 8 wide_of (R.remaining input.old) (R.remaining input.new) (map I.value v.items) × (length v.items ≡ count)) }
+{
+    let mut numbers = Vec::new(alloc);
+    'numbers: for _done in 0..count {
+        let number = wide_number(input)?;
+        numbers.push(converted(number)?)?;
+    }
+    Ok(numbers)
+}
+
+/// The next numbers of 32 bits, as many as asked for.
+fn narrow_numbers<I: PrimInt, R: Read, A: Allocator>(
+    alloc: A,
+    input: &mut R,
+    count: usize,
+) -> Result<Vec<I, A>, MatrixError>
+    ensures { IfOk result (λ v. ReadsNumbers 4 narrow_of (R.remaining input.old) (R.remaining input.new) (map I.value v.items) × (length v.items ≡ count)) }
+{
+    let mut numbers = Vec::new(alloc);
+    'numbers: for _done in 0..count {
+        let number = narrow_number(input)?;
+        numbers.push(converted(i64::from(number))?)?;
+    }
+    Ok(numbers)
+}
+
+/// The pointers of `n` columns, of which the last has to be the number of entries.
+fn pointers<I: PrimInt, R: Read, A: Allocator>(
+    alloc: A,
+    input: &mut R,
+    n: usize,
+    entries: i64,
+) -> Result<Vec<I, A>, MatrixError>
+    ensures { IfOk result (λ v. ReadsNumbers 8 wide_of (R.remaining input.old) (R.remaining input.new) (map I.value v.items) × EndsWith (map I.value v.items) n entries) }
+{
+    let mut numbers = wide_numbers(alloc, input, n)?;
+    let last = wide_number(input)?;
+    if last != entries {
+        return Err(MatrixError::Pointers);
+    }
+    numbers.push(converted(last)?)?;
+    Ok(numbers)
+}
+
+/// Whether no byte is left.
+fn is_at_end<R: Read>(input: &mut R) -> Result<bool, MatrixError>
+    ensures { IfOk result (λ end. end ≡ true → IsAtEnd (R.remaining input.old)) }
+{
+    match input.bytes().next() {
+        None => Ok(true),
+        Some(Ok(_)) => Ok(false),
+        Some(Err(error)) => Err(MatrixError::from(error)),
+    }
+}
+
+/// Reads the matrix that a file holds. Whether it is a column form is not looked at, but for the last pointer; an ordering does.
+pub fn read_matrix<I: PrimInt, R: Read, A: Allocator + Copy>(
+    alloc: A,
+    input: &mut R,
+) -> Result<Matrix<I, A>, MatrixError>
+    ensures fits { IfOk result (λ m. I.fits (I.value m.n)) }
+    ensures holds { IfOk result (λ m. IfSome (R.remaining input.old) (HoldsMatrix (I.value m.n) (map I.value m.a_p.items) (map I.value m.a_i.items))) }
+{
+    let columns = wide_number(input)?;
+    let entries = wide_number(input)?;
+    let (Ok(n), Ok(nz)) = (usize::try_from(columns), usize::try_from(entries)) else {
+        return Err(MatrixError::Negative);
+    };
+    let a_p = pointers(alloc, input, n, entries)?;
+    let a_i = narrow_numbers(alloc, input, nz)?;
+    if !is_at_end(input)? {
+        return Err(MatrixError::Long);
+    }
+    let n = converted(columns)?;
+    Ok(Matrix { n, a_p, a_i })
+}

@@ -1,0 +1,85 @@
+//! Orders the cases of its standard input and writes the answers, one item a line:
+//!
+//!     CASE k
+//!     STATUS OK | OkButJumbled | Invalid
+//!     P ..
+//!     PINV ..
+//!     INFO n nz symmetry(0|1) nz_diag nz_a_plus_at n_dense lnz n_div ldl lu d_max
+//!     END
+//!
+//! Where the status is `Invalid` the three lines behind it are left out. The format of the input is that of `amd_cases`. At a
+//! line that is at fault the program names it on standard error and ends with status 1; the answers before it are written.
+#![tactic(auto)]
+
+use amd::{Control, Info, Status, order};
+use amd_cases::cases::Case;
+use amd_cases::reader::CaseReader;
+use anyhow::{Result, bail};
+use std::alloc::Allocator;
+use std::io;
+use std::io::{BufRead, BufReader, BufWriter, Write};
+
+/// Writes a keyword and numbers in one line.
+fn write_numbers<W: Write>(out: &mut W, keyword: &str, numbers: &[i64]) -> io::Result<()> {
+    write!(out, "{keyword}")?;
+    'numbers: for number in numbers {
+        write!(out, " {number}")?;
+    }
+    writeln!(out)
+}
+
+/// Writes the figures of an ordering in one line.
+fn write_info<W: Write>(out: &mut W, info: &Info) -> io::Result<()> {
+    let symmetry = u8::from(info.symmetry);
+    write!(out, "INFO {} {} {symmetry}", info.n, info.nz)?;
+    write!(out, " {} {}", info.nz_diag, info.nz_a_plus_at)?;
+    write!(out, " {} {} {}", info.n_dense, info.lnz, info.n_div)?;
+    write!(out, " {} {}", info.n_mult_subs_ldl, info.n_mult_subs_lu)?;
+    writeln!(out, " {}", info.d_max)
+}
+
+/// Orders a case and writes the answer.
+fn answer<W: Write, A: Allocator + Copy>(alloc: A, case: &Case<A>, out: &mut W) -> Result<()> {
+    let number = case.number;
+    let control = Control {
+        dense: case.dense,
+        aggressive: case.aggressive,
+    };
+    writeln!(out, "CASE {number}")?;
+    match order(alloc, case.n, &case.a_p, &case.a_i, &control) {
+        Ok((p, p_inv, info)) => {
+            writeln!(out, "STATUS {:?}", info.status)?;
+            write_numbers(out, "P", &p)?;
+            write_numbers(out, "PINV", &p_inv)?;
+            write_info(out, &info)?;
+        }
+        Err(Status::Invalid) => writeln!(out, "STATUS Invalid")?,
+        Err(_) => bail!("out of memory"),
+    }
+    writeln!(out, "END")?;
+    Ok(())
+}
+
+/// Answers each case of an input.
+fn replay<R: BufRead + Drop, W: Write, A: Allocator + Copy>(
+    alloc: A,
+    input: R,
+    out: &mut W,
+) -> Result<()> {
+    let mut cases = CaseReader::new(alloc, input);
+    'cases: for _ in 0..u64::MAX {
+        let Some(case) = cases.next_case()? else {
+            return Ok(());
+        };
+        answer(alloc, &case, out)?;
+    }
+    bail!("too many cases")
+}
+
+fn main(rt: HostRuntime) -> Result<()> {
+    let input = BufReader::new(rt.alloc(), rt.reader())?;
+    let mut out = BufWriter::new(rt.alloc(), io::writer(&rt))?;
+    let outcome = replay(rt.alloc(), input, &mut out);
+    out.flush()?;
+    outcome
+}
