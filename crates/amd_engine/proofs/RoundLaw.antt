@@ -754,6 +754,3 @@ module _ {A : Type 0} (g : Graph) (dense : ℕ → Bool) (aggressive : Bool) (w 
     where
       some_placed : is_empty t.placed ≡ false
       some_placed = elim (cases_Bool (is_empty t.placed)) [ inr n ↦ n | inl y ↦ absurd (empty_gives t.placed y r.c f.placed) ]
-
-pub and_false_law : (x : ℕ) → x ≡ x
-and_false_law x = refl

@@ -5,21 +5,17 @@
 
 pub mod absorption;
 pub mod amd;
-pub mod blocks;
 pub mod bounds;
 pub mod buckets;
 pub mod dense;
 pub mod figures;
 pub mod internal;
-
 pub mod lists;
 pub mod marks;
 pub mod merging;
 pub mod permutations;
-pub mod plain;
-pub mod scratch;
-pub mod start;
-pub mod work;
 pub mod post_tree;
 pub mod postorder;
+pub mod start;
 pub mod walk;
+pub mod work;
