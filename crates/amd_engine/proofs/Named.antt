@@ -1,6 +1,6 @@
 -- Lists of numbers read by what they name: what agrees on the numbers of a list gives equal filters and sums.
-use Rattle.std.proofs.Common.{ℕ, Bool, true, false, List, [], ◌∷◌, ◌++◌, ◌≡◌, ◌∙◌, ◌&&◌, ◌+◌, not, cond, ap, sym, refl, inl, inr}
-use Rattle.std.specs.Prelude.{filter, flat_map, sum_by, ◌==◌}
+use Rattle.std.proofs.Common.{ℕ, Bool, true, List, [], ◌∷◌, ◌≡◌, ◌∙◌, ◌&&◌, ◌+◌, cond, ap, sym, refl, inl, inr}
+use Rattle.std.specs.Prelude.{filter, sum_by, ◌==◌}
 use Rattle.std.proofs.lemmas.Bool.{or_left, or_right, eq-eqb, cases_Bool, cond-true, cond-false}
 use Rattle.std.proofs.lemmas.List.Sums.{sum_by-cons}
 use Rattle.amd_model.specs.Tie.{has}

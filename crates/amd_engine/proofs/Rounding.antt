@@ -1,5 +1,5 @@
 -- What a round of the plain engine found and wrote, as equations between the old record and the new one.
-use Rattle.std.specs.Prelude.{ℕ, Bool, true, false, Option, None, Some, List, [], ◌∷◌, ◌++◌, Vec, ◌≡◌, ◌≤◌, ◌<◌, ◌==◌, ◌&&◌, ◌||◌, ◌+◌, ◌-◌, not, cond, max, length, filter, flat_map, sum_by}
+use Rattle.std.specs.Prelude.{ℕ, Bool, true, Some, List, ◌∷◌, ◌++◌, Vec, ◌≡◌, ◌≤◌, ◌==◌, ◌&&◌, ◌+◌, ◌-◌, not, cond, max, filter, flat_map, sum_by}
 use Rattle.amd_model.specs.Figures.{cut, front_sum, entries, ldl_steps, lu_steps}
 use Rattle.amd_model.specs.Tie.{has, last_that, turned}
 use Rattle.amd_engine.specs.Views.{num, some_at, list_at, live_of}

@@ -1,5 +1,5 @@
 -- The classes by bound. A list for a bound names each class of that bound, and others that are passed over.
-use Rattle.std.specs.Prelude.{ℕ, Bool, Option, None, Some, List, [], ◌∷◌, ◌++◌, ◌≡◌, ◌≤◌, ◌<◌, ◌==◌, ◌&&◌, ◌⊎◌, cond, Vec, filter, nat_lt}
+use Rattle.std.specs.Prelude.{ℕ, Option, None, Some, List, [], ◌∷◌, ◌++◌, ◌≡◌, ◌≤◌, ◌<◌, ◌==◌, ◌&&◌, ◌⊎◌, cond, Vec, filter, nat_lt}
 use Rattle.amd_model.specs.Tie.{has}
 use Rattle.amd_engine.specs.Views.{num, list_at}
 

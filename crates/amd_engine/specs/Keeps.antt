@@ -1,5 +1,5 @@
 -- A work record keeps the lists of an elimination, and stands for a state of it.
-use Rattle.std.specs.Prelude.{ℕ, Bool, true, false, Option, None, Some, List, [], ◌≡◌, ◌<◌, ◌≤◌, ◌⊎◌, ◌==◌, ◌+◌, nat_lt, length, filter, sum_by}
+use Rattle.std.specs.Prelude.{ℕ, Bool, true, false, Option, None, Some, List, [], ◌≡◌, ◌<◌, ◌≤◌, ◌⊎◌, ◌==◌, length, filter, sum_by}
 use Rattle.amd_model.specs.Below.{count_below}
 use Rattle.amd_model.specs.Graph.{Graph, IsGraph, degree}
 use Rattle.amd_model.specs.State.{State, Home, Last, Live, Gone, in_block, is_element, live}
@@ -10,7 +10,7 @@ use Rattle.amd_model.specs.Step.{StepAt}
 use Rattle.amd_model.specs.Run.{last_state}
 use Rattle.amd_model.specs.Ordering.{Follows}
 use Rattle.amd_model.specs.Tie.{Tie, Fits, has, is_empty, pivot, next}
-use Rattle.amd_engine.specs.Views.{num, at, some_at, list_at, live_of, Below, ListsBelow, Clear}
+use Rattle.amd_engine.specs.Views.{num, some_at, list_at, live_of, ListsBelow, Clear}
 use Rattle.amd_engine.specs.Buckets.{live_in, lasts}
 use Rattle.amd_engine.specs.declared.work.Work.{Work}
 use Rattle.amd_engine.specs.declared.work.Scratch.{Scratch}

@@ -12,4 +12,3 @@ pub mod Keeps
 pub mod Trees
 pub mod Starts
 pub mod Groups
-pub mod Parts

@@ -1,10 +1,9 @@
 -- What the parts of a round do to the lists of an elimination, each as a function of what stood there before.
-use Rattle.std.specs.Prelude.{ℕ, Bool, true, false, Option, Some, List, [], Vec, ◌≡◌, ◌==◌, ◌&&◌, ◌||◌, ◌+◌, ◌-◌, not, min, cond, nat_eq, nat_lt, filter, fold, flat_map, sum_by}
+use Rattle.std.specs.Prelude.{ℕ, Bool, true, Option, Some, List, [], Vec, ◌≡◌, ◌==◌, ◌&&◌, ◌||◌, ◌+◌, ◌-◌, not, min, cond, nat_eq, nat_lt, filter, fold, flat_map, sum_by}
 use Rattle.amd_model.specs.Figures.{cut}
-use Rattle.amd_model.specs.Tie.{has, each, is_empty, add_new, last_that}
-use Rattle.amd_engine.specs.Views.{num, at, some_at, list_at, live_of, Clear}
+use Rattle.amd_model.specs.Tie.{has, each, is_empty, add_new}
+use Rattle.amd_engine.specs.Views.{num, some_at, list_at}
 use Rattle.amd_engine.specs.declared.work.Lists.{Lists}
-use Rattle.amd_engine.specs.declared.work.Scratch.{Scratch}
 
 -- a list without repeats of the pivot and of what stands in it already: what is new in each of several lists, in turn
 abbrev pub firsts : (ℕ → Bool) → List ℕ → List ℕ

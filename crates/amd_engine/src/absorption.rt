@@ -1,6 +1,6 @@
 // What the classes of a new element keep: the rows outside of the elements that they also stand in are counted, the elements
 // that the new one absorbs are left out of their lists, and so are the classes that the new one explains.
-// Source: Amestoy, Davis and Duff 1996 (element absorption, aggressive absorption). Called by the rounds of `plain`.
+// Source: Amestoy, Davis and Duff 1996 (element absorption, aggressive absorption). For the rounds of an engine.
 
 ghost use Rattle.std.specs.Prelude.{[], ◌≡◌, ◌<◌, ◌^◌, ◌||◌, ◌&&◌, ◌==◌, not, cond, nat_eq, nat_lt, ℕ, Some, true, false, filter, length, sum_by, OnOk, IfOk};
 ghost use Rattle.amd_model.specs.Tie.{has, Once};

@@ -1,6 +1,6 @@
 // Merging: classes of a new element that keep the same elements and the same variables become one, which the last of them
 // represents. Only classes whose lists have equal lengths and an equal sum of members are compared.
-// Source: Amestoy, Davis and Duff 1996 (supervariables, approximate hashing). Called by the rounds of `plain`.
+// Source: Amestoy, Davis and Duff 1996 (supervariables, approximate hashing). For the rounds of an engine.
 
 ghost use Rattle.std.specs.Prelude.{[], ◌≡◌, ◌≢◌, ◌<◌, ◌^◌, ◌&&◌, ◌==◌, not, cond, ℕ, Some, true, filter, length, sum_by, OnOk, IfOk};
 ghost use Rattle.amd_model.specs.Tie.{has, each, Once, last_that};

@@ -1,5 +1,5 @@
 // What an elimination keeps between two rounds. Source: Amestoy, Davis and Duff 1996 (quotient graph). Filled by `start`, changed
-// by the rounds of `plain`, read by `blocks`.
+// by the rounds of an engine.
 
 use crate::figures::Figures;
 use std::alloc::Allocator;
