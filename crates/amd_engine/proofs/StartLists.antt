@@ -1,13 +1,15 @@
 -- Lists and counts that are filled row by row, from which an elimination starts.
-use Rattle.std.proofs.Common.{ℕ, zero, suc, Bool, true, false, ◌≡◌, ◌<◌, ◌+◌, ◌&&◌, cond, inl, inr, refl, sym, ◌∙◌, ap, subst, arith, add-one, List, [], ◌∷◌, ◌++◌, Vec, map, length, get_or, set}
+use Rattle.std.proofs.Common.{ℕ, zero, suc, Bool, true, false, ◌≡◌, ◌<◌, ◌+◌, ◌&&◌, cond, inl, inr, refl, sym, ◌∙◌, ap, subst, arith, add-one, List, [], ◌∷◌, ◌++◌, Vec, map, length, get_or, set, replicate}
 use Rattle.std.specs.Prelude.{filter, ◌==◌}
-use Rattle.std.proofs.lemmas.Bool.{cases_eq, eq-eqb, ne_eqb, cond-true, cond-false}
-use Rattle.std.proofs.lemmas.List.{append-nil, length-map, length-set, map-set, get_or-map, get_or-set_same, get_or-set_other}
+use Rattle.std.specs.Vec.{vec_capacity}
+use Rattle.std.proofs.lemmas.Bool.{cases_eq, cases_lt, eq-eqb, ne_eqb, cond-true, cond-false}
+use Rattle.std.proofs.lemmas.List.{append-nil, length-map, length-set, map-set, get_or-map, get_or-set_same, get_or-set_other, length_push, length-replicate, get_or-replicate, get_or_past}
 use Rattle.std.proofs.lemmas.List.Elements.{All-nil, All-push, All-set, filter-append}
 use Rattle.amd_model.specs.Below.{count_below, sum_below, list_below}
 use Rattle.amd_model.specs.Tie.{Once, has}
-use Rattle.amd_engine.specs.Views.{list_at, Below, ListsBelow}
+use Rattle.amd_engine.specs.Views.{at, list_at, Below, ListsBelow, Clear}
 use Rattle.amd_engine.specs.Buckets.{lasts}
+use Rattle.amd_engine.proofs.RowLists.{empty_more}
 
 abbrev one_if : Bool → ℕ
 one_if b = cond b 1 0
@@ -59,6 +61,27 @@ each_last (y ∷ ys) h = cond-false (has ys y) (lasts ys) (y ∷ lasts ys) h.0 �
 -- the list at a place
 pub read_list : {A : Type 0} (lists : List (Vec ℕ A)) (e : ℕ) (v : Vec ℕ A) → e < length lists → v ≡ get_or lists e v → list_at lists e ≡ v.items
 read_list lists e v l h = get_or-map (λ w. w.items) lists e v [] l ∙ ap (λ w. w.items) (sym h)
+
+-- an empty list more
+pub empty_push : {A : Type 0} (lists : List (Vec ℕ A)) (v : Vec ℕ A) → ((i : ℕ) → list_at lists i ≡ []) → v.items ≡ [] → (i : ℕ) → list_at (lists ++ v ∷ []) i ≡ []
+empty_push {A} lists v empty is i = elim (cases_lt i (length lists + 1)) [
+  | inl l ↦ empty_more (Vec ℕ A) (λ w. w.items) vec_capacity lists v (length lists) refl i l (λ k h. empty k) is
+  | inr l ↦ get_or_past (map (λ w. w.items) (lists ++ v ∷ [])) i [] (let m = length-map (lists ++ v ∷ []) (λ (w : Vec ℕ A). w.items) in let p = length_push lists v in omega (arith, m, p, l))
+]
+
+-- one value at each of n places
+pub same_length : {X : Type 0} (n : ℕ) (x : X) (xs : List X) → xs ≡ replicate n x → length xs ≡ n
+same_length n x xs h = ap length h ∙ length-replicate n x
+
+-- no mark at any of n places
+pub marks_clear : (n : ℕ) (marks : List Bool) → marks ≡ replicate n false → (length marks ≡ n) × Clear marks
+marks_clear n marks h = (
+  same_length n false marks h,
+  λ j. ap (λ xs. at xs j) h ∙ elim (cases_lt j n) [
+    | inl l ↦ get_or-replicate n j false false l
+    | inr l ↦ get_or_past (replicate n false) j false (let e = length-replicate n false in omega (arith, e, l))
+  ],
+)
 
 -- lists that are all empty are in range
 pub empty_below : {A : Type 0} (n : ℕ) (lists : List (Vec ℕ A)) → length lists ≡ n → ((i : ℕ) → list_at lists i ≡ []) → ListsBelow n lists

@@ -1,7 +1,7 @@
 // The start of an elimination: the rows that are neither dense nor empty are classes of their own, each placed under its degree,
 // and the empty rows are elements. Source: Amestoy, Davis and Duff 1996; the AMD user guide on dense rows. For an engine.
 
-ghost use Rattle.std.specs.Prelude.{◌≡◌, ◌<◌, ◌^◌, ◌==◌, ◌&&◌, ◌≤◌, ℕ, [], map, cond, nat_eq, nat_lt, nat_le, filter, length, sum_by, IfOk};
+ghost use Rattle.std.specs.Prelude.{◌≡◌, ◌==◌, ◌&&◌, ℕ, [], map, cond, nat_eq, nat_lt, nat_le, length, IfOk};
 ghost use Rattle.amd_model.specs.Below.{count_below, list_below};
 ghost use Rattle.amd_engine.specs.Views.{num, list_at, Below, ListsBelow};
 ghost use Rattle.amd_engine.specs.Keeps.{IsIdle};
