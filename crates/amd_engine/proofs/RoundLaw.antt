@@ -167,7 +167,7 @@ module _ {A : Type 0} (g : Graph) (dense : ℕ → Bool) (aggressive : Bool) (w 
   retired_rest : (j : ℕ) → has R j ≡ true → num r.retired j ≡ t.size j
   retired_rest j h = r.retired_is j
       ∙ cond-false (has r.front j && keeps_none r.kept.elements.items r.kept.variables.items j) 0 (num w.size.items j)
-        (ap (λ b. has r.front j && b) (none_kept j (rest_front j h) ∙ rest_keeps j h) ∙ and_false (has r.front j))
+      (ap (λ b. has r.front j && b) (none_kept j (rest_front j h) ∙ rest_keeps j h) ∙ and_false (has r.front j))
       ∙ st.keeps.size j (front_placed j (rest_front j h))
 
   size_at : (x : ℕ) → (x == r.c) ≡ false → num v.size.items x ≡ num r.joined x
@@ -208,7 +208,7 @@ module _ {A : Type 0} (g : Graph) (dense : ℕ → Bool) (aggressive : Bool) (w 
         ∙ cond-false (num r.into x == x) (sum_by (num r.retired) (filter (λ j. num r.into j == x) r.rest)) 0 (ne_eqb (num r.into x) x (λ e. clash (rest_made x y (sym (f.into_is x y) ∙ e)) n))
     | inr k ↦ cond-false (has r.rest x) (cond (num r.into x == x) (sum_by (num r.retired) (filter (λ j. num r.into j == x) r.rest)) 0) (num r.retired x) (in_rest x ∙ k)
         ∙ r.retired_is x ∙ cond-true (has r.front x && keeps_none r.kept.elements.items r.kept.variables.items x) 0 (num w.size.items x)
-          (and_from (has r.front x) (keeps_none r.kept.elements.items r.kept.variables.items x) (in_front x ∙ h) (none_kept x h ∙ not_rest x h k))
+        (and_from (has r.front x) (keeps_none r.kept.elements.items r.kept.variables.items x) (in_front x ∙ h) (none_kept x h ∙ not_rest x h k))
   ]
     where
       not_rest : (x : ℕ) → has L x ≡ true → has R x ≡ false → done aggressive t r.c L x ≡ true
@@ -218,7 +218,7 @@ module _ {A : Type 0} (g : Graph) (dense : ℕ → Bool) (aggressive : Bool) (w 
   size_outside x e n = size_at x e ∙ r.joined_is x
       ∙ cond-false (has r.rest x) (cond (num r.into x == x) (sum_by (num r.retired) (filter (λ j. num r.into j == x) r.rest)) 0) (num r.retired x) (in_rest x ∙ outside_rest x n)
       ∙ r.retired_is x ∙ cond-false (has r.front x && keeps_none r.kept.elements.items r.kept.variables.items x) 0 (num w.size.items x)
-        (and_left (has r.front x) (keeps_none r.kept.elements.items r.kept.variables.items x) (in_front x ∙ n))
+      (and_left (has r.front x) (keeps_none r.kept.elements.items r.kept.variables.items x) (in_front x ∙ n))
 
   -- what is placed after the round
   new_placed : (i : ℕ) → has new_lists.placed i ≡ (has t.placed i && not (ends aggressive t r.c L i))
@@ -326,7 +326,7 @@ module _ {A : Type 0} (g : Graph) (dense : ℕ → Bool) (aggressive : Bool) (w 
         ∙ sym (cond-true (has M i) (turned kv) (filter (λ j. not (ends aggressive t r.c L j)) (t.variables i)) m))
     | inr n ↦ (let p = placed_cases i h n in
         ap (live_of v.size.items) (r.variables_is i ∙ cond-false (has r.made i) (turned (list_at r.kept.variables.items i)) (list_at r.kept.variables.items i) (in_made i ∙ n)
-          ∙ r.absorbed.variables i ∙ cond-false (has r.front i) _ _ (in_front i ∙ p.2))
+        ∙ r.absorbed.variables i ∙ cond-false (has r.front i) _ _ (in_front i ∙ p.2))
         ∙ live_new (list_at w.lists.variables.items i) ∙ ap (filter (λ j. not (ends aggressive t r.c L j))) (st.keeps.variables i p.0)
         ∙ sym (cond-false (has M i) (turned (kept_variables aggressive t r.c L i)) (filter (λ j. not (ends aggressive t r.c L j)) (t.variables i)) n))
   ]
@@ -490,17 +490,17 @@ module _ {A : Type 0} (g : Graph) (dense : ℕ → Bool) (aggressive : Bool) (w 
   was_live x h = elim (home_cases (t.home x)) [
     | inl z ↦ absurd (let k = sym h ∙ new_home_is x ∙ ap moved z ∙ moved_last in cc)
     | inr (inl (d, z)) ↦ (let m = sym h ∙ new_home_is x ∙ ap moved z in elim (cases_eq d r.c) [
-        | inl y ↦ absurd (let k = m ∙ ap moved (ap Live y) ∙ moved_pivot in cc)
-        | inr ne ↦ elim (cases_Bool (has L d)) [
-          | inl l ↦ elim (cases_Bool (done aggressive t r.c L d)) [
-            | inl k ↦ absurd (let q = m ∙ moved_done d l k in cc)
-            | inr k ↦ (let q : Live x ≡ Live (represents aggressive t r.c L d) = m ∙ moved_rest d (in_left d l k) in
-                let e : x ≡ represents aggressive t r.c L d = cc in
-                home_of x (front_placed x (made_front x (ap (has M) e ∙ f.one_made d (in_left d l k)))))
-          ]
-          | inr n ↦ (let q : Live x ≡ Live d = m ∙ moved_other d (ne_eqb d r.c ne) n in z ∙ sym q)
+      | inl y ↦ absurd (let k = m ∙ ap moved (ap Live y) ∙ moved_pivot in cc)
+      | inr ne ↦ elim (cases_Bool (has L d)) [
+        | inl l ↦ elim (cases_Bool (done aggressive t r.c L d)) [
+          | inl k ↦ absurd (let q = m ∙ moved_done d l k in cc)
+          | inr k ↦ (let q : Live x ≡ Live (represents aggressive t r.c L d) = m ∙ moved_rest d (in_left d l k) in
+              let e : x ≡ represents aggressive t r.c L d = cc in
+              home_of x (front_placed x (made_front x (ap (has M) e ∙ f.one_made d (in_left d l k)))))
         ]
-      ])
+        | inr n ↦ (let q : Live x ≡ Live d = m ∙ moved_other d (ne_eqb d r.c ne) n in z ∙ sym q)
+      ]
+    ])
     | inr (inr (e, z)) ↦ absurd (let k = sym h ∙ new_home_is x ∙ ap moved z ∙ moved_gone e in cc)
   ]
 
@@ -508,15 +508,15 @@ module _ {A : Type 0} (g : Graph) (dense : ℕ → Bool) (aggressive : Bool) (w 
   was_gone x h = elim (home_cases (t.home x)) [
     | inl z ↦ absurd (let k = sym h ∙ new_home_is x ∙ ap moved z ∙ moved_last in cc)
     | inr (inl (d, z)) ↦ inl (let m = sym h ∙ new_home_is x ∙ ap moved z in elim (cases_eq d r.c) [
-        | inl y ↦ (let k : Gone x ≡ Gone r.c = m ∙ ap moved (ap Live y) ∙ moved_pivot in let e : x ≡ r.c = cc in z ∙ ap Live (y ∙ sym e))
-        | inr ne ↦ elim (cases_Bool (has L d)) [
-          | inl l ↦ elim (cases_Bool (done aggressive t r.c L d)) [
-            | inl k ↦ (let q : Gone x ≡ Gone r.c = m ∙ moved_done d l k in let e : x ≡ r.c = cc in ap t.home e ∙ home_of r.c f.placed ∙ sym (ap Live e))
-            | inr k ↦ absurd (let q = m ∙ moved_rest d (in_left d l k) in cc)
-          ]
-          | inr n ↦ absurd (let q = m ∙ moved_other d (ne_eqb d r.c ne) n in cc)
+      | inl y ↦ (let k : Gone x ≡ Gone r.c = m ∙ ap moved (ap Live y) ∙ moved_pivot in let e : x ≡ r.c = cc in z ∙ ap Live (y ∙ sym e))
+      | inr ne ↦ elim (cases_Bool (has L d)) [
+        | inl l ↦ elim (cases_Bool (done aggressive t r.c L d)) [
+          | inl k ↦ (let q : Gone x ≡ Gone r.c = m ∙ moved_done d l k in let e : x ≡ r.c = cc in ap t.home e ∙ home_of r.c f.placed ∙ sym (ap Live e))
+          | inr k ↦ absurd (let q = m ∙ moved_rest d (in_left d l k) in cc)
         ]
-      ])
+        | inr n ↦ absurd (let q = m ∙ moved_other d (ne_eqb d r.c ne) n in cc)
+      ]
+    ])
     | inr (inr (e, z)) ↦ inr (let k : Gone x ≡ Gone e = sym h ∙ new_home_is x ∙ ap moved z ∙ moved_gone e in z ∙ sym k)
   ]
 
@@ -537,15 +537,15 @@ module _ {A : Type 0} (g : Graph) (dense : ℕ → Bool) (aggressive : Bool) (w 
   was_last x h = elim (home_cases (t.home x)) [
     | inl z ↦ z
     | inr (inl (d, z)) ↦ absurd (let m = sym h ∙ new_home_is x ∙ ap moved z in elim (cases_eq d r.c) [
-        | inl y ↦ (let k = m ∙ ap moved (ap Live y) ∙ moved_pivot in cc)
-        | inr ne ↦ elim (cases_Bool (has L d)) [
-          | inl l ↦ elim (cases_Bool (done aggressive t r.c L d)) [
-            | inl k ↦ (let q = m ∙ moved_done d l k in cc)
-            | inr k ↦ (let q = m ∙ moved_rest d (in_left d l k) in cc)
-          ]
-          | inr n ↦ (let q = m ∙ moved_other d (ne_eqb d r.c ne) n in cc)
+      | inl y ↦ (let k = m ∙ ap moved (ap Live y) ∙ moved_pivot in cc)
+      | inr ne ↦ elim (cases_Bool (has L d)) [
+        | inl l ↦ elim (cases_Bool (done aggressive t r.c L d)) [
+          | inl k ↦ (let q = m ∙ moved_done d l k in cc)
+          | inr k ↦ (let q = m ∙ moved_rest d (in_left d l k) in cc)
         ]
-      ])
+        | inr n ↦ (let q = m ∙ moved_other d (ne_eqb d r.c ne) n in cc)
+      ]
+    ])
     | inr (inr (e, z)) ↦ absurd (let k = sym h ∙ new_home_is x ∙ ap moved z ∙ moved_gone e in cc)
   ]
 
@@ -673,7 +673,7 @@ module _ {A : Type 0} (g : Graph) (dense : ℕ → Bool) (aggressive : Bool) (w 
     made_bound i m = let l = made_front i m in let p = front_placed i l in
         r.bound_is i ∙ cond-true (has r.made i) _ _ (in_made i ∙ m)
         ∙ formula (num w.bound.items i) (t.bound i) (cut (sum_by (num r.beyond) (list_at r.kept.elements.items i) + sum_by (num v.size.items) (list_at r.kept.variables.items i))) (far aggressive t r.c L i)
-          r.border (sum_by t.size R) (num v.size.items i) (new_size aggressive t r.c L i) v.live (left aggressive t r.c L) (st.keeps.bound i p) (far_is i l) (old_bound i p) border_is (size_made i m) live_is
+        r.border (sum_by t.size R) (num v.size.items i) (new_size aggressive t r.c L i) v.live (left aggressive t r.c L) (st.keeps.bound i p) (far_is i l) (old_bound i p) border_is (size_made i m) live_is
       where
         formula : (a a' x f' b b' z z' l l' : ℕ) → a ≡ a' → x ≡ cut f' → a < 2 ^ 64 → b ≡ b' → z ≡ z' → l ≡ l' → min (min a x + (b - z)) (l - z) ≡ min (min a' f' + (b' - z')) (l' - z')
         formula a a' x f' b b' z z' l l' ea ex la eb ez el = let k : min a x ≡ min a' f' = ap (min a) ex ∙ min_cut a f' la ∙ ap (λ n. min n f') ea in rw (k, eb, ez, el) refl
