@@ -6,6 +6,8 @@
 #[cfg(test)]
 mod can_24;
 #[cfg(test)]
+mod cases;
+#[cfg(test)]
 mod classes;
 #[cfg(test)]
 mod comparison;

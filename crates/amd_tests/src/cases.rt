@@ -1,0 +1,262 @@
+// The readers of cases and of matrix files, over texts and bytes that are written out here.
+
+use amd_cases::cases::Case;
+use amd_cases::faults::Fault;
+use amd_cases::matrix::{Matrix, MatrixError, read_matrix};
+use amd_cases::reader::{CaseReader, ReadError};
+use amd_testing::refusing::Refusing;
+use std::alloc::{AllocError, Allocator, Global};
+use std::io;
+use std::io::{BufRead, BufReader, ErrorKind, Read};
+use std::process::Abort;
+use std::test::Fail;
+
+/// More requests than any of these calls makes.
+const MANY: u64 = 200;
+
+/// Two cases: one with all items, and one with what must be there alone, in another order and with no line feed at its end.
+const TWO_CASES: &[u8] =
+    b"CASE 7\nN 3\nT -5\nAGG 0\nAP 0 1 +2 02\nAI 1  -2\r\nEND\nCASE -8\nAI\nAP \nN 0\nEND";
+
+/// Checks the next case.
+fn check_case<R: BufRead + Drop, A: Allocator + Copy>(
+    rt: &impl Abort,
+    cases: &mut CaseReader<R, A>,
+    scalars: (i64, i64, i32, bool),
+    a_p: &[i64],
+    a_i: &[i64],
+) {
+    let Ok(Some(case)) = cases.next_case() else {
+        panic!(rt; "no case");
+    };
+    assert_eq!(rt; (case.number, case.n, case.dense, case.aggressive), scalars);
+    assert_eq!(rt; case.a_p.as_slice(), a_p);
+    assert_eq!(rt; case.a_i.as_slice(), a_i);
+}
+
+#[test]
+fn two_cases_and_the_end(rt: HostRuntime) {
+    let mut cases = CaseReader::new(rt.alloc(), TWO_CASES);
+    check_case(&rt, &mut cases, (7, 3, -5, false), &[0, 1, 2, 2], &[1, -2]);
+    check_case(&rt, &mut cases, (-8, 0, 10000, true), &[], &[]);
+    for _ in 0..2 {
+        assert!(rt; matches!(cases.next_case(), Ok(None)));
+    }
+}
+
+/// Checks that a text is refused for a line, and that nothing is read behind it.
+fn check_fault(rt: &impl Abort, alloc: Global, text: &[u8], wanted: u64, wanted_fault: Fault) {
+    let mut cases = CaseReader::new(alloc, text);
+    match cases.next_case() {
+        Err(ReadError::Line { line, fault }) => {
+            assert_eq!(rt; line, wanted, "{text:?}");
+            assert!(rt; fault == wanted_fault, "{text:?}: {fault:?}");
+        }
+        _ => panic!(rt; "not refused: {text:?}"),
+    }
+    assert!(rt; matches!(cases.next_case(), Err(ReadError::Stopped)));
+}
+
+#[test]
+fn lines_that_spell_no_item(rt: HostRuntime) {
+    for (text, line, fault) in [
+        (b"\n".as_slice(), 1, Fault::Keyword),
+        (b"case 1\n".as_slice(), 1, Fault::Keyword),
+        (b"CASES 1\n".as_slice(), 1, Fault::Keyword),
+        (b"CASE 1\nM 2\n".as_slice(), 2, Fault::Keyword),
+        (b"CASE 1\n2\n".as_slice(), 2, Fault::Keyword),
+        (b"CASE\n".as_slice(), 1, Fault::Numbers),
+        (b"CASE 1 2\n".as_slice(), 1, Fault::Numbers),
+        (b"CASE 1\nN\n".as_slice(), 2, Fault::Numbers),
+        (b"CASE 1\nN x\n".as_slice(), 2, Fault::Numbers),
+        (b"CASE 1\nN 1.5\n".as_slice(), 2, Fault::Numbers),
+        (
+            b"CASE 1\nN 9223372036854775808\n".as_slice(),
+            2,
+            Fault::Numbers,
+        ),
+        (b"CASE 1\nT 2147483648\n".as_slice(), 2, Fault::Numbers),
+        (b"CASE 1\nAGG 2\n".as_slice(), 2, Fault::Numbers),
+        (b"CASE 1\nAP 0,1\n".as_slice(), 2, Fault::Numbers),
+        (b"CASE 1\nN 1\nAI 0 \xff\n".as_slice(), 3, Fault::Numbers),
+        (
+            b"CASE 1\nN 1\nAP 0 0\nAI\nEND 1\n".as_slice(),
+            5,
+            Fault::Numbers,
+        ),
+    ] {
+        check_fault(&rt, rt.alloc(), text, line, fault);
+    }
+}
+
+#[test]
+fn items_that_make_no_case(rt: HostRuntime) {
+    for (text, line, fault) in [
+        (b"N 1\n".as_slice(), 1, Fault::Outside),
+        (b"END\n".as_slice(), 1, Fault::Outside),
+        (b"CASE 1\nN 1\nCASE 2\n".as_slice(), 3, Fault::Inside),
+        (b"CASE 1\nN 1\nN 1\n".as_slice(), 3, Fault::Repeated),
+        (b"CASE 1\nT 1\nT 2\n".as_slice(), 3, Fault::Repeated),
+        (b"CASE 1\nAGG 1\nAGG 0\n".as_slice(), 3, Fault::Repeated),
+        (b"CASE 1\nAP 0\nAP 0\n".as_slice(), 3, Fault::Repeated),
+        (b"CASE 1\nAI 0\nAI 0\n".as_slice(), 3, Fault::Repeated),
+        (b"CASE 1\nAP 0\nAI\nEND\n".as_slice(), 4, Fault::Missing),
+        (b"CASE 1\nN 0\nAI\nEND\n".as_slice(), 4, Fault::Missing),
+        (b"CASE 1\nN 0\nAP 0\nEND\n".as_slice(), 4, Fault::Missing),
+        (b"CASE 1\n".as_slice(), 1, Fault::Unfinished),
+        (b"CASE 1\nN 0\nAP 0\nAI".as_slice(), 4, Fault::Unfinished),
+    ] {
+        check_fault(&rt, rt.alloc(), text, line, fault);
+    }
+}
+
+/// A reader of some bytes that answers an error where they end.
+struct Broken<'a>(&'a [u8]);
+
+impl Drop for Broken<'_> {
+    fn drop(self) {
+        let Self(_) = self;
+    }
+}
+
+impl Read for Broken<'_> {
+    fn read(&mut self, buf: &mut [u8]) -> io::Result<usize> {
+        if self.0.is_empty() {
+            return Err(io::Error::from(ErrorKind::BrokenPipe));
+        }
+        self.0.read(buf)
+    }
+}
+
+#[test]
+fn an_input_that_breaks_off(rt: HostRuntime) -> Result<(), Fail> {
+    for text in [
+        b"".as_slice(),
+        b"CASE 1\nN 0\nAP 0\nAI\n".as_slice(),
+        b"CASE 1\nN 0\nAP 0\nAI".as_slice(),
+    ] {
+        let mut cases = CaseReader::new(rt.alloc(), BufReader::new(rt.alloc(), Broken(text))?);
+        assert!(rt;
+            matches!(cases.next_case(), Err(ReadError::Input { .. })),
+            "{text:?}"
+        );
+        assert!(rt;
+            matches!(cases.next_case(), Err(ReadError::Stopped)),
+            "{text:?}"
+        );
+    }
+    Ok(())
+}
+
+/// Reads the two cases with one request refused, and says whether it was made.
+fn cases_refusing(rt: &impl Abort, alloc: Global, refuse_at: u64) -> bool {
+    let heap = Refusing::new(alloc, refuse_at);
+    let mut cases = CaseReader::new(&heap, TWO_CASES);
+    let mut sizes: i64 = 0;
+    for _ in 0..3 {
+        match cases.next_case() {
+            Ok(Some(case)) => sizes = sizes.wrapping_mul(10).wrapping_add(case.n),
+            Ok(None) => assert!(rt; !heap.refused() && sizes == 30, "at {refuse_at}"),
+            Err(
+                ReadError::Line {
+                    fault: Fault::OutOfMemory,
+                    ..
+                },
+            ) => assert!(rt; heap.refused(), "at {refuse_at}"),
+            Err(ReadError::Stopped) => assert!(rt; heap.refused(), "at {refuse_at}"),
+            Err(_) => panic!(rt; "at {refuse_at}"),
+        }
+    }
+    drop(cases);
+    heap.refused()
+}
+
+#[test]
+fn each_request_of_the_reader(rt: HostRuntime) {
+    let mut refusals = 0;
+    for refuse_at in 1..MANY {
+        if !cases_refusing(&rt, rt.alloc(), refuse_at) {
+            break;
+        }
+        refusals = refuse_at;
+    }
+    assert!(rt; 0 < refusals && refusals < MANY - 1);
+}
+
+/// The bytes of a matrix file.
+fn file_of(alloc: Global, wide: &[i64], narrow: &[i32]) -> Result<Vec<u8>, AllocError> {
+    let mut bytes = Vec::new(alloc);
+    for number in wide {
+        bytes.extend_from_slice(&number.to_le_bytes())?;
+    }
+    for number in narrow {
+        bytes.extend_from_slice(&number.to_le_bytes())?;
+    }
+    Ok(bytes)
+}
+
+#[test]
+fn a_matrix_file(rt: HostRuntime) -> Result<(), Fail> {
+    let mut bytes = file_of(rt.alloc(), &[2, 3, 0, 2, 3], &[0, 1, -300])?;
+    let Ok(Matrix { n, a_p, a_i }) = read_matrix::<i64, _, _>(rt.alloc(), &mut bytes.as_slice())
+    else {
+        panic!(rt; "refused");
+    };
+    assert_eq!(rt; n, 2);
+    assert_eq!(rt; a_p.as_slice(), [0, 2, 3].as_slice());
+    assert_eq!(rt; a_i.as_slice(), [0, 1, -300].as_slice());
+    for (length, _) in bytes.iter().enumerate() {
+        let front: Vec<u8> = bytes.iter().copied().take(length).collect(rt.alloc())?;
+        let outcome = read_matrix::<i32, _, _>(rt.alloc(), &mut front.as_slice());
+        assert!(rt;
+            matches!(outcome, Err(MatrixError::Short)),
+            "{length} bytes"
+        );
+    }
+    let narrow = read_matrix::<i8, _, _>(rt.alloc(), &mut bytes.as_slice());
+    assert!(rt; matches!(narrow, Err(MatrixError::TooLarge)));
+    let unsigned = read_matrix::<u64, _, _>(rt.alloc(), &mut bytes.as_slice());
+    assert!(rt; matches!(unsigned, Err(MatrixError::TooLarge)));
+    bytes.push(0)?;
+    let longer = read_matrix::<i32, _, _>(rt.alloc(), &mut bytes.as_slice());
+    assert!(rt; matches!(longer, Err(MatrixError::Long)));
+    let broken = read_matrix::<i32, _, _>(rt.alloc(), &mut Broken(&bytes));
+    assert!(rt; matches!(broken, Err(MatrixError::Long)));
+    Ok(())
+}
+
+#[test]
+fn matrix_files_that_are_none(rt: HostRuntime) -> Result<(), Fail> {
+    let negative = file_of(rt.alloc(), &[-1, 0], &[])?;
+    let outcome = read_matrix::<i64, _, _>(rt.alloc(), &mut negative.as_slice());
+    assert!(rt; matches!(outcome, Err(MatrixError::Negative)));
+    let negative = file_of(rt.alloc(), &[0, -1, -1], &[])?;
+    let outcome = read_matrix::<i64, _, _>(rt.alloc(), &mut negative.as_slice());
+    assert!(rt; matches!(outcome, Err(MatrixError::Negative)));
+    let apart = file_of(rt.alloc(), &[1, 2, 0, 1], &[0, 0])?;
+    let outcome = read_matrix::<i64, _, _>(rt.alloc(), &mut apart.as_slice());
+    assert!(rt; matches!(outcome, Err(MatrixError::Pointers)));
+    let huge = file_of(rt.alloc(), &[i64::MAX, i64::MAX, 0], &[])?;
+    let outcome = read_matrix::<i64, _, _>(rt.alloc(), &mut huge.as_slice());
+    assert!(rt; matches!(outcome, Err(MatrixError::Short)));
+    let whole = file_of(rt.alloc(), &[0, 0, 0], &[])?;
+    let outcome = read_matrix::<i64, _, _>(rt.alloc(), &mut Broken(&whole));
+    assert!(rt; matches!(outcome, Err(MatrixError::Input(_))));
+    Ok(())
+}
+
+#[test]
+fn each_request_of_the_matrix_reader(rt: HostRuntime) -> Result<(), Fail> {
+    let bytes = file_of(rt.alloc(), &[2, 3, 0, 2, 3], &[0, 1, 1])?;
+    let mut refusals = 0;
+    for refuse_at in 1..MANY {
+        let heap = Refusing::new(rt.alloc(), refuse_at);
+        match read_matrix::<i32, _, _>(&heap, &mut bytes.as_slice()) {
+            Ok(_) => break,
+            Err(MatrixError::OutOfMemory) => refusals = refuse_at,
+            Err(_) => panic!(rt; "at {refuse_at}"),
+        }
+    }
+    assert!(rt; 0 < refusals && refusals < MANY - 1);
+    Ok(())
+}
