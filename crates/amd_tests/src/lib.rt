@@ -23,6 +23,7 @@ mod memory;
 mod numbers;
 #[cfg(test)]
 mod texts;
+#[cfg(test)]
 mod trees;
 #[cfg(test)]
 mod worked;
