@@ -172,7 +172,7 @@ choose_pivot bound (d ∷ ds) m c xs low is =
 -- ---- a round
 
 -- the classes of a list from which the last one was taken
-popped_live : (size bound : List ℕ) (b : ℕ) (old new : List ℕ) (c : ℕ) → Popped size bound b old new (Some c) → live_in size bound b old ≡ live_in size bound b new ++ c ∷ []
+pub popped_live : (size bound : List ℕ) (b : ℕ) (old new : List ℕ) (c : ℕ) → Popped size bound b old new (Some c) → live_in size bound b old ≡ live_in size bound b new ++ c ∷ []
 popped_live size bound b old new c h =
     let live = live_in size bound b in let is_class = λ (x : ℕ). nat_lt 0 (num size x) && num bound x == b in
     ap live h.1 ∙ filter-append is_class new (c ∷ h.0) ∙ ap (λ l. live new ++ l) (filter-append is_class (c ∷ []) h.0 ∙ ap (λ l. l ++ live h.0) h.2 ∙ ap (λ l. c ∷ l) h.3)

@@ -33,3 +33,7 @@ pub mod Joins
 pub mod SameLists
 pub mod Representatives
 pub mod MergeLaw
+pub mod FrontLists
+pub mod MergeParts
+pub mod RenewedParts
+pub mod RoundParts

@@ -1,24 +1,25 @@
 -- A round of the plain engine computes the next lists of the machine, in the sizes, bounds and lists of classes and elements.
-use Rattle.std.proofs.Common.{ℕ, suc, Bool, true, false, Option, None, Some, List, [], ◌∷◌, ◌≡◌, ◌≢◌, ◌≤◌, ◌<◌, ◌+◌, ◌-◌, ◌∙◌, ◌&&◌, ◌||◌, not, min, cond, ap, sym, refl, subst, inl, inr, arith, length}
+use Rattle.std.proofs.Common.{ℕ, zero, suc, Bool, true, false, Option, None, Some, List, [], ◌∷◌, ◌++◌, ◌≡◌, ◌≢◌, ◌≤◌, ◌<◌, ◌+◌, ◌-◌, ◌∙◌, ◌&&◌, ◌||◌, not, min, cond, ap, sym, refl, subst, inl, inr, arith, length}
 use Rattle.std.specs.Prelude.{filter, sum_by, nat_lt, is_none, ◌==◌, ◌⊎◌, ◌^◌}
-use Rattle.std.proofs.lemmas.Bool.{cases_Bool, cases_eq, cond-true, cond-false, or_left, or_right, or_from, or_parts, or_cases, and_from, and_parts, and_left, eqb-true, eq-eqb, ne_eqb, lt-ltb, le-ltb, not-true, not_from_false}
+use Rattle.std.proofs.lemmas.Bool.{true≢false, false≢true, cases_Bool, cases_eq, cond-true, cond-false, or_left, or_right, or_from, or_parts, or_cases, and_from, and_parts, and_left, eqb-true, eq-eqb, ne_eqb, lt-ltb, le-ltb, not-true, not_from_false}
 use Rattle.std.proofs.lemmas.List.Sums.{sum_by-cons}
-use Rattle.amd_model.specs.Graph.{Graph}
+use Rattle.amd_model.specs.Below.{count_below}
+use Rattle.amd_model.specs.Graph.{Graph, IsGraph}
 use Rattle.amd_model.specs.Figures.{cut}
 use Rattle.amd_model.specs.State.{State, Home, Last, Live, Gone, in_class, is_class, front, holds, stands, inside}
 use Rattle.amd_model.specs.Step.{StepAt, absorbed}
 use Rattle.amd_model.specs.Sound.{IsSound}
-use Rattle.amd_model.specs.Tie.{Tie, Fits, has, is_empty, turned, pivot, gathered, takes, kept_elements, kept_variables, done, rest, represents, made, ends, new_size, far, left, next_bound, new_home, round, next}
+use Rattle.amd_model.specs.Tie.{Tie, Fits, has, is_empty, turned, Once, pivot, gathered, takes, kept_elements, kept_variables, done, rest, represents, made, ends, new_size, far, left, next_bound, new_home, round, next}
 use Rattle.amd_model.proofs.BelowLemmas.{count_pos}
 use Rattle.amd_model.proofs.StateLemmas.{class_gives, class_from, live_from, front_gives, neighbours_gives, holds_gives, stands_gives}
 use Rattle.amd_model.proofs.Sound.{live_small}
 use Rattle.amd_model.proofs.SoundStep.{step_sound}
 use Rattle.amd_model.proofs.TieLists.{same_bool, clash, has_append, has_filter, has_turned, empty_gives, some_of}
 use Rattle.amd_model.proofs.TieSums.{home_cases}
-use Rattle.amd_model.proofs.TieLaw.{L as front_list, takes_is, front_class, after, is_step, now, now_fits}
+use Rattle.amd_model.proofs.TieLaw.{L as front_list, takes_is, front_class, rest_class, after, is_step, now, now_fits}
 use Rattle.amd_engine.specs.Views.{num, some_at, list_at, live_of}
 use Rattle.amd_engine.specs.Rounds.{keeps_none}
-use Rattle.amd_engine.specs.Keeps.{LinksLead, Stands}
+use Rattle.amd_engine.specs.Keeps.{Keeps, LinksLead, Stands}
 use Rattle.amd_engine.specs.declared.work.Work.{Work}
 use Rattle.amd_model.proofs.StepFronts.{placed_small}
 use Rattle.amd_engine.specs.Buckets.{live_in, lasts}
@@ -202,7 +203,7 @@ module _ {A : Type 0} (g : Graph) (dense : ℕ → Bool) (aggressive : Bool) (w 
       ∙ ap (sum_by (num r.retired)) (filter_named (λ j. num r.into j == x) (λ j. represents aggressive t r.c L j == x) R (λ j a. ap (λ n. n == x) (f.into_is j a)))
       ∙ sum_named (num r.retired) t.size (filter (λ j. represents aggressive t r.c L j == x) R) (λ j a. retired_rest j (and_parts (has R j) (represents aggressive t r.c L j == x) (sym (has_filter (λ j. represents aggressive t r.c L j == x) R j) ∙ a)).0)
 
-  size_ended : (x : ℕ) → has L x ≡ true → has M x ≡ false → num v.size.items x ≡ 0
+  pub size_ended : (x : ℕ) → has L x ≡ true → has M x ≡ false → num v.size.items x ≡ 0
   size_ended x h n = size_at x (not_c x h) ∙ r.joined_is x ∙ elim (cases_Bool (has R x)) [
     | inl y ↦ cond-true (has r.rest x) (cond (num r.into x == x) (sum_by (num r.retired) (filter (λ j. num r.into j == x) r.rest)) 0) (num r.retired x) (in_rest x ∙ y)
         ∙ cond-false (num r.into x == x) (sum_by (num r.retired) (filter (λ j. num r.into j == x) r.rest)) 0 (ne_eqb (num r.into x) x (λ e. clash (rest_made x y (sym (f.into_is x y) ∙ e)) n))
@@ -214,7 +215,7 @@ module _ {A : Type 0} (g : Graph) (dense : ℕ → Bool) (aggressive : Bool) (w 
       not_rest : (x : ℕ) → has L x ≡ true → has R x ≡ false → done aggressive t r.c L x ≡ true
       not_rest x h k = elim (cases_Bool (done aggressive t r.c L x)) [ inl y ↦ y | inr n ↦ clash (in_left x h n) k ]
 
-  size_outside : (x : ℕ) → (x == r.c) ≡ false → has L x ≡ false → num v.size.items x ≡ num w.size.items x
+  pub size_outside : (x : ℕ) → (x == r.c) ≡ false → has L x ≡ false → num v.size.items x ≡ num w.size.items x
   size_outside x e n = size_at x e ∙ r.joined_is x
       ∙ cond-false (has r.rest x) (cond (num r.into x == x) (sum_by (num r.retired) (filter (λ j. num r.into j == x) r.rest)) 0) (num r.retired x) (in_rest x ∙ outside_rest x n)
       ∙ r.retired_is x ∙ cond-false (has r.front x && keeps_none r.kept.elements.items r.kept.variables.items x) 0 (num w.size.items x)

@@ -12,3 +12,4 @@ pub mod Keeps
 pub mod Trees
 pub mod Starts
 pub mod Groups
+pub mod Parts

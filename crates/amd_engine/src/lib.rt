@@ -1,6 +1,7 @@
 //! The parts under an ordering: the types that callers see, the reading of numbers of a caller's type, the walk over the
 //! edges of a matrix, the lists of neighbours, the threshold of dense rows, and the two permutations that a listing gives. The
-//! crate `amd` stands on it and hands the types on. No engine stands here yet.
+//! crate `amd` stands on it and hands the types on. The start and the rounds of an elimination stand here too, and the postorder of
+//! trees; nothing calls them yet.
 #![tactic(auto)]
 
 pub mod absorption;
@@ -14,6 +15,7 @@ pub mod lists;
 pub mod marks;
 pub mod merging;
 pub mod permutations;
+pub mod plain;
 pub mod post_tree;
 pub mod postorder;
 pub mod start;
