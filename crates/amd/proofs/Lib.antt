@@ -1,5 +1,4 @@
 pub mod Classes
-pub mod Listings
 pub mod SamePairs
 pub mod Orderings
 pub mod Counting

@@ -1,69 +1,134 @@
 -- From what the parts of an ordering promise to what the whole does.
 use Rattle.std.proofs.Common.{ℕ, ℤ, List, zero, suc, pos, negsuc, [], ◌∷◌, ◌++◌, ◌≡◌, ◌*◌, ◌+◌, ◌-◌, ◌/◌, ◌^◌, ◌<◌, ◌≤◌, map, length, drop, cond, Bool, true, false, refl, sym, ◌∙◌, ap, subst, arith}
 use Rattle.std.specs.Prelude.{unsigned_abs, nat_lt, min, max, ◌↔◌, IsTrue}
-use Rattle.std.proofs.lemmas.List.{drop-map}
+use Rattle.std.proofs.lemmas.List.{drop-map, length-append}
+use Rattle.std.proofs.Math.Seq.{drop-append_seam}
 use Rattle.amd_model.specs.Below.{count_below, list_below}
-use Rattle.amd_model.specs.Graph.{edge_count}
+use Rattle.amd_model.specs.Graph.{Graph, edge_count}
+use Rattle.amd_model.specs.State.{State}
+use Rattle.amd_model.specs.Run.{last_state}
+use Rattle.amd_model.specs.Figures.{cut}
+use Rattle.amd_model.specs.Ordering.{IsListingOf, Promises}
+use Rattle.amd_model.specs.Tie.{starting_list}
+use Rattle.amd_model.proofs.Orderings.{orderings_promise}
+use Rattle.amd_model.proofs.Places.{length_below}
 use Rattle.amd_model.specs.Input.Pattern.{graph_of, is_pair, pair_count, diagonal_count, SamePattern}
 use Rattle.amd_model.specs.Input.Dense.{IsGreatest, IsRawThreshold, IsThreshold, is_dense}
-use Rattle.amd_model.specs.Listing.{ListsEachRow}
+use Rattle.amd_model.specs.Listing.{ListsEachRow, IsPostorder}
 use Rattle.amd_model.proofs.DegreeSums.{degrees_twice, pattern_graph}
 use Rattle.amd_model.proofs.BelowLemmas.{count_same, sum_same}
-use Rattle.amd_engine.specs.Permutations.{AreInverse}
+use Rattle.amd_engine.specs.Plain.{IsEngineAnswer, with_figures}
 use Rattle.amd_engine.specs.declared.amd.Info.{Info}
 use Rattle.amd_engine.specs.declared.amd.Status.{Status}
-use Rattle.amd.specs.Answers.{OrdersMatrix, DenseStandLast, IsOrdering, HaveEqualFigures}
+use Rattle.amd.specs.Answers.{OrdersMatrix, TellsFigures, Reserves, DenseStandLast, IsOrdering, HaveEqualFigures, ordered_pairs}
 use Rattle.amd.specs.Transposes.{IsCleanTranspose}
 use Rattle.amd.specs.PatternFigures.{HasPatternFigures}
 use Rattle.amd.specs.Degrees.{AreDegrees}
-use Rattle.amd.specs.ByDegree.{is_above}
-use Rattle.amd.proofs.SamePairs.{figures_turned, graph_turned, graph_same, pairs_same}
+use Rattle.amd.proofs.SamePairs.{figures_turned, graph_turned, graph_same, pairs_same, pairs_turned}
+
+-- functions of two numbers that agree everywhere are one
+same_pairs : (f h : ℕ → ℕ → Bool) → ((i j : ℕ) → f i j ≡ h i j) → f ≡ h
+same_pairs f h e = λ k i j. e i j k
 
 -- an ordering of the transpose is one of the matrix, whatever status its record gets
-pub orders_turned : (n t : ℤ) (a_p a_i b_p b_i p q : List ℤ) (info : Info) (status : Status) → IsCleanTranspose n a_p a_i b_p b_i →
-    OrdersMatrix (unsigned_abs n) t b_p b_i p q info → OrdersMatrix (unsigned_abs n) t a_p a_i p q (record info { status = status })
-orders_turned (pos n) t a_p a_i b_p b_i p q info status clean o = let f = figures_turned n a_p a_i b_p b_i info clean.transpose o.figures in record {
-  inverse = o.inverse;
-  figures = record { size = f.size; entries = f.entries; diagonal = f.diagonal; off_diagonal = f.off_diagonal; symmetric = f.symmetric };
-  compactions = o.compactions;
-  threshold = o.threshold;
-  is_threshold = o.is_threshold;
-  dense = subst (λ g. DenseStandLast g o.threshold p info.n_dense) (graph_turned n a_p a_i b_p b_i clean.transpose) o.dense;
-  room = o.room;
-}
-orders_turned (negsuc n) t a_p a_i b_p b_i p q info status clean o = absurd clean
+pub orders_turned : (n t : ℤ) (aggressive : Bool) (a_p a_i b_p b_i p q : List ℤ) (info : Info) (status : Status) → IsCleanTranspose n a_p a_i b_p b_i →
+    OrdersMatrix (unsigned_abs n) t aggressive (is_pair (unsigned_abs n) b_p b_i) b_p b_i p q info →
+    OrdersMatrix (unsigned_abs n) t aggressive (λ i j. is_pair (unsigned_abs n) a_p a_i j i) a_p a_i p q (record info { status = status })
+orders_turned (pos n) t aggressive a_p a_i b_p b_i p q info status clean o =
+    let f = figures_turned n a_p a_i b_p b_i info clean.transpose o.figures in
+    let same : graph_of n b_p b_i ≡ graph_of n a_p a_i = graph_turned n a_p a_i b_p b_i clean.transpose in
+    let pairs = same_pairs (is_pair n b_p b_i) (λ i j. is_pair n a_p a_i j i) (pairs_turned n a_p a_i b_p b_i clean.transpose) in
+    let told = subst (λ g. TellsFigures g (is_dense g o.threshold) (last_state o.first o.states) info) same o.told in
+    let reserves = subst (λ g. Reserves g o.rows info) same o.reserves in
+    record {
+      inverse = o.inverse;
+      figures = record { size = f.size; entries = f.entries; diagonal = f.diagonal; off_diagonal = f.off_diagonal; symmetric = f.symmetric };
+      compactions = o.compactions;
+      threshold = o.threshold;
+      is_threshold = o.is_threshold;
+      dense = subst (λ g. DenseStandLast g o.threshold p info.n_dense) same o.dense;
+      rows = o.rows;
+      listed = o.listed;
+      first = o.first;
+      states = o.states;
+      listing = subst (λ pair. IsListingOf (graph_of n a_p a_i) (is_dense (graph_of n a_p a_i) o.threshold) aggressive (starting_list n pair) o.first o.states o.rows) pairs
+        (subst (λ g. IsListingOf g (is_dense g o.threshold) aggressive (starting_list n (is_pair n b_p b_i)) o.first o.states o.rows) same o.listing);
+      promises = subst (λ g. Promises g (is_dense g o.threshold) o.first o.states o.rows) same o.promises;
+      told = record { lnz = told.lnz; divisions = told.divisions; ldl = told.ldl; lu = told.lu; greatest = told.greatest; lnz_most = told.lnz_most; greatest_most = told.greatest_most };
+      reserves = record { columns = reserves.columns; factor = reserves.factor; lnz = reserves.lnz; divisions = reserves.divisions; ldl = reserves.ldl; lu = reserves.lu; greatest = reserves.greatest };
+      room = o.room;
+    }
+orders_turned (negsuc n) t aggressive a_p a_i b_p b_i p q info status clean o = absurd clean
 
--- lists of numbers that pass tests which agree
-list_same : (n : ℕ) (p q : ℕ → Bool) → ((k : ℕ) → k < n → p k ≡ q k) → list_below n p ≡ list_below n q
-unfolding list_below
-list_same zero p q h = refl
-list_same (suc n) p q h = ap (λ xs. xs ++ cond (p n) (n ∷ []) []) (list_same n p q (λ k l. h k (omega arith))) ∙ ap (λ b. list_below n q ++ cond b (n ∷ []) []) (h n (omega arith))
+-- what is cut is no more, and what was not cut is the same
+cut_most : (x m : ℕ) → x ≤ m → cut x ≤ m
+unfolding cut
+cut_most x m h = omega (arith, h)
 
--- the degrees tell which rows are dense
-above_dense : (n threshold : ℕ) (a_p a_i : List ℤ) (total : ℕ) (numbers : List ℕ) → AreDegrees n a_p a_i total numbers → (i : ℕ) → i < n → is_above numbers threshold i ≡ is_dense (graph_of n a_p a_i) threshold i
-unfolding is_dense
-above_dense n threshold a_p a_i total numbers degrees i l = ap (nat_lt threshold) (degrees.each i l)
+not_cut : (x f : ℕ) → x ≤ f → cut f < 18446744073709551615 → x ≤ cut f
+unfolding cut
+not_cut x f h l = omega (arith, h, l)
 
--- a listing of the rows with the dense ones behind, and its inverse, order the matrix
-pub listing_orders : (n : ℕ) (t : ℤ) (threshold : ℕ) (a_p a_i p q : List ℤ) (numbers rows : List ℕ) (total n_dense : ℕ) (info : Info) →
-    AreDegrees n a_p a_i total numbers → HasPatternFigures n a_p a_i info → IsThreshold n t threshold → ListsEachRow (length numbers) rows →
-    n_dense ≡ count_below (length numbers) (is_above numbers threshold) → drop (length numbers - n_dense) rows ≡ list_below (length numbers) (is_above numbers threshold) →
-    total + total / 5 + n < 2 ^ 63 → p ≡ map pos rows → AreInverse (length rows) p q → info.n_cmp_a ≤ n → OrdersMatrix n t a_p a_i p q (record info { n_dense = n_dense })
+-- the dense rows stand last in a listing
+dense_last : (g : Graph) (threshold n_dense : ℕ) (p : List ℤ) (rows : List ℕ) (s : State) → p ≡ map pos rows → ListsEachRow g.size rows → IsPostorder g (is_dense g threshold) s rows →
+    n_dense ≡ count_below g.size (is_dense g threshold) → DenseStandLast g threshold p n_dense
+dense_last g threshold n_dense p rows s listed each order count =
+    let last : List ℕ = list_below g.size (is_dense g threshold) in
+    let a = ap length order.is in let b = length-append order.blocks last in let c = length_below g.size (is_dense g threshold) in let d = each.places in
+    let here : g.size - n_dense ≡ length order.blocks = omega (arith, a, b, c, d, count) in
+    record {
+      count = count;
+      last = ap (drop (g.size - n_dense)) listed ∙ drop-map (λ x. pos x) (g.size - n_dense) rows
+        ∙ ap (map pos) (ap (λ k. drop k rows) here ∙ ap (drop (length order.blocks)) order.is ∙ drop-append_seam order.blocks last);
+    }
+
+-- the answer of an engine, and the figures of the pattern, order the matrix
+pub engine_orders : (n : ℕ) (t : ℤ) (aggressive : Bool) (a_p a_i p q : List ℤ) (numbers : List ℕ) (total : ℕ) (info new : Info) →
+    AreDegrees n a_p a_i total numbers → HasPatternFigures n a_p a_i info → total + total / 5 + n < 2 ^ 63 → IsEngineAnswer n t aggressive a_p a_i p q info new →
+    OrdersMatrix n t aggressive (is_pair n a_p a_i) a_p a_i p q new
 unfolding graph_of
-listing_orders n t threshold a_p a_i p q numbers rows total n_dense info degrees f is_threshold permutation count last room listed inverse compactions = record {
-  inverse = subst (λ m. AreInverse m p q) (permutation.places ∙ degrees.size) inverse;
-  figures = record { size = f.size; entries = f.entries; diagonal = f.diagonal; off_diagonal = f.off_diagonal; symmetric = f.symmetric };
-  compactions = compactions;
-  threshold = threshold;
-  is_threshold = is_threshold;
-  dense = record {
-    count = count ∙ ap (λ m. count_below m (is_above numbers threshold)) degrees.size ∙ count_same n (is_above numbers threshold) (is_dense (graph_of n a_p a_i) threshold) (above_dense n threshold a_p a_i total numbers degrees);
-    last = ap (drop (n - n_dense)) listed ∙ drop-map (λ x. pos x) (n - n_dense) rows
-        ∙ ap (map pos) (subst (λ m. drop (m - n_dense) rows ≡ list_below m (is_above numbers threshold)) degrees.size last
-        ∙ list_same n (is_above numbers threshold) (is_dense (graph_of n a_p a_i) threshold) (above_dense n threshold a_p a_i total numbers degrees));
-  };
-  room = subst (λ m. m + m / 5 + n < 2 ^ 63) (degrees.sum ∙ degrees_twice (graph_of n a_p a_i) (pattern_graph n a_p a_i) ∙ sym f.off_diagonal) room;
-}
+engine_orders n t aggressive a_p a_i p q numbers total info new degrees f room o =
+    let g : Graph = graph_of n a_p a_i in let dense : ℕ → Bool = is_dense (graph_of n a_p a_i) o.threshold in let s : State = last_state o.first o.states in
+    let promises = orderings_promise (graph_of n a_p a_i) (is_dense (graph_of n a_p a_i) o.threshold) aggressive o.first o.states o.rows (pattern_graph n a_p a_i) o.listing.run o.listing.listing in
+    let told : TellsFigures (graph_of n a_p a_i) (is_dense (graph_of n a_p a_i) o.threshold) (last_state o.first o.states) (with_figures (graph_of n a_p a_i) (is_dense (graph_of n a_p a_i) o.threshold) (last_state o.first o.states) info) = record {
+      lnz = refl;
+      divisions = refl;
+      ldl = refl;
+      lu = refl;
+      greatest = refl;
+      lnz_most = cut_most _ _ promises.small.entries_most;
+      greatest_most = promises.small.front_most;
+    } in
+    let c = promises.covers in
+    let reserves : Reserves (graph_of n a_p a_i) o.rows (with_figures (graph_of n a_p a_i) (is_dense (graph_of n a_p a_i) o.threshold) (last_state o.first o.states) info) = record {
+      columns = c.columns;
+      factor = c.factor;
+      lnz = not_cut _ _ c.entries_need;
+      divisions = not_cut _ _ c.entries_need;
+      ldl = not_cut _ _ c.ldl_need;
+      lu = not_cut _ _ c.lu_need;
+      greatest = c.front_need;
+    } in
+    let same = sym o.told in
+    let figures : HasPatternFigures n a_p a_i (with_figures (graph_of n a_p a_i) (is_dense (graph_of n a_p a_i) o.threshold) (last_state o.first o.states) info)
+    = record { size = f.size; entries = f.entries; diagonal = f.diagonal; off_diagonal = f.off_diagonal; symmetric = f.symmetric } in
+    record {
+      inverse = o.inverse;
+      figures = subst (HasPatternFigures n a_p a_i) same figures;
+      compactions = subst (λ x. x.n_cmp_a ≤ n) same (omega arith);
+      threshold = o.threshold;
+      is_threshold = o.is_threshold;
+      dense = dense_last (graph_of n a_p a_i) o.threshold new.n_dense p o.rows (last_state o.first o.states) o.listed promises.each_row o.listing.listing (ap (λ x. x.n_dense) o.told);
+      rows = o.rows;
+      listed = o.listed;
+      first = o.first;
+      states = o.states;
+      listing = o.listing;
+      promises = promises;
+      told = subst (TellsFigures (graph_of n a_p a_i) (is_dense (graph_of n a_p a_i) o.threshold) (last_state o.first o.states)) same told;
+      reserves = subst (Reserves (graph_of n a_p a_i) o.rows) same reserves;
+      room = subst (λ x. x.nz_a_plus_at + x.nz_a_plus_at / 5 + n < 2 ^ 63) same (subst (λ m. m + m / 5 + n < 2 ^ 63) (degrees.sum ∙ degrees_twice (graph_of n a_p a_i) (pattern_graph n a_p a_i) ∙ sym f.off_diagonal) room);
+    }
 
 -- there is one greatest number with a property
 greatest_one : (P : ℕ → Type 0) (d e : ℕ) → IsGreatest P d → IsGreatest P e → d ≡ e
@@ -85,9 +150,9 @@ same_truth true false p q = sym (q.1 (p.0 refl))
 same_truth false true p q = p.1 (q.0 refl)
 
 -- orderings of two inputs with the same pairs tell the same
-wells_equal : (n : ℕ) (t : ℤ) (a_p a_i b_p b_i p q r s : List ℤ) (one other : Info) → OrdersMatrix n t a_p a_i p q one → OrdersMatrix n t b_p b_i r s other → SamePattern n a_p a_i b_p b_i → HaveEqualFigures one other
+wells_equal : (n : ℕ) (t : ℤ) (x y : Bool) (u v : ℕ → ℕ → Bool) (a_p a_i b_p b_i p q r s : List ℤ) (one other : Info) → OrdersMatrix n t x u a_p a_i p q one → OrdersMatrix n t y v b_p b_i r s other → SamePattern n a_p a_i b_p b_i → HaveEqualFigures one other
 unfolding graph_of pair_count diagonal_count
-wells_equal n t a_p a_i b_p b_i p q r s one other o k same =
+wells_equal n t x y u v a_p a_i b_p b_i p q r s one other o k same =
     let pairs = pairs_same n a_p a_i b_p b_i same in
     let graph = graph_same n a_p a_i b_p b_i same in
     let f = o.figures in let h = k.figures in
@@ -104,8 +169,8 @@ wells_equal n t a_p a_i b_p b_i p q r s one other o k same =
           ∙ ap (λ x. count_below n (is_dense (graph_of n b_p b_i) x)) (threshold_one n t o.threshold k.threshold o.is_threshold k.is_threshold) ∙ sym k.dense.count;
     }
 
-pub figures_equal : (n t : ℤ) (a_p a_i b_p b_i p q r s : List ℤ) (one other : Info) → IsOrdering n t a_p a_i p q one → IsOrdering n t b_p b_i r s other → SamePattern (unsigned_abs n) a_p a_i b_p b_i → HaveEqualFigures one other
-figures_equal (pos zero) t a_p a_i b_p b_i p q r s one other o k same = let e : one ≡ other = (o.nothing refl).fresh ∙ sym (k.nothing refl).fresh in
+pub figures_equal : (n t : ℤ) (x y : Bool) (a_p a_i b_p b_i p q r s : List ℤ) (one other : Info) → IsOrdering n t x a_p a_i p q one → IsOrdering n t y b_p b_i r s other → SamePattern (unsigned_abs n) a_p a_i b_p b_i → HaveEqualFigures one other
+figures_equal (pos zero) t x y a_p a_i b_p b_i p q r s one other o k same = let e : one ≡ other = (o.nothing refl).fresh ∙ sym (k.nothing refl).fresh in
     record { size = ap (λ x. x.n) e; entries = ap (λ x. x.nz) e; symmetry = ap (λ x. x.symmetry) e; diagonal = ap (λ x. x.nz_diag) e; off_diagonal = ap (λ x. x.nz_a_plus_at) e; dense = ap (λ x. x.n_dense) e }
-figures_equal (pos (suc n)) t a_p a_i b_p b_i p q r s one other o k same = wells_equal (suc n) t a_p a_i b_p b_i p q r s one other (o.orders (λ e. cc)) (k.orders (λ e. cc)) same
-figures_equal (negsuc n) t a_p a_i b_p b_i p q r s one other o k same = absurd (o.form (λ e. cc))
+figures_equal (pos (suc n)) t x y a_p a_i b_p b_i p q r s one other o k same = wells_equal (suc n) t x y (ordered_pairs one.status (suc n) a_p a_i) (ordered_pairs other.status (suc n) b_p b_i) a_p a_i b_p b_i p q r s one other (o.orders (λ e. cc)) (k.orders (λ e. cc)) same
+figures_equal (negsuc n) t x y a_p a_i b_p b_i p q r s one other o k same = absurd (o.form (λ e. cc))

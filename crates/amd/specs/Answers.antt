@@ -1,9 +1,15 @@
 -- What `order` answers.
-use Rattle.std.specs.Prelude.{◌≡◌, ◌≢◌, ◌≤◌, ◌+◌, ◌-◌, ◌/◌, ◌^◌, ◌<◌, ℕ, ℤ, pos, List, [], map, drop, unsigned_abs}
+use Rattle.std.specs.Prelude.{◌≡◌, ◌≢◌, ◌≤◌, ◌+◌, ◌-◌, ◌*◌, ◌/◌, ◌^◌, ◌<◌, ℕ, ℤ, pos, Bool, List, [], map, drop, unsigned_abs}
 use Rattle.amd_model.specs.Below.{count_below, list_below}
 use Rattle.amd_model.specs.Graph.{Graph}
 use Rattle.amd_model.specs.Input.Columns.{IsInput}
-use Rattle.amd_model.specs.Input.Pattern.{graph_of}
+use Rattle.amd_model.specs.State.{State}
+use Rattle.amd_model.specs.Run.{last_state}
+use Rattle.amd_model.specs.Figures.{figure, entries, ldl_steps, lu_steps, greatest_front, cut}
+use Rattle.amd_model.specs.Factor.{IsFactor, needed, needed_front}
+use Rattle.amd_model.specs.Ordering.{IsListingOf, Promises}
+use Rattle.amd_model.specs.Tie.{starting_list}
+use Rattle.amd_model.specs.Input.Pattern.{graph_of, is_pair}
 use Rattle.amd_model.specs.Input.Dense.{IsThreshold, is_dense}
 use Rattle.amd_engine.specs.Statuses.{IsStatusOf}
 use Rattle.amd_engine.specs.Permutations.{AreInverse}
@@ -18,14 +24,52 @@ pub record DenseStandLast (g : Graph) (threshold : ℕ) (p : List ℤ) (n_dense 
   pub count : n_dense ≡ count_below g.size (is_dense g threshold)
   pub last : drop (g.size - n_dense) p ≡ map pos (list_below g.size (is_dense g threshold))
 
--- what an ordering of a matrix with n rows and a dense row parameter of t thousandths promises
-pub record OrdersMatrix (n : ℕ) (t : ℤ) (ap ai p q : List ℤ) (info : Info) : Type 0 where
+-- the pairs by whose edges the starting lists are ordered: those of the matrix where it is sorted, and of its transpose, by which a
+-- jumbled matrix is replaced
+abbrev pub ordered_pairs : Status → ℕ → List ℤ → List ℤ → ℕ → ℕ → Bool
+ordered_pairs OK n ap ai = is_pair n ap ai
+ordered_pairs Invalid n ap ai = is_pair n ap ai
+ordered_pairs OkButJumbled n ap ai = λ i j. is_pair n ap ai j i
+ordered_pairs OutOfMemory n ap ai = is_pair n ap ai
+
+-- the figures of the run that ended in the state s, cut where they pass the greatest count; they are at most those of a full matrix
+pub record TellsFigures (g : Graph) (dense : ℕ → Bool) (s : State) (info : Info) : Type 0 where
+  pub lnz : info.lnz ≡ cut (figure entries g dense s)
+  pub divisions : info.n_div ≡ info.lnz
+  pub ldl : info.n_mult_subs_ldl ≡ cut (figure ldl_steps g dense s)
+  pub lu : info.n_mult_subs_lu ≡ cut (figure lu_steps g dense s)
+  pub greatest : info.d_max ≡ greatest_front g dense s
+  pub lnz_most : info.lnz ≤ g.size * (g.size - 1) / 2
+  pub greatest_most : 0 < g.size → info.d_max ≤ g.size
+
+-- each figure that was not cut is no less than what the factor under the rows p needs
+pub record Reserves (g : Graph) (p : List ℕ) (info : Info) : Type 0 where
+  pub columns : List (List ℕ)
+  pub factor : IsFactor g p columns
+  pub lnz : info.lnz < 18446744073709551615 → needed entries columns ≤ info.lnz
+  pub divisions : info.n_div < 18446744073709551615 → needed entries columns ≤ info.n_div
+  pub ldl : info.n_mult_subs_ldl < 18446744073709551615 → needed ldl_steps columns ≤ info.n_mult_subs_ldl
+  pub lu : info.n_mult_subs_lu < 18446744073709551615 → needed lu_steps columns ≤ info.n_mult_subs_lu
+  pub greatest : needed_front columns ≤ info.d_max
+
+-- what an ordering of a matrix with n rows and a dense row parameter of t thousandths promises; the pairs order the starting lists
+pub record OrdersMatrix (n : ℕ) (t : ℤ) (aggressive : Bool) (pair : ℕ → ℕ → Bool) (ap ai p q : List ℤ) (info : Info) : Type 0 where
   pub inverse : AreInverse n p q
   pub figures : HasPatternFigures n ap ai info
   pub compactions : info.n_cmp_a ≤ n
   pub threshold : ℕ
   pub is_threshold : IsThreshold n t threshold
   pub dense : DenseStandLast (graph_of n ap ai) threshold p info.n_dense
+  -- p lists the assembly tree of a run of least bounds in postorder, the dense rows last
+  pub rows : List ℕ
+  pub listed : p ≡ map pos rows
+  pub first : State
+  pub states : List State
+  pub listing : IsListingOf (graph_of n ap ai) (is_dense (graph_of n ap ai) threshold) aggressive (starting_list n pair) first states rows
+  -- and with this run: paths, bounds, the tree, the columns, forests; its figures; and what they reserve
+  pub promises : Promises (graph_of n ap ai) (is_dense (graph_of n ap ai) threshold) first states rows
+  pub told : TellsFigures (graph_of n ap ai) (is_dense (graph_of n ap ai) threshold) (last_state first states) info
+  pub reserves : Reserves (graph_of n ap ai) rows info
   -- a workspace for the lists of that many rows, with a fifth more and n words, has at most the greatest `isize` of words
   pub room : info.nz_a_plus_at + info.nz_a_plus_at / 5 + n < 2 ^ 63
 
@@ -36,11 +80,11 @@ pub record IsNothing (p q : List ℤ) (info : Info) : Type 0 where
   pub fresh : info ≡ fresh_info 0
 
 -- an answer: that for n = 0, and else an ordering of a column form, with its status
-pub record IsOrdering (n t : ℤ) (ap ai p q : List ℤ) (info : Info) : Type 0 where
+pub record IsOrdering (n t : ℤ) (aggressive : Bool) (ap ai p q : List ℤ) (info : Info) : Type 0 where
   pub nothing : n ≡ pos 0 → IsNothing p q info
   pub form : n ≢ pos 0 → IsInput n n ap ai
   pub status : n ≢ pos 0 → IsStatusOf n n ap ai info.status
-  pub orders : n ≢ pos 0 → OrdersMatrix (unsigned_abs n) t ap ai p q info
+  pub orders : n ≢ pos 0 → OrdersMatrix (unsigned_abs n) t aggressive (ordered_pairs info.status (unsigned_abs n) ap ai) ap ai p q info
 
 -- a refusal: `Invalid` exactly where n is not 0 and the input is no column form; `OutOfMemory` only for a column form
 abbrev pub IsRefusal : ℤ → List ℤ → List ℤ → Status → Type 0

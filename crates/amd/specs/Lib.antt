@@ -3,6 +3,5 @@ pub mod Scans
 pub mod PatternFigures
 pub mod Transposes
 pub mod Degrees
-pub mod ByDegree
 pub mod Answers
 pub mod Texts

@@ -1,12 +1,12 @@
 // Laws on the contract of `order`, each the contract of a function with an empty body. Called by: nobody.
 
-ghost use Rattle.std.specs.Prelude.{ℤ, List, unsigned_abs};
+ghost use Rattle.std.specs.Prelude.{ℤ, Bool, List, unsigned_abs};
 ghost use Rattle.amd_engine.specs.declared.amd.Info.{Info};
 ghost use Rattle.amd_model.specs.Input.Pattern.{SamePattern};
 ghost use Rattle.amd.specs.Answers.{IsOrdering, HaveEqualFigures};
 
-/// Two inputs with the same `n` and the same set of pairs get the same figures of the pattern, and by one parameter the same
+/// Two inputs with the same `n` and the same set of pairs get the same figures of the pattern, and by one dense row parameter the same
 /// number of dense rows.
 pub fn law_equal_figures()
-    ensures { (n t : ℤ) (ap ai bp bi p q r s : List ℤ) (one other : Info) → IsOrdering n t ap ai p q one → IsOrdering n t bp bi r s other → SamePattern (unsigned_abs n) ap ai bp bi → HaveEqualFigures one other }
+    ensures { (n t : ℤ) (x y : Bool) (ap ai bp bi p q r s : List ℤ) (one other : Info) → IsOrdering n t x ap ai p q one → IsOrdering n t y bp bi r s other → SamePattern (unsigned_abs n) ap ai bp bi → HaveEqualFigures one other }
 {}

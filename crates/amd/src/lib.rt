@@ -1,12 +1,10 @@
 //! An approximate minimum degree ordering of sparse matrices.
 //!
 //! [`order`] takes the pattern of a square matrix by columns and answers a permutation of its rows, its inverse, and figures.
-//! In this version the rows are listed by rising degree, with the dense rows last; the elimination takes that place next.
 //! [`control`] and [`info`] write what a caller chooses and what the ordering tells, as text.
 #![tactic(auto)]
 
 pub mod aat;
-mod by_degree;
 mod control_text;
 mod info_text;
 pub mod laws;
@@ -16,18 +14,17 @@ pub mod valid;
 ghost use Rattle.std.specs.Prelude.{◌≡◌, ◌+◌, ◌/◌, ◌^◌, ◌<◌, map, unsigned_abs, MatchResult, IfOk, IfErr};
 ghost use Rattle.std.specs.Option.{SomeIff};
 ghost use Rattle.amd_model.specs.Input.Columns.{IsInput, IsSortedInput};
+ghost use Rattle.amd_model.specs.Input.Pattern.{is_pair};
 ghost use Rattle.amd.specs.Answers.{IsOrdering, IsRefusal, OrdersMatrix};
 
 use crate::aat::aat;
-use crate::by_degree::by_degree;
 pub use crate::control_text::control;
 pub use crate::info_text::info;
 use crate::preprocess::preprocess;
 use crate::valid::valid;
 pub use amd_engine::amd::{Control, Info, Status};
-use amd_engine::dense::dense_threshold;
 use amd_engine::internal::{known_count, to_count};
-use amd_engine::permutations::inverse_pair;
+use amd_engine::plain::plain_1;
 use num_traits::PrimInt;
 use std::alloc::Allocator;
 
@@ -51,7 +48,7 @@ fn order_sorted<I: PrimInt, A: Allocator + Copy>(
     requires fits { I.fits (I.value n) }
     requires form { IsInput (I.value n) (I.value n) (map I.value a_p.now) (map I.value a_i.now) }
     requires sorted { IsSortedInput (I.value n) (map I.value a_p.now) (map I.value a_i.now) }
-    ensures orders { IfOk result (λ a. OrdersMatrix (unsigned_abs (I.value n)) control.now.dense (map I.value a_p.now) (map I.value a_i.now) (map I.value a.0.items) (map I.value a.1.items) a.2) }
+    ensures orders { IfOk result (λ a. OrdersMatrix (unsigned_abs (I.value n)) control.now.dense control.now.aggressive (is_pair (unsigned_abs (I.value n)) (map I.value a_p.now) (map I.value a_i.now)) (map I.value a_p.now) (map I.value a_i.now) (map I.value a.0.items) (map I.value a.1.items) a.2) }
     ensures status { IfOk result (λ a. a.2.status ≡ Status.OK) }
     ensures refused { IfErr result (λ e. e ≡ Status.OutOfMemory) }
 {
@@ -61,10 +58,7 @@ fn order_sorted<I: PrimInt, A: Allocator + Copy>(
     if workspace_words(nzaat, count).is_none() {
         return Err(Status::OutOfMemory);
     }
-    let threshold = dense_threshold(count, control);
-    let (rows, n_dense) = by_degree(alloc, &degrees, threshold)?;
-    info.n_dense = n_dense;
-    let (p, p_inv) = inverse_pair(alloc, n, &rows)?;
+    let (p, p_inv) = plain_1(alloc, n, a_p, a_i, &degrees, control, &mut info)?;
     Ok((p, p_inv, info))
 }
 
@@ -78,7 +72,7 @@ fn order_jumbled<I: PrimInt, A: Allocator + Copy>(
 ) -> Result<(Vec<I, A>, Vec<I, A>, Info), Status>
     requires fits { I.fits (I.value n) }
     requires form { IsInput (I.value n) (I.value n) (map I.value a_p.now) (map I.value a_i.now) }
-    ensures orders { IfOk result (λ a. OrdersMatrix (unsigned_abs (I.value n)) control.now.dense (map I.value a_p.now) (map I.value a_i.now) (map I.value a.0.items) (map I.value a.1.items) a.2) }
+    ensures orders { IfOk result (λ a. OrdersMatrix (unsigned_abs (I.value n)) control.now.dense control.now.aggressive (λ i j. is_pair (unsigned_abs (I.value n)) (map I.value a_p.now) (map I.value a_i.now) j i) (map I.value a_p.now) (map I.value a_i.now) (map I.value a.0.items) (map I.value a.1.items) a.2) }
     ensures status { IfOk result (λ a. a.2.status ≡ Status.OkButJumbled) }
     ensures refused { IfErr result (λ e. e ≡ Status.OutOfMemory) }
 {
@@ -114,7 +108,7 @@ pub fn order<I: PrimInt, A: Allocator + Copy>(
     // A number of a primitive type is always in range.
     requires { I.fits (I.value n) }
     ensures { MatchResult result
-        (λ a. IsOrdering (I.value n) control.now.dense (map I.value a_p.now) (map I.value a_i.now) (map I.value a.0.items) (map I.value a.1.items) a.2)
+        (λ a. IsOrdering (I.value n) control.now.dense control.now.aggressive (map I.value a_p.now) (map I.value a_i.now) (map I.value a.0.items) (map I.value a.1.items) a.2)
         (λ e. IsRefusal (I.value n) (map I.value a_p.now) (map I.value a_i.now) e) }
 {
     let Some(count) = to_count(n) else {

@@ -37,3 +37,10 @@ pub mod FrontLists
 pub mod MergeParts
 pub mod RenewedParts
 pub mod RoundParts
+pub mod PlainLaw
+pub mod RowLinks
+pub mod ElementRows
+pub mod BlockLists
+pub mod ByPlace
+pub mod BlockForest
+pub mod ListingLaw

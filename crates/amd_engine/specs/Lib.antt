@@ -13,3 +13,4 @@ pub mod Trees
 pub mod Starts
 pub mod Groups
 pub mod Parts
+pub mod Plain

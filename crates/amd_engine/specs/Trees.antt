@@ -1,6 +1,6 @@
 -- Trees in lists of numbers: by the parent of each element, and by links to a first child and a next sibling; -1 is no place.
 -- Source: Amestoy, Davis and Duff 2004.
-use Rattle.std.specs.Prelude.{◌≡◌, ◌+◌, ◌<◌, ◌≤◌, ◌≤ℤ◌, ◌⊎◌, ◌&&◌, ◌++◌, ℕ, ℤ, pos, negsuc, Bool, true, false, Option, None, Some, List, [], ◌∷◌, cond, nat_lt, nat_le, int_lt, length, slice_index, unsigned_abs}
+use Rattle.std.specs.Prelude.{◌≡◌, ◌+◌, ◌<◌, ◌≤◌, ◌≤ℤ◌, ◌⊎◌, ◌&&◌, ◌++◌, ℕ, ℤ, pos, negsuc, Bool, true, false, Option, None, Some, List, [], ◌∷◌, cond, nat_lt, nat_le, int_lt, length, slice_index, slice_index_or, unsigned_abs}
 use Rattle.amd_model.specs.Below.{list_below}
 use Rattle.amd_model.specs.Input.Columns.{at}
 use Rattle.amd_model.specs.Listing.{Tree, is_child, heaviest, children, roots, ListsTrees}
@@ -39,6 +39,13 @@ pub record IsPostorderOf (t : Tree) (order : List ℤ) : Type 0 where
   pub room : length order ≡ t.size
   pub places : (k : ℕ) → k < length listing → at order (slice_index listing k) ≡ pos k
   pub others : (e : ℕ) → e < t.size → t.is_node e ≡ false → at order e ≡ negsuc 0
+
+-- places holds the listing, place by place, and nothing behind it
+pub record IsByPlace (n : ℕ) (listing : List ℕ) (places : List (Option ℕ)) : Type 0 where
+  pub room : length places ≡ n
+  pub fits : length listing ≤ n
+  pub each : (k : ℕ) → k < length listing → slice_index_or places k None ≡ Some (slice_index listing k)
+  pub rest : (k : ℕ) → length listing ≤ k → slice_index_or places k None ≡ None
 
 -- ---- links
 

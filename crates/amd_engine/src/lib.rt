@@ -6,6 +6,7 @@
 
 pub mod absorption;
 pub mod amd;
+pub mod blocks;
 pub mod bounds;
 pub mod buckets;
 pub mod dense;

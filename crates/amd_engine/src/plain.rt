@@ -1,22 +1,32 @@
-// The rounds of the plain engine: an elimination that keeps one list for each variable and each element, and one list of classes
-// for each bound. Source: Amestoy, Davis and Duff 1996 and 2004. Nothing calls them yet: `order` of the crate `amd` will.
+// The plain engine: an elimination that keeps one list for each variable and each element, and one list of classes for each
+// bound. Source: Amestoy, Davis and Duff 1996 and 2004. Called by `order` of the crate `amd`.
 
-ghost use Rattle.std.specs.Prelude.{◌≡◌, ◌<◌, ◌≤◌, ◌+◌, ◌^◌, ℕ, Bool, true, length, sum_by, IfOk, OnOk};
+ghost use Rattle.std.specs.Prelude.{◌≡◌, ◌<◌, ◌≤◌, ◌+◌, ◌^◌, ℕ, Bool, true, pos, map, length, sum_by, IfOk, IfErr, OnOk};
 ghost use Rattle.amd_model.specs.Graph.{Graph};
 ghost use Rattle.amd_model.specs.State.{State};
 ghost use Rattle.amd_model.specs.Tie.{Tie, has, Once};
+ghost use Rattle.amd_model.specs.Input.Columns.{IsColumnForm, IsSorted};
+ghost use Rattle.amd_model.specs.Input.Pattern.{graph_of};
+ghost use Rattle.amd_engine.specs.Visits.{AreCounts};
+ghost use Rattle.amd_engine.specs.Plain.{IsEngineAnswer};
 ghost use Rattle.amd_engine.specs.Views.{num, list_at, Below};
 ghost use Rattle.amd_engine.specs.Buckets.{live_in};
 ghost use Rattle.amd_engine.specs.Parts.{MakesElement, MergesClasses, RenewsClasses};
 ghost use Rattle.amd_engine.specs.Keeps.{IsSized, Stands, IsRound, AreRounds};
 
 use crate::absorption::{absorb, others_left, retire, rows_of};
-use crate::amd::Control;
+use crate::amd::{Control, Info, Status};
+use crate::blocks::listing;
 use crate::bounds::{renew_bounds, renew_lists};
 use crate::buckets::{choose, place_all};
+use crate::dense::dense_threshold;
+use crate::lists::starting_lists;
 use crate::marks::front_of;
 use crate::merging::{join, made_of, representatives};
+use crate::permutations::inverse_pair;
+use crate::start::start;
 use crate::work::Work;
+use num_traits::PrimInt;
 use std::alloc::{AllocError, Allocator};
 
 /// Chooses a pivot and makes its element: it absorbs what it may, and the classes of its front keep what is left. Answers the pivot
@@ -143,4 +153,39 @@ pub fn eliminate<A: Allocator + Copy>(
         round(work, control)?;
     }
     Ok(())
+}
+
+/// Orders the rows of a matrix with at least one row and sorted columns, whose rows have the degrees `len`, by elimination. Writes
+/// of `info` the number of dense rows and the figures of the fronts; there is no compaction.
+///
+/// # Errors
+///
+/// `OutOfMemory` for a refused request. What `info` then holds is not said.
+pub fn plain_1<I: PrimInt, A: Allocator + Copy>(
+    alloc: A,
+    n: I,
+    a_p: &[I],
+    a_i: &[I],
+    len: &[usize],
+    control: &Control,
+    info: &mut Info,
+) -> Result<(Vec<I, A>, Vec<I, A>), Status>
+    requires fits { I.fits (I.value n) }
+    requires size { I.value n ≡ pos (length len.now) }
+    requires some { 0 < length len.now }
+    requires form { IsColumnForm (pos (length len.now)) (length len.now) (map I.value a_p.now) (map I.value a_i.now) }
+    requires sorted { IsSorted (length len.now) (map I.value a_p.now) (map I.value a_i.now) }
+    requires degrees { AreCounts (graph_of (length len.now) (map I.value a_p.now) (map I.value a_i.now)) ((graph_of (length len.now) (map I.value a_p.now) (map I.value a_i.now)).edge) len.now }
+    ensures orders { IfOk result (λ a. IsEngineAnswer (length len.now) control.now.dense control.now.aggressive (map I.value a_p.now) (map I.value a_i.now) (map I.value a.0.items) (map I.value a.1.items) info.old info.new) }
+    ensures refused { IfErr result (λ e. e ≡ Status.OutOfMemory) }
+{
+    let threshold = dense_threshold(len.len(), control);
+    let rows = starting_lists(alloc, len.len(), a_p, a_i, len)?;
+    let mut work = start(alloc, rows, len, threshold)?;
+    eliminate(&mut work, control)?;
+    info.n_dense = work.n_dense;
+    info.n_cmp_a = 0;
+    work.figures.write_figures(info);
+    let order = listing(&mut work)?;
+    Ok(inverse_pair(alloc, n, &order)?)
 }

@@ -35,20 +35,6 @@ fn class_of(n: usize, a_p: &[i64], a_i: &[i64]) -> Status {
     }
 }
 
-/// Whether the first `live` rows of a list rise by degree, and those of one degree by index.
-fn rise_by_degree(n: usize, a_p: &[i64], a_i: &[i64], live: usize, p: &[i64]) -> bool {
-    let mut last = (0, 0);
-    for (k, &row) in p.iter().enumerate() {
-        let number = usize::try_from(row).unwrap_or(usize::MAX);
-        let this = (plain::degree(n, a_p, a_i, number), number);
-        if k < live && k > 0 && this <= last {
-            return false;
-        }
-        last = this;
-    }
-    true
-}
-
 /// Asserts that a record tells the figures of a pattern.
 fn compare_figures(rt: &impl Abort, n: usize, a_p: &[i64], a_i: &[i64], info: &Info) {
     assert_eq!(rt;
@@ -63,7 +49,7 @@ fn compare_figures(rt: &impl Abort, n: usize, a_p: &[i64], a_i: &[i64], info: &I
     );
 }
 
-/// Asserts that two lists are inverse permutations, in which the rows chosen as dense stand last and the others rise by degree.
+/// Asserts that two lists are inverse permutations, in which the rows chosen as dense stand last.
 fn compare_permutation(
     rt: &impl Abort,
     n: usize,
@@ -78,11 +64,6 @@ fn compare_permutation(
         "{chosen:?} {a_p:?} {a_i:?}"
     );
     assert!(rt; plain::stand_last(chosen, p), "{chosen:?} {a_p:?} {a_i:?}");
-    let live = n.saturating_sub(plain::how_many(chosen));
-    assert!(rt;
-        rise_by_degree(n, a_p, a_i, live, p),
-        "{chosen:?} {a_p:?} {a_i:?}"
-    );
 }
 
 /// Orders with one dense row parameter, and asserts that the answer is what the definitions say.

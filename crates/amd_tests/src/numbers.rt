@@ -43,7 +43,7 @@ macro_rules! four_cycles {
             let n: $number = 4;
             let a_p: [$number; 5] = [0, 2, 3, 4, 4];
             let a_i: [$number; 4] = [1, 3, 2, 3];
-            let p: [$number; 4] = [0, 1, 2, 3];
+            let p: [$number; 4] = [3, 0, 1, 2];
             check(&$rt, $rt.alloc(), n, &a_p, &a_i, Status::OK, 4, &p);
         )*
     };

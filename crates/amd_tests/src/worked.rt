@@ -1,4 +1,5 @@
-// Worked inputs of `order` with their answers: the rows by rising degree, ties by index, and then the dense rows, rising.
+// Worked inputs of `order` with their answers: the permutation and each figure. They come from worked examples, from the Rust
+// crate `amd`, and from a plain program that follows the rules.
 
 use crate::{can_24, numbers_of};
 use amd::{Control, Info, Status, order};
@@ -8,7 +9,8 @@ use std::alloc::Global;
 use std::process::Abort;
 use std::test::Fail;
 
-/// An input and its answer. The figures are `nz`, `nz_diag`, `nz_a_plus_at` and `n_dense`.
+/// An input and its answer. The figures are `nz`, `nz_diag`, `nz_a_plus_at`, `n_dense`, `lnz`, those of `LDL'` and of `LU`, and
+/// `d_max`; the divisions are as many as `lnz`, and there is no compaction.
 #[derive(Drop)]
 struct Case<'a> {
     what: &'a str,
@@ -17,18 +19,14 @@ struct Case<'a> {
     a_i: &'a [i64],
     jumbled: bool,
     p: &'a [i64],
-    figures: [usize; 4],
+    figures: [usize; 8],
     symmetric: bool,
 }
 
 /// Asserts that `order` gives the answer of a case.
-fn check(rt: &impl Abort, alloc: Global, dense: i32, case: &Case) {
+fn check(rt: &impl Abort, alloc: Global, control: &Control, case: &Case) {
     let what = case.what;
-    let control = Control {
-        dense,
-        aggressive: true,
-    };
-    let Ok((p, p_inv, info)) = order(alloc, case.n, case.a_p, case.a_i, &control) else {
+    let Ok((p, p_inv, info)) = order(alloc, case.n, case.a_p, case.a_i, control) else {
         panic!(rt; "no answer for {what}");
     };
     let status = if case.jumbled {
@@ -42,15 +40,34 @@ fn check(rt: &impl Abort, alloc: Global, dense: i32, case: &Case) {
     assert!(rt; info.status == status, "{what}");
     assert_eq!(rt; info.n, n, "{what}");
     assert_eq!(rt;
-        [info.nz, info.nz_diag, info.nz_a_plus_at, info.n_dense],
+        [
+            info.nz,
+            info.nz_diag,
+            info.nz_a_plus_at,
+            info.n_dense,
+            info.lnz,
+            info.n_mult_subs_ldl,
+            info.n_mult_subs_lu,
+            info.d_max,
+        ],
         case.figures,
         "{what}"
     );
     assert_eq!(rt; info.symmetry, case.symmetric, "{what}");
+    assert_eq!(rt; info.n_div, info.lnz, "{what}");
+    assert_eq!(rt; info.n_cmp_a, 0, "{what}");
+}
+
+/// The choice of a caller with this dense row parameter, in thousandths.
+fn with_dense(dense: i32) -> Control {
+    Control {
+        dense,
+        aggressive: true,
+    }
 }
 
 /// Small matrices with their answers.
-static SMALL_MATRICES: [Case<'static>; 14] = [
+static SMALL_MATRICES: [Case<'static>; 18] = [
     Case {
         what: "one row without entries",
         n: 1,
@@ -58,7 +75,7 @@ static SMALL_MATRICES: [Case<'static>; 14] = [
         a_i: &[],
         jumbled: false,
         p: &[0],
-        figures: [0, 0, 0, 0],
+        figures: [0, 0, 0, 0, 0, 0, 0, 1],
         symmetric: true,
     },
     Case {
@@ -68,7 +85,7 @@ static SMALL_MATRICES: [Case<'static>; 14] = [
         a_i: &[0, 9],
         jumbled: false,
         p: &[0],
-        figures: [1, 1, 0, 0],
+        figures: [1, 1, 0, 0, 0, 0, 0, 1],
         symmetric: true,
     },
     Case {
@@ -78,7 +95,7 @@ static SMALL_MATRICES: [Case<'static>; 14] = [
         a_i: &[0, 1],
         jumbled: false,
         p: &[0, 1],
-        figures: [2, 2, 0, 0],
+        figures: [2, 2, 0, 0, 0, 0, 0, 1],
         symmetric: true,
     },
     Case {
@@ -88,7 +105,7 @@ static SMALL_MATRICES: [Case<'static>; 14] = [
         a_i: &[2],
         jumbled: false,
         p: &[1, 0, 2],
-        figures: [1, 0, 2, 0],
+        figures: [1, 0, 2, 0, 1, 1, 1, 2],
         symmetric: false,
     },
     Case {
@@ -98,7 +115,7 @@ static SMALL_MATRICES: [Case<'static>; 14] = [
         a_i: &[1],
         jumbled: false,
         p: &[0, 1],
-        figures: [1, 0, 2, 0],
+        figures: [1, 0, 2, 0, 1, 1, 1, 2],
         symmetric: false,
     },
     Case {
@@ -108,7 +125,7 @@ static SMALL_MATRICES: [Case<'static>; 14] = [
         a_i: &[1, 1],
         jumbled: true,
         p: &[0, 1],
-        figures: [1, 0, 2, 0],
+        figures: [1, 0, 2, 0, 1, 1, 1, 2],
         symmetric: false,
     },
     Case {
@@ -117,8 +134,8 @@ static SMALL_MATRICES: [Case<'static>; 14] = [
         a_p: &[0, 2, 6, 10, 12, 14],
         a_i: &[0, 1, 0, 1, 2, 4, 1, 2, 3, 4, 2, 3, 1, 4],
         jumbled: false,
-        p: &[0, 3, 4, 1, 2],
-        figures: [14, 5, 10, 0],
+        p: &[0, 3, 2, 4, 1],
+        figures: [14, 5, 10, 0, 5, 6, 7, 3],
         symmetric: false,
     },
     Case {
@@ -127,8 +144,8 @@ static SMALL_MATRICES: [Case<'static>; 14] = [
         a_p: &[0, 1, 2, 2],
         a_i: &[1, 2],
         jumbled: false,
-        p: &[0, 2, 1],
-        figures: [2, 0, 4, 0],
+        p: &[2, 0, 1],
+        figures: [2, 0, 4, 0, 2, 2, 2, 2],
         symmetric: false,
     },
     Case {
@@ -137,8 +154,8 @@ static SMALL_MATRICES: [Case<'static>; 14] = [
         a_p: &[0, 3, 3, 4],
         a_i: &[2, 0, 2, 1, -5, 77],
         jumbled: true,
-        p: &[0, 1, 2],
-        figures: [3, 1, 4, 0],
+        p: &[1, 0, 2],
+        figures: [3, 1, 4, 0, 2, 2, 2, 2],
         symmetric: false,
     },
     Case {
@@ -147,8 +164,8 @@ static SMALL_MATRICES: [Case<'static>; 14] = [
         a_p: &[0, 2, 3, 4, 4],
         a_i: &[1, 3, 2, 3],
         jumbled: false,
-        p: &[0, 1, 2, 3],
-        figures: [4, 0, 8, 0],
+        p: &[3, 0, 1, 2],
+        figures: [4, 0, 8, 0, 5, 7, 9, 3],
         symmetric: false,
     },
     Case {
@@ -157,8 +174,8 @@ static SMALL_MATRICES: [Case<'static>; 14] = [
         a_p: &[0, 2, 3, 4, 4, -1],
         a_i: &[1, 3, 2, 3, 4, -1],
         jumbled: false,
-        p: &[0, 1, 2, 3],
-        figures: [4, 0, 8, 0],
+        p: &[3, 0, 1, 2],
+        figures: [4, 0, 8, 0, 5, 7, 9, 3],
         symmetric: false,
     },
     Case {
@@ -168,7 +185,7 @@ static SMALL_MATRICES: [Case<'static>; 14] = [
         a_i: &[0, 1, 2, 0, 1, 2, 0, 1, 2],
         jumbled: false,
         p: &[0, 1, 2],
-        figures: [9, 3, 6, 0],
+        figures: [9, 3, 6, 0, 3, 4, 5, 3],
         symmetric: true,
     },
     Case {
@@ -177,8 +194,8 @@ static SMALL_MATRICES: [Case<'static>; 14] = [
         a_p: &[0, 2, 6, 9, 11, 12, 12, 12],
         a_i: &[5, 6, 2, 3, 4, 5, 3, 4, 6, 4, 6, 5],
         jumbled: false,
-        p: &[0, 5, 6, 1, 2, 3, 4],
-        figures: [12, 0, 24, 0],
+        p: &[0, 6, 1, 3, 4, 5, 2],
+        figures: [12, 0, 24, 0, 15, 29, 43, 5],
         symmetric: false,
     },
     Case {
@@ -187,8 +204,48 @@ static SMALL_MATRICES: [Case<'static>; 14] = [
         a_p: &[0, 2, 3, 4, 5, 6, 7, 8, 9, 10, 11, 12, 13, 14, 14],
         a_i: &[1, 13, 2, 3, 4, 5, 6, 7, 8, 9, 10, 11, 12, 13],
         jumbled: false,
-        p: &[0, 1, 2, 3, 4, 5, 6, 7, 8, 9, 10, 11, 12, 13],
-        figures: [14, 0, 28, 0],
+        p: &[13, 12, 11, 10, 9, 8, 7, 6, 5, 4, 3, 0, 1, 2],
+        figures: [14, 0, 28, 0, 25, 37, 49, 3],
+        symmetric: false,
+    },
+    Case {
+        what: "eight rows in which the order of kept elements shows",
+        n: 8,
+        a_p: &[0, 2, 4, 7, 9, 10, 12, 12, 12],
+        a_i: &[2, 6, 3, 6, 3, 4, 7, 4, 6, 7, 6, 7],
+        jumbled: false,
+        p: &[0, 1, 5, 6, 2, 4, 7, 3],
+        figures: [12, 0, 24, 0, 15, 25, 35, 4],
+        symmetric: false,
+    },
+    Case {
+        what: "six rows in which the order of kept variables shows",
+        n: 6,
+        a_p: &[0, 1, 4, 4, 5, 6, 6],
+        a_i: &[1, 2, 3, 5, 4, 5],
+        jumbled: false,
+        p: &[2, 0, 1, 4, 5, 3],
+        figures: [6, 0, 12, 0, 7, 9, 11, 3],
+        symmetric: false,
+    },
+    Case {
+        what: "five rows whose starting lists do not rise",
+        n: 5,
+        a_p: &[0, 1, 2, 3, 3, 6],
+        a_i: &[4, 3, 3, 1, 2, 3],
+        jumbled: false,
+        p: &[0, 2, 1, 4, 3],
+        figures: [6, 0, 12, 0, 6, 8, 10, 3],
+        symmetric: false,
+    },
+    Case {
+        what: "eight rows in which the rows left bound a degree",
+        n: 8,
+        a_p: &[0, 3, 7, 9, 10, 12, 13, 14, 14],
+        a_i: &[2, 5, 6, 2, 3, 4, 5, 3, 4, 7, 6, 7, 7, 7],
+        jumbled: false,
+        p: &[3, 5, 6, 0, 1, 2, 4, 7],
+        figures: [14, 0, 28, 0, 19, 38, 57, 5],
         symmetric: false,
     },
 ];
@@ -196,7 +253,7 @@ static SMALL_MATRICES: [Case<'static>; 14] = [
 #[test]
 fn small_matrices(rt: HostRuntime) {
     for case in &SMALL_MATRICES {
-        check(&rt, rt.alloc(), 10000, case);
+        check(&rt, rt.alloc(), &Control::default(), case);
     }
 }
 
@@ -219,38 +276,96 @@ fn matrices_without_rows(rt: HostRuntime) {
 }
 
 #[test]
-fn one_dense_row(rt: HostRuntime) -> Result<(), Fail> {
-    let centre_last = [1, 2, 3, 4, 5, 6, 7, 8, 9, 10, 11, 12, 13, 14, 15, 16, 17, 0];
+fn a_star(rt: HostRuntime) -> Result<(), Fail> {
     let heap = rt.alloc();
     let (star_p, star_i) = star(heap, 18)?;
-    // In a star with 18 rows the centre is dense exactly where the threshold is 16.
-    for (dense, n_dense) in [
-        (10000, 0),
-        (4007, 0),
-        (i32::MAX, 0),
-        (4006, 1),
-        (0, 1),
-        (-1, 1),
-        (i32::MIN, 1),
-    ] {
-        let case = Case {
-            what: "a star with eighteen rows",
-            n: 18,
-            a_p: &star_p,
-            a_i: &star_i,
-            jumbled: false,
-            p: &centre_last,
-            figures: [17, 0, 34, n_dense],
-            symmetric: false,
-        };
-        check(&rt, heap, dense, &case);
+    let case = Case {
+        what: "a star with eighteen rows",
+        n: 18,
+        a_p: &star_p,
+        a_i: &star_i,
+        jumbled: false,
+        p: &[17, 16, 15, 14, 13, 12, 11, 10, 9, 8, 7, 6, 5, 4, 3, 2, 1, 0],
+        figures: [17, 0, 34, 0, 17, 17, 17, 2],
+        symmetric: false,
+    };
+    // The centre is dense exactly where the threshold is 16; these parameters make it 17 or more.
+    for dense in [10000, 4007, i32::MAX] {
+        check(&rt, heap, &with_dense(dense), &case);
     }
     Ok(())
 }
 
 #[test]
+fn a_star_with_a_dense_centre(rt: HostRuntime) -> Result<(), Fail> {
+    let heap = rt.alloc();
+    let (star_p, star_i) = star(heap, 18)?;
+    let case = Case {
+        what: "a star with eighteen rows and a dense centre",
+        n: 18,
+        a_p: &star_p,
+        a_i: &star_i,
+        jumbled: false,
+        p: &[1, 2, 3, 4, 5, 6, 7, 8, 9, 10, 11, 12, 13, 14, 15, 16, 17, 0],
+        figures: [17, 0, 34, 1, 17, 17, 17, 2],
+        symmetric: false,
+    };
+    for dense in [4006, 0, -1, i32::MIN] {
+        check(&rt, heap, &with_dense(dense), &case);
+    }
+    Ok(())
+}
+
+#[test]
+fn without_aggressive_absorption(rt: HostRuntime) -> Result<(), Fail> {
+    let control = Control {
+        dense: 10000,
+        aggressive: false,
+    };
+    let heap = rt.alloc();
+    let (star_p, star_i) = star(heap, 18)?;
+    let centre_is_root = Case {
+        what: "a star with eighteen rows, not aggressive",
+        n: 18,
+        a_p: &star_p,
+        a_i: &star_i,
+        jumbled: false,
+        p: &[2, 3, 4, 5, 6, 7, 8, 9, 10, 11, 12, 13, 14, 15, 16, 17, 1, 0],
+        figures: [17, 0, 34, 0, 17, 17, 17, 2],
+        symmetric: false,
+    };
+    check(&rt, heap, &control, &centre_is_root);
+    let merged = Case {
+        what: "six rows in which the place of a merged class shows, not aggressive",
+        n: 6,
+        a_p: &[0, 4, 7, 9, 10, 11, 11],
+        a_i: &[2, 3, 4, 5, 2, 4, 5, 3, 4, 4, 5],
+        jumbled: false,
+        p: &[5, 0, 1, 2, 3, 4],
+        figures: [11, 0, 22, 0, 13, 26, 39, 5],
+        symmetric: false,
+    };
+    check(&rt, heap, &control, &merged);
+    Ok(())
+}
+
+#[test]
+fn a_dense_row_beside_others(rt: HostRuntime) {
+    let case = Case {
+        what: "twenty rows, of which one is dense and one stands apart",
+        n: 20,
+        a_p: &[0, 17, 17, 17, 17, 17, 17, 17, 17, 17, 17, 17, 17, 17, 17, 17, 17, 17, 17, 18, 18],
+        a_i: &[1, 2, 3, 4, 5, 6, 7, 8, 9, 10, 11, 12, 13, 14, 15, 16, 17, 19],
+        jumbled: false,
+        p: &[1, 2, 3, 4, 5, 6, 7, 8, 9, 10, 11, 12, 13, 14, 15, 16, 17, 18, 19, 0],
+        figures: [18, 0, 36, 1, 20, 21, 22, 3],
+        symmetric: false,
+    };
+    check(&rt, rt.alloc(), &with_dense(0), &case);
+}
+
+#[test]
 fn all_rows_dense(rt: HostRuntime) -> Result<(), Fail> {
-    let rising = [0, 1, 2, 3, 4, 5, 6, 7, 8, 9, 10, 11, 12, 13, 14, 15, 16, 17];
     let heap = rt.alloc();
     let (full_p, full_i) = complete(heap, 18)?;
     let full = Case {
@@ -259,11 +374,11 @@ fn all_rows_dense(rt: HostRuntime) -> Result<(), Fail> {
         a_p: &full_p,
         a_i: &full_i,
         jumbled: false,
-        p: &rising,
-        figures: [306, 0, 306, 18],
+        p: &[0, 1, 2, 3, 4, 5, 6, 7, 8, 9, 10, 11, 12, 13, 14, 15, 16, 17],
+        figures: [306, 0, 306, 18, 153, 969, 1785, 18],
         symmetric: true,
     };
-    check(&rt, heap, -1, &full);
+    check(&rt, heap, &with_dense(-1), &full);
     let one = Case {
         what: "one row without entries",
         n: 1,
@@ -271,40 +386,38 @@ fn all_rows_dense(rt: HostRuntime) -> Result<(), Fail> {
         a_i: &[],
         jumbled: false,
         p: &[0],
-        figures: [0, 0, 0, 0],
+        figures: [0, 0, 0, 0, 0, 0, 0, 1],
         symmetric: true,
     };
-    check(&rt, heap, -1, &one);
-    check(&rt, heap, i32::MIN, &one);
-    check(&rt, heap, i32::MAX, &one);
+    for dense in [-1, i32::MIN, i32::MAX] {
+        check(&rt, heap, &with_dense(dense), &one);
+    }
     Ok(())
 }
 
 #[test]
 fn can_24_and_its_jumbled_form(rt: HostRuntime) {
-    let by_degree = [
-        8, 16, 22, 23, 1, 2, 3, 4, 5, 10, 11, 12, 13, 14, 15, 20, 0, 6, 7, 9, 17, 18, 19, 21,
-    ];
+    let p = [22, 20, 10, 23, 12, 5, 16, 8, 14, 4, 15, 7, 1, 9, 13, 17, 0, 2, 3, 6, 11, 18, 21, 19];
     let sorted = Case {
         what: "the Harwell/Boeing matrix can_24",
         n: 24,
         a_p: &can_24::POINTERS,
         a_i: &can_24::ROWS,
         jumbled: false,
-        p: &by_degree,
-        figures: [160, 24, 136, 0],
+        p: &p,
+        figures: [160, 24, 136, 0, 97, 275, 453, 8],
         symmetric: true,
     };
-    check(&rt, rt.alloc(), 10000, &sorted);
+    check(&rt, rt.alloc(), &Control::default(), &sorted);
     let jumbled = Case {
         what: "can_24 with jumbled columns, repeats and entries left out",
         n: 24,
         a_p: &can_24::JUMBLED_POINTERS,
         a_i: &can_24::JUMBLED_ROWS,
         jumbled: true,
-        p: &by_degree,
-        figures: [102, 17, 136, 0],
+        p: &p,
+        figures: [102, 17, 136, 0, 97, 275, 453, 8],
         symmetric: false,
     };
-    check(&rt, rt.alloc(), 10000, &jumbled);
+    check(&rt, rt.alloc(), &Control::default(), &jumbled);
 }

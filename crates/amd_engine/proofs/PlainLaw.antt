@@ -1,0 +1,234 @@
+-- The parts of the plain engine make its answer: what the calls ask, and that what they give is the listing of a run of the rules.
+use Rattle.std.proofs.Common.{ℕ, ℤ, pos, Bool, true, List, [], ◌∷◌, Vec, All, ◌≡◌, ◌≤◌, ◌<◌, ◌∙◌, ◌&&◌, not, ap, sym, refl, subst, inl, inr, arith, length, map, get_or}
+use Rattle.std.specs.Prelude.{sum_by, ◌==◌}
+use Rattle.std.proofs.lemmas.Bool.{true≢false, cases_Bool, cases_eq, or_cases, eqb-true, ne_eqb}
+use Rattle.std.proofs.lemmas.List.{get_or-map}
+use Rattle.std.proofs.lemmas.List.Elements.{All-from_get_or}
+use Rattle.std.proofs.lemmas.List.Sums.{sum_by-cons}
+use Rattle.amd_model.specs.Graph.{Graph, IsGraph, degree}
+use Rattle.amd_model.specs.State.{State, in_class}
+use Rattle.amd_model.specs.Run.{Run, last_state}
+use Rattle.amd_model.specs.Listing.{ListsEachRow}
+use Rattle.amd_model.specs.Tie.{Tie, has, is_empty, starting_list, start_tie}
+use Rattle.amd_model.specs.TieLaws.{NamesNeighbours}
+use Rattle.amd_model.specs.Input.Dense.{IsThreshold, is_dense}
+use Rattle.amd_model.specs.Input.Pattern.{graph_of, is_pair}
+use Rattle.amd_model.specs.Ordering.{Follows, IsListingOf}
+use Rattle.amd_model.proofs.BelowLemmas.{count_most, count_mono, count_pos}
+use Rattle.amd_model.proofs.Counts.{count_without}
+use Rattle.amd_model.proofs.DegreeSums.{pattern_graph}
+use Rattle.amd_model.proofs.Orderings.{follows_run, orderings_promise}
+use Rattle.amd_model.proofs.RunsExist.{first_state, starts}
+use Rattle.amd_model.proofs.Sound.{live_small}
+use Rattle.amd_model.proofs.StartingLists.{starting_lists}
+use Rattle.amd_model.proofs.StateLemmas.{class_gives, class_from, edge_small}
+use Rattle.amd_model.proofs.TieLists.{clash, some_of}
+use Rattle.amd_engine.specs.Views.{list_at, Below, ListsBelow}
+use Rattle.amd_engine.specs.Visits.{AreCounts}
+use Rattle.amd_engine.specs.Keeps.{Stands, AreRounds}
+use Rattle.amd_engine.specs.Starts.{StandsAtStart, ListsRun}
+use Rattle.amd_engine.specs.Permutations.{AreInverse}
+use Rattle.amd_engine.specs.Plain.{IsEngineAnswer, with_figures}
+use Rattle.amd_engine.specs.declared.amd.Info.{Info}
+use Rattle.amd_engine.specs.declared.work.Work.{Work}
+use Rattle.amd_engine.proofs.KeptParts.{below_from}
+
+-- ---- lists
+
+-- what holds of each list holds of the vectors
+each_list : {X : Type 0} (P : List ℕ → Type 0) (items : X → List ℕ) (xs : List X) → ((i : ℕ) → i < length xs → P (get_or (map items xs) i [])) → All (λ v. P (items v)) xs
+each_list P items xs h = λ k d l. subst P (get_or-map items xs k d [] l) (h k l)
+
+none_named : (xs : List ℕ) → is_empty xs ≡ true → xs ≡ []
+unfolding is_empty
+none_named [] e = refl
+none_named (x ∷ xs) e = absurd (true≢false (sym e))
+
+-- what a list names is counted in its sum
+part_of_sum : (f : ℕ → ℕ) (xs : List ℕ) (x : ℕ) → has xs x ≡ true → f x ≤ sum_by f xs
+unfolding has
+part_of_sum f [] x h = absurd (true≢false (sym h))
+part_of_sum f (y ∷ ys) x h = let a = sum_by-cons f y ys in elim (or_cases (y == x) (has ys x) h) [
+  | inl q ↦ (let e = ap f (eqb-true y x q) in omega (arith, a, e))
+  | inr q ↦ (let b = part_of_sum f ys x q in omega (arith, a, b))
+]
+
+-- ---- the start
+
+module _ (g : Graph) (laws : IsGraph g) where
+  -- a row has no edge to itself
+  degree_small : (i : ℕ) → i < g.size → degree g i < g.size
+  unfolding degree
+  degree_small i l =
+      let others : ℕ → Bool = λ k. true && not (k == i) in
+      let a = count_without g.size (λ k. true) i l refl in
+      let b = count_most g.size (λ k. true) in
+      let d = count_mono g.size (g.edge i) others (λ k m e. elim (cases_eq k i) [
+        | inl q ↦ clash (sym (ap (g.edge i) q) ∙ e) (laws.no_loop i)
+        | inr n ↦ ap not (ne_eqb k i n)
+      ]) in
+      omega (arith, a, b, d)
+
+  degrees_below : (len : List ℕ) → AreCounts g g.edge len → Below (length len) len
+  unfolding degree
+  degrees_below len counts = All-from_get_or (λ j. j < length len) len 0 (λ i h.
+      let size = counts.size in
+      let l : i < g.size = omega (arith, size, h) in
+      let a : get_or len i 0 ≡ degree g i = counts.each i l in
+      let b : degree g i < g.size = degree_small i l in
+      omega (arith, a, b, size))
+
+  lists_below : {A : Type 0} (len : List ℕ) (rows : List (Vec ℕ A)) (lists : ℕ → List ℕ) → AreCounts g g.edge len → length rows ≡ length len →
+      ((i : ℕ) → i < g.size → list_at rows i ≡ lists i) → ((i : ℕ) → NamesNeighbours g i (lists i)) → ListsBelow (length len) rows
+  lists_below len rows lists counts room listed names = let size = counts.size in (
+    room,
+    each_list (Below (length len)) (λ v. v.items) rows (λ i h. subst (Below (length len)) (sym (listed i (omega (arith, size, room, h))))
+        (below_from (length len) (lists i) (λ j m. let e = edge_small g laws i j (sym ((names i).named j) ∙ m) in let l = e.1 in omega (arith, size, l)))),
+  )
+
+-- ---- the end
+
+-- the figures of a record
+abbrev pub told_by : {A : Type 0} → Work A → Info → Info
+told_by w old = record old {
+  n_dense = w.n_dense;
+  n_cmp_a = 0;
+  lnz = w.figures.lnz;
+  n_div = w.figures.lnz;
+  n_mult_subs_ldl = w.figures.n_mult_subs_ldl;
+  n_mult_subs_lu = w.figures.n_mult_subs_lu;
+  d_max = w.figures.d_max;
+}
+
+module _ {A : Type 0} (g : Graph) (dense : ℕ → Bool) (w : Work A) (t : Tie) (s : State) (st : Stands g dense w t s) where
+  class_rows : (i : ℕ) → has t.placed i ≡ true → 0 < t.size i
+  class_rows i h = let home = class_gives i (s.home i) (sym (st.fits.placed i) ∙ h) in let l = live_small g st.graph s st.sound i i home in
+      let k = count_pos g.size (in_class s i) i l (class_from i (s.home i) home) in let e = st.fits.size i home in omega (arith, k, e)
+
+  -- with no row live no class is left
+  none_left : w.live ≡ 0 → t.placed ≡ []
+  none_left z = elim (cases_Bool (is_empty t.placed)) [
+    | inl y ↦ none_named t.placed y
+    | inr n ↦ (let c = some_of t.placed n in let a = class_rows c.0 c.1 in let b = part_of_sum t.size t.placed c.0 c.1 in let l = st.keeps.live in absurd (omega (arith, z, a, b, l)))
+  ]
+
+  figures_told : (old : Info) → told_by w old ≡ with_figures g dense s old
+  figures_told old = let k = st.fronts in rw (k.dense_rows, k.lnz, k.ldl, k.lu, k.greatest) refl
+
+-- from a start whose rounds came to an end
+module _ {A : Type 0} (g : Graph) (laws : IsGraph g) (threshold : ℕ) (aggressive : Bool) (lists : ℕ → List ℕ) (names : (i : ℕ) → NamesNeighbours g i (lists i))
+    (rows : List (Vec ℕ A)) (len : List ℕ) (counts : AreCounts g g.edge len) (listed : (i : ℕ) → i < g.size → list_at rows i ≡ lists i)
+    (old : Work A) (begun : StandsAtStart rows len threshold old) where
+  abbrev dense : ℕ → Bool
+  dense = is_dense g threshold
+
+  abbrev first : State
+  first = first_state g (is_dense g threshold)
+
+  abbrev tie : Tie
+  tie = start_tie g (is_dense g threshold) lists
+
+  started : Stands g dense old tie first
+  unfolding degree
+  started = begun g lists first laws (sym counts.size) counts.each listed (λ i h. names i) (starts g dense)
+
+  module _ (w : Work A) (rounds : AreRounds aggressive old w) (over : w.live ≡ 0) where
+    abbrev Reached : Type 0
+    Reached = (u : Tie) × ((states : List State) × Follows g aggressive tie first states u × Stands g dense w u (last_state first states))
+
+    reached : Reached
+    reached = rounds g dense tie first started
+
+    abbrev states : List State
+    states = (rounds g dense tie first started).1.0
+
+    abbrev end : Tie
+    end = (rounds g dense tie first started).0
+
+    at_end : Stands g dense w end (last_state first states)
+    at_end = (rounds g dense tie first started).1.2
+
+    run : Run g dense aggressive first states
+    run = follows_run g dense aggressive tie end first states laws (starts g dense) started.fits (rounds g dense tie first started).1.1 (none_left g dense w end (last_state first states) at_end over)
+
+    ended : (g : Graph) × (dense : ℕ → Bool) × (aggressive : Bool) × (first : State) × (states : List State) × (t : Tie) × IsGraph g × Run g dense aggressive first states × Stands g dense w t (last_state first states)
+    ended = (g, dense, aggressive, first, states, end, laws, run, at_end)
+
+    module _ (order : List ℕ) (lists_run : ListsRun w order) where
+      each_row : ListsEachRow g.size order
+      each_row = (orderings_promise g dense aggressive first states order laws run (lists_run g dense aggressive first states end run at_end)).each_row
+
+      is_listing : IsListingOf g dense aggressive lists first states order
+      is_listing = record {
+        run = run;
+        starts = started.fits;
+        end = end;
+        follows = (rounds g dense tie first started).1.1;
+        listing = lists_run g dense aggressive first states end run at_end;
+      }
+
+      told : (old_info : Info) → told_by w old_info ≡ with_figures g dense (last_state first states) old_info
+      told old_info = figures_told g dense w end (last_state first states) at_end old_info
+
+-- ---- the engine
+
+-- the lists of a matrix whose rows have the degrees given
+module _ {A : Type 0} (ap' ai : List ℤ) (len : List ℕ) (counts : AreCounts (graph_of (length len) ap' ai) ((graph_of (length len) ap' ai).edge) len)
+    (rows : List (Vec ℕ A)) (room : length rows ≡ length len) (listed : (i : ℕ) → i < length len → list_at rows i ≡ starting_list (length len) (is_pair (length len) ap' ai) i) where
+  abbrev lists : ℕ → List ℕ
+  lists = starting_list (length len) (is_pair (length len) ap' ai)
+
+  is_graph : IsGraph (graph_of (length len) ap' ai)
+  is_graph = pattern_graph (length len) ap' ai
+
+  names : (i : ℕ) → NamesNeighbours (graph_of (length len) ap' ai) i (lists i)
+  names = starting_lists (length len) ap' ai
+
+  listed_all : (i : ℕ) → i < (graph_of (length len) ap' ai).size → list_at rows i ≡ lists i
+  unfolding graph_of
+  listed_all = listed
+
+  -- what the start asks of the degrees and the lists
+  pub degrees_range : Below (length len) len
+  degrees_range = degrees_below (graph_of (length len) ap' ai) is_graph len counts
+
+  pub rows_range : ListsBelow (length len) rows
+  rows_range = lists_below (graph_of (length len) ap' ai) is_graph len rows lists counts room listed_all names
+
+  module _ (threshold : ℕ) (old : Work A) (begun : StandsAtStart rows len threshold old) where
+    -- what the rounds ask of the record
+    pub stands_first : (g : Graph) × (dense : ℕ → Bool) × (t : Tie) × (s : State) × Stands g dense old t s
+    stands_first = let g : Graph = graph_of (length len) ap' ai in
+        (g, is_dense g threshold, start_tie g (is_dense g threshold) lists, first_state g (is_dense g threshold), started g is_graph threshold true lists names rows len counts listed_all old begun)
+
+    module _ (aggressive : Bool) (w : Work A) (rounds : AreRounds aggressive old w) (over : w.live ≡ 0) where
+      -- what the listing asks of it
+      pub stands_last : (g : Graph) × (dense : ℕ → Bool) × (aggressive : Bool) × (first : State) × (states : List State) × (t : Tie) × IsGraph g × Run g dense aggressive first states × Stands g dense w t (last_state first states)
+      stands_last = ended (graph_of (length len) ap' ai) is_graph threshold aggressive lists names rows len counts listed_all old begun w rounds over
+
+      module _ (order : List ℕ) (lists_run : ListsRun w order) where
+        order_rows : ListsEachRow (graph_of (length len) ap' ai).size order
+        order_rows = each_row (graph_of (length len) ap' ai) is_graph threshold aggressive lists names rows len counts listed_all old begun w rounds over order lists_run
+
+        -- the listing has each row
+        pub order_length : length order ≡ length len
+        unfolding graph_of
+        order_length = order_rows.places
+
+        pub order_each : ListsEachRow (length order) order
+        order_each = subst (λ k. ListsEachRow k order) (sym order_rows.places) order_rows
+
+        -- the answer
+        pub answer : (t : ℤ) → IsThreshold (length len) t threshold → (p q : List ℤ) → p ≡ map pos order → AreInverse (length order) p q →
+            (before after : Info) → after ≡ told_by w before → IsEngineAnswer (length len) t aggressive ap' ai p q before after
+        answer t is_threshold p q is inverse before after figures = record {
+          inverse = subst (λ k. AreInverse k p q) order_length inverse;
+          threshold = threshold;
+          is_threshold = is_threshold;
+          rows = order;
+          listed = is;
+          first = first_state (graph_of (length len) ap' ai) (is_dense (graph_of (length len) ap' ai) threshold);
+          states = states (graph_of (length len) ap' ai) is_graph threshold aggressive lists names rows len counts listed_all old begun w rounds over;
+          listing = is_listing (graph_of (length len) ap' ai) is_graph threshold aggressive lists names rows len counts listed_all old begun w rounds over order lists_run;
+          told = figures ∙ told (graph_of (length len) ap' ai) is_graph threshold aggressive lists names rows len counts listed_all old begun w rounds over order lists_run before;
+        }

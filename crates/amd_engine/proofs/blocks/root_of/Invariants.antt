@@ -1,0 +1,14 @@
+use Rattle.std.proofs.Common.{ℕ, suc, ◌≡◌, ◌<◌, length}
+use Rattle.amd_model.specs.State.{Home}
+use Rattle.amd_engine.specs.Keeps.{LinksLead}
+use Rattle.amd_engine.proofs.RowLinks.{steps}
+use Rattle.amd_engine.proofs.blocks.root_of.Given as goal
+
+abbrev pub invariant-links : goal.invariant-links
+invariant-links g l = record {
+  within : l.row < length l.link.items;
+  home : (home : ℕ → Home) → LinksLead l.link.items home → home l.v ≡ home l.row;
+}
+
+abbrev pub decreases-links : goal.decreases-links
+decreases-links g l = steps l.link.items (suc (length l.link.items)) l.row
