@@ -1,14 +1,2 @@
-pub mod Classes
 pub mod SamePairs
 pub mod Orderings
-pub mod Counting
-pub mod Symmetry
-pub mod PatternLemmas
-pub mod NamedPairs
-pub mod RowMarks
-pub mod ColumnCounts
-pub mod PrefixSums
-pub mod ColumnLists
-pub mod RowForms
-pub mod Written
-pub mod Padding

@@ -18,12 +18,12 @@ use Rattle.amd_model.specs.Listing.{ListsEachRow, IsPostorder}
 use Rattle.amd_model.proofs.DegreeSums.{degrees_twice, pattern_graph}
 use Rattle.amd_model.proofs.BelowLemmas.{count_same, sum_same}
 use Rattle.amd_engine.specs.Plain.{IsEngineAnswer, with_figures}
-use Rattle.amd_engine.specs.declared.amd.Info.{Info}
-use Rattle.amd_engine.specs.declared.amd.Status.{Status}
+use Rattle.amd_numbers.specs.declared.amd.Info.{Info}
+use Rattle.amd_numbers.specs.declared.amd.Status.{Status}
 use Rattle.amd.specs.Answers.{OrdersMatrix, TellsFigures, Reserves, DenseStandLast, IsOrdering, HaveEqualFigures, ordered_pairs}
-use Rattle.amd.specs.Transposes.{IsCleanTranspose}
-use Rattle.amd.specs.PatternFigures.{HasPatternFigures}
-use Rattle.amd.specs.Degrees.{AreDegrees}
+use Rattle.amd_input.specs.Transposes.{IsCleanTranspose}
+use Rattle.amd_input.specs.PatternFigures.{HasPatternFigures}
+use Rattle.amd_input.specs.Degrees.{AreDegrees}
 use Rattle.amd.proofs.SamePairs.{figures_turned, graph_turned, graph_same, pairs_same, pairs_turned}
 
 -- functions of two numbers that agree everywhere are one

@@ -7,8 +7,8 @@ use Rattle.amd_model.specs.Graph.{edge_count}
 use Rattle.amd_model.specs.Input.Pattern.{holds_row, is_pair, graph_of, pair_count, diagonal_count, SamePattern, IsTranspose}
 use Rattle.amd_model.proofs.BelowLemmas.{sum_same, count_same}
 use Rattle.amd_model.proofs.Pigeonhole.{sum_swap}
-use Rattle.amd_engine.specs.declared.amd.Info.{Info}
-use Rattle.amd.specs.PatternFigures.{HasPatternFigures}
+use Rattle.amd_numbers.specs.declared.amd.Info.{Info}
+use Rattle.amd_input.specs.PatternFigures.{HasPatternFigures}
 
 -- a pair names a row and a column below n
 outside : (n : ℕ) (a_p a_i : List ℤ) (i j : ℕ) → (n ≤ i) ⊎ (n ≤ j) → is_pair n a_p a_i i j ≡ false

@@ -11,13 +11,13 @@ use Rattle.amd_model.specs.Ordering.{IsListingOf, Promises}
 use Rattle.amd_model.specs.Tie.{starting_list}
 use Rattle.amd_model.specs.Input.Pattern.{graph_of, is_pair}
 use Rattle.amd_model.specs.Input.Dense.{IsThreshold, is_dense}
-use Rattle.amd_engine.specs.Statuses.{IsStatusOf}
-use Rattle.amd_engine.specs.Permutations.{AreInverse}
-use Rattle.amd_engine.specs.Records.{fresh_info}
-use Rattle.amd_engine.specs.declared.amd.Info.{Info}
-use Rattle.amd_engine.specs.declared.amd.Status.{Status}
-use Rattle.amd_engine.specs.declared.amd.Status.TheVariants.{OK, Invalid, OkButJumbled, OutOfMemory}
-use Rattle.amd.specs.PatternFigures.{HasPatternFigures}
+use Rattle.amd_numbers.specs.Statuses.{IsStatusOf}
+use Rattle.amd_numbers.specs.Permutations.{AreInverse}
+use Rattle.amd_numbers.specs.Records.{fresh_info}
+use Rattle.amd_numbers.specs.declared.amd.Info.{Info}
+use Rattle.amd_numbers.specs.declared.amd.Status.{Status}
+use Rattle.amd_numbers.specs.declared.amd.Status.TheVariants.{OK, Invalid, OkButJumbled, OutOfMemory}
+use Rattle.amd_input.specs.PatternFigures.{HasPatternFigures}
 
 -- n_dense is the number of dense rows, and exactly these stand last in p, rising
 pub record DenseStandLast (g : Graph) (threshold : ℕ) (p : List ℤ) (n_dense : ℕ) : Type 0 where

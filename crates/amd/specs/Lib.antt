@@ -1,7 +1,2 @@
--- What the calls promise. The definitions that they cite stand in the crate amd_model.
-pub mod Scans
-pub mod PatternFigures
-pub mod Transposes
-pub mod Degrees
+-- What an ordering promises. The definitions that it cites stand in the crates below.
 pub mod Answers
-pub mod Texts

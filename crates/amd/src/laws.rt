@@ -1,7 +1,7 @@
 // Laws on the contract of `order`, each the contract of a function with an empty body. Called by: nobody.
 
 ghost use Rattle.std.specs.Prelude.{ℤ, Bool, List, unsigned_abs};
-ghost use Rattle.amd_engine.specs.declared.amd.Info.{Info};
+ghost use Rattle.amd_numbers.specs.declared.amd.Info.{Info};
 ghost use Rattle.amd_model.specs.Input.Pattern.{SamePattern};
 ghost use Rattle.amd.specs.Answers.{IsOrdering, HaveEqualFigures};
 

@@ -4,12 +4,7 @@
 //! [`control`] and [`info`] write what a caller chooses and what the ordering tells, as text.
 #![tactic(auto)]
 
-pub mod aat;
-mod control_text;
-mod info_text;
 pub mod laws;
-pub mod preprocess;
-pub mod valid;
 
 ghost use Rattle.std.specs.Prelude.{◌≡◌, ◌+◌, ◌/◌, ◌^◌, ◌<◌, map, unsigned_abs, MatchResult, IfOk, IfErr};
 ghost use Rattle.std.specs.Option.{SomeIff};
@@ -17,14 +12,14 @@ ghost use Rattle.amd_model.specs.Input.Columns.{IsInput, IsSortedInput};
 ghost use Rattle.amd_model.specs.Input.Pattern.{is_pair};
 ghost use Rattle.amd.specs.Answers.{IsOrdering, IsRefusal, OrdersMatrix};
 
-use crate::aat::aat;
-pub use crate::control_text::control;
-pub use crate::info_text::info;
-use crate::preprocess::preprocess;
-use crate::valid::valid;
-pub use amd_engine::amd::{Control, Info, Status};
-use amd_engine::internal::{known_count, to_count};
 use amd_engine::plain::plain_1;
+use amd_input::aat::aat;
+use amd_input::preprocess::preprocess;
+use amd_input::valid::valid;
+pub use amd_input::{aat, preprocess, valid};
+pub use amd_numbers::amd::{Control, Info, Status};
+use amd_numbers::internal::{known_count, to_count};
+pub use amd_texts::{control, info};
 use num_traits::PrimInt;
 use std::alloc::Allocator;
 

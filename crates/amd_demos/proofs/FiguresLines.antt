@@ -2,9 +2,9 @@
 use Rattle.std.proofs.Common.{◌≡◌, subst}
 use Rattle.std.specs.Prelude.{ℕ, ℤ, Option, List}
 use Rattle.std.specs.Io.KnownBytes.{Appends}
-use Rattle.amd_engine.specs.Statuses.{IsStatusOf}
-use Rattle.amd_engine.specs.declared.amd.Info.{Info}
-use Rattle.amd_engine.specs.declared.amd.Status.TheVariants.{OK}
+use Rattle.amd_numbers.specs.Statuses.{IsStatusOf}
+use Rattle.amd_numbers.specs.declared.amd.Info.{Info}
+use Rattle.amd_numbers.specs.declared.amd.Status.TheVariants.{OK}
 use Rattle.amd.specs.Answers.{IsOrdering}
 use Rattle.amd_demos.specs.Lines.{figures_line, HasFiguresLine}
 

@@ -2,11 +2,11 @@
 use Rattle.std.specs.Prelude.{◌≡◌, ◌≢◌, ◌++◌, ℕ, ℤ, pos, Option, List, codes, unsigned_abs, if◌then◌else◌}
 use Rattle.std.specs.Fmt.{decimal}
 use Rattle.std.specs.Io.KnownBytes.{Appends}
-use Rattle.amd_engine.specs.Statuses.{IsStatusOf}
-use Rattle.amd_engine.specs.Records.{fresh_info}
-use Rattle.amd_engine.specs.declared.amd.Info.{Info}
-use Rattle.amd_engine.specs.declared.amd.Status.TheVariants.{OK}
-use Rattle.amd.specs.PatternFigures.{HasPatternFigures}
+use Rattle.amd_numbers.specs.Statuses.{IsStatusOf}
+use Rattle.amd_numbers.specs.Records.{fresh_info}
+use Rattle.amd_numbers.specs.declared.amd.Info.{Info}
+use Rattle.amd_numbers.specs.declared.amd.Status.TheVariants.{OK}
+use Rattle.amd_input.specs.PatternFigures.{HasPatternFigures}
 
 -- the figures of a pattern in one line
 abbrev pub figures_line : Info → List ℕ

@@ -11,10 +11,11 @@ use Rattle.amd_model.specs.Input.Columns.{at}
 use Rattle.amd_model.specs.Tie.{Tie}
 use Rattle.amd_model.proofs.BelowLemmas.{count_pos}
 use Rattle.amd_model.proofs.EndState.{IsEnd}
-use Rattle.amd_engine.specs.Keeps.{Stands}
-use Rattle.amd_engine.specs.declared.work.Work.{Work}
-use Rattle.amd_engine.specs.Views.{num, some_at}
-use Rattle.amd_engine.specs.Trees.{IsForest, is_element, named, tree_of, link_of}
+use Rattle.amd_rounds.specs.Keeps.{Stands}
+use Rattle.amd_rounds.specs.declared.work.Work.{Work}
+use Rattle.amd_rounds.specs.Views.{num, some_at}
+use Rattle.amd_numbers.specs.Links.{named}
+use Rattle.amd_trees.specs.Trees.{IsForest, is_element, tree_of, link_of}
 use Rattle.amd_engine.proofs.BlockLists.{AreAlike}
 use Rattle.amd_engine.proofs.RowLinks.{cases_link}
 

@@ -9,8 +9,8 @@ use Rattle.amd_model.specs.Tie.{has}
 use Rattle.amd_model.proofs.Places.{has_place}
 use Rattle.amd_model.specs.Listing.{Tree, is_some_of, is_child, heaviest, heaviest_last, children, roots, ListsTrees, none, more, assembly_tree, block_list, IsPostorder}
 use Rattle.amd_model.proofs.ListingLemmas.{has_head, has_tail, has_cases, has_below}
-use Rattle.amd_engine.proofs.ForestListings.{IsRanked, child_node, roots_siblings, listed_from}
-use Rattle.amd_engine.specs.Trees.{IsPostorderOf}
+use Rattle.amd_trees.proofs.ForestListings.{IsRanked, child_node, roots_siblings, listed_from}
+use Rattle.amd_trees.specs.Trees.{IsPostorderOf}
 
 -- tests that agree below n pick the same numbers
 pub list_same : (n : ℕ) (p q : ℕ → Bool) → ((k : ℕ) → k < n → p k ≡ q k) → list_below n p ≡ list_below n q

@@ -8,10 +8,11 @@ use Rattle.amd_model.specs.Input.Columns.{at}
 use Rattle.amd_model.specs.Listing.{Tree}
 use Rattle.amd_model.proofs.Places.{place_of}
 use Rattle.amd_model.proofs.Points.{pigeonhole}
-use Rattle.amd_engine.specs.Views.{some_at}
-use Rattle.amd_engine.specs.Trees.{IsByPlace, IsPostorderOf, named}
-use Rattle.amd_engine.proofs.Links.{names_some}
-use Rattle.amd_engine.proofs.Places.{false_if, same_tests}
+use Rattle.amd_rounds.specs.Views.{some_at}
+use Rattle.amd_numbers.specs.Links.{named}
+use Rattle.amd_trees.specs.Trees.{IsByPlace, IsPostorderOf}
+use Rattle.amd_trees.proofs.Links.{names_some}
+use Rattle.amd_edges.proofs.Places.{false_if, same_tests}
 
 module _ (n : ℕ) (listing : List ℕ) (places : List (Option ℕ)) (by : IsByPlace n listing places) where
   pub next_taken : (k e : ℕ) → some_at places k ≡ Some e → take (k + 1) listing ≡ take k listing ++ e ∷ []

@@ -11,15 +11,15 @@ use Rattle.amd_model.specs.State.{State, Gone, Last, block_at, live_at, in_block
 use Rattle.amd_model.specs.Tie.{Tie}
 use Rattle.amd_model.proofs.BelowLemmas.{count_most, count_pos}
 use Rattle.amd_model.proofs.EndState.{IsEnd}
-use Rattle.amd_engine.specs.Keeps.{Stands}
-use Rattle.amd_engine.specs.Trees.{IsForest, IsPostorderOf, link_of, tree_of}
-use Rattle.amd_engine.specs.Views.{num, some_at}
-use Rattle.amd_engine.specs.declared.work.Work.{Work}
+use Rattle.amd_rounds.specs.Keeps.{Stands}
+use Rattle.amd_trees.specs.Trees.{IsForest, IsPostorderOf, link_of, tree_of}
+use Rattle.amd_rounds.specs.Views.{num, some_at}
+use Rattle.amd_rounds.specs.declared.work.Work.{Work}
 use Rattle.amd_engine.proofs.BlockForest.{AreElements, forest, alike, stands_elements}
 use Rattle.amd_engine.proofs.BlockLists.{AreAlike, blocks_listed, listing_inside, list_same}
-use Rattle.amd_engine.proofs.ForestListings.{IsRanked}
+use Rattle.amd_trees.proofs.ForestListings.{IsRanked}
 use Rattle.amd_engine.proofs.RowLinks.{cases_link}
-use Rattle.amd_engine.proofs.TreeNumbers.{ranked}
+use Rattle.amd_trees.proofs.TreeNumbers.{ranked}
 
 -- what holds of an error that there is, holds of it if there is one
 pub if_err : {T E : Type 0} (r : Result T E) (Q : E → Type 0) → IsErrAnd r Q → IfErr r Q

@@ -23,15 +23,15 @@ use Rattle.amd_model.proofs.Sound.{live_small}
 use Rattle.amd_model.proofs.StartingLists.{starting_lists}
 use Rattle.amd_model.proofs.StateLemmas.{class_gives, class_from, edge_small}
 use Rattle.amd_model.proofs.TieLists.{clash, some_of}
-use Rattle.amd_engine.specs.Views.{list_at, Below, ListsBelow}
-use Rattle.amd_engine.specs.Visits.{AreCounts}
-use Rattle.amd_engine.specs.Keeps.{Stands, AreRounds}
-use Rattle.amd_engine.specs.Starts.{StandsAtStart, ListsRun}
-use Rattle.amd_engine.specs.Permutations.{AreInverse}
+use Rattle.amd_rounds.specs.Views.{list_at, Below, ListsBelow}
+use Rattle.amd_edges.specs.Visits.{AreCounts}
+use Rattle.amd_rounds.specs.Keeps.{Stands, AreRounds}
+use Rattle.amd_rounds.specs.Starts.{StandsAtStart, ListsRun}
+use Rattle.amd_numbers.specs.Permutations.{AreInverse}
 use Rattle.amd_engine.specs.Plain.{IsEngineAnswer, with_figures}
-use Rattle.amd_engine.specs.declared.amd.Info.{Info}
-use Rattle.amd_engine.specs.declared.work.Work.{Work}
-use Rattle.amd_engine.proofs.KeptParts.{below_from}
+use Rattle.amd_numbers.specs.declared.amd.Info.{Info}
+use Rattle.amd_rounds.specs.declared.work.Work.{Work}
+use Rattle.amd_rounds.proofs.KeptParts.{below_from}
 
 -- ---- lists
 

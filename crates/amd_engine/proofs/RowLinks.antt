@@ -9,8 +9,8 @@ use Rattle.amd_model.specs.State.{Home}
 use Rattle.amd_model.proofs.BelowLemmas.{count_mono}
 use Rattle.amd_model.proofs.Pigeonhole.{count_all}
 use Rattle.amd_model.proofs.Points.{count_drop}
-use Rattle.amd_engine.specs.Views.{some_at}
-use Rattle.amd_engine.specs.Keeps.{LinksEnd, LinksLead}
+use Rattle.amd_rounds.specs.Views.{some_at}
+use Rattle.amd_rounds.specs.Keeps.{LinksEnd, LinksLead}
 
 -- one more than f of what a link names
 pub one_after : (ℕ → ℕ) → Option ℕ → ℕ

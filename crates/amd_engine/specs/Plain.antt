@@ -9,8 +9,8 @@ use Rattle.amd_model.specs.Input.Pattern.{graph_of, is_pair}
 use Rattle.amd_model.specs.Input.Dense.{IsThreshold, is_dense}
 use Rattle.amd_model.specs.Ordering.{IsListingOf}
 use Rattle.amd_model.specs.Tie.{starting_list}
-use Rattle.amd_engine.specs.Permutations.{AreInverse}
-use Rattle.amd_engine.specs.declared.amd.Info.{Info}
+use Rattle.amd_numbers.specs.Permutations.{AreInverse}
+use Rattle.amd_numbers.specs.declared.amd.Info.{Info}
 
 -- the record with the figures of a run that ended in the state s
 abbrev pub with_figures : Graph → (ℕ → Bool) → State → Info → Info

@@ -9,15 +9,15 @@ ghost use Rattle.amd_model.specs.Listing.{Tree};
 ghost use Rattle.amd_model.specs.State.{Home, State, block_at, live_at};
 ghost use Rattle.amd_model.specs.Run.{Run, last_state};
 ghost use Rattle.amd_model.specs.Tie.{Tie};
-ghost use Rattle.amd_engine.specs.Views.{list_at, num, some_at, Below};
-ghost use Rattle.amd_engine.specs.Keeps.{LinksLead, Stands};
-ghost use Rattle.amd_engine.specs.Starts.{ListsRun};
-ghost use Rattle.amd_engine.specs.Trees.{IsByPlace, IsPostorderOf, link_of};
+ghost use Rattle.amd_rounds.specs.Views.{list_at, num, some_at, Below};
+ghost use Rattle.amd_rounds.specs.Keeps.{LinksLead, Stands};
+ghost use Rattle.amd_rounds.specs.Starts.{ListsRun};
+ghost use Rattle.amd_trees.specs.Trees.{IsByPlace, IsPostorderOf, link_of};
 
-use crate::amd::Status;
-use crate::internal::{EMPTY, link_at};
-use crate::postorder::postorder;
-use crate::work::Work;
+use amd_numbers::amd::Status;
+use amd_numbers::internal::{EMPTY, link_at};
+use amd_rounds::work::Work;
+use amd_trees::postorder::postorder;
 use std::alloc::{AllocError, Allocator};
 
 /// The row without a link to which the links from a row lead.

@@ -1,24 +1,10 @@
-//! The parts under an ordering: the types that callers see, the reading of numbers of a caller's type, the walk over the
-//! edges of a matrix, the lists of neighbours, the threshold of dense rows, and the two permutations that a listing gives. The
-//! crate `amd` stands on it and hands the types on. The start and the rounds of an elimination stand here too, and the postorder of
-//! trees; nothing calls them yet.
+//! The engine of an ordering: it eliminates the rows of a matrix by rounds, lists the blocks of the tree that comes of them in
+//! postorder, and tells the figures of the run. The crate `amd` calls it. It hands on the types that callers see, the numbers
+//! below, and the postorder of trees.
 #![tactic(auto)]
 
-pub mod absorption;
-pub mod amd;
 pub mod blocks;
-pub mod bounds;
-pub mod buckets;
-pub mod dense;
-pub mod figures;
-pub mod internal;
-pub mod lists;
-pub mod marks;
-pub mod merging;
-pub mod permutations;
 pub mod plain;
-pub mod post_tree;
-pub mod postorder;
-pub mod start;
-pub mod walk;
-pub mod work;
+
+pub use amd_numbers::{amd, internal};
+pub use amd_trees::{post_tree, postorder};

@@ -2,7 +2,7 @@
 
 use crate::numbers_of;
 use amd::Info;
-use amd_engine::figures::Figures;
+use amd_numbers::figures::Figures;
 use amd_engine::internal::front_counts;
 
 /// A front, and its shares.

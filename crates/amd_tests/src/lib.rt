@@ -16,6 +16,8 @@ mod demos;
 #[cfg(test)]
 mod fronts;
 #[cfg(test)]
+mod input;
+#[cfg(test)]
 mod lists;
 #[cfg(test)]
 mod memory;

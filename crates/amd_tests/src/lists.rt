@@ -3,7 +3,7 @@
 use amd::aat::aat;
 use amd::valid::valid;
 use amd::{Info, Status};
-use amd_engine::lists::{Lists, neighbours, starting_lists};
+use amd_edges::lists::{Lists, neighbours, starting_lists};
 use std::alloc::Global;
 use std::process::Abort;
 

@@ -2,7 +2,7 @@
 
 ghost use Rattle.std.specs.Prelude.{◌≡◌, ◌≤ℤ◌, ◌<◌, ◌⊎◌, ℕ, IsTrue, true, length, pos, negsuc, slice_index};
 ghost use Rattle.amd_model.specs.Input.Columns.{at};
-ghost use Rattle.amd_engine.specs.Trees.{IsForest, is_element};
+ghost use Rattle.amd_trees.specs.Trees.{IsForest, is_element};
 
 use amd_engine::amd::Status;
 use amd_engine::internal::{EMPTY, link_at};

@@ -1,6 +1,6 @@
 use Rattle.std.proofs.Common.{ℕ, ℤ, Bool, List, map, subst}
 use Rattle.std.specs.Prelude.{unsigned_abs}
-use Rattle.amd_engine.specs.declared.amd.Status.TheVariants.{OkButJumbled}
+use Rattle.amd_numbers.specs.declared.amd.Status.TheVariants.{OkButJumbled}
 use Rattle.amd_model.specs.Input.Pattern.{is_pair}
 use Rattle.amd.specs.Answers.{OrdersMatrix}
 use Rattle.amd.proofs.Orderings.{orders_turned}

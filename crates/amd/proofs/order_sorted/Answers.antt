@@ -2,7 +2,7 @@ use Rattle.std.proofs.Common.{ℕ, ℤ, List, ◌≡◌, ◌+◌, ◌-◌, ◌/�
 use Rattle.std.specs.Prelude.{unsigned_abs, Option, None, Some, is_none, not, false}
 use Rattle.std.specs.Option.{SomeIff}
 use Rattle.std.proofs.lemmas.Bool.{true≢false}
-use Rattle.amd.specs.Degrees.{AreDegrees}
+use Rattle.amd_input.specs.Degrees.{AreDegrees}
 use Rattle.amd.proofs.Orderings.{engine_orders}
 use Rattle.amd.proofs.order_sorted.Goals as goal
 

@@ -1,5 +1,5 @@
 use Rattle.std.proofs.Common.{ℕ, [], ◌≡◌, length}
-use Rattle.amd_engine.specs.Views.{list_at}
+use Rattle.amd_rounds.specs.Views.{list_at}
 use Rattle.amd_engine.proofs.blocks.empty_lists.Given as goal
 
 abbrev pub invariant-lists : goal.invariant-lists

@@ -1,6 +1,6 @@
 use Rattle.std.proofs.Common.{ℕ, suc, ◌≡◌, ◌<◌, length}
 use Rattle.amd_model.specs.State.{Home}
-use Rattle.amd_engine.specs.Keeps.{LinksLead}
+use Rattle.amd_rounds.specs.Keeps.{LinksLead}
 use Rattle.amd_engine.proofs.RowLinks.{steps}
 use Rattle.amd_engine.proofs.blocks.root_of.Given as goal
 

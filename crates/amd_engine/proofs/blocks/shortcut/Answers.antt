@@ -1,6 +1,6 @@
 use Rattle.std.proofs.Common.{◌≡◌, ◌≢◌, ◌<◌, ◌∙◌, ap, sym, length, None, Some, arith}
 use Rattle.std.proofs.lemmas.List.{get_or_read, length-set}
-use Rattle.amd_engine.specs.Views.{some_at}
+use Rattle.amd_rounds.specs.Views.{some_at}
 use Rattle.amd_engine.proofs.RowLinks.{fewer_steps, led_straight, same_alone, other, none_as_before}
 use Rattle.amd_engine.proofs.blocks.shortcut.Goals as goal
 

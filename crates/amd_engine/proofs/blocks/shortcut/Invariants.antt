@@ -1,7 +1,7 @@
 use Rattle.std.proofs.Common.{ℕ, suc, ◌≡◌, ◌<◌, ◌≤◌, length, is_none}
 use Rattle.amd_model.specs.State.{Home}
-use Rattle.amd_engine.specs.Views.{some_at}
-use Rattle.amd_engine.specs.Keeps.{LinksLead}
+use Rattle.amd_rounds.specs.Views.{some_at}
+use Rattle.amd_rounds.specs.Keeps.{LinksLead}
 use Rattle.amd_engine.proofs.RowLinks.{steps}
 use Rattle.amd_engine.proofs.blocks.shortcut.Given as goal
 

@@ -1,6 +1,6 @@
 use Rattle.std.proofs.Common.{rules, ℤ, List, pos, map, length, ap, sym, subst, ◌∙◌}
 use Rattle.amd_model.specs.Listing.{ListsEachRow}
-use Rattle.amd_engine.specs.Permutations.{AreInverse}
+use Rattle.amd_numbers.specs.Permutations.{AreInverse}
 use Rattle.amd_engine.proofs.PlainLaw.{degrees_range, rows_range, stands_first, stands_last, order_length, order_each, answer}
 use Rattle.amd_engine.proofs.plain.plain_1.Goals as goal
 

@@ -2,8 +2,8 @@
 use Rattle.std.proofs.Common.{rules, ℕ, ℤ, List, ◌≡◌, ◌≤◌, length, ◌∙◌, arith}
 use Rattle.amd_model.specs.Graph.{degree, degree_sum}
 use Rattle.amd_model.specs.Input.Pattern.{graph_of}
-use Rattle.amd_engine.specs.Visits.{AreCounts, start_of}
-use Rattle.amd.specs.Degrees.{AreDegrees}
+use Rattle.amd_edges.specs.Visits.{AreCounts, start_of}
+use Rattle.amd_input.specs.Degrees.{AreDegrees}
 use Rattle.amd_tests.proofs.lists.lists_of.Goals as goal
 
 module _ (n : ℕ) (ap' ai : List ℤ) (total : ℕ) (degrees : List ℕ) (h : AreDegrees n ap' ai total degrees) where

@@ -1,0 +1,9 @@
+pub mod Places
+pub mod Forms
+pub mod Scans
+pub mod Uppers
+pub mod Ends
+pub mod Arcs
+pub mod Orders
+pub mod RowLists
+pub mod Listing

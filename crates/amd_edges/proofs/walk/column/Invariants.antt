@@ -1,0 +1,22 @@
+use Rattle.std.proofs.Common.{◌≡◌, ◌-◌, ◌<◌, ◌≤◌, ℕ, map, get_or}
+use Rattle.std.specs.Vec.{vec_capacity}
+use Rattle.amd_numbers.specs.Counts.{counts, count_graph, is_entry}
+use Rattle.amd_edges.specs.Visits.{arcs_of}
+use Rattle.amd_edges.specs.Walk.{IsScan, met}
+use Rattle.amd_edges.proofs.Orders.{edges_until}
+use Rattle.amd_edges.proofs.walk.column.Given as goal
+
+abbrev pub invariant-upper : goal.invariant-upper
+invariant-upper g l = (m : ℕ) × record {
+  from : get_or (counts (map g.I.Number.value l.a_p)) l.k 0 ≤ l.place;
+  to : l.place ≤ l.end;
+  read : (r : ℕ) → get_or (counts (map g.I.Number.value l.a_p)) l.k 0 ≤ r → r < l.place → get_or (counts (map g.I.Number.value l.a_i)) r 0 < m;
+  left : (r : ℕ) → l.place ≤ r → r < l.end → m ≤ get_or (counts (map g.I.Number.value l.a_i)) r 0;
+  low : m ≤ l.k;
+  room : vec_capacity l.next ≡ vec_capacity l.fn.next;
+  scan : IsScan l.fn.size (counts (map g.I.Number.value l.a_p)) (counts (map g.I.Number.value l.a_i)) l.next.items l.k m;
+  held : g.V.Visitor.holds (count_graph l.fn.size (counts (map g.I.Number.value l.a_p)) (counts (map g.I.Number.value l.a_i))) (met l.fn.size (counts (map g.I.Number.value l.a_p)) (counts (map g.I.Number.value l.a_i)) l.next.items l.k m) (arcs_of (edges_until (is_entry l.fn.size (counts (map g.I.Number.value l.a_p)) (counts (map g.I.Number.value l.a_i))) l.k m)) l.visitor;
+}
+
+abbrev pub decreases-upper : goal.decreases-upper
+decreases-upper g l = l.end - l.place

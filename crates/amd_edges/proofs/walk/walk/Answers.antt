@@ -1,0 +1,70 @@
+use Rattle.std.proofs.Common.{◌≡◌, ◌+◌, ℕ, Bool, map, arith, sym, ◌∙◌, refl, ap, add-one, suc, cond}
+use Rattle.amd_model.specs.Below.{sum_below, count_below}
+use Rattle.amd_numbers.specs.Counts.{counts, is_entry}
+use Rattle.amd_edges.proofs.Forms.{sorted_form, same_graph, same_diagonals}
+use Rattle.amd_edges.proofs.Ends.{start_met, start_scan, start_zeros}
+use Rattle.amd_edges.proofs.Orders.{start_edges}
+use Rattle.amd_edges.proofs.walk.walk.Goals as goal
+use Rattle.amd_edges.proofs.walk.walk.Goals.{then-column, else-column}
+
+abbrev one_if : Bool → ℕ
+one_if b = cond b 1 0
+
+pub column-requires : goal.column-requires
+column-requires g c =
+    let i = c.columns.invariant in let r = c.requires in
+    record { form = r.form; sorted = r.sorted; k_in = c.columns-test.true; room = i.room; scan = i.scan; held = i.held }
+
+pub columns-init : goal.columns-init
+unfolding count_below sum_below
+columns-init g c =
+    let r = c.requires in
+    let n = c.args.size in
+    let ap' = counts (map g.I.Number.value c.args.a_p.now) in let ai = counts (map g.I.Number.value c.args.a_i.now) in
+    let form = sorted_form n _ _ r.form r.sorted in
+    let graph = same_graph n _ _ r.form in
+    record {
+      count = refl;
+      small = omega arith;
+      room = r.room;
+      scan = start_scan n ap' ai form c.args.next.now.items r.empty;
+      held = rw (start_edges (is_entry n ap' ai), ← graph, start_met n ap' ai form c.args.next.now.items (start_zeros n ap' ai form c.args.next.now.items r.empty)) r.held;
+    }
+
+pub columns-preserved : goal.columns-preserved
+unfolding count_below sum_below
+columns-preserved g c =
+    let i = c.columns.invariant in
+    let e = c.column.ensures in
+    let n = c.args.size in
+    let ap' = counts (map g.I.Number.value c.args.a_p.now) in let ai = counts (map g.I.Number.value c.args.a_i.now) in
+    let last : count_below (suc c.columns.k) (λ j. is_entry n ap' ai j j) ≡ one_if (is_entry n ap' ai c.columns.k c.columns.k) + count_below c.columns.k (λ j. is_entry n ap' ai j j) = refl in
+    let here : one_if c.column.result ≡ one_if (is_entry n ap' ai c.columns.k c.columns.k) = ap one_if e.diagonal in
+    let plus : c.if-column.diagonals ≡ c.columns.diagonals + one_if c.column.result = elim c.if-column.branch [
+      | then-column w ↦ rw w.if-column.true w.diagonals-is
+      | else-column w ↦ rw w.if-column.false (w.diagonals-is ∙ omega arith)
+    ] in
+    record {
+      count = (let x = i.count in rw add-one (omega (arith, last, here, plus, x)));
+      small = elim c.if-column.branch [ then-column w ↦ (let y = w.diagonals-is in let x = i.small in omega arith) | else-column w ↦ (let y = w.diagonals-is in let x = i.small in omega arith) ];
+      room = (let x = i.room in let y = e.room in omega (arith, x, y));
+      scan = e.scan;
+      held = e.held;
+    }
+
+pub rest-requires : goal.rest-requires
+rest-requires g c =
+    let i = c.columns.invariant in
+    let e : c.columns.k ≡ c.args.size = (let x = c.columns-test.false in let y = c.columns.auto.k-end in omega arith) in
+    let s = rw e at i.scan in
+    let h = rw e at i.held in
+    record { form = c.requires.form; sorted = c.requires.sorted; scan = s; held = h }
+
+pub returns : goal.returns
+returns g c =
+    let n = c.args.size in
+    let e : c.columns.k ≡ n = (let x = c.columns-test.false in let y = c.columns.auto.k-end in omega arith) in
+    record {
+      held = c.rest.ensures.held;
+      diagonals = rw e at c.columns.invariant.count ∙ sym (same_diagonals n _ _ c.requires.form);
+    }

@@ -1,0 +1,35 @@
+-- How far the walk over the columns has come.
+use Rattle.std.specs.Prelude.{◌≡◌, ◌+◌, ◌<◌, ◌≤◌, ◌⊎◌, ◌||◌, ◌&&◌, ℕ, Bool, true, cond, nat_eq, nat_lt, List, flat_map, length, slice_index}
+use Rattle.amd_model.specs.Below.{list_below}
+use Rattle.amd_model.specs.Tie.{met_at}
+use Rattle.amd_numbers.specs.Counts.{is_before, is_entry}
+
+-- the upper entry (a, b) was read: it stands in a column before k, or in column k above row m
+unfoldable pub is_read : ℕ → ℕ → ℕ → ℕ → Bool
+is_read k m a b = nat_lt b k || (nat_eq b k && nat_lt a m)
+
+-- the edge from a up to b was met: its upper entry was read, or it has none and the lower entry stands before t[a]
+unfoldable pub is_met : ℕ → List ℕ → List ℕ → List ℕ → ℕ → ℕ → ℕ → ℕ → Bool
+is_met n ap ai t k m a b = nat_lt a b && cond (is_entry n ap ai a b) (is_read k m a b) (is_before ap ai (slice_index t a) b a)
+
+-- the arcs met so far
+unfoldable pub met : ℕ → List ℕ → List ℕ → List ℕ → ℕ → ℕ → ℕ → ℕ → Bool
+met n ap ai t k m a b = is_met n ap ai t k m a b || is_met n ap ai t k m b a
+
+-- the edges that the columns before k give, in the order in which they are met
+unfoldable pub edges_before : (ℕ → ℕ → Bool) → ℕ → List (ℕ × ℕ)
+edges_before pair k = flat_map (met_at pair) (list_below k (λ c. true))
+
+-- of the columns that were read so far, one at or behind row b holds row a
+abbrev pub IsReached : ℕ → List ℕ → List ℕ → ℕ → ℕ → ℕ → ℕ → Type 0
+IsReached n ap ai k m a b = (c : ℕ) × ((c < k) ⊎ ((c ≡ k) × (a < m))) × (c < n → is_entry n ap ai a c ≡ true) × (b ≤ c)
+
+-- the pointers t are right where the upper entries of the columns before k, and of column k above row m, were read
+pub record IsScan (n : ℕ) (ap ai t : List ℕ) (k m : ℕ) : Type 0 where
+  pub size : length t ≡ k
+  pub start : (a : ℕ) → a < k → a < n → slice_index ap a ≤ slice_index t a
+  pub stop : (a : ℕ) → a < k → a < n → slice_index t a ≤ slice_index ap (a + 1)
+  pub low : (a r : ℕ) → a < k → a < n → slice_index t a ≤ r → r < slice_index ap (a + 1) → a < slice_index ai r
+  pub unset : (a : ℕ) → k ≤ a → slice_index t a ≡ 0
+  pub passed : (a c r : ℕ) → a < c → a < n → (c < k) ⊎ ((c ≡ k) × (a < m)) → (c < n → is_entry n ap ai a c ≡ true) → slice_index ap a ≤ r → r < slice_index ap (a + 1) → slice_index ai r ≤ c → r < slice_index t a
+  pub reached : (a r : ℕ) → a < n → slice_index ap a ≤ r → r < slice_index t a → (slice_index ai r ≤ a) ⊎ IsReached n ap ai k m a (slice_index ai r)

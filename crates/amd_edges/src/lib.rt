@@ -1,0 +1,6 @@
+//! The edges of a matrix: the walk that meets each edge of a pattern once, and the lists of neighbours with which an elimination
+//! starts. Called by the crates `amd_input` and `amd_engine`.
+#![tactic(auto)]
+
+pub mod lists;
+pub mod walk;

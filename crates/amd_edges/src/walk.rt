@@ -1,0 +1,151 @@
+// A walk over the edges of a matrix: each edge is met once, whether the pattern holds it once or twice, and a visitor is told
+// both of its arcs. For each column in turn its upper entries are read, and with each of them the lower entries of that row's
+// own column that come before; a pointer of each column says how far it was read. Source: Amestoy, Davis and Duff 2004 (the
+// forming of A + A'). Called by `aat` of the crate `amd`, and by `lists`.
+
+ghost use Rattle.std.specs.Prelude.{◌≡◌, ◌<◌, ◌≤◌, ◌+◌, ◌++◌, ◌∷◌, ℕ, Bool, List, [], true, false, pos, map, length, slice_index};
+ghost use Rattle.std.specs.Vec.{vec_capacity};
+ghost use Rattle.amd_model.specs.Graph.{Graph};
+ghost use Rattle.amd_model.specs.Input.Columns.{IsColumnForm, IsSorted};
+ghost use Rattle.amd_model.specs.Input.Pattern.{graph_of, diagonal_count, is_pair};
+ghost use Rattle.amd_model.specs.Tie.{met_below, met_edges};
+ghost use Rattle.amd_numbers.specs.Counts.{counts, is_entry, count_graph};
+ghost use Rattle.amd_edges.specs.Visits.{IsNew, arcs_of, with_arc};
+ghost use Rattle.amd_edges.specs.Walk.{IsScan, edges_before, met};
+
+use amd_numbers::internal::count_at;
+use num_traits::PrimInt;
+use std::alloc::Allocator;
+
+/// What takes the arcs of a graph, one at a time. What holds of it speaks of the set of the arcs that it took, and of their list.
+pub trait Visitor {
+    ghost holds: { Graph → (ℕ → ℕ → Bool) → List (ℕ × ℕ) → Self → Type 0 };
+
+    /// Takes the arc from `i` to `j`.
+    fn arc(&mut self, i: usize, j: usize)
+        requires { (g : Graph) × (seen : ℕ → ℕ → Bool) × (arcs : List (ℕ × ℕ)) × holds g seen arcs self.old × IsNew g seen i j }
+        ensures { (g : Graph) (seen : ℕ → ℕ → Bool) (arcs : List (ℕ × ℕ)) → holds g seen arcs self.old → IsNew g seen i j → holds g (with_arc seen i j) (arcs ++ (i, j) ∷ []) self.new };
+}
+
+/// Reads the lower entries of column `j`, one of `size`, that were not read yet, up to row `k`.
+fn lower<I: PrimInt, V: Visitor, A: Allocator>(
+    size: usize,
+    j: usize,
+    k: usize,
+    a_p: &[I],
+    a_i: &[I],
+    next: &mut Vec<usize, A>,
+    visitor: &mut V,
+)
+    requires form { IsColumnForm (pos size) size (map I.value a_p.now) (map I.value a_i.now) }
+    requires sorted { IsSorted size (map I.value a_p.now) (map I.value a_i.now) }
+    requires before { j < k }
+    requires k_in { k ≤ size }
+    requires mirror { k < size → is_entry size (counts (map I.value a_p.now)) (counts (map I.value a_i.now)) j k ≡ true }
+    requires scan { IsScan size (counts (map I.value a_p.now)) (counts (map I.value a_i.now)) next.old.items k j }
+    requires held { (arcs : List (ℕ × ℕ)) × V.holds (count_graph size (counts (map I.value a_p.now)) (counts (map I.value a_i.now))) (met size (counts (map I.value a_p.now)) (counts (map I.value a_i.now)) next.old.items k (j + 1)) arcs visitor.old }
+    ensures scan { IsScan size (counts (map I.value a_p.now)) (counts (map I.value a_i.now)) next.new.items k (j + 1) }
+    ensures held { (arcs : List (ℕ × ℕ)) → V.holds (count_graph size (counts (map I.value a_p.now)) (counts (map I.value a_i.now))) (met size (counts (map I.value a_p.now)) (counts (map I.value a_i.now)) next.old.items k (j + 1)) arcs visitor.old → V.holds (count_graph size (counts (map I.value a_p.now)) (counts (map I.value a_i.now))) (met size (counts (map I.value a_p.now)) (counts (map I.value a_i.now)) next.new.items k (j + 1)) (arcs ++ arcs_of (met_below (is_entry size (counts (map I.value a_p.now)) (counts (map I.value a_i.now))) k j)) visitor.new }
+    ensures room { vec_capacity next.new ≡ vec_capacity next.old }
+{
+    let end = count_at(a_p, j + 1);
+    let mut place = next[j];
+    'rows: while place < end && count_at(a_i, place) < k {
+        let i = count_at(a_i, place);
+        visitor.arc(i, j);
+        visitor.arc(j, i);
+        place += 1;
+    }
+    if place < end && count_at(a_i, place) == k {
+        place += 1;
+    }
+    next[j] = place;
+}
+
+/// Reads the upper entries of column `k`, one of `size`, adds its pointer, and says whether it has a diagonal entry.
+fn column<I: PrimInt, V: Visitor, A: Allocator>(
+    size: usize,
+    k: usize,
+    a_p: &[I],
+    a_i: &[I],
+    next: &mut Vec<usize, A>,
+    visitor: &mut V,
+) -> bool
+    requires form { IsColumnForm (pos size) size (map I.value a_p.now) (map I.value a_i.now) }
+    requires sorted { IsSorted size (map I.value a_p.now) (map I.value a_i.now) }
+    requires k_in { k < size }
+    requires room { size ≤ vec_capacity next.old }
+    requires scan { IsScan size (counts (map I.value a_p.now)) (counts (map I.value a_i.now)) next.old.items k 0 }
+    requires held { V.holds (count_graph size (counts (map I.value a_p.now)) (counts (map I.value a_i.now))) (met size (counts (map I.value a_p.now)) (counts (map I.value a_i.now)) next.old.items k 0) (arcs_of (edges_before (is_entry size (counts (map I.value a_p.now)) (counts (map I.value a_i.now))) k)) visitor.old }
+    ensures scan { IsScan size (counts (map I.value a_p.now)) (counts (map I.value a_i.now)) next.new.items (k + 1) 0 }
+    ensures held { V.holds (count_graph size (counts (map I.value a_p.now)) (counts (map I.value a_i.now))) (met size (counts (map I.value a_p.now)) (counts (map I.value a_i.now)) next.new.items (k + 1) 0) (arcs_of (edges_before (is_entry size (counts (map I.value a_p.now)) (counts (map I.value a_i.now))) (k + 1))) visitor.new }
+    ensures room { vec_capacity next.new ≡ vec_capacity next.old }
+    ensures diagonal { result ≡ is_entry size (counts (map I.value a_p.now)) (counts (map I.value a_i.now)) k k }
+{
+    let end = count_at(a_p, k + 1);
+    let mut place = count_at(a_p, k);
+    'upper: while place < end && count_at(a_i, place) < k {
+        let j = count_at(a_i, place);
+        visitor.arc(j, k);
+        visitor.arc(k, j);
+        lower(size, j, k, a_p, a_i, next, visitor);
+        place += 1;
+    }
+    let diagonal = place < end && count_at(a_i, place) == k;
+    if diagonal {
+        place += 1;
+    }
+    next.push_reserved(place);
+    diagonal
+}
+
+/// Reads the lower entries of each of the `size` columns that were not read yet.
+fn rest<I: PrimInt, V: Visitor, A: Allocator>(
+    size: usize,
+    a_p: &[I],
+    a_i: &[I],
+    next: &mut Vec<usize, A>,
+    visitor: &mut V,
+)
+    requires form { IsColumnForm (pos size) size (map I.value a_p.now) (map I.value a_i.now) }
+    requires sorted { IsSorted size (map I.value a_p.now) (map I.value a_i.now) }
+    requires scan { IsScan size (counts (map I.value a_p.now)) (counts (map I.value a_i.now)) next.old.items size 0 }
+    requires held { V.holds (count_graph size (counts (map I.value a_p.now)) (counts (map I.value a_i.now))) (met size (counts (map I.value a_p.now)) (counts (map I.value a_i.now)) next.old.items size 0) (arcs_of (edges_before (is_entry size (counts (map I.value a_p.now)) (counts (map I.value a_i.now))) size)) visitor.old }
+    ensures held { V.holds (graph_of size (map I.value a_p.now) (map I.value a_i.now)) ((graph_of size (map I.value a_p.now) (map I.value a_i.now)).edge) (arcs_of (met_edges size (is_pair size (map I.value a_p.now) (map I.value a_i.now)))) visitor.new }
+{
+    'columns: for j in 0..size {
+        lower(size, j, size, a_p, a_i, next, visitor);
+    }
+}
+
+/// Meets each edge of a column form that is sorted once, and counts the diagonal entries. The matrix has `size` rows and
+/// columns, and `next` is empty and has room for a pointer of each column.
+///
+/// For each column `k` in turn: each upper entry `j < k` of it, rising, gives the edge of `j` and `k`, and after it the lower
+/// entries of column `j` that were not read yet and are below `k` give theirs; an entry `k` itself is passed over. At the end
+/// the lower entries that were never read give theirs. The visitor is handed both arcs of each edge, the one from its first row
+/// to its second one before the other.
+pub fn walk<I: PrimInt, V: Visitor, A: Allocator>(
+    size: usize,
+    a_p: &[I],
+    a_i: &[I],
+    next: &mut Vec<usize, A>,
+    visitor: &mut V,
+) -> usize
+    requires form { IsColumnForm (pos size) size (map I.value a_p.now) (map I.value a_i.now) }
+    requires sorted { IsSorted size (map I.value a_p.now) (map I.value a_i.now) }
+    requires empty { length next.old.items ≡ 0 }
+    requires room { size ≤ vec_capacity next.old }
+    requires held { V.holds (graph_of size (map I.value a_p.now) (map I.value a_i.now)) (λ a b. false) [] visitor.old }
+    ensures held { V.holds (graph_of size (map I.value a_p.now) (map I.value a_i.now)) ((graph_of size (map I.value a_p.now) (map I.value a_i.now)).edge) (arcs_of (met_edges size (is_pair size (map I.value a_p.now) (map I.value a_i.now)))) visitor.new }
+    ensures diagonals { result ≡ diagonal_count size (map I.value a_p.now) (map I.value a_i.now) }
+{
+    let mut diagonals = 0;
+    'columns: for k in 0..size {
+        if column(size, k, a_p, a_i, next, visitor) {
+            diagonals += 1;
+        }
+    }
+    rest(size, a_p, a_i, next, visitor);
+    diagonals
+}

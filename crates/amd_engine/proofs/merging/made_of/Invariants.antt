@@ -1,7 +1,0 @@
-use Rattle.std.proofs.Common.{◌≡◌, take}
-use Rattle.std.specs.Prelude.{filter, ◌==◌}
-use Rattle.amd_engine.specs.Views.{num}
-use Rattle.amd_engine.proofs.merging.made_of.Given as goal
-
-abbrev pub invariant-loop-i : goal.invariant-loop-i
-invariant-loop-i g l = l.made.items ≡ filter (λ i. num l.into i == i) (take l.i-index l.rest)

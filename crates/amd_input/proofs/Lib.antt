@@ -1,0 +1,10 @@
+pub mod Classes
+pub mod Counting
+pub mod Symmetry
+pub mod PatternLemmas
+pub mod NamedPairs
+pub mod RowMarks
+pub mod ColumnCounts
+pub mod PrefixSums
+pub mod ColumnLists
+pub mod RowForms

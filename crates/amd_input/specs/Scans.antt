@@ -1,0 +1,24 @@
+-- What a scan over one column finds.
+use Rattle.std.specs.Prelude.{◌+◌, ◌<◌, ◌≤◌, ◌≤ℤ◌, ◌<ℤ◌, ℕ, ℤ, List}
+use Rattle.amd_model.specs.Input.Columns.{at, IsRow}
+use Rattle.amd_numbers.specs.declared.amd.Status.{Status}
+use Rattle.amd_numbers.specs.declared.amd.Status.TheVariants.{OK, Invalid, OkButJumbled, OutOfMemory}
+
+-- the places from a on, before b, hold rows of a matrix with m rows
+abbrev pub AreRows : ℤ → List ℤ → ℕ → ℕ → Type 0
+AreRows m ai a b = (k : ℕ) → a ≤ k → k < b → IsRow m (at ai k)
+
+-- the numbers at these places are strictly rising
+abbrev pub Rise : List ℤ → ℕ → ℕ → Type 0
+Rise ai a b = (k : ℕ) → a ≤ k → k + 1 < b → at ai k <ℤ at ai (k + 1)
+
+-- at some of them a number is not greater than the one before it
+abbrev pub HaveDescent : List ℤ → ℕ → ℕ → Type 0
+HaveDescent ai a b = (k : ℕ) × (a ≤ k) × (k + 1 < b) × (at ai (k + 1) ≤ℤ at ai k)
+
+-- what a status says of the rows at the places from a on, before b
+abbrev pub IsColumnClass : ℤ → List ℤ → ℕ → ℕ → Status → Type 0
+IsColumnClass m ai a b OK = AreRows m ai a b × Rise ai a b
+IsColumnClass m ai a b Invalid = (k : ℕ) × (a ≤ k) × (k < b) × (¬ (IsRow m (at ai k)))
+IsColumnClass m ai a b OkButJumbled = AreRows m ai a b × HaveDescent ai a b
+IsColumnClass m ai a b OutOfMemory = ⊥

@@ -1,0 +1,88 @@
+// The degrees of the rows of a matrix, and the figures of its pattern: those of the pattern of A + A' (Amestoy, Davis and Duff
+// 2004). Called by `order`.
+
+ghost use Rattle.std.specs.Prelude.{◌≡◌, ◌<◌, ◌^◌, map, length, slice_index, unsigned_abs, IfOk, IfErr, OnOk, OnErr};
+ghost use Rattle.amd_model.specs.Below.{sum_below};
+ghost use Rattle.amd_model.specs.Input.Columns.{IsInput, IsSortedInput};
+ghost use Rattle.amd_edges.specs.Visits.{AreCounts};
+ghost use Rattle.amd_input.specs.Degrees.{AreDegrees};
+ghost use Rattle.amd_input.specs.PatternFigures.{HasPatternFigures};
+ghost use Rattle.amd_numbers.specs.declared.amd.Status.TheVariants.{OutOfMemory};
+
+use amd_edges::walk::{Visitor, walk};
+use amd_numbers::amd::{Info, Status};
+use amd_numbers::internal::{count_at, known_count};
+use num_traits::PrimInt;
+use std::alloc::Allocator;
+
+/// The number of arcs of each row.
+#[derive(Drop)]
+struct Counts<A: Allocator> {
+    degrees: Vec<usize, A>,
+}
+
+impl<A: Allocator> Visitor for Counts<A> {
+    ghost holds = { λ g seen arcs v. AreCounts g seen v.degrees.items };
+
+    fn arc(&mut self, i: usize, j: usize) {
+        self.degrees[i] += 1;
+    }
+}
+
+/// The sum of the numbers.
+fn total(numbers: &[usize]) -> usize
+    requires fits { sum_below (length numbers.now) (λ k. slice_index numbers.now k) < 2 ^ 64 }
+    ensures { result ≡ sum_below (length numbers.now) (λ k. slice_index numbers.now k) }
+{
+    let mut sum = 0;
+    'numbers: for k in 0..numbers.len() {
+        sum += numbers[k];
+    }
+    sum
+}
+
+/// The sum of the degrees and the degree of each row of a matrix with `n` rows, by the pattern of `A + A'`; the figures of the
+/// pattern go to `info`, of which the other fields stay. The pattern is symmetric where there are as many arcs as entries off
+/// the diagonal.
+///
+/// The input is a column form with `n` rows and columns, each of which strictly rises: `valid` tells `OK`. `a_p` has at least
+/// `n + 1` pointers, and `a_i` at least `a_p[n]` row indices; what stands behind is ignored. The list that is answered has `n`
+/// degrees.
+///
+/// # Errors
+///
+/// `OutOfMemory` where an allocation was refused, or there are 2^63 entries or more, so that the sum of the degrees may not
+/// fit; `info` is then as it was.
+pub fn aat<I: PrimInt, A: Allocator + Copy>(
+    alloc: A,
+    n: I,
+    a_p: &[I],
+    a_i: &[I],
+    info: &mut Info,
+) -> Result<(usize, Vec<usize, A>), Status>
+    requires form { IsInput (I.value n) (I.value n) (map I.value a_p.now) (map I.value a_i.now) }
+    requires sorted { IsSortedInput (I.value n) (map I.value a_p.now) (map I.value a_i.now) }
+    ensures degrees { IfOk result (λ a. AreDegrees (unsigned_abs (I.value n)) (map I.value a_p.now) (map I.value a_i.now) a.0 a.1.items) }
+    ensures figures { OnOk result (HasPatternFigures (unsigned_abs (I.value n)) (map I.value a_p.now) (map I.value a_i.now) info.new) }
+    ensures others { OnOk result (info.new ≡ record info.old { n = info.new.n; nz = info.new.nz; symmetry = info.new.symmetry; nz_diag = info.new.nz_diag; nz_a_plus_at = info.new.nz_a_plus_at }) }
+    ensures refused { IfErr result (λ e. e ≡ OutOfMemory) }
+    ensures unchanged { OnErr result (info.new ≡ info.old) }
+{
+    let size = known_count(n);
+    let entries = count_at(a_p, size);
+    // There are at most two arcs for each entry, so that below their sum fits.
+    if entries >= 1 << 63 {
+        return Err(Status::OutOfMemory);
+    }
+    let mut next = Vec::with_capacity(alloc, size)?;
+    let degrees = vec![in alloc; 0; size]?;
+    let mut counts = Counts { degrees };
+    let diagonals = walk(size, a_p, a_i, &mut next, &mut counts);
+    let sum = total(&counts.degrees);
+    info.n = size;
+    info.nz = entries;
+    info.nz_diag = diagonals;
+    info.nz_a_plus_at = sum;
+    info.symmetry = sum == entries - diagonals;
+    Ok((sum, counts.degrees))
+}

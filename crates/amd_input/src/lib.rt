@@ -1,0 +1,7 @@
+//! The input of an ordering: whether it is a column form, its transpose with sorted columns, and the degrees and figures of its
+//! pattern. The crate `amd` calls it and hands it on.
+#![tactic(auto)]
+
+pub mod aat;
+pub mod preprocess;
+pub mod valid;

@@ -1,0 +1,67 @@
+// Whether an input is a column form, and whether its columns are sorted. The rule is that of the AMD user guide; a fault in a
+// later column wins over a jumbled earlier one. Called by `order`.
+
+ghost use Rattle.std.specs.Prelude.{◌<◌, ◌≤◌, length, map};
+ghost use Rattle.amd_numbers.specs.Statuses.{IsStatusOf};
+ghost use Rattle.amd_input.specs.Scans.{IsColumnClass};
+
+use amd_numbers::amd::Status;
+use amd_numbers::internal::{is_below, is_negative, to_count, value_at};
+use num_traits::PrimInt;
+
+/// The class of the rows at the places from `from` on, before `to`: those of one column.
+fn column_class<I: PrimInt>(n_row: I, a_i: &[I], from: usize, to: usize) -> Status
+    requires ordered { from ≤ to }
+    requires within { to ≤ length a_i.now }
+    ensures { IsColumnClass (I.value n_row) (map I.value a_i.now) from to result }
+{
+    let mut status = Status::OK;
+    'rows: for k in from..to {
+        let row = value_at(a_i, k);
+        if is_negative(row) || !is_below(row, n_row) {
+            return Status::Invalid;
+        }
+        if k > from && !is_below(value_at(a_i, k - 1), row) {
+            status = Status::OkButJumbled;
+        }
+    }
+    status
+}
+
+/// The class of an input with `n_col` columns and rows in `0..n_row`: `Invalid` where it is no column form, else
+/// `OkButJumbled` where some column is out of order or has a repeat, else `OK`. For `n_col = 0` one pointer, 0, is needed.
+/// Any arguments are allowed, and no memory is taken.
+pub fn valid<I: PrimInt>(n_row: I, n_col: I, a_p: &[I], a_i: &[I]) -> Status
+    ensures { IsStatusOf (I.value n_row) (I.value n_col) (map I.value a_p.now) (map I.value a_i.now) result }
+{
+    let Some(columns) = to_count(n_col) else {
+        return Status::Invalid;
+    };
+    if columns >= a_p.len() {
+        return Status::Invalid;
+    }
+    let Some(first) = to_count(value_at(a_p, 0)) else {
+        return Status::Invalid;
+    };
+    if first != 0 {
+        return Status::Invalid;
+    }
+    let mut status = Status::OK;
+    let mut from = 0;
+    'columns: for j in 0..columns {
+        let Some(to) = to_count(value_at(a_p, j + 1)) else {
+            return Status::Invalid;
+        };
+        if to < from || to > a_i.len() {
+            return Status::Invalid;
+        }
+        match column_class(n_row, a_i, from, to) {
+            Status::OK => {}
+            Status::OkButJumbled => status = Status::OkButJumbled,
+            Status::Invalid => return Status::Invalid,
+            Status::OutOfMemory => unreachable!(),
+        }
+        from = to;
+    }
+    status
+}

@@ -1,0 +1,5 @@
+pub mod NumberReads
+pub mod Inverses
+pub mod FrontShares
+pub mod CutSums
+pub mod EmptyLists

@@ -1,0 +1,144 @@
+// Reading numbers of the caller's integer type, and making them. Later proofs speak of the integers alone, and never of the
+// laws of generic numbers. Called by `walk` and `permutations`, by the modules of the crate `amd`, and by `amd_bench`.
+// At the end, the shares of a front in the figures, called by `figures`: the rule is that of the AMD user guide.
+
+ghost use Rattle.std.specs.Prelude.{◌≡◌, ◌<◌, ◌^◌, ◌↔◌, ◌<ℤ◌, IsTrue, length, map, pos, slice_index, slice_set, unsigned_abs};
+ghost use Rattle.std.specs.Int.{FitsUnsignedBits};
+ghost use Rattle.num_traits.specs.Laws.{Checks, ChecksUnsigned};
+ghost use Rattle.amd_model.specs.Figures.{cut, entries, front_sum, ldl_steps, lu_steps};
+ghost use Rattle.amd_model.specs.Input.Columns.{at};
+ghost use Rattle.amd_numbers.specs.Counts.{counts};
+ghost use Rattle.amd_numbers.specs.Links.{named};
+
+use num_traits::PrimInt;
+
+/// The number at a place.
+#[inline]
+pub fn value_at<I: PrimInt>(numbers: &[I], place: usize) -> I
+    requires { place < length numbers.now }
+    ensures { I.value result ≡ at (map I.value numbers.now) place }
+{
+    numbers[place]
+}
+
+/// The number as a count, where it is one.
+#[inline]
+pub fn to_count<I: PrimInt>(number: I) -> Option<usize>
+    ensures { ChecksUnsigned 64 (I.value number) result }
+{
+    number.to_usize()
+}
+
+/// Whether a number is below another one.
+#[inline]
+pub fn is_below<I: PrimInt>(a: I, b: I) -> bool
+    ensures { IsTrue result ↔ (I.value a <ℤ I.value b) }
+{
+    a < b
+}
+
+/// Whether a number is below 0.
+#[inline]
+pub fn is_negative<I: PrimInt>(number: I) -> bool
+    ensures { IsTrue result ↔ (I.value number <ℤ pos 0) }
+{
+    is_below(number, I::zero())
+}
+
+/// The number of the caller's type that a count is, where the type has it.
+#[inline]
+pub fn from_count<I: PrimInt>(count: usize) -> Option<I>
+    ensures { Checks I.value I.fits (pos count) result }
+{
+    num_traits::cast::<usize, I>(count)
+}
+
+/// The count that a number is, where it is known to be one.
+#[inline]
+pub fn known_count<I: PrimInt>(number: I) -> usize
+    requires { FitsUnsignedBits 64 (I.value number) }
+    ensures { result ≡ unsigned_abs (I.value number) }
+{
+    let Some(count) = to_count(number) else {
+        unreachable!()
+    };
+    count
+}
+
+/// The count at a place, where the number there is known to be one.
+#[inline]
+pub fn count_at<I: PrimInt>(numbers: &[I], place: usize) -> usize
+    requires within { place < length numbers.now }
+    requires fits { FitsUnsignedBits 64 (at (map I.value numbers.now) place) }
+    ensures value { pos result ≡ at (map I.value numbers.now) place }
+    ensures count { result ≡ slice_index (counts (map I.value numbers.now)) place }
+{
+    known_count(value_at(numbers, place))
+}
+
+/// A figure, or the greatest count where the figure passes it.
+#[tactic(auto, unfolding(amd_model::specs::Figures::cut))]
+fn cut_to_count(figure: u128) -> usize
+    ensures { result ≡ cut figure }
+{
+    figure.min(usize::MAX as u128) as usize
+}
+
+/// The shares of a front with `f` rows in its block and `r` rows outside: its entries below the diagonal, and its
+/// multiply-subtract steps in a factorization `LDL'` and in a factorization `LU`. They are the sums of `c`, of `c (c + 1) / 2`
+/// and of `c^2` over the columns, where `c` runs from `r` to `r + f - 1`. Any `f` and `r` are allowed, and each sum is exact up
+/// to the greatest count, which stands for all that pass it. Source: AMD user guide.
+pub fn front_counts(f: usize, r: usize) -> (usize, usize, usize)
+    ensures lnz { result.0 ≡ cut (front_sum entries f r) }
+    ensures ldl { result.1 ≡ cut (front_sum ldl_steps f r) }
+    ensures lu { result.2 ≡ cut (front_sum lu_steps f r) }
+{
+    if f == 0 {
+        return (0, 0, 0);
+    }
+    let rows = f as u128;
+    let outside = r as u128;
+    let last = rows - 1;
+    let border = rows * outside;
+    let pairs = rows * last / 2;
+    let lnz = border.saturating_add(pairs);
+    // A third of a product that saturates still passes the greatest count, and so does the half of such a sum.
+    let squares = pairs.saturating_mul(2 * rows - 1) / 3;
+    let lu = border
+        .saturating_mul(outside + last)
+        .saturating_add(squares);
+    let ldl = lu.saturating_add(lnz) / 2;
+    (cut_to_count(lnz), cut_to_count(ldl), cut_to_count(lu))
+}
+
+/// No place: the end of a list of links, and what an element without a parent has as parent.
+pub const EMPTY: isize = -1;
+
+/// The place that the link at a place names, if it names one.
+#[inline]
+pub fn link_at(links: &[isize], place: usize) -> Option<usize>
+    requires { place < length links.now }
+    ensures { result ≡ named (at links.now place) }
+{
+    usize::try_from(links[place]).ok()
+}
+
+/// Makes the link at a place name another place.
+#[inline]
+pub fn set_link(links: &mut [isize], place: usize, to: usize)
+    requires within { place < length links.old }
+    requires fits { to < 2 ^ 63 }
+    ensures { links.new ≡ slice_set links.old place (pos to) }
+{
+    links[place] = to as isize;
+}
+
+/// Makes the link at a place the same as one of another list.
+#[inline]
+pub fn copy_link(links: &mut [isize], place: usize, from: &[isize], other: usize)
+    requires within { place < length links.old }
+    requires other_within { other < length from.now }
+    ensures { links.new ≡ slice_set links.old place (at from.now other) }
+{
+    links[place] = from[other];
+}

@@ -1,0 +1,323 @@
+-- The lists of the classes by bound stand for the order of placing: a round keeps that, and the pivot that they give is the one of
+-- the rules.
+use Rattle.std.proofs.Common.{ℕ, Bool, true, false, ◌≡◌, ◌≤◌, ◌<◌, ◌&&◌, ◌||◌, not, inl, inr, refl, sym, ◌∙◌, ap, subst, List, [], ◌∷◌, ◌++◌, Vec, Some, cond, arith}
+use Rattle.std.specs.Prelude.{fold, filter, nat_le, nat_lt, ◌==◌}
+use Rattle.std.proofs.lemmas.Bool.{cases_Bool, cond-true, cond-false, cond_both, cases_eq, cases_lt, cases_order, eq-eqb, ne_eqb, eqb-true, le-leb, lt-ltb, or_left, or_right, or_cases, and_parts, and_from, not-true, false≢true}
+use Rattle.std.proofs.lemmas.List.{append-nil}
+use Rattle.std.proofs.lemmas.List.Elements.{filter-append}
+use Rattle.std.proofs.lemmas.List.Sums.{fold_push}
+use Rattle.amd_model.specs.Tie.{has, Once, pivot, last_that}
+use Rattle.amd_model.proofs.TieLists.{clash, has_append, has_filter, once_filter, pivot_least, pivot_named}
+use Rattle.amd_rounds.specs.Views.{num, list_at}
+use Rattle.amd_rounds.specs.Buckets.{live_in, lasts, Popped, Chosen}
+use Rattle.amd_rounds.proofs.MarkLists.{or_none, and_all, and_none, filter_yes, filter_no}
+
+-- ---- what filters keep
+
+pub eq_flip : (a b : ℕ) → (a == b) ≡ (b == a)
+eq_flip a b = elim (cases_eq a b) [
+  | inl e ↦ eq-eqb a b e ∙ sym (eq-eqb b a (sym e))
+  | inr n ↦ ne_eqb a b n ∙ sym (ne_eqb b a (λ e. n (sym e)))
+]
+
+-- tests that agree on a list keep the same of it
+pub filter_on : (p q : ℕ → Bool) (xs : List ℕ) → ((x : ℕ) → has xs x ≡ true → p x ≡ q x) → filter p xs ≡ filter q xs
+unfolding has
+filter_on p q [] h = refl
+filter_on p q (x ∷ xs) h = ap (λ b. cond b (x ∷ filter p xs) (filter p xs)) (h x (or_left (x == x) (has xs x) (eq-eqb x x refl)))
+    ∙ ap (λ l. cond (q x) (x ∷ l) l) (filter_on p q xs (λ y k. h y (or_right (x == y) (has xs y) k)))
+
+-- what passes one test and then another
+pub filter_twice : (p q : ℕ → Bool) (xs : List ℕ) → filter p (filter q xs) ≡ filter (λ x. q x && p x) xs
+filter_twice p q [] = refl
+filter_twice p q (x ∷ xs) = elim (cases_Bool (q x)) [
+  | inl h ↦ ap (filter p) (filter_yes q x xs h) ∙ ap (λ l. cond (p x) (x ∷ l) l) (filter_twice p q xs) ∙ sym (ap (λ b. cond (b && p x) (x ∷ filter (λ y. q y && p y) xs) (filter (λ y. q y && p y) xs)) h)
+  | inr h ↦ ap (filter p) (filter_no q x xs h) ∙ filter_twice p q xs ∙ sym (ap (λ b. cond (b && p x) (x ∷ filter (λ y. q y && p y) xs) (filter (λ y. q y && p y) xs)) h)
+]
+
+pub filters_on : (p q r s : ℕ → Bool) (xs : List ℕ) → ((x : ℕ) → has xs x ≡ true → (q x && p x) ≡ (s x && r x)) → filter p (filter q xs) ≡ filter r (filter s xs)
+filters_on p q r s xs h = filter_twice p q xs ∙ filter_on (λ x. q x && p x) (λ x. s x && r x) xs h ∙ sym (filter_twice r s xs)
+
+-- ---- each number at its last place
+
+lasts_old : (x : ℕ) (xs : List ℕ) → has xs x ≡ true → lasts (x ∷ xs) ≡ lasts xs
+unfolding lasts
+lasts_old x xs h = cond-true (has xs x) (lasts xs) (x ∷ lasts xs) h
+
+lasts_new : (x : ℕ) (xs : List ℕ) → has xs x ≡ false → lasts (x ∷ xs) ≡ x ∷ lasts xs
+unfolding lasts
+lasts_new x xs h = cond-false (has xs x) (lasts xs) (x ∷ lasts xs) h
+
+-- the same numbers are named
+pub has_lasts : (xs : List ℕ) (x : ℕ) → has (lasts xs) x ≡ has xs x
+unfolding has lasts
+has_lasts [] x = refl
+has_lasts (y ∷ ys) x = elim (cases_Bool (has ys y)) [
+  | inl h ↦ ap (λ l. has l x) (lasts_old y ys h) ∙ has_lasts ys x ∙ elim (cases_eq y x) [
+    | inl e ↦ (let k : has ys x ≡ true = ap (has ys) (sym e) ∙ h in k ∙ sym (or_right (y == x) (has ys x) k))
+    | inr n ↦ sym (ap (λ b. b || has ys x) (ne_eqb y x n))
+  ]
+  | inr h ↦ ap (λ l. has l x) (lasts_new y ys h) ∙ ap (λ b. (y == x) || b) (has_lasts ys x)
+]
+
+-- no number stands twice
+pub once_lasts : (xs : List ℕ) → Once (lasts xs)
+unfolding lasts
+once_lasts [] = tt
+once_lasts (y ∷ ys) = elim (cases_Bool (has ys y)) [
+  | inl h ↦ subst Once (sym (lasts_old y ys h)) (once_lasts ys)
+  | inr h ↦ subst Once (sym (lasts_new y ys h)) (has_lasts ys y ∙ h, once_lasts ys)
+]
+
+-- a list without repeats stays
+pub lasts_once : (xs : List ℕ) → Once xs → lasts xs ≡ xs
+unfolding lasts
+lasts_once [] h = refl
+lasts_once (y ∷ ys) h = lasts_new y ys h.0 ∙ ap (λ l. y ∷ l) (lasts_once ys h.1)
+
+-- of two lists, what the second names stands in the second alone
+pub lasts_append : (xs ys : List ℕ) → lasts (xs ++ ys) ≡ filter (λ x. not (has ys x)) (lasts xs) ++ lasts ys
+unfolding lasts
+lasts_append [] ys = refl
+lasts_append (x ∷ xs) ys = elim (cases_Bool (has xs x)) [
+  | inl h ↦ lasts_old x (xs ++ ys) (has_append xs ys x ∙ or_left (has xs x) (has ys x) h) ∙ lasts_append xs ys ∙ sym (ap (λ l. filter (λ z. not (has ys z)) l ++ lasts ys) (lasts_old x xs h))
+  | inr h ↦ elim (cases_Bool (has ys x)) [
+    | inl k ↦ lasts_old x (xs ++ ys) (has_append xs ys x ∙ or_right (has xs x) (has ys x) k) ∙ lasts_append xs ys
+        ∙ sym (ap (λ l. filter (λ z. not (has ys z)) l ++ lasts ys) (lasts_new x xs h) ∙ ap (λ l. l ++ lasts ys) (filter_no (λ z. not (has ys z)) x (lasts xs) (ap not k)))
+    | inr k ↦ lasts_new x (xs ++ ys) (has_append xs ys x ∙ ap (λ b. b || has ys x) h ∙ k) ∙ ap (λ l. x ∷ l) (lasts_append xs ys)
+        ∙ sym (ap (λ l. filter (λ z. not (has ys z)) l ++ lasts ys) (lasts_new x xs h) ∙ ap (λ l. l ++ lasts ys) (filter_yes (λ z. not (has ys z)) x (lasts xs) (ap not k)))
+  ]
+]
+
+-- what passes a test, each at its last place
+pub lasts_filter : (p : ℕ → Bool) (xs : List ℕ) → lasts (filter p xs) ≡ filter p (lasts xs)
+unfolding lasts
+lasts_filter p [] = refl
+lasts_filter p (x ∷ xs) = elim (cases_Bool (p x)) [
+  | inl a ↦ (let named : has (filter p xs) x ≡ has xs x = has_filter p xs x ∙ ap (λ b. has xs x && b) a ∙ and_all (has xs x) in
+      ap lasts (filter_yes p x xs a) ∙ elim (cases_Bool (has xs x)) [
+        | inl h ↦ lasts_old x (filter p xs) (named ∙ h) ∙ lasts_filter p xs ∙ sym (ap (filter p) (lasts_old x xs h))
+        | inr h ↦ lasts_new x (filter p xs) (named ∙ h) ∙ ap (λ l. x ∷ l) (lasts_filter p xs) ∙ sym (ap (filter p) (lasts_new x xs h) ∙ filter_yes p x (lasts xs) a)
+      ])
+  | inr a ↦ ap lasts (filter_no p x xs a) ∙ lasts_filter p xs ∙ elim (cases_Bool (has xs x)) [
+    | inl h ↦ sym (ap (filter p) (lasts_old x xs h))
+    | inr h ↦ sym (ap (filter p) (lasts_new x xs h) ∙ filter_no p x (lasts xs) a)
+  ]
+]
+
+-- a number is placed behind the others
+pub lasts_push : (xs : List ℕ) (c : ℕ) → lasts (xs ++ c ∷ []) ≡ filter (λ x. not (x == c)) (lasts xs) ++ c ∷ []
+unfolding has lasts
+lasts_push xs c = lasts_append xs (c ∷ []) ∙ ap (λ l. l ++ c ∷ []) (filter_on (λ x. not (has (c ∷ []) x)) (λ x. not (x == c)) (lasts xs) (λ x h. ap not (or_none (c == x) ∙ eq_flip c x)))
+
+-- ---- the pivot
+
+-- the walk to the pivot and the walk to the last one of a bound agree from the moment when one of the least bound was met
+walks : (bound : ℕ → ℕ) (m r q : ℕ) (ys : List ℕ) → m ≤ bound r → ((y : ℕ) → has ys y ≡ true → m ≤ bound y) → (bound r ≡ m → q ≡ r) →
+    bound (fold (λ r y. cond (nat_le (bound y) (bound r)) y r) r ys) ≡ m → fold (λ r y. cond (bound y == m) y r) q ys ≡ fold (λ r y. cond (nat_le (bound y) (bound r)) y r) r ys
+unfolding has
+walks bound m r q [] lr ly h e = h e
+walks bound m r q (y ∷ ys) lr ly h e =
+    let my : m ≤ bound y = ly y (or_left (y == y) (has ys y) (eq-eqb y y refl)) in
+    let rest : (z : ℕ) → has ys z ≡ true → m ≤ bound z = λ z k. ly z (or_right (y == z) (has ys z) k) in
+    let t : Bool = nat_le (bound y) (bound r) in
+    walks bound m (cond t y r) (cond (bound y == m) y q) ys
+    (cond_both t y r (λ k. m ≤ bound k) (λ k. my) (λ k. lr)) rest
+    (λ k. elim (cases_eq (bound y) m) [
+      | inl s ↦ cond-true (bound y == m) y q (eq-eqb (bound y) m s) ∙ sym (cond-true t y r (le-leb (bound y) (bound r) (omega (arith, s, lr))))
+      | inr n ↦ cond-false (bound y == m) y q (ne_eqb (bound y) m n) ∙ elim (cases_Bool t) [
+        | inl a ↦ absurd (n (sym (ap bound (cond-true t y r a)) ∙ k))
+        | inr a ↦ h (sym (ap bound (cond-false t y r a)) ∙ k) ∙ sym (cond-false t y r a)
+      ]
+    ]) e
+
+-- the pivot is the last one of its bound
+pub pivot_last : (bound : ℕ → ℕ) (c : ℕ) (xs : List ℕ) → last_that (λ y. bound y == bound (pivot bound (c ∷ xs))) c xs ≡ pivot bound (c ∷ xs)
+unfolding last_that pivot has
+pivot_last bound c xs = let m : ℕ = bound (pivot bound (c ∷ xs)) in
+    walks bound m c c xs (pivot_least bound c xs c (or_left (c == c) (has xs c) (eq-eqb c c refl))) (λ y k. pivot_least bound c xs y (or_right (c == y) (has xs y) k)) (λ e. refl) refl
+
+-- the last one that passes is the last of those that pass
+pub last_filter : (p : ℕ → Bool) (d : ℕ) (xs : List ℕ) → last_that p d xs ≡ fold (λ r x. x) d (filter p xs)
+unfolding last_that
+last_filter p d [] = refl
+last_filter p d (x ∷ xs) = elim (cases_Bool (p x)) [
+  | inl k ↦ ap (λ e. last_that p e xs) (cond-true (p x) x d k) ∙ last_filter p x xs ∙ sym (ap (fold (λ r x. x) d) (filter_yes p x xs k))
+  | inr k ↦ ap (λ e. last_that p e xs) (cond-false (p x) x d k) ∙ last_filter p d xs ∙ sym (ap (fold (λ r x. x) d) (filter_no p x xs k))
+]
+
+-- the head alone makes no difference as the first answer
+last_head : (p : ℕ → Bool) (d : ℕ) (xs : List ℕ) → fold (λ r x. x) d (filter p xs) ≡ fold (λ r x. x) d (filter p (d ∷ xs))
+last_head p d xs = elim (cases_Bool (p d)) [
+  | inl k ↦ sym (ap (fold (λ r x. x) d) (filter_yes p d xs k))
+  | inr k ↦ sym (ap (fold (λ r x. x) d) (filter_no p d xs k))
+]
+
+-- the last one placed of those of the least bound is the pivot
+pub choose_pivot : (bound : ℕ → ℕ) (placed : List ℕ) (m c : ℕ) (xs : List ℕ) → ((i : ℕ) → has placed i ≡ true → m ≤ bound i) → filter (λ i. bound i == m) placed ≡ xs ++ c ∷ [] → pivot bound placed ≡ c
+unfolding has
+choose_pivot bound [] m c xs low is = absurd (false≢true (ap (λ l. has l c) is ∙ has_append xs (c ∷ []) c ∙ or_right (has xs c) (has (c ∷ []) c) (or_left (c == c) false (eq-eqb c c refl))))
+choose_pivot bound (d ∷ ds) m c xs low is =
+    let placed : List ℕ = d ∷ ds in
+    let p : ℕ = pivot bound placed in
+    let named = ap (λ l. has l c) is ∙ has_append xs (c ∷ []) c ∙ or_right (has xs c) (has (c ∷ []) c) (or_left (c == c) false (eq-eqb c c refl)) in
+    let parts = and_parts (has placed c) (bound c == m) (sym (has_filter (λ i. bound i == m) placed c) ∙ named) in
+    let bound_c : bound c ≡ m = eqb-true (bound c) m parts.1 in
+    let up = pivot_least bound d ds c parts.0 in
+    let down = low p (pivot_named bound d ds) in
+    let same : bound p ≡ m = omega (arith, bound_c, up, down) in
+    sym (pivot_last bound d ds) ∙ ap (λ n. last_that (λ y. bound y == n) d ds) same ∙ last_filter (λ y. bound y == m) d ds ∙ last_head (λ y. bound y == m) d ds
+    ∙ ap (fold (λ r x. x) d) is ∙ fold_push (λ r x. x) d xs c
+
+-- ---- a round
+
+-- the classes of a list from which the last one was taken
+pub popped_live : (size bound : List ℕ) (b : ℕ) (old new : List ℕ) (c : ℕ) → Popped size bound b old new (Some c) → live_in size bound b old ≡ live_in size bound b new ++ c ∷ []
+popped_live size bound b old new c h =
+    let live = live_in size bound b in let is_class = λ (x : ℕ). nat_lt 0 (num size x) && num bound x == b in
+    ap live h.1 ∙ filter-append is_class new (c ∷ h.0) ∙ ap (λ l. live new ++ l) (filter-append is_class (c ∷ []) h.0 ∙ ap (λ l. l ++ live h.0) h.2 ∙ ap (λ l. c ∷ l) h.3)
+
+-- where c is left out, a list of which c is taken stays
+lasts_without : (p : ℕ → Bool) (c : ℕ) (xs : List ℕ) → p c ≡ false → filter p (lasts (xs ++ c ∷ [])) ≡ filter p (lasts xs)
+lasts_without p c xs f = ap (filter p) (lasts_push xs c) ∙ filter-append p (filter (λ x. not (x == c)) (lasts xs)) (c ∷ [])
+    ∙ ap (λ l. filter p (filter (λ x. not (x == c)) (lasts xs)) ++ l) (filter_no p c [] f) ∙ append-nil (filter p (filter (λ x. not (x == c)) (lasts xs)))
+    ∙ filter_twice p (λ x. not (x == c)) (lasts xs) ∙ filter_on (λ x. not (x == c) && p x) p (lasts xs) (λ x h. elim (cases_eq x c) [
+      | inl e ↦ (let q : p x ≡ false = ap p e ∙ f in ap (λ b. not (x == c) && b) q ∙ and_none (not (x == c)) ∙ sym q)
+      | inr n ↦ ap (λ b. not b && p x) (ne_eqb x c n)
+    ])
+
+-- the lists of the classes by bound, old, and after the class c was chosen, stand for the order of placing
+module _ {A : Type 0} (size bound : List ℕ) (old mid : List (Vec ℕ A)) (before least c : ℕ) (placed : List ℕ) (bound_of : ℕ → ℕ)
+    (chosen : Chosen size bound old mid before least c)
+    (stands : (b : ℕ) → lasts (live_in size bound b (list_at old b)) ≡ filter (λ i. bound_of i == b) placed)
+    (low : (i : ℕ) → has placed i ≡ true → before ≤ bound_of i) where
+  -- no class has a bound below the one that was chosen
+  pub least_low : (i : ℕ) → has placed i ≡ true → least ≤ bound_of i
+  unfolding has lasts
+  least_low i h = elim (cases_lt (bound_of i) least) [
+    | inr l ↦ l
+    | inl l ↦ (
+        let none = (chosen.lower (bound_of i) (low i h) l).1 in
+        let is = sym (stands (bound_of i)) ∙ ap lasts none in
+        let named = has_filter (λ j. bound_of j == bound_of i) placed i ∙ and_from (has placed i) (bound_of i == bound_of i) h (eq-eqb (bound_of i) (bound_of i) refl) in
+        clash named (ap (λ l. has l i) is))
+  ]
+
+  -- the class that was chosen is the pivot
+  pub chosen_pivot : pivot bound_of placed ≡ c
+  chosen_pivot =
+      let live = live_in size bound least (list_at mid least) in
+      choose_pivot bound_of placed least c (filter (λ x. not (x == c)) (lasts live)) least_low
+      (sym (stands least) ∙ ap lasts (popped_live size bound least (list_at old least) (list_at mid least) c chosen.popped) ∙ lasts_push live c)
+
+  -- the class apart, the classes of each bound stay
+  pub chosen_rest : (p : ℕ → Bool) → p c ≡ false → (b : ℕ) → filter p (lasts (live_in size bound b (list_at mid b))) ≡ filter p (lasts (live_in size bound b (list_at old b)))
+  chosen_rest p f b = elim (cases_order b least) [
+    | inl e ↦ subst (λ a. filter p (lasts (live_in size bound a (list_at mid a))) ≡ filter p (lasts (live_in size bound a (list_at old a)))) (sym e)
+        (sym (ap (λ l. filter p (lasts l)) (popped_live size bound least (list_at old least) (list_at mid least) c chosen.popped) ∙ lasts_without p c (live_in size bound least (list_at mid least)) f))
+    | inr k ↦ elim k [
+      | inr l ↦ ap (λ l. filter p (lasts (live_in size bound b l))) (chosen.others b (inr l))
+      | inl l ↦ elim (cases_lt b before) [
+        | inl m ↦ ap (λ l. filter p (lasts (live_in size bound b l))) (chosen.others b (inl m))
+        | inr m ↦ (let both = chosen.lower b m l in ap (λ l. filter p (lasts (live_in size bound b l))) both.0 ∙ sym (ap (λ l. filter p (lasts l)) both.1))
+      ]
+    ]
+  ]
+
+  -- after the round: the classes `made` of the list `front` are placed behind the others with their new bounds, and the other
+  -- classes of `front` have ended, as c has
+  module _ (new : List (Vec ℕ A)) (sizes bounds front made : List ℕ) (bound_after : ℕ → ℕ)
+      (placing : (b : ℕ) → list_at new b ≡ list_at mid b ++ filter (λ i. num bounds i == b) made)
+      (made_once : Once made)
+      (of_front : (i : ℕ) → has made i ≡ true → has front i ≡ true)
+      (stay : (i : ℕ) → (i == c || has front i) ≡ false → (num sizes i ≡ num size i) × (num bounds i ≡ num bound i))
+      (made_live : (i : ℕ) → has made i ≡ true → 0 < num sizes i)
+      (ended : (i : ℕ) → (i == c || has front i) ≡ true → has made i ≡ false → num sizes i ≡ 0)
+      (bound_is : (i : ℕ) → has placed i ≡ true → bound_of i ≡ num bound i)
+      (after_is : (i : ℕ) → has (filter (λ i. not (i == c || has front i)) placed ++ made) i ≡ true → bound_after i ≡ num bounds i) where
+    -- of the classes that were placed before, those of a bound are those that had it and have neither ended nor been placed anew
+    still : (b x : ℕ) → ((nat_lt 0 (num sizes x) && num bounds x == b) && not (has (filter (λ i. num bounds i == b) made) x))
+        ≡ ((nat_lt 0 (num size x) && num bound x == b) && not (x == c || has front x))
+    still b x =
+        let live : Bool = nat_lt 0 (num sizes x) && num bounds x == b in
+        let was_live : Bool = nat_lt 0 (num size x) && num bound x == b in
+        let again : Bool = has (filter (λ i. num bounds i == b) made) x in
+        let again_is : again ≡ (has made x && num bounds x == b) = has_filter (λ i. num bounds i == b) made x in
+        elim (cases_Bool (x == c || has front x)) [
+          | inr out ↦ (
+              let kept = stay x out in
+              let not_made : has made x ≡ false = elim (cases_Bool (has made x)) [
+                | inr k ↦ k
+                | inl k ↦ clash (or_right (x == c) (has front x) (of_front x k)) out
+              ] in
+              let same : live ≡ was_live = ap (λ n. nat_lt 0 n && num bounds x == b) kept.0 ∙ ap (λ n. nat_lt 0 (num size x) && n == b) kept.1 in
+              ap (λ t. live && not t) (again_is ∙ ap (λ t. t && num bounds x == b) not_made) ∙ and_all live ∙ same ∙ sym (ap (λ t. was_live && not t) out ∙ and_all was_live))
+          | inl inside ↦ elim (cases_Bool (has made x)) [
+            | inl k ↦ ap (λ t. live && not t) (again_is ∙ ap (λ t. t && num bounds x == b) k) ∙ and_own (nat_lt 0 (num sizes x)) (num bounds x == b) ∙ sym (ap (λ t. was_live && not t) inside ∙ and_none was_live)
+            | inr k ↦ ap (λ n. (nat_lt 0 n && num bounds x == b) && not again) (ended x inside k) ∙ sym (ap (λ t. was_live && not t) inside ∙ and_none was_live)
+          ]
+        ]
+      where
+        and_own : (a b : Bool) → ((a && b) && not b) ≡ false
+        and_own true true = refl
+        and_own true false = refl
+        and_own false b = refl
+
+    -- the lists of the classes by bound stand for the new order of placing
+    pub bucket_step : (b : ℕ) → lasts (live_in sizes bounds b (list_at new b)) ≡ filter (λ i. bound_after i == b) (filter (λ i. not (i == c || has front i)) placed ++ made)
+    bucket_step b =
+        let live = λ (x : ℕ). nat_lt 0 (num sizes x) && num bounds x == b in
+        let was_live = λ (x : ℕ). nat_lt 0 (num size x) && num bound x == b in
+        let other = λ (i : ℕ). not (i == c || has front i) in
+        let again : List ℕ = filter (λ i. num bounds i == b) made in
+        let before_list : List ℕ = list_at mid b in
+        -- those that are placed again
+        let again_live : filter live again ≡ again = filter_twice live (λ i. num bounds i == b) made
+        ∙ filter_on (λ x. num bounds x == b && live x) (λ i. num bounds i == b) made (λ x h. and_same (nat_lt 0 (num sizes x)) (num bounds x == b) (lt-ltb 0 (num sizes x) (made_live x h))) in
+        let again_after : again ≡ filter (λ i. bound_after i == b) made = filter_on (λ i. num bounds i == b) (λ i. bound_after i == b) made
+        (λ x h. ap (λ n. n == b) (sym (after_is x (has_append (filter other placed) made x ∙ or_right (has (filter other placed) x) (has made x) h)))) in
+        -- the others
+        let other_c : other c ≡ false = ap not (or_left (c == c) (has front c) (eq-eqb c c refl)) in
+        let rest : filter (λ x. not (has again x)) (lasts (filter live before_list)) ≡ filter other (filter (λ i. bound_of i == b) placed) =
+        ap (filter (λ x. not (has again x))) (lasts_filter live before_list)
+        ∙ filters_on (λ x. not (has again x)) live other was_live (lasts before_list) (λ x h. still b x)
+        ∙ ap (filter other) (sym (lasts_filter was_live before_list))
+        ∙ chosen_rest other other_c b ∙ ap (filter other) (stands b) in
+        let rest_after : filter other (filter (λ i. bound_of i == b) placed) ≡ filter (λ i. bound_after i == b) (filter other placed) =
+        filters_on other (λ i. bound_of i == b) (λ i. bound_after i == b) other placed (λ x h. agree b x h) in
+        ap (λ l. lasts (filter live l)) (placing b) ∙ ap lasts (filter-append live before_list again ∙ ap (λ l. filter live before_list ++ l) again_live)
+        ∙ lasts_append (filter live before_list) again
+        ∙ ap (λ l. filter (λ x. not (has again x)) (lasts (filter live before_list)) ++ l) (lasts_once again (once_filter (λ i. num bounds i == b) made made_once) ∙ again_after)
+        ∙ ap (λ l. l ++ filter (λ i. bound_after i == b) made) (rest ∙ rest_after)
+        ∙ sym (filter-append (λ i. bound_after i == b) (filter other placed) made)
+      where
+        and_same : (a b : Bool) → a ≡ true → (b && (a && b)) ≡ b
+        and_same true true h = refl
+        and_same true false h = refl
+        and_same false b h = absurd (false≢true h)
+
+        agree : (b x : ℕ) → has placed x ≡ true → (bound_of x == b && not (x == c || has front x)) ≡ (not (x == c || has front x) && bound_after x == b)
+        agree b x h = elim (cases_Bool (x == c || has front x)) [
+          | inl inside ↦ ap (λ t. bound_of x == b && not t) inside ∙ and_none (bound_of x == b) ∙ sym (ap (λ t. not t && bound_after x == b) inside)
+          | inr out ↦ (
+              let other = λ (i : ℕ). not (i == c || has front i) in
+              let stays : has (filter other placed) x ≡ true = has_filter other placed x ∙ and_from (has placed x) (other x) h (ap not out) in
+              let same : bound_of x ≡ bound_after x = bound_is x h ∙ sym (stay x out).1 ∙ sym (after_is x (has_append (filter other placed) made x ∙ or_left (has (filter other placed) x) (has made x) stays)) in
+              ap (λ t. bound_of x == b && not t) out ∙ and_all (bound_of x == b) ∙ ap (λ n. n == b) same ∙ sym (ap (λ t. not t && bound_after x == b) out))
+        ]
+
+    -- what is below the bound that was chosen and the bounds of those that are placed is below all of them
+    pub least_step : (lower : ℕ) → lower ≤ least → ((i : ℕ) → has made i ≡ true → lower ≤ num bounds i) →
+        (i : ℕ) → has (filter (λ i. not (i == c || has front i)) placed ++ made) i ≡ true → lower ≤ bound_after i
+    least_step lower l k i h =
+        let other = λ (j : ℕ). not (j == c || has front j) in
+        let is = after_is i h in
+        elim (or_cases (has (filter other placed) i) (has made i) (sym (has_append (filter other placed) made i) ∙ h)) [
+          | inr m ↦ (let d = k i m in omega (arith, d, is))
+          | inl m ↦ (
+              let parts = and_parts (has placed i) (other i) (sym (has_filter other placed i) ∙ m) in
+              let d = least_low i parts.0 in
+              let was = bound_is i parts.0 in
+              let same = (stay i (not-true (i == c || has front i) parts.1)).1 in
+              omega (arith, l, d, is, was, same))
+        ]

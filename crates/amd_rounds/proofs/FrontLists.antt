@@ -1,0 +1,47 @@
+-- The pivot and the list of its element are rows, and the list names each once and not the pivot.
+use Rattle.std.proofs.Common.{ℕ, Bool, true, false, List, [], ◌∷◌, ◌++◌, Some, ◌≡◌, ◌<◌, not, inl, inr, refl, sym, ◌∙◌, ap, subst}
+use Rattle.std.specs.Prelude.{Vec, filter, flat_map, nat_lt, ◌==◌}
+use Rattle.std.proofs.lemmas.Bool.{cases_Bool, eq-eqb, or_cases, or_left, or_right, and_parts}
+use Rattle.amd_model.specs.Tie.{has, Once}
+use Rattle.amd_model.proofs.TieLists.{clash, has_append, has_filter, flat_gives, once_firsts, firsts as firsts_names}
+use Rattle.amd_rounds.specs.Views.{num, list_at, live_of, Below, ListsBelow}
+use Rattle.amd_rounds.specs.Buckets.{Popped}
+use Rattle.amd_rounds.specs.Rounds.{firsts}
+use Rattle.amd_rounds.proofs.KeptParts.{below_from, below_gives, touched_new}
+use Rattle.amd_rounds.proofs.MarkLists.{list_below}
+
+-- what was taken from a list of numbers below n is below n
+pub pivot_below : {A : Type 0} (n : ℕ) (size bound : List ℕ) (least : ℕ) (lists : List (Vec ℕ A)) (new : List ℕ) (c : ℕ) → ListsBelow n lists → Popped size bound least (list_at lists least) new (Some c) → c < n
+unfolding has
+pivot_below n size bound least lists new c below popped = below_gives n (list_at lists least) (list_below n lists below least) c
+    (ap (λ l. has l c) popped.1 ∙ has_append new (c ∷ popped.0) c ∙ or_right (has new c) (has (c ∷ popped.0) c) (or_left (c == c) (has popped.0 c) (eq-eqb c c refl)))
+
+-- the list of a new element, as it is gathered
+module _ {A : Type 0} (size : List ℕ) (members elements variables : List (Vec ℕ A)) (c : ℕ) (front : List ℕ)
+    (is : front ≡ firsts (λ x. x == c) (flat_map (λ e. live_of size (list_at members e)) (list_at elements c) ++ live_of size (list_at variables c))) where
+  -- what is gathered
+  abbrev front_all : List ℕ
+  front_all = flat_map (λ e. live_of size (list_at members e)) (list_at elements c) ++ live_of size (list_at variables c)
+
+  pub front_below : (n : ℕ) → ListsBelow n members → ListsBelow n variables → Below n front
+  unfolding has
+  front_below n in_members in_variables = below_from n front (λ x h.
+      let named = and_parts (has front_all x) (not (x == c)) (sym (firsts_names (λ x. x == c) [] front_all x) ∙ ap (λ l. has l x) (sym is) ∙ h) in
+      elim (or_cases (has (flat_map (λ e. live_of size (list_at members e)) (list_at elements c)) x) (has (live_of size (list_at variables c)) x)
+      (sym (has_append (flat_map (λ e. live_of size (list_at members e)) (list_at elements c)) (live_of size (list_at variables c)) x) ∙ named.0)) [
+        | inl k ↦ (let from = flat_gives (λ e. live_of size (list_at members e)) (list_at elements c) x k in small members in_members from.0 x from.2)
+        | inr k ↦ small variables in_variables c x k
+      ])
+    where
+      small : (lists : List (Vec ℕ A)) → ListsBelow n lists → (e x : ℕ) → has (live_of size (list_at lists e)) x ≡ true → x < n
+      small lists below e x h = below_gives n (list_at lists e) (list_below n lists below e) x
+          (and_parts (has (list_at lists e) x) (nat_lt 0 (num size x)) (sym (has_filter (λ j. nat_lt 0 (num size j)) (list_at lists e) x) ∙ h)).0
+
+  pub front_once : Once front
+  front_once = subst Once (sym is) (once_firsts (λ x. x == c) [] front_all tt)
+
+  pub front_other : has front c ≡ false
+  front_other = elim (cases_Bool (has front c)) [
+    | inr n ↦ n
+    | inl h ↦ clash (eq-eqb c c refl) (touched_new (λ x. x == c) front_all front is c h)
+  ]

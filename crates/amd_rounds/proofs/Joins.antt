@@ -1,0 +1,172 @@
+-- The rows of classes while each is merged into its representative.
+use Rattle.std.proofs.Common.{ℕ, Bool, true, false, ◌≡◌, ◌≢◌, ◌<◌, ◌≤◌, ◌+◌, ◌&&◌, ◌||◌, not, cond, inl, inr, refl, sym, ◌∙◌, ap, arith, List, [], ◌∷◌, take, drop, length, get_or}
+use Rattle.std.specs.Prelude.{◌==◌, filter, sum_by}
+use Rattle.std.proofs.lemmas.Bool.{cases_Bool, false≢true, and_from, and_left, and_right, or_cases, or_parts, eqb-true, eq-eqb, ne_eqb, cases_eq, cond-true, cond-false, not_from_false, not_from_true}
+use Rattle.std.proofs.lemmas.List.{take_more, take_all, take-append-drop}
+use Rattle.std.proofs.lemmas.List.Elements.{filter-append}
+use Rattle.std.proofs.lemmas.List.Sums.{sum_by-append, sum_by-cons}
+use Rattle.amd_model.specs.Tie.{has, Once}
+use Rattle.amd_model.proofs.TieLists.{clash}
+use Rattle.amd_rounds.proofs.BoundLists.{has_more, has_at, has_all, not_met}
+
+-- what passes adds its term
+pub sum_pass : (f : ℕ → ℕ) (p : ℕ → Bool) (y : ℕ) (xs : List ℕ) → sum_by f (filter p (y ∷ xs)) ≡ cond (p y) (f y) 0 + sum_by f (filter p xs)
+sum_pass f p y xs = elim (cases_Bool (p y)) [
+  | inl h ↦ (let a = ap (sum_by f) (cond-true (p y) (y ∷ filter p xs) (filter p xs) h) in let b = cond-true (p y) (f y) 0 h in let c = sum_by-cons f y (filter p xs) in omega (arith, a, b, c))
+  | inr h ↦ (let a = ap (sum_by f) (cond-false (p y) (y ∷ filter p xs) (filter p xs) h) in let b = cond-false (p y) (f y) 0 h in omega (arith, a, b))
+]
+
+pub sum_part : (f : ℕ → ℕ) (p : ℕ → Bool) (xs : List ℕ) → sum_by f (filter p xs) ≤ sum_by f xs
+sum_part f p [] = omega arith
+sum_part f p (y ∷ xs) = let a = sum_pass f p y xs in let b = sum_part f p xs in let c = sum_by-cons f y xs in let d = at_most (p y) (f y) in omega (arith, a, b, c, d)
+  where
+    at_most : (b : Bool) (m : ℕ) → cond b m 0 ≤ m
+    at_most true m = omega arith
+    at_most false m = omega arith
+
+pub sum_upto : (f : ℕ → ℕ) (p : ℕ → Bool) (xs : List ℕ) (k : ℕ) → sum_by f (filter p (take k xs)) ≤ sum_by f (filter p xs)
+sum_upto f p xs k = let a = ap (λ ys. sum_by f (filter p ys)) (take-append-drop k xs) in let b = ap (sum_by f) (filter-append p (take k xs) (drop k xs)) in
+    let c = sum_by-append f (filter p (take k xs)) (filter p (drop k xs)) in omega (arith, a, b, c)
+
+pub sum_next : (f : ℕ → ℕ) (p : ℕ → Bool) (xs : List ℕ) (k d : ℕ) → k < length xs → sum_by f (filter p (take (k + 1) xs)) ≡ sum_by f (filter p (take k xs)) + cond (p (get_or xs k d)) (f (get_or xs k d)) 0
+sum_next f p xs k d l = let x : ℕ = get_or xs k d in
+    let a = ap (λ ys. sum_by f (filter p ys)) (take_more xs k d l) in let b = ap (sum_by f) (filter-append p (take k xs) (x ∷ [])) in
+    let c = sum_by-append f (filter p (take k xs)) (filter p (x ∷ [])) in let e = sum_pass f p x [] in omega (arith, a, b, c, e)
+
+-- one number that passes, and the others
+module _ (f : ℕ → ℕ) (p : ℕ → Bool) (x : ℕ) where
+  abbrev others : ℕ → Bool
+  others j = p j && not (j == x)
+
+  other_term : (y : ℕ) → y ≢ x → cond (others y) (f y) 0 ≡ cond (p y) (f y) 0
+  other_term y ne = ap (λ b. cond b (f y) 0) (and_yes (p y) (not (y == x)) (not_from_false (y == x) (ne_eqb y x ne)))
+    where
+      and_yes : (a b : Bool) → b ≡ true → (a && b) ≡ a
+      and_yes true b e = e
+      and_yes false b e = refl
+
+  none_apart : (xs : List ℕ) → has xs x ≡ false → sum_by f (filter others xs) ≡ sum_by f (filter p xs)
+  unfolding has
+  none_apart [] h = refl
+  none_apart (y ∷ xs) h = let q = or_parts (y == x) (has xs x) h in
+      let a = sum_pass f p y xs in let b = sum_pass f others y xs in let c = none_apart xs q.1 in let d = other_term y (λ e. clash (eq-eqb y x e) q.0) in omega (arith, a, b, c, d)
+
+  pub sum_apart : (xs : List ℕ) → Once xs → has xs x ≡ true → p x ≡ true → f x + sum_by f (filter others xs) ≡ sum_by f (filter p xs)
+  unfolding has
+  sum_apart [] o h e = absurd (false≢true h)
+  sum_apart (y ∷ xs) o h e = let a = sum_pass f p y xs in let b = sum_pass f others y xs in elim (cases_eq y x) [
+    | inl same ↦ (let c = none_apart xs (ap (has xs) (sym same) ∙ o.0) in
+        let d = cond-true (p y) (f y) 0 (ap p same ∙ e) in
+        let g = cond-false (others y) (f y) 0 (and_right (p y) (not (y == x)) (not_from_true (y == x) (eq-eqb y x same))) in
+        let m = ap f same in omega (arith, a, b, c, d, g, m))
+    | inr ne ↦ (let c = sum_apart xs o.1 (elim (or_cases (y == x) (has xs x) h) [ inl q ↦ absurd (ne (eqb-true y x q)) | inr q ↦ q ]) e in let d = other_term y ne in omega (arith, a, b, c, d))
+  ]
+
+-- the rows that the classes met so far, other than x, bring to x
+abbrev pub brought : List ℕ → (ℕ → ℕ) → (ℕ → ℕ) → ℕ → ℕ → ℕ
+brought rest into old k x = sum_by old (filter (λ j. into j == x && not (j == x)) (take k rest))
+
+-- the sizes after the first k classes were merged: a representative has more rows, what was merged has none, the others stay
+pub record Merged (rest : List ℕ) (into old : ℕ → ℕ) (k : ℕ) (size : ℕ → ℕ) : Type 0 where
+  pub kept : (x : ℕ) → has rest x ≡ true → into x ≡ x → size x ≡ old x + brought rest into old k x
+  pub gone : (x : ℕ) → has (take k rest) x ≡ true → into x ≢ x → size x ≡ 0
+  pub left : (x : ℕ) → has (take k rest) x ≡ false → into x ≢ x → size x ≡ old x
+  pub apart : (x : ℕ) → has rest x ≡ false → size x ≡ old x
+
+module _ (rest : List ℕ) (into old : ℕ → ℕ) where
+  pub merged_none : Merged rest into old 0 old
+  unfolding has
+  merged_none = record { kept = λ x h e. omega arith; gone = λ x h e. absurd (false≢true h); left = λ x h e. refl; apart = λ x h. refl }
+
+  module _ (k : ℕ) (within : k < length rest) (size : ℕ → ℕ) (so : Merged rest into old k size) where
+    i : ℕ
+    i = get_or rest k 0
+
+    more : (x : ℕ) → brought rest into old (k + 1) x ≡ brought rest into old k x + cond (into i == x && not (i == x)) (old i) 0
+    unfolding i
+    more x = sum_next old (λ j. into j == x && not (j == x)) rest k 0 within
+
+    none_more : (x : ℕ) → (into i == x && not (i == x)) ≡ false → brought rest into old (k + 1) x ≡ brought rest into old k x
+    none_more x e = let a = more x in let b = cond-false (into i == x && not (i == x)) (old i) 0 e in omega (arith, a, b)
+
+    met : (x : ℕ) → has (take (k + 1) rest) x ≡ (has (take k rest) x || i == x)
+    unfolding i
+    met x = has_more rest k 0 within x
+
+    met_before : (x : ℕ) → has (take (k + 1) rest) x ≡ true → x ≢ i → has (take k rest) x ≡ true
+    met_before x h ne = elim (or_cases (has (take k rest) x) (i == x) (sym (met x) ∙ h)) [ inl q ↦ q | inr q ↦ absurd (ne (sym (eqb-true i x q))) ]
+
+    unmet_before : (x : ℕ) → has (take (k + 1) rest) x ≡ false → (has (take k rest) x ≡ false) × (x ≢ i)
+    unmet_before x h = let p = or_parts (has (take k rest) x) (i == x) (sym (met x) ∙ h) in (p.0, λ e. clash (eq-eqb i x (sym e)) p.1)
+
+    -- a class that represents itself stays
+    pub merged_stays : into (get_or rest k 0) ≡ get_or rest k 0 → Merged rest into old (k + 1) size
+    unfolding i
+    merged_stays self = record {
+      kept = λ x h e. (let a = so.kept x h e in let b = none_more x (elim (cases_eq i x) [
+        | inl q ↦ and_right (into i == x) (not (i == x)) (not_from_true (i == x) (eq-eqb i x q))
+        | inr ne ↦ and_left (into i == x) (not (i == x)) (ne_eqb (into i) x (λ q. ne (sym self ∙ q)))
+      ]) in omega (arith, a, b));
+      gone = λ x h e. so.gone x (met_before x h (λ q. e (ap into q ∙ self ∙ sym q))) e;
+      left = λ x h e. so.left x (unmet_before x h).0 e;
+      apart = so.apart;
+    }
+
+    module _ (once : Once rest) (other : into (get_or rest k 0) ≢ get_or rest k 0) (target : (has rest (into (get_or rest k 0)) ≡ true) × (into (into (get_or rest k 0)) ≡ into (get_or rest k 0))) where
+      own_rows : size (get_or rest k 0) ≡ old (get_or rest k 0)
+      own_rows = so.left (get_or rest k 0) (not_met rest k 0 within once) other
+
+      passes : (into i == into i && not (i == into i)) ≡ true
+      unfolding i
+      passes = and_from (into i == into i) (not (i == into i)) (eq-eqb (into i) (into i) refl) (not_from_false (i == into i) (ne_eqb i (into i) (λ e. other (sym e))))
+
+      after_target : brought rest into old (k + 1) (into i) ≡ brought rest into old k (into i) + old i
+      after_target = let a = more (into i) in let b = cond-true (into i == into i && not (i == into i)) (old i) 0 passes in omega (arith, a, b)
+
+      -- the rows of the representative and of the class are among those of the list
+      pub merged_fits : size (into (get_or rest k 0)) + size (get_or rest k 0) ≤ sum_by old rest
+      unfolding i
+      merged_fits =
+          let r : ℕ = into i in
+          let a = so.kept r target.0 target.1 in
+          let b = after_target in
+          let c = sum_upto old (λ j. into j == r && not (j == r)) rest (k + 1) in
+          let d = sum_apart old (λ j. into j == r) r rest once target.0 (eq-eqb (into r) r target.1) in
+          let e = sum_part old (λ j. into j == r) rest in
+          let f = own_rows in
+          omega (arith, a, b, c, d, e, f)
+
+      -- another one is merged
+      pub merged_moves : (after : ℕ → ℕ) → after (get_or rest k 0) ≡ 0 → after (into (get_or rest k 0)) ≡ size (into (get_or rest k 0)) + size (get_or rest k 0) →
+          ((x : ℕ) → x ≢ get_or rest k 0 → x ≢ into (get_or rest k 0) → after x ≡ size x) → Merged rest into old (k + 1) after
+      unfolding i
+      merged_moves after here there same =
+          let r : ℕ = into i in
+          let no_self : (x : ℕ) → into x ≢ x → x ≢ r = λ x e q. e (ap into q ∙ target.1 ∙ sym q) in record {
+            kept = λ x h e. elim (cases_eq x r) [
+              | inl q ↦ (let a = so.kept r target.0 target.1 in let b = after_target in let c = ap after q in let d = ap old q in let f = ap (brought rest into old (k + 1)) q in let o = own_rows in
+                  omega (arith, a, b, c, d, f, there, o))
+              | inr ne ↦ (let a = so.kept x h e in let b = none_more x (and_left (into i == x) (not (i == x)) (ne_eqb (into i) x (λ q. ne (sym q)))) in
+                  let c = same x (λ q. other (ap into (sym q) ∙ e ∙ q)) ne in omega (arith, a, b, c))
+            ];
+            gone = λ x h e. elim (cases_eq x i) [
+              | inl q ↦ ap after q ∙ here
+              | inr ne ↦ same x ne (no_self x e) ∙ so.gone x (met_before x h ne) e
+            ];
+            left = λ x h e. (let u = unmet_before x h in same x u.1 (no_self x e) ∙ so.left x u.0 e);
+            apart = λ x h. same x (λ q. clash (ap (has rest) q ∙ has_at rest k 0 within) h) (λ q. clash (ap (has rest) q ∙ target.0) h) ∙ so.apart x h;
+          }
+
+  -- all are merged
+  pub merged_all : (k : ℕ) → length rest ≤ k → Once rest → (size : ℕ → ℕ) → Merged rest into old k size → (x : ℕ) → size x ≡ cond (has rest x) (cond (into x == x) (sum_by old (filter (λ j. into j == x) rest)) 0) (old x)
+  merged_all k l once size so x = elim (cases_Bool (has rest x)) [
+    | inr h ↦ so.apart x h ∙ sym (cond-false (has rest x) (cond (into x == x) (sum_by old (filter (λ j. into j == x) rest)) 0) (old x) h)
+    | inl h ↦ elim (cases_eq (into x) x) [
+      | inl e ↦ (let a = so.kept x h e in let b = ap (λ ys. sum_by old (filter (λ j. into j == x && not (j == x)) ys)) (take_all k rest l) in
+          let c = sum_apart old (λ j. into j == x) x rest once h (eq-eqb (into x) x e) in
+          let d : size x ≡ sum_by old (filter (λ j. into j == x) rest) = omega (arith, a, b, c) in
+          d ∙ sym (cond-true (into x == x) (sum_by old (filter (λ j. into j == x) rest)) 0 (eq-eqb (into x) x e))) ∙ sym (cond-true (has rest x) (cond (into x == x) (sum_by old (filter (λ j. into j == x) rest)) 0) (old x) h)
+      | inr ne ↦ so.gone x (has_all rest k l x ∙ h) ne ∙ sym (cond-false (into x == x) (sum_by old (filter (λ j. into j == x) rest)) 0 (ne_eqb (into x) x ne))
+          ∙ sym (cond-true (has rest x) (cond (into x == x) (sum_by old (filter (λ j. into j == x) rest)) 0) (old x) h)
+    ]
+  ]

@@ -1,0 +1,249 @@
+-- What an absorption finds and leaves in the lists of a record is what the rules say of the lists that it keeps.
+use Rattle.std.proofs.Common.{ℕ, Bool, true, false, Option, Some, List, [], ◌∷◌, ◌++◌, ◌≡◌, ◌<◌, ◌≤◌, ◌+◌, ◌&&◌, ◌||◌, not, cond, inl, inr, refl, sym, ◌∙◌, ap, arith}
+use Rattle.std.specs.Prelude.{filter, flat_map, sum_by, nat_eq, nat_lt, ◌==◌}
+use Rattle.std.proofs.lemmas.Bool.{cases_Bool, cond-true, cond-false, and_parts, and_from, or_cases, or_left, or_right, or_parts, eqb-true, eq-eqb, ne_eqb, not-true, not_from_true, not_from_false, ltb-true, ltb-false}
+use Rattle.std.proofs.lemmas.List.Sums.{sum_by-cons}
+use Rattle.amd_model.specs.Figures.{cut}
+use Rattle.amd_model.specs.Graph.{Graph}
+use Rattle.amd_model.specs.State.{State, Live}
+use Rattle.amd_model.specs.Tie.{Tie, Fits, Once, has, each, is_empty, gathered, takes, kept_elements, kept_variables}
+use Rattle.amd_model.proofs.StateLemmas.{class_gives, class_from, holds_gives, neighbours_gives}
+use Rattle.amd_model.proofs.TieLists.{same_bool, clash, has_append, has_filter, each_gives, empty_gives, some_of, once_firsts, flat_gives, flat_from, firsts as firsts_names}
+use Rattle.amd_rounds.specs.Views.{num, some_at, list_at, live_of}
+use Rattle.amd_rounds.specs.Rounds.{firsts, rows_outside, Absorbed}
+use Rattle.amd_rounds.specs.Keeps.{Keeps}
+use Rattle.amd_rounds.specs.declared.work.Lists.{Lists}
+use Rattle.amd_rounds.specs.declared.work.Work.{Work}
+use Rattle.amd_rounds.proofs.KeptParts.{filter_agree}
+
+-- ---- lists
+
+-- lists of what a list names are gathered alike if they are the same
+flat_same : (f h : ℕ → List ℕ) (xs : List ℕ) → ((x : ℕ) → has xs x ≡ true → f x ≡ h x) → flat_map f xs ≡ flat_map h xs
+unfolding has
+flat_same f h [] same = refl
+flat_same f h (x ∷ xs) same = let a = same x (or_left (x == x) (has xs x) (eq-eqb x x refl)) in let b = flat_same f h xs (λ y n. same y (or_right (x == y) (has xs y) n)) in
+    ap (λ l. l ++ flat_map f xs) a ∙ ap (λ l. h x ++ l) b
+
+-- tests that agree on a list filter it the same
+filter_same : (p q : ℕ → Bool) (xs : List ℕ) → ((x : ℕ) → has xs x ≡ true → p x ≡ q x) → filter p xs ≡ filter q xs
+unfolding has
+filter_same p q [] same = refl
+filter_same p q (x ∷ xs) same = let a = same x (or_left (x == x) (has xs x) (eq-eqb x x refl)) in let b = filter_same p q xs (λ y n. same y (or_right (x == y) (has xs y) n)) in
+    ap (λ b. cond b (x ∷ filter p xs) (filter p xs)) a ∙ ap (λ l. cond (q x) (x ∷ l) l) b
+
+-- numbers that agree on a list have the same sum
+sum_same : (f h : ℕ → ℕ) (xs : List ℕ) → ((x : ℕ) → has xs x ≡ true → f x ≡ h x) → sum_by f xs ≡ sum_by h xs
+unfolding has
+sum_same f h [] same = refl
+sum_same f h (x ∷ xs) same = let a = same x (or_left (x == x) (has xs x) (eq-eqb x x refl)) in let b = sum_same f h xs (λ y n. same y (or_right (x == y) (has xs y) n)) in
+    sum_by-cons f x xs ∙ ap (λ m. m + sum_by f xs) a ∙ ap (λ m. h x + m) b ∙ sym (sum_by-cons h x xs)
+
+-- a filter of a filter
+filter_twice : (p q : ℕ → Bool) (xs : List ℕ) → filter (λ j. p j && q j) xs ≡ filter q (filter p xs)
+filter_twice p q [] = refl
+filter_twice p q (x ∷ xs) = elim (cases_Bool (p x)) [
+  | inl h ↦ ap (λ b. cond (b && q x) (x ∷ filter (λ j. p j && q j) xs) (filter (λ j. p j && q j) xs)) h ∙ ap (λ l. cond (q x) (x ∷ l) l) (filter_twice p q xs)
+      ∙ sym (ap (filter q) (cond-true (p x) (x ∷ filter p xs) (filter p xs) h))
+  | inr h ↦ ap (λ b. cond (b && q x) (x ∷ filter (λ j. p j && q j) xs) (filter (λ j. p j && q j) xs)) h ∙ filter_twice p q xs
+      ∙ sym (ap (filter q) (cond-false (p x) (x ∷ filter p xs) (filter p xs) h))
+]
+
+-- what has no row adds none to a sum
+sum_live : (size : List ℕ) (p : ℕ → Bool) (xs : List ℕ) → sum_by (num size) (filter p xs) ≡ sum_by (num size) (filter p (live_of size xs))
+sum_live size p [] = refl
+sum_live size p (x ∷ xs) = let rest = sum_live size p xs in elim (cases_Bool (nat_lt 0 (num size x))) [
+  | inl h ↦ both (p x) (filter p xs) (filter p (live_of size xs)) rest
+      ∙ sym (ap (λ l. sum_by (num size) (filter p l)) (cond-true (nat_lt 0 (num size x)) (x ∷ live_of size xs) (live_of size xs) h))
+  | inr h ↦ none (p x) (filter p xs) (ltb-false 0 (num size x) h) ∙ rest
+      ∙ sym (ap (λ l. sum_by (num size) (filter p l)) (cond-false (nat_lt 0 (num size x)) (x ∷ live_of size xs) (live_of size xs) h))
+]
+  where
+    cons : (ys : List ℕ) → sum_by (num size) (x ∷ ys) ≡ num size x + sum_by (num size) ys
+    cons ys = sum_by-cons (num size) x ys
+
+    both : (b : Bool) (ys zs : List ℕ) → sum_by (num size) ys ≡ sum_by (num size) zs → sum_by (num size) (cond b (x ∷ ys) ys) ≡ sum_by (num size) (cond b (x ∷ zs) zs)
+    both true ys zs e = cons ys ∙ ap (λ m. num size x + m) e ∙ sym (cons zs)
+    both false ys zs e = e
+
+    none : (b : Bool) (ys : List ℕ) → num size x ≤ 0 → sum_by (num size) (cond b (x ∷ ys) ys) ≡ sum_by (num size) ys
+    none true ys e = let a = cons ys in omega (arith, a, e)
+    none false ys e = refl
+
+-- the sum of what fails a test is nothing if all pass
+each_none : (f : ℕ → ℕ) (p : ℕ → Bool) (xs : List ℕ) → each p xs ≡ true → sum_by f (filter (λ j. not (p j)) xs) ≡ 0
+unfolding each
+each_none f p [] h = refl
+each_none f p (x ∷ xs) h = let k = and_parts (p x) (each p xs) h in
+    ap (sum_by f) (cond-false (not (p x)) (x ∷ filter (λ j. not (p j)) xs) (filter (λ j. not (p j)) xs) (not_from_true (p x) k.0)) ∙ each_none f p xs k.1
+
+-- and all pass if it is nothing, where nothing has no rows
+none_each : (f : ℕ → ℕ) (p : ℕ → Bool) (xs : List ℕ) → ((x : ℕ) → has xs x ≡ true → 0 < f x) → sum_by f (filter (λ j. not (p j)) xs) ≡ 0 → each p xs ≡ true
+unfolding has each
+none_each f p [] some h = refl
+none_each f p (x ∷ xs) some h = let others : List ℕ = filter (λ j. not (p j)) xs in let later : (y : ℕ) → has xs y ≡ true → 0 < f y = λ y n. some y (or_right (x == y) (has xs y) n) in
+    elim (cases_Bool (p x)) [
+      | inl k ↦ and_from (p x) (each p xs) k (none_each f p xs later (sym (ap (sum_by f) (cond-false (not (p x)) (x ∷ others) others (not_from_true (p x) k))) ∙ h))
+      | inr k ↦ (let e = sym (ap (sum_by f) (cond-true (not (p x)) (x ∷ others) others (not_from_false (p x) k))) ∙ h in let a = sum_by-cons f x others in
+          let b = some x (or_left (x == x) (has xs x) (eq-eqb x x refl)) in absurd (omega (arith, e, a, b)))
+    ]
+
+cut_none : (x : ℕ) → cut x ≡ 0 → x ≡ 0
+unfolding cut
+cut_none x h = omega (arith, h)
+
+none_cut : (x : ℕ) → x ≡ 0 → cut x ≡ 0
+unfolding cut
+none_cut x h = omega (arith, h)
+
+-- ---- the lists of a record
+
+module _ (g : Graph) (s : State) (t : Tie) (fits : Fits g t s) {A : Type 0} (w : Work A) (kept : Keeps w t) (c : ℕ) (class : has t.placed c ≡ true) where
+  L : List ℕ
+  L = gathered t c
+
+  home : (i : ℕ) → has t.placed i ≡ true → s.home i ≡ Live i
+  home i h = class_gives i (s.home i) (sym (fits.placed i) ∙ h)
+
+  -- members and elements name each other
+  member_class : (e i : ℕ) → has (t.members e) i ≡ true → has t.placed i ≡ true
+  member_class e i h = fits.placed i ∙ class_from i (s.home i) (holds_gives g s e i (sym (fits.members e i) ∙ h)).class
+
+  member_element : (e i : ℕ) → has (t.members e) i ≡ true → has (t.elements i) e ≡ true
+  member_element e i h = fits.elements i e (home i (member_class e i h)) ∙ sym (fits.members e i) ∙ h
+
+  element_member : (i e : ℕ) → has t.placed i ≡ true → has (t.elements i) e ≡ true → has (t.members e) i ≡ true
+  element_member i e p h = fits.members e i ∙ sym (fits.elements i e (home i p)) ∙ h
+
+  some_members : (e i : ℕ) → has (t.members e) i ≡ true → is_empty (t.members e) ≡ false
+  some_members e i h = elim (cases_Bool (is_empty (t.members e))) [ inr k ↦ k | inl k ↦ absurd (empty_gives (t.members e) k i h) ]
+
+  -- what is gathered from the record is the front
+  pub front_found : firsts (λ x. x == c) (flat_map (λ e. live_of w.size.items (list_at w.lists.members.items e)) (list_at w.lists.elements.items c) ++ live_of w.size.items (list_at w.lists.variables.items c)) ≡ gathered t c
+  unfolding gathered
+  front_found =
+      let skip : ℕ → Bool = λ x. x == c in let lists : ℕ → List ℕ = λ e. live_of w.size.items (list_at w.lists.members.items e) in
+      let direct : List ℕ = live_of w.size.items (list_at w.lists.variables.items c) in
+      ap (λ es. firsts skip (flat_map lists es ++ direct)) (kept.elements c class)
+      ∙ ap (λ l. firsts skip (l ++ direct)) (flat_same lists t.members (t.elements c) (λ e h. kept.members e (some_members e c (element_member c e class h))))
+      ∙ ap (λ l. firsts skip (flat_map t.members (t.elements c) ++ l)) (kept.variables c class)
+
+  front_parts : (i : ℕ) → has L i ≡ true → (has (flat_map t.members (t.elements c) ++ t.variables c) i ≡ true) × (not (i == c) ≡ true)
+  unfolding L gathered has
+  front_parts i h = let vs : List ℕ = flat_map t.members (t.elements c) ++ t.variables c in
+      and_parts (has vs i) (not (i == c)) (sym (firsts_names (λ x. x == c) [] vs i) ∙ h)
+
+  -- it names classes, each once, and not the pivot
+  front_once : Once (gathered t c)
+  unfolding gathered
+  front_once = once_firsts (λ x. x == c) [] (flat_map t.members (t.elements c) ++ t.variables c) tt
+
+  front_apart : has (gathered t c) c ≡ false
+  unfolding L
+  front_apart = elim (cases_Bool (has (gathered t c) c)) [ inr k ↦ k | inl k ↦ clash (eq-eqb c c refl) (not-true (c == c) (front_parts c k).1) ]
+
+  front_placed : (i : ℕ) → has (gathered t c) i ≡ true → has t.placed i ≡ true
+  unfolding L
+  front_placed i h = elim (or_cases (has (flat_map t.members (t.elements c)) i) (has (t.variables c) i) (sym (has_append (flat_map t.members (t.elements c)) (t.variables c) i) ∙ (front_parts i h).0)) [
+    | inl m ↦ (let e = flat_gives t.members (t.elements c) i m in member_class e.0 i e.2)
+    | inr v ↦ fits.placed i ∙ class_from i (s.home i) (neighbours_gives g s c i (sym (fits.variables c i (home c class)) ∙ v)).second
+  ]
+
+  pub front_facts : Once (gathered t c) × (has (gathered t c) c ≡ false) × ((i : ℕ) → has (gathered t c) i ≡ true → has t.placed i ≡ true)
+  front_facts = (front_once, front_apart, front_placed)
+
+  -- a member of an element has rows
+  member_rows : (e i : ℕ) → has (t.members e) i ≡ true → 0 < t.size i
+  member_rows e i h =
+      let members : List ℕ = list_at w.lists.members.items e in let size : List ℕ = w.size.items in
+      let named = sym (has_filter (λ j. nat_lt 0 (num size j)) members i) ∙ ap (λ l. has l i) (kept.members e (some_members e i h)) ∙ h in
+      let some = ltb-true 0 (num size i) (and_parts (has members i) (nat_lt 0 (num size i)) named).1 in
+      let same = kept.size i (member_class e i h) in omega (arith, some, same)
+
+  -- the rows of an element outside the front, as the record has them
+  rows_far : (e : ℕ) → is_empty (t.members e) ≡ false → has (t.elements c) e ≡ false →
+      rows_outside (λ j. j == c || has (gathered t c) j) w.size.items (list_at w.lists.members.items e) ≡ cut (sum_by t.size (filter (λ j. not (has (gathered t c) j)) (t.members e)))
+  rows_far e some apart =
+      let size : List ℕ = w.size.items in let outer : ℕ → Bool = λ j. not (j == c || has (gathered t c) j) in let other : ℕ → Bool = λ j. not (has (gathered t c) j) in
+      ap cut (sum_live size outer (list_at w.lists.members.items e)
+      ∙ ap (λ l. sum_by (num size) (filter outer l)) (kept.members e some)
+      ∙ ap (sum_by (num size)) (filter_same outer other (t.members e) (λ j h. ap (λ b. not (b || has (gathered t c) j)) (ne_eqb j c (λ q. clash (member_element e c (ap (has (t.members e)) (sym q) ∙ h)) apart))))
+      ∙ sum_same (num size) t.size (filter other (t.members e)) (λ j h. kept.size j (member_class e j (and_parts (has (t.members e) j) (other j) (sym (has_filter other (t.members e) j) ∙ h)).0)))
+
+  -- ---- after an absorption
+  module _ (aggressive : Bool) (new : Lists A) (before after : List (Option ℕ)) (beyond : List ℕ) (a : Absorbed aggressive c (gathered t c) w.size.items w.lists new before after beyond) where
+    own_is : (e : ℕ) → has (list_at w.lists.elements.items c) e ≡ has (t.elements c) e
+    own_is e = ap (λ l. has l e) (kept.elements c class)
+
+    touched_has : (e : ℕ) → has a.touched e ≡ (has (flat_map (list_at w.lists.elements.items) (gathered t c)) e && not (has (list_at w.lists.elements.items c) e))
+    unfolding has
+    touched_has e = ap (λ l. has l e) a.touched_is ∙ firsts_names (has (list_at w.lists.elements.items c)) [] (flat_map (list_at w.lists.elements.items) (gathered t c)) e
+
+    -- an element of a class of the front that does not hold the pivot is touched
+    touched_from : (i e : ℕ) → has (gathered t c) i ≡ true → has (t.elements i) e ≡ true → has (t.elements c) e ≡ false → has a.touched e ≡ true
+    touched_from i e l h apart = touched_has e ∙ and_from (has (flat_map (list_at w.lists.elements.items) (gathered t c)) e) (not (has (list_at w.lists.elements.items c) e))
+        (flat_from (list_at w.lists.elements.items) (gathered t c) e i l (ap (λ l. has l e) (kept.elements i (front_placed i l)) ∙ h))
+        (not_from_false (has (list_at w.lists.elements.items c) e) (own_is e ∙ apart))
+
+    -- and no other
+    touched_gives : (e : ℕ) → has a.touched e ≡ true → (i : ℕ) × (has (gathered t c) i ≡ true) × (has (t.elements i) e ≡ true)
+    touched_gives e h =
+        let from = flat_gives (list_at w.lists.elements.items) (gathered t c) e (and_parts (has (flat_map (list_at w.lists.elements.items) (gathered t c)) e) (not (has (list_at w.lists.elements.items c) e)) (sym (touched_has e) ∙ h)).0 in
+        (from.0, from.1, sym (ap (λ l. has l e) (kept.elements from.0 (front_placed from.0 from.1))) ∙ from.2)
+
+    -- the rows counted of an element that is touched
+    counted_far : (e : ℕ) → has a.touched e ≡ true → is_empty (t.members e) ≡ false → has (t.elements c) e ≡ false → num beyond e ≡ cut (sum_by t.size (filter (λ j. not (has (gathered t c) j)) (t.members e)))
+    counted_far e h some apart = a.counted e h ∙ rows_far e some apart
+
+    -- what is absorbed is what the rules say
+    pub taken_takes : (e : ℕ) → a.taken e ≡ takes aggressive t c (gathered t c) e
+    unfolding takes
+    taken_takes e =
+        let whole : Bool = aggressive && nat_eq (num beyond e) 0 in let inner : Bool = aggressive && not (is_empty (t.members e)) && each (has (gathered t c)) (t.members e) in
+        a.taken_is e ∙ ap (λ b. b || (has a.touched e && whole)) (own_is e) ∙ elim (cases_Bool (has (t.elements c) e)) [
+          | inl own ↦ or_left (has (t.elements c) e) (has a.touched e && whole) own ∙ sym (or_left (has (t.elements c) e) inner own)
+          | inr apart ↦ ap (λ b. has (t.elements c) e || b) (same_bool (has a.touched e && whole) inner
+              (λ h. let p = and_parts (has a.touched e) whole h in let q = and_parts aggressive (nat_eq (num beyond e) 0) p.1 in
+              let i = touched_gives e p.0 in let some = some_members e i.0 (element_member i.0 e (front_placed i.0 i.1) i.2) in
+              let none = cut_none (sum_by t.size (filter (λ j. not (has (gathered t c) j)) (t.members e))) (sym (counted_far e p.0 some apart) ∙ eqb-true (num beyond e) 0 q.1) in
+              and_from (aggressive && not (is_empty (t.members e))) (each (has (gathered t c)) (t.members e))
+              (and_from aggressive (not (is_empty (t.members e))) q.0 (not_from_false (is_empty (t.members e)) some))
+              (none_each t.size (has (gathered t c)) (t.members e) (member_rows e) none))
+              (λ h. let p = and_parts (aggressive && not (is_empty (t.members e))) (each (has (gathered t c)) (t.members e)) h in let q = and_parts aggressive (not (is_empty (t.members e))) p.0 in
+              let some = not-true (is_empty (t.members e)) q.1 in let m = some_of (t.members e) some in
+              let touched = touched_from m.0 e (each_gives (has (gathered t c)) (t.members e) p.1 m.0 m.1) (member_element e m.0 m.1) apart in
+              and_from (has a.touched e) whole touched (and_from aggressive (nat_eq (num beyond e) 0) q.0
+              (eq-eqb (num beyond e) 0 (counted_far e touched some apart ∙ none_cut _ (each_none t.size (has (gathered t c)) (t.members e) p.1))))))
+        ]
+
+    -- what a class of the front keeps is what the rules say
+    pub elements_kept : (i : ℕ) → has (gathered t c) i ≡ true → list_at new.elements.items i ≡ kept_elements aggressive t c (gathered t c) i
+    unfolding kept_elements
+    elements_kept i l = a.elements i ∙ cond-true (has (gathered t c) i) _ _ l
+        ∙ filter_agree (λ e. not (a.taken e)) (λ e. not (takes aggressive t c (gathered t c) e)) (list_at w.lists.elements.items i) (λ e. ap not (taken_takes e))
+        ∙ ap (filter (λ e. not (takes aggressive t c (gathered t c) e))) (kept.elements i (front_placed i l))
+
+    pub variables_kept : (i : ℕ) → has (gathered t c) i ≡ true → list_at new.variables.items i ≡ kept_variables aggressive t c (gathered t c) i
+    unfolding kept_variables
+    variables_kept i l = a.variables i ∙ cond-true (has (gathered t c) i) _ _ l
+        ∙ filter_twice (λ j. nat_lt 0 (num w.size.items j)) (λ j. not (j == c || has (gathered t c) j)) (list_at w.lists.variables.items i)
+        ∙ ap (filter (λ j. not (j == c || has (gathered t c) j))) (kept.variables i (front_placed i l))
+
+    -- the lists of the others stay
+    pub elements_stay : (i : ℕ) → has (gathered t c) i ≡ false → list_at new.elements.items i ≡ list_at w.lists.elements.items i
+    elements_stay i l = a.elements i ∙ cond-false (has (gathered t c) i) _ _ l
+
+    pub variables_stay : (i : ℕ) → has (gathered t c) i ≡ false → list_at new.variables.items i ≡ list_at w.lists.variables.items i
+    variables_stay i l = a.variables i ∙ cond-false (has (gathered t c) i) _ _ l
+
+    -- the rows outside the front of an element that a class of it keeps
+    pub rows_counted : (i e : ℕ) → has (gathered t c) i ≡ true → has (kept_elements aggressive t c (gathered t c) i) e ≡ true → num beyond e ≡ cut (sum_by t.size (filter (λ j. not (has (gathered t c) j)) (t.members e)))
+    unfolding kept_elements takes
+    rows_counted i e l h =
+        let p = and_parts (has (t.elements i) e) (not (takes aggressive t c (gathered t c) e)) (sym (has_filter (λ e. not (takes aggressive t c (gathered t c) e)) (t.elements i) e) ∙ h) in
+        let apart = (or_parts (has (t.elements c) e) _ (not-true (takes aggressive t c (gathered t c) e) p.1)).0 in
+        counted_far e (touched_from i e l p.0 apart) (some_members e i (element_member i e (front_placed i l) p.0)) apart
+
+    -- the pivot is the parent of what is absorbed
+    pub parents : ((e : ℕ) → some_at before e ≡ t.parent e) → (e : ℕ) → some_at after e ≡ cond (takes aggressive t c (gathered t c) e) (Some c) (t.parent e)
+    parents was e = a.parents e ∙ ap (λ b. cond b (Some c) (some_at before e)) (taken_takes e) ∙ ap (cond (takes aggressive t c (gathered t c) e) (Some c)) (was e)

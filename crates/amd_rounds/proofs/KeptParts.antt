@@ -1,0 +1,90 @@
+-- What the parts of an absorption make together.
+use Rattle.std.proofs.Common.{ℕ, suc, Bool, true, false, List, [], ◌∷◌, ◌≡◌, ◌<◌, ◌&&◌, ◌||◌, not, cond, inl, inr, refl, sym, ◌∙◌, ap, arith, length, get_or, set, get_or-set_same, get_or-set_other}
+use Rattle.std.specs.Prelude.{Vec, filter, flat_map, sum_by, ◌==◌}
+use Rattle.std.proofs.lemmas.Bool.{true≢false, false≢true, cases_eq, and_parts, or_cases, eqb-true, ne_eqb, not-true}
+use Rattle.std.proofs.lemmas.List.Elements.{All-from_get_or}
+use Rattle.amd_model.specs.Figures.{cut}
+use Rattle.amd_model.specs.Tie.{has}
+use Rattle.amd_model.proofs.TieLists.{flat_gives, firsts as firsts_names}
+use Rattle.amd_rounds.specs.Views.{num, at, list_at, Below, ListsBelow, Clear}
+use Rattle.amd_rounds.specs.Rounds.{firsts, rows_outside}
+use Rattle.amd_rounds.proofs.Kept.{has_at}
+use Rattle.amd_rounds.proofs.MarkLists.{list_below}
+
+-- a list is below n if what it names is, and the other way round
+pub below_from : (n : ℕ) (xs : List ℕ) → ((x : ℕ) → has xs x ≡ true → x < n) → Below n xs
+below_from n xs small = All-from_get_or (λ j. j < n) xs 0 (λ i h. small (get_or xs i 0) (has_at xs i h))
+
+pub below_gives : (n : ℕ) (xs : List ℕ) → Below n xs → (x : ℕ) → has xs x ≡ true → x < n
+unfolding has
+below_gives n [] small x h = absurd (false≢true h)
+below_gives n (y ∷ ys) small x h = elim (or_cases (y == x) (has ys x) h) [
+  | inl q ↦ (let e = eqb-true y x q in let b = small 0 0 (omega arith) in omega (arith, e, b))
+  | inr q ↦ below_gives n ys (λ k d l. small (suc k) d (omega (arith, l))) x q
+]
+
+-- what is gathered from lists of numbers below n is below n
+pub touched_below : {A : Type 0} (n : ℕ) (lists : List (Vec ℕ A)) (skip : ℕ → Bool) (front touched : List ℕ) → ListsBelow n lists → touched ≡ firsts skip (flat_map (list_at lists) front) → Below n touched
+unfolding has
+touched_below n lists skip front touched below is = below_from n touched (λ x h.
+    let named = sym (firsts_names skip [] (flat_map (list_at lists) front) x) ∙ ap (λ l. has l x) (sym is) ∙ h in
+    let from = flat_gives (list_at lists) front x (and_parts (has (flat_map (list_at lists) front) x) (not (skip x)) named).0 in
+    below_gives n (list_at lists from.0) (list_below n lists below from.0) x from.2)
+
+-- what is gathered was not skipped
+pub touched_new : (skip : ℕ → Bool) (xs touched : List ℕ) → touched ≡ firsts skip xs → (x : ℕ) → has touched x ≡ true → skip x ≡ false
+unfolding has
+touched_new skip xs touched is x h = not-true (skip x) (and_parts (has xs x) (not (skip x)) (sym (firsts_names skip [] xs x) ∙ ap (λ l. has l x) (sym is) ∙ h)).1
+
+-- tests that agree filter the same
+pub filter_agree : (p q : ℕ → Bool) (xs : List ℕ) → ((x : ℕ) → p x ≡ q x) → filter p xs ≡ filter q xs
+filter_agree p q [] same = refl
+filter_agree p q (x ∷ xs) same = ap (λ b. cond b (x ∷ filter p xs) (filter p xs)) (same x) ∙ ap (λ l. cond (q x) (x ∷ l) l) (filter_agree p q xs same)
+
+pub rows_agree : (p q : ℕ → Bool) (size xs : List ℕ) → ((x : ℕ) → p x ≡ q x) → rows_outside p size xs ≡ rows_outside q size xs
+rows_agree p q size xs same = ap (λ l. cut (sum_by (num size) l)) (filter_agree (λ j. not (p j)) (λ j. not (q j)) xs (λ x. ap not (same x)))
+
+-- of marks on two lists, those of the second stay where a test says so
+pub spared_is : (own new stays : Bool) → (new ≡ true → own ≡ false) → ((own || new) && not (new && not stays)) ≡ (own || (new && stays))
+spared_is true true stays apart = absurd (true≢false (apart refl))
+spared_is true false stays apart = refl
+spared_is false true true apart = refl
+spared_is false true false apart = refl
+spared_is false false stays apart = refl
+
+-- and what stays is named by one of them
+pub in_either : (own new stays : Bool) → (own || (new && stays)) ≡ true → (own || new) ≡ true
+in_either true new stays h = refl
+in_either false true stays h = refl
+in_either false false stays h = h
+
+-- the marked of two lists, which hold all that is marked, get a parent
+pub adopted_is : {X : Type 0} (own new marked : Bool) (c before middle after : X) → (marked ≡ true → (own || new) ≡ true) →
+    middle ≡ cond (own && marked) c before → after ≡ cond (new && marked) c middle → after ≡ cond marked c before
+adopted_is true true true c before middle after in' first then = then
+adopted_is true false true c before middle after in' first then = then ∙ first
+adopted_is false true true c before middle after in' first then = then
+adopted_is false false true c before middle after in' first then = absurd (false≢true (in' refl))
+adopted_is true true false c before middle after in' first then = then ∙ first
+adopted_is true false false c before middle after in' first then = then ∙ first
+adopted_is false true false c before middle after in' first then = then ∙ first
+adopted_is false false false c before middle after in' first then = then ∙ first
+
+-- what is marked from two lists is clear when both are cleared
+pub cleared_is : (own new stays : Bool) → (((own || (new && stays)) && not own) && not new) ≡ false
+cleared_is true new stays = refl
+cleared_is false true true = refl
+cleared_is false true false = refl
+cleared_is false false stays = refl
+
+-- the marks of a pivot and of a list are clear when both are cleared
+pub pivot_cleared : (marks : List Bool) (c : ℕ) (front : List ℕ) → c < length marks → ((j : ℕ) → at marks j ≡ ((j == c || has front j) && not (has front j))) → Clear (set marks c false)
+pivot_cleared marks c front small was j = elim (cases_eq j c) [
+  | inl q ↦ rw q (get_or-set_same marks c false false small)
+  | inr ne ↦ get_or-set_other marks c j false false ne ∙ was j ∙ gone (j == c) (has front j) (ne_eqb j c ne)
+]
+  where
+    gone : (a b : Bool) → a ≡ false → ((a || b) && not b) ≡ false
+    gone true b e = absurd (true≢false e)
+    gone false true e = refl
+    gone false false e = refl

@@ -1,0 +1,172 @@
+-- Lists that are gathered with marks: what is marked is passed over, and what is added is marked.
+use Rattle.std.proofs.Common.{ℕ, Bool, true, false, ◌≡◌, ◌<◌, ◌&&◌, ◌||◌, not, inl, inr, refl, sym, ◌∙◌, ap, subst, arith, List, [], ◌∷◌, ◌++◌, Vec, map, length, get_or, set, get_or-set_same, get_or-set_other}
+use Rattle.std.specs.Prelude.{filter, fold, flat_map, ◌==◌}
+use Rattle.std.proofs.lemmas.Bool.{cases_Bool, cases_eq, cases_lt, eq-eqb, ne_eqb, or_left, or_right, cond-true, cond-false}
+use Rattle.std.proofs.lemmas.List.{get_or-map, get_or_past, length-map}
+use Rattle.std.proofs.lemmas.List.Elements.{All-nil}
+use Rattle.std.proofs.lemmas.List.Sums.{fold-append}
+use Rattle.amd_model.specs.Tie.{has, add_new}
+use Rattle.amd_model.proofs.TieLists.{has_append, add_old, add_fresh, firsts, clash}
+use Rattle.amd_rounds.specs.Views.{at, list_at, Below, ListsBelow, Clear}
+
+pub or_true : (a : Bool) → (a || true) ≡ true
+or_true true = refl
+or_true false = refl
+
+pub or_none : (a : Bool) → (a || false) ≡ a
+or_none true = refl
+or_none false = refl
+
+pub or_assoc : (a b c : Bool) → (a || (b || c)) ≡ ((a || b) || c)
+or_assoc true b c = refl
+or_assoc false b c = refl
+
+pub and_all : (a : Bool) → (a && true) ≡ a
+and_all true = refl
+and_all false = refl
+
+pub and_none : (a : Bool) → (a && false) ≡ false
+and_none true = refl
+and_none false = refl
+
+-- the next number of a list is marked
+pub marks_next : (marks : List Bool) (i j : ℕ) (xs : List ℕ) → i < length marks → (at (set marks i true) j || has xs j) ≡ (at marks j || has (i ∷ xs) j)
+unfolding has
+marks_next marks i j xs l = elim (cases_eq j i) [
+  | inl q ↦ ap (λ b. b || has xs j) (ap (at (set marks i true)) q ∙ get_or-set_same marks i true false l) ∙ sym (ap (λ b. at marks j || (b || has xs j)) (eq-eqb i j (sym q)) ∙ or_true (at marks j))
+  | inr n ↦ ap (λ b. b || has xs j) (get_or-set_other marks i j true false n) ∙ sym (ap (λ b. at marks j || (b || has xs j)) (ne_eqb i j (λ e. n (sym e))))
+]
+
+-- the next number of a list is cleared
+pub clears_next : (marks : List Bool) (i j : ℕ) (xs : List ℕ) → i < length marks → (at (set marks i false) j && not (has xs j)) ≡ (at marks j && not (has (i ∷ xs) j))
+unfolding has
+clears_next marks i j xs l = elim (cases_eq j i) [
+  | inl q ↦ ap (λ b. b && not (has xs j)) (ap (at (set marks i false)) q ∙ get_or-set_same marks i false false l) ∙ sym (ap (λ b. at marks j && not (b || has xs j)) (eq-eqb i j (sym q)) ∙ and_none (at marks j))
+  | inr n ↦ ap (λ b. b && not (has xs j)) (get_or-set_other marks i j false false n) ∙ sym (ap (λ b. at marks j && not (b || has xs j)) (ne_eqb i j (λ e. n (sym e))))
+]
+
+pub marks_end : (marks : List Bool) (j : ℕ) → (at marks j || has [] j) ≡ at marks j
+unfolding has
+marks_end marks j = or_none (at marks j)
+
+pub clears_end : (marks : List Bool) (j : ℕ) → (at marks j && not (has [] j)) ≡ at marks j
+unfolding has
+clears_end marks j = and_all (at marks j)
+
+-- a list grows alike by two tests, if what either skips or lists is the same
+pub same_adds : (s t : ℕ → Bool) (out xs : List ℕ) → ((x : ℕ) → (s x || has out x) ≡ (t x || has out x)) → fold (add_new s) out xs ≡ fold (add_new t) out xs
+unfolding has
+same_adds s t out [] h = refl
+same_adds s t out (y ∷ ys) h = elim (cases_Bool (t y || has out y)) [
+  | inl k ↦ ap (λ o. fold (add_new s) o ys) (add_old s out y (h y ∙ k)) ∙ same_adds s t out ys h ∙ sym (ap (λ o. fold (add_new t) o ys) (add_old t out y k))
+  | inr k ↦ ap (λ o. fold (add_new s) o ys) (add_fresh s out y (h y ∙ k))
+      ∙ same_adds s t (out ++ y ∷ []) ys (λ x. ap (λ b. s x || b) (has_append out (y ∷ []) x) ∙ or_assoc (s x) (has out x) (has (y ∷ []) x) ∙ ap (λ b. b || has (y ∷ []) x) (h x)
+      ∙ sym (ap (λ b. t x || b) (has_append out (y ∷ []) x) ∙ or_assoc (t x) (has out x) (has (y ∷ []) x)))
+      ∙ sym (ap (λ o. fold (add_new t) o ys) (add_fresh t out y k))
+]
+
+-- what is listed is marked
+abbrev pub Known : List Bool → List ℕ → Type 0
+Known marks out = (j : ℕ) → has out j ≡ true → at marks j ≡ true
+
+-- a number that is marked is passed over
+pub marked_passed : (marks : List Bool) (out xs : List ℕ) (y : ℕ) → at marks y ≡ true → fold (add_new (at marks)) out (y ∷ xs) ≡ fold (add_new (at marks)) out xs
+marked_passed marks out xs y h = ap (λ o. fold (add_new (at marks)) o xs) (add_old (at marks) out y (or_left (at marks y) (has out y) h))
+
+not_listed : (marks : List Bool) (out : List ℕ) (y : ℕ) → Known marks out → at marks y ≡ false → (at marks y || has out y) ≡ false
+not_listed marks out y k h = elim (cases_Bool (has out y)) [
+  | inl m ↦ clash (k y m) h
+  | inr m ↦ ap (λ b. b || has out y) h ∙ m
+]
+
+-- a number that is not marked is added and marked
+pub unmarked_added : (marks : List Bool) (out xs : List ℕ) (y : ℕ) → y < length marks → Known marks out → at marks y ≡ false →
+    fold (add_new (at marks)) out (y ∷ xs) ≡ fold (add_new (at (set marks y true))) (out ++ y ∷ []) xs
+unfolding has
+unmarked_added marks out xs y l k h = ap (λ o. fold (add_new (at marks)) o xs) (add_fresh (at marks) out y (not_listed marks out y k h))
+    ∙ same_adds (at marks) (at (set marks y true)) (out ++ y ∷ []) xs agree
+  where
+    agree : (x : ℕ) → (at marks x || has (out ++ y ∷ []) x) ≡ (at (set marks y true) x || has (out ++ y ∷ []) x)
+    agree x = elim (cases_eq x y) [
+      | inl q ↦ (let named : has (out ++ y ∷ []) x ≡ true = has_append out (y ∷ []) x ∙ or_right (has out x) (has (y ∷ []) x) (or_left (y == x) false (eq-eqb y x (sym q))) in
+          or_right (at marks x) (has (out ++ y ∷ []) x) named ∙ sym (or_right (at (set marks y true) x) (has (out ++ y ∷ []) x) named))
+      | inr n ↦ ap (λ b. b || has (out ++ y ∷ []) x) (sym (get_or-set_other marks y x true false n))
+    ]
+
+-- and what is listed stays marked
+pub known_added : (marks : List Bool) (out : List ℕ) (y : ℕ) → y < length marks → Known marks out → Known (set marks y true) (out ++ y ∷ [])
+unfolding has
+known_added marks out y l k j h = elim (cases_eq j y) [
+  | inl q ↦ ap (at (set marks y true)) q ∙ get_or-set_same marks y true false l
+  | inr n ↦ get_or-set_other marks y j true false n ∙ k j (sym (ap (λ b. has out j || (b || false)) (ne_eqb y j (λ e. n (sym e))) ∙ or_none (has out j)) ∙ sym (has_append out (y ∷ []) j) ∙ h)
+]
+
+-- a marked number adds no mark
+pub marks_old : (marks : List Bool) (y j : ℕ) (xs : List ℕ) → at marks y ≡ true → (at marks j || has xs j) ≡ (at marks j || has (y ∷ xs) j)
+unfolding has
+marks_old marks y j xs h = elim (cases_eq j y) [
+  | inl q ↦ (let m : at marks j ≡ true = ap (at marks) q ∙ h in or_left (at marks j) (has xs j) m ∙ sym (or_left (at marks j) (has (y ∷ xs) j) m))
+  | inr n ↦ sym (ap (λ b. at marks j || (b || has xs j)) (ne_eqb y j (λ e. n (sym e))))
+]
+
+-- the numbers that are passed over or listed in the end are those from before, and those of the list
+pub adds_marks : (skip : ℕ → Bool) (out xs : List ℕ) (j : ℕ) → (skip j || has (fold (add_new skip) out xs) j) ≡ ((skip j || has out j) || has xs j)
+adds_marks skip out xs j = ap (λ b. skip j || b) (firsts skip out xs j) ∙ tests (skip j) (has out j) (has xs j)
+  where
+    tests : (a b c : Bool) → (a || (b || (c && not a))) ≡ ((a || b) || c)
+    tests true b c = refl
+    tests false true c = refl
+    tests false false c = and_all c
+
+-- the first number of a list passes
+pub filter_yes : (p : ℕ → Bool) (y : ℕ) (xs : List ℕ) → p y ≡ true → filter p (y ∷ xs) ≡ y ∷ filter p xs
+filter_yes p y xs h = cond-true (p y) (y ∷ filter p xs) (filter p xs) h
+
+-- or does not
+pub filter_no : (p : ℕ → Bool) (y : ℕ) (xs : List ℕ) → p y ≡ false → filter p (y ∷ xs) ≡ filter p xs
+filter_no p y xs h = cond-false (p y) (y ∷ filter p xs) (filter p xs) h
+
+-- what stands at the place of a list of lists
+pub list_read : {A : Type 0} (lists : List (Vec ℕ A)) (e : ℕ) (v : Vec ℕ A) → e < length lists → v ≡ get_or lists e v → list_at lists e ≡ v.items
+list_read lists e v l h = get_or-map (λ w. w.items) lists e v [] l ∙ ap (λ w. w.items) (sym h)
+
+-- each list of a list of lists is in range
+pub list_below : {A : Type 0} (n : ℕ) (lists : List (Vec ℕ A)) → ListsBelow n lists → (e : ℕ) → Below n (list_at lists e)
+list_below {A} n [] h e = subst (Below n) (sym (get_or_past {X = List ℕ} [] e [] (omega arith))) (All-nil (λ j. j < n))
+list_below {A} n (v ∷ vs) h e = elim (cases_lt e (length (v ∷ vs))) [
+  | inl l ↦ subst (Below n) (sym (get_or-map (λ w. w.items) (v ∷ vs) e v [] l)) (h.1 e v l)
+  | inr l ↦ subst (Below n) (sym (get_or_past (map (λ w. w.items) (v ∷ vs)) e [] (let m = length-map (v ∷ vs) (λ (w : Vec ℕ A). w.items) in omega (arith, m, l)))) (All-nil (λ j. j < n))
+]
+
+or_twice : (a b : Bool) → ((a || b) || b) ≡ (a || b)
+or_twice true b = refl
+or_twice false true = refl
+or_twice false false = refl
+
+-- a list of lists is gathered: what is marked is what is skipped or listed so far
+module _ (skip : ℕ → Bool) (marks : List Bool) (out grown xs : List ℕ) (marked : (j : ℕ) → at marks j ≡ (skip j || has out j)) (is_grown : grown ≡ fold (add_new (at marks)) out xs) where
+  -- so each list of them adds what the rule says
+  pub gathered_list : grown ≡ fold (add_new skip) out xs
+  gathered_list = is_grown ∙ same_adds (at marks) skip out xs (λ x. ap (λ b. b || has out x) (marked x) ∙ or_twice (skip x) (has out x))
+
+  -- and what is marked is what is skipped or listed then
+  pub gathered_marks : (after : List Bool) → ((j : ℕ) → at after j ≡ (at marks j || has xs j)) → (j : ℕ) → at after j ≡ (skip j || has grown j)
+  gathered_marks after h j = h j ∙ ap (λ b. b || has xs j) (marked j) ∙ sym (adds_marks skip out xs j) ∙ ap (λ l. skip j || has l j) (sym gathered_list)
+
+-- the next one of a list of lists
+pub gathered_next : (skip : ℕ → Bool) (f : ℕ → List ℕ) (out grown es : List ℕ) (e : ℕ) → grown ≡ fold (add_new skip) out (f e) →
+    fold (add_new skip) grown (flat_map f es) ≡ fold (add_new skip) out (flat_map f (e ∷ es))
+gathered_next skip f out grown es e h = ap (λ o. fold (add_new skip) o (flat_map f es)) h ∙ sym (fold-append (add_new skip) out (f e) (flat_map f es))
+
+-- one number alone is marked, and nothing is listed
+pub marks_one : (marks : List Bool) (c : ℕ) (out : List ℕ) → c < length marks → Clear marks → out ≡ [] → (j : ℕ) → at (set marks c true) j ≡ (j == c || has out j)
+unfolding has
+marks_one marks c out l none e j = elim (cases_eq j c) [
+  | inl q ↦ ap (at (set marks c true)) q ∙ get_or-set_same marks c true false l ∙ sym (or_left (j == c) (has out j) (eq-eqb j c q))
+  | inr n ↦ get_or-set_other marks c j true false n ∙ none j ∙ sym (ap (λ b. b || has out j) (ne_eqb j c n) ∙ ap (λ l. has l j) e)
+]
+
+-- a list alone is marked, and nothing is listed
+pub marks_list : (marks : List Bool) (xs out : List ℕ) (was : List Bool) → Clear was → out ≡ [] → ((j : ℕ) → at marks j ≡ (at was j || has xs j)) → (j : ℕ) → at marks j ≡ (has xs j || has out j)
+unfolding has
+marks_list marks xs out was none e h j = h j ∙ ap (λ b. b || has xs j) (none j) ∙ sym (ap (λ l. has xs j || has l j) e ∙ or_none (has xs j))

@@ -1,0 +1,72 @@
+-- What the calls of a merge ask of the classes of a front that keep something, and what their answers say together.
+use Rattle.std.proofs.Common.{ℕ, Bool, true, false, Option, ◌≡◌, ◌<◌, ◌≤◌, ◌&&◌, not, cond, inl, inr, sym, ◌∙◌, ap, subst, arith, List, set, length, get_or, Some, Vec}
+use Rattle.std.specs.Prelude.{◌==◌, filter, sum_by}
+use Rattle.std.proofs.lemmas.Bool.{and_parts, eq-eqb, ne_eqb, cases_eq, cond-true, cond-false}
+use Rattle.std.proofs.lemmas.List.{get_or-set_same, get_or-set_other}
+use Rattle.std.proofs.lemmas.List.Elements.{All-filter}
+use Rattle.std.proofs.lemmas.List.Sums.{sum_by-le-sum_by}
+use Rattle.amd_model.specs.Tie.{has, Once, last_that}
+use Rattle.amd_model.proofs.TieLists.{has_filter, once_filter}
+use Rattle.amd_rounds.specs.Views.{num, Below}
+use Rattle.amd_rounds.specs.Rounds.{alike_in}
+use Rattle.amd_rounds.proofs.Joins.{sum_part}
+use Rattle.amd_rounds.proofs.Representatives.{rep, rep_in, rep_rep, alike_self, alike_flip, alike_through}
+
+-- a list with one place written
+pub put_at : {X : Type 0} (xs : List X) (c : ℕ) (v d : X) → c < length xs → (x : ℕ) → get_or (set xs c v) x d ≡ cond (x == c) v (get_or xs x d)
+put_at xs c v d l x = elim (cases_eq x c) [
+  | inl e ↦ ap (λ m. get_or (set xs c v) m d) e ∙ get_or-set_same xs c v d l ∙ sym (cond-true (x == c) v (get_or xs x d) (eq-eqb x c e))
+  | inr ne ↦ get_or-set_other xs c x v d ne ∙ sym (cond-false (x == c) v (get_or xs x d) (ne_eqb x c ne))
+]
+
+-- a part of a front names rows, each once, and what the front names
+module _ (p : ℕ → Bool) (front rest : List ℕ) (is : rest ≡ filter p front) where
+  pub part_below : (n : ℕ) → Below n front → Below n rest
+  part_below n b = subst (Below n) (sym is) (All-filter p (λ j. j < n) front b)
+
+  pub part_once : Once front → Once rest
+  part_once o = subst Once (sym is) (once_filter p front o)
+
+  pub part_named : (x : ℕ) → has rest x ≡ true → has front x ≡ true
+  part_named x h = (and_parts (has front x) (p x) (sym (has_filter p front x) ∙ ap (λ l. has l x) (sym is) ∙ h)).0
+
+  -- its classes have no more rows, also after some have lost theirs
+  pub part_rows : (size : ℕ → ℕ) → sum_by size rest ≤ sum_by size front
+  part_rows size = let a = ap (sum_by size) is in let b = sum_part size p front in omega (arith, a, b)
+
+  pub part_left : (size left : ℕ → ℕ) (gone : ℕ → Bool) → ((x : ℕ) → left x ≡ cond (gone x) 0 (size x)) → sum_by left rest ≤ sum_by size front
+  part_left size left gone f =
+      let a = sum_by-le-sum_by left size rest (λ x. let e = f x in let m = at_most (gone x) (size x) in omega (arith, e, m)) in
+      let b = part_rows size in omega (arith, a, b)
+    where
+      at_most : (b : Bool) (m : ℕ) → cond b 0 m ≤ m
+      at_most true m = omega arith
+      at_most false m = omega arith
+
+-- the rows of a list, counted over lists that read the same
+pub rows_same : (names rest to size : List ℕ) → names ≡ rest → to ≡ size → sum_by (num to) names ≡ sum_by (num size) rest
+rows_same names rest to size e f = ap (λ l. sum_by (num l) names) f ∙ ap (sum_by (num size)) e
+
+-- the representative of a class of a list is in the list, and represents itself
+pub into_settled : {A : Type 0} (elements variables : List (Vec ℕ A)) (rest : List ℕ) (into : ℕ → ℕ) → ((i : ℕ) → has rest i ≡ true → into i ≡ last_that (alike_in elements variables i) i rest) →
+    (i : ℕ) → has rest i ≡ true → (has rest (into i) ≡ true) × (into (into i) ≡ into i)
+into_settled elements variables rest into f i h =
+    let r : ℕ → ℕ = rep (alike_in elements variables) (alike_self elements variables) (alike_flip elements variables) (alike_through elements variables) rest in
+    let e : into i ≡ r i = f i h in
+    let here : has rest (into i) ≡ true = ap (has rest) e ∙ rep_in (alike_in elements variables) (alike_self elements variables) (alike_flip elements variables) (alike_through elements variables) rest i h in
+    (here, f (into i) here ∙ ap r e ∙ rep_rep (alike_in elements variables) (alike_self elements variables) (alike_flip elements variables) (alike_through elements variables) rest i h ∙ sym e)
+
+-- the rows of each class of a list, and the links, after each went into its representative
+abbrev pub RowsJoined : List ℕ → List ℕ → (ℕ → ℕ) → (ℕ → ℕ) → Type 0
+RowsJoined rest into before after = (x : ℕ) → after x ≡ cond (has rest x) (cond (num into x == x) (sum_by before (filter (λ j. num into j == x) rest)) 0) (before x)
+
+abbrev pub LinksJoined : List ℕ → List ℕ → (ℕ → Option ℕ) → (ℕ → Option ℕ) → Type 0
+LinksJoined rest into before after = (x : ℕ) → after x ≡ cond (has rest x && not (num into x == x)) (Some (num into x)) (before x)
+
+-- the same of lists that read the same
+module _ (rest into names to : List ℕ) (rest_is : names ≡ rest) (into_is : to ≡ into) where
+  pub rows_joined : (before after : ℕ → ℕ) → RowsJoined names to before after → RowsJoined rest into before after
+  rows_joined before after f = subst (λ l. RowsJoined l into before after) rest_is (subst (λ l. RowsJoined names l before after) into_is f)
+
+  pub links_joined : (before after : ℕ → Option ℕ) → LinksJoined names to before after → LinksJoined rest into before after
+  links_joined before after f = subst (λ l. LinksJoined l into before after) rest_is (subst (λ l. LinksJoined names l before after) into_is f)

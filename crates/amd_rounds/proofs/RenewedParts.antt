@@ -1,0 +1,43 @@
+-- What the parts of a round write at one place.
+use Rattle.std.proofs.Common.{ℕ, true, ◌≡◌, ◌<◌, ◌≤◌, ◌+◌, ◌-◌, inl, inr, sym, ◌∙◌, ap, arith, List, Vec, length, set, get_or-set_same, get_or-set_other}
+use Rattle.std.specs.Prelude.{cond, ◌==◌, min, sum_by}
+use Rattle.std.proofs.lemmas.Bool.{cases_eq, eq-eqb, ne_eqb, cond-true, cond-false}
+use Rattle.amd_model.specs.Figures.{cut}
+use Rattle.amd_model.specs.Tie.{has}
+use Rattle.amd_rounds.specs.Views.{num, list_at}
+use Rattle.amd_rounds.specs.Rounds.{bound_after}
+use Rattle.amd_rounds.specs.declared.work.Lists.{Lists}
+use Rattle.amd_rounds.proofs.BucketLists.{list_set_same, list_set_other}
+
+-- the number at each place of a list in which one is written
+pub written : (xs : List ℕ) (c w : ℕ) → c < length xs → (e : ℕ) → num (set xs c w) e ≡ cond (e == c) w (num xs e)
+written xs c w l e = elim (cases_eq e c) [
+  | inl q ↦ ap (num (set xs c w)) q ∙ get_or-set_same xs c w 0 l ∙ sym (cond-true (e == c) w (num xs e) (eq-eqb e c q))
+  | inr n ↦ get_or-set_other xs c e w 0 n ∙ sym (cond-false (e == c) w (num xs e) (ne_eqb e c n))
+]
+
+-- and the list at each place of a list of lists
+pub list_written : {A : Type 0} (lists : List (Vec ℕ A)) (c : ℕ) (v : Vec ℕ A) → c < length lists → (e : ℕ) → list_at (set lists c v) e ≡ cond (e == c) v.items (list_at lists e)
+list_written lists c v l e = elim (cases_eq e c) [
+  | inl q ↦ ap (list_at (set lists c v)) q ∙ list_set_same lists c v l ∙ sym (cond-true (e == c) v.items (list_at lists e) (eq-eqb e c q))
+  | inr n ↦ list_set_other lists c v e n ∙ sym (cond-false (e == c) v.items (list_at lists e) (ne_eqb e c n))
+]
+
+-- a bound that keeps to the other live rows is below the number of rows
+pub bound_small : (near live size n : ℕ) → 0 < size → size ≤ live → live ≤ n → min near (live - size) < n
+bound_small near live size n some within most = omega (arith, some, within, most)
+
+-- the new bounds, for lists that are equal to those that were handed over
+module _ {A : Type 0} (border live : ℕ) (lists : Lists A) (made given beyond counts size sizes bound after : List ℕ) (is_made : given ≡ made) (is_beyond : counts ≡ beyond) (is_size : sizes ≡ size)
+    (is_after : (i : ℕ) → num after i ≡ cond (has given i) (bound_after border live lists counts sizes bound i) (num bound i)) (i : ℕ) where
+  pub renewed : num after i ≡ cond (has made i) (bound_after border live lists beyond size bound i) (num bound i)
+  renewed = is_after i ∙ ap (λ l. cond (has l i) (bound_after border live lists counts sizes bound i) (num bound i)) is_made
+      ∙ ap (λ l. cond (has made i) (bound_after border live lists l sizes bound i) (num bound i)) is_beyond
+      ∙ ap (λ l. cond (has made i) (bound_after border live lists beyond l bound i) (num bound i)) is_size
+
+  -- they keep to the other live rows, so each is below the number of rows
+  pub renewed_small : (n : ℕ) → has made i ≡ true → 0 < num size i → num size i ≤ live → live ≤ n → num after i < n
+  renewed_small n h some within most =
+      let e = renewed ∙ cond-true (has made i) (bound_after border live lists beyond size bound i) (num bound i) h in
+      let small = bound_small (min (num bound i) (cut (sum_by (num beyond) (list_at lists.elements.items i) + sum_by (num size) (list_at lists.variables.items i))) + (border - num size i)) live (num size i) n some within most in
+      omega (arith, e, small)

@@ -1,0 +1,388 @@
+-- What the start of the plain engine fills in stands for the start of an elimination.
+use Rattle.std.proofs.Common.{ℕ, zero, suc, Bool, true, false, Option, None, Some, List, [], Vec, ◌≡◌, ◌≤◌, ◌<◌, ◌+◌, ◌∙◌, ◌&&◌, ◌||◌, not, cond, max, ap, sym, refl, subst, inl, inr, arith, length, map, replicate}
+use Rattle.std.specs.Prelude.{filter, sum_by, nat_lt, nat_le, nat_eq, ◌==◌, ◌⊎◌}
+use Rattle.std.proofs.lemmas.Bool.{cases_Bool, cases_eq, cases_lt, cond-false, and_parts, or_right, or_from, eq-eqb, ne_eqb, eqb-true, lt-ltb, le-ltb, ltb-true, le-leb, lt-leb}
+use Rattle.std.proofs.lemmas.List.{length-map, length-replicate, get_or-map, get_or-replicate, get_or_past}
+use Rattle.amd_model.specs.Below.{count_below, list_below}
+use Rattle.amd_model.specs.Graph.{Graph, IsGraph, degree}
+use Rattle.amd_model.specs.State.{State, Home, Last, Live, Gone, in_block, is_element, live, IsStart}
+use Rattle.amd_model.specs.Figures.{figure, front_sum, is_made, max_below, entries, ldl_steps, lu_steps, greatest_front, cut}
+use Rattle.amd_model.specs.Listing.{weight}
+use Rattle.amd_model.specs.Tie.{has, start_tie}
+use Rattle.amd_model.specs.TieLaws.{NamesNeighbours}
+use Rattle.amd_model.specs.Input.Dense.{is_dense}
+use Rattle.amd_model.proofs.BelowLemmas.{count_same, sum_zero}
+use Rattle.amd_model.proofs.StateLemmas.{live_gives, block_gives, block_from, edge_small}
+use Rattle.amd_model.proofs.Sound.{live_small}
+use Rattle.amd_model.proofs.SoundStart.{is_last, is_empty, is_live, begins, start_sound, no_edge}
+use Rattle.amd_model.proofs.TieLists.{same_bool}
+use Rattle.amd_model.proofs.TieStart.{has_below, once_below, start_fits}
+use Rattle.amd_model.proofs.TieSums.{sum_one, sum_over}
+use Rattle.amd_rounds.specs.Views.{num, some_at, list_at, live_of, Below, ListsBelow}
+use Rattle.amd_rounds.specs.Buckets.{live_in, lasts}
+use Rattle.amd_rounds.specs.Keeps.{IsIdle, IsSized, LinksLead, Keeps, KeepsFronts, Stands}
+use Rattle.amd_rounds.specs.Starts.{StandsAtStart}
+use Rattle.amd_rounds.specs.declared.work.Work.{Work}
+use Rattle.amd_rounds.proofs.Named.{filter_named}
+use Rattle.amd_rounds.proofs.StartLists.{list_same, filter_below, each_last, empty_below}
+
+-- the size of the class of a row, and of its block, by its degree
+abbrev pub class_of : ℕ → ℕ → ℕ
+class_of threshold d = cond (nat_lt 0 d && nat_le d threshold) 1 0
+
+abbrev pub block_of : ℕ → ℕ
+block_of d = cond (nat_eq d 0) 1 0
+
+-- nothing n times over
+abbrev pub nothing : ℕ → List (Option ℕ)
+nothing n = replicate n None
+
+-- what the start fills in
+pub record Begun {A : Type 0} (rows : List (Vec ℕ A)) (degrees : List ℕ) (threshold : ℕ) (w : Work A) : Type 0 where
+  pub variables : w.lists.variables.items ≡ rows
+  pub elements : (length w.lists.elements.items ≡ length degrees) × ((i : ℕ) → list_at w.lists.elements.items i ≡ [])
+  pub members : (length w.lists.members.items ≡ length degrees) × ((i : ℕ) → list_at w.lists.members.items i ≡ [])
+  pub size : w.size.items ≡ map (class_of threshold) degrees
+  pub bound : w.bound.items ≡ degrees
+  pub range : ListsBelow (length degrees) w.placed.items
+  pub placed : (b : ℕ) → list_at w.placed.items b ≡ list_below (length degrees) (λ i. nat_lt 0 (num w.size.items i) && num degrees i == b)
+  pub least : w.least ≡ 0
+  pub live : w.live ≡ count_below (length w.size.items) (λ i. nat_lt 0 (num w.size.items i))
+  pub link : w.link.items ≡ nothing (length degrees)
+  pub parent : w.parent.items ≡ nothing (length degrees)
+  pub block : w.block.items ≡ map block_of degrees
+  pub front : w.front.items ≡ map block_of degrees
+  pub n_dense : w.n_dense ≡ count_below (length degrees) (λ i. nat_lt threshold (num degrees i))
+  pub lnz : w.figures.lnz ≡ cut (0 + front_sum entries w.n_dense 0)
+  pub ldl : w.figures.n_mult_subs_ldl ≡ cut (0 + front_sum ldl_steps w.n_dense 0)
+  pub lu : w.figures.n_mult_subs_lu ≡ cut (0 + front_sum lu_steps w.n_dense 0)
+  pub greatest : w.figures.d_max ≡ max 1 (w.n_dense + 0)
+  pub idle : IsIdle (length degrees) w.scratch
+
+-- ---- numbers and tests
+
+-- a row is a class if it is neither dense nor empty
+class_test : (d t : ℕ) → (nat_lt 0 d && nat_le d t) ≡ not (nat_lt t d || d == 0)
+class_test d t = elim (cases_eq d 0) [
+  | inl z ↦ ap (λ b. b && nat_le d t) (le-ltb 0 d (omega (arith, z))) ∙ sym (ap not (or_right (nat_lt t d) (d == 0) (eq-eqb d 0 z)))
+  | inr nz ↦ ap (λ b. b && nat_le d t) (lt-ltb 0 d (omega (arith, nz))) ∙ elim (cases_lt t d) [
+    | inl l ↦ lt-leb d t l ∙ sym (ap (λ b. not (b || d == 0)) (lt-ltb t d l))
+    | inr l ↦ le-leb d t l ∙ sym (ap not (or_from (nat_lt t d) (d == 0) (le-ltb t d l) (ne_eqb d 0 nz)))
+  ]
+]
+
+or_false : (a : Bool) → (a || false) ≡ a
+or_false true = refl
+or_false false = refl
+
+and_false : (a : Bool) → (a && false) ≡ false
+and_false true = refl
+and_false false = refl
+
+and_twice : (a : Bool) → (a && a) ≡ a
+and_twice true = refl
+and_twice false = refl
+
+add_none : (x y : ℕ) → x ≡ 0 → x + y ≡ y
+add_none x y e = omega (arith, e)
+
+-- what is nothing at each place
+none_at : (n i : ℕ) → some_at (nothing n) i ≡ None
+none_at n i = elim (cases_lt i n) [
+  | inl l ↦ get_or-replicate n i None None l
+  | inr l ↦ get_or_past (nothing n) i None (let e : length (nothing n) ≡ n = length-replicate n None in omega (arith, e, l))
+]
+
+-- a number for each degree
+map_at : (f : ℕ → ℕ) (xs : List ℕ) (i : ℕ) → i < length xs → num (map f xs) i ≡ f (num xs i)
+map_at f xs i l = get_or-map f xs i 0 0 l
+
+map_past : (f : ℕ → ℕ) (xs : List ℕ) (i : ℕ) → length xs ≤ i → num (map f xs) i ≡ 0
+map_past f xs i l = get_or_past (map f xs) i 0 (let e = length-map xs f in omega (arith, e, l))
+
+-- the greatest of none
+max_none : (n : ℕ) (p : ℕ → Bool) (f : ℕ → ℕ) (d : ℕ) → ((k : ℕ) → p k ≡ false) → max_below n p f d ≡ d
+unfolding max_below
+max_none zero p f d h = refl
+max_none (suc n) p f d h = let here = cond-false (p n) (f n) 0 (h n) in let rest = max_none n p f d h in omega (arith, here, rest)
+
+-- where a row is at the start
+home_cases : (v : ℕ) (a b : Bool) (h : Home) → h ≡ cond a Last (cond b (Gone v) (Live v)) → (h ≡ Live v) ⊎ (h ≡ Gone v) ⊎ (h ≡ Last)
+home_cases v true b h e = inr (inr e)
+home_cases v false true h e = inr (inl e)
+home_cases v false false h e = inl e
+
+-- nothing is linked
+links_none : (n : ℕ) (home : ℕ → Home) → ((v : ℕ) → (home v ≡ Live v) ⊎ (home v ≡ Gone v) ⊎ (home v ≡ Last)) → LinksLead (nothing n) home
+links_none n home h = record {
+  linked = λ v u e. absurd (no_link v u e);
+  alone = λ v e. h v;
+  free = λ v e. none_at n v;
+  last = λ v e. none_at n v;
+  rank = λ v. 0;
+  top = 0;
+  end = record {
+    rise = λ v u e. absurd (no_link v u e);
+    ends = λ v e. refl;
+    below = λ v u e. absurd (no_link v u e);
+  };
+}
+  where
+    no_link : (v u : ℕ) → some_at (nothing n) v ≡ Some u → ⊥
+    no_link v u e = let k = none_at n v in cc
+
+-- ---- the start
+
+module _ {A : Type 0} (rows : List (Vec ℕ A)) (degrees : List ℕ) (threshold : ℕ) (w : Work A) (begun : Begun rows degrees threshold w)
+    (rows_in : ListsBelow (length degrees) rows) (small : Below (length degrees) degrees)
+    (g : Graph) (lists : ℕ → List ℕ) (s : State) (laws : IsGraph g) (size_is : g.size ≡ length degrees)
+    (degree_is : (i : ℕ) → i < g.size → num degrees i ≡ degree g i) (list_is : (i : ℕ) → i < g.size → list_at rows i ≡ lists i)
+    (names : (i : ℕ) → i < g.size → NamesNeighbours g i (lists i)) (start : IsStart g (is_dense g threshold) s) where
+  abbrev dense : ℕ → Bool
+  dense = is_dense g threshold
+
+  -- what is placed
+  abbrev is_class_row : ℕ → Bool
+  is_class_row v = not (dense v || degree g v == 0)
+
+  abbrev classes : List ℕ
+  classes = list_below g.size is_class_row
+
+  within : (i : ℕ) → i < g.size → i < length degrees
+  within i l = omega (arith, l, size_is)
+
+  class_in : (i : ℕ) → i < g.size → has classes i ≡ is_class_row i
+  class_in i l = has_below g.size is_class_row i ∙ ap (λ c. c && is_class_row i) (lt-ltb i g.size l)
+
+  class_past : (i : ℕ) → g.size ≤ i → has classes i ≡ false
+  class_past i l = has_below g.size is_class_row i ∙ ap (λ c. c && is_class_row i) (le-ltb i g.size l)
+
+  class_small : (i : ℕ) → has classes i ≡ true → i < g.size
+  class_small i h = ltb-true i g.size (and_parts (nat_lt i g.size) (is_class_row i) (sym (has_below g.size is_class_row i) ∙ h)).0
+
+  -- a class has one row, and what is none has no row
+  abbrev one_if : Bool → ℕ
+  one_if b = cond b 1 0
+
+  class_rows : (i : ℕ) → i < g.size → class_of threshold (degree g i) ≡ one_if (is_class_row i)
+  unfolding is_dense
+  class_rows i l = ap one_if (class_test (degree g i) threshold)
+
+  size_at : (i : ℕ) → num w.size.items i ≡ one_if (has classes i)
+  size_at i = ap (λ xs. num xs i) begun.size ∙ elim (cases_lt i g.size) [
+    | inl l ↦ map_at (class_of threshold) degrees i (within i l) ∙ ap (class_of threshold) (degree_is i l) ∙ class_rows i l ∙ ap one_if (sym (class_in i l))
+    | inr l ↦ map_past (class_of threshold) degrees i (omega (arith, l, size_is)) ∙ ap one_if (sym (class_past i l))
+  ]
+
+  size_one : (i : ℕ) → has classes i ≡ true → num w.size.items i ≡ 1
+  size_one i h = size_at i ∙ ap one_if h
+
+  size_none : (i : ℕ) → has classes i ≡ false → num w.size.items i ≡ 0
+  size_none i h = size_at i ∙ ap one_if h
+
+  light : (i : ℕ) → nat_lt 0 (num w.size.items i) ≡ has classes i
+  light i = elim (cases_Bool (has classes i)) [
+    | inl y ↦ lt-ltb 0 (num w.size.items i) (let e = size_one i y in omega (arith, e)) ∙ sym y
+    | inr n ↦ le-ltb 0 (num w.size.items i) (let e = size_none i n in omega (arith, e)) ∙ sym n
+  ]
+
+  bound_at : (i : ℕ) → i < g.size → num w.bound.items i ≡ degree g i
+  bound_at i l = ap (λ xs. num xs i) begun.bound ∙ degree_is i l
+
+  size_length : length w.size.items ≡ g.size
+  size_length = ap length begun.size ∙ length-map degrees (class_of threshold) ∙ sym size_is
+
+  -- a neighbour of a row is a class if it is not dense
+  neighbour_light : (i j : ℕ) → i < g.size → has (lists i) j ≡ true → nat_lt 0 (num w.size.items j) ≡ not (dense j)
+  neighbour_light i j l h =
+      let e : g.edge i j ≡ true = sym ((names i l).named j) ∙ h in
+      let some : (degree g j == 0) ≡ false = ne_eqb (degree g j) 0 (λ z. no_edge g laws dense s start j i z (laws.symmetric j i ∙ e)) in
+      light j ∙ class_in j (edge_small g laws i j e).1 ∙ ap (λ c. not (dense j || c)) some ∙ ap not (or_false (dense j))
+
+  variables_kept : (i : ℕ) → i < g.size → live_of w.size.items (list_at w.lists.variables.items i) ≡ filter (λ j. not (dense j)) (lists i)
+  variables_kept i l = ap (λ xs. live_of w.size.items (list_at xs i)) begun.variables ∙ ap (live_of w.size.items) (list_is i l)
+      ∙ filter_named (λ j. nat_lt 0 (num w.size.items j)) (λ j. not (dense j)) (lists i) (λ j h. neighbour_light i j l h)
+
+  -- the classes of a bound stand in its list, rising
+  placed_kept : (b : ℕ) → lasts (live_in w.size.items w.bound.items b (list_at w.placed.items b)) ≡ filter (λ i. degree g i == b) classes
+  placed_kept b =
+      let p : ℕ → Bool = λ i. nat_lt 0 (num w.size.items i) && num degrees i == b in
+      let q : ℕ → Bool = λ i. nat_lt 0 (num w.size.items i) && num w.bound.items i == b in
+      ap (λ xs. lasts (filter q xs)) (begun.placed b) ∙ ap lasts (filter_below (length degrees) p q)
+      ∙ each_last (list_below (length degrees) (λ i. p i && q i)) (once_below (length degrees) (λ i. p i && q i))
+      ∙ ap (λ n. list_below n (λ i. p i && q i)) (sym size_is)
+      ∙ list_same g.size (λ i. p i && q i) (λ i. is_class_row i && degree g i == b) (λ i l. same_row i l)
+      ∙ sym (filter_below g.size is_class_row (λ i. degree g i == b))
+    where
+      same_row : (i : ℕ) → i < g.size → ((nat_lt 0 (num w.size.items i) && num degrees i == b) && (nat_lt 0 (num w.size.items i) && num w.bound.items i == b)) ≡ (is_class_row i && degree g i == b)
+      same_row i l = ap (λ a. (a && num degrees i == b) && (a && num w.bound.items i == b)) (light i ∙ class_in i l)
+          ∙ ap (λ d. (is_class_row i && d == b) && (is_class_row i && num w.bound.items i == b)) (degree_is i l)
+          ∙ ap (λ d. (is_class_row i && degree g i == b) && (is_class_row i && d == b)) (bound_at i l)
+          ∙ and_twice (is_class_row i && degree g i == b)
+
+  live_kept : w.live ≡ sum_by (λ i. 1) classes
+  unfolding count_below
+  live_kept = begun.live ∙ ap (λ n. count_below n (λ i. nat_lt 0 (num w.size.items i))) size_length
+      ∙ count_same g.size (λ i. nat_lt 0 (num w.size.items i)) (has classes) (λ i l. light i)
+      ∙ sym (sum_over g.size (λ i. 1) classes (once_below g.size is_class_row) class_small)
+
+  small_kept : (i : ℕ) → i < g.size → num w.bound.items i < length w.size.items
+  small_kept i l = let k = small i 0 (within i l) in let e = ap (λ xs. num xs i) begun.bound in let m = size_length in omega (arith, k, e, m, size_is)
+
+  keeps : Keeps w (start_tie g dense lists)
+  unfolding start_tie
+  keeps = record {
+    size = size_one;
+    no_class = size_none;
+    bound = λ i h. bound_at i (class_small i h);
+    small = λ i h. small_kept i (class_small i h);
+    variables = λ i h. variables_kept i (class_small i h);
+    elements = λ i h. begun.elements.1 i;
+    members = λ e h. ap (live_of w.size.items) (begun.members.1 e);
+    placed = placed_kept;
+    least = λ i h. (let e = begun.least in omega (arith, e));
+    live = live_kept;
+    parents = λ e. ap (λ xs. some_at xs e) begun.parent ∙ none_at (length degrees) e;
+    links = subst (λ xs. LinksLead xs (λ v. cond (dense v || not (nat_lt v g.size)) Last (cond (degree g v == 0) (Gone v) (Live v)))) (sym begun.link)
+        (links_none (length degrees) (λ v. cond (dense v || not (nat_lt v g.size)) Last (cond (degree g v == 0) (Gone v) (Live v)))
+        (λ v. home_cases v (dense v || not (nat_lt v g.size)) (degree g v == 0) (cond (dense v || not (nat_lt v g.size)) Last (cond (degree g v == 0) (Gone v) (Live v))) refl));
+  }
+
+  sized : IsSized g.size w
+  sized = subst (λ n. IsSized n w) (sym size_is) (record {
+    variables = subst (ListsBelow (length degrees)) (sym begun.variables) rows_in;
+    elements = empty_below (length degrees) w.lists.elements.items begun.elements.0 begun.elements.1;
+    members = empty_below (length degrees) w.lists.members.items begun.members.0 begun.members.1;
+    placed = begun.range;
+    size = ap length begun.size ∙ length-map degrees (class_of threshold);
+    bound = ap length begun.bound;
+    link = ap length begun.link ∙ length-replicate (length degrees) None;
+    parent = ap length begun.parent ∙ length-replicate (length degrees) None;
+    block = ap length begun.block ∙ length-map degrees block_of;
+    front = ap length begun.front ∙ length-map degrees block_of;
+    idle = begun.idle;
+  })
+
+  -- ---- blocks and figures
+
+  -- an element is an empty row
+  empty_row : (e : ℕ) → is_element s e ≡ true → (e < g.size) × (degree g e ≡ 0) × (s.home e ≡ Gone e)
+  empty_row e y = let h = block_gives e (s.home e) y in (in_size h, no_degree h, h)
+    where
+      in_size : s.home e ≡ Gone e → e < g.size
+      in_size h = elim (cases_lt e g.size) [ inl l ↦ l | inr l ↦ absurd (let k = start.outside e l in cc) ]
+
+      no_degree : s.home e ≡ Gone e → degree g e ≡ 0
+      no_degree h = elim (begins g laws dense s start e) [
+        | is_last k ↦ absurd (cc)
+        | is_empty k z ↦ z
+        | is_live k ↦ absurd (cc)
+      ]
+
+  -- and an empty row is an element
+  row_element : (e : ℕ) → e < g.size → degree g e ≡ 0 → is_element s e ≡ true
+  unfolding is_dense
+  row_element e l z = block_from e (s.home e) (start.empty e l (le-ltb threshold (degree g e) (omega (arith, z))) z)
+
+  own_block : (v e : ℕ) → s.home v ≡ Gone e → e ≡ v
+  own_block v e h = elim (begins g laws dense s start v) [
+    | is_last k ↦ absurd (cc)
+    | is_empty k z ↦ cc
+    | is_live k ↦ absurd (cc)
+  ]
+
+  block_one : (e : ℕ) → is_element s e ≡ true → count_below g.size (in_block s e) ≡ 1
+  unfolding count_below
+  block_one e y = let r = empty_row e y in
+      count_same g.size (in_block s e) (λ v. e == v) (λ v l. same_bool (in_block s e v) (e == v)
+      (λ h. eq-eqb e v (own_block v e (block_gives e (s.home v) h)))
+      (λ h. block_from e (s.home v) (subst (λ k. s.home k ≡ Gone e) (eqb-true e v h) r.2)))
+      ∙ sum_one g.size (λ k. 1) e r.0
+
+  border_none : (e : ℕ) → count_below g.size (s.border e) ≡ 0
+  unfolding count_below
+  border_none e = sum_zero g.size (λ k. one_if (s.border e k)) (λ k l. ap one_if (start.borders e k))
+
+  weight_one : (e : ℕ) → is_element s e ≡ true → weight g s e ≡ 1
+  unfolding weight
+  weight_one e y = let a = block_one e y in let b = border_none e in omega (arith, a, b)
+
+  block_empty : (e : ℕ) → is_element s e ≡ true → num (map block_of degrees) e ≡ 1
+  block_empty e y = let r = empty_row e y in map_at block_of degrees e (within e r.0) ∙ ap block_of (degree_is e r.0 ∙ r.1)
+
+  block_none : (e : ℕ) → is_element s e ≡ false → num (map block_of degrees) e ≡ 0
+  block_none e n = elim (cases_lt e g.size) [
+    | inr l ↦ map_past block_of degrees e (omega (arith, l, size_is))
+    | inl l ↦ map_at block_of degrees e (within e l) ∙ ap block_of (degree_is e l) ∙ ap one_if (ne_eqb (degree g e) 0 (λ z. let k = row_element e l z in cc))
+  ]
+
+  not_made : (e : ℕ) → is_made g s e ≡ false
+  unfolding is_made
+  not_made e = elim (cases_Bool (is_element s e)) [
+    | inr n ↦ ap (λ b. b && nat_lt 0 (degree g e)) n
+    | inl y ↦ ap (λ b. is_element s e && b) (le-ltb 0 (degree g e) (let z = (empty_row e y).1 in omega (arith, z))) ∙ and_false (is_element s e)
+  ]
+
+  dense_count : w.n_dense ≡ count_below g.size dense
+  unfolding is_dense
+  dense_count = begun.n_dense ∙ ap (λ n. count_below n (λ i. nat_lt threshold (num degrees i))) (sym size_is)
+      ∙ count_same g.size (λ i. nat_lt threshold (num degrees i)) dense (λ i l. ap (nat_lt threshold) (degree_is i l))
+
+  figure_start : (share : ℕ → ℕ) → figure share g dense s ≡ front_sum share (count_below g.size dense) 0
+  unfolding figure
+  figure_start share = add_none _ (front_sum share (count_below g.size dense) 0)
+      (sum_zero g.size (λ e. cond (is_made g s e) (front_sum share (count_below g.size (in_block s e)) (count_below g.size (s.border e) + count_below g.size dense)) 0)
+      (λ e l. cond-false (is_made g s e) (front_sum share (count_below g.size (in_block s e)) (count_below g.size (s.border e) + count_below g.size dense)) 0 (not_made e)))
+
+  figure_kept : (share : ℕ → ℕ) (x : ℕ) → x ≡ cut (0 + front_sum share w.n_dense 0) → x ≡ cut (figure share g dense s)
+  figure_kept share x e = e ∙ ap cut (add_none 0 (front_sum share w.n_dense 0) refl ∙ ap (λ n. front_sum share n 0) dense_count ∙ sym (figure_start share))
+
+  greatest_kept : w.figures.d_max ≡ greatest_front g dense s
+  unfolding greatest_front
+  greatest_kept =
+      let e = begun.greatest in let d = dense_count in
+      let none = max_none g.size (is_made g s) (λ e. count_below g.size (in_block s e) + (count_below g.size (s.border e) + count_below g.size dense)) (max 1 (count_below g.size dense)) not_made in
+      let is : w.figures.d_max ≡ max 1 (count_below g.size dense) = omega (arith, e, d) in
+      is ∙ sym none
+
+  fronts : KeepsFronts g dense w s
+  fronts = record {
+    blocks = λ e y. ap (λ xs. num xs e) begun.block ∙ block_empty e y ∙ sym (block_one e y);
+    no_element = λ e n. ap (λ xs. num xs e) begun.block ∙ block_none e n;
+    fronts = λ e y. ap (λ xs. num xs e) begun.front ∙ block_empty e y ∙ sym (weight_one e y);
+    dense_rows = dense_count;
+    lnz = figure_kept entries w.figures.lnz begun.lnz;
+    ldl = figure_kept ldl_steps w.figures.n_mult_subs_ldl begun.ldl;
+    lu = figure_kept lu_steps w.figures.n_mult_subs_lu begun.lu;
+    greatest = greatest_kept;
+  }
+
+  -- a live row has an edge
+  row_joined : (v : ℕ) → live s v ≡ true → 0 < degree g v
+  row_joined v h = let k = live_gives (s.home v) h in elim (cases_eq (degree g v) 0) [
+    | inr nz ↦ omega (arith, nz)
+    | inl z ↦ absurd (not_empty k.0 k.1 z)
+  ]
+    where
+      not_empty : (c : ℕ) → s.home v ≡ Live c → degree g v ≡ 0 → ⊥
+      not_empty c k z = elim (cases_lt v g.size) [
+        | inr l ↦ (let o = start.outside v l in cc)
+        | inl l ↦ (let o = block_gives v (s.home v) (row_element v l z) in cc)
+      ]
+
+  stands_start : Stands g dense w (start_tie g dense lists) s
+  stands_start = record {
+    graph = laws;
+    sound = start_sound g laws dense s start;
+    fits = start_fits g dense s lists laws start (λ i h. names i (live_small g laws s (start_sound g laws dense s start) i i h));
+    sized = sized;
+    keeps = keeps;
+    joined = row_joined;
+    no_parent = λ v h. start.parents v;
+    fronts = fronts;
+  }
+
+pub stands_at_start : {A : Type 0} (rows : List (Vec ℕ A)) (degrees : List ℕ) (threshold : ℕ) (w : Work A) → Begun rows degrees threshold w →
+    ListsBelow (length degrees) rows → Below (length degrees) degrees → StandsAtStart rows degrees threshold w
+stands_at_start rows degrees threshold w begun rows_in small g lists s laws size_is degree_is list_is names start =
+    stands_start rows degrees threshold w begun rows_in small g lists s laws size_is degree_is list_is names start

@@ -1,0 +1,115 @@
+-- Lists and counts that are filled row by row, from which an elimination starts.
+use Rattle.std.proofs.Common.{ℕ, zero, suc, Bool, true, false, ◌≡◌, ◌<◌, ◌+◌, ◌&&◌, cond, inl, inr, refl, sym, ◌∙◌, ap, subst, arith, add-one, List, [], ◌∷◌, ◌++◌, Vec, map, length, get_or, set, replicate}
+use Rattle.std.specs.Prelude.{filter, ◌==◌}
+use Rattle.std.specs.Vec.{vec_capacity}
+use Rattle.std.proofs.lemmas.Bool.{cases_eq, cases_lt, eq-eqb, ne_eqb, cond-true, cond-false}
+use Rattle.std.proofs.lemmas.List.{append-nil, length-map, length-set, map-set, get_or-map, get_or-set_same, get_or-set_other, length_push, length-replicate, get_or-replicate, get_or_past}
+use Rattle.std.proofs.lemmas.List.Elements.{All-nil, All-push, All-set, filter-append}
+use Rattle.amd_model.specs.Below.{count_below, sum_below, list_below}
+use Rattle.amd_model.specs.Tie.{Once, has}
+use Rattle.amd_rounds.specs.Views.{at, list_at, Below, ListsBelow, Clear}
+use Rattle.amd_rounds.specs.Buckets.{lasts}
+use Rattle.amd_numbers.proofs.EmptyLists.{empty_more}
+
+abbrev one_if : Bool → ℕ
+one_if b = cond b 1 0
+
+-- one number more passes
+pub count_yes : (p : ℕ → Bool) (i count : ℕ) → count ≡ count_below i p → p i ≡ true → count + 1 ≡ count_below (i + 1) p
+unfolding count_below sum_below
+count_yes p i count e h = rw (add-one i) (let one : one_if (p i) ≡ one_if true = ap one_if h in omega (arith, e, one))
+
+-- or does not
+pub count_no : (p : ℕ → Bool) (i count : ℕ) → count ≡ count_below i p → p i ≡ false → count ≡ count_below (i + 1) p
+unfolding count_below sum_below
+count_no p i count e h = rw (add-one i) (let none : one_if (p i) ≡ one_if false = ap one_if h in omega (arith, e, none))
+
+-- one number more is listed
+pub list_yes : (p : ℕ → Bool) (i : ℕ) → p i ≡ true → list_below (i + 1) p ≡ list_below i p ++ i ∷ []
+unfolding list_below
+list_yes p i h = rw (add-one i) (ap (λ ys. list_below i p ++ ys) (cond-true (p i) (i ∷ []) [] h))
+
+-- or is not
+pub list_no : (p : ℕ → Bool) (i : ℕ) → p i ≡ false → list_below (i + 1) p ≡ list_below i p
+unfolding list_below
+list_no p i h = rw (add-one i) (ap (λ ys. list_below i p ++ ys) (cond-false (p i) (i ∷ []) [] h) ∙ append-nil (list_below i p))
+
+-- tests that agree below a bound list the same
+pub list_same : (n : ℕ) (p q : ℕ → Bool) → ((k : ℕ) → k < n → p k ≡ q k) → list_below n p ≡ list_below n q
+unfolding list_below
+list_same zero p q h = refl
+list_same (suc n) p q h = ap (λ ys. ys ++ cond (p n) (n ∷ []) []) (list_same n p q (λ k l. h k (omega (arith, l))))
+    ∙ ap (λ b. list_below n q ++ cond b (n ∷ []) []) (h n (omega arith))
+
+-- what passes two tests
+pub filter_below : (n : ℕ) (p q : ℕ → Bool) → filter q (list_below n p) ≡ list_below n (λ i. p i && q i)
+unfolding list_below
+filter_below zero p q = refl
+filter_below (suc n) p q = filter-append q (list_below n p) (cond (p n) (n ∷ []) [])
+    ∙ ap (λ ys. ys ++ filter q (cond (p n) (n ∷ []) [])) (filter_below n p q) ∙ ap (λ ys. list_below n (λ i. p i && q i) ++ ys) (one (p n))
+  where
+    one : (b : Bool) → filter q (cond b (n ∷ []) []) ≡ cond (b && q n) (n ∷ []) []
+    one true = refl
+    one false = refl
+
+-- a list that names no number twice
+pub each_last : (xs : List ℕ) → Once xs → lasts xs ≡ xs
+unfolding lasts
+each_last [] h = refl
+each_last (y ∷ ys) h = cond-false (has ys y) (lasts ys) (y ∷ lasts ys) h.0 ∙ ap (λ l. y ∷ l) (each_last ys h.1)
+
+-- the list at a place
+pub read_list : {A : Type 0} (lists : List (Vec ℕ A)) (e : ℕ) (v : Vec ℕ A) → e < length lists → v ≡ get_or lists e v → list_at lists e ≡ v.items
+read_list lists e v l h = get_or-map (λ w. w.items) lists e v [] l ∙ ap (λ w. w.items) (sym h)
+
+-- an empty list more
+pub empty_push : {A : Type 0} (lists : List (Vec ℕ A)) (v : Vec ℕ A) → ((i : ℕ) → list_at lists i ≡ []) → v.items ≡ [] → (i : ℕ) → list_at (lists ++ v ∷ []) i ≡ []
+empty_push {A} lists v empty is i = elim (cases_lt i (length lists + 1)) [
+  | inl l ↦ empty_more (Vec ℕ A) (λ w. w.items) lists v (length lists) refl i l (λ k h. empty k) is
+  | inr l ↦ get_or_past (map (λ w. w.items) (lists ++ v ∷ [])) i [] (let m = length-map (lists ++ v ∷ []) (λ (w : Vec ℕ A). w.items) in let p = length_push lists v in omega (arith, m, p, l))
+]
+
+-- one value at each of n places
+pub same_length : {X : Type 0} (n : ℕ) (x : X) (xs : List X) → xs ≡ replicate n x → length xs ≡ n
+same_length n x xs h = ap length h ∙ length-replicate n x
+
+-- no mark at any of n places
+pub marks_clear : (n : ℕ) (marks : List Bool) → marks ≡ replicate n false → (length marks ≡ n) × Clear marks
+marks_clear n marks h = (
+  same_length n false marks h,
+  λ j. ap (λ xs. at xs j) h ∙ elim (cases_lt j n) [
+    | inl l ↦ get_or-replicate n j false false l
+    | inr l ↦ get_or_past (replicate n false) j false (let e = length-replicate n false in omega (arith, e, l))
+  ],
+)
+
+-- lists that are all empty are in range
+pub empty_below : {A : Type 0} (n : ℕ) (lists : List (Vec ℕ A)) → length lists ≡ n → ((i : ℕ) → list_at lists i ≡ []) → ListsBelow n lists
+empty_below n lists size empty = (size, λ k d l. subst (Below n) (sym (sym (get_or-map (λ w. w.items) lists k d [] l) ∙ empty k)) (All-nil (λ j. j < n)))
+
+-- a row more is placed
+module _ {A : Type 0} (n : ℕ) (lists : List (Vec ℕ A)) (bound : ℕ → ℕ) (light : ℕ → Bool) (i : ℕ) (was : (b : ℕ) → list_at lists b ≡ list_below i (λ j. light j && bound j == b)) where
+  -- a row that is no class is passed over
+  pub placed_no : light i ≡ false → (b : ℕ) → list_at lists b ≡ list_below (i + 1) (λ j. light j && bound j == b)
+  placed_no h b = was b ∙ sym (list_no (λ j. light j && bound j == b) i (ap (λ a. a && bound i == b) h))
+
+  -- a class is placed under its bound
+  module _ (v : Vec ℕ A) (here : bound i < length lists) (is : v ≡ get_or lists (bound i) v) (w : Vec ℕ A) (pushed : w.items ≡ v.items ++ i ∷ []) where
+    old : v.items ≡ list_at lists (bound i)
+    old = sym (read_list lists (bound i) v here is)
+
+    pub placed_yes : light i ≡ true → (b : ℕ) → list_at (set lists (bound i) w) b ≡ list_below (i + 1) (λ j. light j && bound j == b)
+    placed_yes h b = elim (cases_eq b (bound i)) [
+      | inl e ↦ ap (list_at (set lists (bound i) w)) e ∙ ap (λ xs. get_or xs (bound i) []) (map-set (λ u. u.items) lists (bound i) w)
+          ∙ get_or-set_same (map (λ u. u.items) lists) (bound i) w.items [] (let m = length-map lists (λ (u : Vec ℕ A). u.items) in omega (arith, m, here))
+          ∙ pushed ∙ ap (λ ys. ys ++ i ∷ []) (old ∙ ap (list_at lists) (sym e) ∙ was b)
+          ∙ sym (list_yes (λ j. light j && bound j == b) i (ap (λ a. a && bound i == b) h ∙ eq-eqb (bound i) b (sym e)))
+      | inr ne ↦ ap (λ xs. get_or xs b []) (map-set (λ u. u.items) lists (bound i) w) ∙ get_or-set_other (map (λ u. u.items) lists) (bound i) b w.items [] ne
+          ∙ was b ∙ sym (list_no (λ j. light j && bound j == b) i (ap (λ a. a && bound i == b) h ∙ ne_eqb (bound i) b (λ q. ne (sym q))))
+    ]
+
+    pub range_yes : ListsBelow n lists → i < n → ListsBelow n (set lists (bound i) w)
+    range_yes r l = (
+      length-set lists (bound i) w ∙ r.0,
+      All-set (λ u. Below n u.items) lists (bound i) w (subst (Below n) (sym pushed) (All-push (λ j. j < n) v.items i (subst (λ u. Below n u.items) (sym is) (r.1 (bound i) v here)) l)) r.1,
+    )

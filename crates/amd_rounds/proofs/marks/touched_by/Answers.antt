@@ -1,0 +1,44 @@
+use Rattle.std.proofs.Common.{ℕ, List, fold, flat_map, ◌≡◌, ◌<◌, ◌+◌, ◌∙◌, ◌||◌, sym, ap, arith, length, get_or, drop}
+use Rattle.std.proofs.lemmas.List.{at_drop_more}
+use Rattle.amd_model.specs.Tie.{has, add_new}
+use Rattle.amd_rounds.specs.Views.{at, list_at}
+use Rattle.amd_rounds.proofs.MarkLists.{marks_list, list_read, gathered_list, gathered_marks, gathered_next}
+use Rattle.amd_rounds.proofs.marks.touched_by.Goals as goal
+
+pub front-init : goal.front-init
+front-init g c =
+    let lists = c.args.elements.now.items in
+    let pivot : ℕ = c.args.pivot in
+    let own : List ℕ = list_at lists pivot in
+    let row : pivot < length lists = omega (arith, c.requires.pivot, c.requires.elements.0) in
+    let those : own ≡ c.deref.result.now = list_read lists pivot c.index.result.now row c.index.ensures ∙ sym c.deref.ensures.value in
+    let marks = c.args.marks.now.items in
+    record {
+      size = c.mark_all.ensures.size;
+      list = ap (λ o. fold (add_new (has own)) o (flat_map (list_at lists) c.args.front.now)) c.new-out.ensures.items;
+      marked = marks_list c.mark_all.new.marks.items own c.new-out.result.items marks c.requires.clear c.new-out.ensures.items
+          (λ j. c.mark_all.ensures.marked j ∙ ap (λ xs. at marks j || has xs j) (sym those));
+    }
+
+pub front-preserved : goal.front-preserved
+front-preserved g c =
+    let lists = c.args.elements.now.items in
+    let pivot : ℕ = c.args.pivot in
+    let skip = has (list_at lists pivot) in
+    let front : List ℕ = c.args.front.now in
+    let i : ℕ = c.front.i-index in
+    let out : List ℕ = c.front.out.items in
+    let grown : List ℕ = c.add_unmarked.new.out.items in
+    let was = c.front.invariant in
+    let here : i < length front = c.front-test.true in
+    let e : ℕ = get_or front i 0 in
+    let small : e < length lists = (let b = c.requires.range i 0 here in omega (arith, b, c.requires.elements.0)) in
+    let list : list_at lists e ≡ c.deref-in-front.result.now = list_read lists e c.index-in-front.result.now small c.index-in-front.ensures ∙ sym c.deref-in-front.ensures.value in
+    let grows : grown ≡ fold (add_new (at c.front.marks.items)) out (list_at lists e) = c.in_ok-add_unmarked.ensures.list ∙ ap (fold (add_new (at c.front.marks.items)) out) (sym list) in
+    record {
+      size = c.in_ok-add_unmarked.ensures.size ∙ was.size;
+      list = gathered_next skip (list_at lists) out grown (drop (i + 1) front) e (gathered_list skip c.front.marks.items out grown (list_at lists e) was.marked grows)
+          ∙ sym (at_drop_more (λ es. fold (add_new skip) out (flat_map (list_at lists) es)) front i 0 here) ∙ was.list;
+      marked = gathered_marks skip c.front.marks.items out grown (list_at lists e) was.marked grows c.add_unmarked.new.marks.items
+          (λ j. c.in_ok-add_unmarked.ensures.marked j ∙ ap (λ xs. at c.front.marks.items j || has xs j) (sym list));
+    }

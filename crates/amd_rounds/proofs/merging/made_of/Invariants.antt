@@ -1,0 +1,7 @@
+use Rattle.std.proofs.Common.{◌≡◌, take}
+use Rattle.std.specs.Prelude.{filter, ◌==◌}
+use Rattle.amd_rounds.specs.Views.{num}
+use Rattle.amd_rounds.proofs.merging.made_of.Given as goal
+
+abbrev pub invariant-loop-i : goal.invariant-loop-i
+invariant-loop-i g l = l.made.items ≡ filter (λ i. num l.into i == i) (take l.i-index l.rest)

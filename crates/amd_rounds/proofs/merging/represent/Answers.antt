@@ -1,0 +1,61 @@
+use Rattle.std.proofs.Common.{◌≡◌, ◌<◌, ◌++◌, ◌∷◌, [], inl, inr, ℕ, length, set, arith, sym, ap, subst, ◌∙◌}
+use Rattle.std.specs.Prelude.{◌==◌}
+use Rattle.std.proofs.lemmas.Bool.{cases_eq, eq-eqb, ne_eqb, cond-true, cond-false}
+use Rattle.std.proofs.lemmas.List.{length-set, get_or-set_same}
+use Rattle.amd_model.specs.Tie.{has}
+use Rattle.amd_rounds.specs.Views.{list_at, Below}
+use Rattle.amd_rounds.specs.Groups.{group_in}
+use Rattle.amd_rounds.proofs.BoundLists.{list_deref, list_put, list_other, list_read, list_below, lists_put, below_push}
+use Rattle.amd_rounds.proofs.merging.represent.Goals as goal
+
+pub representative_in-found-requires-clause-group_once : goal.representative_in-found-requires-clause-group_once
+representative_in-found-requires-clause-group_once g c = λ r h.
+    let groups = c.args.scratch.now.groups.items in
+    let room = c.requires.ready.groups.0 in
+    let range = c.group_of-group.ensures.range in
+    let read = list_deref groups c.group_of-group.result c.index.result.now _ (omega (arith, room, range)) c.index.ensures c.deref.ensures.value in
+    c.requires.group_once c.group_of-group.result r (ap (λ xs. has xs r) (sym read) ∙ h)
+
+pub returns-in_ok-push-in-None-clause-looked : goal.returns-in_ok-push-in-None-clause-looked
+returns-in_ok-push-in-None-clause-looked g c =
+    let groups = c.args.scratch.now.groups.items in
+    let es = c.args.lists.now.elements.items in
+    let vs = c.args.lists.now.variables.items in
+    let i = c.args.i in
+    let at_group = c.group_of-group.result in
+    let room = c.requires.ready.groups.0 in
+    let range = c.group_of-group.ensures.range in
+    let within : at_group < length groups = omega (arith, room, range) in
+    let is = c.group_of-group.ensures.group in
+    let read = list_deref groups at_group c.index.result.now _ within c.index.ensures c.deref.ensures.value in
+    let pushed : c.push.new.self.items ≡ list_at groups at_group ++ i ∷ [] = c.in_ok-push-in-None.ensures.items ∙ ap (λ xs. xs ++ i ∷ []) (sym (list_read groups at_group c.index_mut-in-None.result.now within c.index_mut-in-None.ensures.value)) in
+    let size = c.requires.ready.into in
+    let row = c.requires.row in
+    inr (
+      (λ x h. c.in-None.ensures.found x (ap (λ xs. has xs x) (read ∙ ap (list_at groups) is) ∙ h)),
+      get_or-set_same c.args.scratch.now.into.items i i 0 (omega (arith, size, row)),
+      (λ b. elim (cases_eq b at_group) [
+        | inl e ↦ ap (list_at (set groups at_group c.push.new.self)) e ∙ list_put groups at_group c.push.new.self within ∙ pushed ∙ ap (λ m. list_at groups m ++ i ∷ []) (sym e)
+            ∙ sym (cond-true (b == group_in es vs i) (list_at groups b ++ i ∷ []) (list_at groups b) (eq-eqb b (group_in es vs i) (e ∙ is)))
+        | inr ne ↦ list_other groups at_group b c.push.new.self ne
+            ∙ sym (cond-false (b == group_in es vs i) (list_at groups b ++ i ∷ []) (list_at groups b) (ne_eqb b (group_in es vs i) (λ q. ne (q ∙ sym is))))
+      ]),
+    )
+
+pub returns-in_ok-push-in-None-clause-ready : goal.returns-in_ok-push-in-None-clause-ready
+returns-in_ok-push-in-None-clause-ready g c =
+    let groups = c.args.scratch.now.groups.items in
+    let n : ℕ = length c.args.lists.now.elements.items in
+    let i = c.args.i in
+    let at_group = c.group_of-group.result in
+    let room = c.requires.ready.groups.0 in
+    let range = c.group_of-group.ensures.range in
+    let within : at_group < length groups = omega (arith, room, range) in
+    let pushed : c.push.new.self.items ≡ list_at groups at_group ++ i ∷ [] = c.in_ok-push-in-None.ensures.items ∙ ap (λ xs. xs ++ i ∷ []) (sym (list_read groups at_group c.index_mut-in-None.result.now within c.index_mut-in-None.ensures.value)) in
+    record {
+      rows = c.in-None.ensures.rows;
+      elements = c.in-None.ensures.elements;
+      groups = lists_put n groups at_group c.push.new.self c.requires.ready.groups (subst (Below n) (sym pushed) (below_push n i (list_at groups at_group) c.requires.row (list_below n groups at_group c.requires.ready.groups range)));
+      beyond = c.requires.ready.beyond;
+      into = length-set c.args.scratch.now.into.items i i ∙ c.requires.ready.into;
+    }

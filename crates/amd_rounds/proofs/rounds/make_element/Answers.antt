@@ -1,0 +1,126 @@
+use Rattle.std.proofs.Common.{rules, ℕ, List, ◌≡◌, ◌<◌, ◌∙◌, ap, length, refl, subst, sym}
+use Rattle.std.specs.Prelude.{flat_map, ◌++◌, ◌==◌}
+use Rattle.amd_rounds.specs.Views.{list_at, live_of, ListsBelow}
+use Rattle.amd_rounds.specs.Buckets.{Chosen}
+use Rattle.amd_rounds.specs.Rounds.{firsts, Absorbed}
+use Rattle.amd_rounds.specs.Keeps.{IsIdle}
+use Rattle.amd_rounds.specs.declared.work.Lists.{Lists}
+use Rattle.amd_rounds.proofs.FrontLists.{pivot_below, front_below, front_once, front_other}
+use Rattle.amd_rounds.proofs.rounds.make_element.Goals as goal
+
+-- the list of the element of a pivot
+abbrev gathered : {A : Type 0} → List ℕ → Lists A → ℕ → List ℕ
+gathered size lists c = firsts (λ x. x == c) (flat_map (λ e. live_of size (list_at lists.members.items e)) (list_at lists.elements.items c) ++ live_of size (list_at lists.variables.items c))
+
+pub choose-pivot-requires-clause-lengths : goal.choose-pivot-requires-clause-lengths
+choose-pivot-requires-clause-lengths g c = rw (c.deref.ensures.value, c.deref-2.ensures.value) c.requires.sized.bound
+
+pub choose-pivot-requires-clause-range : goal.choose-pivot-requires-clause-range
+choose-pivot-requires-clause-range g c = rw c.deref.ensures.value c.requires.sized.placed
+
+pub choose-pivot-requires-clause-some : goal.choose-pivot-requires-clause-some
+choose-pivot-requires-clause-some g c = rw (c.deref.ensures.value, c.deref-2.ensures.value) c.requires.some
+
+pub front_of-requires-clause-size : goal.front_of-requires-clause-size
+front_of-requires-clause-size g c = rw c.deref-3.ensures.value c.requires.sized.idle.rows.0
+
+pub front_of-requires-clause-pivot : goal.front_of-requires-clause-pivot
+front_of-requires-clause-pivot g c =
+    let chosen = c.choose-pivot.ensures.chosen in let w = c.args.work.now in
+    let below : c.choose-pivot.result < length w.size.items = pivot_below (length w.size.items) c.deref.result.now c.deref-2.result.now c.choose-pivot.new.least w.placed.items
+    (list_at c.choose-pivot.new.lists.items c.choose-pivot.new.least) c.choose-pivot.result c.requires.sized.placed chosen.popped in
+    rw c.deref-3.ensures.value below
+
+pub front_of-requires-clause-variables : goal.front_of-requires-clause-variables
+front_of-requires-clause-variables g c = rw c.deref-3.ensures.value c.requires.sized.variables
+
+pub front_of-requires-clause-elements : goal.front_of-requires-clause-elements
+front_of-requires-clause-elements g c = rw c.deref-3.ensures.value c.requires.sized.elements
+
+pub front_of-requires-clause-members : goal.front_of-requires-clause-members
+front_of-requires-clause-members g c = rw c.deref-3.ensures.value c.requires.sized.members
+
+pub front_of-requires-clause-clear : goal.front_of-requires-clause-clear
+front_of-requires-clause-clear g c = c.requires.sized.idle.rows.1
+
+pub returns-in_err-front : goal.returns-in_err-front
+returns-in_err-front g c = search rules
+
+pub absorb-requires-clause-elements : goal.absorb-requires-clause-elements
+absorb-requires-clause-elements g c = rw c.deref-5.ensures.value c.requires.sized.elements
+
+pub absorb-requires-clause-variables : goal.absorb-requires-clause-variables
+absorb-requires-clause-variables g c = rw c.deref-5.ensures.value c.requires.sized.variables
+
+pub absorb-requires-clause-members : goal.absorb-requires-clause-members
+absorb-requires-clause-members g c = rw c.deref-5.ensures.value c.requires.sized.members
+
+pub absorb-requires-clause-pivot : goal.absorb-requires-clause-pivot
+absorb-requires-clause-pivot g c =
+    let chosen = c.choose-pivot.ensures.chosen in let w = c.args.work.now in
+    let below : c.choose-pivot.result < length w.size.items = pivot_below (length w.size.items) c.deref.result.now c.deref-2.result.now c.choose-pivot.new.least w.placed.items
+    (list_at c.choose-pivot.new.lists.items c.choose-pivot.new.least) c.choose-pivot.result c.requires.sized.placed chosen.popped in
+    let front : List ℕ = c.in_ok-front.front.items in
+    let other = front_other c.deref-3.result.now w.lists.members.items w.lists.elements.items w.lists.variables.items c.choose-pivot.result front c.in_ok-front.ensures.list in
+    rw (c.deref-5.ensures.value, c.deref-4.ensures.value) (below, other)
+
+pub absorb-requires-clause-range : goal.absorb-requires-clause-range
+absorb-requires-clause-range g c =
+    let w = c.args.work.now in let front : List ℕ = c.in_ok-front.front.items in
+    let small = front_below c.deref-3.result.now w.lists.members.items w.lists.elements.items w.lists.variables.items c.choose-pivot.result front c.in_ok-front.ensures.list (length w.size.items) c.requires.sized.members c.requires.sized.variables in
+    rw (c.deref-5.ensures.value, c.deref-4.ensures.value) small
+
+pub absorb-requires-clause-once : goal.absorb-requires-clause-once
+absorb-requires-clause-once g c =
+    let w = c.args.work.now in let front : List ℕ = c.in_ok-front.front.items in
+    let once = front_once c.deref-3.result.now w.lists.members.items w.lists.elements.items w.lists.variables.items c.choose-pivot.result front c.in_ok-front.ensures.list in
+    rw c.deref-4.ensures.value once
+
+pub absorb-requires-clause-parent : goal.absorb-requires-clause-parent
+absorb-requires-clause-parent g c = rw c.deref-5.ensures.value c.requires.sized.parent
+
+pub absorb-requires-clause-rows : goal.absorb-requires-clause-rows
+absorb-requires-clause-rows g c =
+    let room = c.front_of.ensures.size ∙ c.requires.sized.idle.rows.0 in
+    rw (c.deref-5.ensures.value, c.deref-4.ensures.value) (room, c.in_ok-front.ensures.marked)
+
+pub absorb-requires-clause-taken : goal.absorb-requires-clause-taken
+absorb-requires-clause-taken g c = rw c.deref-5.ensures.value c.requires.sized.idle.elements
+
+pub absorb-requires-clause-groups : goal.absorb-requires-clause-groups
+absorb-requires-clause-groups g c = rw c.deref-5.ensures.value c.requires.sized.idle.groups
+
+pub absorb-requires-clause-numbers : goal.absorb-requires-clause-numbers
+absorb-requires-clause-numbers g c = rw c.deref-5.ensures.value (c.requires.sized.idle.beyond, c.requires.sized.idle.into)
+
+pub returns-in_err-absorb : goal.returns-in_err-absorb
+returns-in_err-absorb g c = search rules
+
+pub returns : goal.returns
+returns g c =
+    let w = c.args.work.now in let p : ℕ = c.choose-pivot.result in let front : List ℕ = c.in_ok-front.front.items in let sized = c.requires.sized in
+    let chosen = subst (λ b. Chosen c.deref.result.now b w.placed.items c.choose-pivot.new.lists.items w.least c.choose-pivot.new.least p) c.deref-2.ensures.value c.choose-pivot.ensures.chosen in
+    let list : front ≡ gathered c.deref-3.result.now w.lists p = c.in_ok-front.ensures.list in
+    let absorbed = subst (λ f. Absorbed c.args.aggressive p f c.deref-5.result.now w.lists c.absorb.new.lists w.parent.items c.absorb.new.parent.items c.absorb.new.scratch.beyond.items) c.deref-4.ensures.value c.in_ok-absorb.ensures.absorbed in
+    record {
+      makes = record {
+        chosen = subst (λ s. Chosen s w.bound.items w.placed.items c.choose-pivot.new.lists.items w.least c.choose-pivot.new.least p) c.deref.ensures.value chosen;
+        front_is = list ∙ ap (λ s. gathered s w.lists p) c.deref-3.ensures.value;
+        absorbed = subst (λ s. Absorbed c.args.aggressive p front s w.lists c.absorb.new.lists w.parent.items c.absorb.new.parent.items c.absorb.new.scratch.beyond.items) c.deref-5.ensures.value absorbed;
+        rows = record { size = refl; bound = refl; link = refl; live = refl };
+        elements = record { block = refl; front = refl; n_dense = refl; figures = refl };
+        sized = record {
+          variables = subst (λ s. ListsBelow (length s) c.absorb.new.lists.variables.items) c.deref-5.ensures.value c.in_ok-absorb.ensures.variables;
+          elements = subst (λ s. ListsBelow (length s) c.absorb.new.lists.elements.items) c.deref-5.ensures.value c.in_ok-absorb.ensures.elements;
+          members = subst (λ l. ListsBelow (length w.size.items) l.items) (sym c.in_ok-absorb.ensures.absorbed.members) sized.members;
+          placed = subst (λ s. ListsBelow (length s) c.choose-pivot.new.lists.items) c.deref.ensures.value c.choose-pivot.ensures.range;
+          size = sized.size;
+          bound = sized.bound;
+          link = sized.link;
+          parent = c.in_ok-absorb.ensures.parent ∙ ap length c.deref-5.ensures.value;
+          block = sized.block;
+          front = sized.front;
+          idle = subst (λ s. IsIdle (length s) c.absorb.new.scratch) c.deref-5.ensures.value c.in_ok-absorb.ensures.idle;
+        };
+      };
+    }

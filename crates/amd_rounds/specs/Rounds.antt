@@ -1,0 +1,45 @@
+-- What the parts of a round do to the lists of an elimination, each as a function of what stood there before.
+use Rattle.std.specs.Prelude.{ℕ, Bool, true, Option, Some, List, [], Vec, ◌≡◌, ◌==◌, ◌&&◌, ◌||◌, ◌+◌, ◌-◌, not, min, cond, nat_eq, nat_lt, filter, fold, flat_map, sum_by}
+use Rattle.amd_model.specs.Figures.{cut}
+use Rattle.amd_model.specs.Tie.{has, each, is_empty, add_new}
+use Rattle.amd_rounds.specs.Views.{num, some_at, list_at}
+use Rattle.amd_rounds.specs.declared.work.Lists.{Lists}
+
+-- a list without repeats of the pivot and of what stands in it already: what is new in each of several lists, in turn
+abbrev pub firsts : (ℕ → Bool) → List ℕ → List ℕ
+firsts skip xs = fold (add_new skip) [] xs
+
+-- the class i keeps neither an element nor a variable
+abbrev pub keeps_none : {A : Type 0} → List (Vec ℕ A) → List (Vec ℕ A) → ℕ → Bool
+keeps_none elements variables i = is_empty (list_at elements i) && is_empty (list_at variables i)
+
+-- two classes keep the same elements and the same variables
+abbrev pub alike_in : {A : Type 0} → List (Vec ℕ A) → List (Vec ℕ A) → ℕ → ℕ → Bool
+alike_in elements variables i j = each (has (list_at elements i)) (list_at elements j) && each (has (list_at elements j)) (list_at elements i)
+    && each (has (list_at variables i)) (list_at variables j) && each (has (list_at variables j)) (list_at variables i)
+
+-- the rows of the classes of a list that do not pass, as far as a word holds them
+abbrev pub rows_outside : (ℕ → Bool) → List ℕ → List ℕ → ℕ
+rows_outside inside size xs = cut (sum_by (num size) (filter (λ j. not (inside j)) xs))
+
+-- the lists of the classes of a front after the new element of the pivot c has absorbed others
+pub record Absorbed {A : Type 0} (aggressive : Bool) (c : ℕ) (front size : List ℕ) (old new : Lists A) (before after : List (Option ℕ)) (beyond : List ℕ) : Type 0 where
+  -- the elements that hold a class of the front and not the pivot
+  pub touched : List ℕ
+  pub touched_is : touched ≡ firsts (has (list_at old.elements.items c)) (flat_map (list_at old.elements.items) front)
+  -- the rows of each of them outside the front
+  pub counted : (e : ℕ) → has touched e ≡ true → num beyond e ≡ rows_outside (λ j. j == c || has front j) size (list_at old.members.items e)
+  -- what is absorbed: the elements of the pivot, and with `aggressive` those with no row outside
+  pub taken : ℕ → Bool
+  pub taken_is : (e : ℕ) → taken e ≡ (has (list_at old.elements.items c) e || (has touched e && (aggressive && nat_eq (num beyond e) 0)))
+  pub parents : (e : ℕ) → some_at after e ≡ cond (taken e) (Some c) (some_at before e)
+  -- a class of the front keeps the other elements, and the classes outside
+  pub elements : (i : ℕ) → list_at new.elements.items i ≡ cond (has front i) (filter (λ e. not (taken e)) (list_at old.elements.items i)) (list_at old.elements.items i)
+  pub variables : (i : ℕ) → list_at new.variables.items i
+      ≡ cond (has front i) (filter (λ j. nat_lt 0 (num size j) && not (j == c || has front j)) (list_at old.variables.items i)) (list_at old.variables.items i)
+  pub members : new.members ≡ old.members
+
+-- the new bound of a class: of its old bound and the rows that its lists reach the lesser, then the other rows of the border, but
+-- no more than the other rows that are live
+abbrev pub bound_after : {A : Type 0} → ℕ → ℕ → Lists A → List ℕ → List ℕ → List ℕ → ℕ → ℕ
+bound_after border live lists beyond size bound i = min (min (num bound i) (cut (sum_by (num beyond) (list_at lists.elements.items i) + sum_by (num size) (list_at lists.variables.items i))) + (border - num size i)) (live - num size i)

@@ -1,0 +1,161 @@
+// The start of an elimination: the rows that are neither dense nor empty are classes of their own, each placed under its degree,
+// and the empty rows are elements. Source: Amestoy, Davis and Duff 1996; the AMD user guide on dense rows. For an engine.
+
+ghost use Rattle.std.specs.Prelude.{◌≡◌, ◌==◌, ◌&&◌, ℕ, [], map, cond, nat_eq, nat_lt, nat_le, length, IfOk};
+ghost use Rattle.amd_model.specs.Below.{count_below, list_below};
+ghost use Rattle.amd_rounds.specs.Views.{num, list_at, Below, ListsBelow};
+ghost use Rattle.amd_rounds.specs.Keeps.{IsIdle};
+ghost use Rattle.amd_rounds.specs.Starts.{StandsAtStart};
+
+use crate::work::{Lists, Scratch, Work};
+use amd_numbers::figures::Figures;
+use std::alloc::{AllocError, Allocator};
+
+/// As many lists as there are rows, with nothing in them.
+fn empty_lists<A: Allocator + Copy>(alloc: A, n: usize) -> Result<Vec<Vec<usize, A>, A>, AllocError>
+    ensures { IfOk result (λ v. (length v.items ≡ n) × ((i : ℕ) → list_at v.items i ≡ [])) }
+{
+    let mut lists = Vec::with_capacity(alloc, n)?;
+    'rows: for _ in 0..n {
+        lists.push_reserved(Vec::new(alloc));
+    }
+    Ok(lists)
+}
+
+/// The rows of the class of a row: 1 if it is neither dense nor empty.
+fn class_size(degree: usize, threshold: usize) -> usize
+    ensures { result ≡ cond (nat_lt 0 degree && nat_le degree threshold) 1 0 }
+{
+    if degree > 0 && degree <= threshold {
+        1
+    } else {
+        0
+    }
+}
+
+/// The rows of each class: 1 for a row that is neither dense nor empty.
+fn first_sizes<A: Allocator + Copy>(
+    alloc: A,
+    degrees: &[usize],
+    threshold: usize,
+) -> Result<Vec<usize, A>, AllocError>
+    ensures { IfOk result (λ v. v.items ≡ map (λ d. cond (nat_lt 0 d && nat_le d threshold) 1 0) degrees.now) }
+{
+    let mut sizes = Vec::with_capacity(alloc, degrees.len())?;
+    for d in degrees {
+        sizes.push_reserved(class_size(*d, threshold));
+    }
+    Ok(sizes)
+}
+
+/// The rows of the element of a row: 1 if it is empty.
+fn block_size(degree: usize) -> usize
+    ensures { result ≡ cond (nat_eq degree 0) 1 0 }
+{
+    if degree == 0 { 1 } else { 0 }
+}
+
+/// The rows of each element: 1 for an empty row.
+fn first_blocks<A: Allocator + Copy>(
+    alloc: A,
+    degrees: &[usize],
+) -> Result<Vec<usize, A>, AllocError>
+    ensures { IfOk result (λ v. v.items ≡ map (λ d. cond (nat_eq d 0) 1 0) degrees.now) }
+{
+    let mut blocks = Vec::with_capacity(alloc, degrees.len())?;
+    for d in degrees {
+        blocks.push_reserved(block_size(*d));
+    }
+    Ok(blocks)
+}
+
+/// The classes of each bound, rising.
+fn first_placed<A: Allocator + Copy>(
+    alloc: A,
+    degrees: &[usize],
+    size: &[usize],
+) -> Result<Vec<Vec<usize, A>, A>, AllocError>
+    requires lengths { length size.now ≡ length degrees.now }
+    requires degrees { Below (length degrees.now) degrees.now }
+    ensures size { IfOk result (λ v. ListsBelow (length degrees.now) v.items) }
+    ensures lists { IfOk result (λ v. (b : ℕ) → list_at v.items b ≡ list_below (length degrees.now) (λ i. nat_lt 0 (num size.now i) && num degrees.now i == b)) }
+{
+    let mut placed = empty_lists(alloc, degrees.len())?;
+    'rows: for i in 0..degrees.len() {
+        if size[i] > 0 {
+            placed[degrees[i]].push(i)?;
+        }
+    }
+    Ok(placed)
+}
+
+/// How many of the numbers are greater than a limit.
+fn count_above(numbers: &[usize], limit: usize) -> usize
+    ensures { result ≡ count_below (length numbers.now) (λ i. nat_lt limit (num numbers.now i)) }
+{
+    let mut count = 0;
+    for k in numbers {
+        if *k > limit {
+            count += 1;
+        }
+    }
+    count
+}
+
+/// Room for the rounds of a matrix with `n` rows.
+fn scratch<A: Allocator + Copy>(alloc: A, n: usize) -> Result<Scratch<A>, AllocError>
+    ensures { IfOk result (λ s. IsIdle n s) }
+{
+    Ok(Scratch {
+        rows: vec![in alloc; false; n]?,
+        elements: vec![in alloc; false; n]?,
+        groups: empty_lists(alloc, n)?,
+        beyond: vec![in alloc; 0; n]?,
+        into: vec![in alloc; 0; n]?,
+    })
+}
+
+/// The start of an elimination of a matrix whose rows have the neighbours `rows` and as many of them as `degrees` says; the rows
+/// of greater degree than `threshold` are held last.
+pub fn start<A: Allocator + Copy>(
+    alloc: A,
+    rows: Vec<Vec<usize, A>, A>,
+    degrees: &[usize],
+    threshold: usize,
+) -> Result<Work<A>, AllocError>
+    requires rows { ListsBelow (length degrees.now) rows.items }
+    requires degrees { Below (length degrees.now) degrees.now }
+    ensures { IfOk result (λ w. StandsAtStart rows.items degrees.now threshold w) }
+{
+    let n = degrees.len();
+    let size = first_sizes(alloc, degrees, threshold)?;
+    let placed = first_placed(alloc, degrees, &size)?;
+    let n_dense = count_above(degrees, threshold);
+    let mut figures = Figures {
+        lnz: 0,
+        n_mult_subs_ldl: 0,
+        n_mult_subs_lu: 0,
+        d_max: 1,
+    };
+    figures.add_front(n_dense, 0);
+    Ok(Work {
+        alloc,
+        lists: Lists {
+            variables: rows,
+            elements: empty_lists(alloc, n)?,
+            members: empty_lists(alloc, n)?,
+        },
+        live: count_above(&size, 0),
+        size,
+        bound: Vec::from_slice(alloc, degrees)?,
+        placed,
+        least: 0,
+        link: vec![in alloc; None; n]?,
+        parent: vec![in alloc; None; n]?,
+        block: first_blocks(alloc, degrees)?,
+        front: first_blocks(alloc, degrees)?,
+        n_dense,
+        figures,
+        scratch: scratch(alloc, n)?,
+    })
+}

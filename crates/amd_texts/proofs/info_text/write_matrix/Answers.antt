@@ -1,0 +1,19 @@
+-- The lines are written one after another.
+use Rattle.std.proofs.Common.{ℕ, List, subst}
+use Rattle.std.specs.Prelude.{codes}
+use Rattle.std.specs.Io.KnownBytes.{Appends}
+use Rattle.amd_texts.specs.Texts.{labelled}
+use Rattle.amd_texts.proofs.Written.{Appends-then}
+use Rattle.amd_texts.proofs.info_text.write_matrix.Goals as goal
+
+pub returns : goal.returns
+returns g c =
+    let status = subst (λ (z : List ℕ). Appends (g.W.Write.contents c.args.out.now) (g.W.Write.contents c.write_labelled.new.out) (labelled (codes "status:") z))
+    c.status_word-status.ensures c.in_ok-write_labelled.ensures in
+    let up_to_2 = Appends-then _ _ _ _ _ status c.in_ok-write_labelled-2.ensures in
+    let up_to_3 = Appends-then _ _ _ _ _ up_to_2 c.in_ok-write_labelled-3.ensures in
+    let up_to_4 = Appends-then _ _ _ _ _ up_to_3 c.in_ok-write_labelled-4.ensures in
+    let up_to_5 = Appends-then _ _ _ _ _ up_to_4 c.in_ok-write_labelled-5.ensures in
+    let up_to_6 = Appends-then _ _ _ _ _ up_to_5 c.in_ok-write_labelled-6.ensures in
+    let up_to_7 = Appends-then _ _ _ _ _ up_to_6 c.in_ok-write_labelled-7.ensures in
+    Appends-then _ _ _ _ _ up_to_7 c.in_ok-write_labelled-8.ensures

@@ -1,0 +1,2 @@
+-- The texts, as functions of what they tell of.
+pub mod Texts

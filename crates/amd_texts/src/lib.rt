@@ -1,0 +1,8 @@
+//! The texts of what a caller chooses and of what an ordering tells. The crate `amd` hands them on.
+#![tactic(auto)]
+
+mod control_text;
+mod info_text;
+
+pub use crate::control_text::control;
+pub use crate::info_text::info;

@@ -1,0 +1,5 @@
+pub mod Links
+pub mod ChildLinks
+pub mod ChildChains
+pub mod ForestListings
+pub mod TreeNumbers

@@ -1,0 +1,2 @@
+-- What trees in lists of numbers are, and what it means to list them in postorder.
+pub mod Trees
