@@ -1,6 +1,6 @@
 -- From what the parts of an ordering promise to what the whole does.
-use Rattle.std.proofs.Common.{ℕ, ℤ, List, zero, suc, pos, negsuc, [], ◌∷◌, ◌++◌, ◌≡◌, ◌*◌, ◌+◌, ◌-◌, ◌/◌, ◌^◌, ◌<◌, ◌≤◌, map, length, drop, cond, Bool, true, false, refl, sym, ◌∙◌, ap, subst, arith}
-use Rattle.std.specs.Prelude.{unsigned_abs, nat_lt, min, max, ◌↔◌, IsTrue}
+use Rattle.std.proofs.Common.{ℕ, ℤ, List, zero, suc, pos, negsuc, ◌≡◌, ◌*◌, ◌+◌, ◌-◌, ◌/◌, ◌^◌, ◌<◌, ◌≤◌, map, length, drop, Bool, true, false, refl, sym, ◌∙◌, ap, subst, arith}
+use Rattle.std.specs.Prelude.{unsigned_abs, min, max, ◌↔◌, IsTrue}
 use Rattle.std.proofs.lemmas.List.{drop-map, length-append}
 use Rattle.std.proofs.Math.Seq.{drop-append_seam}
 use Rattle.amd_model.specs.Below.{count_below, list_below}
@@ -52,7 +52,7 @@ orders_turned (pos n) t aggressive a_p a_i b_p b_i p q info status clean o =
       first = o.first;
       states = o.states;
       listing = subst (λ pair. IsListingOf (graph_of n a_p a_i) (is_dense (graph_of n a_p a_i) o.threshold) aggressive (starting_list n pair) o.first o.states o.rows) pairs
-        (subst (λ g. IsListingOf g (is_dense g o.threshold) aggressive (starting_list n (is_pair n b_p b_i)) o.first o.states o.rows) same o.listing);
+          (subst (λ g. IsListingOf g (is_dense g o.threshold) aggressive (starting_list n (is_pair n b_p b_i)) o.first o.states o.rows) same o.listing);
       promises = subst (λ g. Promises g (is_dense g o.threshold) o.first o.states o.rows) same o.promises;
       told = record { lnz = told.lnz; divisions = told.divisions; ldl = told.ldl; lu = told.lu; greatest = told.greatest; lnz_most = told.lnz_most; greatest_most = told.greatest_most };
       reserves = record { columns = reserves.columns; factor = reserves.factor; lnz = reserves.lnz; divisions = reserves.divisions; ldl = reserves.ldl; lu = reserves.lu; greatest = reserves.greatest };
@@ -79,7 +79,7 @@ dense_last g threshold n_dense p rows s listed each order count =
     record {
       count = count;
       last = ap (drop (g.size - n_dense)) listed ∙ drop-map (λ x. pos x) (g.size - n_dense) rows
-        ∙ ap (map pos) (ap (λ k. drop k rows) here ∙ ap (drop (length order.blocks)) order.is ∙ drop-append_seam order.blocks last);
+          ∙ ap (map pos) (ap (λ k. drop k rows) here ∙ ap (drop (length order.blocks)) order.is ∙ drop-append_seam order.blocks last);
     }
 
 -- the answer of an engine, and the figures of the pattern, order the matrix

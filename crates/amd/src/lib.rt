@@ -6,7 +6,7 @@
 
 pub mod laws;
 
-ghost use Rattle.std.specs.Prelude.{◌≡◌, ◌+◌, ◌/◌, ◌^◌, ◌<◌, map, unsigned_abs, MatchResult, IfOk, IfErr};
+ghost use Rattle.std.specs.Prelude.{◌≡◌, ◌≢◌, pos, ◌+◌, ◌/◌, ◌^◌, ◌<◌, map, unsigned_abs, MatchResult, IfOk, IfErr};
 ghost use Rattle.std.specs.Option.{SomeIff};
 ghost use Rattle.amd_model.specs.Input.Columns.{IsInput, IsSortedInput};
 ghost use Rattle.amd_model.specs.Input.Pattern.{is_pair};
@@ -41,6 +41,7 @@ fn order_sorted<I: PrimInt, A: Allocator + Copy>(
     control: &Control,
 ) -> Result<(Vec<I, A>, Vec<I, A>, Info), Status>
     requires fits { I.fits (I.value n) }
+    requires some { I.value n ≢ pos 0 }
     requires form { IsInput (I.value n) (I.value n) (map I.value a_p.now) (map I.value a_i.now) }
     requires sorted { IsSortedInput (I.value n) (map I.value a_p.now) (map I.value a_i.now) }
     ensures orders { IfOk result (λ a. OrdersMatrix (unsigned_abs (I.value n)) control.now.dense control.now.aggressive (is_pair (unsigned_abs (I.value n)) (map I.value a_p.now) (map I.value a_i.now)) (map I.value a_p.now) (map I.value a_i.now) (map I.value a.0.items) (map I.value a.1.items) a.2) }
@@ -66,6 +67,7 @@ fn order_jumbled<I: PrimInt, A: Allocator + Copy>(
     control: &Control,
 ) -> Result<(Vec<I, A>, Vec<I, A>, Info), Status>
     requires fits { I.fits (I.value n) }
+    requires some { I.value n ≢ pos 0 }
     requires form { IsInput (I.value n) (I.value n) (map I.value a_p.now) (map I.value a_i.now) }
     ensures orders { IfOk result (λ a. OrdersMatrix (unsigned_abs (I.value n)) control.now.dense control.now.aggressive (λ i j. is_pair (unsigned_abs (I.value n)) (map I.value a_p.now) (map I.value a_i.now) j i) (map I.value a_p.now) (map I.value a_i.now) (map I.value a.0.items) (map I.value a.1.items) a.2) }
     ensures status { IfOk result (λ a. a.2.status ≡ Status.OkButJumbled) }

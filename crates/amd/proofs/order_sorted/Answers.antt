@@ -1,12 +1,129 @@
-use Rattle.std.proofs.Common.{ℕ, ℤ, List, ◌≡◌, ◌+◌, ◌-◌, ◌/◌, ◌^◌, ◌<◌, map, length, ap, subst, sym, ◌∙◌, arith}
+use Rattle.std.proofs.Common.{rules, ℕ, ℤ, Bool, List, zero, suc, pos, negsuc, ◌≡◌, ◌≢◌, ◌+◌, ◌/◌, ◌^◌, ◌<◌, map, length, ap, subst, sym, ◌∙◌, refl, arith}
 use Rattle.std.specs.Prelude.{unsigned_abs, Option, None, Some, is_none, not, false}
 use Rattle.std.specs.Option.{SomeIff}
 use Rattle.std.proofs.lemmas.Bool.{true≢false}
+use Rattle.std.proofs.lemmas.List.{length-map}
+use Rattle.amd_model.specs.Graph.{degree}
+use Rattle.amd_model.specs.Input.Columns.{IsColumnForm, IsSorted, IsInput}
+use Rattle.amd_model.specs.Input.Pattern.{graph_of}
+use Rattle.amd_engine.specs.Plain.{IsEngineAnswer}
+use Rattle.amd_edges.specs.Visits.{AreCounts}
+use Rattle.amd_numbers.specs.declared.amd.Info.{Info}
 use Rattle.amd_input.specs.Degrees.{AreDegrees}
 use Rattle.amd.proofs.Orderings.{engine_orders}
+use Rattle.amd_input.proofs.PatternLemmas.{input_form, input_sorted, input_fits}
 use Rattle.amd.proofs.order_sorted.Goals as goal
 
 -- the number of words is at most the greatest `isize` where it was answered
 fits : (total count : ℕ) (words : Option ℕ) → SomeIff words (total + total / 5 + count < 2 ^ 63) (total + total / 5 + count) → is_none words ≡ false → total + total / 5 + count < 2 ^ 63
 fits total count None words there = absurd (true≢false there)
 fits total count (Some x) words there = words.0
+
+-- there is a degree for each row
+size_of : (z : ℤ) (a_p a_i : List ℤ) (numbers : List ℕ) → IsInput z z a_p a_i → length numbers ≡ unsigned_abs z → z ≡ pos (length numbers)
+size_of (pos n) a_p a_i numbers form size = ap pos (sym size)
+size_of (negsuc n) a_p a_i numbers form size = absurd form
+
+some_of : (z : ℤ) (m : ℕ) → z ≡ pos m → z ≢ pos 0 → 0 < m
+some_of z zero e some = absurd (some e)
+some_of z (suc m) e some = omega arith
+
+-- the degrees of the rows are the numbers of their arcs
+counts_of : (n : ℕ) (a_p a_i : List ℤ) (total : ℕ) (numbers : List ℕ) → AreDegrees n a_p a_i total numbers → AreCounts (graph_of n a_p a_i) ((graph_of n a_p a_i).edge) numbers
+unfolding graph_of degree
+counts_of n a_p a_i total numbers degrees = record { size = degrees.size; each = degrees.each }
+
+pub known_count-count-requires : goal.known_count-count-requires
+known_count-count-requires g c = input_fits _ _ _ c.requires.form (simp length-map (omega arith))
+
+pub aat-requires-clause-form : goal.aat-requires-clause-form
+aat-requires-clause-form g c = c.requires.form
+
+pub aat-requires-clause-sorted : goal.aat-requires-clause-sorted
+aat-requires-clause-sorted g c = c.requires.sorted
+
+pub returns-in_err-nzaat-clause-orders : goal.returns-in_err-nzaat-clause-orders
+returns-in_err-nzaat-clause-orders g c = search rules
+
+pub returns-in_err-nzaat-clause-status : goal.returns-in_err-nzaat-clause-status
+returns-in_err-nzaat-clause-status g c = search rules
+
+pub returns-in_err-nzaat-clause-refused : goal.returns-in_err-nzaat-clause-refused
+returns-in_err-nzaat-clause-refused g c = search rules
+
+pub returns-then-is_none-clause-refused : goal.returns-then-is_none-clause-refused
+returns-then-is_none-clause-refused g c = refl
+
+pub plain_1-requires-clause-fits : goal.plain_1-requires-clause-fits
+plain_1-requires-clause-fits g c = c.requires.fits
+
+pub plain_1-requires-clause-size : goal.plain_1-requires-clause-size
+plain_1-requires-clause-size g c =
+    let value = g.I.Number.value in
+    let size = ap length c.deref.ensures.value ∙ c.in_ok-nzaat.ensures.degrees.size in
+    size_of (value c.args.n) (map value c.args.a_p.now) (map value c.args.a_i.now) c.deref.result.now c.requires.form size
+
+pub plain_1-requires-clause-some : goal.plain_1-requires-clause-some
+plain_1-requires-clause-some g c =
+    let value = g.I.Number.value in
+    let size = ap length c.deref.ensures.value ∙ c.in_ok-nzaat.ensures.degrees.size in
+    some_of (value c.args.n) (length c.deref.result.now) (size_of (value c.args.n) (map value c.args.a_p.now) (map value c.args.a_i.now) c.deref.result.now c.requires.form size) c.requires.some
+
+pub plain_1-requires-clause-form : goal.plain_1-requires-clause-form
+plain_1-requires-clause-form g c =
+    let value = g.I.Number.value in
+    let a_p : List ℤ = map value c.args.a_p.now in
+    let a_i : List ℤ = map value c.args.a_i.now in
+    let size = ap length c.deref.ensures.value ∙ c.in_ok-nzaat.ensures.degrees.size in
+    subst (λ m. IsColumnForm (pos m) m a_p a_i) (sym size) (input_form (value c.args.n) a_p a_i c.requires.form)
+
+pub plain_1-requires-clause-sorted : goal.plain_1-requires-clause-sorted
+plain_1-requires-clause-sorted g c =
+    let value = g.I.Number.value in
+    let a_p : List ℤ = map value c.args.a_p.now in
+    let a_i : List ℤ = map value c.args.a_i.now in
+    let size = ap length c.deref.ensures.value ∙ c.in_ok-nzaat.ensures.degrees.size in
+    subst (λ m. IsSorted m a_p a_i) (sym size) (input_sorted (value c.args.n) a_p a_i c.requires.sorted)
+
+pub plain_1-requires-clause-degrees : goal.plain_1-requires-clause-degrees
+plain_1-requires-clause-degrees g c =
+    let value = g.I.Number.value in
+    let a_p : List ℤ = map value c.args.a_p.now in
+    let a_i : List ℤ = map value c.args.a_i.now in
+    let numbers : List ℕ = c.in_ok-nzaat.degrees.items in
+    let degrees = c.in_ok-nzaat.ensures.degrees in
+    let counts = counts_of (unsigned_abs (value c.args.n)) a_p a_i c.in_ok-nzaat.nzaat numbers degrees in
+    subst (λ xs. AreCounts (graph_of (length xs) a_p a_i) ((graph_of (length xs) a_p a_i).edge) xs) (sym c.deref.ensures.value)
+    (subst (λ m. AreCounts (graph_of m a_p a_i) ((graph_of m a_p a_i).edge) numbers) (sym degrees.size) counts)
+
+pub returns-in_err-p-clause-orders : goal.returns-in_err-p-clause-orders
+returns-in_err-p-clause-orders g c = search rules
+
+pub returns-in_err-p-clause-status : goal.returns-in_err-p-clause-status
+returns-in_err-p-clause-status g c = search rules
+
+pub returns-in_err-p-clause-refused : goal.returns-in_err-p-clause-refused
+returns-in_err-p-clause-refused g c = search rules
+
+pub returns-clause-orders : goal.returns-clause-orders
+returns-clause-orders g c =
+    let value = g.I.Number.value in
+    let n : ℕ = unsigned_abs (value c.args.n) in
+    let t : ℤ = c.args.control.now.dense in
+    let aggressive : Bool = c.args.control.now.aggressive in
+    let a_p : List ℤ = map value c.args.a_p.now in
+    let a_i : List ℤ = map value c.args.a_i.now in
+    let p : List ℤ = map value c.in_ok-p.p.items in
+    let q : List ℤ = map value c.in_ok-p.p_inv.items in
+    let total : ℕ = c.in_ok-nzaat.nzaat in
+    let size = ap length c.deref.ensures.value ∙ c.in_ok-nzaat.ensures.degrees.size in
+    let room = fits total c.known_count-count.result c.workspace_words.result c.workspace_words.ensures (ap not (c.is_none.ensures ∙ ap not c.if-is_none.false)) in
+    engine_orders n t aggressive a_p a_i p q c.in_ok-nzaat.degrees.items total c.aat.new.info c.plain_1.new.info
+    c.in_ok-nzaat.ensures.degrees
+    c.in_ok-nzaat.ensures.figures
+    (subst (λ m. total + total / 5 + m < 2 ^ 63) c.known_count-count.ensures room)
+    (subst (λ m. IsEngineAnswer m t aggressive a_p a_i p q c.aat.new.info c.plain_1.new.info) size c.in_ok-p.ensures.orders)
+
+pub returns-clause-status : goal.returns-clause-status
+returns-clause-status g c =
+    ap (λ (x : Info). x.status) c.in_ok-p.ensures.orders.told ∙ ap (λ (x : Info). x.status) c.in_ok-nzaat.ensures.others ∙ ap (λ (x : Info). x.status) c.new-info.ensures
