@@ -5,7 +5,7 @@
 use std::alloc::{AllocError, AllocFailed, Allocator};
 
 /// The number at a place as a count. Where there is none, or it is negative, the answer is the greatest count.
-fn count_at(numbers: &[i64], place: usize) -> usize {
+pub fn count_at(numbers: &[i64], place: usize) -> usize {
     match numbers.get(place) {
         Some(&number) => usize::try_from(number).unwrap_or(usize::MAX),
         None => usize::MAX,
