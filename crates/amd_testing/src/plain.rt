@@ -200,9 +200,10 @@ pub fn dense_rows<A: Allocator>(
     a_p: &[i64],
     a_i: &[i64],
 ) -> Result<Vec<bool, A>, AllocError> {
+    let limit = threshold(t, n);
     let mut dense = Vec::new(alloc);
     for i in 0..n {
-        dense.push(degree(n, a_p, a_i, i) > threshold(t, n))?;
+        dense.push(degree(n, a_p, a_i, i) > limit)?;
     }
     Ok(dense)
 }

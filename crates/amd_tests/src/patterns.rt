@@ -142,7 +142,7 @@ fn complete_graphs(rt: HostRuntime) -> Result<(), Fail> {
 fn grids(rt: HostRuntime) -> Result<(), Fail> {
     let heap = rt.alloc();
     for side in 1..=12 {
-        check(&rt, heap, side * side, grid(heap, side)?)?;
+        check(&rt, heap, side.saturating_mul(side), grid(heap, side)?)?;
     }
     Ok(())
 }
