@@ -47,6 +47,96 @@ pub fn star<A: Allocator + Copy>(
     columns_of(alloc, n, &entries)
 }
 
+/// A star whose centre is the last row.
+pub fn star_to_last<A: Allocator + Copy>(
+    alloc: A,
+    n: i64,
+) -> Result<(Vec<i64, A>, Vec<i64, A>), AllocError> {
+    let last = n.saturating_sub(1);
+    let mut entries = Vec::new(alloc);
+    for i in 1..n {
+        entries.push((last, i.saturating_sub(1)))?;
+    }
+    columns_of(alloc, n, &entries)
+}
+
+/// The entries of a path: each row but the first one in the column before its own.
+fn path_entries<A: Allocator>(
+    alloc: A,
+    n: i64,
+) -> Result<Vec<(i64, i64), A>, AllocFailed<(i64, i64)>> {
+    let mut entries = Vec::new(alloc);
+    for i in 1..n {
+        entries.push((i, i.saturating_sub(1)))?;
+    }
+    Ok(entries)
+}
+
+/// A path, in which each row is joined to the next one.
+pub fn path<A: Allocator + Copy>(
+    alloc: A,
+    n: i64,
+) -> Result<(Vec<i64, A>, Vec<i64, A>), AllocError> {
+    let entries = path_entries(alloc, n)?;
+    columns_of(alloc, n, &entries)
+}
+
+/// A cycle of at least three rows: a path whose last row is joined to the first one.
+pub fn cycle<A: Allocator + Copy>(
+    alloc: A,
+    n: i64,
+) -> Result<(Vec<i64, A>, Vec<i64, A>), AllocError> {
+    let mut entries = path_entries(alloc, n)?;
+    entries.push((n.saturating_sub(1), 0))?;
+    columns_of(alloc, n, &entries)
+}
+
+/// A square grid with `side` rows of the matrix on each side, at least one: each is joined to the one on its right and to the
+/// one below it.
+pub fn grid<A: Allocator + Copy>(
+    alloc: A,
+    side: i64,
+) -> Result<(Vec<i64, A>, Vec<i64, A>), AllocError> {
+    let width = side.max(1);
+    let n = width.saturating_mul(width);
+    let mut entries = Vec::new(alloc);
+    for i in 0..n {
+        if i % width != width - 1 {
+            entries.push((i.saturating_add(1), i))?;
+        }
+        if i < n.saturating_sub(width) {
+            entries.push((i.saturating_add(width), i))?;
+        }
+    }
+    columns_of(alloc, n, &entries)
+}
+
+/// Adds the entries below the diagonal in column `j` of a full matrix.
+fn push_lower_column<A: Allocator>(
+    n: i64,
+    j: i64,
+    entries: &mut Vec<(i64, i64), A>,
+) -> Result<(), AllocFailed<(i64, i64)>> {
+    for i in 0..n {
+        if j < i {
+            entries.push((i, j))?;
+        }
+    }
+    Ok(())
+}
+
+/// A complete graph by the entries below the diagonal alone.
+pub fn complete_below<A: Allocator + Copy>(
+    alloc: A,
+    n: i64,
+) -> Result<(Vec<i64, A>, Vec<i64, A>), AllocError> {
+    let mut entries = Vec::new(alloc);
+    for j in 0..n {
+        push_lower_column(n, j, &mut entries)?;
+    }
+    columns_of(alloc, n, &entries)
+}
+
 /// Adds the entries of column `j` of a full matrix without its diagonal.
 fn push_full_column<A: Allocator>(
     n: i64,

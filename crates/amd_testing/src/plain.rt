@@ -5,7 +5,7 @@
 use std::alloc::{AllocError, AllocFailed, Allocator};
 
 /// The number at a place as a count. Where there is none, or it is negative, the answer is the greatest count.
-fn count_at(numbers: &[i64], place: usize) -> usize {
+pub fn count_at(numbers: &[i64], place: usize) -> usize {
     match numbers.get(place) {
         Some(&number) => usize::try_from(number).unwrap_or(usize::MAX),
         None => usize::MAX,
@@ -200,9 +200,10 @@ pub fn dense_rows<A: Allocator>(
     a_p: &[i64],
     a_i: &[i64],
 ) -> Result<Vec<bool, A>, AllocError> {
+    let limit = threshold(t, n);
     let mut dense = Vec::new(alloc);
     for i in 0..n {
-        dense.push(degree(n, a_p, a_i, i) > threshold(t, n))?;
+        dense.push(degree(n, a_p, a_i, i) > limit)?;
     }
     Ok(dense)
 }

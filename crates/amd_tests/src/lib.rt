@@ -14,6 +14,8 @@ mod comparison;
 #[cfg(test)]
 mod demos;
 #[cfg(test)]
+mod factors;
+#[cfg(test)]
 mod fronts;
 #[cfg(test)]
 mod input;
@@ -23,6 +25,8 @@ mod lists;
 mod memory;
 #[cfg(test)]
 mod numbers;
+#[cfg(test)]
+mod patterns;
 #[cfg(test)]
 mod texts;
 #[cfg(test)]

@@ -2,81 +2,61 @@
 // answers `OutOfMemory`, and the first one without gives the answer.
 
 use crate::numbers_of;
+use crate::worked::{Case, DENSE_ROW, SMALL_MATRICES, check_answer, with_dense};
 use amd::aat::aat;
 use amd::preprocess::preprocess;
 use amd::valid::valid;
 use amd::{Control, Info, Status, order};
-use amd_testing::inputs::star;
 use amd_testing::refusing::Refusing;
 use std::alloc::Global;
 use std::process::Abort;
-use std::test::Fail;
 
 /// More requests than any of these calls makes.
-const MANY: u64 = 200;
+const MANY: u64 = 1000;
 
 /// Orders with one request refused, and says whether it was made.
 fn order_refusing(
     rt: &impl Abort,
     alloc: Global,
     refuse_at: u64,
-    n: i64,
-    a_p: &[i64],
-    a_i: &[i64],
-    dense: i32,
-    p: &[i64],
+    control: &Control,
+    case: &Case,
 ) -> bool {
     let heap = Refusing::new(alloc, refuse_at);
-    let control = Control {
-        dense,
-        aggressive: true,
-    };
-    match order(&heap, n, a_p, a_i, &control) {
-        Ok((rows, _places, _info)) => {
-            assert!(rt; !heap.refused(), "at {refuse_at}");
-            assert_eq!(rt; rows.as_slice(), p);
+    let what = case.what;
+    match order(&heap, case.n, case.a_p, case.a_i, control) {
+        Ok((p, p_inv, info)) => {
+            assert!(rt; !heap.refused(), "{what} at {refuse_at}");
+            check_answer(rt, case, &p, &p_inv, &info);
         }
         Err(status) => {
-            assert!(rt; heap.refused(), "at {refuse_at}");
-            assert!(rt; status == Status::OutOfMemory, "at {refuse_at}");
+            assert!(rt; heap.refused(), "{what} at {refuse_at}");
+            assert!(rt; status == Status::OutOfMemory, "{what} at {refuse_at}");
         }
     }
     heap.refused()
 }
 
 /// Orders with each request refused in turn.
-fn check_order(
-    rt: &impl Abort,
-    alloc: Global,
-    n: i64,
-    a_p: &[i64],
-    a_i: &[i64],
-    dense: i32,
-    p: &[i64],
-) {
+fn check_order(rt: &impl Abort, alloc: Global, control: &Control, case: &Case) {
+    let what = case.what;
     let mut refusals = 0;
     for refuse_at in 1..MANY {
-        if !order_refusing(rt, alloc, refuse_at, n, a_p, a_i, dense, p) {
+        if !order_refusing(rt, alloc, refuse_at, control, case) {
             break;
         }
         refusals = refuse_at;
     }
-    assert!(rt; 0 < refusals && refusals < MANY - 1);
+    assert!(rt; 0 < refusals && refusals < MANY - 1, "{what}");
 }
 
+/// The inputs are shared references, so no run can change them.
 #[test]
-fn each_request_of_order(rt: HostRuntime) -> Result<(), Fail> {
-    let heap = rt.alloc();
-    let (cycle_p, cycle_i) = ([0, 2, 3, 4, 4], [1, 3, 2, 3]);
-    check_order(&rt, heap, 4, &cycle_p, &cycle_i, 10000, &[3, 0, 1, 2]);
-    // The input is as it was, as the shared references say.
-    assert_eq!(rt; (cycle_p, cycle_i), ([0, 2, 3, 4, 4], [1, 3, 2, 3]));
-    let (jumbled_p, jumbled_i) = ([0, 3, 3, 4], [2, 0, 2, 1]);
-    check_order(&rt, heap, 3, &jumbled_p, &jumbled_i, 10000, &[1, 0, 2]);
-    let (star_p, star_i) = star(heap, 18)?;
-    let centre_last = [1, 2, 3, 4, 5, 6, 7, 8, 9, 10, 11, 12, 13, 14, 15, 16, 17, 0];
-    check_order(&rt, heap, 18, &star_p, &star_i, -1, &centre_last);
-    Ok(())
+fn each_request_of_order(rt: HostRuntime) {
+    for case in &SMALL_MATRICES {
+        check_order(&rt, rt.alloc(), &Control::default(), case);
+    }
+    check_order(&rt, rt.alloc(), &with_dense(0), &DENSE_ROW);
 }
 
 #[test]

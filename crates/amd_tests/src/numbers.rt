@@ -1,29 +1,40 @@
 // The twelve integer types: one input in each of them, and the ends of their ranges.
 
+use crate::numbers_of;
 use amd::{Control, Status, order};
 use num_traits::PrimInt;
 use std::alloc::Global;
 use std::process::Abort;
 
-/// Orders by the default, and asserts that the answer is these rows, with that status and number of entries.
-fn check<I: PrimInt>(
-    rt: &impl Abort,
-    alloc: Global,
+/// An input, and its answer by the default.
+#[derive(Drop)]
+struct Case<'a, I> {
     n: I,
-    a_p: &[I],
-    a_i: &[I],
+    a_p: &'a [I],
+    a_i: &'a [I],
+    p: &'a [I],
+    p_inv: &'a [I],
     status: Status,
-    nz: usize,
-    p: &[I],
-)
-    requires { I.fits (I.value n) }
+    symmetric: bool,
+    numbers: [usize; 11],
+}
+
+/// Asserts that `order` gives the answer of a case.
+fn check<I: PrimInt>(rt: &impl Abort, alloc: Global, case: &Case<I>)
+    requires { I.fits (I.value case.now.n) }
 {
-    let Ok((rows, places, info)) = order(alloc, n, a_p, a_i, &Control::default()) else {
+    let Ok((p, p_inv, info)) = order(alloc, case.n, case.a_p, case.a_i, &Control::default()) else {
         panic!(rt; "no answer");
     };
-    assert!(rt; info.status == status && info.nz == nz);
-    assert!(rt; rows.as_slice() == p);
-    assert_eq!(rt; places.len(), p.len());
+    assert!(rt; p.as_slice() == case.p);
+    assert!(rt; p_inv.as_slice() == case.p_inv);
+    assert!(rt; info.status == case.status && info.symmetry == case.symmetric);
+    assert_eq!(rt; numbers_of(&info), case.numbers);
+}
+
+/// The numbers of a record for `n` rows without entries.
+fn numbers_without_entries(n: usize) -> [usize; 11] {
+    [n, 0, 0, 0, 0, 0, 0, 0, 0, 0, 1]
 }
 
 /// Whether an input is refused as no column form.
@@ -40,11 +51,17 @@ fn is_refused<I: PrimInt>(alloc: Global, n: I, a_p: &[I], a_i: &[I]) -> bool
 macro_rules! four_cycles {
     ($rt:ident; $($number:ty)*) => {
         $(
-            let n: $number = 4;
-            let a_p: [$number; 5] = [0, 2, 3, 4, 4];
-            let a_i: [$number; 4] = [1, 3, 2, 3];
-            let p: [$number; 4] = [3, 0, 1, 2];
-            check(&$rt, $rt.alloc(), n, &a_p, &a_i, Status::OK, 4, &p);
+            let case: Case<$number> = Case {
+                n: 4,
+                a_p: &[0, 2, 3, 4, 4],
+                a_i: &[1, 3, 2, 3],
+                p: &[3, 0, 1, 2],
+                p_inv: &[1, 2, 3, 0],
+                status: Status::OK,
+                symmetric: false,
+                numbers: [4, 4, 0, 8, 0, 0, 5, 5, 7, 9, 3],
+            };
+            check(&$rt, $rt.alloc(), &case);
         )*
     };
 }
@@ -54,39 +71,80 @@ fn a_four_cycle_in_each_type(rt: HostRuntime) {
     four_cycles!(rt; u8 u16 u32 u64 u128 usize i8 i16 i32 i64 i128 isize);
 }
 
+/// The power of 2 just past the greatest `u64`.
+const PAST: u128 = 18446744073709551616;
+
 #[test]
-fn ends_of_the_types(rt: HostRuntime) {
+fn inputs_past_the_ends(rt: HostRuntime) {
     let heap = rt.alloc();
-    let past = 18446744073709551616u128;
     assert!(rt; is_refused(heap, -128i8, &[0], &[]));
     assert!(rt; is_refused(heap, 127i8, &[0], &[]));
     assert!(rt; is_refused(heap, u64::MAX, &[0], &[]));
-    assert!(rt; is_refused(heap, past, &[0], &[]));
-    assert!(rt; is_refused(heap, 1u128, &[0, past], &[0]));
-    assert!(rt; is_refused(heap, 1u128, &[0, 1], &[past]));
+    assert!(rt; is_refused(heap, PAST, &[0], &[]));
+    assert!(rt; is_refused(heap, 1u128, &[0, PAST], &[0]));
+    assert!(rt; is_refused(heap, 1u128, &[0, 1], &[PAST]));
     assert!(rt; is_refused(heap, i128::MIN, &[0], &[]));
-    check(&rt, heap, 1u128, &[0, 0, past], &[], Status::OK, 0, &[0]);
-    // As many entries as the greatest pointer of the type can say, all of them one.
-    check(
-        &rt,
-        heap,
-        2u8,
-        &[0, 255, 255],
-        &[1; 255],
-        Status::OkButJumbled,
-        1,
-        &[0, 1],
-    );
+    let ignored: Case<u128> = Case {
+        n: 1,
+        a_p: &[0, 0, PAST],
+        a_i: &[],
+        p: &[0],
+        p_inv: &[0],
+        status: Status::OK,
+        symmetric: true,
+        numbers: numbers_without_entries(1),
+    };
+    check(&rt, heap, &ignored);
+}
+
+/// As many entries as the greatest pointer of the type can say, all of them one.
+#[test]
+fn as_many_entries_as_a_pointer_says(rt: HostRuntime) {
+    let case: Case<u8> = Case {
+        n: 2,
+        a_p: &[0, 255, 255],
+        a_i: &[1; 255],
+        p: &[0, 1],
+        p_inv: &[0, 1],
+        status: Status::OkButJumbled,
+        symmetric: false,
+        numbers: [2, 1, 0, 2, 0, 0, 1, 1, 1, 1, 2],
+    };
+    check(&rt, rt.alloc(), &case);
+}
+
+#[test]
+fn as_many_rows_as_a_type_has(rt: HostRuntime) {
     let mut rows = [0u8; 255];
     for k in 0..255u8 {
         rows[usize::from(k)] = k;
     }
-    check(&rt, heap, 255u8, &[0; 256], &[], Status::OK, 0, &rows);
+    let unsigned: Case<u8> = Case {
+        n: 255,
+        a_p: &[0; 256],
+        a_i: &[],
+        p: &rows,
+        p_inv: &rows,
+        status: Status::OK,
+        symmetric: true,
+        numbers: numbers_without_entries(255),
+    };
+    check(&rt, rt.alloc(), &unsigned);
     let mut few = [0i8; 127];
     for k in 0..127i8 {
         if let Ok(place) = usize::try_from(k) {
             few[place] = k;
         }
     }
-    check(&rt, heap, 127i8, &[0; 128], &[], Status::OK, 0, &few);
+    let signed: Case<i8> = Case {
+        n: 127,
+        a_p: &[0; 128],
+        a_i: &[],
+        p: &few,
+        p_inv: &few,
+        status: Status::OK,
+        symmetric: true,
+        numbers: numbers_without_entries(127),
+    };
+    check(&rt, rt.alloc(), &signed);
 }

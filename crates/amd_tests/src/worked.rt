@@ -1,42 +1,40 @@
 // Worked inputs of `order` with their answers: the permutation and each figure. They come from worked examples, from the Rust
 // crate `amd`, and from a plain program that follows the rules.
 
+use crate::factors::check_bounds;
 use crate::{can_24, numbers_of};
 use amd::{Control, Info, Status, order};
 use amd_testing::inputs::{complete, star};
 use amd_testing::plain::are_inverse;
-use std::alloc::Global;
+use std::alloc::{AllocError, Global};
 use std::process::Abort;
 use std::test::Fail;
 
 /// An input and its answer. The figures are `nz`, `nz_diag`, `nz_a_plus_at`, `n_dense`, `lnz`, those of `LDL'` and of `LU`, and
 /// `d_max`; the divisions are as many as `lnz`, and there is no compaction.
 #[derive(Drop)]
-struct Case<'a> {
-    what: &'a str,
-    n: i64,
-    a_p: &'a [i64],
-    a_i: &'a [i64],
+pub struct Case<'a> {
+    pub what: &'a str,
+    pub n: i64,
+    pub a_p: &'a [i64],
+    pub a_i: &'a [i64],
     jumbled: bool,
     p: &'a [i64],
     figures: [usize; 8],
     symmetric: bool,
 }
 
-/// Asserts that `order` gives the answer of a case.
-fn check(rt: &impl Abort, alloc: Global, control: &Control, case: &Case) {
+/// Asserts that an answer is that of a case.
+pub fn check_answer(rt: &impl Abort, case: &Case, p: &[i64], p_inv: &[i64], info: &Info) {
     let what = case.what;
-    let Ok((p, p_inv, info)) = order(alloc, case.n, case.a_p, case.a_i, control) else {
-        panic!(rt; "no answer for {what}");
-    };
     let status = if case.jumbled {
         Status::OkButJumbled
     } else {
         Status::OK
     };
     let n = usize::try_from(case.n).unwrap_or(0);
-    assert_eq!(rt; p.as_slice(), case.p, "{what}");
-    assert!(rt; are_inverse(n, &p, &p_inv), "{what}");
+    assert_eq!(rt; p, case.p, "{what}");
+    assert!(rt; are_inverse(n, p, p_inv), "{what}");
     assert!(rt; info.status == status, "{what}");
     assert_eq!(rt; info.n, n, "{what}");
     assert_eq!(rt;
@@ -58,8 +56,19 @@ fn check(rt: &impl Abort, alloc: Global, control: &Control, case: &Case) {
     assert_eq!(rt; info.n_cmp_a, 0, "{what}");
 }
 
+/// Asserts that `order` gives the answer of a case, and that its figures bound what the factor needs.
+fn check(rt: &impl Abort, alloc: Global, control: &Control, case: &Case) -> Result<(), AllocError> {
+    let what = case.what;
+    let Ok((p, p_inv, info)) = order(alloc, case.n, case.a_p, case.a_i, control) else {
+        panic!(rt; "no answer for {what}");
+    };
+    check_answer(rt, case, &p, &p_inv, &info);
+    check_bounds(rt, alloc, case.a_p, case.a_i, &p, &info)?;
+    Ok(())
+}
+
 /// The choice of a caller with this dense row parameter, in thousandths.
-fn with_dense(dense: i32) -> Control {
+pub fn with_dense(dense: i32) -> Control {
     Control {
         dense,
         aggressive: true,
@@ -67,7 +76,7 @@ fn with_dense(dense: i32) -> Control {
 }
 
 /// Small matrices with their answers.
-static SMALL_MATRICES: [Case<'static>; 18] = [
+pub static SMALL_MATRICES: [Case<'static>; 18] = [
     Case {
         what: "one row without entries",
         n: 1,
@@ -251,10 +260,11 @@ static SMALL_MATRICES: [Case<'static>; 18] = [
 ];
 
 #[test]
-fn small_matrices(rt: HostRuntime) {
+fn small_matrices(rt: HostRuntime) -> Result<(), Fail> {
     for case in &SMALL_MATRICES {
-        check(&rt, rt.alloc(), &Control::default(), case);
+        check(&rt, rt.alloc(), &Control::default(), case)?;
     }
+    Ok(())
 }
 
 /// Asserts that a record is that of a matrix without rows.
@@ -291,7 +301,7 @@ fn a_star(rt: HostRuntime) -> Result<(), Fail> {
     };
     // The centre is dense exactly where the threshold is 16; these parameters make it 17 or more.
     for dense in [10000, 4007, i32::MAX] {
-        check(&rt, heap, &with_dense(dense), &case);
+        check(&rt, heap, &with_dense(dense), &case)?;
     }
     Ok(())
 }
@@ -311,7 +321,7 @@ fn a_star_with_a_dense_centre(rt: HostRuntime) -> Result<(), Fail> {
         symmetric: false,
     };
     for dense in [4006, 0, -1, i32::MIN] {
-        check(&rt, heap, &with_dense(dense), &case);
+        check(&rt, heap, &with_dense(dense), &case)?;
     }
     Ok(())
 }
@@ -334,7 +344,7 @@ fn without_aggressive_absorption(rt: HostRuntime) -> Result<(), Fail> {
         figures: [17, 0, 34, 0, 17, 17, 17, 2],
         symmetric: false,
     };
-    check(&rt, heap, &control, &centre_is_root);
+    check(&rt, heap, &control, &centre_is_root)?;
     let merged = Case {
         what: "six rows in which the place of a merged class shows, not aggressive",
         n: 6,
@@ -345,23 +355,32 @@ fn without_aggressive_absorption(rt: HostRuntime) -> Result<(), Fail> {
         figures: [11, 0, 22, 0, 13, 26, 39, 5],
         symmetric: false,
     };
-    check(&rt, heap, &control, &merged);
+    check(&rt, heap, &control, &merged)?;
     Ok(())
 }
 
+/// A matrix whose row 0 is dense where the parameter is 0.
+pub static DENSE_ROW: Case<'static> = Case {
+    what: "twenty rows, of which one is dense and one stands apart",
+    n: 20,
+    a_p: &[
+        0, 17, 17, 17, 17, 17, 17, 17, 17, 17, 17, 17, 17, 17, 17, 17, 17, 17, 17, 18, 18,
+    ],
+    a_i: &[
+        1, 2, 3, 4, 5, 6, 7, 8, 9, 10, 11, 12, 13, 14, 15, 16, 17, 19,
+    ],
+    jumbled: false,
+    p: &[
+        1, 2, 3, 4, 5, 6, 7, 8, 9, 10, 11, 12, 13, 14, 15, 16, 17, 18, 19, 0,
+    ],
+    figures: [18, 0, 36, 1, 20, 21, 22, 3],
+    symmetric: false,
+};
+
 #[test]
-fn a_dense_row_beside_others(rt: HostRuntime) {
-    let case = Case {
-        what: "twenty rows, of which one is dense and one stands apart",
-        n: 20,
-        a_p: &[0, 17, 17, 17, 17, 17, 17, 17, 17, 17, 17, 17, 17, 17, 17, 17, 17, 17, 17, 18, 18],
-        a_i: &[1, 2, 3, 4, 5, 6, 7, 8, 9, 10, 11, 12, 13, 14, 15, 16, 17, 19],
-        jumbled: false,
-        p: &[1, 2, 3, 4, 5, 6, 7, 8, 9, 10, 11, 12, 13, 14, 15, 16, 17, 18, 19, 0],
-        figures: [18, 0, 36, 1, 20, 21, 22, 3],
-        symmetric: false,
-    };
-    check(&rt, rt.alloc(), &with_dense(0), &case);
+fn a_dense_row_beside_others(rt: HostRuntime) -> Result<(), Fail> {
+    check(&rt, rt.alloc(), &with_dense(0), &DENSE_ROW)?;
+    Ok(())
 }
 
 #[test]
@@ -378,7 +397,7 @@ fn all_rows_dense(rt: HostRuntime) -> Result<(), Fail> {
         figures: [306, 0, 306, 18, 153, 969, 1785, 18],
         symmetric: true,
     };
-    check(&rt, heap, &with_dense(-1), &full);
+    check(&rt, heap, &with_dense(-1), &full)?;
     let one = Case {
         what: "one row without entries",
         n: 1,
@@ -390,14 +409,16 @@ fn all_rows_dense(rt: HostRuntime) -> Result<(), Fail> {
         symmetric: true,
     };
     for dense in [-1, i32::MIN, i32::MAX] {
-        check(&rt, heap, &with_dense(dense), &one);
+        check(&rt, heap, &with_dense(dense), &one)?;
     }
     Ok(())
 }
 
 #[test]
-fn can_24_and_its_jumbled_form(rt: HostRuntime) {
-    let p = [22, 20, 10, 23, 12, 5, 16, 8, 14, 4, 15, 7, 1, 9, 13, 17, 0, 2, 3, 6, 11, 18, 21, 19];
+fn can_24_and_its_jumbled_form(rt: HostRuntime) -> Result<(), Fail> {
+    let p = [
+        22, 20, 10, 23, 12, 5, 16, 8, 14, 4, 15, 7, 1, 9, 13, 17, 0, 2, 3, 6, 11, 18, 21, 19,
+    ];
     let sorted = Case {
         what: "the Harwell/Boeing matrix can_24",
         n: 24,
@@ -408,7 +429,7 @@ fn can_24_and_its_jumbled_form(rt: HostRuntime) {
         figures: [160, 24, 136, 0, 97, 275, 453, 8],
         symmetric: true,
     };
-    check(&rt, rt.alloc(), &Control::default(), &sorted);
+    check(&rt, rt.alloc(), &Control::default(), &sorted)?;
     let jumbled = Case {
         what: "can_24 with jumbled columns, repeats and entries left out",
         n: 24,
@@ -419,5 +440,6 @@ fn can_24_and_its_jumbled_form(rt: HostRuntime) {
         figures: [102, 17, 136, 0, 97, 275, 453, 8],
         symmetric: false,
     };
-    check(&rt, rt.alloc(), &Control::default(), &jumbled);
+    check(&rt, rt.alloc(), &Control::default(), &jumbled)?;
+    Ok(())
 }

@@ -1,0 +1,152 @@
+// The figures of an ordering beside what the factor under its permutation needs, which is found by searches for paths. The
+// expected needs come from worked examples and from a plain program that follows the path theorem.
+
+use crate::can_24;
+use amd::{Control, Info, order};
+use amd_testing::factors::{Factor, Need, factor_of, fills_nothing, need_of};
+use amd_testing::inputs::star;
+use std::alloc::{AllocError, Global};
+use std::process::Abort;
+use std::test::Fail;
+
+/// The figures of a record that bound what a factor needs.
+fn bounds_in(info: &Info) -> Need {
+    Need {
+        lnz: info.lnz,
+        n_mult_subs_ldl: info.n_mult_subs_ldl,
+        n_mult_subs_lu: info.n_mult_subs_lu,
+        d_max: info.d_max,
+    }
+}
+
+/// Asserts that no figure of an ordering is below what the factor under its permutation needs, and answers the factor.
+pub fn check_bounds(
+    rt: &impl Abort,
+    alloc: Global,
+    a_p: &[i64],
+    a_i: &[i64],
+    p: &[i64],
+    info: &Info,
+) -> Result<Factor<Global>, AllocError> {
+    let factor = factor_of(alloc, a_p, a_i, p)?;
+    let need = need_of(&factor.columns);
+    let bounds = bounds_in(info);
+    assert!(rt;
+        need.lnz <= bounds.lnz
+            && need.n_mult_subs_ldl <= bounds.n_mult_subs_ldl
+            && need.n_mult_subs_lu <= bounds.n_mult_subs_lu
+            && need.d_max <= bounds.d_max,
+        "{need:?} {bounds:?} {a_p:?} {a_i:?}"
+    );
+    assert_eq!(rt; info.n_div, info.lnz, "{a_p:?} {a_i:?}");
+    Ok(factor)
+}
+
+/// Asserts that the factor of a forest without dense rows has its edges alone, and that the bounds say so.
+pub fn check_forest(rt: &impl Abort, factor: &Factor<Global>, info: &Info) {
+    assert_eq!(rt; info.n_dense, 0);
+    assert_eq!(rt; info.lnz, info.nz_a_plus_at / 2);
+    assert_eq!(rt; need_of(&factor.columns).lnz, info.lnz);
+    assert!(rt; fills_nothing(factor));
+}
+
+/// A matrix, an order of its rows, and what the factor under it needs.
+#[derive(Drop)]
+struct Case<'a> {
+    what: &'a str,
+    a_p: &'a [i64],
+    a_i: &'a [i64],
+    p: &'a [i64],
+    need: Need,
+}
+
+/// Worked matrices with what their factors need.
+static FACTORS: [Case<'static>; 2] = [
+    Case {
+        what: "seven rows, whose bounds are exact",
+        a_p: &[0, 2, 6, 9, 11, 12, 12, 12],
+        a_i: &[5, 6, 2, 3, 4, 5, 3, 4, 6, 4, 6, 5],
+        p: &[0, 6, 1, 3, 4, 5, 2],
+        need: Need {
+            lnz: 15,
+            n_mult_subs_ldl: 29,
+            n_mult_subs_lu: 43,
+            d_max: 5,
+        },
+    },
+    Case {
+        what: "twenty rows, whose bounds count a dense row that has few edges to the others",
+        a_p: &[
+            0, 17, 17, 17, 17, 17, 17, 17, 17, 17, 17, 17, 17, 17, 17, 17, 17, 17, 17, 18, 18,
+        ],
+        a_i: &[
+            1, 2, 3, 4, 5, 6, 7, 8, 9, 10, 11, 12, 13, 14, 15, 16, 17, 19,
+        ],
+        p: &[
+            1, 2, 3, 4, 5, 6, 7, 8, 9, 10, 11, 12, 13, 14, 15, 16, 17, 18, 19, 0,
+        ],
+        need: Need {
+            lnz: 18,
+            n_mult_subs_ldl: 18,
+            n_mult_subs_lu: 18,
+            d_max: 2,
+        },
+    },
+];
+
+/// Asserts what the factor of a case needs.
+fn check_need(rt: &impl Abort, alloc: Global, case: &Case) -> Result<(), AllocError> {
+    let factor = factor_of(alloc, case.a_p, case.a_i, case.p)?;
+    let what = case.what;
+    assert_eq!(rt; need_of(&factor.columns), case.need, "{what}");
+    Ok(())
+}
+
+#[test]
+fn needs_of_factors(rt: HostRuntime) -> Result<(), Fail> {
+    for case in &FACTORS {
+        check_need(&rt, rt.alloc(), case)?;
+    }
+    let can_24 = Case {
+        what: "can_24, whose bounds are a little above",
+        a_p: &can_24::POINTERS,
+        a_i: &can_24::ROWS,
+        p: &[
+            22, 20, 10, 23, 12, 5, 16, 8, 14, 4, 15, 7, 1, 9, 13, 17, 0, 2, 3, 6, 11, 18, 21, 19,
+        ],
+        need: Need {
+            lnz: 96,
+            n_mult_subs_ldl: 268,
+            n_mult_subs_lu: 440,
+            d_max: 7,
+        },
+    };
+    check_need(&rt, rt.alloc(), &can_24)?;
+    Ok(())
+}
+
+/// Orders a forest, and asserts that nothing fills in.
+fn order_forest(
+    rt: &impl Abort,
+    alloc: Global,
+    n: i64,
+    a_p: &[i64],
+    a_i: &[i64],
+) -> Result<(), AllocError> {
+    let Ok((p, _p_inv, info)) = order(alloc, n, a_p, a_i, &Control::default()) else {
+        panic!(rt; "no answer for {a_p:?} {a_i:?}");
+    };
+    let factor = check_bounds(rt, alloc, a_p, a_i, &p, &info)?;
+    check_forest(rt, &factor, &info);
+    Ok(())
+}
+
+#[test]
+fn forests_do_not_fill_in(rt: HostRuntime) -> Result<(), Fail> {
+    let heap = rt.alloc();
+    order_forest(&rt, heap, 3, &[0, 1, 1, 1], &[2])?;
+    order_forest(&rt, heap, 3, &[0, 1, 2, 2], &[1, 2])?;
+    let (star_p, star_i) = star(heap, 18)?;
+    order_forest(&rt, heap, 18, &star_p, &star_i)?;
+    Ok(())
+}

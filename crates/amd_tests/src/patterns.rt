@@ -1,0 +1,168 @@
+// Families of graphs of several sizes and matrices drawn from seeds, each with every choice of a caller: no figure is below what
+// the factor needs, and nothing fills in where the graph is a forest without dense rows.
+
+use crate::factors::{check_bounds, check_forest};
+use amd::{Control, Info, order};
+use amd_testing::factors::Factor;
+use amd_testing::inputs::{
+    complete_below, cycle, drawn, drawn_with_hub, grid, path, star, star_to_last,
+};
+use amd_testing::plain;
+use std::alloc::{AllocError, Global};
+use std::process::Abort;
+use std::test::Fail;
+
+/// The choices of a caller that are tried: the dense row parameter, and whether absorption is aggressive.
+static CHOICES: [Control; 6] = [
+    Control {
+        dense: 10000,
+        aggressive: true,
+    },
+    Control {
+        dense: 10000,
+        aggressive: false,
+    },
+    Control {
+        dense: 0,
+        aggressive: true,
+    },
+    Control {
+        dense: 0,
+        aggressive: false,
+    },
+    Control {
+        dense: -1,
+        aggressive: true,
+    },
+    Control {
+        dense: -1,
+        aggressive: false,
+    },
+];
+
+/// Orders a matrix, and asserts that the two lists are inverse permutations with the dense rows last, and that the figures
+/// bound what the factor needs. Answers the factor and the record.
+fn check_choice(
+    rt: &impl Abort,
+    alloc: Global,
+    n: i64,
+    a_p: &[i64],
+    a_i: &[i64],
+    control: &Control,
+) -> Result<(Factor<Global>, Info), AllocError> {
+    let Ok((p, p_inv, info)) = order(alloc, n, a_p, a_i, control) else {
+        panic!(rt; "no answer at {control:?} {a_p:?} {a_i:?}");
+    };
+    let size = usize::try_from(n).unwrap_or(0);
+    let dense = plain::dense_rows(alloc, control.dense, size, a_p, a_i)?;
+    assert!(rt;
+        plain::are_inverse(size, &p, &p_inv),
+        "{control:?} {a_p:?} {a_i:?}"
+    );
+    assert!(rt;
+        plain::stand_last(&dense, &p),
+        "{control:?} {a_p:?} {a_i:?}"
+    );
+    assert_eq!(rt;
+        info.n_dense,
+        plain::how_many(&dense),
+        "{control:?} {a_p:?} {a_i:?}"
+    );
+    let factor = check_bounds(rt, alloc, a_p, a_i, &p, &info)?;
+    Ok((factor, info))
+}
+
+/// Orders a matrix with each choice.
+fn check(
+    rt: &impl Abort,
+    alloc: Global,
+    n: i64,
+    (a_p, a_i): (Vec<i64>, Vec<i64>),
+) -> Result<(), AllocError> {
+    for control in &CHOICES {
+        check_choice(rt, alloc, n, &a_p, &a_i, control)?;
+    }
+    Ok(())
+}
+
+/// Orders a forest with each choice.
+fn check_tree(
+    rt: &impl Abort,
+    alloc: Global,
+    n: i64,
+    (a_p, a_i): (Vec<i64>, Vec<i64>),
+) -> Result<(), AllocError> {
+    for control in &CHOICES {
+        let (factor, info) = check_choice(rt, alloc, n, &a_p, &a_i, control)?;
+        if info.n_dense == 0 {
+            check_forest(rt, &factor, &info);
+        }
+    }
+    Ok(())
+}
+
+#[test]
+fn paths(rt: HostRuntime) -> Result<(), Fail> {
+    let heap = rt.alloc();
+    for n in 1..=30 {
+        check_tree(&rt, heap, n, path(heap, n)?)?;
+    }
+    Ok(())
+}
+
+#[test]
+fn cycles(rt: HostRuntime) -> Result<(), Fail> {
+    let heap = rt.alloc();
+    for n in 3..=40 {
+        check(&rt, heap, n, cycle(heap, n)?)?;
+    }
+    Ok(())
+}
+
+#[test]
+fn stars(rt: HostRuntime) -> Result<(), Fail> {
+    let heap = rt.alloc();
+    for n in 2..=20 {
+        check_tree(&rt, heap, n, star(heap, n)?)?;
+        check_tree(&rt, heap, n, star_to_last(heap, n)?)?;
+    }
+    Ok(())
+}
+
+#[test]
+fn complete_graphs(rt: HostRuntime) -> Result<(), Fail> {
+    let heap = rt.alloc();
+    for n in 1..=20 {
+        check(&rt, heap, n, complete_below(heap, n)?)?;
+    }
+    Ok(())
+}
+
+#[test]
+fn grids(rt: HostRuntime) -> Result<(), Fail> {
+    let heap = rt.alloc();
+    for side in 1..=12 {
+        check(&rt, heap, side.saturating_mul(side), grid(heap, side)?)?;
+    }
+    Ok(())
+}
+
+#[test]
+fn drawn_matrices(rt: HostRuntime) -> Result<(), Fail> {
+    let heap = rt.alloc();
+    for seed in 1..=64 {
+        let (n, a_p, a_i) = drawn(heap, seed)?;
+        check(&rt, heap, n, (a_p, a_i))?;
+    }
+    Ok(())
+}
+
+#[test]
+fn drawn_matrices_with_a_hub(rt: HostRuntime) -> Result<(), Fail> {
+    let heap = rt.alloc();
+    for seed in 1..=64 {
+        let (n, a_p, a_i) = drawn_with_hub(heap, seed)?;
+        check(&rt, heap, n, (a_p, a_i))?;
+    }
+    Ok(())
+}
