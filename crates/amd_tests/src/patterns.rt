@@ -141,7 +141,7 @@ fn complete_graphs(rt: HostRuntime) -> Result<(), Fail> {
 #[test]
 fn grids(rt: HostRuntime) -> Result<(), Fail> {
     let heap = rt.alloc();
-    for side in 1..=12 {
+    for side in 1..=12i64 {
         check(&rt, heap, side.saturating_mul(side), grid(heap, side)?)?;
     }
     Ok(())
