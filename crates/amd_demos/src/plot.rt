@@ -1,5 +1,8 @@
 // A plot of a matrix in letters, a line for each row.
 
+ghost use Rattle.std.specs.Prelude.{OnOk};
+ghost use Rattle.amd_demos.specs.Demos.{Grows};
+
 use crate::matrix::Matrix;
 use std::io;
 use std::io::Write;
@@ -48,7 +51,9 @@ impl<'a> Plot<'a> {
 }
 
 /// Writes the heading of a plot, the last digit of each column.
-fn write_heading<W: Write>(plot: &Plot, out: &mut W) -> io::Result<()> {
+fn write_heading<W: Write>(plot: &Plot, out: &mut W) -> io::Result<()>
+    ensures { OnOk result (Grows (W.contents out.old) (W.contents out.new)) }
+{
     write!(out, "{}", plot.margin)?;
     for j in 0..plot.matrix.n {
         let digit = j % 10;
@@ -59,21 +64,26 @@ fn write_heading<W: Write>(plot: &Plot, out: &mut W) -> io::Result<()> {
 }
 
 /// Writes a line of a plot.
-fn write_line<W: Write>(plot: &Plot, line: i32, out: &mut W) -> io::Result<()> {
+fn write_line<W: Write>(plot: &Plot, line: i32, out: &mut W) -> io::Result<()>
+    ensures { OnOk result (Grows (W.contents out.old) (W.contents out.new)) }
+{
     write!(out, "{line}: ")?;
     for place in 0..plot.matrix.n {
-        if plot.is_marked(line, place) {
-            out.write_all(b" X")?;
+        let mark = if plot.is_marked(line, place) {
+            "X"
         } else {
-            out.write_all(b" .")?;
-        }
+            "."
+        };
+        write!(out, " {mark}")?;
     }
     out.write_all(b"\n")?;
     Ok(())
 }
 
 /// Writes an empty line, a title and a plot.
-pub fn write_plot<W: Write>(title: &str, plot: &Plot, out: &mut W) -> io::Result<()> {
+pub fn write_plot<W: Write>(title: &str, plot: &Plot, out: &mut W) -> io::Result<()>
+    ensures { OnOk result (Grows (W.contents out.old) (W.contents out.new)) }
+{
     writeln!(out, "\n{title}")?;
     write_heading(plot, out)?;
     for line in 0..plot.matrix.n {
