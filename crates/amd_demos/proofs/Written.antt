@@ -1,5 +1,5 @@
 -- Bytes that are written one after another, and lists of numbers.
-use Rattle.std.proofs.Common.{◌≡◌, ◌++◌, ◌+◌, ◌<◌, ℕ, ℤ, List, [], ◌∷◌, append_assoc, append-nil, ◌∙◌, ap, sym, subst, take, get_or, length}
+use Rattle.std.proofs.Common.{◌≡◌, ◌++◌, ◌+◌, ◌<◌, ℕ, ℤ, List, [], ◌∷◌, append_assoc, append-nil, ◌∙◌, ap, sym, subst, take, take_all, get_or, length, ◌≤◌}
 use Rattle.std.proofs.lemmas.List.{take_more}
 use Rattle.std.specs.Prelude.{Option}
 use Rattle.std.specs.Fmt.{signed_decimal}
@@ -24,6 +24,10 @@ Grows-then a b c ys g h = (g.0 ++ ys, Appends-trans a b c g.0 ys g.1 h)
 pub Grows-both : (a b c : Option (List ℕ)) → Grows a b → Grows b c → Grows a c
 Grows-both a b c g h = Grows-then a b c h.0 g h.1
 
+-- a number with a text in front of it, under another name
+pub number-named : (before : List ℕ) (x y : ℤ) (a b : Option (List ℕ)) → x ≡ y → Appends a b (before ++ signed_decimal x) → Appends a b (before ++ signed_decimal y)
+number-named before x y a b same h = subst (λ z. Appends a b (before ++ signed_decimal z)) same h
+
 -- the numbers and one more
 pub each-more : (before : List ℕ) (xs : List ℤ) (x : ℤ) → each before (xs ++ x ∷ []) ≡ each before xs ++ (before ++ signed_decimal x)
 each-more before [] x = append-nil (before ++ signed_decimal x)
@@ -35,3 +39,8 @@ pub each-next : (before : List ℕ) (xs : List ℤ) (k : ℕ) (x : ℤ) (a b c :
 each-next before xs k x a b c inside first next =
     let more = ap (each before) (take_more xs k x inside) ∙ each-more before (take k xs) (get_or xs k x) in
     subst (Appends a c) (sym more) (Appends-trans a b c _ _ first next)
+
+-- a writer that took as many numbers as there are
+pub each-whole : (before : List ℕ) (xs : List ℤ) (k : ℕ) (a b : Option (List ℕ)) → length xs ≤ k → Appends a b (each before (take k xs))
+    → Appends a b (each before xs)
+each-whole before xs k a b past h = subst (λ z. Appends a b (each before z)) (take_all k xs past) h

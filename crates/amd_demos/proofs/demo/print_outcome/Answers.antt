@@ -6,6 +6,7 @@ use denote.Enum.Bare.{same_true}
 use Rattle.amd_engine.specs.contracts.amd.Status.{the_type}
 use Rattle.amd.proofs.Written.{Appends-then}
 use Rattle.amd_demos.proofs.Orderings.{wanted-ordering}
+use Rattle.amd_demos.proofs.Parts.{failure-after}
 use Rattle.amd_demos.proofs.demo.print_outcome.Goals as goal
 
 pub returns-in_default-clause-failure : goal.returns-in_default-clause-failure
@@ -16,10 +17,10 @@ returns-then-eq-clause-ordered g c = λ _.
     let up_to_2 = Appends-then _ _ _ _ _ c.in_ok-write_record.ensures c.in_ok-write_permutations.ensures in
     record {
       p = c.deref.result.now;
-      q = c.deref-2.result.now;
+      q = c.deref-then-eq.result.now;
       info = c.in-Ok.told;
       wanted = wanted-ordering _ _ _ _ _ _ _ _ _ _ _ _ _ _ (search (rules, to_z-of_z)) c.default.ensures.0 c.default.ensures.1 (map-id _) (map-id _)
-          (map-id _ ∙ sym c.deref.ensures.value) (map-id _ ∙ sym c.deref-2.ensures.value) c.in-Ok.ensures
+          (map-id _ ∙ sym c.deref.ensures.value) (map-id _ ∙ sym c.deref-then-eq.ensures.value) c.in-Ok.ensures
           (same_true the_type (search rules) _ _ (sym c.if-eq.ensures) ∙ c.wanted_status.ensures);
       before = [];
       after = c.in_ok-write_permuted_plot.ensures.0;
@@ -27,4 +28,4 @@ returns-then-eq-clause-ordered g c = λ _.
     }
 
 pub returns-clause-failure : goal.returns-clause-failure
-returns-clause-failure g c = λ _. (_, Appends-then _ _ _ _ _ c.in_ok-write_record.ensures c.in_ok-write_failure-2.ensures)
+returns-clause-failure g c = λ _. failure-after _ _ _ _ c.in_ok-write_record.ensures c.in_ok-write_failure-2.ensures
