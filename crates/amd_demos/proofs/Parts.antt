@@ -24,12 +24,13 @@ parted-some xs rest x y a b c split same first others =
 
 -- two texts between three others, under other names
 pub texts-between : (before middle after xs ys us vs : List ℕ) (a b : Option (List ℕ)) → xs ≡ us → ys ≡ vs
-    → Appends a b (before ++ (((xs ++ middle) ++ ys) ++ after)) → Appends a b (before ++ us ++ middle ++ vs ++ after)
+    → Appends a b (before ++ (xs ++ (middle ++ (ys ++ after)))) → Appends a b (before ++ us ++ middle ++ vs ++ after)
 texts-between before middle after xs ys us vs a b one other h =
-    let flat = append_assoc (xs ++ middle) ys after ∙ append_assoc xs middle (ys ++ after) in
-    let first = subst (λ z. Appends a b (before ++ z)) flat h in
-    let second = subst (λ z. Appends a b (before ++ z ++ middle ++ ys ++ after)) one first in
-    subst (λ z. Appends a b (before ++ us ++ middle ++ z ++ after)) other second
+    let first = subst (λ z. Appends a b (before ++ (z ++ (middle ++ (ys ++ after))))) one h in
+    let second = subst (λ z. Appends a b (before ++ (us ++ (middle ++ (z ++ after))))) other first in
+    let flat = sym (append_assoc before us (middle ++ (vs ++ after))) ∙ sym (append_assoc (before ++ us) middle (vs ++ after))
+    ∙ sym (append_assoc (before ++ us ++ middle) vs after) in
+    subst (Appends a b) flat second
 
 -- the line of failure behind a text
 pub failure-after : (xs : List ℕ) (a b c : Option (List ℕ)) → Appends a b xs → Appends b c failure_line → EndsInFailure a c
