@@ -1,2 +1,3 @@
 -- What the demos promise to write.
 pub mod Lines
+pub mod Demos

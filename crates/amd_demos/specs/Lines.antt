@@ -1,27 +1,46 @@
 -- The lines that the demos write.
-use Rattle.std.specs.Prelude.{◌≡◌, ◌≢◌, ◌++◌, ℕ, ℤ, pos, Option, List, codes, unsigned_abs, if◌then◌else◌}
-use Rattle.std.specs.Fmt.{decimal}
-use Rattle.std.specs.Io.KnownBytes.{Appends}
-use Rattle.amd_numbers.specs.Statuses.{IsStatusOf}
-use Rattle.amd_numbers.specs.Records.{fresh_info}
+use Rattle.std.specs.Prelude.{ℕ, ℤ, List, [], ◌∷◌, ◌++◌, codes}
+use Rattle.std.specs.Fmt.{signed_decimal}
 use Rattle.amd_numbers.specs.declared.amd.Info.{Info}
-use Rattle.amd_numbers.specs.declared.amd.Status.TheVariants.{OK}
-use Rattle.amd_input.specs.PatternFigures.{HasPatternFigures}
-
--- the figures of a pattern in one line
-abbrev pub figures_line : Info → List ℕ
-figures_line info =
-    codes "nz " ++ decimal info.nz ++ codes ", nz_diag " ++ decimal info.nz_diag ++ codes ", nz_a_plus_at " ++ decimal info.nz_a_plus_at
-    ++ codes ", symmetry " ++ (if info.symmetry then codes "true" else codes "false") ++ codes "\n"
+use Rattle.amd_numbers.specs.declared.amd.Status.{Status}
+use Rattle.amd_numbers.specs.declared.amd.Status.TheVariants.{OK, Invalid, OkButJumbled, OutOfMemory}
+use Rattle.amd_texts.specs.Texts.{info_text}
 
 -- the line where there is no ordering
 abbrev pub failure_line : List ℕ
 failure_line = codes "AMD failed\n"
 
--- a writer that tells its bytes has one line more: the figures of a column form with n rows whose columns are sorted
-pub record HasFiguresLine (n : ℤ) (ap ai : List ℤ) (old new : Option (List ℕ)) : Type 0 where
-  pub info : Info
-  pub nothing : n ≡ pos 0 → info ≡ fresh_info 0
-  pub sorted : n ≢ pos 0 → IsStatusOf n n ap ai OK
-  pub figures : n ≢ pos 0 → HasPatternFigures (unsigned_abs n) ap ai info
-  pub line : Appends old new (figures_line info)
+-- the numbers, each with a text in front of it
+abbrev pub each : List ℕ → List ℤ → List ℕ
+each before [] = []
+each before (x ∷ xs) = (before ++ signed_decimal x) ++ each before xs
+
+-- the numbers, parted by commas
+abbrev pub parted : List ℤ → List ℕ
+parted [] = []
+parted (x ∷ xs) = signed_decimal x ++ each (codes ", ") xs
+
+-- the line of a name and a list in brackets
+abbrev pub list_line : List ℕ → List ℤ → List ℕ
+list_line name xs = ((name ++ codes " = [") ++ parted xs) ++ codes "]\n"
+
+-- the lines of a title and a vector, and an empty line
+abbrev pub vector_lines : List ℕ → List ℤ → List ℕ
+vector_lines title xs = ((title ++ codes "\n") ++ each (codes " ") xs) ++ codes "\n\n"
+
+-- the name of a status
+abbrev pub status_name : Status → List ℕ
+status_name OK = codes "OK"
+status_name Invalid = codes "Invalid"
+status_name OkButJumbled = codes "OkButJumbled"
+status_name OutOfMemory = codes "OutOfMemory"
+
+-- the line of a status and the one that is wanted, and the record
+abbrev pub record_lines : Status → Info → List ℕ
+record_lines wanted info =
+    (codes "return value from amd::order: " ++ status_name info.status ++ codes " (should be " ++ status_name wanted ++ codes ")\n")
+    ++ info_text info
+
+-- a permutation and its inverse
+abbrev pub permutation_lines : List ℤ → List ℤ → List ℕ
+permutation_lines p q = vector_lines (codes "Permutation vector:") p ++ vector_lines (codes "Inverse permutation vector:") q

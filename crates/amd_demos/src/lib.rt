@@ -1,5 +1,14 @@
 //! The demos of the ordering, each a core that writes to a writer and answers the exit status. A program over each of them
-//! hands in its input and standard output.
+//! hands in standard output.
 #![tactic(auto)]
 
+pub mod can_24;
+pub mod demo;
+pub mod jumbled;
+mod listing;
+pub mod matrix;
+mod numbers;
+pub mod order;
+mod outcome;
+mod plot;
 pub mod simple;

@@ -1,31 +1,274 @@
-// The cores of the demos, over a list that takes the bytes.
+// The demos, over writers that keep what they take: whole texts, matrices of the other kind and matrices that are none, refused
+// memory, and writers with faults.
 
+use crate::demo_texts::{JUMBLED, ORDER, SIMPLE};
+use amd_demos::can_24::{JUMBLED_POINTERS, JUMBLED_ROWS, POINTERS, ROWS};
+use amd_demos::demo::{Form, demo_to};
+use amd_demos::jumbled::jumbled_to;
+use amd_demos::matrix::Matrix;
+use amd_demos::order::order_to;
 use amd_demos::simple::simple_to;
 use amd_testing::refusing::Refusing;
+use amd_testing::writers::{Fault, Faulty, Slow};
+use std::alloc::{AllocError, Allocator, Global};
+use std::io::Write;
+use std::process::Abort;
+use std::test::Fail;
+
+/// More calls than a demo makes to its writer.
+const MANY: u64 = 5000;
+
+/// More bytes than a demo writes.
+const ROOM: usize = 9000;
+
+/// The line where there is no ordering.
+const FAILED: &str = "AMD failed\n";
+
+/// A demo without its allocator and writer.
+#[derive(Clone, Copy, Debug)]
+enum Demo {
+    Simple,
+    Order,
+    Jumbled,
+}
+
+/// Runs a demo.
+fn run<W: Write, A: Allocator + Copy>(demo: Demo, alloc: A, out: &mut W) -> u8 {
+    match demo {
+        Demo::Simple => {
+            let a_i = [0, 1, 0, 1, 2, 4, 1, 2, 3, 4, 2, 3, 1, 4];
+            simple_to(alloc, 5, &[0, 2, 6, 10, 12, 14], &a_i, out)
+        }
+        Demo::Order => order_to(alloc, out),
+        Demo::Jumbled => jumbled_to(alloc, out),
+    }
+}
+
+/// The parts of a text, one after the other.
+fn joined(alloc: Global, parts: &[&str]) -> Result<Vec<u8>, AllocError> {
+    let mut text = Vec::new(alloc);
+    for part in parts {
+        text.extend_from_slice(part.as_bytes())?;
+    }
+    Ok(text)
+}
+
+/// What a demo writes.
+fn text_of(alloc: Global, demo: Demo) -> Result<Vec<u8>, AllocError> {
+    match demo {
+        Demo::Simple => joined(alloc, &SIMPLE),
+        Demo::Order => joined(alloc, &ORDER),
+        Demo::Jumbled => joined(alloc, &JUMBLED),
+    }
+}
 
 #[test]
-fn the_demo_of_one_small_matrix(rt: HostRuntime) {
+fn whole_texts(rt: HostRuntime) -> Result<(), Fail> {
+    for demo in [Demo::Simple, Demo::Order, Demo::Jumbled] {
+        let mut out = Slow::new(Vec::new(rt.alloc()));
+        assert_eq!(rt; run(demo, rt.alloc(), &mut out), 0, "{demo:?}");
+        let text = text_of(rt.alloc(), demo)?;
+        assert_eq!(rt; out.bytes(), text.as_slice(), "{demo:?}");
+    }
+    Ok(())
+}
+
+#[test]
+fn small_matrices_without_an_ordering(rt: HostRuntime) {
     let a_i = [0, 1, 0, 1, 2, 4, 1, 2, 3, 4, 2, 3, 1, 4];
-    let figures = b"nz 14, nz_diag 5, nz_a_plus_at 10, symmetry false\n".as_slice();
-    let failed = b"AMD failed\n".as_slice();
-    for (a_p, refuse_at, status, text) in [
-        ([0, 2, 6, 10, 12, 14], 0, 0, figures),
+    for (n, a_p, refuse_at) in [
         // The last pointer is past the end.
-        ([0, 2, 6, 10, 12, 15], 0, 1, failed),
+        (5, [0, 2, 6, 10, 12, 15], 0),
         // The third column is jumbled.
-        ([0, 2, 4, 10, 12, 14], 0, 1, failed),
-        ([0, 2, 6, 10, 12, 14], 1, 1, failed),
+        (5, [0, 2, 4, 10, 12, 14], 0),
+        (5, [0, 2, 6, 10, 12, 14], 1),
+        (-5, [0, 2, 6, 10, 12, 14], 0),
     ] {
         let mut out = Vec::new(rt.alloc());
         let heap = Refusing::new(rt.alloc(), refuse_at);
-        assert_eq!(rt;
-            simple_to(&heap, 5, &a_p, &a_i, &mut out),
-            status,
-            "{a_p:?}"
-        );
-        assert_eq!(rt; out.as_slice(), text, "{a_p:?}");
+        assert_eq!(rt; simple_to(&heap, n, &a_p, &a_i, &mut out), 1, "{a_p:?}");
+        assert_eq!(rt; out.as_slice(), FAILED.as_bytes(), "{a_p:?}");
     }
-    let mut nothing = Vec::new(rt.alloc());
-    assert_eq!(rt; simple_to(rt.alloc(), -5, &[], &[], &mut nothing), 1);
-    assert_eq!(rt; nothing.as_slice(), failed);
+}
+
+#[test]
+fn no_rows(rt: HostRuntime) {
+    let mut out = Vec::new(rt.alloc());
+    let heap = Refusing::new(rt.alloc(), 1);
+    assert_eq!(rt; simple_to(&heap, 0, &[7], &[], &mut out), 0);
+    assert!(rt; out.starts_with(b"P = []\nPInv = []\n\nAMD results:\n"));
+}
+
+/// Runs a demo with a refused request and a writer over an array, and asserts that the record and what follows it are not
+/// written, and that the line of failure stands in their place. Answers whether there was such a request.
+fn check_refused(
+    rt: &impl Abort,
+    alloc: Global,
+    demo: Demo,
+    parts: &[&str],
+    refuse_at: u64,
+) -> Result<bool, AllocError> {
+    let mut array = [0; ROOM];
+    let mut rest = array.as_mut_slice();
+    let heap = Refusing::new(alloc, refuse_at);
+    let status = run(demo, &heap, &mut rest);
+    let taken = ROOM.saturating_sub(rest.len());
+    let mut text = joined(alloc, parts)?;
+    text.extend_from_slice(FAILED.as_bytes())?;
+    if heap.refused() {
+        assert_eq!(rt; status, 1, "{demo:?} at {refuse_at}");
+        assert!(rt;
+            array.get(..taken) == Some(text.as_slice()),
+            "{demo:?} at {refuse_at}"
+        );
+    } else {
+        assert_eq!(rt; status, 0, "{demo:?} at {refuse_at}");
+    }
+    Ok(heap.refused())
+}
+
+#[test]
+fn each_request(rt: HostRuntime) -> Result<(), Fail> {
+    let [order_size, order_columns, order_plot, ..] = ORDER;
+    let [jumbled_size, jumbled_columns, jumbled_plot, ..] = JUMBLED;
+    let order_input = [order_size, order_columns, order_plot];
+    let jumbled_input = [jumbled_size, jumbled_columns, jumbled_plot];
+    for (demo, input) in [
+        (Demo::Simple, [].as_slice()),
+        (Demo::Order, &order_input),
+        (Demo::Jumbled, &jumbled_input),
+    ] {
+        let mut refused = 0;
+        for refuse_at in 1..MANY {
+            if !check_refused(&rt, rt.alloc(), demo, input, refuse_at)? {
+                break;
+            }
+            refused = refuse_at;
+        }
+        assert!(rt; 0 < refused && refused < MANY - 1, "{demo:?}");
+    }
+    Ok(())
+}
+
+#[test]
+fn matrices_of_the_other_kind(rt: HostRuntime) -> Result<(), Fail> {
+    let sorted = Matrix {
+        n: 24,
+        a_p: &POINTERS,
+        a_i: &ROWS,
+    };
+    let jumbled = Matrix {
+        n: 24,
+        a_p: &JUMBLED_POINTERS,
+        a_i: &JUMBLED_ROWS,
+    };
+    let [_, _, _, sorted_record, ..] = ORDER;
+    let [_, _, _, jumbled_record, ..] = JUMBLED;
+    for (form, matrix, line, record) in [
+        (
+            Form::Sorted,
+            &jumbled,
+            "return value from amd::order: OkButJumbled (should be OK)\n",
+            jumbled_record,
+        ),
+        (
+            Form::Jumbled,
+            &sorted,
+            "return value from amd::order: OK (should be OkButJumbled)\n",
+            sorted_record,
+        ),
+    ] {
+        let mut out = Vec::new(rt.alloc());
+        assert_eq!(rt; demo_to(rt.alloc(), form, matrix, &mut out), 1, "{line}");
+        let Some((_, results)) = record.split_once('\n') else {
+            panic!(rt; "no line");
+        };
+        let end = joined(rt.alloc(), &[line, results, FAILED])?;
+        assert!(rt; out.ends_with(&end), "{line}");
+    }
+    Ok(())
+}
+
+#[test]
+fn matrices_that_are_none(rt: HostRuntime) {
+    for (n, a_p, a_i) in [
+        // The end of the last column is past the end of the rows.
+        (24, POINTERS.as_slice(), [0, 1].as_slice()),
+        (-1, &[0], &[]),
+        (2, &[], &[]),
+        (2, &[0], &[0]),
+        (2, &[0, -1, 2], &[0, 1]),
+        (2, &[0, 2, 1], &[0, 1]),
+        (1, &[i32::MIN, i32::MIN], &[]),
+        (2, &[0, 1, 2], &[i32::MAX, i32::MIN]),
+    ] {
+        let matrix = Matrix { n, a_p, a_i };
+        for form in [Form::Sorted, Form::Jumbled] {
+            let mut out = Vec::new(rt.alloc());
+            let heap = Refusing::new(rt.alloc(), 1);
+            assert_eq!(rt; demo_to(&heap, form, &matrix, &mut out), 1, "{a_p:?}");
+            assert!(rt; out.starts_with(b"AMD demo, with "), "{a_p:?}");
+            assert!(rt; out.ends_with(FAILED.as_bytes()), "{a_p:?}");
+        }
+    }
+}
+
+/// Runs a demo with a fault at one call to its writer, and asserts that nothing is written after it. Answers whether that call was
+/// made.
+fn check_fault(
+    rt: &impl Abort,
+    alloc: Global,
+    demo: Demo,
+    fault: Fault,
+    fault_at: u64,
+) -> Result<bool, AllocError> {
+    let mut out = Faulty::new(Vec::new(alloc), fault, fault_at);
+    let status = run(demo, alloc, &mut out);
+    let text = text_of(alloc, demo)?;
+    if out.faults() == 0 {
+        assert_eq!(rt; status, 0, "{demo:?}, {fault:?} at {fault_at}");
+        assert_eq!(rt;
+            out.bytes(),
+            text.as_slice(),
+            "{demo:?}, {fault:?} at {fault_at}"
+        );
+        return Ok(false);
+    }
+    assert_eq!(rt; status, 1, "{demo:?}, {fault:?} at {fault_at}");
+    assert_eq!(rt; out.calls(), fault_at, "{demo:?}, {fault:?} at {fault_at}");
+    assert!(rt;
+        text.starts_with(out.bytes()),
+        "{demo:?}, {fault:?} at {fault_at}"
+    );
+    Ok(true)
+}
+
+/// How many calls to its writer a demo makes.
+fn calls_of(alloc: Global, demo: Demo) -> u64 {
+    let mut out = Faulty::new(Vec::new(alloc), Fault::Fails, 0);
+    run(demo, alloc, &mut out);
+    out.calls()
+}
+
+/// Asserts that a demo stops at a fault, with a fault at one call in `step`, and at the last one, and that it meets none after
+/// that.
+fn check_faults(rt: &impl Abort, alloc: Global, demo: Demo, step: usize) -> Result<(), AllocError> {
+    let calls = calls_of(alloc, demo);
+    assert!(rt; 0 < calls && calls < MANY, "{demo:?}");
+    for fault in [Fault::Fails, Fault::TakesNothing] {
+        for fault_at in (1..calls).step_by(step) {
+            assert!(rt; check_fault(rt, alloc, demo, fault, fault_at)?);
+        }
+        assert!(rt; check_fault(rt, alloc, demo, fault, calls)?);
+        assert!(rt; !check_fault(rt, alloc, demo, fault, calls.saturating_add(1))?);
+    }
+    Ok(())
+}
+
+#[test]
+fn writers_with_faults(rt: HostRuntime) -> Result<(), Fail> {
+    check_faults(&rt, rt.alloc(), Demo::Simple, 1)?;
+    check_faults(&rt, rt.alloc(), Demo::Order, 499)?;
+    check_faults(&rt, rt.alloc(), Demo::Jumbled, 499)?;
+    Ok(())
 }

@@ -1,8 +1,9 @@
 // The figures of an ordering beside what the factor under its permutation needs, which is found by searches for paths. The
 // expected needs come from worked examples and from a plain program that follows the path theorem.
 
-use crate::can_24;
+use crate::worked::widened;
 use amd::{Control, Info, order};
+use amd_demos::can_24::{POINTERS, ROWS};
 use amd_testing::factors::{Factor, Need, factor_of, fills_nothing, need_of};
 use amd_testing::inputs::star;
 use std::alloc::{AllocError, Global};
@@ -107,10 +108,11 @@ fn needs_of_factors(rt: HostRuntime) -> Result<(), Fail> {
     for case in &FACTORS {
         check_need(&rt, rt.alloc(), case)?;
     }
+    let heap = rt.alloc();
     let can_24 = Case {
         what: "can_24, whose bounds are a little above",
-        a_p: &can_24::POINTERS,
-        a_i: &can_24::ROWS,
+        a_p: &widened(heap, &POINTERS)?,
+        a_i: &widened(heap, &ROWS)?,
         p: &[
             22, 20, 10, 23, 12, 5, 16, 8, 14, 4, 15, 7, 1, 9, 13, 17, 0, 2, 3, 6, 11, 18, 21, 19,
         ],
@@ -121,7 +123,7 @@ fn needs_of_factors(rt: HostRuntime) -> Result<(), Fail> {
             d_max: 7,
         },
     };
-    check_need(&rt, rt.alloc(), &can_24)?;
+    check_need(&rt, heap, &can_24)?;
     Ok(())
 }
 

@@ -4,13 +4,13 @@
 #![tactic(auto)]
 
 #[cfg(test)]
-mod can_24;
-#[cfg(test)]
 mod cases;
 #[cfg(test)]
 mod classes;
 #[cfg(test)]
 mod comparison;
+#[cfg(test)]
+mod demo_texts;
 #[cfg(test)]
 mod demos;
 #[cfg(test)]

@@ -2,8 +2,9 @@
 // crate `amd`, and from a plain program that follows the rules.
 
 use crate::factors::check_bounds;
-use crate::{can_24, numbers_of};
+use crate::numbers_of;
 use amd::{Control, Info, Status, order};
+use amd_demos::can_24::{JUMBLED_POINTERS, JUMBLED_ROWS, POINTERS, ROWS};
 use amd_testing::inputs::{complete, star};
 use amd_testing::plain::are_inverse;
 use std::alloc::{AllocError, Global};
@@ -414,32 +415,47 @@ fn all_rows_dense(rt: HostRuntime) -> Result<(), Fail> {
     Ok(())
 }
 
+/// The same numbers in a wider type.
+pub fn widened(alloc: Global, numbers: &[i32]) -> Result<Vec<i64>, AllocError> {
+    let mut wide = Vec::new(alloc);
+    for &number in numbers {
+        wide.push(i64::from(number))?;
+    }
+    Ok(wide)
+}
+
 #[test]
 fn can_24_and_its_jumbled_form(rt: HostRuntime) -> Result<(), Fail> {
+    let heap = rt.alloc();
+    let (sorted_p, sorted_i) = (widened(heap, &POINTERS)?, widened(heap, &ROWS)?);
+    let (jumbled_p, jumbled_i) = (
+        widened(heap, &JUMBLED_POINTERS)?,
+        widened(heap, &JUMBLED_ROWS)?,
+    );
     let p = [
         22, 20, 10, 23, 12, 5, 16, 8, 14, 4, 15, 7, 1, 9, 13, 17, 0, 2, 3, 6, 11, 18, 21, 19,
     ];
     let sorted = Case {
         what: "the Harwell/Boeing matrix can_24",
         n: 24,
-        a_p: &can_24::POINTERS,
-        a_i: &can_24::ROWS,
+        a_p: &sorted_p,
+        a_i: &sorted_i,
         jumbled: false,
         p: &p,
         figures: [160, 24, 136, 0, 97, 275, 453, 8],
         symmetric: true,
     };
-    check(&rt, rt.alloc(), &Control::default(), &sorted)?;
+    check(&rt, heap, &Control::default(), &sorted)?;
     let jumbled = Case {
         what: "can_24 with jumbled columns, repeats and entries left out",
         n: 24,
-        a_p: &can_24::JUMBLED_POINTERS,
-        a_i: &can_24::JUMBLED_ROWS,
+        a_p: &jumbled_p,
+        a_i: &jumbled_i,
         jumbled: true,
         p: &p,
         figures: [102, 17, 136, 0, 97, 275, 453, 8],
         symmetric: false,
     };
-    check(&rt, rt.alloc(), &Control::default(), &jumbled)?;
+    check(&rt, heap, &Control::default(), &jumbled)?;
     Ok(())
 }

@@ -1,4 +1,4 @@
-//! Orders one small matrix and prints the figures of its pattern.
+//! Orders one small matrix and prints the permutation, its inverse, and what the ordering tells.
 #![tactic(auto)]
 
 use amd_demos::simple::simple_to;

@@ -1,0 +1,58 @@
+-- What the parts of a demo write, one after another.
+use Rattle.std.proofs.Common.{◌≡◌, ◌++◌, ℕ, ℤ, List, [], ◌∷◌, length, append_assoc, ap, sym, ◌∙◌, subst}
+use Rattle.std.specs.Prelude.{Option, Bool, true, false, Ok, Err, IfOk}
+use Rattle.std.specs.declared.result.Result.{Result}
+use Rattle.std.specs.Fmt.{signed_decimal}
+use Rattle.std.specs.Io.KnownBytes.{Appends}
+use Rattle.std.proofs.lemmas.List.{nil_from_length}
+use Rattle.std.proofs.KnownBytes.{Appends-nil, Appends-trans}
+use Rattle.std.specs.Prelude.{codes}
+use Rattle.amd_demos.specs.Lines.{each, parted, failure_line}
+use Rattle.amd_demos.specs.Demos.{Grows, EndsInFailure, HasDemo}
+use Rattle.amd_demos.specs.declared.demo.Form.{Form}
+
+-- no numbers, of which nothing is written
+pub parted-none : (xs : List ℤ) (a : Option (List ℕ)) → length xs ≡ 0 → Appends a a (parted xs)
+parted-none xs a h = subst (λ z. Appends a a (parted z)) (sym (nil_from_length xs h)) (Appends-nil a)
+
+-- a first number, and the others
+pub parted-some : (xs rest : List ℤ) (x y : ℤ) (a b c : Option (List ℕ)) → xs ≡ y ∷ rest → x ≡ y → Appends a b (signed_decimal x)
+    → Appends b c (each (codes ", ") rest) → Appends a c (parted xs)
+parted-some xs rest x y a b c split same first others =
+    let named = split ∙ ap (λ z. z ∷ rest) (sym same) in
+    subst (λ z. Appends a c (parted z)) (sym named) (Appends-trans a b c _ _ first others)
+
+-- two texts between three others, under other names
+pub texts-between : (before middle after xs ys us vs : List ℕ) (a b : Option (List ℕ)) → xs ≡ us → ys ≡ vs
+    → Appends a b (before ++ (xs ++ (middle ++ (ys ++ after)))) → Appends a b (before ++ us ++ middle ++ vs ++ after)
+texts-between before middle after xs ys us vs a b one other h =
+    let first = subst (λ z. Appends a b (before ++ (z ++ (middle ++ (ys ++ after))))) one h in
+    let second = subst (λ z. Appends a b (before ++ (us ++ (middle ++ (z ++ after))))) other first in
+    let flat = sym (append_assoc before us (middle ++ (vs ++ after))) ∙ sym (append_assoc (before ++ us) middle (vs ++ after))
+    ∙ sym (append_assoc (before ++ us ++ middle) vs after) in
+    subst (Appends a b) flat second
+
+-- the line of failure behind a text
+pub failure-after : (xs : List ℕ) (a b c : Option (List ℕ)) → Appends a b xs → Appends b c failure_line → EndsInFailure a c
+failure-after xs a b c h k = (xs, Appends-trans a b c xs failure_line h k)
+
+-- a demo that was written behind some text
+pub demo-behind : {E : Type 0} (form : Form) (n : ℤ) (ap ai : List ℤ) (r : Result Bool E) (a b c : Option (List ℕ)) → Grows a b
+    → IfOk r (λ ordered. ordered ≡ true → HasDemo form n ap ai b c) → IfOk r (λ ordered. ordered ≡ true → HasDemo form n ap ai a c)
+demo-behind form n ap ai (Err e) a b c g h = tt
+demo-behind form n ap ai (Ok r) a b c g h = λ same. record {
+  p = (h same).p;
+  q = (h same).q;
+  info = (h same).info;
+  wanted = (h same).wanted;
+  before = g.0 ++ (h same).before;
+  after = (h same).after;
+  text = subst (Appends a c) (sym (append_assoc g.0 (h same).before _)) (Appends-trans a b c g.0 _ g.1 (h same).text);
+}
+
+-- a failure that was written behind some text
+pub failure-behind : {E : Type 0} (r : Result Bool E) (a b c : Option (List ℕ)) → Grows a b
+    → IfOk r (λ ordered. ordered ≡ false → EndsInFailure b c) → IfOk r (λ ordered. ordered ≡ false → EndsInFailure a c)
+failure-behind (Err e) a b c g h = tt
+failure-behind (Ok r) a b c g h = λ same.
+    (g.0 ++ (h same).0, subst (Appends a c) (sym (append_assoc g.0 (h same).0 failure_line)) (Appends-trans a b c g.0 _ g.1 (h same).1))

@@ -1,0 +1,39 @@
+// The listing of a matrix, column by column.
+
+ghost use Rattle.std.specs.Prelude.{OnOk};
+ghost use Rattle.amd_demos.specs.Demos.{Grows};
+
+use crate::matrix::Matrix;
+use crate::numbers::write_each;
+use std::io;
+use std::io::Write;
+
+/// Writes where column `j` stands and how many entries it has, and then its rows; nothing where there is no such column.
+fn write_column<W: Write>(matrix: &Matrix, j: i32, out: &mut W) -> io::Result<()>
+    ensures { OnOk result (Grows (W.contents out.old) (W.contents out.new)) }
+{
+    let (Some((begin, end)), Some(rows)) = (matrix.ends(j), matrix.column(j)) else {
+        return Ok(());
+    };
+    let count = rows.len();
+    let last = end.saturating_sub(1);
+    writeln!(
+        out,
+        "\nColumn: {j}, number of entries: {count}, with row indices in"
+    )?;
+    writeln!(out, " Ai [{begin} ... {last}]:")?;
+    out.write_all(b"    row indices:")?;
+    write_each(" ", rows, out)?;
+    out.write_all(b"\n")?;
+    Ok(())
+}
+
+/// Writes each column of a matrix.
+pub fn write_listing<W: Write>(matrix: &Matrix, out: &mut W) -> io::Result<()>
+    ensures { OnOk result (Grows (W.contents out.old) (W.contents out.new)) }
+{
+    for j in 0..matrix.n {
+        write_column(matrix, j, out)?;
+    }
+    Ok(())
+}
