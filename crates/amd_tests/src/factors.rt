@@ -109,10 +109,11 @@ fn needs_of_factors(rt: HostRuntime) -> Result<(), Fail> {
         check_need(&rt, rt.alloc(), case)?;
     }
     let heap = rt.alloc();
+    let (pointers, rows) = (widened(heap, &POINTERS)?, widened(heap, &ROWS)?);
     let can_24 = Case {
         what: "can_24, whose bounds are a little above",
-        a_p: &widened(heap, &POINTERS)?,
-        a_i: &widened(heap, &ROWS)?,
+        a_p: &pointers,
+        a_i: &rows,
         p: &[
             22, 20, 10, 23, 12, 5, 16, 8, 14, 4, 15, 7, 1, 9, 13, 17, 0, 2, 3, 6, 11, 18, 21, 19,
         ],
