@@ -156,7 +156,7 @@ fn whole_texts_of_control(rt: HostRuntime) {
 }
 
 #[test]
-fn parameters(rt: HostRuntime) -> Result<(), Fail> {
+fn parameters_from_zero_on(rt: HostRuntime) -> Result<(), Fail> {
     for (dense, shown) in [
         (0, "0"),
         (1, "0.001"),
@@ -182,6 +182,11 @@ AMD: approximate minimum degree ordering
         )?;
         check_control(&rt, rt.alloc(), dense, false, &text);
     }
+    Ok(())
+}
+
+#[test]
+fn negative_parameters(rt: HostRuntime) -> Result<(), Fail> {
     for (dense, shown) in [
         (-1, "-0.001"),
         (-1000, "-1"),
