@@ -1,6 +1,6 @@
 // The lists of the neighbours of each row, each in the order in which the walk over the edges meets those of its row: one after
 // another in a workspace, or each in a vector of its own. Each form has a visitor of the walk that fills it. Source: Amestoy,
-// Davis and Duff 2004. Called by tests alone so far; an engine will start from them.
+// Davis and Duff 2004. `plain_1` of the crate `amd_engine` starts from the vectors; the workspace is for an engine in place.
 
 ghost use Rattle.std.specs.Prelude.{◌≡◌, ◌<◌, ◌≤◌, ℕ, [], pos, map, length, slice_index, slice_index_or, slice_range, IfOk};
 ghost use Rattle.std.specs.Vec.{vec_capacity};

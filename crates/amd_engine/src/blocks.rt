@@ -16,6 +16,7 @@ ghost use Rattle.amd_trees.specs.Trees.{IsByPlace, IsPostorderOf, link_of};
 
 use amd_numbers::amd::Status;
 use amd_numbers::internal::{EMPTY, link_at};
+use amd_rounds::start::empty_lists;
 use amd_rounds::work::Work;
 use amd_trees::postorder::postorder;
 use std::alloc::{AllocError, Allocator};
@@ -66,18 +67,6 @@ fn element_of<A: Allocator>(link: &mut Vec<Option<usize>, A>, v: usize) -> usize
     let root = root_of(link, v);
     shortcut(link, v, root);
     root
-}
-
-/// A number of empty lists.
-fn empty_lists<A: Allocator + Copy>(alloc: A, n: usize) -> Result<Vec<Vec<usize, A>, A>, AllocError>
-    ensures size { IfOk result (λ rows. length rows.items ≡ n) }
-    ensures empty { IfOk result (λ rows. (e : ℕ) → list_at rows.items e ≡ []) }
-{
-    let mut rows = Vec::new(alloc);
-    'lists: for _k in 0..n {
-        rows.push(Vec::new(alloc))?;
-    }
-    Ok(rows)
 }
 
 /// The rows of each block at the end, rising, without the pivot row.

@@ -1,5 +1,5 @@
 // The number of edges above which a row is dense. The rule is that of the AMD user guide, with the parameter in thousandths
-// and a whole root in place of a float's. Called by `order` of the crate `amd`.
+// and a whole root in place of a float's. Called by `plain_1` of the crate `amd_engine`.
 
 ghost use Rattle.std.specs.Prelude.{pos};
 ghost use Rattle.amd_model.specs.Input.Dense.{IsRawThreshold, IsThreshold};

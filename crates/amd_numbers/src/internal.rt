@@ -1,6 +1,7 @@
 // Reading numbers of the caller's integer type, and making them. Later proofs speak of the integers alone, and never of the
-// laws of generic numbers. Called by `walk` and `permutations`, by the modules of the crate `amd`, and by `amd_bench`.
-// At the end, the shares of a front in the figures, called by `figures`: the rule is that of the AMD user guide.
+// laws of generic numbers. Called by `permutations`, by `walk` of the crate `amd_edges`, by the modules of `amd_input`, and by
+// `order`. Then links, which `amd_trees` and `blocks` of `amd_engine` use; and the shares of a front in the figures, called by
+// `figures`: the rule is that of the AMD user guide.
 
 ghost use Rattle.std.specs.Prelude.{◌≡◌, ◌<◌, ◌^◌, ◌↔◌, ◌<ℤ◌, IsTrue, length, map, pos, slice_index, slice_set, unsigned_abs};
 ghost use Rattle.std.specs.Int.{FitsUnsignedBits};

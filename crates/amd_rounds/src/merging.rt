@@ -56,7 +56,7 @@ fn same_list(list: &[usize], other: &[usize], marks: &[bool]) -> bool
     list.len() == other.len() && all_marked(list, marks)
 }
 
-/// The first class of a group that keeps the same elements and the same variables as the class `i`, whose lists are marked.
+/// A class of a group that keeps the same elements and the same variables as the class `i`, whose lists are marked.
 fn first_alike<A: Allocator>(
     i: usize,
     group: &[usize],

@@ -13,10 +13,10 @@ use Rattle.amd_engine.proofs.blocks.rows_of_elements.Goals.{then-is_some+in_ok-p
 pub rows-init : goal.rows-init
 rows-init g c = record {
   size = refl;
-  room = (let a = c.in_ok-rows.ensures.size in let b = c.len.ensures in omega (arith, a, b));
+  room = (let a = c.in_ok-rows.ensures.0 in let b = c.len.ensures in omega (arith, a, b));
   alone = λ u. refl;
   led = λ home led. led;
-  rows = λ home led over e l. c.in_ok-rows.ensures.empty e ∙ sym (below_none (λ v. block_at e (home v) && not (v == e)));
+  rows = λ home led over e l. c.in_ok-rows.ensures.1 e ∙ sym (below_none (λ v. block_at e (home v) && not (v == e)));
 }
 
 pub element_of-requires-clause-led : goal.element_of-requires-clause-led
