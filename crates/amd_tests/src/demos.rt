@@ -1,6 +1,8 @@
 // The demos, over writers that keep what they take: whole texts, matrices of the other kind and matrices that are none, refused
 // memory, and writers with faults.
 
+ghost use Rattle.std.specs.Prelude.{◌<◌};
+
 use crate::demo_texts::{JUMBLED, ORDER, SIMPLE};
 use amd_demos::can_24::{JUMBLED_POINTERS, JUMBLED_ROWS, POINTERS, ROWS};
 use amd_demos::demo::{Form, demo_to};
@@ -252,7 +254,9 @@ fn calls_of(alloc: Global, demo: Demo) -> u64 {
 
 /// Asserts that a demo stops at a fault, with a fault at one call in `step`, and at the last one, and that it meets none after
 /// that.
-fn check_faults(rt: &impl Abort, alloc: Global, demo: Demo, step: usize) -> Result<(), AllocError> {
+fn check_faults(rt: &impl Abort, alloc: Global, demo: Demo, step: usize) -> Result<(), AllocError>
+    requires { 0 < step }
+{
     let calls = calls_of(alloc, demo);
     assert!(rt; 0 < calls && calls < MANY, "{demo:?}");
     for fault in [Fault::Fails, Fault::TakesNothing] {
