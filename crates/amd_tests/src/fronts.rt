@@ -2,8 +2,8 @@
 
 use crate::numbers_of;
 use amd::Info;
-use amd_numbers::figures::Figures;
 use amd_engine::internal::front_counts;
+use amd_numbers::figures::Figures;
 
 /// A front, and its shares.
 #[derive(Drop)]

@@ -46,8 +46,7 @@ fn sees_a_symmetric_pattern(rt: HostRuntime) -> Result<(), Fail> {
 fn transposes(rt: HostRuntime) {
     let heap = rt.alloc();
     // The last two row indices stand past the last pointer, and are no rows.
-    let Ok((pointers, rows)) = preprocess(heap, 3i32, &[0, 3, 3, 4], &[2, 0, 2, 1, -5, 77])
-    else {
+    let Ok((pointers, rows)) = preprocess(heap, 3i32, &[0, 3, 3, 4], &[2, 0, 2, 1, -5, 77]) else {
         panic!(rt; "no answer");
     };
     assert!(rt; pointers.as_slice() == [0, 1, 2, 3].as_slice());
