@@ -2,6 +2,7 @@
 // the factor needs, and nothing fills in where the graph is a forest without dense rows.
 
 use crate::factors::{check_bounds, check_forest};
+use crate::numbers_of;
 use amd::{Control, Info, order};
 use amd_testing::factors::Factor;
 use amd_testing::inputs::{
@@ -135,6 +136,31 @@ fn complete_graphs(rt: HostRuntime) -> Result<(), Fail> {
     for n in 1..=20 {
         check(&rt, heap, n, complete_below(heap, n)?)?;
     }
+    Ok(())
+}
+
+/// A complete graph with more entries than 16 bits count. One step eliminates all rows, and the figures are sums over columns
+/// of 0 to 362 entries.
+#[test]
+fn a_complete_graph_with_many_entries(rt: HostRuntime) -> Result<(), Fail> {
+    let heap = rt.alloc();
+    let (a_p, a_i) = complete_below(heap, 363)?;
+    let control = Control {
+        dense: i32::MAX,
+        aggressive: true,
+    };
+    let Ok((p, _, info)) = order(heap, 363, &a_p, &a_i, &control) else {
+        panic!(rt; "no answer");
+    };
+    for place in 0..363 {
+        assert_eq!(rt; plain::count_at(&p, place), place);
+    }
+    assert_eq!(rt;
+        numbers_of(&info),
+        [
+            363, 65703, 0, 131406, 0, 0, 65703, 65703, 7971964, 15878225, 363
+        ]
+    );
     Ok(())
 }
 
