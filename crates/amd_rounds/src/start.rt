@@ -12,7 +12,10 @@ use amd_numbers::figures::Figures;
 use std::alloc::{AllocError, Allocator};
 
 /// As many lists as there are rows, with nothing in them. Called by `blocks` of the crate `amd_engine` too.
-pub fn empty_lists<A: Allocator + Copy>(alloc: A, n: usize) -> Result<Vec<Vec<usize, A>, A>, AllocError>
+pub fn empty_lists<A: Allocator + Copy>(
+    alloc: A,
+    n: usize,
+) -> Result<Vec<Vec<usize, A>, A>, AllocError>
     ensures { IfOk result (λ v. (length v.items ≡ n) × ((i : ℕ) → list_at v.items i ≡ [])) }
 {
     let mut lists = Vec::with_capacity(alloc, n)?;
