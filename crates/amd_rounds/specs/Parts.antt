@@ -1,5 +1,5 @@
 -- The three parts of a round of the plain engine, each between the record before and after it.
-use Rattle.std.specs.Prelude.{ℕ, Bool, true, false, Option, Some, List, ◌∷◌, ◌++◌, ◌≡◌, ◌≤◌, ◌==◌, ◌&&◌, ◌||◌, ◌+◌, ◌-◌, not, cond, max, length, filter, flat_map, sum_by}
+use Rattle.std.specs.Prelude.{ℕ, Bool, true, false, Option, Some, List, ◌∷◌, ◌++◌, ◌≡◌, ◌≤◌, ◌⊎◌, ◌==◌, ◌&&◌, ◌||◌, ◌+◌, ◌-◌, not, cond, max, length, filter, flat_map, sum_by}
 use Rattle.amd_model.specs.Figures.{cut, front_sum, entries, ldl_steps, lu_steps}
 use Rattle.amd_model.specs.Tie.{has, last_that, turned}
 use Rattle.amd_rounds.specs.Views.{num, some_at, list_at, live_of}
@@ -64,6 +64,7 @@ pub record RenewsClasses {A : Type 0} (c : ℕ) (made : List ℕ) (border block 
   pub members_is : (e : ℕ) → list_at v.lists.members.items e ≡ cond (e == c) made (list_at w.lists.members.items e)
   pub placed_is : (b : ℕ) → list_at v.placed.items b ≡ list_at w.placed.items b ++ filter (λ i. num v.bound.items i == b) made
   pub least_is : (v.least ≤ w.least) × ((i : ℕ) → has made i ≡ true → v.least ≤ num v.bound.items i)
+  pub least_one : (v.least ≡ w.least) ⊎ ((i : ℕ) × (has made i ≡ true) × (v.least ≡ num v.bound.items i))
   pub blocks : (e : ℕ) → num v.block.items e ≡ cond (e == c) block (num w.block.items e)
   pub fronts : (e : ℕ) → num v.front.items e ≡ cond (e == c) (block + border) (num w.front.items e)
   pub lnz : v.figures.lnz ≡ cut (w.figures.lnz + front_sum entries block (border + w.n_dense))

@@ -2,7 +2,7 @@
 // another bound, or is a class no longer, is passed over when it is met. Source: Amestoy, Davis and Duff 1996 (degree lists).
 // For the rounds of an engine.
 
-ghost use Rattle.std.specs.Prelude.{◌≡◌, ◌<◌, ◌≤◌, ◌++◌, ◌==◌, ℕ, true, filter, length, OnOk};
+ghost use Rattle.std.specs.Prelude.{◌≡◌, ◌<◌, ◌≤◌, ◌⊎◌, ◌++◌, ◌==◌, ℕ, true, filter, length, OnOk};
 ghost use Rattle.amd_model.specs.Tie.{has};
 ghost use Rattle.amd_rounds.specs.Views.{num, list_at, Below, ListsBelow};
 ghost use Rattle.amd_rounds.specs.Buckets.{live_in, Popped, Chosen};
@@ -62,6 +62,7 @@ pub fn place_all<A: Allocator>(
     ensures placed { OnOk result ((b : ℕ) → list_at lists.new.items b ≡ list_at lists.old.items b ++ filter (λ i. num bound.now i == b) made.now) }
     ensures range { OnOk result (ListsBelow (length bound.now) lists.new.items) }
     ensures least { OnOk result ((least.new ≤ least.old) × ((i : ℕ) → has made.now i ≡ true → least.new ≤ num bound.now i)) }
+    ensures one { OnOk result ((least.new ≡ least.old) ⊎ ((i : ℕ) × (has made.now i ≡ true) × (least.new ≡ num bound.now i))) }
 {
     for i in made {
         let b = bound[*i];

@@ -1,4 +1,4 @@
-use Rattle.std.proofs.Common.{ℕ, List, [], ◌∷◌, ◌++◌, filter, ◌≡◌, ◌<◌, ◌≤◌, ◌+◌, ◌∙◌, sym, ap, arith, subst, length, get_or, drop}
+use Rattle.std.proofs.Common.{ℕ, true, List, [], ◌∷◌, ◌++◌, filter, ◌≡◌, ◌<◌, ◌≤◌, ◌⊎◌, ◌+◌, ◌∙◌, inl, inr, sym, ap, arith, subst, length, get_or, drop}
 use Rattle.std.specs.Prelude.{◌==◌}
 use Rattle.std.proofs.lemmas.List.{at_drop_more}
 use Rattle.std.proofs.lemmas.List.Elements.{All-push}
@@ -46,7 +46,14 @@ loop-i-preserved g c =
       placed = λ a. pushed lists new bound row (drop (i + 1) made) room items a ∙ sym (at_drop_more (λ xs. list_at lists a ++ filter (λ j. bound j == a) xs) made i 0 here) ∙ was.placed a;
       before = omega (arith, lower, before);
       least = λ j h. least_next made bound i c.if-b-least.least here low j (least_lower (has (drop i made) j) c.loop-i.least c.if-b-least.least (bound j) lower (was.least j h));
+      one = elim c.if-b-least.branch [
+        | then-b-least w ↦ inr (row, has_at made i here, w.least-is)
+        | else-b-least w ↦ subst (λ x. (x ≡ c.args.least.now) ⊎ ((j : ℕ) × (has made j ≡ true) × (x ≡ bound j))) (sym w.least-is) was.one
+      ];
     }
 
 pub returns-clause-least : goal.returns-clause-least
 returns-clause-least g c = (c.loop-i.invariant.before, λ j h. least_end c.args.made.now c.loop-i.i-index c.loop-i.least (num c.args.bound.now j) j c.loop-i-test.false (c.loop-i.invariant.least j h))
+
+pub returns-clause-one : goal.returns-clause-one
+returns-clause-one g c = c.loop-i.invariant.one

@@ -10,4 +10,5 @@ invariant-loop-i g l = record {
   placed : (b : ℕ) → list_at l.lists.items b ++ filter (λ i. num l.bound i == b) (drop l.i-index l.made) ≡ list_at l.fn.lists.items b ++ filter (λ i. num l.bound i == b) l.made;
   before : l.least ≤ l.fn.least;
   least : (i : ℕ) → has l.made i ≡ true → (has (drop l.i-index l.made) i ≡ true) ⊎ (l.least ≤ num l.bound i);
+  one : (l.least ≡ l.fn.least) ⊎ ((i : ℕ) × (has l.made i ≡ true) × (l.least ≡ num l.bound i));
 }

@@ -1,4 +1,4 @@
-use Rattle.std.proofs.Common.{rules, ℕ, true, List, ◌∷◌, ◌++◌, ◌≡◌, ◌<◌, ◌+◌, ◌∙◌, ◌==◌, ap, refl, sym, arith, subst, cond, filter, length, length-set}
+use Rattle.std.proofs.Common.{rules, ℕ, true, List, ◌∷◌, ◌++◌, ◌≡◌, ◌<◌, ◌+◌, ◌∙◌, ◌==◌, inl, inr, ap, refl, sym, arith, subst, cond, filter, length, length-set}
 use Rattle.amd_model.specs.Tie.{has, turned}
 use Rattle.amd_rounds.specs.Views.{num, list_at, ListsBelow}
 use Rattle.amd_rounds.proofs.BucketLists.{lists_set}
@@ -122,6 +122,10 @@ returns g c =
         placed_is = λ b. placing.placed b ∙ ap (λ l. list_at c.args.work.now.placed.items b ++ filter (λ i. num l i == b) c.deref-5.result.now) c.deref-6.ensures.value
             ∙ ap (λ l. list_at c.args.work.now.placed.items b ++ filter (λ i. num bound i == b) l) c.deref-5.ensures.value;
         least_is = (placing.least.0, λ i h. (let low = placing.least.1 i (ap (λ l. has l i) c.deref-5.ensures.value ∙ h) in let e = ap (λ l. num l i) c.deref-6.ensures.value in omega (arith, low, e)));
+        least_one = elim placing.one [
+          | inl e ↦ inl e
+          | inr k ↦ inr (k.0, sym (ap (λ l. has l k.0) c.deref-5.ensures.value) ∙ k.1, k.2 ∙ ap (λ l. num l k.0) c.deref-6.ensures.value)
+        ];
         blocks = written c.args.work.now.block.items p c.args.block block_room;
         fronts = written c.args.work.now.front.items p (c.args.block + c.args.border) front_room;
         lnz = c.add_front.ensures.lnz;
