@@ -1,11 +1,12 @@
 //! What the tests of an ordering stand on: an allocator that refuses one chosen request, writers with a fault at a chosen
-//! call, families of inputs, and the definitions of an input, of its pattern and of a factor in a plain, slow form to compare
-//! with.
+//! call, families of inputs, the numbers of a record, and the definitions of an input, of its pattern and of a factor in a
+//! plain, slow form to compare with.
 #![tactic(auto)]
 
 pub mod factors;
 pub mod forests;
 pub mod inputs;
 pub mod plain;
+pub mod records;
 pub mod refusing;
 pub mod writers;

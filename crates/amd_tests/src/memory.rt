@@ -1,12 +1,12 @@
 // Refused memory: each request in turn is refused, until a run makes no request of that number. Each run that met a refusal
 // answers `OutOfMemory`, and the first one without gives the answer.
 
-use crate::numbers_of;
 use crate::worked::{Case, DENSE_ROW, SMALL_MATRICES, check_answer, with_dense};
 use amd::aat::aat;
 use amd::preprocess::preprocess;
 use amd::valid::valid;
 use amd::{Control, Info, Status, order};
+use amd_testing::records::numbers_of;
 use amd_testing::refusing::Refusing;
 use std::alloc::Global;
 use std::process::Abort;

@@ -1,7 +1,7 @@
 // The twelve integer types: one input in each of them, and the ends of their ranges.
 
-use crate::numbers_of;
 use amd::{Control, Status, order};
+use amd_testing::records::numbers_of;
 use num_traits::PrimInt;
 use std::alloc::Global;
 use std::process::Abort;

@@ -2,13 +2,13 @@
 // the factor needs, and nothing fills in where the graph is a forest without dense rows.
 
 use crate::factors::{check_bounds, check_forest};
-use crate::numbers_of;
 use amd::{Control, Info, order};
 use amd_testing::factors::Factor;
 use amd_testing::inputs::{
     complete_below, cycle, drawn, drawn_with_hub, grid, path, star, star_to_last,
 };
 use amd_testing::plain;
+use amd_testing::records::numbers_of;
 use std::alloc::{AllocError, Global};
 use std::process::Abort;
 use std::test::Fail;

@@ -2,11 +2,11 @@
 // crate `amd`, and from a plain program that follows the rules.
 
 use crate::factors::check_bounds;
-use crate::numbers_of;
 use amd::{Control, Info, Status, order};
 use amd_demos::can_24::{JUMBLED_POINTERS, JUMBLED_ROWS, POINTERS, ROWS};
 use amd_testing::inputs::{complete, star};
 use amd_testing::plain::are_inverse;
+use amd_testing::records::numbers_of;
 use std::alloc::{AllocError, Global};
 use std::process::Abort;
 use std::test::Fail;

@@ -1,9 +1,9 @@
 // The lists of the neighbours of each row, in the order in which the walk meets the edges.
 
-use amd::aat::aat;
-use amd::valid::valid;
-use amd::{Info, Status};
 use amd_edges::lists::{Lists, neighbours, starting_lists};
+use amd_input::aat::aat;
+use amd_input::valid::valid;
+use amd_numbers::amd::{Info, Status};
 use std::alloc::Global;
 use std::process::Abort;
 

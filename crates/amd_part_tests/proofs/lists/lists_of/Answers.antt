@@ -4,7 +4,7 @@ use Rattle.amd_model.specs.Graph.{degree, degree_sum}
 use Rattle.amd_model.specs.Input.Pattern.{graph_of}
 use Rattle.amd_edges.specs.Visits.{AreCounts, start_of}
 use Rattle.amd_input.specs.Degrees.{AreDegrees}
-use Rattle.amd_tests.proofs.lists.lists_of.Goals as goal
+use Rattle.amd_part_tests.proofs.lists.lists_of.Goals as goal
 
 module _ (n : ℕ) (ap' ai : List ℤ) (total : ℕ) (degrees : List ℕ) (h : AreDegrees n ap' ai total degrees) where
   degrees_count : AreCounts (graph_of n ap' ai) ((graph_of n ap' ai).edge) degrees

@@ -1,9 +1,9 @@
 // The shares of a front in the figures, and their sums. The expected numbers are sums over columns, worked outside.
 
-use crate::numbers_of;
-use amd::Info;
 use amd_engine::internal::front_counts;
+use amd_numbers::amd::Info;
 use amd_numbers::figures::Figures;
+use amd_testing::records::numbers_of;
 
 /// A front, and its shares.
 #[derive(Drop)]
