@@ -103,6 +103,13 @@ fn check_tree(
 }
 
 #[test]
+fn rows_without_edges(rt: HostRuntime) -> Result<(), Fail> {
+    let heap = rt.alloc();
+    check_tree(&rt, heap, 255, (vec![in heap; 0; 256]?, Vec::new(heap)))?;
+    Ok(())
+}
+
+#[test]
 fn paths(rt: HostRuntime) -> Result<(), Fail> {
     let heap = rt.alloc();
     for n in 1..=30 {
