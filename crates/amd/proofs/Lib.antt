@@ -1,2 +1,3 @@
 pub mod SamePairs
 pub mod Orderings
+pub mod OneAnswer

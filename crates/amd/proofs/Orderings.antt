@@ -27,7 +27,7 @@ use Rattle.amd_input.specs.Degrees.{AreDegrees}
 use Rattle.amd.proofs.SamePairs.{figures_turned, graph_turned, graph_same, pairs_same, pairs_turned}
 
 -- functions of two numbers that agree everywhere are one
-same_pairs : (f h : ℕ → ℕ → Bool) → ((i j : ℕ) → f i j ≡ h i j) → f ≡ h
+pub same_pairs : (f h : ℕ → ℕ → Bool) → ((i j : ℕ) → f i j ≡ h i j) → f ≡ h
 same_pairs f h e = λ k i j. e i j k
 
 -- an ordering of the transpose is one of the matrix, whatever status its record gets
@@ -139,7 +139,7 @@ root_one n (pos t) d e a b = greatest_one (λ m. (1000 * m) * (1000 * m) ≤ t *
 root_one n (negsuc t) d e a b = a ∙ sym b
 
 -- a size and a parameter have one threshold
-threshold_one : (n : ℕ) (t : ℤ) (x y : ℕ) → IsThreshold n t x → IsThreshold n t y → x ≡ y
+pub threshold_one : (n : ℕ) (t : ℤ) (x y : ℕ) → IsThreshold n t x → IsThreshold n t y → x ≡ y
 threshold_one n t x y a b = a.2 ∙ ap (λ d. min (max d 16) n) (root_one n t a.0 b.0 a.1 b.1) ∙ sym b.2
 
 -- two truth values of one fact
@@ -150,7 +150,7 @@ same_truth true false p q = sym (q.1 (p.0 refl))
 same_truth false true p q = p.1 (q.0 refl)
 
 -- orderings of two inputs with the same pairs tell the same
-wells_equal : (n : ℕ) (t : ℤ) (x y : Bool) (u v : ℕ → ℕ → Bool) (a_p a_i b_p b_i p q r s : List ℤ) (one other : Info) → OrdersMatrix n t x u a_p a_i p q one → OrdersMatrix n t y v b_p b_i r s other → SamePattern n a_p a_i b_p b_i → HaveEqualFigures one other
+pub wells_equal : (n : ℕ) (t : ℤ) (x y : Bool) (u v : ℕ → ℕ → Bool) (a_p a_i b_p b_i p q r s : List ℤ) (one other : Info) → OrdersMatrix n t x u a_p a_i p q one → OrdersMatrix n t y v b_p b_i r s other → SamePattern n a_p a_i b_p b_i → HaveEqualFigures one other
 unfolding graph_of pair_count diagonal_count
 wells_equal n t x y u v a_p a_i b_p b_i p q r s one other o k same =
     let pairs = pairs_same n a_p a_i b_p b_i same in

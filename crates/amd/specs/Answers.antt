@@ -101,3 +101,9 @@ pub record HaveEqualFigures (one other : Info) : Type 0 where
   pub diagonal : one.nz_diag ≡ other.nz_diag
   pub off_diagonal : one.nz_a_plus_at ≡ other.nz_a_plus_at
   pub dense : one.n_dense ≡ other.n_dense
+
+-- two answers are one: both lists, and the records but for the count of compactions
+pub record AreOneAnswer (p q r s : List ℤ) (one other : Info) : Type 0 where
+  pub order : p ≡ r
+  pub inverse : q ≡ s
+  pub tells : record one { n_cmp_a = 0 } ≡ record other { n_cmp_a = 0 }

@@ -46,3 +46,4 @@ pub mod Pointers
 pub mod DegreeSums
 pub mod Orderings
 pub mod StepFronts
+pub mod OneOrdering

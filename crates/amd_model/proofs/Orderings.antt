@@ -1,13 +1,12 @@
 -- What is promised of an ordering, put together; and states that follow the rules are a run.
-use Rattle.std.proofs.Common.{ℕ, Bool, true, false, ◌≡◌, sym, ◌∙◌, ap, List, [], ◌∷◌, ◌++◌, refl}
+use Rattle.std.proofs.Common.{ℕ, Bool, true, false, ◌≡◌, ◌∙◌, List, [], ◌∷◌, ◌++◌, refl}
 use Rattle.std.proofs.lemmas.Bool.{cases_Bool}
 use Rattle.std.proofs.Common.{inl, inr}
 use Rattle.amd_model.specs.Graph.{Graph, IsGraph}
-use Rattle.amd_model.specs.State.{State, Live, live, IsStart}
+use Rattle.amd_model.specs.State.{State, live, IsStart}
 use Rattle.amd_model.specs.Step.{StepAt}
 use Rattle.amd_model.specs.Run.{Run, Steps, last_state}
-use Rattle.amd_model.specs.Sound.{IsSound}
-use Rattle.amd_model.specs.Tie.{Tie, Fits, is_empty, pivot, next, has}
+use Rattle.amd_model.specs.Tie.{Tie, Fits, is_empty, pivot, next}
 use Rattle.amd_model.specs.Ordering.{Follows, none, more, OrderingsPromise}
 use Rattle.amd_model.proofs.StateLemmas.{live_gives, class_from}
 use Rattle.amd_model.proofs.SoundStart.{start_sound, steps_sound}

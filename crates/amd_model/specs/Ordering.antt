@@ -1,6 +1,6 @@
 -- What an ordering of a graph is: the listing of a run of the elimination with each choice made by the rules of Tie, and what
 -- holds of it. Source: Amestoy, Davis and Duff 1996 and 2004; George and Liu 1981.
-use Rattle.std.specs.Prelude.{ℕ, Bool, true, false, ◌≡◌, ◌≤◌, ◌*◌, ◌-◌, ◌/◌, ◌<◌, List, [], ◌∷◌}
+use Rattle.std.specs.Prelude.{ℕ, Bool, false, ◌≡◌, List, [], ◌∷◌}
 use Rattle.amd_model.specs.Below.{count_below}
 use Rattle.amd_model.specs.Graph.{Graph, IsGraph}
 use Rattle.amd_model.specs.State.{State}
@@ -48,3 +48,15 @@ pub record Promises (g : Graph) (dense : ℕ → Bool) (first : State) (states :
 abbrev pub OrderingsPromise : Type 0
 OrderingsPromise = (g : Graph) (dense : ℕ → Bool) (aggressive : Bool) (first : State) (states : List State) (p : List ℕ) →
     IsGraph g → Run g dense aggressive first states → IsPostorder g dense (last_state first states) p → Promises g dense first states p
+
+-- two states tell one tree: where each row is, and the border and the parent of each element
+pub record SameTree (s t : State) : Type 0 where
+  pub home : (v : ℕ) → s.home v ≡ t.home v
+  pub border : (e v : ℕ) → s.border e v ≡ t.border e v
+  pub parent : (e : ℕ) → s.parent e ≡ t.parent e
+
+-- from the same starting lists there is one ordering: its run ends in one tree, and it lists the same rows
+abbrev pub OneOrdering : Type 0
+OneOrdering = (g : Graph) (dense : ℕ → Bool) (aggressive : Bool) (lists : ℕ → List ℕ) (first other : State) (states others : List State) (p q : List ℕ) →
+    IsListingOf g dense aggressive lists first states p → IsListingOf g dense aggressive lists other others q →
+    (p ≡ q) × SameTree (last_state first states) (last_state other others)
