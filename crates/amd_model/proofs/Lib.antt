@@ -47,3 +47,4 @@ pub mod DegreeSums
 pub mod Orderings
 pub mod StepFronts
 pub mod OneOrdering
+pub mod TieFar

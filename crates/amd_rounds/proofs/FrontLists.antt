@@ -1,6 +1,6 @@
 -- The pivot and the list of its element are rows, and the list names each once and not the pivot.
-use Rattle.std.proofs.Common.{ℕ, Bool, true, false, List, [], ◌∷◌, ◌++◌, Some, ◌≡◌, ◌<◌, not, inl, inr, refl, sym, ◌∙◌, ap, subst}
-use Rattle.std.specs.Prelude.{Vec, filter, flat_map, nat_lt, ◌==◌}
+use Rattle.std.proofs.Common.{ℕ, true, false, List, [], ◌∷◌, ◌++◌, Some, ◌≡◌, ◌<◌, not, inl, inr, refl, sym, ◌∙◌, ap, subst}
+use Rattle.std.specs.Prelude.{Vec, flat_map, nat_lt, ◌==◌}
 use Rattle.std.proofs.lemmas.Bool.{cases_Bool, eq-eqb, or_cases, or_left, or_right, and_parts}
 use Rattle.amd_model.specs.Tie.{has, Once}
 use Rattle.amd_model.proofs.TieLists.{clash, has_append, has_filter, flat_gives, once_firsts, firsts as firsts_names}

@@ -1,16 +1,13 @@
--- A loop over a list writes at its numbers: what stands at each place then, and what is counted so far.
+-- A loop over a list writes at its numbers: what stands at each place then.
 use Rattle.std.proofs.Common.{ℕ, zero, suc, Bool, true, false, List, [], ◌∷◌, ◌++◌, ◌≡◌, ◌≢◌, ◌<◌, ◌+◌, ◌&&◌, ◌||◌, not, cond, inl, inr, refl, sym, ◌∙◌, ap, subst, arith, length, get_or, take, set, get_or-set_same, get_or-set_other, length-set}
-use Rattle.std.specs.Prelude.{filter, sum_by, min, ◌==◌}
+use Rattle.std.specs.Prelude.{filter, ◌==◌}
 use Rattle.std.proofs.lemmas.Bool.{cases_eq, cond-true, cond-false, and_from, eq-eqb, ne_eqb, or_left, or_right, or_from, not_from_true, not_from_false, and_right}
 use Rattle.std.proofs.lemmas.List.{take_more, append-nil, map-set, length-map}
 use Rattle.std.specs.Prelude.{Vec, map}
 use Rattle.std.proofs.lemmas.List.Elements.{filter_more, All-filter, All-set}
-use Rattle.std.proofs.lemmas.List.Sums.{sum_by-append}
-use Rattle.amd_model.specs.Figures.{cut}
 use Rattle.amd_model.specs.Tie.{has, is_empty, Once}
 use Rattle.amd_model.proofs.TieLists.{has_append, clash}
-use Rattle.amd_rounds.specs.Views.{num, list_at, Below, ListsBelow}
-use Rattle.amd_rounds.specs.Rounds.{rows_outside}
+use Rattle.amd_rounds.specs.Views.{list_at, Below, ListsBelow}
 use Rattle.amd_rounds.proofs.MarkLists.{list_read}
 
 -- what stands at a place of a list is named by it
@@ -86,32 +83,6 @@ pub filter_passed : (test : ℕ → Bool) (xs : List ℕ) (k : ℕ) → k < leng
     filter (λ i. not (test i)) (take k xs) ≡ filter (λ i. not (test i)) (take (k + 1) xs)
 filter_passed test xs k here pass = let x : ℕ = get_or xs k 0 in let other : ℕ → Bool = λ i. not (test i) in
     sym (filter_more other xs k 0 here ∙ ap (λ l. filter other (take k xs) ++ l) (cond-false (other x) (x ∷ []) [] (not_from_true (test x) pass)) ∙ append-nil (filter other (take k xs)))
-
--- ---- sums as far as a word holds them
-
-pub cut_cut : (a b : ℕ) → cut (cut a + b) ≡ cut (a + b)
-unfolding cut
-cut_cut a b = omega arith
-
-pub cut_min : (a : ℕ) → min a 18446744073709551615 ≡ cut a
-unfolding cut
-cut_min a = refl
-
-pub cut_none : 0 ≡ cut 0
-unfolding cut
-cut_none = refl
-
--- the rows of the next class of a list are counted if it does not pass
-pub rows_more : (inside : ℕ → Bool) (size xs : List ℕ) (k : ℕ) → k < length xs → inside (get_or xs k 0) ≡ false →
-    cut (rows_outside inside size (take k xs) + num size (get_or xs k 0)) ≡ rows_outside inside size (take (k + 1) xs)
-rows_more inside size xs k here out = let x : ℕ = get_or xs k 0 in let outer : ℕ → Bool = λ j. not (inside j) in let before : List ℕ = filter outer (take k xs) in
-    cut_cut (sum_by (num size) before) (num size x)
-    ∙ ap cut (let a = sum_by-append (num size) before (x ∷ []) in omega (arith, a))
-    ∙ ap (λ l. cut (sum_by (num size) l)) (filter_next inside xs k here out)
-
-pub rows_same : (inside : ℕ → Bool) (size xs : List ℕ) (k : ℕ) → k < length xs → inside (get_or xs k 0) ≡ true →
-    rows_outside inside size (take k xs) ≡ rows_outside inside size (take (k + 1) xs)
-rows_same inside size xs k here pass = ap (λ l. cut (sum_by (num size) l)) (filter_passed inside xs k here pass)
 
 -- ---- lists at places
 

@@ -1,20 +1,23 @@
 -- What an absorption finds and leaves in the lists of a record is what the rules say of the lists that it keeps.
-use Rattle.std.proofs.Common.{ℕ, Bool, true, false, Option, Some, List, [], ◌∷◌, ◌++◌, ◌≡◌, ◌<◌, ◌≤◌, ◌+◌, ◌&&◌, ◌||◌, not, cond, inl, inr, refl, sym, ◌∙◌, ap, arith}
+use Rattle.std.proofs.Common.{ℕ, Bool, true, false, Option, Some, List, [], ◌∷◌, ◌++◌, ◌≡◌, ◌<◌, ◌+◌, ◌-◌, ◌&&◌, ◌||◌, not, cond, inl, inr, refl, sym, ◌∙◌, ap, subst, arith}
 use Rattle.std.specs.Prelude.{filter, flat_map, sum_by, nat_eq, nat_lt, ◌==◌}
-use Rattle.std.proofs.lemmas.Bool.{cases_Bool, cond-true, cond-false, and_parts, and_from, or_cases, or_left, or_right, or_parts, eqb-true, eq-eqb, ne_eqb, not-true, not_from_true, not_from_false, ltb-true, ltb-false}
+use Rattle.std.proofs.lemmas.Bool.{cases_Bool, cond-true, cond-false, and_parts, and_from, or_cases, or_left, or_right, or_parts, eqb-true, eq-eqb, not-true, not_from_true, not_from_false, ltb-true}
 use Rattle.std.proofs.lemmas.List.Sums.{sum_by-cons}
-use Rattle.amd_model.specs.Figures.{cut}
-use Rattle.amd_model.specs.Graph.{Graph}
-use Rattle.amd_model.specs.State.{State, Live}
+use Rattle.amd_model.specs.Below.{count_below}
+use Rattle.amd_model.specs.Graph.{Graph, IsGraph}
+use Rattle.amd_model.specs.Sound.{IsSound}
+use Rattle.amd_model.specs.State.{State, Live, stands}
 use Rattle.amd_model.specs.Tie.{Tie, Fits, Once, has, each, is_empty, gathered, takes, kept_elements, kept_variables}
 use Rattle.amd_model.proofs.StateLemmas.{class_gives, class_from, holds_gives, neighbours_gives}
 use Rattle.amd_model.proofs.TieLists.{same_bool, clash, has_append, has_filter, each_gives, empty_gives, some_of, once_firsts, flat_gives, flat_from, firsts as firsts_names}
 use Rattle.amd_rounds.specs.Views.{num, some_at, list_at, live_of}
-use Rattle.amd_rounds.specs.Rounds.{firsts, rows_outside, Absorbed}
+use Rattle.amd_rounds.specs.Rounds.{firsts, Absorbed}
 use Rattle.amd_rounds.specs.Keeps.{Keeps}
 use Rattle.amd_rounds.specs.declared.work.Lists.{Lists}
 use Rattle.amd_rounds.specs.declared.work.Work.{Work}
+use Rattle.amd_model.proofs.TieFar.{border_parts}
 use Rattle.amd_rounds.proofs.KeptParts.{filter_agree}
+use Rattle.amd_rounds.proofs.Taken.{taken_off}
 
 -- ---- lists
 
@@ -49,27 +52,6 @@ filter_twice p q (x ∷ xs) = elim (cases_Bool (p x)) [
       ∙ sym (ap (filter q) (cond-false (p x) (x ∷ filter p xs) (filter p xs) h))
 ]
 
--- what has no row adds none to a sum
-sum_live : (size : List ℕ) (p : ℕ → Bool) (xs : List ℕ) → sum_by (num size) (filter p xs) ≡ sum_by (num size) (filter p (live_of size xs))
-sum_live size p [] = refl
-sum_live size p (x ∷ xs) = let rest = sum_live size p xs in elim (cases_Bool (nat_lt 0 (num size x))) [
-  | inl h ↦ both (p x) (filter p xs) (filter p (live_of size xs)) rest
-      ∙ sym (ap (λ l. sum_by (num size) (filter p l)) (cond-true (nat_lt 0 (num size x)) (x ∷ live_of size xs) (live_of size xs) h))
-  | inr h ↦ none (p x) (filter p xs) (ltb-false 0 (num size x) h) ∙ rest
-      ∙ sym (ap (λ l. sum_by (num size) (filter p l)) (cond-false (nat_lt 0 (num size x)) (x ∷ live_of size xs) (live_of size xs) h))
-]
-  where
-    cons : (ys : List ℕ) → sum_by (num size) (x ∷ ys) ≡ num size x + sum_by (num size) ys
-    cons ys = sum_by-cons (num size) x ys
-
-    both : (b : Bool) (ys zs : List ℕ) → sum_by (num size) ys ≡ sum_by (num size) zs → sum_by (num size) (cond b (x ∷ ys) ys) ≡ sum_by (num size) (cond b (x ∷ zs) zs)
-    both true ys zs e = cons ys ∙ ap (λ m. num size x + m) e ∙ sym (cons zs)
-    both false ys zs e = e
-
-    none : (b : Bool) (ys : List ℕ) → num size x ≤ 0 → sum_by (num size) (cond b (x ∷ ys) ys) ≡ sum_by (num size) ys
-    none true ys e = let a = cons ys in omega (arith, a, e)
-    none false ys e = refl
-
 -- the sum of what fails a test is nothing if all pass
 each_none : (f : ℕ → ℕ) (p : ℕ → Bool) (xs : List ℕ) → each p xs ≡ true → sum_by f (filter (λ j. not (p j)) xs) ≡ 0
 unfolding each
@@ -87,14 +69,6 @@ none_each f p (x ∷ xs) some h = let others : List ℕ = filter (λ j. not (p j
       | inr k ↦ (let e = sym (ap (sum_by f) (cond-true (not (p x)) (x ∷ others) others (not_from_false (p x) k))) ∙ h in let a = sum_by-cons f x others in
           let b = some x (or_left (x == x) (has xs x) (eq-eqb x x refl)) in absurd (omega (arith, e, a, b)))
     ]
-
-cut_none : (x : ℕ) → cut x ≡ 0 → x ≡ 0
-unfolding cut
-cut_none x h = omega (arith, h)
-
-none_cut : (x : ℕ) → x ≡ 0 → cut x ≡ 0
-unfolding cut
-none_cut x h = omega (arith, h)
 
 -- ---- the lists of a record
 
@@ -160,18 +134,9 @@ module _ (g : Graph) (s : State) (t : Tie) (fits : Fits g t s) {A : Type 0} (w :
       let some = ltb-true 0 (num size i) (and_parts (has members i) (nat_lt 0 (num size i)) named).1 in
       let same = kept.size i (member_class e i h) in omega (arith, some, same)
 
-  -- the rows of an element outside the front, as the record has them
-  rows_far : (e : ℕ) → is_empty (t.members e) ≡ false → has (t.elements c) e ≡ false →
-      rows_outside (λ j. j == c || has (gathered t c) j) w.size.items (list_at w.lists.members.items e) ≡ cut (sum_by t.size (filter (λ j. not (has (gathered t c) j)) (t.members e)))
-  rows_far e some apart =
-      let size : List ℕ = w.size.items in let outer : ℕ → Bool = λ j. not (j == c || has (gathered t c) j) in let other : ℕ → Bool = λ j. not (has (gathered t c) j) in
-      ap cut (sum_live size outer (list_at w.lists.members.items e)
-      ∙ ap (λ l. sum_by (num size) (filter outer l)) (kept.members e some)
-      ∙ ap (sum_by (num size)) (filter_same outer other (t.members e) (λ j h. ap (λ b. not (b || has (gathered t c) j)) (ne_eqb j c (λ q. clash (member_element e c (ap (has (t.members e)) (sym q) ∙ h)) apart))))
-      ∙ sum_same (num size) t.size (filter other (t.members e)) (λ j h. kept.size j (member_class e j (and_parts (has (t.members e) j) (other j) (sym (has_filter other (t.members e) j) ∙ h)).0)))
-
   -- ---- after an absorption
-  module _ (aggressive : Bool) (new : Lists A) (before after : List (Option ℕ)) (beyond : List ℕ) (a : Absorbed aggressive c (gathered t c) w.size.items w.lists new before after beyond) where
+  module _ (aggressive : Bool) (new : Lists A) (before after : List (Option ℕ)) (beyond : List ℕ) (a : Absorbed aggressive c (gathered t c) w.size.items w.block.items w.front.items w.lists new before after beyond)
+      (laws : IsGraph g) (sound : IsSound g s) (borders : (e : ℕ) → stands g s e ≡ true → num w.front.items e - num w.block.items e ≡ count_below g.size (s.border e)) where
     own_is : (e : ℕ) → has (list_at w.lists.elements.items c) e ≡ has (t.elements c) e
     own_is e = ap (λ l. has l e) (kept.elements c class)
 
@@ -192,8 +157,16 @@ module _ (g : Graph) (s : State) (t : Tie) (fits : Fits g t s) {A : Type 0} (w :
         (from.0, from.1, sym (ap (λ l. has l e) (kept.elements from.0 (front_placed from.0 from.1))) ∙ from.2)
 
     -- the rows counted of an element that is touched
-    counted_far : (e : ℕ) → has a.touched e ≡ true → is_empty (t.members e) ≡ false → has (t.elements c) e ≡ false → num beyond e ≡ cut (sum_by t.size (filter (λ j. not (has (gathered t c) j)) (t.members e)))
-    counted_far e h some apart = a.counted e h ∙ rows_far e some apart
+    counted_far : (e : ℕ) → has a.touched e ≡ true → num beyond e ≡ sum_by t.size (filter (λ j. not (has (gathered t c) j)) (t.members e))
+    counted_far e h =
+        let i = touched_gives e h in
+        let st : stands g s e ≡ true = (holds_gives g s e i.0 (sym (fits.elements i.0 e (home i.0 (front_placed i.0 i.1))) ∙ i.2)).standing in
+        let off = taken_off e (num w.size.items) (list_at w.lists.elements.items) (num w.front.items e - num w.block.items e) (gathered t c)
+        (λ j k. let p = front_placed j k in subst Once (sym (kept.elements j p)) (fits.elements_once j (home j p))) in
+        let same = sum_same (λ j. cond (has (list_at w.lists.elements.items j) e) (num w.size.items j) 0) (λ j. cond (has (t.elements j) e) (t.size j) 0) (gathered t c)
+        (λ j k. let p = front_placed j k in ap (λ l. cond (has l e) (num w.size.items j) 0) (kept.elements j p) ∙ ap (λ m. cond (has (t.elements j) e) m 0) (kept.size j p)) in
+        let border = borders e st in let parts = border_parts g laws t s sound fits e st (gathered t c) front_once (λ j k. home j (front_placed j k)) in let is = a.counted e h in
+        omega (arith, is, off, same, border, parts)
 
     -- what is absorbed is what the rules say
     pub taken_takes : (e : ℕ) → a.taken e ≡ takes aggressive t c (gathered t c) e
@@ -205,7 +178,7 @@ module _ (g : Graph) (s : State) (t : Tie) (fits : Fits g t s) {A : Type 0} (w :
           | inr apart ↦ ap (λ b. has (t.elements c) e || b) (same_bool (has a.touched e && whole) inner
               (λ h. let p = and_parts (has a.touched e) whole h in let q = and_parts aggressive (nat_eq (num beyond e) 0) p.1 in
               let i = touched_gives e p.0 in let some = some_members e i.0 (element_member i.0 e (front_placed i.0 i.1) i.2) in
-              let none = cut_none (sum_by t.size (filter (λ j. not (has (gathered t c) j)) (t.members e))) (sym (counted_far e p.0 some apart) ∙ eqb-true (num beyond e) 0 q.1) in
+              let none = sym (counted_far e p.0) ∙ eqb-true (num beyond e) 0 q.1 in
               and_from (aggressive && not (is_empty (t.members e))) (each (has (gathered t c)) (t.members e))
               (and_from aggressive (not (is_empty (t.members e))) q.0 (not_from_false (is_empty (t.members e)) some))
               (none_each t.size (has (gathered t c)) (t.members e) (member_rows e) none))
@@ -213,7 +186,7 @@ module _ (g : Graph) (s : State) (t : Tie) (fits : Fits g t s) {A : Type 0} (w :
               let some = not-true (is_empty (t.members e)) q.1 in let m = some_of (t.members e) some in
               let touched = touched_from m.0 e (each_gives (has (gathered t c)) (t.members e) p.1 m.0 m.1) (member_element e m.0 m.1) apart in
               and_from (has a.touched e) whole touched (and_from aggressive (nat_eq (num beyond e) 0) q.0
-              (eq-eqb (num beyond e) 0 (counted_far e touched some apart ∙ none_cut _ (each_none t.size (has (gathered t c)) (t.members e) p.1))))))
+              (eq-eqb (num beyond e) 0 (counted_far e touched ∙ each_none t.size (has (gathered t c)) (t.members e) p.1)))))
         ]
 
     -- what a class of the front keeps is what the rules say
@@ -237,12 +210,12 @@ module _ (g : Graph) (s : State) (t : Tie) (fits : Fits g t s) {A : Type 0} (w :
     variables_stay i l = a.variables i ∙ cond-false (has (gathered t c) i) _ _ l
 
     -- the rows outside the front of an element that a class of it keeps
-    pub rows_counted : (i e : ℕ) → has (gathered t c) i ≡ true → has (kept_elements aggressive t c (gathered t c) i) e ≡ true → num beyond e ≡ cut (sum_by t.size (filter (λ j. not (has (gathered t c) j)) (t.members e)))
+    pub rows_counted : (i e : ℕ) → has (gathered t c) i ≡ true → has (kept_elements aggressive t c (gathered t c) i) e ≡ true → num beyond e ≡ sum_by t.size (filter (λ j. not (has (gathered t c) j)) (t.members e))
     unfolding kept_elements takes
     rows_counted i e l h =
         let p = and_parts (has (t.elements i) e) (not (takes aggressive t c (gathered t c) e)) (sym (has_filter (λ e. not (takes aggressive t c (gathered t c) e)) (t.elements i) e) ∙ h) in
         let apart = (or_parts (has (t.elements c) e) _ (not-true (takes aggressive t c (gathered t c) e) p.1)).0 in
-        counted_far e (touched_from i e l p.0 apart) (some_members e i (element_member i e (front_placed i l) p.0)) apart
+        counted_far e (touched_from i e l p.0 apart)
 
     -- the pivot is the parent of what is absorbed
     pub parents : ((e : ℕ) → some_at before e ≡ t.parent e) → (e : ℕ) → some_at after e ≡ cond (takes aggressive t c (gathered t c) e) (Some c) (t.parent e)

@@ -1,13 +1,12 @@
 -- What the parts of an absorption make together.
 use Rattle.std.proofs.Common.{ℕ, suc, Bool, true, false, List, [], ◌∷◌, ◌≡◌, ◌<◌, ◌&&◌, ◌||◌, not, cond, inl, inr, refl, sym, ◌∙◌, ap, arith, length, get_or, set, get_or-set_same, get_or-set_other}
-use Rattle.std.specs.Prelude.{Vec, filter, flat_map, sum_by, ◌==◌}
+use Rattle.std.specs.Prelude.{Vec, filter, flat_map, ◌==◌}
 use Rattle.std.proofs.lemmas.Bool.{true≢false, false≢true, cases_eq, and_parts, or_cases, eqb-true, ne_eqb, not-true}
 use Rattle.std.proofs.lemmas.List.Elements.{All-from_get_or}
-use Rattle.amd_model.specs.Figures.{cut}
 use Rattle.amd_model.specs.Tie.{has}
 use Rattle.amd_model.proofs.TieLists.{flat_gives, firsts as firsts_names}
-use Rattle.amd_rounds.specs.Views.{num, at, list_at, Below, ListsBelow, Clear}
-use Rattle.amd_rounds.specs.Rounds.{firsts, rows_outside}
+use Rattle.amd_rounds.specs.Views.{at, list_at, Below, ListsBelow, Clear}
+use Rattle.amd_rounds.specs.Rounds.{firsts}
 use Rattle.amd_rounds.proofs.Kept.{has_at}
 use Rattle.amd_rounds.proofs.MarkLists.{list_below}
 
@@ -40,9 +39,6 @@ touched_new skip xs touched is x h = not-true (skip x) (and_parts (has xs x) (no
 pub filter_agree : (p q : ℕ → Bool) (xs : List ℕ) → ((x : ℕ) → p x ≡ q x) → filter p xs ≡ filter q xs
 filter_agree p q [] same = refl
 filter_agree p q (x ∷ xs) same = ap (λ b. cond b (x ∷ filter p xs) (filter p xs)) (same x) ∙ ap (λ l. cond (q x) (x ∷ l) l) (filter_agree p q xs same)
-
-pub rows_agree : (p q : ℕ → Bool) (size xs : List ℕ) → ((x : ℕ) → p x ≡ q x) → rows_outside p size xs ≡ rows_outside q size xs
-rows_agree p q size xs same = ap (λ l. cut (sum_by (num size) l)) (filter_agree (λ j. not (p j)) (λ j. not (q j)) xs (λ x. ap not (same x)))
 
 -- of marks on two lists, those of the second stay where a test says so
 pub spared_is : (own new stays : Bool) → (new ≡ true → own ≡ false) → ((own || new) && not (new && not stays)) ≡ (own || (new && stays))

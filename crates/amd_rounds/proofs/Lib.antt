@@ -9,6 +9,7 @@ pub mod BucketLists
 pub mod BucketsLaw
 pub mod Kept
 pub mod KeptParts
+pub mod Taken
 pub mod KeptLaw
 pub mod BoundLists
 pub mod Joins

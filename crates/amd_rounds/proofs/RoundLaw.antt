@@ -1,30 +1,27 @@
 -- A round of the plain engine computes the next lists of the machine, in the sizes, bounds and lists of classes and elements.
-use Rattle.std.proofs.Common.{ℕ, zero, suc, Bool, true, false, Option, None, Some, List, [], ◌∷◌, ◌++◌, ◌≡◌, ◌≢◌, ◌≤◌, ◌<◌, ◌+◌, ◌-◌, ◌∙◌, ◌&&◌, ◌||◌, not, min, cond, ap, sym, refl, subst, inl, inr, arith, length}
+use Rattle.std.proofs.Common.{ℕ, suc, Bool, true, false, Option, None, Some, List, [], ◌∷◌, ◌≡◌, ◌≢◌, ◌≤◌, ◌<◌, ◌+◌, ◌-◌, ◌∙◌, ◌&&◌, ◌||◌, not, min, cond, ap, sym, refl, subst, inl, inr, arith, length}
 use Rattle.std.specs.Prelude.{filter, sum_by, nat_lt, is_none, ◌==◌, ◌⊎◌, ◌^◌}
-use Rattle.std.proofs.lemmas.Bool.{true≢false, false≢true, cases_Bool, cases_eq, cond-true, cond-false, or_left, or_right, or_from, or_parts, or_cases, and_from, and_parts, and_left, eqb-true, eq-eqb, ne_eqb, lt-ltb, le-ltb, not-true, not_from_false}
-use Rattle.std.proofs.lemmas.List.Sums.{sum_by-cons}
-use Rattle.amd_model.specs.Below.{count_below}
-use Rattle.amd_model.specs.Graph.{Graph, IsGraph}
+use Rattle.std.proofs.lemmas.Bool.{cases_Bool, cases_eq, cond-true, cond-false, or_left, or_right, or_from, or_parts, or_cases, and_from, and_parts, and_left, eqb-true, eq-eqb, ne_eqb, lt-ltb, le-ltb, not-true, not_from_false}
+use Rattle.amd_model.specs.Graph.{Graph}
 use Rattle.amd_model.specs.Figures.{cut}
 use Rattle.amd_model.specs.State.{State, Home, Last, Live, Gone, in_class, is_class, front, holds, stands, inside}
 use Rattle.amd_model.specs.Step.{StepAt, absorbed}
 use Rattle.amd_model.specs.Sound.{IsSound}
-use Rattle.amd_model.specs.Tie.{Tie, Fits, has, is_empty, turned, Once, pivot, gathered, takes, kept_elements, kept_variables, done, rest, represents, made, ends, new_size, far, left, next_bound, new_home, round, next}
+use Rattle.amd_model.specs.Tie.{Tie, Fits, has, is_empty, turned, pivot, gathered, takes, kept_elements, kept_variables, done, rest, represents, made, ends, new_size, far, left, next_bound, new_home, round, next}
 use Rattle.amd_model.proofs.BelowLemmas.{count_pos}
 use Rattle.amd_model.proofs.StateLemmas.{class_gives, class_from, live_from, front_gives, neighbours_gives, holds_gives, stands_gives}
 use Rattle.amd_model.proofs.Sound.{live_small}
 use Rattle.amd_model.proofs.SoundStep.{step_sound}
 use Rattle.amd_model.proofs.TieLists.{same_bool, clash, has_append, has_filter, has_turned, empty_gives, some_of}
 use Rattle.amd_model.proofs.TieSums.{home_cases}
-use Rattle.amd_model.proofs.TieLaw.{L as front_list, takes_is, front_class, rest_class, after, is_step, now, now_fits}
+use Rattle.amd_model.proofs.TieLaw.{L as front_list, takes_is, front_class, after, is_step, now, now_fits}
 use Rattle.amd_rounds.specs.Views.{num, some_at, list_at, live_of}
 use Rattle.amd_rounds.specs.Rounds.{keeps_none}
-use Rattle.amd_rounds.specs.Keeps.{Keeps, LinksLead, Stands}
+use Rattle.amd_rounds.specs.Keeps.{LinksLead, Stands}
 use Rattle.amd_rounds.specs.declared.work.Work.{Work}
 use Rattle.amd_model.proofs.StepFronts.{placed_small}
 use Rattle.amd_rounds.specs.Buckets.{live_in, lasts}
 use Rattle.amd_rounds.proofs.FrontsLaw.{border_is as border_rows, live_left as live_after, live_less, live_is as live_sum, joined as joined_after, no_parent as no_parent_after, fronts_kept}
-use Rattle.amd_numbers.proofs.CutSums.{cut_add}
 use Rattle.amd_rounds.proofs.Named.{filter_named, sum_named, filter_all, filter_both}
 use Rattle.amd_rounds.proofs.Rounding.{Rounding}
 
@@ -38,7 +35,7 @@ pub record Found {A : Type 0} (aggressive : Bool) (w v : Work A) (t : Tie) (r : 
   pub elements : (i : ℕ) → has (gathered t r.c) i ≡ true → list_at r.kept.elements.items i ≡ kept_elements aggressive t r.c (gathered t r.c) i
   pub variables : (i : ℕ) → has (gathered t r.c) i ≡ true → list_at r.kept.variables.items i ≡ kept_variables aggressive t r.c (gathered t r.c) i
   pub beyond : (i e : ℕ) → has (gathered t r.c) i ≡ true → has (kept_elements aggressive t r.c (gathered t r.c) i) e ≡ true →
-      num r.beyond e ≡ cut (sum_by t.size (filter (λ j. not (has (gathered t r.c) j)) (t.members e)))
+      num r.beyond e ≡ sum_by t.size (filter (λ j. not (has (gathered t r.c) j)) (t.members e))
   pub parents : (e : ℕ) → some_at v.parent.items e ≡ cond (takes aggressive t r.c (gathered t r.c) e) (Some r.c) (t.parent e)
   pub rest_is : r.rest ≡ rest aggressive t r.c (gathered t r.c)
   pub into_is : (i : ℕ) → has (rest aggressive t r.c (gathered t r.c)) i ≡ true → num r.into i ≡ represents aggressive t r.c (gathered t r.c) i
@@ -53,19 +50,7 @@ and_true : (a : Bool) → (a && true) ≡ a
 and_true true = refl
 and_true false = refl
 
--- sums of numbers that a word holds, cut
-cut_more : (x y : ℕ) → cut (x + cut y) ≡ cut (x + y)
-unfolding cut
-cut_more x y = omega arith
-
-cut_sums : (h : ℕ → ℕ) (xs : List ℕ) (y : ℕ) → cut (sum_by (λ e. cut (h e)) xs + y) ≡ cut (sum_by h xs + y)
-cut_sums h [] y = refl
-cut_sums h (x ∷ xs) y =
-    let a : sum_by (λ e. cut (h e)) (x ∷ xs) + y ≡ cut (h x) + (sum_by (λ e. cut (h e)) xs + y) = (let k = sum_by-cons (λ e. cut (h e)) x xs in omega (arith, k)) in
-    let b : sum_by h (x ∷ xs) + y ≡ h x + (sum_by h xs + y) = (let k = sum_by-cons h x xs in omega (arith, k)) in
-    ap cut a ∙ cut_add (h x) (sum_by (λ e. cut (h e)) xs + y) ∙ sym (cut_more (h x) (sum_by (λ e. cut (h e)) xs + y)) ∙ ap (λ n. cut (h x + n)) (cut_sums h xs y)
-    ∙ cut_more (h x) (sum_by h xs + y) ∙ ap cut (sym b)
-
+-- a number that a word holds is the lesser of itself and what is cut
 min_cut : (a x : ℕ) → a < 2 ^ 64 → min a (cut x) ≡ min a x
 unfolding cut
 min_cut a x l = omega (arith, l)
@@ -665,9 +650,9 @@ module _ {A : Type 0} (g : Graph) (dense : ℕ → Bool) (aggressive : Bool) (w 
     far_is i l =
         let h : ℕ → ℕ = λ e. sum_by t.size (filter (λ j. not (has L j)) (t.members e)) in
         let ke : List ℕ = kept_elements aggressive t r.c L i in let kv : List ℕ = kept_variables aggressive t r.c L i in
-        let one : sum_by (num r.beyond) (list_at r.kept.elements.items i) ≡ sum_by (λ e. cut (h e)) ke = ap (sum_by (num r.beyond)) (f.elements i l) ∙ sum_named (num r.beyond) (λ e. cut (h e)) ke (λ e k. f.beyond i e l k) in
+        let one : sum_by (num r.beyond) (list_at r.kept.elements.items i) ≡ sum_by h ke = ap (sum_by (num r.beyond)) (f.elements i l) ∙ sum_named (num r.beyond) h ke (λ e k. f.beyond i e l k) in
         let two : sum_by (num v.size.items) (list_at r.kept.variables.items i) ≡ sum_by t.size kv = ap (sum_by (num v.size.items)) (f.variables i l) ∙ sum_named (num v.size.items) t.size kv (λ j k. outside_size j (kept_outside i l j k)) in
-        ap (λ m. cut (m + sum_by (num v.size.items) (list_at r.kept.variables.items i))) one ∙ ap (λ m. cut (sum_by (λ e. cut (h e)) ke + m)) two ∙ cut_sums h ke (sum_by t.size kv)
+        ap (λ m. cut (m + sum_by (num v.size.items) (list_at r.kept.variables.items i))) one ∙ ap (λ m. cut (sum_by h ke + m)) two
 
     made_bound : (i : ℕ) → has M i ≡ true → num v.bound.items i ≡ next_bound aggressive t r.c L i
     unfolding next_bound

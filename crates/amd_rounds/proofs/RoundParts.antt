@@ -6,11 +6,13 @@ use Rattle.std.proofs.lemmas.List.Elements.{All-filter}
 use Rattle.std.proofs.lemmas.List.Sums.{sum_by-cons}
 use Rattle.amd_model.specs.Figures.{cut, front_sum, entries, ldl_steps, lu_steps}
 use Rattle.amd_model.specs.Graph.{Graph}
-use Rattle.amd_model.specs.State.{State, in_class, is_class}
+use Rattle.amd_model.specs.State.{State, in_class, is_class, stands}
+use Rattle.amd_model.specs.Below.{count_below}
+use Rattle.amd_model.specs.Listing.{weight}
 use Rattle.amd_model.specs.Step.{StepAt}
 use Rattle.amd_model.specs.Tie.{Tie, has, is_empty, Once, pivot, gathered, kept_elements, kept_variables, rest, represents, made as made_of, last_that, turned, next, round}
 use Rattle.amd_model.proofs.BelowLemmas.{count_pos, count_most}
-use Rattle.amd_model.proofs.StateLemmas.{class_gives, class_from}
+use Rattle.amd_model.proofs.StateLemmas.{class_gives, class_from, block_from, stands_gives}
 use Rattle.amd_model.proofs.Sound.{live_small}
 use Rattle.amd_model.proofs.TieLists.{clash, has_append, has_filter, once_filter, some_of}
 use Rattle.amd_model.proofs.StepFronts.{front_small, placed_small}
@@ -62,6 +64,11 @@ module _ {A : Type 0} (g : Graph) (dense : ℕ → Bool) (aggressive : Bool) (w 
   class_rows i h = let home = class_gives i (s.home i) (sym (st.fits.placed i) ∙ h) in let l = live_small g st.graph s st.sound i i home in
       let k = count_pos g.size (in_class s i) i l (class_from i (s.home i) home) in let e = st.fits.size i home in omega (arith, k, e)
 
+  -- the rows of the border of a standing element are those of its front without its block
+  borders : (e : ℕ) → stands g s e ≡ true → num w.front.items e - num w.block.items e ≡ count_below g.size (s.border e)
+  unfolding weight
+  borders e h = let element = block_from e (s.home e) (stands_gives g s e h).element in let a = st.fronts.fronts e element in let b = st.fronts.blocks e element in omega (arith, a, b)
+
   -- ---- the element of the pivot
   module _ (w1 : Work A) (c : ℕ) (front : List ℕ) (m : MakesElement aggressive c front w w1) where
     chosen_named : has (live_in w.size.items w.bound.items w1.least (list_at w.placed.items w1.least)) c ≡ true
@@ -91,16 +98,16 @@ module _ {A : Type 0} (g : Graph) (dense : ℕ → Bool) (aggressive : Bool) (w 
     front_is = m.front_is ∙ front_found g s t st.fits w st.keeps c placed
 
     abbrev Took : List ℕ → Type 0
-    Took xs = Absorbed aggressive c xs w.size.items w.lists w1.lists w.parent.items w1.parent.items w1.scratch.beyond.items
+    Took xs = Absorbed aggressive c xs w.size.items w.block.items w.front.items w.lists w1.lists w.parent.items w1.parent.items w1.scratch.beyond.items
 
     absorbed : Took (gathered t c)
     absorbed = subst (λ xs. Took xs) front_is m.absorbed
 
     elements : (i : ℕ) → has (gathered t c) i ≡ true → list_at w1.lists.elements.items i ≡ kept_elements aggressive t c (gathered t c) i
-    elements = elements_kept g s t st.fits w st.keeps c placed aggressive w1.lists w.parent.items w1.parent.items w1.scratch.beyond.items absorbed
+    elements = elements_kept g s t st.fits w st.keeps c placed aggressive w1.lists w.parent.items w1.parent.items w1.scratch.beyond.items absorbed st.graph st.sound borders
 
     variables : (i : ℕ) → has (gathered t c) i ≡ true → list_at w1.lists.variables.items i ≡ kept_variables aggressive t c (gathered t c) i
-    variables = variables_kept g s t st.fits w st.keeps c placed aggressive w1.lists w.parent.items w1.parent.items w1.scratch.beyond.items absorbed
+    variables = variables_kept g s t st.fits w st.keeps c placed aggressive w1.lists w.parent.items w1.parent.items w1.scratch.beyond.items absorbed st.graph st.sound borders
 
     rows_same : length w1.size.items ≡ g.size
     rows_same = ap (λ v. length v.items) m.rows.size ∙ st.sized.size
@@ -281,7 +288,7 @@ module _ {A : Type 0} (g : Graph) (dense : ℕ → Bool) (aggressive : Bool) (w 
           least = w1.least;
           chosen = m.chosen;
           front_is = m.front_is;
-          absorbed = subst (λ p. Absorbed aggressive c front w.size.items w.lists w1.lists w.parent.items p w1.scratch.beyond.items) (sym (ap (λ p. p.items) parent_same)) m.absorbed;
+          absorbed = subst (λ p. Absorbed aggressive c front w.size.items w.block.items w.front.items w.lists w1.lists w.parent.items p w1.scratch.beyond.items) (sym (ap (λ p. p.items) parent_same)) m.absorbed;
           rest_is = k.rest_is;
           border_is = k.border_is ∙ ap (λ l. sum_by (num l.items) k.rest) m.rows.size;
           block_is = k.block_is ∙ ap (λ l. num l.items c + (sum_by (num l.items) front - border)) m.rows.size;
@@ -321,8 +328,8 @@ module _ {A : Type 0} (g : Graph) (dense : ℕ → Bool) (aggressive : Bool) (w 
           front_is = front_is;
           elements = elements;
           variables = variables;
-          beyond = rows_counted g s t st.fits w st.keeps c placed aggressive w1.lists w.parent.items w1.parent.items w1.scratch.beyond.items absorbed;
-          parents = λ e. ap (λ p. some_at p.items e) parent_same ∙ parents g s t st.fits w st.keeps c placed aggressive w1.lists w.parent.items w1.parent.items w1.scratch.beyond.items absorbed st.keeps.parents e;
+          beyond = rows_counted g s t st.fits w st.keeps c placed aggressive w1.lists w.parent.items w1.parent.items w1.scratch.beyond.items absorbed st.graph st.sound borders;
+          parents = λ e. ap (λ p. some_at p.items e) parent_same ∙ parents g s t st.fits w st.keeps c placed aggressive w1.lists w.parent.items w1.parent.items w1.scratch.beyond.items absorbed st.graph st.sound borders st.keeps.parents e;
           rest_is = rest_same;
           into_is = into_same;
           made_is = made_same;

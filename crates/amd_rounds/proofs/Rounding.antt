@@ -27,7 +27,7 @@ pub record Rounding {A : Type 0} (aggressive : Bool) (w v : Work A) : Type 0 whe
   pub least : ℕ
   pub chosen : Chosen w.size.items w.bound.items w.placed.items mid w.least least c
   pub front_is : front ≡ firsts (λ x. x == c) (flat_map (λ e. live_of w.size.items (list_at w.lists.members.items e)) (list_at w.lists.elements.items c) ++ live_of w.size.items (list_at w.lists.variables.items c))
-  pub absorbed : Absorbed aggressive c front w.size.items w.lists kept w.parent.items v.parent.items beyond
+  pub absorbed : Absorbed aggressive c front w.size.items w.block.items w.front.items w.lists kept w.parent.items v.parent.items beyond
   pub rest_is : rest ≡ filter (λ i. not (keeps_none kept.elements.items kept.variables.items i)) front
   pub border_is : border ≡ sum_by (num w.size.items) rest
   pub block_is : block ≡ num w.size.items c + (sum_by (num w.size.items) front - border)

@@ -1,7 +1,6 @@
 -- Lists and counts that are filled row by row, from which an elimination starts.
 use Rattle.std.proofs.Common.{ℕ, zero, suc, Bool, true, false, ◌≡◌, ◌<◌, ◌+◌, ◌&&◌, cond, inl, inr, refl, sym, ◌∙◌, ap, subst, arith, add-one, List, [], ◌∷◌, ◌++◌, Vec, map, length, get_or, set, replicate}
 use Rattle.std.specs.Prelude.{filter, ◌==◌}
-use Rattle.std.specs.Vec.{vec_capacity}
 use Rattle.std.proofs.lemmas.Bool.{cases_eq, cases_lt, eq-eqb, ne_eqb, cond-true, cond-false}
 use Rattle.std.proofs.lemmas.List.{append-nil, length-map, length-set, map-set, get_or-map, get_or-set_same, get_or-set_other, length_push, length-replicate, get_or-replicate, get_or_past}
 use Rattle.std.proofs.lemmas.List.Elements.{All-nil, All-push, All-set, filter-append}

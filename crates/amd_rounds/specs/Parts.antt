@@ -1,5 +1,5 @@
 -- The three parts of a round of the plain engine, each between the record before and after it.
-use Rattle.std.specs.Prelude.{ℕ, Bool, true, false, Option, Some, List, ◌∷◌, ◌++◌, ◌≡◌, ◌≤◌, ◌⊎◌, ◌==◌, ◌&&◌, ◌||◌, ◌+◌, ◌-◌, not, cond, max, length, filter, flat_map, sum_by}
+use Rattle.std.specs.Prelude.{ℕ, Bool, true, Some, List, ◌∷◌, ◌++◌, ◌≡◌, ◌≤◌, ◌⊎◌, ◌==◌, ◌&&◌, ◌+◌, ◌-◌, not, cond, max, length, filter, flat_map, sum_by}
 use Rattle.amd_model.specs.Figures.{cut, front_sum, entries, ldl_steps, lu_steps}
 use Rattle.amd_model.specs.Tie.{has, last_that, turned}
 use Rattle.amd_rounds.specs.Views.{num, some_at, list_at, live_of}
@@ -26,7 +26,7 @@ pub record KeepsElements {A : Type 0} (w v : Work A) : Type 0 where
 pub record MakesElement {A : Type 0} (aggressive : Bool) (c : ℕ) (front : List ℕ) (w v : Work A) : Type 0 where
   pub chosen : Chosen w.size.items w.bound.items w.placed.items v.placed.items w.least v.least c
   pub front_is : front ≡ firsts (λ x. x == c) (flat_map (λ e. live_of w.size.items (list_at w.lists.members.items e)) (list_at w.lists.elements.items c) ++ live_of w.size.items (list_at w.lists.variables.items c))
-  pub absorbed : Absorbed aggressive c front w.size.items w.lists v.lists w.parent.items v.parent.items v.scratch.beyond.items
+  pub absorbed : Absorbed aggressive c front w.size.items w.block.items w.front.items w.lists v.lists w.parent.items v.parent.items v.scratch.beyond.items
   pub rows : KeepsRows w v
   pub elements : KeepsElements w v
   pub sized : IsSized (length w.size.items) v

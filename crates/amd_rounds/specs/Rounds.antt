@@ -18,17 +18,21 @@ abbrev pub alike_in : {A : Type 0} → List (Vec ℕ A) → List (Vec ℕ A) →
 alike_in elements variables i j = each (has (list_at elements i)) (list_at elements j) && each (has (list_at elements j)) (list_at elements i)
     && each (has (list_at variables i)) (list_at variables j) && each (has (list_at variables j)) (list_at variables i)
 
--- the rows of the classes of a list that do not pass, as far as a word holds them
-abbrev pub rows_outside : (ℕ → Bool) → List ℕ → List ℕ → ℕ
-rows_outside inside size xs = cut (sum_by (num size) (filter (λ j. not (inside j)) xs))
+-- a number without the rows of a class, which are taken off each time that a list names the element e
+abbrev pub less : ℕ → ℕ → ℕ → List ℕ → ℕ
+less e rows b xs = fold (λ m x. cond (x == e) (m - rows) m) b xs
+
+-- the rows of the border of e, those of its whole front without its block, less the rows of the classes of a front that list it
+abbrev pub rows_left : {A : Type 0} → List ℕ → List ℕ → List ℕ → List (Vec ℕ A) → List ℕ → ℕ → ℕ
+rows_left block whole size elements front e = fold (λ m i. less e (num size i) m (list_at elements i)) (num whole e - num block e) front
 
 -- the lists of the classes of a front after the new element of the pivot c has absorbed others
-pub record Absorbed {A : Type 0} (aggressive : Bool) (c : ℕ) (front size : List ℕ) (old new : Lists A) (before after : List (Option ℕ)) (beyond : List ℕ) : Type 0 where
+pub record Absorbed {A : Type 0} (aggressive : Bool) (c : ℕ) (front size block whole : List ℕ) (old new : Lists A) (before after : List (Option ℕ)) (beyond : List ℕ) : Type 0 where
   -- the elements that hold a class of the front and not the pivot
   pub touched : List ℕ
   pub touched_is : touched ≡ firsts (has (list_at old.elements.items c)) (flat_map (list_at old.elements.items) front)
   -- the rows of each of them outside the front
-  pub counted : (e : ℕ) → has touched e ≡ true → num beyond e ≡ rows_outside (λ j. j == c || has front j) size (list_at old.members.items e)
+  pub counted : (e : ℕ) → has touched e ≡ true → num beyond e ≡ rows_left block whole size old.elements.items front e
   -- what is absorbed: the elements of the pivot, and with `aggressive` those with no row outside
   pub taken : ℕ → Bool
   pub taken_is : (e : ℕ) → taken e ≡ (has (list_at old.elements.items c) e || (has touched e && (aggressive && nat_eq (num beyond e) 0)))

@@ -2,47 +2,65 @@
 // that the new one absorbs are left out of their lists, and so are the classes that the new one explains.
 // Source: Amestoy, Davis and Duff 1996 (element absorption, aggressive absorption). For the rounds of an engine.
 
-ghost use Rattle.std.specs.Prelude.{[], ◌≡◌, ◌<◌, ◌^◌, ◌||◌, ◌&&◌, ◌==◌, not, cond, nat_eq, nat_lt, ℕ, Some, true, false, filter, length, sum_by, OnOk, IfOk};
+ghost use Rattle.std.specs.Prelude.{[], ◌≡◌, ◌<◌, ◌^◌, ◌||◌, ◌&&◌, ◌==◌, ◌-◌, not, cond, nat_eq, nat_lt, ℕ, Some, true, false, filter, length, sum_by, OnOk, IfOk};
 ghost use Rattle.amd_model.specs.Tie.{has, Once};
 ghost use Rattle.amd_rounds.specs.Views.{num, at, some_at, list_at, Below, ListsBelow, Clear};
-ghost use Rattle.amd_rounds.specs.Rounds.{keeps_none, rows_outside, Absorbed};
+ghost use Rattle.amd_rounds.specs.Rounds.{keeps_none, less, rows_left, Absorbed};
 ghost use Rattle.amd_rounds.specs.Keeps.{IsIdle};
 
 use crate::marks::{clear_all, touched_by};
 use crate::work::{Lists, Scratch};
 use std::alloc::{AllocError, Allocator};
 
-/// The rows of the classes of a list that are not marked; at most the greatest `usize`.
-fn rows_beyond(list: &[usize], size: &[usize], marks: &[bool]) -> usize
-    requires lengths { length marks.now ≡ length size.now }
-    requires range { Below (length size.now) list.now }
-    ensures { result ≡ rows_outside (at marks.now) size.now list.now }
-{
-    let mut total: usize = 0;
-    for j in list {
-        if !marks[*j] {
-            total = total.saturating_add(size[*j]);
-        }
-    }
-    total
-}
-
-/// Counts, for each element of a list, the rows of its classes that are not marked.
-fn count_beyond<A: Allocator>(
+/// Writes, for each element of a list, the rows of its border: those of its front without those of its block.
+fn count_borders<A: Allocator>(
     touched: &[usize],
-    members: &Vec<Vec<usize, A>, A>,
-    size: &[usize],
-    marks: &[bool],
+    block: &[usize],
+    whole: &[usize],
     beyond: &mut Vec<usize, A>,
 )
-    requires lengths { (length marks.now ≡ length size.now) × (length beyond.old.items ≡ length size.now) }
-    requires members { ListsBelow (length size.now) members.now.items }
-    requires range { Below (length size.now) touched.now }
+    requires lengths { (length whole.now ≡ length block.now) × (length beyond.old.items ≡ length block.now) }
+    requires range { Below (length block.now) touched.now }
     ensures size { length beyond.new.items ≡ length beyond.old.items }
-    ensures counted { (e : ℕ) → num beyond.new.items e ≡ cond (has touched.now e) (rows_outside (at marks.now) size.now (list_at members.now.items e)) (num beyond.old.items e) }
+    ensures counted { (e : ℕ) → num beyond.new.items e ≡ cond (has touched.now e) (num whole.now e - num block.now e) (num beyond.old.items e) }
 {
     for e in touched {
-        beyond[*e] = rows_beyond(&members[*e], size, marks);
+        beyond[*e] = whole[*e].saturating_sub(block[*e]);
+    }
+}
+
+/// Takes the rows of a class off the numbers of the elements in its list.
+fn take_off<A: Allocator>(rows: usize, elements: &[usize], beyond: &mut Vec<usize, A>)
+    requires range { Below (length beyond.old.items) elements.now }
+    ensures size { length beyond.new.items ≡ length beyond.old.items }
+    ensures taken { (e : ℕ) → num beyond.new.items e ≡ less e rows (num beyond.old.items e) elements.now }
+{
+    for e in elements {
+        beyond[*e] = beyond[*e].saturating_sub(rows);
+    }
+}
+
+/// Counts, for each element of a list, the rows of its border that are in no class of the front: each class is taken off the
+/// elements that it lists, so no list of members is gone through.
+fn count_beyond<A: Allocator>(
+    touched: &[usize],
+    front: &[usize],
+    elements: &Vec<Vec<usize, A>, A>,
+    size: &[usize],
+    block: &[usize],
+    whole: &[usize],
+    beyond: &mut Vec<usize, A>,
+)
+    requires lengths { (length block.now ≡ length size.now) × (length whole.now ≡ length size.now) × (length beyond.old.items ≡ length size.now) }
+    requires elements { ListsBelow (length size.now) elements.now.items }
+    requires range { Below (length size.now) touched.now }
+    requires front { Below (length size.now) front.now }
+    ensures size { length beyond.new.items ≡ length beyond.old.items }
+    ensures counted { (e : ℕ) → has touched.now e ≡ true → num beyond.new.items e ≡ rows_left block.now whole.now size.now elements.now.items front.now e }
+{
+    count_borders(touched, block, whole, beyond);
+    for i in front {
+        take_off(size[*i], &elements[*i], beyond);
     }
 }
 
@@ -145,17 +163,20 @@ fn shorten<A: Allocator>(
 }
 
 /// The new element of the pivot absorbs elements, and the classes of its front keep what is left. The front and the pivot are
-/// marked before; nothing is after.
+/// marked before; nothing is after. `block` and `whole` tell the rows of the block and of the front of each element.
 pub fn absorb<A: Allocator + Copy>(
     alloc: A,
     pivot: usize,
     front: &[usize],
     aggressive: bool,
     size: &[usize],
+    block: &[usize],
+    whole: &[usize],
     lists: &mut Lists<A>,
     parent: &mut Vec<Option<usize>, A>,
     scratch: &mut Scratch<A>,
 ) -> Result<(), AllocError>
+    requires fronts { (length block.now ≡ length size.now) × (length whole.now ≡ length size.now) }
     requires elements { ListsBelow (length size.now) lists.old.elements.items }
     requires variables { ListsBelow (length size.now) lists.old.variables.items }
     requires members { ListsBelow (length size.now) lists.old.members.items }
@@ -167,7 +188,7 @@ pub fn absorb<A: Allocator + Copy>(
     requires taken { (length scratch.old.elements.items ≡ length size.now) × Clear scratch.old.elements.items }
     requires groups { (length scratch.old.groups.items ≡ length size.now) × ((b : ℕ) → list_at scratch.old.groups.items b ≡ []) }
     requires numbers { (length scratch.old.beyond.items ≡ length size.now) × (length scratch.old.into.items ≡ length size.now) }
-    ensures absorbed { OnOk result (Absorbed aggressive pivot front.now size.now lists.old lists.new parent.old.items parent.new.items scratch.new.beyond.items) }
+    ensures absorbed { OnOk result (Absorbed aggressive pivot front.now size.now block.now whole.now lists.old lists.new parent.old.items parent.new.items scratch.new.beyond.items) }
     ensures elements { OnOk result (ListsBelow (length size.now) lists.new.elements.items) }
     ensures variables { OnOk result (ListsBelow (length size.now) lists.new.variables.items) }
     ensures parent { OnOk result (length parent.new.items ≡ length size.now) }
@@ -176,9 +197,11 @@ pub fn absorb<A: Allocator + Copy>(
     let touched = touched_by(alloc, pivot, front, &lists.elements, &mut scratch.elements)?;
     count_beyond(
         &touched,
-        &lists.members,
+        front,
+        &lists.elements,
         size,
-        &scratch.rows,
+        block,
+        whole,
         &mut scratch.beyond,
     );
     spare(&touched, &scratch.beyond, aggressive, &mut scratch.elements);

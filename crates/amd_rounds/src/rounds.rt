@@ -46,6 +46,8 @@ fn make_element<A: Allocator + Copy>(
         &front,
         aggressive,
         &work.size,
+        &work.block,
+        &work.front,
         &mut work.lists,
         &mut work.parent,
         &mut work.scratch,

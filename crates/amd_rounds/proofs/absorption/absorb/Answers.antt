@@ -1,10 +1,10 @@
-use Rattle.std.proofs.Common.{ℕ, Bool, true, false, Some, List, ◌≡◌, ◌<◌, ◌∙◌, ◌&&◌, ◌||◌, ◌==◌, not, cond, nat_eq, nat_lt, ap, sym, arith, length, length-set, filter, flat_map}
-use Rattle.std.proofs.lemmas.Bool.{cond-true, cond-false}
+use Rattle.std.proofs.Common.{ℕ, Bool, false, Some, List, ◌≡◌, ◌<◌, ◌∙◌, ◌&&◌, ◌||◌, ◌==◌, not, cond, nat_eq, nat_lt, ap, sym, arith, length, length-set, filter, flat_map}
+use Rattle.std.proofs.lemmas.Bool.{cond-false}
 use Rattle.amd_model.specs.Tie.{has}
 use Rattle.amd_rounds.specs.Views.{num, at, some_at, list_at}
-use Rattle.amd_rounds.specs.Rounds.{firsts, rows_outside}
+use Rattle.amd_rounds.specs.Rounds.{firsts}
 use Rattle.amd_rounds.proofs.MarkLists.{list_read}
-use Rattle.amd_rounds.proofs.KeptParts.{touched_below, touched_new, filter_agree, rows_agree, spared_is, adopted_is, in_either, cleared_is, pivot_cleared}
+use Rattle.amd_rounds.proofs.KeptParts.{touched_below, touched_new, filter_agree, spared_is, adopted_is, in_either, cleared_is, pivot_cleared}
 use Rattle.amd_rounds.proofs.absorption.absorb.Goals as goal
 
 pub count_beyond-requires-clause-range : goal.count_beyond-requires-clause-range
@@ -17,22 +17,22 @@ pub spare-requires-clause-range : goal.spare-requires-clause-range
 spare-requires-clause-range g c =
     let elements = c.args.lists.now.elements.items in
     let below = touched_below (length c.args.size.now) elements (has (list_at elements c.args.pivot)) c.args.front.now c.in_ok-touched.touched.items c.requires.elements c.in_ok-touched.ensures.list in
-    let room : length c.deref-4.result.now ≡ length c.args.size.now = ap length c.deref-4.ensures.value ∙ c.count_beyond.ensures.size ∙ c.requires.numbers.0 in
-    rw (c.deref-3.ensures.value, room) below
+    let room : length c.deref-3.result.now ≡ length c.args.size.now = ap length c.deref-3.ensures.value ∙ c.count_beyond.ensures.size ∙ c.requires.numbers.0 in
+    rw (c.deref-2.ensures.value, room) below
 
 pub adopt-requires-2-clause-range : goal.adopt-requires-2-clause-range
 adopt-requires-2-clause-range g c =
     let elements = c.args.lists.now.elements.items in
     let below = touched_below (length c.args.size.now) elements (has (list_at elements c.args.pivot)) c.args.front.now c.in_ok-touched.touched.items c.requires.elements c.in_ok-touched.ensures.list in
-    let room : length c.deref-8.result.now ≡ length c.args.size.now = ap length c.deref-8.ensures.value ∙ c.spare.ensures.size ∙ c.in_ok-touched.ensures.size ∙ c.requires.taken.0 in
-    rw (c.deref-7.ensures.value, room) below
+    let room : length c.deref-7.result.now ≡ length c.args.size.now = ap length c.deref-7.ensures.value ∙ c.spare.ensures.size ∙ c.in_ok-touched.ensures.size ∙ c.requires.taken.0 in
+    rw (c.deref-6.ensures.value, room) below
 
 pub clear_all-requires-2 : goal.clear_all-requires-2
 clear_all-requires-2 g c =
     let elements = c.args.lists.now.elements.items in
     let below = touched_below (length c.args.size.now) elements (has (list_at elements c.args.pivot)) c.args.front.now c.in_ok-touched.touched.items c.requires.elements c.in_ok-touched.ensures.list in
     let room : length c.clear_all.new.marks.items ≡ length c.args.size.now = c.clear_all.ensures.size ∙ c.spare.ensures.size ∙ c.in_ok-touched.ensures.size ∙ c.requires.taken.0 in
-    rw (c.deref-12.ensures.value, room) (record { range = below })
+    rw (c.deref-11.ensures.value, room) (record { range = below })
 
 pub returns : goal.returns
 returns g c =
@@ -46,43 +46,40 @@ returns g c =
     let touched_is : touched ≡ firsts (has own) (flat_map (list_at elements) front) = c.in_ok-touched.ensures.list in
     let apart = touched_new (has own) (flat_map (list_at elements) front) touched touched_is in
     let whole : ℕ → Bool = λ e. c.args.aggressive && nat_eq (num beyond e) 0 in
-    let first : c.deref-5.result.now ≡ own = c.deref-5.ensures.value ∙ sym (list_read elements p c.index.result.now row c.index.ensures) in
-    let rows_marked : (j : ℕ) → at c.deref-9.result.now j ≡ inside j = λ j. ap (λ l. at l j) c.deref-9.ensures.value ∙ r.rows.1 j in
-    let counted : (e : ℕ) → has touched e ≡ true → num beyond e ≡ rows_outside inside size (list_at members e) = λ e h.
-    c.count_beyond.ensures.counted e ∙ cond-true _ _ _ (ap (λ l. has l e) c.deref.ensures.value ∙ h)
-    ∙ rows_agree (at c.deref-2.result.now) inside size (list_at members e) (λ j. ap (λ l. at l j) c.deref-2.ensures.value ∙ r.rows.1 j) in
+    let first : c.deref-4.result.now ≡ own = c.deref-4.ensures.value ∙ sym (list_read elements p c.index.result.now row c.index.ensures) in
+    let rows_marked : (j : ℕ) → at c.deref-8.result.now j ≡ inside j = λ j. ap (λ l. at l j) c.deref-8.ensures.value ∙ r.rows.1 j in
     let taken_is : (e : ℕ) → at taken e ≡ (has own e || (has touched e && whole e)) = λ e.
     c.spare.ensures.spared e
-    ∙ ap (λ l. at marked e && not (has l e && not (c.args.aggressive && nat_eq (num c.deref-4.result.now e) 0))) c.deref-3.ensures.value
-    ∙ ap (λ l. at marked e && not (has touched e && not (c.args.aggressive && nat_eq (num l e) 0))) c.deref-4.ensures.value
+    ∙ ap (λ l. at marked e && not (has l e && not (c.args.aggressive && nat_eq (num c.deref-3.result.now e) 0))) c.deref-2.ensures.value
+    ∙ ap (λ l. at marked e && not (has touched e && not (c.args.aggressive && nat_eq (num l e) 0))) c.deref-3.ensures.value
     ∙ ap (λ b. b && not (has touched e && not (whole e))) (c.in_ok-touched.ensures.marked e) ∙ spared_is (has own e) (has touched e) (whole e) (apart e) in
     let parents : (e : ℕ) → some_at c.adopt-2.new.parent.items e ≡ cond (at taken e) (Some p) (some_at c.args.parent.now.items e) = λ e.
     adopted_is (has own e) (has touched e) (at taken e) (Some p) (some_at c.args.parent.now.items e) (some_at c.adopt.new.parent.items e) (some_at c.adopt-2.new.parent.items e)
     (λ h. in_either (has own e) (has touched e) (whole e) (sym (taken_is e) ∙ h))
-    (c.adopt.ensures.adopted e ∙ ap (λ l. cond (has l e && at c.deref-6.result.now e) (Some p) (some_at c.args.parent.now.items e)) first
-    ∙ ap (λ l. cond (has own e && at l e) (Some p) (some_at c.args.parent.now.items e)) c.deref-6.ensures.value)
-    (c.adopt-2.ensures.adopted e ∙ ap (λ l. cond (has l e && at c.deref-8.result.now e) (Some p) (some_at c.adopt.new.parent.items e)) c.deref-7.ensures.value
-    ∙ ap (λ l. cond (has touched e && at l e) (Some p) (some_at c.adopt.new.parent.items e)) c.deref-8.ensures.value) in
+    (c.adopt.ensures.adopted e ∙ ap (λ l. cond (has l e && at c.deref-5.result.now e) (Some p) (some_at c.args.parent.now.items e)) first
+    ∙ ap (λ l. cond (has own e && at l e) (Some p) (some_at c.args.parent.now.items e)) c.deref-5.ensures.value)
+    (c.adopt-2.ensures.adopted e ∙ ap (λ l. cond (has l e && at c.deref-7.result.now e) (Some p) (some_at c.adopt.new.parent.items e)) c.deref-6.ensures.value
+    ∙ ap (λ l. cond (has touched e && at l e) (Some p) (some_at c.adopt.new.parent.items e)) c.deref-7.ensures.value) in
     let after = c.shorten.new.lists.elements.items in
     let room : p < length after = (let a = r.pivot.0 in let b = c.shorten.ensures.elements.0 in omega (arith, a, b)) in
-    let second : c.deref-11.result.now ≡ own = c.deref-11.ensures.value ∙ sym (list_read after p c.index-2.result.now room c.index-2.ensures) ∙ c.shorten.ensures.kept_elements p ∙ cond-false _ _ _ r.pivot.1 in
+    let second : c.deref-10.result.now ≡ own = c.deref-10.ensures.value ∙ sym (list_read after p c.index-2.result.now room c.index-2.ensures) ∙ c.shorten.ensures.kept_elements p ∙ cond-false _ _ _ r.pivot.1 in
     let marks : List Bool = c.clear_all-3.new.marks.items in
     let long : length marks ≡ length size = c.clear_all-3.ensures.size ∙ r.rows.0 in
     let clear : (j : ℕ) → at c.clear_all-2.new.marks.items j ≡ false = λ j.
-    c.clear_all-2.ensures.cleared j ∙ ap (λ l. at c.clear_all.new.marks.items j && not (has l j)) c.deref-12.ensures.value
+    c.clear_all-2.ensures.cleared j ∙ ap (λ l. at c.clear_all.new.marks.items j && not (has l j)) c.deref-11.ensures.value
     ∙ ap (λ b. b && not (has touched j)) (c.clear_all.ensures.cleared j ∙ ap (λ l. at taken j && not (has l j)) second ∙ ap (λ b. b && not (has own j)) (taken_is j))
     ∙ cleared_is (has own j) (has touched j) (whole j) in
     record {
       absorbed = record {
         touched = touched;
         touched_is = touched_is;
-        counted = counted;
+        counted = λ e h. c.count_beyond.ensures.counted e (ap (λ l. has l e) c.deref.ensures.value ∙ h);
         taken = at taken;
         taken_is = taken_is;
         parents = parents;
-        elements = λ i. c.shorten.ensures.kept_elements i ∙ ap (λ l. cond (has front i) (filter (λ e. not (at l e)) (list_at elements i)) (list_at elements i)) c.deref-10.ensures.value;
+        elements = λ i. c.shorten.ensures.kept_elements i ∙ ap (λ l. cond (has front i) (filter (λ e. not (at l e)) (list_at elements i)) (list_at elements i)) c.deref-9.ensures.value;
         variables = λ i. c.shorten.ensures.kept_variables i ∙ ap (λ l. cond (has front i) l (list_at variables i))
-            (filter_agree (λ j. nat_lt 0 (num size j) && not (at c.deref-9.result.now j)) (λ j. nat_lt 0 (num size j) && not (inside j)) (list_at variables i) (λ j. ap (λ b. nat_lt 0 (num size j) && not b) (rows_marked j)));
+            (filter_agree (λ j. nat_lt 0 (num size j) && not (at c.deref-8.result.now j)) (λ j. nat_lt 0 (num size j) && not (inside j)) (list_at variables i) (λ j. ap (λ b. nat_lt 0 (num size j) && not b) (rows_marked j)));
         members = c.shorten.ensures.members;
       };
       elements = c.shorten.ensures.elements;

@@ -1,4 +1,4 @@
-use Rattle.std.proofs.Common.{ℕ, true, List, [], ◌∷◌, ◌++◌, filter, ◌≡◌, ◌<◌, ◌≤◌, ◌⊎◌, ◌+◌, ◌∙◌, inl, inr, sym, ap, arith, subst, length, get_or, drop}
+use Rattle.std.proofs.Common.{ℕ, true, List, [], ◌∷◌, ◌++◌, filter, ◌≡◌, ◌<◌, ◌≤◌, ◌⊎◌, ◌+◌, ◌∙◌, inr, sym, ap, arith, subst, length, get_or, drop}
 use Rattle.std.specs.Prelude.{◌==◌}
 use Rattle.std.proofs.lemmas.List.{at_drop_more}
 use Rattle.std.proofs.lemmas.List.Elements.{All-push}

@@ -1,7 +1,6 @@
 use Rattle.std.proofs.Common.{sym, ap, ◌∙◌}
 use Rattle.std.proofs.lemmas.Bool.{ne_eqb}
-use Rattle.amd_model.specs.Tie.{has, each}
-use Rattle.amd_rounds.specs.Views.{at}
+use Rattle.amd_model.specs.Tie.{each}
 use Rattle.amd_rounds.proofs.SameLists.{counted, uncounted}
 use Rattle.amd_rounds.proofs.merging.same_list.Goals as goal
 

@@ -1,11 +1,9 @@
-use Rattle.std.proofs.Common.{◌≡◌, ◌<◌, ℕ, Bool, List, [], ◌∷◌, ◌++◌, sym, subst}
-use Rattle.amd_model.specs.Graph.{Graph}
-use Rattle.amd_model.specs.State.{State}
+use Rattle.std.proofs.Common.{Bool, [], ◌∷◌, ◌++◌, sym, subst}
 use Rattle.amd_model.specs.Run.{last_state}
-use Rattle.amd_model.specs.Tie.{Tie, next}
+use Rattle.amd_model.specs.Tie.{next}
 use Rattle.amd_model.specs.Ordering.{none}
 use Rattle.amd_model.proofs.Orderings.{follows_more}
-use Rattle.amd_rounds.specs.Keeps.{Stands, IsRound, AreRounds}
+use Rattle.amd_rounds.specs.Keeps.{Stands}
 use Rattle.amd_rounds.proofs.rounds.eliminate.Goals as goal
 
 pub rounds-init : goal.rounds-init

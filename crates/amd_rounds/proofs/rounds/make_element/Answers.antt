@@ -46,6 +46,9 @@ front_of-requires-clause-clear g c = c.requires.sized.idle.rows.1
 pub returns-in_err-front : goal.returns-in_err-front
 returns-in_err-front g c = search rules
 
+pub absorb-requires-clause-fronts : goal.absorb-requires-clause-fronts
+absorb-requires-clause-fronts g c = let s = c.requires.sized in rw (c.deref-5.ensures.value, c.deref-6.ensures.value, c.deref-7.ensures.value) (s.block, s.front)
+
 pub absorb-requires-clause-elements : goal.absorb-requires-clause-elements
 absorb-requires-clause-elements g c = rw c.deref-5.ensures.value c.requires.sized.elements
 
@@ -101,12 +104,14 @@ returns g c =
     let w = c.args.work.now in let p : ℕ = c.choose-pivot.result in let front : List ℕ = c.in_ok-front.front.items in let sized = c.requires.sized in
     let chosen = subst (λ b. Chosen c.deref.result.now b w.placed.items c.choose-pivot.new.lists.items w.least c.choose-pivot.new.least p) c.deref-2.ensures.value c.choose-pivot.ensures.chosen in
     let list : front ≡ gathered c.deref-3.result.now w.lists p = c.in_ok-front.ensures.list in
-    let absorbed = subst (λ f. Absorbed c.args.aggressive p f c.deref-5.result.now w.lists c.absorb.new.lists w.parent.items c.absorb.new.parent.items c.absorb.new.scratch.beyond.items) c.deref-4.ensures.value c.in_ok-absorb.ensures.absorbed in
+    let absorbed = subst (λ f. Absorbed c.args.aggressive p f c.deref-5.result.now c.deref-6.result.now c.deref-7.result.now w.lists c.absorb.new.lists w.parent.items c.absorb.new.parent.items c.absorb.new.scratch.beyond.items) c.deref-4.ensures.value c.in_ok-absorb.ensures.absorbed in
+    let of_blocks = subst (λ b. Absorbed c.args.aggressive p front c.deref-5.result.now b c.deref-7.result.now w.lists c.absorb.new.lists w.parent.items c.absorb.new.parent.items c.absorb.new.scratch.beyond.items) c.deref-6.ensures.value absorbed in
+    let of_fronts = subst (λ f. Absorbed c.args.aggressive p front c.deref-5.result.now w.block.items f w.lists c.absorb.new.lists w.parent.items c.absorb.new.parent.items c.absorb.new.scratch.beyond.items) c.deref-7.ensures.value of_blocks in
     record {
       makes = record {
         chosen = subst (λ s. Chosen s w.bound.items w.placed.items c.choose-pivot.new.lists.items w.least c.choose-pivot.new.least p) c.deref.ensures.value chosen;
         front_is = list ∙ ap (λ s. gathered s w.lists p) c.deref-3.ensures.value;
-        absorbed = subst (λ s. Absorbed c.args.aggressive p front s w.lists c.absorb.new.lists w.parent.items c.absorb.new.parent.items c.absorb.new.scratch.beyond.items) c.deref-5.ensures.value absorbed;
+        absorbed = subst (λ s. Absorbed c.args.aggressive p front s w.block.items w.front.items w.lists c.absorb.new.lists w.parent.items c.absorb.new.parent.items c.absorb.new.scratch.beyond.items) c.deref-5.ensures.value of_fronts;
         rows = record { size = refl; bound = refl; link = refl; live = refl };
         elements = record { block = refl; front = refl; n_dense = refl; figures = refl };
         sized = record {
