@@ -8,6 +8,8 @@ use Rattle.amd_model.specs.Graph.{Graph, edge_count}
 use Rattle.amd_model.specs.State.{State}
 use Rattle.amd_model.specs.Run.{last_state}
 use Rattle.amd_model.specs.Figures.{cut}
+use Rattle.amd_model.specs.Forest.{IsForest}
+use Rattle.amd_model.specs.Laws.{HasNoFill}
 use Rattle.amd_model.specs.Ordering.{IsListingOf, Promises}
 use Rattle.amd_model.specs.Tie.{starting_list}
 use Rattle.amd_model.proofs.Orderings.{orderings_promise}
@@ -20,7 +22,7 @@ use Rattle.amd_model.proofs.BelowLemmas.{count_same, sum_same}
 use Rattle.amd_engine.specs.Plain.{IsEngineAnswer, with_figures}
 use Rattle.amd_numbers.specs.declared.amd.Info.{Info}
 use Rattle.amd_numbers.specs.declared.amd.Status.{Status}
-use Rattle.amd.specs.Answers.{OrdersMatrix, TellsFigures, Reserves, DenseStandLast, IsOrdering, HaveEqualFigures, ordered_pairs}
+use Rattle.amd.specs.Answers.{OrdersMatrix, TellsFigures, Reserves, FillsNothing, DenseStandLast, IsOrdering, HaveEqualFigures, ordered_pairs}
 use Rattle.amd_input.specs.Transposes.{IsCleanTranspose}
 use Rattle.amd_input.specs.PatternFigures.{HasPatternFigures}
 use Rattle.amd_input.specs.Degrees.{AreDegrees}
@@ -40,6 +42,7 @@ orders_turned (pos n) t aggressive a_p a_i b_p b_i p q info status clean o =
     let pairs = same_pairs (is_pair n b_p b_i) (λ i j. is_pair n a_p a_i j i) (pairs_turned n a_p a_i b_p b_i clean.transpose) in
     let told = subst (λ g. TellsFigures g (is_dense g o.threshold) (last_state o.first o.states) info) same o.told in
     let reserves = subst (λ g. Reserves g o.rows info) same o.reserves in
+    let forest = subst (λ g. IsForest g → info.n_dense ≡ 0 → FillsNothing g o.rows info) same o.forest in
     record {
       inverse = o.inverse;
       figures = record { size = f.size; entries = f.entries; diagonal = f.diagonal; off_diagonal = f.off_diagonal; symmetric = f.symmetric };
@@ -56,6 +59,7 @@ orders_turned (pos n) t aggressive a_p a_i b_p b_i p q info status clean o =
       promises = subst (λ g. Promises g (is_dense g o.threshold) o.first o.states o.rows) same o.promises;
       told = record { lnz = told.lnz; divisions = told.divisions; ldl = told.ldl; lu = told.lu; greatest = told.greatest; lnz_most = told.lnz_most; greatest_most = told.greatest_most };
       reserves = record { columns = reserves.columns; factor = reserves.factor; lnz = reserves.lnz; divisions = reserves.divisions; ldl = reserves.ldl; lu = reserves.lu; greatest = reserves.greatest };
+      forest = λ no_cycle none. (let told = forest no_cycle none in record { count = told.count; entry = told.entry });
       room = o.room;
     }
 orders_turned (negsuc n) t aggressive a_p a_i b_p b_i p q info status clean o = absurd clean
@@ -68,6 +72,14 @@ cut_most x m h = omega (arith, h)
 not_cut : (x f : ℕ) → x ≤ f → cut f < 18446744073709551615 → x ≤ cut f
 unfolding cut
 not_cut x f h l = omega (arith, h, l)
+
+-- what is promised of a forest is told by the record, in which no figure is cut
+forest_told : (g : Graph) (dense : ℕ → Bool) (s : State) (p : List ℕ) (info : Info) → TellsFigures g dense s info → info.nz_a_plus_at ≡ 2 * edge_count g → info.nz_a_plus_at < 2 ^ 63 →
+    info.n_dense ≡ count_below g.size dense → (IsForest g → count_below g.size dense ≡ 0 → HasNoFill g dense s p) → IsForest g → info.n_dense ≡ 0 → FillsNothing g p info
+unfolding cut
+forest_told g dense s p info told edges few count promised no_cycle none =
+    let no_fill = promised no_cycle (sym count ∙ none) in let lnz = told.lnz in let entries_are = no_fill.count in
+    record { count = omega (arith, lnz, entries_are, edges, few); entry = no_fill.entry }
 
 -- the dense rows stand last in a listing
 dense_last : (g : Graph) (threshold n_dense : ℕ) (p : List ℤ) (rows : List ℕ) (s : State) → p ≡ map pos rows → ListsEachRow g.size rows → IsPostorder g (is_dense g threshold) s rows →
@@ -112,22 +124,29 @@ engine_orders n t aggressive a_p a_i p q numbers total info new degrees f room o
     let same = sym o.told in
     let figures : HasPatternFigures n a_p a_i (with_figures (graph_of n a_p a_i) (is_dense (graph_of n a_p a_i) o.threshold) (last_state o.first o.states) info)
     = record { size = f.size; entries = f.entries; diagonal = f.diagonal; off_diagonal = f.off_diagonal; symmetric = f.symmetric } in
+    let new_figures : HasPatternFigures n a_p a_i new = subst (HasPatternFigures n a_p a_i) same figures in
+    let new_told : TellsFigures (graph_of n a_p a_i) (is_dense (graph_of n a_p a_i) o.threshold) (last_state o.first o.states) new =
+    subst (TellsFigures (graph_of n a_p a_i) (is_dense (graph_of n a_p a_i) o.threshold) (last_state o.first o.states)) same told in
+    let new_room : new.nz_a_plus_at + new.nz_a_plus_at / 5 + n < 2 ^ 63 = subst (λ x. x.nz_a_plus_at + x.nz_a_plus_at / 5 + n < 2 ^ 63) same
+    (subst (λ m. m + m / 5 + n < 2 ^ 63) (degrees.sum ∙ degrees_twice (graph_of n a_p a_i) (pattern_graph n a_p a_i) ∙ sym f.off_diagonal) room) in
+    let dense_rows = dense_last (graph_of n a_p a_i) o.threshold new.n_dense p o.rows (last_state o.first o.states) o.listed promises.each_row o.listing.listing (ap (λ x. x.n_dense) o.told) in
     record {
       inverse = o.inverse;
-      figures = subst (HasPatternFigures n a_p a_i) same figures;
+      figures = new_figures;
       compactions = subst (λ x. x.n_cmp_a ≤ n) same (omega arith);
       threshold = o.threshold;
       is_threshold = o.is_threshold;
-      dense = dense_last (graph_of n a_p a_i) o.threshold new.n_dense p o.rows (last_state o.first o.states) o.listed promises.each_row o.listing.listing (ap (λ x. x.n_dense) o.told);
+      dense = dense_rows;
       rows = o.rows;
       listed = o.listed;
       first = o.first;
       states = o.states;
       listing = o.listing;
       promises = promises;
-      told = subst (TellsFigures (graph_of n a_p a_i) (is_dense (graph_of n a_p a_i) o.threshold) (last_state o.first o.states)) same told;
+      told = new_told;
       reserves = subst (Reserves (graph_of n a_p a_i) o.rows) same reserves;
-      room = subst (λ x. x.nz_a_plus_at + x.nz_a_plus_at / 5 + n < 2 ^ 63) same (subst (λ m. m + m / 5 + n < 2 ^ 63) (degrees.sum ∙ degrees_twice (graph_of n a_p a_i) (pattern_graph n a_p a_i) ∙ sym f.off_diagonal) room);
+      forest = forest_told (graph_of n a_p a_i) (is_dense (graph_of n a_p a_i) o.threshold) (last_state o.first o.states) o.rows new new_told new_figures.off_diagonal (omega (arith, new_room)) dense_rows.count promises.forest;
+      room = new_room;
     }
 
 -- there is one greatest number with a property

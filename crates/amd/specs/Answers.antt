@@ -7,6 +7,8 @@ use Rattle.amd_model.specs.State.{State}
 use Rattle.amd_model.specs.Run.{last_state}
 use Rattle.amd_model.specs.Figures.{figure, entries, ldl_steps, lu_steps, greatest_front, cut}
 use Rattle.amd_model.specs.Factor.{IsFactor, needed, needed_front}
+use Rattle.amd_model.specs.Forest.{IsForest}
+use Rattle.amd_model.specs.Laws.{EntriesAreEdges}
 use Rattle.amd_model.specs.Ordering.{IsListingOf, Promises}
 use Rattle.amd_model.specs.Tie.{starting_list}
 use Rattle.amd_model.specs.Input.Pattern.{graph_of, is_pair}
@@ -52,6 +54,11 @@ pub record Reserves (g : Graph) (p : List ℕ) (info : Info) : Type 0 where
   pub lu : info.n_mult_subs_lu < 18446744073709551615 → needed lu_steps columns ≤ info.n_mult_subs_lu
   pub greatest : needed_front columns ≤ info.d_max
 
+-- the entries are as many as the edges, of which nz_a_plus_at is the double, and each entry is an edge
+pub record FillsNothing (g : Graph) (p : List ℕ) (info : Info) : Type 0 where
+  pub count : info.lnz ≡ info.nz_a_plus_at / 2
+  pub entry : EntriesAreEdges g p
+
 -- what an ordering of a matrix with n rows and a dense row parameter of t thousandths promises; the pairs order the starting lists
 pub record OrdersMatrix (n : ℕ) (t : ℤ) (aggressive : Bool) (pair : ℕ → ℕ → Bool) (ap ai p q : List ℤ) (info : Info) : Type 0 where
   pub inverse : AreInverse n p q
@@ -70,6 +77,8 @@ pub record OrdersMatrix (n : ℕ) (t : ℤ) (aggressive : Bool) (pair : ℕ → 
   pub promises : Promises (graph_of n ap ai) (is_dense (graph_of n ap ai) threshold) first states rows
   pub told : TellsFigures (graph_of n ap ai) (is_dense (graph_of n ap ai) threshold) (last_state first states) info
   pub reserves : Reserves (graph_of n ap ai) rows info
+  -- where the edges have no cycle and no row is dense, nothing fills in
+  pub forest : IsForest (graph_of n ap ai) → info.n_dense ≡ 0 → FillsNothing (graph_of n ap ai) rows info
   -- a workspace for the lists of that many rows, with a fifth more and n words, has at most the greatest `isize` of words
   pub room : info.nz_a_plus_at + info.nz_a_plus_at / 5 + n < 2 ^ 63
 

@@ -6,7 +6,7 @@
 
 pub mod laws;
 
-ghost use Rattle.std.specs.Prelude.{◌≡◌, ◌≢◌, pos, ◌+◌, ◌/◌, ◌^◌, ◌<◌, map, unsigned_abs, MatchResult, IfOk, IfErr};
+ghost use Rattle.std.specs.Prelude.{◌≡◌, ◌≢◌, pos, ◌+◌, ◌/◌, ◌^◌, ◌<◌, map, unsigned_abs, IfOk, IfErr};
 ghost use Rattle.std.specs.Option.{SomeIff};
 ghost use Rattle.amd_model.specs.Input.Columns.{IsInput, IsSortedInput};
 ghost use Rattle.amd_model.specs.Input.Pattern.{is_pair};
@@ -103,10 +103,9 @@ pub fn order<I: PrimInt, A: Allocator + Copy>(
     control: &Control,
 ) -> Result<(Vec<I, A>, Vec<I, A>, Info), Status>
     // A number of a primitive type is always in range.
-    requires { I.fits (I.value n) }
-    ensures { MatchResult result
-        (λ a. IsOrdering (I.value n) control.now.dense control.now.aggressive (map I.value a_p.now) (map I.value a_i.now) (map I.value a.0.items) (map I.value a.1.items) a.2)
-        (λ e. IsRefusal (I.value n) (map I.value a_p.now) (map I.value a_i.now) e) }
+    requires fits { I.fits (I.value n) }
+    ensures ordering { IfOk result (λ a. IsOrdering (I.value n) control.now.dense control.now.aggressive (map I.value a_p.now) (map I.value a_i.now) (map I.value a.0.items) (map I.value a.1.items) a.2) }
+    ensures refusal { IfErr result (λ e. IsRefusal (I.value n) (map I.value a_p.now) (map I.value a_i.now) e) }
 {
     let Some(count) = to_count(n) else {
         return Err(Status::Invalid);

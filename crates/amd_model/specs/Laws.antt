@@ -98,10 +98,14 @@ pub record Covers (g : Graph) (dense : ℕ → Bool) (s : State) (p : List ℕ) 
   pub lu_need : needed lu_steps columns ≤ figure lu_steps g dense s
   pub front_need : needed_front columns ≤ greatest_front g dense s
 
+-- each entry of the factor under the listing p is an edge
+abbrev pub EntriesAreEdges : Graph → List ℕ → Type 0
+EntriesAreEdges g p = (k j : ℕ) → k < j → j < length p → Reach g (before p k) (slice_index p k) (slice_index p j) → g.edge (slice_index p k) (slice_index p j) ≡ true
+
 -- there is no fill: the entries are as many as the edges, and each of them is an edge
 pub record HasNoFill (g : Graph) (dense : ℕ → Bool) (s : State) (p : List ℕ) : Type 0 where
   pub count : figure entries g dense s ≡ edge_count g
-  pub entry : (k j : ℕ) → k < j → j < length p → Reach g (before p k) (slice_index p k) (slice_index p j) → g.edge (slice_index p k) (slice_index p j) ≡ true
+  pub entry : EntriesAreEdges g p
 
 -- the figures are at most those of a full matrix
 pub record FiguresAreSmall (g : Graph) (dense : ℕ → Bool) (s : State) : Type 0 where

@@ -13,7 +13,7 @@ returns-in_ok-write_ordering-in-Ok-clause-ordered g c = λ _. record {
   q = c.deref-in-Ok.result.now;
   info = c.in-Ok.told;
   wanted = wanted-ordering _ _ _ _ _ _ _ _ _ _ _ _ _ _ (to_z-of_z c.ranges.n) c.default.ensures.0 c.default.ensures.1 (map-id _) (map-id _)
-      (map-id _ ∙ sym c.deref.ensures.value) (map-id _ ∙ sym c.deref-in-Ok.ensures.value) c.in-Ok.ensures
+      (map-id _ ∙ sym c.deref.ensures.value) (map-id _ ∙ sym c.deref-in-Ok.ensures.value) c.in-Ok.ensures.ordering
       (same_true the_type (search rules) _ _ (sym c.if-eq.ensures));
   text = c.in_ok-write_ordering-in-Ok.ensures;
 }
