@@ -1,10 +1,12 @@
 // The twelve integer types: one input in each of them, and the ends of their ranges.
 
+use crate::factors::check_bounds;
 use amd::{Control, Status, order};
 use amd_testing::records::numbers_of;
 use num_traits::PrimInt;
-use std::alloc::Global;
+use std::alloc::{AllocError, Global};
 use std::process::Abort;
+use std::test::Fail;
 
 /// An input, and its answer by the default.
 #[derive(Drop)]
@@ -19,8 +21,20 @@ struct Case<'a, I> {
     numbers: [usize; 11],
 }
 
-/// Asserts that `order` gives the answer of a case.
-fn check<I: PrimInt>(rt: &impl Abort, alloc: Global, case: &Case<I>)
+/// The same numbers as `i64`, up to the first that is none.
+fn widened<I: PrimInt>(alloc: Global, numbers: &[I]) -> Result<Vec<i64>, AllocError> {
+    let mut wide = Vec::new(alloc);
+    for number in numbers {
+        let Some(number) = number.to_i64() else {
+            break;
+        };
+        wide.push(number)?;
+    }
+    Ok(wide)
+}
+
+/// Asserts that `order` gives the answer of a case, and that its figures are not below what the factor needs.
+fn check<I: PrimInt>(rt: &impl Abort, alloc: Global, case: &Case<I>) -> Result<(), AllocError>
     requires { I.fits (I.value case.now.n) }
 {
     let Ok((p, p_inv, info)) = order(alloc, case.n, case.a_p, case.a_i, &Control::default()) else {
@@ -30,6 +44,9 @@ fn check<I: PrimInt>(rt: &impl Abort, alloc: Global, case: &Case<I>)
     assert!(rt; p_inv.as_slice() == case.p_inv);
     assert!(rt; info.status == case.status && info.symmetry == case.symmetric);
     assert_eq!(rt; numbers_of(&info), case.numbers);
+    let (a_p, a_i) = (widened(alloc, case.a_p)?, widened(alloc, case.a_i)?);
+    check_bounds(rt, alloc, &a_p, &a_i, &widened(alloc, &p)?, &info)?;
+    Ok(())
 }
 
 /// The numbers of a record for `n` rows without entries.
@@ -61,21 +78,22 @@ macro_rules! four_cycles {
                 symmetric: false,
                 numbers: [4, 4, 0, 8, 0, 0, 5, 5, 7, 9, 3],
             };
-            check(&$rt, $rt.alloc(), &case);
+            check(&$rt, $rt.alloc(), &case)?;
         )*
     };
 }
 
 #[test]
-fn a_four_cycle_in_each_type(rt: HostRuntime) {
+fn a_four_cycle_in_each_type(rt: HostRuntime) -> Result<(), Fail> {
     four_cycles!(rt; u8 u16 u32 u64 u128 usize i8 i16 i32 i64 i128 isize);
+    Ok(())
 }
 
 /// The power of 2 just past the greatest `u64`.
 const PAST: u128 = 18446744073709551616;
 
 #[test]
-fn inputs_past_the_ends(rt: HostRuntime) {
+fn inputs_past_the_ends(rt: HostRuntime) -> Result<(), Fail> {
     let heap = rt.alloc();
     assert!(rt; is_refused(heap, -128i8, &[0], &[]));
     assert!(rt; is_refused(heap, 127i8, &[0], &[]));
@@ -94,12 +112,13 @@ fn inputs_past_the_ends(rt: HostRuntime) {
         symmetric: true,
         numbers: numbers_without_entries(1),
     };
-    check(&rt, heap, &ignored);
+    check(&rt, heap, &ignored)?;
+    Ok(())
 }
 
 /// As many entries as the greatest pointer of the type can say, all of them one.
 #[test]
-fn as_many_entries_as_a_pointer_says(rt: HostRuntime) {
+fn as_many_entries_as_a_pointer_says(rt: HostRuntime) -> Result<(), Fail> {
     let case: Case<u8> = Case {
         n: 2,
         a_p: &[0, 255, 255],
@@ -110,11 +129,12 @@ fn as_many_entries_as_a_pointer_says(rt: HostRuntime) {
         symmetric: false,
         numbers: [2, 1, 0, 2, 0, 0, 1, 1, 1, 1, 2],
     };
-    check(&rt, rt.alloc(), &case);
+    check(&rt, rt.alloc(), &case)?;
+    Ok(())
 }
 
 #[test]
-fn as_many_rows_as_a_type_has(rt: HostRuntime) {
+fn as_many_rows_as_a_type_has(rt: HostRuntime) -> Result<(), Fail> {
     let mut rows = [0u8; 255];
     for k in 0..255u8 {
         rows[usize::from(k)] = k;
@@ -129,7 +149,7 @@ fn as_many_rows_as_a_type_has(rt: HostRuntime) {
         symmetric: true,
         numbers: numbers_without_entries(255),
     };
-    check(&rt, rt.alloc(), &unsigned);
+    check(&rt, rt.alloc(), &unsigned)?;
     let mut few = [0i8; 127];
     for k in 0..127i8 {
         if let Ok(place) = usize::try_from(k) {
@@ -146,5 +166,6 @@ fn as_many_rows_as_a_type_has(rt: HostRuntime) {
         symmetric: true,
         numbers: numbers_without_entries(127),
     };
-    check(&rt, rt.alloc(), &signed);
+    check(&rt, rt.alloc(), &signed)?;
+    Ok(())
 }
