@@ -34,7 +34,8 @@ ordered_pairs Invalid n ap ai = is_pair n ap ai
 ordered_pairs OkButJumbled n ap ai = λ i j. is_pair n ap ai j i
 ordered_pairs OutOfMemory n ap ai = is_pair n ap ai
 
--- the figures of the run that ended in the state s, cut where they pass the greatest count; they are at most those of a full matrix
+-- the figures of the run that ended in the state s, cut where they pass the greatest count; the entries and the greatest front are
+-- at most those of a full matrix
 pub record TellsFigures (g : Graph) (dense : ℕ → Bool) (s : State) (info : Info) : Type 0 where
   pub lnz : info.lnz ≡ cut (figure entries g dense s)
   pub divisions : info.n_div ≡ info.lnz

@@ -107,7 +107,7 @@ pub record HasNoFill (g : Graph) (dense : ℕ → Bool) (s : State) (p : List �
   pub count : figure entries g dense s ≡ edge_count g
   pub entry : EntriesAreEdges g p
 
--- the figures are at most those of a full matrix
+-- the entries and the greatest front are at most those of a full matrix
 pub record FiguresAreSmall (g : Graph) (dense : ℕ → Bool) (s : State) : Type 0 where
   pub entries_most : figure entries g dense s ≤ g.size * (g.size - 1) / 2
   pub front_most : 0 < g.size → greatest_front g dense s ≤ g.size

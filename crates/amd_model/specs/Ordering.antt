@@ -38,7 +38,7 @@ pub record Promises (g : Graph) (dense : ℕ → Bool) (first : State) (states :
   pub tree : EdgesFollowTree g (last_state first states)
   pub columns : ColumnsInside g (last_state first states) p
   pub empty : EmptyColumns g p
-  -- the figures are never below what the factor needs, and at most those of a full matrix
+  -- the figures are never below what the factor needs, and the entries and the greatest front at most those of a full matrix
   pub covers : Covers g dense (last_state first states) p
   pub small : FiguresAreSmall g dense (last_state first states)
   -- a forest without dense rows has no fill

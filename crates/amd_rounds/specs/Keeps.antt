@@ -70,7 +70,7 @@ pub record Keeps {A : Type 0} (w : Work A) (t : Tie) : Type 0 where
   pub parents : (e : ℕ) → some_at w.parent.items e ≡ t.parent e
   pub links : LinksLead w.link.items t.home
 
--- the sizes of the blocks and fronts of the elements, the dense rows, and the figures so far
+-- the number of rows of each block, and of block and border together; that of the dense rows; and the figures so far
 pub record KeepsFronts {A : Type 0} (g : Graph) (dense : ℕ → Bool) (w : Work A) (s : State) : Type 0 where
   pub blocks : (e : ℕ) → is_element s e ≡ true → num w.block.items e ≡ count_below g.size (in_block s e)
   pub no_element : (e : ℕ) → is_element s e ≡ false → num w.block.items e ≡ 0

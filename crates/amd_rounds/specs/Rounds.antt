@@ -22,7 +22,7 @@ alike_in elements variables i j = each (has (list_at elements i)) (list_at eleme
 abbrev pub less : ℕ → ℕ → ℕ → List ℕ → ℕ
 less e rows b xs = fold (λ m x. cond (x == e) (m - rows) m) b xs
 
--- the rows of the border of e, those of its whole front without its block, less the rows of the classes of a front that list it
+-- the rows of the border of e, those of block and border without its block, less the rows of the classes of a front that list it
 abbrev pub rows_left : {A : Type 0} → List ℕ → List ℕ → List ℕ → List (Vec ℕ A) → List ℕ → ℕ → ℕ
 rows_left block whole size elements front e = fold (λ m i. less e (num size i) m (list_at elements i)) (num whole e - num block e) front
 

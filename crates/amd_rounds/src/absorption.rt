@@ -12,7 +12,7 @@ use crate::marks::{clear_all, touched_by};
 use crate::work::{Lists, Scratch};
 use std::alloc::{AllocError, Allocator};
 
-/// Writes, for each element of a list, the rows of its border: those of its front without those of its block.
+/// Writes, for each element of a list, the rows of its border: those of block and border without those of its block.
 fn count_borders<A: Allocator>(
     touched: &[usize],
     block: &[usize],
@@ -163,7 +163,7 @@ fn shorten<A: Allocator>(
 }
 
 /// The new element of the pivot absorbs elements, and the classes of its front keep what is left. The front and the pivot are
-/// marked before; nothing is after. `block` and `whole` tell the rows of the block and of the front of each element.
+/// marked before; nothing is after. `block` tells the rows of the block of each element, and `whole` those of block and border.
 pub fn absorb<A: Allocator + Copy>(
     alloc: A,
     pivot: usize,

@@ -1,5 +1,6 @@
 // Merging: classes of a new element that keep the same elements and the same variables become one, which the last of them
-// represents. Only classes whose lists have equal lengths and an equal sum of members are compared.
+// represents. Only classes of one group are compared: groups are made by the sum of the two lists modulo the number of rows. Of two
+// lists the lengths are compared before the entries.
 // Source: Amestoy, Davis and Duff 1996 (supervariables, approximate hashing). For the rounds of an engine.
 
 ghost use Rattle.std.specs.Prelude.{[], ◌≡◌, ◌≢◌, ◌<◌, ◌^◌, ◌&&◌, ◌==◌, not, cond, ℕ, Some, true, filter, length, sum_by, OnOk, IfOk};

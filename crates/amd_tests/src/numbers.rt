@@ -1,4 +1,5 @@
-// The twelve integer types: one input in each of them, and the ends of their ranges.
+// The twelve integer types: one input in each of them; ends of the ranges of `u8`, `i8`, `u64` and `i128`; and numbers of type `u128`
+// past the greatest `usize`. Those of `i32` are in `classes`.
 
 use crate::factors::check_bounds;
 use amd::{Control, Status, order};
