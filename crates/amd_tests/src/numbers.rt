@@ -1,5 +1,5 @@
-// The twelve integer types: one input in each of them; ends of the ranges of `u8`, `i8`, `u64` and `i128`; and numbers of type `u128`
-// past the greatest `usize`. Those of `i32` are in `classes`.
+// The twelve integer types: one input in each of them; both ends of each range, as the number of columns, as a pointer and as a
+// row; numbers of type `u128` past the greatest `usize`; and as many rows and entries as a type has.
 
 use crate::factors::check_bounds;
 use amd::{Control, Status, order};
@@ -88,6 +88,27 @@ macro_rules! four_cycles {
 fn a_four_cycle_in_each_type(rt: HostRuntime) -> Result<(), Fail> {
     four_cycles!(rt; u8 u16 u32 u64 u128 usize i8 i16 i32 i64 i128 isize);
     Ok(())
+}
+
+/// Takes the ends of each of the types, but for 0, as the number of columns, as a pointer and as a row.
+macro_rules! both_ends {
+    ($rt:ident; $($number:ty)*) => {
+        $(
+            for end in [<$number>::MIN, <$number>::MAX] {
+                if end != 0 {
+                    assert!($rt; is_refused($rt.alloc(), end, &[0], &[]), "{end} columns");
+                    assert!($rt; is_refused($rt.alloc(), 1, &[end, 1], &[0]), "first {end}");
+                    assert!($rt; is_refused($rt.alloc(), 1, &[0, end], &[0]), "last {end}");
+                    assert!($rt; is_refused($rt.alloc(), 1, &[0, 1], &[end]), "row {end}");
+                }
+            }
+        )*
+    };
+}
+
+#[test]
+fn both_ends_of_each_type(rt: HostRuntime) {
+    both_ends!(rt; u8 u16 u32 u64 u128 usize i8 i16 i32 i64 i128 isize);
 }
 
 /// The power of 2 just past the greatest `u64`.
