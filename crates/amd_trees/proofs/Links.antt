@@ -46,6 +46,17 @@ links_kept {child' = child'} {sibling = sibling} (more {e} {below} {after} a b) 
     (subst (λ z. ListsLinks child' sibling z below) (sym (f e (has_right e below (e ∷ after) (has_head e e after refl)))) (links_kept a (λ v h. f v (has_left v below (e ∷ after) h))))
     (links_kept b (λ v h. f v (has_right v below (e ∷ after) (has_tail v e after h))))
 
+-- what stands before a place of a list stands before its last
+before_last : (xs : List ℕ) (e : ℕ) (after ys : List ℕ) (last : ℕ) → xs ++ e ∷ after ≡ ys ++ last ∷ [] → (u : ℕ) → has xs u ≡ true → has ys u ≡ true
+before_last [] e after ys last q u h = absurd (has_none u h)
+before_last (x ∷ xs) e after [] last q u h =
+    let size = ap length q in let joined = length-append xs (e ∷ after) in
+    absurd (omega (arith, size, joined))
+before_last (x ∷ xs) e after (y ∷ ys) last q u h = elim (has_cases u x xs h) [
+  | inl s ↦ has_head u y ys (s ∙ cc)
+  | inr t ↦ has_tail u y ys (before_last xs e after ys last (cc) u t)
+]
+
 -- what is left: the node on top of the stack after the trees that its link still leads to, and then what the rest of the stack has left
 abbrev pub IsLeft : List ℤ → List ℤ → List ℤ → ℕ → List ℕ → Type 0
 IsLeft child sibling stack zero left = left ≡ []
@@ -138,9 +149,9 @@ module _ (k : ℕ) (listing : List ℕ) (child_before sibling order_before child
   listed : (e : ℕ) → has w.left e ≡ true → has listing e ≡ true
   listed e h = subst (λ m. has m e ≡ true) (sym w.parts) (has_right e w.done w.left h)
 
-  -- the node on top of the stack: it is a node of the tree, and there is a number for it
+  -- the node on top of the stack: it is a node of the tree, and there is a number for it; the child that its link leads to is not the last node
   pub walk_top : (e : ℕ) × (at stack i ≡ pos e) × (has listing e ≡ true) × (k ≤ next) × (height + next ≤ k + length listing) ×
-      ((at child e ≡ negsuc 0) ⊎ ((c : ℕ) × (at child e ≡ pos c) × (has listing c ≡ true) × (height + next < k + length listing)))
+      ((at child e ≡ negsuc 0) ⊎ ((c : ℕ) × (at child e ≡ pos c) × ((below : List ℕ) (last : ℕ) → listing ≡ below ++ last ∷ [] → has below c ≡ true) × (height + next < k + length listing)))
   walk_top =
       let e = path.0 in let below = path.1 in let after = path.2 in
       let size = ap length w.parts ∙ length-append w.done w.left in
@@ -157,7 +168,7 @@ module _ (k : ℕ) (listing : List ℕ) (child_before sibling order_before child
           | inr r ↦ inr (
             r.0,
             r.1,
-            listed r.0 (subst (λ m. has m r.0 ≡ true) (sym path.4) (has_left r.0 below (e ∷ after) r.2)),
+            λ front last q. before_last (w.done ++ below) e after front last (append_assoc w.done below (e ∷ after) ∙ ap (λ m. w.done ++ m) (sym path.4) ∙ sym w.parts ∙ q) r.0 (has_right r.0 w.done below r.2),
             (let p = place_of below r.0 r.2 in let l = p.1 in omega (arith, size, joined, rest, l, count)),
           )
         ],
@@ -279,8 +290,10 @@ turn {k} {root} {nn} {child_before} {sibling} {order_before} {stack_before} {chi
           | inl z ↦ absurd (let b : negsuc 0 ≡ pos c = sym z ∙ q in cc)
           | inr r ↦ (
               let s : r.0 ≡ c = (let b : pos r.0 ≡ pos c = sym r.1 ∙ q in cc) in
-              let l = subst (λ v. v < length child_before) s (f.in_child r.0 r.2) in
-              let m = subst (λ v. v < length sibling) s (f.in_sibling r.0 r.2) in
+              let in_below = r.2 f.tree.below root f.tree.is in
+              let in_tree = subst (λ m. has m r.0 ≡ true) (sym f.tree.is) (has_left r.0 f.tree.below (root ∷ []) in_below) in
+              let l = subst (λ v. v < length child_before) s (f.in_child r.0 in_tree) in
+              let m = subst (λ v. v < length sibling) s (f.in_sibling r.0 in_below) in
               let h = r.3 in
               (omega (arith, l, child_room), m, omega (arith, h, left, in_stack, stack_room), omega (arith, h, numbers)))
         ];

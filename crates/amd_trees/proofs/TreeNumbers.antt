@@ -135,7 +135,7 @@ module _ (t : Tree) (g : IsRanked t) where
           listing = tree;
           tree = tree_linked;
           in_child = λ e h. (let l = tree_small e h in omega (arith, l, child_room));
-          in_sibling = λ e h. (let l = tree_small e h in omega (arith, l, sibling_room));
+          in_sibling = λ e h. (let l = tree_small e (subst (λ m. has m e ≡ true) (sym tree_linked.is) (has_left e tree_linked.below (j ∷ []) h)) in omega (arith, l, sibling_room));
           in_order = λ e h. (let l = tree_small e h in omega (arith, l, order_room));
           in_stack = omega (arith, all, joined, stack_room);
           numbers = omega (arith, all, joined, count);

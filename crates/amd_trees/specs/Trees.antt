@@ -63,12 +63,12 @@ pub record ListsTree (child sibling : List ℤ) (root : ℕ) (listing : List ℕ
   pub is : listing ≡ below ++ root ∷ []
   pub once : Once listing
 
--- a finite tree that fits: its nodes are places of the lists, and as many as the stack and the numbers from k on allow
+-- a finite tree that fits: its nodes are places of the lists, of sibling only those below the root, and as many as the stack and the numbers from k on allow
 pub record FitsTree (child sibling order stack : List ℤ) (root k nn : ℕ) : Type 0 where
   pub listing : List ℕ
   pub tree : ListsTree child sibling root listing
   pub in_child : (e : ℕ) → has listing e ≡ true → e < length child
-  pub in_sibling : (e : ℕ) → has listing e ≡ true → e < length sibling
+  pub in_sibling : (e : ℕ) → has tree.below e ≡ true → e < length sibling
   pub in_order : (e : ℕ) → has listing e ≡ true → e < length order
   pub in_stack : length listing ≤ length stack
   pub numbers : k + length listing ≤ nn

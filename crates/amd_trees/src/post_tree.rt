@@ -9,9 +9,10 @@ use amd_numbers::internal::{copy_link, link_at, set_link};
 /// Numbers the nodes of the tree below `root` from `k` on in postorder, and answers the number after the last.
 ///
 /// `child[i]` is the first child of node `i`, and `sibling[i]` the next one after it; `EMPTY` ends a list. `order[i]` becomes
-/// the number of node `i`. The nodes are places of `child`, `sibling` and `order`, at most `stack.len()` of them, and `k` and
-/// their number are at most `nn`. There is no recursion: the stack holds the path from the root to the node at hand, and a
-/// place of `child` the child to go to next, so it is used up. Places of `order` and `child` of no node of this tree stay.
+/// the number of node `i`. All nodes are places of `child` and `order`, and all but the root are places of `sibling`. There
+/// are at most `stack.len()` nodes, and `k` and their number are at most `nn`. There is no recursion: the stack holds the path
+/// from the root to the node at hand, and a place of `child` the child to go to next, so it is used up. Places of `order` and
+/// `child` of no node of this tree stay.
 pub fn post_tree(
     root: usize,
     k: usize,

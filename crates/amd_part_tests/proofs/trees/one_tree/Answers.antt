@@ -12,6 +12,11 @@ small : (e : ℕ) → has (0 ∷ 1 ∷ 3 ∷ 2 ∷ 5 ∷ []) e ≡ true → e < 
 unfolding each
 small e h = ltb-true e 7 (each_gives (λ x. nat_lt x 7) (0 ∷ 1 ∷ 3 ∷ 2 ∷ 5 ∷ []) refl e h)
 
+-- and so are those below the root
+below_small : (e : ℕ) → has (0 ∷ 1 ∷ 3 ∷ 2 ∷ []) e ≡ true → e < 7
+unfolding each
+below_small e h = ltb-true e 7 (each_gives (λ x. nat_lt x 7) (0 ∷ 1 ∷ 3 ∷ 2 ∷ []) refl e h)
+
 -- each stands once
 once : Once (0 ∷ 1 ∷ 3 ∷ 2 ∷ 5 ∷ [])
 unfolding has
@@ -27,7 +32,7 @@ post_tree-next-requires-clause-fits g c = record {
     once = once;
   };
   in_child = small;
-  in_sibling = small;
+  in_sibling = below_small;
   in_order = small;
   in_stack = omega arith;
   numbers = omega arith;
