@@ -184,11 +184,12 @@ fn drawn_forests(rt: HostRuntime) -> Result<(), Fail> {
     Ok(())
 }
 
-/// Nodes 0, 1, 3 and 2 are the children of node 5, in this order; places 4 and 6 hold no node.
+/// Nodes 0, 1, 3 and 2 are the children of node 5, in this order; places 4 and 6 hold no node. The list
+/// of siblings has no place for the root, which is not asked for.
 #[test]
 fn one_tree(rt: HostRuntime) {
     let mut child = [-1, -1, -1, -1, -7, 0, -7];
-    let sibling = [1, 3, -1, 2, -7, -7, -7];
+    let sibling = [1, 3, -1, 2];
     let mut order = [-7; 7];
     let mut stack = [0; 5];
     let next = post_tree(5, 1, &mut child, &sibling, &mut order, &mut stack, 6);

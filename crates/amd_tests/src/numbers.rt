@@ -90,17 +90,34 @@ fn a_four_cycle_in_each_type(rt: HostRuntime) -> Result<(), Fail> {
     Ok(())
 }
 
-/// Takes the ends of each of the types, but for 0, as the number of columns, as a pointer and as a row.
+/// Whether a number is refused as the number of columns, in two lists of pointers to one column, and as a row. The lists are
+/// `[end, 1]`, `[0, end]` and `[0, 1]`, and `[0]` and `[end]`.
+fn refuses_end<I: PrimInt>(
+    alloc: Global,
+    end: I,
+    one: I,
+    pointers: (&[I], &[I], &[I]),
+    rows: (&[I], &[I]),
+) -> bool
+    requires end { I.fits (I.value end) }
+    requires one { I.fits (I.value one) }
+{
+    let (first, last, unit) = pointers;
+    let (zero, row) = rows;
+    is_refused(alloc, end, zero, &[])
+        && is_refused(alloc, one, first, zero)
+        && is_refused(alloc, one, last, zero)
+        && is_refused(alloc, one, unit, row)
+}
+
+/// Takes the ends of each of the types, but for 0, as the number of columns, the first pointer, the last one, and a row.
 macro_rules! both_ends {
     ($rt:ident; $($number:ty)*) => {
         $(
             for end in [<$number>::MIN, <$number>::MAX] {
-                if end != 0 {
-                    assert!($rt; is_refused($rt.alloc(), end, &[0], &[]), "{end} columns");
-                    assert!($rt; is_refused($rt.alloc(), 1, &[end, 1], &[0]), "first {end}");
-                    assert!($rt; is_refused($rt.alloc(), 1, &[0, end], &[0]), "last {end}");
-                    assert!($rt; is_refused($rt.alloc(), 1, &[0, 1], &[end]), "row {end}");
-                }
+                let pointers: ([$number; 2], [$number; 2], [$number; 2]) = ([end, 1], [0, end], [0, 1]);
+                let lists = (pointers.0.as_slice(), pointers.1.as_slice(), pointers.2.as_slice());
+                assert!($rt; end == 0 || refuses_end($rt.alloc(), end, 1, lists, (&[0], &[end])), "{end}");
             }
         )*
     };

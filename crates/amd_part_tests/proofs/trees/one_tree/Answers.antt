@@ -12,10 +12,10 @@ small : (e : ℕ) → has (0 ∷ 1 ∷ 3 ∷ 2 ∷ 5 ∷ []) e ≡ true → e < 
 unfolding each
 small e h = ltb-true e 7 (each_gives (λ x. nat_lt x 7) (0 ∷ 1 ∷ 3 ∷ 2 ∷ 5 ∷ []) refl e h)
 
--- and so are those below the root
-below_small : (e : ℕ) → has (0 ∷ 1 ∷ 3 ∷ 2 ∷ []) e ≡ true → e < 7
+-- those below the root are below 4
+below_small : (e : ℕ) → has (0 ∷ 1 ∷ 3 ∷ 2 ∷ []) e ≡ true → e < 4
 unfolding each
-below_small e h = ltb-true e 7 (each_gives (λ x. nat_lt x 7) (0 ∷ 1 ∷ 3 ∷ 2 ∷ []) refl e h)
+below_small e h = ltb-true e 4 (each_gives (λ x. nat_lt x 4) (0 ∷ 1 ∷ 3 ∷ 2 ∷ []) refl e h)
 
 -- each stands once
 once : Once (0 ∷ 1 ∷ 3 ∷ 2 ∷ 5 ∷ [])
