@@ -1,8 +1,9 @@
 -- How far the walk over the columns has come.
-use Rattle.std.specs.Prelude.{◌≡◌, ◌+◌, ◌<◌, ◌≤◌, ◌⊎◌, ◌||◌, ◌&&◌, ℕ, Bool, true, cond, nat_eq, nat_lt, List, flat_map, length, slice_index}
+use Rattle.std.specs.Prelude.{◌≡◌, ◌+◌, ◌<◌, ◌≤◌, ◌⊎◌, ◌||◌, ◌&&◌, ℕ, ℤ, Bool, true, cond, nat_eq, nat_lt, List, flat_map, length, slice_index}
 use Rattle.amd_model.specs.Below.{list_below}
+use Rattle.amd_model.specs.Graph.{Graph}
 use Rattle.amd_model.specs.Tie.{met_at}
-use Rattle.amd_numbers.specs.Counts.{is_before, is_entry}
+use Rattle.amd_numbers.specs.Counts.{counts, count_graph, is_before, is_entry}
 
 -- the upper entry (a, b) was read: it stands in a column before k, or in column k above row m
 unfoldable pub is_read : ℕ → ℕ → ℕ → ℕ → Bool
@@ -33,3 +34,16 @@ pub record IsScan (n : ℕ) (ap ai t : List ℕ) (k m : ℕ) : Type 0 where
   pub unset : (a : ℕ) → k ≤ a → slice_index t a ≡ 0
   pub passed : (a c r : ℕ) → a < c → a < n → (c < k) ⊎ ((c ≡ k) × (a < m)) → (c < n → is_entry n ap ai a c ≡ true) → slice_index ap a ≤ r → r < slice_index ap (a + 1) → slice_index ai r ≤ c → r < slice_index t a
   pub reached : (a r : ℕ) → a < n → slice_index ap a ≤ r → r < slice_index t a → (slice_index ai r ≤ a) ⊎ IsReached n ap ai k m a (slice_index ai r)
+
+-- the same of pointers and rows as the caller has them: the graph, its entries, the arcs met so far, and a scan
+abbrev pub graph_read : ℕ → List ℤ → List ℤ → Graph
+graph_read n ap ai = count_graph n (counts ap) (counts ai)
+
+abbrev pub entry_read : ℕ → List ℤ → List ℤ → ℕ → ℕ → Bool
+entry_read n ap ai = is_entry n (counts ap) (counts ai)
+
+abbrev pub met_read : ℕ → List ℤ → List ℤ → List ℕ → ℕ → ℕ → ℕ → ℕ → Bool
+met_read n ap ai t k m = met n (counts ap) (counts ai) t k m
+
+abbrev pub IsScanOf : ℕ → List ℤ → List ℤ → List ℕ → ℕ → ℕ → Type 0
+IsScanOf n ap ai t k m = IsScan n (counts ap) (counts ai) t k m

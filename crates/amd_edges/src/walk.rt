@@ -9,9 +9,8 @@ ghost use Rattle.amd_model.specs.Graph.{Graph};
 ghost use Rattle.amd_model.specs.Input.Columns.{IsColumnForm, IsSorted};
 ghost use Rattle.amd_model.specs.Input.Pattern.{graph_of, diagonal_count, is_pair};
 ghost use Rattle.amd_model.specs.Tie.{met_below, met_edges};
-ghost use Rattle.amd_numbers.specs.Counts.{counts, is_entry, count_graph};
 ghost use Rattle.amd_edges.specs.Visits.{IsNew, arcs_of, with_arc};
-ghost use Rattle.amd_edges.specs.Walk.{IsScan, edges_before, met};
+ghost use Rattle.amd_edges.specs.Walk.{IsScanOf, edges_before, entry_read, graph_read, met_read};
 
 use amd_numbers::internal::count_at;
 use num_traits::PrimInt;
@@ -41,11 +40,11 @@ fn lower<I: PrimInt, V: Visitor, A: Allocator>(
     requires sorted { IsSorted size (map I.value a_p.now) (map I.value a_i.now) }
     requires before { j < k }
     requires k_in { k ≤ size }
-    requires mirror { k < size → is_entry size (counts (map I.value a_p.now)) (counts (map I.value a_i.now)) j k ≡ true }
-    requires scan { IsScan size (counts (map I.value a_p.now)) (counts (map I.value a_i.now)) next.old.items k j }
-    requires held { (arcs : List (ℕ × ℕ)) × V.holds (count_graph size (counts (map I.value a_p.now)) (counts (map I.value a_i.now))) (met size (counts (map I.value a_p.now)) (counts (map I.value a_i.now)) next.old.items k (j + 1)) arcs visitor.old }
-    ensures scan { IsScan size (counts (map I.value a_p.now)) (counts (map I.value a_i.now)) next.new.items k (j + 1) }
-    ensures held { (arcs : List (ℕ × ℕ)) → V.holds (count_graph size (counts (map I.value a_p.now)) (counts (map I.value a_i.now))) (met size (counts (map I.value a_p.now)) (counts (map I.value a_i.now)) next.old.items k (j + 1)) arcs visitor.old → V.holds (count_graph size (counts (map I.value a_p.now)) (counts (map I.value a_i.now))) (met size (counts (map I.value a_p.now)) (counts (map I.value a_i.now)) next.new.items k (j + 1)) (arcs ++ arcs_of (met_below (is_entry size (counts (map I.value a_p.now)) (counts (map I.value a_i.now))) k j)) visitor.new }
+    requires mirror { k < size → entry_read size (map I.value a_p.now) (map I.value a_i.now) j k ≡ true }
+    requires scan { IsScanOf size (map I.value a_p.now) (map I.value a_i.now) next.old.items k j }
+    requires held { (arcs : List (ℕ × ℕ)) × V.holds (graph_read size (map I.value a_p.now) (map I.value a_i.now)) (met_read size (map I.value a_p.now) (map I.value a_i.now) next.old.items k (j + 1)) arcs visitor.old }
+    ensures scan { IsScanOf size (map I.value a_p.now) (map I.value a_i.now) next.new.items k (j + 1) }
+    ensures held { (arcs : List (ℕ × ℕ)) → V.holds (graph_read size (map I.value a_p.now) (map I.value a_i.now)) (met_read size (map I.value a_p.now) (map I.value a_i.now) next.old.items k (j + 1)) arcs visitor.old → V.holds (graph_read size (map I.value a_p.now) (map I.value a_i.now)) (met_read size (map I.value a_p.now) (map I.value a_i.now) next.new.items k (j + 1)) (arcs ++ arcs_of (met_below (entry_read size (map I.value a_p.now) (map I.value a_i.now)) k j)) visitor.new }
     ensures room { vec_capacity next.new ≡ vec_capacity next.old }
 {
     let end = count_at(a_p, j + 1);
@@ -75,12 +74,12 @@ fn column<I: PrimInt, V: Visitor, A: Allocator>(
     requires sorted { IsSorted size (map I.value a_p.now) (map I.value a_i.now) }
     requires k_in { k < size }
     requires room { size ≤ vec_capacity next.old }
-    requires scan { IsScan size (counts (map I.value a_p.now)) (counts (map I.value a_i.now)) next.old.items k 0 }
-    requires held { V.holds (count_graph size (counts (map I.value a_p.now)) (counts (map I.value a_i.now))) (met size (counts (map I.value a_p.now)) (counts (map I.value a_i.now)) next.old.items k 0) (arcs_of (edges_before (is_entry size (counts (map I.value a_p.now)) (counts (map I.value a_i.now))) k)) visitor.old }
-    ensures scan { IsScan size (counts (map I.value a_p.now)) (counts (map I.value a_i.now)) next.new.items (k + 1) 0 }
-    ensures held { V.holds (count_graph size (counts (map I.value a_p.now)) (counts (map I.value a_i.now))) (met size (counts (map I.value a_p.now)) (counts (map I.value a_i.now)) next.new.items (k + 1) 0) (arcs_of (edges_before (is_entry size (counts (map I.value a_p.now)) (counts (map I.value a_i.now))) (k + 1))) visitor.new }
+    requires scan { IsScanOf size (map I.value a_p.now) (map I.value a_i.now) next.old.items k 0 }
+    requires held { V.holds (graph_read size (map I.value a_p.now) (map I.value a_i.now)) (met_read size (map I.value a_p.now) (map I.value a_i.now) next.old.items k 0) (arcs_of (edges_before (entry_read size (map I.value a_p.now) (map I.value a_i.now)) k)) visitor.old }
+    ensures scan { IsScanOf size (map I.value a_p.now) (map I.value a_i.now) next.new.items (k + 1) 0 }
+    ensures held { V.holds (graph_read size (map I.value a_p.now) (map I.value a_i.now)) (met_read size (map I.value a_p.now) (map I.value a_i.now) next.new.items (k + 1) 0) (arcs_of (edges_before (entry_read size (map I.value a_p.now) (map I.value a_i.now)) (k + 1))) visitor.new }
     ensures room { vec_capacity next.new ≡ vec_capacity next.old }
-    ensures diagonal { result ≡ is_entry size (counts (map I.value a_p.now)) (counts (map I.value a_i.now)) k k }
+    ensures diagonal { result ≡ entry_read size (map I.value a_p.now) (map I.value a_i.now) k k }
 {
     let end = count_at(a_p, k + 1);
     let mut place = count_at(a_p, k);
@@ -109,8 +108,8 @@ fn rest<I: PrimInt, V: Visitor, A: Allocator>(
 )
     requires form { IsColumnForm (pos size) size (map I.value a_p.now) (map I.value a_i.now) }
     requires sorted { IsSorted size (map I.value a_p.now) (map I.value a_i.now) }
-    requires scan { IsScan size (counts (map I.value a_p.now)) (counts (map I.value a_i.now)) next.old.items size 0 }
-    requires held { V.holds (count_graph size (counts (map I.value a_p.now)) (counts (map I.value a_i.now))) (met size (counts (map I.value a_p.now)) (counts (map I.value a_i.now)) next.old.items size 0) (arcs_of (edges_before (is_entry size (counts (map I.value a_p.now)) (counts (map I.value a_i.now))) size)) visitor.old }
+    requires scan { IsScanOf size (map I.value a_p.now) (map I.value a_i.now) next.old.items size 0 }
+    requires held { V.holds (graph_read size (map I.value a_p.now) (map I.value a_i.now)) (met_read size (map I.value a_p.now) (map I.value a_i.now) next.old.items size 0) (arcs_of (edges_before (entry_read size (map I.value a_p.now) (map I.value a_i.now)) size)) visitor.old }
     ensures held { V.holds (graph_of size (map I.value a_p.now) (map I.value a_i.now)) ((graph_of size (map I.value a_p.now) (map I.value a_i.now)).edge) (arcs_of (met_edges size (is_pair size (map I.value a_p.now) (map I.value a_i.now)))) visitor.new }
 {
     'columns: for j in 0..size {
