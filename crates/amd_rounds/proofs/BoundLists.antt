@@ -1,6 +1,7 @@
 -- What a loop over a list has met: the numbers before an index, each once.
 use Rattle.std.proofs.Common.{ℕ, zero, suc, Bool, true, false, ◌≡◌, ◌≢◌, ◌<◌, ◌≤◌, ◌+◌, ◌||◌, cond, inl, inr, refl, sym, ◌∙◌, ap, subst, arith, List, [], ◌∷◌, ◌++◌, take, set, map, length, get_or, Vec}
 use Rattle.std.specs.Prelude.{◌==◌, min, All}
+use Rattle.std.proofs.Math.Bool.{or-false}
 use Rattle.std.proofs.lemmas.Bool.{cases_Bool, false≢true, or_cases, or_left, or_right, eqb-true, eq-eqb, ne_eqb, cases_eq, cond-true, cond-false}
 use Rattle.std.proofs.lemmas.List.{take_more, take_all, get_or-map, map-set, length-map, length-set, get_or-set_same, get_or-set_other}
 use Rattle.amd_model.specs.Figures.{cut}
@@ -24,11 +25,7 @@ cut_min a = refl
 -- the numbers before an index, and the next
 pub has_more : (xs : List ℕ) (k d : ℕ) → k < length xs → (x : ℕ) → has (take (k + 1) xs) x ≡ (has (take k xs) x || get_or xs k d == x)
 unfolding has
-has_more xs k d l x = ap (λ ys. has ys x) (take_more xs k d l) ∙ has_append (take k xs) (get_or xs k d ∷ []) x ∙ ap (λ b. has (take k xs) x || b) (or_none (get_or xs k d == x))
-  where
-    or_none : (b : Bool) → (b || false) ≡ b
-    or_none true = refl
-    or_none false = refl
+has_more xs k d l x = ap (λ ys. has ys x) (take_more xs k d l) ∙ has_append (take k xs) (get_or xs k d ∷ []) x ∙ ap (λ b. has (take k xs) x || b) (or-false (get_or xs k d == x))
 
 pub has_all : (xs : List ℕ) (k : ℕ) → length xs ≤ k → (x : ℕ) → has (take k xs) x ≡ has xs x
 has_all xs k l x = ap (λ ys. has ys x) (take_all k xs l)

@@ -2,6 +2,7 @@
 -- the rules.
 use Rattle.std.proofs.Common.{ℕ, Bool, true, false, ◌≡◌, ◌≤◌, ◌<◌, ◌&&◌, ◌||◌, not, inl, inr, refl, sym, ◌∙◌, ap, subst, List, [], ◌∷◌, ◌++◌, Vec, Some, cond, arith}
 use Rattle.std.specs.Prelude.{fold, filter, nat_le, nat_lt, ◌==◌}
+use Rattle.std.proofs.Math.Bool.{or-false, and-true, and-false}
 use Rattle.std.proofs.lemmas.Bool.{cases_Bool, cond-true, cond-false, cond_both, cases_eq, cases_lt, cases_order, eq-eqb, ne_eqb, eqb-true, le-leb, lt-ltb, or_left, or_right, or_cases, and_parts, and_from, not-true, false≢true}
 use Rattle.std.proofs.lemmas.List.{append-nil}
 use Rattle.std.proofs.lemmas.List.Elements.{filter-append}
@@ -10,7 +11,7 @@ use Rattle.amd_model.specs.Tie.{has, Once, pivot, last_that}
 use Rattle.amd_model.proofs.TieLists.{clash, has_append, has_filter, once_filter, pivot_least, pivot_named}
 use Rattle.amd_rounds.specs.Views.{num, list_at}
 use Rattle.amd_rounds.specs.Buckets.{live_in, lasts, Popped, Chosen}
-use Rattle.amd_rounds.proofs.MarkLists.{or_none, and_all, and_none, filter_yes, filter_no}
+use Rattle.amd_rounds.proofs.MarkLists.{filter_yes, filter_no}
 
 -- ---- what filters keep
 
@@ -94,7 +95,7 @@ pub lasts_filter : (p : ℕ → Bool) (xs : List ℕ) → lasts (filter p xs) �
 unfolding lasts
 lasts_filter p [] = refl
 lasts_filter p (x ∷ xs) = elim (cases_Bool (p x)) [
-  | inl a ↦ (let named : has (filter p xs) x ≡ has xs x = has_filter p xs x ∙ ap (λ b. has xs x && b) a ∙ and_all (has xs x) in
+  | inl a ↦ (let named : has (filter p xs) x ≡ has xs x = has_filter p xs x ∙ ap (λ b. has xs x && b) a ∙ and-true (has xs x) in
       ap lasts (filter_yes p x xs a) ∙ elim (cases_Bool (has xs x)) [
         | inl h ↦ lasts_old x (filter p xs) (named ∙ h) ∙ lasts_filter p xs ∙ sym (ap (filter p) (lasts_old x xs h))
         | inr h ↦ lasts_new x (filter p xs) (named ∙ h) ∙ ap (λ l. x ∷ l) (lasts_filter p xs) ∙ sym (ap (filter p) (lasts_new x xs h) ∙ filter_yes p x (lasts xs) a)
@@ -108,7 +109,7 @@ lasts_filter p (x ∷ xs) = elim (cases_Bool (p x)) [
 -- a number is placed behind the others
 pub lasts_push : (xs : List ℕ) (c : ℕ) → lasts (xs ++ c ∷ []) ≡ filter (λ x. not (x == c)) (lasts xs) ++ c ∷ []
 unfolding has lasts
-lasts_push xs c = lasts_append xs (c ∷ []) ∙ ap (λ l. l ++ c ∷ []) (filter_on (λ x. not (has (c ∷ []) x)) (λ x. not (x == c)) (lasts xs) (λ x h. ap not (or_none (c == x) ∙ eq_flip c x)))
+lasts_push xs c = lasts_append xs (c ∷ []) ∙ ap (λ l. l ++ c ∷ []) (filter_on (λ x. not (has (c ∷ []) x)) (λ x. not (x == c)) (lasts xs) (λ x h. ap not (or-false (c == x) ∙ eq_flip c x)))
 
 -- ---- the pivot
 
@@ -182,7 +183,7 @@ lasts_without : (p : ℕ → Bool) (c : ℕ) (xs : List ℕ) → p c ≡ false �
 lasts_without p c xs f = ap (filter p) (lasts_push xs c) ∙ filter-append p (filter (λ x. not (x == c)) (lasts xs)) (c ∷ [])
     ∙ ap (λ l. filter p (filter (λ x. not (x == c)) (lasts xs)) ++ l) (filter_no p c [] f) ∙ append-nil (filter p (filter (λ x. not (x == c)) (lasts xs)))
     ∙ filter_twice p (λ x. not (x == c)) (lasts xs) ∙ filter_on (λ x. not (x == c) && p x) p (lasts xs) (λ x h. elim (cases_eq x c) [
-      | inl e ↦ (let q : p x ≡ false = ap p e ∙ f in ap (λ b. not (x == c) && b) q ∙ and_none (not (x == c)) ∙ sym q)
+      | inl e ↦ (let q : p x ≡ false = ap p e ∙ f in ap (λ b. not (x == c) && b) q ∙ and-false (not (x == c)) ∙ sym q)
       | inr n ↦ ap (λ b. not b && p x) (ne_eqb x c n)
     ])
 
@@ -251,10 +252,10 @@ module _ {A : Type 0} (size bound : List ℕ) (old mid : List (Vec ℕ A)) (befo
                 | inl k ↦ clash (or_right (x == c) (has front x) (of_front x k)) out
               ] in
               let same : live ≡ was_live = ap (λ n. nat_lt 0 n && num bounds x == b) kept.0 ∙ ap (λ n. nat_lt 0 (num size x) && n == b) kept.1 in
-              ap (λ t. live && not t) (again_is ∙ ap (λ t. t && num bounds x == b) not_made) ∙ and_all live ∙ same ∙ sym (ap (λ t. was_live && not t) out ∙ and_all was_live))
+              ap (λ t. live && not t) (again_is ∙ ap (λ t. t && num bounds x == b) not_made) ∙ and-true live ∙ same ∙ sym (ap (λ t. was_live && not t) out ∙ and-true was_live))
           | inl inside ↦ elim (cases_Bool (has made x)) [
-            | inl k ↦ ap (λ t. live && not t) (again_is ∙ ap (λ t. t && num bounds x == b) k) ∙ and_own (nat_lt 0 (num sizes x)) (num bounds x == b) ∙ sym (ap (λ t. was_live && not t) inside ∙ and_none was_live)
-            | inr k ↦ ap (λ n. (nat_lt 0 n && num bounds x == b) && not again) (ended x inside k) ∙ sym (ap (λ t. was_live && not t) inside ∙ and_none was_live)
+            | inl k ↦ ap (λ t. live && not t) (again_is ∙ ap (λ t. t && num bounds x == b) k) ∙ and_own (nat_lt 0 (num sizes x)) (num bounds x == b) ∙ sym (ap (λ t. was_live && not t) inside ∙ and-false was_live)
+            | inr k ↦ ap (λ n. (nat_lt 0 n && num bounds x == b) && not again) (ended x inside k) ∙ sym (ap (λ t. was_live && not t) inside ∙ and-false was_live)
           ]
         ]
       where
@@ -298,12 +299,12 @@ module _ {A : Type 0} (size bound : List ℕ) (old mid : List (Vec ℕ A)) (befo
 
         agree : (b x : ℕ) → has placed x ≡ true → (bound_of x == b && not (x == c || has front x)) ≡ (not (x == c || has front x) && bound_after x == b)
         agree b x h = elim (cases_Bool (x == c || has front x)) [
-          | inl inside ↦ ap (λ t. bound_of x == b && not t) inside ∙ and_none (bound_of x == b) ∙ sym (ap (λ t. not t && bound_after x == b) inside)
+          | inl inside ↦ ap (λ t. bound_of x == b && not t) inside ∙ and-false (bound_of x == b) ∙ sym (ap (λ t. not t && bound_after x == b) inside)
           | inr out ↦ (
               let other = λ (i : ℕ). not (i == c || has front i) in
               let stays : has (filter other placed) x ≡ true = has_filter other placed x ∙ and_from (has placed x) (other x) h (ap not out) in
               let same : bound_of x ≡ bound_after x = bound_is x h ∙ sym (stay x out).1 ∙ sym (after_is x (has_append (filter other placed) made x ∙ or_left (has (filter other placed) x) (has made x) stays)) in
-              ap (λ t. bound_of x == b && not t) out ∙ and_all (bound_of x == b) ∙ ap (λ n. n == b) same ∙ sym (ap (λ t. not t && bound_after x == b) out))
+              ap (λ t. bound_of x == b && not t) out ∙ and-true (bound_of x == b) ∙ ap (λ n. n == b) same ∙ sym (ap (λ t. not t && bound_after x == b) out))
         ]
 
     -- what is below the bound that was chosen and the bounds of those that are placed is below all of them

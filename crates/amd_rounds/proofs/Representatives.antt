@@ -1,6 +1,7 @@
 -- The representative of each class of a list, the last one alike, and the groups in which it is found from the last to the first.
 use Rattle.std.proofs.Common.{ℕ, zero, suc, Bool, true, false, ◌≡◌, ◌≢◌, ◌<◌, ◌+◌, ◌%◌, ◌^◌, ◌&&◌, ◌||◌, cond, inl, inr, refl, sym, ◌∙◌, ap, subst, arith, List, [], ◌∷◌, ◌++◌, take, drop, length, get_or, add-one, Vec}
 use Rattle.std.specs.Prelude.{◌==◌, fold}
+use Rattle.std.proofs.Math.Bool.{or-false}
 use Rattle.std.proofs.lemmas.Bool.{cases_Bool, false≢true, and_parts, and_from, and_left, and_right, or_left, or_right, eqb-true, eq-eqb, ne_eqb, cases_eq, cond-true, cond-false}
 use Rattle.std.proofs.lemmas.List.{drop_more, take-append-drop, drop_all}
 use Rattle.std.proofs.lemmas.List.Sums.{fold-append}
@@ -220,13 +221,9 @@ module _ (alike : ℕ → ℕ → Bool) (self : (x : ℕ) → alike x x ≡ true
                   ∙ and_right (has (drop k rest) y && rep y == y) (group y == b) (ne_eqb (group y) b (λ q. off (sym q))))
             ]
             | inl on ↦ ap (λ ys. has ys x) (cond-true (b == group y) (before b ++ y ∷ []) (before b) (eq-eqb b (group y) on)) ∙ has_append (before b) (y ∷ []) x ∙ elim (cases_eq x y) [
-              | inr other ↦ ap (λ c. has (before b) x || (c || false)) (ne_eqb y x (λ e. other (sym e))) ∙ or_none (has (before b) x) ∙ stays b x other
+              | inr other ↦ ap (λ c. has (before b) x || (c || false)) (ne_eqb y x (λ e. other (sym e))) ∙ or-false (has (before b) x) ∙ stays b x other
               | inl e ↦ or_right (has (before b) x) (y == x || false) (or_left (y == x) false (eq-eqb y x (sym e))) ∙ sym (ap (λ z. has (drop k rest) z && rep z == z && group z == b) e
                   ∙ and_from (has (drop k rest) y && rep y == y) (group y == b) (and_from (has (drop k rest) y) (rep y == y) (here_first once k within) (eq-eqb (rep y) y is)) (eq-eqb (group y) b (sym on)))
             ]
           ];
         }
-      where
-        or_none : (b : Bool) → (b || false) ≡ b
-        or_none true = refl
-        or_none false = refl

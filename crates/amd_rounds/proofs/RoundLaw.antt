@@ -1,6 +1,7 @@
 -- A round of the plain engine computes the next lists of the machine, in the sizes, bounds and lists of classes and elements.
 use Rattle.std.proofs.Common.{ℕ, suc, Bool, true, false, Option, None, Some, List, [], ◌∷◌, ◌≡◌, ◌≢◌, ◌≤◌, ◌<◌, ◌+◌, ◌-◌, ◌∙◌, ◌&&◌, ◌||◌, not, min, cond, ap, sym, refl, subst, inl, inr, arith, length}
 use Rattle.std.specs.Prelude.{filter, sum_by, nat_lt, is_none, ◌==◌, ◌⊎◌, ◌^◌}
+use Rattle.std.proofs.Math.Bool.{and-false, and-true}
 use Rattle.std.proofs.lemmas.Bool.{cases_Bool, cases_eq, cond-true, cond-false, or_left, or_right, or_from, or_parts, or_cases, and_from, and_parts, and_left, eqb-true, eq-eqb, ne_eqb, lt-ltb, le-ltb, not-true, not_from_false}
 use Rattle.amd_model.specs.Graph.{Graph}
 use Rattle.amd_model.specs.Figures.{cut}
@@ -41,14 +42,6 @@ pub record Found {A : Type 0} (aggressive : Bool) (w v : Work A) (t : Tie) (r : 
   pub into_is : (i : ℕ) → has (rest aggressive t r.c (gathered t r.c)) i ≡ true → num r.into i ≡ represents aggressive t r.c (gathered t r.c) i
   pub made_is : r.made ≡ made aggressive t r.c (gathered t r.c)
   pub one_made : (i : ℕ) → has (rest aggressive t r.c (gathered t r.c)) i ≡ true → has (made aggressive t r.c (gathered t r.c)) (represents aggressive t r.c (gathered t r.c) i) ≡ true
-
-and_false : (a : Bool) → (a && false) ≡ false
-and_false true = refl
-and_false false = refl
-
-and_true : (a : Bool) → (a && true) ≡ a
-and_true true = refl
-and_true false = refl
 
 -- a number that a word holds is the lesser of itself and what is cut
 min_cut : (a x : ℕ) → a < 2 ^ 64 → min a (cut x) ≡ min a x
@@ -153,7 +146,7 @@ module _ {A : Type 0} (g : Graph) (dense : ℕ → Bool) (aggressive : Bool) (w 
   retired_rest : (j : ℕ) → has R j ≡ true → num r.retired j ≡ t.size j
   retired_rest j h = r.retired_is j
       ∙ cond-false (has r.front j && keeps_none r.kept.elements.items r.kept.variables.items j) 0 (num w.size.items j)
-      (ap (λ b. has r.front j && b) (none_kept j (rest_front j h) ∙ rest_keeps j h) ∙ and_false (has r.front j))
+      (ap (λ b. has r.front j && b) (none_kept j (rest_front j h) ∙ rest_keeps j h) ∙ and-false (has r.front j))
       ∙ st.keeps.size j (front_placed j (rest_front j h))
 
   size_at : (x : ℕ) → (x == r.c) ≡ false → num v.size.items x ≡ num r.joined x
@@ -216,7 +209,7 @@ module _ {A : Type 0} (g : Graph) (dense : ℕ → Bool) (aggressive : Bool) (w 
             and_from (has t.placed i) (not (i == r.c || (has L i && not (has M i)))) p.0
             (not_from_false (i == r.c || (has L i && not (has M i))) (or_from (i == r.c) (has L i && not (has M i)) q.0 (and_left (has L i) (not (has M i)) q.1))))
         | inr a ↦ and_from (has t.placed i) (not (i == r.c || (has L i && not (has M i)))) (front_placed i (made_front i a))
-            (not_from_false (i == r.c || (has L i && not (has M i))) (or_from (i == r.c) (has L i && not (has M i)) (not_c i (made_front i a)) (ap (λ b. has L i && not b) a ∙ and_false (has L i))))
+            (not_from_false (i == r.c || (has L i && not (has M i))) (or_from (i == r.c) (has L i && not (has M i)) (not_c i (made_front i a)) (ap (λ b. has L i && not b) a ∙ and-false (has L i))))
       ])
       (λ h. let p = and_parts (has t.placed i) (not (i == r.c || (has L i && not (has M i)))) h in
       let q = or_parts (i == r.c) (has L i && not (has M i)) (not-true (i == r.c || (has L i && not (has M i))) p.1) in
@@ -224,7 +217,7 @@ module _ {A : Type 0} (g : Graph) (dense : ℕ → Bool) (aggressive : Bool) (w 
         | inl a ↦ or_right (has (filter (λ i. not (i == r.c || has L i)) t.placed) i) (has M i) a
         | inr n ↦ or_left (has (filter (λ i. not (i == r.c || has L i)) t.placed) i) (has M i)
             (has_filter (λ i. not (i == r.c || has L i)) t.placed i ∙ and_from (has t.placed i) (not (i == r.c || has L i)) p.0
-            (not_from_false (i == r.c || has L i) (or_from (i == r.c) (has L i) q.0 (sym (ap (λ b. has L i && not b) n ∙ and_true (has L i)) ∙ q.1))))
+            (not_from_false (i == r.c || has L i) (or_from (i == r.c) (has L i) q.0 (sym (ap (λ b. has L i && not b) n ∙ and-true (has L i)) ∙ q.1))))
       ])
 
   -- a class of the next lists is one of the new element's list, or stands outside of it
@@ -232,7 +225,7 @@ module _ {A : Type 0} (g : Graph) (dense : ℕ → Bool) (aggressive : Bool) (w 
   unfolding ends
   placed_cases i h n = let p = and_parts (has t.placed i) (not (ends aggressive t r.c L i)) (sym (new_placed i) ∙ h) in
       let q = or_parts (i == r.c) (has L i && not (has M i)) (not-true (i == r.c || (has L i && not (has M i))) p.1) in
-      (p.0, q.0, sym (ap (λ b. has L i && not b) n ∙ and_true (has L i)) ∙ q.1)
+      (p.0, q.0, sym (ap (λ b. has L i && not b) n ∙ and-true (has L i)) ∙ q.1)
 
   made_placed : (i : ℕ) → has M i ≡ true → has new_lists.placed i ≡ true
   unfolding round
@@ -369,7 +362,7 @@ module _ {A : Type 0} (g : Graph) (dense : ℕ → Bool) (aggressive : Bool) (w 
   moved_rest : (d : ℕ) → has R d ≡ true → moved (Live d) ≡ Live (represents aggressive t r.c L d)
   unfolding new_home
   moved_rest d h = cond-false (d == r.c || (has L d && done aggressive t r.c L d)) (Gone r.c) (cond (has R d) (Live (represents aggressive t r.c L d)) (Live d))
-      (or_from (d == r.c) (has L d && done aggressive t r.c L d) (not_c d (rest_front d h)) (ap (λ b. has L d && b) (rest_keeps d h) ∙ and_false (has L d)))
+      (or_from (d == r.c) (has L d && done aggressive t r.c L d) (not_c d (rest_front d h)) (ap (λ b. has L d && b) (rest_keeps d h) ∙ and-false (has L d)))
       ∙ cond-true (has R d) (Live (represents aggressive t r.c L d)) (Live d) h
 
   moved_other : (d : ℕ) → (d == r.c) ≡ false → has L d ≡ false → moved (Live d) ≡ Live d
