@@ -7,7 +7,7 @@ use Rattle.std.proofs.lemmas.List.Elements.{All-set, All-nil, All-take}
 use Rattle.amd_model.specs.Tie.{has}
 use Rattle.amd_rounds.specs.Views.{list_at, Below, ListsBelow}
 use Rattle.amd_rounds.specs.Buckets.{live_in, Popped}
-use Rattle.amd_rounds.proofs.MarkLists.{filter_yes, filter_no}
+use Rattle.amd_rounds.proofs.Lists.{filter_yes, filter_no}
 
 -- the list that is written
 pub list_set_same : {A : Type 0} (lists : List (Vec ℕ A)) (e : ℕ) (v : Vec ℕ A) → e < length lists → list_at (set lists e v) e ≡ v.items

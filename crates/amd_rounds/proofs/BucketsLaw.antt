@@ -11,7 +11,7 @@ use Rattle.amd_model.specs.Tie.{has, Once, pivot, last_that}
 use Rattle.amd_model.proofs.TieLists.{clash, has_append, has_filter, once_filter, pivot_least, pivot_named}
 use Rattle.amd_rounds.specs.Views.{num, list_at}
 use Rattle.amd_rounds.specs.Buckets.{live_in, lasts, Popped, Chosen}
-use Rattle.amd_rounds.proofs.MarkLists.{filter_yes, filter_no}
+use Rattle.amd_rounds.proofs.Lists.{filter_yes, filter_no, filter_named, filter_both}
 
 -- ---- what filters keep
 
@@ -21,23 +21,8 @@ eq_flip a b = elim (cases_eq a b) [
   | inr n ↦ ne_eqb a b n ∙ sym (ne_eqb b a (λ e. n (sym e)))
 ]
 
--- tests that agree on a list keep the same of it
-pub filter_on : (p q : ℕ → Bool) (xs : List ℕ) → ((x : ℕ) → has xs x ≡ true → p x ≡ q x) → filter p xs ≡ filter q xs
-unfolding has
-filter_on p q [] h = refl
-filter_on p q (x ∷ xs) h = ap (λ b. cond b (x ∷ filter p xs) (filter p xs)) (h x (or_left (x == x) (has xs x) (eq-eqb x x refl)))
-    ∙ ap (λ l. cond (q x) (x ∷ l) l) (filter_on p q xs (λ y k. h y (or_right (x == y) (has xs y) k)))
-
--- what passes one test and then another
-pub filter_twice : (p q : ℕ → Bool) (xs : List ℕ) → filter p (filter q xs) ≡ filter (λ x. q x && p x) xs
-filter_twice p q [] = refl
-filter_twice p q (x ∷ xs) = elim (cases_Bool (q x)) [
-  | inl h ↦ ap (filter p) (filter_yes q x xs h) ∙ ap (λ l. cond (p x) (x ∷ l) l) (filter_twice p q xs) ∙ sym (ap (λ b. cond (b && p x) (x ∷ filter (λ y. q y && p y) xs) (filter (λ y. q y && p y) xs)) h)
-  | inr h ↦ ap (filter p) (filter_no q x xs h) ∙ filter_twice p q xs ∙ sym (ap (λ b. cond (b && p x) (x ∷ filter (λ y. q y && p y) xs) (filter (λ y. q y && p y) xs)) h)
-]
-
 pub filters_on : (p q r s : ℕ → Bool) (xs : List ℕ) → ((x : ℕ) → has xs x ≡ true → (q x && p x) ≡ (s x && r x)) → filter p (filter q xs) ≡ filter r (filter s xs)
-filters_on p q r s xs h = filter_twice p q xs ∙ filter_on (λ x. q x && p x) (λ x. s x && r x) xs h ∙ sym (filter_twice r s xs)
+filters_on p q r s xs h = sym (filter_both q p xs) ∙ filter_named (λ x. q x && p x) (λ x. s x && r x) xs h ∙ filter_both s r xs
 
 -- ---- each number at its last place
 
@@ -109,7 +94,7 @@ lasts_filter p (x ∷ xs) = elim (cases_Bool (p x)) [
 -- a number is placed behind the others
 pub lasts_push : (xs : List ℕ) (c : ℕ) → lasts (xs ++ c ∷ []) ≡ filter (λ x. not (x == c)) (lasts xs) ++ c ∷ []
 unfolding has lasts
-lasts_push xs c = lasts_append xs (c ∷ []) ∙ ap (λ l. l ++ c ∷ []) (filter_on (λ x. not (has (c ∷ []) x)) (λ x. not (x == c)) (lasts xs) (λ x h. ap not (or-false (c == x) ∙ eq_flip c x)))
+lasts_push xs c = lasts_append xs (c ∷ []) ∙ ap (λ l. l ++ c ∷ []) (filter_named (λ x. not (has (c ∷ []) x)) (λ x. not (x == c)) (lasts xs) (λ x h. ap not (or-false (c == x) ∙ eq_flip c x)))
 
 -- ---- the pivot
 
@@ -182,7 +167,7 @@ popped_live size bound b old new c h =
 lasts_without : (p : ℕ → Bool) (c : ℕ) (xs : List ℕ) → p c ≡ false → filter p (lasts (xs ++ c ∷ [])) ≡ filter p (lasts xs)
 lasts_without p c xs f = ap (filter p) (lasts_push xs c) ∙ filter-append p (filter (λ x. not (x == c)) (lasts xs)) (c ∷ [])
     ∙ ap (λ l. filter p (filter (λ x. not (x == c)) (lasts xs)) ++ l) (filter_no p c [] f) ∙ append-nil (filter p (filter (λ x. not (x == c)) (lasts xs)))
-    ∙ filter_twice p (λ x. not (x == c)) (lasts xs) ∙ filter_on (λ x. not (x == c) && p x) p (lasts xs) (λ x h. elim (cases_eq x c) [
+    ∙ sym (filter_both (λ x. not (x == c)) p (lasts xs)) ∙ filter_named (λ x. not (x == c) && p x) p (lasts xs) (λ x h. elim (cases_eq x c) [
       | inl e ↦ (let q : p x ≡ false = ap p e ∙ f in ap (λ b. not (x == c) && b) q ∙ and-false (not (x == c)) ∙ sym q)
       | inr n ↦ ap (λ b. not b && p x) (ne_eqb x c n)
     ])
@@ -273,9 +258,9 @@ module _ {A : Type 0} (size bound : List ℕ) (old mid : List (Vec ℕ A)) (befo
         let again : List ℕ = filter (λ i. num bounds i == b) made in
         let before_list : List ℕ = list_at mid b in
         -- those that are placed again
-        let again_live : filter live again ≡ again = filter_twice live (λ i. num bounds i == b) made
-        ∙ filter_on (λ x. num bounds x == b && live x) (λ i. num bounds i == b) made (λ x h. and_same (nat_lt 0 (num sizes x)) (num bounds x == b) (lt-ltb 0 (num sizes x) (made_live x h))) in
-        let again_after : again ≡ filter (λ i. bound_after i == b) made = filter_on (λ i. num bounds i == b) (λ i. bound_after i == b) made
+        let again_live : filter live again ≡ again = sym (filter_both (λ i. num bounds i == b) live made)
+        ∙ filter_named (λ x. num bounds x == b && live x) (λ i. num bounds i == b) made (λ x h. and_same (nat_lt 0 (num sizes x)) (num bounds x == b) (lt-ltb 0 (num sizes x) (made_live x h))) in
+        let again_after : again ≡ filter (λ i. bound_after i == b) made = filter_named (λ i. num bounds i == b) (λ i. bound_after i == b) made
         (λ x h. ap (λ n. n == b) (sym (after_is x (has_append (filter other placed) made x ∙ or_right (has (filter other placed) x) (has made x) h)))) in
         -- the others
         let other_c : other c ≡ false = ap not (or_left (c == c) (has front c) (eq-eqb c c refl)) in

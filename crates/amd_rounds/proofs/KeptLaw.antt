@@ -16,41 +16,10 @@ use Rattle.amd_rounds.specs.Keeps.{Keeps}
 use Rattle.amd_rounds.specs.declared.work.Lists.{Lists}
 use Rattle.amd_rounds.specs.declared.work.Work.{Work}
 use Rattle.amd_model.proofs.TieFar.{border_parts}
-use Rattle.amd_rounds.proofs.KeptParts.{filter_agree}
+use Rattle.amd_rounds.proofs.Lists.{filter_named, filter_both, sum_named, flat_same}
 use Rattle.amd_rounds.proofs.Taken.{taken_off}
 
 -- ---- lists
-
--- lists of what a list names are gathered alike if they are the same
-flat_same : (f h : ℕ → List ℕ) (xs : List ℕ) → ((x : ℕ) → has xs x ≡ true → f x ≡ h x) → flat_map f xs ≡ flat_map h xs
-unfolding has
-flat_same f h [] same = refl
-flat_same f h (x ∷ xs) same = let a = same x (or_left (x == x) (has xs x) (eq-eqb x x refl)) in let b = flat_same f h xs (λ y n. same y (or_right (x == y) (has xs y) n)) in
-    ap (λ l. l ++ flat_map f xs) a ∙ ap (λ l. h x ++ l) b
-
--- tests that agree on a list filter it the same
-filter_same : (p q : ℕ → Bool) (xs : List ℕ) → ((x : ℕ) → has xs x ≡ true → p x ≡ q x) → filter p xs ≡ filter q xs
-unfolding has
-filter_same p q [] same = refl
-filter_same p q (x ∷ xs) same = let a = same x (or_left (x == x) (has xs x) (eq-eqb x x refl)) in let b = filter_same p q xs (λ y n. same y (or_right (x == y) (has xs y) n)) in
-    ap (λ b. cond b (x ∷ filter p xs) (filter p xs)) a ∙ ap (λ l. cond (q x) (x ∷ l) l) b
-
--- numbers that agree on a list have the same sum
-sum_same : (f h : ℕ → ℕ) (xs : List ℕ) → ((x : ℕ) → has xs x ≡ true → f x ≡ h x) → sum_by f xs ≡ sum_by h xs
-unfolding has
-sum_same f h [] same = refl
-sum_same f h (x ∷ xs) same = let a = same x (or_left (x == x) (has xs x) (eq-eqb x x refl)) in let b = sum_same f h xs (λ y n. same y (or_right (x == y) (has xs y) n)) in
-    sum_by-cons f x xs ∙ ap (λ m. m + sum_by f xs) a ∙ ap (λ m. h x + m) b ∙ sym (sum_by-cons h x xs)
-
--- a filter of a filter
-filter_twice : (p q : ℕ → Bool) (xs : List ℕ) → filter (λ j. p j && q j) xs ≡ filter q (filter p xs)
-filter_twice p q [] = refl
-filter_twice p q (x ∷ xs) = elim (cases_Bool (p x)) [
-  | inl h ↦ ap (λ b. cond (b && q x) (x ∷ filter (λ j. p j && q j) xs) (filter (λ j. p j && q j) xs)) h ∙ ap (λ l. cond (q x) (x ∷ l) l) (filter_twice p q xs)
-      ∙ sym (ap (filter q) (cond-true (p x) (x ∷ filter p xs) (filter p xs) h))
-  | inr h ↦ ap (λ b. cond (b && q x) (x ∷ filter (λ j. p j && q j) xs) (filter (λ j. p j && q j) xs)) h ∙ filter_twice p q xs
-      ∙ sym (ap (filter q) (cond-false (p x) (x ∷ filter p xs) (filter p xs) h))
-]
 
 -- the sum of what fails a test is nothing if all pass
 each_none : (f : ℕ → ℕ) (p : ℕ → Bool) (xs : List ℕ) → each p xs ≡ true → sum_by f (filter (λ j. not (p j)) xs) ≡ 0
@@ -163,7 +132,7 @@ module _ (g : Graph) (s : State) (t : Tie) (fits : Fits g t s) {A : Type 0} (w :
         let st : stands g s e ≡ true = (holds_gives g s e i.0 (sym (fits.elements i.0 e (home i.0 (front_placed i.0 i.1))) ∙ i.2)).standing in
         let off = taken_off e (num w.size.items) (list_at w.lists.elements.items) (num w.front.items e - num w.block.items e) (gathered t c)
         (λ j k. let p = front_placed j k in subst Once (sym (kept.elements j p)) (fits.elements_once j (home j p))) in
-        let same = sum_same (λ j. cond (has (list_at w.lists.elements.items j) e) (num w.size.items j) 0) (λ j. cond (has (t.elements j) e) (t.size j) 0) (gathered t c)
+        let same = sum_named (λ j. cond (has (list_at w.lists.elements.items j) e) (num w.size.items j) 0) (λ j. cond (has (t.elements j) e) (t.size j) 0) (gathered t c)
         (λ j k. let p = front_placed j k in ap (λ l. cond (has l e) (num w.size.items j) 0) (kept.elements j p) ∙ ap (λ m. cond (has (t.elements j) e) m 0) (kept.size j p)) in
         let border = borders e st in let parts = border_parts g laws t s sound fits e st (gathered t c) front_once (λ j k. home j (front_placed j k)) in let is = a.counted e h in
         omega (arith, is, off, same, border, parts)
@@ -193,13 +162,13 @@ module _ (g : Graph) (s : State) (t : Tie) (fits : Fits g t s) {A : Type 0} (w :
     pub elements_kept : (i : ℕ) → has (gathered t c) i ≡ true → list_at new.elements.items i ≡ kept_elements aggressive t c (gathered t c) i
     unfolding kept_elements
     elements_kept i l = a.elements i ∙ cond-true (has (gathered t c) i) _ _ l
-        ∙ filter_agree (λ e. not (a.taken e)) (λ e. not (takes aggressive t c (gathered t c) e)) (list_at w.lists.elements.items i) (λ e. ap not (taken_takes e))
+        ∙ filter_named (λ e. not (a.taken e)) (λ e. not (takes aggressive t c (gathered t c) e)) (list_at w.lists.elements.items i) (λ e h. ap not (taken_takes e))
         ∙ ap (filter (λ e. not (takes aggressive t c (gathered t c) e))) (kept.elements i (front_placed i l))
 
     pub variables_kept : (i : ℕ) → has (gathered t c) i ≡ true → list_at new.variables.items i ≡ kept_variables aggressive t c (gathered t c) i
     unfolding kept_variables
     variables_kept i l = a.variables i ∙ cond-true (has (gathered t c) i) _ _ l
-        ∙ filter_twice (λ j. nat_lt 0 (num w.size.items j)) (λ j. not (j == c || has (gathered t c) j)) (list_at w.lists.variables.items i)
+        ∙ filter_both (λ j. nat_lt 0 (num w.size.items j)) (λ j. not (j == c || has (gathered t c) j)) (list_at w.lists.variables.items i)
         ∙ ap (filter (λ j. not (j == c || has (gathered t c) j))) (kept.variables i (front_placed i l))
 
     -- the lists of the others stay

@@ -35,11 +35,6 @@ pub touched_new : (skip : ℕ → Bool) (xs touched : List ℕ) → touched ≡ 
 unfolding has
 touched_new skip xs touched is x h = not-true (skip x) (and_parts (has xs x) (not (skip x)) (sym (firsts_names skip [] xs x) ∙ ap (λ l. has l x) (sym is) ∙ h)).1
 
--- tests that agree filter the same
-pub filter_agree : (p q : ℕ → Bool) (xs : List ℕ) → ((x : ℕ) → p x ≡ q x) → filter p xs ≡ filter q xs
-filter_agree p q [] same = refl
-filter_agree p q (x ∷ xs) same = ap (λ b. cond b (x ∷ filter p xs) (filter p xs)) (same x) ∙ ap (λ l. cond (q x) (x ∷ l) l) (filter_agree p q xs same)
-
 -- of marks on two lists, those of the second stay where a test says so
 pub spared_is : (own new stays : Bool) → (new ≡ true → own ≡ false) → ((own || new) && not (new && not stays)) ≡ (own || (new && stays))
 spared_is true true stays apart = absurd (true≢false (apart refl))

@@ -1,5 +1,5 @@
 pub mod Rounding
-pub mod Named
+pub mod Lists
 pub mod RoundLaw
 pub mod StartLists
 pub mod StartLaw

@@ -99,14 +99,6 @@ adds_marks skip out xs j = ap (λ b. skip j || b) (firsts skip out xs j) ∙ tes
     tests false true c = refl
     tests false false c = and-true c
 
--- the first number of a list passes
-pub filter_yes : (p : ℕ → Bool) (y : ℕ) (xs : List ℕ) → p y ≡ true → filter p (y ∷ xs) ≡ y ∷ filter p xs
-filter_yes p y xs h = cond-true (p y) (y ∷ filter p xs) (filter p xs) h
-
--- or does not
-pub filter_no : (p : ℕ → Bool) (y : ℕ) (xs : List ℕ) → p y ≡ false → filter p (y ∷ xs) ≡ filter p xs
-filter_no p y xs h = cond-false (p y) (y ∷ filter p xs) (filter p xs) h
-
 -- what stands at the place of a list of lists
 pub list_read : {A : Type 0} (lists : List (Vec ℕ A)) (e : ℕ) (v : Vec ℕ A) → e < length lists → v ≡ get_or lists e v → list_at lists e ≡ v.items
 list_read lists e v l h = get_or-map (λ w. w.items) lists e v [] l ∙ ap (λ w. w.items) (sym h)

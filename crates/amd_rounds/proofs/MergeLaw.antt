@@ -10,14 +10,8 @@ use Rattle.amd_model.proofs.StateLemmas.{class_gives, holds_gives, neighbours_gi
 use Rattle.amd_model.proofs.TieLists.{has_append, has_filter, once_filter, firsts, once_firsts, flat_gives, last_same'}
 use Rattle.amd_rounds.specs.Views.{list_at}
 use Rattle.amd_rounds.specs.Rounds.{keeps_none, alike_in}
+use Rattle.amd_rounds.proofs.Lists.{filter_named}
 use Rattle.amd_rounds.proofs.Representatives.{alike_self, alike_flip, alike_through, rep_in, rep_rep}
-
--- tests that agree on a list leave the same of it
-pub filter_same : (p q : ℕ → Bool) (xs : List ℕ) → ((x : ℕ) → has xs x ≡ true → p x ≡ q x) → filter p xs ≡ filter q xs
-unfolding has
-filter_same p q [] f = refl
-filter_same p q (x ∷ xs) f = ap (λ b. cond b (x ∷ filter p xs) (filter p xs)) (f x (or_left (x == x) (has xs x) (eq-eqb x x refl)))
-    ∙ ap (λ ys. cond (q x) (x ∷ ys) ys) (filter_same p q xs (λ y h. f y (or_right (x == y) (has xs y) h)))
 
 module _ (g : Graph) (laws : IsGraph g) (s : State) (sound : IsSound g s) (t : Tie) (fits : Fits g t s) (c : ℕ) (placed : has t.placed c ≡ true) (aggressive : Bool) where
   pub front : List ℕ
@@ -73,7 +67,7 @@ module _ (g : Graph) (laws : IsGraph g) (s : State) (sound : IsSound g s) (t : T
       (vs : (i : ℕ) → has (gathered t c) i ≡ true → list_at variables i ≡ kept_variables aggressive t c (gathered t c) i) where
     pub rest_of : filter (λ i. not (keeps_none elements variables i)) (gathered t c) ≡ rest aggressive t c (gathered t c)
     unfolding rest done
-    rest_of = filter_same (λ i. not (keeps_none elements variables i)) (λ i. not (done aggressive t c (gathered t c) i)) (gathered t c)
+    rest_of = filter_named (λ i. not (keeps_none elements variables i)) (λ i. not (done aggressive t c (gathered t c) i)) (gathered t c)
         (λ i h. ap (λ xs. not (is_empty xs && is_empty (list_at variables i))) (es i h) ∙ ap (λ xs. not (is_empty (kept_elements aggressive t c (gathered t c) i) && is_empty xs)) (vs i h))
 
     pub alike_is : (i j : ℕ) → has (rest aggressive t c (gathered t c)) i ≡ true → has (rest aggressive t c (gathered t c)) j ≡ true → alike_in elements variables i j ≡ alike aggressive t c (gathered t c) i j

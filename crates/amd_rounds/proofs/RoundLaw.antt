@@ -23,7 +23,7 @@ use Rattle.amd_rounds.specs.declared.work.Work.{Work}
 use Rattle.amd_model.proofs.StepFronts.{placed_small}
 use Rattle.amd_rounds.specs.Buckets.{live_in, lasts}
 use Rattle.amd_rounds.proofs.FrontsLaw.{border_is as border_rows, live_left as live_after, live_less, live_is as live_sum, joined as joined_after, no_parent as no_parent_after, fronts_kept}
-use Rattle.amd_rounds.proofs.Named.{filter_named, sum_named, filter_all, filter_both}
+use Rattle.amd_rounds.proofs.Lists.{filter_named, sum_named, filter_all, filter_both}
 use Rattle.amd_rounds.proofs.Rounding.{Rounding}
 
 -- what was found, in the words of the machine

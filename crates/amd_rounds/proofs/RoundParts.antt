@@ -22,7 +22,7 @@ use Rattle.amd_rounds.specs.Rounds.{keeps_none, alike_in, Absorbed, bound_after}
 use Rattle.amd_rounds.specs.Keeps.{IsSized, Stands, IsRound}
 use Rattle.amd_rounds.specs.Parts.{MakesElement, MergesClasses, RenewsClasses}
 use Rattle.amd_rounds.specs.declared.work.Work.{Work}
-use Rattle.amd_rounds.proofs.Named.{filter_named, sum_named}
+use Rattle.amd_rounds.proofs.Lists.{filter_named, sum_named, none_sum, named_sum}
 use Rattle.amd_rounds.proofs.Joins.{sum_part}
 use Rattle.amd_rounds.proofs.FrontLists.{pivot_below, front_below, front_once, front_other}
 use Rattle.amd_rounds.proofs.FrontsLaw.{pivot_class, pivot_least, live_left, live_less, border_is as border_law}
@@ -31,21 +31,6 @@ use Rattle.amd_rounds.proofs.KeptLaw.{front_found, elements_kept, variables_kept
 use Rattle.amd_rounds.proofs.MergeLaw.{made_is as made_law, elements_once, variables_once, made_once, rest_of, represents_is, represents_in, represents_itself}
 use Rattle.amd_rounds.proofs.Rounding.{Rounding}
 use Rattle.amd_rounds.proofs.RoundLaw.{Found, size_outside, size_ended, bound_kept, one_round}
-
--- a list that names nothing has no rows
-none_sum : (f : ℕ → ℕ) (xs : List ℕ) → is_empty xs ≡ true → sum_by f xs ≡ 0
-unfolding is_empty
-none_sum f [] e = refl
-none_sum f (x ∷ xs) e = absurd (true≢false (sym e))
-
--- what a list names is counted in its sum
-named_sum : (f : ℕ → ℕ) (xs : List ℕ) (x : ℕ) → has xs x ≡ true → f x ≤ sum_by f xs
-unfolding has
-named_sum f [] x h = absurd (true≢false (sym h))
-named_sum f (y ∷ ys) x h = let a = sum_by-cons f y ys in elim (or_cases (y == x) (has ys x) h) [
-  | inl q ↦ (let e = ap f (eqb-true y x q) in omega (arith, a, e))
-  | inr q ↦ (let b = named_sum f ys x q in omega (arith, a, b))
-]
 
 module _ {A : Type 0} (g : Graph) (dense : ℕ → Bool) (aggressive : Bool) (w : Work A) (t : Tie) (s : State) (st : Stands g dense w t s) where
   -- a class stands in the list of its bound, if a row is live

@@ -5,20 +5,17 @@ use Rattle.std.proofs.lemmas.Bool.{cases_Bool, and_parts, and_from, and_left, or
 use Rattle.std.proofs.lemmas.List.Sums.{sum_by-cons, length-filter}
 use Rattle.amd_model.specs.Tie.{has, each, Once}
 use Rattle.amd_model.proofs.TieLists.{clash, has_filter, once_filter, each_gives, each_from}
+use Rattle.amd_rounds.proofs.Lists.{filter_all}
 use Rattle.amd_rounds.proofs.Joins.{sum_apart}
 
 -- the others of a list
 others_of : ℕ → List ℕ → List ℕ
 others_of x xs = filter (λ j. true && not (j == x)) xs
 
-all_pass : (xs : List ℕ) → filter (λ j. true) xs ≡ xs
-all_pass [] = refl
-all_pass (x ∷ xs) = ap (λ ys. x ∷ ys) (all_pass xs)
-
 -- a number of the list and the others
 sum_others : (f : ℕ → ℕ) (x : ℕ) (xs : List ℕ) → Once xs → has xs x ≡ true → f x + sum_by f (others_of x xs) ≡ sum_by f xs
 unfolding others_of
-sum_others f x xs o h = sum_apart f (λ j. true) x xs o h refl ∙ ap (sum_by f) (all_pass xs)
+sum_others f x xs o h = sum_apart f (λ j. true) x xs o h refl ∙ ap (sum_by f) (filter_all (λ j. true) xs (λ x h. refl))
 
 other_in : (x y : ℕ) (xs : List ℕ) → has xs y ≡ true → y ≢ x → has (others_of x xs) y ≡ true
 unfolding others_of
@@ -38,7 +35,7 @@ part_sum f (y ∷ ys) xs o p h =
 
 -- the length is a sum
 length_sum : (xs : List ℕ) → length xs ≡ sum_by (λ j. 1) xs
-length_sum xs = ap length (sym (all_pass xs)) ∙ length-filter (λ j. true) xs
+length_sum xs = ap length (sym (filter_all (λ j. true) xs (λ x h. refl))) ∙ length-filter (λ j. true) xs
 
 -- two lists that name the same numbers
 pub same_sum : (f : ℕ → ℕ) (xs ys : List ℕ) → Once xs → Once ys → each (has xs) ys ≡ true → each (has ys) xs ≡ true → sum_by f xs ≡ sum_by f ys

@@ -24,8 +24,9 @@ use Rattle.amd_rounds.specs.Buckets.{live_in, lasts}
 use Rattle.amd_rounds.specs.Keeps.{IsIdle, IsSized, LinksLead, Keeps, KeepsFronts, Stands}
 use Rattle.amd_rounds.specs.Starts.{StandsAtStart}
 use Rattle.amd_rounds.specs.declared.work.Work.{Work}
-use Rattle.amd_rounds.proofs.Named.{filter_named}
-use Rattle.amd_rounds.proofs.StartLists.{list_same, filter_below, each_last, empty_below}
+use Rattle.amd_rounds.proofs.Lists.{filter_named}
+use Rattle.amd_rounds.proofs.StartLists.{list_same, filter_below, empty_below}
+use Rattle.amd_rounds.proofs.BucketsLaw.{lasts_once}
 
 -- the size of the class of a row, and of its block, by its degree
 abbrev pub class_of : ℕ → ℕ → ℕ
@@ -198,7 +199,7 @@ module _ {A : Type 0} (rows : List (Vec ℕ A)) (degrees : List ℕ) (threshold 
       let p : ℕ → Bool = λ i. nat_lt 0 (num w.size.items i) && num degrees i == b in
       let q : ℕ → Bool = λ i. nat_lt 0 (num w.size.items i) && num w.bound.items i == b in
       ap (λ xs. lasts (filter q xs)) (begun.placed b) ∙ ap lasts (filter_below (length degrees) p q)
-      ∙ each_last (list_below (length degrees) (λ i. p i && q i)) (once_below (length degrees) (λ i. p i && q i))
+      ∙ lasts_once (list_below (length degrees) (λ i. p i && q i)) (once_below (length degrees) (λ i. p i && q i))
       ∙ ap (λ n. list_below n (λ i. p i && q i)) (sym size_is)
       ∙ list_same g.size (λ i. p i && q i) (λ i. is_class_row i && degree g i == b) (λ i l. same_row i l)
       ∙ sym (filter_below g.size is_class_row (λ i. degree g i == b))

@@ -51,12 +51,6 @@ filter_below (suc n) p q = filter-append q (list_below n p) (cond (p n) (n ∷ [
     one true = refl
     one false = refl
 
--- a list that names no number twice
-pub each_last : (xs : List ℕ) → Once xs → lasts xs ≡ xs
-unfolding lasts
-each_last [] h = refl
-each_last (y ∷ ys) h = cond-false (has ys y) (lasts ys) (y ∷ lasts ys) h.0 ∙ ap (λ l. y ∷ l) (each_last ys h.1)
-
 -- the list at a place
 pub read_list : {A : Type 0} (lists : List (Vec ℕ A)) (e : ℕ) (v : Vec ℕ A) → e < length lists → v ≡ get_or lists e v → list_at lists e ≡ v.items
 read_list lists e v l h = get_or-map (λ w. w.items) lists e v [] l ∙ ap (λ w. w.items) (sym h)

@@ -4,7 +4,8 @@ use Rattle.amd_model.specs.Tie.{has}
 use Rattle.amd_rounds.specs.Views.{num, at, some_at, list_at}
 use Rattle.amd_rounds.specs.Rounds.{firsts}
 use Rattle.amd_rounds.proofs.MarkLists.{list_read}
-use Rattle.amd_rounds.proofs.KeptParts.{touched_below, touched_new, filter_agree, spared_is, adopted_is, in_either, cleared_is, pivot_cleared}
+use Rattle.amd_rounds.proofs.Lists.{filter_named}
+use Rattle.amd_rounds.proofs.KeptParts.{touched_below, touched_new, spared_is, adopted_is, in_either, cleared_is, pivot_cleared}
 use Rattle.amd_rounds.proofs.absorption.absorb.Goals as goal
 
 pub count_beyond-requires-clause-range : goal.count_beyond-requires-clause-range
@@ -79,7 +80,7 @@ returns g c =
         parents = parents;
         elements = λ i. c.shorten.ensures.kept_elements i ∙ ap (λ l. cond (has front i) (filter (λ e. not (at l e)) (list_at elements i)) (list_at elements i)) c.deref-9.ensures.value;
         variables = λ i. c.shorten.ensures.kept_variables i ∙ ap (λ l. cond (has front i) l (list_at variables i))
-            (filter_agree (λ j. nat_lt 0 (num size j) && not (at c.deref-8.result.now j)) (λ j. nat_lt 0 (num size j) && not (inside j)) (list_at variables i) (λ j. ap (λ b. nat_lt 0 (num size j) && not b) (rows_marked j)));
+            (filter_named (λ j. nat_lt 0 (num size j) && not (at c.deref-8.result.now j)) (λ j. nat_lt 0 (num size j) && not (inside j)) (list_at variables i) (λ j h. ap (λ b. nat_lt 0 (num size j) && not b) (rows_marked j)));
         members = c.shorten.ensures.members;
       };
       elements = c.shorten.ensures.elements;
