@@ -102,33 +102,6 @@ pub changed_none : {X : Type 0} (xs : List ℕ) (new old : ℕ → X) → (x : �
 unfolding has
 changed_none xs new old x = refl
 
--- the list at a place of a vector of lists
-pub list_read : {A : Type 0} (lists : List (Vec ℕ A)) (e : ℕ) (v : Vec ℕ A) → e < length lists → v ≡ get_or lists e v → list_at lists e ≡ v.items
-list_read lists e v l h = get_or-map (λ w. w.items) lists e v [] l ∙ ap (λ w. w.items) (sym h)
-
-pub list_put : {A : Type 0} (lists : List (Vec ℕ A)) (e : ℕ) (v : Vec ℕ A) → e < length lists → list_at (set lists e v) e ≡ v.items
-list_put lists e v l = ap (λ ys. get_or ys e []) (map-set (λ w. w.items) lists e v) ∙ get_or-set_same (map (λ w. w.items) lists) e v.items [] (simp length-map l)
-
-pub list_other : {A : Type 0} (lists : List (Vec ℕ A)) (e x : ℕ) (v : Vec ℕ A) → x ≢ e → list_at (set lists e v) x ≡ list_at lists x
-list_other lists e x v ne = ap (λ ys. get_or ys x []) (map-set (λ w. w.items) lists e v) ∙ get_or-set_other (map (λ w. w.items) lists) e x v.items [] ne
-
-pub all_put : {X : Type 0} (P : X → Type 0) (xs : List X) (i : ℕ) (y : X) → All P xs → P y → All P (set xs i y)
-all_put P xs i y all here k d l = elim (cases_eq k i) [
-  | inl same ↦ (let within : i < length xs = omega (arith, l, same, length-set xs i y) in
-      subst P (sym (ap (λ m. get_or (set xs i y) m d) same ∙ get_or-set_same xs i y d within)) here)
-  | inr ne ↦ subst P (sym (get_or-set_other xs i k y d ne)) (all k d (omega (arith, l, length-set xs i y)))
-]
-
-pub lists_put : {A : Type 0} (n : ℕ) (lists : List (Vec ℕ A)) (i : ℕ) (v : Vec ℕ A) → ListsBelow n lists → Below n v.items → ListsBelow n (set lists i v)
-lists_put n lists i v below here = (length-set lists i v ∙ below.0, all_put (λ w. Below n w.items) lists i v below.1 here)
-
-pub list_below : {A : Type 0} (n : ℕ) (lists : List (Vec ℕ A)) (e : ℕ) → ListsBelow n lists → e < n → Below n (list_at lists e)
-list_below n lists e below l = let within : e < length lists = (let s = below.0 in omega (arith, l, s)) in all_map n lists e below within
-  where
-    all_map : {A : Type 0} (n : ℕ) (lists : List (Vec ℕ A)) (e : ℕ) → ListsBelow n lists → e < length lists → Below n (list_at lists e)
-    all_map n [] e below l = absurd (omega (arith, l))
-    all_map n (v ∷ vs) e below l = subst (Below n) (sym (get_or-map (λ w. w.items) (v ∷ vs) e v [] l)) (below.1 e v l)
-
 pub below_named : (n : ℕ) (xs : List ℕ) → Below n xs → (x : ℕ) → has xs x ≡ true → x < n
 below_named n xs b x h = each_named (λ j. j < n) xs b x h
 
@@ -146,16 +119,9 @@ below_cons n x xs l b = named_below n (x ∷ xs) (λ y h. elim (or_cases (x == y
   | inr q ↦ below_named n xs b y q
 ])
 
--- what a slice of such a list reads
-pub list_deref : {A : Type 0} (lists : List (Vec ℕ A)) (e : ℕ) (v : Vec ℕ A) (xs : List ℕ) → e < length lists → v ≡ get_or lists e v → xs ≡ v.items → xs ≡ list_at lists e
-list_deref lists e v xs l h same = same ∙ sym (list_read lists e v l h)
-
 pub below_push : (n x : ℕ) (xs : List ℕ) → x < n → Below n xs → Below n (xs ++ x ∷ [])
 unfolding has
 below_push n x xs l b = named_below n (xs ++ x ∷ []) (λ y h. elim (or_cases (has xs y) (has (x ∷ []) y) (sym (has_append xs (x ∷ []) y) ∙ h)) [
   | inl q ↦ below_named n xs b y q
   | inr q ↦ elim (or_cases (x == y) false q) [ inl e ↦ (let k = eqb-true x y e in omega (arith, l, k)) | inr f ↦ absurd (false≢true f) ]
 ])
-
-pub empties_below : {A : Type 0} (n : ℕ) (lists : List (Vec ℕ A)) → length lists ≡ n → ((b : ℕ) → list_at lists b ≡ []) → ListsBelow n lists
-empties_below n lists size empty = (size, λ k d l m e within. absurd (let a = ap length (sym (get_or-map (λ w. w.items) lists k d [] l) ∙ empty k) in omega (arith, a, within)))

@@ -8,19 +8,7 @@ use Rattle.amd_model.specs.Tie.{has}
 use Rattle.amd_rounds.specs.Views.{list_at, Below, ListsBelow}
 use Rattle.amd_rounds.specs.Buckets.{live_in, Popped}
 use Rattle.amd_rounds.proofs.Lists.{filter_yes, filter_no}
-
--- the list that is written
-pub list_set_same : {A : Type 0} (lists : List (Vec ℕ A)) (e : ℕ) (v : Vec ℕ A) → e < length lists → list_at (set lists e v) e ≡ v.items
-list_set_same {A} lists e v l = ap (λ xs. get_or xs e []) (map-set (λ w. w.items) lists e v)
-    ∙ get_or-set_same (map (λ w. w.items) lists) e v.items [] (let m = length-map lists (λ (w : Vec ℕ A). w.items) in omega (arith, m, l))
-
--- and another one
-pub list_set_other : {A : Type 0} (lists : List (Vec ℕ A)) (e : ℕ) (v : Vec ℕ A) (b : ℕ) → (b ≡ e → ⊥) → list_at (set lists e v) b ≡ list_at lists b
-list_set_other lists e v b n = ap (λ xs. get_or xs b []) (map-set (λ w. w.items) lists e v) ∙ get_or-set_other (map (λ w. w.items) lists) e b v.items [] n
-
--- what is written is in range
-pub lists_set : {A : Type 0} (n : ℕ) (lists : List (Vec ℕ A)) (e : ℕ) (v : Vec ℕ A) → ListsBelow n lists → Below n v.items → ListsBelow n (set lists e v)
-lists_set n lists e v h k = (length-set lists e v ∙ h.0, All-set (λ w. Below n w.items) lists e v k h.1)
+use Rattle.amd_rounds.proofs.ListPlaces.{list_set_same, list_set_other, list_past}
 
 -- a list is named at each of its places
 pub has_at : (xs : List ℕ) (i : ℕ) → i < length xs → has xs (get_or xs i 0) ≡ true
@@ -58,10 +46,6 @@ pub least_end : (made : List ℕ) (i least bound j : ℕ) → length made ≤ i 
 unfolding has
 least_end made i least bound j past (inr k) = k
 least_end made i least bound j past (inl k) = absurd (false≢true (sym (at_drop_all (λ xs. has xs j) made i past) ∙ k))
-
--- past the end there is no list
-pub list_past : {A : Type 0} (lists : List (Vec ℕ A)) (b : ℕ) → length lists ≤ b → list_at lists b ≡ []
-list_past {A} lists b l = get_or_past (map (λ w. w.items) lists) b [] (let m = length-map lists (λ (w : Vec ℕ A). w.items) in omega (arith, m, l))
 
 -- the list that names a class stands among the lists
 pub place_of_class : {A : Type 0} (size bound : List ℕ) (lists : List (Vec ℕ A)) (b i : ℕ) → has (live_in size bound b (list_at lists b)) i ≡ true → b < length lists

@@ -8,7 +8,7 @@ use Rattle.std.proofs.lemmas.List.Elements.{filter_more, All-filter, All-set}
 use Rattle.amd_model.specs.Tie.{has, is_empty, Once}
 use Rattle.amd_model.proofs.TieLists.{has_append, clash}
 use Rattle.amd_rounds.specs.Views.{list_at, Below, ListsBelow}
-use Rattle.amd_rounds.proofs.MarkLists.{list_read}
+use Rattle.amd_rounds.proofs.ListPlaces.{list_read}
 
 -- what stands at a place of a list is named by it
 pub has_at : (xs : List ℕ) (k : ℕ) → k < length xs → has xs (get_or xs k 0) ≡ true

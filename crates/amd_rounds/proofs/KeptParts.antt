@@ -7,8 +7,8 @@ use Rattle.amd_model.specs.Tie.{has}
 use Rattle.amd_model.proofs.TieLists.{flat_gives, firsts as firsts_names}
 use Rattle.amd_rounds.specs.Views.{at, list_at, Below, ListsBelow, Clear}
 use Rattle.amd_rounds.specs.Rounds.{firsts}
+use Rattle.amd_rounds.proofs.ListPlaces.{list_below}
 use Rattle.amd_rounds.proofs.Kept.{has_at}
-use Rattle.amd_rounds.proofs.MarkLists.{list_below}
 
 -- a list is below n if what it names is, and the other way round
 pub below_from : (n : ℕ) (xs : List ℕ) → ((x : ℕ) → has xs x ≡ true → x < n) → Below n xs

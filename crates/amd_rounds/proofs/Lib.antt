@@ -1,5 +1,6 @@
 pub mod Rounding
 pub mod Lists
+pub mod ListPlaces
 pub mod RoundLaw
 pub mod StartLists
 pub mod StartLaw

@@ -99,18 +99,6 @@ adds_marks skip out xs j = ap (λ b. skip j || b) (firsts skip out xs j) ∙ tes
     tests false true c = refl
     tests false false c = and-true c
 
--- what stands at the place of a list of lists
-pub list_read : {A : Type 0} (lists : List (Vec ℕ A)) (e : ℕ) (v : Vec ℕ A) → e < length lists → v ≡ get_or lists e v → list_at lists e ≡ v.items
-list_read lists e v l h = get_or-map (λ w. w.items) lists e v [] l ∙ ap (λ w. w.items) (sym h)
-
--- each list of a list of lists is in range
-pub list_below : {A : Type 0} (n : ℕ) (lists : List (Vec ℕ A)) → ListsBelow n lists → (e : ℕ) → Below n (list_at lists e)
-list_below {A} n [] h e = subst (Below n) (sym (get_or_past {X = List ℕ} [] e [] (omega arith))) (All-nil (λ j. j < n))
-list_below {A} n (v ∷ vs) h e = elim (cases_lt e (length (v ∷ vs))) [
-  | inl l ↦ subst (Below n) (sym (get_or-map (λ w. w.items) (v ∷ vs) e v [] l)) (h.1 e v l)
-  | inr l ↦ subst (Below n) (sym (get_or_past (map (λ w. w.items) (v ∷ vs)) e [] (let m = length-map (v ∷ vs) (λ (w : Vec ℕ A). w.items) in omega (arith, m, l)))) (All-nil (λ j. j < n))
-]
-
 or_twice : (a b : Bool) → ((a || b) || b) ≡ (a || b)
 or_twice true b = refl
 or_twice false true = refl

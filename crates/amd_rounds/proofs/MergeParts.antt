@@ -12,13 +12,6 @@ use Rattle.amd_rounds.specs.Rounds.{alike_in}
 use Rattle.amd_rounds.proofs.Joins.{sum_part}
 use Rattle.amd_rounds.proofs.Representatives.{rep, rep_in, rep_rep, alike_self, alike_flip, alike_through}
 
--- a list with one place written
-pub put_at : {X : Type 0} (xs : List X) (c : ℕ) (v d : X) → c < length xs → (x : ℕ) → get_or (set xs c v) x d ≡ cond (x == c) v (get_or xs x d)
-put_at xs c v d l x = elim (cases_eq x c) [
-  | inl e ↦ ap (λ m. get_or (set xs c v) m d) e ∙ get_or-set_same xs c v d l ∙ sym (cond-true (x == c) v (get_or xs x d) (eq-eqb x c e))
-  | inr ne ↦ get_or-set_other xs c x v d ne ∙ sym (cond-false (x == c) v (get_or xs x d) (ne_eqb x c ne))
-]
-
 -- a part of a front names rows, each once, and what the front names
 module _ (p : ℕ → Bool) (front rest : List ℕ) (is : rest ≡ filter p front) where
   pub part_below : (n : ℕ) → Below n front → Below n rest

@@ -7,21 +7,6 @@ use Rattle.amd_model.specs.Tie.{has}
 use Rattle.amd_rounds.specs.Views.{num, list_at}
 use Rattle.amd_rounds.specs.Rounds.{bound_after}
 use Rattle.amd_rounds.specs.declared.work.Lists.{Lists}
-use Rattle.amd_rounds.proofs.BucketLists.{list_set_same, list_set_other}
-
--- the number at each place of a list in which one is written
-pub written : (xs : List ℕ) (c w : ℕ) → c < length xs → (e : ℕ) → num (set xs c w) e ≡ cond (e == c) w (num xs e)
-written xs c w l e = elim (cases_eq e c) [
-  | inl q ↦ ap (num (set xs c w)) q ∙ get_or-set_same xs c w 0 l ∙ sym (cond-true (e == c) w (num xs e) (eq-eqb e c q))
-  | inr n ↦ get_or-set_other xs c e w 0 n ∙ sym (cond-false (e == c) w (num xs e) (ne_eqb e c n))
-]
-
--- and the list at each place of a list of lists
-pub list_written : {A : Type 0} (lists : List (Vec ℕ A)) (c : ℕ) (v : Vec ℕ A) → c < length lists → (e : ℕ) → list_at (set lists c v) e ≡ cond (e == c) v.items (list_at lists e)
-list_written lists c v l e = elim (cases_eq e c) [
-  | inl q ↦ ap (list_at (set lists c v)) q ∙ list_set_same lists c v l ∙ sym (cond-true (e == c) v.items (list_at lists e) (eq-eqb e c q))
-  | inr n ↦ list_set_other lists c v e n ∙ sym (cond-false (e == c) v.items (list_at lists e) (ne_eqb e c n))
-]
 
 -- a bound that keeps to the other live rows is below the number of rows
 pub bound_small : (near live size n : ℕ) → 0 < size → size ≤ live → live ≤ n → min near (live - size) < n

@@ -24,8 +24,9 @@ use Rattle.amd_rounds.specs.Buckets.{live_in, lasts}
 use Rattle.amd_rounds.specs.Keeps.{IsIdle, IsSized, LinksLead, Keeps, KeepsFronts, Stands}
 use Rattle.amd_rounds.specs.Starts.{StandsAtStart}
 use Rattle.amd_rounds.specs.declared.work.Work.{Work}
+use Rattle.amd_rounds.proofs.ListPlaces.{empty_below}
 use Rattle.amd_rounds.proofs.Lists.{filter_named}
-use Rattle.amd_rounds.proofs.StartLists.{list_same, filter_below, empty_below}
+use Rattle.amd_rounds.proofs.StartLists.{list_same, filter_below}
 use Rattle.amd_rounds.proofs.BucketsLaw.{lasts_once}
 
 -- the size of the class of a row, and of its block, by its degree

@@ -9,6 +9,7 @@ use Rattle.amd_model.specs.Tie.{Once, has}
 use Rattle.amd_rounds.specs.Views.{at, list_at, Below, ListsBelow, Clear}
 use Rattle.amd_rounds.specs.Buckets.{lasts}
 use Rattle.amd_numbers.proofs.EmptyLists.{empty_more}
+use Rattle.amd_rounds.proofs.ListPlaces.{list_read}
 
 abbrev one_if : Bool → ℕ
 one_if b = cond b 1 0
@@ -51,10 +52,6 @@ filter_below (suc n) p q = filter-append q (list_below n p) (cond (p n) (n ∷ [
     one true = refl
     one false = refl
 
--- the list at a place
-pub read_list : {A : Type 0} (lists : List (Vec ℕ A)) (e : ℕ) (v : Vec ℕ A) → e < length lists → v ≡ get_or lists e v → list_at lists e ≡ v.items
-read_list lists e v l h = get_or-map (λ w. w.items) lists e v [] l ∙ ap (λ w. w.items) (sym h)
-
 -- an empty list more
 pub empty_push : {A : Type 0} (lists : List (Vec ℕ A)) (v : Vec ℕ A) → ((i : ℕ) → list_at lists i ≡ []) → v.items ≡ [] → (i : ℕ) → list_at (lists ++ v ∷ []) i ≡ []
 empty_push {A} lists v empty is i = elim (cases_lt i (length lists + 1)) [
@@ -76,10 +73,6 @@ marks_clear n marks h = (
   ],
 )
 
--- lists that are all empty are in range
-pub empty_below : {A : Type 0} (n : ℕ) (lists : List (Vec ℕ A)) → length lists ≡ n → ((i : ℕ) → list_at lists i ≡ []) → ListsBelow n lists
-empty_below n lists size empty = (size, λ k d l. subst (Below n) (sym (sym (get_or-map (λ w. w.items) lists k d [] l) ∙ empty k)) (All-nil (λ j. j < n)))
-
 -- a row more is placed
 module _ {A : Type 0} (n : ℕ) (lists : List (Vec ℕ A)) (bound : ℕ → ℕ) (light : ℕ → Bool) (i : ℕ) (was : (b : ℕ) → list_at lists b ≡ list_below i (λ j. light j && bound j == b)) where
   -- a row that is no class is passed over
@@ -89,7 +82,7 @@ module _ {A : Type 0} (n : ℕ) (lists : List (Vec ℕ A)) (bound : ℕ → ℕ)
   -- a class is placed under its bound
   module _ (v : Vec ℕ A) (here : bound i < length lists) (is : v ≡ get_or lists (bound i) v) (w : Vec ℕ A) (pushed : w.items ≡ v.items ++ i ∷ []) where
     old : v.items ≡ list_at lists (bound i)
-    old = sym (read_list lists (bound i) v here is)
+    old = sym (list_read lists (bound i) v here is)
 
     pub placed_yes : light i ≡ true → (b : ℕ) → list_at (set lists (bound i) w) b ≡ list_below (i + 1) (λ j. light j && bound j == b)
     placed_yes h b = elim (cases_eq b (bound i)) [

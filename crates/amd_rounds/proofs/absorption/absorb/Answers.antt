@@ -3,7 +3,7 @@ use Rattle.std.proofs.lemmas.Bool.{cond-false}
 use Rattle.amd_model.specs.Tie.{has}
 use Rattle.amd_rounds.specs.Views.{num, at, some_at, list_at}
 use Rattle.amd_rounds.specs.Rounds.{firsts}
-use Rattle.amd_rounds.proofs.MarkLists.{list_read}
+use Rattle.amd_rounds.proofs.ListPlaces.{list_read}
 use Rattle.amd_rounds.proofs.Lists.{filter_named}
 use Rattle.amd_rounds.proofs.KeptParts.{touched_below, touched_new, spared_is, adopted_is, in_either, cleared_is, pivot_cleared}
 use Rattle.amd_rounds.proofs.absorption.absorb.Goals as goal

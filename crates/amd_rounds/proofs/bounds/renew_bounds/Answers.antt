@@ -6,7 +6,8 @@ use Rattle.amd_model.specs.Figures.{cut}
 use Rattle.amd_model.specs.Tie.{has}
 use Rattle.amd_rounds.specs.Views.{num, list_at}
 use Rattle.amd_rounds.specs.Rounds.{bound_after}
-use Rattle.amd_rounds.proofs.BoundLists.{cut_more, has_at, changed_more, changed_none, unchanged, list_read}
+use Rattle.amd_rounds.proofs.ListPlaces.{list_read}
+use Rattle.amd_rounds.proofs.BoundLists.{cut_more, has_at, changed_more, changed_none, unchanged}
 use Rattle.amd_rounds.proofs.bounds.renew_bounds.Goals as goal
 
 pub loop-i-init : goal.loop-i-init

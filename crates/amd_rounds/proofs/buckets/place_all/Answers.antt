@@ -4,8 +4,8 @@ use Rattle.std.proofs.lemmas.List.{at_drop_more}
 use Rattle.std.proofs.lemmas.List.Elements.{All-push}
 use Rattle.amd_model.specs.Tie.{has}
 use Rattle.amd_rounds.specs.Views.{num, list_at, Below}
-use Rattle.amd_rounds.proofs.MarkLists.{list_read, list_below}
-use Rattle.amd_rounds.proofs.BucketLists.{has_at, lists_set, pushed, least_next, least_lower, least_end}
+use Rattle.amd_rounds.proofs.ListPlaces.{list_read, list_below, lists_set}
+use Rattle.amd_rounds.proofs.BucketLists.{has_at, pushed, least_next, least_lower, least_end}
 use Rattle.amd_rounds.proofs.buckets.place_all.Goals as goal
 use Rattle.amd_rounds.proofs.buckets.place_all.Goals.{then-b-least, else-b-least}
 

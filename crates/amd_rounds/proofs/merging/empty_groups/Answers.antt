@@ -6,7 +6,8 @@ use Rattle.amd_model.specs.Tie.{has}
 use Rattle.amd_model.proofs.TieLists.{clash}
 use Rattle.amd_rounds.specs.Views.{list_at}
 use Rattle.amd_rounds.specs.Groups.{group_in}
-use Rattle.amd_rounds.proofs.BoundLists.{has_more, has_all, list_put, list_other}
+use Rattle.amd_rounds.proofs.ListPlaces.{list_set_same, list_set_other}
+use Rattle.amd_rounds.proofs.BoundLists.{has_more, has_all}
 use Rattle.amd_rounds.proofs.merging.empty_groups.Goals as goal
 
 -- a list that names nothing
@@ -31,11 +32,11 @@ loop-i-preserved g c =
     let range = c.group_of-group.ensures.range in
     let room = c.requires.groups in
     let within : at_group < length gs = omega (arith, size, range, room) in
-    let emptied = list_put gs at_group c.clear.new.self within ∙ c.clear.ensures.items in
-    let others = list_other gs at_group in
+    let emptied = list_set_same gs at_group c.clear.new.self within ∙ c.clear.ensures.items in
+    let others = list_set_other gs at_group c.clear.new.self in
     let was : (b r : ℕ) → has (list_at (set gs at_group c.clear.new.self) b) r ≡ true → (Rattle.std.proofs.Common.◌≢◌ b at_group) × (has (list_at gs b) r ≡ true) = λ b r h. elim (cases_eq b at_group) [
       | inl e ↦ absurd (false≢true (sym (ap (λ z. has (list_at (set gs at_group c.clear.new.self) z) r) e ∙ ap (λ ys. has ys r) emptied) ∙ h))
-      | inr ne ↦ (ne, sym (ap (λ ys. has ys r) (others b c.clear.new.self ne)) ∙ h)
+      | inr ne ↦ (ne, sym (ap (λ ys. has ys r) (others b ne)) ∙ h)
     ] in
     record {
       size = length-set gs at_group c.clear.new.self ∙ size;
