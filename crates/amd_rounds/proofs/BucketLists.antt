@@ -1,21 +1,14 @@
 -- Lists of lists in which one list is written.
-use Rattle.std.proofs.Common.{ℕ, zero, suc, Bool, true, ◌≡◌, ◌<◌, ◌≤◌, ◌+◌, ◌⊎◌, inl, inr, refl, sym, ◌∙◌, ap, subst, arith, List, [], ◌∷◌, ◌++◌, Vec, Option, None, Some, map, length, get_or, take, drop, set, get_or-set_same, get_or-set_other, append_assoc, take_all}
+use Rattle.std.proofs.Common.{ℕ, Bool, true, ◌≡◌, ◌<◌, ◌≤◌, ◌+◌, ◌⊎◌, inl, inr, sym, ◌∙◌, ap, subst, arith, List, [], ◌∷◌, ◌++◌, Vec, Option, None, Some, length, get_or, take, drop, set, append_assoc, take_all}
 use Rattle.std.specs.Prelude.{filter, ◌==◌}
-use Rattle.std.proofs.lemmas.Bool.{cases_eq, cases_lt, eq-eqb, ne_eqb, eqb-true, or_cases, or_left, or_right, false≢true}
-use Rattle.std.proofs.lemmas.List.{map-set, length-set, length-map, get_or_past, take-append-le, at_drop_more, at_drop_all}
-use Rattle.std.proofs.lemmas.List.Elements.{All-set, All-nil, All-take}
+use Rattle.std.proofs.lemmas.Bool.{cases_eq, cases_lt, eq-eqb, ne_eqb, eqb-true, or_cases, false≢true}
+use Rattle.std.proofs.lemmas.List.{take-append-le, at_drop_more, at_drop_all}
+use Rattle.std.proofs.lemmas.List.Elements.{All-nil, All-take}
 use Rattle.amd_model.specs.Tie.{has}
-use Rattle.amd_rounds.specs.Views.{list_at, Below, ListsBelow}
+use Rattle.amd_rounds.specs.Views.{list_at, Below}
 use Rattle.amd_rounds.specs.Buckets.{live_in, Popped}
 use Rattle.amd_rounds.proofs.Lists.{filter_yes, filter_no}
 use Rattle.amd_rounds.proofs.ListPlaces.{list_set_same, list_set_other, list_past}
-
--- a list is named at each of its places
-pub has_at : (xs : List ℕ) (i : ℕ) → i < length xs → has xs (get_or xs i 0) ≡ true
-unfolding has
-has_at [] i l = absurd (omega (arith, l))
-has_at (x ∷ xs) zero l = or_left (x == x) (has xs x) (eq-eqb x x refl)
-has_at (x ∷ xs) (suc i) l = or_right (x == get_or xs i 0) (has xs (get_or xs i 0)) (has_at xs i (omega (arith, l)))
 
 -- a number is pushed to the list of its bound
 pub pushed : {A : Type 0} (lists : List (Vec ℕ A)) (v : Vec ℕ A) (bound : ℕ → ℕ) (x : ℕ) (xs : List ℕ) → bound x < length lists → v.items ≡ list_at lists (bound x) ++ x ∷ [] → (b : ℕ) →

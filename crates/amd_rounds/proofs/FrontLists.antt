@@ -7,8 +7,9 @@ use Rattle.amd_model.proofs.TieLists.{clash, has_append, has_filter, flat_gives,
 use Rattle.amd_rounds.specs.Views.{num, list_at, live_of, Below, ListsBelow}
 use Rattle.amd_rounds.specs.Buckets.{Popped}
 use Rattle.amd_rounds.specs.Rounds.{firsts}
+use Rattle.amd_rounds.proofs.Lists.{below_from, below_gives}
 use Rattle.amd_rounds.proofs.ListPlaces.{list_below}
-use Rattle.amd_rounds.proofs.KeptParts.{below_from, below_gives, touched_new}
+use Rattle.amd_rounds.proofs.KeptParts.{touched_new}
 
 -- what was taken from a list of numbers below n is below n
 pub pivot_below : {A : Type 0} (n : ℕ) (size bound : List ℕ) (least : ℕ) (lists : List (Vec ℕ A)) (new : List ℕ) (c : ℕ) → ListsBelow n lists → Popped size bound least (list_at lists least) new (Some c) → c < n

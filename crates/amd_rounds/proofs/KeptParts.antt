@@ -1,26 +1,13 @@
 -- What the parts of an absorption make together.
-use Rattle.std.proofs.Common.{ℕ, suc, Bool, true, false, List, [], ◌∷◌, ◌≡◌, ◌<◌, ◌&&◌, ◌||◌, not, cond, inl, inr, refl, sym, ◌∙◌, ap, arith, length, get_or, set, get_or-set_same, get_or-set_other}
-use Rattle.std.specs.Prelude.{Vec, filter, flat_map, ◌==◌}
-use Rattle.std.proofs.lemmas.Bool.{true≢false, false≢true, cases_eq, and_parts, or_cases, eqb-true, ne_eqb, not-true}
-use Rattle.std.proofs.lemmas.List.Elements.{All-from_get_or}
+use Rattle.std.proofs.Common.{ℕ, Bool, true, false, List, [], ◌≡◌, ◌<◌, ◌&&◌, ◌||◌, not, cond, inl, inr, refl, sym, ◌∙◌, ap, length, set, get_or-set_same, get_or-set_other}
+use Rattle.std.specs.Prelude.{Vec, flat_map, ◌==◌}
+use Rattle.std.proofs.lemmas.Bool.{true≢false, false≢true, cases_eq, and_parts, ne_eqb, not-true}
 use Rattle.amd_model.specs.Tie.{has}
 use Rattle.amd_model.proofs.TieLists.{flat_gives, firsts as firsts_names}
 use Rattle.amd_rounds.specs.Views.{at, list_at, Below, ListsBelow, Clear}
 use Rattle.amd_rounds.specs.Rounds.{firsts}
+use Rattle.amd_rounds.proofs.Lists.{below_from, below_gives}
 use Rattle.amd_rounds.proofs.ListPlaces.{list_below}
-use Rattle.amd_rounds.proofs.Kept.{has_at}
-
--- a list is below n if what it names is, and the other way round
-pub below_from : (n : ℕ) (xs : List ℕ) → ((x : ℕ) → has xs x ≡ true → x < n) → Below n xs
-below_from n xs small = All-from_get_or (λ j. j < n) xs 0 (λ i h. small (get_or xs i 0) (has_at xs i h))
-
-pub below_gives : (n : ℕ) (xs : List ℕ) → Below n xs → (x : ℕ) → has xs x ≡ true → x < n
-unfolding has
-below_gives n [] small x h = absurd (false≢true h)
-below_gives n (y ∷ ys) small x h = elim (or_cases (y == x) (has ys x) h) [
-  | inl q ↦ (let e = eqb-true y x q in let b = small 0 0 (omega arith) in omega (arith, e, b))
-  | inr q ↦ below_gives n ys (λ k d l. small (suc k) d (omega (arith, l))) x q
-]
 
 -- what is gathered from lists of numbers below n is below n
 pub touched_below : {A : Type 0} (n : ℕ) (lists : List (Vec ℕ A)) (skip : ℕ → Bool) (front touched : List ℕ) → ListsBelow n lists → touched ≡ firsts skip (flat_map (list_at lists) front) → Below n touched

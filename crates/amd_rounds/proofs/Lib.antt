@@ -12,7 +12,6 @@ pub mod Kept
 pub mod KeptParts
 pub mod Taken
 pub mod KeptLaw
-pub mod BoundLists
 pub mod Joins
 pub mod SameLists
 pub mod Representatives

@@ -1,9 +1,13 @@
 -- Lists of numbers: what they name, what a test keeps of them, and sums.
-use Rattle.std.proofs.Common.{ℕ, Bool, true, false, List, [], ◌∷◌, ◌++◌, ◌≡◌, ◌≤◌, ◌<◌, ◌+◌, ◌∙◌, ◌&&◌, ◌||◌, cond, ap, sym, refl, inl, inr, arith}
+use Rattle.std.proofs.Common.{ℕ, zero, suc, Bool, true, false, List, [], ◌∷◌, ◌++◌, ◌≡◌, ◌≢◌, ◌≤◌, ◌<◌, ◌+◌, ◌∙◌, ◌&&◌, ◌||◌, cond, ap, sym, refl, inl, inr, arith, length, get_or, take}
 use Rattle.std.specs.Prelude.{filter, flat_map, sum_by, ◌==◌}
-use Rattle.std.proofs.lemmas.Bool.{true≢false, or_left, or_right, or_cases, eq-eqb, eqb-true, cases_Bool, cond-true, cond-false}
+use Rattle.std.proofs.Math.Bool.{or-false}
+use Rattle.std.proofs.lemmas.Bool.{true≢false, false≢true, or_left, or_right, or_from, or_cases, eq-eqb, eqb-true, ne_eqb, cases_Bool, cond-true, cond-false}
+use Rattle.std.proofs.lemmas.List.{take_more, take_all}
 use Rattle.std.proofs.lemmas.List.Sums.{sum_by-cons}
-use Rattle.amd_model.specs.Tie.{has, is_empty}
+use Rattle.amd_model.specs.Tie.{has, is_empty, turned, Once}
+use Rattle.amd_model.proofs.TieLists.{clash, has_append, has_turned}
+use Rattle.amd_rounds.specs.Views.{Below}
 
 -- a list names its first number
 pub named_first : (x : ℕ) (xs : List ℕ) → has (x ∷ xs) x ≡ true
@@ -67,3 +71,55 @@ named_sum f (y ∷ ys) x h = let a = sum_by-cons f y ys in elim (or_cases (y == 
   | inl q ↦ (let e = ap f (eqb-true y x q) in omega (arith, a, e))
   | inr q ↦ (let b = named_sum f ys x q in omega (arith, a, b))
 ]
+
+-- ---- the numbers of a list up to a place
+
+-- what stands at a place of a list is named by it
+pub has_at : (xs : List ℕ) (k d : ℕ) → k < length xs → has xs (get_or xs k d) ≡ true
+has_at [] k d l = absurd (omega (arith, l))
+has_at (y ∷ xs) zero d l = named_first y xs
+has_at (y ∷ xs) (suc k) d l = named_later y (get_or xs k d) xs (has_at xs k d (omega (arith, l)))
+
+-- the numbers up to a place are those before it and the one there
+pub has_more : (xs : List ℕ) (k d : ℕ) → k < length xs → (x : ℕ) → has (take (k + 1) xs) x ≡ (has (take k xs) x || get_or xs k d == x)
+unfolding has
+has_more xs k d l x = ap (λ ys. has ys x) (take_more xs k d l) ∙ has_append (take k xs) (get_or xs k d ∷ []) x ∙ ap (λ b. has (take k xs) x || b) (or-false (get_or xs k d == x))
+
+-- so that one is among them
+pub has_next : (xs : List ℕ) (k d : ℕ) → k < length xs → has (take (k + 1) xs) (get_or xs k d) ≡ true
+has_next xs k d l = let x : ℕ = get_or xs k d in has_more xs k d l x ∙ or_right (has (take k xs) x) (x == x) (eq-eqb x x refl)
+
+-- and no other number is new there
+pub has_others : (xs : List ℕ) (k d e : ℕ) → k < length xs → e ≢ get_or xs k d → has (take (k + 1) xs) e ≡ has (take k xs) e
+has_others xs k d e l other = has_more xs k d l e ∙ ap (λ b. has (take k xs) e || b) (ne_eqb (get_or xs k d) e (λ q. other (sym q))) ∙ or-false (has (take k xs) e)
+
+-- the numbers up to the end are all of them
+pub has_all : (xs : List ℕ) (k : ℕ) → length xs ≤ k → (x : ℕ) → has (take k xs) x ≡ has xs x
+has_all xs k l x = ap (λ ys. has ys x) (take_all k xs l)
+
+-- the next number of a list without repeats is not among those before it
+pub not_met : (xs : List ℕ) (k d : ℕ) → k < length xs → Once xs → has (take k xs) (get_or xs k d) ≡ false
+unfolding has
+not_met [] k d l once = absurd (omega (arith, l))
+not_met (y ∷ xs) zero d l once = refl
+not_met (y ∷ xs) (suc k) d l once = let small : k < length xs = omega (arith, l) in let z : ℕ = get_or xs k d in
+    or_from (y == z) (has (take k xs) z) (ne_eqb y z (λ q. clash (ap (has xs) q ∙ has_at xs k d small) once.0)) (not_met xs k d small once.1)
+
+-- ---- lists of numbers below n
+
+-- a list is below n if what it names is
+pub below_from : (n : ℕ) (xs : List ℕ) → ((x : ℕ) → has xs x ≡ true → x < n) → Below n xs
+below_from n xs small = λ k d l. small (get_or xs k d) (has_at xs k d l)
+
+-- and the other way round
+pub below_gives : (n : ℕ) (xs : List ℕ) → Below n xs → (x : ℕ) → has xs x ≡ true → x < n
+unfolding has
+below_gives n [] small x h = absurd (false≢true h)
+below_gives n (y ∷ ys) small x h = elim (or_cases (y == x) (has ys x) h) [
+  | inl q ↦ (let e = eqb-true y x q in let b = small 0 0 (omega arith) in omega (arith, e, b))
+  | inr q ↦ below_gives n ys (λ k d l. small (suc k) d (omega (arith, l))) x q
+]
+
+-- and so is the list turned
+pub below_turned : (n : ℕ) (xs : List ℕ) → Below n xs → Below n (turned xs)
+below_turned n xs b = below_from n (turned xs) (λ x h. below_gives n xs b x (sym (has_turned xs x) ∙ h))

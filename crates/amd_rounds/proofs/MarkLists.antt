@@ -1,14 +1,12 @@
 -- Lists that are gathered with marks: what is marked is passed over, and what is added is marked.
-use Rattle.std.proofs.Common.{ℕ, Bool, true, false, ◌≡◌, ◌<◌, ◌&&◌, ◌||◌, not, inl, inr, refl, sym, ◌∙◌, ap, subst, arith, List, [], ◌∷◌, ◌++◌, Vec, map, length, get_or, set, get_or-set_same, get_or-set_other}
-use Rattle.std.specs.Prelude.{filter, fold, flat_map, ◌==◌}
+use Rattle.std.proofs.Common.{ℕ, Bool, true, false, ◌≡◌, ◌<◌, ◌&&◌, ◌||◌, not, inl, inr, refl, sym, ◌∙◌, ap, List, [], ◌∷◌, ◌++◌, length, set, get_or-set_same, get_or-set_other}
+use Rattle.std.specs.Prelude.{fold, flat_map, ◌==◌}
 use Rattle.std.proofs.Math.Bool.{or-true, or-false, or_assoc, and-true, and-false}
-use Rattle.std.proofs.lemmas.Bool.{cases_Bool, cases_eq, cases_lt, eq-eqb, ne_eqb, or_left, or_right, cond-true, cond-false}
-use Rattle.std.proofs.lemmas.List.{get_or-map, get_or_past, length-map}
-use Rattle.std.proofs.lemmas.List.Elements.{All-nil}
+use Rattle.std.proofs.lemmas.Bool.{cases_Bool, cases_eq, eq-eqb, ne_eqb, or_left, or_right}
 use Rattle.std.proofs.lemmas.List.Sums.{fold-append}
 use Rattle.amd_model.specs.Tie.{has, add_new}
 use Rattle.amd_model.proofs.TieLists.{has_append, add_old, add_fresh, firsts, clash}
-use Rattle.amd_rounds.specs.Views.{at, list_at, Below, ListsBelow, Clear}
+use Rattle.amd_rounds.specs.Views.{at, Clear}
 
 -- the next number of a list is marked
 pub marks_next : (marks : List Bool) (i j : ℕ) (xs : List ℕ) → i < length marks → (at (set marks i true) j || has xs j) ≡ (at marks j || has (i ∷ xs) j)

@@ -1,8 +1,7 @@
 -- What the calls of a merge ask of the classes of a front that keep something, and what their answers say together.
-use Rattle.std.proofs.Common.{ℕ, Bool, true, false, Option, ◌≡◌, ◌<◌, ◌≤◌, ◌&&◌, not, cond, inl, inr, sym, ◌∙◌, ap, subst, arith, List, set, length, get_or, Some, Vec}
+use Rattle.std.proofs.Common.{ℕ, Bool, true, false, Option, ◌≡◌, ◌<◌, ◌≤◌, ◌&&◌, not, cond, sym, ◌∙◌, ap, subst, arith, List, Some, Vec}
 use Rattle.std.specs.Prelude.{◌==◌, filter, sum_by}
-use Rattle.std.proofs.lemmas.Bool.{and_parts, eq-eqb, ne_eqb, cases_eq, cond-true, cond-false}
-use Rattle.std.proofs.lemmas.List.{get_or-set_same, get_or-set_other}
+use Rattle.std.proofs.lemmas.Bool.{and_parts}
 use Rattle.std.proofs.lemmas.List.Elements.{All-filter}
 use Rattle.std.proofs.lemmas.List.Sums.{sum_by-le-sum_by}
 use Rattle.amd_model.specs.Tie.{has, Once, last_that}

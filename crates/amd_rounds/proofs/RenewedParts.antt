@@ -1,12 +1,27 @@
--- What the parts of a round write at one place.
-use Rattle.std.proofs.Common.{ℕ, true, ◌≡◌, ◌<◌, ◌≤◌, ◌+◌, ◌-◌, inl, inr, sym, ◌∙◌, ap, arith, List, Vec, length, set, get_or-set_same, get_or-set_other}
-use Rattle.std.specs.Prelude.{cond, ◌==◌, min, sum_by}
-use Rattle.std.proofs.lemmas.Bool.{cases_eq, eq-eqb, ne_eqb, cond-true, cond-false}
+-- The new bounds of the classes that are placed anew.
+use Rattle.std.proofs.Common.{ℕ, true, refl, ◌≡◌, ◌<◌, ◌≤◌, ◌+◌, ◌-◌, ◌∙◌, ap, arith, List}
+use Rattle.std.specs.Prelude.{cond, min, sum_by}
+use Rattle.std.proofs.lemmas.Bool.{cond-true}
 use Rattle.amd_model.specs.Figures.{cut}
 use Rattle.amd_model.specs.Tie.{has}
 use Rattle.amd_rounds.specs.Views.{num, list_at}
 use Rattle.amd_rounds.specs.Rounds.{bound_after}
 use Rattle.amd_rounds.specs.declared.work.Lists.{Lists}
+
+-- a number cut to a word stays what it is when more is added first
+pub cut_more : (t a b : ℕ) → t ≡ cut a → cut (t + b) ≡ cut (a + b)
+unfolding cut
+cut_more t a b e = omega (arith, e)
+
+-- a number that a word holds stays what it is
+pub cut_small : (a : ℕ) → a ≤ 18446744073709551615 → a ≡ cut a
+unfolding cut
+cut_small a h = omega (arith, h)
+
+-- the lesser of a number and the greatest that a word holds
+pub cut_min : (a : ℕ) → min a 18446744073709551615 ≡ cut a
+unfolding cut
+cut_min a = refl
 
 -- a bound that keeps to the other live rows is below the number of rows
 pub bound_small : (near live size n : ℕ) → 0 < size → size ≤ live → live ≤ n → min near (live - size) < n

@@ -10,7 +10,7 @@ use Rattle.amd_model.proofs.TieLists.{clash, same_bool, has_append, each_gives, 
 use Rattle.amd_rounds.specs.Views.{list_at}
 use Rattle.amd_rounds.specs.Rounds.{alike_in}
 use Rattle.amd_rounds.specs.Groups.{wrapped_sum, group_in}
-use Rattle.amd_rounds.proofs.BoundLists.{has_at}
+use Rattle.amd_rounds.proofs.Lists.{has_at}
 use Rattle.amd_rounds.proofs.SameLists.{same_sum}
 
 -- ---- being alike

@@ -1,9 +1,8 @@
 -- The parts of a round make it together: what each asks of the record before it, and that they make the round that the law speaks of.
 use Rattle.std.proofs.Common.{ℕ, Bool, true, false, Some, List, [], ◌∷◌, ◌++◌, ◌≡◌, ◌≤◌, ◌<◌, ◌+◌, ◌-◌, ◌∙◌, ◌&&◌, ◌||◌, not, cond, ap, sym, refl, subst, inl, inr, arith, length}
 use Rattle.std.specs.Prelude.{filter, max, sum_by, ◌==◌, ◌^◌}
-use Rattle.std.proofs.lemmas.Bool.{true≢false, cases_Bool, cond-true, cond-false, or_left, or_right, or_parts, or_cases, and_from, and_parts, and_right, eqb-true, eq-eqb, ne_eqb, not-true}
+use Rattle.std.proofs.lemmas.Bool.{cases_Bool, cond-true, cond-false, or_left, or_right, or_parts, or_cases, and_from, and_parts, and_right, eqb-true, eq-eqb, ne_eqb, not-true}
 use Rattle.std.proofs.lemmas.List.Elements.{All-filter}
-use Rattle.std.proofs.lemmas.List.Sums.{sum_by-cons}
 use Rattle.amd_model.specs.Figures.{cut, front_sum, entries, ldl_steps, lu_steps}
 use Rattle.amd_model.specs.Graph.{Graph}
 use Rattle.amd_model.specs.State.{State, in_class, is_class, stands}

@@ -2,12 +2,10 @@
 use Rattle.std.proofs.Common.{ℕ, zero, suc, Bool, true, false, ◌≡◌, ◌<◌, ◌+◌, ◌&&◌, cond, inl, inr, refl, sym, ◌∙◌, ap, subst, arith, add-one, List, [], ◌∷◌, ◌++◌, Vec, map, length, get_or, set, replicate}
 use Rattle.std.specs.Prelude.{filter, ◌==◌}
 use Rattle.std.proofs.lemmas.Bool.{cases_eq, cases_lt, eq-eqb, ne_eqb, cond-true, cond-false}
-use Rattle.std.proofs.lemmas.List.{append-nil, length-map, length-set, map-set, get_or-map, get_or-set_same, get_or-set_other, length_push, length-replicate, get_or-replicate, get_or_past}
-use Rattle.std.proofs.lemmas.List.Elements.{All-nil, All-push, All-set, filter-append}
+use Rattle.std.proofs.lemmas.List.{append-nil, length-map, length-set, map-set, get_or-set_same, get_or-set_other, length_push, length-replicate, get_or-replicate, get_or_past}
+use Rattle.std.proofs.lemmas.List.Elements.{All-push, All-set, filter-append}
 use Rattle.amd_model.specs.Below.{count_below, sum_below, list_below}
-use Rattle.amd_model.specs.Tie.{Once, has}
 use Rattle.amd_rounds.specs.Views.{at, list_at, Below, ListsBelow, Clear}
-use Rattle.amd_rounds.specs.Buckets.{lasts}
 use Rattle.amd_numbers.proofs.EmptyLists.{empty_more}
 use Rattle.amd_rounds.proofs.ListPlaces.{list_read}
 

@@ -4,7 +4,7 @@ use Rattle.std.proofs.lemmas.Bool.{or_cases, eqb-true, cases_Bool}
 use Rattle.std.proofs.lemmas.List.{take_all}
 use Rattle.amd_model.specs.Tie.{has, each}
 use Rattle.amd_model.proofs.TieLists.{each_gives, each_from, clash}
-use Rattle.amd_rounds.proofs.BoundLists.{has_at, has_more}
+use Rattle.amd_rounds.proofs.Lists.{has_at, has_more}
 use Rattle.amd_rounds.specs.Views.{at}
 use Rattle.amd_rounds.proofs.merging.all_marked.Goals as goal
 

@@ -6,8 +6,8 @@ use Rattle.amd_model.specs.Tie.{has}
 use Rattle.amd_model.proofs.TieLists.{clash}
 use Rattle.amd_rounds.specs.Views.{list_at}
 use Rattle.amd_rounds.specs.Groups.{group_in}
+use Rattle.amd_rounds.proofs.Lists.{has_more, has_all}
 use Rattle.amd_rounds.proofs.ListPlaces.{list_set_same, list_set_other}
-use Rattle.amd_rounds.proofs.BoundLists.{has_more, has_all}
 use Rattle.amd_rounds.proofs.merging.empty_groups.Goals as goal
 
 -- a list that names nothing

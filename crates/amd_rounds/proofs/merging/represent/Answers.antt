@@ -6,7 +6,7 @@ use Rattle.amd_model.specs.Tie.{has}
 use Rattle.amd_rounds.specs.Views.{list_at, Below}
 use Rattle.amd_rounds.specs.Groups.{group_in}
 use Rattle.amd_rounds.proofs.ListPlaces.{list_deref, list_set_same, list_set_other, list_read, list_below, lists_set}
-use Rattle.amd_rounds.proofs.BoundLists.{below_push}
+use Rattle.std.proofs.lemmas.List.Elements.{All-push}
 use Rattle.amd_rounds.proofs.merging.represent.Goals as goal
 
 pub representative_in-found-requires-clause-group_once : goal.representative_in-found-requires-clause-group_once
@@ -56,7 +56,7 @@ returns-in_ok-push-in-None-clause-ready g c =
     record {
       rows = c.in-None.ensures.rows;
       elements = c.in-None.ensures.elements;
-      groups = lists_set n groups at_group c.push.new.self c.requires.ready.groups (subst (Below n) (sym pushed) (below_push n i (list_at groups at_group) c.requires.row (list_below n groups c.requires.ready.groups at_group)));
+      groups = lists_set n groups at_group c.push.new.self c.requires.ready.groups (subst (Below n) (sym pushed) (All-push (λ j. j < n) (list_at groups at_group) i (list_below n groups c.requires.ready.groups at_group) c.requires.row));
       beyond = c.requires.ready.beyond;
       into = length-set c.args.scratch.now.into.items i i ∙ c.requires.ready.into;
     }

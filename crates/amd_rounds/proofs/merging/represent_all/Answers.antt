@@ -5,8 +5,8 @@ use Rattle.amd_model.specs.Tie.{has}
 use Rattle.amd_rounds.specs.Views.{num, list_at}
 use Rattle.amd_rounds.specs.Rounds.{alike_in}
 use Rattle.amd_rounds.specs.Groups.{group_in}
+use Rattle.amd_rounds.proofs.Lists.{has_at}
 use Rattle.amd_rounds.proofs.ListPlaces.{empty_below}
-use Rattle.amd_rounds.proofs.BoundLists.{has_at}
 use Rattle.amd_rounds.proofs.Representatives.{Found, rep, alike_self, alike_flip, alike_through, alike_grouped, behind_in, found_none, found_more, found_new}
 use Rattle.amd_rounds.proofs.merging.represent_all.Goals as goal
 
