@@ -3,12 +3,13 @@
 use Rattle.std.proofs.Common.{ℕ, Bool, true, false, ◌≡◌, ◌≤◌, ◌<◌, ◌&&◌, ◌||◌, not, inl, inr, refl, sym, ◌∙◌, ap, subst, List, [], ◌∷◌, ◌++◌, Vec, Some, cond, arith}
 use Rattle.std.specs.Prelude.{fold, filter, nat_le, nat_lt, ◌==◌}
 use Rattle.std.proofs.Math.Bool.{or-false, and-true, and-false}
-use Rattle.std.proofs.lemmas.Bool.{cases_Bool, cond-true, cond-false, cond_both, cases_eq, cases_lt, cases_order, eq-eqb, ne_eqb, eqb-true, le-leb, lt-ltb, or_left, or_right, or_cases, and_parts, and_from, not-true, false≢true}
+use Rattle.std.proofs.lemmas.Bool.{cases_Bool, cond-true, cond-false, cond_both, cases_eq, cases_lt, cases_order, eq-eqb, ne_eqb, eqb-true, le-leb, lt-ltb, or_left, or_right, or_cases, not-true, false≢true}
 use Rattle.std.proofs.lemmas.List.{append-nil}
 use Rattle.std.proofs.lemmas.List.Elements.{filter-append}
 use Rattle.std.proofs.lemmas.List.Sums.{fold_push}
 use Rattle.amd_model.specs.Tie.{has, Once, pivot, last_that}
 use Rattle.amd_model.proofs.TieLists.{clash, has_append, has_filter, once_filter, pivot_least, pivot_named}
+use Rattle.amd_model.proofs.ListingLemmas.{filter_has, has_filter as filter_gives, has_head, has_tail}
 use Rattle.amd_rounds.specs.Views.{num, list_at}
 use Rattle.amd_rounds.specs.Buckets.{live_in, lasts, Popped, Chosen}
 use Rattle.amd_rounds.proofs.Lists.{filter_yes, filter_no, filter_named, filter_both}
@@ -40,7 +41,7 @@ unfolding has lasts
 has_lasts [] x = refl
 has_lasts (y ∷ ys) x = elim (cases_Bool (has ys y)) [
   | inl h ↦ ap (λ l. has l x) (lasts_old y ys h) ∙ has_lasts ys x ∙ elim (cases_eq y x) [
-    | inl e ↦ (let k : has ys x ≡ true = ap (has ys) (sym e) ∙ h in k ∙ sym (or_right (y == x) (has ys x) k))
+    | inl e ↦ (let k : has ys x ≡ true = ap (has ys) (sym e) ∙ h in k ∙ sym (has_tail x y ys k))
     | inr n ↦ sym (ap (λ b. b || has ys x) (ne_eqb y x n))
   ]
   | inr h ↦ ap (λ l. has l x) (lasts_new y ys h) ∙ ap (λ b. (y == x) || b) (has_lasts ys x)
@@ -101,11 +102,10 @@ lasts_push xs c = lasts_append xs (c ∷ []) ∙ ap (λ l. l ++ c ∷ []) (filte
 -- the walk to the pivot and the walk to the last one of a bound agree from the moment when one of the least bound was met
 walks : (bound : ℕ → ℕ) (m r q : ℕ) (ys : List ℕ) → m ≤ bound r → ((y : ℕ) → has ys y ≡ true → m ≤ bound y) → (bound r ≡ m → q ≡ r) →
     bound (fold (λ r y. cond (nat_le (bound y) (bound r)) y r) r ys) ≡ m → fold (λ r y. cond (bound y == m) y r) q ys ≡ fold (λ r y. cond (nat_le (bound y) (bound r)) y r) r ys
-unfolding has
 walks bound m r q [] lr ly h e = h e
 walks bound m r q (y ∷ ys) lr ly h e =
-    let my : m ≤ bound y = ly y (or_left (y == y) (has ys y) (eq-eqb y y refl)) in
-    let rest : (z : ℕ) → has ys z ≡ true → m ≤ bound z = λ z k. ly z (or_right (y == z) (has ys z) k) in
+    let my : m ≤ bound y = ly y (has_head y y ys refl) in
+    let rest : (z : ℕ) → has ys z ≡ true → m ≤ bound z = λ z k. ly z (has_tail z y ys k) in
     let t : Bool = nat_le (bound y) (bound r) in
     walks bound m (cond t y r) (cond (bound y == m) y q) ys
     (cond_both t y r (λ k. m ≤ bound k) (λ k. my) (λ k. lr)) rest
@@ -119,9 +119,9 @@ walks bound m r q (y ∷ ys) lr ly h e =
 
 -- the pivot is the last one of its bound
 pub pivot_last : (bound : ℕ → ℕ) (c : ℕ) (xs : List ℕ) → last_that (λ y. bound y == bound (pivot bound (c ∷ xs))) c xs ≡ pivot bound (c ∷ xs)
-unfolding last_that pivot has
+unfolding last_that pivot
 pivot_last bound c xs = let m : ℕ = bound (pivot bound (c ∷ xs)) in
-    walks bound m c c xs (pivot_least bound c xs c (or_left (c == c) (has xs c) (eq-eqb c c refl))) (λ y k. pivot_least bound c xs y (or_right (c == y) (has xs y) k)) (λ e. refl) refl
+    walks bound m c c xs (pivot_least bound c xs c (has_head c c xs refl)) (λ y k. pivot_least bound c xs y (has_tail y c xs k)) (λ e. refl) refl
 
 -- the last one that passes is the last of those that pass
 pub last_filter : (p : ℕ → Bool) (d : ℕ) (xs : List ℕ) → last_that p d xs ≡ fold (λ r x. x) d (filter p xs)
@@ -147,7 +147,7 @@ choose_pivot bound (d ∷ ds) m c xs low is =
     let placed : List ℕ = d ∷ ds in
     let p : ℕ = pivot bound placed in
     let named = ap (λ l. has l c) is ∙ has_append xs (c ∷ []) c ∙ or_right (has xs c) (has (c ∷ []) c) (or_left (c == c) false (eq-eqb c c refl)) in
-    let parts = and_parts (has placed c) (bound c == m) (sym (has_filter (λ i. bound i == m) placed c) ∙ named) in
+    let parts = filter_gives (λ i. bound i == m) placed c named in
     let bound_c : bound c ≡ m = eqb-true (bound c) m parts.1 in
     let up = pivot_least bound d ds c parts.0 in
     let down = low p (pivot_named bound d ds) in
@@ -185,7 +185,7 @@ module _ {A : Type 0} (size bound : List ℕ) (old mid : List (Vec ℕ A)) (befo
     | inl l ↦ (
         let none = (chosen.lower (bound_of i) (low i h) l).1 in
         let is = sym (stands (bound_of i)) ∙ ap lasts none in
-        let named = has_filter (λ j. bound_of j == bound_of i) placed i ∙ and_from (has placed i) (bound_of i == bound_of i) h (eq-eqb (bound_of i) (bound_of i) refl) in
+        let named = filter_has (λ j. bound_of j == bound_of i) placed i h (eq-eqb (bound_of i) (bound_of i) refl) in
         clash named (ap (λ l. has l i) is))
   ]
 
@@ -287,7 +287,7 @@ module _ {A : Type 0} (size bound : List ℕ) (old mid : List (Vec ℕ A)) (befo
           | inl inside ↦ ap (λ t. bound_of x == b && not t) inside ∙ and-false (bound_of x == b) ∙ sym (ap (λ t. not t && bound_after x == b) inside)
           | inr out ↦ (
               let other = λ (i : ℕ). not (i == c || has front i) in
-              let stays : has (filter other placed) x ≡ true = has_filter other placed x ∙ and_from (has placed x) (other x) h (ap not out) in
+              let stays : has (filter other placed) x ≡ true = filter_has other placed x h (ap not out) in
               let same : bound_of x ≡ bound_after x = bound_is x h ∙ sym (stay x out).1 ∙ sym (after_is x (has_append (filter other placed) made x ∙ or_left (has (filter other placed) x) (has made x) stays)) in
               ap (λ t. bound_of x == b && not t) out ∙ and-true (bound_of x == b) ∙ ap (λ n. n == b) same ∙ sym (ap (λ t. not t && bound_after x == b) out))
         ]
@@ -301,7 +301,7 @@ module _ {A : Type 0} (size bound : List ℕ) (old mid : List (Vec ℕ A)) (befo
         elim (or_cases (has (filter other placed) i) (has made i) (sym (has_append (filter other placed) made i) ∙ h)) [
           | inr m ↦ (let d = k i m in omega (arith, d, is))
           | inl m ↦ (
-              let parts = and_parts (has placed i) (other i) (sym (has_filter other placed i) ∙ m) in
+              let parts = filter_gives other placed i m in
               let d = least_low i parts.0 in
               let was = bound_is i parts.0 in
               let same = (stay i (not-true (i == c || has front i) parts.1)).1 in

@@ -3,7 +3,8 @@ use Rattle.std.proofs.Common.{ℕ, true, false, List, [], ◌∷◌, ◌++◌, S
 use Rattle.std.specs.Prelude.{Vec, flat_map, nat_lt, ◌==◌}
 use Rattle.std.proofs.lemmas.Bool.{cases_Bool, eq-eqb, or_cases, or_left, or_right, and_parts}
 use Rattle.amd_model.specs.Tie.{has, Once}
-use Rattle.amd_model.proofs.TieLists.{clash, has_append, has_filter, flat_gives, once_firsts, firsts as firsts_names}
+use Rattle.amd_model.proofs.TieLists.{clash, has_append, flat_gives, once_firsts, firsts as firsts_names}
+use Rattle.amd_model.proofs.ListingLemmas.{has_filter as filter_gives}
 use Rattle.amd_rounds.specs.Views.{num, list_at, live_of, Below, ListsBelow}
 use Rattle.amd_rounds.specs.Buckets.{Popped}
 use Rattle.amd_rounds.specs.Rounds.{firsts}
@@ -36,7 +37,7 @@ module _ {A : Type 0} (size : List ℕ) (members elements variables : List (Vec 
     where
       small : (lists : List (Vec ℕ A)) → ListsBelow n lists → (e x : ℕ) → has (live_of size (list_at lists e)) x ≡ true → x < n
       small lists below e x h = below_gives n (list_at lists e) (list_below n lists below e) x
-          (and_parts (has (list_at lists e) x) (nat_lt 0 (num size x)) (sym (has_filter (λ j. nat_lt 0 (num size j)) (list_at lists e) x) ∙ h)).0
+          (filter_gives (λ j. nat_lt 0 (num size j)) (list_at lists e) x h).0
 
   pub front_once : Once front
   front_once = subst Once (sym is) (once_firsts (λ x. x == c) [] front_all tt)

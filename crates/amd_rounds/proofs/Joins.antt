@@ -4,6 +4,7 @@ use Rattle.std.specs.Prelude.{◌==◌, filter, sum_by}
 use Rattle.std.proofs.lemmas.Bool.{cases_Bool, false≢true, and_from, and_left, and_right, or_cases, or_parts, eqb-true, eq-eqb, ne_eqb, cases_eq, cond-true, cond-false, not_from_false, not_from_true}
 use Rattle.std.proofs.lemmas.List.{take_more, take_all, take-append-drop}
 use Rattle.std.proofs.lemmas.List.Elements.{filter-append}
+use Rattle.std.proofs.lemmas.List.Filters.{sum_by-filter_both}
 use Rattle.std.proofs.lemmas.List.Sums.{sum_by-append, sum_by-cons}
 use Rattle.amd_model.specs.Tie.{has, Once}
 use Rattle.amd_model.proofs.TieLists.{clash}
@@ -17,12 +18,7 @@ sum_pass f p y xs = elim (cases_Bool (p y)) [
 ]
 
 pub sum_part : (f : ℕ → ℕ) (p : ℕ → Bool) (xs : List ℕ) → sum_by f (filter p xs) ≤ sum_by f xs
-sum_part f p [] = omega arith
-sum_part f p (y ∷ xs) = let a = sum_pass f p y xs in let b = sum_part f p xs in let c = sum_by-cons f y xs in let d = at_most (p y) (f y) in omega (arith, a, b, c, d)
-  where
-    at_most : (b : Bool) (m : ℕ) → cond b m 0 ≤ m
-    at_most true m = omega arith
-    at_most false m = omega arith
+sum_part f p xs = let both = sum_by-filter_both p (λ x. not (p x)) (λ x. refl) f xs in omega (arith, both)
 
 pub sum_upto : (f : ℕ → ℕ) (p : ℕ → Bool) (xs : List ℕ) (k : ℕ) → sum_by f (filter p (take k xs)) ≤ sum_by f (filter p xs)
 sum_upto f p xs k = let a = ap (λ ys. sum_by f (filter p ys)) (take-append-drop k xs) in let b = ap (sum_by f) (filter-append p (take k xs) (drop k xs)) in

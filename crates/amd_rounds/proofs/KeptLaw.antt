@@ -1,7 +1,7 @@
 -- What an absorption finds and leaves in the lists of a record is what the rules say of the lists that it keeps.
 use Rattle.std.proofs.Common.{ℕ, Bool, true, false, Option, Some, List, [], ◌∷◌, ◌++◌, ◌≡◌, ◌<◌, ◌-◌, ◌&&◌, ◌||◌, not, cond, inl, inr, refl, sym, ◌∙◌, ap, subst, arith}
 use Rattle.std.specs.Prelude.{filter, flat_map, sum_by, nat_eq, nat_lt, ◌==◌}
-use Rattle.std.proofs.lemmas.Bool.{cases_Bool, cond-true, cond-false, and_parts, and_from, or_cases, or_left, or_right, or_parts, eqb-true, eq-eqb, not-true, not_from_true, not_from_false, ltb-true}
+use Rattle.std.proofs.lemmas.Bool.{cases_Bool, cond-true, cond-false, and_parts, and_from, or_cases, or_left, or_parts, eqb-true, eq-eqb, not-true, not_from_true, not_from_false, ltb-true}
 use Rattle.std.proofs.lemmas.List.Sums.{sum_by-cons}
 use Rattle.amd_model.specs.Below.{count_below}
 use Rattle.amd_model.specs.Graph.{Graph, IsGraph}
@@ -10,6 +10,7 @@ use Rattle.amd_model.specs.State.{State, Live, stands}
 use Rattle.amd_model.specs.Tie.{Tie, Fits, Once, has, each, is_empty, gathered, takes, kept_elements, kept_variables}
 use Rattle.amd_model.proofs.StateLemmas.{class_gives, class_from, holds_gives, neighbours_gives}
 use Rattle.amd_model.proofs.TieLists.{same_bool, clash, has_append, has_filter, each_gives, empty_gives, some_of, once_firsts, flat_gives, flat_from, firsts as firsts_names}
+use Rattle.amd_model.proofs.ListingLemmas.{has_filter as filter_gives, has_head, has_tail}
 use Rattle.amd_rounds.specs.Views.{num, some_at, list_at, live_of}
 use Rattle.amd_rounds.specs.Rounds.{firsts, Absorbed}
 use Rattle.amd_rounds.specs.Keeps.{Keeps}
@@ -30,13 +31,13 @@ each_none f p (x ∷ xs) h = let k = and_parts (p x) (each p xs) h in
 
 -- and all pass if it is nothing, where nothing has no rows
 none_each : (f : ℕ → ℕ) (p : ℕ → Bool) (xs : List ℕ) → ((x : ℕ) → has xs x ≡ true → 0 < f x) → sum_by f (filter (λ j. not (p j)) xs) ≡ 0 → each p xs ≡ true
-unfolding has each
+unfolding each
 none_each f p [] some h = refl
-none_each f p (x ∷ xs) some h = let others : List ℕ = filter (λ j. not (p j)) xs in let later : (y : ℕ) → has xs y ≡ true → 0 < f y = λ y n. some y (or_right (x == y) (has xs y) n) in
+none_each f p (x ∷ xs) some h = let others : List ℕ = filter (λ j. not (p j)) xs in let later : (y : ℕ) → has xs y ≡ true → 0 < f y = λ y n. some y (has_tail y x xs n) in
     elim (cases_Bool (p x)) [
       | inl k ↦ and_from (p x) (each p xs) k (none_each f p xs later (sym (ap (sum_by f) (cond-false (not (p x)) (x ∷ others) others (not_from_true (p x) k))) ∙ h))
       | inr k ↦ (let e = sym (ap (sum_by f) (cond-true (not (p x)) (x ∷ others) others (not_from_false (p x) k))) ∙ h in let a = sum_by-cons f x others in
-          let b = some x (or_left (x == x) (has xs x) (eq-eqb x x refl)) in absurd (omega (arith, e, a, b)))
+          let b = some x (has_head x x xs refl) in absurd (omega (arith, e, a, b)))
     ]
 
 -- ---- the lists of a record
@@ -182,7 +183,7 @@ module _ (g : Graph) (s : State) (t : Tie) (fits : Fits g t s) {A : Type 0} (w :
     pub rows_counted : (i e : ℕ) → has (gathered t c) i ≡ true → has (kept_elements aggressive t c (gathered t c) i) e ≡ true → num beyond e ≡ sum_by t.size (filter (λ j. not (has (gathered t c) j)) (t.members e))
     unfolding kept_elements takes
     rows_counted i e l h =
-        let p = and_parts (has (t.elements i) e) (not (takes aggressive t c (gathered t c) e)) (sym (has_filter (λ e. not (takes aggressive t c (gathered t c) e)) (t.elements i) e) ∙ h) in
+        let p = filter_gives (λ e. not (takes aggressive t c (gathered t c) e)) (t.elements i) e h in
         let apart = (or_parts (has (t.elements c) e) _ (not-true (takes aggressive t c (gathered t c) e) p.1)).0 in
         counted_far e (touched_from i e l p.0 apart)
 

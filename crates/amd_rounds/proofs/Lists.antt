@@ -2,22 +2,13 @@
 use Rattle.std.proofs.Common.{ℕ, zero, suc, Bool, true, false, List, [], ◌∷◌, ◌++◌, ◌≡◌, ◌≢◌, ◌≤◌, ◌<◌, ◌+◌, ◌∙◌, ◌&&◌, ◌||◌, cond, ap, sym, refl, inl, inr, arith, length, get_or, take}
 use Rattle.std.specs.Prelude.{filter, flat_map, sum_by, ◌==◌}
 use Rattle.std.proofs.Math.Bool.{or-false}
-use Rattle.std.proofs.lemmas.Bool.{true≢false, false≢true, or_left, or_right, or_from, or_cases, eq-eqb, eqb-true, ne_eqb, cases_Bool, cond-true, cond-false}
+use Rattle.std.proofs.lemmas.Bool.{true≢false, false≢true, or_right, or_from, or_cases, eq-eqb, eqb-true, ne_eqb, cases_Bool, cond-true, cond-false}
 use Rattle.std.proofs.lemmas.List.{take_more, take_all}
 use Rattle.std.proofs.lemmas.List.Sums.{sum_by-cons}
 use Rattle.amd_model.specs.Tie.{has, is_empty, turned, Once}
 use Rattle.amd_model.proofs.TieLists.{clash, has_append, has_turned}
+use Rattle.amd_model.proofs.ListingLemmas.{has_head, has_tail}
 use Rattle.amd_rounds.specs.Views.{Below}
-
--- a list names its first number
-pub named_first : (x : ℕ) (xs : List ℕ) → has (x ∷ xs) x ≡ true
-unfolding has
-named_first x xs = or_left (x == x) (has xs x) (eq-eqb x x refl)
-
--- and those of the rest
-pub named_later : (x y : ℕ) (xs : List ℕ) → has xs y ≡ true → has (x ∷ xs) y ≡ true
-unfolding has
-named_later x y xs h = or_right (x == y) (has xs y) h
 
 -- the first number of a list passes
 pub filter_yes : (p : ℕ → Bool) (y : ℕ) (xs : List ℕ) → p y ≡ true → filter p (y ∷ xs) ≡ y ∷ filter p xs
@@ -31,18 +22,18 @@ filter_no p y xs h = cond-false (p y) (y ∷ filter p xs) (filter p xs) h
 pub filter_named : (p q : ℕ → Bool) (xs : List ℕ) → ((x : ℕ) → has xs x ≡ true → p x ≡ q x) → filter p xs ≡ filter q xs
 filter_named p q [] h = refl
 filter_named p q (x ∷ xs) h =
-    let here = h x (named_first x xs) in let later = filter_named p q xs (λ y k. h y (named_later x y xs k)) in
+    let here = h x (has_head x x xs refl) in let later = filter_named p q xs (λ y k. h y (has_tail y x xs k)) in
     ap (λ b. cond b (x ∷ filter p xs) (filter p xs)) here ∙ ap (λ l. cond (q x) (x ∷ l) l) later
 
 -- counts that agree on it have the same sum
 pub sum_named : (f h : ℕ → ℕ) (xs : List ℕ) → ((x : ℕ) → has xs x ≡ true → f x ≡ h x) → sum_by f xs ≡ sum_by h xs
 sum_named f h [] e = refl
-sum_named f h (x ∷ xs) e = sum_by-cons f x xs ∙ ap (λ m. m + sum_by f xs) (e x (named_first x xs)) ∙ ap (λ m. h x + m) (sum_named f h xs (λ y k. e y (named_later x y xs k))) ∙ sym (sum_by-cons h x xs)
+sum_named f h (x ∷ xs) e = sum_by-cons f x xs ∙ ap (λ m. m + sum_by f xs) (e x (has_head x x xs refl)) ∙ ap (λ m. h x + m) (sum_named f h xs (λ y k. e y (has_tail y x xs k))) ∙ sym (sum_by-cons h x xs)
 
 -- a test that all of it passes keeps the list
 pub filter_all : (p : ℕ → Bool) (xs : List ℕ) → ((x : ℕ) → has xs x ≡ true → p x ≡ true) → filter p xs ≡ xs
 filter_all p [] h = refl
-filter_all p (x ∷ xs) h = filter_yes p x xs (h x (named_first x xs)) ∙ ap (λ l. x ∷ l) (filter_all p xs (λ y k. h y (named_later x y xs k)))
+filter_all p (x ∷ xs) h = filter_yes p x xs (h x (has_head x x xs refl)) ∙ ap (λ l. x ∷ l) (filter_all p xs (λ y k. h y (has_tail y x xs k)))
 
 -- what passes one test and then another
 pub filter_both : (p q : ℕ → Bool) (xs : List ℕ) → filter (λ x. p x && q x) xs ≡ filter q (filter p xs)
@@ -55,7 +46,7 @@ filter_both p q (x ∷ xs) = elim (cases_Bool (p x)) [
 -- lists of what a list names are gathered alike if they are the same
 pub flat_same : (f h : ℕ → List ℕ) (xs : List ℕ) → ((x : ℕ) → has xs x ≡ true → f x ≡ h x) → flat_map f xs ≡ flat_map h xs
 flat_same f h [] same = refl
-flat_same f h (x ∷ xs) same = ap (λ l. l ++ flat_map f xs) (same x (named_first x xs)) ∙ ap (λ l. h x ++ l) (flat_same f h xs (λ y k. same y (named_later x y xs k)))
+flat_same f h (x ∷ xs) same = ap (λ l. l ++ flat_map f xs) (same x (has_head x x xs refl)) ∙ ap (λ l. h x ++ l) (flat_same f h xs (λ y k. same y (has_tail y x xs k)))
 
 -- a list that names nothing has no rows
 pub none_sum : (f : ℕ → ℕ) (xs : List ℕ) → is_empty xs ≡ true → sum_by f xs ≡ 0
@@ -77,8 +68,8 @@ named_sum f (y ∷ ys) x h = let a = sum_by-cons f y ys in elim (or_cases (y == 
 -- what stands at a place of a list is named by it
 pub has_at : (xs : List ℕ) (k d : ℕ) → k < length xs → has xs (get_or xs k d) ≡ true
 has_at [] k d l = absurd (omega (arith, l))
-has_at (y ∷ xs) zero d l = named_first y xs
-has_at (y ∷ xs) (suc k) d l = named_later y (get_or xs k d) xs (has_at xs k d (omega (arith, l)))
+has_at (y ∷ xs) zero d l = has_head y y xs refl
+has_at (y ∷ xs) (suc k) d l = has_tail (get_or xs k d) y xs (has_at xs k d (omega (arith, l)))
 
 -- the numbers up to a place are those before it and the one there
 pub has_more : (xs : List ℕ) (k d : ℕ) → k < length xs → (x : ℕ) → has (take (k + 1) xs) x ≡ (has (take k xs) x || get_or xs k d == x)

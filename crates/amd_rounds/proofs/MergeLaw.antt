@@ -7,7 +7,8 @@ use Rattle.amd_model.specs.State.{State, Live}
 use Rattle.amd_model.specs.Sound.{IsSound}
 use Rattle.amd_model.specs.Tie.{Tie, Fits, has, is_empty, each, last_that, gathered, kept_elements, kept_variables, takes, done, rest, alike, represents, made, Once}
 use Rattle.amd_model.proofs.StateLemmas.{class_gives, holds_gives, neighbours_gives}
-use Rattle.amd_model.proofs.TieLists.{has_append, has_filter, once_filter, firsts, once_firsts, flat_gives, last_same'}
+use Rattle.amd_model.proofs.TieLists.{has_append, once_filter, firsts, once_firsts, flat_gives, last_same'}
+use Rattle.amd_model.proofs.ListingLemmas.{has_filter as filter_gives}
 use Rattle.amd_rounds.specs.Views.{list_at}
 use Rattle.amd_rounds.specs.Rounds.{keeps_none, alike_in}
 use Rattle.amd_rounds.proofs.Lists.{filter_named}
@@ -39,7 +40,7 @@ module _ (g : Graph) (laws : IsGraph g) (s : State) (sound : IsSound g s) (t : T
 
   pub rest_in_front : (i : ℕ) → has (rest aggressive t c (gathered t c)) i ≡ true → has (gathered t c) i ≡ true
   unfolding rest
-  rest_in_front i h = (and_parts (has (gathered t c) i) (not (done aggressive t c (gathered t c) i)) (sym (has_filter (λ i. not (done aggressive t c (gathered t c) i)) (gathered t c) i) ∙ h)).0
+  rest_in_front i h = (filter_gives (λ i. not (done aggressive t c (gathered t c) i)) (gathered t c) i h).0
 
   pub rest_once : Once (rest aggressive t c (gathered t c))
   unfolding rest

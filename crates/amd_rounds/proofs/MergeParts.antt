@@ -1,11 +1,11 @@
 -- What the calls of a merge ask of the classes of a front that keep something, and what their answers say together.
 use Rattle.std.proofs.Common.{ℕ, Bool, true, false, Option, ◌≡◌, ◌<◌, ◌≤◌, ◌&&◌, not, cond, sym, ◌∙◌, ap, subst, arith, List, Some, Vec}
 use Rattle.std.specs.Prelude.{◌==◌, filter, sum_by}
-use Rattle.std.proofs.lemmas.Bool.{and_parts}
 use Rattle.std.proofs.lemmas.List.Elements.{All-filter}
 use Rattle.std.proofs.lemmas.List.Sums.{sum_by-le-sum_by}
 use Rattle.amd_model.specs.Tie.{has, Once, last_that}
-use Rattle.amd_model.proofs.TieLists.{has_filter, once_filter}
+use Rattle.amd_model.proofs.TieLists.{once_filter}
+use Rattle.amd_model.proofs.ListingLemmas.{has_filter as filter_gives}
 use Rattle.amd_rounds.specs.Views.{num, Below}
 use Rattle.amd_rounds.specs.Rounds.{alike_in}
 use Rattle.amd_rounds.proofs.Joins.{sum_part}
@@ -20,7 +20,7 @@ module _ (p : ℕ → Bool) (front rest : List ℕ) (is : rest ≡ filter p fron
   part_once o = subst Once (sym is) (once_filter p front o)
 
   pub part_named : (x : ℕ) → has rest x ≡ true → has front x ≡ true
-  part_named x h = (and_parts (has front x) (p x) (sym (has_filter p front x) ∙ ap (λ l. has l x) (sym is) ∙ h)).0
+  part_named x h = (filter_gives p front x (ap (λ l. has l x) (sym is) ∙ h)).0
 
   -- its classes have no more rows, also after some have lost theirs
   pub part_rows : (size : ℕ → ℕ) → sum_by size rest ≤ sum_by size front

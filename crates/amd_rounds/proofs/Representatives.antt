@@ -7,6 +7,7 @@ use Rattle.std.proofs.lemmas.List.{drop_more, take-append-drop, drop_all}
 use Rattle.std.proofs.lemmas.List.Sums.{fold-append}
 use Rattle.amd_model.specs.Tie.{has, each, Once, last_that}
 use Rattle.amd_model.proofs.TieLists.{clash, same_bool, has_append, each_gives, each_from, last_passes, last_named, last_same'}
+use Rattle.amd_model.proofs.ListingLemmas.{has_head, has_tail}
 use Rattle.amd_rounds.specs.Views.{list_at}
 use Rattle.amd_rounds.specs.Rounds.{alike_in}
 use Rattle.amd_rounds.specs.Groups.{wrapped_sum, group_in}
@@ -67,10 +68,10 @@ unfolding last_that
 last_append p d xs ys = fold-append (λ r x. cond (p x) x r) d xs ys
 
 last_none : (p : ℕ → Bool) (d : ℕ) (xs : List ℕ) → ((x : ℕ) → has xs x ≡ true → p x ≡ false) → last_that p d xs ≡ d
-unfolding last_that has
+unfolding last_that
 last_none p d [] f = refl
-last_none p d (x ∷ xs) f = ap (λ r. fold (λ r x. cond (p x) x r) r xs) (cond-false (p x) x d (f x (or_left (x == x) (has xs x) (eq-eqb x x refl))))
-    ∙ last_none p d xs (λ y h. f y (or_right (x == y) (has xs y) h))
+last_none p d (x ∷ xs) f = ap (λ r. fold (λ r x. cond (p x) x r) r xs) (cond-false (p x) x d (f x (has_head x x xs refl)))
+    ∙ last_none p d xs (λ y h. f y (has_tail y x xs h))
 
 last_first : (p : ℕ → Bool) (d x : ℕ) (xs : List ℕ) → p x ≡ true → last_that p d (x ∷ xs) ≡ last_that p x xs
 unfolding last_that
@@ -78,10 +79,9 @@ last_first p d x xs h = ap (λ r. fold (λ r x. cond (p x) x r) r xs) (cond-true
 
 -- what stands behind an index is in the list
 pub behind_in : (xs : List ℕ) (k x : ℕ) → has (drop k xs) x ≡ true → has xs x ≡ true
-unfolding has
 behind_in xs zero x h = h
 behind_in [] (suc k) x h = h
-behind_in (y ∷ xs) (suc k) x h = or_right (y == x) (has xs x) (behind_in xs k x h)
+behind_in (y ∷ xs) (suc k) x h = has_tail x y xs (behind_in xs k x h)
 
 -- in a list that names each number once none stands behind itself
 not_behind : (xs : List ℕ) (k : ℕ) → k < length xs → Once xs → has (drop (suc k) xs) (get_or xs k 0) ≡ false

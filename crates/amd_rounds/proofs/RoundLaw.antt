@@ -14,6 +14,7 @@ use Rattle.amd_model.proofs.StateLemmas.{class_gives, class_from, live_from, fro
 use Rattle.amd_model.proofs.Sound.{live_small}
 use Rattle.amd_model.proofs.SoundStep.{step_sound}
 use Rattle.amd_model.proofs.TieLists.{same_bool, clash, has_append, has_filter, has_turned, empty_gives, some_of}
+use Rattle.amd_model.proofs.ListingLemmas.{filter_has, has_filter as filter_gives}
 use Rattle.amd_model.proofs.TieSums.{home_cases}
 use Rattle.amd_model.proofs.TieLaw.{L as front_list, takes_is, front_class, after, is_step, now, now_fits}
 use Rattle.amd_rounds.specs.Views.{num, some_at, list_at, live_of}
@@ -52,7 +53,7 @@ min_cut a x l = omega (arith, l)
 had_some : (xs : List ℕ) (p : ℕ → Bool) → is_empty (filter p xs) ≡ false → is_empty xs ≡ false
 had_some xs p h = elim (cases_Bool (is_empty xs)) [
   | inr n ↦ n
-  | inl y ↦ (let x = some_of (filter p xs) h in absurd (empty_gives xs y x.0 (and_parts (has xs x.0) (p x.0) (sym (has_filter p xs x.0) ∙ x.1)).0))
+  | inl y ↦ (let x = some_of (filter p xs) h in absurd (empty_gives xs y x.0 (filter_gives p xs x.0 x.1).0))
 ]
 
 module _ {A : Type 0} (g : Graph) (dense : ℕ → Bool) (aggressive : Bool) (w v : Work A) (t : Tie) (s : State) (st : Stands g dense w t s) (r : Rounding aggressive w v) (f : Found aggressive w v t r) where
@@ -109,19 +110,19 @@ module _ {A : Type 0} (g : Graph) (dense : ℕ → Bool) (aggressive : Bool) (w 
 
   rest_front : (i : ℕ) → has R i ≡ true → has L i ≡ true
   unfolding rest
-  rest_front i h = (and_parts (has L i) (not (done aggressive t r.c L i)) (sym (has_filter (λ i. not (done aggressive t r.c L i)) L i) ∙ h)).0
+  rest_front i h = (filter_gives (λ i. not (done aggressive t r.c L i)) L i h).0
 
   rest_keeps : (i : ℕ) → has R i ≡ true → done aggressive t r.c L i ≡ false
   unfolding rest
-  rest_keeps i h = not-true (done aggressive t r.c L i) (and_parts (has L i) (not (done aggressive t r.c L i)) (sym (has_filter (λ i. not (done aggressive t r.c L i)) L i) ∙ h)).1
+  rest_keeps i h = not-true (done aggressive t r.c L i) (filter_gives (λ i. not (done aggressive t r.c L i)) L i h).1
 
   made_rest : (i : ℕ) → has M i ≡ true → (has R i ≡ true) × (represents aggressive t r.c L i ≡ i)
   unfolding made
-  made_rest i h = let p = and_parts (has R i) (represents aggressive t r.c L i == i) (sym (has_filter (λ i. represents aggressive t r.c L i == i) R i) ∙ h) in (p.0, eqb-true (represents aggressive t r.c L i) i p.1)
+  made_rest i h = let p = filter_gives (λ i. represents aggressive t r.c L i == i) R i h in (p.0, eqb-true (represents aggressive t r.c L i) i p.1)
 
   rest_made : (i : ℕ) → has R i ≡ true → represents aggressive t r.c L i ≡ i → has M i ≡ true
   unfolding made
-  rest_made i h e = has_filter (λ i. represents aggressive t r.c L i == i) R i ∙ and_from (has R i) (represents aggressive t r.c L i == i) h (eq-eqb (represents aggressive t r.c L i) i e)
+  rest_made i h e = filter_has (λ i. represents aggressive t r.c L i == i) R i h (eq-eqb (represents aggressive t r.c L i) i e)
 
   -- what becomes of a class
   none_kept : (i : ℕ) → has L i ≡ true → keeps_none r.kept.elements.items r.kept.variables.items i ≡ done aggressive t r.c L i
@@ -154,7 +155,7 @@ module _ {A : Type 0} (g : Graph) (dense : ℕ → Bool) (aggressive : Bool) (w 
 
   in_left : (x : ℕ) → has L x ≡ true → done aggressive t r.c L x ≡ false → has R x ≡ true
   unfolding rest
-  in_left x h n = has_filter (λ i. not (done aggressive t r.c L i)) L x ∙ and_from (has L x) (not (done aggressive t r.c L x)) h (not_from_false (done aggressive t r.c L x) n)
+  in_left x h n = filter_has (λ i. not (done aggressive t r.c L i)) L x h (not_from_false (done aggressive t r.c L x) n)
 
   outside_rest : (x : ℕ) → has L x ≡ false → has R x ≡ false
   outside_rest x n = elim (cases_Bool (has R x)) [ inr k ↦ k | inl k ↦ clash (rest_front x k) n ]
@@ -179,7 +180,7 @@ module _ {A : Type 0} (g : Graph) (dense : ℕ → Bool) (aggressive : Bool) (w 
       ∙ cond-true (num r.into x == x) (sum_by (num r.retired) (filter (λ j. num r.into j == x) r.rest)) 0 (eq-eqb (num r.into x) x same)
       ∙ ap (λ l. sum_by (num r.retired) (filter (λ j. num r.into j == x) l)) f.rest_is
       ∙ ap (sum_by (num r.retired)) (filter_named (λ j. num r.into j == x) (λ j. represents aggressive t r.c L j == x) R (λ j a. ap (λ n. n == x) (f.into_is j a)))
-      ∙ sum_named (num r.retired) t.size (filter (λ j. represents aggressive t r.c L j == x) R) (λ j a. retired_rest j (and_parts (has R j) (represents aggressive t r.c L j == x) (sym (has_filter (λ j. represents aggressive t r.c L j == x) R j) ∙ a)).0)
+      ∙ sum_named (num r.retired) t.size (filter (λ j. represents aggressive t r.c L j == x) R) (λ j a. retired_rest j (filter_gives (λ j. represents aggressive t r.c L j == x) R j a).0)
 
   pub size_ended : (x : ℕ) → has L x ≡ true → has M x ≡ false → num v.size.items x ≡ 0
   size_ended x h n = size_at x (not_c x h) ∙ r.joined_is x ∙ elim (cases_Bool (has R x)) [
@@ -204,7 +205,7 @@ module _ {A : Type 0} (g : Graph) (dense : ℕ → Bool) (aggressive : Bool) (w 
   unfolding round ends
   new_placed i = has_append (filter (λ i. not (i == r.c || has L i)) t.placed) M i ∙ same_bool (has (filter (λ i. not (i == r.c || has L i)) t.placed) i || has M i) (has t.placed i && not (i == r.c || (has L i && not (has M i))))
       (λ h. elim (or_cases (has (filter (λ i. not (i == r.c || has L i)) t.placed) i) (has M i) h) [
-        | inl a ↦ (let p = and_parts (has t.placed i) (not (i == r.c || has L i)) (sym (has_filter (λ i. not (i == r.c || has L i)) t.placed i) ∙ a) in
+        | inl a ↦ (let p = filter_gives (λ i. not (i == r.c || has L i)) t.placed i a in
             let q = or_parts (i == r.c) (has L i) (not-true (i == r.c || has L i) p.1) in
             and_from (has t.placed i) (not (i == r.c || (has L i && not (has M i)))) p.0
             (not_from_false (i == r.c || (has L i && not (has M i))) (or_from (i == r.c) (has L i && not (has M i)) q.0 (and_left (has L i) (not (has M i)) q.1))))
@@ -280,7 +281,7 @@ module _ {A : Type 0} (g : Graph) (dense : ℕ → Bool) (aggressive : Bool) (w 
   -- what a class of the front keeps are classes outside
   kept_placed : (i : ℕ) → has L i ≡ true → (j : ℕ) → has (kept_variables aggressive t r.c L i) j ≡ true → has new_lists.placed j ≡ true
   unfolding kept_variables
-  kept_placed i l j a = let p = and_parts (has (t.variables i) j) (not (j == r.c || has L j)) (sym (has_filter (λ j. not (j == r.c || has L j)) (t.variables i) j) ∙ a) in
+  kept_placed i l j a = let p = filter_gives (λ j. not (j == r.c || has L j)) (t.variables i) j a in
       let q = or_parts (j == r.c) (has L j) (not-true (j == r.c || has L j) p.1) in
       let n = neighbours_gives g s i j (sym (st.fits.variables i j (class_of i (front_placed i l))) ∙ p.0) in
       new_placed j ∙ and_from (has t.placed j) (not (ends aggressive t r.c L j)) (placed_of j n.second) (not_ends j q.0 q.1)
@@ -288,7 +289,7 @@ module _ {A : Type 0} (g : Graph) (dense : ℕ → Bool) (aggressive : Bool) (w 
   -- and they have the rows that they had
   kept_outside : (i : ℕ) → has L i ≡ true → (j : ℕ) → has (kept_variables aggressive t r.c L i) j ≡ true → (has t.placed j ≡ true) × ((j == r.c) ≡ false) × (has L j ≡ false)
   unfolding kept_variables
-  kept_outside i l j a = let p = and_parts (has (t.variables i) j) (not (j == r.c || has L j)) (sym (has_filter (λ j. not (j == r.c || has L j)) (t.variables i) j) ∙ a) in
+  kept_outside i l j a = let p = filter_gives (λ j. not (j == r.c || has L j)) (t.variables i) j a in
       let q = or_parts (j == r.c) (has L j) (not-true (j == r.c || has L j) p.1) in
       let n = neighbours_gives g s i j (sym (st.fits.variables i j (class_of i (front_placed i l))) ∙ p.0) in (placed_of j n.second, q.0, q.1)
 

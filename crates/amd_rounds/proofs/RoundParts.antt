@@ -1,7 +1,7 @@
 -- The parts of a round make it together: what each asks of the record before it, and that they make the round that the law speaks of.
 use Rattle.std.proofs.Common.{ℕ, Bool, true, false, Some, List, [], ◌∷◌, ◌++◌, ◌≡◌, ◌≤◌, ◌<◌, ◌+◌, ◌-◌, ◌∙◌, ◌&&◌, ◌||◌, not, cond, ap, sym, refl, subst, inl, inr, arith, length}
 use Rattle.std.specs.Prelude.{filter, max, sum_by, ◌==◌, ◌^◌}
-use Rattle.std.proofs.lemmas.Bool.{cases_Bool, cond-true, cond-false, or_left, or_right, or_parts, or_cases, and_from, and_parts, and_right, eqb-true, eq-eqb, ne_eqb, not-true}
+use Rattle.std.proofs.lemmas.Bool.{cases_Bool, cond-true, cond-false, or_left, or_right, or_parts, or_cases, and_from, and_right, eqb-true, eq-eqb, ne_eqb, not-true}
 use Rattle.std.proofs.lemmas.List.Elements.{All-filter}
 use Rattle.amd_model.specs.Figures.{cut, front_sum, entries, ldl_steps, lu_steps}
 use Rattle.amd_model.specs.Graph.{Graph}
@@ -14,6 +14,7 @@ use Rattle.amd_model.proofs.BelowLemmas.{count_pos, count_most}
 use Rattle.amd_model.proofs.StateLemmas.{class_gives, class_from, block_from, stands_gives}
 use Rattle.amd_model.proofs.Sound.{live_small}
 use Rattle.amd_model.proofs.TieLists.{clash, has_append, has_filter, once_filter, some_of}
+use Rattle.amd_model.proofs.ListingLemmas.{filter_has, has_filter as filter_gives}
 use Rattle.amd_model.proofs.StepFronts.{front_small, placed_small}
 use Rattle.amd_rounds.specs.Views.{num, some_at, list_at, Below}
 use Rattle.amd_rounds.specs.Buckets.{live_in, lasts}
@@ -41,7 +42,7 @@ module _ {A : Type 0} (g : Graph) (dense : ℕ → Bool) (aggressive : Bool) (w 
         i,
         st.keeps.least i some.1,
         sym (has_lasts (live_in w.size.items w.bound.items b (list_at w.placed.items b)) i) ∙ ap (λ xs. has xs i) (st.keeps.placed b)
-            ∙ has_filter (λ j. t.bound j == b) t.placed i ∙ and_from (has t.placed i) (b == b) some.1 (eq-eqb b b refl),
+            ∙ filter_has (λ j. t.bound j == b) t.placed i some.1 (eq-eqb b b refl),
       )
 
   class_rows : (i : ℕ) → has t.placed i ≡ true → 0 < t.size i
@@ -63,7 +64,7 @@ module _ {A : Type 0} (g : Graph) (dense : ℕ → Bool) (aggressive : Bool) (w 
 
     chosen_parts : (has t.placed c ≡ true) × ((t.bound c == w1.least) ≡ true)
     chosen_parts = let old : List ℕ = live_in w.size.items w.bound.items w1.least (list_at w.placed.items w1.least) in
-        and_parts (has t.placed c) (t.bound c == w1.least) (sym (has_filter (λ i. t.bound i == w1.least) t.placed c) ∙ ap (λ l. has l c) (sym (st.keeps.placed w1.least)) ∙ has_lasts old c ∙ chosen_named)
+        filter_gives (λ i. t.bound i == w1.least) t.placed c (ap (λ l. has l c) (sym (st.keeps.placed w1.least)) ∙ has_lasts old c ∙ chosen_named)
 
     -- the pivot is a class of least bound
     placed : has t.placed c ≡ true
@@ -145,10 +146,10 @@ module _ {A : Type 0} (g : Graph) (dense : ℕ → Bool) (aggressive : Bool) (w 
       none_kept i = keeps_none w1.lists.elements.items w1.lists.variables.items i
 
       rest_parts : (i : ℕ) → has k.rest i ≡ true → (has front i ≡ true) × (none_kept i ≡ false)
-      rest_parts i h = let p = and_parts (has front i) (not (none_kept i)) (sym (has_filter (λ i. not (none_kept i)) front i) ∙ ap (λ l. has l i) (sym k.rest_is) ∙ h) in (p.0, not-true (none_kept i) p.1)
+      rest_parts i h = let p = filter_gives (λ i. not (none_kept i)) front i (ap (λ l. has l i) (sym k.rest_is) ∙ h) in (p.0, not-true (none_kept i) p.1)
 
       made_parts : (i : ℕ) → has made i ≡ true → (has k.rest i ≡ true) × ((into i == i) ≡ true)
-      made_parts i h = and_parts (has k.rest i) (into i == i) (sym (has_filter (λ i. into i == i) k.rest i) ∙ ap (λ l. has l i) (sym k.made_is) ∙ h)
+      made_parts i h = filter_gives (λ i. into i == i) k.rest i (ap (λ l. has l i) (sym k.made_is) ∙ h)
 
       made_front : (i : ℕ) → has made i ≡ true → has front i ≡ true
       made_front i h = (rest_parts i (made_parts i h).0).0
@@ -183,7 +184,7 @@ module _ {A : Type 0} (g : Graph) (dense : ℕ → Bool) (aggressive : Bool) (w 
           let other = front_other w.size.items w.lists.members.items w.lists.elements.items w.lists.variables.items c front m.front_is in
           k.size_is x ∙ cond-false (x == c) 0 (num k.joined x) (ne_eqb x c (λ e. clash (made_front x h) (ap (has front) e ∙ other)))
           ∙ k.joined_is x ∙ cond-true (has k.rest x) (cond (into x == x) some 0) (num k.retired x) p.0 ∙ cond-true (into x == x) some 0 p.1
-          ∙ sum_named (num k.retired) t.size (filter (λ j. into j == x) k.rest) (λ j a. retired_rest j (and_parts (has k.rest j) (into j == x) (sym (has_filter (λ j. into j == x) k.rest j) ∙ a)).0)
+          ∙ sum_named (num k.retired) t.size (filter (λ j. into j == x) k.rest) (λ j a. retired_rest j (filter_gives (λ j. into j == x) k.rest j a).0)
 
       border_rows : border ≡ sum_by t.size k.rest
       border_rows = k.border_is ∙ sum_named (num w1.size.items) t.size k.rest (λ i h. old_size i (rest_parts i h).0)
@@ -218,7 +219,7 @@ module _ {A : Type 0} (g : Graph) (dense : ℕ → Bool) (aggressive : Bool) (w 
 
       pub renew_sizes : (i : ℕ) → has made i ≡ true → (num w2.size.items i ≤ border) × (num w2.size.items i ≤ w2.live) × (0 < num w2.size.items i)
       renew_sizes i h = let p = made_parts i h in let e = size_made i h in let a = sum_part t.size (λ j. into j == i) k.rest in let b = border_rows in let l = live_parts.0 in
-          let one = named_sum t.size (filter (λ j. into j == i) k.rest) i (has_filter (λ j. into j == i) k.rest i ∙ and_from (has k.rest i) (into i == i) p.0 p.1) in
+          let one = named_sum t.size (filter (λ j. into j == i) k.rest) i (filter_has (λ j. into j == i) k.rest i p.0 p.1) in
           let some = class_rows i (front_placed i (made_front i h)) in
           (omega (arith, e, a, b), omega (arith, e, a, b, l), omega (arith, e, one, some))
 

@@ -2,12 +2,12 @@
 use Rattle.std.proofs.Common.{ℕ, zero, suc, Bool, true, false, ◌≡◌, ◌<◌, ◌+◌, ◌&&◌, cond, inl, inr, refl, sym, ◌∙◌, ap, subst, arith, add-one, List, [], ◌∷◌, ◌++◌, Vec, map, length, get_or, set, replicate}
 use Rattle.std.specs.Prelude.{filter, ◌==◌}
 use Rattle.std.proofs.lemmas.Bool.{cases_eq, cases_lt, eq-eqb, ne_eqb, cond-true, cond-false}
-use Rattle.std.proofs.lemmas.List.{append-nil, length-map, length-set, map-set, get_or-set_same, get_or-set_other, length_push, length-replicate, get_or-replicate, get_or_past}
-use Rattle.std.proofs.lemmas.List.Elements.{All-push, All-set, filter-append}
+use Rattle.std.proofs.lemmas.List.{append-nil, length-map, length_push, length-replicate, get_or-replicate, get_or_past}
+use Rattle.std.proofs.lemmas.List.Elements.{All-push, filter-append}
 use Rattle.amd_model.specs.Below.{count_below, sum_below, list_below}
 use Rattle.amd_rounds.specs.Views.{at, list_at, Below, ListsBelow, Clear}
 use Rattle.amd_numbers.proofs.EmptyLists.{empty_more}
-use Rattle.amd_rounds.proofs.ListPlaces.{list_read}
+use Rattle.amd_rounds.proofs.ListPlaces.{list_read, list_set_same, list_set_other, lists_set}
 
 abbrev one_if : Bool → ℕ
 one_if b = cond b 1 0
@@ -84,16 +84,11 @@ module _ {A : Type 0} (n : ℕ) (lists : List (Vec ℕ A)) (bound : ℕ → ℕ)
 
     pub placed_yes : light i ≡ true → (b : ℕ) → list_at (set lists (bound i) w) b ≡ list_below (i + 1) (λ j. light j && bound j == b)
     placed_yes h b = elim (cases_eq b (bound i)) [
-      | inl e ↦ ap (list_at (set lists (bound i) w)) e ∙ ap (λ xs. get_or xs (bound i) []) (map-set (λ u. u.items) lists (bound i) w)
-          ∙ get_or-set_same (map (λ u. u.items) lists) (bound i) w.items [] (let m = length-map lists (λ (u : Vec ℕ A). u.items) in omega (arith, m, here))
+      | inl e ↦ ap (list_at (set lists (bound i) w)) e ∙ list_set_same lists (bound i) w here
           ∙ pushed ∙ ap (λ ys. ys ++ i ∷ []) (old ∙ ap (list_at lists) (sym e) ∙ was b)
           ∙ sym (list_yes (λ j. light j && bound j == b) i (ap (λ a. a && bound i == b) h ∙ eq-eqb (bound i) b (sym e)))
-      | inr ne ↦ ap (λ xs. get_or xs b []) (map-set (λ u. u.items) lists (bound i) w) ∙ get_or-set_other (map (λ u. u.items) lists) (bound i) b w.items [] ne
-          ∙ was b ∙ sym (list_no (λ j. light j && bound j == b) i (ap (λ a. a && bound i == b) h ∙ ne_eqb (bound i) b (λ q. ne (sym q))))
+      | inr ne ↦ list_set_other lists (bound i) w b ne ∙ was b ∙ sym (list_no (λ j. light j && bound j == b) i (ap (λ a. a && bound i == b) h ∙ ne_eqb (bound i) b (λ q. ne (sym q))))
     ]
 
     pub range_yes : ListsBelow n lists → i < n → ListsBelow n (set lists (bound i) w)
-    range_yes r l = (
-      length-set lists (bound i) w ∙ r.0,
-      All-set (λ u. Below n u.items) lists (bound i) w (subst (Below n) (sym pushed) (All-push (λ j. j < n) v.items i (subst (λ u. Below n u.items) (sym is) (r.1 (bound i) v here)) l)) r.1,
-    )
+    range_yes r l = lists_set n lists (bound i) w r (subst (Below n) (sym pushed) (All-push (λ j. j < n) v.items i (subst (λ u. Below n u.items) (sym is) (r.1 (bound i) v here)) l))

@@ -1,9 +1,10 @@
 use Rattle.std.proofs.Common.{◌≡◌, ◌<◌, ◌+◌, ◌||◌, inl, inr, ℕ, Bool, true, false, List, [], ◌∷◌, length, get_or, set, take, arith, sym, ap, refl, ◌∙◌}
 use Rattle.std.specs.Prelude.{◌==◌}
-use Rattle.std.proofs.lemmas.Bool.{cases_Bool, or_cases, eqb-true, eq-eqb, or_left, false≢true, cases_eq}
+use Rattle.std.proofs.lemmas.Bool.{cases_Bool, or_cases, eqb-true, false≢true, cases_eq}
 use Rattle.std.proofs.lemmas.List.{length-set}
 use Rattle.amd_model.specs.Tie.{has}
 use Rattle.amd_model.proofs.TieLists.{clash}
+use Rattle.amd_model.proofs.ListingLemmas.{has_head}
 use Rattle.amd_rounds.specs.Views.{list_at}
 use Rattle.amd_rounds.specs.Groups.{group_in}
 use Rattle.amd_rounds.proofs.Lists.{has_more, has_all}
@@ -12,9 +13,8 @@ use Rattle.amd_rounds.proofs.merging.empty_groups.Goals as goal
 
 -- a list that names nothing
 nothing : (xs : List ℕ) → ((x : ℕ) → has xs x ≡ true → ⊥) → xs ≡ []
-unfolding has
 nothing [] f = refl
-nothing (x ∷ xs) f = absurd (f x (or_left (x == x) (has xs x) (eq-eqb x x refl)))
+nothing (x ∷ xs) f = absurd (f x (has_head x x xs refl))
 
 pub loop-i-init : goal.loop-i-init
 unfolding has

@@ -1,6 +1,7 @@
-use Rattle.std.proofs.Common.{◌≡◌, ◌&&◌, inl, inr, ℕ, Bool, true, false, List, get_or, take, arith, sym, ap, subst, refl, ◌∙◌, Vec}
+use Rattle.std.proofs.Common.{◌≡◌, ◌&&◌, inl, inr, ℕ, Bool, false, List, get_or, take, arith, sym, ap, subst, ◌∙◌, Vec}
 use Rattle.std.specs.Prelude.{◌==◌}
 use Rattle.std.proofs.lemmas.Bool.{and_from, and_left, and_right, or_cases, eqb-true, false≢true}
+use Rattle.std.proofs.Math.Bool.{and_assoc}
 use Rattle.amd_model.specs.Tie.{has, each, Once}
 use Rattle.amd_rounds.specs.Views.{list_at}
 use Rattle.amd_rounds.specs.Rounds.{alike_in}
@@ -12,10 +13,6 @@ use Rattle.amd_rounds.proofs.merging.first_alike.Goals.{else-same_list-via-then-
 -- two lists name the same numbers
 abbrev same : List ℕ → List ℕ → Bool
 same xs ys = each (has ys) xs && each (has xs) ys
-
-and_assoc : (a b c : Bool) → (a && b && c) ≡ (a && (b && c))
-and_assoc true b c = refl
-and_assoc false b c = refl
 
 two_alike : {A : Type 0} (elements variables : List (Vec ℕ A)) (i r : ℕ) → alike_in elements variables i r ≡ (same (list_at elements r) (list_at elements i) && same (list_at variables r) (list_at variables i))
 two_alike elements variables i r = and_assoc (same (list_at elements r) (list_at elements i)) (each (has (list_at variables i)) (list_at variables r)) (each (has (list_at variables r)) (list_at variables i))
