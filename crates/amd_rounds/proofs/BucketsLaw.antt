@@ -9,7 +9,7 @@ use Rattle.std.proofs.lemmas.List.Elements.{filter-append}
 use Rattle.std.proofs.lemmas.List.Sums.{fold_push}
 use Rattle.amd_model.specs.Tie.{has, Once, pivot, last_that}
 use Rattle.amd_model.proofs.TieLists.{clash, has_append, has_filter, once_filter, pivot_least, pivot_named}
-use Rattle.amd_model.proofs.ListingLemmas.{filter_has, has_filter as filter_gives, has_head, has_tail}
+use Rattle.amd_model.proofs.ListingLemmas.{filter_has, has_filter as filter_gives, has_head, has_tail, has_append as append_gives, has_left, has_right}
 use Rattle.amd_rounds.specs.Views.{num, list_at}
 use Rattle.amd_rounds.specs.Buckets.{live_in, lasts, Popped, Chosen}
 use Rattle.amd_rounds.proofs.Lists.{filter_yes, filter_no, filter_named, filter_both}
@@ -67,9 +67,9 @@ pub lasts_append : (xs ys : List ℕ) → lasts (xs ++ ys) ≡ filter (λ x. not
 unfolding lasts
 lasts_append [] ys = refl
 lasts_append (x ∷ xs) ys = elim (cases_Bool (has xs x)) [
-  | inl h ↦ lasts_old x (xs ++ ys) (has_append xs ys x ∙ or_left (has xs x) (has ys x) h) ∙ lasts_append xs ys ∙ sym (ap (λ l. filter (λ z. not (has ys z)) l ++ lasts ys) (lasts_old x xs h))
+  | inl h ↦ lasts_old x (xs ++ ys) (has_left x xs ys h) ∙ lasts_append xs ys ∙ sym (ap (λ l. filter (λ z. not (has ys z)) l ++ lasts ys) (lasts_old x xs h))
   | inr h ↦ elim (cases_Bool (has ys x)) [
-    | inl k ↦ lasts_old x (xs ++ ys) (has_append xs ys x ∙ or_right (has xs x) (has ys x) k) ∙ lasts_append xs ys
+    | inl k ↦ lasts_old x (xs ++ ys) (has_right x xs ys k) ∙ lasts_append xs ys
         ∙ sym (ap (λ l. filter (λ z. not (has ys z)) l ++ lasts ys) (lasts_new x xs h) ∙ ap (λ l. l ++ lasts ys) (filter_no (λ z. not (has ys z)) x (lasts xs) (ap not k)))
     | inr k ↦ lasts_new x (xs ++ ys) (has_append xs ys x ∙ ap (λ b. b || has ys x) h ∙ k) ∙ ap (λ l. x ∷ l) (lasts_append xs ys)
         ∙ sym (ap (λ l. filter (λ z. not (has ys z)) l ++ lasts ys) (lasts_new x xs h) ∙ ap (λ l. l ++ lasts ys) (filter_yes (λ z. not (has ys z)) x (lasts xs) (ap not k)))
@@ -142,11 +142,11 @@ last_head p d xs = elim (cases_Bool (p d)) [
 -- the last one placed of those of the least bound is the pivot
 pub choose_pivot : (bound : ℕ → ℕ) (placed : List ℕ) (m c : ℕ) (xs : List ℕ) → ((i : ℕ) → has placed i ≡ true → m ≤ bound i) → filter (λ i. bound i == m) placed ≡ xs ++ c ∷ [] → pivot bound placed ≡ c
 unfolding has
-choose_pivot bound [] m c xs low is = absurd (false≢true (ap (λ l. has l c) is ∙ has_append xs (c ∷ []) c ∙ or_right (has xs c) (has (c ∷ []) c) (or_left (c == c) false (eq-eqb c c refl))))
+choose_pivot bound [] m c xs low is = absurd (false≢true (ap (λ l. has l c) is ∙ has_right c xs (c ∷ []) (has_head c c [] refl)))
 choose_pivot bound (d ∷ ds) m c xs low is =
     let placed : List ℕ = d ∷ ds in
     let p : ℕ = pivot bound placed in
-    let named = ap (λ l. has l c) is ∙ has_append xs (c ∷ []) c ∙ or_right (has xs c) (has (c ∷ []) c) (or_left (c == c) false (eq-eqb c c refl)) in
+    let named = ap (λ l. has l c) is ∙ has_right c xs (c ∷ []) (has_head c c [] refl) in
     let parts = filter_gives (λ i. bound i == m) placed c named in
     let bound_c : bound c ≡ m = eqb-true (bound c) m parts.1 in
     let up = pivot_least bound d ds c parts.0 in
@@ -261,7 +261,7 @@ module _ {A : Type 0} (size bound : List ℕ) (old mid : List (Vec ℕ A)) (befo
         let again_live : filter live again ≡ again = sym (filter_both (λ i. num bounds i == b) live made)
         ∙ filter_named (λ x. num bounds x == b && live x) (λ i. num bounds i == b) made (λ x h. and_same (nat_lt 0 (num sizes x)) (num bounds x == b) (lt-ltb 0 (num sizes x) (made_live x h))) in
         let again_after : again ≡ filter (λ i. bound_after i == b) made = filter_named (λ i. num bounds i == b) (λ i. bound_after i == b) made
-        (λ x h. ap (λ n. n == b) (sym (after_is x (has_append (filter other placed) made x ∙ or_right (has (filter other placed) x) (has made x) h)))) in
+        (λ x h. ap (λ n. n == b) (sym (after_is x (has_right x (filter other placed) made h)))) in
         -- the others
         let other_c : other c ≡ false = ap not (or_left (c == c) (has front c) (eq-eqb c c refl)) in
         let rest : filter (λ x. not (has again x)) (lasts (filter live before_list)) ≡ filter other (filter (λ i. bound_of i == b) placed) =
@@ -288,7 +288,7 @@ module _ {A : Type 0} (size bound : List ℕ) (old mid : List (Vec ℕ A)) (befo
           | inr out ↦ (
               let other = λ (i : ℕ). not (i == c || has front i) in
               let stays : has (filter other placed) x ≡ true = filter_has other placed x h (ap not out) in
-              let same : bound_of x ≡ bound_after x = bound_is x h ∙ sym (stay x out).1 ∙ sym (after_is x (has_append (filter other placed) made x ∙ or_left (has (filter other placed) x) (has made x) stays)) in
+              let same : bound_of x ≡ bound_after x = bound_is x h ∙ sym (stay x out).1 ∙ sym (after_is x (has_left x (filter other placed) made stays)) in
               ap (λ t. bound_of x == b && not t) out ∙ and-true (bound_of x == b) ∙ ap (λ n. n == b) same ∙ sym (ap (λ t. not t && bound_after x == b) out))
         ]
 
@@ -298,7 +298,7 @@ module _ {A : Type 0} (size bound : List ℕ) (old mid : List (Vec ℕ A)) (befo
     least_step lower l k i h =
         let other = λ (j : ℕ). not (j == c || has front j) in
         let is = after_is i h in
-        elim (or_cases (has (filter other placed) i) (has made i) (sym (has_append (filter other placed) made i) ∙ h)) [
+        elim (append_gives i (filter other placed) made h) [
           | inr m ↦ (let d = k i m in omega (arith, d, is))
           | inl m ↦ (
               let parts = filter_gives other placed i m in

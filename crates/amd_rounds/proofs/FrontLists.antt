@@ -4,7 +4,7 @@ use Rattle.std.specs.Prelude.{Vec, flat_map, nat_lt, ◌==◌}
 use Rattle.std.proofs.lemmas.Bool.{cases_Bool, eq-eqb, or_cases, or_left, or_right, and_parts}
 use Rattle.amd_model.specs.Tie.{has, Once}
 use Rattle.amd_model.proofs.TieLists.{clash, has_append, flat_gives, once_firsts, firsts as firsts_names}
-use Rattle.amd_model.proofs.ListingLemmas.{has_filter as filter_gives}
+use Rattle.amd_model.proofs.ListingLemmas.{has_filter as filter_gives, has_append as append_gives, has_right, has_head}
 use Rattle.amd_rounds.specs.Views.{num, list_at, live_of, Below, ListsBelow}
 use Rattle.amd_rounds.specs.Buckets.{Popped}
 use Rattle.amd_rounds.specs.Rounds.{firsts}
@@ -16,7 +16,7 @@ use Rattle.amd_rounds.proofs.KeptParts.{touched_new}
 pub pivot_below : {A : Type 0} (n : ℕ) (size bound : List ℕ) (least : ℕ) (lists : List (Vec ℕ A)) (new : List ℕ) (c : ℕ) → ListsBelow n lists → Popped size bound least (list_at lists least) new (Some c) → c < n
 unfolding has
 pivot_below n size bound least lists new c below popped = below_gives n (list_at lists least) (list_below n lists below least) c
-    (ap (λ l. has l c) popped.1 ∙ has_append new (c ∷ popped.0) c ∙ or_right (has new c) (has (c ∷ popped.0) c) (or_left (c == c) (has popped.0 c) (eq-eqb c c refl)))
+    (ap (λ l. has l c) popped.1 ∙ has_right c new (c ∷ popped.0) (has_head c c popped.0 refl))
 
 -- the list of a new element, as it is gathered
 module _ {A : Type 0} (size : List ℕ) (members elements variables : List (Vec ℕ A)) (c : ℕ) (front : List ℕ)
@@ -29,8 +29,7 @@ module _ {A : Type 0} (size : List ℕ) (members elements variables : List (Vec 
   unfolding has
   front_below n in_members in_variables = below_from n front (λ x h.
       let named = and_parts (has front_all x) (not (x == c)) (sym (firsts_names (λ x. x == c) [] front_all x) ∙ ap (λ l. has l x) (sym is) ∙ h) in
-      elim (or_cases (has (flat_map (λ e. live_of size (list_at members e)) (list_at elements c)) x) (has (live_of size (list_at variables c)) x)
-      (sym (has_append (flat_map (λ e. live_of size (list_at members e)) (list_at elements c)) (live_of size (list_at variables c)) x) ∙ named.0)) [
+      elim (append_gives x (flat_map (λ e. live_of size (list_at members e)) (list_at elements c)) (live_of size (list_at variables c)) named.0) [
         | inl k ↦ (let from = flat_gives (λ e. live_of size (list_at members e)) (list_at elements c) x k in small members in_members from.0 x from.2)
         | inr k ↦ small variables in_variables c x k
       ])

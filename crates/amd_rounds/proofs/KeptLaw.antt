@@ -10,7 +10,7 @@ use Rattle.amd_model.specs.State.{State, Live, stands}
 use Rattle.amd_model.specs.Tie.{Tie, Fits, Once, has, each, is_empty, gathered, takes, kept_elements, kept_variables}
 use Rattle.amd_model.proofs.StateLemmas.{class_gives, class_from, holds_gives, neighbours_gives}
 use Rattle.amd_model.proofs.TieLists.{same_bool, clash, has_append, has_filter, each_gives, empty_gives, some_of, once_firsts, flat_gives, flat_from, firsts as firsts_names}
-use Rattle.amd_model.proofs.ListingLemmas.{has_filter as filter_gives, has_head, has_tail}
+use Rattle.amd_model.proofs.ListingLemmas.{has_filter as filter_gives, has_head, has_tail, has_append as append_gives}
 use Rattle.amd_rounds.specs.Views.{num, some_at, list_at, live_of}
 use Rattle.amd_rounds.specs.Rounds.{firsts, Absorbed}
 use Rattle.amd_rounds.specs.Keeps.{Keeps}
@@ -88,7 +88,7 @@ module _ (g : Graph) (s : State) (t : Tie) (fits : Fits g t s) {A : Type 0} (w :
 
   front_placed : (i : ℕ) → has (gathered t c) i ≡ true → has t.placed i ≡ true
   unfolding L
-  front_placed i h = elim (or_cases (has (flat_map t.members (t.elements c)) i) (has (t.variables c) i) (sym (has_append (flat_map t.members (t.elements c)) (t.variables c) i) ∙ (front_parts i h).0)) [
+  front_placed i h = elim (append_gives i (flat_map t.members (t.elements c)) (t.variables c) (front_parts i h).0) [
     | inl m ↦ (let e = flat_gives t.members (t.elements c) i m in member_class e.0 i e.2)
     | inr v ↦ fits.placed i ∙ class_from i (s.home i) (neighbours_gives g s c i (sym (fits.variables c i (home c class)) ∙ v)).second
   ]

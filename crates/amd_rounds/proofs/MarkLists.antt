@@ -6,6 +6,7 @@ use Rattle.std.proofs.lemmas.Bool.{cases_Bool, cases_eq, eq-eqb, ne_eqb, or_left
 use Rattle.std.proofs.lemmas.List.Sums.{fold-append}
 use Rattle.amd_model.specs.Tie.{has, add_new}
 use Rattle.amd_model.proofs.TieLists.{has_append, add_old, add_fresh, firsts, clash}
+use Rattle.amd_model.proofs.ListingLemmas.{has_right}
 use Rattle.amd_rounds.specs.Views.{at, Clear}
 
 -- the next number of a list is marked
@@ -67,7 +68,7 @@ unmarked_added marks out xs y l k h = ap (λ o. fold (add_new (at marks)) o xs) 
   where
     agree : (x : ℕ) → (at marks x || has (out ++ y ∷ []) x) ≡ (at (set marks y true) x || has (out ++ y ∷ []) x)
     agree x = elim (cases_eq x y) [
-      | inl q ↦ (let named : has (out ++ y ∷ []) x ≡ true = has_append out (y ∷ []) x ∙ or_right (has out x) (has (y ∷ []) x) (or_left (y == x) false (eq-eqb y x (sym q))) in
+      | inl q ↦ (let named : has (out ++ y ∷ []) x ≡ true = has_right x out (y ∷ []) (or_left (y == x) false (eq-eqb y x (sym q))) in
           or_right (at marks x) (has (out ++ y ∷ []) x) named ∙ sym (or_right (at (set marks y true) x) (has (out ++ y ∷ []) x) named))
       | inr n ↦ ap (λ b. b || has (out ++ y ∷ []) x) (sym (get_or-set_other marks y x true false n))
     ]

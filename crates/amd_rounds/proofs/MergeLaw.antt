@@ -8,7 +8,7 @@ use Rattle.amd_model.specs.Sound.{IsSound}
 use Rattle.amd_model.specs.Tie.{Tie, Fits, has, is_empty, each, last_that, gathered, kept_elements, kept_variables, takes, done, rest, alike, represents, made, Once}
 use Rattle.amd_model.proofs.StateLemmas.{class_gives, holds_gives, neighbours_gives}
 use Rattle.amd_model.proofs.TieLists.{has_append, once_filter, firsts, once_firsts, flat_gives, last_same'}
-use Rattle.amd_model.proofs.ListingLemmas.{has_filter as filter_gives}
+use Rattle.amd_model.proofs.ListingLemmas.{has_filter as filter_gives, has_append as append_gives}
 use Rattle.amd_rounds.specs.Views.{list_at}
 use Rattle.amd_rounds.specs.Rounds.{keeps_none, alike_in}
 use Rattle.amd_rounds.proofs.Lists.{filter_named}
@@ -28,7 +28,7 @@ module _ (g : Graph) (laws : IsGraph g) (s : State) (sound : IsSound g s) (t : T
       let vs : List ℕ = flat_map t.members (t.elements c) ++ t.variables c in
       elim (or_cases (has [] i) (has vs i && not (i == c)) (sym (firsts (λ x. x == c) [] vs i) ∙ h)) [
         | inl n ↦ absurd (false≢true n)
-        | inr n ↦ elim (or_cases (has (flat_map t.members (t.elements c)) i) (has (t.variables c) i) (sym (has_append (flat_map t.members (t.elements c)) (t.variables c) i) ∙ (and_parts (has vs i) (not (i == c)) n).0)) [
+        | inr n ↦ elim (append_gives i (flat_map t.members (t.elements c)) (t.variables c) (and_parts (has vs i) (not (i == c)) n).0) [
           | inl a ↦ (let r = flat_gives t.members (t.elements c) i a in (holds_gives g s r.0 i (sym (fits.members r.0 i) ∙ r.2)).class)
           | inr a ↦ (neighbours_gives g s c i (sym (fits.variables c i pivot_live) ∙ a)).second
         ]

@@ -14,7 +14,7 @@ use Rattle.amd_model.proofs.StateLemmas.{class_gives, class_from, live_from, fro
 use Rattle.amd_model.proofs.Sound.{live_small}
 use Rattle.amd_model.proofs.SoundStep.{step_sound}
 use Rattle.amd_model.proofs.TieLists.{same_bool, clash, has_append, has_filter, has_turned, empty_gives, some_of}
-use Rattle.amd_model.proofs.ListingLemmas.{filter_has, has_filter as filter_gives}
+use Rattle.amd_model.proofs.ListingLemmas.{filter_has, has_filter as filter_gives, has_right}
 use Rattle.amd_model.proofs.TieSums.{home_cases}
 use Rattle.amd_model.proofs.TieLaw.{L as front_list, takes_is, front_class, after, is_step, now, now_fits}
 use Rattle.amd_rounds.specs.Views.{num, some_at, list_at, live_of}
@@ -230,7 +230,7 @@ module _ {A : Type 0} (g : Graph) (dense : ℕ → Bool) (aggressive : Bool) (w 
 
   made_placed : (i : ℕ) → has M i ≡ true → has new_lists.placed i ≡ true
   unfolding round
-  made_placed i h = has_append (filter (λ i. not (i == r.c || has L i)) t.placed) M i ∙ or_right (has (filter (λ i. not (i == r.c || has L i)) t.placed) i) (has M i) h
+  made_placed i h = has_right i (filter (λ i. not (i == r.c || has L i)) t.placed) M h
 
   -- the sizes are kept
   pub size_kept : (i : ℕ) → has new_lists.placed i ≡ true → num v.size.items i ≡ new_lists.size i

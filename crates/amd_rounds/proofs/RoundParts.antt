@@ -14,7 +14,7 @@ use Rattle.amd_model.proofs.BelowLemmas.{count_pos, count_most}
 use Rattle.amd_model.proofs.StateLemmas.{class_gives, class_from, block_from, stands_gives}
 use Rattle.amd_model.proofs.Sound.{live_small}
 use Rattle.amd_model.proofs.TieLists.{clash, has_append, has_filter, once_filter, some_of}
-use Rattle.amd_model.proofs.ListingLemmas.{filter_has, has_filter as filter_gives}
+use Rattle.amd_model.proofs.ListingLemmas.{filter_has, has_filter as filter_gives, has_right, has_head}
 use Rattle.amd_model.proofs.StepFronts.{front_small, placed_small}
 use Rattle.amd_rounds.specs.Views.{num, some_at, list_at, Below}
 use Rattle.amd_rounds.specs.Buckets.{live_in, lasts}
@@ -60,7 +60,7 @@ module _ {A : Type 0} (g : Graph) (dense : ℕ → Bool) (aggressive : Bool) (w 
     unfolding has
     chosen_named = let left : List ℕ = live_in w.size.items w.bound.items w1.least (list_at w1.placed.items w1.least) in
         ap (λ l. has l c) (popped_live w.size.items w.bound.items w1.least (list_at w.placed.items w1.least) (list_at w1.placed.items w1.least) c m.chosen.popped)
-        ∙ has_append left (c ∷ []) c ∙ or_right (has left c) (has (c ∷ []) c) (or_left (c == c) false (eq-eqb c c refl))
+        ∙ has_right c left (c ∷ []) (has_head c c [] refl)
 
     chosen_parts : (has t.placed c ≡ true) × ((t.bound c == w1.least) ≡ true)
     chosen_parts = let old : List ℕ = live_in w.size.items w.bound.items w1.least (list_at w.placed.items w1.least) in
