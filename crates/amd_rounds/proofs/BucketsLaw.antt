@@ -3,7 +3,7 @@
 use Rattle.std.proofs.Common.{ℕ, Bool, true, false, ◌≡◌, ◌≤◌, ◌<◌, ◌&&◌, ◌||◌, not, inl, inr, refl, sym, ◌∙◌, ap, subst, List, [], ◌∷◌, ◌++◌, Vec, Some, cond, arith}
 use Rattle.std.specs.Prelude.{fold, filter, nat_le, nat_lt, ◌==◌}
 use Rattle.std.proofs.Math.Bool.{or-false, and-true, and-false}
-use Rattle.std.proofs.lemmas.Bool.{cases_Bool, cond-true, cond-false, cond_both, cases_eq, cases_lt, cases_order, eq-eqb, ne_eqb, eqb-true, le-leb, lt-ltb, or_left, or_right, or_cases, not-true, false≢true}
+use Rattle.std.proofs.lemmas.Bool.{cases_Bool, cond-true, cond-false, cond_both, cases_eq, cases_lt, cases_order, eq-eqb, ne_eqb, eqb-true, le-leb, lt-ltb, or_left, or_right, not-true, false≢true}
 use Rattle.std.proofs.lemmas.List.{append-nil}
 use Rattle.std.proofs.lemmas.List.Elements.{filter-append}
 use Rattle.std.proofs.lemmas.List.Sums.{fold_push}

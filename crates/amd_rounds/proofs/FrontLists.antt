@@ -1,16 +1,19 @@
--- The pivot and the list of its element are rows, and the list names each once and not the pivot.
-use Rattle.std.proofs.Common.{ℕ, true, false, List, [], ◌∷◌, ◌++◌, Some, ◌≡◌, ◌<◌, not, inl, inr, refl, sym, ◌∙◌, ap, subst}
+-- The pivot and the list of its element are rows, and the list names classes, each once, and not the pivot.
+use Rattle.std.proofs.Common.{ℕ, true, false, List, [], ◌∷◌, ◌++◌, Some, ◌≡◌, ◌<◌, inl, inr, refl, sym, ◌∙◌, ap, subst}
 use Rattle.std.specs.Prelude.{Vec, flat_map, nat_lt, ◌==◌}
-use Rattle.std.proofs.lemmas.Bool.{cases_Bool, eq-eqb, or_cases, or_left, or_right, and_parts}
-use Rattle.amd_model.specs.Tie.{has, Once}
-use Rattle.amd_model.proofs.TieLists.{clash, has_append, flat_gives, once_firsts, firsts as firsts_names}
+use Rattle.std.proofs.lemmas.Bool.{cases_Bool, eq-eqb}
+use Rattle.amd_model.specs.Graph.{Graph}
+use Rattle.amd_model.specs.State.{State, Live}
+use Rattle.amd_model.specs.Tie.{Tie, Fits, has, gathered, Once}
+use Rattle.amd_model.proofs.StateLemmas.{class_gives, class_from, holds_gives, neighbours_gives}
+use Rattle.amd_model.proofs.TieLists.{clash, flat_gives, once_firsts}
 use Rattle.amd_model.proofs.ListingLemmas.{has_filter as filter_gives, has_append as append_gives, has_right, has_head}
 use Rattle.amd_rounds.specs.Views.{num, list_at, live_of, Below, ListsBelow}
 use Rattle.amd_rounds.specs.Buckets.{Popped}
 use Rattle.amd_rounds.specs.Rounds.{firsts}
 use Rattle.amd_rounds.proofs.Lists.{below_from, below_gives}
 use Rattle.amd_rounds.proofs.ListPlaces.{list_below}
-use Rattle.amd_rounds.proofs.KeptParts.{touched_new}
+use Rattle.amd_rounds.proofs.KeptParts.{firsts_gives}
 
 -- what was taken from a list of numbers below n is below n
 pub pivot_below : {A : Type 0} (n : ℕ) (size bound : List ℕ) (least : ℕ) (lists : List (Vec ℕ A)) (new : List ℕ) (c : ℕ) → ListsBelow n lists → Popped size bound least (list_at lists least) new (Some c) → c < n
@@ -26,9 +29,8 @@ module _ {A : Type 0} (size : List ℕ) (members elements variables : List (Vec 
   front_all = flat_map (λ e. live_of size (list_at members e)) (list_at elements c) ++ live_of size (list_at variables c)
 
   pub front_below : (n : ℕ) → ListsBelow n members → ListsBelow n variables → Below n front
-  unfolding has
   front_below n in_members in_variables = below_from n front (λ x h.
-      let named = and_parts (has front_all x) (not (x == c)) (sym (firsts_names (λ x. x == c) [] front_all x) ∙ ap (λ l. has l x) (sym is) ∙ h) in
+      let named = firsts_gives (λ x. x == c) front_all front is x h in
       elim (append_gives x (flat_map (λ e. live_of size (list_at members e)) (list_at elements c)) (live_of size (list_at variables c)) named.0) [
         | inl k ↦ (let from = flat_gives (λ e. live_of size (list_at members e)) (list_at elements c) x k in small members in_members from.0 x from.2)
         | inr k ↦ small variables in_variables c x k
@@ -44,5 +46,31 @@ module _ {A : Type 0} (size : List ℕ) (members elements variables : List (Vec 
   pub front_other : has front c ≡ false
   front_other = elim (cases_Bool (has front c)) [
     | inr n ↦ n
-    | inl h ↦ clash (eq-eqb c c refl) (touched_new (λ x. x == c) front_all front is c h)
+    | inl h ↦ clash (eq-eqb c c refl) (firsts_gives (λ x. x == c) front_all front is c h).1
   ]
+
+-- the list of the rules
+pub gathered_once : (t : Tie) (c : ℕ) → Once (gathered t c)
+unfolding gathered
+gathered_once t c = once_firsts (λ x. x == c) [] (flat_map t.members (t.elements c) ++ t.variables c) tt
+
+pub gathered_other : (t : Tie) (c : ℕ) → has (gathered t c) c ≡ false
+unfolding gathered
+gathered_other t c = elim (cases_Bool (has (gathered t c) c)) [
+  | inr n ↦ n
+  | inl h ↦ clash (eq-eqb c c refl) (firsts_gives (λ x. x == c) (flat_map t.members (t.elements c) ++ t.variables c) (gathered t c) refl c h).1
+]
+
+-- it names classes
+module _ (g : Graph) (s : State) (t : Tie) (fits : Fits g t s) (c : ℕ) (placed : has t.placed c ≡ true) where
+  pub gathered_live : (i : ℕ) → has (gathered t c) i ≡ true → s.home i ≡ Live i
+  unfolding gathered
+  gathered_live i h =
+      let all : List ℕ = flat_map t.members (t.elements c) ++ t.variables c in
+      elim (append_gives i (flat_map t.members (t.elements c)) (t.variables c) (firsts_gives (λ x. x == c) all (gathered t c) refl i h).0) [
+        | inl k ↦ (let from = flat_gives t.members (t.elements c) i k in (holds_gives g s from.0 i (sym (fits.members from.0 i) ∙ from.2)).class)
+        | inr k ↦ (neighbours_gives g s c i (sym (fits.variables c i (class_gives c (s.home c) (sym (fits.placed c) ∙ placed))) ∙ k)).second
+      ]
+
+  pub gathered_placed : (i : ℕ) → has (gathered t c) i ≡ true → has t.placed i ≡ true
+  gathered_placed i h = fits.placed i ∙ class_from i (s.home i) (gathered_live i h)

@@ -1,16 +1,16 @@
 -- What an absorption finds and leaves in the lists of a record is what the rules say of the lists that it keeps.
 use Rattle.std.proofs.Common.{ℕ, Bool, true, false, Option, Some, List, [], ◌∷◌, ◌++◌, ◌≡◌, ◌<◌, ◌-◌, ◌&&◌, ◌||◌, not, cond, inl, inr, refl, sym, ◌∙◌, ap, subst, arith}
 use Rattle.std.specs.Prelude.{filter, flat_map, sum_by, nat_eq, nat_lt, ◌==◌}
-use Rattle.std.proofs.lemmas.Bool.{cases_Bool, cond-true, cond-false, and_parts, and_from, or_cases, or_left, or_parts, eqb-true, eq-eqb, not-true, not_from_true, not_from_false, ltb-true}
+use Rattle.std.proofs.lemmas.Bool.{cases_Bool, cond-true, cond-false, and_parts, and_from, or_left, or_parts, eqb-true, eq-eqb, not-true, not_from_true, not_from_false, ltb-true}
 use Rattle.std.proofs.lemmas.List.Sums.{sum_by-cons}
 use Rattle.amd_model.specs.Below.{count_below}
 use Rattle.amd_model.specs.Graph.{Graph, IsGraph}
 use Rattle.amd_model.specs.Sound.{IsSound}
 use Rattle.amd_model.specs.State.{State, Live, stands}
 use Rattle.amd_model.specs.Tie.{Tie, Fits, Once, has, each, is_empty, gathered, takes, kept_elements, kept_variables}
-use Rattle.amd_model.proofs.StateLemmas.{class_gives, class_from, holds_gives, neighbours_gives}
-use Rattle.amd_model.proofs.TieLists.{same_bool, clash, has_append, has_filter, each_gives, empty_gives, some_of, once_firsts, flat_gives, flat_from, firsts as firsts_names}
-use Rattle.amd_model.proofs.ListingLemmas.{has_filter as filter_gives, has_head, has_tail, has_append as append_gives}
+use Rattle.amd_model.proofs.StateLemmas.{class_gives, class_from, holds_gives}
+use Rattle.amd_model.proofs.TieLists.{same_bool, has_filter, each_gives, empty_gives, some_of, flat_gives, flat_from, firsts as firsts_names}
+use Rattle.amd_model.proofs.ListingLemmas.{has_filter as filter_gives, has_head, has_tail}
 use Rattle.amd_rounds.specs.Views.{num, some_at, list_at, live_of}
 use Rattle.amd_rounds.specs.Rounds.{firsts, Absorbed}
 use Rattle.amd_rounds.specs.Keeps.{Keeps}
@@ -19,6 +19,7 @@ use Rattle.amd_rounds.specs.declared.work.Work.{Work}
 use Rattle.amd_model.proofs.TieFar.{border_parts}
 use Rattle.amd_rounds.proofs.Lists.{filter_named, filter_both, sum_named, flat_same}
 use Rattle.amd_rounds.proofs.Taken.{taken_off}
+use Rattle.amd_rounds.proofs.FrontLists.{gathered_once, gathered_live, gathered_placed}
 
 -- ---- lists
 
@@ -72,29 +73,8 @@ module _ (g : Graph) (s : State) (t : Tie) (fits : Fits g t s) {A : Type 0} (w :
       ∙ ap (λ l. firsts skip (l ++ direct)) (flat_same lists t.members (t.elements c) (λ e h. kept.members e (some_members e c (element_member c e class h))))
       ∙ ap (λ l. firsts skip (flat_map t.members (t.elements c) ++ l)) (kept.variables c class)
 
-  front_parts : (i : ℕ) → has L i ≡ true → (has (flat_map t.members (t.elements c) ++ t.variables c) i ≡ true) × (not (i == c) ≡ true)
-  unfolding L gathered has
-  front_parts i h = let vs : List ℕ = flat_map t.members (t.elements c) ++ t.variables c in
-      and_parts (has vs i) (not (i == c)) (sym (firsts_names (λ x. x == c) [] vs i) ∙ h)
-
-  -- it names classes, each once, and not the pivot
-  front_once : Once (gathered t c)
-  unfolding gathered
-  front_once = once_firsts (λ x. x == c) [] (flat_map t.members (t.elements c) ++ t.variables c) tt
-
-  front_apart : has (gathered t c) c ≡ false
-  unfolding L
-  front_apart = elim (cases_Bool (has (gathered t c) c)) [ inr k ↦ k | inl k ↦ clash (eq-eqb c c refl) (not-true (c == c) (front_parts c k).1) ]
-
   front_placed : (i : ℕ) → has (gathered t c) i ≡ true → has t.placed i ≡ true
-  unfolding L
-  front_placed i h = elim (append_gives i (flat_map t.members (t.elements c)) (t.variables c) (front_parts i h).0) [
-    | inl m ↦ (let e = flat_gives t.members (t.elements c) i m in member_class e.0 i e.2)
-    | inr v ↦ fits.placed i ∙ class_from i (s.home i) (neighbours_gives g s c i (sym (fits.variables c i (home c class)) ∙ v)).second
-  ]
-
-  pub front_facts : Once (gathered t c) × (has (gathered t c) c ≡ false) × ((i : ℕ) → has (gathered t c) i ≡ true → has t.placed i ≡ true)
-  front_facts = (front_once, front_apart, front_placed)
+  front_placed = gathered_placed g s t fits c class
 
   -- a member of an element has rows
   member_rows : (e i : ℕ) → has (t.members e) i ≡ true → 0 < t.size i
@@ -135,7 +115,7 @@ module _ (g : Graph) (s : State) (t : Tie) (fits : Fits g t s) {A : Type 0} (w :
         (λ j k. let p = front_placed j k in subst Once (sym (kept.elements j p)) (fits.elements_once j (home j p))) in
         let same = sum_named (λ j. cond (has (list_at w.lists.elements.items j) e) (num w.size.items j) 0) (λ j. cond (has (t.elements j) e) (t.size j) 0) (gathered t c)
         (λ j k. let p = front_placed j k in ap (λ l. cond (has l e) (num w.size.items j) 0) (kept.elements j p) ∙ ap (λ m. cond (has (t.elements j) e) m 0) (kept.size j p)) in
-        let border = borders e st in let parts = border_parts g laws t s sound fits e st (gathered t c) front_once (λ j k. home j (front_placed j k)) in let is = a.counted e h in
+        let border = borders e st in let parts = border_parts g laws t s sound fits e st (gathered t c) (gathered_once t c) (gathered_live g s t fits c class) in let is = a.counted e h in
         omega (arith, is, off, same, border, parts)
 
     -- what is absorbed is what the rules say

@@ -9,18 +9,16 @@ use Rattle.amd_rounds.specs.Rounds.{firsts}
 use Rattle.amd_rounds.proofs.Lists.{below_from, below_gives}
 use Rattle.amd_rounds.proofs.ListPlaces.{list_below}
 
+-- what is gathered stands in the lists and was not skipped
+pub firsts_gives : (skip : ℕ → Bool) (xs touched : List ℕ) → touched ≡ firsts skip xs → (x : ℕ) → has touched x ≡ true → (has xs x ≡ true) × (skip x ≡ false)
+unfolding has
+firsts_gives skip xs touched is x h = let p = and_parts (has xs x) (not (skip x)) (sym (firsts_names skip [] xs x) ∙ ap (λ l. has l x) (sym is) ∙ h) in (p.0, not-true (skip x) p.1)
+
 -- what is gathered from lists of numbers below n is below n
 pub touched_below : {A : Type 0} (n : ℕ) (lists : List (Vec ℕ A)) (skip : ℕ → Bool) (front touched : List ℕ) → ListsBelow n lists → touched ≡ firsts skip (flat_map (list_at lists) front) → Below n touched
-unfolding has
 touched_below n lists skip front touched below is = below_from n touched (λ x h.
-    let named = sym (firsts_names skip [] (flat_map (list_at lists) front) x) ∙ ap (λ l. has l x) (sym is) ∙ h in
-    let from = flat_gives (list_at lists) front x (and_parts (has (flat_map (list_at lists) front) x) (not (skip x)) named).0 in
+    let from = flat_gives (list_at lists) front x (firsts_gives skip (flat_map (list_at lists) front) touched is x h).0 in
     below_gives n (list_at lists from.0) (list_below n lists below from.0) x from.2)
-
--- what is gathered was not skipped
-pub touched_new : (skip : ℕ → Bool) (xs touched : List ℕ) → touched ≡ firsts skip xs → (x : ℕ) → has touched x ≡ true → skip x ≡ false
-unfolding has
-touched_new skip xs touched is x h = not-true (skip x) (and_parts (has xs x) (not (skip x)) (sym (firsts_names skip [] xs x) ∙ ap (λ l. has l x) (sym is) ∙ h)).1
 
 -- of marks on two lists, those of the second stay where a test says so
 pub spared_is : (own new stays : Bool) → (new ≡ true → own ≡ false) → ((own || new) && not (new && not stays)) ≡ (own || (new && stays))

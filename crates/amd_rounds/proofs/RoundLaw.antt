@@ -10,7 +10,7 @@ use Rattle.amd_model.specs.Step.{StepAt, absorbed}
 use Rattle.amd_model.specs.Sound.{IsSound}
 use Rattle.amd_model.specs.Tie.{Tie, Fits, has, is_empty, turned, pivot, gathered, takes, kept_elements, kept_variables, done, rest, represents, made, ends, new_size, far, left, next_bound, new_home, round, next}
 use Rattle.amd_model.proofs.BelowLemmas.{count_pos}
-use Rattle.amd_model.proofs.StateLemmas.{class_gives, class_from, live_from, front_gives, neighbours_gives, holds_gives, stands_gives}
+use Rattle.amd_model.proofs.StateLemmas.{class_gives, class_from, live_from, neighbours_gives, holds_gives, stands_gives}
 use Rattle.amd_model.proofs.Sound.{live_small}
 use Rattle.amd_model.proofs.SoundStep.{step_sound}
 use Rattle.amd_model.proofs.TieLists.{same_bool, clash, has_append, has_filter, has_turned, empty_gives, some_of}
@@ -26,6 +26,7 @@ use Rattle.amd_rounds.specs.Buckets.{live_in, lasts}
 use Rattle.amd_rounds.proofs.FrontsLaw.{border_is as border_rows, live_left as live_after, live_less, live_is as live_sum, joined as joined_after, no_parent as no_parent_after, fronts_kept}
 use Rattle.amd_rounds.proofs.Lists.{filter_named, sum_named, filter_all, filter_both}
 use Rattle.amd_rounds.proofs.Rounding.{Rounding}
+use Rattle.amd_rounds.proofs.FrontLists.{gathered_other}
 
 -- what was found, in the words of the machine
 pub record Found {A : Type 0} (aggressive : Bool) (w v : Work A) (t : Tie) (r : Rounding aggressive w v) : Type 0 where
@@ -103,10 +104,7 @@ module _ {A : Type 0} (g : Graph) (dense : ℕ → Bool) (aggressive : Bool) (w 
   front_placed i h = placed_of i (front_row i h).0
 
   not_pivot : has L r.c ≡ false
-  not_pivot = elim (cases_Bool (has L r.c)) [
-    | inr n ↦ n
-    | inl y ↦ clash class (front_gives g s r.c r.c (front_row r.c y).1).0
-  ]
+  not_pivot = gathered_other t r.c
 
   rest_front : (i : ℕ) → has R i ≡ true → has L i ≡ true
   unfolding rest
