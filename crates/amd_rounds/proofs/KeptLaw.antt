@@ -1,23 +1,22 @@
 -- What an absorption finds and leaves in the lists of a record is what the rules say of the lists that it keeps.
-use Rattle.std.proofs.Common.{ℕ, Bool, true, false, Option, Some, List, [], ◌∷◌, ◌++◌, ◌≡◌, ◌<◌, ◌-◌, ◌&&◌, ◌||◌, not, cond, inl, inr, refl, sym, ◌∙◌, ap, subst, arith}
+use Rattle.std.proofs.Common.{ℕ, Bool, true, false, Option, Some, List, [], ◌++◌, ◌≡◌, ◌<◌, ◌-◌, ◌&&◌, ◌||◌, not, cond, inl, inr, sym, ◌∙◌, ap, subst, arith}
 use Rattle.std.specs.Prelude.{filter, flat_map, sum_by, nat_eq, nat_lt, ◌==◌}
-use Rattle.std.proofs.lemmas.Bool.{cases_Bool, cond-true, cond-false, and_parts, and_from, or_left, or_parts, eqb-true, eq-eqb, not-true, not_from_true, not_from_false, ltb-true}
-use Rattle.std.proofs.lemmas.List.Sums.{sum_by-cons}
+use Rattle.std.proofs.lemmas.Bool.{cases_Bool, cond-true, cond-false, and_parts, and_from, or_left, or_parts, eqb-true, eq-eqb, not-true, not_from_false, ltb-true}
 use Rattle.amd_model.specs.Below.{count_below}
 use Rattle.amd_model.specs.Graph.{Graph, IsGraph}
 use Rattle.amd_model.specs.Sound.{IsSound}
 use Rattle.amd_model.specs.State.{State, Live, stands}
 use Rattle.amd_model.specs.Tie.{Tie, Fits, Once, has, each, is_empty, gathered, takes, kept_elements, kept_variables}
 use Rattle.amd_model.proofs.StateLemmas.{class_gives, class_from, holds_gives}
-use Rattle.amd_model.proofs.TieLists.{same_bool, has_filter, each_gives, empty_gives, some_of, flat_gives, flat_from, firsts as firsts_names}
-use Rattle.amd_model.proofs.ListingLemmas.{has_filter as filter_gives, has_head, has_tail}
+use Rattle.amd_model.proofs.TieLists.{each_from, empty_from, clash, same_bool, has_filter, each_gives, empty_gives, some_of, flat_gives, flat_from, firsts as firsts_names}
+use Rattle.amd_model.proofs.ListingLemmas.{filter_has, has_filter as filter_gives}
 use Rattle.amd_rounds.specs.Views.{num, some_at, list_at, live_of}
 use Rattle.amd_rounds.specs.Rounds.{firsts, Absorbed}
 use Rattle.amd_rounds.specs.Keeps.{Keeps}
 use Rattle.amd_rounds.specs.declared.work.Lists.{Lists}
 use Rattle.amd_rounds.specs.declared.work.Work.{Work}
 use Rattle.amd_model.proofs.TieFar.{border_parts}
-use Rattle.amd_rounds.proofs.Lists.{filter_named, filter_both, sum_named, flat_same}
+use Rattle.amd_rounds.proofs.Lists.{filter_named, filter_both, sum_named, flat_same, none_sum, named_sum}
 use Rattle.amd_rounds.proofs.Taken.{taken_off}
 use Rattle.amd_rounds.proofs.FrontLists.{gathered_once, gathered_live, gathered_placed}
 
@@ -25,21 +24,14 @@ use Rattle.amd_rounds.proofs.FrontLists.{gathered_once, gathered_live, gathered_
 
 -- the sum of what fails a test is nothing if all pass
 each_none : (f : ℕ → ℕ) (p : ℕ → Bool) (xs : List ℕ) → each p xs ≡ true → sum_by f (filter (λ j. not (p j)) xs) ≡ 0
-unfolding each
-each_none f p [] h = refl
-each_none f p (x ∷ xs) h = let k = and_parts (p x) (each p xs) h in
-    ap (sum_by f) (cond-false (not (p x)) (x ∷ filter (λ j. not (p j)) xs) (filter (λ j. not (p j)) xs) (not_from_true (p x) k.0)) ∙ each_none f p xs k.1
+each_none f p xs h = none_sum f (filter (λ j. not (p j)) xs) (empty_from (filter (λ j. not (p j)) xs) (λ x k. let q = filter_gives (λ j. not (p j)) xs x k in clash (each_gives p xs h x q.0) (not-true (p x) q.1)))
 
 -- and all pass if it is nothing, where nothing has no rows
 none_each : (f : ℕ → ℕ) (p : ℕ → Bool) (xs : List ℕ) → ((x : ℕ) → has xs x ≡ true → 0 < f x) → sum_by f (filter (λ j. not (p j)) xs) ≡ 0 → each p xs ≡ true
-unfolding each
-none_each f p [] some h = refl
-none_each f p (x ∷ xs) some h = let others : List ℕ = filter (λ j. not (p j)) xs in let later : (y : ℕ) → has xs y ≡ true → 0 < f y = λ y n. some y (has_tail y x xs n) in
-    elim (cases_Bool (p x)) [
-      | inl k ↦ and_from (p x) (each p xs) k (none_each f p xs later (sym (ap (sum_by f) (cond-false (not (p x)) (x ∷ others) others (not_from_true (p x) k))) ∙ h))
-      | inr k ↦ (let e = sym (ap (sum_by f) (cond-true (not (p x)) (x ∷ others) others (not_from_false (p x) k))) ∙ h in let a = sum_by-cons f x others in
-          let b = some x (has_head x x xs refl) in absurd (omega (arith, e, a, b)))
-    ]
+none_each f p xs some h = each_from p xs (λ x k. elim (cases_Bool (p x)) [
+  | inl y ↦ y
+  | inr n ↦ absurd (let a = named_sum f (filter (λ j. not (p j)) xs) x (filter_has (λ j. not (p j)) xs x k (not_from_false (p x) n)) in let b = some x k in omega (arith, a, b, h))
+])
 
 -- ---- the lists of a record
 

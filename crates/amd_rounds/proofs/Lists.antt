@@ -1,13 +1,15 @@
 -- Lists of numbers: what they name, what a test keeps of them, and sums.
-use Rattle.std.proofs.Common.{ℕ, zero, suc, Bool, true, false, List, [], ◌∷◌, ◌++◌, ◌≡◌, ◌≢◌, ◌≤◌, ◌<◌, ◌+◌, ◌∙◌, ◌&&◌, ◌||◌, cond, ap, sym, refl, inl, inr, arith, length, get_or, take}
+use Rattle.std.proofs.Common.{ℕ, zero, suc, Bool, true, false, List, [], ◌∷◌, ◌++◌, ◌≡◌, ◌≢◌, ◌≤◌, ◌<◌, ◌+◌, ◌∙◌, ◌&&◌, ◌||◌, cond, ap, sym, refl, inl, inr, arith, not, length, get_or, take, drop}
 use Rattle.std.specs.Prelude.{filter, flat_map, sum_by, ◌==◌}
-use Rattle.std.proofs.Math.Bool.{or-false}
-use Rattle.std.proofs.lemmas.Bool.{true≢false, false≢true, or_right, or_from, or_cases, eq-eqb, eqb-true, ne_eqb, cases_Bool, cond-true, cond-false}
-use Rattle.std.proofs.lemmas.List.{take_more, take_all}
-use Rattle.std.proofs.lemmas.List.Sums.{sum_by-cons}
+use Rattle.std.proofs.Math.Bool.{or-false, and-true}
+use Rattle.std.proofs.lemmas.Bool.{true≢false, or_right, or_from, and_right, eq-eqb, ne_eqb, cases_Bool, cases_eq, cond-true, cond-false, not_from_true, not_from_false}
+use Rattle.std.proofs.lemmas.List.{take_more, take_all, take-append-drop}
+use Rattle.std.proofs.lemmas.List.Elements.{filter-append}
+use Rattle.std.proofs.lemmas.List.Filters.{sum_by-filter_both}
+use Rattle.std.proofs.lemmas.List.Sums.{sum_by-append, sum_by-cons}
 use Rattle.amd_model.specs.Tie.{has, is_empty, turned, Once}
 use Rattle.amd_model.proofs.TieLists.{clash, has_append, has_turned}
-use Rattle.amd_model.proofs.ListingLemmas.{has_head, has_tail}
+use Rattle.amd_model.proofs.ListingLemmas.{has_none, has_head, has_tail, has_cases}
 use Rattle.amd_rounds.specs.Views.{Below}
 
 -- the first number of a list passes
@@ -48,7 +50,7 @@ pub flat_same : (f h : ℕ → List ℕ) (xs : List ℕ) → ((x : ℕ) → has 
 flat_same f h [] same = refl
 flat_same f h (x ∷ xs) same = ap (λ l. l ++ flat_map f xs) (same x (has_head x x xs refl)) ∙ ap (λ l. h x ++ l) (flat_same f h xs (λ y k. same y (has_tail y x xs k)))
 
--- a list that names nothing has no rows
+-- a list that names nothing has no sum
 pub none_sum : (f : ℕ → ℕ) (xs : List ℕ) → is_empty xs ≡ true → sum_by f xs ≡ 0
 unfolding is_empty
 none_sum f [] e = refl
@@ -56,10 +58,9 @@ none_sum f (x ∷ xs) e = absurd (true≢false (sym e))
 
 -- what a list names is counted in its sum
 pub named_sum : (f : ℕ → ℕ) (xs : List ℕ) (x : ℕ) → has xs x ≡ true → f x ≤ sum_by f xs
-unfolding has
-named_sum f [] x h = absurd (true≢false (sym h))
-named_sum f (y ∷ ys) x h = let a = sum_by-cons f y ys in elim (or_cases (y == x) (has ys x) h) [
-  | inl q ↦ (let e = ap f (eqb-true y x q) in omega (arith, a, e))
+named_sum f [] x h = absurd (has_none x h)
+named_sum f (y ∷ ys) x h = let a = sum_by-cons f y ys in elim (has_cases x y ys h) [
+  | inl q ↦ (let e = ap f q in omega (arith, a, e))
   | inr q ↦ (let b = named_sum f ys x q in omega (arith, a, b))
 ]
 
@@ -104,13 +105,54 @@ below_from n xs small = λ k d l. small (get_or xs k d) (has_at xs k d l)
 
 -- and the other way round
 pub below_gives : (n : ℕ) (xs : List ℕ) → Below n xs → (x : ℕ) → has xs x ≡ true → x < n
-unfolding has
-below_gives n [] small x h = absurd (false≢true h)
-below_gives n (y ∷ ys) small x h = elim (or_cases (y == x) (has ys x) h) [
-  | inl q ↦ (let e = eqb-true y x q in let b = small 0 0 (omega arith) in omega (arith, e, b))
+below_gives n [] small x h = absurd (has_none x h)
+below_gives n (y ∷ ys) small x h = elim (has_cases x y ys h) [
+  | inl e ↦ (let b = small 0 0 (omega arith) in omega (arith, e, b))
   | inr q ↦ below_gives n ys (λ k d l. small (suc k) d (omega (arith, l))) x q
 ]
 
 -- and so is the list turned
 pub below_turned : (n : ℕ) (xs : List ℕ) → Below n xs → Below n (turned xs)
 below_turned n xs b = below_from n (turned xs) (λ x h. below_gives n xs b x (sym (has_turned xs x) ∙ h))
+
+-- ---- sums over what passes
+
+-- what passes adds its term
+pub sum_pass : (f : ℕ → ℕ) (p : ℕ → Bool) (y : ℕ) (xs : List ℕ) → sum_by f (filter p (y ∷ xs)) ≡ cond (p y) (f y) 0 + sum_by f (filter p xs)
+sum_pass f p y xs = elim (cases_Bool (p y)) [
+  | inl h ↦ (let a = ap (sum_by f) (filter_yes p y xs h) in let b = cond-true (p y) (f y) 0 h in let c = sum_by-cons f y (filter p xs) in omega (arith, a, b, c))
+  | inr h ↦ (let a = ap (sum_by f) (filter_no p y xs h) in let b = cond-false (p y) (f y) 0 h in omega (arith, a, b))
+]
+
+-- the sum of a part is no more than that of the list
+pub sum_part : (f : ℕ → ℕ) (p : ℕ → Bool) (xs : List ℕ) → sum_by f (filter p xs) ≤ sum_by f xs
+sum_part f p xs = let both = sum_by-filter_both p (λ x. not (p x)) (λ x. refl) f xs in omega (arith, both)
+
+-- nor is that of the numbers before a place
+pub sum_upto : (f : ℕ → ℕ) (p : ℕ → Bool) (xs : List ℕ) (k : ℕ) → sum_by f (filter p (take k xs)) ≤ sum_by f (filter p xs)
+sum_upto f p xs k = let a = ap (λ ys. sum_by f (filter p ys)) (take-append-drop k xs) in let b = ap (sum_by f) (filter-append p (take k xs) (drop k xs)) in
+    let c = sum_by-append f (filter p (take k xs)) (filter p (drop k xs)) in omega (arith, a, b, c)
+
+-- the number at the place adds its term if it passes
+pub sum_next : (f : ℕ → ℕ) (p : ℕ → Bool) (xs : List ℕ) (k d : ℕ) → k < length xs → sum_by f (filter p (take (k + 1) xs)) ≡ sum_by f (filter p (take k xs)) + cond (p (get_or xs k d)) (f (get_or xs k d)) 0
+sum_next f p xs k d l = let x : ℕ = get_or xs k d in
+    let a = ap (λ ys. sum_by f (filter p ys)) (take_more xs k d l) in let b = ap (sum_by f) (filter-append p (take k xs) (x ∷ [])) in
+    let c = sum_by-append f (filter p (take k xs)) (filter p (x ∷ [])) in let e = sum_pass f p x [] in omega (arith, a, b, c, e)
+
+-- one number that passes, and the others
+module _ (f : ℕ → ℕ) (p : ℕ → Bool) (x : ℕ) where
+  abbrev others : ℕ → Bool
+  others j = p j && not (j == x)
+
+  other_is : (y : ℕ) → y ≢ x → others y ≡ p y
+  other_is y ne = ap (λ b. p y && b) (not_from_false (y == x) (ne_eqb y x ne)) ∙ and-true (p y)
+
+  pub sum_apart : (xs : List ℕ) → Once xs → has xs x ≡ true → p x ≡ true → f x + sum_by f (filter others xs) ≡ sum_by f (filter p xs)
+  sum_apart [] o h e = absurd (has_none x h)
+  sum_apart (y ∷ xs) o h e = let a = sum_pass f p y xs in let b = sum_pass f others y xs in elim (cases_eq y x) [
+    | inl same ↦ (let c = ap (sum_by f) (filter_named others p xs (λ z k. other_is z (λ q. clash k (ap (has xs) (q ∙ sym same) ∙ o.0)))) in
+        let d = cond-true (p y) (f y) 0 (ap p same ∙ e) in
+        let g = cond-false (others y) (f y) 0 (and_right (p y) (not (y == x)) (not_from_true (y == x) (eq-eqb y x same))) in
+        let m = ap f same in omega (arith, a, b, c, d, g, m))
+    | inr ne ↦ (let c = sum_apart xs o.1 (elim (has_cases x y xs h) [ inl q ↦ absurd (ne (sym q)) | inr q ↦ q ]) e in let d = ap (λ b. cond b (f y) 0) (other_is y ne) in omega (arith, a, b, c, d))
+  ]

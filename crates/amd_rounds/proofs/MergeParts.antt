@@ -8,7 +8,7 @@ use Rattle.amd_model.proofs.TieLists.{once_filter}
 use Rattle.amd_model.proofs.ListingLemmas.{has_filter as filter_gives}
 use Rattle.amd_rounds.specs.Views.{num, Below}
 use Rattle.amd_rounds.specs.Rounds.{alike_in}
-use Rattle.amd_rounds.proofs.Joins.{sum_part}
+use Rattle.amd_rounds.proofs.Lists.{sum_part}
 use Rattle.amd_rounds.proofs.Representatives.{rep, rep_in, rep_rep, alike_self, alike_flip, alike_through}
 
 -- a part of a front names rows, each once, and what the front names

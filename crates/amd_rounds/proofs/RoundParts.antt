@@ -1,7 +1,7 @@
 -- The parts of a round make it together: what each asks of the record before it, and that they make the round that the law speaks of.
 use Rattle.std.proofs.Common.{ℕ, Bool, true, false, Some, List, [], ◌∷◌, ◌++◌, ◌≡◌, ◌≤◌, ◌<◌, ◌+◌, ◌-◌, ◌∙◌, ◌&&◌, ◌||◌, not, cond, ap, sym, refl, subst, inl, inr, arith, length}
 use Rattle.std.specs.Prelude.{filter, max, sum_by, ◌==◌, ◌^◌}
-use Rattle.std.proofs.lemmas.Bool.{cases_Bool, cond-true, cond-false, or_parts, or_cases, and_from, and_right, eqb-true, eq-eqb, ne_eqb, not-true}
+use Rattle.std.proofs.lemmas.Bool.{cases_Bool, cond-true, cond-false, or_parts, or_cases, and_right, eqb-true, eq-eqb, ne_eqb, not-true}
 use Rattle.std.proofs.lemmas.List.Elements.{All-filter}
 use Rattle.amd_model.specs.Figures.{cut, front_sum, entries, ldl_steps, lu_steps}
 use Rattle.amd_model.specs.Graph.{Graph}
@@ -13,7 +13,7 @@ use Rattle.amd_model.specs.Tie.{Tie, has, is_empty, Once, pivot, gathered, kept_
 use Rattle.amd_model.proofs.BelowLemmas.{count_pos, count_most}
 use Rattle.amd_model.proofs.StateLemmas.{class_gives, class_from, block_from, stands_gives}
 use Rattle.amd_model.proofs.Sound.{live_small}
-use Rattle.amd_model.proofs.TieLists.{clash, has_filter, once_filter, some_of}
+use Rattle.amd_model.proofs.TieLists.{clash, once_filter, some_of}
 use Rattle.amd_model.proofs.ListingLemmas.{filter_has, has_filter as filter_gives, has_right, has_head}
 use Rattle.amd_model.proofs.StepFronts.{front_small, placed_small}
 use Rattle.amd_rounds.specs.Views.{num, some_at, list_at, Below}
@@ -22,8 +22,7 @@ use Rattle.amd_rounds.specs.Rounds.{keeps_none, alike_in, Absorbed, bound_after}
 use Rattle.amd_rounds.specs.Keeps.{IsSized, Stands, IsRound}
 use Rattle.amd_rounds.specs.Parts.{MakesElement, MergesClasses, RenewsClasses}
 use Rattle.amd_rounds.specs.declared.work.Work.{Work}
-use Rattle.amd_rounds.proofs.Lists.{filter_named, sum_named, none_sum, named_sum}
-use Rattle.amd_rounds.proofs.Joins.{sum_part}
+use Rattle.amd_rounds.proofs.Lists.{filter_named, sum_named, none_sum, named_sum, sum_part}
 use Rattle.amd_rounds.proofs.FrontLists.{pivot_below, front_below, front_once, front_other, gathered_placed}
 use Rattle.amd_rounds.proofs.FrontsLaw.{pivot_class, pivot_least, live_left, live_less, border_is as border_law}
 use Rattle.amd_rounds.proofs.BucketsLaw.{has_lasts, popped_live, chosen_pivot, least_low, bucket_step}
@@ -168,8 +167,8 @@ module _ {A : Type 0} (g : Graph) (dense : ℕ → Bool) (aggressive : Bool) (w 
 
       one_made : (i : ℕ) → has R i ≡ true → has M (represents aggressive t c L i) ≡ true
       one_made i h = let r : ℕ = represents aggressive t c L i in
-          ap (λ l. has l r) (sym (made_law g st.graph s st.sound t st.fits c placed aggressive)) ∙ has_filter (λ i. represents aggressive t c L i == i) R r
-          ∙ and_from (has R r) (represents aggressive t c L r == r) (represents_in g st.graph s st.sound t st.fits c placed aggressive w1.lists.elements.items w1.lists.variables.items elements variables i h)
+          ap (λ l. has l r) (sym (made_law g st.graph s st.sound t st.fits c placed aggressive)) ∙ filter_has (λ i. represents aggressive t c L i == i) R r
+          (represents_in g st.graph s st.sound t st.fits c placed aggressive w1.lists.elements.items w1.lists.variables.items elements variables i h)
           (eq-eqb (represents aggressive t c L r) r (represents_itself g st.graph s st.sound t st.fits c placed aggressive w1.lists.elements.items w1.lists.variables.items elements variables i h))
 
       old_size : (i : ℕ) → has front i ≡ true → num w1.size.items i ≡ t.size i
