@@ -1,11 +1,11 @@
 -- The rows of classes while each is merged into its representative.
-use Rattle.std.proofs.Common.{ℕ, true, false, ◌≡◌, ◌≢◌, ◌<◌, ◌≤◌, ◌+◌, ◌&&◌, ◌||◌, not, cond, inl, inr, refl, sym, ◌∙◌, ap, arith, List, take, length, get_or}
+use Rattle.std.proofs.Common.{ℕ, true, false, ◌≡◌, ◌≢◌, ◌<◌, ◌≤◌, ◌+◌, ◌&&◌, not, cond, inl, inr, refl, sym, ◌∙◌, ap, arith, List, take, length, get_or}
 use Rattle.std.specs.Prelude.{◌==◌, filter, sum_by}
-use Rattle.std.proofs.lemmas.Bool.{cases_Bool, false≢true, and_from, and_left, and_right, or_cases, or_parts, eqb-true, eq-eqb, ne_eqb, cases_eq, cond-true, cond-false, not_from_false, not_from_true}
+use Rattle.std.proofs.lemmas.Bool.{cases_Bool, false≢true, and_from, and_left, and_right, or_parts, eq-eqb, ne_eqb, cases_eq, cond-true, cond-false, not_from_false, not_from_true}
 use Rattle.std.proofs.lemmas.List.{take_all}
 use Rattle.amd_model.specs.Tie.{has, Once}
 use Rattle.amd_model.proofs.TieLists.{clash}
-use Rattle.amd_rounds.proofs.Lists.{has_more, has_at, has_all, not_met, sum_part, sum_upto, sum_next, sum_apart}
+use Rattle.amd_rounds.proofs.Lists.{has_more, has_at, has_all, not_met, sum_part, sum_upto, sum_next, sum_apart, more_gives}
 
 -- the rows that the classes met so far, other than x, bring to x
 abbrev pub brought : List ℕ → (ℕ → ℕ) → (ℕ → ℕ) → ℕ → ℕ → ℕ
@@ -34,15 +34,13 @@ module _ (rest : List ℕ) (into old : ℕ → ℕ) where
     none_more : (x : ℕ) → (into i == x && not (i == x)) ≡ false → brought rest into old (k + 1) x ≡ brought rest into old k x
     none_more x e = let a = more x in let b = cond-false (into i == x && not (i == x)) (old i) 0 e in omega (arith, a, b)
 
-    met : (x : ℕ) → has (take (k + 1) rest) x ≡ (has (take k rest) x || i == x)
-    unfolding i
-    met x = has_more rest k 0 within x
-
     met_before : (x : ℕ) → has (take (k + 1) rest) x ≡ true → x ≢ i → has (take k rest) x ≡ true
-    met_before x h ne = elim (or_cases (has (take k rest) x) (i == x) (sym (met x) ∙ h)) [ inl q ↦ q | inr q ↦ absurd (ne (sym (eqb-true i x q))) ]
+    unfolding i
+    met_before x h ne = elim (more_gives rest k 0 x within h) [ inl q ↦ q | inr q ↦ absurd (ne q) ]
 
     unmet_before : (x : ℕ) → has (take (k + 1) rest) x ≡ false → (has (take k rest) x ≡ false) × (x ≢ i)
-    unmet_before x h = let p = or_parts (has (take k rest) x) (i == x) (sym (met x) ∙ h) in (p.0, λ e. clash (eq-eqb i x (sym e)) p.1)
+    unfolding i
+    unmet_before x h = let p = or_parts (has (take k rest) x) (i == x) (sym (has_more rest k 0 within x) ∙ h) in (p.0, λ e. clash (eq-eqb i x (sym e)) p.1)
 
     -- a class that represents itself stays
     pub merged_stays : into (get_or rest k 0) ≡ get_or rest k 0 → Merged rest into old (k + 1) size

@@ -8,7 +8,7 @@ use Rattle.amd_model.specs.Sound.{IsSound}
 use Rattle.amd_model.specs.State.{State, Live, stands}
 use Rattle.amd_model.specs.Tie.{Tie, Fits, Once, has, each, is_empty, gathered, takes, kept_elements, kept_variables}
 use Rattle.amd_model.proofs.StateLemmas.{class_gives, class_from, holds_gives}
-use Rattle.amd_model.proofs.TieLists.{each_from, empty_from, clash, same_bool, has_filter, each_gives, empty_gives, some_of, flat_gives, flat_from, firsts as firsts_names}
+use Rattle.amd_model.proofs.TieLists.{each_from, empty_from, clash, same_bool, has_filter, each_gives, some_of, flat_gives, flat_from, firsts as firsts_names}
 use Rattle.amd_model.proofs.ListingLemmas.{filter_has, has_filter as filter_gives}
 use Rattle.amd_rounds.specs.Views.{num, some_at, list_at, live_of}
 use Rattle.amd_rounds.specs.Rounds.{firsts, Absorbed}
@@ -16,7 +16,7 @@ use Rattle.amd_rounds.specs.Keeps.{Keeps}
 use Rattle.amd_rounds.specs.declared.work.Lists.{Lists}
 use Rattle.amd_rounds.specs.declared.work.Work.{Work}
 use Rattle.amd_model.proofs.TieFar.{border_parts}
-use Rattle.amd_rounds.proofs.Lists.{filter_named, filter_both, sum_named, flat_same, none_sum, named_sum}
+use Rattle.amd_rounds.proofs.Lists.{filter_named, filter_both, sum_named, flat_same, none_sum, named_sum, not_empty}
 use Rattle.amd_rounds.proofs.Taken.{taken_off}
 use Rattle.amd_rounds.proofs.FrontLists.{gathered_once, gathered_live, gathered_placed}
 
@@ -53,7 +53,7 @@ module _ (g : Graph) (s : State) (t : Tie) (fits : Fits g t s) {A : Type 0} (w :
   element_member i e p h = fits.members e i ∙ sym (fits.elements i e (home i p)) ∙ h
 
   some_members : (e i : ℕ) → has (t.members e) i ≡ true → is_empty (t.members e) ≡ false
-  some_members e i h = elim (cases_Bool (is_empty (t.members e))) [ inr k ↦ k | inl k ↦ absurd (empty_gives (t.members e) k i h) ]
+  some_members e i h = not_empty (t.members e) i h
 
   -- what is gathered from the record is the front
   pub front_found : firsts (λ x. x == c) (flat_map (λ e. live_of w.size.items (list_at w.lists.members.items e)) (list_at w.lists.elements.items c) ++ live_of w.size.items (list_at w.lists.variables.items c)) ≡ gathered t c

@@ -1,8 +1,8 @@
 -- Lists of numbers: what they name, what a test keeps of them, and sums.
-use Rattle.std.proofs.Common.{ℕ, zero, suc, Bool, true, false, List, [], ◌∷◌, ◌++◌, ◌≡◌, ◌≢◌, ◌≤◌, ◌<◌, ◌+◌, ◌∙◌, ◌&&◌, ◌||◌, cond, ap, sym, refl, inl, inr, arith, not, length, get_or, take, drop}
+use Rattle.std.proofs.Common.{ℕ, zero, suc, Bool, true, false, List, [], ◌∷◌, ◌++◌, ◌≡◌, ◌≢◌, ◌≤◌, ◌<◌, ◌+◌, ◌∙◌, ◌&&◌, ◌||◌, ◌⊎◌, cond, ap, sym, refl, inl, inr, arith, not, length, get_or, take, drop}
 use Rattle.std.specs.Prelude.{filter, flat_map, sum_by, ◌==◌}
 use Rattle.std.proofs.Math.Bool.{or-false, and-true}
-use Rattle.std.proofs.lemmas.Bool.{true≢false, or_right, or_from, and_right, eq-eqb, ne_eqb, cases_Bool, cases_eq, cond-true, cond-false, not_from_true, not_from_false}
+use Rattle.std.proofs.lemmas.Bool.{true≢false, or_cases, eqb-true, or_right, or_from, and_right, eq-eqb, ne_eqb, cases_Bool, cases_eq, cond-true, cond-false, not_from_true, not_from_false}
 use Rattle.std.proofs.lemmas.List.{take_more, take_all, take-append-drop}
 use Rattle.std.proofs.lemmas.List.Elements.{filter-append}
 use Rattle.std.proofs.lemmas.List.Filters.{sum_by-filter_both}
@@ -11,6 +11,12 @@ use Rattle.amd_model.specs.Tie.{has, is_empty, turned, Once}
 use Rattle.amd_model.proofs.TieLists.{clash, has_append, has_turned}
 use Rattle.amd_model.proofs.ListingLemmas.{has_none, has_head, has_tail, has_cases}
 use Rattle.amd_rounds.specs.Views.{Below}
+
+-- a list that names something is not empty
+pub not_empty : (xs : List ℕ) (x : ℕ) → has xs x ≡ true → is_empty xs ≡ false
+unfolding is_empty
+not_empty [] x h = absurd (has_none x h)
+not_empty (y ∷ xs) x h = refl
 
 -- the first number of a list passes
 pub filter_yes : (p : ℕ → Bool) (y : ℕ) (xs : List ℕ) → p y ≡ true → filter p (y ∷ xs) ≡ y ∷ filter p xs
@@ -77,7 +83,11 @@ pub has_more : (xs : List ℕ) (k d : ℕ) → k < length xs → (x : ℕ) → h
 unfolding has
 has_more xs k d l x = ap (λ ys. has ys x) (take_more xs k d l) ∙ has_append (take k xs) (get_or xs k d ∷ []) x ∙ ap (λ b. has (take k xs) x || b) (or-false (get_or xs k d == x))
 
--- so that one is among them
+-- what is among them is among those before it, or is the one there
+pub more_gives : (xs : List ℕ) (k d x : ℕ) → k < length xs → has (take (k + 1) xs) x ≡ true → (has (take k xs) x ≡ true) ⊎ (x ≡ get_or xs k d)
+more_gives xs k d x l h = elim (or_cases (has (take k xs) x) (get_or xs k d == x) (sym (has_more xs k d l x) ∙ h)) [ inl q ↦ inl q | inr q ↦ inr (sym (eqb-true (get_or xs k d) x q)) ]
+
+-- the one there is among them
 pub has_next : (xs : List ℕ) (k d : ℕ) → k < length xs → has (take (k + 1) xs) (get_or xs k d) ≡ true
 has_next xs k d l = let x : ℕ = get_or xs k d in has_more xs k d l x ∙ or_right (has (take k xs) x) (x == x) (eq-eqb x x refl)
 

@@ -13,7 +13,7 @@ use Rattle.amd_model.proofs.BelowLemmas.{count_pos}
 use Rattle.amd_model.proofs.StateLemmas.{class_gives, class_from, live_from, neighbours_gives, holds_gives, stands_gives}
 use Rattle.amd_model.proofs.Sound.{live_small}
 use Rattle.amd_model.proofs.SoundStep.{step_sound}
-use Rattle.amd_model.proofs.TieLists.{same_bool, clash, has_append, has_filter, has_turned, empty_gives, some_of}
+use Rattle.amd_model.proofs.TieLists.{same_bool, clash, has_append, has_filter, has_turned, some_of}
 use Rattle.amd_model.proofs.ListingLemmas.{filter_has, has_filter as filter_gives, has_right}
 use Rattle.amd_model.proofs.TieSums.{home_cases}
 use Rattle.amd_model.proofs.TieLaw.{L as front_list, takes_is, front_class, after, is_step, now, now_fits}
@@ -24,7 +24,7 @@ use Rattle.amd_rounds.specs.declared.work.Work.{Work}
 use Rattle.amd_model.proofs.StepFronts.{placed_small}
 use Rattle.amd_rounds.specs.Buckets.{live_in, lasts}
 use Rattle.amd_rounds.proofs.FrontsLaw.{border_is as border_rows, live_left as live_after, live_less, live_is as live_sum, joined as joined_after, no_parent as no_parent_after, fronts_kept}
-use Rattle.amd_rounds.proofs.Lists.{filter_named, sum_named, filter_all, filter_both}
+use Rattle.amd_rounds.proofs.Lists.{filter_named, sum_named, filter_all, filter_both, not_empty}
 use Rattle.amd_rounds.proofs.Rounding.{Rounding}
 use Rattle.amd_rounds.proofs.FrontLists.{gathered_other}
 
@@ -52,10 +52,7 @@ min_cut a x l = omega (arith, l)
 
 -- a list that has something left had something
 had_some : (xs : List ℕ) (p : ℕ → Bool) → is_empty (filter p xs) ≡ false → is_empty xs ≡ false
-had_some xs p h = elim (cases_Bool (is_empty xs)) [
-  | inr n ↦ n
-  | inl y ↦ (let x = some_of (filter p xs) h in absurd (empty_gives xs y x.0 (filter_gives p xs x.0 x.1).0))
-]
+had_some xs p h = let x = some_of (filter p xs) h in not_empty xs x.0 (filter_gives p xs x.0 x.1).0
 
 module _ {A : Type 0} (g : Graph) (dense : ℕ → Bool) (aggressive : Bool) (w v : Work A) (t : Tie) (s : State) (st : Stands g dense w t s) (r : Rounding aggressive w v) (f : Found aggressive w v t r) where
   abbrev c : ℕ
@@ -730,4 +727,4 @@ module _ {A : Type 0} (g : Graph) (dense : ℕ → Bool) (aggressive : Bool) (w 
   one_round few buckets = (some_placed, (new_state, subst (λ c. StepAt g aggressive c s new_state) f.pivot_is step, subst (λ u. Stands g dense v u new_state) as_next (stands_after few buckets)))
     where
       some_placed : is_empty t.placed ≡ false
-      some_placed = elim (cases_Bool (is_empty t.placed)) [ inr n ↦ n | inl y ↦ absurd (empty_gives t.placed y r.c f.placed) ]
+      some_placed = not_empty t.placed r.c f.placed

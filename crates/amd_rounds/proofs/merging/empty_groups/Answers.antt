@@ -1,13 +1,12 @@
 use Rattle.std.proofs.Common.{◌≡◌, ◌<◌, ◌+◌, ◌||◌, inl, inr, ℕ, Bool, true, false, List, [], ◌∷◌, length, get_or, set, take, arith, sym, ap, refl, ◌∙◌}
-use Rattle.std.specs.Prelude.{◌==◌}
-use Rattle.std.proofs.lemmas.Bool.{cases_Bool, or_cases, eqb-true, false≢true, cases_eq}
+use Rattle.std.proofs.lemmas.Bool.{cases_Bool, false≢true, cases_eq}
 use Rattle.std.proofs.lemmas.List.{length-set}
 use Rattle.amd_model.specs.Tie.{has}
 use Rattle.amd_model.proofs.TieLists.{clash}
 use Rattle.amd_model.proofs.ListingLemmas.{has_head}
 use Rattle.amd_rounds.specs.Views.{list_at}
 use Rattle.amd_rounds.specs.Groups.{group_in}
-use Rattle.amd_rounds.proofs.Lists.{has_more, has_all}
+use Rattle.amd_rounds.proofs.Lists.{has_all, more_gives}
 use Rattle.amd_rounds.proofs.ListPlaces.{list_set_same, list_set_other}
 use Rattle.amd_rounds.proofs.merging.empty_groups.Goals as goal
 
@@ -43,9 +42,9 @@ loop-i-preserved g c =
       grouped = λ b r h. inv.grouped b r (was b r h).1;
       left = λ b r h. (let w = was b r h in elim (cases_Bool (has (take (k + 1) rest) r)) [
         | inr f ↦ f
-        | inl t ↦ elim (or_cases (has (take k rest) r) (get_or rest k 0 == r) (sym (has_more rest k 0 c.loop-i-test.true r) ∙ t)) [
+        | inl t ↦ elim (more_gives rest k 0 r c.loop-i-test.true t) [
           | inl q ↦ clash q (inv.left b r w.1)
-          | inr q ↦ absurd (w.0 (sym (inv.grouped b r w.1).1 ∙ ap (group_in c.args.lists.now.elements.items c.args.lists.now.variables.items) (sym (eqb-true (get_or rest k 0) r q)) ∙ sym c.group_of-group.ensures.group))
+          | inr q ↦ absurd (w.0 (sym (inv.grouped b r w.1).1 ∙ ap (group_in c.args.lists.now.elements.items c.args.lists.now.variables.items) q ∙ sym c.group_of-group.ensures.group))
         ]
       ]);
     }
