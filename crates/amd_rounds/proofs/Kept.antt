@@ -1,9 +1,8 @@
 -- A loop over a list writes at its numbers: what stands at each place then.
 use Rattle.std.proofs.Common.{ℕ, Bool, true, false, List, [], ◌∷◌, ◌++◌, ◌≡◌, ◌≢◌, ◌<◌, ◌≤◌, ◌+◌, ◌&&◌, not, cond, inl, inr, refl, sym, ◌∙◌, ap, subst, arith, length, get_or, take, set, get_or-set_same, get_or-set_other}
-use Rattle.std.specs.Prelude.{filter, ◌==◌}
+use Rattle.std.specs.Prelude.{Vec, filter, ◌==◌}
 use Rattle.std.proofs.lemmas.Bool.{cases_eq, cond-true, cond-false, and_from, eq-eqb, ne_eqb, not_from_true, not_from_false, and_right}
 use Rattle.std.proofs.lemmas.List.{append-nil}
-use Rattle.std.specs.Prelude.{Vec}
 use Rattle.std.proofs.lemmas.List.Elements.{filter_more, All-filter}
 use Rattle.amd_model.specs.Tie.{has, is_empty, Once}
 use Rattle.amd_rounds.specs.Views.{list_at, Below, ListsBelow}
