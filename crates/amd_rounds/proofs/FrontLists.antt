@@ -1,19 +1,19 @@
 -- The pivot and the list of its element are rows, and the list names classes, each once, and not the pivot.
 use Rattle.std.proofs.Common.{ℕ, true, false, List, [], ◌∷◌, ◌++◌, Some, ◌≡◌, ◌<◌, inl, inr, refl, sym, ◌∙◌, ap, subst}
 use Rattle.std.specs.Prelude.{Vec, flat_map, nat_lt, ◌==◌}
-use Rattle.std.proofs.lemmas.Bool.{cases_Bool, eq-eqb}
+use Rattle.std.proofs.lemmas.Bool.{eq-eqb}
 use Rattle.amd_model.specs.Graph.{Graph}
 use Rattle.amd_model.specs.State.{State, Live}
 use Rattle.amd_model.specs.Tie.{Tie, Fits, has, gathered, Once}
 use Rattle.amd_model.proofs.StateLemmas.{class_gives, class_from, holds_gives, neighbours_gives}
-use Rattle.amd_model.proofs.TieLists.{clash, flat_gives, once_firsts}
+use Rattle.amd_model.proofs.TieLists.{flat_gives, once_firsts}
 use Rattle.amd_model.proofs.ListingLemmas.{has_filter as filter_gives, has_append as append_gives, has_right, has_head}
 use Rattle.amd_rounds.specs.Views.{num, list_at, live_of, Below, ListsBelow}
 use Rattle.amd_rounds.specs.Buckets.{Popped}
 use Rattle.amd_rounds.specs.Rounds.{firsts}
 use Rattle.amd_rounds.proofs.Lists.{below_from, below_gives}
 use Rattle.amd_rounds.proofs.ListPlaces.{list_below}
-use Rattle.amd_rounds.proofs.KeptParts.{firsts_gives}
+use Rattle.amd_rounds.proofs.KeptParts.{firsts_gives, firsts_skips}
 
 -- what was taken from a list of numbers below n is below n
 pub pivot_below : {A : Type 0} (n : ℕ) (size bound : List ℕ) (least : ℕ) (lists : List (Vec ℕ A)) (new : List ℕ) (c : ℕ) → ListsBelow n lists → Popped size bound least (list_at lists least) new (Some c) → c < n
@@ -44,10 +44,7 @@ module _ {A : Type 0} (size : List ℕ) (members elements variables : List (Vec 
   front_once = subst Once (sym is) (once_firsts (λ x. x == c) [] front_all tt)
 
   pub front_other : has front c ≡ false
-  front_other = elim (cases_Bool (has front c)) [
-    | inr n ↦ n
-    | inl h ↦ clash (eq-eqb c c refl) (firsts_gives (λ x. x == c) front_all front is c h).1
-  ]
+  front_other = firsts_skips (λ x. x == c) front_all front is c (eq-eqb c c refl)
 
 -- the list of the rules
 pub gathered_once : (t : Tie) (c : ℕ) → Once (gathered t c)
@@ -56,10 +53,7 @@ gathered_once t c = once_firsts (λ x. x == c) [] (flat_map t.members (t.element
 
 pub gathered_other : (t : Tie) (c : ℕ) → has (gathered t c) c ≡ false
 unfolding gathered
-gathered_other t c = elim (cases_Bool (has (gathered t c) c)) [
-  | inr n ↦ n
-  | inl h ↦ clash (eq-eqb c c refl) (firsts_gives (λ x. x == c) (flat_map t.members (t.elements c) ++ t.variables c) (gathered t c) refl c h).1
-]
+gathered_other t c = firsts_skips (λ x. x == c) (flat_map t.members (t.elements c) ++ t.variables c) (gathered t c) refl c (eq-eqb c c refl)
 
 -- it names classes
 module _ (g : Graph) (s : State) (t : Tie) (fits : Fits g t s) (c : ℕ) (placed : has t.placed c ≡ true) where

@@ -8,7 +8,7 @@ use Rattle.amd_model.specs.Sound.{IsSound}
 use Rattle.amd_model.specs.State.{State, Live, stands}
 use Rattle.amd_model.specs.Tie.{Tie, Fits, Once, has, each, is_empty, gathered, takes, kept_elements, kept_variables}
 use Rattle.amd_model.proofs.StateLemmas.{class_gives, class_from, holds_gives}
-use Rattle.amd_model.proofs.TieLists.{each_from, empty_from, clash, same_bool, has_filter, each_gives, some_of, flat_gives, flat_from, firsts as firsts_names}
+use Rattle.amd_model.proofs.TieLists.{each_from, empty_from, clash, same_bool, each_gives, some_of, flat_gives, flat_from, firsts as firsts_names}
 use Rattle.amd_model.proofs.ListingLemmas.{filter_has, has_filter as filter_gives}
 use Rattle.amd_rounds.specs.Views.{num, some_at, list_at, live_of}
 use Rattle.amd_rounds.specs.Rounds.{firsts, Absorbed}
@@ -19,6 +19,7 @@ use Rattle.amd_model.proofs.TieFar.{border_parts}
 use Rattle.amd_rounds.proofs.Lists.{filter_named, filter_both, sum_named, flat_same, none_sum, named_sum, not_empty}
 use Rattle.amd_rounds.proofs.Taken.{taken_off}
 use Rattle.amd_rounds.proofs.FrontLists.{gathered_once, gathered_live, gathered_placed}
+use Rattle.amd_rounds.proofs.KeptParts.{firsts_gives}
 
 -- ---- lists
 
@@ -72,8 +73,7 @@ module _ (g : Graph) (s : State) (t : Tie) (fits : Fits g t s) {A : Type 0} (w :
   member_rows : (e i : ℕ) → has (t.members e) i ≡ true → 0 < t.size i
   member_rows e i h =
       let members : List ℕ = list_at w.lists.members.items e in let size : List ℕ = w.size.items in
-      let named = sym (has_filter (λ j. nat_lt 0 (num size j)) members i) ∙ ap (λ l. has l i) (kept.members e (some_members e i h)) ∙ h in
-      let some = ltb-true 0 (num size i) (and_parts (has members i) (nat_lt 0 (num size i)) named).1 in
+      let some = ltb-true 0 (num size i) (filter_gives (λ j. nat_lt 0 (num size j)) members i (ap (λ l. has l i) (kept.members e (some_members e i h)) ∙ h)).1 in
       let same = kept.size i (member_class e i h) in omega (arith, some, same)
 
   -- ---- after an absorption
@@ -95,7 +95,7 @@ module _ (g : Graph) (s : State) (t : Tie) (fits : Fits g t s) {A : Type 0} (w :
     -- and no other
     touched_gives : (e : ℕ) → has a.touched e ≡ true → (i : ℕ) × (has (gathered t c) i ≡ true) × (has (t.elements i) e ≡ true)
     touched_gives e h =
-        let from = flat_gives (list_at w.lists.elements.items) (gathered t c) e (and_parts (has (flat_map (list_at w.lists.elements.items) (gathered t c)) e) (not (has (list_at w.lists.elements.items c) e)) (sym (touched_has e) ∙ h)).0 in
+        let from = flat_gives (list_at w.lists.elements.items) (gathered t c) e (firsts_gives (has (list_at w.lists.elements.items c)) (flat_map (list_at w.lists.elements.items) (gathered t c)) a.touched a.touched_is e h).0 in
         (from.0, from.1, sym (ap (λ l. has l e) (kept.elements from.0 (front_placed from.0 from.1))) ∙ from.2)
 
     -- the rows counted of an element that is touched
