@@ -1,10 +1,13 @@
 -- The pivot and the list of its element are rows, and the list names classes, each once, and not the pivot.
-use Rattle.std.proofs.Common.{ℕ, true, false, List, [], ◌∷◌, ◌++◌, Some, ◌≡◌, ◌<◌, inl, inr, refl, sym, ◌∙◌, ap, subst}
+use Rattle.std.proofs.Common.{arith, ℕ, true, false, List, [], ◌∷◌, ◌++◌, Some, ◌≡◌, ◌<◌, inl, inr, refl, sym, ◌∙◌, ap, subst}
 use Rattle.std.specs.Prelude.{Vec, flat_map, nat_lt, ◌==◌}
 use Rattle.std.proofs.lemmas.Bool.{eq-eqb}
-use Rattle.amd_model.specs.Graph.{Graph}
-use Rattle.amd_model.specs.State.{State, Live}
+use Rattle.amd_model.specs.Graph.{Graph, IsGraph}
+use Rattle.amd_model.specs.Sound.{IsSound}
+use Rattle.amd_model.specs.State.{State, Live, in_class}
 use Rattle.amd_model.specs.Tie.{Tie, Fits, has, gathered, Once}
+use Rattle.amd_model.proofs.BelowLemmas.{count_pos}
+use Rattle.amd_model.proofs.Sound.{live_small}
 use Rattle.amd_model.proofs.StateLemmas.{class_gives, class_from, holds_gives, neighbours_gives}
 use Rattle.amd_model.proofs.TieLists.{flat_gives, once_firsts}
 use Rattle.amd_model.proofs.ListingLemmas.{has_filter as filter_gives, has_append as append_gives, has_right, has_head}
@@ -68,3 +71,8 @@ module _ (g : Graph) (s : State) (t : Tie) (fits : Fits g t s) (c : ℕ) (placed
 
   pub gathered_placed : (i : ℕ) → has (gathered t c) i ≡ true → has t.placed i ≡ true
   gathered_placed i h = fits.placed i ∙ class_from i (s.home i) (gathered_live i h)
+
+-- a class has rows
+pub placed_rows : (g : Graph) → IsGraph g → (s : State) → IsSound g s → (t : Tie) → Fits g t s → (i : ℕ) → has t.placed i ≡ true → 0 < t.size i
+placed_rows g laws s sound t fits i h = let home = class_gives i (s.home i) (sym (fits.placed i) ∙ h) in let l = live_small g laws s sound i i home in
+    let k = count_pos g.size (in_class s i) i l (class_from i (s.home i) home) in let e = fits.size i home in omega (arith, k, e)

@@ -5,11 +5,10 @@ use Rattle.std.proofs.Math.Bool.{and-false, and-true}
 use Rattle.std.proofs.lemmas.Bool.{cases_Bool, cases_eq, cond-true, cond-false, or_left, or_right, or_from, or_parts, or_cases, and_from, and_parts, and_left, eqb-true, eq-eqb, ne_eqb, lt-ltb, le-ltb, not-true, not_from_false}
 use Rattle.amd_model.specs.Graph.{Graph}
 use Rattle.amd_model.specs.Figures.{cut}
-use Rattle.amd_model.specs.State.{State, Home, Last, Live, Gone, in_class, is_class, front, holds, stands, inside}
+use Rattle.amd_model.specs.State.{State, Home, Last, Live, Gone, is_class, front, holds, stands, inside}
 use Rattle.amd_model.specs.Step.{StepAt, absorbed}
 use Rattle.amd_model.specs.Sound.{IsSound}
 use Rattle.amd_model.specs.Tie.{Tie, Fits, has, is_empty, turned, pivot, gathered, takes, kept_elements, kept_variables, done, rest, represents, made, ends, new_size, far, left, next_bound, new_home, round, next}
-use Rattle.amd_model.proofs.BelowLemmas.{count_pos}
 use Rattle.amd_model.proofs.StateLemmas.{class_gives, class_from, live_from, neighbours_gives, holds_gives, stands_gives}
 use Rattle.amd_model.proofs.Sound.{live_small}
 use Rattle.amd_model.proofs.SoundStep.{step_sound}
@@ -26,7 +25,7 @@ use Rattle.amd_rounds.specs.Buckets.{live_in, lasts}
 use Rattle.amd_rounds.proofs.FrontsLaw.{border_is as border_rows, live_left as live_after, live_less, live_is as live_sum, joined as joined_after, no_parent as no_parent_after, fronts_kept}
 use Rattle.amd_rounds.proofs.Lists.{filter_named, sum_named, filter_all, filter_both, not_empty}
 use Rattle.amd_rounds.proofs.Rounding.{Rounding}
-use Rattle.amd_rounds.proofs.FrontLists.{gathered_other}
+use Rattle.amd_rounds.proofs.FrontLists.{gathered_other, placed_rows}
 
 -- what was found, in the words of the machine
 pub record Found {A : Type 0} (aggressive : Bool) (w v : Work A) (t : Tie) (r : Rounding aggressive w v) : Type 0 where
@@ -240,21 +239,16 @@ module _ {A : Type 0} (g : Graph) (dense : ℕ → Bool) (aggressive : Bool) (w 
     | inl e ↦ r.size_is i ∙ cond-true (i == r.c) 0 (num r.joined i) e
     | inr ne ↦ elim (cases_Bool (has L i)) [
       | inl l ↦ size_ended i l (elim (cases_Bool (has M i)) [ inr n ↦ n | inl m ↦ clash (made_placed i m) h ])
-      | inr n ↦ size_outside i ne n ∙ st.keeps.no_class i (elim (cases_Bool (has t.placed i)) [ inr k ↦ k | inl k ↦ clash (new_placed i ∙ and_from (has t.placed i) (not (ends aggressive t r.c L i)) k (stays i ne n)) h ])
+      | inr n ↦ size_outside i ne n ∙ st.keeps.no_class i (elim (cases_Bool (has t.placed i)) [ inr k ↦ k | inl k ↦ clash (new_placed i ∙ and_from (has t.placed i) (not (ends aggressive t r.c L i)) k (not_ends i ne n)) h ])
     ]
   ]
-    where
-      stays : (i : ℕ) → (i == r.c) ≡ false → has L i ≡ false → not (ends aggressive t r.c L i) ≡ true
-      stays i ne n = not_ends i ne n
 
   -- what has rows is a class
   class_size : (i : ℕ) → has t.placed i ≡ true → 0 < t.size i
-  class_size i h = let l = live_small g st.graph s st.sound i i (class_of i h) in
-      let k = count_pos g.size (in_class s i) i l (class_from i (s.home i) (class_of i h)) in let e = st.fits.size i (class_of i h) in omega (arith, k, e)
+  class_size = placed_rows g st.graph s st.sound t st.fits
 
   new_class_size : (i : ℕ) → has new_lists.placed i ≡ true → 0 < new_lists.size i
-  new_class_size i h = let hi = class_gives i (new_state.home i) (sym (new_fits.placed i) ∙ h) in let l = live_small g st.graph new_state new_sound i i hi in
-      let k = count_pos g.size (in_class new_state i) i l (class_from i (new_state.home i) hi) in let e = new_fits.size i hi in omega (arith, k, e)
+  new_class_size = placed_rows g st.graph new_state new_sound new_lists new_fits
 
   old_live : (j : ℕ) → nat_lt 0 (num w.size.items j) ≡ has t.placed j
   old_live j = elim (cases_Bool (has t.placed j)) [
@@ -324,7 +318,7 @@ module _ {A : Type 0} (g : Graph) (dense : ℕ → Bool) (aggressive : Bool) (w 
         ∙ filter_all (λ j. nat_lt 0 (num v.size.items j)) M (λ j a. new_live j ∙ made_placed j a)
         ∙ sym (cond-true (e == r.c) M (cond (takes aggressive t r.c L e) [] (filter (λ j. not (ends aggressive t r.c L j)) (t.members e))) y)
     | inr n ↦ elim (cases_Bool (takes aggressive t r.c L e)) [
-      | inl y ↦ clash (empty_at e n y) some
+      | inl y ↦ clash (none_taken e n y) some
       | inr k ↦ (let e1 = cond-false (e == r.c) M (cond (takes aggressive t r.c L e) [] (filter (λ j. not (ends aggressive t r.c L j)) (t.members e))) n in
           let e2 = cond-false (takes aggressive t r.c L e) [] (filter (λ j. not (ends aggressive t r.c L j)) (t.members e)) k in
           ap (live_of v.size.items) (r.members_is e ∙ cond-false (e == r.c) r.made (list_at w.lists.members.items e) n)
@@ -333,9 +327,6 @@ module _ {A : Type 0} (g : Graph) (dense : ℕ → Bool) (aggressive : Bool) (w 
           ∙ sym (e1 ∙ e2))
     ]
   ]
-    where
-      empty_at : (e : ℕ) → (e == r.c) ≡ false → takes aggressive t r.c L e ≡ true → is_empty (cond (e == r.c) M (cond (takes aggressive t r.c L e) [] (filter (λ j. not (ends aggressive t r.c L j)) (t.members e)))) ≡ true
-      empty_at e n y = none_taken e n y
 
   -- ---- links
 
@@ -603,15 +594,12 @@ module _ {A : Type 0} (g : Graph) (dense : ℕ → Bool) (aggressive : Bool) (w 
   unfolding absorbed
   no_takes = elim (cases_Bool (takes aggressive t r.c L r.c)) [
     | inr n ↦ n
-    | inl y ↦ absurd (let h : absorbed g aggressive s r.c r.c ≡ true = sym (takes_here r.c) ∙ y in elim (or_cases (holds g s r.c r.c) (aggressive && stands g s r.c && inside g (s.border r.c) (front g s r.c)) h) [
+    | inl y ↦ absurd (let h : absorbed g aggressive s r.c r.c ≡ true = sym (taken_is r.c) ∙ y in elim (or_cases (holds g s r.c r.c) (aggressive && stands g s r.c && inside g (s.border r.c) (front g s r.c)) h) [
       | inl k ↦ no_stand (holds_gives g s r.c r.c k).standing
       | inr k ↦ no_stand (and_parts aggressive (stands g s r.c) (and_parts (aggressive && stands g s r.c) (inside g (s.border r.c) (front g s r.c)) k).0).1
     ])
   ]
     where
-      takes_here : (e : ℕ) → takes aggressive t r.c L e ≡ absorbed g aggressive s r.c e
-      takes_here e = taken_is e
-
       no_stand : stands g s r.c ≡ true → ⊥
       no_stand k = let e = (stands_gives g s r.c k).element in let h = class_of r.c f.placed in cc
 
@@ -665,13 +653,10 @@ module _ {A : Type 0} (g : Graph) (dense : ℕ → Bool) (aggressive : Bool) (w 
 
     pub small_kept : (i : ℕ) → has new_lists.placed i ≡ true → num v.bound.items i < length v.size.items
     small_kept i h = let n = (r.sized g.size st.sized).size in elim (cases_Bool (has M i)) [
-      | inl m ↦ (let a = made_bound i m in let b = bound_low i in let k = new_class_size i h in let e = sym (size_kept i h) ∙ size_made i m in
+      | inl m ↦ (let a = made_bound i m in let b = least_of i in let k = new_class_size i h in let e = sym (size_kept i h) ∙ size_made i m in
           let z = live_is in let y = row_small i (front_placed i (made_front i m)) in omega (arith, a, b, k, e, n, z, y, live_small))
       | inr o ↦ (let p = placed_cases i h o in let a = other_bound i o in let b = st.keeps.small i p.0 in let k = st.sized.size in omega (arith, a, b, k, n))
     ]
-      where
-        bound_low : (i : ℕ) → next_bound aggressive t r.c L i ≤ left aggressive t r.c L - new_size aggressive t r.c L i
-        bound_low i = least_of i
 
     pub least_kept : (i : ℕ) → has new_lists.placed i ≡ true → v.least ≤ new_lists.bound i
     least_kept i h = let b = bound_kept i h in elim (cases_Bool (has M i)) [

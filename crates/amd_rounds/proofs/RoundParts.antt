@@ -5,14 +5,13 @@ use Rattle.std.proofs.lemmas.Bool.{cases_Bool, cond-true, cond-false, or_parts, 
 use Rattle.std.proofs.lemmas.List.Elements.{All-filter}
 use Rattle.amd_model.specs.Figures.{cut, front_sum, entries, ldl_steps, lu_steps}
 use Rattle.amd_model.specs.Graph.{Graph}
-use Rattle.amd_model.specs.State.{State, in_class, is_class, stands}
+use Rattle.amd_model.specs.State.{State, is_class, stands}
 use Rattle.amd_model.specs.Below.{count_below}
 use Rattle.amd_model.specs.Listing.{weight}
 use Rattle.amd_model.specs.Step.{StepAt}
 use Rattle.amd_model.specs.Tie.{Tie, has, is_empty, Once, pivot, gathered, kept_elements, kept_variables, rest, represents, made as made_of, last_that, turned, next, round}
-use Rattle.amd_model.proofs.BelowLemmas.{count_pos, count_most}
-use Rattle.amd_model.proofs.StateLemmas.{class_gives, class_from, block_from, stands_gives}
-use Rattle.amd_model.proofs.Sound.{live_small}
+use Rattle.amd_model.proofs.BelowLemmas.{count_most}
+use Rattle.amd_model.proofs.StateLemmas.{block_from, stands_gives}
 use Rattle.amd_model.proofs.TieLists.{clash, once_filter, some_of}
 use Rattle.amd_model.proofs.ListingLemmas.{filter_has, has_filter as filter_gives, has_right, has_head}
 use Rattle.amd_model.proofs.StepFronts.{front_small, placed_small}
@@ -23,7 +22,7 @@ use Rattle.amd_rounds.specs.Keeps.{IsSized, Stands, IsRound}
 use Rattle.amd_rounds.specs.Parts.{MakesElement, MergesClasses, RenewsClasses}
 use Rattle.amd_rounds.specs.declared.work.Work.{Work}
 use Rattle.amd_rounds.proofs.Lists.{filter_named, sum_named, none_sum, named_sum, sum_part}
-use Rattle.amd_rounds.proofs.FrontLists.{pivot_below, front_below, front_once, front_other, gathered_placed}
+use Rattle.amd_rounds.proofs.FrontLists.{pivot_below, front_below, front_once, front_other, gathered_placed, placed_rows}
 use Rattle.amd_rounds.proofs.FrontsLaw.{pivot_class, pivot_least, live_left, live_less, border_is as border_law}
 use Rattle.amd_rounds.proofs.BucketsLaw.{has_lasts, popped_live, chosen_pivot, least_low, bucket_step}
 use Rattle.amd_rounds.proofs.KeptLaw.{front_found, elements_kept, variables_kept, rows_counted, parents}
@@ -43,10 +42,6 @@ module _ {A : Type 0} (g : Graph) (dense : ℕ → Bool) (aggressive : Bool) (w 
         sym (has_lasts (live_in w.size.items w.bound.items b (list_at w.placed.items b)) i) ∙ ap (λ xs. has xs i) (st.keeps.placed b)
             ∙ filter_has (λ j. t.bound j == b) t.placed i some.1 (eq-eqb b b refl),
       )
-
-  class_rows : (i : ℕ) → has t.placed i ≡ true → 0 < t.size i
-  class_rows i h = let home = class_gives i (s.home i) (sym (st.fits.placed i) ∙ h) in let l = live_small g st.graph s st.sound i i home in
-      let k = count_pos g.size (in_class s i) i l (class_from i (s.home i) home) in let e = st.fits.size i home in omega (arith, k, e)
 
   -- the rows of the border of a standing element are those of its front without its block
   borders : (e : ℕ) → stands g s e ≡ true → num w.front.items e - num w.block.items e ≡ count_below g.size (s.border e)
@@ -219,7 +214,7 @@ module _ {A : Type 0} (g : Graph) (dense : ℕ → Bool) (aggressive : Bool) (w 
       pub renew_sizes : (i : ℕ) → has made i ≡ true → (num w2.size.items i ≤ border) × (num w2.size.items i ≤ w2.live) × (0 < num w2.size.items i)
       renew_sizes i h = let p = made_parts i h in let e = size_made i h in let a = sum_part t.size (λ j. into j == i) k.rest in let b = border_rows in let l = live_parts.0 in
           let one = named_sum t.size (filter (λ j. into j == i) k.rest) i (filter_has (λ j. into j == i) k.rest i p.0 p.1) in
-          let some = class_rows i (front_placed i (made_front i h)) in
+          let some = placed_rows g st.graph s st.sound t st.fits i (front_placed i (made_front i h)) in
           (omega (arith, e, a, b), omega (arith, e, a, b, l), omega (arith, e, one, some))
 
       pub renew_small : (i : ℕ) → has made i ≡ true → num w2.bound.items i < length w2.size.items
