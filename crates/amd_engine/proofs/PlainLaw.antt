@@ -31,7 +31,7 @@ use Rattle.amd_numbers.specs.Permutations.{AreInverse}
 use Rattle.amd_engine.specs.Plain.{IsEngineAnswer, with_figures}
 use Rattle.amd_numbers.specs.declared.amd.Info.{Info}
 use Rattle.amd_rounds.specs.declared.work.Work.{Work}
-use Rattle.amd_rounds.proofs.KeptParts.{below_from}
+use Rattle.amd_rounds.proofs.Lists.{below_from}
 
 -- ---- lists
 

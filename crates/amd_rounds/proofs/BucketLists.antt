@@ -1,33 +1,14 @@
 -- Lists of lists in which one list is written.
-use Rattle.std.proofs.Common.{ℕ, zero, suc, Bool, true, ◌≡◌, ◌<◌, ◌≤◌, ◌+◌, ◌⊎◌, inl, inr, refl, sym, ◌∙◌, ap, subst, arith, List, [], ◌∷◌, ◌++◌, Vec, Option, None, Some, map, length, get_or, take, drop, set, get_or-set_same, get_or-set_other, append_assoc, take_all}
+use Rattle.std.proofs.Common.{ℕ, Bool, true, ◌≡◌, ◌<◌, ◌≤◌, ◌+◌, ◌⊎◌, inl, inr, sym, ◌∙◌, ap, subst, arith, List, [], ◌∷◌, ◌++◌, Vec, Option, None, Some, length, get_or, take, drop, set, append_assoc, take_all}
 use Rattle.std.specs.Prelude.{filter, ◌==◌}
-use Rattle.std.proofs.lemmas.Bool.{cases_eq, cases_lt, eq-eqb, ne_eqb, eqb-true, or_cases, or_left, or_right, false≢true}
-use Rattle.std.proofs.lemmas.List.{map-set, length-set, length-map, get_or_past, take-append-le, at_drop_more, at_drop_all}
-use Rattle.std.proofs.lemmas.List.Elements.{All-set, All-nil, All-take}
+use Rattle.std.proofs.lemmas.Bool.{cases_eq, cases_lt, eq-eqb, ne_eqb, eqb-true, or_cases, false≢true}
+use Rattle.std.proofs.lemmas.List.{take-append-le, at_drop_more, at_drop_all}
+use Rattle.std.proofs.lemmas.List.Elements.{All-nil, All-take}
 use Rattle.amd_model.specs.Tie.{has}
-use Rattle.amd_rounds.specs.Views.{list_at, Below, ListsBelow}
+use Rattle.amd_rounds.specs.Views.{list_at, Below}
 use Rattle.amd_rounds.specs.Buckets.{live_in, Popped}
-use Rattle.amd_rounds.proofs.MarkLists.{filter_yes, filter_no}
-
--- the list that is written
-pub list_set_same : {A : Type 0} (lists : List (Vec ℕ A)) (e : ℕ) (v : Vec ℕ A) → e < length lists → list_at (set lists e v) e ≡ v.items
-list_set_same {A} lists e v l = ap (λ xs. get_or xs e []) (map-set (λ w. w.items) lists e v)
-    ∙ get_or-set_same (map (λ w. w.items) lists) e v.items [] (let m = length-map lists (λ (w : Vec ℕ A). w.items) in omega (arith, m, l))
-
--- and another one
-pub list_set_other : {A : Type 0} (lists : List (Vec ℕ A)) (e : ℕ) (v : Vec ℕ A) (b : ℕ) → (b ≡ e → ⊥) → list_at (set lists e v) b ≡ list_at lists b
-list_set_other lists e v b n = ap (λ xs. get_or xs b []) (map-set (λ w. w.items) lists e v) ∙ get_or-set_other (map (λ w. w.items) lists) e b v.items [] n
-
--- what is written is in range
-pub lists_set : {A : Type 0} (n : ℕ) (lists : List (Vec ℕ A)) (e : ℕ) (v : Vec ℕ A) → ListsBelow n lists → Below n v.items → ListsBelow n (set lists e v)
-lists_set n lists e v h k = (length-set lists e v ∙ h.0, All-set (λ w. Below n w.items) lists e v k h.1)
-
--- a list is named at each of its places
-pub has_at : (xs : List ℕ) (i : ℕ) → i < length xs → has xs (get_or xs i 0) ≡ true
-unfolding has
-has_at [] i l = absurd (omega (arith, l))
-has_at (x ∷ xs) zero l = or_left (x == x) (has xs x) (eq-eqb x x refl)
-has_at (x ∷ xs) (suc i) l = or_right (x == get_or xs i 0) (has xs (get_or xs i 0)) (has_at xs i (omega (arith, l)))
+use Rattle.amd_rounds.proofs.Lists.{filter_yes, filter_no}
+use Rattle.amd_rounds.proofs.ListPlaces.{list_set_same, list_set_other, list_past}
 
 -- a number is pushed to the list of its bound
 pub pushed : {A : Type 0} (lists : List (Vec ℕ A)) (v : Vec ℕ A) (bound : ℕ → ℕ) (x : ℕ) (xs : List ℕ) → bound x < length lists → v.items ≡ list_at lists (bound x) ++ x ∷ [] → (b : ℕ) →
@@ -58,10 +39,6 @@ pub least_end : (made : List ℕ) (i least bound j : ℕ) → length made ≤ i 
 unfolding has
 least_end made i least bound j past (inr k) = k
 least_end made i least bound j past (inl k) = absurd (false≢true (sym (at_drop_all (λ xs. has xs j) made i past) ∙ k))
-
--- past the end there is no list
-pub list_past : {A : Type 0} (lists : List (Vec ℕ A)) (b : ℕ) → length lists ≤ b → list_at lists b ≡ []
-list_past {A} lists b l = get_or_past (map (λ w. w.items) lists) b [] (let m = length-map lists (λ (w : Vec ℕ A). w.items) in omega (arith, m, l))
 
 -- the list that names a class stands among the lists
 pub place_of_class : {A : Type 0} (size bound : List ℕ) (lists : List (Vec ℕ A)) (b i : ℕ) → has (live_in size bound b (list_at lists b)) i ≡ true → b < length lists

@@ -2,15 +2,17 @@
 -- the rules.
 use Rattle.std.proofs.Common.{ℕ, Bool, true, false, ◌≡◌, ◌≤◌, ◌<◌, ◌&&◌, ◌||◌, not, inl, inr, refl, sym, ◌∙◌, ap, subst, List, [], ◌∷◌, ◌++◌, Vec, Some, cond, arith}
 use Rattle.std.specs.Prelude.{fold, filter, nat_le, nat_lt, ◌==◌}
-use Rattle.std.proofs.lemmas.Bool.{cases_Bool, cond-true, cond-false, cond_both, cases_eq, cases_lt, cases_order, eq-eqb, ne_eqb, eqb-true, le-leb, lt-ltb, or_left, or_right, or_cases, and_parts, and_from, not-true, false≢true}
+use Rattle.std.proofs.Math.Bool.{or-false, and-true, and-false}
+use Rattle.std.proofs.lemmas.Bool.{cases_Bool, cond-true, cond-false, cond_both, cases_eq, cases_lt, cases_order, eq-eqb, ne_eqb, eqb-true, le-leb, lt-ltb, or_left, or_right, not-true, false≢true}
 use Rattle.std.proofs.lemmas.List.{append-nil}
 use Rattle.std.proofs.lemmas.List.Elements.{filter-append}
 use Rattle.std.proofs.lemmas.List.Sums.{fold_push}
 use Rattle.amd_model.specs.Tie.{has, Once, pivot, last_that}
 use Rattle.amd_model.proofs.TieLists.{clash, has_append, has_filter, once_filter, pivot_least, pivot_named}
+use Rattle.amd_model.proofs.ListingLemmas.{filter_has, has_filter as filter_gives, has_head, has_tail, has_append as append_gives, has_left, has_right}
 use Rattle.amd_rounds.specs.Views.{num, list_at}
 use Rattle.amd_rounds.specs.Buckets.{live_in, lasts, Popped, Chosen}
-use Rattle.amd_rounds.proofs.MarkLists.{or_none, and_all, and_none, filter_yes, filter_no}
+use Rattle.amd_rounds.proofs.Lists.{filter_yes, filter_no, filter_named, filter_both}
 
 -- ---- what filters keep
 
@@ -20,23 +22,8 @@ eq_flip a b = elim (cases_eq a b) [
   | inr n ↦ ne_eqb a b n ∙ sym (ne_eqb b a (λ e. n (sym e)))
 ]
 
--- tests that agree on a list keep the same of it
-pub filter_on : (p q : ℕ → Bool) (xs : List ℕ) → ((x : ℕ) → has xs x ≡ true → p x ≡ q x) → filter p xs ≡ filter q xs
-unfolding has
-filter_on p q [] h = refl
-filter_on p q (x ∷ xs) h = ap (λ b. cond b (x ∷ filter p xs) (filter p xs)) (h x (or_left (x == x) (has xs x) (eq-eqb x x refl)))
-    ∙ ap (λ l. cond (q x) (x ∷ l) l) (filter_on p q xs (λ y k. h y (or_right (x == y) (has xs y) k)))
-
--- what passes one test and then another
-pub filter_twice : (p q : ℕ → Bool) (xs : List ℕ) → filter p (filter q xs) ≡ filter (λ x. q x && p x) xs
-filter_twice p q [] = refl
-filter_twice p q (x ∷ xs) = elim (cases_Bool (q x)) [
-  | inl h ↦ ap (filter p) (filter_yes q x xs h) ∙ ap (λ l. cond (p x) (x ∷ l) l) (filter_twice p q xs) ∙ sym (ap (λ b. cond (b && p x) (x ∷ filter (λ y. q y && p y) xs) (filter (λ y. q y && p y) xs)) h)
-  | inr h ↦ ap (filter p) (filter_no q x xs h) ∙ filter_twice p q xs ∙ sym (ap (λ b. cond (b && p x) (x ∷ filter (λ y. q y && p y) xs) (filter (λ y. q y && p y) xs)) h)
-]
-
 pub filters_on : (p q r s : ℕ → Bool) (xs : List ℕ) → ((x : ℕ) → has xs x ≡ true → (q x && p x) ≡ (s x && r x)) → filter p (filter q xs) ≡ filter r (filter s xs)
-filters_on p q r s xs h = filter_twice p q xs ∙ filter_on (λ x. q x && p x) (λ x. s x && r x) xs h ∙ sym (filter_twice r s xs)
+filters_on p q r s xs h = sym (filter_both q p xs) ∙ filter_named (λ x. q x && p x) (λ x. s x && r x) xs h ∙ filter_both s r xs
 
 -- ---- each number at its last place
 
@@ -54,7 +41,7 @@ unfolding has lasts
 has_lasts [] x = refl
 has_lasts (y ∷ ys) x = elim (cases_Bool (has ys y)) [
   | inl h ↦ ap (λ l. has l x) (lasts_old y ys h) ∙ has_lasts ys x ∙ elim (cases_eq y x) [
-    | inl e ↦ (let k : has ys x ≡ true = ap (has ys) (sym e) ∙ h in k ∙ sym (or_right (y == x) (has ys x) k))
+    | inl e ↦ (let k : has ys x ≡ true = ap (has ys) (sym e) ∙ h in k ∙ sym (has_tail x y ys k))
     | inr n ↦ sym (ap (λ b. b || has ys x) (ne_eqb y x n))
   ]
   | inr h ↦ ap (λ l. has l x) (lasts_new y ys h) ∙ ap (λ b. (y == x) || b) (has_lasts ys x)
@@ -80,9 +67,9 @@ pub lasts_append : (xs ys : List ℕ) → lasts (xs ++ ys) ≡ filter (λ x. not
 unfolding lasts
 lasts_append [] ys = refl
 lasts_append (x ∷ xs) ys = elim (cases_Bool (has xs x)) [
-  | inl h ↦ lasts_old x (xs ++ ys) (has_append xs ys x ∙ or_left (has xs x) (has ys x) h) ∙ lasts_append xs ys ∙ sym (ap (λ l. filter (λ z. not (has ys z)) l ++ lasts ys) (lasts_old x xs h))
+  | inl h ↦ lasts_old x (xs ++ ys) (has_left x xs ys h) ∙ lasts_append xs ys ∙ sym (ap (λ l. filter (λ z. not (has ys z)) l ++ lasts ys) (lasts_old x xs h))
   | inr h ↦ elim (cases_Bool (has ys x)) [
-    | inl k ↦ lasts_old x (xs ++ ys) (has_append xs ys x ∙ or_right (has xs x) (has ys x) k) ∙ lasts_append xs ys
+    | inl k ↦ lasts_old x (xs ++ ys) (has_right x xs ys k) ∙ lasts_append xs ys
         ∙ sym (ap (λ l. filter (λ z. not (has ys z)) l ++ lasts ys) (lasts_new x xs h) ∙ ap (λ l. l ++ lasts ys) (filter_no (λ z. not (has ys z)) x (lasts xs) (ap not k)))
     | inr k ↦ lasts_new x (xs ++ ys) (has_append xs ys x ∙ ap (λ b. b || has ys x) h ∙ k) ∙ ap (λ l. x ∷ l) (lasts_append xs ys)
         ∙ sym (ap (λ l. filter (λ z. not (has ys z)) l ++ lasts ys) (lasts_new x xs h) ∙ ap (λ l. l ++ lasts ys) (filter_yes (λ z. not (has ys z)) x (lasts xs) (ap not k)))
@@ -94,7 +81,7 @@ pub lasts_filter : (p : ℕ → Bool) (xs : List ℕ) → lasts (filter p xs) �
 unfolding lasts
 lasts_filter p [] = refl
 lasts_filter p (x ∷ xs) = elim (cases_Bool (p x)) [
-  | inl a ↦ (let named : has (filter p xs) x ≡ has xs x = has_filter p xs x ∙ ap (λ b. has xs x && b) a ∙ and_all (has xs x) in
+  | inl a ↦ (let named : has (filter p xs) x ≡ has xs x = has_filter p xs x ∙ ap (λ b. has xs x && b) a ∙ and-true (has xs x) in
       ap lasts (filter_yes p x xs a) ∙ elim (cases_Bool (has xs x)) [
         | inl h ↦ lasts_old x (filter p xs) (named ∙ h) ∙ lasts_filter p xs ∙ sym (ap (filter p) (lasts_old x xs h))
         | inr h ↦ lasts_new x (filter p xs) (named ∙ h) ∙ ap (λ l. x ∷ l) (lasts_filter p xs) ∙ sym (ap (filter p) (lasts_new x xs h) ∙ filter_yes p x (lasts xs) a)
@@ -108,18 +95,17 @@ lasts_filter p (x ∷ xs) = elim (cases_Bool (p x)) [
 -- a number is placed behind the others
 pub lasts_push : (xs : List ℕ) (c : ℕ) → lasts (xs ++ c ∷ []) ≡ filter (λ x. not (x == c)) (lasts xs) ++ c ∷ []
 unfolding has lasts
-lasts_push xs c = lasts_append xs (c ∷ []) ∙ ap (λ l. l ++ c ∷ []) (filter_on (λ x. not (has (c ∷ []) x)) (λ x. not (x == c)) (lasts xs) (λ x h. ap not (or_none (c == x) ∙ eq_flip c x)))
+lasts_push xs c = lasts_append xs (c ∷ []) ∙ ap (λ l. l ++ c ∷ []) (filter_named (λ x. not (has (c ∷ []) x)) (λ x. not (x == c)) (lasts xs) (λ x h. ap not (or-false (c == x) ∙ eq_flip c x)))
 
 -- ---- the pivot
 
 -- the walk to the pivot and the walk to the last one of a bound agree from the moment when one of the least bound was met
 walks : (bound : ℕ → ℕ) (m r q : ℕ) (ys : List ℕ) → m ≤ bound r → ((y : ℕ) → has ys y ≡ true → m ≤ bound y) → (bound r ≡ m → q ≡ r) →
     bound (fold (λ r y. cond (nat_le (bound y) (bound r)) y r) r ys) ≡ m → fold (λ r y. cond (bound y == m) y r) q ys ≡ fold (λ r y. cond (nat_le (bound y) (bound r)) y r) r ys
-unfolding has
 walks bound m r q [] lr ly h e = h e
 walks bound m r q (y ∷ ys) lr ly h e =
-    let my : m ≤ bound y = ly y (or_left (y == y) (has ys y) (eq-eqb y y refl)) in
-    let rest : (z : ℕ) → has ys z ≡ true → m ≤ bound z = λ z k. ly z (or_right (y == z) (has ys z) k) in
+    let my : m ≤ bound y = ly y (has_head y y ys refl) in
+    let rest : (z : ℕ) → has ys z ≡ true → m ≤ bound z = λ z k. ly z (has_tail z y ys k) in
     let t : Bool = nat_le (bound y) (bound r) in
     walks bound m (cond t y r) (cond (bound y == m) y q) ys
     (cond_both t y r (λ k. m ≤ bound k) (λ k. my) (λ k. lr)) rest
@@ -133,9 +119,9 @@ walks bound m r q (y ∷ ys) lr ly h e =
 
 -- the pivot is the last one of its bound
 pub pivot_last : (bound : ℕ → ℕ) (c : ℕ) (xs : List ℕ) → last_that (λ y. bound y == bound (pivot bound (c ∷ xs))) c xs ≡ pivot bound (c ∷ xs)
-unfolding last_that pivot has
+unfolding last_that pivot
 pivot_last bound c xs = let m : ℕ = bound (pivot bound (c ∷ xs)) in
-    walks bound m c c xs (pivot_least bound c xs c (or_left (c == c) (has xs c) (eq-eqb c c refl))) (λ y k. pivot_least bound c xs y (or_right (c == y) (has xs y) k)) (λ e. refl) refl
+    walks bound m c c xs (pivot_least bound c xs c (has_head c c xs refl)) (λ y k. pivot_least bound c xs y (has_tail y c xs k)) (λ e. refl) refl
 
 -- the last one that passes is the last of those that pass
 pub last_filter : (p : ℕ → Bool) (d : ℕ) (xs : List ℕ) → last_that p d xs ≡ fold (λ r x. x) d (filter p xs)
@@ -156,12 +142,12 @@ last_head p d xs = elim (cases_Bool (p d)) [
 -- the last one placed of those of the least bound is the pivot
 pub choose_pivot : (bound : ℕ → ℕ) (placed : List ℕ) (m c : ℕ) (xs : List ℕ) → ((i : ℕ) → has placed i ≡ true → m ≤ bound i) → filter (λ i. bound i == m) placed ≡ xs ++ c ∷ [] → pivot bound placed ≡ c
 unfolding has
-choose_pivot bound [] m c xs low is = absurd (false≢true (ap (λ l. has l c) is ∙ has_append xs (c ∷ []) c ∙ or_right (has xs c) (has (c ∷ []) c) (or_left (c == c) false (eq-eqb c c refl))))
+choose_pivot bound [] m c xs low is = absurd (false≢true (ap (λ l. has l c) is ∙ has_right c xs (c ∷ []) (has_head c c [] refl)))
 choose_pivot bound (d ∷ ds) m c xs low is =
     let placed : List ℕ = d ∷ ds in
     let p : ℕ = pivot bound placed in
-    let named = ap (λ l. has l c) is ∙ has_append xs (c ∷ []) c ∙ or_right (has xs c) (has (c ∷ []) c) (or_left (c == c) false (eq-eqb c c refl)) in
-    let parts = and_parts (has placed c) (bound c == m) (sym (has_filter (λ i. bound i == m) placed c) ∙ named) in
+    let named = ap (λ l. has l c) is ∙ has_right c xs (c ∷ []) (has_head c c [] refl) in
+    let parts = filter_gives (λ i. bound i == m) placed c named in
     let bound_c : bound c ≡ m = eqb-true (bound c) m parts.1 in
     let up = pivot_least bound d ds c parts.0 in
     let down = low p (pivot_named bound d ds) in
@@ -181,8 +167,8 @@ popped_live size bound b old new c h =
 lasts_without : (p : ℕ → Bool) (c : ℕ) (xs : List ℕ) → p c ≡ false → filter p (lasts (xs ++ c ∷ [])) ≡ filter p (lasts xs)
 lasts_without p c xs f = ap (filter p) (lasts_push xs c) ∙ filter-append p (filter (λ x. not (x == c)) (lasts xs)) (c ∷ [])
     ∙ ap (λ l. filter p (filter (λ x. not (x == c)) (lasts xs)) ++ l) (filter_no p c [] f) ∙ append-nil (filter p (filter (λ x. not (x == c)) (lasts xs)))
-    ∙ filter_twice p (λ x. not (x == c)) (lasts xs) ∙ filter_on (λ x. not (x == c) && p x) p (lasts xs) (λ x h. elim (cases_eq x c) [
-      | inl e ↦ (let q : p x ≡ false = ap p e ∙ f in ap (λ b. not (x == c) && b) q ∙ and_none (not (x == c)) ∙ sym q)
+    ∙ sym (filter_both (λ x. not (x == c)) p (lasts xs)) ∙ filter_named (λ x. not (x == c) && p x) p (lasts xs) (λ x h. elim (cases_eq x c) [
+      | inl e ↦ (let q : p x ≡ false = ap p e ∙ f in ap (λ b. not (x == c) && b) q ∙ and-false (not (x == c)) ∙ sym q)
       | inr n ↦ ap (λ b. not b && p x) (ne_eqb x c n)
     ])
 
@@ -199,7 +185,7 @@ module _ {A : Type 0} (size bound : List ℕ) (old mid : List (Vec ℕ A)) (befo
     | inl l ↦ (
         let none = (chosen.lower (bound_of i) (low i h) l).1 in
         let is = sym (stands (bound_of i)) ∙ ap lasts none in
-        let named = has_filter (λ j. bound_of j == bound_of i) placed i ∙ and_from (has placed i) (bound_of i == bound_of i) h (eq-eqb (bound_of i) (bound_of i) refl) in
+        let named = filter_has (λ j. bound_of j == bound_of i) placed i h (eq-eqb (bound_of i) (bound_of i) refl) in
         clash named (ap (λ l. has l i) is))
   ]
 
@@ -251,10 +237,10 @@ module _ {A : Type 0} (size bound : List ℕ) (old mid : List (Vec ℕ A)) (befo
                 | inl k ↦ clash (or_right (x == c) (has front x) (of_front x k)) out
               ] in
               let same : live ≡ was_live = ap (λ n. nat_lt 0 n && num bounds x == b) kept.0 ∙ ap (λ n. nat_lt 0 (num size x) && n == b) kept.1 in
-              ap (λ t. live && not t) (again_is ∙ ap (λ t. t && num bounds x == b) not_made) ∙ and_all live ∙ same ∙ sym (ap (λ t. was_live && not t) out ∙ and_all was_live))
+              ap (λ t. live && not t) (again_is ∙ ap (λ t. t && num bounds x == b) not_made) ∙ and-true live ∙ same ∙ sym (ap (λ t. was_live && not t) out ∙ and-true was_live))
           | inl inside ↦ elim (cases_Bool (has made x)) [
-            | inl k ↦ ap (λ t. live && not t) (again_is ∙ ap (λ t. t && num bounds x == b) k) ∙ and_own (nat_lt 0 (num sizes x)) (num bounds x == b) ∙ sym (ap (λ t. was_live && not t) inside ∙ and_none was_live)
-            | inr k ↦ ap (λ n. (nat_lt 0 n && num bounds x == b) && not again) (ended x inside k) ∙ sym (ap (λ t. was_live && not t) inside ∙ and_none was_live)
+            | inl k ↦ ap (λ t. live && not t) (again_is ∙ ap (λ t. t && num bounds x == b) k) ∙ and_own (nat_lt 0 (num sizes x)) (num bounds x == b) ∙ sym (ap (λ t. was_live && not t) inside ∙ and-false was_live)
+            | inr k ↦ ap (λ n. (nat_lt 0 n && num bounds x == b) && not again) (ended x inside k) ∙ sym (ap (λ t. was_live && not t) inside ∙ and-false was_live)
           ]
         ]
       where
@@ -272,10 +258,10 @@ module _ {A : Type 0} (size bound : List ℕ) (old mid : List (Vec ℕ A)) (befo
         let again : List ℕ = filter (λ i. num bounds i == b) made in
         let before_list : List ℕ = list_at mid b in
         -- those that are placed again
-        let again_live : filter live again ≡ again = filter_twice live (λ i. num bounds i == b) made
-        ∙ filter_on (λ x. num bounds x == b && live x) (λ i. num bounds i == b) made (λ x h. and_same (nat_lt 0 (num sizes x)) (num bounds x == b) (lt-ltb 0 (num sizes x) (made_live x h))) in
-        let again_after : again ≡ filter (λ i. bound_after i == b) made = filter_on (λ i. num bounds i == b) (λ i. bound_after i == b) made
-        (λ x h. ap (λ n. n == b) (sym (after_is x (has_append (filter other placed) made x ∙ or_right (has (filter other placed) x) (has made x) h)))) in
+        let again_live : filter live again ≡ again = sym (filter_both (λ i. num bounds i == b) live made)
+        ∙ filter_named (λ x. num bounds x == b && live x) (λ i. num bounds i == b) made (λ x h. and_same (nat_lt 0 (num sizes x)) (num bounds x == b) (lt-ltb 0 (num sizes x) (made_live x h))) in
+        let again_after : again ≡ filter (λ i. bound_after i == b) made = filter_named (λ i. num bounds i == b) (λ i. bound_after i == b) made
+        (λ x h. ap (λ n. n == b) (sym (after_is x (has_right x (filter other placed) made h)))) in
         -- the others
         let other_c : other c ≡ false = ap not (or_left (c == c) (has front c) (eq-eqb c c refl)) in
         let rest : filter (λ x. not (has again x)) (lasts (filter live before_list)) ≡ filter other (filter (λ i. bound_of i == b) placed) =
@@ -298,12 +284,12 @@ module _ {A : Type 0} (size bound : List ℕ) (old mid : List (Vec ℕ A)) (befo
 
         agree : (b x : ℕ) → has placed x ≡ true → (bound_of x == b && not (x == c || has front x)) ≡ (not (x == c || has front x) && bound_after x == b)
         agree b x h = elim (cases_Bool (x == c || has front x)) [
-          | inl inside ↦ ap (λ t. bound_of x == b && not t) inside ∙ and_none (bound_of x == b) ∙ sym (ap (λ t. not t && bound_after x == b) inside)
+          | inl inside ↦ ap (λ t. bound_of x == b && not t) inside ∙ and-false (bound_of x == b) ∙ sym (ap (λ t. not t && bound_after x == b) inside)
           | inr out ↦ (
               let other = λ (i : ℕ). not (i == c || has front i) in
-              let stays : has (filter other placed) x ≡ true = has_filter other placed x ∙ and_from (has placed x) (other x) h (ap not out) in
-              let same : bound_of x ≡ bound_after x = bound_is x h ∙ sym (stay x out).1 ∙ sym (after_is x (has_append (filter other placed) made x ∙ or_left (has (filter other placed) x) (has made x) stays)) in
-              ap (λ t. bound_of x == b && not t) out ∙ and_all (bound_of x == b) ∙ ap (λ n. n == b) same ∙ sym (ap (λ t. not t && bound_after x == b) out))
+              let stays : has (filter other placed) x ≡ true = filter_has other placed x h (ap not out) in
+              let same : bound_of x ≡ bound_after x = bound_is x h ∙ sym (stay x out).1 ∙ sym (after_is x (has_left x (filter other placed) made stays)) in
+              ap (λ t. bound_of x == b && not t) out ∙ and-true (bound_of x == b) ∙ ap (λ n. n == b) same ∙ sym (ap (λ t. not t && bound_after x == b) out))
         ]
 
     -- what is below the bound that was chosen and the bounds of those that are placed is below all of them
@@ -312,10 +298,10 @@ module _ {A : Type 0} (size bound : List ℕ) (old mid : List (Vec ℕ A)) (befo
     least_step lower l k i h =
         let other = λ (j : ℕ). not (j == c || has front j) in
         let is = after_is i h in
-        elim (or_cases (has (filter other placed) i) (has made i) (sym (has_append (filter other placed) made i) ∙ h)) [
+        elim (append_gives i (filter other placed) made h) [
           | inr m ↦ (let d = k i m in omega (arith, d, is))
           | inl m ↦ (
-              let parts = and_parts (has placed i) (other i) (sym (has_filter other placed i) ∙ m) in
+              let parts = filter_gives other placed i m in
               let d = least_low i parts.0 in
               let was = bound_is i parts.0 in
               let same = (stay i (not-true (i == c || has front i) parts.1)).1 in

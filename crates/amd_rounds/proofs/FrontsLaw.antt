@@ -18,7 +18,7 @@ use Rattle.amd_rounds.specs.Views.{num, some_at}
 use Rattle.amd_rounds.specs.Keeps.{KeepsFronts, LinksLead, Stands}
 use Rattle.amd_rounds.specs.declared.work.Work.{Work}
 use Rattle.amd_numbers.proofs.CutSums.{cut_add}
-use Rattle.amd_rounds.proofs.Named.{sum_named}
+use Rattle.amd_rounds.proofs.Lists.{sum_named}
 use Rattle.amd_rounds.proofs.Rounding.{Rounding}
 
 module _ (links : List (Option ℕ)) (home : ℕ → Home) (lead : LinksLead links home) where

@@ -1,66 +1,11 @@
 -- The rows of classes while each is merged into its representative.
-use Rattle.std.proofs.Common.{ℕ, Bool, true, false, ◌≡◌, ◌≢◌, ◌<◌, ◌≤◌, ◌+◌, ◌&&◌, ◌||◌, not, cond, inl, inr, refl, sym, ◌∙◌, ap, arith, List, [], ◌∷◌, take, drop, length, get_or}
+use Rattle.std.proofs.Common.{ℕ, true, false, ◌≡◌, ◌≢◌, ◌<◌, ◌≤◌, ◌+◌, ◌&&◌, not, cond, inl, inr, refl, sym, ◌∙◌, ap, arith, List, take, length, get_or}
 use Rattle.std.specs.Prelude.{◌==◌, filter, sum_by}
-use Rattle.std.proofs.lemmas.Bool.{cases_Bool, false≢true, and_from, and_left, and_right, or_cases, or_parts, eqb-true, eq-eqb, ne_eqb, cases_eq, cond-true, cond-false, not_from_false, not_from_true}
-use Rattle.std.proofs.lemmas.List.{take_more, take_all, take-append-drop}
-use Rattle.std.proofs.lemmas.List.Elements.{filter-append}
-use Rattle.std.proofs.lemmas.List.Sums.{sum_by-append, sum_by-cons}
+use Rattle.std.proofs.lemmas.Bool.{cases_Bool, false≢true, and_from, and_left, and_right, or_parts, eq-eqb, ne_eqb, cases_eq, cond-true, cond-false, not_from_false, not_from_true}
+use Rattle.std.proofs.lemmas.List.{take_all}
 use Rattle.amd_model.specs.Tie.{has, Once}
 use Rattle.amd_model.proofs.TieLists.{clash}
-use Rattle.amd_rounds.proofs.BoundLists.{has_more, has_at, has_all, not_met}
-
--- what passes adds its term
-pub sum_pass : (f : ℕ → ℕ) (p : ℕ → Bool) (y : ℕ) (xs : List ℕ) → sum_by f (filter p (y ∷ xs)) ≡ cond (p y) (f y) 0 + sum_by f (filter p xs)
-sum_pass f p y xs = elim (cases_Bool (p y)) [
-  | inl h ↦ (let a = ap (sum_by f) (cond-true (p y) (y ∷ filter p xs) (filter p xs) h) in let b = cond-true (p y) (f y) 0 h in let c = sum_by-cons f y (filter p xs) in omega (arith, a, b, c))
-  | inr h ↦ (let a = ap (sum_by f) (cond-false (p y) (y ∷ filter p xs) (filter p xs) h) in let b = cond-false (p y) (f y) 0 h in omega (arith, a, b))
-]
-
-pub sum_part : (f : ℕ → ℕ) (p : ℕ → Bool) (xs : List ℕ) → sum_by f (filter p xs) ≤ sum_by f xs
-sum_part f p [] = omega arith
-sum_part f p (y ∷ xs) = let a = sum_pass f p y xs in let b = sum_part f p xs in let c = sum_by-cons f y xs in let d = at_most (p y) (f y) in omega (arith, a, b, c, d)
-  where
-    at_most : (b : Bool) (m : ℕ) → cond b m 0 ≤ m
-    at_most true m = omega arith
-    at_most false m = omega arith
-
-pub sum_upto : (f : ℕ → ℕ) (p : ℕ → Bool) (xs : List ℕ) (k : ℕ) → sum_by f (filter p (take k xs)) ≤ sum_by f (filter p xs)
-sum_upto f p xs k = let a = ap (λ ys. sum_by f (filter p ys)) (take-append-drop k xs) in let b = ap (sum_by f) (filter-append p (take k xs) (drop k xs)) in
-    let c = sum_by-append f (filter p (take k xs)) (filter p (drop k xs)) in omega (arith, a, b, c)
-
-pub sum_next : (f : ℕ → ℕ) (p : ℕ → Bool) (xs : List ℕ) (k d : ℕ) → k < length xs → sum_by f (filter p (take (k + 1) xs)) ≡ sum_by f (filter p (take k xs)) + cond (p (get_or xs k d)) (f (get_or xs k d)) 0
-sum_next f p xs k d l = let x : ℕ = get_or xs k d in
-    let a = ap (λ ys. sum_by f (filter p ys)) (take_more xs k d l) in let b = ap (sum_by f) (filter-append p (take k xs) (x ∷ [])) in
-    let c = sum_by-append f (filter p (take k xs)) (filter p (x ∷ [])) in let e = sum_pass f p x [] in omega (arith, a, b, c, e)
-
--- one number that passes, and the others
-module _ (f : ℕ → ℕ) (p : ℕ → Bool) (x : ℕ) where
-  abbrev others : ℕ → Bool
-  others j = p j && not (j == x)
-
-  other_term : (y : ℕ) → y ≢ x → cond (others y) (f y) 0 ≡ cond (p y) (f y) 0
-  other_term y ne = ap (λ b. cond b (f y) 0) (and_yes (p y) (not (y == x)) (not_from_false (y == x) (ne_eqb y x ne)))
-    where
-      and_yes : (a b : Bool) → b ≡ true → (a && b) ≡ a
-      and_yes true b e = e
-      and_yes false b e = refl
-
-  none_apart : (xs : List ℕ) → has xs x ≡ false → sum_by f (filter others xs) ≡ sum_by f (filter p xs)
-  unfolding has
-  none_apart [] h = refl
-  none_apart (y ∷ xs) h = let q = or_parts (y == x) (has xs x) h in
-      let a = sum_pass f p y xs in let b = sum_pass f others y xs in let c = none_apart xs q.1 in let d = other_term y (λ e. clash (eq-eqb y x e) q.0) in omega (arith, a, b, c, d)
-
-  pub sum_apart : (xs : List ℕ) → Once xs → has xs x ≡ true → p x ≡ true → f x + sum_by f (filter others xs) ≡ sum_by f (filter p xs)
-  unfolding has
-  sum_apart [] o h e = absurd (false≢true h)
-  sum_apart (y ∷ xs) o h e = let a = sum_pass f p y xs in let b = sum_pass f others y xs in elim (cases_eq y x) [
-    | inl same ↦ (let c = none_apart xs (ap (has xs) (sym same) ∙ o.0) in
-        let d = cond-true (p y) (f y) 0 (ap p same ∙ e) in
-        let g = cond-false (others y) (f y) 0 (and_right (p y) (not (y == x)) (not_from_true (y == x) (eq-eqb y x same))) in
-        let m = ap f same in omega (arith, a, b, c, d, g, m))
-    | inr ne ↦ (let c = sum_apart xs o.1 (elim (or_cases (y == x) (has xs x) h) [ inl q ↦ absurd (ne (eqb-true y x q)) | inr q ↦ q ]) e in let d = other_term y ne in omega (arith, a, b, c, d))
-  ]
+use Rattle.amd_rounds.proofs.Lists.{has_more, has_at, has_all, not_met, sum_part, sum_upto, sum_next, sum_apart, more_gives}
 
 -- the rows that the classes met so far, other than x, bring to x
 abbrev pub brought : List ℕ → (ℕ → ℕ) → (ℕ → ℕ) → ℕ → ℕ → ℕ
@@ -89,15 +34,13 @@ module _ (rest : List ℕ) (into old : ℕ → ℕ) where
     none_more : (x : ℕ) → (into i == x && not (i == x)) ≡ false → brought rest into old (k + 1) x ≡ brought rest into old k x
     none_more x e = let a = more x in let b = cond-false (into i == x && not (i == x)) (old i) 0 e in omega (arith, a, b)
 
-    met : (x : ℕ) → has (take (k + 1) rest) x ≡ (has (take k rest) x || i == x)
-    unfolding i
-    met x = has_more rest k 0 within x
-
     met_before : (x : ℕ) → has (take (k + 1) rest) x ≡ true → x ≢ i → has (take k rest) x ≡ true
-    met_before x h ne = elim (or_cases (has (take k rest) x) (i == x) (sym (met x) ∙ h)) [ inl q ↦ q | inr q ↦ absurd (ne (sym (eqb-true i x q))) ]
+    unfolding i
+    met_before x h ne = elim (more_gives rest k 0 x within h) [ inl q ↦ q | inr q ↦ absurd (ne q) ]
 
     unmet_before : (x : ℕ) → has (take (k + 1) rest) x ≡ false → (has (take k rest) x ≡ false) × (x ≢ i)
-    unmet_before x h = let p = or_parts (has (take k rest) x) (i == x) (sym (met x) ∙ h) in (p.0, λ e. clash (eq-eqb i x (sym e)) p.1)
+    unfolding i
+    unmet_before x h = let p = or_parts (has (take k rest) x) (i == x) (sym (has_more rest k 0 within x) ∙ h) in (p.0, λ e. clash (eq-eqb i x (sym e)) p.1)
 
     -- a class that represents itself stays
     pub merged_stays : into (get_or rest k 0) ≡ get_or rest k 0 → Merged rest into old (k + 1) size

@@ -1,74 +1,38 @@
 -- What an absorption finds and leaves in the lists of a record is what the rules say of the lists that it keeps.
-use Rattle.std.proofs.Common.{ℕ, Bool, true, false, Option, Some, List, [], ◌∷◌, ◌++◌, ◌≡◌, ◌<◌, ◌+◌, ◌-◌, ◌&&◌, ◌||◌, not, cond, inl, inr, refl, sym, ◌∙◌, ap, subst, arith}
+use Rattle.std.proofs.Common.{ℕ, Bool, true, false, Option, Some, List, [], ◌++◌, ◌≡◌, ◌<◌, ◌-◌, ◌&&◌, ◌||◌, not, cond, inl, inr, sym, ◌∙◌, ap, subst, arith}
 use Rattle.std.specs.Prelude.{filter, flat_map, sum_by, nat_eq, nat_lt, ◌==◌}
-use Rattle.std.proofs.lemmas.Bool.{cases_Bool, cond-true, cond-false, and_parts, and_from, or_cases, or_left, or_right, or_parts, eqb-true, eq-eqb, not-true, not_from_true, not_from_false, ltb-true}
-use Rattle.std.proofs.lemmas.List.Sums.{sum_by-cons}
+use Rattle.std.proofs.lemmas.Bool.{cases_Bool, cond-true, cond-false, and_parts, and_from, or_left, or_parts, eqb-true, eq-eqb, not-true, not_from_false, ltb-true}
 use Rattle.amd_model.specs.Below.{count_below}
 use Rattle.amd_model.specs.Graph.{Graph, IsGraph}
 use Rattle.amd_model.specs.Sound.{IsSound}
 use Rattle.amd_model.specs.State.{State, Live, stands}
 use Rattle.amd_model.specs.Tie.{Tie, Fits, Once, has, each, is_empty, gathered, takes, kept_elements, kept_variables}
-use Rattle.amd_model.proofs.StateLemmas.{class_gives, class_from, holds_gives, neighbours_gives}
-use Rattle.amd_model.proofs.TieLists.{same_bool, clash, has_append, has_filter, each_gives, empty_gives, some_of, once_firsts, flat_gives, flat_from, firsts as firsts_names}
+use Rattle.amd_model.proofs.StateLemmas.{class_gives, class_from, holds_gives}
+use Rattle.amd_model.proofs.TieLists.{each_from, empty_from, clash, same_bool, each_gives, some_of, flat_gives, flat_from, firsts as firsts_names}
+use Rattle.amd_model.proofs.ListingLemmas.{filter_has, has_filter as filter_gives}
 use Rattle.amd_rounds.specs.Views.{num, some_at, list_at, live_of}
 use Rattle.amd_rounds.specs.Rounds.{firsts, Absorbed}
 use Rattle.amd_rounds.specs.Keeps.{Keeps}
 use Rattle.amd_rounds.specs.declared.work.Lists.{Lists}
 use Rattle.amd_rounds.specs.declared.work.Work.{Work}
 use Rattle.amd_model.proofs.TieFar.{border_parts}
-use Rattle.amd_rounds.proofs.KeptParts.{filter_agree}
+use Rattle.amd_rounds.proofs.Lists.{filter_named, filter_both, sum_named, flat_same, none_sum, named_sum, not_empty}
 use Rattle.amd_rounds.proofs.Taken.{taken_off}
+use Rattle.amd_rounds.proofs.FrontLists.{gathered_once, gathered_live, gathered_placed}
+use Rattle.amd_rounds.proofs.KeptParts.{firsts_gives}
 
 -- ---- lists
 
--- lists of what a list names are gathered alike if they are the same
-flat_same : (f h : ℕ → List ℕ) (xs : List ℕ) → ((x : ℕ) → has xs x ≡ true → f x ≡ h x) → flat_map f xs ≡ flat_map h xs
-unfolding has
-flat_same f h [] same = refl
-flat_same f h (x ∷ xs) same = let a = same x (or_left (x == x) (has xs x) (eq-eqb x x refl)) in let b = flat_same f h xs (λ y n. same y (or_right (x == y) (has xs y) n)) in
-    ap (λ l. l ++ flat_map f xs) a ∙ ap (λ l. h x ++ l) b
-
--- tests that agree on a list filter it the same
-filter_same : (p q : ℕ → Bool) (xs : List ℕ) → ((x : ℕ) → has xs x ≡ true → p x ≡ q x) → filter p xs ≡ filter q xs
-unfolding has
-filter_same p q [] same = refl
-filter_same p q (x ∷ xs) same = let a = same x (or_left (x == x) (has xs x) (eq-eqb x x refl)) in let b = filter_same p q xs (λ y n. same y (or_right (x == y) (has xs y) n)) in
-    ap (λ b. cond b (x ∷ filter p xs) (filter p xs)) a ∙ ap (λ l. cond (q x) (x ∷ l) l) b
-
--- numbers that agree on a list have the same sum
-sum_same : (f h : ℕ → ℕ) (xs : List ℕ) → ((x : ℕ) → has xs x ≡ true → f x ≡ h x) → sum_by f xs ≡ sum_by h xs
-unfolding has
-sum_same f h [] same = refl
-sum_same f h (x ∷ xs) same = let a = same x (or_left (x == x) (has xs x) (eq-eqb x x refl)) in let b = sum_same f h xs (λ y n. same y (or_right (x == y) (has xs y) n)) in
-    sum_by-cons f x xs ∙ ap (λ m. m + sum_by f xs) a ∙ ap (λ m. h x + m) b ∙ sym (sum_by-cons h x xs)
-
--- a filter of a filter
-filter_twice : (p q : ℕ → Bool) (xs : List ℕ) → filter (λ j. p j && q j) xs ≡ filter q (filter p xs)
-filter_twice p q [] = refl
-filter_twice p q (x ∷ xs) = elim (cases_Bool (p x)) [
-  | inl h ↦ ap (λ b. cond (b && q x) (x ∷ filter (λ j. p j && q j) xs) (filter (λ j. p j && q j) xs)) h ∙ ap (λ l. cond (q x) (x ∷ l) l) (filter_twice p q xs)
-      ∙ sym (ap (filter q) (cond-true (p x) (x ∷ filter p xs) (filter p xs) h))
-  | inr h ↦ ap (λ b. cond (b && q x) (x ∷ filter (λ j. p j && q j) xs) (filter (λ j. p j && q j) xs)) h ∙ filter_twice p q xs
-      ∙ sym (ap (filter q) (cond-false (p x) (x ∷ filter p xs) (filter p xs) h))
-]
-
 -- the sum of what fails a test is nothing if all pass
 each_none : (f : ℕ → ℕ) (p : ℕ → Bool) (xs : List ℕ) → each p xs ≡ true → sum_by f (filter (λ j. not (p j)) xs) ≡ 0
-unfolding each
-each_none f p [] h = refl
-each_none f p (x ∷ xs) h = let k = and_parts (p x) (each p xs) h in
-    ap (sum_by f) (cond-false (not (p x)) (x ∷ filter (λ j. not (p j)) xs) (filter (λ j. not (p j)) xs) (not_from_true (p x) k.0)) ∙ each_none f p xs k.1
+each_none f p xs h = none_sum f (filter (λ j. not (p j)) xs) (empty_from (filter (λ j. not (p j)) xs) (λ x k. let q = filter_gives (λ j. not (p j)) xs x k in clash (each_gives p xs h x q.0) (not-true (p x) q.1)))
 
 -- and all pass if it is nothing, where nothing has no rows
 none_each : (f : ℕ → ℕ) (p : ℕ → Bool) (xs : List ℕ) → ((x : ℕ) → has xs x ≡ true → 0 < f x) → sum_by f (filter (λ j. not (p j)) xs) ≡ 0 → each p xs ≡ true
-unfolding has each
-none_each f p [] some h = refl
-none_each f p (x ∷ xs) some h = let others : List ℕ = filter (λ j. not (p j)) xs in let later : (y : ℕ) → has xs y ≡ true → 0 < f y = λ y n. some y (or_right (x == y) (has xs y) n) in
-    elim (cases_Bool (p x)) [
-      | inl k ↦ and_from (p x) (each p xs) k (none_each f p xs later (sym (ap (sum_by f) (cond-false (not (p x)) (x ∷ others) others (not_from_true (p x) k))) ∙ h))
-      | inr k ↦ (let e = sym (ap (sum_by f) (cond-true (not (p x)) (x ∷ others) others (not_from_false (p x) k))) ∙ h in let a = sum_by-cons f x others in
-          let b = some x (or_left (x == x) (has xs x) (eq-eqb x x refl)) in absurd (omega (arith, e, a, b)))
-    ]
+none_each f p xs some h = each_from p xs (λ x k. elim (cases_Bool (p x)) [
+  | inl y ↦ y
+  | inr n ↦ absurd (let a = named_sum f (filter (λ j. not (p j)) xs) x (filter_has (λ j. not (p j)) xs x k (not_from_false (p x) n)) in let b = some x k in omega (arith, a, b, h))
+])
 
 -- ---- the lists of a record
 
@@ -90,7 +54,7 @@ module _ (g : Graph) (s : State) (t : Tie) (fits : Fits g t s) {A : Type 0} (w :
   element_member i e p h = fits.members e i ∙ sym (fits.elements i e (home i p)) ∙ h
 
   some_members : (e i : ℕ) → has (t.members e) i ≡ true → is_empty (t.members e) ≡ false
-  some_members e i h = elim (cases_Bool (is_empty (t.members e))) [ inr k ↦ k | inl k ↦ absurd (empty_gives (t.members e) k i h) ]
+  some_members e i h = not_empty (t.members e) i h
 
   -- what is gathered from the record is the front
   pub front_found : firsts (λ x. x == c) (flat_map (λ e. live_of w.size.items (list_at w.lists.members.items e)) (list_at w.lists.elements.items c) ++ live_of w.size.items (list_at w.lists.variables.items c)) ≡ gathered t c
@@ -102,36 +66,14 @@ module _ (g : Graph) (s : State) (t : Tie) (fits : Fits g t s) {A : Type 0} (w :
       ∙ ap (λ l. firsts skip (l ++ direct)) (flat_same lists t.members (t.elements c) (λ e h. kept.members e (some_members e c (element_member c e class h))))
       ∙ ap (λ l. firsts skip (flat_map t.members (t.elements c) ++ l)) (kept.variables c class)
 
-  front_parts : (i : ℕ) → has L i ≡ true → (has (flat_map t.members (t.elements c) ++ t.variables c) i ≡ true) × (not (i == c) ≡ true)
-  unfolding L gathered has
-  front_parts i h = let vs : List ℕ = flat_map t.members (t.elements c) ++ t.variables c in
-      and_parts (has vs i) (not (i == c)) (sym (firsts_names (λ x. x == c) [] vs i) ∙ h)
-
-  -- it names classes, each once, and not the pivot
-  front_once : Once (gathered t c)
-  unfolding gathered
-  front_once = once_firsts (λ x. x == c) [] (flat_map t.members (t.elements c) ++ t.variables c) tt
-
-  front_apart : has (gathered t c) c ≡ false
-  unfolding L
-  front_apart = elim (cases_Bool (has (gathered t c) c)) [ inr k ↦ k | inl k ↦ clash (eq-eqb c c refl) (not-true (c == c) (front_parts c k).1) ]
-
   front_placed : (i : ℕ) → has (gathered t c) i ≡ true → has t.placed i ≡ true
-  unfolding L
-  front_placed i h = elim (or_cases (has (flat_map t.members (t.elements c)) i) (has (t.variables c) i) (sym (has_append (flat_map t.members (t.elements c)) (t.variables c) i) ∙ (front_parts i h).0)) [
-    | inl m ↦ (let e = flat_gives t.members (t.elements c) i m in member_class e.0 i e.2)
-    | inr v ↦ fits.placed i ∙ class_from i (s.home i) (neighbours_gives g s c i (sym (fits.variables c i (home c class)) ∙ v)).second
-  ]
-
-  pub front_facts : Once (gathered t c) × (has (gathered t c) c ≡ false) × ((i : ℕ) → has (gathered t c) i ≡ true → has t.placed i ≡ true)
-  front_facts = (front_once, front_apart, front_placed)
+  front_placed = gathered_placed g s t fits c class
 
   -- a member of an element has rows
   member_rows : (e i : ℕ) → has (t.members e) i ≡ true → 0 < t.size i
   member_rows e i h =
       let members : List ℕ = list_at w.lists.members.items e in let size : List ℕ = w.size.items in
-      let named = sym (has_filter (λ j. nat_lt 0 (num size j)) members i) ∙ ap (λ l. has l i) (kept.members e (some_members e i h)) ∙ h in
-      let some = ltb-true 0 (num size i) (and_parts (has members i) (nat_lt 0 (num size i)) named).1 in
+      let some = ltb-true 0 (num size i) (filter_gives (λ j. nat_lt 0 (num size j)) members i (ap (λ l. has l i) (kept.members e (some_members e i h)) ∙ h)).1 in
       let same = kept.size i (member_class e i h) in omega (arith, some, same)
 
   -- ---- after an absorption
@@ -153,7 +95,7 @@ module _ (g : Graph) (s : State) (t : Tie) (fits : Fits g t s) {A : Type 0} (w :
     -- and no other
     touched_gives : (e : ℕ) → has a.touched e ≡ true → (i : ℕ) × (has (gathered t c) i ≡ true) × (has (t.elements i) e ≡ true)
     touched_gives e h =
-        let from = flat_gives (list_at w.lists.elements.items) (gathered t c) e (and_parts (has (flat_map (list_at w.lists.elements.items) (gathered t c)) e) (not (has (list_at w.lists.elements.items c) e)) (sym (touched_has e) ∙ h)).0 in
+        let from = flat_gives (list_at w.lists.elements.items) (gathered t c) e (firsts_gives (has (list_at w.lists.elements.items c)) (flat_map (list_at w.lists.elements.items) (gathered t c)) a.touched a.touched_is e h).0 in
         (from.0, from.1, sym (ap (λ l. has l e) (kept.elements from.0 (front_placed from.0 from.1))) ∙ from.2)
 
     -- the rows counted of an element that is touched
@@ -163,9 +105,9 @@ module _ (g : Graph) (s : State) (t : Tie) (fits : Fits g t s) {A : Type 0} (w :
         let st : stands g s e ≡ true = (holds_gives g s e i.0 (sym (fits.elements i.0 e (home i.0 (front_placed i.0 i.1))) ∙ i.2)).standing in
         let off = taken_off e (num w.size.items) (list_at w.lists.elements.items) (num w.front.items e - num w.block.items e) (gathered t c)
         (λ j k. let p = front_placed j k in subst Once (sym (kept.elements j p)) (fits.elements_once j (home j p))) in
-        let same = sum_same (λ j. cond (has (list_at w.lists.elements.items j) e) (num w.size.items j) 0) (λ j. cond (has (t.elements j) e) (t.size j) 0) (gathered t c)
+        let same = sum_named (λ j. cond (has (list_at w.lists.elements.items j) e) (num w.size.items j) 0) (λ j. cond (has (t.elements j) e) (t.size j) 0) (gathered t c)
         (λ j k. let p = front_placed j k in ap (λ l. cond (has l e) (num w.size.items j) 0) (kept.elements j p) ∙ ap (λ m. cond (has (t.elements j) e) m 0) (kept.size j p)) in
-        let border = borders e st in let parts = border_parts g laws t s sound fits e st (gathered t c) front_once (λ j k. home j (front_placed j k)) in let is = a.counted e h in
+        let border = borders e st in let parts = border_parts g laws t s sound fits e st (gathered t c) (gathered_once t c) (gathered_live g s t fits c class) in let is = a.counted e h in
         omega (arith, is, off, same, border, parts)
 
     -- what is absorbed is what the rules say
@@ -193,13 +135,13 @@ module _ (g : Graph) (s : State) (t : Tie) (fits : Fits g t s) {A : Type 0} (w :
     pub elements_kept : (i : ℕ) → has (gathered t c) i ≡ true → list_at new.elements.items i ≡ kept_elements aggressive t c (gathered t c) i
     unfolding kept_elements
     elements_kept i l = a.elements i ∙ cond-true (has (gathered t c) i) _ _ l
-        ∙ filter_agree (λ e. not (a.taken e)) (λ e. not (takes aggressive t c (gathered t c) e)) (list_at w.lists.elements.items i) (λ e. ap not (taken_takes e))
+        ∙ filter_named (λ e. not (a.taken e)) (λ e. not (takes aggressive t c (gathered t c) e)) (list_at w.lists.elements.items i) (λ e h. ap not (taken_takes e))
         ∙ ap (filter (λ e. not (takes aggressive t c (gathered t c) e))) (kept.elements i (front_placed i l))
 
     pub variables_kept : (i : ℕ) → has (gathered t c) i ≡ true → list_at new.variables.items i ≡ kept_variables aggressive t c (gathered t c) i
     unfolding kept_variables
     variables_kept i l = a.variables i ∙ cond-true (has (gathered t c) i) _ _ l
-        ∙ filter_twice (λ j. nat_lt 0 (num w.size.items j)) (λ j. not (j == c || has (gathered t c) j)) (list_at w.lists.variables.items i)
+        ∙ filter_both (λ j. nat_lt 0 (num w.size.items j)) (λ j. not (j == c || has (gathered t c) j)) (list_at w.lists.variables.items i)
         ∙ ap (filter (λ j. not (j == c || has (gathered t c) j))) (kept.variables i (front_placed i l))
 
     -- the lists of the others stay
@@ -213,7 +155,7 @@ module _ (g : Graph) (s : State) (t : Tie) (fits : Fits g t s) {A : Type 0} (w :
     pub rows_counted : (i e : ℕ) → has (gathered t c) i ≡ true → has (kept_elements aggressive t c (gathered t c) i) e ≡ true → num beyond e ≡ sum_by t.size (filter (λ j. not (has (gathered t c) j)) (t.members e))
     unfolding kept_elements takes
     rows_counted i e l h =
-        let p = and_parts (has (t.elements i) e) (not (takes aggressive t c (gathered t c) e)) (sym (has_filter (λ e. not (takes aggressive t c (gathered t c) e)) (t.elements i) e) ∙ h) in
+        let p = filter_gives (λ e. not (takes aggressive t c (gathered t c) e)) (t.elements i) e h in
         let apart = (or_parts (has (t.elements c) e) _ (not-true (takes aggressive t c (gathered t c) e) p.1)).0 in
         counted_far e (touched_from i e l p.0 apart)
 

@@ -1,44 +1,28 @@
 -- What the parts of an absorption make together.
-use Rattle.std.proofs.Common.{ℕ, suc, Bool, true, false, List, [], ◌∷◌, ◌≡◌, ◌<◌, ◌&&◌, ◌||◌, not, cond, inl, inr, refl, sym, ◌∙◌, ap, arith, length, get_or, set, get_or-set_same, get_or-set_other}
-use Rattle.std.specs.Prelude.{Vec, filter, flat_map, ◌==◌}
-use Rattle.std.proofs.lemmas.Bool.{true≢false, false≢true, cases_eq, and_parts, or_cases, eqb-true, ne_eqb, not-true}
-use Rattle.std.proofs.lemmas.List.Elements.{All-from_get_or}
+use Rattle.std.proofs.Common.{ℕ, Bool, true, false, List, [], ◌≡◌, ◌<◌, ◌&&◌, ◌||◌, not, cond, inl, inr, refl, sym, ◌∙◌, ap, length, set, get_or-set_same, get_or-set_other}
+use Rattle.std.specs.Prelude.{Vec, flat_map, ◌==◌}
+use Rattle.std.proofs.lemmas.Bool.{false_from_ne_true, true≢false, false≢true, cases_eq, and_parts, ne_eqb, not-true}
 use Rattle.amd_model.specs.Tie.{has}
-use Rattle.amd_model.proofs.TieLists.{flat_gives, firsts as firsts_names}
+use Rattle.amd_model.proofs.TieLists.{clash, flat_gives, firsts as firsts_names}
 use Rattle.amd_rounds.specs.Views.{at, list_at, Below, ListsBelow, Clear}
 use Rattle.amd_rounds.specs.Rounds.{firsts}
-use Rattle.amd_rounds.proofs.Kept.{has_at}
-use Rattle.amd_rounds.proofs.MarkLists.{list_below}
+use Rattle.amd_rounds.proofs.Lists.{below_from, below_gives}
+use Rattle.amd_rounds.proofs.ListPlaces.{list_below}
 
--- a list is below n if what it names is, and the other way round
-pub below_from : (n : ℕ) (xs : List ℕ) → ((x : ℕ) → has xs x ≡ true → x < n) → Below n xs
-below_from n xs small = All-from_get_or (λ j. j < n) xs 0 (λ i h. small (get_or xs i 0) (has_at xs i h))
-
-pub below_gives : (n : ℕ) (xs : List ℕ) → Below n xs → (x : ℕ) → has xs x ≡ true → x < n
+-- what is gathered stands in the lists and was not skipped
+pub firsts_gives : (skip : ℕ → Bool) (xs touched : List ℕ) → touched ≡ firsts skip xs → (x : ℕ) → has touched x ≡ true → (has xs x ≡ true) × (skip x ≡ false)
 unfolding has
-below_gives n [] small x h = absurd (false≢true h)
-below_gives n (y ∷ ys) small x h = elim (or_cases (y == x) (has ys x) h) [
-  | inl q ↦ (let e = eqb-true y x q in let b = small 0 0 (omega arith) in omega (arith, e, b))
-  | inr q ↦ below_gives n ys (λ k d l. small (suc k) d (omega (arith, l))) x q
-]
+firsts_gives skip xs touched is x h = let p = and_parts (has xs x) (not (skip x)) (sym (firsts_names skip [] xs x) ∙ ap (λ l. has l x) (sym is) ∙ h) in (p.0, not-true (skip x) p.1)
+
+-- what is skipped is not gathered
+pub firsts_skips : (skip : ℕ → Bool) (xs touched : List ℕ) → touched ≡ firsts skip xs → (x : ℕ) → skip x ≡ true → has touched x ≡ false
+firsts_skips skip xs touched is x s = false_from_ne_true (has touched x) (λ h. clash s (firsts_gives skip xs touched is x h).1)
 
 -- what is gathered from lists of numbers below n is below n
 pub touched_below : {A : Type 0} (n : ℕ) (lists : List (Vec ℕ A)) (skip : ℕ → Bool) (front touched : List ℕ) → ListsBelow n lists → touched ≡ firsts skip (flat_map (list_at lists) front) → Below n touched
-unfolding has
 touched_below n lists skip front touched below is = below_from n touched (λ x h.
-    let named = sym (firsts_names skip [] (flat_map (list_at lists) front) x) ∙ ap (λ l. has l x) (sym is) ∙ h in
-    let from = flat_gives (list_at lists) front x (and_parts (has (flat_map (list_at lists) front) x) (not (skip x)) named).0 in
+    let from = flat_gives (list_at lists) front x (firsts_gives skip (flat_map (list_at lists) front) touched is x h).0 in
     below_gives n (list_at lists from.0) (list_below n lists below from.0) x from.2)
-
--- what is gathered was not skipped
-pub touched_new : (skip : ℕ → Bool) (xs touched : List ℕ) → touched ≡ firsts skip xs → (x : ℕ) → has touched x ≡ true → skip x ≡ false
-unfolding has
-touched_new skip xs touched is x h = not-true (skip x) (and_parts (has xs x) (not (skip x)) (sym (firsts_names skip [] xs x) ∙ ap (λ l. has l x) (sym is) ∙ h)).1
-
--- tests that agree filter the same
-pub filter_agree : (p q : ℕ → Bool) (xs : List ℕ) → ((x : ℕ) → p x ≡ q x) → filter p xs ≡ filter q xs
-filter_agree p q [] same = refl
-filter_agree p q (x ∷ xs) same = ap (λ b. cond b (x ∷ filter p xs) (filter p xs)) (same x) ∙ ap (λ l. cond (q x) (x ∷ l) l) (filter_agree p q xs same)
 
 -- of marks on two lists, those of the second stay where a test says so
 pub spared_is : (own new stays : Bool) → (new ≡ true → own ≡ false) → ((own || new) && not (new && not stays)) ≡ (own || (new && stays))

@@ -1,5 +1,6 @@
 pub mod Rounding
-pub mod Named
+pub mod Lists
+pub mod ListPlaces
 pub mod RoundLaw
 pub mod StartLists
 pub mod StartLaw
@@ -11,7 +12,6 @@ pub mod Kept
 pub mod KeptParts
 pub mod Taken
 pub mod KeptLaw
-pub mod BoundLists
 pub mod Joins
 pub mod SameLists
 pub mod Representatives

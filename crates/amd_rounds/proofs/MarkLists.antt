@@ -1,39 +1,19 @@
 -- Lists that are gathered with marks: what is marked is passed over, and what is added is marked.
-use Rattle.std.proofs.Common.{ℕ, Bool, true, false, ◌≡◌, ◌<◌, ◌&&◌, ◌||◌, not, inl, inr, refl, sym, ◌∙◌, ap, subst, arith, List, [], ◌∷◌, ◌++◌, Vec, map, length, get_or, set, get_or-set_same, get_or-set_other}
-use Rattle.std.specs.Prelude.{filter, fold, flat_map, ◌==◌}
-use Rattle.std.proofs.lemmas.Bool.{cases_Bool, cases_eq, cases_lt, eq-eqb, ne_eqb, or_left, or_right, cond-true, cond-false}
-use Rattle.std.proofs.lemmas.List.{get_or-map, get_or_past, length-map}
-use Rattle.std.proofs.lemmas.List.Elements.{All-nil}
+use Rattle.std.proofs.Common.{ℕ, Bool, true, false, ◌≡◌, ◌<◌, ◌&&◌, ◌||◌, not, inl, inr, refl, sym, ◌∙◌, ap, List, [], ◌∷◌, ◌++◌, length, set, get_or-set_same, get_or-set_other}
+use Rattle.std.specs.Prelude.{fold, flat_map, ◌==◌}
+use Rattle.std.proofs.Math.Bool.{or-true, or-false, or_assoc, and-true, and-false}
+use Rattle.std.proofs.lemmas.Bool.{cases_Bool, cases_eq, eq-eqb, ne_eqb, or_left, or_right}
 use Rattle.std.proofs.lemmas.List.Sums.{fold-append}
 use Rattle.amd_model.specs.Tie.{has, add_new}
 use Rattle.amd_model.proofs.TieLists.{has_append, add_old, add_fresh, firsts, clash}
-use Rattle.amd_rounds.specs.Views.{at, list_at, Below, ListsBelow, Clear}
-
-pub or_true : (a : Bool) → (a || true) ≡ true
-or_true true = refl
-or_true false = refl
-
-pub or_none : (a : Bool) → (a || false) ≡ a
-or_none true = refl
-or_none false = refl
-
-pub or_assoc : (a b c : Bool) → (a || (b || c)) ≡ ((a || b) || c)
-or_assoc true b c = refl
-or_assoc false b c = refl
-
-pub and_all : (a : Bool) → (a && true) ≡ a
-and_all true = refl
-and_all false = refl
-
-pub and_none : (a : Bool) → (a && false) ≡ false
-and_none true = refl
-and_none false = refl
+use Rattle.amd_model.proofs.ListingLemmas.{has_right}
+use Rattle.amd_rounds.specs.Views.{at, Clear}
 
 -- the next number of a list is marked
 pub marks_next : (marks : List Bool) (i j : ℕ) (xs : List ℕ) → i < length marks → (at (set marks i true) j || has xs j) ≡ (at marks j || has (i ∷ xs) j)
 unfolding has
 marks_next marks i j xs l = elim (cases_eq j i) [
-  | inl q ↦ ap (λ b. b || has xs j) (ap (at (set marks i true)) q ∙ get_or-set_same marks i true false l) ∙ sym (ap (λ b. at marks j || (b || has xs j)) (eq-eqb i j (sym q)) ∙ or_true (at marks j))
+  | inl q ↦ ap (λ b. b || has xs j) (ap (at (set marks i true)) q ∙ get_or-set_same marks i true false l) ∙ sym (ap (λ b. at marks j || (b || has xs j)) (eq-eqb i j (sym q)) ∙ or-true (at marks j))
   | inr n ↦ ap (λ b. b || has xs j) (get_or-set_other marks i j true false n) ∙ sym (ap (λ b. at marks j || (b || has xs j)) (ne_eqb i j (λ e. n (sym e))))
 ]
 
@@ -41,17 +21,17 @@ marks_next marks i j xs l = elim (cases_eq j i) [
 pub clears_next : (marks : List Bool) (i j : ℕ) (xs : List ℕ) → i < length marks → (at (set marks i false) j && not (has xs j)) ≡ (at marks j && not (has (i ∷ xs) j))
 unfolding has
 clears_next marks i j xs l = elim (cases_eq j i) [
-  | inl q ↦ ap (λ b. b && not (has xs j)) (ap (at (set marks i false)) q ∙ get_or-set_same marks i false false l) ∙ sym (ap (λ b. at marks j && not (b || has xs j)) (eq-eqb i j (sym q)) ∙ and_none (at marks j))
+  | inl q ↦ ap (λ b. b && not (has xs j)) (ap (at (set marks i false)) q ∙ get_or-set_same marks i false false l) ∙ sym (ap (λ b. at marks j && not (b || has xs j)) (eq-eqb i j (sym q)) ∙ and-false (at marks j))
   | inr n ↦ ap (λ b. b && not (has xs j)) (get_or-set_other marks i j false false n) ∙ sym (ap (λ b. at marks j && not (b || has xs j)) (ne_eqb i j (λ e. n (sym e))))
 ]
 
 pub marks_end : (marks : List Bool) (j : ℕ) → (at marks j || has [] j) ≡ at marks j
 unfolding has
-marks_end marks j = or_none (at marks j)
+marks_end marks j = or-false (at marks j)
 
 pub clears_end : (marks : List Bool) (j : ℕ) → (at marks j && not (has [] j)) ≡ at marks j
 unfolding has
-clears_end marks j = and_all (at marks j)
+clears_end marks j = and-true (at marks j)
 
 -- a list grows alike by two tests, if what either skips or lists is the same
 pub same_adds : (s t : ℕ → Bool) (out xs : List ℕ) → ((x : ℕ) → (s x || has out x) ≡ (t x || has out x)) → fold (add_new s) out xs ≡ fold (add_new t) out xs
@@ -60,8 +40,8 @@ same_adds s t out [] h = refl
 same_adds s t out (y ∷ ys) h = elim (cases_Bool (t y || has out y)) [
   | inl k ↦ ap (λ o. fold (add_new s) o ys) (add_old s out y (h y ∙ k)) ∙ same_adds s t out ys h ∙ sym (ap (λ o. fold (add_new t) o ys) (add_old t out y k))
   | inr k ↦ ap (λ o. fold (add_new s) o ys) (add_fresh s out y (h y ∙ k))
-      ∙ same_adds s t (out ++ y ∷ []) ys (λ x. ap (λ b. s x || b) (has_append out (y ∷ []) x) ∙ or_assoc (s x) (has out x) (has (y ∷ []) x) ∙ ap (λ b. b || has (y ∷ []) x) (h x)
-      ∙ sym (ap (λ b. t x || b) (has_append out (y ∷ []) x) ∙ or_assoc (t x) (has out x) (has (y ∷ []) x)))
+      ∙ same_adds s t (out ++ y ∷ []) ys (λ x. ap (λ b. s x || b) (has_append out (y ∷ []) x) ∙ sym (or_assoc (s x) (has out x) (has (y ∷ []) x)) ∙ ap (λ b. b || has (y ∷ []) x) (h x)
+      ∙ sym (ap (λ b. t x || b) (has_append out (y ∷ []) x) ∙ sym (or_assoc (t x) (has out x) (has (y ∷ []) x))))
       ∙ sym (ap (λ o. fold (add_new t) o ys) (add_fresh t out y k))
 ]
 
@@ -88,7 +68,7 @@ unmarked_added marks out xs y l k h = ap (λ o. fold (add_new (at marks)) o xs) 
   where
     agree : (x : ℕ) → (at marks x || has (out ++ y ∷ []) x) ≡ (at (set marks y true) x || has (out ++ y ∷ []) x)
     agree x = elim (cases_eq x y) [
-      | inl q ↦ (let named : has (out ++ y ∷ []) x ≡ true = has_append out (y ∷ []) x ∙ or_right (has out x) (has (y ∷ []) x) (or_left (y == x) false (eq-eqb y x (sym q))) in
+      | inl q ↦ (let named : has (out ++ y ∷ []) x ≡ true = has_right x out (y ∷ []) (or_left (y == x) false (eq-eqb y x (sym q))) in
           or_right (at marks x) (has (out ++ y ∷ []) x) named ∙ sym (or_right (at (set marks y true) x) (has (out ++ y ∷ []) x) named))
       | inr n ↦ ap (λ b. b || has (out ++ y ∷ []) x) (sym (get_or-set_other marks y x true false n))
     ]
@@ -98,7 +78,7 @@ pub known_added : (marks : List Bool) (out : List ℕ) (y : ℕ) → y < length 
 unfolding has
 known_added marks out y l k j h = elim (cases_eq j y) [
   | inl q ↦ ap (at (set marks y true)) q ∙ get_or-set_same marks y true false l
-  | inr n ↦ get_or-set_other marks y j true false n ∙ k j (sym (ap (λ b. has out j || (b || false)) (ne_eqb y j (λ e. n (sym e))) ∙ or_none (has out j)) ∙ sym (has_append out (y ∷ []) j) ∙ h)
+  | inr n ↦ get_or-set_other marks y j true false n ∙ k j (sym (ap (λ b. has out j || (b || false)) (ne_eqb y j (λ e. n (sym e))) ∙ or-false (has out j)) ∙ sym (has_append out (y ∷ []) j) ∙ h)
 ]
 
 -- a marked number adds no mark
@@ -116,27 +96,7 @@ adds_marks skip out xs j = ap (λ b. skip j || b) (firsts skip out xs j) ∙ tes
     tests : (a b c : Bool) → (a || (b || (c && not a))) ≡ ((a || b) || c)
     tests true b c = refl
     tests false true c = refl
-    tests false false c = and_all c
-
--- the first number of a list passes
-pub filter_yes : (p : ℕ → Bool) (y : ℕ) (xs : List ℕ) → p y ≡ true → filter p (y ∷ xs) ≡ y ∷ filter p xs
-filter_yes p y xs h = cond-true (p y) (y ∷ filter p xs) (filter p xs) h
-
--- or does not
-pub filter_no : (p : ℕ → Bool) (y : ℕ) (xs : List ℕ) → p y ≡ false → filter p (y ∷ xs) ≡ filter p xs
-filter_no p y xs h = cond-false (p y) (y ∷ filter p xs) (filter p xs) h
-
--- what stands at the place of a list of lists
-pub list_read : {A : Type 0} (lists : List (Vec ℕ A)) (e : ℕ) (v : Vec ℕ A) → e < length lists → v ≡ get_or lists e v → list_at lists e ≡ v.items
-list_read lists e v l h = get_or-map (λ w. w.items) lists e v [] l ∙ ap (λ w. w.items) (sym h)
-
--- each list of a list of lists is in range
-pub list_below : {A : Type 0} (n : ℕ) (lists : List (Vec ℕ A)) → ListsBelow n lists → (e : ℕ) → Below n (list_at lists e)
-list_below {A} n [] h e = subst (Below n) (sym (get_or_past {X = List ℕ} [] e [] (omega arith))) (All-nil (λ j. j < n))
-list_below {A} n (v ∷ vs) h e = elim (cases_lt e (length (v ∷ vs))) [
-  | inl l ↦ subst (Below n) (sym (get_or-map (λ w. w.items) (v ∷ vs) e v [] l)) (h.1 e v l)
-  | inr l ↦ subst (Below n) (sym (get_or_past (map (λ w. w.items) (v ∷ vs)) e [] (let m = length-map (v ∷ vs) (λ (w : Vec ℕ A). w.items) in omega (arith, m, l)))) (All-nil (λ j. j < n))
-]
+    tests false false c = and-true c
 
 or_twice : (a b : Bool) → ((a || b) || b) ≡ (a || b)
 or_twice true b = refl
@@ -169,4 +129,4 @@ marks_one marks c out l none e j = elim (cases_eq j c) [
 -- a list alone is marked, and nothing is listed
 pub marks_list : (marks : List Bool) (xs out : List ℕ) (was : List Bool) → Clear was → out ≡ [] → ((j : ℕ) → at marks j ≡ (at was j || has xs j)) → (j : ℕ) → at marks j ≡ (has xs j || has out j)
 unfolding has
-marks_list marks xs out was none e h j = h j ∙ ap (λ b. b || has xs j) (none j) ∙ sym (ap (λ l. has xs j || has l j) e ∙ or_none (has xs j))
+marks_list marks xs out was none e h j = h j ∙ ap (λ b. b || has xs j) (none j) ∙ sym (ap (λ l. has xs j || has l j) e ∙ or-false (has xs j))

@@ -1,55 +1,26 @@
 -- The classes of a new element that are left, and those that represent others, are those of the elimination kept in lists.
-use Rattle.std.proofs.Common.{ℕ, Bool, true, ◌≡◌, ◌&&◌, ◌||◌, not, cond, inl, inr, refl, sym, ◌∙◌, ap, subst, List, [], ◌∷◌, ◌++◌, Vec}
-use Rattle.std.specs.Prelude.{◌==◌, filter, flat_map}
-use Rattle.std.proofs.lemmas.Bool.{and_parts, or_cases, or_left, or_right, eq-eqb, false≢true}
+use Rattle.std.proofs.Common.{ℕ, Bool, true, ◌≡◌, ◌&&◌, ◌||◌, not, inl, refl, sym, ◌∙◌, ap, subst, List, Vec}
+use Rattle.std.specs.Prelude.{◌==◌, filter}
 use Rattle.amd_model.specs.Graph.{Graph, IsGraph}
-use Rattle.amd_model.specs.State.{State, Live}
+use Rattle.amd_model.specs.State.{State}
 use Rattle.amd_model.specs.Sound.{IsSound}
 use Rattle.amd_model.specs.Tie.{Tie, Fits, has, is_empty, each, last_that, gathered, kept_elements, kept_variables, takes, done, rest, alike, represents, made, Once}
-use Rattle.amd_model.proofs.StateLemmas.{class_gives, holds_gives, neighbours_gives}
-use Rattle.amd_model.proofs.TieLists.{has_append, has_filter, once_filter, firsts, once_firsts, flat_gives, last_same'}
+use Rattle.amd_model.proofs.TieLists.{once_filter, last_same'}
+use Rattle.amd_model.proofs.ListingLemmas.{has_filter as filter_gives}
 use Rattle.amd_rounds.specs.Views.{list_at}
 use Rattle.amd_rounds.specs.Rounds.{keeps_none, alike_in}
+use Rattle.amd_rounds.proofs.Lists.{filter_named}
 use Rattle.amd_rounds.proofs.Representatives.{alike_self, alike_flip, alike_through, rep_in, rep_rep}
-
--- tests that agree on a list leave the same of it
-pub filter_same : (p q : ℕ → Bool) (xs : List ℕ) → ((x : ℕ) → has xs x ≡ true → p x ≡ q x) → filter p xs ≡ filter q xs
-unfolding has
-filter_same p q [] f = refl
-filter_same p q (x ∷ xs) f = ap (λ b. cond b (x ∷ filter p xs) (filter p xs)) (f x (or_left (x == x) (has xs x) (eq-eqb x x refl)))
-    ∙ ap (λ ys. cond (q x) (x ∷ ys) ys) (filter_same p q xs (λ y h. f y (or_right (x == y) (has xs y) h)))
+use Rattle.amd_rounds.proofs.FrontLists.{gathered_once, gathered_live}
 
 module _ (g : Graph) (laws : IsGraph g) (s : State) (sound : IsSound g s) (t : Tie) (fits : Fits g t s) (c : ℕ) (placed : has t.placed c ≡ true) (aggressive : Bool) where
-  pub front : List ℕ
-  front = gathered t c
-
-  pub pivot_live : s.home c ≡ Live c
-  pivot_live = class_gives c (s.home c) (sym (fits.placed c) ∙ placed)
-
-  -- what is in the front is a class, and named once
-  pub front_live : (i : ℕ) → has (gathered t c) i ≡ true → s.home i ≡ Live i
-  unfolding gathered has
-  front_live i h =
-      let vs : List ℕ = flat_map t.members (t.elements c) ++ t.variables c in
-      elim (or_cases (has [] i) (has vs i && not (i == c)) (sym (firsts (λ x. x == c) [] vs i) ∙ h)) [
-        | inl n ↦ absurd (false≢true n)
-        | inr n ↦ elim (or_cases (has (flat_map t.members (t.elements c)) i) (has (t.variables c) i) (sym (has_append (flat_map t.members (t.elements c)) (t.variables c) i) ∙ (and_parts (has vs i) (not (i == c)) n).0)) [
-          | inl a ↦ (let r = flat_gives t.members (t.elements c) i a in (holds_gives g s r.0 i (sym (fits.members r.0 i) ∙ r.2)).class)
-          | inr a ↦ (neighbours_gives g s c i (sym (fits.variables c i pivot_live) ∙ a)).second
-        ]
-      ]
-
-  pub front_once : Once (gathered t c)
-  unfolding gathered
-  front_once = once_firsts (λ x. x == c) [] (flat_map t.members (t.elements c) ++ t.variables c) tt
-
   pub rest_in_front : (i : ℕ) → has (rest aggressive t c (gathered t c)) i ≡ true → has (gathered t c) i ≡ true
   unfolding rest
-  rest_in_front i h = (and_parts (has (gathered t c) i) (not (done aggressive t c (gathered t c) i)) (sym (has_filter (λ i. not (done aggressive t c (gathered t c) i)) (gathered t c) i) ∙ h)).0
+  rest_in_front i h = (filter_gives (λ i. not (done aggressive t c (gathered t c) i)) (gathered t c) i h).0
 
   pub rest_once : Once (rest aggressive t c (gathered t c))
   unfolding rest
-  rest_once = once_filter (λ i. not (done aggressive t c (gathered t c) i)) (gathered t c) front_once
+  rest_once = once_filter (λ i. not (done aggressive t c (gathered t c) i)) (gathered t c) (gathered_once t c)
 
   pub made_once : Once (made aggressive t c (gathered t c))
   unfolding made
@@ -58,11 +29,11 @@ module _ (g : Graph) (laws : IsGraph g) (s : State) (sound : IsSound g s) (t : T
   -- the lists that a class of the front keeps name each number once
   pub elements_once : (i : ℕ) → has (gathered t c) i ≡ true → Once (kept_elements aggressive t c (gathered t c) i)
   unfolding kept_elements
-  elements_once i h = once_filter (λ e. not (takes aggressive t c (gathered t c) e)) (t.elements i) (fits.elements_once i (front_live i h))
+  elements_once i h = once_filter (λ e. not (takes aggressive t c (gathered t c) e)) (t.elements i) (fits.elements_once i (gathered_live g s t fits c placed i h))
 
   pub variables_once : (i : ℕ) → has (gathered t c) i ≡ true → Once (kept_variables aggressive t c (gathered t c) i)
   unfolding kept_variables
-  variables_once i h = once_filter (λ j. not (j == c || has (gathered t c) j)) (t.variables i) (fits.variables_once i (front_live i h))
+  variables_once i h = once_filter (λ j. not (j == c || has (gathered t c) j)) (t.variables i) (fits.variables_once i (gathered_live g s t fits c placed i h))
 
   pub made_is : filter (λ i. represents aggressive t c (gathered t c) i == i) (rest aggressive t c (gathered t c)) ≡ made aggressive t c (gathered t c)
   unfolding made
@@ -73,7 +44,7 @@ module _ (g : Graph) (laws : IsGraph g) (s : State) (sound : IsSound g s) (t : T
       (vs : (i : ℕ) → has (gathered t c) i ≡ true → list_at variables i ≡ kept_variables aggressive t c (gathered t c) i) where
     pub rest_of : filter (λ i. not (keeps_none elements variables i)) (gathered t c) ≡ rest aggressive t c (gathered t c)
     unfolding rest done
-    rest_of = filter_same (λ i. not (keeps_none elements variables i)) (λ i. not (done aggressive t c (gathered t c) i)) (gathered t c)
+    rest_of = filter_named (λ i. not (keeps_none elements variables i)) (λ i. not (done aggressive t c (gathered t c) i)) (gathered t c)
         (λ i h. ap (λ xs. not (is_empty xs && is_empty (list_at variables i))) (es i h) ∙ ap (λ xs. not (is_empty (kept_elements aggressive t c (gathered t c) i) && is_empty xs)) (vs i h))
 
     pub alike_is : (i j : ℕ) → has (rest aggressive t c (gathered t c)) i ≡ true → has (rest aggressive t c (gathered t c)) j ≡ true → alike_in elements variables i j ≡ alike aggressive t c (gathered t c) i j

@@ -1,23 +1,15 @@
 -- What the calls of a merge ask of the classes of a front that keep something, and what their answers say together.
-use Rattle.std.proofs.Common.{ℕ, Bool, true, false, Option, ◌≡◌, ◌<◌, ◌≤◌, ◌&&◌, not, cond, inl, inr, sym, ◌∙◌, ap, subst, arith, List, set, length, get_or, Some, Vec}
+use Rattle.std.proofs.Common.{ℕ, Bool, true, false, Option, ◌≡◌, ◌<◌, ◌≤◌, ◌&&◌, not, cond, sym, ◌∙◌, ap, subst, arith, List, Some, Vec}
 use Rattle.std.specs.Prelude.{◌==◌, filter, sum_by}
-use Rattle.std.proofs.lemmas.Bool.{and_parts, eq-eqb, ne_eqb, cases_eq, cond-true, cond-false}
-use Rattle.std.proofs.lemmas.List.{get_or-set_same, get_or-set_other}
 use Rattle.std.proofs.lemmas.List.Elements.{All-filter}
 use Rattle.std.proofs.lemmas.List.Sums.{sum_by-le-sum_by}
 use Rattle.amd_model.specs.Tie.{has, Once, last_that}
-use Rattle.amd_model.proofs.TieLists.{has_filter, once_filter}
+use Rattle.amd_model.proofs.TieLists.{once_filter}
+use Rattle.amd_model.proofs.ListingLemmas.{has_filter as filter_gives}
 use Rattle.amd_rounds.specs.Views.{num, Below}
 use Rattle.amd_rounds.specs.Rounds.{alike_in}
-use Rattle.amd_rounds.proofs.Joins.{sum_part}
+use Rattle.amd_rounds.proofs.Lists.{sum_part}
 use Rattle.amd_rounds.proofs.Representatives.{rep, rep_in, rep_rep, alike_self, alike_flip, alike_through}
-
--- a list with one place written
-pub put_at : {X : Type 0} (xs : List X) (c : ℕ) (v d : X) → c < length xs → (x : ℕ) → get_or (set xs c v) x d ≡ cond (x == c) v (get_or xs x d)
-put_at xs c v d l x = elim (cases_eq x c) [
-  | inl e ↦ ap (λ m. get_or (set xs c v) m d) e ∙ get_or-set_same xs c v d l ∙ sym (cond-true (x == c) v (get_or xs x d) (eq-eqb x c e))
-  | inr ne ↦ get_or-set_other xs c x v d ne ∙ sym (cond-false (x == c) v (get_or xs x d) (ne_eqb x c ne))
-]
 
 -- a part of a front names rows, each once, and what the front names
 module _ (p : ℕ → Bool) (front rest : List ℕ) (is : rest ≡ filter p front) where
@@ -28,7 +20,7 @@ module _ (p : ℕ → Bool) (front rest : List ℕ) (is : rest ≡ filter p fron
   part_once o = subst Once (sym is) (once_filter p front o)
 
   pub part_named : (x : ℕ) → has rest x ≡ true → has front x ≡ true
-  part_named x h = (and_parts (has front x) (p x) (sym (has_filter p front x) ∙ ap (λ l. has l x) (sym is) ∙ h)).0
+  part_named x h = (filter_gives p front x (ap (λ l. has l x) (sym is) ∙ h)).0
 
   -- its classes have no more rows, also after some have lost theirs
   pub part_rows : (size : ℕ → ℕ) → sum_by size rest ≤ sum_by size front

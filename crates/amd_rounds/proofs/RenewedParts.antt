@@ -1,27 +1,27 @@
--- What the parts of a round write at one place.
-use Rattle.std.proofs.Common.{ℕ, true, ◌≡◌, ◌<◌, ◌≤◌, ◌+◌, ◌-◌, inl, inr, sym, ◌∙◌, ap, arith, List, Vec, length, set, get_or-set_same, get_or-set_other}
-use Rattle.std.specs.Prelude.{cond, ◌==◌, min, sum_by}
-use Rattle.std.proofs.lemmas.Bool.{cases_eq, eq-eqb, ne_eqb, cond-true, cond-false}
+-- The new bounds of the classes that are placed anew.
+use Rattle.std.proofs.Common.{ℕ, true, refl, ◌≡◌, ◌<◌, ◌≤◌, ◌+◌, ◌-◌, ◌∙◌, ap, arith, List}
+use Rattle.std.specs.Prelude.{cond, min, sum_by}
+use Rattle.std.proofs.lemmas.Bool.{cond-true}
 use Rattle.amd_model.specs.Figures.{cut}
 use Rattle.amd_model.specs.Tie.{has}
 use Rattle.amd_rounds.specs.Views.{num, list_at}
 use Rattle.amd_rounds.specs.Rounds.{bound_after}
 use Rattle.amd_rounds.specs.declared.work.Lists.{Lists}
-use Rattle.amd_rounds.proofs.BucketLists.{list_set_same, list_set_other}
 
--- the number at each place of a list in which one is written
-pub written : (xs : List ℕ) (c w : ℕ) → c < length xs → (e : ℕ) → num (set xs c w) e ≡ cond (e == c) w (num xs e)
-written xs c w l e = elim (cases_eq e c) [
-  | inl q ↦ ap (num (set xs c w)) q ∙ get_or-set_same xs c w 0 l ∙ sym (cond-true (e == c) w (num xs e) (eq-eqb e c q))
-  | inr n ↦ get_or-set_other xs c e w 0 n ∙ sym (cond-false (e == c) w (num xs e) (ne_eqb e c n))
-]
+-- a number cut to a word stays what it is when more is added first
+pub cut_more : (t a b : ℕ) → t ≡ cut a → cut (t + b) ≡ cut (a + b)
+unfolding cut
+cut_more t a b e = omega (arith, e)
 
--- and the list at each place of a list of lists
-pub list_written : {A : Type 0} (lists : List (Vec ℕ A)) (c : ℕ) (v : Vec ℕ A) → c < length lists → (e : ℕ) → list_at (set lists c v) e ≡ cond (e == c) v.items (list_at lists e)
-list_written lists c v l e = elim (cases_eq e c) [
-  | inl q ↦ ap (list_at (set lists c v)) q ∙ list_set_same lists c v l ∙ sym (cond-true (e == c) v.items (list_at lists e) (eq-eqb e c q))
-  | inr n ↦ list_set_other lists c v e n ∙ sym (cond-false (e == c) v.items (list_at lists e) (ne_eqb e c n))
-]
+-- a number that a word holds stays what it is
+pub cut_small : (a : ℕ) → a ≤ 18446744073709551615 → a ≡ cut a
+unfolding cut
+cut_small a h = omega (arith, h)
+
+-- the lesser of a number and the greatest that a word holds
+pub cut_min : (a : ℕ) → min a 18446744073709551615 ≡ cut a
+unfolding cut
+cut_min a = refl
 
 -- a bound that keeps to the other live rows is below the number of rows
 pub bound_small : (near live size n : ℕ) → 0 < size → size ≤ live → live ≤ n → min near (live - size) < n

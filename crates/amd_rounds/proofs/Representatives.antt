@@ -1,15 +1,17 @@
 -- The representative of each class of a list, the last one alike, and the groups in which it is found from the last to the first.
 use Rattle.std.proofs.Common.{ℕ, zero, suc, Bool, true, false, ◌≡◌, ◌≢◌, ◌<◌, ◌+◌, ◌%◌, ◌^◌, ◌&&◌, ◌||◌, cond, inl, inr, refl, sym, ◌∙◌, ap, subst, arith, List, [], ◌∷◌, ◌++◌, take, drop, length, get_or, add-one, Vec}
 use Rattle.std.specs.Prelude.{◌==◌, fold}
+use Rattle.std.proofs.Math.Bool.{or-false}
 use Rattle.std.proofs.lemmas.Bool.{cases_Bool, false≢true, and_parts, and_from, and_left, and_right, or_left, or_right, eqb-true, eq-eqb, ne_eqb, cases_eq, cond-true, cond-false}
 use Rattle.std.proofs.lemmas.List.{drop_more, take-append-drop, drop_all}
 use Rattle.std.proofs.lemmas.List.Sums.{fold-append}
 use Rattle.amd_model.specs.Tie.{has, each, Once, last_that}
 use Rattle.amd_model.proofs.TieLists.{clash, same_bool, has_append, each_gives, each_from, last_passes, last_named, last_same'}
+use Rattle.amd_model.proofs.ListingLemmas.{has_head, has_tail}
 use Rattle.amd_rounds.specs.Views.{list_at}
 use Rattle.amd_rounds.specs.Rounds.{alike_in}
 use Rattle.amd_rounds.specs.Groups.{wrapped_sum, group_in}
-use Rattle.amd_rounds.proofs.BoundLists.{has_at}
+use Rattle.amd_rounds.proofs.Lists.{has_at}
 use Rattle.amd_rounds.proofs.SameLists.{same_sum}
 
 -- ---- being alike
@@ -66,10 +68,10 @@ unfolding last_that
 last_append p d xs ys = fold-append (λ r x. cond (p x) x r) d xs ys
 
 last_none : (p : ℕ → Bool) (d : ℕ) (xs : List ℕ) → ((x : ℕ) → has xs x ≡ true → p x ≡ false) → last_that p d xs ≡ d
-unfolding last_that has
+unfolding last_that
 last_none p d [] f = refl
-last_none p d (x ∷ xs) f = ap (λ r. fold (λ r x. cond (p x) x r) r xs) (cond-false (p x) x d (f x (or_left (x == x) (has xs x) (eq-eqb x x refl))))
-    ∙ last_none p d xs (λ y h. f y (or_right (x == y) (has xs y) h))
+last_none p d (x ∷ xs) f = ap (λ r. fold (λ r x. cond (p x) x r) r xs) (cond-false (p x) x d (f x (has_head x x xs refl)))
+    ∙ last_none p d xs (λ y h. f y (has_tail y x xs h))
 
 last_first : (p : ℕ → Bool) (d x : ℕ) (xs : List ℕ) → p x ≡ true → last_that p d (x ∷ xs) ≡ last_that p x xs
 unfolding last_that
@@ -77,10 +79,9 @@ last_first p d x xs h = ap (λ r. fold (λ r x. cond (p x) x r) r xs) (cond-true
 
 -- what stands behind an index is in the list
 pub behind_in : (xs : List ℕ) (k x : ℕ) → has (drop k xs) x ≡ true → has xs x ≡ true
-unfolding has
 behind_in xs zero x h = h
 behind_in [] (suc k) x h = h
-behind_in (y ∷ xs) (suc k) x h = or_right (y == x) (has xs x) (behind_in xs k x h)
+behind_in (y ∷ xs) (suc k) x h = has_tail x y xs (behind_in xs k x h)
 
 -- in a list that names each number once none stands behind itself
 not_behind : (xs : List ℕ) (k : ℕ) → k < length xs → Once xs → has (drop (suc k) xs) (get_or xs k 0) ≡ false
@@ -220,13 +221,9 @@ module _ (alike : ℕ → ℕ → Bool) (self : (x : ℕ) → alike x x ≡ true
                   ∙ and_right (has (drop k rest) y && rep y == y) (group y == b) (ne_eqb (group y) b (λ q. off (sym q))))
             ]
             | inl on ↦ ap (λ ys. has ys x) (cond-true (b == group y) (before b ++ y ∷ []) (before b) (eq-eqb b (group y) on)) ∙ has_append (before b) (y ∷ []) x ∙ elim (cases_eq x y) [
-              | inr other ↦ ap (λ c. has (before b) x || (c || false)) (ne_eqb y x (λ e. other (sym e))) ∙ or_none (has (before b) x) ∙ stays b x other
+              | inr other ↦ ap (λ c. has (before b) x || (c || false)) (ne_eqb y x (λ e. other (sym e))) ∙ or-false (has (before b) x) ∙ stays b x other
               | inl e ↦ or_right (has (before b) x) (y == x || false) (or_left (y == x) false (eq-eqb y x (sym e))) ∙ sym (ap (λ z. has (drop k rest) z && rep z == z && group z == b) e
                   ∙ and_from (has (drop k rest) y && rep y == y) (group y == b) (and_from (has (drop k rest) y) (rep y == y) (here_first once k within) (eq-eqb (rep y) y is)) (eq-eqb (group y) b (sym on)))
             ]
           ];
         }
-      where
-        or_none : (b : Bool) → (b || false) ≡ b
-        or_none true = refl
-        or_none false = refl

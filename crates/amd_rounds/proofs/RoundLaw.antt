@@ -1,18 +1,19 @@
 -- A round of the plain engine computes the next lists of the machine, in the sizes, bounds and lists of classes and elements.
 use Rattle.std.proofs.Common.{ℕ, suc, Bool, true, false, Option, None, Some, List, [], ◌∷◌, ◌≡◌, ◌≢◌, ◌≤◌, ◌<◌, ◌+◌, ◌-◌, ◌∙◌, ◌&&◌, ◌||◌, not, min, cond, ap, sym, refl, subst, inl, inr, arith, length}
 use Rattle.std.specs.Prelude.{filter, sum_by, nat_lt, is_none, ◌==◌, ◌⊎◌, ◌^◌}
+use Rattle.std.proofs.Math.Bool.{and-false, and-true}
 use Rattle.std.proofs.lemmas.Bool.{cases_Bool, cases_eq, cond-true, cond-false, or_left, or_right, or_from, or_parts, or_cases, and_from, and_parts, and_left, eqb-true, eq-eqb, ne_eqb, lt-ltb, le-ltb, not-true, not_from_false}
 use Rattle.amd_model.specs.Graph.{Graph}
 use Rattle.amd_model.specs.Figures.{cut}
-use Rattle.amd_model.specs.State.{State, Home, Last, Live, Gone, in_class, is_class, front, holds, stands, inside}
+use Rattle.amd_model.specs.State.{State, Home, Last, Live, Gone, is_class, front, holds, stands, inside}
 use Rattle.amd_model.specs.Step.{StepAt, absorbed}
 use Rattle.amd_model.specs.Sound.{IsSound}
 use Rattle.amd_model.specs.Tie.{Tie, Fits, has, is_empty, turned, pivot, gathered, takes, kept_elements, kept_variables, done, rest, represents, made, ends, new_size, far, left, next_bound, new_home, round, next}
-use Rattle.amd_model.proofs.BelowLemmas.{count_pos}
-use Rattle.amd_model.proofs.StateLemmas.{class_gives, class_from, live_from, front_gives, neighbours_gives, holds_gives, stands_gives}
+use Rattle.amd_model.proofs.StateLemmas.{class_gives, class_from, live_from, neighbours_gives, holds_gives, stands_gives}
 use Rattle.amd_model.proofs.Sound.{live_small}
 use Rattle.amd_model.proofs.SoundStep.{step_sound}
-use Rattle.amd_model.proofs.TieLists.{same_bool, clash, has_append, has_filter, has_turned, empty_gives, some_of}
+use Rattle.amd_model.proofs.TieLists.{same_bool, clash, has_append, has_filter, has_turned, some_of}
+use Rattle.amd_model.proofs.ListingLemmas.{filter_has, has_filter as filter_gives, has_right}
 use Rattle.amd_model.proofs.TieSums.{home_cases}
 use Rattle.amd_model.proofs.TieLaw.{L as front_list, takes_is, front_class, after, is_step, now, now_fits}
 use Rattle.amd_rounds.specs.Views.{num, some_at, list_at, live_of}
@@ -22,8 +23,9 @@ use Rattle.amd_rounds.specs.declared.work.Work.{Work}
 use Rattle.amd_model.proofs.StepFronts.{placed_small}
 use Rattle.amd_rounds.specs.Buckets.{live_in, lasts}
 use Rattle.amd_rounds.proofs.FrontsLaw.{border_is as border_rows, live_left as live_after, live_less, live_is as live_sum, joined as joined_after, no_parent as no_parent_after, fronts_kept}
-use Rattle.amd_rounds.proofs.Named.{filter_named, sum_named, filter_all, filter_both}
+use Rattle.amd_rounds.proofs.Lists.{filter_named, sum_named, filter_all, filter_both, not_empty}
 use Rattle.amd_rounds.proofs.Rounding.{Rounding}
+use Rattle.amd_rounds.proofs.FrontLists.{gathered_other, placed_rows}
 
 -- what was found, in the words of the machine
 pub record Found {A : Type 0} (aggressive : Bool) (w v : Work A) (t : Tie) (r : Rounding aggressive w v) : Type 0 where
@@ -42,14 +44,6 @@ pub record Found {A : Type 0} (aggressive : Bool) (w v : Work A) (t : Tie) (r : 
   pub made_is : r.made ≡ made aggressive t r.c (gathered t r.c)
   pub one_made : (i : ℕ) → has (rest aggressive t r.c (gathered t r.c)) i ≡ true → has (made aggressive t r.c (gathered t r.c)) (represents aggressive t r.c (gathered t r.c) i) ≡ true
 
-and_false : (a : Bool) → (a && false) ≡ false
-and_false true = refl
-and_false false = refl
-
-and_true : (a : Bool) → (a && true) ≡ a
-and_true true = refl
-and_true false = refl
-
 -- a number that a word holds is the lesser of itself and what is cut
 min_cut : (a x : ℕ) → a < 2 ^ 64 → min a (cut x) ≡ min a x
 unfolding cut
@@ -57,10 +51,7 @@ min_cut a x l = omega (arith, l)
 
 -- a list that has something left had something
 had_some : (xs : List ℕ) (p : ℕ → Bool) → is_empty (filter p xs) ≡ false → is_empty xs ≡ false
-had_some xs p h = elim (cases_Bool (is_empty xs)) [
-  | inr n ↦ n
-  | inl y ↦ (let x = some_of (filter p xs) h in absurd (empty_gives xs y x.0 (and_parts (has xs x.0) (p x.0) (sym (has_filter p xs x.0) ∙ x.1)).0))
-]
+had_some xs p h = let x = some_of (filter p xs) h in not_empty xs x.0 (filter_gives p xs x.0 x.1).0
 
 module _ {A : Type 0} (g : Graph) (dense : ℕ → Bool) (aggressive : Bool) (w v : Work A) (t : Tie) (s : State) (st : Stands g dense w t s) (r : Rounding aggressive w v) (f : Found aggressive w v t r) where
   abbrev c : ℕ
@@ -109,26 +100,23 @@ module _ {A : Type 0} (g : Graph) (dense : ℕ → Bool) (aggressive : Bool) (w 
   front_placed i h = placed_of i (front_row i h).0
 
   not_pivot : has L r.c ≡ false
-  not_pivot = elim (cases_Bool (has L r.c)) [
-    | inr n ↦ n
-    | inl y ↦ clash class (front_gives g s r.c r.c (front_row r.c y).1).0
-  ]
+  not_pivot = gathered_other t r.c
 
   rest_front : (i : ℕ) → has R i ≡ true → has L i ≡ true
   unfolding rest
-  rest_front i h = (and_parts (has L i) (not (done aggressive t r.c L i)) (sym (has_filter (λ i. not (done aggressive t r.c L i)) L i) ∙ h)).0
+  rest_front i h = (filter_gives (λ i. not (done aggressive t r.c L i)) L i h).0
 
   rest_keeps : (i : ℕ) → has R i ≡ true → done aggressive t r.c L i ≡ false
   unfolding rest
-  rest_keeps i h = not-true (done aggressive t r.c L i) (and_parts (has L i) (not (done aggressive t r.c L i)) (sym (has_filter (λ i. not (done aggressive t r.c L i)) L i) ∙ h)).1
+  rest_keeps i h = not-true (done aggressive t r.c L i) (filter_gives (λ i. not (done aggressive t r.c L i)) L i h).1
 
   made_rest : (i : ℕ) → has M i ≡ true → (has R i ≡ true) × (represents aggressive t r.c L i ≡ i)
   unfolding made
-  made_rest i h = let p = and_parts (has R i) (represents aggressive t r.c L i == i) (sym (has_filter (λ i. represents aggressive t r.c L i == i) R i) ∙ h) in (p.0, eqb-true (represents aggressive t r.c L i) i p.1)
+  made_rest i h = let p = filter_gives (λ i. represents aggressive t r.c L i == i) R i h in (p.0, eqb-true (represents aggressive t r.c L i) i p.1)
 
   rest_made : (i : ℕ) → has R i ≡ true → represents aggressive t r.c L i ≡ i → has M i ≡ true
   unfolding made
-  rest_made i h e = has_filter (λ i. represents aggressive t r.c L i == i) R i ∙ and_from (has R i) (represents aggressive t r.c L i == i) h (eq-eqb (represents aggressive t r.c L i) i e)
+  rest_made i h e = filter_has (λ i. represents aggressive t r.c L i == i) R i h (eq-eqb (represents aggressive t r.c L i) i e)
 
   -- what becomes of a class
   none_kept : (i : ℕ) → has L i ≡ true → keeps_none r.kept.elements.items r.kept.variables.items i ≡ done aggressive t r.c L i
@@ -153,7 +141,7 @@ module _ {A : Type 0} (g : Graph) (dense : ℕ → Bool) (aggressive : Bool) (w 
   retired_rest : (j : ℕ) → has R j ≡ true → num r.retired j ≡ t.size j
   retired_rest j h = r.retired_is j
       ∙ cond-false (has r.front j && keeps_none r.kept.elements.items r.kept.variables.items j) 0 (num w.size.items j)
-      (ap (λ b. has r.front j && b) (none_kept j (rest_front j h) ∙ rest_keeps j h) ∙ and_false (has r.front j))
+      (ap (λ b. has r.front j && b) (none_kept j (rest_front j h) ∙ rest_keeps j h) ∙ and-false (has r.front j))
       ∙ st.keeps.size j (front_placed j (rest_front j h))
 
   size_at : (x : ℕ) → (x == r.c) ≡ false → num v.size.items x ≡ num r.joined x
@@ -161,7 +149,7 @@ module _ {A : Type 0} (g : Graph) (dense : ℕ → Bool) (aggressive : Bool) (w 
 
   in_left : (x : ℕ) → has L x ≡ true → done aggressive t r.c L x ≡ false → has R x ≡ true
   unfolding rest
-  in_left x h n = has_filter (λ i. not (done aggressive t r.c L i)) L x ∙ and_from (has L x) (not (done aggressive t r.c L x)) h (not_from_false (done aggressive t r.c L x) n)
+  in_left x h n = filter_has (λ i. not (done aggressive t r.c L i)) L x h (not_from_false (done aggressive t r.c L x) n)
 
   outside_rest : (x : ℕ) → has L x ≡ false → has R x ≡ false
   outside_rest x n = elim (cases_Bool (has R x)) [ inr k ↦ k | inl k ↦ clash (rest_front x k) n ]
@@ -186,7 +174,7 @@ module _ {A : Type 0} (g : Graph) (dense : ℕ → Bool) (aggressive : Bool) (w 
       ∙ cond-true (num r.into x == x) (sum_by (num r.retired) (filter (λ j. num r.into j == x) r.rest)) 0 (eq-eqb (num r.into x) x same)
       ∙ ap (λ l. sum_by (num r.retired) (filter (λ j. num r.into j == x) l)) f.rest_is
       ∙ ap (sum_by (num r.retired)) (filter_named (λ j. num r.into j == x) (λ j. represents aggressive t r.c L j == x) R (λ j a. ap (λ n. n == x) (f.into_is j a)))
-      ∙ sum_named (num r.retired) t.size (filter (λ j. represents aggressive t r.c L j == x) R) (λ j a. retired_rest j (and_parts (has R j) (represents aggressive t r.c L j == x) (sym (has_filter (λ j. represents aggressive t r.c L j == x) R j) ∙ a)).0)
+      ∙ sum_named (num r.retired) t.size (filter (λ j. represents aggressive t r.c L j == x) R) (λ j a. retired_rest j (filter_gives (λ j. represents aggressive t r.c L j == x) R j a).0)
 
   pub size_ended : (x : ℕ) → has L x ≡ true → has M x ≡ false → num v.size.items x ≡ 0
   size_ended x h n = size_at x (not_c x h) ∙ r.joined_is x ∙ elim (cases_Bool (has R x)) [
@@ -211,12 +199,12 @@ module _ {A : Type 0} (g : Graph) (dense : ℕ → Bool) (aggressive : Bool) (w 
   unfolding round ends
   new_placed i = has_append (filter (λ i. not (i == r.c || has L i)) t.placed) M i ∙ same_bool (has (filter (λ i. not (i == r.c || has L i)) t.placed) i || has M i) (has t.placed i && not (i == r.c || (has L i && not (has M i))))
       (λ h. elim (or_cases (has (filter (λ i. not (i == r.c || has L i)) t.placed) i) (has M i) h) [
-        | inl a ↦ (let p = and_parts (has t.placed i) (not (i == r.c || has L i)) (sym (has_filter (λ i. not (i == r.c || has L i)) t.placed i) ∙ a) in
+        | inl a ↦ (let p = filter_gives (λ i. not (i == r.c || has L i)) t.placed i a in
             let q = or_parts (i == r.c) (has L i) (not-true (i == r.c || has L i) p.1) in
             and_from (has t.placed i) (not (i == r.c || (has L i && not (has M i)))) p.0
             (not_from_false (i == r.c || (has L i && not (has M i))) (or_from (i == r.c) (has L i && not (has M i)) q.0 (and_left (has L i) (not (has M i)) q.1))))
         | inr a ↦ and_from (has t.placed i) (not (i == r.c || (has L i && not (has M i)))) (front_placed i (made_front i a))
-            (not_from_false (i == r.c || (has L i && not (has M i))) (or_from (i == r.c) (has L i && not (has M i)) (not_c i (made_front i a)) (ap (λ b. has L i && not b) a ∙ and_false (has L i))))
+            (not_from_false (i == r.c || (has L i && not (has M i))) (or_from (i == r.c) (has L i && not (has M i)) (not_c i (made_front i a)) (ap (λ b. has L i && not b) a ∙ and-false (has L i))))
       ])
       (λ h. let p = and_parts (has t.placed i) (not (i == r.c || (has L i && not (has M i)))) h in
       let q = or_parts (i == r.c) (has L i && not (has M i)) (not-true (i == r.c || (has L i && not (has M i))) p.1) in
@@ -224,7 +212,7 @@ module _ {A : Type 0} (g : Graph) (dense : ℕ → Bool) (aggressive : Bool) (w 
         | inl a ↦ or_right (has (filter (λ i. not (i == r.c || has L i)) t.placed) i) (has M i) a
         | inr n ↦ or_left (has (filter (λ i. not (i == r.c || has L i)) t.placed) i) (has M i)
             (has_filter (λ i. not (i == r.c || has L i)) t.placed i ∙ and_from (has t.placed i) (not (i == r.c || has L i)) p.0
-            (not_from_false (i == r.c || has L i) (or_from (i == r.c) (has L i) q.0 (sym (ap (λ b. has L i && not b) n ∙ and_true (has L i)) ∙ q.1))))
+            (not_from_false (i == r.c || has L i) (or_from (i == r.c) (has L i) q.0 (sym (ap (λ b. has L i && not b) n ∙ and-true (has L i)) ∙ q.1))))
       ])
 
   -- a class of the next lists is one of the new element's list, or stands outside of it
@@ -232,11 +220,11 @@ module _ {A : Type 0} (g : Graph) (dense : ℕ → Bool) (aggressive : Bool) (w 
   unfolding ends
   placed_cases i h n = let p = and_parts (has t.placed i) (not (ends aggressive t r.c L i)) (sym (new_placed i) ∙ h) in
       let q = or_parts (i == r.c) (has L i && not (has M i)) (not-true (i == r.c || (has L i && not (has M i))) p.1) in
-      (p.0, q.0, sym (ap (λ b. has L i && not b) n ∙ and_true (has L i)) ∙ q.1)
+      (p.0, q.0, sym (ap (λ b. has L i && not b) n ∙ and-true (has L i)) ∙ q.1)
 
   made_placed : (i : ℕ) → has M i ≡ true → has new_lists.placed i ≡ true
   unfolding round
-  made_placed i h = has_append (filter (λ i. not (i == r.c || has L i)) t.placed) M i ∙ or_right (has (filter (λ i. not (i == r.c || has L i)) t.placed) i) (has M i) h
+  made_placed i h = has_right i (filter (λ i. not (i == r.c || has L i)) t.placed) M h
 
   -- the sizes are kept
   pub size_kept : (i : ℕ) → has new_lists.placed i ≡ true → num v.size.items i ≡ new_lists.size i
@@ -251,21 +239,16 @@ module _ {A : Type 0} (g : Graph) (dense : ℕ → Bool) (aggressive : Bool) (w 
     | inl e ↦ r.size_is i ∙ cond-true (i == r.c) 0 (num r.joined i) e
     | inr ne ↦ elim (cases_Bool (has L i)) [
       | inl l ↦ size_ended i l (elim (cases_Bool (has M i)) [ inr n ↦ n | inl m ↦ clash (made_placed i m) h ])
-      | inr n ↦ size_outside i ne n ∙ st.keeps.no_class i (elim (cases_Bool (has t.placed i)) [ inr k ↦ k | inl k ↦ clash (new_placed i ∙ and_from (has t.placed i) (not (ends aggressive t r.c L i)) k (stays i ne n)) h ])
+      | inr n ↦ size_outside i ne n ∙ st.keeps.no_class i (elim (cases_Bool (has t.placed i)) [ inr k ↦ k | inl k ↦ clash (new_placed i ∙ and_from (has t.placed i) (not (ends aggressive t r.c L i)) k (not_ends i ne n)) h ])
     ]
   ]
-    where
-      stays : (i : ℕ) → (i == r.c) ≡ false → has L i ≡ false → not (ends aggressive t r.c L i) ≡ true
-      stays i ne n = not_ends i ne n
 
   -- what has rows is a class
   class_size : (i : ℕ) → has t.placed i ≡ true → 0 < t.size i
-  class_size i h = let l = live_small g st.graph s st.sound i i (class_of i h) in
-      let k = count_pos g.size (in_class s i) i l (class_from i (s.home i) (class_of i h)) in let e = st.fits.size i (class_of i h) in omega (arith, k, e)
+  class_size = placed_rows g st.graph s st.sound t st.fits
 
   new_class_size : (i : ℕ) → has new_lists.placed i ≡ true → 0 < new_lists.size i
-  new_class_size i h = let hi = class_gives i (new_state.home i) (sym (new_fits.placed i) ∙ h) in let l = live_small g st.graph new_state new_sound i i hi in
-      let k = count_pos g.size (in_class new_state i) i l (class_from i (new_state.home i) hi) in let e = new_fits.size i hi in omega (arith, k, e)
+  new_class_size = placed_rows g st.graph new_state new_sound new_lists new_fits
 
   old_live : (j : ℕ) → nat_lt 0 (num w.size.items j) ≡ has t.placed j
   old_live j = elim (cases_Bool (has t.placed j)) [
@@ -287,7 +270,7 @@ module _ {A : Type 0} (g : Graph) (dense : ℕ → Bool) (aggressive : Bool) (w 
   -- what a class of the front keeps are classes outside
   kept_placed : (i : ℕ) → has L i ≡ true → (j : ℕ) → has (kept_variables aggressive t r.c L i) j ≡ true → has new_lists.placed j ≡ true
   unfolding kept_variables
-  kept_placed i l j a = let p = and_parts (has (t.variables i) j) (not (j == r.c || has L j)) (sym (has_filter (λ j. not (j == r.c || has L j)) (t.variables i) j) ∙ a) in
+  kept_placed i l j a = let p = filter_gives (λ j. not (j == r.c || has L j)) (t.variables i) j a in
       let q = or_parts (j == r.c) (has L j) (not-true (j == r.c || has L j) p.1) in
       let n = neighbours_gives g s i j (sym (st.fits.variables i j (class_of i (front_placed i l))) ∙ p.0) in
       new_placed j ∙ and_from (has t.placed j) (not (ends aggressive t r.c L j)) (placed_of j n.second) (not_ends j q.0 q.1)
@@ -295,7 +278,7 @@ module _ {A : Type 0} (g : Graph) (dense : ℕ → Bool) (aggressive : Bool) (w 
   -- and they have the rows that they had
   kept_outside : (i : ℕ) → has L i ≡ true → (j : ℕ) → has (kept_variables aggressive t r.c L i) j ≡ true → (has t.placed j ≡ true) × ((j == r.c) ≡ false) × (has L j ≡ false)
   unfolding kept_variables
-  kept_outside i l j a = let p = and_parts (has (t.variables i) j) (not (j == r.c || has L j)) (sym (has_filter (λ j. not (j == r.c || has L j)) (t.variables i) j) ∙ a) in
+  kept_outside i l j a = let p = filter_gives (λ j. not (j == r.c || has L j)) (t.variables i) j a in
       let q = or_parts (j == r.c) (has L j) (not-true (j == r.c || has L j) p.1) in
       let n = neighbours_gives g s i j (sym (st.fits.variables i j (class_of i (front_placed i l))) ∙ p.0) in (placed_of j n.second, q.0, q.1)
 
@@ -335,7 +318,7 @@ module _ {A : Type 0} (g : Graph) (dense : ℕ → Bool) (aggressive : Bool) (w 
         ∙ filter_all (λ j. nat_lt 0 (num v.size.items j)) M (λ j a. new_live j ∙ made_placed j a)
         ∙ sym (cond-true (e == r.c) M (cond (takes aggressive t r.c L e) [] (filter (λ j. not (ends aggressive t r.c L j)) (t.members e))) y)
     | inr n ↦ elim (cases_Bool (takes aggressive t r.c L e)) [
-      | inl y ↦ clash (empty_at e n y) some
+      | inl y ↦ clash (none_taken e n y) some
       | inr k ↦ (let e1 = cond-false (e == r.c) M (cond (takes aggressive t r.c L e) [] (filter (λ j. not (ends aggressive t r.c L j)) (t.members e))) n in
           let e2 = cond-false (takes aggressive t r.c L e) [] (filter (λ j. not (ends aggressive t r.c L j)) (t.members e)) k in
           ap (live_of v.size.items) (r.members_is e ∙ cond-false (e == r.c) r.made (list_at w.lists.members.items e) n)
@@ -344,9 +327,6 @@ module _ {A : Type 0} (g : Graph) (dense : ℕ → Bool) (aggressive : Bool) (w 
           ∙ sym (e1 ∙ e2))
     ]
   ]
-    where
-      empty_at : (e : ℕ) → (e == r.c) ≡ false → takes aggressive t r.c L e ≡ true → is_empty (cond (e == r.c) M (cond (takes aggressive t r.c L e) [] (filter (λ j. not (ends aggressive t r.c L j)) (t.members e)))) ≡ true
-      empty_at e n y = none_taken e n y
 
   -- ---- links
 
@@ -369,7 +349,7 @@ module _ {A : Type 0} (g : Graph) (dense : ℕ → Bool) (aggressive : Bool) (w 
   moved_rest : (d : ℕ) → has R d ≡ true → moved (Live d) ≡ Live (represents aggressive t r.c L d)
   unfolding new_home
   moved_rest d h = cond-false (d == r.c || (has L d && done aggressive t r.c L d)) (Gone r.c) (cond (has R d) (Live (represents aggressive t r.c L d)) (Live d))
-      (or_from (d == r.c) (has L d && done aggressive t r.c L d) (not_c d (rest_front d h)) (ap (λ b. has L d && b) (rest_keeps d h) ∙ and_false (has L d)))
+      (or_from (d == r.c) (has L d && done aggressive t r.c L d) (not_c d (rest_front d h)) (ap (λ b. has L d && b) (rest_keeps d h) ∙ and-false (has L d)))
       ∙ cond-true (has R d) (Live (represents aggressive t r.c L d)) (Live d) h
 
   moved_other : (d : ℕ) → (d == r.c) ≡ false → has L d ≡ false → moved (Live d) ≡ Live d
@@ -614,15 +594,12 @@ module _ {A : Type 0} (g : Graph) (dense : ℕ → Bool) (aggressive : Bool) (w 
   unfolding absorbed
   no_takes = elim (cases_Bool (takes aggressive t r.c L r.c)) [
     | inr n ↦ n
-    | inl y ↦ absurd (let h : absorbed g aggressive s r.c r.c ≡ true = sym (takes_here r.c) ∙ y in elim (or_cases (holds g s r.c r.c) (aggressive && stands g s r.c && inside g (s.border r.c) (front g s r.c)) h) [
+    | inl y ↦ absurd (let h : absorbed g aggressive s r.c r.c ≡ true = sym (taken_is r.c) ∙ y in elim (or_cases (holds g s r.c r.c) (aggressive && stands g s r.c && inside g (s.border r.c) (front g s r.c)) h) [
       | inl k ↦ no_stand (holds_gives g s r.c r.c k).standing
       | inr k ↦ no_stand (and_parts aggressive (stands g s r.c) (and_parts (aggressive && stands g s r.c) (inside g (s.border r.c) (front g s r.c)) k).0).1
     ])
   ]
     where
-      takes_here : (e : ℕ) → takes aggressive t r.c L e ≡ absorbed g aggressive s r.c e
-      takes_here e = taken_is e
-
       no_stand : stands g s r.c ≡ true → ⊥
       no_stand k = let e = (stands_gives g s r.c k).element in let h = class_of r.c f.placed in cc
 
@@ -676,13 +653,10 @@ module _ {A : Type 0} (g : Graph) (dense : ℕ → Bool) (aggressive : Bool) (w 
 
     pub small_kept : (i : ℕ) → has new_lists.placed i ≡ true → num v.bound.items i < length v.size.items
     small_kept i h = let n = (r.sized g.size st.sized).size in elim (cases_Bool (has M i)) [
-      | inl m ↦ (let a = made_bound i m in let b = bound_low i in let k = new_class_size i h in let e = sym (size_kept i h) ∙ size_made i m in
+      | inl m ↦ (let a = made_bound i m in let b = least_of i in let k = new_class_size i h in let e = sym (size_kept i h) ∙ size_made i m in
           let z = live_is in let y = row_small i (front_placed i (made_front i m)) in omega (arith, a, b, k, e, n, z, y, live_small))
       | inr o ↦ (let p = placed_cases i h o in let a = other_bound i o in let b = st.keeps.small i p.0 in let k = st.sized.size in omega (arith, a, b, k, n))
     ]
-      where
-        bound_low : (i : ℕ) → next_bound aggressive t r.c L i ≤ left aggressive t r.c L - new_size aggressive t r.c L i
-        bound_low i = least_of i
 
     pub least_kept : (i : ℕ) → has new_lists.placed i ≡ true → v.least ≤ new_lists.bound i
     least_kept i h = let b = bound_kept i h in elim (cases_Bool (has M i)) [
@@ -738,4 +712,4 @@ module _ {A : Type 0} (g : Graph) (dense : ℕ → Bool) (aggressive : Bool) (w 
   one_round few buckets = (some_placed, (new_state, subst (λ c. StepAt g aggressive c s new_state) f.pivot_is step, subst (λ u. Stands g dense v u new_state) as_next (stands_after few buckets)))
     where
       some_placed : is_empty t.placed ≡ false
-      some_placed = elim (cases_Bool (is_empty t.placed)) [ inr n ↦ n | inl y ↦ absurd (empty_gives t.placed y r.c f.placed) ]
+      some_placed = not_empty t.placed r.c f.placed

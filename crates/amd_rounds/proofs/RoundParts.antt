@@ -1,20 +1,19 @@
 -- The parts of a round make it together: what each asks of the record before it, and that they make the round that the law speaks of.
 use Rattle.std.proofs.Common.{ℕ, Bool, true, false, Some, List, [], ◌∷◌, ◌++◌, ◌≡◌, ◌≤◌, ◌<◌, ◌+◌, ◌-◌, ◌∙◌, ◌&&◌, ◌||◌, not, cond, ap, sym, refl, subst, inl, inr, arith, length}
 use Rattle.std.specs.Prelude.{filter, max, sum_by, ◌==◌, ◌^◌}
-use Rattle.std.proofs.lemmas.Bool.{true≢false, cases_Bool, cond-true, cond-false, or_left, or_right, or_parts, or_cases, and_from, and_parts, and_right, eqb-true, eq-eqb, ne_eqb, not-true}
+use Rattle.std.proofs.lemmas.Bool.{cases_Bool, cond-true, cond-false, or_parts, or_cases, and_right, eqb-true, eq-eqb, ne_eqb, not-true}
 use Rattle.std.proofs.lemmas.List.Elements.{All-filter}
-use Rattle.std.proofs.lemmas.List.Sums.{sum_by-cons}
 use Rattle.amd_model.specs.Figures.{cut, front_sum, entries, ldl_steps, lu_steps}
 use Rattle.amd_model.specs.Graph.{Graph}
-use Rattle.amd_model.specs.State.{State, in_class, is_class, stands}
+use Rattle.amd_model.specs.State.{State, is_class, stands}
 use Rattle.amd_model.specs.Below.{count_below}
 use Rattle.amd_model.specs.Listing.{weight}
 use Rattle.amd_model.specs.Step.{StepAt}
 use Rattle.amd_model.specs.Tie.{Tie, has, is_empty, Once, pivot, gathered, kept_elements, kept_variables, rest, represents, made as made_of, last_that, turned, next, round}
-use Rattle.amd_model.proofs.BelowLemmas.{count_pos, count_most}
-use Rattle.amd_model.proofs.StateLemmas.{class_gives, class_from, block_from, stands_gives}
-use Rattle.amd_model.proofs.Sound.{live_small}
-use Rattle.amd_model.proofs.TieLists.{clash, has_append, has_filter, once_filter, some_of}
+use Rattle.amd_model.proofs.BelowLemmas.{count_most}
+use Rattle.amd_model.proofs.StateLemmas.{block_from, stands_gives}
+use Rattle.amd_model.proofs.TieLists.{clash, once_filter, some_of}
+use Rattle.amd_model.proofs.ListingLemmas.{filter_has, has_filter as filter_gives, has_right, has_head}
 use Rattle.amd_model.proofs.StepFronts.{front_small, placed_small}
 use Rattle.amd_rounds.specs.Views.{num, some_at, list_at, Below}
 use Rattle.amd_rounds.specs.Buckets.{live_in, lasts}
@@ -22,30 +21,14 @@ use Rattle.amd_rounds.specs.Rounds.{keeps_none, alike_in, Absorbed, bound_after}
 use Rattle.amd_rounds.specs.Keeps.{IsSized, Stands, IsRound}
 use Rattle.amd_rounds.specs.Parts.{MakesElement, MergesClasses, RenewsClasses}
 use Rattle.amd_rounds.specs.declared.work.Work.{Work}
-use Rattle.amd_rounds.proofs.Named.{filter_named, sum_named}
-use Rattle.amd_rounds.proofs.Joins.{sum_part}
-use Rattle.amd_rounds.proofs.FrontLists.{pivot_below, front_below, front_once, front_other}
+use Rattle.amd_rounds.proofs.Lists.{filter_named, sum_named, none_sum, named_sum, sum_part}
+use Rattle.amd_rounds.proofs.FrontLists.{pivot_below, front_below, front_once, front_other, gathered_placed, placed_rows}
 use Rattle.amd_rounds.proofs.FrontsLaw.{pivot_class, pivot_least, live_left, live_less, border_is as border_law}
 use Rattle.amd_rounds.proofs.BucketsLaw.{has_lasts, popped_live, chosen_pivot, least_low, bucket_step}
 use Rattle.amd_rounds.proofs.KeptLaw.{front_found, elements_kept, variables_kept, rows_counted, parents}
 use Rattle.amd_rounds.proofs.MergeLaw.{made_is as made_law, elements_once, variables_once, made_once, rest_of, represents_is, represents_in, represents_itself}
 use Rattle.amd_rounds.proofs.Rounding.{Rounding}
 use Rattle.amd_rounds.proofs.RoundLaw.{Found, size_outside, size_ended, bound_kept, one_round}
-
--- a list that names nothing has no rows
-none_sum : (f : ℕ → ℕ) (xs : List ℕ) → is_empty xs ≡ true → sum_by f xs ≡ 0
-unfolding is_empty
-none_sum f [] e = refl
-none_sum f (x ∷ xs) e = absurd (true≢false (sym e))
-
--- what a list names is counted in its sum
-named_sum : (f : ℕ → ℕ) (xs : List ℕ) (x : ℕ) → has xs x ≡ true → f x ≤ sum_by f xs
-unfolding has
-named_sum f [] x h = absurd (true≢false (sym h))
-named_sum f (y ∷ ys) x h = let a = sum_by-cons f y ys in elim (or_cases (y == x) (has ys x) h) [
-  | inl q ↦ (let e = ap f (eqb-true y x q) in omega (arith, a, e))
-  | inr q ↦ (let b = named_sum f ys x q in omega (arith, a, b))
-]
 
 module _ {A : Type 0} (g : Graph) (dense : ℕ → Bool) (aggressive : Bool) (w : Work A) (t : Tie) (s : State) (st : Stands g dense w t s) where
   -- a class stands in the list of its bound, if a row is live
@@ -57,12 +40,8 @@ module _ {A : Type 0} (g : Graph) (dense : ℕ → Bool) (aggressive : Bool) (w 
         i,
         st.keeps.least i some.1,
         sym (has_lasts (live_in w.size.items w.bound.items b (list_at w.placed.items b)) i) ∙ ap (λ xs. has xs i) (st.keeps.placed b)
-            ∙ has_filter (λ j. t.bound j == b) t.placed i ∙ and_from (has t.placed i) (b == b) some.1 (eq-eqb b b refl),
+            ∙ filter_has (λ j. t.bound j == b) t.placed i some.1 (eq-eqb b b refl),
       )
-
-  class_rows : (i : ℕ) → has t.placed i ≡ true → 0 < t.size i
-  class_rows i h = let home = class_gives i (s.home i) (sym (st.fits.placed i) ∙ h) in let l = live_small g st.graph s st.sound i i home in
-      let k = count_pos g.size (in_class s i) i l (class_from i (s.home i) home) in let e = st.fits.size i home in omega (arith, k, e)
 
   -- the rows of the border of a standing element are those of its front without its block
   borders : (e : ℕ) → stands g s e ≡ true → num w.front.items e - num w.block.items e ≡ count_below g.size (s.border e)
@@ -75,11 +54,11 @@ module _ {A : Type 0} (g : Graph) (dense : ℕ → Bool) (aggressive : Bool) (w 
     unfolding has
     chosen_named = let left : List ℕ = live_in w.size.items w.bound.items w1.least (list_at w1.placed.items w1.least) in
         ap (λ l. has l c) (popped_live w.size.items w.bound.items w1.least (list_at w.placed.items w1.least) (list_at w1.placed.items w1.least) c m.chosen.popped)
-        ∙ has_append left (c ∷ []) c ∙ or_right (has left c) (has (c ∷ []) c) (or_left (c == c) false (eq-eqb c c refl))
+        ∙ has_right c left (c ∷ []) (has_head c c [] refl)
 
     chosen_parts : (has t.placed c ≡ true) × ((t.bound c == w1.least) ≡ true)
     chosen_parts = let old : List ℕ = live_in w.size.items w.bound.items w1.least (list_at w.placed.items w1.least) in
-        and_parts (has t.placed c) (t.bound c == w1.least) (sym (has_filter (λ i. t.bound i == w1.least) t.placed c) ∙ ap (λ l. has l c) (sym (st.keeps.placed w1.least)) ∙ has_lasts old c ∙ chosen_named)
+        filter_gives (λ i. t.bound i == w1.least) t.placed c (ap (λ l. has l c) (sym (st.keeps.placed w1.least)) ∙ has_lasts old c ∙ chosen_named)
 
     -- the pivot is a class of least bound
     placed : has t.placed c ≡ true
@@ -133,7 +112,7 @@ module _ {A : Type 0} (g : Graph) (dense : ℕ → Bool) (aggressive : Bool) (w 
         (subst Once (sym (elements i f)) (elements_once g st.graph s st.sound t st.fits c placed aggressive i f), subst Once (sym (variables i f)) (variables_once g st.graph s st.sound t st.fits c placed aggressive i f))
 
     front_placed : (i : ℕ) → has front i ≡ true → has t.placed i ≡ true
-    front_placed i h = (Rattle.amd_rounds.proofs.KeptLaw.front_facts g s t st.fits w st.keeps c placed).2 i (in_front i h)
+    front_placed i h = gathered_placed g s t st.fits c placed i (in_front i h)
 
     -- the rows of the pivot and of its front are live
     old_rows : num w.size.items c + sum_by (num w.size.items) front ≤ w.live
@@ -161,10 +140,10 @@ module _ {A : Type 0} (g : Graph) (dense : ℕ → Bool) (aggressive : Bool) (w 
       none_kept i = keeps_none w1.lists.elements.items w1.lists.variables.items i
 
       rest_parts : (i : ℕ) → has k.rest i ≡ true → (has front i ≡ true) × (none_kept i ≡ false)
-      rest_parts i h = let p = and_parts (has front i) (not (none_kept i)) (sym (has_filter (λ i. not (none_kept i)) front i) ∙ ap (λ l. has l i) (sym k.rest_is) ∙ h) in (p.0, not-true (none_kept i) p.1)
+      rest_parts i h = let p = filter_gives (λ i. not (none_kept i)) front i (ap (λ l. has l i) (sym k.rest_is) ∙ h) in (p.0, not-true (none_kept i) p.1)
 
       made_parts : (i : ℕ) → has made i ≡ true → (has k.rest i ≡ true) × ((into i == i) ≡ true)
-      made_parts i h = and_parts (has k.rest i) (into i == i) (sym (has_filter (λ i. into i == i) k.rest i) ∙ ap (λ l. has l i) (sym k.made_is) ∙ h)
+      made_parts i h = filter_gives (λ i. into i == i) k.rest i (ap (λ l. has l i) (sym k.made_is) ∙ h)
 
       made_front : (i : ℕ) → has made i ≡ true → has front i ≡ true
       made_front i h = (rest_parts i (made_parts i h).0).0
@@ -183,8 +162,8 @@ module _ {A : Type 0} (g : Graph) (dense : ℕ → Bool) (aggressive : Bool) (w 
 
       one_made : (i : ℕ) → has R i ≡ true → has M (represents aggressive t c L i) ≡ true
       one_made i h = let r : ℕ = represents aggressive t c L i in
-          ap (λ l. has l r) (sym (made_law g st.graph s st.sound t st.fits c placed aggressive)) ∙ has_filter (λ i. represents aggressive t c L i == i) R r
-          ∙ and_from (has R r) (represents aggressive t c L r == r) (represents_in g st.graph s st.sound t st.fits c placed aggressive w1.lists.elements.items w1.lists.variables.items elements variables i h)
+          ap (λ l. has l r) (sym (made_law g st.graph s st.sound t st.fits c placed aggressive)) ∙ filter_has (λ i. represents aggressive t c L i == i) R r
+          (represents_in g st.graph s st.sound t st.fits c placed aggressive w1.lists.elements.items w1.lists.variables.items elements variables i h)
           (eq-eqb (represents aggressive t c L r) r (represents_itself g st.graph s st.sound t st.fits c placed aggressive w1.lists.elements.items w1.lists.variables.items elements variables i h))
 
       old_size : (i : ℕ) → has front i ≡ true → num w1.size.items i ≡ t.size i
@@ -199,7 +178,7 @@ module _ {A : Type 0} (g : Graph) (dense : ℕ → Bool) (aggressive : Bool) (w 
           let other = front_other w.size.items w.lists.members.items w.lists.elements.items w.lists.variables.items c front m.front_is in
           k.size_is x ∙ cond-false (x == c) 0 (num k.joined x) (ne_eqb x c (λ e. clash (made_front x h) (ap (has front) e ∙ other)))
           ∙ k.joined_is x ∙ cond-true (has k.rest x) (cond (into x == x) some 0) (num k.retired x) p.0 ∙ cond-true (into x == x) some 0 p.1
-          ∙ sum_named (num k.retired) t.size (filter (λ j. into j == x) k.rest) (λ j a. retired_rest j (and_parts (has k.rest j) (into j == x) (sym (has_filter (λ j. into j == x) k.rest j) ∙ a)).0)
+          ∙ sum_named (num k.retired) t.size (filter (λ j. into j == x) k.rest) (λ j a. retired_rest j (filter_gives (λ j. into j == x) k.rest j a).0)
 
       border_rows : border ≡ sum_by t.size k.rest
       border_rows = k.border_is ∙ sum_named (num w1.size.items) t.size k.rest (λ i h. old_size i (rest_parts i h).0)
@@ -234,8 +213,8 @@ module _ {A : Type 0} (g : Graph) (dense : ℕ → Bool) (aggressive : Bool) (w 
 
       pub renew_sizes : (i : ℕ) → has made i ≡ true → (num w2.size.items i ≤ border) × (num w2.size.items i ≤ w2.live) × (0 < num w2.size.items i)
       renew_sizes i h = let p = made_parts i h in let e = size_made i h in let a = sum_part t.size (λ j. into j == i) k.rest in let b = border_rows in let l = live_parts.0 in
-          let one = named_sum t.size (filter (λ j. into j == i) k.rest) i (has_filter (λ j. into j == i) k.rest i ∙ and_from (has k.rest i) (into i == i) p.0 p.1) in
-          let some = class_rows i (front_placed i (made_front i h)) in
+          let one = named_sum t.size (filter (λ j. into j == i) k.rest) i (filter_has (λ j. into j == i) k.rest i p.0 p.1) in
+          let some = placed_rows g st.graph s st.sound t st.fits i (front_placed i (made_front i h)) in
           (omega (arith, e, a, b), omega (arith, e, a, b, l), omega (arith, e, one, some))
 
       pub renew_small : (i : ℕ) → has made i ≡ true → num w2.bound.items i < length w2.size.items

@@ -1,44 +1,41 @@
 -- Lists that name each number once, and name the same numbers: they are of one length, and have one sum.
 use Rattle.std.proofs.Common.{ℕ, true, false, ◌≡◌, ◌≢◌, ◌≤◌, ◌+◌, ◌&&◌, not, inl, inr, refl, sym, ◌∙◌, ap, arith, List, [], ◌∷◌, length}
 use Rattle.std.specs.Prelude.{◌==◌, filter, sum_by}
-use Rattle.std.proofs.lemmas.Bool.{cases_Bool, and_parts, and_from, and_left, or_left, or_right, eq-eqb, ne_eqb, not_from_false}
+use Rattle.std.proofs.lemmas.Bool.{cases_Bool, and_parts, and_from, and_left, ne_eqb, not_from_false}
 use Rattle.std.proofs.lemmas.List.Sums.{sum_by-cons, length-filter}
 use Rattle.amd_model.specs.Tie.{has, each, Once}
-use Rattle.amd_model.proofs.TieLists.{clash, has_filter, once_filter, each_gives, each_from}
-use Rattle.amd_rounds.proofs.Joins.{sum_apart}
+use Rattle.amd_model.proofs.TieLists.{clash, once_filter, each_gives, each_from}
+use Rattle.amd_model.proofs.ListingLemmas.{filter_has, has_head, has_tail}
+use Rattle.amd_rounds.proofs.Lists.{filter_all, sum_apart}
 
 -- the others of a list
 others_of : ℕ → List ℕ → List ℕ
 others_of x xs = filter (λ j. true && not (j == x)) xs
 
-all_pass : (xs : List ℕ) → filter (λ j. true) xs ≡ xs
-all_pass [] = refl
-all_pass (x ∷ xs) = ap (λ ys. x ∷ ys) (all_pass xs)
-
 -- a number of the list and the others
 sum_others : (f : ℕ → ℕ) (x : ℕ) (xs : List ℕ) → Once xs → has xs x ≡ true → f x + sum_by f (others_of x xs) ≡ sum_by f xs
 unfolding others_of
-sum_others f x xs o h = sum_apart f (λ j. true) x xs o h refl ∙ ap (sum_by f) (all_pass xs)
+sum_others f x xs o h = sum_apart f (λ j. true) x xs o h refl ∙ ap (sum_by f) (filter_all (λ j. true) xs (λ x h. refl))
 
 other_in : (x y : ℕ) (xs : List ℕ) → has xs y ≡ true → y ≢ x → has (others_of x xs) y ≡ true
 unfolding others_of
-other_in x y xs h ne = has_filter (λ j. true && not (j == x)) xs y ∙ and_from (has xs y) (true && not (y == x)) h (not_from_false (y == x) (ne_eqb y x ne))
+other_in x y xs h ne = filter_has (λ j. true && not (j == x)) xs y h (not_from_false (y == x) (ne_eqb y x ne))
 
 -- what is in another list adds up to no more
 pub part_sum : (f : ℕ → ℕ) (ys xs : List ℕ) → Once ys → Once xs → ((y : ℕ) → has ys y ≡ true → has xs y ≡ true) → sum_by f ys ≤ sum_by f xs
-unfolding has others_of
+unfolding others_of
 part_sum f [] xs o p h = omega arith
 part_sum f (y ∷ ys) xs o p h =
-    let in_xs = h y (or_left (y == y) (has ys y) (eq-eqb y y refl)) in
+    let in_xs = h y (has_head y y ys refl) in
     let rest = part_sum f ys (others_of y xs) o.1 (once_filter (λ j. true && not (j == y)) xs p)
-    (λ z k. other_in y z xs (h z (or_right (y == z) (has ys z) k)) (λ e. clash (ap (has ys) (sym e) ∙ k) o.0)) in
+    (λ z k. other_in y z xs (h z (has_tail z y ys k)) (λ e. clash (ap (has ys) (sym e) ∙ k) o.0)) in
     let whole = sum_others f y xs p in_xs in
     let first = sum_by-cons f y ys in
     omega (arith, rest, whole, first)
 
 -- the length is a sum
 length_sum : (xs : List ℕ) → length xs ≡ sum_by (λ j. 1) xs
-length_sum xs = ap length (sym (all_pass xs)) ∙ length-filter (λ j. true) xs
+length_sum xs = ap length (sym (filter_all (λ j. true) xs (λ x h. refl))) ∙ length-filter (λ j. true) xs
 
 -- two lists that name the same numbers
 pub same_sum : (f : ℕ → ℕ) (xs ys : List ℕ) → Once xs → Once ys → each (has xs) ys ≡ true → each (has ys) xs ≡ true → sum_by f xs ≡ sum_by f ys

@@ -1,6 +1,7 @@
 -- What the start of the plain engine fills in stands for the start of an elimination.
 use Rattle.std.proofs.Common.{ℕ, zero, suc, Bool, true, false, Option, None, Some, List, [], Vec, ◌≡◌, ◌≤◌, ◌<◌, ◌+◌, ◌∙◌, ◌&&◌, ◌||◌, not, cond, max, ap, sym, refl, subst, inl, inr, arith, length, map, replicate}
 use Rattle.std.specs.Prelude.{filter, sum_by, nat_lt, nat_le, nat_eq, ◌==◌, ◌⊎◌}
+use Rattle.std.proofs.Math.Bool.{or-false, and-false, and_self}
 use Rattle.std.proofs.lemmas.Bool.{cases_Bool, cases_eq, cases_lt, cond-false, and_parts, or_right, or_from, eq-eqb, ne_eqb, eqb-true, lt-ltb, le-ltb, ltb-true, le-leb, lt-leb}
 use Rattle.std.proofs.lemmas.List.{length-map, length-replicate, get_or-map, get_or-replicate, get_or_past}
 use Rattle.amd_model.specs.Below.{count_below, list_below}
@@ -23,8 +24,10 @@ use Rattle.amd_rounds.specs.Buckets.{live_in, lasts}
 use Rattle.amd_rounds.specs.Keeps.{IsIdle, IsSized, LinksLead, Keeps, KeepsFronts, Stands}
 use Rattle.amd_rounds.specs.Starts.{StandsAtStart}
 use Rattle.amd_rounds.specs.declared.work.Work.{Work}
-use Rattle.amd_rounds.proofs.Named.{filter_named}
-use Rattle.amd_rounds.proofs.StartLists.{list_same, filter_below, each_last, empty_below}
+use Rattle.amd_rounds.proofs.ListPlaces.{empty_below}
+use Rattle.amd_rounds.proofs.Lists.{filter_named}
+use Rattle.amd_rounds.proofs.StartLists.{list_same, filter_below}
+use Rattle.amd_rounds.proofs.BucketsLaw.{lasts_once}
 
 -- the size of the class of a row, and of its block, by its degree
 abbrev pub class_of : ℕ → ℕ → ℕ
@@ -70,18 +73,6 @@ class_test d t = elim (cases_eq d 0) [
     | inr l ↦ le-leb d t l ∙ sym (ap not (or_from (nat_lt t d) (d == 0) (le-ltb t d l) (ne_eqb d 0 nz)))
   ]
 ]
-
-or_false : (a : Bool) → (a || false) ≡ a
-or_false true = refl
-or_false false = refl
-
-and_false : (a : Bool) → (a && false) ≡ false
-and_false true = refl
-and_false false = refl
-
-and_twice : (a : Bool) → (a && a) ≡ a
-and_twice true = refl
-and_twice false = refl
 
 add_none : (x y : ℕ) → x ≡ 0 → x + y ≡ y
 add_none x y e = omega (arith, e)
@@ -197,7 +188,7 @@ module _ {A : Type 0} (rows : List (Vec ℕ A)) (degrees : List ℕ) (threshold 
   neighbour_light i j l h =
       let e : g.edge i j ≡ true = sym ((names i l).named j) ∙ h in
       let some : (degree g j == 0) ≡ false = ne_eqb (degree g j) 0 (λ z. no_edge g laws dense s start j i z (laws.symmetric j i ∙ e)) in
-      light j ∙ class_in j (edge_small g laws i j e).1 ∙ ap (λ c. not (dense j || c)) some ∙ ap not (or_false (dense j))
+      light j ∙ class_in j (edge_small g laws i j e).1 ∙ ap (λ c. not (dense j || c)) some ∙ ap not (or-false (dense j))
 
   variables_kept : (i : ℕ) → i < g.size → live_of w.size.items (list_at w.lists.variables.items i) ≡ filter (λ j. not (dense j)) (lists i)
   variables_kept i l = ap (λ xs. live_of w.size.items (list_at xs i)) begun.variables ∙ ap (live_of w.size.items) (list_is i l)
@@ -209,7 +200,7 @@ module _ {A : Type 0} (rows : List (Vec ℕ A)) (degrees : List ℕ) (threshold 
       let p : ℕ → Bool = λ i. nat_lt 0 (num w.size.items i) && num degrees i == b in
       let q : ℕ → Bool = λ i. nat_lt 0 (num w.size.items i) && num w.bound.items i == b in
       ap (λ xs. lasts (filter q xs)) (begun.placed b) ∙ ap lasts (filter_below (length degrees) p q)
-      ∙ each_last (list_below (length degrees) (λ i. p i && q i)) (once_below (length degrees) (λ i. p i && q i))
+      ∙ lasts_once (list_below (length degrees) (λ i. p i && q i)) (once_below (length degrees) (λ i. p i && q i))
       ∙ ap (λ n. list_below n (λ i. p i && q i)) (sym size_is)
       ∙ list_same g.size (λ i. p i && q i) (λ i. is_class_row i && degree g i == b) (λ i l. same_row i l)
       ∙ sym (filter_below g.size is_class_row (λ i. degree g i == b))
@@ -218,7 +209,7 @@ module _ {A : Type 0} (rows : List (Vec ℕ A)) (degrees : List ℕ) (threshold 
       same_row i l = ap (λ a. (a && num degrees i == b) && (a && num w.bound.items i == b)) (light i ∙ class_in i l)
           ∙ ap (λ d. (is_class_row i && d == b) && (is_class_row i && num w.bound.items i == b)) (degree_is i l)
           ∙ ap (λ d. (is_class_row i && degree g i == b) && (is_class_row i && d == b)) (bound_at i l)
-          ∙ and_twice (is_class_row i && degree g i == b)
+          ∙ and_self (is_class_row i && degree g i == b)
 
   live_kept : w.live ≡ sum_by (λ i. 1) classes
   unfolding count_below
@@ -320,7 +311,7 @@ module _ {A : Type 0} (rows : List (Vec ℕ A)) (degrees : List ℕ) (threshold 
   unfolding is_made
   not_made e = elim (cases_Bool (is_element s e)) [
     | inr n ↦ ap (λ b. b && nat_lt 0 (degree g e)) n
-    | inl y ↦ ap (λ b. is_element s e && b) (le-ltb 0 (degree g e) (let z = (empty_row e y).1 in omega (arith, z))) ∙ and_false (is_element s e)
+    | inl y ↦ ap (λ b. is_element s e && b) (le-ltb 0 (degree g e) (let z = (empty_row e y).1 in omega (arith, z))) ∙ and-false (is_element s e)
   ]
 
   dense_count : w.n_dense ≡ count_below g.size dense

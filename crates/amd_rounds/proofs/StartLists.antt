@@ -2,13 +2,12 @@
 use Rattle.std.proofs.Common.{ℕ, zero, suc, Bool, true, false, ◌≡◌, ◌<◌, ◌+◌, ◌&&◌, cond, inl, inr, refl, sym, ◌∙◌, ap, subst, arith, add-one, List, [], ◌∷◌, ◌++◌, Vec, map, length, get_or, set, replicate}
 use Rattle.std.specs.Prelude.{filter, ◌==◌}
 use Rattle.std.proofs.lemmas.Bool.{cases_eq, cases_lt, eq-eqb, ne_eqb, cond-true, cond-false}
-use Rattle.std.proofs.lemmas.List.{append-nil, length-map, length-set, map-set, get_or-map, get_or-set_same, get_or-set_other, length_push, length-replicate, get_or-replicate, get_or_past}
-use Rattle.std.proofs.lemmas.List.Elements.{All-nil, All-push, All-set, filter-append}
+use Rattle.std.proofs.lemmas.List.{append-nil, length-map, length_push, length-replicate, get_or-replicate, get_or_past}
+use Rattle.std.proofs.lemmas.List.Elements.{All-push, filter-append}
 use Rattle.amd_model.specs.Below.{count_below, sum_below, list_below}
-use Rattle.amd_model.specs.Tie.{Once, has}
 use Rattle.amd_rounds.specs.Views.{at, list_at, Below, ListsBelow, Clear}
-use Rattle.amd_rounds.specs.Buckets.{lasts}
 use Rattle.amd_numbers.proofs.EmptyLists.{empty_more}
+use Rattle.amd_rounds.proofs.ListPlaces.{list_read, list_set_same, list_set_other, lists_set}
 
 abbrev one_if : Bool → ℕ
 one_if b = cond b 1 0
@@ -51,16 +50,6 @@ filter_below (suc n) p q = filter-append q (list_below n p) (cond (p n) (n ∷ [
     one true = refl
     one false = refl
 
--- a list that names no number twice
-pub each_last : (xs : List ℕ) → Once xs → lasts xs ≡ xs
-unfolding lasts
-each_last [] h = refl
-each_last (y ∷ ys) h = cond-false (has ys y) (lasts ys) (y ∷ lasts ys) h.0 ∙ ap (λ l. y ∷ l) (each_last ys h.1)
-
--- the list at a place
-pub read_list : {A : Type 0} (lists : List (Vec ℕ A)) (e : ℕ) (v : Vec ℕ A) → e < length lists → v ≡ get_or lists e v → list_at lists e ≡ v.items
-read_list lists e v l h = get_or-map (λ w. w.items) lists e v [] l ∙ ap (λ w. w.items) (sym h)
-
 -- an empty list more
 pub empty_push : {A : Type 0} (lists : List (Vec ℕ A)) (v : Vec ℕ A) → ((i : ℕ) → list_at lists i ≡ []) → v.items ≡ [] → (i : ℕ) → list_at (lists ++ v ∷ []) i ≡ []
 empty_push {A} lists v empty is i = elim (cases_lt i (length lists + 1)) [
@@ -82,10 +71,6 @@ marks_clear n marks h = (
   ],
 )
 
--- lists that are all empty are in range
-pub empty_below : {A : Type 0} (n : ℕ) (lists : List (Vec ℕ A)) → length lists ≡ n → ((i : ℕ) → list_at lists i ≡ []) → ListsBelow n lists
-empty_below n lists size empty = (size, λ k d l. subst (Below n) (sym (sym (get_or-map (λ w. w.items) lists k d [] l) ∙ empty k)) (All-nil (λ j. j < n)))
-
 -- a row more is placed
 module _ {A : Type 0} (n : ℕ) (lists : List (Vec ℕ A)) (bound : ℕ → ℕ) (light : ℕ → Bool) (i : ℕ) (was : (b : ℕ) → list_at lists b ≡ list_below i (λ j. light j && bound j == b)) where
   -- a row that is no class is passed over
@@ -95,20 +80,15 @@ module _ {A : Type 0} (n : ℕ) (lists : List (Vec ℕ A)) (bound : ℕ → ℕ)
   -- a class is placed under its bound
   module _ (v : Vec ℕ A) (here : bound i < length lists) (is : v ≡ get_or lists (bound i) v) (w : Vec ℕ A) (pushed : w.items ≡ v.items ++ i ∷ []) where
     old : v.items ≡ list_at lists (bound i)
-    old = sym (read_list lists (bound i) v here is)
+    old = sym (list_read lists (bound i) v here is)
 
     pub placed_yes : light i ≡ true → (b : ℕ) → list_at (set lists (bound i) w) b ≡ list_below (i + 1) (λ j. light j && bound j == b)
     placed_yes h b = elim (cases_eq b (bound i)) [
-      | inl e ↦ ap (list_at (set lists (bound i) w)) e ∙ ap (λ xs. get_or xs (bound i) []) (map-set (λ u. u.items) lists (bound i) w)
-          ∙ get_or-set_same (map (λ u. u.items) lists) (bound i) w.items [] (let m = length-map lists (λ (u : Vec ℕ A). u.items) in omega (arith, m, here))
+      | inl e ↦ ap (list_at (set lists (bound i) w)) e ∙ list_set_same lists (bound i) w here
           ∙ pushed ∙ ap (λ ys. ys ++ i ∷ []) (old ∙ ap (list_at lists) (sym e) ∙ was b)
           ∙ sym (list_yes (λ j. light j && bound j == b) i (ap (λ a. a && bound i == b) h ∙ eq-eqb (bound i) b (sym e)))
-      | inr ne ↦ ap (λ xs. get_or xs b []) (map-set (λ u. u.items) lists (bound i) w) ∙ get_or-set_other (map (λ u. u.items) lists) (bound i) b w.items [] ne
-          ∙ was b ∙ sym (list_no (λ j. light j && bound j == b) i (ap (λ a. a && bound i == b) h ∙ ne_eqb (bound i) b (λ q. ne (sym q))))
+      | inr ne ↦ list_set_other lists (bound i) w b ne ∙ was b ∙ sym (list_no (λ j. light j && bound j == b) i (ap (λ a. a && bound i == b) h ∙ ne_eqb (bound i) b (λ q. ne (sym q))))
     ]
 
     pub range_yes : ListsBelow n lists → i < n → ListsBelow n (set lists (bound i) w)
-    range_yes r l = (
-      length-set lists (bound i) w ∙ r.0,
-      All-set (λ u. Below n u.items) lists (bound i) w (subst (Below n) (sym pushed) (All-push (λ j. j < n) v.items i (subst (λ u. Below n u.items) (sym is) (r.1 (bound i) v here)) l)) r.1,
-    )
+    range_yes r l = lists_set n lists (bound i) w r (subst (Below n) (sym pushed) (All-push (λ j. j < n) v.items i (subst (λ u. Below n u.items) (sym is) (r.1 (bound i) v here)) l))

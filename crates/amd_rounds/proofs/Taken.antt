@@ -1,11 +1,12 @@
 -- What is left of the rows of an element when those of the classes of a front are taken off, one class after another.
 use Rattle.std.proofs.Common.{ℕ, true, false, List, [], ◌∷◌, ◌≡◌, ◌<◌, ◌+◌, ◌-◌, ◌||◌, cond, fold, inl, inr, refl, sym, ◌∙◌, ap, arith, length, get_or, take, set, get_or-set_same, get_or-set_other}
 use Rattle.std.specs.Prelude.{sum_by, Vec, ◌==◌}
-use Rattle.std.proofs.lemmas.Bool.{cases_Bool, cases_eq, cond-true, cond-false, eq-eqb, ne_eqb, eqb-true, or_left, or_right}
+use Rattle.std.proofs.lemmas.Bool.{cases_Bool, cases_eq, cond-true, cond-false, eq-eqb, ne_eqb, eqb-true, or_left}
 use Rattle.std.proofs.lemmas.List.{take_more}
 use Rattle.std.proofs.lemmas.List.Sums.{fold_push, sum_by-cons}
 use Rattle.amd_model.specs.Tie.{has, Once}
 use Rattle.amd_model.proofs.TieLists.{clash}
+use Rattle.amd_model.proofs.ListingLemmas.{has_head, has_tail}
 use Rattle.amd_rounds.specs.Views.{num, list_at}
 use Rattle.amd_rounds.specs.Rounds.{less, rows_left}
 
@@ -50,10 +51,9 @@ less_once e rows b (x ∷ xs) once = elim (cases_Bool (x == e)) [
 -- lists that name it once each take off the rows of those that name it
 pub taken_off : (e : ℕ) (size : ℕ → ℕ) (lists : ℕ → List ℕ) (b : ℕ) (front : List ℕ) → ((i : ℕ) → has front i ≡ true → Once (lists i)) →
     fold (λ m i. less e (size i) m (lists i)) b front ≡ b - sum_by (λ i. cond (has (lists i) e) (size i) 0) front
-unfolding has
 taken_off e size lists b [] once = let none : sum_by (λ i. cond (has (lists i) e) (size i) 0) [] ≡ 0 = refl in omega (arith, none)
 taken_off e size lists b (i ∷ front) once =
-    let first = less_once e (size i) b (lists i) (once i (or_left (i == i) (has front i) (eq-eqb i i refl))) in
-    let rest = taken_off e size lists (less e (size i) b (lists i)) front (λ j h. once j (or_right (i == j) (has front j) h)) in
+    let first = less_once e (size i) b (lists i) (once i (has_head i i front refl)) in
+    let rest = taken_off e size lists (less e (size i) b (lists i)) front (λ j h. once j (has_tail j i front h)) in
     let all = sum_by-cons (λ i. cond (has (lists i) e) (size i) 0) i front in
     omega (arith, first, rest, all)

@@ -3,8 +3,9 @@ use Rattle.std.proofs.lemmas.Bool.{cond-false}
 use Rattle.amd_model.specs.Tie.{has}
 use Rattle.amd_rounds.specs.Views.{num, at, some_at, list_at}
 use Rattle.amd_rounds.specs.Rounds.{firsts}
-use Rattle.amd_rounds.proofs.MarkLists.{list_read}
-use Rattle.amd_rounds.proofs.KeptParts.{touched_below, touched_new, filter_agree, spared_is, adopted_is, in_either, cleared_is, pivot_cleared}
+use Rattle.amd_rounds.proofs.ListPlaces.{list_read}
+use Rattle.amd_rounds.proofs.Lists.{filter_named}
+use Rattle.amd_rounds.proofs.KeptParts.{touched_below, firsts_gives, spared_is, adopted_is, in_either, cleared_is, pivot_cleared}
 use Rattle.amd_rounds.proofs.absorption.absorb.Goals as goal
 
 pub count_beyond-requires-clause-range : goal.count_beyond-requires-clause-range
@@ -44,7 +45,7 @@ returns g c =
     let inside : ℕ → Bool = λ j. j == p || has front j in
     let row : p < length elements = (let a = r.pivot.0 in let b = r.elements.0 in omega (arith, a, b)) in
     let touched_is : touched ≡ firsts (has own) (flat_map (list_at elements) front) = c.in_ok-touched.ensures.list in
-    let apart = touched_new (has own) (flat_map (list_at elements) front) touched touched_is in
+    let gathered = firsts_gives (has own) (flat_map (list_at elements) front) touched touched_is in
     let whole : ℕ → Bool = λ e. c.args.aggressive && nat_eq (num beyond e) 0 in
     let first : c.deref-4.result.now ≡ own = c.deref-4.ensures.value ∙ sym (list_read elements p c.index.result.now row c.index.ensures) in
     let rows_marked : (j : ℕ) → at c.deref-8.result.now j ≡ inside j = λ j. ap (λ l. at l j) c.deref-8.ensures.value ∙ r.rows.1 j in
@@ -52,7 +53,7 @@ returns g c =
     c.spare.ensures.spared e
     ∙ ap (λ l. at marked e && not (has l e && not (c.args.aggressive && nat_eq (num c.deref-3.result.now e) 0))) c.deref-2.ensures.value
     ∙ ap (λ l. at marked e && not (has touched e && not (c.args.aggressive && nat_eq (num l e) 0))) c.deref-3.ensures.value
-    ∙ ap (λ b. b && not (has touched e && not (whole e))) (c.in_ok-touched.ensures.marked e) ∙ spared_is (has own e) (has touched e) (whole e) (apart e) in
+    ∙ ap (λ b. b && not (has touched e && not (whole e))) (c.in_ok-touched.ensures.marked e) ∙ spared_is (has own e) (has touched e) (whole e) (λ h. (gathered e h).1) in
     let parents : (e : ℕ) → some_at c.adopt-2.new.parent.items e ≡ cond (at taken e) (Some p) (some_at c.args.parent.now.items e) = λ e.
     adopted_is (has own e) (has touched e) (at taken e) (Some p) (some_at c.args.parent.now.items e) (some_at c.adopt.new.parent.items e) (some_at c.adopt-2.new.parent.items e)
     (λ h. in_either (has own e) (has touched e) (whole e) (sym (taken_is e) ∙ h))
@@ -79,7 +80,7 @@ returns g c =
         parents = parents;
         elements = λ i. c.shorten.ensures.kept_elements i ∙ ap (λ l. cond (has front i) (filter (λ e. not (at l e)) (list_at elements i)) (list_at elements i)) c.deref-9.ensures.value;
         variables = λ i. c.shorten.ensures.kept_variables i ∙ ap (λ l. cond (has front i) l (list_at variables i))
-            (filter_agree (λ j. nat_lt 0 (num size j) && not (at c.deref-8.result.now j)) (λ j. nat_lt 0 (num size j) && not (inside j)) (list_at variables i) (λ j. ap (λ b. nat_lt 0 (num size j) && not b) (rows_marked j)));
+            (filter_named (λ j. nat_lt 0 (num size j) && not (at c.deref-8.result.now j)) (λ j. nat_lt 0 (num size j) && not (inside j)) (list_at variables i) (λ j h. ap (λ b. nat_lt 0 (num size j) && not b) (rows_marked j)));
         members = c.shorten.ensures.members;
       };
       elements = c.shorten.ensures.elements;

@@ -4,7 +4,7 @@ use Rattle.std.proofs.lemmas.List.{take_all}
 use Rattle.amd_model.specs.Tie.{has}
 use Rattle.amd_rounds.specs.Views.{num, list_at, Below}
 use Rattle.amd_rounds.specs.Rounds.{less, rows_left}
-use Rattle.amd_rounds.proofs.MarkLists.{list_read, list_below}
+use Rattle.amd_rounds.proofs.ListPlaces.{list_read, list_below}
 use Rattle.amd_rounds.proofs.Taken.{left_next}
 use Rattle.amd_rounds.proofs.absorption.count_beyond.Goals as goal
 

@@ -2,8 +2,8 @@ use Rattle.std.proofs.Common.{◌≡◌, ◌∙◌, ◌&&◌, ap, sym, ℕ}
 use Rattle.std.proofs.lemmas.Bool.{and_left}
 use Rattle.amd_model.specs.Tie.{is_empty}
 use Rattle.amd_rounds.specs.Views.{list_at}
+use Rattle.amd_rounds.proofs.ListPlaces.{list_read}
 use Rattle.amd_rounds.proofs.Kept.{none_is}
-use Rattle.amd_rounds.proofs.MarkLists.{list_read}
 use Rattle.amd_rounds.proofs.absorption.keeps_nothing.Goals as goal
 
 pub returns-then-is_empty : goal.returns-then-is_empty

@@ -6,7 +6,10 @@ use Rattle.amd_model.specs.Figures.{cut}
 use Rattle.amd_model.specs.Tie.{has}
 use Rattle.amd_rounds.specs.Views.{num, list_at}
 use Rattle.amd_rounds.specs.Rounds.{bound_after}
-use Rattle.amd_rounds.proofs.BoundLists.{cut_more, has_at, changed_more, changed_none, unchanged, list_read}
+use Rattle.amd_rounds.proofs.RenewedParts.{cut_more}
+use Rattle.amd_rounds.proofs.Kept.{changed_more, changed_none, unchanged}
+use Rattle.amd_rounds.proofs.Lists.{has_at}
+use Rattle.amd_rounds.proofs.ListPlaces.{list_read}
 use Rattle.amd_rounds.proofs.bounds.renew_bounds.Goals as goal
 
 pub loop-i-init : goal.loop-i-init
@@ -30,7 +33,7 @@ overflow_add-near g c =
     let small = c.requires.range k 0 c.loop-i-test.true in
     let lengths = c.requires.lengths.1 in
     let within : i < length c.loop-i.bound.items = omega (arith, room, small, lengths) in
-    let stays = unchanged made k 0 c.loop-i-test.true new (num old) (num c.loop-i.bound.items) (num c.loop-i.bound.items) c.loop-i.invariant.bounds c.requires.once in
+    let stays = unchanged made k 0 c.loop-i-test.true new (num old) (num c.loop-i.bound.items) c.loop-i.invariant.bounds c.requires.once in
     let read : c.index-in-loop-i-2.result.now ≡ num old i = c.index-in-loop-i-2.ensures ∙ get_or_default_zero c.loop-i.bound.items i c.index-in-loop-i-2.result.now within ∙ stays in
     let fits = c.requires.fits i named in
     let least = c.min.ensures in
@@ -54,7 +57,7 @@ loop-i-preserved g c =
     let small = c.requires.range k 0 c.loop-i-test.true in
     let lengths = c.requires.lengths.1 in
     let within : i < length now = omega (arith, room, small, lengths) in
-    let stays = unchanged made k 0 c.loop-i-test.true new (num old) (num now) (num now) c.loop-i.invariant.bounds c.requires.once in
+    let stays = unchanged made k 0 c.loop-i-test.true new (num old) (num now) c.loop-i.invariant.bounds c.requires.once in
     let read : c.index-in-loop-i-2.result.now ≡ num old i = c.index-in-loop-i-2.ensures ∙ get_or_default_zero now i c.index-in-loop-i-2.result.now within ∙ stays in
     let e_size = c.requires.elements.0 in
     let v_size = c.requires.variables.0 in
@@ -67,7 +70,7 @@ loop-i-preserved g c =
     ∙ cut_more c.sum_at.result far near first in
     let least : c.min.result ≡ min (num old i) (cut (far + near)) = c.min.ensures ∙ ap (λ m. min m c.sum_at-outside.result) read ∙ ap (min (num old i)) both in
     record {
-      bounds = changed_more made k 0 c.loop-i-test.true new (num old) (num now) _ c.loop-i.invariant.bounds
+      bounds = changed_more made k 0 c.loop-i-test.true new (num old) (num now) c.loop-i.invariant.bounds _
           (λ x ne. get_or-set_other now i x c.min-in-loop-i.result 0 ne)
           (get_or-set_same now i c.min-in-loop-i.result 0 within ∙ c.min-in-loop-i.ensures ∙ ap (λ m. min (m + (c.args.border - num size i)) (c.args.live - num size i)) least);
       room = length-set now i c.min-in-loop-i.result ∙ room;

@@ -1,7 +1,10 @@
 use Rattle.std.proofs.Common.{◌≡◌, ◌<◌, ◌∷◌, ℕ, length, get_or, set, arith, ap, sym, refl, subst, ◌∙◌}
 use Rattle.amd_model.specs.Tie.{turned}
 use Rattle.amd_rounds.specs.Views.{list_at, Below}
-use Rattle.amd_rounds.proofs.BoundLists.{changed_more, changed_none, unchanged, list_read, list_put, list_other, lists_put, list_below, below_turned, below_cons}
+use Rattle.amd_rounds.proofs.Lists.{below_turned}
+use Rattle.amd_rounds.proofs.Kept.{changed_more, changed_none, unchanged}
+use Rattle.amd_rounds.proofs.ListPlaces.{list_read, list_set_same, list_set_other, lists_set, list_below}
+use Rattle.std.proofs.lemmas.List.Elements.{All-cons}
 use Rattle.amd_rounds.proofs.bounds.renew_lists.Goals as goal
 
 pub loop-i-init : goal.loop-i-init
@@ -36,22 +39,22 @@ loop-i-preserved g c =
     let et : list_at es i ≡ c.index_mut.result.now.items = list_read es i c.index_mut.result.now e_in c.index_mut.ensures.value in
     let turned_e : t.items ≡ turned (list_at es i) = c.turn.ensures ∙ ap turned (sym et) in
     let e_in' : i < length (set es i t) = omega (arith, e_in, Rattle.std.proofs.lemmas.List.length-set es i t) in
-    let again : c.index_mut-in-loop-i.result.now.items ≡ t.items = sym (list_read (set es i t) i c.index_mut-in-loop-i.result.now e_in' c.index_mut-in-loop-i.ensures.value) ∙ list_put es i t e_in in
+    let again : c.index_mut-in-loop-i.result.now.items ≡ t.items = sym (list_read (set es i t) i c.index_mut-in-loop-i.result.now e_in' c.index_mut-in-loop-i.ensures.value) ∙ list_set_same es i t e_in in
     let put : p.items ≡ c.args.pivot ∷ turned (list_at es i) = c.in_ok-insert.ensures.items ∙ ap (λ xs. c.args.pivot ∷ xs) (again ∙ turned_e) in
     let vt : list_at vs i ≡ c.index_mut-in-loop-i-2.result.now.items = list_read vs i c.index_mut-in-loop-i-2.result.now v_in c.index_mut-in-loop-i-2.ensures.value in
     let turned_v : u.items ≡ turned (list_at vs i) = c.turn-in-loop-i.ensures ∙ ap turned (sym vt) in
-    let e_stays = unchanged made k 0 test (λ x. c.args.pivot ∷ turned (old_es x)) old_es (list_at es) (list_at es) inv.new_elements c.requires.once in
-    let v_stays = unchanged made k 0 test (λ x. turned (old_vs x)) old_vs (list_at vs) (list_at vs) inv.new_variables c.requires.once in
-    let e_below : Below n (turned (list_at es i)) = below_turned n (list_at es i) (list_below n es i inv.elements small) in
-    let v_below : Below n (turned (list_at vs i)) = below_turned n (list_at vs i) (list_below n vs i inv.variables small) in
+    let e_stays = unchanged made k 0 test (λ x. c.args.pivot ∷ turned (old_es x)) old_es (list_at es) inv.new_elements c.requires.once in
+    let v_stays = unchanged made k 0 test (λ x. turned (old_vs x)) old_vs (list_at vs) inv.new_variables c.requires.once in
+    let e_below : Below n (turned (list_at es i)) = below_turned n (list_at es i) (list_below n es inv.elements i) in
+    let v_below : Below n (turned (list_at vs i)) = below_turned n (list_at vs i) (list_below n vs inv.variables i) in
     record {
-      new_elements = changed_more made k 0 test (λ x. c.args.pivot ∷ turned (old_es x)) old_es (list_at es) _ inv.new_elements
-          (λ x ne. list_other (set es i t) i x p ne ∙ list_other es i x t ne)
-          (list_put (set es i t) i p e_in' ∙ put ∙ ap (λ xs. c.args.pivot ∷ turned xs) e_stays);
-      new_variables = changed_more made k 0 test (λ x. turned (old_vs x)) old_vs (list_at vs) _ inv.new_variables
-          (λ x ne. list_other vs i x u ne)
-          (list_put vs i u v_in ∙ turned_v ∙ ap turned v_stays);
+      new_elements = changed_more made k 0 test (λ x. c.args.pivot ∷ turned (old_es x)) old_es (list_at es) inv.new_elements _
+          (λ x ne. list_set_other (set es i t) i p x ne ∙ list_set_other es i t x ne)
+          (list_set_same (set es i t) i p e_in' ∙ put ∙ ap (λ xs. c.args.pivot ∷ turned xs) e_stays);
+      new_variables = changed_more made k 0 test (λ x. turned (old_vs x)) old_vs (list_at vs) inv.new_variables _
+          (λ x ne. list_set_other vs i u x ne)
+          (list_set_same vs i u v_in ∙ turned_v ∙ ap turned v_stays);
       members = inv.members;
-      elements = lists_put n (set es i t) i p (lists_put n es i t inv.elements (subst (Below n) (sym turned_e) e_below)) (subst (Below n) (sym put) (below_cons n c.args.pivot (turned (list_at es i)) c.requires.pivot e_below));
-      variables = lists_put n vs i u inv.variables (subst (Below n) (sym turned_v) v_below);
+      elements = lists_set n (set es i t) i p (lists_set n es i t inv.elements (subst (Below n) (sym turned_e) e_below)) (subst (Below n) (sym put) (All-cons (λ j. j < n) c.args.pivot (turned (list_at es i)) c.requires.pivot e_below));
+      variables = lists_set n vs i u inv.variables (subst (Below n) (sym turned_v) v_below);
     }

@@ -2,8 +2,8 @@ use Rattle.std.proofs.Common.{ℕ, [], ◌≡◌, ◌<◌, ◌∙◌, inl, inr, 
 use Rattle.std.proofs.lemmas.Bool.{cases_eq}
 use Rattle.amd_rounds.specs.Views.{list_at, Below}
 use Rattle.amd_rounds.specs.Buckets.{live_in}
-use Rattle.amd_rounds.proofs.MarkLists.{list_read, list_below}
-use Rattle.amd_rounds.proofs.BucketLists.{list_set_same, list_set_other, lists_set, least_place, popped_below, popped_same, next_some}
+use Rattle.amd_rounds.proofs.ListPlaces.{list_read, list_below, list_set_same, list_set_other, lists_set}
+use Rattle.amd_rounds.proofs.BucketLists.{least_place, popped_below, popped_same, next_some}
 use Rattle.amd_rounds.proofs.buckets.choose.Goals as goal
 
 pub index_mut-requires : goal.index_mut-requires

@@ -4,8 +4,9 @@ use Rattle.std.proofs.lemmas.List.{at_drop_more}
 use Rattle.std.proofs.lemmas.List.Elements.{All-push}
 use Rattle.amd_model.specs.Tie.{has}
 use Rattle.amd_rounds.specs.Views.{num, list_at, Below}
-use Rattle.amd_rounds.proofs.MarkLists.{list_read, list_below}
-use Rattle.amd_rounds.proofs.BucketLists.{has_at, lists_set, pushed, least_next, least_lower, least_end}
+use Rattle.amd_rounds.proofs.Lists.{has_at}
+use Rattle.amd_rounds.proofs.ListPlaces.{list_read, list_below, lists_set}
+use Rattle.amd_rounds.proofs.BucketLists.{pushed, least_next, least_lower, least_end}
 use Rattle.amd_rounds.proofs.buckets.place_all.Goals as goal
 use Rattle.amd_rounds.proofs.buckets.place_all.Goals.{then-b-least, else-b-least}
 
@@ -13,7 +14,7 @@ pub index_mut-requires : goal.index_mut-requires
 index_mut-requires g c =
     let made : List ℕ = c.args.made.now in
     let i : ℕ = c.loop-i.i-index in
-    let small = c.requires.small (get_or made i 0) (has_at made i c.loop-i-test.true) in
+    let small = c.requires.small (get_or made i 0) (has_at made i 0 c.loop-i-test.true) in
     omega (arith, small, c.loop-i.invariant.range.0, c.loop-i.lists.ok.0)
 
 pub loop-i-preserved : goal.loop-i-preserved
@@ -28,7 +29,7 @@ loop-i-preserved g c =
     let new = c.push.new.self in
     let was = c.loop-i.invariant in
     let here : i < length made = c.loop-i-test.true in
-    let small = c.requires.small row (has_at made i here) in
+    let small = c.requires.small row (has_at made i 0 here) in
     let room : b < length lists = omega (arith, small, was.range.0) in
     let old : list_at lists b ≡ c.index_mut.result.now.items = list_read lists b c.index_mut.result.now room c.index_mut.ensures.value in
     let items : new.items ≡ list_at lists b ++ row ∷ [] = c.in_ok-push.ensures.items ∙ ap (λ ys. ys ++ row ∷ []) (sym old) in
@@ -47,7 +48,7 @@ loop-i-preserved g c =
       before = omega (arith, lower, before);
       least = λ j h. least_next made bound i c.if-b-least.least here low j (least_lower (has (drop i made) j) c.loop-i.least c.if-b-least.least (bound j) lower (was.least j h));
       one = elim c.if-b-least.branch [
-        | then-b-least w ↦ inr (row, has_at made i here, w.least-is)
+        | then-b-least w ↦ inr (row, has_at made i 0 here, w.least-is)
         | else-b-least w ↦ subst (λ x. (x ≡ c.args.least.now) ⊎ ((j : ℕ) × (has made j ≡ true) × (x ≡ bound j))) (sym w.least-is) was.one
       ];
     }

@@ -4,7 +4,8 @@ use Rattle.std.proofs.lemmas.List.{at_drop_more, at_drop_all}
 use Rattle.std.proofs.lemmas.List.Sums.{fold-append}
 use Rattle.amd_model.specs.Tie.{has, add_new}
 use Rattle.amd_rounds.specs.Views.{at, list_at, live_of}
-use Rattle.amd_rounds.proofs.MarkLists.{marks_one, list_read, list_below, gathered_list, gathered_marks, gathered_next}
+use Rattle.amd_rounds.proofs.ListPlaces.{list_read, list_below}
+use Rattle.amd_rounds.proofs.MarkLists.{marks_one, gathered_list, gathered_marks, gathered_next}
 use Rattle.amd_rounds.proofs.marks.front_of.Goals as goal
 
 pub elements-init : goal.elements-init

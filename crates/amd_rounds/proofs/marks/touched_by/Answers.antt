@@ -2,7 +2,8 @@ use Rattle.std.proofs.Common.{ℕ, List, fold, flat_map, ◌≡◌, ◌<◌, ◌
 use Rattle.std.proofs.lemmas.List.{at_drop_more}
 use Rattle.amd_model.specs.Tie.{has, add_new}
 use Rattle.amd_rounds.specs.Views.{at, list_at}
-use Rattle.amd_rounds.proofs.MarkLists.{marks_list, list_read, gathered_list, gathered_marks, gathered_next}
+use Rattle.amd_rounds.proofs.ListPlaces.{list_read}
+use Rattle.amd_rounds.proofs.MarkLists.{marks_list, gathered_list, gathered_marks, gathered_next}
 use Rattle.amd_rounds.proofs.marks.touched_by.Goals as goal
 
 pub front-init : goal.front-init

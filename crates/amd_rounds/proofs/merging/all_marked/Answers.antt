@@ -1,10 +1,9 @@
-use Rattle.std.proofs.Common.{◌+◌, inl, inr, take, get_or, ap, sym, refl, ◌∙◌}
-use Rattle.std.specs.Prelude.{◌==◌}
-use Rattle.std.proofs.lemmas.Bool.{or_cases, eqb-true, cases_Bool}
+use Rattle.std.proofs.Common.{◌+◌, inl, inr, take, ap, sym, refl, ◌∙◌}
+use Rattle.std.proofs.lemmas.Bool.{cases_Bool}
 use Rattle.std.proofs.lemmas.List.{take_all}
-use Rattle.amd_model.specs.Tie.{has, each}
+use Rattle.amd_model.specs.Tie.{each}
 use Rattle.amd_model.proofs.TieLists.{each_gives, each_from, clash}
-use Rattle.amd_rounds.proofs.BoundLists.{has_at, has_more}
+use Rattle.amd_rounds.proofs.Lists.{has_at, more_gives}
 use Rattle.amd_rounds.specs.Views.{at}
 use Rattle.amd_rounds.proofs.merging.all_marked.Goals as goal
 
@@ -23,9 +22,9 @@ loop-j-preserved c =
     let xs = c.args.list.now in
     let k = c.loop-j.j-index in
     let marks = at c.args.marks.now in
-    each_from marks (take (k + 1) xs) (λ x h. elim (or_cases (has (take k xs) x) (get_or xs k 0 == x) (sym (has_more xs k 0 c.loop-j-test.true x) ∙ h)) [
+    each_from marks (take (k + 1) xs) (λ x h. elim (more_gives xs k 0 x c.loop-j-test.true h) [
       | inl q ↦ each_gives marks (take k xs) c.loop-j.invariant x q
-      | inr q ↦ ap marks (sym (eqb-true (get_or xs k 0) x q)) ∙ c.if-not-marks-j.false
+      | inr q ↦ ap marks q ∙ c.if-not-marks-j.false
     ])
 
 pub returns : goal.returns

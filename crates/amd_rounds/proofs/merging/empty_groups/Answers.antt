@@ -1,19 +1,19 @@
 use Rattle.std.proofs.Common.{◌≡◌, ◌<◌, ◌+◌, ◌||◌, inl, inr, ℕ, Bool, true, false, List, [], ◌∷◌, length, get_or, set, take, arith, sym, ap, refl, ◌∙◌}
-use Rattle.std.specs.Prelude.{◌==◌}
-use Rattle.std.proofs.lemmas.Bool.{cases_Bool, or_cases, eqb-true, eq-eqb, or_left, false≢true, cases_eq}
+use Rattle.std.proofs.lemmas.Bool.{cases_Bool, false≢true, cases_eq}
 use Rattle.std.proofs.lemmas.List.{length-set}
 use Rattle.amd_model.specs.Tie.{has}
 use Rattle.amd_model.proofs.TieLists.{clash}
+use Rattle.amd_model.proofs.ListingLemmas.{has_head}
 use Rattle.amd_rounds.specs.Views.{list_at}
 use Rattle.amd_rounds.specs.Groups.{group_in}
-use Rattle.amd_rounds.proofs.BoundLists.{has_more, has_all, list_put, list_other}
+use Rattle.amd_rounds.proofs.Lists.{has_all, more_gives}
+use Rattle.amd_rounds.proofs.ListPlaces.{list_set_same, list_set_other}
 use Rattle.amd_rounds.proofs.merging.empty_groups.Goals as goal
 
 -- a list that names nothing
 nothing : (xs : List ℕ) → ((x : ℕ) → has xs x ≡ true → ⊥) → xs ≡ []
-unfolding has
 nothing [] f = refl
-nothing (x ∷ xs) f = absurd (f x (or_left (x == x) (has xs x) (eq-eqb x x refl)))
+nothing (x ∷ xs) f = absurd (f x (has_head x x xs refl))
 
 pub loop-i-init : goal.loop-i-init
 unfolding has
@@ -31,20 +31,20 @@ loop-i-preserved g c =
     let range = c.group_of-group.ensures.range in
     let room = c.requires.groups in
     let within : at_group < length gs = omega (arith, size, range, room) in
-    let emptied = list_put gs at_group c.clear.new.self within ∙ c.clear.ensures.items in
-    let others = list_other gs at_group in
+    let emptied = list_set_same gs at_group c.clear.new.self within ∙ c.clear.ensures.items in
+    let others = list_set_other gs at_group c.clear.new.self in
     let was : (b r : ℕ) → has (list_at (set gs at_group c.clear.new.self) b) r ≡ true → (Rattle.std.proofs.Common.◌≢◌ b at_group) × (has (list_at gs b) r ≡ true) = λ b r h. elim (cases_eq b at_group) [
       | inl e ↦ absurd (false≢true (sym (ap (λ z. has (list_at (set gs at_group c.clear.new.self) z) r) e ∙ ap (λ ys. has ys r) emptied) ∙ h))
-      | inr ne ↦ (ne, sym (ap (λ ys. has ys r) (others b c.clear.new.self ne)) ∙ h)
+      | inr ne ↦ (ne, sym (ap (λ ys. has ys r) (others b ne)) ∙ h)
     ] in
     record {
       size = length-set gs at_group c.clear.new.self ∙ size;
       grouped = λ b r h. inv.grouped b r (was b r h).1;
       left = λ b r h. (let w = was b r h in elim (cases_Bool (has (take (k + 1) rest) r)) [
         | inr f ↦ f
-        | inl t ↦ elim (or_cases (has (take k rest) r) (get_or rest k 0 == r) (sym (has_more rest k 0 c.loop-i-test.true r) ∙ t)) [
+        | inl t ↦ elim (more_gives rest k 0 r c.loop-i-test.true t) [
           | inl q ↦ clash q (inv.left b r w.1)
-          | inr q ↦ absurd (w.0 (sym (inv.grouped b r w.1).1 ∙ ap (group_in c.args.lists.now.elements.items c.args.lists.now.variables.items) (sym (eqb-true (get_or rest k 0) r q)) ∙ sym c.group_of-group.ensures.group))
+          | inr q ↦ absurd (w.0 (sym (inv.grouped b r w.1).1 ∙ ap (group_in c.args.lists.now.elements.items c.args.lists.now.variables.items) q ∙ sym c.group_of-group.ensures.group))
         ]
       ]);
     }

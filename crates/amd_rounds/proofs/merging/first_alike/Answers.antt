@@ -1,20 +1,17 @@
-use Rattle.std.proofs.Common.{◌≡◌, ◌&&◌, inl, inr, ℕ, Bool, true, false, List, get_or, take, arith, sym, ap, subst, refl, ◌∙◌, Vec}
-use Rattle.std.specs.Prelude.{◌==◌}
-use Rattle.std.proofs.lemmas.Bool.{and_from, and_left, and_right, or_cases, eqb-true, false≢true}
+use Rattle.std.proofs.Common.{◌≡◌, ◌&&◌, inl, inr, ℕ, Bool, false, List, get_or, arith, sym, ap, subst, ◌∙◌, Vec}
+use Rattle.std.proofs.lemmas.Bool.{and_from, and_left, and_right, false≢true}
+use Rattle.std.proofs.Math.Bool.{and_assoc}
 use Rattle.amd_model.specs.Tie.{has, each, Once}
 use Rattle.amd_rounds.specs.Views.{list_at}
 use Rattle.amd_rounds.specs.Rounds.{alike_in}
-use Rattle.amd_rounds.proofs.BoundLists.{has_at, has_more, list_deref}
+use Rattle.amd_rounds.proofs.Lists.{has_at, more_gives}
+use Rattle.amd_rounds.proofs.ListPlaces.{list_deref}
 use Rattle.amd_rounds.proofs.merging.first_alike.Goals as goal
 use Rattle.amd_rounds.proofs.merging.first_alike.Goals.{else-same_list-via-then-same_list+else-same_list-2, else-same_list-via-else-same_list}
 
 -- two lists name the same numbers
 abbrev same : List ℕ → List ℕ → Bool
 same xs ys = each (has ys) xs && each (has xs) ys
-
-and_assoc : (a b c : Bool) → (a && b && c) ≡ (a && (b && c))
-and_assoc true b c = refl
-and_assoc false b c = refl
 
 two_alike : {A : Type 0} (elements variables : List (Vec ℕ A)) (i r : ℕ) → alike_in elements variables i r ≡ (same (list_at elements r) (list_at elements i) && same (list_at variables r) (list_at variables i))
 two_alike elements variables i r = and_assoc (same (list_at elements r) (list_at elements i)) (each (has (list_at variables i)) (list_at variables r)) (each (has (list_at variables r)) (list_at variables i))
@@ -86,7 +83,7 @@ loop-r-preserved g c =
           and_right (same (list_at es r) (list_at es i)) (same (list_at vs r) (list_at vs i)) (sym (same_as _ _ _ _ vr vi) ∙ sym w.same_list-then-same_list.ensures ∙ w.if-same_list-2.false))
       | else-same_list-via-else-same_list w ↦ and_left (same (list_at es r) (list_at es i)) (same (list_at vs r) (list_at vs i)) (sym (same_as _ _ _ _ er ei) ∙ sym c.same_list.ensures ∙ w.if-same_list.false)
     ] in
-    λ x h. elim (or_cases (has (take k group) x) (r == x) (sym (has_more group k 0 c.loop-r-test.true x) ∙ h)) [
+    λ x h. elim (more_gives group k 0 x c.loop-r-test.true h) [
       | inl q ↦ c.loop-r.invariant x q
-      | inr q ↦ ap (alike_in es vs i) (sym (eqb-true r x q)) ∙ unlike
+      | inr q ↦ ap (alike_in es vs i) q ∙ unlike
     ]

@@ -5,7 +5,8 @@ use Rattle.std.proofs.lemmas.Grind.{get_or_default_zero}
 use Rattle.std.proofs.lemmas.List.{length-set, get_or-set_same, get_or-set_other}
 use Rattle.amd_model.specs.Tie.{has}
 use Rattle.amd_rounds.specs.Views.{num, some_at}
-use Rattle.amd_rounds.proofs.BoundLists.{has_at, below_named, changed_more, changed_none, unchanged, changed_all}
+use Rattle.amd_rounds.proofs.Kept.{changed_more, changed_none, unchanged, changed_all}
+use Rattle.amd_rounds.proofs.Lists.{has_at, below_gives}
 use Rattle.amd_rounds.proofs.Joins.{Merged, merged_none, merged_stays, merged_fits, merged_moves, merged_all}
 use Rattle.amd_rounds.proofs.merging.join.Goals as goal
 use Rattle.amd_rounds.proofs.merging.join.Goals.{then-r-i, else-r-i}
@@ -27,7 +28,7 @@ index_mut-requires g c =
     let rest = c.args.rest.now in
     let i : ℕ = get_or rest c.loop-i.i-index 0 in
     let target = c.requires.into i (has_at rest c.loop-i.i-index 0 c.loop-i-test.true) in
-    let small = below_named (length c.args.size.now.items) rest c.requires.range (num c.args.into.now i) target.0 in
+    let small = below_gives (length c.args.size.now.items) rest c.requires.range (num c.args.into.now i) target.0 in
     let room = c.loop-i.invariant.size_room in
     omega (arith, small, room, c.loop-i.size.ok.0)
 
@@ -41,7 +42,7 @@ overflow_add-index_mut g c =
     let target = c.requires.into i (has_at rest k 0 c.loop-i-test.true) in
     let room = c.loop-i.invariant.size_room in
     let i_small = c.requires.range k 0 c.loop-i-test.true in
-    let r_small = below_named (length c.args.size.now.items) rest c.requires.range (into i) target.0 in
+    let r_small = below_gives (length c.args.size.now.items) rest c.requires.range (into i) target.0 in
     let at_i = get_or_default_zero size i c.index.result.now (omega (arith, i_small, room)) in
     let at_r = get_or_default_zero size (into i) c.index_mut.result.now (omega (arith, r_small, room)) in
     let read_i = c.index.ensures in
@@ -66,7 +67,7 @@ loop-i-preserved g c =
     let link_room = inv.link_room in
     let lengths = c.requires.lengths.1 in
     let i_small = c.requires.range k 0 test in
-    let r_small = below_named (length c.args.size.now.items) rest c.requires.range (into i) target.0 in
+    let r_small = below_gives (length c.args.size.now.items) rest c.requires.range (into i) target.0 in
     let i_in : i < length size = omega (arith, i_small, room) in
     let r_in : into i < length size = omega (arith, r_small, room) in
     let l_in : i < length link = omega (arith, i_small, link_room, lengths) in
@@ -87,7 +88,7 @@ loop-i-preserved g c =
           (get_or-set_same one i 0 0 one_in)
           (get_or-set_other one i (into i) 0 0 ne ∙ get_or-set_same size (into i) sum 0 r_in ∙ sum_is)
           (λ x a b. get_or-set_other one i x 0 0 a ∙ get_or-set_other size (into i) x sum 0 b) in
-          let links = changed_more rest k 0 test new olds (some_at link) (some_at (set link i (Some (into i)))) inv.links
+          let links = changed_more rest k 0 test new olds (some_at link) inv.links (some_at (set link i (Some (into i))))
           (λ x a. get_or-set_other link i x (Some (into i)) None a)
           (get_or-set_same link i (Some (into i)) None l_in ∙ sym (cond-true (not (into i == i)) (Some (into i)) (olds i) (not_from_false (into i == i) (ne_eqb (into i) i ne)))) in
           record {
@@ -98,9 +99,9 @@ loop-i-preserved g c =
           })
       | else-r-i w ↦ (
           let self : into i ≡ i = w.if-r-i.false in
-          let links = changed_more rest k 0 test new olds (some_at link) (some_at link) inv.links
+          let links = changed_more rest k 0 test new olds (some_at link) inv.links (some_at link)
           (λ x a. refl)
-          (unchanged rest k 0 test new olds (some_at link) (some_at link) inv.links c.requires.once ∙ sym (cond-false (not (into i == i)) (Some (into i)) (olds i) (not_from_true (into i == i) (eq-eqb (into i) i self)))) in
+          (unchanged rest k 0 test new olds (some_at link) inv.links c.requires.once ∙ sym (cond-false (not (into i == i)) (Some (into i)) (olds i) (not_from_true (into i == i) (eq-eqb (into i) i self)))) in
           record {
             sizes = subst (λ xs. Merged rest into old (k + 1) (num xs)) (sym (ap (λ v. v.items) w.size-is)) (merged_stays rest into old k test (num size) inv.sizes self);
             links = rw (ap (λ v. v.items) w.link-is) links;

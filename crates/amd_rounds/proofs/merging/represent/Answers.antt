@@ -5,7 +5,8 @@ use Rattle.std.proofs.lemmas.List.{length-set, get_or-set_same}
 use Rattle.amd_model.specs.Tie.{has}
 use Rattle.amd_rounds.specs.Views.{list_at, Below}
 use Rattle.amd_rounds.specs.Groups.{group_in}
-use Rattle.amd_rounds.proofs.BoundLists.{list_deref, list_put, list_other, list_read, list_below, lists_put, below_push}
+use Rattle.amd_rounds.proofs.ListPlaces.{list_deref, list_set_same, list_set_other, list_read, list_below, lists_set}
+use Rattle.std.proofs.lemmas.List.Elements.{All-push}
 use Rattle.amd_rounds.proofs.merging.represent.Goals as goal
 
 pub representative_in-found-requires-clause-group_once : goal.representative_in-found-requires-clause-group_once
@@ -35,9 +36,9 @@ returns-in_ok-push-in-None-clause-looked g c =
       (λ x h. c.in-None.ensures.found x (ap (λ xs. has xs x) (read ∙ ap (list_at groups) is) ∙ h)),
       get_or-set_same c.args.scratch.now.into.items i i 0 (omega (arith, size, row)),
       (λ b. elim (cases_eq b at_group) [
-        | inl e ↦ ap (list_at (set groups at_group c.push.new.self)) e ∙ list_put groups at_group c.push.new.self within ∙ pushed ∙ ap (λ m. list_at groups m ++ i ∷ []) (sym e)
+        | inl e ↦ ap (list_at (set groups at_group c.push.new.self)) e ∙ list_set_same groups at_group c.push.new.self within ∙ pushed ∙ ap (λ m. list_at groups m ++ i ∷ []) (sym e)
             ∙ sym (cond-true (b == group_in es vs i) (list_at groups b ++ i ∷ []) (list_at groups b) (eq-eqb b (group_in es vs i) (e ∙ is)))
-        | inr ne ↦ list_other groups at_group b c.push.new.self ne
+        | inr ne ↦ list_set_other groups at_group c.push.new.self b ne
             ∙ sym (cond-false (b == group_in es vs i) (list_at groups b ++ i ∷ []) (list_at groups b) (ne_eqb b (group_in es vs i) (λ q. ne (q ∙ sym is))))
       ]),
     )
@@ -55,7 +56,7 @@ returns-in_ok-push-in-None-clause-ready g c =
     record {
       rows = c.in-None.ensures.rows;
       elements = c.in-None.ensures.elements;
-      groups = lists_put n groups at_group c.push.new.self c.requires.ready.groups (subst (Below n) (sym pushed) (below_push n i (list_at groups at_group) c.requires.row (list_below n groups at_group c.requires.ready.groups range)));
+      groups = lists_set n groups at_group c.push.new.self c.requires.ready.groups (subst (Below n) (sym pushed) (All-push (λ j. j < n) (list_at groups at_group) i (list_below n groups c.requires.ready.groups at_group) c.requires.row));
       beyond = c.requires.ready.beyond;
       into = length-set c.args.scratch.now.into.items i i ∙ c.requires.ready.into;
     }

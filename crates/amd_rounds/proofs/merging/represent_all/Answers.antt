@@ -5,7 +5,8 @@ use Rattle.amd_model.specs.Tie.{has}
 use Rattle.amd_rounds.specs.Views.{num, list_at}
 use Rattle.amd_rounds.specs.Rounds.{alike_in}
 use Rattle.amd_rounds.specs.Groups.{group_in}
-use Rattle.amd_rounds.proofs.BoundLists.{has_at, empties_below}
+use Rattle.amd_rounds.proofs.Lists.{has_at}
+use Rattle.amd_rounds.proofs.ListPlaces.{empty_below}
 use Rattle.amd_rounds.proofs.Representatives.{Found, rep, alike_self, alike_flip, alike_through, alike_grouped, behind_in, found_none, found_more, found_new}
 use Rattle.amd_rounds.proofs.merging.represent_all.Goals as goal
 
@@ -16,7 +17,7 @@ classes-init g c =
     let idle = c.requires.idle in
     record {
       within = omega arith;
-      ready = record { rows = idle.rows; elements = idle.elements; groups = empties_below (length es) c.args.scratch.now.groups.items idle.groups.0 idle.groups.1; beyond = idle.beyond; into = idle.into };
+      ready = record { rows = idle.rows; elements = idle.elements; groups = empty_below (length es) c.args.scratch.now.groups.items idle.groups.0 idle.groups.1; beyond = idle.beyond; into = idle.into };
       found = found_none (alike_in es vs) (alike_self es vs) (alike_flip es vs) (alike_through es vs) c.args.rest.now (group_in es vs) (num c.args.scratch.now.into.items) (list_at c.args.scratch.now.groups.items) idle.groups.1;
       beyond = refl;
     }

@@ -5,7 +5,8 @@ use Rattle.amd_model.specs.Tie.{has, last_that}
 use Rattle.amd_rounds.specs.Views.{num, some_at, ListsBelow}
 use Rattle.amd_rounds.specs.Rounds.{keeps_none, alike_in}
 use Rattle.amd_rounds.specs.Keeps.{IsIdle}
-use Rattle.amd_rounds.proofs.MergeParts.{put_at, part_below, part_once, part_named, part_rows, part_left, into_settled, rows_same, rows_joined, links_joined}
+use Rattle.amd_rounds.proofs.ListPlaces.{put_at}
+use Rattle.amd_rounds.proofs.MergeParts.{part_below, part_once, part_named, part_rows, part_left, into_settled, rows_same, rows_joined, links_joined}
 use Rattle.amd_rounds.proofs.rounds.merge_classes.Goals as goal
 
 pub others_left-requires-clause-elements : goal.others_left-requires-clause-elements

@@ -1,8 +1,8 @@
 use Rattle.std.proofs.Common.{rules, ℕ, true, List, ◌∷◌, ◌++◌, ◌≡◌, ◌<◌, ◌+◌, ◌∙◌, ◌==◌, inl, inr, ap, refl, sym, arith, subst, cond, filter, length, length-set}
 use Rattle.amd_model.specs.Tie.{has, turned}
 use Rattle.amd_rounds.specs.Views.{num, list_at, ListsBelow}
-use Rattle.amd_rounds.proofs.BucketLists.{lists_set}
-use Rattle.amd_rounds.proofs.RenewedParts.{written, list_written, renewed, renewed_small}
+use Rattle.amd_rounds.proofs.ListPlaces.{lists_set, put_at, list_written}
+use Rattle.amd_rounds.proofs.RenewedParts.{renewed, renewed_small}
 use Rattle.amd_rounds.proofs.rounds.renew_classes.Goals as goal
 
 pub renew_bounds-requires-clause-lengths : goal.renew_bounds-requires-clause-lengths
@@ -126,8 +126,8 @@ returns g c =
           | inl e ↦ inl e
           | inr k ↦ inr (k.0, sym (ap (λ l. has l k.0) c.deref-5.ensures.value) ∙ k.1, k.2 ∙ ap (λ l. num l k.0) c.deref-6.ensures.value)
         ];
-        blocks = written c.args.work.now.block.items p c.args.block block_room;
-        fronts = written c.args.work.now.front.items p (c.args.block + c.args.border) front_room;
+        blocks = put_at c.args.work.now.block.items p c.args.block 0 block_room;
+        fronts = put_at c.args.work.now.front.items p (c.args.block + c.args.border) 0 front_room;
         lnz = c.add_front.ensures.lnz;
         ldl = c.add_front.ensures.ldl;
         lu = c.add_front.ensures.lu;

@@ -3,7 +3,8 @@ use Rattle.std.specs.Prelude.{nat_lt}
 use Rattle.std.proofs.lemmas.Bool.{lt-ltb, le-ltb}
 use Rattle.amd_model.specs.Below.{list_below}
 use Rattle.amd_rounds.specs.Views.{num}
-use Rattle.amd_rounds.proofs.StartLists.{empty_below, placed_no, placed_yes, range_yes}
+use Rattle.amd_rounds.proofs.ListPlaces.{empty_below}
+use Rattle.amd_rounds.proofs.StartLists.{placed_no, placed_yes, range_yes}
 use Rattle.amd_rounds.proofs.start.first_placed.Goals as goal
 use Rattle.amd_rounds.proofs.start.first_placed.Goals.{then-size-i-gt0+in_ok-push, else-size-i-gt0}
 
