@@ -1,9 +1,9 @@
 -- The rows of an element outside a front: what is left of the rows of its border when those of the classes of the front that it
 -- holds are taken off.
-use Rattle.std.proofs.Common.{ℕ, Bool, true, false, ◌≡◌, ◌+◌, ◌&&◌, not, cond, inl, inr, refl, sym, ◌∙◌, ap, arith, List, [], ◌∷◌}
+use Rattle.std.proofs.Common.{ℕ, Bool, true, false, ◌≡◌, ◌+◌, ◌&&◌, not, cond, inl, inr, refl, sym, ◌∙◌, ap, arith, List}
 use Rattle.std.specs.Prelude.{filter, sum_by}
 use Rattle.std.proofs.lemmas.Bool.{cases_Bool, and_parts, cond-true, cond-false}
-use Rattle.std.proofs.lemmas.List.Sums.{sum_by-cons}
+use Rattle.std.proofs.lemmas.List.Filters.{sum_by-filter_both}
 use Rattle.amd_model.specs.Below.{count_below}
 use Rattle.amd_model.specs.Graph.{Graph, IsGraph}
 use Rattle.amd_model.specs.State.{State, Live, stands}
@@ -14,16 +14,6 @@ use Rattle.amd_model.proofs.StateLemmas.{live_gives, holds_gives}
 use Rattle.amd_model.proofs.Sound.{live_small, holds_class}
 use Rattle.amd_model.proofs.TieLists.{same_bool, has_filter, once_filter}
 use Rattle.amd_model.proofs.TieSums.{named, named_gives, named_from, class_sum, sum_over}
-
--- a sum is that of what passes a test and that of what does not
-sum_parts : (f : ℕ → ℕ) (p : ℕ → Bool) (xs : List ℕ) → sum_by f xs ≡ sum_by f (filter p xs) + sum_by f (filter (λ x. not (p x)) xs)
-sum_parts f p [] = refl
-sum_parts f p (x ∷ xs) = let rest = sum_parts f p xs in let all = sum_by-cons f x xs in elim (cases_Bool (p x)) [
-  | inl h ↦ (let a = ap (sum_by f) (cond-true (p x) (x ∷ filter p xs) (filter p xs) h) in let b = sum_by-cons f x (filter p xs) in
-      let c = ap (λ b. sum_by f (cond (not b) (x ∷ filter (λ x. not (p x)) xs) (filter (λ x. not (p x)) xs))) h in omega (arith, rest, all, a, b, c))
-  | inr h ↦ (let a = ap (sum_by f) (cond-false (p x) (x ∷ filter p xs) (filter p xs) h) in let b = sum_by-cons f x (filter (λ x. not (p x)) xs) in
-      let c = ap (λ b. sum_by f (cond (not b) (x ∷ filter (λ x. not (p x)) xs) (filter (λ x. not (p x)) xs))) h in omega (arith, rest, all, a, b, c))
-]
 
 module _ (g : Graph) (laws : IsGraph g) (t : Tie) (s : State) (sound : IsSound g s) (fits : Fits g t s) (e : ℕ) (st : stands g s e ≡ true) where
   -- a member of the element is a class, and lists it
@@ -67,4 +57,4 @@ module _ (g : Graph) (laws : IsGraph g) (t : Tie) (s : State) (sound : IsSound g
   pub border_parts : (xs : List ℕ) → Once xs → ((i : ℕ) → has xs i ≡ true → s.home i ≡ Live i) →
       count_below g.size (s.border e) ≡ sum_by (λ i. cond (has (t.elements i) e) (t.size i) 0) xs + sum_by t.size (filter (λ j. not (has xs j)) (t.members e))
   border_parts xs once classes =
-      let all = members_rows in let parts = sum_parts t.size (has xs) (t.members e) in let held = held_rows xs once classes in omega (arith, all, parts, held)
+      let all = members_rows in let parts = sum_by-filter_both (has xs) (λ j. not (has xs j)) (λ j. refl) t.size (t.members e) in let held = held_rows xs once classes in omega (arith, all, parts, held)

@@ -37,10 +37,12 @@ unfolding has turned
 has_turned [] x = refl
 has_turned (y ∷ xs) x = has_append xs (y ∷ []) x ∙ ap (λ b. has xs x || b) (or_none (y == x)) ∙ or_flip (has xs x) (y == x)
 
-filter_yes : (p : ℕ → Bool) (y : ℕ) (xs : List ℕ) → p y ≡ true → filter p (y ∷ xs) ≡ y ∷ filter p xs
+-- the first number of a list passes
+pub filter_yes : (p : ℕ → Bool) (y : ℕ) (xs : List ℕ) → p y ≡ true → filter p (y ∷ xs) ≡ y ∷ filter p xs
 filter_yes p y xs h = cond-true (p y) (y ∷ filter p xs) (filter p xs) h
 
-filter_no : (p : ℕ → Bool) (y : ℕ) (xs : List ℕ) → p y ≡ false → filter p (y ∷ xs) ≡ filter p xs
+-- or does not
+pub filter_no : (p : ℕ → Bool) (y : ℕ) (xs : List ℕ) → p y ≡ false → filter p (y ∷ xs) ≡ filter p xs
 filter_no p y xs h = cond-false (p y) (y ∷ filter p xs) (filter p xs) h
 
 and_false : (a : Bool) → (a && false) ≡ false

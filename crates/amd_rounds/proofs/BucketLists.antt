@@ -5,9 +5,9 @@ use Rattle.std.proofs.lemmas.Bool.{cases_eq, cases_lt, eq-eqb, ne_eqb, eqb-true,
 use Rattle.std.proofs.lemmas.List.{take-append-le, at_drop_more, at_drop_all}
 use Rattle.std.proofs.lemmas.List.Elements.{All-nil, All-take}
 use Rattle.amd_model.specs.Tie.{has}
+use Rattle.amd_model.proofs.TieLists.{filter_yes, filter_no}
 use Rattle.amd_rounds.specs.Views.{list_at, Below}
 use Rattle.amd_rounds.specs.Buckets.{live_in, Popped}
-use Rattle.amd_rounds.proofs.Lists.{filter_yes, filter_no}
 use Rattle.amd_rounds.proofs.ListPlaces.{list_set_same, list_set_other, list_past}
 
 -- a number is pushed to the list of its bound

@@ -8,11 +8,11 @@ use Rattle.std.proofs.lemmas.List.{append-nil}
 use Rattle.std.proofs.lemmas.List.Elements.{filter-append}
 use Rattle.std.proofs.lemmas.List.Sums.{fold_push}
 use Rattle.amd_model.specs.Tie.{has, Once, pivot, last_that}
-use Rattle.amd_model.proofs.TieLists.{clash, has_append, has_filter, once_filter, pivot_least, pivot_named}
+use Rattle.amd_model.proofs.TieLists.{clash, has_append, has_filter, once_filter, pivot_least, pivot_named, filter_yes, filter_no}
 use Rattle.amd_model.proofs.ListingLemmas.{filter_has, has_filter as filter_gives, has_head, has_tail, has_append as append_gives, has_left, has_right}
 use Rattle.amd_rounds.specs.Views.{num, list_at}
 use Rattle.amd_rounds.specs.Buckets.{live_in, lasts, Popped, Chosen}
-use Rattle.amd_rounds.proofs.Lists.{filter_yes, filter_no, filter_named, filter_both}
+use Rattle.amd_rounds.proofs.Lists.{filter_named, filter_both}
 
 -- ---- what filters keep
 

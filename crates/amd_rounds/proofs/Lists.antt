@@ -8,7 +8,7 @@ use Rattle.std.proofs.lemmas.List.Elements.{filter-append}
 use Rattle.std.proofs.lemmas.List.Filters.{sum_by-filter_both}
 use Rattle.std.proofs.lemmas.List.Sums.{sum_by-append, sum_by-cons}
 use Rattle.amd_model.specs.Tie.{has, is_empty, turned, Once}
-use Rattle.amd_model.proofs.TieLists.{clash, has_append, has_turned}
+use Rattle.amd_model.proofs.TieLists.{clash, has_append, has_turned, filter_yes, filter_no}
 use Rattle.amd_model.proofs.ListingLemmas.{has_none, has_head, has_tail, has_cases}
 use Rattle.amd_rounds.specs.Views.{Below}
 
@@ -17,14 +17,6 @@ pub not_empty : (xs : List ℕ) (x : ℕ) → has xs x ≡ true → is_empty xs 
 unfolding is_empty
 not_empty [] x h = absurd (has_none x h)
 not_empty (y ∷ xs) x h = refl
-
--- the first number of a list passes
-pub filter_yes : (p : ℕ → Bool) (y : ℕ) (xs : List ℕ) → p y ≡ true → filter p (y ∷ xs) ≡ y ∷ filter p xs
-filter_yes p y xs h = cond-true (p y) (y ∷ filter p xs) (filter p xs) h
-
--- or does not
-pub filter_no : (p : ℕ → Bool) (y : ℕ) (xs : List ℕ) → p y ≡ false → filter p (y ∷ xs) ≡ filter p xs
-filter_no p y xs h = cond-false (p y) (y ∷ filter p xs) (filter p xs) h
 
 -- tests that agree on what a list names keep the same of it
 pub filter_named : (p q : ℕ → Bool) (xs : List ℕ) → ((x : ℕ) → has xs x ≡ true → p x ≡ q x) → filter p xs ≡ filter q xs

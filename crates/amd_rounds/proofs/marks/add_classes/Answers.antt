@@ -3,9 +3,9 @@ use Rattle.std.specs.Prelude.{nat_lt}
 use Rattle.std.proofs.lemmas.Bool.{lt-ltb, le-ltb}
 use Rattle.std.proofs.lemmas.List.{at_drop_more, at_drop_all, get_or_read}
 use Rattle.amd_model.specs.Tie.{has, add_new}
+use Rattle.amd_model.proofs.TieLists.{filter_yes, filter_no}
 use Rattle.amd_rounds.specs.Views.{at, num, live_of}
 use Rattle.amd_rounds.proofs.MarkLists.{marks_next, marks_end, marks_old, marked_passed, unmarked_added, known_added}
-use Rattle.amd_rounds.proofs.Lists.{filter_yes, filter_no}
 use Rattle.amd_rounds.proofs.marks.add_classes.Goals as goal
 use Rattle.amd_rounds.proofs.marks.add_classes.Goals.{then-size-j-gt0+then-not-index+in_ok-push, else-size-j-gt0, else-size-j-gt0-via-then-size-j-gt0+else-not-index, else-size-j-gt0-via-else-size-j-gt0}
 
