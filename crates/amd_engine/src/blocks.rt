@@ -105,7 +105,7 @@ fn parent_links<A: Allocator + Copy>(
     requires fits { (e p : ℕ) → some_at parent.now e ≡ Some p → p < 2 ^ 63 }
     ensures { IfOk result (λ v. v.items ≡ map link_of parent.now) }
 {
-    let mut links = Vec::new(alloc);
+    let mut links = Vec::with_capacity(alloc, parent.len())?;
     'elements: for e in 0..parent.len() {
         let link = match parent[e] {
             Some(p) => signed(p),
@@ -127,7 +127,7 @@ fn of_elements<A: Allocator + Copy>(
     ensures size { IfOk result (λ v. length v.items ≡ length block.now) }
     ensures numbers { IfOk result (λ v. (e : ℕ) → e < length block.now → at v.items e ≡ pos (cond (nat_lt 0 (num block.now e)) (num numbers.now e) 0)) }
 {
-    let mut sizes = Vec::new(alloc);
+    let mut sizes = Vec::with_capacity(alloc, block.len())?;
     'elements: for e in 0..block.len() {
         let number = if block[e] > 0 { numbers[e] } else { 0 };
         sizes.push(signed(number))?;
@@ -159,7 +159,7 @@ fn those_there<A: Allocator + Copy>(
 ) -> Result<Vec<usize, A>, AllocError>
     ensures { IfOk result (λ v. (n : ℕ) → (listing : List ℕ) → IsByPlace n listing places.now → v.items ≡ listing) }
 {
-    let mut elements = Vec::new(alloc);
+    let mut elements = Vec::with_capacity(alloc, places.len())?;
     'places: for place in places {
         if let Some(e) = place {
             elements.push(*e)?;
@@ -177,7 +177,7 @@ fn rows_in_order<A: Allocator + Copy>(
     requires range { Below (length rows.now.items) elements.now }
     ensures { IfOk result (λ p. p.items ≡ flat_map (λ e. list_at rows.now.items e ++ e ∷ []) elements.now) }
 {
-    let mut p = Vec::new(alloc);
+    let mut p = Vec::with_capacity(alloc, rows.len())?;
     'elements: for e in elements {
         p.extend_from_slice(&rows[*e])?;
         p.push(*e)?;

@@ -234,7 +234,7 @@ pub fn others_left<A: Allocator + Copy>(
     requires variables { Below (length lists.now.variables.items) front.now }
     ensures { IfOk result (λ rest. rest.items ≡ filter (λ i. not (keeps_none lists.now.elements.items lists.now.variables.items i)) front.now) }
 {
-    let mut rest = Vec::new(alloc);
+    let mut rest = Vec::with_capacity(alloc, front.len())?;
     for i in front {
         if !keeps_nothing(lists, *i) {
             rest.push(*i)?;

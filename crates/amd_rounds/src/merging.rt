@@ -248,7 +248,7 @@ pub fn made_of<A: Allocator + Copy>(
     requires range { Below (length into.now) rest.now }
     ensures { IfOk result (λ made. made.items ≡ filter (λ i. num into.now i == i) rest.now) }
 {
-    let mut made = Vec::new(alloc);
+    let mut made = Vec::with_capacity(alloc, rest.len())?;
     for i in rest {
         if into[*i] == *i {
             made.push(*i)?;
