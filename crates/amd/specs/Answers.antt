@@ -103,7 +103,7 @@ IsRefusal n ap ai OutOfMemory = (n ≢ pos 0) × IsInput n n ap ai
 IsRefusal n ap ai OK = ⊥
 IsRefusal n ap ai OkButJumbled = ⊥
 
--- two records tell the same of the pattern
+-- two records tell the same of the pattern and of the number of dense rows
 pub record HaveEqualFigures (one other : Info) : Type 0 where
   pub size : one.n ≡ other.n
   pub entries : one.nz ≡ other.nz

@@ -59,23 +59,27 @@ pub record SpellsItem {Z : Type 0} (line : List ℕ) (item : Item Z) : Type 0 wh
   pub numbers : SpellsNumbers behind (item_numbers item)
   pub fits : FitsItem item
 
--- what an item tells of each field of a case: one value or none
+-- the number of rows and columns that an item tells, if any
 abbrev pub size_of : {Z : Type 0} → Item Z → List ℤ
 size_of (Size n) = n ∷ []
 size_of _ = []
 
+-- the dense row parameter that an item tells, if any
 abbrev pub dense_of : {Z : Type 0} → Item Z → List ℤ
 dense_of (Dense t) = t ∷ []
 dense_of _ = []
 
+-- the aggressive flag that an item tells, if any
 abbrev pub aggressive_of : {Z : Type 0} → Item Z → List Bool
 aggressive_of (Aggressive b) = b ∷ []
 aggressive_of _ = []
 
+-- the pointers that an item tells, if any
 abbrev pub pointers_of : {Z : Type 0} → Item Z → List (List ℤ)
 pointers_of (Pointers v) = v.items ∷ []
 pointers_of _ = []
 
+-- the rows that an item tells, if any
 abbrev pub rows_of : {Z : Type 0} → Item Z → List (List ℤ)
 rows_of (Rows v) = v.items ∷ []
 rows_of _ = []

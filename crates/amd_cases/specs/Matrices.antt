@@ -3,10 +3,11 @@ use Rattle.std.specs.Prelude.{◌≡◌, ℕ, ◌≤◌, ℤ, pos, Option, List,
 use Rattle.std.specs.Int.{w32, w64, cast_signed, from_le_bytes}
 use Rattle.std.specs.Io.KnownBytes.{Consumes}
 
--- the signed number that eight bytes are, and that four are, the least byte first
+-- the signed number that eight bytes are, the least byte first
 abbrev pub wide_of : List ℕ → ℤ
 wide_of bytes = cast_signed w64 (from_le_bytes w64 bytes)
 
+-- the signed number that four bytes are, the least byte first
 abbrev pub narrow_of : List ℕ → ℤ
 narrow_of bytes = cast_signed w32 (from_le_bytes w32 bytes)
 

@@ -10,13 +10,15 @@ use Rattle.amd_cases.specs.declared.reader.ReadError.{ReadError}
 use Rattle.amd_cases.specs.declared.reader.ReadError.TheVariants.{Line, Input, Stopped}
 use Rattle.amd_cases.specs.declared.reader.CaseReader.{CaseReader}
 
--- the input of a reader, the number of lines that it has read, and whether an error came
+-- the input of a reader
 abbrev pub source_of : {R Z : Type 0} → CaseReader R Z → R
 source_of r = r.input
 
+-- the number of lines read
 abbrev pub lines_read : {R Z : Type 0} → CaseReader R Z → ℕ
 lines_read r = r.lines
 
+-- an error came
 abbrev pub has_failed : {R Z : Type 0} → CaseReader R Z → Bool
 has_failed r = r.failed
 

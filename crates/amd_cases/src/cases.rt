@@ -69,7 +69,8 @@ impl<A: Allocator> Draft<A> {
         }
     }
 
-    /// Takes an item in. `Repeated` comes exactly where an item of the same keyword was there, and `Inside` for a `CASE`.
+    /// Takes an item in. `Repeated` comes exactly where an item of the same keyword was there, and `Inside` for a `CASE`. The
+    /// contract says nothing of the fault.
     pub(crate) fn add(&mut self, item: Item<A>) -> Result<(), Fault>
         requires { item_keyword item ≢ key.End }
         ensures adds { OnOk result (Adds self.old self.new item) }

@@ -63,7 +63,7 @@ pub fn keyword_of(word: &[u8]) -> Option<Keyword>
     }
 }
 
-/// The numbers that the words of a text spell.
+/// The numbers that the words of a text spell. Which fault comes is left open, and so is when memory is refused.
 pub fn numbers_of<A: Allocator + Copy>(alloc: A, text: &[u8]) -> Result<Vec<i64, A>, Fault>
     ensures { MatchResult result (λ v. SpellsNumbers (words text.now) v.items)
         (λ e. e ≢ Fault.OutOfMemory → (zs : List ℤ) → SpellsNumbers (words text.now) zs → ⊥) }
@@ -123,7 +123,7 @@ fn item_from<A: Allocator>(keyword: Keyword, numbers: Vec<i64, A>) -> Option<Ite
     }
 }
 
-/// The item that a line spells.
+/// The item that a line spells. Which fault comes is left open, and so is when memory is refused.
 pub fn item_of<A: Allocator + Copy>(alloc: A, line: &[u8]) -> Result<Item<A>, Fault>
     ensures { MatchResult result (SpellsItem line.now) (λ e. e ≢ Fault.OutOfMemory → (i : Item A) → SpellsItem line.now i → ⊥) }
 {

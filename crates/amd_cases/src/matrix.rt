@@ -154,6 +154,11 @@ fn is_at_end<R: Read>(input: &mut R) -> Result<bool, MatrixError>
 }
 
 /// Reads the matrix that a file holds. Whether it is a column form is not looked at, but for the last pointer; an ordering does.
+///
+/// # Errors
+///
+/// A `MatrixError` where the file cannot be read or is no matrix, a number does not fit, or memory is refused. The contract says
+/// nothing of errors.
 pub fn read_matrix<I: PrimInt, R: Read, A: Allocator + Copy>(
     alloc: A,
     input: &mut R,

@@ -144,6 +144,11 @@ impl<R: BufRead + Drop, A: Allocator + Copy> CaseReader<R, A> {
     }
 
     /// The next case, and `None` at the end of the input. After an error each further call answers `Stopped`.
+    ///
+    /// # Errors
+    ///
+    /// `Line` for a line at fault, an input that ends inside a case or refused memory, `Input` where the input cannot be read, and
+    /// `Stopped` after an error. But for `Stopped`, the contract does not say when an error comes, nor which fault it names.
     pub fn next_case(&mut self) -> Result<Option<Case<A>>, ReadError>
         ensures takes { IfOk result (λ o. MatchOption o (IsAtEnd R.remaining self.old self.new) (ReadsCase R.remaining self.old self.new)) }
         ensures line { IfErr result (λ e. NamesLine e (lines_read self.new)) }

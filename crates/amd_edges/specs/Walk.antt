@@ -21,7 +21,7 @@ met n ap ai t k m a b = is_met n ap ai t k m a b || is_met n ap ai t k m b a
 unfoldable pub edges_before : (ℕ → ℕ → Bool) → ℕ → List (ℕ × ℕ)
 edges_before pair k = flat_map (met_at pair) (list_below k (λ c. true))
 
--- of the columns that were read so far, one at or behind row b holds row a
+-- of the columns that were read so far, one at or behind row b holds row a; column n, the end, counts as holding each row
 abbrev pub IsReached : ℕ → List ℕ → List ℕ → ℕ → ℕ → ℕ → ℕ → Type 0
 IsReached n ap ai k m a b = (c : ℕ) × ((c < k) ⊎ ((c ≡ k) × (a < m))) × (c < n → is_entry n ap ai a c ≡ true) × (b ≤ c)
 
@@ -35,15 +35,18 @@ pub record IsScan (n : ℕ) (ap ai t : List ℕ) (k m : ℕ) : Type 0 where
   pub passed : (a c r : ℕ) → a < c → a < n → (c < k) ⊎ ((c ≡ k) × (a < m)) → (c < n → is_entry n ap ai a c ≡ true) → slice_index ap a ≤ r → r < slice_index ap (a + 1) → slice_index ai r ≤ c → r < slice_index t a
   pub reached : (a r : ℕ) → a < n → slice_index ap a ≤ r → r < slice_index t a → (slice_index ai r ≤ a) ⊎ IsReached n ap ai k m a (slice_index ai r)
 
--- the same of pointers and rows as the caller has them: the graph, its entries, the arcs met so far, and a scan
+-- the graph of pointers and rows as the caller has them
 abbrev pub graph_read : ℕ → List ℤ → List ℤ → Graph
 graph_read n ap ai = count_graph n (counts ap) (counts ai)
 
+-- row i stands in column j, for pointers and rows as the caller has them
 abbrev pub entry_read : ℕ → List ℤ → List ℤ → ℕ → ℕ → Bool
 entry_read n ap ai = is_entry n (counts ap) (counts ai)
 
+-- the arcs met so far, for pointers and rows as the caller has them
 abbrev pub met_read : ℕ → List ℤ → List ℤ → List ℕ → ℕ → ℕ → ℕ → ℕ → Bool
 met_read n ap ai t k m = met n (counts ap) (counts ai) t k m
 
+-- the pointers t are right where the columns before k, and column k above row m, were read, of a matrix as the caller has it
 abbrev pub IsScanOf : ℕ → List ℤ → List ℤ → List ℕ → ℕ → ℕ → Type 0
 IsScanOf n ap ai t k m = IsScan n (counts ap) (counts ai) t k m

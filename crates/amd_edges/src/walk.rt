@@ -117,8 +117,8 @@ fn rest<I: PrimInt, V: Visitor, A: Allocator>(
     }
 }
 
-/// Meets each edge of a column form that is sorted once, and counts the diagonal entries. The matrix has `size` rows and
-/// columns, and `next` is empty and has room for a pointer of each column.
+/// Meets each edge of a sorted column form once, and answers the number of diagonal entries. The matrix has `size` rows and
+/// columns, and `next` is empty and has room for a pointer of each column. What `next` holds afterwards is not said.
 ///
 /// For each column `k` in turn: each upper entry `j < k` of it, rising, gives the edge of `j` and `k`, and after it the lower
 /// entries of column `j` that were not read yet and are below `k` give theirs; an entry `k` itself is passed over. At the end

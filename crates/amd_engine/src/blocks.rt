@@ -202,7 +202,12 @@ fn add_last<A: Allocator>(
     Ok(())
 }
 
-/// The rows of a matrix in the order of the end of an elimination.
+/// The listing of a run that has ended: the blocks of its tree in postorder, then the dense rows; each row once. Links of the
+/// record are shortened; what the record then holds is not said.
+///
+/// # Errors
+///
+/// `OutOfMemory` for a refused request.
 pub fn listing<A: Allocator + Copy>(work: &mut Work<A>) -> Result<Vec<usize, A>, Status>
     requires ended { (g : Graph) × (dense : ℕ → Bool) × (aggressive : Bool) × (first : State) × (states : List State) × (t : Tie) × IsGraph g × Run g dense aggressive first states × Stands g dense work.old t (last_state first states) }
     ensures lists { IfOk result (λ p. ListsRun work.old p.items) }

@@ -1,6 +1,6 @@
-// The plain engine: an elimination that keeps one list for each variable and each element, and one list of classes for each
-// bound. Source: Amestoy, Davis and Duff 1996 and 2004. Called by `order` of the crate `amd`. The rounds under `plain_1` stand in
-// the crate `amd_rounds` and are handed on here.
+// The plain engine: an elimination that keeps the lists of the quotient graph (for each class its elements and its variables, for
+// each element its members), and one list of classes for each bound. Source: Amestoy, Davis and Duff 1996 and 2004. Called by
+// `order` of the crate `amd`. The rounds under `plain_1` stand in the crate `amd_rounds` and are handed on here.
 
 ghost use Rattle.std.specs.Prelude.{◌≡◌, ◌<◌, pos, map, length, IfOk, IfErr};
 ghost use Rattle.amd_model.specs.Input.Columns.{IsColumnForm, IsSorted};

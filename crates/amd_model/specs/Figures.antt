@@ -19,15 +19,15 @@ figure share g dense s =
     sum_below g.size (λ e. cond (is_made g s e) (front_sum share (count_below g.size (in_block s e)) (count_below g.size (s.border e) + count_below g.size dense)) 0)
     + front_sum share (count_below g.size dense) 0
 
--- the shares of a column with c entries below the diagonal: its entries (and divisions)
+-- the share of a column with c entries below the diagonal: its entries (and divisions)
 unfoldable pub entries : ℕ → ℕ
 entries c = c
 
--- its multiply-subtract steps in a factorization LDL'
+-- the multiply-subtract steps of a column with c entries below the diagonal in a factorization LDL'
 unfoldable pub ldl_steps : ℕ → ℕ
 ldl_steps c = c * (c + 1) / 2
 
--- and in a factorization LU
+-- the multiply-subtract steps of a column with c entries below the diagonal in a factorization LU
 unfoldable pub lu_steps : ℕ → ℕ
 lu_steps c = c * c
 
@@ -36,7 +36,7 @@ unfoldable pub max_below : ℕ → (ℕ → Bool) → (ℕ → ℕ) → ℕ → 
 max_below zero p f d = d
 max_below (suc n) p f d = max (cond (p n) (f n) 0) (max_below n p f d)
 
--- the greatest of 1, the rows of each front, and the dense rows
+-- the greatest of 1, the number of rows of each front, and that of the dense rows
 unfoldable pub greatest_front : Graph → (ℕ → Bool) → State → ℕ
 greatest_front g dense s =
     max_below g.size (is_made g s) (λ e. count_below g.size (in_block s e) + (count_below g.size (s.border e) + count_below g.size dense))

@@ -12,7 +12,7 @@ pub record Tree : Type 0 where
   pub weight : ℕ → ℕ
   pub block : ℕ → List ℕ
 
--- the parent is e
+-- there is a value, and it is e
 unfoldable pub is_some_of : ℕ → Option ℕ → Bool
 is_some_of e None = false
 is_some_of e (Some p) = p == e

@@ -44,7 +44,7 @@ pub record Promises (g : Graph) (dense : ℕ → Bool) (first : State) (states :
   -- a forest without dense rows has no fill
   pub forest : IsForest g → count_below g.size dense ≡ 0 → HasNoFill g dense (last_state first states) p
 
--- what an ordering promises follows from what it is
+-- each listing in postorder of a run keeps the promises
 abbrev pub OrderingsPromise : Type 0
 OrderingsPromise = (g : Graph) (dense : ℕ → Bool) (aggressive : Bool) (first : State) (states : List State) (p : List ℕ) →
     IsGraph g → Run g dense aggressive first states → IsPostorder g dense (last_state first states) p → Promises g dense first states p

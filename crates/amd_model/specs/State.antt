@@ -20,22 +20,25 @@ pub record State : Type 0 where
   pub border : ℕ → ℕ → Bool
   pub parent : ℕ → Option ℕ
 
--- what a home says: live, eliminated, in the class c, in the block of e
+-- a home says: live
 unfoldable pub live_at : Home → Bool
 live_at Last = false
 live_at (Live c) = true
 live_at (Gone e) = false
 
+-- a home says: eliminated
 unfoldable pub gone_at : Home → Bool
 gone_at Last = false
 gone_at (Live c) = false
 gone_at (Gone e) = true
 
+-- a home says: in the class c
 unfoldable pub class_at : ℕ → Home → Bool
 class_at c Last = false
 class_at c (Live d) = d == c
 class_at c (Gone e) = false
 
+-- a home says: in the block of e
 unfoldable pub block_at : ℕ → Home → Bool
 block_at e Last = false
 block_at e (Live d) = false

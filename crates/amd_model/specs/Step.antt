@@ -39,12 +39,12 @@ pub record Alike (g : Graph) (aggressive : Bool) (s : State) (c x y : ℕ) : Typ
   pub same_elements : (e : ℕ) → e < g.size → other g aggressive s c e ≡ true → holds g s e x ≡ holds g s e y
   pub same_neighbours : (z : ℕ) → z < g.size → outer g s c x z ≡ outer g s c y z
 
--- the rows of the border of e outside L
+-- the number of rows of the border of e outside L
 unfoldable pub beyond : Graph → State → ℕ → ℕ → ℕ
 beyond g s c e = count_below g.size (λ v. s.border e v && not (front g s c v))
 
--- of the class i of the new state: the rows outside L of the borders of the others that hold it, and the rows of its direct
--- neighbours outside L and c
+-- of the class i of the new state: the number of rows outside L of the border of each other that holds it, summed up, plus the
+-- number of rows of its direct neighbours outside L and c
 unfoldable pub outside : Graph → Bool → State → State → ℕ → ℕ → ℕ
 outside g aggressive old new c i =
     sum_below g.size (λ e. cond (other g aggressive old c e && holds g new e i) (beyond g old c e) 0)

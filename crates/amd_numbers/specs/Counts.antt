@@ -7,7 +7,7 @@ use Rattle.amd_model.specs.Graph.{Graph}
 abbrev pub counts : List ℤ → List ℕ
 counts xs = map unsigned_abs xs
 
--- row i stands in column j before the place `limit`
+-- row i stands at a place from the start of column j on, before the place limit
 unfoldable pub is_before : List ℕ → List ℕ → ℕ → ℕ → ℕ → Bool
 is_before ap ai limit i j = any_below limit (λ q. nat_le (slice_index ap j) q && nat_eq (slice_index ai q) i)
 

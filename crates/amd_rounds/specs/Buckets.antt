@@ -17,8 +17,8 @@ abbrev pub Popped : List ℕ → List ℕ → ℕ → List ℕ → List ℕ → 
 Popped size bound b old new None = (new ≡ []) × (live_in size bound b old ≡ [])
 Popped size bound b old new (Some i) = (tail : List ℕ) × (old ≡ new ++ (i ∷ tail)) × (live_in size bound b (i ∷ []) ≡ i ∷ []) × (live_in size bound b tail ≡ [])
 
--- the class c was taken out of the list of the bound least, the last one of it; the lists of the lower bounds that were looked
--- through named no class, and are empty now; the others stay
+-- the last class of the bound least was taken out of its list: c; the lists looked through before held no class of their bound and
+-- are empty now; the others stay
 pub record Chosen {A : Type 0} (size bound : List ℕ) (old new : List (Vec ℕ A)) (before least c : ℕ) : Type 0 where
   pub rise : before ≤ least
   pub lower : (b : ℕ) → before ≤ b → b < least → (list_at new b ≡ []) × (live_in size bound b (list_at old b) ≡ [])

@@ -5,7 +5,7 @@ use Rattle.amd_rounds.specs.Views.{list_at, ListsBelow, Clear}
 use Rattle.amd_rounds.specs.Rounds.{alike_in}
 use Rattle.amd_rounds.specs.declared.work.Scratch.{Scratch}
 
--- the sum of a list, as far as a word holds it
+-- the sum of a list, modulo 2^64
 abbrev pub wrapped_sum : List ℕ → ℕ
 wrapped_sum xs = sum_by (λ j. j) xs % 2 ^ 64
 
@@ -13,7 +13,7 @@ wrapped_sum xs = sum_by (λ j. j) xs % 2 ^ 64
 abbrev pub group_in : {A : Type 0} → List (Vec ℕ A) → List (Vec ℕ A) → ℕ → ℕ
 group_in elements variables i = ((wrapped_sum (list_at elements i) + wrapped_sum (list_at variables i)) % 2 ^ 64) % length elements
 
--- the class of a list that is alike to the class i: there is none, or it is one of them
+-- what a search in a list finds: None if no class there is alike to i, else one that is
 abbrev pub FoundIn : {A : Type 0} → List (Vec ℕ A) → List (Vec ℕ A) → ℕ → List ℕ → Option ℕ → Type 0
 FoundIn elements variables i group None = (r : ℕ) → has group r ≡ true → alike_in elements variables i r ≡ false
 FoundIn elements variables i group (Some r) = (has group r ≡ true) × (alike_in elements variables i r ≡ true)

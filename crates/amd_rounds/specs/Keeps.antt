@@ -44,7 +44,7 @@ pub record LinksEnd (links : List (Option ℕ)) (rank : ℕ → ℕ) (top : ℕ)
   pub ends : (v : ℕ) → some_at links v ≡ None → rank v ≡ top
   pub below : (v u : ℕ) → some_at links v ≡ Some u → rank v < top
 
--- a linked row is where the row is to which it is linked, and one without a link is a representative, a pivot row, or held last
+-- a linked row is where its target is; exactly the representatives, the pivot rows and the rows held last have no link; links end
 pub record LinksLead (links : List (Option ℕ)) (home : ℕ → Home) : Type 0 where
   pub linked : (v u : ℕ) → some_at links v ≡ Some u → home v ≡ home u
   pub alone : (v : ℕ) → some_at links v ≡ None → (home v ≡ Live v) ⊎ (home v ≡ Gone v) ⊎ (home v ≡ Last)
@@ -99,7 +99,7 @@ abbrev pub IsRound : {A : Type 0} → Bool → Work A → Work A → Type 0
 IsRound aggressive old new = (g : Graph) (dense : ℕ → Bool) (t : Tie) (s : State) → Stands g dense old t s →
     (is_empty t.placed ≡ false) × ((u : State) × StepAt g aggressive (pivot t.bound t.placed) s u × Stands g dense new (next aggressive t) u)
 
--- and here for lists and a state some rounds later
+-- whatever lists and state the old record stands for, the new one stands for lists and a state some rounds later
 abbrev pub AreRounds : {A : Type 0} → Bool → Work A → Work A → Type 0
 AreRounds aggressive old new = (g : Graph) (dense : ℕ → Bool) (t : Tie) (s : State) → Stands g dense old t s →
     (u : Tie) × ((states : List State) × Follows g aggressive t s states u × Stands g dense new u (last_state s states))

@@ -8,14 +8,14 @@ use Rattle.amd_rounds.specs.Rounds.{firsts, keeps_none, alike_in, Absorbed, boun
 use Rattle.amd_rounds.specs.Keeps.{IsSized}
 use Rattle.amd_rounds.specs.declared.work.Work.{Work}
 
--- what a part of a round leaves as it was: the sizes, bounds and links of rows
+-- what a part of a round leaves as it was: the sizes, bounds and links of rows, and the number of live rows
 pub record KeepsRows {A : Type 0} (w v : Work A) : Type 0 where
   pub size : v.size ≡ w.size
   pub bound : v.bound ≡ w.bound
   pub link : v.link ≡ w.link
   pub live : v.live ≡ w.live
 
--- the numbers of the elements, the dense rows and the figures
+-- a part of a round leaves the numbers of the elements, the number of dense rows and the figures as they were
 pub record KeepsElements {A : Type 0} (w v : Work A) : Type 0 where
   pub block : v.block ≡ w.block
   pub front : v.front ≡ w.front

@@ -5,7 +5,7 @@ use Rattle.amd_model.specs.Tie.{has, each, is_empty, add_new}
 use Rattle.amd_rounds.specs.Views.{num, some_at, list_at}
 use Rattle.amd_rounds.specs.declared.work.Lists.{Lists}
 
--- a list without repeats of the pivot and of what stands in it already: what is new in each of several lists, in turn
+-- the numbers of a list that are not skipped, each at its first occurrence
 abbrev pub firsts : (ℕ → Bool) → List ℕ → List ℕ
 firsts skip xs = fold (add_new skip) [] xs
 
@@ -22,7 +22,7 @@ alike_in elements variables i j = each (has (list_at elements i)) (list_at eleme
 abbrev pub less : ℕ → ℕ → ℕ → List ℕ → ℕ
 less e rows b xs = fold (λ m x. cond (x == e) (m - rows) m) b xs
 
--- the rows of the border of e, those of block and border without its block, less the rows of the classes of a front that list it
+-- the number of rows of the border of e (block and border less the block), less that of each class of a front that lists it
 abbrev pub rows_left : {A : Type 0} → List ℕ → List ℕ → List ℕ → List (Vec ℕ A) → List ℕ → ℕ → ℕ
 rows_left block whole size elements front e = fold (λ m i. less e (num size i) m (list_at elements i)) (num whole e - num block e) front
 
@@ -31,7 +31,7 @@ pub record Absorbed {A : Type 0} (aggressive : Bool) (c : ℕ) (front size block
   -- the elements that hold a class of the front and not the pivot
   pub touched : List ℕ
   pub touched_is : touched ≡ firsts (has (list_at old.elements.items c)) (flat_map (list_at old.elements.items) front)
-  -- the rows of each of them outside the front
+  -- the number of rows of each of them outside the front
   pub counted : (e : ℕ) → has touched e ≡ true → num beyond e ≡ rows_left block whole size old.elements.items front e
   -- what is absorbed: the elements of the pivot, and with `aggressive` those with no row outside
   pub taken : ℕ → Bool
@@ -43,7 +43,6 @@ pub record Absorbed {A : Type 0} (aggressive : Bool) (c : ℕ) (front size block
       ≡ cond (has front i) (filter (λ j. nat_lt 0 (num size j) && not (j == c || has front j)) (list_at old.variables.items i)) (list_at old.variables.items i)
   pub members : new.members ≡ old.members
 
--- the new bound of a class: of its old bound and the rows that its lists reach the lesser, then the other rows of the border, but
--- no more than the other rows that are live
+-- the lesser of the old bound and the number of rows that the lists reach, plus the other border rows; at most the other live rows
 abbrev pub bound_after : {A : Type 0} → ℕ → ℕ → Lists A → List ℕ → List ℕ → List ℕ → ℕ → ℕ
 bound_after border live lists beyond size bound i = min (min (num bound i) (cut (sum_by (num beyond) (list_at lists.elements.items i) + sum_by (num size) (list_at lists.variables.items i))) + (border - num size i)) (live - num size i)

@@ -1,6 +1,7 @@
-// What the classes of a new element keep: the rows outside of the elements that they also stand in are counted, the elements
-// that the new one absorbs are left out of their lists, and so are the classes that the new one explains.
-// Source: Amestoy, Davis and Duff 1996 (element absorption, aggressive absorption). For the rounds of an engine.
+// What the classes of a new element keep: the rows outside of the elements that they also stand in are counted, and the elements
+// that the new one absorbs and the variables that lie in the new element are left out of their lists. A class that then keeps
+// nothing is mass-eliminated.
+// Source: Amestoy, Davis and Duff 1996 (element absorption, aggressive absorption, mass elimination). Called by `rounds`.
 
 ghost use Rattle.std.specs.Prelude.{[], ◌≡◌, ◌<◌, ◌^◌, ◌||◌, ◌&&◌, ◌==◌, ◌-◌, not, cond, nat_eq, nat_lt, ℕ, Some, true, false, filter, length, sum_by, OnOk, IfOk};
 ghost use Rattle.amd_model.specs.Tie.{has, Once};
@@ -12,7 +13,8 @@ use crate::marks::{clear_all, touched_by};
 use crate::work::{Lists, Scratch};
 use std::alloc::{AllocError, Allocator};
 
-/// Writes, for each element of a list, the rows of its border: those of block and border without those of its block.
+/// Writes, for each element of a list, the number of rows of its border: that of block and border less that of its block.
+/// In the rounds it never goes below 0; saturating spares a condition.
 fn count_borders<A: Allocator>(
     touched: &[usize],
     block: &[usize],
@@ -29,7 +31,8 @@ fn count_borders<A: Allocator>(
     }
 }
 
-/// Takes the rows of a class off the numbers of the elements in its list.
+/// Takes the number of rows of a class off the numbers of the elements in its list. In the rounds no number goes below 0;
+/// saturating spares a condition.
 fn take_off<A: Allocator>(rows: usize, elements: &[usize], beyond: &mut Vec<usize, A>)
     requires range { Below (length beyond.old.items) elements.now }
     ensures size { length beyond.new.items ≡ length beyond.old.items }
@@ -40,8 +43,8 @@ fn take_off<A: Allocator>(rows: usize, elements: &[usize], beyond: &mut Vec<usiz
     }
 }
 
-/// Counts, for each element of a list, the rows of its border that are in no class of the front: each class is taken off the
-/// elements that it lists, so no list of members is gone through.
+/// Writes, for each element of a list, the number of rows of its border in no class of the front: the rows of each class are taken
+/// off the elements that it lists, so no list of members is gone through.
 fn count_beyond<A: Allocator>(
     touched: &[usize],
     front: &[usize],
@@ -103,7 +106,7 @@ fn adopt<A: Allocator>(
     }
 }
 
-/// A number is marked.
+/// Whether a number is marked.
 fn is_marked(marks: &[bool], j: usize) -> bool
     ensures { result ≡ at marks.now j }
 {
@@ -113,7 +116,7 @@ fn is_marked(marks: &[bool], j: usize) -> bool
     }
 }
 
-/// A number names a class that is not marked.
+/// Whether a number names a class that is not marked.
 fn is_outside(size: &[usize], marks: &[bool], j: usize) -> bool
     ensures { result ≡ (nat_lt 0 (num size.now j) && not (at marks.now j)) }
 {
@@ -163,7 +166,9 @@ fn shorten<A: Allocator>(
 }
 
 /// The new element of the pivot absorbs elements, and the classes of its front keep what is left. The front and the pivot are
-/// marked before; nothing is after. `block` tells the rows of the block of each element, and `whole` those of block and border.
+/// marked before; nothing is after. `block` tells the number of rows of the block of each element, and `whole` that of block and
+/// border. `beyond` gets, for each element that holds a class of the front and not the pivot, the number of rows of its border in
+/// no class of the front. What `into` and the other places of `beyond` then hold is left open.
 pub fn absorb<A: Allocator + Copy>(
     alloc: A,
     pivot: usize,
@@ -215,7 +220,7 @@ pub fn absorb<A: Allocator + Copy>(
     Ok(())
 }
 
-/// A class keeps neither an element nor a variable.
+/// Whether a class keeps neither an element nor a variable.
 fn keeps_nothing<A: Allocator>(lists: &Lists<A>, i: usize) -> bool
     requires elements { i < length lists.now.elements.items }
     requires variables { i < length lists.now.variables.items }
@@ -265,7 +270,7 @@ pub fn retire<A: Allocator>(
     }
 }
 
-/// The rows of the classes of a list.
+/// The number of rows of the classes of a list.
 pub fn rows_of(list: &[usize], size: &[usize]) -> usize
     requires range { Below (length size.now) list.now }
     requires fits { sum_by (num size.now) list.now < 2 ^ 64 }

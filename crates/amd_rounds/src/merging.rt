@@ -1,7 +1,7 @@
 // Merging: classes of a new element that keep the same elements and the same variables become one, which the last of them
 // represents. Only classes of one group are compared: groups are made by the sum of the two lists modulo the number of rows. Of two
-// lists the lengths are compared before the entries.
-// Source: Amestoy, Davis and Duff 1996 (supervariables, approximate hashing). For the rounds of an engine.
+// lists the lengths are compared before the entries. A *group* is a hash bucket; the lists of `buckets` are the degree lists.
+// Source: Amestoy, Davis and Duff 1996 (supervariables, found by a hash function). Called by `rounds`.
 
 ghost use Rattle.std.specs.Prelude.{[], ◌≡◌, ◌≢◌, ◌<◌, ◌^◌, ◌&&◌, ◌==◌, not, cond, ℕ, Some, true, filter, length, sum_by, OnOk, IfOk};
 ghost use Rattle.amd_model.specs.Tie.{has, each, Once, last_that};
@@ -14,7 +14,7 @@ use crate::marks::{clear_all, mark_all};
 use crate::work::{Lists, Scratch};
 use std::alloc::{AllocError, Allocator};
 
-/// The sum of a list, modulo the numbers of a word.
+/// The sum of a list, modulo 2^64.
 fn sum_of(list: &[usize]) -> usize
     ensures { result ≡ wrapped_sum list.now }
 {
@@ -25,7 +25,7 @@ fn sum_of(list: &[usize]) -> usize
     total
 }
 
-/// Each number of a list is marked.
+/// Whether each number of a list is marked.
 fn all_marked(list: &[usize], marks: &[bool]) -> bool
     requires range { Below (length marks.now) list.now }
     ensures { result ≡ each (at marks.now) list.now }
@@ -47,7 +47,7 @@ fn group_of<A: Allocator>(i: usize, lists: &Lists<A>) -> usize
     sum_of(&lists.elements[i]).wrapping_add(sum_of(&lists.variables[i])) % lists.elements.len()
 }
 
-/// Two lists that name each number once name the same ones, of which those of the second are marked.
+/// Whether two lists that name each number once name the same ones; exactly those of the second are marked.
 fn same_list(list: &[usize], other: &[usize], marks: &[bool]) -> bool
     requires range { Below (length marks.now) list.now }
     requires once { Once list.now × Once other.now }
@@ -192,7 +192,8 @@ fn empty_groups<A: Allocator>(rest: &[usize], lists: &Lists<A>, groups: &mut Vec
     }
 }
 
-/// Finds the representative of each class of a list: the last one of the list that keeps the same elements and variables.
+/// Finds the representative of each class of a list: the last one of the list that keeps the same elements and variables. Other
+/// places of `into` are left open.
 pub fn representatives<A: Allocator>(
     rest: &[usize],
     lists: &Lists<A>,

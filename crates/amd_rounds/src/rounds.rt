@@ -1,4 +1,5 @@
-// The rounds of an elimination that keeps one list for each variable and each element, and one list of classes for each bound.
+// The rounds of an elimination that keeps the lists of the quotient graph (for each class its elements and its variables, for each
+// element its members), and one list of classes for each bound.
 // Source: Amestoy, Davis and Duff 1996 and 2004. Called by `plain_1` of the crate `amd_engine`.
 // The goals of the functions that call many parts are answered by hand (`tactic(none)`): a search through all that the parts say
 // takes minutes.
@@ -56,7 +57,7 @@ fn make_element<A: Allocator + Copy>(
 }
 
 /// Eliminates the pivot and the classes of its front that keep nothing, and merges others that are alike. Answers the classes that
-/// are left, and the rows of the border and of the block.
+/// are left, and the numbers of rows of the border and of the block.
 #[tactic(none)]
 fn merge_classes<A: Allocator + Copy>(
     work: &mut Work<A>,
@@ -121,7 +122,13 @@ fn renew_classes<A: Allocator + Copy>(
     Ok(())
 }
 
-/// One round: chooses a pivot, makes its element, and gives the classes of the element their new lists, rows and bounds.
+/// One round: chooses a pivot, makes its element, and gives the classes of the element their new lists, numbers of rows and bounds.
+/// A row must be live. The contract says what the record stands for; the rest (entries at what is no class or element, stale
+/// entries, how low `least` is) is left open.
+///
+/// # Errors
+///
+/// `AllocError` for a refused request. What the record then holds is not said.
 #[tactic(none)]
 pub fn round<A: Allocator + Copy>(work: &mut Work<A>, control: &Control) -> Result<(), AllocError>
     requires stands { (g : Graph) × (dense : ℕ → Bool) × (t : Tie) × (s : State) × Stands g dense work.old t s }
@@ -134,7 +141,12 @@ pub fn round<A: Allocator + Copy>(work: &mut Work<A>, control: &Control) -> Resu
     renew_classes(work, pivot, made, border, block)
 }
 
-/// Rounds until no row is live.
+/// Rounds until no row is live. The contract says what the record stands for; the rest (entries at what is no class or element,
+/// stale entries, how low `least` is) is left open.
+///
+/// # Errors
+///
+/// `AllocError` for a refused request. What the record then holds is not said.
 pub fn eliminate<A: Allocator + Copy>(
     work: &mut Work<A>,
     control: &Control,

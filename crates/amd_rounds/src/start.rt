@@ -1,5 +1,6 @@
 // The start of an elimination: the rows that are neither dense nor empty are classes of their own, each placed under its degree,
-// and the empty rows are elements. Source: Amestoy, Davis and Duff 1996; the AMD user guide on dense rows. For an engine.
+// and the empty rows are elements. Source: Amestoy, Davis and Duff 1996; the AMD user guide on dense rows. Called by `plain_1` of
+// the crate `amd_engine`.
 
 ghost use Rattle.std.specs.Prelude.{◌≡◌, ◌==◌, ◌&&◌, ℕ, [], map, cond, nat_eq, nat_lt, nat_le, length, IfOk};
 ghost use Rattle.amd_model.specs.Below.{count_below, list_below};
@@ -25,7 +26,7 @@ pub fn empty_lists<A: Allocator + Copy>(
     Ok(lists)
 }
 
-/// The rows of the class of a row: 1 if it is neither dense nor empty.
+/// The number of rows of the class of a row: 1 if it is neither dense nor empty.
 fn class_size(degree: usize, threshold: usize) -> usize
     ensures { result ≡ cond (nat_lt 0 degree && nat_le degree threshold) 1 0 }
 {
@@ -36,7 +37,7 @@ fn class_size(degree: usize, threshold: usize) -> usize
     }
 }
 
-/// The rows of each class: 1 for a row that is neither dense nor empty.
+/// The number of rows of each class: 1 for a row that is neither dense nor empty.
 fn first_sizes<A: Allocator + Copy>(
     alloc: A,
     degrees: &[usize],
@@ -51,14 +52,14 @@ fn first_sizes<A: Allocator + Copy>(
     Ok(sizes)
 }
 
-/// The rows of the element of a row: 1 if it is empty.
+/// The number of rows of the element of a row: 1 if it is empty.
 fn block_size(degree: usize) -> usize
     ensures { result ≡ cond (nat_eq degree 0) 1 0 }
 {
     if degree == 0 { 1 } else { 0 }
 }
 
-/// The rows of each element: 1 for an empty row.
+/// The number of rows of each element: 1 for an empty row.
 fn first_blocks<A: Allocator + Copy>(
     alloc: A,
     degrees: &[usize],
@@ -119,7 +120,12 @@ fn scratch<A: Allocator + Copy>(alloc: A, n: usize) -> Result<Scratch<A>, AllocE
 }
 
 /// The start of an elimination of a matrix whose rows have the neighbours `rows` and as many of them as `degrees` says; the rows
-/// of greater degree than `threshold` are held last.
+/// of greater degree than `threshold` are held last. The contract says what the record stands for; the rest (entries at what is no
+/// class or element, stale entries, how low `least` is) is left open. Of rows and degrees that no graph has it says nothing.
+///
+/// # Errors
+///
+/// `AllocError` for a refused request.
 pub fn start<A: Allocator + Copy>(
     alloc: A,
     rows: Vec<Vec<usize, A>, A>,

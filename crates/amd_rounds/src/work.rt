@@ -1,11 +1,11 @@
 // What an elimination keeps between two rounds. Source: Amestoy, Davis and Duff 1996 (quotient graph). Filled by `start`, changed
-// by the rounds of an engine.
+// by `rounds`.
 
 use amd_numbers::figures::Figures;
 use std::alloc::Allocator;
 
-/// One list for each variable and each element. Rows, classes and elements are numbers below the size of the matrix: a class is
-/// named by its representative, and an element by its pivot row.
+/// The lists of the quotient graph: for each class its elements and its variables, for each element its members. Rows, classes and
+/// elements are numbers below the size of the matrix: a class is named by its representative, and an element by its pivot row.
 #[derive(Drop)]
 pub struct Lists<A: Allocator> {
     /// The direct neighbours of each class. What is a class no longer may stand among them.
@@ -19,15 +19,15 @@ pub struct Lists<A: Allocator> {
 /// Room for a round: marks, which are clear between rounds, groups, which are empty then, and numbers that mean nothing then.
 #[derive(Drop)]
 pub struct Scratch<A: Allocator> {
-    /// Marks of rows.
+    /// Marks of classes, and of the pivot.
     pub rows: Vec<bool, A>,
     /// Marks of elements.
     pub elements: Vec<bool, A>,
     /// Groups of classes, in which those alike are looked for.
     pub groups: Vec<Vec<usize, A>, A>,
-    /// The rows of an element outside the front.
+    /// For each element met in a round, the number of rows of its border in no class of the front.
     pub beyond: Vec<usize, A>,
-    /// The representative of a class of the front.
+    /// For each class of the front that is left, the class that represents it (itself, if it stays).
     pub into: Vec<usize, A>,
 }
 
@@ -36,7 +36,7 @@ pub struct Scratch<A: Allocator> {
 pub struct Work<A: Allocator> {
     /// What asks for memory.
     pub alloc: A,
-    /// The list of each variable and each element.
+    /// The lists of the quotient graph.
     pub lists: Lists<A>,
     /// The number of rows of each class, and 0 for what is no class.
     pub size: Vec<usize, A>,

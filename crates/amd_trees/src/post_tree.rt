@@ -10,9 +10,9 @@ use amd_numbers::internal::{copy_link, link_at, set_link};
 ///
 /// `child[i]` is the first child of node `i`, and `sibling[i]` the next one after it; `EMPTY` ends a list. `order[i]` becomes
 /// the number of node `i`. All nodes are places of `child` and `order`, and all but the root are places of `sibling`. There
-/// are at most `stack.len()` nodes, and `k` and their number are at most `nn`. There is no recursion: the stack holds the path
+/// are at most `stack.len()` nodes, and `k` plus their number is at most `nn`. There is no recursion: the stack holds the path
 /// from the root to the node at hand, and a place of `child` the child to go to next, so it is used up. Places of `order` and
-/// `child` of no node of this tree stay.
+/// `child` of no node of this tree stay. What the stack then holds is not said.
 pub fn post_tree(
     root: usize,
     k: usize,

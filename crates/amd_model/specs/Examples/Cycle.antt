@@ -6,10 +6,11 @@ use Rattle.amd_model.specs.Input.Pattern.{graph_of, is_pair}
 use Rattle.amd_model.specs.Tie.{Tie, start_tie, starting_list}
 use Rattle.amd_model.specs.Examples.Table.{Table, state_of, none_dense}
 
--- the column pointers and the row indices
+-- the column pointers
 abbrev pub pointers : List ℤ
 pointers = pos 0 ∷ pos 2 ∷ pos 3 ∷ pos 4 ∷ pos 4 ∷ []
 
+-- the row indices
 abbrev pub rows : List ℤ
 rows = pos 1 ∷ pos 3 ∷ pos 2 ∷ pos 3 ∷ []
 
@@ -17,6 +18,7 @@ rows = pos 1 ∷ pos 3 ∷ pos 2 ∷ pos 3 ∷ []
 abbrev pub cycle : Graph
 cycle = graph_of 4 pointers rows
 
+-- the start, given by lists
 abbrev pub start_table : Table
 start_table = record {
   homes = Live 0 ∷ Live 1 ∷ Live 2 ∷ Live 3 ∷ [];
@@ -29,10 +31,11 @@ start_table = record {
 abbrev pub at_start : State
 at_start = state_of start_table
 
--- the same with bounds that are all 0, which no run has: of the old bound and what is outside the lesser one counts
+-- the start with bounds that are all 0, which no run has: of the old bound and what is outside the lesser one counts
 abbrev pub unbound : State
 unbound = record at_start { bound = λ v. 0 }
 
+-- the state after the first pivot, given by lists
 abbrev pub one_table : Table
 one_table = record {
   homes = Live 2 ∷ Live 1 ∷ Live 2 ∷ Gone 3 ∷ [];
@@ -45,6 +48,7 @@ one_table = record {
 abbrev pub after_one : State
 after_one = state_of one_table
 
+-- the state after the second pivot, given by lists
 abbrev pub two_table : Table
 two_table = record {
   homes = Gone 2 ∷ Gone 2 ∷ Gone 2 ∷ Gone 3 ∷ [];
@@ -57,6 +61,6 @@ two_table = record {
 abbrev pub after_two : State
 after_two = state_of two_table
 
--- the same in lists, from the starting lists of the pattern
+-- the start kept in lists, from the starting lists of the pattern
 abbrev pub cycle_tie : Tie
 cycle_tie = start_tie cycle none_dense (starting_list 4 (is_pair 4 pointers rows))

@@ -7,10 +7,11 @@ use Rattle.amd_model.specs.Input.Pattern.{graph_of, is_pair}
 use Rattle.amd_model.specs.Tie.{Tie, start_tie, starting_list}
 use Rattle.amd_model.specs.Examples.Table.{Table, state_of}
 
--- the column pointers and the row indices
+-- the column pointers
 abbrev pub pointers : List ℤ
 pointers = pos 0 ∷ pos 6 ∷ pos 8 ∷ pos 9 ∷ pos 13 ∷ pos 15 ∷ pos 17 ∷ pos 17 ∷ pos 19 ∷ pos 19 ∷ pos 21 ∷ pos 23 ∷ []
 
+-- the row indices
 abbrev pub rows : List ℤ
 rows = pos 1 ∷ pos 2 ∷ pos 3 ∷ pos 4 ∷ pos 5 ∷ pos 7 ∷ pos 1 ∷ pos 4 ∷ pos 6 ∷ pos 0 ∷ pos 4 ∷ pos 5 ∷ pos 6 ∷ pos 3 ∷ pos 9 ∷ pos 3 ∷ pos 9 ∷ pos 4 ∷ pos 10 ∷ pos 6 ∷ pos 7 ∷ pos 2 ∷ pos 9 ∷ []
 
@@ -22,6 +23,7 @@ eleven = graph_of 11 pointers rows
 abbrev pub row_one : ℕ → Bool
 row_one v = v == 1
 
+-- the start, given by lists
 abbrev pub start_table : Table
 start_table = record {
   homes = Live 0 ∷ Last ∷ Live 2 ∷ Live 3 ∷ Live 4 ∷ Live 5 ∷ Live 6 ∷ Live 7 ∷ Gone 8 ∷ Live 9 ∷ Live 10 ∷ [];
@@ -34,6 +36,7 @@ start_table = record {
 abbrev pub at_start : State
 at_start = state_of start_table
 
+-- the state after the first pivot, given by lists
 abbrev pub one_table : Table
 one_table = record {
   homes = Live 0 ∷ Last ∷ Live 2 ∷ Live 3 ∷ Live 4 ∷ Live 5 ∷ Live 6 ∷ Live 7 ∷ Gone 8 ∷ Live 9 ∷ Gone 10 ∷ [];
@@ -46,6 +49,7 @@ one_table = record {
 abbrev pub after_one : State
 after_one = state_of one_table
 
+-- the state after the second pivot, given by lists
 abbrev pub two_table : Table
 two_table = record {
   homes = Live 0 ∷ Last ∷ Live 2 ∷ Live 3 ∷ Live 4 ∷ Live 5 ∷ Gone 6 ∷ Live 7 ∷ Gone 8 ∷ Live 9 ∷ Gone 10 ∷ [];
@@ -58,6 +62,7 @@ two_table = record {
 abbrev pub after_two : State
 after_two = state_of two_table
 
+-- the state after the third pivot, given by lists
 abbrev pub three_table : Table
 three_table = record {
   homes = Live 0 ∷ Last ∷ Live 2 ∷ Live 3 ∷ Live 4 ∷ Gone 5 ∷ Gone 6 ∷ Live 7 ∷ Gone 8 ∷ Live 9 ∷ Gone 10 ∷ [];
@@ -70,6 +75,7 @@ three_table = record {
 abbrev pub after_three : State
 after_three = state_of three_table
 
+-- the state after the fourth pivot, given by lists
 abbrev pub four_table : Table
 four_table = record {
   homes = Live 4 ∷ Last ∷ Live 2 ∷ Gone 3 ∷ Live 4 ∷ Gone 5 ∷ Gone 6 ∷ Live 7 ∷ Gone 8 ∷ Live 2 ∷ Gone 10 ∷ [];
@@ -82,6 +88,7 @@ four_table = record {
 abbrev pub after_four : State
 after_four = state_of four_table
 
+-- the state after the fifth pivot, given by lists
 abbrev pub five_table : Table
 five_table = record {
   homes = Gone 4 ∷ Last ∷ Gone 4 ∷ Gone 3 ∷ Gone 4 ∷ Gone 5 ∷ Gone 6 ∷ Gone 4 ∷ Gone 8 ∷ Gone 4 ∷ Gone 10 ∷ [];
@@ -94,6 +101,6 @@ five_table = record {
 abbrev pub after_five : State
 after_five = state_of five_table
 
--- the same in lists, from the starting lists of the pattern
+-- the start kept in lists, from the starting lists of the pattern
 abbrev pub eleven_tie : Tie
 eleven_tie = start_tie eleven row_one (starting_list 11 (is_pair 11 pointers rows))

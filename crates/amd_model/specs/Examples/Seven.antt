@@ -7,10 +7,11 @@ use Rattle.amd_model.specs.Input.Pattern.{graph_of, is_pair}
 use Rattle.amd_model.specs.Tie.{Tie, start_tie, starting_list}
 use Rattle.amd_model.specs.Examples.Table.{Table, state_of, none_dense}
 
--- the column pointers and the row indices
+-- the column pointers
 abbrev pub pointers : List ℤ
 pointers = pos 0 ∷ pos 2 ∷ pos 6 ∷ pos 9 ∷ pos 11 ∷ pos 12 ∷ pos 12 ∷ pos 12 ∷ []
 
+-- the row indices
 abbrev pub rows : List ℤ
 rows = pos 5 ∷ pos 6 ∷ pos 2 ∷ pos 3 ∷ pos 4 ∷ pos 5 ∷ pos 3 ∷ pos 4 ∷ pos 6 ∷ pos 4 ∷ pos 6 ∷ pos 5 ∷ []
 
@@ -18,6 +19,7 @@ rows = pos 5 ∷ pos 6 ∷ pos 2 ∷ pos 3 ∷ pos 4 ∷ pos 5 ∷ pos 3 ∷ pos
 abbrev pub seven : Graph
 seven = graph_of 7 pointers rows
 
+-- the start, given by lists
 abbrev pub start_table : Table
 start_table = record {
   homes = Live 0 ∷ Live 1 ∷ Live 2 ∷ Live 3 ∷ Live 4 ∷ Live 5 ∷ Live 6 ∷ [];
@@ -30,6 +32,7 @@ start_table = record {
 abbrev pub at_start : State
 at_start = state_of start_table
 
+-- the state after the first pivot, given by lists
 abbrev pub one_table : Table
 one_table = record {
   homes = Gone 0 ∷ Live 1 ∷ Live 2 ∷ Live 3 ∷ Live 4 ∷ Live 5 ∷ Live 6 ∷ [];
@@ -42,6 +45,7 @@ one_table = record {
 abbrev pub after_one : State
 after_one = state_of one_table
 
+-- the state after the second pivot, given by lists
 abbrev pub two_table : Table
 two_table = record {
   homes = Gone 0 ∷ Live 1 ∷ Live 2 ∷ Live 2 ∷ Live 4 ∷ Live 2 ∷ Gone 6 ∷ [];
@@ -54,6 +58,7 @@ two_table = record {
 abbrev pub after_two : State
 after_two = state_of two_table
 
+-- the state after the third pivot, given by lists
 abbrev pub three_table : Table
 three_table = record {
   homes = Gone 0 ∷ Gone 2 ∷ Gone 2 ∷ Gone 2 ∷ Gone 2 ∷ Gone 2 ∷ Gone 6 ∷ [];
@@ -66,6 +71,6 @@ three_table = record {
 abbrev pub after_three : State
 after_three = state_of three_table
 
--- the same in lists, from the starting lists of the pattern
+-- the start kept in lists, from the starting lists of the pattern
 abbrev pub seven_tie : Tie
 seven_tie = start_tie seven none_dense (starting_list 7 (is_pair 7 pointers rows))

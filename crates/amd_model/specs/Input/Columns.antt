@@ -28,15 +28,17 @@ IsSorted n ap ai = (j k : ℕ) → j < n → at ap j ≤ℤ pos k → pos (k + 1
 abbrev pub IsJumbled : ℕ → List ℤ → List ℤ → Type 0
 IsJumbled n ap ai = (j : ℕ) × (k : ℕ) × (j < n) × (at ap j ≤ℤ pos k) × (pos (k + 1) <ℤ at ap (j + 1)) × (at ai (k + 1) ≤ℤ at ai k)
 
--- the same of a number of columns that may be negative, which makes no column form
+-- a column form over m rows, for a number of columns that may be negative; never for a negative one
 abbrev pub IsInput : ℤ → ℤ → List ℤ → List ℤ → Type 0
 IsInput m (pos n) ap ai = IsColumnForm m n ap ai
 IsInput m (negsuc n) ap ai = ⊥
 
+-- each column strictly rises, for a number of columns that may be negative; never for a negative one
 abbrev pub IsSortedInput : ℤ → List ℤ → List ℤ → Type 0
 IsSortedInput (pos n) ap ai = IsSorted n ap ai
 IsSortedInput (negsuc n) ap ai = ⊥
 
+-- some column is jumbled, for a number of columns that may be negative; never for a negative one
 abbrev pub IsJumbledInput : ℤ → List ℤ → List ℤ → Type 0
 IsJumbledInput (pos n) ap ai = IsJumbled n ap ai
 IsJumbledInput (negsuc n) ap ai = ⊥
