@@ -70,7 +70,7 @@ fn places<A: Allocator + Copy>(
 }
 
 /// Seven places, of which the last holds no element, and the place of each in the postorder. Elements 0 to 3 are children of 5,
-/// and 1 and 2 have the largest size among them.
+/// and 1 and 2 have the largest size among them. The places were worked by hand.
 #[derive(Drop)]
 struct Worked {
     parent: [isize; 7],
@@ -145,6 +145,7 @@ fn each_request_of_postorder(rt: HostRuntime) {
             refusals = refuse_at;
         }
     }
+    // The stack, the children, the siblings and the places.
     assert_eq!(rt; refusals, 4);
 }
 
