@@ -141,9 +141,10 @@ fn places_refusing(rt: &impl Abort, alloc: Global, refuse_at: u64) -> bool {
 fn each_request_of_postorder(rt: HostRuntime) {
     let mut refusals = 0;
     for refuse_at in 1..50 {
-        if places_refusing(&rt, rt.alloc(), refuse_at) {
-            refusals = refuse_at;
+        if !places_refusing(&rt, rt.alloc(), refuse_at) {
+            break;
         }
+        refusals = refuse_at;
     }
     // The stack, the children, the siblings and the places.
     assert_eq!(rt; refusals, 4);
