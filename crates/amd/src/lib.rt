@@ -79,15 +79,18 @@ fn order_jumbled<I: PrimInt, A: Allocator + Copy>(
     Ok((p, p_inv, info))
 }
 
-/// Orders the rows of the square matrix with `n` columns whose column `j` holds the rows `a_i[a_p[j]] .. a_i[a_p[j + 1] - 1]`,
-/// by the pattern of `A + A'`, and answers the permutation, its inverse, and what is known of the matrix: row `p[k]` stands at
-/// place `k`, and `p_inv[p[k]]` is `k`.
+/// Orders the rows of the square matrix with `n` columns whose column `j` holds the rows `a_i[a_p[j]..a_p[j + 1]]`, by the pattern
+/// of `A + A'`, and answers the permutation, its inverse, and what is known of the matrix: row `p[k]` stands at place `k`, and
+/// `p_inv[p[k]]` is `k`.
 ///
-/// `a_p` has at least `n + 1` pointers, of which the first is 0; up to `a_p[n]`, which is at most the length of `a_i`, they
-/// never descend; and the row indices before place `a_p[n]` lie in `0..n`. What stands behind is ignored. Columns may be out
-/// of order and have repeats. A sorted input is used as it is, and a jumbled one is replaced by its sorted transpose.
+/// The input is a *column form*: `n` is not negative, `a_p` has at least `n + 1` pointers, of which the first is 0; up to `a_p[n]`,
+/// which is at most the length of `a_i`, they never descend; and the row indices before place `a_p[n]` lie in `0..n`. What stands
+/// behind is ignored. Columns may be out of order and have repeats. A sorted input is used as it is, and a jumbled one is replaced
+/// by its sorted transpose.
 ///
 /// For `n = 0` two empty vectors and `Info::new(0)`, whatever the pointers are.
+///
+/// Of `n_cmp_a` the contract says only that it is at most `n`; and not that `OutOfMemory` comes for no other cause.
 ///
 /// # Errors
 ///

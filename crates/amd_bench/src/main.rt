@@ -49,7 +49,8 @@ fn order_often<R: Runtime + Alloc<A = Global>, I: PrimInt>(
     Ok(Outcome { p, info, times })
 }
 
-/// A hash of a list: from a fixed start, each number is mixed in by an exclusive or and a product.
+/// A hash of a list: from a fixed start, each number is mixed in by an exclusive or and a product. The factor is the FNV-1a prime,
+/// and the start any fixed number, the same in the programs that `docs/BENCHMARKS.md` compares.
 fn hash_of<I: PrimInt>(numbers: &[I]) -> Result<u64> {
     let mut hash: u64 = 1469598103934665603;
     'numbers: for number in numbers {

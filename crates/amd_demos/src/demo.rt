@@ -186,8 +186,8 @@ fn write_permuted_plot<W: Write>(
     Ok(())
 }
 
-/// Orders a matrix, and writes the ordering and the permuted matrix, or that there is no ordering, or none with the status that
-/// it is to have. Answers whether it was the first.
+/// Orders a matrix, and writes the ordering and the permuted matrix, or the line of failure where there is no ordering or its
+/// status is another. Answers whether the ordering was written.
 fn print_outcome<W: Write, A: Allocator + Copy>(
     alloc: A,
     form: Form,
@@ -233,7 +233,7 @@ fn print_demo<W: Write, A: Allocator + Copy>(
 /// with the right status was written, else 1. After a fault of the writer nothing more is written.
 ///
 /// The contract speaks of the status 0 alone: what a writer holds does not tell its faults. The contract of `print_demo` tells the
-/// last line where there was no fault.
+/// last line where there was no fault. What stands before the record and behind the permutations, plots among it, is not said.
 pub fn demo_to<W: Write, A: Allocator + Copy>(
     alloc: A,
     form: Form,

@@ -12,7 +12,7 @@ use std::io::Write;
 
 /// Writes the matrix can_24, orders it, and writes the ordering and the permuted matrix. The answer is the exit status: 0 where
 /// an ordering was written, and 1 where there is none, which the line `AMD failed` says, or after a fault of the writer, when
-/// nothing more is written.
+/// nothing more is written. What stands before the record and behind the permutations, plots among it, is not said.
 pub fn order_to<W: Write, A: Allocator + Copy>(alloc: A, out: &mut W) -> u8
     ensures status { result ≤ 1 }
     ensures written { result ≡ 0 → HasDemo Form.Sorted (pos 24) POINTERS ROWS (W.contents out.old) (W.contents out.new) }

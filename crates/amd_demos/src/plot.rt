@@ -1,4 +1,4 @@
-// A plot of a matrix in letters, a line for each row.
+// A plot of a matrix in letters, a line for each row, after the Rust crate's demos. Called by the demo that prints a matrix.
 
 ghost use Rattle.std.specs.Prelude.{OnOk};
 ghost use Rattle.amd_demos.specs.Demos.{Grows};
@@ -20,9 +20,13 @@ pub enum Marks {
 /// on, where row and column `k` stand at the place `k` from the end of that list on.
 #[derive(Clone, Copy)]
 pub struct Plot<'a> {
+    /// The matrix.
     pub matrix: &'a Matrix<'a>,
+    /// What is marked.
     pub marks: Marks,
+    /// The spaces before the heading.
     pub margin: &'a str,
+    /// The rows at the places from 0 on.
     pub places: &'a [i32],
 }
 

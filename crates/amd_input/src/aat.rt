@@ -53,6 +53,8 @@ fn total(numbers: &[usize]) -> usize
 ///
 /// `OutOfMemory` where an allocation was refused, or there are 2^63 entries or more, so that the sum of the degrees may not
 /// fit; `info` is then as it was.
+///
+/// Source: AMD user guide; Amestoy, Davis and Duff 2004.
 pub fn aat<I: PrimInt, A: Allocator + Copy>(
     alloc: A,
     n: I,

@@ -31,6 +31,12 @@ fn column_class<I: PrimInt>(n_row: I, a_i: &[I], from: usize, to: usize) -> Stat
 /// The class of an input with `n_col` columns and rows in `0..n_row`: `Invalid` where it is no column form, else
 /// `OkButJumbled` where some column is out of order or has a repeat, else `OK`. For `n_col = 0` one pointer, 0, is needed.
 /// Any arguments are allowed, and no memory is taken.
+///
+/// The input is a column form where `n_col` is not negative, `a_p` has at least `n_col + 1` pointers, of which the first is 0, up
+/// to `a_p[n_col]`, which is at most the length of `a_i`, they never descend, and the row indices before place `a_p[n_col]` lie in
+/// `0..n_row`.
+///
+/// Source: AMD user guide.
 pub fn valid<I: PrimInt>(n_row: I, n_col: I, a_p: &[I], a_i: &[I]) -> Status
     ensures { IsStatusOf (I.value n_row) (I.value n_col) (map I.value a_p.now) (map I.value a_i.now) result }
 {

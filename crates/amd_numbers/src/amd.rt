@@ -1,5 +1,6 @@
 // The types that callers see: what they choose, what they are told, and how a call went.
-// Names and fields are those of the Rust crate `amd`; `dense` is a whole number of thousandths.
+// Names and fields are those of the Rust crate `amd`; `dense` is a whole number of thousandths. Called by every crate of the
+// ordering.
 
 ghost use Rattle.std.specs.Prelude.{◌≡◌, pos, false, true};
 ghost use Rattle.amd_numbers.specs.Records.{fresh_info};
@@ -33,7 +34,7 @@ impl Default for Control {
 pub enum Status {
     /// The input is a column form whose columns are strictly rising; in the record of `order`, also any input with `n = 0`.
     OK,
-    /// The input is no column form.
+    /// The input is no column form; `order` tells what that is.
     Invalid,
     /// The input is a column form in which some column is out of order or has a repeat.
     OkButJumbled,
@@ -77,7 +78,8 @@ pub struct Info {
     pub n_mult_subs_ldl: usize,
     /// An upper bound on the multiply-subtract steps of a factorization `LU`.
     pub n_mult_subs_lu: usize,
-    /// The rows of the greatest front: an upper bound on the entries of a column of the factor `L`, with its diagonal.
+    /// The rows of the greatest front: an upper bound on the entries of a column of the factor `L`, with its diagonal; 1 at least
+    /// where there are rows.
     pub d_max: usize,
 }
 

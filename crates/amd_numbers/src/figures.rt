@@ -11,13 +11,14 @@ use crate::internal::front_counts;
 /// What the fronts of a run add up to so far. A sum is exact up to the greatest `usize`, which stands for all that pass it.
 #[derive(Clone, Debug, Drop)]
 pub struct Figures {
-    /// The entries below the diagonal in the columns of the fronts, as many as the divisions, and no fewer than those of the factor.
+    /// The entries below the diagonal in the columns of the fronts, as many as the divisions, and no fewer than those of the
+    /// factor.
     pub lnz: usize,
     /// The multiply-subtract steps of a factorization `LDL'`.
     pub n_mult_subs_ldl: usize,
     /// The multiply-subtract steps of a factorization `LU`.
     pub n_mult_subs_lu: usize,
-    /// The number of rows of the greatest front.
+    /// The number of rows of the greatest front, 1 at least where there are rows.
     pub d_max: usize,
 }
 

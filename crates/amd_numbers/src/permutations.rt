@@ -1,4 +1,4 @@
-// From a listing of the rows to the two permutations that a caller is given. Called at the end of an ordering.
+// From a listing of the rows to the two permutations that a caller is given. Called by `plain_1` at the end of an ordering.
 
 ghost use Rattle.std.specs.Prelude.{ℕ, ◌≡◌, ◌<◌, ◌<ℤ◌, IfOk, length, map, pos, slice_index};
 ghost use Rattle.amd_model.specs.Input.Columns.{at};
@@ -54,6 +54,10 @@ fn places_of<I: PrimInt, A: Allocator>(
 }
 
 /// The listing as a permutation of the caller's numbers, and its inverse.
+///
+/// # Errors
+///
+/// `AllocError` for a refused request.
 pub fn inverse_pair<I: PrimInt, A: Allocator + Copy>(
     alloc: A,
     n: I,

@@ -1,4 +1,5 @@
-// The shares of a front in the figures, and their sums. The expected numbers are sums over columns, worked outside.
+// The shares of a front in the figures, and their sums. The expected numbers are sums over columns, worked by hand
+// and by an independent program.
 
 use amd_engine::internal::front_counts;
 use amd_numbers::amd::Info;

@@ -70,7 +70,7 @@ fn places<A: Allocator + Copy>(
 }
 
 /// Seven places, of which the last holds no element, and the place of each in the postorder. Elements 0 to 3 are children of 5,
-/// and 1 and 2 have the largest size among them.
+/// and 1 and 2 have the largest size among them. The places were worked by hand.
 #[derive(Drop)]
 struct Worked {
     parent: [isize; 7],
@@ -141,10 +141,12 @@ fn places_refusing(rt: &impl Abort, alloc: Global, refuse_at: u64) -> bool {
 fn each_request_of_postorder(rt: HostRuntime) {
     let mut refusals = 0;
     for refuse_at in 1..50 {
-        if places_refusing(&rt, rt.alloc(), refuse_at) {
-            refusals = refuse_at;
+        if !places_refusing(&rt, rt.alloc(), refuse_at) {
+            break;
         }
+        refusals = refuse_at;
     }
+    // The stack, the children, the siblings and the places.
     assert_eq!(rt; refusals, 4);
 }
 

@@ -67,6 +67,7 @@ fn replay<R: BufRead + Drop, W: Write, A: Allocator + Copy>(
     out: &mut W,
 ) -> Result<()> {
     let mut cases = CaseReader::new(alloc, input);
+    // The loop has a bound because every function must return; no input has so many cases.
     'cases: for _ in 0..u64::MAX {
         let Some(case) = cases.next_case()? else {
             return Ok(());

@@ -186,6 +186,7 @@ mod tests {
         }
     }
 
+    /// The columns and their sums were worked by hand.
     #[test]
     fn a_four_cycle_fills_in(rt: HostRuntime) -> Result<(), Fail> {
         let factor = factor_of(rt.alloc(), &[0, 2, 3, 4, 4], &[1, 3, 2, 3], &[3, 0, 1, 2])?;
@@ -203,6 +204,7 @@ mod tests {
         Ok(())
     }
 
+    /// The columns were worked by hand.
     #[test]
     fn five_rows_do_not_fill_in(rt: HostRuntime) -> Result<(), Fail> {
         let a_p = [0, 2, 6, 10, 12, 14];

@@ -20,6 +20,7 @@ fn push_rows<A: Allocator>(
 }
 
 /// The column form of a list of entries, each a row and a column. A column has its rows in the order in which they stand there.
+/// This is slow: it takes `n` times as many steps as there are entries.
 pub fn columns_of<A: Allocator + Copy>(
     alloc: A,
     n: i64,
@@ -163,7 +164,8 @@ pub fn complete<A: Allocator + Copy>(
     columns_of(alloc, n, &entries)
 }
 
-/// Draws a number below `n`, or 0 where `n` is 0: the generator's state makes one step, and its upper 31 bits are taken.
+/// Draws a number below `n`, or 0 where `n` is 0: the generator's state makes one step, and its upper 31 bits are taken. The
+/// factor and the summand are those of Knuth's generator for MMIX.
 pub fn draw(state: &mut u64, n: u64) -> i64 {
     *state = state
         .wrapping_mul(6364136223846793005)

@@ -282,6 +282,7 @@ mod tests {
     use super::{are_inverse, clean_transpose, is_column_form, is_jumbled, threshold};
     use std::test::Fail;
 
+    /// Worked by hand from `(1000 d)^2 <= t^2 n`, where `t` is not negative.
     #[test]
     fn thresholds(rt: HostRuntime) {
         for (t, n, want) in [

@@ -1,4 +1,5 @@
 // The class of an input: `valid` alone, and the refusals of `order`. A fault wins over a jumbled column, wherever either stands.
+// The classes were worked by hand from the definition of a column form.
 
 use amd::valid::valid;
 use amd::{Control, Status, order};

@@ -1,5 +1,6 @@
 // The figures of an ordering beside what the factor under its permutation needs, which is found by searches for paths. The
-// expected needs come from worked examples and from a plain program that follows the path theorem.
+// expected needs come from worked examples and from an independent program that follows the rules, which is no part of this
+// repository.
 
 use crate::worked::widened;
 use amd::{Control, Info, order};

@@ -161,15 +161,19 @@ fn aat_refusing(rt: &impl Abort, alloc: Global, refuse_at: u64) -> bool {
 #[test]
 fn each_request_of_the_inner_calls(rt: HostRuntime) {
     let mut transposes = 0;
-    let mut counts = 0;
     for refuse_at in 1..MANY {
-        if preprocess_refusing(&rt, rt.alloc(), refuse_at) {
-            transposes = refuse_at;
+        if !preprocess_refusing(&rt, rt.alloc(), refuse_at) {
+            break;
         }
-        if aat_refusing(&rt, rt.alloc(), refuse_at) {
-            counts = refuse_at;
-        }
+        transposes = refuse_at;
     }
     assert!(rt; 0 < transposes && transposes < MANY - 1);
+    let mut counts = 0;
+    for refuse_at in 1..MANY {
+        if !aat_refusing(&rt, rt.alloc(), refuse_at) {
+            break;
+        }
+        counts = refuse_at;
+    }
     assert!(rt; 0 < counts && counts < MANY - 1);
 }

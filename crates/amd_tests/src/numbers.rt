@@ -134,13 +134,9 @@ const PAST: u128 = 18446744073709551616;
 #[test]
 fn inputs_past_the_ends(rt: HostRuntime) -> Result<(), Fail> {
     let heap = rt.alloc();
-    assert!(rt; is_refused(heap, -128i8, &[0], &[]));
-    assert!(rt; is_refused(heap, 127i8, &[0], &[]));
-    assert!(rt; is_refused(heap, u64::MAX, &[0], &[]));
     assert!(rt; is_refused(heap, PAST, &[0], &[]));
     assert!(rt; is_refused(heap, 1u128, &[0, PAST], &[0]));
     assert!(rt; is_refused(heap, 1u128, &[0, 1], &[PAST]));
-    assert!(rt; is_refused(heap, i128::MIN, &[0], &[]));
     let ignored: Case<u128> = Case {
         n: 1,
         a_p: &[0, 0, PAST],

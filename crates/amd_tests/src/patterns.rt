@@ -1,5 +1,6 @@
 // Families of graphs of several sizes and matrices drawn from seeds, each with every choice of a caller: no figure is below what
-// the factor needs, and nothing fills in where the graph is a forest without dense rows.
+// the factor needs, and nothing fills in where the graph is a forest without dense rows. For cycles and for complete graphs the
+// bound on the entries is known, and compared.
 
 use crate::factors::{check_bounds, check_forest};
 use amd::{Control, Info, order};
@@ -86,6 +87,22 @@ fn check(
     Ok(())
 }
 
+/// Orders a matrix with each choice, and asserts that the record bounds the entries of the factor by exactly `lnz`.
+fn check_entries(
+    rt: &impl Abort,
+    alloc: Global,
+    n: i64,
+    (a_p, a_i): (Vec<i64>, Vec<i64>),
+    lnz: i64,
+) -> Result<(), AllocError> {
+    let entries = usize::try_from(lnz).unwrap_or(0);
+    for control in &CHOICES {
+        let (_, info) = check_choice(rt, alloc, n, &a_p, &a_i, control)?;
+        assert_eq!(rt; info.lnz, entries, "{control:?} {a_p:?} {a_i:?}");
+    }
+    Ok(())
+}
+
 /// Orders a forest with each choice.
 fn check_tree(
     rt: &impl Abort,
@@ -118,11 +135,14 @@ fn paths(rt: HostRuntime) -> Result<(), Fail> {
     Ok(())
 }
 
+/// A cycle of `n` rows has `2 n - 3` entries in its factor: each of the first `n - 2` columns has two, and the next one has
+/// one.
 #[test]
 fn cycles(rt: HostRuntime) -> Result<(), Fail> {
     let heap = rt.alloc();
-    for n in 3..=40 {
-        check(&rt, heap, n, cycle(heap, n)?)?;
+    for n in 3..=40i64 {
+        let lnz = n.saturating_mul(2).saturating_sub(3);
+        check_entries(&rt, heap, n, cycle(heap, n)?, lnz)?;
     }
     Ok(())
 }
@@ -137,11 +157,14 @@ fn stars(rt: HostRuntime) -> Result<(), Fail> {
     Ok(())
 }
 
+/// A complete graph of `n` rows has all `n (n - 1) / 2` entries below the diagonal in its factor, also where all its rows are
+/// dense.
 #[test]
 fn complete_graphs(rt: HostRuntime) -> Result<(), Fail> {
     let heap = rt.alloc();
-    for n in 1..=20 {
-        check(&rt, heap, n, complete_below(heap, n)?)?;
+    for n in 1..=20i64 {
+        let lnz = n.saturating_mul(n.saturating_sub(1)) / 2;
+        check_entries(&rt, heap, n, complete_below(heap, n)?, lnz)?;
     }
     Ok(())
 }

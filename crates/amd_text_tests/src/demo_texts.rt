@@ -1,4 +1,5 @@
-// What the demos write, in parts. The texts are those of the literature's demos.
+// What the demos write, in parts. The texts are those of the Rust crate's demos, but for the line on symmetry, which follows the
+// definition.
 
 /// The demo of a small matrix: the permutations, and the record.
 pub const SIMPLE: [&str; 2] = [

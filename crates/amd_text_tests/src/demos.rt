@@ -272,6 +272,7 @@ fn check_faults(rt: &impl Abort, alloc: Global, demo: Demo, step: usize) -> Resu
 #[test]
 fn writers_with_faults(rt: HostRuntime) -> Result<(), Fail> {
     check_faults(&rt, rt.alloc(), Demo::Simple, 1)?;
+    // Each long demo makes some thousand calls to its writer, and each fault costs a run, so that only some calls are tried.
     check_faults(&rt, rt.alloc(), Demo::Order, 499)?;
     check_faults(&rt, rt.alloc(), Demo::Jumbled, 499)?;
     Ok(())

@@ -1,5 +1,6 @@
-// The texts of `control` and `info`: whole texts, numbers at the ends of their ranges, and writers with faults. The texts
-// are those of the literature's demos; the sums were worked by hand.
+// The texts of `control` and `info`: whole texts, numbers at the ends of their ranges, and writers with faults. The texts of the
+// demos are those of the Rust crate's demos, but for the line on symmetry, which follows the definition; the others have the same
+// form, with sums worked by hand.
 
 use amd::{Control, Info, Status, control, info};
 use amd_testing::writers::{Fault, Faulty, Slow};
