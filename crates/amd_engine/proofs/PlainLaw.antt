@@ -1,29 +1,28 @@
 -- The parts of the plain engine make its answer: what the calls ask, and that what they give is the listing of a run of the rules.
-use Rattle.std.proofs.Common.{ℕ, ℤ, pos, Bool, true, List, [], ◌∷◌, Vec, All, ◌≡◌, ◌≤◌, ◌<◌, ◌∙◌, ◌&&◌, not, ap, sym, refl, subst, inl, inr, arith, length, map, get_or}
+use Rattle.std.proofs.Common.{ℕ, ℤ, pos, Bool, true, List, [], Vec, All, ◌≡◌, ◌≤◌, ◌<◌, ◌∙◌, ◌&&◌, not, ap, sym, refl, subst, inl, inr, arith, length, map, get_or}
 use Rattle.std.specs.Prelude.{◌==◌, ◌||◌, ◌*◌, ◌-◌, ◌/◌, nat_lt, Option}
 use Rattle.std.proofs.lemmas.Bool.{cases_eq, ne_eqb}
 use Rattle.std.proofs.lemmas.List.{get_or-map}
 use Rattle.std.proofs.lemmas.List.Elements.{All-from_get_or}
 use Rattle.amd_model.specs.Graph.{Graph, IsGraph, degree}
-use Rattle.amd_model.specs.State.{State, in_class}
+use Rattle.amd_model.specs.State.{State}
 use Rattle.amd_model.specs.Run.{Run, last_state}
 use Rattle.amd_model.specs.Listing.{ListsEachRow}
-use Rattle.amd_model.specs.Tie.{Tie, has, is_empty, starting_list, start_tie}
+use Rattle.amd_model.specs.Tie.{Tie, starting_list, start_tie}
 use Rattle.amd_model.specs.TieLaws.{NamesNeighbours}
 use Rattle.amd_model.specs.Figures.{cut}
 use Rattle.amd_model.specs.Input.Dense.{IsThreshold, is_dense}
 use Rattle.amd_model.specs.Input.Held.{is_marked, is_held_last}
 use Rattle.amd_model.specs.Input.Pattern.{graph_of, is_pair}
 use Rattle.amd_model.specs.Ordering.{Follows, IsListingOf, Promises}
-use Rattle.amd_model.proofs.BelowLemmas.{count_most, count_mono, count_pos}
+use Rattle.amd_model.proofs.BelowLemmas.{count_most, count_mono}
 use Rattle.amd_model.proofs.Counts.{count_without}
 use Rattle.amd_model.proofs.DegreeSums.{pattern_graph}
 use Rattle.amd_model.proofs.Orderings.{follows_steps, orderings_promise}
 use Rattle.amd_model.proofs.RunsExist.{first_state, starts}
-use Rattle.amd_model.proofs.Sound.{live_small}
 use Rattle.amd_model.proofs.StartingLists.{starting_lists}
-use Rattle.amd_model.proofs.StateLemmas.{class_gives, class_from, edge_small}
-use Rattle.amd_model.proofs.TieLists.{clash, some_of}
+use Rattle.amd_model.proofs.StateLemmas.{edge_small}
+use Rattle.amd_model.proofs.TieLists.{clash}
 use Rattle.amd_rounds.specs.Views.{at, num, list_at, Below, ListsBelow}
 use Rattle.amd_edges.specs.Visits.{AreCounts}
 use Rattle.amd_rounds.specs.Keeps.{Stands, AreRounds, NoRowIsLive}

@@ -5,7 +5,7 @@ use Rattle.std.proofs.lemmas.Bool.{true≢false, cases_Bool, or_cases, eqb-true}
 use Rattle.std.proofs.lemmas.List.Sums.{sum_by-cons}
 use Rattle.amd_model.specs.Graph.{Graph}
 use Rattle.amd_model.specs.State.{State, in_class, live}
-use Rattle.amd_model.specs.Tie.{Tie, has, is_empty}
+use Rattle.amd_model.specs.Tie.{Tie, has}
 use Rattle.amd_model.proofs.BelowLemmas.{count_pos}
 use Rattle.amd_model.proofs.Sound.{live_small}
 use Rattle.amd_model.proofs.StateLemmas.{class_gives, class_from, live_gives}

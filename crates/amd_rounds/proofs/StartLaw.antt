@@ -1,9 +1,9 @@
 -- What the start of the plain engine fills in stands for the start of an elimination.
-use Rattle.std.proofs.Common.{ℕ, zero, suc, Bool, true, false, Option, None, Some, List, [], Vec, ◌≡◌, ◌≤◌, ◌<◌, ◌+◌, ◌∙◌, ◌&&◌, ◌||◌, not, cond, max, ap, sym, refl, subst, inl, inr, arith, length, map, replicate}
-use Rattle.std.specs.Prelude.{filter, sum_by, nat_lt, nat_le, nat_eq, ◌==◌, ◌⊎◌}
+use Rattle.std.proofs.Common.{ℕ, zero, suc, Bool, true, false, Option, None, Some, List, [], Vec, ◌≡◌, ◌≤◌, ◌<◌, ◌+◌, ◌∙◌, ◌&&◌, ◌||◌, not, cond, max, ap, sym, refl, subst, inl, inr, arith, length, replicate}
+use Rattle.std.specs.Prelude.{filter, sum_by, nat_lt, nat_eq, ◌==◌, ◌⊎◌}
 use Rattle.std.proofs.Math.Bool.{or-false, and-false, and_self}
-use Rattle.std.proofs.lemmas.Bool.{cases_Bool, cases_eq, cases_lt, cond-false, and_parts, or_right, or_from, eq-eqb, ne_eqb, eqb-true, lt-ltb, le-ltb, ltb-true, le-leb, lt-leb}
-use Rattle.std.proofs.lemmas.List.{length-map, length-replicate, get_or-map, get_or-replicate, get_or_past}
+use Rattle.std.proofs.lemmas.Bool.{cases_Bool, cases_eq, cases_lt, cond-false, and_parts, eq-eqb, ne_eqb, eqb-true, lt-ltb, le-ltb, ltb-true}
+use Rattle.std.proofs.lemmas.List.{length-replicate, get_or-replicate, get_or_past}
 use Rattle.amd_model.specs.Below.{count_below, list_below}
 use Rattle.amd_model.specs.Graph.{Graph, IsGraph, degree}
 use Rattle.amd_model.specs.State.{State, Home, Last, Live, Gone, in_block, is_element, live, IsStart}

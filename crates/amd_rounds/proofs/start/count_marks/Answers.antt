@@ -1,4 +1,4 @@
-use Rattle.std.proofs.Common.{ℕ, Bool, arith, refl}
+use Rattle.std.proofs.Common.{ℕ, arith, refl}
 use Rattle.amd_model.specs.Below.{count_below, sum_below}
 use Rattle.amd_model.proofs.BelowLemmas.{count_most}
 use Rattle.amd_rounds.specs.Views.{at}
