@@ -41,6 +41,32 @@ fn two_cases_and_the_end(rt: HostRuntime) {
     }
 }
 
+/// A case with held rows, and one that asks for columns.
+const MORE_ITEMS: &[u8] =
+    b"CASE 1\nHOLD 0 1 01\nN 3\nAP 0\nAI\nEND\nCASE 2\nN 2\nPERM 1 0\nAP 0\nAI\nROOM -7\nHOLD\nEND\n";
+
+#[test]
+fn items_that_may_be_left_out(rt: HostRuntime) {
+    let mut cases = CaseReader::new(rt.alloc(), MORE_ITEMS);
+    let Ok(Some(held)) = cases.next_case() else {
+        panic!(rt; "no case");
+    };
+    assert_eq!(rt; held.hold.as_deref(), Some([false, true, true].as_slice()));
+    assert!(rt; held.permutation.is_none() && held.room.is_none());
+    let Ok(Some(columns)) = cases.next_case() else {
+        panic!(rt; "no second case");
+    };
+    assert_eq!(rt; columns.hold.as_deref(), Some([].as_slice()));
+    assert_eq!(rt; columns.permutation.as_deref(), Some([1, 0].as_slice()));
+    assert_eq!(rt; columns.room, Some(-7));
+    assert_eq!(rt; (columns.n, columns.a_p.len()), (2, 1));
+    let mut cases = CaseReader::new(rt.alloc(), TWO_CASES);
+    let Ok(Some(plain)) = cases.next_case() else {
+        panic!(rt; "no case");
+    };
+    assert!(rt; plain.hold.is_none() && plain.permutation.is_none() && plain.room.is_none());
+}
+
 /// Checks that a text is refused for a line, and that nothing is read behind it.
 fn check_fault(rt: &impl Abort, alloc: Global, text: &[u8], wanted: u64, wanted_fault: Fault) {
     let mut cases = CaseReader::new(alloc, text);
@@ -75,6 +101,9 @@ fn lines_that_spell_no_item(rt: HostRuntime) {
         (b"CASE 1\nT 2147483648\n".as_slice(), 2, Fault::Numbers),
         (b"CASE 1\nAGG 2\n".as_slice(), 2, Fault::Numbers),
         (b"CASE 1\nAP 0,1\n".as_slice(), 2, Fault::Numbers),
+        (b"CASE 1\nHOLD 0 2\n".as_slice(), 2, Fault::Numbers),
+        (b"CASE 1\nHOLD -1\n".as_slice(), 2, Fault::Numbers),
+        (b"CASE 1\nROOM\n".as_slice(), 2, Fault::Numbers),
         (b"CASE 1\nN 1\nAI 0 \xff\n".as_slice(), 3, Fault::Numbers),
         (
             b"CASE 1\nN 1\nAP 0 0\nAI\nEND 1\n".as_slice(),
@@ -97,6 +126,9 @@ fn items_that_make_no_case(rt: HostRuntime) {
         (b"CASE 1\nAGG 1\nAGG 0\n".as_slice(), 3, Fault::Repeated),
         (b"CASE 1\nAP 0\nAP 0\n".as_slice(), 3, Fault::Repeated),
         (b"CASE 1\nAI 0\nAI 0\n".as_slice(), 3, Fault::Repeated),
+        (b"CASE 1\nHOLD 0\nHOLD 0\n".as_slice(), 3, Fault::Repeated),
+        (b"CASE 1\nPERM 0\nPERM 0\n".as_slice(), 3, Fault::Repeated),
+        (b"CASE 1\nROOM 0\nROOM 0\n".as_slice(), 3, Fault::Repeated),
         (b"CASE 1\nAP 0\nAI\nEND\n".as_slice(), 4, Fault::Missing),
         (b"CASE 1\nN 0\nAI\nEND\n".as_slice(), 4, Fault::Missing),
         (b"CASE 1\nN 0\nAP 0\nEND\n".as_slice(), 4, Fault::Missing),

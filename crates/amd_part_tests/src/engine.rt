@@ -19,7 +19,15 @@ fn orders(rt: &impl Abort, alloc: Global, heap: &Refusing<Global>) -> bool {
     let Ok((_, degrees)) = aat(alloc, 5, &a_p, &a_i, &mut info) else {
         panic!(rt; "no degrees");
     };
-    match plain_1(heap, 5, &a_p, &a_i, &degrees, &Control::default(), &mut info) {
+    match plain_1(
+        heap,
+        5,
+        &a_p,
+        &a_i,
+        &degrees,
+        &Control::default(),
+        &mut info,
+    ) {
         Ok((p, p_inv)) => {
             assert_eq!(rt; p.as_slice(), [0, 3, 2, 4, 1].as_slice());
             assert_eq!(rt; p_inv.as_slice(), [0, 4, 2, 1, 3].as_slice());
