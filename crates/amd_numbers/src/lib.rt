@@ -4,6 +4,7 @@
 #![tactic(auto)]
 
 pub mod amd;
+pub mod copies;
 pub mod dense;
 pub mod figures;
 pub mod internal;

@@ -4,15 +4,12 @@ use amd_cases::cases::Case;
 use amd_cases::faults::Fault;
 use amd_cases::matrix::{Matrix, MatrixError, read_matrix};
 use amd_cases::reader::{CaseReader, ReadError};
-use amd_testing::refusing::Refusing;
+use amd_testing::refusing::{Refusing, each_refused};
 use std::alloc::{AllocError, Allocator, Global};
 use std::io;
 use std::io::{BufRead, BufReader, ErrorKind, Read};
 use std::process::Abort;
 use std::test::Fail;
-
-/// More requests than any of these calls makes.
-const MANY: u64 = 200;
 
 /// Two cases: one with all items, and one with what must be there alone, in another order and with no line feed at its end.
 const TWO_CASES: &[u8] =
@@ -42,6 +39,32 @@ fn two_cases_and_the_end(rt: HostRuntime) {
     for _ in 0..2 {
         assert!(rt; matches!(cases.next_case(), Ok(None)));
     }
+}
+
+/// A case with held rows, and one that asks for columns.
+const MORE_ITEMS: &[u8] =
+    b"CASE 1\nHOLD 0 1 01\nN 3\nAP 0\nAI\nEND\nCASE 2\nN 2\nPERM 1 0\nAP 0\nAI\nROOM -7\nHOLD\nEND\n";
+
+#[test]
+fn items_that_may_be_left_out(rt: HostRuntime) {
+    let mut cases = CaseReader::new(rt.alloc(), MORE_ITEMS);
+    let Ok(Some(held)) = cases.next_case() else {
+        panic!(rt; "no case");
+    };
+    assert_eq!(rt; held.hold.as_deref(), Some([false, true, true].as_slice()));
+    assert!(rt; held.permutation.is_none() && held.room.is_none());
+    let Ok(Some(columns)) = cases.next_case() else {
+        panic!(rt; "no second case");
+    };
+    assert_eq!(rt; columns.hold.as_deref(), Some([].as_slice()));
+    assert_eq!(rt; columns.permutation.as_deref(), Some([1, 0].as_slice()));
+    assert_eq!(rt; columns.room, Some(-7));
+    assert_eq!(rt; (columns.n, columns.a_p.len()), (2, 1));
+    let mut cases = CaseReader::new(rt.alloc(), TWO_CASES);
+    let Ok(Some(plain)) = cases.next_case() else {
+        panic!(rt; "no case");
+    };
+    assert!(rt; plain.hold.is_none() && plain.permutation.is_none() && plain.room.is_none());
 }
 
 /// Checks that a text is refused for a line, and that nothing is read behind it.
@@ -78,6 +101,9 @@ fn lines_that_spell_no_item(rt: HostRuntime) {
         (b"CASE 1\nT 2147483648\n".as_slice(), 2, Fault::Numbers),
         (b"CASE 1\nAGG 2\n".as_slice(), 2, Fault::Numbers),
         (b"CASE 1\nAP 0,1\n".as_slice(), 2, Fault::Numbers),
+        (b"CASE 1\nHOLD 0 2\n".as_slice(), 2, Fault::Numbers),
+        (b"CASE 1\nHOLD -1\n".as_slice(), 2, Fault::Numbers),
+        (b"CASE 1\nROOM\n".as_slice(), 2, Fault::Numbers),
         (b"CASE 1\nN 1\nAI 0 \xff\n".as_slice(), 3, Fault::Numbers),
         (
             b"CASE 1\nN 1\nAP 0 0\nAI\nEND 1\n".as_slice(),
@@ -100,6 +126,9 @@ fn items_that_make_no_case(rt: HostRuntime) {
         (b"CASE 1\nAGG 1\nAGG 0\n".as_slice(), 3, Fault::Repeated),
         (b"CASE 1\nAP 0\nAP 0\n".as_slice(), 3, Fault::Repeated),
         (b"CASE 1\nAI 0\nAI 0\n".as_slice(), 3, Fault::Repeated),
+        (b"CASE 1\nHOLD 0\nHOLD 0\n".as_slice(), 3, Fault::Repeated),
+        (b"CASE 1\nPERM 0\nPERM 0\n".as_slice(), 3, Fault::Repeated),
+        (b"CASE 1\nROOM 0\nROOM 0\n".as_slice(), 3, Fault::Repeated),
         (b"CASE 1\nAP 0\nAI\nEND\n".as_slice(), 4, Fault::Missing),
         (b"CASE 1\nN 0\nAI\nEND\n".as_slice(), 4, Fault::Missing),
         (b"CASE 1\nN 0\nAP 0\nEND\n".as_slice(), 4, Fault::Missing),
@@ -148,39 +177,33 @@ fn an_input_that_breaks_off(rt: HostRuntime) -> Result<(), Fail> {
     Ok(())
 }
 
-/// Reads the two cases with one request refused, and says whether it was made.
-fn cases_refusing(rt: &impl Abort, alloc: Global, refuse_at: u64) -> bool {
-    let heap = Refusing::new(alloc, refuse_at);
-    let mut cases = CaseReader::new(&heap, TWO_CASES);
+/// Reads the two cases, and says whether none was refused.
+fn reads_cases(rt: &impl Abort, heap: &Refusing<Global>) -> bool {
+    let mut cases = CaseReader::new(heap, TWO_CASES);
     let mut sizes: i64 = 0;
     for _ in 0..3 {
         match cases.next_case() {
             Ok(Some(case)) => sizes = sizes.wrapping_mul(10).wrapping_add(case.n),
-            Ok(None) => assert!(rt; !heap.refused() && sizes == 30, "at {refuse_at}"),
+            Ok(None) => return sizes == 30,
             Err(
                 ReadError::Line {
                     fault: Fault::OutOfMemory,
                     ..
                 },
-            ) => assert!(rt; heap.refused(), "at {refuse_at}"),
-            Err(ReadError::Stopped) => assert!(rt; heap.refused(), "at {refuse_at}"),
-            Err(_) => panic!(rt; "at {refuse_at}"),
+            )
+            | Err(ReadError::Stopped) => assert!(rt; heap.refused()),
+            Err(_) => panic!(rt; "another error"),
         }
     }
-    drop(cases);
-    heap.refused()
+    false
 }
 
 #[test]
 fn each_request_of_the_reader(rt: HostRuntime) {
-    let mut refusals = 0;
-    for refuse_at in 1..MANY {
-        if !cases_refusing(&rt, rt.alloc(), refuse_at) {
-            break;
-        }
-        refusals = refuse_at;
+    match each_refused(rt.alloc(), |heap| reads_cases(&rt, heap)) {
+        Ok(refusals) => assert!(rt; 0 < refusals),
+        Err(slip) => panic!(rt; "{slip:?}"),
     }
-    assert!(rt; 0 < refusals && refusals < MANY - 1);
 }
 
 /// The bytes of a matrix file.
@@ -245,18 +268,22 @@ fn matrix_files_that_are_none(rt: HostRuntime) -> Result<(), Fail> {
     Ok(())
 }
 
+/// Reads a matrix file, and says whether there was an answer.
+fn reads_matrix(rt: &impl Abort, heap: &Refusing<Global>, bytes: &[u8]) -> bool {
+    let mut input = bytes;
+    match read_matrix::<i32, _, _>(heap, &mut input) {
+        Ok(_) => true,
+        Err(MatrixError::OutOfMemory) => false,
+        Err(_) => panic!(rt; "another error"),
+    }
+}
+
 #[test]
 fn each_request_of_the_matrix_reader(rt: HostRuntime) -> Result<(), Fail> {
     let bytes = file_of(rt.alloc(), &[2, 3, 0, 2, 3], &[0, 1, 1])?;
-    let mut refusals = 0;
-    for refuse_at in 1..MANY {
-        let heap = Refusing::new(rt.alloc(), refuse_at);
-        match read_matrix::<i32, _, _>(&heap, &mut bytes.as_slice()) {
-            Ok(_) => break,
-            Err(MatrixError::OutOfMemory) => refusals = refuse_at,
-            Err(_) => panic!(rt; "at {refuse_at}"),
-        }
+    match each_refused(rt.alloc(), |heap| reads_matrix(&rt, heap, &bytes)) {
+        Ok(refusals) => assert!(rt; 0 < refusals),
+        Err(slip) => panic!(rt; "{slip:?}"),
     }
-    assert!(rt; 0 < refusals && refusals < MANY - 1);
     Ok(())
 }

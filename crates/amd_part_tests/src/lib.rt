@@ -1,9 +1,11 @@
-//! Tests of the parts that an ordering stands on: the shares of fronts, the lists of neighbours, the postorder of forests, and
-//! the readers of cases. The answers come from outside: worked by hand, or from the Rust crate `amd`.
+//! Tests of the parts that an ordering stands on: the shares of fronts, the lists of neighbours, the postorder of forests, the
+//! plain engine with refused memory, and the readers of cases. The answers come from outside: worked by hand, or from the Rust crate `amd`.
 #![tactic(auto)]
 
 #[cfg(test)]
 mod cases;
+#[cfg(test)]
+mod engine;
 #[cfg(test)]
 mod fronts;
 #[cfg(test)]

@@ -9,7 +9,7 @@ use amd_engine::internal::{EMPTY, link_at};
 use amd_engine::post_tree::post_tree;
 use amd_engine::postorder::postorder;
 use amd_testing::forests::{drawn_forest, listing_of};
-use amd_testing::refusing::Refusing;
+use amd_testing::refusing::{Refusing, each_refused};
 use std::alloc::{Allocator, Global};
 use std::process::Abort;
 use std::test::Fail;
@@ -113,41 +113,33 @@ fn no_places(rt: HostRuntime) {
     assert!(rt; order.is_empty());
 }
 
-/// Lists the worked forest with one request refused, and says whether it was made.
-fn places_refusing(rt: &impl Abort, alloc: Global, refuse_at: u64) -> bool {
-    let heap = Refusing::new(alloc, refuse_at);
+/// Lists the worked forest, and says whether there was an answer.
+fn lists(rt: &impl Abort, heap: &Refusing<Global>) -> bool {
     let worked = WORKED;
     match places(
         rt,
-        &heap,
+        heap,
         &worked.parent,
         &worked.nv,
         &worked.f_size,
         &worked.rank,
     ) {
         Ok(order) => {
-            assert!(rt; !heap.refused(), "at {refuse_at}");
             assert_eq!(rt; order.as_slice(), worked.order.as_slice());
+            true
         }
         Err(status) => {
-            assert!(rt; heap.refused(), "at {refuse_at}");
-            assert!(rt; status == Status::OutOfMemory, "at {refuse_at}");
+            assert!(rt; status == Status::OutOfMemory);
+            false
         }
     }
-    heap.refused()
 }
 
 #[test]
 fn each_request_of_postorder(rt: HostRuntime) {
-    let mut refusals = 0;
-    for refuse_at in 1..50 {
-        if !places_refusing(&rt, rt.alloc(), refuse_at) {
-            break;
-        }
-        refusals = refuse_at;
-    }
     // The stack, the children, the siblings and the places.
-    assert_eq!(rt; refusals, 4);
+    let refusals = each_refused(rt.alloc(), |heap| lists(&rt, heap));
+    assert_eq!(rt; refusals, Ok(4));
 }
 
 /// Asserts that places are those of a listing, and `EMPTY` for what is not listed.

@@ -7,7 +7,8 @@
 //!     INFO n nz symmetry(0|1) nz_diag nz_a_plus_at n_dense lnz n_div ldl lu d_max
 //!     END
 //!
-//! Where the status is `Invalid` the three lines behind it are left out. The format of the input is that of `amd_cases`. At a
+//! Where the status is `Invalid` the three lines behind it are left out. The format of the input is that of `amd_cases`. A case
+//! with `HOLD`, `PERM` or `ROOM` asks for more than an ordering: the program names it on standard error and ends with status 1. At a
 //! line that is at fault the program names it on standard error and ends with status 1; the answers before it are written.
 #![tactic(auto)]
 
@@ -41,6 +42,9 @@ fn write_info<W: Write>(out: &mut W, info: &Info) -> io::Result<()> {
 /// Orders a case and writes the answer.
 fn answer<W: Write, A: Allocator + Copy>(alloc: A, case: &Case<A>, out: &mut W) -> Result<()> {
     let number = case.number;
+    if case.hold.is_some() || case.permutation.is_some() || case.room.is_some() {
+        bail!("case {number} asks for more than an ordering");
+    }
     let control = Control {
         dense: case.dense,
         aggressive: case.aggressive,

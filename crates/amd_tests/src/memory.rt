@@ -1,5 +1,5 @@
 // Refused memory: each request in turn is refused, until a run makes no request of that number. Each run that met a refusal
-// answers `OutOfMemory`, and the first one without gives the answer.
+// answers `OutOfMemory`, and the first one without gives the answer. After each of them as many blocks came back as were granted.
 
 use crate::worked::{Case, DENSE_ROW, SMALL_MATRICES, check_answer, with_dense};
 use amd::aat::aat;
@@ -7,47 +7,37 @@ use amd::preprocess::preprocess;
 use amd::valid::valid;
 use amd::{Control, Info, Status, order};
 use amd_testing::records::numbers_of;
-use amd_testing::refusing::Refusing;
-use std::alloc::Global;
+use amd_testing::refusing::{Refusing, Slip, each_refused};
+use std::alloc::{Allocator, Global};
 use std::process::Abort;
 
-/// More requests than any of these calls makes.
-const MANY: u64 = 1000;
+/// Asserts that some requests were refused, and that no run did wrong.
+pub fn check_refusals(rt: &impl Abort, what: &str, refusals: Result<u64, Slip>) {
+    match refusals {
+        Ok(count) => assert!(rt; 0 < count, "{what}"),
+        Err(slip) => panic!(rt; "{what}: {slip:?}"),
+    }
+}
 
-/// Orders with one request refused, and says whether it was made.
-fn order_refusing(
-    rt: &impl Abort,
-    alloc: Global,
-    refuse_at: u64,
-    control: &Control,
-    case: &Case,
-) -> bool {
-    let heap = Refusing::new(alloc, refuse_at);
+/// Orders, and says whether there was an answer, which must be that of the case.
+fn orders(rt: &impl Abort, heap: &Refusing<Global>, control: &Control, case: &Case) -> bool {
     let what = case.what;
-    match order(&heap, case.n, case.a_p, case.a_i, control) {
+    match order(heap, case.n, case.a_p, case.a_i, control) {
         Ok((p, p_inv, info)) => {
-            assert!(rt; !heap.refused(), "{what} at {refuse_at}");
             check_answer(rt, case, &p, &p_inv, &info);
+            true
         }
         Err(status) => {
-            assert!(rt; heap.refused(), "{what} at {refuse_at}");
-            assert!(rt; status == Status::OutOfMemory, "{what} at {refuse_at}");
+            assert!(rt; status == Status::OutOfMemory, "{what}");
+            false
         }
     }
-    heap.refused()
 }
 
 /// Orders with each request refused in turn.
 fn check_order(rt: &impl Abort, alloc: Global, control: &Control, case: &Case) {
-    let what = case.what;
-    let mut refusals = 0;
-    for refuse_at in 1..MANY {
-        if !order_refusing(rt, alloc, refuse_at, control, case) {
-            break;
-        }
-        refusals = refuse_at;
-    }
-    assert!(rt; 0 < refusals && refusals < MANY - 1, "{what}");
+    let refusals = each_refused(alloc, |heap| orders(rt, heap, control, case));
+    check_refusals(rt, case.what, refusals);
 }
 
 /// The inputs are shared references, so no run can change them.
@@ -82,26 +72,55 @@ fn calls_that_ask_no_memory(rt: HostRuntime) {
     assert_eq!(rt; heap.requests(), 0);
 }
 
-/// Transposes with one request refused, and says whether it was made.
-fn preprocess_refusing(rt: &impl Abort, alloc: Global, refuse_at: u64) -> bool {
-    let heap = Refusing::new(alloc, refuse_at);
+/// Transposes, and says whether there was an answer.
+fn transposes(rt: &impl Abort, heap: &Refusing<Global>) -> bool {
     let a_p = [0i64, 3, 3, 4];
     let a_i = [2, 0, 2, 1];
     let Status::OkButJumbled = valid(3, 3, &a_p, &a_i) else {
         panic!(rt; "not jumbled");
     };
-    match preprocess(&heap, 3, &a_p, &a_i) {
+    match preprocess(heap, 3, &a_p, &a_i) {
         Ok((pointers, columns)) => {
-            assert!(rt; !heap.refused(), "at {refuse_at}");
             assert_eq!(rt; pointers.as_slice(), [0, 1, 2, 3].as_slice());
             assert_eq!(rt; columns.as_slice(), [0, 2, 0].as_slice());
+            true
         }
         Err(status) => {
-            assert!(rt; heap.refused(), "at {refuse_at}");
-            assert!(rt; status == Status::OutOfMemory, "at {refuse_at}");
+            assert!(rt; status == Status::OutOfMemory);
+            false
         }
     }
-    heap.refused()
+}
+
+/// Builds the five rows of the demo and a choice, and orders them: each refused request becomes a status by `?`.
+fn built<A: Allocator + Copy>(alloc: A) -> Result<(Vec<i64, A>, Vec<i64, A>, Info), Status> {
+    let mut a_p = Vec::new(alloc);
+    for pointer in [0, 2, 6, 10, 12, 14] {
+        a_p.push(pointer)?;
+    }
+    let a_i = vec![in alloc; 0, 1, 0, 1, 2, 4, 1, 2, 3, 4, 2, 3, 1, 4]?;
+    let control = Box::new(alloc, Control::default())?;
+    order(alloc, 5, &a_p, &a_i, &control)
+}
+
+/// Builds and orders, and says whether there was an answer.
+fn builds(rt: &impl Abort, heap: &Refusing<Global>) -> bool {
+    match built(heap) {
+        Ok((p, _, _)) => {
+            assert_eq!(rt; p.as_slice(), [0, 3, 2, 4, 1].as_slice());
+            true
+        }
+        Err(status) => {
+            assert!(rt; status == Status::OutOfMemory);
+            false
+        }
+    }
+}
+
+#[test]
+fn each_request_of_a_caller(rt: HostRuntime) {
+    let refusals = each_refused(rt.alloc(), |heap| builds(&rt, heap));
+    check_refusals(&rt, "a matrix that is built and ordered", refusals);
 }
 
 /// A record in which each number is another one.
@@ -123,18 +142,18 @@ fn filled_info() -> Info {
     }
 }
 
-/// Counts the edges with one request refused, and says whether it was made.
-fn aat_refusing(rt: &impl Abort, alloc: Global, refuse_at: u64) -> bool {
-    let heap = Refusing::new(alloc, refuse_at);
+/// Counts the edges, and says whether there was an answer.
+fn counts(rt: &impl Abort, heap: &Refusing<Global>) -> bool {
     let a_p = [0i64, 2, 6, 10, 12, 14];
     let a_i = [0, 1, 0, 1, 2, 4, 1, 2, 3, 4, 2, 3, 1, 4];
     let mut info = filled_info();
     let Status::OK = valid(5, 5, &a_p, &a_i) else {
         panic!(rt; "not sorted");
     };
-    match aat(&heap, 5, &a_p, &a_i, &mut info) {
+    let outcome = aat(heap, 5, &a_p, &a_i, &mut info);
+    assert!(rt; info.status == Status::OkButJumbled);
+    match outcome {
         Ok((total, degrees)) => {
-            assert!(rt; !heap.refused(), "at {refuse_at}");
             assert_eq!(rt; total, 10);
             assert_eq!(rt; degrees.as_slice(), [1, 3, 3, 1, 2].as_slice());
             assert_eq!(rt;
@@ -142,38 +161,21 @@ fn aat_refusing(rt: &impl Abort, alloc: Global, refuse_at: u64) -> bool {
                 [5, 14, 5, 10, 105, 106, 107, 108, 109, 110, 111]
             );
             assert!(rt; !info.symmetry);
+            true
         }
         Err(status) => {
-            assert!(rt; heap.refused(), "at {refuse_at}");
-            assert!(rt; status == Status::OutOfMemory, "at {refuse_at}");
-            assert_eq!(rt;
-                numbers_of(&info),
-                numbers_of(&filled_info()),
-                "at {refuse_at}"
-            );
-            assert!(rt; info.symmetry, "at {refuse_at}");
+            assert!(rt; status == Status::OutOfMemory);
+            assert_eq!(rt; numbers_of(&info), numbers_of(&filled_info()));
+            assert!(rt; info.symmetry);
+            false
         }
     }
-    assert!(rt; info.status == Status::OkButJumbled);
-    heap.refused()
 }
 
 #[test]
 fn each_request_of_the_inner_calls(rt: HostRuntime) {
-    let mut transposes = 0;
-    for refuse_at in 1..MANY {
-        if !preprocess_refusing(&rt, rt.alloc(), refuse_at) {
-            break;
-        }
-        transposes = refuse_at;
-    }
-    assert!(rt; 0 < transposes && transposes < MANY - 1);
-    let mut counts = 0;
-    for refuse_at in 1..MANY {
-        if !aat_refusing(&rt, rt.alloc(), refuse_at) {
-            break;
-        }
-        counts = refuse_at;
-    }
-    assert!(rt; 0 < counts && counts < MANY - 1);
+    let transposing = each_refused(rt.alloc(), |heap| transposes(&rt, heap));
+    check_refusals(&rt, "preprocess", transposing);
+    let counting = each_refused(rt.alloc(), |heap| counts(&rt, heap));
+    check_refusals(&rt, "aat", counting);
 }
