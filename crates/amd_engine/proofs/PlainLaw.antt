@@ -26,12 +26,13 @@ use Rattle.amd_model.proofs.TieLists.{clash, some_of}
 use Rattle.amd_rounds.specs.Views.{list_at, Below, ListsBelow}
 use Rattle.amd_edges.specs.Visits.{AreCounts}
 use Rattle.amd_rounds.specs.Keeps.{Stands, AreRounds}
+use Rattle.amd_views.proofs.Fronts.Gathered.{placed_rows}
 use Rattle.amd_rounds.specs.Starts.{StandsAtStart, ListsRun}
 use Rattle.amd_numbers.specs.Permutations.{AreInverse}
 use Rattle.amd_engine.specs.Plain.{IsEngineAnswer, with_figures}
 use Rattle.amd_numbers.specs.declared.amd.Info.{Info}
 use Rattle.amd_rounds.specs.declared.work.Work.{Work}
-use Rattle.amd_rounds.proofs.Lists.{below_from}
+use Rattle.amd_views.proofs.Lists.Named.{below_from}
 
 -- ---- lists
 
@@ -101,19 +102,15 @@ told_by w old = record old {
 }
 
 module _ {A : Type 0} (g : Graph) (dense : ℕ → Bool) (w : Work A) (t : Tie) (s : State) (st : Stands g dense w t s) where
-  class_rows : (i : ℕ) → has t.placed i ≡ true → 0 < t.size i
-  class_rows i h = let home = class_gives i (s.home i) (sym (st.fits.placed i) ∙ h) in let l = live_small g st.graph s st.sound i i home in
-      let k = count_pos g.size (in_class s i) i l (class_from i (s.home i) home) in let e = st.fits.size i home in omega (arith, k, e)
-
   -- with no row live no class is left
   none_left : w.live ≡ 0 → t.placed ≡ []
   none_left z = elim (cases_Bool (is_empty t.placed)) [
     | inl y ↦ none_named t.placed y
-    | inr n ↦ (let c = some_of t.placed n in let a = class_rows c.0 c.1 in let b = part_of_sum t.size t.placed c.0 c.1 in let l = st.keeps.live in absurd (omega (arith, z, a, b, l)))
+    | inr n ↦ (let c = some_of t.placed n in let a = placed_rows g st.view.graph s st.view.sound t st.view.fits c.0 c.1 in let b = part_of_sum t.size t.placed c.0 c.1 in let l = st.view.keeps.live in absurd (omega (arith, z, a, b, l)))
   ]
 
   figures_told : (old : Info) → told_by w old ≡ with_figures g dense s old
-  figures_told old = let k = st.fronts in rw (k.dense_rows, k.lnz, k.ldl, k.lu, k.greatest) refl
+  figures_told old = let k = st.view.fronts in rw (k.dense_rows, k.lnz, k.ldl, k.lu, k.greatest) refl
 
 -- from a start whose rounds came to an end
 module _ {A : Type 0} (g : Graph) (laws : IsGraph g) (threshold : ℕ) (aggressive : Bool) (lists : ℕ → List ℕ) (names : (i : ℕ) → NamesNeighbours g i (lists i))

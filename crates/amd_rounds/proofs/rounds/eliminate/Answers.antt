@@ -23,7 +23,7 @@ rounds-preserved g c =
       rounds = λ gr dense t s st.
           let a = c.rounds.invariant.rounds gr dense t s st in
           let b = step gr dense a.0 (last_state s a.1.0) a.1.2 in
-          let m = follows_more gr aggressive t a.0 s a.1.0 b.1.0 a.1.1 b.0 b.1.1 b.1.2.fits in
+          let m = follows_more gr aggressive t a.0 s a.1.0 b.1.0 a.1.1 b.0 b.1.1 b.1.2.view.fits in
           (next aggressive a.0, (a.1.0 ++ b.1.0 ∷ [], m.0, subst (Stands gr dense c.round.new.work (next aggressive a.0)) (sym m.1) b.1.2));
       stands =
           let w = c.rounds.invariant.stands in
