@@ -6,7 +6,7 @@ use Rattle.std.proofs.lemmas.List.{get_or-map}
 use Rattle.std.proofs.lemmas.List.Elements.{All-from_get_or}
 use Rattle.std.proofs.lemmas.List.Sums.{sum_by-cons}
 use Rattle.amd_model.specs.Graph.{Graph, IsGraph, degree}
-use Rattle.amd_model.specs.State.{State, in_class}
+use Rattle.amd_model.specs.State.{State}
 use Rattle.amd_model.specs.Run.{Run, last_state}
 use Rattle.amd_model.specs.Listing.{ListsEachRow}
 use Rattle.amd_model.specs.Tie.{Tie, has, is_empty, starting_list, start_tie}
@@ -14,14 +14,13 @@ use Rattle.amd_model.specs.TieLaws.{NamesNeighbours}
 use Rattle.amd_model.specs.Input.Dense.{IsThreshold, is_dense}
 use Rattle.amd_model.specs.Input.Pattern.{graph_of, is_pair}
 use Rattle.amd_model.specs.Ordering.{Follows, IsListingOf}
-use Rattle.amd_model.proofs.BelowLemmas.{count_most, count_mono, count_pos}
+use Rattle.amd_model.proofs.BelowLemmas.{count_most, count_mono}
 use Rattle.amd_model.proofs.Counts.{count_without}
 use Rattle.amd_model.proofs.DegreeSums.{pattern_graph}
 use Rattle.amd_model.proofs.Orderings.{follows_run, orderings_promise}
 use Rattle.amd_model.proofs.RunsExist.{first_state, starts}
-use Rattle.amd_model.proofs.Sound.{live_small}
 use Rattle.amd_model.proofs.StartingLists.{starting_lists}
-use Rattle.amd_model.proofs.StateLemmas.{class_gives, class_from, edge_small}
+use Rattle.amd_model.proofs.StateLemmas.{edge_small}
 use Rattle.amd_model.proofs.TieLists.{clash, some_of}
 use Rattle.amd_rounds.specs.Views.{list_at, Below, ListsBelow}
 use Rattle.amd_edges.specs.Visits.{AreCounts}
@@ -146,7 +145,7 @@ module _ {A : Type 0} (g : Graph) (laws : IsGraph g) (threshold : ℕ) (aggressi
     at_end = (rounds g dense tie first started).1.2
 
     run : Run g dense aggressive first states
-    run = follows_run g dense aggressive tie end first states laws (starts g dense) started.fits (rounds g dense tie first started).1.1 (none_left g dense w end (last_state first states) at_end over)
+    run = follows_run g dense aggressive tie end first states laws (starts g dense) started.view.fits (rounds g dense tie first started).1.1 (none_left g dense w end (last_state first states) at_end over)
 
     ended : (g : Graph) × (dense : ℕ → Bool) × (aggressive : Bool) × (first : State) × (states : List State) × (t : Tie) × IsGraph g × Run g dense aggressive first states × Stands g dense w t (last_state first states)
     ended = (g, dense, aggressive, first, states, end, laws, run, at_end)
@@ -158,7 +157,7 @@ module _ {A : Type 0} (g : Graph) (laws : IsGraph g) (threshold : ℕ) (aggressi
       is_listing : IsListingOf g dense aggressive lists first states order
       is_listing = record {
         run = run;
-        starts = started.fits;
+        starts = started.view.fits;
         end = end;
         follows = (rounds g dense tie first started).1.1;
         listing = lists_run g dense aggressive first states end run at_end;
