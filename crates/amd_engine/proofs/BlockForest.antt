@@ -110,11 +110,11 @@ stands_elements g dense w t s st end links nv f_size l room_nv room_f room_l n f
   links_are = l;
   nv_are = n;
   sizes_are = f;
-  parents = λ e. st.keeps.parents e ∙ st.fits.parent e;
-  blocks = λ e h. (let q = st.fronts.blocks e h in let c = count_pos g.size (λ v. block_at e (s.home v)) e (small e h) h in omega (arith, q, c));
-  no_block = λ e h. st.fronts.no_element e h;
-  fronts = λ e h. st.fronts.fronts e h;
+  parents = λ e. st.view.keeps.parents e ∙ st.view.fits.parent e;
+  blocks = λ e h. (let q = st.view.fronts.blocks e h in let c = count_pos g.size (λ v. block_at e (s.home v)) e (small e h) h in omega (arith, q, c));
+  no_block = λ e h. st.view.fronts.no_element e h;
+  fronts = λ e h. st.view.fronts.fronts e h;
 }
   where
     small : (e : ℕ) → block_at e (s.home e) ≡ true → e < g.size
-    small e h = elim (cases_lt e g.size) [ inl l ↦ l | inr l ↦ absurd (true≢false (sym h ∙ ap (block_at e) (st.sound.rows e l) ∙ last_block e)) ]
+    small e h = elim (cases_lt e g.size) [ inl l ↦ l | inr l ↦ absurd (true≢false (sym h ∙ ap (block_at e) (st.view.sound.rows e l) ∙ last_block e)) ]

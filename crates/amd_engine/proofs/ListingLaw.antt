@@ -56,25 +56,25 @@ own_block e = eq-eqb e e refl
 
 module _ {A : Type 0} (g : Graph) (dense : ℕ → Bool) (w : Work A) (t : Tie) (s : State) (st : Stands g dense w t s) (end : IsEnd g dense s) where
   pub none_live : (v : ℕ) → live_at (t.home v) ≡ false
-  none_live v = ap live_at (st.fits.home v) ∙ end.over v
+  none_live v = ap live_at (st.view.fits.home v) ∙ end.over v
 
   pub parent_small : (e p : ℕ) → some_at w.parent.items e ≡ Some p → p < g.size
-  parent_small e p q = end.small p p (end.made.tree.over e p (sym (st.keeps.parents e ∙ st.fits.parent e) ∙ q))
+  parent_small e p q = end.small p p (end.made.tree.over e p (sym (st.view.keeps.parents e ∙ st.view.fits.parent e) ∙ q))
 
   -- what has a block is an element
   with_block : (e : ℕ) → 0 < num w.block.items e → block_at e (s.home e) ≡ true
   with_block e h = elim (cases_Bool (block_at e (s.home e))) [
     | inl y ↦ y
-    | inr y ↦ absurd (let z = st.fronts.no_element e y in omega (arith, h, z))
+    | inr y ↦ absurd (let z = st.view.fronts.no_element e y in omega (arith, h, z))
   ]
 
   pub block_small : (e : ℕ) → 0 < num w.block.items e → num w.block.items e ≤ g.size
-  block_small e h = let q = st.fronts.blocks e (with_block e h) in let m = count_most g.size (λ v. block_at e (s.home v)) in omega (arith, q, m)
+  block_small e h = let q = st.view.fronts.blocks e (with_block e h) in let m = count_most g.size (λ v. block_at e (s.home v)) in omega (arith, q, m)
 
   pub front_small : (e : ℕ) → 0 < num w.block.items e → num w.front.items e ≤ g.size + g.size
   unfolding weight
   front_small e h =
-      let q : num w.front.items e ≡ count_below g.size (in_block s e) + count_below g.size (s.border e) = st.fronts.fronts e (with_block e h) in
+      let q : num w.front.items e ≡ count_below g.size (in_block s e) + count_below g.size (s.border e) = st.view.fronts.fronts e (with_block e h) in
       let a = count_most g.size (in_block s e) in let b = count_most g.size (s.border e) in omega (arith, q, a, b)
 
   -- the rows that have no link and no block are the dense ones
@@ -83,15 +83,15 @@ module _ {A : Type 0} (g : Graph) (dense : ℕ → Bool) (w : Work A) (t : Tie) 
   last_row v small = elim (cases_Bool (dense v)) [
     | inl d ↦ (let h = end.made.dense_last v small d in
         and_from (is_none (some_at w.link.items v)) (nat_eq (num w.block.items v) 0)
-        (ap is_none (st.keeps.links.last v (st.fits.home v ∙ h)))
-        (eq-eqb (num w.block.items v) 0 (st.fronts.no_element v (ap (block_at v) h ∙ last_block v))) ∙ sym d)
+        (ap is_none (st.view.keeps.links.last v (st.view.fits.home v ∙ h)))
+        (eq-eqb (num w.block.items v) 0 (st.view.fronts.no_element v (ap (block_at v) h ∙ last_block v))) ∙ sym d)
     | inr d ↦ elim (cases_link (some_at w.link.items v)) [
-      | inl q ↦ elim (st.keeps.links.alone v q) [
+      | inl q ↦ elim (st.view.keeps.links.alone v q) [
         | inl l ↦ absurd (true≢false (sym (ap live_at l) ∙ none_live v))
-        | inr (inl h) ↦ (let its : block_at v (s.home v) ≡ true = ap (block_at v) (sym (st.fits.home v) ∙ h) ∙ own_block v in
-            let some = count_pos g.size (λ u. block_at v (s.home u)) v small its in let is = st.fronts.blocks v its in
+        | inr (inl h) ↦ (let its : block_at v (s.home v) ≡ true = ap (block_at v) (sym (st.view.fits.home v) ∙ h) ∙ own_block v in
+            let some = count_pos g.size (λ u. block_at v (s.home u)) v small its in let is = st.view.fronts.blocks v its in
             ap (λ b. b && nat_eq (num w.block.items v) 0) (ap is_none q) ∙ ne_eqb (num w.block.items v) 0 (λ z. omega (arith, some, is, z)) ∙ sym d)
-        | inr (inr h) ↦ absurd (true≢false (sym (end.made.last_dense v small (sym (st.fits.home v) ∙ h)) ∙ d))
+        | inr (inr h) ↦ absurd (true≢false (sym (end.made.last_dense v small (sym (st.view.fits.home v) ∙ h)) ∙ d))
       ]
       | inr u ↦ ap (λ o. is_none o && nat_eq (num w.block.items v) 0) u.1 ∙ sym d
     ]
@@ -132,5 +132,5 @@ module _ {A : Type 0} (g : Graph) (dense : ℕ → Bool) (w : Work A) (t : Tie) 
           p ≡ flat_map (λ e. rows e ++ e ∷ []) o.listing ++ list_below g.size (λ v. is_none (some_at link v) && nat_eq (num w.block.items v) 0) → IsPostorder g dense s p
       listed p rows link each alone is =
           blocks_listed g dense s (tree_of g.size links nv f_size) alike_made ranked_made order o p rows (λ v. is_none (some_at link v) && nat_eq (num w.block.items v) 0)
-          (λ e small. each e small ∙ list_same g.size (λ v. block_at e (t.home v) && not (v == e)) (λ v. block_at e (s.home v) && not (v == e)) (λ v l. ap (λ h. block_at e h && not (v == e)) (st.fits.home v)))
+          (λ e small. each e small ∙ list_same g.size (λ v. block_at e (t.home v) && not (v == e)) (λ v. block_at e (s.home v) && not (v == e)) (λ v l. ap (λ h. block_at e h && not (v == e)) (st.view.fits.home v)))
           (λ v small. ap (λ b. b && nat_eq (num w.block.items v) 0) (alone v) ∙ last_row v small) is

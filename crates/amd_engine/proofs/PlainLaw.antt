@@ -31,7 +31,7 @@ use Rattle.amd_numbers.specs.Permutations.{AreInverse}
 use Rattle.amd_engine.specs.Engine.{IsEngineAnswer, with_figures}
 use Rattle.amd_numbers.specs.declared.amd.Info.{Info}
 use Rattle.amd_rounds.specs.declared.work.Work.{Work}
-use Rattle.amd_rounds.proofs.Lists.{below_from}
+use Rattle.amd_views.proofs.Lists.Named.{below_from}
 
 -- ---- lists
 
@@ -87,7 +87,7 @@ told_by w old = record old {
 }
 
 figures_told : {A : Type 0} (g : Graph) (dense : ℕ → Bool) (w : Work A) (t : Tie) (s : State) → Stands g dense w t s → (old : Info) → told_by w old ≡ with_figures g dense s 0 old
-figures_told g dense w t s st old = let k = st.fronts in rw (k.dense_rows, k.lnz, k.ldl, k.lu, k.greatest) refl
+figures_told g dense w t s st old = let k = st.view.fronts in rw (k.dense_rows, k.lnz, k.ldl, k.lu, k.greatest) refl
 
 -- from a start whose rounds came to an end
 module _ {A : Type 0} (g : Graph) (laws : IsGraph g) (dense last : ℕ → Bool) (aggressive : Bool) (lists : ℕ → List ℕ) (names : (i : ℕ) → NamesNeighbours g i (lists i))
@@ -136,7 +136,7 @@ module _ {A : Type 0} (g : Graph) (laws : IsGraph g) (dense last : ℕ → Bool)
       is_listing : IsListingOf g dense aggressive lists first states order
       is_listing = record {
         run = run;
-        starts = started.fits;
+        starts = started.view.fits;
         end = end;
         follows = (rounds g dense tie first started).1.1;
         listing = lists_run g dense aggressive first states end run at_end;

@@ -12,7 +12,7 @@ use Rattle.amd_model.proofs.TieLists.{clash, has_append, has_filter, once_filter
 use Rattle.amd_model.proofs.ListingLemmas.{filter_has, has_filter as filter_gives, has_head, has_tail, has_append as append_gives, has_left, has_right}
 use Rattle.amd_rounds.specs.Views.{num, list_at}
 use Rattle.amd_rounds.specs.Buckets.{live_in, lasts, Popped, Chosen}
-use Rattle.amd_rounds.proofs.Lists.{filter_named, filter_both}
+use Rattle.amd_views.proofs.Lists.Named.{filter_named, filter_both}
 
 -- ---- what filters keep
 

@@ -7,7 +7,7 @@ use Rattle.std.proofs.lemmas.List.Elements.{filter_more, All-filter}
 use Rattle.amd_model.specs.Tie.{has, is_empty, Once}
 use Rattle.amd_rounds.specs.Views.{list_at, Below, ListsBelow}
 use Rattle.amd_rounds.proofs.ListPlaces.{list_read, list_set_same, list_set_other, lists_set}
-use Rattle.amd_rounds.proofs.Lists.{has_next, has_others, has_all, not_met}
+use Rattle.amd_views.proofs.Lists.Named.{has_next, has_others, has_all, not_met}
 
 -- a step of a loop changes a function at one number, where tests say what was changed before and what is after
 pub changed_step : {X : Type 0} (new old : ℕ → X) (met meets : ℕ → Bool) (x : ℕ) → meets x ≡ true → ((e : ℕ) → e ≢ x → meets e ≡ met e) → (before after : ℕ → X) → ((e : ℕ) → before e ≡ cond (met e) (new e) (old e)) →

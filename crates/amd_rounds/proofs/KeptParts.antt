@@ -1,22 +1,14 @@
 -- What the parts of an absorption make together.
-use Rattle.std.proofs.Common.{ℕ, Bool, true, false, List, [], ◌≡◌, ◌<◌, ◌&&◌, ◌||◌, not, cond, inl, inr, refl, sym, ◌∙◌, ap, length, set, get_or-set_same, get_or-set_other}
+use Rattle.std.proofs.Common.{ℕ, Bool, true, false, List, ◌≡◌, ◌<◌, ◌&&◌, ◌||◌, not, cond, inl, inr, refl, ◌∙◌, length, set, get_or-set_same, get_or-set_other}
 use Rattle.std.specs.Prelude.{Vec, flat_map, ◌==◌}
-use Rattle.std.proofs.lemmas.Bool.{false_from_ne_true, true≢false, false≢true, cases_eq, and_parts, ne_eqb, not-true}
+use Rattle.std.proofs.lemmas.Bool.{true≢false, false≢true, cases_eq, ne_eqb}
 use Rattle.amd_model.specs.Tie.{has}
-use Rattle.amd_model.proofs.TieLists.{clash, flat_gives, firsts as firsts_names}
+use Rattle.amd_model.proofs.TieLists.{flat_gives}
 use Rattle.amd_rounds.specs.Views.{at, list_at, Below, ListsBelow, Clear}
 use Rattle.amd_rounds.specs.Rounds.{firsts}
-use Rattle.amd_rounds.proofs.Lists.{below_from, below_gives}
+use Rattle.amd_views.proofs.Lists.Named.{below_from, below_gives}
+use Rattle.amd_views.proofs.Fronts.Gathered.{firsts_gives}
 use Rattle.amd_rounds.proofs.ListPlaces.{list_below}
-
--- what is gathered stands in the lists and was not skipped
-pub firsts_gives : (skip : ℕ → Bool) (xs touched : List ℕ) → touched ≡ firsts skip xs → (x : ℕ) → has touched x ≡ true → (has xs x ≡ true) × (skip x ≡ false)
-unfolding has
-firsts_gives skip xs touched is x h = let p = and_parts (has xs x) (not (skip x)) (sym (firsts_names skip [] xs x) ∙ ap (λ l. has l x) (sym is) ∙ h) in (p.0, not-true (skip x) p.1)
-
--- what is skipped is not gathered
-pub firsts_skips : (skip : ℕ → Bool) (xs touched : List ℕ) → touched ≡ firsts skip xs → (x : ℕ) → skip x ≡ true → has touched x ≡ false
-firsts_skips skip xs touched is x s = false_from_ne_true (has touched x) (λ h. clash s (firsts_gives skip xs touched is x h).1)
 
 -- what is gathered from lists of numbers below n is below n
 pub touched_below : {A : Type 0} (n : ℕ) (lists : List (Vec ℕ A)) (skip : ℕ → Bool) (front touched : List ℕ) → ListsBelow n lists → touched ≡ firsts skip (flat_map (list_at lists) front) → Below n touched

@@ -1,15 +1,17 @@
 -- What the calls of a merge ask of the classes of a front that keep something, and what their answers say together.
-use Rattle.std.proofs.Common.{ℕ, Bool, true, false, Option, ◌≡◌, ◌<◌, ◌≤◌, ◌&&◌, not, cond, sym, ◌∙◌, ap, subst, arith, List, Some, Vec}
+use Rattle.std.proofs.Common.{ℕ, Bool, true, false, Option, ◌≡◌, ◌<◌, ◌≤◌, ◌+◌, ◌%◌, ◌^◌, ◌&&◌, not, cond, sym, ◌∙◌, ap, subst, arith, List, Some, Vec, length}
 use Rattle.std.specs.Prelude.{◌==◌, filter, sum_by}
 use Rattle.std.proofs.lemmas.List.Elements.{All-filter}
 use Rattle.std.proofs.lemmas.List.Sums.{sum_by-le-sum_by}
 use Rattle.amd_model.specs.Tie.{has, Once, last_that}
 use Rattle.amd_model.proofs.TieLists.{once_filter}
 use Rattle.amd_model.proofs.ListingLemmas.{has_filter as filter_gives}
-use Rattle.amd_rounds.specs.Views.{num, Below}
+use Rattle.amd_rounds.specs.Views.{num, list_at, Below}
 use Rattle.amd_rounds.specs.Rounds.{alike_in}
-use Rattle.amd_rounds.proofs.Lists.{sum_part}
-use Rattle.amd_rounds.proofs.Representatives.{rep, rep_in, rep_rep, alike_self, alike_flip, alike_through}
+use Rattle.amd_rounds.specs.Groups.{wrapped_sum, group_in}
+use Rattle.amd_views.proofs.Lists.Named.{sum_part}
+use Rattle.amd_views.proofs.Lists.Same.{same_sum}
+use Rattle.amd_views.proofs.Merging.Representatives.{rep, alike_gives, rep_in, rep_rep, alike_self, alike_flip, alike_through}
 
 -- a part of a front names rows, each once, and what the front names
 module _ (p : ℕ → Bool) (front rest : List ℕ) (is : rest ≡ filter p front) where
@@ -39,14 +41,22 @@ module _ (p : ℕ → Bool) (front rest : List ℕ) (is : rest ≡ filter p fron
 pub rows_same : (names rest to size : List ℕ) → names ≡ rest → to ≡ size → sum_by (num to) names ≡ sum_by (num size) rest
 rows_same names rest to size e f = ap (λ l. sum_by (num l) names) f ∙ ap (sum_by (num size)) e
 
+-- classes alike are in one group
+pub alike_grouped : {A : Type 0} (elements variables : List (Vec ℕ A)) (i j : ℕ) → Once (list_at elements i) × Once (list_at variables i) → Once (list_at elements j) × Once (list_at variables j) → alike_in elements variables i j ≡ true →
+    group_in elements variables i ≡ group_in elements variables j
+alike_grouped elements variables i j o p h = let k = alike_gives (list_at elements) (list_at variables) i j h in
+    let e = same_sum (λ x. x) (list_at elements i) (list_at elements j) o.0 p.0 k.0 k.1 in
+    let v = same_sum (λ x. x) (list_at variables i) (list_at variables j) o.1 p.1 k.2 k.3 in
+    ap (λ m. ((m % 2 ^ 64 + wrapped_sum (list_at variables i)) % 2 ^ 64) % length elements) e ∙ ap (λ m. ((wrapped_sum (list_at elements j) + m % 2 ^ 64) % 2 ^ 64) % length elements) v
+
 -- the representative of a class of a list is in the list, and represents itself
 pub into_settled : {A : Type 0} (elements variables : List (Vec ℕ A)) (rest : List ℕ) (into : ℕ → ℕ) → ((i : ℕ) → has rest i ≡ true → into i ≡ last_that (alike_in elements variables i) i rest) →
     (i : ℕ) → has rest i ≡ true → (has rest (into i) ≡ true) × (into (into i) ≡ into i)
 into_settled elements variables rest into f i h =
-    let r : ℕ → ℕ = rep (alike_in elements variables) (alike_self elements variables) (alike_flip elements variables) (alike_through elements variables) rest in
+    let r : ℕ → ℕ = rep (alike_in elements variables) (alike_self (list_at elements) (list_at variables)) (alike_flip (list_at elements) (list_at variables)) (alike_through (list_at elements) (list_at variables)) rest in
     let e : into i ≡ r i = f i h in
-    let here : has rest (into i) ≡ true = ap (has rest) e ∙ rep_in (alike_in elements variables) (alike_self elements variables) (alike_flip elements variables) (alike_through elements variables) rest i h in
-    (here, f (into i) here ∙ ap r e ∙ rep_rep (alike_in elements variables) (alike_self elements variables) (alike_flip elements variables) (alike_through elements variables) rest i h ∙ sym e)
+    let here : has rest (into i) ≡ true = ap (has rest) e ∙ rep_in (alike_in elements variables) (alike_self (list_at elements) (list_at variables)) (alike_flip (list_at elements) (list_at variables)) (alike_through (list_at elements) (list_at variables)) rest i h in
+    (here, f (into i) here ∙ ap r e ∙ rep_rep (alike_in elements variables) (alike_self (list_at elements) (list_at variables)) (alike_flip (list_at elements) (list_at variables)) (alike_through (list_at elements) (list_at variables)) rest i h ∙ sym e)
 
 -- the rows of each class of a list, and the links, after each went into its representative
 abbrev pub RowsJoined : List ℕ → List ℕ → (ℕ → ℕ) → (ℕ → ℕ) → Type 0

@@ -18,13 +18,14 @@ use Rattle.amd_model.proofs.SoundStart.{is_last, is_empty, is_live, begins, star
 use Rattle.amd_model.proofs.TieLists.{same_bool}
 use Rattle.amd_model.proofs.TieStart.{has_below, once_below, start_fits}
 use Rattle.amd_model.proofs.TieSums.{sum_one, sum_over}
-use Rattle.amd_rounds.specs.Views.{num, some_at, list_at, live_of, Below, ListsBelow}
+use Rattle.amd_rounds.specs.Views.{num, some_at, list_at, live_of, view_of, Below, ListsBelow}
 use Rattle.amd_rounds.specs.Buckets.{live_in, lasts}
-use Rattle.amd_rounds.specs.Keeps.{IsIdle, IsSized, LinksLead, Keeps, KeepsFronts, Stands}
+use Rattle.amd_views.specs.Keeps.{Keeps, KeepsFronts}
+use Rattle.amd_rounds.specs.Keeps.{IsIdle, IsSized, LinksLead, Stands}
 use Rattle.amd_rounds.specs.Starts.{StandsAtStart}
 use Rattle.amd_rounds.specs.declared.work.Work.{Work}
 use Rattle.amd_rounds.proofs.ListPlaces.{empty_below}
-use Rattle.amd_rounds.proofs.Lists.{filter_named}
+use Rattle.amd_views.proofs.Lists.Named.{filter_named}
 use Rattle.amd_rounds.proofs.StartLists.{list_same, filter_below}
 use Rattle.amd_rounds.proofs.BucketsLaw.{lasts_once}
 
@@ -214,10 +215,11 @@ module _ {A : Type 0} (rows : List (Vec ℕ A)) (degrees : List ℕ) (last : ℕ
       ∙ count_same g.size (λ i. nat_lt 0 (num w.size.items i)) (has classes) (λ i l. light i)
       ∙ sym (sum_over g.size (λ i. 1) classes (once_below g.size is_class_row) class_small)
 
-  small_kept : (i : ℕ) → i < g.size → num w.bound.items i < length w.size.items
-  small_kept i l = let k = small i 0 (within i l) in let e = ap (λ xs. num xs i) begun.bound in let m = size_length in omega (arith, k, e, m, size_is)
+  small_kept : (i : ℕ) → i < g.size → num w.bound.items i < length w.link.items
+  small_kept i l = let k = small i 0 (within i l) in let e = ap (λ xs. num xs i) begun.bound in
+      let m = ap length begun.link ∙ length-replicate (length degrees) None in omega (arith, k, e, m)
 
-  keeps : Keeps w (start_tie g dense lists)
+  keeps : Keeps (view_of w) (start_tie g dense lists)
   unfolding start_tie
   keeps = record {
     size = size_one;
@@ -227,7 +229,6 @@ module _ {A : Type 0} (rows : List (Vec ℕ A)) (degrees : List ℕ) (last : ℕ
     variables = λ i h. variables_kept i (class_small i h);
     elements = λ i h. begun.elements.1 i;
     members = λ e h. ap (live_of w.size.items) (begun.members.1 e);
-    placed = placed_kept;
     least = λ i h. (let e = begun.least in omega (arith, e));
     live = live_kept;
     parents = λ e. ap (λ xs. some_at xs e) begun.parent ∙ none_at (length degrees) e;
@@ -344,7 +345,7 @@ module _ {A : Type 0} (rows : List (Vec ℕ A)) (degrees : List ℕ) (last : ℕ
       let is : w.figures.d_max ≡ max 1 (count_below g.size dense) = omega (arith, e, d) in
       is ∙ sym none
 
-  fronts : KeepsFronts g dense w s
+  fronts : KeepsFronts g dense (view_of w) s
   fronts = record {
     blocks = λ e y. block_empty w.block.items begun.block e y ∙ sym (block_one e y);
     no_element = λ e n. block_none w.block.items begun.block e n;
@@ -373,15 +374,20 @@ module _ {A : Type 0} (rows : List (Vec ℕ A)) (degrees : List ℕ) (last : ℕ
       ]
 
   stands_start : Stands g dense w (start_tie g dense lists) s
+  unfolding start_tie list_below
   stands_start = record {
-    graph = laws;
-    sound = start_sound g laws dense s start;
-    fits = start_fits g dense s lists laws start (λ i h. names i (live_small g laws s (start_sound g laws dense s start) i i h));
+    view = record {
+      graph = laws;
+      sound = start_sound g laws dense s start;
+      fits = start_fits g dense s lists laws start (λ i h. names i (live_small g laws s (start_sound g laws dense s start) i i h));
+      rows = sized.link;
+      keeps = keeps;
+      joined = row_joined;
+      no_parent = λ v h. start.parents v;
+      fronts = fronts;
+    };
     sized = sized;
-    keeps = keeps;
-    joined = row_joined;
-    no_parent = λ v h. start.parents v;
-    fronts = fronts;
+    placed = placed_kept;
   }
 
 pub stands_at_start : {A : Type 0} (rows : List (Vec ℕ A)) (degrees : List ℕ) (last : ℕ → Bool) (w : Work A) → Begun rows degrees last w →

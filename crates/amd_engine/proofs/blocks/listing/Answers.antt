@@ -18,7 +18,7 @@ rows_of_elements-requires g c =
     let h = c.requires.ended in let w = c.args.work.now in
     let gr = h.0 in let dense = h.1 in let t = h.5 in let s = last_state h.3 h.4 in let st = h.8 in
     let end = at_the_end h.0 h.1 h.2 h.3 h.4 h.6 h.7 in
-    record { led = (t.home, st.keeps.links, none_live gr dense w t s st end) }
+    record { led = (t.home, st.view.keeps.links, none_live gr dense w t s st end) }
 
 -- src/blocks.rt:224:16
 pub returns-in_err-rows-clause-lists : goal.returns-in_err-rows-clause-lists
@@ -210,7 +210,7 @@ returns-in_err-add_last-clause-refused g c = if_err c.from_residual-in_err-add_l
 -- src/blocks.rt:217:1
 pub returns-clause-lists : goal.returns-clause-lists
 returns-clause-lists g c = λ gr dense aggressive first states t run st.
-    let w = c.args.work.now in let s = last_state first states in let end = at_the_end gr dense aggressive first states st.graph run in
+    let w = c.args.work.now in let s = last_state first states in let end = at_the_end gr dense aggressive first states st.view.graph run in
     let links = c.deref-6.result.now in let nv = c.deref-7.result.now in let f_size = c.deref-8.result.now in
     let a = (elements gr dense w t s st end c.deref.result.now c.deref-2.result.now c.deref-3.result.now c.deref-4.result.now c.deref-5.result.now c.in_ok-nv.nv.items c.in_ok-f_size.f_size.items links nv f_size
     c.deref.ensures.value c.deref-2.ensures.value c.deref-3.ensures.value c.deref-4.ensures.value c.deref-5.ensures.value (c.deref-6.ensures.value ∙ c.in_ok-parent.ensures) c.deref-7.ensures.value c.deref-8.ensures.value
@@ -227,7 +227,7 @@ returns-clause-lists g c = λ gr dense aggressive first states t run st.
     let last = same_last gr.size c.deref-12.result.now c.rows_of_elements.new.link.items c.deref-13.result.now w.block.items link (c.in_ok-rows.ensures.links ∙ st.sized.link) block in
     let behind = list_below (length c.deref-12.result.now) (λ v. is_none (some_at c.deref-12.result.now v) && nat_eq (num c.deref-13.result.now v) 0) in
     listed gr dense w t s st end links nv f_size a order o c.add_last.new.p.items (list_at rows) c.rows_of_elements.new.link.items
-    (λ e small. c.in_ok-rows.ensures.rows t.home st.keeps.links (none_live gr dense w t s st end) e (let room = st.sized.link in omega (arith, small, room))
+    (λ e small. c.in_ok-rows.ensures.rows t.home st.view.keeps.links (none_live gr dense w t s st end) e (let room = st.sized.link in omega (arith, small, room))
     ∙ ap (λ n. list_below n (λ v. block_at e (t.home v) && not (v == e))) st.sized.link)
     c.in_ok-rows.ensures.alone
     (c.in_ok-add_last.ensures ∙ ap (λ xs. xs ++ behind) blocks ∙ ap (λ ys. flat_map (λ e. list_at rows e ++ e ∷ []) o.listing ++ ys) last)

@@ -1,11 +1,12 @@
 use Rattle.std.proofs.Common.{ℕ, Bool, false, Some, List, ◌≡◌, ◌<◌, ◌∙◌, ◌&&◌, ◌||◌, ◌==◌, not, cond, nat_eq, nat_lt, ap, sym, arith, length, length-set, filter, flat_map}
-use Rattle.std.proofs.lemmas.Bool.{cond-false}
+use Rattle.std.proofs.lemmas.Bool.{cond-true, cond-false}
 use Rattle.amd_model.specs.Tie.{has}
 use Rattle.amd_rounds.specs.Views.{num, at, some_at, list_at}
 use Rattle.amd_rounds.specs.Rounds.{firsts}
 use Rattle.amd_rounds.proofs.ListPlaces.{list_read}
-use Rattle.amd_rounds.proofs.Lists.{filter_named}
-use Rattle.amd_rounds.proofs.KeptParts.{touched_below, firsts_gives, spared_is, adopted_is, in_either, cleared_is, pivot_cleared}
+use Rattle.amd_views.proofs.Lists.Named.{filter_named}
+use Rattle.amd_views.proofs.Fronts.Gathered.{firsts_gives}
+use Rattle.amd_rounds.proofs.KeptParts.{touched_below, spared_is, adopted_is, in_either, cleared_is, pivot_cleared}
 use Rattle.amd_rounds.proofs.absorption.absorb.Goals as goal
 
 pub count_beyond-requires-clause-range : goal.count_beyond-requires-clause-range
@@ -72,15 +73,21 @@ returns g c =
     ∙ cleared_is (has own j) (has touched j) (whole j) in
     record {
       absorbed = record {
-        touched = touched;
-        touched_is = touched_is;
-        counted = λ e h. c.count_beyond.ensures.counted e (ap (λ l. has l e) c.deref.ensures.value ∙ h);
-        taken = at taken;
-        taken_is = taken_is;
-        parents = parents;
-        elements = λ i. c.shorten.ensures.kept_elements i ∙ ap (λ l. cond (has front i) (filter (λ e. not (at l e)) (list_at elements i)) (list_at elements i)) c.deref-9.ensures.value;
-        variables = λ i. c.shorten.ensures.kept_variables i ∙ ap (λ l. cond (has front i) l (list_at variables i))
-            (filter_named (λ j. nat_lt 0 (num size j) && not (at c.deref-8.result.now j)) (λ j. nat_lt 0 (num size j) && not (inside j)) (list_at variables i) (λ j h. ap (λ b. nat_lt 0 (num size j) && not b) (rows_marked j)));
+        classes = record {
+          touched = touched;
+          touched_is = touched_is;
+          counted = λ e h. c.count_beyond.ensures.counted e (ap (λ l. has l e) c.deref.ensures.value ∙ h);
+          taken = at taken;
+          taken_is = taken_is;
+          parents = parents;
+          elements = λ i h. c.shorten.ensures.kept_elements i ∙ cond-true (has front i) _ _ h
+              ∙ ap (λ l. filter (λ e. not (at l e)) (list_at elements i)) c.deref-9.ensures.value;
+          variables = λ i h. c.shorten.ensures.kept_variables i ∙ cond-true (has front i) _ _ h
+              ∙ filter_named (λ j. nat_lt 0 (num size j) && not (at c.deref-8.result.now j)) (λ j. nat_lt 0 (num size j) && not (inside j))
+              (list_at variables i) (λ j h. ap (λ b. nat_lt 0 (num size j) && not b) (rows_marked j));
+        };
+        elements = λ i h. c.shorten.ensures.kept_elements i ∙ cond-false (has front i) _ _ h;
+        variables = λ i h. c.shorten.ensures.kept_variables i ∙ cond-false (has front i) _ _ h;
         members = c.shorten.ensures.members;
       };
       elements = c.shorten.ensures.elements;

@@ -5,7 +5,7 @@ use Rattle.amd_model.specs.Tie.{has}
 use Rattle.amd_rounds.specs.Views.{num, list_at, Below}
 use Rattle.amd_rounds.specs.Rounds.{less, rows_left}
 use Rattle.amd_rounds.proofs.ListPlaces.{list_read, list_below}
-use Rattle.amd_rounds.proofs.Taken.{left_next}
+use Rattle.amd_views.proofs.Lists.Taken.{left_next}
 use Rattle.amd_rounds.proofs.absorption.count_beyond.Goals as goal
 
 pub loop-i-init : goal.loop-i-init
@@ -24,7 +24,7 @@ loop-i-preserved g c =
       size = c.take_off.ensures.size ∙ was.size;
       counted = λ e h. c.take_off.ensures.taken e ∙ ap (λ m. less e (num size x) m c.deref.result.now) (was.counted e h)
           ∙ ap (less e (num size x) (rows_left c.args.block.now c.args.whole.now size elements (take k front) e)) list
-          ∙ sym (left_next c.args.block.now c.args.whole.now size elements front e k here);
+          ∙ sym (left_next (num c.args.block.now) (num c.args.whole.now) (num size) (list_at elements) front e k here);
     }
 
 pub take_off-requires : goal.take_off-requires

@@ -1,7 +1,7 @@
 use Rattle.std.proofs.Common.{◌≡◌, ◌<◌, ◌∷◌, ℕ, length, get_or, set, arith, ap, sym, refl, subst, ◌∙◌}
 use Rattle.amd_model.specs.Tie.{turned}
 use Rattle.amd_rounds.specs.Views.{list_at, Below}
-use Rattle.amd_rounds.proofs.Lists.{below_turned}
+use Rattle.amd_views.proofs.Lists.Named.{below_turned}
 use Rattle.amd_rounds.proofs.Kept.{changed_more, changed_none, unchanged}
 use Rattle.amd_rounds.proofs.ListPlaces.{list_read, list_set_same, list_set_other, lists_set, list_below}
 use Rattle.std.proofs.lemmas.List.Elements.{All-cons}

@@ -4,7 +4,7 @@ use Rattle.std.proofs.lemmas.List.{at_drop_more}
 use Rattle.std.proofs.lemmas.List.Elements.{All-push}
 use Rattle.amd_model.specs.Tie.{has}
 use Rattle.amd_rounds.specs.Views.{num, list_at, Below}
-use Rattle.amd_rounds.proofs.Lists.{has_at}
+use Rattle.amd_views.proofs.Lists.Named.{has_at}
 use Rattle.amd_rounds.proofs.ListPlaces.{list_read, list_below, lists_set}
 use Rattle.amd_rounds.proofs.BucketLists.{pushed, least_next, least_lower, least_end}
 use Rattle.amd_rounds.proofs.buckets.place_all.Goals as goal

@@ -3,7 +3,7 @@ use Rattle.std.proofs.lemmas.Bool.{cases_Bool}
 use Rattle.std.proofs.lemmas.List.{take_all}
 use Rattle.amd_model.specs.Tie.{each}
 use Rattle.amd_model.proofs.TieLists.{each_gives, each_from, clash}
-use Rattle.amd_rounds.proofs.Lists.{has_at, more_gives}
+use Rattle.amd_views.proofs.Lists.Named.{has_at, more_gives}
 use Rattle.amd_rounds.specs.Views.{at}
 use Rattle.amd_rounds.proofs.merging.all_marked.Goals as goal
 

@@ -6,7 +6,7 @@ use Rattle.amd_model.proofs.TieLists.{clash}
 use Rattle.amd_model.proofs.ListingLemmas.{has_head}
 use Rattle.amd_rounds.specs.Views.{list_at}
 use Rattle.amd_rounds.specs.Groups.{group_in}
-use Rattle.amd_rounds.proofs.Lists.{has_all, more_gives}
+use Rattle.amd_views.proofs.Lists.Named.{has_all, more_gives}
 use Rattle.amd_rounds.proofs.ListPlaces.{list_set_same, list_set_other}
 use Rattle.amd_rounds.proofs.merging.empty_groups.Goals as goal
 

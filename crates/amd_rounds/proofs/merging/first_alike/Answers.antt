@@ -4,7 +4,7 @@ use Rattle.std.proofs.Math.Bool.{and_assoc}
 use Rattle.amd_model.specs.Tie.{has, each, Once}
 use Rattle.amd_rounds.specs.Views.{list_at}
 use Rattle.amd_rounds.specs.Rounds.{alike_in}
-use Rattle.amd_rounds.proofs.Lists.{has_at, more_gives}
+use Rattle.amd_views.proofs.Lists.Named.{has_at, more_gives}
 use Rattle.amd_rounds.proofs.ListPlaces.{list_deref}
 use Rattle.amd_rounds.proofs.merging.first_alike.Goals as goal
 use Rattle.amd_rounds.proofs.merging.first_alike.Goals.{else-same_list-via-then-same_list+else-same_list-2, else-same_list-via-else-same_list}

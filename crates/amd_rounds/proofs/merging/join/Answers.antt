@@ -6,7 +6,7 @@ use Rattle.std.proofs.lemmas.List.{length-set, get_or-set_same, get_or-set_other
 use Rattle.amd_model.specs.Tie.{has}
 use Rattle.amd_rounds.specs.Views.{num, some_at}
 use Rattle.amd_rounds.proofs.Kept.{changed_more, changed_none, unchanged, changed_all}
-use Rattle.amd_rounds.proofs.Lists.{has_at, below_gives}
+use Rattle.amd_views.proofs.Lists.Named.{has_at, below_gives}
 use Rattle.amd_rounds.proofs.Joins.{Merged, merged_none, merged_stays, merged_fits, merged_moves, merged_all}
 use Rattle.amd_rounds.proofs.merging.join.Goals as goal
 use Rattle.amd_rounds.proofs.merging.join.Goals.{then-r-i, else-r-i}

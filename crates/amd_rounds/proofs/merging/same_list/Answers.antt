@@ -1,7 +1,7 @@
 use Rattle.std.proofs.Common.{sym, ap, ◌∙◌}
 use Rattle.std.proofs.lemmas.Bool.{ne_eqb}
 use Rattle.amd_model.specs.Tie.{each}
-use Rattle.amd_rounds.proofs.SameLists.{counted, uncounted}
+use Rattle.amd_views.proofs.Lists.Same.{counted, uncounted}
 use Rattle.amd_rounds.proofs.merging.same_list.Goals as goal
 
 pub returns-then-list-other : goal.returns-then-list-other

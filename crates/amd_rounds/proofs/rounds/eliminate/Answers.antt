@@ -4,7 +4,8 @@ use Rattle.amd_model.specs.Tie.{next}
 use Rattle.amd_model.specs.Ordering.{none}
 use Rattle.amd_model.proofs.Orderings.{follows_more}
 use Rattle.amd_rounds.specs.Keeps.{Stands}
-use Rattle.amd_rounds.proofs.Ended.{no_row_is_live}
+use Rattle.amd_rounds.specs.Views.{view_of}
+use Rattle.amd_views.proofs.Round.Ended.{no_row_is_live}
 use Rattle.amd_rounds.proofs.rounds.eliminate.Goals as goal
 
 pub rounds-init : goal.rounds-init
@@ -24,7 +25,7 @@ rounds-preserved g c =
       rounds = λ gr dense t s st.
           let a = c.rounds.invariant.rounds gr dense t s st in
           let b = step gr dense a.0 (last_state s a.1.0) a.1.2 in
-          let m = follows_more gr aggressive t a.0 s a.1.0 b.1.0 a.1.1 b.0 b.1.1 b.1.2.fits in
+          let m = follows_more gr aggressive t a.0 s a.1.0 b.1.0 a.1.1 b.0 b.1.1 b.1.2.view.fits in
           (next aggressive a.0, (a.1.0 ++ b.1.0 ∷ [], m.0, subst (Stands gr dense c.round.new.work (next aggressive a.0)) (sym m.1) b.1.2));
       stands =
           let w = c.rounds.invariant.stands in
@@ -36,4 +37,4 @@ pub returns-clause-rounds : goal.returns-clause-rounds
 returns-clause-rounds g c = c.rounds.invariant.rounds
 
 pub returns-clause-end : goal.returns-clause-end
-returns-clause-end g c = λ gr dense t s st. no_row_is_live gr dense c.rounds.work t s st (let e = c.rounds-test.false in omega (arith, e))
+returns-clause-end g c = λ gr dense t s st. no_row_is_live gr dense (view_of c.rounds.work) t s st.view (let e = c.rounds-test.false in omega (arith, e))

@@ -1,5 +1,5 @@
--- A round of the plain engine keeps the sizes of blocks and fronts, the figures, and the number of live rows.
-use Rattle.std.proofs.Common.{ℕ, zero, suc, Bool, true, false, Option, None, Some, List, ◌≡◌, ◌≢◌, ◌≤◌, ◌<◌, ◌+◌, ◌-◌, ◌∙◌, ◌⊎◌, ap, sym, refl, subst, inl, inr, arith}
+-- A round keeps the sizes of blocks and fronts, the figures, and the number of live rows.
+use Rattle.std.proofs.Common.{ℕ, zero, suc, Bool, true, false, Option, None, Some, ◌≡◌, ◌≢◌, ◌≤◌, ◌<◌, ◌+◌, ◌-◌, ◌∙◌, ◌⊎◌, ap, sym, refl, subst, inl, inr, arith}
 use Rattle.std.specs.Prelude.{sum_by, ◌==◌}
 use Rattle.std.proofs.lemmas.Bool.{cases_eq, cond-true, cond-false, eq-eqb, ne_eqb}
 use Rattle.amd_model.specs.Below.{count_below}
@@ -14,19 +14,18 @@ use Rattle.amd_model.proofs.StateLemmas.{class_gives, class_from, live_from}
 use Rattle.amd_model.proofs.TieLaw.{L, front_class, rest_class, after, is_step}
 use Rattle.amd_model.proofs.StepFronts.{element_stays, block_count_stays, weight_stays, pivot_element, weight_new, still_live, figure_new, greatest_new, front_small, block_rows, border_rows, left_rows, left_sum, left_less}
 use Rattle.amd_model.proofs.StepFronts.{no_parent as parent_free}
-use Rattle.amd_rounds.specs.Views.{num, some_at}
-use Rattle.amd_rounds.specs.Keeps.{KeepsFronts, LinksLead, Stands}
-use Rattle.amd_rounds.specs.declared.work.Work.{Work}
+use Rattle.amd_views.specs.Keeps.{KeepsFronts, LinksLead, Stands}
+use Rattle.amd_views.specs.Views.{View}
 use Rattle.amd_numbers.proofs.CutSums.{cut_add}
-use Rattle.amd_rounds.proofs.Lists.{sum_named}
-use Rattle.amd_rounds.proofs.Rounding.{Rounding}
+use Rattle.amd_views.proofs.Lists.Named.{sum_named}
+use Rattle.amd_views.proofs.Rounding.{Rounding}
 
-module _ (links : List (Option ℕ)) (home : ℕ → Home) (lead : LinksLead links home) where
+module _ (n : ℕ) (links : ℕ → Option ℕ) (home : ℕ → Home) (lead : LinksLead n links home) where
   which : (o : Option ℕ) → (o ≡ None) ⊎ ((u : ℕ) × (o ≡ Some u))
   which None = inl refl
   which (Some u) = inr (u, refl)
 
-  gone_alone : (x e : ℕ) → some_at links x ≡ None → home x ≡ Gone e → home e ≡ Gone e
+  gone_alone : (x e : ℕ) → links x ≡ None → home x ≡ Gone e → home e ≡ Gone e
   gone_alone x e q h = elim (lead.alone x q) [
     | inl k ↦ absurd (cc)
     | inr k ↦ elim k [
@@ -36,11 +35,11 @@ module _ (links : List (Option ℕ)) (home : ℕ → Home) (lead : LinksLead lin
   ]
 
   gone_within : (n x e : ℕ) → lead.top ≤ lead.rank x + n → home x ≡ Gone e → home e ≡ Gone e
-  gone_within zero x e far h = elim (which (some_at links x)) [
+  gone_within zero x e far h = elim (which (links x)) [
     | inl q ↦ gone_alone x e q h
     | inr q ↦ absurd (let b = lead.end.below x q.0 q.1 in omega (arith, b, far))
   ]
-  gone_within (suc n) x e far h = elim (which (some_at links x)) [
+  gone_within (suc n) x e far h = elim (which (links x)) [
     | inl q ↦ gone_alone x e q h
     | inr q ↦ (let b = (lead.end.rise x q.0 q.1).0 in gone_within n q.0 e (omega (arith, b, far)) (sym (lead.linked x q.0 q.1) ∙ h))
   ]
@@ -50,15 +49,15 @@ module _ (links : List (Option ℕ)) (home : ℕ → Home) (lead : LinksLead lin
   gone_named x e h = gone_within lead.top x e (omega arith) h
 
 -- what is placed with a least bound is a pivot
-pub pivot_class : {A : Type 0} (g : Graph) (dense : ℕ → Bool) (w : Work A) (t : Tie) (s : State) → Stands g dense w t s → (c : ℕ) → has t.placed c ≡ true → is_class s c ≡ true
+pub pivot_class : (g : Graph) (dense : ℕ → Bool) (w : View) (t : Tie) (s : State) → Stands g dense w t s → (c : ℕ) → has t.placed c ≡ true → is_class s c ≡ true
 pivot_class g dense w t s st c placed = sym (st.fits.placed c) ∙ placed
 
-pub pivot_least : {A : Type 0} (g : Graph) (dense : ℕ → Bool) (w : Work A) (t : Tie) (s : State) → Stands g dense w t s → (c : ℕ) → has t.placed c ≡ true →
+pub pivot_least : (g : Graph) (dense : ℕ → Bool) (w : View) (t : Tie) (s : State) → Stands g dense w t s → (c : ℕ) → has t.placed c ≡ true →
     ((d : ℕ) → has t.placed d ≡ true → t.bound c ≤ t.bound d) → (d : ℕ) → is_class s d ≡ true → s.bound c ≤ s.bound d
 pivot_least g dense w t s st c placed least d k = let l = least d (st.fits.placed d ∙ k) in
     let a = st.fits.bound c (class_gives c (s.home c) (sym (st.fits.placed c) ∙ placed)) in let b = st.fits.bound d (class_gives d (s.home d) k) in omega (arith, l, a, b)
 
-module _ {A : Type 0} (g : Graph) (dense : ℕ → Bool) (aggressive : Bool) (w v : Work A) (t : Tie) (s : State) (st : Stands g dense w t s) (r : Rounding aggressive w v)
+module _ (g : Graph) (dense : ℕ → Bool) (aggressive : Bool) (w v : View) (t : Tie) (s : State) (st : Stands g dense w t s) (r : Rounding aggressive w v)
     (class : is_class s r.c ≡ true) (least : (d : ℕ) → is_class s d ≡ true → s.bound r.c ≤ s.bound d)
     (front_is : r.front ≡ gathered t r.c) (rest_is : r.rest ≡ rest aggressive t r.c (gathered t r.c)) where
   abbrev pub U : State
@@ -70,18 +69,18 @@ module _ {A : Type 0} (g : Graph) (dense : ℕ → Bool) (aggressive : Bool) (w 
   home_c : s.home r.c ≡ Live r.c
   home_c = class_gives r.c (s.home r.c) class
 
-  size_of : (i : ℕ) → s.home i ≡ Live i → num w.size.items i ≡ t.size i
+  size_of : (i : ℕ) → s.home i ≡ Live i → w.size i ≡ t.size i
   size_of i h = st.keeps.size i (st.fits.placed i ∙ class_from i (s.home i) h)
 
-  pub front_rows_are : sum_by (num w.size.items) r.front ≡ sum_by t.size (gathered t r.c)
+  pub front_rows_are : sum_by w.size r.front ≡ sum_by t.size (gathered t r.c)
   unfolding L
-  front_rows_are = ap (sum_by (num w.size.items)) front_is
-      ∙ sum_named (num w.size.items) t.size (gathered t r.c) (λ i k. size_of i (front_class g st.graph aggressive t s st.sound st.fits r.c class least i k).0)
+  front_rows_are = ap (sum_by w.size) front_is
+      ∙ sum_named w.size t.size (gathered t r.c) (λ i k. size_of i (front_class g st.graph aggressive t s st.sound st.fits r.c class least i k).0)
 
   pub border_is : r.border ≡ sum_by t.size (rest aggressive t r.c (gathered t r.c))
   unfolding L
-  border_is = r.border_is ∙ ap (sum_by (num w.size.items)) rest_is
-      ∙ sum_named (num w.size.items) t.size (rest aggressive t r.c (gathered t r.c)) (λ i k. size_of i (rest_class g st.graph aggressive t s st.sound st.fits r.c class least i k).0)
+  border_is = r.border_is ∙ ap (sum_by w.size) rest_is
+      ∙ sum_named w.size t.size (rest aggressive t r.c (gathered t r.c)) (λ i k. size_of i (rest_class g st.graph aggressive t s st.sound st.fits r.c class least i k).0)
 
   pub block_is : r.block ≡ t.size r.c + (sum_by t.size (gathered t r.c) - sum_by t.size (rest aggressive t r.c (gathered t r.c)))
   block_is = let a = r.block_is in let b = border_is in let c = front_rows_are in let d = size_of r.c home_c in omega (arith, a, b, c, d)
@@ -101,7 +100,7 @@ module _ {A : Type 0} (g : Graph) (dense : ℕ → Bool) (aggressive : Bool) (w 
 
   -- no row was in a block of the pivot's name
   no_block : (x : ℕ) → s.home x ≢ Gone r.c
-  no_block x h = let k = gone_named w.link.items t.home st.keeps.links x r.c (st.fits.home x ∙ h) in let m = sym (st.fits.home r.c) ∙ k in let l = home_c in cc
+  no_block x h = let k = gone_named w.rows w.link t.home st.keeps.links x r.c (st.fits.home x ∙ h) in let m = sym (st.fits.home r.c) ∙ k in let l = home_c in cc
 
   pub block_counts : r.block ≡ count_below g.size (in_block U r.c)
   block_counts = block_is ∙ sym (block_rows g st.graph aggressive t s st.sound st.fits r.c class least no_block)
@@ -139,23 +138,23 @@ module _ {A : Type 0} (g : Graph) (dense : ℕ → Bool) (aggressive : Bool) (w 
   other_element : (e : ℕ) → e ≢ r.c → is_element s e ≡ is_element U e
   other_element e ne = sym (element_stays g st.graph aggressive r.c s U st.sound step_of e ne)
 
-  new_block : (e : ℕ) → is_element U e ≡ true → num v.block.items e ≡ count_below g.size (in_block U e)
+  new_block : (e : ℕ) → is_element U e ≡ true → v.block e ≡ count_below g.size (in_block U e)
   new_block e h = r.blocks e ∙ elim (cases_eq e r.c) [
-    | inl q ↦ cond-true (e == r.c) r.block (num w.block.items e) (eq-eqb e r.c q) ∙ block_counts ∙ ap (λ y. count_below g.size (in_block U y)) (sym q)
-    | inr ne ↦ cond-false (e == r.c) r.block (num w.block.items e) (ne_eqb e r.c ne) ∙ st.fronts.blocks e (other_element e ne ∙ h)
+    | inl q ↦ cond-true (e == r.c) r.block (w.block e) (eq-eqb e r.c q) ∙ block_counts ∙ ap (λ y. count_below g.size (in_block U y)) (sym q)
+    | inr ne ↦ cond-false (e == r.c) r.block (w.block e) (ne_eqb e r.c ne) ∙ st.fronts.blocks e (other_element e ne ∙ h)
         ∙ sym (block_count_stays g st.graph aggressive r.c s U st.sound step_of e ne)
   ]
 
-  no_new_block : (e : ℕ) → is_element U e ≡ false → num v.block.items e ≡ 0
+  no_new_block : (e : ℕ) → is_element U e ≡ false → v.block e ≡ 0
   no_new_block e h = r.blocks e ∙ elim (cases_eq e r.c) [
     | inl q ↦ clash (pivot_element g st.graph aggressive r.c s U st.sound step_of) (ap (is_element U) (sym q) ∙ h)
-    | inr ne ↦ cond-false (e == r.c) r.block (num w.block.items e) (ne_eqb e r.c ne) ∙ st.fronts.no_element e (other_element e ne ∙ h)
+    | inr ne ↦ cond-false (e == r.c) r.block (w.block e) (ne_eqb e r.c ne) ∙ st.fronts.no_element e (other_element e ne ∙ h)
   ]
 
-  new_front : (e : ℕ) → is_element U e ≡ true → num v.front.items e ≡ weight g U e
+  new_front : (e : ℕ) → is_element U e ≡ true → v.front e ≡ weight g U e
   new_front e h = r.fronts e ∙ elim (cases_eq e r.c) [
-    | inl q ↦ cond-true (e == r.c) (r.block + r.border) (num w.front.items e) (eq-eqb e r.c q) ∙ both ∙ sym (weight_new g st.graph aggressive r.c s U st.sound step_of) ∙ ap (weight g U) (sym q)
-    | inr ne ↦ cond-false (e == r.c) (r.block + r.border) (num w.front.items e) (ne_eqb e r.c ne) ∙ st.fronts.fronts e (other_element e ne ∙ h)
+    | inl q ↦ cond-true (e == r.c) (r.block + r.border) (w.front e) (eq-eqb e r.c q) ∙ both ∙ sym (weight_new g st.graph aggressive r.c s U st.sound step_of) ∙ ap (weight g U) (sym q)
+    | inr ne ↦ cond-false (e == r.c) (r.block + r.border) (w.front e) (ne_eqb e r.c ne) ∙ st.fronts.fronts e (other_element e ne ∙ h)
         ∙ sym (weight_stays g st.graph aggressive r.c s U st.sound step_of e ne)
   ]
     where

@@ -1,5 +1,5 @@
--- A round of the plain engine computes the next lists of the machine, in the sizes, bounds and lists of classes and elements.
-use Rattle.std.proofs.Common.{ℕ, suc, Bool, true, false, Option, None, Some, List, [], ◌∷◌, ◌≡◌, ◌≢◌, ◌≤◌, ◌<◌, ◌+◌, ◌-◌, ◌∙◌, ◌&&◌, ◌||◌, not, min, cond, ap, sym, refl, subst, inl, inr, arith, length}
+-- A round computes the next lists of the rules.
+use Rattle.std.proofs.Common.{ℕ, suc, Bool, true, false, Option, None, Some, List, [], ◌∷◌, ◌≡◌, ◌≢◌, ◌≤◌, ◌<◌, ◌+◌, ◌-◌, ◌∙◌, ◌&&◌, ◌||◌, not, min, cond, ap, sym, refl, subst, inl, inr, arith}
 use Rattle.std.specs.Prelude.{filter, sum_by, nat_lt, is_none, ◌==◌, ◌⊎◌, ◌^◌}
 use Rattle.std.proofs.Math.Bool.{and-false, and-true}
 use Rattle.std.proofs.lemmas.Bool.{cases_Bool, cases_eq, cond-true, cond-false, or_left, or_right, or_from, or_parts, or_cases, and_from, and_parts, and_left, eqb-true, eq-eqb, ne_eqb, lt-ltb, le-ltb, not-true, not_from_false}
@@ -16,31 +16,31 @@ use Rattle.amd_model.proofs.TieLists.{same_bool, clash, has_append, has_filter, 
 use Rattle.amd_model.proofs.ListingLemmas.{filter_has, has_filter as filter_gives, has_right}
 use Rattle.amd_model.proofs.TieSums.{home_cases}
 use Rattle.amd_model.proofs.TieLaw.{L as front_list, takes_is, front_class, after, is_step, now, now_fits}
-use Rattle.amd_rounds.specs.Views.{num, some_at, list_at, live_of}
-use Rattle.amd_rounds.specs.Rounds.{keeps_none}
-use Rattle.amd_rounds.specs.Keeps.{LinksLead, Stands}
-use Rattle.amd_rounds.specs.declared.work.Work.{Work}
+use Rattle.amd_views.specs.Views.{live_of}
+use Rattle.amd_views.specs.Rounds.{keeps_none, IsApart}
+use Rattle.amd_views.specs.Keeps.{LinksLead, Stands}
+use Rattle.amd_views.specs.Views.{View}
 use Rattle.amd_model.proofs.StepFronts.{placed_small}
-use Rattle.amd_rounds.specs.Buckets.{live_in, lasts}
-use Rattle.amd_rounds.proofs.FrontsLaw.{border_is as border_rows, live_left as live_after, live_less, live_is as live_sum, joined as joined_after, no_parent as no_parent_after, fronts_kept}
-use Rattle.amd_rounds.proofs.Lists.{filter_named, sum_named, filter_all, filter_both, not_empty}
-use Rattle.amd_rounds.proofs.Rounding.{Rounding}
-use Rattle.amd_rounds.proofs.FrontLists.{gathered_other, placed_rows}
+use Rattle.amd_views.proofs.Round.Fronts.{border_is as border_rows, live_left as live_after, live_less, live_is as live_sum, joined as joined_after, no_parent as no_parent_after, fronts_kept}
+use Rattle.amd_views.proofs.Lists.Named.{filter_named, sum_named, filter_all, filter_both, not_empty}
+use Rattle.amd_views.proofs.Rounding.{Rounding}
+use Rattle.amd_views.proofs.Fronts.Gathered.{gathered_other, placed_rows}
 
 -- what was found, in the words of the machine
-pub record Found {A : Type 0} (aggressive : Bool) (w v : Work A) (t : Tie) (r : Rounding aggressive w v) : Type 0 where
+pub record Found (aggressive : Bool) (w v : View) (t : Tie) (r : Rounding aggressive w v) : Type 0 where
   pub pivot_is : r.c ≡ pivot t.bound t.placed
   pub placed : has t.placed r.c ≡ true
   pub least : (d : ℕ) → has t.placed d ≡ true → t.bound r.c ≤ t.bound d
   pub lowest : r.least ≡ t.bound r.c
   pub front_is : r.front ≡ gathered t r.c
-  pub elements : (i : ℕ) → has (gathered t r.c) i ≡ true → list_at r.kept.elements.items i ≡ kept_elements aggressive t r.c (gathered t r.c) i
-  pub variables : (i : ℕ) → has (gathered t r.c) i ≡ true → list_at r.kept.variables.items i ≡ kept_variables aggressive t r.c (gathered t r.c) i
+  pub elements : (i : ℕ) → has (gathered t r.c) i ≡ true → r.kept.elements i ≡ kept_elements aggressive t r.c (gathered t r.c) i
+  pub variables : (i : ℕ) → has (gathered t r.c) i ≡ true → r.kept.variables i ≡ kept_variables aggressive t r.c (gathered t r.c) i
   pub beyond : (i e : ℕ) → has (gathered t r.c) i ≡ true → has (kept_elements aggressive t r.c (gathered t r.c) i) e ≡ true →
-      num r.beyond e ≡ sum_by t.size (filter (λ j. not (has (gathered t r.c) j)) (t.members e))
-  pub parents : (e : ℕ) → some_at v.parent.items e ≡ cond (takes aggressive t r.c (gathered t r.c) e) (Some r.c) (t.parent e)
+      r.beyond e ≡ sum_by t.size (filter (λ j. not (has (gathered t r.c) j)) (t.members e))
+  pub taken : (e : ℕ) → r.absorbed.taken e ≡ takes aggressive t r.c (gathered t r.c) e
+  pub parents : (e : ℕ) → v.parent e ≡ cond (takes aggressive t r.c (gathered t r.c) e) (Some r.c) (t.parent e)
   pub rest_is : r.rest ≡ rest aggressive t r.c (gathered t r.c)
-  pub into_is : (i : ℕ) → has (rest aggressive t r.c (gathered t r.c)) i ≡ true → num r.into i ≡ represents aggressive t r.c (gathered t r.c) i
+  pub into_is : (i : ℕ) → has (rest aggressive t r.c (gathered t r.c)) i ≡ true → r.into i ≡ represents aggressive t r.c (gathered t r.c) i
   pub made_is : r.made ≡ made aggressive t r.c (gathered t r.c)
   pub one_made : (i : ℕ) → has (rest aggressive t r.c (gathered t r.c)) i ≡ true → has (made aggressive t r.c (gathered t r.c)) (represents aggressive t r.c (gathered t r.c) i) ≡ true
 
@@ -53,7 +53,7 @@ min_cut a x l = omega (arith, l)
 had_some : (xs : List ℕ) (p : ℕ → Bool) → is_empty (filter p xs) ≡ false → is_empty xs ≡ false
 had_some xs p h = let x = some_of (filter p xs) h in not_empty xs x.0 (filter_gives p xs x.0 x.1).0
 
-module _ {A : Type 0} (g : Graph) (dense : ℕ → Bool) (aggressive : Bool) (w v : Work A) (t : Tie) (s : State) (st : Stands g dense w t s) (r : Rounding aggressive w v) (f : Found aggressive w v t r) where
+module _ (g : Graph) (dense : ℕ → Bool) (aggressive : Bool) (w v : View) (t : Tie) (s : State) (st : Stands g dense w t s) (r : Rounding aggressive w v) (f : Found aggressive w v t r) where
   abbrev c : ℕ
   c = r.c
 
@@ -119,9 +119,9 @@ module _ {A : Type 0} (g : Graph) (dense : ℕ → Bool) (aggressive : Bool) (w 
   rest_made i h e = filter_has (λ i. represents aggressive t r.c L i == i) R i h (eq-eqb (represents aggressive t r.c L i) i e)
 
   -- what becomes of a class
-  none_kept : (i : ℕ) → has L i ≡ true → keeps_none r.kept.elements.items r.kept.variables.items i ≡ done aggressive t r.c L i
+  none_kept : (i : ℕ) → has L i ≡ true → keeps_none r.kept.elements r.kept.variables i ≡ done aggressive t r.c L i
   unfolding done
-  none_kept i h = ap (λ l. is_empty l && is_empty (list_at r.kept.variables.items i)) (f.elements i h) ∙ ap (λ l. is_empty (kept_elements aggressive t r.c L i) && is_empty l) (f.variables i h)
+  none_kept i h = ap (λ l. is_empty l && is_empty (r.kept.variables i)) (f.elements i h) ∙ ap (λ l. is_empty (kept_elements aggressive t r.c L i) && is_empty l) (f.variables i h)
 
   in_front : (i : ℕ) → has r.front i ≡ has L i
   in_front i = ap (λ l. has l i) f.front_is
@@ -138,14 +138,14 @@ module _ {A : Type 0} (g : Graph) (dense : ℕ → Bool) (aggressive : Bool) (w 
   not_c : (i : ℕ) → has L i ≡ true → (i == r.c) ≡ false
   not_c i h = ne_eqb i r.c (λ e. clash h (ap (has L) e ∙ not_pivot))
 
-  retired_rest : (j : ℕ) → has R j ≡ true → num r.retired j ≡ t.size j
+  retired_rest : (j : ℕ) → has R j ≡ true → r.retired j ≡ t.size j
   retired_rest j h = r.retired_is j
-      ∙ cond-false (has r.front j && keeps_none r.kept.elements.items r.kept.variables.items j) 0 (num w.size.items j)
+      ∙ cond-false (has r.front j && keeps_none r.kept.elements r.kept.variables j) 0 (w.size j)
       (ap (λ b. has r.front j && b) (none_kept j (rest_front j h) ∙ rest_keeps j h) ∙ and-false (has r.front j))
       ∙ st.keeps.size j (front_placed j (rest_front j h))
 
-  size_at : (x : ℕ) → (x == r.c) ≡ false → num v.size.items x ≡ num r.joined x
-  size_at x e = r.size_is x ∙ cond-false (x == r.c) 0 (num r.joined x) e
+  size_at : (x : ℕ) → (x == r.c) ≡ false → v.size x ≡ r.joined x
+  size_at x e = r.size_is x ∙ cond-false (x == r.c) 0 (r.joined x) e
 
   in_left : (x : ℕ) → has L x ≡ true → done aggressive t r.c L x ≡ false → has R x ≡ true
   unfolding rest
@@ -166,33 +166,33 @@ module _ {A : Type 0} (g : Graph) (dense : ℕ → Bool) (aggressive : Bool) (w 
   new_sound : IsSound g new_state
   new_sound = step_sound g st.graph aggressive r.c s new_state st.sound step
 
-  size_made : (x : ℕ) → has M x ≡ true → num v.size.items x ≡ new_size aggressive t r.c L x
+  size_made : (x : ℕ) → has M x ≡ true → v.size x ≡ new_size aggressive t r.c L x
   unfolding new_size
   size_made x h = let m = made_rest x h in let k = in_rest x ∙ m.0 in let same = f.into_is x m.0 ∙ m.1 in
       size_at x (not_c x (made_front x h)) ∙ r.joined_is x
-      ∙ cond-true (has r.rest x) (cond (num r.into x == x) (sum_by (num r.retired) (filter (λ j. num r.into j == x) r.rest)) 0) (num r.retired x) k
-      ∙ cond-true (num r.into x == x) (sum_by (num r.retired) (filter (λ j. num r.into j == x) r.rest)) 0 (eq-eqb (num r.into x) x same)
-      ∙ ap (λ l. sum_by (num r.retired) (filter (λ j. num r.into j == x) l)) f.rest_is
-      ∙ ap (sum_by (num r.retired)) (filter_named (λ j. num r.into j == x) (λ j. represents aggressive t r.c L j == x) R (λ j a. ap (λ n. n == x) (f.into_is j a)))
-      ∙ sum_named (num r.retired) t.size (filter (λ j. represents aggressive t r.c L j == x) R) (λ j a. retired_rest j (filter_gives (λ j. represents aggressive t r.c L j == x) R j a).0)
+      ∙ cond-true (has r.rest x) (cond (r.into x == x) (sum_by r.retired (filter (λ j. r.into j == x) r.rest)) 0) (r.retired x) k
+      ∙ cond-true (r.into x == x) (sum_by r.retired (filter (λ j. r.into j == x) r.rest)) 0 (eq-eqb (r.into x) x same)
+      ∙ ap (λ l. sum_by r.retired (filter (λ j. r.into j == x) l)) f.rest_is
+      ∙ ap (sum_by r.retired) (filter_named (λ j. r.into j == x) (λ j. represents aggressive t r.c L j == x) R (λ j a. ap (λ n. n == x) (f.into_is j a)))
+      ∙ sum_named r.retired t.size (filter (λ j. represents aggressive t r.c L j == x) R) (λ j a. retired_rest j (filter_gives (λ j. represents aggressive t r.c L j == x) R j a).0)
 
-  pub size_ended : (x : ℕ) → has L x ≡ true → has M x ≡ false → num v.size.items x ≡ 0
+  pub size_ended : (x : ℕ) → has L x ≡ true → has M x ≡ false → v.size x ≡ 0
   size_ended x h n = size_at x (not_c x h) ∙ r.joined_is x ∙ elim (cases_Bool (has R x)) [
-    | inl y ↦ cond-true (has r.rest x) (cond (num r.into x == x) (sum_by (num r.retired) (filter (λ j. num r.into j == x) r.rest)) 0) (num r.retired x) (in_rest x ∙ y)
-        ∙ cond-false (num r.into x == x) (sum_by (num r.retired) (filter (λ j. num r.into j == x) r.rest)) 0 (ne_eqb (num r.into x) x (λ e. clash (rest_made x y (sym (f.into_is x y) ∙ e)) n))
-    | inr k ↦ cond-false (has r.rest x) (cond (num r.into x == x) (sum_by (num r.retired) (filter (λ j. num r.into j == x) r.rest)) 0) (num r.retired x) (in_rest x ∙ k)
-        ∙ r.retired_is x ∙ cond-true (has r.front x && keeps_none r.kept.elements.items r.kept.variables.items x) 0 (num w.size.items x)
-        (and_from (has r.front x) (keeps_none r.kept.elements.items r.kept.variables.items x) (in_front x ∙ h) (none_kept x h ∙ not_rest x h k))
+    | inl y ↦ cond-true (has r.rest x) (cond (r.into x == x) (sum_by r.retired (filter (λ j. r.into j == x) r.rest)) 0) (r.retired x) (in_rest x ∙ y)
+        ∙ cond-false (r.into x == x) (sum_by r.retired (filter (λ j. r.into j == x) r.rest)) 0 (ne_eqb (r.into x) x (λ e. clash (rest_made x y (sym (f.into_is x y) ∙ e)) n))
+    | inr k ↦ cond-false (has r.rest x) (cond (r.into x == x) (sum_by r.retired (filter (λ j. r.into j == x) r.rest)) 0) (r.retired x) (in_rest x ∙ k)
+        ∙ r.retired_is x ∙ cond-true (has r.front x && keeps_none r.kept.elements r.kept.variables x) 0 (w.size x)
+        (and_from (has r.front x) (keeps_none r.kept.elements r.kept.variables x) (in_front x ∙ h) (none_kept x h ∙ not_rest x h k))
   ]
     where
       not_rest : (x : ℕ) → has L x ≡ true → has R x ≡ false → done aggressive t r.c L x ≡ true
       not_rest x h k = elim (cases_Bool (done aggressive t r.c L x)) [ inl y ↦ y | inr n ↦ clash (in_left x h n) k ]
 
-  pub size_outside : (x : ℕ) → (x == r.c) ≡ false → has L x ≡ false → num v.size.items x ≡ num w.size.items x
+  pub size_outside : (x : ℕ) → (x == r.c) ≡ false → has L x ≡ false → v.size x ≡ w.size x
   size_outside x e n = size_at x e ∙ r.joined_is x
-      ∙ cond-false (has r.rest x) (cond (num r.into x == x) (sum_by (num r.retired) (filter (λ j. num r.into j == x) r.rest)) 0) (num r.retired x) (in_rest x ∙ outside_rest x n)
-      ∙ r.retired_is x ∙ cond-false (has r.front x && keeps_none r.kept.elements.items r.kept.variables.items x) 0 (num w.size.items x)
-      (and_left (has r.front x) (keeps_none r.kept.elements.items r.kept.variables.items x) (in_front x ∙ n))
+      ∙ cond-false (has r.rest x) (cond (r.into x == x) (sum_by r.retired (filter (λ j. r.into j == x) r.rest)) 0) (r.retired x) (in_rest x ∙ outside_rest x n)
+      ∙ r.retired_is x ∙ cond-false (has r.front x && keeps_none r.kept.elements r.kept.variables x) 0 (w.size x)
+      (and_left (has r.front x) (keeps_none r.kept.elements r.kept.variables x) (in_front x ∙ n))
 
   -- what is placed after the round
   new_placed : (i : ℕ) → has new_lists.placed i ≡ (has t.placed i && not (ends aggressive t r.c L i))
@@ -227,16 +227,16 @@ module _ {A : Type 0} (g : Graph) (dense : ℕ → Bool) (aggressive : Bool) (w 
   made_placed i h = has_right i (filter (λ i. not (i == r.c || has L i)) t.placed) M h
 
   -- the sizes are kept
-  pub size_kept : (i : ℕ) → has new_lists.placed i ≡ true → num v.size.items i ≡ new_lists.size i
+  pub size_kept : (i : ℕ) → has new_lists.placed i ≡ true → v.size i ≡ new_lists.size i
   unfolding round
   size_kept i h = elim (cases_Bool (has M i)) [
     | inl m ↦ size_made i m ∙ sym (cond-true (has M i) (new_size aggressive t r.c L i) (t.size i) m)
     | inr n ↦ (let p = placed_cases i h n in size_outside i p.1 p.2 ∙ st.keeps.size i p.0 ∙ sym (cond-false (has M i) (new_size aggressive t r.c L i) (t.size i) n))
   ]
 
-  pub size_none : (i : ℕ) → has new_lists.placed i ≡ false → num v.size.items i ≡ 0
+  pub size_none : (i : ℕ) → has new_lists.placed i ≡ false → v.size i ≡ 0
   size_none i h = elim (cases_Bool (i == r.c)) [
-    | inl e ↦ r.size_is i ∙ cond-true (i == r.c) 0 (num r.joined i) e
+    | inl e ↦ r.size_is i ∙ cond-true (i == r.c) 0 (r.joined i) e
     | inr ne ↦ elim (cases_Bool (has L i)) [
       | inl l ↦ size_ended i l (elim (cases_Bool (has M i)) [ inr n ↦ n | inl m ↦ clash (made_placed i m) h ])
       | inr n ↦ size_outside i ne n ∙ st.keeps.no_class i (elim (cases_Bool (has t.placed i)) [ inr k ↦ k | inl k ↦ clash (new_placed i ∙ and_from (has t.placed i) (not (ends aggressive t r.c L i)) k (not_ends i ne n)) h ])
@@ -250,22 +250,22 @@ module _ {A : Type 0} (g : Graph) (dense : ℕ → Bool) (aggressive : Bool) (w 
   new_class_size : (i : ℕ) → has new_lists.placed i ≡ true → 0 < new_lists.size i
   new_class_size = placed_rows g st.graph new_state new_sound new_lists new_fits
 
-  old_live : (j : ℕ) → nat_lt 0 (num w.size.items j) ≡ has t.placed j
+  old_live : (j : ℕ) → nat_lt 0 (w.size j) ≡ has t.placed j
   old_live j = elim (cases_Bool (has t.placed j)) [
-    | inl y ↦ (let e = st.keeps.size j y in let k = class_size j y in lt-ltb 0 (num w.size.items j) (omega (arith, e, k))) ∙ sym y
-    | inr n ↦ le-ltb 0 (num w.size.items j) (let e = st.keeps.no_class j n in omega (arith, e)) ∙ sym n
+    | inl y ↦ (let e = st.keeps.size j y in let k = class_size j y in lt-ltb 0 (w.size j) (omega (arith, e, k))) ∙ sym y
+    | inr n ↦ le-ltb 0 (w.size j) (let e = st.keeps.no_class j n in omega (arith, e)) ∙ sym n
   ]
 
-  new_live : (j : ℕ) → nat_lt 0 (num v.size.items j) ≡ has new_lists.placed j
+  new_live : (j : ℕ) → nat_lt 0 (v.size j) ≡ has new_lists.placed j
   new_live j = elim (cases_Bool (has new_lists.placed j)) [
-    | inl y ↦ (let e = size_kept j y in let k = new_class_size j y in lt-ltb 0 (num v.size.items j) (omega (arith, e, k))) ∙ sym y
-    | inr n ↦ le-ltb 0 (num v.size.items j) (let e = size_none j n in omega (arith, e)) ∙ sym n
+    | inl y ↦ (let e = size_kept j y in let k = new_class_size j y in lt-ltb 0 (v.size j) (omega (arith, e, k))) ∙ sym y
+    | inr n ↦ le-ltb 0 (v.size j) (let e = size_none j n in omega (arith, e)) ∙ sym n
   ]
 
-  live_new : (xs : List ℕ) → live_of v.size.items xs ≡ filter (λ j. not (ends aggressive t r.c L j)) (live_of w.size.items xs)
-  live_new xs = filter_named (λ j. nat_lt 0 (num v.size.items j)) (λ j. nat_lt 0 (num w.size.items j) && not (ends aggressive t r.c L j)) xs
+  live_new : (xs : List ℕ) → live_of v.size xs ≡ filter (λ j. not (ends aggressive t r.c L j)) (live_of w.size xs)
+  live_new xs = filter_named (λ j. nat_lt 0 (v.size j)) (λ j. nat_lt 0 (w.size j) && not (ends aggressive t r.c L j)) xs
       (λ j a. new_live j ∙ new_placed j ∙ ap (λ b. b && not (ends aggressive t r.c L j)) (sym (old_live j)))
-      ∙ filter_both (λ j. nat_lt 0 (num w.size.items j)) (λ j. not (ends aggressive t r.c L j)) xs
+      ∙ filter_both (λ j. nat_lt 0 (w.size j)) (λ j. not (ends aggressive t r.c L j)) xs
 
   -- what a class of the front keeps are classes outside
   kept_placed : (i : ℕ) → has L i ≡ true → (j : ℕ) → has (kept_variables aggressive t r.c L i) j ≡ true → has new_lists.placed j ≡ true
@@ -282,48 +282,66 @@ module _ {A : Type 0} (g : Graph) (dense : ℕ → Bool) (aggressive : Bool) (w 
       let q = or_parts (j == r.c) (has L j) (not-true (j == r.c || has L j) p.1) in
       let n = neighbours_gives g s i j (sym (st.fits.variables i j (class_of i (front_placed i l))) ∙ p.0) in (placed_of j n.second, q.0, q.1)
 
-  outside_size : (j : ℕ) → (has t.placed j ≡ true) × ((j == r.c) ≡ false) × (has L j ≡ false) → num v.size.items j ≡ t.size j
+  outside_size : (j : ℕ) → (has t.placed j ≡ true) × ((j == r.c) ≡ false) × (has L j ≡ false) → v.size j ≡ t.size j
   outside_size j p = size_outside j p.1 p.2 ∙ st.keeps.size j p.0
 
+  -- a class that is neither the pivot nor in its front
+  apart : (i : ℕ) → has t.placed i ≡ true → (i == r.c) ≡ false → has L i ≡ false → IsApart w.size r.c r.front i
+  apart i h other outside = record {
+    class = let a = st.keeps.size i h in let b = class_size i h in omega (arith, a, b);
+    other = other;
+    outside = in_front i ∙ outside;
+  }
+
+  -- an element with members is listed by a class
+  listed : (e : ℕ) → is_empty (t.members e) ≡ false → (i : ℕ) × (0 < w.size i) × (has (w.lists.elements i) e ≡ true)
+  listed e some =
+      let m = some_of (t.members e) some in
+      let held = sym (st.fits.members e m.0) ∙ m.1 in
+      let class = (holds_gives g s e m.0 held).class in
+      let placed = placed_of m.0 class in
+      let a = st.keeps.size m.0 placed in let b = class_size m.0 placed in
+      (m.0, omega (arith, a, b), ap (λ l. has l e) (st.keeps.elements m.0 placed) ∙ st.fits.elements m.0 e class ∙ held)
+
   -- the lists are kept
-  pub variables_kept : (i : ℕ) → has new_lists.placed i ≡ true → live_of v.size.items (list_at v.lists.variables.items i) ≡ new_lists.variables i
+  pub variables_kept : (i : ℕ) → has new_lists.placed i ≡ true → live_of v.size (v.lists.variables i) ≡ new_lists.variables i
   unfolding round
   variables_kept i h = elim (cases_Bool (has M i)) [
     | inl m ↦ (let l = made_front i m in let kv : List ℕ = kept_variables aggressive t r.c L i in
-        ap (live_of v.size.items) (r.variables_is i ∙ cond-true (has r.made i) (turned (list_at r.kept.variables.items i)) (list_at r.kept.variables.items i) (in_made i ∙ m) ∙ ap turned (f.variables i l))
-        ∙ filter_all (λ j. nat_lt 0 (num v.size.items j)) (turned kv) (λ j a. new_live j ∙ kept_placed i l j (sym (has_turned kv j) ∙ a))
+        ap (live_of v.size) (r.variables_are i (in_made i ∙ m) ∙ ap turned (f.variables i l))
+        ∙ filter_all (λ j. nat_lt 0 (v.size j)) (turned kv) (λ j a. new_live j ∙ kept_placed i l j (sym (has_turned kv j) ∙ a))
         ∙ sym (cond-true (has M i) (turned kv) (filter (λ j. not (ends aggressive t r.c L j)) (t.variables i)) m))
     | inr n ↦ (let p = placed_cases i h n in
-        ap (live_of v.size.items) (r.variables_is i ∙ cond-false (has r.made i) (turned (list_at r.kept.variables.items i)) (list_at r.kept.variables.items i) (in_made i ∙ n)
-        ∙ r.absorbed.variables i ∙ cond-false (has r.front i) _ _ (in_front i ∙ p.2))
-        ∙ live_new (list_at w.lists.variables.items i) ∙ ap (filter (λ j. not (ends aggressive t r.c L j))) (st.keeps.variables i p.0)
+        ap (live_of v.size) (r.variables_stay i (apart i p.0 p.1 p.2))
+        ∙ live_new (w.lists.variables i) ∙ ap (filter (λ j. not (ends aggressive t r.c L j))) (st.keeps.variables i p.0)
         ∙ sym (cond-false (has M i) (turned (kept_variables aggressive t r.c L i)) (filter (λ j. not (ends aggressive t r.c L j)) (t.variables i)) n))
   ]
 
-  pub elements_kept : (i : ℕ) → has new_lists.placed i ≡ true → list_at v.lists.elements.items i ≡ new_lists.elements i
+  pub elements_kept : (i : ℕ) → has new_lists.placed i ≡ true → v.lists.elements i ≡ new_lists.elements i
   unfolding round
   elements_kept i h = elim (cases_Bool (has M i)) [
-    | inl m ↦ r.elements_is i ∙ cond-true (has r.made i) (r.c ∷ turned (list_at r.kept.elements.items i)) (list_at r.kept.elements.items i) (in_made i ∙ m)
+    | inl m ↦ r.elements_are i (in_made i ∙ m)
         ∙ ap (λ l. r.c ∷ turned l) (f.elements i (made_front i m)) ∙ sym (cond-true (has M i) (r.c ∷ turned (kept_elements aggressive t r.c L i)) (t.elements i) m)
     | inr n ↦ (let p = placed_cases i h n in
-        r.elements_is i ∙ cond-false (has r.made i) (r.c ∷ turned (list_at r.kept.elements.items i)) (list_at r.kept.elements.items i) (in_made i ∙ n)
-        ∙ r.absorbed.elements i ∙ cond-false (has r.front i) _ _ (in_front i ∙ p.2) ∙ st.keeps.elements i p.0
+        r.elements_stay i (apart i p.0 p.1 p.2) ∙ st.keeps.elements i p.0
         ∙ sym (cond-false (has M i) (r.c ∷ turned (kept_elements aggressive t r.c L i)) (t.elements i) n))
   ]
 
-  pub members_kept : (e : ℕ) → is_empty (new_lists.members e) ≡ false → live_of v.size.items (list_at v.lists.members.items e) ≡ new_lists.members e
+  pub members_kept : (e : ℕ) → is_empty (new_lists.members e) ≡ false → live_of v.size (v.members e) ≡ new_lists.members e
   unfolding round
   members_kept e some = elim (cases_Bool (e == r.c)) [
-    | inl y ↦ ap (live_of v.size.items) (r.members_is e ∙ cond-true (e == r.c) r.made (list_at w.lists.members.items e) y ∙ f.made_is)
-        ∙ filter_all (λ j. nat_lt 0 (num v.size.items j)) M (λ j a. new_live j ∙ made_placed j a)
+    | inl y ↦ ap (live_of v.size) (ap v.members (eqb-true e r.c y) ∙ r.members_are ∙ f.made_is)
+        ∙ filter_all (λ j. nat_lt 0 (v.size j)) M (λ j a. new_live j ∙ made_placed j a)
         ∙ sym (cond-true (e == r.c) M (cond (takes aggressive t r.c L e) [] (filter (λ j. not (ends aggressive t r.c L j)) (t.members e))) y)
     | inr n ↦ elim (cases_Bool (takes aggressive t r.c L e)) [
       | inl y ↦ clash (none_taken e n y) some
       | inr k ↦ (let e1 = cond-false (e == r.c) M (cond (takes aggressive t r.c L e) [] (filter (λ j. not (ends aggressive t r.c L j)) (t.members e))) n in
           let e2 = cond-false (takes aggressive t r.c L e) [] (filter (λ j. not (ends aggressive t r.c L j)) (t.members e)) k in
-          ap (live_of v.size.items) (r.members_is e ∙ cond-false (e == r.c) r.made (list_at w.lists.members.items e) n)
-          ∙ live_new (list_at w.lists.members.items e)
-          ∙ ap (filter (λ j. not (ends aggressive t r.c L j))) (st.keeps.members e (had_some (t.members e) (λ j. not (ends aggressive t r.c L j)) (sym (ap is_empty (e1 ∙ e2)) ∙ some)))
+          let had = had_some (t.members e) (λ j. not (ends aggressive t r.c L j)) (sym (ap is_empty (e1 ∙ e2)) ∙ some) in
+          let by = listed e had in
+          ap (live_of v.size) (r.members_stay e by.0 by.1 by.2 n (f.taken e ∙ k))
+          ∙ live_new (w.members e)
+          ∙ ap (filter (λ j. not (ends aggressive t r.c L j))) (st.keeps.members e had)
           ∙ sym (e1 ∙ e2))
     ]
   ]
@@ -376,39 +394,39 @@ module _ {A : Type 0} (g : Graph) (dense : ℕ → Bool) (aggressive : Bool) (w 
   abbrev leaves : ℕ → Bool
   leaves x = has L x && done aggressive t r.c L x
 
-  merges_is : (x : ℕ) → (has r.rest x && not (num r.into x == x)) ≡ merges x
+  merges_is : (x : ℕ) → (has r.rest x && not (r.into x == x)) ≡ merges x
   merges_is x = elim (cases_Bool (has R x)) [
-    | inl y ↦ ap (λ b. b && not (num r.into x == x)) (in_rest x) ∙ ap (λ n. has R x && not (n == x)) (f.into_is x y)
-    | inr n ↦ and_left (has r.rest x) (not (num r.into x == x)) (in_rest x ∙ n) ∙ sym (and_left (has R x) (not (represents aggressive t r.c L x == x)) n)
+    | inl y ↦ ap (λ b. b && not (r.into x == x)) (in_rest x) ∙ ap (λ n. has R x && not (n == x)) (f.into_is x y)
+    | inr n ↦ and_left (has r.rest x) (not (r.into x == x)) (in_rest x ∙ n) ∙ sym (and_left (has R x) (not (represents aggressive t r.c L x == x)) n)
   ]
 
-  leaves_is : (x : ℕ) → (has r.front x && keeps_none r.kept.elements.items r.kept.variables.items x) ≡ leaves x
+  leaves_is : (x : ℕ) → (has r.front x && keeps_none r.kept.elements r.kept.variables x) ≡ leaves x
   leaves_is x = elim (cases_Bool (has L x)) [
-    | inl y ↦ ap (λ b. b && keeps_none r.kept.elements.items r.kept.variables.items x) (in_front x) ∙ ap (λ b. has L x && b) (none_kept x y)
-    | inr n ↦ and_left (has r.front x) (keeps_none r.kept.elements.items r.kept.variables.items x) (in_front x ∙ n) ∙ sym (and_left (has L x) (done aggressive t r.c L x) n)
+    | inl y ↦ ap (λ b. b && keeps_none r.kept.elements r.kept.variables x) (in_front x) ∙ ap (λ b. has L x && b) (none_kept x y)
+    | inr n ↦ and_left (has r.front x) (keeps_none r.kept.elements r.kept.variables x) (in_front x ∙ n) ∙ sym (and_left (has L x) (done aggressive t r.c L x) n)
   ]
 
   -- the new link of a row: to its representative, to the pivot, or the old one
   data NewLink (x : ℕ) : Type 0 where
-    merged : has R x ≡ true → represents aggressive t r.c L x ≢ x → some_at v.link.items x ≡ Some (represents aggressive t r.c L x) → NewLink x
-    left_out : has L x ≡ true → done aggressive t r.c L x ≡ true → some_at v.link.items x ≡ Some r.c → NewLink x
-    as_before : (has R x ≡ true → represents aggressive t r.c L x ≡ x) → (has L x ≡ true → has R x ≡ true) → some_at v.link.items x ≡ some_at w.link.items x → NewLink x
+    merged : has R x ≡ true → represents aggressive t r.c L x ≢ x → v.link x ≡ Some (represents aggressive t r.c L x) → NewLink x
+    left_out : has L x ≡ true → done aggressive t r.c L x ≡ true → v.link x ≡ Some r.c → NewLink x
+    as_before : (has R x ≡ true → represents aggressive t r.c L x ≡ x) → (has L x ≡ true → has R x ≡ true) → v.link x ≡ w.link x → NewLink x
 
   new_link : (x : ℕ) → NewLink x
   new_link x = elim (cases_Bool (merges x)) [
     | inl y ↦ (let p = and_parts (has R x) (not (represents aggressive t r.c L x == x)) y in
         merged p.0 (λ e. clash (eq-eqb (represents aggressive t r.c L x) x e) (not-true (represents aggressive t r.c L x == x) p.1))
-        (r.link_is x ∙ cond-true (has r.rest x && not (num r.into x == x)) _ _ (merges_is x ∙ y) ∙ ap (λ n. Some n) (f.into_is x p.0)))
+        (r.link_is x ∙ cond-true (has r.rest x && not (r.into x == x)) _ _ (merges_is x ∙ y) ∙ ap (λ n. Some n) (f.into_is x p.0)))
     | inr n ↦ elim (cases_Bool (leaves x)) [
       | inl y ↦ (let p = and_parts (has L x) (done aggressive t r.c L x) y in
-          left_out p.0 p.1 (r.link_is x ∙ cond-false (has r.rest x && not (num r.into x == x)) _ _ (merges_is x ∙ n) ∙ cond-true (has r.front x && keeps_none r.kept.elements.items r.kept.variables.items x) _ _ (leaves_is x ∙ y)))
+          left_out p.0 p.1 (r.link_is x ∙ cond-false (has r.rest x && not (r.into x == x)) _ _ (merges_is x ∙ n) ∙ cond-true (has r.front x && keeps_none r.kept.elements r.kept.variables x) _ _ (leaves_is x ∙ y)))
       | inr k ↦ as_before
           (λ h. elim (cases_eq (represents aggressive t r.c L x) x) [
             | inl q ↦ q
             | inr ne ↦ clash (and_from (has R x) (not (represents aggressive t r.c L x == x)) h (not_from_false (represents aggressive t r.c L x == x) (ne_eqb (represents aggressive t r.c L x) x ne))) n
           ])
           (λ h. in_left x h (elim (cases_Bool (done aggressive t r.c L x)) [ inr m ↦ m | inl m ↦ clash (and_from (has L x) (done aggressive t r.c L x) h m) k ]))
-          (r.link_is x ∙ cond-false (has r.rest x && not (num r.into x == x)) _ _ (merges_is x ∙ n) ∙ cond-false (has r.front x && keeps_none r.kept.elements.items r.kept.variables.items x) _ _ (leaves_is x ∙ k))
+          (r.link_is x ∙ cond-false (has r.rest x && not (r.into x == x)) _ _ (merges_is x ∙ n) ∙ cond-false (has r.front x && keeps_none r.kept.elements r.kept.variables x) _ _ (leaves_is x ∙ k))
     ]
   ]
 
@@ -427,14 +445,14 @@ module _ {A : Type 0} (g : Graph) (dense : ℕ → Bool) (aggressive : Bool) (w 
   done_home : (x : ℕ) → has L x ≡ true → done aggressive t r.c L x ≡ true → new_lists.home x ≡ Gone r.c
   done_home x h k = new_home_is x ∙ ap moved (home_of x (front_placed x h)) ∙ moved_done x h k
 
-  linked_kept : (x u : ℕ) → some_at v.link.items x ≡ Some u → new_lists.home x ≡ new_lists.home u
+  linked_kept : (x u : ℕ) → v.link x ≡ Some u → new_lists.home x ≡ new_lists.home u
   linked_kept x u e = elim (new_link x) [
     | merged h ne q ↦ (let same = some_same (sym q ∙ e) in rest_home x h ∙ sym (made_home (represents aggressive t r.c L x) (f.one_made x h)) ∙ ap new_lists.home same)
     | left_out h k q ↦ done_home x h k ∙ sym pivot_home ∙ ap new_lists.home (some_same (sym q ∙ e))
     | as_before a b q ↦ new_home_is x ∙ ap moved (st.keeps.links.linked x u (sym q ∙ e)) ∙ sym (new_home_is u)
   ]
 
-  alone_kept : (x : ℕ) → some_at v.link.items x ≡ None → (new_lists.home x ≡ Live x) ⊎ (new_lists.home x ≡ Gone x) ⊎ (new_lists.home x ≡ Last)
+  alone_kept : (x : ℕ) → v.link x ≡ None → (new_lists.home x ≡ Live x) ⊎ (new_lists.home x ≡ Gone x) ⊎ (new_lists.home x ≡ Last)
   alone_kept x e = elim (new_link x) [
     | merged h ne q ↦ absurd (let k = sym q ∙ e in cc)
     | left_out h k q ↦ absurd (let m = sym q ∙ e in cc)
@@ -486,7 +504,7 @@ module _ {A : Type 0} (g : Graph) (dense : ℕ → Bool) (aggressive : Bool) (w 
     | inr (inr (e, z)) ↦ inr (let k : Gone x ≡ Gone e = sym h ∙ new_home_is x ∙ ap moved z ∙ moved_gone e in z ∙ sym k)
   ]
 
-  free_kept : (x : ℕ) → (new_lists.home x ≡ Live x) ⊎ (new_lists.home x ≡ Gone x) → some_at v.link.items x ≡ None
+  free_kept : (x : ℕ) → (new_lists.home x ≡ Live x) ⊎ (new_lists.home x ≡ Gone x) → v.link x ≡ None
   free_kept x h = elim (new_link x) [
     | merged k ne q ↦ absurd (elim h [
       | inl y ↦ ne (let e : Live (represents aggressive t r.c L x) ≡ Live x = sym (rest_home x k) ∙ y in cc)
@@ -515,7 +533,7 @@ module _ {A : Type 0} (g : Graph) (dense : ℕ → Bool) (aggressive : Bool) (w 
     | inr (inr (e, z)) ↦ absurd (let k = sym h ∙ new_home_is x ∙ ap moved z ∙ moved_gone e in cc)
   ]
 
-  last_kept : (x : ℕ) → new_lists.home x ≡ Last → some_at v.link.items x ≡ None
+  last_kept : (x : ℕ) → new_lists.home x ≡ Last → v.link x ≡ None
   last_kept x h = elim (new_link x) [
     | merged k ne q ↦ absurd (let e = sym (rest_home x k) ∙ h in cc)
     | left_out k d q ↦ absurd (let e = sym (done_home x k d) ∙ h in cc)
@@ -529,47 +547,47 @@ module _ {A : Type 0} (g : Graph) (dense : ℕ → Bool) (aggressive : Bool) (w 
   old_top = st.keeps.links.top
 
   abbrev new_rank : ℕ → ℕ
-  new_rank x = cond (is_none (some_at v.link.items x)) (suc old_top) (old_rank x)
+  new_rank x = cond (is_none (v.link x)) (suc old_top) (old_rank x)
 
   -- what is linked now had a rank no higher than the top
   old_small : (x : ℕ) → old_rank x ≤ old_top
-  old_small x = low (some_at w.link.items x) refl
+  old_small x = low (w.link x) refl
     where
-      low : (o : Option ℕ) → some_at w.link.items x ≡ o → old_rank x ≤ old_top
+      low : (o : Option ℕ) → w.link x ≡ o → old_rank x ≤ old_top
       low None e = let k = st.keeps.links.end.ends x e in omega (arith, k)
       low (Some u) e = let k = st.keeps.links.end.below x u e in omega (arith, k)
 
-  rank_linked : (x u : ℕ) → some_at v.link.items x ≡ Some u → new_rank x ≡ old_rank x
+  rank_linked : (x u : ℕ) → v.link x ≡ Some u → new_rank x ≡ old_rank x
   rank_linked x u e = ap (λ o. cond (is_none o) (suc old_top) (old_rank x)) e
 
-  rank_free : (x : ℕ) → some_at v.link.items x ≡ None → new_rank x ≡ suc old_top
+  rank_free : (x : ℕ) → v.link x ≡ None → new_rank x ≡ suc old_top
   rank_free x e = ap (λ o. cond (is_none o) (suc old_top) (old_rank x)) e
 
   rank_least : (x : ℕ) → old_rank x ≤ new_rank x
-  rank_least x = low (some_at v.link.items x) refl
+  rank_least x = low (v.link x) refl
     where
-      low : (o : Option ℕ) → some_at v.link.items x ≡ o → old_rank x ≤ new_rank x
+      low : (o : Option ℕ) → v.link x ≡ o → old_rank x ≤ new_rank x
       low None e = let a = rank_free x e in let b = old_small x in omega (arith, a, b)
       low (Some u) e = let a = rank_linked x u e in omega (arith, a)
 
   row_small : (x : ℕ) → has t.placed x ≡ true → x < g.size
   row_small x h = live_small g st.graph s st.sound x x (class_of x h)
 
-  linked_small : (x u : ℕ) → some_at v.link.items x ≡ Some u → u < g.size
+  linked_small : (x u : ℕ) → v.link x ≡ Some u → u < g.size
   linked_small x u e = elim (new_link x) [
     | merged h ne q ↦ subst (λ n. n < g.size) (some_same (sym q ∙ e)) (row_small (represents aggressive t r.c L x) (front_placed (represents aggressive t r.c L x) (made_front (represents aggressive t r.c L x) (f.one_made x h))))
     | left_out h k q ↦ subst (λ n. n < g.size) (some_same (sym q ∙ e)) (row_small r.c f.placed)
-    | as_before a b q ↦ (let k = (st.keeps.links.end.rise x u (sym q ∙ e)).1 in let n = st.sized.link in omega (arith, k, n))
+    | as_before a b q ↦ (let k = (st.keeps.links.end.rise x u (sym q ∙ e)).1 in let n = st.rows in omega (arith, k, n))
   ]
 
-  rank_rises : (x u : ℕ) → some_at v.link.items x ≡ Some u → new_rank x < new_rank u
+  rank_rises : (x u : ℕ) → v.link x ≡ Some u → new_rank x < new_rank u
   rank_rises x u e = let a = rank_linked x u e in let o = old_small x in elim (new_link x) [
     | merged h ne q ↦ (let same = some_same (sym q ∙ e) in let k = rank_free u (free_kept u (inl (subst (λ n. new_lists.home n ≡ Live n) same (made_home (represents aggressive t r.c L x) (f.one_made x h))))) in omega (arith, a, o, k))
     | left_out h d q ↦ (let same = some_same (sym q ∙ e) in let k = rank_free u (free_kept u (inr (subst (λ n. new_lists.home n ≡ Gone n) same pivot_home))) in omega (arith, a, o, k))
     | as_before m b q ↦ (let k = (st.keeps.links.end.rise x u (sym q ∙ e)).0 in let l = rank_least u in omega (arith, a, k, l))
   ]
 
-  pub links_kept : LinksLead v.link.items new_lists.home
+  pub links_kept : LinksLead v.rows v.link new_lists.home
   links_kept = record {
     linked = linked_kept;
     alone = alone_kept;
@@ -578,7 +596,7 @@ module _ {A : Type 0} (g : Graph) (dense : ℕ → Bool) (aggressive : Bool) (w 
     rank = new_rank;
     top = suc old_top;
     end = record {
-      rise = λ x u e. (rank_rises x u e, (let k = linked_small x u e in let n = (r.sized g.size st.sized).link in omega (arith, k, n)));
+      rise = λ x u e. (rank_rises x u e, (let k = linked_small x u e in let n = r.rows in let z = st.rows in omega (arith, k, n, z)));
       ends = rank_free;
       below = λ x u e. (let a = rank_linked x u e in let o = old_small x in omega (arith, a, o));
     };
@@ -603,10 +621,10 @@ module _ {A : Type 0} (g : Graph) (dense : ℕ → Bool) (aggressive : Bool) (w 
       no_stand : stands g s r.c ≡ true → ⊥
       no_stand k = let e = (stands_gives g s r.c k).element in let h = class_of r.c f.placed in cc
 
-  pub parents_kept : (e : ℕ) → some_at v.parent.items e ≡ new_lists.parent e
+  pub parents_kept : (e : ℕ) → v.parent e ≡ new_lists.parent e
   unfolding round
   parents_kept e = elim (cases_eq e r.c) [
-    | inl y ↦ ap (λ n. some_at v.parent.items n) y ∙ f.parents r.c ∙ cond-false (takes aggressive t r.c L r.c) (Some r.c) (t.parent r.c) no_takes
+    | inl y ↦ ap (λ n. v.parent n) y ∙ f.parents r.c ∙ cond-false (takes aggressive t r.c L r.c) (Some r.c) (t.parent r.c) no_takes
         ∙ st.fits.parent r.c ∙ st.no_parent r.c (live_from r.c (s.home r.c) (class_of r.c f.placed))
         ∙ sym (cond-true (e == r.c) None (cond (takes aggressive t r.c L e) (Some r.c) (t.parent e)) (eq-eqb e r.c y))
     | inr ne ↦ f.parents e ∙ sym (cond-false (e == r.c) None (cond (takes aggressive t r.c L e) (Some r.c) (t.parent e)) (ne_eqb e r.c ne))
@@ -619,54 +637,54 @@ module _ {A : Type 0} (g : Graph) (dense : ℕ → Bool) (aggressive : Bool) (w 
     unfolding next_bound
     least_of i = omega arith
 
-    old_bound : (i : ℕ) → has t.placed i ≡ true → num w.bound.items i < 2 ^ 64
-    old_bound i h = let a = st.keeps.small i h in let b = st.sized.size in omega (arith, a, b, few)
+    old_bound : (i : ℕ) → has t.placed i ≡ true → w.bound i < 2 ^ 64
+    old_bound i h = let a = st.keeps.small i h in let b = st.rows in omega (arith, a, b, few)
 
-    far_is : (i : ℕ) → has L i ≡ true → cut (sum_by (num r.beyond) (list_at r.kept.elements.items i) + sum_by (num v.size.items) (list_at r.kept.variables.items i)) ≡ cut (far aggressive t r.c L i)
+    far_is : (i : ℕ) → has L i ≡ true → cut (sum_by r.beyond (r.kept.elements i) + sum_by v.size (r.kept.variables i)) ≡ cut (far aggressive t r.c L i)
     unfolding far
     far_is i l =
         let h : ℕ → ℕ = λ e. sum_by t.size (filter (λ j. not (has L j)) (t.members e)) in
         let ke : List ℕ = kept_elements aggressive t r.c L i in let kv : List ℕ = kept_variables aggressive t r.c L i in
-        let one : sum_by (num r.beyond) (list_at r.kept.elements.items i) ≡ sum_by h ke = ap (sum_by (num r.beyond)) (f.elements i l) ∙ sum_named (num r.beyond) h ke (λ e k. f.beyond i e l k) in
-        let two : sum_by (num v.size.items) (list_at r.kept.variables.items i) ≡ sum_by t.size kv = ap (sum_by (num v.size.items)) (f.variables i l) ∙ sum_named (num v.size.items) t.size kv (λ j k. outside_size j (kept_outside i l j k)) in
-        ap (λ m. cut (m + sum_by (num v.size.items) (list_at r.kept.variables.items i))) one ∙ ap (λ m. cut (sum_by h ke + m)) two
+        let one : sum_by r.beyond (r.kept.elements i) ≡ sum_by h ke = ap (sum_by r.beyond) (f.elements i l) ∙ sum_named r.beyond h ke (λ e k. f.beyond i e l k) in
+        let two : sum_by v.size (r.kept.variables i) ≡ sum_by t.size kv = ap (sum_by v.size) (f.variables i l) ∙ sum_named v.size t.size kv (λ j k. outside_size j (kept_outside i l j k)) in
+        ap (λ m. cut (m + sum_by v.size (r.kept.variables i))) one ∙ ap (λ m. cut (sum_by h ke + m)) two
 
-    made_bound : (i : ℕ) → has M i ≡ true → num v.bound.items i ≡ next_bound aggressive t r.c L i
+    made_bound : (i : ℕ) → has M i ≡ true → v.bound i ≡ next_bound aggressive t r.c L i
     unfolding next_bound
     made_bound i m = let l = made_front i m in let p = front_placed i l in
-        r.bound_is i ∙ cond-true (has r.made i) _ _ (in_made i ∙ m)
-        ∙ formula (num w.bound.items i) (t.bound i) (cut (sum_by (num r.beyond) (list_at r.kept.elements.items i) + sum_by (num v.size.items) (list_at r.kept.variables.items i))) (far aggressive t r.c L i)
-        r.border (sum_by t.size R) (num v.size.items i) (new_size aggressive t r.c L i) v.live (left aggressive t r.c L) (st.keeps.bound i p) (far_is i l) (old_bound i p) border_is (size_made i m) live_is
+        r.bound_is i (in_made i ∙ m)
+        ∙ formula (w.bound i) (t.bound i) (cut (sum_by r.beyond (r.kept.elements i) + sum_by v.size (r.kept.variables i))) (far aggressive t r.c L i)
+        r.border (sum_by t.size R) (v.size i) (new_size aggressive t r.c L i) v.live (left aggressive t r.c L) (st.keeps.bound i p) (far_is i l) (old_bound i p) border_is (size_made i m) live_is
       where
         formula : (a a' x f' b b' z z' l l' : ℕ) → a ≡ a' → x ≡ cut f' → a < 2 ^ 64 → b ≡ b' → z ≡ z' → l ≡ l' → min (min a x + (b - z)) (l - z) ≡ min (min a' f' + (b' - z')) (l' - z')
         formula a a' x f' b b' z z' l l' ea ex la eb ez el = let k : min a x ≡ min a' f' = ap (min a) ex ∙ min_cut a f' la ∙ ap (λ n. min n f') ea in rw (k, eb, ez, el) refl
 
-    other_bound : (i : ℕ) → has M i ≡ false → num v.bound.items i ≡ num w.bound.items i
-    other_bound i n = r.bound_is i ∙ cond-false (has r.made i) _ _ (in_made i ∙ n)
+    other_bound : (i : ℕ) → has new_lists.placed i ≡ true → has M i ≡ false → v.bound i ≡ w.bound i
+    other_bound i h n = let p = placed_cases i h n in r.bound_stays i (apart i p.0 p.1 p.2)
 
-    pub bound_kept : (i : ℕ) → has new_lists.placed i ≡ true → num v.bound.items i ≡ new_lists.bound i
+    pub bound_kept : (i : ℕ) → has new_lists.placed i ≡ true → v.bound i ≡ new_lists.bound i
     unfolding round
     bound_kept i h = elim (cases_Bool (has M i)) [
       | inl m ↦ made_bound i m ∙ sym (cond-true (has M i) (next_bound aggressive t r.c L i) (t.bound i) m)
-      | inr n ↦ (let p = placed_cases i h n in other_bound i n ∙ st.keeps.bound i p.0 ∙ sym (cond-false (has M i) (next_bound aggressive t r.c L i) (t.bound i) n))
+      | inr n ↦ (let p = placed_cases i h n in other_bound i h n ∙ st.keeps.bound i p.0 ∙ sym (cond-false (has M i) (next_bound aggressive t r.c L i) (t.bound i) n))
     ]
 
-    pub small_kept : (i : ℕ) → has new_lists.placed i ≡ true → num v.bound.items i < length v.size.items
-    small_kept i h = let n = (r.sized g.size st.sized).size in elim (cases_Bool (has M i)) [
+    pub small_kept : (i : ℕ) → has new_lists.placed i ≡ true → v.bound i < v.rows
+    small_kept i h = let n = r.rows ∙ st.rows in elim (cases_Bool (has M i)) [
       | inl m ↦ (let a = made_bound i m in let b = least_of i in let k = new_class_size i h in let e = sym (size_kept i h) ∙ size_made i m in
           let z = live_is in let y = row_small i (front_placed i (made_front i m)) in omega (arith, a, b, k, e, n, z, y, live_small))
-      | inr o ↦ (let p = placed_cases i h o in let a = other_bound i o in let b = st.keeps.small i p.0 in let k = st.sized.size in omega (arith, a, b, k, n))
+      | inr o ↦ (let p = placed_cases i h o in let a = other_bound i h o in let b = st.keeps.small i p.0 in let k = st.rows in omega (arith, a, b, k, n))
     ]
 
     pub least_kept : (i : ℕ) → has new_lists.placed i ≡ true → v.least ≤ new_lists.bound i
     least_kept i h = let b = bound_kept i h in elim (cases_Bool (has M i)) [
       | inl m ↦ (let k = r.least_is.1 i (in_made i ∙ m) in omega (arith, b, k))
       | inr n ↦ (let p = placed_cases i h n in let k = f.least i p.0 in let q = f.lowest in let l = r.least_is.0 in
-          let o = other_bound i n ∙ st.keeps.bound i p.0 in omega (arith, b, k, q, l, o))
+          let o = other_bound i h n ∙ st.keeps.bound i p.0 in omega (arith, b, k, q, l, o))
     ]
 
   -- the record stands for the next lists, and for the state that the step leads to
-  module _ (few : g.size < 2 ^ 64) (buckets : (b : ℕ) → lasts (live_in v.size.items v.bound.items b (list_at v.placed.items b)) ≡ filter (λ i. new_lists.bound i == b) new_lists.placed) where
+  module _ (few : g.size < 2 ^ 64) where
     border_is : r.border ≡ sum_by t.size (rest aggressive t r.c (gathered t r.c))
     border_is = border_rows g dense aggressive w v t s st r class least f.front_is f.rest_is
 
@@ -682,7 +700,7 @@ module _ {A : Type 0} (g : Graph) (dense : ℕ → Bool) (aggressive : Bool) (w 
       graph = st.graph;
       sound = new_sound;
       fits = new_fits;
-      sized = r.sized g.size st.sized;
+      rows = r.rows ∙ st.rows;
       keeps = record {
         size = size_kept;
         no_class = size_none;
@@ -691,7 +709,6 @@ module _ {A : Type 0} (g : Graph) (dense : ℕ → Bool) (aggressive : Bool) (w 
         variables = variables_kept;
         elements = elements_kept;
         members = members_kept;
-        placed = buckets;
         least = least_kept few border_is live_left live_fits;
         live = live_sum g dense aggressive w v t s st r class least f.front_is f.rest_is;
         parents = parents_kept;
@@ -702,14 +719,14 @@ module _ {A : Type 0} (g : Graph) (dense : ℕ → Bool) (aggressive : Bool) (w 
       fronts = fronts_kept g dense aggressive w v t s st r class least f.front_is f.rest_is;
     }
 
-  as_next : new_lists ≡ next aggressive t
+  pub as_next : new_lists ≡ next aggressive t
   unfolding next
   as_next = ap (λ c. round aggressive t c (gathered t c)) f.pivot_is
 
   -- the record is one round further
-  pub one_round : g.size < 2 ^ 64 → ((b : ℕ) → lasts (live_in v.size.items v.bound.items b (list_at v.placed.items b)) ≡ filter (λ i. new_lists.bound i == b) new_lists.placed) →
+  pub one_round : g.size < 2 ^ 64 →
       (is_empty t.placed ≡ false) × ((u : State) × StepAt g aggressive (pivot t.bound t.placed) s u × Stands g dense v (next aggressive t) u)
-  one_round few buckets = (some_placed, (new_state, subst (λ c. StepAt g aggressive c s new_state) f.pivot_is step, subst (λ u. Stands g dense v u new_state) as_next (stands_after few buckets)))
+  one_round few = (some_placed, (new_state, subst (λ c. StepAt g aggressive c s new_state) f.pivot_is step, subst (λ u. Stands g dense v u new_state) as_next (stands_after few)))
     where
       some_placed : is_empty t.placed ≡ false
       some_placed = not_empty t.placed r.c f.placed

@@ -6,7 +6,7 @@ use Rattle.std.proofs.lemmas.List.Sums.{sum_by-cons, length-filter}
 use Rattle.amd_model.specs.Tie.{has, each, Once}
 use Rattle.amd_model.proofs.TieLists.{clash, once_filter, each_gives, each_from}
 use Rattle.amd_model.proofs.ListingLemmas.{filter_has, has_head, has_tail}
-use Rattle.amd_rounds.proofs.Lists.{filter_all, sum_apart}
+use Rattle.amd_views.proofs.Lists.Named.{filter_all, sum_apart}
 
 -- the others of a list
 others_of : ℕ → List ℕ → List ℕ

@@ -10,7 +10,7 @@ use Rattle.std.proofs.lemmas.List.Sums.{sum_by-append, sum_by-cons}
 use Rattle.amd_model.specs.Tie.{has, is_empty, turned, Once}
 use Rattle.amd_model.proofs.TieLists.{clash, has_append, has_turned, filter_yes, filter_no}
 use Rattle.amd_model.proofs.ListingLemmas.{has_none, has_head, has_tail, has_cases}
-use Rattle.amd_rounds.specs.Views.{Below}
+use Rattle.amd_views.specs.Views.{Below}
 
 -- a list that names something is not empty
 pub not_empty : (xs : List ℕ) (x : ℕ) → has xs x ≡ true → is_empty xs ≡ false

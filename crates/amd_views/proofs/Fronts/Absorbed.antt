@@ -1,7 +1,7 @@
 -- What an absorption finds and leaves in the lists of a record is what the rules say of the lists that it keeps.
 use Rattle.std.proofs.Common.{ℕ, Bool, true, false, Option, Some, List, [], ◌++◌, ◌≡◌, ◌<◌, ◌-◌, ◌&&◌, ◌||◌, not, cond, inl, inr, sym, ◌∙◌, ap, subst, arith}
 use Rattle.std.specs.Prelude.{filter, flat_map, sum_by, nat_eq, nat_lt, ◌==◌}
-use Rattle.std.proofs.lemmas.Bool.{cases_Bool, cond-true, cond-false, and_parts, and_from, or_left, or_parts, eqb-true, eq-eqb, not-true, not_from_false, ltb-true}
+use Rattle.std.proofs.lemmas.Bool.{cases_Bool, and_parts, and_from, or_left, or_parts, eqb-true, eq-eqb, not-true, not_from_false, ltb-true}
 use Rattle.amd_model.specs.Below.{count_below}
 use Rattle.amd_model.specs.Graph.{Graph, IsGraph}
 use Rattle.amd_model.specs.Sound.{IsSound}
@@ -10,16 +10,16 @@ use Rattle.amd_model.specs.Tie.{Tie, Fits, Once, has, each, is_empty, gathered, 
 use Rattle.amd_model.proofs.StateLemmas.{class_gives, class_from, holds_gives}
 use Rattle.amd_model.proofs.TieLists.{each_from, empty_from, clash, same_bool, each_gives, some_of, flat_gives, flat_from, firsts as firsts_names}
 use Rattle.amd_model.proofs.ListingLemmas.{filter_has, has_filter as filter_gives}
-use Rattle.amd_rounds.specs.Views.{num, some_at, list_at, live_of}
-use Rattle.amd_rounds.specs.Rounds.{firsts, Absorbed}
-use Rattle.amd_rounds.specs.Keeps.{Keeps}
-use Rattle.amd_rounds.specs.declared.work.Lists.{Lists}
-use Rattle.amd_rounds.specs.declared.work.Work.{Work}
+use Rattle.amd_views.specs.Views.{live_of}
+use Rattle.amd_views.specs.Rounds.{firsts, Absorbed}
+use Rattle.amd_views.specs.Keeps.{Keeps}
+use Rattle.amd_views.specs.Views.{ClassLists}
+use Rattle.amd_views.specs.Views.{View}
 use Rattle.amd_model.proofs.TieFar.{border_parts}
-use Rattle.amd_rounds.proofs.Lists.{filter_named, filter_both, sum_named, flat_same, none_sum, named_sum, not_empty}
-use Rattle.amd_rounds.proofs.Taken.{taken_off}
-use Rattle.amd_rounds.proofs.FrontLists.{gathered_once, gathered_live, gathered_placed}
-use Rattle.amd_rounds.proofs.KeptParts.{firsts_gives}
+use Rattle.amd_views.proofs.Lists.Named.{filter_named, filter_both, sum_named, flat_same, none_sum, named_sum, not_empty}
+use Rattle.amd_views.proofs.Lists.Taken.{taken_off}
+use Rattle.amd_views.proofs.Fronts.Gathered.{gathered_once, gathered_live, gathered_placed}
+use Rattle.amd_views.proofs.Fronts.Gathered.{firsts_gives}
 
 -- ---- lists
 
@@ -36,7 +36,7 @@ none_each f p xs some h = each_from p xs (λ x k. elim (cases_Bool (p x)) [
 
 -- ---- the lists of a record
 
-module _ (g : Graph) (s : State) (t : Tie) (fits : Fits g t s) {A : Type 0} (w : Work A) (kept : Keeps w t) (c : ℕ) (class : has t.placed c ≡ true) where
+module _ (g : Graph) (s : State) (t : Tie) (fits : Fits g t s) (w : View) (kept : Keeps w t) (c : ℕ) (class : has t.placed c ≡ true) where
   L : List ℕ
   L = gathered t c
 
@@ -57,11 +57,11 @@ module _ (g : Graph) (s : State) (t : Tie) (fits : Fits g t s) {A : Type 0} (w :
   some_members e i h = not_empty (t.members e) i h
 
   -- what is gathered from the record is the front
-  pub front_found : firsts (λ x. x == c) (flat_map (λ e. live_of w.size.items (list_at w.lists.members.items e)) (list_at w.lists.elements.items c) ++ live_of w.size.items (list_at w.lists.variables.items c)) ≡ gathered t c
+  pub front_found : firsts (λ x. x == c) (flat_map (λ e. live_of w.size (w.members e)) (w.lists.elements c) ++ live_of w.size (w.lists.variables c)) ≡ gathered t c
   unfolding gathered
   front_found =
-      let skip : ℕ → Bool = λ x. x == c in let lists : ℕ → List ℕ = λ e. live_of w.size.items (list_at w.lists.members.items e) in
-      let direct : List ℕ = live_of w.size.items (list_at w.lists.variables.items c) in
+      let skip : ℕ → Bool = λ x. x == c in let lists : ℕ → List ℕ = λ e. live_of w.size (w.members e) in
+      let direct : List ℕ = live_of w.size (w.lists.variables c) in
       ap (λ es. firsts skip (flat_map lists es ++ direct)) (kept.elements c class)
       ∙ ap (λ l. firsts skip (l ++ direct)) (flat_same lists t.members (t.elements c) (λ e h. kept.members e (some_members e c (element_member c e class h))))
       ∙ ap (λ l. firsts skip (flat_map t.members (t.elements c) ++ l)) (kept.variables c class)
@@ -72,41 +72,41 @@ module _ (g : Graph) (s : State) (t : Tie) (fits : Fits g t s) {A : Type 0} (w :
   -- a member of an element has rows
   member_rows : (e i : ℕ) → has (t.members e) i ≡ true → 0 < t.size i
   member_rows e i h =
-      let members : List ℕ = list_at w.lists.members.items e in let size : List ℕ = w.size.items in
-      let some = ltb-true 0 (num size i) (filter_gives (λ j. nat_lt 0 (num size j)) members i (ap (λ l. has l i) (kept.members e (some_members e i h)) ∙ h)).1 in
+      let members : List ℕ = w.members e in let size : (ℕ → ℕ) = w.size in
+      let some = ltb-true 0 (size i) (filter_gives (λ j. nat_lt 0 (size j)) members i (ap (λ l. has l i) (kept.members e (some_members e i h)) ∙ h)).1 in
       let same = kept.size i (member_class e i h) in omega (arith, some, same)
 
   -- ---- after an absorption
-  module _ (aggressive : Bool) (new : Lists A) (before after : List (Option ℕ)) (beyond : List ℕ) (a : Absorbed aggressive c (gathered t c) w.size.items w.block.items w.front.items w.lists new before after beyond)
-      (laws : IsGraph g) (sound : IsSound g s) (borders : (e : ℕ) → stands g s e ≡ true → num w.front.items e - num w.block.items e ≡ count_below g.size (s.border e)) where
-    own_is : (e : ℕ) → has (list_at w.lists.elements.items c) e ≡ has (t.elements c) e
+  module _ (aggressive : Bool) (new : ClassLists) (before after : ℕ → Option ℕ) (beyond : ℕ → ℕ) (a : Absorbed aggressive c (gathered t c) w.size w.block w.front w.lists new before after beyond)
+      (laws : IsGraph g) (sound : IsSound g s) (borders : (e : ℕ) → stands g s e ≡ true → w.front e - w.block e ≡ count_below g.size (s.border e)) where
+    own_is : (e : ℕ) → has (w.lists.elements c) e ≡ has (t.elements c) e
     own_is e = ap (λ l. has l e) (kept.elements c class)
 
-    touched_has : (e : ℕ) → has a.touched e ≡ (has (flat_map (list_at w.lists.elements.items) (gathered t c)) e && not (has (list_at w.lists.elements.items c) e))
+    touched_has : (e : ℕ) → has a.touched e ≡ (has (flat_map (w.lists.elements) (gathered t c)) e && not (has (w.lists.elements c) e))
     unfolding has
-    touched_has e = ap (λ l. has l e) a.touched_is ∙ firsts_names (has (list_at w.lists.elements.items c)) [] (flat_map (list_at w.lists.elements.items) (gathered t c)) e
+    touched_has e = ap (λ l. has l e) a.touched_is ∙ firsts_names (has (w.lists.elements c)) [] (flat_map (w.lists.elements) (gathered t c)) e
 
     -- an element of a class of the front that does not hold the pivot is touched
     touched_from : (i e : ℕ) → has (gathered t c) i ≡ true → has (t.elements i) e ≡ true → has (t.elements c) e ≡ false → has a.touched e ≡ true
-    touched_from i e l h apart = touched_has e ∙ and_from (has (flat_map (list_at w.lists.elements.items) (gathered t c)) e) (not (has (list_at w.lists.elements.items c) e))
-        (flat_from (list_at w.lists.elements.items) (gathered t c) e i l (ap (λ l. has l e) (kept.elements i (front_placed i l)) ∙ h))
-        (not_from_false (has (list_at w.lists.elements.items c) e) (own_is e ∙ apart))
+    touched_from i e l h apart = touched_has e ∙ and_from (has (flat_map (w.lists.elements) (gathered t c)) e) (not (has (w.lists.elements c) e))
+        (flat_from (w.lists.elements) (gathered t c) e i l (ap (λ l. has l e) (kept.elements i (front_placed i l)) ∙ h))
+        (not_from_false (has (w.lists.elements c) e) (own_is e ∙ apart))
 
     -- and no other
     touched_gives : (e : ℕ) → has a.touched e ≡ true → (i : ℕ) × (has (gathered t c) i ≡ true) × (has (t.elements i) e ≡ true)
     touched_gives e h =
-        let from = flat_gives (list_at w.lists.elements.items) (gathered t c) e (firsts_gives (has (list_at w.lists.elements.items c)) (flat_map (list_at w.lists.elements.items) (gathered t c)) a.touched a.touched_is e h).0 in
+        let from = flat_gives (w.lists.elements) (gathered t c) e (firsts_gives (has (w.lists.elements c)) (flat_map (w.lists.elements) (gathered t c)) a.touched a.touched_is e h).0 in
         (from.0, from.1, sym (ap (λ l. has l e) (kept.elements from.0 (front_placed from.0 from.1))) ∙ from.2)
 
     -- the rows counted of an element that is touched
-    counted_far : (e : ℕ) → has a.touched e ≡ true → num beyond e ≡ sum_by t.size (filter (λ j. not (has (gathered t c) j)) (t.members e))
+    counted_far : (e : ℕ) → has a.touched e ≡ true → beyond e ≡ sum_by t.size (filter (λ j. not (has (gathered t c) j)) (t.members e))
     counted_far e h =
         let i = touched_gives e h in
         let st : stands g s e ≡ true = (holds_gives g s e i.0 (sym (fits.elements i.0 e (home i.0 (front_placed i.0 i.1))) ∙ i.2)).standing in
-        let off = taken_off e (num w.size.items) (list_at w.lists.elements.items) (num w.front.items e - num w.block.items e) (gathered t c)
+        let off = taken_off e (w.size) (w.lists.elements) (w.front e - w.block e) (gathered t c)
         (λ j k. let p = front_placed j k in subst Once (sym (kept.elements j p)) (fits.elements_once j (home j p))) in
-        let same = sum_named (λ j. cond (has (list_at w.lists.elements.items j) e) (num w.size.items j) 0) (λ j. cond (has (t.elements j) e) (t.size j) 0) (gathered t c)
-        (λ j k. let p = front_placed j k in ap (λ l. cond (has l e) (num w.size.items j) 0) (kept.elements j p) ∙ ap (λ m. cond (has (t.elements j) e) m 0) (kept.size j p)) in
+        let same = sum_named (λ j. cond (has (w.lists.elements j) e) (w.size j) 0) (λ j. cond (has (t.elements j) e) (t.size j) 0) (gathered t c)
+        (λ j k. let p = front_placed j k in ap (λ l. cond (has l e) (w.size j) 0) (kept.elements j p) ∙ ap (λ m. cond (has (t.elements j) e) m 0) (kept.size j p)) in
         let border = borders e st in let parts = border_parts g laws t s sound fits e st (gathered t c) (gathered_once t c) (gathered_live g s t fits c class) in let is = a.counted e h in
         omega (arith, is, off, same, border, parts)
 
@@ -114,45 +114,38 @@ module _ (g : Graph) (s : State) (t : Tie) (fits : Fits g t s) {A : Type 0} (w :
     pub taken_takes : (e : ℕ) → a.taken e ≡ takes aggressive t c (gathered t c) e
     unfolding takes
     taken_takes e =
-        let whole : Bool = aggressive && nat_eq (num beyond e) 0 in let inner : Bool = aggressive && not (is_empty (t.members e)) && each (has (gathered t c)) (t.members e) in
+        let whole : Bool = aggressive && nat_eq (beyond e) 0 in let inner : Bool = aggressive && not (is_empty (t.members e)) && each (has (gathered t c)) (t.members e) in
         a.taken_is e ∙ ap (λ b. b || (has a.touched e && whole)) (own_is e) ∙ elim (cases_Bool (has (t.elements c) e)) [
           | inl own ↦ or_left (has (t.elements c) e) (has a.touched e && whole) own ∙ sym (or_left (has (t.elements c) e) inner own)
           | inr apart ↦ ap (λ b. has (t.elements c) e || b) (same_bool (has a.touched e && whole) inner
-              (λ h. let p = and_parts (has a.touched e) whole h in let q = and_parts aggressive (nat_eq (num beyond e) 0) p.1 in
+              (λ h. let p = and_parts (has a.touched e) whole h in let q = and_parts aggressive (nat_eq (beyond e) 0) p.1 in
               let i = touched_gives e p.0 in let some = some_members e i.0 (element_member i.0 e (front_placed i.0 i.1) i.2) in
-              let none = sym (counted_far e p.0) ∙ eqb-true (num beyond e) 0 q.1 in
+              let none = sym (counted_far e p.0) ∙ eqb-true (beyond e) 0 q.1 in
               and_from (aggressive && not (is_empty (t.members e))) (each (has (gathered t c)) (t.members e))
               (and_from aggressive (not (is_empty (t.members e))) q.0 (not_from_false (is_empty (t.members e)) some))
               (none_each t.size (has (gathered t c)) (t.members e) (member_rows e) none))
               (λ h. let p = and_parts (aggressive && not (is_empty (t.members e))) (each (has (gathered t c)) (t.members e)) h in let q = and_parts aggressive (not (is_empty (t.members e))) p.0 in
               let some = not-true (is_empty (t.members e)) q.1 in let m = some_of (t.members e) some in
               let touched = touched_from m.0 e (each_gives (has (gathered t c)) (t.members e) p.1 m.0 m.1) (member_element e m.0 m.1) apart in
-              and_from (has a.touched e) whole touched (and_from aggressive (nat_eq (num beyond e) 0) q.0
-              (eq-eqb (num beyond e) 0 (counted_far e touched ∙ each_none t.size (has (gathered t c)) (t.members e) p.1)))))
+              and_from (has a.touched e) whole touched (and_from aggressive (nat_eq (beyond e) 0) q.0
+              (eq-eqb (beyond e) 0 (counted_far e touched ∙ each_none t.size (has (gathered t c)) (t.members e) p.1)))))
         ]
 
     -- what a class of the front keeps is what the rules say
-    pub elements_kept : (i : ℕ) → has (gathered t c) i ≡ true → list_at new.elements.items i ≡ kept_elements aggressive t c (gathered t c) i
+    pub elements_kept : (i : ℕ) → has (gathered t c) i ≡ true → new.elements i ≡ kept_elements aggressive t c (gathered t c) i
     unfolding kept_elements
-    elements_kept i l = a.elements i ∙ cond-true (has (gathered t c) i) _ _ l
-        ∙ filter_named (λ e. not (a.taken e)) (λ e. not (takes aggressive t c (gathered t c) e)) (list_at w.lists.elements.items i) (λ e h. ap not (taken_takes e))
+    elements_kept i l = a.elements i l
+        ∙ filter_named (λ e. not (a.taken e)) (λ e. not (takes aggressive t c (gathered t c) e)) (w.lists.elements i) (λ e h. ap not (taken_takes e))
         ∙ ap (filter (λ e. not (takes aggressive t c (gathered t c) e))) (kept.elements i (front_placed i l))
 
-    pub variables_kept : (i : ℕ) → has (gathered t c) i ≡ true → list_at new.variables.items i ≡ kept_variables aggressive t c (gathered t c) i
+    pub variables_kept : (i : ℕ) → has (gathered t c) i ≡ true → new.variables i ≡ kept_variables aggressive t c (gathered t c) i
     unfolding kept_variables
-    variables_kept i l = a.variables i ∙ cond-true (has (gathered t c) i) _ _ l
-        ∙ filter_both (λ j. nat_lt 0 (num w.size.items j)) (λ j. not (j == c || has (gathered t c) j)) (list_at w.lists.variables.items i)
+    variables_kept i l = a.variables i l
+        ∙ filter_both (λ j. nat_lt 0 (w.size j)) (λ j. not (j == c || has (gathered t c) j)) (w.lists.variables i)
         ∙ ap (filter (λ j. not (j == c || has (gathered t c) j))) (kept.variables i (front_placed i l))
 
-    -- the lists of the others stay
-    pub elements_stay : (i : ℕ) → has (gathered t c) i ≡ false → list_at new.elements.items i ≡ list_at w.lists.elements.items i
-    elements_stay i l = a.elements i ∙ cond-false (has (gathered t c) i) _ _ l
-
-    pub variables_stay : (i : ℕ) → has (gathered t c) i ≡ false → list_at new.variables.items i ≡ list_at w.lists.variables.items i
-    variables_stay i l = a.variables i ∙ cond-false (has (gathered t c) i) _ _ l
-
     -- the rows outside the front of an element that a class of it keeps
-    pub rows_counted : (i e : ℕ) → has (gathered t c) i ≡ true → has (kept_elements aggressive t c (gathered t c) i) e ≡ true → num beyond e ≡ sum_by t.size (filter (λ j. not (has (gathered t c) j)) (t.members e))
+    pub rows_counted : (i e : ℕ) → has (gathered t c) i ≡ true → has (kept_elements aggressive t c (gathered t c) i) e ≡ true → beyond e ≡ sum_by t.size (filter (λ j. not (has (gathered t c) j)) (t.members e))
     unfolding kept_elements takes
     rows_counted i e l h =
         let p = filter_gives (λ e. not (takes aggressive t c (gathered t c) e)) (t.elements i) e h in
@@ -160,5 +153,5 @@ module _ (g : Graph) (s : State) (t : Tie) (fits : Fits g t s) {A : Type 0} (w :
         counted_far e (touched_from i e l p.0 apart)
 
     -- the pivot is the parent of what is absorbed
-    pub parents : ((e : ℕ) → some_at before e ≡ t.parent e) → (e : ℕ) → some_at after e ≡ cond (takes aggressive t c (gathered t c) e) (Some c) (t.parent e)
-    parents was e = a.parents e ∙ ap (λ b. cond b (Some c) (some_at before e)) (taken_takes e) ∙ ap (cond (takes aggressive t c (gathered t c) e) (Some c)) (was e)
+    pub parents : ((e : ℕ) → before e ≡ t.parent e) → (e : ℕ) → after e ≡ cond (takes aggressive t c (gathered t c) e) (Some c) (t.parent e)
+    parents was e = a.parents e ∙ ap (λ b. cond b (Some c) (before e)) (taken_takes e) ∙ ap (cond (takes aggressive t c (gathered t c) e) (Some c)) (was e)

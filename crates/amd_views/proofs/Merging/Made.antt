@@ -1,5 +1,5 @@
 -- The classes of a new element that are left, and those that represent others, are those of the elimination kept in lists.
-use Rattle.std.proofs.Common.{ℕ, Bool, true, ◌≡◌, ◌&&◌, ◌||◌, not, inl, refl, sym, ◌∙◌, ap, subst, List, Vec}
+use Rattle.std.proofs.Common.{ℕ, Bool, true, ◌≡◌, ◌&&◌, ◌||◌, not, inl, refl, sym, ◌∙◌, ap, subst, List}
 use Rattle.std.specs.Prelude.{◌==◌, filter}
 use Rattle.amd_model.specs.Graph.{Graph, IsGraph}
 use Rattle.amd_model.specs.State.{State}
@@ -7,11 +7,10 @@ use Rattle.amd_model.specs.Sound.{IsSound}
 use Rattle.amd_model.specs.Tie.{Tie, Fits, has, is_empty, each, last_that, gathered, kept_elements, kept_variables, takes, done, rest, alike, represents, made, Once}
 use Rattle.amd_model.proofs.TieLists.{once_filter, last_same'}
 use Rattle.amd_model.proofs.ListingLemmas.{has_filter as filter_gives}
-use Rattle.amd_rounds.specs.Views.{list_at}
-use Rattle.amd_rounds.specs.Rounds.{keeps_none, alike_in}
-use Rattle.amd_rounds.proofs.Lists.{filter_named}
-use Rattle.amd_rounds.proofs.Representatives.{alike_self, alike_flip, alike_through, rep_in, rep_rep}
-use Rattle.amd_rounds.proofs.FrontLists.{gathered_once, gathered_live}
+use Rattle.amd_views.specs.Rounds.{keeps_none, alike_in}
+use Rattle.amd_views.proofs.Lists.Named.{filter_named}
+use Rattle.amd_views.proofs.Merging.Representatives.{alike_self, alike_flip, alike_through, rep_in, rep_rep}
+use Rattle.amd_views.proofs.Fronts.Gathered.{gathered_once, gathered_live}
 
 module _ (g : Graph) (laws : IsGraph g) (s : State) (sound : IsSound g s) (t : Tie) (fits : Fits g t s) (c : ℕ) (placed : has t.placed c ≡ true) (aggressive : Bool) where
   pub rest_in_front : (i : ℕ) → has (rest aggressive t c (gathered t c)) i ≡ true → has (gathered t c) i ≡ true
@@ -39,18 +38,18 @@ module _ (g : Graph) (laws : IsGraph g) (s : State) (sound : IsSound g s) (t : T
   unfolding made
   made_is = refl
 
-  -- with vectors that hold what the classes of the front keep
-  module _ {A : Type 0} (elements variables : List (Vec ℕ A)) (es : (i : ℕ) → has (gathered t c) i ≡ true → list_at elements i ≡ kept_elements aggressive t c (gathered t c) i)
-      (vs : (i : ℕ) → has (gathered t c) i ≡ true → list_at variables i ≡ kept_variables aggressive t c (gathered t c) i) where
+  -- with lists that hold what the classes of the front keep
+  module _ (elements variables : ℕ → List ℕ) (es : (i : ℕ) → has (gathered t c) i ≡ true → elements i ≡ kept_elements aggressive t c (gathered t c) i)
+      (vs : (i : ℕ) → has (gathered t c) i ≡ true → variables i ≡ kept_variables aggressive t c (gathered t c) i) where
     pub rest_of : filter (λ i. not (keeps_none elements variables i)) (gathered t c) ≡ rest aggressive t c (gathered t c)
     unfolding rest done
     rest_of = filter_named (λ i. not (keeps_none elements variables i)) (λ i. not (done aggressive t c (gathered t c) i)) (gathered t c)
-        (λ i h. ap (λ xs. not (is_empty xs && is_empty (list_at variables i))) (es i h) ∙ ap (λ xs. not (is_empty (kept_elements aggressive t c (gathered t c) i) && is_empty xs)) (vs i h))
+        (λ i h. ap (λ xs. not (is_empty xs && is_empty (variables i))) (es i h) ∙ ap (λ xs. not (is_empty (kept_elements aggressive t c (gathered t c) i) && is_empty xs)) (vs i h))
 
     pub alike_is : (i j : ℕ) → has (rest aggressive t c (gathered t c)) i ≡ true → has (rest aggressive t c (gathered t c)) j ≡ true → alike_in elements variables i j ≡ alike aggressive t c (gathered t c) i j
     unfolding alike
     alike_is i j hi hj = let fi = rest_in_front i hi in let fj = rest_in_front j hj in
-        same_tests (list_at elements i) (list_at elements j) (list_at variables i) (list_at variables j) _ _ _ _ (es i fi) (es j fj) (vs i fi) (vs j fj)
+        same_tests (elements i) (elements j) (variables i) (variables j) _ _ _ _ (es i fi) (es j fj) (vs i fi) (vs j fj)
       where
         same_tests : (ei ej vi vj ei' ej' vi' vj' : List ℕ) → ei ≡ ei' → ej ≡ ej' → vi ≡ vi' → vj ≡ vj' →
             (each (has ei) ej && each (has ej) ei && each (has vi) vj && each (has vj) vi) ≡ (each (has ei') ej' && each (has ej') ei' && each (has vi') vj' && each (has vj') vi')
@@ -72,6 +71,6 @@ module _ (g : Graph) (laws : IsGraph g) (s : State) (sound : IsSound g s) (t : T
         sym (represents_is (represents aggressive t c (gathered t c) i) (represents_in i h)) ∙ ap (λ x. last_that (alike_in elements variables x) x (rest aggressive t c (gathered t c))) (sym e)
         ∙ rep_rep (alike_in elements variables) (alike_self elements variables) (alike_flip elements variables) (alike_through elements variables) (rest aggressive t c (gathered t c)) i h ∙ e
 
-    -- the vectors name each number once
-    pub lists_once : (i : ℕ) → has (rest aggressive t c (gathered t c)) i ≡ true → Once (list_at elements i) × Once (list_at variables i)
+    -- these lists name each number once
+    pub lists_once : (i : ℕ) → has (rest aggressive t c (gathered t c)) i ≡ true → Once (elements i) × Once (variables i)
     lists_once i h = let f = rest_in_front i h in (subst Once (sym (es i f)) (elements_once i f), subst Once (sym (vs i f)) (variables_once i f))

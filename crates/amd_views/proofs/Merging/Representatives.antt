@@ -1,5 +1,5 @@
 -- The representative of each class of a list, the last one alike, and the groups in which it is found from the last to the first.
-use Rattle.std.proofs.Common.{ℕ, zero, suc, Bool, true, false, ◌≡◌, ◌≢◌, ◌<◌, ◌+◌, ◌%◌, ◌^◌, ◌&&◌, ◌||◌, cond, inl, inr, refl, sym, ◌∙◌, ap, subst, arith, List, [], ◌∷◌, ◌++◌, take, drop, length, get_or, add-one, Vec}
+use Rattle.std.proofs.Common.{ℕ, zero, suc, Bool, true, false, ◌≡◌, ◌≢◌, ◌<◌, ◌+◌, ◌&&◌, ◌||◌, cond, inl, inr, refl, sym, ◌∙◌, ap, subst, arith, List, [], ◌∷◌, ◌++◌, take, drop, length, get_or, add-one}
 use Rattle.std.specs.Prelude.{◌==◌, fold}
 use Rattle.std.proofs.Math.Bool.{or-false}
 use Rattle.std.proofs.lemmas.Bool.{cases_Bool, false≢true, and_parts, and_from, and_left, and_right, or_left, or_right, eqb-true, eq-eqb, ne_eqb, cases_eq, cond-true, cond-false}
@@ -8,11 +8,8 @@ use Rattle.std.proofs.lemmas.List.Sums.{fold-append}
 use Rattle.amd_model.specs.Tie.{has, each, Once, last_that}
 use Rattle.amd_model.proofs.TieLists.{clash, same_bool, has_append, each_gives, each_from, last_passes, last_named, last_same'}
 use Rattle.amd_model.proofs.ListingLemmas.{has_head, has_tail}
-use Rattle.amd_rounds.specs.Views.{list_at}
-use Rattle.amd_rounds.specs.Rounds.{alike_in}
-use Rattle.amd_rounds.specs.Groups.{wrapped_sum, group_in}
-use Rattle.amd_rounds.proofs.Lists.{has_at}
-use Rattle.amd_rounds.proofs.SameLists.{same_sum}
+use Rattle.amd_views.specs.Rounds.{alike_in}
+use Rattle.amd_views.proofs.Lists.Named.{has_at}
 
 -- ---- being alike
 
@@ -22,44 +19,36 @@ each_self xs = each_from (has xs) xs (λ x h. h)
 each_through : (xs ys zs : List ℕ) → each (has xs) ys ≡ true → each (has ys) zs ≡ true → each (has xs) zs ≡ true
 each_through xs ys zs h k = each_from (has xs) zs (λ z m. each_gives (has xs) ys h z (each_gives (has ys) zs k z m))
 
-module _ {A : Type 0} (elements variables : List (Vec ℕ A)) where
+module _ (elements variables : ℕ → List ℕ) where
   pub alike_gives : (i j : ℕ) → alike_in elements variables i j ≡ true →
-      (each (has (list_at elements i)) (list_at elements j) ≡ true) × (each (has (list_at elements j)) (list_at elements i) ≡ true)
-      × (each (has (list_at variables i)) (list_at variables j) ≡ true) × (each (has (list_at variables j)) (list_at variables i) ≡ true)
+      (each (has (elements i)) (elements j) ≡ true) × (each (has (elements j)) (elements i) ≡ true)
+      × (each (has (variables i)) (variables j) ≡ true) × (each (has (variables j)) (variables i) ≡ true)
   alike_gives i j h =
-      let a : Bool = each (has (list_at elements i)) (list_at elements j) in
-      let b : Bool = each (has (list_at elements j)) (list_at elements i) in
-      let c : Bool = each (has (list_at variables i)) (list_at variables j) in
-      let d : Bool = each (has (list_at variables j)) (list_at variables i) in
+      let a : Bool = each (has (elements i)) (elements j) in
+      let b : Bool = each (has (elements j)) (elements i) in
+      let c : Bool = each (has (variables i)) (variables j) in
+      let d : Bool = each (has (variables j)) (variables i) in
       let p = and_parts (a && b && c) d h in let q = and_parts (a && b) c p.0 in let r = and_parts a b q.0 in (r.0, r.1, q.1, p.1)
 
-  pub alike_from : (i j : ℕ) → each (has (list_at elements i)) (list_at elements j) ≡ true → each (has (list_at elements j)) (list_at elements i) ≡ true →
-      each (has (list_at variables i)) (list_at variables j) ≡ true → each (has (list_at variables j)) (list_at variables i) ≡ true → alike_in elements variables i j ≡ true
+  pub alike_from : (i j : ℕ) → each (has (elements i)) (elements j) ≡ true → each (has (elements j)) (elements i) ≡ true →
+      each (has (variables i)) (variables j) ≡ true → each (has (variables j)) (variables i) ≡ true → alike_in elements variables i j ≡ true
   alike_from i j x y z w =
-      let a : Bool = each (has (list_at elements i)) (list_at elements j) in
-      let b : Bool = each (has (list_at elements j)) (list_at elements i) in
-      let c : Bool = each (has (list_at variables i)) (list_at variables j) in
-      let d : Bool = each (has (list_at variables j)) (list_at variables i) in
+      let a : Bool = each (has (elements i)) (elements j) in
+      let b : Bool = each (has (elements j)) (elements i) in
+      let c : Bool = each (has (variables i)) (variables j) in
+      let d : Bool = each (has (variables j)) (variables i) in
       and_from (a && b && c) d (and_from (a && b) c (and_from a b x y) z) w
 
   pub alike_self : (i : ℕ) → alike_in elements variables i i ≡ true
-  alike_self i = alike_from i i (each_self (list_at elements i)) (each_self (list_at elements i)) (each_self (list_at variables i)) (each_self (list_at variables i))
+  alike_self i = alike_from i i (each_self (elements i)) (each_self (elements i)) (each_self (variables i)) (each_self (variables i))
 
   pub alike_flip : (i j : ℕ) → alike_in elements variables i j ≡ true → alike_in elements variables j i ≡ true
   alike_flip i j h = let p = alike_gives i j h in alike_from j i p.1 p.0 p.3 p.2
 
   pub alike_through : (i j k : ℕ) → alike_in elements variables i j ≡ true → alike_in elements variables j k ≡ true → alike_in elements variables i k ≡ true
   alike_through i j k h m = let p = alike_gives i j h in let q = alike_gives j k m in
-      alike_from i k (each_through (list_at elements i) (list_at elements j) (list_at elements k) p.0 q.0) (each_through (list_at elements k) (list_at elements j) (list_at elements i) q.1 p.1)
-      (each_through (list_at variables i) (list_at variables j) (list_at variables k) p.2 q.2) (each_through (list_at variables k) (list_at variables j) (list_at variables i) q.3 p.3)
-
-  -- classes alike are in one group
-  pub alike_grouped : (i j : ℕ) → Once (list_at elements i) × Once (list_at variables i) → Once (list_at elements j) × Once (list_at variables j) → alike_in elements variables i j ≡ true →
-      group_in elements variables i ≡ group_in elements variables j
-  alike_grouped i j o p h = let k = alike_gives i j h in
-      let e = same_sum (λ x. x) (list_at elements i) (list_at elements j) o.0 p.0 k.0 k.1 in
-      let v = same_sum (λ x. x) (list_at variables i) (list_at variables j) o.1 p.1 k.2 k.3 in
-      ap (λ m. ((m % 2 ^ 64 + wrapped_sum (list_at variables i)) % 2 ^ 64) % length elements) e ∙ ap (λ m. ((wrapped_sum (list_at elements j) + m % 2 ^ 64) % 2 ^ 64) % length elements) v
+      alike_from i k (each_through (elements i) (elements j) (elements k) p.0 q.0) (each_through (elements k) (elements j) (elements i) q.1 p.1)
+      (each_through (variables i) (variables j) (variables k) p.2 q.2) (each_through (variables k) (variables j) (variables i) q.3 p.3)
 
 -- ---- the last one alike
 

@@ -1,0 +1,5 @@
+pub mod Lists
+pub mod Fronts
+pub mod Merging
+pub mod Rounding
+pub mod Round

@@ -1,0 +1,4 @@
+-- Lists of numbers: what they name, what a test keeps of them, their sums, and what is taken off a number for each of them.
+pub mod Named
+pub mod Same
+pub mod Taken

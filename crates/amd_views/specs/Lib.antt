@@ -1,0 +1,4 @@
+-- What the record of an elimination says, as functions, whichever engine keeps it.
+pub mod Views
+pub mod Rounds
+pub mod Keeps
