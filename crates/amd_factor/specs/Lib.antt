@@ -1,0 +1,4 @@
+-- The factor under an order of the rows, its elimination tree, and the lists that it is made from.
+pub mod Earlier
+pub mod Trees
+pub mod Walks
