@@ -11,100 +11,76 @@ use Rattle.amd_factor.specs.Trees.{Entry}
 use Rattle.amd_factor.specs.Earlier.{Order}
 use Rattle.amd_factor.specs.Walks.{ListsColumns, CountsEntry, CountEntries, TotalOf, MoreThan}
 
--- ---- the counts of a path
+module _ (o : Order) where
+  -- place m is an entry of column k
+  pub test : ℕ → ℕ → Bool
+  test k m = in_column o.graph o.rows k m
 
-pub record Counted (path old : List ℕ) (a : ℕ) (counts : List ℕ) : Type 0 where
-  pub named : (b : ℕ) → b < a → slice_index counts (slice_index path b) ≡ slice_index old (slice_index path b) + 1
-  pub others : (m : ℕ) → ((b : ℕ) → b < a → slice_index path b ≢ m) → slice_index counts m ≡ slice_index old m
-  pub sum : sum_below (length old) (λ k. slice_index counts k) ≡ sum_below (length old) (λ k. slice_index old k) + a
+  module _ (laws : IsGraph o.graph) where
+    pub test_entry : (k m : ℕ) → m < length o.rows → test k m ≡ true → Entry o.graph o.rows k m
+    unfolding test
+    test_entry k m l h = let x = (in_column_exact o.graph o.rows laws k m).0 h in (x.0, l, x.1)
 
-pub count_next : (path old counts : List ℕ) (a : ℕ) → Counted path old a counts → length counts ≡ length old → slice_index path a < length old → ((b : ℕ) → b < a → slice_index path b ≢ slice_index path a) →
-    Counted path old (a + 1) (set counts (slice_index path a) (slice_index counts (slice_index path a) + 1))
-count_next path old counts a c len low differ =
-    let i : ℕ = slice_index path a in
-    let v : ℕ = slice_index counts i + 1 in
-    let fresh : slice_index counts i ≡ slice_index old i = c.others i differ in
-    let here : slice_index (set counts i v) i ≡ v = get_or-set_same counts i v 0 (omega (arith, low, len)) in
-    let other : (m : ℕ) → m ≢ i → slice_index (set counts i v) m ≡ slice_index counts m = λ m ne. get_or-set_other counts i m v 0 ne in
-    record {
-      named = λ b l. elim (cases_eq b a) [
-        | inl q ↦ subst (λ x. slice_index (set counts i v) (slice_index path x) ≡ slice_index old (slice_index path x) + 1) (sym q) (here ∙ ap (λ x. x + 1) fresh)
-        | inr ne ↦ (let lb : b < a = omega arith in other (slice_index path b) (differ b lb) ∙ c.named b lb)
-      ];
-      others = λ m f. other m (λ q. f a (omega arith) (sym q)) ∙ c.others m (λ b l. f b (omega arith));
-      sum = (let e = sum_at (length old) (λ k. slice_index (set counts i v) k) (λ k. slice_index counts k) i low (λ k l ne. other k ne) in let s = c.sum in omega (arith, e, s, here));
+    pub entry_test : (k m : ℕ) → Entry o.graph o.rows k m → test k m ≡ true
+    unfolding test
+    entry_test k m e = (in_column_exact o.graph o.rows laws k m).1 (e.0, e.2)
+
+    both_true : (a b : Bool) → (a ≡ true → b ≡ true) → (b ≡ true → a ≡ true) → a ≡ b
+    both_true true b f h = sym (f refl)
+    both_true false true f h = h refl
+    both_true false false f h = refl
+
+    pub counted_is : (j k c : ℕ) → j ≤ length o.rows → CountsEntry o j k c → count_below j (test k) ≡ c
+    counted_is j k c l e = count_same j (test k) e.test (λ m lm. both_true (test k m) (e.test m) (λ h. (e.exact m lm).1 (test_entry k m (omega arith) h)) (λ h. entry_test k m ((e.exact m lm).0 h))) ∙ e.is
+
+    pub counted_from : (j k c : ℕ) → j ≤ length o.rows → count_below j (test k) ≡ c → CountsEntry o j k c
+    counted_from j k c l e = record { test = test k; exact = λ m lm. (test_entry k m (omega arith), entry_test k m); is = e }
+
+    count_more : (j k : ℕ) → count_below j (test k) ≤ count_below (j + 1) (test k)
+    unfolding count_below sum_below
+    count_more j k = (let e : j + 1 ≡ suc j = omega arith in subst (λ x. count_below j (test k) ≤ count_below x (test k)) (sym e) (omega arith))
+
+    count_up : (d j k : ℕ) → count_below j (test k) ≤ count_below (j + d) (test k)
+    count_up zero j k = (let e : j + 0 ≡ j = omega arith in subst (λ x. count_below j (test k) ≤ count_below x (test k)) (sym e) (omega arith))
+    count_up (suc d) j k = (let e : j + suc d ≡ j + d + 1 = omega arith in let a = count_up d j k in let b = count_more (j + d) k in subst (λ x. count_below j (test k) ≤ count_below x (test k)) (sym e) (omega (arith, a, b)))
+
+    pub count_to : (j n k : ℕ) → j ≤ n → count_below j (test k) ≤ count_below n (test k)
+    count_to j n k l = (let e : j + (n - j) ≡ n = omega arith in subst (λ x. count_below j (test k) ≤ count_below x (test k)) e (count_up (n - j) j k))
+
+    pub count_at : (j k : ℕ) (b : Bool) → test k j ≡ b → count_below (j + 1) (test k) ≡ cond b 1 0 + count_below j (test k)
+    unfolding count_below sum_below
+    count_at j k b h = (let e : j + 1 ≡ suc j = omega arith in ap (λ x. count_below x (test k)) e ∙ ap (λ x. cond x 1 0 + count_below j (test k)) h)
+
+    pub none_yet : (counts : List ℕ) → CountEntries o 0 counts → sum_below (length o.rows) (λ k. slice_index counts k) ≡ 0
+    unfolding count_below sum_below
+    none_yet counts c = sum_zero (length o.rows) (λ k. slice_index counts k) (λ k l. sym (c.each k l).is)
+
+    pub small : (j : ℕ) (counts : List ℕ) → j ≤ length o.rows → CountEntries o j counts → (k : ℕ) → k < length counts → slice_index counts k ≤ j
+    small j counts l c k lk = let r = c.room in let e = counted_is j k _ l (c.each k (omega arith)) in let m = count_most j (test k) in omega (arith, e, m)
+
+    pub row_counted : (j : ℕ) (counts path counts' : List ℕ) (columns : ℕ) → j < length o.rows → CountEntries o j counts → ListsColumns o j path columns → length counts' ≡ length counts →
+        ((a : ℕ) → a < columns → slice_index counts' (slice_index path a) ≡ slice_index counts (slice_index path a) + 1) →
+        ((m : ℕ) → ((a : ℕ) → a < columns → slice_index path a ≢ m) → slice_index counts' m ≡ slice_index counts m) → CountEntries o (j + 1) counts'
+    row_counted j counts path counts' columns l c lists len named others = record {
+      room = len ∙ c.room;
+      each = λ k lk. (let before = counted_is j k (slice_index counts k) (omega arith) (c.each k lk) in counted_from (j + 1) k (slice_index counts' k) (omega arith) (elim (cases_Bool (test k j)) [
+        | inl yes' ↦ (let r = lists.all k (test_entry k j l yes') in let x = subst (λ y. slice_index counts' y ≡ slice_index counts y + 1) r.2 (named r.0 r.1) in
+            let y = count_at j k true yes' in omega (arith, x, y, before))
+        | inr no' ↦ (let x = others k (λ a la q. clash (subst (λ y. test y j ≡ true) q (entry_test (slice_index path a) j (lists.entries a la))) no') in
+            let y = count_at j k false no' in omega (arith, x, y, before))
+      ]));
     }
 
--- ---- the counts of a row
+    pub total_of : (counts : List ℕ) (total : ℕ) → CountEntries o (length o.rows) counts → sum_below (length o.rows) (λ k. slice_index counts k) ≡ total → TotalOf o total
+    total_of counts total c s f each = sum_same (length o.rows) f (λ k. slice_index counts k) (λ k l.
+        sym (counted_is (length o.rows) k (f k) (omega arith) (each k l)) ∙ counted_is (length o.rows) k (slice_index counts k) (omega arith) (c.each k l)) ∙ s
 
-module _ (o : Order) (laws : IsGraph o.graph) where
-  test : ℕ → ℕ → Bool
-  test k = in_column o.graph o.rows k
-
-  test_entry : (k m : ℕ) → m < length o.rows → test k m ≡ true → Entry o.graph o.rows k m
-  unfolding test
-  test_entry k m l h = let x = (in_column_exact o.graph o.rows laws k m).0 h in (x.0, l, x.1)
-
-  entry_test : (k m : ℕ) → Entry o.graph o.rows k m → test k m ≡ true
-  unfolding test
-  entry_test k m e = (in_column_exact o.graph o.rows laws k m).1 (e.0, e.2)
-
-  both_true : (a b : Bool) → (a ≡ true → b ≡ true) → (b ≡ true → a ≡ true) → a ≡ b
-  both_true true b f h = sym (f refl)
-  both_true false true f h = h refl
-  both_true false false f h = refl
-
-  counted_is : (j k c : ℕ) → j ≤ length o.rows → CountsEntry o j k c → count_below j (test k) ≡ c
-  counted_is j k c l e = count_same j (test k) e.test (λ m lm. both_true (test k m) (e.test m) (λ h. (e.exact m lm).1 (test_entry k m (omega arith) h)) (λ h. entry_test k m ((e.exact m lm).0 h))) ∙ e.is
-
-  counted_from : (j k c : ℕ) → j ≤ length o.rows → count_below j (test k) ≡ c → CountsEntry o j k c
-  counted_from j k c l e = record { test = test k; exact = λ m lm. (test_entry k m (omega arith), entry_test k m); is = e }
-
-  count_more : (j k : ℕ) → count_below j (test k) ≤ count_below (j + 1) (test k)
-  unfolding count_below sum_below
-  count_more j k = (let e : j + 1 ≡ suc j = omega arith in subst (λ x. count_below j (test k) ≤ count_below x (test k)) (sym e) (omega arith))
-
-  count_up : (d j k : ℕ) → count_below j (test k) ≤ count_below (j + d) (test k)
-  count_up zero j k = (let e : j + 0 ≡ j = omega arith in subst (λ x. count_below j (test k) ≤ count_below x (test k)) (sym e) (omega arith))
-  count_up (suc d) j k = (let e : j + suc d ≡ j + d + 1 = omega arith in let a = count_up d j k in let b = count_more (j + d) k in subst (λ x. count_below j (test k) ≤ count_below x (test k)) (sym e) (omega (arith, a, b)))
-
-  count_to : (j n k : ℕ) → j ≤ n → count_below j (test k) ≤ count_below n (test k)
-  count_to j n k l = (let e : j + (n - j) ≡ n = omega arith in subst (λ x. count_below j (test k) ≤ count_below x (test k)) e (count_up (n - j) j k))
-
-  count_at : (j k : ℕ) (b : Bool) → test k j ≡ b → count_below (j + 1) (test k) ≡ cond b 1 0 + count_below j (test k)
-  unfolding count_below sum_below
-  count_at j k b h = (let e : j + 1 ≡ suc j = omega arith in ap (λ x. count_below x (test k)) e ∙ ap (λ x. cond x 1 0 + count_below j (test k)) h)
-
-  pub none_yet : (counts : List ℕ) → CountEntries o 0 counts → sum_below (length o.rows) (λ k. slice_index counts k) ≡ 0
-  unfolding count_below sum_below
-  none_yet counts c = sum_zero (length o.rows) (λ k. slice_index counts k) (λ k l. sym (c.each k l).is)
-
-  pub small : (j : ℕ) (counts : List ℕ) → j ≤ length o.rows → CountEntries o j counts → (k : ℕ) → k < length counts → slice_index counts k ≤ j
-  small j counts l c k lk = let r = c.room in let e = counted_is j k _ l (c.each k (omega arith)) in let m = count_most j (test k) in omega (arith, e, m)
-
-  pub row_counted : (j : ℕ) (counts path counts' : List ℕ) (columns : ℕ) → j < length o.rows → CountEntries o j counts → ListsColumns o j path columns → length counts' ≡ length counts →
-      ((a : ℕ) → a < columns → slice_index counts' (slice_index path a) ≡ slice_index counts (slice_index path a) + 1) →
-      ((m : ℕ) → ((a : ℕ) → a < columns → slice_index path a ≢ m) → slice_index counts' m ≡ slice_index counts m) → CountEntries o (j + 1) counts'
-  row_counted j counts path counts' columns l c lists len named others = record {
-    room = len ∙ c.room;
-    each = λ k lk. (let before = counted_is j k (slice_index counts k) (omega arith) (c.each k lk) in counted_from (j + 1) k (slice_index counts' k) (omega arith) (elim (cases_Bool (test k j)) [
-      | inl yes' ↦ (let r = lists.all k (test_entry k j l yes') in let x = subst (λ y. slice_index counts' y ≡ slice_index counts y + 1) r.2 (named r.0 r.1) in
-          let y = count_at j k true yes' in omega (arith, x, y, before))
-      | inr no' ↦ (let x = others k (λ a la q. clash (subst (λ y. test y j ≡ true) q (entry_test (slice_index path a) j (lists.entries a la))) no') in
-          let y = count_at j k false no' in omega (arith, x, y, before))
-    ]));
-  }
-
-  pub total_of : (counts : List ℕ) (total : ℕ) → CountEntries o (length o.rows) counts → sum_below (length o.rows) (λ k. slice_index counts k) ≡ total → TotalOf o total
-  total_of counts total c s f each = sum_same (length o.rows) f (λ k. slice_index counts k) (λ k l.
-      sym (counted_is (length o.rows) k (f k) (omega arith) (each k l)) ∙ counted_is (length o.rows) k (slice_index counts k) (omega arith) (c.each k l)) ∙ s
-
-  pub more_than : (j : ℕ) (counts : List ℕ) (room : ℕ) → j ≤ length o.rows → CountEntries o j counts → room < sum_below (length o.rows) (λ k. slice_index counts k) → MoreThan o room
-  more_than j counts room l c s f each =
-      let m = sum_mono (length o.rows) (λ k. slice_index counts k) f (λ k lk.
-      let a = counted_is (length o.rows) k (f k) (omega arith) (each k lk) in let b = counted_is j k (slice_index counts k) l (c.each k lk) in
-      let up = count_to j (length o.rows) k l in omega (arith, a, b, up)) in
-      omega (arith, m, s)
+    pub more_than : (j : ℕ) (counts : List ℕ) (room : ℕ) → j ≤ length o.rows → CountEntries o j counts → room < sum_below (length o.rows) (λ k. slice_index counts k) → MoreThan o room
+    more_than j counts room l c s f each =
+        let m = sum_mono (length o.rows) (λ k. slice_index counts k) f (λ k lk.
+        let a = counted_is (length o.rows) k (f k) (omega arith) (each k lk) in let b = counted_is j k (slice_index counts k) l (c.each k lk) in
+        let up = count_to j (length o.rows) k l in omega (arith, a, b, up)) in
+        omega (arith, m, s)
 
 -- the sums over as many places as there are rows
 pub sum_rows : (o : Order) (j : ℕ) (counts counts' : List ℕ) (total columns : ℕ) → CountEntries o j counts →

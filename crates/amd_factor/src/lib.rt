@@ -4,6 +4,7 @@
 ghost use Rattle.amd_factor.specs.Trees.{RowsAreSubtrees};
 
 pub mod counts;
+pub mod fill;
 pub mod subtree;
 
 /// A place is an entry of exactly those columns that lie in its subtree of the elimination tree.
