@@ -17,6 +17,11 @@ pub sum_next : (f : ℕ → ℕ) (k : ℕ) → sum_below (k + 1) f ≡ f k + sum
 unfolding sum_below
 sum_next f k = ap (λ n. sum_below n f) (let e : k + 1 ≡ suc k = omega arith in e)
 
+-- the sum of nothing
+pub sum_none : (f : ℕ → ℕ) → sum_below 0 f ≡ 0
+unfolding sum_below
+sum_none f = refl
+
 pub begun_none : (old ptr : List ℕ) → Begun old 0 0 ptr old
 unfolding sum_below
 begun_none old ptr = record { begin_is = refl; pointers = λ m l. absurd (omega arith); begins = λ m l. absurd (omega arith); rest = λ m l. refl }
@@ -41,10 +46,10 @@ module _ (old ptr next : List ℕ) (k begin : ℕ) (b : Begun old k begin ptr ne
   }
 
 -- at the end, with one pointer more
-module _ (old ptr next : List ℕ) (k begin : ℕ) (b : Begun old k begin ptr next) (long : length old ≤ k) (most : k ≤ length old) where
-  pub pointers_end : (n : ℕ) → n ≡ length old → length ptr ≡ length old + 1 → (m : ℕ) → m ≤ length old → slice_index (set ptr n begin) m ≡ sum_below m (λ i. slice_index old i)
-  pointers_end n is room m l = elim (cases_eq m n) [
-    | inl q ↦ ap (slice_index (set ptr n begin)) q ∙ get_or-set_same ptr n begin 0 (omega (arith, room, is)) ∙ b.begin_is
-        ∙ ap (λ x. sum_below x (λ i. slice_index old i)) (let e : k ≡ m = omega (arith, q, is, long, most) in e)
-    | inr ne ↦ get_or-set_other ptr n m begin 0 ne ∙ b.pointers m (omega (arith, is))
+module _ (old ptr next : List ℕ) (k begin : ℕ) (b : Begun old k begin ptr next) (long : length old ≤ k) where
+  pub pointers_end : (n total : ℕ) → n ≡ length old → sum_below (length old) (λ i. slice_index old i) ≡ total → length ptr ≡ length old + 1 → (m : ℕ) → m ≤ length old →
+      slice_index (set ptr n total) m ≡ sum_below m (λ i. slice_index old i)
+  pointers_end n total is sum room m l = elim (cases_eq m n) [
+    | inl q ↦ ap (slice_index (set ptr n total)) q ∙ get_or-set_same ptr n total 0 (omega (arith, room, is)) ∙ sym sum ∙ ap (λ x. sum_below x (λ i. slice_index old i)) (sym (q ∙ is))
+    | inr ne ↦ get_or-set_other ptr n m total 0 ne ∙ b.pointers m (omega (arith, is, ne, l, long))
   ]

@@ -12,11 +12,11 @@ ghost use Rattle.amd_factor.specs.Walks.{TellParents, MarksBefore, BeginColumns,
 use crate::counts::count;
 use crate::subtree::subtree;
 
-/// Writes where each column begins and the last one ends, from the numbers of their entries, which `next` holds; `next` then
-/// holds the beginnings too.
-fn begin_columns(next: &mut [usize], ptr: &mut [usize])
+/// Writes where each column begins and the last one ends, from the numbers of their entries, which `next` holds, and their sum;
+/// `next` then holds the beginnings too.
+fn begin_columns(next: &mut [usize], total: usize, ptr: &mut [usize])
     requires room { length ptr.old ≡ length next.old + 1 }
-    requires small { sum_below (length next.old) (λ k. slice_index next.old k) < 2 ^ 64 }
+    requires total { sum_below (length next.old) (λ k. slice_index next.old k) ≡ total }
     ensures pointers { (k : ℕ) → k ≤ length next.old → slice_index ptr.new k ≡ sum_below k (λ k. slice_index next.old k) }
     ensures begins { (k : ℕ) → k < length next.old → slice_index next.new k ≡ sum_below k (λ k. slice_index next.old k) }
 {
@@ -26,7 +26,7 @@ fn begin_columns(next: &mut [usize], ptr: &mut [usize])
         begin += next[k];
         next[k] = ptr[k];
     }
-    ptr[next.len()] = begin;
+    ptr[next.len()] = total;
 }
 
 /// Adds the entry `j` behind those of each column that the first `columns` places of the path name.
@@ -105,8 +105,10 @@ pub fn fill(
     parent.fill(None);
     mark.fill(0);
     next.fill(0);
-    let total = count(starts, earlier, rows.len(), parent, mark, path, next)?;
-    begin_columns(next, ptr);
+    let Some(total) = count(starts, earlier, rows.len(), parent, mark, path, next) else {
+        return None;
+    };
+    begin_columns(next, total, ptr);
     mark.fill(0);
     write_entries(starts, earlier, parent, mark, path, next, rows);
     Some(total)

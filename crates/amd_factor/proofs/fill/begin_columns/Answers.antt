@@ -13,7 +13,7 @@ overflow_add-begin c =
     let e = end_is c.args.next.now c.columns.ptr c.columns.next c.columns.k c.columns.begin c.columns.invariant c.columns.auto.next c.columns-test.true in
     let u = sum_upto c.columns.k (length c.args.next.now) (λ m. slice_index c.args.next.now m) c.columns-test.true in
     let n = sum_next (λ m. slice_index c.args.next.now m) c.columns.k in
-    let s = c.requires.small in omega (arith, e, u, n, s)
+    let s = c.requires.total in let r = c.ranges.total in omega (arith, e, u, n, s, r)
 
 pub columns-preserved : goal.columns-preserved
 columns-preserved c =
@@ -24,7 +24,7 @@ columns-preserved c =
 
 pub returns-clause-pointers : goal.returns-clause-pointers
 returns-clause-pointers c = pointers_end c.args.next.now c.columns.ptr c.columns.next c.columns.k c.columns.begin c.columns.invariant c.columns-test.false
-    (let e = c.columns.auto.k-end in let a = c.columns.auto.next in omega (arith, e, a)) (length c.columns.next) c.columns.auto.next (c.columns.auto.ptr ∙ c.requires.room)
+    (length c.columns.next) c.args.total c.columns.auto.next c.requires.total (c.columns.auto.ptr ∙ c.requires.room)
 
 pub returns-clause-begins : goal.returns-clause-begins
 returns-clause-begins c = λ k l. c.columns.invariant.begins k (let t = c.columns-test.false in omega (arith, t, l))

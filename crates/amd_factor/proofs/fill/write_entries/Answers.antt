@@ -19,7 +19,7 @@ pub append-requires-clause-room : goal.append-requires-clause-room
 append-requires-clause-room g c =
     let b = c.requires.1.1.1.1.1 in let r = b.begins_room in let l = c.rows-test.true in let same = c.rows.auto.rows in
     λ a la. (let h = has_room g.o c.requires.0 c.args.next.now (length c.args.rows.now) b c.rows.j c.rows.next c.rows.rows c.subtree-columns.new.path c.subtree-columns.result (omega (arith, r, l)) c.rows.invariant.filled
-        c.subtree-columns.ensures.columns a la in omega (arith, h, same))
+    c.subtree-columns.ensures.columns a la in omega (arith, h, same))
 
 pub rows-preserved : goal.rows-preserved
 rows-preserved g c =
