@@ -1,5 +1,5 @@
 -- What stands before the first row: no marks, no entries, no parents.
-use Rattle.std.proofs.Common.{ℕ, ◌≡◌, ◌<◌, ◌∙◌, sym, subst, arith, refl, List, length}
+use Rattle.std.proofs.Common.{ℕ, ◌≡◌, ◌∙◌, sym, subst, arith, refl, List, length}
 use Rattle.std.specs.Prelude.{slice_index, slice_index_or, Option, None, Some, replicate}
 use Rattle.std.proofs.lemmas.List.{get_or-replicate, length-replicate}
 use Rattle.amd_model.specs.Below.{count_below, sum_below}

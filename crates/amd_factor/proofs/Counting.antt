@@ -1,11 +1,10 @@
 -- The entries of the columns, counted row by row.
-use Rattle.std.proofs.Common.{ℕ, zero, suc, Bool, true, false, ◌≡◌, ◌≢◌, ◌<◌, ◌≤◌, ◌+◌, ◌-◌, cond, inl, inr, refl, sym, ◌∙◌, ap, subst, arith, List, length, set}
+use Rattle.std.proofs.Common.{ℕ, zero, suc, Bool, true, false, ◌≡◌, ◌≢◌, ◌<◌, ◌≤◌, ◌+◌, ◌-◌, cond, inl, inr, refl, sym, ◌∙◌, ap, subst, arith, List, length}
 use Rattle.std.specs.Prelude.{slice_index}
-use Rattle.std.proofs.lemmas.Bool.{cases_eq, cases_Bool}
-use Rattle.std.proofs.lemmas.List.{get_or-set_same, get_or-set_other}
+use Rattle.std.proofs.lemmas.Bool.{cases_Bool}
 use Rattle.amd_model.specs.Below.{count_below, sum_below}
 use Rattle.amd_model.specs.Graph.{IsGraph}
-use Rattle.amd_model.proofs.BelowLemmas.{sum_at, sum_same, sum_mono, sum_zero, count_same, count_most, clash}
+use Rattle.amd_model.proofs.BelowLemmas.{sum_same, sum_mono, sum_zero, count_same, count_most, clash}
 use Rattle.amd_model.proofs.ReachTest.{in_column, in_column_exact}
 use Rattle.amd_factor.specs.Trees.{Entry}
 use Rattle.amd_factor.specs.Earlier.{Order}

@@ -1,14 +1,12 @@
 -- The second pass over the rows: each entry is written into its column, behind those of the rows before.
-use Rattle.std.proofs.Common.{ℕ, suc, true, false, ◌≡◌, ◌≢◌, ◌<◌, ◌≤◌, ◌+◌, inl, inr, refl, sym, ◌∙◌, ap, subst, arith, List, length}
+use Rattle.std.proofs.Common.{ℕ, true, false, ◌≡◌, ◌≢◌, ◌<◌, ◌≤◌, ◌+◌, inl, inr, sym, ◌∙◌, ap, subst, arith, List, length}
 use Rattle.std.specs.Prelude.{slice_index}
 use Rattle.std.proofs.lemmas.Bool.{cases_eq, cases_lt, cases_Bool}
 use Rattle.amd_model.specs.Below.{count_below, sum_below}
 use Rattle.amd_model.specs.Graph.{IsGraph}
 use Rattle.amd_model.proofs.BelowLemmas.{sum_upto, clash}
 use Rattle.amd_factor.specs.Earlier.{Order}
-use Rattle.amd_factor.specs.Trees.{Entry}
 use Rattle.amd_factor.specs.Walks.{ListsColumns, BeginColumns, HoldEntries}
-use Rattle.amd_factor.proofs.Beginnings.{sum_next}
 use Rattle.amd_factor.proofs.Counting.{test, test_entry, entry_test, counted_is, count_at, count_to}
 
 -- the entries before place j stand in their columns, and next says where the next one of each column goes

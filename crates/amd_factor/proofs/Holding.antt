@@ -1,5 +1,5 @@
 -- The vectors hold the factor: what stands in each stretch, the parents, and the number of entries.
-use Rattle.std.proofs.Common.{ℕ, suc, true, ◌≡◌, ◌≢◌, ◌<◌, ◌≤◌, ◌+◌, ◌-◌, inl, inr, refl, sym, ◌∙◌, ap, subst, arith, List, [], ◌∷◌, length, map, take}
+use Rattle.std.proofs.Common.{ℕ, ◌≡◌, ◌<◌, ◌≤◌, ◌+◌, ◌-◌, inl, inr, refl, sym, ◌∙◌, ap, subst, arith, List, [], ◌∷◌, length, map, take}
 use Rattle.std.specs.Prelude.{slice_index, slice_index_or, slice_range, Option, None, Some}
 use Rattle.std.proofs.lemmas.List.{same_lists, get_or_default, get_or-take, get_or-map, length-take-le, length-map}
 use Rattle.std.proofs.lemmas.List.Edits.{length-between, get_or-between}
@@ -11,7 +11,7 @@ use Rattle.amd_model.proofs.BelowLemmas.{sum_same, sum_upto}
 use Rattle.amd_model.proofs.ListingLemmas.{has_below, below_has, has_head, has_none, has_cases}
 use Rattle.amd_model.proofs.Places.{below_increasing, length_below, contains_has, has_contains}
 use Rattle.amd_model.proofs.ReachTest.{columns, factor_of}
-use Rattle.amd_factor.specs.Columns.{first_of, HoldColumns, HoldFactor, PassesRoom}
+use Rattle.amd_factor.specs.Columns.{first_of, HoldFactor, PassesRoom}
 use Rattle.amd_factor.specs.Earlier.{Order}
 use Rattle.amd_factor.specs.Walks.{TellsParent, TellParents, CountEntries, BeginColumns, HoldEntries, TotalOf, MoreThan}
 use Rattle.amd_factor.proofs.Beginnings.{sum_next, sum_none}

@@ -4,7 +4,7 @@ ghost use Rattle.std.specs.Prelude.{ℕ, ◌≡◌, ◌≢◌, ◌<◌, ◌≤�
 ghost use Rattle.amd_model.specs.Below.{sum_below};
 ghost use Rattle.amd_model.specs.Graph.{IsGraph};
 ghost use Rattle.amd_factor.specs.Earlier.{Order, HasEarlier};
-ghost use Rattle.amd_factor.specs.Walks.{TellParents, MarksBefore, CountEntries, TotalOf, MoreThan};
+ghost use Rattle.amd_factor.specs.Walks.{TellParents, CountEntries, TotalOf, MoreThan};
 
 use crate::subtree::subtree;
 
@@ -37,14 +37,17 @@ pub fn count(
     ghost o: { Order }
     requires laws { IsGraph o.graph }
     requires earlier { HasEarlier o starts.now earlier.now }
-    requires parents { TellParents o 0 parent.old }
-    requires marks { MarksBefore o 0 mark.old }
+    requires parents { length parent.old ≡ length o.rows }
+    requires marks { length mark.old ≡ length o.rows }
     requires path { length path.old ≡ length o.rows }
-    requires counts { CountEntries o 0 counts.old }
+    requires counts { length counts.old ≡ length o.rows }
     ensures total { MatchOption result (MoreThan o room) (λ total. (total ≤ room) × TotalOf o total) }
     ensures parents { MatchOption result (Unit {0}) (λ total. TellParents o (length o.rows) parent.new) }
     ensures counts { MatchOption result (Unit {0}) (λ total. CountEntries o (length o.rows) counts.new) }
 {
+    parent.fill(None);
+    mark.fill(0);
+    counts.fill(0);
     let mut total = 0;
     'rows: for j in 0..counts.len() {
         let columns = subtree(j, &earlier[starts[j]..starts[j + 1]], parent, mark, path);

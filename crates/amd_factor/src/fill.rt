@@ -7,7 +7,7 @@ ghost use Rattle.amd_model.specs.Below.{sum_below};
 ghost use Rattle.amd_model.specs.Graph.{IsGraph};
 ghost use Rattle.amd_factor.specs.Columns.{HoldFactor, PassesRoom};
 ghost use Rattle.amd_factor.specs.Earlier.{Order, HasEarlier};
-ghost use Rattle.amd_factor.specs.Walks.{TellParents, MarksBefore, BeginColumns, HoldEntries};
+ghost use Rattle.amd_factor.specs.Walks.{TellParents, BeginColumns, HoldEntries};
 
 use crate::counts::count;
 use crate::subtree::subtree;
@@ -60,13 +60,14 @@ fn write_entries(
     ghost o: { Order }
     requires laws { IsGraph o.graph }
     requires earlier { HasEarlier o starts.now earlier.now }
-    requires parents { TellParents o 0 parent.old }
-    requires marks { MarksBefore o 0 mark.old }
+    requires parents { TellParents o (length o.rows) parent.old }
+    requires marks { length mark.old ≡ length o.rows }
     requires path { length path.old ≡ length o.rows }
     requires begins { BeginColumns o next.old (length rows.old) }
     ensures parents { TellParents o (length o.rows) parent.new }
     ensures entries { HoldEntries o (length o.rows) next.old rows.new }
 {
+    mark.fill(0);
     'rows: for j in 0..next.len() {
         let columns = subtree(j, &earlier[starts[j]..starts[j + 1]], parent, mark, path);
         append(path, columns, j, next, rows);
@@ -102,14 +103,10 @@ pub fn fill(
     requires next { length next.old ≡ length o.rows }
     ensures factor { MatchOption result (PassesRoom o.graph o.rows (length rows.old)) (λ total. (total ≤ length rows.old) × HoldFactor o.graph o.rows ptr.new (take total rows.new) parent.new) }
 {
-    parent.fill(None);
-    mark.fill(0);
-    next.fill(0);
     let Some(total) = count(starts, earlier, rows.len(), parent, mark, path, next) else {
         return None;
     };
     begin_columns(next, total, ptr);
-    mark.fill(0);
     write_entries(starts, earlier, parent, mark, path, next, rows);
     Some(total)
 }

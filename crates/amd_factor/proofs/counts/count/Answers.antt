@@ -1,16 +1,19 @@
 use Rattle.std.proofs.Common.{◌<◌, ◌+◌, arith, length}
+use Rattle.amd_factor.proofs.Clearing.{no_marks, no_parents, no_counts, only_none}
 use Rattle.amd_factor.proofs.Counting.{none_yet, small, row_counted, total_of, more_than, sum_rows, at_last}
 use Rattle.amd_factor.proofs.counts.count.Goals as goal
 
 pub rows-init : goal.rows-init
-rows-init g c = record {
-  parents = c.requires.1.1.0;
-  marks = c.requires.1.1.1.0;
-  path = c.requires.1.1.1.1.0;
-  counts = c.requires.1.1.1.1.1;
-  total = none_yet g.o c.requires.0 c.args.counts.now c.requires.1.1.1.1.1;
-  most = omega arith;
-}
+rows-init g c =
+    let r = c.requires.1.1 in
+    let counts = no_counts g.o _ r.1.1.1 c.requires.0 c.fill-3.new.self (c.fill-3.ensures.after (λ y e. e)) in record {
+      parents = no_parents g.o _ r.0 _ (c.fill.ensures.after (only_none _ (λ q e. e)));
+      marks = no_marks g.o _ r.1.0 _ (c.fill-2.ensures.after (λ y e. e));
+      path = r.1.1.0;
+      counts = counts;
+      total = none_yet g.o c.requires.0 c.fill-3.new.self counts;
+      most = omega arith;
+    }
 
 pub subtree-columns-requires : goal.subtree-columns-requires
 subtree-columns-requires g c =

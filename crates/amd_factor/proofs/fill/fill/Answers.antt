@@ -1,17 +1,8 @@
 use Rattle.std.proofs.Common.{length, ◌≡◌, ◌∙◌, ◌<◌, ◌≤◌, subst, sym, arith}
 use Rattle.std.specs.Prelude.{slice_index}
 use Rattle.amd_model.specs.Below.{sum_below}
-use Rattle.amd_factor.proofs.Clearing.{no_marks, no_parents, no_counts, told_again, only_none}
 use Rattle.amd_factor.proofs.Holding.{passes_room, begin_columns, hold_factor}
 use Rattle.amd_factor.proofs.fill.fill.Goals as goal
-
-pub count-requires : goal.count-requires
-count-requires g c =
-    let r = c.requires.1.1.1 in (
-      c.requires.0,
-      (c.requires.1.0, (no_parents g.o _ r.0 _ (c.fill.ensures.after (only_none _ (λ q e. e))),
-        (no_marks g.o _ r.1.0 _ (c.fill-2.ensures.after (λ y e. e)), (r.1.1.0, no_counts g.o _ r.1.1.1 c.requires.0 _ (c.fill-3.ensures.after (λ y e. e)))))),
-    )
 
 pub returns-in_default : goal.returns-in_default
 returns-in_default g c = record { factor = passes_room g.o c.requires.0 (length c.args.rows.now) (rw c.in_default.is at c.count.ensures.total) }
@@ -25,10 +16,20 @@ pub write_entries-requires : goal.write_entries-requires
 write_entries-requires g c =
     let r = c.requires.1.1.1 in let n = c.in-Some.ensures in (
       c.requires.0,
-      (c.requires.1.0, (told_again g.o (length g.o.rows) c.count.new.parent n.parents,
-        (no_marks g.o (length c.count.new.mark) (c.count.auto.mark ∙ c.fill-2.ensures.len ∙ r.1.0) _ (c.fill-4.ensures.after (λ y e. e)), (c.count.auto.path ∙ r.1.1.0,
-          begin_columns g.o c.requires.0 c.count.new.counts c.begin_columns.new.next c.begin_columns.new.ptr c.args.rows.now n.counts c.in-Some.total n.total.1 n.total.0 (c.begin_columns.auto.next ∙ n.counts.room)
-              (λ k l. c.begin_columns.ensures.begins k (subst (λ m. k < m) (sym n.counts.room) l)))))),
+      (
+        c.requires.1.0,
+        (
+          n.parents,
+          (
+            c.count.auto.mark ∙ r.1.0,
+            (
+              c.count.auto.path ∙ r.1.1.0,
+              begin_columns g.o c.requires.0 c.count.new.counts c.begin_columns.new.next c.begin_columns.new.ptr c.args.rows.now n.counts c.in-Some.total n.total.1 n.total.0 (c.begin_columns.auto.next ∙ n.counts.room)
+                  (λ k l. c.begin_columns.ensures.begins k (subst (λ m. k < m) (sym n.counts.room) l)),
+            ),
+          ),
+        ),
+      ),
     )
 
 pub returns : goal.returns

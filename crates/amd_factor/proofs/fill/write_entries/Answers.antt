@@ -1,11 +1,12 @@
-use Rattle.std.proofs.Common.{◌<◌, ◌∙◌, arith, length}
+use Rattle.std.proofs.Common.{arith, length}
+use Rattle.amd_factor.proofs.Clearing.{no_marks, told_again}
 use Rattle.amd_factor.proofs.Filling.{filled_none, has_room, filled_next, filled_all}
 use Rattle.amd_factor.proofs.fill.write_entries.Goals as goal
 
 pub rows-init : goal.rows-init
 rows-init g c = record {
-  parents = c.requires.1.1.0;
-  marks = c.requires.1.1.1.0;
+  parents = told_again g.o (length g.o.rows) c.args.parent.now c.requires.1.1.0;
+  marks = no_marks g.o _ c.requires.1.1.1.0 _ (c.fill.ensures.after (λ y e. e));
   path = c.requires.1.1.1.1.0;
   filled = filled_none g.o c.requires.0 c.args.next.now (length c.args.rows.now) c.requires.1.1.1.1.1 c.args.rows.now;
 }
