@@ -1,0 +1,5 @@
+-- The factor under an order of the rows, its elimination tree, and the lists that it is made from.
+pub mod Columns
+pub mod Earlier
+pub mod Trees
+pub mod Walks

@@ -1,0 +1,58 @@
+-- What a walk up the elimination tree reads and writes. Source: Liu 1986, 1990; Davis 2005 (LDL).
+use Rattle.std.specs.Prelude.{ℕ, Bool, true, ◌≡◌, ◌≢◌, ◌<◌, ◌≤◌, ◌↔◌, ◌+◌, List, Option, None, Some, length, slice_index, slice_index_or}
+use Rattle.amd_model.specs.Below.{count_below, sum_below}
+use Rattle.amd_factor.specs.Earlier.{Order}
+use Rattle.amd_factor.specs.Trees.{Entry, IsParent}
+
+-- what the rows before place j tell of the parent of place k: it has no entry before j, or this parent, which may lie behind j
+abbrev pub TellsParent : Order → ℕ → ℕ → Option ℕ → Type 0
+TellsParent o j k None = (m : ℕ) → m < j → Entry o.graph o.rows k m → ⊥
+TellsParent o j k (Some parent) = IsParent o.graph o.rows k parent
+
+-- the parents, as far as the rows before place j tell them
+pub record TellParents (o : Order) (j : ℕ) (parent : List (Option ℕ)) : Type 0 where
+  pub room : length parent ≡ length o.rows
+  pub each : (k : ℕ) → k < length o.rows → TellsParent o j k (slice_index_or parent k None)
+
+-- no place has the mark of place j, or of a later one
+pub record MarksBefore (o : Order) (j : ℕ) (mark : List ℕ) : Type 0 where
+  pub room : length mark ≡ length o.rows
+  pub each : (k : ℕ) → k < length o.rows → slice_index mark k ≤ j
+
+-- the first places of a list name the columns that have the entry j, each once
+pub record ListsColumns (o : Order) (j : ℕ) (path : List ℕ) (count : ℕ) : Type 0 where
+  pub fits : count ≤ length path
+  pub entries : (a : ℕ) → a < count → Entry o.graph o.rows (slice_index path a) j
+  pub all : (k : ℕ) → Entry o.graph o.rows k j → (a : ℕ) × (a < count) × (slice_index path a ≡ k)
+  pub differ : (a b : ℕ) → a < b → b < count → slice_index path a ≢ slice_index path b
+
+-- the column of place k has that many entries before place j
+pub record CountsEntry (o : Order) (j k count : ℕ) : Type 0 where
+  pub test : ℕ → Bool
+  pub exact : (m : ℕ) → m < j → (test m ≡ true) ↔ Entry o.graph o.rows k m
+  pub is : count_below j test ≡ count
+
+-- and so of each place
+pub record CountEntries (o : Order) (j : ℕ) (counts : List ℕ) : Type 0 where
+  pub room : length counts ≡ length o.rows
+  pub each : (k : ℕ) → k < length o.rows → CountsEntry o j k (slice_index counts k)
+
+-- there are that many entries in all
+abbrev pub TotalOf : Order → ℕ → Type 0
+TotalOf o total = (f : ℕ → ℕ) → ((k : ℕ) → k < length o.rows → CountsEntry o (length o.rows) k (f k)) → sum_below (length o.rows) f ≡ total
+
+-- there are more entries than that in all
+abbrev pub MoreThan : Order → ℕ → Type 0
+MoreThan o room = (f : ℕ → ℕ) → ((k : ℕ) → k < length o.rows → CountsEntry o (length o.rows) k (f k)) → room < sum_below (length o.rows) f
+
+-- column k begins behind the entries of those before it, and there is room for all
+pub record BeginColumns (o : Order) (begins : List ℕ) (room : ℕ) : Type 0 where
+  pub count : ℕ → ℕ
+  pub counts : (k : ℕ) → k < length o.rows → CountsEntry o (length o.rows) k (count k)
+  pub begins_room : length begins ≡ length o.rows
+  pub at : (k : ℕ) → k < length o.rows → slice_index begins k ≡ sum_below k count
+  pub fits : sum_below (length o.rows) count ≤ room
+
+-- each entry before place j stands in its column, behind the entries before it
+abbrev pub HoldEntries : Order → ℕ → List ℕ → List ℕ → Type 0
+HoldEntries o j begins rows = (k m c : ℕ) → m < j → Entry o.graph o.rows k m → CountsEntry o m k c → slice_index rows (slice_index begins k + c) ≡ m

@@ -1,0 +1,13 @@
+//! The exact columns of a factor under any order of the rows.
+#![tactic(auto)]
+
+ghost use Rattle.amd_factor.specs.Trees.{RowsAreSubtrees};
+
+pub mod counts;
+pub mod fill;
+pub mod subtree;
+
+/// A place is an entry of exactly those columns that lie in its subtree of the elimination tree.
+pub fn law_rows_are_subtrees()
+    ensures { RowsAreSubtrees }
+{}
