@@ -44,7 +44,7 @@ module _ (n : ℕ) (ap' ai : List ℤ) (form : IsColumnForm (pos n) n ap' ai) wh
   pointer_is j h = count_is ap' j (pointer_in (pos n) n ap' ai form j h).0
 
   -- the places of a column hold rows
-  row_in : (j q : ℕ) → j < n → q < get_or (counts ap') (j + 1) 0 → IsRow (pos n) (at ai q)
+  pub row_in : (j q : ℕ) → j < n → q < get_or (counts ap') (j + 1) 0 → IsRow (pos n) (at ai q)
   row_in j q h high =
       let is = pointer_is (j + 1) (omega arith) in
       let below = (pointer_in (pos n) n ap' ai form (j + 1) (omega arith)).1 in

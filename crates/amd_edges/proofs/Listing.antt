@@ -30,7 +30,7 @@ stretch_more rows s e j low high =
     let moved : drop s (set rows e j) ≡ set (drop s rows) (e - s) j = subst (λ x. drop s (set rows x j) ≡ set (drop s rows) (e - s) j) at (drop-set-add s rows (e - s) j) in
     rw (moved, long) (take_more_set (drop s rows) (e - s) j within)
 
-stretch_same : (rows : List ℕ) (s e v j : ℕ) → (v < s) ⊎ (e ≤ v) → slice_range (set rows v j) s e ≡ slice_range rows s e
+pub stretch_same : (rows : List ℕ) (s e v j : ℕ) → (v < s) ⊎ (e ≤ v) → slice_range (set rows v j) s e ≡ slice_range rows s e
 stretch_same rows s e v j (inl x) = ap (take (e - s)) (drop-set-lt s rows v j x)
 stretch_same rows s e v j (inr x) = elim (cases_lt v s) [
   | inl y ↦ ap (take (e - s)) (drop-set-lt s rows v j y)
