@@ -21,7 +21,10 @@ use Rattle.amd_rounds.specs.declared.work.Work.{Work}
 use Rattle.amd_views.proofs.Lists.Named.{none_sum}
 use Rattle.amd_views.proofs.Rounding.{Rounding}
 use Rattle.amd_views.proofs.Round.Fronts.{pivot_class, pivot_least, live_left, live_less, border_is as border_law}
-use Rattle.amd_views.proofs.Round.RoundLaw.{Found, size_outside, size_ended, bound_kept, as_next, one_round}
+use Rattle.amd_views.proofs.Round.Turn.{Turn}
+use Rattle.amd_views.proofs.Round.Sizes.{size_outside, size_ended}
+use Rattle.amd_views.proofs.Round.Bounds.{bound_kept}
+use Rattle.amd_views.proofs.Round.NextRound.{as_next, one_round}
 use Rattle.amd_views.proofs.Round.Finding as finding
 use Rattle.amd_views.proofs.Merging.Made.{made_once}
 use Rattle.amd_rounds.proofs.FrontLists.{pivot_below, front_below, front_once}
@@ -270,9 +273,13 @@ module _ {A : Type 0} (g : Graph) (dense : ℕ → Bool) (aggressive : Bool) (w 
           rows = sized_after.link ∙ sym st.sized.link;
         }
 
-        pub found : Found aggressive (view_of w) (view_of v) t rounding
+        turn : Turn g dense aggressive (view_of w) (view_of v) t s
         unfolding rounding
-        found = finding.found g dense aggressive old new t s st.view rounding placed lowest (sym is_pivot) least
+        turn = record {
+          before = st.view;
+          wrote = rounding;
+          found = finding.found g dense aggressive old new t s st.view rounding placed lowest (sym is_pivot) least;
+        }
 
         abbrev class : is_class s c ≡ true
         class = pivot_class g dense old t s st.view c placed
@@ -282,8 +289,8 @@ module _ {A : Type 0} (g : Graph) (dense : ℕ → Bool) (aggressive : Bool) (w 
 
         -- fewer rows are live
         pub fewer : v.live < w.live
-        unfolding rounding
-        fewer = live_less g dense aggressive old new t s st.view rounding class least_class front_is found.rest_is
+        unfolding rounding turn
+        fewer = live_less g dense aggressive old new t s st.view rounding class least_class front_is turn.found.rest_is
 
         named_made : (i : ℕ) → has M i ≡ true → has made i ≡ true
         named_made i h = ap (λ l. has l i) made_same ∙ h
@@ -292,39 +299,39 @@ module _ {A : Type 0} (g : Graph) (dense : ℕ → Bool) (aggressive : Bool) (w 
         named_front i h = in_front i (made_front i (named_made i h))
 
         stay : (i : ℕ) → (i == c || has L i) ≡ false → (num v.size.items i ≡ num w.size.items i) × (num v.bound.items i ≡ num w.bound.items i)
-        unfolding rounding
+        unfolding rounding turn
         stay i h = let p = or_parts (i == c) (has L i) h in
-            (size_outside g dense aggressive old new t s st.view rounding found i p.0 p.1, bounds i ∙ cond-false (has made i) _ _ (not_made i (ap (λ l. has l i) front_is ∙ p.1)))
+            (size_outside turn i p.0 p.1, bounds i ∙ cond-false (has made i) _ _ (not_made i (ap (λ l. has l i) front_is ∙ p.1)))
 
         ended : (i : ℕ) → (i == c || has L i) ≡ true → has M i ≡ false → num v.size.items i ≡ 0
-        unfolding rounding
+        unfolding rounding turn
         ended i h o = elim (or_cases (i == c) (has L i) h) [
           | inl e ↦ ap (λ l. num l.items i) n.size ∙ k.size_is i ∙ cond-true (i == c) 0 (num k.joined i) e
-          | inr l ↦ size_ended g dense aggressive old new t s st.view rounding found i l o
+          | inr l ↦ size_ended turn i l o
         ]
 
         -- the lists of the bounds stand for the next order of placing
         buckets : g.size < 2 ^ 64 → (b : ℕ) → lasts (live_in v.size.items v.bound.items b (list_at v.placed.items b)) ≡ filter (λ i. (round aggressive t c L).bound i == b) (round aggressive t c L).placed
-        unfolding round rounding
+        unfolding round rounding turn
         buckets few = bucket_step w.size.items w.bound.items w.placed.items w1.placed.items w.least w1.least c t.placed t.bound m.chosen st.placed st.view.keeps.least
             v.placed.items v.size.items v.bound.items L M (round aggressive t c L).bound
             (λ b. placed_are b ∙ ap (λ l. list_at w1.placed.items b ++ filter (λ i. num v.bound.items i == b) l) made_same)
             (made_once g st.view.graph s st.view.sound t st.view.fits c placed aggressive) named_front stay
             (λ i h. let e = ap (λ l. num l.items i) n.size in let a = (renew_sizes i (named_made i h)).2 in omega (arith, e, a))
             ended (λ i h. sym (st.view.keeps.bound i h))
-            (λ i h. sym (bound_kept g dense aggressive old new t s st.view rounding found few (border_law g dense aggressive old new t s st.view rounding class least_class front_is found.rest_is)
-            (live_left g dense aggressive old new t s st.view rounding class least_class front_is found.rest_is) (let a = fewer in let b = live_few in omega (arith, a, b)) i h))
+            (λ i h. sym (bound_kept turn few (border_law g dense aggressive old new t s st.view rounding class least_class front_is turn.found.rest_is)
+            (live_left g dense aggressive old new t s st.view rounding class least_class front_is turn.found.rest_is) (let a = fewer in let b = live_few in omega (arith, a, b)) i h))
 
         pub round_done : length w.size.items < 2 ^ 63 → (is_empty t.placed ≡ false) × ((u : State) × StepAt g aggressive (pivot t.bound t.placed) s u × Stands g dense v (next aggressive t) u)
-        unfolding rounding
+        unfolding rounding turn
         round_done few =
             let small : g.size < 2 ^ 64 = (let z = st.sized.size in omega (arith, z, few)) in
-            let done = one_round g dense aggressive old new t s st.view rounding found small in
+            let done = one_round turn small in
             (done.0, (done.1.0, done.1.1, record {
               view = done.1.2;
               sized = sized_after;
               placed = subst (λ u. (b : ℕ) → lasts (live_in v.size.items v.bound.items b (list_at v.placed.items b)) ≡ filter (λ i. u.bound i == b) u.placed)
-                  (as_next g dense aggressive old new t s st.view rounding found) (buckets small);
+                  (as_next turn) (buckets small);
             }))
 
 -- the parts make a round

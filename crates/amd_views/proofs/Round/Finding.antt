@@ -22,7 +22,7 @@ use Rattle.amd_views.proofs.Fronts.Absorbed as absorption
 use Rattle.amd_views.proofs.Merging.Made as merging
 use Rattle.amd_views.proofs.Rounding.{Rounding}
 use Rattle.amd_views.proofs.Round.Fronts.{pivot_class, pivot_least}
-use Rattle.amd_views.proofs.Round.RoundLaw.{Found}
+use Rattle.amd_views.proofs.Round.Turn.{Found}
 
 -- a class of least bound, and the list that is gathered of the record
 module _ (g : Graph) (dense : ℕ → Bool) (aggressive : Bool) (w : View) (t : Tie) (s : State) (st : Stands g dense w t s)
