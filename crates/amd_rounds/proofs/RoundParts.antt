@@ -179,7 +179,7 @@ module _ {A : Type 0} (g : Graph) (dense : ℕ → Bool) (aggressive : Bool) (w 
       pub renew_dense : length w.size.items < 2 ^ 63 → block + (border + w2.n_dense) < 2 ^ 64
       renew_dense few = let e = k.elements.n_dense ∙ m.elements.n_dense in let z = st.sized.size in
           let a : block + (border + w.n_dense) ≤ g.size + g.size = finding.all_rows g dense aggressive old t s st.view c placed least front m.front_is (lists_of w1.lists) (some_at w1.parent.items) (num w1.scratch.beyond.items) m.absorbed.classes
-              k.rest made into k.rest_is k.into_is k.made_is border block w2.live border_is block_is live_is (num k.retired) (num k.joined) (num w2.size.items) retired_is k.joined_is k.size_is in
+          k.rest made into k.rest_is k.into_is k.made_is border block w2.live border_is block_is live_is (num k.retired) (num k.joined) (num w2.size.items) retired_is k.joined_is k.size_is in
           omega (arith, few, a, e, z)
 
       -- ---- the whole round
@@ -326,13 +326,19 @@ module _ {A : Type 0} (g : Graph) (dense : ℕ → Bool) (aggressive : Bool) (w 
         unfolding rounding turn
         round_done few =
             let small : g.size < 2 ^ 64 = (let z = st.sized.size in omega (arith, z, few)) in
-            let done = one_round turn small in
-            (done.0, (done.1.0, done.1.1, record {
-              view = done.1.2;
-              sized = sized_after;
-              placed = subst (λ u. (b : ℕ) → lasts (live_in v.size.items v.bound.items b (list_at v.placed.items b)) ≡ filter (λ i. u.bound i == b) u.placed)
-                  (as_next turn) (buckets small);
-            }))
+            let done = one_round turn small in (
+              done.0,
+              (
+                done.1.0,
+                done.1.1,
+                record {
+                  view = done.1.2;
+                  sized = sized_after;
+                  placed = subst (λ u. (b : ℕ) → lasts (live_in v.size.items v.bound.items b (list_at v.placed.items b)) ≡ filter (λ i. u.bound i == b) u.placed)
+                      (as_next turn) (buckets small);
+                },
+              ),
+            )
 
 -- the parts make a round
 pub is_round : {A : Type 0} (aggressive : Bool) (w w1 w2 v : Work A) (c border block : ℕ) (front made : List ℕ) → length w.size.items < 2 ^ 63 →
