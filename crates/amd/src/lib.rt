@@ -1,16 +1,19 @@
 //! An approximate minimum degree ordering of sparse matrices.
 //!
 //! [`order`] takes the pattern of a square matrix by columns and answers a permutation of its rows, its inverse, and figures.
+//! [`order_holding`] does the same with rows that a caller wants last.
 //! [`control`] and [`info`] write what a caller chooses and what the ordering tells, as text.
 #![tactic(auto)]
 
 pub mod laws;
 
-ghost use Rattle.std.specs.Prelude.{◌≡◌, ◌≢◌, pos, ◌+◌, ◌/◌, ◌^◌, ◌<◌, map, unsigned_abs, IfOk, IfErr};
-ghost use Rattle.std.specs.Option.{SomeIff};
+ghost use Rattle.std.specs.Prelude.{◌≡◌, ◌≢◌, pos, ◌+◌, ◌/◌, ◌^◌, ◌<◌, Some, map, unsigned_abs, IfOk, IfErr};
+ghost use Rattle.std.specs.Option.{SomeIff, option_copied};
 ghost use Rattle.amd_model.specs.Input.Columns.{IsInput, IsSortedInput};
+ghost use Rattle.amd_model.specs.Input.Held.{HasMarks};
 ghost use Rattle.amd_model.specs.Input.Pattern.{is_pair};
-ghost use Rattle.amd.specs.Answers.{IsOrdering, IsRefusal, OrdersMatrix};
+ghost use Rattle.amd_numbers.specs.Statuses.{IsStatusOf};
+ghost use Rattle.amd.specs.Answers.{IsInputHolding, IsOrdering, IsOrderingHolding, IsRefusal, IsRefusalHolding, OrdersMatrix};
 
 use amd_engine::plain::plain_1;
 use amd_input::aat::aat;
@@ -39,12 +42,14 @@ fn order_sorted<I: PrimInt, A: Allocator + Copy>(
     a_p: &[I],
     a_i: &[I],
     control: &Control,
+    hold: Option<&[bool]>,
 ) -> Result<(Vec<I, A>, Vec<I, A>, Info), Status>
     requires fits { I.fits (I.value n) }
     requires some { I.value n ≢ pos 0 }
+    requires marks { HasMarks (option_copied hold) (unsigned_abs (I.value n)) }
     requires form { IsInput (I.value n) (I.value n) (map I.value a_p.now) (map I.value a_i.now) }
     requires sorted { IsSortedInput (I.value n) (map I.value a_p.now) (map I.value a_i.now) }
-    ensures orders { IfOk result (λ a. OrdersMatrix (unsigned_abs (I.value n)) control.now.dense control.now.aggressive (is_pair (unsigned_abs (I.value n)) (map I.value a_p.now) (map I.value a_i.now)) (map I.value a_p.now) (map I.value a_i.now) (map I.value a.0.items) (map I.value a.1.items) a.2) }
+    ensures orders { IfOk result (λ a. OrdersMatrix (option_copied hold) (unsigned_abs (I.value n)) control.now.dense control.now.aggressive (is_pair (unsigned_abs (I.value n)) (map I.value a_p.now) (map I.value a_i.now)) (map I.value a_p.now) (map I.value a_i.now) (map I.value a.0.items) (map I.value a.1.items) a.2) }
     ensures status { IfOk result (λ a. a.2.status ≡ Status.OK) }
     ensures refused { IfErr result (λ e. e ≡ Status.OutOfMemory) }
 {
@@ -54,7 +59,7 @@ fn order_sorted<I: PrimInt, A: Allocator + Copy>(
     if workspace_words(nzaat, count).is_none() {
         return Err(Status::OutOfMemory);
     }
-    let (p, p_inv) = plain_1(alloc, n, a_p, a_i, &degrees, control, &mut info)?;
+    let (p, p_inv) = plain_1(alloc, n, a_p, a_i, &degrees, control, hold, &mut info)?;
     Ok((p, p_inv, info))
 }
 
@@ -65,18 +70,61 @@ fn order_jumbled<I: PrimInt, A: Allocator + Copy>(
     a_p: &[I],
     a_i: &[I],
     control: &Control,
+    hold: Option<&[bool]>,
 ) -> Result<(Vec<I, A>, Vec<I, A>, Info), Status>
     requires fits { I.fits (I.value n) }
     requires some { I.value n ≢ pos 0 }
+    requires marks { HasMarks (option_copied hold) (unsigned_abs (I.value n)) }
     requires form { IsInput (I.value n) (I.value n) (map I.value a_p.now) (map I.value a_i.now) }
-    ensures orders { IfOk result (λ a. OrdersMatrix (unsigned_abs (I.value n)) control.now.dense control.now.aggressive (λ i j. is_pair (unsigned_abs (I.value n)) (map I.value a_p.now) (map I.value a_i.now) j i) (map I.value a_p.now) (map I.value a_i.now) (map I.value a.0.items) (map I.value a.1.items) a.2) }
+    ensures orders { IfOk result (λ a. OrdersMatrix (option_copied hold) (unsigned_abs (I.value n)) control.now.dense control.now.aggressive (λ i j. is_pair (unsigned_abs (I.value n)) (map I.value a_p.now) (map I.value a_i.now) j i) (map I.value a_p.now) (map I.value a_i.now) (map I.value a.0.items) (map I.value a.1.items) a.2) }
     ensures status { IfOk result (λ a. a.2.status ≡ Status.OkButJumbled) }
     ensures refused { IfErr result (λ e. e ≡ Status.OutOfMemory) }
 {
     let (c_p, c_i) = preprocess(alloc, n, a_p, a_i)?;
-    let (p, p_inv, mut info) = order_sorted(alloc, n, &c_p, &c_i, control)?;
+    let (p, p_inv, mut info) = order_sorted(alloc, n, &c_p, &c_i, control, hold)?;
     info.status = Status::OkButJumbled;
     Ok((p, p_inv, info))
+}
+
+/// The class of an input with marks of rows to hold last: that of the column form, but `Invalid` where there are marks and not one
+/// for each of the `count` rows.
+fn class_of<I: PrimInt>(n: I, count: usize, a_p: &[I], a_i: &[I], hold: Option<&[bool]>) -> Status
+    requires fits { I.fits (I.value n) }
+    requires count { I.value n ≡ pos count }
+    ensures marks { result ≢ Status.Invalid → HasMarks (option_copied hold) count }
+    ensures status { HasMarks (option_copied hold) count → IsStatusOf (I.value n) (I.value n) (map I.value a_p.now) (map I.value a_i.now) result }
+{
+    match hold {
+        Some(marks) if marks.len() != count => Status::Invalid,
+        _ => valid(n, n, a_p, a_i),
+    }
+}
+
+/// Orders a matrix, with or without marks of rows to hold last.
+fn order_form<I: PrimInt, A: Allocator + Copy>(
+    alloc: A,
+    n: I,
+    a_p: &[I],
+    a_i: &[I],
+    control: &Control,
+    hold: Option<&[bool]>,
+) -> Result<(Vec<I, A>, Vec<I, A>, Info), Status>
+    requires fits { I.fits (I.value n) }
+    ensures ordering { IfOk result (λ a. IsOrderingHolding (option_copied hold) (I.value n) control.now.dense control.now.aggressive (map I.value a_p.now) (map I.value a_i.now) (map I.value a.0.items) (map I.value a.1.items) a.2) }
+    ensures refusal { IfErr result (λ e. IsRefusalHolding (option_copied hold) (I.value n) (map I.value a_p.now) (map I.value a_i.now) e) }
+{
+    let Some(count) = to_count(n) else {
+        return Err(Status::Invalid);
+    };
+    if count == 0 {
+        return Ok((Vec::new(alloc), Vec::new(alloc), Info::new(0)));
+    }
+    match class_of(n, count, a_p, a_i, hold) {
+        Status::OK => order_sorted(alloc, n, a_p, a_i, control, hold),
+        Status::OkButJumbled => order_jumbled(alloc, n, a_p, a_i, control, hold),
+        Status::Invalid => Err(Status::Invalid),
+        Status::OutOfMemory => unreachable!(),
+    }
 }
 
 /// Orders the rows of the square matrix with `n` columns whose column `j` holds the rows `a_i[a_p[j]..a_p[j + 1]]`, by the pattern
@@ -110,16 +158,33 @@ pub fn order<I: PrimInt, A: Allocator + Copy>(
     ensures ordering { IfOk result (λ a. IsOrdering (I.value n) control.now.dense control.now.aggressive (map I.value a_p.now) (map I.value a_i.now) (map I.value a.0.items) (map I.value a.1.items) a.2) }
     ensures refusal { IfErr result (λ e. IsRefusal (I.value n) (map I.value a_p.now) (map I.value a_i.now) e) }
 {
-    let Some(count) = to_count(n) else {
-        return Err(Status::Invalid);
-    };
-    if count == 0 {
-        return Ok((Vec::new(alloc), Vec::new(alloc), Info::new(0)));
-    }
-    match valid(n, n, a_p, a_i) {
-        Status::OK => order_sorted(alloc, n, a_p, a_i, control),
-        Status::OkButJumbled => order_jumbled(alloc, n, a_p, a_i, control),
-        Status::Invalid => Err(Status::Invalid),
-        Status::OutOfMemory => unreachable!(),
-    }
+    order_form(alloc, n, a_p, a_i, control, None)
+}
+
+/// Orders as [`order`] does, with the rows marked in `hold` held last beside the dense ones: they take no part in the elimination,
+/// stand last in rising order, and are counted in `n_dense`. A marked row may be empty. With nothing marked, and where each marked
+/// row is dense anyway, the answer is that of `order`.
+///
+/// For `n = 0` two empty vectors and `Info::new(0)`, whatever the pointers and the marks are.
+///
+/// # Errors
+///
+/// `Invalid` exactly where `n` is not 0 and the input is no column form, or `hold` has not one mark for each of the `n` rows; no
+/// memory is asked before. `OutOfMemory` as `order`.
+///
+/// Source: AMD user guide; Amestoy, Davis and Duff 1996 and 2004.
+pub fn order_holding<I: PrimInt, A: Allocator + Copy>(
+    alloc: A,
+    n: I,
+    a_p: &[I],
+    a_i: &[I],
+    control: &Control,
+    hold: &[bool],
+) -> Result<(Vec<I, A>, Vec<I, A>, Info), Status>
+    // A number of a primitive type is always in range.
+    requires fits { I.fits (I.value n) }
+    ensures ordering { IfOk result (λ a. IsOrderingHolding (Some hold.now) (I.value n) control.now.dense control.now.aggressive (map I.value a_p.now) (map I.value a_i.now) (map I.value a.0.items) (map I.value a.1.items) a.2) }
+    ensures refusal { IfErr result (λ e. IsRefusalHolding (Some hold.now) (I.value n) (map I.value a_p.now) (map I.value a_i.now) e) }
+{
+    order_form(alloc, n, a_p, a_i, control, Some(hold))
 }

@@ -1,2 +1,2 @@
 -- What an engine answers.
-pub mod Plain
+pub mod Engine

@@ -4,6 +4,7 @@
 #![tactic(auto)]
 
 pub mod blocks;
+pub mod last;
 pub mod plain;
 
 pub use amd_numbers::{amd, internal};

@@ -2,13 +2,16 @@
 // each element its members), and one list of classes for each bound. Source: Amestoy, Davis and Duff 1996 and 2004. Called by
 // `order` of the crate `amd`. The rounds under `plain_1` stand in the crate `amd_rounds` and are handed on here.
 
-ghost use Rattle.std.specs.Prelude.{◌≡◌, ◌<◌, pos, map, length, IfOk, IfErr};
+ghost use Rattle.std.specs.Prelude.{◌≡◌, ◌<◌, pos, map, length, IfOk, IfErr, OnOk};
+ghost use Rattle.std.specs.Option.{option_copied};
 ghost use Rattle.amd_model.specs.Input.Columns.{IsColumnForm, IsSorted};
+ghost use Rattle.amd_model.specs.Input.Held.{HasMarks};
 ghost use Rattle.amd_model.specs.Input.Pattern.{graph_of};
 ghost use Rattle.amd_edges.specs.Visits.{AreCounts};
-ghost use Rattle.amd_engine.specs.Plain.{IsEngineAnswer};
+ghost use Rattle.amd_engine.specs.Engine.{IsEngineAnswer};
 
 use crate::blocks::listing;
+use crate::last::rows_held_last;
 use amd_edges::lists::starting_lists;
 use amd_numbers::amd::{Control, Info, Status};
 use amd_numbers::dense::dense_threshold;
@@ -18,8 +21,9 @@ use amd_rounds::start::start;
 use num_traits::PrimInt;
 use std::alloc::Allocator;
 
-/// Orders the rows of a matrix with at least one row and sorted columns, whose rows have the degrees `len`, by elimination. Writes
-/// of `info` the number of dense rows and the figures of the fronts; there is no compaction.
+/// Orders the rows of a matrix with at least one row and sorted columns, whose rows have the degrees `len`, by elimination. The rows
+/// marked in `hold`, which has a mark for each row where it is given, are held last beside the dense ones. Writes of `info` the
+/// number of rows held last and the figures of the fronts; there is no compaction.
 ///
 /// # Errors
 ///
@@ -31,6 +35,7 @@ pub fn plain_1<I: PrimInt, A: Allocator + Copy>(
     a_i: &[I],
     len: &[usize],
     control: &Control,
+    hold: Option<&[bool]>,
     info: &mut Info,
 ) -> Result<(Vec<I, A>, Vec<I, A>), Status>
     requires fits { I.fits (I.value n) }
@@ -39,12 +44,15 @@ pub fn plain_1<I: PrimInt, A: Allocator + Copy>(
     requires form { IsColumnForm (pos (length len.now)) (length len.now) (map I.value a_p.now) (map I.value a_i.now) }
     requires sorted { IsSorted (length len.now) (map I.value a_p.now) (map I.value a_i.now) }
     requires degrees { AreCounts (graph_of (length len.now) (map I.value a_p.now) (map I.value a_i.now)) ((graph_of (length len.now) (map I.value a_p.now) (map I.value a_i.now)).edge) len.now }
-    ensures orders { IfOk result (λ a. IsEngineAnswer (length len.now) control.now.dense control.now.aggressive (map I.value a_p.now) (map I.value a_i.now) (map I.value a.0.items) (map I.value a.1.items) info.old info.new) }
+    requires marks { HasMarks (option_copied hold) (length len.now) }
+    ensures orders { IfOk result (λ a. IsEngineAnswer (option_copied hold) (length len.now) control.now.dense control.now.aggressive (map I.value a_p.now) (map I.value a_i.now) (map I.value a.0.items) (map I.value a.1.items) info.old info.new) }
+    ensures compactions { OnOk result (info.new.n_cmp_a ≡ 0) }
     ensures refused { IfErr result (λ e. e ≡ Status.OutOfMemory) }
 {
     let threshold = dense_threshold(len.len(), control);
     let rows = starting_lists(alloc, len.len(), a_p, a_i, len)?;
-    let mut work = start(alloc, rows, len, threshold)?;
+    let last = rows_held_last(alloc, len, threshold, hold)?;
+    let mut work = start(alloc, rows, len, &last)?;
     eliminate(&mut work, control)?;
     info.n_dense = work.n_dense;
     info.n_cmp_a = 0;

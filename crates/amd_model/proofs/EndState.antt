@@ -1,12 +1,12 @@
 -- The last state of a run: it is sound, its elements make a tree, no row is live, and the rows held last are the dense ones.
-use Rattle.std.proofs.Common.{ℕ, Bool, true, false, ◌≡◌, ◌<◌, ◌⊎◌, inl, inr, refl, sym, ◌∙◌, subst, arith, List, [], ◌∷◌}
+use Rattle.std.proofs.Common.{ℕ, Bool, true, false, ◌≡◌, ◌<◌, ◌⊎◌, inl, inr, refl, sym, ◌∙◌, ap, subst, arith, List, [], ◌∷◌}
 use Rattle.std.proofs.lemmas.Bool.{cases_Bool, cases_eq, true≢false}
 use Rattle.amd_model.specs.Graph.{Graph, IsGraph, degree}
 use Rattle.amd_model.specs.State.{State, Home, Last, Live, Gone, live, eliminated, IsStart}
 use Rattle.amd_model.specs.Step.{StepAt}
-use Rattle.amd_model.specs.Run.{Run, Steps, last_state}
+use Rattle.amd_model.specs.Run.{Run, Steps, EachState, last_state}
 use Rattle.amd_model.specs.Sound.{IsSound}
-use Rattle.amd_model.specs.Laws.{Under, itself, over, DenseAreLast, EdgesFollowTree, AtTheEnd}
+use Rattle.amd_model.specs.Laws.{Under, itself, over, is_last, LastRowsAre, LastRowsStay, DenseAreLast, EdgesFollowTree, AtTheEnd}
 use Rattle.amd_model.proofs.StateLemmas.{live_from, gone_from}
 use Rattle.amd_model.proofs.Sound.{gone_small}
 use Rattle.amd_model.proofs.SoundStep.{step_sound, goes, moves, stays, fate}
@@ -58,6 +58,28 @@ step_made g laws dense aggressive c old new step m = record {
 steps_made : (g : Graph) → IsGraph g → (dense : ℕ → Bool) (aggressive : Bool) (s : State) (states : List State) → IsMade g dense s → Steps g aggressive s states → IsMade g dense (last_state s states)
 steps_made g laws dense aggressive s [] m steps = m
 steps_made g laws dense aggressive s (t ∷ rest) m steps = steps_made g laws dense aggressive t rest (step_made g laws dense aggressive (steps.0).0 s t (steps.0).1 m) steps.1
+
+-- exactly the rows of the set are held last
+last_rows : (g : Graph) (dense : ℕ → Bool) (s : State) → IsMade g dense s → LastRowsAre g dense s
+unfolding is_last
+last_rows g dense s m v l = elim (cases_Bool (dense v)) [
+  | inl d ↦ ap is_last (m.dense_last v l d) ∙ sym d
+  | inr d ↦ not_held (s.home v) refl d ∙ sym d
+]
+  where
+    not_held : (h : Home) → s.home v ≡ h → dense v ≡ false → is_last h ≡ false
+    not_held Last e d = absurd (true≢false (sym (m.last_dense v l e) ∙ d))
+    not_held (Live c) e d = refl
+    not_held (Gone c) e d = refl
+
+last_rows_from : (g : Graph) → IsGraph g → (dense : ℕ → Bool) (aggressive : Bool) (s : State) (states : List State) → IsMade g dense s → Steps g aggressive s states →
+    EachState (LastRowsAre g dense) s states
+last_rows_from g laws dense aggressive s [] m steps = last_rows g dense s m
+last_rows_from g laws dense aggressive s (t ∷ rest) m steps =
+    (last_rows g dense s m, last_rows_from g laws dense aggressive t rest (step_made g laws dense aggressive (steps.0).0 s t (steps.0).1 m) steps.1)
+
+pub last_rows_stay : LastRowsStay
+last_rows_stay g dense aggressive first states laws start steps = last_rows_from g laws dense aggressive first states (start_made g laws dense first start) steps
 
 pub at_the_end : (g : Graph) (dense : ℕ → Bool) (aggressive : Bool) (first : State) (states : List State) → IsGraph g → Run g dense aggressive first states → IsEnd g dense (last_state first states)
 at_the_end g dense aggressive first states laws run =

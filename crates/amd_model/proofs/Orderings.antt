@@ -17,7 +17,7 @@ use Rattle.amd_model.proofs.NeededColumns.{figures_cover}
 use Rattle.amd_model.proofs.NoFill.{no_fill}
 use Rattle.amd_model.proofs.ColumnsInside.{empty_columns, columns_inside}
 use Rattle.amd_model.proofs.ListedOnce.{listings_are_permutations}
-use Rattle.amd_model.proofs.EndState.{dense_are_last, edges_follow_tree}
+use Rattle.amd_model.proofs.EndState.{dense_are_last, last_rows_stay, edges_follow_tree}
 use Rattle.amd_model.proofs.SmallFigures.{figures_are_small}
 
 pub orderings_promise : OrderingsPromise
@@ -25,6 +25,7 @@ orderings_promise g dense aggressive first states p laws run listing = record {
   each_row = listings_are_permutations g dense aggressive first states laws run p listing;
   fronts = fronts_in_each_state g dense aggressive first states laws run.start run.steps;
   bounds = bounds_in_each_state g dense aggressive first states laws run.start run.steps;
+  last_rows = last_rows_stay g dense aggressive first states laws run.start run.steps;
   dense_rows = dense_are_last g dense aggressive first states laws run;
   tree = edges_follow_tree g dense aggressive first states laws run;
   columns = columns_inside g dense aggressive first states laws run p listing;

@@ -2,3 +2,4 @@
 pub mod Columns
 pub mod Pattern
 pub mod Dense
+pub mod Held

@@ -114,6 +114,15 @@ pub record FiguresAreSmall (g : Graph) (dense : ℕ → Bool) (s : State) : Type
 
 -- ---- of all runs
 
+-- exactly the rows of a set are held last
+abbrev pub LastRowsAre : Graph → (ℕ → Bool) → State → Type 0
+LastRowsAre g dense s = (v : ℕ) → v < g.size → is_last (s.home v) ≡ dense v
+
+-- in each state that steps lead to from a start, the rows held last are those that the start holds last
+abbrev pub LastRowsStay : Type 0
+LastRowsStay = (g : Graph) (dense : ℕ → Bool) (aggressive : Bool) (first : State) (states : List State) →
+    IsGraph g → IsStart g dense first → Steps g aggressive first states → EachState (LastRowsAre g dense) first states
+
 -- P holds of each state that steps lead to from a start
 abbrev pub InEachState : (Graph → Bool → State → Type 0) → Type 0
 InEachState P = (g : Graph) (dense : ℕ → Bool) (aggressive : Bool) (first : State) (states : List State) →

@@ -9,7 +9,7 @@ use Rattle.amd_model.specs.Run.{Run, EachState, last_state}
 use Rattle.amd_model.specs.Listing.{IsPostorder, ListsEachRow}
 use Rattle.amd_model.specs.Forest.{IsForest}
 use Rattle.amd_model.specs.Tie.{Tie, Fits, is_empty, pivot, next, start_tie}
-use Rattle.amd_model.specs.Laws.{FrontsArePaths, BoundsMeetDegrees, DenseAreLast, EdgesFollowTree, ColumnsInside, EmptyColumns, Covers, HasNoFill, FiguresAreSmall}
+use Rattle.amd_model.specs.Laws.{FrontsArePaths, BoundsMeetDegrees, LastRowsAre, DenseAreLast, EdgesFollowTree, ColumnsInside, EmptyColumns, Covers, HasNoFill, FiguresAreSmall}
 
 -- the states of an elimination kept in lists: each comes by the step with the pivot that the rules choose, and the lists stand for it
 pub data Follows (g : Graph) (aggressive : Bool) : Tie → State → List State → Tie → Type 0 where
@@ -33,6 +33,8 @@ pub record Promises (g : Graph) (dense : ℕ → Bool) (first : State) (states :
   -- in each state the front of a class is what its rows reach through eliminated rows, and its bound is no lower than that
   pub fronts : EachState (FrontsArePaths g) first states
   pub bounds : EachState (BoundsMeetDegrees g) first states
+  -- in each state exactly the rows of the set are held last
+  pub last_rows : EachState (LastRowsAre g dense) first states
   -- edges lie along the assembly tree, and columns of the factor in fronts
   pub dense_rows : DenseAreLast g dense (last_state first states)
   pub tree : EdgesFollowTree g (last_state first states)

@@ -1,12 +1,17 @@
-// Laws on fronts, true degrees and bounds, in each state of an elimination. Source: Amestoy, Davis and Duff 1996.
+// Laws on rows held last, fronts, true degrees and bounds, in each state of an elimination. Source: Amestoy, Davis and Duff 1996.
 // Called by: nobody, the contracts are the laws.
 
-ghost use Rattle.amd_model.specs.Laws.{InEachState, FrontsArePaths, BoundsMeetDegrees, ClassesAreWhole};
+ghost use Rattle.amd_model.specs.Laws.{InEachState, LastRowsStay, FrontsArePaths, BoundsMeetDegrees, ClassesAreWhole};
 ghost use Rattle.amd_model.specs.Sound.{IsSound};
 
 /// Each state is sound: what its classes, borders and edges say of each other and of the paths through eliminated rows holds.
 pub fn law_states_are_sound()
     ensures { InEachState (λ g aggressive s. IsSound g s) }
+{}
+
+/// In each state exactly the rows that the start holds last are held last.
+pub fn law_last_rows_stay()
+    ensures { LastRowsStay }
 {}
 
 /// In each state the front of a class is exactly what each of its rows reaches through eliminated rows.

@@ -103,3 +103,7 @@ IsRound aggressive old new = (g : Graph) (dense : ℕ → Bool) (t : Tie) (s : S
 abbrev pub AreRounds : {A : Type 0} → Bool → Work A → Work A → Type 0
 AreRounds aggressive old new = (g : Graph) (dense : ℕ → Bool) (t : Tie) (s : State) → Stands g dense old t s →
     (u : Tie) × ((states : List State) × Follows g aggressive t s states u × Stands g dense new u (last_state s states))
+
+-- no row is live in any state that the record stands for
+abbrev pub NoRowIsLive : {A : Type 0} → Work A → Type 0
+NoRowIsLive w = (g : Graph) (dense : ℕ → Bool) (t : Tie) (s : State) → Stands g dense w t s → (v : ℕ) → live s v ≡ false

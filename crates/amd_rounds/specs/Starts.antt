@@ -6,18 +6,16 @@ use Rattle.amd_model.specs.Run.{Run, last_state}
 use Rattle.amd_model.specs.Listing.{IsPostorder}
 use Rattle.amd_model.specs.Tie.{Tie, start_tie}
 use Rattle.amd_model.specs.TieLaws.{NamesNeighbours}
-use Rattle.amd_model.specs.Input.Dense.{is_dense}
 use Rattle.amd_rounds.specs.Views.{num, list_at}
 use Rattle.amd_rounds.specs.Keeps.{Stands}
 use Rattle.amd_rounds.specs.declared.work.Work.{Work}
 
--- of each graph with these degrees and these lists of neighbours the record stands for the start, in which the rows of greater
--- degree than the threshold are held last
-abbrev pub StandsAtStart : {A : Type 0} → List (Vec ℕ A) → List ℕ → ℕ → Work A → Type 0
-StandsAtStart rows degrees threshold w = (g : Graph) (lists : ℕ → List ℕ) (s : State) → IsGraph g → g.size ≡ length degrees →
-    ((i : ℕ) → i < g.size → num degrees i ≡ degree g i) → ((i : ℕ) → i < g.size → list_at rows i ≡ lists i) →
-    ((i : ℕ) → i < g.size → NamesNeighbours g i (lists i)) → IsStart g (is_dense g threshold) s →
-    Stands g (is_dense g threshold) w (start_tie g (is_dense g threshold) lists) s
+-- of each graph with these degrees and these lists of neighbours the record stands for the start in which exactly the rows of the
+-- set last are held last
+abbrev pub StandsAtStart : {A : Type 0} → List (Vec ℕ A) → List ℕ → (ℕ → Bool) → Work A → Type 0
+StandsAtStart rows degrees last w = (g : Graph) (dense : ℕ → Bool) (lists : ℕ → List ℕ) (s : State) → IsGraph g → g.size ≡ length degrees →
+    ((i : ℕ) → i < g.size → num degrees i ≡ degree g i) → ((i : ℕ) → i < g.size → last i ≡ dense i) → ((i : ℕ) → i < g.size → list_at rows i ≡ lists i) →
+    ((i : ℕ) → i < g.size → NamesNeighbours g i (lists i)) → IsStart g dense s → Stands g dense w (start_tie g dense lists) s
 
 -- whatever run the record stands at the end of, p lists its assembly tree in postorder, and then the dense rows
 abbrev pub ListsRun : {A : Type 0} → Work A → List ℕ → Type 0

@@ -11,7 +11,7 @@ ghost use Rattle.amd_model.specs.Tie.{Tie, has, Once};
 ghost use Rattle.amd_rounds.specs.Views.{num, list_at, Below};
 ghost use Rattle.amd_rounds.specs.Buckets.{live_in};
 ghost use Rattle.amd_rounds.specs.Parts.{MakesElement, MergesClasses, RenewsClasses};
-ghost use Rattle.amd_rounds.specs.Keeps.{IsSized, Stands, IsRound, AreRounds};
+ghost use Rattle.amd_rounds.specs.Keeps.{IsSized, Stands, IsRound, AreRounds, NoRowIsLive};
 
 use crate::absorption::{absorb, others_left, retire, rows_of};
 use crate::bounds::{renew_bounds, renew_lists};
@@ -153,7 +153,7 @@ pub fn eliminate<A: Allocator + Copy>(
 ) -> Result<(), AllocError>
     requires stands { (g : Graph) × (dense : ℕ → Bool) × (t : Tie) × (s : State) × Stands g dense work.old t s }
     ensures rounds { OnOk result (AreRounds control.now.aggressive work.old work.new) }
-    ensures end { OnOk result (work.new.live ≡ 0) }
+    ensures end { OnOk result (NoRowIsLive work.new) }
 {
     'rounds: while work.live > 0 {
         round(work, control)?;

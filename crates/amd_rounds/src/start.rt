@@ -1,10 +1,10 @@
-// The start of an elimination: the rows that are neither dense nor empty are classes of their own, each placed under its degree,
-// and the empty rows are elements. Source: Amestoy, Davis and Duff 1996; the AMD user guide on dense rows. Called by `plain_1` of
-// the crate `amd_engine`.
+// The start of an elimination: the rows that are neither held last nor empty are classes of their own, each placed under its degree,
+// and the other empty rows are elements. Source: Amestoy, Davis and Duff 1996; the AMD user guide on dense rows. Called by `plain_1`
+// of the crate `amd_engine`.
 
-ghost use Rattle.std.specs.Prelude.{◌≡◌, ◌==◌, ◌&&◌, ℕ, [], map, cond, nat_eq, nat_lt, nat_le, length, IfOk};
+ghost use Rattle.std.specs.Prelude.{◌≡◌, ◌==◌, ◌&&◌, ◌<◌, ℕ, [], not, cond, nat_eq, nat_lt, length, IfOk};
 ghost use Rattle.amd_model.specs.Below.{count_below, list_below};
-ghost use Rattle.amd_rounds.specs.Views.{num, list_at, Below, ListsBelow};
+ghost use Rattle.amd_rounds.specs.Views.{at, num, list_at, Below, ListsBelow};
 ghost use Rattle.amd_rounds.specs.Keeps.{IsIdle};
 ghost use Rattle.amd_rounds.specs.Starts.{StandsAtStart};
 
@@ -26,49 +26,50 @@ pub fn empty_lists<A: Allocator + Copy>(
     Ok(lists)
 }
 
-/// The number of rows of the class of a row: 1 if it is neither dense nor empty.
-fn class_size(degree: usize, threshold: usize) -> usize
-    ensures { result ≡ cond (nat_lt 0 degree && nat_le degree threshold) 1 0 }
+/// The number of rows of the class of a row: 1 if it is neither held last nor empty.
+fn class_size(degree: usize, last: bool) -> usize
+    ensures { result ≡ cond (nat_lt 0 degree && not last) 1 0 }
 {
-    if degree > 0 && degree <= threshold {
-        1
-    } else {
-        0
-    }
+    if degree > 0 && !last { 1 } else { 0 }
 }
 
-/// The number of rows of each class: 1 for a row that is neither dense nor empty.
+/// The number of rows of each class: 1 for a row that is neither held last nor empty.
 fn first_sizes<A: Allocator + Copy>(
     alloc: A,
     degrees: &[usize],
-    threshold: usize,
+    last: &[bool],
 ) -> Result<Vec<usize, A>, AllocError>
-    ensures { IfOk result (λ v. v.items ≡ map (λ d. cond (nat_lt 0 d && nat_le d threshold) 1 0) degrees.now) }
+    requires lengths { length last.now ≡ length degrees.now }
+    ensures size { IfOk result (λ v. length v.items ≡ length degrees.now) }
+    ensures numbers { IfOk result (λ v. (i : ℕ) → i < length degrees.now → num v.items i ≡ cond (nat_lt 0 (num degrees.now i) && not (at last.now i)) 1 0) }
 {
     let mut sizes = Vec::with_capacity(alloc, degrees.len())?;
-    for d in degrees {
-        sizes.push_reserved(class_size(*d, threshold));
+    'rows: for i in 0..degrees.len() {
+        sizes.push_reserved(class_size(degrees[i], last[i]));
     }
     Ok(sizes)
 }
 
-/// The number of rows of the element of a row: 1 if it is empty.
-fn block_size(degree: usize) -> usize
-    ensures { result ≡ cond (nat_eq degree 0) 1 0 }
+/// The number of rows of the element of a row: 1 if it is empty and not held last.
+fn block_size(degree: usize, last: bool) -> usize
+    ensures { result ≡ cond (nat_eq degree 0 && not last) 1 0 }
 {
-    if degree == 0 { 1 } else { 0 }
+    if degree == 0 && !last { 1 } else { 0 }
 }
 
-/// The number of rows of each element: 1 for an empty row.
+/// The number of rows of each element: 1 for an empty row that is not held last.
 fn first_blocks<A: Allocator + Copy>(
     alloc: A,
     degrees: &[usize],
+    last: &[bool],
 ) -> Result<Vec<usize, A>, AllocError>
-    ensures { IfOk result (λ v. v.items ≡ map (λ d. cond (nat_eq d 0) 1 0) degrees.now) }
+    requires lengths { length last.now ≡ length degrees.now }
+    ensures size { IfOk result (λ v. length v.items ≡ length degrees.now) }
+    ensures numbers { IfOk result (λ v. (i : ℕ) → i < length degrees.now → num v.items i ≡ cond (nat_eq (num degrees.now i) 0 && not (at last.now i)) 1 0) }
 {
     let mut blocks = Vec::with_capacity(alloc, degrees.len())?;
-    for d in degrees {
-        blocks.push_reserved(block_size(*d));
+    'rows: for i in 0..degrees.len() {
+        blocks.push_reserved(block_size(degrees[i], last[i]));
     }
     Ok(blocks)
 }
@@ -91,6 +92,19 @@ fn first_placed<A: Allocator + Copy>(
         }
     }
     Ok(placed)
+}
+
+/// How many rows are marked.
+fn count_marks(marks: &[bool]) -> usize
+    ensures { result ≡ count_below (length marks.now) (at marks.now) }
+{
+    let mut count = 0;
+    for mark in marks {
+        if *mark {
+            count += 1;
+        }
+    }
+    count
 }
 
 /// How many of the numbers are greater than a limit.
@@ -120,7 +134,7 @@ fn scratch<A: Allocator + Copy>(alloc: A, n: usize) -> Result<Scratch<A>, AllocE
 }
 
 /// The start of an elimination of a matrix whose rows have the neighbours `rows` and as many of them as `degrees` says; the rows
-/// of greater degree than `threshold` are held last. The contract says what the record stands for; the rest (entries at what is no
+/// marked in `last` are held last, empty ones too. The contract says what the record stands for; the rest (entries at what is no
 /// class or element, stale entries, how low `least` is) is left open. Of rows and degrees that no graph has it says nothing.
 ///
 /// # Errors
@@ -130,16 +144,17 @@ pub fn start<A: Allocator + Copy>(
     alloc: A,
     rows: Vec<Vec<usize, A>, A>,
     degrees: &[usize],
-    threshold: usize,
+    last: &[bool],
 ) -> Result<Work<A>, AllocError>
     requires rows { ListsBelow (length degrees.now) rows.items }
     requires degrees { Below (length degrees.now) degrees.now }
-    ensures { IfOk result (λ w. StandsAtStart rows.items degrees.now threshold w) }
+    requires marks { length last.now ≡ length degrees.now }
+    ensures { IfOk result (λ w. StandsAtStart rows.items degrees.now (at last.now) w) }
 {
     let n = degrees.len();
-    let size = first_sizes(alloc, degrees, threshold)?;
+    let size = first_sizes(alloc, degrees, last)?;
     let placed = first_placed(alloc, degrees, &size)?;
-    let n_dense = count_above(degrees, threshold);
+    let n_dense = count_marks(last);
     let mut figures = Figures {
         lnz: 0,
         n_mult_subs_ldl: 0,
@@ -161,8 +176,8 @@ pub fn start<A: Allocator + Copy>(
         least: 0,
         link: vec![in alloc; None; n]?,
         parent: vec![in alloc; None; n]?,
-        block: first_blocks(alloc, degrees)?,
-        front: first_blocks(alloc, degrees)?,
+        block: first_blocks(alloc, degrees, last)?,
+        front: first_blocks(alloc, degrees, last)?,
         n_dense,
         figures,
         scratch: scratch(alloc, n)?,
