@@ -26,6 +26,7 @@ fn orders(rt: &impl Abort, alloc: Global, heap: &Refusing<Global>) -> bool {
         &a_i,
         &degrees,
         &Control::default(),
+        None,
         &mut info,
     ) {
         Ok((p, p_inv)) => {

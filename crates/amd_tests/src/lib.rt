@@ -10,6 +10,8 @@ mod comparison;
 #[cfg(test)]
 mod factors;
 #[cfg(test)]
+mod holding;
+#[cfg(test)]
 mod input;
 #[cfg(test)]
 mod memory;
