@@ -13,7 +13,7 @@ ghost use Rattle.amd_model.specs.Input.Columns.{IsInput, IsSortedInput};
 ghost use Rattle.amd_model.specs.Input.Held.{HasMarks};
 ghost use Rattle.amd_model.specs.Input.Pattern.{is_pair};
 ghost use Rattle.amd_numbers.specs.Statuses.{IsStatusOf};
-ghost use Rattle.amd.specs.Answers.{IsInputHolding, IsOrdering, IsOrderingHolding, IsRefusal, IsRefusalHolding, OrdersMatrix};
+ghost use Rattle.amd.specs.Answers.{IsOrdering, IsOrderingHolding, IsRefusal, IsRefusalHolding, OrdersMatrix};
 
 use amd_engine::plain::plain_1;
 use amd_input::aat::aat;
@@ -49,7 +49,7 @@ fn order_sorted<I: PrimInt, A: Allocator + Copy>(
     requires marks { HasMarks (option_copied hold) (unsigned_abs (I.value n)) }
     requires form { IsInput (I.value n) (I.value n) (map I.value a_p.now) (map I.value a_i.now) }
     requires sorted { IsSortedInput (I.value n) (map I.value a_p.now) (map I.value a_i.now) }
-    ensures orders { IfOk result (λ a. OrdersMatrix (option_copied hold) (unsigned_abs (I.value n)) control.now.dense control.now.aggressive (is_pair (unsigned_abs (I.value n)) (map I.value a_p.now) (map I.value a_i.now)) (map I.value a_p.now) (map I.value a_i.now) (map I.value a.0.items) (map I.value a.1.items) a.2) }
+    ensures orders { IfOk result (λ a. OrdersMatrix (option_copied hold.entry) (unsigned_abs (I.value n)) control.now.dense control.now.aggressive (is_pair (unsigned_abs (I.value n)) (map I.value a_p.now) (map I.value a_i.now)) (map I.value a_p.now) (map I.value a_i.now) (map I.value a.0.items) (map I.value a.1.items) a.2) }
     ensures status { IfOk result (λ a. a.2.status ≡ Status.OK) }
     ensures refused { IfErr result (λ e. e ≡ Status.OutOfMemory) }
 {
@@ -76,7 +76,7 @@ fn order_jumbled<I: PrimInt, A: Allocator + Copy>(
     requires some { I.value n ≢ pos 0 }
     requires marks { HasMarks (option_copied hold) (unsigned_abs (I.value n)) }
     requires form { IsInput (I.value n) (I.value n) (map I.value a_p.now) (map I.value a_i.now) }
-    ensures orders { IfOk result (λ a. OrdersMatrix (option_copied hold) (unsigned_abs (I.value n)) control.now.dense control.now.aggressive (λ i j. is_pair (unsigned_abs (I.value n)) (map I.value a_p.now) (map I.value a_i.now) j i) (map I.value a_p.now) (map I.value a_i.now) (map I.value a.0.items) (map I.value a.1.items) a.2) }
+    ensures orders { IfOk result (λ a. OrdersMatrix (option_copied hold.entry) (unsigned_abs (I.value n)) control.now.dense control.now.aggressive (λ i j. is_pair (unsigned_abs (I.value n)) (map I.value a_p.now) (map I.value a_i.now) j i) (map I.value a_p.now) (map I.value a_i.now) (map I.value a.0.items) (map I.value a.1.items) a.2) }
     ensures status { IfOk result (λ a. a.2.status ≡ Status.OkButJumbled) }
     ensures refused { IfErr result (λ e. e ≡ Status.OutOfMemory) }
 {
@@ -91,8 +91,8 @@ fn order_jumbled<I: PrimInt, A: Allocator + Copy>(
 fn class_of<I: PrimInt>(n: I, count: usize, a_p: &[I], a_i: &[I], hold: Option<&[bool]>) -> Status
     requires fits { I.fits (I.value n) }
     requires count { I.value n ≡ pos count }
-    ensures marks { result ≢ Status.Invalid → HasMarks (option_copied hold) count }
-    ensures status { HasMarks (option_copied hold) count → IsStatusOf (I.value n) (I.value n) (map I.value a_p.now) (map I.value a_i.now) result }
+    ensures marks { result ≢ Status.Invalid → HasMarks (option_copied hold.entry) count }
+    ensures status { HasMarks (option_copied hold.entry) count → IsStatusOf (I.value n) (I.value n) (map I.value a_p.now) (map I.value a_i.now) result }
 {
     match hold {
         Some(marks) if marks.len() != count => Status::Invalid,
@@ -110,8 +110,8 @@ fn order_form<I: PrimInt, A: Allocator + Copy>(
     hold: Option<&[bool]>,
 ) -> Result<(Vec<I, A>, Vec<I, A>, Info), Status>
     requires fits { I.fits (I.value n) }
-    ensures ordering { IfOk result (λ a. IsOrderingHolding (option_copied hold) (I.value n) control.now.dense control.now.aggressive (map I.value a_p.now) (map I.value a_i.now) (map I.value a.0.items) (map I.value a.1.items) a.2) }
-    ensures refusal { IfErr result (λ e. IsRefusalHolding (option_copied hold) (I.value n) (map I.value a_p.now) (map I.value a_i.now) e) }
+    ensures ordering { IfOk result (λ a. IsOrderingHolding (option_copied hold.entry) (I.value n) control.now.dense control.now.aggressive (map I.value a_p.now) (map I.value a_i.now) (map I.value a.0.items) (map I.value a.1.items) a.2) }
+    ensures refusal { IfErr result (λ e. IsRefusalHolding (option_copied hold.entry) (I.value n) (map I.value a_p.now) (map I.value a_i.now) e) }
 {
     let Some(count) = to_count(n) else {
         return Err(Status::Invalid);

@@ -1,34 +1,34 @@
 -- The parts of the plain engine make its answer: what the calls ask, and that what they give is the listing of a run of the rules.
-use Rattle.std.proofs.Common.{ℕ, ℤ, pos, Bool, true, List, [], ◌∷◌, Vec, All, ◌≡◌, ◌≤◌, ◌<◌, ◌∙◌, ◌&&◌, not, ap, sym, refl, subst, inl, inr, arith, length, map, get_or}
-use Rattle.std.specs.Prelude.{sum_by, ◌==◌}
-use Rattle.std.proofs.lemmas.Bool.{true≢false, cases_Bool, cases_eq, or_cases, eqb-true, ne_eqb}
+use Rattle.std.proofs.Common.{ℕ, ℤ, pos, Bool, true, List, [], Vec, All, ◌≡◌, ◌≤◌, ◌<◌, ◌∙◌, ◌&&◌, not, ap, sym, refl, subst, inl, inr, arith, length, map, get_or}
+use Rattle.std.specs.Prelude.{◌==◌, ◌||◌, ◌*◌, ◌-◌, ◌/◌, nat_lt, Option}
+use Rattle.std.proofs.lemmas.Bool.{cases_eq, ne_eqb}
 use Rattle.std.proofs.lemmas.List.{get_or-map}
 use Rattle.std.proofs.lemmas.List.Elements.{All-from_get_or}
-use Rattle.std.proofs.lemmas.List.Sums.{sum_by-cons}
 use Rattle.amd_model.specs.Graph.{Graph, IsGraph, degree}
-use Rattle.amd_model.specs.State.{State, in_class}
+use Rattle.amd_model.specs.State.{State}
 use Rattle.amd_model.specs.Run.{Run, last_state}
 use Rattle.amd_model.specs.Listing.{ListsEachRow}
-use Rattle.amd_model.specs.Tie.{Tie, has, is_empty, starting_list, start_tie}
+use Rattle.amd_model.specs.Tie.{Tie, starting_list, start_tie}
 use Rattle.amd_model.specs.TieLaws.{NamesNeighbours}
+use Rattle.amd_model.specs.Figures.{cut}
 use Rattle.amd_model.specs.Input.Dense.{IsThreshold, is_dense}
+use Rattle.amd_model.specs.Input.Held.{is_marked, is_held_last}
 use Rattle.amd_model.specs.Input.Pattern.{graph_of, is_pair}
-use Rattle.amd_model.specs.Ordering.{Follows, IsListingOf}
-use Rattle.amd_model.proofs.BelowLemmas.{count_most, count_mono, count_pos}
+use Rattle.amd_model.specs.Ordering.{Follows, IsListingOf, Promises}
+use Rattle.amd_model.proofs.BelowLemmas.{count_most, count_mono}
 use Rattle.amd_model.proofs.Counts.{count_without}
 use Rattle.amd_model.proofs.DegreeSums.{pattern_graph}
-use Rattle.amd_model.proofs.Orderings.{follows_run, orderings_promise}
+use Rattle.amd_model.proofs.Orderings.{follows_steps, orderings_promise}
 use Rattle.amd_model.proofs.RunsExist.{first_state, starts}
-use Rattle.amd_model.proofs.Sound.{live_small}
 use Rattle.amd_model.proofs.StartingLists.{starting_lists}
-use Rattle.amd_model.proofs.StateLemmas.{class_gives, class_from, edge_small}
-use Rattle.amd_model.proofs.TieLists.{clash, some_of}
-use Rattle.amd_rounds.specs.Views.{list_at, Below, ListsBelow}
+use Rattle.amd_model.proofs.StateLemmas.{edge_small}
+use Rattle.amd_model.proofs.TieLists.{clash}
+use Rattle.amd_rounds.specs.Views.{at, num, list_at, Below, ListsBelow}
 use Rattle.amd_edges.specs.Visits.{AreCounts}
-use Rattle.amd_rounds.specs.Keeps.{Stands, AreRounds}
+use Rattle.amd_rounds.specs.Keeps.{Stands, AreRounds, NoRowIsLive}
 use Rattle.amd_rounds.specs.Starts.{StandsAtStart, ListsRun}
 use Rattle.amd_numbers.specs.Permutations.{AreInverse}
-use Rattle.amd_engine.specs.Plain.{IsEngineAnswer, with_figures}
+use Rattle.amd_engine.specs.Engine.{IsEngineAnswer, with_figures}
 use Rattle.amd_numbers.specs.declared.amd.Info.{Info}
 use Rattle.amd_rounds.specs.declared.work.Work.{Work}
 use Rattle.amd_rounds.proofs.Lists.{below_from}
@@ -38,20 +38,6 @@ use Rattle.amd_rounds.proofs.Lists.{below_from}
 -- what holds of each list holds of the vectors
 each_list : {X : Type 0} (P : List ℕ → Type 0) (items : X → List ℕ) (xs : List X) → ((i : ℕ) → i < length xs → P (get_or (map items xs) i [])) → All (λ v. P (items v)) xs
 each_list P items xs h = λ k d l. subst P (get_or-map items xs k d [] l) (h k l)
-
-none_named : (xs : List ℕ) → is_empty xs ≡ true → xs ≡ []
-unfolding is_empty
-none_named [] e = refl
-none_named (x ∷ xs) e = absurd (true≢false (sym e))
-
--- what a list names is counted in its sum
-part_of_sum : (f : ℕ → ℕ) (xs : List ℕ) (x : ℕ) → has xs x ≡ true → f x ≤ sum_by f xs
-unfolding has
-part_of_sum f [] x h = absurd (true≢false (sym h))
-part_of_sum f (y ∷ ys) x h = let a = sum_by-cons f y ys in elim (or_cases (y == x) (has ys x) h) [
-  | inl q ↦ (let e = ap f (eqb-true y x q) in omega (arith, a, e))
-  | inr q ↦ (let b = part_of_sum f ys x q in omega (arith, a, b))
-]
 
 -- ---- the start
 
@@ -100,39 +86,24 @@ told_by w old = record old {
   d_max = w.figures.d_max;
 }
 
-module _ {A : Type 0} (g : Graph) (dense : ℕ → Bool) (w : Work A) (t : Tie) (s : State) (st : Stands g dense w t s) where
-  class_rows : (i : ℕ) → has t.placed i ≡ true → 0 < t.size i
-  class_rows i h = let home = class_gives i (s.home i) (sym (st.fits.placed i) ∙ h) in let l = live_small g st.graph s st.sound i i home in
-      let k = count_pos g.size (in_class s i) i l (class_from i (s.home i) home) in let e = st.fits.size i home in omega (arith, k, e)
-
-  -- with no row live no class is left
-  none_left : w.live ≡ 0 → t.placed ≡ []
-  none_left z = elim (cases_Bool (is_empty t.placed)) [
-    | inl y ↦ none_named t.placed y
-    | inr n ↦ (let c = some_of t.placed n in let a = class_rows c.0 c.1 in let b = part_of_sum t.size t.placed c.0 c.1 in let l = st.keeps.live in absurd (omega (arith, z, a, b, l)))
-  ]
-
-  figures_told : (old : Info) → told_by w old ≡ with_figures g dense s old
-  figures_told old = let k = st.fronts in rw (k.dense_rows, k.lnz, k.ldl, k.lu, k.greatest) refl
+figures_told : {A : Type 0} (g : Graph) (dense : ℕ → Bool) (w : Work A) (t : Tie) (s : State) → Stands g dense w t s → (old : Info) → told_by w old ≡ with_figures g dense s 0 old
+figures_told g dense w t s st old = let k = st.fronts in rw (k.dense_rows, k.lnz, k.ldl, k.lu, k.greatest) refl
 
 -- from a start whose rounds came to an end
-module _ {A : Type 0} (g : Graph) (laws : IsGraph g) (threshold : ℕ) (aggressive : Bool) (lists : ℕ → List ℕ) (names : (i : ℕ) → NamesNeighbours g i (lists i))
-    (rows : List (Vec ℕ A)) (len : List ℕ) (counts : AreCounts g g.edge len) (listed : (i : ℕ) → i < g.size → list_at rows i ≡ lists i)
-    (old : Work A) (begun : StandsAtStart rows len threshold old) where
-  abbrev dense : ℕ → Bool
-  dense = is_dense g threshold
-
+module _ {A : Type 0} (g : Graph) (laws : IsGraph g) (dense last : ℕ → Bool) (aggressive : Bool) (lists : ℕ → List ℕ) (names : (i : ℕ) → NamesNeighbours g i (lists i))
+    (rows : List (Vec ℕ A)) (len : List ℕ) (counts : AreCounts g g.edge len) (held : (i : ℕ) → i < g.size → last i ≡ dense i)
+    (listed : (i : ℕ) → i < g.size → list_at rows i ≡ lists i) (old : Work A) (begun : StandsAtStart rows len last old) where
   abbrev first : State
-  first = first_state g (is_dense g threshold)
+  first = first_state g dense
 
   abbrev tie : Tie
-  tie = start_tie g (is_dense g threshold) lists
+  tie = start_tie g dense lists
 
   started : Stands g dense old tie first
   unfolding degree
-  started = begun g lists first laws (sym counts.size) counts.each listed (λ i h. names i) (starts g dense)
+  started = begun g dense lists first laws (sym counts.size) counts.each held listed (λ i h. names i) (starts g dense)
 
-  module _ (w : Work A) (rounds : AreRounds aggressive old w) (over : w.live ≡ 0) where
+  module _ (w : Work A) (rounds : AreRounds aggressive old w) (over : NoRowIsLive w) where
     abbrev Reached : Type 0
     Reached = (u : Tie) × ((states : List State) × Follows g aggressive tie first states u × Stands g dense w u (last_state first states))
 
@@ -149,14 +120,18 @@ module _ {A : Type 0} (g : Graph) (laws : IsGraph g) (threshold : ℕ) (aggressi
     at_end = (rounds g dense tie first started).1.2
 
     run : Run g dense aggressive first states
-    run = follows_run g dense aggressive tie end first states laws (starts g dense) started.fits (rounds g dense tie first started).1.1 (none_left g dense w end (last_state first states) at_end over)
+    run = record {
+      start = starts g dense;
+      steps = follows_steps g aggressive tie end first states (rounds g dense tie first started).1.1;
+      end = over g dense end (last_state first states) at_end;
+    }
 
     ended : (g : Graph) × (dense : ℕ → Bool) × (aggressive : Bool) × (first : State) × (states : List State) × (t : Tie) × IsGraph g × Run g dense aggressive first states × Stands g dense w t (last_state first states)
     ended = (g, dense, aggressive, first, states, end, laws, run, at_end)
 
     module _ (order : List ℕ) (lists_run : ListsRun w order) where
-      each_row : ListsEachRow g.size order
-      each_row = (orderings_promise g dense aggressive first states order laws run (lists_run g dense aggressive first states end run at_end)).each_row
+      promises : Promises g dense first states order
+      promises = orderings_promise g dense aggressive first states order laws run (lists_run g dense aggressive first states end run at_end)
 
       is_listing : IsListingOf g dense aggressive lists first states order
       is_listing = record {
@@ -167,14 +142,22 @@ module _ {A : Type 0} (g : Graph) (laws : IsGraph g) (threshold : ℕ) (aggressi
         listing = lists_run g dense aggressive first states end run at_end;
       }
 
-      told : (old_info : Info) → told_by w old_info ≡ with_figures g dense (last_state first states) old_info
+      told : (old_info : Info) → told_by w old_info ≡ with_figures g dense (last_state first states) 0 old_info
       told old_info = figures_told g dense w end (last_state first states) at_end old_info
+
+-- what is cut is no more
+cut_most : (x m : ℕ) → x ≤ m → cut x ≤ m
+unfolding cut
+cut_most x m h = omega (arith, h)
 
 -- ---- the engine
 
 -- the lists of a matrix whose rows have the degrees given
 module _ {A : Type 0} (ap' ai : List ℤ) (len : List ℕ) (counts : AreCounts (graph_of (length len) ap' ai) ((graph_of (length len) ap' ai).edge) len)
     (rows : List (Vec ℕ A)) (room : length rows ≡ length len) (listed : (i : ℕ) → i < length len → list_at rows i ≡ starting_list (length len) (is_pair (length len) ap' ai) i) where
+  abbrev graph : Graph
+  graph = graph_of (length len) ap' ai
+
   abbrev lists : ℕ → List ℕ
   lists = starting_list (length len) (is_pair (length len) ap' ai)
 
@@ -195,40 +178,58 @@ module _ {A : Type 0} (ap' ai : List ℤ) (len : List ℕ) (counts : AreCounts (
   pub rows_range : ListsBelow (length len) rows
   rows_range = lists_below (graph_of (length len) ap' ai) is_graph len rows lists counts room listed_all names
 
-  module _ (threshold : ℕ) (old : Work A) (begun : StandsAtStart rows len threshold old) where
+  -- the marks are those of the rows held last
+  module _ (hold : Option (List Bool)) (threshold : ℕ) (marks : List Bool)
+      (marked : (i : ℕ) → i < length len → at marks i ≡ (is_marked hold i || nat_lt threshold (num len i))) (old : Work A) (begun : StandsAtStart rows len (at marks) old) where
+    abbrev dense : ℕ → Bool
+    dense = is_held_last hold (graph_of (length len) ap' ai) threshold
+
+    held : (i : ℕ) → i < (graph_of (length len) ap' ai).size → at marks i ≡ is_held_last hold (graph_of (length len) ap' ai) threshold i
+    unfolding graph_of is_dense degree
+    held i l = marked i l ∙ ap (λ d. is_marked hold i || nat_lt threshold d) (counts.each i l)
+
     -- what the rounds ask of the record
     pub stands_first : (g : Graph) × (dense : ℕ → Bool) × (t : Tie) × (s : State) × Stands g dense old t s
-    stands_first = let g : Graph = graph_of (length len) ap' ai in
-        (g, is_dense g threshold, start_tie g (is_dense g threshold) lists, first_state g (is_dense g threshold), started g is_graph threshold true lists names rows len counts listed_all old begun)
+    stands_first = (graph, dense, start_tie graph dense lists, first_state graph dense, started graph is_graph dense (at marks) true lists names rows len counts held listed_all old begun)
 
-    module _ (aggressive : Bool) (w : Work A) (rounds : AreRounds aggressive old w) (over : w.live ≡ 0) where
+    module _ (aggressive : Bool) (w : Work A) (rounds : AreRounds aggressive old w) (over : NoRowIsLive w) where
       -- what the listing asks of it
       pub stands_last : (g : Graph) × (dense : ℕ → Bool) × (aggressive : Bool) × (first : State) × (states : List State) × (t : Tie) × IsGraph g × Run g dense aggressive first states × Stands g dense w t (last_state first states)
-      stands_last = ended (graph_of (length len) ap' ai) is_graph threshold aggressive lists names rows len counts listed_all old begun w rounds over
+      stands_last = ended graph is_graph dense (at marks) aggressive lists names rows len counts held listed_all old begun w rounds over
 
       module _ (order : List ℕ) (lists_run : ListsRun w order) where
-        order_rows : ListsEachRow (graph_of (length len) ap' ai).size order
-        order_rows = each_row (graph_of (length len) ap' ai) is_graph threshold aggressive lists names rows len counts listed_all old begun w rounds over order lists_run
+        kept : Promises graph dense (first_state graph dense) (states graph is_graph dense (at marks) aggressive lists names rows len counts held listed_all old begun w rounds over) order
+        kept = promises graph is_graph dense (at marks) aggressive lists names rows len counts held listed_all old begun w rounds over order lists_run
 
         -- the listing has each row
         pub order_length : length order ≡ length len
         unfolding graph_of
-        order_length = order_rows.places
+        order_length = kept.each_row.places
 
         pub order_each : ListsEachRow (length order) order
-        order_each = subst (λ k. ListsEachRow k order) (sym order_rows.places) order_rows
+        order_each = subst (λ k. ListsEachRow k order) (sym kept.each_row.places) kept.each_row
+
+        tells : (before : Info) → told_by w before ≡ with_figures graph dense (last_state (first_state graph dense) (states graph is_graph dense (at marks) aggressive lists names rows len counts held listed_all old begun w rounds over)) 0 before
+        tells before = told graph is_graph dense (at marks) aggressive lists names rows len counts held listed_all old begun w rounds over order lists_run before
 
         -- the answer
-        pub answer : (t : ℤ) → IsThreshold (length len) t threshold → (p q : List ℤ) → p ≡ map pos order → AreInverse (length order) p q →
-            (before after : Info) → after ≡ told_by w before → IsEngineAnswer (length len) t aggressive ap' ai p q before after
-        answer t is_threshold p q is inverse before after figures = record {
-          inverse = subst (λ k. AreInverse k p q) order_length inverse;
-          threshold = threshold;
-          is_threshold = is_threshold;
-          rows = order;
-          listed = is;
-          first = first_state (graph_of (length len) ap' ai) (is_dense (graph_of (length len) ap' ai) threshold);
-          states = states (graph_of (length len) ap' ai) is_graph threshold aggressive lists names rows len counts listed_all old begun w rounds over;
-          listing = is_listing (graph_of (length len) ap' ai) is_graph threshold aggressive lists names rows len counts listed_all old begun w rounds over order lists_run;
-          told = figures ∙ told (graph_of (length len) ap' ai) is_graph threshold aggressive lists names rows len counts listed_all old begun w rounds over order lists_run before;
-        }
+        pub answer : (t : ℤ) → 0 < length len → IsThreshold (length len) t threshold → (p q : List ℤ) → p ≡ map pos order → AreInverse (length order) p q →
+            (before after : Info) → after ≡ told_by w before → IsEngineAnswer hold (length len) t aggressive ap' ai p q before after
+        unfolding graph_of
+        answer t some is_threshold p q is inverse before after figures =
+            let all = figures ∙ tells before in
+            let none = ap (λ (x : Info). x.n_cmp_a) all in
+            record {
+              inverse = subst (λ k. AreInverse k p q) order_length inverse;
+              threshold = threshold;
+              is_threshold = is_threshold;
+              rows = order;
+              listed = is;
+              first = first_state graph dense;
+              states = states graph is_graph dense (at marks) aggressive lists names rows len counts held listed_all old begun w rounds over;
+              listing = is_listing graph is_graph dense (at marks) aggressive lists names rows len counts held listed_all old begun w rounds over order lists_run;
+              promises = kept;
+              told = all ∙ ap (λ c. with_figures graph dense (last_state (first_state graph dense) (states graph is_graph dense (at marks) aggressive lists names rows len counts held listed_all old begun w rounds over)) c before) (sym none);
+              lnz_most = subst (λ (x : Info). x.lnz ≤ length len * (length len - 1) / 2) (sym all) (cut_most _ _ kept.small.entries_most);
+              greatest_most = subst (λ (x : Info). x.d_max ≤ length len) (sym all) (kept.small.front_most some);
+            }

@@ -10,7 +10,7 @@ use std::alloc::{AllocError, Allocator};
 /// Whether a row is marked; without a list none is.
 fn is_held(hold: Option<&[bool]>, row: usize) -> bool
     requires within { (n : ℕ) × (row < n) × HasMarks (option_copied hold) n }
-    ensures { result ≡ is_marked (option_copied hold) row }
+    ensures { result ≡ is_marked (option_copied hold.entry) row }
 {
     match hold {
         Some(marks) => marks[row],
@@ -31,7 +31,7 @@ pub fn rows_held_last<A: Allocator + Copy>(
 ) -> Result<Vec<bool, A>, AllocError>
     requires marks { HasMarks (option_copied hold) (length degrees.now) }
     ensures size { IfOk result (λ v. length v.items ≡ length degrees.now) }
-    ensures rows { IfOk result (λ v. (i : ℕ) → i < length degrees.now → at v.items i ≡ (is_marked (option_copied hold) i || nat_lt threshold (num degrees.now i))) }
+    ensures rows { IfOk result (λ v. (i : ℕ) → i < length degrees.now → at v.items i ≡ (is_marked (option_copied hold.entry) i || nat_lt threshold (num degrees.now i))) }
 {
     let mut last = Vec::with_capacity(alloc, degrees.len())?;
     'rows: for i in 0..degrees.len() {

@@ -4,6 +4,7 @@ pub mod ListPlaces
 pub mod RoundLaw
 pub mod StartLists
 pub mod StartLaw
+pub mod Ended
 pub mod FrontsLaw
 pub mod MarkLists
 pub mod BucketLists

@@ -1,9 +1,9 @@
 -- What the start of the plain engine fills in stands for the start of an elimination.
-use Rattle.std.proofs.Common.{ℕ, zero, suc, Bool, true, false, Option, None, Some, List, [], Vec, ◌≡◌, ◌≤◌, ◌<◌, ◌+◌, ◌∙◌, ◌&&◌, ◌||◌, not, cond, max, ap, sym, refl, subst, inl, inr, arith, length, map, replicate}
-use Rattle.std.specs.Prelude.{filter, sum_by, nat_lt, nat_le, nat_eq, ◌==◌, ◌⊎◌}
+use Rattle.std.proofs.Common.{ℕ, zero, suc, Bool, true, false, Option, None, Some, List, [], Vec, ◌≡◌, ◌≤◌, ◌<◌, ◌+◌, ◌∙◌, ◌&&◌, ◌||◌, not, cond, max, ap, sym, refl, subst, inl, inr, arith, length, replicate}
+use Rattle.std.specs.Prelude.{filter, sum_by, nat_lt, nat_eq, ◌==◌, ◌⊎◌}
 use Rattle.std.proofs.Math.Bool.{or-false, and-false, and_self}
-use Rattle.std.proofs.lemmas.Bool.{cases_Bool, cases_eq, cases_lt, cond-false, and_parts, or_right, or_from, eq-eqb, ne_eqb, eqb-true, lt-ltb, le-ltb, ltb-true, le-leb, lt-leb}
-use Rattle.std.proofs.lemmas.List.{length-map, length-replicate, get_or-map, get_or-replicate, get_or_past}
+use Rattle.std.proofs.lemmas.Bool.{cases_Bool, cases_eq, cases_lt, cond-false, and_parts, eq-eqb, ne_eqb, eqb-true, lt-ltb, le-ltb, ltb-true}
+use Rattle.std.proofs.lemmas.List.{length-replicate, get_or-replicate, get_or_past}
 use Rattle.amd_model.specs.Below.{count_below, list_below}
 use Rattle.amd_model.specs.Graph.{Graph, IsGraph, degree}
 use Rattle.amd_model.specs.State.{State, Home, Last, Live, Gone, in_block, is_element, live, IsStart}
@@ -11,7 +11,6 @@ use Rattle.amd_model.specs.Figures.{figure, front_sum, is_made, max_below, entri
 use Rattle.amd_model.specs.Listing.{weight}
 use Rattle.amd_model.specs.Tie.{has, start_tie}
 use Rattle.amd_model.specs.TieLaws.{NamesNeighbours}
-use Rattle.amd_model.specs.Input.Dense.{is_dense}
 use Rattle.amd_model.proofs.BelowLemmas.{count_same, sum_zero}
 use Rattle.amd_model.proofs.StateLemmas.{live_gives, block_gives, block_from, edge_small}
 use Rattle.amd_model.proofs.Sound.{live_small}
@@ -29,23 +28,28 @@ use Rattle.amd_rounds.proofs.Lists.{filter_named}
 use Rattle.amd_rounds.proofs.StartLists.{list_same, filter_below}
 use Rattle.amd_rounds.proofs.BucketsLaw.{lasts_once}
 
--- the size of the class of a row, and of its block, by its degree
-abbrev pub class_of : ℕ → ℕ → ℕ
-class_of threshold d = cond (nat_lt 0 d && nat_le d threshold) 1 0
+-- the size of the class of a row, and of its block, by its degree and whether it is held last
+abbrev pub class_of : Bool → ℕ → ℕ
+class_of last d = cond (nat_lt 0 d && not last) 1 0
 
-abbrev pub block_of : ℕ → ℕ
-block_of d = cond (nat_eq d 0) 1 0
+abbrev pub block_of : Bool → ℕ → ℕ
+block_of last d = cond (nat_eq d 0 && not last) 1 0
+
+-- a number for each of n rows
+pub record Rows (n : ℕ) (numbers : List ℕ) (f : ℕ → ℕ) : Type 0 where
+  pub size : length numbers ≡ n
+  pub each : (i : ℕ) → i < n → num numbers i ≡ f i
 
 -- nothing n times over
 abbrev pub nothing : ℕ → List (Option ℕ)
 nothing n = replicate n None
 
 -- what the start fills in
-pub record Begun {A : Type 0} (rows : List (Vec ℕ A)) (degrees : List ℕ) (threshold : ℕ) (w : Work A) : Type 0 where
+pub record Begun {A : Type 0} (rows : List (Vec ℕ A)) (degrees : List ℕ) (last : ℕ → Bool) (w : Work A) : Type 0 where
   pub variables : w.lists.variables.items ≡ rows
   pub elements : (length w.lists.elements.items ≡ length degrees) × ((i : ℕ) → list_at w.lists.elements.items i ≡ [])
   pub members : (length w.lists.members.items ≡ length degrees) × ((i : ℕ) → list_at w.lists.members.items i ≡ [])
-  pub size : w.size.items ≡ map (class_of threshold) degrees
+  pub size : Rows (length degrees) w.size.items (λ i. class_of (last i) (num degrees i))
   pub bound : w.bound.items ≡ degrees
   pub range : ListsBelow (length degrees) w.placed.items
   pub placed : (b : ℕ) → list_at w.placed.items b ≡ list_below (length degrees) (λ i. nat_lt 0 (num w.size.items i) && num degrees i == b)
@@ -53,9 +57,9 @@ pub record Begun {A : Type 0} (rows : List (Vec ℕ A)) (degrees : List ℕ) (th
   pub live : w.live ≡ count_below (length w.size.items) (λ i. nat_lt 0 (num w.size.items i))
   pub link : w.link.items ≡ nothing (length degrees)
   pub parent : w.parent.items ≡ nothing (length degrees)
-  pub block : w.block.items ≡ map block_of degrees
-  pub front : w.front.items ≡ map block_of degrees
-  pub n_dense : w.n_dense ≡ count_below (length degrees) (λ i. nat_lt threshold (num degrees i))
+  pub block : Rows (length degrees) w.block.items (λ i. block_of (last i) (num degrees i))
+  pub front : Rows (length degrees) w.front.items (λ i. block_of (last i) (num degrees i))
+  pub n_dense : w.n_dense ≡ count_below (length degrees) last
   pub lnz : w.figures.lnz ≡ cut (0 + front_sum entries w.n_dense 0)
   pub ldl : w.figures.n_mult_subs_ldl ≡ cut (0 + front_sum ldl_steps w.n_dense 0)
   pub lu : w.figures.n_mult_subs_lu ≡ cut (0 + front_sum lu_steps w.n_dense 0)
@@ -64,14 +68,12 @@ pub record Begun {A : Type 0} (rows : List (Vec ℕ A)) (degrees : List ℕ) (th
 
 -- ---- numbers and tests
 
--- a row is a class if it is neither dense nor empty
-class_test : (d t : ℕ) → (nat_lt 0 d && nat_le d t) ≡ not (nat_lt t d || d == 0)
-class_test d t = elim (cases_eq d 0) [
-  | inl z ↦ ap (λ b. b && nat_le d t) (le-ltb 0 d (omega (arith, z))) ∙ sym (ap not (or_right (nat_lt t d) (d == 0) (eq-eqb d 0 z)))
-  | inr nz ↦ ap (λ b. b && nat_le d t) (lt-ltb 0 d (omega (arith, nz))) ∙ elim (cases_lt t d) [
-    | inl l ↦ lt-leb d t l ∙ sym (ap (λ b. not (b || d == 0)) (lt-ltb t d l))
-    | inr l ↦ le-leb d t l ∙ sym (ap not (or_from (nat_lt t d) (d == 0) (le-ltb t d l) (ne_eqb d 0 nz)))
-  ]
+-- a row is a class if it is neither held last nor empty
+class_test : (last : Bool) (d : ℕ) → (nat_lt 0 d && not last) ≡ not (last || d == 0)
+class_test true d = and-false (nat_lt 0 d)
+class_test false d = elim (cases_eq d 0) [
+  | inl z ↦ ap (λ b. b && true) (le-ltb 0 d (omega (arith, z))) ∙ sym (ap not (eq-eqb d 0 z))
+  | inr nz ↦ ap (λ b. b && true) (lt-ltb 0 d (omega (arith, nz))) ∙ sym (ap not (ne_eqb d 0 nz))
 ]
 
 add_none : (x y : ℕ) → x ≡ 0 → x + y ≡ y
@@ -84,12 +86,9 @@ none_at n i = elim (cases_lt i n) [
   | inr l ↦ get_or_past (nothing n) i None (let e : length (nothing n) ≡ n = length-replicate n None in omega (arith, e, l))
 ]
 
--- a number for each degree
-map_at : (f : ℕ → ℕ) (xs : List ℕ) (i : ℕ) → i < length xs → num (map f xs) i ≡ f (num xs i)
-map_at f xs i l = get_or-map f xs i 0 0 l
-
-map_past : (f : ℕ → ℕ) (xs : List ℕ) (i : ℕ) → length xs ≤ i → num (map f xs) i ≡ 0
-map_past f xs i l = get_or_past (map f xs) i 0 (let e = length-map xs f in omega (arith, e, l))
+-- no number past the last row
+past : (n : ℕ) (numbers : List ℕ) (f : ℕ → ℕ) → Rows n numbers f → (i : ℕ) → n ≤ i → num numbers i ≡ 0
+past n numbers f rows i l = get_or_past numbers i 0 (let e = rows.size in omega (arith, e, l))
 
 -- the greatest of none
 max_none : (n : ℕ) (p : ℕ → Bool) (f : ℕ → ℕ) (d : ℕ) → ((k : ℕ) → p k ≡ false) → max_below n p f d ≡ d
@@ -124,14 +123,12 @@ links_none n home h = record {
 
 -- ---- the start
 
-module _ {A : Type 0} (rows : List (Vec ℕ A)) (degrees : List ℕ) (threshold : ℕ) (w : Work A) (begun : Begun rows degrees threshold w)
+module _ {A : Type 0} (rows : List (Vec ℕ A)) (degrees : List ℕ) (last : ℕ → Bool) (w : Work A) (begun : Begun rows degrees last w)
     (rows_in : ListsBelow (length degrees) rows) (small : Below (length degrees) degrees)
-    (g : Graph) (lists : ℕ → List ℕ) (s : State) (laws : IsGraph g) (size_is : g.size ≡ length degrees)
-    (degree_is : (i : ℕ) → i < g.size → num degrees i ≡ degree g i) (list_is : (i : ℕ) → i < g.size → list_at rows i ≡ lists i)
-    (names : (i : ℕ) → i < g.size → NamesNeighbours g i (lists i)) (start : IsStart g (is_dense g threshold) s) where
-  abbrev dense : ℕ → Bool
-  dense = is_dense g threshold
-
+    (g : Graph) (dense : ℕ → Bool) (lists : ℕ → List ℕ) (s : State) (laws : IsGraph g) (size_is : g.size ≡ length degrees)
+    (degree_is : (i : ℕ) → i < g.size → num degrees i ≡ degree g i) (last_is : (i : ℕ) → i < g.size → last i ≡ dense i)
+    (list_is : (i : ℕ) → i < g.size → list_at rows i ≡ lists i)
+    (names : (i : ℕ) → i < g.size → NamesNeighbours g i (lists i)) (start : IsStart g dense s) where
   -- what is placed
   abbrev is_class_row : ℕ → Bool
   is_class_row v = not (dense v || degree g v == 0)
@@ -155,14 +152,14 @@ module _ {A : Type 0} (rows : List (Vec ℕ A)) (degrees : List ℕ) (threshold 
   abbrev one_if : Bool → ℕ
   one_if b = cond b 1 0
 
-  class_rows : (i : ℕ) → i < g.size → class_of threshold (degree g i) ≡ one_if (is_class_row i)
-  unfolding is_dense
-  class_rows i l = ap one_if (class_test (degree g i) threshold)
+  class_rows : (i : ℕ) → i < g.size → class_of (dense i) (degree g i) ≡ one_if (is_class_row i)
+  class_rows i l = ap one_if (class_test (dense i) (degree g i))
 
   size_at : (i : ℕ) → num w.size.items i ≡ one_if (has classes i)
-  size_at i = ap (λ xs. num xs i) begun.size ∙ elim (cases_lt i g.size) [
-    | inl l ↦ map_at (class_of threshold) degrees i (within i l) ∙ ap (class_of threshold) (degree_is i l) ∙ class_rows i l ∙ ap one_if (sym (class_in i l))
-    | inr l ↦ map_past (class_of threshold) degrees i (omega (arith, l, size_is)) ∙ ap one_if (sym (class_past i l))
+  size_at i = elim (cases_lt i g.size) [
+    | inl l ↦ begun.size.each i (within i l) ∙ ap (λ b. class_of b (num degrees i)) (last_is i l) ∙ ap (class_of (dense i)) (degree_is i l)
+        ∙ class_rows i l ∙ ap one_if (sym (class_in i l))
+    | inr l ↦ past (length degrees) w.size.items _ begun.size i (omega (arith, l, size_is)) ∙ ap one_if (sym (class_past i l))
   ]
 
   size_one : (i : ℕ) → has classes i ≡ true → num w.size.items i ≡ 1
@@ -181,7 +178,7 @@ module _ {A : Type 0} (rows : List (Vec ℕ A)) (degrees : List ℕ) (threshold 
   bound_at i l = ap (λ xs. num xs i) begun.bound ∙ degree_is i l
 
   size_length : length w.size.items ≡ g.size
-  size_length = ap length begun.size ∙ length-map degrees (class_of threshold) ∙ sym size_is
+  size_length = begun.size.size ∙ sym size_is
 
   -- a neighbour of a row is a class if it is not dense
   neighbour_light : (i j : ℕ) → i < g.size → has (lists i) j ≡ true → nat_lt 0 (num w.size.items j) ≡ not (dense j)
@@ -245,18 +242,18 @@ module _ {A : Type 0} (rows : List (Vec ℕ A)) (degrees : List ℕ) (threshold 
     elements = empty_below (length degrees) w.lists.elements.items begun.elements.0 begun.elements.1;
     members = empty_below (length degrees) w.lists.members.items begun.members.0 begun.members.1;
     placed = begun.range;
-    size = ap length begun.size ∙ length-map degrees (class_of threshold);
+    size = begun.size.size;
     bound = ap length begun.bound;
     link = ap length begun.link ∙ length-replicate (length degrees) None;
     parent = ap length begun.parent ∙ length-replicate (length degrees) None;
-    block = ap length begun.block ∙ length-map degrees block_of;
-    front = ap length begun.front ∙ length-map degrees block_of;
+    block = begun.block.size;
+    front = begun.front.size;
     idle = begun.idle;
   })
 
   -- ---- blocks and figures
 
-  -- an element is an empty row
+  -- an element is an empty row that is not held last
   empty_row : (e : ℕ) → is_element s e ≡ true → (e < g.size) × (degree g e ≡ 0) × (s.home e ≡ Gone e)
   empty_row e y = let h = block_gives e (s.home e) y in (in_size h, no_degree h, h)
     where
@@ -270,10 +267,15 @@ module _ {A : Type 0} (rows : List (Vec ℕ A)) (degrees : List ℕ) (threshold 
         | is_live k ↦ absurd (cc)
       ]
 
-  -- and an empty row is an element
-  row_element : (e : ℕ) → e < g.size → degree g e ≡ 0 → is_element s e ≡ true
-  unfolding is_dense
-  row_element e l z = block_from e (s.home e) (start.empty e l (le-ltb threshold (degree g e) (omega (arith, z))) z)
+  not_held : (e : ℕ) → is_element s e ≡ true → dense e ≡ false
+  not_held e y = elim (cases_Bool (dense e)) [
+    | inr n ↦ n
+    | inl d ↦ (let r = empty_row e y in absurd (let k = start.last e r.0 d in let h = r.2 in cc))
+  ]
+
+  -- and such a row is an element
+  row_element : (e : ℕ) → e < g.size → dense e ≡ false → degree g e ≡ 0 → is_element s e ≡ true
+  row_element e l d z = block_from e (s.home e) (start.empty e l d z)
 
   own_block : (v e : ℕ) → s.home v ≡ Gone e → e ≡ v
   own_block v e h = elim (begins g laws dense s start v) [
@@ -298,13 +300,21 @@ module _ {A : Type 0} (rows : List (Vec ℕ A)) (degrees : List ℕ) (threshold 
   unfolding weight
   weight_one e y = let a = block_one e y in let b = border_none e in omega (arith, a, b)
 
-  block_empty : (e : ℕ) → is_element s e ≡ true → num (map block_of degrees) e ≡ 1
-  block_empty e y = let r = empty_row e y in map_at block_of degrees e (within e r.0) ∙ ap block_of (degree_is e r.0 ∙ r.1)
+  -- the number of rows of the block of a row
+  block_at : (numbers : List ℕ) → Rows (length degrees) numbers (λ i. block_of (last i) (num degrees i)) → (e : ℕ) → e < g.size → num numbers e ≡ block_of (dense e) (degree g e)
+  block_at numbers is e l = is.each e (within e l) ∙ ap (λ b. block_of b (num degrees e)) (last_is e l) ∙ ap (block_of (dense e)) (degree_is e l)
 
-  block_none : (e : ℕ) → is_element s e ≡ false → num (map block_of degrees) e ≡ 0
-  block_none e n = elim (cases_lt e g.size) [
-    | inr l ↦ map_past block_of degrees e (omega (arith, l, size_is))
-    | inl l ↦ map_at block_of degrees e (within e l) ∙ ap block_of (degree_is e l) ∙ ap one_if (ne_eqb (degree g e) 0 (λ z. let k = row_element e l z in cc))
+  block_empty : (numbers : List ℕ) → Rows (length degrees) numbers (λ i. block_of (last i) (num degrees i)) → (e : ℕ) → is_element s e ≡ true → num numbers e ≡ 1
+  block_empty numbers is e y = let r = empty_row e y in
+      block_at numbers is e r.0 ∙ ap (block_of (dense e)) r.1 ∙ ap (λ b. block_of b 0) (not_held e y)
+
+  block_none : (numbers : List ℕ) → Rows (length degrees) numbers (λ i. block_of (last i) (num degrees i)) → (e : ℕ) → is_element s e ≡ false → num numbers e ≡ 0
+  block_none numbers is e n = elim (cases_lt e g.size) [
+    | inr l ↦ past (length degrees) numbers _ is e (omega (arith, l, size_is))
+    | inl l ↦ block_at numbers is e l ∙ elim (cases_Bool (dense e)) [
+      | inl d ↦ ap (λ b. block_of b (degree g e)) d ∙ ap one_if (and-false (nat_eq (degree g e) 0))
+      | inr d ↦ ap one_if (ap (λ b. b && not (dense e)) (ne_eqb (degree g e) 0 (λ z. let k = row_element e l d z in cc)))
+    ]
   ]
 
   not_made : (e : ℕ) → is_made g s e ≡ false
@@ -315,9 +325,7 @@ module _ {A : Type 0} (rows : List (Vec ℕ A)) (degrees : List ℕ) (threshold 
   ]
 
   dense_count : w.n_dense ≡ count_below g.size dense
-  unfolding is_dense
-  dense_count = begun.n_dense ∙ ap (λ n. count_below n (λ i. nat_lt threshold (num degrees i))) (sym size_is)
-      ∙ count_same g.size (λ i. nat_lt threshold (num degrees i)) dense (λ i l. ap (nat_lt threshold) (degree_is i l))
+  dense_count = begun.n_dense ∙ ap (λ n. count_below n last) (sym size_is) ∙ count_same g.size last dense last_is
 
   figure_start : (share : ℕ → ℕ) → figure share g dense s ≡ front_sum share (count_below g.size dense) 0
   unfolding figure
@@ -338,9 +346,9 @@ module _ {A : Type 0} (rows : List (Vec ℕ A)) (degrees : List ℕ) (threshold 
 
   fronts : KeepsFronts g dense w s
   fronts = record {
-    blocks = λ e y. ap (λ xs. num xs e) begun.block ∙ block_empty e y ∙ sym (block_one e y);
-    no_element = λ e n. ap (λ xs. num xs e) begun.block ∙ block_none e n;
-    fronts = λ e y. ap (λ xs. num xs e) begun.front ∙ block_empty e y ∙ sym (weight_one e y);
+    blocks = λ e y. block_empty w.block.items begun.block e y ∙ sym (block_one e y);
+    no_element = λ e n. block_none w.block.items begun.block e n;
+    fronts = λ e y. block_empty w.front.items begun.front e y ∙ sym (weight_one e y);
     dense_rows = dense_count;
     lnz = figure_kept entries w.figures.lnz begun.lnz;
     ldl = figure_kept ldl_steps w.figures.n_mult_subs_ldl begun.ldl;
@@ -358,7 +366,10 @@ module _ {A : Type 0} (rows : List (Vec ℕ A)) (degrees : List ℕ) (threshold 
       not_empty : (c : ℕ) → s.home v ≡ Live c → degree g v ≡ 0 → ⊥
       not_empty c k z = elim (cases_lt v g.size) [
         | inr l ↦ (let o = start.outside v l in cc)
-        | inl l ↦ (let o = block_gives v (s.home v) (row_element v l z) in cc)
+        | inl l ↦ elim (cases_Bool (dense v)) [
+          | inl d ↦ (let o = start.last v l d in cc)
+          | inr d ↦ (let o = start.empty v l d z in cc)
+        ]
       ]
 
   stands_start : Stands g dense w (start_tie g dense lists) s
@@ -373,7 +384,7 @@ module _ {A : Type 0} (rows : List (Vec ℕ A)) (degrees : List ℕ) (threshold 
     fronts = fronts;
   }
 
-pub stands_at_start : {A : Type 0} (rows : List (Vec ℕ A)) (degrees : List ℕ) (threshold : ℕ) (w : Work A) → Begun rows degrees threshold w →
-    ListsBelow (length degrees) rows → Below (length degrees) degrees → StandsAtStart rows degrees threshold w
-stands_at_start rows degrees threshold w begun rows_in small g lists s laws size_is degree_is list_is names start =
-    stands_start rows degrees threshold w begun rows_in small g lists s laws size_is degree_is list_is names start
+pub stands_at_start : {A : Type 0} (rows : List (Vec ℕ A)) (degrees : List ℕ) (last : ℕ → Bool) (w : Work A) → Begun rows degrees last w →
+    ListsBelow (length degrees) rows → Below (length degrees) degrees → StandsAtStart rows degrees last w
+stands_at_start rows degrees last w begun rows_in small g dense lists s laws size_is degree_is last_is list_is names start =
+    stands_start rows degrees last w begun rows_in small g dense lists s laws size_is degree_is last_is list_is names start

@@ -1,12 +1,13 @@
 use Rattle.std.proofs.Common.{rules, ℕ, ℤ, Bool, List, zero, suc, pos, negsuc, ◌≡◌, ◌≢◌, ◌+◌, ◌/◌, ◌^◌, ◌<◌, map, length, ap, subst, sym, ◌∙◌, refl, arith}
 use Rattle.std.specs.Prelude.{unsigned_abs, Option, None, Some, is_none, not, false}
-use Rattle.std.specs.Option.{SomeIff}
+use Rattle.std.specs.Option.{SomeIff, option_copied}
 use Rattle.std.proofs.lemmas.Bool.{true≢false}
 use Rattle.std.proofs.lemmas.List.{length-map}
 use Rattle.amd_model.specs.Graph.{degree}
 use Rattle.amd_model.specs.Input.Columns.{IsColumnForm, IsSorted, IsInput}
+use Rattle.amd_model.specs.Input.Held.{HasMarks}
 use Rattle.amd_model.specs.Input.Pattern.{graph_of}
-use Rattle.amd_engine.specs.Plain.{IsEngineAnswer}
+use Rattle.amd_engine.specs.Engine.{IsEngineAnswer}
 use Rattle.amd_edges.specs.Visits.{AreCounts}
 use Rattle.amd_numbers.specs.declared.amd.Info.{Info}
 use Rattle.amd_input.specs.Degrees.{AreDegrees}
@@ -96,6 +97,11 @@ plain_1-requires-clause-degrees g c =
     subst (λ xs. AreCounts (graph_of (length xs) a_p a_i) ((graph_of (length xs) a_p a_i).edge) xs) (sym c.deref.ensures.value)
     (subst (λ m. AreCounts (graph_of m a_p a_i) ((graph_of m a_p a_i).edge) numbers) (sym degrees.size) counts)
 
+pub plain_1-requires-clause-marks : goal.plain_1-requires-clause-marks
+plain_1-requires-clause-marks g c =
+    let size = ap length c.deref.ensures.value ∙ c.in_ok-nzaat.ensures.degrees.size in
+    subst (HasMarks (option_copied c.args.hold)) (sym size) c.requires.marks
+
 pub returns-in_err-p-clause-orders : goal.returns-in_err-p-clause-orders
 returns-in_err-p-clause-orders g c = search rules
 
@@ -118,11 +124,13 @@ returns-clause-orders g c =
     let total : ℕ = c.in_ok-nzaat.nzaat in
     let size = ap length c.deref.ensures.value ∙ c.in_ok-nzaat.ensures.degrees.size in
     let room = fits total c.known_count-count.result c.workspace_words.result c.workspace_words.ensures (ap not (c.is_none.ensures ∙ ap not c.if-is_none.false)) in
-    engine_orders n t aggressive a_p a_i p q c.in_ok-nzaat.degrees.items total c.aat.new.info c.plain_1.new.info
+    let hold = option_copied c.args.hold in
+    engine_orders hold n t aggressive a_p a_i p q c.in_ok-nzaat.degrees.items total c.aat.new.info c.plain_1.new.info
     c.in_ok-nzaat.ensures.degrees
     c.in_ok-nzaat.ensures.figures
     (subst (λ m. total + total / 5 + m < 2 ^ 63) c.known_count-count.ensures room)
-    (subst (λ m. IsEngineAnswer m t aggressive a_p a_i p q c.aat.new.info c.plain_1.new.info) size c.in_ok-p.ensures.orders)
+    (let none = c.in_ok-p.ensures.compactions in omega (arith, none))
+    (subst (λ m. IsEngineAnswer hold m t aggressive a_p a_i p q c.aat.new.info c.plain_1.new.info) size c.in_ok-p.ensures.orders)
 
 pub returns-clause-status : goal.returns-clause-status
 returns-clause-status g c =

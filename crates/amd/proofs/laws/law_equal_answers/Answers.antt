@@ -1,5 +1,6 @@
+use Rattle.std.specs.Prelude.{None}
 use Rattle.amd.proofs.OneAnswer.{answers_equal}
 use Rattle.amd.proofs.laws.law_equal_answers.Goals as goal
 
 pub returns : goal.returns
-returns c = answers_equal
+returns c = answers_equal None

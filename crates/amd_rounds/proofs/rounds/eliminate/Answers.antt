@@ -1,9 +1,10 @@
-use Rattle.std.proofs.Common.{Bool, [], ◌∷◌, ◌++◌, sym, subst}
+use Rattle.std.proofs.Common.{Bool, [], ◌∷◌, ◌++◌, sym, subst, arith}
 use Rattle.amd_model.specs.Run.{last_state}
 use Rattle.amd_model.specs.Tie.{next}
 use Rattle.amd_model.specs.Ordering.{none}
 use Rattle.amd_model.proofs.Orderings.{follows_more}
 use Rattle.amd_rounds.specs.Keeps.{Stands}
+use Rattle.amd_rounds.proofs.Ended.{no_row_is_live}
 use Rattle.amd_rounds.proofs.rounds.eliminate.Goals as goal
 
 pub rounds-init : goal.rounds-init
@@ -33,3 +34,6 @@ rounds-preserved g c =
 
 pub returns-clause-rounds : goal.returns-clause-rounds
 returns-clause-rounds g c = c.rounds.invariant.rounds
+
+pub returns-clause-end : goal.returns-clause-end
+returns-clause-end g c = λ gr dense t s st. no_row_is_live gr dense c.rounds.work t s st (let e = c.rounds-test.false in omega (arith, e))

@@ -1,11 +1,12 @@
-use Rattle.std.proofs.Common.{◌≡◌, ◌≤◌, length, map, take}
-use Rattle.std.specs.Prelude.{cond, nat_eq}
+use Rattle.std.proofs.Common.{ℕ, ◌≡◌, ◌≤◌, ◌<◌, length}
+use Rattle.std.specs.Prelude.{cond, not, nat_eq, ◌&&◌}
 use Rattle.std.specs.Vec.{vec_capacity}
+use Rattle.amd_rounds.specs.Views.{at, num}
 use Rattle.amd_rounds.proofs.start.first_blocks.Given as goal
 
-abbrev pub invariant-loop-d : goal.invariant-loop-d
-invariant-loop-d g l = record {
+abbrev pub invariant-rows : goal.invariant-rows
+invariant-rows g l = record {
   room : length l.degrees ≤ vec_capacity l.blocks;
-  size : length l.blocks.items ≡ l.d-index;
-  items : l.blocks.items ≡ map (λ d. cond (nat_eq d 0) 1 0) (take l.d-index l.degrees);
+  size : length l.blocks.items ≡ l.i;
+  each : (a : ℕ) → a < l.i → num l.blocks.items a ≡ cond (nat_eq (num l.degrees a) 0 && not (at l.last a)) 1 0;
 }

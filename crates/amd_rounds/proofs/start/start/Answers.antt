@@ -1,7 +1,7 @@
 use Rattle.std.proofs.Common.{ℕ, ◌∙◌, ap, length, refl, rules}
 use Rattle.std.specs.Prelude.{nat_lt, ◌==◌, ◌&&◌}
 use Rattle.amd_model.specs.Below.{count_below, list_below}
-use Rattle.amd_rounds.specs.Views.{num}
+use Rattle.amd_rounds.specs.Views.{at, num}
 use Rattle.amd_rounds.proofs.StartLaw.{stands_at_start}
 use Rattle.amd_rounds.proofs.start.start.Goals as goal
 
@@ -9,11 +9,11 @@ pub returns : goal.returns
 returns g c =
     let degrees = c.args.degrees.now in
     let n : ℕ = length degrees in
-    stands_at_start c.args.rows.items degrees c.args.threshold _ (record {
+    stands_at_start c.args.rows.items degrees (at c.args.last.now) _ (record {
       variables = refl;
       elements = c.in_ok-empty_lists.ensures;
       members = c.in_ok-empty_lists-2.ensures;
-      size = c.in_ok-size.ensures;
+      size = record { size = c.in_ok-size.ensures.size; each = c.in_ok-size.ensures.numbers };
       bound = c.in_ok-from_slice.ensures.items;
       range = c.in_ok-placed.ensures.size;
       placed = λ b. c.in_ok-placed.ensures.lists b ∙ ap (λ xs. list_below n (λ i. nat_lt 0 (num xs i) && num degrees i == b)) c.deref.ensures.value;
@@ -21,9 +21,9 @@ returns g c =
       live = c.count_above.ensures ∙ ap (λ xs. count_below (length xs) (λ i. nat_lt 0 (num xs i))) c.deref-2.ensures.value;
       link = c.in_ok-vec.ensures.items_if_clones_equal (λ o h. search rules);
       parent = c.in_ok-vec-2.ensures.items_if_clones_equal (λ o h. search rules);
-      block = c.in_ok-first_blocks.ensures;
-      front = c.in_ok-first_blocks-2.ensures;
-      n_dense = c.count_above-n_dense.ensures;
+      block = record { size = c.in_ok-first_blocks.ensures.size; each = c.in_ok-first_blocks.ensures.numbers };
+      front = record { size = c.in_ok-first_blocks-2.ensures.size; each = c.in_ok-first_blocks-2.ensures.numbers };
+      n_dense = c.count_marks-n_dense.ensures ∙ ap (λ n. count_below n (at c.args.last.now)) c.requires.marks;
       lnz = c.add_front.ensures.lnz;
       ldl = c.add_front.ensures.ldl;
       lu = c.add_front.ensures.lu;
