@@ -1,1 +1,2 @@
 mod Forests
+mod Degrees

@@ -8,30 +8,29 @@ use amd_testing::refusing::{Refusing, each_refused};
 use std::alloc::Global;
 use std::process::Abort;
 
-/// Orders the five rows of the demo, whose input is counted with memory of its own, and says whether there was an answer.
-fn orders(rt: &impl Abort, alloc: Global, heap: &Refusing<Global>) -> bool {
-    let a_p = [0i64, 2, 6, 10, 12, 14];
-    let a_i = [0, 1, 0, 1, 2, 4, 1, 2, 3, 4, 2, 3, 1, 4];
-    let Status::OK = valid(5, 5, &a_p, &a_i) else {
+/// Orders a sorted matrix, whose degrees are counted with memory of their own, and says whether there was an answer, which must be
+/// the one that is wanted.
+fn orders(
+    rt: &impl Abort,
+    heap: &Refusing<Global>,
+    alloc: Global,
+    n: i64,
+    a_p: &[i64],
+    a_i: &[i64],
+    wanted: (&[i64], &[i64]),
+) -> bool {
+    assert!(rt; n > 0);
+    let Status::OK = valid(n, n, a_p, a_i) else {
         panic!(rt; "not sorted");
     };
-    let mut info = Info::new(5);
-    let Ok((_, degrees)) = aat(alloc, 5, &a_p, &a_i, &mut info) else {
+    let mut info = Info::new(0);
+    let Ok((_, degrees)) = aat(alloc, n, a_p, a_i, &mut info) else {
         panic!(rt; "no degrees");
     };
-    match plain_1(
-        heap,
-        5,
-        &a_p,
-        &a_i,
-        &degrees,
-        &Control::default(),
-        None,
-        &mut info,
-    ) {
+    let control = Control::default();
+    match plain_1(heap, n, a_p, a_i, &degrees, &control, None, &mut info) {
         Ok((p, p_inv)) => {
-            assert_eq!(rt; p.as_slice(), [0, 3, 2, 4, 1].as_slice());
-            assert_eq!(rt; p_inv.as_slice(), [0, 4, 2, 1, 3].as_slice());
+            assert_eq!(rt; (p.as_slice(), p_inv.as_slice()), wanted);
             true
         }
         Err(status) => {
@@ -41,9 +40,17 @@ fn orders(rt: &impl Abort, alloc: Global, heap: &Refusing<Global>) -> bool {
     }
 }
 
+/// The five rows of the demo.
 #[test]
 fn each_request_of_the_plain_engine(rt: HostRuntime) {
-    match each_refused(rt.alloc(), |heap| orders(&rt, rt.alloc(), heap)) {
+    let a_p = [0, 2, 6, 10, 12, 14].as_slice();
+    let a_i = [0, 1, 0, 1, 2, 4, 1, 2, 3, 4, 2, 3, 1, 4].as_slice();
+    let wanted = ([0, 3, 2, 4, 1].as_slice(), [0, 4, 2, 1, 3].as_slice());
+    let heap = rt.alloc();
+    match each_refused(
+        heap,
+        |refusing| orders(&rt, refusing, heap, 5, a_p, a_i, wanted),
+    ) {
         Ok(refusals) => assert!(rt; 0 < refusals),
         Err(slip) => panic!(rt; "{slip:?}"),
     }

@@ -8,7 +8,7 @@ use amd::valid::valid;
 use amd::{Control, Info, Status, order};
 use amd_testing::records::numbers_of;
 use amd_testing::refusing::{Refusing, Slip, each_refused};
-use std::alloc::Global;
+use std::alloc::{Allocator, Global};
 use std::process::Abort;
 
 /// Asserts that some requests were refused, and that no run did wrong.
@@ -90,6 +90,37 @@ fn transposes(rt: &impl Abort, heap: &Refusing<Global>) -> bool {
             false
         }
     }
+}
+
+/// Builds the five rows of the demo and a choice, and orders them: each refused request becomes a status by `?`.
+fn built<A: Allocator + Copy>(alloc: A) -> Result<(Vec<i64, A>, Vec<i64, A>, Info), Status> {
+    let mut a_p = Vec::new(alloc);
+    for pointer in [0, 2, 6, 10, 12, 14] {
+        a_p.push(pointer)?;
+    }
+    let a_i = vec![in alloc; 0, 1, 0, 1, 2, 4, 1, 2, 3, 4, 2, 3, 1, 4]?;
+    let control = Box::new(alloc, Control::default())?;
+    order(alloc, 5, &a_p, &a_i, &control)
+}
+
+/// Builds and orders, and says whether there was an answer.
+fn builds(rt: &impl Abort, heap: &Refusing<Global>) -> bool {
+    match built(heap) {
+        Ok((p, _, _)) => {
+            assert_eq!(rt; p.as_slice(), [0, 3, 2, 4, 1].as_slice());
+            true
+        }
+        Err(status) => {
+            assert!(rt; status == Status::OutOfMemory);
+            false
+        }
+    }
+}
+
+#[test]
+fn each_request_of_a_caller(rt: HostRuntime) {
+    let refusals = each_refused(rt.alloc(), |heap| builds(&rt, heap));
+    check_refusals(&rt, "a matrix that is built and ordered", refusals);
 }
 
 /// A record in which each number is another one.

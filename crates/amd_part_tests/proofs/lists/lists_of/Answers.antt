@@ -1,19 +1,7 @@
 -- The degrees that `aat` answers are numbers of arcs, and their sum is room for the lists.
-use Rattle.std.proofs.Common.{rules, ℕ, ℤ, List, ◌≡◌, ◌≤◌, length, ◌∙◌, arith}
-use Rattle.amd_model.specs.Graph.{degree, degree_sum}
-use Rattle.amd_model.specs.Input.Pattern.{graph_of}
-use Rattle.amd_edges.specs.Visits.{AreCounts, start_of}
-use Rattle.amd_input.specs.Degrees.{AreDegrees}
+use Rattle.std.proofs.Common.{rules, ◌≡◌, length, ◌∙◌}
+use Rattle.amd_part_tests.proofs.Degrees.{degrees_count, degrees_fill}
 use Rattle.amd_part_tests.proofs.lists.lists_of.Goals as goal
-
-module _ (n : ℕ) (ap' ai : List ℤ) (total : ℕ) (degrees : List ℕ) (h : AreDegrees n ap' ai total degrees) where
-  degrees_count : AreCounts (graph_of n ap' ai) ((graph_of n ap' ai).edge) degrees
-  unfolding graph_of degree
-  degrees_count = record { size = h.size; each = h.each }
-
-  degrees_fill : start_of (graph_of n ap' ai) n ≤ total
-  unfolding graph_of degree degree_sum start_of
-  degrees_fill = (let sum = h.sum in omega (arith, sum))
 
 pub neighbours-requires-clause-degrees : goal.neighbours-requires-clause-degrees
 neighbours-requires-clause-degrees g c =

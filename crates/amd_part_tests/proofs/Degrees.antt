@@ -1,0 +1,15 @@
+-- The degrees that `aat` answers are numbers of arcs, and their sum is room for lists of neighbours.
+use Rattle.std.proofs.Common.{ℕ, ℤ, List, ◌≤◌, arith}
+use Rattle.amd_model.specs.Graph.{degree, degree_sum}
+use Rattle.amd_model.specs.Input.Pattern.{graph_of}
+use Rattle.amd_edges.specs.Visits.{AreCounts, start_of}
+use Rattle.amd_input.specs.Degrees.{AreDegrees}
+
+module _ (n : ℕ) (ap' ai : List ℤ) (total : ℕ) (degrees : List ℕ) (h : AreDegrees n ap' ai total degrees) where
+  pub degrees_count : AreCounts (graph_of n ap' ai) ((graph_of n ap' ai).edge) degrees
+  unfolding graph_of degree
+  degrees_count = record { size = h.size; each = h.each }
+
+  pub degrees_fill : start_of (graph_of n ap' ai) n ≤ total
+  unfolding graph_of degree degree_sum start_of
+  degrees_fill = (let sum = h.sum in omega (arith, sum))
