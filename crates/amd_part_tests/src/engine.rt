@@ -28,7 +28,7 @@ fn orders(
         panic!(rt; "no degrees");
     };
     let control = Control::default();
-    match plain_1(heap, n, a_p, a_i, &degrees, &control, &mut info) {
+    match plain_1(heap, n, a_p, a_i, &degrees, &control, None, &mut info) {
         Ok((p, p_inv)) => {
             assert_eq!(rt; (p.as_slice(), p_inv.as_slice()), wanted);
             true

@@ -7,12 +7,12 @@
 //!     INFO n nz symmetry(0|1) nz_diag nz_a_plus_at n_dense lnz n_div ldl lu d_max
 //!     END
 //!
-//! Where the status is `Invalid` the three lines behind it are left out. The format of the input is that of `amd_cases`. A case
-//! with `HOLD`, `PERM` or `ROOM` asks for more than an ordering: the program names it on standard error and ends with status 1. At a
-//! line that is at fault the program names it on standard error and ends with status 1; the answers before it are written.
+//! Where the status is `Invalid` the three lines behind it are left out. The format of the input is that of `amd_cases`; with
+//! `HOLD` the marked rows are held last. At a line that is at fault, and at a case with `PERM` or `ROOM`, which asks for more than an
+//! ordering, the program names it on standard error and ends with status 1; the answers before it are written.
 #![tactic(auto)]
 
-use amd::{Control, Info, Status, order};
+use amd::{Control, Info, Status, order, order_holding};
 use amd_cases::cases::Case;
 use amd_cases::reader::CaseReader;
 use anyhow::{Result, bail};
@@ -39,10 +39,25 @@ fn write_info<W: Write>(out: &mut W, info: &Info) -> io::Result<()> {
     writeln!(out, " {}", info.d_max)
 }
 
+/// An ordering: the permutation, its inverse, and the record.
+type Ordering<A> = (Vec<i64, A>, Vec<i64, A>, Info);
+
+/// Orders a case, with its marked rows held last where it has marks.
+fn order_case<A: Allocator + Copy>(
+    alloc: A,
+    case: &Case<A>,
+    control: &Control,
+) -> Result<Ordering<A>, Status> {
+    match &case.hold {
+        Some(hold) => order_holding(alloc, case.n, &case.a_p, &case.a_i, control, hold),
+        None => order(alloc, case.n, &case.a_p, &case.a_i, control),
+    }
+}
+
 /// Orders a case and writes the answer.
 fn answer<W: Write, A: Allocator + Copy>(alloc: A, case: &Case<A>, out: &mut W) -> Result<()> {
     let number = case.number;
-    if case.hold.is_some() || case.permutation.is_some() || case.room.is_some() {
+    if case.permutation.is_some() || case.room.is_some() {
         bail!("case {number} asks for more than an ordering");
     }
     let control = Control {
@@ -50,7 +65,7 @@ fn answer<W: Write, A: Allocator + Copy>(alloc: A, case: &Case<A>, out: &mut W) 
         aggressive: case.aggressive,
     };
     writeln!(out, "CASE {number}")?;
-    match order(alloc, case.n, &case.a_p, &case.a_i, &control) {
+    match order_case(alloc, case, &control) {
         Ok((p, p_inv, info)) => {
             writeln!(out, "STATUS {:?}", info.status)?;
             write_numbers(out, "P", &p)?;

@@ -1,5 +1,5 @@
-//! Tests of the ordering through its calls: worked inputs with their answers, hostile inputs, refused memory, and a comparison
-//! with the definitions in a plain form. The answers come from outside: worked by hand, from the Rust crate's demos, or from
+//! Tests of the ordering through its calls: worked inputs with their answers, hostile inputs, refused memory, rows held last, and
+//! a comparison with the definitions in a plain form. The answers come from outside: worked by hand, from the Rust crate's demos, or from
 //! the Rust crate `amd` and an independent program that follows the rules, which is no part of this repository.
 #![tactic(auto)]
 
@@ -9,6 +9,8 @@ mod classes;
 mod comparison;
 #[cfg(test)]
 mod factors;
+#[cfg(test)]
+mod holding;
 #[cfg(test)]
 mod input;
 #[cfg(test)]

@@ -1,8 +1,9 @@
 // Families of graphs of several sizes and matrices drawn from seeds, each with every choice of a caller: no figure is below what
-// the factor needs, and nothing fills in where the graph is a forest without dense rows. For cycles and for complete graphs the
-// bound on the entries is known, and compared.
+// the factor needs, nothing fills in where the graph is a forest without dense rows, and with nothing held the answer is the same.
+// For cycles and for complete graphs the bound on the entries is known, and compared.
 
 use crate::factors::{check_bounds, check_forest};
+use crate::holding::check_nothing_held;
 use amd::{Control, Info, order};
 use amd_testing::factors::Factor;
 use amd_testing::inputs::{
@@ -15,7 +16,7 @@ use std::process::Abort;
 use std::test::Fail;
 
 /// The choices of a caller that are tried: the dense row parameter, and whether absorption is aggressive.
-static CHOICES: [Control; 6] = [
+pub static CHOICES: [Control; 6] = [
     Control {
         dense: 10000,
         aggressive: true,
@@ -70,6 +71,7 @@ fn check_choice(
         plain::how_many(&dense),
         "{control:?} {a_p:?} {a_i:?}"
     );
+    check_nothing_held(rt, alloc, n, a_p, a_i, control)?;
     let factor = check_bounds(rt, alloc, a_p, a_i, &p, &info)?;
     Ok((factor, info))
 }

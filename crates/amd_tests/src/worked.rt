@@ -2,6 +2,7 @@
 // crate `amd`, and from a plain program that follows the rules.
 
 use crate::factors::check_bounds;
+use crate::holding::check_nothing_held;
 use amd::{Control, Info, Status, order};
 use amd_demos::can_24::{JUMBLED_POINTERS, JUMBLED_ROWS, POINTERS, ROWS};
 use amd_testing::inputs::{complete, star};
@@ -19,10 +20,10 @@ pub struct Case<'a> {
     pub n: i64,
     pub a_p: &'a [i64],
     pub a_i: &'a [i64],
-    jumbled: bool,
-    p: &'a [i64],
-    figures: [usize; 8],
-    symmetric: bool,
+    pub jumbled: bool,
+    pub p: &'a [i64],
+    pub figures: [usize; 8],
+    pub symmetric: bool,
 }
 
 /// Asserts that an answer is that of a case.
@@ -57,13 +58,14 @@ pub fn check_answer(rt: &impl Abort, case: &Case, p: &[i64], p_inv: &[i64], info
     assert_eq!(rt; info.n_cmp_a, 0, "{what}");
 }
 
-/// Asserts that `order` gives the answer of a case, and that its figures bound what the factor needs.
+/// Asserts that `order` gives the answer of a case, also with nothing held, and that its figures bound what the factor needs.
 fn check(rt: &impl Abort, alloc: Global, control: &Control, case: &Case) -> Result<(), AllocError> {
     let what = case.what;
     let Ok((p, p_inv, info)) = order(alloc, case.n, case.a_p, case.a_i, control) else {
         panic!(rt; "no answer for {what}");
     };
     check_answer(rt, case, &p, &p_inv, &info);
+    check_nothing_held(rt, alloc, case.n, case.a_p, case.a_i, control)?;
     check_bounds(rt, alloc, case.a_p, case.a_i, &p, &info)?;
     Ok(())
 }
@@ -269,7 +271,7 @@ fn small_matrices(rt: HostRuntime) -> Result<(), Fail> {
 }
 
 /// Asserts that a record is that of a matrix without rows.
-fn check_nothing(rt: &impl Abort, info: &Info) {
+pub fn check_nothing(rt: &impl Abort, info: &Info) {
     assert!(rt; info.status == Status::OK && !info.symmetry);
     assert_eq!(rt; numbers_of(info), [0; 11]);
 }
