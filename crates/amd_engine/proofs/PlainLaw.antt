@@ -31,7 +31,7 @@ use Rattle.amd_numbers.specs.Permutations.{AreInverse}
 use Rattle.amd_engine.specs.Plain.{IsEngineAnswer, with_figures}
 use Rattle.amd_numbers.specs.declared.amd.Info.{Info}
 use Rattle.amd_rounds.specs.declared.work.Work.{Work}
-use Rattle.amd_views.proofs.Lists.Named.{below_from}
+use Rattle.amd_views.proofs.Lists.Named.{below_from, named_sum}
 
 -- ---- lists
 
@@ -43,15 +43,6 @@ none_named : (xs : List ℕ) → is_empty xs ≡ true → xs ≡ []
 unfolding is_empty
 none_named [] e = refl
 none_named (x ∷ xs) e = absurd (true≢false (sym e))
-
--- what a list names is counted in its sum
-part_of_sum : (f : ℕ → ℕ) (xs : List ℕ) (x : ℕ) → has xs x ≡ true → f x ≤ sum_by f xs
-unfolding has
-part_of_sum f [] x h = absurd (true≢false (sym h))
-part_of_sum f (y ∷ ys) x h = let a = sum_by-cons f y ys in elim (or_cases (y == x) (has ys x) h) [
-  | inl q ↦ (let e = ap f (eqb-true y x q) in omega (arith, a, e))
-  | inr q ↦ (let b = part_of_sum f ys x q in omega (arith, a, b))
-]
 
 -- ---- the start
 
@@ -105,7 +96,7 @@ module _ {A : Type 0} (g : Graph) (dense : ℕ → Bool) (w : Work A) (t : Tie) 
   none_left : w.live ≡ 0 → t.placed ≡ []
   none_left z = elim (cases_Bool (is_empty t.placed)) [
     | inl y ↦ none_named t.placed y
-    | inr n ↦ (let c = some_of t.placed n in let a = placed_rows g st.view.graph s st.view.sound t st.view.fits c.0 c.1 in let b = part_of_sum t.size t.placed c.0 c.1 in let l = st.view.keeps.live in absurd (omega (arith, z, a, b, l)))
+    | inr n ↦ (let c = some_of t.placed n in let a = placed_rows g st.view.graph s st.view.sound t st.view.fits c.0 c.1 in let b = named_sum t.size t.placed c.0 c.1 in let l = st.view.keeps.live in absurd (omega (arith, z, a, b, l)))
   ]
 
   figures_told : (old : Info) → told_by w old ≡ with_figures g dense s old

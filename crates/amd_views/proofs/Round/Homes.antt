@@ -1,14 +1,17 @@
 -- Where a row is after a round, by where it was.
-use Rattle.std.proofs.Common.{ℕ, suc, Bool, true, false, Option, None, Some, List, [], ◌∷◌, ◌≡◌, ◌≢◌, ◌≤◌, ◌<◌, ◌+◌, ◌-◌, ◌∙◌, ◌&&◌, ◌||◌, not, min, cond, ap, sym, refl, subst, inl, inr, arith}
+use Rattle.std.proofs.Common.{ℕ, suc, Bool, true, false, Option, None, Some, List, [], ◌∷◌, ◌≡◌, ◌≢◌, ◌≤◌, ◌<◌, ◌+◌, ◌-◌, ◌∙◌, ◌&&◌, ◌||◌}
+use Rattle.std.proofs.Common.{not, min, cond, ap, sym, refl, subst, inl, inr, arith}
 use Rattle.std.specs.Prelude.{filter, sum_by, nat_lt, is_none, ◌==◌, ◌⊎◌, ◌^◌}
 use Rattle.std.proofs.Math.Bool.{and-false, and-true}
-use Rattle.std.proofs.lemmas.Bool.{cases_Bool, cases_eq, cond-true, cond-false, or_left, or_right, or_from, or_parts, or_cases, and_from, and_parts, and_left, eqb-true, eq-eqb, ne_eqb, lt-ltb, le-ltb, not-true, not_from_false}
+use Rattle.std.proofs.lemmas.Bool.{cases_Bool, cases_eq, cond-true, cond-false, or_left, or_right, or_from, or_parts, or_cases, and_from}
+use Rattle.std.proofs.lemmas.Bool.{and_parts, and_left, eqb-true, eq-eqb, ne_eqb, lt-ltb, le-ltb, not-true, not_from_false}
 use Rattle.amd_model.specs.Graph.{Graph}
 use Rattle.amd_model.specs.Figures.{cut}
 use Rattle.amd_model.specs.State.{State, Home, Last, Live, Gone, is_class, front, holds, stands, inside}
 use Rattle.amd_model.specs.Step.{StepAt, absorbed}
 use Rattle.amd_model.specs.Sound.{IsSound}
-use Rattle.amd_model.specs.Tie.{Tie, Fits, has, is_empty, turned, pivot, gathered, takes, kept_elements, kept_variables, done, rest, represents, made, ends, new_size, far, left, next_bound, new_home, round, next}
+use Rattle.amd_model.specs.Tie.{Tie, Fits, has, is_empty, turned, pivot, gathered, takes, kept_elements, kept_variables, done, rest}
+use Rattle.amd_model.specs.Tie.{represents, made, ends, new_size, far, left, next_bound, new_home, round, next}
 use Rattle.amd_model.proofs.StateLemmas.{class_gives, class_from, live_from, neighbours_gives, holds_gives, stands_gives}
 use Rattle.amd_model.proofs.Sound.{live_small}
 use Rattle.amd_model.proofs.SoundStep.{step_sound}
@@ -21,13 +24,16 @@ use Rattle.amd_views.specs.Rounds.{keeps_none, IsApart}
 use Rattle.amd_views.specs.Keeps.{LinksLead, Stands}
 use Rattle.amd_views.specs.Views.{View}
 use Rattle.amd_model.proofs.StepFronts.{placed_small}
-use Rattle.amd_views.proofs.Round.Fronts.{border_is as border_rows, live_left as live_after, live_less, live_is as live_sum, joined as joined_after, no_parent as no_parent_after, fronts_kept}
+use Rattle.amd_views.proofs.Round.Fronts.{border_is as border_rows, live_left as live_after, live_less, live_is as live_sum}
+use Rattle.amd_views.proofs.Round.Fronts.{joined as joined_after, no_parent as no_parent_after, fronts_kept}
 use Rattle.amd_views.proofs.Lists.Named.{filter_named, sum_named, filter_all, filter_both, not_empty}
 use Rattle.amd_views.proofs.Rounding.{Rounding}
 use Rattle.amd_views.proofs.Fronts.Gathered.{gathered_other, placed_rows}
-use Rattle.amd_views.proofs.Round.Turn.{Found, Turn, class_of, front_placed, in_left, lists_after, made_front, made_rest, not_c, outside_rest, pivot_is_class, rest_front, rest_keeps}
+use Rattle.amd_views.proofs.Round.Turn.{Found, Turn, class_of, front_placed, in_left, lists_after, made_front, made_rest, not_c}
+use Rattle.amd_views.proofs.Round.Turn.{outside_rest, pivot_is_class, rest_front, rest_keeps}
 
-module _ {g : Graph} {dense : ℕ → Bool} {aggressive : Bool} {w v : View} {t : Tie} {s : State} (turn : Turn g dense aggressive w v t s) where
+module _ {g : Graph} {dense : ℕ → Bool} {aggressive : Bool} {w v : View} {t : Tie} {s : State} (turn : Turn g dense aggressive w v t s)
+    where
   abbrev st : Stands g dense w t s
   st = turn.before
 
@@ -60,23 +66,28 @@ module _ {g : Graph} {dense : ℕ → Bool} {aggressive : Bool} {w v : View} {t 
 
   moved_pivot : moved (Live r.c) ≡ Gone r.c
   unfolding new_home
-  moved_pivot = cond-true (r.c == r.c || (has L r.c && done aggressive t r.c L r.c)) (Gone r.c) (cond (has R r.c) (Live (represents aggressive t r.c L r.c)) (Live r.c))
+  moved_pivot = cond-true (r.c == r.c || (has L r.c && done aggressive t r.c L r.c)) (Gone r.c)
+      (cond (has R r.c) (Live (represents aggressive t r.c L r.c)) (Live r.c))
       (or_left (r.c == r.c) (has L r.c && done aggressive t r.c L r.c) (eq-eqb r.c r.c refl))
 
   moved_done : (d : ℕ) → has L d ≡ true → done aggressive t r.c L d ≡ true → moved (Live d) ≡ Gone r.c
   unfolding new_home
-  moved_done d h k = cond-true (d == r.c || (has L d && done aggressive t r.c L d)) (Gone r.c) (cond (has R d) (Live (represents aggressive t r.c L d)) (Live d))
+  moved_done d h k = cond-true (d == r.c || (has L d && done aggressive t r.c L d)) (Gone r.c)
+      (cond (has R d) (Live (represents aggressive t r.c L d)) (Live d))
       (or_right (d == r.c) (has L d && done aggressive t r.c L d) (and_from (has L d) (done aggressive t r.c L d) h k))
 
   moved_rest : (d : ℕ) → has R d ≡ true → moved (Live d) ≡ Live (represents aggressive t r.c L d)
   unfolding new_home
-  moved_rest d h = cond-false (d == r.c || (has L d && done aggressive t r.c L d)) (Gone r.c) (cond (has R d) (Live (represents aggressive t r.c L d)) (Live d))
-      (or_from (d == r.c) (has L d && done aggressive t r.c L d) (not_c turn d (rest_front turn d h)) (ap (λ b. has L d && b) (rest_keeps turn d h) ∙ and-false (has L d)))
+  moved_rest d h = cond-false (d == r.c || (has L d && done aggressive t r.c L d)) (Gone r.c)
+      (cond (has R d) (Live (represents aggressive t r.c L d)) (Live d))
+      (or_from (d == r.c) (has L d && done aggressive t r.c L d) (not_c turn d (rest_front turn d h))
+          (ap (λ b. has L d && b) (rest_keeps turn d h) ∙ and-false (has L d)))
       ∙ cond-true (has R d) (Live (represents aggressive t r.c L d)) (Live d) h
 
   pub moved_other : (d : ℕ) → (d == r.c) ≡ false → has L d ≡ false → moved (Live d) ≡ Live d
   unfolding new_home
-  moved_other d e n = cond-false (d == r.c || (has L d && done aggressive t r.c L d)) (Gone r.c) (cond (has R d) (Live (represents aggressive t r.c L d)) (Live d))
+  moved_other d e n = cond-false (d == r.c || (has L d && done aggressive t r.c L d)) (Gone r.c)
+      (cond (has R d) (Live (represents aggressive t r.c L d)) (Live d))
       (or_from (d == r.c) (has L d && done aggressive t r.c L d) e (and_left (has L d) (done aggressive t r.c L d) n))
       ∙ cond-false (has R d) (Live (represents aggressive t r.c L d)) (Live d) (outside_rest turn d n)
 
@@ -130,7 +141,8 @@ module _ {g : Graph} {dense : ℕ → Bool} {aggressive : Bool} {w v : View} {t 
       | inl y ↦ (let k : Gone x ≡ Gone r.c = m ∙ ap moved (ap Live y) ∙ moved_pivot in let e : x ≡ r.c = cc in z ∙ ap Live (y ∙ sym e))
       | inr ne ↦ elim (cases_Bool (has L d)) [
         | inl l ↦ elim (cases_Bool (done aggressive t r.c L d)) [
-          | inl k ↦ (let q : Gone x ≡ Gone r.c = m ∙ moved_done d l k in let e : x ≡ r.c = cc in ap t.home e ∙ home_of r.c f.placed ∙ sym (ap Live e))
+          | inl k ↦ (let q : Gone x ≡ Gone r.c = m ∙ moved_done d l k in let e : x ≡ r.c = cc in
+              ap t.home e ∙ home_of r.c f.placed ∙ sym (ap Live e))
           | inr k ↦ absurd (let q = m ∙ moved_rest d (in_left turn d l k) in cc)
         ]
         | inr n ↦ absurd (let q = m ∙ moved_other d (ne_eqb d r.c ne) n in cc)

@@ -1,14 +1,17 @@
 -- After a round the links of rows still lead to where the rows are, and come to an end.
-use Rattle.std.proofs.Common.{ℕ, suc, Bool, true, false, Option, None, Some, List, [], ◌∷◌, ◌≡◌, ◌≢◌, ◌≤◌, ◌<◌, ◌+◌, ◌-◌, ◌∙◌, ◌&&◌, ◌||◌, not, min, cond, ap, sym, refl, subst, inl, inr, arith}
+use Rattle.std.proofs.Common.{ℕ, suc, Bool, true, false, Option, None, Some, List, [], ◌∷◌, ◌≡◌, ◌≢◌, ◌≤◌, ◌<◌, ◌+◌, ◌-◌, ◌∙◌, ◌&&◌, ◌||◌}
+use Rattle.std.proofs.Common.{not, min, cond, ap, sym, refl, subst, inl, inr, arith}
 use Rattle.std.specs.Prelude.{filter, sum_by, nat_lt, is_none, ◌==◌, ◌⊎◌, ◌^◌}
 use Rattle.std.proofs.Math.Bool.{and-false, and-true}
-use Rattle.std.proofs.lemmas.Bool.{cases_Bool, cases_eq, cond-true, cond-false, or_left, or_right, or_from, or_parts, or_cases, and_from, and_parts, and_left, eqb-true, eq-eqb, ne_eqb, lt-ltb, le-ltb, not-true, not_from_false}
+use Rattle.std.proofs.lemmas.Bool.{cases_Bool, cases_eq, cond-true, cond-false, or_left, or_right, or_from, or_parts, or_cases, and_from}
+use Rattle.std.proofs.lemmas.Bool.{and_parts, and_left, eqb-true, eq-eqb, ne_eqb, lt-ltb, le-ltb, not-true, not_from_false}
 use Rattle.amd_model.specs.Graph.{Graph}
 use Rattle.amd_model.specs.Figures.{cut}
 use Rattle.amd_model.specs.State.{State, Home, Last, Live, Gone, is_class, front, holds, stands, inside}
 use Rattle.amd_model.specs.Step.{StepAt, absorbed}
 use Rattle.amd_model.specs.Sound.{IsSound}
-use Rattle.amd_model.specs.Tie.{Tie, Fits, has, is_empty, turned, pivot, gathered, takes, kept_elements, kept_variables, done, rest, represents, made, ends, new_size, far, left, next_bound, new_home, round, next}
+use Rattle.amd_model.specs.Tie.{Tie, Fits, has, is_empty, turned, pivot, gathered, takes, kept_elements, kept_variables, done, rest}
+use Rattle.amd_model.specs.Tie.{represents, made, ends, new_size, far, left, next_bound, new_home, round, next}
 use Rattle.amd_model.proofs.StateLemmas.{class_gives, class_from, live_from, neighbours_gives, holds_gives, stands_gives}
 use Rattle.amd_model.proofs.Sound.{live_small}
 use Rattle.amd_model.proofs.SoundStep.{step_sound}
@@ -21,14 +24,18 @@ use Rattle.amd_views.specs.Rounds.{keeps_none, IsApart}
 use Rattle.amd_views.specs.Keeps.{LinksLead, Stands}
 use Rattle.amd_views.specs.Views.{View}
 use Rattle.amd_model.proofs.StepFronts.{placed_small}
-use Rattle.amd_views.proofs.Round.Fronts.{border_is as border_rows, live_left as live_after, live_less, live_is as live_sum, joined as joined_after, no_parent as no_parent_after, fronts_kept}
+use Rattle.amd_views.proofs.Round.Fronts.{border_is as border_rows, live_left as live_after, live_less, live_is as live_sum}
+use Rattle.amd_views.proofs.Round.Fronts.{joined as joined_after, no_parent as no_parent_after, fronts_kept}
 use Rattle.amd_views.proofs.Lists.Named.{filter_named, sum_named, filter_all, filter_both, not_empty}
 use Rattle.amd_views.proofs.Rounding.{Rounding}
 use Rattle.amd_views.proofs.Fronts.Gathered.{gathered_other, placed_rows}
-use Rattle.amd_views.proofs.Round.Turn.{Found, Turn, front_placed, in_front, in_left, in_rest, lists_after, made_front, none_kept, not_pivot, row_small}
-use Rattle.amd_views.proofs.Round.Homes.{done_home, made_home, moved, moved_gone, moved_last, moved_other, new_home_is, pivot_home, rest_home, was_gone, was_last, was_live}
+use Rattle.amd_views.proofs.Round.Turn.{Found, Turn, front_placed, in_front, in_left, in_rest, lists_after, made_front, none_kept}
+use Rattle.amd_views.proofs.Round.Turn.{not_pivot, row_small}
+use Rattle.amd_views.proofs.Round.Homes.{done_home, made_home, moved, moved_gone, moved_last, moved_other, new_home_is, pivot_home}
+use Rattle.amd_views.proofs.Round.Homes.{rest_home, was_gone, was_last, was_live}
 
-module _ {g : Graph} {dense : ℕ → Bool} {aggressive : Bool} {w v : View} {t : Tie} {s : State} (turn : Turn g dense aggressive w v t s) where
+module _ {g : Graph} {dense : ℕ → Bool} {aggressive : Bool} {w v : View} {t : Tie} {s : State} (turn : Turn g dense aggressive w v t s)
+    where
   abbrev st : Stands g dense w t s
   st = turn.before
 
@@ -56,13 +63,15 @@ module _ {g : Graph} {dense : ℕ → Bool} {aggressive : Bool} {w v : View} {t 
   merges_is : (x : ℕ) → (has r.rest x && not (r.into x == x)) ≡ merges x
   merges_is x = elim (cases_Bool (has R x)) [
     | inl y ↦ ap (λ b. b && not (r.into x == x)) (in_rest turn x) ∙ ap (λ n. has R x && not (n == x)) (f.into_is x y)
-    | inr n ↦ and_left (has r.rest x) (not (r.into x == x)) (in_rest turn x ∙ n) ∙ sym (and_left (has R x) (not (represents aggressive t r.c L x == x)) n)
+    | inr n ↦ and_left (has r.rest x) (not (r.into x == x)) (in_rest turn x ∙ n) ∙ sym
+        (and_left (has R x) (not (represents aggressive t r.c L x == x)) n)
   ]
 
   leaves_is : (x : ℕ) → (has r.front x && keeps_none r.kept.elements r.kept.variables x) ≡ leaves x
   leaves_is x = elim (cases_Bool (has L x)) [
     | inl y ↦ ap (λ b. b && keeps_none r.kept.elements r.kept.variables x) (in_front turn x) ∙ ap (λ b. has L x && b) (none_kept turn x y)
-    | inr n ↦ and_left (has r.front x) (keeps_none r.kept.elements r.kept.variables x) (in_front turn x ∙ n) ∙ sym (and_left (has L x) (done aggressive t r.c L x) n)
+    | inr n ↦ and_left (has r.front x) (keeps_none r.kept.elements r.kept.variables x) (in_front turn x ∙ n) ∙ sym
+        (and_left (has L x) (done aggressive t r.c L x) n)
   ]
 
   -- the new link of a row: to its representative, to the pivot, or the old one
@@ -78,14 +87,18 @@ module _ {g : Graph} {dense : ℕ → Bool} {aggressive : Bool} {w v : View} {t 
         (r.link_is x ∙ cond-true (has r.rest x && not (r.into x == x)) _ _ (merges_is x ∙ y) ∙ ap (λ n. Some n) (f.into_is x p.0)))
     | inr n ↦ elim (cases_Bool (leaves x)) [
       | inl y ↦ (let p = and_parts (has L x) (done aggressive t r.c L x) y in
-          left_out p.0 p.1 (r.link_is x ∙ cond-false (has r.rest x && not (r.into x == x)) _ _ (merges_is x ∙ n) ∙ cond-true (has r.front x && keeps_none r.kept.elements r.kept.variables x) _ _ (leaves_is x ∙ y)))
+          left_out p.0 p.1 (r.link_is x ∙ cond-false (has r.rest x && not (r.into x == x)) _ _ (merges_is x ∙ n) ∙ cond-true
+              (has r.front x && keeps_none r.kept.elements r.kept.variables x) _ _ (leaves_is x ∙ y)))
       | inr k ↦ as_before
           (λ h. elim (cases_eq (represents aggressive t r.c L x) x) [
             | inl q ↦ q
-            | inr ne ↦ clash (and_from (has R x) (not (represents aggressive t r.c L x == x)) h (not_from_false (represents aggressive t r.c L x == x) (ne_eqb (represents aggressive t r.c L x) x ne))) n
+            | inr ne ↦ clash (and_from (has R x) (not (represents aggressive t r.c L x == x)) h
+                (not_from_false (represents aggressive t r.c L x == x) (ne_eqb (represents aggressive t r.c L x) x ne))) n
           ])
-          (λ h. in_left turn x h (elim (cases_Bool (done aggressive t r.c L x)) [ inr m ↦ m | inl m ↦ clash (and_from (has L x) (done aggressive t r.c L x) h m) k ]))
-          (r.link_is x ∙ cond-false (has r.rest x && not (r.into x == x)) _ _ (merges_is x ∙ n) ∙ cond-false (has r.front x && keeps_none r.kept.elements r.kept.variables x) _ _ (leaves_is x ∙ k))
+          (λ h. in_left turn x h (elim (cases_Bool (done aggressive t r.c L x))
+              [ inr m ↦ m | inl m ↦ clash (and_from (has L x) (done aggressive t r.c L x) h m) k ]))
+          (r.link_is x ∙ cond-false (has r.rest x && not (r.into x == x)) _ _ (merges_is x ∙ n) ∙ cond-false
+              (has r.front x && keeps_none r.kept.elements r.kept.variables x) _ _ (leaves_is x ∙ k))
     ]
   ]
 
@@ -94,7 +107,8 @@ module _ {g : Graph} {dense : ℕ → Bool} {aggressive : Bool} {w v : View} {t 
 
   linked_kept : (x u : ℕ) → v.link x ≡ Some u → new_lists.home x ≡ new_lists.home u
   linked_kept x u e = elim (new_link x) [
-    | merged h ne q ↦ (let same = some_same (sym q ∙ e) in rest_home turn x h ∙ sym (made_home turn (represents aggressive t r.c L x) (f.one_made x h)) ∙ ap new_lists.home same)
+    | merged h ne q ↦ (let same = some_same (sym q ∙ e) in rest_home turn x h ∙ sym
+        (made_home turn (represents aggressive t r.c L x) (f.one_made x h)) ∙ ap new_lists.home same)
     | left_out h k q ↦ done_home turn x h k ∙ sym (pivot_home turn) ∙ ap new_lists.home (some_same (sym q ∙ e))
     | as_before a b q ↦ new_home_is turn x ∙ ap (moved turn) (st.keeps.links.linked x u (sym q ∙ e)) ∙ sym (new_home_is turn u)
   ]
@@ -124,7 +138,8 @@ module _ {g : Graph} {dense : ℕ → Bool} {aggressive : Bool} {w v : View} {t 
     ])
     | left_out k d q ↦ absurd (elim h [
       | inl y ↦ (let e : Gone r.c ≡ Live x = sym (done_home turn x k d) ∙ y in cc)
-      | inr y ↦ (let e : Gone r.c ≡ Gone x = sym (done_home turn x k d) ∙ y in let same : r.c ≡ x = cc in clash k (sym (ap (has L) same) ∙ not_pivot turn))
+      | inr y ↦ (let e : Gone r.c ≡ Gone x = sym (done_home turn x k d) ∙ y in let same : r.c ≡ x = cc in
+          clash k (sym (ap (has L) same) ∙ not_pivot turn))
     ])
     | as_before a b q ↦ q ∙ st.keeps.links.free x (elim h [ inl y ↦ inl (was_live turn x y) | inr y ↦ was_gone turn x y ])
   ]
@@ -168,15 +183,20 @@ module _ {g : Graph} {dense : ℕ → Bool} {aggressive : Bool} {w v : View} {t 
 
   linked_small : (x u : ℕ) → v.link x ≡ Some u → u < g.size
   linked_small x u e = elim (new_link x) [
-    | merged h ne q ↦ subst (λ n. n < g.size) (some_same (sym q ∙ e)) (row_small turn (represents aggressive t r.c L x) (front_placed turn (represents aggressive t r.c L x) (made_front turn (represents aggressive t r.c L x) (f.one_made x h))))
+    | merged h ne q ↦ subst (λ n. n < g.size) (some_same (sym q ∙ e))
+        (row_small turn (represents aggressive t r.c L x) (front_placed turn (represents aggressive t r.c L x)
+        (made_front turn (represents aggressive t r.c L x) (f.one_made x h))))
     | left_out h k q ↦ subst (λ n. n < g.size) (some_same (sym q ∙ e)) (row_small turn r.c f.placed)
     | as_before a b q ↦ (let k = (st.keeps.links.end.rise x u (sym q ∙ e)).1 in let n = st.rows in omega (arith, k, n))
   ]
 
   rank_rises : (x u : ℕ) → v.link x ≡ Some u → new_rank x < new_rank u
   rank_rises x u e = let a = rank_linked x u e in let o = old_small x in elim (new_link x) [
-    | merged h ne q ↦ (let same = some_same (sym q ∙ e) in let k = rank_free u (free_kept u (inl (subst (λ n. new_lists.home n ≡ Live n) same (made_home turn (represents aggressive t r.c L x) (f.one_made x h))))) in omega (arith, a, o, k))
-    | left_out h d q ↦ (let same = some_same (sym q ∙ e) in let k = rank_free u (free_kept u (inr (subst (λ n. new_lists.home n ≡ Gone n) same (pivot_home turn)))) in omega (arith, a, o, k))
+    | merged h ne q ↦ (let same = some_same (sym q ∙ e) in let k =
+        rank_free u (free_kept u (inl (subst (λ n. new_lists.home n ≡ Live n) same
+        (made_home turn (represents aggressive t r.c L x) (f.one_made x h))))) in omega (arith, a, o, k))
+    | left_out h d q ↦ (let same = some_same (sym q ∙ e) in let k =
+        rank_free u (free_kept u (inr (subst (λ n. new_lists.home n ≡ Gone n) same (pivot_home turn)))) in omega (arith, a, o, k))
     | as_before m b q ↦ (let k = (st.keeps.links.end.rise x u (sym q ∙ e)).0 in let l = rank_least u in omega (arith, a, k, l))
   ]
 

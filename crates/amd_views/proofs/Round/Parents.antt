@@ -1,14 +1,17 @@
 -- After a round the parents of elements are those of the rules.
-use Rattle.std.proofs.Common.{ℕ, suc, Bool, true, false, Option, None, Some, List, [], ◌∷◌, ◌≡◌, ◌≢◌, ◌≤◌, ◌<◌, ◌+◌, ◌-◌, ◌∙◌, ◌&&◌, ◌||◌, not, min, cond, ap, sym, refl, subst, inl, inr, arith}
+use Rattle.std.proofs.Common.{ℕ, suc, Bool, true, false, Option, None, Some, List, [], ◌∷◌, ◌≡◌, ◌≢◌, ◌≤◌, ◌<◌, ◌+◌, ◌-◌, ◌∙◌, ◌&&◌, ◌||◌}
+use Rattle.std.proofs.Common.{not, min, cond, ap, sym, refl, subst, inl, inr, arith}
 use Rattle.std.specs.Prelude.{filter, sum_by, nat_lt, is_none, ◌==◌, ◌⊎◌, ◌^◌}
 use Rattle.std.proofs.Math.Bool.{and-false, and-true}
-use Rattle.std.proofs.lemmas.Bool.{cases_Bool, cases_eq, cond-true, cond-false, or_left, or_right, or_from, or_parts, or_cases, and_from, and_parts, and_left, eqb-true, eq-eqb, ne_eqb, lt-ltb, le-ltb, not-true, not_from_false}
+use Rattle.std.proofs.lemmas.Bool.{cases_Bool, cases_eq, cond-true, cond-false, or_left, or_right, or_from, or_parts, or_cases, and_from}
+use Rattle.std.proofs.lemmas.Bool.{and_parts, and_left, eqb-true, eq-eqb, ne_eqb, lt-ltb, le-ltb, not-true, not_from_false}
 use Rattle.amd_model.specs.Graph.{Graph}
 use Rattle.amd_model.specs.Figures.{cut}
 use Rattle.amd_model.specs.State.{State, Home, Last, Live, Gone, is_class, front, holds, stands, inside}
 use Rattle.amd_model.specs.Step.{StepAt, absorbed}
 use Rattle.amd_model.specs.Sound.{IsSound}
-use Rattle.amd_model.specs.Tie.{Tie, Fits, has, is_empty, turned, pivot, gathered, takes, kept_elements, kept_variables, done, rest, represents, made, ends, new_size, far, left, next_bound, new_home, round, next}
+use Rattle.amd_model.specs.Tie.{Tie, Fits, has, is_empty, turned, pivot, gathered, takes, kept_elements, kept_variables, done, rest}
+use Rattle.amd_model.specs.Tie.{represents, made, ends, new_size, far, left, next_bound, new_home, round, next}
 use Rattle.amd_model.proofs.StateLemmas.{class_gives, class_from, live_from, neighbours_gives, holds_gives, stands_gives}
 use Rattle.amd_model.proofs.Sound.{live_small}
 use Rattle.amd_model.proofs.SoundStep.{step_sound}
@@ -21,13 +24,15 @@ use Rattle.amd_views.specs.Rounds.{keeps_none, IsApart}
 use Rattle.amd_views.specs.Keeps.{LinksLead, Stands}
 use Rattle.amd_views.specs.Views.{View}
 use Rattle.amd_model.proofs.StepFronts.{placed_small}
-use Rattle.amd_views.proofs.Round.Fronts.{border_is as border_rows, live_left as live_after, live_less, live_is as live_sum, joined as joined_after, no_parent as no_parent_after, fronts_kept}
+use Rattle.amd_views.proofs.Round.Fronts.{border_is as border_rows, live_left as live_after, live_less, live_is as live_sum}
+use Rattle.amd_views.proofs.Round.Fronts.{joined as joined_after, no_parent as no_parent_after, fronts_kept}
 use Rattle.amd_views.proofs.Lists.Named.{filter_named, sum_named, filter_all, filter_both, not_empty}
 use Rattle.amd_views.proofs.Rounding.{Rounding}
 use Rattle.amd_views.proofs.Fronts.Gathered.{gathered_other, placed_rows}
 use Rattle.amd_views.proofs.Round.Turn.{Found, Turn, class_of, lists_after, pivot_is_class, pivot_is_least}
 
-module _ {g : Graph} {dense : ℕ → Bool} {aggressive : Bool} {w v : View} {t : Tie} {s : State} (turn : Turn g dense aggressive w v t s) where
+module _ {g : Graph} {dense : ℕ → Bool} {aggressive : Bool} {w v : View} {t : Tie} {s : State} (turn : Turn g dense aggressive w v t s)
+    where
   abbrev st : Stands g dense w t s
   st = turn.before
 
@@ -57,9 +62,11 @@ module _ {g : Graph} {dense : ℕ → Bool} {aggressive : Bool} {w v : View} {t 
   unfolding absorbed
   no_takes = elim (cases_Bool (takes aggressive t r.c L r.c)) [
     | inr n ↦ n
-    | inl y ↦ absurd (let h : absorbed g aggressive s r.c r.c ≡ true = sym (taken_is r.c) ∙ y in elim (or_cases (holds g s r.c r.c) (aggressive && stands g s r.c && inside g (s.border r.c) (front g s r.c)) h) [
+    | inl y ↦ absurd (let h : absorbed g aggressive s r.c r.c ≡ true = sym (taken_is r.c) ∙ y in
+        elim (or_cases (holds g s r.c r.c) (aggressive && stands g s r.c && inside g (s.border r.c) (front g s r.c)) h) [
       | inl k ↦ no_stand (holds_gives g s r.c r.c k).standing
-      | inr k ↦ no_stand (and_parts aggressive (stands g s r.c) (and_parts (aggressive && stands g s r.c) (inside g (s.border r.c) (front g s r.c)) k).0).1
+      | inr k ↦ no_stand (and_parts aggressive (stands g s r.c) (and_parts (aggressive && stands g s r.c)
+          (inside g (s.border r.c) (front g s r.c)) k).0).1
     ])
   ]
     where

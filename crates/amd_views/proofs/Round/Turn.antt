@@ -1,14 +1,17 @@
 -- A round of an engine: what it found, in the words of the rules, and the lists and the state that the rules give next.
-use Rattle.std.proofs.Common.{ℕ, suc, Bool, true, false, Option, None, Some, List, [], ◌∷◌, ◌≡◌, ◌≢◌, ◌≤◌, ◌<◌, ◌+◌, ◌-◌, ◌∙◌, ◌&&◌, ◌||◌, not, min, cond, ap, sym, refl, subst, inl, inr, arith}
+use Rattle.std.proofs.Common.{ℕ, suc, Bool, true, false, Option, None, Some, List, [], ◌∷◌, ◌≡◌, ◌≢◌, ◌≤◌, ◌<◌, ◌+◌, ◌-◌, ◌∙◌, ◌&&◌, ◌||◌}
+use Rattle.std.proofs.Common.{not, min, cond, ap, sym, refl, subst, inl, inr, arith}
 use Rattle.std.specs.Prelude.{filter, sum_by, nat_lt, is_none, ◌==◌, ◌⊎◌, ◌^◌}
 use Rattle.std.proofs.Math.Bool.{and-false, and-true}
-use Rattle.std.proofs.lemmas.Bool.{cases_Bool, cases_eq, cond-true, cond-false, or_left, or_right, or_from, or_parts, or_cases, and_from, and_parts, and_left, eqb-true, eq-eqb, ne_eqb, lt-ltb, le-ltb, not-true, not_from_false}
+use Rattle.std.proofs.lemmas.Bool.{cases_Bool, cases_eq, cond-true, cond-false, or_left, or_right, or_from, or_parts, or_cases, and_from}
+use Rattle.std.proofs.lemmas.Bool.{and_parts, and_left, eqb-true, eq-eqb, ne_eqb, lt-ltb, le-ltb, not-true, not_from_false}
 use Rattle.amd_model.specs.Graph.{Graph}
 use Rattle.amd_model.specs.Figures.{cut}
 use Rattle.amd_model.specs.State.{State, Home, Last, Live, Gone, is_class, front, holds, stands, inside}
 use Rattle.amd_model.specs.Step.{StepAt, absorbed}
 use Rattle.amd_model.specs.Sound.{IsSound}
-use Rattle.amd_model.specs.Tie.{Tie, Fits, has, is_empty, turned, pivot, gathered, takes, kept_elements, kept_variables, done, rest, represents, made, ends, new_size, far, left, next_bound, new_home, round, next}
+use Rattle.amd_model.specs.Tie.{Tie, Fits, has, is_empty, turned, pivot, gathered, takes, kept_elements, kept_variables, done, rest}
+use Rattle.amd_model.specs.Tie.{represents, made, ends, new_size, far, left, next_bound, new_home, round, next}
 use Rattle.amd_model.proofs.StateLemmas.{class_gives, class_from, live_from, neighbours_gives, holds_gives, stands_gives}
 use Rattle.amd_model.proofs.Sound.{live_small}
 use Rattle.amd_model.proofs.SoundStep.{step_sound}
@@ -21,7 +24,8 @@ use Rattle.amd_views.specs.Rounds.{keeps_none, IsApart}
 use Rattle.amd_views.specs.Keeps.{LinksLead, Stands}
 use Rattle.amd_views.specs.Views.{View}
 use Rattle.amd_model.proofs.StepFronts.{placed_small}
-use Rattle.amd_views.proofs.Round.Fronts.{border_is as border_rows, live_left as live_after, live_less, live_is as live_sum, joined as joined_after, no_parent as no_parent_after, fronts_kept}
+use Rattle.amd_views.proofs.Round.Fronts.{border_is as border_rows, live_left as live_after, live_less, live_is as live_sum}
+use Rattle.amd_views.proofs.Round.Fronts.{joined as joined_after, no_parent as no_parent_after, fronts_kept}
 use Rattle.amd_views.proofs.Lists.Named.{filter_named, sum_named, filter_all, filter_both, not_empty}
 use Rattle.amd_views.proofs.Rounding.{Rounding}
 use Rattle.amd_views.proofs.Fronts.Gathered.{gathered_other, placed_rows}
@@ -42,7 +46,8 @@ pub record Found (aggressive : Bool) (w v : View) (t : Tie) (r : Rounding aggres
   pub rest_is : r.rest ≡ rest aggressive t r.c (gathered t r.c)
   pub into_is : (i : ℕ) → has (rest aggressive t r.c (gathered t r.c)) i ≡ true → r.into i ≡ represents aggressive t r.c (gathered t r.c) i
   pub made_is : r.made ≡ made aggressive t r.c (gathered t r.c)
-  pub one_made : (i : ℕ) → has (rest aggressive t r.c (gathered t r.c)) i ≡ true → has (made aggressive t r.c (gathered t r.c)) (represents aggressive t r.c (gathered t r.c) i) ≡ true
+  pub one_made : (i : ℕ) → has (rest aggressive t r.c (gathered t r.c)) i ≡ true →
+      has (made aggressive t r.c (gathered t r.c)) (represents aggressive t r.c (gathered t r.c) i) ≡ true
 
 -- a round: the record before stands for lists and a state, and what was found and written is what the rules say
 pub record Turn (g : Graph) (dense : ℕ → Bool) (aggressive : Bool) (w v : View) (t : Tie) (s : State) : Type 0 where
@@ -50,7 +55,8 @@ pub record Turn (g : Graph) (dense : ℕ → Bool) (aggressive : Bool) (w v : Vi
   pub wrote : Rounding aggressive w v
   pub found : Found aggressive w v t wrote
 
-module _ {g : Graph} {dense : ℕ → Bool} {aggressive : Bool} {w v : View} {t : Tie} {s : State} (turn : Turn g dense aggressive w v t s) where
+module _ {g : Graph} {dense : ℕ → Bool} {aggressive : Bool} {w v : View} {t : Tie} {s : State} (turn : Turn g dense aggressive w v t s)
+    where
   abbrev st : Stands g dense w t s
   st = turn.before
 
@@ -80,7 +86,8 @@ module _ {g : Graph} {dense : ℕ → Bool} {aggressive : Bool} {w v : View} {t 
 
   abbrev pub pivot_is_least : (d : ℕ) → is_class s d ≡ true → s.bound r.c ≤ s.bound d
   pivot_is_least d k = let l = f.least d (st.fits.placed d ∙ k) in
-      let a = st.fits.bound r.c (class_gives r.c (s.home r.c) pivot_is_class) in let b = st.fits.bound d (class_gives d (s.home d) k) in omega (arith, l, a, b)
+      let a = st.fits.bound r.c (class_gives r.c (s.home r.c) pivot_is_class) in let b = st.fits.bound d (class_gives d (s.home d) k) in
+          omega (arith, l, a, b)
 
   abbrev pub state_after : State
   state_after = after g st.graph aggressive t s st.sound st.fits r.c pivot_is_class pivot_is_least
@@ -118,7 +125,8 @@ module _ {g : Graph} {dense : ℕ → Bool} {aggressive : Bool} {w v : View} {t 
 
   pub made_rest : (i : ℕ) → has M i ≡ true → (has R i ≡ true) × (represents aggressive t r.c L i ≡ i)
   unfolding made
-  made_rest i h = let p = filter_gives (λ i. represents aggressive t r.c L i == i) R i h in (p.0, eqb-true (represents aggressive t r.c L i) i p.1)
+  made_rest i h = let p = filter_gives (λ i. represents aggressive t r.c L i == i) R i h in
+      (p.0, eqb-true (represents aggressive t r.c L i) i p.1)
 
   pub rest_made : (i : ℕ) → has R i ≡ true → represents aggressive t r.c L i ≡ i → has M i ≡ true
   unfolding made
@@ -127,7 +135,8 @@ module _ {g : Graph} {dense : ℕ → Bool} {aggressive : Bool} {w v : View} {t 
   -- what becomes of a class
   pub none_kept : (i : ℕ) → has L i ≡ true → keeps_none r.kept.elements r.kept.variables i ≡ done aggressive t r.c L i
   unfolding done
-  none_kept i h = ap (λ l. is_empty l && is_empty (r.kept.variables i)) (f.elements i h) ∙ ap (λ l. is_empty (kept_elements aggressive t r.c L i) && is_empty l) (f.variables i h)
+  none_kept i h = ap (λ l. is_empty l && is_empty (r.kept.variables i)) (f.elements i h) ∙ ap
+      (λ l. is_empty (kept_elements aggressive t r.c L i) && is_empty l) (f.variables i h)
 
   pub in_front : (i : ℕ) → has r.front i ≡ has L i
   in_front i = ap (λ l. has l i) f.front_is
