@@ -67,7 +67,7 @@ module _ (g : Graph) (s : State) (t : Tie) (fits : Fits g t s) (w : View) (kept 
       let direct : List ℕ = live_of w.size (w.lists.variables c) in
       ap (λ es. firsts skip (flat_map lists es ++ direct)) (kept.elements c class)
       ∙ ap (λ l. firsts skip (l ++ direct)) (flat_same lists t.members (t.elements c)
-          (λ e h. kept.members e (some_members e c (element_member c e class h))))
+      (λ e h. kept.members e (some_members e c (element_member c e class h))))
       ∙ ap (λ l. firsts skip (flat_map t.members (t.elements c) ++ l)) (kept.variables c class)
 
   front_placed : (i : ℕ) → has (gathered t c) i ≡ true → has t.placed i ≡ true
@@ -78,14 +78,14 @@ module _ (g : Graph) (s : State) (t : Tie) (fits : Fits g t s) (w : View) (kept 
   member_rows e i h =
       let members : List ℕ = w.members e in let size : (ℕ → ℕ) = w.size in
       let some = ltb-true 0 (size i) (filter_gives (λ j. nat_lt 0 (size j)) members i
-          (ap (λ l. has l i) (kept.members e (some_members e i h)) ∙ h)).1 in
+      (ap (λ l. has l i) (kept.members e (some_members e i h)) ∙ h)).1 in
       let same = kept.size i (member_class e i h) in omega (arith, some, same)
 
   -- ---- after an absorption
   module _ (aggressive : Bool) (new : ClassLists) (before after : ℕ → Option ℕ) (beyond : ℕ → ℕ)
       (a : Absorbed aggressive c (gathered t c) w.size w.block w.front w.lists new before after beyond)
       (laws : IsGraph g) (sound : IsSound g s) (borders : (e : ℕ) → stands g s e ≡ true →
-          w.front e - w.block e ≡ count_below g.size (s.border e)) where
+      w.front e - w.block e ≡ count_below g.size (s.border e)) where
     own_is : (e : ℕ) → has (w.lists.elements c) e ≡ has (t.elements c) e
     own_is e = ap (λ l. has l e) (kept.elements c class)
 
@@ -106,7 +106,7 @@ module _ (g : Graph) (s : State) (t : Tie) (fits : Fits g t s) (w : View) (kept 
     touched_gives : (e : ℕ) → has a.touched e ≡ true → (i : ℕ) × (has (gathered t c) i ≡ true) × (has (t.elements i) e ≡ true)
     touched_gives e h =
         let from = flat_gives (w.lists.elements) (gathered t c) e
-            (firsts_gives (has (w.lists.elements c)) (flat_map (w.lists.elements) (gathered t c)) a.touched a.touched_is e h).0 in
+        (firsts_gives (has (w.lists.elements c)) (flat_map (w.lists.elements) (gathered t c)) a.touched a.touched_is e h).0 in
         (from.0, from.1, sym (ap (λ l. has l e) (kept.elements from.0 (front_placed from.0 from.1))) ∙ from.2)
 
     -- the rows counted of an element that is touched
@@ -114,15 +114,15 @@ module _ (g : Graph) (s : State) (t : Tie) (fits : Fits g t s) (w : View) (kept 
     counted_far e h =
         let i = touched_gives e h in
         let st : stands g s e ≡ true = (holds_gives g s e i.0 (sym (fits.elements i.0 e (home i.0 (front_placed i.0 i.1))) ∙
-            i.2)).standing in
+        i.2)).standing in
         let off = taken_off e (w.size) (w.lists.elements) (w.front e - w.block e) (gathered t c)
         (λ j k. let p = front_placed j k in subst Once (sym (kept.elements j p)) (fits.elements_once j (home j p))) in
         let same = sum_named (λ j. cond (has (w.lists.elements j) e) (w.size j) 0) (λ j. cond (has (t.elements j) e) (t.size j) 0)
-            (gathered t c)
+        (gathered t c)
         (λ j k. let p = front_placed j k in ap (λ l. cond (has l e) (w.size j) 0) (kept.elements j p) ∙ ap
-            (λ m. cond (has (t.elements j) e) m 0) (kept.size j p)) in
+        (λ m. cond (has (t.elements j) e) m 0) (kept.size j p)) in
         let border = borders e st in let parts = border_parts g laws t s sound fits e st (gathered t c) (gathered_once t c)
-            (gathered_live g s t fits c class) in let is = a.counted e h in
+        (gathered_live g s t fits c class) in let is = a.counted e h in
         omega (arith, is, off, same, border, parts)
 
     -- what is absorbed is what the rules say
@@ -130,7 +130,7 @@ module _ (g : Graph) (s : State) (t : Tie) (fits : Fits g t s) (w : View) (kept 
     unfolding takes
     taken_takes e =
         let whole : Bool = aggressive && nat_eq (beyond e) 0 in let inner : Bool = aggressive && not (is_empty (t.members e))
-            && each (has (gathered t c)) (t.members e) in
+        && each (has (gathered t c)) (t.members e) in
         a.taken_is e ∙ ap (λ b. b || (has a.touched e && whole)) (own_is e) ∙ elim (cases_Bool (has (t.elements c) e)) [
           | inl own ↦ or_left (has (t.elements c) e) (has a.touched e && whole) own ∙ sym (or_left (has (t.elements c) e) inner own)
           | inr apart ↦ ap (λ b. has (t.elements c) e || b) (same_bool (has a.touched e && whole) inner
@@ -141,10 +141,10 @@ module _ (g : Graph) (s : State) (t : Tie) (fits : Fits g t s) (w : View) (kept 
               (and_from aggressive (not (is_empty (t.members e))) q.0 (not_from_false (is_empty (t.members e)) some))
               (none_each t.size (has (gathered t c)) (t.members e) (member_rows e) none))
               (λ h. let p = and_parts (aggressive && not (is_empty (t.members e))) (each (has (gathered t c)) (t.members e)) h in let q =
-                  and_parts aggressive (not (is_empty (t.members e))) p.0 in
+              and_parts aggressive (not (is_empty (t.members e))) p.0 in
               let some = not-true (is_empty (t.members e)) q.1 in let m = some_of (t.members e) some in
               let touched = touched_from m.0 e (each_gives (has (gathered t c)) (t.members e) p.1 m.0 m.1) (member_element e m.0 m.1)
-                  apart in
+              apart in
               and_from (has a.touched e) whole touched (and_from aggressive (nat_eq (beyond e) 0) q.0
               (eq-eqb (beyond e) 0 (counted_far e touched ∙ each_none t.size (has (gathered t c)) (t.members e) p.1)))))
         ]
@@ -154,7 +154,7 @@ module _ (g : Graph) (s : State) (t : Tie) (fits : Fits g t s) (w : View) (kept 
     unfolding kept_elements
     elements_kept i l = a.elements i l
         ∙ filter_named (λ e. not (a.taken e)) (λ e. not (takes aggressive t c (gathered t c) e)) (w.lists.elements i)
-            (λ e h. ap not (taken_takes e))
+        (λ e h. ap not (taken_takes e))
         ∙ ap (filter (λ e. not (takes aggressive t c (gathered t c) e))) (kept.elements i (front_placed i l))
 
     pub variables_kept : (i : ℕ) → has (gathered t c) i ≡ true → new.variables i ≡ kept_variables aggressive t c (gathered t c) i

@@ -109,7 +109,7 @@ not_met [] k d l once = absurd (omega (arith, l))
 not_met (y ∷ xs) zero d l once = refl
 not_met (y ∷ xs) (suc k) d l once = let small : k < length xs = omega (arith, l) in let z : ℕ = get_or xs k d in
     or_from (y == z) (has (take k xs) z) (ne_eqb y z (λ q. clash (ap (has xs) q ∙ has_at xs k d small) once.0))
-        (not_met xs k d small once.1)
+    (not_met xs k d small once.1)
 
 -- ---- lists of numbers below n
 

@@ -51,7 +51,7 @@ module _ (g : Graph) (laws : IsGraph g) (s : State) (sound : IsSound g s) (t : T
     unfolding rest done
     rest_of = filter_named (λ i. not (keeps_none elements variables i)) (λ i. not (done aggressive t c (gathered t c) i)) (gathered t c)
         (λ i h. ap (λ xs. not (is_empty xs && is_empty (variables i))) (es i h) ∙ ap
-            (λ xs. not (is_empty (kept_elements aggressive t c (gathered t c) i) && is_empty xs)) (vs i h))
+        (λ xs. not (is_empty (kept_elements aggressive t c (gathered t c) i) && is_empty xs)) (vs i h))
 
     pub alike_is : (i j : ℕ) → has (rest aggressive t c (gathered t c)) i ≡ true → has (rest aggressive t c (gathered t c)) j ≡ true →
         alike_in elements variables i j ≡ alike aggressive t c (gathered t c) i j
@@ -61,7 +61,7 @@ module _ (g : Graph) (laws : IsGraph g) (s : State) (sound : IsSound g s) (t : T
       where
         same_tests : (ei ej vi vj ei' ej' vi' vj' : List ℕ) → ei ≡ ei' → ej ≡ ej' → vi ≡ vi' → vj ≡ vj' →
             (each (has ei) ej && each (has ej) ei && each (has vi) vj && each (has vj) vi)
-                ≡ (each (has ei') ej' && each (has ej') ei' && each (has vi') vj' && each (has vj') vi')
+            ≡ (each (has ei') ej' && each (has ej') ei' && each (has vi') vj' && each (has vj') vi')
         same_tests ei ej vi vj ei' ej' vi' vj' p q r w = ap (λ x. each (has x) ej && each (has ej) x && each (has vi) vj
             && each (has vj) vi) p
             ∙ ap (λ x. each (has ei') x && each (has x) ei' && each (has vi) vj && each (has vj) vi) q
@@ -78,17 +78,19 @@ module _ (g : Graph) (laws : IsGraph g) (s : State) (sound : IsSound g s) (t : T
         has (rest aggressive t c (gathered t c)) (represents aggressive t c (gathered t c) i) ≡ true
     represents_in i h = ap (has (rest aggressive t c (gathered t c))) (sym (represents_is i h))
         ∙ rep_in (alike_in elements variables) (alike_self elements variables) (alike_flip elements variables)
-            (alike_through elements variables) (rest aggressive t c (gathered t c)) i h
+        (alike_through elements variables) (rest aggressive t c (gathered t c)) i h
 
     pub represents_itself : (i : ℕ) → has (rest aggressive t c (gathered t c)) i ≡ true →
         represents aggressive t c (gathered t c) (represents aggressive t c (gathered t c) i) ≡ represents aggressive t c (gathered t c) i
     represents_itself i h = let e = represents_is i h in
         sym (represents_is (represents aggressive t c (gathered t c) i) (represents_in i h)) ∙ ap
-            (λ x. last_that (alike_in elements variables x) x (rest aggressive t c (gathered t c))) (sym e)
+        (λ x. last_that (alike_in elements variables x) x (rest aggressive t c (gathered t c))) (sym e)
         ∙ rep_rep (alike_in elements variables) (alike_self elements variables) (alike_flip elements variables)
-            (alike_through elements variables) (rest aggressive t c (gathered t c)) i h ∙ e
+        (alike_through elements variables) (rest aggressive t c (gathered t c)) i h ∙ e
 
     -- these lists name each number once
     pub lists_once : (i : ℕ) → has (rest aggressive t c (gathered t c)) i ≡ true → Once (elements i) × Once (variables i)
-    lists_once i h = let f = rest_in_front i h in (subst Once (sym (es i f)) (elements_once i f),
-        subst Once (sym (vs i f)) (variables_once i f))
+    lists_once i h = let f = rest_in_front i h in (
+      subst Once (sym (es i f)) (elements_once i f),
+      subst Once (sym (vs i f)) (variables_once i f),
+    )

@@ -51,7 +51,7 @@ module _ (elements variables : ℕ → List ℕ) where
       alike_in elements variables i k ≡ true
   alike_through i j k h m = let p = alike_gives i j h in let q = alike_gives j k m in
       alike_from i k (each_through (elements i) (elements j) (elements k) p.0 q.0)
-          (each_through (elements k) (elements j) (elements i) q.1 p.1)
+      (each_through (elements k) (elements j) (elements i) q.1 p.1)
       (each_through (variables i) (variables j) (variables k) p.2 q.2) (each_through (variables k) (variables j) (variables i) q.3 p.3)
 
 -- ---- the last one alike
@@ -111,7 +111,7 @@ module _ (alike : ℕ → ℕ → Bool) (self : (x : ℕ) → alike x x ≡ true
   rep_behind k x h =
       let back : List ℕ = drop k rest in
       let e : rep x ≡ last_that (alike x) x back = parted k x ∙ last_same' (alike x) (alike x) (last_that (alike x) x (take k rest)) x
-          back (λ z m. refl) (inr (x, h, self x)) in
+      back (λ z m. refl) (inr (x, h, self x)) in
       ap (has back) e ∙ elim (last_named (alike x) x back) [ inl q ↦ ap (has back) q ∙ h | inr q ↦ q ]
 
   module _ (once : Once rest) (k : ℕ) (within : k < length rest) where
@@ -140,7 +140,7 @@ module _ (alike : ℕ → ℕ → Bool) (self : (x : ℕ) → alike x x ≡ true
     rep_alone : ((x : ℕ) → has (drop (k + 1) rest) x ≡ true → alike (get_or rest k 0) x ≡ false) → rep (get_or rest k 0) ≡ get_or rest k 0
     rep_alone f = let y : ℕ = get_or rest k 0 in let d : ℕ = last_that (alike y) y (take k rest) in
         parted k y ∙ ap (last_that (alike y) d) next_is ∙ last_first (alike y) d y (drop (k + 1) rest) (self y) ∙ last_none (alike y) y
-            (drop (k + 1) rest) f
+        (drop (k + 1) rest) f
 
   -- ---- the groups
 
@@ -159,7 +159,7 @@ module _ (alike : ℕ → ℕ → Bool) (self : (x : ℕ) → alike x x ≡ true
   module _ (once : Once rest) (group : ℕ → ℕ) (grouped : (x y : ℕ) → has rest x ≡ true → has rest y ≡ true → alike x y ≡ true →
       group x ≡ group y) (k : ℕ) (within : k < length rest)
       (into after : ℕ → ℕ) (before groups : ℕ → List ℕ) (so : Found group (k + 1) into before)
-          (others : (x : ℕ) → x ≢ get_or rest k 0 → after x ≡ into x) where
+      (others : (x : ℕ) → x ≢ get_or rest k 0 → after x ≡ into x) where
     member : (b x : ℕ) → has (before b) x ≡ true → (has (drop (k + 1) rest) x ≡ true) × (rep x ≡ x) × (group x ≡ b)
     member b x h = let p = and_parts (has (drop (k + 1) rest) x && rep x == x) (group x == b) (sym (so.groups b x) ∙ h) in
         let q = and_parts (has (drop (k + 1) rest) x) (rep x == x) p.0 in (q.0, eqb-true (rep x) x q.1, eqb-true (group x) b p.1)
@@ -191,7 +191,7 @@ module _ (alike : ℕ → ℕ → Bool) (self : (x : ℕ) → alike x x ≡ true
             | inr other ↦ stays b x other
             | inl e ↦ ap (has (before b)) e ∙ absent b ∙ sym (ap (λ z. has (drop k rest) z && rep z == z && group z == b) e
                 ∙ and_left (has (drop k rest) y && rep y == y) (group y == b)
-                    (and_right (has (drop k rest) y) (rep y == y) (ne_eqb (rep y) y ne)))
+                (and_right (has (drop k rest) y) (rep y == y) (ne_eqb (rep y) y ne)))
           ];
         }
 
@@ -199,7 +199,7 @@ module _ (alike : ℕ → ℕ → Bool) (self : (x : ℕ) → alike x x ≡ true
     pub found_new : ((x : ℕ) → has (before (group (get_or rest k 0))) x ≡ true → alike (get_or rest k 0) x ≡ false) →
         after (get_or rest k 0) ≡ get_or rest k 0 →
         ((b : ℕ) → groups b ≡ cond (b == group (get_or rest k 0)) (before b ++ get_or rest k 0 ∷ []) (before b)) →
-            Found group k after groups
+        Found group k after groups
     unfolding has
     found_new f own more =
         let y : ℕ = get_or rest k 0 in
@@ -209,10 +209,10 @@ module _ (alike : ℕ → ℕ → Bool) (self : (x : ℕ) → alike x x ≡ true
           | inl t ↦ (let in_rest = behind_in rest (k + 1) x h in
               let r_back = rep_behind (k + 1) x h in
               let r_group : group (rep x) ≡ group y = sym (grouped x (rep x) in_rest (rep_in x in_rest) (rep_alike x)) ∙ sym
-                  (grouped y x (here_in once k within) in_rest t) in
+              (grouped y x (here_in once k within) in_rest t) in
               let listed = so.groups (group y) (rep x) ∙ and_from (has back (rep x) && rep (rep x) == rep x) (group (rep x) == group y)
               (and_from (has back (rep x)) (rep (rep x) == rep x) r_back (eq-eqb (rep (rep x)) (rep x) (rep_rep x in_rest)))
-                  (eq-eqb (group (rep x)) (group y) r_group) in
+              (eq-eqb (group (rep x)) (group y) r_group) in
               clash (through y x (rep x) t (rep_alike x)) (f (rep x) listed))
         ] in
         let is : rep y ≡ y = rep_alone once k within none in
@@ -221,19 +221,19 @@ module _ (alike : ℕ → ℕ → Bool) (self : (x : ℕ) → alike x x ≡ true
           groups = λ b x. ap (λ ys. has ys x) (more b) ∙ elim (cases_eq b (group y)) [
             | inr off ↦ ap (λ ys. has ys x) (cond-false (b == group y) (before b ++ y ∷ []) (before b) (ne_eqb b (group y) off)) ∙ elim
                 (cases_eq x y) [
-              | inr other ↦ stays b x other
-              | inl e ↦ ap (has (before b)) e ∙ absent b ∙ sym (ap (λ z. has (drop k rest) z && rep z == z && group z == b) e
-                  ∙ and_right (has (drop k rest) y && rep y == y) (group y == b) (ne_eqb (group y) b (λ q. off (sym q))))
-            ]
+                  | inr other ↦ stays b x other
+                  | inl e ↦ ap (has (before b)) e ∙ absent b ∙ sym (ap (λ z. has (drop k rest) z && rep z == z && group z == b) e
+                      ∙ and_right (has (drop k rest) y && rep y == y) (group y == b) (ne_eqb (group y) b (λ q. off (sym q))))
+                ]
             | inl on ↦ ap (λ ys. has ys x) (cond-true (b == group y) (before b ++ y ∷ []) (before b) (eq-eqb b (group y) on)) ∙ has_append
                 (before b) (y ∷ []) x ∙ elim (cases_eq x y) [
-              | inr other ↦ ap (λ c. has (before b) x || (c || false)) (ne_eqb y x (λ e. other (sym e))) ∙ or-false (has (before b) x) ∙
-                  stays b x other
-              | inl e ↦ or_right (has (before b) x) (y == x || false) (or_left (y == x) false (eq-eqb y x (sym e))) ∙ sym
-                  (ap (λ z. has (drop k rest) z && rep z == z && group z == b) e
-                  ∙ and_from (has (drop k rest) y && rep y == y) (group y == b)
+                  | inr other ↦ ap (λ c. has (before b) x || (c || false)) (ne_eqb y x (λ e. other (sym e))) ∙ or-false (has (before b) x) ∙
+                      stays b x other
+                  | inl e ↦ or_right (has (before b) x) (y == x || false) (or_left (y == x) false (eq-eqb y x (sym e))) ∙ sym
+                      (ap (λ z. has (drop k rest) z && rep z == z && group z == b) e
+                      ∙ and_from (has (drop k rest) y && rep y == y) (group y == b)
                       (and_from (has (drop k rest) y) (rep y == y) (here_first once k within) (eq-eqb (rep y) y is))
                       (eq-eqb (group y) b (sym on)))
-            ]
+                ]
           ];
         }

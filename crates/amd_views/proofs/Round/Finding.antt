@@ -30,7 +30,7 @@ use Rattle.amd_views.proofs.Round.Turn.{Found}
 module _ (g : Graph) (dense : ℕ → Bool) (aggressive : Bool) (w : View) (t : Tie) (s : State) (st : Stands g dense w t s)
     (c : ℕ) (placed : has t.placed c ≡ true) (least : (d : ℕ) → has t.placed d ≡ true → t.bound c ≤ t.bound d) (front : List ℕ)
     (first : front ≡ firsts (λ x. x == c) (flat_map (λ e. live_of w.size (w.members e)) (w.lists.elements c)
-        ++ live_of w.size (w.lists.variables c))) where
+    ++ live_of w.size (w.lists.variables c))) where
   abbrev L : List ℕ
   L = gathered t c
 
@@ -138,7 +138,7 @@ module _ (g : Graph) (dense : ℕ → Bool) (aggressive : Bool) (w : View) (t : 
           (merging.represents_in g st.graph s st.sound t st.fits c placed aggressive kept.elements kept.variables elements variables i h)
           (eq-eqb (represents aggressive t c L r) r
           (merging.represents_itself g st.graph s st.sound t st.fits c placed aggressive kept.elements kept.variables elements variables i
-              h))
+          h))
 
       -- the numbers of rows after mass elimination and merging
       module _ (border block live : ℕ) (border_is : border ≡ sum_by w.size left)
@@ -146,7 +146,7 @@ module _ (g : Graph) (dense : ℕ → Bool) (aggressive : Bool) (w : View) (t : 
           (live_is : live ≡ w.live - block) (retired joined sizes : ℕ → ℕ)
           (retired_is : (x : ℕ) → retired x ≡ cond (has front x && keeps_none kept.elements kept.variables x) 0 (w.size x))
           (joined_is : (x : ℕ) → joined x ≡ cond (has left x) (cond (into x == x) (sum_by retired (filter (λ j. into j == x) left)) 0)
-              (retired x))
+          (retired x))
           (size_is : (x : ℕ) → sizes x ≡ cond (x == c) 0 (joined x)) where
         retired_left : (j : ℕ) → has left j ≡ true → retired j ≡ t.size j
         retired_left j h = let p = left_parts j h in
@@ -188,7 +188,7 @@ module _ (g : Graph) (dense : ℕ → Bool) (aggressive : Bool) (w : View) (t : 
 -- what was found in a round, and is in its record, is what the rules say
 module _ (g : Graph) (dense : ℕ → Bool) (aggressive : Bool) (w v : View) (t : Tie) (s : State) (st : Stands g dense w t s)
     (r : Rounding aggressive w v) (placed : has t.placed r.c ≡ true) (lowest : r.least ≡ t.bound r.c)
-        (is_pivot : r.c ≡ pivot t.bound t.placed)
+    (is_pivot : r.c ≡ pivot t.bound t.placed)
     (least : (d : ℕ) → has t.placed d ≡ true → t.bound r.c ≤ t.bound d) where
   took : Absorbed aggressive r.c (gathered t r.c) w.size w.block w.front w.lists r.kept w.parent v.parent r.beyond
   took = absorbed g dense aggressive w t s st r.c placed least r.front r.front_is r.kept v.parent r.beyond r.absorbed

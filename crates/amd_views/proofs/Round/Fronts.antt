@@ -59,7 +59,7 @@ pub pivot_least : (g : Graph) (dense : ℕ → Bool) (w : View) (t : Tie) (s : S
     ((d : ℕ) → has t.placed d ≡ true → t.bound c ≤ t.bound d) → (d : ℕ) → is_class s d ≡ true → s.bound c ≤ s.bound d
 pivot_least g dense w t s st c placed least d k = let l = least d (st.fits.placed d ∙ k) in
     let a = st.fits.bound c (class_gives c (s.home c) (sym (st.fits.placed c) ∙ placed)) in let b =
-        st.fits.bound d (class_gives d (s.home d) k) in omega (arith, l, a, b)
+    st.fits.bound d (class_gives d (s.home d) k) in omega (arith, l, a, b)
 
 module _ (g : Graph) (dense : ℕ → Bool) (aggressive : Bool) (w v : View) (t : Tie) (s : State) (st : Stands g dense w t s)
     (r : Rounding aggressive w v)
@@ -81,13 +81,13 @@ module _ (g : Graph) (dense : ℕ → Bool) (aggressive : Bool) (w v : View) (t 
   unfolding L
   front_rows_are = ap (sum_by w.size) front_is
       ∙ sum_named w.size t.size (gathered t r.c) (λ i k. size_of i
-          (front_class g st.graph aggressive t s st.sound st.fits r.c class least i k).0)
+      (front_class g st.graph aggressive t s st.sound st.fits r.c class least i k).0)
 
   pub border_is : r.border ≡ sum_by t.size (rest aggressive t r.c (gathered t r.c))
   unfolding L
   border_is = r.border_is ∙ ap (sum_by w.size) rest_is
       ∙ sum_named w.size t.size (rest aggressive t r.c (gathered t r.c))
-          (λ i k. size_of i (rest_class g st.graph aggressive t s st.sound st.fits r.c class least i k).0)
+      (λ i k. size_of i (rest_class g st.graph aggressive t s st.sound st.fits r.c class least i k).0)
 
   pub block_is : r.block ≡ t.size r.c + (sum_by t.size (gathered t r.c) - sum_by t.size (rest aggressive t r.c (gathered t r.c)))
   block_is = let a = r.block_is in let b = border_is in let c = front_rows_are in let d = size_of r.c home_c in omega (arith, a, b, c, d)

@@ -37,74 +37,80 @@ use Rattle.amd_views.proofs.Round.Parents.{parents_kept}
 use Rattle.amd_views.proofs.Round.Bounds.{bound_kept, least_kept, small_kept}
 
 module _ {g : Graph} {dense : ℕ → Bool} {aggressive : Bool} {w v : View} {t : Tie} {s : State} (turn : Turn g dense aggressive w v t s)
-    where
-  abbrev st : Stands g dense w t s
-  st = turn.before
+  where
+    abbrev st : Stands g dense w t s
+    st = turn.before
 
-  abbrev r : Rounding aggressive w v
-  r = turn.wrote
+    abbrev r : Rounding aggressive w v
+    r = turn.wrote
 
-  abbrev f : Found aggressive w v t turn.wrote
-  f = turn.found
+    abbrev f : Found aggressive w v t turn.wrote
+    f = turn.found
 
-  abbrev class : is_class s turn.wrote.c ≡ true
-  class = pivot_is_class turn
+    abbrev class : is_class s turn.wrote.c ≡ true
+    class = pivot_is_class turn
 
-  abbrev least : (d : ℕ) → is_class s d ≡ true → s.bound turn.wrote.c ≤ s.bound d
-  least = pivot_is_least turn
+    abbrev least : (d : ℕ) → is_class s d ≡ true → s.bound turn.wrote.c ≤ s.bound d
+    least = pivot_is_least turn
 
-  abbrev new_state : State
-  new_state = state_after turn
+    abbrev new_state : State
+    new_state = state_after turn
 
-  abbrev new_lists : Tie
-  new_lists = lists_after turn
+    abbrev new_lists : Tie
+    new_lists = lists_after turn
 
-  -- the record stands for the next lists, and for the state that the (step turn) leads to
-  module _ (few : g.size < 2 ^ 64) where
-    border_is : r.border ≡ sum_by t.size (rest aggressive t r.c (gathered t r.c))
-    border_is = border_rows g dense aggressive w v t s st r class least f.front_is f.rest_is
+    -- the record stands for the next lists, and for the state that the (step turn) leads to
+    module _ (few : g.size < 2 ^ 64) where
+      border_is : r.border ≡ sum_by t.size (rest aggressive t r.c (gathered t r.c))
+      border_is = border_rows g dense aggressive w v t s st r class least f.front_is f.rest_is
 
-    live_left : v.live ≡ left aggressive t r.c (gathered t r.c)
-    live_left = live_after g dense aggressive w v t s st r class least f.front_is f.rest_is
+      live_left : v.live ≡ left aggressive t r.c (gathered t r.c)
+      live_left = live_after g dense aggressive w v t s st r class least f.front_is f.rest_is
 
-    live_fits : v.live ≤ g.size
-    live_fits = let a = live_less g dense aggressive w v t s st r class least f.front_is f.rest_is in let b = st.keeps.live in
-        let k = placed_small g st.graph aggressive t s st.sound st.fits r.c class least in omega (arith, a, b, k)
+      live_fits : v.live ≤ g.size
+      live_fits = let a = live_less g dense aggressive w v t s st r class least f.front_is f.rest_is in let b = st.keeps.live in
+          let k = placed_small g st.graph aggressive t s st.sound st.fits r.c class least in omega (arith, a, b, k)
 
-    pub stands_after : Stands g dense v new_lists new_state
-    stands_after = record {
-      graph = st.graph;
-      sound = new_sound turn;
-      fits = new_fits turn;
-      rows = r.rows ∙ st.rows;
-      keeps = record {
-        size = size_kept turn;
-        no_class = size_none turn;
-        bound = bound_kept turn few border_is live_left live_fits;
-        small = small_kept turn few border_is live_left live_fits;
-        variables = variables_kept turn;
-        elements = elements_kept turn;
-        members = members_kept turn;
-        least = least_kept turn few border_is live_left live_fits;
-        live = live_sum g dense aggressive w v t s st r class least f.front_is f.rest_is;
-        parents = parents_kept turn;
-        links = links_kept turn;
-      };
-      joined = joined_after g dense aggressive w v t s st r class least f.front_is f.rest_is;
-      no_parent = no_parent_after g dense aggressive w v t s st r class least f.front_is f.rest_is;
-      fronts = fronts_kept g dense aggressive w v t s st r class least f.front_is f.rest_is;
-    }
+      pub stands_after : Stands g dense v new_lists new_state
+      stands_after = record {
+        graph = st.graph;
+        sound = new_sound turn;
+        fits = new_fits turn;
+        rows = r.rows ∙ st.rows;
+        keeps = record {
+          size = size_kept turn;
+          no_class = size_none turn;
+          bound = bound_kept turn few border_is live_left live_fits;
+          small = small_kept turn few border_is live_left live_fits;
+          variables = variables_kept turn;
+          elements = elements_kept turn;
+          members = members_kept turn;
+          least = least_kept turn few border_is live_left live_fits;
+          live = live_sum g dense aggressive w v t s st r class least f.front_is f.rest_is;
+          parents = parents_kept turn;
+          links = links_kept turn;
+        };
+        joined = joined_after g dense aggressive w v t s st r class least f.front_is f.rest_is;
+        no_parent = no_parent_after g dense aggressive w v t s st r class least f.front_is f.rest_is;
+        fronts = fronts_kept g dense aggressive w v t s st r class least f.front_is f.rest_is;
+      }
 
-  pub as_next : new_lists ≡ next aggressive t
-  unfolding next
-  as_next = ap (λ c. round aggressive t c (gathered t c)) f.pivot_is
+    pub as_next : new_lists ≡ next aggressive t
+    unfolding next
+    as_next = ap (λ c. round aggressive t c (gathered t c)) f.pivot_is
 
-  -- the record is one round further
-  pub one_round : g.size < 2 ^ 64 →
-      (is_empty t.placed ≡ false) × ((u : State) × StepAt g aggressive (pivot t.bound t.placed) s u
-          × Stands g dense v (next aggressive t) u)
-  one_round few = (some_placed, (new_state, subst (λ c. StepAt g aggressive c s new_state) f.pivot_is (step turn),
-      subst (λ u. Stands g dense v u new_state) as_next (stands_after few)))
-    where
-      some_placed : is_empty t.placed ≡ false
-      some_placed = not_empty t.placed r.c f.placed
+    -- the record is one round further
+    pub one_round : g.size < 2 ^ 64 →
+        (is_empty t.placed ≡ false) × ((u : State) × StepAt g aggressive (pivot t.bound t.placed) s u
+        × Stands g dense v (next aggressive t) u)
+    one_round few = (
+      some_placed,
+      (
+        new_state,
+        subst (λ c. StepAt g aggressive c s new_state) f.pivot_is (step turn),
+        subst (λ u. Stands g dense v u new_state) as_next (stands_after few),
+      ),
+    )
+      where
+        some_placed : is_empty t.placed ≡ false
+        some_placed = not_empty t.placed r.c f.placed

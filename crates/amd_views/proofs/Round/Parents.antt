@@ -32,52 +32,52 @@ use Rattle.amd_views.proofs.Fronts.Gathered.{gathered_other, placed_rows}
 use Rattle.amd_views.proofs.Round.Turn.{Found, Turn, class_of, lists_after, pivot_is_class, pivot_is_least}
 
 module _ {g : Graph} {dense : ℕ → Bool} {aggressive : Bool} {w v : View} {t : Tie} {s : State} (turn : Turn g dense aggressive w v t s)
-    where
-  abbrev st : Stands g dense w t s
-  st = turn.before
+  where
+    abbrev st : Stands g dense w t s
+    st = turn.before
 
-  abbrev r : Rounding aggressive w v
-  r = turn.wrote
+    abbrev r : Rounding aggressive w v
+    r = turn.wrote
 
-  abbrev f : Found aggressive w v t turn.wrote
-  f = turn.found
+    abbrev f : Found aggressive w v t turn.wrote
+    f = turn.found
 
-  abbrev L : List ℕ
-  L = gathered t turn.wrote.c
+    abbrev L : List ℕ
+    L = gathered t turn.wrote.c
 
-  abbrev class : is_class s turn.wrote.c ≡ true
-  class = pivot_is_class turn
+    abbrev class : is_class s turn.wrote.c ≡ true
+    class = pivot_is_class turn
 
-  abbrev least : (d : ℕ) → is_class s d ≡ true → s.bound turn.wrote.c ≤ s.bound d
-  least = pivot_is_least turn
+    abbrev least : (d : ℕ) → is_class s d ≡ true → s.bound turn.wrote.c ≤ s.bound d
+    least = pivot_is_least turn
 
-  abbrev new_lists : Tie
-  new_lists = lists_after turn
+    abbrev new_lists : Tie
+    new_lists = lists_after turn
 
-  taken_is : (e : ℕ) → takes aggressive t r.c L e ≡ absorbed g aggressive s r.c e
-  unfolding front_list
-  taken_is e = takes_is g st.graph aggressive t s st.sound st.fits r.c class least e
+    taken_is : (e : ℕ) → takes aggressive t r.c L e ≡ absorbed g aggressive s r.c e
+    unfolding front_list
+    taken_is e = takes_is g st.graph aggressive t s st.sound st.fits r.c class least e
 
-  no_takes : takes aggressive t r.c L r.c ≡ false
-  unfolding absorbed
-  no_takes = elim (cases_Bool (takes aggressive t r.c L r.c)) [
-    | inr n ↦ n
-    | inl y ↦ absurd (let h : absorbed g aggressive s r.c r.c ≡ true = sym (taken_is r.c) ∙ y in
-        elim (or_cases (holds g s r.c r.c) (aggressive && stands g s r.c && inside g (s.border r.c) (front g s r.c)) h) [
-      | inl k ↦ no_stand (holds_gives g s r.c r.c k).standing
-      | inr k ↦ no_stand (and_parts aggressive (stands g s r.c) (and_parts (aggressive && stands g s r.c)
-          (inside g (s.border r.c) (front g s r.c)) k).0).1
-    ])
-  ]
-    where
-      no_stand : stands g s r.c ≡ true → ⊥
-      no_stand k = let e = (stands_gives g s r.c k).element in let h = class_of turn r.c f.placed in cc
+    no_takes : takes aggressive t r.c L r.c ≡ false
+    unfolding absorbed
+    no_takes = elim (cases_Bool (takes aggressive t r.c L r.c)) [
+      | inr n ↦ n
+      | inl y ↦ absurd (let h : absorbed g aggressive s r.c r.c ≡ true = sym (taken_is r.c) ∙ y in
+          elim (or_cases (holds g s r.c r.c) (aggressive && stands g s r.c && inside g (s.border r.c) (front g s r.c)) h) [
+            | inl k ↦ no_stand (holds_gives g s r.c r.c k).standing
+            | inr k ↦ no_stand (and_parts aggressive (stands g s r.c) (and_parts (aggressive && stands g s r.c)
+                (inside g (s.border r.c) (front g s r.c)) k).0).1
+          ])
+    ]
+      where
+        no_stand : stands g s r.c ≡ true → ⊥
+        no_stand k = let e = (stands_gives g s r.c k).element in let h = class_of turn r.c f.placed in cc
 
-  pub parents_kept : (e : ℕ) → v.parent e ≡ new_lists.parent e
-  unfolding round
-  parents_kept e = elim (cases_eq e r.c) [
-    | inl y ↦ ap (λ n. v.parent n) y ∙ f.parents r.c ∙ cond-false (takes aggressive t r.c L r.c) (Some r.c) (t.parent r.c) no_takes
-        ∙ st.fits.parent r.c ∙ st.no_parent r.c (live_from r.c (s.home r.c) (class_of turn r.c f.placed))
-        ∙ sym (cond-true (e == r.c) None (cond (takes aggressive t r.c L e) (Some r.c) (t.parent e)) (eq-eqb e r.c y))
-    | inr ne ↦ f.parents e ∙ sym (cond-false (e == r.c) None (cond (takes aggressive t r.c L e) (Some r.c) (t.parent e)) (ne_eqb e r.c ne))
-  ]
+    pub parents_kept : (e : ℕ) → v.parent e ≡ new_lists.parent e
+    unfolding round
+    parents_kept e = elim (cases_eq e r.c) [
+      | inl y ↦ ap (λ n. v.parent n) y ∙ f.parents r.c ∙ cond-false (takes aggressive t r.c L r.c) (Some r.c) (t.parent r.c) no_takes
+          ∙ st.fits.parent r.c ∙ st.no_parent r.c (live_from r.c (s.home r.c) (class_of turn r.c f.placed))
+          ∙ sym (cond-true (e == r.c) None (cond (takes aggressive t r.c L e) (Some r.c) (t.parent e)) (eq-eqb e r.c y))
+      | inr ne ↦ f.parents e ∙ sym (cond-false (e == r.c) None (cond (takes aggressive t r.c L e) (Some r.c) (t.parent e)) (ne_eqb e r.c ne))
+    ]
