@@ -14,7 +14,7 @@ use Rattle.amd_model.proofs.BelowLemmas.{clash}
 use Rattle.amd_model.proofs.StateLemmas.{class_gives, class_from, live_from}
 use Rattle.amd_model.proofs.TieLaw.{L, front_class, rest_class, after, is_step}
 use Rattle.amd_model.proofs.StepFronts.{element_stays, block_count_stays, weight_stays, pivot_element, weight_new, still_live, figure_new}
-use Rattle.amd_model.proofs.StepFronts.{greatest_new, front_small, block_rows, border_rows, left_rows, left_sum, left_less}
+use Rattle.amd_model.proofs.StepFronts.{greatest_new, block_rows, border_rows, left_rows, left_sum, left_less}
 use Rattle.amd_model.proofs.StepFronts.{no_parent as parent_free}
 use Rattle.amd_views.specs.Keeps.{KeepsFronts, LinksLead, Stands}
 use Rattle.amd_views.specs.Views.{View}
