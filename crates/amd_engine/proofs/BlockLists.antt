@@ -9,15 +9,10 @@ use Rattle.amd_model.specs.Tie.{has}
 use Rattle.amd_model.proofs.Places.{has_place}
 use Rattle.amd_model.specs.Listing.{Tree, is_some_of, is_child, heaviest, heaviest_last, children, roots, ListsTrees, none, more, assembly_tree, block_list, IsPostorder}
 use Rattle.amd_model.proofs.ListingLemmas.{has_head, has_tail, has_cases, has_below}
+use Rattle.amd_views.proofs.Lists.Named.{flat_same}
+use Rattle.amd_rounds.proofs.StartLists.{list_same}
 use Rattle.amd_trees.proofs.ForestListings.{IsRanked, child_node, roots_siblings, listed_from}
 use Rattle.amd_trees.specs.Trees.{IsPostorderOf}
-
--- tests that agree below n pick the same numbers
-pub list_same : (n : ℕ) (p q : ℕ → Bool) → ((k : ℕ) → k < n → p k ≡ q k) → list_below n p ≡ list_below n q
-unfolding list_below
-list_same zero p q h = refl
-list_same (suc n) p q h =
-    ap (λ xs. xs ++ cond (p n) (n ∷ []) []) (list_same n p q (λ k l. h k (omega (arith, l)))) ∙ ap (λ b. list_below n q ++ cond b (n ∷ []) []) (h n (omega arith))
 
 -- weights that agree on a list have the same heaviest one
 heaviest_same : (w u : ℕ → ℕ) (e : ℕ) (xs : List ℕ) → ((k : ℕ) → has (e ∷ xs) k ≡ true → w k ≡ u k) → heaviest w e xs ≡ heaviest u e xs
@@ -44,11 +39,6 @@ guarded false b f o p q h = ap (λ c. c && f p) q
 pub flat_append : (f : ℕ → List ℕ) (xs ys : List ℕ) → flat_map f (xs ++ ys) ≡ flat_map f xs ++ flat_map f ys
 flat_append f [] ys = refl
 flat_append f (x ∷ xs) ys = ap (λ zs. f x ++ zs) (flat_append f xs ys) ∙ sym (append_assoc (f x) (flat_map f xs) (flat_map f ys))
-
--- functions that agree on a list give the same
-pub flat_same : (f h : ℕ → List ℕ) (xs : List ℕ) → ((k : ℕ) → has xs k ≡ true → f k ≡ h k) → flat_map f xs ≡ flat_map h xs
-flat_same f h [] s = refl
-flat_same f h (x ∷ xs) s = ap (λ zs. f x ++ zs) (flat_same f h xs (λ k m. s k (has_tail k x xs m))) ∙ ap (λ zs. zs ++ flat_map h xs) (s x (has_head x x xs refl))
 
 -- the same nodes, parents and weights
 pub record AreAlike (t u : Tree) : Type 0 where

@@ -291,19 +291,3 @@ module _ {A : Type 0} (size bound : List ℕ) (old mid : List (Vec ℕ A)) (befo
               let same : bound_of x ≡ bound_after x = bound_is x h ∙ sym (stay x out).1 ∙ sym (after_is x (has_left x (filter other placed) made stays)) in
               ap (λ t. bound_of x == b && not t) out ∙ and-true (bound_of x == b) ∙ ap (λ n. n == b) same ∙ sym (ap (λ t. not t && bound_after x == b) out))
         ]
-
-    -- what is below the bound that was chosen and the bounds of those that are placed is below all of them
-    pub least_step : (lower : ℕ) → lower ≤ least → ((i : ℕ) → has made i ≡ true → lower ≤ num bounds i) →
-        (i : ℕ) → has (filter (λ i. not (i == c || has front i)) placed ++ made) i ≡ true → lower ≤ bound_after i
-    least_step lower l k i h =
-        let other = λ (j : ℕ). not (j == c || has front j) in
-        let is = after_is i h in
-        elim (append_gives i (filter other placed) made h) [
-          | inr m ↦ (let d = k i m in omega (arith, d, is))
-          | inl m ↦ (
-              let parts = filter_gives other placed i m in
-              let d = least_low i parts.0 in
-              let was = bound_is i parts.0 in
-              let same = (stay i (not-true (i == c || has front i) parts.1)).1 in
-              omega (arith, l, d, is, was, same))
-        ]

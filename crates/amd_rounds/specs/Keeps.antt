@@ -52,7 +52,8 @@ pub record Stands {A : Type 0} (g : Graph) (dense : ℕ → Bool) (w : Work A) (
 -- step with the pivot of the rules leads to
 abbrev pub IsRound : {A : Type 0} → Bool → Work A → Work A → Type 0
 IsRound aggressive old new = (g : Graph) (dense : ℕ → Bool) (t : Tie) (s : State) → Stands g dense old t s →
-    (is_empty t.placed ≡ false) × ((u : State) × StepAt g aggressive (pivot t.bound t.placed) s u × Stands g dense new (next aggressive t) u)
+    (is_empty t.placed ≡ false) × ((u : State) × StepAt g aggressive (pivot t.bound t.placed) s u
+    × Stands g dense new (next aggressive t) u)
 
 -- whatever lists and state the old record stands for, the new one stands for lists and a state some rounds later
 abbrev pub AreRounds : {A : Type 0} → Bool → Work A → Work A → Type 0

@@ -20,8 +20,10 @@ abbrev pub rows_left : {A : Type 0} → List ℕ → List ℕ → List ℕ → L
 rows_left block whole size elements front e = views.rows_left (num block) (num whole) (num size) (list_at elements) front e
 
 -- the lists after the new element of the pivot c has absorbed others: those of the classes of its front; the others stay
-pub record Absorbed {A : Type 0} (aggressive : Bool) (c : ℕ) (front size block whole : List ℕ) (old new : Lists A) (before after : List (Option ℕ)) (beyond : List ℕ) : Type 0 where
-  pub classes : views.Absorbed aggressive c front (num size) (num block) (num whole) (lists_of old) (lists_of new) (some_at before) (some_at after) (num beyond)
+pub record Absorbed {A : Type 0} (aggressive : Bool) (c : ℕ) (front size block whole : List ℕ) (old new : Lists A)
+    (before after : List (Option ℕ)) (beyond : List ℕ) : Type 0 where
+  pub classes : views.Absorbed aggressive c front (num size) (num block) (num whole) (lists_of old) (lists_of new) (some_at before)
+      (some_at after) (num beyond)
   pub elements : (i : ℕ) → has front i ≡ false → list_at new.elements.items i ≡ list_at old.elements.items i
   pub variables : (i : ℕ) → has front i ≡ false → list_at new.variables.items i ≡ list_at old.variables.items i
   pub members : new.members ≡ old.members

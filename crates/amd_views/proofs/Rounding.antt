@@ -1,5 +1,6 @@
 -- What a round of an engine found and wrote, as equations between what its record said before and says after.
-use Rattle.std.specs.Prelude.{ℕ, Bool, true, false, Some, List, ◌∷◌, ◌++◌, ◌≡◌, ◌≤◌, ◌<◌, ◌==◌, ◌&&◌, ◌+◌, ◌-◌, not, cond, max, filter, flat_map, sum_by}
+use Rattle.std.specs.Prelude.{ℕ, Bool, true, false, Some, List, ◌∷◌, ◌++◌, ◌≡◌, ◌≤◌, ◌<◌, ◌==◌, ◌&&◌, ◌+◌, ◌-◌, not, cond, max, filter}
+use Rattle.std.specs.Prelude.{flat_map, sum_by}
 use Rattle.amd_model.specs.Figures.{cut, front_sum, entries, ldl_steps, lu_steps}
 use Rattle.amd_model.specs.Tie.{has, last_that, turned}
 use Rattle.amd_views.specs.Rounds.{firsts, keeps_none, alike_in, Absorbed, IsApart, bound_after}
@@ -19,7 +20,8 @@ pub record Rounding (aggressive : Bool) (w v : View) : Type 0 where
   pub border : ℕ
   pub block : ℕ
   pub least : ℕ
-  pub front_is : front ≡ firsts (λ x. x == c) (flat_map (λ e. live_of w.size (w.members e)) (w.lists.elements c) ++ live_of w.size (w.lists.variables c))
+  pub front_is : front ≡ firsts (λ x. x == c) (flat_map (λ e. live_of w.size (w.members e)) (w.lists.elements c)
+      ++ live_of w.size (w.lists.variables c))
   pub absorbed : Absorbed aggressive c front w.size w.block w.front w.lists kept w.parent v.parent beyond
   pub rest_is : rest ≡ filter (λ i. not (keeps_none kept.elements kept.variables i)) front
   pub border_is : border ≡ sum_by w.size rest
@@ -30,7 +32,8 @@ pub record Rounding (aggressive : Bool) (w v : View) : Type 0 where
   pub retired : ℕ → ℕ
   pub retired_is : (x : ℕ) → retired x ≡ cond (has front x && keeps_none kept.elements kept.variables x) 0 (w.size x)
   pub joined : ℕ → ℕ
-  pub joined_is : (x : ℕ) → joined x ≡ cond (has rest x) (cond (into x == x) (sum_by retired (filter (λ j. into j == x) rest)) 0) (retired x)
+  pub joined_is : (x : ℕ) → joined x ≡ cond (has rest x) (cond (into x == x) (sum_by retired (filter (λ j. into j == x) rest)) 0)
+      (retired x)
   pub size_is : (x : ℕ) → v.size x ≡ cond (x == c) 0 (joined x)
   pub link_is : (x : ℕ) → v.link x ≡ cond (has rest x && not (into x == x)) (Some (into x))
       (cond (has front x && keeps_none kept.elements kept.variables x) (Some c) (w.link x))
@@ -45,7 +48,8 @@ pub record Rounding (aggressive : Bool) (w v : View) : Type 0 where
   pub variables_stay : (i : ℕ) → IsApart w.size c front i → v.lists.variables i ≡ w.lists.variables i
   -- the members of the new element, and those of an element that a class lists and that was not absorbed
   pub members_are : v.members c ≡ made
-  pub members_stay : (e i : ℕ) → 0 < w.size i → has (w.lists.elements i) e ≡ true → (e == c) ≡ false → absorbed.taken e ≡ false → v.members e ≡ w.members e
+  pub members_stay : (e i : ℕ) → 0 < w.size i → has (w.lists.elements i) e ≡ true → (e == c) ≡ false → absorbed.taken e ≡ false →
+      v.members e ≡ w.members e
   pub least_is : (v.least ≤ least) × ((i : ℕ) → has made i ≡ true → v.least ≤ v.bound i)
   -- the new element
   pub blocks : (e : ℕ) → v.block e ≡ cond (e == c) block (w.block e)

@@ -1,5 +1,6 @@
 -- What the parts of a round do to the lists of an elimination, each as a function of what stood there before.
-use Rattle.std.specs.Prelude.{ℕ, Bool, true, false, Option, Some, List, [], ◌≡◌, ◌<◌, ◌==◌, ◌&&◌, ◌||◌, ◌+◌, ◌-◌, not, min, cond, nat_eq, nat_lt, filter, fold, flat_map, sum_by}
+use Rattle.std.specs.Prelude.{ℕ, Bool, true, false, Option, Some, List, [], ◌≡◌, ◌<◌, ◌==◌, ◌&&◌, ◌||◌, ◌+◌, ◌-◌, not, min, cond, nat_eq}
+use Rattle.std.specs.Prelude.{nat_lt, filter, fold, flat_map, sum_by}
 use Rattle.amd_model.specs.Figures.{cut}
 use Rattle.amd_model.specs.Tie.{has, each, is_empty, add_new}
 use Rattle.amd_views.specs.Views.{ClassLists}
@@ -26,7 +27,8 @@ abbrev pub rows_left : (ℕ → ℕ) → (ℕ → ℕ) → (ℕ → ℕ) → (�
 rows_left block whole size elements front e = fold (λ m i. less e (size i) m (elements i)) (whole e - block e) front
 
 -- the lists of the classes of a front after the new element of the pivot c has absorbed others. Of other classes nothing is said
-pub record Absorbed (aggressive : Bool) (c : ℕ) (front : List ℕ) (size block whole : ℕ → ℕ) (old new : ClassLists) (before after : ℕ → Option ℕ) (beyond : ℕ → ℕ) : Type 0 where
+pub record Absorbed (aggressive : Bool) (c : ℕ) (front : List ℕ) (size block whole : ℕ → ℕ) (old new : ClassLists)
+    (before after : ℕ → Option ℕ) (beyond : ℕ → ℕ) : Type 0 where
   -- the elements that hold a class of the front and not the pivot
   pub touched : List ℕ
   pub touched_is : touched ≡ firsts (has (old.elements c)) (flat_map old.elements front)
@@ -38,7 +40,8 @@ pub record Absorbed (aggressive : Bool) (c : ℕ) (front : List ℕ) (size block
   pub parents : (e : ℕ) → after e ≡ cond (taken e) (Some c) (before e)
   -- a class of the front keeps the other elements, and the classes outside
   pub elements : (i : ℕ) → has front i ≡ true → new.elements i ≡ filter (λ e. not (taken e)) (old.elements i)
-  pub variables : (i : ℕ) → has front i ≡ true → new.variables i ≡ filter (λ j. nat_lt 0 (size j) && not (j == c || has front j)) (old.variables i)
+  pub variables : (i : ℕ) → has front i ≡ true → new.variables i
+      ≡ filter (λ j. nat_lt 0 (size j) && not (j == c || has front j)) (old.variables i)
 
 -- the class i is neither the pivot c nor in its front: a round leaves its bound and its lists as they were
 pub record IsApart (size : ℕ → ℕ) (c : ℕ) (front : List ℕ) (i : ℕ) : Type 0 where
@@ -48,4 +51,5 @@ pub record IsApart (size : ℕ → ℕ) (c : ℕ) (front : List ℕ) (i : ℕ) :
 
 -- the lesser of the old bound and the number of rows that the lists reach, plus the other border rows; at most the other live rows
 abbrev pub bound_after : ℕ → ℕ → ClassLists → (ℕ → ℕ) → (ℕ → ℕ) → (ℕ → ℕ) → ℕ → ℕ
-bound_after border live lists beyond size bound i = min (min (bound i) (cut (sum_by beyond (lists.elements i) + sum_by size (lists.variables i))) + (border - size i)) (live - size i)
+bound_after border live lists beyond size bound i = min (min (bound i)
+    (cut (sum_by beyond (lists.elements i) + sum_by size (lists.variables i))) + (border - size i)) (live - size i)

@@ -44,7 +44,8 @@ module _ (g : Graph) (s : State) (t : Tie) (fits : Fits g t s) (c : ℕ) (placed
       let named = (firsts_gives (λ x. x == c) all (gathered t c) refl i h).0 in
       let class = class_gives c (s.home c) (sym (fits.placed c) ∙ placed) in
       elim (append_gives i (flat_map t.members (t.elements c)) (t.variables c) named) [
-        | inl k ↦ (let from = flat_gives t.members (t.elements c) i k in (holds_gives g s from.0 i (sym (fits.members from.0 i) ∙ from.2)).class)
+        | inl k ↦ (let from = flat_gives t.members (t.elements c) i k in
+            (holds_gives g s from.0 i (sym (fits.members from.0 i) ∙ from.2)).class)
         | inr k ↦ (neighbours_gives g s c i (sym (fits.variables c i class) ∙ k)).second
       ]
 
@@ -52,7 +53,8 @@ module _ (g : Graph) (s : State) (t : Tie) (fits : Fits g t s) (c : ℕ) (placed
   gathered_placed i h = fits.placed i ∙ class_from i (s.home i) (gathered_live i h)
 
 -- a class has rows
-pub placed_rows : (g : Graph) → IsGraph g → (s : State) → IsSound g s → (t : Tie) → Fits g t s → (i : ℕ) → has t.placed i ≡ true → 0 < t.size i
+pub placed_rows : (g : Graph) → IsGraph g → (s : State) → IsSound g s → (t : Tie) → Fits g t s → (i : ℕ) → has t.placed i ≡ true →
+    0 < t.size i
 placed_rows g laws s sound t fits i h =
     let home = class_gives i (s.home i) (sym (fits.placed i) ∙ h) in
     let l = live_small g laws s sound i i home in

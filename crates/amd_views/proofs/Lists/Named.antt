@@ -1,8 +1,10 @@
 -- Lists of numbers: what they name, what a test keeps of them, and sums.
-use Rattle.std.proofs.Common.{ℕ, zero, suc, Bool, true, false, List, [], ◌∷◌, ◌++◌, ◌≡◌, ◌≢◌, ◌≤◌, ◌<◌, ◌+◌, ◌∙◌, ◌&&◌, ◌||◌, ◌⊎◌, cond, ap, sym, refl, inl, inr, arith, not, length, get_or, take, drop}
+use Rattle.std.proofs.Common.{ℕ, zero, suc, Bool, true, false, List, [], ◌∷◌, ◌++◌, ◌≡◌, ◌≢◌, ◌≤◌, ◌<◌, ◌+◌, ◌∙◌, ◌&&◌, ◌||◌, ◌⊎◌, cond, ap}
+use Rattle.std.proofs.Common.{sym, refl, inl, inr, arith, not, length, get_or, take, drop}
 use Rattle.std.specs.Prelude.{filter, flat_map, sum_by, ◌==◌}
 use Rattle.std.proofs.Math.Bool.{or-false, and-true}
-use Rattle.std.proofs.lemmas.Bool.{true≢false, or_cases, eqb-true, or_right, or_from, and_right, eq-eqb, ne_eqb, cases_Bool, cases_eq, cond-true, cond-false, not_from_true, not_from_false}
+use Rattle.std.proofs.lemmas.Bool.{true≢false, or_cases, eqb-true, or_right, or_from, and_right, eq-eqb, ne_eqb, cases_Bool, cases_eq}
+use Rattle.std.proofs.lemmas.Bool.{cond-true, cond-false, not_from_true, not_from_false}
 use Rattle.std.proofs.lemmas.List.{take_more, take_all, take-append-drop}
 use Rattle.std.proofs.lemmas.List.Elements.{filter-append}
 use Rattle.std.proofs.lemmas.List.Filters.{sum_by-filter_both}
@@ -28,25 +30,30 @@ filter_named p q (x ∷ xs) h =
 -- counts that agree on it have the same sum
 pub sum_named : (f h : ℕ → ℕ) (xs : List ℕ) → ((x : ℕ) → has xs x ≡ true → f x ≡ h x) → sum_by f xs ≡ sum_by h xs
 sum_named f h [] e = refl
-sum_named f h (x ∷ xs) e = sum_by-cons f x xs ∙ ap (λ m. m + sum_by f xs) (e x (has_head x x xs refl)) ∙ ap (λ m. h x + m) (sum_named f h xs (λ y k. e y (has_tail y x xs k))) ∙ sym (sum_by-cons h x xs)
+sum_named f h (x ∷ xs) e = sum_by-cons f x xs ∙ ap (λ m. m + sum_by f xs) (e x (has_head x x xs refl)) ∙ ap (λ m. h x + m)
+    (sum_named f h xs (λ y k. e y (has_tail y x xs k))) ∙ sym (sum_by-cons h x xs)
 
 -- a test that all of it passes keeps the list
 pub filter_all : (p : ℕ → Bool) (xs : List ℕ) → ((x : ℕ) → has xs x ≡ true → p x ≡ true) → filter p xs ≡ xs
 filter_all p [] h = refl
-filter_all p (x ∷ xs) h = filter_yes p x xs (h x (has_head x x xs refl)) ∙ ap (λ l. x ∷ l) (filter_all p xs (λ y k. h y (has_tail y x xs k)))
+filter_all p (x ∷ xs) h = filter_yes p x xs (h x (has_head x x xs refl)) ∙ ap (λ l. x ∷ l)
+    (filter_all p xs (λ y k. h y (has_tail y x xs k)))
 
 -- what passes one test and then another
 pub filter_both : (p q : ℕ → Bool) (xs : List ℕ) → filter (λ x. p x && q x) xs ≡ filter q (filter p xs)
 filter_both p q [] = refl
 filter_both p q (x ∷ xs) = elim (cases_Bool (p x)) [
-  | inl y ↦ ap (λ b. cond (b && q x) (x ∷ filter (λ x. p x && q x) xs) (filter (λ x. p x && q x) xs)) y ∙ ap (λ l. cond (q x) (x ∷ l) l) (filter_both p q xs) ∙ sym (ap (filter q) (filter_yes p x xs y))
-  | inr n ↦ ap (λ b. cond (b && q x) (x ∷ filter (λ x. p x && q x) xs) (filter (λ x. p x && q x) xs)) n ∙ filter_both p q xs ∙ sym (ap (filter q) (filter_no p x xs n))
+  | inl y ↦ ap (λ b. cond (b && q x) (x ∷ filter (λ x. p x && q x) xs) (filter (λ x. p x && q x) xs)) y ∙ ap (λ l. cond (q x) (x ∷ l) l)
+      (filter_both p q xs) ∙ sym (ap (filter q) (filter_yes p x xs y))
+  | inr n ↦ ap (λ b. cond (b && q x) (x ∷ filter (λ x. p x && q x) xs) (filter (λ x. p x && q x) xs)) n ∙ filter_both p q xs ∙ sym
+      (ap (filter q) (filter_no p x xs n))
 ]
 
 -- lists of what a list names are gathered alike if they are the same
 pub flat_same : (f h : ℕ → List ℕ) (xs : List ℕ) → ((x : ℕ) → has xs x ≡ true → f x ≡ h x) → flat_map f xs ≡ flat_map h xs
 flat_same f h [] same = refl
-flat_same f h (x ∷ xs) same = ap (λ l. l ++ flat_map f xs) (same x (has_head x x xs refl)) ∙ ap (λ l. h x ++ l) (flat_same f h xs (λ y k. same y (has_tail y x xs k)))
+flat_same f h (x ∷ xs) same = ap (λ l. l ++ flat_map f xs) (same x (has_head x x xs refl)) ∙ ap (λ l. h x ++ l)
+    (flat_same f h xs (λ y k. same y (has_tail y x xs k)))
 
 -- a list that names nothing has no sum
 pub none_sum : (f : ℕ → ℕ) (xs : List ℕ) → is_empty xs ≡ true → sum_by f xs ≡ 0
@@ -73,11 +80,14 @@ has_at (y ∷ xs) (suc k) d l = has_tail (get_or xs k d) y xs (has_at xs k d (om
 -- the numbers up to a place are those before it and the one there
 pub has_more : (xs : List ℕ) (k d : ℕ) → k < length xs → (x : ℕ) → has (take (k + 1) xs) x ≡ (has (take k xs) x || get_or xs k d == x)
 unfolding has
-has_more xs k d l x = ap (λ ys. has ys x) (take_more xs k d l) ∙ has_append (take k xs) (get_or xs k d ∷ []) x ∙ ap (λ b. has (take k xs) x || b) (or-false (get_or xs k d == x))
+has_more xs k d l x = ap (λ ys. has ys x) (take_more xs k d l) ∙ has_append (take k xs) (get_or xs k d ∷ []) x ∙ ap
+    (λ b. has (take k xs) x || b) (or-false (get_or xs k d == x))
 
 -- what is among them is among those before it, or is the one there
-pub more_gives : (xs : List ℕ) (k d x : ℕ) → k < length xs → has (take (k + 1) xs) x ≡ true → (has (take k xs) x ≡ true) ⊎ (x ≡ get_or xs k d)
-more_gives xs k d x l h = elim (or_cases (has (take k xs) x) (get_or xs k d == x) (sym (has_more xs k d l x) ∙ h)) [ inl q ↦ inl q | inr q ↦ inr (sym (eqb-true (get_or xs k d) x q)) ]
+pub more_gives : (xs : List ℕ) (k d x : ℕ) → k < length xs → has (take (k + 1) xs) x ≡ true → (has (take k xs) x ≡ true)
+    ⊎ (x ≡ get_or xs k d)
+more_gives xs k d x l h = elim (or_cases (has (take k xs) x) (get_or xs k d == x) (sym (has_more xs k d l x) ∙ h))
+    [ inl q ↦ inl q | inr q ↦ inr (sym (eqb-true (get_or xs k d) x q)) ]
 
 -- the one there is among them
 pub has_next : (xs : List ℕ) (k d : ℕ) → k < length xs → has (take (k + 1) xs) (get_or xs k d) ≡ true
@@ -85,7 +95,8 @@ has_next xs k d l = let x : ℕ = get_or xs k d in has_more xs k d l x ∙ or_ri
 
 -- and no other number is new there
 pub has_others : (xs : List ℕ) (k d e : ℕ) → k < length xs → e ≢ get_or xs k d → has (take (k + 1) xs) e ≡ has (take k xs) e
-has_others xs k d e l other = has_more xs k d l e ∙ ap (λ b. has (take k xs) e || b) (ne_eqb (get_or xs k d) e (λ q. other (sym q))) ∙ or-false (has (take k xs) e)
+has_others xs k d e l other = has_more xs k d l e ∙ ap (λ b. has (take k xs) e || b) (ne_eqb (get_or xs k d) e (λ q. other (sym q))) ∙
+    or-false (has (take k xs) e)
 
 -- the numbers up to the end are all of them
 pub has_all : (xs : List ℕ) (k : ℕ) → length xs ≤ k → (x : ℕ) → has (take k xs) x ≡ has xs x
@@ -97,7 +108,8 @@ unfolding has
 not_met [] k d l once = absurd (omega (arith, l))
 not_met (y ∷ xs) zero d l once = refl
 not_met (y ∷ xs) (suc k) d l once = let small : k < length xs = omega (arith, l) in let z : ℕ = get_or xs k d in
-    or_from (y == z) (has (take k xs) z) (ne_eqb y z (λ q. clash (ap (has xs) q ∙ has_at xs k d small) once.0)) (not_met xs k d small once.1)
+    or_from (y == z) (has (take k xs) z) (ne_eqb y z (λ q. clash (ap (has xs) q ∙ has_at xs k d small) once.0))
+    (not_met xs k d small once.1)
 
 -- ---- lists of numbers below n
 
@@ -122,7 +134,8 @@ below_turned n xs b = below_from n (turned xs) (λ x h. below_gives n xs b x (sy
 -- what passes adds its term
 pub sum_pass : (f : ℕ → ℕ) (p : ℕ → Bool) (y : ℕ) (xs : List ℕ) → sum_by f (filter p (y ∷ xs)) ≡ cond (p y) (f y) 0 + sum_by f (filter p xs)
 sum_pass f p y xs = elim (cases_Bool (p y)) [
-  | inl h ↦ (let a = ap (sum_by f) (filter_yes p y xs h) in let b = cond-true (p y) (f y) 0 h in let c = sum_by-cons f y (filter p xs) in omega (arith, a, b, c))
+  | inl h ↦ (let a = ap (sum_by f) (filter_yes p y xs h) in let b = cond-true (p y) (f y) 0 h in let c = sum_by-cons f y (filter p xs) in
+      omega (arith, a, b, c))
   | inr h ↦ (let a = ap (sum_by f) (filter_no p y xs h) in let b = cond-false (p y) (f y) 0 h in omega (arith, a, b))
 ]
 
@@ -132,11 +145,13 @@ sum_part f p xs = let both = sum_by-filter_both p (λ x. not (p x)) (λ x. refl)
 
 -- nor is that of the numbers before a place
 pub sum_upto : (f : ℕ → ℕ) (p : ℕ → Bool) (xs : List ℕ) (k : ℕ) → sum_by f (filter p (take k xs)) ≤ sum_by f (filter p xs)
-sum_upto f p xs k = let a = ap (λ ys. sum_by f (filter p ys)) (take-append-drop k xs) in let b = ap (sum_by f) (filter-append p (take k xs) (drop k xs)) in
+sum_upto f p xs k = let a = ap (λ ys. sum_by f (filter p ys)) (take-append-drop k xs) in let b =
+    ap (sum_by f) (filter-append p (take k xs) (drop k xs)) in
     let c = sum_by-append f (filter p (take k xs)) (filter p (drop k xs)) in omega (arith, a, b, c)
 
 -- the number at the place adds its term if it passes
-pub sum_next : (f : ℕ → ℕ) (p : ℕ → Bool) (xs : List ℕ) (k d : ℕ) → k < length xs → sum_by f (filter p (take (k + 1) xs)) ≡ sum_by f (filter p (take k xs)) + cond (p (get_or xs k d)) (f (get_or xs k d)) 0
+pub sum_next : (f : ℕ → ℕ) (p : ℕ → Bool) (xs : List ℕ) (k d : ℕ) → k < length xs →
+    sum_by f (filter p (take (k + 1) xs)) ≡ sum_by f (filter p (take k xs)) + cond (p (get_or xs k d)) (f (get_or xs k d)) 0
 sum_next f p xs k d l = let x : ℕ = get_or xs k d in
     let a = ap (λ ys. sum_by f (filter p ys)) (take_more xs k d l) in let b = ap (sum_by f) (filter-append p (take k xs) (x ∷ [])) in
     let c = sum_by-append f (filter p (take k xs)) (filter p (x ∷ [])) in let e = sum_pass f p x [] in omega (arith, a, b, c, e)
@@ -156,5 +171,6 @@ module _ (f : ℕ → ℕ) (p : ℕ → Bool) (x : ℕ) where
         let d = cond-true (p y) (f y) 0 (ap p same ∙ e) in
         let g = cond-false (others y) (f y) 0 (and_right (p y) (not (y == x)) (not_from_true (y == x) (eq-eqb y x same))) in
         let m = ap f same in omega (arith, a, b, c, d, g, m))
-    | inr ne ↦ (let c = sum_apart xs o.1 (elim (has_cases x y xs h) [ inl q ↦ absurd (ne (sym q)) | inr q ↦ q ]) e in let d = ap (λ b. cond b (f y) 0) (other_is y ne) in omega (arith, a, b, c, d))
+    | inr ne ↦ (let c = sum_apart xs o.1 (elim (has_cases x y xs h) [ inl q ↦ absurd (ne (sym q)) | inr q ↦ q ]) e in let d =
+        ap (λ b. cond b (f y) 0) (other_is y ne) in omega (arith, a, b, c, d))
   ]

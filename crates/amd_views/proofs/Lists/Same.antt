@@ -38,8 +38,10 @@ length_sum : (xs : List ℕ) → length xs ≡ sum_by (λ j. 1) xs
 length_sum xs = ap length (sym (filter_all (λ j. true) xs (λ x h. refl))) ∙ length-filter (λ j. true) xs
 
 -- two lists that name the same numbers
-pub same_sum : (f : ℕ → ℕ) (xs ys : List ℕ) → Once xs → Once ys → each (has xs) ys ≡ true → each (has ys) xs ≡ true → sum_by f xs ≡ sum_by f ys
-same_sum f xs ys o p h k = let a = part_sum f ys xs p o (each_gives (has xs) ys h) in let b = part_sum f xs ys o p (each_gives (has ys) xs k) in omega (arith, a, b)
+pub same_sum : (f : ℕ → ℕ) (xs ys : List ℕ) → Once xs → Once ys → each (has xs) ys ≡ true → each (has ys) xs ≡ true →
+    sum_by f xs ≡ sum_by f ys
+same_sum f xs ys o p h k = let a = part_sum f ys xs p o (each_gives (has xs) ys h) in let b =
+    part_sum f xs ys o p (each_gives (has ys) xs k) in omega (arith, a, b)
 
 pub same_length : (xs ys : List ℕ) → Once xs → Once ys → each (has xs) ys ≡ true → each (has ys) xs ≡ true → length xs ≡ length ys
 same_length xs ys o p h k = length_sum xs ∙ same_sum (λ j. 1) xs ys o p h k ∙ sym (length_sum ys)

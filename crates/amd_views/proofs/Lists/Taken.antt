@@ -1,5 +1,6 @@
 -- What is left of the rows of an element when those of the classes of a front are taken off, one class after another.
-use Rattle.std.proofs.Common.{ℕ, true, false, List, [], ◌∷◌, ◌≡◌, ◌<◌, ◌+◌, ◌-◌, ◌||◌, cond, fold, inl, inr, refl, sym, ◌∙◌, ap, arith, length, get_or, take}
+use Rattle.std.proofs.Common.{ℕ, true, false, List, [], ◌∷◌, ◌≡◌, ◌<◌, ◌+◌, ◌-◌, ◌||◌, cond, fold, inl, inr, refl, sym, ◌∙◌, ap, arith}
+use Rattle.std.proofs.Common.{length, get_or, take}
 use Rattle.std.specs.Prelude.{sum_by, ◌==◌}
 use Rattle.std.proofs.lemmas.Bool.{cases_Bool, cond-true, cond-false, eqb-true, or_left}
 use Rattle.std.proofs.lemmas.List.{take_more}
@@ -10,8 +11,10 @@ use Rattle.amd_model.proofs.ListingLemmas.{has_head, has_tail}
 use Rattle.amd_views.specs.Rounds.{less, rows_left}
 
 -- the next number of a list
-pub less_next : (e rows b : ℕ) (xs : List ℕ) (k : ℕ) → k < length xs → less e rows b (take (k + 1) xs) ≡ cond (get_or xs k 0 == e) (less e rows b (take k xs) - rows) (less e rows b (take k xs))
-less_next e rows b xs k here = ap (less e rows b) (take_more xs k 0 here) ∙ fold_push (λ m x. cond (x == e) (m - rows) m) b (take k xs) (get_or xs k 0)
+pub less_next : (e rows b : ℕ) (xs : List ℕ) (k : ℕ) → k < length xs →
+    less e rows b (take (k + 1) xs) ≡ cond (get_or xs k 0 == e) (less e rows b (take k xs) - rows) (less e rows b (take k xs))
+less_next e rows b xs k here = ap (less e rows b) (take_more xs k 0 here) ∙ fold_push (λ m x. cond (x == e) (m - rows) m) b (take k xs)
+    (get_or xs k 0)
 
 -- the next class of a front
 pub left_next : (block whole size : ℕ → ℕ) (elements : ℕ → List ℕ) (front : List ℕ) (e k : ℕ) → k < length front →
@@ -35,9 +38,11 @@ less_once : (e rows b : ℕ) (xs : List ℕ) → Once xs → less e rows b xs �
 unfolding has
 less_once e rows b [] once = omega arith
 less_once e rows b (x ∷ xs) once = elim (cases_Bool (x == e)) [
-  | inl q ↦ ap (λ m. less e rows m xs) (cond-true (x == e) (b - rows) b q) ∙ less_none e rows (b - rows) xs (ap (has xs) (sym (eqb-true x e q)) ∙ once.0)
+  | inl q ↦ ap (λ m. less e rows m xs) (cond-true (x == e) (b - rows) b q) ∙ less_none e rows (b - rows) xs
+      (ap (has xs) (sym (eqb-true x e q)) ∙ once.0)
       ∙ ap (λ m. b - m) (sym (cond-true (x == e || has xs e) rows 0 (or_left (x == e) (has xs e) q)))
-  | inr q ↦ ap (λ m. less e rows m xs) (cond-false (x == e) (b - rows) b q) ∙ less_once e rows b xs once.1 ∙ ap (λ k. b - cond (k || has xs e) rows 0) (sym q)
+  | inr q ↦ ap (λ m. less e rows m xs) (cond-false (x == e) (b - rows) b q) ∙ less_once e rows b xs once.1 ∙ ap
+      (λ k. b - cond (k || has xs e) rows 0) (sym q)
 ]
 
 -- lists that name it once each take off the rows of those that name it

@@ -4,7 +4,8 @@ use Rattle.std.specs.Prelude.{◌==◌, filter}
 use Rattle.amd_model.specs.Graph.{Graph, IsGraph}
 use Rattle.amd_model.specs.State.{State}
 use Rattle.amd_model.specs.Sound.{IsSound}
-use Rattle.amd_model.specs.Tie.{Tie, Fits, has, is_empty, each, last_that, gathered, kept_elements, kept_variables, takes, done, rest, alike, represents, made, Once}
+use Rattle.amd_model.specs.Tie.{Tie, Fits, has, is_empty, each, last_that, gathered, kept_elements, kept_variables, takes, done, rest}
+use Rattle.amd_model.specs.Tie.{alike, represents, made, Once}
 use Rattle.amd_model.proofs.TieLists.{once_filter, last_same'}
 use Rattle.amd_model.proofs.ListingLemmas.{has_filter as filter_gives}
 use Rattle.amd_views.specs.Rounds.{keeps_none, alike_in}
@@ -12,7 +13,8 @@ use Rattle.amd_views.proofs.Lists.Named.{filter_named}
 use Rattle.amd_views.proofs.Merging.Representatives.{alike_self, alike_flip, alike_through, rep_in, rep_rep}
 use Rattle.amd_views.proofs.Fronts.Gathered.{gathered_once, gathered_live}
 
-module _ (g : Graph) (laws : IsGraph g) (s : State) (sound : IsSound g s) (t : Tie) (fits : Fits g t s) (c : ℕ) (placed : has t.placed c ≡ true) (aggressive : Bool) where
+module _ (g : Graph) (laws : IsGraph g) (s : State) (sound : IsSound g s) (t : Tie) (fits : Fits g t s) (c : ℕ)
+    (placed : has t.placed c ≡ true) (aggressive : Bool) where
   pub rest_in_front : (i : ℕ) → has (rest aggressive t c (gathered t c)) i ≡ true → has (gathered t c) i ≡ true
   unfolding rest
   rest_in_front i h = (filter_gives (λ i. not (done aggressive t c (gathered t c) i)) (gathered t c) i h).0
@@ -28,49 +30,67 @@ module _ (g : Graph) (laws : IsGraph g) (s : State) (sound : IsSound g s) (t : T
   -- the lists that a class of the front keeps name each number once
   pub elements_once : (i : ℕ) → has (gathered t c) i ≡ true → Once (kept_elements aggressive t c (gathered t c) i)
   unfolding kept_elements
-  elements_once i h = once_filter (λ e. not (takes aggressive t c (gathered t c) e)) (t.elements i) (fits.elements_once i (gathered_live g s t fits c placed i h))
+  elements_once i h = once_filter (λ e. not (takes aggressive t c (gathered t c) e)) (t.elements i)
+      (fits.elements_once i (gathered_live g s t fits c placed i h))
 
   pub variables_once : (i : ℕ) → has (gathered t c) i ≡ true → Once (kept_variables aggressive t c (gathered t c) i)
   unfolding kept_variables
-  variables_once i h = once_filter (λ j. not (j == c || has (gathered t c) j)) (t.variables i) (fits.variables_once i (gathered_live g s t fits c placed i h))
+  variables_once i h = once_filter (λ j. not (j == c || has (gathered t c) j)) (t.variables i)
+      (fits.variables_once i (gathered_live g s t fits c placed i h))
 
-  pub made_is : filter (λ i. represents aggressive t c (gathered t c) i == i) (rest aggressive t c (gathered t c)) ≡ made aggressive t c (gathered t c)
+  pub made_is : filter (λ i. represents aggressive t c (gathered t c) i == i) (rest aggressive t c (gathered t c))
+      ≡ made aggressive t c (gathered t c)
   unfolding made
   made_is = refl
 
   -- with lists that hold what the classes of the front keep
-  module _ (elements variables : ℕ → List ℕ) (es : (i : ℕ) → has (gathered t c) i ≡ true → elements i ≡ kept_elements aggressive t c (gathered t c) i)
+  module _ (elements variables : ℕ → List ℕ) (es : (i : ℕ) → has (gathered t c) i ≡ true →
+      elements i ≡ kept_elements aggressive t c (gathered t c) i)
       (vs : (i : ℕ) → has (gathered t c) i ≡ true → variables i ≡ kept_variables aggressive t c (gathered t c) i) where
     pub rest_of : filter (λ i. not (keeps_none elements variables i)) (gathered t c) ≡ rest aggressive t c (gathered t c)
     unfolding rest done
     rest_of = filter_named (λ i. not (keeps_none elements variables i)) (λ i. not (done aggressive t c (gathered t c) i)) (gathered t c)
-        (λ i h. ap (λ xs. not (is_empty xs && is_empty (variables i))) (es i h) ∙ ap (λ xs. not (is_empty (kept_elements aggressive t c (gathered t c) i) && is_empty xs)) (vs i h))
+        (λ i h. ap (λ xs. not (is_empty xs && is_empty (variables i))) (es i h) ∙ ap
+        (λ xs. not (is_empty (kept_elements aggressive t c (gathered t c) i) && is_empty xs)) (vs i h))
 
-    pub alike_is : (i j : ℕ) → has (rest aggressive t c (gathered t c)) i ≡ true → has (rest aggressive t c (gathered t c)) j ≡ true → alike_in elements variables i j ≡ alike aggressive t c (gathered t c) i j
+    pub alike_is : (i j : ℕ) → has (rest aggressive t c (gathered t c)) i ≡ true → has (rest aggressive t c (gathered t c)) j ≡ true →
+        alike_in elements variables i j ≡ alike aggressive t c (gathered t c) i j
     unfolding alike
     alike_is i j hi hj = let fi = rest_in_front i hi in let fj = rest_in_front j hj in
         same_tests (elements i) (elements j) (variables i) (variables j) _ _ _ _ (es i fi) (es j fj) (vs i fi) (vs j fj)
       where
         same_tests : (ei ej vi vj ei' ej' vi' vj' : List ℕ) → ei ≡ ei' → ej ≡ ej' → vi ≡ vi' → vj ≡ vj' →
-            (each (has ei) ej && each (has ej) ei && each (has vi) vj && each (has vj) vi) ≡ (each (has ei') ej' && each (has ej') ei' && each (has vi') vj' && each (has vj') vi')
-        same_tests ei ej vi vj ei' ej' vi' vj' p q r w = ap (λ x. each (has x) ej && each (has ej) x && each (has vi) vj && each (has vj) vi) p
+            (each (has ei) ej && each (has ej) ei && each (has vi) vj && each (has vj) vi)
+            ≡ (each (has ei') ej' && each (has ej') ei' && each (has vi') vj' && each (has vj') vi')
+        same_tests ei ej vi vj ei' ej' vi' vj' p q r w = ap (λ x. each (has x) ej && each (has ej) x && each (has vi) vj
+            && each (has vj) vi) p
             ∙ ap (λ x. each (has ei') x && each (has x) ei' && each (has vi) vj && each (has vj) vi) q
             ∙ ap (λ x. each (has ei') ej' && each (has ej') ei' && each (has x) vj && each (has vj) x) r
             ∙ ap (λ x. each (has ei') ej' && each (has ej') ei' && each (has vi') x && each (has x) vi') w
 
-    pub represents_is : (i : ℕ) → has (rest aggressive t c (gathered t c)) i ≡ true → last_that (alike_in elements variables i) i (rest aggressive t c (gathered t c)) ≡ represents aggressive t c (gathered t c) i
+    pub represents_is : (i : ℕ) → has (rest aggressive t c (gathered t c)) i ≡ true →
+        last_that (alike_in elements variables i) i (rest aggressive t c (gathered t c)) ≡ represents aggressive t c (gathered t c) i
     unfolding represents
-    represents_is i h = last_same' (alike_in elements variables i) (alike aggressive t c (gathered t c) i) i i (rest aggressive t c (gathered t c)) (λ j k. alike_is i j h k) (inl refl)
+    represents_is i h = last_same' (alike_in elements variables i) (alike aggressive t c (gathered t c) i) i i
+        (rest aggressive t c (gathered t c)) (λ j k. alike_is i j h k) (inl refl)
 
-    pub represents_in : (i : ℕ) → has (rest aggressive t c (gathered t c)) i ≡ true → has (rest aggressive t c (gathered t c)) (represents aggressive t c (gathered t c) i) ≡ true
+    pub represents_in : (i : ℕ) → has (rest aggressive t c (gathered t c)) i ≡ true →
+        has (rest aggressive t c (gathered t c)) (represents aggressive t c (gathered t c) i) ≡ true
     represents_in i h = ap (has (rest aggressive t c (gathered t c))) (sym (represents_is i h))
-        ∙ rep_in (alike_in elements variables) (alike_self elements variables) (alike_flip elements variables) (alike_through elements variables) (rest aggressive t c (gathered t c)) i h
+        ∙ rep_in (alike_in elements variables) (alike_self elements variables) (alike_flip elements variables)
+        (alike_through elements variables) (rest aggressive t c (gathered t c)) i h
 
-    pub represents_itself : (i : ℕ) → has (rest aggressive t c (gathered t c)) i ≡ true → represents aggressive t c (gathered t c) (represents aggressive t c (gathered t c) i) ≡ represents aggressive t c (gathered t c) i
+    pub represents_itself : (i : ℕ) → has (rest aggressive t c (gathered t c)) i ≡ true →
+        represents aggressive t c (gathered t c) (represents aggressive t c (gathered t c) i) ≡ represents aggressive t c (gathered t c) i
     represents_itself i h = let e = represents_is i h in
-        sym (represents_is (represents aggressive t c (gathered t c) i) (represents_in i h)) ∙ ap (λ x. last_that (alike_in elements variables x) x (rest aggressive t c (gathered t c))) (sym e)
-        ∙ rep_rep (alike_in elements variables) (alike_self elements variables) (alike_flip elements variables) (alike_through elements variables) (rest aggressive t c (gathered t c)) i h ∙ e
+        sym (represents_is (represents aggressive t c (gathered t c) i) (represents_in i h)) ∙ ap
+        (λ x. last_that (alike_in elements variables x) x (rest aggressive t c (gathered t c))) (sym e)
+        ∙ rep_rep (alike_in elements variables) (alike_self elements variables) (alike_flip elements variables)
+        (alike_through elements variables) (rest aggressive t c (gathered t c)) i h ∙ e
 
     -- these lists name each number once
     pub lists_once : (i : ℕ) → has (rest aggressive t c (gathered t c)) i ≡ true → Once (elements i) × Once (variables i)
-    lists_once i h = let f = rest_in_front i h in (subst Once (sym (es i f)) (elements_once i f), subst Once (sym (vs i f)) (variables_once i f))
+    lists_once i h = let f = rest_in_front i h in (
+      subst Once (sym (es i f)) (elements_once i f),
+      subst Once (sym (vs i f)) (variables_once i f),
+    )

@@ -1,8 +1,10 @@
 -- The representative of each class of a list, the last one alike, and the groups in which it is found from the last to the first.
-use Rattle.std.proofs.Common.{ℕ, zero, suc, Bool, true, false, ◌≡◌, ◌≢◌, ◌<◌, ◌+◌, ◌&&◌, ◌||◌, cond, inl, inr, refl, sym, ◌∙◌, ap, subst, arith, List, [], ◌∷◌, ◌++◌, take, drop, length, get_or, add-one}
+use Rattle.std.proofs.Common.{ℕ, zero, suc, Bool, true, false, ◌≡◌, ◌≢◌, ◌<◌, ◌+◌, ◌&&◌, ◌||◌, cond, inl, inr, refl, sym, ◌∙◌, ap, subst}
+use Rattle.std.proofs.Common.{arith, List, [], ◌∷◌, ◌++◌, take, drop, length, get_or, add-one}
 use Rattle.std.specs.Prelude.{◌==◌, fold}
 use Rattle.std.proofs.Math.Bool.{or-false}
-use Rattle.std.proofs.lemmas.Bool.{cases_Bool, false≢true, and_parts, and_from, and_left, and_right, or_left, or_right, eqb-true, eq-eqb, ne_eqb, cases_eq, cond-true, cond-false}
+use Rattle.std.proofs.lemmas.Bool.{cases_Bool, false≢true, and_parts, and_from, and_left, and_right, or_left, or_right, eqb-true, eq-eqb}
+use Rattle.std.proofs.lemmas.Bool.{ne_eqb, cases_eq, cond-true, cond-false}
 use Rattle.std.proofs.lemmas.List.{drop_more, take-append-drop, drop_all}
 use Rattle.std.proofs.lemmas.List.Sums.{fold-append}
 use Rattle.amd_model.specs.Tie.{has, each, Once, last_that}
@@ -45,9 +47,11 @@ module _ (elements variables : ℕ → List ℕ) where
   pub alike_flip : (i j : ℕ) → alike_in elements variables i j ≡ true → alike_in elements variables j i ≡ true
   alike_flip i j h = let p = alike_gives i j h in alike_from j i p.1 p.0 p.3 p.2
 
-  pub alike_through : (i j k : ℕ) → alike_in elements variables i j ≡ true → alike_in elements variables j k ≡ true → alike_in elements variables i k ≡ true
+  pub alike_through : (i j k : ℕ) → alike_in elements variables i j ≡ true → alike_in elements variables j k ≡ true →
+      alike_in elements variables i k ≡ true
   alike_through i j k h m = let p = alike_gives i j h in let q = alike_gives j k m in
-      alike_from i k (each_through (elements i) (elements j) (elements k) p.0 q.0) (each_through (elements k) (elements j) (elements i) q.1 p.1)
+      alike_from i k (each_through (elements i) (elements j) (elements k) p.0 q.0)
+      (each_through (elements k) (elements j) (elements i) q.1 p.1)
       (each_through (variables i) (variables j) (variables k) p.2 q.2) (each_through (variables k) (variables j) (variables i) q.3 p.3)
 
 -- ---- the last one alike
@@ -106,7 +110,8 @@ module _ (alike : ℕ → ℕ → Bool) (self : (x : ℕ) → alike x x ≡ true
   pub rep_behind : (k x : ℕ) → has (drop k rest) x ≡ true → has (drop k rest) (rep x) ≡ true
   rep_behind k x h =
       let back : List ℕ = drop k rest in
-      let e : rep x ≡ last_that (alike x) x back = parted k x ∙ last_same' (alike x) (alike x) (last_that (alike x) x (take k rest)) x back (λ z m. refl) (inr (x, h, self x)) in
+      let e : rep x ≡ last_that (alike x) x back = parted k x ∙ last_same' (alike x) (alike x) (last_that (alike x) x (take k rest)) x
+      back (λ z m. refl) (inr (x, h, self x)) in
       ap (has back) e ∙ elim (last_named (alike x) x back) [ inl q ↦ ap (has back) q ∙ h | inr q ↦ q ]
 
   module _ (once : Once rest) (k : ℕ) (within : k < length rest) where
@@ -124,7 +129,8 @@ module _ (alike : ℕ → ℕ → Bool) (self : (x : ℕ) → alike x x ≡ true
 
     here_first : has (drop k rest) (get_or rest k 0) ≡ true
     unfolding has
-    here_first = ap (λ ys. has ys (get_or rest k 0)) next_is ∙ or_left (get_or rest k 0 == get_or rest k 0) (has (drop (k + 1) rest) (get_or rest k 0)) (eq-eqb (get_or rest k 0) (get_or rest k 0) refl)
+    here_first = ap (λ ys. has ys (get_or rest k 0)) next_is ∙ or_left (get_or rest k 0 == get_or rest k 0)
+        (has (drop (k + 1) rest) (get_or rest k 0)) (eq-eqb (get_or rest k 0) (get_or rest k 0) refl)
 
     not_here : (x : ℕ) → x ≢ get_or rest k 0 → has (drop k rest) x ≡ has (drop (k + 1) rest) x
     unfolding has
@@ -133,7 +139,8 @@ module _ (alike : ℕ → ℕ → Bool) (self : (x : ℕ) → alike x x ≡ true
     -- a class with none alike behind it represents itself
     rep_alone : ((x : ℕ) → has (drop (k + 1) rest) x ≡ true → alike (get_or rest k 0) x ≡ false) → rep (get_or rest k 0) ≡ get_or rest k 0
     rep_alone f = let y : ℕ = get_or rest k 0 in let d : ℕ = last_that (alike y) y (take k rest) in
-        parted k y ∙ ap (last_that (alike y) d) next_is ∙ last_first (alike y) d y (drop (k + 1) rest) (self y) ∙ last_none (alike y) y (drop (k + 1) rest) f
+        parted k y ∙ ap (last_that (alike y) d) next_is ∙ last_first (alike y) d y (drop (k + 1) rest) (self y) ∙ last_none (alike y) y
+        (drop (k + 1) rest) f
 
   -- ---- the groups
 
@@ -149,8 +156,10 @@ module _ (alike : ℕ → ℕ → Bool) (self : (x : ℕ) → alike x x ≡ true
     groups = λ b x. ap (λ ys. has ys x) (f b) ∙ sym (ap (λ ys. has ys x && rep x == x && group x == b) none);
   }
 
-  module _ (once : Once rest) (group : ℕ → ℕ) (grouped : (x y : ℕ) → has rest x ≡ true → has rest y ≡ true → alike x y ≡ true → group x ≡ group y) (k : ℕ) (within : k < length rest)
-      (into after : ℕ → ℕ) (before groups : ℕ → List ℕ) (so : Found group (k + 1) into before) (others : (x : ℕ) → x ≢ get_or rest k 0 → after x ≡ into x) where
+  module _ (once : Once rest) (group : ℕ → ℕ) (grouped : (x y : ℕ) → has rest x ≡ true → has rest y ≡ true → alike x y ≡ true →
+      group x ≡ group y) (k : ℕ) (within : k < length rest)
+      (into after : ℕ → ℕ) (before groups : ℕ → List ℕ) (so : Found group (k + 1) into before)
+      (others : (x : ℕ) → x ≢ get_or rest k 0 → after x ≡ into x) where
     member : (b x : ℕ) → has (before b) x ≡ true → (has (drop (k + 1) rest) x ≡ true) × (rep x ≡ x) × (group x ≡ b)
     member b x h = let p = and_parts (has (drop (k + 1) rest) x && rep x == x) (group x == b) (sym (so.groups b x) ∙ h) in
         let q = and_parts (has (drop (k + 1) rest) x) (rep x == x) p.0 in (q.0, eqb-true (rep x) x q.1, eqb-true (group x) b p.1)
@@ -168,7 +177,8 @@ module _ (alike : ℕ → ℕ → Bool) (self : (x : ℕ) → alike x x ≡ true
     absent b = let y : ℕ = get_or rest k 0 in so.groups b y ∙ ap (λ c. c && rep y == y && group y == b) (own_none once k within)
 
     -- one alike is in the group
-    pub found_more : has (before (group (get_or rest k 0))) (after (get_or rest k 0)) ≡ true → alike (get_or rest k 0) (after (get_or rest k 0)) ≡ true → ((b : ℕ) → groups b ≡ before b) → Found group k after groups
+    pub found_more : has (before (group (get_or rest k 0))) (after (get_or rest k 0)) ≡ true →
+        alike (get_or rest k 0) (after (get_or rest k 0)) ≡ true → ((b : ℕ) → groups b ≡ before b) → Found group k after groups
     found_more h a same =
         let y : ℕ = get_or rest k 0 in
         let r : ℕ = after y in
@@ -180,13 +190,16 @@ module _ (alike : ℕ → ℕ → Bool) (self : (x : ℕ) → alike x x ≡ true
           groups = λ b x. ap (λ ys. has ys x) (same b) ∙ elim (cases_eq x y) [
             | inr other ↦ stays b x other
             | inl e ↦ ap (has (before b)) e ∙ absent b ∙ sym (ap (λ z. has (drop k rest) z && rep z == z && group z == b) e
-                ∙ and_left (has (drop k rest) y && rep y == y) (group y == b) (and_right (has (drop k rest) y) (rep y == y) (ne_eqb (rep y) y ne)))
+                ∙ and_left (has (drop k rest) y && rep y == y) (group y == b)
+                (and_right (has (drop k rest) y) (rep y == y) (ne_eqb (rep y) y ne)))
           ];
         }
 
     -- none alike is in the group: the class comes into it
-    pub found_new : ((x : ℕ) → has (before (group (get_or rest k 0))) x ≡ true → alike (get_or rest k 0) x ≡ false) → after (get_or rest k 0) ≡ get_or rest k 0 →
-        ((b : ℕ) → groups b ≡ cond (b == group (get_or rest k 0)) (before b ++ get_or rest k 0 ∷ []) (before b)) → Found group k after groups
+    pub found_new : ((x : ℕ) → has (before (group (get_or rest k 0))) x ≡ true → alike (get_or rest k 0) x ≡ false) →
+        after (get_or rest k 0) ≡ get_or rest k 0 →
+        ((b : ℕ) → groups b ≡ cond (b == group (get_or rest k 0)) (before b ++ get_or rest k 0 ∷ []) (before b)) →
+        Found group k after groups
     unfolding has
     found_new f own more =
         let y : ℕ = get_or rest k 0 in
@@ -195,24 +208,32 @@ module _ (alike : ℕ → ℕ → Bool) (self : (x : ℕ) → alike x x ≡ true
           | inr n ↦ n
           | inl t ↦ (let in_rest = behind_in rest (k + 1) x h in
               let r_back = rep_behind (k + 1) x h in
-              let r_group : group (rep x) ≡ group y = sym (grouped x (rep x) in_rest (rep_in x in_rest) (rep_alike x)) ∙ sym (grouped y x (here_in once k within) in_rest t) in
+              let r_group : group (rep x) ≡ group y = sym (grouped x (rep x) in_rest (rep_in x in_rest) (rep_alike x)) ∙ sym
+              (grouped y x (here_in once k within) in_rest t) in
               let listed = so.groups (group y) (rep x) ∙ and_from (has back (rep x) && rep (rep x) == rep x) (group (rep x) == group y)
-              (and_from (has back (rep x)) (rep (rep x) == rep x) r_back (eq-eqb (rep (rep x)) (rep x) (rep_rep x in_rest))) (eq-eqb (group (rep x)) (group y) r_group) in
+              (and_from (has back (rep x)) (rep (rep x) == rep x) r_back (eq-eqb (rep (rep x)) (rep x) (rep_rep x in_rest)))
+              (eq-eqb (group (rep x)) (group y) r_group) in
               clash (through y x (rep x) t (rep_alike x)) (f (rep x) listed))
         ] in
         let is : rep y ≡ y = rep_alone once k within none in
         record {
           into = intos (own ∙ sym is);
           groups = λ b x. ap (λ ys. has ys x) (more b) ∙ elim (cases_eq b (group y)) [
-            | inr off ↦ ap (λ ys. has ys x) (cond-false (b == group y) (before b ++ y ∷ []) (before b) (ne_eqb b (group y) off)) ∙ elim (cases_eq x y) [
-              | inr other ↦ stays b x other
-              | inl e ↦ ap (has (before b)) e ∙ absent b ∙ sym (ap (λ z. has (drop k rest) z && rep z == z && group z == b) e
-                  ∙ and_right (has (drop k rest) y && rep y == y) (group y == b) (ne_eqb (group y) b (λ q. off (sym q))))
-            ]
-            | inl on ↦ ap (λ ys. has ys x) (cond-true (b == group y) (before b ++ y ∷ []) (before b) (eq-eqb b (group y) on)) ∙ has_append (before b) (y ∷ []) x ∙ elim (cases_eq x y) [
-              | inr other ↦ ap (λ c. has (before b) x || (c || false)) (ne_eqb y x (λ e. other (sym e))) ∙ or-false (has (before b) x) ∙ stays b x other
-              | inl e ↦ or_right (has (before b) x) (y == x || false) (or_left (y == x) false (eq-eqb y x (sym e))) ∙ sym (ap (λ z. has (drop k rest) z && rep z == z && group z == b) e
-                  ∙ and_from (has (drop k rest) y && rep y == y) (group y == b) (and_from (has (drop k rest) y) (rep y == y) (here_first once k within) (eq-eqb (rep y) y is)) (eq-eqb (group y) b (sym on)))
-            ]
+            | inr off ↦ ap (λ ys. has ys x) (cond-false (b == group y) (before b ++ y ∷ []) (before b) (ne_eqb b (group y) off)) ∙ elim
+                (cases_eq x y) [
+                  | inr other ↦ stays b x other
+                  | inl e ↦ ap (has (before b)) e ∙ absent b ∙ sym (ap (λ z. has (drop k rest) z && rep z == z && group z == b) e
+                      ∙ and_right (has (drop k rest) y && rep y == y) (group y == b) (ne_eqb (group y) b (λ q. off (sym q))))
+                ]
+            | inl on ↦ ap (λ ys. has ys x) (cond-true (b == group y) (before b ++ y ∷ []) (before b) (eq-eqb b (group y) on)) ∙ has_append
+                (before b) (y ∷ []) x ∙ elim (cases_eq x y) [
+                  | inr other ↦ ap (λ c. has (before b) x || (c || false)) (ne_eqb y x (λ e. other (sym e))) ∙ or-false (has (before b) x) ∙
+                      stays b x other
+                  | inl e ↦ or_right (has (before b) x) (y == x || false) (or_left (y == x) false (eq-eqb y x (sym e))) ∙ sym
+                      (ap (λ z. has (drop k rest) z && rep z == z && group z == b) e
+                      ∙ and_from (has (drop k rest) y && rep y == y) (group y == b)
+                      (and_from (has (drop k rest) y) (rep y == y) (here_first once k within) (eq-eqb (rep y) y is))
+                      (eq-eqb (group y) b (sym on)))
+                ]
           ];
         }

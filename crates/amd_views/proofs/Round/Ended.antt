@@ -1,8 +1,6 @@
 -- Where no row is counted as live, no class is left and no row is live.
-use Rattle.std.proofs.Common.{ℕ, Bool, true, false, List, [], ◌∷◌, ◌≡◌, ◌≤◌, ◌∙◌, ap, sym, inl, inr, arith}
-use Rattle.std.specs.Prelude.{sum_by, ◌==◌}
-use Rattle.std.proofs.lemmas.Bool.{true≢false, cases_Bool, or_cases, eqb-true}
-use Rattle.std.proofs.lemmas.List.Sums.{sum_by-cons}
+use Rattle.std.proofs.Common.{ℕ, Bool, true, false, ◌≡◌, ◌∙◌, inl, inr, arith}
+use Rattle.std.proofs.lemmas.Bool.{cases_Bool}
 use Rattle.amd_model.specs.Graph.{Graph}
 use Rattle.amd_model.specs.State.{State, live}
 use Rattle.amd_model.specs.Tie.{Tie, has}
@@ -10,22 +8,14 @@ use Rattle.amd_model.proofs.StateLemmas.{class_from, live_gives}
 use Rattle.amd_views.specs.Keeps.{Stands}
 use Rattle.amd_views.specs.Views.{View}
 use Rattle.amd_views.proofs.Fronts.Gathered.{placed_rows}
-
--- what a list names is counted in its sum
-part_of_sum : (f : ℕ → ℕ) (xs : List ℕ) (x : ℕ) → has xs x ≡ true → f x ≤ sum_by f xs
-unfolding has
-part_of_sum f [] x h = absurd (true≢false (sym h))
-part_of_sum f (y ∷ ys) x h = let a = sum_by-cons f y ys in elim (or_cases (y == x) (has ys x) h) [
-  | inl q ↦ (let e = ap f (eqb-true y x q) in omega (arith, a, e))
-  | inr q ↦ (let b = part_of_sum f ys x q in omega (arith, a, b))
-]
+use Rattle.amd_views.proofs.Lists.Named.{named_sum}
 
 module _ (g : Graph) (dense : ℕ → Bool) (w : View) (t : Tie) (s : State) (st : Stands g dense w t s) where
   -- no class is left
   none_placed : w.live ≡ 0 → (i : ℕ) → has t.placed i ≡ true → ⊥
   none_placed z i h =
       let a = placed_rows g st.graph s st.sound t st.fits i h in
-      let b = part_of_sum t.size t.placed i h in
+      let b = named_sum t.size t.placed i h in
       let l = st.keeps.live in
       omega (arith, z, a, b, l)
 

@@ -1,13 +1,15 @@
 -- What a round finds is what the rules say: its front, what the classes of the front keep, which of them are left, and which of these
 -- represent others.
-use Rattle.std.proofs.Common.{ℕ, Bool, true, false, Option, List, ◌++◌, ◌≡◌, ◌≤◌, ◌<◌, ◌+◌, ◌-◌, ◌∙◌, ◌&&◌, not, cond, ap, sym, subst, arith}
+use Rattle.std.proofs.Common.{ℕ, Bool, true, false, Option, List, ◌++◌, ◌≡◌, ◌≤◌, ◌<◌, ◌+◌, ◌-◌, ◌∙◌, ◌&&◌, not, cond, ap, sym, subst}
+use Rattle.std.proofs.Common.{arith}
 use Rattle.std.specs.Prelude.{filter, flat_map, sum_by, ◌==◌}
 use Rattle.std.proofs.lemmas.Bool.{cond-true, cond-false, and_right, eq-eqb, ne_eqb, not-true}
 use Rattle.amd_model.specs.Below.{count_below}
 use Rattle.amd_model.specs.Graph.{Graph}
 use Rattle.amd_model.specs.Listing.{weight}
 use Rattle.amd_model.specs.State.{State, stands}
-use Rattle.amd_model.specs.Tie.{Tie, has, Once, pivot, gathered, kept_elements, kept_variables, rest, represents, made as made_of, last_that}
+use Rattle.amd_model.specs.Tie.{Tie, has, Once, pivot, gathered, kept_elements, kept_variables, rest, represents, made as made_of}
+use Rattle.amd_model.specs.Tie.{last_that}
 use Rattle.amd_model.proofs.BelowLemmas.{count_most}
 use Rattle.amd_model.proofs.StateLemmas.{block_from, stands_gives}
 use Rattle.amd_model.proofs.TieLists.{clash}
@@ -27,7 +29,8 @@ use Rattle.amd_views.proofs.Round.Turn.{Found}
 -- a class of least bound, and the list that is gathered of the record
 module _ (g : Graph) (dense : ℕ → Bool) (aggressive : Bool) (w : View) (t : Tie) (s : State) (st : Stands g dense w t s)
     (c : ℕ) (placed : has t.placed c ≡ true) (least : (d : ℕ) → has t.placed d ≡ true → t.bound c ≤ t.bound d) (front : List ℕ)
-    (first : front ≡ firsts (λ x. x == c) (flat_map (λ e. live_of w.size (w.members e)) (w.lists.elements c) ++ live_of w.size (w.lists.variables c))) where
+    (first : front ≡ firsts (λ x. x == c) (flat_map (λ e. live_of w.size (w.members e)) (w.lists.elements c)
+    ++ live_of w.size (w.lists.variables c))) where
   abbrev L : List ℕ
   L = gathered t c
 
@@ -76,10 +79,12 @@ module _ (g : Graph) (dense : ℕ → Bool) (aggressive : Bool) (w : View) (t : 
     absorbed = subst (λ xs. Took xs) front_is m
 
     elements : (i : ℕ) → has (gathered t c) i ≡ true → kept.elements i ≡ kept_elements aggressive t c (gathered t c) i
-    elements = absorption.elements_kept g s t st.fits w st.keeps c placed aggressive kept w.parent after beyond absorbed st.graph st.sound borders
+    elements = absorption.elements_kept g s t st.fits w st.keeps c placed aggressive kept w.parent after beyond absorbed st.graph st.sound
+        borders
 
     variables : (i : ℕ) → has (gathered t c) i ≡ true → kept.variables i ≡ kept_variables aggressive t c (gathered t c) i
-    variables = absorption.variables_kept g s t st.fits w st.keeps c placed aggressive kept w.parent after beyond absorbed st.graph st.sound borders
+    variables = absorption.variables_kept g s t st.fits w st.keeps c placed aggressive kept w.parent after beyond absorbed st.graph
+        st.sound borders
 
     -- the lists that they keep name each number once
     pub lists_once : (i : ℕ) → has front i ≡ true → Once (kept.elements i) × Once (kept.variables i)
@@ -117,7 +122,8 @@ module _ (g : Graph) (dense : ℕ → Bool) (aggressive : Bool) (w : View) (t : 
           ∙ merging.rest_of g st.graph s st.sound t st.fits c placed aggressive kept.elements kept.variables elements variables
 
       pub into_same : (i : ℕ) → has (rest aggressive t c (gathered t c)) i ≡ true → into i ≡ represents aggressive t c (gathered t c) i
-      into_same i h = into_is i (ap (λ l. has l i) left_same ∙ h) ∙ ap (λ l. last_that (alike_in kept.elements kept.variables i) i l) left_same
+      into_same i h = into_is i (ap (λ l. has l i) left_same ∙ h) ∙ ap (λ l. last_that (alike_in kept.elements kept.variables i) i l)
+          left_same
           ∙ merging.represents_is g st.graph s st.sound t st.fits c placed aggressive kept.elements kept.variables elements variables i h
 
       pub made_same : made ≡ made_of aggressive t c (gathered t c)
@@ -131,13 +137,16 @@ module _ (g : Graph) (dense : ℕ → Bool) (aggressive : Bool) (w : View) (t : 
           ∙ filter_has (λ i. represents aggressive t c L i == i) R r
           (merging.represents_in g st.graph s st.sound t st.fits c placed aggressive kept.elements kept.variables elements variables i h)
           (eq-eqb (represents aggressive t c L r) r
-          (merging.represents_itself g st.graph s st.sound t st.fits c placed aggressive kept.elements kept.variables elements variables i h))
+          (merging.represents_itself g st.graph s st.sound t st.fits c placed aggressive kept.elements kept.variables elements variables i
+          h))
 
       -- the numbers of rows after mass elimination and merging
-      module _ (border block live : ℕ) (border_is : border ≡ sum_by w.size left) (block_is : block ≡ w.size c + (sum_by w.size front - border))
+      module _ (border block live : ℕ) (border_is : border ≡ sum_by w.size left)
+          (block_is : block ≡ w.size c + (sum_by w.size front - border))
           (live_is : live ≡ w.live - block) (retired joined sizes : ℕ → ℕ)
           (retired_is : (x : ℕ) → retired x ≡ cond (has front x && keeps_none kept.elements kept.variables x) 0 (w.size x))
-          (joined_is : (x : ℕ) → joined x ≡ cond (has left x) (cond (into x == x) (sum_by retired (filter (λ j. into j == x) left)) 0) (retired x))
+          (joined_is : (x : ℕ) → joined x ≡ cond (has left x) (cond (into x == x) (sum_by retired (filter (λ j. into j == x) left)) 0)
+          (retired x))
           (size_is : (x : ℕ) → sizes x ≡ cond (x == c) 0 (joined x)) where
         retired_left : (j : ℕ) → has left j ≡ true → retired j ≡ t.size j
         retired_left j h = let p = left_parts j h in
@@ -178,7 +187,8 @@ module _ (g : Graph) (dense : ℕ → Bool) (aggressive : Bool) (w : View) (t : 
 
 -- what was found in a round, and is in its record, is what the rules say
 module _ (g : Graph) (dense : ℕ → Bool) (aggressive : Bool) (w v : View) (t : Tie) (s : State) (st : Stands g dense w t s)
-    (r : Rounding aggressive w v) (placed : has t.placed r.c ≡ true) (lowest : r.least ≡ t.bound r.c) (is_pivot : r.c ≡ pivot t.bound t.placed)
+    (r : Rounding aggressive w v) (placed : has t.placed r.c ≡ true) (lowest : r.least ≡ t.bound r.c)
+    (is_pivot : r.c ≡ pivot t.bound t.placed)
     (least : (d : ℕ) → has t.placed d ≡ true → t.bound r.c ≤ t.bound d) where
   took : Absorbed aggressive r.c (gathered t r.c) w.size w.block w.front w.lists r.kept w.parent v.parent r.beyond
   took = absorbed g dense aggressive w t s st r.c placed least r.front r.front_is r.kept v.parent r.beyond r.absorbed

@@ -1,5 +1,6 @@
 -- A round keeps the sizes of blocks and fronts, the figures, and the number of live rows.
-use Rattle.std.proofs.Common.{ℕ, zero, suc, Bool, true, false, Option, None, Some, ◌≡◌, ◌≢◌, ◌≤◌, ◌<◌, ◌+◌, ◌-◌, ◌∙◌, ◌⊎◌, ap, sym, refl, subst, inl, inr, arith}
+use Rattle.std.proofs.Common.{ℕ, zero, suc, Bool, true, false, Option, None, Some, ◌≡◌, ◌≢◌, ◌≤◌, ◌<◌, ◌+◌, ◌-◌, ◌∙◌, ◌⊎◌, ap, sym, refl}
+use Rattle.std.proofs.Common.{subst, inl, inr, arith}
 use Rattle.std.specs.Prelude.{sum_by, ◌==◌}
 use Rattle.std.proofs.lemmas.Bool.{cases_eq, cond-true, cond-false, eq-eqb, ne_eqb}
 use Rattle.amd_model.specs.Below.{count_below}
@@ -12,7 +13,8 @@ use Rattle.amd_model.specs.Tie.{Tie, has, gathered, rest, left, round}
 use Rattle.amd_model.proofs.BelowLemmas.{clash}
 use Rattle.amd_model.proofs.StateLemmas.{class_gives, class_from, live_from}
 use Rattle.amd_model.proofs.TieLaw.{L, front_class, rest_class, after, is_step}
-use Rattle.amd_model.proofs.StepFronts.{element_stays, block_count_stays, weight_stays, pivot_element, weight_new, still_live, figure_new, greatest_new, front_small, block_rows, border_rows, left_rows, left_sum, left_less}
+use Rattle.amd_model.proofs.StepFronts.{element_stays, block_count_stays, weight_stays, pivot_element, weight_new, still_live, figure_new}
+use Rattle.amd_model.proofs.StepFronts.{greatest_new, block_rows, border_rows, left_rows, left_sum, left_less}
 use Rattle.amd_model.proofs.StepFronts.{no_parent as parent_free}
 use Rattle.amd_views.specs.Keeps.{KeepsFronts, LinksLead, Stands}
 use Rattle.amd_views.specs.Views.{View}
@@ -49,15 +51,18 @@ module _ (n : ℕ) (links : ℕ → Option ℕ) (home : ℕ → Home) (lead : Li
   gone_named x e h = gone_within lead.top x e (omega arith) h
 
 -- what is placed with a least bound is a pivot
-pub pivot_class : (g : Graph) (dense : ℕ → Bool) (w : View) (t : Tie) (s : State) → Stands g dense w t s → (c : ℕ) → has t.placed c ≡ true → is_class s c ≡ true
+pub pivot_class : (g : Graph) (dense : ℕ → Bool) (w : View) (t : Tie) (s : State) → Stands g dense w t s → (c : ℕ) →
+    has t.placed c ≡ true → is_class s c ≡ true
 pivot_class g dense w t s st c placed = sym (st.fits.placed c) ∙ placed
 
 pub pivot_least : (g : Graph) (dense : ℕ → Bool) (w : View) (t : Tie) (s : State) → Stands g dense w t s → (c : ℕ) → has t.placed c ≡ true →
     ((d : ℕ) → has t.placed d ≡ true → t.bound c ≤ t.bound d) → (d : ℕ) → is_class s d ≡ true → s.bound c ≤ s.bound d
 pivot_least g dense w t s st c placed least d k = let l = least d (st.fits.placed d ∙ k) in
-    let a = st.fits.bound c (class_gives c (s.home c) (sym (st.fits.placed c) ∙ placed)) in let b = st.fits.bound d (class_gives d (s.home d) k) in omega (arith, l, a, b)
+    let a = st.fits.bound c (class_gives c (s.home c) (sym (st.fits.placed c) ∙ placed)) in let b =
+    st.fits.bound d (class_gives d (s.home d) k) in omega (arith, l, a, b)
 
-module _ (g : Graph) (dense : ℕ → Bool) (aggressive : Bool) (w v : View) (t : Tie) (s : State) (st : Stands g dense w t s) (r : Rounding aggressive w v)
+module _ (g : Graph) (dense : ℕ → Bool) (aggressive : Bool) (w v : View) (t : Tie) (s : State) (st : Stands g dense w t s)
+    (r : Rounding aggressive w v)
     (class : is_class s r.c ≡ true) (least : (d : ℕ) → is_class s d ≡ true → s.bound r.c ≤ s.bound d)
     (front_is : r.front ≡ gathered t r.c) (rest_is : r.rest ≡ rest aggressive t r.c (gathered t r.c)) where
   abbrev pub U : State
@@ -75,18 +80,17 @@ module _ (g : Graph) (dense : ℕ → Bool) (aggressive : Bool) (w v : View) (t 
   pub front_rows_are : sum_by w.size r.front ≡ sum_by t.size (gathered t r.c)
   unfolding L
   front_rows_are = ap (sum_by w.size) front_is
-      ∙ sum_named w.size t.size (gathered t r.c) (λ i k. size_of i (front_class g st.graph aggressive t s st.sound st.fits r.c class least i k).0)
+      ∙ sum_named w.size t.size (gathered t r.c) (λ i k. size_of i
+      (front_class g st.graph aggressive t s st.sound st.fits r.c class least i k).0)
 
   pub border_is : r.border ≡ sum_by t.size (rest aggressive t r.c (gathered t r.c))
   unfolding L
   border_is = r.border_is ∙ ap (sum_by w.size) rest_is
-      ∙ sum_named w.size t.size (rest aggressive t r.c (gathered t r.c)) (λ i k. size_of i (rest_class g st.graph aggressive t s st.sound st.fits r.c class least i k).0)
+      ∙ sum_named w.size t.size (rest aggressive t r.c (gathered t r.c))
+      (λ i k. size_of i (rest_class g st.graph aggressive t s st.sound st.fits r.c class least i k).0)
 
   pub block_is : r.block ≡ t.size r.c + (sum_by t.size (gathered t r.c) - sum_by t.size (rest aggressive t r.c (gathered t r.c)))
   block_is = let a = r.block_is in let b = border_is in let c = front_rows_are in let d = size_of r.c home_c in omega (arith, a, b, c, d)
-
-  pub block_small : r.block ≤ w.live
-  block_small = let a = block_is in let b = front_small g st.graph aggressive t s st.sound st.fits r.c class least in let l = st.keeps.live in omega (arith, a, b, l)
 
   pub live_left : v.live ≡ left aggressive t r.c (gathered t r.c)
   live_left = let a = block_is in let b = left_rows g st.graph aggressive t s st.sound st.fits r.c class least in
@@ -96,11 +100,13 @@ module _ (g : Graph) (dense : ℕ → Bool) (aggressive : Bool) (w v : View) (t 
   live_is = live_left ∙ sym (left_sum g st.graph aggressive t s st.sound st.fits r.c class least)
 
   pub live_less : v.live < w.live
-  live_less = let a = live_left in let b = left_less g st.graph aggressive t s st.sound st.fits r.c class least in let l = st.keeps.live in omega (arith, a, b, l)
+  live_less = let a = live_left in let b = left_less g st.graph aggressive t s st.sound st.fits r.c class least in let l =
+      st.keeps.live in omega (arith, a, b, l)
 
   -- no row was in a block of the pivot's name
   no_block : (x : ℕ) → s.home x ≢ Gone r.c
-  no_block x h = let k = gone_named w.rows w.link t.home st.keeps.links x r.c (st.fits.home x ∙ h) in let m = sym (st.fits.home r.c) ∙ k in let l = home_c in cc
+  no_block x h = let k = gone_named w.rows w.link t.home st.keeps.links x r.c (st.fits.home x ∙ h) in let m =
+      sym (st.fits.home r.c) ∙ k in let l = home_c in cc
 
   pub block_counts : r.block ≡ count_below g.size (in_block U r.c)
   block_counts = block_is ∙ sym (block_rows g st.graph aggressive t s st.sound st.fits r.c class least no_block)
@@ -119,20 +125,23 @@ module _ (g : Graph) (dense : ℕ → Bool) (aggressive : Bool) (w v : View) (t 
   some_degree = st.joined r.c (live_from r.c (s.home r.c) home_c)
 
   -- the figures of the fronts so far
-  figure_is : (share : ℕ → ℕ) (x : ℕ) → x ≡ cut (figure share g dense s) → cut (x + front_sum share r.block (r.border + w.n_dense)) ≡ cut (figure share g dense U)
+  figure_is : (share : ℕ → ℕ) (x : ℕ) → x ≡ cut (figure share g dense s) →
+      cut (x + front_sum share r.block (r.border + w.n_dense)) ≡ cut (figure share g dense U)
   figure_is share x q =
       ap (λ y. cut (y + front_sum share r.block (r.border + w.n_dense))) q
       ∙ cut_add (figure share g dense s) (front_sum share r.block (r.border + w.n_dense))
       ∙ ap (λ y. cut (figure share g dense s + y)) columns
       ∙ ap cut (sym (figure_new g st.graph aggressive r.c s U st.sound step_of dense some_degree share))
     where
-      columns : front_sum share r.block (r.border + w.n_dense) ≡ front_sum share (count_below g.size (in_block U r.c)) (count_below g.size (U.border r.c) + count_below g.size dense)
+      columns : front_sum share r.block (r.border + w.n_dense) ≡ front_sum share (count_below g.size (in_block U r.c))
+          (count_below g.size (U.border r.c) + count_below g.size dense)
       columns = ap (λ y. front_sum share y (r.border + w.n_dense)) block_counts
           ∙ ap (λ y. front_sum share (count_below g.size (in_block U r.c)) (y + w.n_dense)) border_counts
           ∙ ap (λ y. front_sum share (count_below g.size (in_block U r.c)) (count_below g.size (U.border r.c) + y)) st.fronts.dense_rows
 
   greatest_is : v.figures.d_max ≡ greatest_front g dense U
-  greatest_is = let a = r.greatest in let b = st.fronts.greatest in let c = block_counts in let d = border_counts in let e = st.fronts.dense_rows in
+  greatest_is = let a = r.greatest in let b = st.fronts.greatest in let c = block_counts in let d = border_counts in let e =
+      st.fronts.dense_rows in
       let f = greatest_new g st.graph aggressive r.c s U st.sound step_of dense some_degree in omega (arith, a, b, c, d, e, f)
 
   other_element : (e : ℕ) → e ≢ r.c → is_element s e ≡ is_element U e
@@ -153,7 +162,8 @@ module _ (g : Graph) (dense : ℕ → Bool) (aggressive : Bool) (w v : View) (t 
 
   new_front : (e : ℕ) → is_element U e ≡ true → v.front e ≡ weight g U e
   new_front e h = r.fronts e ∙ elim (cases_eq e r.c) [
-    | inl q ↦ cond-true (e == r.c) (r.block + r.border) (w.front e) (eq-eqb e r.c q) ∙ both ∙ sym (weight_new g st.graph aggressive r.c s U st.sound step_of) ∙ ap (weight g U) (sym q)
+    | inl q ↦ cond-true (e == r.c) (r.block + r.border) (w.front e) (eq-eqb e r.c q) ∙ both ∙ sym
+        (weight_new g st.graph aggressive r.c s U st.sound step_of) ∙ ap (weight g U) (sym q)
     | inr ne ↦ cond-false (e == r.c) (r.block + r.border) (w.front e) (ne_eqb e r.c ne) ∙ st.fronts.fronts e (other_element e ne ∙ h)
         ∙ sym (weight_stays g st.graph aggressive r.c s U st.sound step_of e ne)
   ]

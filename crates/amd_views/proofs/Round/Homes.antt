@@ -1,156 +1,152 @@
 -- Where a row is after a round, by where it was.
-use Rattle.std.proofs.Common.{ℕ, suc, Bool, true, false, Option, None, Some, List, [], ◌∷◌, ◌≡◌, ◌≢◌, ◌≤◌, ◌<◌, ◌+◌, ◌-◌, ◌∙◌, ◌&&◌, ◌||◌, not, min, cond, ap, sym, refl, subst, inl, inr, arith}
-use Rattle.std.specs.Prelude.{filter, sum_by, nat_lt, is_none, ◌==◌, ◌⊎◌, ◌^◌}
-use Rattle.std.proofs.Math.Bool.{and-false, and-true}
-use Rattle.std.proofs.lemmas.Bool.{cases_Bool, cases_eq, cond-true, cond-false, or_left, or_right, or_from, or_parts, or_cases, and_from, and_parts, and_left, eqb-true, eq-eqb, ne_eqb, lt-ltb, le-ltb, not-true, not_from_false}
+use Rattle.std.proofs.Common.{ℕ, Bool, true, false, List, ◌≡◌, ◌∙◌, ◌&&◌, ◌||◌}
+use Rattle.std.proofs.Common.{cond, ap, sym, refl, inl, inr}
+use Rattle.std.specs.Prelude.{◌==◌, ◌⊎◌}
+use Rattle.std.proofs.Math.Bool.{and-false}
+use Rattle.std.proofs.lemmas.Bool.{cases_Bool, cases_eq, cond-true, cond-false, or_left, or_right, or_from, and_from}
+use Rattle.std.proofs.lemmas.Bool.{and_left, eq-eqb, ne_eqb}
 use Rattle.amd_model.specs.Graph.{Graph}
-use Rattle.amd_model.specs.Figures.{cut}
-use Rattle.amd_model.specs.State.{State, Home, Last, Live, Gone, is_class, front, holds, stands, inside}
-use Rattle.amd_model.specs.Step.{StepAt, absorbed}
-use Rattle.amd_model.specs.Sound.{IsSound}
-use Rattle.amd_model.specs.Tie.{Tie, Fits, has, is_empty, turned, pivot, gathered, takes, kept_elements, kept_variables, done, rest, represents, made, ends, new_size, far, left, next_bound, new_home, round, next}
-use Rattle.amd_model.proofs.StateLemmas.{class_gives, class_from, live_from, neighbours_gives, holds_gives, stands_gives}
-use Rattle.amd_model.proofs.Sound.{live_small}
-use Rattle.amd_model.proofs.SoundStep.{step_sound}
-use Rattle.amd_model.proofs.TieLists.{same_bool, clash, has_append, has_filter, has_turned, some_of}
-use Rattle.amd_model.proofs.ListingLemmas.{filter_has, has_filter as filter_gives, has_right}
+use Rattle.amd_model.specs.State.{State, Home, Last, Live, Gone, is_class}
+use Rattle.amd_model.specs.Tie.{Tie, has, gathered, done, rest}
+use Rattle.amd_model.specs.Tie.{represents, made, new_home, round}
 use Rattle.amd_model.proofs.TieSums.{home_cases}
-use Rattle.amd_model.proofs.TieLaw.{L as front_list, takes_is, front_class, after, is_step, now, now_fits}
-use Rattle.amd_views.specs.Views.{live_of}
-use Rattle.amd_views.specs.Rounds.{keeps_none, IsApart}
-use Rattle.amd_views.specs.Keeps.{LinksLead, Stands}
+use Rattle.amd_views.specs.Keeps.{Stands}
 use Rattle.amd_views.specs.Views.{View}
-use Rattle.amd_model.proofs.StepFronts.{placed_small}
-use Rattle.amd_views.proofs.Round.Fronts.{border_is as border_rows, live_left as live_after, live_less, live_is as live_sum, joined as joined_after, no_parent as no_parent_after, fronts_kept}
-use Rattle.amd_views.proofs.Lists.Named.{filter_named, sum_named, filter_all, filter_both, not_empty}
 use Rattle.amd_views.proofs.Rounding.{Rounding}
-use Rattle.amd_views.proofs.Fronts.Gathered.{gathered_other, placed_rows}
-use Rattle.amd_views.proofs.Round.Turn.{Found, Turn, class_of, front_placed, in_left, lists_after, made_front, made_rest, not_c, outside_rest, pivot_is_class, rest_front, rest_keeps}
+use Rattle.amd_views.proofs.Round.Turn.{Found, Turn, class_of, front_placed, in_left, lists_after, made_front, made_rest, not_c}
+use Rattle.amd_views.proofs.Round.Turn.{outside_rest, pivot_is_class, rest_front, rest_keeps}
 
-module _ {g : Graph} {dense : ℕ → Bool} {aggressive : Bool} {w v : View} {t : Tie} {s : State} (turn : Turn g dense aggressive w v t s) where
-  abbrev st : Stands g dense w t s
-  st = turn.before
+module _ {g : Graph} {dense : ℕ → Bool} {aggressive : Bool} {w v : View} {t : Tie} {s : State} (turn : Turn g dense aggressive w v t s)
+  where
+    abbrev st : Stands g dense w t s
+    st = turn.before
 
-  abbrev r : Rounding aggressive w v
-  r = turn.wrote
+    abbrev r : Rounding aggressive w v
+    r = turn.wrote
 
-  abbrev f : Found aggressive w v t turn.wrote
-  f = turn.found
+    abbrev f : Found aggressive w v t turn.wrote
+    f = turn.found
 
-  abbrev L : List ℕ
-  L = gathered t turn.wrote.c
+    abbrev L : List ℕ
+    L = gathered t turn.wrote.c
 
-  abbrev R : List ℕ
-  R = rest aggressive t turn.wrote.c (gathered t turn.wrote.c)
+    abbrev R : List ℕ
+    R = rest aggressive t turn.wrote.c (gathered t turn.wrote.c)
 
-  abbrev M : List ℕ
-  M = made aggressive t turn.wrote.c (gathered t turn.wrote.c)
+    abbrev M : List ℕ
+    M = made aggressive t turn.wrote.c (gathered t turn.wrote.c)
 
-  abbrev class : is_class s turn.wrote.c ≡ true
-  class = pivot_is_class turn
+    abbrev class : is_class s turn.wrote.c ≡ true
+    class = pivot_is_class turn
 
-  abbrev new_lists : Tie
-  new_lists = lists_after turn
+    abbrev new_lists : Tie
+    new_lists = lists_after turn
 
-  home_of : (i : ℕ) → has t.placed i ≡ true → t.home i ≡ Live i
-  home_of i h = st.fits.home i ∙ class_of turn i h
+    home_of : (i : ℕ) → has t.placed i ≡ true → t.home i ≡ Live i
+    home_of i h = st.fits.home i ∙ class_of turn i h
 
-  abbrev pub moved : Home → Home
-  moved h = new_home aggressive t r.c L h
+    abbrev pub moved : Home → Home
+    moved h = new_home aggressive t r.c L h
 
-  moved_pivot : moved (Live r.c) ≡ Gone r.c
-  unfolding new_home
-  moved_pivot = cond-true (r.c == r.c || (has L r.c && done aggressive t r.c L r.c)) (Gone r.c) (cond (has R r.c) (Live (represents aggressive t r.c L r.c)) (Live r.c))
-      (or_left (r.c == r.c) (has L r.c && done aggressive t r.c L r.c) (eq-eqb r.c r.c refl))
+    moved_pivot : moved (Live r.c) ≡ Gone r.c
+    unfolding new_home
+    moved_pivot = cond-true (r.c == r.c || (has L r.c && done aggressive t r.c L r.c)) (Gone r.c)
+        (cond (has R r.c) (Live (represents aggressive t r.c L r.c)) (Live r.c))
+        (or_left (r.c == r.c) (has L r.c && done aggressive t r.c L r.c) (eq-eqb r.c r.c refl))
 
-  moved_done : (d : ℕ) → has L d ≡ true → done aggressive t r.c L d ≡ true → moved (Live d) ≡ Gone r.c
-  unfolding new_home
-  moved_done d h k = cond-true (d == r.c || (has L d && done aggressive t r.c L d)) (Gone r.c) (cond (has R d) (Live (represents aggressive t r.c L d)) (Live d))
-      (or_right (d == r.c) (has L d && done aggressive t r.c L d) (and_from (has L d) (done aggressive t r.c L d) h k))
+    moved_done : (d : ℕ) → has L d ≡ true → done aggressive t r.c L d ≡ true → moved (Live d) ≡ Gone r.c
+    unfolding new_home
+    moved_done d h k = cond-true (d == r.c || (has L d && done aggressive t r.c L d)) (Gone r.c)
+        (cond (has R d) (Live (represents aggressive t r.c L d)) (Live d))
+        (or_right (d == r.c) (has L d && done aggressive t r.c L d) (and_from (has L d) (done aggressive t r.c L d) h k))
 
-  moved_rest : (d : ℕ) → has R d ≡ true → moved (Live d) ≡ Live (represents aggressive t r.c L d)
-  unfolding new_home
-  moved_rest d h = cond-false (d == r.c || (has L d && done aggressive t r.c L d)) (Gone r.c) (cond (has R d) (Live (represents aggressive t r.c L d)) (Live d))
-      (or_from (d == r.c) (has L d && done aggressive t r.c L d) (not_c turn d (rest_front turn d h)) (ap (λ b. has L d && b) (rest_keeps turn d h) ∙ and-false (has L d)))
-      ∙ cond-true (has R d) (Live (represents aggressive t r.c L d)) (Live d) h
+    moved_rest : (d : ℕ) → has R d ≡ true → moved (Live d) ≡ Live (represents aggressive t r.c L d)
+    unfolding new_home
+    moved_rest d h = cond-false (d == r.c || (has L d && done aggressive t r.c L d)) (Gone r.c)
+        (cond (has R d) (Live (represents aggressive t r.c L d)) (Live d))
+        (or_from (d == r.c) (has L d && done aggressive t r.c L d) (not_c turn d (rest_front turn d h))
+        (ap (λ b. has L d && b) (rest_keeps turn d h) ∙ and-false (has L d)))
+        ∙ cond-true (has R d) (Live (represents aggressive t r.c L d)) (Live d) h
 
-  pub moved_other : (d : ℕ) → (d == r.c) ≡ false → has L d ≡ false → moved (Live d) ≡ Live d
-  unfolding new_home
-  moved_other d e n = cond-false (d == r.c || (has L d && done aggressive t r.c L d)) (Gone r.c) (cond (has R d) (Live (represents aggressive t r.c L d)) (Live d))
-      (or_from (d == r.c) (has L d && done aggressive t r.c L d) e (and_left (has L d) (done aggressive t r.c L d) n))
-      ∙ cond-false (has R d) (Live (represents aggressive t r.c L d)) (Live d) (outside_rest turn d n)
+    pub moved_other : (d : ℕ) → (d == r.c) ≡ false → has L d ≡ false → moved (Live d) ≡ Live d
+    unfolding new_home
+    moved_other d e n = cond-false (d == r.c || (has L d && done aggressive t r.c L d)) (Gone r.c)
+        (cond (has R d) (Live (represents aggressive t r.c L d)) (Live d))
+        (or_from (d == r.c) (has L d && done aggressive t r.c L d) e (and_left (has L d) (done aggressive t r.c L d) n))
+        ∙ cond-false (has R d) (Live (represents aggressive t r.c L d)) (Live d) (outside_rest turn d n)
 
-  pub moved_gone : (e : ℕ) → moved (Gone e) ≡ Gone e
-  unfolding new_home
-  moved_gone e = refl
+    pub moved_gone : (e : ℕ) → moved (Gone e) ≡ Gone e
+    unfolding new_home
+    moved_gone e = refl
 
-  pub moved_last : moved Last ≡ Last
-  unfolding new_home
-  moved_last = refl
+    pub moved_last : moved Last ≡ Last
+    unfolding new_home
+    moved_last = refl
 
-  pub new_home_is : (x : ℕ) → new_lists.home x ≡ moved (t.home x)
-  unfolding round
-  new_home_is x = refl
+    pub new_home_is : (x : ℕ) → new_lists.home x ≡ moved (t.home x)
+    unfolding round
+    new_home_is x = refl
 
-  pub rest_home : (x : ℕ) → has R x ≡ true → new_lists.home x ≡ Live (represents aggressive t r.c L x)
-  rest_home x h = new_home_is x ∙ ap moved (home_of x (front_placed turn x (rest_front turn x h))) ∙ moved_rest x h
+    pub rest_home : (x : ℕ) → has R x ≡ true → new_lists.home x ≡ Live (represents aggressive t r.c L x)
+    rest_home x h = new_home_is x ∙ ap moved (home_of x (front_placed turn x (rest_front turn x h))) ∙ moved_rest x h
 
-  pub made_home : (x : ℕ) → has M x ≡ true → new_lists.home x ≡ Live x
-  made_home x h = let m = made_rest turn x h in rest_home x m.0 ∙ ap Live m.1
+    pub made_home : (x : ℕ) → has M x ≡ true → new_lists.home x ≡ Live x
+    made_home x h = let m = made_rest turn x h in rest_home x m.0 ∙ ap Live m.1
 
-  pub pivot_home : new_lists.home r.c ≡ Gone r.c
-  pivot_home = new_home_is r.c ∙ ap moved (home_of r.c f.placed) ∙ moved_pivot
+    pub pivot_home : new_lists.home r.c ≡ Gone r.c
+    pivot_home = new_home_is r.c ∙ ap moved (home_of r.c f.placed) ∙ moved_pivot
 
-  pub done_home : (x : ℕ) → has L x ≡ true → done aggressive t r.c L x ≡ true → new_lists.home x ≡ Gone r.c
-  done_home x h k = new_home_is x ∙ ap moved (home_of x (front_placed turn x h)) ∙ moved_done x h k
+    pub done_home : (x : ℕ) → has L x ≡ true → done aggressive t r.c L x ≡ true → new_lists.home x ≡ Gone r.c
+    done_home x h k = new_home_is x ∙ ap moved (home_of x (front_placed turn x h)) ∙ moved_done x h k
 
-  -- a row that names a class or an element did so before, or is the pivot
-  pub was_live : (x : ℕ) → new_lists.home x ≡ Live x → t.home x ≡ Live x
-  was_live x h = elim (home_cases (t.home x)) [
-    | inl z ↦ absurd (let k = sym h ∙ new_home_is x ∙ ap moved z ∙ moved_last in cc)
-    | inr (inl (d, z)) ↦ (let m = sym h ∙ new_home_is x ∙ ap moved z in elim (cases_eq d r.c) [
-      | inl y ↦ absurd (let k = m ∙ ap moved (ap Live y) ∙ moved_pivot in cc)
-      | inr ne ↦ elim (cases_Bool (has L d)) [
-        | inl l ↦ elim (cases_Bool (done aggressive t r.c L d)) [
-          | inl k ↦ absurd (let q = m ∙ moved_done d l k in cc)
-          | inr k ↦ (let q : Live x ≡ Live (represents aggressive t r.c L d) = m ∙ moved_rest d (in_left turn d l k) in
-              let e : x ≡ represents aggressive t r.c L d = cc in
-              home_of x (front_placed turn x (made_front turn x (ap (has M) e ∙ f.one_made d (in_left turn d l k)))))
+    -- a row that names a class or an element did so before, or is the pivot
+    pub was_live : (x : ℕ) → new_lists.home x ≡ Live x → t.home x ≡ Live x
+    was_live x h = elim (home_cases (t.home x)) [
+      | inl z ↦ absurd (let k = sym h ∙ new_home_is x ∙ ap moved z ∙ moved_last in cc)
+      | inr (inl (d, z)) ↦ (let m = sym h ∙ new_home_is x ∙ ap moved z in elim (cases_eq d r.c) [
+        | inl y ↦ absurd (let k = m ∙ ap moved (ap Live y) ∙ moved_pivot in cc)
+        | inr ne ↦ elim (cases_Bool (has L d)) [
+          | inl l ↦ elim (cases_Bool (done aggressive t r.c L d)) [
+            | inl k ↦ absurd (let q = m ∙ moved_done d l k in cc)
+            | inr k ↦ (let q : Live x ≡ Live (represents aggressive t r.c L d) = m ∙ moved_rest d (in_left turn d l k) in
+                let e : x ≡ represents aggressive t r.c L d = cc in
+                home_of x (front_placed turn x (made_front turn x (ap (has M) e ∙ f.one_made d (in_left turn d l k)))))
+          ]
+          | inr n ↦ (let q : Live x ≡ Live d = m ∙ moved_other d (ne_eqb d r.c ne) n in z ∙ sym q)
         ]
-        | inr n ↦ (let q : Live x ≡ Live d = m ∙ moved_other d (ne_eqb d r.c ne) n in z ∙ sym q)
-      ]
-    ])
-    | inr (inr (e, z)) ↦ absurd (let k = sym h ∙ new_home_is x ∙ ap moved z ∙ moved_gone e in cc)
-  ]
+      ])
+      | inr (inr (e, z)) ↦ absurd (let k = sym h ∙ new_home_is x ∙ ap moved z ∙ moved_gone e in cc)
+    ]
 
-  pub was_gone : (x : ℕ) → new_lists.home x ≡ Gone x → (t.home x ≡ Live x) ⊎ (t.home x ≡ Gone x)
-  was_gone x h = elim (home_cases (t.home x)) [
-    | inl z ↦ absurd (let k = sym h ∙ new_home_is x ∙ ap moved z ∙ moved_last in cc)
-    | inr (inl (d, z)) ↦ inl (let m = sym h ∙ new_home_is x ∙ ap moved z in elim (cases_eq d r.c) [
-      | inl y ↦ (let k : Gone x ≡ Gone r.c = m ∙ ap moved (ap Live y) ∙ moved_pivot in let e : x ≡ r.c = cc in z ∙ ap Live (y ∙ sym e))
-      | inr ne ↦ elim (cases_Bool (has L d)) [
-        | inl l ↦ elim (cases_Bool (done aggressive t r.c L d)) [
-          | inl k ↦ (let q : Gone x ≡ Gone r.c = m ∙ moved_done d l k in let e : x ≡ r.c = cc in ap t.home e ∙ home_of r.c f.placed ∙ sym (ap Live e))
-          | inr k ↦ absurd (let q = m ∙ moved_rest d (in_left turn d l k) in cc)
+    pub was_gone : (x : ℕ) → new_lists.home x ≡ Gone x → (t.home x ≡ Live x) ⊎ (t.home x ≡ Gone x)
+    was_gone x h = elim (home_cases (t.home x)) [
+      | inl z ↦ absurd (let k = sym h ∙ new_home_is x ∙ ap moved z ∙ moved_last in cc)
+      | inr (inl (d, z)) ↦ inl (let m = sym h ∙ new_home_is x ∙ ap moved z in elim (cases_eq d r.c) [
+        | inl y ↦ (let k : Gone x ≡ Gone r.c = m ∙ ap moved (ap Live y) ∙ moved_pivot in let e : x ≡ r.c = cc in z ∙ ap Live (y ∙ sym e))
+        | inr ne ↦ elim (cases_Bool (has L d)) [
+          | inl l ↦ elim (cases_Bool (done aggressive t r.c L d)) [
+            | inl k ↦ (let q : Gone x ≡ Gone r.c = m ∙ moved_done d l k in let e : x ≡ r.c = cc in
+                ap t.home e ∙ home_of r.c f.placed ∙ sym (ap Live e))
+            | inr k ↦ absurd (let q = m ∙ moved_rest d (in_left turn d l k) in cc)
+          ]
+          | inr n ↦ absurd (let q = m ∙ moved_other d (ne_eqb d r.c ne) n in cc)
         ]
-        | inr n ↦ absurd (let q = m ∙ moved_other d (ne_eqb d r.c ne) n in cc)
-      ]
-    ])
-    | inr (inr (e, z)) ↦ inr (let k : Gone x ≡ Gone e = sym h ∙ new_home_is x ∙ ap moved z ∙ moved_gone e in z ∙ sym k)
-  ]
+      ])
+      | inr (inr (e, z)) ↦ inr (let k : Gone x ≡ Gone e = sym h ∙ new_home_is x ∙ ap moved z ∙ moved_gone e in z ∙ sym k)
+    ]
 
-  pub was_last : (x : ℕ) → new_lists.home x ≡ Last → t.home x ≡ Last
-  was_last x h = elim (home_cases (t.home x)) [
-    | inl z ↦ z
-    | inr (inl (d, z)) ↦ absurd (let m = sym h ∙ new_home_is x ∙ ap moved z in elim (cases_eq d r.c) [
-      | inl y ↦ (let k = m ∙ ap moved (ap Live y) ∙ moved_pivot in cc)
-      | inr ne ↦ elim (cases_Bool (has L d)) [
-        | inl l ↦ elim (cases_Bool (done aggressive t r.c L d)) [
-          | inl k ↦ (let q = m ∙ moved_done d l k in cc)
-          | inr k ↦ (let q = m ∙ moved_rest d (in_left turn d l k) in cc)
+    pub was_last : (x : ℕ) → new_lists.home x ≡ Last → t.home x ≡ Last
+    was_last x h = elim (home_cases (t.home x)) [
+      | inl z ↦ z
+      | inr (inl (d, z)) ↦ absurd (let m = sym h ∙ new_home_is x ∙ ap moved z in elim (cases_eq d r.c) [
+        | inl y ↦ (let k = m ∙ ap moved (ap Live y) ∙ moved_pivot in cc)
+        | inr ne ↦ elim (cases_Bool (has L d)) [
+          | inl l ↦ elim (cases_Bool (done aggressive t r.c L d)) [
+            | inl k ↦ (let q = m ∙ moved_done d l k in cc)
+            | inr k ↦ (let q = m ∙ moved_rest d (in_left turn d l k) in cc)
+          ]
+          | inr n ↦ (let q = m ∙ moved_other d (ne_eqb d r.c ne) n in cc)
         ]
-        | inr n ↦ (let q = m ∙ moved_other d (ne_eqb d r.c ne) n in cc)
-      ]
-    ])
-    | inr (inr (e, z)) ↦ absurd (let k = sym h ∙ new_home_is x ∙ ap moved z ∙ moved_gone e in cc)
-  ]
+      ])
+      | inr (inr (e, z)) ↦ absurd (let k = sym h ∙ new_home_is x ∙ ap moved z ∙ moved_gone e in cc)
+    ]

@@ -1,30 +1,19 @@
 -- After a round the record stands for the next lists of the rules, and for a state that a step leads to.
-use Rattle.std.proofs.Common.{ℕ, suc, Bool, true, false, Option, None, Some, List, [], ◌∷◌, ◌≡◌, ◌≢◌, ◌≤◌, ◌<◌, ◌+◌, ◌-◌, ◌∙◌, ◌&&◌, ◌||◌, not, min, cond, ap, sym, refl, subst, inl, inr, arith}
-use Rattle.std.specs.Prelude.{filter, sum_by, nat_lt, is_none, ◌==◌, ◌⊎◌, ◌^◌}
-use Rattle.std.proofs.Math.Bool.{and-false, and-true}
-use Rattle.std.proofs.lemmas.Bool.{cases_Bool, cases_eq, cond-true, cond-false, or_left, or_right, or_from, or_parts, or_cases, and_from, and_parts, and_left, eqb-true, eq-eqb, ne_eqb, lt-ltb, le-ltb, not-true, not_from_false}
+use Rattle.std.proofs.Common.{ℕ, Bool, true, false, ◌≡◌, ◌≤◌, ◌<◌, ◌∙◌}
+use Rattle.std.proofs.Common.{ap, subst, arith}
+use Rattle.std.specs.Prelude.{sum_by, ◌^◌}
 use Rattle.amd_model.specs.Graph.{Graph}
-use Rattle.amd_model.specs.Figures.{cut}
-use Rattle.amd_model.specs.State.{State, Home, Last, Live, Gone, is_class, front, holds, stands, inside}
-use Rattle.amd_model.specs.Step.{StepAt, absorbed}
-use Rattle.amd_model.specs.Sound.{IsSound}
-use Rattle.amd_model.specs.Tie.{Tie, Fits, has, is_empty, turned, pivot, gathered, takes, kept_elements, kept_variables, done, rest, represents, made, ends, new_size, far, left, next_bound, new_home, round, next}
-use Rattle.amd_model.proofs.StateLemmas.{class_gives, class_from, live_from, neighbours_gives, holds_gives, stands_gives}
-use Rattle.amd_model.proofs.Sound.{live_small}
-use Rattle.amd_model.proofs.SoundStep.{step_sound}
-use Rattle.amd_model.proofs.TieLists.{same_bool, clash, has_append, has_filter, has_turned, some_of}
-use Rattle.amd_model.proofs.ListingLemmas.{filter_has, has_filter as filter_gives, has_right}
-use Rattle.amd_model.proofs.TieSums.{home_cases}
-use Rattle.amd_model.proofs.TieLaw.{L as front_list, takes_is, front_class, after, is_step, now, now_fits}
-use Rattle.amd_views.specs.Views.{live_of}
-use Rattle.amd_views.specs.Rounds.{keeps_none, IsApart}
-use Rattle.amd_views.specs.Keeps.{LinksLead, Stands}
+use Rattle.amd_model.specs.State.{State, is_class}
+use Rattle.amd_model.specs.Step.{StepAt}
+use Rattle.amd_model.specs.Tie.{Tie, is_empty, pivot, gathered, rest}
+use Rattle.amd_model.specs.Tie.{left, round, next}
+use Rattle.amd_views.specs.Keeps.{Stands}
 use Rattle.amd_views.specs.Views.{View}
 use Rattle.amd_model.proofs.StepFronts.{placed_small}
-use Rattle.amd_views.proofs.Round.Fronts.{border_is as border_rows, live_left as live_after, live_less, live_is as live_sum, joined as joined_after, no_parent as no_parent_after, fronts_kept}
-use Rattle.amd_views.proofs.Lists.Named.{filter_named, sum_named, filter_all, filter_both, not_empty}
+use Rattle.amd_views.proofs.Round.Fronts.{border_is as border_rows, live_left as live_after, live_less, live_is as live_sum}
+use Rattle.amd_views.proofs.Round.Fronts.{joined as joined_after, no_parent as no_parent_after, fronts_kept}
+use Rattle.amd_views.proofs.Lists.Named.{not_empty}
 use Rattle.amd_views.proofs.Rounding.{Rounding}
-use Rattle.amd_views.proofs.Fronts.Gathered.{gathered_other, placed_rows}
 use Rattle.amd_views.proofs.Round.Turn.{Found, Turn, lists_after, new_fits, new_sound, pivot_is_class, pivot_is_least, state_after, step}
 use Rattle.amd_views.proofs.Round.Sizes.{size_kept, size_none}
 use Rattle.amd_views.proofs.Round.NextLists.{elements_kept, members_kept, variables_kept}
@@ -32,72 +21,81 @@ use Rattle.amd_views.proofs.Round.Links.{links_kept}
 use Rattle.amd_views.proofs.Round.Parents.{parents_kept}
 use Rattle.amd_views.proofs.Round.Bounds.{bound_kept, least_kept, small_kept}
 
-module _ {g : Graph} {dense : ℕ → Bool} {aggressive : Bool} {w v : View} {t : Tie} {s : State} (turn : Turn g dense aggressive w v t s) where
-  abbrev st : Stands g dense w t s
-  st = turn.before
+module _ {g : Graph} {dense : ℕ → Bool} {aggressive : Bool} {w v : View} {t : Tie} {s : State} (turn : Turn g dense aggressive w v t s)
+  where
+    abbrev st : Stands g dense w t s
+    st = turn.before
 
-  abbrev r : Rounding aggressive w v
-  r = turn.wrote
+    abbrev r : Rounding aggressive w v
+    r = turn.wrote
 
-  abbrev f : Found aggressive w v t turn.wrote
-  f = turn.found
+    abbrev f : Found aggressive w v t turn.wrote
+    f = turn.found
 
-  abbrev class : is_class s turn.wrote.c ≡ true
-  class = pivot_is_class turn
+    abbrev class : is_class s turn.wrote.c ≡ true
+    class = pivot_is_class turn
 
-  abbrev least : (d : ℕ) → is_class s d ≡ true → s.bound turn.wrote.c ≤ s.bound d
-  least = pivot_is_least turn
+    abbrev least : (d : ℕ) → is_class s d ≡ true → s.bound turn.wrote.c ≤ s.bound d
+    least = pivot_is_least turn
 
-  abbrev new_state : State
-  new_state = state_after turn
+    abbrev new_state : State
+    new_state = state_after turn
 
-  abbrev new_lists : Tie
-  new_lists = lists_after turn
+    abbrev new_lists : Tie
+    new_lists = lists_after turn
 
-  -- the record stands for the next lists, and for the state that the (step turn) leads to
-  module _ (few : g.size < 2 ^ 64) where
-    border_is : r.border ≡ sum_by t.size (rest aggressive t r.c (gathered t r.c))
-    border_is = border_rows g dense aggressive w v t s st r class least f.front_is f.rest_is
+    -- the record stands for the next lists, and for the state that the (step turn) leads to
+    module _ (few : g.size < 2 ^ 64) where
+      border_is : r.border ≡ sum_by t.size (rest aggressive t r.c (gathered t r.c))
+      border_is = border_rows g dense aggressive w v t s st r class least f.front_is f.rest_is
 
-    live_left : v.live ≡ left aggressive t r.c (gathered t r.c)
-    live_left = live_after g dense aggressive w v t s st r class least f.front_is f.rest_is
+      live_left : v.live ≡ left aggressive t r.c (gathered t r.c)
+      live_left = live_after g dense aggressive w v t s st r class least f.front_is f.rest_is
 
-    live_fits : v.live ≤ g.size
-    live_fits = let a = live_less g dense aggressive w v t s st r class least f.front_is f.rest_is in let b = st.keeps.live in
-        let k = placed_small g st.graph aggressive t s st.sound st.fits r.c class least in omega (arith, a, b, k)
+      live_fits : v.live ≤ g.size
+      live_fits = let a = live_less g dense aggressive w v t s st r class least f.front_is f.rest_is in let b = st.keeps.live in
+          let k = placed_small g st.graph aggressive t s st.sound st.fits r.c class least in omega (arith, a, b, k)
 
-    pub stands_after : Stands g dense v new_lists new_state
-    stands_after = record {
-      graph = st.graph;
-      sound = new_sound turn;
-      fits = new_fits turn;
-      rows = r.rows ∙ st.rows;
-      keeps = record {
-        size = size_kept turn;
-        no_class = size_none turn;
-        bound = bound_kept turn few border_is live_left live_fits;
-        small = small_kept turn few border_is live_left live_fits;
-        variables = variables_kept turn;
-        elements = elements_kept turn;
-        members = members_kept turn;
-        least = least_kept turn few border_is live_left live_fits;
-        live = live_sum g dense aggressive w v t s st r class least f.front_is f.rest_is;
-        parents = parents_kept turn;
-        links = links_kept turn;
-      };
-      joined = joined_after g dense aggressive w v t s st r class least f.front_is f.rest_is;
-      no_parent = no_parent_after g dense aggressive w v t s st r class least f.front_is f.rest_is;
-      fronts = fronts_kept g dense aggressive w v t s st r class least f.front_is f.rest_is;
-    }
+      pub stands_after : Stands g dense v new_lists new_state
+      stands_after = record {
+        graph = st.graph;
+        sound = new_sound turn;
+        fits = new_fits turn;
+        rows = r.rows ∙ st.rows;
+        keeps = record {
+          size = size_kept turn;
+          no_class = size_none turn;
+          bound = bound_kept turn few border_is live_left live_fits;
+          small = small_kept turn few border_is live_left live_fits;
+          variables = variables_kept turn;
+          elements = elements_kept turn;
+          members = members_kept turn;
+          least = least_kept turn few border_is live_left live_fits;
+          live = live_sum g dense aggressive w v t s st r class least f.front_is f.rest_is;
+          parents = parents_kept turn;
+          links = links_kept turn;
+        };
+        joined = joined_after g dense aggressive w v t s st r class least f.front_is f.rest_is;
+        no_parent = no_parent_after g dense aggressive w v t s st r class least f.front_is f.rest_is;
+        fronts = fronts_kept g dense aggressive w v t s st r class least f.front_is f.rest_is;
+      }
 
-  pub as_next : new_lists ≡ next aggressive t
-  unfolding next
-  as_next = ap (λ c. round aggressive t c (gathered t c)) f.pivot_is
+    pub as_next : new_lists ≡ next aggressive t
+    unfolding next
+    as_next = ap (λ c. round aggressive t c (gathered t c)) f.pivot_is
 
-  -- the record is one round further
-  pub one_round : g.size < 2 ^ 64 →
-      (is_empty t.placed ≡ false) × ((u : State) × StepAt g aggressive (pivot t.bound t.placed) s u × Stands g dense v (next aggressive t) u)
-  one_round few = (some_placed, (new_state, subst (λ c. StepAt g aggressive c s new_state) f.pivot_is (step turn), subst (λ u. Stands g dense v u new_state) as_next (stands_after few)))
-    where
-      some_placed : is_empty t.placed ≡ false
-      some_placed = not_empty t.placed r.c f.placed
+    -- the record is one round further
+    pub one_round : g.size < 2 ^ 64 →
+        (is_empty t.placed ≡ false) × ((u : State) × StepAt g aggressive (pivot t.bound t.placed) s u
+        × Stands g dense v (next aggressive t) u)
+    one_round few = (
+      some_placed,
+      (
+        new_state,
+        subst (λ c. StepAt g aggressive c s new_state) f.pivot_is (step turn),
+        subst (λ u. Stands g dense v u new_state) as_next (stands_after few),
+      ),
+    )
+      where
+        some_placed : is_empty t.placed ≡ false
+        some_placed = not_empty t.placed r.c f.placed

@@ -1,30 +1,26 @@
 -- A round of an engine: what it found, in the words of the rules, and the lists and the state that the rules give next.
-use Rattle.std.proofs.Common.{ℕ, suc, Bool, true, false, Option, None, Some, List, [], ◌∷◌, ◌≡◌, ◌≢◌, ◌≤◌, ◌<◌, ◌+◌, ◌-◌, ◌∙◌, ◌&&◌, ◌||◌, not, min, cond, ap, sym, refl, subst, inl, inr, arith}
-use Rattle.std.specs.Prelude.{filter, sum_by, nat_lt, is_none, ◌==◌, ◌⊎◌, ◌^◌}
-use Rattle.std.proofs.Math.Bool.{and-false, and-true}
-use Rattle.std.proofs.lemmas.Bool.{cases_Bool, cases_eq, cond-true, cond-false, or_left, or_right, or_from, or_parts, or_cases, and_from, and_parts, and_left, eqb-true, eq-eqb, ne_eqb, lt-ltb, le-ltb, not-true, not_from_false}
+use Rattle.std.proofs.Common.{ℕ, Bool, true, false, Some, List, ◌≡◌, ◌≤◌, ◌<◌, ◌∙◌, ◌&&◌}
+use Rattle.std.proofs.Common.{not, cond, ap, sym, inl, inr, arith}
+use Rattle.std.specs.Prelude.{filter, sum_by, ◌==◌}
+use Rattle.std.proofs.lemmas.Bool.{cases_Bool}
+use Rattle.std.proofs.lemmas.Bool.{eqb-true, eq-eqb, ne_eqb, not-true, not_from_false}
 use Rattle.amd_model.specs.Graph.{Graph}
-use Rattle.amd_model.specs.Figures.{cut}
-use Rattle.amd_model.specs.State.{State, Home, Last, Live, Gone, is_class, front, holds, stands, inside}
-use Rattle.amd_model.specs.Step.{StepAt, absorbed}
+use Rattle.amd_model.specs.State.{State, Live, is_class, front}
+use Rattle.amd_model.specs.Step.{StepAt}
 use Rattle.amd_model.specs.Sound.{IsSound}
-use Rattle.amd_model.specs.Tie.{Tie, Fits, has, is_empty, turned, pivot, gathered, takes, kept_elements, kept_variables, done, rest, represents, made, ends, new_size, far, left, next_bound, new_home, round, next}
-use Rattle.amd_model.proofs.StateLemmas.{class_gives, class_from, live_from, neighbours_gives, holds_gives, stands_gives}
+use Rattle.amd_model.specs.Tie.{Tie, Fits, has, is_empty, pivot, gathered, takes, kept_elements, kept_variables, done, rest}
+use Rattle.amd_model.specs.Tie.{represents, made, round}
+use Rattle.amd_model.proofs.StateLemmas.{class_gives, class_from}
 use Rattle.amd_model.proofs.Sound.{live_small}
 use Rattle.amd_model.proofs.SoundStep.{step_sound}
-use Rattle.amd_model.proofs.TieLists.{same_bool, clash, has_append, has_filter, has_turned, some_of}
-use Rattle.amd_model.proofs.ListingLemmas.{filter_has, has_filter as filter_gives, has_right}
-use Rattle.amd_model.proofs.TieSums.{home_cases}
-use Rattle.amd_model.proofs.TieLaw.{L as front_list, takes_is, front_class, after, is_step, now, now_fits}
-use Rattle.amd_views.specs.Views.{live_of}
-use Rattle.amd_views.specs.Rounds.{keeps_none, IsApart}
-use Rattle.amd_views.specs.Keeps.{LinksLead, Stands}
+use Rattle.amd_model.proofs.TieLists.{clash}
+use Rattle.amd_model.proofs.ListingLemmas.{filter_has, has_filter as filter_gives}
+use Rattle.amd_model.proofs.TieLaw.{L as front_list, front_class, after, is_step, now, now_fits}
+use Rattle.amd_views.specs.Rounds.{keeps_none}
+use Rattle.amd_views.specs.Keeps.{Stands}
 use Rattle.amd_views.specs.Views.{View}
-use Rattle.amd_model.proofs.StepFronts.{placed_small}
-use Rattle.amd_views.proofs.Round.Fronts.{border_is as border_rows, live_left as live_after, live_less, live_is as live_sum, joined as joined_after, no_parent as no_parent_after, fronts_kept}
-use Rattle.amd_views.proofs.Lists.Named.{filter_named, sum_named, filter_all, filter_both, not_empty}
 use Rattle.amd_views.proofs.Rounding.{Rounding}
-use Rattle.amd_views.proofs.Fronts.Gathered.{gathered_other, placed_rows}
+use Rattle.amd_views.proofs.Fronts.Gathered.{gathered_other}
 
 -- what was found, in the words of the machine
 pub record Found (aggressive : Bool) (w v : View) (t : Tie) (r : Rounding aggressive w v) : Type 0 where
@@ -42,7 +38,8 @@ pub record Found (aggressive : Bool) (w v : View) (t : Tie) (r : Rounding aggres
   pub rest_is : r.rest ≡ rest aggressive t r.c (gathered t r.c)
   pub into_is : (i : ℕ) → has (rest aggressive t r.c (gathered t r.c)) i ≡ true → r.into i ≡ represents aggressive t r.c (gathered t r.c) i
   pub made_is : r.made ≡ made aggressive t r.c (gathered t r.c)
-  pub one_made : (i : ℕ) → has (rest aggressive t r.c (gathered t r.c)) i ≡ true → has (made aggressive t r.c (gathered t r.c)) (represents aggressive t r.c (gathered t r.c) i) ≡ true
+  pub one_made : (i : ℕ) → has (rest aggressive t r.c (gathered t r.c)) i ≡ true →
+      has (made aggressive t r.c (gathered t r.c)) (represents aggressive t r.c (gathered t r.c) i) ≡ true
 
 -- a round: the record before stands for lists and a state, and what was found and written is what the rules say
 pub record Turn (g : Graph) (dense : ℕ → Bool) (aggressive : Bool) (w v : View) (t : Tie) (s : State) : Type 0 where
@@ -50,106 +47,110 @@ pub record Turn (g : Graph) (dense : ℕ → Bool) (aggressive : Bool) (w v : Vi
   pub wrote : Rounding aggressive w v
   pub found : Found aggressive w v t wrote
 
-module _ {g : Graph} {dense : ℕ → Bool} {aggressive : Bool} {w v : View} {t : Tie} {s : State} (turn : Turn g dense aggressive w v t s) where
-  abbrev st : Stands g dense w t s
-  st = turn.before
+module _ {g : Graph} {dense : ℕ → Bool} {aggressive : Bool} {w v : View} {t : Tie} {s : State} (turn : Turn g dense aggressive w v t s)
+  where
+    abbrev st : Stands g dense w t s
+    st = turn.before
 
-  abbrev r : Rounding aggressive w v
-  r = turn.wrote
+    abbrev r : Rounding aggressive w v
+    r = turn.wrote
 
-  abbrev f : Found aggressive w v t turn.wrote
-  f = turn.found
+    abbrev f : Found aggressive w v t turn.wrote
+    f = turn.found
 
-  abbrev L : List ℕ
-  L = gathered t turn.wrote.c
+    abbrev L : List ℕ
+    L = gathered t turn.wrote.c
 
-  abbrev R : List ℕ
-  R = rest aggressive t turn.wrote.c (gathered t turn.wrote.c)
+    abbrev R : List ℕ
+    R = rest aggressive t turn.wrote.c (gathered t turn.wrote.c)
 
-  abbrev M : List ℕ
-  M = made aggressive t turn.wrote.c (gathered t turn.wrote.c)
+    abbrev M : List ℕ
+    M = made aggressive t turn.wrote.c (gathered t turn.wrote.c)
 
-  pub class_of : (i : ℕ) → has t.placed i ≡ true → s.home i ≡ Live i
-  class_of i h = class_gives i (s.home i) (sym (st.fits.placed i) ∙ h)
+    pub class_of : (i : ℕ) → has t.placed i ≡ true → s.home i ≡ Live i
+    class_of i h = class_gives i (s.home i) (sym (st.fits.placed i) ∙ h)
 
-  pub placed_of : (i : ℕ) → s.home i ≡ Live i → has t.placed i ≡ true
-  placed_of i h = st.fits.placed i ∙ class_from i (s.home i) h
+    pub placed_of : (i : ℕ) → s.home i ≡ Live i → has t.placed i ≡ true
+    placed_of i h = st.fits.placed i ∙ class_from i (s.home i) h
 
-  abbrev pub pivot_is_class : is_class s r.c ≡ true
-  pivot_is_class = sym (st.fits.placed r.c) ∙ f.placed
+    abbrev pub pivot_is_class : is_class s r.c ≡ true
+    pivot_is_class = sym (st.fits.placed r.c) ∙ f.placed
 
-  abbrev pub pivot_is_least : (d : ℕ) → is_class s d ≡ true → s.bound r.c ≤ s.bound d
-  pivot_is_least d k = let l = f.least d (st.fits.placed d ∙ k) in
-      let a = st.fits.bound r.c (class_gives r.c (s.home r.c) pivot_is_class) in let b = st.fits.bound d (class_gives d (s.home d) k) in omega (arith, l, a, b)
+    abbrev pub pivot_is_least : (d : ℕ) → is_class s d ≡ true → s.bound r.c ≤ s.bound d
+    pivot_is_least d k = let l = f.least d (st.fits.placed d ∙ k) in
+        let a = st.fits.bound r.c (class_gives r.c (s.home r.c) pivot_is_class) in let b = st.fits.bound d (class_gives d (s.home d) k) in
+        omega (arith, l, a, b)
 
-  abbrev pub state_after : State
-  state_after = after g st.graph aggressive t s st.sound st.fits r.c pivot_is_class pivot_is_least
+    abbrev pub state_after : State
+    state_after = after g st.graph aggressive t s st.sound st.fits r.c pivot_is_class pivot_is_least
 
-  abbrev pub lists_after : Tie
-  lists_after = round aggressive t r.c (gathered t r.c)
+    abbrev pub lists_after : Tie
+    lists_after = round aggressive t r.c (gathered t r.c)
 
-  pub step : StepAt g aggressive r.c s state_after
-  step = is_step g st.graph aggressive t s st.sound st.fits r.c pivot_is_class pivot_is_least
+    pub step : StepAt g aggressive r.c s state_after
+    step = is_step g st.graph aggressive t s st.sound st.fits r.c pivot_is_class pivot_is_least
 
-  pub new_fits : Fits g lists_after state_after
-  unfolding now front_list
-  new_fits = now_fits g st.graph aggressive t s st.sound st.fits r.c pivot_is_class pivot_is_least
+    pub new_fits : Fits g lists_after state_after
+    unfolding now front_list
+    new_fits = now_fits g st.graph aggressive t s st.sound st.fits r.c pivot_is_class pivot_is_least
 
-  pub new_sound : IsSound g state_after
-  new_sound = step_sound g st.graph aggressive r.c s state_after st.sound step
+    pub new_sound : IsSound g state_after
+    new_sound = step_sound g st.graph aggressive r.c s state_after st.sound step
 
-  front_row : (i : ℕ) → has L i ≡ true → (s.home i ≡ Live i) × (front g s r.c i ≡ true)
-  unfolding front_list
-  front_row i h = front_class g st.graph aggressive t s st.sound st.fits r.c pivot_is_class pivot_is_least i h
+    front_row : (i : ℕ) → has L i ≡ true → (s.home i ≡ Live i) × (front g s r.c i ≡ true)
+    unfolding front_list
+    front_row i h = front_class g st.graph aggressive t s st.sound st.fits r.c pivot_is_class pivot_is_least i h
 
-  pub front_placed : (i : ℕ) → has L i ≡ true → has t.placed i ≡ true
-  front_placed i h = placed_of i (front_row i h).0
+    pub front_placed : (i : ℕ) → has L i ≡ true → has t.placed i ≡ true
+    front_placed i h = placed_of i (front_row i h).0
 
-  pub not_pivot : has L r.c ≡ false
-  not_pivot = gathered_other t r.c
+    pub not_pivot : has L r.c ≡ false
+    not_pivot = gathered_other t r.c
 
-  pub rest_front : (i : ℕ) → has R i ≡ true → has L i ≡ true
-  unfolding rest
-  rest_front i h = (filter_gives (λ i. not (done aggressive t r.c L i)) L i h).0
+    pub rest_front : (i : ℕ) → has R i ≡ true → has L i ≡ true
+    unfolding rest
+    rest_front i h = (filter_gives (λ i. not (done aggressive t r.c L i)) L i h).0
 
-  pub rest_keeps : (i : ℕ) → has R i ≡ true → done aggressive t r.c L i ≡ false
-  unfolding rest
-  rest_keeps i h = not-true (done aggressive t r.c L i) (filter_gives (λ i. not (done aggressive t r.c L i)) L i h).1
+    pub rest_keeps : (i : ℕ) → has R i ≡ true → done aggressive t r.c L i ≡ false
+    unfolding rest
+    rest_keeps i h = not-true (done aggressive t r.c L i) (filter_gives (λ i. not (done aggressive t r.c L i)) L i h).1
 
-  pub made_rest : (i : ℕ) → has M i ≡ true → (has R i ≡ true) × (represents aggressive t r.c L i ≡ i)
-  unfolding made
-  made_rest i h = let p = filter_gives (λ i. represents aggressive t r.c L i == i) R i h in (p.0, eqb-true (represents aggressive t r.c L i) i p.1)
+    pub made_rest : (i : ℕ) → has M i ≡ true → (has R i ≡ true) × (represents aggressive t r.c L i ≡ i)
+    unfolding made
+    made_rest i h = let p = filter_gives (λ i. represents aggressive t r.c L i == i) R i h in
+        (p.0, eqb-true (represents aggressive t r.c L i) i p.1)
 
-  pub rest_made : (i : ℕ) → has R i ≡ true → represents aggressive t r.c L i ≡ i → has M i ≡ true
-  unfolding made
-  rest_made i h e = filter_has (λ i. represents aggressive t r.c L i == i) R i h (eq-eqb (represents aggressive t r.c L i) i e)
+    pub rest_made : (i : ℕ) → has R i ≡ true → represents aggressive t r.c L i ≡ i → has M i ≡ true
+    unfolding made
+    rest_made i h e = filter_has (λ i. represents aggressive t r.c L i == i) R i h (eq-eqb (represents aggressive t r.c L i) i e)
 
-  -- what becomes of a class
-  pub none_kept : (i : ℕ) → has L i ≡ true → keeps_none r.kept.elements r.kept.variables i ≡ done aggressive t r.c L i
-  unfolding done
-  none_kept i h = ap (λ l. is_empty l && is_empty (r.kept.variables i)) (f.elements i h) ∙ ap (λ l. is_empty (kept_elements aggressive t r.c L i) && is_empty l) (f.variables i h)
+    -- what becomes of a class
+    pub none_kept : (i : ℕ) → has L i ≡ true → keeps_none r.kept.elements r.kept.variables i ≡ done aggressive t r.c L i
+    unfolding done
+    none_kept i h = ap (λ l. is_empty l && is_empty (r.kept.variables i)) (f.elements i h) ∙ ap
+        (λ l. is_empty (kept_elements aggressive t r.c L i) && is_empty l) (f.variables i h)
 
-  pub in_front : (i : ℕ) → has r.front i ≡ has L i
-  in_front i = ap (λ l. has l i) f.front_is
+    pub in_front : (i : ℕ) → has r.front i ≡ has L i
+    in_front i = ap (λ l. has l i) f.front_is
 
-  pub in_rest : (i : ℕ) → has r.rest i ≡ has R i
-  in_rest i = ap (λ l. has l i) f.rest_is
+    pub in_rest : (i : ℕ) → has r.rest i ≡ has R i
+    in_rest i = ap (λ l. has l i) f.rest_is
 
-  pub in_made : (i : ℕ) → has r.made i ≡ has M i
-  in_made i = ap (λ l. has l i) f.made_is
+    pub in_made : (i : ℕ) → has r.made i ≡ has M i
+    in_made i = ap (λ l. has l i) f.made_is
 
-  pub made_front : (i : ℕ) → has M i ≡ true → has L i ≡ true
-  made_front i h = rest_front i (made_rest i h).0
+    pub made_front : (i : ℕ) → has M i ≡ true → has L i ≡ true
+    made_front i h = rest_front i (made_rest i h).0
 
-  pub not_c : (i : ℕ) → has L i ≡ true → (i == r.c) ≡ false
-  not_c i h = ne_eqb i r.c (λ e. clash h (ap (has L) e ∙ not_pivot))
+    pub not_c : (i : ℕ) → has L i ≡ true → (i == r.c) ≡ false
+    not_c i h = ne_eqb i r.c (λ e. clash h (ap (has L) e ∙ not_pivot))
 
-  pub in_left : (x : ℕ) → has L x ≡ true → done aggressive t r.c L x ≡ false → has R x ≡ true
-  unfolding rest
-  in_left x h n = filter_has (λ i. not (done aggressive t r.c L i)) L x h (not_from_false (done aggressive t r.c L x) n)
+    pub in_left : (x : ℕ) → has L x ≡ true → done aggressive t r.c L x ≡ false → has R x ≡ true
+    unfolding rest
+    in_left x h n = filter_has (λ i. not (done aggressive t r.c L i)) L x h (not_from_false (done aggressive t r.c L x) n)
 
-  pub outside_rest : (x : ℕ) → has L x ≡ false → has R x ≡ false
-  outside_rest x n = elim (cases_Bool (has R x)) [ inr k ↦ k | inl k ↦ clash (rest_front x k) n ]
+    pub outside_rest : (x : ℕ) → has L x ≡ false → has R x ≡ false
+    outside_rest x n = elim (cases_Bool (has R x)) [ inr k ↦ k | inl k ↦ clash (rest_front x k) n ]
 
-  pub row_small : (x : ℕ) → has t.placed x ≡ true → x < g.size
-  row_small x h = live_small g st.graph s st.sound x x (class_of x h)
+    pub row_small : (x : ℕ) → has t.placed x ≡ true → x < g.size
+    row_small x h = live_small g st.graph s st.sound x x (class_of x h)
