@@ -3,8 +3,8 @@ use Rattle.std.proofs.Common.{◌≡◌, ℤ, Option, Some, None, List, [], ◌�
 use Rattle.std.specs.Prelude.{option_to_list, unwrap_or}
 use Rattle.std.specs.List.{flat_map}
 use Rattle.std.proofs.lemmas.Grind.{flat_map-append}
-use Rattle.amd_cases.specs.Items.{IsInside, size_of, dense_of, aggressive_of, pointers_of, rows_of}
-use Rattle.amd_cases.specs.Drafts.{Adds, Finishes, list_items}
+use Rattle.amd_cases.specs.Items.{IsInside, size_of, dense_of, aggressive_of, pointers_of, rows_of, hold_of, permutation_of, room_of, list_items}
+use Rattle.amd_cases.specs.Drafts.{Adds, Finishes}
 use Rattle.amd_cases.specs.Spelling.{AllInside, IsOrElse, SpellsCase}
 use Rattle.amd_cases.specs.declared.items.Item.{Item}
 use Rattle.amd_cases.specs.declared.items.Item.TheVariants as item
@@ -20,6 +20,9 @@ pub record Gathers {Z : Type 0} (number : ℤ) (body : List (Item Z)) (d : Draft
   pub aggressive : flat_map aggressive_of body ≡ option_to_list d.aggressive
   pub pointers : flat_map pointers_of body ≡ list_items d.a_p
   pub rows : flat_map rows_of body ≡ list_items d.a_i
+  pub hold : flat_map hold_of body ≡ list_items d.hold
+  pub permutation : flat_map permutation_of body ≡ list_items d.permutation
+  pub room : flat_map room_of body ≡ option_to_list d.room
 
 inside-more : {Z : Type 0} (body : List (Item Z)) (i : Item Z) → AllInside body → IsInside i → AllInside (body ++ i ∷ [])
 inside-more [] i h k = (k, tt)
@@ -29,8 +32,8 @@ told-more : {Z X : Type 0} (f : Item Z → List X) (body : List (Item Z)) (i : I
 told-more f body i old new h k = flat_map-append f body (i ∷ []) ∙ ap (λ t. t ++ (f i ++ [])) h ∙ ap (λ t. old ++ t) (append-nil (f i)) ∙ sym k
 
 -- no item was read
-pub gathers-none : {Z : Type 0} (number k : ℤ) (d : Draft Z) → d ≡ record { number = k; n = None; dense = None; aggressive = None; a_p = None; a_i = None } → k ≡ number → Gathers number [] d
-gathers-none number k d new same = rw new (record { numbered = same; inside = tt; size = refl; dense = refl; aggressive = refl; pointers = refl; rows = refl })
+pub gathers-none : {Z : Type 0} (number k : ℤ) (d : Draft Z) → d ≡ record { number = k; n = None; dense = None; aggressive = None; a_p = None; a_i = None; hold = None; permutation = None; room = None } → k ≡ number → Gathers number [] d
+gathers-none number k d new same = rw new (record { numbered = same; inside = tt; size = refl; dense = refl; aggressive = refl; pointers = refl; rows = refl; hold = refl; permutation = refl; room = refl })
 
 -- one item more
 pub gathers-more : {Z : Type 0} (number : ℤ) (body : List (Item Z)) (old new : Draft Z) (i : Item Z) → Gathers number body old → Adds old new i → Gathers number (body ++ i ∷ []) new
@@ -42,6 +45,9 @@ gathers-more number body old new i h k = record {
   aggressive = told-more aggressive_of body i _ _ h.aggressive k.aggressive;
   pointers = told-more pointers_of body i _ _ h.pointers k.pointers;
   rows = told-more rows_of body i _ _ h.rows k.rows;
+  hold = told-more hold_of body i _ _ h.hold k.hold;
+  permutation = told-more permutation_of body i _ _ h.permutation k.permutation;
+  room = told-more room_of body i _ _ h.room k.room;
 }
 
 or-else : {X : Type 0} (told : List X) (o : Option X) (other x : X) → told ≡ option_to_list o → x ≡ unwrap_or o other → IsOrElse told other x
@@ -59,4 +65,7 @@ gathers-all number body d c h k = record {
   aggressive = or-else _ d.aggressive _ _ h.aggressive k.aggressive;
   pointers = h.pointers ∙ ap list_items k.pointers;
   rows = h.rows ∙ ap list_items k.rows;
+  hold = h.hold ∙ ap list_items (sym k.hold);
+  permutation = h.permutation ∙ ap list_items (sym k.permutation);
+  room = h.room ∙ ap option_to_list (sym k.room);
 }

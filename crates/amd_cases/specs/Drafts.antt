@@ -1,15 +1,9 @@
 -- A case of which some items were read.
-use Rattle.std.specs.Prelude.{◌≡◌, ℕ, ◌+◌, ℤ, pos, Bool, true, ◌&&◌, Option, None, Some, List, [], ◌∷◌, ◌++◌, is_some, unwrap_or, option_to_list}
-use Rattle.std.specs.declared.vec.Vec.{Vec}
-use Rattle.amd_cases.specs.Items.{size_of, dense_of, aggressive_of, pointers_of, rows_of, IsInside}
+use Rattle.std.specs.Prelude.{◌≡◌, ℕ, ◌+◌, pos, Bool, true, ◌&&◌, Option, None, Some, ◌++◌, is_some, unwrap_or, option_to_list}
+use Rattle.amd_cases.specs.Items.{size_of, dense_of, aggressive_of, pointers_of, rows_of, hold_of, permutation_of, room_of, list_items, IsInside}
 use Rattle.amd_cases.specs.declared.items.Item.{Item}
 use Rattle.amd_cases.specs.declared.cases.Draft.{Draft}
 use Rattle.amd_cases.specs.declared.cases.Case.{Case}
-
--- the numbers of a list that may be there
-abbrev pub list_items : {Z : Type 0} → Option (Vec ℤ Z) → List (List ℤ)
-list_items None = []
-list_items (Some v) = v.items ∷ []
 
 -- the new draft has what the old one has, and the item
 pub record Adds {Z : Type 0} (old new : Draft Z) (item : Item Z) : Type 0 where
@@ -20,6 +14,9 @@ pub record Adds {Z : Type 0} (old new : Draft Z) (item : Item Z) : Type 0 where
   pub aggressive : option_to_list new.aggressive ≡ option_to_list old.aggressive ++ aggressive_of item
   pub pointers : list_items new.a_p ≡ list_items old.a_p ++ pointers_of item
   pub rows : list_items new.a_i ≡ list_items old.a_i ++ rows_of item
+  pub hold : list_items new.hold ≡ list_items old.hold ++ hold_of item
+  pub permutation : list_items new.permutation ≡ list_items old.permutation ++ permutation_of item
+  pub room : option_to_list new.room ≡ option_to_list old.room ++ room_of item
 
 -- 1 where nothing is there
 abbrev pub empty_slot : {T : Type 0} → Option T → ℕ
@@ -28,7 +25,7 @@ empty_slot (Some x) = 0
 
 -- how many items the draft can still take
 abbrev pub free_slots : {Z : Type 0} → Draft Z → ℕ
-free_slots d = empty_slot d.n + empty_slot d.dense + empty_slot d.aggressive + empty_slot d.a_p + empty_slot d.a_i
+free_slots d = empty_slot d.n + empty_slot d.dense + empty_slot d.aggressive + empty_slot d.a_p + empty_slot d.a_i + empty_slot d.hold + empty_slot d.permutation + empty_slot d.room
 
 -- whether N, AP and AI were there
 abbrev pub is_complete : {Z : Type 0} → Draft Z → Bool
@@ -42,3 +39,6 @@ pub record Finishes {Z : Type 0} (d : Draft Z) (c : Case Z) : Type 0 where
   pub aggressive : c.aggressive ≡ unwrap_or d.aggressive true
   pub pointers : d.a_p ≡ Some c.a_p
   pub rows : d.a_i ≡ Some c.a_i
+  pub hold : c.hold ≡ d.hold
+  pub permutation : c.permutation ≡ d.permutation
+  pub room : c.room ≡ d.room

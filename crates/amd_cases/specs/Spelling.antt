@@ -1,7 +1,7 @@
 -- The items that spell a case.
-use Rattle.std.specs.Prelude.{◌≡◌, pos, true, List, [], ◌∷◌, ◌++◌}
+use Rattle.std.specs.Prelude.{◌≡◌, pos, true, List, [], ◌∷◌, ◌++◌, option_to_list}
 use Rattle.std.specs.List.{flat_map}
-use Rattle.amd_cases.specs.Items.{IsInside, size_of, dense_of, aggressive_of, pointers_of, rows_of}
+use Rattle.amd_cases.specs.Items.{IsInside, size_of, dense_of, aggressive_of, pointers_of, rows_of, hold_of, permutation_of, room_of, list_items}
 use Rattle.amd_cases.specs.declared.items.Item.{Item}
 use Rattle.amd_cases.specs.declared.items.Item.TheVariants as item
 use Rattle.amd_cases.specs.declared.cases.Case.{Case}
@@ -17,7 +17,7 @@ abbrev pub AllInside : {Z : Type 0} → List (Item Z) → Type 0
 AllInside [] = Unit {0}
 AllInside (i ∷ is) = IsInside i × AllInside is
 
--- the items are CASE, then once each N, AP and AI and at most once each T and AGG, in any order, and then END; they tell the fields
+-- the items are CASE, then once each N, AP and AI and at most once each of the others, in any order, and then END; they tell the fields
 pub record SpellsCase {Z : Type 0} (items : List (Item Z)) (case : Case Z) : Type 0 where
   pub body : List (Item Z)
   pub framed : items ≡ item.Case case.number ∷ (body ++ item.End ∷ [])
@@ -27,3 +27,6 @@ pub record SpellsCase {Z : Type 0} (items : List (Item Z)) (case : Case Z) : Typ
   pub aggressive : IsOrElse (flat_map aggressive_of body) true case.aggressive
   pub pointers : flat_map pointers_of body ≡ case.a_p.items ∷ []
   pub rows : flat_map rows_of body ≡ case.a_i.items ∷ []
+  pub hold : flat_map hold_of body ≡ list_items case.hold
+  pub permutation : flat_map permutation_of body ≡ list_items case.permutation
+  pub room : flat_map room_of body ≡ option_to_list case.room

@@ -29,6 +29,12 @@ pub struct Case<A: Allocator> {
     pub a_p: Vec<i64, A>,
     /// The rows.
     pub a_i: Vec<i64, A>,
+    /// The rows that are held last, by a mark for each.
+    pub hold: Option<Vec<bool, A>>,
+    /// A permutation, under which the columns of the factor are asked for.
+    pub permutation: Option<Vec<i64, A>>,
+    /// How many entries these columns may have.
+    pub room: Option<i64>,
 }
 
 /// A case of which some items were read.
@@ -40,6 +46,9 @@ pub(crate) struct Draft<A: Allocator> {
     aggressive: Option<bool>,
     a_p: Option<Vec<i64, A>>,
     a_i: Option<Vec<i64, A>>,
+    hold: Option<Vec<bool, A>>,
+    permutation: Option<Vec<i64, A>>,
+    room: Option<i64>,
 }
 
 /// Fills a slot that is empty.
@@ -57,7 +66,7 @@ fn fill<T: Drop>(slot: &mut Option<T>, value: T) -> Result<(), Fault>
 impl<A: Allocator> Draft<A> {
     /// A case of which only the number is known.
     pub(crate) fn new(number: i64) -> Draft<A>
-        ensures { result ≡ record { number = number; n = None; dense = None; aggressive = None; a_p = None; a_i = None } }
+        ensures { result ≡ record { number = number; n = None; dense = None; aggressive = None; a_p = None; a_i = None; hold = None; permutation = None; room = None } }
     {
         Draft {
             number,
@@ -66,6 +75,9 @@ impl<A: Allocator> Draft<A> {
             aggressive: None,
             a_p: None,
             a_i: None,
+            hold: None,
+            permutation: None,
+            room: None,
         }
     }
 
@@ -83,6 +95,9 @@ impl<A: Allocator> Draft<A> {
             Item::Aggressive(aggressive) => fill(&mut self.aggressive, aggressive),
             Item::Pointers(a_p) => fill(&mut self.a_p, a_p),
             Item::Rows(a_i) => fill(&mut self.a_i, a_i),
+            Item::Hold(hold) => fill(&mut self.hold, hold),
+            Item::Permutation(permutation) => fill(&mut self.permutation, permutation),
+            Item::Room(room) => fill(&mut self.room, room),
             Item::End => unreachable!(),
         }
     }
@@ -98,6 +113,9 @@ impl<A: Allocator> Draft<A> {
             aggressive,
             a_p,
             a_i,
+            hold,
+            permutation,
+            room,
         } = self;
         let Some(n) = n else {
             return Err(Fault::Missing);
@@ -115,6 +133,9 @@ impl<A: Allocator> Draft<A> {
             aggressive: aggressive.unwrap_or(true),
             a_p,
             a_i,
+            hold,
+            permutation,
+            room,
         })
     }
 }

@@ -1,9 +1,10 @@
 // The item that a line spells: a keyword, and the numbers that it takes. Called by `reader`.
 // The format is that of cases; see the root.
 
-ghost use Rattle.std.specs.Prelude.{◌≡◌, ◌≢◌, ◌∷◌, Bool, List, [], ℤ, MatchOption, MatchResult};
+ghost use Rattle.std.specs.Prelude.{◌≡◌, ◌≢◌, ◌∷◌, Bool, List, [], map, ℤ, MatchOption, MatchResult};
 ghost use Rattle.amd_cases.specs.Words.{words, SpellsNumbers};
 ghost use Rattle.amd_cases.specs.Items.{keyword_text, item_keyword, truth_number, item_numbers, FitsItem, SpellsItem};
+ghost use Rattle.amd_cases.specs.declared.items.Keyword.TheVariants as key;
 
 use crate::faults::Fault;
 use crate::words::{first_word, number_of};
@@ -24,6 +25,12 @@ pub enum Keyword {
     Pointers,
     /// `AI`
     Rows,
+    /// `HOLD`
+    Hold,
+    /// `PERM`
+    Permutation,
+    /// `ROOM`
+    Room,
     /// `END`
     End,
 }
@@ -43,6 +50,12 @@ pub enum Item<A: Allocator> {
     Pointers(Vec<i64, A>),
     /// The rows.
     Rows(Vec<i64, A>),
+    /// The rows that are held last, by a mark for each.
+    Hold(Vec<bool, A>),
+    /// A permutation.
+    Permutation(Vec<i64, A>),
+    /// A number of entries.
+    Room(i64),
     /// The end of the case.
     End,
 }
@@ -58,6 +71,9 @@ pub fn keyword_of(word: &[u8]) -> Option<Keyword>
         b"AGG" => Some(Keyword::Aggressive),
         b"AP" => Some(Keyword::Pointers),
         b"AI" => Some(Keyword::Rows),
+        b"HOLD" => Some(Keyword::Hold),
+        b"PERM" => Some(Keyword::Permutation),
+        b"ROOM" => Some(Keyword::Room),
         b"END" => Some(Keyword::End),
         _ => None,
     }
@@ -91,18 +107,36 @@ fn only(numbers: &[i64]) -> Option<i64>
 }
 
 /// Whether a number says yes, which is 1, or no, which is 0.
-fn truth_of(number: i64) -> Option<bool>
-    ensures { MatchOption result ((b : Bool) → truth_number b ≢ number) (λ b. truth_number b ≡ number) }
+fn truth_of(number: &i64) -> Option<bool>
+    ensures { MatchOption result ((b : Bool) → truth_number b ≢ number.now) (λ b. truth_number b ≡ number.now) }
 {
-    match number {
+    match *number {
         0 => Some(false),
         1 => Some(true),
         _ => None,
     }
 }
 
-/// The item of a keyword with its numbers.
+/// The marks that numbers stand for, each of which is 1 for yes or 0 for no. Memory may be refused.
+fn marks_of<A: Allocator>(alloc: A, numbers: &[i64]) -> Result<Vec<bool, A>, Fault>
+    ensures { MatchResult result (λ v. map truth_number v.items ≡ numbers.now)
+        (λ e. e ≢ Fault.OutOfMemory → (marks : List Bool) → map truth_number marks ≢ numbers.now) }
+{
+    let mut marks = Vec::new(alloc);
+    let mut left = numbers;
+    'numbers: while let Some((number, behind)) = left.split_first() {
+        let Some(mark) = truth_of(number) else {
+            return Err(Fault::Numbers);
+        };
+        marks.push(mark)?;
+        left = behind;
+    }
+    Ok(marks)
+}
+
+/// The item of a keyword other than `HOLD` with its numbers.
 fn item_from<A: Allocator>(keyword: Keyword, numbers: Vec<i64, A>) -> Option<Item<A>>
+    requires { keyword ≢ key.Hold }
     ensures { MatchOption result ((i : Item A) → FitsItem i → item_keyword i ≡ keyword → item_numbers i ≢ numbers.items)
         (λ i. FitsItem i × (item_keyword i ≡ keyword) × (item_numbers i ≡ numbers.items)) }
 {
@@ -110,9 +144,12 @@ fn item_from<A: Allocator>(keyword: Keyword, numbers: Vec<i64, A>) -> Option<Ite
         Keyword::Case => Some(Item::Case(only(&numbers)?)),
         Keyword::Size => Some(Item::Size(only(&numbers)?)),
         Keyword::Dense => Some(Item::Dense(i32::try_from(only(&numbers)?).ok()?)),
-        Keyword::Aggressive => Some(Item::Aggressive(truth_of(only(&numbers)?)?)),
+        Keyword::Aggressive => Some(Item::Aggressive(truth_of(&only(&numbers)?)?)),
         Keyword::Pointers => Some(Item::Pointers(numbers)),
         Keyword::Rows => Some(Item::Rows(numbers)),
+        Keyword::Hold => unreachable!(),
+        Keyword::Permutation => Some(Item::Permutation(numbers)),
+        Keyword::Room => Some(Item::Room(only(&numbers)?)),
         Keyword::End => {
             if numbers.is_empty() {
                 Some(Item::End)
@@ -120,6 +157,17 @@ fn item_from<A: Allocator>(keyword: Keyword, numbers: Vec<i64, A>) -> Option<Ite
                 None
             }
         }
+    }
+}
+
+/// The item of the keyword `HOLD` with its numbers. Memory may be refused.
+fn hold_from<A: Allocator>(alloc: A, numbers: &[i64]) -> Result<Item<A>, Fault>
+    ensures { MatchResult result (λ i. FitsItem i × (item_keyword i ≡ key.Hold) × (item_numbers i ≡ numbers.now))
+        (λ e. e ≢ Fault.OutOfMemory → (i : Item A) → FitsItem i → item_keyword i ≡ key.Hold → item_numbers i ≢ numbers.now) }
+{
+    match marks_of(alloc, numbers) {
+        Ok(marks) => Ok(Item::Hold(marks)),
+        Err(fault) => Err(fault),
     }
 }
 
@@ -134,6 +182,9 @@ pub fn item_of<A: Allocator + Copy>(alloc: A, line: &[u8]) -> Result<Item<A>, Fa
         return Err(Fault::Keyword);
     };
     let numbers = numbers_of(alloc, text)?;
+    if let Keyword::Hold = keyword {
+        return hold_from(alloc, &numbers);
+    }
     let Some(item) = item_from(keyword, numbers) else {
         return Err(Fault::Numbers);
     };

@@ -8,13 +8,16 @@
 //!     AGG 0|1       whether absorption is aggressive; left out, it is
 //!     AP ..         the pointers
 //!     AI ..         the rows
+//!     HOLD ..       for each row 1 where it is held last, else 0; left out, no row is
+//!     PERM ..       a permutation, under which the columns of the factor are asked for; it may be left out
+//!     ROOM r        how many entries these columns may have; it may be left out
 //!     END           it comes last
 //!
 //! Numbers are those that `parse::<i64>` takes: a sign or none, and decimal digits. The lists may be empty. Between `CASE` and
 //! `END` the items may come in any order, each of them once. Refused are: a first word that is no keyword, and a line without a
-//! word; a number that is no number or does not fit, and more or fewer numbers than the keyword takes; an item that was there
-//! already, and `CASE` inside a case; an item outside of a case; `END` where `N`, `AP` or `AI` is missing; and an end of the
-//! input inside a case.
+//! word; a number that is no number or does not fit, as a mark other than 0 and 1, and more or fewer numbers than the keyword
+//! takes; an item that was there already, and `CASE` inside a case; an item outside of a case; `END` where `N`, `AP` or `AI` is
+//! missing; and an end of the input inside a case. That the lists are as long as the others say is not asked for.
 #![tactic(auto)]
 
 pub mod cases;

@@ -6,7 +6,7 @@ ghost use Rattle.std.specs.Prelude.{◌≡◌, pos, false, true};
 ghost use Rattle.amd_numbers.specs.Records.{fresh_info};
 ghost use Rattle.amd_numbers.specs.declared.amd.Status.TheVariants.{OutOfMemory};
 
-use std::alloc::AllocError;
+use std::alloc::{AllocError, AllocFailed};
 
 /// What a caller chooses.
 #[derive(Clone, Debug, Drop)]
@@ -47,6 +47,15 @@ impl From<AllocError> for Status {
 
     fn from(_: AllocError) -> Status {
         Status::OutOfMemory
+    }
+}
+
+// What a refused `push`, `vec!` or box gives; the value that was not stored is dropped.
+impl<T: Drop> From<AllocFailed<T>> for Status {
+    ghost from_gives = { λ _ r. r ≡ OutOfMemory };
+
+    fn from(_: AllocFailed<T>) -> Status {
+        Status::from(AllocError)
     }
 }
 

@@ -1,4 +1,4 @@
--- A call of `permits`: what it is handed, and what its caller has of it. Assumes `Logic`.
+-- A call of `counts_down`: what it is handed, and what its caller has of it. Assumes `Logic`.
 use Rattle.std.proofs.Common.{◌≡◌, ℕ, List, [], ◌∷◌, Bool, refl, ap}
 use seplogic.Ra.Ura.{Ura}
 use mir.Val.{Val, vptr, vbool}
@@ -16,33 +16,33 @@ use denote.Steps.{nothing, only}
 use denote.Triple.Statement.{Contract}
 use denote.Triple.Spec.{triple_of}
 use Rattle.std.specs.contracts.cell.Cell as cell
-use Rattle.amd_testing.specs.contracts.refusing.permits as permits
+use Rattle.amd_testing.specs.contracts.refusing.counts_down as counts_down
 
 -- the row of the counter
 abbrev Counter : RattleType
 Counter = cell.the_row u64
 
 module _ {M : Type 1} {𝓤 : Ura M} (𝓛 : Logic 𝓤) (at_mem : Memory → SProp 𝓤) (run : Routine → Fun 𝓤) where
-  -- the contract of `permits`
-  abbrev pub Permits : Contract 𝓤
-  Permits = triple_of 𝓛 permits.signature (permits.spec 𝓛 at_mem run)
+  -- the contract of `counts_down`
+  abbrev pub CountsDown : Contract 𝓤
+  CountsDown = triple_of 𝓛 counts_down.signature (counts_down.spec 𝓛 at_mem run)
 
   -- its ghost values at the counter c, which is lent for κ
-  abbrev pub at_permits : Lft → Share → ℕ × ℕ → Permits.Ghost
-  at_permits κ q c = (((κ, tt), (q, tt), tt, (record { ref_ptr = c; now = record { value = tt } }, tt), (vptr c.0 c.1 ∷ [], tt)), tt)
+  abbrev pub at_counts_down : Lft → Share → ℕ × ℕ → CountsDown.Ghost
+  at_counts_down κ q c = (((κ, tt), (q, tt), tt, (record { ref_ptr = c; now = record { value = tt } }, tt), (vptr c.0 c.1 ∷ [], tt)), tt)
 
 module _ {M : Type 1} {𝓤 : Ura M} (𝓛 : Logic 𝓤) (at_mem : Memory → SProp 𝓤) (run : Routine → Fun 𝓤) (κ : Lft) (q : Share) (c : ℕ × ℕ) where
   open 𝓛 use {H, A}
 
   -- what it needs: the counter, lent, and the lifetime
-  pub Permits-goes : ent 𝓤 (sep 𝓤 (sem 𝓛 (hidden_shr Counter κ (record { value = tt }) c.0 c.1)) (A.lft κ q)) ((Permits 𝓛 at_mem run).pre (at_permits 𝓛 at_mem run κ q c))
-  Permits-goes =
+  pub CountsDown-goes : ent 𝓤 (sep 𝓤 (sem 𝓛 (hidden_shr Counter κ (record { value = tt }) c.0 c.1)) (A.lft κ q)) ((CountsDown 𝓛 at_mem run).pre (at_counts_down 𝓛 at_mem run κ q c))
+  CountsDown-goes =
       qed 𝓛 (‵ (hidden_shr Counter κ (record { value = tt }) c.0 c.1) ∷ ‵ (flft κ q) ∷ []) ∵ feq_i ! (List Val) (vptr c.0 c.1 ∷ []) (vptr c.0 c.1 ∷ []) refl $ fjoin ! $
       nothing ! $ move ! (1 ∷ []) $ fjoin ! $ nothing ! $ move ! (2 ∷ []) $ join ! $ join ! $ nothing ! $ move ! (1 ∷ []) $ done !
 
   -- what it gives: a truth value, and the lifetime back
-  pub Permits-gives : (v : Val) → ent 𝓤 ((Permits 𝓛 at_mem run).post (at_permits 𝓛 at_mem run κ q c) v) (H.⇛ (ex 𝓤 (λ (r : Bool). guard 𝓤 (v ≡ vbool r) (A.lft κ q))))
-  Permits-gives v =
-      qed 𝓛 (types.Kit.raw ((Permits 𝓛 at_mem run).post (at_permits 𝓛 at_mem run κ q c) v) ∷ []) ∵ updating ! $
+  pub CountsDown-gives : (v : Val) → ent 𝓤 ((CountsDown 𝓛 at_mem run).post (at_counts_down 𝓛 at_mem run κ q c) v) (H.⇛ (ex 𝓤 (λ (r : Bool). guard 𝓤 (v ≡ vbool r) (A.lft κ q))))
+  CountsDown-gives v =
+      qed 𝓛 (types.Kit.raw ((CountsDown 𝓛 at_mem run).post (at_counts_down 𝓛 at_mem run κ q c) v) ∷ []) ∵ updating ! $
       use1 𝓛 (later (some (λ (r : Bool). ((‵ (flft κ q) ⊛ ‵ ftrue) ⊛ ‵ (bool.own_val r (v ∷ []))) ⊛ some (λ (ws : Unit {0} × Unit {0}). ‵ (fsep ftrue ftrue) ⊛ ‵ ftrue)))) (id⊢ 𝓤 _) $ await ! tt $ pick ! (λ r.
       split ! $ split ! $ move ! (1 ∷ []) $ feq_l ! (λ e. split ! $ at_once ! $ show ! (λ (r : Bool). guard 𝓤 (v ≡ vbool r) (A.lft κ q)) r $ check ! (ap only e) $ keep ! (0 ∷ []) $ done !))

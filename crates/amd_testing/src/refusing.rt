@@ -1,8 +1,11 @@
-// An allocator for tests that refuses one request for memory and counts all of them. Code that answers want of memory is run
-// with each request refused in turn. Called by tests alone.
+// An allocator for tests that refuses one request for memory, and counts requests and releases. Code that answers want of
+// memory is run with each request refused in turn, and must leave nothing behind. Called by tests alone.
 
-use std::alloc::{AllocError, Allocator};
+use std::alloc::{AllocError, Allocator, Global};
 use std::cell::Cell;
+
+/// More requests than any call makes that a test runs with each of them refused.
+const MANY: u64 = 1000;
 
 /// Hands each request on to the allocator inside, but for the one that has the chosen number. A `&` to it is an allocator
 /// that can be copied.
@@ -10,6 +13,8 @@ pub struct Refusing<B: Allocator> {
     inner: B,
     // how many requests there are up to and with the one to refuse; it wraps below 0
     left: Cell<u64>,
+    // 0 less the blocks that came back; it wraps below 0
+    kept: Cell<u64>,
     refuse_at: u64,
 }
 
@@ -19,6 +24,7 @@ impl<B: Allocator> Refusing<B> {
         Refusing {
             inner,
             left: Cell::new(refuse_at),
+            kept: Cell::new(0),
             refuse_at,
         }
     }
@@ -32,6 +38,16 @@ impl<B: Allocator> Refusing<B> {
     pub fn refused(&self) -> bool {
         self.refuse_at != 0 && self.requests() >= self.refuse_at
     }
+
+    /// How many blocks were granted: one for each request but the refused one, where the allocator inside refused none.
+    pub fn granted(&self) -> u64 {
+        self.requests().wrapping_sub(u64::from(self.refused()))
+    }
+
+    /// How many blocks came back.
+    pub fn released(&self) -> u64 {
+        0u64.wrapping_sub(self.kept.get())
+    }
 }
 
 impl<B: Allocator> Drop for Refusing<B> {
@@ -39,15 +55,16 @@ impl<B: Allocator> Drop for Refusing<B> {
         let Self {
             inner: _,
             left: _,
+            kept: _,
             refuse_at: _,
         } = self;
     }
 }
 
-/// Counts one request, and says whether it is to be granted.
-fn permits(left: &Cell<u64>) -> bool {
-    let now = left.get().wrapping_sub(1);
-    left.set(now);
+/// Takes one off a counter, which wraps below 0, and says whether something is left of it.
+fn counts_down(counter: &Cell<u64>) -> bool {
+    let now = counter.get().wrapping_sub(1);
+    counter.set(now);
     now != 0
 }
 
@@ -55,21 +72,72 @@ unsafe impl<B: Allocator> Allocator for Refusing<B> {
     ghost dealloc_token = { λ heap ty ptr. B.dealloc_token heap.inner ty ptr };
 
     fn allocate(&self, size: usize, align: usize) -> Result<*mut u8, AllocError> {
-        if permits(&self.left) {
+        if counts_down(&self.left) {
             return self.inner.allocate(size, align);
         }
         Err(AllocError)
     }
 
     unsafe fn deallocate(&self, ptr: *mut u8, size: usize, align: usize) {
+        let _ = counts_down(&self.kept);
         self.inner.deallocate(ptr, size, align);
     }
 }
 
+/// What a call did wrong while its requests were refused; each names the request.
+#[derive(Debug, PartialEq, Drop)]
+pub enum Slip {
+    /// The request was refused, and there was an answer.
+    Answered(u64),
+    /// There was no answer, and no request was refused.
+    Unanswered(u64),
+    /// More or fewer blocks came back than were granted.
+    Unbalanced(u64),
+    /// No run met no refusal.
+    Endless,
+}
+
+/// What a run did wrong, if anything.
+fn slip_of<B: Allocator>(heap: &Refusing<B>, answered: bool) -> Option<Slip> {
+    let refuse_at = heap.refuse_at;
+    if heap.granted() != heap.released() {
+        return Some(Slip::Unbalanced(refuse_at));
+    }
+    match (answered, heap.refused()) {
+        (true, true) => Some(Slip::Answered(refuse_at)),
+        (false, false) => Some(Slip::Unanswered(refuse_at)),
+        _ => None,
+    }
+}
+
+/// Makes a call with each of its requests refused in turn, until a run meets no refusal, and answers how many were refused. The
+/// call says whether it had an answer, which it has dropped. There must be one exactly where no request was refused, and after
+/// each run as many blocks must have come back as were granted.
+///
+/// # Errors
+///
+/// The first run that did wrong.
+pub fn each_refused<F: Fn(&Refusing<Global>) -> bool>(alloc: Global, call: F) -> Result<u64, Slip>
+    requires { F.IsAlwaysCallable call }
+{
+    for refuse_at in 1..MANY {
+        let heap = Refusing::new(alloc, refuse_at);
+        let answered = call(&heap);
+        if let Some(slip) = slip_of(&heap, answered) {
+            return Err(slip);
+        }
+        if answered {
+            return Ok(refuse_at - 1);
+        }
+    }
+    Err(Slip::Endless)
+}
+
 #[cfg(test)]
 mod tests {
-    use super::Refusing;
+    use super::{Refusing, Slip, each_refused};
     use std::alloc::{AllocError, Allocator};
+    use std::mem::forget;
 
     /// Makes three lists of one number, each of which asks once.
     fn three_lists<A: Allocator + Copy>(alloc: A) -> Result<usize, AllocError> {
@@ -86,17 +154,40 @@ mod tests {
 
     #[test]
     fn refuses_the_chosen_request(rt: HostRuntime) {
-        for (refuse_at, fails, requests) in [
-            (0, false, 3),
-            (1, true, 1),
-            (2, true, 2),
-            (3, true, 3),
-            (4, false, 3),
+        for (refuse_at, fails, requests, granted) in [
+            (0, false, 3, 3),
+            (1, true, 1, 0),
+            (2, true, 2, 1),
+            (3, true, 3, 2),
+            (4, false, 3, 3),
         ] {
             let heap = Refusing::new(rt.alloc(), refuse_at);
             assert_eq!(rt; three_lists(&heap).is_err(), fails, "at {refuse_at}");
             assert_eq!(rt; heap.refused(), fails, "at {refuse_at}");
             assert_eq!(rt; heap.requests(), requests, "at {refuse_at}");
+            assert_eq!(rt; heap.granted(), granted, "at {refuse_at}");
+            assert_eq!(rt; heap.released(), granted, "at {refuse_at}");
         }
+    }
+
+    #[test]
+    fn notices_what_a_call_does_wrong(rt: HostRuntime) {
+        let fair = each_refused(rt.alloc(), |heap| three_lists(heap).is_ok());
+        assert_eq!(rt; fair, Ok(3));
+        let hides = each_refused(
+            rt.alloc(),
+            |heap| three_lists(heap).is_ok() || heap.refused(),
+        );
+        assert_eq!(rt; hides, Err(Slip::Answered(1)));
+        let gives_up = each_refused(rt.alloc(), |_| false);
+        assert_eq!(rt; gives_up, Err(Slip::Unanswered(1)));
+        let forgets = each_refused(rt.alloc(), |heap| {
+            let Ok(list) = Vec::<u8, _>::with_capacity(heap, 1) else {
+                return false;
+            };
+            forget(list);
+            three_lists(heap).is_ok()
+        });
+        assert_eq!(rt; forgets, Err(Slip::Unbalanced(2)));
     }
 }

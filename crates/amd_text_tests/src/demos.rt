@@ -102,7 +102,7 @@ fn no_rows(rt: HostRuntime) {
 }
 
 /// Runs a demo with a refused request and a writer over an array, and asserts that the record and what follows it are not
-/// written, and that the line of failure stands in their place. Answers whether there was such a request.
+/// written, that the line of failure stands in their place, and that nothing is left. Answers whether there was such a request.
 fn check_refused(
     rt: &impl Abort,
     alloc: Global,
@@ -126,6 +126,7 @@ fn check_refused(
     } else {
         assert_eq!(rt; status, 0, "{demo:?} at {refuse_at}");
     }
+    assert_eq!(rt; heap.granted(), heap.released(), "{demo:?} at {refuse_at}");
     Ok(heap.refused())
 }
 

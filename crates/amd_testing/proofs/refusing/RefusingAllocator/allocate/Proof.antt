@@ -36,9 +36,9 @@ use denote.Builtin.{usize, RefOf}
 use denote.Triple.Call.{calls_at}
 use Rattle.std.proofs.alloc.Shapes.{after}
 use Rattle.std.proofs.alloc.Calls.{Al, α, seen, Answer, answer_val, Answer-typed, Answer-Ok, Answer-err, takes_key, Takes, at_takes, Answered, Takes-goes, Takes-gives, answers}
-use Rattle.amd_testing.proofs.Countdown.{Permits, at_permits, Permits-goes, Permits-gives}
-use Rattle.amd_testing.proofs.refusing.permits.Symbol as c_sym
-use Rattle.amd_testing.proofs.refusing.permits.Met as c_met
+use Rattle.amd_testing.proofs.Countdown.{CountsDown, at_counts_down, CountsDown-goes, CountsDown-gives}
+use Rattle.amd_testing.proofs.refusing.counts_down.Symbol as c_sym
+use Rattle.amd_testing.proofs.refusing.counts_down.Met as c_met
 use Rattle.amd_testing.specs.contracts.refusing.Refusing as wrapper
 use Rattle.amd_testing.specs.contracts.refusing.RefusingAllocator.allocate as F
 use Rattle.amd_testing.specs.contracts.refusing.RefusingAllocator.allocate.Key as key
@@ -61,7 +61,7 @@ module _ (Z : Al) where
   abbrev stayed : Stays ended.signature.params ended.kept
   stayed = (stay_dropped self yes, (stay_dropped (plain (λ _. usize)) yes, (stay_dropped (plain (λ _. usize)) yes, tt)))
 
-module _ (Z : Al) {M : Type 1} {𝓤 : Ura M} (𝓛 : Logic 𝓤) (at_mem : Memory → SProp 𝓤) (run : Routine → Fun 𝓤) (𝓣 : Tables 𝓤 𝓛.H) (tk : Triple 𝓤 (𝓣.C (takes_key Z)) (Takes Z 𝓛 at_mem run)) (kn : Triple 𝓤 (𝓣.C c_sym.name) (Permits 𝓛 at_mem run)) where
+module _ (Z : Al) {M : Type 1} {𝓤 : Ura M} (𝓛 : Logic 𝓤) (at_mem : Memory → SProp 𝓤) (run : Routine → Fun 𝓤) (𝓣 : Tables 𝓤 𝓛.H) (tk : Triple 𝓤 (𝓣.C (takes_key Z)) (Takes Z 𝓛 at_mem run)) (kn : Triple 𝓤 (𝓣.C c_sym.name) (CountsDown 𝓛 at_mem run)) where
   open 𝓛 use {H}
 
   abbrev held : Clauses 𝓤 (ended Z)
@@ -89,9 +89,9 @@ module _ (Z : Al) {M : Type 1} {𝓤 : Ura M} (𝓛 : Logic 𝓤) (at_mem : Memo
         split ! $ split ! $ move ! (2 ∷ []) $ fsplit ! $ fsplit ! $ move ! (1 ∷ []) $ unhide ! $ fsplit ! $ fsplit ! $ use1 𝓛 (‵ (seen Z κ₁ p h)) (id⊢ 𝓤 _) $ move ! (1 ∷ []) $ fsplit ! $ keep ! (0 ∷ 6 ∷ 2 ∷ 7 ∷ []) $
         enter ! 𝓣.C 𝓣.Λ (here Z) vs _ $ alloc_all ! (λ l. pass_all ! refl ((tt, tt), ((tt, record { fits = fn }), ((tt, record { fits = fa }), tt))) $
         sets ! (addr ! (through ! refl (fld ! refl (stop !)))) refl (tt, tt) $
-        use2 𝓛 (raw ((Permits 𝓛 at_mem run).pre (at_permits 𝓛 at_mem run κ₁ q₁ c))) (Permits-goes 𝓛 at_mem run κ₁ q₁ c) $
-        calls_at ! (fm_of 𝓤 H 𝓛.laws 𝓣) (Permits 𝓛 at_mem run) kn (at_permits 𝓛 at_mem run κ₁ q₁ c) (and_then ! (get ! refl) (no_more !)) (λ u.
-        use1 𝓛 (later (some (λ (y : Bool). given (u ≡ vbool y) (‵ (flft κ₁ q₁))))) (Permits-gives 𝓛 at_mem run κ₁ q₁ c u) $ await ! tt $ pick ! (λ granted. learn ! (λ eu. lands_as ! eu refl (tt, tt) $ move ! (1 ∷ []) $
+        use2 𝓛 (raw ((CountsDown 𝓛 at_mem run).pre (at_counts_down 𝓛 at_mem run κ₁ q₁ c))) (CountsDown-goes 𝓛 at_mem run κ₁ q₁ c) $
+        calls_at ! (fm_of 𝓤 H 𝓛.laws 𝓣) (CountsDown 𝓛 at_mem run) kn (at_counts_down 𝓛 at_mem run κ₁ q₁ c) (and_then ! (get ! refl) (no_more !)) (λ u.
+        use1 𝓛 (later (some (λ (y : Bool). given (u ≡ vbool y) (‵ (flft κ₁ q₁))))) (CountsDown-gives 𝓛 at_mem run κ₁ q₁ c u) $ await ! tt $ pick ! (λ granted. learn ! (λ eu. lands_as ! eu refl (tt, tt) $ move ! (1 ∷ []) $
         let there : Env 𝓤 H = env (here Z).locals l in
         first ! $ branches ! (get ! refl)
         (λ t. sets ! (addr ! (through ! refl (fld ! refl (stop !)))) refl (tt, tt) $
@@ -124,4 +124,4 @@ allocate_spec 𝓤 𝓛 𝓜 𝓡 wired Y L g d d' met _ =
     entered 𝓤 𝓛.H (triple_of 𝓛 (F.signature Y) (F.spec Y g d d' 𝓛 𝓜.mem 𝓡.returns)) 𝓣.C 𝓣.Λ (key.name (args Z)) (here Z) (code.unfolded 𝓤 𝓛.H 𝓜 𝓡 wired (Y, tt) d d')
     (walk_Meets 𝓛 (ended Z) (stayed Z) (Goes-dropped 𝓛 2 (self Z) yes (λ κs x f. refl), (Goes-dropped 𝓛 2 (plain (λ _. usize)) yes (λ κs x f. refl), (Goes-dropped 𝓛 2 (plain (λ _. usize)) yes (λ κs x f. refl), tt))) c (WpFn 𝓤 𝓛.H 𝓣.C 𝓣.Λ (here Z)) (WpFn-mono 𝓤 𝓛.H 𝓛.laws 𝓣 (here Z))
     (walked 𝓛 (ended Z) (stayed Z) c (WpFn 𝓤 𝓛.H 𝓣.C 𝓣.Λ (here Z)) (λ κs. (shr_vals, (uint_vals w64, (uint_vals w64, tt)))) (λ κs. ((λ r vs s. s.0), (uint_Tells w64, (uint_Tells w64, tt))))
-    (λ κs qs bounds a τ are. walk Z 𝓛 𝓜.mem 𝓡.returns 𝓣 (met.allocate d') (cited 𝓤 𝓛.H _ 𝓜 𝓡 𝓡.env c_sym.name (𝓡.env c_sym.name) refl (c_met.met 𝓤 𝓛 𝓜 𝓡 (code.calls-amd_testing::refusing::permits 𝓡.env wired))) κs.0 κs.1.0 qs.0 qs.1.0 bounds.0 a.0 a.1.0 a.1.1.0 τ are.1.0.1 are.1.1.0.1)))
+    (λ κs qs bounds a τ are. walk Z 𝓛 𝓜.mem 𝓡.returns 𝓣 (met.allocate d') (cited 𝓤 𝓛.H _ 𝓜 𝓡 𝓡.env c_sym.name (𝓡.env c_sym.name) refl (c_met.met 𝓤 𝓛 𝓜 𝓡 (code.calls-amd_testing::refusing::counts_down 𝓡.env wired))) κs.0 κs.1.0 qs.0 qs.1.0 bounds.0 a.0 a.1.0 a.1.1.0 τ are.1.0.1 are.1.1.0.1)))
