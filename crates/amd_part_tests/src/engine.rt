@@ -1,4 +1,5 @@
-// The plain engine by itself: refused memory, and nothing left behind. The answer is that of the crate `amd` for these five rows.
+// The plain engine by itself: refused memory, and nothing left behind. The answer is that of the crate `amd` for these five
+// rows.
 
 use amd_engine::plain::plain_1;
 use amd_input::aat::aat;
