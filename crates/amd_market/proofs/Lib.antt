@@ -1,4 +1,0 @@
-pub mod LineLemmas
-pub mod EntryLemmas
-pub mod ColumnLemmas
-pub mod FileLemmas
