@@ -5,8 +5,8 @@ use Rattle.std.proofs.lemmas.Bool.{cases_lt, le-ltb}
 use Rattle.amd_model.specs.Below.{sum_below, count_below}
 use Rattle.amd_model.specs.Graph.{edge_count}
 use Rattle.amd_model.specs.Input.Pattern.{holds_row, is_pair, graph_of, pair_count, diagonal_count, SamePattern, IsTranspose}
-use Rattle.amd_model.proofs.BelowLemmas.{sum_same, count_same}
-use Rattle.amd_model.proofs.Pigeonhole.{sum_swap}
+use Rattle.amd_model.proofs.Counting.Below.{sum_same, count_same}
+use Rattle.amd_model.proofs.Counting.Pigeonhole.{sum_swap}
 use Rattle.amd_numbers.specs.declared.amd.Info.{Info}
 use Rattle.amd_input.specs.PatternFigures.{HasPatternFigures}
 
@@ -14,14 +14,16 @@ use Rattle.amd_input.specs.PatternFigures.{HasPatternFigures}
 outside : (n : ℕ) (a_p a_i : List ℤ) (i j : ℕ) → (n ≤ i) ⊎ (n ≤ j) → is_pair n a_p a_i i j ≡ false
 unfolding is_pair
 outside n a_p a_i i j (inl far) = ap (λ b. b && nat_lt j n && holds_row a_p a_i j i) (le-ltb i n far)
-outside n a_p a_i i j (inr far) = ap (λ b. nat_lt i n && b && holds_row a_p a_i j i) (le-ltb j n far) ∙ none (nat_lt i n) (holds_row a_p a_i j i)
+outside n a_p a_i i j (inr far) = ap (λ b. nat_lt i n && b && holds_row a_p a_i j i) (le-ltb j n far) ∙
+    none (nat_lt i n) (holds_row a_p a_i j i)
   where
     none : (a b : Bool) → (a && false && b) ≡ false
     none true b = refl
     none false b = refl
 
 -- two tests that agree on rows and columns below n, and fail elsewhere, agree
-everywhere : (n : ℕ) (p q : ℕ → ℕ → Bool) → ((i j : ℕ) → (n ≤ i) ⊎ (n ≤ j) → p i j ≡ false) → ((i j : ℕ) → (n ≤ i) ⊎ (n ≤ j) → q i j ≡ false) →
+everywhere : (n : ℕ) (p q : ℕ → ℕ → Bool) → ((i j : ℕ) → (n ≤ i) ⊎ (n ≤ j) → p i j ≡ false) →
+    ((i j : ℕ) → (n ≤ i) ⊎ (n ≤ j) → q i j ≡ false) →
     ((i j : ℕ) → i < n → j < n → p i j ≡ q i j) → (i j : ℕ) → p i j ≡ q i j
 everywhere n p q pf qf h i j = elim (cases_lt i n) [
   | inr far ↦ pf i j (inl far) ∙ sym (qf i j (inl far))
@@ -31,11 +33,14 @@ everywhere n p q pf qf h i j = elim (cases_lt i n) [
   ]
 ]
 
-pub pairs_same : (n : ℕ) (a_p a_i b_p b_i : List ℤ) → SamePattern n a_p a_i b_p b_i → (i j : ℕ) → is_pair n a_p a_i i j ≡ is_pair n b_p b_i i j
+pub pairs_same : (n : ℕ) (a_p a_i b_p b_i : List ℤ) → SamePattern n a_p a_i b_p b_i → (i j : ℕ) →
+    is_pair n a_p a_i i j ≡ is_pair n b_p b_i i j
 pairs_same n a_p a_i b_p b_i same = everywhere n (is_pair n a_p a_i) (is_pair n b_p b_i) (outside n a_p a_i) (outside n b_p b_i) same
 
-pub pairs_turned : (n : ℕ) (a_p a_i b_p b_i : List ℤ) → IsTranspose n a_p a_i b_p b_i → (i j : ℕ) → is_pair n b_p b_i i j ≡ is_pair n a_p a_i j i
-pairs_turned n a_p a_i b_p b_i turned = everywhere n (is_pair n b_p b_i) (λ i j. is_pair n a_p a_i j i) (outside n b_p b_i) (λ i j far. outside n a_p a_i j i (flip far)) turned
+pub pairs_turned : (n : ℕ) (a_p a_i b_p b_i : List ℤ) → IsTranspose n a_p a_i b_p b_i → (i j : ℕ) →
+    is_pair n b_p b_i i j ≡ is_pair n a_p a_i j i
+pairs_turned n a_p a_i b_p b_i turned = everywhere n (is_pair n b_p b_i) (λ i j. is_pair n a_p a_i j i) (outside n b_p b_i)
+    (λ i j far. outside n a_p a_i j i (flip far)) turned
   where
     flip : {P Q : Type 0} → P ⊎ Q → Q ⊎ P
     flip (inl x) = inr x
@@ -47,7 +52,9 @@ or_comm true false = refl
 or_comm false true = refl
 or_comm false false = refl
 
-graph_from : (n : ℕ) (a_p a_i b_p b_i : List ℤ) → ((i j : ℕ) → (is_pair n a_p a_i i j || is_pair n a_p a_i j i) ≡ (is_pair n b_p b_i i j || is_pair n b_p b_i j i)) → graph_of n a_p a_i ≡ graph_of n b_p b_i
+graph_from : (n : ℕ) (a_p a_i b_p b_i : List ℤ) →
+    ((i j : ℕ) → (is_pair n a_p a_i i j || is_pair n a_p a_i j i) ≡ (is_pair n b_p b_i i j || is_pair n b_p b_i j i)) →
+    graph_of n a_p a_i ≡ graph_of n b_p b_i
 unfolding graph_of
 graph_from n a_p a_i b_p b_i h = λ k. record { size = n; edge = λ i j. not (i == j) && h i j k }
 
@@ -57,14 +64,16 @@ graph_same n a_p a_i b_p b_i same = let e = pairs_same n a_p a_i b_p b_i same in
 
 pub graph_turned : (n : ℕ) (a_p a_i b_p b_i : List ℤ) → IsTranspose n a_p a_i b_p b_i → graph_of n b_p b_i ≡ graph_of n a_p a_i
 graph_turned n a_p a_i b_p b_i turned = let e = pairs_turned n a_p a_i b_p b_i turned in
-    graph_from n b_p b_i a_p a_i (λ i j. ap (λ b. b || is_pair n b_p b_i j i) (e i j) ∙ ap (λ b. is_pair n a_p a_i j i || b) (e j i) ∙ or_comm (is_pair n a_p a_i j i) (is_pair n a_p a_i i j))
+    graph_from n b_p b_i a_p a_i (λ i j. ap (λ b. b || is_pair n b_p b_i j i) (e i j) ∙ ap (λ b. is_pair n a_p a_i j i || b) (e j i) ∙
+    or_comm (is_pair n a_p a_i j i) (is_pair n a_p a_i i j))
 
 -- the pairs of a transpose are as many
 turned_pairs : (n : ℕ) (a_p a_i b_p b_i : List ℤ) → IsTranspose n a_p a_i b_p b_i → pair_count n b_p b_i ≡ pair_count n a_p a_i
 unfolding pair_count count_below
 turned_pairs n a_p a_i b_p b_i turned =
     sum_same n (λ j. sum_below n (λ i. cond (is_pair n b_p b_i i j) 1 0)) (λ j. sum_below n (λ i. cond (is_pair n a_p a_i j i) 1 0))
-    (λ j lj. sum_same n (λ i. cond (is_pair n b_p b_i i j) 1 0) (λ i. cond (is_pair n a_p a_i j i) 1 0) (λ i li. ap (λ b. cond b 1 0) (turned i j li lj)))
+    (λ j lj. sum_same n (λ i. cond (is_pair n b_p b_i i j) 1 0) (λ i. cond (is_pair n a_p a_i j i) 1 0)
+    (λ i li. ap (λ b. cond b 1 0) (turned i j li lj)))
     ∙ sum_swap n n (λ j i. cond (is_pair n a_p a_i j i) 1 0)
 
 turned_diagonal : (n : ℕ) (a_p a_i b_p b_i : List ℤ) → IsTranspose n a_p a_i b_p b_i → diagonal_count n b_p b_i ≡ diagonal_count n a_p a_i
@@ -72,7 +81,8 @@ unfolding diagonal_count
 turned_diagonal n a_p a_i b_p b_i turned = count_same n (λ i. is_pair n b_p b_i i i) (λ i. is_pair n a_p a_i i i) (λ i l. turned i i l l)
 
 -- a transpose has the figures of the matrix
-pub figures_turned : (n : ℕ) (a_p a_i b_p b_i : List ℤ) (info : Info) → IsTranspose n a_p a_i b_p b_i → HasPatternFigures n b_p b_i info → HasPatternFigures n a_p a_i info
+pub figures_turned : (n : ℕ) (a_p a_i b_p b_i : List ℤ) (info : Info) → IsTranspose n a_p a_i b_p b_i → HasPatternFigures n b_p b_i info →
+    HasPatternFigures n a_p a_i info
 figures_turned n a_p a_i b_p b_i info turned f = let e = pairs_turned n a_p a_i b_p b_i turned in record {
   size = f.size;
   entries = f.entries ∙ turned_pairs n a_p a_i b_p b_i turned;

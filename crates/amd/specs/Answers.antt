@@ -1,5 +1,6 @@
 -- What `order` answers.
-use Rattle.std.specs.Prelude.{◌≡◌, ◌≢◌, ◌≤◌, ◌+◌, ◌-◌, ◌*◌, ◌/◌, ◌^◌, ◌<◌, ℕ, ℤ, pos, Bool, true, false, Option, None, Some, List, [], map, drop, length, slice_index_or, unsigned_abs}
+use Rattle.std.specs.Prelude.{◌≡◌, ◌≢◌, ◌≤◌, ◌+◌, ◌-◌, ◌*◌, ◌/◌, ◌^◌, ◌<◌, ℕ, ℤ, pos, Bool, true, false, Option, None, Some, List, [], map}
+use Rattle.std.specs.Prelude.{drop, length, slice_index_or, unsigned_abs}
 use Rattle.amd_model.specs.Below.{count_below, list_below}
 use Rattle.amd_model.specs.Graph.{Graph}
 use Rattle.amd_model.specs.Input.Columns.{IsInput}
@@ -10,7 +11,7 @@ use Rattle.amd_model.specs.Factor.{IsFactor, needed, needed_front}
 use Rattle.amd_model.specs.Forest.{IsForest}
 use Rattle.amd_model.specs.Laws.{EntriesAreEdges}
 use Rattle.amd_model.specs.Ordering.{IsListingOf, Promises}
-use Rattle.amd_model.specs.Tie.{starting_list}
+use Rattle.amd_model.specs.Quotient.{starting_list}
 use Rattle.amd_model.specs.Input.Pattern.{graph_of, is_pair}
 use Rattle.amd_model.specs.Input.Dense.{IsThreshold, is_dense}
 use Rattle.amd_model.specs.Input.Held.{HasMarks, is_held_last}
@@ -63,7 +64,8 @@ pub record FillsNothing (g : Graph) (p : List ℕ) (info : Info) : Type 0 where
 
 -- what an ordering of a matrix with n rows and a dense row parameter of t thousandths promises, where the marked rows are held last
 -- beside the dense ones; the pairs order the starting lists
-pub record OrdersMatrix (hold : Option (List Bool)) (n : ℕ) (t : ℤ) (aggressive : Bool) (pair : ℕ → ℕ → Bool) (ap ai p q : List ℤ) (info : Info) : Type 0 where
+pub record OrdersMatrix (hold : Option (List Bool)) (n : ℕ) (t : ℤ) (aggressive : Bool) (pair : ℕ → ℕ → Bool) (ap ai p q : List ℤ)
+    (info : Info) : Type 0 where
   pub inverse : AreInverse n p q
   pub figures : HasPatternFigures n ap ai info
   pub compactions : info.n_cmp_a ≤ n
@@ -75,7 +77,8 @@ pub record OrdersMatrix (hold : Option (List Bool)) (n : ℕ) (t : ℤ) (aggress
   pub listed : p ≡ map pos rows
   pub first : State
   pub states : List State
-  pub listing : IsListingOf (graph_of n ap ai) (is_held_last hold (graph_of n ap ai) threshold) aggressive (starting_list n pair) first states rows
+  pub listing : IsListingOf (graph_of n ap ai) (is_held_last hold (graph_of n ap ai) threshold) aggressive (starting_list n pair) first
+      states rows
   -- and with this run: paths, bounds, the tree, the columns, forests; its figures; and what they reserve
   pub promises : Promises (graph_of n ap ai) (is_held_last hold (graph_of n ap ai) threshold) first states rows
   pub told : TellsFigures (graph_of n ap ai) (is_held_last hold (graph_of n ap ai) threshold) (last_state first states) info
@@ -131,7 +134,8 @@ pub record HaveEqualFigures (one other : Info) : Type 0 where
 
 -- each marked row is dense anyway, by a dense row parameter of t thousandths
 abbrev pub AreDense : List Bool → ℕ → ℤ → List ℤ → List ℤ → Type 0
-AreDense marks n t ap ai = (threshold v : ℕ) → IsThreshold n t threshold → slice_index_or marks v false ≡ true → is_dense (graph_of n ap ai) threshold v ≡ true
+AreDense marks n t ap ai = (threshold v : ℕ) → IsThreshold n t threshold → slice_index_or marks v false ≡ true →
+    is_dense (graph_of n ap ai) threshold v ≡ true
 
 -- two answers are one: both lists, and the records but for the count of compactions
 pub record AreOneAnswer (p q r s : List ℤ) (one other : Info) : Type 0 where

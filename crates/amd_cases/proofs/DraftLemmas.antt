@@ -3,7 +3,8 @@ use Rattle.std.proofs.Common.{◌≡◌, ℤ, Option, Some, None, List, [], ◌�
 use Rattle.std.specs.Prelude.{option_to_list, unwrap_or}
 use Rattle.std.specs.List.{flat_map}
 use Rattle.std.proofs.lemmas.Grind.{flat_map-append}
-use Rattle.amd_cases.specs.Items.{IsInside, size_of, dense_of, aggressive_of, pointers_of, rows_of, hold_of, permutation_of, room_of, list_items}
+use Rattle.amd_cases.specs.Items.{IsInside, size_of, dense_of, aggressive_of, pointers_of, rows_of, hold_of, permutation_of, room_of}
+use Rattle.amd_cases.specs.Items.{list_items}
 use Rattle.amd_cases.specs.Drafts.{Adds, Finishes}
 use Rattle.amd_cases.specs.Spelling.{AllInside, IsOrElse, SpellsCase}
 use Rattle.amd_cases.specs.declared.items.Item.{Item}
@@ -28,15 +29,43 @@ inside-more : {Z : Type 0} (body : List (Item Z)) (i : Item Z) → AllInside bod
 inside-more [] i h k = (k, tt)
 inside-more (j ∷ body) i h k = (h.0, inside-more body i h.1 k)
 
-told-more : {Z X : Type 0} (f : Item Z → List X) (body : List (Item Z)) (i : Item Z) (old new : List X) → flat_map f body ≡ old → new ≡ old ++ f i → flat_map f (body ++ i ∷ []) ≡ new
-told-more f body i old new h k = flat_map-append f body (i ∷ []) ∙ ap (λ t. t ++ (f i ++ [])) h ∙ ap (λ t. old ++ t) (append-nil (f i)) ∙ sym k
+told-more : {Z X : Type 0} (f : Item Z → List X) (body : List (Item Z)) (i : Item Z) (old new : List X) → flat_map f body ≡ old →
+    new ≡ old ++ f i → flat_map f (body ++ i ∷ []) ≡ new
+told-more f body i old new h k = flat_map-append f body (i ∷ []) ∙ ap (λ t. t ++ (f i ++ [])) h ∙ ap (λ t. old ++ t) (append-nil (f i)) ∙
+    sym k
 
 -- no item was read
-pub gathers-none : {Z : Type 0} (number k : ℤ) (d : Draft Z) → d ≡ record { number = k; n = None; dense = None; aggressive = None; a_p = None; a_i = None; hold = None; permutation = None; room = None } → k ≡ number → Gathers number [] d
-gathers-none number k d new same = rw new (record { numbered = same; inside = tt; size = refl; dense = refl; aggressive = refl; pointers = refl; rows = refl; hold = refl; permutation = refl; room = refl })
+pub gathers-none : {Z : Type 0} (number k : ℤ) (d : Draft Z) →
+    d ≡ record {
+      number = k;
+      n = None;
+      dense = None;
+      aggressive = None;
+      a_p = None;
+      a_i = None;
+      hold = None;
+      permutation = None;
+      room =
+          None;
+    } → k ≡ number → Gathers number [] d
+gathers-none number k d new same =
+    rw new (record {
+      numbered = same;
+      inside = tt;
+      size = refl;
+      dense = refl;
+      aggressive = refl;
+      pointers = refl;
+      rows = refl;
+      hold =
+          refl;
+      permutation = refl;
+      room = refl;
+    })
 
 -- one item more
-pub gathers-more : {Z : Type 0} (number : ℤ) (body : List (Item Z)) (old new : Draft Z) (i : Item Z) → Gathers number body old → Adds old new i → Gathers number (body ++ i ∷ []) new
+pub gathers-more : {Z : Type 0} (number : ℤ) (body : List (Item Z)) (old new : Draft Z) (i : Item Z) → Gathers number body old →
+    Adds old new i → Gathers number (body ++ i ∷ []) new
 gathers-more number body old new i h k = record {
   numbered = k.number ∙ h.numbered;
   inside = inside-more body i h.inside k.inside;
@@ -50,12 +79,14 @@ gathers-more number body old new i h k = record {
   room = told-more room_of body i _ _ h.room k.room;
 }
 
-or-else : {X : Type 0} (told : List X) (o : Option X) (other x : X) → told ≡ option_to_list o → x ≡ unwrap_or o other → IsOrElse told other x
+or-else : {X : Type 0} (told : List X) (o : Option X) (other x : X) → told ≡ option_to_list o → x ≡ unwrap_or o other →
+    IsOrElse told other x
 or-else told None other x h k = rw h k
 or-else told (Some y) other x h k = rw h k
 
 -- the items, between the first and the last one, spell the case that was finished
-pub gathers-all : {Z : Type 0} (number : ℤ) (body : List (Item Z)) (d : Draft Z) (c : Case Z) → Gathers number body d → Finishes d c → SpellsCase (item.Case number ∷ (body ++ item.End ∷ [])) c
+pub gathers-all : {Z : Type 0} (number : ℤ) (body : List (Item Z)) (d : Draft Z) (c : Case Z) → Gathers number body d → Finishes d c →
+    SpellsCase (item.Case number ∷ (body ++ item.End ∷ [])) c
 gathers-all number body d c h k = record {
   body = body;
   framed = ap (λ n. item.Case n ∷ (body ++ item.End ∷ [])) (sym (k.number ∙ h.numbered));

@@ -1,5 +1,6 @@
 -- A line spells one item at most.
-use Rattle.std.proofs.Common.{◌≡◌, ◌≢◌, ℕ, ℤ, pos, Bool, Result, Ok, Err, List, [], ◌∷◌, ◌++◌, map, cond, eqb, get_or, drop, refl, sym, ap, ◌∙◌, subst}
+use Rattle.std.proofs.Common.{◌≡◌, ◌≢◌, ℕ, ℤ, pos, Bool, Result, Ok, Err, List, [], ◌∷◌, ◌++◌, map, cond, eqb, get_or, drop, refl, sym, ap}
+use Rattle.std.proofs.Common.{◌∙◌, subst}
 use Rattle.std.specs.Prelude.{MatchResult}
 use Rattle.amd_cases.specs.Words.{words, SpellsNumbers}
 use Rattle.amd_cases.specs.Items.{keyword_text, item_keyword, truth_number, item_numbers, FitsItem, SpellsItem}
@@ -12,7 +13,8 @@ use Rattle.amd_cases.specs.declared.items.Item.TheVariants as item
 
 -- the keyword that a text is, told by its first two bytes
 abbrev text_keyword : List ℕ → Keyword
-text_keyword bs = cond (eqb (get_or bs 0 0) 67) Case (cond (eqb (get_or bs 0 0) 78) Size (cond (eqb (get_or bs 0 0) 84) Dense (cond (eqb (get_or bs 0 0) 69) End
+text_keyword bs = cond (eqb (get_or bs 0 0) 67) Case
+    (cond (eqb (get_or bs 0 0) 78) Size (cond (eqb (get_or bs 0 0) 84) Dense (cond (eqb (get_or bs 0 0) 69) End
     (cond (eqb (get_or bs 0 0) 72) Hold (cond (eqb (get_or bs 0 0) 80) Permutation (cond (eqb (get_or bs 0 0) 82) Room
     (cond (eqb (get_or bs 1 0) 71) Aggressive (cond (eqb (get_or bs 1 0) 80) Pointers Rows))))))))
 
@@ -40,20 +42,24 @@ numbers-same (w ∷ ws) (y ∷ ys) [] h k = elim k [ ]
 numbers-same (w ∷ ws) (y ∷ ys) (z ∷ zs) h k = let a = h.0.value ∙ sym k.0.value in let b = numbers-same ws ys zs h.1 k.1 in cc
 
 -- a line whose first word is no keyword spells no item
-pub no-item : {Z : Type 0} (line w : List ℕ) (ws : List (List ℕ)) → words line ≡ w ∷ ws → ((k : Keyword) → w ≡ keyword_text k → ⊥) → (i : Item Z) → SpellsItem line i → ⊥
+pub no-item : {Z : Type 0} (line w : List ℕ) (ws : List (List ℕ)) → words line ≡ w ∷ ws → ((k : Keyword) → w ≡ keyword_text k → ⊥) →
+    (i : Item Z) → SpellsItem line i → ⊥
 no-item line w ws taken never i h = never (item_keyword i) (ap (λ t. get_or t 0 w) (sym taken ∙ h.begins))
 
 -- an item that a line spells has the keyword of the first word, and its numbers are what the others spell
-pub one-item : {Z : Type 0} (line w : List ℕ) (ws : List (List ℕ)) (k : Keyword) (zs : List ℤ) → words line ≡ w ∷ ws → w ≡ keyword_text k → SpellsNumbers ws zs
+pub one-item : {Z : Type 0} (line w : List ℕ) (ws : List (List ℕ)) (k : Keyword) (zs : List ℤ) → words line ≡ w ∷ ws → w ≡ keyword_text k →
+    SpellsNumbers ws zs
     → ((i : Item Z) → FitsItem i → item_keyword i ≡ k → item_numbers i ≡ zs → ⊥) → (i : Item Z) → SpellsItem line i → ⊥
 one-item line w ws k zs taken is numbers never i h =
     let same = sym taken ∙ h.begins in
     let first : w ≡ keyword_text (item_keyword i) = ap (λ t. get_or t 0 w) same in
     let rest : ws ≡ h.behind = ap (λ t. drop 1 t) same in
-    never i h.fits (keyword-same _ _ (sym first ∙ is)) (numbers-same h.behind (item_numbers i) zs h.numbers (subst (λ t. SpellsNumbers t zs) rest numbers))
+    never i h.fits (keyword-same _ _ (sym first ∙ is)) (numbers-same h.behind (item_numbers i) zs h.numbers
+    (subst (λ t. SpellsNumbers t zs) rest numbers))
 
 -- the item that was made of the keyword and the numbers of a line
-pub this-item : {Z : Type 0} (line w : List ℕ) (ws : List (List ℕ)) (k : Keyword) (zs : List ℤ) (i : Item Z) → words line ≡ w ∷ ws → w ≡ keyword_text k → SpellsNumbers ws zs
+pub this-item : {Z : Type 0} (line w : List ℕ) (ws : List (List ℕ)) (k : Keyword) (zs : List ℤ) (i : Item Z) → words line ≡ w ∷ ws →
+    w ≡ keyword_text k → SpellsNumbers ws zs
     → FitsItem i → item_keyword i ≡ k → item_numbers i ≡ zs → SpellsItem line i
 this-item line w ws k zs i taken is numbers fits key those = record {
   behind = ws;
@@ -62,18 +68,22 @@ this-item line w ws k zs i taken is numbers fits key those = record {
   fits = fits;
 }
 
-marks-reach : (done behind : List ℤ) (z : ℤ) (marks : List Bool) → ((b : Bool) → truth_number b ≡ z → ⊥) → map truth_number marks ≡ done ++ z ∷ behind → ⊥
+marks-reach : (done behind : List ℤ) (z : ℤ) (marks : List Bool) → ((b : Bool) → truth_number b ≡ z → ⊥) →
+    map truth_number marks ≡ done ++ z ∷ behind → ⊥
 marks-reach [] behind z [] never e = cc
 marks-reach [] behind z (b ∷ bs) never e = never b (ap (λ t. get_or t 0 (pos 0)) e)
 marks-reach (y ∷ ys) behind z [] never e = cc
 marks-reach (y ∷ ys) behind z (b ∷ bs) never e = marks-reach ys behind z bs never (ap (λ t. drop 1 t) e)
 
 -- numbers of which one is that of no mark are those of no marks
-pub no-marks : (done numbers left behind : List ℤ) (z : ℤ) (marks : List Bool) → numbers ≡ done ++ left → left ≡ z ∷ behind → ((b : Bool) → truth_number b ≡ z → ⊥) → map truth_number marks ≡ numbers → ⊥
-no-marks done numbers left behind z marks before taken never e = marks-reach done behind z marks never (e ∙ before ∙ ap (λ t. done ++ t) taken)
+pub no-marks : (done numbers left behind : List ℤ) (z : ℤ) (marks : List Bool) → numbers ≡ done ++ left → left ≡ z ∷ behind →
+    ((b : Bool) → truth_number b ≡ z → ⊥) → map truth_number marks ≡ numbers → ⊥
+no-marks done numbers left behind z marks before taken never e =
+    marks-reach done behind z marks never (e ∙ before ∙ ap (λ t. done ++ t) taken)
 
 -- numbers of no marks are those of no item of held rows
-pub no-hold : {Z : Type 0} (zs : List ℤ) → ((marks : List Bool) → map truth_number marks ≡ zs → ⊥) → (i : Item Z) → FitsItem i → item_keyword i ≡ Hold → item_numbers i ≡ zs → ⊥
+pub no-hold : {Z : Type 0} (zs : List ℤ) → ((marks : List Bool) → map truth_number marks ≡ zs → ⊥) → (i : Item Z) → FitsItem i →
+    item_keyword i ≡ Hold → item_numbers i ≡ zs → ⊥
 no-hold zs never (item.Case k) f h e = cc
 no-hold zs never (item.Size n) f h e = cc
 no-hold zs never (item.Dense t) f h e = cc
@@ -86,8 +96,12 @@ no-hold zs never (item.Room r) f h e = cc
 no-hold zs never item.End f h e = cc
 
 -- what was made of the numbers of a line of held rows is the item of the line, or there is none
-pub this-hold : {Z : Type 0} (line w : List ℕ) (ws : List (List ℕ)) (k : Keyword) (zs ys : List ℤ) (r : Result (Item Z) Fault) → words line ≡ w ∷ ws → w ≡ keyword_text k → k ≡ Hold → SpellsNumbers ws zs → ys ≡ zs
-    → MatchResult r (λ i. FitsItem i × (item_keyword i ≡ Hold) × (item_numbers i ≡ ys)) (λ e. e ≢ OutOfMemory → (i : Item Z) → FitsItem i → item_keyword i ≡ Hold → item_numbers i ≢ ys)
+pub this-hold : {Z : Type 0} (line w : List ℕ) (ws : List (List ℕ)) (k : Keyword) (zs ys : List ℤ) (r : Result (Item Z) Fault) →
+    words line ≡ w ∷ ws → w ≡ keyword_text k → k ≡ Hold → SpellsNumbers ws zs → ys ≡ zs
+    → MatchResult r (λ i. FitsItem i × (item_keyword i ≡ Hold) × (item_numbers i ≡ ys))
+    (λ e. e ≢ OutOfMemory → (i : Item Z) → FitsItem i → item_keyword i ≡ Hold → item_numbers i ≢ ys)
     → MatchResult r (SpellsItem line) (λ e. e ≢ OutOfMemory → (i : Item Z) → SpellsItem line i → ⊥)
-this-hold line w ws k zs ys (Ok i) taken is held numbers same h = this-item line w ws Hold zs i taken (is ∙ ap keyword_text held) numbers h.0 h.1 (h.2 ∙ same)
-this-hold line w ws k zs ys (Err e) taken is held numbers same h = λ refused. one-item line w ws Hold zs taken (is ∙ ap keyword_text held) numbers (λ i f key those. h refused i f key (those ∙ sym same))
+this-hold line w ws k zs ys (Ok i) taken is held numbers same h =
+    this-item line w ws Hold zs i taken (is ∙ ap keyword_text held) numbers h.0 h.1 (h.2 ∙ same)
+this-hold line w ws k zs ys (Err e) taken is held numbers same h =
+    λ refused. one-item line w ws Hold zs taken (is ∙ ap keyword_text held) numbers (λ i f key those. h refused i f key (those ∙ sym same))

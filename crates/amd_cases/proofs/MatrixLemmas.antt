@@ -1,5 +1,6 @@
 -- Bytes that were read one part after another hold the numbers of all parts.
-use Rattle.std.proofs.Common.{◌≡◌, ◌≤◌, ℕ, ℤ, pos, Option, Some, None, List, [], ◌∷◌, ◌++◌, length, map, drop, refl, sym, ap, ◌∙◌, subst, append_assoc, append-nil, length-append, arith}
+use Rattle.std.proofs.Common.{◌≡◌, ◌≤◌, ℕ, ℤ, pos, Option, Some, None, List, [], ◌∷◌, ◌++◌, length, map, drop, refl, sym, ap, ◌∙◌, subst}
+use Rattle.std.proofs.Common.{append_assoc, append-nil, length-append, arith}
 use Rattle.std.specs.Prelude.{IfSome}
 use Rattle.std.specs.Io.KnownBytes.{Consumes, IsAtEnd}
 use Rattle.std.proofs.lemmas.List.{map-append, length-map, take_all, drop_all, take-append-le, drop-append-le}
@@ -15,13 +16,15 @@ consumes-none : (a : Option (List ℕ)) → Consumes a a []
 consumes-none None = tt
 consumes-none (Some us) = refl
 
-holds-append : (size : ℕ) (number : List ℕ → ℤ) (ys zs : List ℤ) (bs cs : List ℕ) → HoldsNumbers size number ys bs → HoldsNumbers size number zs cs → HoldsNumbers size number (ys ++ zs) (bs ++ cs)
+holds-append : (size : ℕ) (number : List ℕ → ℤ) (ys zs : List ℤ) (bs cs : List ℕ) → HoldsNumbers size number ys bs →
+    HoldsNumbers size number zs cs → HoldsNumbers size number (ys ++ zs) (bs ++ cs)
 holds-append size number [] zs bs cs h k = rw h k
 holds-append size number (y ∷ ys) zs bs cs h k =
     let fits : size ≤ length bs = h.0 in (
       rw length-append (omega (arith, fits)),
       h.1 ∙ ap number (sym (take-append-le size bs cs fits)),
-      subst (HoldsNumbers size number (ys ++ zs)) (sym (drop-append-le size bs cs fits)) (holds-append size number ys zs (drop size bs) cs h.2 k),
+      subst (HoldsNumbers size number (ys ++ zs)) (sym (drop-append-le size bs cs fits))
+          (holds-append size number ys zs (drop size bs) cs h.2 k),
     )
 
 -- nothing was read
@@ -29,7 +32,8 @@ pub reads-none : (size : ℕ) (number : List ℕ → ℤ) (a : Option (List ℕ)
 reads-none size number a = record { bytes = []; consumed = consumes-none a; held = refl }
 
 -- the bytes of one number
-pub reads-one : (size : ℕ) (number : List ℕ → ℤ) (a b : Option (List ℕ)) (bytes : List ℕ) (z : ℤ) → length bytes ≡ size → z ≡ number bytes → Consumes a b bytes → ReadsNumbers size number a b (z ∷ [])
+pub reads-one : (size : ℕ) (number : List ℕ → ℤ) (a b : Option (List ℕ)) (bytes : List ℕ) (z : ℤ) → length bytes ≡ size → z ≡ number bytes →
+    Consumes a b bytes → ReadsNumbers size number a b (z ∷ [])
 reads-one size number a b bytes z len is consumed = record {
   bytes = bytes;
   consumed = consumed;
@@ -37,7 +41,8 @@ reads-one size number a b bytes z len is consumed = record {
 }
 
 -- two readings in turn are one
-pub reads-append : (size : ℕ) (number : List ℕ → ℤ) (a b c : Option (List ℕ)) (ys zs : List ℤ) → ReadsNumbers size number a b ys → ReadsNumbers size number b c zs → ReadsNumbers size number a c (ys ++ zs)
+pub reads-append : (size : ℕ) (number : List ℕ → ℤ) (a b c : Option (List ℕ)) (ys zs : List ℤ) → ReadsNumbers size number a b ys →
+    ReadsNumbers size number b c zs → ReadsNumbers size number a c (ys ++ zs)
 reads-append size number a b c ys zs h k = record {
   bytes = h.bytes ++ k.bytes;
   consumed = consumes-append a b c h.bytes k.bytes h.consumed k.consumed;
@@ -45,19 +50,24 @@ reads-append size number a b c ys zs h k = record {
 }
 
 -- one number more in a list of a caller's numbers
-pub reads-more : {I : Type 0} (value : I → ℤ) (size : ℕ) (number : List ℕ → ℤ) (a b c : Option (List ℕ)) (xs ys : List I) (x : I) (z : ℤ) → ReadsNumbers size number a b (map value xs)
+pub reads-more : {I : Type 0} (value : I → ℤ) (size : ℕ) (number : List ℕ → ℤ) (a b c : Option (List ℕ)) (xs ys : List I) (x : I) (z : ℤ) →
+    ReadsNumbers size number a b (map value xs)
     → ReadsNumbers size number b c (z ∷ []) → value x ≡ z → ys ≡ xs ++ x ∷ [] → ReadsNumbers size number a c (map value ys)
 reads-more value size number a b c xs ys x z h k is more =
-    subst (ReadsNumbers size number a c) (ap (λ t. map value xs ++ t ∷ []) (sym is) ∙ sym (map-append value xs (x ∷ [])) ∙ ap (map value) (sym more)) (reads-append size number a b c (map value xs) (z ∷ []) h k)
+    subst (ReadsNumbers size number a c) (ap (λ t. map value xs ++ t ∷ []) (sym is) ∙ sym (map-append value xs (x ∷ [])) ∙
+    ap (map value) (sym more)) (reads-append size number a b c (map value xs) (z ∷ []) h k)
 
 -- all bytes of a file hold a matrix
-pub holds-all : (o a b c d : Option (List ℕ)) (n nz : ℤ) (columns entries : ℕ) (ap' ai : List ℤ) → ReadsNumbers 8 wide_of o a (n ∷ []) → ReadsNumbers 8 wide_of a b (nz ∷ [])
-    → ReadsNumbers 8 wide_of b c ap' → ReadsNumbers 4 narrow_of c d ai → IsAtEnd d → n ≡ pos columns → nz ≡ pos entries → EndsWith ap' columns nz → length ai ≡ entries
+pub holds-all : (o a b c d : Option (List ℕ)) (n nz : ℤ) (columns entries : ℕ) (ap' ai : List ℤ) → ReadsNumbers 8 wide_of o a (n ∷ []) →
+    ReadsNumbers 8 wide_of a b (nz ∷ [])
+    → ReadsNumbers 8 wide_of b c ap' → ReadsNumbers 4 narrow_of c d ai → IsAtEnd d → n ≡ pos columns → nz ≡ pos entries →
+    EndsWith ap' columns nz → length ai ≡ entries
     → IfSome o (HoldsMatrix n ap' ai)
 holds-all o a b c d n nz columns entries ap' ai first second third fourth end is_n is_nz ends len =
     let entries_are : nz ≡ pos (length ai) = is_nz ∙ ap pos (sym len) in
     let wide = reads-append 8 wide_of o b c (n ∷ nz ∷ []) ap' (reads-append 8 wide_of o a b (n ∷ []) (nz ∷ []) first second) third in
-    known o d (wide.bytes ++ fourth.bytes) (consumes-append o c d wide.bytes fourth.bytes wide.consumed fourth.consumed) end (λ bytes is. record {
+    known o d (wide.bytes ++ fourth.bytes) (consumes-append o c d wide.bytes fourth.bytes wide.consumed fourth.consumed) end
+    (λ bytes is. record {
       wide = wide.bytes;
       narrow = fourth.bytes;
       parts = is;
@@ -68,12 +78,18 @@ holds-all o a b c d n nz columns entries ap' ai first second third fourth end is
       narrow_numbers = fourth.held;
     })
   where
-    known : (o d : Option (List ℕ)) (bytes : List ℕ) → Consumes o d bytes → IsAtEnd d → ((all : List ℕ) → all ≡ bytes → HoldsMatrix n ap' ai all) → IfSome o (HoldsMatrix n ap' ai)
+    known : (o d : Option (List ℕ)) (bytes : List ℕ) → Consumes o d bytes → IsAtEnd d →
+        ((all : List ℕ) → all ≡ bytes → HoldsMatrix n ap' ai all) → IfSome o (HoldsMatrix n ap' ai)
     known None d bytes h e f = tt
     known (Some all) None bytes h e f = elim h [ ]
     known (Some all) (Some left) bytes h e f = f all (h ∙ ap (λ t. bytes ++ t) e ∙ append-nil bytes)
 
 -- the last of a list of a caller's numbers
-pub ends-more : {I : Type 0} (value : I → ℤ) (xs ys : List I) (x : I) (n : ℕ) (z e : ℤ) → length xs ≡ n → value x ≡ z → z ≡ e → ys ≡ xs ++ x ∷ [] → EndsWith (map value ys) n e
-ends-more value xs ys x n z e len is same more =
-    (map value xs, ap (map value) more ∙ map-append value xs (x ∷ []) ∙ ap (λ t. map value xs ++ t ∷ []) (is ∙ same), length-map xs value ∙ len)
+pub ends-more : {I : Type 0} (value : I → ℤ) (xs ys : List I) (x : I) (n : ℕ) (z e : ℤ) → length xs ≡ n → value x ≡ z → z ≡ e →
+    ys ≡ xs ++ x ∷ [] → EndsWith (map value ys) n e
+ends-more value xs ys x n z e len is same more = (
+  map value xs,
+  ap (map value) more ∙ map-append value xs (x ∷ []) ∙ ap (λ t. map value xs ++ t ∷ []) (is ∙ same),
+  length-map xs value ∙
+      len,
+)

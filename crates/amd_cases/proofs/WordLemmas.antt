@@ -1,5 +1,6 @@
 -- The words of a line, taken off its front one by one.
-use Rattle.std.proofs.Common.{◌≡◌, ◌<◌, ◌+◌, ℕ, suc, Bool, true, false, List, [], ◌∷◌, length, take, drop, get_or, not, cond, ltb, refl, sym, ap, ◌∙◌, subst, length-drop, drop-cons, arith, Option, Some, None}
+use Rattle.std.proofs.Common.{◌≡◌, ◌<◌, ◌+◌, ℕ, suc, Bool, true, false, List, [], ◌∷◌, length, take, drop, get_or, not, cond, ltb, refl}
+use Rattle.std.proofs.Common.{sym, ap, ◌∙◌, subst, length-drop, drop-cons, arith, Option, Some, None}
 use Rattle.std.specs.Prelude.{filter, unwrap_or}
 use Rattle.std.proofs.lemmas.Bool.{lt-ltb, ltb-false}
 use Rattle.std.proofs.lemmas.List.{drop_all}
@@ -21,13 +22,15 @@ pub parts-skip : (p : ℕ → Bool) (xs : List ℕ) → parts p (drop (position_
 parts-skip p [] = refl
 parts-skip p (x ∷ xs) = at (parts-skip p xs) (p x) refl
   where
-    at : parts p (drop (position_or_len (λ y. not (p y)) xs) xs) ≡ parts p xs → (b : Bool) → p x ≡ b → parts p (drop (position_or_len (λ y. not (p y)) (x ∷ xs)) (x ∷ xs)) ≡ parts p (x ∷ xs)
+    at : parts p (drop (position_or_len (λ y. not (p y)) xs) xs) ≡ parts p xs → (b : Bool) → p x ≡ b →
+        parts p (drop (position_or_len (λ y. not (p y)) (x ∷ xs)) (x ∷ xs)) ≡ parts p (x ∷ xs)
     at h true e = rw (e, one-plus) h
     at h false e = rw (e, e) refl
 
 -- the parts of a list from its first one on, which may be empty and ends at the first element that passes
 abbrev Parted : (ℕ → Bool) → List ℕ → Type 0
-Parted p xs = (t : List (List ℕ)) × (slice_split p xs ≡ take (position_or_len p xs) xs ∷ t) × (filter has_bytes t ≡ parts p (drop (position_or_len p xs) xs))
+Parted p xs = (t : List (List ℕ)) × (slice_split p xs ≡ take (position_or_len p xs) xs ∷ t)
+    × (filter has_bytes t ≡ parts p (drop (position_or_len p xs) xs))
 
 pub parts-first : (p : ℕ → Bool) (xs : List ℕ) → Parted p xs
 parts-first p [] = ([], refl, refl)
@@ -38,7 +41,8 @@ parts-first p (x ∷ xs) = at (parts-first p xs) (p x) refl
     at h false e = (h.0, rw (e, one-plus, h.1) refl, rw (e, one-plus) h.2)
 
 -- the first part with a byte, and the parts behind it
-pub parts-take : (p : ℕ → Bool) (xs : List ℕ) → 0 < position_or_len p xs → parts p xs ≡ take (position_or_len p xs) xs ∷ parts p (drop (position_or_len p xs) xs)
+pub parts-take : (p : ℕ → Bool) (xs : List ℕ) → 0 < position_or_len p xs →
+    parts p xs ≡ take (position_or_len p xs) xs ∷ parts p (drop (position_or_len p xs) xs)
 parts-take p xs h =
     let t = parts-first p xs in
     let has : ltb 0 (length (take (position_or_len p xs) xs)) ≡ true = lt-ltb _ _ (rw length-prefix_len h) in
@@ -56,7 +60,8 @@ position-else p xs = at (ltb (position_or_len p xs) (length xs)) refl
 pub no-parts : (p : ℕ → Bool) (xs : List ℕ) → position (λ x. not (p x)) xs ≡ None → parts p xs ≡ []
 no-parts p xs h = at (ltb (position_or_len (λ x. not (p x)) xs) (length xs)) refl h
   where
-    at : (b : Bool) → ltb (position_or_len (λ x. not (p x)) xs) (length xs) ≡ b → cond b (Some (position_or_len (λ x. not (p x)) xs)) None ≡ None → parts p xs ≡ []
+    at : (b : Bool) → ltb (position_or_len (λ x. not (p x)) xs) (length xs) ≡ b →
+        cond b (Some (position_or_len (λ x. not (p x)) xs)) None ≡ None → parts p xs ≡ []
     at true e h = cc
     at false e h = sym (parts-skip p xs) ∙ ap (parts p) (drop_all (position_or_len (λ x. not (p x)) xs) xs (ltb-false _ _ e))
 
@@ -78,10 +83,15 @@ starts p xs i within fails = rw (drop-cons xs i 0 within, fails) (omega arith)
 
 -- a list whose first part begins at place i, and ends where the next element passes
 pub parts-off : (p : ℕ → Bool) (xs text w r : List ℕ) (i k : ℕ) (end : Option ℕ) → position (λ x. not (p x)) xs ≡ Some i → text ≡ drop i xs
-    → end ≡ position p text → k ≡ unwrap_or end (length text) → w ≡ take k text → r ≡ drop k text → (parts p xs ≡ w ∷ parts p r) × (length r < length xs)
+    → end ≡ position p text → k ≡ unwrap_or end (length text) → w ≡ take k text → r ≡ drop k text →
+    (parts p xs ≡ w ∷ parts p r) × (length r < length xs)
 parts-off p xs text w r i k end h at_text at_end at_k at_w at_r =
     let here = position-Some (λ x. not (p x)) xs i 0 h in
     let len : k ≡ position_or_len p text = at_k ∙ ap (λ o. unwrap_or o (length text)) at_end ∙ position-else p text in
     let some : 0 < position_or_len p text = rw at_text (starts p xs i here.0 (not-true _ here.1)) in
-    let begin : parts p text ≡ parts p xs = rw at_text (subst (λ n. parts p (drop n xs) ≡ parts p xs) (place-is _ xs i h) (parts-skip p xs)) in
-    (sym begin ∙ rw (at_w, at_r, len) (parts-take p text some), rw (at_r, at_text, length-drop, length-drop) (omega (arith, here.0, some, len)))
+    let begin : parts p text ≡ parts p xs = rw at_text (subst (λ n. parts p (drop n xs) ≡ parts p xs) (place-is _ xs i h) (parts-skip p xs))
+    in (
+      sym begin ∙ rw (at_w, at_r, len) (parts-take p text some),
+      rw (at_r, at_text, length-drop, length-drop)
+          (omega (arith, here.0, some, len)),
+    )

@@ -14,7 +14,8 @@ narrow_of bytes = cast_signed w32 (from_le_bytes w32 bytes)
 -- the bytes are those of the numbers, `size` of them for each
 abbrev pub HoldsNumbers : ℕ → (List ℕ → ℤ) → List ℤ → List ℕ → Type 0
 HoldsNumbers size number [] bytes = bytes ≡ []
-HoldsNumbers size number (z ∷ zs) bytes = (size ≤ length bytes) × (z ≡ number (take size bytes)) × HoldsNumbers size number zs (drop size bytes)
+HoldsNumbers size number (z ∷ zs) bytes = (size ≤ length bytes) × (z ≡ number (take size bytes))
+    × HoldsNumbers size number zs (drop size bytes)
 
 -- the bytes of the numbers were read
 pub record ReadsNumbers (size : ℕ) (number : List ℕ → ℤ) (old new : Option (List ℕ)) (zs : List ℤ) : Type 0 where

@@ -1,5 +1,6 @@
 -- What a reader of cases takes off its input, where the bytes of that are known.
-use Rattle.std.specs.Prelude.{◌≡◌, ◌<◌, ◌+◌, ◌-◌, ◌^◌, ℕ, ℤ, min, Bool, true, false, Option, Some, IfSome, List, [], ◌∷◌, length, if◌then◌else◌}
+use Rattle.std.specs.Prelude.{◌≡◌, ◌<◌, ◌+◌, ◌-◌, ◌^◌, ℕ, ℤ, min, Bool, true, false, Option, Some, IfSome, List, [], ◌∷◌, length}
+use Rattle.std.specs.Prelude.{if◌then◌else◌}
 use Rattle.std.specs.Io.BufRead.{take_through, drop_through}
 use Rattle.amd_cases.specs.Items.{SpellsItem}
 use Rattle.amd_cases.specs.declared.items.Item.{Item}

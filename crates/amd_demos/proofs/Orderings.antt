@@ -7,7 +7,8 @@ use Rattle.amd.specs.Answers.{IsOrdering}
 use Rattle.amd_demos.specs.Demos.{IsWanted}
 
 -- an ordering under what is the default, of a matrix and with permutations that may be named in two ways
-pub wanted-ordering : (wanted : Status) (m n t : ℤ) (b : Bool) (bp ap bi ai r p s q : List ℤ) (info : Info) → m ≡ n → t ≡ pos 10000 → b ≡ true
+pub wanted-ordering : (wanted : Status) (m n t : ℤ) (b : Bool) (bp ap bi ai r p s q : List ℤ) (info : Info) → m ≡ n → t ≡ pos 10000 →
+    b ≡ true
     → bp ≡ ap → bi ≡ ai → r ≡ p → s ≡ q → IsOrdering m t b bp bi r s info → info.status ≡ wanted → IsWanted wanted n ap ai p q info
 wanted-ordering wanted m n t b bp ap bi ai r p s q info same_n same_t same_b same_p same_i same_r same_s ordering status =
     let one : IsOrdering n t b bp bi r s info = subst (λ z. IsOrdering z t b bp bi r s info) same_n ordering in

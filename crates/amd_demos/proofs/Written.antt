@@ -1,5 +1,6 @@
 -- Bytes that are written one after another, and lists of numbers.
-use Rattle.std.proofs.Common.{◌≡◌, ◌++◌, ◌+◌, ◌<◌, ℕ, ℤ, List, [], ◌∷◌, append_assoc, append-nil, ◌∙◌, ap, sym, subst, take, take_all, get_or, length, ◌≤◌}
+use Rattle.std.proofs.Common.{◌≡◌, ◌++◌, ◌+◌, ◌<◌, ℕ, ℤ, List, [], ◌∷◌, append_assoc, append-nil, ◌∙◌, ap, sym, subst, take, take_all}
+use Rattle.std.proofs.Common.{get_or, length, ◌≤◌}
 use Rattle.std.proofs.lemmas.List.{take_more}
 use Rattle.std.specs.Prelude.{Option}
 use Rattle.std.specs.Fmt.{signed_decimal}
@@ -25,16 +26,19 @@ pub Grows-both : (a b c : Option (List ℕ)) → Grows a b → Grows b c → Gro
 Grows-both a b c g h = Grows-then a b c h.0 g h.1
 
 -- a number with a text in front of it, under another name
-pub number-named : (before : List ℕ) (x y : ℤ) (a b : Option (List ℕ)) → x ≡ y → Appends a b (before ++ signed_decimal x) → Appends a b (before ++ signed_decimal y)
+pub number-named : (before : List ℕ) (x y : ℤ) (a b : Option (List ℕ)) → x ≡ y → Appends a b (before ++ signed_decimal x) →
+    Appends a b (before ++ signed_decimal y)
 number-named before x y a b same h = subst (λ z. Appends a b (before ++ signed_decimal z)) same h
 
 -- the numbers and one more
 pub each-more : (before : List ℕ) (xs : List ℤ) (x : ℤ) → each before (xs ++ x ∷ []) ≡ each before xs ++ (before ++ signed_decimal x)
 each-more before [] x = append-nil (before ++ signed_decimal x)
-each-more before (y ∷ xs) x = ap (λ z. (before ++ signed_decimal y) ++ z) (each-more before xs x) ∙ sym (append_assoc (before ++ signed_decimal y) (each before xs) (before ++ signed_decimal x))
+each-more before (y ∷ xs) x = ap (λ z. (before ++ signed_decimal y) ++ z) (each-more before xs x) ∙
+    sym (append_assoc (before ++ signed_decimal y) (each before xs) (before ++ signed_decimal x))
 
 -- a writer that took the first k numbers, and then the next one
-pub each-next : (before : List ℕ) (xs : List ℤ) (k : ℕ) (x : ℤ) (a b c : Option (List ℕ)) → k < length xs → Appends a b (each before (take k xs))
+pub each-next : (before : List ℕ) (xs : List ℤ) (k : ℕ) (x : ℤ) (a b c : Option (List ℕ)) → k < length xs →
+    Appends a b (each before (take k xs))
     → Appends b c (before ++ signed_decimal (get_or xs k x)) → Appends a c (each before (take (k + 1) xs))
 each-next before xs k x a b c inside first next =
     let more = ap (each before) (take_more xs k x inside) ∙ each-more before (take k xs) (get_or xs k x) in

@@ -1,10 +1,11 @@
 -- Counting the arcs of a row, one more at a time: for visitors that count or list them.
-use Rattle.std.proofs.Common.{◌≡◌, ◌≢◌, ◌+◌, ◌<◌, ◌≤◌, inl, inr, ℕ, zero, suc, Bool, true, false, arith, refl, ap, sym, ◌∙◌, eqb, cond, ◌||◌}
+use Rattle.std.proofs.Common.{◌≡◌, ◌≢◌, ◌+◌, ◌<◌, ◌≤◌, inl, inr, ℕ, zero, suc, Bool, true, false, arith, refl, ap, sym, ◌∙◌, eqb, cond}
+use Rattle.std.proofs.Common.{◌||◌}
 use Rattle.std.proofs.Math.Bool.{or-false, or-true}
 use Rattle.std.proofs.lemmas.Bool.{or_cases, cases_eq, eqb-true, eq-eqb, ne_eqb}
 use Rattle.amd_model.specs.Below.{sum_below, count_below}
 use Rattle.amd_model.specs.Graph.{Graph}
-use Rattle.amd_model.proofs.BelowLemmas.{count_mono, count_same}
+use Rattle.amd_model.proofs.Counting.Below.{count_mono, count_same}
 use Rattle.amd_edges.specs.Visits.{IsNew, with_arc}
 use Rattle.amd_edges.proofs.Places.{funext}
 
@@ -12,7 +13,8 @@ abbrev one_if : Bool → ℕ
 one_if b = cond b 1 0
 
 -- a set with one number more
-pub count_more : (n : ℕ) (p q : ℕ → Bool) (j : ℕ) → j < n → p j ≡ false → ((b : ℕ) → q b ≡ (p b || eqb b j)) → count_below n q ≡ count_below n p + 1
+pub count_more : (n : ℕ) (p q : ℕ → Bool) (j : ℕ) → j < n → p j ≡ false → ((b : ℕ) → q b ≡ (p b || eqb b j)) →
+    count_below n q ≡ count_below n p + 1
 unfolding count_below sum_below
 count_more zero p q j l f e = absurd (omega arith)
 count_more (suc n) p q j l f e = elim (cases_eq j n) [
@@ -59,7 +61,8 @@ module _ (g : Graph) (seen : ℕ → ℕ → Bool) (i j : ℕ) (new : IsNew g se
   pub arc_room : count_below g.size (seen i) + 1 ≤ count_below g.size (g.edge i)
   arc_room =
       let more = arc_counts in
-      let le = count_mono g.size (with_arc seen i j i) (g.edge i) (λ k h e. elim (or_cases (seen i k) (eqb k j) (sym (arc_here seen i j k) ∙ e)) [
+      let le = count_mono g.size (with_arc seen i j i) (g.edge i)
+      (λ k h e. elim (or_cases (seen i k) (eqb k j) (sym (arc_here seen i j k) ∙ e)) [
         | inl x ↦ new.within i k x
         | inr x ↦ (let y = eqb-true k j x in rw y new.edge)
       ]) in

@@ -6,7 +6,8 @@ use Rattle.std.proofs.lemmas.List.{get_or_past}
 use Rattle.amd_edges.proofs.Forms.{IsSortedForm}
 use Rattle.amd_numbers.specs.Counts.{is_before, is_entry, is_edge}
 use Rattle.amd_edges.specs.Walk.{IsScan, is_read, is_met, met}
-use Rattle.amd_edges.proofs.Places.{cases_order, funext2, same_tests, before_from, before_gives, before_none, entry_from, entry_gives, entry_none}
+use Rattle.amd_edges.proofs.Places.{cases_order, funext2, same_tests, before_from, before_gives, before_none, entry_from, entry_gives}
+use Rattle.amd_edges.proofs.Places.{entry_none}
 
 module _ (n : ℕ) (ap' ai : List ℕ) (form : IsSortedForm n ap' ai) (t : List ℕ) where
   pub start_met : ((a : ℕ) → get_or t a 0 ≡ 0) → met n ap' ai t 0 0 ≡ (λ a b. false)
@@ -20,7 +21,8 @@ module _ (n : ℕ) (ap' ai : List ℕ) (form : IsSortedForm n ap' ai) (t : List 
       drops false p r = refl
 
       half : (a b : ℕ) → is_met n ap' ai t 0 0 a b ≡ false
-      half a b = rw (zeros a, before_none ap' ai 0 b a (λ q low high e. omega arith), le-ltb b 0 (omega arith), le-ltb a 0 (omega arith)) (drops (ltb a b) (is_entry n ap' ai a b) (eqb b 0))
+      half a b = rw (zeros a, before_none ap' ai 0 b a (λ q low high e. omega arith), le-ltb b 0 (omega arith), le-ltb a 0 (omega arith))
+          (drops (ltb a b) (is_entry n ap' ai a b) (eqb b 0))
 
   pub start_zeros : length t ≡ 0 → (a : ℕ) → get_or t a 0 ≡ 0
   start_zeros empty a = get_or_past t a 0 (omega arith)
@@ -53,7 +55,8 @@ module _ (n : ℕ) (ap' ai : List ℕ) (form : IsSortedForm n ap' ai) (t : List 
     | inl x ↦ rw (half a b, half b a, lt-ltb a b x, le-ltb b a (omega arith), ne_eqb a b (λ e. omega arith)) (or-false _)
     | inr y ↦ elim y [
       | inl x ↦ rw (half a b, half b a, le-ltb a b (omega arith), le-ltb b a (omega arith), eq-eqb a b x) refl
-      | inr x ↦ rw (half a b, half b a, lt-ltb b a x, le-ltb a b (omega arith), ne_eqb a b (λ e. omega arith)) (or_comm _ (is_entry n ap' ai a b))
+      | inr x ↦ rw (half a b, half b a, lt-ltb b a x, le-ltb a b (omega arith), ne_eqb a b (λ e. omega arith))
+          (or_comm _ (is_entry n ap' ai a b))
     ]
   ])
     where
@@ -73,4 +76,8 @@ module _ (n : ℕ) (ap' ai : List ℕ) (form : IsSortedForm n ap' ai) (t : List 
       or_cond false s r h = refl
 
       half : (a b : ℕ) → is_met n ap' ai t n n a b ≡ (ltb a b && (is_entry n ap' ai a b || is_entry n ap' ai b a))
-      half a b = rw (whole a b, or_cond (is_entry n ap' ai a b) (is_entry n ap' ai b a) _ (λ h. let r = entry_gives ap' ai n a b h in or_left (ltb b n) _ (lt-ltb b n r.1))) refl
+      half a b = rw (
+        whole a b,
+        or_cond (is_entry n ap' ai a b) (is_entry n ap' ai b a) _ (λ h. let r = entry_gives ap' ai n a b h in
+            or_left (ltb b n) _ (lt-ltb b n r.1)),
+      ) refl

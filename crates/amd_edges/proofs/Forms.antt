@@ -1,5 +1,6 @@
 -- A sorted column form read as counts: any two rows of a column rise, and the pairs and the graph are the same.
-use Rattle.std.proofs.Common.{◌≡◌, ◌+◌, ◌-◌, ◌^◌, ◌<◌, ◌≤◌, ℕ, ℤ, zero, suc, Bool, true, pos, negsuc, List, length, get_or, refl, ap, sym, ◌∙◌, subst, arith, ltb, ◌&&◌, unsigned_abs}
+use Rattle.std.proofs.Common.{◌≡◌, ◌+◌, ◌-◌, ◌^◌, ◌<◌, ◌≤◌, ℕ, ℤ, zero, suc, Bool, true, pos, negsuc, List, length, get_or, refl, ap, sym}
+use Rattle.std.proofs.Common.{◌∙◌, subst, arith, ltb, ◌&&◌, unsigned_abs}
 use Rattle.std.specs.Prelude.{◌≤ℤ◌, ◌<ℤ◌, int_le, int_lt}
 use Rattle.std.specs.Int.{FitsUnsignedBits}
 use Rattle.std.specs.Ordering.{int_eq}
@@ -11,8 +12,8 @@ use Rattle.std.proofs.lemmas.Bool.Decides.{Decides-int_eq}
 use Rattle.amd_model.specs.Below.{count_below}
 use Rattle.amd_model.specs.Input.Columns.{at, IsRow, IsColumnForm, IsSorted}
 use Rattle.amd_model.specs.Input.Pattern.{holds_row, is_pair, graph_of, diagonal_count}
-use Rattle.amd_model.proofs.BelowLemmas.{any_from, any_gives, count_same}
-use Rattle.amd_model.proofs.Pointers.{pointer_in, small_fits}
+use Rattle.amd_model.proofs.Counting.Below.{any_from, any_gives, count_same}
+use Rattle.amd_model.proofs.Patterns.Pointers.{pointer_in, small_fits}
 use Rattle.amd_numbers.specs.Counts.{counts, is_entry, is_edge, count_graph}
 use Rattle.amd_edges.proofs.Places.{funext2, same_tests, entry_from, entry_gives}
 
@@ -34,10 +35,12 @@ count_is xs k h = ap pos (get_or-map unsigned_abs xs k (pos 0)) ∙ pos_abs _ h
 
 -- tests of a pointer that is a count
 le_test : (a k : ℕ) (z : ℤ) → pos a ≡ z → (int_le z (pos k) ≡ true → a ≤ k) × (a ≤ k → int_le z (pos k) ≡ true)
-le_test a k z e = let P : ℤ → Type 0 = λ y. (int_le y (pos k) ≡ true → a ≤ k) × (a ≤ k → int_le y (pos k) ≡ true) in subst P e (leb-true a k, le-leb a k)
+le_test a k z e = let P : ℤ → Type 0 = λ y. (int_le y (pos k) ≡ true → a ≤ k) × (a ≤ k → int_le y (pos k) ≡ true) in
+    subst P e (leb-true a k, le-leb a k)
 
 lt_test : (k b : ℕ) (z : ℤ) → pos b ≡ z → (int_lt (pos k) z ≡ true → k < b) × (k < b → int_lt (pos k) z ≡ true)
-lt_test k b z e = let P : ℤ → Type 0 = λ y. (int_lt (pos k) y ≡ true → k < b) × (k < b → int_lt (pos k) y ≡ true) in subst P e (ltb-true k b, lt-ltb k b)
+lt_test k b z e = let P : ℤ → Type 0 = λ y. (int_lt (pos k) y ≡ true → k < b) × (k < b → int_lt (pos k) y ≡ true) in
+    subst P e (ltb-true k b, lt-ltb k b)
 
 module _ (n : ℕ) (ap' ai : List ℤ) (form : IsColumnForm (pos n) n ap' ai) where
   pub pointer_is : (j : ℕ) → j ≤ n → pos (get_or (counts ap') j 0) ≡ at ap' j
@@ -70,7 +73,8 @@ module _ (n : ℕ) (ap' ai : List ℤ) (form : IsColumnForm (pos n) n ap' ai) wh
   place_within j q h high = let w = pointer_within (j + 1) (omega arith) in omega arith
 
   module _ (sorted : IsSorted n ap' ai) where
-    next_row : (j q : ℕ) → j < n → get_or (counts ap') j 0 ≤ q → q + 1 < get_or (counts ap') (j + 1) 0 → get_or (counts ai) q 0 < get_or (counts ai) (q + 1) 0
+    next_row : (j q : ℕ) → j < n → get_or (counts ap') j 0 ≤ q → q + 1 < get_or (counts ap') (j + 1) 0 →
+        get_or (counts ai) q 0 < get_or (counts ai) (q + 1) 0
     next_row j q h low high =
         let from = pointer_is j (omega arith) in
         let to = pointer_is (j + 1) (omega arith) in
@@ -80,7 +84,8 @@ module _ (n : ℕ) (ap' ai : List ℤ) (form : IsColumnForm (pos n) n ap' ai) wh
         omega (arith, ints)
 
     -- rows of a column rise over any stretch
-    rise : (j q d : ℕ) → j < n → get_or (counts ap') j 0 ≤ q → q + suc d < get_or (counts ap') (j + 1) 0 → get_or (counts ai) q 0 < get_or (counts ai) (q + suc d) 0
+    rise : (j q d : ℕ) → j < n → get_or (counts ap') j 0 ≤ q → q + suc d < get_or (counts ap') (j + 1) 0 →
+        get_or (counts ai) q 0 < get_or (counts ai) (q + suc d) 0
     rise j q zero h low high = let e : q + suc zero ≡ q + 1 = omega arith in rw e (next_row j q h low (omega arith))
     rise j q (suc d) h low high =
         let e : q + suc (suc d) ≡ q + suc d + 1 = omega arith in
@@ -91,7 +96,8 @@ module _ (n : ℕ) (ap' ai : List ℤ) (form : IsColumnForm (pos n) n ap' ai) wh
     pub sorted_form : IsSortedForm n (counts ap') (counts ai)
     sorted_form = record {
       enough = (let x = form.enough in rw length-map (omega arith));
-      rising = λ j h. (let a = pointer_is j (omega arith) in let b = pointer_is (j + 1) (omega arith) in let c = form.ascending j h in omega (arith, ints));
+      rising = λ j h. (let a = pointer_is j (omega arith) in let b = pointer_is (j + 1) (omega arith) in let c = form.ascending j h in
+          omega (arith, ints));
       within = λ j h. rw length-map (pointer_within (j + 1) (omega arith));
       rows = λ j q h low high. (let a = row_is j q h high in let b = (row_in j q h high).1 in omega (arith, ints));
       ascend = λ j q r h low lt high. (let e : q + suc (r - q - 1) ≡ r = omega arith in

@@ -1,7 +1,8 @@
 -- Where rows stand.
 use Rattle.std.proofs.Common.{◌≡◌, ◌+◌, ◌<◌, ◌≤◌, ◌⊎◌, inl, inr, ℕ, Bool, true, false, List, get_or, arith, refl, ap, sym, eqb, ◌||◌}
-use Rattle.std.proofs.lemmas.Bool.{and_parts, or_cases, and_from, or_left, or_right, cases_eq, cases_lt, cases_Bool, leb-true, eqb-true, ltb-true, le-leb, eq-eqb, lt-ltb}
-use Rattle.amd_model.proofs.BelowLemmas.{any_from, any_gives}
+use Rattle.std.proofs.lemmas.Bool.{and_parts, or_cases, and_from, or_left, or_right, cases_eq, cases_lt, cases_Bool, leb-true, eqb-true}
+use Rattle.std.proofs.lemmas.Bool.{ltb-true, le-leb, eq-eqb, lt-ltb}
+use Rattle.amd_model.proofs.Counting.Below.{any_from, any_gives}
 use Rattle.amd_numbers.specs.Counts.{is_before, is_entry}
 
 pub funext : {A B : Type 0} (f g : A → B) → ((x : A) → f x ≡ g x) → f ≡ g
@@ -28,18 +29,21 @@ module _ (ap' ai : List ℕ) where
   unfolding is_before
   before_from limit i j q low high e = any_from limit _ q high (and_from _ _ (le-leb _ _ low) (eq-eqb _ _ e))
 
-  pub before_gives : (limit i j : ℕ) → is_before ap' ai limit i j ≡ true → (q : ℕ) × (get_or ap' j 0 ≤ q) × (q < limit) × (get_or ai q 0 ≡ i)
+  pub before_gives : (limit i j : ℕ) → is_before ap' ai limit i j ≡ true → (q : ℕ) × (get_or ap' j 0 ≤ q) × (q < limit)
+      × (get_or ai q 0 ≡ i)
   unfolding is_before
   before_gives limit i j e =
       let r = any_gives limit _ e in
       let parts = and_parts _ _ r.2 in
       (r.0, leb-true _ _ parts.0, r.1, eqb-true _ _ parts.1)
 
-  pub before_none : (limit i j : ℕ) → ((q : ℕ) → get_or ap' j 0 ≤ q → q < limit → get_or ai q 0 ≡ i → ⊥) → is_before ap' ai limit i j ≡ false
+  pub before_none : (limit i j : ℕ) → ((q : ℕ) → get_or ap' j 0 ≤ q → q < limit → get_or ai q 0 ≡ i → ⊥) →
+      is_before ap' ai limit i j ≡ false
   before_none limit i j h = false_if _ (λ e. let r = before_gives limit i j e in h r.0 r.1 r.2 r.3)
 
   -- one place more, which holds the row i
-  pub before_more : (q i j b : ℕ) → get_or ap' j 0 ≤ q → get_or ai q 0 ≡ i → is_before ap' ai (q + 1) b j ≡ is_before ap' ai q b j || eqb b i
+  pub before_more : (q i j b : ℕ) → get_or ap' j 0 ≤ q → get_or ai q 0 ≡ i → is_before ap' ai (q + 1) b j ≡ is_before ap' ai q b j
+      || eqb b i
   before_more q i j b low e = same_tests _ _
       (λ h. let r = before_gives (q + 1) b j h in elim (cases_eq r.0 q) [
         | inl here ↦ or_right _ _ (eq-eqb b i (let w = r.3 in let v = ap (λ x. get_or ai x 0) here in omega arith))
@@ -54,12 +58,14 @@ module _ (ap' ai : List ℕ) where
   unfolding is_entry
   entry_from n i j q h low high e = and_from _ _ (lt-ltb _ _ h) (before_from _ i j q low high e)
 
-  pub entry_gives : (n i j : ℕ) → is_entry n ap' ai i j ≡ true → (q : ℕ) × (j < n) × (get_or ap' j 0 ≤ q) × (q < get_or ap' (j + 1) 0) × (get_or ai q 0 ≡ i)
+  pub entry_gives : (n i j : ℕ) → is_entry n ap' ai i j ≡ true → (q : ℕ) × (j < n) × (get_or ap' j 0 ≤ q) × (q < get_or ap' (j + 1) 0)
+      × (get_or ai q 0 ≡ i)
   unfolding is_entry
   entry_gives n i j e =
       let parts = and_parts _ _ e in
       let r = before_gives _ i j parts.1 in
       (r.0, ltb-true _ _ parts.0, r.1, r.2, r.3)
 
-  pub entry_none : (n i j : ℕ) → ((q : ℕ) → j < n → get_or ap' j 0 ≤ q → q < get_or ap' (j + 1) 0 → get_or ai q 0 ≡ i → ⊥) → is_entry n ap' ai i j ≡ false
+  pub entry_none : (n i j : ℕ) → ((q : ℕ) → j < n → get_or ap' j 0 ≤ q → q < get_or ap' (j + 1) 0 → get_or ai q 0 ≡ i → ⊥) →
+      is_entry n ap' ai i j ≡ false
   entry_none n i j h = false_if _ (λ e. let r = entry_gives n i j e in h r.0 r.1 r.2 r.3 r.4)

@@ -1,7 +1,9 @@
 -- Steps of the walk.
-use Rattle.std.proofs.Common.{ap, ◌≡◌, ◌≢◌, ◌+◌, ◌<◌, ◌≤◌, ◌⊎◌, inl, inr, ℕ, Bool, true, false, List, length, get_or, set, get_or-set_same, get_or-set_other, arith, refl, sym, ◌∙◌, cond, eqb, ltb, ◌||◌, ◌&&◌, not}
+use Rattle.std.proofs.Common.{ap, ◌≡◌, ◌≢◌, ◌+◌, ◌<◌, ◌≤◌, ◌⊎◌, inl, inr, ℕ, Bool, true, false, List, length, get_or, set, get_or-set_same}
+use Rattle.std.proofs.Common.{get_or-set_other, arith, refl, sym, ◌∙◌, cond, eqb, ltb, ◌||◌, ◌&&◌, not}
 use Rattle.std.proofs.Math.Bool.{and_comm, or_comm}
-use Rattle.std.proofs.lemmas.Bool.{and_parts, or_cases, and_from, or_left, or_right, cases_eq, cases_lt, eqb-true, ltb-true, eq-eqb, lt-ltb, le-ltb, ne_eqb}
+use Rattle.std.proofs.lemmas.Bool.{and_parts, or_cases, and_from, or_left, or_right, cases_eq, cases_lt, eqb-true, ltb-true, eq-eqb, lt-ltb}
+use Rattle.std.proofs.lemmas.Bool.{le-ltb, ne_eqb}
 use Rattle.std.proofs.lemmas.List.{length-set, get_or_past}
 use Rattle.amd_edges.specs.Visits.{with_arc, IsNew}
 use Rattle.amd_edges.proofs.Forms.{IsSortedForm}
@@ -10,7 +12,8 @@ use Rattle.amd_edges.specs.Walk.{IsScan, IsReached, is_read, is_met, met}
 use Rattle.amd_edges.proofs.Places.{funext2, false_if, before_gives, before_none, before_more, entry_from}
 
 -- both arcs of an edge are new where one half of the set gains the test x, which passes one of them
-pub both_arcs : (h h' x : ℕ → ℕ → Bool) (i j : ℕ) → ((a b : ℕ) → h' a b ≡ (h a b || x a b)) → ((a b : ℕ) → (x a b || x b a) ≡ ((eqb a i && eqb b j) || (eqb a j && eqb b i))) →
+pub both_arcs : (h h' x : ℕ → ℕ → Bool) (i j : ℕ) → ((a b : ℕ) → h' a b ≡ (h a b || x a b)) →
+    ((a b : ℕ) → (x a b || x b a) ≡ ((eqb a i && eqb b j) || (eqb a j && eqb b i))) →
     with_arc (with_arc (λ a b. h a b || h b a) i j) j i ≡ (λ a b. h' a b || h' b a)
 unfolding with_arc
 both_arcs h h' x i j e f = funext2 _ _ (λ a b. rw (e a b, e b a) (mix (h a b) (h b a) _ _ (x a b) (x b a) (f a b)))
@@ -27,7 +30,8 @@ apart a b ne = rw (ne_eqb a b ne) refl
 
 module _ (n : ℕ) (ap' ai : List ℕ) (form : IsSortedForm n ap' ai) where
   -- a half where the pointer of column j has passed the row i
-  pub half_lower : (t u : List ℕ) (k m j i q : ℕ) → get_or t j 0 ≡ q → get_or u j 0 ≡ q + 1 → ((a : ℕ) → a ≢ j → get_or u a 0 ≡ get_or t a 0) →
+  pub half_lower : (t u : List ℕ) (k m j i q : ℕ) → get_or t j 0 ≡ q → get_or u j 0 ≡ q + 1 →
+      ((a : ℕ) → a ≢ j → get_or u a 0 ≡ get_or t a 0) →
       j < i → get_or ap' j 0 ≤ q → get_or ai q 0 ≡ i → is_entry n ap' ai j i ≡ false →
       (a b : ℕ) → is_met n ap' ai u k m a b ≡ is_met n ap' ai t k m a b || (eqb a j && eqb b i)
   unfolding is_met
@@ -54,15 +58,19 @@ module _ (n : ℕ) (ap' ai : List ℕ) (form : IsSortedForm n ap' ai) where
       no_more false p r s = refl
 
   -- the arcs of the entry (i, j) of the lower part, which has no mirror
-  pub lower_meets : (t u : List ℕ) (k m j i q : ℕ) → get_or t j 0 ≡ q → get_or u j 0 ≡ q + 1 → ((a : ℕ) → a ≢ j → get_or u a 0 ≡ get_or t a 0) →
+  pub lower_meets : (t u : List ℕ) (k m j i q : ℕ) → get_or t j 0 ≡ q → get_or u j 0 ≡ q + 1 →
+      ((a : ℕ) → a ≢ j → get_or u a 0 ≡ get_or t a 0) →
       j < i → get_or ap' j 0 ≤ q → get_or ai q 0 ≡ i → is_entry n ap' ai j i ≡ false →
       with_arc (with_arc (met n ap' ai t k m) i j) j i ≡ met n ap' ai u k m
   unfolding met
   lower_meets t u k m j i q et eu other up low e never =
-      both_arcs (is_met n ap' ai t k m) (is_met n ap' ai u k m) (λ a b. eqb a j && eqb b i) i j (half_lower t u k m j i q et eu other up low e never) (λ a b. or_comm (eqb a j && eqb b i) _ ∙ ap (λ y. y || (eqb a j && eqb b i)) (and_comm (eqb b j) (eqb a i)))
+      both_arcs (is_met n ap' ai t k m) (is_met n ap' ai u k m) (λ a b. eqb a j && eqb b i) i j
+      (half_lower t u k m j i q et eu other up low e never)
+      (λ a b. or_comm (eqb a j && eqb b i) _ ∙ ap (λ y. y || (eqb a j && eqb b i)) (and_comm (eqb b j) (eqb a i)))
 
   -- the entry (k, j) of the lower part, which has a mirror
-  pub mirror_meets : (t u : List ℕ) (k m j q : ℕ) → get_or t j 0 ≡ q → get_or u j 0 ≡ q + 1 → ((a : ℕ) → a ≢ j → get_or u a 0 ≡ get_or t a 0) →
+  pub mirror_meets : (t u : List ℕ) (k m j q : ℕ) → get_or t j 0 ≡ q → get_or u j 0 ≡ q + 1 →
+      ((a : ℕ) → a ≢ j → get_or u a 0 ≡ get_or t a 0) →
       get_or ap' j 0 ≤ q → get_or ai q 0 ≡ k → is_entry n ap' ai j k ≡ true →
       met n ap' ai u k m ≡ met n ap' ai t k m
   unfolding met is_met
@@ -90,8 +98,10 @@ module _ (n : ℕ) (ap' ai : List ℕ) (form : IsSortedForm n ap' ai) where
       (a b : ℕ) → met n ap' ai t k m a b ≡ true → is_edge n ap' ai a b ≡ true
   unfolding met is_met is_edge
   met_within t k m size inside a b e = elim (or_cases _ _ e) [
-    | inl x ↦ (let h = half a b x in and_from (not (eqb a b)) _ (apart a b h.0) (elim h.1 [ inl y ↦ or_left _ _ y | inr y ↦ or_right _ _ y ]))
-    | inr x ↦ (let h = half b a x in and_from (not (eqb a b)) _ (apart a b (λ w. h.0 (sym w))) (elim h.1 [ inl y ↦ or_right _ _ y | inr y ↦ or_left _ _ y ]))
+    | inl x ↦ (let h = half a b x in and_from (not (eqb a b)) _ (apart a b h.0)
+        (elim h.1 [ inl y ↦ or_left _ _ y | inr y ↦ or_right _ _ y ]))
+    | inr x ↦ (let h = half b a x in and_from (not (eqb a b)) _ (apart a b (λ w. h.0 (sym w)))
+        (elim h.1 [ inl y ↦ or_right _ _ y | inr y ↦ or_left _ _ y ]))
   ]
     where
       choose : (p r s : Bool) → cond p r s ≡ true → (p ≡ true) ⊎ (s ≡ true)
@@ -111,33 +121,40 @@ module _ (n : ℕ) (ap' ai : List ℕ) (form : IsSortedForm n ap' ai) where
       )
 
   -- the arc of a lower entry at the pointer is new
-  pub lower_fresh : (t : List ℕ) (k m j i q : ℕ) → get_or t j 0 ≡ q → j < n → j < i → q < get_or ap' (j + 1) 0 → get_or ai q 0 ≡ i → is_entry n ap' ai j i ≡ false →
+  pub lower_fresh : (t : List ℕ) (k m j i q : ℕ) → get_or t j 0 ≡ q → j < n → j < i → q < get_or ap' (j + 1) 0 → get_or ai q 0 ≡ i →
+      is_entry n ap' ai j i ≡ false →
       (met n ap' ai t k m i j ≡ false) × (met n ap' ai t k m j i ≡ false)
   unfolding met is_met
   lower_fresh t k m j i q et h up high e never =
-      let none : is_before ap' ai q i j ≡ false = before_none ap' ai q i j (λ r low below same. let w = form.ascend j r q h low below high in omega arith) in
+      let none : is_before ap' ai q i j ≡ false = before_none ap' ai q i j
+      (λ r low below same. let w = form.ascend j r q h low below high in omega arith) in
       rw (et, never, none, le-ltb i j (omega arith), lt-ltb j i up) (refl, refl)
 
   -- a pointer that moves stays within its column
-  pub moved_in : (t : List ℕ) (k m j q : ℕ) → j < k → q ≤ get_or ap' (j + 1) 0 → IsScan n ap' ai t k m → (a : ℕ) → a < n → get_or (set t j q) a 0 ≤ get_or ap' (a + 1) 0
+  pub moved_in : (t : List ℕ) (k m j q : ℕ) → j < k → q ≤ get_or ap' (j + 1) 0 → IsScan n ap' ai t k m → (a : ℕ) → a < n →
+      get_or (set t j q) a 0 ≤ get_or ap' (a + 1) 0
   moved_in t k m j q before to s a h = elim (cases_eq a j) [
     | inl same ↦ (let here : get_or (set t j q) j 0 ≡ q = get_or-set_same t j q 0 (let z = s.size in omega arith) in rw (same, here) to)
     | inr ne ↦ (let there : get_or (set t j q) a 0 ≡ get_or t a 0 = get_or-set_other t j a q 0 ne in rw there (in_column t k m s a h))
   ]
 
   -- what was reached stays so
-  pub reached_on : (k m k2 m2 a b : ℕ) → ((c : ℕ) → (c < k) ⊎ ((c ≡ k) × (a < m)) → (c < k2) ⊎ ((c ≡ k2) × (a < m2))) → (b ≤ a) ⊎ IsReached n ap' ai k m a b → (b ≤ a) ⊎ IsReached n ap' ai k2 m2 a b
+  pub reached_on : (k m k2 m2 a b : ℕ) → ((c : ℕ) → (c < k) ⊎ ((c ≡ k) × (a < m)) → (c < k2) ⊎ ((c ≡ k2) × (a < m2))) →
+      (b ≤ a) ⊎ IsReached n ap' ai k m a b → (b ≤ a) ⊎ IsReached n ap' ai k2 m2 a b
   reached_on k m k2 m2 a b f h = elim h [ inl x ↦ inl x | inr x ↦ inr (x.0, f x.0 x.1, x.2, x.3) ]
 
   -- column k has read the lower entries of column j up to the place q
-  pub scan_swept : (t : List ℕ) (k j q : ℕ) → j < k → j < n → get_or t j 0 ≤ q → q ≤ get_or ap' (j + 1) 0 → (k < n → is_entry n ap' ai j k ≡ true) →
+  pub scan_swept : (t : List ℕ) (k j q : ℕ) → j < k → j < n → get_or t j 0 ≤ q → q ≤ get_or ap' (j + 1) 0 →
+      (k < n → is_entry n ap' ai j k ≡ true) →
       ((r : ℕ) → get_or t j 0 ≤ r → r < q → get_or ai r 0 ≤ k) → ((r : ℕ) → q ≤ r → r < get_or ap' (j + 1) 0 → k < get_or ai r 0) →
       IsScan n ap' ai t k j → IsScan n ap' ai (set t j q) k (j + 1)
   scan_swept t k j q before h from to mirror behind rest s =
       let here : get_or (set t j q) j 0 ≡ q = get_or-set_same t j q 0 (let z = s.size in omega arith) in
       let there : (a : ℕ) → a ≢ j → get_or (set t j q) a 0 ≡ get_or t a 0 = λ a ne. get_or-set_other t j a q 0 ne in
-      let grows : (a : ℕ) → get_or t a 0 ≤ get_or (set t j q) a 0 = λ a. elim (cases_eq a j) [ inl x ↦ rw (x, here) from | inr x ↦ (let z = there a x in omega arith) ] in
-      let later : (a c : ℕ) → (c < k) ⊎ ((c ≡ k) × (a < j)) → (c < k) ⊎ ((c ≡ k) × (a < j + 1)) = λ a c x. elim x [ inl y ↦ inl y | inr y ↦ inr (y.0, (let z = y.1 in omega arith)) ] in
+      let grows : (a : ℕ) → get_or t a 0 ≤ get_or (set t j q) a 0 =
+      λ a. elim (cases_eq a j) [ inl x ↦ rw (x, here) from | inr x ↦ (let z = there a x in omega arith) ] in
+      let later : (a c : ℕ) → (c < k) ⊎ ((c ≡ k) × (a < j)) → (c < k) ⊎ ((c ≡ k) × (a < j + 1)) =
+      λ a c x. elim x [ inl y ↦ inl y | inr y ↦ inr (y.0, (let z = y.1 in omega arith)) ] in
       record {
         size = length-set t j q ∙ s.size;
         start = λ a x y. (let z = s.start a x y in let w = grows a in omega arith);
@@ -147,7 +164,8 @@ module _ (n : ℕ) (ap' ai : List ℕ) (form : IsSortedForm n ap' ai) where
         passed = λ a c r x y z w low high le. elim z [
           | inl v ↦ (let g = grows a in let u = s.passed a c r x y (inl v) w low high le in omega arith)
           | inr v ↦ elim (cases_eq a j) [
-            | inr ne ↦ (let g = grows a in let u = s.passed a c r x y (inr (v.0, (let d = v.1 in omega arith))) w low high le in omega arith)
+            | inr ne ↦ (let g = grows a in let u = s.passed a c r x y (inr (v.0, (let d = v.1 in omega arith))) w low high le in
+                omega arith)
             | inl same ↦ elim (cases_lt r q) [
               | inl g ↦ rw (same, here) g
               | inr g ↦ (let e = rest r g (rw same at high) in let u = v.0 in absurd (omega arith))
@@ -164,7 +182,8 @@ module _ (n : ℕ) (ap' ai : List ℕ) (form : IsSortedForm n ap' ai) where
       }
 
   -- the two arcs of an entry (i, j) that was not met
-  pub two_new : (seen : ℕ → ℕ → Bool) (i j : ℕ) → i < n → j < n → i ≢ j → is_entry n ap' ai i j ≡ true → seen i j ≡ false → seen j i ≡ false →
+  pub two_new : (seen : ℕ → ℕ → Bool) (i j : ℕ) → i < n → j < n → i ≢ j → is_entry n ap' ai i j ≡ true → seen i j ≡ false →
+      seen j i ≡ false →
       ((a b : ℕ) → seen a b ≡ true → is_edge n ap' ai a b ≡ true) →
       IsNew (count_graph n ap' ai) seen i j × IsNew (count_graph n ap' ai) (with_arc seen i j) j i
   unfolding with_arc is_edge
@@ -194,7 +213,8 @@ module _ (n : ℕ) (ap' ai : List ℕ) (form : IsSortedForm n ap' ai) where
           let w = scan.passed j i q (omega arith) (omega arith) (inl below) (λ _. e) (omega arith) to (omega arith) in omega arith)
 
       pub lower_new : i < k →
-          IsNew (count_graph n ap' ai) (met n ap' ai (set t j q) k (j + 1)) i j × IsNew (count_graph n ap' ai) (with_arc (met n ap' ai (set t j q) k (j + 1)) i j) j i
+          IsNew (count_graph n ap' ai) (met n ap' ai (set t j q) k (j + 1)) i j
+          × IsNew (count_graph n ap' ai) (with_arc (met n ap' ai (set t j q) k (j + 1)) i j) j i
       lower_new below =
           let up = scan.low j q before (omega arith) from to in
           let low = scan.start j before (omega arith) in
@@ -202,7 +222,8 @@ module _ (n : ℕ) (ap' ai : List ℕ) (form : IsSortedForm n ap' ai) where
           let here : get_or (set t j q) j 0 ≡ q = get_or-set_same t j q 0 (let z = scan.size in omega arith) in
           let size = length-set t j q in
           let fresh = lower_fresh (set t j q) k (j + 1) j i q here (omega arith) (omega arith) to (sym is) never in
-          two_new _ i j (omega arith) (omega arith) (λ e. omega arith) (entry_from ap' ai n i j q (omega arith) (omega arith) to (sym is)) fresh.0 fresh.1
+          two_new _ i j (omega arith) (omega arith) (λ e. omega arith) (entry_from ap' ai n i j q (omega arith) (omega arith) to (sym is))
+          fresh.0 fresh.1
           (met_within (set t j q) k (j + 1) (let z = scan.size in omega arith) (moved_in t k j j q before (omega arith) scan))
 
       pub lower_after : i < k → with_arc (with_arc (met n ap' ai (set t j q) k (j + 1)) i j) j i ≡ met n ap' ai (set t j (q + 1)) k (j + 1)
@@ -212,17 +233,20 @@ module _ (n : ℕ) (ap' ai : List ℕ) (form : IsSortedForm n ap' ai) where
           let here : get_or (set t j q) j 0 ≡ q = get_or-set_same t j q 0 (let z = scan.size in omega arith) in
           let next : get_or (set t j (q + 1)) j 0 ≡ q + 1 = get_or-set_same t j (q + 1) 0 (let z = scan.size in omega arith) in
           lower_meets (set t j q) (set t j (q + 1)) k (j + 1) j i q here next
-          (λ a ne. get_or-set_other t j a (q + 1) 0 ne ∙ sym (get_or-set_other t j a q 0 ne)) (omega arith) (omega arith) (sym is) (lower_never below)
+          (λ a ne. get_or-set_other t j a (q + 1) 0 ne ∙ sym (get_or-set_other t j a q 0 ne)) (omega arith) (omega arith) (sym is)
+          (lower_never below)
 
       -- the entry k itself is passed over
-      pub lower_mirror : i ≡ k → (k < n → is_entry n ap' ai j k ≡ true) → met n ap' ai (set t j (q + 1)) k (j + 1) ≡ met n ap' ai (set t j q) k (j + 1)
+      pub lower_mirror : i ≡ k → (k < n → is_entry n ap' ai j k ≡ true) →
+          met n ap' ai (set t j (q + 1)) k (j + 1) ≡ met n ap' ai (set t j q) k (j + 1)
       lower_mirror same mirror =
           let low = scan.start j before (omega arith) in
           let row = form.rows j q (omega arith) (omega arith) to in
           let here : get_or (set t j q) j 0 ≡ q = get_or-set_same t j q 0 (let z = scan.size in omega arith) in
           let next : get_or (set t j (q + 1)) j 0 ≡ q + 1 = get_or-set_same t j (q + 1) 0 (let z = scan.size in omega arith) in
           mirror_meets (set t j q) (set t j (q + 1)) k (j + 1) j q here next
-          (λ a ne. get_or-set_other t j a (q + 1) 0 ne ∙ sym (get_or-set_other t j a q 0 ne)) (omega arith) (omega arith) (mirror (omega arith))
+          (λ a ne. get_or-set_other t j a (q + 1) 0 ne ∙ sym (get_or-set_other t j a q 0 ne)) (omega arith) (omega arith)
+          (mirror (omega arith))
 
       pub lower_next : i ≡ k → (r : ℕ) → q + 1 ≤ r → r < get_or ap' (j + 1) 0 → k < get_or ai r 0
       lower_next same r x y =
@@ -230,12 +254,14 @@ module _ (n : ℕ) (ap' ai : List ℕ) (form : IsSortedForm n ap' ai) where
           let w = form.ascend j q r (omega arith) (omega arith) (omega arith) y in omega arith
 
     -- the pointer stands behind all rows up to k
-    pub lower_end : q ≤ get_or ap' (j + 1) 0 → (k < n → is_entry n ap' ai j k ≡ true) → ((r : ℕ) → get_or t j 0 ≤ r → r < q → get_or ai r 0 ≤ k) →
+    pub lower_end : q ≤ get_or ap' (j + 1) 0 → (k < n → is_entry n ap' ai j k ≡ true) →
+        ((r : ℕ) → get_or t j 0 ≤ r → r < q → get_or ai r 0 ≤ k) →
         ((r : ℕ) → q ≤ r → r < get_or ap' (j + 1) 0 → k < get_or ai r 0) → IsScan n ap' ai (set t j q) k (j + 1)
     lower_end to mirror behind rest = scan_swept t k j q before (omega arith) from to mirror behind rest scan
 
     -- the rows behind the place are no lesser than the one there
-    pub lower_behind : (x : ℕ) → (q < get_or ap' (j + 1) 0 → x ≤ get_or ai q 0) → (r : ℕ) → q ≤ r → r < get_or ap' (j + 1) 0 → x ≤ get_or ai r 0
+    pub lower_behind : (x : ℕ) → (q < get_or ap' (j + 1) 0 → x ≤ get_or ai q 0) → (r : ℕ) → q ≤ r → r < get_or ap' (j + 1) 0 →
+        x ≤ get_or ai r 0
     lower_behind x stop r y z =
         let low = scan.start j before (omega arith) in
         elim (cases_eq q r) [

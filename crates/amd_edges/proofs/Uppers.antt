@@ -1,5 +1,6 @@
 -- Steps of the walk over the upper entries.
-use Rattle.std.proofs.Common.{◌≡◌, ◌≢◌, ◌+◌, ◌<◌, ◌≤◌, ◌⊎◌, inl, inr, ℕ, Bool, true, false, List, [], ◌∷◌, ◌++◌, get_or, arith, refl, ap, sym, ◌∙◌, cond, eqb, ltb, ◌||◌, ◌&&◌}
+use Rattle.std.proofs.Common.{◌≡◌, ◌≢◌, ◌+◌, ◌<◌, ◌≤◌, ◌⊎◌, inl, inr, ℕ, Bool, true, false, List, [], ◌∷◌, ◌++◌, get_or, arith, refl, ap}
+use Rattle.std.proofs.Common.{sym, ◌∙◌, cond, eqb, ltb, ◌||◌, ◌&&◌}
 use Rattle.std.proofs.Math.Bool.{and_comm}
 use Rattle.std.proofs.lemmas.Bool.{cases_eq, cases_lt, cases_Bool, true≢false, eq-eqb, lt-ltb, le-ltb, ne_eqb}
 use Rattle.std.proofs.lemmas.List.{length_push, get_or_push, get_or_append_left, get_or_past}
@@ -11,7 +12,8 @@ use Rattle.amd_edges.proofs.Places.{cases_order, funext2, before_none, entry_giv
 use Rattle.amd_edges.proofs.Scans.{both_arcs, two_new, met_within, in_column, reached_on}
 
 module _ (n : ℕ) (ap' ai : List ℕ) (form : IsSortedForm n ap' ai) (t : List ℕ) (k m : ℕ) (k_in : k < n) (scan : IsScan n ap' ai t k m) where
-  module _ (j : ℕ) (up : j < k) (pair : is_entry n ap' ai j k ≡ true) (low : m ≤ j) (gap : (a : ℕ) → m ≤ a → a < j → is_entry n ap' ai a k ≡ false) where
+  module _ (j : ℕ) (up : j < k) (pair : is_entry n ap' ai j k ≡ true) (low : m ≤ j)
+      (gap : (a : ℕ) → m ≤ a → a < j → is_entry n ap' ai a k ≡ false) where
     upper_half : (a b : ℕ) → is_met n ap' ai t k (j + 1) a b ≡ is_met n ap' ai t k m a b || (eqb a j && eqb b k)
     unfolding is_met is_read
     upper_half a b = elim (cases_eq b k) [
@@ -61,13 +63,15 @@ module _ (n : ℕ) (ap' ai : List ℕ) (form : IsSortedForm n ap' ai) (t : List 
 
     pub upper_after : with_arc (with_arc (met n ap' ai t k m) j k) k j ≡ met n ap' ai t k (j + 1)
     unfolding met
-    upper_after = both_arcs (is_met n ap' ai t k m) (is_met n ap' ai t k (j + 1)) (λ a b. eqb a j && eqb b k) j k upper_half (λ a b. ap (λ y. (eqb a j && eqb b k) || y) (and_comm (eqb b j) (eqb a k)))
+    upper_after = both_arcs (is_met n ap' ai t k m) (is_met n ap' ai t k (j + 1)) (λ a b. eqb a j && eqb b k) j k upper_half
+        (λ a b. ap (λ y. (eqb a j && eqb b k) || y) (and_comm (eqb b j) (eqb a k)))
 
     fresh : (met n ap' ai t k m j k ≡ false) × (met n ap' ai t k m k j ≡ false)
     unfolding met is_met is_read
     fresh = rw (pair, le-ltb k j (omega arith), lt-ltb j k up, le-ltb k k (omega arith), eq-eqb k k refl, le-ltb j m low) (refl, refl)
 
-    pub upper_new : IsNew (count_graph n ap' ai) (met n ap' ai t k m) j k × IsNew (count_graph n ap' ai) (with_arc (met n ap' ai t k m) j k) k j
+    pub upper_new : IsNew (count_graph n ap' ai) (met n ap' ai t k m) j k
+        × IsNew (count_graph n ap' ai) (with_arc (met n ap' ai t k m) j k) k j
     upper_new = two_new n ap' ai form _ j k (omega arith) k_in (λ e. omega arith) pair fresh.0 fresh.1
         (met_within n ap' ai form t k m (let z = scan.size in omega arith) (in_column n ap' ai form t k m scan))
 
@@ -82,10 +86,12 @@ module _ (n : ℕ) (ap' ai : List ℕ) (form : IsSortedForm n ap' ai) (t : List 
         | inl v ↦ scan.passed a c r x y (inl v) w l h le
         | inr v ↦ elim (cases_lt a m) [
           | inl seen ↦ scan.passed a c r x y (inr (v.0, seen)) w l h le
-          | inr left ↦ (let e : c ≡ k = v.0 in absurd (true≢false (sym (w (omega arith)) ∙ ap (λ b. is_entry n ap' ai a b) e ∙ gap a left v.1)))
+          | inr left ↦ (let e : c ≡ k = v.0 in
+              absurd (true≢false (sym (w (omega arith)) ∙ ap (λ b. is_entry n ap' ai a b) e ∙ gap a left v.1)))
         ]
       ];
-      reached = λ a r x y h. reached_on n ap' ai form k m k j a (get_or ai r 0) (λ c z. elim z [ inl v ↦ inl v | inr v ↦ inr (v.0, (let w = v.1 in omega arith)) ]) (scan.reached a r x y h);
+      reached = λ a r x y h. reached_on n ap' ai form k m k j a (get_or ai r 0)
+          (λ c z. elim z [ inl v ↦ inl v | inr v ↦ inr (v.0, (let w = v.1 in omega arith)) ]) (scan.reached a r x y h);
     }
 
   -- no row stands between those that were read and the next one
@@ -99,15 +105,18 @@ module _ (n : ℕ) (ap' ai : List ℕ) (form : IsSortedForm n ap' ai) (t : List 
     ]
   ])
 
-  module _ (p : ℕ) (from : get_or ap' k 0 ≤ p) (to : p ≤ get_or ap' (k + 1) 0) (behind : (r : ℕ) → get_or ap' k 0 ≤ r → r < p → get_or ai r 0 ≤ k)
-      (rest : (r : ℕ) → p ≤ r → r < get_or ap' (k + 1) 0 → k < get_or ai r 0) (uppers : (a : ℕ) → a < k → is_entry n ap' ai a k ≡ true → a < m) where
+  module _ (p : ℕ) (from : get_or ap' k 0 ≤ p) (to : p ≤ get_or ap' (k + 1) 0)
+      (behind : (r : ℕ) → get_or ap' k 0 ≤ r → r < p → get_or ai r 0 ≤ k)
+      (rest : (r : ℕ) → p ≤ r → r < get_or ap' (k + 1) 0 → k < get_or ai r 0)
+      (uppers : (a : ℕ) → a < k → is_entry n ap' ai a k ≡ true → a < m) where
     here : get_or (t ++ p ∷ []) k 0 ≡ p
     here = get_or_push t p 0 k scan.size
 
     there : (a : ℕ) → a ≢ k → get_or (t ++ p ∷ []) a 0 ≡ get_or t a 0
     there a ne = elim (cases_lt a k) [
       | inl x ↦ get_or_append_left t (p ∷ []) 0 a (let z = scan.size in omega arith)
-      | inr x ↦ (let z = scan.size in let l = length_push t p in get_or_past (t ++ p ∷ []) a 0 (omega arith) ∙ sym (get_or_past t a 0 (omega arith)))
+      | inr x ↦ (let z = scan.size in let l = length_push t p in get_or_past (t ++ p ∷ []) a 0 (omega arith) ∙
+          sym (get_or_past t a 0 (omega arith)))
     ]
 
     -- the pointer of column k is added
@@ -116,7 +125,10 @@ module _ (n : ℕ) (ap' ai : List ℕ) (form : IsSortedForm n ap' ai) (t : List 
       size = length_push t p ∙ ap (λ x. x + 1) scan.size;
       start = λ a x y. elim (cases_eq a k) [ inl e ↦ rw (e, here) from | inr e ↦ rw (there a e) (scan.start a (omega arith) y) ];
       stop = λ a x y. elim (cases_eq a k) [ inl e ↦ rw (e, here) to | inr e ↦ rw (there a e) (scan.stop a (omega arith) y) ];
-      low = λ a r x y z w. elim (cases_eq a k) [ inl e ↦ (let u = rw (e, here) at z in let v = rw e at w in rw e (rest r u v)) | inr e ↦ scan.low a r (omega arith) y (rw (there a e) at z) w ];
+      low = λ a r x y z w. elim (cases_eq a k) [
+        | inl e ↦ (let u = rw (e, here) at z in let v = rw e at w in rw e (rest r u v))
+        | inr e ↦ scan.low a r (omega arith) y (rw (there a e) at z) w
+      ];
       unset = λ a x. rw (there a (λ e. omega arith)) (scan.unset a (omega arith));
       passed = λ a c r x y z w l h le. elim z [
         | inl v ↦ rw (there a (λ e. omega arith)) (scan.passed a c r x y (before a c x y v w) w l h le)
@@ -124,7 +136,9 @@ module _ (n : ℕ) (ap' ai : List ℕ) (form : IsSortedForm n ap' ai) (t : List 
       ];
       reached = λ a r x y h. elim (cases_eq a k) [
         | inl e ↦ inl (let w = behind r (rw e at y) (rw (e, here) at h) in omega arith)
-        | inr e ↦ reached_on n ap' ai form k m (k + 1) 0 a (get_or ai r 0) (λ c z. elim z [ inl v ↦ inl (omega arith) | inr v ↦ inl (let w = v.0 in omega arith) ]) (scan.reached a r x y (rw (there a e) at h))
+        | inr e ↦ reached_on n ap' ai form k m (k + 1) 0 a (get_or ai r 0)
+            (λ c z. elim z [ inl v ↦ inl (omega arith) | inr v ↦ inl (let w = v.0 in omega arith) ])
+            (scan.reached a r x y (rw (there a e) at h))
       ];
     }
       where
@@ -155,13 +169,25 @@ module _ (n : ℕ) (ap' ai : List ℕ) (form : IsSortedForm n ap' ai) (t : List 
             | inl yes' ↦ rw yes' (elim (cases_order b k) [
               | inl y ↦ rw (lt-ltb b (k + 1) (omega arith), lt-ltb b k y) refl
               | inr y ↦ elim y [
-                | inl z ↦ rw (lt-ltb b (k + 1) (omega arith), eq-eqb b k z, lt-ltb a m (uppers a (omega arith) (rw z at yes'))) (or_true (ltb a b) (ltb b k))
-                | inr z ↦ rw (le-ltb b (k + 1) (omega arith), le-ltb b k (omega arith), ne_eqb b k (λ e. omega arith), le-ltb a 0 (omega arith)) (and_false (ltb a b) (eqb b (k + 1)))
+                | inl z ↦ rw (lt-ltb b (k + 1) (omega arith), eq-eqb b k z, lt-ltb a m (uppers a (omega arith) (rw z at yes')))
+                    (or_true (ltb a b) (ltb b k))
+                | inr z ↦ rw (
+                  le-ltb b (k + 1) (omega arith),
+                  le-ltb b k (omega arith),
+                  ne_eqb b k (λ e. omega arith),
+                  le-ltb a 0 (omega arith),
+                ) (and_false (ltb a b) (eqb b (k + 1)))
               ]
             ])
             | inr no' ↦ rw no' (elim (cases_eq a k) [
               | inr e ↦ rw (there a e) refl
-              | inl e ↦ rw (e, here, scan.unset k (omega arith), before_none ap' ai p b k (λ q low high same. let w = behind q low high in omega arith), before_none ap' ai 0 b k (λ q low high same. omega arith)) refl
+              | inl e ↦ rw (
+                e,
+                here,
+                scan.unset k (omega arith),
+                before_none ap' ai p b k (λ q low high same. let w = behind q low high in omega arith),
+                before_none ap' ai 0 b k (λ q low high same. omega arith),
+              ) refl
             ])
           ]
         ]
@@ -191,7 +217,8 @@ module _ (n : ℕ) (ap' ai : List ℕ) (form : IsSortedForm n ap' ai) (t : List 
     exit_behind r x y = (let w = read r x y in omega arith)
 
     pub exit_behind_next : get_or ai p 0 ≡ k → (r : ℕ) → get_or ap' k 0 ≤ r → r < p + 1 → get_or ai r 0 ≤ k
-    exit_behind_next e r x y = elim (cases_lt r p) [ inl z ↦ exit_behind r x z | inr z ↦ (let w : r ≡ p = omega arith in rw (w, e) (omega arith)) ]
+    exit_behind_next e r x y =
+        elim (cases_lt r p) [ inl z ↦ exit_behind r x z | inr z ↦ (let w : r ≡ p = omega arith in rw (w, e) (omega arith)) ]
 
     pub exit_none : (p < get_or ap' (k + 1) 0 → get_or ai p 0 ≢ k) → is_entry n ap' ai k k ≡ false
     exit_none ne = entry_none ap' ai n k k (λ q h x y e. elim (cases_lt q p) [

@@ -1,6 +1,7 @@
 -- Arcs: an edge is two arcs, one in each direction. A set of arcs is a test of two rows, and a list of them has the order in
 -- which they are met. What visitors make of them.
-use Rattle.std.specs.Prelude.{◌≡◌, ◌≢◌, ◌+◌, ◌<◌, ◌≤◌, ◌&&◌, ◌||◌, ℕ, Bool, true, false, cond, nat_eq, List, [], ◌∷◌, flat_map, length, slice_index, slice_index_or, slice_range}
+use Rattle.std.specs.Prelude.{◌≡◌, ◌≢◌, ◌+◌, ◌<◌, ◌≤◌, ◌&&◌, ◌||◌, ℕ, Bool, true, false, cond, nat_eq, List, [], ◌∷◌, flat_map, length}
+use Rattle.std.specs.Prelude.{slice_index, slice_index_or, slice_range}
 use Rattle.amd_model.specs.Below.{sum_below, count_below}
 use Rattle.amd_model.specs.Graph.{Graph}
 
@@ -39,7 +40,8 @@ pub record AreLists (g : Graph) (seen : ℕ → ℕ → Bool) (arcs : List (ℕ 
   pub room : start_of g g.size ≤ length rows
   pub ends : (i : ℕ) → i < g.size → slice_index next i ≡ start_of g i + count_below g.size (seen i)
   pub named : (i q : ℕ) → i < g.size → start_of g i ≤ q → q < slice_index next i → seen i (slice_index rows q) ≡ true
-  pub found : (i j : ℕ) → i < g.size → j < g.size → seen i j ≡ true → (q : ℕ) × (start_of g i ≤ q) × (q < slice_index next i) × (slice_index rows q ≡ j)
+  pub found : (i j : ℕ) → i < g.size → j < g.size → seen i j ≡ true → (q : ℕ) × (start_of g i ≤ q) × (q < slice_index next i)
+      × (slice_index rows q ≡ j)
   pub once : (i q r : ℕ) → i < g.size → start_of g i ≤ q → q < r → r < slice_index next i → slice_index rows q ≢ slice_index rows r
   pub order : (i : ℕ) → i < g.size → slice_range rows (start_of g i) (slice_index next i) ≡ ends_of i arcs
 

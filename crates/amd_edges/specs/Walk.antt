@@ -1,8 +1,9 @@
 -- How far the walk over the columns has come.
-use Rattle.std.specs.Prelude.{◌≡◌, ◌+◌, ◌<◌, ◌≤◌, ◌⊎◌, ◌||◌, ◌&&◌, ℕ, ℤ, Bool, true, cond, nat_eq, nat_lt, List, flat_map, length, slice_index}
+use Rattle.std.specs.Prelude.{◌≡◌, ◌+◌, ◌<◌, ◌≤◌, ◌⊎◌, ◌||◌, ◌&&◌, ℕ, ℤ, Bool, true, cond, nat_eq, nat_lt, List, flat_map, length}
+use Rattle.std.specs.Prelude.{slice_index}
 use Rattle.amd_model.specs.Below.{list_below}
 use Rattle.amd_model.specs.Graph.{Graph}
-use Rattle.amd_model.specs.Tie.{met_at}
+use Rattle.amd_model.specs.Quotient.{met_at}
 use Rattle.amd_numbers.specs.Counts.{counts, count_graph, is_before, is_entry}
 
 -- the upper entry (a, b) was read: it stands in a column before k, or in column k above row m
@@ -32,8 +33,10 @@ pub record IsScan (n : ℕ) (ap ai t : List ℕ) (k m : ℕ) : Type 0 where
   pub stop : (a : ℕ) → a < k → a < n → slice_index t a ≤ slice_index ap (a + 1)
   pub low : (a r : ℕ) → a < k → a < n → slice_index t a ≤ r → r < slice_index ap (a + 1) → a < slice_index ai r
   pub unset : (a : ℕ) → k ≤ a → slice_index t a ≡ 0
-  pub passed : (a c r : ℕ) → a < c → a < n → (c < k) ⊎ ((c ≡ k) × (a < m)) → (c < n → is_entry n ap ai a c ≡ true) → slice_index ap a ≤ r → r < slice_index ap (a + 1) → slice_index ai r ≤ c → r < slice_index t a
-  pub reached : (a r : ℕ) → a < n → slice_index ap a ≤ r → r < slice_index t a → (slice_index ai r ≤ a) ⊎ IsReached n ap ai k m a (slice_index ai r)
+  pub passed : (a c r : ℕ) → a < c → a < n → (c < k) ⊎ ((c ≡ k) × (a < m)) → (c < n → is_entry n ap ai a c ≡ true) → slice_index ap a ≤ r →
+      r < slice_index ap (a + 1) → slice_index ai r ≤ c → r < slice_index t a
+  pub reached : (a r : ℕ) → a < n → slice_index ap a ≤ r → r < slice_index t a → (slice_index ai r ≤ a)
+      ⊎ IsReached n ap ai k m a (slice_index ai r)
 
 -- the graph of pointers and rows as the caller has them
 abbrev pub graph_read : ℕ → List ℤ → List ℤ → Graph

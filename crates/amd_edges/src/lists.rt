@@ -7,7 +7,7 @@ ghost use Rattle.std.specs.Vec.{vec_capacity};
 ghost use Rattle.amd_model.specs.Below.{sum_below};
 ghost use Rattle.amd_model.specs.Input.Columns.{IsColumnForm, IsSorted};
 ghost use Rattle.amd_model.specs.Input.Pattern.{graph_of, is_pair};
-ghost use Rattle.amd_model.specs.Tie.{met_edges, starting_list};
+ghost use Rattle.amd_model.specs.Quotient.{met_edges, starting_list};
 ghost use Rattle.amd_edges.specs.Visits.{AreCounts, AreLists, AreRows, arcs_of, start_of};
 
 use crate::walk::{Visitor, walk};

@@ -8,7 +8,7 @@ ghost use Rattle.std.specs.Vec.{vec_capacity};
 ghost use Rattle.amd_model.specs.Graph.{Graph};
 ghost use Rattle.amd_model.specs.Input.Columns.{IsColumnForm, IsSorted};
 ghost use Rattle.amd_model.specs.Input.Pattern.{graph_of, diagonal_count, is_pair};
-ghost use Rattle.amd_model.specs.Tie.{met_below, met_edges};
+ghost use Rattle.amd_model.specs.Quotient.{met_below, met_edges};
 ghost use Rattle.amd_edges.specs.Visits.{IsNew, arcs_of, with_arc};
 ghost use Rattle.amd_edges.specs.Walk.{IsScanOf, edges_before, entry_read, graph_read, met_read};
 

@@ -1,5 +1,6 @@
 -- At the end of a run the elements, with their parents, blocks and fronts as signed numbers, are the forest of the assembly tree.
-use Rattle.std.proofs.Common.{ℕ, ℤ, Bool, true, false, ◌≡◌, ◌<◌, ◌&&◌, cond, inl, inr, refl, sym, ◌∙◌, ap, arith, List, length, map, pos, Option, None, Some}
+use Rattle.std.proofs.Common.{ℕ, ℤ, Bool, true, false, ◌≡◌, ◌<◌, ◌&&◌, cond, inl, inr, refl, sym, ◌∙◌, ap, arith, List, length, map, pos}
+use Rattle.std.proofs.Common.{Option, None, Some}
 use Rattle.std.specs.Prelude.{nat_lt, int_lt, unsigned_abs}
 use Rattle.std.proofs.lemmas.Int.{ints}
 use Rattle.std.proofs.lemmas.List.{get_or-map}
@@ -8,9 +9,9 @@ use Rattle.amd_model.specs.Graph.{Graph}
 use Rattle.amd_model.specs.State.{State, Last, block_at}
 use Rattle.amd_model.specs.Listing.{assembly_tree, weight}
 use Rattle.amd_model.specs.Input.Columns.{at}
-use Rattle.amd_model.specs.Tie.{Tie}
-use Rattle.amd_model.proofs.BelowLemmas.{count_pos}
-use Rattle.amd_model.proofs.EndState.{IsEnd}
+use Rattle.amd_model.specs.Quotient.{QuotientGraph}
+use Rattle.amd_model.proofs.Counting.Below.{count_pos}
+use Rattle.amd_model.proofs.States.EndState.{IsEnd}
 use Rattle.amd_rounds.specs.Keeps.{Stands}
 use Rattle.amd_rounds.specs.declared.work.Work.{Work}
 use Rattle.amd_rounds.specs.Views.{num, some_at}
@@ -34,7 +35,8 @@ pub record AreElements (g : Graph) (s : State) (parent : List (Option ℕ)) (blo
   pub no_block : (e : ℕ) → block_at e (s.home e) ≡ false → num block e ≡ 0
   pub fronts : (e : ℕ) → block_at e (s.home e) ≡ true → num front e ≡ weight g s e
 
-module _ (g : Graph) (dense : ℕ → Bool) (s : State) (end : IsEnd g dense s) (parent : List (Option ℕ)) (block front : List ℕ) (links nv f_size : List ℤ)
+module _ (g : Graph) (dense : ℕ → Bool) (s : State) (end : IsEnd g dense s) (parent : List (Option ℕ)) (block front : List ℕ)
+    (links nv f_size : List ℤ)
     (a : AreElements g s parent block front links nv f_size) where
   size_of_block : (e : ℕ) → e < g.size → at nv e ≡ pos (num block e)
   size_of_block e small = a.nv_are e small ∙ ap pos (whole (num block e) (nat_lt 0 (num block e)) refl)
@@ -61,7 +63,8 @@ module _ (g : Graph) (dense : ℕ → Bool) (s : State) (end : IsEnd g dense s) 
   element_small e h = ltb-true e g.size (and_parts (nat_lt e g.size) (int_lt (pos 0) (at nv e)) h).0
 
   link_at : (e : ℕ) → e < g.size → at links e ≡ link_of (s.parent e)
-  link_at e small = ap (λ xs. at xs e) a.links_are ∙ get_or-map link_of parent e None (pos 0) (let r = a.rooms.0 in omega (arith, small, r)) ∙ ap link_of (a.parents e)
+  link_at e small = ap (λ xs. at xs e) a.links_are ∙ get_or-map link_of parent e None (pos 0)
+      (let r = a.rooms.0 in omega (arith, small, r)) ∙ ap link_of (a.parents e)
 
   parent_at : (e : ℕ) → e < g.size → named (at links e) ≡ s.parent e
   parent_at e small = ap named (link_at e small) ∙ named_link (s.parent e)
@@ -92,7 +95,8 @@ module _ (g : Graph) (dense : ℕ → Bool) (s : State) (end : IsEnd g dense s) 
     parent = λ e small h. parent_at e small;
     weight = λ e small h.
         let y = sym (element_alike e small) ∙ h in
-        ap unsigned_abs (a.sizes_are e small ∙ ap (λ b. pos (cond b (num front e) 0)) (lt-ltb 0 (num block e) (a.blocks e y))) ∙ a.fronts e y;
+        ap unsigned_abs (a.sizes_are e small ∙ ap (λ b. pos (cond b (num front e) 0)) (lt-ltb 0 (num block e) (a.blocks e y))) ∙
+        a.fronts e y;
   }
 
 last_block : (e : ℕ) → block_at e Last ≡ false
@@ -100,7 +104,8 @@ unfolding block_at
 last_block e = refl
 
 -- what a record stands for at the end of a run, copied into signed numbers
-pub stands_elements : {A : Type 0} (g : Graph) (dense : ℕ → Bool) (w : Work A) (t : Tie) (s : State) → Stands g dense w t s → IsEnd g dense s → (links nv f_size : List ℤ) →
+pub stands_elements : {A : Type 0} (g : Graph) (dense : ℕ → Bool) (w : Work A) (t : QuotientGraph) (s : State) → Stands g dense w t s →
+    IsEnd g dense s → (links nv f_size : List ℤ) →
     links ≡ map link_of w.parent.items → length nv ≡ g.size → length f_size ≡ g.size → length links ≡ g.size →
     ((e : ℕ) → e < g.size → at nv e ≡ pos (cond (nat_lt 0 (num w.block.items e)) (num w.block.items e) 0)) →
     ((e : ℕ) → e < g.size → at f_size e ≡ pos (cond (nat_lt 0 (num w.block.items e)) (num w.front.items e) 0)) →
@@ -111,10 +116,15 @@ stands_elements g dense w t s st end links nv f_size l room_nv room_f room_l n f
   nv_are = n;
   sizes_are = f;
   parents = λ e. st.view.keeps.parents e ∙ st.view.fits.parent e;
-  blocks = λ e h. (let q = st.view.fronts.blocks e h in let c = count_pos g.size (λ v. block_at e (s.home v)) e (small e h) h in omega (arith, q, c));
+  blocks = λ e h. (let q = st.view.fronts.blocks e h in let c = count_pos g.size (λ v. block_at e (s.home v)) e (small e h) h in
+      omega (arith, q, c));
   no_block = λ e h. st.view.fronts.no_element e h;
   fronts = λ e h. st.view.fronts.fronts e h;
 }
   where
     small : (e : ℕ) → block_at e (s.home e) ≡ true → e < g.size
-    small e h = elim (cases_lt e g.size) [ inl l ↦ l | inr l ↦ absurd (true≢false (sym h ∙ ap (block_at e) (st.view.sound.rows e l) ∙ last_block e)) ]
+    small e h = elim (cases_lt e g.size) [
+      | inl l ↦ l
+      | inr l ↦ absurd
+          (true≢false (sym h ∙ ap (block_at e) (st.view.sound.rows e l) ∙ last_block e))
+    ]

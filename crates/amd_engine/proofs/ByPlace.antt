@@ -1,13 +1,14 @@
 -- A listing by the places of its numbers, and read back in their order.
-use Rattle.std.proofs.Common.{ℕ, ℤ, ◌≡◌, ◌≢◌, ◌<◌, ◌≤◌, ◌+◌, ◌++◌, ◌∷◌, [], cond, inl, inr, sym, ◌∙◌, ap, subst, arith, List, length, take, get_or, pos, Option, None, Some}
+use Rattle.std.proofs.Common.{ℕ, ℤ, ◌≡◌, ◌≢◌, ◌<◌, ◌≤◌, ◌+◌, ◌++◌, ◌∷◌, [], cond, inl, inr, sym, ◌∙◌, ap, subst, arith, List, length, take}
+use Rattle.std.proofs.Common.{get_or, pos, Option, None, Some}
 use Rattle.std.specs.Prelude.{slice_index, nat_lt}
 use Rattle.std.proofs.Math.ListN.{set}
 use Rattle.std.proofs.lemmas.List.{length-set, get_or-set_same, get_or-set_other, take_more, take_all}
 use Rattle.std.proofs.lemmas.Bool.{cases_eq, cases_lt, cases_Bool, lt-ltb, ltb-true}
 use Rattle.amd_model.specs.Input.Columns.{at}
 use Rattle.amd_model.specs.Listing.{Tree}
-use Rattle.amd_model.proofs.Places.{place_of}
-use Rattle.amd_model.proofs.Points.{pigeonhole}
+use Rattle.amd_model.proofs.Counting.Places.{place_of}
+use Rattle.amd_model.proofs.Counting.Points.{pigeonhole}
 use Rattle.amd_rounds.specs.Views.{some_at}
 use Rattle.amd_numbers.specs.Links.{named}
 use Rattle.amd_trees.specs.Trees.{IsByPlace, IsPostorderOf}
@@ -17,7 +18,8 @@ use Rattle.amd_edges.proofs.Places.{false_if, same_tests}
 module _ (n : ℕ) (listing : List ℕ) (places : List (Option ℕ)) (by : IsByPlace n listing places) where
   pub next_taken : (k e : ℕ) → some_at places k ≡ Some e → take (k + 1) listing ≡ take k listing ++ e ∷ []
   next_taken k e q = elim (cases_lt k (length listing)) [
-    | inl l ↦ (let x : Some e ≡ Some (get_or listing k 0) = sym q ∙ by.each k l in let y : get_or listing k 0 ≡ e = cc in take_more listing k 0 l ∙ ap (λ z. take k listing ++ z ∷ []) y)
+    | inl l ↦ (let x : Some e ≡ Some (get_or listing k 0) = sym q ∙ by.each k l in let y : get_or listing k 0 ≡ e = cc in
+        take_more listing k 0 l ∙ ap (λ z. take k listing ++ z ∷ []) y)
     | inr m ↦ absurd (let x : Some e ≡ None = sym q ∙ by.rest k m in cc)
   ]
 
@@ -41,20 +43,26 @@ pub record AreSoFar (j n : ℕ) (listing : List ℕ) (places : List (Option ℕ)
 
 below_same : (x j : ℕ) → x ≢ j → nat_lt x (j + 1) ≡ nat_lt x j
 below_same x j ne = same_tests (nat_lt x (j + 1)) (nat_lt x j)
-    (λ h. let l = ltb-true x (j + 1) h in lt-ltb x j (omega (arith, l, ne))) (λ h. let l = ltb-true x j h in lt-ltb x (j + 1) (omega (arith, l)))
+    (λ h. let l = ltb-true x (j + 1) h in lt-ltb x j (omega (arith, l, ne))) (λ h. let l = ltb-true x j h in
+    lt-ltb x (j + 1) (omega (arith, l)))
 
-module _ (t : Tree) (order : List ℤ) (o : IsPostorderOf t order) (inside : (k : ℕ) → k < length o.listing → slice_index o.listing k < t.size) where
+module _ (t : Tree) (order : List ℤ) (o : IsPostorderOf t order)
+    (inside : (k : ℕ) → k < length o.listing → slice_index o.listing k < t.size) where
   -- a listing names no number twice
   apart : (i k : ℕ) → i < length o.listing → k < length o.listing → slice_index o.listing i ≡ slice_index o.listing k → i ≡ k
   apart i k l m q = (let x : pos i ≡ pos k = sym (o.places i l) ∙ ap (at order) q ∙ o.places k m in cc)
 
   pub listing_fits : length o.listing ≤ t.size
-  listing_fits = pigeonhole t.size (length o.listing) (slice_index o.listing) inside (λ j k m l q. let e = apart j k (omega (arith, m, l)) l q in omega (arith, m, e))
+  listing_fits = pigeonhole t.size (length o.listing) (slice_index o.listing) inside
+      (λ j k m l q. let e = apart j k (omega (arith, m, l)) l q in omega (arith, m, e))
 
-  pub so_far_start : (places : List (Option ℕ)) → length places ≡ t.size → ((k : ℕ) → some_at places k ≡ None) → AreSoFar 0 t.size o.listing places
+  pub so_far_start : (places : List (Option ℕ)) → length places ≡ t.size → ((k : ℕ) → some_at places k ≡ None) →
+      AreSoFar 0 t.size o.listing places
   so_far_start places room none' = record {
     room = room;
-    each = λ k l. none' k ∙ sym (ap (λ b. cond b (Some (slice_index o.listing k)) None) (false_if (nat_lt (slice_index o.listing k) 0) (λ h. let x = ltb-true (slice_index o.listing k) 0 h in omega (arith, x))));
+    each = λ k l. none' k ∙
+        sym (ap (λ b. cond b (Some (slice_index o.listing k)) None)
+        (false_if (nat_lt (slice_index o.listing k) 0) (λ h. let x = ltb-true (slice_index o.listing k) 0 h in omega (arith, x))));
     rest = λ k l. none' k;
   }
 
@@ -62,15 +70,20 @@ module _ (t : Tree) (order : List ℤ) (o : IsPostorderOf t order) (inside : (k 
   so_far_end j places q a = record {
     room = a.room;
     fits = listing_fits;
-    each = λ k l. a.each k l ∙ ap (λ b. cond b (Some (slice_index o.listing k)) None) (lt-ltb (slice_index o.listing k) j (let s = inside k l in omega (arith, s, q)));
+    each = λ k l. a.each k l ∙ ap (λ b. cond b (Some (slice_index o.listing k)) None)
+        (lt-ltb (slice_index o.listing k) j (let s = inside k l in omega (arith, s, q)));
     rest = a.rest;
   }
 
   -- a place without a number
-  pub so_far_skip : (j : ℕ) (places : List (Option ℕ)) → AreSoFar j t.size o.listing places → named (at order j) ≡ None → AreSoFar (j + 1) t.size o.listing places
+  pub so_far_skip : (j : ℕ) (places : List (Option ℕ)) → AreSoFar j t.size o.listing places → named (at order j) ≡ None →
+      AreSoFar (j + 1) t.size o.listing places
   so_far_skip j places a q = record {
     room = a.room;
-    each = λ k l. a.each k l ∙ sym (ap (λ b. cond b (Some (slice_index o.listing k)) None) (below_same (slice_index o.listing k) j (λ e. let x : Some k ≡ None = sym (ap named (o.places k l)) ∙ ap (λ y. named (at order y)) e ∙ q in cc)));
+    each = λ k l. a.each k l ∙
+        sym (ap (λ b. cond b (Some (slice_index o.listing k)) None)
+        (below_same (slice_index o.listing k) j (λ e. let x : Some k ≡ None = sym (ap named (o.places k l)) ∙ ap (λ y. named (at order y)) e ∙
+        q in cc)));
     rest = a.rest;
   }
 
@@ -86,7 +99,8 @@ module _ (t : Tree) (order : List ℤ) (o : IsPostorderOf t order) (inside : (k 
         | inr y ↦ absurd (let x : Some p ≡ None = sym q ∙ ap named (o.others j small y) in cc)
       ]
 
-  pub so_far_take : (j p : ℕ) (places : List (Option ℕ)) → AreSoFar j t.size o.listing places → j < t.size → named (at order j) ≡ Some p → AreSoFar (j + 1) t.size o.listing (set places p (Some j))
+  pub so_far_take : (j p : ℕ) (places : List (Option ℕ)) → AreSoFar j t.size o.listing places → j < t.size → named (at order j) ≡ Some p →
+      AreSoFar (j + 1) t.size o.listing (set places p (Some j))
   so_far_take j p places a small q =
       let f = found j p small q in let room = a.room in let fits = listing_fits in
       record {
@@ -94,10 +108,13 @@ module _ (t : Tree) (order : List ℤ) (o : IsPostorderOf t order) (inside : (k 
         each = λ k l. elim (cases_eq k p) [
           | inl same ↦ (
               let is : slice_index o.listing k ≡ j = ap (slice_index o.listing) same ∙ f.1 in
-              ap (some_at (set places p (Some j))) same ∙ get_or-set_same places p (Some j) None (let x = f.0 in omega (arith, x, room, fits))
-              ∙ sym (ap (λ b. cond b (Some (slice_index o.listing k)) None) (lt-ltb (slice_index o.listing k) (j + 1) (omega (arith, is))) ∙ ap Some is))
+              ap (some_at (set places p (Some j))) same ∙ get_or-set_same places p (Some j) None
+              (let x = f.0 in omega (arith, x, room, fits))
+              ∙ sym (ap (λ b. cond b (Some (slice_index o.listing k)) None) (lt-ltb (slice_index o.listing k) (j + 1) (omega (arith, is))) ∙
+              ap Some is))
           | inr ne ↦ get_or-set_other places p k (Some j) None ne ∙ a.each k l
-              ∙ sym (ap (λ b. cond b (Some (slice_index o.listing k)) None) (below_same (slice_index o.listing k) j (λ e. ne (apart k p l f.0 (e ∙ sym f.1)))))
+              ∙ sym (ap (λ b. cond b (Some (slice_index o.listing k)) None)
+              (below_same (slice_index o.listing k) j (λ e. ne (apart k p l f.0 (e ∙ sym f.1)))))
         ];
         rest = λ k l. get_or-set_other places p k (Some j) None (λ e. let x = f.0 in omega (arith, x, l, e)) ∙ a.rest k l;
       }

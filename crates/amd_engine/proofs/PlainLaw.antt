@@ -1,5 +1,6 @@
 -- The parts of the plain engine make its answer: what the calls ask, and that what they give is the listing of a run of the rules.
-use Rattle.std.proofs.Common.{ℕ, ℤ, pos, Bool, true, List, [], Vec, All, ◌≡◌, ◌≤◌, ◌<◌, ◌∙◌, ◌&&◌, not, ap, sym, refl, subst, inl, inr, arith, length, map, get_or}
+use Rattle.std.proofs.Common.{ℕ, ℤ, pos, Bool, true, List, [], Vec, All, ◌≡◌, ◌≤◌, ◌<◌, ◌∙◌, ◌&&◌, not, ap, sym, refl, subst, inl, inr}
+use Rattle.std.proofs.Common.{arith, length, map, get_or}
 use Rattle.std.specs.Prelude.{◌==◌, ◌||◌, ◌*◌, ◌-◌, ◌/◌, nat_lt, Option}
 use Rattle.std.proofs.lemmas.Bool.{cases_eq, ne_eqb}
 use Rattle.std.proofs.lemmas.List.{get_or-map}
@@ -8,21 +9,21 @@ use Rattle.amd_model.specs.Graph.{Graph, IsGraph, degree}
 use Rattle.amd_model.specs.State.{State}
 use Rattle.amd_model.specs.Run.{Run, last_state}
 use Rattle.amd_model.specs.Listing.{ListsEachRow}
-use Rattle.amd_model.specs.Tie.{Tie, starting_list, start_tie}
-use Rattle.amd_model.specs.TieLaws.{NamesNeighbours}
+use Rattle.amd_model.specs.Quotient.{QuotientGraph, starting_list, start_tie}
+use Rattle.amd_model.specs.QuotientLaws.{NamesNeighbours}
 use Rattle.amd_model.specs.Figures.{cut}
 use Rattle.amd_model.specs.Input.Dense.{IsThreshold, is_dense}
 use Rattle.amd_model.specs.Input.Held.{is_marked, is_held_last}
 use Rattle.amd_model.specs.Input.Pattern.{graph_of, is_pair}
 use Rattle.amd_model.specs.Ordering.{Follows, IsListingOf, Promises}
-use Rattle.amd_model.proofs.BelowLemmas.{count_most, count_mono}
-use Rattle.amd_model.proofs.Counts.{count_without}
-use Rattle.amd_model.proofs.DegreeSums.{pattern_graph}
-use Rattle.amd_model.proofs.Orderings.{follows_steps, orderings_promise}
-use Rattle.amd_model.proofs.RunsExist.{first_state, starts}
-use Rattle.amd_model.proofs.StartingLists.{starting_lists}
-use Rattle.amd_model.proofs.StateLemmas.{edge_small}
-use Rattle.amd_model.proofs.TieLists.{clash}
+use Rattle.amd_model.proofs.Counting.Below.{count_most, count_mono}
+use Rattle.amd_model.proofs.Counting.Unions.{count_without}
+use Rattle.amd_model.proofs.Patterns.DegreeSums.{pattern_graph}
+use Rattle.amd_model.proofs.Listings.Orderings.{follows_steps, orderings_promise}
+use Rattle.amd_model.proofs.States.RunsExist.{first_state, starts}
+use Rattle.amd_model.proofs.Patterns.StartingLists.{starting_lists}
+use Rattle.amd_model.proofs.States.Words.{edge_small}
+use Rattle.amd_model.proofs.Quotient.Lists.{clash}
 use Rattle.amd_rounds.specs.Views.{at, num, list_at, Below, ListsBelow}
 use Rattle.amd_edges.specs.Visits.{AreCounts}
 use Rattle.amd_rounds.specs.Keeps.{Stands, AreRounds, NoRowIsLive}
@@ -36,7 +37,8 @@ use Rattle.amd_views.proofs.Lists.Named.{below_from}
 -- ---- lists
 
 -- what holds of each list holds of the vectors
-each_list : {X : Type 0} (P : List ℕ → Type 0) (items : X → List ℕ) (xs : List X) → ((i : ℕ) → i < length xs → P (get_or (map items xs) i [])) → All (λ v. P (items v)) xs
+each_list : {X : Type 0} (P : List ℕ → Type 0) (items : X → List ℕ) (xs : List X) →
+    ((i : ℕ) → i < length xs → P (get_or (map items xs) i [])) → All (λ v. P (items v)) xs
 each_list P items xs h = λ k d l. subst P (get_or-map items xs k d [] l) (h k l)
 
 -- ---- the start
@@ -64,12 +66,14 @@ module _ (g : Graph) (laws : IsGraph g) where
       let b : degree g i < g.size = degree_small i l in
       omega (arith, a, b, size))
 
-  lists_below : {A : Type 0} (len : List ℕ) (rows : List (Vec ℕ A)) (lists : ℕ → List ℕ) → AreCounts g g.edge len → length rows ≡ length len →
+  lists_below : {A : Type 0} (len : List ℕ) (rows : List (Vec ℕ A)) (lists : ℕ → List ℕ) → AreCounts g g.edge len →
+      length rows ≡ length len →
       ((i : ℕ) → i < g.size → list_at rows i ≡ lists i) → ((i : ℕ) → NamesNeighbours g i (lists i)) → ListsBelow (length len) rows
   lists_below len rows lists counts room listed names = let size = counts.size in (
     room,
     each_list (Below (length len)) (λ v. v.items) rows (λ i h. subst (Below (length len)) (sym (listed i (omega (arith, size, room, h))))
-        (below_from (length len) (lists i) (λ j m. let e = edge_small g laws i j (sym ((names i).named j) ∙ m) in let l = e.1 in omega (arith, size, l)))),
+        (below_from (length len) (lists i) (λ j m. let e = edge_small g laws i j (sym ((names i).named j) ∙ m) in let l = e.1 in
+        omega (arith, size, l)))),
   )
 
 -- ---- the end
@@ -86,17 +90,19 @@ told_by w old = record old {
   d_max = w.figures.d_max;
 }
 
-figures_told : {A : Type 0} (g : Graph) (dense : ℕ → Bool) (w : Work A) (t : Tie) (s : State) → Stands g dense w t s → (old : Info) → told_by w old ≡ with_figures g dense s 0 old
+figures_told : {A : Type 0} (g : Graph) (dense : ℕ → Bool) (w : Work A) (t : QuotientGraph) (s : State) → Stands g dense w t s →
+    (old : Info) → told_by w old ≡ with_figures g dense s 0 old
 figures_told g dense w t s st old = let k = st.view.fronts in rw (k.dense_rows, k.lnz, k.ldl, k.lu, k.greatest) refl
 
 -- from a start whose rounds came to an end
-module _ {A : Type 0} (g : Graph) (laws : IsGraph g) (dense last : ℕ → Bool) (aggressive : Bool) (lists : ℕ → List ℕ) (names : (i : ℕ) → NamesNeighbours g i (lists i))
+module _ {A : Type 0} (g : Graph) (laws : IsGraph g) (dense last : ℕ → Bool) (aggressive : Bool) (lists : ℕ → List ℕ)
+    (names : (i : ℕ) → NamesNeighbours g i (lists i))
     (rows : List (Vec ℕ A)) (len : List ℕ) (counts : AreCounts g g.edge len) (held : (i : ℕ) → i < g.size → last i ≡ dense i)
     (listed : (i : ℕ) → i < g.size → list_at rows i ≡ lists i) (old : Work A) (begun : StandsAtStart rows len last old) where
   abbrev first : State
   first = first_state g dense
 
-  abbrev tie : Tie
+  abbrev tie : QuotientGraph
   tie = start_tie g dense lists
 
   started : Stands g dense old tie first
@@ -105,7 +111,8 @@ module _ {A : Type 0} (g : Graph) (laws : IsGraph g) (dense last : ℕ → Bool)
 
   module _ (w : Work A) (rounds : AreRounds aggressive old w) (over : NoRowIsLive w) where
     abbrev Reached : Type 0
-    Reached = (u : Tie) × ((states : List State) × Follows g aggressive tie first states u × Stands g dense w u (last_state first states))
+    Reached = (u : QuotientGraph) × ((states : List State) × Follows g aggressive tie first states u
+        × Stands g dense w u (last_state first states))
 
     reached : Reached
     reached = rounds g dense tie first started
@@ -113,7 +120,7 @@ module _ {A : Type 0} (g : Graph) (laws : IsGraph g) (dense last : ℕ → Bool)
     abbrev states : List State
     states = (rounds g dense tie first started).1.0
 
-    abbrev end : Tie
+    abbrev end : QuotientGraph
     end = (rounds g dense tie first started).0
 
     at_end : Stands g dense w end (last_state first states)
@@ -126,7 +133,8 @@ module _ {A : Type 0} (g : Graph) (laws : IsGraph g) (dense last : ℕ → Bool)
       end = over g dense end (last_state first states) at_end;
     }
 
-    ended : (g : Graph) × (dense : ℕ → Bool) × (aggressive : Bool) × (first : State) × (states : List State) × (t : Tie) × IsGraph g × Run g dense aggressive first states × Stands g dense w t (last_state first states)
+    ended : (g : Graph) × (dense : ℕ → Bool) × (aggressive : Bool) × (first : State) × (states : List State) × (t : QuotientGraph)
+        × IsGraph g × Run g dense aggressive first states × Stands g dense w t (last_state first states)
     ended = (g, dense, aggressive, first, states, end, laws, run, at_end)
 
     module _ (order : List ℕ) (lists_run : ListsRun w order) where
@@ -153,8 +161,10 @@ cut_most x m h = omega (arith, h)
 -- ---- the engine
 
 -- the lists of a matrix whose rows have the degrees given
-module _ {A : Type 0} (ap' ai : List ℤ) (len : List ℕ) (counts : AreCounts (graph_of (length len) ap' ai) ((graph_of (length len) ap' ai).edge) len)
-    (rows : List (Vec ℕ A)) (room : length rows ≡ length len) (listed : (i : ℕ) → i < length len → list_at rows i ≡ starting_list (length len) (is_pair (length len) ap' ai) i) where
+module _ {A : Type 0} (ap' ai : List ℤ) (len : List ℕ) (counts : AreCounts (graph_of (length len) ap' ai)
+    ((graph_of (length len) ap' ai).edge) len)
+    (rows : List (Vec ℕ A)) (room : length rows ≡ length len)
+    (listed : (i : ℕ) → i < length len → list_at rows i ≡ starting_list (length len) (is_pair (length len) ap' ai) i) where
   abbrev graph : Graph
   graph = graph_of (length len) ap' ai
 
@@ -180,7 +190,8 @@ module _ {A : Type 0} (ap' ai : List ℤ) (len : List ℕ) (counts : AreCounts (
 
   -- the marks are those of the rows held last
   module _ (hold : Option (List Bool)) (threshold : ℕ) (marks : List Bool)
-      (marked : (i : ℕ) → i < length len → at marks i ≡ (is_marked hold i || nat_lt threshold (num len i))) (old : Work A) (begun : StandsAtStart rows len (at marks) old) where
+      (marked : (i : ℕ) → i < length len → at marks i ≡ (is_marked hold i || nat_lt threshold (num len i))) (old : Work A)
+      (begun : StandsAtStart rows len (at marks) old) where
     abbrev dense : ℕ → Bool
     dense = is_held_last hold (graph_of (length len) ap' ai) threshold
 
@@ -189,17 +200,27 @@ module _ {A : Type 0} (ap' ai : List ℤ) (len : List ℕ) (counts : AreCounts (
     held i l = marked i l ∙ ap (λ d. is_marked hold i || nat_lt threshold d) (counts.each i l)
 
     -- what the rounds ask of the record
-    pub stands_first : (g : Graph) × (dense : ℕ → Bool) × (t : Tie) × (s : State) × Stands g dense old t s
-    stands_first = (graph, dense, start_tie graph dense lists, first_state graph dense, started graph is_graph dense (at marks) true lists names rows len counts held listed_all old begun)
+    pub stands_first : (g : Graph) × (dense : ℕ → Bool) × (t : QuotientGraph) × (s : State) × Stands g dense old t s
+    stands_first = (
+      graph,
+      dense,
+      start_tie graph dense lists,
+      first_state graph dense,
+      started graph is_graph dense (at marks) true lists
+          names rows len counts held listed_all old begun,
+    )
 
     module _ (aggressive : Bool) (w : Work A) (rounds : AreRounds aggressive old w) (over : NoRowIsLive w) where
       -- what the listing asks of it
-      pub stands_last : (g : Graph) × (dense : ℕ → Bool) × (aggressive : Bool) × (first : State) × (states : List State) × (t : Tie) × IsGraph g × Run g dense aggressive first states × Stands g dense w t (last_state first states)
+      pub stands_last : (g : Graph) × (dense : ℕ → Bool) × (aggressive : Bool) × (first : State) × (states : List State)
+          × (t : QuotientGraph) × IsGraph g × Run g dense aggressive first states × Stands g dense w t (last_state first states)
       stands_last = ended graph is_graph dense (at marks) aggressive lists names rows len counts held listed_all old begun w rounds over
 
       module _ (order : List ℕ) (lists_run : ListsRun w order) where
-        kept : Promises graph dense (first_state graph dense) (states graph is_graph dense (at marks) aggressive lists names rows len counts held listed_all old begun w rounds over) order
-        kept = promises graph is_graph dense (at marks) aggressive lists names rows len counts held listed_all old begun w rounds over order lists_run
+        kept : Promises graph dense (first_state graph dense)
+            (states graph is_graph dense (at marks) aggressive lists names rows len counts held listed_all old begun w rounds over) order
+        kept = promises graph is_graph dense (at marks) aggressive lists names rows len counts held listed_all old begun w rounds over order
+            lists_run
 
         -- the listing has each row
         pub order_length : length order ≡ length len
@@ -209,11 +230,15 @@ module _ {A : Type 0} (ap' ai : List ℤ) (len : List ℕ) (counts : AreCounts (
         pub order_each : ListsEachRow (length order) order
         order_each = subst (λ k. ListsEachRow k order) (sym kept.each_row.places) kept.each_row
 
-        tells : (before : Info) → told_by w before ≡ with_figures graph dense (last_state (first_state graph dense) (states graph is_graph dense (at marks) aggressive lists names rows len counts held listed_all old begun w rounds over)) 0 before
-        tells before = told graph is_graph dense (at marks) aggressive lists names rows len counts held listed_all old begun w rounds over order lists_run before
+        tells : (before : Info) → told_by w before ≡ with_figures graph dense
+            (last_state (first_state graph dense) (states graph is_graph dense (at marks) aggressive lists names rows len counts held
+            listed_all old begun w rounds over)) 0 before
+        tells before = told graph is_graph dense (at marks) aggressive lists names rows len counts held listed_all old begun w rounds over
+            order lists_run before
 
         -- the answer
-        pub answer : (t : ℤ) → 0 < length len → IsThreshold (length len) t threshold → (p q : List ℤ) → p ≡ map pos order → AreInverse (length order) p q →
+        pub answer : (t : ℤ) → 0 < length len → IsThreshold (length len) t threshold → (p q : List ℤ) → p ≡ map pos order →
+            AreInverse (length order) p q →
             (before after : Info) → after ≡ told_by w before → IsEngineAnswer hold (length len) t aggressive ap' ai p q before after
         unfolding graph_of
         answer t some is_threshold p q is inverse before after figures =
@@ -226,10 +251,14 @@ module _ {A : Type 0} (ap' ai : List ℤ) (len : List ℕ) (counts : AreCounts (
               rows = order;
               listed = is;
               first = first_state graph dense;
-              states = states graph is_graph dense (at marks) aggressive lists names rows len counts held listed_all old begun w rounds over;
-              listing = is_listing graph is_graph dense (at marks) aggressive lists names rows len counts held listed_all old begun w rounds over order lists_run;
+              states = states graph is_graph dense (at marks) aggressive lists names rows len counts held listed_all old begun w rounds
+                  over;
+              listing = is_listing graph is_graph dense (at marks) aggressive lists names rows len counts held listed_all old begun w rounds
+                  over order lists_run;
               promises = kept;
-              told = all ∙ ap (λ c. with_figures graph dense (last_state (first_state graph dense) (states graph is_graph dense (at marks) aggressive lists names rows len counts held listed_all old begun w rounds over)) c before) (sym none);
+              told = all ∙ ap (λ c. with_figures graph dense
+                  (last_state (first_state graph dense) (states graph is_graph dense (at marks) aggressive lists names rows len counts held
+                  listed_all old begun w rounds over)) c before) (sym none);
               lnz_most = subst (λ (x : Info). x.lnz ≤ length len * (length len - 1) / 2) (sym all) (cut_most _ _ kept.small.entries_most);
               greatest_most = subst (λ (x : Info). x.d_max ≤ length len) (sym all) (kept.small.front_most some);
             }

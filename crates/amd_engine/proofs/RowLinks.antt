@@ -1,14 +1,15 @@
 -- The links of rows that were merged or mass-eliminated: how many lead from a row to its root, and a row linked straight to its root.
-use Rattle.std.proofs.Common.{ℕ, zero, suc, true, ◌≡◌, ◌≢◌, ◌<◌, ◌≤◌, ◌&&◌, ◌⊎◌, not, cond, inl, inr, refl, sym, ◌∙◌, ap, arith, List, length, Option, None, Some, is_none}
+use Rattle.std.proofs.Common.{ℕ, zero, suc, true, ◌≡◌, ◌≢◌, ◌<◌, ◌≤◌, ◌&&◌, ◌⊎◌, not, cond, inl, inr, refl, sym, ◌∙◌, ap, arith, List}
+use Rattle.std.proofs.Common.{length, Option, None, Some, is_none}
 use Rattle.std.specs.Prelude.{nat_lt, ◌==◌}
 use Rattle.std.proofs.Math.ListN.{set}
 use Rattle.std.proofs.lemmas.List.{length-set, get_or-set_same, get_or-set_other}
 use Rattle.std.proofs.lemmas.Bool.{cases_eq, cases_lt, true≢false, lt-ltb, ltb-true, ne_eqb, and_from, not_from_false}
 use Rattle.amd_model.specs.Below.{count_below}
 use Rattle.amd_model.specs.State.{Home}
-use Rattle.amd_model.proofs.BelowLemmas.{count_mono}
-use Rattle.amd_model.proofs.Pigeonhole.{count_all}
-use Rattle.amd_model.proofs.Points.{count_drop}
+use Rattle.amd_model.proofs.Counting.Below.{count_mono}
+use Rattle.amd_model.proofs.Counting.Pigeonhole.{count_all}
+use Rattle.amd_model.proofs.Counting.Points.{count_drop}
 use Rattle.amd_rounds.specs.Views.{some_at}
 use Rattle.amd_rounds.specs.Keeps.{LinksEnd, LinksLead}
 
@@ -59,17 +60,20 @@ module _ (links : List (Option ℕ)) (rank : ℕ → ℕ) (top : ℕ) (end : Lin
   fewer_above v u rise small =
       let drop = count_drop (length links) (λ r. nat_lt (rank v) (rank r)) u small in
       let here : cond {A = ℕ} (nat_lt (rank v) (rank u)) 1 0 ≡ 1 = ap (λ b. cond b 1 0) (lt-ltb (rank v) (rank u) rise) in
-      let less : count_below (length links) (λ r. nat_lt (rank u) (rank r)) ≤ count_below (length links) (λ r. nat_lt (rank v) (rank r) && not (r == u)) =
+      let less : count_below (length links) (λ r. nat_lt (rank u) (rank r)) ≤ count_below (length links)
+      (λ r. nat_lt (rank v) (rank r) && not (r == u)) =
       count_mono (length links) (λ r. nat_lt (rank u) (rank r)) (λ r. nat_lt (rank v) (rank r) && not (r == u)) (λ r l h.
       let up : rank u < rank r = ltb-true (rank u) (rank r) h in
-      and_from (nat_lt (rank v) (rank r)) (not (r == u)) (lt-ltb (rank v) (rank r) (omega (arith, rise, up))) (not_from_false (r == u) (ne_eqb r u (λ q. let s : rank r ≡ rank u = ap rank q in omega (arith, up, s))))) in
+      and_from (nat_lt (rank v) (rank r)) (not (r == u)) (lt-ltb (rank v) (rank r) (omega (arith, rise, up)))
+      (not_from_false (r == u) (ne_eqb r u (λ q. let s : rank r ≡ rank u = ap rank q in omega (arith, up, s))))) in
       omega (arith, drop, here, less)
 
   above_small : (v : ℕ) → v < length links → above v < length links
   unfolding above
   above_small v small = elim (cases_lt (count_below (length links) (λ r. nat_lt (rank v) (rank r))) (length links)) [
     | inl l ↦ l
-    | inr l ↦ absurd (let itself : rank v < rank v = ltb-true (rank v) (rank v) (count_all (length links) (λ r. nat_lt (rank v) (rank r)) l v small) in omega (arith, itself))
+    | inr l ↦ absurd (let itself : rank v < rank v = ltb-true (rank v) (rank v)
+        (count_all (length links) (λ r. nat_lt (rank v) (rank r)) l v small) in omega (arith, itself))
   ]
 
   few : (k v : ℕ) → steps links k v ≤ above v
@@ -77,7 +81,8 @@ module _ (links : List (Option ℕ)) (rank : ℕ → ℕ) (top : ℕ) (end : Lin
   few zero v = omega arith
   few (suc k) v = elim (cases_link (some_at links v)) [
     | inl q ↦ (let z = step_none links k v q in omega (arith, z))
-    | inr w ↦ (let r = end.rise v w.0 w.1 in let less = fewer_above v w.0 r.0 r.1 in let on = few k w.0 in let here = step_some links k v w.0 w.1 in omega (arith, less, on, here))
+    | inr w ↦ (let r = end.rise v w.0 w.1 in let less = fewer_above v w.0 r.0 r.1 in let on = few k w.0 in
+        let here = step_some links k v w.0 w.1 in omega (arith, less, on, here))
   ]
 
   -- the row that a link names has fewer links to go
@@ -89,7 +94,8 @@ module _ (links : List (Option ℕ)) (rank : ℕ → ℕ) (top : ℕ) (end : Lin
       let here = step_some links (length links) v u q in
       omega (arith, same, here)
 
-module _ (links : List (Option ℕ)) (row next root : ℕ) (small : row < length links) (on : some_at links row ≡ Some next) (end : some_at links root ≡ None) (root_small : root < length links) where
+module _ (links : List (Option ℕ)) (row next root : ℕ) (small : row < length links) (on : some_at links row ≡ Some next)
+    (end : some_at links root ≡ None) (root_small : root < length links) where
   new_links : List (Option ℕ)
   new_links = set links row (Some root)
 
@@ -118,7 +124,8 @@ module _ (links : List (Option ℕ)) (row next root : ℕ) (small : row < length
   pub same_alone : (r : ℕ) → is_none (some_at (set links row (Some root)) r) ≡ is_none (some_at links r)
   unfolding new_links
   same_alone r = elim (cases_eq r row) [
-    | inl same ↦ ap (λ k. is_none (some_at new_links k)) same ∙ ap is_none here ∙ sym (ap is_none on) ∙ ap (λ k. is_none (some_at links k)) (sym same)
+    | inl same ↦ ap (λ k. is_none (some_at new_links k)) same ∙ ap is_none here ∙ sym (ap is_none on) ∙
+        ap (λ k. is_none (some_at links k)) (sym same)
     | inr ne ↦ ap is_none (other r ne)
   ]
 
@@ -127,7 +134,8 @@ module _ (links : List (Option ℕ)) (row next root : ℕ) (small : row < length
   unfolding new_links
   led_straight home led q = record {
     linked = λ v u h. elim (cases_eq v row) [
-      | inl same ↦ (let x : Some root ≡ Some u = sym here ∙ ap (some_at new_links) (sym same) ∙ h in let y : root ≡ u = cc in ap home same ∙ q ∙ ap home y)
+      | inl same ↦ (let x : Some root ≡ Some u = sym here ∙ ap (some_at new_links) (sym same) ∙ h in let y : root ≡ u = cc in
+          ap home same ∙ q ∙ ap home y)
       | inr ne ↦ led.linked v u (sym (other v ne) ∙ h)
     ];
     alone = λ v h. led.alone v (none_before v h);
@@ -142,7 +150,8 @@ module _ (links : List (Option ℕ)) (row next root : ℕ) (small : row < length
             let a : led.rank v ≡ led.rank row = ap led.rank same in let b : led.rank root ≡ led.rank u = ap led.rank y in
             let size = length-set links row (Some root) in
             (omega (arith, low, high, a, b), omega (arith, root_small, y, size)))
-        | inr ne ↦ (let r = led.end.rise v u (sym (other v ne) ∙ h) in let size = length-set links row (Some root) in (r.0, omega (arith, r.1, size)))
+        | inr ne ↦ (let r = led.end.rise v u (sym (other v ne) ∙ h) in let size = length-set links row (Some root) in
+            (r.0, omega (arith, r.1, size)))
       ];
       ends = λ v h. led.end.ends v (none_before v h);
       below = λ v u h. elim (cases_eq v row) [

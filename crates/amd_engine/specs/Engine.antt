@@ -10,7 +10,7 @@ use Rattle.amd_model.specs.Input.Pattern.{graph_of, is_pair}
 use Rattle.amd_model.specs.Input.Dense.{IsThreshold}
 use Rattle.amd_model.specs.Input.Held.{is_held_last}
 use Rattle.amd_model.specs.Ordering.{IsListingOf, Promises}
-use Rattle.amd_model.specs.Tie.{starting_list}
+use Rattle.amd_model.specs.Quotient.{starting_list}
 use Rattle.amd_numbers.specs.Permutations.{AreInverse}
 use Rattle.amd_numbers.specs.declared.amd.Info.{Info}
 
@@ -29,16 +29,19 @@ with_figures g dense s compactions old = record old {
 -- p and q are inverse permutations; p lists the run of the rules from the starting lists of the matrix with n rows, in which the
 -- marked rows and the dense ones of a parameter of t thousandths are held last; the run and its listing keep what is promised of
 -- each; and its figures are told, of which the entries and the greatest front are at most those of a full matrix
-pub record IsEngineAnswer (hold : Option (List Bool)) (n : ℕ) (t : ℤ) (aggressive : Bool) (ap ai p q : List ℤ) (old new : Info) : Type 0 where
-  pub inverse : AreInverse n p q
-  pub threshold : ℕ
-  pub is_threshold : IsThreshold n t threshold
-  pub rows : List ℕ
-  pub listed : p ≡ map pos rows
-  pub first : State
-  pub states : List State
-  pub listing : IsListingOf (graph_of n ap ai) (is_held_last hold (graph_of n ap ai) threshold) aggressive (starting_list n (is_pair n ap ai)) first states rows
-  pub promises : Promises (graph_of n ap ai) (is_held_last hold (graph_of n ap ai) threshold) first states rows
-  pub told : new ≡ with_figures (graph_of n ap ai) (is_held_last hold (graph_of n ap ai) threshold) (last_state first states) new.n_cmp_a old
-  pub lnz_most : new.lnz ≤ n * (n - 1) / 2
-  pub greatest_most : new.d_max ≤ n
+pub record IsEngineAnswer (hold : Option (List Bool)) (n : ℕ) (t : ℤ) (aggressive : Bool) (ap ai p q : List ℤ) (old new : Info) : Type 0
+  where
+    pub inverse : AreInverse n p q
+    pub threshold : ℕ
+    pub is_threshold : IsThreshold n t threshold
+    pub rows : List ℕ
+    pub listed : p ≡ map pos rows
+    pub first : State
+    pub states : List State
+    pub listing : IsListingOf (graph_of n ap ai) (is_held_last hold (graph_of n ap ai) threshold) aggressive
+        (starting_list n (is_pair n ap ai)) first states rows
+    pub promises : Promises (graph_of n ap ai) (is_held_last hold (graph_of n ap ai) threshold) first states rows
+    pub told : new ≡ with_figures (graph_of n ap ai) (is_held_last hold (graph_of n ap ai) threshold) (last_state first states) new.n_cmp_a
+        old
+    pub lnz_most : new.lnz ≤ n * (n - 1) / 2
+    pub greatest_most : new.d_max ≤ n

@@ -8,7 +8,7 @@ ghost use Rattle.amd_model.specs.Input.Columns.{at};
 ghost use Rattle.amd_model.specs.Listing.{Tree};
 ghost use Rattle.amd_model.specs.State.{Home, State, block_at, live_at};
 ghost use Rattle.amd_model.specs.Run.{Run, last_state};
-ghost use Rattle.amd_model.specs.Tie.{Tie};
+ghost use Rattle.amd_model.specs.Quotient.{QuotientGraph};
 ghost use Rattle.amd_rounds.specs.Views.{list_at, num, some_at, Below};
 ghost use Rattle.amd_rounds.specs.Keeps.{LinksLead, Stands};
 ghost use Rattle.amd_rounds.specs.Starts.{ListsRun};
@@ -209,7 +209,7 @@ fn add_last<A: Allocator>(
 ///
 /// `OutOfMemory` for a refused request.
 pub fn listing<A: Allocator + Copy>(work: &mut Work<A>) -> Result<Vec<usize, A>, Status>
-    requires ended { (g : Graph) × (dense : ℕ → Bool) × (aggressive : Bool) × (first : State) × (states : List State) × (t : Tie) × IsGraph g × Run g dense aggressive first states × Stands g dense work.old t (last_state first states) }
+    requires ended { (g : Graph) × (dense : ℕ → Bool) × (aggressive : Bool) × (first : State) × (states : List State) × (t : QuotientGraph) × IsGraph g × Run g dense aggressive first states × Stands g dense work.old t (last_state first states) }
     ensures lists { IfOk result (λ p. ListsRun work.old p.items) }
     ensures refused { IfErr result (λ e. e ≡ Status.OutOfMemory) }
 {

@@ -25,7 +25,8 @@ module _ (o : Order) (n : ℕ) (room : n ≡ length o.rows) where
   unfolding count_below sum_below
   no_counts laws counts e = subst (CountEntries o 0) (sym e) (record {
     room = length-replicate n 0 ∙ room;
-    each = λ k l. subst (CountsEntry o 0 k) (sym (get_or-replicate n k 0 0 (omega (arith, l, room)))) (counted_from o laws 0 k 0 (omega arith) refl);
+    each = λ k l. subst (CountsEntry o 0 k) (sym (get_or-replicate n k 0 0 (omega (arith, l, room))))
+        (counted_from o laws 0 k 0 (omega arith) refl);
   })
 
 -- a parent that all rows tell is told by none before the first one

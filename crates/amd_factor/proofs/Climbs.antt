@@ -1,36 +1,38 @@
 -- The walk from each earlier neighbour of a place up the elimination tree, to places that the walk has met.
-use Rattle.std.proofs.Common.{ℕ, Bool, true, false, ◌≡◌, ◌≢◌, ◌<◌, ◌≤◌, ◌+◌, ◌==◌, ◌⊎◌, cond, inl, inr, refl, sym, ◌∙◌, ap, subst, arith, List, length, set}
+use Rattle.std.proofs.Common.{ℕ, Bool, true, false, ◌≡◌, ◌≢◌, ◌<◌, ◌≤◌, ◌+◌, ◌==◌, ◌⊎◌, cond, inl, inr, refl, sym, ◌∙◌, ap, subst, arith}
+use Rattle.std.proofs.Common.{List, length, set}
 use Rattle.std.specs.Prelude.{slice_index, slice_index_or, Option, None, Some}
 use Rattle.std.proofs.lemmas.Bool.{cases_eq, cases_lt, eq-eqb, ne_eqb}
 use Rattle.std.proofs.lemmas.List.{length-set, get_or-set_same, get_or-set_other}
 use Rattle.std.proofs.lemmas.List.Elements.{Contains-get_or}
 use Rattle.amd_model.specs.Below.{count_below}
 use Rattle.amd_model.specs.Graph.{Graph, IsGraph}
-use Rattle.amd_model.proofs.BelowLemmas.{sum_at, sum_zero, count_most}
-use Rattle.amd_model.proofs.Places.{contains_has, place_of}
+use Rattle.amd_model.proofs.Counting.Below.{sum_at, sum_zero, count_most}
+use Rattle.amd_model.proofs.Counting.Places.{contains_has, place_of}
 use Rattle.amd_factor.specs.Trees.{Entry, IsParent, Over, itself, up, InSubtree}
 use Rattle.amd_factor.specs.Earlier.{Order, AreEarlier}
 use Rattle.amd_factor.specs.Walks.{TellsParent, TellParents, MarksBefore, ListsColumns}
 use Rattle.amd_factor.proofs.TreePaths.{over_most, subtree_entry, entry_in_subtree}
 
 -- what has been met before place k, which is j where no walk is under way; the neighbours at the first places of earlier are met
-pub record Climbs (o : Order) (j : ℕ) (earlier : List ℕ) (seen k : ℕ) (parent : List (Option ℕ)) (mark path : List ℕ) (count : ℕ) : Type 0 where
-  pub parent_room : length parent ≡ length o.rows
-  pub mark_room : length mark ≡ length o.rows
-  pub path_room : length path ≡ length o.rows
-  pub top : slice_index mark j ≡ j + 1
-  pub most : (m : ℕ) → m < length o.rows → slice_index mark m ≤ j + 1
-  pub within : k ≤ j
-  pub pending : k ≢ j → InSubtree o.graph o.rows j k
-  pub sound : (m : ℕ) → m < j → slice_index mark m ≡ j + 1 → InSubtree o.graph o.rows j m
-  pub known : (m : ℕ) → m < j → slice_index mark m ≡ j + 1 →
-      (q : ℕ) × (slice_index_or parent m None ≡ Some q) × IsParent o.graph o.rows m q × ((slice_index mark q ≡ j + 1) ⊎ (q ≡ k))
-  pub others : (m : ℕ) → m < length o.rows → (m < j → slice_index mark m ≡ j + 1 → ⊥) → TellsParent o j m (slice_index_or parent m None)
-  pub done : (s : ℕ) → s < seen → (slice_index mark (slice_index earlier s) ≡ j + 1) ⊎ (slice_index earlier s ≡ k)
-  pub count_is : count ≡ count_below j (λ m. slice_index mark m == (j + 1))
-  pub listed : (m : ℕ) → m < j → slice_index mark m ≡ j + 1 → (a : ℕ) × (a < count) × (slice_index path a ≡ m)
-  pub inside : (a : ℕ) → a < count → (slice_index path a < j) × (slice_index mark (slice_index path a) ≡ j + 1)
-  pub differ : (a b : ℕ) → a < b → b < count → slice_index path a ≢ slice_index path b
+pub record Climbs (o : Order) (j : ℕ) (earlier : List ℕ) (seen k : ℕ) (parent : List (Option ℕ)) (mark path : List ℕ) (count : ℕ) : Type 0
+  where
+    pub parent_room : length parent ≡ length o.rows
+    pub mark_room : length mark ≡ length o.rows
+    pub path_room : length path ≡ length o.rows
+    pub top : slice_index mark j ≡ j + 1
+    pub most : (m : ℕ) → m < length o.rows → slice_index mark m ≤ j + 1
+    pub within : k ≤ j
+    pub pending : k ≢ j → InSubtree o.graph o.rows j k
+    pub sound : (m : ℕ) → m < j → slice_index mark m ≡ j + 1 → InSubtree o.graph o.rows j m
+    pub known : (m : ℕ) → m < j → slice_index mark m ≡ j + 1 →
+        (q : ℕ) × (slice_index_or parent m None ≡ Some q) × IsParent o.graph o.rows m q × ((slice_index mark q ≡ j + 1) ⊎ (q ≡ k))
+    pub others : (m : ℕ) → m < length o.rows → (m < j → slice_index mark m ≡ j + 1 → ⊥) → TellsParent o j m (slice_index_or parent m None)
+    pub done : (s : ℕ) → s < seen → (slice_index mark (slice_index earlier s) ≡ j + 1) ⊎ (slice_index earlier s ≡ k)
+    pub count_is : count ≡ count_below j (λ m. slice_index mark m == (j + 1))
+    pub listed : (m : ℕ) → m < j → slice_index mark m ≡ j + 1 → (a : ℕ) × (a < count) × (slice_index path a ≡ m)
+    pub inside : (a : ℕ) → a < count → (slice_index path a < j) × (slice_index mark (slice_index path a) ≡ j + 1)
+    pub differ : (a b : ℕ) → a < b → b < count → slice_index path a ≢ slice_index path b
 
 over_then : (g : Graph) (p : List ℕ) {i k q : ℕ} → Over g p i k → IsParent g p k q → Over g p i q
 over_then g p itself h = up h itself
@@ -44,7 +46,8 @@ abbrev counted_as : Bool → ℕ
 counted_as b = cond b 1 0
 
 -- a number below n that newly passes is counted
-count_new : (n k : ℕ) (p q : ℕ → Bool) → k < n → p k ≡ false → q k ≡ true → ((m : ℕ) → m < n → m ≢ k → q m ≡ p m) → count_below n q ≡ count_below n p + 1
+count_new : (n k : ℕ) (p q : ℕ → Bool) → k < n → p k ≡ false → q k ≡ true → ((m : ℕ) → m < n → m ≢ k → q m ≡ p m) →
+    count_below n q ≡ count_below n p + 1
 unfolding count_below
 count_new n k p q l a b same =
     let e = sum_at n (λ m. cond (q m) 1 0) (λ m. cond (p m) 1 0) k l (λ m lm ne. ap counted_as (same m lm ne)) in
@@ -57,13 +60,16 @@ unfolding count_below
 none_count n p f = sum_zero n (λ k. cond (p k) 1 0) (λ k l. ap counted_as (f k l))
 
 module _ (o : Order) (laws : IsGraph o.graph) (j : ℕ) (n : j < length o.rows) where
-  pub start : (earlier : List ℕ) (parent : List (Option ℕ)) (mark path : List ℕ) → TellParents o j parent → MarksBefore o j mark → length path ≡ length o.rows →
+  pub start : (earlier : List ℕ) (parent : List (Option ℕ)) (mark path : List ℕ) → TellParents o j parent → MarksBefore o j mark →
+      length path ≡ length o.rows →
       Climbs o j earlier 0 j parent (set mark j (j + 1)) path 0
   start earlier parent mark path tell before room =
       let here : j < length mark = (let r = before.room in omega (arith, r, n)) in
       let top : slice_index (set mark j (j + 1)) j ≡ j + 1 = get_or-set_same mark j (j + 1) 0 here in
-      let other : (m : ℕ) → m ≢ j → slice_index (set mark j (j + 1)) m ≡ slice_index mark m = λ m ne. get_or-set_other mark j m (j + 1) 0 ne in
-      let low : (m : ℕ) → m < j → slice_index (set mark j (j + 1)) m ≡ j + 1 → ⊥ = λ m l e. (let a = other m (omega arith) in let b = before.each m (omega (arith, n, l)) in omega (arith, a, b, e)) in
+      let other : (m : ℕ) → m ≢ j → slice_index (set mark j (j + 1)) m ≡ slice_index mark m =
+      λ m ne. get_or-set_other mark j m (j + 1) 0 ne in
+      let low : (m : ℕ) → m < j → slice_index (set mark j (j + 1)) m ≡ j + 1 → ⊥ = λ m l e.
+      (let a = other m (omega arith) in let b = before.each m (omega (arith, n, l)) in omega (arith, a, b, e)) in
       record {
         parent_room = tell.room;
         mark_room = length-set mark j (j + 1) ∙ before.room;
@@ -79,7 +85,8 @@ module _ (o : Order) (laws : IsGraph o.graph) (j : ℕ) (n : j < length o.rows) 
         known = λ m l e. absurd (low m l e);
         others = λ m l e. tell.each m l;
         done = λ s l. absurd (omega arith);
-        count_is = sym (none_count j (λ m. slice_index (set mark j (j + 1)) m == (j + 1)) (λ m l. ne_eqb (slice_index (set mark j (j + 1)) m) (j + 1) (low m l)));
+        count_is = sym (none_count j (λ m. slice_index (set mark j (j + 1)) m == (j + 1))
+            (λ m l. ne_eqb (slice_index (set mark j (j + 1)) m) (j + 1) (low m l)));
         listed = λ m l e. absurd (low m l e);
         inside = λ a l. absurd (omega arith);
         differ = λ a b l m. absurd (omega arith);
@@ -107,7 +114,8 @@ module _ (o : Order) (laws : IsGraph o.graph) (j : ℕ) (n : j < length o.rows) 
           differ = c.differ;
           within = omega arith;
           pending = λ ne. (i, low, x.1, itself);
-          known = λ m lm e. (let r = c.known m lm e in (r.0, r.1, r.2, elim r.3 [ inl t ↦ inl t | inr t ↦ inl (subst (λ y. slice_index mark y ≡ j + 1) (sym t) c.top) ]));
+          known = λ m lm e. (let r = c.known m lm e in
+              (r.0, r.1, r.2, elim r.3 [ inl t ↦ inl t | inr t ↦ inl (subst (λ y. slice_index mark y ≡ j + 1) (sym t) c.top) ]));
           done = λ s ls. elim (cases_eq s seen) [
             | inl q ↦ inr (ap (slice_index earlier) q)
             | inr ne ↦ elim (c.done s (omega arith)) [ inl t ↦ inl t | inr t ↦ inl (subst (λ y. slice_index mark y ≡ j + 1) (sym t) c.top) ]
@@ -131,11 +139,13 @@ module _ (o : Order) (laws : IsGraph o.graph) (j : ℕ) (n : j < length o.rows) 
       differ = c.differ;
       within = omega arith;
       pending = λ ne. absurd (ne refl);
-      known = λ m lm e. (let r = c.known m lm e in (r.0, r.1, r.2, elim r.3 [ inl t ↦ inl t | inr t ↦ inl (subst (λ y. slice_index mark y ≡ j + 1) (sym t) met) ]));
+      known = λ m lm e. (let r = c.known m lm e in
+          (r.0, r.1, r.2, elim r.3 [ inl t ↦ inl t | inr t ↦ inl (subst (λ y. slice_index mark y ≡ j + 1) (sym t) met) ]));
       done = λ s ls. elim (c.done s ls) [ inl t ↦ inl t | inr t ↦ inl (subst (λ y. slice_index mark y ≡ j + 1) (sym t) met) ];
     }
 
-    module _ (seen k : ℕ) (parent : List (Option ℕ)) (mark path : List ℕ) (count : ℕ) (c : Climbs o j earlier seen k parent mark path count) (new : slice_index mark k ≢ j + 1) where
+    module _ (seen k : ℕ) (parent : List (Option ℕ)) (mark path : List ℕ) (count : ℕ) (c : Climbs o j earlier seen k parent mark path count)
+        (new : slice_index mark k ≢ j + 1) where
       not_top : k ≢ j
       not_top q = new (subst (λ x. slice_index mark x ≡ j + 1) (sym q) c.top)
 
@@ -144,7 +154,8 @@ module _ (o : Order) (laws : IsGraph o.graph) (j : ℕ) (n : j < length o.rows) 
 
       -- the parent that the rows before tell, or else j
       pub told : (q : ℕ) → slice_index_or parent k None ≡ Some q → (q ≤ j) × IsParent o.graph o.rows k q
-      told q e = let l = low in let t = subst (TellsParent o j k) e (c.others k (omega (arith, l, n)) (λ lk met. new met)) in (t.first j (subtree_entry o.graph o.rows laws k j l n (c.pending not_top)), t)
+      told q e = let l = low in let t = subst (TellsParent o j k) e (c.others k (omega (arith, l, n)) (λ lk met. new met)) in
+          (t.first j (subtree_entry o.graph o.rows laws k j l n (c.pending not_top)), t)
 
       pub untold : slice_index_or parent k None ≡ None → IsParent o.graph o.rows k j
       untold e = let l = low in let t = subst (TellsParent o j k) e (c.others k (omega (arith, l, n)) (λ lk met. new met)) in record {
@@ -170,7 +181,8 @@ module _ (o : Order) (laws : IsGraph o.graph) (j : ℕ) (n : j < length o.rows) 
       kept m e = elim (cases_eq m k) [ inl q ↦ subst (λ x. slice_index mark' x ≡ j + 1) (sym q) here | inr ne ↦ elsewhere m ne ∙ e ]
 
       counted : count_below j (λ m. slice_index mark' m == (j + 1)) ≡ count + 1
-      counted = count_new j k (λ m. slice_index mark m == (j + 1)) (λ m. slice_index mark' m == (j + 1)) low (ne_eqb (slice_index mark k) (j + 1) new) (eq-eqb (slice_index mark' k) (j + 1) here)
+      counted = count_new j k (λ m. slice_index mark m == (j + 1)) (λ m. slice_index mark' m == (j + 1)) low
+          (ne_eqb (slice_index mark k) (j + 1) new) (eq-eqb (slice_index mark' k) (j + 1) here)
           (λ m lm ne. ap (λ x. x == (j + 1)) (elsewhere m ne)) ∙ ap (λ x. x + 1) (sym c.count_is)
 
       -- there is room on the path
@@ -185,7 +197,8 @@ module _ (o : Order) (laws : IsGraph o.graph) (j : ℕ) (n : j < length o.rows) 
       unfolding path'
       front a l = get_or-set_other path count a k 0 (omega arith)
 
-      pub climb : (q : ℕ) (parent' : List (Option ℕ)) → IsParent o.graph o.rows k q → q ≤ j → length parent' ≡ length o.rows → slice_index_or parent' k None ≡ Some q →
+      pub climb : (q : ℕ) (parent' : List (Option ℕ)) → IsParent o.graph o.rows k q → q ≤ j → length parent' ≡ length o.rows →
+          slice_index_or parent' k None ≡ Some q →
           ((m : ℕ) → m ≢ k → slice_index_or parent' m None ≡ slice_index_or parent m None) →
           Climbs o j earlier seen q parent' (set mark k (j + 1)) (set path count k) (count + 1)
       unfolding mark' path'
@@ -205,7 +218,12 @@ module _ (o : Order) (laws : IsGraph o.graph) (j : ℕ) (n : j < length o.rows) 
           | inr ne ↦ c.sound m l (sym (elsewhere m ne) ∙ e)
         ];
         known = λ m l e. elim (cases_eq m k) [
-          | inl same ↦ (q, ap (λ x. slice_index_or parent' x None) same ∙ at, subst (λ x. IsParent o.graph o.rows x q) (sym same) is, inr refl)
+          | inl same ↦ (
+            q,
+            ap (λ x. slice_index_or parent' x None) same ∙ at,
+            subst (λ x. IsParent o.graph o.rows x q) (sym same) is,
+            inr refl,
+          )
           | inr ne ↦ (let r = c.known m l (sym (elsewhere m ne) ∙ e) in (
             r.0,
             rest m ne ∙ r.1,
@@ -232,15 +250,18 @@ module _ (o : Order) (laws : IsGraph o.graph) (j : ℕ) (n : j < length o.rows) 
         inside = λ a l. elim (cases_eq a count) [
           | inl same ↦ subst (λ x. (slice_index path' x < j) × (slice_index mark' (slice_index path' x) ≡ j + 1)) (sym same)
               (subst (λ x. (x < j) × (slice_index mark' x ≡ j + 1)) (sym last) (low, here))
-          | inr ne ↦ (let r = c.inside a (omega arith) in subst (λ x. (x < j) × (slice_index mark' x ≡ j + 1)) (sym (front a (omega arith))) (r.0, kept (slice_index path a) r.1))
+          | inr ne ↦ (let r = c.inside a (omega arith) in subst (λ x. (x < j) × (slice_index mark' x ≡ j + 1)) (sym (front a (omega arith)))
+              (r.0, kept (slice_index path a) r.1))
         ];
         differ = λ a b l m same. elim (cases_eq b count) [
-          | inl e ↦ (let r = c.inside a (omega arith) in new (subst (λ x. slice_index mark x ≡ j + 1) (sym (front a (omega arith)) ∙ same ∙ ap (slice_index path') e ∙ last) r.1))
+          | inl e ↦ (let r = c.inside a (omega arith) in new
+              (subst (λ x. slice_index mark x ≡ j + 1) (sym (front a (omega arith)) ∙ same ∙ ap (slice_index path') e ∙ last) r.1))
           | inr ne ↦ c.differ a b l (omega arith) (sym (front a (omega arith)) ∙ same ∙ front b (omega arith))
         ];
       }
 
-    module _ (are : AreEarlier o j earlier) {parent : List (Option ℕ)} {mark path : List ℕ} {count : ℕ} (c : Climbs o j earlier (length earlier) j parent mark path count) where
+    module _ (are : AreEarlier o j earlier) {parent : List (Option ℕ)} {mark path : List ℕ} {count : ℕ}
+        (c : Climbs o j earlier (length earlier) j parent mark path count) where
       -- what stands over a place that was met was met
       met_over : {i k : ℕ} → Over o.graph o.rows i k → k < j → slice_index mark i ≡ j + 1 → slice_index mark k ≡ j + 1
       met_over itself l e = e
@@ -265,8 +286,10 @@ module _ (o : Order) (laws : IsGraph o.graph) (j : ℕ) (n : j < length o.rows) 
 
       pub lists : ListsColumns o j path count
       lists = record {
-        fits = (let a = c.count_is in let b = count_most j (λ m. slice_index mark m == (j + 1)) in let r = c.path_room in omega (arith, a, b, r, n));
-        entries = λ a l. (let r = c.inside a l in subtree_entry o.graph o.rows laws (slice_index path a) j r.0 n (c.sound (slice_index path a) r.0 r.1));
+        fits = (let a = c.count_is in let b = count_most j (λ m. slice_index mark m == (j + 1)) in let r = c.path_room in
+            omega (arith, a, b, r, n));
+        entries = λ a l. (let r = c.inside a l in subtree_entry o.graph o.rows laws (slice_index path a) j r.0 n
+            (c.sound (slice_index path a) r.0 r.1));
         all = λ k e. c.listed k e.0 (all_met k e.0 (entry_in_subtree o.graph o.rows laws k j e));
         differ = c.differ;
       }
@@ -274,9 +297,11 @@ module _ (o : Order) (laws : IsGraph o.graph) (j : ℕ) (n : j < length o.rows) 
       pub marks : MarksBefore o (j + 1) mark
       marks = record { room = c.mark_room; each = c.most }
 
-      tells : (k : ℕ) → (v : Option ℕ) → k < length o.rows → (k < j → slice_index mark k ≡ j + 1 → ⊥) → TellsParent o j k v → TellsParent o (j + 1) k v
+      tells : (k : ℕ) → (v : Option ℕ) → k < length o.rows → (k < j → slice_index mark k ≡ j + 1 → ⊥) → TellsParent o j k v →
+          TellsParent o (j + 1) k v
       tells k None l never t = λ m lm e. elim (cases_eq m j) [
-        | inl same ↦ (let x = subst (λ y. Entry o.graph o.rows k y) same e in never x.0 (all_met k x.0 (entry_in_subtree o.graph o.rows laws k j x)))
+        | inl same ↦ (let x = subst (λ y. Entry o.graph o.rows k y) same e in
+            never x.0 (all_met k x.0 (entry_in_subtree o.graph o.rows laws k j x)))
         | inr ne ↦ t m (omega arith) e
       ]
       tells k (Some q) l never t = t
@@ -289,6 +314,7 @@ module _ (o : Order) (laws : IsGraph o.graph) (j : ℕ) (n : j < length o.rows) 
             | inl met ↦ (let r = c.known k low met in subst (TellsParent o (j + 1) k) (sym r.1) r.2)
             | inr not ↦ tells k (slice_index_or parent k None) l (λ lk e. not e) (c.others k l (λ lk e. not e))
           ]
-          | inr high ↦ tells k (slice_index_or parent k None) l (λ lk e. absurd (omega (arith, lk, high))) (c.others k l (λ lk e. absurd (omega (arith, lk, high))))
+          | inr high ↦ tells k (slice_index_or parent k None) l (λ lk e. absurd (omega (arith, lk, high)))
+              (c.others k l (λ lk e. absurd (omega (arith, lk, high))))
         ];
       }

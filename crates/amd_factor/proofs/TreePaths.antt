@@ -1,14 +1,15 @@
 -- The columns of a factor by its elimination tree: from paths to subtrees, and back.
-use Rattle.std.proofs.Common.{ℕ, zero, suc, Bool, true, false, ◌≡◌, ◌<◌, ◌≤◌, ◌-◌, ◌==◌, ◌||◌, ◌⊎◌, inl, inr, refl, sym, ◌∙◌, ap, subst, arith, List, length}
+use Rattle.std.proofs.Common.{ℕ, zero, suc, Bool, true, false, ◌≡◌, ◌<◌, ◌≤◌, ◌-◌, ◌==◌, ◌||◌, ◌⊎◌, inl, inr, refl, sym, ◌∙◌, ap, subst}
+use Rattle.std.proofs.Common.{arith, List, length}
 use Rattle.std.specs.Prelude.{slice_index}
 use Rattle.std.proofs.lemmas.Bool.{cases_eq, cases_lt, eqb-true, eq-eqb, cases_Bool}
 use Rattle.amd_model.specs.Below.{any_below}
 use Rattle.amd_model.specs.Graph.{Graph, IsGraph}
 use Rattle.amd_model.specs.Reach.{Reach, direct, by}
 use Rattle.amd_model.specs.Factor.{before}
-use Rattle.amd_model.proofs.BelowLemmas.{any_from, any_gives, any_none, clash}
-use Rattle.amd_model.proofs.StateLemmas.{reach_more, reach_join, reach_flip}
-use Rattle.amd_model.proofs.ReachTest.{in_column, in_column_exact}
+use Rattle.amd_model.proofs.Counting.Below.{any_from, any_gives, any_none, clash}
+use Rattle.amd_model.proofs.States.Words.{reach_more, reach_join, reach_flip}
+use Rattle.amd_model.proofs.Listings.ReachTest.{in_column, in_column_exact}
 use Rattle.amd_factor.specs.Trees.{Entry, IsParent, Over, itself, up, InSubtree, RowsAreSubtrees}
 
 -- the least number that passes
@@ -44,7 +45,8 @@ module _ (g : Graph) (p : List ℕ) where
   at_before k u h = let r = any_gives k (λ j. slice_index p j == u) h in (r.0, r.1, eqb-true (slice_index p r.0) u r.2)
 
   before_more : (i k u : ℕ) → i ≤ k → before p i u ≡ true → before p k u ≡ true
-  before_more i k u l h = let r = at_before i u h in subst (λ v. before p k v ≡ true) r.2 (before_at k r.0 (let m = r.1 in omega (arith, m)))
+  before_more i k u l h = let r = at_before i u h in subst (λ v. before p k v ≡ true) r.2
+      (before_at k r.0 (let m = r.1 in omega (arith, m)))
 
   reach_later : (i k : ℕ) {v w : ℕ} → i ≤ k → Reach g (before p i) v w → Reach g (before p k) v w
   reach_later i k l r = reach_more g (before p i) (before p k) (λ u h. before_more i k u l h) r
@@ -57,12 +59,24 @@ module _ (g : Graph) (p : List ℕ) where
     reached : Reach g (before p i) v (slice_index p place) ⊎ Reach g (before p i) (slice_index p i) (slice_index p place)
 
   first_after : (i k : ℕ) → i < k → {v w : ℕ} → Reach g (before p k) v w → w ≡ slice_index p k → FirstAfter i k v
-  first_after i k l {v} {w} (direct e) q = record { place = k; after = l; most = omega arith; reached = inl (subst (λ x. Reach g (before p i) v x) q (direct e)) }
+  first_after i k l {v} {w} (direct e) q = record {
+    place = k;
+    after = l;
+    most = omega arith;
+    reached =
+        inl (subst (λ x. Reach g (before p i) v x) q (direct e));
+  }
   first_after i k l {v} {w} (by {u = u} e t r) q =
       let a = at_before k u t in
       let rest = first_after i k l r q in
       elim (cases_lt i a.0) [
-        | inl m ↦ record { place = a.0; after = m; most = (let n = a.1 in omega (arith, n)); reached = inl (subst (λ x. Reach g (before p i) v x) (sym a.2) (direct e)) }
+        | inl m ↦ record {
+          place = a.0;
+          after = m;
+          most = (let n = a.1 in omega (arith, n));
+          reached =
+              inl (subst (λ x. Reach g (before p i) v x) (sym a.2) (direct e));
+        }
         | inr m ↦ elim (cases_eq a.0 i) [
           | inl same ↦ record {
             place = rest.place;
@@ -86,7 +100,8 @@ module _ (g : Graph) (p : List ℕ) where
       ]
 
   -- what i reaches through the rows before k, it reaches by an entry of its column that is at most k
-  entry_before : (i k : ℕ) → i < k → k < length p → Reach g (before p k) (slice_index p i) (slice_index p k) → (m : ℕ) × (m ≤ k) × Entry g p i m
+  entry_before : (i k : ℕ) → i < k → k < length p → Reach g (before p k) (slice_index p i) (slice_index p k) →
+      (m : ℕ) × (m ≤ k) × Entry g p i m
   entry_before i k l n r = let f = first_after i k l r refl in
       (f.place, f.most, (f.after, omega (arith, f.most), elim f.reached [ inl x ↦ x | inr x ↦ x ]))
 
@@ -107,7 +122,8 @@ module _ (g : Graph) (p : List ℕ) where
         )
 
     -- a place that reaches k through the rows before k is k or stands under it
-    reach_over : (fuel i k : ℕ) → k - i ≤ fuel → i < k → k < length p → Reach g (before p k) (slice_index p i) (slice_index p k) → Over g p i k
+    reach_over : (fuel i k : ℕ) → k - i ≤ fuel → i < k → k < length p → Reach g (before p k) (slice_index p i) (slice_index p k) →
+        Over g p i k
     reach_over zero i k f l n r = absurd (omega arith)
     reach_over (suc fuel) i k f l n r =
         let e = entry_before i k l n r in
@@ -161,7 +177,8 @@ module _ (g : Graph) (p : List ℕ) where
         | inl same ↦ direct (subst (λ x. g.edge (slice_index p x) (slice_index p j) ≡ true) same s.2)
         | inr r ↦ elim (cases_eq s.0 k) [
           | inl same ↦ direct (subst (λ x. g.edge (slice_index p x) (slice_index p j) ≡ true) same s.2)
-          | inr ne ↦ reach_join g (before p k) (reach_flip g laws (before p k) r) (before_at k s.0 (let m = over_most s.3 in omega (arith, m, ne))) (direct s.2)
+          | inr ne ↦ reach_join g (before p k) (reach_flip g laws (before p k) r)
+              (before_at k s.0 (let m = over_most s.3 in omega (arith, m, ne))) (direct s.2)
         ]
       ],
     )

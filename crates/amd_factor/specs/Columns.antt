@@ -16,7 +16,8 @@ pub record HoldColumns (columns : List (List ℕ)) (ptr rows : List ℕ) (parent
   pub first : slice_index ptr 0 ≡ 0
   pub ends : (k : ℕ) (d : List ℕ) → k < length columns → slice_index ptr (k + 1) ≡ slice_index ptr k + length (slice_index_or columns k d)
   pub total : slice_index ptr (length columns) ≡ length rows
-  pub each : (k : ℕ) (d : List ℕ) → k < length columns → slice_range rows (slice_index ptr k) (slice_index ptr (k + 1)) ≡ slice_index_or columns k d
+  pub each : (k : ℕ) (d : List ℕ) → k < length columns → slice_range rows (slice_index ptr k) (slice_index ptr (k + 1)) ≡ slice_index_or
+      columns k d
   pub parents : parent ≡ map first_of columns
 
 -- they hold the factor of the graph under the order p of its rows

@@ -55,4 +55,5 @@ pub record BeginColumns (o : Order) (begins : List ℕ) (room : ℕ) : Type 0 wh
 
 -- each entry before place j stands in its column, behind the entries before it
 abbrev pub HoldEntries : Order → ℕ → List ℕ → List ℕ → Type 0
-HoldEntries o j begins rows = (k m c : ℕ) → m < j → Entry o.graph o.rows k m → CountsEntry o m k c → slice_index rows (slice_index begins k + c) ≡ m
+HoldEntries o j begins rows = (k m c : ℕ) → m < j → Entry o.graph o.rows k m → CountsEntry o m k c →
+    slice_index rows (slice_index begins k + c) ≡ m

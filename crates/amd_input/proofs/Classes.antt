@@ -5,7 +5,7 @@ use Prim.{yes, no}
 use Rattle.std.specs.Int.{FitsUnsignedBits}
 use Rattle.std.proofs.lemmas.Int.{ints}
 use Rattle.amd_model.specs.Input.Columns.{at, IsColumnForm, IsSorted, IsJumbled, IsInput}
-use Rattle.amd_model.proofs.Pointers.{pointer_in, small_fits}
+use Rattle.amd_model.proofs.Patterns.Pointers.{pointer_in, small_fits}
 use Rattle.amd_numbers.specs.Statuses.{IsStatusOf}
 use Rattle.amd_input.specs.Scans.{AreRows, Rise, HaveDescent, IsColumnClass}
 use Rattle.amd_numbers.specs.declared.amd.Status.{Status}
@@ -30,13 +30,15 @@ module _ (m : ℤ) (ap ai : List ℤ) where
   pub input_of : (n : ℤ) (k : ℕ) → pos k ≡ n → IsInput m n ap ai → IsColumnForm m k ap ai
   input_of n k e f = let P : ℤ → Type 0 = λ z. IsInput m z ap ai in subst P (sym e) f
 
-  pub no_count : (n : ℤ) (k j : ℕ) (z : ℤ) → pos k ≡ n → j < k → length ai < 2 ^ 64 → z ≡ at ap (j + 1) → (FitsUnsignedBits 64 z → ⊥) → IsInput m n ap ai → ⊥
+  pub no_count : (n : ℤ) (k j : ℕ) (z : ℤ) → pos k ≡ n → j < k → length ai < 2 ^ 64 → z ≡ at ap (j + 1) → (FitsUnsignedBits 64 z → ⊥) →
+      IsInput m n ap ai → ⊥
   no_count n k j z e h short is never f =
       let form = input_of n k e f in
       let p = pointer_in m k ap ai form (j + 1) (omega arith) in
       never (small_fits z (length ai) (rw is p.0) (rw is p.2) short)
 
-  pub bad_pointer : (n : ℤ) (k j from to : ℕ) → pos k ≡ n → j < k → at ap j ≡ pos from → at ap (j + 1) ≡ pos to → (to < from) ⊎ (length ai < to) → IsInput m n ap ai → ⊥
+  pub bad_pointer : (n : ℤ) (k j from to : ℕ) → pos k ≡ n → j < k → at ap j ≡ pos from → at ap (j + 1) ≡ pos to →
+      (to < from) ⊎ (length ai < to) → IsInput m n ap ai → ⊥
   bad_pointer n k j from to e h a b c f =
       let form = input_of n k e f in
       let p = pointer_in m k ap ai form (j + 1) (omega arith) in
@@ -44,14 +46,16 @@ module _ (m : ℤ) (ap ai : List ℤ) where
       let p2 = p.2 in
       elim c [ inl x ↦ omega (arith, ints) | inr x ↦ omega (arith, ints) ]
 
-  pub bad_row : (n : ℤ) (k j from to : ℕ) → pos k ≡ n → j < k → at ap j ≡ pos from → at ap (j + 1) ≡ pos to → IsColumnClass m ai from to Invalid → IsInput m n ap ai → ⊥
+  pub bad_row : (n : ℤ) (k j from to : ℕ) → pos k ≡ n → j < k → at ap j ≡ pos from → at ap (j + 1) ≡ pos to →
+      IsColumnClass m ai from to Invalid → IsInput m n ap ai → ⊥
   bad_row n k j from to e h a b (q, low, high, never) f =
       let form = input_of n k e f in
       let p = pointer_in m k ap ai form (j + 1) (omega arith) in
       let p1 = p.1 in
       never (form.rows q (omega (arith, ints)))
 
-  pub form_more : (j from to : ℕ) → IsColumnForm m j ap ai → at ap j ≡ pos from → at ap (j + 1) ≡ pos to → from ≤ to → to ≤ length ai → j + 1 < length ap → AreRows m ai from to → IsColumnForm m (j + 1) ap ai
+  pub form_more : (j from to : ℕ) → IsColumnForm m j ap ai → at ap j ≡ pos from → at ap (j + 1) ≡ pos to → from ≤ to → to ≤ length ai →
+      j + 1 < length ap → AreRows m ai from to → IsColumnForm m (j + 1) ap ai
   form_more j from to f a b up within room rows = record {
     enough = room;
     first = f.first;
@@ -60,8 +64,14 @@ module _ (m : ℤ) (ap ai : List ℤ) where
     rows = λ k h. elim (dec_lt k from) [ yes x ↦ f.rows k (omega (arith, ints)) | no x ↦ rows k (omega arith) (omega (arith, ints)) ];
   }
 
-  pub run_more : (j from to : ℕ) (s : Status) → at ap j ≡ pos from → at ap (j + 1) ≡ pos to → Rise ai from to → IsRunSoFar j ap ai s → IsRunSoFar (j + 1) ap ai s
-  run_more j from to OK a b rise run = λ i k h low high. elim (dec_lt i j) [ yes x ↦ run i k x low high | no x ↦ (let e : i ≡ j = omega arith in rise k (let l = rw e at low in omega (arith, ints)) (let l = rw e at high in omega (arith, ints))) ]
+  pub run_more : (j from to : ℕ) (s : Status) → at ap j ≡ pos from → at ap (j + 1) ≡ pos to → Rise ai from to → IsRunSoFar j ap ai s →
+      IsRunSoFar (j + 1) ap ai s
+  run_more j from to OK a b rise run = λ i k h low high. elim
+      (dec_lt i j) [
+        | yes x ↦ run i k x low high
+        | no x ↦ (let e : i ≡ j = omega arith in
+            rise k (let l = rw e at low in omega (arith, ints)) (let l = rw e at high in omega (arith, ints)))
+      ]
   run_more j from to OkButJumbled a b rise (i, k, h, low, high, down) = (i, k, omega arith, low, high, down)
   run_more j from to Invalid a b rise run = absurd run
   run_more j from to OutOfMemory a b rise run = absurd run

@@ -6,8 +6,8 @@ use Rattle.amd_model.specs.Below.{sum_below, count_below}
 use Rattle.amd_model.specs.Graph.{degree, degree_sum}
 use Rattle.amd_model.specs.Input.Columns.{IsColumnForm, IsSorted, IsInput, IsSortedInput}
 use Rattle.amd_model.specs.Input.Pattern.{graph_of, pair_count, diagonal_count}
-use Rattle.amd_model.proofs.BelowLemmas.{sum_same}
-use Rattle.amd_model.proofs.DegreeSums.{degrees_twice, pattern_graph}
+use Rattle.amd_model.proofs.Counting.Below.{sum_same}
+use Rattle.amd_model.proofs.Patterns.DegreeSums.{degrees_twice, pattern_graph}
 use Rattle.amd_numbers.specs.Counts.{counts}
 use Rattle.amd_numbers.specs.declared.amd.Info.{Info}
 use Rattle.amd_edges.specs.Visits.{AreCounts}
@@ -29,7 +29,8 @@ input_fits (pos n) ap' ai h short = (let enough = h.enough in omega arith)
 input_fits (negsuc n) ap' ai h short = absurd h
 
 module _ (n : ℕ) (ap' ai : List ℤ) where
-  pub degrees_are : (numbers : List ℕ) (total : ℕ) → AreCounts (graph_of n ap' ai) ((graph_of n ap' ai).edge) numbers → total ≡ sum_below (length numbers) (λ k. get_or numbers k 0) →
+  pub degrees_are : (numbers : List ℕ) (total : ℕ) → AreCounts (graph_of n ap' ai) ((graph_of n ap' ai).edge) numbers →
+      total ≡ sum_below (length numbers) (λ k. get_or numbers k 0) →
       AreDegrees n ap' ai total numbers
   unfolding graph_of degree degree_sum
   degrees_are numbers total h e = record {
@@ -38,8 +39,10 @@ module _ (n : ℕ) (ap' ai : List ℤ) where
     each = h.each;
   }
 
-  pub figures_are : IsColumnForm (pos n) n ap' ai → IsSorted n ap' ai → (info : Info) → info.n ≡ n → info.nz ≡ get_or (counts ap') n 0 → info.nz_diag ≡ diagonal_count n ap' ai →
-      info.nz_a_plus_at ≡ degree_sum (graph_of n ap' ai) → info.symmetry ≡ eqb info.nz_a_plus_at (info.nz - info.nz_diag) → HasPatternFigures n ap' ai info
+  pub figures_are : IsColumnForm (pos n) n ap' ai → IsSorted n ap' ai → (info : Info) → info.n ≡ n → info.nz ≡ get_or (counts ap') n 0 →
+      info.nz_diag ≡ diagonal_count n ap' ai →
+      info.nz_a_plus_at ≡ degree_sum (graph_of n ap' ai) → info.symmetry ≡ eqb info.nz_a_plus_at (info.nz - info.nz_diag) →
+      HasPatternFigures n ap' ai info
   figures_are form sorted info size places diagonals arcs test =
       let pairs = places ∙ pairs_counted n ap' ai form sorted in
       let rest : info.nz - info.nz_diag ≡ pair_count n ap' ai - diagonal_count n ap' ai = rw (pairs, diagonals) refl in

@@ -1,14 +1,15 @@
 -- The pairs of a sorted form are as many as its places, and a pattern is symmetric where its graph has as many arcs as the
 -- pattern has pairs off the diagonal.
-use Rattle.std.proofs.Common.{◌≡◌, ◌≢◌, ◌+◌, ◌-◌, ◌*◌, ◌<◌, ◌≤◌, inl, inr, ℕ, ℤ, zero, suc, Bool, true, false, pos, List, get_or, arith, refl, ap, sym, ◌∙◌, cond, eqb, ltb, ◌||◌, ◌&&◌, not}
+use Rattle.std.proofs.Common.{◌≡◌, ◌≢◌, ◌+◌, ◌-◌, ◌*◌, ◌<◌, ◌≤◌, inl, inr, ℕ, ℤ, zero, suc, Bool, true, false, pos, List, get_or, arith}
+use Rattle.std.proofs.Common.{refl, ap, sym, ◌∙◌, cond, eqb, ltb, ◌||◌, ◌&&◌, not}
 use Rattle.std.proofs.lemmas.Bool.{and_parts, and_from, or_left, or_right, cases_eq, cases_Bool, eq-eqb, ne_eqb, lt-ltb, ltb-true}
 use Rattle.std.proofs.lemmas.Int.{ints}
 use Rattle.amd_model.specs.Below.{sum_below, count_below}
 use Rattle.amd_model.specs.Graph.{degree, degree_sum}
 use Rattle.amd_model.specs.Input.Columns.{IsColumnForm, IsSorted}
 use Rattle.amd_model.specs.Input.Pattern.{is_pair, graph_of, pair_count, diagonal_count, IsSymmetric}
-use Rattle.amd_model.proofs.BelowLemmas.{sum_mono, sum_plus, sum_same, count_mono, count_or, count_same}
-use Rattle.amd_model.proofs.Pigeonhole.{sum_swap}
+use Rattle.amd_model.proofs.Counting.Below.{sum_mono, sum_plus, sum_same, count_mono, count_or, count_same}
+use Rattle.amd_model.proofs.Counting.Pigeonhole.{sum_swap}
 use Rattle.amd_numbers.specs.Counts.{counts, is_before, is_entry}
 use Rattle.amd_edges.proofs.Forms.{IsSortedForm, sorted_form, same_pair, pointer_is}
 use Rattle.amd_edges.proofs.Places.{before_none, before_more}
@@ -30,15 +31,19 @@ sums_same (suc n) f g h e k l =
     ]
 
 module _ (n : ℕ) (ap' ai : List ℕ) (form : IsSortedForm n ap' ai) where
-  column_upto : (j d : ℕ) → j < n → get_or ap' j 0 + d ≤ get_or ap' (j + 1) 0 → count_below n (λ i. is_before ap' ai (get_or ap' j 0 + d) i j) ≡ d
-  column_upto j zero h up = count_same n _ (λ b. false) (λ k l. before_none ap' ai (get_or ap' j 0 + 0) k j (λ q low high e. omega arith)) ∙ count_none n
+  column_upto : (j d : ℕ) → j < n → get_or ap' j 0 + d ≤ get_or ap' (j + 1) 0 →
+      count_below n (λ i. is_before ap' ai (get_or ap' j 0 + d) i j) ≡ d
+  column_upto j zero h up = count_same n _ (λ b. false) (λ k l. before_none ap' ai (get_or ap' j 0 + 0) k j (λ q low high e. omega arith)) ∙
+      count_none n
   column_upto j (suc d) h up =
       let q : ℕ = get_or ap' j 0 + d in
       let e : get_or ap' j 0 + suc d ≡ q + 1 = omega arith in
       let before = column_upto j d h (omega arith) in
       let row = form.rows j q h (omega arith) (omega arith) in
-      let fresh : is_before ap' ai q (get_or ai q 0) j ≡ false = before_none ap' ai q (get_or ai q 0) j (λ r low high same. let w = form.ascend j r q h low high (omega arith) in omega arith) in
-      let more = count_more n (λ i. is_before ap' ai q i j) (λ i. is_before ap' ai (q + 1) i j) (get_or ai q 0) row fresh (λ b. before_more ap' ai q (get_or ai q 0) j b (omega arith) refl) in
+      let fresh : is_before ap' ai q (get_or ai q 0) j ≡ false =
+      before_none ap' ai q (get_or ai q 0) j (λ r low high same. let w = form.ascend j r q h low high (omega arith) in omega arith) in
+      let more = count_more n (λ i. is_before ap' ai q i j) (λ i. is_before ap' ai (q + 1) i j) (get_or ai q 0) row fresh
+      (λ b. before_more ap' ai q (get_or ai q 0) j b (omega arith) refl) in
       rw e (omega (arith, more, before))
 
   -- a column has as many rows as places
@@ -49,13 +54,15 @@ module _ (n : ℕ) (ap' ai : List ℕ) (form : IsSortedForm n ap' ai) where
       let e : get_or ap' j 0 + (get_or ap' (j + 1) 0 - get_or ap' j 0) ≡ get_or ap' (j + 1) 0 = omega arith in
       let c = column_upto j (get_or ap' (j + 1) 0 - get_or ap' j 0) h (omega arith) in
       let d : count_below n (λ i. is_before ap' ai (get_or ap' (j + 1) 0) i j) ≡ get_or ap' (j + 1) 0 - get_or ap' j 0 = rw e at c in
-      let same = count_same n (λ i. ltb j n && is_before ap' ai (get_or ap' (j + 1) 0) i j) (λ i. is_before ap' ai (get_or ap' (j + 1) 0) i j) (λ k l. rw (lt-ltb j n h) refl) in
+      let same = count_same n (λ i. ltb j n && is_before ap' ai (get_or ap' (j + 1) 0) i j)
+      (λ i. is_before ap' ai (get_or ap' (j + 1) 0) i j) (λ k l. rw (lt-ltb j n h) refl) in
       omega (arith, d, same)
 
   entries_counted : (k : ℕ) → k ≤ n → get_or ap' 0 0 + sum_below k (λ j. count_below n (λ i. is_entry n ap' ai i j)) ≡ get_or ap' k 0
   unfolding sum_below
   entries_counted zero h = omega arith
-  entries_counted (suc k) h = (let a = entries_counted k (omega arith) in let b = column_count k (omega arith) in let e : k + 1 ≡ suc k = omega arith in let c = rw e at b in omega (arith, a, c))
+  entries_counted (suc k) h = (let a = entries_counted k (omega arith) in let b = column_count k (omega arith) in
+      let e : k + 1 ≡ suc k = omega arith in let c = rw e at b in omega (arith, a, c))
 
 -- a test of pairs of rows, and the arcs of its graph
 module _ (n : ℕ) (pair : ℕ → ℕ → Bool) where
@@ -70,10 +77,11 @@ module _ (n : ℕ) (pair : ℕ → ℕ → Bool) where
   off_count : (j : ℕ) → j < n → count_below n (λ i. pair i j) ≡ count_below n (off j) + one_if (pair j j)
   unfolding off
   off_count j h = elim (cases_Bool (pair j j)) [
-    | inl yes' ↦ rw yes' (count_more n (λ i. not (eqb j i) && pair i j) (λ i. pair i j) j h (rw (eq-eqb j j refl) refl) (λ b. elim (cases_eq b j) [
-      | inl same ↦ rw (same, yes', eq-eqb j j refl) refl
-      | inr ne ↦ rw (ne_eqb b j ne, ne_eqb j b (λ e. ne (sym e))) (or_none (pair b j))
-    ]))
+    | inl yes' ↦ rw yes' (count_more n (λ i. not (eqb j i) && pair i j) (λ i. pair i j) j h (rw (eq-eqb j j refl) refl)
+        (λ b. elim (cases_eq b j) [
+          | inl same ↦ rw (same, yes', eq-eqb j j refl) refl
+          | inr ne ↦ rw (ne_eqb b j ne, ne_eqb j b (λ e. ne (sym e))) (or_none (pair b j))
+        ]))
     | inr no' ↦ rw no' (count_same n (λ i. pair i j) (λ i. not (eqb j i) && pair i j) (λ k l. elim (cases_eq k j) [
       | inl same ↦ rw (same, no', eq-eqb j j refl) refl
       | inr ne ↦ rw (ne_eqb j k (λ e. ne (sym e))) refl
@@ -87,7 +95,8 @@ module _ (n : ℕ) (pair : ℕ → ℕ → Bool) where
       plus_none : (x : ℕ) → x ≡ x + 0
       plus_none x = omega arith
 
-  off_sum : (k : ℕ) → k ≤ n → sum_below k (λ j. count_below n (λ i. pair i j)) ≡ sum_below k (λ j. count_below n (off j)) + count_below k (λ j. pair j j)
+  off_sum : (k : ℕ) → k ≤ n → sum_below k (λ j. count_below n (λ i. pair i j)) ≡ sum_below k (λ j. count_below n (off j)) + count_below k
+      (λ j. pair j j)
   unfolding sum_below count_below
   off_sum zero h = refl
   off_sum (suc k) h = (let a = off_sum k (omega arith) in let b = off_count k (omega arith) in omega (arith, a, b))
@@ -107,7 +116,8 @@ module _ (n : ℕ) (pair : ℕ → ℕ → Bool) where
   pub arc_bound : sum_below n (λ j. count_below n (arc j)) ≤ 2 * sum_below n (λ j. count_below n (λ i. pair i j))
   unfolding count_below
   arc_bound =
-      let rows = sum_mono n (λ j. count_below n (arc j)) (λ j. count_below n (λ i. pair j i) + count_below n (λ i. pair i j)) (λ j l. row_bound j) in
+      let rows = sum_mono n (λ j. count_below n (arc j)) (λ j. count_below n (λ i. pair j i) + count_below n (λ i. pair i j))
+      (λ j l. row_bound j) in
       let parted = sum_plus n (λ j. count_below n (λ i. pair j i)) (λ j. count_below n (λ i. pair i j)) in
       let turned = sum_swap n n (λ j i. cond (pair j i) 1 0) in
       omega (arith, rows, parted, turned)
@@ -123,8 +133,10 @@ module _ (n : ℕ) (pair : ℕ → ℕ → Bool) where
         let row = (inside i j e).0 in
         let column = (inside i j e).1 in
         let parted = off_sum n (omega arith) in
-        let same = sums_same n (λ j. count_below n (off j)) (λ j. count_below n (arc j)) (λ k l. count_mono n _ _ (λ q x. off_arc k q)) (omega (arith, total, parted)) i row in
-        let each = sums_same n (λ q. one_if (off i q)) (λ q. one_if (arc i q)) (λ k l. one_mono _ _ (off_arc i k)) (omega (arith, same)) j column in
+        let same = sums_same n (λ j. count_below n (off j)) (λ j. count_below n (arc j)) (λ k l. count_mono n _ _ (λ q x. off_arc k q))
+        (omega (arith, total, parted)) i row in
+        let each = sums_same n (λ q. one_if (off i q)) (λ q. one_if (arc i q)) (λ k l. one_mono _ _ (off_arc i k)) (omega (arith, same)) j
+        column in
         (and_parts (not (eqb i j)) _ (one_back _ (each ∙ ap one_if (arc_from i j ne e)))).1)
   ]
     where
@@ -145,7 +157,8 @@ module _ (n : ℕ) (pair : ℕ → ℕ → Bool) where
       sum_below n (λ j. count_below n (arc j)) + count_below n (λ j. pair j j) ≡ sum_below n (λ j. count_below n (λ i. pair i j))
   unfolding off arc
   mirrored turned =
-      let same = sum_same n (λ j. count_below n (arc j)) (λ j. count_below n (off j)) (λ j h. count_same n (arc j) (off j) (λ i l. ap (λ b. not (eqb j i) && b) (one_way (pair j i) (pair i j) (turned j i)))) in
+      let same = sum_same n (λ j. count_below n (arc j)) (λ j. count_below n (off j))
+      (λ j h. count_same n (arc j) (off j) (λ i l. ap (λ b. not (eqb j i) && b) (one_way (pair j i) (pair i j) (turned j i)))) in
       let parted = off_sum n (omega arith) in
       omega (arith, same, parted)
     where
@@ -159,8 +172,11 @@ module _ (n : ℕ) (ap' ai : List ℤ) (form : IsColumnForm (pos n) n ap' ai) (s
   unfolding pair_count
   pairs_counted =
       let all = entries_counted n (counts ap') (counts ai) (sorted_form n ap' ai form sorted) n (omega arith) in
-      let zero_first : get_or (counts ap') 0 0 ≡ 0 = (let is = pointer_is n ap' ai form 0 (omega arith) in let first = form.first in omega (arith, ints)) in
-      let same = sum_same n (λ j. count_below n (λ i. is_pair n ap' ai i j)) (λ j. count_below n (λ i. is_entry n (counts ap') (counts ai) i j)) (λ j h. count_same n _ _ (λ i l. same_pair n ap' ai form i j)) in
+      let zero_first : get_or (counts ap') 0 0 ≡ 0 = (let is = pointer_is n ap' ai form 0 (omega arith) in let first = form.first in
+      omega (arith, ints)) in
+      let same = sum_same n (λ j. count_below n (λ i. is_pair n ap' ai i j))
+      (λ j. count_below n (λ i. is_entry n (counts ap') (counts ai) i j)) (λ j h. count_same n _ _ (λ i l. same_pair n ap' ai form i j))
+      in
       omega (arith, all, zero_first, same)
 
 -- pairs are of rows below n
@@ -176,13 +192,15 @@ unfolding diagonal_count pair_count
 diagonal_part n ap' ai = (let parted = off_sum n (is_pair n ap' ai) n (omega arith) in omega (arith, parted))
 
 -- a pattern is symmetric exactly where the arcs are as many as the pairs off the diagonal
-pub symmetric_when : (n : ℕ) (ap' ai : List ℤ) → degree_sum (graph_of n ap' ai) ≡ pair_count n ap' ai - diagonal_count n ap' ai → IsSymmetric n ap' ai
+pub symmetric_when : (n : ℕ) (ap' ai : List ℤ) → degree_sum (graph_of n ap' ai) ≡ pair_count n ap' ai - diagonal_count n ap' ai →
+    IsSymmetric n ap' ai
 unfolding graph_of degree_sum degree pair_count diagonal_count arc
 symmetric_when n ap' ai e =
     let part = diagonal_part n ap' ai in
     mirrors n (is_pair n ap' ai) (pair_rows n ap' ai) (omega (arith, e, part))
 
-pub symmetric_only : (n : ℕ) (ap' ai : List ℤ) → IsSymmetric n ap' ai → degree_sum (graph_of n ap' ai) ≡ pair_count n ap' ai - diagonal_count n ap' ai
+pub symmetric_only : (n : ℕ) (ap' ai : List ℤ) → IsSymmetric n ap' ai →
+    degree_sum (graph_of n ap' ai) ≡ pair_count n ap' ai - diagonal_count n ap' ai
 unfolding graph_of degree_sum degree pair_count diagonal_count arc
 symmetric_only n ap' ai turned = (let e = mirrored n (is_pair n ap' ai) turned in omega (arith, e))
 

@@ -16,7 +16,9 @@ is_made g s e = is_element s e && nat_lt 0 (degree g e)
 -- front are those of its border and the dense rows
 unfoldable pub figure : (ℕ → ℕ) → Graph → (ℕ → Bool) → State → ℕ
 figure share g dense s =
-    sum_below g.size (λ e. cond (is_made g s e) (front_sum share (count_below g.size (in_block s e)) (count_below g.size (s.border e) + count_below g.size dense)) 0)
+    sum_below g.size (λ e.
+    cond (is_made g s e) (front_sum share (count_below g.size (in_block s e))
+    (count_below g.size (s.border e) + count_below g.size dense)) 0)
     + front_sum share (count_below g.size dense) 0
 
 -- the share of a column with c entries below the diagonal: its entries (and divisions)

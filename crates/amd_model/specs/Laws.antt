@@ -4,7 +4,8 @@
 use Rattle.std.specs.Prelude.{ℕ, Bool, true, false, List, Some, ◌≡◌, ◌≢◌, ◌≤◌, ◌<◌, ◌↔◌, ◌⊎◌, ◌+◌, ◌*◌, ◌-◌, ◌/◌, ◌&&◌, length, slice_index}
 use Rattle.amd_model.specs.Below.{any_below, count_below}
 use Rattle.amd_model.specs.Graph.{Graph, IsGraph, degree, edge_count}
-use Rattle.amd_model.specs.State.{State, Home, Last, Live, Gone, live, eliminated, in_class, is_class, stands, holds, neighbours, front, IsStart}
+use Rattle.amd_model.specs.State.{State, Home, Last, Live, Gone, live, eliminated, in_class, is_class, stands, holds, neighbours, front}
+use Rattle.amd_model.specs.State.{IsStart}
 use Rattle.amd_model.specs.Step.{outer, block, border_of}
 use Rattle.amd_model.specs.Run.{Run, Steps, EachState, last_state}
 use Rattle.amd_model.specs.Figures.{figure, entries, ldl_steps, lu_steps, greatest_front}
@@ -82,7 +83,8 @@ EdgesFollowTree g s = (v w e f : ℕ) → g.edge v w ≡ true → s.home v ≡ G
 
 -- the column of a row lies in the later rows of its block, on the border of its element, and in the dense rows
 abbrev pub ColumnsInside : Graph → State → List ℕ → Type 0
-ColumnsInside g s p = (k j e : ℕ) → k < j → j < length p → s.home (slice_index p k) ≡ Gone e → Reach g (before p k) (slice_index p k) (slice_index p j) →
+ColumnsInside g s p = (k j e : ℕ) → k < j → j < length p → s.home (slice_index p k) ≡ Gone e →
+    Reach g (before p k) (slice_index p k) (slice_index p j) →
     (s.home (slice_index p j) ≡ Gone e) ⊎ (s.border e (slice_index p j) ≡ true) ⊎ (s.home (slice_index p j) ≡ Last)
 
 -- the column of an empty row has no entry
@@ -100,7 +102,8 @@ pub record Covers (g : Graph) (dense : ℕ → Bool) (s : State) (p : List ℕ) 
 
 -- each entry of the factor under the listing p is an edge
 abbrev pub EntriesAreEdges : Graph → List ℕ → Type 0
-EntriesAreEdges g p = (k j : ℕ) → k < j → j < length p → Reach g (before p k) (slice_index p k) (slice_index p j) → g.edge (slice_index p k) (slice_index p j) ≡ true
+EntriesAreEdges g p = (k j : ℕ) → k < j → j < length p → Reach g (before p k) (slice_index p k) (slice_index p j) →
+    g.edge (slice_index p k) (slice_index p j) ≡ true
 
 -- there is no fill: the entries are as many as the edges, and each of them is an edge
 pub record HasNoFill (g : Graph) (dense : ℕ → Bool) (s : State) (p : List ℕ) : Type 0 where
@@ -139,4 +142,5 @@ OfEachListing P = AtTheEnd (λ g dense s. (p : List ℕ) → IsPostorder g dense
 
 -- each graph and each set of rows held last have a run
 abbrev pub RunsExist : Type 0
-RunsExist = (g : Graph) (dense : ℕ → Bool) (aggressive : Bool) → IsGraph g → (first : State) × (states : List State) × Run g dense aggressive first states
+RunsExist = (g : Graph) (dense : ℕ → Bool) (aggressive : Bool) → IsGraph g → (first : State) × (states : List State)
+    × Run g dense aggressive first states

@@ -13,7 +13,7 @@ pub mod Factor
 pub mod Forest
 pub mod Laws
 pub mod Sound
-pub mod Tie
-pub mod TieLaws
+pub mod Quotient
+pub mod QuotientLaws
 pub mod Examples
 pub mod Ordering

@@ -1,5 +1,6 @@
 -- Trees listed in postorder, and the listing of the assembly tree. Source: Amestoy, Davis and Duff 2004; George and Liu 1981.
-use Rattle.std.specs.Prelude.{ℕ, Bool, false, Option, None, Some, ◌≡◌, ◌<◌, ◌==◌, ◌+◌, ◌&&◌, not, is_none, cond, nat_le, List, [], ◌∷◌, ◌++◌, filter, length, Contains}
+use Rattle.std.specs.Prelude.{ℕ, Bool, false, Option, None, Some, ◌≡◌, ◌<◌, ◌==◌, ◌+◌, ◌&&◌, not, is_none, cond, nat_le, List, [], ◌∷◌}
+use Rattle.std.specs.Prelude.{◌++◌, filter, length, Contains}
 use Rattle.amd_model.specs.Below.{count_below, list_below}
 use Rattle.amd_model.specs.Graph.{Graph}
 use Rattle.amd_model.specs.State.{State, in_block, is_element}

@@ -1,4 +1,4 @@
--- What an ordering of a graph is: the listing of a run of the elimination with each choice made by the rules of Tie, and what
+-- What an ordering of a graph is: the listing of a run of the elimination with each choice made by the rules of QuotientGraph, and what
 -- holds of it. Source: Amestoy, Davis and Duff 1996 and 2004; George and Liu 1981.
 use Rattle.std.specs.Prelude.{ℕ, Bool, false, ◌≡◌, List, [], ◌∷◌}
 use Rattle.amd_model.specs.Below.{count_below}
@@ -8,21 +8,24 @@ use Rattle.amd_model.specs.Step.{StepAt}
 use Rattle.amd_model.specs.Run.{Run, EachState, last_state}
 use Rattle.amd_model.specs.Listing.{IsPostorder, ListsEachRow}
 use Rattle.amd_model.specs.Forest.{IsForest}
-use Rattle.amd_model.specs.Tie.{Tie, Fits, is_empty, pivot, next, start_tie}
-use Rattle.amd_model.specs.Laws.{FrontsArePaths, BoundsMeetDegrees, LastRowsAre, DenseAreLast, EdgesFollowTree, ColumnsInside, EmptyColumns, Covers, HasNoFill, FiguresAreSmall}
+use Rattle.amd_model.specs.Quotient.{QuotientGraph, Fits, is_empty, pivot, next, start_tie}
+use Rattle.amd_model.specs.Laws.{FrontsArePaths, BoundsMeetDegrees, LastRowsAre, DenseAreLast, EdgesFollowTree, ColumnsInside, EmptyColumns}
+use Rattle.amd_model.specs.Laws.{Covers, HasNoFill, FiguresAreSmall}
 
 -- the states of an elimination kept in lists: each comes by the step with the pivot that the rules choose, and the lists stand for it
-pub data Follows (g : Graph) (aggressive : Bool) : Tie → State → List State → Tie → Type 0 where
-  none : {t : Tie} {s : State} → Follows g aggressive t s [] t
-  more : {t u : Tie} {s new : State} {rest : List State} → is_empty t.placed ≡ false → StepAt g aggressive (pivot t.bound t.placed) s new →
+pub data Follows (g : Graph) (aggressive : Bool) : QuotientGraph → State → List State → QuotientGraph → Type 0 where
+  none : {t : QuotientGraph} {s : State} → Follows g aggressive t s [] t
+  more : {t u : QuotientGraph} {s new : State} {rest : List State} → is_empty t.placed ≡ false →
+      StepAt g aggressive (pivot t.bound t.placed) s new →
       Fits g (next aggressive t) new → Follows g aggressive (next aggressive t) new rest u → Follows g aggressive t s (new ∷ rest) u
 
 -- p lists the assembly tree of a run of least bounds in postorder, the dense rows last; the run is that of the rules, from the
 -- starting lists given
-pub record IsListingOf (g : Graph) (dense : ℕ → Bool) (aggressive : Bool) (lists : ℕ → List ℕ) (first : State) (states : List State) (p : List ℕ) : Type 0 where
+pub record IsListingOf (g : Graph) (dense : ℕ → Bool) (aggressive : Bool) (lists : ℕ → List ℕ) (first : State) (states : List State)
+    (p : List ℕ) : Type 0 where
   pub run : Run g dense aggressive first states
   pub starts : Fits g (start_tie g dense lists) first
-  pub end : Tie
+  pub end : QuotientGraph
   pub follows : Follows g aggressive (start_tie g dense lists) first states end
   pub listing : IsPostorder g dense (last_state first states) p
 
@@ -59,6 +62,7 @@ pub record SameTree (s t : State) : Type 0 where
 
 -- from the same starting lists there is one ordering: its run ends in one tree, and it lists the same rows
 abbrev pub OneOrdering : Type 0
-OneOrdering = (g : Graph) (dense : ℕ → Bool) (aggressive : Bool) (lists : ℕ → List ℕ) (first other : State) (states others : List State) (p q : List ℕ) →
+OneOrdering = (g : Graph) (dense : ℕ → Bool) (aggressive : Bool) (lists : ℕ → List ℕ) (first other : State) (states others : List State)
+    (p q : List ℕ) →
     IsListingOf g dense aggressive lists first states p → IsListingOf g dense aggressive lists other others q →
     (p ≡ q) × SameTree (last_state first states) (last_state other others)

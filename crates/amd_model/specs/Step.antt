@@ -53,7 +53,8 @@ outside g aggressive old new c i =
 -- min(min(old bound, outside) + |S| - |class|, rows still live - |class|)
 unfoldable pub new_bound : Graph → Bool → State → State → ℕ → ℕ → ℕ
 new_bound g aggressive old new c i =
-    min (min (old.bound i) (outside g aggressive old new c i) + (count_below g.size (border_of g aggressive old c) - count_below g.size (in_class new i)))
+    min (min (old.bound i) (outside g aggressive old new c i) + (
+    count_below g.size (border_of g aggressive old c) - count_below g.size (in_class new i)))
     (count_below g.size (live new) - count_below g.size (in_class new i))
 
 -- the state new comes from old by a step with the pivot c
@@ -66,9 +67,11 @@ pub record StepAt (g : Graph) (aggressive : Bool) (c : ℕ) (old new : State) : 
   pub kept : (v : ℕ) → in_class old c v ≡ false → front g old c v ≡ false → new.home v ≡ old.home v
   -- each row of S goes to a class that was one of S, and is alike to the one that it was in
   pub moved : (v x : ℕ) → border_of g aggressive old c v ≡ true → in_class old x v ≡ true →
-      (i : ℕ) × (new.home v ≡ Live i) × (new.home i ≡ Live i) × (old.home i ≡ Live i) × (border_of g aggressive old c i ≡ true) × Alike g aggressive old c x i
+      (i : ℕ) × (new.home v ≡ Live i) × (new.home i ≡ Live i) × (old.home i ≡ Live i) × (border_of g aggressive old c i ≡ true)
+      × Alike g aggressive old c x i
   -- classes of S that are alike become one
-  pub merged : (x y : ℕ) → is_class old x ≡ true → is_class old y ≡ true → border_of g aggressive old c x ≡ true → border_of g aggressive old c y ≡ true →
+  pub merged : (x y : ℕ) → is_class old x ≡ true → is_class old y ≡ true → border_of g aggressive old c x ≡ true →
+      border_of g aggressive old c y ≡ true →
       Alike g aggressive old c x y → new.home x ≡ new.home y
   -- the new element, and what it absorbs
   pub made : (v : ℕ) → new.border c v ≡ border_of g aggressive old c v

@@ -14,7 +14,7 @@ ghost use Rattle.amd_model.specs.Listing.{IsPostorder};
 ghost use Rattle.amd_model.specs.Input.Columns.{IsInput, IsJumbledInput};
 ghost use Rattle.amd_model.specs.Input.Dense.{IsThreshold, is_dense};
 ghost use Rattle.amd_model.specs.Input.Pattern.{is_pair, pair_count, diagonal_count};
-ghost use Rattle.amd_model.specs.Tie.{Fits, starting_list, pivot, next, after_rounds};
+ghost use Rattle.amd_model.specs.Quotient.{Fits, starting_list, pivot, next, after_rounds};
 ghost use Rattle.amd_model.specs.Examples.Table.{none_dense};
 ghost use Rattle.amd_model.specs.Examples.Cycle.{cycle, cycle_tie};
 ghost use Rattle.amd_model.specs.Examples.Seven.{seven, seven_tie};

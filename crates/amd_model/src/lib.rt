@@ -10,6 +10,6 @@ pub mod forest_laws;
 pub mod front_laws;
 pub mod listing_laws;
 pub mod ordering_laws;
+pub mod quotient_laws;
 pub mod run_laws;
 pub mod sum_laws;
-pub mod tie_laws;

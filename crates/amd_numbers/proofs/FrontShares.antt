@@ -2,7 +2,7 @@
 use Rattle.std.proofs.Common.{ℕ, zero, suc, ◌≡◌, ◌≢◌, ◌+◌, ◌-◌, ◌*◌, ◌/◌, ◌^◌, min, ap, refl, arith}
 use Rattle.amd_model.specs.Below.{sum_below}
 use Rattle.amd_model.specs.Figures.{front_sum, entries, ldl_steps, lu_steps, cut}
-use Rattle.amd_model.proofs.Sums.{entries_sum, lu_sum, ldl_closed}
+use Rattle.amd_model.proofs.Figures.Sums.{entries_sum, lu_sum, ldl_closed}
 
 -- the product of a number and the one below it is even
 pairs_twice : (l : ℕ) → 2 * (suc l * l / 2) ≡ suc l * l
@@ -31,7 +31,9 @@ lu_cut : (a b : ℕ) → cut (min (min a (2 ^ 128 - 1) + min b (2 ^ 128 - 1) / 3
 unfolding cut
 lu_cut a b = omega arith
 
-ldl_cut : (a b q : ℕ) → cut (min (min (min a (2 ^ 128 - 1) + min b (2 ^ 128 - 1) / 3) (2 ^ 128 - 1) + min q (2 ^ 128 - 1)) (2 ^ 128 - 1) / 2) ≡ cut ((a + b / 3 + q) / 2)
+ldl_cut : (a b q : ℕ) →
+    cut (min (min (min a (2 ^ 128 - 1) + min b (2 ^ 128 - 1) / 3) (2 ^ 128 - 1) + min q (2 ^ 128 - 1)) (2 ^ 128 - 1) / 2) ≡ cut
+    ((a + b / 3 + q) / 2)
 unfolding cut
 ldl_cut a b q = omega arith
 
@@ -46,17 +48,22 @@ lnz_share (suc l) r some =
     let last : suc l - 1 ≡ l = omega arith in
     rw last (rw (lnz_parts l r) (lnz_cut (suc l * r + suc l * l / 2)))
 
-pub lu_share : (f r : ℕ) → f ≢ 0 → cut (min (min (f * r * (r + (f - 1))) (2 ^ 128 - 1) + min (f * (f - 1) / 2 * (2 * f - 1)) (2 ^ 128 - 1) / 3) (2 ^ 128 - 1)) ≡ cut (front_sum lu_steps f r)
+pub lu_share : (f r : ℕ) → f ≢ 0 →
+    cut (min (min (f * r * (r + (f - 1))) (2 ^ 128 - 1) + min (f * (f - 1) / 2 * (2 * f - 1)) (2 ^ 128 - 1) / 3) (2 ^ 128 - 1)) ≡ cut
+    (front_sum lu_steps f r)
 lu_share zero r some = absurd (some refl)
 lu_share (suc l) r some =
     let last : suc l - 1 ≡ l = omega arith in
     rw last (rw (lu_parts l r) (lu_cut (suc l * r * (r + l)) (suc l * l / 2 * (2 * suc l - 1))))
 
-pub ldl_share : (f r : ℕ) → f ≢ 0 → cut (min (min (min (f * r * (r + (f - 1))) (2 ^ 128 - 1) + min (f * (f - 1) / 2 * (2 * f - 1)) (2 ^ 128 - 1) / 3) (2 ^ 128 - 1) + min (f * r + f * (f - 1) / 2) (2 ^ 128 - 1)) (2 ^ 128 - 1) / 2) ≡ cut (front_sum ldl_steps f r)
+pub ldl_share : (f r : ℕ) → f ≢ 0 →
+    cut (min (min (min (f * r * (r + (f - 1))) (2 ^ 128 - 1) + min (f * (f - 1) / 2 * (2 * f - 1)) (2 ^ 128 - 1) / 3) (2 ^ 128 - 1) + min
+    (f * r + f * (f - 1) / 2) (2 ^ 128 - 1)) (2 ^ 128 - 1) / 2) ≡ cut (front_sum ldl_steps f r)
 ldl_share zero r some = absurd (some refl)
 ldl_share (suc l) r some =
     let last : suc l - 1 ≡ l = omega arith in
-    rw (last, ldl_closed (suc l) r, lu_parts l r, lnz_parts l r) (ldl_cut (suc l * r * (r + l)) (suc l * l / 2 * (2 * suc l - 1)) (suc l * r + suc l * l / 2))
+    rw (last, ldl_closed (suc l) r, lu_parts l r, lnz_parts l r)
+    (ldl_cut (suc l * r * (r + l)) (suc l * l / 2 * (2 * suc l - 1)) (suc l * r + suc l * l / 2))
 
 -- a front with no rows has no shares
 pub none : (share : ℕ → ℕ) (f r : ℕ) → f ≡ 0 → 0 ≡ cut (front_sum share f r)

@@ -4,7 +4,7 @@ use Rattle.std.specs.Prelude.{Contains, slice_index}
 use Rattle.std.proofs.lemmas.List.{length-map, get_or_default, get_or-map}
 use Rattle.amd_model.specs.Input.Columns.{at}
 use Rattle.amd_model.specs.Listing.{ListsEachRow}
-use Rattle.amd_model.proofs.Pigeonhole.{permutation_below}
+use Rattle.amd_model.proofs.Counting.Pigeonhole.{permutation_below}
 use Rattle.amd_numbers.specs.Permutations.{AreInverse}
 
 module _ (n : ℕ) (rows : List ℕ) (listing : ListsEachRow n rows) (p q : List ℤ) (listed : p ≡ map pos rows) (room : length q ≡ n)

@@ -1,15 +1,18 @@
 -- The lists of the classes by bound stand for the order of placing: a round keeps that, and the pivot that they give is the one of
 -- the rules.
-use Rattle.std.proofs.Common.{ℕ, Bool, true, false, ◌≡◌, ◌≤◌, ◌<◌, ◌&&◌, ◌||◌, not, inl, inr, refl, sym, ◌∙◌, ap, subst, List, [], ◌∷◌, ◌++◌, Vec, Some, cond, arith}
+use Rattle.std.proofs.Common.{ℕ, Bool, true, false, ◌≡◌, ◌≤◌, ◌<◌, ◌&&◌, ◌||◌, not, inl, inr, refl, sym, ◌∙◌, ap, subst, List, [], ◌∷◌}
+use Rattle.std.proofs.Common.{◌++◌, Vec, Some, cond, arith}
 use Rattle.std.specs.Prelude.{fold, filter, nat_le, nat_lt, ◌==◌}
 use Rattle.std.proofs.Math.Bool.{or-false, and-true, and-false}
-use Rattle.std.proofs.lemmas.Bool.{cases_Bool, cond-true, cond-false, cond_both, cases_eq, cases_lt, cases_order, eq-eqb, ne_eqb, eqb-true, le-leb, lt-ltb, or_left, or_right, not-true, false≢true}
+use Rattle.std.proofs.lemmas.Bool.{cases_Bool, cond-true, cond-false, cond_both, cases_eq, cases_lt, cases_order, eq-eqb, ne_eqb, eqb-true}
+use Rattle.std.proofs.lemmas.Bool.{le-leb, lt-ltb, or_left, or_right, not-true, false≢true}
 use Rattle.std.proofs.lemmas.List.{append-nil}
 use Rattle.std.proofs.lemmas.List.Elements.{filter-append}
 use Rattle.std.proofs.lemmas.List.Sums.{fold_push}
-use Rattle.amd_model.specs.Tie.{has, Once, pivot, last_that}
-use Rattle.amd_model.proofs.TieLists.{clash, has_append, has_filter, once_filter, pivot_least, pivot_named, filter_yes, filter_no}
-use Rattle.amd_model.proofs.ListingLemmas.{filter_has, has_filter as filter_gives, has_head, has_tail, has_append as append_gives, has_left, has_right}
+use Rattle.amd_model.specs.Quotient.{has, Once, pivot, last_that}
+use Rattle.amd_model.proofs.Quotient.Lists.{clash, has_append, has_filter, once_filter, pivot_least, pivot_named, filter_yes, filter_no}
+use Rattle.amd_model.proofs.Listings.Words.{filter_has, has_filter as filter_gives, has_head, has_tail, has_append as append_gives}
+use Rattle.amd_model.proofs.Listings.Words.{has_left, has_right}
 use Rattle.amd_rounds.specs.Views.{num, list_at}
 use Rattle.amd_rounds.specs.Buckets.{live_in, lasts, Popped, Chosen}
 use Rattle.amd_views.proofs.Lists.Named.{filter_named, filter_both}
@@ -22,7 +25,8 @@ eq_flip a b = elim (cases_eq a b) [
   | inr n ↦ ne_eqb a b n ∙ sym (ne_eqb b a (λ e. n (sym e)))
 ]
 
-pub filters_on : (p q r s : ℕ → Bool) (xs : List ℕ) → ((x : ℕ) → has xs x ≡ true → (q x && p x) ≡ (s x && r x)) → filter p (filter q xs) ≡ filter r (filter s xs)
+pub filters_on : (p q r s : ℕ → Bool) (xs : List ℕ) → ((x : ℕ) → has xs x ≡ true → (q x && p x) ≡ (s x && r x)) →
+    filter p (filter q xs) ≡ filter r (filter s xs)
 filters_on p q r s xs h = sym (filter_both q p xs) ∙ filter_named (λ x. q x && p x) (λ x. s x && r x) xs h ∙ filter_both s r xs
 
 -- ---- each number at its last place
@@ -67,12 +71,15 @@ pub lasts_append : (xs ys : List ℕ) → lasts (xs ++ ys) ≡ filter (λ x. not
 unfolding lasts
 lasts_append [] ys = refl
 lasts_append (x ∷ xs) ys = elim (cases_Bool (has xs x)) [
-  | inl h ↦ lasts_old x (xs ++ ys) (has_left x xs ys h) ∙ lasts_append xs ys ∙ sym (ap (λ l. filter (λ z. not (has ys z)) l ++ lasts ys) (lasts_old x xs h))
+  | inl h ↦ lasts_old x (xs ++ ys) (has_left x xs ys h) ∙ lasts_append xs ys ∙
+      sym (ap (λ l. filter (λ z. not (has ys z)) l ++ lasts ys) (lasts_old x xs h))
   | inr h ↦ elim (cases_Bool (has ys x)) [
     | inl k ↦ lasts_old x (xs ++ ys) (has_right x xs ys k) ∙ lasts_append xs ys
-        ∙ sym (ap (λ l. filter (λ z. not (has ys z)) l ++ lasts ys) (lasts_new x xs h) ∙ ap (λ l. l ++ lasts ys) (filter_no (λ z. not (has ys z)) x (lasts xs) (ap not k)))
+        ∙ sym (ap (λ l. filter (λ z. not (has ys z)) l ++ lasts ys) (lasts_new x xs h) ∙
+        ap (λ l. l ++ lasts ys) (filter_no (λ z. not (has ys z)) x (lasts xs) (ap not k)))
     | inr k ↦ lasts_new x (xs ++ ys) (has_append xs ys x ∙ ap (λ b. b || has ys x) h ∙ k) ∙ ap (λ l. x ∷ l) (lasts_append xs ys)
-        ∙ sym (ap (λ l. filter (λ z. not (has ys z)) l ++ lasts ys) (lasts_new x xs h) ∙ ap (λ l. l ++ lasts ys) (filter_yes (λ z. not (has ys z)) x (lasts xs) (ap not k)))
+        ∙ sym (ap (λ l. filter (λ z. not (has ys z)) l ++ lasts ys) (lasts_new x xs h) ∙
+        ap (λ l. l ++ lasts ys) (filter_yes (λ z. not (has ys z)) x (lasts xs) (ap not k)))
   ]
 ]
 
@@ -84,7 +91,8 @@ lasts_filter p (x ∷ xs) = elim (cases_Bool (p x)) [
   | inl a ↦ (let named : has (filter p xs) x ≡ has xs x = has_filter p xs x ∙ ap (λ b. has xs x && b) a ∙ and-true (has xs x) in
       ap lasts (filter_yes p x xs a) ∙ elim (cases_Bool (has xs x)) [
         | inl h ↦ lasts_old x (filter p xs) (named ∙ h) ∙ lasts_filter p xs ∙ sym (ap (filter p) (lasts_old x xs h))
-        | inr h ↦ lasts_new x (filter p xs) (named ∙ h) ∙ ap (λ l. x ∷ l) (lasts_filter p xs) ∙ sym (ap (filter p) (lasts_new x xs h) ∙ filter_yes p x (lasts xs) a)
+        | inr h ↦ lasts_new x (filter p xs) (named ∙ h) ∙ ap (λ l. x ∷ l) (lasts_filter p xs) ∙
+            sym (ap (filter p) (lasts_new x xs h) ∙ filter_yes p x (lasts xs) a)
       ])
   | inr a ↦ ap lasts (filter_no p x xs a) ∙ lasts_filter p xs ∙ elim (cases_Bool (has xs x)) [
     | inl h ↦ sym (ap (filter p) (lasts_old x xs h))
@@ -95,13 +103,15 @@ lasts_filter p (x ∷ xs) = elim (cases_Bool (p x)) [
 -- a number is placed behind the others
 pub lasts_push : (xs : List ℕ) (c : ℕ) → lasts (xs ++ c ∷ []) ≡ filter (λ x. not (x == c)) (lasts xs) ++ c ∷ []
 unfolding has lasts
-lasts_push xs c = lasts_append xs (c ∷ []) ∙ ap (λ l. l ++ c ∷ []) (filter_named (λ x. not (has (c ∷ []) x)) (λ x. not (x == c)) (lasts xs) (λ x h. ap not (or-false (c == x) ∙ eq_flip c x)))
+lasts_push xs c = lasts_append xs (c ∷ []) ∙ ap (λ l. l ++ c ∷ [])
+    (filter_named (λ x. not (has (c ∷ []) x)) (λ x. not (x == c)) (lasts xs) (λ x h. ap not (or-false (c == x) ∙ eq_flip c x)))
 
 -- ---- the pivot
 
 -- the walk to the pivot and the walk to the last one of a bound agree from the moment when one of the least bound was met
 walks : (bound : ℕ → ℕ) (m r q : ℕ) (ys : List ℕ) → m ≤ bound r → ((y : ℕ) → has ys y ≡ true → m ≤ bound y) → (bound r ≡ m → q ≡ r) →
-    bound (fold (λ r y. cond (nat_le (bound y) (bound r)) y r) r ys) ≡ m → fold (λ r y. cond (bound y == m) y r) q ys ≡ fold (λ r y. cond (nat_le (bound y) (bound r)) y r) r ys
+    bound (fold (λ r y. cond (nat_le (bound y) (bound r)) y r) r ys) ≡ m →
+    fold (λ r y. cond (bound y == m) y r) q ys ≡ fold (λ r y. cond (nat_le (bound y) (bound r)) y r) r ys
 walks bound m r q [] lr ly h e = h e
 walks bound m r q (y ∷ ys) lr ly h e =
     let my : m ≤ bound y = ly y (has_head y y ys refl) in
@@ -110,7 +120,8 @@ walks bound m r q (y ∷ ys) lr ly h e =
     walks bound m (cond t y r) (cond (bound y == m) y q) ys
     (cond_both t y r (λ k. m ≤ bound k) (λ k. my) (λ k. lr)) rest
     (λ k. elim (cases_eq (bound y) m) [
-      | inl s ↦ cond-true (bound y == m) y q (eq-eqb (bound y) m s) ∙ sym (cond-true t y r (le-leb (bound y) (bound r) (omega (arith, s, lr))))
+      | inl s ↦ cond-true (bound y == m) y q (eq-eqb (bound y) m s) ∙
+          sym (cond-true t y r (le-leb (bound y) (bound r) (omega (arith, s, lr))))
       | inr n ↦ cond-false (bound y == m) y q (ne_eqb (bound y) m n) ∙ elim (cases_Bool t) [
         | inl a ↦ absurd (n (sym (ap bound (cond-true t y r a)) ∙ k))
         | inr a ↦ h (sym (ap bound (cond-false t y r a)) ∙ k) ∙ sym (cond-false t y r a)
@@ -118,10 +129,12 @@ walks bound m r q (y ∷ ys) lr ly h e =
     ]) e
 
 -- the pivot is the last one of its bound
-pub pivot_last : (bound : ℕ → ℕ) (c : ℕ) (xs : List ℕ) → last_that (λ y. bound y == bound (pivot bound (c ∷ xs))) c xs ≡ pivot bound (c ∷ xs)
+pub pivot_last : (bound : ℕ → ℕ) (c : ℕ) (xs : List ℕ) → last_that (λ y. bound y == bound (pivot bound (c ∷ xs))) c xs ≡ pivot bound
+    (c ∷ xs)
 unfolding last_that pivot
 pivot_last bound c xs = let m : ℕ = bound (pivot bound (c ∷ xs)) in
-    walks bound m c c xs (pivot_least bound c xs c (has_head c c xs refl)) (λ y k. pivot_least bound c xs y (has_tail y c xs k)) (λ e. refl) refl
+    walks bound m c c xs (pivot_least bound c xs c (has_head c c xs refl)) (λ y k. pivot_least bound c xs y (has_tail y c xs k)) (λ e. refl)
+    refl
 
 -- the last one that passes is the last of those that pass
 pub last_filter : (p : ℕ → Bool) (d : ℕ) (xs : List ℕ) → last_that p d xs ≡ fold (λ r x. x) d (filter p xs)
@@ -140,7 +153,8 @@ last_head p d xs = elim (cases_Bool (p d)) [
 ]
 
 -- the last one placed of those of the least bound is the pivot
-pub choose_pivot : (bound : ℕ → ℕ) (placed : List ℕ) (m c : ℕ) (xs : List ℕ) → ((i : ℕ) → has placed i ≡ true → m ≤ bound i) → filter (λ i. bound i == m) placed ≡ xs ++ c ∷ [] → pivot bound placed ≡ c
+pub choose_pivot : (bound : ℕ → ℕ) (placed : List ℕ) (m c : ℕ) (xs : List ℕ) → ((i : ℕ) → has placed i ≡ true → m ≤ bound i) →
+    filter (λ i. bound i == m) placed ≡ xs ++ c ∷ [] → pivot bound placed ≡ c
 unfolding has
 choose_pivot bound [] m c xs low is = absurd (false≢true (ap (λ l. has l c) is ∙ has_right c xs (c ∷ []) (has_head c c [] refl)))
 choose_pivot bound (d ∷ ds) m c xs low is =
@@ -152,22 +166,27 @@ choose_pivot bound (d ∷ ds) m c xs low is =
     let up = pivot_least bound d ds c parts.0 in
     let down = low p (pivot_named bound d ds) in
     let same : bound p ≡ m = omega (arith, bound_c, up, down) in
-    sym (pivot_last bound d ds) ∙ ap (λ n. last_that (λ y. bound y == n) d ds) same ∙ last_filter (λ y. bound y == m) d ds ∙ last_head (λ y. bound y == m) d ds
+    sym (pivot_last bound d ds) ∙ ap (λ n. last_that (λ y. bound y == n) d ds) same ∙ last_filter (λ y. bound y == m) d ds ∙
+    last_head (λ y. bound y == m) d ds
     ∙ ap (fold (λ r x. x) d) is ∙ fold_push (λ r x. x) d xs c
 
 -- ---- a round
 
 -- the classes of a list from which the last one was taken
-pub popped_live : (size bound : List ℕ) (b : ℕ) (old new : List ℕ) (c : ℕ) → Popped size bound b old new (Some c) → live_in size bound b old ≡ live_in size bound b new ++ c ∷ []
+pub popped_live : (size bound : List ℕ) (b : ℕ) (old new : List ℕ) (c : ℕ) → Popped size bound b old new (Some c) →
+    live_in size bound b old ≡ live_in size bound b new ++ c ∷ []
 popped_live size bound b old new c h =
     let live = live_in size bound b in let is_class = λ (x : ℕ). nat_lt 0 (num size x) && num bound x == b in
-    ap live h.1 ∙ filter-append is_class new (c ∷ h.0) ∙ ap (λ l. live new ++ l) (filter-append is_class (c ∷ []) h.0 ∙ ap (λ l. l ++ live h.0) h.2 ∙ ap (λ l. c ∷ l) h.3)
+    ap live h.1 ∙ filter-append is_class new (c ∷ h.0) ∙ ap (λ l. live new ++ l)
+    (filter-append is_class (c ∷ []) h.0 ∙ ap (λ l. l ++ live h.0) h.2 ∙ ap (λ l. c ∷ l) h.3)
 
 -- where c is left out, a list of which c is taken stays
 lasts_without : (p : ℕ → Bool) (c : ℕ) (xs : List ℕ) → p c ≡ false → filter p (lasts (xs ++ c ∷ [])) ≡ filter p (lasts xs)
 lasts_without p c xs f = ap (filter p) (lasts_push xs c) ∙ filter-append p (filter (λ x. not (x == c)) (lasts xs)) (c ∷ [])
-    ∙ ap (λ l. filter p (filter (λ x. not (x == c)) (lasts xs)) ++ l) (filter_no p c [] f) ∙ append-nil (filter p (filter (λ x. not (x == c)) (lasts xs)))
-    ∙ sym (filter_both (λ x. not (x == c)) p (lasts xs)) ∙ filter_named (λ x. not (x == c) && p x) p (lasts xs) (λ x h. elim (cases_eq x c) [
+    ∙ ap (λ l. filter p (filter (λ x. not (x == c)) (lasts xs)) ++ l) (filter_no p c [] f) ∙
+    append-nil (filter p (filter (λ x. not (x == c)) (lasts xs)))
+    ∙ sym (filter_both (λ x. not (x == c)) p (lasts xs)) ∙ filter_named (λ x. not (x == c) && p x) p (lasts xs)
+    (λ x h. elim (cases_eq x c) [
       | inl e ↦ (let q : p x ≡ false = ap p e ∙ f in ap (λ b. not (x == c) && b) q ∙ and-false (not (x == c)) ∙ sym q)
       | inr n ↦ ap (λ b. not b && p x) (ne_eqb x c n)
     ])
@@ -194,18 +213,23 @@ module _ {A : Type 0} (size bound : List ℕ) (old mid : List (Vec ℕ A)) (befo
   chosen_pivot =
       let live = live_in size bound least (list_at mid least) in
       choose_pivot bound_of placed least c (filter (λ x. not (x == c)) (lasts live)) least_low
-      (sym (stands least) ∙ ap lasts (popped_live size bound least (list_at old least) (list_at mid least) c chosen.popped) ∙ lasts_push live c)
+      (sym (stands least) ∙ ap lasts (popped_live size bound least (list_at old least) (list_at mid least) c chosen.popped) ∙
+      lasts_push live c)
 
   -- the class apart, the classes of each bound stay
-  pub chosen_rest : (p : ℕ → Bool) → p c ≡ false → (b : ℕ) → filter p (lasts (live_in size bound b (list_at mid b))) ≡ filter p (lasts (live_in size bound b (list_at old b)))
+  pub chosen_rest : (p : ℕ → Bool) → p c ≡ false → (b : ℕ) →
+      filter p (lasts (live_in size bound b (list_at mid b))) ≡ filter p (lasts (live_in size bound b (list_at old b)))
   chosen_rest p f b = elim (cases_order b least) [
-    | inl e ↦ subst (λ a. filter p (lasts (live_in size bound a (list_at mid a))) ≡ filter p (lasts (live_in size bound a (list_at old a)))) (sym e)
-        (sym (ap (λ l. filter p (lasts l)) (popped_live size bound least (list_at old least) (list_at mid least) c chosen.popped) ∙ lasts_without p c (live_in size bound least (list_at mid least)) f))
+    | inl e ↦ subst (λ a. filter p (lasts (live_in size bound a (list_at mid a))) ≡ filter p (lasts (live_in size bound a (list_at old a))))
+        (sym e)
+        (sym (ap (λ l. filter p (lasts l)) (popped_live size bound least (list_at old least) (list_at mid least) c chosen.popped) ∙
+        lasts_without p c (live_in size bound least (list_at mid least)) f))
     | inr k ↦ elim k [
       | inr l ↦ ap (λ l. filter p (lasts (live_in size bound b l))) (chosen.others b (inr l))
       | inl l ↦ elim (cases_lt b before) [
         | inl m ↦ ap (λ l. filter p (lasts (live_in size bound b l))) (chosen.others b (inl m))
-        | inr m ↦ (let both = chosen.lower b m l in ap (λ l. filter p (lasts (live_in size bound b l))) both.0 ∙ sym (ap (λ l. filter p (lasts l)) both.1))
+        | inr m ↦ (let both = chosen.lower b m l in ap (λ l. filter p (lasts (live_in size bound b l))) both.0 ∙
+            sym (ap (λ l. filter p (lasts l)) both.1))
       ]
     ]
   ]
@@ -236,11 +260,15 @@ module _ {A : Type 0} (size bound : List ℕ) (old mid : List (Vec ℕ A)) (befo
                 | inr k ↦ k
                 | inl k ↦ clash (or_right (x == c) (has front x) (of_front x k)) out
               ] in
-              let same : live ≡ was_live = ap (λ n. nat_lt 0 n && num bounds x == b) kept.0 ∙ ap (λ n. nat_lt 0 (num size x) && n == b) kept.1 in
-              ap (λ t. live && not t) (again_is ∙ ap (λ t. t && num bounds x == b) not_made) ∙ and-true live ∙ same ∙ sym (ap (λ t. was_live && not t) out ∙ and-true was_live))
+              let same : live ≡ was_live = ap (λ n. nat_lt 0 n && num bounds x == b) kept.0 ∙
+              ap (λ n. nat_lt 0 (num size x) && n == b) kept.1 in
+              ap (λ t. live && not t) (again_is ∙ ap (λ t. t && num bounds x == b) not_made) ∙ and-true live ∙ same ∙
+              sym (ap (λ t. was_live && not t) out ∙ and-true was_live))
           | inl inside ↦ elim (cases_Bool (has made x)) [
-            | inl k ↦ ap (λ t. live && not t) (again_is ∙ ap (λ t. t && num bounds x == b) k) ∙ and_own (nat_lt 0 (num sizes x)) (num bounds x == b) ∙ sym (ap (λ t. was_live && not t) inside ∙ and-false was_live)
-            | inr k ↦ ap (λ n. (nat_lt 0 n && num bounds x == b) && not again) (ended x inside k) ∙ sym (ap (λ t. was_live && not t) inside ∙ and-false was_live)
+            | inl k ↦ ap (λ t. live && not t) (again_is ∙ ap (λ t. t && num bounds x == b) k) ∙
+                and_own (nat_lt 0 (num sizes x)) (num bounds x == b) ∙ sym (ap (λ t. was_live && not t) inside ∙ and-false was_live)
+            | inr k ↦ ap (λ n. (nat_lt 0 n && num bounds x == b) && not again) (ended x inside k) ∙
+                sym (ap (λ t. was_live && not t) inside ∙ and-false was_live)
           ]
         ]
       where
@@ -250,7 +278,8 @@ module _ {A : Type 0} (size bound : List ℕ) (old mid : List (Vec ℕ A)) (befo
         and_own false b = refl
 
     -- the lists of the classes by bound stand for the new order of placing
-    pub bucket_step : (b : ℕ) → lasts (live_in sizes bounds b (list_at new b)) ≡ filter (λ i. bound_after i == b) (filter (λ i. not (i == c || has front i)) placed ++ made)
+    pub bucket_step : (b : ℕ) → lasts (live_in sizes bounds b (list_at new b)) ≡ filter (λ i. bound_after i == b)
+        (filter (λ i. not (i == c || has front i)) placed ++ made)
     bucket_step b =
         let live = λ (x : ℕ). nat_lt 0 (num sizes x) && num bounds x == b in
         let was_live = λ (x : ℕ). nat_lt 0 (num size x) && num bound x == b in
@@ -259,8 +288,10 @@ module _ {A : Type 0} (size bound : List ℕ) (old mid : List (Vec ℕ A)) (befo
         let before_list : List ℕ = list_at mid b in
         -- those that are placed again
         let again_live : filter live again ≡ again = sym (filter_both (λ i. num bounds i == b) live made)
-        ∙ filter_named (λ x. num bounds x == b && live x) (λ i. num bounds i == b) made (λ x h. and_same (nat_lt 0 (num sizes x)) (num bounds x == b) (lt-ltb 0 (num sizes x) (made_live x h))) in
-        let again_after : again ≡ filter (λ i. bound_after i == b) made = filter_named (λ i. num bounds i == b) (λ i. bound_after i == b) made
+        ∙ filter_named (λ x. num bounds x == b && live x) (λ i. num bounds i == b) made
+        (λ x h. and_same (nat_lt 0 (num sizes x)) (num bounds x == b) (lt-ltb 0 (num sizes x) (made_live x h))) in
+        let again_after : again ≡ filter (λ i. bound_after i == b) made =
+        filter_named (λ i. num bounds i == b) (λ i. bound_after i == b) made
         (λ x h. ap (λ n. n == b) (sym (after_is x (has_right x (filter other placed) made h)))) in
         -- the others
         let other_c : other c ≡ false = ap not (or_left (c == c) (has front c) (eq-eqb c c refl)) in
@@ -271,9 +302,11 @@ module _ {A : Type 0} (size bound : List ℕ) (old mid : List (Vec ℕ A)) (befo
         ∙ chosen_rest other other_c b ∙ ap (filter other) (stands b) in
         let rest_after : filter other (filter (λ i. bound_of i == b) placed) ≡ filter (λ i. bound_after i == b) (filter other placed) =
         filters_on other (λ i. bound_of i == b) (λ i. bound_after i == b) other placed (λ x h. agree b x h) in
-        ap (λ l. lasts (filter live l)) (placing b) ∙ ap lasts (filter-append live before_list again ∙ ap (λ l. filter live before_list ++ l) again_live)
+        ap (λ l. lasts (filter live l)) (placing b) ∙ ap lasts
+        (filter-append live before_list again ∙ ap (λ l. filter live before_list ++ l) again_live)
         ∙ lasts_append (filter live before_list) again
-        ∙ ap (λ l. filter (λ x. not (has again x)) (lasts (filter live before_list)) ++ l) (lasts_once again (once_filter (λ i. num bounds i == b) made made_once) ∙ again_after)
+        ∙ ap (λ l. filter (λ x. not (has again x)) (lasts (filter live before_list)) ++ l)
+        (lasts_once again (once_filter (λ i. num bounds i == b) made made_once) ∙ again_after)
         ∙ ap (λ l. l ++ filter (λ i. bound_after i == b) made) (rest ∙ rest_after)
         ∙ sym (filter-append (λ i. bound_after i == b) (filter other placed) made)
       where
@@ -282,12 +315,16 @@ module _ {A : Type 0} (size bound : List ℕ) (old mid : List (Vec ℕ A)) (befo
         and_same true false h = refl
         and_same false b h = absurd (false≢true h)
 
-        agree : (b x : ℕ) → has placed x ≡ true → (bound_of x == b && not (x == c || has front x)) ≡ (not (x == c || has front x) && bound_after x == b)
+        agree : (b x : ℕ) → has placed x ≡ true → (bound_of x == b && not (x == c || has front x)) ≡
+            (not (x == c || has front x) && bound_after x == b)
         agree b x h = elim (cases_Bool (x == c || has front x)) [
-          | inl inside ↦ ap (λ t. bound_of x == b && not t) inside ∙ and-false (bound_of x == b) ∙ sym (ap (λ t. not t && bound_after x == b) inside)
+          | inl inside ↦ ap (λ t. bound_of x == b && not t) inside ∙ and-false (bound_of x == b) ∙
+              sym (ap (λ t. not t && bound_after x == b) inside)
           | inr out ↦ (
               let other = λ (i : ℕ). not (i == c || has front i) in
               let stays : has (filter other placed) x ≡ true = filter_has other placed x h (ap not out) in
-              let same : bound_of x ≡ bound_after x = bound_is x h ∙ sym (stay x out).1 ∙ sym (after_is x (has_left x (filter other placed) made stays)) in
-              ap (λ t. bound_of x == b && not t) out ∙ and-true (bound_of x == b) ∙ ap (λ n. n == b) same ∙ sym (ap (λ t. not t && bound_after x == b) out))
+              let same : bound_of x ≡ bound_after x = bound_is x h ∙ sym (stay x out).1 ∙
+              sym (after_is x (has_left x (filter other placed) made stays)) in
+              ap (λ t. bound_of x == b && not t) out ∙ and-true (bound_of x == b) ∙ ap (λ n. n == b) same ∙
+              sym (ap (λ t. not t && bound_after x == b) out))
         ]

@@ -1,9 +1,10 @@
 -- What the parts of an absorption make together.
-use Rattle.std.proofs.Common.{ℕ, Bool, true, false, List, ◌≡◌, ◌<◌, ◌&&◌, ◌||◌, not, cond, inl, inr, refl, ◌∙◌, length, set, get_or-set_same, get_or-set_other}
+use Rattle.std.proofs.Common.{ℕ, Bool, true, false, List, ◌≡◌, ◌<◌, ◌&&◌, ◌||◌, not, cond, inl, inr, refl, ◌∙◌, length, set}
+use Rattle.std.proofs.Common.{get_or-set_same, get_or-set_other}
 use Rattle.std.specs.Prelude.{Vec, flat_map, ◌==◌}
 use Rattle.std.proofs.lemmas.Bool.{true≢false, false≢true, cases_eq, ne_eqb}
-use Rattle.amd_model.specs.Tie.{has}
-use Rattle.amd_model.proofs.TieLists.{flat_gives}
+use Rattle.amd_model.specs.Quotient.{has}
+use Rattle.amd_model.proofs.Quotient.Lists.{flat_gives}
 use Rattle.amd_rounds.specs.Views.{at, list_at, Below, ListsBelow, Clear}
 use Rattle.amd_rounds.specs.Rounds.{firsts}
 use Rattle.amd_views.proofs.Lists.Named.{below_from, below_gives}
@@ -11,7 +12,8 @@ use Rattle.amd_views.proofs.Fronts.Gathered.{firsts_gives}
 use Rattle.amd_rounds.proofs.ListPlaces.{list_below}
 
 -- what is gathered from lists of numbers below n is below n
-pub touched_below : {A : Type 0} (n : ℕ) (lists : List (Vec ℕ A)) (skip : ℕ → Bool) (front touched : List ℕ) → ListsBelow n lists → touched ≡ firsts skip (flat_map (list_at lists) front) → Below n touched
+pub touched_below : {A : Type 0} (n : ℕ) (lists : List (Vec ℕ A)) (skip : ℕ → Bool) (front touched : List ℕ) → ListsBelow n lists →
+    touched ≡ firsts skip (flat_map (list_at lists) front) → Below n touched
 touched_below n lists skip front touched below is = below_from n touched (λ x h.
     let from = flat_gives (list_at lists) front x (firsts_gives skip (flat_map (list_at lists) front) touched is x h).0 in
     below_gives n (list_at lists from.0) (list_below n lists below from.0) x from.2)
@@ -50,7 +52,8 @@ cleared_is false true false = refl
 cleared_is false false stays = refl
 
 -- the marks of a pivot and of a list are clear when both are cleared
-pub pivot_cleared : (marks : List Bool) (c : ℕ) (front : List ℕ) → c < length marks → ((j : ℕ) → at marks j ≡ ((j == c || has front j) && not (has front j))) → Clear (set marks c false)
+pub pivot_cleared : (marks : List Bool) (c : ℕ) (front : List ℕ) → c < length marks →
+    ((j : ℕ) → at marks j ≡ ((j == c || has front j) && not (has front j))) → Clear (set marks c false)
 pivot_cleared marks c front small was j = elim (cases_eq j c) [
   | inl q ↦ rw q (get_or-set_same marks c false false small)
   | inr ne ↦ get_or-set_other marks c j false false ne ∙ was j ∙ gone (j == c) (has front j) (ne_eqb j c ne)

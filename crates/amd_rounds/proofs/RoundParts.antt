@@ -8,9 +8,9 @@ use Rattle.amd_model.specs.Figures.{cut, front_sum, entries, ldl_steps, lu_steps
 use Rattle.amd_model.specs.Graph.{Graph}
 use Rattle.amd_model.specs.State.{State, is_class}
 use Rattle.amd_model.specs.Step.{StepAt}
-use Rattle.amd_model.specs.Tie.{Tie, has, is_empty, Once, pivot, gathered, made as made_of, turned, next, round}
-use Rattle.amd_model.proofs.TieLists.{clash, once_filter, some_of}
-use Rattle.amd_model.proofs.ListingLemmas.{filter_has, has_filter as filter_gives, has_right, has_head}
+use Rattle.amd_model.specs.Quotient.{QuotientGraph, has, is_empty, Once, pivot, gathered, made as made_of, turned, next, round}
+use Rattle.amd_model.proofs.Quotient.Lists.{clash, once_filter, some_of}
+use Rattle.amd_model.proofs.Listings.Words.{filter_has, has_filter as filter_gives, has_right, has_head}
 use Rattle.amd_views.specs.Views.{View}
 use Rattle.amd_views.specs.Rounds as views
 use Rattle.amd_rounds.specs.Views.{num, some_at, list_at, Below, lists_of, view_of}
@@ -31,7 +31,8 @@ use Rattle.amd_views.proofs.Merging.Made.{made_once}
 use Rattle.amd_rounds.proofs.FrontLists.{pivot_below, front_below, front_once}
 use Rattle.amd_rounds.proofs.BucketsLaw.{has_lasts, popped_live, chosen_pivot, least_low, bucket_step}
 
-module _ {A : Type 0} (g : Graph) (dense : ℕ → Bool) (aggressive : Bool) (w : Work A) (t : Tie) (s : State) (st : Stands g dense w t s)
+module _ {A : Type 0} (g : Graph) (dense : ℕ → Bool) (aggressive : Bool) (w : Work A) (t : QuotientGraph) (s : State)
+    (st : Stands g dense w t s)
   where
     abbrev old : View
     old = view_of w
@@ -194,7 +195,8 @@ module _ {A : Type 0} (g : Graph) (dense : ℕ → Bool) (aggressive : Bool) (w 
 
         pub renew_small : (i : ℕ) → has made i ≡ true → num w2.bound.items i < length w2.size.items
         renew_small i h = let e = ap (λ v. num v.items i) (k.bound ∙ m.rows.bound) in let a : num w.bound.items i < length w.link.items =
-            st.view.keeps.small i (front_placed i (made_front i h)) in let b = rows_left in let d = st.sized.link in omega (arith, e, a, b, d)
+            st.view.keeps.small i (front_placed i (made_front i h)) in let b = rows_left in let d = st.sized.link in
+            omega (arith, e, a, b, d)
 
         pub renew_live : w2.live + block ≤ length w2.size.items
         renew_live = let a = live_parts.1 in let b = live_few in let e = rows_left in omega (arith, a, b, e)

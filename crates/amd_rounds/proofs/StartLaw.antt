@@ -1,23 +1,25 @@
 -- What the start of the plain engine fills in stands for the start of an elimination.
-use Rattle.std.proofs.Common.{ℕ, zero, suc, Bool, true, false, Option, None, Some, List, [], Vec, ◌≡◌, ◌≤◌, ◌<◌, ◌+◌, ◌∙◌, ◌&&◌, ◌||◌, not, cond, max, ap, sym, refl, subst, inl, inr, arith, length, replicate}
+use Rattle.std.proofs.Common.{ℕ, zero, suc, Bool, true, false, Option, None, Some, List, [], Vec, ◌≡◌, ◌≤◌, ◌<◌, ◌+◌, ◌∙◌, ◌&&◌, ◌||◌, not}
+use Rattle.std.proofs.Common.{cond, max, ap, sym, refl, subst, inl, inr, arith, length, replicate}
 use Rattle.std.specs.Prelude.{filter, sum_by, nat_lt, nat_eq, ◌==◌, ◌⊎◌}
 use Rattle.std.proofs.Math.Bool.{or-false, and-false, and_self}
-use Rattle.std.proofs.lemmas.Bool.{cases_Bool, cases_eq, cases_lt, cond-false, and_parts, eq-eqb, ne_eqb, eqb-true, lt-ltb, le-ltb, ltb-true}
+use Rattle.std.proofs.lemmas.Bool.{cases_Bool, cases_eq, cases_lt, cond-false, and_parts, eq-eqb, ne_eqb, eqb-true, lt-ltb, le-ltb}
+use Rattle.std.proofs.lemmas.Bool.{ltb-true}
 use Rattle.std.proofs.lemmas.List.{length-replicate, get_or-replicate, get_or_past}
 use Rattle.amd_model.specs.Below.{count_below, list_below}
 use Rattle.amd_model.specs.Graph.{Graph, IsGraph, degree}
 use Rattle.amd_model.specs.State.{State, Home, Last, Live, Gone, in_block, is_element, live, IsStart}
 use Rattle.amd_model.specs.Figures.{figure, front_sum, is_made, max_below, entries, ldl_steps, lu_steps, greatest_front, cut}
 use Rattle.amd_model.specs.Listing.{weight}
-use Rattle.amd_model.specs.Tie.{has, start_tie}
-use Rattle.amd_model.specs.TieLaws.{NamesNeighbours}
-use Rattle.amd_model.proofs.BelowLemmas.{count_same, sum_zero}
-use Rattle.amd_model.proofs.StateLemmas.{live_gives, block_gives, block_from, edge_small}
-use Rattle.amd_model.proofs.Sound.{live_small}
-use Rattle.amd_model.proofs.SoundStart.{is_last, is_empty, is_live, begins, start_sound, no_edge}
-use Rattle.amd_model.proofs.TieLists.{same_bool}
-use Rattle.amd_model.proofs.TieStart.{has_below, once_below, start_fits}
-use Rattle.amd_model.proofs.TieSums.{sum_one, sum_over}
+use Rattle.amd_model.specs.Quotient.{has, start_tie}
+use Rattle.amd_model.specs.QuotientLaws.{NamesNeighbours}
+use Rattle.amd_model.proofs.Counting.Below.{count_same, sum_zero}
+use Rattle.amd_model.proofs.States.Words.{live_gives, block_gives, block_from, edge_small}
+use Rattle.amd_model.proofs.States.Sound.{live_small}
+use Rattle.amd_model.proofs.States.SoundStart.{is_last, is_empty, is_live, begins, start_sound, no_edge}
+use Rattle.amd_model.proofs.Quotient.Lists.{same_bool}
+use Rattle.amd_model.proofs.Quotient.Start.{has_below, once_below, start_fits}
+use Rattle.amd_model.proofs.Quotient.Sums.{sum_one, sum_over}
 use Rattle.amd_rounds.specs.Views.{num, some_at, list_at, live_of, view_of, Below, ListsBelow}
 use Rattle.amd_rounds.specs.Buckets.{live_in, lasts}
 use Rattle.amd_views.specs.Keeps.{Keeps, KeepsFronts}
@@ -203,7 +205,9 @@ module _ {A : Type 0} (rows : List (Vec ℕ A)) (degrees : List ℕ) (last : ℕ
       ∙ list_same g.size (λ i. p i && q i) (λ i. is_class_row i && degree g i == b) (λ i l. same_row i l)
       ∙ sym (filter_below g.size is_class_row (λ i. degree g i == b))
     where
-      same_row : (i : ℕ) → i < g.size → ((nat_lt 0 (num w.size.items i) && num degrees i == b) && (nat_lt 0 (num w.size.items i) && num w.bound.items i == b)) ≡ (is_class_row i && degree g i == b)
+      same_row : (i : ℕ) → i < g.size →
+          ((nat_lt 0 (num w.size.items i) && num degrees i == b) && (nat_lt 0 (num w.size.items i) && num w.bound.items i == b)) ≡
+          (is_class_row i && degree g i == b)
       same_row i l = ap (λ a. (a && num degrees i == b) && (a && num w.bound.items i == b)) (light i ∙ class_in i l)
           ∙ ap (λ d. (is_class_row i && d == b) && (is_class_row i && num w.bound.items i == b)) (degree_is i l)
           ∙ ap (λ d. (is_class_row i && degree g i == b) && (is_class_row i && d == b)) (bound_at i l)
@@ -232,9 +236,11 @@ module _ {A : Type 0} (rows : List (Vec ℕ A)) (degrees : List ℕ) (last : ℕ
     least = λ i h. (let e = begun.least in omega (arith, e));
     live = live_kept;
     parents = λ e. ap (λ xs. some_at xs e) begun.parent ∙ none_at (length degrees) e;
-    links = subst (λ xs. LinksLead xs (λ v. cond (dense v || not (nat_lt v g.size)) Last (cond (degree g v == 0) (Gone v) (Live v)))) (sym begun.link)
+    links = subst (λ xs. LinksLead xs (λ v. cond (dense v || not (nat_lt v g.size)) Last (cond (degree g v == 0) (Gone v) (Live v))))
+        (sym begun.link)
         (links_none (length degrees) (λ v. cond (dense v || not (nat_lt v g.size)) Last (cond (degree g v == 0) (Gone v) (Live v)))
-        (λ v. home_cases v (dense v || not (nat_lt v g.size)) (degree g v == 0) (cond (dense v || not (nat_lt v g.size)) Last (cond (degree g v == 0) (Gone v) (Live v))) refl));
+        (λ v. home_cases v (dense v || not (nat_lt v g.size)) (degree g v == 0)
+        (cond (dense v || not (nat_lt v g.size)) Last (cond (degree g v == 0) (Gone v) (Live v))) refl));
   }
 
   sized : IsSized g.size w
@@ -302,14 +308,18 @@ module _ {A : Type 0} (rows : List (Vec ℕ A)) (degrees : List ℕ) (last : ℕ
   weight_one e y = let a = block_one e y in let b = border_none e in omega (arith, a, b)
 
   -- the number of rows of the block of a row
-  block_at : (numbers : List ℕ) → Rows (length degrees) numbers (λ i. block_of (last i) (num degrees i)) → (e : ℕ) → e < g.size → num numbers e ≡ block_of (dense e) (degree g e)
-  block_at numbers is e l = is.each e (within e l) ∙ ap (λ b. block_of b (num degrees e)) (last_is e l) ∙ ap (block_of (dense e)) (degree_is e l)
+  block_at : (numbers : List ℕ) → Rows (length degrees) numbers (λ i. block_of (last i) (num degrees i)) → (e : ℕ) → e < g.size →
+      num numbers e ≡ block_of (dense e) (degree g e)
+  block_at numbers is e l = is.each e (within e l) ∙ ap (λ b. block_of b (num degrees e)) (last_is e l) ∙
+      ap (block_of (dense e)) (degree_is e l)
 
-  block_empty : (numbers : List ℕ) → Rows (length degrees) numbers (λ i. block_of (last i) (num degrees i)) → (e : ℕ) → is_element s e ≡ true → num numbers e ≡ 1
+  block_empty : (numbers : List ℕ) → Rows (length degrees) numbers (λ i. block_of (last i) (num degrees i)) → (e : ℕ) →
+      is_element s e ≡ true → num numbers e ≡ 1
   block_empty numbers is e y = let r = empty_row e y in
       block_at numbers is e r.0 ∙ ap (block_of (dense e)) r.1 ∙ ap (λ b. block_of b 0) (not_held e y)
 
-  block_none : (numbers : List ℕ) → Rows (length degrees) numbers (λ i. block_of (last i) (num degrees i)) → (e : ℕ) → is_element s e ≡ false → num numbers e ≡ 0
+  block_none : (numbers : List ℕ) → Rows (length degrees) numbers (λ i. block_of (last i) (num degrees i)) → (e : ℕ) →
+      is_element s e ≡ false → num numbers e ≡ 0
   block_none numbers is e n = elim (cases_lt e g.size) [
     | inr l ↦ past (length degrees) numbers _ is e (omega (arith, l, size_is))
     | inl l ↦ block_at numbers is e l ∙ elim (cases_Bool (dense e)) [
@@ -322,7 +332,8 @@ module _ {A : Type 0} (rows : List (Vec ℕ A)) (degrees : List ℕ) (last : ℕ
   unfolding is_made
   not_made e = elim (cases_Bool (is_element s e)) [
     | inr n ↦ ap (λ b. b && nat_lt 0 (degree g e)) n
-    | inl y ↦ ap (λ b. is_element s e && b) (le-ltb 0 (degree g e) (let z = (empty_row e y).1 in omega (arith, z))) ∙ and-false (is_element s e)
+    | inl y ↦ ap (λ b. is_element s e && b) (le-ltb 0 (degree g e) (let z = (empty_row e y).1 in omega (arith, z))) ∙
+        and-false (is_element s e)
   ]
 
   dense_count : w.n_dense ≡ count_below g.size dense
@@ -331,17 +342,23 @@ module _ {A : Type 0} (rows : List (Vec ℕ A)) (degrees : List ℕ) (last : ℕ
   figure_start : (share : ℕ → ℕ) → figure share g dense s ≡ front_sum share (count_below g.size dense) 0
   unfolding figure
   figure_start share = add_none _ (front_sum share (count_below g.size dense) 0)
-      (sum_zero g.size (λ e. cond (is_made g s e) (front_sum share (count_below g.size (in_block s e)) (count_below g.size (s.border e) + count_below g.size dense)) 0)
-      (λ e l. cond-false (is_made g s e) (front_sum share (count_below g.size (in_block s e)) (count_below g.size (s.border e) + count_below g.size dense)) 0 (not_made e)))
+      (sum_zero g.size (λ e.
+      cond (is_made g s e) (front_sum share (count_below g.size (in_block s e))
+      (count_below g.size (s.border e) + count_below g.size dense)) 0)
+      (λ e l. cond-false (is_made g s e) (front_sum share (count_below g.size (in_block s e))
+      (count_below g.size (s.border e) + count_below g.size dense)) 0 (not_made e)))
 
   figure_kept : (share : ℕ → ℕ) (x : ℕ) → x ≡ cut (0 + front_sum share w.n_dense 0) → x ≡ cut (figure share g dense s)
-  figure_kept share x e = e ∙ ap cut (add_none 0 (front_sum share w.n_dense 0) refl ∙ ap (λ n. front_sum share n 0) dense_count ∙ sym (figure_start share))
+  figure_kept share x e = e ∙ ap cut (add_none 0 (front_sum share w.n_dense 0) refl ∙ ap (λ n. front_sum share n 0) dense_count ∙
+      sym (figure_start share))
 
   greatest_kept : w.figures.d_max ≡ greatest_front g dense s
   unfolding greatest_front
   greatest_kept =
       let e = begun.greatest in let d = dense_count in
-      let none = max_none g.size (is_made g s) (λ e. count_below g.size (in_block s e) + (count_below g.size (s.border e) + count_below g.size dense)) (max 1 (count_below g.size dense)) not_made in
+      let none = max_none g.size (is_made g s)
+      (λ e. count_below g.size (in_block s e) + (count_below g.size (s.border e) + count_below g.size dense))
+      (max 1 (count_below g.size dense)) not_made in
       let is : w.figures.d_max ≡ max 1 (count_below g.size dense) = omega (arith, e, d) in
       is ∙ sym none
 

@@ -1,5 +1,6 @@
 -- Lists and counts that are filled row by row, from which an elimination starts.
-use Rattle.std.proofs.Common.{ℕ, zero, suc, Bool, true, false, ◌≡◌, ◌<◌, ◌+◌, ◌&&◌, cond, inl, inr, refl, sym, ◌∙◌, ap, subst, arith, add-one, List, [], ◌∷◌, ◌++◌, Vec, map, length, get_or, set, replicate}
+use Rattle.std.proofs.Common.{ℕ, zero, suc, Bool, true, false, ◌≡◌, ◌<◌, ◌+◌, ◌&&◌, cond, inl, inr, refl, sym, ◌∙◌, ap, subst, arith}
+use Rattle.std.proofs.Common.{add-one, List, [], ◌∷◌, ◌++◌, Vec, map, length, get_or, set, replicate}
 use Rattle.std.specs.Prelude.{filter, ◌==◌}
 use Rattle.std.proofs.lemmas.Bool.{cases_eq, cases_lt, eq-eqb, ne_eqb, cond-true, cond-false}
 use Rattle.std.proofs.lemmas.List.{append-nil, length-map, length_push, length-replicate, get_or-replicate, get_or_past}
@@ -51,10 +52,12 @@ filter_below (suc n) p q = filter-append q (list_below n p) (cond (p n) (n ∷ [
     one false = refl
 
 -- an empty list more
-pub empty_push : {A : Type 0} (lists : List (Vec ℕ A)) (v : Vec ℕ A) → ((i : ℕ) → list_at lists i ≡ []) → v.items ≡ [] → (i : ℕ) → list_at (lists ++ v ∷ []) i ≡ []
+pub empty_push : {A : Type 0} (lists : List (Vec ℕ A)) (v : Vec ℕ A) → ((i : ℕ) → list_at lists i ≡ []) → v.items ≡ [] → (i : ℕ) →
+    list_at (lists ++ v ∷ []) i ≡ []
 empty_push {A} lists v empty is i = elim (cases_lt i (length lists + 1)) [
   | inl l ↦ empty_more (Vec ℕ A) (λ w. w.items) lists v (length lists) refl i l (λ k h. empty k) is
-  | inr l ↦ get_or_past (map (λ w. w.items) (lists ++ v ∷ [])) i [] (let m = length-map (lists ++ v ∷ []) (λ (w : Vec ℕ A). w.items) in let p = length_push lists v in omega (arith, m, p, l))
+  | inr l ↦ get_or_past (map (λ w. w.items) (lists ++ v ∷ [])) i [] (let m = length-map (lists ++ v ∷ []) (λ (w : Vec ℕ A). w.items) in
+      let p = length_push lists v in omega (arith, m, p, l))
 ]
 
 -- one value at each of n places
@@ -72,13 +75,15 @@ marks_clear n marks h = (
 )
 
 -- a row more is placed
-module _ {A : Type 0} (n : ℕ) (lists : List (Vec ℕ A)) (bound : ℕ → ℕ) (light : ℕ → Bool) (i : ℕ) (was : (b : ℕ) → list_at lists b ≡ list_below i (λ j. light j && bound j == b)) where
+module _ {A : Type 0} (n : ℕ) (lists : List (Vec ℕ A)) (bound : ℕ → ℕ) (light : ℕ → Bool) (i : ℕ)
+    (was : (b : ℕ) → list_at lists b ≡ list_below i (λ j. light j && bound j == b)) where
   -- a row that is no class is passed over
   pub placed_no : light i ≡ false → (b : ℕ) → list_at lists b ≡ list_below (i + 1) (λ j. light j && bound j == b)
   placed_no h b = was b ∙ sym (list_no (λ j. light j && bound j == b) i (ap (λ a. a && bound i == b) h))
 
   -- a class is placed under its bound
-  module _ (v : Vec ℕ A) (here : bound i < length lists) (is : v ≡ get_or lists (bound i) v) (w : Vec ℕ A) (pushed : w.items ≡ v.items ++ i ∷ []) where
+  module _ (v : Vec ℕ A) (here : bound i < length lists) (is : v ≡ get_or lists (bound i) v) (w : Vec ℕ A)
+      (pushed : w.items ≡ v.items ++ i ∷ []) where
     old : v.items ≡ list_at lists (bound i)
     old = sym (list_read lists (bound i) v here is)
 
@@ -87,8 +92,10 @@ module _ {A : Type 0} (n : ℕ) (lists : List (Vec ℕ A)) (bound : ℕ → ℕ)
       | inl e ↦ ap (list_at (set lists (bound i) w)) e ∙ list_set_same lists (bound i) w here
           ∙ pushed ∙ ap (λ ys. ys ++ i ∷ []) (old ∙ ap (list_at lists) (sym e) ∙ was b)
           ∙ sym (list_yes (λ j. light j && bound j == b) i (ap (λ a. a && bound i == b) h ∙ eq-eqb (bound i) b (sym e)))
-      | inr ne ↦ list_set_other lists (bound i) w b ne ∙ was b ∙ sym (list_no (λ j. light j && bound j == b) i (ap (λ a. a && bound i == b) h ∙ ne_eqb (bound i) b (λ q. ne (sym q))))
+      | inr ne ↦ list_set_other lists (bound i) w b ne ∙ was b ∙
+          sym (list_no (λ j. light j && bound j == b) i (ap (λ a. a && bound i == b) h ∙ ne_eqb (bound i) b (λ q. ne (sym q))))
     ]
 
     pub range_yes : ListsBelow n lists → i < n → ListsBelow n (set lists (bound i) w)
-    range_yes r l = lists_set n lists (bound i) w r (subst (Below n) (sym pushed) (All-push (λ j. j < n) v.items i (subst (λ u. Below n u.items) (sym is) (r.1 (bound i) v here)) l))
+    range_yes r l = lists_set n lists (bound i) w r
+        (subst (Below n) (sym pushed) (All-push (λ j. j < n) v.items i (subst (λ u. Below n u.items) (sym is) (r.1 (bound i) v here)) l))

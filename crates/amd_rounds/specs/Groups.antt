@@ -1,6 +1,7 @@
 -- The groups in which classes alike are looked for.
-use Rattle.std.specs.Prelude.{ℕ, true, false, Option, None, Some, List, [], ◌∷◌, ◌++◌, Vec, ◌≡◌, ◌+◌, ◌%◌, ◌^◌, ◌==◌, ◌⊎◌, cond, length, sum_by}
-use Rattle.amd_model.specs.Tie.{has}
+use Rattle.std.specs.Prelude.{ℕ, true, false, Option, None, Some, List, [], ◌∷◌, ◌++◌, Vec, ◌≡◌, ◌+◌, ◌%◌, ◌^◌, ◌==◌, ◌⊎◌, cond, length}
+use Rattle.std.specs.Prelude.{sum_by}
+use Rattle.amd_model.specs.Quotient.{has}
 use Rattle.amd_rounds.specs.Views.{list_at, ListsBelow, Clear}
 use Rattle.amd_rounds.specs.Rounds.{alike_in}
 use Rattle.amd_rounds.specs.declared.work.Scratch.{Scratch}

@@ -5,7 +5,7 @@ use Rattle.amd_model.specs.State.{State, Home, live}
 use Rattle.amd_model.specs.Step.{StepAt}
 use Rattle.amd_model.specs.Run.{last_state}
 use Rattle.amd_model.specs.Ordering.{Follows}
-use Rattle.amd_model.specs.Tie.{Tie, is_empty, pivot, next}
+use Rattle.amd_model.specs.Quotient.{QuotientGraph, is_empty, pivot, next}
 use Rattle.amd_views.specs.Keeps as views
 use Rattle.amd_rounds.specs.Views.{some_at, list_at, view_of, ListsBelow, Clear}
 use Rattle.amd_rounds.specs.Buckets.{live_in, lasts}
@@ -42,7 +42,7 @@ abbrev pub LinksLead : List (Option ℕ) → (ℕ → Home) → Type 0
 LinksLead links home = views.LinksLead (length links) (some_at links) home
 
 -- the record keeps the lists t, which stand for the sound state s of an elimination of the graph
-pub record Stands {A : Type 0} (g : Graph) (dense : ℕ → Bool) (w : Work A) (t : Tie) (s : State) : Type 0 where
+pub record Stands {A : Type 0} (g : Graph) (dense : ℕ → Bool) (w : Work A) (t : QuotientGraph) (s : State) : Type 0 where
   pub view : views.Stands g dense (view_of w) t s
   pub sized : IsSized g.size w
   -- the classes of each bound, each at its last place
@@ -51,15 +51,15 @@ pub record Stands {A : Type 0} (g : Graph) (dense : ℕ → Bool) (w : Work A) (
 -- whatever lists and state the old record stands for, the new one stands for the lists of the next round, and for a state that the
 -- step with the pivot of the rules leads to
 abbrev pub IsRound : {A : Type 0} → Bool → Work A → Work A → Type 0
-IsRound aggressive old new = (g : Graph) (dense : ℕ → Bool) (t : Tie) (s : State) → Stands g dense old t s →
+IsRound aggressive old new = (g : Graph) (dense : ℕ → Bool) (t : QuotientGraph) (s : State) → Stands g dense old t s →
     (is_empty t.placed ≡ false) × ((u : State) × StepAt g aggressive (pivot t.bound t.placed) s u
     × Stands g dense new (next aggressive t) u)
 
 -- whatever lists and state the old record stands for, the new one stands for lists and a state some rounds later
 abbrev pub AreRounds : {A : Type 0} → Bool → Work A → Work A → Type 0
-AreRounds aggressive old new = (g : Graph) (dense : ℕ → Bool) (t : Tie) (s : State) → Stands g dense old t s →
-    (u : Tie) × ((states : List State) × Follows g aggressive t s states u × Stands g dense new u (last_state s states))
+AreRounds aggressive old new = (g : Graph) (dense : ℕ → Bool) (t : QuotientGraph) (s : State) → Stands g dense old t s →
+    (u : QuotientGraph) × ((states : List State) × Follows g aggressive t s states u × Stands g dense new u (last_state s states))
 
 -- no row is live in any state that the record stands for
 abbrev pub NoRowIsLive : {A : Type 0} → Work A → Type 0
-NoRowIsLive w = (g : Graph) (dense : ℕ → Bool) (t : Tie) (s : State) → Stands g dense w t s → (v : ℕ) → live s v ≡ false
+NoRowIsLive w = (g : Graph) (dense : ℕ → Bool) (t : QuotientGraph) (s : State) → Stands g dense w t s → (v : ℕ) → live s v ≡ false

@@ -1,7 +1,7 @@
 -- What the parts of a round do to the lists of the plain engine, which are vectors: what they do to lists as functions stands in the
 -- crate amd_views.
 use Rattle.std.specs.Prelude.{ℕ, Bool, false, Option, List, Vec, ◌≡◌}
-use Rattle.amd_model.specs.Tie.{has}
+use Rattle.amd_model.specs.Quotient.{has}
 use Rattle.amd_views.specs.Rounds as views
 pub use Rattle.amd_views.specs.Rounds.{firsts, less}
 use Rattle.amd_rounds.specs.Views.{num, some_at, list_at, lists_of}

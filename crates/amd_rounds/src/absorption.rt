@@ -4,7 +4,7 @@
 // Source: Amestoy, Davis and Duff 1996 (element absorption, aggressive absorption, mass elimination). Called by `rounds`.
 
 ghost use Rattle.std.specs.Prelude.{[], ◌≡◌, ◌<◌, ◌^◌, ◌||◌, ◌&&◌, ◌==◌, ◌-◌, not, cond, nat_eq, nat_lt, ℕ, Some, true, false, filter, length, sum_by, OnOk, IfOk};
-ghost use Rattle.amd_model.specs.Tie.{has, Once};
+ghost use Rattle.amd_model.specs.Quotient.{has, Once};
 ghost use Rattle.amd_rounds.specs.Views.{num, at, some_at, list_at, Below, ListsBelow, Clear};
 ghost use Rattle.amd_rounds.specs.Rounds.{keeps_none, less, rows_left, Absorbed};
 ghost use Rattle.amd_rounds.specs.Keeps.{IsIdle};

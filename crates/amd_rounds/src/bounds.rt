@@ -3,7 +3,7 @@
 
 ghost use Rattle.std.specs.Prelude.{◌≡◌, ◌<◌, ◌^◌, ◌≤◌, ◌+◌, ◌∷◌, cond, ℕ, true, length, sum_by, OnOk};
 ghost use Rattle.amd_model.specs.Figures.{cut};
-ghost use Rattle.amd_model.specs.Tie.{has, turned, Once};
+ghost use Rattle.amd_model.specs.Quotient.{has, turned, Once};
 ghost use Rattle.amd_rounds.specs.Views.{num, list_at, Below, ListsBelow};
 ghost use Rattle.amd_rounds.specs.Rounds.{bound_after};
 

@@ -3,7 +3,7 @@
 // Called by `rounds`.
 
 ghost use Rattle.std.specs.Prelude.{◌≡◌, ◌<◌, ◌≤◌, ◌⊎◌, ◌++◌, ◌==◌, ℕ, true, filter, length, OnOk};
-ghost use Rattle.amd_model.specs.Tie.{has};
+ghost use Rattle.amd_model.specs.Quotient.{has};
 ghost use Rattle.amd_rounds.specs.Views.{num, list_at, Below, ListsBelow};
 ghost use Rattle.amd_rounds.specs.Buckets.{live_in, Popped, Chosen};
 

@@ -2,7 +2,7 @@
 // at its first occurrence. Source: Amestoy, Davis and Duff 1996. Called by `rounds`, `absorption` and `merging`.
 
 ghost use Rattle.std.specs.Prelude.{◌≡◌, ◌<◌, ◌||◌, ◌&&◌, ◌==◌, ◌++◌, not, ℕ, true, false, fold, flat_map, length, OnOk, IfOk};
-ghost use Rattle.amd_model.specs.Tie.{add_new, has};
+ghost use Rattle.amd_model.specs.Quotient.{add_new, has};
 ghost use Rattle.amd_rounds.specs.Views.{at, live_of, list_at, Below, ListsBelow, Clear};
 ghost use Rattle.amd_rounds.specs.Rounds.{firsts};
 

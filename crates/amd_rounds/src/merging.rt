@@ -4,7 +4,7 @@
 // Source: Amestoy, Davis and Duff 1996 (supervariables, found by a hash function). Called by `rounds`.
 
 ghost use Rattle.std.specs.Prelude.{[], ◌≡◌, ◌≢◌, ◌<◌, ◌^◌, ◌&&◌, ◌==◌, not, cond, ℕ, Some, true, filter, length, sum_by, OnOk, IfOk};
-ghost use Rattle.amd_model.specs.Tie.{has, each, Once, last_that};
+ghost use Rattle.amd_model.specs.Quotient.{has, each, Once, last_that};
 ghost use Rattle.amd_rounds.specs.Views.{num, at, some_at, list_at, Below, ListsBelow, Clear};
 ghost use Rattle.amd_rounds.specs.Rounds.{alike_in};
 ghost use Rattle.amd_rounds.specs.Keeps.{IsIdle};

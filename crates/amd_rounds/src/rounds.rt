@@ -7,7 +7,7 @@
 ghost use Rattle.std.specs.Prelude.{◌≡◌, ◌<◌, ◌≤◌, ◌+◌, ◌^◌, ℕ, Bool, true, length, sum_by, IfOk, OnOk};
 ghost use Rattle.amd_model.specs.Graph.{Graph};
 ghost use Rattle.amd_model.specs.State.{State};
-ghost use Rattle.amd_model.specs.Tie.{Tie, has, Once};
+ghost use Rattle.amd_model.specs.Quotient.{QuotientGraph, has, Once};
 ghost use Rattle.amd_rounds.specs.Views.{num, list_at, Below};
 ghost use Rattle.amd_rounds.specs.Buckets.{live_in};
 ghost use Rattle.amd_rounds.specs.Parts.{MakesElement, MergesClasses, RenewsClasses};
@@ -131,7 +131,7 @@ fn renew_classes<A: Allocator + Copy>(
 /// `AllocError` for a refused request. What the record then holds is not said.
 #[tactic(none)]
 pub fn round<A: Allocator + Copy>(work: &mut Work<A>, control: &Control) -> Result<(), AllocError>
-    requires stands { (g : Graph) × (dense : ℕ → Bool) × (t : Tie) × (s : State) × Stands g dense work.old t s }
+    requires stands { (g : Graph) × (dense : ℕ → Bool) × (t : QuotientGraph) × (s : State) × Stands g dense work.old t s }
     requires left { 0 < work.old.live }
     ensures round { OnOk result (IsRound control.now.aggressive work.old work.new) }
     ensures fewer { OnOk result (work.new.live < work.old.live) }
@@ -151,7 +151,7 @@ pub fn eliminate<A: Allocator + Copy>(
     work: &mut Work<A>,
     control: &Control,
 ) -> Result<(), AllocError>
-    requires stands { (g : Graph) × (dense : ℕ → Bool) × (t : Tie) × (s : State) × Stands g dense work.old t s }
+    requires stands { (g : Graph) × (dense : ℕ → Bool) × (t : QuotientGraph) × (s : State) × Stands g dense work.old t s }
     ensures rounds { OnOk result (AreRounds control.now.aggressive work.old work.new) }
     ensures end { OnOk result (NoRowIsLive work.new) }
 {

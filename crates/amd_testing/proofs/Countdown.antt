@@ -8,7 +8,8 @@ use prog.Memory.{Memory}
 use prog.Routine.{Routine}
 use types.Logic.{Logic, sem}
 use contract.Monad.{Fun}
-use types.Kit.{‵, ◌⊛◌, some, later, ◌$◌, ◌∵◌, !, qed, move, keep, use1, split, join, pick, fjoin, feq_i, feq_l, check, await, updating, show, now as at_once, done}
+use types.Kit.{‵, ◌⊛◌, some, later, ◌$◌, ◌∵◌, !, qed, move, keep, use1, split, join, pick, fjoin, feq_i, feq_l, check, await, updating}
+use types.Kit.{show, now as at_once, done}
 use denote.RattleType.{RattleType}
 use denote.Memory.{hidden_shr}
 use denote.Builtin.{u64, bool}
@@ -35,14 +36,19 @@ module _ {M : Type 1} {𝓤 : Ura M} (𝓛 : Logic 𝓤) (at_mem : Memory → SP
   open 𝓛 use {H, A}
 
   -- what it needs: the counter, lent, and the lifetime
-  pub CountsDown-goes : ent 𝓤 (sep 𝓤 (sem 𝓛 (hidden_shr Counter κ (record { value = tt }) c.0 c.1)) (A.lft κ q)) ((CountsDown 𝓛 at_mem run).pre (at_counts_down 𝓛 at_mem run κ q c))
+  pub CountsDown-goes : ent 𝓤 (sep 𝓤 (sem 𝓛 (hidden_shr Counter κ (record { value = tt }) c.0 c.1)) (A.lft κ q))
+      ((CountsDown 𝓛 at_mem run).pre (at_counts_down 𝓛 at_mem run κ q c))
   CountsDown-goes =
-      qed 𝓛 (‵ (hidden_shr Counter κ (record { value = tt }) c.0 c.1) ∷ ‵ (flft κ q) ∷ []) ∵ feq_i ! (List Val) (vptr c.0 c.1 ∷ []) (vptr c.0 c.1 ∷ []) refl $ fjoin ! $
+      qed 𝓛 (‵ (hidden_shr Counter κ (record { value = tt }) c.0 c.1) ∷ ‵ (flft κ q) ∷ []) ∵ feq_i ! (List Val) (vptr c.0 c.1 ∷ [])
+      (vptr c.0 c.1 ∷ []) refl $ fjoin ! $
       nothing ! $ move ! (1 ∷ []) $ fjoin ! $ nothing ! $ move ! (2 ∷ []) $ join ! $ join ! $ nothing ! $ move ! (1 ∷ []) $ done !
 
   -- what it gives: a truth value, and the lifetime back
-  pub CountsDown-gives : (v : Val) → ent 𝓤 ((CountsDown 𝓛 at_mem run).post (at_counts_down 𝓛 at_mem run κ q c) v) (H.⇛ (ex 𝓤 (λ (r : Bool). guard 𝓤 (v ≡ vbool r) (A.lft κ q))))
+  pub CountsDown-gives : (v : Val) → ent 𝓤 ((CountsDown 𝓛 at_mem run).post (at_counts_down 𝓛 at_mem run κ q c) v)
+      (H.⇛ (ex 𝓤 (λ (r : Bool). guard 𝓤 (v ≡ vbool r) (A.lft κ q))))
   CountsDown-gives v =
       qed 𝓛 (types.Kit.raw ((CountsDown 𝓛 at_mem run).post (at_counts_down 𝓛 at_mem run κ q c) v) ∷ []) ∵ updating ! $
-      use1 𝓛 (later (some (λ (r : Bool). ((‵ (flft κ q) ⊛ ‵ ftrue) ⊛ ‵ (bool.own_val r (v ∷ []))) ⊛ some (λ (ws : Unit {0} × Unit {0}). ‵ (fsep ftrue ftrue) ⊛ ‵ ftrue)))) (id⊢ 𝓤 _) $ await ! tt $ pick ! (λ r.
-      split ! $ split ! $ move ! (1 ∷ []) $ feq_l ! (λ e. split ! $ at_once ! $ show ! (λ (r : Bool). guard 𝓤 (v ≡ vbool r) (A.lft κ q)) r $ check ! (ap only e) $ keep ! (0 ∷ []) $ done !))
+      use1 𝓛 (later (some (λ (r : Bool). ((‵ (flft κ q) ⊛ ‵ ftrue) ⊛ ‵ (bool.own_val r (v ∷ []))) ⊛ some
+      (λ (ws : Unit {0} × Unit {0}). ‵ (fsep ftrue ftrue) ⊛ ‵ ftrue)))) (id⊢ 𝓤 _) $ await ! tt $ pick ! (λ r.
+      split ! $ split ! $ move ! (1 ∷ []) $ feq_l ! (λ e. split ! $ at_once ! $ show ! (λ (r : Bool). guard 𝓤 (v ≡ vbool r) (A.lft κ q))
+      r $ check ! (ap only e) $ keep ! (0 ∷ []) $ done !))

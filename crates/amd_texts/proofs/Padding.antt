@@ -1,5 +1,6 @@
 -- A label that is filled up to a width.
-use Rattle.std.proofs.Common.{◌≡◌, ◌-◌, ◌^◌, ◌<◌, ◌≤◌, ◌++◌, ◌&&◌, ℕ, zero, suc, Bool, true, false, List, [], ◌∷◌, length, replicate, refl, ap, arith, append_assoc, subst}
+use Rattle.std.proofs.Common.{◌≡◌, ◌-◌, ◌^◌, ◌<◌, ◌≤◌, ◌++◌, ◌&&◌, ℕ, zero, suc, Bool, true, false, List, [], ◌∷◌, length, replicate, refl}
+use Rattle.std.proofs.Common.{ap, arith, append_assoc, subst}
 use Rattle.std.proofs.lemmas.Bool.Decides.{nat_tests}
 use Rattle.std.specs.Prelude.{Option, Some, None, IfSome, codes}
 use Rattle.std.specs.List.{repeat, list_all}
@@ -48,7 +49,8 @@ repeat-space zero = refl
 repeat-space (suc n) = ap (λ xs. 32 ∷ xs) (repeat-space n)
 
 -- a label under the options of the column
-pub padded-label : (label : List ℕ) → list_all is_ascii label ≡ true → length label < 2 ^ 64 → padded (format_spec 32 1 0 52 (2 ^ 64 - 1)) label ≡ label ++ replicate (52 - length label) 32
+pub padded-label : (label : List ℕ) → list_all is_ascii label ≡ true → length label < 2 ^ 64 →
+    padded (format_spec 32 1 0 52 (2 ^ 64 - 1)) label ≡ label ++ replicate (52 - length label) 32
 unfolding padded
 padded-label label h fits =
     let whole : take_chars (2 ^ 64 - 1) label ≡ label = take_chars-ascii (2 ^ 64 - 1) label h (omega arith) in
@@ -56,8 +58,10 @@ padded-label label h fits =
     rw (whole, char_count-ascii label h, all_behind) (ap (λ xs. label ++ xs) (repeat-space (52 - length label)))
 
 -- the line that a format writes
-pub labelled-from_format : (label shown : List ℕ) (value : Option (List ℕ)) (old new : Option (List ℕ)) → shown ≡ label ++ replicate (52 - length label) 32
-    → IfSome (Some (codes "    ") ++? Some shown ++? value ++? Some (codes "\n")) (Appends old new) → IfSome value (λ text. Appends old new (labelled label text))
+pub labelled-from_format : (label shown : List ℕ) (value : Option (List ℕ)) (old new : Option (List ℕ)) →
+    shown ≡ label ++ replicate (52 - length label) 32
+    → IfSome (Some (codes "    ") ++? Some shown ++? value ++? Some (codes "\n")) (Appends old new) →
+    IfSome value (λ text. Appends old new (labelled label text))
 unfolding labelled
 labelled-from_format label shown None old new same h = tt
 labelled-from_format label shown (Some text) old new same h =

@@ -1,5 +1,6 @@
 -- The texts that `control` and `info` write.
-use Rattle.std.specs.Prelude.{◌+◌, ◌-◌, ◌*◌, ◌/◌, ◌%◌, ◌==◌, ℕ, ℤ, Bool, List, [], ◌∷◌, ◌++◌, length, replicate, codes, decimal, unsigned_abs, if◌then◌else◌}
+use Rattle.std.specs.Prelude.{◌+◌, ◌-◌, ◌*◌, ◌/◌, ◌%◌, ◌==◌, ℕ, ℤ, Bool, List, [], ◌∷◌, ◌++◌, length, replicate, codes, decimal}
+use Rattle.std.specs.Prelude.{unsigned_abs, if◌then◌else◌}
 use Rattle.std.specs.Int.{is_negative}
 use Rattle.std.specs.List.{list_all}
 use Rattle.amd_numbers.specs.declared.amd.Control.{Control}

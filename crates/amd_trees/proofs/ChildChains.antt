@@ -1,5 +1,6 @@
 -- The chains of children while they grow at the front: rising, and the heaviest one at the end from the first.
-use Rattle.std.proofs.Common.{eqb, Option, None, Some, ◌≡◌, ◌≢◌, ◌<◌, ◌⊎◌, ◌==◌, not, inl, inr, ℕ, ℤ, suc, pos, negsuc, true, false, cond, List, [], ◌∷◌, ◌++◌, length, refl, sym, ◌∙◌, ap, subst, arith}
+use Rattle.std.proofs.Common.{eqb, Option, None, Some, ◌≡◌, ◌≢◌, ◌<◌, ◌⊎◌, ◌==◌, not, inl, inr, ℕ, ℤ, suc, pos, negsuc, true, false, cond}
+use Rattle.std.proofs.Common.{List, [], ◌∷◌, ◌++◌, length, refl, sym, ◌∙◌, ap, subst, arith}
 use Rattle.std.specs.Prelude.{filter}
 use Rattle.std.specs.Option.{option_eq}
 use Rattle.std.proofs.Math.ListN.{set}
@@ -8,10 +9,11 @@ use Rattle.std.proofs.lemmas.List.{append_assoc, length-set, get_or-set_same, ge
 use Rattle.amd_model.specs.Below.{list_below}
 use Rattle.amd_model.specs.Input.Columns.{at}
 use Rattle.amd_model.specs.Listing.{Tree, is_child, heaviest_last, children}
-use Rattle.amd_model.specs.Tie.{has, Once}
-use Rattle.amd_model.proofs.BelowLemmas.{clash}
-use Rattle.amd_model.proofs.ListingLemmas.{has_head, has_tail, has_none, has_cases, has_append, has_right, has_below, below_has, has_filter}
-use Rattle.amd_model.proofs.TieStart.{once_below}
+use Rattle.amd_model.specs.Quotient.{has, Once}
+use Rattle.amd_model.proofs.Counting.Below.{clash}
+use Rattle.amd_model.proofs.Listings.Words.{has_head, has_tail, has_none, has_cases, has_append, has_right, has_below, below_has}
+use Rattle.amd_model.proofs.Listings.Words.{has_filter}
+use Rattle.amd_model.proofs.Quotient.Start.{once_below}
 use Rattle.amd_numbers.specs.Links.{named}
 use Rattle.amd_trees.specs.Trees.{IsChain, link_of, heaviest_of, AreUnlinked, AreHeaviest, AreLinked}
 use Rattle.amd_trees.proofs.Links.{once_parts}
@@ -35,18 +37,24 @@ with_last_has (Some x) ys u h = elim (has_append u (filter (λ y. not (y == x)) 
 ]
 
 with_last_skip : (j : ℕ) (ys : List ℕ) → with_last (Some j) (j ∷ ys) ≡ with_last (Some j) ys
-with_last_skip j ys = ap (λ b. cond b (j ∷ filter (λ x. not (x == j)) ys) (filter (λ x. not (x == j)) ys) ++ j ∷ []) (not_from_true (j == j) (eq-eqb j j refl))
+with_last_skip j ys = ap (λ b. cond b (j ∷ filter (λ x. not (x == j)) ys) (filter (λ x. not (x == j)) ys) ++ j ∷ [])
+    (not_from_true (j == j) (eq-eqb j j refl))
 
 with_last_take : (o : Option ℕ) (j : ℕ) (ys : List ℕ) → (o ≡ Some j → ⊥) → with_last o (j ∷ ys) ≡ j ∷ with_last o ys
 with_last_take None j ys n = refl
-with_last_take (Some h) j ys n = ap (λ b. cond b (j ∷ filter (λ x. not (x == h)) ys) (filter (λ x. not (x == h)) ys) ++ h ∷ []) (not_from_false (j == h) (ne_eqb j h (λ s. n (ap Some (sym s)))))
+with_last_take (Some h) j ys n = ap (λ b. cond b (j ∷ filter (λ x. not (x == h)) ys) (filter (λ x. not (x == h)) ys) ++ h ∷ [])
+    (not_from_false (j == h) (ne_eqb j h (λ s. n (ap Some (sym s)))))
 
 -- a chain does not depend on the links of other places
-chain_kept : (sibling : List ℤ) (j : ℕ) (v : ℤ) (z : ℤ) (xs : List ℕ) → (has xs j ≡ true → ⊥) → IsChain sibling z xs → IsChain (set sibling j v) z xs
+chain_kept : (sibling : List ℤ) (j : ℕ) (v : ℤ) (z : ℤ) (xs : List ℕ) → (has xs j ≡ true → ⊥) → IsChain sibling z xs →
+    IsChain (set sibling j v) z xs
 chain_kept sibling j v z [] n c = c
 chain_kept sibling j v z (x ∷ rest) n c =
-    let same : at (set sibling j v) x ≡ at sibling x = get_or-set_other sibling j x v (pos 0) (λ s. n (has_head j x rest (sym s))) in
-    (c.0, subst (λ y. IsChain (set sibling j v) y rest) (sym same) (chain_kept sibling j v (at sibling x) rest (λ h. n (has_tail j x rest h)) c.1))
+    let same : at (set sibling j v) x ≡ at sibling x = get_or-set_other sibling j x v (pos 0) (λ s. n (has_head j x rest (sym s))) in (
+      c.0,
+      subst (λ y. IsChain (set sibling j v) y rest) (sym same)
+          (chain_kept sibling j v (at sibling x) rest (λ h. n (has_tail j x rest h)) c.1),
+    )
 
 -- the children of a place, rising, and the heaviest of them
 abbrev pub row : Tree → ℕ → List ℕ
@@ -57,7 +65,8 @@ big t e = heaviest_of t.weight (row t e)
 
 -- the chain of a place holds its children from j on, before the heaviest of all
 abbrev pub GoesFrom : Tree → ℕ → List ℤ → List ℤ → ℕ → Type 0
-GoesFrom t j child sibling e = (ys : List ℕ) × (row t e ≡ list_below j (is_child t e) ++ ys) × IsChain sibling (at child e) (with_last (big t e) ys)
+GoesFrom t j child sibling e = (ys : List ℕ) × (row t e ≡ list_below j (is_child t e) ++ ys)
+    × IsChain sibling (at child e) (with_last (big t e) ys)
 
 -- that of each place does
 pub record AreLinkedFrom (t : Tree) (j : ℕ) (child sibling : List ℤ) : Type 0 where
@@ -82,7 +91,8 @@ big_child t e h q = (has_below t.size (is_child t e) h (heaviest_has t.weight (r
 big_small : (t : Tree) (e h : ℕ) → big t e ≡ Some h → h < t.size
 big_small t e h q = (has_below t.size (is_child t e) h (heaviest_has t.weight (row t e) h q)).0
 
-pub chains_start : (t : Tree) (heaviest sibling : List ℤ) → AreHeaviest t t.size heaviest → AreUnlinked t.size sibling → AreLinkedFrom t t.size heaviest sibling
+pub chains_start : (t : Tree) (heaviest sibling : List ℤ) → AreHeaviest t t.size heaviest → AreUnlinked t.size sibling →
+    AreLinkedFrom t t.size heaviest sibling
 chains_start t heaviest sibling a u = record {
   child_room = a.room;
   sibling_room = u.room;
@@ -94,75 +104,87 @@ chains_start t heaviest sibling a u = record {
     go (Some h) z q f = (q, f h refl)
 
 -- a place of which j is no child
-goes_on : (t : Tree) (j e : ℕ) (child sibling : List ℤ) → is_child t e j ≡ false → GoesFrom t (suc j) child sibling e → GoesFrom t j child sibling e
+goes_on : (t : Tree) (j e : ℕ) (child sibling : List ℤ) → is_child t e j ≡ false → GoesFrom t (suc j) child sibling e →
+    GoesFrom t j child sibling e
 goes_on t j e child sibling off r = (r.0, r.1 ∙ ap (λ m. m ++ r.0) (below_skip j (is_child t e) off), r.2)
 
 -- j is no child
-pub chains_skip : (t : Tree) (j : ℕ) (child sibling : List ℤ) → ((e : ℕ) → is_child t e j ≡ false) → AreLinkedFrom t (suc j) child sibling → AreLinkedFrom t j child sibling
-chains_skip t j child sibling off l = record { child_room = l.child_room; sibling_room = l.sibling_room; each = λ e h. goes_on t j e child sibling (off e) (l.each e h) }
+pub chains_skip : (t : Tree) (j : ℕ) (child sibling : List ℤ) → ((e : ℕ) → is_child t e j ≡ false) → AreLinkedFrom t (suc j) child sibling →
+    AreLinkedFrom t j child sibling
+chains_skip t j child sibling off l = record {
+  child_room = l.child_room;
+  sibling_room = l.sibling_room;
+  each =
+      λ e h. goes_on t j e child sibling (off e) (l.each e h);
+}
 
-module _ (t : Tree) (j p : ℕ) (its : is_child t p j ≡ true) (other : (e : ℕ) → e ≢ p → is_child t e j ≡ false) (child sibling : List ℤ) where
-  one_more : (ys : List ℕ) → row t p ≡ list_below (suc j) (is_child t p) ++ ys → row t p ≡ list_below j (is_child t p) ++ (j ∷ ys)
-  one_more ys r = r ∙ ap (λ m. m ++ ys) (below_take j (is_child t p) its) ∙ append_assoc (list_below j (is_child t p)) (j ∷ []) ys
+module _ (t : Tree) (j p : ℕ) (its : is_child t p j ≡ true) (other : (e : ℕ) → e ≢ p → is_child t e j ≡ false) (child sibling : List ℤ)
+  where
+    one_more : (ys : List ℕ) → row t p ≡ list_below (suc j) (is_child t p) ++ ys → row t p ≡ list_below j (is_child t p) ++ (j ∷ ys)
+    one_more ys r = r ∙ ap (λ m. m ++ ys) (below_take j (is_child t p) its) ∙ append_assoc (list_below j (is_child t p)) (j ∷ []) ys
 
-  -- the heaviest child stands in its place from the first
-  pub chains_heaviest : big t p ≡ Some j → AreLinkedFrom t (suc j) child sibling → AreLinkedFrom t j child sibling
-  chains_heaviest is l = record {
-    child_room = l.child_room;
-    sibling_room = l.sibling_room;
-    each = λ e h. (elim (cases_eq e p) [
-      | inl same ↦ subst (GoesFrom t j child sibling) (sym same) (here (l.each p (subst (λ v. v < t.size) same h)))
-      | inr ne ↦ goes_on t j e child sibling (other e ne) (l.each e h)
-    ]);
-  }
-    where
-      here : GoesFrom t (suc j) child sibling p → GoesFrom t j child sibling p
-      here r = (
-        j ∷ r.0,
-        one_more r.0 r.1,
-        subst (λ o. IsChain sibling (at child p) (with_last o (j ∷ r.0))) (sym is)
-            (subst (IsChain sibling (at child p)) (sym (with_last_skip j r.0)) (subst (λ o. IsChain sibling (at child p) (with_last o r.0)) is r.2)),
-      )
+    -- the heaviest child stands in its place from the first
+    pub chains_heaviest : big t p ≡ Some j → AreLinkedFrom t (suc j) child sibling → AreLinkedFrom t j child sibling
+    chains_heaviest is l = record {
+      child_room = l.child_room;
+      sibling_room = l.sibling_room;
+      each = λ e h. (elim (cases_eq e p) [
+        | inl same ↦ subst (GoesFrom t j child sibling) (sym same) (here (l.each p (subst (λ v. v < t.size) same h)))
+        | inr ne ↦ goes_on t j e child sibling (other e ne) (l.each e h)
+      ]);
+    }
+      where
+        here : GoesFrom t (suc j) child sibling p → GoesFrom t j child sibling p
+        here r = (
+          j ∷ r.0,
+          one_more r.0 r.1,
+          subst (λ o. IsChain sibling (at child p) (with_last o (j ∷ r.0))) (sym is)
+              (subst (IsChain sibling (at child p)) (sym (with_last_skip j r.0))
+              (subst (λ o. IsChain sibling (at child p) (with_last o r.0)) is r.2)),
+        )
 
-  -- another child is put in front of the others
-  pub chains_take : (big t p ≡ Some j → ⊥) → j < t.size → p < t.size → AreLinkedFrom t (suc j) child sibling → AreLinkedFrom t j (set child p (pos j)) (set sibling j (at child p))
-  chains_take not_big small above l = record {
-    child_room = length-set child p (pos j) ∙ l.child_room;
-    sibling_room = length-set sibling j (at child p) ∙ l.sibling_room;
-    each = λ e h. (elim (cases_eq e p) [
-      | inl same ↦ subst (GoesFrom t j (set child p (pos j)) (set sibling j (at child p))) (sym same) (here (l.each p above))
-      | inr ne ↦ goes_on t j e (set child p (pos j)) (set sibling j (at child p)) (other e ne) (there e ne (l.each e h))
-    ]);
-  }
-    where
-      there : (e : ℕ) → e ≢ p → GoesFrom t (suc j) child sibling e → GoesFrom t (suc j) (set child p (pos j)) (set sibling j (at child p)) e
-      there e ne r = (
-        r.0,
-        r.1,
-        subst (λ z. IsChain (set sibling j (at child p)) z (with_last (big t e) r.0)) (sym (get_or-set_other child p e (pos j) (pos 0) ne))
-            (chain_kept sibling j (at child p) (at child e) (with_last (big t e) r.0) (λ k. clash (elim (with_last_has (big t e) r.0 j k) [
-              | inl b ↦ (has_below t.size (is_child t e) j (subst (λ m. has m j ≡ true) (sym r.1) (has_right j (list_below (suc j) (is_child t e)) r.0 b))).1
-              | inr b ↦ big_child t e j b
-            ]) (other e ne)) r.2),
-      )
+    -- another child is put in front of the others
+    pub chains_take : (big t p ≡ Some j → ⊥) → j < t.size → p < t.size → AreLinkedFrom t (suc j) child sibling →
+        AreLinkedFrom t j (set child p (pos j)) (set sibling j (at child p))
+    chains_take not_big small above l = record {
+      child_room = length-set child p (pos j) ∙ l.child_room;
+      sibling_room = length-set sibling j (at child p) ∙ l.sibling_room;
+      each = λ e h. (elim (cases_eq e p) [
+        | inl same ↦ subst (GoesFrom t j (set child p (pos j)) (set sibling j (at child p))) (sym same) (here (l.each p above))
+        | inr ne ↦ goes_on t j e (set child p (pos j)) (set sibling j (at child p)) (other e ne) (there e ne (l.each e h))
+      ]);
+    }
+      where
+        there : (e : ℕ) → e ≢ p → GoesFrom t (suc j) child sibling e → GoesFrom t (suc j) (set child p (pos j)) (set sibling j (at child p)) e
+        there e ne r = (
+          r.0,
+          r.1,
+          subst (λ z. IsChain (set sibling j (at child p)) z (with_last (big t e) r.0)) (sym (get_or-set_other child p e (pos j) (pos 0) ne))
+              (chain_kept sibling j (at child p) (at child e) (with_last (big t e) r.0) (λ k. clash (elim (with_last_has (big t e) r.0 j k) [
+                | inl b ↦ (has_below t.size (is_child t e) j (subst (λ m. has m j ≡ true) (sym r.1)
+                    (has_right j (list_below (suc j) (is_child t e)) r.0 b))).1
+                | inr b ↦ big_child t e j b
+              ]) (other e ne)) r.2),
+        )
 
-      here : GoesFrom t (suc j) child sibling p → GoesFrom t j (set child p (pos j)) (set sibling j (at child p)) p
-      here r =
-          let sibling' = set sibling j (at child p) in
-          let listed : has (list_below (suc j) (is_child t p)) j ≡ true = below_has (suc j) (is_child t p) j (omega arith) its in
-          let once : Once (list_below (suc j) (is_child t p) ++ r.0) = subst Once r.1 (once_below t.size (is_child t p)) in
-          let apart : has (with_last (big t p) r.0) j ≡ true → ⊥ = λ k. (elim (with_last_has (big t p) r.0 j k) [
-            | inl b ↦ clash b (once_parts (list_below (suc j) (is_child t p)) r.0 once j listed)
-            | inr b ↦ not_big b
-          ]) in
-          let rest : IsChain sibling' (at sibling' j) (with_last (big t p) r.0) =
-          subst (λ z. IsChain sibling' z (with_last (big t p) r.0)) (sym (get_or-set_same sibling j (at child p) (pos 0) (let q = l.sibling_room in omega (arith, small, q))))
-          (chain_kept sibling j (at child p) (at child p) (with_last (big t p) r.0) apart r.2) in (
-            j ∷ r.0,
-            one_more r.0 r.1,
-            subst (IsChain sibling' (at (set child p (pos j)) p)) (sym (with_last_take (big t p) j r.0 not_big))
-                (get_or-set_same child p (pos j) (pos 0) (let q = l.child_room in omega (arith, above, q)), rest),
-          )
+        here : GoesFrom t (suc j) child sibling p → GoesFrom t j (set child p (pos j)) (set sibling j (at child p)) p
+        here r =
+            let sibling' = set sibling j (at child p) in
+            let listed : has (list_below (suc j) (is_child t p)) j ≡ true = below_has (suc j) (is_child t p) j (omega arith) its in
+            let once : Once (list_below (suc j) (is_child t p) ++ r.0) = subst Once r.1 (once_below t.size (is_child t p)) in
+            let apart : has (with_last (big t p) r.0) j ≡ true → ⊥ = λ k. (elim (with_last_has (big t p) r.0 j k) [
+              | inl b ↦ clash b (once_parts (list_below (suc j) (is_child t p)) r.0 once j listed)
+              | inr b ↦ not_big b
+            ]) in
+            let rest : IsChain sibling' (at sibling' j) (with_last (big t p) r.0) =
+            subst (λ z. IsChain sibling' z (with_last (big t p) r.0))
+            (sym (get_or-set_same sibling j (at child p) (pos 0) (let q = l.sibling_room in omega (arith, small, q))))
+            (chain_kept sibling j (at child p) (at child p) (with_last (big t p) r.0) apart r.2) in (
+              j ∷ r.0,
+              one_more r.0 r.1,
+              subst (IsChain sibling' (at (set child p (pos j)) p)) (sym (with_last_take (big t p) j r.0 not_big))
+                  (get_or-set_same child p (pos j) (pos 0) (let q = l.child_room in omega (arith, above, q)), rest),
+            )
 
 pub same_option : (o : Option ℕ) (j : ℕ) → option_eq eqb o (Some j) ≡ true → o ≡ Some j
 same_option None j h = absurd (false≢true h)

@@ -1,15 +1,17 @@
 -- Listings of trees whose nodes have ranks that rise upwards: each tree has one, and it names its nodes, each once.
-use Rattle.std.proofs.Common.{Bool, Option, None, Some, ◌≡◌, ◌+◌, ◌<◌, ◌≤◌, ◌&&◌, ◌⊎◌, inl, inr, ℕ, zero, suc, true, List, [], ◌∷◌, ◌++◌, refl, sym, ◌∙◌, ap, subst, arith, is_none}
+use Rattle.std.proofs.Common.{Bool, Option, None, Some, ◌≡◌, ◌+◌, ◌<◌, ◌≤◌, ◌&&◌, ◌⊎◌, inl, inr, ℕ, zero, suc, true, List, [], ◌∷◌, ◌++◌}
+use Rattle.std.proofs.Common.{refl, sym, ◌∙◌, ap, subst, arith, is_none}
 use Rattle.std.proofs.lemmas.Bool.{false_from_ne_true, false≢true, and_parts, and_from, eqb-true, eq-eqb}
 use Rattle.std.proofs.lemmas.List.{append_assoc}
 use Rattle.amd_model.specs.Below.{list_below, sum_below}
 use Rattle.amd_model.specs.Listing.{Tree, is_some_of, is_child, children, roots, ListsTrees, none, more}
-use Rattle.amd_model.specs.Tie.{has, Once}
-use Rattle.amd_model.proofs.BelowLemmas.{clash, term_le_sum}
-use Rattle.amd_model.proofs.ListingLemmas.{has_head, has_tail, has_none, has_cases, has_append, has_left, has_right, has_below, below_has, has_moved, moved_has, distinct_moved}
-use Rattle.amd_model.proofs.ListingsExist.{each_listed}
-use Rattle.amd_model.proofs.TieLists.{once_append}
-use Rattle.amd_model.proofs.TieStart.{once_below}
+use Rattle.amd_model.specs.Quotient.{has, Once}
+use Rattle.amd_model.proofs.Counting.Below.{clash, term_le_sum}
+use Rattle.amd_model.proofs.Listings.Words.{has_head, has_tail, has_none, has_cases, has_append, has_left, has_right, has_below, below_has}
+use Rattle.amd_model.proofs.Listings.Words.{has_moved, moved_has, distinct_moved}
+use Rattle.amd_model.proofs.Listings.ListingsExist.{each_listed}
+use Rattle.amd_model.proofs.Quotient.Lists.{once_append}
+use Rattle.amd_model.proofs.Quotient.Start.{once_below}
 
 -- one node in each block, below the size; parents are nodes of a higher rank
 pub record IsRanked (t : Tree) : Type 0 where
@@ -30,11 +32,17 @@ pub record AreSiblings (t : Tree) (parent : Option ℕ) (es : List ℕ) : Type 0
   pub nodes : (k : ℕ) → has es k ≡ true → t.is_node k ≡ true
   pub parents : (k : ℕ) → has es k ≡ true → t.parent k ≡ parent
 
-pub head_node : {t : Tree} {parent : Option ℕ} {e : ℕ} {rest : List ℕ} → AreSiblings t parent (e ∷ rest) → (t.is_node e ≡ true) × (t.parent e ≡ parent)
+pub head_node : {t : Tree} {parent : Option ℕ} {e : ℕ} {rest : List ℕ} → AreSiblings t parent (e ∷ rest) →
+    (t.is_node e ≡ true) × (t.parent e ≡ parent)
 head_node {e = e} {rest = rest} s = (s.nodes e (has_head e e rest refl), s.parents e (has_head e e rest refl))
 
 pub tail_siblings : {t : Tree} {parent : Option ℕ} {e : ℕ} {rest : List ℕ} → AreSiblings t parent (e ∷ rest) → AreSiblings t parent rest
-tail_siblings {e = e} {rest = rest} s = record { distinct = s.distinct.1; nodes = λ k h. s.nodes k (has_tail k e rest h); parents = λ k h. s.parents k (has_tail k e rest h) }
+tail_siblings {e = e} {rest = rest} s = record {
+  distinct = s.distinct.1;
+  nodes = λ k h. s.nodes k (has_tail k e rest h);
+  parents =
+      λ k h. s.parents k (has_tail k e rest h);
+}
 
 -- the test of a child, taken and given
 pub child_node : (t : Tree) (e k : ℕ) → is_child t e k ≡ true → (t.is_node k ≡ true) × (t.parent k ≡ Some e)
@@ -76,7 +84,8 @@ roots_siblings t j = let test : ℕ → Bool = λ e. t.is_node e && is_none (t.p
 pub trees_append : {t : Tree} {es fs xs ys : List ℕ} → ListsTrees t es xs → ListsTrees t fs ys → ListsTrees t (es ++ fs) (xs ++ ys)
 trees_append none b = b
 trees_append {t = t} {fs = fs} {ys = ys} (more {e} {rest} {below} {after} a r) b =
-    subst (ListsTrees t (e ∷ (rest ++ fs))) (ap (λ m. below ++ m) (sym (append_assoc (t.block e) after ys)) ∙ sym (append_assoc below (t.block e ++ after) ys))
+    subst (ListsTrees t (e ∷ (rest ++ fs))) (ap (λ m. below ++ m) (sym (append_assoc (t.block e) after ys)) ∙
+    sym (append_assoc below (t.block e ++ after) ys))
     (more {e = e} {rest = rest ++ fs} {below = below} {after = after ++ ys} a (trees_append r b))
 
 module _ (t : Tree) (g : IsRanked t) where
@@ -101,15 +110,23 @@ module _ (t : Tree) (g : IsRanked t) where
       let up = rank_up (g.over e m na p) r in let later = g.rises b m nb q in omega (arith, up, later))
 
   -- what is listed is a node under one of the nodes whose trees are
-  pub listed_from : {es xs : List ℕ} {o : Option ℕ} → AreSiblings t o es → ListsTrees t es xs → (u : ℕ) → has xs u ≡ true → (k : ℕ) × (has es k ≡ true) × (t.is_node u ≡ true) × IsUnder t u k
+  pub listed_from : {es xs : List ℕ} {o : Option ℕ} → AreSiblings t o es → ListsTrees t es xs → (u : ℕ) → has xs u ≡ true →
+      (k : ℕ) × (has es k ≡ true) × (t.is_node u ≡ true) × IsUnder t u k
   listed_from s none u h = absurd (has_none u h)
-  listed_from s (more {e} {rest} {below} {after} a r) u h = elim (has_append u below (e ∷ after) (subst (λ b. has (below ++ (b ++ after)) u ≡ true) (g.one e) h)) [
-    | inl b ↦ (let k = listed_from (children_siblings t e) a u b in (e, has_head e e rest refl, k.2, under_join k.3 (via ((children_siblings t e).parents k.0 k.1) self)))
-    | inr b ↦ elim (has_cases u e after b) [
-      | inl q ↦ (e, has_head e e rest refl, subst (λ v. t.is_node v ≡ true) (sym q) (head_node s).0, subst (λ v. IsUnder t v e) (sym q) self)
-      | inr c ↦ (let k = listed_from (tail_siblings s) r u c in (k.0, has_tail k.0 e rest k.1, k.2, k.3))
-    ]
-  ]
+  listed_from s (more {e} {rest} {below} {after} a r) u h = elim
+      (has_append u below (e ∷ after) (subst (λ b. has (below ++ (b ++ after)) u ≡ true) (g.one e) h)) [
+        | inl b ↦ (let k = listed_from (children_siblings t e) a u b in
+            (e, has_head e e rest refl, k.2, under_join k.3 (via ((children_siblings t e).parents k.0 k.1) self)))
+        | inr b ↦ elim (has_cases u e after b) [
+          | inl q ↦ (
+            e,
+            has_head e e rest refl,
+            subst (λ v. t.is_node v ≡ true) (sym q) (head_node s).0,
+            subst (λ v. IsUnder t v e) (sym q) self,
+          )
+          | inr c ↦ (let k = listed_from (tail_siblings s) r u c in (k.0, has_tail k.0 e rest k.1, k.2, k.3))
+        ]
+      ]
 
   -- a listing names no node twice
   pub trees_distinct : {es xs : List ℕ} {o : Option ℕ} → AreSiblings t o es → ListsTrees t es xs → Once xs
@@ -122,12 +139,14 @@ module _ (t : Tree) (g : IsRanked t) where
       let q : e ≡ k.0 = elim (two_up d k.3) [ inl x ↦ apart there head.0 head.1 same x | inr x ↦ sym (apart head.0 there same head.1 x) ] in
       clash (subst (λ v. has rest v ≡ true) (sym q) k.1) s.distinct.0) in
       subst (λ b. Once (below ++ (b ++ after))) (sym (g.one e))
-      (once_append below (e ∷ after) (trees_distinct (children_siblings t e) a) (false_from_ne_true (has after e) (λ h. not_after e h self), trees_distinct (tail_siblings s) r)
+      (once_append below (e ∷ after) (trees_distinct (children_siblings t e) a)
+      (false_from_ne_true (has after e) (λ h. not_after e h self), trees_distinct (tail_siblings s) r)
       (λ u b c. (
       let k = listed_from (children_siblings t e) a u b in
       let parent = (children_siblings t e).parents k.0 k.1 in let node = (children_siblings t e).nodes k.0 k.1 in
       elim (has_cases u e after c) [
-        | inl q ↦ (let up = rank_up k.2 k.3 in let same = ap g.rank q in let later = g.rises k.0 e node parent in omega (arith, up, later, same))
+        | inl q ↦ (let up = rank_up k.2 k.3 in let same = ap g.rank q in let later = g.rises k.0 e node parent in
+            omega (arith, up, later, same))
         | inr d ↦ not_after u d (under_join k.3 (via parent self))
       ])))
 
@@ -135,14 +154,17 @@ module _ (t : Tree) (g : IsRanked t) where
   listed_within : (n : ℕ) (es : List ℕ) → ((e : ℕ) → has es e ≡ true → g.rank e < n) → (xs : List ℕ) × ListsTrees t es xs
   listed_within zero es low = each_listed t es (λ e h. absurd (let k = low e h in omega (arith, k)))
   listed_within (suc n) es low = each_listed t es (λ e h. listed_within n (children t e) (λ k i. (
-      let s = children_siblings t e in let later = g.rises k e (s.nodes k i) (s.parents k i) in let m = low e h in omega (arith, later, m))))
+      let s = children_siblings t e in let later = g.rises k e (s.nodes k i) (s.parents k i) in let m = low e h in
+      omega (arith, later, m))))
 
   -- the trees below a node have a listing
   pub tree_listed : (e : ℕ) → (xs : List ℕ) × ListsTrees t (children t e) xs
-  tree_listed e = listed_within (g.rank e) (children t e) (λ k h. let s = children_siblings t e in g.rises k e (s.nodes k h) (s.parents k h))
+  tree_listed e = listed_within (g.rank e) (children t e) (λ k h. let s = children_siblings t e in
+      g.rises k e (s.nodes k h) (s.parents k h))
 
   -- the last step of a path upwards
-  from_last : {u e : ℕ} → t.is_node u ≡ true → IsUnder t u e → (u ≡ e) ⊎ ((k : ℕ) × (t.is_node k ≡ true) × (t.parent k ≡ Some e) × IsUnder t u k)
+  from_last : {u e : ℕ} → t.is_node u ≡ true → IsUnder t u e →
+      (u ≡ e) ⊎ ((k : ℕ) × (t.is_node k ≡ true) × (t.parent k ≡ Some e) × IsUnder t u k)
   from_last n self = inl refl
   from_last n (via {e = a} {m = m} p r) = elim (from_last (g.over a m n p) r) [
     | inl q ↦ inr (a, n, p ∙ ap Some q, self)
@@ -153,21 +175,26 @@ module _ (t : Tree) (g : IsRanked t) where
   pub listed : {es xs : List ℕ} → ListsTrees t es xs → (u k : ℕ) → has es k ≡ true → t.is_node u ≡ true → IsUnder t u k → has xs u ≡ true
   unfolding children
   listed none u k h n d = absurd (has_none k h)
-  listed (more {e} {rest} {below} {after} a r) u k h n d = subst (λ b. has (below ++ (b ++ after)) u ≡ true) (sym (g.one e)) (elim (has_cases k e rest h) [
-    | inl q ↦ elim (from_last n (subst (IsUnder t u) q d)) [
-      | inl s ↦ has_right u below (e ∷ after) (has_head u e after s)
-      | inr c ↦ has_left u below (e ∷ after) (listed a u c.0
-          (moved_has t.weight (list_below t.size (is_child t e)) c.0 (below_has t.size (is_child t e) c.0 (g.small c.0 c.1) (node_child t e c.0 c.1 c.2))) n c.3)
-    ]
-    | inr q ↦ has_right u below (e ∷ after) (has_tail u e after (listed r u k q n d))
-  ])
+  listed (more {e} {rest} {below} {after} a r) u k h n d = subst (λ b. has (below ++ (b ++ after)) u ≡ true) (sym (g.one e))
+      (elim (has_cases k e rest h) [
+        | inl q ↦ elim (from_last n (subst (IsUnder t u) q d)) [
+          | inl s ↦ has_right u below (e ∷ after) (has_head u e after s)
+          | inr c ↦ has_left u below (e ∷ after) (listed a u c.0
+              (moved_has t.weight (list_below t.size (is_child t e)) c.0
+              (below_has t.size (is_child t e) c.0 (g.small c.0 c.1) (node_child t e c.0 c.1 c.2))) n c.3)
+        ]
+        | inr q ↦ has_right u below (e ∷ after) (has_tail u e after (listed r u k q n d))
+      ])
 
   -- a path upwards from each node ends at a root
-  root_within : (n m u : ℕ) → ((f : ℕ) → t.is_node f ≡ true → g.rank f < m) → m ≤ g.rank u + n → t.is_node u ≡ true → (k : ℕ) × (t.is_node k ≡ true) × (t.parent k ≡ None) × IsUnder t u k
+  root_within : (n m u : ℕ) → ((f : ℕ) → t.is_node f ≡ true → g.rank f < m) → m ≤ g.rank u + n → t.is_node u ≡ true →
+      (k : ℕ) × (t.is_node k ≡ true) × (t.parent k ≡ None) × IsUnder t u k
   root_within zero m u most l h = absurd (let k = most u h in omega (arith, k))
-  root_within (suc n) m u most l h = go (t.parent u) refl (λ f q. let later = g.rises u f h q in root_within n m f most (omega (arith, later)) (g.over u f h q))
+  root_within (suc n) m u most l h = go (t.parent u) refl (λ f q. let later = g.rises u f h q in
+      root_within n m f most (omega (arith, later)) (g.over u f h q))
     where
-      go : (o : Option ℕ) → t.parent u ≡ o → ((f : ℕ) → t.parent u ≡ Some f → (k : ℕ) × (t.is_node k ≡ true) × (t.parent k ≡ None) × IsUnder t f k) →
+      go : (o : Option ℕ) → t.parent u ≡ o → ((f : ℕ) → t.parent u ≡ Some f → (k : ℕ) × (t.is_node k ≡ true) × (t.parent k ≡ None)
+          × IsUnder t f k) →
           (k : ℕ) × (t.is_node k ≡ true) × (t.parent k ≡ None) × IsUnder t u k
       go None q on = (u, h, q, self)
       go (Some f) q on = let r = on f q in (r.0, r.1, r.2, via q r.3)
@@ -176,6 +203,8 @@ module _ (t : Tree) (g : IsRanked t) where
   pub each_node : {xs : List ℕ} → ListsTrees t (roots t) xs → (u : ℕ) → t.is_node u ≡ true → has xs u ≡ true
   unfolding roots
   each_node l u n =
-      let most : (f : ℕ) → t.is_node f ≡ true → g.rank f < suc (sum_below t.size g.rank) = λ f h. (let k = term_le_sum t.size g.rank f (g.small f h) in omega (arith, k)) in
+      let most : (f : ℕ) → t.is_node f ≡ true → g.rank f < suc (sum_below t.size g.rank) =
+      λ f h. (let k = term_le_sum t.size g.rank f (g.small f h) in omega (arith, k)) in
       let r = root_within (suc (sum_below t.size g.rank)) (suc (sum_below t.size g.rank)) u most (omega arith) n in
-      listed l u r.0 (below_has t.size (λ e. t.is_node e && is_none (t.parent e)) r.0 (g.small r.0 r.1) (and_from (t.is_node r.0) (is_none (t.parent r.0)) r.1 (ap is_none r.2))) n r.3
+      listed l u r.0 (below_has t.size (λ e. t.is_node e && is_none (t.parent e)) r.0 (g.small r.0 r.1)
+      (and_from (t.is_node r.0) (is_none (t.parent r.0)) r.1 (ap is_none r.2))) n r.3

@@ -1,15 +1,16 @@
 -- Trees that links hold, and the walk that numbers them: what its stack has left.
-use Rattle.std.proofs.Common.{None, Some, ◌≡◌, ◌≢◌, ◌⊎◌, ◌+◌, ◌-◌, ◌<◌, ◌≤◌, ℕ, ℤ, zero, suc, pos, negsuc, true, false, List, [], ◌∷◌, ◌++◌, length, refl, sym, ◌∙◌, ap, subst, arith, inl, inr, add-zero}
+use Rattle.std.proofs.Common.{None, Some, ◌≡◌, ◌≢◌, ◌⊎◌, ◌+◌, ◌-◌, ◌<◌, ◌≤◌, ℕ, ℤ, zero, suc, pos, negsuc, true, false, List, [], ◌∷◌, ◌++◌}
+use Rattle.std.proofs.Common.{length, refl, sym, ◌∙◌, ap, subst, arith, inl, inr, add-zero}
 use Rattle.std.specs.Prelude.{slice_index}
 use Rattle.std.proofs.Math.ListN.{set}
 use Rattle.std.proofs.Math.Seq.{get_or-append_seam}
 use Rattle.std.proofs.lemmas.Bool.{cases_lt, false_from_ne_true}
 use Rattle.std.proofs.lemmas.List.{append_assoc, append-nil, length-append, get_or-set_same, get_or-set_other, get_or_append_left}
 use Rattle.amd_model.specs.Input.Columns.{at}
-use Rattle.amd_model.specs.Tie.{has, Once}
-use Rattle.amd_model.proofs.BelowLemmas.{clash}
-use Rattle.amd_model.proofs.ListingLemmas.{has_head, has_tail, has_none, has_cases, has_left, has_right}
-use Rattle.amd_model.proofs.Places.{has_place, place_of}
+use Rattle.amd_model.specs.Quotient.{has, Once}
+use Rattle.amd_model.proofs.Counting.Below.{clash}
+use Rattle.amd_model.proofs.Listings.Words.{has_head, has_tail, has_none, has_cases, has_left, has_right}
+use Rattle.amd_model.proofs.Counting.Places.{has_place, place_of}
 use Rattle.amd_numbers.specs.Links.{named}
 use Rattle.amd_trees.specs.Trees.{ListsLinks, none, more, ListsTree, FitsTree, NumbersFrom, StaysOutside}
 
@@ -33,21 +34,30 @@ links_none (more a b) q = absurd (cc)
 
 -- the trees of a link to c: those below c, then c, then those of its siblings
 pub links_some : {child sibling : List ℤ} {z : ℤ} {xs : List ℕ} (c : ℕ) → ListsLinks child sibling z xs → z ≡ pos c →
-    (below : List ℕ) × (after : List ℕ) × (xs ≡ below ++ c ∷ after) × ListsLinks child sibling (at child c) below × ListsLinks child sibling (at sibling c) after
+    (below : List ℕ) × (after : List ℕ) × (xs ≡ below ++ c ∷ after) × ListsLinks child sibling (at child c) below
+    × ListsLinks child sibling (at sibling c) after
 links_some c none q = absurd (cc)
 links_some {child} {sibling} c (more {e} {below} {after} a b) q =
-    let s : e ≡ c = cc in
-    (below, after, ap (λ m. below ++ m ∷ after) s, subst (λ m. ListsLinks child sibling (at child m) below) s a, subst (λ m. ListsLinks child sibling (at sibling m) after) s b)
+    let s : e ≡ c = cc in (
+      below,
+      after,
+      ap (λ m. below ++ m ∷ after) s,
+      subst (λ m. ListsLinks child sibling (at child m) below) s a,
+      subst (λ m. ListsLinks child sibling (at sibling m) after) s b,
+    )
 
 -- the listing depends on the first children of its nodes alone
-pub links_kept : {child child' sibling : List ℤ} {z : ℤ} {xs : List ℕ} → ListsLinks child sibling z xs → ((e : ℕ) → has xs e ≡ true → at child' e ≡ at child e) → ListsLinks child' sibling z xs
+pub links_kept : {child child' sibling : List ℤ} {z : ℤ} {xs : List ℕ} → ListsLinks child sibling z xs →
+    ((e : ℕ) → has xs e ≡ true → at child' e ≡ at child e) → ListsLinks child' sibling z xs
 links_kept none f = none
 links_kept {child' = child'} {sibling = sibling} (more {e} {below} {after} a b) f = more
-    (subst (λ z. ListsLinks child' sibling z below) (sym (f e (has_right e below (e ∷ after) (has_head e e after refl)))) (links_kept a (λ v h. f v (has_left v below (e ∷ after) h))))
+    (subst (λ z. ListsLinks child' sibling z below) (sym (f e (has_right e below (e ∷ after) (has_head e e after refl))))
+    (links_kept a (λ v h. f v (has_left v below (e ∷ after) h))))
     (links_kept b (λ v h. f v (has_right v below (e ∷ after) (has_tail v e after h))))
 
 -- what stands before a place of a list stands before its last
-before_last : (xs : List ℕ) (e : ℕ) (after ys : List ℕ) (last : ℕ) → xs ++ e ∷ after ≡ ys ++ last ∷ [] → (u : ℕ) → has xs u ≡ true → has ys u ≡ true
+before_last : (xs : List ℕ) (e : ℕ) (after ys : List ℕ) (last : ℕ) → xs ++ e ∷ after ≡ ys ++ last ∷ [] → (u : ℕ) → has xs u ≡ true →
+    has ys u ≡ true
 before_last [] e after ys last q u h = absurd (has_none u h)
 before_last (x ∷ xs) e after [] last q u h =
     let size = ap length q in let joined = length-append xs (e ∷ after) in
@@ -60,7 +70,8 @@ before_last (x ∷ xs) e after (y ∷ ys) last q u h = elim (has_cases u x xs h)
 -- what is left: the node on top of the stack after the trees that its link still leads to, and then what the rest of the stack has left
 abbrev pub IsLeft : List ℤ → List ℤ → List ℤ → ℕ → List ℕ → Type 0
 IsLeft child sibling stack zero left = left ≡ []
-IsLeft child sibling stack (suc h) left = (e : ℕ) × (below : List ℕ) × (after : List ℕ) × (at stack h ≡ pos e) × (left ≡ below ++ e ∷ after) × ListsLinks child sibling (at child e) below × IsLeft child sibling stack h after
+IsLeft child sibling stack (suc h) left = (e : ℕ) × (below : List ℕ) × (after : List ℕ) × (at stack h ≡ pos e) × (left ≡ below ++ e ∷ after)
+    × ListsLinks child sibling (at child e) below × IsLeft child sibling stack h after
 
 -- each node on the stack is left
 left_most : (child sibling stack : List ℤ) (h : ℕ) (left : List ℕ) → IsLeft child sibling stack h left → h ≤ length left
@@ -72,18 +83,22 @@ left_most child sibling stack (suc h) left l =
 
 -- what is left depends on the stack and on the first children of its nodes
 left_kept : (child child' sibling stack stack' : List ℤ) (h : ℕ) (left : List ℕ) → IsLeft child sibling stack h left →
-    ((i : ℕ) → i < h → at stack' i ≡ at stack i) → ((e : ℕ) → has left e ≡ true → at child' e ≡ at child e) → IsLeft child' sibling stack' h left
+    ((i : ℕ) → i < h → at stack' i ≡ at stack i) → ((e : ℕ) → has left e ≡ true → at child' e ≡ at child e) →
+    IsLeft child' sibling stack' h left
 left_kept child child' sibling stack stack' zero left l s f = l
 left_kept child child' sibling stack stack' (suc h) left l s f =
     let e = l.0 in let below = l.1 in let after = l.2 in
-    let on : (v : ℕ) → has (below ++ e ∷ after) v ≡ true → at child' v ≡ at child v = λ v k. f v (subst (λ xs. has xs v ≡ true) (sym l.4) k) in (
+    let on : (v : ℕ) → has (below ++ e ∷ after) v ≡ true → at child' v ≡ at child v = λ v k.
+    f v (subst (λ xs. has xs v ≡ true) (sym l.4) k) in (
       e,
       below,
       after,
       s h (omega arith) ∙ l.3,
       l.4,
-      subst (λ z. ListsLinks child' sibling z below) (sym (on e (has_right e below (e ∷ after) (has_head e e after refl)))) (links_kept l.5 (λ v k. on v (has_left v below (e ∷ after) k))),
-      left_kept child child' sibling stack stack' h after l.6 (λ i m. s i (omega arith)) (λ v k. on v (has_right v below (e ∷ after) (has_tail v e after k))),
+      subst (λ z. ListsLinks child' sibling z below) (sym (on e (has_right e below (e ∷ after) (has_head e e after refl))))
+          (links_kept l.5 (λ v k. on v (has_left v below (e ∷ after) k))),
+      left_kept child child' sibling stack stack' h after l.6 (λ i m. s i (omega arith))
+          (λ v k. on v (has_right v below (e ∷ after) (has_tail v e after k))),
     )
 
 -- how far the walk has come: the first part of the listing is numbered, and the second left
@@ -98,7 +113,8 @@ pub record IsWalk (k : ℕ) (listing : List ℕ) (child_before sibling order_bef
   pub child_stays : StaysOutside listing child_before child
 
 -- a link of a listing ends a list or names a node
-links_cases : {child sibling : List ℤ} {z : ℤ} {xs : List ℕ} → ListsLinks child sibling z xs → (z ≡ negsuc 0) ⊎ ((c : ℕ) × (z ≡ pos c) × (has xs c ≡ true))
+links_cases : {child sibling : List ℤ} {z : ℤ} {xs : List ℕ} → ListsLinks child sibling z xs →
+    (z ≡ negsuc 0) ⊎ ((c : ℕ) × (z ≡ pos c) × (has xs c ≡ true))
 links_cases none = inl refl
 links_cases (more {e} {below} {after} a b) = inr (e, refl, has_right e below (e ∷ after) (has_head e e after refl))
 
@@ -120,7 +136,8 @@ pub tree_size : {child sibling : List ℤ} {root : ℕ} {listing : List ℕ} →
 tree_size {root = root} t = let e = ap length t.is ∙ length-append t.below (root ∷ []) in omega (arith, e)
 
 -- the walk at its beginning
-pub walk_starts : (k root : ℕ) (listing : List ℕ) (child sibling order stack : List ℤ) → ListsTree child sibling root listing → 0 < length stack →
+pub walk_starts : (k root : ℕ) (listing : List ℕ) (child sibling order stack : List ℤ) → ListsTree child sibling root listing →
+    0 < length stack →
     IsWalk k listing child sibling order child order (set stack 0 (pos root)) 1 k
 walk_starts k root listing child sibling order stack tree room = record {
   done = [];
@@ -135,7 +152,8 @@ walk_starts k root listing child sibling order stack tree room = record {
 
 -- the walk at its end
 pub walk_ends : {k : ℕ} {listing : List ℕ} {child_before sibling order_before child order stack : List ℤ} {height next : ℕ} →
-    IsWalk k listing child_before sibling order_before child order stack height next → height ≡ 0 → (next ≡ k + length listing) × NumbersFrom k listing order
+    IsWalk k listing child_before sibling order_before child order stack height next → height ≡ 0 →
+    (next ≡ k + length listing) × NumbersFrom k listing order
 walk_ends {k} {listing} {sibling = sibling} {child = child} {order = order} {stack = stack} w q =
     let empty : w.left ≡ [] = subst (λ h. IsLeft child sibling stack h w.left) q w.path in
     let all : w.done ≡ listing = sym (w.parts ∙ ap (λ m. w.done ++ m) empty ∙ append-nil w.done) in
@@ -149,9 +167,12 @@ module _ (k : ℕ) (listing : List ℕ) (child_before sibling order_before child
   listed : (e : ℕ) → has w.left e ≡ true → has listing e ≡ true
   listed e h = subst (λ m. has m e ≡ true) (sym w.parts) (has_right e w.done w.left h)
 
-  -- the node on top of the stack: it is a node of the tree, and there is a number for it; the child that its link leads to is not the last node
+  -- the node on top of the stack: it is a node of the tree, and there is a number for it; the child that its link leads to is not the last
+  -- node
   pub walk_top : (e : ℕ) × (at stack i ≡ pos e) × (has listing e ≡ true) × (k ≤ next) × (height + next ≤ k + length listing) ×
-      ((at child e ≡ negsuc 0) ⊎ ((c : ℕ) × (at child e ≡ pos c) × ((below : List ℕ) (last : ℕ) → listing ≡ below ++ last ∷ [] → has below c ≡ true) × (height + next < k + length listing)))
+      ((at child e ≡ negsuc 0)
+      ⊎ ((c : ℕ) × (at child e ≡ pos c) × ((below : List ℕ) (last : ℕ) → listing ≡ below ++ last ∷ [] → has below c ≡ true)
+      × (height + next < k + length listing)))
   walk_top =
       let e = path.0 in let below = path.1 in let after = path.2 in
       let size = ap length w.parts ∙ length-append w.done w.left in
@@ -168,7 +189,9 @@ module _ (k : ℕ) (listing : List ℕ) (child_before sibling order_before child
           | inr r ↦ inr (
             r.0,
             r.1,
-            λ front last q. before_last (w.done ++ below) e after front last (append_assoc w.done below (e ∷ after) ∙ ap (λ m. w.done ++ m) (sym path.4) ∙ sym w.parts ∙ q) r.0 (has_right r.0 w.done below r.2),
+            λ front last q. before_last (w.done ++ below) e after front last
+                (append_assoc w.done below (e ∷ after) ∙ ap (λ m. w.done ++ m) (sym path.4) ∙ sym w.parts ∙ q) r.0
+                (has_right r.0 w.done below r.2),
             (let p = place_of below r.0 r.2 in let l = p.1 in omega (arith, size, joined, rest, l, count)),
           )
         ],
@@ -182,12 +205,14 @@ module _ (k : ℕ) (listing : List ℕ) (child_before sibling order_before child
     is_top = (let q : pos e ≡ pos path.0 = sym top ∙ path.3 in cc)
 
     -- the node on top is numbered, where its link leads no further
-    pub walk_up : at child e ≡ negsuc 0 → e < length order → IsWalk k listing child_before sibling order_before child (set order e (pos next)) stack i (next + 1)
+    pub walk_up : at child e ≡ negsuc 0 → e < length order →
+        IsWalk k listing child_before sibling order_before child (set order e (pos next)) stack i (next + 1)
     walk_up q room =
         let after = path.2 in
         let none_below : path.1 ≡ [] = links_none path.5 (ap (at child) (sym is_top) ∙ q) in
         let left : w.left ≡ e ∷ after = path.4 ∙ ap (λ m. m ++ path.0 ∷ after) none_below ∙ ap (λ m. m ∷ after) (sym is_top) in
-        let parts : listing ≡ (w.done ++ e ∷ []) ++ after = w.parts ∙ ap (λ m. w.done ++ m) left ∙ sym (append_assoc w.done (e ∷ []) after) in
+        let parts : listing ≡ (w.done ++ e ∷ []) ++ after = w.parts ∙ ap (λ m. w.done ++ m) left ∙
+        sym (append_assoc w.done (e ∷ []) after) in
         let here : has listing e ≡ true = listed e (subst (λ m. has m e ≡ true) (sym left) (has_head e e after refl)) in
         let more_done = length-append w.done (e ∷ []) in
         record {
@@ -200,14 +225,19 @@ module _ (k : ℕ) (listing : List ℕ) (child_before sibling order_before child
             | inl m ↦ (
                 let at_j : slice_index (w.done ++ e ∷ []) j ≡ slice_index w.done j = get_or_append_left w.done (e ∷ []) 0 j m in
                 let named : has w.done (slice_index w.done j) ≡ true = has_place w.done j m in
-                let apart : slice_index w.done j ≢ e = λ s. clash (subst (λ v. has (e ∷ after) v ≡ true) (sym s) (has_head e e after refl)) (once_parts w.done (e ∷ after) (subst (λ m. Once (w.done ++ m)) left unique) (slice_index w.done j) named) in
-                ap (at (set order e (pos next))) at_j ∙ get_or-set_other order e (slice_index w.done j) (pos next) (pos 0) apart ∙ w.numbered j m)
+                let apart : slice_index w.done j ≢ e = λ s. clash (subst (λ v. has (e ∷ after) v ≡ true) (sym s) (has_head e e after refl))
+                (once_parts w.done (e ∷ after) (subst (λ m. Once (w.done ++ m)) left unique) (slice_index w.done j) named) in
+                ap (at (set order e (pos next))) at_j ∙ get_or-set_other order e (slice_index w.done j) (pos next) (pos 0) apart ∙
+                w.numbered j m)
             | inr m ↦ (
                 let is : j ≡ length w.done = omega (arith, l, more_done) in
-                let at_j : slice_index (w.done ++ e ∷ []) j ≡ e = ap (slice_index (w.done ++ e ∷ [])) is ∙ get_or-append_seam w.done e [] 0 in
-                ap (at (set order e (pos next))) at_j ∙ get_or-set_same order e (pos next) (pos 0) room ∙ ap (λ m. pos m) (w.count ∙ ap (λ m. k + m) (sym is)))
+                let at_j : slice_index (w.done ++ e ∷ []) j ≡ e = ap (slice_index (w.done ++ e ∷ [])) is ∙
+                get_or-append_seam w.done e [] 0 in
+                ap (at (set order e (pos next))) at_j ∙ get_or-set_same order e (pos next) (pos 0) room ∙
+                ap (λ m. pos m) (w.count ∙ ap (λ m. k + m) (sym is)))
           ]);
-          order_stays = λ v h. get_or-set_other order e v (pos next) (pos 0) (λ s. clash here (subst (λ x. has listing x ≡ false) s h)) ∙ w.order_stays v h;
+          order_stays = λ v h. get_or-set_other order e v (pos next) (pos 0) (λ s. clash here (subst (λ x. has listing x ≡ false) s h)) ∙
+              w.order_stays v h;
           child_stays = w.child_stays;
         }
 
@@ -219,22 +249,36 @@ module _ (k : ℕ) (listing : List ℕ) (child_before sibling order_before child
         let child' = set child e (at sibling c) in let stack' = set stack height (pos c) in
         let first = links_some c path.5 (ap (at child) (sym is_top) ∙ q) in
         let left : w.left ≡ below ++ e ∷ after = path.4 ∙ ap (λ m. below ++ m ∷ after) (sym is_top) in
-        let here : has listing e ≡ true = listed e (subst (λ m. has m e ≡ true) (sym left) (has_right e below (e ∷ after) (has_head e e after refl))) in
+        let here : has listing e ≡ true =
+        listed e (subst (λ m. has m e ≡ true) (sym left) (has_right e below (e ∷ after) (has_head e e after refl))) in
         let once_left : Once (below ++ e ∷ after) = subst Once left (once_back w.done w.left unique) in
-        let not_below : (v : ℕ) → has below v ≡ true → v ≢ e = λ v h s. clash (has_head v e after s) (once_parts below (e ∷ after) once_left v h) in
-        let not_after : (v : ℕ) → has after v ≡ true → v ≢ e = λ v h s. clash (subst (λ x. has after x ≡ true) s h) ((once_back below (e ∷ after) once_left).0) in
-        let same_below : (v : ℕ) → has below v ≡ true → at child' v ≡ at child v = λ v h. get_or-set_other child e v (at sibling c) (pos 0) (not_below v h) in
-        let in_below : (v : ℕ) → has (first.0 ++ c ∷ first.1) v ≡ true → has below v ≡ true = λ v h. subst (λ m. has m v ≡ true) (sym first.2) h in
+        let not_below : (v : ℕ) → has below v ≡ true → v ≢ e =
+        λ v h s. clash (has_head v e after s) (once_parts below (e ∷ after) once_left v h) in
+        let not_after : (v : ℕ) → has after v ≡ true → v ≢ e =
+        λ v h s. clash (subst (λ x. has after x ≡ true) s h) ((once_back below (e ∷ after) once_left).0) in
+        let same_below : (v : ℕ) → has below v ≡ true → at child' v ≡ at child v =
+        λ v h. get_or-set_other child e v (at sibling c) (pos 0) (not_below v h) in
+        let in_below : (v : ℕ) → has (first.0 ++ c ∷ first.1) v ≡ true → has below v ≡ true =
+        λ v h. subst (λ m. has m v ≡ true) (sym first.2) h in
         let c_same : at child' c ≡ at child c = same_below c (in_below c (has_right c first.0 (c ∷ first.1) (has_head c c first.1 refl))) in
-        let first_lists : ListsLinks child' sibling (at child' c) first.0 = subst (λ z. ListsLinks child' sibling z first.0) (sym c_same) (links_kept first.3 (λ v h. same_below v (in_below v (has_left v first.0 (c ∷ first.1) h)))) in
+        let first_lists : ListsLinks child' sibling (at child' c) first.0 =
+        subst (λ z. ListsLinks child' sibling z first.0) (sym c_same)
+        (links_kept first.3 (λ v h. same_below v (in_below v (has_left v first.0 (c ∷ first.1) h)))) in
         let e_next : at child' e ≡ at sibling c = get_or-set_same child e (at sibling c) (pos 0) room in
-        let next_lists : ListsLinks child' sibling (at child' e) first.1 = subst (λ z. ListsLinks child' sibling z first.1) (sym e_next) (links_kept first.4 (λ v h. same_below v (in_below v (has_right v first.0 (c ∷ first.1) (has_tail v c first.1 h))))) in
-        let stack_same : (j : ℕ) → j < height → at stack' j ≡ at stack j = λ j l. get_or-set_other stack height j (pos c) (pos 0) (λ s. omega arith) in
-        let rest : IsLeft child' sibling stack' i after = left_kept child child' sibling stack stack' i after path.6 (λ j l. stack_same j (omega arith)) (λ v h. get_or-set_other child e v (at sibling c) (pos 0) (not_after v h)) in
-        let level : IsLeft child' sibling stack' (suc i) (first.1 ++ e ∷ after) = (e, first.1, after, stack_same i (omega arith) ∙ top, refl, next_lists, rest) in
+        let next_lists : ListsLinks child' sibling (at child' e) first.1 =
+        subst (λ z. ListsLinks child' sibling z first.1) (sym e_next)
+        (links_kept first.4 (λ v h. same_below v (in_below v (has_right v first.0 (c ∷ first.1) (has_tail v c first.1 h))))) in
+        let stack_same : (j : ℕ) → j < height → at stack' j ≡ at stack j =
+        λ j l. get_or-set_other stack height j (pos c) (pos 0) (λ s. omega arith) in
+        let rest : IsLeft child' sibling stack' i after = left_kept child child' sibling stack stack' i after path.6
+        (λ j l. stack_same j (omega arith)) (λ v h. get_or-set_other child e v (at sibling c) (pos 0) (not_after v h)) in
+        let level : IsLeft child' sibling stack' (suc i) (first.1 ++ e ∷ after) =
+        (e, first.1, after, stack_same i (omega arith) ∙ top, refl, next_lists, rest) in
         let top_now : at stack' (suc i) ≡ pos c = ap (at stack') (sym above) ∙ get_or-set_same stack height (pos c) (pos 0) high in
-        let same_left : w.left ≡ first.0 ++ c ∷ (first.1 ++ e ∷ after) = left ∙ ap (λ m. m ++ e ∷ after) first.2 ∙ append_assoc first.0 (c ∷ first.1) (e ∷ after) in
-        let path_now : IsLeft child' sibling stack' (suc (suc i)) w.left = (c, first.0, first.1 ++ e ∷ after, top_now, same_left, first_lists, level) in
+        let same_left : w.left ≡ first.0 ++ c ∷ (first.1 ++ e ∷ after) = left ∙ ap (λ m. m ++ e ∷ after) first.2 ∙
+        append_assoc first.0 (c ∷ first.1) (e ∷ after) in
+        let path_now : IsLeft child' sibling stack' (suc (suc i)) w.left =
+        (c, first.0, first.1 ++ e ∷ after, top_now, same_left, first_lists, level) in
         let higher : suc (suc i) ≡ height + 1 = omega arith in
         record {
           done = w.done;
@@ -244,7 +288,8 @@ module _ (k : ℕ) (listing : List ℕ) (child_before sibling order_before child
           path = subst (λ h. IsLeft child' sibling stack' h w.left) higher path_now;
           numbered = w.numbered;
           order_stays = w.order_stays;
-          child_stays = λ v h. get_or-set_other child e v (at sibling c) (pos 0) (λ s. clash here (subst (λ x. has listing x ≡ false) s h)) ∙ w.child_stays v h;
+          child_stays = λ v h. get_or-set_other child e v (at sibling c) (pos 0)
+              (λ s. clash here (subst (λ x. has listing x ≡ false) s h)) ∙ w.child_stays v h;
         }
 
 -- the lists of the walk are as long as at its beginning, and how far it has come, whatever the listing
@@ -252,7 +297,8 @@ pub record IsGoing (k root : ℕ) (child_before sibling order_before stack_befor
   pub child_room : length child ≡ length child_before
   pub order_room : length order ≡ length order_before
   pub stack_room : length stack ≡ length stack_before
-  pub walk : (listing : List ℕ) → ListsTree child_before sibling root listing → IsWalk k listing child_before sibling order_before child order stack height next
+  pub walk : (listing : List ℕ) → ListsTree child_before sibling root listing →
+      IsWalk k listing child_before sibling order_before child order stack height next
 
 -- a turn of the walk at the node on top of the stack: what it reads and writes is in the lists
 pub record IsTurn (sibling child order stack : List ℤ) (height next nn i e : ℕ) : Type 0 where
@@ -267,11 +313,13 @@ pub record IsTurn (sibling child order stack : List ℤ) (height next nn i e : �
   pub up : ((c : ℕ) → at child e ≡ pos c → ⊥) → at child e ≡ negsuc 0
 
 pub turn : {k root nn : ℕ} {child_before sibling order_before stack_before child order stack : List ℤ} {height next : ℕ} →
-    FitsTree child_before sibling order_before stack_before root k nn → IsGoing k root child_before sibling order_before stack_before child order stack height next →
+    FitsTree child_before sibling order_before stack_before root k nn →
+    IsGoing k root child_before sibling order_before stack_before child order stack height next →
     0 < height → (e : ℕ) × (at stack (height - 1) ≡ pos e) × IsTurn sibling child order stack height next nn (height - 1) e
 turn {k} {root} {nn} {child_before} {sibling} {order_before} {stack_before} {child} {order} {stack} {height} {next} f g some =
     let above : height ≡ suc (height - 1) = omega arith in
-    let top = walk_top k f.listing child_before sibling order_before child order stack height next (g.walk f.listing f.tree) (height - 1) above in
+    let top = walk_top k f.listing child_before sibling order_before child order stack height next (g.walk f.listing f.tree) (height - 1)
+    above in
     let child_room = g.child_room in let order_room = g.order_room in let stack_room = g.stack_room in
     let in_stack = f.in_stack in let numbers = f.numbers in
     let in_child = f.in_child top.0 top.2 in let in_order = f.in_order top.0 top.2 in
@@ -303,7 +351,8 @@ turn {k} {root} {nn} {child_before} {sibling} {order_before} {stack_before} {chi
 
 -- the same, where the stack's link was read
 pub turn_at : {k root nn : ℕ} {child_before sibling order_before stack_before child order stack : List ℤ} {height next : ℕ} →
-    FitsTree child_before sibling order_before stack_before root k nn → IsGoing k root child_before sibling order_before stack_before child order stack height next →
+    FitsTree child_before sibling order_before stack_before root k nn →
+    IsGoing k root child_before sibling order_before stack_before child order stack height next →
     0 < height → (e : ℕ) → Some e ≡ named (at stack (height - 1)) → IsTurn sibling child order stack height next nn (height - 1) e
 turn_at {nn = nn} {sibling = sibling} {child = child} {order = order} {stack = stack} {height = height} {next = next} f g some e q =
     let t = turn f g some in

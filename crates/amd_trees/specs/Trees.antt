@@ -1,10 +1,11 @@
 -- Trees in lists of numbers: by the parent of each element, and by links to a first child and a next sibling; -1 is no place.
 -- Source: Amestoy, Davis and Duff 2004.
-use Rattle.std.specs.Prelude.{◌≡◌, ◌+◌, ◌<◌, ◌≤◌, ◌≤ℤ◌, ◌⊎◌, ◌&&◌, ◌++◌, ℕ, ℤ, pos, negsuc, Bool, true, false, Option, None, Some, List, [], ◌∷◌, cond, nat_lt, nat_le, int_lt, length, slice_index, slice_index_or, unsigned_abs}
+use Rattle.std.specs.Prelude.{◌≡◌, ◌+◌, ◌<◌, ◌≤◌, ◌≤ℤ◌, ◌⊎◌, ◌&&◌, ◌++◌, ℕ, ℤ, pos, negsuc, Bool, true, false, Option, None, Some, List, []}
+use Rattle.std.specs.Prelude.{◌∷◌, cond, nat_lt, nat_le, int_lt, length, slice_index, slice_index_or, unsigned_abs}
 use Rattle.amd_model.specs.Below.{list_below}
 use Rattle.amd_model.specs.Input.Columns.{at}
 use Rattle.amd_model.specs.Listing.{Tree, is_child, heaviest, children, roots, ListsTrees}
-use Rattle.amd_model.specs.Tie.{has, Once}
+use Rattle.amd_model.specs.Quotient.{has, Once}
 use Rattle.amd_numbers.specs.Links.{named}
 
 -- ---- the tree of the elements
@@ -15,7 +16,14 @@ is_element nn nv e = nat_lt e nn && int_lt (pos 0) (at nv e)
 
 -- the elements with their parents, weighed by their sizes
 abbrev pub tree_of : ℕ → List ℤ → List ℤ → List ℤ → Tree
-tree_of nn parent nv f_size = record { size = nn; is_node = is_element nn nv; parent = λ e. named (at parent e); weight = λ e. unsigned_abs (at f_size e); block = λ e. e ∷ [] }
+tree_of nn parent nv f_size = record {
+  size = nn;
+  is_node = is_element nn nv;
+  parent = λ e. named (at parent e);
+  weight =
+      λ e. unsigned_abs (at f_size e);
+  block = λ e. e ∷ [];
+}
 
 -- each element has a size, and as parent an element or -1; a rank that rises from each element to its parent leaves no cycle
 pub record IsForest (nn : ℕ) (parent nv f_size : List ℤ) : Type 0 where
@@ -23,7 +31,8 @@ pub record IsForest (nn : ℕ) (parent nv f_size : List ℤ) : Type 0 where
   pub nv_room : length nv ≡ nn
   pub f_size_room : length f_size ≡ nn
   pub sizes : (e : ℕ) → is_element nn nv e ≡ true → pos 0 ≤ℤ at f_size e
-  pub parents : (e : ℕ) → is_element nn nv e ≡ true → (at parent e ≡ negsuc 0) ⊎ ((p : ℕ) × (at parent e ≡ pos p) × (is_element nn nv p ≡ true))
+  pub parents : (e : ℕ) → is_element nn nv e ≡ true → (at parent e ≡ negsuc 0)
+      ⊎ ((p : ℕ) × (at parent e ≡ pos p) × (is_element nn nv p ≡ true))
   pub rank : ℕ → ℕ
   pub rises : (e p : ℕ) → is_element nn nv e ≡ true → at parent e ≡ pos p → rank e < rank p
 
@@ -63,7 +72,8 @@ pub record ListsTree (child sibling : List ℤ) (root : ℕ) (listing : List ℕ
   pub is : listing ≡ below ++ root ∷ []
   pub once : Once listing
 
--- a finite tree that fits: its nodes are places of the lists, of sibling only those below the root, and as many as the stack and the numbers from k on allow
+-- a finite tree that fits: its nodes are places of the lists, of sibling only those below the root, and as many as the stack and the
+-- numbers from k on allow
 pub record FitsTree (child sibling order stack : List ℤ) (root k nn : ℕ) : Type 0 where
   pub listing : List ℕ
   pub tree : ListsTree child sibling root listing

@@ -2,7 +2,7 @@
 use Rattle.std.specs.Prelude.{ℕ, Bool, true, false, Some, List, ◌∷◌, ◌++◌, ◌≡◌, ◌≤◌, ◌<◌, ◌==◌, ◌&&◌, ◌+◌, ◌-◌, not, cond, max, filter}
 use Rattle.std.specs.Prelude.{flat_map, sum_by}
 use Rattle.amd_model.specs.Figures.{cut, front_sum, entries, ldl_steps, lu_steps}
-use Rattle.amd_model.specs.Tie.{has, last_that, turned}
+use Rattle.amd_model.specs.Quotient.{has, last_that, turned}
 use Rattle.amd_views.specs.Rounds.{firsts, keeps_none, alike_in, Absorbed, IsApart, bound_after}
 use Rattle.amd_views.specs.Views.{View, ClassLists, live_of}
 

@@ -7,7 +7,7 @@ use Rattle.amd_model.specs.State.{State, Home, Last, Live, Gone, in_block, is_el
 use Rattle.amd_model.specs.Figures.{figure, entries, ldl_steps, lu_steps, greatest_front, cut}
 use Rattle.amd_model.specs.Listing.{weight}
 use Rattle.amd_model.specs.Sound.{IsSound}
-use Rattle.amd_model.specs.Tie.{Tie, Fits, has, is_empty}
+use Rattle.amd_model.specs.Quotient.{QuotientGraph, Fits, has, is_empty}
 use Rattle.amd_views.specs.Views.{View, live_of}
 
 -- following the links of rows that were merged or mass-eliminated comes to an end: the rank rises with each, and what has no
@@ -28,7 +28,7 @@ pub record LinksLead (n : ℕ) (links : ℕ → Option ℕ) (home : ℕ → Home
   pub end : LinksEnd n links rank top
 
 -- the lists of the record, entries that name no class aside, are those of the elimination
-pub record Keeps (w : View) (t : Tie) : Type 0 where
+pub record Keeps (w : View) (t : QuotientGraph) : Type 0 where
   pub size : (i : ℕ) → has t.placed i ≡ true → w.size i ≡ t.size i
   pub no_class : (i : ℕ) → has t.placed i ≡ false → w.size i ≡ 0
   pub bound : (i : ℕ) → has t.placed i ≡ true → w.bound i ≡ t.bound i
@@ -53,7 +53,7 @@ pub record KeepsFronts (g : Graph) (dense : ℕ → Bool) (w : View) (s : State)
   pub greatest : w.figures.d_max ≡ greatest_front g dense s
 
 -- the record keeps the lists t, which stand for the sound state s of an elimination of the graph
-pub record Stands (g : Graph) (dense : ℕ → Bool) (w : View) (t : Tie) (s : State) : Type 0 where
+pub record Stands (g : Graph) (dense : ℕ → Bool) (w : View) (t : QuotientGraph) (s : State) : Type 0 where
   pub graph : IsGraph g
   pub sound : IsSound g s
   pub fits : Fits g t s

@@ -2,7 +2,7 @@
 use Rattle.std.specs.Prelude.{ℕ, Bool, true, false, Option, Some, List, [], ◌≡◌, ◌<◌, ◌==◌, ◌&&◌, ◌||◌, ◌+◌, ◌-◌, not, min, cond, nat_eq}
 use Rattle.std.specs.Prelude.{nat_lt, filter, fold, flat_map, sum_by}
 use Rattle.amd_model.specs.Figures.{cut}
-use Rattle.amd_model.specs.Tie.{has, each, is_empty, add_new}
+use Rattle.amd_model.specs.Quotient.{has, each, is_empty, add_new}
 use Rattle.amd_views.specs.Views.{ClassLists}
 
 -- the numbers of a list that are not skipped, each at its first occurrence

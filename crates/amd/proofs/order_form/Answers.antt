@@ -18,7 +18,8 @@ not_nothing : (count : ℕ) (z : ℤ) → pos count ≡ z → count ≢ 0 → z 
 not_nothing count z is some e = let zero : count ≡ 0 = cc in some zero
 
 -- what an input with marks has
-input_holding : (hold : Option (List Bool)) (z : ℤ) (a_p a_i : List ℤ) → IsInput z z a_p a_i → HasMarks hold (unsigned_abs z) → IsInputHolding hold z a_p a_i
+input_holding : (hold : Option (List Bool)) (z : ℤ) (a_p a_i : List ℤ) → IsInput z z a_p a_i → HasMarks hold (unsigned_abs z) →
+    IsInputHolding hold z a_p a_i
 input_holding None z a_p a_i form marks = form
 input_holding (Some xs) z a_p a_i form marks = (form, marks)
 
@@ -38,15 +39,18 @@ marks_back : (hold : Option (List Bool)) (count : ℕ) (z : ℤ) → pos count �
 marks_back hold count z is marks = subst (λ m. HasMarks hold (unsigned_abs m)) (sym is) marks
 
 -- an ordering by the pairs of its status, of an input with this status
-ordering_of : (hold : Option (List Bool)) (z t : ℤ) (aggressive : Bool) (a_p a_i p q : List ℤ) (info : Info) (status : Status) → z ≢ pos 0 → IsInput z z a_p a_i → HasMarks hold (unsigned_abs z) →
-    IsStatusOf z z a_p a_i status → info.status ≡ status → OrdersMatrix hold (unsigned_abs z) t aggressive (ordered_pairs status (unsigned_abs z) a_p a_i) a_p a_i p q info →
+ordering_of : (hold : Option (List Bool)) (z t : ℤ) (aggressive : Bool) (a_p a_i p q : List ℤ) (info : Info) (status : Status) → z ≢ pos 0 →
+    IsInput z z a_p a_i → HasMarks hold (unsigned_abs z) →
+    IsStatusOf z z a_p a_i status → info.status ≡ status → OrdersMatrix hold (unsigned_abs z) t aggressive
+    (ordered_pairs status (unsigned_abs z) a_p a_i) a_p a_i p q info →
     IsOrderingHolding hold z t aggressive a_p a_i p q info
 ordering_of hold z t aggressive a_p a_i p q info status some form marks is told orders = record {
   nothing = λ e. absurd (some e);
   form = λ _. form;
   marks = λ _. marks;
   status = λ _. subst (λ s. IsStatusOf z z a_p a_i s) (sym told) is;
-  orders = λ _. subst (λ s. OrdersMatrix hold (unsigned_abs z) t aggressive (ordered_pairs s (unsigned_abs z) a_p a_i) a_p a_i p q info) (sym told) orders;
+  orders = λ _. subst (λ s. OrdersMatrix hold (unsigned_abs z) t aggressive (ordered_pairs s (unsigned_abs z) a_p a_i) a_p a_i p q info)
+      (sym told) orders;
 }
 
 -- what two facts of an answer give
@@ -63,7 +67,8 @@ pub returns-in_default-clause-refusal : goal.returns-in_default-clause-refusal
 returns-in_default-clause-refusal g c =
     let zero : FitsUnsignedBits 64 (pos 0) = omega arith in (
       (λ e. c.in_default.ensures (subst (λ z. FitsUnsignedBits 64 z) (sym e) zero)),
-      (λ input. c.in_default.ensures (input_fits _ _ _ (holding_form (option_copied c.args.hold) _ _ _ input) (simp length-map (omega arith)))),
+      (λ input. c.in_default.ensures (input_fits _ _ _ (holding_form (option_copied c.args.hold) _ _ _ input)
+          (simp length-map (omega arith)))),
     )
 
 pub returns-then-count-eq0-clause-ordering : goal.returns-then-count-eq0-clause-ordering
@@ -103,7 +108,8 @@ pub order_jumbled-requires-clause-form : goal.order_jumbled-requires-clause-form
 order_jumbled-requires-clause-form g c = (c.in-OkButJumbled.ensures.status (c.in-OkButJumbled.ensures.marks (λ e. cc))).0
 
 pub order_sorted-requires-clause-marks : goal.order_sorted-requires-clause-marks
-order_sorted-requires-clause-marks g c = marks_for (option_copied c.args.hold) c.in-Some.count _ c.in-Some.ensures.1 (c.in-OK.ensures.marks (λ e. cc))
+order_sorted-requires-clause-marks g c = marks_for (option_copied c.args.hold) c.in-Some.count _ c.in-Some.ensures.1
+    (c.in-OK.ensures.marks (λ e. cc))
 
 pub returns-in-OK-clause-ordering : goal.returns-in-OK-clause-ordering
 returns-in-OK-clause-ordering g c =
@@ -117,11 +123,13 @@ returns-in-OK-clause-ordering g c =
     let hold = option_copied c.args.hold in
     let marks = c.in-OK.ensures.marks (λ e. cc) in
     both_of c.order_sorted.result
-    (λ a. OrdersMatrix hold (unsigned_abs z) t aggressive (ordered_pairs OK (unsigned_abs z) a_p a_i) a_p a_i (map value a.0.items) (map value a.1.items) a.2)
+    (λ a. OrdersMatrix hold (unsigned_abs z) t aggressive (ordered_pairs OK (unsigned_abs z) a_p a_i) a_p a_i (map value a.0.items)
+    (map value a.1.items) a.2)
     (λ a. a.2.status ≡ OK)
     (λ a. IsOrderingHolding hold z t aggressive a_p a_i (map value a.0.items) (map value a.1.items) a.2)
     c.order_sorted.ensures.orders c.order_sorted.ensures.status
-    (λ a orders told. ordering_of hold z t aggressive a_p a_i (map value a.0.items) (map value a.1.items) a.2 OK some (c.in-OK.ensures.status marks).0
+    (λ a orders told. ordering_of hold z t aggressive a_p a_i (map value a.0.items) (map value a.1.items) a.2 OK some
+    (c.in-OK.ensures.status marks).0
     (marks_for hold c.in-Some.count z c.in-Some.ensures.1 marks) (c.in-OK.ensures.status marks) told orders)
 
 pub returns-in-OK-clause-refusal : goal.returns-in-OK-clause-refusal
@@ -130,11 +138,16 @@ returns-in-OK-clause-refusal g c =
     let some = not_nothing c.in-Some.count (value c.args.n) c.in-Some.ensures.1 c.if-count-eq0.false in
     let hold = option_copied c.args.hold in
     let marks = c.in-OK.ensures.marks (λ e. cc) in
-    memory_of c.order_sorted.result (λ e. IsRefusalHolding hold (value c.args.n) (map value c.args.a_p.now) (map value c.args.a_i.now) e) c.order_sorted.ensures.refused
-    (some, input_holding hold (value c.args.n) _ _ (c.in-OK.ensures.status marks).0 (marks_for hold c.in-Some.count (value c.args.n) c.in-Some.ensures.1 marks))
+    memory_of c.order_sorted.result (λ e. IsRefusalHolding hold (value c.args.n) (map value c.args.a_p.now) (map value c.args.a_i.now) e)
+    c.order_sorted.ensures.refused (
+      some,
+      input_holding hold (value c.args.n) _ _ (c.in-OK.ensures.status marks).0
+          (marks_for hold c.in-Some.count (value c.args.n) c.in-Some.ensures.1 marks),
+    )
 
 pub order_jumbled-requires-clause-marks : goal.order_jumbled-requires-clause-marks
-order_jumbled-requires-clause-marks g c = marks_for (option_copied c.args.hold) c.in-Some.count _ c.in-Some.ensures.1 (c.in-OkButJumbled.ensures.marks (λ e. cc))
+order_jumbled-requires-clause-marks g c = marks_for (option_copied c.args.hold) c.in-Some.count _ c.in-Some.ensures.1
+    (c.in-OkButJumbled.ensures.marks (λ e. cc))
 
 pub returns-in-OkButJumbled-clause-ordering : goal.returns-in-OkButJumbled-clause-ordering
 returns-in-OkButJumbled-clause-ordering g c =
@@ -148,11 +161,13 @@ returns-in-OkButJumbled-clause-ordering g c =
     let hold = option_copied c.args.hold in
     let marks = c.in-OkButJumbled.ensures.marks (λ e. cc) in
     both_of c.order_jumbled.result
-    (λ a. OrdersMatrix hold (unsigned_abs z) t aggressive (ordered_pairs OkButJumbled (unsigned_abs z) a_p a_i) a_p a_i (map value a.0.items) (map value a.1.items) a.2)
+    (λ a. OrdersMatrix hold (unsigned_abs z) t aggressive (ordered_pairs OkButJumbled (unsigned_abs z) a_p a_i) a_p a_i
+    (map value a.0.items) (map value a.1.items) a.2)
     (λ a. a.2.status ≡ OkButJumbled)
     (λ a. IsOrderingHolding hold z t aggressive a_p a_i (map value a.0.items) (map value a.1.items) a.2)
     c.order_jumbled.ensures.orders c.order_jumbled.ensures.status
-    (λ a orders told. ordering_of hold z t aggressive a_p a_i (map value a.0.items) (map value a.1.items) a.2 OkButJumbled some (c.in-OkButJumbled.ensures.status marks).0
+    (λ a orders told. ordering_of hold z t aggressive a_p a_i (map value a.0.items) (map value a.1.items) a.2 OkButJumbled some
+    (c.in-OkButJumbled.ensures.status marks).0
     (marks_for hold c.in-Some.count z c.in-Some.ensures.1 marks) (c.in-OkButJumbled.ensures.status marks) told orders)
 
 pub returns-in-OkButJumbled-clause-refusal : goal.returns-in-OkButJumbled-clause-refusal
@@ -161,8 +176,12 @@ returns-in-OkButJumbled-clause-refusal g c =
     let some = not_nothing c.in-Some.count (value c.args.n) c.in-Some.ensures.1 c.if-count-eq0.false in
     let hold = option_copied c.args.hold in
     let marks = c.in-OkButJumbled.ensures.marks (λ e. cc) in
-    memory_of c.order_jumbled.result (λ e. IsRefusalHolding hold (value c.args.n) (map value c.args.a_p.now) (map value c.args.a_i.now) e) c.order_jumbled.ensures.refused
-    (some, input_holding hold (value c.args.n) _ _ (c.in-OkButJumbled.ensures.status marks).0 (marks_for hold c.in-Some.count (value c.args.n) c.in-Some.ensures.1 marks))
+    memory_of c.order_jumbled.result (λ e. IsRefusalHolding hold (value c.args.n) (map value c.args.a_p.now) (map value c.args.a_i.now) e)
+    c.order_jumbled.ensures.refused (
+      some,
+      input_holding hold (value c.args.n) _ _ (c.in-OkButJumbled.ensures.status marks).0
+          (marks_for hold c.in-Some.count (value c.args.n) c.in-Some.ensures.1 marks),
+    )
 
 pub returns-in-Invalid-clause-refusal : goal.returns-in-Invalid-clause-refusal
 returns-in-Invalid-clause-refusal g c =

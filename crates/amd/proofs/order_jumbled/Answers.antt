@@ -18,6 +18,9 @@ returns-clause-orders g c =
     let b_p : List ℤ = map value c.in_ok-c_p.c_p.items in
     let b_i : List ℤ = map value c.in_ok-c_p.c_i.items in
     let hold = option_copied c.args.hold in
-    let first = subst (λ ci. OrdersMatrix hold n t aggressive (is_pair n (map value c.deref.result.now) (map value ci)) (map value c.deref.result.now) (map value ci) p q c.in_ok-p.info) c.deref-2.ensures.value c.in_ok-p.ensures.orders in
-    let ordered = subst (λ cp. OrdersMatrix hold n t aggressive (is_pair n (map value cp) b_i) (map value cp) b_i p q c.in_ok-p.info) c.deref.ensures.value first in
-    orders_turned hold (value c.args.n) t aggressive (map value c.args.a_p.now) (map value c.args.a_i.now) b_p b_i p q c.in_ok-p.info OkButJumbled c.in_ok-c_p.ensures.clean ordered
+    let first = subst (λ ci. OrdersMatrix hold n t aggressive (is_pair n (map value c.deref.result.now) (map value ci))
+    (map value c.deref.result.now) (map value ci) p q c.in_ok-p.info) c.deref-2.ensures.value c.in_ok-p.ensures.orders in
+    let ordered = subst (λ cp. OrdersMatrix hold n t aggressive (is_pair n (map value cp) b_i) (map value cp) b_i p q c.in_ok-p.info)
+    c.deref.ensures.value first in
+    orders_turned hold (value c.args.n) t aggressive (map value c.args.a_p.now) (map value c.args.a_i.now) b_p b_i p q c.in_ok-p.info
+    OkButJumbled c.in_ok-c_p.ensures.clean ordered

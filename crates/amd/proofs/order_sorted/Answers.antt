@@ -1,4 +1,5 @@
-use Rattle.std.proofs.Common.{rules, ℕ, ℤ, Bool, List, zero, suc, pos, negsuc, ◌≡◌, ◌≢◌, ◌+◌, ◌/◌, ◌^◌, ◌<◌, map, length, ap, subst, sym, ◌∙◌, refl, arith}
+use Rattle.std.proofs.Common.{rules, ℕ, ℤ, Bool, List, zero, suc, pos, negsuc, ◌≡◌, ◌≢◌, ◌+◌, ◌/◌, ◌^◌, ◌<◌, map, length, ap, subst, sym}
+use Rattle.std.proofs.Common.{◌∙◌, refl, arith}
 use Rattle.std.specs.Prelude.{unsigned_abs, Option, None, Some, is_none, not, false}
 use Rattle.std.specs.Option.{SomeIff, option_copied}
 use Rattle.std.proofs.lemmas.Bool.{true≢false}
@@ -16,7 +17,8 @@ use Rattle.amd_input.proofs.PatternLemmas.{input_form, input_sorted, input_fits}
 use Rattle.amd.proofs.order_sorted.Goals as goal
 
 -- the number of words is at most the greatest `isize` where it was answered
-fits : (total count : ℕ) (words : Option ℕ) → SomeIff words (total + total / 5 + count < 2 ^ 63) (total + total / 5 + count) → is_none words ≡ false → total + total / 5 + count < 2 ^ 63
+fits : (total count : ℕ) (words : Option ℕ) → SomeIff words (total + total / 5 + count < 2 ^ 63) (total + total / 5 + count) →
+    is_none words ≡ false → total + total / 5 + count < 2 ^ 63
 fits total count None words there = absurd (true≢false there)
 fits total count (Some x) words there = words.0
 
@@ -30,7 +32,8 @@ some_of z zero e some = absurd (some e)
 some_of z (suc m) e some = omega arith
 
 -- the degrees of the rows are the numbers of their arcs
-counts_of : (n : ℕ) (a_p a_i : List ℤ) (total : ℕ) (numbers : List ℕ) → AreDegrees n a_p a_i total numbers → AreCounts (graph_of n a_p a_i) ((graph_of n a_p a_i).edge) numbers
+counts_of : (n : ℕ) (a_p a_i : List ℤ) (total : ℕ) (numbers : List ℕ) → AreDegrees n a_p a_i total numbers →
+    AreCounts (graph_of n a_p a_i) ((graph_of n a_p a_i).edge) numbers
 unfolding graph_of degree
 counts_of n a_p a_i total numbers degrees = record { size = degrees.size; each = degrees.each }
 
@@ -68,7 +71,8 @@ pub plain_1-requires-clause-some : goal.plain_1-requires-clause-some
 plain_1-requires-clause-some g c =
     let value = g.I.Number.value in
     let size = ap length c.deref.ensures.value ∙ c.in_ok-nzaat.ensures.degrees.size in
-    some_of (value c.args.n) (length c.deref.result.now) (size_of (value c.args.n) (map value c.args.a_p.now) (map value c.args.a_i.now) c.deref.result.now c.requires.form size) c.requires.some
+    some_of (value c.args.n) (length c.deref.result.now) (size_of (value c.args.n) (map value c.args.a_p.now) (map value c.args.a_i.now)
+    c.deref.result.now c.requires.form size) c.requires.some
 
 pub plain_1-requires-clause-form : goal.plain_1-requires-clause-form
 plain_1-requires-clause-form g c =
@@ -123,7 +127,8 @@ returns-clause-orders g c =
     let q : List ℤ = map value c.in_ok-p.p_inv.items in
     let total : ℕ = c.in_ok-nzaat.nzaat in
     let size = ap length c.deref.ensures.value ∙ c.in_ok-nzaat.ensures.degrees.size in
-    let room = fits total c.known_count-count.result c.workspace_words.result c.workspace_words.ensures (ap not (c.is_none.ensures ∙ ap not c.if-is_none.false)) in
+    let room = fits total c.known_count-count.result c.workspace_words.result c.workspace_words.ensures
+    (ap not (c.is_none.ensures ∙ ap not c.if-is_none.false)) in
     let hold = option_copied c.args.hold in
     engine_orders hold n t aggressive a_p a_i p q c.in_ok-nzaat.degrees.items total c.aat.new.info c.plain_1.new.info
     c.in_ok-nzaat.ensures.degrees
@@ -134,4 +139,5 @@ returns-clause-orders g c =
 
 pub returns-clause-status : goal.returns-clause-status
 returns-clause-status g c =
-    ap (λ (x : Info). x.status) c.in_ok-p.ensures.orders.told ∙ ap (λ (x : Info). x.status) c.in_ok-nzaat.ensures.others ∙ ap (λ (x : Info). x.status) c.new-info.ensures
+    ap (λ (x : Info). x.status) c.in_ok-p.ensures.orders.told ∙ ap (λ (x : Info). x.status) c.in_ok-nzaat.ensures.others ∙
+    ap (λ (x : Info). x.status) c.new-info.ensures

@@ -6,28 +6,39 @@ use Rattle.amd_model.specs.State.{live_at, class_at, block_at, stands, inside, h
 use Rattle.amd_model.specs.Step.{absorbed, other, outer, mass, block, border_of, beyond, outside, new_bound}
 use Rattle.amd_model.specs.Run.{Run}
 use Rattle.amd_model.specs.Figures.{front_sum, is_made, figure, entries, ldl_steps, lu_steps, max_below, greatest_front}
-use Rattle.amd_model.specs.Listing.{block_list, weight, is_child, is_some_of, heaviest, heaviest_last, children, roots, none, more, IsPostorder}
+use Rattle.amd_model.specs.Listing.{block_list, weight, is_child, is_some_of, heaviest, heaviest_last, children, roots, none, more}
+use Rattle.amd_model.specs.Listing.{IsPostorder}
 use Rattle.amd_model.specs.Input.Pattern.{graph_of, is_pair, holds_row}
-use Rattle.amd_model.specs.Tie.{Fits, has, each, is_empty, turned, last_that, add_new, was_read, met_below, met_at, met_edges, other_end, starting_list, start_tie, pivot, gathered, takes, kept_elements, kept_variables, done, rest, alike, represents, made, ends, new_size, far, left, next_bound, new_home, round, next, after_rounds}
+use Rattle.amd_model.specs.Quotient.{Fits, has, each, is_empty, turned, last_that, add_new, was_read, met_below, met_at, met_edges}
+use Rattle.amd_model.specs.Quotient.{other_end, starting_list, start_tie, pivot, gathered, takes, kept_elements, kept_variables, done, rest}
+use Rattle.amd_model.specs.Quotient.{alike, represents, made, ends, new_size, far, left, next_bound, new_home, round, next, after_rounds}
 use Rattle.amd_model.specs.Examples.Table.{none_dense}
-use Rattle.amd_model.specs.Examples.Cycle.{cycle, pointers, rows, start_table, one_table, two_table, at_start, unbound, after_one, after_two, cycle_tie}
+use Rattle.amd_model.specs.Examples.Cycle.{cycle, pointers, rows, start_table, one_table, two_table, at_start, unbound, after_one}
+use Rattle.amd_model.specs.Examples.Cycle.{after_two, cycle_tie}
 use Rattle.amd_model.specs.Factor.{before, IsFactor}
-use Rattle.amd_model.proofs.ReachTest.{reaches, in_column, column, columns_to, columns, factor_of}
-use Rattle.amd_model.proofs.DegreeSums.{pattern_graph}
-use Rattle.amd_model.proofs.TieStart.{start_fits}
-use Rattle.amd_model.proofs.StartingLists.{starting_lists}
-use Rattle.amd_model.proofs.StepTest.{passes, same_home, same_parent, same_test, implies, alike_test, moved_test, least_at, block_goes, kept_at, moved_at, merged_at, made_at, taken_at, border_at, parent_at, bound_at, bound_stays_at, step_tests, first_home, start_tests}
+use Rattle.amd_model.proofs.Listings.ReachTest.{reaches, in_column, column, columns_to, columns, factor_of}
+use Rattle.amd_model.proofs.Patterns.DegreeSums.{pattern_graph}
+use Rattle.amd_model.proofs.Quotient.Start.{start_fits}
+use Rattle.amd_model.proofs.Patterns.StartingLists.{starting_lists}
+use Rattle.amd_model.proofs.States.StepTest.{passes, same_home, same_parent, same_test, implies, alike_test, moved_test, least_at}
+use Rattle.amd_model.proofs.States.StepTest.{block_goes, kept_at, moved_at, merged_at, made_at, taken_at, border_at, parent_at, bound_at}
+use Rattle.amd_model.proofs.States.StepTest.{bound_stays_at, step_tests, first_home, start_tests}
 use Rattle.amd_model.proofs.Examples.Table.{is_within, steps_test, run_test, tables_run}
 
 pub tested : run_test cycle none_dense true start_table ((3, one_table) ∷ (2, two_table) ∷ []) ≡ true
-unfolding any_below all_below sum_below count_below graph_of is_pair holds_row degree live_at class_at block_at stands inside holds joined neighbours front absorbed other outer mass block border_of beyond outside new_bound has each is_within passes same_home same_parent same_test implies alike_test moved_test least_at block_goes kept_at moved_at merged_at made_at taken_at border_at parent_at bound_at bound_stays_at step_tests first_home start_tests steps_test run_test
+unfolding any_below all_below sum_below count_below graph_of is_pair holds_row degree live_at class_at block_at stands inside holds joined
+    neighbours front absorbed other outer mass block border_of beyond outside new_bound has each is_within passes same_home same_parent
+    same_test implies alike_test moved_test least_at block_goes kept_at moved_at merged_at made_at taken_at border_at parent_at bound_at
+    bound_stays_at step_tests first_home start_tests steps_test run_test
 tested = refl
 
 pub run : Run cycle none_dense true at_start (after_one ∷ after_two ∷ [])
-run = tables_run cycle (pattern_graph 4 pointers rows) none_dense true start_table.homes start_table.bounds ((3, one_table) ∷ (2, two_table) ∷ []) tested
+run = tables_run cycle (pattern_graph 4 pointers rows) none_dense true start_table.homes start_table.bounds
+    ((3, one_table) ∷ (2, two_table) ∷ []) tested
 
 pub listing : IsPostorder cycle none_dense after_two (3 ∷ 0 ∷ 1 ∷ 2 ∷ [])
-unfolding sum_below count_below list_below graph_of class_at block_at block_list weight is_child is_some_of heaviest heaviest_last children roots has
+unfolding sum_below count_below list_below graph_of class_at block_at block_list weight is_child is_some_of heaviest heaviest_last children
+    roots has
 listing = record {
   blocks = 3 ∷ 0 ∷ 1 ∷ 2 ∷ [];
   lists = more {e = 2} {rest = []} {below = 3 ∷ []} {after = []} (more {e = 3} {rest = []} {below = []} {after = []} none none) none;
@@ -50,39 +61,51 @@ pub d_max : greatest_front cycle none_dense after_two ≡ 3
 unfolding any_below sum_below count_below graph_of is_pair holds_row degree class_at block_at is_made max_below greatest_front has
 d_max = refl
 
-pub lists : map (starting_list 4 (is_pair 4 pointers rows)) (0 ∷ 1 ∷ 2 ∷ 3 ∷ []) ≡ (1 ∷ 3 ∷ []) ∷ (0 ∷ 2 ∷ []) ∷ (1 ∷ 3 ∷ []) ∷ (0 ∷ 2 ∷ []) ∷ []
+pub lists : map (starting_list 4 (is_pair 4 pointers rows)) (0 ∷ 1 ∷ 2 ∷ 3 ∷ []) ≡ (1 ∷ 3 ∷ []) ∷ (0 ∷ 2 ∷ []) ∷ (1 ∷ 3 ∷ []) ∷ (0 ∷ 2 ∷ [])
+    ∷ []
 unfolding any_below list_below is_pair holds_row was_read met_below met_at met_edges other_end starting_list
 lists = refl
 
 pub first_pivot : pivot cycle_tie.bound cycle_tie.placed ≡ 3
-unfolding any_below list_below sum_below count_below graph_of is_pair holds_row degree has each is_empty turned last_that add_new was_read met_below met_at met_edges other_end starting_list start_tie pivot gathered takes kept_elements kept_variables done rest alike represents made ends new_size far left next_bound new_home round next after_rounds
+unfolding any_below list_below sum_below count_below graph_of is_pair holds_row degree has each is_empty turned last_that add_new was_read
+    met_below met_at met_edges other_end starting_list start_tie pivot gathered takes kept_elements kept_variables done rest alike represents
+    made ends new_size far left next_bound new_home round next after_rounds
 first_pivot = refl
 
 pub second_pivot : pivot (next true cycle_tie).bound (next true cycle_tie).placed ≡ 2
-unfolding any_below list_below sum_below count_below graph_of is_pair holds_row degree has each is_empty turned last_that add_new was_read met_below met_at met_edges other_end starting_list start_tie pivot gathered takes kept_elements kept_variables done rest alike represents made ends new_size far left next_bound new_home round next after_rounds
+unfolding any_below list_below sum_below count_below graph_of is_pair holds_row degree has each is_empty turned last_that add_new was_read
+    met_below met_at met_edges other_end starting_list start_tie pivot gathered takes kept_elements kept_variables done rest alike represents
+    made ends new_size far left next_bound new_home round next after_rounds
 second_pivot = refl
 
 pub fits : Fits cycle cycle_tie at_start
-fits = start_fits cycle none_dense at_start (starting_list 4 (is_pair 4 pointers rows)) (pattern_graph 4 pointers rows) run.start (λ i h. starting_lists 4 pointers rows i)
+fits = start_fits cycle none_dense at_start (starting_list 4 (is_pair 4 pointers rows)) (pattern_graph 4 pointers rows) run.start
+    (λ i h. starting_lists 4 pointers rows i)
 
 pub homes : map (after_rounds 4 true cycle_tie).home (0 ∷ 1 ∷ 2 ∷ 3 ∷ []) ≡ two_table.homes
-unfolding any_below list_below sum_below count_below graph_of is_pair holds_row degree has each is_empty turned last_that add_new was_read met_below met_at met_edges other_end starting_list start_tie pivot gathered takes kept_elements kept_variables done rest alike represents made ends new_size far left next_bound new_home round next after_rounds
+unfolding any_below list_below sum_below count_below graph_of is_pair holds_row degree has each is_empty turned last_that add_new was_read
+    met_below met_at met_edges other_end starting_list start_tie pivot gathered takes kept_elements kept_variables done rest alike represents
+    made ends new_size far left next_bound new_home round next after_rounds
 homes = refl
 
 pub first_front : list_below 4 (front cycle at_start 3) ≡ 0 ∷ 2 ∷ []
-unfolding any_below all_below list_below graph_of is_pair holds_row degree live_at class_at block_at stands inside holds joined neighbours front has
+unfolding any_below all_below list_below graph_of is_pair holds_row degree live_at class_at block_at stands inside holds joined neighbours
+    front has
 first_front = refl
 
 pub first_bound : new_bound cycle true at_start after_one 3 2 ≡ 1
-unfolding any_below all_below sum_below count_below list_below graph_of is_pair holds_row degree live_at class_at block_at stands inside holds joined neighbours front absorbed other outer mass block border_of beyond outside new_bound has
+unfolding any_below all_below sum_below count_below list_below graph_of is_pair holds_row degree live_at class_at block_at stands inside
+    holds joined neighbours front absorbed other outer mass block border_of beyond outside new_bound has
 first_bound = refl
 
 pub old_bound_counts : new_bound cycle true unbound after_one 3 2 ≡ 0
-unfolding any_below all_below sum_below count_below list_below graph_of is_pair holds_row degree live_at class_at block_at stands inside holds joined neighbours front absorbed other outer mass block border_of beyond outside new_bound has
+unfolding any_below all_below sum_below count_below list_below graph_of is_pair holds_row degree live_at class_at block_at stands inside
+    holds joined neighbours front absorbed other outer mass block border_of beyond outside new_bound has
 old_bound_counts = refl
 
 pub second_block : list_below 4 (block cycle true after_one 2) ≡ 0 ∷ 1 ∷ 2 ∷ []
-unfolding any_below all_below sum_below count_below list_below graph_of is_pair holds_row degree live_at class_at block_at stands inside holds joined neighbours front absorbed other outer mass block border_of beyond outside new_bound has
+unfolding any_below all_below sum_below count_below list_below graph_of is_pair holds_row degree live_at class_at block_at stands inside
+    holds joined neighbours front absorbed other outer mass block border_of beyond outside new_bound has
 second_block = refl
 
 pub factor : IsFactor cycle (3 ∷ 0 ∷ 1 ∷ 2 ∷ []) ((1 ∷ 3 ∷ []) ∷ (2 ∷ 3 ∷ []) ∷ (3 ∷ []) ∷ [] ∷ [])

@@ -1,5 +1,6 @@
 -- Column forms, jumbled columns and thresholds, evaluated.
-use Rattle.std.proofs.Common.{ℕ, ℤ, pos, negsuc, Bool, true, ◌≡◌, ◌<◌, ◌≤◌, ◌+◌, ◌*◌, ◌&&◌, zero, suc, inl, inr, refl, arith, List, [], ◌∷◌, length}
+use Rattle.std.proofs.Common.{ℕ, ℤ, pos, negsuc, Bool, true, ◌≡◌, ◌<◌, ◌≤◌, ◌+◌, ◌*◌, ◌&&◌, zero, suc, inl, inr, refl, arith, List, [], ◌∷◌}
+use Rattle.std.proofs.Common.{length}
 use Rattle.std.specs.Prelude.{◌≤ℤ◌, ◌<ℤ◌, int_le, int_lt, nat_lt}
 use Rattle.std.proofs.lemmas.Int.{ints}
 use Rattle.std.proofs.lemmas.Bool.{and_parts, cases_lt, ltb-true}
@@ -8,7 +9,7 @@ use Rattle.amd_model.specs.Below.{all_below}
 use Rattle.amd_model.specs.Input.Columns.{at, IsColumnForm, IsInput, IsJumbledInput}
 use Rattle.amd_model.specs.Input.Dense.{IsThreshold}
 use Rattle.amd_model.specs.Examples.Cycle.{pointers, rows}
-use Rattle.amd_model.proofs.BelowLemmas.{all_gives}
+use Rattle.amd_model.proofs.Counting.Below.{all_gives}
 
 le_gives : (a b : ℤ) → int_le a b ≡ true → a ≤ℤ b
 le_gives a b h = grind (arith, ints)
@@ -30,7 +31,8 @@ module _ (m : ℤ) (n : ℕ) (ap ai : List ℤ) where
   form_from : at ap 0 ≡ pos 0 → form_test ≡ true → IsColumnForm m n ap ai
   unfolding form_test ascends_at row_at
   form_from first passed =
-      let a = and_parts (nat_lt n (length ap) && all_below n ascends_at && int_le (at ap n) (pos (length ai))) (all_below (length ai) row_at) passed in
+      let a = and_parts (nat_lt n (length ap) && all_below n ascends_at && int_le (at ap n) (pos (length ai)))
+      (all_below (length ai) row_at) passed in
       let b = and_parts (nat_lt n (length ap) && all_below n ascends_at) (int_le (at ap n) (pos (length ai))) a.0 in
       let c = and_parts (nat_lt n (length ap)) (all_below n ascends_at) b.0 in
       let within : at ap n ≤ℤ pos (length ai) = le_gives (at ap n) (pos (length ai)) b.1 in

@@ -8,13 +8,13 @@ use Rattle.amd_model.specs.Graph.{Graph, IsGraph}
 use Rattle.amd_model.specs.State.{State, Home, Last, live_at, live}
 use Rattle.amd_model.specs.Run.{Run, Steps, last_state}
 use Rattle.amd_model.specs.Sound.{IsSound}
-use Rattle.amd_model.specs.Tie.{has, each}
+use Rattle.amd_model.specs.Quotient.{has, each}
 use Rattle.amd_model.specs.Examples.Table.{Table, state_of}
-use Rattle.amd_model.proofs.BelowLemmas.{all_gives}
-use Rattle.amd_model.proofs.SoundStart.{start_sound}
-use Rattle.amd_model.proofs.SoundStep.{step_sound}
-use Rattle.amd_model.proofs.StepTest.{Ends, passes, start_tests, start_from, step_tests, step_from}
-use Rattle.amd_model.proofs.TieLists.{each_gives}
+use Rattle.amd_model.proofs.Counting.Below.{all_gives}
+use Rattle.amd_model.proofs.States.SoundStart.{start_sound}
+use Rattle.amd_model.proofs.States.SoundStep.{step_sound}
+use Rattle.amd_model.proofs.States.StepTest.{Ends, passes, start_tests, start_from, step_tests, step_from}
+use Rattle.amd_model.proofs.Quotient.Lists.{each_gives}
 
 -- the lists are no longer than the graph has rows, and the borders have rows of it
 unfoldable pub is_within : Graph → Table → Bool
@@ -25,10 +25,12 @@ pub table_ends : (g : Graph) (t : Table) → is_within g t ≡ true → Ends g (
 unfolding has is_within
 table_ends g t within =
     let small : ℕ → Bool = λ e. each (λ v. nat_lt v g.size) (slice_index_or t.borders e []) in
-    let p = and_parts (nat_le (length t.homes) g.size && nat_le (length t.borders) g.size && nat_le (length t.parents) g.size) (all_below g.size small) within in
+    let p = and_parts (nat_le (length t.homes) g.size && nat_le (length t.borders) g.size && nat_le (length t.parents) g.size)
+    (all_below g.size small) within in
     let q = and_parts (nat_le (length t.homes) g.size && nat_le (length t.borders) g.size) (nat_le (length t.parents) g.size) p.0 in
     let r = and_parts (nat_le (length t.homes) g.size) (nat_le (length t.borders) g.size) q.0 in
-    let lh = leb-true (length t.homes) g.size r.0 in let lb = leb-true (length t.borders) g.size r.1 in let lp = leb-true (length t.parents) g.size q.1 in
+    let lh = leb-true (length t.homes) g.size r.0 in let lb = leb-true (length t.borders) g.size r.1 in
+    let lp = leb-true (length t.parents) g.size q.1 in
     let past : (e v : ℕ) → g.size ≤ e → has (slice_index_or t.borders e []) v ≡ false
     = λ e v l. ap (λ xs. has xs v) (get_or_past t.borders e [] (omega (arith, l, lb))) in
     record {
@@ -37,7 +39,9 @@ table_ends g t within =
         | inr k ↦ past e v k
         | inl k ↦ elim (cases_Bool (has (slice_index_or t.borders e []) v)) [
           | inr n ↦ n
-          | inl y ↦ absurd (let m = ltb-true v g.size (each_gives (λ v. nat_lt v g.size) (slice_index_or t.borders e []) (all_gives g.size small p.1 e k) v y) in omega (arith, m, l))
+          | inl y ↦ absurd (let m =
+              ltb-true v g.size (each_gives (λ v. nat_lt v g.size) (slice_index_or t.borders e []) (all_gives g.size small p.1 e k) v y) in
+              omega (arith, m, l))
         ]
       ];
       elements = past;
@@ -47,13 +51,15 @@ table_ends g t within =
 -- the tests of a run: pivots, each with the table after it
 unfoldable pub steps_test : Graph → Bool → Table → List (ℕ × Table) → Bool
 steps_test g aggressive t [] = all_below g.size (λ v. not (live (state_of t) v))
-steps_test g aggressive t (p ∷ rest) = is_within g p.1 && passes (step_tests g aggressive p.0 (state_of t) (state_of p.1)) && steps_test g aggressive p.1 rest
+steps_test g aggressive t (p ∷ rest) = is_within g p.1 && passes (step_tests g aggressive p.0 (state_of t) (state_of p.1)) && steps_test g
+    aggressive p.1 rest
 
 abbrev pub states_of : List (ℕ × Table) → List State
 states_of [] = []
 states_of (p ∷ rest) = state_of p.1 ∷ states_of rest
 
-steps_from : (g : Graph) → IsGraph g → (aggressive : Bool) (t : Table) (rest : List (ℕ × Table)) → IsSound g (state_of t) → Ends g (state_of t) → steps_test g aggressive t rest ≡ true →
+steps_from : (g : Graph) → IsGraph g → (aggressive : Bool) (t : Table) (rest : List (ℕ × Table)) → IsSound g (state_of t) →
+    Ends g (state_of t) → steps_test g aggressive t rest ≡ true →
     Steps g aggressive (state_of t) (states_of rest) × ((v : ℕ) → live (last_state (state_of t) (states_of rest)) v ≡ false)
 unfolding steps_test live_at
 steps_from g laws aggressive t [] sound ends passed = (
@@ -65,17 +71,20 @@ steps_from g laws aggressive t [] sound ends passed = (
 )
 steps_from g laws aggressive t (p ∷ rest) sound ends passed =
     let u : Table = p.1 in
-    let a = and_parts (is_within g u && passes (step_tests g aggressive p.0 (state_of t) (state_of u))) (steps_test g aggressive u rest) passed in
+    let a = and_parts (is_within g u && passes (step_tests g aggressive p.0 (state_of t) (state_of u))) (steps_test g aggressive u rest)
+    passed in
     let b = and_parts (is_within g u) (passes (step_tests g aggressive p.0 (state_of t) (state_of u))) a.0 in
     let step = step_from g aggressive p.0 (state_of t) (state_of u) laws sound ends (table_ends g u b.0) b.1 in
-    let r = steps_from g laws aggressive u rest (step_sound g laws aggressive p.0 (state_of t) (state_of u) sound step) (table_ends g u b.0) a.1 in
+    let r = steps_from g laws aggressive u rest (step_sound g laws aggressive p.0 (state_of t) (state_of u) sound step) (table_ends g u b.0)
+    a.1 in
     (((p.0, step), r.0), r.1)
 
 unfoldable pub run_test : Graph → (ℕ → Bool) → Bool → Table → List (ℕ × Table) → Bool
 run_test g dense aggressive t rest = is_within g t && passes (start_tests g dense (state_of t)) && steps_test g aggressive t rest
 
 -- tables that pass the tests are a run
-pub tables_run : (g : Graph) → IsGraph g → (dense : ℕ → Bool) (aggressive : Bool) (homes : List Home) (bounds : List ℕ) (rest : List (ℕ × Table)) →
+pub tables_run : (g : Graph) → IsGraph g → (dense : ℕ → Bool) (aggressive : Bool) (homes : List Home) (bounds : List ℕ)
+    (rest : List (ℕ × Table)) →
     let t : Table = record { homes = homes; bounds = bounds; borders = []; parents = [] } in
     run_test g dense aggressive t rest ≡ true → Run g dense aggressive (state_of t) (states_of rest)
 unfolding run_test has

@@ -4,7 +4,7 @@ use Rattle.std.specs.Prelude.{ℕ, ℤ, pos, Bool, None, Some, List, [], ◌∷�
 use Rattle.amd_model.specs.Graph.{Graph}
 use Rattle.amd_model.specs.State.{State, Last, Live, Gone}
 use Rattle.amd_model.specs.Input.Pattern.{graph_of, is_pair}
-use Rattle.amd_model.specs.Tie.{Tie, start_tie, starting_list}
+use Rattle.amd_model.specs.Quotient.{QuotientGraph, start_tie, starting_list}
 use Rattle.amd_model.specs.Examples.Table.{Table, state_of}
 
 -- the column pointers
@@ -13,7 +13,8 @@ pointers = pos 0 ∷ pos 6 ∷ pos 8 ∷ pos 9 ∷ pos 13 ∷ pos 15 ∷ pos 17 
 
 -- the row indices
 abbrev pub rows : List ℤ
-rows = pos 1 ∷ pos 2 ∷ pos 3 ∷ pos 4 ∷ pos 5 ∷ pos 7 ∷ pos 1 ∷ pos 4 ∷ pos 6 ∷ pos 0 ∷ pos 4 ∷ pos 5 ∷ pos 6 ∷ pos 3 ∷ pos 9 ∷ pos 3 ∷ pos 9 ∷ pos 4 ∷ pos 10 ∷ pos 6 ∷ pos 7 ∷ pos 2 ∷ pos 9 ∷ []
+rows = pos 1 ∷ pos 2 ∷ pos 3 ∷ pos 4 ∷ pos 5 ∷ pos 7 ∷ pos 1 ∷ pos 4 ∷ pos 6 ∷ pos 0 ∷ pos 4 ∷ pos 5 ∷ pos 6 ∷ pos 3 ∷ pos 9 ∷ pos 3 ∷ pos 9
+    ∷ pos 4 ∷ pos 10 ∷ pos 6 ∷ pos 7 ∷ pos 2 ∷ pos 9 ∷ []
 
 -- edges in the column of the lesser row, of the greater one, and of both; and a diagonal entry
 abbrev pub eleven : Graph
@@ -102,5 +103,5 @@ abbrev pub after_five : State
 after_five = state_of five_table
 
 -- the start kept in lists, from the starting lists of the pattern
-abbrev pub eleven_tie : Tie
+abbrev pub eleven_tie : QuotientGraph
 eleven_tie = start_tie eleven row_one (starting_list 11 (is_pair 11 pointers rows))

@@ -4,7 +4,7 @@ use Rattle.std.specs.Prelude.{ℤ, pos, None, Some, List, [], ◌∷◌}
 use Rattle.amd_model.specs.Graph.{Graph}
 use Rattle.amd_model.specs.State.{State, Live, Gone}
 use Rattle.amd_model.specs.Input.Pattern.{graph_of, is_pair}
-use Rattle.amd_model.specs.Tie.{Tie, start_tie, starting_list}
+use Rattle.amd_model.specs.Quotient.{QuotientGraph, start_tie, starting_list}
 use Rattle.amd_model.specs.Examples.Table.{Table, state_of, none_dense}
 
 -- the column pointers
@@ -72,5 +72,5 @@ abbrev pub after_three : State
 after_three = state_of three_table
 
 -- the start kept in lists, from the starting lists of the pattern
-abbrev pub seven_tie : Tie
+abbrev pub seven_tie : QuotientGraph
 seven_tie = start_tie seven none_dense (starting_list 7 (is_pair 7 pointers rows))

@@ -1,7 +1,7 @@
 -- States given by lists, with an entry for each row.
 use Rattle.std.specs.Prelude.{ℕ, Bool, false, Option, None, List, [], slice_index_or}
 use Rattle.amd_model.specs.State.{State, Home, Last}
-use Rattle.amd_model.specs.Tie.{has}
+use Rattle.amd_model.specs.Quotient.{has}
 
 -- the homes, the bounds, the border lists and the parents of the rows
 pub record Table : Type 0 where

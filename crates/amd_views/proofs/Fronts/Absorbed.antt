@@ -7,17 +7,17 @@ use Rattle.amd_model.specs.Below.{count_below}
 use Rattle.amd_model.specs.Graph.{Graph, IsGraph}
 use Rattle.amd_model.specs.Sound.{IsSound}
 use Rattle.amd_model.specs.State.{State, Live, stands}
-use Rattle.amd_model.specs.Tie.{Tie, Fits, Once, has, each, is_empty, gathered, takes, kept_elements, kept_variables}
-use Rattle.amd_model.proofs.StateLemmas.{class_gives, class_from, holds_gives}
-use Rattle.amd_model.proofs.TieLists.{each_from, empty_from, clash, same_bool, each_gives, some_of, flat_gives, flat_from}
-use Rattle.amd_model.proofs.TieLists.{firsts as firsts_names}
-use Rattle.amd_model.proofs.ListingLemmas.{filter_has, has_filter as filter_gives}
+use Rattle.amd_model.specs.Quotient.{QuotientGraph, Fits, Once, has, each, is_empty, gathered, takes, kept_elements, kept_variables}
+use Rattle.amd_model.proofs.States.Words.{class_gives, class_from, holds_gives}
+use Rattle.amd_model.proofs.Quotient.Lists.{each_from, empty_from, clash, same_bool, each_gives, some_of, flat_gives, flat_from}
+use Rattle.amd_model.proofs.Quotient.Lists.{firsts as firsts_names}
+use Rattle.amd_model.proofs.Listings.Words.{filter_has, has_filter as filter_gives}
 use Rattle.amd_views.specs.Views.{live_of}
 use Rattle.amd_views.specs.Rounds.{firsts, Absorbed}
 use Rattle.amd_views.specs.Keeps.{Keeps}
 use Rattle.amd_views.specs.Views.{ClassLists}
 use Rattle.amd_views.specs.Views.{View}
-use Rattle.amd_model.proofs.TieFar.{border_parts}
+use Rattle.amd_model.proofs.Quotient.Outside.{border_parts}
 use Rattle.amd_views.proofs.Lists.Named.{filter_named, filter_both, sum_named, flat_same, none_sum, named_sum, not_empty}
 use Rattle.amd_views.proofs.Lists.Taken.{taken_off}
 use Rattle.amd_views.proofs.Fronts.Gathered.{gathered_once, gathered_live, gathered_placed}
@@ -41,7 +41,8 @@ none_each f p xs some h = each_from p xs (λ x k. elim (cases_Bool (p x)) [
 
 -- ---- the lists of a record
 
-module _ (g : Graph) (s : State) (t : Tie) (fits : Fits g t s) (w : View) (kept : Keeps w t) (c : ℕ) (class : has t.placed c ≡ true) where
+module _ (g : Graph) (s : State) (t : QuotientGraph) (fits : Fits g t s) (w : View) (kept : Keeps w t) (c : ℕ)
+    (class : has t.placed c ≡ true) where
   home : (i : ℕ) → has t.placed i ≡ true → s.home i ≡ Live i
   home i h = class_gives i (s.home i) (sym (fits.placed i) ∙ h)
 

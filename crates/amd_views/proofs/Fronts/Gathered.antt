@@ -5,12 +5,12 @@ use Rattle.std.proofs.lemmas.Bool.{false_from_ne_true, and_parts, eq-eqb, not-tr
 use Rattle.amd_model.specs.Graph.{Graph, IsGraph}
 use Rattle.amd_model.specs.Sound.{IsSound}
 use Rattle.amd_model.specs.State.{State, Live, in_class}
-use Rattle.amd_model.specs.Tie.{Tie, Fits, has, gathered, Once}
-use Rattle.amd_model.proofs.BelowLemmas.{count_pos}
-use Rattle.amd_model.proofs.Sound.{live_small}
-use Rattle.amd_model.proofs.StateLemmas.{class_gives, class_from, holds_gives, neighbours_gives}
-use Rattle.amd_model.proofs.TieLists.{clash, flat_gives, once_firsts, firsts as firsts_names}
-use Rattle.amd_model.proofs.ListingLemmas.{has_append as append_gives}
+use Rattle.amd_model.specs.Quotient.{QuotientGraph, Fits, has, gathered, Once}
+use Rattle.amd_model.proofs.Counting.Below.{count_pos}
+use Rattle.amd_model.proofs.States.Sound.{live_small}
+use Rattle.amd_model.proofs.States.Words.{class_gives, class_from, holds_gives, neighbours_gives}
+use Rattle.amd_model.proofs.Quotient.Lists.{clash, flat_gives, once_firsts, firsts as firsts_names}
+use Rattle.amd_model.proofs.Listings.Words.{has_append as append_gives}
 use Rattle.amd_views.specs.Rounds.{firsts}
 
 -- what is gathered stands in the lists and was not skipped
@@ -26,17 +26,17 @@ pub firsts_skips : (skip : ℕ → Bool) (xs touched : List ℕ) → touched ≡
 firsts_skips skip xs touched is x s = false_from_ne_true (has touched x) (λ h. clash s (firsts_gives skip xs touched is x h).1)
 
 -- the list of the rules
-pub gathered_once : (t : Tie) (c : ℕ) → Once (gathered t c)
+pub gathered_once : (t : QuotientGraph) (c : ℕ) → Once (gathered t c)
 unfolding gathered
 gathered_once t c = once_firsts (λ x. x == c) [] (flat_map t.members (t.elements c) ++ t.variables c) tt
 
-pub gathered_other : (t : Tie) (c : ℕ) → has (gathered t c) c ≡ false
+pub gathered_other : (t : QuotientGraph) (c : ℕ) → has (gathered t c) c ≡ false
 unfolding gathered
 gathered_other t c =
     firsts_skips (λ x. x == c) (flat_map t.members (t.elements c) ++ t.variables c) (gathered t c) refl c (eq-eqb c c refl)
 
 -- it names classes
-module _ (g : Graph) (s : State) (t : Tie) (fits : Fits g t s) (c : ℕ) (placed : has t.placed c ≡ true) where
+module _ (g : Graph) (s : State) (t : QuotientGraph) (fits : Fits g t s) (c : ℕ) (placed : has t.placed c ≡ true) where
   pub gathered_live : (i : ℕ) → has (gathered t c) i ≡ true → s.home i ≡ Live i
   unfolding gathered
   gathered_live i h =
@@ -53,7 +53,7 @@ module _ (g : Graph) (s : State) (t : Tie) (fits : Fits g t s) (c : ℕ) (placed
   gathered_placed i h = fits.placed i ∙ class_from i (s.home i) (gathered_live i h)
 
 -- a class has rows
-pub placed_rows : (g : Graph) → IsGraph g → (s : State) → IsSound g s → (t : Tie) → Fits g t s → (i : ℕ) → has t.placed i ≡ true →
+pub placed_rows : (g : Graph) → IsGraph g → (s : State) → IsSound g s → (t : QuotientGraph) → Fits g t s → (i : ℕ) → has t.placed i ≡ true →
     0 < t.size i
 placed_rows g laws s sound t fits i h =
     let home = class_gives i (s.home i) (sym (fits.placed i) ∙ h) in

@@ -5,9 +5,9 @@ use Rattle.std.specs.Prelude.{sum_by, ◌==◌}
 use Rattle.std.proofs.lemmas.Bool.{cases_Bool, cond-true, cond-false, eqb-true, or_left}
 use Rattle.std.proofs.lemmas.List.{take_more}
 use Rattle.std.proofs.lemmas.List.Sums.{fold_push, sum_by-cons}
-use Rattle.amd_model.specs.Tie.{has, Once}
-use Rattle.amd_model.proofs.TieLists.{clash}
-use Rattle.amd_model.proofs.ListingLemmas.{has_head, has_tail}
+use Rattle.amd_model.specs.Quotient.{has, Once}
+use Rattle.amd_model.proofs.Quotient.Lists.{clash}
+use Rattle.amd_model.proofs.Listings.Words.{has_head, has_tail}
 use Rattle.amd_views.specs.Rounds.{less, rows_left}
 
 -- the next number of a list

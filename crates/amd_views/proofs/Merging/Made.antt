@@ -4,16 +4,17 @@ use Rattle.std.specs.Prelude.{◌==◌, filter}
 use Rattle.amd_model.specs.Graph.{Graph, IsGraph}
 use Rattle.amd_model.specs.State.{State}
 use Rattle.amd_model.specs.Sound.{IsSound}
-use Rattle.amd_model.specs.Tie.{Tie, Fits, has, is_empty, each, last_that, gathered, kept_elements, kept_variables, takes, done, rest}
-use Rattle.amd_model.specs.Tie.{alike, represents, made, Once}
-use Rattle.amd_model.proofs.TieLists.{once_filter, last_same'}
-use Rattle.amd_model.proofs.ListingLemmas.{has_filter as filter_gives}
+use Rattle.amd_model.specs.Quotient.{QuotientGraph, Fits, has, is_empty, each, last_that, gathered, kept_elements, kept_variables, takes}
+use Rattle.amd_model.specs.Quotient.{done, rest}
+use Rattle.amd_model.specs.Quotient.{alike, represents, made, Once}
+use Rattle.amd_model.proofs.Quotient.Lists.{once_filter, last_same'}
+use Rattle.amd_model.proofs.Listings.Words.{has_filter as filter_gives}
 use Rattle.amd_views.specs.Rounds.{keeps_none, alike_in}
 use Rattle.amd_views.proofs.Lists.Named.{filter_named}
 use Rattle.amd_views.proofs.Merging.Representatives.{alike_self, alike_flip, alike_through, rep_in, rep_rep}
 use Rattle.amd_views.proofs.Fronts.Gathered.{gathered_once, gathered_live}
 
-module _ (g : Graph) (laws : IsGraph g) (s : State) (sound : IsSound g s) (t : Tie) (fits : Fits g t s) (c : ℕ)
+module _ (g : Graph) (laws : IsGraph g) (s : State) (sound : IsSound g s) (t : QuotientGraph) (fits : Fits g t s) (c : ℕ)
     (placed : has t.placed c ≡ true) (aggressive : Bool) where
   pub rest_in_front : (i : ℕ) → has (rest aggressive t c (gathered t c)) i ≡ true → has (gathered t c) i ≡ true
   unfolding rest

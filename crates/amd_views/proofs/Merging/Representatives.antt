@@ -7,9 +7,9 @@ use Rattle.std.proofs.lemmas.Bool.{cases_Bool, false≢true, and_parts, and_from
 use Rattle.std.proofs.lemmas.Bool.{ne_eqb, cases_eq, cond-true, cond-false}
 use Rattle.std.proofs.lemmas.List.{drop_more, take-append-drop, drop_all}
 use Rattle.std.proofs.lemmas.List.Sums.{fold-append}
-use Rattle.amd_model.specs.Tie.{has, each, Once, last_that}
-use Rattle.amd_model.proofs.TieLists.{clash, same_bool, has_append, each_gives, each_from, last_passes, last_named, last_same'}
-use Rattle.amd_model.proofs.ListingLemmas.{has_head, has_tail}
+use Rattle.amd_model.specs.Quotient.{has, each, Once, last_that}
+use Rattle.amd_model.proofs.Quotient.Lists.{clash, same_bool, has_append, each_gives, each_from, last_passes, last_named, last_same'}
+use Rattle.amd_model.proofs.Listings.Words.{has_head, has_tail}
 use Rattle.amd_views.specs.Rounds.{alike_in}
 use Rattle.amd_views.proofs.Lists.Named.{has_at}
 

@@ -6,8 +6,8 @@ use Rattle.std.proofs.lemmas.Bool.{cases_Bool, cond-true, cond-false}
 use Rattle.amd_model.specs.Graph.{Graph}
 use Rattle.amd_model.specs.Figures.{cut}
 use Rattle.amd_model.specs.State.{State}
-use Rattle.amd_model.specs.Tie.{Tie, has, gathered, kept_elements, kept_variables, rest}
-use Rattle.amd_model.specs.Tie.{made, new_size, far, left, next_bound, round}
+use Rattle.amd_model.specs.Quotient.{QuotientGraph, has, gathered, kept_elements, kept_variables, rest}
+use Rattle.amd_model.specs.Quotient.{made, new_size, far, left, next_bound, round}
 use Rattle.amd_views.specs.Keeps.{Stands}
 use Rattle.amd_views.specs.Views.{View}
 use Rattle.amd_views.proofs.Lists.Named.{sum_named}
@@ -21,7 +21,8 @@ min_cut : (a x : ℕ) → a < 2 ^ 64 → min a (cut x) ≡ min a x
 unfolding cut
 min_cut a x l = omega (arith, l)
 
-module _ {g : Graph} {dense : ℕ → Bool} {aggressive : Bool} {w v : View} {t : Tie} {s : State} (turn : Turn g dense aggressive w v t s)
+module _ {g : Graph} {dense : ℕ → Bool} {aggressive : Bool} {w v : View} {t : QuotientGraph} {s : State}
+    (turn : Turn g dense aggressive w v t s)
   where
     abbrev st : Stands g dense w t s
     st = turn.before
@@ -41,7 +42,7 @@ module _ {g : Graph} {dense : ℕ → Bool} {aggressive : Bool} {w v : View} {t 
     abbrev M : List ℕ
     M = made aggressive t turn.wrote.c (gathered t turn.wrote.c)
 
-    abbrev new_lists : Tie
+    abbrev new_lists : QuotientGraph
     new_lists = lists_after turn
 
     module _ (few : g.size < 2 ^ 64) (border_is : r.border ≡ sum_by t.size (rest aggressive t r.c (gathered t r.c)))

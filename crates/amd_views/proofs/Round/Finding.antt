@@ -8,13 +8,14 @@ use Rattle.amd_model.specs.Below.{count_below}
 use Rattle.amd_model.specs.Graph.{Graph}
 use Rattle.amd_model.specs.Listing.{weight}
 use Rattle.amd_model.specs.State.{State, stands}
-use Rattle.amd_model.specs.Tie.{Tie, has, Once, pivot, gathered, kept_elements, kept_variables, rest, represents, made as made_of}
-use Rattle.amd_model.specs.Tie.{last_that}
-use Rattle.amd_model.proofs.BelowLemmas.{count_most}
-use Rattle.amd_model.proofs.StateLemmas.{block_from, stands_gives}
-use Rattle.amd_model.proofs.TieLists.{clash}
-use Rattle.amd_model.proofs.ListingLemmas.{filter_has, has_filter as filter_gives}
-use Rattle.amd_model.proofs.StepFronts.{front_small, placed_small}
+use Rattle.amd_model.specs.Quotient.{QuotientGraph, has, Once, pivot, gathered, kept_elements, kept_variables, rest, represents}
+use Rattle.amd_model.specs.Quotient.{made as made_of}
+use Rattle.amd_model.specs.Quotient.{last_that}
+use Rattle.amd_model.proofs.Counting.Below.{count_most}
+use Rattle.amd_model.proofs.States.Words.{block_from, stands_gives}
+use Rattle.amd_model.proofs.Quotient.Lists.{clash}
+use Rattle.amd_model.proofs.Listings.Words.{filter_has, has_filter as filter_gives}
+use Rattle.amd_model.proofs.States.StepFronts.{front_small, placed_small}
 use Rattle.amd_views.specs.Views.{ClassLists, View, live_of}
 use Rattle.amd_views.specs.Rounds.{firsts, keeps_none, alike_in, Absorbed}
 use Rattle.amd_views.specs.Keeps.{Stands}
@@ -27,7 +28,7 @@ use Rattle.amd_views.proofs.Round.Fronts.{pivot_class, pivot_least}
 use Rattle.amd_views.proofs.Round.Turn.{Found}
 
 -- a class of least bound, and the list that is gathered of the record
-module _ (g : Graph) (dense : ℕ → Bool) (aggressive : Bool) (w : View) (t : Tie) (s : State) (st : Stands g dense w t s)
+module _ (g : Graph) (dense : ℕ → Bool) (aggressive : Bool) (w : View) (t : QuotientGraph) (s : State) (st : Stands g dense w t s)
     (c : ℕ) (placed : has t.placed c ≡ true) (least : (d : ℕ) → has t.placed d ≡ true → t.bound c ≤ t.bound d) (front : List ℕ)
     (first : front ≡ firsts (λ x. x == c) (flat_map (λ e. live_of w.size (w.members e)) (w.lists.elements c)
     ++ live_of w.size (w.lists.variables c))) where
@@ -186,7 +187,7 @@ module _ (g : Graph) (dense : ℕ → Bool) (aggressive : Bool) (w : View) (t : 
             let q = count_most g.size dense in omega (arith, x, y, b, e, q)
 
 -- what was found in a round, and is in its record, is what the rules say
-module _ (g : Graph) (dense : ℕ → Bool) (aggressive : Bool) (w v : View) (t : Tie) (s : State) (st : Stands g dense w t s)
+module _ (g : Graph) (dense : ℕ → Bool) (aggressive : Bool) (w v : View) (t : QuotientGraph) (s : State) (st : Stands g dense w t s)
     (r : Rounding aggressive w v) (placed : has t.placed r.c ≡ true) (lowest : r.least ≡ t.bound r.c)
     (is_pivot : r.c ≡ pivot t.bound t.placed)
     (least : (d : ℕ) → has t.placed d ≡ true → t.bound r.c ≤ t.bound d) where

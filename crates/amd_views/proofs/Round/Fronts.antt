@@ -9,13 +9,14 @@ use Rattle.amd_model.specs.Figures.{cut, front_sum, figure, greatest_front, entr
 use Rattle.amd_model.specs.State.{State, Home, Live, Gone, live, is_class, is_element, in_block}
 use Rattle.amd_model.specs.Listing.{weight}
 use Rattle.amd_model.specs.Step.{StepAt}
-use Rattle.amd_model.specs.Tie.{Tie, has, gathered, rest, left, round}
-use Rattle.amd_model.proofs.BelowLemmas.{clash}
-use Rattle.amd_model.proofs.StateLemmas.{class_gives, class_from, live_from}
-use Rattle.amd_model.proofs.TieLaw.{L, front_class, rest_class, after, is_step}
-use Rattle.amd_model.proofs.StepFronts.{element_stays, block_count_stays, weight_stays, pivot_element, weight_new, still_live, figure_new}
-use Rattle.amd_model.proofs.StepFronts.{greatest_new, block_rows, border_rows, left_rows, left_sum, left_less}
-use Rattle.amd_model.proofs.StepFronts.{no_parent as parent_free}
+use Rattle.amd_model.specs.Quotient.{QuotientGraph, has, gathered, rest, left, round}
+use Rattle.amd_model.proofs.Counting.Below.{clash}
+use Rattle.amd_model.proofs.States.Words.{class_gives, class_from, live_from}
+use Rattle.amd_model.proofs.Quotient.RoundIsStep.{L, front_class, rest_class, after, is_step}
+use Rattle.amd_model.proofs.States.StepFronts.{element_stays, block_count_stays, weight_stays, pivot_element, weight_new, still_live}
+use Rattle.amd_model.proofs.States.StepFronts.{figure_new}
+use Rattle.amd_model.proofs.States.StepFronts.{greatest_new, block_rows, border_rows, left_rows, left_sum, left_less}
+use Rattle.amd_model.proofs.States.StepFronts.{no_parent as parent_free}
 use Rattle.amd_views.specs.Keeps.{KeepsFronts, LinksLead, Stands}
 use Rattle.amd_views.specs.Views.{View}
 use Rattle.amd_numbers.proofs.CutSums.{cut_add}
@@ -51,17 +52,18 @@ module _ (n : ℕ) (links : ℕ → Option ℕ) (home : ℕ → Home) (lead : Li
   gone_named x e h = gone_within lead.top x e (omega arith) h
 
 -- what is placed with a least bound is a pivot
-pub pivot_class : (g : Graph) (dense : ℕ → Bool) (w : View) (t : Tie) (s : State) → Stands g dense w t s → (c : ℕ) →
+pub pivot_class : (g : Graph) (dense : ℕ → Bool) (w : View) (t : QuotientGraph) (s : State) → Stands g dense w t s → (c : ℕ) →
     has t.placed c ≡ true → is_class s c ≡ true
 pivot_class g dense w t s st c placed = sym (st.fits.placed c) ∙ placed
 
-pub pivot_least : (g : Graph) (dense : ℕ → Bool) (w : View) (t : Tie) (s : State) → Stands g dense w t s → (c : ℕ) → has t.placed c ≡ true →
+pub pivot_least : (g : Graph) (dense : ℕ → Bool) (w : View) (t : QuotientGraph) (s : State) → Stands g dense w t s → (c : ℕ) →
+    has t.placed c ≡ true →
     ((d : ℕ) → has t.placed d ≡ true → t.bound c ≤ t.bound d) → (d : ℕ) → is_class s d ≡ true → s.bound c ≤ s.bound d
 pivot_least g dense w t s st c placed least d k = let l = least d (st.fits.placed d ∙ k) in
     let a = st.fits.bound c (class_gives c (s.home c) (sym (st.fits.placed c) ∙ placed)) in let b =
     st.fits.bound d (class_gives d (s.home d) k) in omega (arith, l, a, b)
 
-module _ (g : Graph) (dense : ℕ → Bool) (aggressive : Bool) (w v : View) (t : Tie) (s : State) (st : Stands g dense w t s)
+module _ (g : Graph) (dense : ℕ → Bool) (aggressive : Bool) (w v : View) (t : QuotientGraph) (s : State) (st : Stands g dense w t s)
     (r : Rounding aggressive w v)
     (class : is_class s r.c ≡ true) (least : (d : ℕ) → is_class s d ≡ true → s.bound r.c ≤ s.bound d)
     (front_is : r.front ≡ gathered t r.c) (rest_is : r.rest ≡ rest aggressive t r.c (gathered t r.c)) where

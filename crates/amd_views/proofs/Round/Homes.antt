@@ -7,16 +7,17 @@ use Rattle.std.proofs.lemmas.Bool.{cases_Bool, cases_eq, cond-true, cond-false, 
 use Rattle.std.proofs.lemmas.Bool.{and_left, eq-eqb, ne_eqb}
 use Rattle.amd_model.specs.Graph.{Graph}
 use Rattle.amd_model.specs.State.{State, Home, Last, Live, Gone, is_class}
-use Rattle.amd_model.specs.Tie.{Tie, has, gathered, done, rest}
-use Rattle.amd_model.specs.Tie.{represents, made, new_home, round}
-use Rattle.amd_model.proofs.TieSums.{home_cases}
+use Rattle.amd_model.specs.Quotient.{QuotientGraph, has, gathered, done, rest}
+use Rattle.amd_model.specs.Quotient.{represents, made, new_home, round}
+use Rattle.amd_model.proofs.Quotient.Sums.{home_cases}
 use Rattle.amd_views.specs.Keeps.{Stands}
 use Rattle.amd_views.specs.Views.{View}
 use Rattle.amd_views.proofs.Rounding.{Rounding}
 use Rattle.amd_views.proofs.Round.Turn.{Found, Turn, class_of, front_placed, in_left, lists_after, made_front, made_rest, not_c}
 use Rattle.amd_views.proofs.Round.Turn.{outside_rest, pivot_is_class, rest_front, rest_keeps}
 
-module _ {g : Graph} {dense : ℕ → Bool} {aggressive : Bool} {w v : View} {t : Tie} {s : State} (turn : Turn g dense aggressive w v t s)
+module _ {g : Graph} {dense : ℕ → Bool} {aggressive : Bool} {w v : View} {t : QuotientGraph} {s : State}
+    (turn : Turn g dense aggressive w v t s)
   where
     abbrev st : Stands g dense w t s
     st = turn.before
@@ -39,7 +40,7 @@ module _ {g : Graph} {dense : ℕ → Bool} {aggressive : Bool} {w v : View} {t 
     abbrev class : is_class s turn.wrote.c ≡ true
     class = pivot_is_class turn
 
-    abbrev new_lists : Tie
+    abbrev new_lists : QuotientGraph
     new_lists = lists_after turn
 
     home_of : (i : ℕ) → has t.placed i ≡ true → t.home i ≡ Live i

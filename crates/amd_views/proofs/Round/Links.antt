@@ -6,9 +6,9 @@ use Rattle.std.proofs.lemmas.Bool.{cases_Bool, cases_eq, cond-true, cond-false, 
 use Rattle.std.proofs.lemmas.Bool.{and_parts, and_left, eq-eqb, ne_eqb, not-true, not_from_false}
 use Rattle.amd_model.specs.Graph.{Graph}
 use Rattle.amd_model.specs.State.{State, Last, Live, Gone}
-use Rattle.amd_model.specs.Tie.{Tie, has, gathered, done, rest}
-use Rattle.amd_model.specs.Tie.{represents}
-use Rattle.amd_model.proofs.TieLists.{clash}
+use Rattle.amd_model.specs.Quotient.{QuotientGraph, has, gathered, done, rest}
+use Rattle.amd_model.specs.Quotient.{represents}
+use Rattle.amd_model.proofs.Quotient.Lists.{clash}
 use Rattle.amd_views.specs.Rounds.{keeps_none}
 use Rattle.amd_views.specs.Keeps.{LinksLead, Stands}
 use Rattle.amd_views.specs.Views.{View}
@@ -18,7 +18,8 @@ use Rattle.amd_views.proofs.Round.Turn.{not_pivot, row_small}
 use Rattle.amd_views.proofs.Round.Homes.{done_home, made_home, moved, moved_gone, moved_last, moved_other, new_home_is, pivot_home}
 use Rattle.amd_views.proofs.Round.Homes.{rest_home, was_gone, was_last, was_live}
 
-module _ {g : Graph} {dense : ℕ → Bool} {aggressive : Bool} {w v : View} {t : Tie} {s : State} (turn : Turn g dense aggressive w v t s)
+module _ {g : Graph} {dense : ℕ → Bool} {aggressive : Bool} {w v : View} {t : QuotientGraph} {s : State}
+    (turn : Turn g dense aggressive w v t s)
   where
     abbrev st : Stands g dense w t s
     st = turn.before
@@ -35,7 +36,7 @@ module _ {g : Graph} {dense : ℕ → Bool} {aggressive : Bool} {w v : View} {t 
     abbrev R : List ℕ
     R = rest aggressive t turn.wrote.c (gathered t turn.wrote.c)
 
-    abbrev new_lists : Tie
+    abbrev new_lists : QuotientGraph
     new_lists = lists_after turn
 
     abbrev merges : ℕ → Bool
@@ -62,7 +63,8 @@ module _ {g : Graph} {dense : ℕ → Bool} {aggressive : Bool} {w v : View} {t 
     data NewLink (x : ℕ) : Type 0 where
       merged : has R x ≡ true → represents aggressive t r.c L x ≢ x → v.link x ≡ Some (represents aggressive t r.c L x) → NewLink x
       left_out : has L x ≡ true → done aggressive t r.c L x ≡ true → v.link x ≡ Some r.c → NewLink x
-      as_before : (has R x ≡ true → represents aggressive t r.c L x ≡ x) → (has L x ≡ true → has R x ≡ true) → v.link x ≡ w.link x → NewLink x
+      as_before : (has R x ≡ true → represents aggressive t r.c L x ≡ x) → (has L x ≡ true → has R x ≡ true) → v.link x ≡ w.link x →
+          NewLink x
 
     new_link : (x : ℕ) → NewLink x
     new_link x = elim (cases_Bool (merges x)) [

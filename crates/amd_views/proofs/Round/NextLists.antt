@@ -6,11 +6,11 @@ use Rattle.std.proofs.lemmas.Bool.{cases_Bool, cond-true, cond-false, or_parts, 
 use Rattle.std.proofs.lemmas.Bool.{eqb-true, not-true}
 use Rattle.amd_model.specs.Graph.{Graph}
 use Rattle.amd_model.specs.State.{State, is_class}
-use Rattle.amd_model.specs.Tie.{Tie, has, is_empty, turned, gathered, takes, kept_elements, kept_variables}
-use Rattle.amd_model.specs.Tie.{made, ends, round}
-use Rattle.amd_model.proofs.StateLemmas.{neighbours_gives, holds_gives}
-use Rattle.amd_model.proofs.TieLists.{clash, has_turned, some_of}
-use Rattle.amd_model.proofs.ListingLemmas.{has_filter as filter_gives}
+use Rattle.amd_model.specs.Quotient.{QuotientGraph, has, is_empty, turned, gathered, takes, kept_elements, kept_variables}
+use Rattle.amd_model.specs.Quotient.{made, ends, round}
+use Rattle.amd_model.proofs.States.Words.{neighbours_gives, holds_gives}
+use Rattle.amd_model.proofs.Quotient.Lists.{clash, has_turned, some_of}
+use Rattle.amd_model.proofs.Listings.Words.{has_filter as filter_gives}
 use Rattle.amd_views.specs.Views.{live_of}
 use Rattle.amd_views.specs.Rounds.{IsApart}
 use Rattle.amd_views.specs.Keeps.{Stands}
@@ -25,7 +25,8 @@ use Rattle.amd_views.proofs.Round.Sizes.{class_size, live_new, made_placed, new_
 had_some : (xs : List ℕ) (p : ℕ → Bool) → is_empty (filter p xs) ≡ false → is_empty xs ≡ false
 had_some xs p h = let x = some_of (filter p xs) h in not_empty xs x.0 (filter_gives p xs x.0 x.1).0
 
-module _ {g : Graph} {dense : ℕ → Bool} {aggressive : Bool} {w v : View} {t : Tie} {s : State} (turn : Turn g dense aggressive w v t s)
+module _ {g : Graph} {dense : ℕ → Bool} {aggressive : Bool} {w v : View} {t : QuotientGraph} {s : State}
+    (turn : Turn g dense aggressive w v t s)
   where
     abbrev st : Stands g dense w t s
     st = turn.before
@@ -45,7 +46,7 @@ module _ {g : Graph} {dense : ℕ → Bool} {aggressive : Bool} {w v : View} {t 
     abbrev class : is_class s turn.wrote.c ≡ true
     class = pivot_is_class turn
 
-    abbrev new_lists : Tie
+    abbrev new_lists : QuotientGraph
     new_lists = lists_after turn
 
     -- and they have the rows that they had
@@ -63,7 +64,8 @@ module _ {g : Graph} {dense : ℕ → Bool} {aggressive : Bool} {w v : View} {t 
     kept_placed i l j a = let p = filter_gives (λ j. not (j == r.c || has L j)) (t.variables i) j a in
         let q = or_parts (j == r.c) (has L j) (not-true (j == r.c || has L j) p.1) in
         let n = neighbours_gives g s i j (sym (st.fits.variables i j (class_of turn i (front_placed turn i l))) ∙ p.0) in
-        new_placed turn j ∙ and_from (has t.placed j) (not (ends aggressive t r.c L j)) (placed_of turn j n.second) (not_ends turn j q.0 q.1)
+        new_placed turn j ∙ and_from (has t.placed j) (not (ends aggressive t r.c L j)) (placed_of turn j n.second)
+        (not_ends turn j q.0 q.1)
 
     -- a class that is neither the pivot nor in its front
     pub apart : (i : ℕ) → has t.placed i ≡ true → (i == r.c) ≡ false → has L i ≡ false → IsApart w.size r.c r.front i

@@ -5,11 +5,11 @@ use Rattle.std.specs.Prelude.{sum_by, ◌^◌}
 use Rattle.amd_model.specs.Graph.{Graph}
 use Rattle.amd_model.specs.State.{State, is_class}
 use Rattle.amd_model.specs.Step.{StepAt}
-use Rattle.amd_model.specs.Tie.{Tie, is_empty, pivot, gathered, rest}
-use Rattle.amd_model.specs.Tie.{left, round, next}
+use Rattle.amd_model.specs.Quotient.{QuotientGraph, is_empty, pivot, gathered, rest}
+use Rattle.amd_model.specs.Quotient.{left, round, next}
 use Rattle.amd_views.specs.Keeps.{Stands}
 use Rattle.amd_views.specs.Views.{View}
-use Rattle.amd_model.proofs.StepFronts.{placed_small}
+use Rattle.amd_model.proofs.States.StepFronts.{placed_small}
 use Rattle.amd_views.proofs.Round.Fronts.{border_is as border_rows, live_left as live_after, live_less, live_is as live_sum}
 use Rattle.amd_views.proofs.Round.Fronts.{joined as joined_after, no_parent as no_parent_after, fronts_kept}
 use Rattle.amd_views.proofs.Lists.Named.{not_empty}
@@ -21,7 +21,8 @@ use Rattle.amd_views.proofs.Round.Links.{links_kept}
 use Rattle.amd_views.proofs.Round.Parents.{parents_kept}
 use Rattle.amd_views.proofs.Round.Bounds.{bound_kept, least_kept, small_kept}
 
-module _ {g : Graph} {dense : ℕ → Bool} {aggressive : Bool} {w v : View} {t : Tie} {s : State} (turn : Turn g dense aggressive w v t s)
+module _ {g : Graph} {dense : ℕ → Bool} {aggressive : Bool} {w v : View} {t : QuotientGraph} {s : State}
+    (turn : Turn g dense aggressive w v t s)
   where
     abbrev st : Stands g dense w t s
     st = turn.before
@@ -41,7 +42,7 @@ module _ {g : Graph} {dense : ℕ → Bool} {aggressive : Bool} {w v : View} {t 
     abbrev new_state : State
     new_state = state_after turn
 
-    abbrev new_lists : Tie
+    abbrev new_lists : QuotientGraph
     new_lists = lists_after turn
 
     -- the record stands for the next lists, and for the state that the (step turn) leads to

@@ -7,16 +7,17 @@ use Rattle.std.proofs.lemmas.Bool.{and_parts, eq-eqb, ne_eqb}
 use Rattle.amd_model.specs.Graph.{Graph}
 use Rattle.amd_model.specs.State.{State, is_class, front, holds, stands, inside}
 use Rattle.amd_model.specs.Step.{absorbed}
-use Rattle.amd_model.specs.Tie.{Tie, gathered, takes}
-use Rattle.amd_model.specs.Tie.{round}
-use Rattle.amd_model.proofs.StateLemmas.{live_from, holds_gives, stands_gives}
-use Rattle.amd_model.proofs.TieLaw.{L as front_list, takes_is}
+use Rattle.amd_model.specs.Quotient.{QuotientGraph, gathered, takes}
+use Rattle.amd_model.specs.Quotient.{round}
+use Rattle.amd_model.proofs.States.Words.{live_from, holds_gives, stands_gives}
+use Rattle.amd_model.proofs.Quotient.RoundIsStep.{L as front_list, takes_is}
 use Rattle.amd_views.specs.Keeps.{Stands}
 use Rattle.amd_views.specs.Views.{View}
 use Rattle.amd_views.proofs.Rounding.{Rounding}
 use Rattle.amd_views.proofs.Round.Turn.{Found, Turn, class_of, lists_after, pivot_is_class, pivot_is_least}
 
-module _ {g : Graph} {dense : ℕ → Bool} {aggressive : Bool} {w v : View} {t : Tie} {s : State} (turn : Turn g dense aggressive w v t s)
+module _ {g : Graph} {dense : ℕ → Bool} {aggressive : Bool} {w v : View} {t : QuotientGraph} {s : State}
+    (turn : Turn g dense aggressive w v t s)
   where
     abbrev st : Stands g dense w t s
     st = turn.before
@@ -36,7 +37,7 @@ module _ {g : Graph} {dense : ℕ → Bool} {aggressive : Bool} {w v : View} {t 
     abbrev least : (d : ℕ) → is_class s d ≡ true → s.bound turn.wrote.c ≤ s.bound d
     least = pivot_is_least turn
 
-    abbrev new_lists : Tie
+    abbrev new_lists : QuotientGraph
     new_lists = lists_after turn
 
     taken_is : (e : ℕ) → takes aggressive t r.c L e ≡ absorbed g aggressive s r.c e
@@ -64,5 +65,6 @@ module _ {g : Graph} {dense : ℕ → Bool} {aggressive : Bool} {w v : View} {t 
       | inl y ↦ ap (λ n. v.parent n) y ∙ f.parents r.c ∙ cond-false (takes aggressive t r.c L r.c) (Some r.c) (t.parent r.c) no_takes
           ∙ st.fits.parent r.c ∙ st.no_parent r.c (live_from r.c (s.home r.c) (class_of turn r.c f.placed))
           ∙ sym (cond-true (e == r.c) None (cond (takes aggressive t r.c L e) (Some r.c) (t.parent e)) (eq-eqb e r.c y))
-      | inr ne ↦ f.parents e ∙ sym (cond-false (e == r.c) None (cond (takes aggressive t r.c L e) (Some r.c) (t.parent e)) (ne_eqb e r.c ne))
+      | inr ne ↦ f.parents e ∙
+          sym (cond-false (e == r.c) None (cond (takes aggressive t r.c L e) (Some r.c) (t.parent e)) (ne_eqb e r.c ne))
     ]

@@ -7,10 +7,10 @@ use Rattle.std.proofs.lemmas.Bool.{cases_Bool, cond-true, cond-false, or_left, o
 use Rattle.std.proofs.lemmas.Bool.{and_parts, and_left, eq-eqb, ne_eqb, lt-ltb, le-ltb, not-true, not_from_false}
 use Rattle.amd_model.specs.Graph.{Graph}
 use Rattle.amd_model.specs.State.{State, is_class}
-use Rattle.amd_model.specs.Tie.{Tie, has, gathered, done, rest}
-use Rattle.amd_model.specs.Tie.{represents, made, ends, new_size, round}
-use Rattle.amd_model.proofs.TieLists.{same_bool, clash, has_append, has_filter}
-use Rattle.amd_model.proofs.ListingLemmas.{has_filter as filter_gives, has_right}
+use Rattle.amd_model.specs.Quotient.{QuotientGraph, has, gathered, done, rest}
+use Rattle.amd_model.specs.Quotient.{represents, made, ends, new_size, round}
+use Rattle.amd_model.proofs.Quotient.Lists.{same_bool, clash, has_append, has_filter}
+use Rattle.amd_model.proofs.Listings.Words.{has_filter as filter_gives, has_right}
 use Rattle.amd_views.specs.Views.{live_of}
 use Rattle.amd_views.specs.Rounds.{keeps_none}
 use Rattle.amd_views.specs.Keeps.{Stands}
@@ -22,7 +22,8 @@ use Rattle.amd_views.proofs.Round.Turn.{Found, Turn, front_placed, in_front, in_
 use Rattle.amd_views.proofs.Round.Turn.{new_sound, none_kept, not_c, outside_rest, pivot_is_class, rest_front, rest_keeps, rest_made}
 use Rattle.amd_views.proofs.Round.Turn.{state_after}
 
-module _ {g : Graph} {dense : ℕ → Bool} {aggressive : Bool} {w v : View} {t : Tie} {s : State} (turn : Turn g dense aggressive w v t s)
+module _ {g : Graph} {dense : ℕ → Bool} {aggressive : Bool} {w v : View} {t : QuotientGraph} {s : State}
+    (turn : Turn g dense aggressive w v t s)
   where
     abbrev st : Stands g dense w t s
     st = turn.before
@@ -48,7 +49,7 @@ module _ {g : Graph} {dense : ℕ → Bool} {aggressive : Bool} {w v : View} {t 
     abbrev new_state : State
     new_state = state_after turn
 
-    abbrev new_lists : Tie
+    abbrev new_lists : QuotientGraph
     new_lists = lists_after turn
 
     retired_rest : (j : ℕ) → has R j ≡ true → r.retired j ≡ t.size j
@@ -104,7 +105,8 @@ module _ {g : Graph} {dense : ℕ → Bool} {aggressive : Bool} {w v : View} {t 
     pub new_placed : (i : ℕ) → has new_lists.placed i ≡ (has t.placed i && not (ends aggressive t r.c L i))
     unfolding round ends
     new_placed i = has_append (filter (λ i. not (i == r.c || has L i)) t.placed) M i ∙ same_bool
-        (has (filter (λ i. not (i == r.c || has L i)) t.placed) i || has M i) (has t.placed i && not (i == r.c || (has L i && not (has M i))))
+        (has (filter (λ i. not (i == r.c || has L i)) t.placed) i || has M i)
+        (has t.placed i && not (i == r.c || (has L i && not (has M i))))
         (λ h. elim (or_cases (has (filter (λ i. not (i == r.c || has L i)) t.placed) i) (has M i) h) [
           | inl a ↦ (let p = filter_gives (λ i. not (i == r.c || has L i)) t.placed i a in
               let q = or_parts (i == r.c) (has L i) (not-true (i == r.c || has L i) p.1) in
@@ -152,8 +154,11 @@ module _ {g : Graph} {dense : ℕ → Bool} {aggressive : Bool} {w v : View} {t 
       | inl e ↦ r.size_is i ∙ cond-true (i == r.c) 0 (r.joined i) e
       | inr ne ↦ elim (cases_Bool (has L i)) [
         | inl l ↦ size_ended i l (elim (cases_Bool (has M i)) [ inr n ↦ n | inl m ↦ clash (made_placed i m) h ])
-        | inr n ↦ size_outside i ne n ∙ st.keeps.no_class i (elim (cases_Bool (has t.placed i))
-            [ inr k ↦ k | inl k ↦ clash (new_placed i ∙ and_from (has t.placed i) (not (ends aggressive t r.c L i)) k (not_ends i ne n)) h ])
+        | inr n ↦ size_outside i ne n ∙ st.keeps.no_class i (elim (cases_Bool (has t.placed i)) [
+          | inr k ↦ k
+          | inl k ↦ clash (new_placed i ∙ and_from (has t.placed i) (not (ends aggressive t r.c L i)) k (not_ends i ne n))
+              h
+        ])
       ]
     ]
 

@@ -8,14 +8,14 @@ use Rattle.amd_model.specs.Graph.{Graph}
 use Rattle.amd_model.specs.State.{State, Live, is_class, front}
 use Rattle.amd_model.specs.Step.{StepAt}
 use Rattle.amd_model.specs.Sound.{IsSound}
-use Rattle.amd_model.specs.Tie.{Tie, Fits, has, is_empty, pivot, gathered, takes, kept_elements, kept_variables, done, rest}
-use Rattle.amd_model.specs.Tie.{represents, made, round}
-use Rattle.amd_model.proofs.StateLemmas.{class_gives, class_from}
-use Rattle.amd_model.proofs.Sound.{live_small}
-use Rattle.amd_model.proofs.SoundStep.{step_sound}
-use Rattle.amd_model.proofs.TieLists.{clash}
-use Rattle.amd_model.proofs.ListingLemmas.{filter_has, has_filter as filter_gives}
-use Rattle.amd_model.proofs.TieLaw.{L as front_list, front_class, after, is_step, now, now_fits}
+use Rattle.amd_model.specs.Quotient.{QuotientGraph, Fits, has, is_empty, pivot, gathered, takes, kept_elements, kept_variables, done, rest}
+use Rattle.amd_model.specs.Quotient.{represents, made, round}
+use Rattle.amd_model.proofs.States.Words.{class_gives, class_from}
+use Rattle.amd_model.proofs.States.Sound.{live_small}
+use Rattle.amd_model.proofs.States.SoundStep.{step_sound}
+use Rattle.amd_model.proofs.Quotient.Lists.{clash}
+use Rattle.amd_model.proofs.Listings.Words.{filter_has, has_filter as filter_gives}
+use Rattle.amd_model.proofs.Quotient.RoundIsStep.{L as front_list, front_class, after, is_step, now, now_fits}
 use Rattle.amd_views.specs.Rounds.{keeps_none}
 use Rattle.amd_views.specs.Keeps.{Stands}
 use Rattle.amd_views.specs.Views.{View}
@@ -23,7 +23,7 @@ use Rattle.amd_views.proofs.Rounding.{Rounding}
 use Rattle.amd_views.proofs.Fronts.Gathered.{gathered_other}
 
 -- what was found, in the words of the machine
-pub record Found (aggressive : Bool) (w v : View) (t : Tie) (r : Rounding aggressive w v) : Type 0 where
+pub record Found (aggressive : Bool) (w v : View) (t : QuotientGraph) (r : Rounding aggressive w v) : Type 0 where
   pub pivot_is : r.c ≡ pivot t.bound t.placed
   pub placed : has t.placed r.c ≡ true
   pub least : (d : ℕ) → has t.placed d ≡ true → t.bound r.c ≤ t.bound d
@@ -42,12 +42,13 @@ pub record Found (aggressive : Bool) (w v : View) (t : Tie) (r : Rounding aggres
       has (made aggressive t r.c (gathered t r.c)) (represents aggressive t r.c (gathered t r.c) i) ≡ true
 
 -- a round: the record before stands for lists and a state, and what was found and written is what the rules say
-pub record Turn (g : Graph) (dense : ℕ → Bool) (aggressive : Bool) (w v : View) (t : Tie) (s : State) : Type 0 where
+pub record Turn (g : Graph) (dense : ℕ → Bool) (aggressive : Bool) (w v : View) (t : QuotientGraph) (s : State) : Type 0 where
   pub before : Stands g dense w t s
   pub wrote : Rounding aggressive w v
   pub found : Found aggressive w v t wrote
 
-module _ {g : Graph} {dense : ℕ → Bool} {aggressive : Bool} {w v : View} {t : Tie} {s : State} (turn : Turn g dense aggressive w v t s)
+module _ {g : Graph} {dense : ℕ → Bool} {aggressive : Bool} {w v : View} {t : QuotientGraph} {s : State}
+    (turn : Turn g dense aggressive w v t s)
   where
     abbrev st : Stands g dense w t s
     st = turn.before
@@ -84,7 +85,7 @@ module _ {g : Graph} {dense : ℕ → Bool} {aggressive : Bool} {w v : View} {t 
     abbrev pub state_after : State
     state_after = after g st.graph aggressive t s st.sound st.fits r.c pivot_is_class pivot_is_least
 
-    abbrev pub lists_after : Tie
+    abbrev pub lists_after : QuotientGraph
     lists_after = round aggressive t r.c (gathered t r.c)
 
     pub step : StepAt g aggressive r.c s state_after

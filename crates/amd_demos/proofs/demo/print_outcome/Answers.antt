@@ -19,7 +19,8 @@ returns-then-eq-clause-ordered g c = λ _.
       p = c.deref.result.now;
       q = c.deref-then-eq.result.now;
       info = c.in-Ok.told;
-      wanted = wanted-ordering _ _ _ _ _ _ _ _ _ _ _ _ _ _ (search (rules, to_z-of_z)) c.default.ensures.0 c.default.ensures.1 (map-id _) (map-id _)
+      wanted = wanted-ordering _ _ _ _ _ _ _ _ _ _ _ _ _ _ (search (rules, to_z-of_z)) c.default.ensures.0 c.default.ensures.1 (map-id _)
+          (map-id _)
           (map-id _ ∙ sym c.deref.ensures.value) (map-id _ ∙ sym c.deref-then-eq.ensures.value) c.in-Ok.ensures.ordering
           (same_true the_type (search rules) _ _ (sym c.if-eq.ensures) ∙ c.wanted_status.ensures);
       before = [];

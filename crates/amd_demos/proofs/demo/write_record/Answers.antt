@@ -9,5 +9,6 @@ use Rattle.amd_demos.proofs.demo.write_record.Goals as goal
 pub returns : goal.returns
 returns g c =
     let wanted = c.status_name-wanted.ensures ∙ ap status_name c.wanted_status.ensures in
-    let line = texts-between (codes "return value from amd::order: ") (codes " (should be ") (codes ")\n") _ _ _ _ _ _ c.status_name-status.ensures wanted c.in_ok-writeln.ensures.bytes in
+    let line = texts-between (codes "return value from amd::order: ") (codes " (should be ")
+    (codes ")\n") _ _ _ _ _ _ c.status_name-status.ensures wanted c.in_ok-writeln.ensures.bytes in
     Appends-then _ _ _ _ _ line c.in_ok-info.ensures

@@ -8,4 +8,5 @@ pub returns-in_default : goal.returns-in_default
 returns-in_default g c = parted-none _ _ c.in_default.ensures.cases
 
 pub returns : goal.returns
-returns g c = parted-some _ _ _ _ _ _ _ c.in-Some.ensures.cases.0 (to_z-of_z {w = w32} (search rules)) c.in_ok-write.ensures.bytes c.in_ok-write_each.ensures
+returns g c = parted-some _ _ _ _ _ _ _ c.in-Some.ensures.cases.0 (to_z-of_z {w = w32} (search rules)) c.in_ok-write.ensures.bytes
+    c.in_ok-write_each.ensures

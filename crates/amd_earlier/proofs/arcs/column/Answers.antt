@@ -39,7 +39,8 @@ pub bounds-places-count_at : goal.bounds-places-count_at
 bounds-places-count_at g c =
     let end = c.count_at-end.ensures.count in
     let row = c.count_at.ensures.count in
-    let below = row_below c.args.size (map g.I.Number.value c.args.a_p.now) (map g.I.Number.value c.args.a_i.now) c.requires.form c.args.column c.entries.entry c.requires.column_in (omega arith) in
+    let below = row_below c.args.size (map g.I.Number.value c.args.a_p.now) (map g.I.Number.value c.args.a_i.now) c.requires.form
+    c.args.column c.entries.entry c.requires.column_in (omega arith) in
     let room = c.requires.places.1.room in
     omega (arith, row, below, room)
 
@@ -51,7 +52,8 @@ pub offset_bounds-places-count_at : goal.offset_bounds-places-count_at
 offset_bounds-places-count_at g c =
     let end = c.count_at-end.ensures.count in
     let row = c.count_at.ensures.count in
-    let below = row_below c.args.size (map g.I.Number.value c.args.a_p.now) (map g.I.Number.value c.args.a_i.now) c.requires.form c.args.column c.entries.entry c.requires.column_in (omega arith) in
+    let below = row_below c.args.size (map g.I.Number.value c.args.a_p.now) (map g.I.Number.value c.args.a_i.now) c.requires.form
+    c.args.column c.entries.entry c.requires.column_in (omega arith) in
     let room = c.requires.places.1.room in
     let inside : c.count_at.result < length c.args.places.now = omega (arith, row, below, room) in
     offset_fits _ (length c.args.places.now) _ inside (omega arith)
@@ -61,16 +63,30 @@ arc-requires g c =
     let end = c.count_at-end.ensures.count in
     let row = c.count_at.ensures.count in
     let lower = c.if-there-here.true in
-    let up : get_or c.args.places.now (get_or (counts (map g.I.Number.value c.args.a_i.now)) c.entries.entry 0) 0 < get_or c.args.places.now c.args.column 0 = rw (← row) lower in
-    (_, _, _, c.entries.invariant.held, rw row (next_up c.args.size _ _ c.requires.form c.args.column c.entries.entry c.requires.column_in (omega arith) c.requires.places.0 c.args.places.now c.requires.places.1 c.entries.invariant.from up))
+    let up : get_or c.args.places.now (get_or (counts (map g.I.Number.value c.args.a_i.now)) c.entries.entry 0) 0 < get_or c.args.places.now
+    c.args.column 0 = rw (← row) lower in (
+      _,
+      _,
+      _,
+      c.entries.invariant.held,
+      rw row (next_up c.args.size _ _ c.requires.form c.args.column c.entries.entry c.requires.column_in (omega arith) c.requires.places.0
+          c.args.places.now c.requires.places.1 c.entries.invariant.from up),
+    )
 
 pub arc-requires-then-here-there : goal.arc-requires-then-here-there
 arc-requires-then-here-there g c =
     let end = c.count_at-end.ensures.count in
     let row = c.count_at.ensures.count in
     let lower = c.if-here-there.true in
-    let down : get_or c.args.places.now c.args.column 0 < get_or c.args.places.now (get_or (counts (map g.I.Number.value c.args.a_i.now)) c.entries.entry 0) 0 = rw (← row) lower in
-    (_, _, _, c.entries.invariant.held, rw row (next_down c.args.size _ _ c.requires.form c.args.column c.entries.entry c.requires.column_in (omega arith) c.requires.places.0 c.args.places.now c.requires.places.1 c.entries.invariant.from down))
+    let down : get_or c.args.places.now c.args.column 0 < get_or c.args.places.now
+    (get_or (counts (map g.I.Number.value c.args.a_i.now)) c.entries.entry 0) 0 = rw (← row) lower in (
+      _,
+      _,
+      _,
+      c.entries.invariant.held,
+      rw row (next_down c.args.size _ _ c.requires.form c.args.column c.entries.entry c.requires.column_in (omega arith) c.requires.places.0
+          c.args.places.now c.requires.places.1 c.entries.invariant.from down),
+    )
 
 pub entries-preserved : goal.entries-preserved
 entries-preserved g c =
@@ -82,22 +98,29 @@ entries-preserved g c =
     let j = c.args.column in
     let q = c.entries.entry in
     let places = c.args.places.now in
-    let high : q < get_or (counts (map g.I.Number.value c.args.a_p.now)) (j + 1) 0 = (let x = c.entries-test.true in omega (arith, x, end)) in
+    let high : q < get_or (counts (map g.I.Number.value c.args.a_p.now)) (j + 1) 0 =
+    (let x = c.entries-test.true in omega (arith, x, end)) in
     let order = c.requires.places in
     record {
       from = omega (arith, from);
       held = elim c.if-there-here.branch [
         | then-there-here w ↦ (
-            let up : get_or places (get_or (counts (map g.I.Number.value c.args.a_i.now)) q 0) 0 < get_or places j 0 = rw (← row) w.if-there-here.true in
+            let up : get_or places (get_or (counts (map g.I.Number.value c.args.a_i.now)) q 0) 0 < get_or places j 0 =
+            rw (← row) w.if-there-here.true in
             rw (w.visitor-is, far_up n _ _ c.requires.form j q c.requires.column_in high order.0 places order.1 from up, ← row)
-            (w.arc.ensures _ _ _ old.held (rw row (next_up n _ _ c.requires.form j q c.requires.column_in high order.0 places order.1 from up))))
+            (w.arc.ensures _ _ _ old.held
+            (rw row (next_up n _ _ c.requires.form j q c.requires.column_in high order.0 places order.1 from up))))
         | else-there-here+then-here-there w ↦ (
-            let down : get_or places j 0 < get_or places (get_or (counts (map g.I.Number.value c.args.a_i.now)) q 0) 0 = rw (← row) w.if-here-there.true in
+            let down : get_or places j 0 < get_or places (get_or (counts (map g.I.Number.value c.args.a_i.now)) q 0) 0 =
+            rw (← row) w.if-here-there.true in
             rw (w.visitor-is, far_down n _ _ c.requires.form j q c.requires.column_in high order.0 places order.1 from down, ← row)
-            (w.arc-then-here-there.ensures _ _ _ old.held (rw row (next_down n _ _ c.requires.form j q c.requires.column_in high order.0 places order.1 from down))))
+            (w.arc-then-here-there.ensures _ _ _ old.held
+            (rw row (next_down n _ _ c.requires.form j q c.requires.column_in high order.0 places order.1 from down))))
         | else-there-here+else-here-there w ↦ (
-            let least : get_or places j 0 ≤ get_or places (get_or (counts (map g.I.Number.value c.args.a_i.now)) q 0) 0 = rw (← row) w.if-there-here.false in
-            let most : get_or places (get_or (counts (map g.I.Number.value c.args.a_i.now)) q 0) 0 ≤ get_or places j 0 = rw (← row) w.if-here-there.false in
+            let least : get_or places j 0 ≤ get_or places (get_or (counts (map g.I.Number.value c.args.a_i.now)) q 0) 0 =
+            rw (← row) w.if-there-here.false in
+            let most : get_or places (get_or (counts (map g.I.Number.value c.args.a_i.now)) q 0) 0 ≤ get_or places j 0 =
+            rw (← row) w.if-here-there.false in
             rw (w.visitor-is, far_same n _ _ c.requires.form j q c.requires.column_in high order.0 places order.1 from least most) old.held)
       ];
     }

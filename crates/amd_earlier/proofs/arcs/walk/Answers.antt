@@ -4,4 +4,5 @@ use Rattle.amd_earlier.proofs.Entries.{before_none}
 use Rattle.amd_earlier.proofs.arcs.walk.Goals as goal
 
 pub columns-init : goal.columns-init
-columns-init g c = rw (before_none c.args.places.now (counts (map g.I.Number.value c.args.a_p.now)) (counts (map g.I.Number.value c.args.a_i.now))) c.requires.held
+columns-init g c = rw (before_none c.args.places.now (counts (map g.I.Number.value c.args.a_p.now))
+    (counts (map g.I.Number.value c.args.a_i.now))) c.requires.held

@@ -34,7 +34,8 @@ returns-then-row-size-clause-none g c = λ rows h.
       | then-row-size-via-then-row-size w ↦ (let out = w.if-row-size.true in omega (arith, out, inside))
       | then-row-size-via-else-row-size+then-index-size w ↦ (
           let room = c.rows.invariant.room in
-          let fresh = permutes_fresh c.args.size p rows h c.rows.k row (omega arith) (sym value) c.rows.places.items c.rows.invariant inside in
+          let fresh = permutes_fresh c.args.size p rows h c.rows.k row (omega arith) (sym value) c.rows.places.items c.rows.invariant inside
+          in
           let read = get_or_read c.rows.places.items row w.index.result.now (omega (arith, room, inside)) w.index.ensures 0 in
           w.if-index-size.true (read ∙ fresh))
     ]
@@ -46,7 +47,8 @@ rows-preserved g c =
     let inside : row < c.args.size = (let x = c.if-row-size.false in omega (arith, x)) in
     let room = c.rows.invariant.room in
     let read = get_or_read c.rows.places.items row c.index.result.now (omega (arith, room, inside)) c.index.ensures 0 in
-    places_more c.args.size p c.rows.k row c.rows-test.true inside (sym (c.in-Some.ensures.1 ∙ c.value_at.ensures)) c.rows.places.items c.rows.invariant (sym read ∙ c.if-index-size.false)
+    places_more c.args.size p c.rows.k row c.rows-test.true inside (sym (c.in-Some.ensures.1 ∙ c.value_at.ensures)) c.rows.places.items
+    c.rows.invariant (sym read ∙ c.if-index-size.false)
 
 pub returns-clause-permutation : goal.returns-clause-permutation
 returns-clause-permutation g c =

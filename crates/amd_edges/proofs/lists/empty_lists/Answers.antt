@@ -7,7 +7,13 @@ use Rattle.amd_edges.proofs.RowLists.{rooms_more}
 use Rattle.amd_edges.proofs.lists.empty_lists.Goals as goal
 
 pub rows-init : goal.rows-init
-rows-init g c = record { room = search rules; size = search rules; empty = λ a h. absurd (omega arith); rooms = λ a h. absurd (omega arith) }
+rows-init g c = record {
+  room = search rules;
+  size = search rules;
+  empty = λ a h. absurd (omega arith);
+  rooms =
+      λ a h. absurd (omega arith);
+}
 
 pub rows-preserved : goal.rows-preserved
 rows-preserved g c =
@@ -28,7 +34,8 @@ rows-preserved g c =
 pub returns : goal.returns
 returns g c =
     let i = c.rows.invariant in
-    let end : c.rows.degree-index ≡ length c.args.degrees.now = (let x = c.rows-test.false in let y = c.rows.auto.degree-index-end in omega arith) in
+    let end : c.rows.degree-index ≡ length c.args.degrees.now =
+    (let x = c.rows-test.false in let y = c.rows.auto.degree-index-end in omega arith) in
     record {
       size = i.size ∙ end;
       empty = λ a h. i.empty a (omega (arith, h, end));

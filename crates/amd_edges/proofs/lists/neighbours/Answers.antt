@@ -8,7 +8,8 @@ pub starts-requires : goal.starts-requires
 unfolding graph_of
 starts-requires g c =
     let r = c.requires in
-    let sums = start_sums (graph_of c.args.size (map g.I.Number.value c.args.a_p.now) (map g.I.Number.value c.args.a_i.now)) c.args.degrees.now r.degrees c.args.size (omega arith) in
+    let sums = start_sums (graph_of c.args.size (map g.I.Number.value c.args.a_p.now) (map g.I.Number.value c.args.a_i.now))
+    c.args.degrees.now r.degrees c.args.size (omega arith) in
     let room = r.room in
     rw r.degrees.size (omega (arith, sums, room))
 
@@ -31,4 +32,5 @@ returns-clause-lists g c = c.walk.ensures.held
 pub returns-clause-order : goal.returns-clause-order
 unfolding graph_of
 returns-clause-order g c = λ i h.
-    c.walk.ensures.held.order i h ∙ ends_starting c.args.size (is_pair c.args.size (map g.I.Number.value c.args.a_p.now) (map g.I.Number.value c.args.a_i.now)) i
+    c.walk.ensures.held.order i h ∙ ends_starting c.args.size
+    (is_pair c.args.size (map g.I.Number.value c.args.a_p.now) (map g.I.Number.value c.args.a_i.now)) i

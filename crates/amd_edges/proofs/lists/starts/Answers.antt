@@ -2,7 +2,7 @@ use Rattle.std.proofs.Common.{◌≡◌, ◌+◌, length, get_or, arith, rules, 
 use Rattle.std.proofs.lemmas.List.{length_push}
 use Rattle.amd_model.specs.Below.{sum_below}
 use Rattle.amd_edges.proofs.Listing.{starts_more}
-use Rattle.amd_model.proofs.BelowLemmas.{sum_upto}
+use Rattle.amd_model.proofs.Counting.Below.{sum_upto}
 use Rattle.amd_edges.proofs.lists.starts.Goals as goal
 
 pub overflow_add-total : goal.overflow_add-total
@@ -18,7 +18,8 @@ rows-preserved g c =
     let i = c.rows.invariant in
     let t = i.total in
     let items = c.push_reserved.ensures.items in
-    let last : sum_below (suc c.rows.i) (λ b. get_or c.args.degrees.now b 0) ≡ get_or c.args.degrees.now c.rows.i 0 + sum_below c.rows.i (λ b. get_or c.args.degrees.now b 0) = refl in
+    let last : sum_below (suc c.rows.i) (λ b. get_or c.args.degrees.now b 0) ≡ get_or c.args.degrees.now c.rows.i 0 + sum_below c.rows.i
+    (λ b. get_or c.args.degrees.now b 0) = refl in
     record {
       room = (let r = i.room in let e = c.push_reserved.ensures.capacity in omega (arith, r, e));
       size = (let e = i.size in rw items (length_push c.rows.next.items c.rows.total ∙ omega (arith, e)));

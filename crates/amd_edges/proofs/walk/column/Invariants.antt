@@ -10,12 +10,16 @@ abbrev pub invariant-upper : goal.invariant-upper
 invariant-upper g l = (m : ℕ) × record {
   from : get_or (counts (map g.I.Number.value l.a_p)) l.k 0 ≤ l.place;
   to : l.place ≤ l.end;
-  read : (r : ℕ) → get_or (counts (map g.I.Number.value l.a_p)) l.k 0 ≤ r → r < l.place → get_or (counts (map g.I.Number.value l.a_i)) r 0 < m;
+  read : (r : ℕ) → get_or (counts (map g.I.Number.value l.a_p)) l.k 0 ≤ r → r < l.place →
+      get_or (counts (map g.I.Number.value l.a_i)) r 0 < m;
   left : (r : ℕ) → l.place ≤ r → r < l.end → m ≤ get_or (counts (map g.I.Number.value l.a_i)) r 0;
   low : m ≤ l.k;
   room : vec_capacity l.next ≡ vec_capacity l.fn.next;
   scan : IsScan l.fn.size (counts (map g.I.Number.value l.a_p)) (counts (map g.I.Number.value l.a_i)) l.next.items l.k m;
-  held : g.V.Visitor.holds (count_graph l.fn.size (counts (map g.I.Number.value l.a_p)) (counts (map g.I.Number.value l.a_i))) (met l.fn.size (counts (map g.I.Number.value l.a_p)) (counts (map g.I.Number.value l.a_i)) l.next.items l.k m) (arcs_of (edges_until (is_entry l.fn.size (counts (map g.I.Number.value l.a_p)) (counts (map g.I.Number.value l.a_i))) l.k m)) l.visitor;
+  held : g.V.Visitor.holds (count_graph l.fn.size (counts (map g.I.Number.value l.a_p)) (counts (map g.I.Number.value l.a_i)))
+      (met l.fn.size (counts (map g.I.Number.value l.a_p)) (counts (map g.I.Number.value l.a_i)) l.next.items l.k m)
+      (arcs_of (edges_until (is_entry l.fn.size (counts (map g.I.Number.value l.a_p)) (counts (map g.I.Number.value l.a_i))) l.k m))
+      l.visitor;
 }
 
 abbrev pub decreases-upper : goal.decreases-upper

@@ -7,7 +7,9 @@ use Rattle.amd_edges.proofs.Orders.{met_above, above_none, above_next, above_end
 use Rattle.amd_edges.proofs.Forms.{pointer_fits, row_fits, place_within, sorted_form}
 use Rattle.amd_edges.proofs.Scans.{lower_new, lower_after, lower_mirror, lower_end, lower_behind, lower_next}
 use Rattle.amd_edges.proofs.walk.lower.Goals as goal
-use Rattle.amd_edges.proofs.walk.lower.Goals.{then-place-end+then-count_at-k-2, else-place-end, else-place-end-via-then-place-end+else-count_at-k-2, else-place-end-via-else-place-end, then-rows-test+else-count_at-k, else-rows-test}
+use Rattle.amd_edges.proofs.walk.lower.Goals.{then-place-end+then-count_at-k-2, else-place-end}
+use Rattle.amd_edges.proofs.walk.lower.Goals.{else-place-end-via-then-place-end+else-count_at-k-2, else-place-end-via-else-place-end}
+use Rattle.amd_edges.proofs.walk.lower.Goals.{then-rows-test+else-count_at-k, else-rows-test}
 
 pub count_at-end-requires-clause-fits : goal.count_at-end-requires-clause-fits
 count_at-end-requires-clause-fits g c = pointer_fits _ _ _ c.requires.form (c.args.j + 1) (omega arith) (simp length-map (omega arith))
@@ -54,7 +56,8 @@ rows-init g c =
     let value = c.index-place.ensures in
     let same = get_or_default_zero c.args.next.now.items c.args.j c.index-place.result.now inside in
     let is : c.index-place.result.now ≡ get_or c.args.next.now.items c.args.j 0 = omega (arith, value, same) in
-    let none = above_none (is_entry c.args.size (counts (map g.I.Number.value c.args.a_p.now)) (counts (map g.I.Number.value c.args.a_i.now))) c.args.k c.args.j in (
+    let none = above_none (is_entry c.args.size (counts (map g.I.Number.value c.args.a_p.now))
+    (counts (map g.I.Number.value c.args.a_i.now))) c.args.k c.args.j in (
       0,
       record {
         from = omega (arith, is);
@@ -72,7 +75,8 @@ arc-requires g c =
     let end = c.count_at-end.ensures.count in
     let same = c.count_at-i.ensures.count in
     let first = c.count_at.ensures.count in
-    let new = lower_new _ _ _ (sorted_form _ _ _ r.form r.sorted) c.args.next.now.items c.args.k c.args.j c.rows.place r.scan r.before r.k_in i.from _ same (omega arith) (omega arith) in
+    let new = lower_new _ _ _ (sorted_form _ _ _ r.form r.sorted) c.args.next.now.items c.args.k c.args.j c.rows.place r.scan r.before
+    r.k_in i.from _ same (omega arith) (omega arith) in
     (_, _, _, i.held _ r.held.1, new.0)
 
 pub arc-requires-in-rows : goal.arc-requires-in-rows
@@ -81,7 +85,8 @@ arc-requires-in-rows g c =
     let end = c.count_at-end.ensures.count in
     let same = c.count_at-i.ensures.count in
     let first = c.count_at.ensures.count in
-    let new = lower_new _ _ _ (sorted_form _ _ _ r.form r.sorted) c.args.next.now.items c.args.k c.args.j c.rows.place r.scan r.before r.k_in i.from _ same (omega arith) (omega arith) in
+    let new = lower_new _ _ _ (sorted_form _ _ _ r.form r.sorted) c.args.next.now.items c.args.k c.args.j c.rows.place r.scan r.before
+    r.k_in i.from _ same (omega arith) (omega arith) in
     (_, _, _, c.arc.ensures _ _ _ (i.held _ r.held.1) new.0, new.1)
 
 pub rows-preserved : goal.rows-preserved
@@ -103,10 +108,15 @@ rows-preserved g c =
       record {
         from = omega arith;
         to = omega arith;
-        read = λ x y z. (elim (cases_lt x q) [ inl u ↦ (let w = form.ascend j x q (omega arith) (omega arith) u (omega arith) in omega arith) | inr u ↦ (let w : x ≡ q = omega arith in rw w (omega arith)) ]);
+        read = λ x y z. (elim (cases_lt x q) [
+          | inl u ↦ (let w = form.ascend j x q (omega arith) (omega arith) u (omega arith) in
+              omega arith)
+          | inr u ↦ (let w : x ≡ q = omega arith in rw w (omega arith))
+        ]);
         left = λ x y z. (let w = form.ascend j q x (omega arith) (omega arith) (omega arith) (omega arith) in omega arith);
         small = omega arith;
-        held = λ arcs h. rw (← after, next, ← arcs_push arcs (met_above pair k j b) row j) (c.arc-in-rows.ensures _ _ _ (c.arc.ensures _ _ _ (i.held arcs h) new.0) new.1);
+        held = λ arcs h. rw (← after, next, ← arcs_push arcs (met_above pair k j b) row j)
+            (c.arc-in-rows.ensures _ _ _ (c.arc.ensures _ _ _ (i.held arcs h) new.0) new.1);
       },
     )
 
@@ -130,21 +140,29 @@ returns g c =
           let same = w.count_at-then-place-end.ensures.count in
           let inside = w.if-place-end.true in
           let here = w.if-count_at-k-2.true in
-          let next : (x : ℕ) → get_or t j 0 ≤ x → x < q + 1 → get_or ai x 0 ≤ k = λ x y z. elim (cases_lt x q) [ inl u ↦ above x y u | inr u ↦ (let v : x ≡ q = omega arith in rw v (omega arith)) ] in
+          let next : (x : ℕ) → get_or t j 0 ≤ x → x < q + 1 → get_or ai x 0 ≤ k = λ x y z.
+          elim (cases_lt x q) [ inl u ↦ above x y u | inr u ↦ (let v : x ≡ q = omega arith in rw v (omega arith)) ] in
           record {
             scan = rw w.place-is (lower_end _ _ _ form t k j (q + 1) r.scan r.before r.k_in (omega arith) (omega arith) r.mirror next
                 (lower_next _ _ _ form t k j q r.scan r.before r.k_in i.from _ same (omega arith) here));
-            held = λ arcs h. rw (w.place-is, all, lower_mirror _ _ _ form t k j q r.scan r.before r.k_in i.from _ same (omega arith) here r.mirror) (i.held arcs h);
+            held = λ arcs h. rw (
+              w.place-is,
+              all,
+              lower_mirror _ _ _ form t k j q r.scan r.before r.k_in i.from _ same (omega arith) here
+                  r.mirror,
+            ) (i.held arcs h);
             room = refl;
           })
       | else-place-end w ↦ (
           let other : q < get_or ap' (j + 1) 0 → k + 1 ≤ get_or ai q 0 = λ inside. elim w.else-place-end.branch [
-            | else-place-end-via-then-place-end+else-count_at-k-2 u ↦ (let ne = u.if-count_at-k-2.false in let two = u.count_at-then-place-end.ensures.count in let v = stop inside in omega arith)
+            | else-place-end-via-then-place-end+else-count_at-k-2 u ↦ (let ne = u.if-count_at-k-2.false in
+                let two = u.count_at-then-place-end.ensures.count in let v = stop inside in omega arith)
             | else-place-end-via-else-place-end u ↦ (let past = u.if-place-end.false in absurd (omega arith))
           ] in
           let rest = lower_behind _ _ _ form t k j q r.scan r.before r.k_in i.from (k + 1) other in
           record {
-            scan = rw w.place-is (lower_end _ _ _ form t k j q r.scan r.before r.k_in i.from (let x = i.to in omega arith) r.mirror above (λ x y z. let v = rest x y z in omega arith));
+            scan = rw w.place-is (lower_end _ _ _ form t k j q r.scan r.before r.k_in i.from (let x = i.to in omega arith) r.mirror above
+                (λ x y z. let v = rest x y z in omega arith));
             held = λ arcs h. rw (w.place-is, all) (i.held arcs h);
             room = refl;
           })

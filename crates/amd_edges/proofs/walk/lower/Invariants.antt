@@ -12,8 +12,13 @@ invariant-rows g l = (b : ℕ) × record {
   read : (r : ℕ) → get_or l.next.items l.j 0 ≤ r → r < l.place → get_or (counts (map g.I.Number.value l.a_i)) r 0 < b;
   left : (r : ℕ) → l.place ≤ r → r < l.end → b ≤ get_or (counts (map g.I.Number.value l.a_i)) r 0;
   small : b ≤ l.k;
-  held : (arcs : List (ℕ × ℕ)) → g.V.Visitor.holds (count_graph l.size (counts (map g.I.Number.value l.a_p)) (counts (map g.I.Number.value l.a_i))) (met l.size (counts (map g.I.Number.value l.a_p)) (counts (map g.I.Number.value l.a_i)) l.next.items l.k (l.j + 1)) arcs l.fn.visitor →
-      g.V.Visitor.holds (count_graph l.size (counts (map g.I.Number.value l.a_p)) (counts (map g.I.Number.value l.a_i))) (met l.size (counts (map g.I.Number.value l.a_p)) (counts (map g.I.Number.value l.a_i)) (set l.next.items l.j l.place) l.k (l.j + 1)) (arcs ++ arcs_of (met_above (is_entry l.size (counts (map g.I.Number.value l.a_p)) (counts (map g.I.Number.value l.a_i))) l.k l.j b)) l.visitor;
+  held : (arcs : List (ℕ × ℕ)) →
+      g.V.Visitor.holds (count_graph l.size (counts (map g.I.Number.value l.a_p)) (counts (map g.I.Number.value l.a_i)))
+      (met l.size (counts (map g.I.Number.value l.a_p)) (counts (map g.I.Number.value l.a_i)) l.next.items l.k (l.j + 1)) arcs l.fn.visitor →
+      g.V.Visitor.holds (count_graph l.size (counts (map g.I.Number.value l.a_p)) (counts (map g.I.Number.value l.a_i)))
+      (met l.size (counts (map g.I.Number.value l.a_p)) (counts (map g.I.Number.value l.a_i)) (set l.next.items l.j l.place) l.k
+      (l.j + 1)) (arcs ++ arcs_of (met_above (is_entry l.size (counts (map g.I.Number.value l.a_p)) (counts (map g.I.Number.value l.a_i)))
+      l.k l.j b)) l.visitor;
 }
 
 abbrev pub decreases-rows : goal.decreases-rows

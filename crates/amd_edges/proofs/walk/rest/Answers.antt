@@ -16,8 +16,10 @@ lower-requires-clause-scan g c = c.columns.invariant.scan
 pub lower-requires-clause-held : goal.lower-requires-clause-held
 lower-requires-clause-held g c =
     let ap' = counts (map g.I.Number.value c.args.a_p.now) in let ai = counts (map g.I.Number.value c.args.a_i.now) in
-    let form = sorted_form c.args.size _ _ c.requires.form c.requires.sorted in
-    (arcs_of (edges_after (is_entry c.args.size ap' ai) c.args.size c.columns.j), rw (rest_met c.args.size ap' ai form c.columns.next.items c.columns.j) c.columns.invariant.held)
+    let form = sorted_form c.args.size _ _ c.requires.form c.requires.sorted in (
+      arcs_of (edges_after (is_entry c.args.size ap' ai) c.args.size c.columns.j),
+      rw (rest_met c.args.size ap' ai form c.columns.next.items c.columns.j) c.columns.invariant.held,
+    )
 
 pub columns-init : goal.columns-init
 columns-init g c =
@@ -30,7 +32,12 @@ columns-preserved g c =
     let ap' = counts (map g.I.Number.value c.args.a_p.now) in let ai = counts (map g.I.Number.value c.args.a_i.now) in
     let form = sorted_form n _ _ c.requires.form c.requires.sorted in
     let next = after_next (is_entry n ap' ai) n c.columns.j in
-    record { scan = c.lower.ensures.scan; held = rw (← next) (c.lower.ensures.held (arcs_of (edges_after (is_entry n ap' ai) n c.columns.j)) (rw (rest_met n ap' ai form c.columns.next.items c.columns.j) c.columns.invariant.held)) }
+    record {
+      scan = c.lower.ensures.scan;
+      held = rw (← next)
+          (c.lower.ensures.held (arcs_of (edges_after (is_entry n ap' ai) n c.columns.j))
+          (rw (rest_met n ap' ai form c.columns.next.items c.columns.j) c.columns.invariant.held));
+    }
 
 pub returns : goal.returns
 returns g c =

@@ -28,7 +28,12 @@ columns-init g c =
       small = omega arith;
       room = r.room;
       scan = start_scan n ap' ai form c.args.next.now.items r.empty;
-      held = rw (start_edges (is_entry n ap' ai), ← graph, start_met n ap' ai form c.args.next.now.items (start_zeros n ap' ai form c.args.next.now.items r.empty)) r.held;
+      held = rw (
+        start_edges (is_entry n ap' ai),
+        ← graph,
+        start_met n ap' ai form c.args.next.now.items
+            (start_zeros n ap' ai form c.args.next.now.items r.empty),
+      ) r.held;
     }
 
 pub columns-preserved : goal.columns-preserved
@@ -38,7 +43,8 @@ columns-preserved g c =
     let e = c.column.ensures in
     let n = c.args.size in
     let ap' = counts (map g.I.Number.value c.args.a_p.now) in let ai = counts (map g.I.Number.value c.args.a_i.now) in
-    let last : count_below (suc c.columns.k) (λ j. is_entry n ap' ai j j) ≡ one_if (is_entry n ap' ai c.columns.k c.columns.k) + count_below c.columns.k (λ j. is_entry n ap' ai j j) = refl in
+    let last : count_below (suc c.columns.k) (λ j. is_entry n ap' ai j j) ≡ one_if (is_entry n ap' ai c.columns.k c.columns.k) + count_below
+    c.columns.k (λ j. is_entry n ap' ai j j) = refl in
     let here : one_if c.column.result ≡ one_if (is_entry n ap' ai c.columns.k c.columns.k) = ap one_if e.diagonal in
     let plus : c.if-column.diagonals ≡ c.columns.diagonals + one_if c.column.result = elim c.if-column.branch [
       | then-column w ↦ rw w.if-column.true w.diagonals-is
@@ -46,7 +52,10 @@ columns-preserved g c =
     ] in
     record {
       count = (let x = i.count in rw add-one (omega (arith, last, here, plus, x)));
-      small = elim c.if-column.branch [ then-column w ↦ (let y = w.diagonals-is in let x = i.small in omega arith) | else-column w ↦ (let y = w.diagonals-is in let x = i.small in omega arith) ];
+      small = elim c.if-column.branch [
+        | then-column w ↦ (let y = w.diagonals-is in let x = i.small in omega arith)
+        | else-column w ↦ (let y = w.diagonals-is in let x = i.small in omega arith)
+      ];
       room = (let x = i.room in let y = e.room in omega (arith, x, y));
       scan = e.scan;
       held = e.held;

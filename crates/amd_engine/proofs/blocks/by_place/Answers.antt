@@ -19,9 +19,11 @@ elements-preserved g c = λ t o inside.
     let small : e < t.size = (let a = c.elements-test.true in let b = o.room in omega (arith, a, b)) in
     elim c.match-link_at.branch [
       | in-Some w ↦ subst (λ v. AreSoFar (e + 1) t.size o.listing v.items) (sym w.elements-is)
-          (so_far_take t places o inside e w.in-Some.place c.elements.elements.items (c.elements.invariant t o inside) small (sym c.link_at.ensures ∙ w.in-Some.is))
+          (so_far_take t places o inside e w.in-Some.place c.elements.elements.items (c.elements.invariant t o inside) small
+          (sym c.link_at.ensures ∙ w.in-Some.is))
       | in_default w ↦ subst (λ v. AreSoFar (e + 1) t.size o.listing v.items) (sym w.elements-is)
-          (so_far_skip t places o inside e c.elements.elements.items (c.elements.invariant t o inside) (sym c.link_at.ensures ∙ w.in_default.is))
+          (so_far_skip t places o inside e c.elements.elements.items (c.elements.invariant t o inside)
+          (sym c.link_at.ensures ∙ w.in_default.is))
     ]
 
 pub returns : goal.returns

@@ -6,4 +6,5 @@ use Rattle.amd_engine.proofs.ByPlace.{AreSoFar}
 use Rattle.amd_engine.proofs.blocks.by_place.Given as goal
 
 abbrev pub invariant-elements : goal.invariant-elements
-invariant-elements g l = (t : Tree) (o : IsPostorderOf t l.places) → ((k : ℕ) → k < length o.listing → slice_index o.listing k < t.size) → AreSoFar l.e t.size o.listing l.elements.items
+invariant-elements g l = (t : Tree) (o : IsPostorderOf t l.places) → ((k : ℕ) → k < length o.listing → slice_index o.listing k < t.size) →
+    AreSoFar l.e t.size o.listing l.elements.items

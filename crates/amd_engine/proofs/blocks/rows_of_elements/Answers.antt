@@ -32,16 +32,19 @@ rows-preserved g c =
       | then-is_some+in_ok-push w ↦ (
           let e = w.element_of.result in let made = w.element_of.ensures in let new = w.push.new.self in
           let on = linked_to c.index.result.now (sym c.is_some.ensures ∙ w.if-is_some.true) in
-          let end : some_at links e ≡ None = none_as_before (some_at links e) (some_at w.element_of.new.link.items e) (sym (made.alone e)) made.end in
+          let end : some_at links e ≡ None = none_as_before (some_at links e) (some_at w.element_of.new.link.items e) (sym (made.alone e))
+          made.end in
           let within : e < length rows = (let a = made.within in let s = i.size in let r = i.room in omega (arith, a, s, r)) in
-          let is : new.items ≡ list_at rows e ++ v ∷ [] = w.in_ok-push.ensures.items ∙ ap (λ xs. xs ++ v ∷ []) (ap (λ x. x.items) w.index_mut.ensures.value ∙ sym (get_or-map (λ x. x.items) rows e _ [] within)) in
+          let is : new.items ≡ list_at rows e ++ v ∷ [] = w.in_ok-push.ensures.items ∙
+          ap (λ xs. xs ++ v ∷ []) (ap (λ x. x.items) w.index_mut.ensures.value ∙ sym (get_or-map (λ x. x.items) rows e _ [] within)) in
           record {
             size = ap (λ l. length l.items) w.link-is ∙ made.size ∙ i.size;
             room = ap (λ r. length r.items) w.rows-is ∙ length-set rows e new ∙ i.room;
             alone = λ u. ap (λ l. is_none (some_at l.items u)) w.link-is ∙ made.alone u ∙ i.alone u;
             led = λ home led. subst (λ l. LinksLead l.items home) (sym w.link-is) (made.led home (i.led home led));
             rows = λ home led over f l. ap (λ r. list_at r.items f) w.rows-is
-                ∙ rows_take links home (i.led home led) over v rows e on.0 new within (read ∙ on.1) end (made.home home (i.led home led)) is f (i.rows home led over f l);
+                ∙ rows_take links home (i.led home led) over v rows e on.0 new within (read ∙ on.1) end (made.home home (i.led home led)) is
+                f (i.rows home led over f l);
           })
       | else-is_some w ↦ (
           let off : some_at links v ≡ None = read ∙ unlinked c.index.result.now (sym c.is_some.ensures ∙ w.if-is_some.false) in
@@ -50,6 +53,7 @@ rows-preserved g c =
             room = ap (λ r. length r.items) w.rows-is ∙ i.room;
             alone = λ u. ap (λ l. is_none (some_at l.items u)) w.link-is ∙ i.alone u;
             led = λ home led. subst (λ l. LinksLead l.items home) (sym w.link-is) (i.led home led);
-            rows = λ home led over f l. ap (λ r. list_at r.items f) w.rows-is ∙ i.rows home led over f l ∙ sym (rows_skip links home (i.led home led) over v off f);
+            rows = λ home led over f l. ap (λ r. list_at r.items f) w.rows-is ∙ i.rows home led over f l ∙
+                sym (rows_skip links home (i.led home led) over v off f);
           })
     ]

@@ -9,14 +9,16 @@ links-smaller g c =
     let i = c.links.invariant in
     let led = c.requires.led.1 in
     let small : c.links.row < length c.links.link.items = (let s = i.size in let w = i.within in omega (arith, s, w)) in
-    let now : some_at c.links.link.items c.links.row ≡ Some c.in-Some.next = sym (get_or_read c.links.link.items c.links.row _ small c.index.ensures None) ∙ c.in-Some.is in
+    let now : some_at c.links.link.items c.links.row ≡ Some c.in-Some.next =
+    sym (get_or_read c.links.link.items c.links.row _ small c.index.ensures None) ∙ c.in-Some.is in
     let q = sym (i.ahead c.requires.led.0 led c.links.row (omega arith)) ∙ now in
     fewer_steps c.args.link.now.items led.rank led.top led.end c.links.row c.in-Some.next q
 
 pub links-preserved : goal.links-preserved
 links-preserved g c =
     let i = c.links.invariant in
-    let old = c.args.link.now.items in let links = c.links.link.items in let row = c.links.row in let next = c.in-Some.next in let root = c.args.root in
+    let old = c.args.link.now.items in let links = c.links.link.items in let row = c.links.row in let next = c.in-Some.next in
+    let root = c.args.root in
     let size = i.size in let w = i.within in let r = c.requires.within.1 in
     let small : row < length links = omega (arith, size, w) in
     let root_small : root < length links = omega (arith, size, r) in

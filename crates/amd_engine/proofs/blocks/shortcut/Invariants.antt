@@ -12,7 +12,8 @@ invariant-links g l = record {
   alone : (u : ℕ) → is_none (some_at l.link.items u) ≡ is_none (some_at l.fn.link.items u);
   home : (home : ℕ → Home) → LinksLead l.fn.link.items home → home l.row ≡ home l.root;
   led : (home : ℕ → Home) → LinksLead l.fn.link.items home → LinksLead l.link.items home;
-  ahead : (home : ℕ → Home) (led : LinksLead l.fn.link.items home) (r : ℕ) → led.rank l.row ≤ led.rank r → some_at l.link.items r ≡ some_at l.fn.link.items r;
+  ahead : (home : ℕ → Home) (led : LinksLead l.fn.link.items home) (r : ℕ) → led.rank l.row ≤ led.rank r →
+      some_at l.link.items r ≡ some_at l.fn.link.items r;
 }
 
 abbrev pub decreases-links : goal.decreases-links

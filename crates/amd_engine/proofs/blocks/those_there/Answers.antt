@@ -10,7 +10,8 @@ places-preserved g c = λ n listing by.
     elim c.match-place.branch [
       | in-Some+in_ok-push w ↦ (
           let here : some_at places k ≡ Some w.in-Some.e = w.in-Some.is in
-          ap (λ v. v.items) w.elements-is ∙ w.in_ok-push.ensures.items ∙ ap (λ xs. xs ++ w.in-Some.e ∷ []) (c.places.invariant n listing by) ∙ sym (next_taken n listing places by k w.in-Some.e here))
+          ap (λ v. v.items) w.elements-is ∙ w.in_ok-push.ensures.items ∙
+          ap (λ xs. xs ++ w.in-Some.e ∷ []) (c.places.invariant n listing by) ∙ sym (next_taken n listing places by k w.in-Some.e here))
       | in_default w ↦ (
           let off : some_at places k ≡ None = w.in_default.is in
           ap (λ v. v.items) w.elements-is ∙ c.places.invariant n listing by ∙ sym (none_taken n listing places by k off))

@@ -40,7 +40,11 @@ returns-in_err-work-clause-refused g c = search rules
 pub eliminate-requires : goal.eliminate-requires
 eliminate-requires g c =
     let a_p : List ℤ = map g.I.Number.value c.args.a_p.now in let a_i : List ℤ = map g.I.Number.value c.args.a_i.now in
-    record { stands = stands_first a_p a_i c.args.len.now c.requires.degrees c.in_ok-rows.rows.items c.in_ok-rows.ensures.size c.in_ok-rows.ensures.lists (option_copied c.args.hold) c.dense_threshold-threshold.result c.deref.result.now (λ i l. ap (λ xs. at xs i) c.deref.ensures.value ∙ c.in_ok-last.ensures.rows i l) c.in_ok-work.work c.in_ok-work.ensures }
+    record {
+      stands = stands_first a_p a_i c.args.len.now c.requires.degrees c.in_ok-rows.rows.items c.in_ok-rows.ensures.size
+          c.in_ok-rows.ensures.lists (option_copied c.args.hold) c.dense_threshold-threshold.result c.deref.result.now
+          (λ i l. ap (λ xs. at xs i) c.deref.ensures.value ∙ c.in_ok-last.ensures.rows i l) c.in_ok-work.work c.in_ok-work.ensures;
+    }
 
 pub returns-in_err-eliminate-clause-orders : goal.returns-in_err-eliminate-clause-orders
 returns-in_err-eliminate-clause-orders g c = search rules
@@ -51,7 +55,12 @@ returns-in_err-eliminate-clause-refused g c = search rules
 pub listing-requires : goal.listing-requires
 listing-requires g c =
     let a_p : List ℤ = map g.I.Number.value c.args.a_p.now in let a_i : List ℤ = map g.I.Number.value c.args.a_i.now in
-    record { ended = stands_last a_p a_i c.args.len.now c.requires.degrees c.in_ok-rows.rows.items c.in_ok-rows.ensures.size c.in_ok-rows.ensures.lists (option_copied c.args.hold) c.dense_threshold-threshold.result c.deref.result.now (λ i l. ap (λ xs. at xs i) c.deref.ensures.value ∙ c.in_ok-last.ensures.rows i l) c.in_ok-work.work c.in_ok-work.ensures c.args.control.now.aggressive c.eliminate.new.work c.in_ok-eliminate.ensures.rounds c.in_ok-eliminate.ensures.end }
+    record {
+      ended = stands_last a_p a_i c.args.len.now c.requires.degrees c.in_ok-rows.rows.items c.in_ok-rows.ensures.size
+          c.in_ok-rows.ensures.lists (option_copied c.args.hold) c.dense_threshold-threshold.result c.deref.result.now
+          (λ i l. ap (λ xs. at xs i) c.deref.ensures.value ∙ c.in_ok-last.ensures.rows i l) c.in_ok-work.work c.in_ok-work.ensures
+          c.args.control.now.aggressive c.eliminate.new.work c.in_ok-eliminate.ensures.rounds c.in_ok-eliminate.ensures.end;
+    }
 
 pub returns-in_err-order-clause-orders : goal.returns-in_err-order-clause-orders
 returns-in_err-order-clause-orders g c = search rules
@@ -65,12 +74,22 @@ inverse_pair-requires-clause-fits g c = c.requires.fits
 pub inverse_pair-requires-clause-size : goal.inverse_pair-requires-clause-size
 inverse_pair-requires-clause-size g c =
     let a_p : List ℤ = map g.I.Number.value c.args.a_p.now in let a_i : List ℤ = map g.I.Number.value c.args.a_i.now in
-    c.requires.size ∙ ap pos (sym (ap length c.deref-2.ensures.value ∙ order_length a_p a_i c.args.len.now c.requires.degrees c.in_ok-rows.rows.items c.in_ok-rows.ensures.size c.in_ok-rows.ensures.lists (option_copied c.args.hold) c.dense_threshold-threshold.result c.deref.result.now (λ i l. ap (λ xs. at xs i) c.deref.ensures.value ∙ c.in_ok-last.ensures.rows i l) c.in_ok-work.work c.in_ok-work.ensures c.args.control.now.aggressive c.eliminate.new.work c.in_ok-eliminate.ensures.rounds c.in_ok-eliminate.ensures.end c.in_ok-order.order.items c.in_ok-order.ensures.lists))
+    c.requires.size ∙ ap pos
+    (sym (ap length c.deref-2.ensures.value ∙ order_length a_p a_i c.args.len.now c.requires.degrees c.in_ok-rows.rows.items
+    c.in_ok-rows.ensures.size c.in_ok-rows.ensures.lists (option_copied c.args.hold) c.dense_threshold-threshold.result c.deref.result.now
+    (λ i l. ap (λ xs. at xs i) c.deref.ensures.value ∙ c.in_ok-last.ensures.rows i l) c.in_ok-work.work c.in_ok-work.ensures
+    c.args.control.now.aggressive c.eliminate.new.work c.in_ok-eliminate.ensures.rounds c.in_ok-eliminate.ensures.end
+    c.in_ok-order.order.items c.in_ok-order.ensures.lists))
 
 pub inverse_pair-requires-clause-listing : goal.inverse_pair-requires-clause-listing
 inverse_pair-requires-clause-listing g c =
     let a_p : List ℤ = map g.I.Number.value c.args.a_p.now in let a_i : List ℤ = map g.I.Number.value c.args.a_i.now in
-    subst (λ xs. ListsEachRow (length xs) xs) (sym c.deref-2.ensures.value) (order_each a_p a_i c.args.len.now c.requires.degrees c.in_ok-rows.rows.items c.in_ok-rows.ensures.size c.in_ok-rows.ensures.lists (option_copied c.args.hold) c.dense_threshold-threshold.result c.deref.result.now (λ i l. ap (λ xs. at xs i) c.deref.ensures.value ∙ c.in_ok-last.ensures.rows i l) c.in_ok-work.work c.in_ok-work.ensures c.args.control.now.aggressive c.eliminate.new.work c.in_ok-eliminate.ensures.rounds c.in_ok-eliminate.ensures.end c.in_ok-order.order.items c.in_ok-order.ensures.lists)
+    subst (λ xs. ListsEachRow (length xs) xs) (sym c.deref-2.ensures.value)
+    (order_each a_p a_i c.args.len.now c.requires.degrees c.in_ok-rows.rows.items c.in_ok-rows.ensures.size c.in_ok-rows.ensures.lists
+    (option_copied c.args.hold) c.dense_threshold-threshold.result c.deref.result.now
+    (λ i l. ap (λ xs. at xs i) c.deref.ensures.value ∙ c.in_ok-last.ensures.rows i l) c.in_ok-work.work c.in_ok-work.ensures
+    c.args.control.now.aggressive c.eliminate.new.work c.in_ok-eliminate.ensures.rounds c.in_ok-eliminate.ensures.end
+    c.in_ok-order.order.items c.in_ok-order.ensures.lists)
 
 pub returns-in_err-inverse_pair-clause-orders : goal.returns-in_err-inverse_pair-clause-orders
 returns-in_err-inverse_pair-clause-orders g c = search rules
@@ -81,8 +100,13 @@ returns-in_err-inverse_pair-clause-refused g c = search rules
 pub returns-clause-orders : goal.returns-clause-orders
 returns-clause-orders g c =
     let a_p : List ℤ = map g.I.Number.value c.args.a_p.now in let a_i : List ℤ = map g.I.Number.value c.args.a_i.now in
-    let p : List ℤ = map g.I.Number.value c.in_ok-inverse_pair.field-0.0.items in let q : List ℤ = map g.I.Number.value c.in_ok-inverse_pair.field-0.1.items in
-    answer a_p a_i c.args.len.now c.requires.degrees c.in_ok-rows.rows.items c.in_ok-rows.ensures.size c.in_ok-rows.ensures.lists (option_copied c.args.hold) c.dense_threshold-threshold.result c.deref.result.now (λ i l. ap (λ xs. at xs i) c.deref.ensures.value ∙ c.in_ok-last.ensures.rows i l) c.in_ok-work.work c.in_ok-work.ensures c.args.control.now.aggressive c.eliminate.new.work c.in_ok-eliminate.ensures.rounds c.in_ok-eliminate.ensures.end c.in_ok-order.order.items c.in_ok-order.ensures.lists
+    let p : List ℤ = map g.I.Number.value c.in_ok-inverse_pair.field-0.0.items in
+    let q : List ℤ = map g.I.Number.value c.in_ok-inverse_pair.field-0.1.items in
+    answer a_p a_i c.args.len.now c.requires.degrees c.in_ok-rows.rows.items c.in_ok-rows.ensures.size c.in_ok-rows.ensures.lists
+    (option_copied c.args.hold) c.dense_threshold-threshold.result c.deref.result.now
+    (λ i l. ap (λ xs. at xs i) c.deref.ensures.value ∙ c.in_ok-last.ensures.rows i l) c.in_ok-work.work c.in_ok-work.ensures
+    c.args.control.now.aggressive c.eliminate.new.work c.in_ok-eliminate.ensures.rounds c.in_ok-eliminate.ensures.end
+    c.in_ok-order.order.items c.in_ok-order.ensures.lists
     c.args.control.now.dense c.requires.some c.dense_threshold-threshold.ensures p q
     (c.in_ok-inverse_pair.ensures.listed ∙ ap (map pos) c.deref-2.ensures.value)
     (subst (λ xs. AreInverse (length xs) p q) c.deref-2.ensures.value c.in_ok-inverse_pair.ensures.inverse)

@@ -30,9 +30,11 @@ pub returns-then-room-total-clause-total : goal.returns-then-room-total-clause-t
 returns-then-room-total-clause-total g c =
     let i = c.rows.invariant in let r = i.counts.room in let t = c.rows-test.true in
     let low : c.rows.j < length g.o.rows = omega (arith, r, t) in
-    let next = row_counted g.o c.requires.0 c.rows.j c.rows.counts c.subtree-columns.new.path c.count_path.new.counts c.subtree-columns.result low i.counts c.subtree-columns.ensures.columns
+    let next = row_counted g.o c.requires.0 c.rows.j c.rows.counts c.subtree-columns.new.path c.count_path.new.counts
+    c.subtree-columns.result low i.counts c.subtree-columns.ensures.columns
     c.count_path.ensures.room c.count_path.ensures.named c.count_path.ensures.others in
-    let s = sum_rows g.o c.rows.j c.rows.counts c.count_path.new.counts c.rows.total c.subtree-columns.result i.counts c.count_path.ensures.sum i.total in
+    let s = sum_rows g.o c.rows.j c.rows.counts c.count_path.new.counts c.rows.total c.subtree-columns.result i.counts
+    c.count_path.ensures.sum i.total in
     let short = c.if-room-total.true in let most = i.most in
     more_than g.o c.requires.0 (c.rows.j + 1) c.count_path.new.counts c.args.room (omega (arith, low)) next (omega (arith, s, short, most))
 
@@ -44,14 +46,17 @@ rows-preserved g c =
       parents = c.subtree-columns.ensures.parents;
       marks = c.subtree-columns.ensures.marks;
       path = c.subtree-columns.ensures.room;
-      counts = row_counted g.o c.requires.0 c.rows.j c.rows.counts c.subtree-columns.new.path c.count_path.new.counts c.subtree-columns.result low i.counts c.subtree-columns.ensures.columns
+      counts = row_counted g.o c.requires.0 c.rows.j c.rows.counts c.subtree-columns.new.path c.count_path.new.counts
+          c.subtree-columns.result low i.counts c.subtree-columns.ensures.columns
           c.count_path.ensures.room c.count_path.ensures.named c.count_path.ensures.others;
-      total = sum_rows g.o c.rows.j c.rows.counts c.count_path.new.counts c.rows.total c.subtree-columns.result i.counts c.count_path.ensures.sum i.total;
+      total = sum_rows g.o c.rows.j c.rows.counts c.count_path.new.counts c.rows.total c.subtree-columns.result i.counts
+          c.count_path.ensures.sum i.total;
       most = (let enough = c.if-room-total.false in let most = i.most in omega (arith, enough, most));
     }
 
 pub returns-clause-total : goal.returns-clause-total
 returns-clause-total g c =
     let i = c.rows.invariant in
-    let end = at_last g.o c.rows.j c.rows.counts (let a = c.rows.auto.j-end in let b = c.rows.auto.counts in omega arith) (let a = c.rows-test.false in let b = c.rows.auto.counts in omega arith) i.counts in
+    let end = at_last g.o c.rows.j c.rows.counts (let a = c.rows.auto.j-end in let b = c.rows.auto.counts in omega arith)
+    (let a = c.rows-test.false in let b = c.rows.auto.counts in omega arith) i.counts in
     (i.most, total_of g.o c.requires.0 c.rows.counts c.rows.total end i.total)

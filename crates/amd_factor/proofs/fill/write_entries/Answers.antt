@@ -19,7 +19,8 @@ subtree-columns-requires g c =
 pub append-requires-clause-room : goal.append-requires-clause-room
 append-requires-clause-room g c =
     let b = c.requires.1.1.1.1.1 in let r = b.begins_room in let l = c.rows-test.true in let same = c.rows.auto.rows in
-    λ a la. (let h = has_room g.o c.requires.0 c.args.next.now (length c.args.rows.now) b c.rows.j c.rows.next c.rows.rows c.subtree-columns.new.path c.subtree-columns.result (omega (arith, r, l)) c.rows.invariant.filled
+    λ a la. (let h = has_room g.o c.requires.0 c.args.next.now (length c.args.rows.now) b c.rows.j c.rows.next c.rows.rows
+    c.subtree-columns.new.path c.subtree-columns.result (omega (arith, r, l)) c.rows.invariant.filled
     c.subtree-columns.ensures.columns a la in omega (arith, h, same))
 
 pub rows-preserved : goal.rows-preserved
@@ -29,11 +30,14 @@ rows-preserved g c =
       parents = c.subtree-columns.ensures.parents;
       marks = c.subtree-columns.ensures.marks;
       path = c.subtree-columns.ensures.room;
-      filled = filled_next g.o c.requires.0 c.args.next.now (length c.args.rows.now) b c.rows.j c.rows.next c.rows.rows c.subtree-columns.new.path c.subtree-columns.result (omega (arith, r, l)) c.rows.invariant.filled
-          c.subtree-columns.ensures.columns c.append.new.next c.append.new.rows c.append.auto.next c.append.ensures.named c.append.ensures.others c.append.ensures.written c.append.ensures.kept;
+      filled = filled_next g.o c.requires.0 c.args.next.now (length c.args.rows.now) b c.rows.j c.rows.next c.rows.rows
+          c.subtree-columns.new.path c.subtree-columns.result (omega (arith, r, l)) c.rows.invariant.filled
+          c.subtree-columns.ensures.columns c.append.new.next c.append.new.rows c.append.auto.next c.append.ensures.named
+          c.append.ensures.others c.append.ensures.written c.append.ensures.kept;
     }
 
 pub returns-clause-entries : goal.returns-clause-entries
 returns-clause-entries g c =
     let b = c.requires.1.1.1.1.1 in let r = b.begins_room in let t = c.rows-test.false in
-    filled_all g.o c.requires.0 c.args.next.now (length c.args.rows.now) b c.rows.j c.rows.next c.rows.rows (omega (arith, r, t)) c.rows.invariant.filled
+    filled_all g.o c.requires.0 c.args.next.now (length c.args.rows.now) b c.rows.j c.rows.next c.rows.rows (omega (arith, r, t))
+    c.rows.invariant.filled

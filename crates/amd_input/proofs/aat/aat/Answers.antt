@@ -27,7 +27,8 @@ unfolding graph_of
 walk-diagonals-requires-clause-held g c =
     let size : length c.in_ok-degrees.degrees.items ≡ c.known_count-size.result = search rules in
     let zeros : (a : ℕ) → get_or c.in_ok-degrees.degrees.items a 0 ≡ 0 = grind (arith, common_steps) in
-    counts_none (graph_of c.known_count-size.result (map g.I.Number.value c.args.a_p.now) (map g.I.Number.value c.args.a_i.now)) c.in_ok-degrees.degrees.items size zeros
+    counts_none (graph_of c.known_count-size.result (map g.I.Number.value c.args.a_p.now) (map g.I.Number.value c.args.a_i.now))
+    c.in_ok-degrees.degrees.items size zeros
 
 pub count_at-entries-requires : goal.count_at-entries-requires
 count_at-entries-requires g c =
@@ -77,7 +78,8 @@ returns g c =
     let diagonals : c.walk-diagonals.result ≡ diagonal_count n ap' ai = rw size at c.walk-diagonals.ensures.diagonals in
     let held : AreCounts (graph_of n ap' ai) ((graph_of n ap' ai).edge) numbers = rw size at c.walk-diagonals.ensures.held in
     let places : c.count_at-entries.result ≡ get_or (counts ap') n 0 = rw size at c.count_at-entries.ensures.count in
-    let total : c.total-sum.result ≡ sum_below (length numbers) (λ k. get_or numbers k 0) = rw c.deref.ensures.value at c.total-sum.ensures in
+    let total : c.total-sum.result ≡ sum_below (length numbers) (λ k. get_or numbers k 0) =
+    rw c.deref.ensures.value at c.total-sum.ensures in
     let degrees = degrees_are n ap' ai numbers c.total-sum.result held total in
     record {
       degrees = degrees;

@@ -1,6 +1,6 @@
 use Rattle.std.proofs.Common.{◌≡◌, ◌+◌, length, get_or, arith, add-one, refl, suc}
 use Rattle.amd_model.specs.Below.{sum_below}
-use Rattle.amd_model.proofs.BelowLemmas.{sum_upto}
+use Rattle.amd_model.proofs.Counting.Below.{sum_upto}
 use Rattle.amd_input.proofs.aat.total.Goals as goal
 
 pub overflow_add-sum : goal.overflow_add-sum
@@ -18,7 +18,8 @@ pub numbers-preserved : goal.numbers-preserved
 unfolding sum_below
 numbers-preserved c =
     let before = c.numbers.invariant in
-    let last : sum_below (suc c.numbers.k) (λ i. get_or c.args.numbers.now i 0) ≡ get_or c.args.numbers.now c.numbers.k 0 + sum_below c.numbers.k (λ i. get_or c.args.numbers.now i 0) = refl in
+    let last : sum_below (suc c.numbers.k) (λ i. get_or c.args.numbers.now i 0) ≡ get_or c.args.numbers.now c.numbers.k 0 + sum_below
+    c.numbers.k (λ i. get_or c.args.numbers.now i 0) = refl in
     rw add-one (omega (arith, before, last))
 
 pub returns : goal.returns

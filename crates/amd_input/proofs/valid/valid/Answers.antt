@@ -8,19 +8,24 @@ use Rattle.amd_input.proofs.valid.valid.Goals.{in-OK, in-OkButJumbled}
 
 pub returns-in_default-to_count-2 : goal.returns-in_default-to_count-2
 returns-in_default-to_count-2 g c =
-    no_count _ _ _ _ _ c.columns.j _ c.in-Some.ensures.1 (omega arith) (simp length-map (omega arith)) c.value_at-in-columns.ensures c.in_default-to_count-2.ensures
+    no_count _ _ _ _ _ c.columns.j _ c.in-Some.ensures.1 (omega arith) (simp length-map (omega arith)) c.value_at-in-columns.ensures
+    c.in_default-to_count-2.ensures
 
 pub returns-then-to-from : goal.returns-then-to-from
-returns-then-to-from g c = bad_pointer _ _ _ _ _ c.columns.j c.columns.from c.in-Some-to_count-2.to c.in-Some.ensures.1 (omega arith) c.columns.invariant.start (sym c.value_at-in-columns.ensures ∙ sym c.in-Some-to_count-2.ensures.1) (simp length-map (elim c.then-to-from.either [ inl x ↦ inl x | inr x ↦ inr x.1 ]))
+returns-then-to-from g c = bad_pointer _ _ _ _ _ c.columns.j c.columns.from c.in-Some-to_count-2.to c.in-Some.ensures.1 (omega arith)
+    c.columns.invariant.start (sym c.value_at-in-columns.ensures ∙ sym c.in-Some-to_count-2.ensures.1)
+    (simp length-map (elim c.then-to-from.either [ inl x ↦ inl x | inr x ↦ inr x.1 ]))
 
 pub returns-in-Invalid : goal.returns-in-Invalid
-returns-in-Invalid g c = bad_row _ _ _ _ _ c.columns.j c.columns.from c.in-Some-to_count-2.to c.in-Some.ensures.1 (omega arith) c.columns.invariant.start (sym c.value_at-in-columns.ensures ∙ sym c.in-Some-to_count-2.ensures.1) c.in-Invalid.ensures
+returns-in-Invalid g c = bad_row _ _ _ _ _ c.columns.j c.columns.from c.in-Some-to_count-2.to c.in-Some.ensures.1 (omega arith)
+    c.columns.invariant.start (sym c.value_at-in-columns.ensures ∙ sym c.in-Some-to_count-2.ensures.1) c.in-Invalid.ensures
 
 pub columns-preserved : goal.columns-preserved
 columns-preserved g c =
     let n = g.I.Number.value in
     let a = c.columns.invariant.start in
-    let b : at (map n c.args.a_p.now) (c.columns.j + 1) ≡ pos c.in-Some-to_count-2.to = sym c.value_at-in-columns.ensures ∙ sym c.in-Some-to_count-2.ensures.1 in
+    let b : at (map n c.args.a_p.now) (c.columns.j + 1) ≡ pos c.in-Some-to_count-2.to = sym c.value_at-in-columns.ensures ∙
+    sym c.in-Some-to_count-2.ensures.1 in
     let from = c.columns.from in
     let to = c.in-Some-to_count-2.to in
     let inside : to ≤ length (map n c.args.a_i.now) = simp length-map (omega arith) in
@@ -28,7 +33,8 @@ columns-preserved g c =
     elim c.match-column_class.branch [
       | in-OK w ↦ record {
         form = form_more _ _ _ c.columns.j from to c.columns.invariant.form a b (omega arith) inside room w.in-OK.ensures.0;
-        class = rw w.status-is (run_more (n c.args.n_row) _ _ c.columns.j from to c.columns.status a b w.in-OK.ensures.1 c.columns.invariant.class);
+        class = rw w.status-is (run_more (n c.args.n_row) _ _ c.columns.j from to c.columns.status a b w.in-OK.ensures.1
+            c.columns.invariant.class);
         start = b;
       }
       | in-OkButJumbled w ↦ record {
@@ -39,4 +45,5 @@ columns-preserved g c =
     ]
 
 pub returns : goal.returns
-returns g c = class_of _ _ _ _ c.columns.j c.columns.status (let e = c.in-Some.ensures.1 in omega (arith, ints, e)) c.columns.invariant.form c.columns.invariant.class
+returns g c = class_of _ _ _ _ c.columns.j c.columns.status (let e = c.in-Some.ensures.1 in omega (arith, ints, e)) c.columns.invariant.form
+    c.columns.invariant.class

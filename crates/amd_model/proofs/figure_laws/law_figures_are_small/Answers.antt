@@ -1,4 +1,4 @@
-use Rattle.amd_model.proofs.SmallFigures.{figures_are_small}
+use Rattle.amd_model.proofs.Figures.SmallFigures.{figures_are_small}
 use Rattle.amd_model.proofs.figure_laws.law_figures_are_small.Goals as goal
 
 pub returns : goal.returns

@@ -1,4 +1,4 @@
-use Rattle.amd_model.proofs.NeededColumns.{figures_cover}
+use Rattle.amd_model.proofs.Figures.NeededColumns.{figures_cover}
 use Rattle.amd_model.proofs.figure_laws.law_figures_cover.Goals as goal
 
 pub returns : goal.returns

@@ -1,4 +1,4 @@
-use Rattle.amd_model.proofs.Exact.{bounds_in_each_state}
+use Rattle.amd_model.proofs.States.Exact.{bounds_in_each_state}
 use Rattle.amd_model.proofs.front_laws.law_bounds.Goals as goal
 
 pub returns : goal.returns

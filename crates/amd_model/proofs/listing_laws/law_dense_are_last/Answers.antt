@@ -1,4 +1,4 @@
-use Rattle.amd_model.proofs.EndState.{dense_are_last}
+use Rattle.amd_model.proofs.States.EndState.{dense_are_last}
 use Rattle.amd_model.proofs.listing_laws.law_dense_are_last.Goals as goal
 
 pub returns : goal.returns

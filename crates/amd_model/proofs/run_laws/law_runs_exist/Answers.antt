@@ -1,4 +1,4 @@
-use Rattle.amd_model.proofs.RunsExist.{runs_exist}
+use Rattle.amd_model.proofs.States.RunsExist.{runs_exist}
 use Rattle.amd_model.proofs.run_laws.law_runs_exist.Goals as goal
 
 pub returns : goal.returns

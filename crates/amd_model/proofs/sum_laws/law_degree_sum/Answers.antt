@@ -1,4 +1,4 @@
-use Rattle.amd_model.proofs.DegreeSums.{degrees_twice}
+use Rattle.amd_model.proofs.Patterns.DegreeSums.{degrees_twice}
 use Rattle.amd_model.proofs.sum_laws.law_degree_sum.Goals as goal
 
 pub returns : goal.returns

@@ -22,7 +22,8 @@ returns c =
     record {
       has = let s = square_le (1000 * d) r low in omega (arith, s, below);
       most = λ e h. elim (cases_lt d e) [
-        | inl more ↦ (let up : r + 1 ≤ 1000 * e = omega arith in let s = square_le (r + 1) (1000 * e) up in absurd (omega (arith, s, h, above)))
+        | inl more ↦ (let up : r + 1 ≤ 1000 * e = omega arith in let s = square_le (r + 1) (1000 * e) up in
+            absurd (omega (arith, s, h, above)))
         | inr fits ↦ fits
       ];
     }

@@ -12,11 +12,13 @@ unreachable-requires g c =
     let low : pos 0 ≤ℤ pos row = omega (arith, ints) in
     let most : pos row ≤ℤ g.I.Number.value c.args.n = omega (arith, ints, small) in
     let exact = g.met.I.Integral.exact_law in
-    c.in_default.ensures (g.I.Number.between_law (pos 0) (pos row) (g.I.Number.value c.args.n) exact (g.met.I.Zero.zero_fits_law exact) c.requires.fits low most)
+    c.in_default.ensures (g.I.Number.between_law (pos 0) (pos row) (g.I.Number.value c.args.n) exact (g.met.I.Zero.zero_fits_law exact)
+    c.requires.fits low most)
 
 pub returns : goal.returns
 returns g c =
-    let all : c.rows.k ≡ length c.args.rows.now = (let most = c.rows.auto.k-end in let least = c.rows-test.false in omega (arith, most, least)) in
+    let all : c.rows.k ≡ length c.args.rows.now = (let most = c.rows.auto.k-end in let least = c.rows-test.false in
+    omega (arith, most, least)) in
     c.rows.invariant ∙ ap (map pos) (ap (λ k. take k c.args.rows.now) all ∙ take-length c.args.rows.now)
 
 pub rows-preserved : goal.rows-preserved

@@ -1,11 +1,12 @@
 use Rattle.std.proofs.Common.{◌≡◌, ◌<◌, ℕ, get_or, length, arith, ◌∙◌, below_more}
 use Rattle.std.proofs.lemmas.List.{length-set}
-use Rattle.amd_model.proofs.Pigeonhole.{permutation_below, permutation_once}
+use Rattle.amd_model.proofs.Counting.Pigeonhole.{permutation_below, permutation_once}
 use Rattle.amd_numbers.proofs.NumberReads.{at_set_same, at_set_other}
 use Rattle.amd_numbers.proofs.permutations.places_of.Goals as goal
 
 pub index_mut-requires : goal.index_mut-requires
-index_mut-requires g c = let small = permutation_below (length c.args.rows.now) c.args.rows.now c.requires.listing c.rows.k c.rows-test.true in let room = c.rows.invariant.room in omega (arith, small, room)
+index_mut-requires g c = let small = permutation_below (length c.args.rows.now) c.args.rows.now c.requires.listing c.rows.k c.rows-test.true
+    in let room = c.rows.invariant.room in omega (arith, small, room)
 
 pub rows-preserved : goal.rows-preserved
 rows-preserved g c =
@@ -19,6 +20,7 @@ rows-preserved g c =
     record {
       room = length-set places row c.in-Some.place ∙ room;
       written = below_more _ _
-          (λ j before. at_set_other value places row (get_or rows j 0) c.in-Some.place (permutation_once (length rows) rows listing j c.rows.k before c.rows-test.true) ∙ c.rows.invariant.written j before)
+          (λ j before. at_set_other value places row (get_or rows j 0) c.in-Some.place
+          (permutation_once (length rows) rows listing j c.rows.k before c.rows-test.true) ∙ c.rows.invariant.written j before)
           (at_set_same value places row c.in-Some.place (omega (arith, small, room)) ∙ c.in-Some.ensures.1);
     }

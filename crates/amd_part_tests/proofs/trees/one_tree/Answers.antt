@@ -2,8 +2,8 @@
 use Rattle.std.proofs.Common.{◌≡◌, ◌<◌, ℕ, true, [], ◌∷◌, refl, arith}
 use Rattle.std.specs.Prelude.{nat_lt}
 use Rattle.std.proofs.lemmas.Bool.{ltb-true}
-use Rattle.amd_model.specs.Tie.{has, each, Once}
-use Rattle.amd_model.proofs.TieLists.{each_gives}
+use Rattle.amd_model.specs.Quotient.{has, each, Once}
+use Rattle.amd_model.proofs.Quotient.Lists.{each_gives}
 use Rattle.amd_trees.specs.Trees.{none, more}
 use Rattle.amd_part_tests.proofs.trees.one_tree.Goals as goal
 
@@ -27,7 +27,8 @@ post_tree-next-requires-clause-fits g c = record {
   listing = 0 ∷ 1 ∷ 3 ∷ 2 ∷ 5 ∷ [];
   tree = record {
     below = 0 ∷ 1 ∷ 3 ∷ 2 ∷ [];
-    lists = more {e = 0} {below = []} none (more {e = 1} {below = []} none (more {e = 3} {below = []} none (more {e = 2} {below = []} {after = []} none none)));
+    lists = more {e = 0} {below = []} none
+        (more {e = 1} {below = []} none (more {e = 3} {below = []} none (more {e = 2} {below = []} {after = []} none none)));
     is = refl;
     once = once;
   };

@@ -1,6 +1,7 @@
-use Rattle.std.proofs.Common.{ℕ, Bool, false, Some, List, ◌≡◌, ◌<◌, ◌∙◌, ◌&&◌, ◌||◌, ◌==◌, not, cond, nat_eq, nat_lt, ap, sym, arith, length, length-set, filter, flat_map}
+use Rattle.std.proofs.Common.{ℕ, Bool, false, Some, List, ◌≡◌, ◌<◌, ◌∙◌, ◌&&◌, ◌||◌, ◌==◌, not, cond, nat_eq, nat_lt, ap, sym, arith}
+use Rattle.std.proofs.Common.{length, length-set, filter, flat_map}
 use Rattle.std.proofs.lemmas.Bool.{cond-true, cond-false}
-use Rattle.amd_model.specs.Tie.{has}
+use Rattle.amd_model.specs.Quotient.{has}
 use Rattle.amd_rounds.specs.Views.{num, at, some_at, list_at}
 use Rattle.amd_rounds.specs.Rounds.{firsts}
 use Rattle.amd_rounds.proofs.ListPlaces.{list_read}
@@ -12,34 +13,42 @@ use Rattle.amd_rounds.proofs.absorption.absorb.Goals as goal
 pub count_beyond-requires-clause-range : goal.count_beyond-requires-clause-range
 count_beyond-requires-clause-range g c =
     let elements = c.args.lists.now.elements.items in
-    let below = touched_below (length c.args.size.now) elements (has (list_at elements c.args.pivot)) c.args.front.now c.in_ok-touched.touched.items c.requires.elements c.in_ok-touched.ensures.list in
+    let below = touched_below (length c.args.size.now) elements (has (list_at elements c.args.pivot)) c.args.front.now
+    c.in_ok-touched.touched.items c.requires.elements c.in_ok-touched.ensures.list in
     rw c.deref.ensures.value below
 
 pub spare-requires-clause-range : goal.spare-requires-clause-range
 spare-requires-clause-range g c =
     let elements = c.args.lists.now.elements.items in
-    let below = touched_below (length c.args.size.now) elements (has (list_at elements c.args.pivot)) c.args.front.now c.in_ok-touched.touched.items c.requires.elements c.in_ok-touched.ensures.list in
-    let room : length c.deref-3.result.now ≡ length c.args.size.now = ap length c.deref-3.ensures.value ∙ c.count_beyond.ensures.size ∙ c.requires.numbers.0 in
+    let below = touched_below (length c.args.size.now) elements (has (list_at elements c.args.pivot)) c.args.front.now
+    c.in_ok-touched.touched.items c.requires.elements c.in_ok-touched.ensures.list in
+    let room : length c.deref-3.result.now ≡ length c.args.size.now = ap length c.deref-3.ensures.value ∙ c.count_beyond.ensures.size ∙
+    c.requires.numbers.0 in
     rw (c.deref-2.ensures.value, room) below
 
 pub adopt-requires-2-clause-range : goal.adopt-requires-2-clause-range
 adopt-requires-2-clause-range g c =
     let elements = c.args.lists.now.elements.items in
-    let below = touched_below (length c.args.size.now) elements (has (list_at elements c.args.pivot)) c.args.front.now c.in_ok-touched.touched.items c.requires.elements c.in_ok-touched.ensures.list in
-    let room : length c.deref-7.result.now ≡ length c.args.size.now = ap length c.deref-7.ensures.value ∙ c.spare.ensures.size ∙ c.in_ok-touched.ensures.size ∙ c.requires.taken.0 in
+    let below = touched_below (length c.args.size.now) elements (has (list_at elements c.args.pivot)) c.args.front.now
+    c.in_ok-touched.touched.items c.requires.elements c.in_ok-touched.ensures.list in
+    let room : length c.deref-7.result.now ≡ length c.args.size.now = ap length c.deref-7.ensures.value ∙ c.spare.ensures.size ∙
+    c.in_ok-touched.ensures.size ∙ c.requires.taken.0 in
     rw (c.deref-6.ensures.value, room) below
 
 pub clear_all-requires-2 : goal.clear_all-requires-2
 clear_all-requires-2 g c =
     let elements = c.args.lists.now.elements.items in
-    let below = touched_below (length c.args.size.now) elements (has (list_at elements c.args.pivot)) c.args.front.now c.in_ok-touched.touched.items c.requires.elements c.in_ok-touched.ensures.list in
-    let room : length c.clear_all.new.marks.items ≡ length c.args.size.now = c.clear_all.ensures.size ∙ c.spare.ensures.size ∙ c.in_ok-touched.ensures.size ∙ c.requires.taken.0 in
+    let below = touched_below (length c.args.size.now) elements (has (list_at elements c.args.pivot)) c.args.front.now
+    c.in_ok-touched.touched.items c.requires.elements c.in_ok-touched.ensures.list in
+    let room : length c.clear_all.new.marks.items ≡ length c.args.size.now = c.clear_all.ensures.size ∙ c.spare.ensures.size ∙
+    c.in_ok-touched.ensures.size ∙ c.requires.taken.0 in
     rw (c.deref-11.ensures.value, room) (record { range = below })
 
 pub returns : goal.returns
 returns g c =
     let r = c.requires in let p : ℕ = c.args.pivot in let front : List ℕ = c.args.front.now in let size : List ℕ = c.args.size.now in
-    let elements = c.args.lists.now.elements.items in let members = c.args.lists.now.members.items in let variables = c.args.lists.now.variables.items in
+    let elements = c.args.lists.now.elements.items in let members = c.args.lists.now.members.items in
+    let variables = c.args.lists.now.variables.items in
     let touched : List ℕ = c.in_ok-touched.touched.items in let own : List ℕ = list_at elements p in
     let beyond : List ℕ = c.count_beyond.new.beyond.items in let rows : List Bool = c.args.scratch.now.rows.items in
     let marked : List Bool = c.touched_by.new.marks.items in let taken : List Bool = c.spare.new.taken.items in
@@ -54,22 +63,28 @@ returns g c =
     c.spare.ensures.spared e
     ∙ ap (λ l. at marked e && not (has l e && not (c.args.aggressive && nat_eq (num c.deref-3.result.now e) 0))) c.deref-2.ensures.value
     ∙ ap (λ l. at marked e && not (has touched e && not (c.args.aggressive && nat_eq (num l e) 0))) c.deref-3.ensures.value
-    ∙ ap (λ b. b && not (has touched e && not (whole e))) (c.in_ok-touched.ensures.marked e) ∙ spared_is (has own e) (has touched e) (whole e) (λ h. (gathered e h).1) in
+    ∙ ap (λ b. b && not (has touched e && not (whole e))) (c.in_ok-touched.ensures.marked e) ∙
+    spared_is (has own e) (has touched e) (whole e) (λ h. (gathered e h).1) in
     let parents : (e : ℕ) → some_at c.adopt-2.new.parent.items e ≡ cond (at taken e) (Some p) (some_at c.args.parent.now.items e) = λ e.
-    adopted_is (has own e) (has touched e) (at taken e) (Some p) (some_at c.args.parent.now.items e) (some_at c.adopt.new.parent.items e) (some_at c.adopt-2.new.parent.items e)
+    adopted_is (has own e) (has touched e) (at taken e) (Some p) (some_at c.args.parent.now.items e) (some_at c.adopt.new.parent.items e)
+    (some_at c.adopt-2.new.parent.items e)
     (λ h. in_either (has own e) (has touched e) (whole e) (sym (taken_is e) ∙ h))
     (c.adopt.ensures.adopted e ∙ ap (λ l. cond (has l e && at c.deref-5.result.now e) (Some p) (some_at c.args.parent.now.items e)) first
     ∙ ap (λ l. cond (has own e && at l e) (Some p) (some_at c.args.parent.now.items e)) c.deref-5.ensures.value)
-    (c.adopt-2.ensures.adopted e ∙ ap (λ l. cond (has l e && at c.deref-7.result.now e) (Some p) (some_at c.adopt.new.parent.items e)) c.deref-6.ensures.value
+    (c.adopt-2.ensures.adopted e ∙ ap (λ l. cond (has l e && at c.deref-7.result.now e) (Some p) (some_at c.adopt.new.parent.items e))
+    c.deref-6.ensures.value
     ∙ ap (λ l. cond (has touched e && at l e) (Some p) (some_at c.adopt.new.parent.items e)) c.deref-7.ensures.value) in
     let after = c.shorten.new.lists.elements.items in
     let room : p < length after = (let a = r.pivot.0 in let b = c.shorten.ensures.elements.0 in omega (arith, a, b)) in
-    let second : c.deref-10.result.now ≡ own = c.deref-10.ensures.value ∙ sym (list_read after p c.index-2.result.now room c.index-2.ensures) ∙ c.shorten.ensures.kept_elements p ∙ cond-false _ _ _ r.pivot.1 in
+    let second : c.deref-10.result.now ≡ own = c.deref-10.ensures.value ∙
+    sym (list_read after p c.index-2.result.now room c.index-2.ensures) ∙ c.shorten.ensures.kept_elements p ∙
+    cond-false _ _ _ r.pivot.1 in
     let marks : List Bool = c.clear_all-3.new.marks.items in
     let long : length marks ≡ length size = c.clear_all-3.ensures.size ∙ r.rows.0 in
     let clear : (j : ℕ) → at c.clear_all-2.new.marks.items j ≡ false = λ j.
     c.clear_all-2.ensures.cleared j ∙ ap (λ l. at c.clear_all.new.marks.items j && not (has l j)) c.deref-11.ensures.value
-    ∙ ap (λ b. b && not (has touched j)) (c.clear_all.ensures.cleared j ∙ ap (λ l. at taken j && not (has l j)) second ∙ ap (λ b. b && not (has own j)) (taken_is j))
+    ∙ ap (λ b. b && not (has touched j)) (c.clear_all.ensures.cleared j ∙ ap (λ l. at taken j && not (has l j)) second ∙
+    ap (λ b. b && not (has own j)) (taken_is j))
     ∙ cleared_is (has own j) (has touched j) (whole j) in
     record {
       absorbed = record {
@@ -94,8 +109,16 @@ returns g c =
       variables = c.shorten.ensures.variables;
       parent = c.adopt-2.ensures.size ∙ c.adopt.ensures.size ∙ r.parent;
       idle = record {
-        rows = (length-set marks p false ∙ long, pivot_cleared marks p front (let a = r.pivot.0 in omega (arith, a, long)) (λ j. c.clear_all-3.ensures.cleared j ∙ ap (λ b. b && not (has front j)) (r.rows.1 j)));
-        elements = (c.clear_all-2.ensures.size ∙ c.clear_all.ensures.size ∙ c.spare.ensures.size ∙ c.in_ok-touched.ensures.size ∙ r.taken.0, clear);
+        rows = (
+          length-set marks p false ∙ long,
+          pivot_cleared marks p front (let a = r.pivot.0 in omega (arith, a, long))
+              (λ j. c.clear_all-3.ensures.cleared j ∙ ap (λ b. b && not (has front j)) (r.rows.1 j)),
+        );
+        elements = (
+          c.clear_all-2.ensures.size ∙ c.clear_all.ensures.size ∙ c.spare.ensures.size ∙ c.in_ok-touched.ensures.size ∙
+              r.taken.0,
+          clear,
+        );
         groups = r.groups;
         beyond = c.count_beyond.ensures.size ∙ r.numbers.0;
         into = r.numbers.1;

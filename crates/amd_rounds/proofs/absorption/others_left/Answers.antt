@@ -9,7 +9,9 @@ loop-i-preserved g c =
     let k : ℕ = c.loop-i.i-index in let front : List ℕ = c.args.front.now in let here : k < length front = c.loop-i-test.true in
     let none : ℕ → Bool = keeps_none c.args.lists.now.elements.items c.args.lists.now.variables.items in
     elim c.if-not-keeps_nothing.branch [
-      | then-not-keeps_nothing+in_ok-push w ↦ ap (λ v. v.items) w.rest-is ∙ w.in_ok-push.ensures.items ∙ ap (λ l. l ++ get_or front k 0 ∷ []) c.loop-i.invariant
+      | then-not-keeps_nothing+in_ok-push w ↦ ap (λ v. v.items) w.rest-is ∙ w.in_ok-push.ensures.items ∙
+          ap (λ l. l ++ get_or front k 0 ∷ []) c.loop-i.invariant
           ∙ filter_next none front k here (sym c.keeps_nothing.ensures ∙ w.if-not-keeps_nothing.true)
-      | else-not-keeps_nothing w ↦ ap (λ v. v.items) w.rest-is ∙ c.loop-i.invariant ∙ filter_passed none front k here (sym c.keeps_nothing.ensures ∙ w.if-not-keeps_nothing.false)
+      | else-not-keeps_nothing w ↦ ap (λ v. v.items) w.rest-is ∙ c.loop-i.invariant ∙
+          filter_passed none front k here (sym c.keeps_nothing.ensures ∙ w.if-not-keeps_nothing.false)
     ]

@@ -1,7 +1,7 @@
 use Rattle.std.proofs.Common.{ℕ, Bool, Option, Some, None, List, ◌≡◌, ◌<◌, ◌∙◌, ap, refl, sym, arith, length, get_or, set, length-set}
 use Rattle.amd_rounds.specs.Views.{num, some_at}
 use Rattle.amd_rounds.specs.Rounds.{keeps_none}
-use Rattle.amd_model.specs.Tie.{has}
+use Rattle.amd_model.specs.Quotient.{has}
 use Rattle.amd_rounds.proofs.Kept.{set_passing, set_none}
 use Rattle.amd_rounds.proofs.absorption.retire.Goals as goal
 use Rattle.amd_rounds.proofs.absorption.retire.Goals.{then-keeps_nothing, else-keeps_nothing}
@@ -26,7 +26,8 @@ loop-i-preserved g c =
           let pass = sym c.keeps_nothing.ensures ∙ w.if-keeps_nothing.true in
           record {
             sizes = rw a (set_passing (λ e. 0) (num c.args.size.now.items) none front k size 0 0 here small pass refl was.sizes);
-            links = rw b (set_passing (λ e. written) (some_at c.args.link.now.items) none front k link None written here room pass refl was.links);
+            links = rw b (set_passing (λ e. written) (some_at c.args.link.now.items) none front k link None written here room pass refl
+                was.links);
             size = rw a (length-set size x 0 ∙ was.size);
             link = rw b (length-set link x written ∙ was.link);
           })

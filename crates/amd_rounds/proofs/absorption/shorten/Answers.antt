@@ -1,12 +1,19 @@
 use Rattle.std.proofs.Common.{ℕ, Bool, List, ◌<◌, refl, arith, length, get_or, not, ◌&&◌, nat_lt}
 use Rattle.amd_rounds.specs.Views.{num, at}
-use Rattle.amd_model.specs.Tie.{has}
+use Rattle.amd_model.specs.Quotient.{has}
 use Rattle.amd_rounds.proofs.Kept.{keep_next, below_next}
 use Rattle.amd_rounds.proofs.absorption.shorten.Goals as goal
 
 pub loop-i-init : goal.loop-i-init
 unfolding has
-loop-i-init g c = record { kept_elements = λ e. refl; kept_variables = λ e. refl; members = refl; elements = c.requires.elements; variables = c.requires.variables }
+loop-i-init g c = record {
+  kept_elements = λ e. refl;
+  kept_variables = λ e. refl;
+  members = refl;
+  elements =
+      c.requires.elements;
+  variables = c.requires.variables;
+}
 
 pub loop-i-preserved : goal.loop-i-preserved
 loop-i-preserved g c =
@@ -15,11 +22,16 @@ loop-i-preserved g c =
     let elements = c.loop-i.lists.elements.items in let variables = c.loop-i.lists.variables.items in
     let small : x < length elements = (let a = was.elements.0 in omega (arith, range, a)) in
     let room : x < length variables = (let a = was.variables.0 in omega (arith, range, a)) in
-    let left : ℕ → Bool = λ e. not (at c.args.taken.now e) in let outer : ℕ → Bool = λ j. nat_lt 0 (num c.args.size.now j) && not (at c.args.marks.now j) in
+    let left : ℕ → Bool = λ e. not (at c.args.taken.now e) in
+    let outer : ℕ → Bool = λ j. nat_lt 0 (num c.args.size.now j) && not (at c.args.marks.now j) in
     record {
-      kept_elements = keep_next left c.args.lists.now.elements.items elements front k c.index_mut.result.now c.keep_elements.new.list here c.requires.once small c.index_mut.ensures.value c.keep_elements.ensures was.kept_elements;
-      kept_variables = keep_next outer c.args.lists.now.variables.items variables front k c.index_mut-in-loop-i.result.now c.keep_variables.new.list here c.requires.once room c.index_mut-in-loop-i.ensures.value c.keep_variables.ensures was.kept_variables;
+      kept_elements = keep_next left c.args.lists.now.elements.items elements front k c.index_mut.result.now c.keep_elements.new.list here
+          c.requires.once small c.index_mut.ensures.value c.keep_elements.ensures was.kept_elements;
+      kept_variables = keep_next outer c.args.lists.now.variables.items variables front k c.index_mut-in-loop-i.result.now
+          c.keep_variables.new.list here c.requires.once room c.index_mut-in-loop-i.ensures.value c.keep_variables.ensures was.kept_variables;
       members = was.members;
-      elements = below_next (length c.args.size.now) left elements x c.index_mut.result.now c.keep_elements.new.list small c.index_mut.ensures.value c.keep_elements.ensures was.elements;
-      variables = below_next (length c.args.size.now) outer variables x c.index_mut-in-loop-i.result.now c.keep_variables.new.list room c.index_mut-in-loop-i.ensures.value c.keep_variables.ensures was.variables;
+      elements = below_next (length c.args.size.now) left elements x c.index_mut.result.now c.keep_elements.new.list small
+          c.index_mut.ensures.value c.keep_elements.ensures was.elements;
+      variables = below_next (length c.args.size.now) outer variables x c.index_mut-in-loop-i.result.now c.keep_variables.new.list room
+          c.index_mut-in-loop-i.ensures.value c.keep_variables.ensures was.variables;
     }

@@ -3,7 +3,7 @@ use Rattle.std.specs.Prelude.{sum_by, min, true}
 use Rattle.std.proofs.lemmas.Grind.{get_or_default_zero}
 use Rattle.std.proofs.lemmas.List.{length-set, get_or-set_same, get_or-set_other}
 use Rattle.amd_model.specs.Figures.{cut}
-use Rattle.amd_model.specs.Tie.{has}
+use Rattle.amd_model.specs.Quotient.{has}
 use Rattle.amd_rounds.specs.Views.{num, list_at}
 use Rattle.amd_rounds.specs.Rounds.{bound_after}
 use Rattle.amd_rounds.proofs.RenewedParts.{cut_more}
@@ -14,7 +14,8 @@ use Rattle.amd_rounds.proofs.bounds.renew_bounds.Goals as goal
 
 pub loop-i-init : goal.loop-i-init
 loop-i-init g c = record {
-  bounds = changed_none c.args.made.now (bound_after c.args.border c.args.live c.args.lists.now c.args.beyond.now c.args.size.now c.args.bound.now.items) (num c.args.bound.now.items);
+  bounds = changed_none c.args.made.now (bound_after c.args.border c.args.live c.args.lists.now c.args.beyond.now c.args.size.now
+      c.args.bound.now.items) (num c.args.bound.now.items);
   room = Rattle.std.proofs.Common.refl;
 }
 
@@ -34,7 +35,8 @@ overflow_add-near g c =
     let lengths = c.requires.lengths.1 in
     let within : i < length c.loop-i.bound.items = omega (arith, room, small, lengths) in
     let stays = unchanged made k 0 c.loop-i-test.true new (num old) (num c.loop-i.bound.items) c.loop-i.invariant.bounds c.requires.once in
-    let read : c.index-in-loop-i-2.result.now ≡ num old i = c.index-in-loop-i-2.ensures ∙ get_or_default_zero c.loop-i.bound.items i c.index-in-loop-i-2.result.now within ∙ stays in
+    let read : c.index-in-loop-i-2.result.now ≡ num old i = c.index-in-loop-i-2.ensures ∙
+    get_or_default_zero c.loop-i.bound.items i c.index-in-loop-i-2.result.now within ∙ stays in
     let fits = c.requires.fits i named in
     let least = c.min.ensures in
     record { fits = omega (arith, fits, least, read) }
@@ -58,21 +60,26 @@ loop-i-preserved g c =
     let lengths = c.requires.lengths.1 in
     let within : i < length now = omega (arith, room, small, lengths) in
     let stays = unchanged made k 0 c.loop-i-test.true new (num old) (num now) c.loop-i.invariant.bounds c.requires.once in
-    let read : c.index-in-loop-i-2.result.now ≡ num old i = c.index-in-loop-i-2.ensures ∙ get_or_default_zero now i c.index-in-loop-i-2.result.now within ∙ stays in
+    let read : c.index-in-loop-i-2.result.now ≡ num old i = c.index-in-loop-i-2.ensures ∙
+    get_or_default_zero now i c.index-in-loop-i-2.result.now within ∙ stays in
     let e_size = c.requires.elements.0 in
     let v_size = c.requires.variables.0 in
     let es = list_read lists.elements.items i c.index.result.now (omega (arith, small, e_size)) c.index.ensures in
     let vs = list_read lists.variables.items i c.index-in-loop-i.result.now (omega (arith, small, v_size)) c.index-in-loop-i.ensures in
     let far : ℕ = sum_by (num beyond) (list_at lists.elements.items i) in
     let near : ℕ = sum_by (num size) (list_at lists.variables.items i) in
-    let first : c.sum_at.result ≡ cut far = c.sum_at.ensures ∙ ap cut (zero_first _) ∙ ap (λ xs. cut (sum_by (num beyond) xs)) (c.deref.ensures.value ∙ sym es) in
-    let both : c.sum_at-outside.result ≡ cut (far + near) = c.sum_at-outside.ensures ∙ ap (λ xs. cut (c.sum_at.result + sum_by (num size) xs)) (c.deref-in-loop-i.ensures.value ∙ sym vs)
+    let first : c.sum_at.result ≡ cut far = c.sum_at.ensures ∙ ap cut (zero_first _) ∙
+    ap (λ xs. cut (sum_by (num beyond) xs)) (c.deref.ensures.value ∙ sym es) in
+    let both : c.sum_at-outside.result ≡ cut (far + near) = c.sum_at-outside.ensures ∙
+    ap (λ xs. cut (c.sum_at.result + sum_by (num size) xs)) (c.deref-in-loop-i.ensures.value ∙ sym vs)
     ∙ cut_more c.sum_at.result far near first in
-    let least : c.min.result ≡ min (num old i) (cut (far + near)) = c.min.ensures ∙ ap (λ m. min m c.sum_at-outside.result) read ∙ ap (min (num old i)) both in
+    let least : c.min.result ≡ min (num old i) (cut (far + near)) = c.min.ensures ∙ ap (λ m. min m c.sum_at-outside.result) read ∙
+    ap (min (num old i)) both in
     record {
       bounds = changed_more made k 0 c.loop-i-test.true new (num old) (num now) c.loop-i.invariant.bounds _
           (λ x ne. get_or-set_other now i x c.min-in-loop-i.result 0 ne)
-          (get_or-set_same now i c.min-in-loop-i.result 0 within ∙ c.min-in-loop-i.ensures ∙ ap (λ m. min (m + (c.args.border - num size i)) (c.args.live - num size i)) least);
+          (get_or-set_same now i c.min-in-loop-i.result 0 within ∙ c.min-in-loop-i.ensures ∙
+          ap (λ m. min (m + (c.args.border - num size i)) (c.args.live - num size i)) least);
       room = length-set now i c.min-in-loop-i.result ∙ room;
     }
   where

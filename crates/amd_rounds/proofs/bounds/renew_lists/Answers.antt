@@ -1,5 +1,5 @@
 use Rattle.std.proofs.Common.{◌≡◌, ◌<◌, ◌∷◌, ℕ, length, get_or, set, arith, ap, sym, refl, subst, ◌∙◌}
-use Rattle.amd_model.specs.Tie.{turned}
+use Rattle.amd_model.specs.Quotient.{turned}
 use Rattle.amd_rounds.specs.Views.{list_at, Below}
 use Rattle.amd_views.proofs.Lists.Named.{below_turned}
 use Rattle.amd_rounds.proofs.Kept.{changed_more, changed_none, unchanged}
@@ -9,8 +9,10 @@ use Rattle.amd_rounds.proofs.bounds.renew_lists.Goals as goal
 
 pub loop-i-init : goal.loop-i-init
 loop-i-init g c = record {
-  new_elements = changed_none c.args.made.now (λ i. c.args.pivot ∷ turned (list_at c.args.lists.now.elements.items i)) (list_at c.args.lists.now.elements.items);
-  new_variables = changed_none c.args.made.now (λ i. turned (list_at c.args.lists.now.variables.items i)) (list_at c.args.lists.now.variables.items);
+  new_elements = changed_none c.args.made.now (λ i. c.args.pivot ∷ turned (list_at c.args.lists.now.elements.items i))
+      (list_at c.args.lists.now.elements.items);
+  new_variables = changed_none c.args.made.now (λ i. turned (list_at c.args.lists.now.variables.items i))
+      (list_at c.args.lists.now.variables.items);
   members = refl;
   elements = c.requires.elements;
   variables = c.requires.variables;
@@ -39,9 +41,13 @@ loop-i-preserved g c =
     let et : list_at es i ≡ c.index_mut.result.now.items = list_read es i c.index_mut.result.now e_in c.index_mut.ensures.value in
     let turned_e : t.items ≡ turned (list_at es i) = c.turn.ensures ∙ ap turned (sym et) in
     let e_in' : i < length (set es i t) = omega (arith, e_in, Rattle.std.proofs.lemmas.List.length-set es i t) in
-    let again : c.index_mut-in-loop-i.result.now.items ≡ t.items = sym (list_read (set es i t) i c.index_mut-in-loop-i.result.now e_in' c.index_mut-in-loop-i.ensures.value) ∙ list_set_same es i t e_in in
-    let put : p.items ≡ c.args.pivot ∷ turned (list_at es i) = c.in_ok-insert.ensures.items ∙ ap (λ xs. c.args.pivot ∷ xs) (again ∙ turned_e) in
-    let vt : list_at vs i ≡ c.index_mut-in-loop-i-2.result.now.items = list_read vs i c.index_mut-in-loop-i-2.result.now v_in c.index_mut-in-loop-i-2.ensures.value in
+    let again : c.index_mut-in-loop-i.result.now.items ≡ t.items =
+    sym (list_read (set es i t) i c.index_mut-in-loop-i.result.now e_in' c.index_mut-in-loop-i.ensures.value) ∙
+    list_set_same es i t e_in in
+    let put : p.items ≡ c.args.pivot ∷ turned (list_at es i) = c.in_ok-insert.ensures.items ∙
+    ap (λ xs. c.args.pivot ∷ xs) (again ∙ turned_e) in
+    let vt : list_at vs i ≡ c.index_mut-in-loop-i-2.result.now.items =
+    list_read vs i c.index_mut-in-loop-i-2.result.now v_in c.index_mut-in-loop-i-2.ensures.value in
     let turned_v : u.items ≡ turned (list_at vs i) = c.turn-in-loop-i.ensures ∙ ap turned (sym vt) in
     let e_stays = unchanged made k 0 test (λ x. c.args.pivot ∷ turned (old_es x)) old_es (list_at es) inv.new_elements c.requires.once in
     let v_stays = unchanged made k 0 test (λ x. turned (old_vs x)) old_vs (list_at vs) inv.new_variables c.requires.once in
@@ -55,6 +61,7 @@ loop-i-preserved g c =
           (λ x ne. list_set_other vs i u x ne)
           (list_set_same vs i u v_in ∙ turned_v ∙ ap turned v_stays);
       members = inv.members;
-      elements = lists_set n (set es i t) i p (lists_set n es i t inv.elements (subst (Below n) (sym turned_e) e_below)) (subst (Below n) (sym put) (All-cons (λ j. j < n) c.args.pivot (turned (list_at es i)) c.requires.pivot e_below));
+      elements = lists_set n (set es i t) i p (lists_set n es i t inv.elements (subst (Below n) (sym turned_e) e_below))
+          (subst (Below n) (sym put) (All-cons (λ j. j < n) c.args.pivot (turned (list_at es i)) c.requires.pivot e_below));
       variables = lists_set n vs i u inv.variables (subst (Below n) (sym turned_v) v_below);
     }

@@ -19,4 +19,5 @@ loop-j-preserved c =
     c.saturating_add-total.ensures ∙ cut_min _ ∙ cut_more c.loop-j.total _ _ c.loop-j.invariant ∙ ap cut (omega (arith, more))
 
 pub returns : goal.returns
-returns c = c.loop-j.invariant ∙ ap (λ ys. cut (c.args.first + sum_by (num c.args.numbers.now) ys)) (take_all c.loop-j.j-index c.args.list.now c.loop-j-test.false)
+returns c = c.loop-j.invariant ∙ ap (λ ys. cut (c.args.first + sum_by (num c.args.numbers.now) ys))
+    (take_all c.loop-j.j-index c.args.list.now c.loop-j-test.false)

@@ -1,6 +1,6 @@
 use Rattle.std.proofs.Common.{◌≡◌, ◌++◌, List, [], ◌∷◌, ℕ, length, take, drop, sym, ◌∙◌, refl, arith}
 use Rattle.std.proofs.lemmas.Bool.{eqb-true}
-use Rattle.amd_model.specs.Tie.{turned}
+use Rattle.amd_model.specs.Quotient.{turned}
 use Rattle.amd_rounds.proofs.bounds.turn.Goals as goal
 
 turned_is : (xs : List ℕ) → drop 1 xs ++ take 1 xs ≡ turned xs

@@ -1,8 +1,9 @@
-use Rattle.std.proofs.Common.{ℕ, true, List, [], ◌∷◌, ◌++◌, filter, ◌≡◌, ◌<◌, ◌≤◌, ◌⊎◌, ◌+◌, ◌∙◌, inr, sym, ap, arith, subst, length, get_or, drop}
+use Rattle.std.proofs.Common.{ℕ, true, List, [], ◌∷◌, ◌++◌, filter, ◌≡◌, ◌<◌, ◌≤◌, ◌⊎◌, ◌+◌, ◌∙◌, inr, sym, ap, arith, subst, length}
+use Rattle.std.proofs.Common.{get_or, drop}
 use Rattle.std.specs.Prelude.{◌==◌}
 use Rattle.std.proofs.lemmas.List.{at_drop_more}
 use Rattle.std.proofs.lemmas.List.Elements.{All-push}
-use Rattle.amd_model.specs.Tie.{has}
+use Rattle.amd_model.specs.Quotient.{has}
 use Rattle.amd_rounds.specs.Views.{num, list_at, Below}
 use Rattle.amd_views.proofs.Lists.Named.{has_at}
 use Rattle.amd_rounds.proofs.ListPlaces.{list_read, list_below, lists_set}
@@ -43,10 +44,14 @@ loop-i-preserved g c =
     ] in
     let before = was.before in
     record {
-      range = lists_set n lists b new was.range (subst (Below n) (sym items) (All-push (λ j. j < n) (list_at lists b) row (list_below n lists was.range b) (c.requires.made i 0 here)));
-      placed = λ a. pushed lists new bound row (drop (i + 1) made) room items a ∙ sym (at_drop_more (λ xs. list_at lists a ++ filter (λ j. bound j == a) xs) made i 0 here) ∙ was.placed a;
+      range = lists_set n lists b new was.range
+          (subst (Below n) (sym items) (All-push (λ j. j < n) (list_at lists b) row (list_below n lists was.range b)
+          (c.requires.made i 0 here)));
+      placed = λ a. pushed lists new bound row (drop (i + 1) made) room items a ∙
+          sym (at_drop_more (λ xs. list_at lists a ++ filter (λ j. bound j == a) xs) made i 0 here) ∙ was.placed a;
       before = omega (arith, lower, before);
-      least = λ j h. least_next made bound i c.if-b-least.least here low j (least_lower (has (drop i made) j) c.loop-i.least c.if-b-least.least (bound j) lower (was.least j h));
+      least = λ j h. least_next made bound i c.if-b-least.least here low j
+          (least_lower (has (drop i made) j) c.loop-i.least c.if-b-least.least (bound j) lower (was.least j h));
       one = elim c.if-b-least.branch [
         | then-b-least w ↦ inr (row, has_at made i 0 here, w.least-is)
         | else-b-least w ↦ subst (λ x. (x ≡ c.args.least.now) ⊎ ((j : ℕ) × (has made j ≡ true) × (x ≡ bound j))) (sym w.least-is) was.one
@@ -54,7 +59,11 @@ loop-i-preserved g c =
     }
 
 pub returns-clause-least : goal.returns-clause-least
-returns-clause-least g c = (c.loop-i.invariant.before, λ j h. least_end c.args.made.now c.loop-i.i-index c.loop-i.least (num c.args.bound.now j) j c.loop-i-test.false (c.loop-i.invariant.least j h))
+returns-clause-least g c = (
+  c.loop-i.invariant.before,
+  λ j h. least_end c.args.made.now c.loop-i.i-index c.loop-i.least (num c.args.bound.now j) j
+      c.loop-i-test.false (c.loop-i.invariant.least j h),
+)
 
 pub returns-clause-one : goal.returns-clause-one
 returns-clause-one g c = c.loop-i.invariant.one

@@ -1,13 +1,16 @@
-use Rattle.std.proofs.Common.{ℕ, List, Bool, true, false, [], ◌∷◌, ◌++◌, fold, ◌≡◌, ◌<◌, ◌+◌, ◌∙◌, ◌||◌, sym, ap, arith, length, set, length-set, get_or, drop}
+use Rattle.std.proofs.Common.{ℕ, List, Bool, true, false, [], ◌∷◌, ◌++◌, fold, ◌≡◌, ◌<◌, ◌+◌, ◌∙◌, ◌||◌, sym, ap, arith, length, set}
+use Rattle.std.proofs.Common.{length-set, get_or, drop}
 use Rattle.std.specs.Prelude.{nat_lt}
 use Rattle.std.proofs.lemmas.Bool.{lt-ltb, le-ltb}
 use Rattle.std.proofs.lemmas.List.{at_drop_more, at_drop_all, get_or_read}
-use Rattle.amd_model.specs.Tie.{has, add_new}
-use Rattle.amd_model.proofs.TieLists.{filter_yes, filter_no}
+use Rattle.amd_model.specs.Quotient.{has, add_new}
+use Rattle.amd_model.proofs.Quotient.Lists.{filter_yes, filter_no}
 use Rattle.amd_rounds.specs.Views.{at, num, live_of}
 use Rattle.amd_rounds.proofs.MarkLists.{marks_next, marks_end, marks_old, marked_passed, unmarked_added, known_added}
 use Rattle.amd_rounds.proofs.marks.add_classes.Goals as goal
-use Rattle.amd_rounds.proofs.marks.add_classes.Goals.{then-size-j-gt0+then-not-index+in_ok-push, else-size-j-gt0, else-size-j-gt0-via-then-size-j-gt0+else-not-index, else-size-j-gt0-via-else-size-j-gt0}
+use Rattle.amd_rounds.proofs.marks.add_classes.Goals.{then-size-j-gt0+then-not-index+in_ok-push, else-size-j-gt0}
+use Rattle.amd_rounds.proofs.marks.add_classes.Goals.{else-size-j-gt0-via-then-size-j-gt0+else-not-index}
+use Rattle.amd_rounds.proofs.marks.add_classes.Goals.{else-size-j-gt0-via-else-size-j-gt0}
 
 pub loop-j-preserved : goal.loop-j-preserved
 loop-j-preserved g c =
@@ -29,7 +32,8 @@ loop-j-preserved g c =
     elim c.if-size-j-gt0.branch [
       | then-size-j-gt0+then-not-index+in_ok-push w ↦ (
           let fresh : at marks row ≡ false = sym (get_or_read marks row _ small w.index.ensures false) ∙ w.if-not-index.true in
-          let class : live_of sizes (row ∷ rest) ≡ row ∷ classes = filter_yes is_class row rest (lt-ltb 0 (num sizes row) w.if-size-j-gt0.true) in
+          let class : live_of sizes (row ∷ rest) ≡ row ∷ classes =
+          filter_yes is_class row rest (lt-ltb 0 (num sizes row) w.if-size-j-gt0.true) in
           let items : c.if-size-j-gt0.out.items ≡ out ++ row ∷ [] = ap (λ v. v.items) w.out-is ∙ w.in_ok-push.ensures.items in
           let set_now : c.if-size-j-gt0.marks.items ≡ set marks row true = ap (λ v. v.items) w.marks-is in
           rw (set_now, items) record {
@@ -44,19 +48,25 @@ loop-j-preserved g c =
         list = elim w.else-size-j-gt0.branch [
           | else-size-j-gt0-via-then-size-j-gt0+else-not-index w' ↦ (
               let old : at marks row ≡ true = sym (get_or_read marks row _ small w'.index.ensures false) ∙ w'.if-not-index.false in
-              let class : live_of sizes (row ∷ rest) ≡ row ∷ classes = filter_yes is_class row rest (lt-ltb 0 (num sizes row) w'.if-size-j-gt0.true) in
+              let class : live_of sizes (row ∷ rest) ≡ row ∷ classes =
+              filter_yes is_class row rest (lt-ltb 0 (num sizes row) w'.if-size-j-gt0.true) in
               sym (ap (fold (add_new (at marks)) out) class ∙ marked_passed marks out classes row old) ∙ list_now)
-          | else-size-j-gt0-via-else-size-j-gt0 w' ↦ sym (ap (fold (add_new (at marks)) out) (filter_no is_class row rest (le-ltb 0 (num sizes row) w'.if-size-j-gt0.false))) ∙ list_now
+          | else-size-j-gt0-via-else-size-j-gt0 w' ↦ sym (ap (fold (add_new (at marks)) out)
+              (filter_no is_class row rest (le-ltb 0 (num sizes row) w'.if-size-j-gt0.false))) ∙ list_now
         ];
         marked = λ j. elim w.else-size-j-gt0.branch [
           | else-size-j-gt0-via-then-size-j-gt0+else-not-index w' ↦ (
               let old : at marks row ≡ true = sym (get_or_read marks row _ small w'.index.ensures false) ∙ w'.if-not-index.false in
-              let class : live_of sizes (row ∷ rest) ≡ row ∷ classes = filter_yes is_class row rest (lt-ltb 0 (num sizes row) w'.if-size-j-gt0.true) in
+              let class : live_of sizes (row ∷ rest) ≡ row ∷ classes =
+              filter_yes is_class row rest (lt-ltb 0 (num sizes row) w'.if-size-j-gt0.true) in
               marks_old marks row j classes old ∙ sym (ap (λ xs. at marks j || has xs j) class) ∙ marked_now j)
-          | else-size-j-gt0-via-else-size-j-gt0 w' ↦ sym (ap (λ xs. at marks j || has xs j) (filter_no is_class row rest (le-ltb 0 (num sizes row) w'.if-size-j-gt0.false))) ∙ marked_now j
+          | else-size-j-gt0-via-else-size-j-gt0 w' ↦ sym (ap (λ xs. at marks j || has xs j)
+              (filter_no is_class row rest (le-ltb 0 (num sizes row) w'.if-size-j-gt0.false))) ∙ marked_now j
         ];
       }
     ]
 
 pub returns-clause-marked : goal.returns-clause-marked
-returns-clause-marked g c j = sym (at_drop_all (λ xs. at c.loop-j.marks.items j || has (live_of c.args.size.now xs) j) c.args.list.now c.loop-j.j-index c.loop-j-test.false ∙ marks_end c.loop-j.marks.items j) ∙ c.loop-j.invariant.marked j
+returns-clause-marked g c j =
+    sym (at_drop_all (λ xs. at c.loop-j.marks.items j || has (live_of c.args.size.now xs) j) c.args.list.now c.loop-j.j-index
+    c.loop-j-test.false ∙ marks_end c.loop-j.marks.items j) ∙ c.loop-j.invariant.marked j

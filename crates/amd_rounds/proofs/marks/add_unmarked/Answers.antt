@@ -1,6 +1,7 @@
-use Rattle.std.proofs.Common.{ℕ, List, Bool, true, false, [], ◌∷◌, ◌++◌, fold, ◌≡◌, ◌<◌, ◌+◌, ◌∙◌, ◌||◌, sym, ap, arith, length, set, length-set, get_or, drop}
+use Rattle.std.proofs.Common.{ℕ, List, Bool, true, false, [], ◌∷◌, ◌++◌, fold, ◌≡◌, ◌<◌, ◌+◌, ◌∙◌, ◌||◌, sym, ap, arith, length, set}
+use Rattle.std.proofs.Common.{length-set, get_or, drop}
 use Rattle.std.proofs.lemmas.List.{at_drop_more, at_drop_all, get_or_read}
-use Rattle.amd_model.specs.Tie.{has, add_new}
+use Rattle.amd_model.specs.Quotient.{has, add_new}
 use Rattle.amd_rounds.specs.Views.{at}
 use Rattle.amd_rounds.proofs.MarkLists.{marks_next, marks_end, marks_old, marked_passed, unmarked_added, known_added}
 use Rattle.amd_rounds.proofs.marks.add_unmarked.Goals as goal
@@ -43,4 +44,6 @@ loop-j-preserved g c =
     ]
 
 pub returns-clause-marked : goal.returns-clause-marked
-returns-clause-marked g c j = sym (at_drop_all (λ xs. at c.loop-j.marks.items j || has xs j) c.args.list.now c.loop-j.j-index c.loop-j-test.false ∙ marks_end c.loop-j.marks.items j) ∙ c.loop-j.invariant.marked j
+returns-clause-marked g c j =
+    sym (at_drop_all (λ xs. at c.loop-j.marks.items j || has xs j) c.args.list.now c.loop-j.j-index c.loop-j-test.false ∙
+    marks_end c.loop-j.marks.items j) ∙ c.loop-j.invariant.marked j

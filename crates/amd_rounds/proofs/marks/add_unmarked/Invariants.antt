@@ -1,5 +1,5 @@
 use Rattle.std.proofs.Common.{ℕ, ◌≡◌, ◌||◌, drop, length, fold}
-use Rattle.amd_model.specs.Tie.{has, add_new}
+use Rattle.amd_model.specs.Quotient.{has, add_new}
 use Rattle.amd_rounds.specs.Views.{at}
 use Rattle.amd_rounds.proofs.MarkLists.{Known}
 use Rattle.amd_rounds.proofs.marks.add_unmarked.Given as goal

@@ -1,6 +1,6 @@
 use Rattle.std.proofs.Common.{ℕ, List, false, ◌<◌, ◌+◌, ◌∙◌, sym, arith, length, length-set, get_or, drop, ◌&&◌, not}
 use Rattle.std.proofs.lemmas.List.{at_drop_more, at_drop_all}
-use Rattle.amd_model.specs.Tie.{has}
+use Rattle.amd_model.specs.Quotient.{has}
 use Rattle.amd_rounds.specs.Views.{at}
 use Rattle.amd_rounds.proofs.MarkLists.{clears_next, clears_end}
 use Rattle.amd_rounds.proofs.marks.clear_all.Goals as goal
@@ -15,8 +15,11 @@ loop-j-preserved g c =
     let small : get_or list i 0 < length marks = (let a = c.requires.range i 0 here in omega (arith, a, size)) in
     record {
       size = length-set marks (get_or list i 0) false ∙ size;
-      cleared = λ j. clears_next marks (get_or list i 0) j (drop (i + 1) list) small ∙ sym (at_drop_more (λ xs. at c.loop-j.marks.items j && not (has xs j)) list i 0 here) ∙ c.loop-j.invariant.cleared j;
+      cleared = λ j. clears_next marks (get_or list i 0) j (drop (i + 1) list) small ∙
+          sym (at_drop_more (λ xs. at c.loop-j.marks.items j && not (has xs j)) list i 0 here) ∙ c.loop-j.invariant.cleared j;
     }
 
 pub returns-clause-cleared : goal.returns-clause-cleared
-returns-clause-cleared g c j = sym (at_drop_all (λ xs. at c.loop-j.marks.items j && not (has xs j)) c.args.list.now c.loop-j.j-index c.loop-j-test.false ∙ clears_end c.loop-j.marks.items j) ∙ c.loop-j.invariant.cleared j
+returns-clause-cleared g c j =
+    sym (at_drop_all (λ xs. at c.loop-j.marks.items j && not (has xs j)) c.args.list.now c.loop-j.j-index c.loop-j-test.false ∙
+    clears_end c.loop-j.marks.items j) ∙ c.loop-j.invariant.cleared j

@@ -1,6 +1,6 @@
 use Rattle.std.proofs.Common.{ℕ, List, true, ◌<◌, ◌+◌, ◌∙◌, sym, arith, length, length-set, get_or, drop, ◌||◌}
 use Rattle.std.proofs.lemmas.List.{at_drop_more, at_drop_all}
-use Rattle.amd_model.specs.Tie.{has}
+use Rattle.amd_model.specs.Quotient.{has}
 use Rattle.amd_rounds.specs.Views.{at}
 use Rattle.amd_rounds.proofs.MarkLists.{marks_next, marks_end}
 use Rattle.amd_rounds.proofs.marks.mark_all.Goals as goal
@@ -15,8 +15,11 @@ loop-j-preserved g c =
     let small : get_or list i 0 < length marks = (let a = c.requires.range i 0 here in omega (arith, a, size)) in
     record {
       size = length-set marks (get_or list i 0) true ∙ size;
-      marked = λ j. marks_next marks (get_or list i 0) j (drop (i + 1) list) small ∙ sym (at_drop_more (λ xs. at c.loop-j.marks.items j || has xs j) list i 0 here) ∙ c.loop-j.invariant.marked j;
+      marked = λ j. marks_next marks (get_or list i 0) j (drop (i + 1) list) small ∙
+          sym (at_drop_more (λ xs. at c.loop-j.marks.items j || has xs j) list i 0 here) ∙ c.loop-j.invariant.marked j;
     }
 
 pub returns-clause-marked : goal.returns-clause-marked
-returns-clause-marked g c j = sym (at_drop_all (λ xs. at c.loop-j.marks.items j || has xs j) c.args.list.now c.loop-j.j-index c.loop-j-test.false ∙ marks_end c.loop-j.marks.items j) ∙ c.loop-j.invariant.marked j
+returns-clause-marked g c j =
+    sym (at_drop_all (λ xs. at c.loop-j.marks.items j || has xs j) c.args.list.now c.loop-j.j-index c.loop-j-test.false ∙
+    marks_end c.loop-j.marks.items j) ∙ c.loop-j.invariant.marked j

@@ -1,6 +1,6 @@
 use Rattle.std.proofs.Common.{ℕ, List, fold, flat_map, ◌≡◌, ◌<◌, ◌+◌, ◌∙◌, ◌||◌, sym, ap, arith, length, get_or, drop}
 use Rattle.std.proofs.lemmas.List.{at_drop_more}
-use Rattle.amd_model.specs.Tie.{has, add_new}
+use Rattle.amd_model.specs.Quotient.{has, add_new}
 use Rattle.amd_rounds.specs.Views.{at, list_at}
 use Rattle.amd_rounds.proofs.ListPlaces.{list_read}
 use Rattle.amd_rounds.proofs.MarkLists.{marks_list, gathered_list, gathered_marks, gathered_next}
@@ -34,11 +34,14 @@ front-preserved g c =
     let here : i < length front = c.front-test.true in
     let e : ℕ = get_or front i 0 in
     let small : e < length lists = (let b = c.requires.range i 0 here in omega (arith, b, c.requires.elements.0)) in
-    let list : list_at lists e ≡ c.deref-in-front.result.now = list_read lists e c.index-in-front.result.now small c.index-in-front.ensures ∙ sym c.deref-in-front.ensures.value in
-    let grows : grown ≡ fold (add_new (at c.front.marks.items)) out (list_at lists e) = c.in_ok-add_unmarked.ensures.list ∙ ap (fold (add_new (at c.front.marks.items)) out) (sym list) in
+    let list : list_at lists e ≡ c.deref-in-front.result.now =
+    list_read lists e c.index-in-front.result.now small c.index-in-front.ensures ∙ sym c.deref-in-front.ensures.value in
+    let grows : grown ≡ fold (add_new (at c.front.marks.items)) out (list_at lists e) = c.in_ok-add_unmarked.ensures.list ∙
+    ap (fold (add_new (at c.front.marks.items)) out) (sym list) in
     record {
       size = c.in_ok-add_unmarked.ensures.size ∙ was.size;
-      list = gathered_next skip (list_at lists) out grown (drop (i + 1) front) e (gathered_list skip c.front.marks.items out grown (list_at lists e) was.marked grows)
+      list = gathered_next skip (list_at lists) out grown (drop (i + 1) front) e
+          (gathered_list skip c.front.marks.items out grown (list_at lists e) was.marked grows)
           ∙ sym (at_drop_more (λ es. fold (add_new skip) out (flat_map (list_at lists) es)) front i 0 here) ∙ was.list;
       marked = gathered_marks skip c.front.marks.items out grown (list_at lists e) was.marked grows c.add_unmarked.new.marks.items
           (λ j. c.in_ok-add_unmarked.ensures.marked j ∙ ap (λ xs. at c.front.marks.items j || has xs j) (sym list));

@@ -1,5 +1,5 @@
 use Rattle.std.proofs.Common.{ℕ, ◌≡◌, ◌||◌, [], drop, length, fold, flat_map}
-use Rattle.amd_model.specs.Tie.{has, add_new}
+use Rattle.amd_model.specs.Quotient.{has, add_new}
 use Rattle.amd_rounds.specs.Views.{at, list_at}
 use Rattle.amd_rounds.proofs.marks.touched_by.Given as goal
 

@@ -1,8 +1,8 @@
 use Rattle.std.proofs.Common.{◌+◌, inl, inr, take, ap, sym, refl, ◌∙◌}
 use Rattle.std.proofs.lemmas.Bool.{cases_Bool}
 use Rattle.std.proofs.lemmas.List.{take_all}
-use Rattle.amd_model.specs.Tie.{each}
-use Rattle.amd_model.proofs.TieLists.{each_gives, each_from, clash}
+use Rattle.amd_model.specs.Quotient.{each}
+use Rattle.amd_model.proofs.Quotient.Lists.{each_gives, each_from, clash}
 use Rattle.amd_views.proofs.Lists.Named.{has_at, more_gives}
 use Rattle.amd_rounds.specs.Views.{at}
 use Rattle.amd_rounds.proofs.merging.all_marked.Goals as goal
@@ -14,7 +14,8 @@ loop-j-init c = refl
 pub returns-then-not-marks-j : goal.returns-then-not-marks-j
 returns-then-not-marks-j c = elim (cases_Bool (each (at c.args.marks.now) c.args.list.now)) [
   | inr f ↦ sym f
-  | inl t ↦ clash (each_gives (at c.args.marks.now) c.args.list.now t _ (has_at c.args.list.now c.loop-j.j-index 0 c.loop-j-test.true)) c.if-not-marks-j.true
+  | inl t ↦ clash (each_gives (at c.args.marks.now) c.args.list.now t _ (has_at c.args.list.now c.loop-j.j-index 0 c.loop-j-test.true))
+      c.if-not-marks-j.true
 ]
 
 pub loop-j-preserved : goal.loop-j-preserved

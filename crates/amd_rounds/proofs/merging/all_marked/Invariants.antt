@@ -1,5 +1,5 @@
 use Rattle.std.proofs.Common.{◌≡◌, true, take}
-use Rattle.amd_model.specs.Tie.{each}
+use Rattle.amd_model.specs.Quotient.{each}
 use Rattle.amd_rounds.specs.Views.{at}
 use Rattle.amd_rounds.proofs.merging.all_marked.Given as goal
 

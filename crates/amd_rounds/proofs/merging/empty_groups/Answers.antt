@@ -1,9 +1,10 @@
-use Rattle.std.proofs.Common.{◌≡◌, ◌<◌, ◌+◌, ◌||◌, inl, inr, ℕ, Bool, true, false, List, [], ◌∷◌, length, get_or, set, take, arith, sym, ap, refl, ◌∙◌}
+use Rattle.std.proofs.Common.{◌≡◌, ◌<◌, ◌+◌, ◌||◌, inl, inr, ℕ, Bool, true, false, List, [], ◌∷◌, length, get_or, set, take, arith, sym, ap}
+use Rattle.std.proofs.Common.{refl, ◌∙◌}
 use Rattle.std.proofs.lemmas.Bool.{cases_Bool, false≢true, cases_eq}
 use Rattle.std.proofs.lemmas.List.{length-set}
-use Rattle.amd_model.specs.Tie.{has}
-use Rattle.amd_model.proofs.TieLists.{clash}
-use Rattle.amd_model.proofs.ListingLemmas.{has_head}
+use Rattle.amd_model.specs.Quotient.{has}
+use Rattle.amd_model.proofs.Quotient.Lists.{clash}
+use Rattle.amd_model.proofs.Listings.Words.{has_head}
 use Rattle.amd_rounds.specs.Views.{list_at}
 use Rattle.amd_rounds.specs.Groups.{group_in}
 use Rattle.amd_views.proofs.Lists.Named.{has_all, more_gives}
@@ -33,8 +34,10 @@ loop-i-preserved g c =
     let within : at_group < length gs = omega (arith, size, range, room) in
     let emptied = list_set_same gs at_group c.clear.new.self within ∙ c.clear.ensures.items in
     let others = list_set_other gs at_group c.clear.new.self in
-    let was : (b r : ℕ) → has (list_at (set gs at_group c.clear.new.self) b) r ≡ true → (Rattle.std.proofs.Common.◌≢◌ b at_group) × (has (list_at gs b) r ≡ true) = λ b r h. elim (cases_eq b at_group) [
-      | inl e ↦ absurd (false≢true (sym (ap (λ z. has (list_at (set gs at_group c.clear.new.self) z) r) e ∙ ap (λ ys. has ys r) emptied) ∙ h))
+    let was : (b r : ℕ) → has (list_at (set gs at_group c.clear.new.self) b) r ≡ true → (Rattle.std.proofs.Common.◌≢◌ b at_group)
+    × (has (list_at gs b) r ≡ true) = λ b r h. elim (cases_eq b at_group) [
+      | inl e ↦ absurd (false≢true (sym (ap (λ z. has (list_at (set gs at_group c.clear.new.self) z) r) e ∙ ap (λ ys. has ys r) emptied) ∙
+          h))
       | inr ne ↦ (ne, sym (ap (λ ys. has ys r) (others b ne)) ∙ h)
     ] in
     record {
@@ -44,11 +47,13 @@ loop-i-preserved g c =
         | inr f ↦ f
         | inl t ↦ elim (more_gives rest k 0 r c.loop-i-test.true t) [
           | inl q ↦ clash q (inv.left b r w.1)
-          | inr q ↦ absurd (w.0 (sym (inv.grouped b r w.1).1 ∙ ap (group_in c.args.lists.now.elements.items c.args.lists.now.variables.items) q ∙ sym c.group_of-group.ensures.group))
+          | inr q ↦ absurd (w.0 (sym (inv.grouped b r w.1).1 ∙
+              ap (group_in c.args.lists.now.elements.items c.args.lists.now.variables.items) q ∙ sym c.group_of-group.ensures.group))
         ]
       ]);
     }
 
 pub returns-clause-empty : goal.returns-clause-empty
 returns-clause-empty g c = λ b. nothing (list_at c.loop-i.groups.items b) (λ r h.
-    clash (has_all c.args.rest.now c.loop-i.i-index c.loop-i-test.false r ∙ (c.loop-i.invariant.grouped b r h).0) (c.loop-i.invariant.left b r h))
+    clash (has_all c.args.rest.now c.loop-i.i-index c.loop-i-test.false r ∙ (c.loop-i.invariant.grouped b r h).0)
+    (c.loop-i.invariant.left b r h))

@@ -1,20 +1,23 @@
 use Rattle.std.proofs.Common.{◌≡◌, ◌&&◌, inl, inr, ℕ, Bool, false, List, get_or, arith, sym, ap, subst, ◌∙◌, Vec}
 use Rattle.std.proofs.lemmas.Bool.{and_from, and_left, and_right, false≢true}
 use Rattle.std.proofs.Math.Bool.{and_assoc}
-use Rattle.amd_model.specs.Tie.{has, each, Once}
+use Rattle.amd_model.specs.Quotient.{has, each, Once}
 use Rattle.amd_rounds.specs.Views.{list_at}
 use Rattle.amd_rounds.specs.Rounds.{alike_in}
 use Rattle.amd_views.proofs.Lists.Named.{has_at, more_gives}
 use Rattle.amd_rounds.proofs.ListPlaces.{list_deref}
 use Rattle.amd_rounds.proofs.merging.first_alike.Goals as goal
-use Rattle.amd_rounds.proofs.merging.first_alike.Goals.{else-same_list-via-then-same_list+else-same_list-2, else-same_list-via-else-same_list}
+use Rattle.amd_rounds.proofs.merging.first_alike.Goals.{else-same_list-via-then-same_list+else-same_list-2}
+use Rattle.amd_rounds.proofs.merging.first_alike.Goals.{else-same_list-via-else-same_list}
 
 -- two lists name the same numbers
 abbrev same : List ℕ → List ℕ → Bool
 same xs ys = each (has ys) xs && each (has xs) ys
 
-two_alike : {A : Type 0} (elements variables : List (Vec ℕ A)) (i r : ℕ) → alike_in elements variables i r ≡ (same (list_at elements r) (list_at elements i) && same (list_at variables r) (list_at variables i))
-two_alike elements variables i r = and_assoc (same (list_at elements r) (list_at elements i)) (each (has (list_at variables i)) (list_at variables r)) (each (has (list_at variables r)) (list_at variables i))
+two_alike : {A : Type 0} (elements variables : List (Vec ℕ A)) (i r : ℕ) →
+    alike_in elements variables i r ≡ (same (list_at elements r) (list_at elements i) && same (list_at variables r) (list_at variables i))
+two_alike elements variables i r = and_assoc (same (list_at elements r) (list_at elements i))
+    (each (has (list_at variables i)) (list_at variables r)) (each (has (list_at variables r)) (list_at variables i))
 
 same_as : (xs ys xs' ys' : List ℕ) → xs ≡ xs' → ys ≡ ys' → same xs ys ≡ same xs' ys'
 same_as xs ys xs' ys' e f = ap (λ z. same z ys) e ∙ ap (same xs') f
@@ -28,8 +31,10 @@ same_list-requires-clause-once g c =
     let es = c.args.lists.now.elements.items in
     let r : ℕ = get_or c.args.group.now c.loop-r.r-index 0 in
     let once = c.requires.group_once r (has_at c.args.group.now c.loop-r.r-index 0 c.loop-r-test.true) in (
-      subst Once (sym (list_deref es r c.index.result.now _ (c.requires.range c.loop-r.r-index 0 c.loop-r-test.true) c.index.ensures c.deref.ensures.value)) once.0,
-      subst Once (sym (list_deref es c.args.i c.index-in-loop-r.result.now _ c.requires.row c.index-in-loop-r.ensures c.deref-in-loop-r.ensures.value)) c.requires.once.0,
+      subst Once (sym (list_deref es r c.index.result.now _ (c.requires.range c.loop-r.r-index 0 c.loop-r-test.true) c.index.ensures
+          c.deref.ensures.value)) once.0,
+      subst Once (sym (list_deref es c.args.i c.index-in-loop-r.result.now _ c.requires.row c.index-in-loop-r.ensures
+          c.deref-in-loop-r.ensures.value)) c.requires.once.0,
     )
 
 pub same_list-requires-then-same_list-clause-once : goal.same_list-requires-then-same_list-clause-once
@@ -40,8 +45,10 @@ same_list-requires-then-same_list-clause-once g c =
     let r : ℕ = get_or c.args.group.now c.loop-r.r-index 0 in
     let small = c.requires.range c.loop-r.r-index 0 c.loop-r-test.true in
     let once = c.requires.group_once r (has_at c.args.group.now c.loop-r.r-index 0 c.loop-r-test.true) in (
-      subst Once (sym (list_deref vs r c.index-then-same_list.result.now _ (omega (arith, small, size)) c.index-then-same_list.ensures c.deref-then-same_list.ensures.value)) once.1,
-      subst Once (sym (list_deref vs c.args.i c.index-then-same_list-2.result.now _ (omega (arith, row, size)) c.index-then-same_list-2.ensures c.deref-then-same_list-2.ensures.value)) c.requires.once.1,
+      subst Once (sym (list_deref vs r c.index-then-same_list.result.now _ (omega (arith, small, size)) c.index-then-same_list.ensures
+          c.deref-then-same_list.ensures.value)) once.1,
+      subst Once (sym (list_deref vs c.args.i c.index-then-same_list-2.result.now _ (omega (arith, row, size))
+          c.index-then-same_list-2.ensures c.deref-then-same_list-2.ensures.value)) c.requires.once.1,
     )
 
 pub returns-then-same_list-2 : goal.returns-then-same_list-2
@@ -55,8 +62,10 @@ returns-then-same_list-2 g c =
     let small = c.requires.range c.loop-r.r-index 0 c.loop-r-test.true in
     let er = list_deref es r c.index.result.now _ small c.index.ensures c.deref.ensures.value in
     let ei = list_deref es i c.index-in-loop-r.result.now _ row c.index-in-loop-r.ensures c.deref-in-loop-r.ensures.value in
-    let vr = list_deref vs r c.index-then-same_list.result.now _ (omega (arith, small, size)) c.index-then-same_list.ensures c.deref-then-same_list.ensures.value in
-    let vi = list_deref vs i c.index-then-same_list-2.result.now _ (omega (arith, row, size)) c.index-then-same_list-2.ensures c.deref-then-same_list-2.ensures.value in (
+    let vr = list_deref vs r c.index-then-same_list.result.now _ (omega (arith, small, size)) c.index-then-same_list.ensures
+    c.deref-then-same_list.ensures.value in
+    let vi = list_deref vs i c.index-then-same_list-2.result.now _ (omega (arith, row, size)) c.index-then-same_list-2.ensures
+    c.deref-then-same_list-2.ensures.value in (
       has_at c.args.group.now c.loop-r.r-index 0 c.loop-r-test.true,
       two_alike es vs i r ∙ and_from (same (list_at es r) (list_at es i)) (same (list_at vs r) (list_at vs i))
           (sym (same_as _ _ _ _ er ei) ∙ sym c.same_list.ensures ∙ c.if-same_list.true)
@@ -78,10 +87,14 @@ loop-r-preserved g c =
     let ei = list_deref es i c.index-in-loop-r.result.now _ row c.index-in-loop-r.ensures c.deref-in-loop-r.ensures.value in
     let unlike : alike_in es vs i r ≡ false = two_alike es vs i r ∙ elim c.else-same_list.branch [
       | else-same_list-via-then-same_list+else-same_list-2 w ↦ (
-          let vr = list_deref vs r w.index-then-same_list.result.now _ (omega (arith, small, size)) w.index-then-same_list.ensures w.deref-then-same_list.ensures.value in
-          let vi = list_deref vs i w.index-then-same_list-2.result.now _ (omega (arith, row, size)) w.index-then-same_list-2.ensures w.deref-then-same_list-2.ensures.value in
-          and_right (same (list_at es r) (list_at es i)) (same (list_at vs r) (list_at vs i)) (sym (same_as _ _ _ _ vr vi) ∙ sym w.same_list-then-same_list.ensures ∙ w.if-same_list-2.false))
-      | else-same_list-via-else-same_list w ↦ and_left (same (list_at es r) (list_at es i)) (same (list_at vs r) (list_at vs i)) (sym (same_as _ _ _ _ er ei) ∙ sym c.same_list.ensures ∙ w.if-same_list.false)
+          let vr = list_deref vs r w.index-then-same_list.result.now _ (omega (arith, small, size)) w.index-then-same_list.ensures
+          w.deref-then-same_list.ensures.value in
+          let vi = list_deref vs i w.index-then-same_list-2.result.now _ (omega (arith, row, size)) w.index-then-same_list-2.ensures
+          w.deref-then-same_list-2.ensures.value in
+          and_right (same (list_at es r) (list_at es i)) (same (list_at vs r) (list_at vs i))
+          (sym (same_as _ _ _ _ vr vi) ∙ sym w.same_list-then-same_list.ensures ∙ w.if-same_list-2.false))
+      | else-same_list-via-else-same_list w ↦ and_left (same (list_at es r) (list_at es i)) (same (list_at vs r) (list_at vs i))
+          (sym (same_as _ _ _ _ er ei) ∙ sym c.same_list.ensures ∙ w.if-same_list.false)
     ] in
     λ x h. elim (more_gives group k 0 x c.loop-r-test.true h) [
       | inl q ↦ c.loop-r.invariant x q

@@ -1,9 +1,10 @@
-use Rattle.std.proofs.Common.{◌≡◌, ◌≢◌, ◌<◌, ◌+◌, ℕ, Bool, true, false, List, length, get_or, set, arith, ap, sym, refl, subst, ◌∙◌, ◌&&◌, not, cond, Option, None, Some}
+use Rattle.std.proofs.Common.{◌≡◌, ◌≢◌, ◌<◌, ◌+◌, ℕ, Bool, true, false, List, length, get_or, set, arith, ap, sym, refl, subst, ◌∙◌, ◌&&◌}
+use Rattle.std.proofs.Common.{not, cond, Option, None, Some}
 use Rattle.std.specs.Prelude.{◌==◌}
 use Rattle.std.proofs.lemmas.Bool.{eq-eqb, ne_eqb, cond-true, cond-false, not_from_true, not_from_false}
 use Rattle.std.proofs.lemmas.Grind.{get_or_default_zero}
 use Rattle.std.proofs.lemmas.List.{length-set, get_or-set_same, get_or-set_other}
-use Rattle.amd_model.specs.Tie.{has}
+use Rattle.amd_model.specs.Quotient.{has}
 use Rattle.amd_rounds.specs.Views.{num, some_at}
 use Rattle.amd_rounds.proofs.Kept.{changed_more, changed_none, unchanged, changed_all}
 use Rattle.amd_views.proofs.Lists.Named.{has_at, below_gives}
@@ -47,7 +48,8 @@ overflow_add-index_mut g c =
     let at_r = get_or_default_zero size (into i) c.index_mut.result.now (omega (arith, r_small, room)) in
     let read_i = c.index.ensures in
     let read_r = c.index_mut.ensures.value in
-    let most = merged_fits rest into (num c.args.size.now.items) k c.loop-i-test.true (num size) c.loop-i.invariant.sizes c.requires.once c.if-r-i.true target in
+    let most = merged_fits rest into (num c.args.size.now.items) k c.loop-i-test.true (num size) c.loop-i.invariant.sizes c.requires.once
+    c.if-r-i.true target in
     let fits = c.requires.fits in
     record { fits = omega (arith, at_i, at_r, read_i, read_r, most, fits) }
 
@@ -84,13 +86,15 @@ loop-i-preserved g c =
           let sum_is : sum ≡ num size (into i) + num size i = omega (arith, at_i, at_r, read_i, read_r) in
           let one = set size (into i) sum in
           let one_in : i < length one = omega (arith, i_in, length-set size (into i) sum) in
-          let sizes : Merged rest into old (k + 1) (num (set one i 0)) = merged_moves rest into old k test (num size) inv.sizes c.requires.once ne target (num (set one i 0))
+          let sizes : Merged rest into old (k + 1) (num (set one i 0)) =
+          merged_moves rest into old k test (num size) inv.sizes c.requires.once ne target (num (set one i 0))
           (get_or-set_same one i 0 0 one_in)
           (get_or-set_other one i (into i) 0 0 ne ∙ get_or-set_same size (into i) sum 0 r_in ∙ sum_is)
           (λ x a b. get_or-set_other one i x 0 0 a ∙ get_or-set_other size (into i) x sum 0 b) in
           let links = changed_more rest k 0 test new olds (some_at link) inv.links (some_at (set link i (Some (into i))))
           (λ x a. get_or-set_other link i x (Some (into i)) None a)
-          (get_or-set_same link i (Some (into i)) None l_in ∙ sym (cond-true (not (into i == i)) (Some (into i)) (olds i) (not_from_false (into i == i) (ne_eqb (into i) i ne)))) in
+          (get_or-set_same link i (Some (into i)) None l_in ∙
+          sym (cond-true (not (into i == i)) (Some (into i)) (olds i) (not_from_false (into i == i) (ne_eqb (into i) i ne)))) in
           record {
             sizes = subst (λ xs. Merged rest into old (k + 1) (num xs)) (sym (ap (λ v. v.items) w.size-is)) sizes;
             links = rw (ap (λ v. v.items) w.link-is) links;
@@ -101,9 +105,11 @@ loop-i-preserved g c =
           let self : into i ≡ i = w.if-r-i.false in
           let links = changed_more rest k 0 test new olds (some_at link) inv.links (some_at link)
           (λ x a. refl)
-          (unchanged rest k 0 test new olds (some_at link) inv.links c.requires.once ∙ sym (cond-false (not (into i == i)) (Some (into i)) (olds i) (not_from_true (into i == i) (eq-eqb (into i) i self)))) in
+          (unchanged rest k 0 test new olds (some_at link) inv.links c.requires.once ∙
+          sym (cond-false (not (into i == i)) (Some (into i)) (olds i) (not_from_true (into i == i) (eq-eqb (into i) i self)))) in
           record {
-            sizes = subst (λ xs. Merged rest into old (k + 1) (num xs)) (sym (ap (λ v. v.items) w.size-is)) (merged_stays rest into old k test (num size) inv.sizes self);
+            sizes = subst (λ xs. Merged rest into old (k + 1) (num xs)) (sym (ap (λ v. v.items) w.size-is))
+                (merged_stays rest into old k test (num size) inv.sizes self);
             links = rw (ap (λ v. v.items) w.link-is) links;
             size_room = ap (λ v. length v.items) w.size-is ∙ room;
             link_room = ap (λ v. length v.items) w.link-is ∙ link_room;
@@ -111,11 +117,13 @@ loop-i-preserved g c =
     ]
 
 pub returns-clause-sizes : goal.returns-clause-sizes
-returns-clause-sizes g c = merged_all c.args.rest.now (num c.args.into.now) (num c.args.size.now.items) c.loop-i.i-index c.loop-i-test.false c.requires.once (num c.loop-i.size.items) c.loop-i.invariant.sizes
+returns-clause-sizes g c = merged_all c.args.rest.now (num c.args.into.now) (num c.args.size.now.items) c.loop-i.i-index c.loop-i-test.false
+    c.requires.once (num c.loop-i.size.items) c.loop-i.invariant.sizes
 
 pub returns-clause-links : goal.returns-clause-links
 returns-clause-links g c = λ x.
-    changed_all c.args.rest.now c.loop-i.i-index c.loop-i-test.false (new_link c.args.into.now c.args.link.now.items) (some_at c.args.link.now.items) (some_at c.loop-i.link.items) c.loop-i.invariant.links x
+    changed_all c.args.rest.now c.loop-i.i-index c.loop-i-test.false (new_link c.args.into.now c.args.link.now.items)
+    (some_at c.args.link.now.items) (some_at c.loop-i.link.items) c.loop-i.invariant.links x
     ∙ both (has c.args.rest.now x) (not (num c.args.into.now x == x)) _ _
   where
     both : (a b : Bool) (s o : Option ℕ) → cond a (cond b s o) o ≡ cond (a && b) s o

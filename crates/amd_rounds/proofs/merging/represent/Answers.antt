@@ -2,7 +2,7 @@ use Rattle.std.proofs.Common.{◌≡◌, ◌<◌, ◌++◌, ◌∷◌, [], inl, 
 use Rattle.std.specs.Prelude.{◌==◌}
 use Rattle.std.proofs.lemmas.Bool.{cases_eq, eq-eqb, ne_eqb, cond-true, cond-false}
 use Rattle.std.proofs.lemmas.List.{length-set, get_or-set_same}
-use Rattle.amd_model.specs.Tie.{has}
+use Rattle.amd_model.specs.Quotient.{has}
 use Rattle.amd_rounds.specs.Views.{list_at, Below}
 use Rattle.amd_rounds.specs.Groups.{group_in}
 use Rattle.amd_rounds.proofs.ListPlaces.{list_deref, list_set_same, list_set_other, list_read, list_below, lists_set}
@@ -14,7 +14,8 @@ representative_in-found-requires-clause-group_once g c = λ r h.
     let groups = c.args.scratch.now.groups.items in
     let room = c.requires.ready.groups.0 in
     let range = c.group_of-group.ensures.range in
-    let read = list_deref groups c.group_of-group.result c.index.result.now _ (omega (arith, room, range)) c.index.ensures c.deref.ensures.value in
+    let read = list_deref groups c.group_of-group.result c.index.result.now _ (omega (arith, room, range)) c.index.ensures
+    c.deref.ensures.value in
     c.requires.group_once c.group_of-group.result r (ap (λ xs. has xs r) (sym read) ∙ h)
 
 pub returns-in_ok-push-in-None-clause-looked : goal.returns-in_ok-push-in-None-clause-looked
@@ -29,17 +30,20 @@ returns-in_ok-push-in-None-clause-looked g c =
     let within : at_group < length groups = omega (arith, room, range) in
     let is = c.group_of-group.ensures.group in
     let read = list_deref groups at_group c.index.result.now _ within c.index.ensures c.deref.ensures.value in
-    let pushed : c.push.new.self.items ≡ list_at groups at_group ++ i ∷ [] = c.in_ok-push-in-None.ensures.items ∙ ap (λ xs. xs ++ i ∷ []) (sym (list_read groups at_group c.index_mut-in-None.result.now within c.index_mut-in-None.ensures.value)) in
+    let pushed : c.push.new.self.items ≡ list_at groups at_group ++ i ∷ [] = c.in_ok-push-in-None.ensures.items ∙
+    ap (λ xs. xs ++ i ∷ []) (sym (list_read groups at_group c.index_mut-in-None.result.now within c.index_mut-in-None.ensures.value)) in
     let size = c.requires.ready.into in
     let row = c.requires.row in
     inr (
       (λ x h. c.in-None.ensures.found x (ap (λ xs. has xs x) (read ∙ ap (list_at groups) is) ∙ h)),
       get_or-set_same c.args.scratch.now.into.items i i 0 (omega (arith, size, row)),
       (λ b. elim (cases_eq b at_group) [
-        | inl e ↦ ap (list_at (set groups at_group c.push.new.self)) e ∙ list_set_same groups at_group c.push.new.self within ∙ pushed ∙ ap (λ m. list_at groups m ++ i ∷ []) (sym e)
+        | inl e ↦ ap (list_at (set groups at_group c.push.new.self)) e ∙ list_set_same groups at_group c.push.new.self within ∙ pushed ∙
+            ap (λ m. list_at groups m ++ i ∷ []) (sym e)
             ∙ sym (cond-true (b == group_in es vs i) (list_at groups b ++ i ∷ []) (list_at groups b) (eq-eqb b (group_in es vs i) (e ∙ is)))
         | inr ne ↦ list_set_other groups at_group c.push.new.self b ne
-            ∙ sym (cond-false (b == group_in es vs i) (list_at groups b ++ i ∷ []) (list_at groups b) (ne_eqb b (group_in es vs i) (λ q. ne (q ∙ sym is))))
+            ∙ sym (cond-false (b == group_in es vs i) (list_at groups b ++ i ∷ []) (list_at groups b)
+            (ne_eqb b (group_in es vs i) (λ q. ne (q ∙ sym is))))
       ]),
     )
 
@@ -52,11 +56,14 @@ returns-in_ok-push-in-None-clause-ready g c =
     let room = c.requires.ready.groups.0 in
     let range = c.group_of-group.ensures.range in
     let within : at_group < length groups = omega (arith, room, range) in
-    let pushed : c.push.new.self.items ≡ list_at groups at_group ++ i ∷ [] = c.in_ok-push-in-None.ensures.items ∙ ap (λ xs. xs ++ i ∷ []) (sym (list_read groups at_group c.index_mut-in-None.result.now within c.index_mut-in-None.ensures.value)) in
+    let pushed : c.push.new.self.items ≡ list_at groups at_group ++ i ∷ [] = c.in_ok-push-in-None.ensures.items ∙
+    ap (λ xs. xs ++ i ∷ []) (sym (list_read groups at_group c.index_mut-in-None.result.now within c.index_mut-in-None.ensures.value)) in
     record {
       rows = c.in-None.ensures.rows;
       elements = c.in-None.ensures.elements;
-      groups = lists_set n groups at_group c.push.new.self c.requires.ready.groups (subst (Below n) (sym pushed) (All-push (λ j. j < n) (list_at groups at_group) i (list_below n groups c.requires.ready.groups at_group) c.requires.row));
+      groups = lists_set n groups at_group c.push.new.self c.requires.ready.groups
+          (subst (Below n) (sym pushed)
+          (All-push (λ j. j < n) (list_at groups at_group) i (list_below n groups c.requires.ready.groups at_group) c.requires.row));
       beyond = c.requires.ready.beyond;
       into = length-set c.args.scratch.now.into.items i i ∙ c.requires.ready.into;
     }

@@ -9,7 +9,10 @@ abbrev pub invariant-classes : goal.invariant-classes
 invariant-classes g l = record {
   within : l.left ≤ length l.rest;
   ready : IsReady (length l.lists.elements.items) l.scratch;
-  found : Found (alike_in l.lists.elements.items l.lists.variables.items) (alike_self (list_at l.lists.elements.items) (list_at l.lists.variables.items)) (alike_flip (list_at l.lists.elements.items) (list_at l.lists.variables.items)) (alike_through (list_at l.lists.elements.items) (list_at l.lists.variables.items))
+  found : Found (alike_in l.lists.elements.items l.lists.variables.items)
+      (alike_self (list_at l.lists.elements.items) (list_at l.lists.variables.items))
+      (alike_flip (list_at l.lists.elements.items) (list_at l.lists.variables.items))
+      (alike_through (list_at l.lists.elements.items) (list_at l.lists.variables.items))
       l.rest (group_in l.lists.elements.items l.lists.variables.items) l.left (num l.scratch.into.items) (list_at l.scratch.groups.items);
   beyond : l.scratch.beyond ≡ l.initial.scratch.beyond;
 }

@@ -1,8 +1,8 @@
 use Rattle.std.proofs.Common.{Bool, [], ◌∷◌, ◌++◌, sym, subst, arith}
 use Rattle.amd_model.specs.Run.{last_state}
-use Rattle.amd_model.specs.Tie.{next}
+use Rattle.amd_model.specs.Quotient.{next}
 use Rattle.amd_model.specs.Ordering.{none}
-use Rattle.amd_model.proofs.Orderings.{follows_more}
+use Rattle.amd_model.proofs.Listings.Orderings.{follows_more}
 use Rattle.amd_rounds.specs.Keeps.{Stands}
 use Rattle.amd_rounds.specs.Views.{view_of}
 use Rattle.amd_views.proofs.Round.Ended.{no_row_is_live}
@@ -37,4 +37,5 @@ pub returns-clause-rounds : goal.returns-clause-rounds
 returns-clause-rounds g c = c.rounds.invariant.rounds
 
 pub returns-clause-end : goal.returns-clause-end
-returns-clause-end g c = λ gr dense t s st. no_row_is_live gr dense (view_of c.rounds.work) t s st.view (let e = c.rounds-test.false in omega (arith, e))
+returns-clause-end g c = λ gr dense t s st. no_row_is_live gr dense (view_of c.rounds.work) t s st.view
+    (let e = c.rounds-test.false in omega (arith, e))

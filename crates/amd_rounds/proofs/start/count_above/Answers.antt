@@ -2,7 +2,7 @@ use Rattle.std.proofs.Common.{ℕ, Bool, arith, refl}
 use Rattle.std.specs.Prelude.{nat_lt}
 use Rattle.std.proofs.lemmas.Bool.{lt-ltb, le-ltb}
 use Rattle.amd_model.specs.Below.{count_below, sum_below}
-use Rattle.amd_model.proofs.BelowLemmas.{count_most}
+use Rattle.amd_model.proofs.Counting.Below.{count_most}
 use Rattle.amd_rounds.specs.Views.{num}
 use Rattle.amd_rounds.proofs.StartLists.{count_yes, count_no}
 use Rattle.amd_rounds.proofs.start.count_above.Goals as goal
@@ -25,7 +25,9 @@ loop-k-preserved c =
     let p : ℕ → Bool = λ i. nat_lt c.args.limit (num c.args.numbers.now i) in
     record {
       count = elim c.if-k-limit.branch [
-        | then-k-limit w ↦ rw w.count-is (count_yes p k c.loop-k.count c.loop-k.invariant.count (lt-ltb c.args.limit (num c.args.numbers.now k) w.if-k-limit.true))
-        | else-k-limit w ↦ rw w.count-is (count_no p k c.loop-k.count c.loop-k.invariant.count (le-ltb c.args.limit (num c.args.numbers.now k) w.if-k-limit.false))
+        | then-k-limit w ↦ rw w.count-is (count_yes p k c.loop-k.count c.loop-k.invariant.count
+            (lt-ltb c.args.limit (num c.args.numbers.now k) w.if-k-limit.true))
+        | else-k-limit w ↦ rw w.count-is (count_no p k c.loop-k.count c.loop-k.invariant.count
+            (le-ltb c.args.limit (num c.args.numbers.now k) w.if-k-limit.false))
       ];
     }

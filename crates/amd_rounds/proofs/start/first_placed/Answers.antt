@@ -27,8 +27,10 @@ rows-preserved g c =
     let here : bound i < length lists = (let small = c.requires.degrees i 0 end in omega (arith, small, was.range.0)) in
     elim c.if-size-i-gt0.branch [
       | then-size-i-gt0+in_ok-push w ↦ rw w.placed-is (record {
-        range = range_yes n lists bound light i was.lists w.index_mut.result.now here w.index_mut.ensures.value w.push.new.self w.in_ok-push.ensures.items was.range end;
-        lists = placed_yes n lists bound light i was.lists w.index_mut.result.now here w.index_mut.ensures.value w.push.new.self w.in_ok-push.ensures.items
+        range = range_yes n lists bound light i was.lists w.index_mut.result.now here w.index_mut.ensures.value w.push.new.self
+            w.in_ok-push.ensures.items was.range end;
+        lists = placed_yes n lists bound light i was.lists w.index_mut.result.now here w.index_mut.ensures.value w.push.new.self
+            w.in_ok-push.ensures.items
             (lt-ltb 0 (num c.args.size.now i) w.if-size-i-gt0.true);
       })
       | else-size-i-gt0 w ↦ rw w.placed-is (record {

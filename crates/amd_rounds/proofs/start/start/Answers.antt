@@ -16,7 +16,8 @@ returns g c =
       size = record { size = c.in_ok-size.ensures.size; each = c.in_ok-size.ensures.numbers };
       bound = c.in_ok-from_slice.ensures.items;
       range = c.in_ok-placed.ensures.size;
-      placed = λ b. c.in_ok-placed.ensures.lists b ∙ ap (λ xs. list_below n (λ i. nat_lt 0 (num xs i) && num degrees i == b)) c.deref.ensures.value;
+      placed = λ b. c.in_ok-placed.ensures.lists b ∙ ap (λ xs. list_below n (λ i. nat_lt 0 (num xs i) && num degrees i == b))
+          c.deref.ensures.value;
       least = refl;
       live = c.count_above.ensures ∙ ap (λ xs. count_below (length xs) (λ i. nat_lt 0 (num xs i))) c.deref-2.ensures.value;
       link = c.in_ok-vec.ensures.items_if_clones_equal (λ o h. search rules);

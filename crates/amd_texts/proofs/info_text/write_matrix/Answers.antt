@@ -8,7 +8,8 @@ use Rattle.amd_texts.proofs.info_text.write_matrix.Goals as goal
 
 pub returns : goal.returns
 returns g c =
-    let status = subst (λ (z : List ℕ). Appends (g.W.Write.contents c.args.out.now) (g.W.Write.contents c.write_labelled.new.out) (labelled (codes "status:") z))
+    let status = subst (λ (z : List ℕ). Appends (g.W.Write.contents c.args.out.now) (g.W.Write.contents c.write_labelled.new.out)
+    (labelled (codes "status:") z))
     c.status_word-status.ensures c.in_ok-write_labelled.ensures in
     let up_to_2 = Appends-then _ _ _ _ _ status c.in_ok-write_labelled-2.ensures in
     let up_to_3 = Appends-then _ _ _ _ _ up_to_2 c.in_ok-write_labelled-3.ensures in

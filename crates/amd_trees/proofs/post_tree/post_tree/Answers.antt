@@ -1,11 +1,13 @@
 use Rattle.std.proofs.Common.{◌-◌, ◌*◌, ◌<◌, ◌^◌, refl, pos, length, sym, ap, ◌∙◌, rules, arith}
 use Rattle.std.proofs.lemmas.List.{length-set}
 use Rattle.amd_model.specs.Input.Columns.{at}
-use Rattle.amd_trees.proofs.Links.{turn, turn_at, walk_up, walk_down, walk_starts, walk_ends, names_some, names_none, root_listed, tree_size}
+use Rattle.amd_trees.proofs.Links.{turn, turn_at, walk_up, walk_down, walk_starts, walk_ends, names_some, names_none, root_listed}
+use Rattle.amd_trees.proofs.Links.{tree_size}
 use Rattle.amd_trees.proofs.post_tree.post_tree.Goals as goal
 
 pub set_link-requires-clause-within : goal.set_link-requires-clause-within
-set_link-requires-clause-within c = let f = c.requires.fits in let some = tree_size f.tree in let room = f.in_stack in omega (arith, some, room)
+set_link-requires-clause-within c = let f = c.requires.fits in let some = tree_size f.tree in let room = f.in_stack in
+    omega (arith, some, room)
 
 pub set_link-requires-clause-fits : goal.set_link-requires-clause-fits
 set_link-requires-clause-fits c =
@@ -22,11 +24,14 @@ nodes-init c =
       child_room = refl;
       order_room = refl;
       stack_room = ap length c.set_link.ensures ∙ length-set c.args.stack.now 0 (pos c.args.root);
-      walk = λ listing tree. rw c.set_link.ensures (walk_starts c.args.k c.args.root listing c.args.child.now c.args.sibling.now c.args.order.now c.args.stack.now tree (omega (arith, some, room)));
+      walk = λ listing tree.
+          rw c.set_link.ensures (walk_starts c.args.k c.args.root listing c.args.child.now c.args.sibling.now c.args.order.now
+          c.args.stack.now tree (omega (arith, some, room)));
     }
 
 pub link_at-requires : goal.link_at-requires
-link_at-requires c = let t = turn c.requires.fits c.nodes.invariant c.nodes-test.true in let in_stack = t.2.in_stack in let above = t.2.above in omega (arith, in_stack, above)
+link_at-requires c = let t = turn c.requires.fits c.nodes.invariant c.nodes-test.true in let in_stack = t.2.in_stack in
+    let above = t.2.above in omega (arith, in_stack, above)
 
 pub unreachable-requires : goal.unreachable-requires
 unreachable-requires c =
@@ -44,17 +49,20 @@ copy_link-requires-clause-within c =
 pub copy_link-requires-clause-other_within : goal.copy_link-requires-clause-other_within
 copy_link-requires-clause-other_within c =
     let t = turn_at c.requires.fits c.nodes.invariant c.nodes-test.true c.in-Some.node (sym c.in-Some.is ∙ c.link_at.ensures) in
-    (t.down c.in-Some-link_at.down (names_some (at c.nodes.child c.in-Some.node) c.in-Some-link_at.down (sym c.in-Some-link_at.is ∙ c.link_at-in-nodes.ensures))).1
+    (t.down c.in-Some-link_at.down (names_some (at c.nodes.child c.in-Some.node) c.in-Some-link_at.down
+    (sym c.in-Some-link_at.is ∙ c.link_at-in-nodes.ensures))).1
 
 pub set_link-requires-in-Some-link_at-clause-within : goal.set_link-requires-in-Some-link_at-clause-within
 set_link-requires-in-Some-link_at-clause-within c =
     let t = turn_at c.requires.fits c.nodes.invariant c.nodes-test.true c.in-Some.node (sym c.in-Some.is ∙ c.link_at.ensures) in
-    (t.down c.in-Some-link_at.down (names_some (at c.nodes.child c.in-Some.node) c.in-Some-link_at.down (sym c.in-Some-link_at.is ∙ c.link_at-in-nodes.ensures))).2
+    (t.down c.in-Some-link_at.down (names_some (at c.nodes.child c.in-Some.node) c.in-Some-link_at.down
+    (sym c.in-Some-link_at.is ∙ c.link_at-in-nodes.ensures))).2
 
 pub set_link-requires-in-Some-link_at-clause-fits : goal.set_link-requires-in-Some-link_at-clause-fits
 set_link-requires-in-Some-link_at-clause-fits c =
     let t = turn_at c.requires.fits c.nodes.invariant c.nodes-test.true c.in-Some.node (sym c.in-Some.is ∙ c.link_at.ensures) in
-    let d = (t.down c.in-Some-link_at.down (names_some (at c.nodes.child c.in-Some.node) c.in-Some-link_at.down (sym c.in-Some-link_at.is ∙ c.link_at-in-nodes.ensures))).0 in
+    let d = (t.down c.in-Some-link_at.down (names_some (at c.nodes.child c.in-Some.node) c.in-Some-link_at.down
+    (sym c.in-Some-link_at.is ∙ c.link_at-in-nodes.ensures))).0 in
     let small : length c.args.child.now * 8 < 2 ^ 64 = search rules in
     let room = c.nodes.invariant.child_room in
     omega (arith, d, small, room)
@@ -62,7 +70,8 @@ set_link-requires-in-Some-link_at-clause-fits c =
 pub overflow_add-height : goal.overflow_add-height
 overflow_add-height c =
     let t = turn_at c.requires.fits c.nodes.invariant c.nodes-test.true c.in-Some.node (sym c.in-Some.is ∙ c.link_at.ensures) in
-    let d = (t.down c.in-Some-link_at.down (names_some (at c.nodes.child c.in-Some.node) c.in-Some-link_at.down (sym c.in-Some-link_at.is ∙ c.link_at-in-nodes.ensures))).2 in
+    let d = (t.down c.in-Some-link_at.down (names_some (at c.nodes.child c.in-Some.node) c.in-Some-link_at.down
+    (sym c.in-Some-link_at.is ∙ c.link_at-in-nodes.ensures))).2 in
     let small : length c.args.stack.now * 8 < 2 ^ 64 = search rules in
     let room = c.nodes.invariant.stack_room in
     record { fits = omega (arith, d, small, room) }
@@ -70,7 +79,8 @@ overflow_add-height c =
 pub nodes-smaller-in-Some-link_at : goal.nodes-smaller-in-Some-link_at
 nodes-smaller-in-Some-link_at c =
     let t = turn_at c.requires.fits c.nodes.invariant c.nodes-test.true c.in-Some.node (sym c.in-Some.is ∙ c.link_at.ensures) in
-    let d = (t.down c.in-Some-link_at.down (names_some (at c.nodes.child c.in-Some.node) c.in-Some-link_at.down (sym c.in-Some-link_at.is ∙ c.link_at-in-nodes.ensures))).3 in
+    let d = (t.down c.in-Some-link_at.down (names_some (at c.nodes.child c.in-Some.node) c.in-Some-link_at.down
+    (sym c.in-Some-link_at.is ∙ c.link_at-in-nodes.ensures))).3 in
     omega (arith, d)
 
 pub nodes-preserved-in-Some-link_at : goal.nodes-preserved-in-Some-link_at
@@ -84,7 +94,9 @@ nodes-preserved-in-Some-link_at c =
       order_room = i.order_room;
       stack_room = ap length c.set_link-in-Some-link_at.ensures ∙ length-set c.nodes.stack c.nodes.height (pos down) ∙ i.stack_room;
       walk = λ listing tree. rw (c.copy_link.ensures, c.set_link-in-Some-link_at.ensures)
-          (walk_down c.args.k listing c.args.child.now c.args.sibling.now c.args.order.now c.nodes.child c.nodes.order c.nodes.stack c.nodes.height c.nodes.next (i.walk listing tree) (c.nodes.height - 1) t.above tree.once node t.top down q t.in_child (t.down down q).2);
+          (walk_down c.args.k listing c.args.child.now c.args.sibling.now c.args.order.now c.nodes.child c.nodes.order c.nodes.stack
+          c.nodes.height c.nodes.next (i.walk listing tree) (c.nodes.height - 1) t.above tree.once node t.top down q t.in_child
+          (t.down down q).2);
     }
 
 pub prove-unreachable-requires : goal.prove-unreachable-requires
@@ -112,7 +124,8 @@ nodes-preserved c =
       order_room = ap length c.set_link-in-None.ensures ∙ length-set c.nodes.order node (pos c.nodes.next) ∙ i.order_room;
       stack_room = i.stack_room;
       walk = λ listing tree. rw c.set_link-in-None.ensures
-          (walk_up c.args.k listing c.args.child.now c.args.sibling.now c.args.order.now c.nodes.child c.nodes.order c.nodes.stack c.nodes.height c.nodes.next (i.walk listing tree) (c.nodes.height - 1) t.above tree.once node t.top q t.in_order);
+          (walk_up c.args.k listing c.args.child.now c.args.sibling.now c.args.order.now c.nodes.child c.nodes.order c.nodes.stack
+          c.nodes.height c.nodes.next (i.walk listing tree) (c.nodes.height - 1) t.above tree.once node t.top q t.in_order);
     }
 
 pub returns-clause-next : goal.returns-clause-next

@@ -13,8 +13,12 @@ items-init g c = ([], takes-nothing _ _, gathers-none _ _ _ c.new-draft.ensures 
 pub items-preserved : goal.items-preserved
 items-preserved g c =
     let inv = c.items.invariant in
-    let t = rw c.in-Some.is at c.in_ok-take_item.ensures.takes in
-    (inv.0 ++ c.in-Some.item ∷ [], takes-append _ _ _ _ inv.0 _ inv.1 t, gathers-more _ inv.0 _ _ c.in-Some.item inv.2 c.in_default.ensures.adds)
+    let t = rw c.in-Some.is at c.in_ok-take_item.ensures.takes in (
+      inv.0 ++ c.in-Some.item ∷ [],
+      takes-append _ _ _ _ inv.0 _ inv.1 t,
+      gathers-more _ inv.0 _ _ c.in-Some.item inv.2
+          c.in_default.ensures.adds,
+    )
 
 pub returns-in-Ok-clause-takes : goal.returns-in-Ok-clause-takes
 returns-in-Ok-clause-takes g c =
@@ -23,5 +27,6 @@ returns-in-Ok-clause-takes g c =
     record {
       items = inv.0 ++ item.End ∷ [];
       takes = takes-append _ _ _ _ inv.0 _ inv.1 t;
-      spells = subst (λ n. SpellsCase (item.Case n ∷ (inv.0 ++ item.End ∷ [])) c.in-Ok.case) (to_z-of_z c.ranges.number) (gathers-all _ inv.0 c.items.draft c.in-Ok.case inv.2 c.in-Ok.ensures);
+      spells = subst (λ n. SpellsCase (item.Case n ∷ (inv.0 ++ item.End ∷ [])) c.in-Ok.case) (to_z-of_z c.ranges.number)
+          (gathers-all _ inv.0 c.items.draft c.in-Ok.case inv.2 c.in-Ok.ensures);
     }

@@ -7,7 +7,8 @@ use Rattle.amd_cases.proofs.DraftLemmas.{Gathers}
 use Rattle.amd_cases.proofs.reader.CaseReader.take_body.Given as goal
 
 abbrev pub invariant-items : goal.invariant-items
-invariant-items g l = (body : List (Item g.row.A.Denot)) × TakesItems g.R.Read.remaining l.fn.self l.self body × Gathers l.fn.number body l.draft
+invariant-items g l = (body : List (Item g.row.A.Denot)) × TakesItems g.R.Read.remaining l.fn.self l.self body
+    × Gathers l.fn.number body l.draft
 
 abbrev pub decreases-items : goal.decreases-items
 decreases-items g l = free_slots l.draft

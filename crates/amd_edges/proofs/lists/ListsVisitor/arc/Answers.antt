@@ -26,4 +26,5 @@ pub returns : goal.returns
 returns g c = λ gr seen arcs h new.
     let size = h.size in let row = new.i_row in
     let here = get_or_default_zero c.args.self.now.next.items c.args.i c.index-place.result.now (omega arith) in
-    lists_more gr seen arcs c.args.i c.args.j new c.args.self.now.next.items c.args.self.now.rows.items h c.index-place.result.now (c.index-place.ensures ∙ here)
+    lists_more gr seen arcs c.args.i c.args.j new c.args.self.now.next.items c.args.self.now.rows.items h c.index-place.result.now
+    (c.index-place.ensures ∙ here)

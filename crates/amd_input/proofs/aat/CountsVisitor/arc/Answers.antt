@@ -17,4 +17,5 @@ overflow_add-index_mut g c =
     omega (arith, room, size, count, here, value, short)
 
 pub returns : goal.returns
-returns g c = λ gr seen arcs h new. counts_more gr seen c.args.i c.args.j new c.args.self.now.degrees.items c.index_mut.result.now c.index_mut.ensures.value h
+returns g c = λ gr seen arcs h new. counts_more gr seen c.args.i c.args.j new c.args.self.now.degrees.items c.index_mut.result.now
+    c.index_mut.ensures.value h

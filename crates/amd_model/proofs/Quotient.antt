@@ -1,0 +1,7 @@
+-- The quotient graph kept in lists, and that a round over it is a step.
+pub mod Lists
+pub mod Sums
+pub mod Start
+pub mod RoundIsStep
+pub mod Rounds
+pub mod Outside

@@ -1,0 +1,364 @@
+-- What a step does to blocks, borders, parents and figures, and how many rows it leaves.
+use Rattle.std.proofs.Common.{ℕ, zero, suc, Bool, true, false, None, ◌≡◌, ◌≢◌, ◌<◌, ◌≤◌, ◌+◌, ◌-◌, ◌&&◌, not, cond, inl, inr, refl, sym}
+use Rattle.std.proofs.Common.{◌∙◌, ap, subst, arith}
+use Rattle.std.specs.Prelude.{nat_lt, max, sum_by}
+use Rattle.std.specs.Cmp.{both_ways}
+use Rattle.std.proofs.lemmas.Bool.{cases_Bool, cases_eq, and_parts, and_from, or_cases, not-true, not_from_false, cond-true, cond-false}
+use Rattle.std.proofs.lemmas.Bool.{lt-ltb}
+use Rattle.amd_model.specs.Below.{count_below}
+use Rattle.amd_model.specs.Graph.{Graph, IsGraph, degree}
+use Rattle.amd_model.specs.State.{State, Live, Gone, live, in_class, is_class, in_block, is_element, stands, inside, holds, front}
+use Rattle.amd_model.specs.Step.{StepAt, absorbed, block, border_of}
+use Rattle.amd_model.specs.Figures.{front_sum, is_made, figure, max_below, greatest_front}
+use Rattle.amd_model.specs.Listing.{weight}
+use Rattle.amd_model.specs.Sound.{IsSound}
+use Rattle.amd_model.specs.Quotient.{QuotientGraph, Fits, has, gathered, rest, made, new_size, left, round}
+use Rattle.amd_model.proofs.Counting.Below.{clash, sum_at, count_same, count_split, count_minus, count_mono, count_most, count_pos}
+use Rattle.amd_model.proofs.States.Words.{class_gives, class_from, live_gives, live_from, block_gives, block_from, stands_gives}
+use Rattle.amd_model.proofs.States.Words.{holds_gives, front_gives}
+use Rattle.amd_model.proofs.States.Steps.{mass_gives, block_cases}
+use Rattle.amd_model.proofs.States.Sound.{live_small, front_live, front_whole}
+use Rattle.amd_model.proofs.States.SoundStep.{Fate, goes, moves, stays, fate, pivot_live, block_pivot, border_gives, was_live}
+use Rattle.amd_model.proofs.States.SoundStep.{live_not_block, class_border, step_sound}
+use Rattle.amd_model.proofs.Quotient.Sums.{named, named_gives, named_from, class_sum}
+use Rattle.amd_model.proofs.Quotient.RoundIsStep.{L, L_once, front_class, row_front, rest_sum, size_is, left_is, made_class, after, is_step}
+use Rattle.amd_model.proofs.Quotient.RoundIsStep.{now, now_fits}
+
+-- the greatest of numbers that are the same
+pub max_same : (n : ℕ) (p q : ℕ → Bool) (f h : ℕ → ℕ) (d : ℕ) → ((k : ℕ) → k < n → cond (p k) (f k) 0 ≡ cond (q k) (h k) 0) →
+    max_below n p f d ≡ max_below n q h d
+unfolding max_below
+max_same zero p q f h d same = refl
+max_same (suc n) p q f h d same = let here = same n (omega arith) in let there = max_same n p q f h d (λ k l. same k (omega arith)) in
+    omega (arith, here, there)
+
+-- the greatest with one number more
+pub max_at : (n : ℕ) (p q : ℕ → Bool) (f h : ℕ → ℕ) (d c : ℕ) → c < n → p c ≡ false → q c ≡ true →
+    ((k : ℕ) → k < n → k ≢ c → cond (p k) (f k) 0 ≡ cond (q k) (h k) 0) → max_below n q h d ≡ max (max_below n p f d) (h c)
+unfolding max_below
+max_at zero p q f h d c l no' yes' same = absurd (omega (arith, l))
+max_at (suc n) p q f h d c l no' yes' same = elim (cases_eq c n) [
+  | inl e ↦ (let a = cond-false (p n) (f n) 0 (ap p (sym e) ∙ no') in let b = cond-true (q n) (h n) 0 (ap q (sym e) ∙ yes') in
+      let r = max_same n p q f h d (λ k lk. same k (omega arith) (λ z. omega (arith, z, e, lk))) in let m = ap h e in
+      omega (arith, a, b, r, m))
+  | inr ne ↦ (let here = same n (omega arith) (λ z. ne (sym z)) in
+      let there = max_at n p q f h d c (omega (arith, l, ne)) no' yes' (λ k lk off. same k (omega arith) off) in omega (arith, here, there))
+]
+
+module _ (g : Graph) (laws : IsGraph g) (aggressive : Bool) (c : ℕ) (old new : State) (sound : IsSound g old)
+    (step : StepAt g aggressive c old new) where
+  fate_of : (v : ℕ) → Fate g laws aggressive c old new sound step v
+  fate_of v = fate g laws aggressive c old new sound step v
+
+  home_c : old.home c ≡ Live c
+  home_c = pivot_live g laws aggressive c old new sound step
+
+  size_c : c < g.size
+  size_c = live_small g laws old sound c c home_c
+
+  block_c : block g aggressive old c c ≡ true
+  block_c = block_pivot g laws aggressive c old new sound step c home_c
+
+  block_was : (v : ℕ) → block g aggressive old c v ≡ true → (x : ℕ) × (old.home v ≡ Live x)
+  block_was v b = elim (block_cases g aggressive old c v b) [ inl h ↦ (c, h) | inr k ↦ (k.0, k.2) ]
+
+  -- another element stays one, or none, with its block, its border and its weight
+  pub block_stays : (e v : ℕ) → e ≢ c → in_block new e v ≡ in_block old e v
+  block_stays e v ne = both_ways (in_block new e v) (in_block old e v)
+      (λ h. let k = block_gives e (new.home v) h in elim (fate_of v) [
+        | goes b q ↦ absurd (ne (let f : Gone e ≡ Gone c = sym k ∙ q in cc))
+        | moves s x j p q r a o w ↦ absurd (cc)
+        | stays ni nf q ↦ block_from e (old.home v) (sym q ∙ k)
+      ])
+      (λ h. let k = block_gives e (old.home v) h in elim (fate_of v) [
+        | goes b q ↦ absurd (let x = block_was v b in let m = x.1 in cc)
+        | moves s x j p q r a o w ↦ absurd (cc)
+        | stays ni nf q ↦ block_from e (new.home v) (q ∙ k)
+      ])
+
+  pub element_stays : (e : ℕ) → e ≢ c → is_element new e ≡ is_element old e
+  element_stays e ne = block_stays e e ne
+
+  pub border_stays : (e v : ℕ) → e ≢ c → new.border e v ≡ old.border e v
+  border_stays e v ne = step.border_stays e v ne
+
+  pub block_count_stays : (e : ℕ) → e ≢ c → count_below g.size (in_block new e) ≡ count_below g.size (in_block old e)
+  block_count_stays e ne = count_same g.size (in_block new e) (in_block old e) (λ v l. block_stays e v ne)
+
+  pub border_count_stays : (e : ℕ) → e ≢ c → count_below g.size (new.border e) ≡ count_below g.size (old.border e)
+  border_count_stays e ne = count_same g.size (new.border e) (old.border e) (λ v l. border_stays e v ne)
+
+  pub weight_stays : (e : ℕ) → e ≢ c → weight g new e ≡ weight g old e
+  unfolding weight
+  weight_stays e ne = let a = block_count_stays e ne in let b = border_count_stays e ne in omega (arith, a, b)
+
+  -- the pivot row names an element afterwards, and none before
+  pub pivot_element : is_element new c ≡ true
+  pivot_element = block_from c (new.home c) (step.gone c block_c)
+
+  pub pivot_no_element : is_element old c ≡ false
+  pivot_no_element = elim (cases_Bool (is_element old c)) [
+    | inr f ↦ f
+    | inl y ↦ absurd (let k = block_gives c (old.home c) y in let h = home_c in cc)
+  ]
+
+  pub weight_new : weight g new c ≡ count_below g.size (in_block new c) + count_below g.size (new.border c)
+  unfolding weight
+  weight_new = refl
+
+  pub block_some : 0 < count_below g.size (in_block new c)
+  block_some = count_pos g.size (in_block new c) c size_c pivot_element
+
+  -- where the pivot row named no block before, that of the new element is the block of the step
+  pub block_new : ((v : ℕ) → old.home v ≢ Gone c) → (v : ℕ) → in_block new c v ≡ block g aggressive old c v
+  block_new none v = both_ways (in_block new c v) (block g aggressive old c v)
+      (λ h. let k = block_gives c (new.home v) h in elim (fate_of v) [
+        | goes b q ↦ b
+        | moves s x j p q r a o w ↦ absurd (cc)
+        | stays ni nf q ↦ absurd (none v (sym q ∙ k))
+      ])
+      (λ b. block_from c (new.home v) (step.gone v b))
+
+  pub border_new : (v : ℕ) → new.border c v ≡ border_of g aggressive old c v
+  border_new v = step.made v
+
+  -- what is live was so, and has no parent
+  pub still_live : (v : ℕ) → live new v ≡ true → live old v ≡ true
+  still_live v h = let d = live_gives (new.home v) h in let o = was_live g laws aggressive c old new sound step v d.0 d.1 in
+      live_from o.0 (old.home v) o.1
+
+  no_block : (v : ℕ) → live new v ≡ true → block g aggressive old c v ≡ true → ⊥
+  no_block v h b = let d = live_gives (new.home v) h in live_not_block g laws aggressive c old new sound step v d.0 d.1 b
+
+  absorbed_gone : (e : ℕ) → absorbed g aggressive old c e ≡ true → old.home e ≡ Gone e
+  unfolding absorbed
+  absorbed_gone e a = elim (or_cases (holds g old e c) (aggressive && stands g old e && inside g (old.border e) (front g old c)) a) [
+    | inl h ↦ (stands_gives g old e (holds_gives g old e c h).standing).element
+    | inr h ↦ (stands_gives g old e
+        (and_parts aggressive (stands g old e) (and_parts (aggressive && stands g old e) (inside g (old.border e) (front g old c))
+        h).0).1).element
+  ]
+
+  pub no_parent : ((v : ℕ) → live old v ≡ true → old.parent v ≡ None) → (v : ℕ) → live new v ≡ true → new.parent v ≡ None
+  no_parent free v h = let o = still_live v h in let d = live_gives (old.home v) o in
+      step.parent_stays v (λ q. no_block v h (subst (λ m. block g aggressive old c m ≡ true) (sym q) block_c))
+      (elim (cases_Bool (absorbed g aggressive old c v)) [ inr n ↦ n | inl y ↦ absurd (let k = absorbed_gone v y in let m = d.1 in cc) ])
+      ∙ free v o
+
+  -- the rows that were live are live, or go with the block
+  pub live_parts : count_below g.size (live old) ≡ count_below g.size (live new) + count_below g.size (block g aggressive old c)
+  live_parts =
+      let a = count_split g.size (live old) (live new) in
+      let b = count_same g.size (λ v. live old v && live new v) (live new) (λ v l. both_ways (live old v && live new v) (live new v)
+      (λ h. (and_parts (live old v) (live new v) h).1) (λ h. and_from (live old v) (live new v) (still_live v h) h)) in
+      let d = count_same g.size (λ v. live old v && not (live new v)) (block g aggressive old c)
+      (λ v l. both_ways (live old v && not (live new v)) (block g aggressive old c v)
+      (λ h. let p = and_parts (live old v) (not (live new v)) h in let n = not-true (live new v) p.1 in elim (fate_of v) [
+        | goes k q ↦ k
+        | moves s x j y q r z o w ↦ clash (live_from j (new.home v) q) n
+        | stays ni nf q ↦ (let i = live_gives (old.home v) p.0 in clash (live_from i.0 (new.home v) (q ∙ i.1)) n)
+      ])
+      (λ k. let x = block_was v k in and_from (live old v) (not (live new v)) (live_from x.0 (old.home v) x.1)
+      (not_from_false (live new v) (elim (cases_Bool (live new v)) [ inr n ↦ n | inl y ↦ absurd (no_block v y k) ])))) in
+      omega (arith, a, b, d)
+
+  -- the block has the rows of the pivot's class, and those of L that are not on the border
+  pub block_parts : count_below g.size (block g aggressive old c) ≡ count_below g.size
+      (in_class old c) + (count_below g.size (front g old c) - count_below g.size (border_of g aggressive old c))
+  block_parts =
+      let B : ℕ → Bool = block g aggressive old c in let S : ℕ → Bool = border_of g aggressive old c in let F : ℕ → Bool = front g old c in
+      let a = count_split g.size B (in_class old c) in
+      let b = count_same g.size (λ v. B v && in_class old c v) (in_class old c)
+      (λ v l. both_ways (B v && in_class old c v) (in_class old c v)
+      (λ h. (and_parts (B v) (in_class old c v) h).1)
+      (λ h. and_from (B v) (in_class old c v) (block_pivot g laws aggressive c old new sound step v (class_gives c (old.home v) h)) h)) in
+      let d = count_same g.size (λ v. B v && not (in_class old c v)) (λ v. F v && not (S v))
+      (λ v l. both_ways (B v && not (in_class old c v)) (F v && not (S v))
+      (λ h. let p = and_parts (B v) (not (in_class old c v)) h in
+      and_from (F v) (not (S v)) (in_front v p.0 (not-true (in_class old c v) p.1))
+      (not_from_false (S v)
+      (elim (cases_Bool (S v)) [ inr n ↦ n | inl y ↦ clash p.0 (border_gives g laws aggressive c old new sound step v y).1 ])))
+      (λ h. let p = and_parts (F v) (not (S v)) h in and_from (B v) (not (in_class old c v)) (in_the_block v p.0 (not-true (S v) p.1))
+      (not_from_false (in_class old c v) (front_gives g old c v p.0).0))) in
+      let e = count_minus g.size F S (λ v l h. (border_gives g laws aggressive c old new sound step v h).0) in
+      omega (arith, a, b, d, e)
+    where
+      in_front : (v : ℕ) → block g aggressive old c v ≡ true → in_class old c v ≡ false → front g old c v ≡ true
+      in_front v b out = elim (block_cases g aggressive old c v b) [
+        | inl h ↦ clash (class_from c (old.home v) h) out
+        | inr k ↦ (let m = mass_gives g aggressive old c k.0 k.1 in front_whole g laws old sound c k.0 k.0 v m.class k.2 m.in_front)
+      ]
+
+      in_the_block : (v : ℕ) → front g old c v ≡ true → border_of g aggressive old c v ≡ false → block g aggressive old c v ≡ true
+      in_the_block v f nb = elim (cases_Bool (block g aggressive old c v)) [
+        | inl y ↦ y
+        | inr n ↦ clash (Rattle.amd_model.proofs.States.SoundStep.border_from g laws aggressive c old new sound step v f n) nb
+      ]
+
+  -- one front is made
+  made_stays : (e : ℕ) → e ≢ c → is_made g new e ≡ is_made g old e
+  unfolding is_made
+  made_stays e ne = ap (λ b. b && nat_lt 0 (degree g e)) (element_stays e ne)
+
+  made_not : is_made g old c ≡ false
+  unfolding is_made
+  made_not = Rattle.std.proofs.lemmas.Bool.and_left (is_element old c) (nat_lt 0 (degree g c)) pivot_no_element
+
+  made_new : 0 < degree g c → is_made g new c ≡ true
+  unfolding is_made
+  made_new l = and_from (is_element new c) (nat_lt 0 (degree g c)) pivot_element (lt-ltb 0 (degree g c) l)
+
+  -- and the figures grow by its columns
+  module _ (dense : ℕ → Bool) where
+    columns : (ℕ → ℕ) → State → ℕ → ℕ
+    columns share s e = front_sum share (count_below g.size (in_block s e)) (count_below g.size (s.border e) + count_below g.size dense)
+
+    columns_stay : (share : ℕ → ℕ) (e : ℕ) → e ≢ c → cond (is_made g new e) (columns share new e) 0 ≡ cond (is_made g old e)
+        (columns share old e) 0
+    unfolding columns
+    columns_stay share e ne = rw (made_stays e ne, block_count_stays e ne, border_count_stays e ne) refl
+
+    pub figure_new : 0 < degree g c → (share : ℕ → ℕ) →
+        figure share g dense new ≡ figure share g dense old + front_sum share (count_below g.size (in_block new c))
+        (count_below g.size (new.border c) + count_below g.size dense)
+    unfolding figure columns
+    figure_new some share =
+        let s = sum_at g.size (λ e. cond (is_made g new e) (columns share new e) 0) (λ e. cond (is_made g old e) (columns share old e) 0) c
+        size_c (λ e l ne. columns_stay share e ne) in
+        let a = cond-true (is_made g new c) (columns share new c) 0 (made_new some) in
+        let b = cond-false (is_made g old c) (columns share old c) 0 made_not in
+        omega (arith, s, a, b)
+
+    rows : State → ℕ → ℕ
+    rows s e = count_below g.size (in_block s e) + (count_below g.size (s.border e) + count_below g.size dense)
+
+    rows_stay : (e : ℕ) → e ≢ c → cond (is_made g old e) (rows old e) 0 ≡ cond (is_made g new e) (rows new e) 0
+    unfolding rows
+    rows_stay e ne = rw (made_stays e ne, block_count_stays e ne, border_count_stays e ne) refl
+
+    pub greatest_new : 0 < degree g c →
+        greatest_front g dense new ≡ max (greatest_front g dense old)
+        (count_below g.size (in_block new c) + (count_below g.size (new.border c) + count_below g.size dense))
+    unfolding greatest_front rows
+    greatest_new some = max_at g.size (is_made g old) (is_made g new) (rows old) (rows new) (max 1 (count_below g.size dense)) c size_c
+        made_not (made_new some) (λ e l ne. rows_stay e ne)
+
+-- the sizes of the classes placed add up to the live rows
+pub placed_rows : (g : Graph) (t : QuotientGraph) (s : State) → IsSound g s → Fits g t s →
+    sum_by t.size t.placed ≡ count_below g.size (live s)
+placed_rows g t s sound fits =
+    class_sum g s t.size t.placed fits.placed_once (λ x k. fits.size x (class_gives x (s.home x) (sym (fits.placed x) ∙ k)))
+    ∙ count_same g.size (λ v. named t.placed (s.home v)) (live s) (λ v l. both_ways (named t.placed (s.home v)) (live s v)
+    (λ k. let d = named_gives t.placed (s.home v) k in live_from d.0 (s.home v) d.1)
+    (λ k. let d = live_gives (s.home v) k in named_from t.placed (s.home v) d.0 d.1
+    (fits.placed d.0 ∙ class_from d.0 (s.home d.0) (sound.named v d.0 d.1))))
+
+module _ (g : Graph) (laws : IsGraph g) (aggressive : Bool) (t : QuotientGraph) (s : State) (sound : IsSound g s) (fits : Fits g t s)
+    (c : ℕ) (class : is_class s c ≡ true)
+    (least : (d : ℕ) → is_class s d ≡ true → s.bound c ≤ s.bound d) where
+  abbrev U : State
+  U = after g laws aggressive t s sound fits c class least
+
+  abbrev step_of : StepAt g aggressive c s U
+  step_of = is_step g laws aggressive t s sound fits c class least
+
+  pub size_rows : t.size c ≡ count_below g.size (in_class s c)
+  size_rows = fits.size c (class_gives c (s.home c) class)
+
+  pub front_rows : sum_by t.size (gathered t c) ≡ count_below g.size (front g s c)
+  unfolding L
+  front_rows = class_sum g s t.size (gathered t c) (L_once g laws aggressive t s sound fits c class least)
+      (λ x k. fits.size x (front_class g laws aggressive t s sound fits c class least x k).0)
+      ∙ count_same g.size (λ v. named (gathered t c) (s.home v)) (front g s c)
+      (λ v l. both_ways (named (gathered t c) (s.home v)) (front g s c v)
+      (λ k. let d = named_gives (gathered t c) (s.home v) k in sym (row_front g laws aggressive t s sound fits c class least v d.0 d.1) ∙
+      d.2)
+      (λ k. let d = live_gives (s.home v) (front_live g laws s sound c v k) in
+      named_from (gathered t c) (s.home v) d.0 d.1 (row_front g laws aggressive t s sound fits c class least v d.0 d.1 ∙ k)))
+
+  pub rest_count : sum_by t.size (rest aggressive t c (gathered t c)) ≡ count_below g.size (border_of g aggressive s c)
+  unfolding L
+  rest_count = rest_sum g laws aggressive t s sound fits c class least
+
+  pub rest_small : sum_by t.size (rest aggressive t c (gathered t c)) ≤ sum_by t.size (gathered t c)
+  rest_small = let a = front_rows in let b = rest_count in
+      let m = count_mono g.size (border_of g aggressive s c) (front g s c)
+      (λ v l h. (border_gives g laws aggressive c s U sound step_of v h).0) in omega (arith, a, b, m)
+
+  -- L and the class of the pivot are some of the live rows
+  pub front_small : sum_by t.size (gathered t c) + t.size c ≤ sum_by t.size t.placed
+  front_small = let a = front_rows in let b = size_rows in let p = placed_rows g t s sound fits in
+      let q = count_split g.size (live s) (front g s c) in
+      let x = count_same g.size (λ v. live s v && front g s c v) (front g s c) (λ v l. both_ways (live s v && front g s c v) (front g s c v)
+      (λ h. (and_parts (live s v) (front g s c v) h).1) (λ h. and_from (live s v) (front g s c v) (front_live g laws s sound c v h) h)) in
+      let y = count_mono g.size (in_class s c) (λ v. live s v && not (front g s c v))
+      (λ v l h. and_from (live s v) (not (front g s c v)) (live_from c (s.home v) (class_gives c (s.home v) h))
+      (not_from_false (front g s c v) (elim (cases_Bool (front g s c v)) [ inr n ↦ n | inl f ↦ clash h (front_gives g s c v f).0 ]))) in
+      omega (arith, a, b, p, q, x, y)
+
+  pub placed_small : sum_by t.size t.placed ≤ g.size
+  placed_small = let p = placed_rows g t s sound fits in let m = count_most g.size (live s) in omega (arith, p, m)
+
+  block_size : count_below g.size (block g aggressive s c) ≡ t.size
+      c + (sum_by t.size (gathered t c) - sum_by t.size (rest aggressive t c (gathered t c)))
+  block_size = let a = front_rows in let b = rest_count in let d = size_rows in let p = block_parts g laws aggressive c s U sound step_of in
+      omega (arith, a, b, d, p)
+
+  -- the rows of the new element
+  pub block_rows : ((v : ℕ) → s.home v ≢ Gone c) →
+      count_below g.size (in_block U c) ≡ t.size c + (sum_by t.size (gathered t c) - sum_by t.size (rest aggressive t c (gathered t c)))
+  block_rows none = count_same g.size (in_block U c) (block g aggressive s c)
+      (λ v l. block_new g laws aggressive c s U sound step_of none v) ∙ block_size
+
+  pub border_rows : count_below g.size (U.border c) ≡ sum_by t.size (rest aggressive t c (gathered t c))
+  border_rows = count_same g.size (U.border c) (border_of g aggressive s c) (λ v l. border_new g laws aggressive c s U sound step_of v) ∙
+      sym rest_count
+
+  -- the rows that are left
+  pub left_live : left aggressive t c (gathered t c) ≡ count_below g.size (live U)
+  unfolding L
+  left_live = left_is g laws aggressive t s sound fits c class least
+
+  pub left_rows : left aggressive t c (gathered t c) ≡ sum_by t.size
+      t.placed - (t.size c + (sum_by t.size (gathered t c) - sum_by t.size (rest aggressive t c (gathered t c))))
+  left_rows = let a = left_live in let b = block_size in let p = placed_rows g t s sound fits in
+      let q = live_parts g laws aggressive c s U sound step_of in omega (arith, a, b, p, q)
+
+  pub left_sum : sum_by (round aggressive t c (gathered t c)).size (round aggressive t c (gathered t c)).placed ≡ left aggressive t c
+      (gathered t c)
+  unfolding L now
+  left_sum = placed_rows g (round aggressive t c (gathered t c)) U (step_sound g laws aggressive c s U sound step_of)
+      (now_fits g laws aggressive t s sound fits c class least) ∙ sym left_live
+
+  pub left_less : left aggressive t c (gathered t c) < sum_by t.size t.placed
+  left_less = let a = left_live in let p = placed_rows g t s sound fits in let q = live_parts g laws aggressive c s U sound step_of in
+      let h = class_gives c (s.home c) class in
+      let m = count_pos g.size (block g aggressive s c) c (live_small g laws s sound c c h)
+      (block_pivot g laws aggressive c s U sound step_of c h) in omega (arith, a, p, q, m)
+
+  -- the rows of a class of the border
+  pub new_size_rows : (i : ℕ) → has (made aggressive t c (gathered t c)) i ≡ true →
+      new_size aggressive t c (gathered t c) i ≡ count_below g.size (in_class U i)
+  unfolding L
+  new_size_rows i k = let m = made_class g laws aggressive t s sound fits c class least i k in
+      size_is g laws aggressive t s sound fits c class least i m.0 m.1
+
+  pub new_size_border : (i : ℕ) → has (made aggressive t c (gathered t c)) i ≡ true →
+      new_size aggressive t c (gathered t c) i ≤ sum_by t.size (rest aggressive t c (gathered t c))
+  unfolding L
+  new_size_border i k = let a = new_size_rows i k in let b = rest_count in
+      let m = made_class g laws aggressive t s sound fits c class least i k in
+      let le = count_mono g.size (in_class U i) (border_of g aggressive s c)
+      (λ v l h. class_border g laws aggressive c s U sound step_of i v i m.0 (class_gives i (U.home v) h) m.1) in omega (arith, a, b, le)
+
+  pub new_size_left : (i : ℕ) → has (made aggressive t c (gathered t c)) i ≡ true →
+      new_size aggressive t c (gathered t c) i ≤ left aggressive t c (gathered t c)
+  new_size_left i k = let a = new_size_rows i k in let b = left_live in
+      let le = count_mono g.size (in_class U i) (live U) (λ v l h. live_from i (U.home v) (class_gives i (U.home v) h)) in
+      omega (arith, a, b, le)
+
+  pub new_size_some : (i : ℕ) → has (made aggressive t c (gathered t c)) i ≡ true → 0 < new_size aggressive t c (gathered t c) i
+  unfolding L
+  new_size_some i k = let a = new_size_rows i k in let m = made_class g laws aggressive t s sound fits c class least i k in
+      let some = count_pos g.size (in_class U i) i (live_small g laws U (step_sound g laws aggressive c s U sound step_of) i i m.0)
+      (class_from i (U.home i) m.0) in omega (arith, a, some)
