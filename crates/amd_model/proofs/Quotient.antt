@@ -2,6 +2,6 @@
 pub mod Lists
 pub mod Sums
 pub mod Start
-pub mod RoundIsStep
+pub mod Round
 pub mod Rounds
 pub mod Outside

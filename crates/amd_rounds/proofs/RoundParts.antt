@@ -6,10 +6,11 @@ use Rattle.std.proofs.lemmas.Bool.{cases_Bool, cond-true, cond-false, or_parts, 
 use Rattle.std.proofs.lemmas.List.Elements.{All-filter}
 use Rattle.amd_model.specs.Figures.{cut, front_sum, entries, ldl_steps, lu_steps}
 use Rattle.amd_model.specs.Graph.{Graph}
-use Rattle.amd_model.specs.State.{State, is_class}
+use Rattle.amd_model.specs.State.{State}
 use Rattle.amd_model.specs.Step.{StepAt}
 use Rattle.amd_model.specs.Quotient.{QuotientGraph, has, is_empty, Once, pivot, gathered, made as made_of, turned, next, round}
 use Rattle.amd_model.proofs.Quotient.Lists.{clash, once_filter, some_of}
+use Rattle.amd_model.proofs.Quotient.Round.RoundAt.{RoundAt}
 use Rattle.amd_model.proofs.Listings.Words.{filter_has, has_filter as filter_gives, has_right, has_head}
 use Rattle.amd_views.specs.Views.{View}
 use Rattle.amd_views.specs.Rounds as views
@@ -21,8 +22,8 @@ use Rattle.amd_rounds.specs.Parts.{MakesElement, MergesClasses, RenewsClasses}
 use Rattle.amd_rounds.specs.declared.work.Work.{Work}
 use Rattle.amd_views.proofs.Lists.Named.{none_sum}
 use Rattle.amd_views.proofs.Rounding.{Rounding}
-use Rattle.amd_views.proofs.Round.Fronts.{pivot_class, pivot_least, live_left, live_less, border_is as border_law}
-use Rattle.amd_views.proofs.Round.Turn.{Turn}
+use Rattle.amd_views.proofs.Round.Fronts.{live_left, live_less, border_is as border_law}
+use Rattle.amd_views.proofs.Round.Turn.{Turn, round_of}
 use Rattle.amd_views.proofs.Round.Sizes.{size_outside, size_ended}
 use Rattle.amd_views.proofs.Round.Bounds.{bound_kept}
 use Rattle.amd_views.proofs.Round.NextRound.{as_next, one_round}
@@ -329,16 +330,13 @@ module _ {A : Type 0} (g : Graph) (dense : ℕ → Bool) (aggressive : Bool) (w 
             found = finding.found g dense aggressive old new t s st.view rounding placed lowest (sym is_pivot) least;
           }
 
-          abbrev class : is_class s c ≡ true
-          class = pivot_class g dense old t s st.view c placed
-
-          abbrev least_class : (d : ℕ) → is_class s d ≡ true → s.bound c ≤ s.bound d
-          least_class = pivot_least g dense old t s st.view c placed least
+          abbrev this : RoundAt g aggressive t s c
+          this = round_of aggressive st.view c placed least
 
           -- fewer rows are live
           pub fewer : v.live < w.live
           unfolding rounding turn
-          fewer = live_less g dense aggressive old new t s st.view rounding class least_class front_is turn.found.rest_is
+          fewer = live_less g dense aggressive old new t s st.view rounding this front_is turn.found.rest_is
 
           named_made : (i : ℕ) → has M i ≡ true → has made i ≡ true
           named_made i h = ap (λ l. has l i) made_same ∙ h
@@ -370,9 +368,9 @@ module _ {A : Type 0} (g : Graph) (dense : ℕ → Bool) (aggressive : Bool) (w 
               (made_once g st.view.graph s st.view.sound t st.view.fits c placed aggressive) named_front stay
               (λ i h. let e = ap (λ l. num l.items i) n.size in let a = (renew_sizes i (named_made i h)).2 in omega (arith, e, a))
               ended (λ i h. sym (st.view.keeps.bound i h))
-              (λ i h. sym (bound_kept turn few (border_law g dense aggressive old new t s st.view rounding class least_class front_is
+              (λ i h. sym (bound_kept turn few (border_law g dense aggressive old new t s st.view rounding this front_is
               turn.found.rest_is)
-              (live_left g dense aggressive old new t s st.view rounding class least_class front_is turn.found.rest_is)
+              (live_left g dense aggressive old new t s st.view rounding this front_is turn.found.rest_is)
               (let a = fewer in let b = live_few in omega (arith, a, b)) i h))
 
           pub round_done : length w.size.items < 2 ^ 63 → (is_empty t.placed ≡ false)

@@ -14,9 +14,10 @@ use Rattle.amd_model.specs.Figures.{front_sum, is_made, figure, entries, greates
 use Rattle.amd_model.specs.Laws.{FiguresAreSmall, AtTheEnd}
 use Rattle.amd_model.specs.Sound.{IsSound}
 use Rattle.amd_model.proofs.Counting.Below.{sum_plus, sum_same, count_same, count_mono, sum_at, sum_zero, count_most, clash}
+use Rattle.amd_model.proofs.States.Steps.{border_gives}
 use Rattle.amd_model.proofs.States.Words.{live_gives, live_from, block_gives, block_from}
 use Rattle.amd_model.proofs.States.Sound.{live_small}
-use Rattle.amd_model.proofs.States.SoundStep.{step_sound, goes, moves, stays, fate, pivot_live, border_gives}
+use Rattle.amd_model.proofs.States.SoundStep.{step_sound, goes, moves, stays, fate, pivot_live}
 use Rattle.amd_model.proofs.States.SoundStart.{start_sound, begins, is_last, is_empty, is_live}
 use Rattle.amd_model.proofs.Listings.Tree.{IsTree, block_live, gone_stays, step_tree, start_tree}
 use Rattle.amd_model.proofs.Figures.FrontSums.{front_fits, first_sums_rise, first_sum, max_most}
@@ -69,15 +70,15 @@ module _ (g : Graph) (laws : IsGraph g) (aggressive : Bool) (c : ℕ) (old new :
       each : (v : ℕ) → v < g.size → cond (live old v) 1 0 ≡ cond (live new v) 1 0 + cond (block g aggressive old c v) 1 0
       each v l = elim (fate g laws aggressive c old new sound step v) [
         | goes b q ↦ (let k = block_live g laws aggressive c old new sound step tree v b in rw (k.1, q, b) (omega arith))
-        | moves s x j p q r a o w ↦ (let k = (border_gives g laws aggressive c old new sound step v s).1 in rw (p, q, k) (omega arith))
+        | moves s x j p q r a o w ↦ (let k = (border_gives g aggressive old c v s).1 in rw (p, q, k) (omega arith))
         | stays ni nf q ↦ (let k = stays_out v q in rw (q, k) (omega arith))
       ]
 
   pub border_live : count_below g.size (border_of g aggressive old c) ≤ count_below g.size (live new)
   border_live = count_mono g.size (border_of g aggressive old c) (live new) (λ v l s. elim (fate g laws aggressive c old new sound step v) [
-    | goes b q ↦ clash b (border_gives g laws aggressive c old new sound step v s).1
+    | goes b q ↦ clash b (border_gives g aggressive old c v s).1
     | moves t x j p q r a o w ↦ live_from j (new.home v) q
-    | stays ni nf q ↦ clash (border_gives g laws aggressive c old new sound step v s).0 nf
+    | stays ni nf q ↦ clash (border_gives g aggressive old c v s).0 nf
   ])
 
   pub rows_new : count_below g.size (in_block new c) ≡ count_below g.size (block g aggressive old c)

@@ -15,9 +15,10 @@ use Rattle.amd_model.proofs.Counting.Below.{count_mono, count_same, count_split,
 use Rattle.amd_model.proofs.Counting.Points.{count_zero, zero_counted, count_drop}
 use Rattle.amd_model.proofs.Forests.EdgesWithin.{within, without, within_same, within_without}
 use Rattle.amd_model.proofs.Figures.Sums.{entries_sum}
+use Rattle.amd_model.proofs.States.Steps.{block_pivot}
 use Rattle.amd_model.proofs.States.Words.{class_gives, live_gives, live_from, block_gives, block_from}
 use Rattle.amd_model.proofs.States.Sound.{live_small, front_live, reached_front}
-use Rattle.amd_model.proofs.States.SoundStep.{Fate, goes, moves, stays, fate, block_pivot, was_live, block_reaches, live_not_block}
+use Rattle.amd_model.proofs.States.SoundStep.{Fate, goes, moves, stays, fate, was_live, block_reaches, live_not_block}
 use Rattle.amd_model.proofs.States.SoundStart.{begins, is_last, is_empty, is_live}
 use Rattle.amd_model.proofs.States.Bounds.{Bounded}
 use Rattle.amd_model.proofs.Forests.Thin.{IsThin, edge_live, pivot_home, front_few, front_single, front_edge, border_front, block_row}
@@ -57,7 +58,7 @@ module _ (g : Graph) (laws : IsGraph g) (forest : IsForest g) (aggressive : Bool
   size_c = live_small g laws old sound c c home_c
 
   block_c : block g aggressive old c c ≡ true
-  block_c = block_pivot g laws aggressive c old new sound step c home_c
+  block_c = block_pivot g aggressive old c c home_c
 
   joined_differ : (v w : ℕ) → g.edge v w ≡ true → v ≢ w
   joined_differ v w e q = clash e (ap (g.edge v) (sym q) ∙ laws.no_loop v)

@@ -14,12 +14,12 @@ use Rattle.amd_model.proofs.Counting.Points.{count_zero, one_counted}
 use Rattle.amd_model.proofs.Forests.Leaf.{leaf}
 use Rattle.amd_model.proofs.States.Words.{class_gives, class_from, live_gives, live_from, holds_gives, front_gives, reach_split, reach_flip}
 use Rattle.amd_model.proofs.States.Sound.{live_small, front_live, front_reached, neighbours_edge}
-use Rattle.amd_model.proofs.States.SoundStep.{step_sound, Fate, goes, moves, stays, fate, pivot_live, block_pivot, border_gives, was_live}
+use Rattle.amd_model.proofs.States.SoundStep.{step_sound, Fate, goes, moves, stays, fate, pivot_live, was_live}
 use Rattle.amd_model.proofs.States.SoundStep.{was_eliminated, block_reaches, other_border}
 use Rattle.amd_model.proofs.States.SoundStart.{begins, is_last, is_empty, is_live, own, no_edge, path_is_edge}
 use Rattle.amd_model.proofs.States.NewParts.{was_class}
 use Rattle.amd_model.proofs.States.Bounds.{Bounded}
-use Rattle.amd_model.proofs.States.Steps.{outer_parts, mass_gives, block_cases}
+use Rattle.amd_model.proofs.States.Steps.{outer_parts, mass_gives, block_cases, block_pivot, border_gives}
 
 -- the live neighbours of a row
 abbrev pub live_neighbour : Graph → State → ℕ → ℕ → Bool
@@ -129,7 +129,7 @@ module _ (g : Graph) (laws : IsGraph g) (forest : IsForest g) (aggressive : Bool
       (front_reached g laws old sound c c v pivot_home f)
 
   pub border_front : (v : ℕ) → border_of g aggressive old c v ≡ true → front g old c v ≡ true
-  border_front v b = (border_gives g laws aggressive c old new sound step v b).0
+  border_front v b = (border_gives g aggressive old c v b).0
 
   -- a row of the block is the pivot row or the one row of L
   pub block_row : (v : ℕ) → block g aggressive old c v ≡ true → v ≢ c → front g old c v ≡ true
@@ -195,7 +195,7 @@ module _ (g : Graph) (laws : IsGraph g) (forest : IsForest g) (aggressive : Bool
 
   new_named : (v e : ℕ) → new.home v ≡ Gone e → new.home e ≡ Gone e
   new_named v e h = elim (gone_from_old v e h) [
-    | inl k ↦ subst (λ m. new.home m ≡ Gone m) (sym k.0) (step.gone c (block_pivot g laws aggressive c old new sound step c pivot_home))
+    | inl k ↦ subst (λ m. new.home m ≡ Gone m) (sym k.0) (step.gone c (block_pivot g aggressive old c c pivot_home))
     | inr k ↦ old_gone_stays e e (thin.named v e k.1)
   ]
 
@@ -327,7 +327,7 @@ module _ (g : Graph) (laws : IsGraph g) (forest : IsForest g) (aggressive : Bool
     | inl p ↦ elim (border_from_old e w b) [
       | inl q ↦ clash (subst (λ m. block g aggressive old c m ≡ true)
           (front_single v w (block_row v p.1 (λ z. ne (z ∙ sym p.0))) (border_front w q.1)) p.1)
-          (border_gives g laws aggressive c old new sound step w q.1).1
+          (border_gives g aggressive old c w q.1).1
       | inr q ↦ q.0 p.0
     ]
     | inr p ↦ elim (border_from_old e w b) [

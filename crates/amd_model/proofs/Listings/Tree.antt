@@ -11,10 +11,10 @@ use Rattle.amd_model.proofs.Counting.Below.{term_le_sum, any_from, clash}
 use Rattle.amd_model.proofs.States.Words.{live_gives, live_from, stands_gives, stands_from, holds_gives}
 use Rattle.amd_model.specs.Sound.{IsSound}
 use Rattle.amd_model.proofs.States.Sound.{live_small, gone_small, front_live}
-use Rattle.amd_model.proofs.States.SoundStep.{step_sound, Fate, goes, moves, stays, fate, pivot_live, block_pivot, border_gives}
-use Rattle.amd_model.proofs.States.SoundStep.{absorbed_border, block_reaches}
+use Rattle.amd_model.proofs.States.SoundStep.{step_sound, Fate, goes, moves, stays, fate, pivot_live}
+use Rattle.amd_model.proofs.States.SoundStep.{block_reaches}
 use Rattle.amd_model.proofs.States.SoundStart.{is_last, is_empty, is_live, begins, no_edge}
-use Rattle.amd_model.proofs.States.Steps.{block_cases}
+use Rattle.amd_model.proofs.States.Steps.{block_cases, absorbed_border, block_pivot, border_gives}
 
 pub data Linked (s : State) (e u w : ℕ) : Type 0 where
   to_last : s.home w ≡ Last → Linked s e u w
@@ -83,7 +83,7 @@ module _ (g : Graph) (laws : IsGraph g) (aggressive : Bool) (c : ℕ) (old new :
   new_named v e h = elim (fate' v) [
     | goes b q ↦ (let k : c ≡ e = (let f : Gone c ≡ Gone e = sym q ∙ h in cc) in
         subst (λ m. new.home m ≡ Gone m) k
-        (step.gone c (block_pivot g laws aggressive c old new sound step c (pivot_live g laws aggressive c old new sound step))))
+        (step.gone c (block_pivot g aggressive old c c (pivot_live g laws aggressive c old new sound step))))
     | moves s x j p q r a o w ↦ absurd (cc)
     | stays ni nf q ↦ gone_stays e e (tree.named v e (sym q ∙ h))
   ]
@@ -91,7 +91,7 @@ module _ (g : Graph) (laws : IsGraph g) (aggressive : Bool) (c : ℕ) (old new :
   new_small : (e v : ℕ) → new.border e v ≡ true → v < g.size
   new_small e v b = elim (cases_eq e c) [
     | inl q ↦ (let s : border_of g aggressive old c v ≡ true = sym (step.made v) ∙ ap (λ m. new.border m v) (sym q) ∙ b in
-        let x = live_gives (old.home v) (front_live g laws old sound c v (border_gives g laws aggressive c old new sound step v s).0) in
+        let x = live_gives (old.home v) (front_live g laws old sound c v (border_gives g aggressive old c v s).0) in
         live_small g laws old sound v x.0 x.1)
     | inr ne ↦ tree.small e v (sym (step.border_stays e v ne) ∙ b)
   ]
@@ -110,7 +110,7 @@ module _ (g : Graph) (laws : IsGraph g) (aggressive : Bool) (c : ℕ) (old new :
         elim (fate' v) [
           | goes bl q ↦ inr (q ∙ ap Gone (sym k.0))
           | moves s x j p q r a o w ↦ inl (ap (λ m. new.border m v) k.0 ∙ step.made v ∙ s)
-          | stays ni nf q ↦ clash (absorbed_border g laws aggressive c old new sound step e v k.1 b' (tree.small e v b') ni) nf
+          | stays ni nf q ↦ clash (absorbed_border g laws aggressive old sound c e v k.1 b' (tree.small e v b') ni) nf
         ])
     | inr k ↦ elim (tree.up e f v k.1 (sym (step.border_stays e v k.0) ∙ b)) [
       | inl bf ↦ inl (step.border_stays f v (not_pivot f (tree.over e f k.1)) ∙ bf)
@@ -121,7 +121,7 @@ module _ (g : Graph) (laws : IsGraph g) (aggressive : Bool) (c : ℕ) (old new :
   new_over : (e f : ℕ) → new.parent e ≡ Some f → new.home f ≡ Gone f
   new_over e f h = elim (parent_from e f h) [
     | inl k ↦ subst (λ m. new.home m ≡ Gone m) (sym k.0)
-        (step.gone c (block_pivot g laws aggressive c old new sound step c (pivot_live g laws aggressive c old new sound step)))
+        (step.gone c (block_pivot g aggressive old c c (pivot_live g laws aggressive c old new sound step)))
     | inr k ↦ gone_stays f f (tree.over e f k.1)
   ]
 
@@ -154,7 +154,7 @@ module _ (g : Graph) (laws : IsGraph g) (aggressive : Bool) (c : ℕ) (old new :
           block g aggressive old c u ≡ true → Linked new c u w
       still Last k q nf x b = to_last (q ∙ k)
       still (Live i) k q nf x b =
-          clash (border_gives g laws aggressive c old new sound step w
+          clash (border_gives g aggressive old c w
           (block_reaches g laws aggressive c old new sound step u w i b (q ∙ k) (direct ed))).0 nf
       still (Gone f) k q nf x b = elim (tree.edges w u f k (laws.symmetric w u ∙ ed)) [
         | to_last z ↦ absurd (let y = x.1 in cc)

@@ -11,12 +11,13 @@ use Rattle.amd_model.specs.Sound.{IsSound}
 use Rattle.amd_model.specs.Quotient.{QuotientGraph, Fits, is_empty, pivot, next, after_rounds}
 use Rattle.amd_model.specs.QuotientLaws.{NextIsAStep, RoundsAreARun}
 use Rattle.amd_model.proofs.Counting.Below.{count_pos, count_mono, count_split}
+use Rattle.amd_model.proofs.States.Steps.{block_pivot}
 use Rattle.amd_model.proofs.States.Words.{live_gives, live_from, class_from, class_gives}
 use Rattle.amd_model.proofs.States.Sound.{live_small}
-use Rattle.amd_model.proofs.States.SoundStep.{step_sound, was_live, pivot_live, block_pivot}
+use Rattle.amd_model.proofs.States.SoundStep.{step_sound, was_live, pivot_live}
 use Rattle.amd_model.proofs.States.SoundStart.{start_sound, steps_sound}
 use Rattle.amd_model.proofs.Quotient.Lists.{empty_gives, empty_from}
-use Rattle.amd_model.proofs.Quotient.RoundIsStep.{next_law}
+use Rattle.amd_model.proofs.Quotient.Round.IsStep.{next_law}
 use Rattle.amd_model.proofs.Quotient.Start.{count_le}
 
 pub next_is_a_step : NextIsAStep
@@ -28,7 +29,7 @@ pub fewer_live : (g : Graph) → IsGraph g → (aggressive : Bool) (c : ℕ) (ol
     count_below g.size (live new) < count_below g.size (live old)
 fewer_live g laws aggressive c old new sound step =
     let hc : old.home c ≡ Live c = pivot_live g laws aggressive c old new sound step in
-    let gone : new.home c ≡ Gone c = step.gone c (block_pivot g laws aggressive c old new sound step c hc) in
+    let gone : new.home c ≡ Gone c = step.gone c (block_pivot g aggressive old c c hc) in
     let split = count_split g.size (live old) (λ v. v == c) in
     let one : 0 < count_below g.size (λ v. live old v && (v == c)) =
     count_pos g.size (λ v. live old v && (v == c)) c (live_small g laws old sound c c hc)

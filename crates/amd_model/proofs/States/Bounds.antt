@@ -7,13 +7,14 @@ use Rattle.amd_model.specs.State.{State, Live, live, eliminated, in_class, holds
 use Rattle.amd_model.specs.Step.{StepAt, absorbed, other, outer, block, border_of, beyond, outside, new_bound}
 use Rattle.amd_model.specs.Reach.{Reach}
 use Rattle.amd_model.proofs.Counting.Below.{any_from, count_mono, count_or, count_union, count_minus, clash}
+use Rattle.amd_model.proofs.States.Steps.{absorbed_border, border_gives, border_whole, other_from, outer_from}
 use Rattle.amd_model.proofs.States.Words.{class_gives, class_from, live_gives, live_from, holds_gives, neighbours_gives, by_element}
 use Rattle.amd_model.proofs.States.Words.{by_neighbour, front_gives, reach_split, reach_flip}
 use Rattle.amd_model.specs.Sound.{IsSound}
 use Rattle.amd_model.proofs.States.Sound.{live_small, holds_class, front_live, front_whole, front_reached, reached_front}
-use Rattle.amd_model.proofs.States.SoundStep.{step_sound, goes, moves, stays, fate, other_from, other_stands, other_border, absorbed_border}
-use Rattle.amd_model.proofs.States.SoundStep.{border_gives, border_whole, class_border, live_border, live_not_pivot, was_live}
-use Rattle.amd_model.proofs.States.SoundStep.{was_eliminated, block_reaches, outer_from}
+use Rattle.amd_model.proofs.States.SoundStep.{step_sound, goes, moves, stays, fate, other_stands, other_border}
+use Rattle.amd_model.proofs.States.SoundStep.{class_border, live_border, live_not_pivot, was_live}
+use Rattle.amd_model.proofs.States.SoundStep.{was_eliminated, block_reaches}
 
 -- each class has a bound of at least the size of its L
 abbrev pub Bounded : Graph → State → Type 0
@@ -52,7 +53,7 @@ module _ (g : Graph) (laws : IsGraph g) (aggressive : Bool) (c : ℕ) (old new :
       let out : in_class old i v ≡ false = elim (cases_Bool (in_class old i v)) [
         | inl k ↦ elim (fate g laws aggressive c old new sound step v) [
           | goes b q ↦ absurd (let z = lv.1 in cc)
-          | moves s x j p q r a o w ↦ clash (border_whole g laws aggressive c old new sound step i v i (class_gives i (old.home v) k) oi s)
+          | moves s x j p q r a o w ↦ clash (border_whole g laws aggressive old sound c i v i (class_gives i (old.home v) k) oi s)
               off
           | stays ni nf q ↦ clash (class_from i (new.home v) (q ∙ class_gives i (old.home v) k)) (front_gives g new i v f).0
         ]
@@ -68,8 +69,8 @@ module _ (g : Graph) (laws : IsGraph g) (aggressive : Bool) (c : ℕ) (old new :
       let lv = live_gives (new.home v) (front_live g laws new after i v f) in
       let ov = was_live g laws aggressive c old new sound step v lv.0 lv.1 in
       let out : in_class old i v ≡ false = elim (cases_Bool (in_class old i v)) [
-        | inl k ↦ clash (border_gives g laws aggressive c old new sound step v
-            (border_whole g laws aggressive c old new sound step i i v oi (class_gives i (old.home v) k) on)).0 far
+        | inl k ↦ clash (border_gives g aggressive old c v
+            (border_whole g laws aggressive old sound c i i v oi (class_gives i (old.home v) k) on)).0 far
         | inr k ↦ k
       ] in
       let r = front_reached g laws new after i i v hi f in
@@ -77,7 +78,7 @@ module _ (g : Graph) (laws : IsGraph g) (aggressive : Bool) (c : ℕ) (old new :
       elim (reach_split g (eliminated old) (block g aggressive old c) (eliminated new)
       (was_eliminated g laws aggressive c old new sound step) r) [
         | inl q ↦ q
-        | inr t ↦ clash (border_gives g laws aggressive c old new sound step v
+        | inr t ↦ clash (border_gives g aggressive old c v
             (block_reaches g laws aggressive c old new sound step t.leave v lv.0 t.leaves lv.1 t.on)).0 far
       ] in
       reached_front g laws old sound i i v oi (live_from ov.0 (old.home v) ov.1) out r'
@@ -140,8 +141,8 @@ module _ (g : Graph) (laws : IsGraph g) (aggressive : Bool) (c : ℕ) (old new :
         let apart = live_not_pivot g laws aggressive c old new sound step v lv.0 lv.1 in
         elim ((front_gives g old i v (far_before i v hi on oi p.0 away)).1) [
           | by_element e le h b ↦ (let st = (holds_gives g old e i h).standing in elim (cases_Bool (absorbed g aggressive old c e)) [
-            | inl a ↦ clash (absorbed_border g laws aggressive c old new sound step e v a b l apart) away
-            | inr a ↦ (let o = other_from g laws aggressive c old new sound step e st a in
+            | inl a ↦ clash (absorbed_border g laws aggressive old sound c e v a b l apart) away
+            | inr a ↦ (let o = other_from g aggressive old c e st a in
                 let h' = holds_class g laws new after e i i (other_stands g laws aggressive c old new sound step e o) hi
                 (other_border g laws aggressive c old new sound step e i o ∙
                 (holds_gives g old e i h).rows i (live_small g laws old sound i i oi) oi) in
@@ -154,7 +155,7 @@ module _ (g : Graph) (laws : IsGraph g) (aggressive : Bool) (c : ℕ) (old new :
                 | inl f ↦ clash (front_whole g laws old sound c d d v (neighbours_gives g old i d nb).second hd f) away
                 | inr f ↦ f
               ] in
-              let o = outer_from g laws aggressive c old new sound step i d nb fd
+              let o = outer_from g old c i d nb fd
               (λ q. clash (class_from c (old.home v) (hd ∙ ap Live q)) apart) in
               or_right (ue v) (ud v) (any_from g.size (λ d. outer g old c i d && in_class old d v) d ld
               (and_from (outer g old c i d) (in_class old d v) o (class_from d (old.home v) hd))))
@@ -176,7 +177,7 @@ module _ (g : Graph) (laws : IsGraph g) (aggressive : Bool) (c : ℕ) (old new :
           let oi : old.home i ≡ Live i = subst (λ m. old.home m ≡ Live m) e o in
           let k = new_bounded i hi oi on (b i oi) in
           let z = step.bounds i (class_from i (new.home i) hi) on in omega (arith, k, z))
-      | stays ni nf q ↦ clash (border_gives g laws aggressive c old new sound step i on).0 nf
+      | stays ni nf q ↦ clash (border_gives g aggressive old c i on).0 nf
     ]
     | inr off ↦ (
         let z = step.bound_stays i (class_from i (new.home i) hi) off in

@@ -14,12 +14,13 @@ use Rattle.amd_model.specs.Laws.{InEachState, BoundsMeetDegrees, front_size, hol
 use Rattle.amd_model.specs.Sound.{IsSound}
 use Rattle.amd_model.proofs.Counting.Below.{any_gives, any_from, count_mono, count_same, count_split, count_pos, clash}
 use Rattle.amd_model.proofs.Counting.Unions.{count_apart, count_all_apart, count_three}
+use Rattle.amd_model.proofs.States.Steps.{absorbed_border, border_gives, other_from}
 use Rattle.amd_model.proofs.States.Words.{class_gives, class_from, live_gives, live_from, gone_gives, holds_gives, neighbours_gives}
 use Rattle.amd_model.proofs.States.Words.{by_element, by_neighbour, front_gives, front_from, reach_more, reach_flip}
 use Rattle.amd_model.proofs.States.Sound.{live_small, holds_class, standing_small, neighbours_edge, front_live, front_whole, front_reached}
 use Rattle.amd_model.proofs.States.Sound.{reached_front}
-use Rattle.amd_model.proofs.States.SoundStep.{step_sound, goes, moves, stays, fate, other_from, other_border, other_not_pivot}
-use Rattle.amd_model.proofs.States.SoundStep.{absorbed_border, border_gives, class_border, live_border, live_not_pivot, was_eliminated}
+use Rattle.amd_model.proofs.States.SoundStep.{step_sound, goes, moves, stays, fate, other_border, other_not_pivot}
+use Rattle.amd_model.proofs.States.SoundStep.{class_border, live_border, live_not_pivot, was_eliminated}
 use Rattle.amd_model.proofs.States.SoundStep.{still_eliminated, block_reaches}
 use Rattle.amd_model.proofs.States.SoundStart.{none_stands, own, no_edge, is_last as starts_last, is_empty, is_live, begins, start_sound}
 use Rattle.amd_model.proofs.States.Bounds.{Bounded, kept_class, near_count, step_bounded}
@@ -51,9 +52,9 @@ module _ (g : Graph) (laws : IsGraph g) (aggressive : Bool) (c : ℕ) (old new :
       let k = holds_gives g old e i h in let oi = was_class g laws aggressive c old new sound step i hi in
       let li = live_small g laws old sound i i oi in
       (holds_new g laws aggressive c old new sound step e i hi).1 (inr (
-        other_from g laws aggressive c old new sound step e k.standing (elim (cases_Bool (absorbed g aggressive old c e)) [
+        other_from g aggressive old c e k.standing (elim (cases_Bool (absorbed g aggressive old c e)) [
           | inl a ↦ clash (live_border g laws aggressive c old new sound step i i hi
-              (absorbed_border g laws aggressive c old new sound step e i a (k.rows i li oi) li
+              (absorbed_border g laws aggressive old sound c e i a (k.rows i li oi) li
               (live_not_pivot g laws aggressive c old new sound step i i hi))) off
           | inr a ↦ a
         ]),
@@ -141,7 +142,7 @@ module _ (g : Graph) (laws : IsGraph g) (aggressive : Bool) (c : ℕ) (old new :
     others_front e v l a b =
         let p = also_held e a in let q = and_parts (old.border e v) (not (front g old c v)) b in
         let out : in_class new i v ≡ false = elim (cases_Bool (in_class new i v)) [
-          | inl k ↦ clash (border_gives g laws aggressive c old new sound step v
+          | inl k ↦ clash (border_gives g aggressive old c v
               (class_border g laws aggressive c old new sound step i v i hi (class_gives i (new.home v) k) on)).0
               (not-true (front g old c v) q.1)
           | inr k ↦ k
@@ -193,7 +194,7 @@ module _ (g : Graph) (laws : IsGraph g) (aggressive : Bool) (c : ℕ) (old new :
         let n = neighbours_gives g old i d o.next_to in
         let off : (border_of g aggressive old c i && border_of g aggressive old c d) ≡ false =
         elim (cases_Bool (border_of g aggressive old c i && border_of g aggressive old c d)) [
-          | inl b ↦ clash (border_gives g laws aggressive c old new sound step d
+          | inl b ↦ clash (border_gives g aggressive old c d
               (and_parts (border_of g aggressive old c i) (border_of g aggressive old c d) b).1).0 o.away
           | inr b ↦ b
         ] in
@@ -223,7 +224,7 @@ module _ (g : Graph) (laws : IsGraph g) (aggressive : Bool) (c : ℕ) (old new :
         (holds_class g laws old sound r.0 o.class v (holds_gives g old r.0 i h.2).standing o.home q.0)) in
         let all : count_below g.size near + count_below g.size (λ v. ue v || by_rows v) ≤ count_below g.size
         (λ v. near v || (ue v || by_rows v)) = count_apart g.size near (λ v. ue v || by_rows v) (λ v l a b.
-        let f = (border_gives g laws aggressive c old new sound step v
+        let f = (border_gives g aggressive old c v
         (and_parts (border_of g aggressive old c v) (not (in_class new i v)) a).0).0 in
         elim (or_cases (ue v) (by_rows v) b) [
           | inl x ↦ (let r = ue_gives v x in

@@ -6,11 +6,12 @@ use Rattle.amd_model.specs.Graph.{Graph, IsGraph}
 use Rattle.amd_model.specs.State.{State, Live, stands, holds, neighbours, front, is_class}
 use Rattle.amd_model.specs.Step.{StepAt, other, outer, mass, border_of}
 use Rattle.amd_model.proofs.Counting.Below.{none_any, clash}
+use Rattle.amd_model.proofs.States.Steps.{other_gives}
 use Rattle.amd_model.proofs.States.Words.{class_from, holds_gives, neighbours_gives, neighbours_from}
 use Rattle.amd_model.specs.Sound.{IsSound}
 use Rattle.amd_model.proofs.States.Sound.{live_small, holds_class, standing_small, neighbours_edge}
-use Rattle.amd_model.proofs.States.SoundStep.{step_sound, Fate, goes, moves, stays, fate, other_gives, other_stands, other_border}
-use Rattle.amd_model.proofs.States.SoundStep.{stands_new, pivot_stands, still_together, border_gives}
+use Rattle.amd_model.proofs.States.SoundStep.{step_sound, Fate, goes, moves, stays, fate, other_stands, other_border}
+use Rattle.amd_model.proofs.States.SoundStep.{stands_new, pivot_stands, still_together}
 
 -- an element holds a class if its representative is on the border
 pub holds_by_rep : (g : Graph) → IsGraph g → (s : State) → IsSound g s → (e i : ℕ) → s.home i ≡ Live i →
@@ -46,7 +47,7 @@ module _ (g : Graph) (laws : IsGraph g) (aggressive : Bool) (c : ℕ) (old new :
       | inr o ↦ inr (
         o.1,
         (holds_by_rep g laws old sound e i oi).1 (
-          (other_gives g laws aggressive c old new sound step e o.1).0,
+          (other_gives g aggressive old c e o.1).0,
           sym (other_border g laws aggressive c old new sound step e i o.1) ∙
               p.1,
         ),

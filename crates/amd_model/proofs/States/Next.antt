@@ -1,16 +1,14 @@
 -- A state after a step, made from a choice of representatives.
-use Rattle.std.proofs.Common.{ℕ, Bool, true, false, ◌≡◌, ◌≢◌, ◌≤◌, ◌&&◌, inl, inr, refl, sym, ◌∙◌, ap, cond, None, Some, eqb, not}
-use Rattle.std.proofs.lemmas.Bool.{cases_Bool, eq-eqb, ne_eqb, and_parts, or_cases, cond-true, cond-false, not-true, not_from_false}
-use Rattle.std.proofs.lemmas.Bool.{and_from, or_left, or_right}
-use Rattle.amd_model.specs.Below.{any_below}
-use Rattle.amd_model.proofs.Counting.Below.{any_from, clash}
+use Rattle.std.proofs.Common.{ℕ, Bool, true, false, ◌≡◌, ◌≢◌, ◌≤◌, ◌&&◌, inl, inr, refl, sym, ◌∙◌, ap, cond, None, Some, eqb}
+use Rattle.std.proofs.lemmas.Bool.{cases_Bool, eq-eqb, ne_eqb, and_parts, or_cases, cond-true, cond-false}
+use Rattle.amd_model.proofs.Counting.Below.{clash}
 use Rattle.amd_model.specs.Graph.{Graph, IsGraph}
 use Rattle.amd_model.specs.State.{State, Home, Last, Live, Gone, in_class, is_class, front, holds, stands, inside}
-use Rattle.amd_model.specs.Step.{StepAt, Alike, absorbed, mass, block, border_of, new_bound, outside}
+use Rattle.amd_model.specs.Step.{StepAt, Alike, absorbed, block, border_of, new_bound, outside}
 use Rattle.amd_model.proofs.States.Words.{class_gives, class_from, holds_gives, stands_gives}
 use Rattle.amd_model.specs.Sound.{IsSound}
-use Rattle.amd_model.proofs.States.Sound.{front_whole, live_small}
-use Rattle.amd_model.proofs.States.Steps.{mass_gives, block_cases}
+use Rattle.amd_model.proofs.States.Sound.{front_whole}
+use Rattle.amd_model.proofs.States.Steps.{mass_gives, block_cases, border_gives, border_whole}
 
 unfoldable pub class_in : Home → ℕ
 class_in Last = 0
@@ -44,25 +42,13 @@ module _ (g : Graph) (aggressive : Bool) (c : ℕ) (s : State) (pick : ℕ → �
 module _ (g : Graph) (laws : IsGraph g) (aggressive : Bool) (c : ℕ) (s : State) (sound : IsSound g s) (pick : ℕ → ℕ)
     (is : IsPick g aggressive s c pick)
     (class : is_class s c ≡ true) (least : (d : ℕ) → is_class s d ≡ true → s.bound c ≤ s.bound d) where
-  pub mass_front : (d : ℕ) → mass g aggressive s c d ≡ true → (s.home d ≡ Live d) × (front g s c d ≡ true)
-  mass_front d h = let m = mass_gives g aggressive s c d h in (m.class, m.in_front)
-
-  block_whole : (x v w : ℕ) → s.home v ≡ Live x → s.home w ≡ Live x → block g aggressive s c v ≡ true → block g aggressive s c w ≡ true
-  unfolding block
-  block_whole x v w hv hw b = elim (block_cases g aggressive s c v b) [
-    | inl h ↦ or_left (in_class s c w) (any_below g.size (λ d. mass g aggressive s c d && in_class s d w))
-        (class_from c (s.home w) (hw ∙ sym hv ∙ h))
-    | inr k ↦ or_right (in_class s c w) (any_below g.size (λ d. mass g aggressive s c d && in_class s d w))
-        (any_from g.size (λ d. mass g aggressive s c d && in_class s d w) k.0 (live_small g laws s sound k.0 k.0 (mass_front k.0 k.1).0)
-        (and_from (mass g aggressive s c k.0) (in_class s k.0 w) k.1 (class_from k.0 (s.home w) (hw ∙ sym hv ∙ k.2))))
-  ]
-
   kept_block : (v : ℕ) → in_class s c v ≡ false → front g s c v ≡ false → block g aggressive s c v ≡ false
   kept_block v out nf = elim (cases_Bool (block g aggressive s c v)) [
     | inr b ↦ b
     | inl b ↦ elim (block_cases g aggressive s c v b) [
       | inl h ↦ clash (class_from c (s.home v) h) out
-      | inr k ↦ (let m = mass_front k.0 k.1 in clash (front_whole g laws s sound c k.0 k.0 v m.0 k.2 m.1) nf)
+      | inr k ↦ (let m = mass_gives g aggressive s c k.0 k.1 in
+          clash (front_whole g laws s sound c k.0 k.0 v m.class k.2 m.in_front) nf)
     ]
   ]
 
@@ -75,14 +61,6 @@ module _ (g : Graph) (laws : IsGraph g) (aggressive : Bool) (c : ℕ) (s : State
       ] in
       let k = (stands_gives g s e st).element in let p = class_gives c (s.home c) class in let m : s.home e ≡ Live c = ap s.home q ∙ p in cc
 
-  pub off_block : (v : ℕ) → border_of g aggressive s c v ≡ true → block g aggressive s c v ≡ false
-  unfolding border_of
-  off_block v h = not-true (block g aggressive s c v) (and_parts (front g s c v) (not (block g aggressive s c v)) h).1
-
-  pub in_front : (v : ℕ) → border_of g aggressive s c v ≡ true → front g s c v ≡ true
-  unfolding border_of
-  in_front v h = (and_parts (front g s c v) (not (block g aggressive s c v)) h).0
-
   home_gone : (v : ℕ) → block g aggressive s c v ≡ true → (next_state g aggressive c s pick).home v ≡ Gone c
   unfolding next_home unbounded next_state
   home_gone v b = cond-true (block g aggressive s c v) (Gone c) _ b
@@ -90,7 +68,7 @@ module _ (g : Graph) (laws : IsGraph g) (aggressive : Bool) (c : ℕ) (s : State
   pub home_moved : (v x : ℕ) → border_of g aggressive s c v ≡ true → s.home v ≡ Live x →
       (next_state g aggressive c s pick).home v ≡ Live (pick x)
   unfolding next_home unbounded next_state class_in
-  home_moved v x b h = cond-false (block g aggressive s c v) (Gone c) _ (off_block v b) ∙
+  home_moved v x b h = cond-false (block g aggressive s c v) (Gone c) _ (border_gives g aggressive s c v b).1 ∙
       cond-true (border_of g aggressive s c v) _ (s.home v) b ∙ ap (λ k. Live (pick (class_in k))) h
 
   pub home_kept : (v : ℕ) → block g aggressive s c v ≡ false → border_of g aggressive s c v ≡ false →
@@ -99,20 +77,12 @@ module _ (g : Graph) (laws : IsGraph g) (aggressive : Bool) (c : ℕ) (s : State
   home_kept v b o = cond-false (block g aggressive s c v) (Gone c) _ b ∙ cond-false (border_of g aggressive s c v) _ (s.home v) o
 
   no_border : (v : ℕ) → front g s c v ≡ false → border_of g aggressive s c v ≡ false
-  no_border v nf = elim (cases_Bool (border_of g aggressive s c v)) [ inr b ↦ b | inl b ↦ clash (in_front v b) nf ]
-
-  pub border_rep : (v x : ℕ) → border_of g aggressive s c v ≡ true → s.home v ≡ Live x → border_of g aggressive s c x ≡ true
-  unfolding border_of
-  border_rep v x b h = and_from (front g s c x) (not (block g aggressive s c x))
-      (front_whole g laws s sound c x v x h (sound.named v x h) (in_front v b))
-      (not_from_false (block g aggressive s c x) (elim (cases_Bool (block g aggressive s c x)) [
-        | inr q ↦ q
-        | inl q ↦ clash (block_whole x x v (sound.named v x h) h q) (off_block v b)
-      ]))
+  no_border v nf = elim (cases_Bool (border_of g aggressive s c v)) [ inr b ↦ b | inl b ↦ clash (border_gives g aggressive s c v b).0 nf ]
 
   picked : (v x : ℕ) → border_of g aggressive s c v ≡ true → s.home v ≡ Live x →
       (next_state g aggressive c s pick).home (pick x) ≡ Live (pick x)
-  picked v x b h = let hx = sound.named v x h in let bx = border_rep v x b h in let hp = is.class x hx bx in
+  picked v x b h = let hx = sound.named v x h in
+      let bx = border_whole g laws aggressive s sound c x v x h hx b in let hp = is.class x hx bx in
       home_moved (pick x) (pick x) (is.in_border x hx bx) hp
       ∙ ap Live (sym (is.same x (pick x) hx hp bx (is.in_border x hx bx) (is.alike x hx bx)))
 
@@ -123,7 +93,8 @@ module _ (g : Graph) (laws : IsGraph g) (aggressive : Bool) (c : ℕ) (s : State
     least = least;
     gone = home_gone;
     kept = λ v out nf. home_kept v (kept_block v out nf) (no_border v nf);
-    moved = λ v x b k. let h = class_gives x (s.home v) k in let hx = sound.named v x h in let bx = border_rep v x b h in
+    moved = λ v x b k. let h = class_gives x (s.home v) k in let hx = sound.named v x h in
+        let bx = border_whole g laws aggressive s sound c x v x h hx b in
         (pick x, home_moved v x b h, picked v x b h, is.class x hx bx, is.in_border x hx bx, is.alike x hx bx);
     merged = λ x y kx ky bx by' a. let hx = class_gives x (s.home x) kx in let hy = class_gives y (s.home y) ky in
         home_moved x x bx hx ∙ ap Live (is.same x y hx hy bx by' a) ∙ sym (home_moved y y by' hy);

@@ -1,79 +1,25 @@
 -- A step leads from a sound state to a sound one.
-use Rattle.std.proofs.Common.{ℕ, Bool, true, false, ◌≡◌, ◌≢◌, ◌<◌, ◌≤◌, ◌&&◌, not, ◌==◌, ◌⊎◌, inl, inr, sym, ◌∙◌, ap, subst, is_none}
-use Rattle.std.proofs.lemmas.Bool.{cases_Bool, false≢true, and_parts, and_from, or_cases, or_left, or_right, cases_eq, not-true}
-use Rattle.std.proofs.lemmas.Bool.{not_from_false, ne_eqb}
-use Rattle.amd_model.specs.Below.{any_below}
+use Rattle.std.proofs.Common.{ℕ, Bool, true, false, ◌≡◌, ◌≢◌, ◌<◌, ◌≤◌, ◌⊎◌, inl, inr, sym, ◌∙◌, ap, subst, is_none}
+use Rattle.std.proofs.lemmas.Bool.{cases_Bool, false≢true, cases_eq}
 use Rattle.amd_model.specs.Graph.{Graph, IsGraph}
-use Rattle.amd_model.specs.State.{State, Last, Live, Gone, live, eliminated, in_class, stands, inside, holds, neighbours, front}
-use Rattle.amd_model.specs.Step.{StepAt, Alike, absorbed, other, outer, mass, block, border_of}
+use Rattle.amd_model.specs.State.{State, Last, Live, Gone, live, eliminated, in_class, stands, holds, neighbours, front}
+use Rattle.amd_model.specs.Step.{StepAt, Alike, absorbed, other, outer, block, border_of}
 use Rattle.amd_model.specs.Reach.{Reach}
 use Rattle.amd_model.proofs.Counting.Below.{any_gives, any_from, clash}
-use Rattle.amd_model.proofs.States.Words.{class_gives, class_from, live_gives, live_from, gone_gives, gone_from, inside_gives, stands_gives}
+use Rattle.amd_model.proofs.States.Words.{class_gives, class_from, live_gives, live_from, gone_gives, gone_from, stands_gives}
 use Rattle.amd_model.proofs.States.Words.{stands_from, holds_gives, neighbours_gives, neighbours_from, by_element, by_neighbour}
-use Rattle.amd_model.proofs.States.Words.{front_gives, front_from, reach_more, reach_join, reach_flip, reach_split}
+use Rattle.amd_model.proofs.States.Words.{front_gives, reach_more, reach_join, reach_flip, reach_split}
 use Rattle.amd_model.specs.Sound.{Together}
 use Rattle.amd_model.specs.Sound.{IsSound}
 use Rattle.amd_model.proofs.States.Sound.{live_small, holds_class, standing_small, neighbours_edge, front_live, front_whole, front_reached}
 use Rattle.amd_model.proofs.States.Sound.{reached_front}
-use Rattle.amd_model.proofs.States.Steps.{outer_parts, mass_gives, block_cases}
+use Rattle.amd_model.proofs.States.Steps.{outer_parts, outer_from, mass_gives, block_cases, block_pivot, other_gives, other_from}
+use Rattle.amd_model.proofs.States.Steps.{other_holds, border_gives, border_from, absorbed_border, block_mass, border_whole}
 
 module _ (g : Graph) (laws : IsGraph g) (aggressive : Bool) (c : ℕ) (old new : State) (sound : IsSound g old)
     (step : StepAt g aggressive c old new) where
   pub pivot_live : old.home c ≡ Live c
   pivot_live = class_gives c (old.home c) step.class
-
-  -- the parts of a step
-  pub other_gives : (e : ℕ) → other g aggressive old c e ≡ true → (stands g old e ≡ true) × (absorbed g aggressive old c e ≡ false)
-  unfolding other
-  other_gives e h = let a = and_parts (stands g old e) (not (absorbed g aggressive old c e)) h in
-      (a.0, not-true (absorbed g aggressive old c e) a.1)
-
-  pub other_from : (e : ℕ) → stands g old e ≡ true → absorbed g aggressive old c e ≡ false → other g aggressive old c e ≡ true
-  unfolding other
-  other_from e h k = and_from (stands g old e) (not (absorbed g aggressive old c e)) h (not_from_false (absorbed g aggressive old c e) k)
-
-  other_holds : (e : ℕ) → other g aggressive old c e ≡ true → holds g old e c ≡ true → ⊥
-  unfolding absorbed
-  other_holds e o h = clash (or_left (holds g old e c) (aggressive && stands g old e && inside g (old.border e) (front g old c)) h)
-      (other_gives e o).1
-
-  -- the border of an absorbed element lies in L and c
-  pub absorbed_border : (e v : ℕ) → absorbed g aggressive old c e ≡ true → old.border e v ≡ true → v < g.size → in_class old c v ≡ false →
-      front g old c v ≡ true
-  unfolding absorbed
-  absorbed_border e v a b l out =
-      elim (or_cases (holds g old e c) (aggressive && stands g old e && inside g (old.border e) (front g old c)) a) [
-        | inl h ↦ front_from g old c v out (by_element e (standing_small g laws old sound e (holds_gives g old e c h).standing) h b)
-        | inr h ↦ inside_gives g (old.border e) (front g old c) (and_parts (aggressive && stands g old e)
-            (inside g (old.border e) (front g old c)) h).1 v l b
-      ]
-
-  pub outer_from : (x z : ℕ) → neighbours g old x z ≡ true → front g old c z ≡ false → z ≢ c → outer g old c x z ≡ true
-  unfolding outer
-  outer_from x z n f ne = and_from (neighbours g old x z && not (front g old c z)) (not (z == c))
-      (and_from (neighbours g old x z) (not (front g old c z)) n (not_from_false (front g old c z) f))
-      (not_from_false (z == c) (ne_eqb z c ne))
-
-  pub block_pivot : (v : ℕ) → old.home v ≡ Live c → block g aggressive old c v ≡ true
-  unfolding block
-  block_pivot v h = or_left (in_class old c v) (any_below g.size (λ d. mass g aggressive old c d && in_class old d v))
-      (class_from c (old.home v) h)
-
-  block_mass : (v d : ℕ) → mass g aggressive old c d ≡ true → old.home v ≡ Live d → block g aggressive old c v ≡ true
-  unfolding block
-  block_mass v d m h = or_right (in_class old c v) (any_below g.size (λ d. mass g aggressive old c d && in_class old d v))
-      (any_from g.size (λ d. mass g aggressive old c d && in_class old d v) d
-      (live_small g laws old sound d d (mass_gives g aggressive old c d m).class)
-      (and_from (mass g aggressive old c d) (in_class old d v) m (class_from d (old.home v) h)))
-
-  pub border_gives : (v : ℕ) → border_of g aggressive old c v ≡ true → (front g old c v ≡ true) × (block g aggressive old c v ≡ false)
-  unfolding border_of
-  border_gives v h = let a = and_parts (front g old c v) (not (block g aggressive old c v)) h in
-      (a.0, not-true (block g aggressive old c v) a.1)
-
-  pub border_from : (v : ℕ) → front g old c v ≡ true → block g aggressive old c v ≡ false → border_of g aggressive old c v ≡ true
-  unfolding border_of
-  border_from v f b = and_from (front g old c v) (not (block g aggressive old c v)) f (not_from_false (block g aggressive old c v) b)
 
   -- where a row is after the step
   pub data Fate (v : ℕ) : Type 0 where
@@ -86,10 +32,10 @@ module _ (g : Graph) (laws : IsGraph g) (aggressive : Bool) (c : ℕ) (old new :
   fate v = elim (cases_Bool (block g aggressive old c v)) [
     | inl b ↦ goes b (step.gone v b)
     | inr nb ↦ elim (cases_Bool (front g old c v)) [
-      | inl f ↦ (let s = border_from v f nb in let x = live_gives (old.home v) (front_live g laws old sound c v f) in
+      | inl f ↦ (let s = border_from g aggressive old c v f nb in let x = live_gives (old.home v) (front_live g laws old sound c v f) in
           let m = step.moved v x.0 s (class_from x.0 (old.home v) x.1) in moves s x.0 m.0 x.1 m.1 m.4 m.5 m.3 m.2)
       | inr nf ↦ elim (cases_Bool (in_class old c v)) [
-        | inl i ↦ clash (block_pivot v (class_gives c (old.home v) i)) nb
+        | inl i ↦ clash (block_pivot g aggressive old c v (class_gives c (old.home v) i)) nb
         | inr ni ↦ stays ni nf (step.kept v ni nf)
       ]
     ]
@@ -108,7 +54,7 @@ module _ (g : Graph) (laws : IsGraph g) (aggressive : Bool) (c : ℕ) (old new :
 
   pub live_not_pivot : (v i : ℕ) → new.home v ≡ Live i → in_class old c v ≡ false
   live_not_pivot v i h = elim (cases_Bool (in_class old c v)) [
-    | inl k ↦ absurd (live_not_block v i h (block_pivot v (class_gives c (old.home v) k)))
+    | inl k ↦ absurd (live_not_block v i h (block_pivot g aggressive old c v (class_gives c (old.home v) k)))
     | inr k ↦ k
   ]
 
@@ -120,18 +66,6 @@ module _ (g : Graph) (laws : IsGraph g) (aggressive : Bool) (c : ℕ) (old new :
     | stays ni nf k ↦ (i, sym k ∙ h)
   ]
 
-  -- the rows of an old class share their fate
-  pub border_whole : (x v w : ℕ) → old.home v ≡ Live x → old.home w ≡ Live x → border_of g aggressive old c v ≡ true →
-      border_of g aggressive old c w ≡ true
-  border_whole x v w hv hw s = let p = border_gives v s in
-      border_from w (front_whole g laws old sound c x v w hv hw p.0) (elim (cases_Bool (block g aggressive old c w)) [
-        | inl b ↦ clash (elim (block_cases g aggressive old c w b) [
-          | inl k ↦ block_pivot v (hv ∙ sym hw ∙ k)
-          | inr k ↦ block_mass v k.0 k.1 (hv ∙ sym hw ∙ k.2)
-        ]) p.1
-        | inr b ↦ b
-      ])
-
   -- the rows of a new class are all on the border, or none is
   pub class_border : (v w k : ℕ) → new.home v ≡ Live k → new.home w ≡ Live k → border_of g aggressive old c v ≡ true →
       border_of g aggressive old c w ≡ true
@@ -140,8 +74,9 @@ module _ (g : Graph) (laws : IsGraph g) (aggressive : Bool) (c : ℕ) (old new :
     | moves t x j p q r a o n ↦ t
     | stays ni nf q ↦ elim (fate v) [
       | goes b q' ↦ absurd (cc)
-      | moves t x j p q' r a o n ↦ (let e : old.home w ≡ Live j = sym q ∙ hw ∙ sym hv ∙ q' in border_whole j j w o e r)
-      | stays ni' nf' q' ↦ clash (border_gives v s).0 nf'
+      | moves t x j p q' r a o n ↦ (let e : old.home w ≡ Live j = sym q ∙ hw ∙ sym hv ∙ q' in
+          border_whole g laws aggressive old sound c j j w o e r)
+      | stays ni' nf' q' ↦ clash (border_gives g aggressive old c v s).0 nf'
     ]
   ]
 
@@ -161,7 +96,7 @@ module _ (g : Graph) (laws : IsGraph g) (aggressive : Bool) (c : ℕ) (old new :
             | inl a ↦ absurd (false≢true (ap is_none (sym (step.taken e a)) ∙ k.root))
             | inr a ↦ a
           ] in
-          other_from e (stands_from g old e (record {
+          other_from g aggressive old c e (stands_from g old e (record {
             element = home;
             root = ap is_none (sym (step.parent_stays e ne free)) ∙ k.root;
             some = (let r = any_gives g.size (new.border e) k.some in
@@ -171,12 +106,12 @@ module _ (g : Graph) (laws : IsGraph g) (aggressive : Bool) (c : ℕ) (old new :
   ]
 
   pub other_not_pivot : (e : ℕ) → other g aggressive old c e ≡ true → e ≢ c
-  other_not_pivot e o q = let k = (stands_gives g old e (other_gives e o).0).element in let p = pivot_live in
+  other_not_pivot e o q = let k = (stands_gives g old e (other_gives g aggressive old c e o).0).element in let p = pivot_live in
       let m : old.home e ≡ Live c = ap old.home q ∙ p in cc
 
   pub other_stands : (e : ℕ) → other g aggressive old c e ≡ true → stands g new e ≡ true
   other_stands e o =
-      let a = other_gives e o in let k = stands_gives g old e a.0 in let ne = other_not_pivot e o in
+      let a = other_gives g aggressive old c e o in let k = stands_gives g old e a.0 in let ne = other_not_pivot e o in
       let home : new.home e ≡ Gone e = elim (fate e) [
         | goes b q ↦ absurd (elim (block_cases g aggressive old c e b) [
           | inl h ↦ (let f = k.element in cc)
@@ -197,7 +132,7 @@ module _ (g : Graph) (laws : IsGraph g) (aggressive : Bool) (c : ℕ) (old new :
 
   pub pivot_stands : (v : ℕ) → v < g.size → border_of g aggressive old c v ≡ true → stands g new c ≡ true
   pivot_stands v l s = stands_from g new c (record {
-    element = step.gone c (block_pivot c pivot_live);
+    element = step.gone c (block_pivot g aggressive old c c pivot_live);
     root = ap is_none step.root;
     some = any_from g.size (new.border c) v l (step.made v ∙ s);
   })
@@ -207,10 +142,10 @@ module _ (g : Graph) (laws : IsGraph g) (aggressive : Bool) (c : ℕ) (old new :
   still_together v w i j hv hw t = elim (cases_Bool (absorbed g aggressive old c t.element)) [
     | inl a ↦ (let x = was_live v i hv in let y = was_live w j hw in
         let lv = live_small g laws old sound v x.0 x.1 in let lw = live_small g laws old sound w y.0 y.1 in
-        let sv = live_border v i hv (absorbed_border t.element v a t.first lv (live_not_pivot v i hv)) in
-        let sw = live_border w j hw (absorbed_border t.element w a t.second lw (live_not_pivot w j hw)) in
+        let sv = live_border v i hv (absorbed_border g laws aggressive old sound c t.element v a t.first lv (live_not_pivot v i hv)) in
+        let sw = live_border w j hw (absorbed_border g laws aggressive old sound c t.element w a t.second lw (live_not_pivot w j hw)) in
         record { element = c; standing = pivot_stands v lv sv; first = step.made v ∙ sv; second = step.made w ∙ sw })
-    | inr a ↦ (let o = other_from t.element t.standing a in
+    | inr a ↦ (let o = other_from g aggressive old c t.element t.standing a in
         record {
           element = t.element;
           standing = other_stands t.element o;
@@ -243,17 +178,18 @@ module _ (g : Graph) (laws : IsGraph g) (aggressive : Bool) (c : ℕ) (old new :
         | inl hp ↦ reached_front g laws old sound c p w hp (live_from y.0 (old.home w) y.1) (live_not_pivot w i hw) r
         | inr k ↦ (let d : ℕ = k.0 in let m = mass_gives g aggressive old c d k.1 in
             let apart : in_class old d w ≡ false = elim (cases_Bool (in_class old d w)) [
-              | inl q ↦ absurd (live_not_block w i hw (block_mass w d k.1 (class_gives d (old.home w) q)))
+              | inl q ↦ absurd (live_not_block w i hw (block_mass g laws aggressive old sound c w d k.1 (class_gives d (old.home w) q)))
               | inr q ↦ q
             ] in
             elim ((front_gives g old d w (reached_front g laws old sound d p w k.2 (live_from y.0 (old.home w) y.1) apart r)).1) [
               | by_element e l h bw ↦ elim (cases_Bool (absorbed g aggressive old c e)) [
-                | inl a ↦ absorbed_border e w a bw lw (live_not_pivot w i hw)
-                | inr a ↦ absurd (m.no_other e l (other_from e (holds_gives g old e d h).standing a) h)
+                | inl a ↦ absorbed_border g laws aggressive old sound c e w a bw lw (live_not_pivot w i hw)
+                | inr a ↦ absurd (m.no_other e l (other_from g aggressive old c e (holds_gives g old e d h).standing a) h)
               ]
               | by_neighbour z l n hz ↦ elim (cases_Bool (front g old c z)) [
                 | inl f ↦ front_whole g laws old sound c z z w (neighbours_gives g old d z n).second hz f
-                | inr f ↦ clash (outer_from d z n f (λ q. live_not_block w i hw (block_pivot w (hz ∙ ap Live q)))) (m.no_outer z l)
+                | inr f ↦ clash (outer_from g old c d z n f (λ q. live_not_block w i hw (block_pivot g aggressive old c w (hz ∙ ap Live q))))
+                    (m.no_outer z l)
               ]
             ])
       ])
@@ -272,10 +208,10 @@ module _ (g : Graph) (laws : IsGraph g) (aggressive : Bool) (c : ℕ) (old new :
     | moves s x j p q r z t w ↦ (let e : j ≡ k = (let f : Live j ≡ Live k = sym q ∙ h in cc) in subst (λ m. new.home m ≡ Live m) e w)
     | stays ni nf q ↦ (let o : old.home v ≡ Live k = sym q ∙ h in let n = sound.named v k o in elim (fate k) [
       | goes b q' ↦ absurd (elim (block_cases g aggressive old c k b) [
-        | inl y ↦ live_not_block v k h (block_pivot v (o ∙ sym n ∙ y))
-        | inr y ↦ live_not_block v k h (block_mass v y.0 y.1 (o ∙ sym n ∙ y.2))
+        | inl y ↦ live_not_block v k h (block_pivot g aggressive old c v (o ∙ sym n ∙ y))
+        | inr y ↦ live_not_block v k h (block_mass g laws aggressive old sound c v y.0 y.1 (o ∙ sym n ∙ y.2))
       ])
-      | moves s x j p q' r z t w ↦ clash (border_gives v (border_whole k k v n o s)).0 nf
+      | moves s x j p q' r z t w ↦ clash (border_gives g aggressive old c v (border_whole g laws aggressive old sound c k k v n o s)).0 nf
       | stays ni' nf' q' ↦ q' ∙ n
     ])
   ]
@@ -283,14 +219,14 @@ module _ (g : Graph) (laws : IsGraph g) (aggressive : Bool) (c : ℕ) (old new :
   new_borders_live : (e v : ℕ) → stands g new e ≡ true → new.border e v ≡ true → live new v ≡ true
   new_borders_live e v st b = elim (stands_new e st) [
     | inl q ↦ (let s : border_of g aggressive old c v ≡ true = sym (step.made v) ∙ ap (λ m. new.border m v) (sym q) ∙ b in elim (fate v) [
-      | goes b' h ↦ clash b' (border_gives v s).1
+      | goes b' h ↦ clash b' (border_gives g aggressive old c v s).1
       | moves t x j p h r z o w ↦ live_from j (new.home v) h
-      | stays ni nf h ↦ clash (border_gives v s).0 nf
+      | stays ni nf h ↦ clash (border_gives g aggressive old c v s).0 nf
     ])
-    | inr o ↦ (let ob : old.border e v ≡ true = sym (other_border e v o.1) ∙ b in let st' = (other_gives e o.1).0 in
+    | inr o ↦ (let ob : old.border e v ≡ true = sym (other_border e v o.1) ∙ b in let st' = (other_gives g aggressive old c e o.1).0 in
         let x = live_gives (old.home v) (sound.borders_live e v st' ob) in elim (fate v) [
           | goes b' h ↦ absurd (elim (block_cases g aggressive old c v b') [
-            | inl hv ↦ other_holds e o.1 (holds_class g laws old sound e c v st' hv ob)
+            | inl hv ↦ other_holds g aggressive old c e o.1 (holds_class g laws old sound e c v st' hv ob)
             | inr k ↦ (mass_gives g aggressive old c k.0 k.1).no_other e (standing_small g laws old sound e st') o.1
                 (holds_class g laws old sound e k.0 v st' k.2 ob)
           ])
@@ -302,24 +238,25 @@ module _ (g : Graph) (laws : IsGraph g) (aggressive : Bool) (c : ℕ) (old new :
   -- an other element that has a row of a new class on its border has them all
   other_whole : (e k v w : ℕ) → other g aggressive old c e ≡ true → new.home v ≡ Live k → new.home w ≡ Live k → old.border e v ≡ true →
       old.border e w ≡ true
-  other_whole e k v w o hv hw b = let st = (other_gives e o).0 in let le = standing_small g laws old sound e st in elim (fate v) [
-    | goes b' h ↦ absurd (cc)
-    | moves s x j p h r a u m ↦ elim (fate w) [
-      | goes b' h' ↦ absurd (cc)
-      | moves s' x' j' p' h' r' a' u' m' ↦ (
-          let q : j ≡ j' = (let f : Live j ≡ Live j' = sym h ∙ hv ∙ sym hw ∙ h' in cc) in
-          let one : holds g old e x ≡ true = holds_class g laws old sound e x v st p b in
-          let two : holds g old e j ≡ true = sym (a.same_elements e le o) ∙ one in
-          let three : holds g old e x' ≡ true = a'.same_elements e le o ∙ ap (holds g old e) (sym q) ∙ two in
-          (holds_gives g old e x' three).rows w (live_small g laws old sound w x' p') p')
-      | stays ni nf h' ↦ clash (border_gives w (class_border v w k hv hw s)).0 nf
-    ]
-    | stays ni nf h ↦ elim (fate w) [
-      | goes b' h' ↦ absurd (cc)
-      | moves s' x' j' p' h' r' a' u' m' ↦ clash (border_gives v (class_border w v k hw hv s')).0 nf
-      | stays ni' nf' h' ↦ sound.whole e k v w st (sym h ∙ hv) (sym h' ∙ hw) b
-    ]
-  ]
+  other_whole e k v w o hv hw b = let st = (other_gives g aggressive old c e o).0 in let le = standing_small g laws old sound e st in
+      elim (fate v) [
+        | goes b' h ↦ absurd (cc)
+        | moves s x j p h r a u m ↦ elim (fate w) [
+          | goes b' h' ↦ absurd (cc)
+          | moves s' x' j' p' h' r' a' u' m' ↦ (
+              let q : j ≡ j' = (let f : Live j ≡ Live j' = sym h ∙ hv ∙ sym hw ∙ h' in cc) in
+              let one : holds g old e x ≡ true = holds_class g laws old sound e x v st p b in
+              let two : holds g old e j ≡ true = sym (a.same_elements e le o) ∙ one in
+              let three : holds g old e x' ≡ true = a'.same_elements e le o ∙ ap (holds g old e) (sym q) ∙ two in
+              (holds_gives g old e x' three).rows w (live_small g laws old sound w x' p') p')
+          | stays ni nf h' ↦ clash (border_gives g aggressive old c w (class_border v w k hv hw s)).0 nf
+        ]
+        | stays ni nf h ↦ elim (fate w) [
+          | goes b' h' ↦ absurd (cc)
+          | moves s' x' j' p' h' r' a' u' m' ↦ clash (border_gives g aggressive old c v (class_border w v k hw hv s')).0 nf
+          | stays ni' nf' h' ↦ sound.whole e k v w st (sym h ∙ hv) (sym h' ∙ hw) b
+        ]
+      ]
 
   new_whole : (e k v w : ℕ) → stands g new e ≡ true → new.home v ≡ Live k → new.home w ≡ Live k → new.border e v ≡ true →
       new.border e w ≡ true
@@ -341,12 +278,13 @@ module _ (g : Graph) (laws : IsGraph g) (aggressive : Bool) (c : ℕ) (old new :
             let hv' : old.home v ≡ Live k = sym h ∙ hv in
             let hx' : old.home x ≡ Live k = elim (fate x) [
               | goes b' h' ↦ absurd (cc)
-              | moves s' x' j' p' h' r' a' u' m' ↦ clash (border_gives v (class_border x v k hx hv s')).0 nf
+              | moves s' x' j' p' h' r' a' u' m' ↦ clash (border_gives g aggressive old c v (class_border x v k hx hv s')).0 nf
               | stays ni' nf' h' ↦ sym h' ∙ hx
             ] in
             let differ : k ≢ ow.0 = λ q. elim (fate w) [
               | goes b' h' ↦ absurd (cc)
-              | moves s' x' j' p' h' r' a' u' m' ↦ clash (border_gives v (border_whole k w v (ow.1 ∙ ap Live (sym q)) hv' s')).0 nf
+              | moves s' x' j' p' h' r' a' u' m' ↦ clash (border_gives g aggressive old c v
+                  (border_whole g laws aggressive old sound c k w v (ow.1 ∙ ap Live (sym q)) hv' s')).0 nf
               | stays ni' nf' h' ↦ ne (let f : Live d ≡ Live ow.0 = sym hw ∙ h' ∙ ow.1 in let f' : d ≡ ow.0 = cc in q ∙ sym f')
             ] in
             sound.uniform k ow.0 v x w hv' hx' ow.1 differ old_apart edge)
@@ -356,11 +294,11 @@ module _ (g : Graph) (laws : IsGraph g) (aggressive : Bool) (c : ℕ) (old new :
             let sx = class_border v x k hv hx s in
             elim (fate x) [
               | goes b' h' ↦ absurd (cc)
-              | stays ni' nf' h' ↦ clash (border_gives x sx).0 nf'
+              | stays ni' nf' h' ↦ clash (border_gives g aggressive old c x sx).0 nf'
               | moves s' y' j' p' h' r' a' u' m' ↦ (
                   let q : j ≡ j' = (let f : Live j ≡ Live j' = sym h ∙ hv ∙ sym hx ∙ h' in cc) in
                   let z : ℕ = ow.0 in let hz = sound.named w z ow.1 in let lz = live_small g laws old sound z z hz in
-                  let differ : y ≢ z = λ e. off (border_whole y v w p (ow.1 ∙ ap Live (sym e)) s) in
+                  let differ : y ≢ z = λ e. off (border_whole g laws aggressive old sound c y v w p (ow.1 ∙ ap Live (sym e)) s) in
                   let n : neighbours g old y z ≡ true = neighbours_from g old y z (record {
                     first = sound.named v y p;
                     second = hz;
@@ -380,7 +318,8 @@ module _ (g : Graph) (laws : IsGraph g) (aggressive : Bool) (c : ℕ) (old new :
                     | inl f ↦ absurd (off (live_border w d hw (front_whole g laws old sound c z z w hz ow.1 f)))
                     | inr f ↦ f
                   ] in
-                  let out : outer g old c y z ≡ true = outer_from y z n far (λ e. live_not_block w d hw (block_pivot w (ow.1 ∙ ap Live e)))
+                  let out : outer g old c y z ≡ true = outer_from g old c y z n far
+                  (λ e. live_not_block w d hw (block_pivot g aggressive old c w (ow.1 ∙ ap Live e)))
                   in
                   let out' : outer g old c y' z ≡ true = a'.same_neighbours z lz ∙ ap (λ i. outer g old c i z) (sym q) ∙
                   sym (a.same_neighbours z lz) ∙ out in
@@ -394,13 +333,13 @@ module _ (g : Graph) (laws : IsGraph g) (aggressive : Bool) (c : ℕ) (old new :
         let sv : border_of g aggressive old c v ≡ true = sym (step.made v) ∙ ap (λ m. new.border m v) (sym q) ∙ bv in
         let sw : border_of g aggressive old c w ≡ true = sym (step.made w) ∙ ap (λ m. new.border m w) (sym q) ∙ bw in
         let to : Reach g (eliminated new) c v = reach_more g (eliminated old) (eliminated new) still_eliminated
-        (front_reached g laws old sound c c v pivot_live (border_gives v sv).0) in
+        (front_reached g laws old sound c c v pivot_live (border_gives g aggressive old c v sv).0) in
         let on : Reach g (eliminated new) c w = reach_more g (eliminated old) (eliminated new) still_eliminated
-        (front_reached g laws old sound c c w pivot_live (border_gives w sw).0) in
+        (front_reached g laws old sound c c w pivot_live (border_gives g aggressive old c w sw).0) in
         reach_join g (eliminated new) (reach_flip g laws (eliminated new) to)
-        (gone_from c (new.home c) (step.gone c (block_pivot c pivot_live))) on)
+        (gone_from c (new.home c) (step.gone c (block_pivot g aggressive old c c pivot_live))) on)
     | inr o ↦ reach_more g (eliminated old) (eliminated new) still_eliminated
-        (sound.met e v w (other_gives e o.1).0 (sym (other_border e v o.1) ∙ bv) (sym (other_border e w o.1) ∙ bw) ne)
+        (sound.met e v w (other_gives g aggressive old c e o.1).0 (sym (other_border e v o.1) ∙ bv) (sym (other_border e w o.1) ∙ bw) ne)
   ]
 
   new_only : (v w : ℕ) → live new v ≡ true → live new w ≡ true → v ≢ w → Reach g (eliminated new) v w →

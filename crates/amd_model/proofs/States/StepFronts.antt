@@ -1,28 +1,24 @@
 -- What a step does to blocks, borders, parents and figures, and how many rows it leaves.
-use Rattle.std.proofs.Common.{ℕ, zero, suc, Bool, true, false, None, ◌≡◌, ◌≢◌, ◌<◌, ◌≤◌, ◌+◌, ◌-◌, ◌&&◌, not, cond, inl, inr, refl, sym}
+use Rattle.std.proofs.Common.{ℕ, zero, suc, Bool, true, false, None, ◌≡◌, ◌≢◌, ◌<◌, ◌+◌, ◌-◌, ◌&&◌, not, cond, inl, inr, refl, sym}
 use Rattle.std.proofs.Common.{◌∙◌, ap, subst, arith}
-use Rattle.std.specs.Prelude.{nat_lt, max, sum_by}
+use Rattle.std.specs.Prelude.{nat_lt, max}
 use Rattle.std.specs.Cmp.{both_ways}
 use Rattle.std.proofs.lemmas.Bool.{cases_Bool, cases_eq, and_parts, and_from, or_cases, not-true, not_from_false, cond-true, cond-false}
 use Rattle.std.proofs.lemmas.Bool.{lt-ltb}
 use Rattle.amd_model.specs.Below.{count_below}
 use Rattle.amd_model.specs.Graph.{Graph, IsGraph, degree}
-use Rattle.amd_model.specs.State.{State, Live, Gone, live, in_class, is_class, in_block, is_element, stands, inside, holds, front}
+use Rattle.amd_model.specs.State.{State, Live, Gone, live, in_class, in_block, is_element, stands, inside, holds, front}
 use Rattle.amd_model.specs.Step.{StepAt, absorbed, block, border_of}
 use Rattle.amd_model.specs.Figures.{front_sum, is_made, figure, max_below, greatest_front}
 use Rattle.amd_model.specs.Listing.{weight}
 use Rattle.amd_model.specs.Sound.{IsSound}
-use Rattle.amd_model.specs.Quotient.{QuotientGraph, Fits, has, gathered, rest, made, new_size, left, round}
-use Rattle.amd_model.proofs.Counting.Below.{clash, sum_at, count_same, count_split, count_minus, count_mono, count_most, count_pos}
+use Rattle.amd_model.proofs.Counting.Below.{clash, sum_at, count_same, count_split, count_minus, count_pos}
 use Rattle.amd_model.proofs.States.Words.{class_gives, class_from, live_gives, live_from, block_gives, block_from, stands_gives}
 use Rattle.amd_model.proofs.States.Words.{holds_gives, front_gives}
-use Rattle.amd_model.proofs.States.Steps.{mass_gives, block_cases}
-use Rattle.amd_model.proofs.States.Sound.{live_small, front_live, front_whole}
-use Rattle.amd_model.proofs.States.SoundStep.{Fate, goes, moves, stays, fate, pivot_live, block_pivot, border_gives, was_live}
-use Rattle.amd_model.proofs.States.SoundStep.{live_not_block, class_border, step_sound}
-use Rattle.amd_model.proofs.Quotient.Sums.{named, named_gives, named_from, class_sum}
-use Rattle.amd_model.proofs.Quotient.RoundIsStep.{L, L_once, front_class, row_front, rest_sum, size_is, left_is, made_class, after, is_step}
-use Rattle.amd_model.proofs.Quotient.RoundIsStep.{now, now_fits}
+use Rattle.amd_model.proofs.States.Steps.{mass_gives, block_cases, block_pivot, border_from, border_gives}
+use Rattle.amd_model.proofs.States.Sound.{live_small, front_whole}
+use Rattle.amd_model.proofs.States.SoundStep.{Fate, goes, moves, stays, fate, pivot_live, was_live}
+use Rattle.amd_model.proofs.States.SoundStep.{live_not_block}
 
 -- the greatest of numbers that are the same
 pub max_same : (n : ℕ) (p q : ℕ → Bool) (f h : ℕ → ℕ) (d : ℕ) → ((k : ℕ) → k < n → cond (p k) (f k) 0 ≡ cond (q k) (h k) 0) →
@@ -57,7 +53,7 @@ module _ (g : Graph) (laws : IsGraph g) (aggressive : Bool) (c : ℕ) (old new :
   size_c = live_small g laws old sound c c home_c
 
   block_c : block g aggressive old c c ≡ true
-  block_c = block_pivot g laws aggressive c old new sound step c home_c
+  block_c = block_pivot g aggressive old c c home_c
 
   block_was : (v : ℕ) → block g aggressive old c v ≡ true → (x : ℕ) × (old.home v ≡ Live x)
   block_was v b = elim (block_cases g aggressive old c v b) [ inl h ↦ (c, h) | inr k ↦ (k.0, k.2) ]
@@ -171,16 +167,16 @@ module _ (g : Graph) (laws : IsGraph g) (aggressive : Bool) (c : ℕ) (old new :
       let b = count_same g.size (λ v. B v && in_class old c v) (in_class old c)
       (λ v l. both_ways (B v && in_class old c v) (in_class old c v)
       (λ h. (and_parts (B v) (in_class old c v) h).1)
-      (λ h. and_from (B v) (in_class old c v) (block_pivot g laws aggressive c old new sound step v (class_gives c (old.home v) h)) h)) in
+      (λ h. and_from (B v) (in_class old c v) (block_pivot g aggressive old c v (class_gives c (old.home v) h)) h)) in
       let d = count_same g.size (λ v. B v && not (in_class old c v)) (λ v. F v && not (S v))
       (λ v l. both_ways (B v && not (in_class old c v)) (F v && not (S v))
       (λ h. let p = and_parts (B v) (not (in_class old c v)) h in
       and_from (F v) (not (S v)) (in_front v p.0 (not-true (in_class old c v) p.1))
       (not_from_false (S v)
-      (elim (cases_Bool (S v)) [ inr n ↦ n | inl y ↦ clash p.0 (border_gives g laws aggressive c old new sound step v y).1 ])))
+      (elim (cases_Bool (S v)) [ inr n ↦ n | inl y ↦ clash p.0 (border_gives g aggressive old c v y).1 ])))
       (λ h. let p = and_parts (F v) (not (S v)) h in and_from (B v) (not (in_class old c v)) (in_the_block v p.0 (not-true (S v) p.1))
       (not_from_false (in_class old c v) (front_gives g old c v p.0).0))) in
-      let e = count_minus g.size F S (λ v l h. (border_gives g laws aggressive c old new sound step v h).0) in
+      let e = count_minus g.size F S (λ v l h. (border_gives g aggressive old c v h).0) in
       omega (arith, a, b, d, e)
     where
       in_front : (v : ℕ) → block g aggressive old c v ≡ true → in_class old c v ≡ false → front g old c v ≡ true
@@ -192,7 +188,7 @@ module _ (g : Graph) (laws : IsGraph g) (aggressive : Bool) (c : ℕ) (old new :
       in_the_block : (v : ℕ) → front g old c v ≡ true → border_of g aggressive old c v ≡ false → block g aggressive old c v ≡ true
       in_the_block v f nb = elim (cases_Bool (block g aggressive old c v)) [
         | inl y ↦ y
-        | inr n ↦ clash (Rattle.amd_model.proofs.States.SoundStep.border_from g laws aggressive c old new sound step v f n) nb
+        | inr n ↦ clash (border_from g aggressive old c v f n) nb
       ]
 
   -- one front is made
@@ -242,123 +238,3 @@ module _ (g : Graph) (laws : IsGraph g) (aggressive : Bool) (c : ℕ) (old new :
     unfolding greatest_front rows
     greatest_new some = max_at g.size (is_made g old) (is_made g new) (rows old) (rows new) (max 1 (count_below g.size dense)) c size_c
         made_not (made_new some) (λ e l ne. rows_stay e ne)
-
--- the sizes of the classes placed add up to the live rows
-pub placed_rows : (g : Graph) (t : QuotientGraph) (s : State) → IsSound g s → Fits g t s →
-    sum_by t.size t.placed ≡ count_below g.size (live s)
-placed_rows g t s sound fits =
-    class_sum g s t.size t.placed fits.placed_once (λ x k. fits.size x (class_gives x (s.home x) (sym (fits.placed x) ∙ k)))
-    ∙ count_same g.size (λ v. named t.placed (s.home v)) (live s) (λ v l. both_ways (named t.placed (s.home v)) (live s v)
-    (λ k. let d = named_gives t.placed (s.home v) k in live_from d.0 (s.home v) d.1)
-    (λ k. let d = live_gives (s.home v) k in named_from t.placed (s.home v) d.0 d.1
-    (fits.placed d.0 ∙ class_from d.0 (s.home d.0) (sound.named v d.0 d.1))))
-
-module _ (g : Graph) (laws : IsGraph g) (aggressive : Bool) (t : QuotientGraph) (s : State) (sound : IsSound g s) (fits : Fits g t s)
-    (c : ℕ) (class : is_class s c ≡ true)
-    (least : (d : ℕ) → is_class s d ≡ true → s.bound c ≤ s.bound d) where
-  abbrev U : State
-  U = after g laws aggressive t s sound fits c class least
-
-  abbrev step_of : StepAt g aggressive c s U
-  step_of = is_step g laws aggressive t s sound fits c class least
-
-  pub size_rows : t.size c ≡ count_below g.size (in_class s c)
-  size_rows = fits.size c (class_gives c (s.home c) class)
-
-  pub front_rows : sum_by t.size (gathered t c) ≡ count_below g.size (front g s c)
-  unfolding L
-  front_rows = class_sum g s t.size (gathered t c) (L_once g laws aggressive t s sound fits c class least)
-      (λ x k. fits.size x (front_class g laws aggressive t s sound fits c class least x k).0)
-      ∙ count_same g.size (λ v. named (gathered t c) (s.home v)) (front g s c)
-      (λ v l. both_ways (named (gathered t c) (s.home v)) (front g s c v)
-      (λ k. let d = named_gives (gathered t c) (s.home v) k in sym (row_front g laws aggressive t s sound fits c class least v d.0 d.1) ∙
-      d.2)
-      (λ k. let d = live_gives (s.home v) (front_live g laws s sound c v k) in
-      named_from (gathered t c) (s.home v) d.0 d.1 (row_front g laws aggressive t s sound fits c class least v d.0 d.1 ∙ k)))
-
-  pub rest_count : sum_by t.size (rest aggressive t c (gathered t c)) ≡ count_below g.size (border_of g aggressive s c)
-  unfolding L
-  rest_count = rest_sum g laws aggressive t s sound fits c class least
-
-  pub rest_small : sum_by t.size (rest aggressive t c (gathered t c)) ≤ sum_by t.size (gathered t c)
-  rest_small = let a = front_rows in let b = rest_count in
-      let m = count_mono g.size (border_of g aggressive s c) (front g s c)
-      (λ v l h. (border_gives g laws aggressive c s U sound step_of v h).0) in omega (arith, a, b, m)
-
-  -- L and the class of the pivot are some of the live rows
-  pub front_small : sum_by t.size (gathered t c) + t.size c ≤ sum_by t.size t.placed
-  front_small = let a = front_rows in let b = size_rows in let p = placed_rows g t s sound fits in
-      let q = count_split g.size (live s) (front g s c) in
-      let x = count_same g.size (λ v. live s v && front g s c v) (front g s c) (λ v l. both_ways (live s v && front g s c v) (front g s c v)
-      (λ h. (and_parts (live s v) (front g s c v) h).1) (λ h. and_from (live s v) (front g s c v) (front_live g laws s sound c v h) h)) in
-      let y = count_mono g.size (in_class s c) (λ v. live s v && not (front g s c v))
-      (λ v l h. and_from (live s v) (not (front g s c v)) (live_from c (s.home v) (class_gives c (s.home v) h))
-      (not_from_false (front g s c v) (elim (cases_Bool (front g s c v)) [ inr n ↦ n | inl f ↦ clash h (front_gives g s c v f).0 ]))) in
-      omega (arith, a, b, p, q, x, y)
-
-  pub placed_small : sum_by t.size t.placed ≤ g.size
-  placed_small = let p = placed_rows g t s sound fits in let m = count_most g.size (live s) in omega (arith, p, m)
-
-  block_size : count_below g.size (block g aggressive s c) ≡ t.size
-      c + (sum_by t.size (gathered t c) - sum_by t.size (rest aggressive t c (gathered t c)))
-  block_size = let a = front_rows in let b = rest_count in let d = size_rows in let p = block_parts g laws aggressive c s U sound step_of in
-      omega (arith, a, b, d, p)
-
-  -- the rows of the new element
-  pub block_rows : ((v : ℕ) → s.home v ≢ Gone c) →
-      count_below g.size (in_block U c) ≡ t.size c + (sum_by t.size (gathered t c) - sum_by t.size (rest aggressive t c (gathered t c)))
-  block_rows none = count_same g.size (in_block U c) (block g aggressive s c)
-      (λ v l. block_new g laws aggressive c s U sound step_of none v) ∙ block_size
-
-  pub border_rows : count_below g.size (U.border c) ≡ sum_by t.size (rest aggressive t c (gathered t c))
-  border_rows = count_same g.size (U.border c) (border_of g aggressive s c) (λ v l. border_new g laws aggressive c s U sound step_of v) ∙
-      sym rest_count
-
-  -- the rows that are left
-  pub left_live : left aggressive t c (gathered t c) ≡ count_below g.size (live U)
-  unfolding L
-  left_live = left_is g laws aggressive t s sound fits c class least
-
-  pub left_rows : left aggressive t c (gathered t c) ≡ sum_by t.size
-      t.placed - (t.size c + (sum_by t.size (gathered t c) - sum_by t.size (rest aggressive t c (gathered t c))))
-  left_rows = let a = left_live in let b = block_size in let p = placed_rows g t s sound fits in
-      let q = live_parts g laws aggressive c s U sound step_of in omega (arith, a, b, p, q)
-
-  pub left_sum : sum_by (round aggressive t c (gathered t c)).size (round aggressive t c (gathered t c)).placed ≡ left aggressive t c
-      (gathered t c)
-  unfolding L now
-  left_sum = placed_rows g (round aggressive t c (gathered t c)) U (step_sound g laws aggressive c s U sound step_of)
-      (now_fits g laws aggressive t s sound fits c class least) ∙ sym left_live
-
-  pub left_less : left aggressive t c (gathered t c) < sum_by t.size t.placed
-  left_less = let a = left_live in let p = placed_rows g t s sound fits in let q = live_parts g laws aggressive c s U sound step_of in
-      let h = class_gives c (s.home c) class in
-      let m = count_pos g.size (block g aggressive s c) c (live_small g laws s sound c c h)
-      (block_pivot g laws aggressive c s U sound step_of c h) in omega (arith, a, p, q, m)
-
-  -- the rows of a class of the border
-  pub new_size_rows : (i : ℕ) → has (made aggressive t c (gathered t c)) i ≡ true →
-      new_size aggressive t c (gathered t c) i ≡ count_below g.size (in_class U i)
-  unfolding L
-  new_size_rows i k = let m = made_class g laws aggressive t s sound fits c class least i k in
-      size_is g laws aggressive t s sound fits c class least i m.0 m.1
-
-  pub new_size_border : (i : ℕ) → has (made aggressive t c (gathered t c)) i ≡ true →
-      new_size aggressive t c (gathered t c) i ≤ sum_by t.size (rest aggressive t c (gathered t c))
-  unfolding L
-  new_size_border i k = let a = new_size_rows i k in let b = rest_count in
-      let m = made_class g laws aggressive t s sound fits c class least i k in
-      let le = count_mono g.size (in_class U i) (border_of g aggressive s c)
-      (λ v l h. class_border g laws aggressive c s U sound step_of i v i m.0 (class_gives i (U.home v) h) m.1) in omega (arith, a, b, le)
-
-  pub new_size_left : (i : ℕ) → has (made aggressive t c (gathered t c)) i ≡ true →
-      new_size aggressive t c (gathered t c) i ≤ left aggressive t c (gathered t c)
-  new_size_left i k = let a = new_size_rows i k in let b = left_live in
-      let le = count_mono g.size (in_class U i) (live U) (λ v l h. live_from i (U.home v) (class_gives i (U.home v) h)) in
-      omega (arith, a, b, le)
-
-  pub new_size_some : (i : ℕ) → has (made aggressive t c (gathered t c)) i ≡ true → 0 < new_size aggressive t c (gathered t c) i
-  unfolding L
-  new_size_some i k = let a = new_size_rows i k in let m = made_class g laws aggressive t s sound fits c class least i k in
-      let some = count_pos g.size (in_class U i) i (live_small g laws U (step_sound g laws aggressive c s U sound step_of) i i m.0)
-      (class_from i (U.home i) m.0) in omega (arith, a, some)

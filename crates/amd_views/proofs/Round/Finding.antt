@@ -15,7 +15,7 @@ use Rattle.amd_model.proofs.Counting.Below.{count_most}
 use Rattle.amd_model.proofs.States.Words.{block_from, stands_gives}
 use Rattle.amd_model.proofs.Quotient.Lists.{clash}
 use Rattle.amd_model.proofs.Listings.Words.{filter_has, has_filter as filter_gives}
-use Rattle.amd_model.proofs.States.StepFronts.{front_small, placed_small}
+use Rattle.amd_model.proofs.Quotient.Round.Rows.{front_small, placed_small}
 use Rattle.amd_views.specs.Views.{ClassLists, View, live_of}
 use Rattle.amd_views.specs.Rounds.{firsts, keeps_none, alike_in, Absorbed}
 use Rattle.amd_views.specs.Keeps.{Stands}
@@ -24,8 +24,7 @@ use Rattle.amd_views.proofs.Fronts.Gathered.{gathered_other, gathered_placed, pl
 use Rattle.amd_views.proofs.Fronts.Absorbed as absorption
 use Rattle.amd_views.proofs.Merging.Made as merging
 use Rattle.amd_views.proofs.Rounding.{Rounding}
-use Rattle.amd_views.proofs.Round.Fronts.{pivot_class, pivot_least}
-use Rattle.amd_views.proofs.Round.Turn.{Found}
+use Rattle.amd_views.proofs.Round.Turn.{Found, round_of}
 
 -- a class of least bound, and the list that is gathered of the record
 module _ (g : Graph) (dense : ℕ → Bool) (aggressive : Bool) (w : View) (t : QuotientGraph) (s : State) (st : Stands g dense w t s)
@@ -53,15 +52,11 @@ module _ (g : Graph) (dense : ℕ → Bool) (aggressive : Bool) (w : View) (t : 
       let a = st.keeps.size c placed in
       let b = sum_named w.size t.size front (λ i h. st.keeps.size i (front_placed i h)) in
       let e = ap (sum_by t.size) front_is in
-      let class = pivot_class g dense w t s st c placed in
-      let k = front_small g st.graph aggressive t s st.sound st.fits c class (pivot_least g dense w t s st c placed least) in
+      let k = front_small (round_of aggressive st c placed least) in
       let l = st.keeps.live in omega (arith, a, b, e, k, l)
 
   pub live_few : w.live ≤ g.size
-  live_few =
-      let a = st.keeps.live in let class = pivot_class g dense w t s st c placed in
-      let b = placed_small g st.graph aggressive t s st.sound st.fits c class (pivot_least g dense w t s st c placed least) in
-      omega (arith, a, b)
+  live_few = let a = st.keeps.live in let b = placed_small st.sound st.fits in omega (arith, a, b)
 
   -- the rows of the border of a standing element are those of its front without its block
   borders : (e : ℕ) → stands g s e ≡ true → w.front e - w.block e ≡ count_below g.size (s.border e)

@@ -12,10 +12,14 @@ use Rattle.amd_model.specs.Step.{StepAt}
 use Rattle.amd_model.specs.Quotient.{QuotientGraph, has, gathered, rest, left, round}
 use Rattle.amd_model.proofs.Counting.Below.{clash}
 use Rattle.amd_model.proofs.States.Words.{class_gives, class_from, live_from}
-use Rattle.amd_model.proofs.Quotient.RoundIsStep.{L, front_class, rest_class, after, is_step}
+use Rattle.amd_model.proofs.Quotient.Round.RoundAt.{RoundAt, pivot_live}
+use Rattle.amd_model.proofs.Quotient.Round.Front.{front_class}
+use Rattle.amd_model.proofs.Quotient.Round.Border.{border_class}
+use Rattle.amd_model.proofs.Quotient.Round.After.{state_after, step_after}
+use Rattle.amd_model.proofs.Quotient.Round.Rows.{block_rows, border_rows, left_rows, left_sum, left_less}
 use Rattle.amd_model.proofs.States.StepFronts.{element_stays, block_count_stays, weight_stays, pivot_element, weight_new, still_live}
 use Rattle.amd_model.proofs.States.StepFronts.{figure_new}
-use Rattle.amd_model.proofs.States.StepFronts.{greatest_new, block_rows, border_rows, left_rows, left_sum, left_less}
+use Rattle.amd_model.proofs.States.StepFronts.{greatest_new}
 use Rattle.amd_model.proofs.States.StepFronts.{no_parent as parent_free}
 use Rattle.amd_views.specs.Keeps.{KeepsFronts, LinksLead, Stands}
 use Rattle.amd_views.specs.Views.{View}
@@ -51,58 +55,43 @@ module _ (n : ℕ) (links : ℕ → Option ℕ) (home : ℕ → Home) (lead : Li
   pub gone_named : (x e : ℕ) → home x ≡ Gone e → home e ≡ Gone e
   gone_named x e h = gone_within lead.top x e (omega arith) h
 
--- what is placed with a least bound is a pivot
-pub pivot_class : (g : Graph) (dense : ℕ → Bool) (w : View) (t : QuotientGraph) (s : State) → Stands g dense w t s → (c : ℕ) →
-    has t.placed c ≡ true → is_class s c ≡ true
-pivot_class g dense w t s st c placed = sym (st.fits.placed c) ∙ placed
-
-pub pivot_least : (g : Graph) (dense : ℕ → Bool) (w : View) (t : QuotientGraph) (s : State) → Stands g dense w t s → (c : ℕ) →
-    has t.placed c ≡ true →
-    ((d : ℕ) → has t.placed d ≡ true → t.bound c ≤ t.bound d) → (d : ℕ) → is_class s d ≡ true → s.bound c ≤ s.bound d
-pivot_least g dense w t s st c placed least d k = let l = least d (st.fits.placed d ∙ k) in
-    let a = st.fits.bound c (class_gives c (s.home c) (sym (st.fits.placed c) ∙ placed)) in let b =
-    st.fits.bound d (class_gives d (s.home d) k) in omega (arith, l, a, b)
-
 module _ (g : Graph) (dense : ℕ → Bool) (aggressive : Bool) (w v : View) (t : QuotientGraph) (s : State) (st : Stands g dense w t s)
     (r : Rounding aggressive w v)
-    (class : is_class s r.c ≡ true) (least : (d : ℕ) → is_class s d ≡ true → s.bound r.c ≤ s.bound d)
-    (front_is : r.front ≡ gathered t r.c) (rest_is : r.rest ≡ rest aggressive t r.c (gathered t r.c)) where
+    (this : RoundAt g aggressive t s r.c) (front_is : r.front ≡ gathered t r.c) (rest_is : r.rest ≡ rest aggressive t r.c (gathered t r.c)) where
   abbrev pub U : State
-  U = after g st.graph aggressive t s st.sound st.fits r.c class least
+  U = state_after this
 
   abbrev step_of : StepAt g aggressive r.c s U
-  step_of = is_step g st.graph aggressive t s st.sound st.fits r.c class least
+  step_of = step_after this
 
   home_c : s.home r.c ≡ Live r.c
-  home_c = class_gives r.c (s.home r.c) class
+  home_c = pivot_live this
 
   size_of : (i : ℕ) → s.home i ≡ Live i → w.size i ≡ t.size i
   size_of i h = st.keeps.size i (st.fits.placed i ∙ class_from i (s.home i) h)
 
   pub front_rows_are : sum_by w.size r.front ≡ sum_by t.size (gathered t r.c)
-  unfolding L
   front_rows_are = ap (sum_by w.size) front_is
       ∙ sum_named w.size t.size (gathered t r.c) (λ i k. size_of i
-      (front_class g st.graph aggressive t s st.sound st.fits r.c class least i k).0)
+      (front_class this i k).0)
 
   pub border_is : r.border ≡ sum_by t.size (rest aggressive t r.c (gathered t r.c))
-  unfolding L
   border_is = r.border_is ∙ ap (sum_by w.size) rest_is
       ∙ sum_named w.size t.size (rest aggressive t r.c (gathered t r.c))
-      (λ i k. size_of i (rest_class g st.graph aggressive t s st.sound st.fits r.c class least i k).0)
+      (λ i k. size_of i (border_class this i k).0)
 
   pub block_is : r.block ≡ t.size r.c + (sum_by t.size (gathered t r.c) - sum_by t.size (rest aggressive t r.c (gathered t r.c)))
   block_is = let a = r.block_is in let b = border_is in let c = front_rows_are in let d = size_of r.c home_c in omega (arith, a, b, c, d)
 
   pub live_left : v.live ≡ left aggressive t r.c (gathered t r.c)
-  live_left = let a = block_is in let b = left_rows g st.graph aggressive t s st.sound st.fits r.c class least in
+  live_left = let a = block_is in let b = left_rows this in
       let l = st.keeps.live in let m = r.live_is in omega (arith, a, b, l, m)
 
   pub live_is : v.live ≡ sum_by (round aggressive t r.c (gathered t r.c)).size (round aggressive t r.c (gathered t r.c)).placed
-  live_is = live_left ∙ sym (left_sum g st.graph aggressive t s st.sound st.fits r.c class least)
+  live_is = live_left ∙ sym (left_sum this)
 
   pub live_less : v.live < w.live
-  live_less = let a = live_left in let b = left_less g st.graph aggressive t s st.sound st.fits r.c class least in let l =
+  live_less = let a = live_left in let b = left_less this in let l =
       st.keeps.live in omega (arith, a, b, l)
 
   -- no row was in a block of the pivot's name
@@ -111,10 +100,10 @@ module _ (g : Graph) (dense : ℕ → Bool) (aggressive : Bool) (w v : View) (t 
       sym (st.fits.home r.c) ∙ k in let l = home_c in cc
 
   pub block_counts : r.block ≡ count_below g.size (in_block U r.c)
-  block_counts = block_is ∙ sym (block_rows g st.graph aggressive t s st.sound st.fits r.c class least no_block)
+  block_counts = block_is ∙ sym (block_rows this no_block)
 
   pub border_counts : r.border ≡ count_below g.size (U.border r.c)
-  border_counts = border_is ∙ sym (border_rows g st.graph aggressive t s st.sound st.fits r.c class least)
+  border_counts = border_is ∙ sym (border_rows this)
 
   -- live rows have an edge and no parent
   pub joined : (x : ℕ) → live U x ≡ true → 0 < degree g x

@@ -14,7 +14,7 @@ use Rattle.amd_views.specs.Keeps.{Stands}
 use Rattle.amd_views.specs.Views.{View}
 use Rattle.amd_views.proofs.Rounding.{Rounding}
 use Rattle.amd_views.proofs.Round.Turn.{Found, Turn, class_of, front_placed, in_left, lists_after, made_front, made_rest, not_c}
-use Rattle.amd_views.proofs.Round.Turn.{outside_rest, pivot_is_class, rest_front, rest_keeps}
+use Rattle.amd_views.proofs.Round.Turn.{outside_rest, rest_front, rest_keeps}
 
 module _ {g : Graph} {dense : ℕ → Bool} {aggressive : Bool} {w v : View} {t : QuotientGraph} {s : State}
     (turn : Turn g dense aggressive w v t s)
@@ -36,9 +36,6 @@ module _ {g : Graph} {dense : ℕ → Bool} {aggressive : Bool} {w v : View} {t 
 
     abbrev M : List ℕ
     M = made aggressive t turn.wrote.c (gathered t turn.wrote.c)
-
-    abbrev class : is_class s turn.wrote.c ≡ true
-    class = pivot_is_class turn
 
     abbrev new_lists : QuotientGraph
     new_lists = lists_after turn

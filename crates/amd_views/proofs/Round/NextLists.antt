@@ -17,7 +17,7 @@ use Rattle.amd_views.specs.Keeps.{Stands}
 use Rattle.amd_views.specs.Views.{View}
 use Rattle.amd_views.proofs.Lists.Named.{filter_all, not_empty}
 use Rattle.amd_views.proofs.Rounding.{Rounding}
-use Rattle.amd_views.proofs.Round.Turn.{Found, Turn, class_of, front_placed, in_front, in_made, lists_after, made_front, pivot_is_class}
+use Rattle.amd_views.proofs.Round.Turn.{Found, Turn, class_of, front_placed, in_front, in_made, lists_after, made_front}
 use Rattle.amd_views.proofs.Round.Turn.{placed_of}
 use Rattle.amd_views.proofs.Round.Sizes.{class_size, live_new, made_placed, new_live, new_placed, not_ends, placed_cases}
 
@@ -42,9 +42,6 @@ module _ {g : Graph} {dense : ℕ → Bool} {aggressive : Bool} {w v : View} {t 
 
     abbrev M : List ℕ
     M = made aggressive t turn.wrote.c (gathered t turn.wrote.c)
-
-    abbrev class : is_class s turn.wrote.c ≡ true
-    class = pivot_is_class turn
 
     abbrev new_lists : QuotientGraph
     new_lists = lists_after turn

@@ -9,12 +9,12 @@ use Rattle.amd_model.specs.Quotient.{QuotientGraph, is_empty, pivot, gathered, r
 use Rattle.amd_model.specs.Quotient.{left, round, next}
 use Rattle.amd_views.specs.Keeps.{Stands}
 use Rattle.amd_views.specs.Views.{View}
-use Rattle.amd_model.proofs.States.StepFronts.{placed_small}
+use Rattle.amd_model.proofs.Quotient.Round.Rows.{placed_small}
 use Rattle.amd_views.proofs.Round.Fronts.{border_is as border_rows, live_left as live_after, live_less, live_is as live_sum}
 use Rattle.amd_views.proofs.Round.Fronts.{joined as joined_after, no_parent as no_parent_after, fronts_kept}
 use Rattle.amd_views.proofs.Lists.Named.{not_empty}
 use Rattle.amd_views.proofs.Rounding.{Rounding}
-use Rattle.amd_views.proofs.Round.Turn.{Found, Turn, lists_after, new_fits, new_sound, pivot_is_class, pivot_is_least, state_after, step}
+use Rattle.amd_views.proofs.Round.Turn.{Found, Turn, lists_after, model, new_fits, new_sound, state_after, step}
 use Rattle.amd_views.proofs.Round.Sizes.{size_kept, size_none}
 use Rattle.amd_views.proofs.Round.NextLists.{elements_kept, members_kept, variables_kept}
 use Rattle.amd_views.proofs.Round.Links.{links_kept}
@@ -33,12 +33,6 @@ module _ {g : Graph} {dense : ℕ → Bool} {aggressive : Bool} {w v : View} {t 
     abbrev f : Found aggressive w v t turn.wrote
     f = turn.found
 
-    abbrev class : is_class s turn.wrote.c ≡ true
-    class = pivot_is_class turn
-
-    abbrev least : (d : ℕ) → is_class s d ≡ true → s.bound turn.wrote.c ≤ s.bound d
-    least = pivot_is_least turn
-
     abbrev new_state : State
     new_state = state_after turn
 
@@ -48,14 +42,14 @@ module _ {g : Graph} {dense : ℕ → Bool} {aggressive : Bool} {w v : View} {t 
     -- the record stands for the next lists, and for the state that the (step turn) leads to
     module _ (few : g.size < 2 ^ 64) where
       border_is : r.border ≡ sum_by t.size (rest aggressive t r.c (gathered t r.c))
-      border_is = border_rows g dense aggressive w v t s st r class least f.front_is f.rest_is
+      border_is = border_rows g dense aggressive w v t s st r (model turn) f.front_is f.rest_is
 
       live_left : v.live ≡ left aggressive t r.c (gathered t r.c)
-      live_left = live_after g dense aggressive w v t s st r class least f.front_is f.rest_is
+      live_left = live_after g dense aggressive w v t s st r (model turn) f.front_is f.rest_is
 
       live_fits : v.live ≤ g.size
-      live_fits = let a = live_less g dense aggressive w v t s st r class least f.front_is f.rest_is in let b = st.keeps.live in
-          let k = placed_small g st.graph aggressive t s st.sound st.fits r.c class least in omega (arith, a, b, k)
+      live_fits = let a = live_less g dense aggressive w v t s st r (model turn) f.front_is f.rest_is in let b = st.keeps.live in
+          let k = placed_small st.sound st.fits in omega (arith, a, b, k)
 
       pub stands_after : Stands g dense v new_lists new_state
       stands_after = record {
@@ -72,13 +66,13 @@ module _ {g : Graph} {dense : ℕ → Bool} {aggressive : Bool} {w v : View} {t 
           elements = elements_kept turn;
           members = members_kept turn;
           least = least_kept turn few border_is live_left live_fits;
-          live = live_sum g dense aggressive w v t s st r class least f.front_is f.rest_is;
+          live = live_sum g dense aggressive w v t s st r (model turn) f.front_is f.rest_is;
           parents = parents_kept turn;
           links = links_kept turn;
         };
-        joined = joined_after g dense aggressive w v t s st r class least f.front_is f.rest_is;
-        no_parent = no_parent_after g dense aggressive w v t s st r class least f.front_is f.rest_is;
-        fronts = fronts_kept g dense aggressive w v t s st r class least f.front_is f.rest_is;
+        joined = joined_after g dense aggressive w v t s st r (model turn) f.front_is f.rest_is;
+        no_parent = no_parent_after g dense aggressive w v t s st r (model turn) f.front_is f.rest_is;
+        fronts = fronts_kept g dense aggressive w v t s st r (model turn) f.front_is f.rest_is;
       }
 
     pub as_next : new_lists ≡ next aggressive t

@@ -10,11 +10,11 @@ use Rattle.amd_model.specs.Step.{absorbed}
 use Rattle.amd_model.specs.Quotient.{QuotientGraph, gathered, takes}
 use Rattle.amd_model.specs.Quotient.{round}
 use Rattle.amd_model.proofs.States.Words.{live_from, holds_gives, stands_gives}
-use Rattle.amd_model.proofs.Quotient.RoundIsStep.{L as front_list, takes_is}
+use Rattle.amd_model.proofs.Quotient.Round.Front.{absorbed_is}
 use Rattle.amd_views.specs.Keeps.{Stands}
 use Rattle.amd_views.specs.Views.{View}
 use Rattle.amd_views.proofs.Rounding.{Rounding}
-use Rattle.amd_views.proofs.Round.Turn.{Found, Turn, class_of, lists_after, pivot_is_class, pivot_is_least}
+use Rattle.amd_views.proofs.Round.Turn.{Found, Turn, class_of, lists_after, model}
 
 module _ {g : Graph} {dense : ℕ → Bool} {aggressive : Bool} {w v : View} {t : QuotientGraph} {s : State}
     (turn : Turn g dense aggressive w v t s)
@@ -31,18 +31,11 @@ module _ {g : Graph} {dense : ℕ → Bool} {aggressive : Bool} {w v : View} {t 
     abbrev L : List ℕ
     L = gathered t turn.wrote.c
 
-    abbrev class : is_class s turn.wrote.c ≡ true
-    class = pivot_is_class turn
-
-    abbrev least : (d : ℕ) → is_class s d ≡ true → s.bound turn.wrote.c ≤ s.bound d
-    least = pivot_is_least turn
-
     abbrev new_lists : QuotientGraph
     new_lists = lists_after turn
 
     taken_is : (e : ℕ) → takes aggressive t r.c L e ≡ absorbed g aggressive s r.c e
-    unfolding front_list
-    taken_is e = takes_is g st.graph aggressive t s st.sound st.fits r.c class least e
+    taken_is e = absorbed_is (model turn) e
 
     no_takes : takes aggressive t r.c L r.c ≡ false
     unfolding absorbed

@@ -19,7 +19,7 @@ use Rattle.amd_views.proofs.Lists.Named.{filter_named, sum_named, filter_both}
 use Rattle.amd_views.proofs.Rounding.{Rounding}
 use Rattle.amd_views.proofs.Fronts.Gathered.{placed_rows}
 use Rattle.amd_views.proofs.Round.Turn.{Found, Turn, front_placed, in_front, in_left, in_rest, lists_after, made_front, made_rest, new_fits}
-use Rattle.amd_views.proofs.Round.Turn.{new_sound, none_kept, not_c, outside_rest, pivot_is_class, rest_front, rest_keeps, rest_made}
+use Rattle.amd_views.proofs.Round.Turn.{new_sound, none_kept, not_c, outside_rest, rest_front, rest_keeps, rest_made}
 use Rattle.amd_views.proofs.Round.Turn.{state_after}
 
 module _ {g : Graph} {dense : ℕ → Bool} {aggressive : Bool} {w v : View} {t : QuotientGraph} {s : State}
@@ -42,9 +42,6 @@ module _ {g : Graph} {dense : ℕ → Bool} {aggressive : Bool} {w v : View} {t 
 
     abbrev M : List ℕ
     M = made aggressive t turn.wrote.c (gathered t turn.wrote.c)
-
-    abbrev class : is_class s turn.wrote.c ≡ true
-    class = pivot_is_class turn
 
     abbrev new_state : State
     new_state = state_after turn

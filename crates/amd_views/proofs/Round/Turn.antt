@@ -15,12 +15,30 @@ use Rattle.amd_model.proofs.States.Sound.{live_small}
 use Rattle.amd_model.proofs.States.SoundStep.{step_sound}
 use Rattle.amd_model.proofs.Quotient.Lists.{clash}
 use Rattle.amd_model.proofs.Listings.Words.{filter_has, has_filter as filter_gives}
-use Rattle.amd_model.proofs.Quotient.RoundIsStep.{L as front_list, front_class, after, is_step, now, now_fits}
+use Rattle.amd_model.proofs.Quotient.Round.RoundAt.{RoundAt}
+use Rattle.amd_model.proofs.Quotient.Round.Front.{front_class}
+use Rattle.amd_model.proofs.Quotient.Round.After.{state_after as after, step_after}
+use Rattle.amd_model.proofs.Quotient.Round.IsStep.{fits_after}
 use Rattle.amd_views.specs.Rounds.{keeps_none}
 use Rattle.amd_views.specs.Keeps.{Stands}
 use Rattle.amd_views.specs.Views.{View}
 use Rattle.amd_views.proofs.Rounding.{Rounding}
 use Rattle.amd_views.proofs.Fronts.Gathered.{gathered_other}
+
+-- what is placed with a least bound can be the pivot of a round
+pub round_of : {g : Graph} {dense : ℕ → Bool} (aggressive : Bool) {w : View} {t : QuotientGraph} {s : State} → Stands g dense w t s →
+    (c : ℕ) → has t.placed c ≡ true → ((d : ℕ) → has t.placed d ≡ true → t.bound c ≤ t.bound d) → RoundAt g aggressive t s c
+round_of aggressive {t = t} {s = s} st c placed least =
+    let class : is_class s c ≡ true = sym (st.fits.placed c) ∙ placed in
+    record {
+      laws = st.graph;
+      sound = st.sound;
+      fits = st.fits;
+      class = class;
+      least = λ d k. let l = least d (st.fits.placed d ∙ k) in
+          let a = st.fits.bound c (class_gives c (s.home c) class) in let b = st.fits.bound d (class_gives d (s.home d) k) in
+          omega (arith, l, a, b);
+    }
 
 -- what was found, in the words of the machine
 pub record Found (aggressive : Bool) (w v : View) (t : QuotientGraph) (r : Rounding aggressive w v) : Type 0 where
@@ -74,33 +92,27 @@ module _ {g : Graph} {dense : ℕ → Bool} {aggressive : Bool} {w v : View} {t 
     pub placed_of : (i : ℕ) → s.home i ≡ Live i → has t.placed i ≡ true
     placed_of i h = st.fits.placed i ∙ class_from i (s.home i) h
 
-    abbrev pub pivot_is_class : is_class s r.c ≡ true
-    pivot_is_class = sym (st.fits.placed r.c) ∙ f.placed
-
-    abbrev pub pivot_is_least : (d : ℕ) → is_class s d ≡ true → s.bound r.c ≤ s.bound d
-    pivot_is_least d k = let l = f.least d (st.fits.placed d ∙ k) in
-        let a = st.fits.bound r.c (class_gives r.c (s.home r.c) pivot_is_class) in let b = st.fits.bound d (class_gives d (s.home d) k) in
-        omega (arith, l, a, b)
+    -- the round of the model
+    abbrev pub model : RoundAt g aggressive t s turn.wrote.c
+    model = round_of aggressive turn.before turn.wrote.c turn.found.placed turn.found.least
 
     abbrev pub state_after : State
-    state_after = after g st.graph aggressive t s st.sound st.fits r.c pivot_is_class pivot_is_least
+    state_after = after model
 
     abbrev pub lists_after : QuotientGraph
     lists_after = round aggressive t r.c (gathered t r.c)
 
     pub step : StepAt g aggressive r.c s state_after
-    step = is_step g st.graph aggressive t s st.sound st.fits r.c pivot_is_class pivot_is_least
+    step = step_after model
 
     pub new_fits : Fits g lists_after state_after
-    unfolding now front_list
-    new_fits = now_fits g st.graph aggressive t s st.sound st.fits r.c pivot_is_class pivot_is_least
+    new_fits = fits_after model
 
     pub new_sound : IsSound g state_after
     new_sound = step_sound g st.graph aggressive r.c s state_after st.sound step
 
     front_row : (i : ℕ) → has L i ≡ true → (s.home i ≡ Live i) × (front g s r.c i ≡ true)
-    unfolding front_list
-    front_row i h = front_class g st.graph aggressive t s st.sound st.fits r.c pivot_is_class pivot_is_least i h
+    front_row i h = front_class model i h
 
     pub front_placed : (i : ℕ) → has L i ≡ true → has t.placed i ≡ true
     front_placed i h = placed_of i (front_row i h).0
