@@ -16,14 +16,13 @@ use Rattle.amd_model.specs.Input.Dense.{IsThreshold, is_dense}
 use Rattle.amd_model.specs.Input.Held.{is_marked, is_held_last}
 use Rattle.amd_model.specs.Input.Pattern.{graph_of, is_pair}
 use Rattle.amd_model.specs.Ordering.{Follows, IsListingOf, Promises}
-use Rattle.amd_model.proofs.Counting.Below.{count_most, count_mono}
+use Rattle.amd_model.proofs.Counting.Below.{count_most, count_mono, clash}
 use Rattle.amd_model.proofs.Counting.Unions.{count_without}
 use Rattle.amd_model.proofs.Patterns.DegreeSums.{pattern_graph}
 use Rattle.amd_model.proofs.Listings.Orderings.{follows_steps, orderings_promise}
 use Rattle.amd_model.proofs.States.RunsExist.{first_state, starts}
 use Rattle.amd_model.proofs.Patterns.StartingLists.{starting_lists}
 use Rattle.amd_model.proofs.States.Words.{edge_small}
-use Rattle.amd_model.proofs.Quotient.Lists.{clash}
 use Rattle.amd_rounds.specs.Views.{at, num, list_at, Below, ListsBelow}
 use Rattle.amd_edges.specs.Visits.{AreCounts}
 use Rattle.amd_rounds.specs.Keeps.{Stands, AreRounds, NoRowIsLive}

@@ -2,20 +2,25 @@
 -- the rules.
 use Rattle.std.proofs.Common.{ℕ, Bool, true, false, ◌≡◌, ◌≤◌, ◌<◌, ◌&&◌, ◌||◌, not, inl, inr, refl, sym, ◌∙◌, ap, subst, List, [], ◌∷◌}
 use Rattle.std.proofs.Common.{◌++◌, Vec, Some, cond, arith}
-use Rattle.std.specs.Prelude.{fold, filter, nat_le, nat_lt, ◌==◌}
+use Rattle.std.specs.Prelude.{fold, filter, nat_le, nat_lt, sum_by, ◌==◌}
 use Rattle.std.proofs.Math.Bool.{or-false, and-true, and-false}
 use Rattle.std.proofs.lemmas.Bool.{cases_Bool, cond-true, cond-false, cond_both, cases_eq, cases_lt, cases_order, eq-eqb, ne_eqb, eqb-true}
-use Rattle.std.proofs.lemmas.Bool.{le-leb, lt-ltb, or_left, or_right, not-true, false≢true}
+use Rattle.std.proofs.lemmas.Bool.{le-leb, lt-ltb, or_left, or_right, false≢true}
 use Rattle.std.proofs.lemmas.List.{append-nil}
 use Rattle.std.proofs.lemmas.List.Elements.{filter-append}
 use Rattle.std.proofs.lemmas.List.Sums.{fold_push}
-use Rattle.amd_model.specs.Quotient.{has, Once, pivot, last_that}
-use Rattle.amd_model.proofs.Quotient.Lists.{clash, has_append, has_filter, once_filter, pivot_least, pivot_named, filter_yes, filter_no}
-use Rattle.amd_model.proofs.Listings.Words.{filter_has, has_filter as filter_gives, has_head, has_tail, has_append as append_gives}
+use Rattle.amd_model.specs.Graph.{Graph}
+use Rattle.amd_model.specs.State.{State}
+use Rattle.amd_model.specs.Quotient.{QuotientGraph, has, is_empty, Once, pivot, last_that}
+use Rattle.amd_model.proofs.Quotient.Lists.{has_append, has_filter, once_filter, pivot_least, pivot_named, filter_yes, filter_no, some_of}
+use Rattle.amd_model.proofs.Listings.Words.{filter_has, has_filter as filter_gives, has_head, has_tail}
 use Rattle.amd_model.proofs.Listings.Words.{has_left, has_right}
+use Rattle.amd_model.proofs.Counting.Below.{clash}
 use Rattle.amd_rounds.specs.Views.{num, list_at}
 use Rattle.amd_rounds.specs.Buckets.{live_in, lasts, Popped, Chosen}
-use Rattle.amd_views.proofs.Lists.Named.{filter_named, filter_both}
+use Rattle.amd_rounds.specs.Keeps.{Stands}
+use Rattle.amd_rounds.specs.declared.work.Work.{Work}
+use Rattle.amd_views.proofs.Lists.Named.{filter_named, filter_both, none_sum}
 
 -- ---- what filters keep
 
@@ -328,3 +333,21 @@ module _ {A : Type 0} (size bound : List ℕ) (old mid : List (Vec ℕ A)) (befo
               ap (λ t. bound_of x == b && not t) out ∙ and-true (bound_of x == b) ∙ ap (λ n. n == b) same ∙
               sym (ap (λ t. not t && bound_after x == b) out))
         ]
+
+-- a class stands in the list of its bound, if a row is live
+pub some_class : {A : Type 0} (g : Graph) (dense : ℕ → Bool) (w : Work A) (t : QuotientGraph) (s : State) → Stands g dense w t s →
+    0 < w.live →
+    (b : ℕ) × (i : ℕ) × (w.least ≤ b) × (has (live_in w.size.items w.bound.items b (list_at w.placed.items b)) i ≡ true)
+some_class g dense w t s st l =
+    let some = some_of t.placed (elim (cases_Bool (is_empty t.placed)) [
+      | inr n ↦ n
+      | inl y ↦ absurd (let e = none_sum t.size t.placed y in let k : w.live ≡ sum_by t.size t.placed =
+          st.view.keeps.live in omega (arith, e, k, l))
+    ]) in
+    let i : ℕ = some.0 in let b : ℕ = t.bound some.0 in (
+      b,
+      i,
+      st.view.keeps.least i some.1,
+      sym (has_lasts (live_in w.size.items w.bound.items b (list_at w.placed.items b)) i) ∙ ap (λ xs. has xs i) (st.placed b)
+          ∙ filter_has (λ j. t.bound j == b) t.placed i some.1 (eq-eqb b b refl),
+    )

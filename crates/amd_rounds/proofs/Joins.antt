@@ -6,7 +6,7 @@ use Rattle.std.proofs.lemmas.Bool.{cases_Bool, false≢true, and_from, and_left,
 use Rattle.std.proofs.lemmas.Bool.{cond-false, not_from_false, not_from_true}
 use Rattle.std.proofs.lemmas.List.{take_all}
 use Rattle.amd_model.specs.Quotient.{has, Once}
-use Rattle.amd_model.proofs.Quotient.Lists.{clash}
+use Rattle.amd_model.proofs.Counting.Below.{clash}
 use Rattle.amd_views.proofs.Lists.Named.{has_more, has_at, has_all, not_met, sum_part, sum_upto, sum_next, sum_apart, more_gives}
 
 -- the rows that the classes met so far, other than x, bring to x

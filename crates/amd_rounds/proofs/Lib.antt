@@ -1,5 +1,6 @@
 pub mod ListPlaces
 pub mod StartLists
+pub mod Begun
 pub mod StartLaw
 pub mod MarkLists
 pub mod BucketLists

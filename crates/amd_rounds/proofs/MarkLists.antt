@@ -6,8 +6,9 @@ use Rattle.std.proofs.Math.Bool.{or-true, or-false, or_assoc, and-true, and-fals
 use Rattle.std.proofs.lemmas.Bool.{cases_Bool, cases_eq, eq-eqb, ne_eqb, or_left, or_right}
 use Rattle.std.proofs.lemmas.List.Sums.{fold-append}
 use Rattle.amd_model.specs.Quotient.{has, add_new}
-use Rattle.amd_model.proofs.Quotient.Lists.{has_append, add_old, add_fresh, firsts, clash}
+use Rattle.amd_model.proofs.Quotient.Lists.{has_append, add_old, add_fresh, firsts}
 use Rattle.amd_model.proofs.Listings.Words.{has_right}
+use Rattle.amd_model.proofs.Counting.Below.{clash}
 use Rattle.amd_rounds.specs.Views.{at, Clear}
 
 -- the next number of a list is marked

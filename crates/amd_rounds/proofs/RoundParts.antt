@@ -9,9 +9,10 @@ use Rattle.amd_model.specs.Graph.{Graph}
 use Rattle.amd_model.specs.State.{State}
 use Rattle.amd_model.specs.Step.{StepAt}
 use Rattle.amd_model.specs.Quotient.{QuotientGraph, has, is_empty, Once, pivot, gathered, made as made_of, turned, next, round}
-use Rattle.amd_model.proofs.Quotient.Lists.{clash, once_filter, some_of}
+use Rattle.amd_model.proofs.Quotient.Lists.{once_filter}
 use Rattle.amd_model.proofs.Quotient.Round.RoundAt.{RoundAt}
-use Rattle.amd_model.proofs.Listings.Words.{filter_has, has_filter as filter_gives, has_right, has_head}
+use Rattle.amd_model.proofs.Listings.Words.{has_filter as filter_gives, has_right, has_head}
+use Rattle.amd_model.proofs.Counting.Below.{clash}
 use Rattle.amd_views.specs.Views.{View}
 use Rattle.amd_views.specs.Rounds as views
 use Rattle.amd_rounds.specs.Views.{num, some_at, list_at, Below, lists_of, view_of}
@@ -20,7 +21,6 @@ use Rattle.amd_rounds.specs.Rounds.{keeps_none, bound_after}
 use Rattle.amd_rounds.specs.Keeps.{IsSized, Stands, IsRound}
 use Rattle.amd_rounds.specs.Parts.{MakesElement, MergesClasses, RenewsClasses}
 use Rattle.amd_rounds.specs.declared.work.Work.{Work}
-use Rattle.amd_views.proofs.Lists.Named.{none_sum}
 use Rattle.amd_views.proofs.Rounding.{Rounding}
 use Rattle.amd_views.proofs.Round.Fronts.{live_left, live_less, border_is as border_law}
 use Rattle.amd_views.proofs.Round.Turn.{Turn, round_of}
@@ -37,23 +37,6 @@ module _ {A : Type 0} (g : Graph) (dense : ℕ → Bool) (aggressive : Bool) (w 
   where
     abbrev old : View
     old = view_of w
-
-    -- a class stands in the list of its bound, if a row is live
-    pub some_class : 0 < w.live → (b : ℕ) × (i : ℕ) × (w.least ≤ b)
-        × (has (live_in w.size.items w.bound.items b (list_at w.placed.items b)) i ≡ true)
-    some_class l =
-        let some = some_of t.placed (elim (cases_Bool (is_empty t.placed)) [
-          | inr n ↦ n
-          | inl y ↦ absurd (let e = none_sum t.size t.placed y in let k : w.live ≡ sum_by t.size t.placed =
-              st.view.keeps.live in omega (arith, e, k, l))
-        ]) in
-        let i : ℕ = some.0 in let b : ℕ = t.bound some.0 in (
-          b,
-          i,
-          st.view.keeps.least i some.1,
-          sym (has_lasts (live_in w.size.items w.bound.items b (list_at w.placed.items b)) i) ∙ ap (λ xs. has xs i) (st.placed b)
-              ∙ filter_has (λ j. t.bound j == b) t.placed i some.1 (eq-eqb b b refl),
-        )
 
     -- ---- the element of the pivot
     module _ (w1 : Work A) (c : ℕ) (front : List ℕ) (m : MakesElement aggressive c front w w1) where

@@ -114,6 +114,13 @@ pub count_same : (n : ℕ) (p q : ℕ → Bool) → ((k : ℕ) → k < n → p k
 unfolding count_below
 count_same n p q h = sum_same n (λ k. cond (p k) 1 0) (λ k. cond (q k) 1 0) (λ k l. ap (λ b. cond b 1 0) (h k l))
 
+pub count_zero : (n : ℕ) (p : ℕ → Bool) → ((k : ℕ) → k < n → p k ≡ false) → count_below n p ≡ 0
+unfolding count_below
+count_zero n p z = sum_zero n (λ k. cond (p k) 1 0) (λ k l. ap (λ b. cond b 1 0) (z k l))
+
+pub count_none : (n : ℕ) → count_below n (λ b. false) ≡ 0
+count_none n = count_zero n (λ b. false) (λ k l. refl)
+
 -- a union counts a number once at most
 pub or_le : (a b : Bool) → cond (a || b) 1 0 ≤ cond a 1 0 + cond b 1 0
 or_le true true = omega arith
@@ -139,20 +146,15 @@ unfolding count_below
 count_split n p q = rw (← sum_plus n (λ k. cond (p k && q k) 1 0) (λ k. cond (p k && not (q k)) 1 0))
     (sum_same n (λ k. cond (p k) 1 0) (λ k. cond (p k && q k) 1 0 + cond (p k && not (q k)) 1 0) (λ k l. split_at (p k) (q k)))
 
-pub none_counted : (n : ℕ) → count_below n (λ v. false) ≤ 0
-unfolding count_below sum_below
-none_counted zero = omega arith
-none_counted (suc n) = let there : count_below n (λ v. false) ≤ 0 = none_counted n in omega arith
-
 guarded : (n : ℕ) (b : Bool) (q : ℕ → Bool) → count_below n (λ v. b && q v) ≤ cond b (count_below n q) 0
 guarded n true q = omega arith
-guarded n false q = none_counted n
+guarded n false q = let e = count_none n in omega (arith, e)
 
 -- a union over the numbers that pass is at most the sum of the sizes
 pub count_union : (m n : ℕ) (h : ℕ → Bool) (q : ℕ → ℕ → Bool) →
     count_below n (λ v. any_below m (λ e. h e && q e v)) ≤ sum_below m (λ e. cond (h e) (count_below n (q e)) 0)
 unfolding any_below sum_below
-count_union zero n h q = none_counted n
+count_union zero n h q = let e = count_none n in omega (arith, e)
 count_union (suc m) n h q =
     let step : count_below n (λ v. (h m && q m v) || any_below m (λ e. h e && q e v)) ≤ count_below n (λ v. h m && q m v) + count_below n
     (λ v. any_below m (λ e. h e && q e v))
@@ -183,7 +185,7 @@ count_minus n p q inside =
     both false false f = refl
 
 -- a partial sum is at most a longer one
-sum_stretch : (d i : ℕ) (f : ℕ → ℕ) → sum_below i f ≤ sum_below (i + d) f
+pub sum_stretch : (d i : ℕ) (f : ℕ → ℕ) → sum_below i f ≤ sum_below (i + d) f
 unfolding sum_below
 sum_stretch zero i f = (let e : i + 0 ≡ i = omega arith in rw e (omega arith))
 sum_stretch (suc d) i f = (let e : i + suc d ≡ suc (i + d) = omega arith in let w = sum_stretch d i f in rw e (omega (arith, w)))

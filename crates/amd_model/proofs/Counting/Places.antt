@@ -15,6 +15,19 @@ use Rattle.amd_model.proofs.Listings.Words.{filter_has, has_below}
 use Rattle.amd_model.specs.Quotient.{has, Once}
 use Rattle.amd_model.proofs.Quotient.Lists.{once_filter}
 
+-- the list of the numbers below a bound, one number more
+pub below_skip : (n : ℕ) (p : ℕ → Bool) → p n ≡ false → list_below (suc n) p ≡ list_below n p
+unfolding list_below
+below_skip n p h = ap (λ b. list_below n p ++ cond b (n ∷ []) []) h ∙ append-nil (list_below n p)
+
+pub below_take : (n : ℕ) (p : ℕ → Bool) → p n ≡ true → list_below (suc n) p ≡ list_below n p ++ n ∷ []
+unfolding list_below
+below_take n p h = ap (λ b. list_below n p ++ cond b (n ∷ []) []) h
+
+pub below_none : (p : ℕ → Bool) → list_below 0 p ≡ []
+unfolding list_below
+below_none p = refl
+
 -- a number of the list has a place
 pub place_of : (xs : List ℕ) (u : ℕ) → has xs u ≡ true → (k : ℕ) × (k < length xs) × ((d : ℕ) → slice_index_or xs k d ≡ u)
 place_of [] u h = absurd (has_none u h)

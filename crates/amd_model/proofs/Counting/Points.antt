@@ -4,11 +4,7 @@ use Rattle.std.proofs.Common.{arith}
 use Rattle.std.specs.Prelude.{◌==◌}
 use Rattle.std.proofs.lemmas.Bool.{and_from, cases_eq, cases_Bool, true≢false, eqb-true, eq-eqb, ne_eqb, not_from_false}
 use Rattle.amd_model.specs.Below.{any_below, sum_below, count_below}
-use Rattle.amd_model.proofs.Counting.Below.{none_any, count_pos, sum_zero, sum_at, count_most}
-
-pub count_zero : (n : ℕ) (p : ℕ → Bool) → ((k : ℕ) → k < n → p k ≡ false) → count_below n p ≡ 0
-unfolding count_below
-count_zero n p z = sum_zero n (λ k. cond (p k) 1 0) (λ k l. ap (λ b. cond b 1 0) (z k l))
+use Rattle.amd_model.proofs.Counting.Below.{none_any, count_pos, sum_at, count_most, count_zero}
 
 pub zero_counted : (n : ℕ) (p : ℕ → Bool) → count_below n p ≡ 0 → (k : ℕ) → k < n → p k ≡ false
 zero_counted n p z k l = elim (cases_Bool (p k)) [

@@ -18,7 +18,7 @@ use Rattle.amd_model.specs.Listing.{IsPostorder, ListsEachRow}
 use Rattle.amd_model.specs.Factor.{before, IsColumn, IsFactor, needed, needed_front}
 use Rattle.amd_model.specs.Figures.{front_sum, is_made, figure, entries, ldl_steps, lu_steps, greatest_front}
 use Rattle.amd_model.specs.Laws.{is_last, ColumnsInside, EmptyColumns, Covers, OfEachListing}
-use Rattle.amd_model.proofs.Counting.Below.{count_mono, sum_mono}
+use Rattle.amd_model.proofs.Counting.Below.{count_mono, sum_mono, clash}
 use Rattle.amd_model.proofs.States.Words.{live_from, block_from}
 use Rattle.amd_model.proofs.Listings.Words.{has_tail, has_right, has_mid, split_append, has_below, roots_level, listed_from}
 use Rattle.amd_model.proofs.Counting.Places.{has_place}
@@ -27,7 +27,6 @@ use Rattle.amd_model.proofs.States.EmptyRows.{IsBusy, busy_at_the_end}
 use Rattle.amd_model.proofs.Listings.ListedOnce.{listings_are_permutations}
 use Rattle.amd_model.proofs.Listings.ColumnsInside.{columns_inside, empty_columns}
 use Rattle.amd_model.proofs.Listings.ReachTest.{columns, factor_of}
-use Rattle.amd_model.proofs.Quotient.Lists.{clash}
 use Rattle.amd_model.proofs.Figures.FrontSums.{sum_more, front_grows, front_more, max_term, max_base}
 use Rattle.amd_model.proofs.Counting.Lists.{count_here, count_later, count_right, count_either, count_permuted, rising_bound, rising_pairs}
 use Rattle.amd_model.specs.Quotient.{has}

@@ -1,27 +1,27 @@
 -- The figures of a run are at most those of a full matrix: by induction over its steps.
-use Rattle.std.proofs.Common.{ℕ, Bool, true, false, ◌≡◌, ◌||◌, ◌≢◌, ◌<◌, ◌≤◌, ◌+◌, ◌&&◌, max, cond, inl, inr, sym, ◌∙◌, ap, arith, List, []}
+use Rattle.std.proofs.Common.{ℕ, Bool, true, false, ◌≡◌, ◌||◌, ◌<◌, ◌≤◌, ◌+◌, max, cond, inl, inr, sym, ◌∙◌, ap, arith, List, []}
 use Rattle.std.proofs.Common.{◌∷◌}
 use Rattle.std.specs.Prelude.{nat_lt}
 use Rattle.std.proofs.lemmas.Bool.{cases_Bool, cases_eq, and_parts, cond-true, cond-false}
 use Rattle.std.proofs.Common.{ltb-true}
-use Rattle.std.specs.Cmp.{both_ways}
 use Rattle.amd_model.specs.Below.{sum_below, count_below}
 use Rattle.amd_model.specs.Graph.{Graph, IsGraph, degree}
-use Rattle.amd_model.specs.State.{State, Gone, live, live_at, in_block, is_element, IsStart}
+use Rattle.amd_model.specs.State.{State, Gone, live, in_block, is_element, IsStart}
 use Rattle.amd_model.specs.Step.{StepAt, block, border_of}
 use Rattle.amd_model.specs.Run.{Steps, last_state}
 use Rattle.amd_model.specs.Figures.{front_sum, is_made, figure, entries, greatest_front}
 use Rattle.amd_model.specs.Laws.{FiguresAreSmall, AtTheEnd}
 use Rattle.amd_model.specs.Sound.{IsSound}
-use Rattle.amd_model.proofs.Counting.Below.{sum_plus, sum_same, count_same, count_mono, sum_at, sum_zero, count_most, clash}
+use Rattle.amd_model.proofs.Counting.Below.{count_same, count_mono, sum_at, sum_zero, count_most, clash}
 use Rattle.amd_model.proofs.States.Steps.{border_gives}
-use Rattle.amd_model.proofs.States.Words.{live_gives, live_from, block_gives, block_from}
+use Rattle.amd_model.proofs.States.Words.{live_gives, live_from, block_gives}
 use Rattle.amd_model.proofs.States.Sound.{live_small}
 use Rattle.amd_model.proofs.States.SoundStep.{step_sound, goes, moves, stays, fate, pivot_live}
 use Rattle.amd_model.proofs.States.SoundStart.{start_sound, begins, is_last, is_empty, is_live}
-use Rattle.amd_model.proofs.Listings.Tree.{IsTree, block_live, gone_stays, step_tree, start_tree}
+use Rattle.amd_model.proofs.Listings.Tree.{IsTree, step_tree, start_tree}
 use Rattle.amd_model.proofs.Figures.FrontSums.{front_fits, first_sums_rise, first_sum, max_most}
 use Rattle.amd_model.proofs.Counting.Unions.{count_apart}
+use Rattle.amd_model.proofs.States.StepFronts.{block_new, live_parts, made_stays, block_count_stays, border_count_stays, made_not}
 
 pub record Made (g : Graph) (s : State) (e : ℕ) : Type 0 where
   pub element : s.home e ≡ Gone e
@@ -38,42 +38,6 @@ module _ (g : Graph) (laws : IsGraph g) (aggressive : Bool) (c : ℕ) (old new :
   pivot_free : (v : ℕ) → old.home v ≡ Gone c → ⊥
   pivot_free v h = let a = tree.named v c h in let b = pivot_live g laws aggressive c old new sound step in cc
 
-  stays_out : (v : ℕ) → new.home v ≡ old.home v → block g aggressive old c v ≡ false
-  stays_out v q = elim (cases_Bool (block g aggressive old c v)) [
-    | inl b ↦ absurd (pivot_free v (sym q ∙ step.gone v b))
-    | inr b ↦ b
-  ]
-
-  pub block_new : (v : ℕ) → in_block new c v ≡ block g aggressive old c v
-  block_new v = both_ways (in_block new c v) (block g aggressive old c v)
-      (λ h. let k = block_gives c (new.home v) h in elim (fate g laws aggressive c old new sound step v) [
-        | goes b q ↦ b
-        | moves s x j p q r a o w ↦ absurd (cc)
-        | stays ni nf q ↦ absurd (pivot_free v (sym q ∙ k))
-      ])
-      (λ b. block_from c (new.home v) (step.gone v b))
-
-  pub block_stays : (e v : ℕ) → e ≢ c → in_block new e v ≡ in_block old e v
-  block_stays e v ne = both_ways (in_block new e v) (in_block old e v)
-      (λ h. let k = block_gives e (new.home v) h in elim (fate g laws aggressive c old new sound step v) [
-        | goes b q ↦ absurd (ne (let z : Gone e ≡ Gone c = sym k ∙ q in cc))
-        | moves s x j p q r a o w ↦ absurd (cc)
-        | stays ni nf q ↦ block_from e (old.home v) (sym q ∙ k)
-      ])
-      (λ h. block_from e (new.home v) (gone_stays g laws aggressive c old new sound step tree v e (block_gives e (old.home v) h)))
-
-  pub live_parts : count_below g.size (live old) ≡ count_below g.size (live new) + count_below g.size (block g aggressive old c)
-  unfolding count_below live_at
-  live_parts = sum_same g.size (λ v. cond (live old v) 1 0) (λ v. cond (live new v) 1 0 + cond (block g aggressive old c v) 1 0) each
-      ∙ sum_plus g.size (λ v. cond (live new v) 1 0) (λ v. cond (block g aggressive old c v) 1 0)
-    where
-      each : (v : ℕ) → v < g.size → cond (live old v) 1 0 ≡ cond (live new v) 1 0 + cond (block g aggressive old c v) 1 0
-      each v l = elim (fate g laws aggressive c old new sound step v) [
-        | goes b q ↦ (let k = block_live g laws aggressive c old new sound step tree v b in rw (k.1, q, b) (omega arith))
-        | moves s x j p q r a o w ↦ (let k = (border_gives g aggressive old c v s).1 in rw (p, q, k) (omega arith))
-        | stays ni nf q ↦ (let k = stays_out v q in rw (q, k) (omega arith))
-      ]
-
   pub border_live : count_below g.size (border_of g aggressive old c) ≤ count_below g.size (live new)
   border_live = count_mono g.size (border_of g aggressive old c) (live new) (λ v l s. elim (fate g laws aggressive c old new sound step v) [
     | goes b q ↦ clash b (border_gives g aggressive old c v s).1
@@ -82,23 +46,11 @@ module _ (g : Graph) (laws : IsGraph g) (aggressive : Bool) (c : ℕ) (old new :
   ])
 
   pub rows_new : count_below g.size (in_block new c) ≡ count_below g.size (block g aggressive old c)
-  rows_new = count_same g.size (in_block new c) (block g aggressive old c) (λ v l. block_new v)
+  rows_new = count_same g.size (in_block new c) (block g aggressive old c)
+      (λ v l. block_new g laws aggressive c old new sound step pivot_free v)
 
   pub border_new : count_below g.size (new.border c) ≡ count_below g.size (border_of g aggressive old c)
   border_new = count_same g.size (new.border c) (border_of g aggressive old c) (λ v l. step.made v)
-
-  pub rows_stay : (e : ℕ) → e ≢ c → count_below g.size (in_block new e) ≡ count_below g.size (in_block old e)
-  rows_stay e ne = count_same g.size (in_block new e) (in_block old e) (λ v l. block_stays e v ne)
-
-  pub border_stays : (e : ℕ) → e ≢ c → count_below g.size (new.border e) ≡ count_below g.size (old.border e)
-  border_stays e ne = count_same g.size (new.border e) (old.border e) (λ v l. step.border_stays e v ne)
-
-  pub made_stays : (e : ℕ) → e ≢ c → is_made g new e ≡ is_made g old e
-  unfolding is_made
-  made_stays e ne = ap (λ b. b && nat_lt 0 (degree g e)) (block_stays e e ne)
-
-  pub pivot_unmade : is_made g old c ≡ false
-  pivot_unmade = elim (cases_Bool (is_made g old c)) [ inl h ↦ absurd (pivot_free c (made_gives g old c h).element) | inr h ↦ h ]
 
 -- the share of an element, with that many dense rows
 unfoldable pub share_at : (ℕ → ℕ) → Graph → ℕ → State → ℕ → ℕ
@@ -145,7 +97,7 @@ step_small g laws aggressive dense_count c old new sound tree step small =
     let b : ℕ = count_below g.size (border_of g aggressive old c) in
     let n : ℕ = count_below g.size (live new) in
     let o : ℕ = count_below g.size (live old) in
-    let parts : o ≡ n + f = live_parts g laws aggressive c old new sound step tree in
+    let parts : o ≡ n + f = live_parts g laws aggressive c old new sound step in
     let within : b ≤ n = border_live g laws aggressive c old new sound step tree in
     let rows : count_below g.size (in_block new c) ≡ f = rows_new g laws aggressive c old new sound step tree in
     let border : count_below g.size (new.border c) ≡ b = border_new g laws aggressive c old new sound step tree in
@@ -154,11 +106,11 @@ step_small g laws aggressive dense_count c old new sound tree step small =
     let at : sum_below g.size (share_at entries g dense_count new) + share_at entries g dense_count old c ≡ sum_below g.size
     (share_at entries g dense_count old) + share_at entries g dense_count new c
     = sum_at g.size (share_at entries g dense_count new) (share_at entries g dense_count old) c l (λ e le ne.
-    let m = made_stays g laws aggressive c old new sound step tree e ne in
-    let r = rows_stay g laws aggressive c old new sound step tree e ne in
-    let k = border_stays g laws aggressive c old new sound step tree e ne in cc) in
+    let m = made_stays g laws aggressive c old new sound step e ne in
+    let r = block_count_stays g laws aggressive c old new sound step e ne in
+    let k = border_count_stays g laws aggressive c old new sound step e ne in cc) in
     let before : share_at entries g dense_count old c ≡ 0 = cond-false (is_made g old c) _ 0
-    (pivot_unmade g laws aggressive c old new sound step tree) in
+    (made_not g laws aggressive c old new sound step) in
     let after : share_at entries g dense_count new c ≤ front_sum entries f (b + dense_count) = elim (cases_Bool (is_made g new c)) [
       | inl y ↦ (let q = cond-true (is_made g new c) (front_sum entries (count_below g.size (in_block new c))
           (count_below g.size (new.border c) + dense_count)) 0 y in
@@ -180,9 +132,9 @@ step_small g laws aggressive dense_count c old new sound tree step small =
             ap (λ k. count_below g.size (in_block new k)) q in
             let k : count_below g.size (new.border e) ≡ count_below g.size (new.border c) = ap (λ k. count_below g.size (new.border k)) q in
             omega arith)
-        | inr ne ↦ (let r = rows_stay g laws aggressive c old new sound step tree e ne in
-            let k = border_stays g laws aggressive c old new sound step tree e ne in
-            let t = small.fronts e le (sym (made_stays g laws aggressive c old new sound step tree e ne) ∙ h) in omega arith)
+        | inr ne ↦ (let r = block_count_stays g laws aggressive c old new sound step e ne in
+            let k = border_count_stays g laws aggressive c old new sound step e ne in
+            let t = small.fronts e le (sym (made_stays g laws aggressive c old new sound step e ne) ∙ h) in omega arith)
       ];
     }
 

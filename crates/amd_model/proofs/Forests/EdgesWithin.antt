@@ -3,8 +3,8 @@ use Rattle.std.proofs.Common.{ℕ, zero, suc, Bool, true, false, ◌≡◌, ◌�
 use Rattle.std.specs.Prelude.{◌==◌}
 use Rattle.std.proofs.lemmas.Bool.{cases_eq, eq-eqb, ne_eqb}
 use Rattle.amd_model.specs.Below.{sum_below, count_below}
-use Rattle.amd_model.proofs.Counting.Below.{sum_same, count_same}
-use Rattle.amd_model.proofs.Counting.Points.{count_zero, count_drop}
+use Rattle.amd_model.proofs.Counting.Below.{sum_same, count_same, count_zero}
+use Rattle.amd_model.proofs.Counting.Points.{count_drop}
 
 -- the edges among the rows below n that pass, each counted at the greater one of its rows
 unfoldable pub within : (ℕ → ℕ → Bool) → ℕ → (ℕ → Bool) → ℕ

@@ -1,7 +1,7 @@
 -- In a run on a forest the entries of the elements made so far and the edges among the live rows are all edges.
 use Rattle.std.proofs.Common.{ℕ, Bool, true, false, ◌≡◌, ◌≢◌, ◌<◌, ◌≤◌, ◌+◌, ◌&&◌, not, cond, inl, inr, refl, sym, ◌∙◌, ap, subst, arith}
 use Rattle.std.specs.Prelude.{◌==◌, nat_lt}
-use Rattle.std.proofs.lemmas.Bool.{cases_Bool, false≢true, cases_eq, and_parts, and_from, not-true, not_from_false, eq-eqb, ne_eqb, lt-ltb}
+use Rattle.std.proofs.lemmas.Bool.{cases_Bool, false≢true, cases_eq, and_parts, and_from, not-true, not_from_false, eq-eqb, ne_eqb}
 use Rattle.std.specs.Cmp.{both_ways}
 use Rattle.amd_model.specs.Below.{sum_below, count_below}
 use Rattle.amd_model.specs.Graph.{Graph, IsGraph, degree, edge_count}
@@ -11,18 +11,19 @@ use Rattle.amd_model.specs.Step.{StepAt, block, border_of}
 use Rattle.amd_model.specs.Figures.{front_sum, is_made, figure, entries}
 use Rattle.amd_model.specs.Reach.{direct}
 use Rattle.amd_model.specs.Sound.{IsSound}
-use Rattle.amd_model.proofs.Counting.Below.{count_mono, count_same, count_split, count_pos, sum_same, clash, sum_at, sum_zero}
-use Rattle.amd_model.proofs.Counting.Points.{count_zero, zero_counted, count_drop}
+use Rattle.amd_model.proofs.Counting.Below.{count_mono, count_same, count_split, count_pos, sum_same, clash, sum_at, sum_zero, count_zero}
+use Rattle.amd_model.proofs.Counting.Points.{zero_counted, count_drop}
 use Rattle.amd_model.proofs.Forests.EdgesWithin.{within, without, within_same, within_without}
 use Rattle.amd_model.proofs.Figures.Sums.{entries_sum}
-use Rattle.amd_model.proofs.States.Steps.{block_pivot}
+use Rattle.amd_model.proofs.States.Steps.{block_pivot, border_gives}
 use Rattle.amd_model.proofs.States.Words.{class_gives, live_gives, live_from, block_gives, block_from}
 use Rattle.amd_model.proofs.States.Sound.{live_small, front_live, reached_front}
 use Rattle.amd_model.proofs.States.SoundStep.{Fate, goes, moves, stays, fate, was_live, block_reaches, live_not_block}
 use Rattle.amd_model.proofs.States.SoundStart.{begins, is_last, is_empty, is_live}
 use Rattle.amd_model.proofs.States.Bounds.{Bounded}
-use Rattle.amd_model.proofs.Forests.Thin.{IsThin, edge_live, pivot_home, front_few, front_single, front_edge, border_front, block_row}
-use Rattle.amd_model.proofs.Forests.Thin.{block_live, gone_from_old}
+use Rattle.amd_model.proofs.Forests.Thin.{IsThin, edge_live, pivot_home, front_few, front_single, front_edge, block_row}
+use Rattle.amd_model.proofs.Forests.Thin.{gone_from_old}
+use Rattle.amd_model.proofs.States.StepFronts.{made_not, made_stays, made_new, block_count_stays, border_count_stays}
 
 -- the edges among the live rows
 unfoldable pub edges_left : Graph → State → ℕ
@@ -68,9 +69,9 @@ module _ (g : Graph) (laws : IsGraph g) (forest : IsForest g) (aggressive : Bool
   edge_stays v w lv lw nv nw e = elim (fate' v) [
     | goes b q ↦ absurd (joined_differ v w e (one_row v w (row_of v b nv) (elim (fate' w) [
       | goes b' q' ↦ row_of w b' nw
-      | moves s x j p q' r a o k ↦ border_front g laws forest aggressive c old new sound bounded step thin w s
-      | stays ni nf q' ↦ (let i = live_gives (old.home w) lw in border_front g laws forest aggressive c old new sound bounded step thin w
-          (block_reaches g laws aggressive c old new sound step v w i.0 b (q' ∙ i.1) (direct e)))
+      | moves s x j p q' r a o k ↦ (border_gives g aggressive old c w s).0
+      | stays ni nf q' ↦ (let i = live_gives (old.home w) lw in (border_gives g aggressive old c w
+          (block_reaches g laws aggressive c old new sound step v w i.0 b (q' ∙ i.1) (direct e)))).0
     ])))
     | moves s x j p q r a o k ↦ live_from j (new.home v) q
     | stays ni nf q ↦ (let i = live_gives (old.home v) lv in live_from i.0 (new.home v) (q ∙ i.1))
@@ -115,24 +116,6 @@ module _ (g : Graph) (laws : IsGraph g) (forest : IsForest g) (aggressive : Bool
       let a = within_without g.edge laws.symmetric laws.no_loop g.size (live old) c size_c (live_from c (old.home c) home_c) in
       let b = left_after in let d = front_neighbours in omega (arith, a, b, d)
 
-  -- the block and the border of an element made before stay as they were
-  block_same : (e v : ℕ) → e ≢ c → in_block new e v ≡ in_block old e v
-  block_same e v ne = both_ways (in_block new e v) (in_block old e v)
-      (λ h. elim (gone_from_old g laws forest aggressive c old new sound bounded step thin v e (block_gives e (new.home v) h)) [
-        | inl p ↦ absurd (ne p.0)
-        | inr p ↦ block_from e (old.home v) p.1
-      ])
-      (λ h. let k = block_gives e (old.home v) h in elim (fate' v) [
-        | goes b q ↦ absurd (let l = live_gives (old.home v) (block_live g laws forest aggressive c old new sound bounded step thin v b) in
-            let m = l.1 in cc)
-        | moves s x j p q r a o w ↦ absurd (cc)
-        | stays ni nf q ↦ block_from e (new.home v) (q ∙ k)
-      ])
-
-  made_same : (e : ℕ) → e ≢ c → is_made g new e ≡ is_made g old e
-  unfolding is_made
-  made_same e ne = ap (λ b. b && nat_lt 0 (degree g e)) (block_same e e ne)
-
   border_is : (v : ℕ) → border_of g aggressive old c v ≡ (front g old c v && not (block g aggressive old c v))
   unfolding border_of
   border_is v = refl
@@ -168,18 +151,6 @@ module _ (g : Graph) (laws : IsGraph g) (forest : IsForest g) (aggressive : Bool
   unfolding degree
   new_degree = count_mono g.size (front g old c) (g.edge c) (λ v l f. edge_to v f)
 
-  old_unmade : is_made g old c ≡ false
-  unfolding is_made
-  old_unmade = elim (cases_Bool (is_element old c && nat_lt 0 (degree g c))) [
-    | inr f ↦ f
-    | inl t ↦ absurd (let k = block_gives c (old.home c) (and_parts (is_element old c) (nat_lt 0 (degree g c)) t).0 in let h = home_c in cc)
-  ]
-
-  new_made : 0 < degree g c → is_made g new c ≡ true
-  unfolding is_made
-  new_made l = and_from (is_element new c) (nat_lt 0 (degree g c)) (block_from c (new.home c) (step.gone c block_c))
-      (lt-ltb 0 (degree g c) l)
-
   module _ (dense : ℕ → Bool) (none_dense : count_below g.size dense ≡ 0) where
     -- what an element adds to the figure
     part : State → ℕ → ℕ
@@ -189,9 +160,9 @@ module _ (g : Graph) (laws : IsGraph g) (forest : IsForest g) (aggressive : Bool
     part_same : (e : ℕ) → e ≢ c → part new e ≡ part old e
     unfolding part
     part_same e ne =
-        let a = made_same e ne in
-        let b = count_same g.size (in_block new e) (in_block old e) (λ v l. block_same e v ne) in
-        let d = count_same g.size (new.border e) (old.border e) (λ v l. step.border_stays e v ne) in
+        let a = made_stays g laws aggressive c old new sound step e ne in
+        let b = block_count_stays g laws aggressive c old new sound step e ne in
+        let d = border_count_stays g laws aggressive c old new sound step e ne in
         cc
 
     part_made : part new c ≡ count_below g.size (front g old c)
@@ -205,7 +176,8 @@ module _ (g : Graph) (laws : IsGraph g) (forest : IsForest g) (aggressive : Bool
         let is : front_sum entries f r ≡ l = few_entries f r l (omega (arith, rows, none_dense)) some few in
         elim (cases_eq l 0) [
           | inl z ↦ (let k : front_sum entries f r ≡ 0 = is ∙ z in nothing (is_made g new c) (front_sum entries f r) k ∙ sym z)
-          | inr nz ↦ (let d = new_degree in let m = new_made (omega (arith, d)) in ap (λ b. cond b (front_sum entries f r) 0) m ∙ is)
+          | inr nz ↦ (let d = new_degree in let m = made_new g laws aggressive c old new sound step (omega (arith, d)) in
+              ap (λ b. cond b (front_sum entries f r) 0) m ∙ is)
         ]
       where
         nothing : (b : Bool) (k : ℕ) → k ≡ 0 → cond b k 0 ≡ 0
@@ -216,7 +188,7 @@ module _ (g : Graph) (laws : IsGraph g) (forest : IsForest g) (aggressive : Bool
     unfolding part
     part_before = ap (λ b.
         cond b (front_sum entries (count_below g.size (in_block old c)) (count_below g.size (old.border c) + count_below g.size dense)) 0)
-        old_unmade
+        (made_not g laws aggressive c old new sound step)
 
     pub figure_step : figure entries g dense new ≡ figure entries g dense old + count_below g.size (front g old c)
     unfolding figure part

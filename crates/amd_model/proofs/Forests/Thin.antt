@@ -9,17 +9,18 @@ use Rattle.amd_model.specs.State.{State, Last, Live, Gone, live, eliminated, in_
 use Rattle.amd_model.specs.Step.{StepAt, other, outer, block, border_of, beyond, outside, new_bound}
 use Rattle.amd_model.specs.Reach.{Reach, direct}
 use Rattle.amd_model.specs.Sound.{IsSound}
-use Rattle.amd_model.proofs.Counting.Below.{any_gives, count_mono, count_pos, clash, sum_zero}
-use Rattle.amd_model.proofs.Counting.Points.{count_zero, one_counted}
+use Rattle.amd_model.proofs.Counting.Below.{any_gives, count_mono, count_pos, clash, sum_zero, count_zero}
+use Rattle.amd_model.proofs.Counting.Points.{one_counted}
 use Rattle.amd_model.proofs.Forests.Leaf.{leaf}
 use Rattle.amd_model.proofs.States.Words.{class_gives, class_from, live_gives, live_from, holds_gives, front_gives, reach_split, reach_flip}
-use Rattle.amd_model.proofs.States.Sound.{live_small, front_live, front_reached, neighbours_edge}
+use Rattle.amd_model.proofs.States.Sound.{live_small, front_live, front_reached, neighbours_edge, front_below}
 use Rattle.amd_model.proofs.States.SoundStep.{step_sound, Fate, goes, moves, stays, fate, pivot_live, was_live}
 use Rattle.amd_model.proofs.States.SoundStep.{was_eliminated, block_reaches, other_border}
 use Rattle.amd_model.proofs.States.SoundStart.{begins, is_last, is_empty, is_live, own, no_edge, path_is_edge}
 use Rattle.amd_model.proofs.States.NewParts.{was_class}
 use Rattle.amd_model.proofs.States.Bounds.{Bounded}
-use Rattle.amd_model.proofs.States.Steps.{outer_parts, mass_gives, block_cases, block_pivot, border_gives}
+use Rattle.amd_model.proofs.States.Steps.{outer_parts, mass_gives, block_cases, border_gives}
+use Rattle.amd_model.proofs.States.StepFronts.{gone_named}
 
 -- the live neighbours of a row
 abbrev pub live_neighbour : Graph → State → ℕ → ℕ → Bool
@@ -117,31 +118,20 @@ module _ (g : Graph) (laws : IsGraph g) (forest : IsForest g) (aggressive : Bool
       let d = bounded c pivot_home in
       omega (arith, few, a, b, d)
 
-  pub front_size : (v : ℕ) → front g old c v ≡ true → v < g.size
-  front_size v f = live_in_size v (front_live g laws old sound c v f)
-
   pub front_single : (v w : ℕ) → front g old c v ≡ true → front g old c w ≡ true → v ≡ w
-  front_single v w fv fw = one_counted g.size (front g old c) front_few v w (front_size v fv) (front_size w fw) fv fw
+  front_single v w fv fw = one_counted g.size (front g old c) front_few v w (front_below g laws old sound c v fv)
+      (front_below g laws old sound c w fw) fv fw
 
   pub front_edge : (v : ℕ) → front g old c v ≡ true → g.edge c v ≡ true
   front_edge v f = thin.edges c v (live_from c (old.home c) pivot_home) (front_live g laws old sound c v f)
       (λ q. clash (class_from c (old.home v) (ap old.home (sym q) ∙ pivot_home)) (front_gives g old c v f).0)
       (front_reached g laws old sound c c v pivot_home f)
 
-  pub border_front : (v : ℕ) → border_of g aggressive old c v ≡ true → front g old c v ≡ true
-  border_front v b = (border_gives g aggressive old c v b).0
-
   -- a row of the block is the pivot row or the one row of L
   pub block_row : (v : ℕ) → block g aggressive old c v ≡ true → v ≢ c → front g old c v ≡ true
   block_row v b ne = elim (block_cases g aggressive old c v b) [
     | inl h ↦ absurd (ne (thin.alone v c h))
     | inr k ↦ subst (λ m. front g old c m ≡ true) (sym (thin.alone v k.0 k.2)) (mass_gives g aggressive old c k.0 k.1).in_front
-  ]
-
-  pub block_live : (v : ℕ) → block g aggressive old c v ≡ true → live old v ≡ true
-  block_live v b = elim (block_cases g aggressive old c v b) [
-    | inl h ↦ live_from c (old.home v) h
-    | inr k ↦ live_from k.0 (old.home v) k.2
   ]
 
   -- what is eliminated afterwards was so with the same home, or is in the new block
@@ -174,8 +164,9 @@ module _ (g : Graph) (laws : IsGraph g) (forest : IsForest g) (aggressive : Bool
   new_alone : (v i : ℕ) → new.home v ≡ Live i → v ≡ i
   new_alone v i h = elim (fate' v) [
     | goes b q ↦ absurd (cc)
-    | moves s x j p q r a o w ↦ front_single v i (border_front v s)
-        (border_front i (subst (λ m. border_of g aggressive old c m ≡ true) (let f : Live j ≡ Live i = sym q ∙ h in cc) r))
+    | moves s x j p q r a o w ↦ front_single v i (border_gives g aggressive old c v s).0
+        (border_gives g aggressive old c i
+        (subst (λ m. border_of g aggressive old c m ≡ true) (let f : Live j ≡ Live i = sym q ∙ h in cc) r)).0
     | stays ni nf q ↦ thin.alone v i (sym q ∙ h)
   ]
 
@@ -184,19 +175,6 @@ module _ (g : Graph) (laws : IsGraph g) (forest : IsForest g) (aggressive : Bool
     | goes b q ↦ absurd (cc)
     | moves s x j p q r a o w ↦ absurd (cc)
     | stays ni nf q ↦ thin.last v (sym q ∙ h)
-  ]
-
-  old_gone_stays : (v e : ℕ) → old.home v ≡ Gone e → new.home v ≡ Gone e
-  old_gone_stays v e h = elim (fate' v) [
-    | goes b q ↦ absurd (let l = live_gives (old.home v) (block_live v b) in let k = l.1 in cc)
-    | moves s x j p q r a o w ↦ absurd (cc)
-    | stays ni nf q ↦ q ∙ h
-  ]
-
-  new_named : (v e : ℕ) → new.home v ≡ Gone e → new.home e ≡ Gone e
-  new_named v e h = elim (gone_from_old v e h) [
-    | inl k ↦ subst (λ m. new.home m ≡ Gone m) (sym k.0) (step.gone c (block_pivot g aggressive old c c pivot_home))
-    | inr k ↦ old_gone_stays e e (thin.named v e k.1)
   ]
 
   new_edges : (v w : ℕ) → live new v ≡ true → live new w ≡ true → v ≢ w → Reach g (eliminated new) v w → g.edge v w ≡ true
@@ -208,9 +186,9 @@ module _ (g : Graph) (laws : IsGraph g) (forest : IsForest g) (aggressive : Bool
       (was_eliminated g laws aggressive c old new sound step) r) [
         | inl q ↦ thin.edges v w (live_from ov.0 (old.home v) ov.1) (live_from ow.0 (old.home w) ow.1) ne q
         | inr t ↦ absurd (ne (front_single v w
-            (border_front v (block_reaches g laws aggressive c old new sound step t.enter v i.0 t.enters i.1
-            (reach_flip g laws (eliminated old) t.to)))
-            (border_front w (block_reaches g laws aggressive c old new sound step t.leave w j.0 t.leaves j.1 t.on))))
+            (border_gives g aggressive old c v (block_reaches g laws aggressive c old new sound step t.enter v i.0 t.enters i.1
+            (reach_flip g laws (eliminated old) t.to))).0
+            (border_gives g aggressive old c w (block_reaches g laws aggressive c old new sound step t.leave w j.0 t.leaves j.1 t.on)).0))
       ]
 
   -- an other element that holds the row of L has no row beyond L
@@ -223,7 +201,8 @@ module _ (g : Graph) (laws : IsGraph g) (forest : IsForest g) (aggressive : Bool
         | inl t ↦ (let p = and_parts (old.border e v) (not (front g old c v)) t in
             let b : old.border e i ≡ true = sym (other_border g laws aggressive c old new sound step e i o) ∙
             (holds_gives g new e i h).rows i (live_small g laws new after i i hi) hi in
-            clash (subst (λ m. front g old c m ≡ true) (thin.single e i v b p.0) (border_front i on)) (not-true (front g old c v) p.1))
+            clash (subst (λ m. front g old c m ≡ true) (thin.single e i v b p.0)
+            (border_gives g aggressive old c i on).0) (not-true (front g old c v) p.1))
       ])
 
   -- a direct neighbour outside L is a live neighbour, and stays one
@@ -268,7 +247,8 @@ module _ (g : Graph) (laws : IsGraph g) (forest : IsForest g) (aggressive : Bool
   new_bound_few i hi on =
       let far = outside_few i hi on in
       let few : count_below g.size (border_of g aggressive old c) ≤ 1 = (
-      let m = count_mono g.size (border_of g aggressive old c) (front g old c) (λ v l b. border_front v b) in let f = front_few in
+      let m = count_mono g.size (border_of g aggressive old c) (front g old c) (λ v l b. (border_gives g aggressive old c v b).0) in
+      let f = front_few in
       omega (arith, m, f)) in
       let own' : 0 < count_below g.size (in_class new i) = count_pos g.size (in_class new i) i (live_small g laws new after i i hi)
       (class_from i (new.home i) hi) in
@@ -289,7 +269,7 @@ module _ (g : Graph) (laws : IsGraph g) (forest : IsForest g) (aggressive : Bool
   new_single : (e v w : ℕ) → new.border e v ≡ true → new.border e w ≡ true → v ≡ w
   new_single e v w bv bw = elim (border_from_old e v bv) [
     | inl p ↦ elim (border_from_old e w bw) [
-      | inl q ↦ front_single v w (border_front v p.1) (border_front w q.1)
+      | inl q ↦ front_single v w (border_gives g aggressive old c v p.1).0 (border_gives g aggressive old c w q.1).0
       | inr q ↦ absurd (q.0 p.0)
     ]
     | inr p ↦ elim (border_from_old e w bw) [
@@ -300,7 +280,7 @@ module _ (g : Graph) (laws : IsGraph g) (forest : IsForest g) (aggressive : Bool
 
   new_border_edge : (e v : ℕ) → new.border e v ≡ true → g.edge e v ≡ true
   new_border_edge e v b = elim (border_from_old e v b) [
-    | inl p ↦ subst (λ m. g.edge m v ≡ true) (sym p.0) (front_edge v (border_front v p.1))
+    | inl p ↦ subst (λ m. g.edge m v ≡ true) (sym p.0) (front_edge v (border_gives g aggressive old c v p.1).0)
     | inr p ↦ thin.border_edge e v p.1
   ]
 
@@ -326,7 +306,7 @@ module _ (g : Graph) (laws : IsGraph g) (forest : IsForest g) (aggressive : Bool
   new_block_closed v e w h ne b = elim (gone_from_old v e h) [
     | inl p ↦ elim (border_from_old e w b) [
       | inl q ↦ clash (subst (λ m. block g aggressive old c m ≡ true)
-          (front_single v w (block_row v p.1 (λ z. ne (z ∙ sym p.0))) (border_front w q.1)) p.1)
+          (front_single v w (block_row v p.1 (λ z. ne (z ∙ sym p.0))) (border_gives g aggressive old c w q.1).0) p.1)
           (border_gives g aggressive old c w q.1).1
       | inr q ↦ q.0 p.0
     ]
@@ -340,7 +320,7 @@ module _ (g : Graph) (laws : IsGraph g) (forest : IsForest g) (aggressive : Bool
   step_thin = record {
     last = new_last;
     alone = new_alone;
-    named = new_named;
+    named = gone_named g laws aggressive c old new sound step thin.named;
     edges = new_edges;
     bounds = new_bounds;
     single = new_single;

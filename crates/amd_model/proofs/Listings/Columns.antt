@@ -1,5 +1,6 @@
 -- Under a postordered listing the column of a row lies in its block, its element's border and the dense rows.
-use Rattle.std.proofs.Common.{ℕ, Bool, true, false, ◌≡◌, ◌<◌, ◌≤◌, ◌⊎◌, inl, inr, refl, sym, ◌∙◌, subst, List, ◌∷◌, ◌++◌}
+use Rattle.std.proofs.Common.{ℕ, Bool, true, false, ◌≡◌, ◌<◌, ◌≤◌, ◌⊎◌, inl, inr, sym, ◌∙◌, subst, List, ◌∷◌, ◌++◌}
+use Rattle.std.proofs.lemmas.Bool.{false_from_ne_true}
 use Rattle.amd_model.specs.Below.{list_below}
 use Rattle.amd_model.specs.Graph.{Graph}
 use Rattle.amd_model.specs.State.{State, Last, Gone, live}
@@ -13,10 +14,6 @@ use Rattle.amd_model.specs.Quotient.{has}
 module _ (g : Graph) (s : State) (tree : IsTree g s) (over : (v : ℕ) → live s v ≡ false) (rows : (v : ℕ) → g.size ≤ v → s.home v ≡ Last)
     (gone_below : (f e : ℕ) → s.home f ≡ Gone e → f < g.size)
     (dense : ℕ → Bool) (dense_last : (v : ℕ) → v < g.size → dense v ≡ true → s.home v ≡ Last) where
-  not_true : (b : Bool) → (b ≡ true → ⊥) → b ≡ false
-  not_true true f = absurd (f refl)
-  not_true false f = refl
-
   -- a row that is not dense is among the blocks
   in_blocks : (blocks ps bs : List ℕ) (v e : ℕ) → s.home v ≡ Gone e → blocks ++ list_below g.size dense ≡ ps ++ v ∷ bs →
       (cs : List ℕ) × (blocks ≡ ps ++ v ∷ cs)
@@ -34,9 +31,9 @@ module _ (g : Graph) (s : State) (tree : IsTree g s) (over : (v : ℕ) → live 
       let split = in_blocks post.blocks ps bs v e hv (sym post.is ∙ q) in
       let level : IsLevel s (roots (assembly_tree g s)) = roots_level g s tree rows in
       elim (path_inside g s tree over gone_below e (λ u. has ps u)
-      (λ u h. not_true (has ps u) (λ k. let a = listed_from g s tree rows level post.lists u
+      (λ u h. false_from_ne_true (has ps u) (λ k. let a = listed_from g s tree rows level post.lists u
       (subst (λ m. has m u ≡ true) (sym split.1) (has_left u ps (v ∷ split.0) k)) in let b = a.3 in cc))
-      (λ u f h a. not_true (has ps u) (λ k. upper_later g s tree rows level post.lists ps split.0 v e u f split.1 hv h a k))
+      (λ u f h a. false_from_ne_true (has ps u) (λ k. upper_later g s tree rows level post.lists ps split.0 v e u f split.1 hv h a k))
       (λ u f h a. lower_first g s tree rows level post.lists ps split.0 v e u f split.1 hv h a)
       e hv self n r) [
         | in_dense h ↦ inl h

@@ -27,7 +27,8 @@ end_columns g dense s end p post k j e l m hv r =
     ] in
     elim (column_inside g s end.made.tree end.over end.made.sound.rows end.small dense end.made.dense_last p (take k p) (drop (suc k) p)
     (slice_index p k) (slice_index p j) e post
-    (part_at p k (omega arith)) hv not_yet (reach_more g (before p k) (λ u. has (take k p) u) (λ u h. before_has p k u (omega arith) h) r)) [
+    (part_at p k (omega arith)) hv not_yet
+    (reach_more g (before p k) (λ u. has (take k p) u) (λ u h. before_has p k u (omega arith) h) r)) [
       | inl h ↦ inr (inr h)
       | inr h ↦ elim h [ inl q ↦ inl q | inr q ↦ inr (inl q) ]
     ]

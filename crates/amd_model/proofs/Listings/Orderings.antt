@@ -1,16 +1,11 @@
--- What is promised of an ordering, put together; and states that follow the rules are a run.
-use Rattle.std.proofs.Common.{ℕ, Bool, true, false, ◌≡◌, ◌∙◌, List, [], ◌∷◌, ◌++◌, refl}
-use Rattle.std.proofs.lemmas.Bool.{cases_Bool}
-use Rattle.std.proofs.Common.{inl, inr}
-use Rattle.amd_model.specs.Graph.{Graph, IsGraph}
-use Rattle.amd_model.specs.State.{State, live, IsStart}
+-- What is promised of an ordering, put together; and states that follow the rules come by steps.
+use Rattle.std.proofs.Common.{Bool, false, ◌≡◌, List, [], ◌∷◌, ◌++◌, refl}
+use Rattle.amd_model.specs.Graph.{Graph}
+use Rattle.amd_model.specs.State.{State}
 use Rattle.amd_model.specs.Step.{StepAt}
-use Rattle.amd_model.specs.Run.{Run, Steps, last_state}
+use Rattle.amd_model.specs.Run.{Steps, last_state}
 use Rattle.amd_model.specs.Quotient.{QuotientGraph, Fits, is_empty, pivot, next}
 use Rattle.amd_model.specs.Ordering.{Follows, none, more, OrderingsPromise}
-use Rattle.amd_model.proofs.States.Words.{live_gives, class_from}
-use Rattle.amd_model.proofs.States.SoundStart.{start_sound, steps_sound}
-use Rattle.amd_model.proofs.Quotient.Lists.{empty_gives}
 use Rattle.amd_model.proofs.States.Paths.{fronts_in_each_state}
 use Rattle.amd_model.proofs.States.Exact.{bounds_in_each_state}
 use Rattle.amd_model.proofs.Figures.NeededColumns.{figures_cover}
@@ -57,28 +52,3 @@ pub follows_more : (g : Graph) (aggressive : Bool) (t u : QuotientGraph) (s : St
 follows_more g aggressive t u s _ new none some step fits = (more some step fits none, refl)
 follows_more g aggressive t u s _ new (more {new = n} {rest = rest} some' step' fits' later) some step fits =
     let r = follows_more g aggressive (next aggressive t) u n rest new later some step fits in (more some' step' fits' r.0, r.1)
-
-none_left : (xs : List ℕ) → xs ≡ [] → is_empty xs ≡ true
-unfolding is_empty
-none_left [] e = refl
-none_left (x ∷ xs) e = cc
-
--- from a start to lists with no class they are a run
-pub follows_run : (g : Graph) (dense : ℕ → Bool) (aggressive : Bool) (t u : QuotientGraph) (s : State) (states : List State) → IsGraph g →
-    IsStart g dense s → Fits g t s →
-    Follows g aggressive t s states u → u.placed ≡ [] → Run g dense aggressive s states
-follows_run g dense aggressive t u s states laws start fits follows over =
-    let steps = follows_steps g aggressive t u s states follows in
-    let last : State = last_state s states in
-    let sound = steps_sound g laws aggressive s states (start_sound g laws dense s start) steps in
-    let ends = follows_fits g aggressive t u s states fits follows in
-    record {
-      start = start;
-      steps = steps;
-      end = λ v. elim (cases_Bool (live last v)) [
-        | inr n ↦ n
-        | inl y ↦ (let d = live_gives (last.home v) y in
-            absurd (empty_gives u.placed (none_left u.placed over) d.0
-            (ends.placed d.0 ∙ class_from d.0 (last.home d.0) (sound.named v d.0 d.1))))
-      ];
-    }

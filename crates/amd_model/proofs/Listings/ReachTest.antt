@@ -22,12 +22,13 @@ module _ (g : Graph) (through : ℕ → Bool) where
   reaches_path : (m v w : ℕ) → reaches g through m v w ≡ true → Reach g through v w
   unfolding reaches
   reaches_path zero v w h = direct h
-  reaches_path (suc m) v w h = elim (or_cases (reaches g through m v w) (through m && reaches g through m v m && reaches g through m m w) h) [
-    | inl a ↦ reaches_path m v w a
-    | inr a ↦ (let q = and_parts (through m && reaches g through m v m) (reaches g through m m w) a in
-        let r = and_parts (through m) (reaches g through m v m) q.0 in
-        reach_join g through (reaches_path m v m r.1) r.0 (reaches_path m m w q.1))
-  ]
+  reaches_path (suc m) v w h =
+      elim (or_cases (reaches g through m v w) (through m && reaches g through m v m && reaches g through m m w) h) [
+        | inl a ↦ reaches_path m v w a
+        | inr a ↦ (let q = and_parts (through m && reaches g through m v m) (reaches g through m m w) a in
+            let r = and_parts (through m) (reaches g through m v m) q.0 in
+            reach_join g through (reaches_path m v m r.1) r.0 (reaches_path m m w q.1))
+      ]
 
   -- the rows of the set below m
   below : ℕ → ℕ → Bool

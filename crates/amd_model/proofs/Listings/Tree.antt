@@ -1,20 +1,21 @@
 -- The tree of the elements: borders lead upwards, and edges join blocks of one line.
-use Rattle.std.proofs.Common.{ℕ, zero, suc, Bool, true, false, ◌≡◌, ◌≢◌, ◌<◌, ◌≤◌, ◌+◌, ◌-◌, ◌&&◌, ◌||◌, ◌⊎◌, inl, inr, refl, sym, ◌∙◌, ap}
-use Rattle.std.proofs.Common.{subst, arith, List, [], ◌∷◌, Option, None, Some, cond}
-use Rattle.std.proofs.lemmas.Bool.{cases_Bool, true≢false, false≢true, cases_eq, cases_lt, and_parts, or_cases}
+use Rattle.std.proofs.Common.{ℕ, zero, suc, Bool, true, false, ◌≡◌, ◌≢◌, ◌<◌, ◌≤◌, ◌+◌, ◌-◌, ◌⊎◌, inl, inr, refl, sym, ◌∙◌, ap}
+use Rattle.std.proofs.Common.{subst, arith, [], Option, None, Some, cond}
+use Rattle.std.proofs.lemmas.Bool.{cases_Bool, true≢false, cases_eq}
 use Rattle.amd_model.specs.Below.{sum_below}
 use Rattle.amd_model.specs.Graph.{Graph, IsGraph}
-use Rattle.amd_model.specs.State.{State, Home, Last, Live, Gone, live, stands, inside, holds, front, IsStart}
+use Rattle.amd_model.specs.State.{State, Home, Last, Live, Gone, live, front, IsStart}
 use Rattle.amd_model.specs.Step.{StepAt, absorbed, block, border_of}
 use Rattle.amd_model.specs.Reach.{Reach, direct, by}
 use Rattle.amd_model.proofs.Counting.Below.{term_le_sum, any_from, clash}
-use Rattle.amd_model.proofs.States.Words.{live_gives, live_from, stands_gives, stands_from, holds_gives}
+use Rattle.amd_model.proofs.States.Words.{live_gives, live_from, stands_gives, stands_from}
 use Rattle.amd_model.specs.Sound.{IsSound}
 use Rattle.amd_model.proofs.States.Sound.{live_small, gone_small, front_live}
 use Rattle.amd_model.proofs.States.SoundStep.{step_sound, Fate, goes, moves, stays, fate, pivot_live}
 use Rattle.amd_model.proofs.States.SoundStep.{block_reaches}
 use Rattle.amd_model.proofs.States.SoundStart.{is_last, is_empty, is_live, begins, no_edge}
-use Rattle.amd_model.proofs.States.Steps.{block_cases, absorbed_border, block_pivot, border_gives}
+use Rattle.amd_model.proofs.States.Steps.{absorbed_border, block_pivot, border_gives, block_was, absorbed_stands}
+use Rattle.amd_model.proofs.States.StepFronts.{gone_stays, last_stays, gone_named}
 
 pub data Linked (s : State) (e u w : ℕ) : Type 0 where
   to_last : s.home w ≡ Last → Linked s e u w
@@ -43,33 +44,8 @@ module _ (g : Graph) (laws : IsGraph g) (aggressive : Bool) (c : ℕ) (old new :
   fate' : (v : ℕ) → Fate g laws aggressive c old new sound step v
   fate' = fate g laws aggressive c old new sound step
 
-  pub block_live : (v : ℕ) → block g aggressive old c v ≡ true → (x : ℕ) × (old.home v ≡ Live x)
-  block_live v b = elim (block_cases g aggressive old c v b) [ inl h ↦ (c, h) | inr k ↦ (k.0, k.2) ]
-
-  pub gone_stays : (v e : ℕ) → old.home v ≡ Gone e → new.home v ≡ Gone e
-  gone_stays v e h = elim (fate' v) [
-    | goes b q ↦ absurd (let x = (block_live v b).1 in cc)
-    | moves s x j p q r a o w ↦ absurd (cc)
-    | stays ni nf q ↦ q ∙ h
-  ]
-
-  pub last_stays : (v : ℕ) → old.home v ≡ Last → new.home v ≡ Last
-  last_stays v h = elim (fate' v) [
-    | goes b q ↦ absurd (let x = (block_live v b).1 in cc)
-    | moves s x j p q r a o w ↦ absurd (cc)
-    | stays ni nf q ↦ q ∙ h
-  ]
-
   pub not_pivot : (e : ℕ) → old.home e ≡ Gone e → e ≢ c
   not_pivot e h q = let p = pivot_live g laws aggressive c old new sound step in let m : old.home e ≡ Live c = ap old.home q ∙ p in cc
-
-  absorbed_stands : (e : ℕ) → absorbed g aggressive old c e ≡ true → stands g old e ≡ true
-  unfolding absorbed
-  absorbed_stands e a = elim (or_cases (holds g old e c) (aggressive && stands g old e && inside g (old.border e) (front g old c)) a) [
-    | inl h ↦ (holds_gives g old e c h).standing
-    | inr h ↦ (and_parts aggressive (stands g old e) (and_parts (aggressive && stands g old e) (inside g (old.border e) (front g old c))
-        h).0).1
-  ]
 
   -- where a parent of the new state comes from
   parent_from : (e f : ℕ) → new.parent e ≡ Some f → ((f ≡ c) × (absorbed g aggressive old c e ≡ true)) ⊎ ((e ≢ c) × (old.parent e ≡ Some f))
@@ -77,15 +53,6 @@ module _ (g : Graph) (laws : IsGraph g) (aggressive : Bool) (c : ℕ) (old new :
     | inl a ↦ inl ((let t = step.taken e a in let q : Some f ≡ Some c = sym h ∙ t in cc), a)
     | inr a ↦ (let ne : e ≢ c = λ q. (let r = step.root in let k : Some f ≡ None = sym h ∙ ap new.parent q ∙ r in cc) in
         inr (ne, sym (step.parent_stays e ne a) ∙ h))
-  ]
-
-  new_named : (v e : ℕ) → new.home v ≡ Gone e → new.home e ≡ Gone e
-  new_named v e h = elim (fate' v) [
-    | goes b q ↦ (let k : c ≡ e = (let f : Gone c ≡ Gone e = sym q ∙ h in cc) in
-        subst (λ m. new.home m ≡ Gone m) k
-        (step.gone c (block_pivot g aggressive old c c (pivot_live g laws aggressive c old new sound step))))
-    | moves s x j p q r a o w ↦ absurd (cc)
-    | stays ni nf q ↦ gone_stays e e (tree.named v e (sym q ∙ h))
   ]
 
   new_small : (e v : ℕ) → new.border e v ≡ true → v < g.size
@@ -105,7 +72,7 @@ module _ (g : Graph) (laws : IsGraph g) (aggressive : Bool) (c : ℕ) (old new :
 
   new_up : (e f v : ℕ) → new.parent e ≡ Some f → new.border e v ≡ true → (new.border f v ≡ true) ⊎ (new.home v ≡ Gone f)
   new_up e f v h b = elim (parent_from e f h) [
-    | inl k ↦ (let st = absorbed_stands e k.1 in let ne = not_pivot e (stands_gives g old e st).element in
+    | inl k ↦ (let st = absorbed_stands g aggressive old c e k.1 in let ne = not_pivot e (stands_gives g old e st).element in
         let b' : old.border e v ≡ true = sym (step.border_stays e v ne) ∙ b in
         elim (fate' v) [
           | goes bl q ↦ inr (q ∙ ap Gone (sym k.0))
@@ -114,7 +81,7 @@ module _ (g : Graph) (laws : IsGraph g) (aggressive : Bool) (c : ℕ) (old new :
         ])
     | inr k ↦ elim (tree.up e f v k.1 (sym (step.border_stays e v k.0) ∙ b)) [
       | inl bf ↦ inl (step.border_stays f v (not_pivot f (tree.over e f k.1)) ∙ bf)
-      | inr hv ↦ inr (gone_stays v f hv)
+      | inr hv ↦ inr (gone_stays g laws aggressive c old new sound step v f hv)
     ]
   ]
 
@@ -122,27 +89,29 @@ module _ (g : Graph) (laws : IsGraph g) (aggressive : Bool) (c : ℕ) (old new :
   new_over e f h = elim (parent_from e f h) [
     | inl k ↦ subst (λ m. new.home m ≡ Gone m) (sym k.0)
         (step.gone c (block_pivot g aggressive old c c (pivot_live g laws aggressive c old new sound step)))
-    | inr k ↦ gone_stays f f (tree.over e f k.1)
+    | inr k ↦ gone_stays g laws aggressive c old new sound step f f (tree.over e f k.1)
   ]
 
   new_under : (e f : ℕ) → new.parent e ≡ Some f → new.home e ≡ Gone e
   new_under e f h = elim (parent_from e f h) [
-    | inl k ↦ gone_stays e e (stands_gives g old e (absorbed_stands e k.1)).element
-    | inr k ↦ gone_stays e e (tree.under e f k.1)
+    | inl k ↦ gone_stays g laws aggressive c old new sound step e e
+        (stands_gives g old e (absorbed_stands g aggressive old c e k.1)).element
+    | inr k ↦ gone_stays g laws aggressive c old new sound step e e (tree.under e f k.1)
   ]
 
   linked_stays : (e u w : ℕ) → old.home u ≡ Gone e → Linked old e u w → Linked new e u w
-  linked_stays e u w h (to_last k) = to_last (last_stays w k)
-  linked_stays e u w h (same k) = same (gone_stays w e k)
+  linked_stays e u w h (to_last k) = to_last (last_stays g laws aggressive c old new sound step w k)
+  linked_stays e u w h (same k) = same (gone_stays g laws aggressive c old new sound step w e k)
   linked_stays e u w h (above k) = above (step.border_stays e w (not_pivot e (tree.named u e h)) ∙ k)
-  linked_stays e u w h (below f k b) = below f (gone_stays w f k) (step.border_stays f u (not_pivot f (tree.named w f k)) ∙ b)
+  linked_stays e u w h (below f k b) = below f (gone_stays g laws aggressive c old new sound step w f k)
+      (step.border_stays f u (not_pivot f (tree.named w f k)) ∙ b)
 
   new_edges : (u w e : ℕ) → new.home u ≡ Gone e → g.edge u w ≡ true → Linked new e u w
   new_edges u w e h ed = elim (fate' u) [
     | moves s x j p q r a o n ↦ absurd (cc)
     | stays ni nf q ↦ (let k : old.home u ≡ Gone e = sym q ∙ h in linked_stays e u w k (tree.edges u w e k ed))
     | goes b q ↦ (
-        let ce : c ≡ e = (let f : Gone c ≡ Gone e = sym q ∙ h in cc) in let x = block_live u b in
+        let ce : c ≡ e = (let f : Gone c ≡ Gone e = sym q ∙ h in cc) in let x = block_was g aggressive old c u b in
         subst (λ m. Linked new m u w) ce (elim (fate' w) [
           | goes b' q' ↦ same q'
           | moves s y j p q' r a o n ↦ above (step.made w ∙ s)
@@ -176,7 +145,7 @@ module _ (g : Graph) (laws : IsGraph g) (aggressive : Bool) (c : ℕ) (old new :
 
   new_later : (e f : ℕ) → new.parent e ≡ Some f → new_rank e < new_rank f
   new_later e f h = elim (parent_from e f h) [
-    | inl k ↦ (let el = (stands_gives g old e (absorbed_stands e k.1)).element in
+    | inl k ↦ (let el = (stands_gives g old e (absorbed_stands g aggressive old c e k.1)).element in
         let a = rank_other e (not_pivot e el) in let b = rank_pivot f k.0 in
         let t = term_le_sum g.size tree.rank e (gone_small g laws old sound e e el) in omega (arith, a, b, t))
     | inr k ↦ (let a = rank_other e k.0 in let b = rank_other f (not_pivot f (tree.over e f k.1)) in let t = tree.later e f k.1 in
@@ -185,7 +154,7 @@ module _ (g : Graph) (laws : IsGraph g) (aggressive : Bool) (c : ℕ) (old new :
 
   pub step_tree : IsTree g new
   step_tree = record {
-    named = new_named;
+    named = gone_named g laws aggressive c old new sound step tree.named;
     small = new_small;
     top = new_top;
     up = new_up;

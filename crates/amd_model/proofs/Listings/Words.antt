@@ -300,7 +300,8 @@ module _ (g : Graph) (s : State) (tree : IsTree g s) (rows : (v : ℕ) → g.siz
     elements = λ k h. block_gives k (s.home k) (and_parts (is_element s k) (is_none (s.parent k))
         (has_below g.size (λ e. is_element s e && is_none (s.parent e)) k h).1).0;
     apart = λ a b ha hb p.
-        (let r = (and_parts (is_element s a) (is_none (s.parent a)) (has_below g.size (λ e. is_element s e && is_none (s.parent e)) a ha).1).1
+        (let r = (and_parts (is_element s a) (is_none (s.parent a))
+        (has_below g.size (λ e. is_element s e && is_none (s.parent e)) a ha).1).1
         in
         false≢true (ap is_none (sym p.parent) ∙ r));
   }

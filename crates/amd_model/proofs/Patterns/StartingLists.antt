@@ -5,12 +5,13 @@ use Rattle.std.specs.Prelude.{ℤ, ◌==◌, nat_le, nat_lt, flat_map}
 use Rattle.std.proofs.lemmas.Bool.{cases_Bool, cases_eq, cases_lt, false≢true, and_from, and_parts, eqb-true, eq-eqb, ne_eqb}
 use Rattle.std.proofs.lemmas.Bool.{not_from_false, not-true, or_cases, or_left, or_right, lt-ltb, ltb-true, le-leb, leb-true}
 use Rattle.std.proofs.lemmas.Grind.{flat_map-append}
+use Rattle.std.specs.Cmp.{both_ways}
 use Rattle.amd_model.specs.Below.{any_below, list_below}
 use Rattle.amd_model.specs.Input.Pattern.{graph_of, is_pair, holds_row}
 use Rattle.amd_model.specs.Quotient.{Once, has, was_read, met_below, met_at, met_edges, other_end, starting_list}
 use Rattle.amd_model.specs.QuotientLaws.{StartingLists}
-use Rattle.amd_model.proofs.Counting.Below.{any_none}
-use Rattle.amd_model.proofs.Quotient.Lists.{same_bool, clash, has_append, once_append, flat_gives, flat_from}
+use Rattle.amd_model.proofs.Counting.Below.{any_none, clash}
+use Rattle.amd_model.proofs.Quotient.Lists.{has_append, once_append, flat_gives, flat_from}
 use Rattle.amd_model.proofs.Quotient.Start.{has_below, once_below}
 
 -- ---- lists of lists
@@ -319,7 +320,7 @@ module _ (n : ℕ) (pair : ℕ → ℕ → Bool) (small : (a b : ℕ) → pair a
 
   pub list_names : (x : ℕ) → has (starting_list n pair i) x ≡ (not (i == x) && (pair i x || pair x i))
   unfolding first_part last_part
-  list_names x = same_bool (has (starting_list n pair i) x) (not (i == x) && (pair i x || pair x i))
+  list_names x = both_ways (has (starting_list n pair i) x) (not (i == x) && (pair i x || pair x i))
       (λ h. elim (or_cases (has first_part x) (has last_part x)
       (sym (has_append first_part last_part x) ∙ sym (ap (λ ys. has ys x) list_is) ∙ h)) [
         | inl a ↦ (let r = flat_gives column (list_below n (λ k. true)) x a in let m = column_gives r.0 x r.2 in
@@ -338,7 +339,7 @@ module _ (n : ℕ) (pair : ℕ → ℕ → Bool) (small : (a b : ℕ) → pair a
             (elim (or_cases (pair i x) (pair x i) q.1) [ inl y ↦ inr y | inr y ↦ inl y ])
       ])
 
-pair_small : (n : ℕ) (ap ai : List ℤ) (a b : ℕ) → is_pair n ap ai a b ≡ true → (a < n) × (b < n)
+pub pair_small : (n : ℕ) (ap ai : List ℤ) (a b : ℕ) → is_pair n ap ai a b ≡ true → (a < n) × (b < n)
 unfolding is_pair
 pair_small n pointers rows a b h = let p = and_parts (nat_lt a n && nat_lt b n) (holds_row pointers rows b a) h in
     let q = and_parts (nat_lt a n) (nat_lt b n) p.0 in

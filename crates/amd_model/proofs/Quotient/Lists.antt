@@ -1,43 +1,23 @@
 -- What lists name.
 use Rattle.std.proofs.Common.{ℕ, Bool, true, false, ◌≡◌, ◌≤◌, ◌&&◌, ◌||◌, not, cond, ◌⊎◌, inl, inr, refl, sym, ◌∙◌, ap, subst, arith, List}
 use Rattle.std.proofs.Common.{[], ◌∷◌, ◌++◌}
-use Rattle.std.specs.Prelude.{filter, fold, flat_map, ◌==◌, sum_by}
+use Rattle.std.specs.Prelude.{filter, fold, flat_map, ◌==◌}
 use Rattle.std.proofs.lemmas.Bool.{cases_Bool, true≢false, false≢true, and_parts, and_from, or_cases, or_left, or_right, eqb-true, eq-eqb}
-use Rattle.std.proofs.lemmas.Bool.{ne_eqb, cases_eq, cond-true, cond-false, not_from_false, not_from_true, not-true}
+use Rattle.std.proofs.lemmas.Bool.{cond-true, cond-false, not_from_false, not-true}
+use Rattle.std.proofs.Math.Bool.{or_assoc, or_comm, or-false, and-false}
+use Rattle.std.specs.Cmp.{both_ways}
 use Rattle.amd_model.specs.Quotient.{has, each, is_empty, turned, last_that, add_new, pivot, Once}
-
--- two tests agree if each gives the other
-pub same_bool : (a b : Bool) → (a ≡ true → b ≡ true) → (b ≡ true → a ≡ true) → a ≡ b
-same_bool true b f h = sym (f refl)
-same_bool false true f h = absurd (false≢true (h refl))
-same_bool false false f h = refl
-
-pub clash : {b : Bool} {P : Type 0} → b ≡ true → b ≡ false → P
-clash t f = absurd (true≢false (sym t ∙ f))
-
-or_assoc : (a b c : Bool) → (a || (b || c)) ≡ ((a || b) || c)
-or_assoc true b c = refl
-or_assoc false b c = refl
-
-or_none : (a : Bool) → (a || false) ≡ a
-or_none true = refl
-or_none false = refl
-
-or_flip : (a b : Bool) → (a || b) ≡ (b || a)
-or_flip true true = refl
-or_flip true false = refl
-or_flip false true = refl
-or_flip false false = refl
+use Rattle.amd_model.proofs.Counting.Below.{clash}
 
 pub has_append : (xs ys : List ℕ) (x : ℕ) → has (xs ++ ys) x ≡ (has xs x || has ys x)
 unfolding has
 has_append [] ys x = refl
-has_append (y ∷ xs) ys x = ap (λ b. (y == x) || b) (has_append xs ys x) ∙ or_assoc (y == x) (has xs x) (has ys x)
+has_append (y ∷ xs) ys x = ap (λ b. (y == x) || b) (has_append xs ys x) ∙ sym (or_assoc (y == x) (has xs x) (has ys x))
 
 pub has_turned : (xs : List ℕ) (x : ℕ) → has (turned xs) x ≡ has xs x
 unfolding has turned
 has_turned [] x = refl
-has_turned (y ∷ xs) x = has_append xs (y ∷ []) x ∙ ap (λ b. has xs x || b) (or_none (y == x)) ∙ or_flip (has xs x) (y == x)
+has_turned (y ∷ xs) x = has_append xs (y ∷ []) x ∙ ap (λ b. has xs x || b) (or-false (y == x)) ∙ or_comm (has xs x) (y == x)
 
 -- the first number of a list passes
 pub filter_yes : (p : ℕ → Bool) (y : ℕ) (xs : List ℕ) → p y ≡ true → filter p (y ∷ xs) ≡ y ∷ filter p xs
@@ -47,16 +27,12 @@ filter_yes p y xs h = cond-true (p y) (y ∷ filter p xs) (filter p xs) h
 pub filter_no : (p : ℕ → Bool) (y : ℕ) (xs : List ℕ) → p y ≡ false → filter p (y ∷ xs) ≡ filter p xs
 filter_no p y xs h = cond-false (p y) (y ∷ filter p xs) (filter p xs) h
 
-and_false : (a : Bool) → (a && false) ≡ false
-and_false true = refl
-and_false false = refl
-
 or_and : (a b c : Bool) → (a ≡ true → c ≡ true) → (a || (b && c)) ≡ ((a || b) && c)
 or_and true b c f = sym (f refl)
 or_and false b c f = refl
 
 or_drop : (a b c : Bool) → (a ≡ true → c ≡ false) → (b && c) ≡ ((a || b) && c)
-or_drop true b c f = rw (f refl) (and_false b)
+or_drop true b c f = rw (f refl) (and-false b)
 or_drop false b c f = refl
 
 pub has_filter : (p : ℕ → Bool) (xs : List ℕ) (x : ℕ) → has (filter p xs) x ≡ (has xs x && p x)
@@ -140,10 +116,10 @@ add_fresh skip out x h = cond-false (skip x || has out x) out (out ++ x ∷ []) 
 
 pub firsts : (skip : ℕ → Bool) (out xs : List ℕ) (x : ℕ) → has (fold (add_new skip) out xs) x ≡ (has out x || (has xs x && not (skip x)))
 unfolding has
-firsts skip out [] x = sym (or_none (has out x))
+firsts skip out [] x = sym (or-false (has out x))
 firsts skip out (y ∷ xs) x = firsts skip (add_new skip out y) xs x ∙ elim (cases_Bool (skip y || has out y)) [
   | inl h ↦ ap (λ l. has l x || (has xs x && not (skip x))) (add_old skip out y h) ∙
-      same_bool (has out x || (has xs x && not (skip x))) (has out x || (((y == x) || has xs x) && not (skip x)))
+      both_ways (has out x || (has xs x && not (skip x))) (has out x || (((y == x) || has xs x) && not (skip x)))
       (λ a. elim (or_cases (has out x) (has xs x && not (skip x)) a) [
         | inl b ↦ or_left (has out x) _ b
         | inr b ↦ (let k = and_parts (has xs x) (not (skip x)) b in
@@ -161,11 +137,11 @@ firsts skip out (y ∷ xs) x = firsts skip (add_new skip out y) xs x ∙ elim (c
       ])
   | inr h ↦ ap (λ l. has l x || (has xs x && not (skip x))) (add_fresh skip out y h) ∙
       ap (λ b. b || (has xs x && not (skip x))) (has_append out (y ∷ []) x) ∙
-      same_bool ((has out x || ((y == x) || false)) || (has xs x && not (skip x))) (has out x || (((y == x) || has xs x) && not (skip x)))
+      both_ways ((has out x || ((y == x) || false)) || (has xs x && not (skip x))) (has out x || (((y == x) || has xs x) && not (skip x)))
       (λ a. elim (or_cases (has out x || ((y == x) || false)) (has xs x && not (skip x)) a) [
         | inl b ↦ elim (or_cases (has out x) ((y == x) || false) b) [
           | inl d ↦ or_left (has out x) _ d
-          | inr d ↦ (let q = sym (or_none (y == x)) ∙ d in let e = eqb-true y x q in
+          | inr d ↦ (let q = sym (or-false (y == x)) ∙ d in let e = eqb-true y x q in
               let k = Rattle.std.proofs.lemmas.Bool.or_parts (skip y) (has out y) h in
               or_right (has out x) _ (and_from ((y == x) || has xs x) (not (skip x)) (or_left (y == x) (has xs x) q)
               (not_from_false (skip x) (ap skip (sym e) ∙ k.0))))

@@ -4,6 +4,7 @@ use Rattle.std.proofs.Common.{ℕ, Bool, true, false, ◌≡◌, ◌+◌, ◌&&�
 use Rattle.std.specs.Prelude.{filter, sum_by}
 use Rattle.std.proofs.lemmas.Bool.{cases_Bool, and_parts, cond-true, cond-false}
 use Rattle.std.proofs.lemmas.List.Filters.{sum_by-filter_both}
+use Rattle.std.specs.Cmp.{both_ways}
 use Rattle.amd_model.specs.Below.{count_below}
 use Rattle.amd_model.specs.Graph.{Graph, IsGraph}
 use Rattle.amd_model.specs.State.{State, Live, stands}
@@ -12,7 +13,7 @@ use Rattle.amd_model.specs.Quotient.{QuotientGraph, Fits, Once, has}
 use Rattle.amd_model.proofs.Counting.Below.{sum_same, count_same}
 use Rattle.amd_model.proofs.States.Words.{live_gives, holds_gives}
 use Rattle.amd_model.proofs.States.Sound.{live_small, holds_class}
-use Rattle.amd_model.proofs.Quotient.Lists.{same_bool, has_filter, once_filter}
+use Rattle.amd_model.proofs.Quotient.Lists.{has_filter, once_filter}
 use Rattle.amd_model.proofs.Quotient.Sums.{named, named_gives, named_from, class_sum, sum_over}
 
 module _ (g : Graph) (laws : IsGraph g) (t : QuotientGraph) (s : State) (sound : IsSound g s) (fits : Fits g t s) (e : ℕ)
@@ -21,14 +22,14 @@ module _ (g : Graph) (laws : IsGraph g) (t : QuotientGraph) (s : State) (sound :
   member_class : (i : ℕ) → has (t.members e) i ≡ true → s.home i ≡ Live i
   member_class i h = (holds_gives g s e i (sym (fits.members e i) ∙ h)).class
 
-  both_ways : (i : ℕ) → s.home i ≡ Live i → has (t.elements i) e ≡ has (t.members e) i
-  both_ways i h = fits.elements i e h ∙ sym (fits.members e i)
+  listed_both : (i : ℕ) → s.home i ≡ Live i → has (t.elements i) e ≡ has (t.members e) i
+  listed_both i h = fits.elements i e h ∙ sym (fits.members e i)
 
   -- its members have the rows of its border
   pub members_rows : sum_by t.size (t.members e) ≡ count_below g.size (s.border e)
   members_rows = let xs : List ℕ = t.members e in
       class_sum g s t.size xs (fits.members_once e) (λ x k. fits.size x (member_class x k))
-      ∙ count_same g.size (λ v. named xs (s.home v)) (s.border e) (λ v l. same_bool (named xs (s.home v)) (s.border e v)
+      ∙ count_same g.size (λ v. named xs (s.home v)) (s.border e) (λ v l. both_ways (named xs (s.home v)) (s.border e v)
       (λ k. let d = named_gives xs (s.home v) k in (holds_gives g s e d.0 (sym (fits.members e d.0) ∙ d.2)).rows v l d.1)
       (λ b. let d = live_gives (s.home v) (sound.borders_live e v st b) in
       named_from xs (s.home v) d.0 d.1 (fits.members e d.0 ∙ holds_class g laws s sound e d.0 v st d.1 b)))
@@ -44,7 +45,7 @@ module _ (g : Graph) (laws : IsGraph g) (t : QuotientGraph) (s : State) (sound :
       (λ k. cond (has xs k) (cond (has (t.elements k) e) (t.size k) 0) 0) (λ k l.
       ap (λ b. cond b (t.size k) 0) (has_filter (has xs) (t.members e) k) ∙ elim (cases_Bool (has xs k)) [
         | inl h ↦ ap (λ b. cond (has (t.members e) k && b) (t.size k) 0) h ∙ on (has (t.members e) k) (t.size k) ∙
-            ap (λ b. cond b (t.size k) 0) (sym (both_ways k (classes k h)))
+            ap (λ b. cond b (t.size k) 0) (sym (listed_both k (classes k h)))
             ∙ sym (cond-true (has xs k) (cond (has (t.elements k) e) (t.size k) 0) 0 h)
         | inr h ↦ ap (λ b. cond (has (t.members e) k && b) (t.size k) 0) h ∙ off (has (t.members e) k) (t.size k) ∙
             sym (cond-false (has xs k) (cond (has (t.elements k) e) (t.size k) 0) 0 h)

@@ -10,7 +10,7 @@ use Rattle.amd_model.specs.Run.{Steps, last_state}
 use Rattle.amd_model.specs.Sound.{IsSound}
 use Rattle.amd_model.specs.Quotient.{QuotientGraph, Fits, is_empty, pivot, next, after_rounds}
 use Rattle.amd_model.specs.QuotientLaws.{NextIsAStep, RoundsAreARun}
-use Rattle.amd_model.proofs.Counting.Below.{count_pos, count_mono, count_split}
+use Rattle.amd_model.proofs.Counting.Below.{count_pos, count_mono, count_split, count_most}
 use Rattle.amd_model.proofs.States.Steps.{block_pivot}
 use Rattle.amd_model.proofs.States.Words.{live_gives, live_from, class_from, class_gives}
 use Rattle.amd_model.proofs.States.Sound.{live_small}
@@ -18,7 +18,6 @@ use Rattle.amd_model.proofs.States.SoundStep.{step_sound, was_live, pivot_live}
 use Rattle.amd_model.proofs.States.SoundStart.{start_sound, steps_sound}
 use Rattle.amd_model.proofs.Quotient.Lists.{empty_gives, empty_from}
 use Rattle.amd_model.proofs.Quotient.Round.IsStep.{next_law}
-use Rattle.amd_model.proofs.Quotient.Start.{count_le}
 
 pub next_is_a_step : NextIsAStep
 next_is_a_step g aggressive t s laws sound fits some = let k = next_law g laws aggressive t s sound fits some in
@@ -74,7 +73,7 @@ is_nil (x ∷ xs) e = absurd (true≢false (sym e))
 pub rounds_are_a_run : RoundsAreARun
 rounds_are_a_run g dense aggressive t s laws start fits =
     let sound = start_sound g laws dense s start in
-    let r = rounds_law g.size g laws aggressive t s sound fits (count_le g.size (live s)) in
+    let r = rounds_law g.size g laws aggressive t s sound fits (count_most g.size (live s)) in
     let last : State = last_state s r.0 in
     let sound' = steps_sound g laws aggressive s r.0 sound r.1 in (
       r.0,

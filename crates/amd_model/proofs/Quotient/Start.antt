@@ -1,37 +1,28 @@
 -- The start of the elimination kept in lists.
-use Rattle.std.proofs.Common.{ℕ, zero, suc, Bool, true, false, ◌≡◌, ◌<◌, ◌≤◌, ◌&&◌, ◌||◌, not, cond, refl, sym, ◌∙◌, ap, subst, arith, List}
+use Rattle.std.proofs.Common.{ℕ, zero, suc, Bool, true, false, ◌≡◌, ◌<◌, ◌&&◌, ◌||◌, not, cond, refl, sym, ◌∙◌, ap, subst, arith, List}
 use Rattle.std.proofs.Common.{[], ◌∷◌, inl, inr}
 use Rattle.std.specs.Prelude.{◌==◌, nat_lt}
 use Rattle.std.proofs.lemmas.Bool.{cases_Bool, cases_eq, cases_lt, false≢true, cond-true, cond-false, and_from, and_parts, eqb-true, eq-eqb}
 use Rattle.std.proofs.lemmas.Bool.{ne_eqb, not_from_false, not-true, or_cases, or_parts, or_from, or_left, or_right, lt-ltb, ltb-true}
-use Rattle.amd_model.specs.Below.{count_below, sum_below, list_below}
+use Rattle.std.specs.Cmp.{both_ways}
+use Rattle.amd_model.specs.Below.{count_below, list_below}
 use Rattle.amd_model.specs.Graph.{Graph, IsGraph, degree}
 use Rattle.amd_model.specs.State.{State, Last, Live, Gone, in_class, is_class, holds, neighbours, IsStart}
 use Rattle.amd_model.specs.Quotient.{QuotientGraph, Fits, Once, has, start_tie}
 use Rattle.amd_model.specs.QuotientLaws.{NamesNeighbours, StartFits}
-use Rattle.amd_model.proofs.Counting.Below.{count_same}
+use Rattle.amd_model.proofs.Counting.Below.{count_same, clash}
 use Rattle.amd_model.proofs.States.Words.{class_gives, class_from, holds_gives, neighbours_gives, neighbours_from}
 use Rattle.amd_model.proofs.States.Sound.{live_small}
 use Rattle.amd_model.proofs.States.SoundStart.{start_sound, none_stands, own, no_edge}
-use Rattle.amd_model.proofs.Quotient.Lists.{same_bool, clash, has_append, has_filter, once_append, once_filter}
+use Rattle.amd_model.proofs.Quotient.Lists.{has_append, has_filter, once_append, once_filter}
 use Rattle.amd_model.proofs.Quotient.Sums.{sum_one}
-
-pub count_le : (n : ℕ) (p : ℕ → Bool) → count_below n p ≤ n
-unfolding count_below sum_below
-count_le zero p = omega arith
-count_le (suc n) p = let there : count_below n p ≤ n = count_le n p in
-    let here : cond (p n) 1 0 ≤ 1 = one (p n) in omega (arith, there, here)
-  where
-    one : (b : Bool) → cond b 1 0 ≤ 1
-    one true = omega arith
-    one false = omega arith
 
 -- the numbers below n that pass are listed, each once
 pub has_below : (n : ℕ) (p : ℕ → Bool) (x : ℕ) → has (list_below n p) x ≡ (nat_lt x n && p x)
 unfolding list_below has
 has_below zero p x = elim (cases_Bool (nat_lt x 0)) [ inl h ↦ absurd (let l = ltb-true x 0 h in omega (arith, l)) | inr h ↦ rw h refl ]
 has_below (suc n) p x = has_append (list_below n p) (cond (p n) (n ∷ []) []) x ∙
-    same_bool (has (list_below n p) x || has (cond (p n) (n ∷ []) []) x) (nat_lt x (suc n) && p x)
+    both_ways (has (list_below n p) x || has (cond (p n) (n ∷ []) []) x) (nat_lt x (suc n) && p x)
     (λ h. elim (or_cases (has (list_below n p) x) (has (cond (p n) (n ∷ []) []) x) h) [
       | inl a ↦ (let q = and_parts (nat_lt x n) (p x) (sym (has_below n p x) ∙ a) in let l = ltb-true x n q.0 in
           and_from (nat_lt x (suc n)) (p x) (lt-ltb x (suc n) (omega (arith, l))) q.1)
@@ -102,7 +93,7 @@ module _ (g : Graph) (dense : ℕ → Bool) (s : State) (lists : ℕ → List �
   start_placed : (i : ℕ) → has t.placed i ≡ is_class s i
   unfolding t start_tie
   start_placed i = has_below g.size (λ v. not (dense v || (degree g v == 0))) i ∙
-      same_bool (nat_lt i g.size && not (dense i || (degree g i == 0))) (is_class s i)
+      both_ways (nat_lt i g.size && not (dense i || (degree g i == 0))) (is_class s i)
       (λ h. let q = and_parts (nat_lt i g.size) (not (dense i || (degree g i == 0))) h in
       let r = or_parts (dense i) ((degree g i == 0)) (not-true (dense i || (degree g i == 0)) q.1) in
       class_from i (s.home i) (row_live i (ltb-true i g.size q.0) r.0 r.1))
@@ -113,7 +104,7 @@ module _ (g : Graph) (dense : ℕ → Bool) (s : State) (lists : ℕ → List �
   start_variables : (i j : ℕ) → s.home i ≡ Live i → has (t.variables i) j ≡ neighbours g s i j
   unfolding t start_tie
   start_variables i j hi = has_filter (λ j. not (dense j)) (lists i) j ∙ ap (λ b. b && not (dense j)) ((names i hi).named j) ∙
-      same_bool (g.edge i j && not (dense j)) (neighbours g s i j)
+      both_ways (g.edge i j && not (dense j)) (neighbours g s i j)
       (λ h. let q = and_parts (g.edge i j) (not (dense j)) h in let r = edge_rows i j q.0 in
       let hj = row_live j r.0 (not-true (dense j) q.1) r.1 in
       neighbours_from g s i j (record {
@@ -131,7 +122,7 @@ module _ (g : Graph) (dense : ℕ → Bool) (s : State) (lists : ℕ → List �
   start_size : (i : ℕ) → s.home i ≡ Live i → t.size i ≡ count_below g.size (in_class s i)
   unfolding t start_tie count_below
   start_size i hi = sym (sum_one g.size (λ k. 1) i (live_row i hi).0) ∙
-      count_same g.size (λ v. i == v) (in_class s i) (λ v l. same_bool (i == v) (in_class s i v)
+      count_same g.size (λ v. i == v) (in_class s i) (λ v l. both_ways (i == v) (in_class s i v)
       (λ h. class_from i (s.home v) (ap s.home (sym (eqb-true i v h)) ∙ hi))
       (λ h. eq-eqb i v (sym (own g laws dense s start v i (class_gives i (s.home v) h)))))
 

@@ -4,12 +4,12 @@ use Rattle.std.proofs.Common.{arith, List, [], ◌∷◌}
 use Rattle.std.specs.Prelude.{◌==◌, sum_by}
 use Rattle.std.proofs.lemmas.Bool.{false≢true, or_left, or_right, eqb-true, eq-eqb, ne_eqb, cases_eq, cond-true, cond-false}
 use Rattle.std.proofs.lemmas.List.Sums.{sum_by-cons}
+use Rattle.std.proofs.Math.Bool.{and-false, and-true}
 use Rattle.amd_model.specs.Below.{sum_below, count_below}
 use Rattle.amd_model.specs.Graph.{Graph}
 use Rattle.amd_model.specs.State.{State, Home, Last, Live, Gone, class_at, in_class}
 use Rattle.amd_model.specs.Quotient.{has, Once}
-use Rattle.amd_model.proofs.Counting.Below.{sum_plus, sum_same, count_same, count_split}
-use Rattle.amd_model.proofs.Quotient.Lists.{clash}
+use Rattle.amd_model.proofs.Counting.Below.{sum_plus, sum_same, count_same, count_split, clash, sum_zero}
 
 -- the row is in a class of the list
 unfoldable pub named : List ℕ → Home → Bool
@@ -17,20 +17,12 @@ named xs Last = false
 named xs (Live d) = has xs d
 named xs (Gone e) = false
 
-zeros : (n : ℕ) → sum_below n (λ k. 0) ≡ 0
-unfolding sum_below
-zeros zero = refl
-zeros (suc n) = let a : sum_below n (λ k. 0) ≡ 0 = zeros n in omega (arith, a)
-
-pub sum_none : (n : ℕ) (f : ℕ → ℕ) → ((k : ℕ) → k < n → f k ≡ 0) → sum_below n f ≡ 0
-sum_none n f h = sum_same n f (λ k. 0) h ∙ zeros n
-
 pub sum_one : (n : ℕ) (f : ℕ → ℕ) (x : ℕ) → x < n → sum_below n (λ k. cond (x == k) (f k) 0) ≡ f x
 unfolding sum_below
 sum_one zero f x l = absurd (omega (arith, l))
 sum_one (suc n) f x l = elim (cases_eq x n) [
   | inl q ↦ (let a = cond-true (x == n) (f n) 0 (eq-eqb x n q) in
-      let b = sum_none n (λ k. cond (x == k) (f k) 0) (λ k lk. cond-false (x == k) (f k) 0 (ne_eqb x k (λ e. omega (arith, lk, e, q)))) in
+      let b = sum_zero n (λ k. cond (x == k) (f k) 0) (λ k lk. cond-false (x == k) (f k) 0 (ne_eqb x k (λ e. omega (arith, lk, e, q)))) in
       let e = ap f q in omega (arith, a, b, e))
   | inr ne ↦ (let a = cond-false (x == n) (f n) 0 (ne_eqb x n ne) in let b = sum_one n f x (omega (arith, l, ne)) in omega (arith, a, b))
 ]
@@ -38,7 +30,7 @@ sum_one (suc n) f x l = elim (cases_eq x n) [
 pub sum_over : (n : ℕ) (f : ℕ → ℕ) (xs : List ℕ) → Once xs → ((x : ℕ) → has xs x ≡ true → x < n) →
     sum_by f xs ≡ sum_below n (λ k. cond (has xs k) (f k) 0)
 unfolding has
-sum_over n f [] o small = sym (zeros n)
+sum_over n f [] o small = sym (sum_zero n (λ k. 0) (λ k l. refl))
 sum_over n f (x ∷ xs) o small =
     let here = sum_one n f x (small x (or_left (x == x) (has xs x) (eq-eqb x x refl))) in
     let there = sum_over n f xs o.1 (λ y h. small y (or_right (x == y) (has xs y) h)) in
@@ -64,16 +56,8 @@ class_split x xs (Live d) f = elim (cases_eq d x) [
       let n : has xs d ≡ false = ap (has xs) q ∙ f in
       (rw (a, b) refl, rw (a, b, n) refl))
   | inr ne ↦ (let a : (d == x) ≡ false = ne_eqb d x ne in let b : (x == d) ≡ false = ne_eqb x d (λ e. ne (sym e)) in
-      (rw (a, b) (and_off (has xs d)), rw (a, b) (and_on (has xs d))))
+      (rw (a, b) (and-false (has xs d)), rw (a, b) (and-true (has xs d))))
 ]
-  where
-    and_off : (b : Bool) → (b && false) ≡ false
-    and_off true = refl
-    and_off false = refl
-
-    and_on : (b : Bool) → (b && true) ≡ b
-    and_on true = refl
-    and_on false = refl
 
 none_at : (h : Home) → named [] h ≡ false
 unfolding named has
@@ -83,7 +67,7 @@ none_at (Gone e) = refl
 
 none_named : (g : Graph) (s : State) → count_below g.size (λ v. named [] (s.home v)) ≡ 0
 unfolding count_below
-none_named g s = sum_none g.size (λ v. cond (named [] (s.home v)) 1 0) (λ v l. ap (λ b. cond b 1 0) (none_at (s.home v)))
+none_named g s = sum_zero g.size (λ v. cond (named [] (s.home v)) 1 0) (λ v l. ap (λ b. cond b 1 0) (none_at (s.home v)))
 
 -- the sizes of different classes add up to their rows
 pub class_sum : (g : Graph) (s : State) (size : ℕ → ℕ) (xs : List ℕ) → Once xs →

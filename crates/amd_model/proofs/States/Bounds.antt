@@ -37,10 +37,11 @@ module _ (g : Graph) (laws : IsGraph g) (aggressive : Bool) (c : ℕ) (old new :
   reached_before : (i w k : ℕ) → new.home i ≡ Live k → border_of g aggressive old c i ≡ false → Reach g (eliminated new) i w →
       Reach g (eliminated old) i w
   reached_before i w k hi off r =
-      elim (reach_split g (eliminated old) (block g aggressive old c) (eliminated new) (was_eliminated g laws aggressive c old new sound step)
-      r) [
+      elim (reach_split g (eliminated old) (block g aggressive old c) (eliminated new)
+      (was_eliminated g laws aggressive c old new sound step) r) [
         | inl q ↦ q
-        | inr t ↦ clash (block_reaches g laws aggressive c old new sound step t.enter i k t.enters hi (reach_flip g laws (eliminated old) t.to))
+        | inr t ↦ clash (block_reaches g laws aggressive c old new sound step t.enter i k t.enters hi
+            (reach_flip g laws (eliminated old) t.to))
             off
       ]
 

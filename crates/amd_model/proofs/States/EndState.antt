@@ -11,8 +11,9 @@ use Rattle.amd_model.proofs.States.Words.{live_from, gone_from}
 use Rattle.amd_model.proofs.States.Sound.{gone_small}
 use Rattle.amd_model.proofs.States.SoundStep.{step_sound, goes, moves, stays, fate}
 use Rattle.amd_model.proofs.States.SoundStart.{start_sound}
-use Rattle.amd_model.proofs.Listings.Tree.{IsTree, step_tree, start_tree, last_stays, Descends, self, via, chain_descends, one_block}
+use Rattle.amd_model.proofs.Listings.Tree.{IsTree, step_tree, start_tree, Descends, self, via, chain_descends, one_block}
 use Rattle.amd_model.proofs.Listings.Tree.{w_above, u_above, edge_line}
+use Rattle.amd_model.proofs.States.StepFronts.{last_stays}
 
 -- what holds of each state of a run
 pub record IsMade (g : Graph) (dense : ℕ → Bool) (s : State) : Type 0 where
@@ -49,7 +50,7 @@ step_made : (g : Graph) → IsGraph g → (dense : ℕ → Bool) (aggressive : B
 step_made g laws dense aggressive c old new step m = record {
   sound = step_sound g laws aggressive c old new m.sound step;
   tree = step_tree g laws aggressive c old new m.sound step m.tree;
-  dense_last = λ v l d. last_stays g laws aggressive c old new m.sound step m.tree v (m.dense_last v l d);
+  dense_last = λ v l d. last_stays g laws aggressive c old new m.sound step v (m.dense_last v l d);
   last_dense = λ v l h. elim (fate g laws aggressive c old new m.sound step v) [
     | goes b q ↦ absurd (cc)
     | moves s x j p q r a o n ↦ absurd (cc)

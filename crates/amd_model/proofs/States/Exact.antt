@@ -12,7 +12,7 @@ use Rattle.amd_model.specs.Run.{Steps, EachState}
 use Rattle.amd_model.specs.Reach.{direct}
 use Rattle.amd_model.specs.Laws.{InEachState, BoundsMeetDegrees, front_size, holders, last_neighbours, is_last}
 use Rattle.amd_model.specs.Sound.{IsSound}
-use Rattle.amd_model.proofs.Counting.Below.{any_gives, any_from, count_mono, count_same, count_split, count_pos, clash}
+use Rattle.amd_model.proofs.Counting.Below.{any_gives, any_from, count_mono, count_same, count_split, count_pos, clash, count_zero}
 use Rattle.amd_model.proofs.Counting.Unions.{count_apart, count_all_apart, count_three}
 use Rattle.amd_model.proofs.States.Steps.{absorbed_border, border_gives, other_from}
 use Rattle.amd_model.proofs.States.Words.{class_gives, class_from, live_gives, live_from, gone_gives, holds_gives, neighbours_gives}
@@ -26,7 +26,6 @@ use Rattle.amd_model.proofs.States.SoundStart.{none_stands, own, no_edge, is_las
 use Rattle.amd_model.proofs.States.Bounds.{Bounded, kept_class, near_count, step_bounded}
 use Rattle.amd_model.proofs.States.Paths.{start_bounded}
 use Rattle.amd_model.proofs.States.NewParts.{was_class, holds_new, neighbours_new}
-use Rattle.amd_model.proofs.Counting.Points.{count_zero}
 
 -- a class that one or two elements hold has the size of its front as bound, at most
 abbrev pub IsExact : Graph → State → Type 0

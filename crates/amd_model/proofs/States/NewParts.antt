@@ -1,6 +1,6 @@
 -- Holding and direct neighbours after a step, in terms of those before it: what an engine has to keep in its lists.
 use Rattle.std.proofs.Common.{ℕ, Bool, true, false, ◌≡◌, ◌<◌, ◌&&◌, ◌⊎◌, ◌↔◌, inl, inr, refl, sym, ◌∙◌, ap, subst, not}
-use Rattle.std.proofs.lemmas.Bool.{cases_Bool, true≢false, cases_eq, and_parts, and_from}
+use Rattle.std.proofs.lemmas.Bool.{cases_Bool, and_parts, and_from}
 use Rattle.amd_model.specs.Below.{any_below}
 use Rattle.amd_model.specs.Graph.{Graph, IsGraph}
 use Rattle.amd_model.specs.State.{State, Live, stands, holds, neighbours, front, is_class}
@@ -10,7 +10,7 @@ use Rattle.amd_model.proofs.States.Steps.{other_gives}
 use Rattle.amd_model.proofs.States.Words.{class_from, holds_gives, neighbours_gives, neighbours_from}
 use Rattle.amd_model.specs.Sound.{IsSound}
 use Rattle.amd_model.proofs.States.Sound.{live_small, holds_class, standing_small, neighbours_edge}
-use Rattle.amd_model.proofs.States.SoundStep.{step_sound, Fate, goes, moves, stays, fate, other_stands, other_border}
+use Rattle.amd_model.proofs.States.SoundStep.{step_sound, goes, moves, stays, fate, other_stands, other_border}
 use Rattle.amd_model.proofs.States.SoundStep.{stands_new, pivot_stands, still_together}
 
 -- an element holds a class if its representative is on the border

@@ -1,14 +1,14 @@
 -- A state after a step, made from a choice of representatives.
-use Rattle.std.proofs.Common.{ℕ, Bool, true, false, ◌≡◌, ◌≢◌, ◌≤◌, ◌&&◌, inl, inr, refl, sym, ◌∙◌, ap, cond, None, Some, eqb}
-use Rattle.std.proofs.lemmas.Bool.{cases_Bool, eq-eqb, ne_eqb, and_parts, or_cases, cond-true, cond-false}
+use Rattle.std.proofs.Common.{ℕ, Bool, true, false, ◌≡◌, ◌≢◌, ◌≤◌, inl, inr, refl, sym, ◌∙◌, ap, cond, None, Some, eqb}
+use Rattle.std.proofs.lemmas.Bool.{cases_Bool, eq-eqb, ne_eqb, cond-true, cond-false}
 use Rattle.amd_model.proofs.Counting.Below.{clash}
 use Rattle.amd_model.specs.Graph.{Graph, IsGraph}
-use Rattle.amd_model.specs.State.{State, Home, Last, Live, Gone, in_class, is_class, front, holds, stands, inside}
+use Rattle.amd_model.specs.State.{State, Home, Last, Live, Gone, in_class, is_class, front, holds, stands}
 use Rattle.amd_model.specs.Step.{StepAt, Alike, absorbed, block, border_of, new_bound, outside}
-use Rattle.amd_model.proofs.States.Words.{class_gives, class_from, holds_gives, stands_gives}
+use Rattle.amd_model.proofs.States.Words.{class_gives, class_from, stands_gives}
 use Rattle.amd_model.specs.Sound.{IsSound}
 use Rattle.amd_model.proofs.States.Sound.{front_whole}
-use Rattle.amd_model.proofs.States.Steps.{mass_gives, block_cases, border_gives, border_whole}
+use Rattle.amd_model.proofs.States.Steps.{mass_gives, block_cases, border_gives, border_whole, no_border, absorbed_stands}
 
 unfoldable pub class_in : Home → ℕ
 class_in Last = 0
@@ -55,10 +55,7 @@ module _ (g : Graph) (laws : IsGraph g) (aggressive : Bool) (c : ℕ) (s : State
   absorbed_not_pivot : (e : ℕ) → absorbed g aggressive s c e ≡ true → e ≢ c
   unfolding absorbed
   absorbed_not_pivot e a q =
-      let st : stands g s e ≡ true = elim (or_cases (holds g s e c) (aggressive && stands g s e && inside g (s.border e) (front g s c)) a) [
-        | inl h ↦ (holds_gives g s e c h).standing
-        | inr h ↦ (and_parts aggressive (stands g s e) (and_parts (aggressive && stands g s e) (inside g (s.border e) (front g s c)) h).0).1
-      ] in
+      let st = absorbed_stands g aggressive s c e a in
       let k = (stands_gives g s e st).element in let p = class_gives c (s.home c) class in let m : s.home e ≡ Live c = ap s.home q ∙ p in cc
 
   home_gone : (v : ℕ) → block g aggressive s c v ≡ true → (next_state g aggressive c s pick).home v ≡ Gone c
@@ -76,9 +73,6 @@ module _ (g : Graph) (laws : IsGraph g) (aggressive : Bool) (c : ℕ) (s : State
   unfolding next_home unbounded next_state
   home_kept v b o = cond-false (block g aggressive s c v) (Gone c) _ b ∙ cond-false (border_of g aggressive s c v) _ (s.home v) o
 
-  no_border : (v : ℕ) → front g s c v ≡ false → border_of g aggressive s c v ≡ false
-  no_border v nf = elim (cases_Bool (border_of g aggressive s c v)) [ inr b ↦ b | inl b ↦ clash (border_gives g aggressive s c v b).0 nf ]
-
   picked : (v x : ℕ) → border_of g aggressive s c v ≡ true → s.home v ≡ Live x →
       (next_state g aggressive c s pick).home (pick x) ≡ Live (pick x)
   picked v x b h = let hx = sound.named v x h in
@@ -92,7 +86,7 @@ module _ (g : Graph) (laws : IsGraph g) (aggressive : Bool) (c : ℕ) (s : State
     class = class;
     least = least;
     gone = home_gone;
-    kept = λ v out nf. home_kept v (kept_block v out nf) (no_border v nf);
+    kept = λ v out nf. home_kept v (kept_block v out nf) (no_border g aggressive s c v nf);
     moved = λ v x b k. let h = class_gives x (s.home v) k in let hx = sound.named v x h in
         let bx = border_whole g laws aggressive s sound c x v x h hx b in
         (pick x, home_moved v x b h, picked v x b h, is.class x hx bx, is.in_border x hx bx, is.alike x hx bx);

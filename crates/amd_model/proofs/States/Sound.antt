@@ -1,6 +1,6 @@
 -- What holds of each state of a run, and that L(c) is then what c reaches.
 use Rattle.std.proofs.Common.{ℕ, Bool, true, false, ◌≡◌, ◌≢◌, ◌<◌, ◌&&◌, inl, inr, sym, ◌∙◌, ap, subst}
-use Rattle.std.proofs.lemmas.Bool.{cases_Bool, true≢false, and_parts, cases_eq, cases_lt}
+use Rattle.std.proofs.lemmas.Bool.{cases_Bool, true≢false, and_parts, cases_lt}
 use Rattle.amd_model.specs.Below.{any_below}
 use Rattle.amd_model.specs.Graph.{Graph, IsGraph}
 use Rattle.amd_model.specs.State.{State, Home, Last, Live, Gone, live, eliminated, in_class, stands, holds, neighbours, front}
@@ -51,6 +51,9 @@ module _ (g : Graph) (laws : IsGraph g) (s : State) (sound : IsSound g s) where
     | by_element e l h b ↦ sound.borders_live e v (holds_gives g s e c h).standing b
     | by_neighbour d l n hv ↦ live_from d (s.home v) hv
   ]
+
+  pub front_below : (c v : ℕ) → front g s c v ≡ true → v < g.size
+  front_below c v f = let d = live_gives (s.home v) (front_live c v f) in live_small v d.0 d.1
 
   same_class : (c d v w : ℕ) → s.home v ≡ Live d → s.home w ≡ Live d → in_class s c v ≡ false → in_class s c w ≡ false
   same_class c d v w hv hw o = subst (λ h. Rattle.amd_model.specs.State.class_at c h ≡ false) (hv ∙ sym hw) o

@@ -188,8 +188,8 @@ module _ (g : Graph) (laws : IsGraph g) (aggressive : Bool) (c : ℕ) (old new :
               ]
               | by_neighbour z l n hz ↦ elim (cases_Bool (front g old c z)) [
                 | inl f ↦ front_whole g laws old sound c z z w (neighbours_gives g old d z n).second hz f
-                | inr f ↦ clash (outer_from g old c d z n f (λ q. live_not_block w i hw (block_pivot g aggressive old c w (hz ∙ ap Live q))))
-                    (m.no_outer z l)
+                | inr f ↦ clash (outer_from g old c d z n f
+                    (λ q. live_not_block w i hw (block_pivot g aggressive old c w (hz ∙ ap Live q)))) (m.no_outer z l)
               ]
             ])
       ])

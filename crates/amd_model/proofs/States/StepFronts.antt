@@ -3,19 +3,19 @@ use Rattle.std.proofs.Common.{ℕ, zero, suc, Bool, true, false, None, ◌≡◌
 use Rattle.std.proofs.Common.{◌∙◌, ap, subst, arith}
 use Rattle.std.specs.Prelude.{nat_lt, max}
 use Rattle.std.specs.Cmp.{both_ways}
-use Rattle.std.proofs.lemmas.Bool.{cases_Bool, cases_eq, and_parts, and_from, or_cases, not-true, not_from_false, cond-true, cond-false}
+use Rattle.std.proofs.lemmas.Bool.{cases_Bool, cases_eq, and_parts, and_from, not-true, not_from_false, cond-true, cond-false}
 use Rattle.std.proofs.lemmas.Bool.{lt-ltb}
 use Rattle.amd_model.specs.Below.{count_below}
 use Rattle.amd_model.specs.Graph.{Graph, IsGraph, degree}
-use Rattle.amd_model.specs.State.{State, Live, Gone, live, in_class, in_block, is_element, stands, inside, holds, front}
+use Rattle.amd_model.specs.State.{State, Last, Live, Gone, live, in_class, in_block, is_element, front}
 use Rattle.amd_model.specs.Step.{StepAt, absorbed, block, border_of}
 use Rattle.amd_model.specs.Figures.{front_sum, is_made, figure, max_below, greatest_front}
 use Rattle.amd_model.specs.Listing.{weight}
 use Rattle.amd_model.specs.Sound.{IsSound}
-use Rattle.amd_model.proofs.Counting.Below.{clash, sum_at, count_same, count_split, count_minus, count_pos}
+use Rattle.amd_model.proofs.Counting.Below.{clash, sum_at, count_same, count_split, count_minus}
 use Rattle.amd_model.proofs.States.Words.{class_gives, class_from, live_gives, live_from, block_gives, block_from, stands_gives}
-use Rattle.amd_model.proofs.States.Words.{holds_gives, front_gives}
-use Rattle.amd_model.proofs.States.Steps.{mass_gives, block_cases, block_pivot, border_from, border_gives}
+use Rattle.amd_model.proofs.States.Words.{front_gives}
+use Rattle.amd_model.proofs.States.Steps.{mass_gives, block_cases, block_pivot, border_from, border_gives, block_was, absorbed_stands}
 use Rattle.amd_model.proofs.States.Sound.{live_small, front_whole}
 use Rattle.amd_model.proofs.States.SoundStep.{Fate, goes, moves, stays, fate, pivot_live, was_live}
 use Rattle.amd_model.proofs.States.SoundStep.{live_not_block}
@@ -49,14 +49,35 @@ module _ (g : Graph) (laws : IsGraph g) (aggressive : Bool) (c : ℕ) (old new :
   home_c : old.home c ≡ Live c
   home_c = pivot_live g laws aggressive c old new sound step
 
-  size_c : c < g.size
+  pub size_c : c < g.size
   size_c = live_small g laws old sound c c home_c
 
-  block_c : block g aggressive old c c ≡ true
+  pub block_c : block g aggressive old c c ≡ true
   block_c = block_pivot g aggressive old c c home_c
 
-  block_was : (v : ℕ) → block g aggressive old c v ≡ true → (x : ℕ) × (old.home v ≡ Live x)
-  block_was v b = elim (block_cases g aggressive old c v b) [ inl h ↦ (c, h) | inr k ↦ (k.0, k.2) ]
+  -- homes of rows that are not live stay
+  pub gone_stays : (v e : ℕ) → old.home v ≡ Gone e → new.home v ≡ Gone e
+  gone_stays v e h = elim (fate_of v) [
+    | goes b q ↦ absurd (let x = (block_was g aggressive old c v b).1 in cc)
+    | moves s x j p q r a o w ↦ absurd (cc)
+    | stays ni nf q ↦ q ∙ h
+  ]
+
+  pub last_stays : (v : ℕ) → old.home v ≡ Last → new.home v ≡ Last
+  last_stays v h = elim (fate_of v) [
+    | goes b q ↦ absurd (let x = (block_was g aggressive old c v b).1 in cc)
+    | moves s x j p q r a o w ↦ absurd (cc)
+    | stays ni nf q ↦ q ∙ h
+  ]
+
+  -- where each eliminated row named an element, each does so
+  pub gone_named : ((v e : ℕ) → old.home v ≡ Gone e → old.home e ≡ Gone e) → (v e : ℕ) → new.home v ≡ Gone e → new.home e ≡ Gone e
+  gone_named named v e h = elim (fate_of v) [
+    | goes b q ↦ (let k : c ≡ e = (let f : Gone c ≡ Gone e = sym q ∙ h in cc) in
+        subst (λ m. new.home m ≡ Gone m) k (step.gone c block_c))
+    | moves s x j p q r a o w ↦ absurd (cc)
+    | stays ni nf q ↦ gone_stays e e (named v e (sym q ∙ h))
+  ]
 
   -- another element stays one, or none, with its block, its border and its weight
   pub block_stays : (e v : ℕ) → e ≢ c → in_block new e v ≡ in_block old e v
@@ -66,11 +87,7 @@ module _ (g : Graph) (laws : IsGraph g) (aggressive : Bool) (c : ℕ) (old new :
         | moves s x j p q r a o w ↦ absurd (cc)
         | stays ni nf q ↦ block_from e (old.home v) (sym q ∙ k)
       ])
-      (λ h. let k = block_gives e (old.home v) h in elim (fate_of v) [
-        | goes b q ↦ absurd (let x = block_was v b in let m = x.1 in cc)
-        | moves s x j p q r a o w ↦ absurd (cc)
-        | stays ni nf q ↦ block_from e (new.home v) (q ∙ k)
-      ])
+      (λ h. block_from e (new.home v) (gone_stays v e (block_gives e (old.home v) h)))
 
   pub element_stays : (e : ℕ) → e ≢ c → is_element new e ≡ is_element old e
   element_stays e ne = block_stays e e ne
@@ -102,9 +119,6 @@ module _ (g : Graph) (laws : IsGraph g) (aggressive : Bool) (c : ℕ) (old new :
   unfolding weight
   weight_new = refl
 
-  pub block_some : 0 < count_below g.size (in_block new c)
-  block_some = count_pos g.size (in_block new c) c size_c pivot_element
-
   -- where the pivot row named no block before, that of the new element is the block of the step
   pub block_new : ((v : ℕ) → old.home v ≢ Gone c) → (v : ℕ) → in_block new c v ≡ block g aggressive old c v
   block_new none v = both_ways (in_block new c v) (block g aggressive old c v)
@@ -126,19 +140,14 @@ module _ (g : Graph) (laws : IsGraph g) (aggressive : Bool) (c : ℕ) (old new :
   no_block : (v : ℕ) → live new v ≡ true → block g aggressive old c v ≡ true → ⊥
   no_block v h b = let d = live_gives (new.home v) h in live_not_block g laws aggressive c old new sound step v d.0 d.1 b
 
-  absorbed_gone : (e : ℕ) → absorbed g aggressive old c e ≡ true → old.home e ≡ Gone e
-  unfolding absorbed
-  absorbed_gone e a = elim (or_cases (holds g old e c) (aggressive && stands g old e && inside g (old.border e) (front g old c)) a) [
-    | inl h ↦ (stands_gives g old e (holds_gives g old e c h).standing).element
-    | inr h ↦ (stands_gives g old e
-        (and_parts aggressive (stands g old e) (and_parts (aggressive && stands g old e) (inside g (old.border e) (front g old c))
-        h).0).1).element
-  ]
-
   pub no_parent : ((v : ℕ) → live old v ≡ true → old.parent v ≡ None) → (v : ℕ) → live new v ≡ true → new.parent v ≡ None
   no_parent free v h = let o = still_live v h in let d = live_gives (old.home v) o in
       step.parent_stays v (λ q. no_block v h (subst (λ m. block g aggressive old c m ≡ true) (sym q) block_c))
-      (elim (cases_Bool (absorbed g aggressive old c v)) [ inr n ↦ n | inl y ↦ absurd (let k = absorbed_gone v y in let m = d.1 in cc) ])
+      (elim (cases_Bool (absorbed g aggressive old c v)) [
+        | inr n ↦ n
+        | inl y ↦ absurd (let k = (stands_gives g old v (absorbed_stands g aggressive old c v y)).element in
+            let m = d.1 in cc)
+      ])
       ∙ free v o
 
   -- the rows that were live are live, or go with the block
@@ -154,7 +163,7 @@ module _ (g : Graph) (laws : IsGraph g) (aggressive : Bool) (c : ℕ) (old new :
         | moves s x j y q r z o w ↦ clash (live_from j (new.home v) q) n
         | stays ni nf q ↦ (let i = live_gives (old.home v) p.0 in clash (live_from i.0 (new.home v) (q ∙ i.1)) n)
       ])
-      (λ k. let x = block_was v k in and_from (live old v) (not (live new v)) (live_from x.0 (old.home v) x.1)
+      (λ k. let x = block_was g aggressive old c v k in and_from (live old v) (not (live new v)) (live_from x.0 (old.home v) x.1)
       (not_from_false (live new v) (elim (cases_Bool (live new v)) [ inr n ↦ n | inl y ↦ absurd (no_block v y k) ])))) in
       omega (arith, a, b, d)
 
@@ -192,15 +201,15 @@ module _ (g : Graph) (laws : IsGraph g) (aggressive : Bool) (c : ℕ) (old new :
       ]
 
   -- one front is made
-  made_stays : (e : ℕ) → e ≢ c → is_made g new e ≡ is_made g old e
+  pub made_stays : (e : ℕ) → e ≢ c → is_made g new e ≡ is_made g old e
   unfolding is_made
   made_stays e ne = ap (λ b. b && nat_lt 0 (degree g e)) (element_stays e ne)
 
-  made_not : is_made g old c ≡ false
+  pub made_not : is_made g old c ≡ false
   unfolding is_made
   made_not = Rattle.std.proofs.lemmas.Bool.and_left (is_element old c) (nat_lt 0 (degree g c)) pivot_no_element
 
-  made_new : 0 < degree g c → is_made g new c ≡ true
+  pub made_new : 0 < degree g c → is_made g new c ≡ true
   unfolding is_made
   made_new l = and_from (is_element new c) (nat_lt 0 (degree g c)) pivot_element (lt-ltb 0 (degree g c) l)
 

@@ -9,10 +9,9 @@ use Rattle.amd_model.specs.Graph.{Graph, IsGraph, degree}
 use Rattle.amd_model.specs.State.{State, Home, Last, Live, Gone, in_class, is_class, stands, inside, holds, front, IsStart}
 use Rattle.amd_model.specs.Step.{StepAt, Alike, absorbed, other, outer, mass, block, border_of, new_bound}
 use Rattle.amd_model.specs.Sound.{IsSound}
-use Rattle.amd_model.proofs.Counting.Below.{all_gives, all_from, any_gives}
-use Rattle.amd_model.proofs.States.Words.{class_gives, live_gives, holds_gives}
-use Rattle.amd_model.proofs.States.Sound.{live_small, standing_small, front_live}
-use Rattle.amd_model.proofs.Quotient.Lists.{clash}
+use Rattle.amd_model.proofs.Counting.Below.{all_gives, all_from, any_gives, clash}
+use Rattle.amd_model.proofs.States.Words.{class_gives, holds_gives}
+use Rattle.amd_model.proofs.States.Sound.{live_small, standing_small, front_below}
 
 -- tests of equality, and of what follows from a test
 unfoldable pub same_home : Home → Home → Bool
@@ -262,12 +261,9 @@ module _ (g : Graph) (aggressive : Bool) (c : ℕ) (old new : State) where
     class_small x v h = let k = class_gives x (old.home v) h in
         (live_small g laws old sound v x k, live_small g laws old sound x x (sound.named v x k))
 
-    front_small : (v : ℕ) → front g old c v ≡ true → v < g.size
-    front_small v h = let d = live_gives (old.home v) (front_live g laws old sound c v h) in live_small g laws old sound v d.0 d.1
-
     border_small : (v : ℕ) → border_of g aggressive old c v ≡ true → v < g.size
     unfolding border_of
-    border_small v h = front_small v (and_parts (front g old c v) (not (block g aggressive old c v)) h).0
+    border_small v h = front_below g laws old sound c v (and_parts (front g old c v) (not (block g aggressive old c v)) h).0
 
     block_small : (v : ℕ) → block g aggressive old c v ≡ true → v < g.size
     unfolding block
@@ -282,8 +278,8 @@ module _ (g : Graph) (aggressive : Bool) (c : ℕ) (old new : State) where
     absorbed_small e h = standing_small g laws old sound e
         (elim (or_cases (holds g old e c) (aggressive && stands g old e && inside g (old.border e) (front g old c)) h) [
           | inl k ↦ (holds_gives g old e c k).standing
-          | inr k ↦ (and_parts aggressive (stands g old e) (and_parts (aggressive && stands g old e) (inside g (old.border e) (front g old c))
-              k).0).1
+          | inr k ↦ (and_parts aggressive (stands g old e)
+              (and_parts (aggressive && stands g old e) (inside g (old.border e) (front g old c)) k).0).1
         ])
 
     -- a test that no row past the size passes is false there

@@ -58,6 +58,9 @@ module _ (g : Graph) (aggressive : Bool) (s : State) (c : ℕ) where
         let p = and_parts (mass g aggressive s c r.0) (in_class s r.0 v) r.2 in inr (r.0, p.0, class_gives r.0 (s.home v) p.1))
   ]
 
+  pub block_was : (v : ℕ) → block g aggressive s c v ≡ true → (x : ℕ) × (s.home v ≡ Live x)
+  block_was v b = elim (block_cases v b) [ inl h ↦ (c, h) | inr k ↦ (k.0, k.2) ]
+
   pub block_pivot : (v : ℕ) → s.home v ≡ Live c → block g aggressive s c v ≡ true
   unfolding block
   block_pivot v h = or_left (in_class s c v) (any_below g.size (λ d. mass g aggressive s c d && in_class s d v)) (class_from c (s.home v) h)
@@ -85,6 +88,17 @@ module _ (g : Graph) (aggressive : Bool) (s : State) (c : ℕ) where
   pub border_from : (v : ℕ) → front g s c v ≡ true → block g aggressive s c v ≡ false → border_of g aggressive s c v ≡ true
   unfolding border_of
   border_from v f b = and_from (front g s c v) (not (block g aggressive s c v)) f (not_from_false (block g aggressive s c v) b)
+
+  pub no_border : (v : ℕ) → front g s c v ≡ false → border_of g aggressive s c v ≡ false
+  no_border v nf = elim (cases_Bool (border_of g aggressive s c v)) [ inr n ↦ n | inl y ↦ clash (border_gives v y).0 nf ]
+
+  pub absorbed_stands : (e : ℕ) → absorbed g aggressive s c e ≡ true → stands g s e ≡ true
+  unfolding absorbed
+  absorbed_stands e a = elim (or_cases (holds g s e c) (aggressive && stands g s e && inside g (s.border e) (front g s c)) a) [
+    | inl h ↦ (holds_gives g s e c h).standing
+    | inr h ↦ (and_parts aggressive (stands g s e)
+        (and_parts (aggressive && stands g s e) (inside g (s.border e) (front g s c)) h).0).1
+  ]
 
 module _ (g : Graph) (laws : IsGraph g) (aggressive : Bool) (s : State) (sound : IsSound g s) (c : ℕ) where
   -- the border of an absorbed element lies in L and c

@@ -3,13 +3,14 @@ use Rattle.std.proofs.Common.{ℕ, Bool, true, false, Option, Some, List, [], �
 use Rattle.std.proofs.Common.{ap, subst, arith}
 use Rattle.std.specs.Prelude.{filter, flat_map, sum_by, nat_eq, nat_lt, ◌==◌}
 use Rattle.std.proofs.lemmas.Bool.{cases_Bool, and_parts, and_from, or_left, or_parts, eqb-true, eq-eqb, not-true, not_from_false, ltb-true}
+use Rattle.std.specs.Cmp.{both_ways}
 use Rattle.amd_model.specs.Below.{count_below}
 use Rattle.amd_model.specs.Graph.{Graph, IsGraph}
 use Rattle.amd_model.specs.Sound.{IsSound}
 use Rattle.amd_model.specs.State.{State, Live, stands}
 use Rattle.amd_model.specs.Quotient.{QuotientGraph, Fits, Once, has, each, is_empty, gathered, takes, kept_elements, kept_variables}
 use Rattle.amd_model.proofs.States.Words.{class_gives, class_from, holds_gives}
-use Rattle.amd_model.proofs.Quotient.Lists.{each_from, empty_from, clash, same_bool, each_gives, some_of, flat_gives, flat_from}
+use Rattle.amd_model.proofs.Quotient.Lists.{each_from, empty_from, each_gives, some_of, flat_gives, flat_from}
 use Rattle.amd_model.proofs.Quotient.Lists.{firsts as firsts_names}
 use Rattle.amd_model.proofs.Listings.Words.{filter_has, has_filter as filter_gives}
 use Rattle.amd_views.specs.Views.{live_of}
@@ -18,6 +19,7 @@ use Rattle.amd_views.specs.Keeps.{Keeps}
 use Rattle.amd_views.specs.Views.{ClassLists}
 use Rattle.amd_views.specs.Views.{View}
 use Rattle.amd_model.proofs.Quotient.Outside.{border_parts}
+use Rattle.amd_model.proofs.Counting.Below.{clash}
 use Rattle.amd_views.proofs.Lists.Named.{filter_named, filter_both, sum_named, flat_same, none_sum, named_sum, not_empty}
 use Rattle.amd_views.proofs.Lists.Taken.{taken_off}
 use Rattle.amd_views.proofs.Fronts.Gathered.{gathered_once, gathered_live, gathered_placed}
@@ -134,7 +136,7 @@ module _ (g : Graph) (s : State) (t : QuotientGraph) (fits : Fits g t s) (w : Vi
         && each (has (gathered t c)) (t.members e) in
         a.taken_is e ∙ ap (λ b. b || (has a.touched e && whole)) (own_is e) ∙ elim (cases_Bool (has (t.elements c) e)) [
           | inl own ↦ or_left (has (t.elements c) e) (has a.touched e && whole) own ∙ sym (or_left (has (t.elements c) e) inner own)
-          | inr apart ↦ ap (λ b. has (t.elements c) e || b) (same_bool (has a.touched e && whole) inner
+          | inr apart ↦ ap (λ b. has (t.elements c) e || b) (both_ways (has a.touched e && whole) inner
               (λ h. let p = and_parts (has a.touched e) whole h in let q = and_parts aggressive (nat_eq (beyond e) 0) p.1 in
               let i = touched_gives e p.0 in let some = some_members e i.0 (element_member i.0 e (front_placed i.0 i.1) i.2) in
               let none = sym (counted_far e p.0) ∙ eqb-true (beyond e) 0 q.1 in

@@ -6,10 +6,10 @@ use Rattle.amd_model.specs.Graph.{Graph, IsGraph}
 use Rattle.amd_model.specs.Sound.{IsSound}
 use Rattle.amd_model.specs.State.{State, Live, in_class}
 use Rattle.amd_model.specs.Quotient.{QuotientGraph, Fits, has, gathered, Once}
-use Rattle.amd_model.proofs.Counting.Below.{count_pos}
+use Rattle.amd_model.proofs.Counting.Below.{count_pos, clash}
 use Rattle.amd_model.proofs.States.Sound.{live_small}
 use Rattle.amd_model.proofs.States.Words.{class_gives, class_from, holds_gives, neighbours_gives}
-use Rattle.amd_model.proofs.Quotient.Lists.{clash, flat_gives, once_firsts, firsts as firsts_names}
+use Rattle.amd_model.proofs.Quotient.Lists.{flat_gives, once_firsts, firsts as firsts_names}
 use Rattle.amd_model.proofs.Listings.Words.{has_append as append_gives}
 use Rattle.amd_views.specs.Rounds.{firsts}
 

@@ -10,8 +10,9 @@ use Rattle.std.proofs.lemmas.List.Elements.{filter-append}
 use Rattle.std.proofs.lemmas.List.Filters.{sum_by-filter_both}
 use Rattle.std.proofs.lemmas.List.Sums.{sum_by-append, sum_by-cons}
 use Rattle.amd_model.specs.Quotient.{has, is_empty, turned, Once}
-use Rattle.amd_model.proofs.Quotient.Lists.{clash, has_append, has_turned, filter_yes, filter_no}
+use Rattle.amd_model.proofs.Quotient.Lists.{has_append, has_turned, filter_yes, filter_no}
 use Rattle.amd_model.proofs.Listings.Words.{has_none, has_head, has_tail, has_cases}
+use Rattle.amd_model.proofs.Counting.Below.{clash}
 use Rattle.amd_views.specs.Views.{Below}
 
 -- a list that names something is not empty

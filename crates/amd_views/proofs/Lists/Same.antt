@@ -4,8 +4,9 @@ use Rattle.std.specs.Prelude.{◌==◌, filter, sum_by}
 use Rattle.std.proofs.lemmas.Bool.{cases_Bool, and_parts, and_from, and_left, ne_eqb, not_from_false}
 use Rattle.std.proofs.lemmas.List.Sums.{sum_by-cons, length-filter}
 use Rattle.amd_model.specs.Quotient.{has, each, Once}
-use Rattle.amd_model.proofs.Quotient.Lists.{clash, once_filter, each_gives, each_from}
+use Rattle.amd_model.proofs.Quotient.Lists.{once_filter, each_gives, each_from}
 use Rattle.amd_model.proofs.Listings.Words.{filter_has, has_head, has_tail}
+use Rattle.amd_model.proofs.Counting.Below.{clash}
 use Rattle.amd_views.proofs.Lists.Named.{filter_all, sum_apart}
 
 -- the others of a list

@@ -6,8 +6,8 @@ use Rattle.std.proofs.lemmas.Bool.{cases_Bool, cond-true, cond-false, eqb-true, 
 use Rattle.std.proofs.lemmas.List.{take_more}
 use Rattle.std.proofs.lemmas.List.Sums.{fold_push, sum_by-cons}
 use Rattle.amd_model.specs.Quotient.{has, Once}
-use Rattle.amd_model.proofs.Quotient.Lists.{clash}
 use Rattle.amd_model.proofs.Listings.Words.{has_head, has_tail}
+use Rattle.amd_model.proofs.Counting.Below.{clash}
 use Rattle.amd_views.specs.Rounds.{less, rows_left}
 
 -- the next number of a list

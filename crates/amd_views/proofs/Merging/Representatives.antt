@@ -7,9 +7,11 @@ use Rattle.std.proofs.lemmas.Bool.{cases_Bool, false≢true, and_parts, and_from
 use Rattle.std.proofs.lemmas.Bool.{ne_eqb, cases_eq, cond-true, cond-false}
 use Rattle.std.proofs.lemmas.List.{drop_more, take-append-drop, drop_all}
 use Rattle.std.proofs.lemmas.List.Sums.{fold-append}
+use Rattle.std.specs.Cmp.{both_ways}
 use Rattle.amd_model.specs.Quotient.{has, each, Once, last_that}
-use Rattle.amd_model.proofs.Quotient.Lists.{clash, same_bool, has_append, each_gives, each_from, last_passes, last_named, last_same'}
+use Rattle.amd_model.proofs.Quotient.Lists.{has_append, each_gives, each_from, last_passes, last_named, last_same'}
 use Rattle.amd_model.proofs.Listings.Words.{has_head, has_tail}
+use Rattle.amd_model.proofs.Counting.Below.{clash}
 use Rattle.amd_views.specs.Rounds.{alike_in}
 use Rattle.amd_views.proofs.Lists.Named.{has_at}
 
@@ -94,7 +96,7 @@ module _ (alike : ℕ → ℕ → Bool) (self : (x : ℕ) → alike x x ≡ true
   rep_in x h = elim (last_named (alike x) x rest) [ inl e ↦ ap (has rest) e ∙ h | inr k ↦ k ]
 
   agree : (x y : ℕ) → alike x y ≡ true → (z : ℕ) → alike x z ≡ alike y z
-  agree x y h z = same_bool (alike x z) (alike y z) (λ k. through y x z (flip x y h) k) (λ k. through x y z h k)
+  agree x y h z = both_ways (alike x z) (alike y z) (λ k. through y x z (flip x y h) k) (λ k. through x y z h k)
 
   -- classes alike have one representative
   pub rep_same : (x y : ℕ) → has rest x ≡ true → alike x y ≡ true → rep x ≡ rep y

@@ -11,9 +11,8 @@ use Rattle.amd_model.specs.State.{State, stands}
 use Rattle.amd_model.specs.Quotient.{QuotientGraph, has, Once, pivot, gathered, kept_elements, kept_variables, rest, represents}
 use Rattle.amd_model.specs.Quotient.{made as made_of}
 use Rattle.amd_model.specs.Quotient.{last_that}
-use Rattle.amd_model.proofs.Counting.Below.{count_most}
+use Rattle.amd_model.proofs.Counting.Below.{count_most, clash}
 use Rattle.amd_model.proofs.States.Words.{block_from, stands_gives}
-use Rattle.amd_model.proofs.Quotient.Lists.{clash}
 use Rattle.amd_model.proofs.Listings.Words.{filter_has, has_filter as filter_gives}
 use Rattle.amd_model.proofs.Quotient.Round.Rows.{front_small, placed_small}
 use Rattle.amd_views.specs.Views.{ClassLists, View, live_of}

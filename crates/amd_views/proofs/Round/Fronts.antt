@@ -6,12 +6,12 @@ use Rattle.std.proofs.lemmas.Bool.{cases_eq, cond-true, cond-false, eq-eqb, ne_e
 use Rattle.amd_model.specs.Below.{count_below}
 use Rattle.amd_model.specs.Graph.{Graph, degree}
 use Rattle.amd_model.specs.Figures.{cut, front_sum, figure, greatest_front, entries, ldl_steps, lu_steps}
-use Rattle.amd_model.specs.State.{State, Home, Live, Gone, live, is_class, is_element, in_block}
+use Rattle.amd_model.specs.State.{State, Home, Live, Gone, live, is_element, in_block}
 use Rattle.amd_model.specs.Listing.{weight}
 use Rattle.amd_model.specs.Step.{StepAt}
-use Rattle.amd_model.specs.Quotient.{QuotientGraph, has, gathered, rest, left, round}
+use Rattle.amd_model.specs.Quotient.{QuotientGraph, gathered, rest, left, round}
 use Rattle.amd_model.proofs.Counting.Below.{clash}
-use Rattle.amd_model.proofs.States.Words.{class_gives, class_from, live_from}
+use Rattle.amd_model.proofs.States.Words.{class_from, live_from}
 use Rattle.amd_model.proofs.Quotient.Round.RoundAt.{RoundAt, pivot_live}
 use Rattle.amd_model.proofs.Quotient.Round.Front.{front_class}
 use Rattle.amd_model.proofs.Quotient.Round.Border.{border_class}
@@ -57,7 +57,8 @@ module _ (n : ℕ) (links : ℕ → Option ℕ) (home : ℕ → Home) (lead : Li
 
 module _ (g : Graph) (dense : ℕ → Bool) (aggressive : Bool) (w v : View) (t : QuotientGraph) (s : State) (st : Stands g dense w t s)
     (r : Rounding aggressive w v)
-    (this : RoundAt g aggressive t s r.c) (front_is : r.front ≡ gathered t r.c) (rest_is : r.rest ≡ rest aggressive t r.c (gathered t r.c)) where
+    (this : RoundAt g aggressive t s r.c) (front_is : r.front ≡ gathered t r.c)
+    (rest_is : r.rest ≡ rest aggressive t r.c (gathered t r.c)) where
   abbrev pub U : State
   U = state_after this
 

@@ -6,7 +6,7 @@ use Rattle.std.proofs.Math.Bool.{and-false}
 use Rattle.std.proofs.lemmas.Bool.{cases_Bool, cases_eq, cond-true, cond-false, or_left, or_right, or_from, and_from}
 use Rattle.std.proofs.lemmas.Bool.{and_left, eq-eqb, ne_eqb}
 use Rattle.amd_model.specs.Graph.{Graph}
-use Rattle.amd_model.specs.State.{State, Home, Last, Live, Gone, is_class}
+use Rattle.amd_model.specs.State.{State, Home, Last, Live, Gone}
 use Rattle.amd_model.specs.Quotient.{QuotientGraph, has, gathered, done, rest}
 use Rattle.amd_model.specs.Quotient.{represents, made, new_home, round}
 use Rattle.amd_model.proofs.Quotient.Sums.{home_cases}

@@ -5,12 +5,13 @@ use Rattle.std.specs.Prelude.{filter, nat_lt, ◌==◌}
 use Rattle.std.proofs.lemmas.Bool.{cases_Bool, cond-true, cond-false, or_parts, and_from}
 use Rattle.std.proofs.lemmas.Bool.{eqb-true, not-true}
 use Rattle.amd_model.specs.Graph.{Graph}
-use Rattle.amd_model.specs.State.{State, is_class}
+use Rattle.amd_model.specs.State.{State}
 use Rattle.amd_model.specs.Quotient.{QuotientGraph, has, is_empty, turned, gathered, takes, kept_elements, kept_variables}
 use Rattle.amd_model.specs.Quotient.{made, ends, round}
 use Rattle.amd_model.proofs.States.Words.{neighbours_gives, holds_gives}
-use Rattle.amd_model.proofs.Quotient.Lists.{clash, has_turned, some_of}
+use Rattle.amd_model.proofs.Quotient.Lists.{has_turned, some_of}
 use Rattle.amd_model.proofs.Listings.Words.{has_filter as filter_gives}
+use Rattle.amd_model.proofs.Counting.Below.{clash}
 use Rattle.amd_views.specs.Views.{live_of}
 use Rattle.amd_views.specs.Rounds.{IsApart}
 use Rattle.amd_views.specs.Keeps.{Stands}

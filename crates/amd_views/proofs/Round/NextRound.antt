@@ -1,9 +1,9 @@
 -- After a round the record stands for the next lists of the rules, and for a state that a step leads to.
-use Rattle.std.proofs.Common.{ℕ, Bool, true, false, ◌≡◌, ◌≤◌, ◌<◌, ◌∙◌}
+use Rattle.std.proofs.Common.{ℕ, Bool, false, ◌≡◌, ◌≤◌, ◌<◌, ◌∙◌}
 use Rattle.std.proofs.Common.{ap, subst, arith}
 use Rattle.std.specs.Prelude.{sum_by, ◌^◌}
 use Rattle.amd_model.specs.Graph.{Graph}
-use Rattle.amd_model.specs.State.{State, is_class}
+use Rattle.amd_model.specs.State.{State}
 use Rattle.amd_model.specs.Step.{StepAt}
 use Rattle.amd_model.specs.Quotient.{QuotientGraph, is_empty, pivot, gathered, rest}
 use Rattle.amd_model.specs.Quotient.{left, round, next}

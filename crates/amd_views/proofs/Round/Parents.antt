@@ -1,11 +1,11 @@
 -- After a round the parents of elements are those of the rules.
-use Rattle.std.proofs.Common.{ℕ, Bool, true, false, None, Some, List, ◌≡◌, ◌≤◌, ◌∙◌, ◌&&◌}
+use Rattle.std.proofs.Common.{ℕ, Bool, true, false, None, Some, List, ◌≡◌, ◌∙◌, ◌&&◌}
 use Rattle.std.proofs.Common.{cond, ap, sym, inl, inr}
 use Rattle.std.specs.Prelude.{◌==◌}
 use Rattle.std.proofs.lemmas.Bool.{cases_Bool, cases_eq, cond-true, cond-false, or_cases}
 use Rattle.std.proofs.lemmas.Bool.{and_parts, eq-eqb, ne_eqb}
 use Rattle.amd_model.specs.Graph.{Graph}
-use Rattle.amd_model.specs.State.{State, is_class, front, holds, stands, inside}
+use Rattle.amd_model.specs.State.{State, front, holds, stands, inside}
 use Rattle.amd_model.specs.Step.{absorbed}
 use Rattle.amd_model.specs.Quotient.{QuotientGraph, gathered, takes}
 use Rattle.amd_model.specs.Quotient.{round}

@@ -5,12 +5,14 @@ use Rattle.std.specs.Prelude.{filter, sum_by, nat_lt, ◌==◌}
 use Rattle.std.proofs.Math.Bool.{and-false, and-true}
 use Rattle.std.proofs.lemmas.Bool.{cases_Bool, cond-true, cond-false, or_left, or_right, or_from, or_parts, or_cases, and_from}
 use Rattle.std.proofs.lemmas.Bool.{and_parts, and_left, eq-eqb, ne_eqb, lt-ltb, le-ltb, not-true, not_from_false}
+use Rattle.std.specs.Cmp.{both_ways}
 use Rattle.amd_model.specs.Graph.{Graph}
-use Rattle.amd_model.specs.State.{State, is_class}
+use Rattle.amd_model.specs.State.{State}
 use Rattle.amd_model.specs.Quotient.{QuotientGraph, has, gathered, done, rest}
 use Rattle.amd_model.specs.Quotient.{represents, made, ends, new_size, round}
-use Rattle.amd_model.proofs.Quotient.Lists.{same_bool, clash, has_append, has_filter}
+use Rattle.amd_model.proofs.Quotient.Lists.{has_append, has_filter}
 use Rattle.amd_model.proofs.Listings.Words.{has_filter as filter_gives, has_right}
+use Rattle.amd_model.proofs.Counting.Below.{clash}
 use Rattle.amd_views.specs.Views.{live_of}
 use Rattle.amd_views.specs.Rounds.{keeps_none}
 use Rattle.amd_views.specs.Keeps.{Stands}
@@ -101,7 +103,7 @@ module _ {g : Graph} {dense : ℕ → Bool} {aggressive : Bool} {w v : View} {t 
     -- what is placed after the round
     pub new_placed : (i : ℕ) → has new_lists.placed i ≡ (has t.placed i && not (ends aggressive t r.c L i))
     unfolding round ends
-    new_placed i = has_append (filter (λ i. not (i == r.c || has L i)) t.placed) M i ∙ same_bool
+    new_placed i = has_append (filter (λ i. not (i == r.c || has L i)) t.placed) M i ∙ both_ways
         (has (filter (λ i. not (i == r.c || has L i)) t.placed) i || has M i)
         (has t.placed i && not (i == r.c || (has L i && not (has M i))))
         (λ h. elim (or_cases (has (filter (λ i. not (i == r.c || has L i)) t.placed) i) (has M i) h) [

@@ -13,12 +13,12 @@ use Rattle.amd_model.specs.Quotient.{represents, made, round}
 use Rattle.amd_model.proofs.States.Words.{class_gives, class_from}
 use Rattle.amd_model.proofs.States.Sound.{live_small}
 use Rattle.amd_model.proofs.States.SoundStep.{step_sound}
-use Rattle.amd_model.proofs.Quotient.Lists.{clash}
 use Rattle.amd_model.proofs.Listings.Words.{filter_has, has_filter as filter_gives}
 use Rattle.amd_model.proofs.Quotient.Round.RoundAt.{RoundAt}
 use Rattle.amd_model.proofs.Quotient.Round.Front.{front_class}
 use Rattle.amd_model.proofs.Quotient.Round.After.{state_after as after, step_after}
 use Rattle.amd_model.proofs.Quotient.Round.IsStep.{fits_after}
+use Rattle.amd_model.proofs.Counting.Below.{clash}
 use Rattle.amd_views.specs.Rounds.{keeps_none}
 use Rattle.amd_views.specs.Keeps.{Stands}
 use Rattle.amd_views.specs.Views.{View}

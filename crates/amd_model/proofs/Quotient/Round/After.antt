@@ -12,11 +12,12 @@ use Rattle.amd_model.proofs.States.Next.{next_state, next_is_step, home_moved}
 use Rattle.amd_model.proofs.States.SoundStep.{fate, goes, moves, stays, Fate}
 use Rattle.amd_model.proofs.States.NewParts.{was_class}
 use Rattle.amd_model.proofs.States.Steps.{border_gives}
-use Rattle.amd_model.proofs.Quotient.Lists.{clash, has_filter}
+use Rattle.amd_model.proofs.Quotient.Lists.{has_filter}
 use Rattle.amd_model.proofs.Quotient.Round.RoundAt.{RoundAt, front_list, border_list, made_list, representative, ended, pivot_live}
 use Rattle.amd_model.proofs.Quotient.Round.RoundAt.{outside_pivot}
 use Rattle.amd_model.proofs.Quotient.Round.Front.{class_front}
 use Rattle.amd_model.proofs.Quotient.Round.Border.{border_is, border_class, pick}
+use Rattle.amd_model.proofs.Counting.Below.{clash}
 
 module _ {g : Graph} {aggressive : Bool} {t : QuotientGraph} {s : State} {c : ℕ} (this : RoundAt g aggressive t s c) where
   open this use {laws, sound, class, least}

@@ -1,6 +1,7 @@
 -- The classes of S, and what represents them.
 use Rattle.std.proofs.Common.{ℕ, Bool, true, ◌≡◌, ◌<◌, ◌&&◌, not, inl, inr, refl, sym, ◌∙◌, ap, List}
 use Rattle.std.proofs.lemmas.Bool.{cases_Bool, and_parts, and_from, not_from_false, not-true}
+use Rattle.std.specs.Cmp.{both_ways}
 use Rattle.amd_model.specs.Graph.{Graph}
 use Rattle.amd_model.specs.State.{State, Live, holds, front}
 use Rattle.amd_model.specs.Step.{Alike, other, outer, mass, block, border_of}
@@ -9,11 +10,12 @@ use Rattle.amd_model.proofs.States.Words.{class_from, holds_gives, front_gives}
 use Rattle.amd_model.proofs.States.Sound.{standing_small}
 use Rattle.amd_model.proofs.States.Next.{IsPick}
 use Rattle.amd_model.proofs.States.Steps.{block_cases, block_mass}
-use Rattle.amd_model.proofs.Quotient.Lists.{same_bool, clash, has_filter, each_gives, each_from, last_passes, last_named, last_same'}
+use Rattle.amd_model.proofs.Quotient.Lists.{has_filter, each_gives, each_from, last_passes, last_named, last_same'}
 use Rattle.amd_model.proofs.Quotient.Round.RoundAt.{RoundAt, front_list, border_list, elements_kept, variables_kept, representative}
 use Rattle.amd_model.proofs.Quotient.Round.RoundAt.{keeps_none, same_class}
 use Rattle.amd_model.proofs.Quotient.Round.Front.{front_class, class_front}
 use Rattle.amd_model.proofs.Quotient.Round.Kept.{elements_left, variables_left, outer_small, mass_is}
+use Rattle.amd_model.proofs.Counting.Below.{clash}
 
 module _ {g : Graph} {aggressive : Bool} {t : QuotientGraph} {s : State} {c : ℕ} (this : RoundAt g aggressive t s c) where
   open this use {laws, sound, class}
@@ -25,7 +27,7 @@ module _ {g : Graph} {aggressive : Bool} {t : QuotientGraph} {s : State} {c : �
   pub border_is : (i : ℕ) → s.home i ≡ Live i → has (border_list this) i ≡ border_of g aggressive s c i
   unfolding rest border_of
   border_is i h = has_filter (λ i. not (keeps_none this i)) L i ∙
-      same_bool (has L i && not (keeps_none this i)) (front g s c i && not (block g aggressive s c i))
+      both_ways (has L i && not (keeps_none this i)) (front g s c i && not (block g aggressive s c i))
       (λ a. let p = and_parts (has L i) (not (keeps_none this i)) a in let f = (front_class this i p.0).1 in
       and_from (front g s c i) (not (block g aggressive s c i)) f
       (not_from_false (block g aggressive s c i) (elim (cases_Bool (block g aggressive s c i)) [
@@ -91,8 +93,8 @@ module _ {g : Graph} {aggressive : Bool} {t : QuotientGraph} {s : State} {c : �
       (sym (elements_left this x e hx) ∙ each_gives (has (elements_kept this x)) (elements_kept this y) f e
       (elements_left this y e hy ∙ and_from (other g aggressive s c e) (holds g s e y) o k))).1 in
       record {
-        same_elements = λ e l o. same_bool (holds g s e i) (holds g s e j) (λ k. to j i e hj hi r.1 o k) (λ k. to i j e hi hj r.0 o k);
-        same_neighbours = λ z l. same_bool (outer g s c i z) (outer g s c j z)
+        same_elements = λ e l o. both_ways (holds g s e i) (holds g s e j) (λ k. to j i e hj hi r.1 o k) (λ k. to i j e hi hj r.0 o k);
+        same_neighbours = λ z l. both_ways (outer g s c i z) (outer g s c j z)
             (λ o. sym (variables_left this j z hj) ∙ each_gives (has vj) vi p.1 z (variables_left this i z hi ∙ o))
             (λ o. sym (variables_left this i z hi) ∙ each_gives (has vi) vj q.1 z (variables_left this j z hj ∙ o));
       }
@@ -128,7 +130,7 @@ module _ {g : Graph} {aggressive : Bool} {t : QuotientGraph} {s : State} {c : �
   unfolding represents
   representative_same x y kx ky a = let hx = (border_class x kx).0 in let hy = (border_class y ky).0 in
       last_same' (alike aggressive t c L x) (alike aggressive t c L y) x y (border_list this)
-      (λ z k. let hz = (border_class z k).0 in same_bool (alike aggressive t c L x z) (alike aggressive t c L y z)
+      (λ z k. let hz = (border_class z k).0 in both_ways (alike aggressive t c L x z) (alike aggressive t c L y z)
       (λ m. alike_from y z hy hz (alike_join y x z (alike_flip x y a) (alike_gives x z hx hz m)))
       (λ m. alike_from x z hx hz (alike_join x y z a (alike_gives y z hy hz m))))
       (inr (x, kx, alike_from x x hx hx (alike_self x)))

@@ -3,19 +3,20 @@ use Rattle.std.proofs.Common.{ℕ, Bool, true, false, ◌≡◌, ◌≢◌, ◌+
 use Rattle.std.specs.Prelude.{filter, ◌==◌, sum_by, min}
 use Rattle.std.proofs.lemmas.Bool.{cases_Bool, and_parts, and_from, or_parts, or_from, eq-eqb, ne_eqb, cond-true, cond-false}
 use Rattle.std.proofs.lemmas.Bool.{not_from_false, not-true, and_left}
+use Rattle.std.specs.Cmp.{both_ways}
 use Rattle.amd_model.specs.Below.{any_below, count_below, sum_below}
 use Rattle.amd_model.specs.Graph.{Graph}
 use Rattle.amd_model.specs.State.{State, Live, live, in_class, stands, holds, front}
 use Rattle.amd_model.specs.Step.{StepAt, other, outer, border_of, outside, beyond, new_bound}
 use Rattle.amd_model.specs.Quotient.{QuotientGraph, has, new_size, far, left, next_bound, round}
-use Rattle.amd_model.proofs.Counting.Below.{any_gives, any_from, sum_same, count_same, count_split}
+use Rattle.amd_model.proofs.Counting.Below.{any_gives, any_from, sum_same, count_same, count_split, clash}
 use Rattle.amd_model.proofs.States.Words.{class_gives, class_from, live_gives, holds_gives, neighbours_gives, live_from}
 use Rattle.amd_model.proofs.States.Sound.{live_small, holds_class, standing_small}
 use Rattle.amd_model.proofs.States.SoundStep.{goes, moves, stays}
 use Rattle.amd_model.proofs.States.NewParts.{holds_new}
 use Rattle.amd_model.proofs.States.Steps.{outer_parts, other_gives}
 use Rattle.amd_model.proofs.Quotient.Sums.{named, named_gives, named_from, class_sum, sum_over}
-use Rattle.amd_model.proofs.Quotient.Lists.{same_bool, clash, has_filter, once_filter}
+use Rattle.amd_model.proofs.Quotient.Lists.{has_filter, once_filter}
 use Rattle.amd_model.proofs.Quotient.Round.RoundAt.{RoundAt, front_list, border_list, made_list, elements_kept, variables_kept}
 use Rattle.amd_model.proofs.Quotient.Round.RoundAt.{representative}
 use Rattle.amd_model.proofs.Quotient.Round.Front.{row_front}
@@ -48,7 +49,7 @@ module _ {g : Graph} {aggressive : Bool} {t : QuotientGraph} {s : State} {c : �
       (λ x k. fits.size x (holds_gives g s e x (sym (fits.members e x) ∙
       (and_parts (has xs x) (p x) (sym (has_filter p xs x) ∙ k)).0)).class)
       ∙ count_same g.size (λ v. named (filter p xs) (s.home v)) (λ v. s.border e v && not (front g s c v))
-      (λ v l. same_bool (named (filter p xs) (s.home v)) (s.border e v && not (front g s c v))
+      (λ v l. both_ways (named (filter p xs) (s.home v)) (s.border e v && not (front g s c v))
       (λ k. let d = named_gives (filter p xs) (s.home v) k in let q = and_parts (has xs d.0) (p d.0) (sym (has_filter p xs d.0) ∙ d.2) in
       and_from (s.border e v) (not (front g s c v)) ((holds_gives g s e d.0 (sym (fits.members e d.0) ∙ q.0)).rows v l d.1)
       (ap not (sym (row_front this v d.0 d.1)) ∙ q.1))
@@ -63,7 +64,7 @@ module _ {g : Graph} {aggressive : Bool} {t : QuotientGraph} {s : State} {c : �
       class_sum g s t.size kv (variables_kept_once this i h)
       (λ x k. fits.size x (neighbours_gives g s i x (outer_parts g s c i x (sym (variables_left this i x h) ∙ k)).0).second)
       ∙ count_same g.size (λ v. named kv (s.home v)) (λ v. any_below g.size (λ d. outer g s c i d && in_class s d v))
-      (λ v l. same_bool (named kv (s.home v)) (any_below g.size (λ d. outer g s c i d && in_class s d v))
+      (λ v l. both_ways (named kv (s.home v)) (any_below g.size (λ d. outer g s c i d && in_class s d v))
       (λ k. let d = named_gives kv (s.home v) k in any_from g.size (λ d. outer g s c i d && in_class s d v) d.0
       (live_small g laws s sound d.0 d.0 (sound.named v d.0 d.1))
       (and_from (outer g s c i d.0) (in_class s d.0 v) (sym (variables_left this i d.0 h) ∙ d.2) (class_from d.0 (s.home v) d.1)))
@@ -81,7 +82,7 @@ module _ {g : Graph} {aggressive : Bool} {t : QuotientGraph} {s : State} {c : �
       let b = sum_same g.size (λ e. cond (has ke e) (F e) 0) (λ e. cond (other g aggressive s c e && holds g new e i) (beyond g s c e) 0)
       (λ e l. elim (cases_Bool (other g aggressive s c e)) [
         | inl o ↦ ap (λ b. cond b (F e) 0) (elements_left this i e h ∙
-            ap (λ b. other g aggressive s c e && b) (same_bool (holds g s e i) (holds g new e i)
+            ap (λ b. other g aggressive s c e && b) (both_ways (holds g s e i) (holds g new e i)
             (λ k. (holds_new g laws aggressive c s new sound step e i hi).1 (inr (o, k)))
             (λ k. elim ((holds_new g laws aggressive c s new sound step e i hi).0 k) [
               | inl q ↦ absurd (other_apart this e o q.0)
@@ -106,13 +107,13 @@ module _ {g : Graph} {aggressive : Bool} {t : QuotientGraph} {s : State} {c : �
       let a = class_sum g s t.size xs (once_filter p t.placed fits.placed_once) (λ x k. fits.size x (parts x k).0) in
       let whole = count_split g.size (live new) (border_of g aggressive s c) in
       let one = count_same g.size (λ v. live new v && border_of g aggressive s c v) (border_of g aggressive s c)
-      (λ v l. same_bool (live new v && border_of g aggressive s c v) (border_of g aggressive s c v)
+      (λ v l. both_ways (live new v && border_of g aggressive s c v) (border_of g aggressive s c v)
       (λ k. (and_parts (live new v) (border_of g aggressive s c v) k).1)
       (λ b. let d = named_gives (border_list this) (s.home v) (border_named this v ∙ b) in
       and_from (live new v) (border_of g aggressive s c v)
       (live_from (representative this d.0) (new.home v) (moved_to this v d.0 b d.1)) b)) in
       let two = count_same g.size (λ v. live new v && not (border_of g aggressive s c v)) (λ v. named xs (s.home v))
-      (λ v l. same_bool (live new v && not (border_of g aggressive s c v)) (named xs (s.home v))
+      (λ v l. both_ways (live new v && not (border_of g aggressive s c v)) (named xs (s.home v))
       (λ k. let q = and_parts (live new v) (not (border_of g aggressive s c v)) k in
       let nb = not-true (border_of g aggressive s c v) q.1 in let d = live_gives (new.home v) q.0 in let hd = d.1 in elim (fate_of this v) [
         | goes b r ↦ absurd (cc)

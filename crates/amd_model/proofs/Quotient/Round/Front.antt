@@ -2,15 +2,16 @@
 use Rattle.std.proofs.Common.{ℕ, Bool, true, ◌≡◌, ◌≢◌, ◌&&◌, ◌||◌, not, inl, inr, refl, sym, ◌∙◌, ap, List, [], ◌++◌}
 use Rattle.std.specs.Prelude.{flat_map, ◌==◌}
 use Rattle.std.proofs.lemmas.Bool.{cases_Bool, and_parts, and_from, or_cases, or_left, or_right, eq-eqb, ne_eqb, not_from_false, not-true}
+use Rattle.std.specs.Cmp.{both_ways}
 use Rattle.amd_model.specs.Graph.{Graph}
 use Rattle.amd_model.specs.State.{State, Live, is_class, stands, inside, holds, neighbours, front}
 use Rattle.amd_model.specs.Step.{absorbed}
 use Rattle.amd_model.specs.Quotient.{QuotientGraph, has, each, is_empty, gathered, takes, Once}
-use Rattle.amd_model.proofs.Counting.Below.{any_gives}
+use Rattle.amd_model.proofs.Counting.Below.{any_gives, clash}
 use Rattle.amd_model.proofs.States.Words.{class_gives, class_from, live_gives, stands_gives, holds_gives, inside_gives, inside_from}
 use Rattle.amd_model.proofs.States.Words.{neighbours_gives, by_element, by_neighbour, front_gives, front_from}
 use Rattle.amd_model.proofs.States.Sound.{live_small, holds_class, standing_small, front_whole}
-use Rattle.amd_model.proofs.Quotient.Lists.{same_bool, clash, has_append, each_gives, each_from, empty_gives, some_of, firsts}
+use Rattle.amd_model.proofs.Quotient.Lists.{has_append, each_gives, each_from, empty_gives, some_of, firsts}
 use Rattle.amd_model.proofs.Quotient.Lists.{once_firsts, flat_gives, flat_from}
 use Rattle.amd_model.proofs.Quotient.Round.RoundAt.{RoundAt, front_list, taken, pivot_live, same_class, outside_pivot}
 
@@ -25,7 +26,7 @@ module _ {g : Graph} {aggressive : Bool} {t : QuotientGraph} {s : State} {c : �
   unfolding gathered is_empty
   front_is i =
       let vs : List ℕ = flat_map t.members (t.elements c) ++ t.variables c in
-      firsts (λ x. x == c) [] vs i ∙ same_bool (has [] i || (has vs i && not (i == c))) (is_class s i && front g s c i)
+      firsts (λ x. x == c) [] vs i ∙ both_ways (has [] i || (has vs i && not (i == c))) (is_class s i && front g s c i)
       (λ h. elim (or_cases (has [] i) (has vs i && not (i == c)) h) [
         | inl n ↦ absurd (empty_gives [] refl i n)
         | inr n ↦ (let p = and_parts (has vs i) (not (i == c)) n in
@@ -65,7 +66,7 @@ module _ {g : Graph} {aggressive : Bool} {t : QuotientGraph} {s : State} {c : �
 
   pub row_front : (v x : ℕ) → s.home v ≡ Live x → has L x ≡ front g s c v
   row_front v x h = let hx = sound.named v x h in class_front x hx ∙
-      same_bool (front g s c x) (front g s c v) (front_whole g laws s sound c x x v hx h) (front_whole g laws s sound c x v x h hx)
+      both_ways (front g s c x) (front g s c v) (front_whole g laws s sound c x x v hx h) (front_whole g laws s sound c x v x h hx)
 
   pub front_once : Once L
   unfolding gathered
@@ -75,7 +76,7 @@ module _ {g : Graph} {aggressive : Bool} {t : QuotientGraph} {s : State} {c : �
   unfolding takes absorbed
   absorbed_is e = ap (λ b. b || (aggressive && not (is_empty (t.members e)) && each (has L) (t.members e)))
       (fits.elements c e (pivot_live this))
-      ∙ ap (λ b. holds g s e c || b) (same_bool (aggressive && not (is_empty (t.members e)) && each (has L) (t.members e))
+      ∙ ap (λ b. holds g s e c || b) (both_ways (aggressive && not (is_empty (t.members e)) && each (has L) (t.members e))
       (aggressive && stands g s e && inside g (s.border e) (front g s c))
       (λ h. let p = and_parts (aggressive && not (is_empty (t.members e))) (each (has L) (t.members e)) h in
       let q = and_parts aggressive (not (is_empty (t.members e))) p.0 in

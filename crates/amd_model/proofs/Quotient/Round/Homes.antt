@@ -12,12 +12,13 @@ use Rattle.amd_model.proofs.States.Next.{next_state, unbounded}
 use Rattle.amd_model.proofs.States.SoundStep.{goes, moves, stays}
 use Rattle.amd_model.proofs.States.Steps.{mass_gives, block_cases, border_whole}
 use Rattle.amd_model.proofs.Quotient.Sums.{home_cases}
-use Rattle.amd_model.proofs.Quotient.Lists.{clash, has_filter}
+use Rattle.amd_model.proofs.Quotient.Lists.{has_filter}
 use Rattle.amd_model.proofs.Quotient.Round.RoundAt.{RoundAt, front_list, border_list, representative, keeps_none, pivot_live}
 use Rattle.amd_model.proofs.Quotient.Round.Front.{class_front, row_front, absorbed_is}
 use Rattle.amd_model.proofs.Quotient.Round.Kept.{mass_is}
 use Rattle.amd_model.proofs.Quotient.Round.Border.{border_is}
 use Rattle.amd_model.proofs.Quotient.Round.After.{state_after, lists_after, fate_of, moved_to, border_front}
+use Rattle.amd_model.proofs.Counting.Below.{clash}
 
 module _ {g : Graph} {aggressive : Bool} {t : QuotientGraph} {s : State} {c : ℕ} (this : RoundAt g aggressive t s c) where
   open this use {laws, sound, fits}

@@ -2,6 +2,7 @@
 use Rattle.std.proofs.Common.{ℕ, Bool, true, ◌≡◌, ◌<◌, ◌&&◌, ◌||◌, not, sym, ◌∙◌, ap, List}
 use Rattle.std.specs.Prelude.{◌==◌}
 use Rattle.std.proofs.lemmas.Bool.{and_parts, and_from, or_parts, or_from, not_from_false, not-true}
+use Rattle.std.specs.Cmp.{both_ways}
 use Rattle.amd_model.specs.Graph.{Graph}
 use Rattle.amd_model.specs.State.{State, Live, stands, holds, neighbours, front}
 use Rattle.amd_model.specs.Step.{absorbed, other, outer, mass}
@@ -10,9 +11,10 @@ use Rattle.amd_model.proofs.States.Words.{holds_gives, neighbours_gives}
 use Rattle.amd_model.proofs.States.Sound.{live_small, standing_small}
 use Rattle.amd_model.proofs.States.NewParts.{mass_from}
 use Rattle.amd_model.proofs.States.Steps.{outer_parts, mass_gives}
-use Rattle.amd_model.proofs.Quotient.Lists.{same_bool, clash, has_filter, empty_gives, empty_from, once_filter}
+use Rattle.amd_model.proofs.Quotient.Lists.{has_filter, empty_gives, empty_from, once_filter}
 use Rattle.amd_model.proofs.Quotient.Round.RoundAt.{RoundAt, front_list, elements_kept, variables_kept, keeps_none, taken}
 use Rattle.amd_model.proofs.Quotient.Round.Front.{front_class, class_front, absorbed_is}
+use Rattle.amd_model.proofs.Counting.Below.{clash}
 
 module _ {g : Graph} {aggressive : Bool} {t : QuotientGraph} {s : State} {c : ℕ} (this : RoundAt g aggressive t s c) where
   open this use {laws, sound, fits}
@@ -24,7 +26,7 @@ module _ {g : Graph} {aggressive : Bool} {t : QuotientGraph} {s : State} {c : �
   pub elements_left : (i e : ℕ) → s.home i ≡ Live i → has (elements_kept this i) e ≡ (other g aggressive s c e && holds g s e i)
   unfolding kept_elements other
   elements_left i e h = has_filter (λ e. not (taken this e)) (t.elements i) e ∙
-      same_bool (has (t.elements i) e && not (taken this e)) (stands g s e && not (absorbed g aggressive s c e) && holds g s e i)
+      both_ways (has (t.elements i) e && not (taken this e)) (stands g s e && not (absorbed g aggressive s c e) && holds g s e i)
       (λ a. let p = and_parts (has (t.elements i) e) (not (taken this e)) a in let k = sym (fits.elements i e h) ∙ p.0 in
       and_from (stands g s e && not (absorbed g aggressive s c e)) (holds g s e i)
       (and_from (stands g s e) (not (absorbed g aggressive s c e)) (holds_gives g s e i k).standing
@@ -36,7 +38,7 @@ module _ {g : Graph} {aggressive : Bool} {t : QuotientGraph} {s : State} {c : �
   pub variables_left : (i j : ℕ) → s.home i ≡ Live i → has (variables_kept this i) j ≡ outer g s c i j
   unfolding kept_variables outer
   variables_left i j h = has_filter (λ j. not (j == c || has L j)) (t.variables i) j ∙
-      same_bool (has (t.variables i) j && not (j == c || has L j)) (neighbours g s i j && not (front g s c j) && not (j == c))
+      both_ways (has (t.variables i) j && not (j == c || has L j)) (neighbours g s i j && not (front g s c j) && not (j == c))
       (λ a. let p = and_parts (has (t.variables i) j) (not (j == c || has L j)) a in let n = sym (fits.variables i j h) ∙ p.0 in
       let k = or_parts (j == c) (has L j) (not-true (j == c || has L j) p.1) in
       and_from (neighbours g s i j && not (front g s c j)) (not (j == c)) (and_from (neighbours g s i j) (not (front g s c j)) n
@@ -54,7 +56,7 @@ module _ {g : Graph} {aggressive : Bool} {t : QuotientGraph} {s : State} {c : �
   unfolding done
   mass_is i h = let f = front_class this i h in let ke : List ℕ = elements_kept this i in
       let kv : List ℕ = variables_kept this i in
-      same_bool (is_empty ke && is_empty kv) (mass g aggressive s c i)
+      both_ways (is_empty ke && is_empty kv) (mass g aggressive s c i)
       (λ a. let p = and_parts (is_empty ke) (is_empty kv) a in mass_from g laws aggressive c s sound i f.0 f.1
       (λ e l o k. empty_gives ke p.0 e (elements_left i e f.0 ∙ and_from (other g aggressive s c e) (holds g s e i) o k))
       (λ x l o. empty_gives kv p.1 x (variables_left i x f.0 ∙ o)))

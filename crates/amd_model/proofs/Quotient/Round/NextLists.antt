@@ -4,22 +4,24 @@ use Rattle.std.specs.Prelude.{filter, ◌==◌}
 use Rattle.std.proofs.lemmas.Bool.{cases_Bool, false≢true, and_parts, and_from, or_cases, or_left, or_right, or_parts, or_from, eqb-true}
 use Rattle.std.proofs.lemmas.Bool.{eq-eqb, ne_eqb, cases_eq, cond-true, cond-false, not_from_false, not-true, and_left, and_right}
 use Rattle.std.proofs.lemmas.Bool.{and_cases, cond_both}
+use Rattle.std.specs.Cmp.{both_ways}
 use Rattle.amd_model.specs.Graph.{Graph}
-use Rattle.amd_model.specs.State.{State, Live, is_class, holds, neighbours, front}
+use Rattle.amd_model.specs.State.{State, Live, is_class, holds, neighbours}
 use Rattle.amd_model.specs.Step.{StepAt, absorbed, other, outer, border_of}
 use Rattle.amd_model.specs.Quotient.{QuotientGraph, has, turned, kept_elements, kept_variables, rest, made, round, Once}
 use Rattle.amd_model.proofs.States.Words.{class_gives, class_from, holds_gives, neighbours_gives}
 use Rattle.amd_model.proofs.States.Sound.{live_small}
 use Rattle.amd_model.proofs.States.SoundStep.{other_not_pivot}
 use Rattle.amd_model.proofs.States.NewParts.{holds_new, neighbours_new}
-use Rattle.amd_model.proofs.States.Steps.{outer_parts, outer_from, other_gives, other_from, absorbed_border}
-use Rattle.amd_model.proofs.Quotient.Lists.{same_bool, clash, has_append, has_turned, has_filter, once_append, once_filter, once_turned}
+use Rattle.amd_model.proofs.States.Steps.{outer_parts, outer_from, other_gives, other_from, absorbed_border, no_border}
+use Rattle.amd_model.proofs.Quotient.Lists.{has_append, has_turned, has_filter, once_append, once_filter, once_turned}
 use Rattle.amd_model.proofs.Quotient.Round.RoundAt.{RoundAt, front_list, border_list, made_list, elements_kept, variables_kept}
 use Rattle.amd_model.proofs.Quotient.Round.RoundAt.{representative, keeps_none, taken, ended, outside_pivot}
 use Rattle.amd_model.proofs.Quotient.Round.Front.{class_front, front_once, absorbed_is}
 use Rattle.amd_model.proofs.Quotient.Round.Kept.{elements_left, variables_left}
 use Rattle.amd_model.proofs.Quotient.Round.After.{state_after, step_after, lists_after, class_before, made_from, made_class, border_front}
 use Rattle.amd_model.proofs.Quotient.Round.After.{out_of, kept_class, class_not_ended, not_ended_class, not_made}
+use Rattle.amd_model.proofs.Counting.Below.{clash}
 
 module _ {g : Graph} {aggressive : Bool} {t : QuotientGraph} {s : State} {c : ℕ} (this : RoundAt g aggressive t s c) where
   open this use {laws, sound, fits}
@@ -39,7 +41,7 @@ module _ {g : Graph} {aggressive : Bool} {t : QuotientGraph} {s : State} {c : �
   pub placed_after : (i : ℕ) → has now.placed i ≡ is_class new i
   unfolding round
   placed_after i = let far : List ℕ = filter (λ i. not (i == c || has L i)) t.placed in let m : List ℕ = made_list this in
-      has_append far m i ∙ same_bool (has far i || has m i) (is_class new i)
+      has_append far m i ∙ both_ways (has far i || has m i) (is_class new i)
       (λ a. class_from i (new.home i) (elim (or_cases (has far i) (has m i) a) [
         | inr k ↦ (made_class this i k).0
         | inl k ↦ (let p = and_parts (has t.placed i) (not (i == c || has L i))
@@ -62,12 +64,12 @@ module _ {g : Graph} {aggressive : Bool} {t : QuotientGraph} {s : State} {c : �
       elim (cases_Bool (border_of g aggressive s c i)) [
         | inl b ↦ ap (λ l. has l j) (cond-true (has (made_list this) i) (turned kv) fs (made_from this i h b)) ∙ has_turned kv j ∙
             variables_left this i j (class_before this i h) ∙
-            same_bool (outer g s c i j) (neighbours g new i j)
+            both_ways (outer g s c i j) (neighbours g new i j)
             (λ o. let p = outer_parts g s c i j o in let hj = kept_class this j (neighbours_gives g s i j p.0).second p.2 p.1 in
             (neighbours_new g laws aggressive c s new sound step i j h hj).1 (
               p.0,
               and_right (border_of g aggressive s c i) (border_of g aggressive s c j)
-                  (no_front_border j p.1),
+                  (no_border g aggressive s c j p.1),
             ))
             (λ n. let hj = (neighbours_gives g new i j n).second in
             let p = (neighbours_new g laws aggressive c s new sound step i j h hj).0 n in
@@ -76,7 +78,7 @@ module _ {g : Graph} {aggressive : Bool} {t : QuotientGraph} {s : State} {c : �
             outer_from g s c i j p.0 o.not_front o.not_c)
         | inr nb ↦ ap (λ l. has l j) (cond-false (has (made_list this) i) (turned kv) fs (not_made this i nb)) ∙
             has_filter (λ j. not (ended this j)) (t.variables i) j ∙
-            same_bool (has (t.variables i) j && not (ended this j)) (neighbours g new i j)
+            both_ways (has (t.variables i) j && not (ended this j)) (neighbours g new i j)
             (λ a. let p = and_parts (has (t.variables i) j) (not (ended this j)) a in
             let n = sym (fits.variables i j (class_before this i h)) ∙ p.0 in
             (neighbours_new g laws aggressive c s new sound step i j h
@@ -87,9 +89,6 @@ module _ {g : Graph} {aggressive : Bool} {t : QuotientGraph} {s : State} {c : �
             and_from (has (t.variables i) j) (not (ended this j)) (fits.variables i j (class_before this i h) ∙ p.0)
             (not_from_false (ended this j) (class_not_ended this j hj)))
       ]
-    where
-      no_front_border : (j : ℕ) → front g s c j ≡ false → border_of g aggressive s c j ≡ false
-      no_front_border j nf = elim (cases_Bool (border_of g aggressive s c j)) [ inr k ↦ k | inl k ↦ clash (border_front this j k) nf ]
 
   other_of : (e i : ℕ) → holds g s e i ≡ true → absorbed g aggressive s c e ≡ false → other g aggressive s c e ≡ true
   other_of e i h n = other_from g aggressive s c e
@@ -105,7 +104,7 @@ module _ {g : Graph} {aggressive : Bool} {t : QuotientGraph} {s : State} {c : �
       elim (cases_Bool (border_of g aggressive s c i)) [
         | inl b ↦ ap (λ l. has l e) (cond-true (has (made_list this) i) (c ∷ turned ke) (t.elements i) (made_from this i h b)) ∙
             ap (λ k. (c == e) || k) (has_turned ke e ∙ elements_left this i e (class_before this i h)) ∙
-            same_bool ((c == e) || (other g aggressive s c e && holds g s e i)) (holds g new e i)
+            both_ways ((c == e) || (other g aggressive s c e && holds g s e i)) (holds g new e i)
             (λ a. both.1 (elim (or_cases (c == e) (other g aggressive s c e && holds g s e i) a) [
               | inl q ↦ inl (sym (eqb-true c e q), b)
               | inr q ↦ inr (and_parts (other g aggressive s c e) (holds g s e i) q)
@@ -117,7 +116,7 @@ module _ {g : Graph} {aggressive : Bool} {t : QuotientGraph} {s : State} {c : �
             ])
         | inr nb ↦ ap (λ l. has l e) (cond-false (has (made_list this) i) (c ∷ turned ke) (t.elements i) (not_made this i nb)) ∙
             fits.elements i e (class_before this i h) ∙
-            same_bool (holds g s e i) (holds g new e i)
+            both_ways (holds g s e i) (holds g new e i)
             (λ a. let o = out_of this i h nb in let hi = class_before this i h in let l = live_small g laws s sound i i hi in both.1 (inr (
               other_of e i a (elim (cases_Bool (absorbed g aggressive s c e)) [
                 | inr k ↦ k
@@ -135,11 +134,11 @@ module _ {g : Graph} {aggressive : Bool} {t : QuotientGraph} {s : State} {c : �
       let both : (h : new.home i ≡ Live i) → _ = λ h. holds_new g laws aggressive c s new sound step e i h in
       let class_of : holds g new e i ≡ true → new.home i ≡ Live i = λ a. (holds_gives g new e i a).class in
       elim (cases_eq e c) [
-        | inl q ↦ ap (λ l. has l i) (cond-true (e == c) m _ (eq-eqb e c q)) ∙ same_bool (has m i) (holds g new e i)
+        | inl q ↦ ap (λ l. has l i) (cond-true (e == c) m _ (eq-eqb e c q)) ∙ both_ways (has m i) (holds g new e i)
             (λ k. let p = made_class this i k in (both p.0).1 (inl (q, p.1)))
             (λ a. elim ((both (class_of a)).0 a) [ inl p ↦ made_from this i (class_of a) p.1 | inr p ↦ absurd (other_apart e p.0 q) ])
         | inr ne ↦ ap (λ l. has l i) (cond-false (e == c) m _ (ne_eqb e c ne)) ∙ elim (cases_Bool (taken this e)) [
-          | inl k ↦ ap (λ l. has l i) (cond-true (taken this e) [] fs k) ∙ same_bool false (holds g new e i)
+          | inl k ↦ ap (λ l. has l i) (cond-true (taken this e) [] fs k) ∙ both_ways false (holds g new e i)
               (λ a. absurd (false≢true a))
               (λ a. elim ((both (class_of a)).0 a) [
                 | inl p ↦ absurd (ne p.0)
@@ -147,7 +146,7 @@ module _ {g : Graph} {aggressive : Bool} {t : QuotientGraph} {s : State} {c : �
               ])
           | inr k ↦ ap (λ l. has l i) (cond-false (taken this e) [] fs k) ∙
               has_filter (λ j. not (ended this j)) (t.members e) i ∙
-              same_bool (has (t.members e) i && not (ended this i)) (holds g new e i)
+              both_ways (has (t.members e) i && not (ended this i)) (holds g new e i)
               (λ a. let p = and_parts (has (t.members e) i) (not (ended this i)) a in let w = sym (fits.members e i) ∙ p.0 in
               (both (not_ended_class this i (holds_gives g s e i w).class (not-true (ended this i) p.1))).1
               (inr (other_of e i w (sym (absorbed_is this e) ∙ k), w)))

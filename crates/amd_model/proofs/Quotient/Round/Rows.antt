@@ -13,7 +13,7 @@ use Rattle.amd_model.specs.Quotient.{QuotientGraph, Fits, left}
 use Rattle.amd_model.proofs.Counting.Below.{clash, count_same, count_split, count_mono, count_most, count_pos}
 use Rattle.amd_model.proofs.States.Words.{class_gives, class_from, live_gives, live_from, front_gives}
 use Rattle.amd_model.proofs.States.Sound.{live_small, front_live}
-use Rattle.amd_model.proofs.States.Steps.{block_pivot, border_gives}
+use Rattle.amd_model.proofs.States.Steps.{block_pivot}
 use Rattle.amd_model.proofs.States.SoundStep.{step_sound}
 use Rattle.amd_model.proofs.States.StepFronts.{block_new, border_new, block_parts, live_parts}
 use Rattle.amd_model.proofs.Quotient.Sums.{named, named_gives, named_from, class_sum}
@@ -62,11 +62,6 @@ module _ {g : Graph} {aggressive : Bool} {t : QuotientGraph} {s : State} {c : �
       (λ k. let d = named_gives L (s.home v) k in sym (row_front this v d.0 d.1) ∙ d.2)
       (λ k. let d = live_gives (s.home v) (front_live g laws s sound c v k) in
       named_from L (s.home v) d.0 d.1 (row_front this v d.0 d.1 ∙ k)))
-
-  pub rest_small : sum_by t.size (border_list this) ≤ sum_by t.size L
-  rest_small = let a = front_rows in let b = border_sum this in
-      let m = count_mono g.size (border_of g aggressive s c) (front g s c)
-      (λ v l h. (border_gives g aggressive s c v h).0) in omega (arith, a, b, m)
 
   -- L and the class of the pivot are some of the live rows
   pub front_small : sum_by t.size L + t.size c ≤ sum_by t.size t.placed

@@ -2,17 +2,18 @@
 use Rattle.std.proofs.Common.{ℕ, Bool, true, ◌≡◌, not, inl, inr, sym, ◌∙◌, ap, List}
 use Rattle.std.specs.Prelude.{filter, ◌==◌, sum_by}
 use Rattle.std.proofs.lemmas.Bool.{cases_Bool, and_parts, and_from, eqb-true, eq-eqb, cond-true, cond-false}
+use Rattle.std.specs.Cmp.{both_ways}
 use Rattle.amd_model.specs.Below.{count_below}
 use Rattle.amd_model.specs.Graph.{Graph}
 use Rattle.amd_model.specs.State.{State, Live, in_class}
 use Rattle.amd_model.specs.Step.{StepAt, border_of}
 use Rattle.amd_model.specs.Quotient.{QuotientGraph, has, rest, new_size, round, Once}
-use Rattle.amd_model.proofs.Counting.Below.{count_same}
+use Rattle.amd_model.proofs.Counting.Below.{count_same, clash}
 use Rattle.amd_model.proofs.States.Words.{class_gives, class_from, live_gives}
 use Rattle.amd_model.proofs.States.Sound.{front_live}
 use Rattle.amd_model.proofs.States.SoundStep.{goes, moves, stays, class_border}
 use Rattle.amd_model.proofs.Quotient.Sums.{named, named_gives, named_from, class_sum}
-use Rattle.amd_model.proofs.Quotient.Lists.{same_bool, clash, has_filter, once_filter}
+use Rattle.amd_model.proofs.Quotient.Lists.{has_filter, once_filter}
 use Rattle.amd_model.proofs.Quotient.Round.RoundAt.{RoundAt, front_list, border_list, made_list, representative, keeps_none}
 use Rattle.amd_model.proofs.Quotient.Round.Front.{row_front, front_once}
 use Rattle.amd_model.proofs.Quotient.Round.Border.{border_is, border_class}
@@ -37,7 +38,7 @@ module _ {g : Graph} {aggressive : Bool} {t : QuotientGraph} {s : State} {c : �
 
   -- the rows of S
   pub border_named : (v : ℕ) → named (border_list this) (s.home v) ≡ border_of g aggressive s c v
-  border_named v = same_bool (named (border_list this) (s.home v)) (border_of g aggressive s c v)
+  border_named v = both_ways (named (border_list this) (s.home v)) (border_of g aggressive s c v)
       (λ k. let d = named_gives (border_list this) (s.home v) k in row_on_border this v d.0 d.1 (border_class this d.0 d.2).1)
       (λ b. let d = live_gives (s.home v) (front_live g laws s sound c v (border_front this v b)) in
       named_from (border_list this) (s.home v) d.0 d.1 (border_is this d.0 (sound.named v d.0 d.1) ∙ class_on_border this v d.0 d.1 b))
@@ -57,7 +58,7 @@ module _ {g : Graph} {aggressive : Bool} {t : QuotientGraph} {s : State} {c : �
       class_sum g s t.size (filter p xs) (once_filter p xs border_once)
       (λ x k. fits.size x (border_class this x (and_parts (has xs x) (p x) (sym (has_filter p xs x) ∙ k)).0).0)
       ∙ count_same g.size (λ v. named (filter p xs) (s.home v)) (in_class new i)
-      (λ v l. same_bool (named (filter p xs) (s.home v)) (in_class new i v)
+      (λ v l. both_ways (named (filter p xs) (s.home v)) (in_class new i v)
       (λ k. let d = named_gives (filter p xs) (s.home v) k in let q = and_parts (has xs d.0) (p d.0) (sym (has_filter p xs d.0) ∙ d.2) in
       class_from i (new.home v) (moved_to this v d.0 (row_on_border this v d.0 d.1 (border_class this d.0 q.0).1) d.1 ∙
       ap Live (eqb-true (representative this d.0) i q.1)))
@@ -74,7 +75,7 @@ module _ {g : Graph} {aggressive : Bool} {t : QuotientGraph} {s : State} {c : �
     | inl b ↦ cond-true (has (made_list this) i) _ _ (made_from this i hi b) ∙ size_is i hi b
     | inr nb ↦ cond-false (has (made_list this) i) _ _ (not_made this i nb) ∙ fits.size i (class_before this i hi) ∙
         count_same g.size (in_class s i) (in_class new i)
-        (λ v l. let o = out_of this i hi nb in let h = class_before this i hi in same_bool (in_class s i v) (in_class new i v)
+        (λ v l. let o = out_of this i hi nb in let h = class_before this i hi in both_ways (in_class s i v) (in_class new i v)
         (λ k. let hv = class_gives i (s.home v) k in class_from i (new.home v) (step.kept v
         (elim (cases_Bool (in_class s c v)) [
           | inr n ↦ n

@@ -2,7 +2,8 @@ use Rattle.std.proofs.Common.{◌+◌, inl, inr, take, ap, sym, refl, ◌∙◌}
 use Rattle.std.proofs.lemmas.Bool.{cases_Bool}
 use Rattle.std.proofs.lemmas.List.{take_all}
 use Rattle.amd_model.specs.Quotient.{each}
-use Rattle.amd_model.proofs.Quotient.Lists.{each_gives, each_from, clash}
+use Rattle.amd_model.proofs.Quotient.Lists.{each_gives, each_from}
+use Rattle.amd_model.proofs.Counting.Below.{clash}
 use Rattle.amd_views.proofs.Lists.Named.{has_at, more_gives}
 use Rattle.amd_rounds.specs.Views.{at}
 use Rattle.amd_rounds.proofs.merging.all_marked.Goals as goal

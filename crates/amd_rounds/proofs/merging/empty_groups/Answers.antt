@@ -1,10 +1,10 @@
-use Rattle.std.proofs.Common.{◌≡◌, ◌<◌, ◌+◌, ◌||◌, inl, inr, ℕ, Bool, true, false, List, [], ◌∷◌, length, get_or, set, take, arith, sym, ap}
+use Rattle.std.proofs.Common.{◌≡◌, ◌<◌, ◌+◌, inl, inr, ℕ, true, false, List, [], ◌∷◌, length, set, take, arith, sym, ap}
 use Rattle.std.proofs.Common.{refl, ◌∙◌}
 use Rattle.std.proofs.lemmas.Bool.{cases_Bool, false≢true, cases_eq}
 use Rattle.std.proofs.lemmas.List.{length-set}
 use Rattle.amd_model.specs.Quotient.{has}
-use Rattle.amd_model.proofs.Quotient.Lists.{clash}
 use Rattle.amd_model.proofs.Listings.Words.{has_head}
+use Rattle.amd_model.proofs.Counting.Below.{clash}
 use Rattle.amd_rounds.specs.Views.{list_at}
 use Rattle.amd_rounds.specs.Groups.{group_in}
 use Rattle.amd_views.proofs.Lists.Named.{has_all, more_gives}

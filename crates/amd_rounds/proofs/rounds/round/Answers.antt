@@ -3,7 +3,8 @@ use Rattle.std.specs.Prelude.{◌^◌}
 use Rattle.std.proofs.lemmas.Result.{on_ok_weaker}
 use Rattle.amd_rounds.specs.Parts.{MergesClasses}
 use Rattle.amd_rounds.specs.Keeps.{IsSized}
-use Rattle.amd_rounds.proofs.RoundParts.{some_class, merge_sized, merge_pivot, merge_range, merge_once, merge_lists_once, merge_live}
+use Rattle.amd_rounds.proofs.BucketsLaw.{some_class}
+use Rattle.amd_rounds.proofs.RoundParts.{merge_sized, merge_pivot, merge_range, merge_once, merge_lists_once, merge_live}
 use Rattle.amd_rounds.proofs.RoundParts.{renew_sized, renew_pivot, renew_range, renew_once, renew_sizes, renew_small, renew_live}
 use Rattle.amd_rounds.proofs.RoundParts.{renew_border, renew_dense, fewer, is_round}
 use Rattle.amd_rounds.proofs.rounds.round.Goals as goal
@@ -14,7 +15,7 @@ make_element-requires-clause-sized g c = let st = c.requires.stands in
 
 pub make_element-requires-clause-some : goal.make_element-requires-clause-some
 make_element-requires-clause-some g c = let st = c.requires.stands in
-    some_class st.0 st.1 c.args.control.now.aggressive c.args.work.now st.2 st.3 st.4 c.requires.left
+    some_class st.0 st.1 c.args.work.now st.2 st.3 st.4 c.requires.left
 
 pub returns-in_err-pivot-clause-round : goal.returns-in_err-pivot-clause-round
 returns-in_err-pivot-clause-round g c = search rules
