@@ -1,6 +1,6 @@
-// Eliminations worked out in full: that the definitions give the values which Amestoy, Davis and Duff's rules give by hand.
-// Source: worked by hand from the rules, and with a plain program that follows them. Called by: nobody, the contracts are the
-// values.
+// Eliminations worked out in full: that the definitions give the values which Amestoy, Davis and Duff's rules give by
+// hand. Source: worked by hand from the rules, and with a plain program that follows them. Called by: nobody, the
+// contracts are the values.
 
 ghost use Rattle.std.specs.Prelude.{◌≡◌, pos, negsuc, true, false, [], ◌∷◌, map, Some, None};
 ghost use Rattle.amd_model.specs.Below.{list_below};
@@ -26,7 +26,7 @@ ghost use Rattle.amd_model.specs.Examples.Eleven;
 /// The cycle of four rows: pivots 3 and 2.
 pub fn example_cycle()
     ensures run { Run cycle none_dense true Cycle.at_start (Cycle.after_one ∷ Cycle.after_two ∷ []) }
-    ensures listing { IsPostorder cycle none_dense Cycle.after_two (3 ∷ 0 ∷ 1 ∷ 2 ∷ []) }
+    ensures listing { IsPostorder cycle none_dense Cycle.after_two Cycle.listing }
     ensures lnz { figure entries cycle none_dense Cycle.after_two ≡ 5 }
     ensures ldl { figure ldl_steps cycle none_dense Cycle.after_two ≡ 7 }
     ensures lu { figure lu_steps cycle none_dense Cycle.after_two ≡ 9 }
@@ -39,7 +39,8 @@ pub fn example_cycle()
 
 /// The same in lists: the starting lists, the pivots, and where the rows are at the end.
 pub fn example_cycle_lists()
-    ensures lists { map (starting_list 4 (is_pair 4 Cycle.pointers Cycle.rows)) (0 ∷ 1 ∷ 2 ∷ 3 ∷ []) ≡ (1 ∷ 3 ∷ []) ∷ (0 ∷ 2 ∷ []) ∷ (1 ∷ 3 ∷ []) ∷ (0 ∷ 2 ∷ []) ∷ [] }
+    ensures lists { map (starting_list 4 (is_pair 4 Cycle.pointers Cycle.rows)) (0 ∷ 1 ∷ 2 ∷ 3 ∷ []) ≡
+        (1 ∷ 3 ∷ []) ∷ (0 ∷ 2 ∷ []) ∷ (1 ∷ 3 ∷ []) ∷ (0 ∷ 2 ∷ []) ∷ [] }
     ensures first_pivot { pivot cycle_tie.bound cycle_tie.placed ≡ 3 }
     ensures second_pivot { pivot (next true cycle_tie).bound (next true cycle_tie).placed ≡ 2 }
     ensures fits { Fits cycle cycle_tie Cycle.at_start }
@@ -48,15 +49,16 @@ pub fn example_cycle_lists()
 
 /// The columns of its factor under that listing.
 pub fn example_cycle_factor()
-    ensures factor { IsFactor cycle (3 ∷ 0 ∷ 1 ∷ 2 ∷ []) ((1 ∷ 3 ∷ []) ∷ (2 ∷ 3 ∷ []) ∷ (3 ∷ []) ∷ [] ∷ []) }
-    ensures entries_needed { needed entries ((1 ∷ 3 ∷ []) ∷ (2 ∷ 3 ∷ []) ∷ (3 ∷ []) ∷ [] ∷ []) ≡ 5 }
-    ensures front_needed { needed_front ((1 ∷ 3 ∷ []) ∷ (2 ∷ 3 ∷ []) ∷ (3 ∷ []) ∷ [] ∷ []) ≡ 3 }
+    ensures factor { IsFactor cycle Cycle.listing Cycle.columns }
+    ensures entries_needed { needed entries Cycle.columns ≡ 5 }
+    ensures front_needed { needed_front Cycle.columns ≡ 3 }
 {}
 
 /// A graph of seven rows: pivots 0, 6 and 2, and three rows that become one class.
 pub fn example_seven()
-    ensures run { Run seven none_dense true Seven.at_start (Seven.after_one ∷ Seven.after_two ∷ Seven.after_three ∷ []) }
-    ensures listing { IsPostorder seven none_dense Seven.after_three (0 ∷ 6 ∷ 1 ∷ 3 ∷ 4 ∷ 5 ∷ 2 ∷ []) }
+    ensures run { Run seven none_dense true Seven.at_start (Seven.after_one ∷ Seven.after_two
+        ∷ Seven.after_three ∷ []) }
+    ensures listing { IsPostorder seven none_dense Seven.after_three Seven.listing }
     ensures lnz { figure entries seven none_dense Seven.after_three ≡ 15 }
     ensures ldl { figure ldl_steps seven none_dense Seven.after_three ≡ 29 }
     ensures lu { figure lu_steps seven none_dense Seven.after_three ≡ 43 }
@@ -68,25 +70,29 @@ pub fn example_seven()
 
 /// The same in lists: the starting lists, the pivots, and where the rows are at the end.
 pub fn example_seven_lists()
-    ensures lists { map (starting_list 7 (is_pair 7 Seven.pointers Seven.rows)) (0 ∷ 1 ∷ 2 ∷ 3 ∷ 4 ∷ 5 ∷ 6 ∷ []) ≡ (5 ∷ 6 ∷ []) ∷ (2 ∷ 3 ∷ 4 ∷ 5 ∷ []) ∷ (1 ∷ 3 ∷ 4 ∷ 6 ∷ []) ∷ (1 ∷ 2 ∷ 4 ∷ 6 ∷ []) ∷ (1 ∷ 2 ∷ 3 ∷ 5 ∷ []) ∷ (0 ∷ 1 ∷ 4 ∷ []) ∷ (0 ∷ 2 ∷ 3 ∷ []) ∷ [] }
+    ensures lists { map (starting_list 7 (is_pair 7 Seven.pointers Seven.rows)) (0 ∷ 1 ∷ 2 ∷ 3 ∷ 4 ∷ 5 ∷ 6 ∷ []) ≡
+        (5 ∷ 6 ∷ []) ∷ (2 ∷ 3 ∷ 4 ∷ 5 ∷ []) ∷ (1 ∷ 3 ∷ 4 ∷ 6 ∷ []) ∷ (1 ∷ 2 ∷ 4 ∷ 6 ∷ []) ∷ (1 ∷ 2 ∷ 3 ∷ 5 ∷ [])
+        ∷ (0 ∷ 1 ∷ 4 ∷ []) ∷ (0 ∷ 2 ∷ 3 ∷ []) ∷ [] }
     ensures first_pivot { pivot seven_tie.bound seven_tie.placed ≡ 0 }
     ensures second_pivot { pivot (next true seven_tie).bound (next true seven_tie).placed ≡ 6 }
     ensures third_pivot { pivot (next true (next true seven_tie)).bound (next true (next true seven_tie)).placed ≡ 2 }
     ensures fits { Fits seven seven_tie Seven.at_start }
-    ensures homes { map (after_rounds 7 true seven_tie).home (0 ∷ 1 ∷ 2 ∷ 3 ∷ 4 ∷ 5 ∷ 6 ∷ []) ≡ Seven.three_table.homes }
+    ensures homes { map (after_rounds 7 true seven_tie).home (0 ∷ 1 ∷ 2 ∷ 3 ∷ 4 ∷ 5 ∷ 6 ∷ []) ≡
+        Seven.three_table.homes }
 {}
 
 /// The columns of its factor under that listing.
 pub fn example_seven_factor()
-    ensures factor { IsFactor seven (0 ∷ 6 ∷ 1 ∷ 3 ∷ 4 ∷ 5 ∷ 2 ∷ []) ((1 ∷ 5 ∷ []) ∷ (3 ∷ 5 ∷ 6 ∷ []) ∷ (3 ∷ 4 ∷ 5 ∷ 6 ∷ []) ∷ (4 ∷ 5 ∷ 6 ∷ []) ∷ (5 ∷ 6 ∷ []) ∷ (6 ∷ []) ∷ [] ∷ []) }
-    ensures entries_needed { needed entries ((1 ∷ 5 ∷ []) ∷ (3 ∷ 5 ∷ 6 ∷ []) ∷ (3 ∷ 4 ∷ 5 ∷ 6 ∷ []) ∷ (4 ∷ 5 ∷ 6 ∷ []) ∷ (5 ∷ 6 ∷ []) ∷ (6 ∷ []) ∷ [] ∷ []) ≡ 15 }
-    ensures front_needed { needed_front ((1 ∷ 5 ∷ []) ∷ (3 ∷ 5 ∷ 6 ∷ []) ∷ (3 ∷ 4 ∷ 5 ∷ 6 ∷ []) ∷ (4 ∷ 5 ∷ 6 ∷ []) ∷ (5 ∷ 6 ∷ []) ∷ (6 ∷ []) ∷ [] ∷ []) ≡ 5 }
+    ensures factor { IsFactor seven Seven.listing Seven.columns }
+    ensures entries_needed { needed entries Seven.columns ≡ 15 }
+    ensures front_needed { needed_front Seven.columns ≡ 5 }
 {}
 
 /// A graph of eleven rows, of which row 1 is held last and row 8 is empty: pivots 10, 6, 5, 3 and 4.
 pub fn example_eleven()
-    ensures run { Run eleven row_one true Eleven.at_start (Eleven.after_one ∷ Eleven.after_two ∷ Eleven.after_three ∷ Eleven.after_four ∷ Eleven.after_five ∷ []) }
-    ensures listing { IsPostorder eleven row_one Eleven.after_five (10 ∷ 5 ∷ 6 ∷ 3 ∷ 0 ∷ 2 ∷ 7 ∷ 9 ∷ 4 ∷ 8 ∷ 1 ∷ []) }
+    ensures run { Run eleven row_one true Eleven.at_start (Eleven.after_one ∷ Eleven.after_two ∷ Eleven.after_three
+        ∷ Eleven.after_four ∷ Eleven.after_five ∷ []) }
+    ensures listing { IsPostorder eleven row_one Eleven.after_five Eleven.listing }
     ensures lnz { figure entries eleven row_one Eleven.after_five ≡ 32 }
     ensures ldl { figure ldl_steps eleven row_one Eleven.after_five ≡ 80 }
     ensures lu { figure lu_steps eleven row_one Eleven.after_five ≡ 128 }
@@ -105,21 +111,28 @@ pub fn example_eleven()
 
 /// The same in lists: the starting lists, the pivots, and where the rows are at the end.
 pub fn example_eleven_lists()
-    ensures lists { map (starting_list 11 (is_pair 11 Eleven.pointers Eleven.rows)) (0 ∷ 1 ∷ 2 ∷ 3 ∷ 4 ∷ 5 ∷ 6 ∷ 7 ∷ 8 ∷ 9 ∷ 10 ∷ []) ≡ (3 ∷ 1 ∷ 2 ∷ 4 ∷ 5 ∷ 7 ∷ []) ∷ (0 ∷ 4 ∷ []) ∷ (0 ∷ 10 ∷ 6 ∷ []) ∷ (0 ∷ 4 ∷ 5 ∷ 6 ∷ []) ∷ (3 ∷ 7 ∷ 0 ∷ 1 ∷ 9 ∷ []) ∷ (3 ∷ 0 ∷ 9 ∷ []) ∷ (9 ∷ 2 ∷ 3 ∷ []) ∷ (4 ∷ 9 ∷ 0 ∷ 10 ∷ []) ∷ [] ∷ (6 ∷ 7 ∷ 10 ∷ 4 ∷ 5 ∷ []) ∷ (2 ∷ 9 ∷ 7 ∷ []) ∷ [] }
+    ensures lists { map (starting_list 11 (is_pair 11 Eleven.pointers Eleven.rows))
+        (0 ∷ 1 ∷ 2 ∷ 3 ∷ 4 ∷ 5 ∷ 6 ∷ 7 ∷ 8 ∷ 9 ∷ 10 ∷ []) ≡
+        (3 ∷ 1 ∷ 2 ∷ 4 ∷ 5 ∷ 7 ∷ []) ∷ (0 ∷ 4 ∷ []) ∷ (0 ∷ 10 ∷ 6 ∷ []) ∷ (0 ∷ 4 ∷ 5 ∷ 6 ∷ [])
+        ∷ (3 ∷ 7 ∷ 0 ∷ 1 ∷ 9 ∷ []) ∷ (3 ∷ 0 ∷ 9 ∷ []) ∷ (9 ∷ 2 ∷ 3 ∷ []) ∷ (4 ∷ 9 ∷ 0 ∷ 10 ∷ []) ∷ []
+        ∷ (6 ∷ 7 ∷ 10 ∷ 4 ∷ 5 ∷ []) ∷ (2 ∷ 9 ∷ 7 ∷ []) ∷ [] }
     ensures first_pivot { pivot eleven_tie.bound eleven_tie.placed ≡ 10 }
     ensures second_pivot { pivot (next true eleven_tie).bound (next true eleven_tie).placed ≡ 6 }
     ensures third_pivot { pivot (next true (next true eleven_tie)).bound (next true (next true eleven_tie)).placed ≡ 5 }
-    ensures fourth_pivot { pivot (next true (next true (next true eleven_tie))).bound (next true (next true (next true eleven_tie))).placed ≡ 3 }
-    ensures fifth_pivot { pivot (next true (next true (next true (next true eleven_tie)))).bound (next true (next true (next true (next true eleven_tie)))).placed ≡ 4 }
+    ensures fourth_pivot { pivot (next true (next true (next true eleven_tie))).bound
+        (next true (next true (next true eleven_tie))).placed ≡ 3 }
+    ensures fifth_pivot { pivot (next true (next true (next true (next true eleven_tie)))).bound
+        (next true (next true (next true (next true eleven_tie)))).placed ≡ 4 }
     ensures fits { Fits eleven eleven_tie Eleven.at_start }
-    ensures homes { map (after_rounds 11 true eleven_tie).home (0 ∷ 1 ∷ 2 ∷ 3 ∷ 4 ∷ 5 ∷ 6 ∷ 7 ∷ 8 ∷ 9 ∷ 10 ∷ []) ≡ Eleven.five_table.homes }
+    ensures homes { map (after_rounds 11 true eleven_tie).home (0 ∷ 1 ∷ 2 ∷ 3 ∷ 4 ∷ 5 ∷ 6 ∷ 7 ∷ 8 ∷ 9 ∷ 10 ∷ []) ≡
+        Eleven.five_table.homes }
 {}
 
 /// The columns of its factor under that listing.
 pub fn example_eleven_factor()
-    ensures factor { IsFactor eleven (10 ∷ 5 ∷ 6 ∷ 3 ∷ 0 ∷ 2 ∷ 7 ∷ 9 ∷ 4 ∷ 8 ∷ 1 ∷ []) ((5 ∷ 6 ∷ 7 ∷ []) ∷ (3 ∷ 4 ∷ 7 ∷ []) ∷ (3 ∷ 5 ∷ 7 ∷ []) ∷ (4 ∷ 5 ∷ 7 ∷ 8 ∷ []) ∷ (5 ∷ 6 ∷ 7 ∷ 8 ∷ 10 ∷ []) ∷ (6 ∷ 7 ∷ 8 ∷ 10 ∷ []) ∷ (7 ∷ 8 ∷ 10 ∷ []) ∷ (8 ∷ 10 ∷ []) ∷ (10 ∷ []) ∷ [] ∷ [] ∷ []) }
-    ensures entries_needed { needed entries ((5 ∷ 6 ∷ 7 ∷ []) ∷ (3 ∷ 4 ∷ 7 ∷ []) ∷ (3 ∷ 5 ∷ 7 ∷ []) ∷ (4 ∷ 5 ∷ 7 ∷ 8 ∷ []) ∷ (5 ∷ 6 ∷ 7 ∷ 8 ∷ 10 ∷ []) ∷ (6 ∷ 7 ∷ 8 ∷ 10 ∷ []) ∷ (7 ∷ 8 ∷ 10 ∷ []) ∷ (8 ∷ 10 ∷ []) ∷ (10 ∷ []) ∷ [] ∷ [] ∷ []) ≡ 28 }
-    ensures front_needed { needed_front ((5 ∷ 6 ∷ 7 ∷ []) ∷ (3 ∷ 4 ∷ 7 ∷ []) ∷ (3 ∷ 5 ∷ 7 ∷ []) ∷ (4 ∷ 5 ∷ 7 ∷ 8 ∷ []) ∷ (5 ∷ 6 ∷ 7 ∷ 8 ∷ 10 ∷ []) ∷ (6 ∷ 7 ∷ 8 ∷ 10 ∷ []) ∷ (7 ∷ 8 ∷ 10 ∷ []) ∷ (8 ∷ 10 ∷ []) ∷ (10 ∷ []) ∷ [] ∷ [] ∷ []) ≡ 6 }
+    ensures factor { IsFactor eleven Eleven.listing Eleven.columns }
+    ensures entries_needed { needed entries Eleven.columns ≡ 28 }
+    ensures front_needed { needed_front Eleven.columns ≡ 6 }
 {}
 
 /// Column forms, jumbled columns, and thresholds of dense rows.

@@ -1,7 +1,8 @@
 // Laws on the last state of an elimination and on its listing: the assembly tree, and the columns of the factor.
 // Source: Amestoy, Davis and Duff 2004; George and Liu 1981. Called by: nobody, the contracts are the laws.
 
-ghost use Rattle.amd_model.specs.Laws.{AtTheEnd, OfEachListing, DenseAreLast, HasListing, EdgesFollowTree, ColumnsInside, EmptyColumns};
+ghost use Rattle.amd_model.specs.Laws.{AtTheEnd, OfEachListing, DenseAreLast, HasListing, EdgesFollowTree};
+ghost use Rattle.amd_model.specs.Laws.{ColumnsInside, EmptyColumns};
 ghost use Rattle.amd_model.specs.Listing.{ListsEachRow};
 
 /// At the end exactly the dense rows are held last, and each other row was eliminated.

@@ -1,5 +1,6 @@
-// What holds of an ordering: the laws of states, listings, figures and forests, of one run; and that the rules leave one
-// ordering. Source: Amestoy, Davis and Duff 1996 and 2004; George and Liu 1981. Called by: nobody, the contracts are the laws.
+// What holds of an ordering: the laws of states, listings, figures and forests, of one run; and that the rules leave
+// one ordering. Source: Amestoy, Davis and Duff 1996 and 2004; George and Liu 1981. Called by: nobody, the contracts
+// are the laws.
 
 ghost use Rattle.amd_model.specs.Ordering.{OneOrdering, OrderingsPromise};
 

@@ -1,6 +1,5 @@
-// The types that callers see: what they choose, what they are told, and how a call went.
-// Names and fields are those of the Rust crate `amd`; `dense` is a whole number of thousandths. Called by every crate of the
-// ordering.
+// The types that callers see: what they choose, what they are told, and how a call went. Names and fields are those
+// of the Rust crate `amd`; `dense` is a whole number of thousandths. Called by every crate of the ordering.
 
 ghost use Rattle.std.specs.Prelude.{◌≡◌, pos, false, true};
 ghost use Rattle.amd_numbers.specs.Records.{fresh_info};
@@ -32,7 +31,8 @@ impl Default for Control {
 /// How a call went.
 #[derive(PartialEq, Clone, Debug, Drop)]
 pub enum Status {
-    /// The input is a column form whose columns are strictly rising; in the record of `order`, also any input with `n = 0`.
+    /// The input is a column form whose columns are strictly rising; in the record of `order`, also any input with
+    /// `n = 0`.
     OK,
     /// The input is no column form; `order` tells what that is.
     Invalid,
@@ -76,10 +76,11 @@ pub struct Info {
     pub nz_a_plus_at: usize,
     /// The number of dense rows.
     pub n_dense: usize,
-    /// How often the workspace was compacted. An engine whose lists have places of their own has no need to, and tells 0.
+    /// How often the workspace was compacted. An engine whose lists have places of their own has no need to, and
+    /// tells 0.
     pub n_cmp_a: usize,
-    /// An upper bound on the entries of the factor `L` below the diagonal. Where it is below the greatest `usize`, room for so
-    /// many entries is enough; this holds of the next three fields too.
+    /// An upper bound on the entries of the factor `L` below the diagonal. Where it is below the greatest `usize`,
+    /// room for so many entries is enough; this holds of the next three fields too.
     pub lnz: usize,
     /// An upper bound on the divisions of a factorization, equal to `lnz`.
     pub n_div: usize,
@@ -87,13 +88,14 @@ pub struct Info {
     pub n_mult_subs_ldl: usize,
     /// An upper bound on the multiply-subtract steps of a factorization `LU`.
     pub n_mult_subs_lu: usize,
-    /// The rows of the greatest front: an upper bound on the entries of a column of the factor `L`, with its diagonal; 1 at least
-    /// where there are rows.
+    /// The rows of the greatest front: an upper bound on the entries of a column of the factor `L`, with its
+    /// diagonal; 1 at least where there are rows.
     pub d_max: usize,
 }
 
 impl Info {
-    /// The record of a matrix with `n` rows of which nothing is known yet: status `OK`, `symmetry` false, zeros elsewhere.
+    /// The record of a matrix with `n` rows of which nothing is known yet: status `OK`, `symmetry` false, zeros
+    /// elsewhere.
     pub fn new(n: usize) -> Info
         ensures { result ≡ fresh_info n }
     {

@@ -1,5 +1,5 @@
-// The number of edges above which a row is dense. The rule is that of the AMD user guide, with the parameter in thousandths
-// and a whole root in place of a float's. Called by `plain_1` of the crate `amd_engine`.
+// The number of edges above which a row is dense. The rule is that of the AMD user guide, with the parameter in
+// thousandths and a whole root in place of a float's. Called by `plain_1` of the crate `amd_engine`.
 
 ghost use Rattle.std.specs.Prelude.{pos};
 ghost use Rattle.amd_model.specs.Input.Dense.{IsRawThreshold, IsThreshold};
@@ -15,8 +15,9 @@ fn dense_root(n: usize, dense: u32) -> usize
     (square.isqrt() / 1000) as usize
 }
 
-/// The threshold of a matrix with `n` rows: a row with more edges is dense. For a parameter of `dense` thousandths it is
-/// `dense / 1000 * sqrt(n)`, cut to a whole number, and for a negative one `n - 2`; raised to 16, and afterwards cut to `n`.
+/// The threshold of a matrix with `n` rows: a row with more edges is dense. For a parameter of `dense` thousandths it
+/// is `dense / 1000 * sqrt(n)`, cut to a whole number, and for a negative one `n - 2`; raised to 16, and afterwards
+/// cut to `n`.
 pub fn dense_threshold(n: usize, control: &Control) -> usize
     ensures { IsThreshold n control.now.dense result }
 {

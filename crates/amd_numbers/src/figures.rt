@@ -1,6 +1,6 @@
-// The figures of a run while it goes on: what its fronts so far add up to, and the greatest of them. The rule is that of the
-// AMD user guide. For the engines: an engine adds each front as it makes it, and at the end writes the figures into the record
-// that the caller is handed.
+// The figures of a run while it goes on: what its fronts so far add up to, and the greatest of them. The rule is that
+// of the AMD user guide. For the engines: an engine adds each front as it makes it, and at the end writes the figures
+// into the record that the caller is handed.
 
 ghost use Rattle.std.specs.Prelude.{◌≡◌, ◌+◌, ◌<◌, ◌^◌, max};
 ghost use Rattle.amd_model.specs.Figures.{cut, entries, front_sum, ldl_steps, lu_steps};
@@ -8,11 +8,12 @@ ghost use Rattle.amd_model.specs.Figures.{cut, entries, front_sum, ldl_steps, lu
 use crate::amd::Info;
 use crate::internal::front_counts;
 
-/// What the fronts of a run add up to so far. A sum is exact up to the greatest `usize`, which stands for all that pass it.
+/// What the fronts of a run add up to so far. A sum is exact up to the greatest `usize`, which stands for all that
+/// pass it.
 #[derive(Clone, Debug, Drop)]
 pub struct Figures {
-    /// The entries below the diagonal in the columns of the fronts, as many as the divisions, and no fewer than those of the
-    /// factor.
+    /// The entries below the diagonal in the columns of the fronts, as many as the divisions, and no fewer than those
+    /// of the factor.
     pub lnz: usize,
     /// The multiply-subtract steps of a factorization `LDL'`.
     pub n_mult_subs_ldl: usize,

@@ -1,9 +1,10 @@
-// Reading numbers of the caller's integer type, and making them. Later proofs speak of the integers alone, and never of the
-// laws of generic numbers. Called by `permutations`, by `walk` of the crate `amd_edges`, by the modules of `amd_input`, and by
-// `order`. Then links, which `amd_trees` and `blocks` of `amd_engine` use; and the shares of a front in the figures, called by
-// `figures`: the rule is that of the AMD user guide.
+// Reading numbers of the caller's integer type, and making them. Later proofs speak of the integers alone, and never
+// of the laws of generic numbers. Called by `permutations`, by `walk` of the crate `amd_edges`, by the modules of
+// `amd_input`, and by `order`. Then links, which `amd_trees` and `blocks` of `amd_engine` use; and the shares of a
+// front in the figures, called by `figures`: the rule is that of the AMD user guide.
 
-ghost use Rattle.std.specs.Prelude.{◌≡◌, ◌<◌, ◌^◌, ◌↔◌, ◌<ℤ◌, IsTrue, length, map, pos, slice_index, slice_set, unsigned_abs};
+ghost use Rattle.std.specs.Prelude.{◌≡◌, ◌<◌, ◌^◌, ◌↔◌, ◌<ℤ◌, IsTrue, length, map, pos, slice_index, slice_set};
+ghost use Rattle.std.specs.Prelude.{unsigned_abs};
 ghost use Rattle.std.specs.Int.{FitsUnsignedBits};
 ghost use Rattle.num_traits.specs.Laws.{Checks, ChecksUnsigned};
 ghost use Rattle.amd_model.specs.Figures.{cut, entries, front_sum, ldl_steps, lu_steps};
@@ -86,9 +87,10 @@ fn cut_to_count(figure: u128) -> usize
 }
 
 /// The shares of a front with `f` rows in its block and `r` rows outside: its entries below the diagonal, and its
-/// multiply-subtract steps in a factorization `LDL'` and in a factorization `LU`. They are the sums of `c`, of `c (c + 1) / 2`
-/// and of `c^2` over the columns, where `c` runs from `r` to `r + f - 1`. Any `f` and `r` are allowed, and each sum is exact up
-/// to the greatest count, which stands for all that pass it. Source: AMD user guide.
+/// multiply-subtract steps in a factorization `LDL'` and in a factorization `LU`. They are the sums of `c`, of
+/// `c (c + 1) / 2` and of `c^2` over the columns, where `c` runs from `r` to `r + f - 1`. Any `f` and `r` are
+/// allowed, and each sum is exact up to the greatest count, which stands for all that pass it. Source: AMD user
+/// guide.
 pub fn front_counts(f: usize, r: usize) -> (usize, usize, usize)
     ensures lnz { result.0 ≡ cut (front_sum entries f r) }
     ensures ldl { result.1 ≡ cut (front_sum ldl_steps f r) }

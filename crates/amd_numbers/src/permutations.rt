@@ -1,4 +1,5 @@
-// From a listing of the rows to the two permutations that a caller is given. Called by `plain_1` at the end of an ordering.
+// From a listing of the rows to the two permutations that a caller is given. Called by `plain_1` at the end of an
+// ordering.
 
 ghost use Rattle.std.specs.Prelude.{ℕ, ◌≡◌, ◌<◌, ◌<ℤ◌, IfOk, length, map, pos, slice_index};
 ghost use Rattle.amd_model.specs.Input.Columns.{at};
@@ -41,7 +42,8 @@ fn places_of<I: PrimInt, A: Allocator>(
     requires room { length any.now ≡ length rows.now }
     requires listing { ListsEachRow (length rows.now) rows.now }
     ensures room { IfOk result (λ v. length v.items ≡ length rows.now) }
-    ensures places { IfOk result (λ v. (k : ℕ) → k < length rows.now → at (map I.value v.items) (slice_index rows.now k) ≡ pos k) }
+    ensures places { IfOk result (λ v. (k : ℕ) → k < length rows.now →
+        at (map I.value v.items) (slice_index rows.now k) ≡ pos k) }
 {
     let mut places = Vec::from_slice(alloc, any)?;
     'rows: for k in 0..rows.len() {

@@ -1,5 +1,5 @@
 -- The cycle 0 1 2 3: two pivots, of which the first merges the two rows beside it, and the second takes the last row with it.
-use Rattle.std.specs.Prelude.{ℤ, pos, None, Some, List, [], ◌∷◌}
+use Rattle.std.specs.Prelude.{ℕ, ℤ, pos, None, Some, List, [], ◌∷◌}
 use Rattle.amd_model.specs.Graph.{Graph}
 use Rattle.amd_model.specs.State.{State, Live, Gone}
 use Rattle.amd_model.specs.Input.Pattern.{graph_of, is_pair}
@@ -64,3 +64,11 @@ after_two = state_of two_table
 -- the start kept in lists, from the starting lists of the pattern
 abbrev pub cycle_tie : QuotientGraph
 cycle_tie = start_tie cycle none_dense (starting_list 4 (is_pair 4 pointers rows))
+
+-- its rows listed in postorder
+abbrev pub listing : List ℕ
+listing = 3 ∷ 0 ∷ 1 ∷ 2 ∷ []
+
+-- the columns of the factor under that listing, by places
+abbrev pub columns : List (List ℕ)
+columns = (1 ∷ 3 ∷ []) ∷ (2 ∷ 3 ∷ []) ∷ (3 ∷ []) ∷ [] ∷ []

@@ -105,3 +105,12 @@ after_five = state_of five_table
 -- the start kept in lists, from the starting lists of the pattern
 abbrev pub eleven_tie : QuotientGraph
 eleven_tie = start_tie eleven row_one (starting_list 11 (is_pair 11 pointers rows))
+
+-- its rows listed in postorder
+abbrev pub listing : List ℕ
+listing = 10 ∷ 5 ∷ 6 ∷ 3 ∷ 0 ∷ 2 ∷ 7 ∷ 9 ∷ 4 ∷ 8 ∷ 1 ∷ []
+
+-- the columns of the factor under that listing, by places
+abbrev pub columns : List (List ℕ)
+columns = (5 ∷ 6 ∷ 7 ∷ []) ∷ (3 ∷ 4 ∷ 7 ∷ []) ∷ (3 ∷ 5 ∷ 7 ∷ []) ∷ (4 ∷ 5 ∷ 7 ∷ 8 ∷ []) ∷ (5 ∷ 6 ∷ 7 ∷ 8 ∷ 10 ∷ [])
+    ∷ (6 ∷ 7 ∷ 8 ∷ 10 ∷ []) ∷ (7 ∷ 8 ∷ 10 ∷ []) ∷ (8 ∷ 10 ∷ []) ∷ (10 ∷ []) ∷ [] ∷ [] ∷ []

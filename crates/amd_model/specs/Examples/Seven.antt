@@ -1,6 +1,6 @@
 -- A graph of seven rows: its second pivot merges three rows, of which one is held by an element, and its third pivot takes the two
 -- rows that are left with it.
-use Rattle.std.specs.Prelude.{ℤ, pos, None, Some, List, [], ◌∷◌}
+use Rattle.std.specs.Prelude.{ℕ, ℤ, pos, None, Some, List, [], ◌∷◌}
 use Rattle.amd_model.specs.Graph.{Graph}
 use Rattle.amd_model.specs.State.{State, Live, Gone}
 use Rattle.amd_model.specs.Input.Pattern.{graph_of, is_pair}
@@ -74,3 +74,11 @@ after_three = state_of three_table
 -- the start kept in lists, from the starting lists of the pattern
 abbrev pub seven_tie : QuotientGraph
 seven_tie = start_tie seven none_dense (starting_list 7 (is_pair 7 pointers rows))
+
+-- its rows listed in postorder
+abbrev pub listing : List ℕ
+listing = 0 ∷ 6 ∷ 1 ∷ 3 ∷ 4 ∷ 5 ∷ 2 ∷ []
+
+-- the columns of the factor under that listing, by places
+abbrev pub columns : List (List ℕ)
+columns = (1 ∷ 5 ∷ []) ∷ (3 ∷ 5 ∷ 6 ∷ []) ∷ (3 ∷ 4 ∷ 5 ∷ 6 ∷ []) ∷ (4 ∷ 5 ∷ 6 ∷ []) ∷ (5 ∷ 6 ∷ []) ∷ (6 ∷ []) ∷ [] ∷ []
