@@ -21,7 +21,8 @@ use Rattle.amd_numbers.specs.declared.amd.Status.{Status}
 use Rattle.amd_numbers.specs.declared.amd.Status.TheVariants.{OK, Invalid, OkButJumbled, OutOfMemory}
 use Rattle.amd.specs.Answers.{OrdersMatrix, TellsFigures, IsOrdering, IsOrderingHolding, AreDense, AreOneAnswer, ordered_pairs}
 use Rattle.amd.proofs.SamePairs.{graph_same, pairs_same}
-use Rattle.amd.proofs.Orderings.{HoldTheSame, same_pairs, last_equal, dense_equal, wells_equal}
+use Rattle.amd.proofs.Orderings.{HoldTheSame, last_equal, dense_equal, wells_equal}
+use Rattle.amd_edges.proofs.Places.{funext2}
 
 -- a permutation has one inverse
 inverse_one : (n : ℕ) (p q s : List ℤ) → AreInverse n p q → AreInverse n p s → q ≡ s
@@ -90,7 +91,7 @@ orders_one hold held n t aggressive u v a_p a_i b_p b_i p q r s one other alike 
     graph
     (subst (λ x. IsListingOf (graph_of n b_p b_i) x aggressive (starting_list n u) k.first k.states k.rows) last
     (subst (λ x. IsListingOf (graph_of n b_p b_i) (is_held_last held (graph_of n b_p b_i) k.threshold) aggressive (starting_list n x)
-    k.first k.states k.rows) (sym (same_pairs u v pairs)) k.listing)) in
+    k.first k.states k.rows) (sym (funext2 u v pairs)) k.listing)) in
     let told : TellsFigures (graph_of n a_p a_i) (is_held_last hold (graph_of n a_p a_i) o.threshold) (last_state k.first k.states) other =
     subst (λ x. TellsFigures x (is_held_last hold (graph_of n a_p a_i) o.threshold) (last_state k.first k.states) other) graph
     (subst (λ x. TellsFigures (graph_of n b_p b_i) x (last_state k.first k.states) other) last k.told) in

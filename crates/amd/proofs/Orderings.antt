@@ -30,10 +30,7 @@ use Rattle.amd_input.specs.Transposes.{IsCleanTranspose}
 use Rattle.amd_input.specs.PatternFigures.{HasPatternFigures}
 use Rattle.amd_input.specs.Degrees.{AreDegrees}
 use Rattle.amd.proofs.SamePairs.{figures_turned, graph_turned, graph_same, pairs_same, pairs_turned}
-
--- functions of two numbers that agree everywhere are one
-pub same_pairs : (f h : ℕ → ℕ → Bool) → ((i j : ℕ) → f i j ≡ h i j) → f ≡ h
-same_pairs f h e = λ k i j. e i j k
+use Rattle.amd_edges.proofs.Places.{funext2}
 
 -- an ordering of the transpose is one of the matrix, whatever status its record gets
 pub orders_turned : (hold : Option (List Bool)) (n t : ℤ) (aggressive : Bool) (a_p a_i b_p b_i p q : List ℤ) (info : Info)
@@ -44,7 +41,7 @@ pub orders_turned : (hold : Option (List Bool)) (n t : ℤ) (aggressive : Bool) 
 orders_turned hold (pos n) t aggressive a_p a_i b_p b_i p q info status clean o =
     let f = figures_turned n a_p a_i b_p b_i info clean.transpose o.figures in
     let same : graph_of n b_p b_i ≡ graph_of n a_p a_i = graph_turned n a_p a_i b_p b_i clean.transpose in
-    let pairs = same_pairs (is_pair n b_p b_i) (λ i j. is_pair n a_p a_i j i) (pairs_turned n a_p a_i b_p b_i clean.transpose) in
+    let pairs = funext2 (is_pair n b_p b_i) (λ i j. is_pair n a_p a_i j i) (pairs_turned n a_p a_i b_p b_i clean.transpose) in
     let told = subst (λ g. TellsFigures g (is_held_last hold g o.threshold) (last_state o.first o.states) info) same o.told in
     let reserves = subst (λ g. Reserves g o.rows info) same o.reserves in
     let forest = subst (λ g. IsForest g → info.n_dense ≡ 0 → FillsNothing g o.rows info) same o.forest in

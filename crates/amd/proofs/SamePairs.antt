@@ -2,6 +2,7 @@
 use Rattle.std.proofs.Common.{ℕ, ℤ, Bool, true, false, List, ◌≡◌, ◌*◌, ◌<◌, ◌≤◌, ◌&&◌, ◌||◌, ◌⊎◌, not, cond, inl, inr, refl, sym, ◌∙◌, ap}
 use Rattle.std.specs.Prelude.{◌==◌, nat_lt}
 use Rattle.std.proofs.lemmas.Bool.{cases_lt, le-ltb}
+use Rattle.std.proofs.Math.Bool.{or_comm}
 use Rattle.amd_model.specs.Below.{sum_below, count_below}
 use Rattle.amd_model.specs.Graph.{edge_count}
 use Rattle.amd_model.specs.Input.Pattern.{holds_row, is_pair, graph_of, pair_count, diagonal_count, SamePattern, IsTranspose}
@@ -45,12 +46,6 @@ pairs_turned n a_p a_i b_p b_i turned = everywhere n (is_pair n b_p b_i) (λ i j
     flip : {P Q : Type 0} → P ⊎ Q → Q ⊎ P
     flip (inl x) = inr x
     flip (inr x) = inl x
-
-or_comm : (a b : Bool) → (a || b) ≡ (b || a)
-or_comm true true = refl
-or_comm true false = refl
-or_comm false true = refl
-or_comm false false = refl
 
 graph_from : (n : ℕ) (a_p a_i b_p b_i : List ℤ) →
     ((i j : ℕ) → (is_pair n a_p a_i i j || is_pair n a_p a_i j i) ≡ (is_pair n b_p b_i i j || is_pair n b_p b_i j i)) →

@@ -8,9 +8,9 @@ use Rattle.std.proofs.Math.ListN.{get_or-map as read_map}
 use Rattle.amd_model.specs.Below.{count_below}
 use Rattle.amd_model.specs.Input.Columns.{at}
 use Rattle.amd_model.specs.Listing.{ListsEachRow}
-use Rattle.amd_model.proofs.Counting.Below.{count_same}
+use Rattle.amd_model.proofs.Counting.Below.{count_same, count_none}
 use Rattle.amd_model.proofs.Counting.Pigeonhole.{count_all, permutation_below, permutation_once}
-use Rattle.amd_edges.proofs.Arcs.{count_more, count_none}
+use Rattle.amd_edges.proofs.Arcs.{count_more}
 use Rattle.amd_numbers.specs.Counts.{counts}
 use Rattle.amd_factor.specs.Earlier.{Permutes}
 use Rattle.amd_earlier.specs.Places.{ArePlaces}
@@ -113,9 +113,6 @@ module _ (n : ℕ) (p : List ℤ) (size : length p ≡ n) (places : List ℕ) (h
 
 -- what makes a list no permutation
 module _ (n : ℕ) (p : List ℤ) (rows : List ℕ) (h : Permutes n p rows) where
-  pub permutes_length : length p ≡ n
-  permutes_length = ap length h.listed ∙ length-map rows pos ∙ h.each.places
-
   pub permutes_at : (k : ℕ) → k < n → at p k ≡ pos (get_or rows k 0)
   permutes_at k l = ap (λ xs. at xs k) h.listed ∙ get_or-map pos rows k 0 (pos 0) (let s = h.each.places in omega (arith, l, s))
 

@@ -5,7 +5,7 @@ use Rattle.std.proofs.Math.Bool.{or-false, or-true}
 use Rattle.std.proofs.lemmas.Bool.{or_cases, cases_eq, eqb-true, eq-eqb, ne_eqb}
 use Rattle.amd_model.specs.Below.{sum_below, count_below}
 use Rattle.amd_model.specs.Graph.{Graph}
-use Rattle.amd_model.proofs.Counting.Below.{count_mono, count_same}
+use Rattle.amd_model.proofs.Counting.Below.{count_mono, count_same, count_most}
 use Rattle.amd_edges.specs.Visits.{IsNew, with_arc}
 use Rattle.amd_edges.proofs.Places.{funext}
 
@@ -30,20 +30,6 @@ count_more (suc n) p q j l f e = elim (cases_eq j n) [
       let here = ap one_if stays in
       omega (arith, rest, here))
 ]
-
-pub count_most : (n : ℕ) (p : ℕ → Bool) → count_below n p ≤ n
-unfolding count_below sum_below
-count_most zero p = omega arith
-count_most (suc n) p = let w = count_most n p in let v = one (p n) in omega (arith, w, v)
-  where
-    one : (x : Bool) → one_if x ≤ 1
-    one true = omega arith
-    one false = omega arith
-
-pub count_none : (n : ℕ) → count_below n (λ b. false) ≡ 0
-unfolding count_below sum_below
-count_none zero = refl
-count_none (suc n) = let e = count_none n in omega (arith, e)
 
 pub arc_same : (seen : ℕ → ℕ → Bool) (i j a : ℕ) → a ≢ i → with_arc seen i j a ≡ seen a
 unfolding with_arc

@@ -3,10 +3,11 @@ use Rattle.std.proofs.Common.{◌≡◌, ◌+◌, inl, inr, ℕ, Bool, true, fal
 use Rattle.std.proofs.Math.Bool.{or_comm, or-false}
 use Rattle.std.proofs.lemmas.Bool.{or_left, cases_eq, cases_lt, eq-eqb, lt-ltb, le-ltb, ne_eqb}
 use Rattle.std.proofs.lemmas.List.{get_or_past}
+use Rattle.std.specs.Cmp.{both_ways}
 use Rattle.amd_edges.proofs.Forms.{IsSortedForm}
 use Rattle.amd_numbers.specs.Counts.{is_before, is_entry, is_edge}
 use Rattle.amd_edges.specs.Walk.{IsScan, is_read, is_met, met}
-use Rattle.amd_edges.proofs.Places.{cases_order, funext2, same_tests, before_from, before_gives, before_none, entry_from, entry_gives}
+use Rattle.amd_edges.proofs.Places.{cases_order, funext2, before_from, before_gives, before_none, entry_from, entry_gives}
 use Rattle.amd_edges.proofs.Places.{entry_none}
 
 module _ (n : ℕ) (ap' ai : List ℕ) (form : IsSortedForm n ap' ai) (t : List ℕ) where
@@ -62,7 +63,7 @@ module _ (n : ℕ) (ap' ai : List ℕ) (form : IsSortedForm n ap' ai) (t : List 
     where
       -- what stands before the pointer is now all of the column
       whole : (a b : ℕ) → is_before ap' ai (get_or t a 0) b a ≡ is_entry n ap' ai b a
-      whole a b = same_tests _ _
+      whole a b = both_ways _ _
           (λ h. let r = before_gives ap' ai _ b a h in elim (cases_lt a n) [
             | inl x ↦ entry_from ap' ai n b a r.0 x r.1 (let y = r.2 in let z = scan.stop a x x in omega arith) r.3
             | inr x ↦ (let y = r.2 in let z = scan.unset a x in absurd (omega arith))

@@ -9,13 +9,14 @@ use Rattle.std.proofs.lemmas.List.{length-map}
 use Rattle.std.proofs.lemmas.Int.{ints}
 use Rattle.std.proofs.lemmas.Bool.{and_parts, and_from, leb-true, ltb-true, le-leb, lt-ltb}
 use Rattle.std.proofs.lemmas.Bool.Decides.{Decides-int_eq}
+use Rattle.std.specs.Cmp.{both_ways}
 use Rattle.amd_model.specs.Below.{count_below}
 use Rattle.amd_model.specs.Input.Columns.{at, IsRow, IsColumnForm, IsSorted}
 use Rattle.amd_model.specs.Input.Pattern.{holds_row, is_pair, graph_of, diagonal_count}
 use Rattle.amd_model.proofs.Counting.Below.{any_from, any_gives, count_same}
 use Rattle.amd_model.proofs.Patterns.Pointers.{pointer_in, small_fits}
 use Rattle.amd_numbers.specs.Counts.{counts, is_entry, is_edge, count_graph}
-use Rattle.amd_edges.proofs.Places.{funext2, same_tests, entry_from, entry_gives}
+use Rattle.amd_edges.proofs.Places.{funext2, entry_from, entry_gives}
 
 -- a column form over counts in which any two rows of a column rise
 pub record IsSortedForm (n : ℕ) (ap ai : List ℕ) : Type 0 where
@@ -26,7 +27,7 @@ pub record IsSortedForm (n : ℕ) (ap ai : List ℕ) : Type 0 where
   pub ascend : (j q r : ℕ) → j < n → get_or ap j 0 ≤ q → q < r → r < get_or ap (j + 1) 0 → get_or ai q 0 < get_or ai r 0
 
 -- a number that is not negative is its count
-pos_abs : (z : ℤ) → pos 0 ≤ℤ z → pos (unsigned_abs z) ≡ z
+pub pos_abs : (z : ℤ) → pos 0 ≤ℤ z → pos (unsigned_abs z) ≡ z
 pos_abs (pos x) h = refl
 pos_abs (negsuc x) h = absurd (omega (arith, ints))
 
@@ -107,7 +108,7 @@ module _ (n : ℕ) (ap' ai : List ℤ) (form : IsColumnForm (pos n) n ap' ai) wh
   -- the pairs of the pattern are the entries of the counts
   pub same_pair : (i j : ℕ) → is_pair n ap' ai i j ≡ is_entry n (counts ap') (counts ai) i j
   unfolding is_pair holds_row
-  same_pair i j = same_tests _ _
+  same_pair i j = both_ways _ _
       (λ e. let outer = and_parts (ltb i n && ltb j n) _ e in
       let sizes = and_parts (ltb i n) (ltb j n) outer.0 in
       let h = ltb-true j n sizes.1 in

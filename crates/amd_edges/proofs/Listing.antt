@@ -7,9 +7,9 @@ use Rattle.std.specs.Prelude.{slice_range}
 use Rattle.std.proofs.lemmas.List.{length-set, get_or_append_left, get_or_push, drop-set-lt, drop-set-add, take-set-le, take_more_set}
 use Rattle.amd_model.specs.Below.{sum_below, count_below}
 use Rattle.amd_model.specs.Graph.{Graph}
-use Rattle.amd_model.proofs.Counting.Below.{sum_same, count_mono}
+use Rattle.amd_model.proofs.Counting.Below.{sum_same, count_mono, count_none}
 use Rattle.amd_edges.specs.Visits.{IsNew, with_arc, AreCounts, AreLists, start_of, ends_of}
-use Rattle.amd_edges.proofs.Arcs.{arc_same, arc_here, arc_counts, arc_room, count_none}
+use Rattle.amd_edges.proofs.Arcs.{arc_same, arc_here, arc_counts, arc_room}
 use Rattle.amd_edges.proofs.Orders.{ends_same, ends_other}
 
 start_next : (g : Graph) (i : ℕ) → start_of g (suc i) ≡ start_of g i + count_below g.size (g.edge i)

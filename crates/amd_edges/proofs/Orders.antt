@@ -3,7 +3,7 @@ use Rattle.std.proofs.Common.{◌≡◌, ◌≢◌, ◌+◌, ◌<◌, ◌≤◌,
 use Rattle.std.proofs.Common.{arith, refl, ap, sym, ◌∙◌, subst, append_assoc, add-one, cond, eqb, ltb, leb, ◌&&◌, not}
 use Rattle.std.specs.Prelude.{flat_map, pos}
 use Rattle.std.proofs.lemmas.Bool.{and_parts, and_from, cases_Bool, cases_eq, cases_lt, lt-ltb, ltb-true, le-leb, leb-true, not-true}
-use Rattle.std.proofs.lemmas.Bool.{not_from_false, eq-eqb, ne_eqb}
+use Rattle.std.proofs.lemmas.Bool.{not_from_false, eq-eqb, ne_eqb, false_from_ne_true}
 use Rattle.std.proofs.lemmas.Grind.{flat_map-append}
 use Rattle.std.proofs.lemmas.List.{append-nil, map-append, flat_map_more}
 use Rattle.std.proofs.lemmas.List.Concat.{flat_map_single}
@@ -16,7 +16,7 @@ use Rattle.amd_numbers.specs.Counts.{counts, is_entry}
 use Rattle.amd_edges.specs.Visits.{arcs_of, ends_of}
 use Rattle.amd_edges.specs.Walk.{IsScan, edges_before}
 use Rattle.amd_edges.proofs.Forms.{IsSortedForm, same_pair}
-use Rattle.amd_edges.proofs.Places.{funext2, false_if, entry_from, entry_gives}
+use Rattle.amd_edges.proofs.Places.{funext2, entry_from, entry_gives}
 
 -- ---- lists of the numbers below a bound
 
@@ -99,7 +99,7 @@ module _ (n : ℕ) (ap' ai : List ℕ) (form : IsSortedForm n ap' ai) (t : List 
     unread_none : (x : ℕ) → ((r : ℕ) → q ≤ r → r < get_or ap' (j + 1) 0 → x ≤ get_or ai r 0) → (a : ℕ) → b ≤ a → a < x →
         unread (is_entry n ap' ai) k j a ≡ false
     unfolding was_read
-    unread_none x left a low high = false_if _ (λ e.
+    unread_none x left a low high = false_from_ne_true _ (λ e.
         let p = and_parts _ _ e in
         let m = and_parts _ _ p.0 in
         let above = ltb-true j a m.0 in

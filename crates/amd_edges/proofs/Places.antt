@@ -1,7 +1,8 @@
 -- Where rows stand.
-use Rattle.std.proofs.Common.{◌≡◌, ◌+◌, ◌<◌, ◌≤◌, ◌⊎◌, inl, inr, ℕ, Bool, true, false, List, get_or, arith, refl, ap, sym, eqb, ◌||◌}
-use Rattle.std.proofs.lemmas.Bool.{and_parts, or_cases, and_from, or_left, or_right, cases_eq, cases_lt, cases_Bool, leb-true, eqb-true}
-use Rattle.std.proofs.lemmas.Bool.{ltb-true, le-leb, eq-eqb, lt-ltb}
+use Rattle.std.proofs.Common.{◌≡◌, ◌+◌, ◌<◌, ◌≤◌, ◌⊎◌, inl, inr, ℕ, Bool, true, false, List, get_or, arith, ap, eqb, ◌||◌}
+use Rattle.std.proofs.lemmas.Bool.{and_parts, or_cases, and_from, or_left, or_right, cases_eq, cases_lt, leb-true, eqb-true}
+use Rattle.std.proofs.lemmas.Bool.{ltb-true, le-leb, eq-eqb, lt-ltb, false_from_ne_true}
+use Rattle.std.specs.Cmp.{both_ways}
 use Rattle.amd_model.proofs.Counting.Below.{any_from, any_gives}
 use Rattle.amd_numbers.specs.Counts.{is_before, is_entry}
 
@@ -10,15 +11,6 @@ funext f g h = λ i. λ x. h x i
 
 pub funext2 : (f g : ℕ → ℕ → Bool) → ((a b : ℕ) → f a b ≡ g a b) → f ≡ g
 funext2 f g h = λ i. λ a b. h a b i
-
-pub false_if : (b : Bool) → (b ≡ true → ⊥) → b ≡ false
-false_if b h = elim (cases_Bool b) [ inl x ↦ absurd (h x) | inr x ↦ x ]
-
--- two tests that follow from one another
-pub same_tests : (b c : Bool) → (b ≡ true → c ≡ true) → (c ≡ true → b ≡ true) → b ≡ c
-same_tests true c f g = sym (f refl)
-same_tests false true f g = g refl
-same_tests false false f g = refl
 
 -- below, the same, or above
 pub cases_order : (b k : ℕ) → (b < k) ⊎ ((b ≡ k) ⊎ (k < b))
@@ -39,12 +31,12 @@ module _ (ap' ai : List ℕ) where
 
   pub before_none : (limit i j : ℕ) → ((q : ℕ) → get_or ap' j 0 ≤ q → q < limit → get_or ai q 0 ≡ i → ⊥) →
       is_before ap' ai limit i j ≡ false
-  before_none limit i j h = false_if _ (λ e. let r = before_gives limit i j e in h r.0 r.1 r.2 r.3)
+  before_none limit i j h = false_from_ne_true _ (λ e. let r = before_gives limit i j e in h r.0 r.1 r.2 r.3)
 
   -- one place more, which holds the row i
   pub before_more : (q i j b : ℕ) → get_or ap' j 0 ≤ q → get_or ai q 0 ≡ i → is_before ap' ai (q + 1) b j ≡ is_before ap' ai q b j
       || eqb b i
-  before_more q i j b low e = same_tests _ _
+  before_more q i j b low e = both_ways _ _
       (λ h. let r = before_gives (q + 1) b j h in elim (cases_eq r.0 q) [
         | inl here ↦ or_right _ _ (eq-eqb b i (let w = r.3 in let v = ap (λ x. get_or ai x 0) here in omega arith))
         | inr other ↦ or_left _ _ (before_from q b j r.0 r.1 (let w = r.2 in omega arith) r.3)
@@ -68,4 +60,4 @@ module _ (ap' ai : List ℕ) where
 
   pub entry_none : (n i j : ℕ) → ((q : ℕ) → j < n → get_or ap' j 0 ≤ q → q < get_or ap' (j + 1) 0 → get_or ai q 0 ≡ i → ⊥) →
       is_entry n ap' ai i j ≡ false
-  entry_none n i j h = false_if _ (λ e. let r = entry_gives n i j e in h r.0 r.1 r.2 r.3 r.4)
+  entry_none n i j h = false_from_ne_true _ (λ e. let r = entry_gives n i j e in h r.0 r.1 r.2 r.3 r.4)

@@ -4,8 +4,9 @@ use Rattle.std.proofs.Common.{sym, ◌∙◌, get_or-set_same, get_or-set_other}
 use Rattle.std.proofs.lemmas.Bool.{cases_eq, cases_lt}
 use Rattle.std.proofs.lemmas.List.{length-map, length-set, length_push, map-set, map-append, get_or-map, get_or_append_left, get_or_push}
 use Rattle.amd_model.specs.Graph.{Graph}
+use Rattle.amd_model.proofs.Counting.Below.{count_none}
 use Rattle.amd_edges.specs.Visits.{IsNew, with_arc, AreCounts, AreRows, ends_of}
-use Rattle.amd_edges.proofs.Arcs.{arc_same, arc_counts, arc_room, count_none}
+use Rattle.amd_edges.proofs.Arcs.{arc_same, arc_counts, arc_room}
 use Rattle.amd_edges.proofs.Orders.{ends_same, ends_other}
 
 module _ (V : Type 0) (items : V → List ℕ) (room : V → ℕ) where

@@ -3,13 +3,13 @@ use Rattle.std.proofs.Common.{ap, ◌≡◌, ◌≢◌, ◌+◌, ◌<◌, ◌≤
 use Rattle.std.proofs.Common.{get_or-set_other, arith, refl, sym, ◌∙◌, cond, eqb, ltb, ◌||◌, ◌&&◌, not}
 use Rattle.std.proofs.Math.Bool.{and_comm, or_comm}
 use Rattle.std.proofs.lemmas.Bool.{and_parts, or_cases, and_from, or_left, or_right, cases_eq, cases_lt, eqb-true, ltb-true, eq-eqb, lt-ltb}
-use Rattle.std.proofs.lemmas.Bool.{le-ltb, ne_eqb}
+use Rattle.std.proofs.lemmas.Bool.{le-ltb, ne_eqb, false_from_ne_true}
 use Rattle.std.proofs.lemmas.List.{length-set, get_or_past}
 use Rattle.amd_edges.specs.Visits.{with_arc, IsNew}
 use Rattle.amd_edges.proofs.Forms.{IsSortedForm}
 use Rattle.amd_numbers.specs.Counts.{is_before, is_entry, is_edge, count_graph}
 use Rattle.amd_edges.specs.Walk.{IsScan, IsReached, is_read, is_met, met}
-use Rattle.amd_edges.proofs.Places.{funext2, false_if, before_gives, before_none, before_more, entry_from}
+use Rattle.amd_edges.proofs.Places.{funext2, before_gives, before_none, before_more, entry_from}
 
 -- both arcs of an edge are new where one half of the set gains the test x, which passes one of them
 pub both_arcs : (h h' x : ℕ → ℕ → Bool) (i j : ℕ) → ((a b : ℕ) → h' a b ≡ (h a b || x a b)) →
@@ -207,7 +207,7 @@ module _ (n : ℕ) (ap' ai : List ℕ) (form : IsSortedForm n ap' ai) where
     -- the row at the place
     module _ (i : ℕ) (is : i ≡ get_or ai q 0) (to : q < get_or ap' (j + 1) 0) where
       lower_never : i < k → is_entry n ap' ai j i ≡ false
-      lower_never below = false_if _ (λ e.
+      lower_never below = false_from_ne_true _ (λ e.
           let up = scan.low j q before (omega arith) from to in
           let low = scan.start j before (omega arith) in
           let w = scan.passed j i q (omega arith) (omega arith) (inl below) (λ _. e) (omega arith) to (omega arith) in omega arith)

@@ -1,6 +1,6 @@
 -- At the end of a run the elements, with their parents, blocks and fronts as signed numbers, are the forest of the assembly tree.
 use Rattle.std.proofs.Common.{ℕ, ℤ, Bool, true, false, ◌≡◌, ◌<◌, ◌&&◌, cond, inl, inr, refl, sym, ◌∙◌, ap, arith, List, length, map, pos}
-use Rattle.std.proofs.Common.{Option, None, Some}
+use Rattle.std.proofs.Common.{Option, None}
 use Rattle.std.specs.Prelude.{nat_lt, int_lt, unsigned_abs}
 use Rattle.std.proofs.lemmas.Int.{ints}
 use Rattle.std.proofs.lemmas.List.{get_or-map}
@@ -17,12 +17,9 @@ use Rattle.amd_rounds.specs.declared.work.Work.{Work}
 use Rattle.amd_rounds.specs.Views.{num, some_at}
 use Rattle.amd_numbers.specs.Links.{named}
 use Rattle.amd_trees.specs.Trees.{IsForest, is_element, tree_of, link_of}
+use Rattle.amd_trees.proofs.ChildLinks.{named_link}
 use Rattle.amd_engine.proofs.BlockLists.{AreAlike}
 use Rattle.amd_engine.proofs.RowLinks.{cases_link}
-
-named_link : (o : Option ℕ) → named (link_of o) ≡ o
-named_link None = refl
-named_link (Some e) = refl
 
 -- the signed numbers stand for the elements of s
 pub record AreElements (g : Graph) (s : State) (parent : List (Option ℕ)) (block front : List ℕ) (links nv f_size : List ℤ) : Type 0 where
@@ -99,7 +96,7 @@ module _ (g : Graph) (dense : ℕ → Bool) (s : State) (end : IsEnd g dense s) 
         a.fronts e y;
   }
 
-last_block : (e : ℕ) → block_at e Last ≡ false
+pub last_block : (e : ℕ) → block_at e Last ≡ false
 unfolding block_at
 last_block e = refl
 

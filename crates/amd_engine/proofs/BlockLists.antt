@@ -1,6 +1,6 @@
 -- Two trees with the same nodes, parents and weights are listed alike, each with its own blocks.
-use Rattle.std.proofs.Common.{ℕ, ℤ, zero, suc, Bool, true, false, ◌≡◌, ◌<◌, ◌&&◌, ◌++◌, ◌∷◌, [], not, cond, inl, inr, refl, sym, ◌∙◌, ap}
-use Rattle.std.proofs.Common.{subst, arith, List, length, Option, is_none}
+use Rattle.std.proofs.Common.{ℕ, ℤ, Bool, true, false, ◌≡◌, ◌<◌, ◌&&◌, ◌++◌, ◌∷◌, [], not, cond, inl, inr, refl, sym, ◌∙◌, ap}
+use Rattle.std.proofs.Common.{subst, List, length, Option, is_none}
 use Rattle.std.specs.Prelude.{◌==◌, nat_le, filter, flat_map, slice_index}
 use Rattle.std.proofs.lemmas.List.{append_assoc}
 use Rattle.amd_model.specs.Below.{list_below}

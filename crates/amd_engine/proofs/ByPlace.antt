@@ -5,6 +5,7 @@ use Rattle.std.specs.Prelude.{slice_index, nat_lt}
 use Rattle.std.proofs.Math.ListN.{set}
 use Rattle.std.proofs.lemmas.List.{length-set, get_or-set_same, get_or-set_other, take_more, take_all}
 use Rattle.std.proofs.lemmas.Bool.{cases_eq, cases_lt, cases_Bool, lt-ltb, ltb-true}
+use Rattle.std.specs.Cmp.{both_ways}
 use Rattle.amd_model.specs.Input.Columns.{at}
 use Rattle.amd_model.specs.Listing.{Tree}
 use Rattle.amd_model.proofs.Counting.Places.{place_of}
@@ -13,7 +14,6 @@ use Rattle.amd_rounds.specs.Views.{some_at}
 use Rattle.amd_numbers.specs.Links.{named}
 use Rattle.amd_trees.specs.Trees.{IsByPlace, IsPostorderOf}
 use Rattle.amd_trees.proofs.Links.{names_some}
-use Rattle.amd_edges.proofs.Places.{false_if, same_tests}
 
 module _ (n : ℕ) (listing : List ℕ) (places : List (Option ℕ)) (by : IsByPlace n listing places) where
   pub next_taken : (k e : ℕ) → some_at places k ≡ Some e → take (k + 1) listing ≡ take k listing ++ e ∷ []
@@ -42,7 +42,7 @@ pub record AreSoFar (j n : ℕ) (listing : List ℕ) (places : List (Option ℕ)
   pub rest : (k : ℕ) → length listing ≤ k → some_at places k ≡ None
 
 below_same : (x j : ℕ) → x ≢ j → nat_lt x (j + 1) ≡ nat_lt x j
-below_same x j ne = same_tests (nat_lt x (j + 1)) (nat_lt x j)
+below_same x j ne = both_ways (nat_lt x (j + 1)) (nat_lt x j)
     (λ h. let l = ltb-true x (j + 1) h in lt-ltb x j (omega (arith, l, ne))) (λ h. let l = ltb-true x j h in
     lt-ltb x (j + 1) (omega (arith, l)))
 
@@ -55,16 +55,6 @@ module _ (t : Tree) (order : List ℤ) (o : IsPostorderOf t order)
   pub listing_fits : length o.listing ≤ t.size
   listing_fits = pigeonhole t.size (length o.listing) (slice_index o.listing) inside
       (λ j k m l q. let e = apart j k (omega (arith, m, l)) l q in omega (arith, m, e))
-
-  pub so_far_start : (places : List (Option ℕ)) → length places ≡ t.size → ((k : ℕ) → some_at places k ≡ None) →
-      AreSoFar 0 t.size o.listing places
-  so_far_start places room none' = record {
-    room = room;
-    each = λ k l. none' k ∙
-        sym (ap (λ b. cond b (Some (slice_index o.listing k)) None)
-        (false_if (nat_lt (slice_index o.listing k) 0) (λ h. let x = ltb-true (slice_index o.listing k) 0 h in omega (arith, x))));
-    rest = λ k l. none' k;
-  }
 
   pub so_far_end : (j : ℕ) (places : List (Option ℕ)) → j ≡ t.size → AreSoFar j t.size o.listing places → IsByPlace t.size o.listing places
   so_far_end j places q a = record {

@@ -8,7 +8,7 @@ use Rattle.amd_model.specs.Below.{list_below, count_below}
 use Rattle.amd_model.specs.Graph.{Graph}
 use Rattle.amd_model.specs.Input.Columns.{at}
 use Rattle.amd_model.specs.Listing.{weight, assembly_tree, IsPostorder}
-use Rattle.amd_model.specs.State.{State, Gone, Last, block_at, live_at, in_block}
+use Rattle.amd_model.specs.State.{State, Gone, block_at, live_at, in_block}
 use Rattle.amd_model.specs.Quotient.{QuotientGraph}
 use Rattle.amd_model.proofs.Counting.Below.{count_most, count_pos}
 use Rattle.amd_model.proofs.States.EndState.{IsEnd}
@@ -16,7 +16,7 @@ use Rattle.amd_rounds.specs.Keeps.{Stands}
 use Rattle.amd_trees.specs.Trees.{IsForest, IsPostorderOf, link_of, tree_of}
 use Rattle.amd_rounds.specs.Views.{num, some_at}
 use Rattle.amd_rounds.specs.declared.work.Work.{Work}
-use Rattle.amd_engine.proofs.BlockForest.{AreElements, forest, alike, stands_elements}
+use Rattle.amd_engine.proofs.BlockForest.{AreElements, forest, alike, stands_elements, last_block}
 use Rattle.amd_rounds.proofs.StartLists.{list_same}
 use Rattle.amd_engine.proofs.BlockLists.{AreAlike, blocks_listed, listing_inside}
 use Rattle.amd_trees.proofs.ForestListings.{IsRanked}
@@ -48,10 +48,6 @@ same_last n link there block numbers p q r =
     ap (λ l. list_below (length l) (λ v. is_none (some_at l v) && nat_eq (num block v) 0)) p
     ∙ ap (λ m. list_below m (λ v. is_none (some_at there v) && nat_eq (num block v) 0)) q
     ∙ ap (λ b. list_below n (λ v. is_none (some_at there v) && nat_eq (num b v) 0)) r
-
-last_block : (e : ℕ) → block_at e Last ≡ false
-unfolding block_at
-last_block e = refl
 
 own_block : (e : ℕ) → block_at e (Gone e) ≡ true
 unfolding block_at

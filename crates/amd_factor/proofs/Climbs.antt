@@ -7,7 +7,7 @@ use Rattle.std.proofs.lemmas.List.{length-set, get_or-set_same, get_or-set_other
 use Rattle.std.proofs.lemmas.List.Elements.{Contains-get_or}
 use Rattle.amd_model.specs.Below.{count_below}
 use Rattle.amd_model.specs.Graph.{Graph, IsGraph}
-use Rattle.amd_model.proofs.Counting.Below.{sum_at, sum_zero, count_most}
+use Rattle.amd_model.proofs.Counting.Below.{sum_at, count_most, count_zero}
 use Rattle.amd_model.proofs.Counting.Places.{contains_has, place_of}
 use Rattle.amd_factor.specs.Trees.{Entry, IsParent, Over, itself, up, InSubtree}
 use Rattle.amd_factor.specs.Earlier.{Order, AreEarlier}
@@ -55,10 +55,6 @@ count_new n k p q l a b same =
     let y : counted_as (q k) ≡ 1 = ap counted_as b in
     omega (arith, e, x, y)
 
-none_count : (n : ℕ) (p : ℕ → Bool) → ((k : ℕ) → k < n → p k ≡ false) → count_below n p ≡ 0
-unfolding count_below
-none_count n p f = sum_zero n (λ k. cond (p k) 1 0) (λ k l. ap counted_as (f k l))
-
 module _ (o : Order) (laws : IsGraph o.graph) (j : ℕ) (n : j < length o.rows) where
   pub start : (earlier : List ℕ) (parent : List (Option ℕ)) (mark path : List ℕ) → TellParents o j parent → MarksBefore o j mark →
       length path ≡ length o.rows →
@@ -85,7 +81,7 @@ module _ (o : Order) (laws : IsGraph o.graph) (j : ℕ) (n : j < length o.rows) 
         known = λ m l e. absurd (low m l e);
         others = λ m l e. tell.each m l;
         done = λ s l. absurd (omega arith);
-        count_is = sym (none_count j (λ m. slice_index (set mark j (j + 1)) m == (j + 1))
+        count_is = sym (count_zero j (λ m. slice_index (set mark j (j + 1)) m == (j + 1))
             (λ m l. ne_eqb (slice_index (set mark j (j + 1)) m) (j + 1) (low m l)));
         listed = λ m l e. absurd (low m l e);
         inside = λ a l. absurd (omega arith);
@@ -121,28 +117,6 @@ module _ (o : Order) (laws : IsGraph o.graph) (j : ℕ) (n : j < length o.rows) 
             | inr ne ↦ elim (c.done s (omega arith)) [ inl t ↦ inl t | inr t ↦ inl (subst (λ y. slice_index mark y ≡ j + 1) (sym t) c.top) ]
           ];
         }
-
-    -- a walk that comes to a place that was met is over
-    pub settle : {seen k : ℕ} {parent : List (Option ℕ)} {mark path : List ℕ} {count : ℕ} → slice_index mark k ≡ j + 1 →
-        Climbs o j earlier seen k parent mark path count → Climbs o j earlier seen j parent mark path count
-    settle {mark = mark} met c = record {
-      parent_room = c.parent_room;
-      mark_room = c.mark_room;
-      path_room = c.path_room;
-      top = c.top;
-      most = c.most;
-      sound = c.sound;
-      others = c.others;
-      count_is = c.count_is;
-      listed = c.listed;
-      inside = c.inside;
-      differ = c.differ;
-      within = omega arith;
-      pending = λ ne. absurd (ne refl);
-      known = λ m lm e. (let r = c.known m lm e in
-          (r.0, r.1, r.2, elim r.3 [ inl t ↦ inl t | inr t ↦ inl (subst (λ y. slice_index mark y ≡ j + 1) (sym t) met) ]));
-      done = λ s ls. elim (c.done s ls) [ inl t ↦ inl t | inr t ↦ inl (subst (λ y. slice_index mark y ≡ j + 1) (sym t) met) ];
-    }
 
     module _ (seen k : ℕ) (parent : List (Option ℕ)) (mark path : List ℕ) (count : ℕ) (c : Climbs o j earlier seen k parent mark path count)
         (new : slice_index mark k ≢ j + 1) where

@@ -1,8 +1,9 @@
 -- The entries of the columns, counted row by row.
-use Rattle.std.proofs.Common.{ℕ, zero, suc, Bool, true, false, ◌≡◌, ◌≢◌, ◌<◌, ◌≤◌, ◌+◌, ◌-◌, cond, inl, inr, refl, sym, ◌∙◌, ap, subst}
+use Rattle.std.proofs.Common.{ℕ, zero, suc, Bool, true, false, ◌≡◌, ◌≢◌, ◌<◌, ◌≤◌, ◌+◌, ◌-◌, cond, inl, inr, sym, ◌∙◌, ap, subst}
 use Rattle.std.proofs.Common.{arith, List, length}
 use Rattle.std.specs.Prelude.{slice_index}
 use Rattle.std.proofs.lemmas.Bool.{cases_Bool}
+use Rattle.std.specs.Cmp.{both_ways}
 use Rattle.amd_model.specs.Below.{count_below, sum_below}
 use Rattle.amd_model.specs.Graph.{IsGraph}
 use Rattle.amd_model.proofs.Counting.Below.{sum_same, sum_mono, sum_zero, count_same, count_most, clash}
@@ -25,14 +26,9 @@ module _ (o : Order) where
     unfolding test
     entry_test k m e = (in_column_exact o.graph o.rows laws k m).1 (e.0, e.2)
 
-    both_true : (a b : Bool) → (a ≡ true → b ≡ true) → (b ≡ true → a ≡ true) → a ≡ b
-    both_true true b f h = sym (f refl)
-    both_true false true f h = h refl
-    both_true false false f h = refl
-
     pub counted_is : (j k c : ℕ) → j ≤ length o.rows → CountsEntry o j k c → count_below j (test k) ≡ c
     counted_is j k c l e =
-        count_same j (test k) e.test (λ m lm. both_true (test k m) (e.test m) (λ h. (e.exact m lm).1 (test_entry k m (omega arith) h))
+        count_same j (test k) e.test (λ m lm. both_ways (test k m) (e.test m) (λ h. (e.exact m lm).1 (test_entry k m (omega arith) h))
         (λ h. entry_test k m ((e.exact m lm).0 h))) ∙ e.is
 
     pub counted_from : (j k c : ℕ) → j ≤ length o.rows → count_below j (test k) ≡ c → CountsEntry o j k c

@@ -6,8 +6,9 @@ use Rattle.std.proofs.lemmas.List.{length-set}
 use Rattle.std.proofs.lemmas.Grind.{get_or_default_zero}
 use Rattle.amd_model.specs.Below.{count_below}
 use Rattle.amd_model.specs.Graph.{Graph}
+use Rattle.amd_model.proofs.Counting.Below.{count_none}
 use Rattle.amd_edges.specs.Visits.{IsNew, with_arc, AreCounts}
-use Rattle.amd_edges.proofs.Arcs.{arc_same, arc_counts, count_none}
+use Rattle.amd_edges.proofs.Arcs.{arc_same, arc_counts}
 
 pub counts_more : (g : Graph) (seen : ℕ → ℕ → Bool) (i j : ℕ) → IsNew g seen i j → (numbers : List ℕ) (v : ℕ) → v ≡ get_or numbers i v →
     AreCounts g seen numbers →

@@ -2,18 +2,19 @@
 -- pattern has pairs off the diagonal.
 use Rattle.std.proofs.Common.{◌≡◌, ◌≢◌, ◌+◌, ◌-◌, ◌*◌, ◌<◌, ◌≤◌, inl, inr, ℕ, ℤ, zero, suc, Bool, true, false, pos, List, get_or, arith}
 use Rattle.std.proofs.Common.{refl, ap, sym, ◌∙◌, cond, eqb, ltb, ◌||◌, ◌&&◌, not}
-use Rattle.std.proofs.lemmas.Bool.{and_parts, and_from, or_left, or_right, cases_eq, cases_Bool, eq-eqb, ne_eqb, lt-ltb, ltb-true}
+use Rattle.std.proofs.lemmas.Bool.{and_parts, and_from, or_left, or_right, cases_eq, cases_Bool, eq-eqb, ne_eqb, lt-ltb}
 use Rattle.std.proofs.lemmas.Int.{ints}
 use Rattle.amd_model.specs.Below.{sum_below, count_below}
 use Rattle.amd_model.specs.Graph.{degree, degree_sum}
 use Rattle.amd_model.specs.Input.Columns.{IsColumnForm, IsSorted}
 use Rattle.amd_model.specs.Input.Pattern.{is_pair, graph_of, pair_count, diagonal_count, IsSymmetric}
-use Rattle.amd_model.proofs.Counting.Below.{sum_mono, sum_plus, sum_same, count_mono, count_or, count_same}
+use Rattle.amd_model.proofs.Counting.Below.{sum_mono, sum_plus, sum_same, count_mono, count_or, count_same, count_none}
 use Rattle.amd_model.proofs.Counting.Pigeonhole.{sum_swap}
+use Rattle.amd_model.proofs.Patterns.StartingLists.{pair_small}
 use Rattle.amd_numbers.specs.Counts.{counts, is_before, is_entry}
 use Rattle.amd_edges.proofs.Forms.{IsSortedForm, sorted_form, same_pair, pointer_is}
 use Rattle.amd_edges.proofs.Places.{before_none, before_more}
-use Rattle.amd_edges.proofs.Arcs.{count_more, count_none}
+use Rattle.amd_edges.proofs.Arcs.{count_more}
 
 abbrev one_if : Bool → ℕ
 one_if b = cond b 1 0
@@ -179,13 +180,6 @@ module _ (n : ℕ) (ap' ai : List ℤ) (form : IsColumnForm (pos n) n ap' ai) (s
       in
       omega (arith, all, zero_first, same)
 
--- pairs are of rows below n
-pair_rows : (n : ℕ) (ap' ai : List ℤ) (i j : ℕ) → is_pair n ap' ai i j ≡ true → (i < n) × (j < n)
-unfolding is_pair
-pair_rows n ap' ai i j e =
-    let sizes = and_parts (ltb i n) (ltb j n) (and_parts (ltb i n && ltb j n) _ e).0 in
-    (ltb-true i n sizes.0, ltb-true j n sizes.1)
-
 -- the diagonal is a part of the pattern
 pub diagonal_part : (n : ℕ) (ap' ai : List ℤ) → diagonal_count n ap' ai ≤ pair_count n ap' ai
 unfolding diagonal_count pair_count
@@ -197,7 +191,7 @@ pub symmetric_when : (n : ℕ) (ap' ai : List ℤ) → degree_sum (graph_of n ap
 unfolding graph_of degree_sum degree pair_count diagonal_count arc
 symmetric_when n ap' ai e =
     let part = diagonal_part n ap' ai in
-    mirrors n (is_pair n ap' ai) (pair_rows n ap' ai) (omega (arith, e, part))
+    mirrors n (is_pair n ap' ai) (pair_small n ap' ai) (omega (arith, e, part))
 
 pub symmetric_only : (n : ℕ) (ap' ai : List ℤ) → IsSymmetric n ap' ai →
     degree_sum (graph_of n ap' ai) ≡ pair_count n ap' ai - diagonal_count n ap' ai

@@ -2,10 +2,6 @@
 use Rattle.std.proofs.Common.{ℕ, ◌≡◌, ◌+◌, ◌-◌, ◌^◌, min, arith}
 use Rattle.amd_model.specs.Figures.{cut}
 
-pub cut_cut : (x : ℕ) → cut (cut x) ≡ cut x
-unfolding cut
-cut_cut x = omega arith
-
 pub cut_add : (x y : ℕ) → cut (cut x + y) ≡ cut (x + y)
 unfolding cut
 cut_add x y = omega arith

@@ -14,10 +14,11 @@ use Rattle.amd_model.proofs.Counting.Below.{clash}
 use Rattle.amd_model.proofs.Listings.Words.{has_head, has_tail, has_none, has_cases, has_append, has_right, has_below, below_has}
 use Rattle.amd_model.proofs.Listings.Words.{has_filter}
 use Rattle.amd_model.proofs.Quotient.Start.{once_below}
+use Rattle.amd_model.proofs.Counting.Places.{below_skip, below_take, below_none}
 use Rattle.amd_numbers.specs.Links.{named}
 use Rattle.amd_trees.specs.Trees.{IsChain, link_of, heaviest_of, AreUnlinked, AreHeaviest, AreLinked}
 use Rattle.amd_trees.proofs.Links.{once_parts}
-use Rattle.amd_trees.proofs.ChildLinks.{below_skip, below_take, below_none, heaviest_has, named_link}
+use Rattle.amd_trees.proofs.ChildLinks.{heaviest_has, named_link}
 
 -- a list, with the heaviest one of a longer list at the end
 abbrev pub with_last : Option ℕ → List ℕ → List ℕ

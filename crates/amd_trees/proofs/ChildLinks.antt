@@ -1,33 +1,20 @@
 -- Links to children: the heaviest child of each place, and the chain of the children with the heaviest one last.
 use Rattle.std.proofs.Common.{Bool, Option, None, Some, ◌≡◌, ◌≢◌, ◌<◌, ◌&&◌, inl, inr, ℕ, ℤ, suc, pos, negsuc, true, false, cond, List, []}
 use Rattle.std.proofs.Common.{◌∷◌, ◌++◌, length, refl, sym, ◌∙◌, ap, subst, arith}
-use Rattle.std.specs.Prelude.{IfSome, ◌≤ℤ◌, filter, nat_le, unsigned_abs}
+use Rattle.std.specs.Prelude.{IfSome, ◌≤ℤ◌, nat_le, unsigned_abs}
 use Rattle.std.proofs.Math.ListN.{set}
-use Rattle.std.proofs.lemmas.Bool.{cases_eq, cases_Bool, true≢false, false≢true, false_from_ne_true, and_parts, and_from, eqb-true, eq-eqb}
-use Rattle.std.proofs.lemmas.Bool.{ne_eqb, not_from_false, not_from_true}
-use Rattle.std.proofs.lemmas.List.{append-nil, length-set, get_or-set_same, get_or-set_other}
+use Rattle.std.proofs.lemmas.Bool.{cases_eq, false≢true, and_parts, eqb-true, eq-eqb}
+use Rattle.std.proofs.lemmas.Bool.{ne_eqb}
+use Rattle.std.proofs.lemmas.List.{length-set, get_or-set_same, get_or-set_other}
 use Rattle.amd_model.specs.Below.{list_below}
 use Rattle.amd_model.specs.Input.Columns.{at}
 use Rattle.amd_model.specs.Listing.{is_some_of, is_child, heaviest}
 use Rattle.amd_model.specs.Quotient.{has}
 use Rattle.amd_model.proofs.Listings.Words.{has_below, heaviest_in}
+use Rattle.amd_model.proofs.Counting.Places.{below_skip, below_take, below_none}
 use Rattle.amd_numbers.specs.Links.{named}
 use Rattle.amd_trees.specs.Trees.{is_element, tree_of, IsForest, link_of, heaviest_of, heavier, AreUnlinked, AreHeaviest}
 use Rattle.amd_trees.proofs.Links.{names_some}
-
--- ---- lists of the numbers below a bound
-
-pub below_skip : (n : ℕ) (p : ℕ → Bool) → p n ≡ false → list_below (suc n) p ≡ list_below n p
-unfolding list_below
-below_skip n p h = ap (λ b. list_below n p ++ cond b (n ∷ []) []) h ∙ append-nil (list_below n p)
-
-pub below_take : (n : ℕ) (p : ℕ → Bool) → p n ≡ true → list_below (suc n) p ≡ list_below n p ++ n ∷ []
-unfolding list_below
-below_take n p h = ap (λ b. list_below n p ++ cond b (n ∷ []) []) h
-
-pub below_none : (p : ℕ → Bool) → list_below 0 p ≡ []
-unfolding list_below
-below_none p = refl
 
 -- ---- the heaviest of a list
 

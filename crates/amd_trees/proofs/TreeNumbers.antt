@@ -9,13 +9,13 @@ use Rattle.amd_model.specs.Listing.{Tree, children, roots, ListsTrees, none as n
 use Rattle.amd_model.specs.Quotient.{has, Once}
 use Rattle.amd_model.proofs.Counting.Below.{clash}
 use Rattle.amd_model.proofs.Listings.Words.{has_head, has_left, has_right}
-use Rattle.amd_model.proofs.Counting.Places.{has_place, places_differ}
+use Rattle.amd_model.proofs.Counting.Places.{has_place, places_differ, below_skip, below_take, below_none}
 use Rattle.amd_model.proofs.Counting.Points.{pigeonhole}
 use Rattle.amd_model.proofs.Quotient.Lists.{has_append as append_names}
 use Rattle.amd_trees.specs.Trees.{is_element, tree_of, IsForest, IsChain, ListsLinks, none, more, ListsTree, FitsTree, NumbersFrom}
 use Rattle.amd_trees.specs.Trees.{StaysOutside, AreLinked, AreUnlinked, IsPostorderOf}
 use Rattle.amd_trees.proofs.Links.{once_parts, once_back, links_kept, names_some}
-use Rattle.amd_trees.proofs.ChildLinks.{below_skip, below_take, below_none, element_small}
+use Rattle.amd_trees.proofs.ChildLinks.{element_small}
 use Rattle.amd_trees.proofs.ForestListings.{IsRanked, AreSiblings, head_node, tail_siblings, children_siblings, roots_below, roots_siblings}
 use Rattle.amd_trees.proofs.ForestListings.{trees_append, listed_from, trees_distinct, tree_listed, each_node}
 

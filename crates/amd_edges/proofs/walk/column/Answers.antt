@@ -1,10 +1,10 @@
 use Rattle.std.proofs.Common.{inl, inr, ◌≡◌, ◌+◌, ◌<◌, ◌≤◌, ◌≢◌, ◌++◌, ◌∷◌, [], ℕ, map, get_or, arith, sym, true, false, refl, ◌∙◌}
-use Rattle.std.proofs.lemmas.Bool.{cases_lt, eqb-true, eqb-false, true≢false, le-ltb}
+use Rattle.std.proofs.lemmas.Bool.{cases_lt, eqb-true, eqb-false, true≢false, le-ltb, false_from_ne_true}
 use Rattle.std.proofs.lemmas.List.{length-map}
 use Rattle.amd_numbers.specs.Counts.{counts, is_entry}
 use Rattle.amd_edges.specs.Visits.{arcs_of}
 use Rattle.amd_edges.proofs.Forms.{pointer_fits, row_fits, place_within, sorted_form}
-use Rattle.amd_edges.proofs.Places.{entry_from, false_if}
+use Rattle.amd_edges.proofs.Places.{entry_from}
 use Rattle.amd_edges.proofs.Orders.{edges_until, until_start, until_next, until_end}
 use Rattle.amd_edges.proofs.Uppers.{upper_new, upper_after, upper_scan, upper_gap, end_scan, end_met, exit_uppers, exit_rest}
 use Rattle.amd_edges.proofs.Uppers.{exit_rest_next, exit_behind, exit_behind_next, exit_none}
@@ -174,7 +174,7 @@ returns g c =
       | else-upper-test w ↦ (let x = w.upper-test.false in absurd (omega arith))
     ] in
     let uppers = exit_uppers _ _ _ form t k m r.k_in i.scan p i.from stop i.low i.read in
-    let edges = until_end (is_entry c.args.size ap' ai) k m i.low (λ a x y. false_if _ (λ e. let z = uppers a y e in omega arith)) in
+    let edges = until_end (is_entry c.args.size ap' ai) k m i.low (λ a x y. false_from_ne_true _ (λ e. let z = uppers a y e in omega arith)) in
     let found : c.if-place-end.diagonal ≡ true → (p < get_or ap' (k + 1) 0) × (get_or ai p 0 ≡ k) = λ e. elim c.if-place-end.branch [
       | then-place-end w ↦ (let x = w.if-place-end.true in let y = w.count_at-then-place-end.ensures.count in
           let z = eqb-true _ _ (sym w.diagonal-is ∙ e) in (omega arith, omega arith))
