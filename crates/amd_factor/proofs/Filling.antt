@@ -85,7 +85,8 @@ module _ (o : Order) (laws : IsGraph o.graph) (begins : List ℕ) (room : ℕ) (
             elim (cases_eq k' k) [
               | inl q ↦ (let c = counted_before k m j lm t in
                   let y = subst (λ z. slice_index next z ≡ slice_index begins z + count_below j (test o z)) q x in
-                  let s = subst (λ z. slice_index next z ≡ slice_index begins k + count_below m (test o k)) q same in omega (arith, c, y, s))
+                  let s = subst (λ z. slice_index next z ≡ slice_index begins k + count_below m (test o k)) q same in
+                  omega (arith, c, y, s))
               | inr ne ↦ apart k k' m j l (low a la) ne (omega (arith, lm, n)) n t (named a la) (sym x ∙ same)
             ]
 

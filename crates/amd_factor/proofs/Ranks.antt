@@ -30,7 +30,8 @@ at_rank (suc n) p i l = elim (cases_Bool (p n)) [
   | inl yes' ↦ (let e = below_take n p yes' in let len = length-append (list_below n p) (n ∷ []) in
       elim (cases_lt i (length (list_below n p))) [
         | inl low ↦ (let r = at_rank n p i low in let b = r.below in
-            more n p i (slice_index (list_below n p) i) (ap (λ xs. slice_index xs i) e ∙ get_or_append_left (list_below n p) (n ∷ []) 0 i low)
+            more n p i (slice_index (list_below n p) i) (ap (λ xs. slice_index xs i) e ∙
+            get_or_append_left (list_below n p) (n ∷ []) 0 i low)
             (omega (arith, b)) r.passes r.rank)
         | inr high ↦ (let long : length (list_below (suc n) p) ≡ length (list_below n p) + 1 = ap length e ∙ len in
             let q : i ≡ length (list_below n p) = omega (arith, l, long, high) in

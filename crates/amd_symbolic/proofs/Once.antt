@@ -1,0 +1,30 @@
+-- An order names its rows once, and so a factor.
+use Rattle.std.proofs.Common.{ℕ, ℤ, pos, ◌≡◌, refl, sym, ◌∙◌, ap, subst, List, [], ◌∷◌, map}
+use Rattle.std.specs.Prelude.{unsigned_abs, Option}
+use Rattle.amd_model.specs.Factor.{IsFactor}
+use Rattle.amd_model.specs.Input.Pattern.{graph_of}
+use Rattle.amd_factor.specs.Columns.{HoldColumns}
+use Rattle.amd_factor.specs.Earlier.{Permutes}
+use Rattle.amd_factor.proofs.FactorOnce.{factor_once}
+use Rattle.amd_symbolic.specs.Factors.{IsFactorOf}
+use Rattle.amd_symbolic.specs.Laws.{ThereIsOneFactor}
+use Rattle.amd_symbolic.proofs.Vectors.{vectors_once}
+
+pub pos_once : (xs ys : List ℕ) → map pos xs ≡ map pos ys → xs ≡ ys
+pos_once [] [] e = refl
+pos_once [] (y ∷ ys) e = absurd (cc)
+pos_once (x ∷ xs) [] e = absurd (cc)
+pos_once (x ∷ xs) (y ∷ ys) e = let h : x ≡ y = cc in let t : map pos xs ≡ map pos ys = cc in
+    ap (λ z. z ∷ xs) h ∙ ap (λ zs. y ∷ zs) (pos_once xs ys t)
+
+pub order_once : (n : ℕ) (p : List ℤ) (xs ys : List ℕ) → Permutes n p xs → Permutes n p ys → xs ≡ ys
+order_once n p xs ys a b = pos_once xs ys (sym a.listed ∙ b.listed)
+
+pub one_factor : ThereIsOneFactor
+one_factor n ap' ai p ptr rows ptr' rows' parent parent' f f' =
+    let g = graph_of (unsigned_abs n) ap' ai in
+    let order : f'.order ≡ f.order = order_once (unsigned_abs n) p f'.order f.order f'.permutes f.permutes in
+    let columns : f'.holds.columns ≡ f.holds.columns = factor_once g f.order f'.holds.columns f.holds.columns
+    (subst (λ r. IsFactor g r f'.holds.columns) order f'.holds.factor) f.holds.factor in
+    vectors_once f.holds.columns ptr rows parent f.holds.holds
+    ptr' rows' parent' (subst (λ c. HoldColumns c ptr' rows' parent') columns f'.holds.holds)

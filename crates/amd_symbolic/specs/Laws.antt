@@ -1,0 +1,64 @@
+-- Laws of a factor in vectors: its parents are the elimination tree, its rows are subtrees, there is one, and the record of an
+-- ordering bounds it. Source: Liu 1986, 1990.
+use Rattle.std.specs.Prelude.{ℕ, ℤ, Bool, ◌≡◌, ◌<◌, ◌≤◌, ◌+◌, ◌-◌, ◌↔◌, List, Contains, Option, None, Some, length}
+use Rattle.std.specs.Prelude.{slice_index, slice_index_or, slice_range, unsigned_abs}
+use Rattle.amd_model.specs.Below.{sum_below}
+use Rattle.amd_model.specs.Figures.{ldl_steps, lu_steps}
+use Rattle.amd_model.specs.Graph.{Graph}
+use Rattle.amd_model.specs.Input.Pattern.{graph_of}
+use Rattle.amd_factor.specs.Earlier.{Permutes}
+use Rattle.amd_factor.specs.Trees.{IsParent, InSubtree}
+use Rattle.amd_numbers.specs.declared.amd.Info.{Info}
+use Rattle.amd.specs.Answers.{IsOrderingHolding}
+use Rattle.amd_symbolic.specs.Factors.{IsFactorOf}
+
+-- the number of entries of column k
+abbrev pub size_of : List ℕ → ℕ → ℕ
+size_of ptr k = slice_index ptr (k + 1) - slice_index ptr k
+
+-- the entries of column k
+abbrev pub column_of : List ℕ → List ℕ → ℕ → List ℕ
+column_of ptr rows k = slice_range rows (slice_index ptr k) (slice_index ptr (k + 1))
+
+-- what the parent of column k tells: none, that the column is empty; and some, that it is the first entry of the column and the
+-- parent in the elimination tree
+abbrev pub TellsTree : Graph → List ℕ → List ℕ → List ℕ → ℕ → Option ℕ → Type 0
+TellsTree g order ptr rows k None = slice_index ptr (k + 1) ≡ slice_index ptr k
+TellsTree g order ptr rows k (Some j) =
+    (slice_index ptr k < slice_index ptr (k + 1)) × (slice_index rows (slice_index ptr k) ≡ j) × IsParent g order k j
+
+-- the parents tell the elimination tree
+abbrev pub ParentsTellTree : Type 0
+ParentsTellTree =
+    (n : ℤ) (ap ai p : List ℤ) (ptr rows order : List ℕ) (parent : List (Option ℕ)) → IsFactorOf n ap ai p ptr rows parent →
+    Permutes (unsigned_abs n) p order → (k : ℕ) → k < unsigned_abs n →
+    TellsTree (graph_of (unsigned_abs n) ap ai) order ptr rows k (slice_index_or parent k None)
+
+-- column k has the entry j exactly where k lies in the subtree of row j
+abbrev pub RowsTellSubtrees : Type 0
+RowsTellSubtrees =
+    (n : ℤ) (ap ai p : List ℤ) (ptr rows order : List ℕ) (parent : List (Option ℕ)) → IsFactorOf n ap ai p ptr rows parent →
+    Permutes (unsigned_abs n) p order → (k j : ℕ) → k < j → j < unsigned_abs n →
+    Contains (column_of ptr rows k) j ↔ InSubtree (graph_of (unsigned_abs n) ap ai) order j k
+
+-- two answers for one matrix and one order are one
+abbrev pub ThereIsOneFactor : Type 0
+ThereIsOneFactor =
+    (n : ℤ) (ap ai p : List ℤ) (ptr rows other_ptr other_rows : List ℕ) (parent other_parent : List (Option ℕ)) →
+    IsFactorOf n ap ai p ptr rows parent → IsFactorOf n ap ai p other_ptr other_rows other_parent →
+    (ptr ≡ other_ptr) × (rows ≡ other_rows) × (parent ≡ other_parent)
+
+-- the record bounds the columns, each figure where it was not cut
+pub record FiguresBound (n : ℕ) (ptr rows : List ℕ) (info : Info) : Type 0 where
+  pub lnz : info.lnz < 18446744073709551615 → length rows ≤ info.lnz
+  pub divisions : info.n_div < 18446744073709551615 → length rows ≤ info.n_div
+  pub ldl : info.n_mult_subs_ldl < 18446744073709551615 → sum_below n (λ k. ldl_steps (size_of ptr k)) ≤ info.n_mult_subs_ldl
+  pub lu : info.n_mult_subs_lu < 18446744073709551615 → sum_below n (λ k. lu_steps (size_of ptr k)) ≤ info.n_mult_subs_lu
+  pub greatest : (k : ℕ) → k < n → size_of ptr k + 1 ≤ info.d_max
+
+-- the record of an ordering bounds the factor under its order
+abbrev pub FiguresReserve : Type 0
+FiguresReserve =
+    (hold : Option (List Bool)) (n t : ℤ) (aggressive : Bool) (ap ai p q : List ℤ) (info : Info) (ptr rows : List ℕ)
+    (parent : List (Option ℕ)) → IsOrderingHolding hold n t aggressive ap ai p q info → IsFactorOf n ap ai p ptr rows parent →
+    FiguresBound (unsigned_abs n) ptr rows info

@@ -1,0 +1,201 @@
+// The columns of a factor under an order that a caller hands in: the input is tested, the lists of earlier neighbours are made, all
+// memory is taken, and then the columns are written without any. Source: the path theorem of sparse factorization (Rose, Tarjan
+// and Lueker 1976); Liu 1990. Called by `analysis`.
+
+ghost use Rattle.std.specs.Prelude.{◌≡◌, ◌≤◌, ◌∷◌, [], pos, length, map, IfOk, IfErr, MatchOption};
+ghost use Rattle.amd_model.specs.Graph.{IsGraph};
+ghost use Rattle.amd_model.specs.Input.Columns.{IsColumnForm};
+ghost use Rattle.amd_model.specs.Input.Pattern.{graph_of};
+ghost use Rattle.amd_factor.specs.Columns.{HoldFactor, PassesRoom};
+ghost use Rattle.amd_factor.specs.Earlier.{HasEarlier, Order};
+ghost use Rattle.amd_numbers.specs.Counts.{counts};
+ghost use Rattle.amd_symbolic.specs.Factors.{IsFactorOf, IsFault};
+ghost use Rattle.amd_symbolic.specs.declared.factor.Fault.TheVariants.{OutOfMemory};
+
+use amd::Status;
+use amd::valid::valid;
+use amd_earlier::lists::earlier_lists;
+use amd_earlier::places::places;
+use amd_factor::fill::fill;
+use amd_numbers::internal::to_count;
+use num_traits::PrimInt;
+use std::alloc::{AllocError, AllocFailed, Allocator};
+
+/// The columns of a factor below its diagonal, one after another. A place is that of a row in the order.
+#[derive(Drop)]
+pub struct Factor<A: Allocator> {
+    /// Where each column begins, and behind them the end of the last one: a number more than there are columns.
+    pub ptr: Vec<usize, A>,
+    /// The entries: those of column `k` are `rows[ptr[k]..ptr[k + 1]]`, which are places, rising.
+    pub rows: Vec<usize, A>,
+    /// The parent of each column in the elimination tree: its first entry, or `None` where it is empty.
+    pub parent: Vec<Option<usize>, A>,
+}
+
+/// Why there is no factor.
+#[derive(PartialEq, Clone, Debug, Drop)]
+pub enum Fault {
+    /// The input is no column form; `amd::order` tells what that is. `analyze_holding` answers it also where there is not one mark
+    /// for each row.
+    NotColumnForm,
+    /// The order does not list each row, once.
+    NotPermutation,
+    /// The factor has more entries than the room that the caller allows.
+    RoomTooSmall,
+    /// Memory was refused; `analyze` and `analyze_holding` answer it also where `amd::order` does, and where its bound on the
+    /// entries is the greatest `usize`.
+    OutOfMemory,
+}
+
+impl From<AllocError> for Fault {
+    ghost from_gives = { λ _ r. r ≡ OutOfMemory };
+
+    fn from(_: AllocError) -> Fault {
+        Fault::OutOfMemory
+    }
+}
+
+// What a refused `vec!` gives; the value that was not stored is dropped.
+impl<T: Drop> From<AllocFailed<T>> for Fault {
+    ghost from_gives = { λ _ r. r ≡ OutOfMemory };
+
+    fn from(_: AllocFailed<T>) -> Fault {
+        Fault::from(AllocError)
+    }
+}
+
+/// The factor of a matrix without rows: no columns.
+fn empty_factor<A: Allocator + Copy>(alloc: A) -> Result<Factor<A>, Fault>
+    ensures pointers { IfOk result (λ f. f.ptr.items ≡ 0 ∷ []) }
+    ensures rows { IfOk result (λ f. f.rows.items ≡ []) }
+    ensures parents { IfOk result (λ f. f.parent.items ≡ []) }
+    ensures fault { IfErr result (λ e. e ≡ Fault.OutOfMemory) }
+{
+    let ptr = vec![in alloc; 0; 1]?;
+    Ok(Factor {
+        ptr,
+        rows: Vec::new(alloc),
+        parent: Vec::new(alloc),
+    })
+}
+
+/// Takes all memory, for at most `room` entries, and writes the factor that the lists of earlier neighbours give; none, exactly
+/// where it has more entries.
+///
+/// # Errors
+///
+/// A refused request for memory.
+fn written_factor<A: Allocator + Copy>(
+    alloc: A,
+    starts: &[usize],
+    earlier: &[usize],
+    room: usize,
+) -> Result<Option<Factor<A>>, AllocError>
+    ghost o: { Order }
+    requires laws { IsGraph o.graph }
+    requires earlier { HasEarlier o starts.now earlier.now }
+    ensures factor { IfOk result (λ r. MatchOption r (PassesRoom o.graph o.rows room) (λ f. HoldFactor o.graph o.rows f.ptr.items f.rows.items f.parent.items)) }
+    ensures room { IfOk result (λ r. MatchOption r (Unit {0}) (λ f. length f.rows.items ≤ room)) }
+{
+    let columns = starts.len() - 1;
+    let mut ptr = vec![in alloc; 0; starts.len()]?;
+    let mut rows = vec![in alloc; 0; room]?;
+    let mut parent = vec![in alloc; None; columns]?;
+    let mut mark = vec![in alloc; 0; columns]?;
+    let mut path = vec![in alloc; 0; columns]?;
+    let mut next = vec![in alloc; 0; columns]?;
+    let Some(total) = fill(
+        starts,
+        earlier,
+        &mut ptr,
+        &mut rows,
+        &mut parent,
+        &mut mark,
+        &mut path,
+        &mut next,
+    ) else {
+        return Ok(None);
+    };
+    rows.truncate(total);
+    Ok(Some(Factor { ptr, rows, parent }))
+}
+
+/// The factor of a column form with `size` rows and columns.
+fn form_columns<I: PrimInt, A: Allocator + Copy>(
+    alloc: A,
+    size: usize,
+    a_p: &[I],
+    a_i: &[I],
+    p: &[I],
+    room: usize,
+) -> Result<Factor<A>, Fault>
+    ghost o: { Order }
+    requires form { IsColumnForm (pos size) size (map I.value a_p.now) (map I.value a_i.now) }
+    requires graph { o.graph ≡ graph_of size (map I.value a_p.now) (map I.value a_i.now) }
+    requires rows { o.rows ≡ counts (map I.value p.now) }
+    ensures factor { IfOk result (λ f. IsFactorOf (pos size) (map I.value a_p.now) (map I.value a_i.now) (map I.value p.now) f.ptr.items f.rows.items f.parent.items) }
+    ensures room { IfOk result (λ f. length f.rows.items ≤ room) }
+    ensures fault { IfErr result (λ e. IsFault (pos size) (map I.value a_p.now) (map I.value a_i.now) (map I.value p.now) room e) }
+{
+    let Some(places) = places(alloc, size, p)? else {
+        return Err(Fault::NotPermutation);
+    };
+    let lists = earlier_lists(alloc, size, a_p, a_i, &places)?;
+    match written_factor(alloc, &lists.starts, &lists.earlier, room)? {
+        Some(factor) => Ok(factor),
+        None => Err(Fault::RoomTooSmall),
+    }
+}
+
+/// The columns of the factor of the square matrix with `n` columns whose column `j` holds the rows `a_i[a_p[j]..a_p[j + 1]]`, by the
+/// pattern of `A + A'`, under the order `p`: row `p[k]` stands at place `k`. Column `k` has the entry `j` where `k < j`, and a path of
+/// edges leads from row `p[k]` to row `p[j]` through rows that stand before place `k`.
+///
+/// The answer has exactly these entries. It has `n + 1` pointers, `ptr[n]` entries, at most `room`, and `n` parents.
+///
+/// The input is a column form as that of [`amd::order`], and is taken as it is: columns may be out of order and have repeats. `p` is
+/// any permutation of the rows. For `n = 0` the pointers and row indices are not looked at, `p` must be empty, and `ptr` is `[0]`.
+///
+/// Memory is asked for `room` entries, whatever the factor needs, and all of it before the first entry is written. The steps are as
+/// many as there are rows, entries of the matrix, entries of the factor, and `room`.
+///
+/// # Errors
+///
+/// The first of these:
+///
+/// * `NotColumnForm` exactly where `n` is not 0 and the input is no column form; no memory is asked before.
+/// * `NotPermutation` where `p` does not list each number below `n`, once.
+/// * `RoomTooSmall` where the factor has more than `room` entries.
+///
+/// `OutOfMemory` where an allocation was refused. It may come in place of the second and the third.
+///
+/// Source: Rose, Tarjan and Lueker 1976; Liu 1990; Davis 2005.
+pub fn columns<I: PrimInt, A: Allocator + Copy>(
+    alloc: A,
+    n: I,
+    a_p: &[I],
+    a_i: &[I],
+    p: &[I],
+    room: usize,
+) -> Result<Factor<A>, Fault>
+    // A number of a primitive type is always in range.
+    requires fits { I.fits (I.value n) }
+    ensures factor { IfOk result (λ f. IsFactorOf (I.value n) (map I.value a_p.now) (map I.value a_i.now) (map I.value p.now) f.ptr.items f.rows.items f.parent.items) }
+    ensures room { IfOk result (λ f. length f.rows.items ≤ room) }
+    ensures fault { IfErr result (λ e. IsFault (I.value n) (map I.value a_p.now) (map I.value a_i.now) (map I.value p.now) room e) }
+{
+    let Some(size) = to_count(n) else {
+        return Err(Fault::NotColumnForm);
+    };
+    if size == 0 {
+        return if p.is_empty() {
+            empty_factor(alloc)
+        } else {
+            Err(Fault::NotPermutation)
+        };
+    }
+    if valid(n, n, a_p, a_i) == Status::Invalid {
+        return Err(Fault::NotColumnForm);
+    }
+    form_columns(alloc, size, a_p, a_i, p, room)
+}

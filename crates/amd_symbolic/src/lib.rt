@@ -1,0 +1,12 @@
+//! The exact columns of the factor of a sparse matrix: where its entries below the diagonal stand, and the elimination tree.
+//!
+//! [`columns`] takes the pattern of a square matrix by columns and any order of its rows. [`analyze`] takes the order from
+//! [`amd::order`] and the room from its record, and [`analyze_holding`] does the same with rows that a caller wants last.
+#![tactic(auto)]
+
+pub mod analysis;
+pub mod factor;
+pub mod laws;
+
+pub use analysis::{analyze, analyze_holding};
+pub use factor::{Factor, Fault, columns};

@@ -1,0 +1,121 @@
+// Refused memory: each request in turn is refused, until a run makes no request of that number. Each run that met a refusal
+// answers `OutOfMemory`, and the first one without gives the answer. After each of them as many blocks came back as were granted.
+
+use crate::worked::{Case, FOUR_CYCLE, WORKED, check_lists};
+use amd::Control;
+use amd_symbolic::{Factor, Fault, analyze, analyze_holding, columns};
+use amd_testing::refusing::{Refusing, Slip, each_refused};
+use std::alloc::{Allocator, Global};
+use std::process::Abort;
+
+/// Asserts that some requests were refused, and that no run did wrong.
+fn check_refusals(rt: &impl Abort, what: &str, refusals: Result<u64, Slip>) {
+    match refusals {
+        Ok(count) => assert!(rt; 0 < count, "{what}"),
+        Err(slip) => panic!(rt; "{what}: {slip:?}"),
+    }
+}
+
+/// Asserts that an answer is the factor of a case, or that memory was refused, and says whether it is the former.
+fn is_answer<A: Allocator>(rt: &impl Abort, case: &Case, answer: Result<Factor<A>, Fault>) -> bool {
+    match answer {
+        Ok(factor) => {
+            check_lists(rt, case, &factor.ptr, &factor.rows, &factor.parent);
+            true
+        }
+        Err(fault) => {
+            assert_eq!(rt; fault, Fault::OutOfMemory, "{}", case.what);
+            false
+        }
+    }
+}
+
+/// Asks for the columns of a case, and says whether there was an answer.
+fn asks(rt: &impl Abort, heap: &Refusing<Global>, case: &Case) -> bool {
+    let answer = columns(heap, case.n, case.a_p, case.a_i, case.p, case.room);
+    is_answer(rt, case, answer)
+}
+
+#[test]
+fn each_request_of_columns(rt: HostRuntime) {
+    for case in WORKED.iter().chain([&FOUR_CYCLE]) {
+        let refusals = each_refused(rt.alloc(), |heap| asks(&rt, heap, case));
+        check_refusals(&rt, case.what, refusals);
+    }
+}
+
+/// Asks for a factor that there is not, and says whether that was answered.
+fn meets_fault(
+    rt: &impl Abort,
+    heap: &Refusing<Global>,
+    p: &[i64],
+    room: usize,
+    want: &Fault,
+) -> bool {
+    let case = &FOUR_CYCLE;
+    let Err(fault) = columns(heap, case.n, case.a_p, case.a_i, p, room) else {
+        panic!(rt; "a factor under {p:?} in {room}");
+    };
+    assert!(rt; fault == *want || fault == Fault::OutOfMemory, "{fault:?}");
+    fault == *want
+}
+
+/// Memory that was needed to decide a fault, and was refused, takes its place.
+#[test]
+fn each_request_before_a_fault(rt: HostRuntime) {
+    for (p, room, want) in [
+        ([3, 0, 1, 1], 5, Fault::NotPermutation),
+        ([3, 0, 1, 2], 4, Fault::RoomTooSmall),
+    ] {
+        let refusals = each_refused(rt.alloc(), |heap| meets_fault(&rt, heap, &p, room, &want));
+        check_refusals(&rt, "a fault", refusals);
+    }
+}
+
+/// Analyzes a four-cycle, and says whether there was an answer.
+fn analyzes(rt: &impl Abort, heap: &Refusing<Global>) -> bool {
+    let case = &FOUR_CYCLE;
+    match analyze(heap, case.n, case.a_p, case.a_i, &Control::default()) {
+        Ok((p, _, info, factor)) => {
+            assert_eq!(rt; p.as_slice(), case.p);
+            assert_eq!(rt; info.lnz, 5);
+            is_answer(rt, case, Ok(factor))
+        }
+        Err(fault) => is_answer::<&Refusing<Global>>(rt, case, Err(fault)),
+    }
+}
+
+/// A four-cycle with row 0 held last, and the factor under the order that it is given.
+static HELD: Case<'static> = Case {
+    what: "a four-cycle, one row held",
+    n: 4,
+    a_p: &[0, 2, 3, 4, 4],
+    a_i: &[1, 3, 2, 3],
+    p: &[3, 1, 2, 0],
+    room: 5,
+    ptr: &[0, 2, 4, 5, 5],
+    rows: &[2, 3, 2, 3, 3],
+    parent: &[Some(2), Some(2), Some(3), None],
+};
+
+/// Analyzes it, and says whether there was an answer.
+fn analyzes_holding(rt: &impl Abort, heap: &Refusing<Global>) -> bool {
+    let hold = [true, false, false, false];
+    let control = Control::default();
+    match analyze_holding(heap, HELD.n, HELD.a_p, HELD.a_i, &control, &hold) {
+        Ok((p, _, info, factor)) => {
+            assert_eq!(rt; p.as_slice(), HELD.p);
+            assert_eq!(rt; info.n_dense, 1);
+            is_answer(rt, &HELD, Ok(factor))
+        }
+        Err(fault) => is_answer::<&Refusing<Global>>(rt, &HELD, Err(fault)),
+    }
+}
+
+#[test]
+fn each_request_of_the_analyses(rt: HostRuntime) {
+    let analyzing = each_refused(rt.alloc(), |heap| analyzes(&rt, heap));
+    check_refusals(&rt, "analyze", analyzing);
+    let holding = each_refused(rt.alloc(), |heap| analyzes_holding(&rt, heap));
+    check_refusals(&rt, "analyze_holding", holding);
+}

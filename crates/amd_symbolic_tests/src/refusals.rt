@@ -1,0 +1,157 @@
+// Inputs that are no column form, orders that do not list each row once, and rooms that are too small. The faults follow from the
+// definitions: the first of them, in that order.
+
+use crate::worked::{FOUR_CYCLE, check_factor};
+use amd::Control;
+use amd_symbolic::{Fault, analyze, analyze_holding, columns};
+use amd_testing::inputs::star;
+use amd_testing::refusing::Refusing;
+use std::alloc::Global;
+use std::process::Abort;
+use std::test::Fail;
+
+/// Inputs that are no column form: the number of rows, the pointers, and the row indices.
+static NO_FORMS: [(i64, &[i64], &[i64]); 9] = [
+    (2, &[0, 2, 1], &[0, 1]),
+    (1, &[1, 1], &[0]),
+    (1, &[0, 1], &[1]),
+    (1, &[0, 1], &[-1]),
+    (-1, &[0], &[]),
+    (1, &[], &[]),
+    (2, &[0, 1], &[0]),
+    (2, &[0, 1, 3], &[0, 1]),
+    (2, &[0, 2, 3], &[1, 0, 5]),
+];
+
+/// Asserts that the columns of a factor are refused as those of no column form, whatever the order and the room are.
+fn check_no_form(rt: &impl Abort, heap: &Refusing<Global>, n: i64, a_p: &[i64], a_i: &[i64]) {
+    for p in [[].as_slice(), &[0], &[0, 1], &[0, 0, -1]] {
+        for room in [0, 1, usize::MAX] {
+            let Err(fault) = columns(heap, n, a_p, a_i, p, room) else {
+                panic!(rt; "a factor of {a_p:?} {a_i:?} under {p:?}");
+            };
+            assert_eq!(rt; fault, Fault::NotColumnForm, "{a_p:?} {a_i:?} {p:?}");
+        }
+    }
+}
+
+/// No memory is asked before this answer: the first request would be refused.
+#[test]
+fn inputs_that_are_no_column_form(rt: HostRuntime) {
+    let heap = Refusing::new(rt.alloc(), 1);
+    for &(n, a_p, a_i) in &NO_FORMS {
+        check_no_form(&rt, &heap, n, a_p, a_i);
+        let Err(fault) = analyze(&heap, n, a_p, a_i, &Control::default()) else {
+            panic!(rt; "an analysis of {a_p:?} {a_i:?}");
+        };
+        assert_eq!(rt; fault, Fault::NotColumnForm, "{a_p:?} {a_i:?}");
+    }
+    assert_eq!(rt; heap.requests(), 0);
+}
+
+/// Marks of another length than the matrix, and a matrix that is no column form with marks: no memory is asked.
+#[test]
+fn marks_that_are_not_one_for_each_row(rt: HostRuntime) {
+    let heap = Refusing::new(rt.alloc(), 1);
+    let pointers = [0i64, 2, 3, 4, 4].as_slice();
+    for (a_p, hold) in [
+        (pointers, [true; 3].as_slice()),
+        (pointers, &[false; 5]),
+        (pointers, &[]),
+        (&[0, 2, 3, 4, 5], &[false; 4]),
+    ] {
+        let rows = [1, 3, 2, 3];
+        let answer = analyze_holding(&heap, 4, a_p, &rows, &Control::default(), hold);
+        let Err(fault) = answer else {
+            panic!(rt; "an analysis with {hold:?}");
+        };
+        assert_eq!(rt; fault, Fault::NotColumnForm, "{a_p:?} {hold:?}");
+    }
+    assert_eq!(rt; heap.requests(), 0);
+}
+
+/// Where an order is too long or too short, or a row stands in it twice, or it lists a row that is none, there is no room that helps.
+#[test]
+fn orders_that_do_not_list_each_row(rt: HostRuntime) {
+    let case = &FOUR_CYCLE;
+    for p in [
+        [3, 0, 1, 1].as_slice(),
+        &[3, 3, 3, 3],
+        &[3, 0, 1, 4],
+        &[3, 0, 1, i64::MAX],
+        &[3, 0, 1, -1],
+        &[i64::MIN, 0, 1, 2],
+        &[3, 0, 1],
+        &[3, 0, 1, 2, 0],
+        &[3, 0, 1, 2, 4],
+        &[],
+    ] {
+        for room in [0, 4, 5] {
+            let Err(fault) = columns(rt.alloc(), case.n, case.a_p, case.a_i, p, room) else {
+                panic!(rt; "a factor under {p:?}");
+            };
+            assert_eq!(rt; fault, Fault::NotPermutation, "{p:?} {room}");
+        }
+    }
+}
+
+/// For no rows the order must be empty, and nothing else is looked at.
+#[test]
+fn orders_of_no_rows(rt: HostRuntime) {
+    let heap = Refusing::new(rt.alloc(), 1);
+    for (a_p, p) in [
+        ([].as_slice(), [0].as_slice()),
+        (&[7], &[0]),
+        (&[0], &[0, 1]),
+        (&[0], &[-1]),
+    ] {
+        let Err(fault) = columns(&heap, 0i64, a_p, &[], p, 0) else {
+            panic!(rt; "a factor under {p:?}");
+        };
+        assert_eq!(rt; fault, Fault::NotPermutation, "{a_p:?} {p:?}");
+    }
+    assert_eq!(rt; heap.requests(), 0);
+}
+
+#[test]
+fn rooms_of_a_four_cycle(rt: HostRuntime) {
+    let case = &FOUR_CYCLE;
+    for room in 0..9 {
+        match columns(rt.alloc(), case.n, case.a_p, case.a_i, case.p, room) {
+            Ok(factor) => {
+                assert!(rt; 5 <= room, "{room}");
+                check_factor(&rt, case, &factor);
+            }
+            Err(fault) => {
+                assert!(rt; room < 5, "{room}");
+                assert_eq!(rt; fault, Fault::RoomTooSmall, "{room}");
+            }
+        }
+    }
+}
+
+/// A factor with 153 entries, where the ordering would have left 17.
+#[test]
+fn rooms_of_a_star(rt: HostRuntime) -> Result<(), Fail> {
+    let (a_p, a_i) = star(rt.alloc(), 18)?;
+    let p = [0, 1, 2, 3, 4, 5, 6, 7, 8, 9, 10, 11, 12, 13, 14, 15, 16, 17];
+    for room in [0, 17, 152] {
+        let Err(fault) = columns(rt.alloc(), 18, &a_p, &a_i, &p, room) else {
+            panic!(rt; "a factor in {room}");
+        };
+        assert_eq!(rt; fault, Fault::RoomTooSmall, "{room}");
+    }
+    Ok(())
+}
+
+/// A room that no memory holds is refused as memory is.
+#[test]
+fn rooms_that_no_memory_holds(rt: HostRuntime) {
+    let case = &FOUR_CYCLE;
+    for room in [usize::MAX, 1 << 61] {
+        let Err(fault) = columns(rt.alloc(), case.n, case.a_p, case.a_i, case.p, room) else {
+            panic!(rt; "a factor in {room}");
+        };
+        assert_eq!(rt; fault, Fault::OutOfMemory, "{room}");
+    }
+}

@@ -1,0 +1,196 @@
+// Worked matrices with the factors under orders of their rows: the pointers, the entries and the parents.
+
+use amd::Control;
+use amd_symbolic::{Factor, analyze, columns};
+use amd_testing::inputs::star;
+use std::alloc::Global;
+use std::process::Abort;
+use std::test::Fail;
+
+/// A matrix, an order of its rows, a room, and the factor under that order.
+#[derive(Drop)]
+pub struct Case<'a> {
+    pub what: &'a str,
+    pub n: i64,
+    pub a_p: &'a [i64],
+    pub a_i: &'a [i64],
+    pub p: &'a [i64],
+    pub room: usize,
+    pub ptr: &'a [usize],
+    pub rows: &'a [usize],
+    pub parent: &'a [Option<usize>],
+}
+
+/// A four-cycle under the order that the ordering gives it.
+pub static FOUR_CYCLE: Case<'static> = Case {
+    what: "a four-cycle",
+    n: 4,
+    a_p: &[0, 2, 3, 4, 4],
+    a_i: &[1, 3, 2, 3],
+    p: &[3, 0, 1, 2],
+    room: 5,
+    ptr: &[0, 2, 4, 5, 5],
+    rows: &[1, 3, 2, 3, 3],
+    parent: &[Some(1), Some(2), Some(3), None],
+};
+
+/// Worked matrices. In some of them the room is more than is needed.
+pub static WORKED: [Case<'static>; 8] = [
+    Case {
+        what: "five rows, one entry without its mirror",
+        n: 5,
+        a_p: &[0, 2, 6, 10, 12, 14],
+        a_i: &[0, 1, 0, 1, 2, 4, 1, 2, 3, 4, 2, 3, 1, 4],
+        p: &[0, 3, 2, 4, 1],
+        room: 5,
+        ptr: &[0, 1, 2, 4, 5, 5],
+        rows: &[4, 2, 3, 4, 4],
+        parent: &[Some(4), Some(2), Some(3), Some(4), None],
+    },
+    Case {
+        what: "no rows",
+        n: 0,
+        a_p: &[],
+        a_i: &[],
+        p: &[],
+        room: 0,
+        ptr: &[0],
+        rows: &[],
+        parent: &[],
+    },
+    Case {
+        what: "no rows, and pointers that are no column form",
+        n: 0,
+        a_p: &[7],
+        a_i: &[-1],
+        p: &[],
+        room: 3,
+        ptr: &[0],
+        rows: &[],
+        parent: &[],
+    },
+    Case {
+        what: "one row with an entry on its diagonal, and numbers behind the end",
+        n: 1,
+        a_p: &[0, 1, 7],
+        a_i: &[0, 9],
+        p: &[0],
+        room: 0,
+        ptr: &[0, 0],
+        rows: &[],
+        parent: &[None],
+    },
+    Case {
+        what: "one edge and an empty row, which stands first",
+        n: 3,
+        a_p: &[0, 1, 1, 1],
+        a_i: &[2],
+        p: &[1, 0, 2],
+        room: 9,
+        ptr: &[0, 0, 1, 1],
+        rows: &[2],
+        parent: &[None, Some(2), None],
+    },
+    Case {
+        what: "one edge by repeated entries above the diagonal",
+        n: 2,
+        a_p: &[0, 0, 3],
+        a_i: &[0, 1, 0],
+        p: &[1, 0],
+        room: 1,
+        ptr: &[0, 1, 1],
+        rows: &[1],
+        parent: &[Some(1), None],
+    },
+    Case {
+        what: "a path, whose middle row stands first and joins the ends",
+        n: 3,
+        a_p: &[0, 1, 2, 2],
+        a_i: &[1, 2],
+        p: &[1, 2, 0],
+        room: 3,
+        ptr: &[0, 2, 3, 3],
+        rows: &[1, 2, 2],
+        parent: &[Some(1), Some(2), None],
+    },
+    Case {
+        what: "a path, whose middle row stands last",
+        n: 3,
+        a_p: &[0, 1, 2, 2],
+        a_i: &[1, 2],
+        p: &[2, 0, 1],
+        room: 2,
+        ptr: &[0, 1, 2, 2],
+        rows: &[2, 2],
+        parent: &[Some(2), Some(2), None],
+    },
+];
+
+/// Asserts that a factor is that of a case.
+pub fn check_factor(rt: &impl Abort, case: &Case, factor: &Factor<Global>) {
+    check_lists(rt, case, &factor.ptr, &factor.rows, &factor.parent);
+}
+
+/// Asserts that the lists of a factor are those of a case.
+pub fn check_lists(
+    rt: &impl Abort,
+    case: &Case,
+    ptr: &[usize],
+    rows: &[usize],
+    parent: &[Option<usize>],
+) {
+    let what = case.what;
+    assert_eq!(rt; ptr, case.ptr, "{what}");
+    assert_eq!(rt; rows, case.rows, "{what}");
+    assert_eq!(rt; parent, case.parent, "{what}");
+}
+
+#[test]
+fn worked_matrices(rt: HostRuntime) {
+    for case in WORKED.iter().chain([&FOUR_CYCLE]) {
+        let what = case.what;
+        let answer = columns(rt.alloc(), case.n, case.a_p, case.a_i, case.p, case.room);
+        match answer {
+            Ok(factor) => check_factor(&rt, case, &factor),
+            Err(fault) => panic!(rt; "{what}: {fault:?}"),
+        }
+    }
+}
+
+/// The centre of a star that stands first joins all other rows, so that the factor is full.
+#[test]
+fn a_star_whose_centre_stands_first(rt: HostRuntime) -> Result<(), Fail> {
+    let (a_p, a_i) = star(rt.alloc(), 18)?;
+    let p = [
+        0i64, 1, 2, 3, 4, 5, 6, 7, 8, 9, 10, 11, 12, 13, 14, 15, 16, 17,
+    ];
+    let Ok(factor) = columns(rt.alloc(), 18, &a_p, &a_i, &p, 153) else {
+        panic!(rt; "no factor");
+    };
+    let mut rows = Vec::new(rt.alloc());
+    for k in 0..18usize {
+        assert_eq!(rt; factor.ptr.get(k), Some(&rows.len()));
+        for j in k + 1..18 {
+            rows.push(j)?;
+        }
+    }
+    assert_eq!(rt; factor.rows.as_slice(), rows.as_slice());
+    assert_eq!(rt; factor.ptr.get(18), Some(&153));
+    Ok(())
+}
+
+#[test]
+fn worked_analyses(rt: HostRuntime) {
+    let [_, no_rows, no_form, ..] = &WORKED;
+    for case in [&FOUR_CYCLE, no_rows, no_form] {
+        let what = case.what;
+        let answer = analyze(rt.alloc(), case.n, case.a_p, case.a_i, &Control::default());
+        let Ok((p, p_inv, info, factor)) = answer else {
+            panic!(rt; "no answer for {what}");
+        };
+        assert_eq!(rt; p.as_slice(), case.p, "{what}");
+        assert_eq!(rt; p_inv.len(), case.p.len(), "{what}");
+        assert_eq!(rt; info.lnz, case.rows.len(), "{what}");
+        check_factor(&rt, case, &factor);
+    }
+}
