@@ -1,9 +1,12 @@
-//! Tests of the parts that an ordering stands on: the shares of fronts, the lists of neighbours, the postorder of forests, the
-//! plain engine with refused memory, and the readers of cases. The answers come from outside: worked by hand, or from the Rust crate `amd`.
+//! Tests of the parts that an ordering and a factor stand on: the shares of fronts, the lists of neighbours, the postorder of forests,
+//! the plain engine with refused memory, the lists of earlier neighbours, and the readers of cases. The answers come from outside:
+//! worked by hand, or from the Rust crate `amd`.
 #![tactic(auto)]
 
 #[cfg(test)]
 mod cases;
+#[cfg(test)]
+mod earlier;
 #[cfg(test)]
 mod engine;
 #[cfg(test)]

@@ -1,0 +1,154 @@
+// The place of each row in an order, and the lists of the earlier neighbours of each place: of matrices with repeats, out of order and
+// without mirrors, with orders that are none, and with refused memory. The lists were worked by hand.
+
+use amd_earlier::lists::{Lists, earlier_lists};
+use amd_earlier::places::places;
+use amd_input::valid::valid;
+use amd_numbers::amd::Status;
+use amd_numbers::internal::to_count;
+use amd_testing::refusing::{Refusing, each_refused};
+use std::alloc::{AllocError, Allocator, Global};
+use std::process::Abort;
+use std::test::Fail;
+
+/// A matrix, an order of its rows, and the list of each place, rising, in which a place stands once for each entry that joins the two.
+#[derive(Drop)]
+struct Case<'a> {
+    what: &'a str,
+    n: i64,
+    a_p: &'a [i64],
+    a_i: &'a [i64],
+    p: &'a [i64],
+    lists: &'a [&'a [usize]],
+}
+
+/// Matrices with their lists.
+static MATRICES: [Case<'static>; 5] = [
+    Case {
+        what: "a four-cycle by the entries below the diagonal",
+        n: 4,
+        a_p: &[0, 2, 3, 4, 4],
+        a_i: &[1, 3, 2, 3],
+        p: &[3, 0, 1, 2],
+        lists: &[&[], &[0], &[1], &[0, 2]],
+    },
+    Case {
+        what: "the five-row matrix of the demo, one entry without its mirror",
+        n: 5,
+        a_p: &[0, 2, 6, 10, 12, 14],
+        a_i: &[0, 1, 0, 1, 2, 4, 1, 2, 3, 4, 2, 3, 1, 4],
+        p: &[0, 3, 2, 4, 1],
+        lists: &[&[], &[], &[1, 1], &[2], &[0, 0, 2, 2, 3, 3]],
+    },
+    Case {
+        what: "repeats above the diagonal",
+        n: 2,
+        a_p: &[0, 0, 3],
+        a_i: &[0, 1, 0],
+        p: &[1, 0],
+        lists: &[&[], &[0, 0]],
+    },
+    Case {
+        what: "a column that is out of order",
+        n: 3,
+        a_p: &[0, 3, 3, 3],
+        a_i: &[2, 0, 1],
+        p: &[1, 2, 0],
+        lists: &[&[], &[], &[0, 1]],
+    },
+    Case {
+        what: "one row, and numbers behind the end",
+        n: 1,
+        a_p: &[0, 1, 7],
+        a_i: &[0, 9],
+        p: &[0],
+        lists: &[&[]],
+    },
+];
+
+/// The lists of a case, where memory suffices.
+fn lists_of<A: Allocator + Copy>(
+    rt: &impl Abort,
+    alloc: A,
+    case: &Case,
+) -> Result<Lists<A>, AllocError> {
+    let (n, a_p, a_i) = (case.n, case.a_p, case.a_i);
+    let Some(size) = to_count(n) else {
+        panic!(rt; "a negative number of rows");
+    };
+    assert!(rt; size != 0 && valid(n, n, a_p, a_i) != Status::Invalid);
+    let Some(places) = places(alloc, size, case.p)? else {
+        panic!(rt; "no order: {}", case.what);
+    };
+    earlier_lists(alloc, size, a_p, a_i, &places)
+}
+
+/// Asserts that the lists are those of a case.
+fn check<A: Allocator>(rt: &impl Abort, case: &Case, lists: &mut Lists<A>) {
+    let what = case.what;
+    assert_eq!(rt;
+        lists.starts.len(),
+        case.lists.len().saturating_add(1),
+        "{what}"
+    );
+    let mut end = 0usize;
+    for (k, want) in case.lists.iter().enumerate() {
+        assert_eq!(rt; lists.starts.get(k), Some(&end), "{what}");
+        let begin = end;
+        end = end.saturating_add(want.len());
+        assert!(rt; begin <= end && end <= lists.earlier.len(), "{what}");
+        let list = &mut lists.earlier[begin..end];
+        list.sort_unstable();
+        assert_eq!(rt; &*list, *want, "{what}");
+    }
+    assert_eq!(rt; lists.starts.last(), Some(&end), "{what}");
+    assert_eq!(rt; lists.earlier.len(), end, "{what}");
+}
+
+#[test]
+fn lists_of_earlier_neighbours(rt: HostRuntime) -> Result<(), Fail> {
+    for case in &MATRICES {
+        let mut lists = lists_of(&rt, rt.alloc(), case)?;
+        check(&rt, case, &mut lists);
+    }
+    Ok(())
+}
+
+/// Makes the lists of a case, and says whether there was memory.
+fn makes(rt: &impl Abort, heap: &Refusing<Global>, case: &Case) -> bool {
+    match lists_of(rt, heap, case) {
+        Ok(mut lists) => {
+            check(rt, case, &mut lists);
+            true
+        }
+        Err(_) => false,
+    }
+}
+
+#[test]
+fn each_request_of_the_lists(rt: HostRuntime) {
+    for case in &MATRICES {
+        match each_refused(rt.alloc(), |heap| makes(&rt, heap, case)) {
+            Ok(refusals) => assert!(rt; 2 <= refusals, "{}", case.what),
+            Err(slip) => panic!(rt; "{}: {slip:?}", case.what),
+        }
+    }
+}
+
+#[test]
+fn lists_that_are_no_order(rt: HostRuntime) -> Result<(), Fail> {
+    for p in [
+        [3, 0, 1, 1].as_slice(),
+        &[3, 0, 1, 4],
+        &[3, 0, 1, -1],
+        &[3, 0, 1],
+        &[3, 0, 1, 2, 0],
+        &[],
+    ] {
+        assert!(rt; places::<i64, _>(rt.alloc(), 4, p)?.is_none(), "{p:?}");
+    }
+    let heap = Refusing::new(rt.alloc(), 1);
+    assert!(rt; places(&heap, 4, &[3i64, 0, 1])?.is_none());
+    assert_eq!(rt; heap.requests(), 0);
+    Ok(())
+}
