@@ -8,20 +8,36 @@
 //!     END
 //!
 //! Where the status is `Invalid` the three lines behind it are left out. The format of the input is that of `amd_cases`; with
-//! `HOLD` the marked rows are held last. At a line that is at fault, and at a case with `PERM` or `ROOM`, which asks for more than an
-//! ordering, the program names it on standard error and ends with status 1; the answers before it are written.
+//! `HOLD` the marked rows are held last. A case with `PERM` and `ROOM` asks for the columns of the factor instead. Its answer has
+//! in place of the four lines between `CASE` and `END` these, where a parent that is none is -1:
+//!
+//!     FAULT Ok | NotColumnForm | NotPermutation | RoomTooSmall
+//!     PTR ..
+//!     ROWS ..
+//!     PARENT ..
+//!
+//! Where there is a fault the three lists are empty. The items `T`, `AGG` and `HOLD` of such a case say nothing.
+//!
+//! At a line that is at fault, at a case with `PERM` or `ROOM` alone, and at a negative room, the program names it on standard
+//! error and ends with status 1; the answers before it are written.
 #![tactic(auto)]
 
 use amd::{Control, Info, Status, order, order_holding};
 use amd_cases::cases::Case;
 use amd_cases::reader::CaseReader;
+use amd_symbolic::{Factor, Fault, columns};
 use anyhow::{Result, bail};
 use std::alloc::Allocator;
+use std::fmt::Display;
 use std::io;
 use std::io::{BufRead, BufReader, BufWriter, Write};
 
 /// Writes a keyword and numbers in one line.
-fn write_numbers<W: Write>(out: &mut W, keyword: &str, numbers: &[i64]) -> io::Result<()> {
+fn write_numbers<W: Write, N: Display>(
+    out: &mut W,
+    keyword: &str,
+    numbers: &[N],
+) -> io::Result<()> {
     write!(out, "{keyword}")?;
     'numbers: for number in numbers {
         write!(out, " {number}")?;
@@ -54,17 +70,16 @@ fn order_case<A: Allocator + Copy>(
     }
 }
 
-/// Orders a case and writes the answer.
-fn answer<W: Write, A: Allocator + Copy>(alloc: A, case: &Case<A>, out: &mut W) -> Result<()> {
-    let number = case.number;
-    if case.permutation.is_some() || case.room.is_some() {
-        bail!("case {number} asks for more than an ordering");
-    }
+/// Orders a case and writes what is known.
+fn write_ordering<W: Write, A: Allocator + Copy>(
+    alloc: A,
+    case: &Case<A>,
+    out: &mut W,
+) -> Result<()> {
     let control = Control {
         dense: case.dense,
         aggressive: case.aggressive,
     };
-    writeln!(out, "CASE {number}")?;
     match order_case(alloc, case, &control) {
         Ok((p, p_inv, info)) => {
             writeln!(out, "STATUS {:?}", info.status)?;
@@ -74,6 +89,69 @@ fn answer<W: Write, A: Allocator + Copy>(alloc: A, case: &Case<A>, out: &mut W) 
         }
         Err(Status::Invalid) => writeln!(out, "STATUS Invalid")?,
         Err(_) => bail!("out of memory"),
+    }
+    Ok(())
+}
+
+/// Writes the parents of the columns in one line.
+fn write_parents<W: Write>(out: &mut W, parents: &[Option<usize>]) -> io::Result<()> {
+    write!(out, "PARENT")?;
+    'parents: for parent in parents {
+        match parent {
+            Some(place) => write!(out, " {place}")?,
+            None => write!(out, " -1")?,
+        }
+    }
+    writeln!(out)
+}
+
+/// Writes the columns of a factor.
+fn write_factor<W: Write, A: Allocator>(out: &mut W, factor: &Factor<A>) -> io::Result<()> {
+    write_numbers(out, "PTR", &factor.ptr)?;
+    write_numbers(out, "ROWS", &factor.rows)?;
+    write_parents(out, &factor.parent)
+}
+
+/// Writes the columns of the factor of a case under a permutation, where they have no more than `room` entries.
+fn write_columns<W: Write, A: Allocator + Copy>(
+    alloc: A,
+    case: &Case<A>,
+    p: &[i64],
+    room: usize,
+    out: &mut W,
+) -> Result<()> {
+    match columns(alloc, case.n, &case.a_p, &case.a_i, p, room) {
+        Ok(factor) => {
+            writeln!(out, "FAULT Ok")?;
+            write_factor(out, &factor)?;
+        }
+        Err(Fault::OutOfMemory) => bail!("out of memory"),
+        Err(fault) => writeln!(out, "FAULT {fault:?}\nPTR\nROWS\nPARENT")?,
+    }
+    Ok(())
+}
+
+/// The permutation and the room with which a case asks for the columns of the factor, where it does.
+fn columns_asked<A: Allocator>(case: &Case<A>) -> Result<Option<(&[i64], usize)>> {
+    let number = case.number;
+    match (&case.permutation, case.room) {
+        (None, None) => Ok(None),
+        (Some(p), Some(room)) => match usize::try_from(room) {
+            Ok(room) => Ok(Some((p, room))),
+            Err(_) => bail!("case {number} has a negative room"),
+        },
+        _ => bail!("case {number} has PERM or ROOM alone"),
+    }
+}
+
+/// Answers a case.
+fn answer<W: Write, A: Allocator + Copy>(alloc: A, case: &Case<A>, out: &mut W) -> Result<()> {
+    let asked = columns_asked(case)?;
+    let number = case.number;
+    writeln!(out, "CASE {number}")?;
+    match asked {
+        Some((p, room)) => write_columns(alloc, case, p, room, out)?,
+        None => write_ordering(alloc, case, out)?,
     }
     writeln!(out, "END")?;
     Ok(())
