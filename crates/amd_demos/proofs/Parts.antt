@@ -7,8 +7,9 @@ use Rattle.std.specs.Io.KnownBytes.{Appends}
 use Rattle.std.proofs.lemmas.List.{nil_from_length}
 use Rattle.std.proofs.KnownBytes.{Appends-nil, Appends-trans}
 use Rattle.std.specs.Prelude.{codes}
-use Rattle.amd_demos.specs.Lines.{each, parted, failure_line}
-use Rattle.amd_demos.specs.Demos.{Grows, EndsInFailure, HasDemo}
+use Rattle.amd_numbers.specs.declared.amd.Info.{Info}
+use Rattle.amd_demos.specs.Lines.{each, parted, failure_line, record_lines, permutation_lines}
+use Rattle.amd_demos.specs.Demos.{Grows, EndsInFailure, HasDemo, HasEnd, IsEnd, IsWanted, wanted_status}
 use Rattle.amd_demos.specs.declared.demo.Form.{Form}
 
 -- no numbers, of which nothing is written
@@ -36,6 +37,31 @@ texts-between before middle after xs ys us vs a b one other h =
 pub failure-after : (xs : List ℕ) (a b c : Option (List ℕ)) → Appends a b xs → Appends b c failure_line → EndsInFailure a c
 failure-after xs a b c h k = (xs, Appends-trans a b c xs failure_line h k)
 
+-- what a demo ends with, written behind the record, the permutations and the plots, of a permutation that may be named in two ways
+pub demo-ended : {E : Type 0} (form : Form) (n : ℤ) (ap ai p q s : List ℤ) (info : Info) (r : Result Bool E) (a b c d : Option (List ℕ))
+    → s ≡ p → IsWanted (wanted_status form) n ap ai p q info
+    → Appends a b (record_lines (wanted_status form) info ++ permutation_lines p q) → Grows b c
+    → IfOk r (λ ended. ended ≡ true → HasEnd form n ap ai s info c d) → IfOk r (λ ordered. ordered ≡ true → HasDemo form n ap ai a d)
+demo-ended form n ap ai p q s info (Err e) a b c d named wanted told plots h = tt
+demo-ended form n ap ai p q s info (Ok r) a b c d named wanted told plots h = λ same. record {
+  p = p;
+  q = q;
+  info = info;
+  wanted = wanted;
+  end = (h same).0;
+  ends = subst (λ z. IsEnd form n ap ai z info (h same).0) named (h same).1;
+  before = [];
+  between = plots.0;
+  text = Appends-trans a b d _ _ told (Appends-trans b c d _ _ plots.1 (h same).2);
+}
+
+-- a failure behind the plots
+pub failure-ended : {E : Type 0} (xs : List ℕ) (r : Result Bool E) (a b c d : Option (List ℕ)) → Appends a b xs → Grows b c
+    → IfOk r (λ ended. ended ≡ false → Appends c d failure_line) → IfOk r (λ ordered. ordered ≡ false → EndsInFailure a d)
+failure-ended xs (Err e) a b c d told plots h = tt
+failure-ended xs (Ok r) a b c d told plots h = λ same.
+    failure-after (xs ++ plots.0) a c d (Appends-trans a b c xs plots.0 told plots.1) (h same)
+
 -- a demo that was written behind some text
 pub demo-behind : {E : Type 0} (form : Form) (n : ℤ) (ap ai : List ℤ) (r : Result Bool E) (a b c : Option (List ℕ)) → Grows a b
     → IfOk r (λ ordered. ordered ≡ true → HasDemo form n ap ai b c) → IfOk r (λ ordered. ordered ≡ true → HasDemo form n ap ai a c)
@@ -45,8 +71,10 @@ demo-behind form n ap ai (Ok r) a b c g h = λ same. record {
   q = (h same).q;
   info = (h same).info;
   wanted = (h same).wanted;
+  end = (h same).end;
+  ends = (h same).ends;
   before = g.0 ++ (h same).before;
-  after = (h same).after;
+  between = (h same).between;
   text = subst (Appends a c) (sym (append_assoc g.0 (h same).before _)) (Appends-trans a b c g.0 _ g.1 (h same).text);
 }
 

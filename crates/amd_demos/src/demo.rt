@@ -1,11 +1,12 @@
-// The demo that prints a matrix, orders it, and prints the ordering and the permuted matrix, for a matrix with sorted columns
-// and for a jumbled one. Called by the demos of the matrix can_24 and by tests.
+// The demo that prints a matrix, orders it, and prints the ordering and the permuted matrix, for a matrix with sorted columns, whose
+// exact factor it prints too, and for a jumbled one. Called by the demos of the matrix can_24 and by tests.
 
 ghost use Rattle.std.specs.Prelude.{◌≡◌, ◌≤◌, true, false, IfOk, OnOk};
 ghost use Rattle.std.specs.Io.KnownBytes.{Appends};
-ghost use Rattle.amd_demos.specs.Lines.{permutation_lines, record_lines};
-ghost use Rattle.amd_demos.specs.Demos.{EndsInFailure, Grows, HasDemo, wanted_status};
+ghost use Rattle.amd_demos.specs.Lines.{failure_line, permutation_lines, record_lines};
+ghost use Rattle.amd_demos.specs.Demos.{EndsInFailure, Grows, HasDemo, HasEnd, wanted_status};
 
+use crate::exact::print_exact;
 use crate::listing::write_listing;
 use crate::matrix::Matrix;
 use crate::numbers::write_vector;
@@ -186,8 +187,27 @@ fn write_permuted_plot<W: Write>(
     Ok(())
 }
 
-/// Orders a matrix, and writes the ordering and the permuted matrix, or the line of failure where there is no ordering or its
-/// status is another. Answers whether the ordering was written.
+/// Writes what stands behind the plots: for a sorted matrix its exact factor under the ordering, or the line of failure where there
+/// is none, and nothing for a jumbled one. Answers whether there was no failure.
+fn print_end<W: Write, A: Allocator + Copy>(
+    alloc: A,
+    form: Form,
+    matrix: &Matrix,
+    p: &[i32],
+    told: &Info,
+    out: &mut W,
+) -> io::Result<bool>
+    ensures ended { IfOk result (λ ended. ended ≡ true → HasEnd form matrix.now.n matrix.now.a_p.now matrix.now.a_i.now p.now told.now (W.contents out.old) (W.contents out.new)) }
+    ensures failure { IfOk result (λ ended. ended ≡ false → Appends (W.contents out.old) (W.contents out.new) failure_line) }
+{
+    match form {
+        Form::Sorted => print_exact(alloc, matrix, p, told, out),
+        Form::Jumbled => Ok(true),
+    }
+}
+
+/// Orders a matrix, and writes the ordering, the permuted matrix and what stands behind it. The line of failure comes where there is
+/// no ordering, its status is another, or there is no exact factor. Answers whether all was written.
 fn print_outcome<W: Write, A: Allocator + Copy>(
     alloc: A,
     form: Form,
@@ -207,13 +227,13 @@ fn print_outcome<W: Write, A: Allocator + Copy>(
     if told.status == wanted_status(form) {
         write_permutations(&p, &p_inv, out)?;
         write_permuted_plot(form, matrix, &p, out)?;
-        return Ok(true);
+        return print_end(alloc, form, matrix, &p, &told, out);
     }
     write_failure(out)?;
     Ok(false)
 }
 
-/// Writes a matrix, and then its ordering.
+/// Writes a matrix, and then its ordering. Answers whether all was written.
 fn print_demo<W: Write, A: Allocator + Copy>(
     alloc: A,
     form: Form,
@@ -227,13 +247,15 @@ fn print_demo<W: Write, A: Allocator + Copy>(
     print_outcome(alloc, form, matrix, out)
 }
 
-/// Writes a matrix, orders it, and writes the ordering and the permuted matrix. No memory is asked before it is ordered. Where
-/// there is no ordering, the line `AMD failed` ends the text in place of the ordering; where the ordering has another status
-/// than this form of a matrix is to have, that line comes after the record. The answer is the exit status: 0 where an ordering
-/// with the right status was written, else 1. After a fault of the writer nothing more is written.
+/// Writes a matrix, orders it, and writes the ordering and the permuted matrix; and for a sorted matrix the exact factor under the
+/// ordering beside the bounds in the record. No memory is asked before it is ordered. Where there is no ordering, the line
+/// `AMD failed` ends the text in place of the ordering; where the ordering has another status than this form of a matrix is to have,
+/// that line comes after the record; and where memory is refused for the factor, it comes in place of the factor. The answer is
+/// the exit status: 0 where all was written, else 1. After a fault of the writer nothing more is written.
 ///
 /// The contract speaks of the status 0 alone: what a writer holds does not tell its faults. The contract of `print_demo` tells the
-/// last line where there was no fault. What stands before the record and behind the permutations, plots among it, is not said.
+/// last line where there was no fault. What stands before the record, and between the permutations and the factor, plots among it,
+/// is not said.
 pub fn demo_to<W: Write, A: Allocator + Copy>(
     alloc: A,
     form: Form,

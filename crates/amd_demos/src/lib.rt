@@ -4,6 +4,7 @@
 
 pub mod can_24;
 pub mod demo;
+mod exact;
 pub mod jumbled;
 mod listing;
 pub mod matrix;

@@ -10,9 +10,10 @@ use crate::matrix::Matrix;
 use std::alloc::Allocator;
 use std::io::Write;
 
-/// Writes the matrix can_24, orders it, and writes the ordering and the permuted matrix. The answer is the exit status: 0 where
-/// an ordering was written, and 1 where there is none, which the line `AMD failed` says, or after a fault of the writer, when
-/// nothing more is written. What stands before the record and behind the permutations, plots among it, is not said.
+/// Writes the matrix can_24, orders it, and writes the ordering, the permuted matrix, and the exact factor under the ordering beside
+/// the bounds in its record. The answer is the exit status: 0 where all was written, and 1 where there is no ordering or no factor,
+/// which the line `AMD failed` says, or after a fault of the writer, when nothing more is written. What stands before the record, and
+/// between the permutations and the factor, plots among it, is not said.
 pub fn order_to<W: Write, A: Allocator + Copy>(alloc: A, out: &mut W) -> u8
     ensures status { result ≤ 1 }
     ensures written { result ≡ 0 → HasDemo Form.Sorted (pos 24) POINTERS ROWS (W.contents out.old) (W.contents out.new) }

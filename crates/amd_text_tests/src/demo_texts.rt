@@ -1,5 +1,5 @@
 // What the demos write, in parts. The texts are those of the Rust crate's demos, but for the line on symmetry, which follows the
-// definition.
+// definition, and the exact factor, which the Rust crate's demos have not.
 
 /// The demo of a small matrix: the permutations, and the record.
 pub const SIMPLE: [&str; 2] = [
@@ -39,8 +39,8 @@ AMD results:
 ];
 
 /// The demo of the matrix can_24: its size, its columns, and its plot; the record, the permutations, and the plot of the permuted
-/// matrix.
-pub const ORDER: [&str; 6] = [
+/// matrix; and the exact factor, whose figures were found by searches for paths.
+pub const ORDER: [&str; 7] = [
     "AMD demo, with the 24-by-24 Harwell/Boeing matrix, can_24:
 
 AMD: approximate minimum degree ordering
@@ -248,9 +248,17 @@ Plot of permuted matrix pattern:
 22:  X X X . . . . . . . . . . . . . X X . X X . X X
 23:  . X X . . . . . . . . . . . . X X . X X . X X X
 ",
+    "
+Exact column counts of the factor:
+ 3 4 5 3 4 5 3 3 4 4 5 5 5 4 6 6 6 6 5 4 3 2 1 0
+nonzeros in L (excluding diagonal): exact 96, bound 97
+multiply-subtract operations for LDL': exact 268, bound 275
+multiply-subtract operations for LU: exact 440, bound 453
+max nz. in any column of L (incl. diagonal): exact 7, bound 8
+",
 ];
 
-/// The same of the demo of its jumbled form.
+/// The same of the demo of its jumbled form, which has no exact factor.
 pub const JUMBLED: [&str; 6] = [
     "AMD demo, with a jumbled version of the 24-by-24
 Harwell/Boeing matrix, can_24:

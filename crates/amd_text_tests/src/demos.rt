@@ -4,6 +4,7 @@
 ghost use Rattle.std.specs.Prelude.{◌<◌};
 
 use crate::demo_texts::{JUMBLED, ORDER, SIMPLE};
+use amd::{Control, order};
 use amd_demos::can_24::{JUMBLED_POINTERS, JUMBLED_ROWS, POINTERS, ROWS};
 use amd_demos::demo::{Form, demo_to};
 use amd_demos::jumbled::jumbled_to;
@@ -101,8 +102,8 @@ fn no_rows(rt: HostRuntime) {
     assert!(rt; out.starts_with(b"P = []\nPInv = []\n\nAMD results:\n"));
 }
 
-/// Runs a demo with a refused request and a writer over an array, and asserts that the record and what follows it are not
-/// written, that the line of failure stands in their place, and that nothing is left. Answers whether there was such a request.
+/// Runs a demo with a refused request and a writer over an array, and asserts that these parts alone are written, that the line of
+/// failure stands in the place of the others, and that nothing is left. Answers whether there was such a request.
 fn check_refused(
     rt: &impl Abort,
     alloc: Global,
@@ -130,26 +131,59 @@ fn check_refused(
     Ok(heap.refused())
 }
 
+/// Runs a demo with each request refused in turn, from the number `first` on and before `end`, until a run meets no refusal. Answers
+/// the number of the last request that was refused, or 0.
+fn check_requests(
+    rt: &impl Abort,
+    alloc: Global,
+    demo: Demo,
+    parts: &[&str],
+    first: u64,
+    end: u64,
+) -> Result<u64, AllocError> {
+    let mut refused = 0;
+    for refuse_at in first..end {
+        if !check_refused(rt, alloc, demo, parts, refuse_at)? {
+            break;
+        }
+        refused = refuse_at;
+    }
+    Ok(refused)
+}
+
 #[test]
 fn each_request(rt: HostRuntime) -> Result<(), Fail> {
-    let [order_size, order_columns, order_plot, ..] = ORDER;
-    let [jumbled_size, jumbled_columns, jumbled_plot, ..] = JUMBLED;
-    let order_input = [order_size, order_columns, order_plot];
-    let jumbled_input = [jumbled_size, jumbled_columns, jumbled_plot];
+    let [size, columns, plot, ..] = JUMBLED;
     for (demo, input) in [
         (Demo::Simple, [].as_slice()),
-        (Demo::Order, &order_input),
-        (Demo::Jumbled, &jumbled_input),
+        (Demo::Jumbled, &[size, columns, plot]),
     ] {
-        let mut refused = 0;
-        for refuse_at in 1..MANY {
-            if !check_refused(&rt, rt.alloc(), demo, input, refuse_at)? {
-                break;
-            }
-            refused = refuse_at;
-        }
+        let refused = check_requests(&rt, rt.alloc(), demo, input, 1, MANY)?;
         assert!(rt; 0 < refused && refused < MANY - 1, "{demo:?}");
     }
+    Ok(())
+}
+
+/// How many requests the ordering of the matrix can_24 makes.
+fn requests_of_ordering(rt: &impl Abort, alloc: Global) -> u64 {
+    let heap = Refusing::new(alloc, 0);
+    let answer = order(&heap, 24i32, &POINTERS, &ROWS, &Control::default());
+    assert!(rt; answer.is_ok());
+    heap.requests()
+}
+
+/// Memory that is refused for the ordering leaves the input alone, and memory that is refused for the factor all but the factor.
+#[test]
+fn each_request_of_ordering_and_factor(rt: HostRuntime) -> Result<(), Fail> {
+    let [size, columns, plot, record, permutations, permuted_plot, _] = ORDER;
+    let input = [size, columns, plot];
+    let ordering = requests_of_ordering(&rt, rt.alloc());
+    let behind = ordering.saturating_add(1);
+    let refused = check_requests(&rt, rt.alloc(), Demo::Order, &input, 1, behind)?;
+    assert_eq!(rt; refused, ordering);
+    let all_but_factor = [size, columns, plot, record, permutations, permuted_plot];
+    let refused = check_requests(&rt, rt.alloc(), Demo::Order, &all_but_factor, behind, MANY)?;
+    assert!(rt; ordering < refused && refused < MANY - 1);
     Ok(())
 }
 

@@ -1,0 +1,159 @@
+// The exact factor of a matrix under its ordering, beside the bounds that the ordering told. The figures are those of the AMD user
+// guide, summed over the columns of the factor and never cut. Called by the demo that prints a matrix.
+
+ghost use Rattle.std.specs.Prelude.{◌≡◌, ◌≤◌, ◌<◌, ◌+◌, ◌*◌, ◌/◌, ◌^◌, ℕ, List, ◌++◌, codes, length, max, slice_index, true, false, IfOk, OnOk};
+ghost use Rattle.std.specs.Io.KnownBytes.{Appends};
+ghost use Rattle.amd_demos.specs.Exact.{beside_line, counts, exact_lines, figure_lines, HasExact, IsNeed, IsSmall, TellSizes};
+ghost use Rattle.amd_demos.specs.Lines.{failure_line};
+
+use crate::matrix::Matrix;
+use crate::outcome::write_failure;
+use amd::Info;
+use amd_symbolic::columns;
+use std::alloc::Allocator;
+use std::io;
+use std::io::Write;
+
+/// What a factor needs.
+#[derive(Clone, Copy)]
+struct Need {
+    /// The entries below the diagonal.
+    lnz: u128,
+    /// The multiply-subtract steps of a factorization `LDL'`.
+    n_mult_subs_ldl: u128,
+    /// The multiply-subtract steps of a factorization `LU`.
+    n_mult_subs_lu: u128,
+    /// The entries of the largest column, that on the diagonal among them.
+    d_max: u128,
+}
+
+/// How many entries column `k` has, by where the columns begin and end.
+fn column_size(ptr: &[usize], k: usize) -> usize
+    requires within { k + 1 < length ptr.now }
+    requires ascending { slice_index ptr.now k ≤ slice_index ptr.now (k + 1) }
+    ensures { slice_index ptr.now k + result ≡ slice_index ptr.now (k + 1) }
+{
+    ptr[k + 1] - ptr[k]
+}
+
+/// Writes a line with how many entries each column has.
+fn write_counts<W: Write>(ptr: &[usize], out: &mut W) -> io::Result<()>
+    requires { (columns : List (List ℕ)) × TellSizes columns ptr.now }
+    ensures { OnOk result ((columns : List (List ℕ)) → TellSizes columns ptr.now → Appends (W.contents out.old) (W.contents out.new) (counts columns ++ codes "\n")) }
+{
+    'columns: for k in 0..ptr.len() - 1 {
+        let size = column_size(ptr, k);
+        write!(out, " {size}")?;
+    }
+    out.write_all(b"\n")?;
+    Ok(())
+}
+
+/// What a factor with one column more needs.
+fn with_column(need: Need, size: usize) -> Need
+    requires room { need.lnz + size < 2 ^ 64 }
+    requires small { IsSmall need }
+    ensures lnz { result.lnz ≡ need.lnz + size }
+    ensures ldl { result.n_mult_subs_ldl ≡ need.n_mult_subs_ldl + size * (size + 1) / 2 }
+    ensures lu { result.n_mult_subs_lu ≡ need.n_mult_subs_lu + size * size }
+    ensures greatest { result.d_max ≡ max need.d_max (size + 1) }
+    ensures small { IsSmall result }
+{
+    let size = size as u128;
+    Need {
+        lnz: need.lnz + size,
+        n_mult_subs_ldl: need.n_mult_subs_ldl + size * (size + 1) / 2,
+        n_mult_subs_lu: need.n_mult_subs_lu + size * size,
+        d_max: need.d_max.max(size + 1),
+    }
+}
+
+/// What a factor needs, by where its columns begin and end.
+fn need_of(ptr: &[usize]) -> Need
+    requires { (columns : List (List ℕ)) × TellSizes columns ptr.now }
+    ensures { (columns : List (List ℕ)) → TellSizes columns ptr.now → IsNeed columns result }
+{
+    let mut need = Need {
+        lnz: 0,
+        n_mult_subs_ldl: 0,
+        n_mult_subs_lu: 0,
+        d_max: 0,
+    };
+    'columns: for k in 0..ptr.len() - 1 {
+        need = with_column(need, column_size(ptr, k));
+    }
+    need
+}
+
+/// Writes a line of a figure: what the factor needs, and the bound.
+fn write_beside<W: Write>(name: &str, exact: u128, bound: usize, out: &mut W) -> io::Result<()>
+    ensures { OnOk result (Appends (W.contents out.old) (W.contents out.new) (beside_line name.now exact bound)) }
+{
+    writeln!(out, "{name}: exact {exact}, bound {bound}")
+}
+
+/// Writes the lines of the figures.
+fn write_figures<W: Write>(need: &Need, told: &Info, out: &mut W) -> io::Result<()>
+    ensures { OnOk result ((columns : List (List ℕ)) → IsNeed columns need.now → Appends (W.contents out.old) (W.contents out.new) (figure_lines columns told.now)) }
+{
+    write_beside(
+        "nonzeros in L (excluding diagonal)",
+        need.lnz,
+        told.lnz,
+        out,
+    )?;
+    write_beside(
+        "multiply-subtract operations for LDL'",
+        need.n_mult_subs_ldl,
+        told.n_mult_subs_ldl,
+        out,
+    )?;
+    write_beside(
+        "multiply-subtract operations for LU",
+        need.n_mult_subs_lu,
+        told.n_mult_subs_lu,
+        out,
+    )?;
+    write_beside(
+        "max nz. in any column of L (incl. diagonal)",
+        need.d_max,
+        told.d_max,
+        out,
+    )?;
+    Ok(())
+}
+
+/// Writes a factor, by where its columns begin and end, beside the bounds in a record.
+fn write_exact<W: Write>(ptr: &[usize], told: &Info, out: &mut W) -> io::Result<()>
+    requires { (columns : List (List ℕ)) × TellSizes columns ptr.now }
+    ensures { OnOk result ((columns : List (List ℕ)) → TellSizes columns ptr.now → Appends (W.contents out.old) (W.contents out.new) (exact_lines columns told.now)) }
+{
+    out.write_all(b"\nExact column counts of the factor:\n")?;
+    write_counts(ptr, out)?;
+    write_figures(&need_of(ptr), told, out)?;
+    Ok(())
+}
+
+/// Works out the factor of a matrix under an ordering, and writes it beside the bounds in the ordering's record; or the line of
+/// failure where there is no factor. Answers whether it was the former.
+pub fn print_exact<W: Write, A: Allocator + Copy>(
+    alloc: A,
+    matrix: &Matrix,
+    p: &[i32],
+    told: &Info,
+    out: &mut W,
+) -> io::Result<bool>
+    ensures exact { IfOk result (λ exact. exact ≡ true → HasExact matrix.now.n matrix.now.a_p.now matrix.now.a_i.now p.now told.now (W.contents out.old) (W.contents out.new)) }
+    ensures failure { IfOk result (λ exact. exact ≡ false → Appends (W.contents out.old) (W.contents out.new) failure_line) }
+{
+    match columns(alloc, matrix.n, matrix.a_p, matrix.a_i, p, told.lnz) {
+        Ok(factor) => {
+            write_exact(&factor.ptr, told, out)?;
+            Ok(true)
+        }
+        Err(_) => {
+            write_failure(out)?;
+            Ok(false)
+        }
+    }
+}
