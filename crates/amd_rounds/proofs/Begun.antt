@@ -87,7 +87,8 @@ home_cases v false true h e = inr (inl e)
 home_cases v false false h e = inl e
 
 -- nothing is linked
-pub links_none : (n : ℕ) (home : ℕ → Home) → ((v : ℕ) → (home v ≡ Live v) ⊎ (home v ≡ Gone v) ⊎ (home v ≡ Last)) → LinksLead (nothing n) home
+pub links_none : (n : ℕ) (home : ℕ → Home) → ((v : ℕ) → (home v ≡ Live v) ⊎ (home v ≡ Gone v) ⊎ (home v ≡ Last)) →
+    LinksLead (nothing n) home
 links_none n home h = record {
   linked = λ v u e. absurd (no_link v u e);
   alone = λ v e. h v;

@@ -1,4 +1,5 @@
 -- Lists that are gathered with marks: what is marked is passed over, and what is added is marked.
+use Rattle.amd_model.proofs.Counting.Below.{clash}
 use Rattle.std.proofs.Common.{ℕ, Bool, true, false, ◌≡◌, ◌<◌, ◌&&◌, ◌||◌, not, inl, inr, refl, sym, ◌∙◌, ap, List, [], ◌∷◌, ◌++◌, length}
 use Rattle.std.proofs.Common.{set, get_or-set_same, get_or-set_other}
 use Rattle.std.specs.Prelude.{fold, flat_map, ◌==◌}
@@ -8,7 +9,7 @@ use Rattle.std.proofs.lemmas.List.Sums.{fold-append}
 use Rattle.amd_model.specs.Quotient.{has, add_new}
 use Rattle.amd_model.proofs.Quotient.Lists.{has_append, add_old, add_fresh, firsts}
 use Rattle.amd_model.proofs.Listings.Words.{has_right}
-use Rattle.amd_model.proofs.Counting.Below.{clash}
+use Rattle.amd_views.proofs.Lists.Added.{same_adds, adds_marks}
 use Rattle.amd_rounds.specs.Views.{at, Clear}
 
 -- the next number of a list is marked
@@ -40,21 +41,6 @@ marks_end marks j = or-false (at marks j)
 pub clears_end : (marks : List Bool) (j : ℕ) → (at marks j && not (has [] j)) ≡ at marks j
 unfolding has
 clears_end marks j = and-true (at marks j)
-
--- a list grows alike by two tests, if what either skips or lists is the same
-pub same_adds : (s t : ℕ → Bool) (out xs : List ℕ) → ((x : ℕ) → (s x || has out x) ≡ (t x || has out x)) →
-    fold (add_new s) out xs ≡ fold (add_new t) out xs
-unfolding has
-same_adds s t out [] h = refl
-same_adds s t out (y ∷ ys) h = elim (cases_Bool (t y || has out y)) [
-  | inl k ↦ ap (λ o. fold (add_new s) o ys) (add_old s out y (h y ∙ k)) ∙ same_adds s t out ys h ∙
-      sym (ap (λ o. fold (add_new t) o ys) (add_old t out y k))
-  | inr k ↦ ap (λ o. fold (add_new s) o ys) (add_fresh s out y (h y ∙ k))
-      ∙ same_adds s t (out ++ y ∷ []) ys (λ x. ap (λ b. s x || b) (has_append out (y ∷ []) x) ∙
-      sym (or_assoc (s x) (has out x) (has (y ∷ []) x)) ∙ ap (λ b. b || has (y ∷ []) x) (h x)
-      ∙ sym (ap (λ b. t x || b) (has_append out (y ∷ []) x) ∙ sym (or_assoc (t x) (has out x) (has (y ∷ []) x))))
-      ∙ sym (ap (λ o. fold (add_new t) o ys) (add_fresh t out y k))
-]
 
 -- what is listed is marked
 abbrev pub Known : List Bool → List ℕ → Type 0
@@ -91,7 +77,8 @@ unfolding has
 known_added marks out y l k j h = elim (cases_eq j y) [
   | inl q ↦ ap (at (set marks y true)) q ∙ get_or-set_same marks y true false l
   | inr n ↦ get_or-set_other marks y j true false n ∙
-      k j (sym (ap (λ b. has out j || (b || false)) (ne_eqb y j (λ e. n (sym e))) ∙ or-false (has out j)) ∙ sym (has_append out (y ∷ []) j) ∙
+      k j (sym (ap (λ b. has out j || (b || false)) (ne_eqb y j (λ e. n (sym e))) ∙ or-false (has out j)) ∙
+      sym (has_append out (y ∷ []) j) ∙
       h)
 ]
 
@@ -103,16 +90,6 @@ marks_old marks y j xs h = elim (cases_eq j y) [
       sym (or_left (at marks j) (has (y ∷ xs) j) m))
   | inr n ↦ sym (ap (λ b. at marks j || (b || has xs j)) (ne_eqb y j (λ e. n (sym e))))
 ]
-
--- the numbers that are passed over or listed in the end are those from before, and those of the list
-pub adds_marks : (skip : ℕ → Bool) (out xs : List ℕ) (j : ℕ) →
-    (skip j || has (fold (add_new skip) out xs) j) ≡ ((skip j || has out j) || has xs j)
-adds_marks skip out xs j = ap (λ b. skip j || b) (firsts skip out xs j) ∙ tests (skip j) (has out j) (has xs j)
-  where
-    tests : (a b c : Bool) → (a || (b || (c && not a))) ≡ ((a || b) || c)
-    tests true b c = refl
-    tests false true c = refl
-    tests false false c = and-true c
 
 or_twice : (a b : Bool) → ((a || b) || b) ≡ (a || b)
 or_twice true b = refl

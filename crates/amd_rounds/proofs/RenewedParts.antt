@@ -8,21 +8,6 @@ use Rattle.amd_rounds.specs.Views.{num, list_at}
 use Rattle.amd_rounds.specs.Rounds.{bound_after}
 use Rattle.amd_rounds.specs.declared.work.Lists.{Lists}
 
--- a number cut to a word stays what it is when more is added first
-pub cut_more : (t a b : ℕ) → t ≡ cut a → cut (t + b) ≡ cut (a + b)
-unfolding cut
-cut_more t a b e = omega (arith, e)
-
--- a number that a word holds stays what it is
-pub cut_small : (a : ℕ) → a ≤ 18446744073709551615 → a ≡ cut a
-unfolding cut
-cut_small a h = omega (arith, h)
-
--- the lesser of a number and the greatest that a word holds
-pub cut_min : (a : ℕ) → min a 18446744073709551615 ≡ cut a
-unfolding cut
-cut_min a = refl
-
 -- a bound that keeps to the other live rows is below the number of rows
 pub bound_small : (near live size n : ℕ) → 0 < size → size ≤ live → live ≤ n → min near (live - size) < n
 bound_small near live size n some within most = omega (arith, some, within, most)

@@ -1,4 +1,6 @@
 -- Lists of numbers: what they name, what a test keeps of them, their sums, and what is taken off a number for each of them.
+pub mod Added
+pub mod Cuts
 pub mod Named
 pub mod Same
 pub mod Taken

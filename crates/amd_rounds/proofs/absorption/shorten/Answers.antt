@@ -28,7 +28,8 @@ loop-i-preserved g c =
       kept_elements = keep_next left c.args.lists.now.elements.items elements front k c.index_mut.result.now c.keep_elements.new.list here
           c.requires.once small c.index_mut.ensures.value c.keep_elements.ensures was.kept_elements;
       kept_variables = keep_next outer c.args.lists.now.variables.items variables front k c.index_mut-in-loop-i.result.now
-          c.keep_variables.new.list here c.requires.once room c.index_mut-in-loop-i.ensures.value c.keep_variables.ensures was.kept_variables;
+          c.keep_variables.new.list here c.requires.once room c.index_mut-in-loop-i.ensures.value c.keep_variables.ensures
+          was.kept_variables;
       members = was.members;
       elements = below_next (length c.args.size.now) left elements x c.index_mut.result.now c.keep_elements.new.list small
           c.index_mut.ensures.value c.keep_elements.ensures was.elements;

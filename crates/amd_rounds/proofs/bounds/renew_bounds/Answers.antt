@@ -6,7 +6,7 @@ use Rattle.amd_model.specs.Figures.{cut}
 use Rattle.amd_model.specs.Quotient.{has}
 use Rattle.amd_rounds.specs.Views.{num, list_at}
 use Rattle.amd_rounds.specs.Rounds.{bound_after}
-use Rattle.amd_rounds.proofs.RenewedParts.{cut_more}
+use Rattle.amd_views.proofs.Lists.Cuts.{cut_more}
 use Rattle.amd_rounds.proofs.Kept.{changed_more, changed_none, unchanged}
 use Rattle.amd_views.proofs.Lists.Named.{has_at}
 use Rattle.amd_rounds.proofs.ListPlaces.{list_read}

@@ -4,7 +4,7 @@ use Rattle.std.proofs.lemmas.List.{take_all}
 use Rattle.std.proofs.lemmas.List.Sums.{sum_by_more}
 use Rattle.amd_model.specs.Figures.{cut}
 use Rattle.amd_rounds.specs.Views.{num}
-use Rattle.amd_rounds.proofs.RenewedParts.{cut_more, cut_small, cut_min}
+use Rattle.amd_views.proofs.Lists.Cuts.{cut_more, cut_small, cut_min}
 use Rattle.amd_rounds.proofs.bounds.sum_at.Goals as goal
 
 pub loop-j-init : goal.loop-j-init

@@ -173,7 +173,8 @@ returns g c =
         block_is = ap (λ m. m + (c.rows_of.result - c.rows_of-border.result)) own ∙
             ap (λ m. num size p + (m - c.rows_of-border.result)) whole;
         into_is = λ i h. c.in_ok-representatives.ensures.into i (ap (λ l. has l i) c.deref-4.ensures.value ∙ h) ∙
-            ap (last_that (alike_in c.args.work.now.lists.elements.items c.args.work.now.lists.variables.items i) i) c.deref-4.ensures.value;
+            ap (last_that (alike_in c.args.work.now.lists.elements.items c.args.work.now.lists.variables.items i) i)
+            c.deref-4.ensures.value;
         made_is = c.in_ok-made.ensures ∙ ap (λ l. filter (λ i. num l i == i) c.deref-7.result.now) c.deref-8.ensures.value ∙
             ap (filter (λ i. num into i == i)) c.deref-7.ensures.value;
         retired = left;

@@ -45,7 +45,8 @@ merge_classes-requires-clause-once g c = let st = c.requires.stands in
 
 pub merge_classes-requires-clause-lists_once : goal.merge_classes-requires-clause-lists_once
 merge_classes-requires-clause-lists_once g c = let st = c.requires.stands in
-    rw c.deref.ensures.value (merge_lists_once st.0 st.1 c.args.control.now.aggressive c.args.work.now st.2 st.3 st.4 c.make_element.new.work
+    rw c.deref.ensures.value (merge_lists_once st.0 st.1 c.args.control.now.aggressive c.args.work.now st.2 st.3 st.4
+    c.make_element.new.work
     c.in_ok-pivot.pivot c.in_ok-pivot.front.items c.in_ok-pivot.ensures.makes)
 
 pub merge_classes-requires-clause-live : goal.merge_classes-requires-clause-live

@@ -1,0 +1,1 @@
+-- No lemma is needed here.

@@ -1,0 +1,1 @@
+-- Words and figures say all in their own file: nothing stands here.

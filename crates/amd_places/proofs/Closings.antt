@@ -1,0 +1,40 @@
+-- An element is closed: its list is shortened in its place, and the free end may go back to where it ends.
+use Rattle.std.proofs.Common.{ℕ, ℤ, Bool, true, List, pos, ◌≡◌, ◌<◌, ◌≤◌, ◌-◌, refl, ap, subst, ◌∙◌, arith, length, set}
+use Rattle.std.proofs.Common.{get_or-set_same, get_or-set_other}
+use Rattle.amd_places.specs.Words.{num, is_place, place, word, start, flip_of}
+use Rattle.amd_places.specs.Renewal.{Filters}
+use Rattle.amd_places.specs.Layout.{has_list, end_of, Layout}
+use Rattle.amd_places.specs.Ending.{Shortens}
+use Rattle.amd_places.specs.Closing.{Closes}
+use Rattle.amd_places.proofs.Frames.{edited, edited_fewer, edited_reads, lowered_last}
+use Rattle.amd_places.proofs.Shortening.{shortens}
+
+no_place : (rows : ℕ) → place (flip_of rows) ≡ 0
+unfolding place
+no_place rows = refl
+
+pub closes : {n : ℕ} {pass : ℕ → Bool} {share : ℕ → ℕ} {first sum : ℕ} {iw iw' : List ℤ} {end free : ℕ} (me rows : ℕ)
+    (pe e_len : List ℤ) (len : List ℕ) → me < length e_len → me < length len → is_place (word pe me) ≡ true →
+    Filters n pass share first iw (start pe me) (num len me) (start pe me) iw' end sum → Layout n iw pe e_len len free →
+    Closes n me pass iw pe e_len len iw' (set e_len me (flip_of rows)) (set len me (end - start pe me)) free
+closes {n} {pass} {share} {first} {sum} {iw} {iw'} {end} {free} me rows pe e_len len small_e small_l at f y =
+    let len' : List ℕ = set len me (end - start pe me) in let e_len' : List ℤ = set e_len me (flip_of rows) in
+    let h : Shortens n me pass iw pe len iw' len' = shortens me pe len f small_l in
+    let counts : (j : ℕ) → (j ≡ me → ⊥) → word e_len' j ≡ word e_len j = λ j ne. get_or-set_other e_len me j (flip_of rows) (pos 0) ne in
+    let none : place (word e_len' me) ≡ 0 = ap place (get_or-set_same e_len me (flip_of rows) (pos 0) small_e) ∙ no_place rows in record {
+      list = h.list;
+      shorter = h.shorter;
+      counts = counts;
+      lengths = h.lengths;
+      same = edited_reads me y iw' len' h.shorter h.lengths h.names h.others e_len' counts at;
+      fewer = edited_fewer me y iw' len' h.shorter h.lengths h.names h.others;
+      laid = edited me y iw' len' h.shorter h.lengths h.names h.others e_len' (omega (arith, none)) counts;
+    }
+
+pub lowers : {n : ℕ} {iw pe e_len : List ℤ} {len : List ℕ} {free : ℕ} (me from end : ℕ) → from ≤ end → start pe me ≡ from →
+    num len me ≡ end - from → end_of pe len me ≤ free → ((j : ℕ) → (j ≡ me → ⊥) → has_list pe len j ≡ true → end_of pe len j ≤ from) →
+    Layout n iw pe e_len len free → Layout n iw pe e_len len end
+lowers {n} {iw} {pe} {e_len} {len} {free} me from end order at long within before y =
+    let is : end_of pe len me ≡ end = omega (arith, order, at, long) in
+    subst (Layout n iw pe e_len len) is
+    (lowered_last me y within (λ j ne h. let a = before j ne h in omega (arith, a, at)))

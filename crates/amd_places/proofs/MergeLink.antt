@@ -1,0 +1,146 @@
+-- The classes that are merged in the workspace are those of the elimination kept in lists: from the renewal of their lists, and
+-- to its rules.
+use Rattle.std.specs.Cmp.{both_ways}
+use Rattle.std.proofs.Common.{ℕ, ℤ, pos, Bool, true, List, [], ◌∷◌, ◌++◌, ◌≡◌, ◌<◌, ◌≤◌, ◌+◌, ◌-◌, ◌%◌, ◌^◌, ◌&&◌, inl, refl, sym}
+use Rattle.std.proofs.Common.{subst, ap, ◌∙◌, arith, length}
+use Rattle.std.specs.Prelude.{◌==◌, filter, sum_by}
+use Rattle.std.proofs.lemmas.List.Sums.{sum_by-append, sum_by-cons}
+use Rattle.amd_model.specs.Quotient.{QuotientGraph, has, each, Once, turned, last_that, kept_elements, kept_variables, alike, rest}
+use Rattle.amd_model.specs.Quotient.{represents, made}
+use Rattle.amd_model.proofs.Quotient.Lists.{has_turned, each_gives, each_from, once_append, once_turned, last_same'}
+use Rattle.amd_places.specs.Words.{num, word, place, is_place, rows, Names}
+use Rattle.amd_views.proofs.Lists.Named.{filter_named}
+use Rattle.amd_views.specs.Rounds.{alike_in}
+use Rattle.amd_places.specs.Renewal.{Renews}
+use Rattle.amd_places.specs.Merging.{kept_of, near_of, words_of, IsRenewed, represents_in, key_of}
+use Rattle.amd_places.proofs.RowLists.{rows_none, rows_more, rows_both}
+
+same_tail : (x y : ℕ) (xs ys : List ℕ) → x ∷ xs ≡ y ∷ ys → xs ≡ ys
+same_tail x y xs ys e = cc
+
+-- ---- a list that was renewed in its place
+
+module _ (n me : ℕ) (kept outside : ℕ → Bool) (old : List ℤ) (from n_elements count : ℕ) (iw : List ℤ) (few all : ℕ)
+    (r : Renews n me kept outside old from n_elements count iw few all) where
+  abbrev ks : List ℕ
+  ks = filter kept (rows old from n_elements)
+
+  abbrev vs : List ℕ
+  vs = filter outside (rows old (from + n_elements) (count - n_elements))
+
+  some : 1 ≤ few
+  some = let a = r.few_is in omega (arith, a)
+
+  -- behind the new element stand the elements that it keeps
+  pub kept_words : rows iw (from + 1) (few - 1) ≡ turned (filter kept (rows old from n_elements))
+  kept_words = let s = some in let e : few ≡ 1 + (few - 1) = omega (arith, s) in
+      same_tail _ me (rows iw (from + 1) (few - 1)) (turned ks) (sym (ap (rows iw from) e ∙ rows_both iw from 1 (few - 1)
+      ∙ ap (λ l. l ++ rows iw (from + 1) (few - 1)) (rows_more iw from 0
+      ∙ ap (λ l. l ++ place (word iw (from + 0)) ∷ []) (rows_none iw from))) ∙ r.elements)
+
+  both_words : rows iw (from + 1) (all - 1) ≡ turned ks ++ turned vs
+  both_words = let s = some in let p = r.shorter.0 in let e : all - 1 ≡ (few - 1) + (all - few) = omega (arith, s, p) in
+      let f : (from + 1) + (few - 1) ≡ from + few = omega (arith, s) in
+      ap (rows iw (from + 1)) e ∙ rows_both iw (from + 1) (few - 1) (all - few)
+      ∙ ap (λ m. rows iw (from + 1) (few - 1) ++ rows iw m (all - few)) f ∙ ap (λ l. l ++ rows iw (from + few) (all - few)) kept_words
+      ∙ ap (λ l. turned ks ++ l) r.variables
+
+  module _ (pe e_len : List ℤ) (len : List ℕ) (i : ℕ) (starts : word pe i ≡ pos from) (counts : word e_len i ≡ pos few) (lens : num len i
+      ≡ all) where
+    pub kept_is : kept_of iw pe e_len i ≡ turned (filter kept (rows old from n_elements))
+    unfolding place
+    kept_is = ap (λ z. rows iw (place z + 1) (place (word e_len i) - 1)) starts ∙ ap (λ z. rows iw (from + 1) (place z - 1)) counts
+        ∙ kept_words
+
+    pub near_is : near_of iw pe e_len len i ≡ turned (filter outside (rows old (from + n_elements) (count - n_elements)))
+    unfolding place
+    near_is = ap (λ z. rows iw (place z + place (word e_len i)) (num len i - place (word e_len i))) starts
+        ∙ ap (λ z. rows iw (from + place z) (num len i - place z)) counts ∙ ap (λ m. rows iw (from + few) (m - few)) lens ∙ r.variables
+
+    pub words_is : words_of iw pe len i ≡ turned (filter kept (rows old from n_elements))
+        ++ turned (filter outside (rows old (from + n_elements) (count - n_elements)))
+    unfolding place
+    words_is = ap (λ z. rows iw (place z + 1) (num len i - 1)) starts ∙ ap (λ m. rows iw (from + 1) (m - 1)) lens ∙ both_words
+
+    pub is_renewed : i < n → from + all ≤ length iw → Once (filter kept (rows old from n_elements)) →
+        Once (filter outside (rows old (from + n_elements) (count - n_elements))) →
+        ((x : ℕ) → has (filter kept (rows old from n_elements)) x ≡ true →
+        has (filter outside (rows old (from + n_elements) (count - n_elements))) x ≡ true → ⊥) → IsRenewed n iw pe e_len len i
+    unfolding place is_place
+    is_renewed row within ok ov apart = let s = some in let p = r.shorter.0 in record {
+      row = row;
+      starts = ap is_place starts;
+      counts = ap is_place counts;
+      some = subst (λ z. 1 ≤ place z) (sym counts) s;
+      parts = subst (λ z. place z ≤ num len i) (sym counts) (omega (arith, lens, p));
+      within = subst (λ z. place z + num len i ≤ length iw) (sym starts) (omega (arith, lens, within));
+      names = subst (λ z. Names n iw (place z + 1) (num len i - 1)) (sym starts) (λ k l. let e : from + (k + 1)
+          ≡ (from + 1) + k = omega arith in
+          subst (λ m. (is_place (word iw m) ≡ true) × (place (word iw m) < n)) e (r.names (k + 1) (omega (arith, l, lens))));
+      once = subst Once (sym words_is) (once_append (turned ks) (turned vs) (once_turned ks ok) (once_turned vs ov) (λ x h k.
+          apart x (sym (has_turned ks x) ∙ h) (sym (has_turned vs x) ∙ k)));
+    }
+
+-- the key can be summed up while the words are kept, before the first ones are turned
+sum_turned : (xs : List ℕ) → sum_by (λ j. j) (turned xs) ≡ sum_by (λ j. j) xs
+unfolding turned
+sum_turned [] = refl
+sum_turned (x ∷ xs) = let a = sum_by-append (λ j. j) xs (x ∷ []) in let b = sum_by-cons (λ j. j) x [] in let c =
+    sum_by-cons (λ j. j) x xs in omega (arith, a, b, c)
+
+pub key_turned : (n : ℕ) (ks vs : List ℕ) → key_of n (turned ks ++ turned vs) ≡ ((sum_by (λ j. j) ks + sum_by (λ j. j) vs) % 2 ^ 64) % n
+key_turned n ks vs = ap (λ m. (m % 2 ^ 64) % n) (sum_by-append (λ j. j) (turned ks) (turned vs)
+    ∙ ap (λ m. m + sum_by (λ j. j) (turned vs)) (sum_turned ks) ∙ ap (λ m. sum_by (λ j. j) ks + m) (sum_turned vs))
+
+-- ---- lists that name the same give the same representatives
+
+each_same : (xs xs' ys ys' : List ℕ) → ((x : ℕ) → has xs x ≡ has xs' x) → ((x : ℕ) → has ys x ≡ has ys' x) →
+    each (has xs) ys ≡ each (has xs') ys'
+each_same xs xs' ys ys' e f = both_ways (each (has xs) ys) (each (has xs') ys')
+    (λ h. each_from (has xs') ys' (λ x m. sym (e x) ∙ each_gives (has xs) ys h x (f x ∙ m)))
+    (λ h. each_from (has xs) ys (λ x m. e x ∙ each_gives (has xs') ys' h x (sym (f x) ∙ m)))
+
+module _ (es vs es' vs' : ℕ → List ℕ) (front : List ℕ) (same_es : (i : ℕ) → has front i ≡ true → (x : ℕ) →
+    has (es i) x ≡ has (es' i) x) (same_vs : (i : ℕ) → has front i ≡ true → (x : ℕ) → has (vs i) x ≡ has (vs' i) x) where
+  pub alike_same : (i j : ℕ) → has front i ≡ true → has front j ≡ true → alike_in es vs i j ≡ alike_in es' vs' i j
+  alike_same i j hi hj =
+      let B = each (has (es j)) (es i) in let C = each (has (vs i)) (vs j) in let D = each (has (vs j)) (vs i) in
+      let A' = each (has (es' i)) (es' j) in let B' = each (has (es' j)) (es' i) in let C' = each (has (vs' i)) (vs' j) in
+      ap (λ z. z && B && C && D) (each_same (es i) (es' i) (es j) (es' j) (same_es i hi) (same_es j hj))
+      ∙ ap (λ z. A' && z && C && D) (each_same (es j) (es' j) (es i) (es' i) (same_es j hj) (same_es i hi))
+      ∙ ap (λ z. A' && B' && z && D) (each_same (vs i) (vs' i) (vs j) (vs' j) (same_vs i hi) (same_vs j hj))
+      ∙ ap (λ z. A' && B' && C' && z) (each_same (vs j) (vs' j) (vs i) (vs' i) (same_vs j hj) (same_vs i hi))
+
+  pub last_same : (i : ℕ) → has front i ≡ true → last_that (alike_in es vs i) i front ≡ last_that (alike_in es' vs' i) i front
+  last_same i h = last_same' (alike_in es vs i) (alike_in es' vs' i) i i front (λ x m. alike_same i x h m) (inl refl)
+
+  pub firsts_same : filter (λ i. last_that (alike_in es vs i) i front == i) front
+      ≡ filter (λ i. last_that (alike_in es' vs' i) i front == i) front
+  firsts_same = filter_named (λ i. last_that (alike_in es vs i) i front == i) (λ i.
+      last_that (alike_in es' vs' i) i front == i) front (λ i h. ap (λ r. r == i) (last_same i h))
+
+-- ---- the rules
+
+module _ (aggressive : Bool) (t : QuotientGraph) (c : ℕ) (front : List ℕ) (iw pe e_len : List ℤ) (len : List ℕ)
+    (elements : (i : ℕ) → has (rest aggressive t c front) i ≡ true → kept_of iw pe e_len i ≡ turned (kept_elements aggressive t c front i))
+    (variables : (i : ℕ) → has (rest aggressive t c front) i ≡ true →
+    near_of iw pe e_len len i ≡ turned (kept_variables aggressive t c front i)) where
+  same_es : (i : ℕ) → has (rest aggressive t c front) i ≡ true → (x : ℕ) →
+      has (kept_of iw pe e_len i) x ≡ has (kept_elements aggressive t c front i) x
+  same_es i h x = ap (λ l. has l x) (elements i h) ∙ has_turned (kept_elements aggressive t c front i) x
+
+  same_vs : (i : ℕ) → has (rest aggressive t c front) i ≡ true → (x : ℕ) →
+      has (near_of iw pe e_len len i) x ≡ has (kept_variables aggressive t c front i) x
+  same_vs i h x = ap (λ l. has l x) (variables i h) ∙ has_turned (kept_variables aggressive t c front i) x
+
+  pub represents_is : (i : ℕ) → has (rest aggressive t c front) i ≡ true →
+      represents_in iw pe e_len len (rest aggressive t c front) i ≡ represents aggressive t c front i
+  unfolding represents alike
+  represents_is i h = last_same (kept_of iw pe e_len) (near_of iw pe e_len len) (kept_elements aggressive t c front)
+      (kept_variables aggressive t c front) (rest aggressive t c front) same_es same_vs i h
+
+  pub made_are : filter (λ i. represents_in iw pe e_len len (rest aggressive t c front) i == i) (rest aggressive t c front)
+      ≡ made aggressive t c front
+  unfolding made represents alike
+  made_are = firsts_same (kept_of iw pe e_len) (near_of iw pe e_len len) (kept_elements aggressive t c front)
+      (kept_variables aggressive t c front) (rest aggressive t c front) same_es same_vs

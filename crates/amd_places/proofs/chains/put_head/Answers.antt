@@ -1,0 +1,9 @@
+use Rattle.std.proofs.Common.{arith, get_or-set_same, get_or-set_other}
+use Rattle.amd_places.proofs.ChainLists.{put_on}
+use Rattle.amd_places.proofs.chains.put_head.Goals as goal
+
+pub returns-clause-linked : goal.returns-clause-linked
+returns-clause-linked g c lists none h = rw c.put_figure.ensures
+    (put_on _ _ _ _ _ _ _ _ _ c.link.ensures.relinks c.args.degree.now _ lists c.requires.row.0 c.requires.row.1 none
+    (get_or-set_same c.args.degree.now c.args.i c.args.d 0 (let a = c.requires.row.0 in let b = c.requires.lengths.2 in
+    omega (arith, a, b))) (λ x ne. get_or-set_other c.args.degree.now c.args.i x c.args.d 0 ne) h)

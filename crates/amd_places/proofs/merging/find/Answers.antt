@@ -1,0 +1,34 @@
+use Rattle.std.proofs.Common.{ℕ, ℤ, List, ◌≡◌, inl, inr, true, cond, sym, ap, ◌∙◌, ◌+◌, ◌-◌, length, subst}
+use Rattle.amd_model.specs.Quotient.{has}
+use Rattle.amd_places.specs.Words.{num, word, place, start, rows}
+use Rattle.amd_views.specs.Rounds.{alike_in}
+use Rattle.amd_places.specs.Merging.{Finds, bucket, looks, kept_of, near_of, words_of}
+use Rattle.amd_places.proofs.Likeness.{looks_alike}
+use Rattle.amd_places.proofs.merging.find.Goals as goal
+
+pub returns-clause-found : goal.returns-clause-found
+returns-clause-found g c =
+    let iw : List ℤ = c.args.iw.now in let pe : List ℤ = c.args.pe.now in let e_len : List ℤ = c.args.e_len.now in let len : List ℕ =
+    c.args.len.now in let i : ℕ = c.args.i in
+    let w : List ℕ = c.spread.new.w in let flag : ℕ = c.args.flag in
+    let first : c.named-from.result ≡ start pe i = c.named-from.ensures in
+    let few : c.named-few.result ≡ place (word e_len i) = c.named-few.ensures in
+    let marked : (x : ℕ) → num w x ≡ cond (has (words_of iw pe len i) x) flag (num c.args.w.now x) = λ x. c.spread.ensures.marked x
+    ∙ ap (λ m. cond (has (rows iw (c.named-from.result + 1) (m - 1)) x) flag (num c.args.w.now x)) c.figure_at-count.ensures.is
+    ∙ ap (λ s. cond (has (rows iw (s + 1) (num len i - 1)) x) flag (num c.args.w.now x)) first in
+    let is : (x : ℕ) → has (bucket c.args.next.now c.args.head) x ≡ true →
+    looks iw pe e_len len w (num len i) c.named-few.result flag x ≡ alike_in (kept_of iw pe e_len) (near_of iw pe e_len len) i x
+    = λ x h. ap (λ f. looks iw pe e_len len w (num len i) f flag x) few
+    ∙ looks_alike (length c.args.w.now) iw pe e_len len i x c.requires.here (c.requires.members x h) w c.args.w.now flag
+    (c.requires.apart x h) c.requires.under marked in
+    elim (subst (λ m. Finds (length c.args.next.now) (looks iw pe e_len len w m c.named-few.result flag)
+    (bucket c.args.next.now c.args.head) c.walk.result) c.figure_at-count.ensures.is c.walk.ensures) [
+      | inl p ↦ inl (p.0, p.1, sym (is c.walk.result p.1) ∙ p.2)
+      | inr p ↦ inr (p.0, λ x h. sym (is x h) ∙ p.1 x h)
+    ]
+
+pub returns-clause-marked : goal.returns-clause-marked
+returns-clause-marked g c x = c.spread.ensures.marked x ∙ ap (λ m.
+    cond (has (rows c.args.iw.now (c.named-from.result + 1) (m - 1)) x) c.args.flag (num c.args.w.now x)) c.figure_at-count.ensures.is
+    ∙ ap (λ s. cond (has (rows c.args.iw.now (s + 1) (num c.args.len.now c.args.i - 1)) x) c.args.flag (num c.args.w.now x))
+    c.named-from.ensures

@@ -1,0 +1,98 @@
+use Rattle.std.proofs.Common.{ℕ, ℤ, List, true, ◌≡◌, ◌<◌, ◌≤◌, ◌+◌, ◌-◌, sym, ap, subst, ◌∙◌, arith, length}
+use Rattle.std.specs.Prelude.{nat_lt, filter}
+use Rattle.std.proofs.lemmas.Bool.{lt-ltb, le-ltb}
+use Rattle.amd_model.specs.Figures.{cut}
+use Rattle.amd_places.specs.Words.{num, word, place, is_place, rows}
+use Rattle.amd_views.proofs.Lists.Cuts.{cut_min}
+use Rattle.amd_places.specs.Renewal.{is_kept, hashed, Filters}
+use Rattle.amd_places.proofs.Filtering.{filters_none, filters_no, filters_yes, hashed_none, hashed_no, hashed_yes}
+use Rattle.amd_places.proofs.renewal.keep_elements.Goals as goal
+use Rattle.amd_places.proofs.renewal.keep_elements.Goals.{then-counter-gt0, else-counter-gt0}
+
+pub loop-p-init : goal.loop-p-init
+loop-p-init g c = let e : c.args.from - c.args.from ≡ 0 = omega arith in record {
+  filters = subst (λ m. Filters (length c.args.w.now) (is_kept c.args.w.now) (λ e.
+      num c.args.w.now e - c.args.flag) 0 c.args.iw.now c.args.from m c.args.from c.args.iw.now c.args.from 0) (sym e)
+      (filters_none (length c.args.w.now) (is_kept c.args.w.now) (λ e.
+      num c.args.w.now e - c.args.flag) 0 c.args.iw.now c.args.from c.args.from (omega arith));
+  hash = hashed_none (is_kept c.args.w.now) 0 c.args.iw.now c.args.from (omega arith);
+}
+
+pub named-e-requires-clause-is_one : goal.named-e-requires-clause-is_one
+named-e-requires-clause-is_one g c =
+    let iw : List ℤ = c.args.iw.now in let from : ℕ = c.args.from in let p : ℕ = c.loop-p.p in let k : ℕ = p - from in
+    let after : from ≤ p = c.loop-p.auto.p in let t = c.loop-p-test.true in
+    let at : p ≡ from + k = omega (arith, after) in let l : k < c.args.count = omega (arith, after, t) in
+    let next : p + 1 - from ≡ k + 1 = omega (arith, after) in
+    let h = c.loop-p.invariant.filters in let word_k = c.requires.names k l in let high = h.high in
+    let same : word c.loop-p.iw p ≡ word iw p = h.above p (omega (arith, high, at)) in
+    let is_one : is_place (word iw p) ≡ true = ap (λ m. is_place (word iw m)) at ∙ word_k.0 in
+    let small : place (word iw p) < length c.args.w.now = (let a = ap (λ m. place (word iw m)) at in let b = word_k.1 in
+    omega (arith, a, b)) in
+    ap is_place same ∙ is_one
+
+pub figure_at-counter-requires : goal.figure_at-counter-requires
+figure_at-counter-requires g c =
+    let iw : List ℤ = c.args.iw.now in let from : ℕ = c.args.from in let p : ℕ = c.loop-p.p in let k : ℕ = p - from in
+    let after : from ≤ p = c.loop-p.auto.p in let t = c.loop-p-test.true in
+    let at : p ≡ from + k = omega (arith, after) in let l : k < c.args.count = omega (arith, after, t) in
+    let next : p + 1 - from ≡ k + 1 = omega (arith, after) in
+    let h = c.loop-p.invariant.filters in let word_k = c.requires.names k l in let high = h.high in
+    let same : word c.loop-p.iw p ≡ word iw p = h.above p (omega (arith, high, at)) in
+    let is_one : is_place (word iw p) ≡ true = ap (λ m. is_place (word iw m)) at ∙ word_k.0 in
+    let small : place (word iw p) < length c.args.w.now = (let a = ap (λ m. place (word iw m)) at in let b = word_k.1 in
+    omega (arith, a, b)) in
+    let row : c.named-e.result ≡ place (word iw p) = c.named-e.ensures ∙ ap place same in
+    omega (arith, row, small)
+
+pub loop-p-preserved : goal.loop-p-preserved
+loop-p-preserved g c =
+    let iw : List ℤ = c.args.iw.now in let from : ℕ = c.args.from in let p : ℕ = c.loop-p.p in let k : ℕ = p - from in
+    let after : from ≤ p = c.loop-p.auto.p in let t = c.loop-p-test.true in
+    let at : p ≡ from + k = omega (arith, after) in let l : k < c.args.count = omega (arith, after, t) in
+    let next : p + 1 - from ≡ k + 1 = omega (arith, after) in
+    let h = c.loop-p.invariant.filters in let word_k = c.requires.names k l in let high = h.high in
+    let same : word c.loop-p.iw p ≡ word iw p = h.above p (omega (arith, high, at)) in
+    let is_one : is_place (word iw p) ≡ true = ap (λ m. is_place (word iw m)) at ∙ word_k.0 in
+    let small : place (word iw p) < length c.args.w.now = (let a = ap (λ m. place (word iw m)) at in let b = word_k.1 in
+    omega (arith, a, b)) in
+    let row : c.named-e.result ≡ place (word iw p) = c.named-e.ensures ∙ ap place same in
+    let w0 : List ℕ = c.args.w.now in let there : c.named-e.result ≡ place (word iw (from + k)) = row ∙ ap (λ m. place (word iw m)) at in
+    let read : c.figure_at-counter.result ≡ num w0 c.named-e.result = c.figure_at-counter.ensures.is in
+    let counter_is : c.figure_at-counter.result ≡ num w0 (place (word iw (from + k))) = read ∙ ap (num w0) there in
+    elim c.if-counter-gt0.branch [
+      | then-counter-gt0 w ↦ rw (w.iw-is, w.end-is, w.far-is, w.hash-is, w.copy_word.ensures, next) record {
+        filters =
+            (filters_yes (length c.args.w.now) (is_kept c.args.w.now) (λ e.
+            num c.args.w.now e - c.args.flag) 0 iw from from h p w.saturating_add-far.result at (omega arith) (let a =
+            c.requires.inside in omega (arith, a, at, l)) is_one small
+            (ap (is_kept w0) (sym there) ∙ ap (nat_lt 0) (sym read)
+            ∙ lt-ltb 0 c.figure_at-counter.result w.if-counter-gt0.true)
+            (w.saturating_add-far.ensures ∙ cut_min _ ∙ ap (λ m. cut (c.loop-p.far + m)) (w.saturating_sub.ensures
+            ∙ ap (λ m. m - c.args.flag) counter_is)));
+        hash = hashed_yes (is_kept c.args.w.now) 0 iw from k c.loop-p.hash c.loop-p.invariant.hash c.named-e.result there
+            (ap (is_kept w0) (sym there) ∙ ap (nat_lt 0) (sym read)
+            ∙ lt-ltb 0 c.figure_at-counter.result w.if-counter-gt0.true);
+      }
+      | else-counter-gt0 w ↦ rw (w.iw-is, w.end-is, w.far-is, w.hash-is, next) record {
+        filters =
+            (filters_no (length c.args.w.now) (is_kept c.args.w.now) (λ e.
+            num c.args.w.now e - c.args.flag) 0 iw from from h (ap (is_kept w0) (sym there)
+            ∙ ap (nat_lt 0) (sym read) ∙ le-ltb 0 c.figure_at-counter.result w.if-counter-gt0.false));
+        hash = hashed_no (is_kept c.args.w.now) 0 iw from k c.loop-p.hash c.loop-p.invariant.hash
+            (ap (is_kept w0) (sym there) ∙ ap (nat_lt 0) (sym read) ∙ le-ltb 0 c.figure_at-counter.result w.if-counter-gt0.false);
+      }
+    ]
+
+pub returns-clause-hash : goal.returns-clause-hash
+returns-clause-hash g c = let t = c.loop-p-test.false in let after : c.args.from ≤ c.loop-p.p = c.loop-p.auto.p in
+    let past : c.loop-p.p ≤ c.args.from + c.args.count = c.loop-p.auto.p-end (omega arith) in
+    let all : c.loop-p.p - c.args.from ≡ c.args.count = omega (arith, t, after, past) in
+    c.loop-p.invariant.hash ∙ ap (λ m. hashed 0 (filter (is_kept c.args.w.now) (rows c.args.iw.now c.args.from m))) all
+
+pub returns-clause-filters : goal.returns-clause-filters
+returns-clause-filters g c = let t = c.loop-p-test.false in let after : c.args.from ≤ c.loop-p.p = c.loop-p.auto.p in
+    let past : c.loop-p.p ≤ c.args.from + c.args.count = c.loop-p.auto.p-end (omega arith) in
+    let all : c.loop-p.p - c.args.from ≡ c.args.count = omega (arith, t, after, past) in
+    subst (λ m. Filters (length c.args.w.now) (is_kept c.args.w.now) (λ e. num c.args.w.now e - c.args.flag) 0 c.args.iw.now c.args.from m
+    c.args.from c.loop-p.iw c.loop-p.end c.loop-p.far) all c.loop-p.invariant.filters

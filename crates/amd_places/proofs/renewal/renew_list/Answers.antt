@@ -1,0 +1,61 @@
+use Rattle.std.proofs.Common.{ℕ, List, ◌≡◌, ◌+◌, ◌-◌, sym, ap, ◌∙◌, arith, subst, length, filter}
+use Rattle.amd_places.specs.Words.{num, size_of, rows, Names}
+use Rattle.amd_places.specs.Renewal.{is_kept, is_outside, hashed, Filters}
+use Rattle.amd_places.proofs.Renewing.{names_after, renew_fit, renews, renew_far}
+use Rattle.amd_places.proofs.RowLists.{rows_same}
+use Rattle.amd_places.proofs.Filtering.{hashed_both}
+use Rattle.amd_places.proofs.renewal.renew_list.Goals as goal
+
+pub keep_variables-end-requires-clause-names : goal.keep_variables-end-requires-clause-names
+keep_variables-end-requires-clause-names g c = subst (λ m. Names m c.keep_elements-middle.new.iw (c.args.from + c.args.n_elements)
+    (c.args.count - c.args.n_elements)) (sym c.requires.lengths)
+    (names_after (length c.args.w.now) (is_kept c.args.w.now) (λ e.
+    num c.args.w.now e - c.args.flag) c.args.iw.now c.keep_elements-middle.new.iw c.args.from c.args.n_elements c.args.count
+    c.keep_elements-middle.result.0 c.keep_elements-middle.result.1 c.keep_elements-middle.ensures.filters c.requires.names)
+
+pub put_first-requires-clause-inside : goal.put_first-requires-clause-inside
+put_first-requires-clause-inside g c =
+    let g = subst (λ m. Filters m (is_outside c.args.nv.now) (size_of c.args.nv.now)
+    c.keep_elements-middle.result.1 c.keep_elements-middle.new.iw (c.args.from + c.args.n_elements) (c.args.count - c.args.n_elements)
+    c.keep_elements-middle.result.0 c.keep_variables-end.new.iw c.keep_variables-end.result.0 c.keep_variables-end.result.1)
+    c.requires.lengths c.keep_variables-end.ensures.filters in
+    renew_fit (length c.args.w.now) (is_kept c.args.w.now) (is_outside c.args.nv.now) (λ e.
+    num c.args.w.now e - c.args.flag) (size_of c.args.nv.now)
+    c.args.iw.now c.keep_elements-middle.new.iw c.keep_variables-end.new.iw c.args.from c.args.n_elements c.args.count
+    c.keep_elements-middle.result.0 c.keep_elements-middle.result.1 c.keep_variables-end.result.0 c.keep_variables-end.result.1
+    c.args.me c.keep_elements-middle.ensures.filters g c.requires.parts c.requires.me.0 c.requires.inside c.requires.room
+
+pub returns-clause-renews : goal.returns-clause-renews
+returns-clause-renews g c =
+    let g = subst (λ m. Filters m (is_outside c.args.nv.now) (size_of c.args.nv.now)
+    c.keep_elements-middle.result.1 c.keep_elements-middle.new.iw (c.args.from + c.args.n_elements) (c.args.count - c.args.n_elements)
+    c.keep_elements-middle.result.0 c.keep_variables-end.new.iw c.keep_variables-end.result.0 c.keep_variables-end.result.1)
+    c.requires.lengths c.keep_variables-end.ensures.filters in
+    rw c.put_first.ensures (renews (length c.args.w.now) (is_kept c.args.w.now) (is_outside c.args.nv.now) (λ e.
+    num c.args.w.now e - c.args.flag) (size_of c.args.nv.now)
+    c.args.iw.now c.keep_elements-middle.new.iw c.keep_variables-end.new.iw c.args.from c.args.n_elements c.args.count
+    c.keep_elements-middle.result.0 c.keep_elements-middle.result.1 c.keep_variables-end.result.0 c.keep_variables-end.result.1
+    c.args.me c.keep_elements-middle.ensures.filters g c.requires.parts c.requires.me.0 c.requires.inside c.requires.room)
+
+pub returns-clause-far : goal.returns-clause-far
+returns-clause-far g c =
+    let g = subst (λ m. Filters m (is_outside c.args.nv.now) (size_of c.args.nv.now)
+    c.keep_elements-middle.result.1 c.keep_elements-middle.new.iw (c.args.from + c.args.n_elements) (c.args.count - c.args.n_elements)
+    c.keep_elements-middle.result.0 c.keep_variables-end.new.iw c.keep_variables-end.result.0 c.keep_variables-end.result.1)
+    c.requires.lengths c.keep_variables-end.ensures.filters in
+    renew_far (length c.args.w.now) (is_kept c.args.w.now) (is_outside c.args.nv.now) (λ e.
+    num c.args.w.now e - c.args.flag) (size_of c.args.nv.now)
+    c.args.iw.now c.keep_elements-middle.new.iw c.keep_variables-end.new.iw c.args.from c.args.n_elements c.args.count
+    c.keep_elements-middle.result.0 c.keep_elements-middle.result.1 c.keep_variables-end.result.0 c.keep_variables-end.result.1
+    c.args.me c.keep_elements-middle.ensures.filters g c.requires.parts c.requires.me.0 c.requires.inside c.requires.room
+
+pub returns-clause-hash : goal.returns-clause-hash
+returns-clause-hash g c =
+    let ks : List ℕ = filter (is_kept c.args.w.now) (rows c.args.iw.now c.args.from c.args.n_elements) in
+    let from : ℕ = c.args.from + c.args.n_elements in let count : ℕ = c.args.count - c.args.n_elements in
+    let first = c.keep_elements-middle.ensures.filters in let high = first.high in
+    let same : rows c.keep_elements-middle.new.iw from count ≡ rows c.args.iw.now from count = rows_same c.args.iw.now
+    c.keep_elements-middle.new.iw from from count (λ k l. first.above (from + k) (omega (arith, high))) in
+    c.keep_variables-end.ensures.hash ∙ ap (λ xs. hashed c.keep_elements-middle.result.2 (filter (is_outside c.args.nv.now) xs)) same
+    ∙ ap (λ h. hashed h (filter (is_outside c.args.nv.now) (rows c.args.iw.now from count))) c.keep_elements-middle.ensures.hash
+    ∙ hashed_both ks (filter (is_outside c.args.nv.now) (rows c.args.iw.now from count))

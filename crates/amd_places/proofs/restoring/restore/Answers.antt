@@ -1,0 +1,281 @@
+-- The goals of restoring::restore.
+use Rattle.amd_model.proofs.Counting.Below.{clash}
+use Rattle.std.proofs.Common.{ℕ, ℤ, Bool, List, [], ◌∷◌, true, false, ◌≡◌, ◌<◌, ◌≤◌, ◌+◌, ◌-◌, ◌||◌, ◌&&◌}
+use Rattle.std.proofs.Common.{not, inl, inr, refl, sym, ap, subst, ◌∙◌}
+use Rattle.std.proofs.Common.{arith, cond, length, fold, set, get_or-set_same, get_or-set_other}
+use Rattle.std.specs.Prelude.{min, ◌==◌}
+use Rattle.std.proofs.Math.Bool.{and-true}
+use Rattle.std.proofs.lemmas.Bool.{cases_eq, cond-true, cond-false, false_from_ne_true}
+use Rattle.std.proofs.lemmas.List.Sums.{fold-append}
+use Rattle.amd_model.specs.Quotient.{has}
+use Rattle.amd_model.proofs.Listings.Words.{has_filter as filter_gives}
+use Rattle.amd_views.proofs.Lists.Cuts.{cut_small}
+use Rattle.amd_places.specs.Words.{num, word, place, is_place, size_of, in_front, rows}
+use Rattle.amd_places.specs.Chains.{DegreeLists}
+use Rattle.amd_places.specs.Renewal.{Filters}
+use Rattle.amd_places.specs.Restoring.{marked_in, bound_in, put_all, Restores}
+use Rattle.amd_places.proofs.RowLists.{rows_has}
+use Rattle.amd_places.proofs.WordMarks.{rows_start, rows_next}
+use Rattle.amd_places.proofs.EachRow.{each_none, each_next}
+use Rattle.amd_places.proofs.Counting.{fresh_word}
+use Rattle.amd_places.proofs.Filtering.{filters_none, filters_no, filters_yes}
+use Rattle.amd_places.proofs.Leaving.{lists_same}
+use Rattle.amd_places.proofs.FrontBack.{Emptying, emptying_none, emptying_skips, emptying_clears, emptying_all}
+use Rattle.amd_places.proofs.FrontBack.{marked_none, marked_next, marked_skip}
+use Rattle.amd_places.proofs.FrontBack.{rows_other, rows_fresh, rows_small, put_none, put_more, put_gives, no_head}
+use Rattle.amd_places.proofs.restoring.restore.Goals as goal
+use Rattle.amd_places.proofs.restoring.restore.Goals.{then-is_marked, else-is_marked}
+
+-- a mark that is off stays off
+marks_next : (a b c : Bool) → ((a && not b) && not c) ≡ (a && not (b || c))
+marks_next false b c = refl
+marks_next true true c = refl
+marks_next true false c = refl
+
+pub loop-p-init : goal.loop-p-init
+unfolding has
+loop-p-init g c =
+    let iw : List ℤ = c.args.iw.now in let nv : List ℤ = c.args.nv.now in let from : ℕ = c.args.from in
+    let n : ℕ = length c.args.next.now in
+    let e : from - from ≡ 0 = omega arith in let none = marked_none nv iw from in let a = c.requires.lengths in record {
+      lengths = (a.0, a.1, a.2, refl, a.3, a.4);
+      filters = subst (λ m. Filters n (in_front nv) (λ j. 0) 0 iw from m from iw from 0) (sym e)
+          (filters_none n (in_front nv) (λ j. 0) 0 iw from from (omega arith));
+      restores = record {
+        sizes = λ j. refl;
+        marks = λ j. sym (ap (λ xs. in_front nv j && not (has xs j)) (rows_start iw from) ∙ and-true (in_front nv j));
+        bounds = each_none iw from (num c.args.degree.now) _;
+        least_is = sym (ap (fold (λ m i. min m (bound_in c.args.border c.args.left nv c.args.degree.now i)) c.args.least) none);
+      };
+      lasts = λ x m f. refl;
+      empties = emptying_none n iw nv from c.args.count c.args.hash.now c.args.last.now;
+      linked = λ lists out h. lists_same n _ _ _ _ lists _ (λ d l. put_none _ _ lists none d) h;
+    }
+
+pub named-i-requires-clause-is_one : goal.named-i-requires-clause-is_one
+named-i-requires-clause-is_one g c =
+    let iw : List ℤ = c.args.iw.now in let nv : List ℤ = c.args.nv.now in let degree : List ℕ = c.args.degree.now in
+    let n : ℕ = length c.args.next.now in let from : ℕ = c.args.from in let p : ℕ = c.loop-p.p in let k : ℕ = p - from in
+    let after : from ≤ p = c.loop-p.auto.p in let t = c.loop-p-test.true in let at : p ≡ from + k = omega (arith, after) in
+    let l : k < c.args.count = omega (arith, after, t) in let next : p + 1 - from ≡ k + 1 = omega (arith, after) in
+    let was = c.loop-p.invariant in let h = was.filters in let word_k = c.requires.names k l in let high = h.high in
+    let same : word c.loop-p.iw p ≡ word iw p = h.above p (omega (arith, high, at)) in
+    let is_one : is_place (word iw p) ≡ true = ap (λ m. is_place (word iw m)) at ∙ word_k.0 in
+    let small : place (word iw p) < n = (let a = ap (λ m. place (word iw m)) at in let b = word_k.1 in omega (arith, a, b)) in
+    ap is_place same ∙ is_one
+
+pub is_marked-requires : goal.is_marked-requires
+is_marked-requires g c =
+    let iw : List ℤ = c.args.iw.now in let nv : List ℤ = c.args.nv.now in let degree : List ℕ = c.args.degree.now in
+    let n : ℕ = length c.args.next.now in let from : ℕ = c.args.from in let p : ℕ = c.loop-p.p in let k : ℕ = p - from in
+    let after : from ≤ p = c.loop-p.auto.p in let t = c.loop-p-test.true in let at : p ≡ from + k = omega (arith, after) in
+    let l : k < c.args.count = omega (arith, after, t) in let next : p + 1 - from ≡ k + 1 = omega (arith, after) in
+    let was = c.loop-p.invariant in let h = was.filters in let word_k = c.requires.names k l in let high = h.high in
+    let same : word c.loop-p.iw p ≡ word iw p = h.above p (omega (arith, high, at)) in
+    let is_one : is_place (word iw p) ≡ true = ap (λ m. is_place (word iw m)) at ∙ word_k.0 in
+    let small : place (word iw p) < n = (let a = ap (λ m. place (word iw m)) at in let b = word_k.1 in omega (arith, a, b)) in
+    let i : ℕ = c.named-i.result in let row : i ≡ place (word iw p) = c.named-i.ensures ∙ ap place same in
+    let is : i ≡ place (word iw (from + k)) = row ∙ ap (λ m. place (word iw m)) at in let tiny : i < n = omega (arith, row, small) in
+    let named : has (rows iw from c.args.count) i ≡ true = ap (has (rows iw from c.args.count)) is ∙ rows_has iw from c.args.count k l in
+    let fresh : has (rows iw from k) i ≡ false = ap (has (rows iw from k)) is ∙ fresh_word iw from c.args.count k l c.requires.once in
+    let bound : ℕ → ℕ = bound_in c.args.border c.args.left nv degree in
+    let mark_same : in_front c.loop-p.nv i ≡ in_front nv i = was.restores.marks i
+    ∙ ap (λ b. in_front nv i && not b) fresh ∙ and-true (in_front nv i) in
+    let bound_same : num c.loop-p.degree i ≡ num degree i = was.restores.bounds i
+    ∙ cond-false (has (rows iw from k) i) (cond (in_front nv i) (bound i) (num degree i)) (num degree i) fresh in
+    let last_same : num c.loop-p.last i ≡ num c.args.last.now i = was.lasts i named fresh in
+    let size_same = was.restores.sizes in let long = was.lengths in
+    omega (arith, tiny, long)
+
+pub place_class-bound-requires : goal.place_class-bound-requires
+place_class-bound-requires g c =
+    let iw : List ℤ = c.args.iw.now in let nv : List ℤ = c.args.nv.now in let degree : List ℕ = c.args.degree.now in
+    let n : ℕ = length c.args.next.now in let from : ℕ = c.args.from in let p : ℕ = c.loop-p.p in let k : ℕ = p - from in
+    let after : from ≤ p = c.loop-p.auto.p in let t = c.loop-p-test.true in let at : p ≡ from + k = omega (arith, after) in
+    let l : k < c.args.count = omega (arith, after, t) in let next : p + 1 - from ≡ k + 1 = omega (arith, after) in
+    let was = c.loop-p.invariant in let h = was.filters in let word_k = c.requires.names k l in let high = h.high in
+    let same : word c.loop-p.iw p ≡ word iw p = h.above p (omega (arith, high, at)) in
+    let is_one : is_place (word iw p) ≡ true = ap (λ m. is_place (word iw m)) at ∙ word_k.0 in
+    let small : place (word iw p) < n = (let a = ap (λ m. place (word iw m)) at in let b = word_k.1 in omega (arith, a, b)) in
+    let i : ℕ = c.named-i.result in let row : i ≡ place (word iw p) = c.named-i.ensures ∙ ap place same in
+    let is : i ≡ place (word iw (from + k)) = row ∙ ap (λ m. place (word iw m)) at in let tiny : i < n = omega (arith, row, small) in
+    let named : has (rows iw from c.args.count) i ≡ true = ap (has (rows iw from c.args.count)) is ∙ rows_has iw from c.args.count k l in
+    let fresh : has (rows iw from k) i ≡ false = ap (has (rows iw from k)) is ∙ fresh_word iw from c.args.count k l c.requires.once in
+    let bound : ℕ → ℕ = bound_in c.args.border c.args.left nv degree in
+    let mark_same : in_front c.loop-p.nv i ≡ in_front nv i = was.restores.marks i
+    ∙ ap (λ b. in_front nv i && not b) fresh ∙ and-true (in_front nv i) in
+    let bound_same : num c.loop-p.degree i ≡ num degree i = was.restores.bounds i
+    ∙ cond-false (has (rows iw from k) i) (cond (in_front nv i) (bound i) (num degree i)) (num degree i) fresh in
+    let last_same : num c.loop-p.last i ≡ num c.args.last.now i = was.lasts i named fresh in
+    let size_same = was.restores.sizes in let long = was.lengths in
+    let here : in_front c.loop-p.nv i ≡ true = sym c.is_marked.ensures ∙ c.if-is_marked.true in
+    let old = c.requires.classes i named (sym mark_same ∙ here) in let s = size_same i in let order = c.requires.order in
+    let short = c.requires.short in record {
+      lengths = ((omega (arith, long)), (omega (arith, long)), (omega (arith, long)), (omega (arith, long)), (omega (arith, long)));
+      short = ((omega (arith, short, long)), (omega (arith, short, long)));
+      row = omega (arith, tiny, long);
+      marked = here;
+      class = record {
+        class = (let a = old.class in omega (arith, a, s));
+        part = (let a = old.part in omega (arith, a, s));
+        bound = (let a = old.bound in omega (arith, a, bound_same, long));
+        key = (let a = old.key in omega (arith, a, last_same, long));
+      };
+      order = (order.0, (omega (arith, order, long)));
+    }
+
+pub loop-p-preserved : goal.loop-p-preserved
+loop-p-preserved g c =
+    let iw : List ℤ = c.args.iw.now in let nv : List ℤ = c.args.nv.now in let degree : List ℕ = c.args.degree.now in
+    let n : ℕ = length c.args.next.now in let from : ℕ = c.args.from in let p : ℕ = c.loop-p.p in let k : ℕ = p - from in
+    let after : from ≤ p = c.loop-p.auto.p in let t = c.loop-p-test.true in let at : p ≡ from + k = omega (arith, after) in
+    let l : k < c.args.count = omega (arith, after, t) in let next : p + 1 - from ≡ k + 1 = omega (arith, after) in
+    let was = c.loop-p.invariant in let h = was.filters in let word_k = c.requires.names k l in let high = h.high in
+    let same : word c.loop-p.iw p ≡ word iw p = h.above p (omega (arith, high, at)) in
+    let is_one : is_place (word iw p) ≡ true = ap (λ m. is_place (word iw m)) at ∙ word_k.0 in
+    let small : place (word iw p) < n = (let a = ap (λ m. place (word iw m)) at in let b = word_k.1 in omega (arith, a, b)) in
+    let i : ℕ = c.named-i.result in let row : i ≡ place (word iw p) = c.named-i.ensures ∙ ap place same in
+    let is : i ≡ place (word iw (from + k)) = row ∙ ap (λ m. place (word iw m)) at in let tiny : i < n = omega (arith, row, small) in
+    let named : has (rows iw from c.args.count) i ≡ true = ap (has (rows iw from c.args.count)) is ∙ rows_has iw from c.args.count k l in
+    let fresh : has (rows iw from k) i ≡ false = ap (has (rows iw from k)) is ∙ fresh_word iw from c.args.count k l c.requires.once in
+    let bound : ℕ → ℕ = bound_in c.args.border c.args.left nv degree in
+    let mark_same : in_front c.loop-p.nv i ≡ in_front nv i = was.restores.marks i
+    ∙ ap (λ b. in_front nv i && not b) fresh ∙ and-true (in_front nv i) in
+    let bound_same : num c.loop-p.degree i ≡ num degree i = was.restores.bounds i
+    ∙ cond-false (has (rows iw from k) i) (cond (in_front nv i) (bound i) (num degree i)) (num degree i) fresh in
+    let last_same : num c.loop-p.last i ≡ num c.args.last.now i = was.lasts i named fresh in
+    let size_same = was.restores.sizes in let long = was.lengths in
+    let border : ℕ = c.args.border in let left : ℕ = c.args.left in let met : List ℕ = marked_in nv (rows iw from k) in
+    let f : ℕ → ℕ → ℕ = λ m j. min m (bound j) in let order = c.requires.order in
+    elim c.if-is_marked.branch [
+      | then-is_marked w ↦ (
+          let here : in_front nv i ≡ true = sym mark_same ∙ sym c.is_marked.ensures ∙ w.if-is_marked.true in
+          let e = w.place_class-bound.ensures in let b : ℕ = w.place_class-bound.result in let old = c.requires.classes i named here in
+          let bound_is : b ≡ bound i = e.bound
+          ∙ ap (λ m. min (num c.loop-p.degree i + (border - m)) (left - m)) (size_same i)
+          ∙ ap (λ m. min (m + (border - size_of nv i)) (left - size_of nv i)) bound_same in
+          let tight : b < n = (let a = old.class in omega (arith, bound_is, a, order)) in
+          let grown = marked_next nv iw from k i is here in
+          let out_met : (lists : ℕ → List ℕ) → ((d x : ℕ) → d < n → has (lists d) x ≡ true → has (rows iw from c.args.count) x ≡ false) →
+          (d x : ℕ) → d < n → has (rows iw from c.args.count) x ≡ true → has (rows iw from k) x ≡ false →
+          has (put_all bound met lists d) x ≡ false
+          = λ lists out d x s m g. false_from_ne_true (has (put_all bound met lists d) x) (λ q. elim (put_gives bound met lists d x q) [
+            | inl u ↦ clash {P = ⊥} (filter_gives (in_front nv) (rows iw from k) x u).0 g
+            | inr u ↦ clash {P = ⊥} m (out d x s u)
+          ]) in
+          let hash_is : w.place_class-bound.new.hash ≡ set c.loop-p.hash (num c.args.last.now i) n = e.emptied
+          ∙ ap (λ m. set c.loop-p.hash m (length c.loop-p.next)) last_same ∙ ap (set c.loop-p.hash (num c.args.last.now i)) long.3 in
+          let v = e.lengths in
+          rw (
+            w.iw-is,
+            w.nv-is,
+            w.degree-is,
+            w.head-is,
+            w.next-is,
+            w.last-is,
+            w.hash-is,
+            w.end-is,
+            w.low-is,
+            w.copy_word.ensures,
+            next,
+          ) record {
+            lengths = (v.0 ∙ long.3, v.1 ∙ long.3, v.2 ∙ long.3, v.3 ∙ long.3, v.4 ∙ long.3, v.5 ∙ long.3);
+            filters = filters_yes n (in_front nv) (λ j. 0) 0 iw from from h p 0 at (omega arith) (let a = c.requires.inside in
+                omega (arith, a, at, l))
+                is_one small (ap (in_front nv) (sym is) ∙ here) (let z = cut_small 0 (omega arith) in omega (arith, z));
+            restores = record {
+              sizes = λ j. e.sizes j ∙ was.restores.sizes j;
+              marks = λ j. e.marks j ∙ ap (λ z. z && not (i == j)) (was.restores.marks j)
+                  ∙ ap (λ z. (in_front nv j && not (has (rows iw from k) j)) && not (z == j)) is
+                  ∙ marks_next (in_front nv j) (has (rows iw from k) j) (place (word iw (from + k)) == j)
+                  ∙ ap (λ z. in_front nv j && not z) (sym (rows_next iw from k j));
+              bounds = each_next iw from k (num degree) (num c.loop-p.degree) (λ x. cond (in_front nv x) (bound x) (num degree x))
+                  was.restores.bounds i is fresh (num w.place_class-bound.new.degree)
+                  (λ q. ap (λ ds. num ds i) e.degrees ∙ get_or-set_same c.loop-p.degree i b 0 (omega (arith, tiny, long)) ∙ bound_is
+                  ∙ sym (cond-true (in_front nv i) (bound i) (num degree i) here))
+                  (λ x ne. ap (λ ds. num ds x) e.degrees ∙ get_or-set_other c.loop-p.degree i x b 0 ne);
+              least_is = w.min-low.ensures ∙ ap (λ m. min m b) was.restores.least_is ∙ ap (min (fold f c.args.least met)) bound_is
+                  ∙ sym (ap (fold f c.args.least) grown ∙ fold-append f c.args.least met (i ∷ []));
+            };
+            lasts = λ x m g. let q = rows_fresh nv iw from k i is x g in let given = c.requires.linked in
+                e.lasts x q.0 (no_head n c.loop-p.head c.loop-p.next c.loop-p.last c.loop-p.degree (put_all bound met given.0) b x
+                (was.linked given.0 given.2 given.1) tight (rows_small n iw from c.args.count c.requires.names x m)
+                (out_met given.0 given.2 b x tight m q.1)) ∙ was.lasts x m q.1;
+            empties = subst (Emptying n iw from c.args.hash.now (k + 1)) (sym hash_is)
+                (emptying_clears n iw nv from c.args.count c.args.hash.now c.args.last.now c.requires.heads k i is
+                c.loop-p.hash was.empties old.key long.5);
+            linked = λ lists out g.
+                let before = subst (λ m. DegreeLists m c.loop-p.head c.loop-p.next c.loop-p.last c.loop-p.degree (put_all bound met lists))
+                (sym long.3) (was.linked lists out g) in
+                let put = e.linked (put_all bound met lists) (λ d s. out_met lists out d i (omega (arith, s, long)) named fresh) before in
+                lists_same n _ _ _ _ (λ d. cond (d == b) (i ∷ put_all bound met lists d) (put_all bound met lists d)) _
+                (λ d s. ap (λ m. cond (d == m) (i ∷ put_all bound met lists d) (put_all bound met lists d)) bound_is
+                ∙ put_more bound met i lists d
+                ∙ ap (λ xs. put_all bound xs lists d) (sym grown))
+                (subst (λ m. DegreeLists m w.place_class-bound.new.head w.place_class-bound.new.next w.place_class-bound.new.last
+                w.place_class-bound.new.degree (λ d. cond (d == b) (i ∷ put_all bound met lists d)
+                (put_all bound met lists d))) long.3 put);
+          }
+          )
+      | else-is_marked w ↦ (
+          let none : in_front nv i ≡ false = sym mark_same ∙ sym c.is_marked.ensures ∙ w.if-is_marked.false in
+          let same_met = marked_skip nv iw from k i is none in
+          rw (w.iw-is, w.nv-is, w.degree-is, w.head-is, w.next-is, w.last-is, w.hash-is, w.end-is, w.low-is, next) record {
+            lengths = long;
+            filters = filters_no n (in_front nv) (λ j. 0) 0 iw from from h (ap (in_front nv) (sym is) ∙ none);
+            restores = record {
+              sizes = was.restores.sizes;
+              marks = λ j. elim (cases_eq j i) [
+                | inl q ↦ was.restores.marks j ∙ ap (λ z. z && not (has (rows iw from k) j)) (ap (in_front nv) q ∙ none)
+                    ∙ sym (ap (λ z. z && not (has (rows iw from (k + 1)) j)) (ap (in_front nv) q ∙ none))
+                | inr ne ↦ was.restores.marks j ∙ ap (λ z. in_front nv j && not z) (sym (rows_other nv iw from k i is j ne))
+              ];
+              bounds = each_next iw from k (num degree) (num c.loop-p.degree) (λ x. cond (in_front nv x) (bound x) (num degree x))
+                  was.restores.bounds i is fresh (num c.loop-p.degree)
+                  (λ q. q ∙ sym (cond-false (in_front nv i) (bound i) (num degree i) none)) (λ x ne. refl);
+              least_is = was.restores.least_is ∙ sym (ap (fold f c.args.least) same_met);
+            };
+            lasts = λ x m g. was.lasts x m (rows_fresh nv iw from k i is x g).1;
+            empties = emptying_skips n iw nv from c.args.count c.args.hash.now c.args.last.now c.requires.heads k i is
+                c.loop-p.hash was.empties none;
+            linked = λ lists out g. subst (λ xs. DegreeLists n c.loop-p.head c.loop-p.next c.loop-p.last c.loop-p.degree
+                (put_all bound xs lists))
+                (sym same_met) (was.linked lists out g);
+          }
+          )
+    ]
+
+pub returns-clause-filters : goal.returns-clause-filters
+returns-clause-filters g c =
+    let t = c.loop-p-test.false in let after : c.args.from ≤ c.loop-p.p = c.loop-p.auto.p in
+    let past : c.loop-p.p ≤ c.args.from + c.args.count = c.loop-p.auto.p-end (omega arith) in
+    let all : c.loop-p.p - c.args.from ≡ c.args.count = omega (arith, t, after, past) in
+    subst (λ m. Filters (length c.args.next.now) (in_front c.args.nv.now) (λ j. 0) 0 c.args.iw.now c.args.from m c.args.from c.loop-p.iw
+    c.loop-p.end 0) all c.loop-p.invariant.filters
+
+pub returns-clause-restores : goal.returns-clause-restores
+returns-clause-restores g c =
+    let t = c.loop-p-test.false in let after : c.args.from ≤ c.loop-p.p = c.loop-p.auto.p in
+    let past : c.loop-p.p ≤ c.args.from + c.args.count = c.loop-p.auto.p-end (omega arith) in
+    let all : c.loop-p.p - c.args.from ≡ c.args.count = omega (arith, t, after, past) in
+    subst (λ m. Restores (rows c.args.iw.now c.args.from m) c.args.border c.args.left c.args.least c.args.nv.now c.args.degree.now
+    c.loop-p.nv c.loop-p.degree c.loop-p.low) all c.loop-p.invariant.restores
+
+pub returns-clause-empty : goal.returns-clause-empty
+returns-clause-empty g c =
+    let t = c.loop-p-test.false in let after : c.args.from ≤ c.loop-p.p = c.loop-p.auto.p in
+    let past : c.loop-p.p ≤ c.args.from + c.args.count = c.loop-p.auto.p-end (omega arith) in
+    let all : c.loop-p.p - c.args.from ≡ c.args.count = omega (arith, t, after, past) in
+    emptying_all (length c.args.next.now) c.args.iw.now c.args.nv.now c.args.from c.args.count c.args.hash.now c.args.last.now
+    c.requires.heads c.loop-p.hash (subst (λ m. Emptying (length c.args.next.now) c.args.iw.now c.args.from c.args.hash.now m c.loop-p.hash)
+    all c.loop-p.invariant.empties)
+
+pub returns-clause-linked : goal.returns-clause-linked
+returns-clause-linked g c lists out h =
+    let t = c.loop-p-test.false in let after : c.args.from ≤ c.loop-p.p = c.loop-p.auto.p in
+    let past : c.loop-p.p ≤ c.args.from + c.args.count = c.loop-p.auto.p-end (omega arith) in
+    let all : c.loop-p.p - c.args.from ≡ c.args.count = omega (arith, t, after, past) in
+    subst (λ m. DegreeLists (length c.args.next.now) c.loop-p.head c.loop-p.next c.loop-p.last c.loop-p.degree
+    (put_all (bound_in c.args.border c.args.left c.args.nv.now c.args.degree.now) (marked_in c.args.nv.now
+    (rows c.args.iw.now c.args.from m)) lists))
+    all (c.loop-p.invariant.linked lists out h)

@@ -1,0 +1,194 @@
+use Rattle.std.proofs.Common.{ℕ, ℤ, List, ◌≡◌, ◌<◌, ◌≤◌, ◌+◌, ◌-◌, sym, ap, subst, ◌∙◌, arith, length, flat_map}
+use Rattle.amd_places.specs.Words.{num, word, place, is_place, start, classes, rows}
+use Rattle.amd_places.specs.Element.{members_at, elements_at, variables_at}
+use Rattle.amd_places.proofs.RowLists.{rows_none}
+use Rattle.amd_places.specs.Room.{Meets}
+use Rattle.amd_places.proofs.Building.{own_word, own_element, own_variables}
+use Rattle.amd_places.proofs.Meeting.{meets_none, meets_element, meets_front_sizes, meets_front_is, meets_front_left}
+use Rattle.amd_places.proofs.room.meet_front.Goals as goal
+
+pub loop-p-init : goal.loop-p-init
+loop-p-init g c = let z : c.named-from.result - c.named-from.result ≡ 0 = omega arith in
+    subst (λ xs. Meets c.enter.new.nv (flat_map (λ e. classes c.args.nv.now (members_at c.args.iw.now c.args.pe.now c.args.len.now e)) xs)
+    c.args.left c.enter.new.nv c.args.left)
+    (sym (ap (rows c.args.iw.now c.named-from.result) z ∙ rows_none c.args.iw.now c.named-from.result))
+    (meets_none c.enter.new.nv c.args.left)
+
+pub named-e-requires-clause-is_one : goal.named-e-requires-clause-is_one
+named-e-requires-clause-is_one g c =
+    let iw : List ℤ = c.args.iw.now in let nv : List ℤ = c.args.nv.now in let pe : List ℤ = c.args.pe.now in
+    let len : List ℕ = c.args.len.now in let pivot : ℕ = c.args.pivot in let m : ℕ = c.args.n_elements in
+    let from : ℕ = c.named-from.result in let is : from ≡ start pe pivot = c.named-from.ensures in
+    let p : ℕ = c.loop-p.p in let k : ℕ = p - from in let after : from ≤ p = c.loop-p.auto.p in let t = c.loop-p-test.true in
+    let at : from + k ≡ p = omega (arith, after) in let l : k < m = omega (arith, after, t) in
+    let next : p + 1 - from ≡ k + 1 = omega (arith, after) in let there : start pe pivot + k ≡ p = omega (arith, at, is) in
+    let word_k = own_word iw pe len (length nv) (length iw) pivot m c.requires.elements c.requires.laid k l in
+    let laid = own_element iw pe len (length nv) (length iw) pivot m c.requires.elements c.requires.laid k l in
+    ap (λ q. is_place (word iw q)) (sym there) ∙ word_k.0
+
+pub named-first-requires-clause-inside : goal.named-first-requires-clause-inside
+named-first-requires-clause-inside g c =
+    let iw : List ℤ = c.args.iw.now in let nv : List ℤ = c.args.nv.now in let pe : List ℤ = c.args.pe.now in
+    let len : List ℕ = c.args.len.now in let pivot : ℕ = c.args.pivot in let m : ℕ = c.args.n_elements in
+    let from : ℕ = c.named-from.result in let is : from ≡ start pe pivot = c.named-from.ensures in
+    let p : ℕ = c.loop-p.p in let k : ℕ = p - from in let after : from ≤ p = c.loop-p.auto.p in let t = c.loop-p-test.true in
+    let at : from + k ≡ p = omega (arith, after) in let l : k < m = omega (arith, after, t) in
+    let next : p + 1 - from ≡ k + 1 = omega (arith, after) in let there : start pe pivot + k ≡ p = omega (arith, at, is) in
+    let word_k = own_word iw pe len (length nv) (length iw) pivot m c.requires.elements c.requires.laid k l in
+    let laid = own_element iw pe len (length nv) (length iw) pivot m c.requires.elements c.requires.laid k l in
+    let e : ℕ = place (word iw (start pe pivot + k)) in
+    let e_is : c.named-e.result ≡ e = c.named-e.ensures ∙ ap (λ q. place (word iw q)) (sym there) in
+    let small = word_k.1 in let long = c.requires.lengths.0 in omega (arith, small, e_is, long)
+
+pub named-first-requires-clause-is_one : goal.named-first-requires-clause-is_one
+named-first-requires-clause-is_one g c =
+    let iw : List ℤ = c.args.iw.now in let nv : List ℤ = c.args.nv.now in let pe : List ℤ = c.args.pe.now in
+    let len : List ℕ = c.args.len.now in let pivot : ℕ = c.args.pivot in let m : ℕ = c.args.n_elements in
+    let from : ℕ = c.named-from.result in let is : from ≡ start pe pivot = c.named-from.ensures in
+    let p : ℕ = c.loop-p.p in let k : ℕ = p - from in let after : from ≤ p = c.loop-p.auto.p in let t = c.loop-p-test.true in
+    let at : from + k ≡ p = omega (arith, after) in let l : k < m = omega (arith, after, t) in
+    let next : p + 1 - from ≡ k + 1 = omega (arith, after) in let there : start pe pivot + k ≡ p = omega (arith, at, is) in
+    let word_k = own_word iw pe len (length nv) (length iw) pivot m c.requires.elements c.requires.laid k l in
+    let laid = own_element iw pe len (length nv) (length iw) pivot m c.requires.elements c.requires.laid k l in
+    let e : ℕ = place (word iw (start pe pivot + k)) in
+    let e_is : c.named-e.result ≡ e = c.named-e.ensures ∙ ap (λ q. place (word iw q)) (sym there) in
+    ap (λ z. is_place (word pe z)) e_is ∙ laid.0
+
+pub figure_at-requires : goal.figure_at-requires
+figure_at-requires g c =
+    let iw : List ℤ = c.args.iw.now in let nv : List ℤ = c.args.nv.now in let pe : List ℤ = c.args.pe.now in
+    let len : List ℕ = c.args.len.now in let pivot : ℕ = c.args.pivot in let m : ℕ = c.args.n_elements in
+    let from : ℕ = c.named-from.result in let is : from ≡ start pe pivot = c.named-from.ensures in
+    let p : ℕ = c.loop-p.p in let k : ℕ = p - from in let after : from ≤ p = c.loop-p.auto.p in let t = c.loop-p-test.true in
+    let at : from + k ≡ p = omega (arith, after) in let l : k < m = omega (arith, after, t) in
+    let next : p + 1 - from ≡ k + 1 = omega (arith, after) in let there : start pe pivot + k ≡ p = omega (arith, at, is) in
+    let word_k = own_word iw pe len (length nv) (length iw) pivot m c.requires.elements c.requires.laid k l in
+    let laid = own_element iw pe len (length nv) (length iw) pivot m c.requires.elements c.requires.laid k l in
+    let e : ℕ = place (word iw (start pe pivot + k)) in
+    let e_is : c.named-e.result ≡ e = c.named-e.ensures ∙ ap (λ q. place (word iw q)) (sym there) in
+    let small = word_k.1 in let long = c.requires.lengths.1 in omega (arith, small, e_is, long)
+
+pub meet_all-now-requires-clause-inside : goal.meet_all-now-requires-clause-inside
+meet_all-now-requires-clause-inside g c =
+    let iw : List ℤ = c.args.iw.now in let nv : List ℤ = c.args.nv.now in let pe : List ℤ = c.args.pe.now in
+    let len : List ℕ = c.args.len.now in let pivot : ℕ = c.args.pivot in let m : ℕ = c.args.n_elements in
+    let from : ℕ = c.named-from.result in let is : from ≡ start pe pivot = c.named-from.ensures in
+    let p : ℕ = c.loop-p.p in let k : ℕ = p - from in let after : from ≤ p = c.loop-p.auto.p in let t = c.loop-p-test.true in
+    let at : from + k ≡ p = omega (arith, after) in let l : k < m = omega (arith, after, t) in
+    let next : p + 1 - from ≡ k + 1 = omega (arith, after) in let there : start pe pivot + k ≡ p = omega (arith, at, is) in
+    let word_k = own_word iw pe len (length nv) (length iw) pivot m c.requires.elements c.requires.laid k l in
+    let laid = own_element iw pe len (length nv) (length iw) pivot m c.requires.elements c.requires.laid k l in
+    let e : ℕ = place (word iw (start pe pivot + k)) in
+    let e_is : c.named-e.result ≡ e = c.named-e.ensures ∙ ap (λ q. place (word iw q)) (sym there) in
+    let first_is : c.named-first.result ≡ start pe e = c.named-first.ensures ∙ ap (start pe) e_is in
+    let count_is : c.figure_at.result ≡ num len e = c.figure_at.ensures.is ∙ ap (num len) e_is in
+    let fits = laid.1 in omega (arith, first_is, count_is, fits)
+
+pub meet_all-now-requires-clause-names : goal.meet_all-now-requires-clause-names
+meet_all-now-requires-clause-names g c =
+    let iw : List ℤ = c.args.iw.now in let nv : List ℤ = c.args.nv.now in let pe : List ℤ = c.args.pe.now in
+    let len : List ℕ = c.args.len.now in let pivot : ℕ = c.args.pivot in let m : ℕ = c.args.n_elements in
+    let from : ℕ = c.named-from.result in let is : from ≡ start pe pivot = c.named-from.ensures in
+    let p : ℕ = c.loop-p.p in let k : ℕ = p - from in let after : from ≤ p = c.loop-p.auto.p in let t = c.loop-p-test.true in
+    let at : from + k ≡ p = omega (arith, after) in let l : k < m = omega (arith, after, t) in
+    let next : p + 1 - from ≡ k + 1 = omega (arith, after) in let there : start pe pivot + k ≡ p = omega (arith, at, is) in
+    let word_k = own_word iw pe len (length nv) (length iw) pivot m c.requires.elements c.requires.laid k l in
+    let laid = own_element iw pe len (length nv) (length iw) pivot m c.requires.elements c.requires.laid k l in
+    let e : ℕ = place (word iw (start pe pivot + k)) in
+    let e_is : c.named-e.result ≡ e = c.named-e.ensures ∙ ap (λ q. place (word iw q)) (sym there) in
+    let first_is : c.named-first.result ≡ start pe e = c.named-first.ensures ∙ ap (start pe) e_is in
+    let count_is : c.figure_at.result ≡ num len e = c.figure_at.ensures.is ∙ ap (num len) e_is in
+    let wide : length c.loop-p.nv ≡ length nv = c.loop-p.invariant.wide ∙ c.enter.ensures.long in
+    λ j q. let a = laid.2 j (omega (arith, q, count_is)) in
+    let same : c.named-first.result + j ≡ start pe e + j = omega (arith, first_is) in
+    (ap (λ s. is_place (word iw s)) same ∙ a.0, (let b = ap (λ s. place (word iw s)) same in let d = a.1 in omega (arith, b, d, wide)))
+
+pub loop-p-preserved : goal.loop-p-preserved
+loop-p-preserved g c =
+    let iw : List ℤ = c.args.iw.now in let nv : List ℤ = c.args.nv.now in let pe : List ℤ = c.args.pe.now in
+    let len : List ℕ = c.args.len.now in let pivot : ℕ = c.args.pivot in let m : ℕ = c.args.n_elements in
+    let from : ℕ = c.named-from.result in let is : from ≡ start pe pivot = c.named-from.ensures in
+    let p : ℕ = c.loop-p.p in let k : ℕ = p - from in let after : from ≤ p = c.loop-p.auto.p in let t = c.loop-p-test.true in
+    let at : from + k ≡ p = omega (arith, after) in let l : k < m = omega (arith, after, t) in
+    let next : p + 1 - from ≡ k + 1 = omega (arith, after) in let there : start pe pivot + k ≡ p = omega (arith, at, is) in
+    let word_k = own_word iw pe len (length nv) (length iw) pivot m c.requires.elements c.requires.laid k l in
+    let laid = own_element iw pe len (length nv) (length iw) pivot m c.requires.elements c.requires.laid k l in
+    let e : ℕ = place (word iw (start pe pivot + k)) in
+    let e_is : c.named-e.result ≡ e = c.named-e.ensures ∙ ap (λ q. place (word iw q)) (sym there) in
+    let first_is : c.named-first.result ≡ start pe e = c.named-first.ensures ∙ ap (start pe) e_is in
+    let count_is : c.figure_at.result ≡ num len e = c.figure_at.ensures.is ∙ ap (num len) e_is in
+    let f : (ℕ → List ℕ) = λ e. classes nv (members_at iw pe len e) in
+    let was : Meets c.enter.new.nv (flat_map f (rows iw (start pe pivot) k)) c.args.left c.loop-p.nv c.loop-p.now =
+    subst (λ s. Meets c.enter.new.nv (flat_map f (rows iw s k)) c.args.left c.loop-p.nv c.loop-p.now) is c.loop-p.invariant in
+    subst (λ x. Meets c.enter.new.nv (flat_map f (rows iw from x)) c.args.left c.meet_all-now.new.nv c.meet_all-now.result) (sym next)
+    (subst (λ s. Meets c.enter.new.nv (flat_map f (rows iw s (k + 1))) c.args.left c.meet_all-now.new.nv c.meet_all-now.result) (sym is)
+    (meets_element iw nv c.enter.new.nv pe len pivot m c.enter.ensures.sizes k c.named-first.result c.figure_at.result first_is count_is
+    was c.meet_all-now.ensures))
+
+pub meet_all-requires-clause-names : goal.meet_all-requires-clause-names
+meet_all-requires-clause-names g c =
+    let iw : List ℤ = c.args.iw.now in let nv : List ℤ = c.args.nv.now in let pe : List ℤ = c.args.pe.now in
+    let len : List ℕ = c.args.len.now in let pivot : ℕ = c.args.pivot in let m : ℕ = c.args.n_elements in
+    let from : ℕ = c.named-from.result in let is : from ≡ start pe pivot = c.named-from.ensures in let t = c.loop-p-test.false in
+    let after : from ≤ c.loop-p.p = c.loop-p.auto.p in let past : c.loop-p.p ≤ from + m = c.loop-p.auto.p-end (omega arith) in
+    let all : c.loop-p.p - from ≡ m = omega (arith, t, after, past) in let place_is : from + m ≡ start pe pivot + m = omega (arith, is) in
+    let read = c.figure_at-2.ensures.is in let count_is : c.figure_at-2.result - m ≡ num len pivot - m = omega (arith, read) in
+    let rest = own_variables iw pe len (length nv) (length iw) pivot m c.requires.elements c.requires.laid in
+    let wide : length c.loop-p.nv ≡ length nv = c.loop-p.invariant.wide ∙ c.enter.ensures.long in
+    λ j q. let a = rest.1 j (omega (arith, q, count_is)) in
+    let same : from + m + j ≡ start pe pivot + m + j = omega (arith, place_is) in
+    (ap (λ s. is_place (word iw s)) same ∙ a.0, (let b = ap (λ s. place (word iw s)) same in let d = a.1 in omega (arith, b, d, wide)))
+
+pub returns-clause-sizes : goal.returns-clause-sizes
+returns-clause-sizes g c =
+    let iw : List ℤ = c.args.iw.now in let nv : List ℤ = c.args.nv.now in let pe : List ℤ = c.args.pe.now in
+    let len : List ℕ = c.args.len.now in let pivot : ℕ = c.args.pivot in let m : ℕ = c.args.n_elements in
+    let from : ℕ = c.named-from.result in let is : from ≡ start pe pivot = c.named-from.ensures in let t = c.loop-p-test.false in
+    let after : from ≤ c.loop-p.p = c.loop-p.auto.p in let past : c.loop-p.p ≤ from + m = c.loop-p.auto.p-end (omega arith) in
+    let all : c.loop-p.p - from ≡ m = omega (arith, t, after, past) in let place_is : from + m ≡ start pe pivot + m = omega (arith, is) in
+    let read = c.figure_at-2.ensures.is in let count_is : c.figure_at-2.result - m ≡ num len pivot - m = omega (arith, read) in
+    let f : (ℕ → List ℕ) = λ e. classes nv (members_at iw pe len e) in let nv1 : List ℤ = c.enter.new.nv in
+    let was : Meets nv1 (flat_map f (elements_at iw pe pivot m)) c.args.left c.loop-p.nv c.loop-p.now =
+    subst (λ x. Meets nv1 (flat_map f (rows iw (start pe pivot) x)) c.args.left c.loop-p.nv c.loop-p.now) all
+    (subst (λ s. Meets nv1 (flat_map f (rows iw s (c.loop-p.p - from))) c.args.left c.loop-p.nv c.loop-p.now) is c.loop-p.invariant) in
+    let last : Meets c.loop-p.nv (classes c.loop-p.nv (variables_at iw pe len pivot m)) c.loop-p.now c.meet_all.new.nv c.meet_all.result =
+    subst (λ x. Meets c.loop-p.nv (classes c.loop-p.nv (rows iw (start pe pivot + m) x)) c.loop-p.now c.meet_all.new.nv c.meet_all.result)
+    count_is (subst (λ s. Meets c.loop-p.nv (classes c.loop-p.nv (rows iw s (c.figure_at-2.result - m))) c.loop-p.now c.meet_all.new.nv
+    c.meet_all.result) place_is c.meet_all.ensures) in
+    meets_front_sizes iw nv nv1 pe len pivot m c.enter.ensures.sizes c.enter.ensures.front c.requires.clear was last
+
+pub returns-clause-front : goal.returns-clause-front
+returns-clause-front g c =
+    let iw : List ℤ = c.args.iw.now in let nv : List ℤ = c.args.nv.now in let pe : List ℤ = c.args.pe.now in
+    let len : List ℕ = c.args.len.now in let pivot : ℕ = c.args.pivot in let m : ℕ = c.args.n_elements in
+    let from : ℕ = c.named-from.result in let is : from ≡ start pe pivot = c.named-from.ensures in let t = c.loop-p-test.false in
+    let after : from ≤ c.loop-p.p = c.loop-p.auto.p in let past : c.loop-p.p ≤ from + m = c.loop-p.auto.p-end (omega arith) in
+    let all : c.loop-p.p - from ≡ m = omega (arith, t, after, past) in let place_is : from + m ≡ start pe pivot + m = omega (arith, is) in
+    let read = c.figure_at-2.ensures.is in let count_is : c.figure_at-2.result - m ≡ num len pivot - m = omega (arith, read) in
+    let f : (ℕ → List ℕ) = λ e. classes nv (members_at iw pe len e) in let nv1 : List ℤ = c.enter.new.nv in
+    let was : Meets nv1 (flat_map f (elements_at iw pe pivot m)) c.args.left c.loop-p.nv c.loop-p.now =
+    subst (λ x. Meets nv1 (flat_map f (rows iw (start pe pivot) x)) c.args.left c.loop-p.nv c.loop-p.now) all
+    (subst (λ s. Meets nv1 (flat_map f (rows iw s (c.loop-p.p - from))) c.args.left c.loop-p.nv c.loop-p.now) is c.loop-p.invariant) in
+    let last : Meets c.loop-p.nv (classes c.loop-p.nv (variables_at iw pe len pivot m)) c.loop-p.now c.meet_all.new.nv c.meet_all.result =
+    subst (λ x. Meets c.loop-p.nv (classes c.loop-p.nv (rows iw (start pe pivot + m) x)) c.loop-p.now c.meet_all.new.nv c.meet_all.result)
+    count_is (subst (λ s. Meets c.loop-p.nv (classes c.loop-p.nv (rows iw s (c.figure_at-2.result - m))) c.loop-p.now c.meet_all.new.nv
+    c.meet_all.result) place_is c.meet_all.ensures) in
+    meets_front_is iw nv nv1 pe len pivot m c.enter.ensures.sizes c.enter.ensures.front c.requires.clear was last
+
+pub returns-clause-left : goal.returns-clause-left
+returns-clause-left g c =
+    let iw : List ℤ = c.args.iw.now in let nv : List ℤ = c.args.nv.now in let pe : List ℤ = c.args.pe.now in
+    let len : List ℕ = c.args.len.now in let pivot : ℕ = c.args.pivot in let m : ℕ = c.args.n_elements in
+    let from : ℕ = c.named-from.result in let is : from ≡ start pe pivot = c.named-from.ensures in let t = c.loop-p-test.false in
+    let after : from ≤ c.loop-p.p = c.loop-p.auto.p in let past : c.loop-p.p ≤ from + m = c.loop-p.auto.p-end (omega arith) in
+    let all : c.loop-p.p - from ≡ m = omega (arith, t, after, past) in let place_is : from + m ≡ start pe pivot + m = omega (arith, is) in
+    let read = c.figure_at-2.ensures.is in let count_is : c.figure_at-2.result - m ≡ num len pivot - m = omega (arith, read) in
+    let f : (ℕ → List ℕ) = λ e. classes nv (members_at iw pe len e) in let nv1 : List ℤ = c.enter.new.nv in
+    let was : Meets nv1 (flat_map f (elements_at iw pe pivot m)) c.args.left c.loop-p.nv c.loop-p.now =
+    subst (λ x. Meets nv1 (flat_map f (rows iw (start pe pivot) x)) c.args.left c.loop-p.nv c.loop-p.now) all
+    (subst (λ s. Meets nv1 (flat_map f (rows iw s (c.loop-p.p - from))) c.args.left c.loop-p.nv c.loop-p.now) is c.loop-p.invariant) in
+    let last : Meets c.loop-p.nv (classes c.loop-p.nv (variables_at iw pe len pivot m)) c.loop-p.now c.meet_all.new.nv c.meet_all.result =
+    subst (λ x. Meets c.loop-p.nv (classes c.loop-p.nv (rows iw (start pe pivot + m) x)) c.loop-p.now c.meet_all.new.nv c.meet_all.result)
+    count_is (subst (λ s. Meets c.loop-p.nv (classes c.loop-p.nv (rows iw s (c.figure_at-2.result - m))) c.loop-p.now c.meet_all.new.nv
+    c.meet_all.result) place_is c.meet_all.ensures) in
+    meets_front_left iw nv nv1 pe len pivot m c.enter.ensures.sizes c.enter.ensures.front c.requires.clear was last

@@ -1,0 +1,155 @@
+use Rattle.std.proofs.Common.{ℕ, ℤ, List, ◌∷◌, ◌≡◌, ◌<◌, ◌≤◌, ◌+◌, ◌-◌, sym, ap, subst, ◌∙◌, arith, length, flat_map}
+use Rattle.amd_places.specs.Words.{num, word, place, is_place, start, rows}
+use Rattle.amd_places.specs.Element.{members_at, elements_at}
+use Rattle.amd_places.proofs.RowLists.{rows_none}
+use Rattle.amd_places.specs.Room.{Unmarks}
+use Rattle.amd_places.proofs.Building.{own_word, own_element, own_variables, flat_next}
+use Rattle.amd_places.proofs.Meeting.{unmarks_one, unmarks_then}
+use Rattle.amd_places.proofs.room.unmark_front.Goals as goal
+
+pub loop-p-init : goal.loop-p-init
+loop-p-init g c = let z : c.named-from.result - c.named-from.result ≡ 0 = omega arith in
+    subst (λ xs. Unmarks c.args.nv.now (c.args.pivot ∷ flat_map (members_at c.args.iw.now c.args.pe.now c.args.len.now) xs) c.leave.new.nv)
+    (sym (ap (rows c.args.iw.now c.named-from.result) z ∙ rows_none c.args.iw.now c.named-from.result))
+    (unmarks_one c.args.nv.now c.leave.new.nv c.args.pivot c.leave.ensures.long c.leave.ensures.sizes c.leave.ensures.front)
+
+pub named-e-requires-clause-is_one : goal.named-e-requires-clause-is_one
+named-e-requires-clause-is_one g c =
+    let iw : List ℤ = c.args.iw.now in let nv : List ℤ = c.args.nv.now in let pe : List ℤ = c.args.pe.now in
+    let len : List ℕ = c.args.len.now in let pivot : ℕ = c.args.pivot in let m : ℕ = c.args.n_elements in
+    let from : ℕ = c.named-from.result in let is : from ≡ start pe pivot = c.named-from.ensures in
+    let p : ℕ = c.loop-p.p in let k : ℕ = p - from in let after : from ≤ p = c.loop-p.auto.p in let t = c.loop-p-test.true in
+    let at : from + k ≡ p = omega (arith, after) in let l : k < m = omega (arith, after, t) in
+    let next : p + 1 - from ≡ k + 1 = omega (arith, after) in let there : start pe pivot + k ≡ p = omega (arith, at, is) in
+    let word_k = own_word iw pe len (length nv) (length iw) pivot m c.requires.elements c.requires.laid k l in
+    let laid = own_element iw pe len (length nv) (length iw) pivot m c.requires.elements c.requires.laid k l in
+    ap (λ q. is_place (word iw q)) (sym there) ∙ word_k.0
+
+pub named-first-requires-clause-inside : goal.named-first-requires-clause-inside
+named-first-requires-clause-inside g c =
+    let iw : List ℤ = c.args.iw.now in let nv : List ℤ = c.args.nv.now in let pe : List ℤ = c.args.pe.now in
+    let len : List ℕ = c.args.len.now in let pivot : ℕ = c.args.pivot in let m : ℕ = c.args.n_elements in
+    let from : ℕ = c.named-from.result in let is : from ≡ start pe pivot = c.named-from.ensures in
+    let p : ℕ = c.loop-p.p in let k : ℕ = p - from in let after : from ≤ p = c.loop-p.auto.p in let t = c.loop-p-test.true in
+    let at : from + k ≡ p = omega (arith, after) in let l : k < m = omega (arith, after, t) in
+    let next : p + 1 - from ≡ k + 1 = omega (arith, after) in let there : start pe pivot + k ≡ p = omega (arith, at, is) in
+    let word_k = own_word iw pe len (length nv) (length iw) pivot m c.requires.elements c.requires.laid k l in
+    let laid = own_element iw pe len (length nv) (length iw) pivot m c.requires.elements c.requires.laid k l in
+    let e : ℕ = place (word iw (start pe pivot + k)) in
+    let e_is : c.named-e.result ≡ e = c.named-e.ensures ∙ ap (λ q. place (word iw q)) (sym there) in
+    let small = word_k.1 in let long = c.requires.lengths.0 in omega (arith, small, e_is, long)
+
+pub named-first-requires-clause-is_one : goal.named-first-requires-clause-is_one
+named-first-requires-clause-is_one g c =
+    let iw : List ℤ = c.args.iw.now in let nv : List ℤ = c.args.nv.now in let pe : List ℤ = c.args.pe.now in
+    let len : List ℕ = c.args.len.now in let pivot : ℕ = c.args.pivot in let m : ℕ = c.args.n_elements in
+    let from : ℕ = c.named-from.result in let is : from ≡ start pe pivot = c.named-from.ensures in
+    let p : ℕ = c.loop-p.p in let k : ℕ = p - from in let after : from ≤ p = c.loop-p.auto.p in let t = c.loop-p-test.true in
+    let at : from + k ≡ p = omega (arith, after) in let l : k < m = omega (arith, after, t) in
+    let next : p + 1 - from ≡ k + 1 = omega (arith, after) in let there : start pe pivot + k ≡ p = omega (arith, at, is) in
+    let word_k = own_word iw pe len (length nv) (length iw) pivot m c.requires.elements c.requires.laid k l in
+    let laid = own_element iw pe len (length nv) (length iw) pivot m c.requires.elements c.requires.laid k l in
+    let e : ℕ = place (word iw (start pe pivot + k)) in
+    let e_is : c.named-e.result ≡ e = c.named-e.ensures ∙ ap (λ q. place (word iw q)) (sym there) in
+    ap (λ z. is_place (word pe z)) e_is ∙ laid.0
+
+pub figure_at-requires : goal.figure_at-requires
+figure_at-requires g c =
+    let iw : List ℤ = c.args.iw.now in let nv : List ℤ = c.args.nv.now in let pe : List ℤ = c.args.pe.now in
+    let len : List ℕ = c.args.len.now in let pivot : ℕ = c.args.pivot in let m : ℕ = c.args.n_elements in
+    let from : ℕ = c.named-from.result in let is : from ≡ start pe pivot = c.named-from.ensures in
+    let p : ℕ = c.loop-p.p in let k : ℕ = p - from in let after : from ≤ p = c.loop-p.auto.p in let t = c.loop-p-test.true in
+    let at : from + k ≡ p = omega (arith, after) in let l : k < m = omega (arith, after, t) in
+    let next : p + 1 - from ≡ k + 1 = omega (arith, after) in let there : start pe pivot + k ≡ p = omega (arith, at, is) in
+    let word_k = own_word iw pe len (length nv) (length iw) pivot m c.requires.elements c.requires.laid k l in
+    let laid = own_element iw pe len (length nv) (length iw) pivot m c.requires.elements c.requires.laid k l in
+    let e : ℕ = place (word iw (start pe pivot + k)) in
+    let e_is : c.named-e.result ≡ e = c.named-e.ensures ∙ ap (λ q. place (word iw q)) (sym there) in
+    let small = word_k.1 in let long = c.requires.lengths.1 in omega (arith, small, e_is, long)
+
+pub unmark_all-requires-clause-inside : goal.unmark_all-requires-clause-inside
+unmark_all-requires-clause-inside g c =
+    let iw : List ℤ = c.args.iw.now in let nv : List ℤ = c.args.nv.now in let pe : List ℤ = c.args.pe.now in
+    let len : List ℕ = c.args.len.now in let pivot : ℕ = c.args.pivot in let m : ℕ = c.args.n_elements in
+    let from : ℕ = c.named-from.result in let is : from ≡ start pe pivot = c.named-from.ensures in
+    let p : ℕ = c.loop-p.p in let k : ℕ = p - from in let after : from ≤ p = c.loop-p.auto.p in let t = c.loop-p-test.true in
+    let at : from + k ≡ p = omega (arith, after) in let l : k < m = omega (arith, after, t) in
+    let next : p + 1 - from ≡ k + 1 = omega (arith, after) in let there : start pe pivot + k ≡ p = omega (arith, at, is) in
+    let word_k = own_word iw pe len (length nv) (length iw) pivot m c.requires.elements c.requires.laid k l in
+    let laid = own_element iw pe len (length nv) (length iw) pivot m c.requires.elements c.requires.laid k l in
+    let e : ℕ = place (word iw (start pe pivot + k)) in
+    let e_is : c.named-e.result ≡ e = c.named-e.ensures ∙ ap (λ q. place (word iw q)) (sym there) in
+    let first_is : c.named-first.result ≡ start pe e = c.named-first.ensures ∙ ap (start pe) e_is in
+    let count_is : c.figure_at.result ≡ num len e = c.figure_at.ensures.is ∙ ap (num len) e_is in
+    let fits = laid.1 in omega (arith, first_is, count_is, fits)
+
+pub unmark_all-requires-clause-names : goal.unmark_all-requires-clause-names
+unmark_all-requires-clause-names g c =
+    let iw : List ℤ = c.args.iw.now in let nv : List ℤ = c.args.nv.now in let pe : List ℤ = c.args.pe.now in
+    let len : List ℕ = c.args.len.now in let pivot : ℕ = c.args.pivot in let m : ℕ = c.args.n_elements in
+    let from : ℕ = c.named-from.result in let is : from ≡ start pe pivot = c.named-from.ensures in
+    let p : ℕ = c.loop-p.p in let k : ℕ = p - from in let after : from ≤ p = c.loop-p.auto.p in let t = c.loop-p-test.true in
+    let at : from + k ≡ p = omega (arith, after) in let l : k < m = omega (arith, after, t) in
+    let next : p + 1 - from ≡ k + 1 = omega (arith, after) in let there : start pe pivot + k ≡ p = omega (arith, at, is) in
+    let word_k = own_word iw pe len (length nv) (length iw) pivot m c.requires.elements c.requires.laid k l in
+    let laid = own_element iw pe len (length nv) (length iw) pivot m c.requires.elements c.requires.laid k l in
+    let e : ℕ = place (word iw (start pe pivot + k)) in
+    let e_is : c.named-e.result ≡ e = c.named-e.ensures ∙ ap (λ q. place (word iw q)) (sym there) in
+    let first_is : c.named-first.result ≡ start pe e = c.named-first.ensures ∙ ap (start pe) e_is in
+    let count_is : c.figure_at.result ≡ num len e = c.figure_at.ensures.is ∙ ap (num len) e_is in
+    let wide : length c.loop-p.nv ≡ length nv = c.loop-p.invariant.wide in
+    λ j q. let a = laid.2 j (omega (arith, q, count_is)) in
+    let same : c.named-first.result + j ≡ start pe e + j = omega (arith, first_is) in
+    (ap (λ s. is_place (word iw s)) same ∙ a.0, (let b = ap (λ s. place (word iw s)) same in let d = a.1 in omega (arith, b, d, wide)))
+
+pub loop-p-preserved : goal.loop-p-preserved
+loop-p-preserved g c =
+    let iw : List ℤ = c.args.iw.now in let nv : List ℤ = c.args.nv.now in let pe : List ℤ = c.args.pe.now in
+    let len : List ℕ = c.args.len.now in let pivot : ℕ = c.args.pivot in let m : ℕ = c.args.n_elements in
+    let from : ℕ = c.named-from.result in let is : from ≡ start pe pivot = c.named-from.ensures in
+    let p : ℕ = c.loop-p.p in let k : ℕ = p - from in let after : from ≤ p = c.loop-p.auto.p in let t = c.loop-p-test.true in
+    let at : from + k ≡ p = omega (arith, after) in let l : k < m = omega (arith, after, t) in
+    let next : p + 1 - from ≡ k + 1 = omega (arith, after) in let there : start pe pivot + k ≡ p = omega (arith, at, is) in
+    let word_k = own_word iw pe len (length nv) (length iw) pivot m c.requires.elements c.requires.laid k l in
+    let laid = own_element iw pe len (length nv) (length iw) pivot m c.requires.elements c.requires.laid k l in
+    let e : ℕ = place (word iw (start pe pivot + k)) in
+    let e_is : c.named-e.result ≡ e = c.named-e.ensures ∙ ap (λ q. place (word iw q)) (sym there) in
+    let first_is : c.named-first.result ≡ start pe e = c.named-first.ensures ∙ ap (start pe) e_is in
+    let count_is : c.figure_at.result ≡ num len e = c.figure_at.ensures.is ∙ ap (num len) e_is in
+    let f : (ℕ → List ℕ) = members_at iw pe len in
+    let was : Unmarks nv (pivot ∷ flat_map f (rows iw from k)) c.loop-p.nv = c.loop-p.invariant in
+    let list : rows iw c.named-first.result c.figure_at.result ≡ f (place (word iw (from + k))) =
+    ap (λ s. rows iw s c.figure_at.result) first_is ∙ ap (rows iw (start pe e)) count_is
+    ∙ ap (λ q. f (place (word iw q))) (there ∙ sym at) in
+    subst (λ x. Unmarks nv (pivot ∷ flat_map f (rows iw from x)) c.unmark_all.new.nv) (sym next)
+    (subst (λ xs. Unmarks nv (pivot ∷ xs) c.unmark_all.new.nv) (sym (flat_next f iw from k))
+    (unmarks_then was (subst (λ xs. Unmarks c.loop-p.nv xs c.unmark_all.new.nv) list c.unmark_all.ensures)))
+
+pub unmark_all-requires-2-clause-names : goal.unmark_all-requires-2-clause-names
+unmark_all-requires-2-clause-names g c =
+    let iw : List ℤ = c.args.iw.now in let nv : List ℤ = c.args.nv.now in let pe : List ℤ = c.args.pe.now in
+    let len : List ℕ = c.args.len.now in let pivot : ℕ = c.args.pivot in let m : ℕ = c.args.n_elements in
+    let from : ℕ = c.named-from.result in let is : from ≡ start pe pivot = c.named-from.ensures in let t = c.loop-p-test.false in
+    let after : from ≤ c.loop-p.p = c.loop-p.auto.p in let past : c.loop-p.p ≤ from + m = c.loop-p.auto.p-end (omega arith) in
+    let all : c.loop-p.p - from ≡ m = omega (arith, t, after, past) in let place_is : from + m ≡ start pe pivot + m = omega (arith, is) in
+    let read = c.figure_at-2.ensures.is in let count_is : c.figure_at-2.result - m ≡ num len pivot - m = omega (arith, read) in
+    let rest = own_variables iw pe len (length nv) (length iw) pivot m c.requires.elements c.requires.laid in
+    let wide : length c.loop-p.nv ≡ length nv = c.loop-p.invariant.wide in
+    λ j q. let a = rest.1 j (omega (arith, q, count_is)) in
+    let same : from + m + j ≡ start pe pivot + m + j = omega (arith, place_is) in
+    (ap (λ s. is_place (word iw s)) same ∙ a.0, (let b = ap (λ s. place (word iw s)) same in let d = a.1 in omega (arith, b, d, wide)))
+
+pub returns : goal.returns
+returns g c =
+    let iw : List ℤ = c.args.iw.now in let nv : List ℤ = c.args.nv.now in let pe : List ℤ = c.args.pe.now in
+    let len : List ℕ = c.args.len.now in let pivot : ℕ = c.args.pivot in let m : ℕ = c.args.n_elements in
+    let from : ℕ = c.named-from.result in let is : from ≡ start pe pivot = c.named-from.ensures in let t = c.loop-p-test.false in
+    let after : from ≤ c.loop-p.p = c.loop-p.auto.p in let past : c.loop-p.p ≤ from + m = c.loop-p.auto.p-end (omega arith) in
+    let all : c.loop-p.p - from ≡ m = omega (arith, t, after, past) in let place_is : from + m ≡ start pe pivot + m = omega (arith, is) in
+    let read = c.figure_at-2.ensures.is in let count_is : c.figure_at-2.result - m ≡ num len pivot - m = omega (arith, read) in
+    let f : (ℕ → List ℕ) = members_at iw pe len in
+    let was : Unmarks nv (pivot ∷ flat_map f (elements_at iw pe pivot m)) c.loop-p.nv =
+    subst (λ x. Unmarks nv (pivot ∷ flat_map f (rows iw (start pe pivot) x)) c.loop-p.nv) all
+    (subst (λ s. Unmarks nv (pivot ∷ flat_map f (rows iw s (c.loop-p.p - from))) c.loop-p.nv) is c.loop-p.invariant) in
+    unmarks_then was (subst (λ x. Unmarks c.loop-p.nv (rows iw (start pe pivot + m) x) c.unmark_all-2.new.nv) count_is
+    (subst (λ s. Unmarks c.loop-p.nv (rows iw s (c.figure_at-2.result - m)) c.unmark_all-2.new.nv) place_is c.unmark_all-2.ensures))

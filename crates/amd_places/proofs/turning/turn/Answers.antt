@@ -1,0 +1,265 @@
+-- The goals of turning::turn.
+use Rattle.std.proofs.Common.{ℕ, ℤ, List, true, ◌≡◌, ◌<◌, ◌+◌, ◌-◌, not, sym, ap, subst, ◌∙◌, arith, cond, length, filter, sum_by}
+use Rattle.amd_model.specs.Quotient.{has, Once}
+use Rattle.amd_places.specs.Words.{num, word, place, is_place, start, size_of, flip_of, rows}
+use Rattle.amd_places.specs.Chains.{DegreeLists}
+use Rattle.amd_places.specs.Counts.{counter, ends, settled, met}
+use Rattle.amd_places.specs.Renewal.{is_kept, is_outside}
+use Rattle.amd_places.specs.Layout.{list_in, Layout}
+use Rattle.amd_places.specs.Fronts.{RenewsFront}
+use Rattle.amd_places.proofs.FrontTurns.{turn_listed, left_me, left_list, left_laid, left_renewable, others_linked}
+use Rattle.amd_places.proofs.turning.turn.Goals as goal
+
+pub count_outside-requires : goal.count_outside-requires
+count_outside-requires g c =
+    let me : ℕ = c.args.me in let iw : List ℤ = c.args.iw.now in let pe : List ℤ = c.args.pe.now in let len : List ℕ = c.args.len.now in
+    let from : c.named-from.result ≡ start pe me = c.named-from.ensures in let count = c.figure_at-count.ensures.is in
+    let list : rows iw c.named-from.result c.figure_at-count.result ≡ list_in iw pe len me = ap
+    (λ s. rows iw s c.figure_at-count.result) from
+    ∙ ap (rows iw (start pe me)) count in
+    let a = c.requires.lengths in let b = c.requires.more_lengths in
+    let has_front : (i : ℕ) → has (rows iw c.named-from.result c.figure_at-count.result) i ≡ true →
+    has (list_in iw pe len me) i ≡ true = λ i h.
+    sym (ap (λ xs. has xs i) list) ∙ h in
+    record {
+      lengths = (a.0, a.1, a.3, b.0);
+      more_lengths = (b.1, b.2, b.3);
+      inside = (let e = c.requires.within in let f = c.requires.end in omega (arith, e, f, from, count));
+      small = c.requires.me.1;
+      front = λ k l. let e = c.requires.within in
+          subst (λ s. (is_place (word iw (s + k)) ≡ true) × (place (word iw (s + k)) < length c.args.w.now)) (sym from)
+          (c.requires.laid.words (start pe me + k) (omega (arith, e, l, count)));
+      once = subst Once (sym list) c.requires.once;
+      listed = λ i h. turn_listed c.requires.laid c.requires.end (c.requires.front i (has_front i h));
+      apart = λ i e h k. (c.requires.front i (has_front i h)).apart e (has_front e k);
+      bounds = λ i h. (c.requires.front i (has_front i h)).bound;
+      flag = c.requires.flag;
+      under = c.requires.under;
+      fits = c.requires.fits;
+      part = λ e s. let r = c.requires.part e s in let q = ap (λ xs. met iw pe c.args.e_len.now c.args.nv.now xs e) list in
+          omega (arith, r, q);
+    }
+
+pub renew_all-requires-clause-laid : goal.renew_all-requires-clause-laid
+renew_all-requires-clause-laid g c =
+    let me : ℕ = c.args.me in let iw : List ℤ = c.args.iw.now in let pe : List ℤ = c.args.pe.now in let len : List ℕ = c.args.len.now in
+    let from : c.named-from.result ≡ start pe me = c.named-from.ensures in let count = c.figure_at-count.ensures.is in
+    let list : rows iw c.named-from.result c.figure_at-count.result ≡ list_in iw pe len me = ap
+    (λ s. rows iw s c.figure_at-count.result) from
+    ∙ ap (rows iw (start pe me)) count in
+    let left : List ℤ = c.count_outside.new.pe in
+    let seen : ℕ → ℕ → ℕ = λ m e. counter c.args.flag (num c.args.w.now e) (num c.args.degree.now e) m in
+    let ended : (e : ℕ) → word left e ≡ cond (ends c.args.aggressive c.args.flag (seen (met iw pe c.args.e_len.now c.args.nv.now
+    (list_in iw pe len me) e) e))
+    (flip_of me) (word pe e) = λ e. c.count_outside.ensures.starts e
+    ∙ ap (λ xs. cond (ends c.args.aggressive c.args.flag (seen (met iw pe c.args.e_len.now c.args.nv.now xs e) e)) (flip_of me)
+    (word pe e)) list in
+    let counted : (e : ℕ) → num c.count_outside.new.w e
+    ≡ settled c.args.aggressive c.args.flag (seen (met iw pe c.args.e_len.now c.args.nv.now (list_in iw pe len me) e) e) = λ e.
+    c.count_outside.ensures.counted e
+    ∙ ap (λ xs. settled c.args.aggressive c.args.flag (seen (met iw pe c.args.e_len.now c.args.nv.now xs e) e)) list in
+    let long = c.count_outside.ensures.long.0 in
+    subst (λ n. Layout n iw left c.args.e_len.now len c.args.free) (sym long)
+    (left_laid c.args.aggressive c.args.flag c.requires.laid c.requires.flag c.requires.under c.requires.front left ended)
+
+pub renew_all-requires-clause-list : goal.renew_all-requires-clause-list
+renew_all-requires-clause-list g c =
+    let me : ℕ = c.args.me in let iw : List ℤ = c.args.iw.now in let pe : List ℤ = c.args.pe.now in let len : List ℕ = c.args.len.now in
+    let from : c.named-from.result ≡ start pe me = c.named-from.ensures in let count = c.figure_at-count.ensures.is in
+    let list : rows iw c.named-from.result c.figure_at-count.result ≡ list_in iw pe len me = ap
+    (λ s. rows iw s c.figure_at-count.result) from
+    ∙ ap (rows iw (start pe me)) count in
+    let left : List ℤ = c.count_outside.new.pe in
+    let seen : ℕ → ℕ → ℕ = λ m e. counter c.args.flag (num c.args.w.now e) (num c.args.degree.now e) m in
+    let ended : (e : ℕ) → word left e ≡ cond (ends c.args.aggressive c.args.flag (seen (met iw pe c.args.e_len.now c.args.nv.now
+    (list_in iw pe len me) e) e))
+    (flip_of me) (word pe e) = λ e. c.count_outside.ensures.starts e
+    ∙ ap (λ xs. cond (ends c.args.aggressive c.args.flag (seen (met iw pe c.args.e_len.now c.args.nv.now xs e) e)) (flip_of me)
+    (word pe e)) list in
+    let counted : (e : ℕ) → num c.count_outside.new.w e
+    ≡ settled c.args.aggressive c.args.flag (seen (met iw pe c.args.e_len.now c.args.nv.now (list_in iw pe len me) e) e) = λ e.
+    c.count_outside.ensures.counted e
+    ∙ ap (λ xs. settled c.args.aggressive c.args.flag (seen (met iw pe c.args.e_len.now c.args.nv.now xs e) e)) list in
+    let long = c.count_outside.ensures.long.0 in
+    ap is_place (left_me c.args.aggressive c.args.flag c.requires.laid c.requires.flag c.requires.under c.requires.front left ended)
+    ∙ c.requires.list
+
+pub renew_all-requires-clause-apart : goal.renew_all-requires-clause-apart
+renew_all-requires-clause-apart g c =
+    let me : ℕ = c.args.me in let iw : List ℤ = c.args.iw.now in let pe : List ℤ = c.args.pe.now in let len : List ℕ = c.args.len.now in
+    let from : c.named-from.result ≡ start pe me = c.named-from.ensures in let count = c.figure_at-count.ensures.is in
+    let list : rows iw c.named-from.result c.figure_at-count.result ≡ list_in iw pe len me = ap
+    (λ s. rows iw s c.figure_at-count.result) from
+    ∙ ap (rows iw (start pe me)) count in
+    let left : List ℤ = c.count_outside.new.pe in
+    let seen : ℕ → ℕ → ℕ = λ m e. counter c.args.flag (num c.args.w.now e) (num c.args.degree.now e) m in
+    let ended : (e : ℕ) → word left e ≡ cond (ends c.args.aggressive c.args.flag (seen (met iw pe c.args.e_len.now c.args.nv.now
+    (list_in iw pe len me) e) e))
+    (flip_of me) (word pe e) = λ e. c.count_outside.ensures.starts e
+    ∙ ap (λ xs. cond (ends c.args.aggressive c.args.flag (seen (met iw pe c.args.e_len.now c.args.nv.now xs e) e)) (flip_of me)
+    (word pe e)) list in
+    let counted : (e : ℕ) → num c.count_outside.new.w e
+    ≡ settled c.args.aggressive c.args.flag (seen (met iw pe c.args.e_len.now c.args.nv.now (list_in iw pe len me) e) e) = λ e.
+    c.count_outside.ensures.counted e
+    ∙ ap (λ xs. settled c.args.aggressive c.args.flag (seen (met iw pe c.args.e_len.now c.args.nv.now xs e) e)) list in
+    let long = c.count_outside.ensures.long.0 in
+    ap (λ xs. has xs me) (left_list c.args.aggressive c.args.flag c.requires.laid c.requires.flag c.requires.under
+    c.requires.front left ended) ∙ c.requires.apart
+
+pub renew_all-requires-clause-once : goal.renew_all-requires-clause-once
+renew_all-requires-clause-once g c =
+    let me : ℕ = c.args.me in let iw : List ℤ = c.args.iw.now in let pe : List ℤ = c.args.pe.now in let len : List ℕ = c.args.len.now in
+    let from : c.named-from.result ≡ start pe me = c.named-from.ensures in let count = c.figure_at-count.ensures.is in
+    let list : rows iw c.named-from.result c.figure_at-count.result ≡ list_in iw pe len me = ap
+    (λ s. rows iw s c.figure_at-count.result) from
+    ∙ ap (rows iw (start pe me)) count in
+    let left : List ℤ = c.count_outside.new.pe in
+    let seen : ℕ → ℕ → ℕ = λ m e. counter c.args.flag (num c.args.w.now e) (num c.args.degree.now e) m in
+    let ended : (e : ℕ) → word left e ≡ cond (ends c.args.aggressive c.args.flag (seen (met iw pe c.args.e_len.now c.args.nv.now
+    (list_in iw pe len me) e) e))
+    (flip_of me) (word pe e) = λ e. c.count_outside.ensures.starts e
+    ∙ ap (λ xs. cond (ends c.args.aggressive c.args.flag (seen (met iw pe c.args.e_len.now c.args.nv.now xs e) e)) (flip_of me)
+    (word pe e)) list in
+    let counted : (e : ℕ) → num c.count_outside.new.w e
+    ≡ settled c.args.aggressive c.args.flag (seen (met iw pe c.args.e_len.now c.args.nv.now (list_in iw pe len me) e) e) = λ e.
+    c.count_outside.ensures.counted e
+    ∙ ap (λ xs. settled c.args.aggressive c.args.flag (seen (met iw pe c.args.e_len.now c.args.nv.now xs e) e)) list in
+    let long = c.count_outside.ensures.long.0 in
+    subst Once (sym (left_list c.args.aggressive c.args.flag c.requires.laid c.requires.flag c.requires.under c.requires.front
+    left ended)) c.requires.once
+
+pub renew_all-requires-clause-front : goal.renew_all-requires-clause-front
+renew_all-requires-clause-front g c =
+    let me : ℕ = c.args.me in let iw : List ℤ = c.args.iw.now in let pe : List ℤ = c.args.pe.now in let len : List ℕ = c.args.len.now in
+    let from : c.named-from.result ≡ start pe me = c.named-from.ensures in let count = c.figure_at-count.ensures.is in
+    let list : rows iw c.named-from.result c.figure_at-count.result ≡ list_in iw pe len me = ap
+    (λ s. rows iw s c.figure_at-count.result) from
+    ∙ ap (rows iw (start pe me)) count in
+    let left : List ℤ = c.count_outside.new.pe in
+    let seen : ℕ → ℕ → ℕ = λ m e. counter c.args.flag (num c.args.w.now e) (num c.args.degree.now e) m in
+    let ended : (e : ℕ) → word left e ≡ cond (ends c.args.aggressive c.args.flag (seen (met iw pe c.args.e_len.now c.args.nv.now
+    (list_in iw pe len me) e) e))
+    (flip_of me) (word pe e) = λ e. c.count_outside.ensures.starts e
+    ∙ ap (λ xs. cond (ends c.args.aggressive c.args.flag (seen (met iw pe c.args.e_len.now c.args.nv.now xs e) e)) (flip_of me)
+    (word pe e)) list in
+    let counted : (e : ℕ) → num c.count_outside.new.w e
+    ≡ settled c.args.aggressive c.args.flag (seen (met iw pe c.args.e_len.now c.args.nv.now (list_in iw pe len me) e) e) = λ e.
+    c.count_outside.ensures.counted e
+    ∙ ap (λ xs. settled c.args.aggressive c.args.flag (seen (met iw pe c.args.e_len.now c.args.nv.now xs e) e)) list in
+    let long = c.count_outside.ensures.long.0 in
+    left_renewable c.args.aggressive c.args.flag c.requires.laid c.requires.flag c.requires.under c.requires.front left ended
+    c.count_outside.new.w counted
+
+pub renew_all-requires-clause-marked : goal.renew_all-requires-clause-marked
+renew_all-requires-clause-marked g c i h =
+    let me : ℕ = c.args.me in let iw : List ℤ = c.args.iw.now in let pe : List ℤ = c.args.pe.now in let len : List ℕ = c.args.len.now in
+    let from : c.named-from.result ≡ start pe me = c.named-from.ensures in let count = c.figure_at-count.ensures.is in
+    let list : rows iw c.named-from.result c.figure_at-count.result ≡ list_in iw pe len me = ap
+    (λ s. rows iw s c.figure_at-count.result) from
+    ∙ ap (rows iw (start pe me)) count in
+    let left : List ℤ = c.count_outside.new.pe in
+    let seen : ℕ → ℕ → ℕ = λ m e. counter c.args.flag (num c.args.w.now e) (num c.args.degree.now e) m in
+    let ended : (e : ℕ) → word left e ≡ cond (ends c.args.aggressive c.args.flag (seen (met iw pe c.args.e_len.now c.args.nv.now
+    (list_in iw pe len me) e) e))
+    (flip_of me) (word pe e) = λ e. c.count_outside.ensures.starts e
+    ∙ ap (λ xs. cond (ends c.args.aggressive c.args.flag (seen (met iw pe c.args.e_len.now c.args.nv.now xs e) e)) (flip_of me)
+    (word pe e)) list in
+    let counted : (e : ℕ) → num c.count_outside.new.w e
+    ≡ settled c.args.aggressive c.args.flag (seen (met iw pe c.args.e_len.now c.args.nv.now (list_in iw pe len me) e) e) = λ e.
+    c.count_outside.ensures.counted e
+    ∙ ap (λ xs. settled c.args.aggressive c.args.flag (seen (met iw pe c.args.e_len.now c.args.nv.now xs e) e)) list in
+    let long = c.count_outside.ensures.long.0 in
+    (c.requires.front i (sym (ap (λ xs. has xs i)
+    (left_list c.args.aggressive c.args.flag c.requires.laid c.requires.flag c.requires.under c.requires.front left ended)) ∙ h)).marked
+
+pub renew_all-requires-clause-few : goal.renew_all-requires-clause-few
+renew_all-requires-clause-few g c =
+    let me : ℕ = c.args.me in let iw : List ℤ = c.args.iw.now in let pe : List ℤ = c.args.pe.now in let len : List ℕ = c.args.len.now in
+    let from : c.named-from.result ≡ start pe me = c.named-from.ensures in let count = c.figure_at-count.ensures.is in
+    let list : rows iw c.named-from.result c.figure_at-count.result ≡ list_in iw pe len me = ap
+    (λ s. rows iw s c.figure_at-count.result) from
+    ∙ ap (rows iw (start pe me)) count in
+    let left : List ℤ = c.count_outside.new.pe in
+    let seen : ℕ → ℕ → ℕ = λ m e. counter c.args.flag (num c.args.w.now e) (num c.args.degree.now e) m in
+    let ended : (e : ℕ) → word left e ≡ cond (ends c.args.aggressive c.args.flag (seen (met iw pe c.args.e_len.now c.args.nv.now
+    (list_in iw pe len me) e) e))
+    (flip_of me) (word pe e) = λ e. c.count_outside.ensures.starts e
+    ∙ ap (λ xs. cond (ends c.args.aggressive c.args.flag (seen (met iw pe c.args.e_len.now c.args.nv.now xs e) e)) (flip_of me)
+    (word pe e)) list in
+    let counted : (e : ℕ) → num c.count_outside.new.w e
+    ≡ settled c.args.aggressive c.args.flag (seen (met iw pe c.args.e_len.now c.args.nv.now (list_in iw pe len me) e) e) = λ e.
+    c.count_outside.ensures.counted e
+    ∙ ap (λ xs. settled c.args.aggressive c.args.flag (seen (met iw pe c.args.e_len.now c.args.nv.now xs e) e)) list in
+    let long = c.count_outside.ensures.long.0 in
+    let a = ap (sum_by (size_of c.args.nv.now))
+    (left_list c.args.aggressive c.args.flag c.requires.laid c.requires.flag c.requires.under c.requires.front left ended) in
+    let b = c.requires.few in omega (arith, a, b)
+
+pub returns-clause-turns : goal.returns-clause-turns
+returns-clause-turns g c =
+    let me : ℕ = c.args.me in let iw : List ℤ = c.args.iw.now in let pe : List ℤ = c.args.pe.now in let len : List ℕ = c.args.len.now in
+    let from : c.named-from.result ≡ start pe me = c.named-from.ensures in let count = c.figure_at-count.ensures.is in
+    let list : rows iw c.named-from.result c.figure_at-count.result ≡ list_in iw pe len me = ap
+    (λ s. rows iw s c.figure_at-count.result) from
+    ∙ ap (rows iw (start pe me)) count in
+    let left : List ℤ = c.count_outside.new.pe in
+    let seen : ℕ → ℕ → ℕ = λ m e. counter c.args.flag (num c.args.w.now e) (num c.args.degree.now e) m in
+    let ended : (e : ℕ) → word left e ≡ cond (ends c.args.aggressive c.args.flag (seen (met iw pe c.args.e_len.now c.args.nv.now
+    (list_in iw pe len me) e) e))
+    (flip_of me) (word pe e) = λ e. c.count_outside.ensures.starts e
+    ∙ ap (λ xs. cond (ends c.args.aggressive c.args.flag (seen (met iw pe c.args.e_len.now c.args.nv.now xs e) e)) (flip_of me)
+    (word pe e)) list in
+    let counted : (e : ℕ) → num c.count_outside.new.w e
+    ≡ settled c.args.aggressive c.args.flag (seen (met iw pe c.args.e_len.now c.args.nv.now (list_in iw pe len me) e) e) = λ e.
+    c.count_outside.ensures.counted e
+    ∙ ap (λ xs. settled c.args.aggressive c.args.flag (seen (met iw pe c.args.e_len.now c.args.nv.now xs e) e)) list in
+    let long = c.count_outside.ensures.long.0 in
+    record {
+      left = left;
+      links = c.count_outside.new.last;
+      counted = counted;
+      ended = ended;
+      renewed = subst (λ n. RenewsFront n me (is_kept c.count_outside.new.w) (is_outside c.args.nv.now)
+          (λ e. num c.count_outside.new.w e - c.args.flag) (list_in iw pe len me) c.args.free iw left c.args.e_len.now c.args.nv.now len
+          c.args.degree.now c.count_outside.new.last c.renew_all.new.iw c.renew_all.new.pe c.renew_all.new.e_len c.renew_all.new.nv
+          c.renew_all.new.len c.renew_all.new.degree c.renew_all.new.last c.renew_all.result) long
+          (subst (λ xs. RenewsFront (length c.count_outside.new.w) me (is_kept c.count_outside.new.w) (is_outside c.args.nv.now)
+          (λ e. num c.count_outside.new.w e - c.args.flag) xs c.args.free iw left c.args.e_len.now c.args.nv.now len
+          c.args.degree.now c.count_outside.new.last c.renew_all.new.iw c.renew_all.new.pe c.renew_all.new.e_len c.renew_all.new.nv
+          c.renew_all.new.len c.renew_all.new.degree c.renew_all.new.last c.renew_all.result)
+          (left_list c.args.aggressive c.args.flag c.requires.laid c.requires.flag c.requires.under c.requires.front left
+          ended) c.renew_all.ensures.renews);
+    }
+
+pub returns-clause-linked : goal.returns-clause-linked
+returns-clause-linked g c lists member h =
+    let me : ℕ = c.args.me in let iw : List ℤ = c.args.iw.now in let pe : List ℤ = c.args.pe.now in let len : List ℕ = c.args.len.now in
+    let from : c.named-from.result ≡ start pe me = c.named-from.ensures in let count = c.figure_at-count.ensures.is in
+    let list : rows iw c.named-from.result c.figure_at-count.result ≡ list_in iw pe len me = ap
+    (λ s. rows iw s c.figure_at-count.result) from
+    ∙ ap (rows iw (start pe me)) count in
+    let left : List ℤ = c.count_outside.new.pe in
+    let seen : ℕ → ℕ → ℕ = λ m e. counter c.args.flag (num c.args.w.now e) (num c.args.degree.now e) m in
+    let ended : (e : ℕ) → word left e ≡ cond (ends c.args.aggressive c.args.flag (seen (met iw pe c.args.e_len.now c.args.nv.now
+    (list_in iw pe len me) e) e))
+    (flip_of me) (word pe e) = λ e. c.count_outside.ensures.starts e
+    ∙ ap (λ xs. cond (ends c.args.aggressive c.args.flag (seen (met iw pe c.args.e_len.now c.args.nv.now xs e) e)) (flip_of me)
+    (word pe e)) list in
+    let counted : (e : ℕ) → num c.count_outside.new.w e
+    ≡ settled c.args.aggressive c.args.flag (seen (met iw pe c.args.e_len.now c.args.nv.now (list_in iw pe len me) e) e) = λ e.
+    c.count_outside.ensures.counted e
+    ∙ ap (λ xs. settled c.args.aggressive c.args.flag (seen (met iw pe c.args.e_len.now c.args.nv.now xs e) e)) list in
+    let long = c.count_outside.ensures.long.0 in
+    let out = c.count_outside.ensures.linked lists (λ i m. member i (sym (ap (λ xs. has xs i) list) ∙ m)) h in
+    let same = left_list c.args.aggressive c.args.flag c.requires.laid c.requires.flag c.requires.under c.requires.front left ended in
+    let turned = subst (λ n. RenewsFront n me (is_kept c.count_outside.new.w) (is_outside c.args.nv.now)
+    (λ e. num c.count_outside.new.w e - c.args.flag) (list_in iw left len me) c.args.free iw left c.args.e_len.now c.args.nv.now len
+    c.args.degree.now c.count_outside.new.last c.renew_all.new.iw c.renew_all.new.pe c.renew_all.new.e_len c.renew_all.new.nv
+    c.renew_all.new.len c.renew_all.new.degree c.renew_all.new.last c.renew_all.result) long c.renew_all.ensures.renews in
+    subst (λ xs. DegreeLists (length c.args.w.now) c.count_outside.new.head c.count_outside.new.next c.renew_all.new.last
+    c.renew_all.new.degree
+    (λ d. filter (λ j. not (has xs j)) (lists d))) same
+    (others_linked c.count_outside.new.head c.count_outside.new.next lists turned
+    (subst (λ xs. DegreeLists (length c.args.w.now) c.count_outside.new.head c.count_outside.new.next c.count_outside.new.last
+    c.args.degree.now
+    (λ d. filter (λ j. not (has xs j)) (lists d))) (list ∙ sym same) out))

@@ -1,0 +1,207 @@
+// For each element that a class of the front lists: the rows of its border outside the front. One step for each pair of a class and an
+// element that it lists. A counter is 0 for what is no standing element or class, and below the flag if it was not met. In the same
+// pass the classes leave the lists by bound, and with `aggressive` an element without rows outside ends.
+// Source: Amestoy, Davis and Duff 1996 (approximate external degree, aggressive absorption). Called by `turning`.
+
+ghost use Rattle.std.specs.Prelude.{◌≡◌, ◌<◌, ◌≤◌, ◌+◌, ◌-◌, ◌^◌, ◌==◌, ◌&&◌, not, cond, filter, ℕ, List, Bool, true, false, length};
+ghost use Rattle.amd_model.specs.Quotient.{has, Once};
+ghost use Rattle.amd_places.specs.Words.{num, word, place, is_place, start, size_of, in_front, flip_of, rows, Names};
+ghost use Rattle.amd_places.specs.Chains.{DegreeLists, without};
+ghost use Rattle.amd_places.specs.Counts.{touched, settled, ends, counter, met, elements_of, IsListed};
+
+use crate::chains::take_out;
+use crate::words::{named, put_flip, size_inside};
+use amd_cells::{Figure, Signed, Unsigned, Word, figure_at, put_figure};
+
+/// Takes the `more` rows of a class off the counter of the element `e`, which that class lists.
+fn touch<U: Unsigned>(w: &mut [Figure<U>], degree: &[Figure<U>], e: usize, more: usize, flag: usize)
+    requires inside { (e < length w.old) × (e < length degree.now) }
+    requires again { flag ≤ num w.old e → more ≤ num w.old e }
+    requires first { 0 < num w.old e → more ≤ num degree.now e }
+    requires fits { num degree.now e + flag ≤ U.MOST }
+    ensures long { length w.new ≡ length w.old }
+    ensures counted { (x : ℕ) → num w.new x ≡ cond (x == e) (touched flag (num degree.now e) more (num w.old e)) (num w.old x) }
+{
+    let before = figure_at(w, e);
+    if before >= flag {
+        put_figure(w, e, before - more);
+    } else if before != 0 {
+        put_figure(w, e, figure_at(degree, e) + flag - more);
+    }
+}
+
+/// As `touch`. With `aggressive` the pivot `me` absorbs the element if none of its rows is left: its list ends, and its counter is 0.
+fn touch_or_end<S: Signed, U: Unsigned>(
+    pe: &mut [Word<S>],
+    w: &mut [Figure<U>],
+    degree: &[Figure<U>],
+    e: usize,
+    more: usize,
+    flag: usize,
+    me: usize,
+    aggressive: bool,
+)
+    requires inside { (e < length w.old) × (e < length degree.now) × (e < length pe.old) }
+    requires small { me + 2 ≤ S.MOST }
+    requires again { flag ≤ num w.old e → more ≤ num w.old e }
+    requires first { 0 < num w.old e → more ≤ num degree.now e }
+    requires fits { num degree.now e + flag ≤ U.MOST }
+    ensures long { (length w.new ≡ length w.old) × (length pe.new ≡ length pe.old) }
+    ensures counted { (x : ℕ) → num w.new x ≡ cond (x == e) (settled aggressive flag (touched flag (num degree.now e) more (num w.old e))) (num w.old x) }
+    ensures starts { (x : ℕ) → word pe.new x ≡ cond (x == e && ends aggressive flag (touched flag (num degree.now e) more (num w.old e))) (flip_of me) (word pe.old x) }
+{
+    touch(w, degree, e, more, flag);
+    let left = figure_at(w, e);
+    if aggressive && left == flag {
+        put_flip(pe, e, me);
+        put_figure(w, e, 0);
+    }
+}
+
+/// Takes the `more` rows of a class off the counters of the elements that it lists: they stand in `count` words from `from` on.
+fn touch_all<S: Signed, U: Unsigned>(
+    iw: &[Word<S>],
+    pe: &mut [Word<S>],
+    w: &mut [Figure<U>],
+    degree: &[Figure<U>],
+    from: usize,
+    count: usize,
+    more: usize,
+    flag: usize,
+    me: usize,
+    aggressive: bool,
+)
+    requires lengths { (length degree.now ≡ length w.old) × (length pe.old ≡ length w.old) }
+    requires small { me + 2 ≤ S.MOST }
+    requires inside { from + count ≤ length iw.now }
+    requires names { Names (length w.old) iw.now from count }
+    requires once { Once (rows iw.now from count) }
+    requires again { (e : ℕ) → has (rows iw.now from count) e ≡ true → flag ≤ num w.old e → more ≤ num w.old e }
+    requires first { (e : ℕ) → has (rows iw.now from count) e ≡ true → 0 < num w.old e → more ≤ num degree.now e }
+    requires fits { (e : ℕ) → e < length w.old → num degree.now e + flag ≤ U.MOST }
+    ensures long { (length w.new ≡ length w.old) × (length pe.new ≡ length pe.old) }
+    ensures counted { (e : ℕ) → num w.new e ≡ cond (has (rows iw.now from count) e) (settled aggressive flag (touched flag (num degree.now e) more (num w.old e))) (num w.old e) }
+    ensures starts { (e : ℕ) → word pe.new e ≡ cond (has (rows iw.now from count) e && ends aggressive flag (touched flag (num degree.now e) more (num w.old e))) (flip_of me) (word pe.old e) }
+{
+    for q in from..from + count {
+        let e = named(iw, q);
+        touch_or_end(pe, w, degree, e, more, flag, me, aggressive);
+    }
+}
+
+/// Takes a class of the front out of the list of its bound, and its rows off the counters of the elements that it lists.
+fn count_class<S: Signed, U: Unsigned>(
+    iw: &[Word<S>],
+    pe: &mut [Word<S>],
+    e_len: &[Word<S>],
+    nv: &[Word<S>],
+    degree: &[Figure<U>],
+    w: &mut [Figure<U>],
+    head: &mut [Figure<U>],
+    next: &mut [Figure<U>],
+    last: &mut [Figure<U>],
+    i: usize,
+    flag: usize,
+    me: usize,
+    aggressive: bool,
+)
+    requires lengths { (length pe.old ≡ length w.old) × (length e_len.now ≡ length w.old) × (length nv.now ≡ length w.old) × (length degree.now ≡ length w.old) }
+    requires more_lengths { (length head.old ≡ length w.old) × (length next.old ≡ length w.old) × (length last.old ≡ length w.old) }
+    requires row { (i < length w.old) × (num degree.now i < length w.old) }
+    requires small { me + 2 ≤ S.MOST }
+    requires listed { IsListed (length w.old) iw.now pe.old e_len.now nv.now i }
+    requires again { (e : ℕ) → has (elements_of iw.now pe.old e_len.now i) e ≡ true → flag ≤ num w.old e → size_of nv.now i ≤ num w.old e }
+    requires first { (e : ℕ) → has (elements_of iw.now pe.old e_len.now i) e ≡ true → 0 < num w.old e → size_of nv.now i ≤ num degree.now e }
+    requires fits { (e : ℕ) → e < length w.old → num degree.now e + flag ≤ U.MOST }
+    ensures long { (length w.new ≡ length w.old) × (length pe.new ≡ length pe.old) }
+    ensures counted { (e : ℕ) → num w.new e ≡ cond (has (elements_of iw.now pe.old e_len.now i) e) (settled aggressive flag (touched flag (num degree.now e) (size_of nv.now i) (num w.old e))) (num w.old e) }
+    ensures starts { (e : ℕ) → word pe.new e ≡ cond (has (elements_of iw.now pe.old e_len.now i) e && ends aggressive flag (touched flag (num degree.now e) (size_of nv.now i) (num w.old e))) (flip_of me) (word pe.old e) }
+    ensures lengths { (length head.new ≡ length head.old) × (length next.new ≡ length next.old) × (length last.new ≡ length last.old) }
+    ensures linked { (lists : ℕ → List ℕ) → has (lists (num degree.now i)) i ≡ true → DegreeLists (length w.old) head.old next.old last.old degree.now lists → DegreeLists (length w.old) head.new next.new last.new degree.now (λ d. without i (lists d)) }
+{
+    take_out(head, next, last, degree, i);
+    let first = named(pe, i);
+    let n_elements = named(e_len, i);
+    let more = size_inside(nv, i);
+    touch_all(
+        iw, pe, w, degree, first, n_elements, more, flag, me, aggressive,
+    );
+}
+
+/// Counts, for each standing element that a class of the front lists, the rows of its border outside the front: the rows of each
+/// class are taken off the elements that it lists. The front, whose list stands in `count` words from `from` on, leaves the lists by
+/// bound; with `aggressive` the pivot `me` absorbs the elements without rows outside.
+pub fn count_outside<S: Signed, U: Unsigned>(
+    iw: &[Word<S>],
+    pe: &mut [Word<S>],
+    e_len: &[Word<S>],
+    nv: &[Word<S>],
+    degree: &[Figure<U>],
+    w: &mut [Figure<U>],
+    head: &mut [Figure<U>],
+    next: &mut [Figure<U>],
+    last: &mut [Figure<U>],
+    from: usize,
+    count: usize,
+    flag: usize,
+    me: usize,
+    aggressive: bool,
+)
+    requires lengths { (length pe.old ≡ length w.old) × (length e_len.now ≡ length w.old) × (length nv.now ≡ length w.old) × (length degree.now ≡ length w.old) }
+    requires more_lengths { (length head.old ≡ length w.old) × (length next.old ≡ length w.old) × (length last.old ≡ length w.old) }
+    requires inside { from + count ≤ length iw.now }
+    requires small { me + 2 ≤ S.MOST }
+    requires front { Names (length w.old) iw.now from count }
+    requires once { Once (rows iw.now from count) }
+    requires listed { (i : ℕ) → has (rows iw.now from count) i ≡ true → IsListed (length w.old) iw.now pe.old e_len.now nv.now i }
+    requires apart { (i e : ℕ) → has (rows iw.now from count) i ≡ true → has (rows iw.now from count) e ≡ true → has (elements_of iw.now pe.old e_len.now i) e ≡ false }
+    requires bounds { (i : ℕ) → has (rows iw.now from count) i ≡ true → num degree.now i < length w.old }
+    requires flag { 2 ≤ flag }
+    requires under { (e : ℕ) → num w.old e < flag }
+    requires fits { (e : ℕ) → e < length w.old → num degree.now e + flag ≤ U.MOST }
+    requires part { (e : ℕ) → 0 < num w.old e → met iw.now pe.old e_len.now nv.now (rows iw.now from count) e ≤ num degree.now e }
+    ensures long { (length w.new ≡ length w.old) × (length pe.new ≡ length pe.old) }
+    ensures counted { (e : ℕ) → num w.new e ≡ settled aggressive flag (counter flag (num w.old e) (num degree.now e) (met iw.now pe.old e_len.now nv.now (rows iw.now from count) e)) }
+    ensures starts { (e : ℕ) → word pe.new e ≡ cond (ends aggressive flag (counter flag (num w.old e) (num degree.now e) (met iw.now pe.old e_len.now nv.now (rows iw.now from count) e))) (flip_of me) (word pe.old e) }
+    ensures lengths { (length head.new ≡ length head.old) × (length next.new ≡ length next.old) × (length last.new ≡ length last.old) }
+    ensures linked { (lists : ℕ → List ℕ) → ((i : ℕ) → has (rows iw.now from count) i ≡ true → has (lists (num degree.now i)) i ≡ true) → DegreeLists (length w.old) head.old next.old last.old degree.now lists → DegreeLists (length w.old) head.new next.new last.new degree.now (λ d. filter (λ j. not (has (rows iw.now from count) j)) (lists d)) }
+{
+    for p in from..from + count {
+        let i = named(iw, p);
+        count_class(
+            iw, pe, e_len, nv, degree, w, head, next, last, i, flag, me, aggressive,
+        );
+    }
+}
+
+/// Makes each number that is not 0 a 1.
+fn clear<U: Unsigned>(w: &mut [Figure<U>])
+    requires some { 1 ≤ U.MOST }
+    ensures long { length w.new ≡ length w.old }
+    ensures cleared { (e : ℕ) → num w.new e ≡ cond (num w.old e == 0) 0 1 }
+{
+    for k in 0..w.len() {
+        if figure_at(w, k) != 0 {
+            put_figure(w, k, 1);
+        }
+    }
+}
+
+/// The flag for what comes next: the one given, if there is room for a count above it, or else 2 in new numbers. Numbers under the
+/// flag stay under it, and 0 stays 0 alone.
+pub fn renew_flag<U: Unsigned>(w: &mut [Figure<U>], flag: usize) -> usize
+    requires short { length w.old + 2 ≤ U.MOST }
+    requires two { 2 ≤ flag }
+    requires under { (e : ℕ) → num w.old e < flag }
+    ensures long { length w.new ≡ length w.old }
+    ensures two { 2 ≤ result }
+    ensures under { (e : ℕ) → num w.new e < result }
+    ensures zeros { (e : ℕ) → (num w.new e == 0) ≡ (num w.old e == 0) }
+    ensures room { result + length w.old ≤ U.MOST }
+{
+    if flag <= U::MOST - w.len() {
+        return flag;
+    }
+    clear(w);
+    2
+}
