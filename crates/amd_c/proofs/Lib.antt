@@ -1,0 +1,4 @@
+-- What an ordering leaves, and the same in the numbers of C.
+pub mod Leaving
+-- What the columns of a factor leave, and the same in the numbers of C.
+pub mod ColumnsLeft

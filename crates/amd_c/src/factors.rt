@@ -1,0 +1,119 @@
+// Writes the columns of a factor into a caller's arrays: the body of the exported functions, for any integer type. The arrays are
+// written last, so they stay as they were where there is a fault. Called by `int32` and `int64`.
+
+ghost use Rattle.std.specs.Prelude.{◌≡◌, ◌↔◌, IfErr, IfOk, IsTrue, map, pos};
+ghost use Rattle.num_traits.specs.Laws.{Checks};
+ghost use Rattle.amd_c.specs.Columns.{HasColumnPlaces, LeavesColumns, arrays, number_of_end, parent_number};
+
+use amd_numbers::internal::{from_count, to_count};
+use amd_symbolic::{Fault, columns};
+use num_traits::PrimInt;
+use std::alloc::Global;
+
+/// The number of an outcome: 0 where the columns were written.
+pub fn number_of_end(outcome: &Result<(), Fault>) -> i32
+    ensures { result ≡ number_of_end outcome.now }
+{
+    match outcome {
+        Ok(()) => 0,
+        Err(Fault::OutOfMemory) => -1,
+        Err(Fault::NotColumnForm) => -2,
+        Err(Fault::NotPermutation) => -3,
+        Err(Fault::RoomTooSmall) => -4,
+    }
+}
+
+/// Whether an array has `n + 1` places, and another one `n`.
+fn have_column_places<I: PrimInt>(n: I, ptr: &[I], parent: &[I]) -> bool
+    ensures { IsTrue result ↔ HasColumnPlaces (I.value n) (map I.value ptr.now) (map I.value parent.now) }
+{
+    match to_count(n) {
+        Some(count) => parent.len() == count && ptr.len().checked_sub(1) == Some(count),
+        None => false,
+    }
+}
+
+/// The counts as numbers of the caller's type.
+///
+/// # Errors
+///
+/// `OutOfMemory` where a request was refused, or a count is too great for the type.
+fn numbers_of<I: PrimInt>(alloc: Global, counts: &[usize]) -> Result<Vec<I, Global>, Fault>
+    ensures numbers { IfOk result (λ v. map I.value v.items ≡ map pos counts.now) }
+    ensures fault { IfErr result (λ e. e ≡ Fault.OutOfMemory) }
+{
+    let mut numbers = Vec::with_capacity(alloc, counts.len())?;
+    'rows: for k in 0..counts.len() {
+        let Some(number) = from_count(counts[k]) else {
+            return Err(Fault::OutOfMemory);
+        };
+        numbers.push(number)?;
+    }
+    Ok(numbers)
+}
+
+/// The number of a parent, -1 for none, where the type has it.
+fn number_of_parent<I: PrimInt>(parent: Option<usize>) -> Option<I>
+    ensures { Checks I.value I.fits (parent_number parent) result }
+{
+    match parent {
+        Some(place) => from_count(place),
+        None => num_traits::cast::<i32, I>(-1),
+    }
+}
+
+/// The numbers of the parents.
+///
+/// # Errors
+///
+/// `OutOfMemory` where a request was refused, or a number is too great for the type.
+fn parents_of<I: PrimInt>(alloc: Global, parents: &[Option<usize>]) -> Result<Vec<I, Global>, Fault>
+    ensures numbers { IfOk result (λ v. map I.value v.items ≡ map parent_number parents.now) }
+    ensures fault { IfErr result (λ e. e ≡ Fault.OutOfMemory) }
+{
+    let mut numbers = Vec::with_capacity(alloc, parents.len())?;
+    'rows: for k in 0..parents.len() {
+        let Some(number) = number_of_parent(parents[k]) else {
+            return Err(Fault::OutOfMemory);
+        };
+        numbers.push(number)?;
+    }
+    Ok(numbers)
+}
+
+/// Writes the columns of the factor of a matrix under the order `p`: where each column begins into `ptr`, which has `n + 1` places,
+/// the entries into `rows`, and the parents into `parent`, which has `n` places, with -1 for none. What stands in `rows` behind the
+/// entries stays.
+///
+/// # Errors
+///
+/// Those of `columns` of the crate `amd_symbolic`, with the length of `rows` as room; all stays as it was. `NotColumnForm` also
+/// where `ptr` or `parent` has not that many places, and `OutOfMemory` also where a pointer is too great for the type.
+pub fn columns_into<I: PrimInt>(
+    alloc: Global,
+    n: I,
+    a_p: &[I],
+    a_i: &[I],
+    p: &[I],
+    ptr: &mut [I],
+    rows: &mut [I],
+    parent: &mut [I],
+) -> Result<(), Fault>
+    // A number of a primitive type is always in range.
+    requires fits { I.fits (I.value n) }
+    ensures { LeavesColumns (I.value n) (map I.value a_p.now) (map I.value a_i.now) (map I.value p.now)
+        (arrays (map I.value ptr.old) (map I.value rows.old) (map I.value parent.old))
+        (arrays (map I.value ptr.new) (map I.value rows.new) (map I.value parent.new)) result }
+{
+    if !have_column_places(n, ptr, parent) {
+        return Err(Fault::NotColumnForm);
+    }
+    let factor = columns(alloc, n, a_p, a_i, p, rows.len())?;
+    let pointers = numbers_of(alloc, &factor.ptr)?;
+    let entries = numbers_of(alloc, &factor.rows)?;
+    let parents = parents_of(alloc, &factor.parent)?;
+    ptr.copy_from_slice(&pointers);
+    rows[..entries.len()].copy_from_slice(&entries);
+    parent.copy_from_slice(&parents);
+    Ok(())
+}

@@ -1,0 +1,30 @@
+//! The library as C calls it: `order`, `order_holding` and `valid` of the crate `amd`, and `columns` of the crate `amd_symbolic`,
+//! for `int32_t` ([`int32`]) and `int64_t` ([`int64`]).
+//!
+//! A slice crosses as a pointer and a length, and a record by its address. An ordering is written into the caller's arrays, and
+//! the answer is the number of a status. The header `include/rimopaku.h` says what a caller must uphold.
+#![tactic(auto)]
+
+mod factors;
+pub mod int32;
+pub mod int64;
+pub mod records;
+mod writing;
+
+ghost use Rattle.std.specs.Prelude.{◌≡◌, pos, true};
+
+use crate::records::Parameters;
+use amd::Control;
+
+/// Writes the parameters that a caller has who chooses nothing: 10 times the root of `n`, and aggressive absorption.
+#[unsafe(no_mangle)]
+pub extern "C" fn rimopaku_defaults(parameters: &mut Parameters)
+    ensures dense { parameters.new.dense ≡ pos 10000 }
+    ensures aggressive { parameters.new.aggressive ≡ true }
+{
+    let Control { dense, aggressive } = Control::default();
+    *parameters = Parameters { dense, aggressive };
+}
+
+#[cfg(test)]
+mod tests;

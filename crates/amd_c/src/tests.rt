@@ -1,0 +1,219 @@
+// Each exported function on its happy path, with worked answers, and what a refusal leaves. The matrix with five rows is that of
+// the AMD user guide.
+
+use crate::int32::{
+    rimopaku_columns_i32, rimopaku_order_holding_i32, rimopaku_order_i32, rimopaku_valid_i32,
+};
+use crate::int64::{rimopaku_order_holding_i64, rimopaku_order_i64, rimopaku_valid_i64};
+use crate::records::{Parameters, Statistics, statistics_of};
+use crate::rimopaku_defaults;
+use amd::Info;
+
+/// The parameters of a caller who chooses nothing.
+fn defaults() -> Parameters {
+    let mut parameters = Parameters {
+        dense: 0,
+        aggressive: false,
+    };
+    rimopaku_defaults(&mut parameters);
+    parameters
+}
+
+/// A record in which no call has written.
+fn blank() -> Statistics {
+    statistics_of(&Info::new(77))
+}
+
+#[test]
+fn five_rows(rt: HostRuntime) {
+    let a_p = [0, 2, 6, 10, 12, 14];
+    let a_i = [0, 1, 0, 1, 2, 4, 1, 2, 3, 4, 2, 3, 1, 4];
+    let mut p = [-5; 5];
+    let mut p_inv = [-5; 5];
+    let mut told = blank();
+    let number = rimopaku_order_i32(
+        rt.alloc(),
+        5,
+        &a_p,
+        &a_i,
+        &defaults(),
+        &mut p,
+        &mut p_inv,
+        &mut told,
+    );
+    assert_eq!(rt; number, 0);
+    assert_eq!(rt; p, [0, 3, 2, 4, 1]);
+    assert_eq!(rt; p_inv, [0, 4, 2, 1, 3]);
+    assert!(rt; !told.symmetry);
+    assert_eq!(rt;
+        [told.n, told.nz, told.nz_diag, told.nz_a_plus_at],
+        [5, 14, 5, 10]
+    );
+    assert_eq!(rt;
+        [told.n_dense, told.n_cmp_a, told.lnz, told.n_div],
+        [0, 0, 5, 5]
+    );
+    assert_eq!(rt;
+        [told.n_mult_subs_ldl, told.n_mult_subs_lu, told.d_max],
+        [6, 7, 3]
+    );
+    assert_eq!(rt; rimopaku_valid_i32(5, 5, &a_p, &a_i), 0);
+}
+
+#[test]
+fn a_jumbled_path(rt: HostRuntime) {
+    let a_p = [0, 3, 3, 4];
+    let a_i = [2, 0, 2, 1, -5, 77];
+    let mut p = [-5; 3];
+    let mut p_inv = [-5; 3];
+    let mut told = blank();
+    let number = rimopaku_order_i64(
+        rt.alloc(),
+        3,
+        &a_p,
+        &a_i,
+        &defaults(),
+        &mut p,
+        &mut p_inv,
+        &mut told,
+    );
+    assert_eq!(rt; number, 1);
+    assert_eq!(rt; p, [1, 0, 2]);
+    assert_eq!(rt; p_inv, [1, 0, 2]);
+    assert_eq!(rt;
+        [told.nz, told.nz_diag, told.nz_a_plus_at, told.lnz],
+        [3, 1, 4, 2]
+    );
+    assert_eq!(rt; rimopaku_valid_i64(3, 3, &a_p, &a_i), 1);
+}
+
+#[test]
+fn a_row_of_a_cycle_held_last(rt: HostRuntime) {
+    let hold = [true, false, false, false];
+    let mut p = [-5i32; 4];
+    let mut p_inv = [-5i32; 4];
+    let mut told = blank();
+    let number = rimopaku_order_holding_i32(
+        rt.alloc(),
+        4,
+        &[0, 2, 3, 4, 4],
+        &[1, 3, 2, 3],
+        &defaults(),
+        &hold,
+        &mut p,
+        &mut p_inv,
+        &mut told,
+    );
+    assert_eq!(rt; number, 0);
+    assert_eq!(rt; p, [3, 1, 2, 0]);
+    assert_eq!(rt; p_inv, [3, 1, 2, 0]);
+    assert_eq!(rt; [told.n_dense, told.lnz, told.d_max], [1, 5, 3]);
+}
+
+#[test]
+fn refusals_leave_all_as_it_was(rt: HostRuntime) {
+    let a_p = [0i64, 1, 2, 2];
+    let a_i = [1i64, 2];
+    let mut p = [-5; 3];
+    let mut p_inv = [-6; 3];
+    let mut told = blank();
+    let alloc = rt.alloc();
+    let short = rimopaku_order_i64(
+        alloc,
+        3,
+        &a_p,
+        &a_i,
+        &defaults(),
+        &mut p[..2],
+        &mut p_inv,
+        &mut told,
+    );
+    assert_eq!(rt; short, -2);
+    let short = rimopaku_order_i64(
+        alloc,
+        3,
+        &a_p,
+        &a_i,
+        &defaults(),
+        &mut p,
+        &mut p_inv[..2],
+        &mut told,
+    );
+    assert_eq!(rt; short, -2);
+    let marks = [true, false];
+    let few = rimopaku_order_holding_i64(
+        alloc,
+        3,
+        &a_p,
+        &a_i,
+        &defaults(),
+        &marks,
+        &mut p,
+        &mut p_inv,
+        &mut told,
+    );
+    assert_eq!(rt; few, -2);
+    assert_eq!(rt;
+        rimopaku_order_i64(
+            alloc,
+            3,
+            &a_p[1..],
+            &a_i,
+            &defaults(),
+            &mut p,
+            &mut p_inv,
+            &mut told
+        ),
+        -2
+    );
+    assert_eq!(rt; p, [-5; 3]);
+    assert_eq!(rt; p_inv, [-6; 3]);
+    assert_eq!(rt; told.n, 77);
+}
+
+#[test]
+fn columns_of_a_cycle(rt: HostRuntime) {
+    let a_p = [0, 2, 3, 4, 4];
+    let a_i = [1, 3, 2, 3];
+    let mut ptr = [-5; 5];
+    let mut rows = [-5; 6];
+    let mut parent = [-5; 4];
+    let order = [0, 1, 2, 3];
+    let number = rimopaku_columns_i32(
+        rt.alloc(),
+        4,
+        &a_p,
+        &a_i,
+        &order,
+        &mut ptr,
+        &mut rows,
+        &mut parent,
+    );
+    assert_eq!(rt; number, 0);
+    assert_eq!(rt; ptr, [0, 2, 4, 5, 5]);
+    assert_eq!(rt; rows, [1, 3, 2, 3, 3, -5]);
+    assert_eq!(rt; parent, [1, 2, 3, -1]);
+    let small = rimopaku_columns_i32(
+        rt.alloc(),
+        4,
+        &a_p,
+        &a_i,
+        &order,
+        &mut ptr,
+        &mut rows[..4],
+        &mut parent,
+    );
+    assert_eq!(rt; small, -4);
+    let twice = rimopaku_columns_i32(
+        rt.alloc(),
+        4,
+        &a_p,
+        &a_i,
+        &[0, 0, 2, 3],
+        &mut ptr,
+        &mut rows,
+        &mut parent,
+    );
+    assert_eq!(rt; twice, -3);
+    assert_eq!(rt; rows, [1, 3, 2, 3, 3, -5]);
+}

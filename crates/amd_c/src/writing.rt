@@ -1,0 +1,85 @@
+// Writes an ordering into a caller's arrays: the body of the exported functions, for any integer type. The arrays and the record
+// are written last, so they stay as they were where there is no ordering. Called by the exported functions.
+
+ghost use Rattle.std.specs.Prelude.{◌↔◌, IfErr, IfOk, IsTrue, map};
+ghost use Rattle.std.specs.Option.{option_copied};
+ghost use Rattle.amd.specs.Answers.{IsOrderingHolding, IsRefusalHolding};
+ghost use Rattle.amd_c.specs.Calls.{HasPlaces, Leaves, memory};
+
+use crate::records::{Parameters, Statistics, statistics_of};
+use amd::{Control, Info, Status, order, order_holding};
+use amd_numbers::internal::to_count;
+use num_traits::PrimInt;
+use std::alloc::Global;
+
+/// Whether each of two arrays has `n` places.
+fn have_places<I: PrimInt>(n: I, p: &[I], p_inv: &[I]) -> bool
+    ensures { IsTrue result ↔ HasPlaces (I.value n) (map I.value p.now) (map I.value p_inv.now) }
+{
+    match to_count(n) {
+        Some(count) => p.len() == count && p_inv.len() == count,
+        None => false,
+    }
+}
+
+/// Orders a matrix, with or without marks of rows to hold last.
+fn order_marked<I: PrimInt>(
+    alloc: Global,
+    n: I,
+    a_p: &[I],
+    a_i: &[I],
+    control: &Control,
+    hold: Option<&[bool]>,
+) -> Result<(Vec<I, Global>, Vec<I, Global>, Info), Status>
+    requires fits { I.fits (I.value n) }
+    ensures ordering { IfOk result (λ a. IsOrderingHolding (option_copied hold.entry) (I.value n)
+        control.now.dense control.now.aggressive (map I.value a_p.now) (map I.value a_i.now)
+        (map I.value a.0.items) (map I.value a.1.items) a.2) }
+    ensures refusal { IfErr result (λ e. IsRefusalHolding (option_copied hold.entry) (I.value n)
+        (map I.value a_p.now) (map I.value a_i.now) e) }
+{
+    match hold {
+        Some(marks) => order_holding(alloc, n, a_p, a_i, control, marks),
+        None => order(alloc, n, a_p, a_i, control),
+    }
+}
+
+/// Orders a matrix, writes the permutation into `p`, its inverse into `p_inv` and what the ordering tells into `statistics`, and
+/// answers the status. Each of the two arrays has `n` places. Where the status is an error, all stays as it was.
+///
+/// `Invalid` also where an array has not `n` places.
+pub fn order_into<I: PrimInt>(
+    alloc: Global,
+    n: I,
+    a_p: &[I],
+    a_i: &[I],
+    parameters: &Parameters,
+    hold: Option<&[bool]>,
+    p: &mut [I],
+    p_inv: &mut [I],
+    statistics: &mut Statistics,
+) -> Status
+    // A number of a primitive type is always in range.
+    requires fits { I.fits (I.value n) }
+    ensures { Leaves (option_copied hold.entry) (I.value n) parameters.now
+        (map I.value a_p.now) (map I.value a_i.now)
+        (memory (map I.value p.old) (map I.value p_inv.old) statistics.old)
+        (memory (map I.value p.new) (map I.value p_inv.new) statistics.new) result }
+{
+    if !have_places(n, p, p_inv) {
+        return Status::Invalid;
+    }
+    let control = Control {
+        dense: parameters.dense,
+        aggressive: parameters.aggressive,
+    };
+    match order_marked(alloc, n, a_p, a_i, &control, hold) {
+        Ok((rows, places, info)) => {
+            p.copy_from_slice(&rows);
+            p_inv.copy_from_slice(&places);
+            *statistics = statistics_of(&info);
+            info.status
+        }
+        Err(status) => status,
+    }
+}

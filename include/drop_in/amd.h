@@ -1,0 +1,338 @@
+/* amd.h: the calls of SuiteSparse's AMD over the library rimopaku, with the same names, arguments and numbers.
+ *
+ * A C or C++ program that includes "amd.h" is compiled with -I../rimopaku/include/drop_in and linked with libamd_c.a in place of
+ * SuiteSparse's libamd, with no other change (docs/USING.md). The permutation and the status are the same. What differs:
+ *
+ *   - Control [AMD_DENSE] is rounded to thousandths, and cut at 2147483.647. NaN stands for the default.
+ *   - Info [AMD_LNZ] to Info [AMD_NMULTSUBS_LU] are cut at 2^64, and a count above 2^53 is the double next to it. SuiteSparse adds up
+ *     doubles, so that its last digits differ there.
+ *   - Info [AMD_MEMORY] is what SuiteSparse's AMD would take for such a matrix. This library takes other amounts.
+ *   - Info [AMD_NCMPA] counts the compactions of this library's workspace.
+ *   - amd_order takes a second array of n integers for the inverse permutation. Where malloc refuses it, the answer is
+ *     AMD_OUT_OF_MEMORY, also for a matrix that is not valid.
+ *   - The first line of what amd_control and amd_info print names this library.
+ *   - There is no amd_2, amd_l2, amd_malloc or amd_printf, and SuiteSparse_config has no part: memory comes from malloc, text goes to
+ *     standard output.
+ *
+ * As with SuiteSparse, a NULL Ap, Ai or P and a negative n are AMD_INVALID, a NULL Control stands for the defaults, and a NULL Info is
+ * allowed. Each other pointer must point to as many numbers as the comment at its function says, and P overlaps neither Ap nor Ai. That
+ * Ai has Ap [n] numbers cannot be tested.
+ *
+ * The functions are `static inline`. To make a library that programs and libraries link which were compiled with SuiteSparse's own
+ * amd.h, compile one C file that defines RIMOPAKU_AMD_LINKAGE as nothing and then includes this header. */
+
+#ifndef AMD_H
+#define AMD_H
+
+#include <inttypes.h>
+#include <stdio.h>
+#include <stdlib.h>
+
+#include "../rimopaku.h"
+
+#ifndef RIMOPAKU_AMD_LINKAGE
+#define RIMOPAKU_AMD_LINKAGE static inline
+#endif
+
+#ifndef SuiteSparse_long
+#define SuiteSparse_long int64_t
+#define SuiteSparse_long_max INT64_MAX
+#define SuiteSparse_long_idd PRId64
+#define SuiteSparse_long_id "%" SuiteSparse_long_idd
+#endif
+
+#define AMD_CONTROL 5 /* length of Control */
+#define AMD_INFO 20   /* length of Info */
+
+/* What stands in Control. */
+#define AMD_DENSE 0      /* a row with more than max (16, Control [0] * sqrt (n)) entries is dense; below 0: nearly none is */
+#define AMD_AGGRESSIVE 1 /* not 0: aggressive absorption */
+
+#define AMD_DEFAULT_DENSE 10.0
+#define AMD_DEFAULT_AGGRESSIVE 1
+
+/* What stands in Info; -1 where it is not known. */
+#define AMD_STATUS 0         /* what amd_order answered */
+#define AMD_N 1              /* rows */
+#define AMD_NZ 2             /* entries, repeats dropped; after an error Ap [n] */
+#define AMD_SYMMETRY 3       /* the share of the entries off the diagonal whose mirror is an entry */
+#define AMD_NZDIAG 4         /* entries on the diagonal */
+#define AMD_NZ_A_PLUS_AT 5   /* entries of A + A' off the diagonal */
+#define AMD_NDENSE 6         /* dense rows */
+#define AMD_MEMORY 7         /* bytes */
+#define AMD_NCMPA 8          /* compactions of the workspace */
+#define AMD_LNZ 9            /* entries of L below the diagonal, at most */
+#define AMD_NDIV 10          /* divisions, at most */
+#define AMD_NMULTSUBS_LDL 11 /* multiply-subtract steps of LDL', at most */
+#define AMD_NMULTSUBS_LU 12  /* multiply-subtract steps of LU, at most */
+#define AMD_DMAX 13          /* entries of a column of L with its diagonal, at most */
+
+#define AMD_OK RIMOPAKU_OK
+#define AMD_OUT_OF_MEMORY RIMOPAKU_OUT_OF_MEMORY
+#define AMD_INVALID RIMOPAKU_INVALID
+#define AMD_OK_BUT_JUMBLED RIMOPAKU_OK_BUT_JUMBLED
+
+/* The version of AMD whose calls these are. */
+#define AMD_DATE "May 4, 2016"
+#define AMD_VERSION_CODE(main, sub) ((main) * 1000 + (sub))
+#define AMD_MAIN_VERSION 2
+#define AMD_SUB_VERSION 4
+#define AMD_SUBSUB_VERSION 6
+#define AMD_VERSION AMD_VERSION_CODE(AMD_MAIN_VERSION, AMD_SUB_VERSION)
+
+#ifdef __cplusplus
+extern "C" {
+#endif
+
+/* The dense row parameter in thousandths. */
+static inline int32_t rimopaku_amd_thousandths(double dense)
+{
+    if (dense != dense)
+        return 10000;
+    if (dense < 0)
+        return -1;
+    if (dense >= 2147483.647)
+        return INT32_MAX;
+    return (int32_t)(dense * 1000 + 0.5);
+}
+
+/* The parameters that stand in Control. */
+static inline struct rimopaku_parameters rimopaku_amd_parameters(const double Control[])
+{
+    struct rimopaku_parameters parameters;
+    rimopaku_defaults(&parameters);
+    if (Control != NULL) {
+        parameters.dense = rimopaku_amd_thousandths(Control[AMD_DENSE]);
+        parameters.aggressive = Control[AMD_AGGRESSIVE] != 0;
+    }
+    return parameters;
+}
+
+/* Makes Info say that nothing is known but n. */
+static inline void rimopaku_amd_begin(double Info[], double n)
+{
+    int i;
+    if (Info == NULL)
+        return;
+    for (i = 0; i < AMD_INFO; i++)
+        Info[i] = -1;
+    Info[AMD_N] = n;
+    Info[AMD_STATUS] = AMD_OK;
+}
+
+/* Writes the status and answers it. */
+static inline int32_t rimopaku_amd_end(double Info[], int32_t status)
+{
+    if (Info != NULL)
+        Info[AMD_STATUS] = status;
+    return status;
+}
+
+/* Writes what an ordering told. `integers` is how many integers SuiteSparse's AMD would take, and `size` the bytes of one. */
+static inline void rimopaku_amd_tell(double Info[], const struct rimopaku_statistics *told, double integers, double size)
+{
+    size_t off_diagonal = told->nz - told->nz_diag;
+    size_t mirrored = 2 * off_diagonal - told->nz_a_plus_at;
+    if (Info == NULL)
+        return;
+    Info[AMD_NZ] = (double)told->nz;
+    Info[AMD_SYMMETRY] = off_diagonal == 0 ? 1 : (double)mirrored / (double)off_diagonal;
+    Info[AMD_NZDIAG] = (double)told->nz_diag;
+    Info[AMD_NZ_A_PLUS_AT] = (double)told->nz_a_plus_at;
+    Info[AMD_NDENSE] = (double)told->n_dense;
+    Info[AMD_MEMORY] = integers * size;
+    Info[AMD_NCMPA] = (double)told->n_cmp_a;
+    Info[AMD_LNZ] = (double)told->lnz;
+    Info[AMD_NDIV] = (double)told->n_div;
+    Info[AMD_NMULTSUBS_LDL] = (double)told->n_mult_subs_ldl;
+    Info[AMD_NMULTSUBS_LU] = (double)told->n_mult_subs_lu;
+    Info[AMD_DMAX] = (double)told->d_max;
+}
+
+/* How many integers SuiteSparse's AMD would take: the lists with a fifth more, nine arrays, and the sorted copy of a jumbled matrix. */
+static inline double rimopaku_amd_integers(const struct rimopaku_statistics *told, int32_t status, double entries)
+{
+    double lists = (double)told->nz_a_plus_at + (double)(told->nz_a_plus_at / 5);
+    double copy = (double)told->n + 1 + (entries > 1 ? entries : 1);
+    return lists + 9 * (double)told->n + (status == AMD_OK_BUT_JUMBLED ? copy : 0);
+}
+
+/* Orders a matrix. Ap has n + 1 integers, Ai has Ap [n], P gets n, Control has AMD_CONTROL doubles and Info gets AMD_INFO. */
+RIMOPAKU_AMD_LINKAGE int amd_order(int n, const int Ap[], const int Ai[], int P[], double Control[], double Info[])
+{
+    struct rimopaku_parameters parameters = rimopaku_amd_parameters(Control);
+    struct rimopaku_statistics told;
+    int *inverse;
+    int32_t status;
+
+    rimopaku_amd_begin(Info, n);
+    if (Ap == NULL || Ai == NULL || P == NULL || n < 0)
+        return rimopaku_amd_end(Info, AMD_INVALID);
+    if (n == 0)
+        return AMD_OK;
+    if (Info != NULL)
+        Info[AMD_NZ] = Ap[n];
+    if (Ap[n] < 0)
+        return rimopaku_amd_end(Info, AMD_INVALID);
+    inverse = (int *)malloc((size_t)n * sizeof(int));
+    if (inverse == NULL)
+        return rimopaku_amd_end(Info, AMD_OUT_OF_MEMORY);
+    status = rimopaku_order_i32(n, Ap, (size_t)n + 1, Ai, (size_t)Ap[n], &parameters, P, (size_t)n, inverse, (size_t)n, &told);
+    free(inverse);
+    if (status >= 0)
+        rimopaku_amd_tell(Info, &told, rimopaku_amd_integers(&told, status, Ap[n]), sizeof(int));
+    return rimopaku_amd_end(Info, status);
+}
+
+/* Orders a matrix with 64-bit integers. */
+RIMOPAKU_AMD_LINKAGE SuiteSparse_long amd_l_order(SuiteSparse_long n, const SuiteSparse_long Ap[], const SuiteSparse_long Ai[],
+                                                  SuiteSparse_long P[], double Control[], double Info[])
+{
+    struct rimopaku_parameters parameters = rimopaku_amd_parameters(Control);
+    struct rimopaku_statistics told;
+    SuiteSparse_long *inverse;
+    int32_t status;
+
+    rimopaku_amd_begin(Info, (double)n);
+    if (Ap == NULL || Ai == NULL || P == NULL || n < 0)
+        return rimopaku_amd_end(Info, AMD_INVALID);
+    if (n == 0)
+        return AMD_OK;
+    if (Info != NULL)
+        Info[AMD_NZ] = (double)Ap[n];
+    if (Ap[n] < 0)
+        return rimopaku_amd_end(Info, AMD_INVALID);
+    if ((size_t)n > SIZE_MAX / sizeof(SuiteSparse_long))
+        return rimopaku_amd_end(Info, AMD_OUT_OF_MEMORY);
+    inverse = (SuiteSparse_long *)malloc((size_t)n * sizeof(SuiteSparse_long));
+    if (inverse == NULL)
+        return rimopaku_amd_end(Info, AMD_OUT_OF_MEMORY);
+    status = rimopaku_order_i64(n, Ap, (size_t)n + 1, Ai, (size_t)Ap[n], &parameters, P, (size_t)n, inverse, (size_t)n, &told);
+    free(inverse);
+    if (status >= 0)
+        rimopaku_amd_tell(Info, &told, rimopaku_amd_integers(&told, status, (double)Ap[n]), sizeof(SuiteSparse_long));
+    return rimopaku_amd_end(Info, status);
+}
+
+/* The class of a matrix: AMD_OK, AMD_OK_BUT_JUMBLED or AMD_INVALID. Ap has n_col + 1 integers, and Ai has Ap [n_col]. */
+RIMOPAKU_AMD_LINKAGE int amd_valid(int n_row, int n_col, const int Ap[], const int Ai[])
+{
+    if (Ap == NULL || Ai == NULL || n_row < 0 || n_col < 0 || Ap[n_col] < 0)
+        return AMD_INVALID;
+    return rimopaku_valid_i32(n_row, n_col, Ap, (size_t)n_col + 1, Ai, (size_t)Ap[n_col]);
+}
+
+/* The class of a matrix with 64-bit integers. */
+RIMOPAKU_AMD_LINKAGE SuiteSparse_long amd_l_valid(SuiteSparse_long n_row, SuiteSparse_long n_col, const SuiteSparse_long Ap[],
+                                                  const SuiteSparse_long Ai[])
+{
+    if (Ap == NULL || Ai == NULL || n_row < 0 || n_col < 0 || Ap[n_col] < 0)
+        return AMD_INVALID;
+    return rimopaku_valid_i64(n_row, n_col, Ap, (size_t)n_col + 1, Ai, (size_t)Ap[n_col]);
+}
+
+/* Writes the defaults into Control. */
+RIMOPAKU_AMD_LINKAGE void amd_defaults(double Control[])
+{
+    int i;
+    if (Control == NULL)
+        return;
+    for (i = 0; i < AMD_CONTROL; i++)
+        Control[i] = 0;
+    Control[AMD_DENSE] = AMD_DEFAULT_DENSE;
+    Control[AMD_AGGRESSIVE] = AMD_DEFAULT_AGGRESSIVE;
+}
+
+RIMOPAKU_AMD_LINKAGE void amd_l_defaults(double Control[])
+{
+    amd_defaults(Control);
+}
+
+/* Prints what stands in Control, or the defaults. */
+static inline void rimopaku_amd_print_control(const double Control[], int size)
+{
+    double dense = Control != NULL ? Control[AMD_DENSE] : AMD_DEFAULT_DENSE;
+    double aggressive = Control != NULL ? Control[AMD_AGGRESSIVE] : AMD_DEFAULT_AGGRESSIVE;
+
+    printf("\nAMD by rimopaku: approximate minimum degree ordering\n");
+    printf("    dense row parameter: %.5g\n", dense);
+    if (dense < 0)
+        printf("    no rows treated as dense\n");
+    else
+        printf("    (rows with more than max (%.5g * sqrt (n), 16) entries are\n"
+               "    considered \"dense\", and placed last in output permutation)\n", dense);
+    printf("    aggressive absorption:  %s\n", aggressive != 0 ? "yes" : "no");
+    printf("    size of AMD integer: %d\n\n", size);
+}
+
+RIMOPAKU_AMD_LINKAGE void amd_control(double Control[])
+{
+    rimopaku_amd_print_control(Control, (int)sizeof(int));
+}
+
+RIMOPAKU_AMD_LINKAGE void amd_l_control(double Control[])
+{
+    rimopaku_amd_print_control(Control, (int)sizeof(SuiteSparse_long));
+}
+
+/* Prints a line of amd_info, where the number is known. */
+static inline void rimopaku_amd_print(const char *label, double number)
+{
+    if (number >= 0)
+        printf("    %-52s%.20g\n", label, number);
+}
+
+/* Prints what stands in Info. */
+RIMOPAKU_AMD_LINKAGE void amd_info(double Info[])
+{
+    double n, divisions, ldl, lu;
+
+    printf("\nAMD by rimopaku, results:\n");
+    if (Info == NULL)
+        return;
+    n = Info[AMD_N];
+    divisions = Info[AMD_NDIV];
+    ldl = Info[AMD_NMULTSUBS_LDL];
+    lu = Info[AMD_NMULTSUBS_LU];
+    printf("    status: %s\n", Info[AMD_STATUS] == AMD_OK ? "OK"
+                               : Info[AMD_STATUS] == AMD_OUT_OF_MEMORY ? "out of memory"
+                               : Info[AMD_STATUS] == AMD_INVALID ? "invalid matrix"
+                               : Info[AMD_STATUS] == AMD_OK_BUT_JUMBLED ? "OK, but jumbled"
+                                                                        : "unknown");
+    rimopaku_amd_print("n, dimension of A:", n);
+    rimopaku_amd_print("nz, number of nonzeros in A:", Info[AMD_NZ]);
+    if (Info[AMD_SYMMETRY] >= 0)
+        printf("    %-52s%.4f\n", "symmetry of A:", Info[AMD_SYMMETRY]);
+    rimopaku_amd_print("number of nonzeros on diagonal:", Info[AMD_NZDIAG]);
+    rimopaku_amd_print("nonzeros in pattern of A+A' (excl. diagonal):", Info[AMD_NZ_A_PLUS_AT]);
+    rimopaku_amd_print("# dense rows/columns of A+A':", Info[AMD_NDENSE]);
+    rimopaku_amd_print("memory used, in bytes:", Info[AMD_MEMORY]);
+    rimopaku_amd_print("# of memory compactions:", Info[AMD_NCMPA]);
+    printf("\n    Upper bounds for a factorization of A(P,P) + A(P,P)':\n\n");
+    rimopaku_amd_print("nonzeros in L (excluding diagonal):", Info[AMD_LNZ]);
+    rimopaku_amd_print("nonzeros in L (including diagonal):", n >= 0 && Info[AMD_LNZ] >= 0 ? n + Info[AMD_LNZ] : -1);
+    rimopaku_amd_print("# divide operations for LDL' or LU:", divisions);
+    rimopaku_amd_print("# multiply-subtract operations for LDL':", ldl);
+    rimopaku_amd_print("# multiply-subtract operations for LU:", lu);
+    rimopaku_amd_print("max nz. in any column of L (incl. diagonal):", Info[AMD_DMAX]);
+    if (n < 0 || divisions < 0 || ldl < 0 || lu < 0)
+        return;
+    printf("\n");
+    rimopaku_amd_print("chol flop count for real A, sqrt counted as 1 flop:", n + divisions + 2 * ldl);
+    rimopaku_amd_print("LDL' flop count for real A:", divisions + 2 * ldl);
+    rimopaku_amd_print("LDL' flop count for complex A:", 9 * divisions + 8 * ldl);
+    rimopaku_amd_print("LU flop count for real A (with no pivoting):", divisions + 2 * lu);
+    rimopaku_amd_print("LU flop count for complex A (with no pivoting):", 9 * divisions + 8 * lu);
+    printf("\n");
+}
+
+RIMOPAKU_AMD_LINKAGE void amd_l_info(double Info[])
+{
+    amd_info(Info);
+}
+
+#ifdef __cplusplus
+}
+#endif
+
+#endif
