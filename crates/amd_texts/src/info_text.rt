@@ -12,8 +12,8 @@ use std::fmt::Display;
 use std::io;
 use std::io::Write;
 
-/// Writes a line of a label and a value, which begins in a column of its own.
-fn write_labelled<W: Write, D: Display>(label: &str, value: &D, out: &mut W) -> io::Result<()>
+/// Writes a line of a label of ASCII characters and a value, which begins in a column of its own.
+pub fn write_labelled<W: Write, D: Display>(label: &str, value: &D, out: &mut W) -> io::Result<()>
     requires { IsTrue (list_all is_ascii label.now) }
     ensures { OnOk result (IfSome (D.output value.now) (λ text. Appends (W.contents out.old) (W.contents out.new) (labelled label.now text))) }
 {

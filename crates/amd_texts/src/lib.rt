@@ -5,4 +5,4 @@ mod control_text;
 mod info_text;
 
 pub use crate::control_text::control;
-pub use crate::info_text::info;
+pub use crate::info_text::{info, write_labelled};

@@ -1,0 +1,35 @@
+-- The exit statuses.
+use Rattle.std.specs.Prelude.{ℕ}
+use Rattle.amd_market.specs.declared.faults.Fault.{Fault}
+use Rattle.amd_market.specs.declared.faults.Fault.TheVariants as fault
+use Rattle.amd_market.specs.declared.faults.ReadError.{ReadError}
+use Rattle.amd_market.specs.declared.faults.ReadError.TheVariants.{Line, Input}
+use Rattle.amd_command.specs.declared.causes.Cause.{Cause}
+use Rattle.amd_command.specs.declared.causes.Cause.TheVariants.{Dense, Open, Text, Form, Memory, Write}
+
+-- the exit status after a fault of a line: 1 where memory was refused, else 2
+abbrev pub fault_status : Fault → ℕ
+fault_status fault.OutOfMemory = 1
+fault_status fault.Header = 2
+fault_status fault.Size = 2
+fault_status fault.NotSquare = 2
+fault_status fault.Rows = 2
+fault_status fault.Entry = 2
+fault_status fault.Row = 2
+fault_status fault.Missing = 2
+fault_status fault.More = 2
+fault_status fault.Lines = 2
+
+-- the exit status after a text that was not read
+abbrev pub read_status : ReadError → ℕ
+read_status (Line line f) = fault_status f
+read_status (Input line e) = 2
+
+-- the exit status: 1 where memory was refused or an output failed, and 2 where an argument or an input is wrong
+abbrev pub exit_status : Cause → ℕ
+exit_status Dense = 2
+exit_status (Open e) = 2
+exit_status (Text e) = read_status e
+exit_status Form = 2
+exit_status Memory = 1
+exit_status (Write e) = 1

@@ -1,0 +1,81 @@
+// Why a run ends early, and the exit status of that. Given by each module of this crate, and told by `program`.
+
+ghost use Rattle.amd_command.specs.Causes.{exit_status};
+ghost use Rattle.std.specs.Prelude.{◌≡◌};
+
+use amd::Status;
+use amd_market::faults::{Fault, ReadError};
+use std::alloc::{AllocError, AllocFailed};
+use std::io;
+use thiserror::Error;
+
+/// Why a run ends early.
+#[derive(Debug, Drop, Error)]
+pub enum Cause {
+    /// The dense row parameter is wrong.
+    #[error("the dense row parameter is no decimal number with up to three places")]
+    Dense,
+    /// A file could not be opened.
+    #[error("cannot be opened: {0}")]
+    Open(io::Error),
+    /// A text is wrong, or could not be read.
+    #[error("{0}")]
+    Text(ReadError),
+    /// The pattern is no column form.
+    #[error("no column form")]
+    Form,
+    /// Memory was refused.
+    #[error("out of memory")]
+    Memory,
+    /// Something could not be written.
+    #[error("cannot be written: {0}")]
+    Write(io::Error),
+}
+
+impl Cause {
+    /// The exit status: 1 where memory was refused or an output failed, and 2 where an argument or an input is wrong.
+    pub fn exit_status(&self) -> u8
+        ensures { result ≡ exit_status self.now }
+    {
+        match self {
+            Cause::Dense | Cause::Open(_) | Cause::Form => 2,
+            Cause::Text(ReadError::Line { fault, .. }) => {
+                if *fault == Fault::OutOfMemory { 1 } else { 2 }
+            }
+            Cause::Text(ReadError::Input { .. }) => 2,
+            Cause::Memory | Cause::Write(_) => 1,
+        }
+    }
+}
+
+impl From<Status> for Cause {
+    fn from(status: Status) -> Cause {
+        match status {
+            Status::OutOfMemory => Cause::Memory,
+            Status::Invalid | Status::OK | Status::OkButJumbled => Cause::Form,
+        }
+    }
+}
+
+impl From<AllocError> for Cause {
+    fn from(_: AllocError) -> Cause {
+        Cause::Memory
+    }
+}
+
+impl<T: Drop> From<AllocFailed<T>> for Cause {
+    fn from(_: AllocFailed<T>) -> Cause {
+        Cause::Memory
+    }
+}
+
+// What a refused buffer, or an output that failed, gives.
+impl From<io::Error> for Cause {
+    fn from(error: io::Error) -> Cause {
+        if error.kind() == io::ErrorKind::OutOfMemory {
+            Cause::Memory
+        } else {
+            Cause::Write(error)
+        }
+    }
+}

@@ -1,0 +1,175 @@
+// What a matrix is: its figures, the degrees of its rows, and how its columns stand in the file. Called by `program`.
+
+ghost use Rattle.std.specs.Prelude.{◌≡◌, ◌-◌, ℕ, List, pos, map, max, fold, count_by, nat_lt, length, IfOk};
+ghost use Rattle.amd_model.specs.Input.Columns.{IsInput, IsSortedInput};
+ghost use Rattle.amd_command.specs.Degrees.{IsFacts};
+
+use amd::aat::aat;
+use amd::preprocess::preprocess;
+use amd::valid::valid;
+use amd::{Control, Info, Status};
+use amd_market::reader::Matrix;
+use amd_numbers::dense::dense_threshold;
+use amd_texts::write_labelled;
+use std::alloc::Allocator;
+use std::io::Write;
+use std::{fmt, io};
+
+/// The degrees of the rows of a matrix: how many other rows each has an edge with.
+#[derive(Clone, Copy)]
+pub struct Degrees {
+    /// Their sum.
+    pub sum: usize,
+    /// The greatest one; 0 where there are no rows.
+    pub greatest: usize,
+    /// How many are 0.
+    pub none: usize,
+    /// How many are above the dense threshold.
+    pub above: usize,
+}
+
+/// What a matrix is.
+#[derive(Drop)]
+pub struct Facts {
+    /// The figures of the pattern, and whether the columns are sorted.
+    pub info: Info,
+    /// The dense threshold: rows of a greater degree are held last.
+    pub threshold: usize,
+    /// The degrees of the rows.
+    pub degrees: Degrees,
+}
+
+/// A number of hundredths, which is shown as a decimal fraction.
+#[derive(Drop)]
+struct Hundredths(u128);
+
+impl fmt::Display for Hundredths {
+    fn fmt<W: fmt::Write>(&self, f: &mut fmt::Formatter<W>) -> fmt::Result {
+        let whole = self.0 / 100;
+        let rest = self.0 % 100;
+        write!(f, "{whole}.{rest:02}")
+    }
+}
+
+/// The greatest one of some numbers; 0 where there are none.
+#[tactic(auto, using(std::proofs::lemmas::List::Sums::fold_more))]
+fn greatest_of(numbers: &[usize]) -> usize
+    ensures { result ≡ fold max 0 numbers.now }
+{
+    let mut greatest = 0;
+    'numbers: for &number in numbers {
+        greatest = greatest.max(number);
+    }
+    greatest
+}
+
+/// How many of some numbers are above a limit.
+fn count_above(numbers: &[usize], limit: usize) -> usize
+    ensures { result ≡ count_by (λ x. nat_lt limit x) numbers.now }
+{
+    numbers.iter().filter(|number| **number > limit).count()
+}
+
+/// What a matrix is whose columns are sorted.
+fn facts_of_sorted<A: Allocator + Copy>(
+    alloc: A,
+    n: usize,
+    a_p: &[usize],
+    a_i: &[usize],
+    control: &Control,
+) -> Result<Facts, Status>
+    requires form { IsInput (pos n) (pos n) (map pos a_p.now) (map pos a_i.now) }
+    requires sorted { IsSortedInput (pos n) (map pos a_p.now) (map pos a_i.now) }
+    ensures { IfOk result (IsFacts n control.now.dense (map pos a_p.now) (map pos a_i.now)) }
+{
+    let mut info = Info::new(n);
+    let (sum, degrees) = aat(alloc, n, a_p, a_i, &mut info)?;
+    let threshold = dense_threshold(n, control);
+    let some = count_above(&degrees, 0);
+    let degrees = Degrees {
+        sum,
+        greatest: greatest_of(&degrees),
+        none: degrees.len() - some,
+        above: count_above(&degrees, threshold),
+    };
+    Ok(Facts {
+        info,
+        threshold,
+        degrees,
+    })
+}
+
+/// What a matrix is whose columns are jumbled: its transpose with sorted columns has the same figures.
+fn facts_of_jumbled<A: Allocator + Copy>(
+    alloc: A,
+    matrix: &Matrix<A>,
+    control: &Control,
+) -> Result<Facts, Status>
+    requires { IsInput (pos matrix.now.n) (pos matrix.now.n) (map pos matrix.now.a_p.items) (map pos matrix.now.a_i.items) }
+{
+    let (c_p, c_i) = preprocess(alloc, matrix.n, &matrix.a_p, &matrix.a_i)?;
+    let mut facts = facts_of_sorted(alloc, matrix.n, &c_p, &c_i, control)?;
+    facts.info.status = Status::OkButJumbled;
+    Ok(facts)
+}
+
+/// What a matrix is. The columns are *sorted* where the rows of each strictly rise.
+///
+/// # Errors
+///
+/// `Invalid` where the matrix is no column form; `OutOfMemory` where memory was refused.
+pub fn facts_of<A: Allocator + Copy>(
+    alloc: A,
+    matrix: &Matrix<A>,
+    control: &Control,
+) -> Result<Facts, Status> {
+    match valid(matrix.n, matrix.n, &matrix.a_p, &matrix.a_i) {
+        Status::OK => facts_of_sorted(alloc, matrix.n, &matrix.a_p, &matrix.a_i, control),
+        Status::OkButJumbled => facts_of_jumbled(alloc, matrix, control),
+        status => Err(status),
+    }
+}
+
+/// The word for a yes or a no.
+fn answer_word(holds: bool) -> &'static str {
+    if holds { "yes" } else { "no" }
+}
+
+/// Writes the lines on the pattern.
+fn write_pattern<W: Write>(info: &Info, out: &mut W) -> io::Result<()> {
+    let sorted = answer_word(info.status == Status::OK);
+    write_labelled("rows", &info.n, out)?;
+    write_labelled("entries, repeats dropped", &info.nz, out)?;
+    write_labelled("symmetric pattern", &answer_word(info.symmetry), out)?;
+    write_labelled("entries on the diagonal", &info.nz_diag, out)?;
+    write_labelled("edges", &(info.nz_a_plus_at / 2), out)?;
+    write_labelled("columns sorted, no repeats", &sorted, out)?;
+    Ok(())
+}
+
+/// The mean degree, cut to two places; 0 where there are no rows.
+fn mean_of(facts: &Facts) -> Hundredths {
+    let rows = facts.info.n.max(1) as u128;
+    Hundredths(facts.degrees.sum as u128 * 100 / rows)
+}
+
+/// Writes the lines on the degrees.
+fn write_degrees<W: Write>(facts: &Facts, out: &mut W) -> io::Result<()> {
+    write_labelled("greatest degree", &facts.degrees.greatest, out)?;
+    write_labelled("mean degree", &mean_of(facts), out)?;
+    write_labelled("rows of degree 0", &facts.degrees.none, out)?;
+    write_labelled("dense threshold", &facts.threshold, out)?;
+    write_labelled("rows above the threshold", &facts.degrees.above, out)?;
+    Ok(())
+}
+
+/// Writes what a matrix is, a label and a value a line.
+///
+/// # Errors
+///
+/// The writer's, of the first write that fails. What was written before stays written.
+pub fn write_facts<W: Write>(facts: &Facts, out: &mut W) -> io::Result<()> {
+    write_pattern(&facts.info, out)?;
+    write_degrees(facts, out)?;
+    Ok(())
+}

@@ -1,0 +1,54 @@
+// The rows that a caller wants last, from a text with the number of one row a line. Rows count from 1; lines without a word, and
+// lines whose first word begins with `%`, are passed over. A row may stand there more than once. Called by `program`.
+
+ghost use Rattle.std.specs.Prelude.{◌≡◌, ℕ, length, IfOk, IfErr, IfSome, MatchOption};
+ghost use Rattle.amd_market.specs.Files.{NamesLine};
+ghost use Rattle.amd_command.specs.Held.{SpellsRow, MarksRows};
+
+use amd_cases::words::first_word;
+use amd_market::entries::index_of;
+use amd_market::faults::{Fault, ReadError};
+use amd_market::lines::LineReader;
+use std::alloc::Allocator;
+use std::io::BufRead;
+
+/// The row of `n`, from 0 on, whose number stands alone in a line.
+fn row_of(line: &[u8], n: usize) -> Option<usize>
+    ensures { MatchOption result ((i : ℕ) → SpellsRow n line.now i → ⊥) (SpellsRow n line.now) }
+{
+    let (word, rest) = first_word(line)?;
+    if first_word(rest).is_some() {
+        return None;
+    }
+    index_of(word, n)
+}
+
+/// The marks of `n` rows: those that a text lists are marked.
+///
+/// # Errors
+///
+/// `Line` for a line at fault or refused memory; `Input` where the input cannot be read. Each names the line that was read last.
+pub fn read_held<R: BufRead + Drop, A: Allocator + Copy>(
+    alloc: A,
+    n: usize,
+    input: R,
+) -> Result<Vec<bool, A>, ReadError>
+    ensures size { IfOk result (λ v. length v.items ≡ n) }
+    ensures marks { IfOk result (λ v. IfSome (R.remaining input) (λ bytes. MarksRows bytes n v.items)) }
+    ensures line { IfErr result (λ e. IfSome (R.remaining input) (λ bytes. NamesLine bytes e)) }
+{
+    let mut lines = LineReader::new(alloc, input);
+    let Ok(mut marks) = vec![in alloc; false; n] else {
+        return Err(lines.at_line(Fault::OutOfMemory));
+    };
+    'rows: for _ in 0..u64::MAX {
+        if !lines.take_telling()? {
+            return Ok(marks);
+        }
+        let Some(row) = row_of(lines.line(), n) else {
+            return Err(lines.at_line(Fault::Row));
+        };
+        marks[row] = true;
+    }
+    Err(lines.at_line(Fault::Lines))
+}

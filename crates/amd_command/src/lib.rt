@@ -1,0 +1,17 @@
+//! The command `rimopaku`: it reads a matrix from a file of the Matrix Market, orders it or tells what it is, and writes the
+//! permutation, figures and a picture. The program `rimopaku` hands in its arguments.
+//!
+//! What is read, ordered and written stands in functions over readers and writers, with contracts. What is tested alone: the words
+//! of the command line (`request`), the files that are opened and the messages (`program`), and the picture (`picture`, `grids`).
+#![tactic(auto)]
+
+pub mod causes;
+pub mod facts;
+pub mod figures;
+pub mod grids;
+pub mod held;
+pub mod ordering;
+pub mod picture;
+pub mod program;
+pub mod request;
+pub mod rows;

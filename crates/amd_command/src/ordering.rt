@@ -1,0 +1,37 @@
+// The ordering of a matrix that was read. Called by `program`.
+
+ghost use Rattle.std.specs.Prelude.{ℤ, List, pos, map, IfOk, IfErr};
+ghost use Rattle.std.specs.Option.{option_copied};
+ghost use Rattle.amd.specs.Answers.{IsOrderingHolding, IsRefusalHolding};
+
+use amd::{Control, Info, Status, order, order_holding};
+use amd_market::reader::Matrix;
+use std::alloc::Allocator;
+
+/// Orders a matrix, with the marked rows held last where there are marks, and answers the permutation and what it tells: row `p[k]`
+/// stands at place `k`.
+///
+/// # Errors
+///
+/// Those of `order` and `order_holding`.
+pub fn order_matrix<A: Allocator + Copy>(
+    alloc: A,
+    matrix: &Matrix<A>,
+    control: &Control,
+    hold: Option<&[bool]>,
+) -> Result<(Vec<usize, A>, Info), Status>
+    ensures ordering { IfOk result (λ a. (q : List ℤ) × IsOrderingHolding (option_copied hold.entry) (pos matrix.now.n) control.now.dense control.now.aggressive (map pos matrix.now.a_p.items) (map pos matrix.now.a_i.items) (map pos a.0.items) q a.1) }
+    ensures refusal { IfErr result (λ e. IsRefusalHolding (option_copied hold.entry) (pos matrix.now.n) (map pos matrix.now.a_p.items) (map pos matrix.now.a_i.items) e) }
+{
+    match hold {
+        Some(marks) => {
+            let answer = order_holding(alloc, matrix.n, &matrix.a_p, &matrix.a_i, control, marks);
+            let (p, _, info) = answer?;
+            Ok((p, info))
+        }
+        None => {
+            let (p, _, info) = order(alloc, matrix.n, &matrix.a_p, &matrix.a_i, control)?;
+            Ok((p, info))
+        }
+    }
+}

@@ -1,0 +1,130 @@
+// The words of a command line, what is written, writers with a fault at each call, and each request for memory refused in turn.
+
+use amd::{Control, Info};
+use amd_command::causes::Cause;
+use amd_command::facts::{facts_of, write_facts};
+use amd_command::figures::write_figures;
+use amd_command::held::read_held;
+use amd_command::ordering::order_matrix;
+use amd_command::picture::write_picture;
+use amd_command::request::thousandths_of;
+use amd_command::rows::write_rows;
+use amd_market::reader::read_matrix;
+use amd_testing::refusing::{Refusing, each_refused};
+use amd_testing::writers::{Fault, Faulty};
+use std::alloc::{Allocator, Global};
+use std::io::Write;
+use std::process::Abort;
+use std::test::Fail;
+
+/// A path of three rows, which stand in the order 1, 3, 2, with an entry of the diagonal.
+const PATH: &str = "%%MatrixMarket matrix coordinate pattern symmetric\n3 3 3\n1 1\n3 1\n3 2\n";
+
+/// What `info` tells of it.
+const PATH_FACTS: &str = "    rows                                                3
+    entries, repeats dropped                            5
+    symmetric pattern                                   yes
+    entries on the diagonal                             1
+    edges                                               2
+    columns sorted, no repeats                          yes
+    greatest degree                                     2
+    mean degree                                         1.33
+    rows of degree 0                                    0
+    dense threshold                                     3
+    rows above the threshold                            0
+";
+
+/// Reads the path, orders it with the second row held last, tells what it is and draws it.
+fn write_all_of<W: Write, A: Allocator + Copy>(alloc: A, out: &mut W) -> Result<(), Cause> {
+    let matrix = read_matrix(alloc, PATH.as_bytes()).map_err(Cause::Text)?;
+    let marks = read_held(alloc, matrix.n, "2\n".as_bytes()).map_err(Cause::Text)?;
+    let control = Control::default();
+    let (p, info) = order_matrix(alloc, &matrix, &control, Some(&marks))?;
+    write_rows(&p, out)?;
+    write_figures(&info, out)?;
+    write_facts(&facts_of(alloc, &matrix, &control)?, out)?;
+    write_picture(alloc, &matrix, &p, out)
+}
+
+#[test]
+fn decimal_parameters(rt: HostRuntime) {
+    for (text, wanted) in [
+        ("10", Some(10000)),
+        ("0", Some(0)),
+        ("2.5", Some(2500)),
+        ("0.05", Some(50)),
+        ("-1", Some(-1000)),
+        ("-0.125", Some(-125)),
+        ("7.", Some(7000)),
+        ("1.2345", None),
+        ("1.-5", None),
+        ("", None),
+        (".5", None),
+        ("ten", None),
+        ("2147484", None),
+    ] {
+        assert_eq!(&rt; thousandths_of(text), wanted, "{text}");
+    }
+}
+
+/// Row 2 is held last. Row 3 comes first and joins the rows 1 and 2, so that there is one entry of fill.
+#[test]
+fn what_is_written(rt: HostRuntime) -> Result<(), Fail> {
+    let mut out = Vec::new(rt.alloc());
+    assert!(&rt; write_all_of(rt.alloc(), &mut out).is_ok());
+    let text = String::from_utf8_lossy(rt.alloc(), &out)?;
+    let text = text.as_str();
+    assert!(&rt; text.starts_with("3\n1\n2\n    rows "));
+    assert!(&rt; text.contains(PATH_FACTS));
+    assert!(&rt; text.ends_with("fill: 1 entries of L</text>\n</svg>\n"));
+    Ok(())
+}
+
+#[test]
+fn writers_with_faults(rt: HostRuntime) {
+    let mut calls = 0;
+    'faults: for fault_at in 1..400u64 {
+        let mut out = Faulty::new(Vec::new(rt.alloc()), Fault::Fails, fault_at);
+        let answer = write_all_of(rt.alloc(), &mut out);
+        if out.faults() == 0 {
+            assert!(&rt; answer.is_ok());
+            break 'faults;
+        }
+        assert_eq!(&rt; out.calls(), fault_at);
+        assert!(&rt; matches!(&answer, Err(Cause::Write(_))));
+        calls = fault_at;
+    }
+    assert!(&rt; 20 < calls);
+    assert!(&rt; calls < 399);
+}
+
+/// Whether all was written; where not, that was for want of memory.
+fn is_written(rt: &impl Abort, heap: &Refusing<Global>, room: &Global) -> bool {
+    let mut out = Vec::new(*room);
+    match write_all_of(heap, &mut out) {
+        Ok(()) => true,
+        Err(cause) => {
+            assert_eq!(rt; cause.exit_status(), 1);
+            false
+        }
+    }
+}
+
+#[test]
+fn refused_memory(rt: HostRuntime) {
+    let room = rt.alloc();
+    match each_refused(rt.alloc(), |heap| is_written(&rt, heap, &room)) {
+        Ok(count) => assert!(&rt; 20 < count),
+        Err(slip) => panic!(&rt; "{slip:?}"),
+    }
+}
+
+#[test]
+fn empty_matrix(rt: HostRuntime) -> Result<(), Fail> {
+    let mut out = Vec::new(rt.alloc());
+    let info = Info::new(0);
+    assert!(&rt; write_rows(&[], &mut out).is_ok());
+    assert!(&rt; out.is_empty());
+    assert!(&rt; write_figures(&info, &mut out).is_ok());
+    Ok(())
+}

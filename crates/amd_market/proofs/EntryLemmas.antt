@@ -1,0 +1,72 @@
+-- The words of a size and of an entry, one by one.
+use Rattle.std.proofs.Common.{◌≡◌, ◌<◌, ◌+◌, ℕ, zero, suc, pos, arith, Bool, true, false, List, [], ◌∷◌, ◌++◌, length, cond, refl, sym, ap}
+use Rattle.std.proofs.Common.{◌∙◌, subst}
+use Rattle.std.specs.Prelude.{All, flat_map, ◌==◌, ◌&&◌, not}
+use Rattle.std.proofs.lemmas.List.Elements.{All-append}
+use Rattle.amd_cases.specs.Words.{words, SpellsNumber}
+use Rattle.amd_market.specs.Headers.{value_words, pairs_of, is_mirrored}
+use Rattle.amd_market.specs.Entries.{SpellsSize, SpellsIndex, SpellsEntry, SpellsEntries}
+use Rattle.amd_market.specs.declared.headers.Field.{Field}
+use Rattle.amd_market.specs.declared.headers.Symmetry.{Symmetry}
+
+-- the words of a line that was taken apart spell the numbers of any size that it spells
+pub size-words : (line f s t : List ℕ) (a b d : List (List ℕ)) → words line ≡ f ∷ a → a ≡ s ∷ b → b ≡ t ∷ d → (r c e : ℕ) →
+    SpellsSize line r c e
+    → SpellsNumber f (pos r) × (SpellsNumber s (pos c) × (SpellsNumber t (pos e) × (d ≡ [])))
+size-words line f s t a b d hf hs ht r c e h =
+    let all : h.first ∷ (h.second ∷ (h.third ∷ [])) ≡ f ∷ (s ∷ (t ∷ d)) =
+    sym h.parts ∙ hf ∙ ap (λ z. f ∷ z) (hs ∙ ap (λ z. s ∷ z) ht) in
+    let one : h.first ≡ f = cc in
+    let two : h.second ≡ s = cc in
+    let three : h.third ≡ t = cc in
+    let none : d ≡ [] = cc in (
+      subst (λ w. SpellsNumber w (pos r)) one h.has_rows,
+      (
+        subst (λ w. SpellsNumber w (pos c)) two h.has_columns,
+        (subst (λ w. SpellsNumber w (pos e)) three h.has_entries, none),
+      ),
+    )
+
+-- the same of an entry
+pub entry-words : (field : Field) (n : ℕ) (line f s : List ℕ) (a b : List (List ℕ)) → words line ≡ f ∷ a → a ≡ s ∷ b → (e : ℕ × ℕ) →
+    SpellsEntry field n line e
+    → SpellsIndex f n e.0 × (SpellsIndex s n e.1 × (length b ≡ value_words field))
+entry-words field n line f s a b hf hs e h =
+    let all : h.first ∷ (h.second ∷ h.behind) ≡ f ∷ (s ∷ b) = sym h.parts ∙ hf ∙ ap (λ z. f ∷ z) hs in
+    let one : h.first ≡ f = cc in
+    let two : h.second ≡ s = cc in
+    let rest : h.behind ≡ b = cc in
+    (subst (λ w. SpellsIndex w n e.0) one h.row, (subst (λ w. SpellsIndex w n e.1) two h.column, ap length (sym rest) ∙ h.value))
+
+-- one entry more
+pub entries-more : (field : Field) (n : ℕ) (ls : List (List ℕ)) (es : List (ℕ × ℕ)) (l : List ℕ) (e : ℕ × ℕ) → SpellsEntries field n ls es
+    → SpellsEntry field n l e → SpellsEntries field n (ls ++ l ∷ []) (es ++ e ∷ [])
+entries-more field n [] [] l e h k = (k, tt)
+entries-more field n [] (d ∷ es) l e h k = elim h [ ]
+entries-more field n (m ∷ ls) [] l e h k = elim h [ ]
+entries-more field n (m ∷ ls) (d ∷ es) l e h k = (h.0, entries-more field n ls es l e h.1 k)
+
+all-one : (n : ℕ) (p : ℕ × ℕ) → p.1 < n → All {X = ℕ × ℕ} (λ q. q.1 < n) (p ∷ [])
+all-one n p h zero d k = h
+all-one n p h (suc i) d k = absurd (omega arith)
+
+-- the pairs of an entry lie in the columns
+pairs-inside : (n : ℕ) (s : Symmetry) (e : ℕ × ℕ) → e.0 < n → e.1 < n → All {X = ℕ × ℕ} (λ p. p.1 < n) (pairs_of s e)
+pairs-inside n s e h k = at (is_mirrored s && not (e.0 == e.1))
+  where
+    at : (b : Bool) → All {X = ℕ × ℕ} (λ p. p.1 < n) (cond b ((e.0, e.1) ∷ ((e.1, e.0) ∷ [])) ((e.0, e.1) ∷ []))
+    at true = All-append {X = ℕ × ℕ} (λ p. p.1 < n) ((e.0, e.1) ∷ []) ((e.1, e.0) ∷ []) (all-one n (e.0, e.1) k) (all-one n (e.1, e.0) h)
+    at false = all-one n (e.0, e.1) k
+
+-- the pairs of all entries lie in the columns
+pub all-inside : (field : Field) (n : ℕ) (s : Symmetry) (ls : List (List ℕ)) (es : List (ℕ × ℕ)) → SpellsEntries field n ls es
+    → All {X = ℕ × ℕ} (λ p. p.1 < n) (flat_map (pairs_of s) es)
+all-inside field n s [] [] h = λ k d x. absurd (omega arith)
+all-inside field n s [] (e ∷ es) h = elim h [ ]
+all-inside field n s (l ∷ ls) [] h = elim h [ ]
+all-inside field n s (l ∷ ls) (e ∷ es) h = All-append {X = ℕ × ℕ} (λ p. p.1 < n) (pairs_of s e) (flat_map (pairs_of s) es)
+    (pairs-inside n s e h.0.row.0 h.0.column.0) (all-inside field n s ls es h.1)
+
+-- what stands behind the first two words
+pub second-rest : {X : Type 0} (l t u ws : List X) (x y p q : X) → l ≡ x ∷ t → t ≡ y ∷ u → l ≡ p ∷ (q ∷ ws) → u ≡ ws
+second-rest l t u ws x y p q h k e = let all : x ∷ (y ∷ u) ≡ p ∷ (q ∷ ws) = ap (λ z. x ∷ z) (sym k) ∙ sym h ∙ e in cc

@@ -1,0 +1,4 @@
+pub mod LineLemmas
+pub mod EntryLemmas
+pub mod ColumnLemmas
+pub mod FileLemmas

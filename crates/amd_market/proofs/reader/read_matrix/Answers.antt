@@ -1,0 +1,52 @@
+-- The parts of the file were read one after another; an error of a part names its line behind those of the parts before.
+use Rattle.std.proofs.Common.{◌≡◌, ◌∷◌, [], ap}
+use Rattle.std.proofs.lemmas.Result.{err_from_is_err_and}
+use Rattle.amd_market.specs.Lines.{named_line}
+use Rattle.amd_market.proofs.LineLemmas.{fails-behind, fails-notes}
+use Rattle.amd_market.proofs.FileLemmas.{file-whole, names-line, pairs-inside}
+use Rattle.amd_market.proofs.reader.read_matrix.Goals as goal
+
+pub returns-in_err-size-clause-line : goal.returns-in_err-size-clause-line
+returns-in_err-size-clause-line g c =
+    let first = c.in_ok-header.ensures.takes in
+    let p = err_from_is_err_and c.from_residual-in_err-size.result c.from_residual-in_err-size.ensures.1 in
+    rw (p.1, p.2) (names-line _ c.new-lines.result _ _ c.new-lines.ensures.source c.new-lines.ensures.lines
+    (fails-behind _ _ _ (first.0 ∷ []) _ first.1 c.in_err-size.ensures.fails))
+
+pub returns-in_err-pairs-clause-line : goal.returns-in_err-pairs-clause-line
+returns-in_err-pairs-clause-line g c =
+    let first = c.in_ok-header.ensures.takes in
+    let second = c.in_ok-size.ensures.takes.1 in
+    let p = err_from_is_err_and c.from_residual-in_err-pairs.result c.from_residual-in_err-pairs.ensures.1 in
+    rw (p.1, p.2) (names-line _ c.new-lines.result _ _ c.new-lines.ensures.source c.new-lines.ensures.lines
+    (fails-behind _ _ _ (first.0 ∷ []) _ first.1 (fails-behind _ _ _ second.lines _ second.takes c.in_err-pairs.ensures.fails)))
+
+pub returns-in_err-take_end-clause-line : goal.returns-in_err-take_end-clause-line
+returns-in_err-take_end-clause-line g c =
+    let first = c.in_ok-header.ensures.takes in
+    let second = c.in_ok-size.ensures.takes.1 in
+    let third = c.in_ok-pairs.ensures.takes in
+    let p = err_from_is_err_and c.from_residual-in_err-take_end.result c.from_residual-in_err-take_end.ensures.1 in
+    rw (p.1, p.2) (names-line _ c.new-lines.result _ _ c.new-lines.ensures.source c.new-lines.ensures.lines
+    (fails-behind _ _ _ (first.0 ∷ []) _ first.1 (fails-behind _ _ _ second.lines _ second.takes
+    (fails-behind _ _ _ third.lines _ third.takes c.in_err-take_end.ensures.fails))))
+
+pub columns_of-requires : goal.columns_of-requires
+columns_of-requires g c = rw c.deref.ensures.value (pairs-inside _ _ _ _ _ _ _ c.in_ok-pairs.ensures.takes)
+
+pub returns-in-Ok-clause-spells : goal.returns-in-Ok-clause-spells
+returns-in-Ok-clause-spells g c =
+    let first = c.in_ok-header.ensures.takes in
+    let second = c.in_ok-size.ensures.takes in
+    file-whole _ c.new-lines.result _ _ _ _ _ first.0 second.0 _ _ _ _ _ _ c.new-lines.ensures.source first.1 first.2 second.1 second.2
+    second.3
+    c.in_ok-pairs.ensures.takes c.in_ok-take_end.ensures.takes (rw c.deref.ensures.value at c.in-Ok.ensures)
+
+pub returns-clause-line : goal.returns-clause-line
+returns-clause-line g c =
+    let first = c.in_ok-header.ensures.takes in
+    let second = c.in_ok-size.ensures.takes.1 in
+    let third = c.in_ok-pairs.ensures.takes in
+    names-line _ c.new-lines.result _ _ c.new-lines.ensures.source c.new-lines.ensures.lines
+    (fails-behind _ _ _ (first.0 ∷ []) _ first.1 (fails-behind _ _ _ second.lines _ second.takes
+    (fails-behind _ _ _ third.lines _ third.takes (fails-notes _ _ _ _ c.in_ok-take_end.ensures.takes (ap named_line c.at_line.ensures)))))

@@ -1,0 +1,43 @@
+-- The text of a file, and the matrix that it spells.
+use Rattle.std.specs.Prelude.{◌≡◌, ◌≤◌, ℕ, Some, List, [], ◌∷◌, length, flat_map, Option}
+use Rattle.amd_market.specs.Headers.{SpellsHeader, pairs_of}
+use Rattle.amd_market.specs.Entries.{SpellsSize, SpellsEntries, most_rows}
+use Rattle.amd_market.specs.Lines.{BeginsWith, TakesLines, telling, line_number, named_line}
+use Rattle.amd_market.specs.Columns.{HoldsPairs}
+use Rattle.amd_market.specs.declared.headers.Header.{Header}
+use Rattle.amd_market.specs.declared.lines.LineReader.{LineReader}
+use Rattle.amd_market.specs.declared.faults.ReadError.{ReadError}
+
+-- lines were read whose telling ones are the entries, one by one, and the pairs are those that the entries stand for
+pub record TakesEntries {R Z : Type 0} (remaining : R → Option (List ℕ)) (old new : LineReader R Z) (header : Header) (n count : ℕ)
+    (pairs : List (ℕ × ℕ)) : Type 0 where
+  pub lines : List (List ℕ)
+  pub takes : TakesLines remaining old new lines
+  pub entries : List (ℕ × ℕ)
+  pub counted : length entries ≡ count
+  pub spells : SpellsEntries header.field n (telling lines) entries
+  pub pairs_are : pairs ≡ flat_map (pairs_of header.symmetry) entries
+
+-- the text is a header, the line of the size and the lines of the entries, with notes between them; the column form with n
+-- columns is that of the pairs that the entries stand for, in their order
+pub record SpellsMatrix (bytes : List ℕ) (n : ℕ) (ap ai : List ℕ) : Type 0 where
+  pub first : List ℕ
+  pub others : List (List ℕ)
+  pub lines : BeginsWith (first ∷ others) bytes (Some [])
+  pub header : Header
+  pub has_header : SpellsHeader first header
+  pub size_line : List ℕ
+  pub entry_lines : List (List ℕ)
+  pub parts : telling others ≡ size_line ∷ entry_lines
+  pub entries : List (ℕ × ℕ)
+  pub has_size : SpellsSize size_line n n (length entries)
+  pub few_rows : n ≤ most_rows (length entries)
+  pub has_entries : SpellsEntries header.field n entry_lines entries
+  pub columns : HoldsPairs n (flat_map (pairs_of header.symmetry) entries) ap ai
+
+-- the text begins with some lines, and the error names the last of them by its number, from 1 on; 0 where there are none
+pub record NamesLine (bytes : List ℕ) (e : ReadError) : Type 0 where
+  pub lines : List (List ℕ)
+  pub rest : Option (List ℕ)
+  pub named : named_line e ≡ line_number 0 lines
+  pub begins : BeginsWith lines bytes rest

@@ -1,0 +1,45 @@
+-- The first line of a file, and what it says of the entries.
+use Rattle.std.specs.Prelude.{◌≡◌, ◌==◌, ◌&&◌, not, ℕ, Bool, true, false, List, [], ◌∷◌, codes, cond}
+use Rattle.amd_cases.specs.Words.{words}
+use Rattle.amd_market.specs.declared.headers.Field.{Field}
+use Rattle.amd_market.specs.declared.headers.Field.TheVariants.{Real, Integer, Complex, Pattern}
+use Rattle.amd_market.specs.declared.headers.Symmetry.{Symmetry}
+use Rattle.amd_market.specs.declared.headers.Symmetry.TheVariants as kind
+use Rattle.amd_market.specs.declared.headers.Header.{Header}
+
+-- the word of a field
+abbrev pub field_text : Field → List ℕ
+field_text Real = codes "real"
+field_text Integer = codes "integer"
+field_text Complex = codes "complex"
+field_text Pattern = codes "pattern"
+
+-- how many words an entry has behind its row and its column
+abbrev pub value_words : Field → ℕ
+value_words Real = 1
+value_words Integer = 1
+value_words Complex = 2
+value_words Pattern = 0
+
+-- the word of a symmetry
+abbrev pub symmetry_text : Symmetry → List ℕ
+symmetry_text kind.General = codes "general"
+symmetry_text kind.Symmetric = codes "symmetric"
+symmetry_text kind.SkewSymmetric = codes "skew-symmetric"
+symmetry_text kind.Hermitian = codes "hermitian"
+
+-- whether an entry stands for its mirror image too
+abbrev pub is_mirrored : Symmetry → Bool
+is_mirrored kind.General = false
+is_mirrored kind.Symmetric = true
+is_mirrored kind.SkewSymmetric = true
+is_mirrored kind.Hermitian = true
+
+-- the line is that of a sparse matrix with this field and this symmetry
+abbrev pub SpellsHeader : List ℕ → Header → Type 0
+SpellsHeader line h =
+    words line ≡ codes "%%MatrixMarket" ∷ (codes "matrix" ∷ (codes "coordinate" ∷ (field_text h.field ∷ (symmetry_text h.symmetry ∷ []))))
+
+-- the pairs of a row and a column that an entry stands for: its own, and off the diagonal, where there is a symmetry, the mirror image
+abbrev pub pairs_of : Symmetry → (ℕ × ℕ) → List (ℕ × ℕ)
+pairs_of s e = cond (is_mirrored s && not (e.0 == e.1)) ((e.0, e.1) ∷ ((e.1, e.0) ∷ [])) ((e.0, e.1) ∷ [])

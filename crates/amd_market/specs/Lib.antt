@@ -1,0 +1,6 @@
+-- What the lines of a Matrix Market file spell.
+pub mod Headers
+pub mod Entries
+pub mod Lines
+pub mod Columns
+pub mod Files

@@ -1,0 +1,84 @@
+-- The lines of a text, and what a reader takes off its input, where the bytes of that are known.
+use Rattle.std.specs.Prelude.{◌≡◌, ◌<◌, ◌==◌, not, ℕ, Bool, true, false, Option, Some, IfSome, List, [], ◌∷◌, length, filter, slice_index}
+use Rattle.std.specs.Prelude.{if◌then◌else◌}
+use Rattle.std.specs.Io.BufRead.{take_through, drop_through}
+use Rattle.amd_cases.specs.Words.{words}
+use Rattle.amd_cases.specs.Reading.{TookLine, one_line_more}
+use Rattle.amd_market.specs.declared.lines.LineReader.{LineReader}
+use Rattle.amd_market.specs.declared.faults.ReadError.{ReadError}
+use Rattle.amd_market.specs.declared.faults.ReadError.TheVariants.{Line, Input}
+
+-- the bytes begin with these lines, each up to and with its line feed, or up to the end of the bytes; and this is left
+abbrev pub BeginsWith : List (List ℕ) → List ℕ → Option (List ℕ) → Type 0
+BeginsWith [] bytes rest = rest ≡ Some bytes
+BeginsWith (l ∷ ls) bytes rest = (0 < length bytes) × (l ≡ take_through 10 bytes) × BeginsWith ls (drop_through 10 bytes) rest
+
+-- a line without a word, or whose first word begins with '%', says nothing
+abbrev pub is_note : List (List ℕ) → Bool
+is_note [] = true
+is_note (w ∷ ws) = slice_index w 0 == 37
+
+-- whether a line says something
+abbrev pub tells : List ℕ → Bool
+tells line = not (is_note (words line))
+
+-- the lines that say something
+abbrev pub telling : List (List ℕ) → List (List ℕ)
+telling ls = filter tells ls
+
+-- the input of a reader
+abbrev pub source_of : {R Z : Type 0} → LineReader R Z → R
+source_of r = r.input
+
+-- the number of lines read
+abbrev pub lines_read : {R Z : Type 0} → LineReader R Z → ℕ
+lines_read r = r.lines
+
+-- the line that was read last
+abbrev pub line_of : {R Z : Type 0} → LineReader R Z → List ℕ
+line_of r = r.line.items
+
+-- the number of lines behind so many others and these, up to the greatest number of 64 bits
+abbrev pub line_number : ℕ → List (List ℕ) → ℕ
+line_number n [] = n
+line_number n (l ∷ ls) = line_number (one_line_more n) ls
+
+-- the next line was read and counted, or there was none
+pub record TakesLine {R Z : Type 0} (remaining : R → Option (List ℕ)) (old new : LineReader R Z) (some : Bool) : Type 0 where
+  pub counted : new.lines ≡ (if some then one_line_more old.lines else old.lines)
+  pub took : IfSome (remaining old.input) (λ bytes. TookLine bytes new.line.items (remaining new.input) some)
+
+-- these lines were read and counted
+pub record TakesLines {R Z : Type 0} (remaining : R → Option (List ℕ)) (old new : LineReader R Z) (ls : List (List ℕ)) : Type 0 where
+  pub counted : new.lines ≡ line_number old.lines ls
+  pub took : IfSome (remaining old.input) (λ bytes. BeginsWith ls bytes (remaining new.input))
+
+-- lines were read, of which the last alone says something
+pub record TakesTelling {R Z : Type 0} (remaining : R → Option (List ℕ)) (old new : LineReader R Z) (line : List ℕ) : Type 0 where
+  pub lines : List (List ℕ)
+  pub takes : TakesLines remaining old new lines
+  pub tells : telling lines ≡ line ∷ []
+
+-- all lines that were left were read, and none of them says anything
+pub record TakesNotes {R Z : Type 0} (remaining : R → Option (List ℕ)) (old new : LineReader R Z) : Type 0 where
+  pub lines : List (List ℕ)
+  pub takes : TakesLines remaining old new lines
+  pub tells : telling lines ≡ []
+  pub end : IfSome (remaining old.input) (λ bytes. remaining new.input ≡ Some [])
+
+-- the next line that says something was read, or there was none
+abbrev pub TakesNext : {R Z : Type 0} → (R → Option (List ℕ)) → LineReader R Z → LineReader R Z → Bool → Type 0
+TakesNext remaining old new true = TakesTelling remaining old new new.line.items
+TakesNext remaining old new false = TakesNotes remaining old new
+
+-- the number of the line that an error names
+abbrev pub named_line : ReadError → ℕ
+named_line (Line line fault) = line
+named_line (Input line error) = line
+
+-- some lines were read, and the error names the last of them
+pub record FailsAt {R Z : Type 0} (remaining : R → Option (List ℕ)) (old : LineReader R Z) (e : ReadError) : Type 0 where
+  pub lines : List (List ℕ)
+  pub rest : Option (List ℕ)
+  pub named : named_line e ≡ line_number old.lines lines
+  pub took : IfSome (remaining old.input) (λ bytes. BeginsWith lines bytes rest)
