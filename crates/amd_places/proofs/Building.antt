@@ -12,8 +12,9 @@ use Rattle.amd_places.specs.Words.{num, is_place, place, word, start, size_of, i
 use Rattle.amd_views.specs.Rounds.{firsts}
 use Rattle.amd_views.proofs.Lists.Named.{sum_named, filter_named}
 use Rattle.amd_views.proofs.Lists.Added.{same_adds, adds_marks}
-use Rattle.amd_places.specs.Element.{grown, Gathers, elements_at, variables_at, members_at, front_of, IsLaid, ListsLaid, Builds}
-use Rattle.amd_places.proofs.RowLists.{rows_none, rows_more, rows_same, rows_both, rows_length, rows_has}
+use Rattle.amd_places.specs.Element.{grown, Gathers, elements_at, variables_at, members_at, front_of, IsListLaid, ListsLaid, Builds}
+use Rattle.amd_places.proofs.RowLists.{rows_more, rows_same, rows_both, rows_length, rows_has}
+use Rattle.amd_places.proofs.WordMarks.{rows_start}
 use Rattle.amd_places.proofs.Gathering.{gathers_none, adds_part, adds_part_sum}
 
 -- ---- one list after another
@@ -105,7 +106,7 @@ module _ (iw pe : List ℤ) (len : List ℕ) (n free pivot m : ℕ) (within : m 
       × (start pe pivot + k < free)
   own_word k l = let a = laid.0.2 k (omega (arith, l, within)) in (a.0, a.1, (let b = laid.0.1 in omega (arith, b, l, within)))
 
-  pub own_element : (k : ℕ) → k < m → IsLaid iw pe len n free (place (word iw (start pe pivot + k)))
+  pub own_element : (k : ℕ) → k < m → IsListLaid iw pe len n free (place (word iw (start pe pivot + k)))
   own_element k l = laid.1 (place (word iw (start pe pivot + k))) (rows_has iw (start pe pivot) m k l)
 
   pub own_variables : (start pe pivot + m + (num len pivot - m) ≤ free) × Names n iw (start pe pivot + m) (num len pivot - m)
@@ -134,17 +135,14 @@ module _ (iw nv nv1 pe : List ℤ) (len : List ℕ) (pivot m free : ℕ) (sizes 
             ∙ sym (ne_eqb j pivot (λ q. ne (sym q)))
       ]
 
-  nothing : rows iw free (free - free) ≡ []
-  nothing = (let e : free - free ≡ 0 = omega arith in ap (rows iw free) e) ∙ rows_none iw free
-
   pub grown_all : (xs : List ℕ) → grown iw nv1 free free xs ≡ firsts (λ x. x == pivot) xs
-  grown_all xs = ap (λ o. fold (add_new (in_front nv1)) o xs) nothing
+  grown_all xs = ap (λ o. fold (add_new (in_front nv1)) o xs) (rows_start iw free)
       ∙ same_adds (in_front nv1) (λ x. x == pivot) [] xs (λ x. ap (λ b. b || has [] x) (pivot_marked x))
 
   pub builds_none : Gathers iw nv1 free free [] iw nv1 free 0
   unfolding has
   builds_none = gathers_none iw nv1 free free 0 (omega arith) (λ k l. absurd (omega (arith, l))) (λ j h.
-      absurd (true≢false (sym h ∙ ap (λ l. has l j) nothing))) (sym (ap (sum_by (size_of nv1)) nothing))
+      absurd (true≢false (sym h ∙ ap (λ l. has l j) (rows_start iw free)))) (sym (ap (sum_by (size_of nv1)) (rows_start iw free)))
 
   -- the next element of the pivot
   pub next_element : (k : ℕ) → flat_map f (rows iw (start pe pivot) (k + 1))
@@ -185,7 +183,7 @@ module _ (iw nv nv1 pe : List ℤ) (len : List ℕ) (pivot m free : ℕ) (sizes 
         × (start pe pivot + k < free)
     pivot_word = own_word iw pe len n free pivot m within laid
 
-    pub element_laid : (k : ℕ) → k < m → IsLaid iw pe len n free (place (word iw (start pe pivot + k)))
+    pub element_laid : (k : ℕ) → k < m → IsListLaid iw pe len n free (place (word iw (start pe pivot + k)))
     element_laid = own_element iw pe len n free pivot m within laid
 
     -- what was gathered before the list of a row, and what comes with it

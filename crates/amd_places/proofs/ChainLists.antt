@@ -10,7 +10,7 @@ use Rattle.amd_model.proofs.Quotient.Lists.{has_append, filter_yes, filter_no, o
 use Rattle.amd_model.proofs.Listings.Words.{has_none, has_head, has_tail, has_cases, has_filter as filter_gives}
 use Rattle.amd_places.specs.Words.{num}
 use Rattle.amd_views.proofs.Lists.Named.{filter_all}
-use Rattle.amd_places.specs.Chains.{Chain, Back, DegreeLists, without, Unlinks, Relinks, SomeFrom, Chooses}
+use Rattle.amd_places.specs.Chains.{Chain, Back, DegreeLists, without, Unlinks, Relinks, Chooses}
 
 has_is : (y i : ℕ) (ys : List ℕ) → has (i ∷ ys) y ≡ false → (i == y || has ys y) ≡ false
 unfolding has
@@ -245,17 +245,6 @@ module _ (n i d : ℕ) (head next last head' next' last' : List ℕ) (u : Relink
       )
 
 -- ---- the first row of the least bound is chosen
-
-pub some_next : (n b : ℕ) (head : List ℕ) → SomeFrom n head b → n ≤ num head b → SomeFrom n head (b + 1)
-some_next n b head h none = let x : ℕ = h.0 in let low = h.1 in let row = h.3 in (
-  x,
-  (elim (cases_eq b x) [
-    | inl q ↦ (let e = ap (num head) q in absurd (omega (arith, e, none, row)))
-    | inr ne ↦ omega (arith, low, ne)
-  ]),
-  h.2,
-  h.3,
-)
 
 module _ (n : ℕ) (head next last degree : List ℕ) (lists : ℕ → List ℕ) (h : DegreeLists n head next last degree lists) where
   -- a head that is no row has no list behind it

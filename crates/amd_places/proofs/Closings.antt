@@ -1,17 +1,14 @@
 -- An element is closed: its list is shortened in its place, and the free end may go back to where it ends.
-use Rattle.std.proofs.Common.{ℕ, ℤ, Bool, true, List, pos, ◌≡◌, ◌<◌, ◌≤◌, ◌-◌, refl, ap, subst, ◌∙◌, arith, length, set}
+use Rattle.std.proofs.Common.{ℕ, ℤ, Bool, true, List, pos, ◌≡◌, ◌<◌, ◌≤◌, ◌-◌, ap, subst, ◌∙◌, arith, length, set}
 use Rattle.std.proofs.Common.{get_or-set_same, get_or-set_other}
 use Rattle.amd_places.specs.Words.{num, is_place, place, word, start, flip_of}
 use Rattle.amd_places.specs.Renewal.{Filters}
 use Rattle.amd_places.specs.Layout.{has_list, end_of, Layout}
 use Rattle.amd_places.specs.Ending.{Shortens}
 use Rattle.amd_places.specs.Closing.{Closes}
+use Rattle.amd_places.proofs.Signs.{mark_none}
 use Rattle.amd_places.proofs.Frames.{edited, edited_fewer, edited_reads, lowered_last}
 use Rattle.amd_places.proofs.Shortening.{shortens}
-
-no_place : (rows : ℕ) → place (flip_of rows) ≡ 0
-unfolding place
-no_place rows = refl
 
 pub closes : {n : ℕ} {pass : ℕ → Bool} {share : ℕ → ℕ} {first sum : ℕ} {iw iw' : List ℤ} {end free : ℕ} (me rows : ℕ)
     (pe e_len : List ℤ) (len : List ℕ) → me < length e_len → me < length len → is_place (word pe me) ≡ true →
@@ -21,7 +18,7 @@ closes {n} {pass} {share} {first} {sum} {iw} {iw'} {end} {free} me rows pe e_len
     let len' : List ℕ = set len me (end - start pe me) in let e_len' : List ℤ = set e_len me (flip_of rows) in
     let h : Shortens n me pass iw pe len iw' len' = shortens me pe len f small_l in
     let counts : (j : ℕ) → (j ≡ me → ⊥) → word e_len' j ≡ word e_len j = λ j ne. get_or-set_other e_len me j (flip_of rows) (pos 0) ne in
-    let none : place (word e_len' me) ≡ 0 = ap place (get_or-set_same e_len me (flip_of rows) (pos 0) small_e) ∙ no_place rows in record {
+    let none : place (word e_len' me) ≡ 0 = ap place (get_or-set_same e_len me (flip_of rows) (pos 0) small_e) ∙ mark_none rows in record {
       list = h.list;
       shorter = h.shorter;
       counts = counts;

@@ -15,7 +15,9 @@ pub mod ChainLists
 pub mod RoundWords
 pub mod FrontLink
 pub mod Frames
+pub mod RenewedFronts
 pub mod MoveSigns
+pub mod MarkedLists
 pub mod Moves
 pub mod Settling
 pub mod OwnPlace
@@ -26,6 +28,7 @@ pub mod WordMarks
 pub mod Likeness
 pub mod MovedRows
 pub mod MergeBack
+pub mod SameWords
 pub mod MergeState
 pub mod MergeWalk
 pub mod MergeEnds

@@ -11,43 +11,9 @@ use Rattle.amd_model.proofs.Listings.Words.{has_left, has_right, has_append as i
 use Rattle.amd_places.specs.Words.{num, start, place, word, rows}
 use Rattle.amd_views.proofs.Lists.Same.{same_sum, same_length, fills}
 use Rattle.amd_views.specs.Rounds.{alike_in}
+use Rattle.amd_views.proofs.Merging.Representatives.{alike_gives, alike_from}
 use Rattle.amd_places.specs.Merging.{kept_of, near_of, words_of, IsRenewed, AreApart, looks, key_of}
 use Rattle.amd_places.proofs.RowLists.{rows_both, rows_length}
-
--- ---- being alike, for lists by number
-
-each_self : (xs : List ℕ) → each (has xs) xs ≡ true
-each_self xs = each_from (has xs) xs (λ x h. h)
-
-each_through : (xs ys zs : List ℕ) → each (has xs) ys ≡ true → each (has ys) zs ≡ true → each (has xs) zs ≡ true
-each_through xs ys zs h k = each_from (has xs) zs (λ z m. each_gives (has xs) ys h z (each_gives (has ys) zs k z m))
-
-module _ (es vs : ℕ → List ℕ) where
-  pub alike_gives : (i j : ℕ) → alike_in es vs i j ≡ true →
-      (each (has (es i)) (es j) ≡ true) × (each (has (es j)) (es i) ≡ true) × (each (has (vs i)) (vs j) ≡ true)
-      × (each (has (vs j)) (vs i) ≡ true)
-  alike_gives i j h =
-      let a : Bool = each (has (es i)) (es j) in let b : Bool = each (has (es j)) (es i) in let c : Bool = each (has (vs i)) (vs j) in
-      let d : Bool = each (has (vs j)) (vs i) in
-      let p = and_parts (a && b && c) d h in let q = and_parts (a && b) c p.0 in let r = and_parts a b q.0 in (r.0, r.1, q.1, p.1)
-
-  pub alike_from : (i j : ℕ) → each (has (es i)) (es j) ≡ true → each (has (es j)) (es i) ≡ true → each (has (vs i)) (vs j) ≡ true →
-      each (has (vs j)) (vs i) ≡ true → alike_in es vs i j ≡ true
-  alike_from i j x y z w =
-      let a : Bool = each (has (es i)) (es j) in let b : Bool = each (has (es j)) (es i) in let c : Bool = each (has (vs i)) (vs j) in
-      let d : Bool = each (has (vs j)) (vs i) in
-      and_from (a && b && c) d (and_from (a && b) c (and_from a b x y) z) w
-
-  pub alike_self : (i : ℕ) → alike_in es vs i i ≡ true
-  alike_self i = alike_from i i (each_self (es i)) (each_self (es i)) (each_self (vs i)) (each_self (vs i))
-
-  pub alike_flip : (i j : ℕ) → alike_in es vs i j ≡ true → alike_in es vs j i ≡ true
-  alike_flip i j h = let p = alike_gives i j h in alike_from j i p.1 p.0 p.3 p.2
-
-  pub alike_through : (i j k : ℕ) → alike_in es vs i j ≡ true → alike_in es vs j k ≡ true → alike_in es vs i k ≡ true
-  alike_through i j k h m = let p = alike_gives i j h in let q = alike_gives j k m in
-      alike_from i k (each_through (es i) (es j) (es k) p.0 q.0) (each_through (es k) (es j) (es i) q.1 p.1)
-      (each_through (vs i) (vs j) (vs k) p.2 q.2) (each_through (vs k) (vs j) (vs i) q.3 p.3)
 
 -- ---- two lists, each in two parts
 

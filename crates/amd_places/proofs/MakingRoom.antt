@@ -4,7 +4,7 @@ use Rattle.std.proofs.Common.{◌∙◌, arith, cond, length, flat_map, sum_by, 
 use Rattle.std.specs.Prelude.{◌==◌}
 use Rattle.std.proofs.lemmas.Bool.{cases_Bool, or_cases}
 use Rattle.std.proofs.lemmas.List.Sums.{sum_by-cons}
-use Rattle.amd_model.specs.Quotient.{has}
+use Rattle.amd_model.specs.Quotient.{Once, has}
 use Rattle.amd_model.proofs.Quotient.Lists.{has_append, flat_gives}
 use Rattle.amd_views.specs.Rounds.{firsts}
 use Rattle.amd_views.proofs.Lists.Named.{flat_same}
@@ -55,12 +55,16 @@ at_most (suc n) p = let a = at_most n p in elim (cases_Bool (p n)) [
   | inr h ↦ (let b = ap {B = ℕ} (λ b. cond b 1 0) h in omega (arith, a, b))
 ]
 
+-- rows below n that are listed once each are at most n
+pub once_few : (n : ℕ) (xs : List ℕ) → Once xs → ((j : ℕ) → has xs j ≡ true → j < n) → length xs ≤ n
+once_few n xs once small = let a = sum_once n (λ j. 1) xs once small in let b = ones xs in let c = at_most n (has xs) in
+    omega (arith, a, b, c)
+
 -- the list of a new element names no more than all rows
 pub front_few : (n : ℕ) (iw nv pe : List ℤ) (len : List ℕ) (free me m : ℕ) → m ≤ num len me → ListsLaid iw pe len n free me m →
     length (front_of iw nv pe len me m) ≤ n
-front_few n iw nv pe len free me m within laid = let front : List ℕ = front_of iw nv pe len me m in
-    let a = sum_once n (λ j. 1) front (front_once iw nv pe len me m) (λ j h. small j (front_named iw nv pe len me m j h)) in
-    let b = ones front in let c = at_most n (has front) in omega (arith, a, b, c)
+front_few n iw nv pe len free me m within laid = once_few n (front_of iw nv pe len me m) (front_once iw nv pe len me m)
+    (λ j h. small j (front_named iw nv pe len me m j h))
   where
     small : (j : ℕ) → has (named_around iw pe len me m) j ≡ true → j < n
     small j h = elim (or_cases (has (flat_map (members_at iw pe len) (elements_at iw pe me m)) j) (has (variables_at iw pe len me m) j)

@@ -129,7 +129,8 @@ pub unmarks_none : (nv : List ℤ) → Unmarks nv [] nv
 unfolding has
 unmarks_none nv = record { wide = refl; sizes = λ j. refl; front = λ j. sym (and-true (in_front nv j)) }
 
-both_not : (a b c : Bool) → ((a && not b) && not c) ≡ (a && not (b || c))
+-- what is off stays off
+pub both_not : (a b c : Bool) → ((a && not b) && not c) ≡ (a && not (b || c))
 both_not true true c = refl
 both_not true false c = refl
 both_not false b c = refl

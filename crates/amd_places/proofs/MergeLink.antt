@@ -11,72 +11,62 @@ use Rattle.amd_model.proofs.Quotient.Lists.{has_turned, each_gives, each_from, o
 use Rattle.amd_places.specs.Words.{num, word, place, is_place, rows, Names}
 use Rattle.amd_views.proofs.Lists.Named.{filter_named}
 use Rattle.amd_views.specs.Rounds.{alike_in}
-use Rattle.amd_places.specs.Renewal.{Renews}
 use Rattle.amd_places.specs.Merging.{kept_of, near_of, words_of, IsRenewed, represents_in, key_of}
-use Rattle.amd_places.proofs.RowLists.{rows_none, rows_more, rows_both}
+use Rattle.amd_places.proofs.RowLists.{rows_length, rows_none, rows_more, rows_both}
 
 same_tail : (x y : ℕ) (xs ys : List ℕ) → x ∷ xs ≡ y ∷ ys → xs ≡ ys
 same_tail x y xs ys e = cc
 
--- ---- a list that was renewed in its place
+-- ---- a list of `all` words that was renewed in its place: the new element, then the elements and the variables that it keeps
 
-module _ (n me : ℕ) (kept outside : ℕ → Bool) (old : List ℤ) (from n_elements count : ℕ) (iw : List ℤ) (few all : ℕ)
-    (r : Renews n me kept outside old from n_elements count iw few all) where
-  abbrev ks : List ℕ
-  ks = filter kept (rows old from n_elements)
-
-  abbrev vs : List ℕ
-  vs = filter outside (rows old (from + n_elements) (count - n_elements))
-
+module _ (me : ℕ) (ks vs : List ℕ) (iw : List ℤ) (from few all : ℕ) (order : few ≤ all) (elements : rows iw from few ≡ me ∷ turned ks)
+    (variables : rows iw (from + few) (all - few) ≡ turned vs) where
   some : 1 ≤ few
-  some = let a = r.few_is in omega (arith, a)
+  some = let a = ap length elements in let b = rows_length iw from few in omega (arith, a, b)
 
   -- behind the new element stand the elements that it keeps
-  pub kept_words : rows iw (from + 1) (few - 1) ≡ turned (filter kept (rows old from n_elements))
+  pub kept_words : rows iw (from + 1) (few - 1) ≡ turned ks
   kept_words = let s = some in let e : few ≡ 1 + (few - 1) = omega (arith, s) in
       same_tail _ me (rows iw (from + 1) (few - 1)) (turned ks) (sym (ap (rows iw from) e ∙ rows_both iw from 1 (few - 1)
       ∙ ap (λ l. l ++ rows iw (from + 1) (few - 1)) (rows_more iw from 0
-      ∙ ap (λ l. l ++ place (word iw (from + 0)) ∷ []) (rows_none iw from))) ∙ r.elements)
+      ∙ ap (λ l. l ++ place (word iw (from + 0)) ∷ []) (rows_none iw from))) ∙ elements)
 
   both_words : rows iw (from + 1) (all - 1) ≡ turned ks ++ turned vs
-  both_words = let s = some in let p = r.shorter.0 in let e : all - 1 ≡ (few - 1) + (all - few) = omega (arith, s, p) in
+  both_words = let s = some in let e : all - 1 ≡ (few - 1) + (all - few) = omega (arith, s, order) in
       let f : (from + 1) + (few - 1) ≡ from + few = omega (arith, s) in
       ap (rows iw (from + 1)) e ∙ rows_both iw (from + 1) (few - 1) (all - few)
       ∙ ap (λ m. rows iw (from + 1) (few - 1) ++ rows iw m (all - few)) f ∙ ap (λ l. l ++ rows iw (from + few) (all - few)) kept_words
-      ∙ ap (λ l. turned ks ++ l) r.variables
+      ∙ ap (λ l. turned ks ++ l) variables
 
   module _ (pe e_len : List ℤ) (len : List ℕ) (i : ℕ) (starts : word pe i ≡ pos from) (counts : word e_len i ≡ pos few) (lens : num len i
       ≡ all) where
-    pub kept_is : kept_of iw pe e_len i ≡ turned (filter kept (rows old from n_elements))
+    pub kept_is : kept_of iw pe e_len i ≡ turned ks
     unfolding place
     kept_is = ap (λ z. rows iw (place z + 1) (place (word e_len i) - 1)) starts ∙ ap (λ z. rows iw (from + 1) (place z - 1)) counts
         ∙ kept_words
 
-    pub near_is : near_of iw pe e_len len i ≡ turned (filter outside (rows old (from + n_elements) (count - n_elements)))
+    pub near_is : near_of iw pe e_len len i ≡ turned vs
     unfolding place
     near_is = ap (λ z. rows iw (place z + place (word e_len i)) (num len i - place (word e_len i))) starts
-        ∙ ap (λ z. rows iw (from + place z) (num len i - place z)) counts ∙ ap (λ m. rows iw (from + few) (m - few)) lens ∙ r.variables
+        ∙ ap (λ z. rows iw (from + place z) (num len i - place z)) counts ∙ ap (λ m. rows iw (from + few) (m - few)) lens ∙ variables
 
-    pub words_is : words_of iw pe len i ≡ turned (filter kept (rows old from n_elements))
-        ++ turned (filter outside (rows old (from + n_elements) (count - n_elements)))
+    pub words_is : words_of iw pe len i ≡ turned ks ++ turned vs
     unfolding place
     words_is = ap (λ z. rows iw (place z + 1) (num len i - 1)) starts ∙ ap (λ m. rows iw (from + 1) (m - 1)) lens ∙ both_words
 
-    pub is_renewed : i < n → from + all ≤ length iw → Once (filter kept (rows old from n_elements)) →
-        Once (filter outside (rows old (from + n_elements) (count - n_elements))) →
-        ((x : ℕ) → has (filter kept (rows old from n_elements)) x ≡ true →
-        has (filter outside (rows old (from + n_elements) (count - n_elements))) x ≡ true → ⊥) → IsRenewed n iw pe e_len len i
+    pub is_renewed : (n : ℕ) → Names n iw from all → i < n → from + all ≤ length iw → Once ks → Once vs →
+        ((x : ℕ) → has ks x ≡ true → has vs x ≡ true → ⊥) → IsRenewed n iw pe e_len len i
     unfolding place is_place
-    is_renewed row within ok ov apart = let s = some in let p = r.shorter.0 in record {
+    is_renewed n names row within ok ov apart = let s = some in record {
       row = row;
       starts = ap is_place starts;
       counts = ap is_place counts;
       some = subst (λ z. 1 ≤ place z) (sym counts) s;
-      parts = subst (λ z. place z ≤ num len i) (sym counts) (omega (arith, lens, p));
+      parts = subst (λ z. place z ≤ num len i) (sym counts) (omega (arith, lens, order));
       within = subst (λ z. place z + num len i ≤ length iw) (sym starts) (omega (arith, lens, within));
       names = subst (λ z. Names n iw (place z + 1) (num len i - 1)) (sym starts) (λ k l. let e : from + (k + 1)
           ≡ (from + 1) + k = omega arith in
-          subst (λ m. (is_place (word iw m) ≡ true) × (place (word iw m) < n)) e (r.names (k + 1) (omega (arith, l, lens))));
+          subst (λ m. (is_place (word iw m) ≡ true) × (place (word iw m) < n)) e (names (k + 1) (omega (arith, l, lens))));
       once = subst Once (sym words_is) (once_append (turned ks) (turned vs) (once_turned ks ok) (once_turned vs ov) (λ x h k.
           apart x (sym (has_turned ks x) ∙ h) (sym (has_turned vs x) ∙ k)));
     }

@@ -1,9 +1,7 @@
 -- The classes of a front are gone through from the last one on: each is merged into one alike of its bucket, or put into it.
-use Rattle.std.specs.Cmp.{both_ways}
 use Rattle.amd_model.proofs.Counting.Below.{clash}
-use Rattle.std.proofs.Common.{ℕ, zero, suc, ℤ, negsuc, Bool, true, false, List, [], ◌∷◌, ◌++◌, ◌≡◌, ◌<◌, ◌≤◌, ◌+◌, ◌-◌, ◌&&◌, not, cond}
-use Rattle.std.proofs.Common.{inl, inr, refl, sym, subst, ap, ◌∙◌, arith, length, get_or, set, take, drop, pos, get_or-set_same}
-use Rattle.std.proofs.Common.{get_or-set_other}
+use Rattle.std.proofs.Common.{ℕ, suc, ℤ, negsuc, Bool, true, false, List, [], ◌∷◌, ◌++◌, ◌≡◌, ◌<◌, ◌≤◌, ◌+◌, ◌-◌, ◌&&◌, not, cond, inl, inr}
+use Rattle.std.proofs.Common.{refl, sym, subst, ap, ◌∙◌, arith, length, get_or, set, take, drop, pos, get_or-set_same, get_or-set_other}
 use Rattle.std.specs.Prelude.{◌==◌, sum_by}
 use Rattle.std.proofs.lemmas.Bool.{cases_Bool, cases_eq, eq-eqb, ne_eqb, eqb-true, cond-true, cond-false, and_parts, and_right}
 use Rattle.std.proofs.lemmas.Bool.{not_from_true, not_from_false}
@@ -11,81 +9,21 @@ use Rattle.std.proofs.lemmas.List.{drop_more, drop_all, take-append-drop}
 use Rattle.std.proofs.lemmas.List.Sums.{sum_by-append, sum_by-cons}
 use Rattle.std.proofs.Math.Bool.{and-true}
 use Rattle.amd_model.specs.Quotient.{has, Once, last_that}
-use Rattle.amd_model.proofs.Listings.Words.{has_none, has_head, has_tail, has_cases, has_left, has_right, has_append as in_parts}
-use Rattle.amd_places.specs.Words.{num, word, place, is_place, start, rows, size_of, in_front, flip_of}
+use Rattle.amd_model.proofs.Listings.Words.{has_head}
+use Rattle.amd_places.specs.Words.{num, word, size_of, in_front, flip_of}
 use Rattle.amd_views.proofs.Lists.Named.{has_at}
-use Rattle.amd_views.proofs.Merging.Representatives.{Found, found_none, found_more, found_new, behind_in}
+use Rattle.amd_views.proofs.Merging.Representatives.{Found, found_none, found_more, found_new, behind_in, not_behind, alike_self}
+use Rattle.amd_views.proofs.Merging.Representatives.{alike_flip, alike_through}
 use Rattle.amd_views.specs.Rounds.{alike_in}
 use Rattle.amd_places.specs.Chains.{Chain}
 use Rattle.amd_places.specs.Merging.{links, kept_of, near_of, words_of, IsRenewed, AreApart, IsMember, MergesInto, Pushes, Settles}
 use Rattle.amd_places.specs.Merging.{MergesAll, IsHead, key_of}
 use Rattle.amd_places.proofs.BucketWalk.{links_is}
 use Rattle.amd_places.proofs.ChainLists.{chain_same}
-use Rattle.amd_places.proofs.Likeness.{alike_self, alike_flip, alike_through, alike_key}
-use Rattle.amd_places.proofs.MergeBack.{miss, MergedBack, back_none, back_stays, back_moves, back_fits, Written, written_none}
-use Rattle.amd_places.proofs.MergeBack.{written_not, written_self, written_stays, written_moves, back_all}
-
--- ---- a class whose own words are the same has the same lists
-
-module _ (n : ℕ) (iw pe e_len pe' e_len' : List ℤ) (len : List ℕ) where
-  abbrev Same : ℕ → Type 0
-  Same i = (word pe' i ≡ word pe i) × (word e_len' i ≡ word e_len i)
-
-  kept_same : (i : ℕ) → Same i → kept_of iw pe' e_len' i ≡ kept_of iw pe e_len i
-  kept_same i s = ap (λ z. rows iw (place z + 1) (place (word e_len' i) - 1)) s.0 ∙ ap (λ z. rows iw (start pe i + 1) (place z - 1)) s.1
-
-  near_same : (i : ℕ) → Same i → near_of iw pe' e_len' len i ≡ near_of iw pe e_len len i
-  near_same i s = ap (λ z. rows iw (place z + place (word e_len' i)) (num len i - place (word e_len' i))) s.0
-      ∙ ap (λ z. rows iw (start pe i + place z) (num len i - place z)) s.1
-
-  words_same : (i : ℕ) → Same i → words_of iw pe' len i ≡ words_of iw pe len i
-  words_same i s = ap (λ z. rows iw (place z + 1) (num len i - 1)) s.0
-
-  renewed_same : (i : ℕ) → Same i → IsRenewed n iw pe e_len len i → IsRenewed n iw pe' e_len' len i
-  renewed_same i s r = record {
-    row = r.row;
-    starts = ap is_place s.0 ∙ r.starts;
-    counts = ap is_place s.1 ∙ r.counts;
-    some = subst (λ z. 1 ≤ place z) (sym s.1) r.some;
-    parts = subst (λ z. place z ≤ num len i) (sym s.1) r.parts;
-    within = subst (λ z. place z + num len i ≤ length iw) (sym s.0) r.within;
-    names = subst (λ z. Rattle.amd_places.specs.Words.Names n iw (place z + 1) (num len i - 1)) (sym s.0) r.names;
-    once = subst Once (sym (words_same i s)) r.once;
-  }
-
-  apart_same : (i j : ℕ) → Same i → Same j → AreApart iw pe e_len len i j → AreApart iw pe' e_len' len i j
-  apart_same i j s t a = (
-    (λ x h. ap (λ xs. has xs x) (near_same j t) ∙ a.0 x (sym (ap (λ xs. has xs x) (kept_same i s)) ∙ h)),
-    (λ x h. ap (λ xs. has xs x) (near_same i s) ∙ a.1 x (sym (ap (λ xs. has xs x) (kept_same j t)) ∙ h)),
-  )
-
-  alike_same : (i j : ℕ) → Same i → Same j → alike_in (kept_of iw pe' e_len') (near_of iw pe' e_len' len) i j
-      ≡ alike_in (kept_of iw pe e_len) (near_of iw pe e_len len) i j
-  alike_same i j s t = let f = λ (a b c d : List ℕ). alike_in (λ x. cond (x == 0) a b) (λ x. cond (x == 0) c d) 0 1 in
-      ap (λ a. f a (kept_of iw pe' e_len' j) (near_of iw pe' e_len' len i) (near_of iw pe' e_len' len j)) (kept_same i s)
-      ∙ ap (λ b. f (kept_of iw pe e_len i) b (near_of iw pe' e_len' len i) (near_of iw pe' e_len' len j)) (kept_same j t)
-      ∙ ap (λ c. f (kept_of iw pe e_len i) (kept_of iw pe e_len j) c (near_of iw pe' e_len' len j)) (near_same i s)
-      ∙ ap (λ d. f (kept_of iw pe e_len i) (kept_of iw pe e_len j) (near_of iw pe e_len len i) d) (near_same j t)
-
--- in a list that names each number once none stands behind itself
-not_behind : (xs : List ℕ) (k : ℕ) → k < length xs → Once xs → has (drop (suc k) xs) (get_or xs k 0) ≡ false
-not_behind [] k l o = absurd (omega (arith, l))
-not_behind (y ∷ xs) zero l o = o.0
-not_behind (y ∷ xs) (suc k) l o = not_behind xs k (omega (arith, l)) o.1
-
-once_back : (m : ℕ) (xs : List ℕ) → Once xs → Once (drop m xs)
-once_back zero xs o = o
-once_back (suc m) [] o = o
-once_back (suc m) (x ∷ xs) o = once_back m xs o.1
-
--- a number that is put at either end
-either_end : (xs : List ℕ) (i x : ℕ) → has (i ∷ xs) x ≡ has (xs ++ i ∷ []) x
-either_end xs i x = both_ways (has (i ∷ xs) x) (has (xs ++ i ∷ []) x)
-    (λ h. elim (has_cases x i xs h) [ inl e ↦ has_right x xs (i ∷ []) (has_head x i [] e) | inr m ↦ has_left x xs (i ∷ []) m ])
-    (λ h. elim (in_parts x xs (i ∷ []) h) [
-      | inl m ↦ has_tail x i xs m
-      | inr m ↦ elim (has_cases x i [] m) [ inl e ↦ has_head x i xs e | inr q ↦ absurd (has_none x q) ]
-    ])
+use Rattle.amd_places.proofs.Likeness.{alike_key}
+use Rattle.amd_places.proofs.MergeBack.{miss, MergedBack, back_none, back_stays, back_moves, back_fits, Written, written_none, written_not}
+use Rattle.amd_places.proofs.MergeBack.{written_self, written_stays, written_moves, back_all}
+use Rattle.amd_places.proofs.SameWords.{words_same, renewed_same, apart_same, alike_same, once_back, either_end}
 
 -- what merge_one asks for the class i
 pub record Ready (n : ℕ) (iw : List ℤ) (len last : List ℕ) (i : ℕ) (pe e_len nv : List ℤ) (w hash next : List ℕ) : Type 0 where

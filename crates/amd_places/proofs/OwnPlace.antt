@@ -9,19 +9,18 @@ use Rattle.amd_views.proofs.Lists.Named.{sum_named}
 use Rattle.amd_places.specs.Element.{grown, Gathers, front_of, members_at, Builds}
 use Rattle.amd_places.specs.Layout.{has_list, end_of, Layout}
 use Rattle.amd_places.specs.Making.{Makes}
+use Rattle.amd_places.proofs.Signs.{mark_none}
 use Rattle.amd_places.proofs.RowLists.{rows_none, rows_length}
+use Rattle.amd_places.proofs.WordMarks.{rows_start}
 use Rattle.amd_places.proofs.Gathering.{gathers_none}
 use Rattle.amd_places.proofs.RoundWords.{adds_few, filter_few}
 use Rattle.amd_places.proofs.Building.{all, classes_same, grown_all, builds_all}
 use Rattle.amd_places.proofs.Frames.{has_parts, has_length, relaid, live_part}
 
-nothing : (iw : List ℤ) (from : ℕ) → rows iw from (from - from) ≡ []
-nothing iw from = (let e : from - from ≡ 0 = omega arith in ap (rows iw from) e) ∙ rows_none iw from
-
 pub own_none : (iw nv : List ℤ) (from : ℕ) → Gathers iw nv from from [] iw nv from 0
 unfolding has
 own_none iw nv from = gathers_none iw nv from from 0 (omega arith) (λ k l. absurd (omega (arith, l))) (λ j h.
-    absurd (true≢false (sym h ∙ ap (λ l. has l j) (nothing iw from)))) (sym (ap (sum_by (size_of nv)) (nothing iw from)))
+    absurd (true≢false (sym h ∙ ap (λ l. has l j) (rows_start iw from)))) (sym (ap (sum_by (size_of nv)) (rows_start iw from)))
 
 -- what is kept of some words ends no later than they do
 pub own_end : {iw nv : List ℤ} {from : ℕ} {iw' nv' : List ℤ} {end total : ℕ} (n : ℕ) →
@@ -57,10 +56,6 @@ module _ (iw nv nv1 pe : List ℤ) (len : List ℕ) (me : ℕ) (sizes : (i : ℕ
       (subst (λ xs. Gathers iw nv1 (start pe me) (start pe me) xs iw' nv' end total) own_all h)
 
 -- ---- what it leaves
-
-flip_none : (j : ℕ) → place (flip_of j) ≡ 0
-unfolding place
-flip_none j = refl
 
 module _ {n me : ℕ} {iw nv pe e_len : List ℤ} {len : List ℕ} {free : ℕ} {front : List ℕ} {iw' nv' : List ℤ} {end total : ℕ}
     (y : Layout n iw pe e_len len free) (wide : length nv ≡ n) (small_e : me < length e_len) (small_l : me < length len)
@@ -122,7 +117,7 @@ module _ {n me : ℕ} {iw nv pe e_len : List ℤ} {len : List ℕ} {free : ℕ} 
     fewer = live_part n pe pe len len' part;
     laid = relaid 0 y (omega arith) (λ j h. let p = part j h in inr (p.0, (omega arith), (let a = p.1 in omega (arith, a))))
         (λ j h. elim (cases_eq j me) [
-          | inl q ↦ (let s : place (word e_len' j) ≡ 0 = ap (λ m. place (word e_len' m)) q ∙ ap place e_len_me ∙ flip_none total in
+          | inl q ↦ (let s : place (word e_len' j) ≡ 0 = ap (λ m. place (word e_len' m)) q ∙ ap place e_len_me ∙ mark_none total in
               omega (arith, s))
           | inr ne ↦ (let s = ap place (e_len_else j ne) in let t = len_else j ne in let u = y.parts j (part j h).0 in
               omega (arith, s, t, u))

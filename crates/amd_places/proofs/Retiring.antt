@@ -21,8 +21,8 @@ use Rattle.amd_places.specs.Fronts.{kept_in, near_in, is_done, bucket_at, Renews
 use Rattle.amd_places.proofs.RowLists.{rows_more, rows_both, rows_has, rows_length, rows_part}
 use Rattle.amd_places.proofs.WordMarks.{rows_next}
 use Rattle.amd_places.proofs.EachRow.{each_next}
-use Rattle.amd_places.proofs.Frames.{all_none, front_row, turn_placed, turn_more, turn_fresh, turn_known}
-use Rattle.amd_places.proofs.Frames.{turn_row, turn_elements, turn_variables, turn_length}
+use Rattle.amd_places.proofs.RenewedFronts.{all_none, front_row, turn_placed, turn_more, turn_fresh, turn_known}
+use Rattle.amd_places.proofs.RenewedFronts.{turn_row, turn_elements, turn_variables, turn_length}
 
 turned_length : (xs : List ℕ) → length (turned xs) ≡ length xs
 unfolding turned

@@ -10,9 +10,10 @@ use Rattle.std.proofs.lemmas.List.Sums.{sum_by-cons}
 use Rattle.amd_model.specs.Quotient.{has, Once}
 use Rattle.amd_model.proofs.Quotient.Lists.{has_append}
 use Rattle.amd_places.specs.Words.{num, is_place, place, flip_of, word, start, rows, Names}
-use Rattle.amd_places.specs.Element.{front_of, IsLaid, ListsLaid, Builds}
+use Rattle.amd_places.specs.Element.{front_of, IsListLaid, ListsLaid, Builds}
 use Rattle.amd_places.specs.Layout.{has_list, elements_in, list_in, Layout, live_words, words_below}
 use Rattle.amd_places.specs.Making.{Makes}
+use Rattle.amd_places.proofs.Signs.{place_of, is_place_of, mark_no_place, mark_none}
 use Rattle.amd_places.proofs.RowLists.{rows_none, rows_more, rows_same, rows_length}
 use Rattle.amd_places.proofs.RoundWords.{words_more, words_both, words_one, words_fall, front_words}
 use Rattle.amd_places.proofs.Frames.{has_parts, relaid}
@@ -80,7 +81,7 @@ sum_once n f (x ∷ xs) once small =
 -- ---- the lists that a build reads
 
 module _ {n : ℕ} {iw pe e_len : List ℤ} {len : List ℕ} {free : ℕ} (y : Layout n iw pe e_len len free) where
-  pub list_laid : (j : ℕ) → has_list pe len j ≡ true → IsLaid iw pe len n free j
+  pub list_laid : (j : ℕ) → has_list pe len j ≡ true → IsListLaid iw pe len n free j
   list_laid j h = ((has_parts pe len j h).0, y.within j h, λ k l. y.words (start pe j + k) (let a = y.within j h in omega (arith, a, l)))
 
   module _ (me : ℕ) (own : has_list pe len me ≡ true) (elements : (e : ℕ) → has (elements_in iw pe e_len me) e ≡ true →
@@ -105,22 +106,6 @@ module _ {n : ℕ} {iw pe e_len : List ℤ} {len : List ℕ} {free : ℕ} (y : L
       own_inside fit = let a = y.within me own in let c = y.parts me own in let l = b.long in omega (arith, a, c, l, fit)
 
 -- ---- the whole
-
-flip_place : (j : ℕ) → is_place (flip_of j) ≡ false
-unfolding is_place
-flip_place j = refl
-
-flip_none : (j : ℕ) → place (flip_of j) ≡ 0
-unfolding place
-flip_none j = refl
-
-pos_place : (m : ℕ) → is_place (pos m) ≡ true
-unfolding is_place
-pos_place m = refl
-
-place_pos : (m : ℕ) → place (pos m) ≡ m
-unfolding place
-place_pos m = refl
 
 has_not : (pe : List ℤ) (len : List ℕ) (j : ℕ) → is_place (word pe j) ≡ false → has_list pe len j ≡ false
 unfolding has_list
@@ -155,7 +140,7 @@ module _ {n me : ℕ} {iw nv pe e_len : List ℤ} {len : List ℕ} {free : ℕ} 
   pe_me = get_or-set_same pe1 me (pos free) (pos 0) small_p
 
   pub start_me : start pe' me ≡ free
-  start_me = ap place pe_me ∙ place_pos free
+  start_me = ap place pe_me ∙ place_of free
 
   e_len_me : word e_len' me ≡ flip_of total
   e_len_me = get_or-set_same e_len me (flip_of total) (pos 0) small_e
@@ -177,7 +162,7 @@ module _ {n me : ℕ} {iw nv pe e_len : List ℤ} {len : List ℕ} {free : ℕ} 
   len_else j ne = get_or-set_other len me j (end - free) 0 ne
 
   ended_now : (e : ℕ) → has es e ≡ true → has_list pe' len' e ≡ false
-  ended_now e h = has_not pe' len' e (ap is_place (pe_taken e h) ∙ flip_place me)
+  ended_now e h = has_not pe' len' e (ap is_place (pe_taken e h) ∙ mark_no_place me)
 
   listed_now : (j : ℕ) → has es j ≡ false → (j ≡ me → ⊥) → has_list pe' len' j ≡ has_list pe len j
   listed_now j h ne = has_both pe pe' len len' j (pe_else j h ne) (len_else j ne)
@@ -202,7 +187,7 @@ module _ {n me : ℕ} {iw nv pe e_len : List ℤ} {len : List ℕ} {free : ℕ} 
         ]
       ])
       (λ j h. elim (cases_eq j me) [
-        | inl q ↦ (let s : place (word e_len' j) ≡ 0 = ap (λ m. place (word e_len' m)) q ∙ ap place e_len_me ∙ flip_none total in
+        | inl q ↦ (let s : place (word e_len' j) ≡ 0 = ap (λ m. place (word e_len' m)) q ∙ ap place e_len_me ∙ mark_none total in
             omega (arith, s))
         | inr ne ↦ elim (cases_Bool (has es j)) [
           | inl k ↦ clash h (ended_now j k)
@@ -254,7 +239,7 @@ module _ {n me : ℕ} {iw nv pe e_len : List ℤ} {len : List ℕ} {free : ℕ} 
     p_long = length-set pe1 me (pos free) ∙ long;
     e_long = length-set e_len me (flip_of total);
     l_long = length-set len me (end - free);
-    starts = ap is_place pe_me ∙ pos_place free;
+    starts = ap is_place pe_me ∙ is_place_of free;
     list = list_now;
     rows_is = e_len_me;
     parents = pe_taken;

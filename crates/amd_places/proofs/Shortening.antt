@@ -6,11 +6,8 @@ use Rattle.amd_places.specs.Words.{num, is_place, place, flip_of, word, start, r
 use Rattle.amd_places.specs.Renewal.{Filters}
 use Rattle.amd_places.specs.Layout.{Layout}
 use Rattle.amd_places.specs.Ending.{Shortens, Stays}
+use Rattle.amd_places.proofs.Signs.{mark_no_place}
 use Rattle.amd_places.proofs.Frames.{dropped, dropped_fewer, edited, edited_fewer, edited_reads}
-
-flip_place : (j : ℕ) → is_place (flip_of j) ≡ false
-unfolding is_place
-flip_place j = refl
 
 pub ends : (n : ℕ) (iw pe e_len : List ℤ) (len : List ℕ) (free j to : ℕ) → j < length pe → Layout n iw pe e_len len free →
     Stays n j iw pe e_len len free iw (set pe j (flip_of to)) len
@@ -18,7 +15,7 @@ ends n iw pe e_len len free j to small y =
     let pe' : List ℤ = set pe j (flip_of to) in let else_start : (i : ℕ) → (i ≡ j → ⊥) → word pe' i ≡ word pe i =
     λ i ne. get_or-set_other pe j i (flip_of to) (pos 0) ne in
     let drops : (i : ℕ) → (word pe' i ≡ word pe i) ⊎ (is_place (word pe' i) ≡ false) = λ i. elim (cases_eq i j) [
-      | inl q ↦ inr (ap (λ k. is_place (word pe' k)) q ∙ ap is_place (get_or-set_same pe j (flip_of to) (pos 0) small) ∙ flip_place to)
+      | inl q ↦ inr (ap (λ k. is_place (word pe' k)) q ∙ ap is_place (get_or-set_same pe j (flip_of to) (pos 0) small) ∙ mark_no_place to)
       | inr ne ↦ inl (else_start i ne)
     ] in record {
       laid = dropped y pe' drops;

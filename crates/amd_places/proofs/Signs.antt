@@ -5,7 +5,7 @@ use Rattle.std.specs.Prelude.{nat_lt, ◌==◌}
 use Rattle.std.proofs.Math.Bool.{and-true, and-false, or-false, or-true}
 use Rattle.std.proofs.lemmas.Int.{ints}
 use Rattle.std.proofs.lemmas.Bool.{true≢false, cases_eq, eq-eqb, ne_eqb}
-use Rattle.amd_places.specs.Words.{is_place, place, rows_in, inside, word, size_of, in_front}
+use Rattle.amd_places.specs.Words.{is_place, place, rows_in, inside, word, size_of, in_front, flip_of}
 
 pub place_is : (z : ℤ) → is_place z ≡ true → z ≡ pos (place z)
 unfolding is_place place
@@ -92,6 +92,19 @@ place_test (negsuc n) = refl
 pub place_of : (n : ℕ) → place (pos n) ≡ n
 unfolding place
 place_of n = refl
+
+pub is_place_of : (n : ℕ) → is_place (pos n) ≡ true
+unfolding is_place
+is_place_of n = refl
+
+-- a mark is no place, and stands for none
+pub mark_no_place : (j : ℕ) → is_place (flip_of j) ≡ false
+unfolding is_place
+mark_no_place j = refl
+
+pub mark_none : (j : ℕ) → place (flip_of j) ≡ 0
+unfolding place
+mark_none j = refl
 
 pub rows_of : (n : ℕ) → rows_in (pos n) ≡ n
 unfolding rows_in

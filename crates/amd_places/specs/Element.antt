@@ -40,13 +40,13 @@ front_of iw nv pe len pivot n_elements = firsts (λ x. x == pivot)
     ++ classes nv (variables_at iw pe len pivot n_elements))
 
 -- the list of a row lies before free, and its words name rows below n
-abbrev pub IsLaid : List ℤ → List ℤ → List ℕ → ℕ → ℕ → ℕ → Type 0
-IsLaid iw pe len n free i = (is_place (word pe i) ≡ true) × (start pe i + num len i ≤ free) × Names n iw (start pe i) (num len i)
+abbrev pub IsListLaid : List ℤ → List ℤ → List ℕ → ℕ → ℕ → ℕ → Type 0
+IsListLaid iw pe len n free i = (is_place (word pe i) ≡ true) × (start pe i + num len i ≤ free) × Names n iw (start pe i) (num len i)
 
 -- so do the list of the pivot and those of its elements
 abbrev pub ListsLaid : List ℤ → List ℤ → List ℕ → ℕ → ℕ → ℕ → ℕ → Type 0
-ListsLaid iw pe len n free pivot n_elements = IsLaid iw pe len n free pivot × ((e : ℕ) →
-    has (elements_at iw pe pivot n_elements) e ≡ true → IsLaid iw pe len n free e)
+ListsLaid iw pe len n free pivot n_elements = IsListLaid iw pe len n free pivot × ((e : ℕ) →
+    has (elements_at iw pe pivot n_elements) e ≡ true → IsListLaid iw pe len n free e)
 
 -- the list of the new element stands behind the others, which stay; it and the pivot alone are in the front
 pub record Builds (pivot : ℕ) (front : List ℕ) (iw nv : List ℤ) (free : ℕ) (iw' nv' : List ℤ) (free' total : ℕ) : Type 0 where

@@ -108,6 +108,7 @@ pub fn begin_built<S: Signed, U: Unsigned>(
     ensures counters { (e : ℕ) → num w.new e ≡ cond (has (elements_in iw.old pe.old e_len.old me) e) 0 (num w.old e) }
     ensures long { length w.new ≡ length w.old }
     ensures before { (j : ℕ) → (j ≡ me → ⊥) → has_list pe.new len.new j ≡ true → end_of pe.new len.new j ≤ start pe.new me }
+    ensures end { result.free ≤ length iw.new }
     ensures total { result.total ≡ sum_by (size_of nv.old) (front_of iw.old nv.old pe.old len.old me (place (word e_len.old me))) }
     ensures block { result.block ≡ size_of nv.old me }
     ensures packed { result.packed ≡ nat_lt (length iw.old) (free + length (front_of iw.old nv.old pe.old len.old me (place (word e_len.old me)))) }

@@ -54,6 +54,7 @@ pub fn turn<S: Signed, U: Unsigned>(
     ensures turns { TurnsFront aggressive (length w.old) me flag (list_in iw.old pe.old len.old me) free iw.old pe.old e_len.old nv.old len.old degree.old w.old iw.new pe.new e_len.new nv.new len.new degree.new w.new last.new result }
     ensures linked { (lists : ℕ → List ℕ) → ((i : ℕ) → has (list_in iw.old pe.old len.old me) i ≡ true → has (lists (num degree.old i)) i ≡ true) → DegreeLists (length w.old) head.old next.old last.old degree.old lists → DegreeLists (length w.old) head.new next.new last.new degree.new (λ d. filter (λ j. not (has (list_in iw.old pe.old len.old me) j)) (lists d)) }
     ensures lengths { (length w.new ≡ length w.old) × (length head.new ≡ length head.old) × (length next.new ≡ length next.old) }
+    ensures more_lengths { (length pe.new ≡ length w.old) × (length last.new ≡ length w.old) }
 {
     let from = named(pe, me);
     let count = figure_at(len, me);

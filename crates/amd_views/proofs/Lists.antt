@@ -2,5 +2,6 @@
 pub mod Added
 pub mod Cuts
 pub mod Named
+pub mod Pivots
 pub mod Same
 pub mod Taken

@@ -79,7 +79,7 @@ behind_in [] (suc k) x h = h
 behind_in (y ∷ xs) (suc k) x h = has_tail x y xs (behind_in xs k x h)
 
 -- in a list that names each number once none stands behind itself
-not_behind : (xs : List ℕ) (k : ℕ) → k < length xs → Once xs → has (drop (suc k) xs) (get_or xs k 0) ≡ false
+pub not_behind : (xs : List ℕ) (k : ℕ) → k < length xs → Once xs → has (drop (suc k) xs) (get_or xs k 0) ≡ false
 not_behind [] k l o = absurd (omega (arith, l))
 not_behind (y ∷ xs) zero l o = o.0
 not_behind (y ∷ xs) (suc k) l o = not_behind xs k (omega (arith, l)) o.1

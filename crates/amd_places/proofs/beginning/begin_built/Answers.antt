@@ -1,4 +1,4 @@
-use Rattle.std.proofs.Common.{ℕ, ℤ, List, ◌≡◌, refl, sym, ap, subst, ◌∙◌}
+use Rattle.std.proofs.Common.{ℕ, ℤ, List, ◌≡◌, ◌-◌, refl, sym, ap, subst, ◌∙◌}
 use Rattle.std.proofs.Common.{arith, cond, length}
 use Rattle.std.specs.Prelude.{◌==◌, sum_by}
 use Rattle.std.proofs.lemmas.Bool.{eq-eqb, or_left}
@@ -10,6 +10,7 @@ use Rattle.amd_places.specs.Making.{Makes}
 use Rattle.amd_places.specs.Room.{Rooms}
 use Rattle.amd_places.proofs.MakingRoom.{rooms_elements, rooms_known, rooms_front}
 use Rattle.amd_places.proofs.Touching.{front_apart}
+use Rattle.amd_places.proofs.RowLists.{rows_length}
 use Rattle.amd_places.proofs.Beginnings.{begins, built_inside}
 use Rattle.amd_places.proofs.beginning.begin_built.Goals as goal
 
@@ -316,6 +317,27 @@ returns-clause-before g c =
     (front_of iw1 y pe1 c.make_room-from.new.len me m) total iw1 pe1 e_len c.make_room-from.new.len from iw2 pe2 e_len2 len2 end) same_nv
     c.make_element-end.ensures.makes))) in
     λ j ne h. let a = z.before j ne h in let s = c.make_element-end.ensures.start in omega (arith, a, s)
+
+pub returns-clause-end : goal.returns-clause-end
+returns-clause-end g c =
+    let iw : List ℤ = c.args.iw.now in let nv : List ℤ = c.args.nv.now in let pe : List ℤ = c.args.pe.now in
+    let len : List ℕ = c.args.len.now in let e_len : List ℤ = c.args.e_len.now in let me : ℕ = c.args.me in
+    let m : ℕ = place (word e_len me) in let iw1 : List ℤ = c.make_room-from.new.iw in let pe1 : List ℤ = c.make_room-from.new.pe in
+    let rooms : Rooms (length nv) iw pe e_len len c.args.free iw1 pe1 c.make_room-from.result.0 = c.make_room-from.ensures.rooms in
+    let same_nv : c.make_room-from.new.nv ≡ nv = c.make_room-from.ensures.same.0 in
+    let same_len : c.make_room-from.new.len ≡ len = c.make_room-from.ensures.same.1 in
+    let es = rooms_elements c.requires.laid rooms me c.requires.listed c.requires.elements in
+    let front_is = rooms_front c.requires.laid rooms me c.requires.listed c.requires.elements nv in
+    let from : ℕ = c.make_room-from.result.0 in let end : ℕ = c.make_element-end.result.0 in
+    let total : ℕ = c.make_element-end.result.1 in let iw2 : List ℤ = c.make_element-end.new.iw in
+    let nv2 : List ℤ = c.make_element-end.new.nv in let front : List ℕ = front_of iw nv pe len me m in
+    let b : Builds me front iw1 nv from iw2 nv2 end total = subst (λ xs. Builds me xs iw1 nv from iw2 nv2 end total) front_is
+    (subst (λ z. Builds me (front_of iw1 nv pe1 z me m) iw1 nv from iw2 nv2 end total) same_len
+    (subst (λ z. Builds me (front_of iw1 z pe1 c.make_room-from.new.len me m) iw1 z from iw2 nv2 end total) same_nv
+    c.make_element-end.ensures.builds)) in
+    let l = rooms.long in let m = b.long in let t = c.take_pivot-block.ensures.long in
+    let fits = c.make_room-from.ensures.fits in let n = rows_length iw2 from (end - from) in let at = ap length b.list in
+    let w = b.grows in omega (arith, l, m, fits, n, at, w)
 
 pub returns-clause-total : goal.returns-clause-total
 returns-clause-total g c =

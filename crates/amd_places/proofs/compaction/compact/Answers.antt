@@ -2,7 +2,8 @@
 use Rattle.std.proofs.Common.{◌≡◌, length, arith, sym, ◌∙◌, subst, set}
 use Rattle.amd_places.specs.Words.{start, word}
 use Rattle.amd_places.specs.Compaction.{Moves}
-use Rattle.amd_places.proofs.Moves.{Marked, start_inside, marked_yes, marked_no, has_not_place, has_no_words, swept_none, swept_skip}
+use Rattle.amd_places.proofs.MarkedLists.{Marked, start_inside, marked_yes, marked_no}
+use Rattle.amd_places.proofs.Moves.{has_not_place, has_no_words, swept_none, swept_skip}
 use Rattle.amd_places.proofs.Moves.{swept_move, swept_all, row_of, not_empty}
 use Rattle.amd_places.proofs.MoveSigns.{owner_form}
 use Rattle.amd_places.proofs.compaction.compact.Goals as goal

@@ -5,7 +5,8 @@ use Rattle.amd_places.specs.Words.{num, word, place, is_place, start, rows}
 use Rattle.amd_places.specs.Renewal.{is_kept, is_outside}
 use Rattle.amd_places.specs.Fronts.{RenewsFront}
 use Rattle.amd_places.proofs.WordMarks.{rows_start}
-use Rattle.amd_places.proofs.Frames.{has_from, front_word, front_inside, front_row}
+use Rattle.amd_places.proofs.Frames.{has_from}
+use Rattle.amd_places.proofs.RenewedFronts.{front_word, front_inside, front_row}
 use Rattle.amd_places.proofs.Retiring.{front_none, front_placed, front_loses, front_marked, front_room, front_more}
 use Rattle.amd_places.proofs.fronts.renew_all.Goals as goal
 

@@ -1,7 +1,7 @@
 use Rattle.std.proofs.Common.{ℕ, subst, arith, length}
 use Rattle.amd_places.specs.Words.{num, start}
 use Rattle.amd_places.specs.Renewal.{is_kept, is_outside, Renews}
-use Rattle.amd_places.proofs.Frames.{one_from}
+use Rattle.amd_places.proofs.RenewedFronts.{one_from}
 use Rattle.amd_places.proofs.fronts.renew_class.Goals as goal
 
 pub returns-clause-renews : goal.returns-clause-renews

@@ -1,6 +1,6 @@
 -- The goals of restoring::restore.
 use Rattle.amd_model.proofs.Counting.Below.{clash}
-use Rattle.std.proofs.Common.{ℕ, ℤ, Bool, List, [], ◌∷◌, true, false, ◌≡◌, ◌<◌, ◌≤◌, ◌+◌, ◌-◌, ◌||◌, ◌&&◌}
+use Rattle.std.proofs.Common.{ℕ, ℤ, List, [], ◌∷◌, true, false, ◌≡◌, ◌<◌, ◌≤◌, ◌+◌, ◌-◌, ◌&&◌}
 use Rattle.std.proofs.Common.{not, inl, inr, refl, sym, ap, subst, ◌∙◌}
 use Rattle.std.proofs.Common.{arith, cond, length, fold, set, get_or-set_same, get_or-set_other}
 use Rattle.std.specs.Prelude.{min, ◌==◌}
@@ -20,17 +20,12 @@ use Rattle.amd_places.proofs.EachRow.{each_none, each_next}
 use Rattle.amd_places.proofs.Counting.{fresh_word}
 use Rattle.amd_places.proofs.Filtering.{filters_none, filters_no, filters_yes}
 use Rattle.amd_places.proofs.Leaving.{lists_same}
+use Rattle.amd_places.proofs.Meeting.{both_not}
 use Rattle.amd_places.proofs.FrontBack.{Emptying, emptying_none, emptying_skips, emptying_clears, emptying_all}
 use Rattle.amd_places.proofs.FrontBack.{marked_none, marked_next, marked_skip}
 use Rattle.amd_places.proofs.FrontBack.{rows_other, rows_fresh, rows_small, put_none, put_more, put_gives, no_head}
 use Rattle.amd_places.proofs.restoring.restore.Goals as goal
 use Rattle.amd_places.proofs.restoring.restore.Goals.{then-is_marked, else-is_marked}
-
--- a mark that is off stays off
-marks_next : (a b c : Bool) → ((a && not b) && not c) ≡ (a && not (b || c))
-marks_next false b c = refl
-marks_next true true c = refl
-marks_next true false c = refl
 
 pub loop-p-init : goal.loop-p-init
 unfolding has
@@ -187,7 +182,7 @@ loop-p-preserved g c =
               sizes = λ j. e.sizes j ∙ was.restores.sizes j;
               marks = λ j. e.marks j ∙ ap (λ z. z && not (i == j)) (was.restores.marks j)
                   ∙ ap (λ z. (in_front nv j && not (has (rows iw from k) j)) && not (z == j)) is
-                  ∙ marks_next (in_front nv j) (has (rows iw from k) j) (place (word iw (from + k)) == j)
+                  ∙ both_not (in_front nv j) (has (rows iw from k) j) (place (word iw (from + k)) == j)
                   ∙ ap (λ z. in_front nv j && not z) (sym (rows_next iw from k j));
               bounds = each_next iw from k (num degree) (num c.loop-p.degree) (λ x. cond (in_front nv x) (bound x) (num degree x))
                   was.restores.bounds i is fresh (num w.place_class-bound.new.degree)

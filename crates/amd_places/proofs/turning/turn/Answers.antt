@@ -263,3 +263,9 @@ returns-clause-linked g c lists member h =
     (subst (λ xs. DegreeLists (length c.args.w.now) c.count_outside.new.head c.count_outside.new.next c.count_outside.new.last
     c.args.degree.now
     (λ d. filter (λ j. not (has xs j)) (lists d))) (list ∙ sym same) out))
+
+pub returns-clause-more_lengths : goal.returns-clause-more_lengths
+returns-clause-more_lengths g c =
+    let a = c.requires.lengths in let b = c.requires.more_lengths in
+    let d = c.count_outside.ensures.long in let e = c.count_outside.ensures.lengths in let f = c.renew_all.ensures.renews.lengths in
+    (omega (arith, a, d, f), omega (arith, b, e, f))
