@@ -4,5 +4,5 @@ pub mod Written
 pub mod Orderings
 -- What the parts of a demo write, one after another.
 pub mod Parts
--- The columns of a factor, by where they begin and end.
+-- The sizes of columns, written one after another.
 pub mod Sizes

@@ -1,13 +1,11 @@
 -- The lines of the exact factor beside the bounds.
-use Rattle.std.specs.Prelude.{◌≡◌, ◌≤◌, ◌<◌, ◌+◌, ◌*◌, ◌^◌, ℕ, ℤ, List, [], ◌∷◌, ◌++◌, codes, decimal, length, slice_index, slice_index_or}
-use Rattle.std.specs.Prelude.{unsigned_abs, Option}
+use Rattle.std.specs.Prelude.{◌≡◌, ℕ, ℤ, List, [], ◌∷◌, ◌++◌, codes, decimal, length, unsigned_abs, Option}
 use Rattle.std.specs.Io.KnownBytes.{Appends}
 use Rattle.amd_model.specs.Factor.{IsFactor, needed, needed_front}
 use Rattle.amd_model.specs.Figures.{entries, ldl_steps, lu_steps}
 use Rattle.amd_model.specs.Input.Pattern.{graph_of}
 use Rattle.amd_factor.specs.Earlier.{Permutes}
 use Rattle.amd_numbers.specs.declared.amd.Info.{Info}
-use Rattle.amd_demos.specs.declared.exact.Need.{Need}
 
 -- how many entries each column has, with a space in front of each number
 abbrev pub counts : List (List ℕ) → List ℕ
@@ -41,21 +39,3 @@ pub record TellsExact (n : ℤ) (ap ai p : List ℤ) (info : Info) (text : List 
 -- a writer that tells its bytes has one such text more
 abbrev pub HasExact : ℤ → List ℤ → List ℤ → List ℤ → Info → Option (List ℕ) → Option (List ℕ) → Type 0
 HasExact n ap ai p info old new = (text : List ℕ) × TellsExact n ap ai p info text × Appends old new text
-
--- by the pointers each column has so many entries
-pub record TellSizes (columns : List (List ℕ)) (ptr : List ℕ) : Type 0 where
-  pub pointers : length ptr ≡ length columns + 1
-  pub first : slice_index ptr 0 ≡ 0
-  pub ends : (k : ℕ) (d : List ℕ) → k < length columns → slice_index ptr (k + 1) ≡ slice_index ptr k + length (slice_index_or columns k d)
-
--- the needs of a factor with these columns
-pub record IsNeed (columns : List (List ℕ)) (need : Need) : Type 0 where
-  pub lnz : need.lnz ≡ needed entries columns
-  pub ldl : need.n_mult_subs_ldl ≡ needed ldl_steps columns
-  pub lu : need.n_mult_subs_lu ≡ needed lu_steps columns
-  pub greatest : need.d_max ≡ needed_front columns
-
--- the steps are no more than fit beside the entries
-pub record IsSmall (need : Need) : Type 0 where
-  pub ldl : need.n_mult_subs_ldl ≤ need.lnz * need.lnz
-  pub lu : need.n_mult_subs_lu ≤ need.lnz * need.lnz

@@ -1,40 +1,20 @@
 // The exact factor of a matrix under its ordering, beside the bounds that the ordering told. The figures are those of the AMD user
-// guide, summed over the columns of the factor and never cut. Called by the demo that prints a matrix.
+// guide. Called by the demo that prints a matrix.
 
-ghost use Rattle.std.specs.Prelude.{◌≡◌, ◌≤◌, ◌<◌, ◌+◌, ◌*◌, ◌/◌, ◌^◌, ℕ, List, ◌++◌, codes, length, max, slice_index, true, false, IfOk, OnOk};
+ghost use Rattle.std.specs.Prelude.{◌≡◌, ℕ, List, ◌++◌, codes, true, false, IfOk, OnOk};
 ghost use Rattle.std.specs.Io.KnownBytes.{Appends};
-ghost use Rattle.amd_demos.specs.Exact.{beside_line, counts, exact_lines, figure_lines, HasExact, IsNeed, IsSmall, TellSizes};
+ghost use Rattle.amd_demos.specs.Exact.{beside_line, counts, exact_lines, figure_lines, HasExact};
 ghost use Rattle.amd_demos.specs.Lines.{failure_line};
+ghost use Rattle.amd_symbolic.specs.Needs.{IsNeed, TellSizes};
 
 use crate::matrix::Matrix;
 use crate::outcome::write_failure;
 use amd::Info;
 use amd_symbolic::columns;
+use amd_symbolic::needs::{Need, column_size, need_of};
 use std::alloc::Allocator;
 use std::io;
 use std::io::Write;
-
-/// What a factor needs.
-#[derive(Clone, Copy)]
-struct Need {
-    /// The entries below the diagonal.
-    lnz: u128,
-    /// The multiply-subtract steps of a factorization `LDL'`.
-    n_mult_subs_ldl: u128,
-    /// The multiply-subtract steps of a factorization `LU`.
-    n_mult_subs_lu: u128,
-    /// The entries of the largest column, that on the diagonal among them.
-    d_max: u128,
-}
-
-/// How many entries column `k` has, by where the columns begin and end.
-fn column_size(ptr: &[usize], k: usize) -> usize
-    requires within { k + 1 < length ptr.now }
-    requires ascending { slice_index ptr.now k ≤ slice_index ptr.now (k + 1) }
-    ensures { slice_index ptr.now k + result ≡ slice_index ptr.now (k + 1) }
-{
-    ptr[k + 1] - ptr[k]
-}
 
 /// Writes a line with how many entries each column has.
 fn write_counts<W: Write>(ptr: &[usize], out: &mut W) -> io::Result<()>
@@ -47,42 +27,6 @@ fn write_counts<W: Write>(ptr: &[usize], out: &mut W) -> io::Result<()>
     }
     out.write_all(b"\n")?;
     Ok(())
-}
-
-/// What a factor with one column more needs.
-fn with_column(need: Need, size: usize) -> Need
-    requires room { need.lnz + size < 2 ^ 64 }
-    requires small { IsSmall need }
-    ensures lnz { result.lnz ≡ need.lnz + size }
-    ensures ldl { result.n_mult_subs_ldl ≡ need.n_mult_subs_ldl + size * (size + 1) / 2 }
-    ensures lu { result.n_mult_subs_lu ≡ need.n_mult_subs_lu + size * size }
-    ensures greatest { result.d_max ≡ max need.d_max (size + 1) }
-    ensures small { IsSmall result }
-{
-    let size = size as u128;
-    Need {
-        lnz: need.lnz + size,
-        n_mult_subs_ldl: need.n_mult_subs_ldl + size * (size + 1) / 2,
-        n_mult_subs_lu: need.n_mult_subs_lu + size * size,
-        d_max: need.d_max.max(size + 1),
-    }
-}
-
-/// What a factor needs, by where its columns begin and end.
-fn need_of(ptr: &[usize]) -> Need
-    requires { (columns : List (List ℕ)) × TellSizes columns ptr.now }
-    ensures { (columns : List (List ℕ)) → TellSizes columns ptr.now → IsNeed columns result }
-{
-    let mut need = Need {
-        lnz: 0,
-        n_mult_subs_ldl: 0,
-        n_mult_subs_lu: 0,
-        d_max: 0,
-    };
-    'columns: for k in 0..ptr.len() - 1 {
-        need = with_column(need, column_size(ptr, k));
-    }
-    need
 }
 
 /// Writes a line of a figure: what the factor needs, and the bound.

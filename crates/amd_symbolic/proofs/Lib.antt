@@ -4,3 +4,4 @@ pub mod Vectors
 pub mod Once
 pub mod Reserved
 pub mod Tree
+pub mod Sizes

@@ -2,11 +2,13 @@
 //!
 //! [`columns`] takes the pattern of a square matrix by columns and any order of its rows. [`analyze`] takes the order from
 //! [`amd::order`] and the room from its record, and [`analyze_holding`] does the same with rows that a caller wants last.
+//! [`needs::need_of`] sums what a factor needs.
 #![tactic(auto)]
 
 pub mod analysis;
 pub mod factor;
 pub mod laws;
+pub mod needs;
 
 pub use analysis::{analyze, analyze_holding};
 pub use factor::{Factor, Fault, columns};

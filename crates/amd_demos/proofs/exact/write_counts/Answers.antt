@@ -3,7 +3,8 @@ use Rattle.std.proofs.Common.{arith, subst}
 use Rattle.std.specs.Io.KnownBytes.{Appends}
 use Rattle.amd_texts.proofs.Written.{Appends-then}
 use Rattle.amd_demos.specs.Exact.{counts}
-use Rattle.amd_demos.proofs.Sizes.{all-columns, counts-next, sizes-ascend}
+use Rattle.amd_symbolic.proofs.Sizes.{all-columns, sizes-ascend}
+use Rattle.amd_demos.proofs.Sizes.{counts-next}
 use Rattle.amd_demos.proofs.exact.write_counts.Goals as goal
 
 pub column_size-size-requires-clause-ascending : goal.column_size-size-requires-clause-ascending

@@ -1,6 +1,7 @@
 use Rattle.std.proofs.Common.{ℕ, List, take}
 use Rattle.std.specs.Io.KnownBytes.{Appends}
-use Rattle.amd_demos.specs.Exact.{counts, TellSizes}
+use Rattle.amd_symbolic.specs.Needs.{TellSizes}
+use Rattle.amd_demos.specs.Exact.{counts}
 use Rattle.amd_demos.proofs.exact.write_counts.Given as goal
 
 abbrev pub invariant-columns : goal.invariant-columns

@@ -1,8 +1,8 @@
 -- The needs of the columns so far.
 use Rattle.std.proofs.Common.{arith, sym, subst}
-use Rattle.amd_demos.specs.Exact.{IsNeed}
-use Rattle.amd_demos.proofs.Sizes.{all-columns, need-next, need-none, sizes-ascend}
-use Rattle.amd_demos.proofs.exact.need_of.Goals as goal
+use Rattle.amd_symbolic.specs.Needs.{IsNeed}
+use Rattle.amd_symbolic.proofs.Sizes.{all-columns, need-next, need-none, sizes-ascend}
+use Rattle.amd_symbolic.proofs.needs.need_of.Goals as goal
 
 pub columns-init : goal.columns-init
 columns-init c = (λ columns h. need-none, sym c.requires.1.first, record { ldl = omega arith; lu = omega arith })

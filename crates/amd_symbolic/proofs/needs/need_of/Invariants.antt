@@ -1,6 +1,6 @@
 use Rattle.std.proofs.Common.{◌≡◌, ℕ, List, take, slice_index}
-use Rattle.amd_demos.specs.Exact.{IsNeed, IsSmall, TellSizes}
-use Rattle.amd_demos.proofs.exact.need_of.Given as goal
+use Rattle.amd_symbolic.specs.Needs.{IsNeed, IsSmall, TellSizes}
+use Rattle.amd_symbolic.proofs.needs.need_of.Given as goal
 
 abbrev pub invariant-columns : goal.invariant-columns
 invariant-columns l =
