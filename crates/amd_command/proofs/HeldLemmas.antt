@@ -1,11 +1,11 @@
 -- The lines of a list of rows, read one after another.
-use Rattle.std.proofs.Common.{◌≡◌, ◌≢◌, ◌+◌, ◌≤◌, ◌⊎◌, ℕ, zero, suc, Bool, true, false, Option, Some, None, List, [], ◌∷◌, ◌++◌, inl, inr}
-use Rattle.std.proofs.Common.{length, refl, sym, ap, ◌∙◌, subst, append-nil, arith, get_or, set, replicate}
+use Rattle.std.proofs.Common.{◌≡◌, ◌≢◌, ◌≤◌, ◌⊎◌, ℕ, zero, suc, Bool, true, false, Option, Some, None, List, [], ◌∷◌, ◌++◌, inl, inr}
+use Rattle.std.proofs.Common.{length, refl, sym, ◌∙◌, subst, append-nil, arith, set, replicate}
 use Rattle.std.specs.Prelude.{IfSome, Contains, slice_index_or, ◌<◌, ◌↔◌}
 use Rattle.std.proofs.lemmas.Bool.{cases_lt, cases_eq}
 use Rattle.std.proofs.lemmas.List.{length-replicate, length-set, get_or-set_same, get_or-set_other, get_or-replicate, get_or_past}
 use Rattle.std.proofs.lemmas.List.Elements.{Contains-append_left, Contains-append_right, Contains-append_cases}
-use Rattle.amd_market.specs.Lines.{BeginsWith, TakesLines, TakesTelling, TakesNotes, FailsAt, telling}
+use Rattle.amd_market.specs.Lines.{BeginsWith, TakesLines, TakesTelling, TakesNotes, telling}
 use Rattle.amd_market.proofs.LineLemmas.{takes-append, takes-none, telling-both, begins-known}
 use Rattle.amd_market.specs.declared.lines.LineReader.{LineReader}
 use Rattle.amd_command.specs.Held.{SpellsRow, SpellsRows, AreMarks, MarksRows}

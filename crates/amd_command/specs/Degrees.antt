@@ -1,6 +1,5 @@
 -- What is told of a matrix.
 use Rattle.std.specs.Prelude.{◌≡◌, ◌+◌, ℕ, ℤ, List, max, fold, count_by, length, nat_lt}
-use Rattle.amd_numbers.specs.Statuses.{IsStatusOf}
 use Rattle.amd_model.specs.Input.Dense.{IsThreshold}
 use Rattle.amd_input.specs.Degrees.{AreDegrees}
 use Rattle.amd_input.specs.PatternFigures.{HasPatternFigures}

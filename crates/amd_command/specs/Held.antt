@@ -1,5 +1,5 @@
 -- The rows that a text lists.
-use Rattle.std.specs.Prelude.{◌≡◌, ◌↔◌, ℕ, Bool, true, false, Some, List, [], ◌∷◌, length, Contains, slice_index_or, IsTrue}
+use Rattle.std.specs.Prelude.{◌≡◌, ◌↔◌, ℕ, Bool, true, false, Some, List, [], ◌∷◌, length, Contains, slice_index_or}
 use Rattle.amd_cases.specs.Words.{words}
 use Rattle.amd_market.specs.Entries.{SpellsIndex}
 use Rattle.amd_market.specs.Lines.{BeginsWith, telling}

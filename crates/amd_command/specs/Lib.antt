@@ -3,3 +3,4 @@ pub mod Causes
 pub mod Texts
 pub mod Held
 pub mod Degrees
+pub mod Analyses

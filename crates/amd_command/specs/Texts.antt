@@ -1,5 +1,5 @@
 -- The texts that the command writes.
-use Rattle.std.specs.Prelude.{◌+◌, ◌/◌, ◌%◌, ℕ, List, [], ◌∷◌, ◌++◌, codes, decimal, if◌then◌else◌}
+use Rattle.std.specs.Prelude.{◌+◌, ℕ, List, [], ◌∷◌, ◌++◌, codes, decimal}
 use Rattle.amd_numbers.specs.declared.amd.Info.{Info}
 use Rattle.amd_numbers.specs.declared.amd.Status.{Status}
 use Rattle.amd_numbers.specs.declared.amd.Status.TheVariants.{OK, Invalid, OkButJumbled, OutOfMemory}

@@ -5,6 +5,7 @@ ghost use Rattle.std.specs.Prelude.{◌≡◌};
 
 use amd::Status;
 use amd_market::faults::{Fault, ReadError};
+use amd_symbolic::Fault as FactorFault;
 use std::alloc::{AllocError, AllocFailed};
 use std::io;
 use thiserror::Error;
@@ -53,6 +54,16 @@ impl From<Status> for Cause {
         match status {
             Status::OutOfMemory => Cause::Memory,
             Status::Invalid | Status::OK | Status::OkButJumbled => Cause::Form,
+        }
+    }
+}
+
+impl From<FactorFault> for Cause {
+    fn from(fault: FactorFault) -> Cause {
+        match fault {
+            FactorFault::OutOfMemory => Cause::Memory,
+            FactorFault::NotColumnForm | FactorFault::NotPermutation | FactorFault::RoomTooSmall =>
+                { Cause::Form }
         }
     }
 }

@@ -1,4 +1,4 @@
-// The table of what an ordering tells, a label and a value a line. Called by `program`.
+// The table of what an ordering tells, a label and a value a line. Called by `program` and by `analysis`.
 
 ghost use Rattle.std.specs.Prelude.{◌≡◌, OnOk};
 ghost use Rattle.std.specs.Io.KnownBytes.{Appends};
@@ -22,7 +22,11 @@ fn status_word(status: &Status) -> &'static str
 }
 
 /// Writes the lines on the matrix.
-fn write_matrix_figures<W: Write>(info: &Info, out: &mut W) -> io::Result<()>
+///
+/// # Errors
+///
+/// The writer's, of the first write that fails. What was written before stays written.
+pub fn write_matrix_figures<W: Write>(info: &Info, out: &mut W) -> io::Result<()>
     ensures { OnOk result (Appends (W.contents out.old) (W.contents out.new) (matrix_figures info.now)) }
 {
     let status = status_word(&info.status);

@@ -283,7 +283,7 @@ fn write_foot<W: Write>(n: usize, edges: u64, fill: u64, out: &mut W) -> io::Res
 /// # Errors
 ///
 /// `Form` where the matrix is no column form, or `p` is no permutation of its rows; `Memory` where memory was refused; and `Write`
-/// where the writer failed. Before a fault of the first two kinds nothing is written.
+/// where the writer failed. Before a fault of the first two kinds nothing is written, but where memory was refused to the writer.
 pub fn write_picture<W: Write, A: Allocator + Copy>(
     alloc: A,
     matrix: &Matrix<A>,

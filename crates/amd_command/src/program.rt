@@ -1,6 +1,8 @@
 // Runs what the words of a command line ask for: opens the files, and writes what comes of them. Called by the program `rimopaku`.
-// What the functions that it calls read and write is told by their contracts; files and messages are tested alone.
+// What the functions that it calls read and write is told by their contracts; files and messages are tested alone. Each text is
+// made in memory first, so that nothing is left half written where memory is refused.
 
+use crate::analysis::{analyze_matrix, write_columns, write_comparison};
 use crate::causes::Cause;
 use crate::facts::{facts_of, write_facts};
 use crate::figures::write_figures;
@@ -9,13 +11,13 @@ use crate::ordering::order_matrix;
 use crate::picture::write_picture;
 use crate::request::{Options, Request, request_of};
 use crate::rows::write_rows;
-use amd::{Control, Info};
+use amd::Control;
 use amd_market::reader::{Matrix, read_matrix};
 use clap::Error;
 use clap::error::ErrorKind;
 use std::alloc::Global;
 use std::fs::OpenFile;
-use std::io::{BufReader, BufWriter, Write};
+use std::io::{BufReader, Write};
 use std::rt::Runtime;
 use std::{fs, io};
 use thiserror::Error;
@@ -25,6 +27,17 @@ const LONG_FILE: u64 = 1 << 26;
 
 /// A matrix with so many entries takes some seconds.
 const MANY_ENTRIES: usize = 1 << 22;
+
+/// What an ordering, or an analysis, writes.
+#[derive(Drop)]
+struct Texts {
+    /// The permutation, or the columns of the factor.
+    lines: Vec<u8>,
+    /// The figures.
+    figures: String,
+    /// The picture, where one is asked for.
+    picture: Option<Vec<u8>>,
+}
 
 /// Why a run ended early, and with which file or word.
 #[derive(Debug, Drop, Error)]
@@ -74,61 +87,98 @@ fn read_marks<R: Runtime + AllocGlobal>(rt: &R, n: usize, path: &str) -> Result<
     read_held(rt.alloc(), n, input).map_err(Cause::Text)
 }
 
-/// Orders a matrix, and says so where it is large.
-fn order_and_tell<R: Runtime + AllocGlobal>(
-    rt: &R,
-    matrix: &Matrix<Global>,
-    control: &Control,
-    hold: Option<&[bool]>,
-) -> Result<(Vec<usize>, Info), Cause> {
+/// Says that a matrix is ordered, where it is large.
+fn tell_size<R: Runtime>(rt: &R, matrix: &Matrix<Global>) -> Result<(), Cause> {
     let rows = matrix.n;
     let entries = matrix.a_i.len();
     if entries >= MANY_ENTRIES {
         eprintln!(rt; "rimopaku: ordering {rows} rows, {entries} entries")?;
     }
-    Ok(order_matrix(rt.alloc(), matrix, control, hold)?)
-}
-
-/// Writes a permutation to a file or to standard output.
-fn write_permutation<R: Runtime + AllocGlobal>(
-    rt: &R,
-    path: Option<&str>,
-    p: &[usize],
-) -> Result<(), Cause> {
-    match path {
-        Some(path) => {
-            let mut out = BufWriter::new(rt.alloc(), fs::create(rt, path)?)?;
-            write_rows(p, &mut out)?;
-            out.flush()?;
-        }
-        None => {
-            let mut out = BufWriter::new(rt.alloc(), io::writer(rt))?;
-            write_rows(p, &mut out)?;
-            out.flush()?;
-        }
-    }
     Ok(())
 }
 
-/// Draws a matrix and its ordering to a file.
-fn draw<R: Runtime + AllocGlobal>(
-    rt: &R,
-    path: &str,
+/// The picture of a matrix and its ordering.
+fn picture_text(alloc: Global, matrix: &Matrix<Global>, p: &[usize]) -> Result<Vec<u8>, Cause> {
+    let mut text = Vec::new(alloc);
+    write_picture(alloc, matrix, p, &mut text)?;
+    Ok(text)
+}
+
+/// Orders a matrix, and makes the texts of that, the picture where it is `drawn`.
+fn order_texts(
+    alloc: Global,
     matrix: &Matrix<Global>,
-    p: &[usize],
-) -> Result<(), Cause> {
-    let mut out = BufWriter::new(rt.alloc(), fs::create(rt, path)?)?;
-    write_picture(rt.alloc(), matrix, p, &mut out)?;
+    control: &Control,
+    hold: Option<&[bool]>,
+    drawn: bool,
+) -> Result<Texts, Cause> {
+    let (p, info) = order_matrix(alloc, matrix, control, hold)?;
+    let mut lines = Vec::new(alloc);
+    let mut figures = Vec::new(alloc);
+    write_rows(&p, &mut lines)?;
+    write_figures(&info, &mut figures)?;
+    let picture = if drawn {
+        Some(picture_text(alloc, matrix, &p)?)
+    } else {
+        None
+    };
+    let figures = String::from_utf8_lossy(alloc, &figures)?;
+    Ok(Texts {
+        lines,
+        figures,
+        picture,
+    })
+}
+
+/// Orders a matrix, works out the factor under the ordering, and makes the texts of that.
+fn analysis_texts(
+    alloc: Global,
+    matrix: &Matrix<Global>,
+    control: &Control,
+    hold: Option<&[bool]>,
+) -> Result<Texts, Cause> {
+    let analysis = analyze_matrix(alloc, matrix, control, hold)?;
+    let mut lines = Vec::new(alloc);
+    let mut figures = Vec::new(alloc);
+    write_columns(&analysis.p, &analysis.factor, &mut lines)?;
+    write_comparison(&analysis.need, &analysis.info, &mut figures)?;
+    let figures = String::from_utf8_lossy(alloc, &figures)?;
+    Ok(Texts {
+        lines,
+        figures,
+        picture: None,
+    })
+}
+
+/// Writes a text to a file.
+fn put_file<R: Runtime>(rt: &R, path: &str, text: &[u8]) -> Result<(), Cause> {
+    let mut out = fs::create(rt, path)?;
+    out.write_all(text)?;
     out.flush()?;
     Ok(())
 }
 
-/// Writes the figures of an ordering to standard error.
-fn tell_figures<R: Runtime + AllocGlobal>(rt: &R, info: &Info) -> Result<(), Cause> {
-    let mut text = Vec::new(rt.alloc());
-    write_figures(info, &mut text)?;
-    rt.eprint(String::from_utf8_lossy(rt.alloc(), &text)?)?;
-    Ok(())
+/// Writes a text to a file, or to standard output where none is named.
+fn put_text<R: Runtime>(rt: &R, path: Option<&str>, text: &[u8]) -> Result<(), Cause> {
+    match path {
+        Some(path) => put_file(rt, path, text),
+        None => Ok(io::writer(rt).write_all(text)?),
+    }
+}
+
+/// Writes the texts on a file to where they belong. No memory is asked for here.
+fn put_texts<'a, R: Runtime>(
+    rt: &R,
+    options: &Options<'a>,
+    texts: Texts,
+) -> Result<(), Complaint<'a>> {
+    let lines = put_text(rt, options.out, &texts.lines);
+    about(output_name(options.out), lines)?;
+    if let (Some(path), Some(picture)) = (options.picture, &texts.picture) {
+        about(path, put_file(rt, path, picture))?;
+    }
+    let told = rt.eprint(texts.figures).map_err(Cause::from);
+    about("standard error", told)
 }
 
 /// What the words of a subcommand choose.
@@ -136,40 +186,44 @@ fn control_of<'a>(options: &Options<'a>) -> Result<Control, Complaint<'a>> {
     about("--dense", options.control().ok_or(Cause::Dense))
 }
 
-/// Orders a file.
+/// Reads the rows to hold last, where a file of them is named.
+fn read_hold<'a, R: Runtime + AllocGlobal>(
+    rt: &R,
+    options: &Options<'a>,
+    n: usize,
+) -> Result<Option<Vec<bool>>, Complaint<'a>> {
+    match options.hold {
+        Some(path) => Ok(Some(about(path, read_marks(rt, n, path))?)),
+        None => Ok(None),
+    }
+}
+
+/// Orders a file, and works out its factor where it is `analyzed`. All memory is taken before an output is written.
 fn order_file<'a, R: Runtime + AllocGlobal>(
     rt: &R,
     options: &Options<'a>,
+    analyzed: bool,
 ) -> Result<(), Complaint<'a>> {
     let control = control_of(options)?;
     let matrix = about(options.file, read_file(rt, options.file))?;
-    let hold = match options.hold {
-        Some(path) => Some(about(path, read_marks(rt, matrix.n, path))?),
-        None => None,
-    };
+    let hold = read_hold(rt, options, matrix.n)?;
     let marks = hold.as_deref();
-    let (p, info) = about(options.file, order_and_tell(rt, &matrix, &control, marks))?;
-    about(
-        output_name(options.out),
-        write_permutation(rt, options.out, &p),
-    )?;
-    if let Some(path) = options.picture {
-        about(path, draw(rt, path, &matrix, &p))?;
-    }
-    about("standard error", tell_figures(rt, &info))
+    about("standard error", tell_size(rt, &matrix))?;
+    let made = if analyzed {
+        analysis_texts(rt.alloc(), &matrix, &control, marks)
+    } else {
+        let drawn = options.picture.is_some();
+        order_texts(rt.alloc(), &matrix, &control, marks, drawn)
+    };
+    put_texts(rt, options, about(options.file, made)?)
 }
 
-/// Tells what the matrix of a file is, where it can be told.
-fn tell_facts<R: Runtime + AllocGlobal>(
-    rt: &R,
-    matrix: &Matrix<Global>,
-    control: &Control,
-) -> Result<(), Cause> {
-    let facts = facts_of(rt.alloc(), matrix, control)?;
-    let mut out = BufWriter::new(rt.alloc(), io::writer(rt))?;
-    write_facts(&facts, &mut out)?;
-    out.flush()?;
-    Ok(())
+/// The text of what a matrix is.
+fn facts_text(alloc: Global, matrix: &Matrix<Global>, control: &Control) -> Result<Vec<u8>, Cause> {
+    let facts = facts_of(alloc, matrix, control)?;
+    let mut text = Vec::new(alloc);
+    write_facts(&facts, &mut text)?;
+    Ok(text)
 }
 
 /// Tells what a file is.
@@ -179,7 +233,8 @@ fn describe_file<'a, R: Runtime + AllocGlobal>(
 ) -> Result<(), Complaint<'a>> {
     let control = control_of(options)?;
     let matrix = about(options.file, read_file(rt, options.file))?;
-    about(options.file, tell_facts(rt, &matrix, &control))
+    let text = about(options.file, facts_text(rt.alloc(), &matrix, &control))?;
+    about(output_name(None), put_text(rt, None, &text))
 }
 
 /// Does what is asked for.
@@ -188,7 +243,8 @@ fn answer<'a, R: Runtime + AllocGlobal>(
     request: &Request<'a>,
 ) -> Result<(), Complaint<'a>> {
     match request {
-        Request::Order(options) => order_file(rt, options),
+        Request::Order(options) => order_file(rt, options, false),
+        Request::Analyze(options) => order_file(rt, options, true),
         Request::Info(options) => describe_file(rt, options),
     }
 }
@@ -204,7 +260,8 @@ fn exit_status_of(error: &Error) -> u8 {
 
 /// Runs a command line, the first word of which is the name of the program, and answers the exit status: 0 where all was done, 1
 /// where memory was refused or an output failed, and 2 where an argument or an input is wrong. A message on standard error tells
-/// why it is not 0. Where an input is wrong nothing is written but that.
+/// why it is not 0. Where an input is wrong or memory is refused, no output is written; lines on standard error that tell of a long
+/// file or a large matrix may stand before the message.
 pub fn run<R: Runtime + AllocGlobal>(rt: &R, words: &[String]) -> u8 {
     match request_of(rt.alloc(), words) {
         Ok(request) => match answer(rt, &request) {

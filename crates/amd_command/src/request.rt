@@ -4,7 +4,7 @@ use amd::Control;
 use clap::{Arg, ArgAction, ArgMatches, Command, Error};
 use std::alloc::{AllocError, Global};
 
-/// The words of a subcommand that orders a file.
+/// The words of a subcommand. Those that it does not know are as where they are not given.
 #[derive(Clone, Copy)]
 pub struct Options<'a> {
     /// The file with the matrix; `-` is standard input.
@@ -26,6 +26,8 @@ pub struct Options<'a> {
 pub enum Request<'a> {
     /// To order a file.
     Order(Options<'a>),
+    /// To order a file, and to tell the columns of the exact factor.
+    Analyze(Options<'a>),
     /// To tell what a file is.
     Info(Options<'a>),
 }
@@ -56,8 +58,13 @@ fn path_argument<'a>(alloc: Global, name: &'a str, help: &'a str) -> Arg<'a> {
         .help(help)
 }
 
-/// The subcommand `order`.
-fn order_command<'a>(alloc: Global) -> Result<Command<'a>, AllocError> {
+/// A subcommand that orders the rows of a file, with the arguments that all of them have.
+fn ordering_command<'a>(
+    alloc: Global,
+    name: &'a str,
+    about: &'a str,
+    out: &'a str,
+) -> Result<Command<'a>, AllocError> {
     let plain = Arg::new(alloc, "no-aggressive")
         .long("no-aggressive")
         .action(ArgAction::SetTrue)
@@ -67,24 +74,39 @@ fn order_command<'a>(alloc: Global) -> Result<Command<'a>, AllocError> {
         "hold",
         "Hold the rows last whose numbers PATH lists, one a line",
     );
-    let out = path_argument(
-        alloc,
-        "out",
-        "Write the permutation to PATH and not to standard output",
-    );
+    Command::new(alloc, name)
+        .about(about)
+        .arg(file_argument(alloc))?
+        .arg(dense_argument(alloc))?
+        .arg(plain)?
+        .arg(hold)?
+        .arg(path_argument(alloc, "out", out))
+}
+
+/// The subcommand `order`.
+fn order_command<'a>(alloc: Global) -> Result<Command<'a>, AllocError> {
     let picture = path_argument(
         alloc,
         "picture",
         "Draw the pattern before and after to PATH, as SVG",
     );
-    Command::new(alloc, "order")
-        .about("Order the rows and write the permutation, one row a line, counted from 1")
-        .arg(file_argument(alloc))?
-        .arg(dense_argument(alloc))?
-        .arg(plain)?
-        .arg(hold)?
-        .arg(out)?
-        .arg(picture)
+    ordering_command(
+        alloc,
+        "order",
+        "Order the rows and write the permutation, one row a line, counted from 1",
+        "Write the permutation to PATH and not to standard output",
+    )?
+    .arg(picture)
+}
+
+/// The subcommand `analyze`.
+fn analyze_command<'a>(alloc: Global) -> Result<Command<'a>, AllocError> {
+    ordering_command(
+        alloc,
+        "analyze",
+        "Order the rows and write the factor's columns: row, parent's row (0: none), entries below the diagonal",
+        "Write the columns to PATH and not to standard output",
+    )
 }
 
 /// The subcommand `info`.
@@ -103,6 +125,7 @@ fn whole_command<'a>(alloc: Global) -> Result<Command<'a>, AllocError> {
         .subcommand_required(true)
         .arg_required_else_help(true)
         .subcommand(order_command(alloc)?)?
+        .subcommand(analyze_command(alloc)?)?
         .subcommand(info_command(alloc)?)
 }
 
@@ -127,6 +150,7 @@ pub fn request_of<'a>(alloc: Global, words: &'a [String]) -> Result<Request<'a>,
     let matches = whole_command(alloc)?.try_get_matches_from(words)?;
     match matches.subcommand() {
         Some(("order", found)) => Ok(Request::Order(options_of(found))),
+        Some(("analyze", found)) => Ok(Request::Analyze(options_of(found))),
         Some((_, found)) => Ok(Request::Info(options_of(found))),
         None => Ok(Request::Info(options_of(&matches))),
     }

@@ -1,13 +1,14 @@
 // The words of a command line, what is written, writers with a fault at each call, and each request for memory refused in turn.
 
 use amd::{Control, Info};
+use amd_command::analysis::{analyze_matrix, write_columns, write_comparison};
 use amd_command::causes::Cause;
 use amd_command::facts::{facts_of, write_facts};
 use amd_command::figures::write_figures;
 use amd_command::held::read_held;
 use amd_command::ordering::order_matrix;
 use amd_command::picture::write_picture;
-use amd_command::request::thousandths_of;
+use amd_command::request::{Request, request_of, thousandths_of};
 use amd_command::rows::write_rows;
 use amd_market::reader::read_matrix;
 use amd_testing::refusing::{Refusing, each_refused};
@@ -34,7 +35,42 @@ const PATH_FACTS: &str = "    rows                                              
     rows above the threshold                            0
 ";
 
-/// Reads the path, orders it with the second row held last, tells what it is and draws it.
+/// Five rows, one entry without its mirror.
+const FIVE: &str = "%%MatrixMarket matrix coordinate pattern general
+5 5 14
+1 1
+2 1
+1 2
+2 2
+3 2
+5 2
+2 3
+3 3
+4 3
+5 3
+3 4
+4 4
+2 5
+5 5
+";
+
+/// What `analyze` writes of them: the rows stand in the order 1, 4, 3, 5, 2, and the columns have the places 4; 2; 3 and 4; 4; none.
+const FIVE_COLUMNS: &str = "1 2 1\n4 3 1\n3 5 2\n5 2 1\n2 0 0\n";
+
+/// What it tells of them.
+const FIVE_FIGURES: &str = "    rows                                                5
+    entries                                             14
+    status                                              OK
+    dense rows, held last                               0
+    garbage collections                                 0
+    entries of L below the diagonal                     5, at most 5
+    divisions                                           5, at most 5
+    multiply-subtracts for LDL'                         6, at most 6
+    multiply-subtracts for LU                           7, at most 7
+    largest column, with its diagonal                   3, at most 3
+";
+
+/// Reads the path, orders it with the second row held last, tells what it is, works out the factor, and draws it.
 fn write_all_of<W: Write, A: Allocator + Copy>(alloc: A, out: &mut W) -> Result<(), Cause> {
     let matrix = read_matrix(alloc, PATH.as_bytes()).map_err(Cause::Text)?;
     let marks = read_held(alloc, matrix.n, "2\n".as_bytes()).map_err(Cause::Text)?;
@@ -43,6 +79,9 @@ fn write_all_of<W: Write, A: Allocator + Copy>(alloc: A, out: &mut W) -> Result<
     write_rows(&p, out)?;
     write_figures(&info, out)?;
     write_facts(&facts_of(alloc, &matrix, &control)?, out)?;
+    let analysis = analyze_matrix(alloc, &matrix, &control, Some(&marks))?;
+    write_columns(&analysis.p, &analysis.factor, out)?;
+    write_comparison(&analysis.need, &analysis.info, out)?;
     write_picture(alloc, &matrix, &p, out)
 }
 
@@ -76,14 +115,70 @@ fn what_is_written(rt: HostRuntime) -> Result<(), Fail> {
     let text = text.as_str();
     assert!(&rt; text.starts_with("3\n1\n2\n    rows "));
     assert!(&rt; text.contains(PATH_FACTS));
+    assert!(&rt; text.contains("\n3 1 2\n1 2 1\n2 0 0\n    rows "));
     assert!(&rt; text.ends_with("fill: 1 entries of L</text>\n</svg>\n"));
+    Ok(())
+}
+
+#[test]
+fn columns_worked_by_hand(rt: HostRuntime) -> Result<(), Fail> {
+    let Ok(matrix) = read_matrix(rt.alloc(), FIVE.as_bytes()) else {
+        panic!(&rt; "no matrix");
+    };
+    let Ok(analysis) = analyze_matrix(rt.alloc(), &matrix, &Control::default(), None) else {
+        panic!(&rt; "no factor");
+    };
+    assert_eq!(&rt; analysis.p.as_slice(), [0, 3, 2, 4, 1].as_slice());
+    assert_eq!(&rt; analysis.factor.rows.as_slice(), [4, 2, 3, 4, 4].as_slice());
+    let mut columns = Vec::new(rt.alloc());
+    let mut figures = Vec::new(rt.alloc());
+    assert!(&rt; write_columns(&analysis.p, &analysis.factor, &mut columns).is_ok());
+    assert!(&rt; write_comparison(&analysis.need, &analysis.info, &mut figures).is_ok());
+    let columns = String::from_utf8_lossy(rt.alloc(), &columns)?;
+    let figures = String::from_utf8_lossy(rt.alloc(), &figures)?;
+    assert_eq!(&rt; columns.as_str(), FIVE_COLUMNS);
+    assert_eq!(&rt; figures.as_str(), FIVE_FIGURES);
+    Ok(())
+}
+
+/// What is asked for, in short: the subcommand, and the files that are named.
+fn asked(alloc: Global, words: &[&str]) -> Result<String, Fail> {
+    let mut owned = Vec::new(alloc);
+    for word in words {
+        owned.push(String::from_str(alloc, word)?)?;
+    }
+    let (name, options) = match request_of(alloc, &owned) {
+        Ok(Request::Order(options)) => ("order", options),
+        Ok(Request::Analyze(options)) => ("analyze", options),
+        Ok(Request::Info(options)) => ("info", options),
+        Err(_) => return Ok(String::from_str(alloc, "none")?),
+    };
+    let file = options.file;
+    let hold = options.hold;
+    let out = options.out;
+    let picture = options.picture;
+    Ok(format!(in alloc; "{name} {file} {hold:?} {out:?} {picture:?}")?)
+}
+
+#[test]
+fn subcommands(rt: HostRuntime) -> Result<(), Fail> {
+    let analyzed = "analyze a Some(\"h\") Some(\"o\") None";
+    for (name, option, wanted) in [
+        ("order", "--picture", "order a Some(\"h\") None Some(\"o\")"),
+        ("analyze", "--out", analyzed),
+        ("analyze", "--picture", "none"),
+        ("analyse", "--out", "none"),
+    ] {
+        let words = ["rimopaku", name, "a", "--hold", "h", option, "o"];
+        assert_eq!(&rt; asked(rt.alloc(), &words)?.as_str(), wanted);
+    }
     Ok(())
 }
 
 #[test]
 fn writers_with_faults(rt: HostRuntime) {
     let mut calls = 0;
-    'faults: for fault_at in 1..400u64 {
+    'faults: for fault_at in 1..1000u64 {
         let mut out = Faulty::new(Vec::new(rt.alloc()), Fault::Fails, fault_at);
         let answer = write_all_of(rt.alloc(), &mut out);
         if out.faults() == 0 {
@@ -95,7 +190,7 @@ fn writers_with_faults(rt: HostRuntime) {
         calls = fault_at;
     }
     assert!(&rt; 20 < calls);
-    assert!(&rt; calls < 399);
+    assert!(&rt; calls < 999);
 }
 
 /// Whether all was written; where not, that was for want of memory.

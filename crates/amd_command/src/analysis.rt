@@ -1,0 +1,183 @@
+// The ordering of a matrix with the exact factor under it, and the texts of the two: a line for each column, and what the factor
+// needs beside the bounds that the ordering tells. Called by `program`.
+
+ghost use Rattle.std.specs.Prelude.{◌≡◌, ◌<◌, ◌+◌, ◌^◌, ℕ, ℤ, List, None, pos, map, length, slice_index, slice_index_or, IfOk, IfErr, IsTrue, OnOk};
+ghost use Rattle.std.specs.Char.{is_ascii};
+ghost use Rattle.std.specs.List.{list_all};
+ghost use Rattle.std.specs.Io.KnownBytes.{Appends};
+ghost use Rattle.std.specs.Option.{option_copied};
+ghost use Rattle.amd.specs.Answers.{IsOrderingHolding};
+ghost use Rattle.amd_symbolic.specs.Factors.{IsFactorOf, IsFaultHolding};
+ghost use Rattle.amd_symbolic.specs.Laws.{size_of};
+ghost use Rattle.amd_symbolic.specs.Needs.{IsNeed, TellSizes};
+ghost use Rattle.amd_command.specs.Analyses.{beside_line, comparison_text, column_lines, need_figures, parent_number};
+
+use crate::figures::write_matrix_figures;
+use amd::{Control, Info};
+use amd_market::reader::Matrix;
+use amd_symbolic::needs::{Need, need_of};
+use amd_symbolic::{Factor, Fault, analyze, analyze_holding};
+use std::alloc::Allocator;
+use std::io;
+use std::io::Write;
+
+/// An ordering, and the exact factor under it.
+#[derive(Drop)]
+pub struct Analysis<A: Allocator> {
+    /// The permutation: row `p[k]` stands at place `k`.
+    pub p: Vec<usize, A>,
+    /// What the ordering tells.
+    pub info: Info,
+    /// The factor under it.
+    pub factor: Factor<A>,
+    /// What the factor needs.
+    pub need: Need,
+}
+
+/// Orders a matrix, with the marked rows held last where there are marks, and answers the factor under the ordering with it.
+///
+/// # Errors
+///
+/// Those of `analyze` and `analyze_holding`.
+pub fn analyze_matrix<A: Allocator + Copy>(
+    alloc: A,
+    matrix: &Matrix<A>,
+    control: &Control,
+    hold: Option<&[bool]>,
+) -> Result<Analysis<A>, Fault>
+    ensures ordering { IfOk result (λ a. (q : List ℤ) × IsOrderingHolding (option_copied hold.entry) (pos matrix.now.n) control.now.dense control.now.aggressive (map pos matrix.now.a_p.items) (map pos matrix.now.a_i.items) (map pos a.p.items) q a.info) }
+    ensures factor { IfOk result (λ a. IsFactorOf (pos matrix.now.n) (map pos matrix.now.a_p.items) (map pos matrix.now.a_i.items) (map pos a.p.items) a.factor.ptr.items a.factor.rows.items a.factor.parent.items) }
+    ensures need { IfOk result (λ a. (columns : List (List ℕ)) → TellSizes columns a.factor.ptr.items → IsNeed columns a.need) }
+    ensures fault { IfErr result (λ e. IsFaultHolding (option_copied hold.entry) (pos matrix.now.n) (map pos matrix.now.a_p.items) (map pos matrix.now.a_i.items) e) }
+{
+    match hold {
+        Some(marks) => {
+            let answer = analyze_holding(alloc, matrix.n, &matrix.a_p, &matrix.a_i, control, marks);
+            let (p, _, info, factor) = answer?;
+            let need = need_of(&factor.ptr);
+            Ok(Analysis {
+                p,
+                info,
+                factor,
+                need,
+            })
+        }
+        None => {
+            let answer = analyze(alloc, matrix.n, &matrix.a_p, &matrix.a_i, control);
+            let (p, _, info, factor) = answer?;
+            let need = need_of(&factor.ptr);
+            Ok(Analysis {
+                p,
+                info,
+                factor,
+                need,
+            })
+        }
+    }
+}
+
+/// The number of the row at a place, from 1 on.
+fn number_at(p: &[usize], place: usize) -> u128
+    ensures { result ≡ slice_index p.now place + 1 }
+{
+    p.get(place).copied().unwrap_or(0) as u128 + 1
+}
+
+/// The number of the row of a parent, from 1 on; 0 where there is none.
+fn parent_number(p: &[usize], parent: Option<usize>) -> u128
+    ensures { result ≡ parent_number p.now parent }
+{
+    match parent {
+        Some(place) => number_at(p, place),
+        None => 0,
+    }
+}
+
+/// The parent of column `k`.
+fn parent_at(parents: &[Option<usize>], k: usize) -> Option<usize>
+    ensures { result ≡ slice_index_or parents.now k None }
+{
+    parents.get(k).copied().unwrap_or(None)
+}
+
+/// How many entries column `k` has, by where the columns begin and end.
+fn size_at(ptr: &[usize], k: usize) -> usize
+    requires { k + 1 < 2 ^ 64 }
+    ensures { result ≡ size_of ptr.now k }
+{
+    let begin = ptr.get(k).copied().unwrap_or(0);
+    let end = ptr.get(k + 1).copied().unwrap_or(0);
+    end.saturating_sub(begin)
+}
+
+/// Writes a line for each column of a factor: the row of the column, the row of its parent in the elimination tree, or 0 where it
+/// has none, and the number of its entries below the diagonal. Rows count from 1.
+///
+/// # Errors
+///
+/// The writer's, of the first write that fails. What was written before stays written.
+pub fn write_columns<W: Write, A: Allocator>(
+    p: &[usize],
+    factor: &Factor<A>,
+    out: &mut W,
+) -> io::Result<()>
+    ensures { OnOk result (Appends (W.contents out.old) (W.contents out.new) (column_lines p.now factor.now.ptr.items factor.now.parent.items (length p.now))) }
+{
+    'columns: for k in 0..p.len() {
+        let row = number_at(p, k);
+        let parent = parent_at(&factor.parent, k);
+        let above = parent_number(p, parent);
+        let size = size_at(&factor.ptr, k);
+        writeln!(out, "{row} {above} {size}")?;
+    }
+    Ok(())
+}
+
+/// Writes a line with what a factor needs, and the bound. The label is of ASCII characters.
+fn write_beside<W: Write>(label: &str, exact: u128, bound: usize, out: &mut W) -> io::Result<()>
+    requires { IsTrue (list_all is_ascii label.now) }
+    ensures { OnOk result (Appends (W.contents out.old) (W.contents out.new) (beside_line label.now exact bound)) }
+{
+    writeln!(out, "    {label:<52}{exact}, at most {bound}")?;
+    Ok(())
+}
+
+/// Writes the lines on the factor.
+fn write_need<W: Write>(need: &Need, info: &Info, out: &mut W) -> io::Result<()>
+    ensures { OnOk result (Appends (W.contents out.old) (W.contents out.new) (need_figures need.now info.now)) }
+{
+    write_beside("entries of L below the diagonal", need.lnz, info.lnz, out)?;
+    write_beside("divisions", need.lnz, info.n_div, out)?;
+    write_beside(
+        "multiply-subtracts for LDL'",
+        need.n_mult_subs_ldl,
+        info.n_mult_subs_ldl,
+        out,
+    )?;
+    write_beside(
+        "multiply-subtracts for LU",
+        need.n_mult_subs_lu,
+        info.n_mult_subs_lu,
+        out,
+    )?;
+    write_beside(
+        "largest column, with its diagonal",
+        need.d_max,
+        info.d_max,
+        out,
+    )?;
+    Ok(())
+}
+
+/// Writes the table of what an ordering tells, with what the factor needs beside each bound.
+///
+/// # Errors
+///
+/// The writer's, of the first write that fails. What was written before stays written.
+pub fn write_comparison<W: Write>(need: &Need, info: &Info, out: &mut W) -> io::Result<()>
+    ensures { OnOk result (Appends (W.contents out.old) (W.contents out.new) (comparison_text need.now info.now)) }
+{
+    write_matrix_figures(info, out)?;
+    write_need(need, info, out)?;
+    Ok(())
+}
