@@ -1,9 +1,14 @@
-//! Times `order` on a matrix file: `amd_bench FILE i32|i64|isize REPEATS`. The format of the file is that of `amd_cases`.
+//! Times `order` on a matrix file: `amd_bench FILE i32|i64|isize REPEATS`. The format of the file is that of `amd_cases`. With a
+//! fourth word, `columns` or `analyze`, it times that call of `amd_symbolic`, `columns` under the order that `order` gives.
 //!
-//! It prints one line: the type of numbers, the name of the file, the figures of the ordering, a hash of the permutation, and the
-//! least and the median time of a call in nanoseconds. Reading the file is not timed. With no arguments it says how it is called.
+//! It prints one line: the type of numbers, the name of the file, the figures of the ordering and a hash of the permutation, or the
+//! number of the factor's entries and a hash of them, and the least and the median time of a call in nanoseconds. Reading the file
+//! is not timed. With no arguments it says how it is called.
 #![tactic(auto)]
 
+mod factors;
+
+use crate::factors::{Factored, analyze_often, columns_often};
 use amd::{Control, Info, Status, order};
 use amd_cases::matrix::{Matrix, read_matrix};
 use anyhow::{Context, Result, bail, ensure};
@@ -60,17 +65,23 @@ fn hash_of<I: PrimInt>(numbers: &[I]) -> Result<u64> {
     Ok(hash)
 }
 
-/// Prints what the calls answered, and the least and the median of their times.
+/// Ends a line with the least and the median of times.
+fn print_times<R: Runtime>(rt: &R, mut times: Vec<Duration>) -> Result<()> {
+    times.sort_unstable();
+    let least = times.first().context("no repeats")?.as_nanos();
+    let middle = times.get(times.len() / 2);
+    let median = middle.context("no repeats")?.as_nanos();
+    println!(rt; " min_ns={least} med_ns={median}")?;
+    Ok(())
+}
+
+/// Prints what the calls of `order` answered, and their times.
 fn print_outcome<R: Runtime, I: PrimInt>(
     rt: &R,
     kind: &str,
     name: &str,
-    mut outcome: Outcome<I>,
+    outcome: Outcome<I>,
 ) -> Result<()> {
-    outcome.times.sort_unstable();
-    let least = outcome.times.first().context("no repeats")?.as_nanos();
-    let middle = outcome.times.get(outcome.times.len() / 2);
-    let median = middle.context("no repeats")?.as_nanos();
     let hash = hash_of(&outcome.p)?;
     let info = outcome.info;
     print!(rt; "rattle {kind} {name} n={} nz={}", info.n, info.nz)?;
@@ -80,37 +91,67 @@ fn print_outcome<R: Runtime, I: PrimInt>(
         " dmax={} ndense={} ncmpa={}",
         info.d_max, info.n_dense, info.n_cmp_a
     )?;
-    println!(rt; " phash={hash:016x} min_ns={least} med_ns={median}")?;
-    Ok(())
+    print!(rt; " phash={hash:016x}")?;
+    print_times(rt, outcome.times)
 }
 
-/// Times the ordering of the matrix of a file in one type of numbers.
+/// Prints what the calls of `columns` or `analyze` answered, and their times.
+fn print_factored<R: Runtime>(
+    rt: &R,
+    kind: &str,
+    name: &str,
+    what: &str,
+    factored: Factored,
+) -> Result<()> {
+    let hash = hash_of(&factored.factor.rows)?;
+    print!(rt; "rattle {kind} {name} {what}")?;
+    print!(rt; " entries={}", factored.factor.rows.len())?;
+    print!(rt; " hash={hash:016x}")?;
+    print_times(rt, factored.times)
+}
+
+/// Times a call on the matrix of a file in one type of numbers.
 fn time_file<R: Runtime + Alloc<A = Global>, I: PrimInt>(
     rt: &R,
     path: &str,
     kind: &str,
+    what: &str,
     repeats: usize,
 ) -> Result<()> {
     let mut file = BufReader::new(rt.alloc(), fs::open(rt, path)?)?;
     let matrix: Matrix<I, Global> = read_matrix(rt.alloc(), &mut file)?;
     drop(file);
-    let outcome = order_often(rt, &matrix, repeats)?;
     let name = path.rsplit('/').next().unwrap_or(path);
-    print_outcome(rt, kind, name, outcome)
+    match what {
+        "order" => {
+            let outcome = order_often(rt, &matrix, repeats)?;
+            print_outcome(rt, kind, name, outcome)
+        }
+        "columns" => {
+            let factored = columns_often(rt, &matrix, repeats)?;
+            print_factored(rt, kind, name, what, factored)
+        }
+        "analyze" => {
+            let factored = analyze_often(rt, &matrix, repeats)?;
+            print_factored(rt, kind, name, what, factored)
+        }
+        _ => bail!("no call: {what}"),
+    }
 }
 
 fn main(rt: HostRuntime) -> Result<()> {
     let words: Vec<String> = env::args(&rt)?.collect(rt.alloc())?;
     let (Some(path), Some(kind), Some(repeats)) = (words.get(1), words.get(2), words.get(3)) else {
-        println!(rt; "usage: amd_bench FILE i32|i64|isize REPEATS")?;
+        println!(rt; "usage: amd_bench FILE i32|i64|isize REPEATS [order|columns|analyze]")?;
         return Ok(());
     };
     let repeats = repeats.parse().context("the number of repeats")?;
     ensure!(0 < repeats, "the number of repeats is 0");
+    let what = words.get(4).map_or("order", |word| word.as_str());
     match kind.as_str() {
-        "i32" => time_file::<_, i32>(&rt, path, kind, repeats),
-        "i64" => time_file::<_, i64>(&rt, path, kind, repeats),
-        "isize" => time_file::<_, isize>(&rt, path, kind, repeats),
+        "i32" => time_file::<_, i32>(&rt, path, kind, what, repeats),
+        "i64" => time_file::<_, i64>(&rt, path, kind, what, repeats),
+        "isize" => time_file::<_, isize>(&rt, path, kind, what, repeats),
         _ => bail!("no type of numbers: {kind}"),
     }
 }
