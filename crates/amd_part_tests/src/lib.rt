@@ -1,6 +1,6 @@
 //! Tests of the parts that an ordering and a factor stand on: the shares of fronts, the lists of neighbours, the postorder of forests,
-//! the plain engine with refused memory, the lists of earlier neighbours, and the readers of cases. The answers come from outside:
-//! worked by hand, or from the Rust crate `amd`.
+//! the plain engine with refused memory, the lists of earlier neighbours, the readers of cases, and the helpers of tests themselves.
+//! The answers come from outside: worked by hand, or from the Rust crate `amd`.
 #![tactic(auto)]
 
 #[cfg(test)]
@@ -11,6 +11,8 @@ mod earlier;
 mod engine;
 #[cfg(test)]
 mod fronts;
+#[cfg(test)]
+mod helpers;
 #[cfg(test)]
 mod lists;
 #[cfg(test)]

@@ -16,12 +16,12 @@ fn check_four_cycle<I: PrimInt>(rt: &impl Abort, alloc: Global, n: I, lists: (&[
         panic!(rt; "no answer");
     };
     assert!(rt; order.as_slice() == p);
-    assert_eq!(rt; factor.ptr.as_slice(), [0, 2, 4, 5, 5].as_slice());
+    assert!(rt; factor.ptr.as_slice() == [0, 2, 4, 5, 5].as_slice());
     let Ok(other) = columns(alloc, n, a_p, a_i, p, 5) else {
         panic!(rt; "no factor");
     };
-    assert_eq!(rt; other.rows.as_slice(), [1, 3, 2, 3, 3].as_slice());
-    assert_eq!(rt; factor.rows.as_slice(), other.rows.as_slice());
+    assert!(rt; other.rows.as_slice() == [1, 3, 2, 3, 3].as_slice());
+    assert!(rt; factor.rows.as_slice() == other.rows.as_slice());
 }
 
 /// Analyzes a four-cycle in each of the types.
@@ -58,6 +58,6 @@ fn numbers_past_the_greatest_count(rt: HostRuntime) {
         (1, &[0, 0, far], &[far], &[0], None),
     ] {
         let fault = columns(rt.alloc(), n, a_p, a_i, p, 0).err();
-        assert_eq!(rt; fault, want, "{n} {a_p:?} {a_i:?} {p:?}");
+        assert!(rt; fault == want);
     }
 }

@@ -3,7 +3,7 @@
 use amd::Control;
 use amd_symbolic::{Factor, analyze, columns};
 use amd_testing::inputs::star;
-use std::alloc::Global;
+use std::alloc::Allocator;
 use std::process::Abort;
 use std::test::Fail;
 
@@ -127,32 +127,22 @@ pub static WORKED: [Case<'static>; 8] = [
 ];
 
 /// Asserts that a factor is that of a case.
-pub fn check_factor(rt: &impl Abort, case: &Case, factor: &Factor<Global>) {
-    check_lists(rt, case, &factor.ptr, &factor.rows, &factor.parent);
-}
-
-/// Asserts that the lists of a factor are those of a case.
-pub fn check_lists(
-    rt: &impl Abort,
-    case: &Case,
-    ptr: &[usize],
-    rows: &[usize],
-    parent: &[Option<usize>],
-) {
-    let what = case.what;
-    assert_eq!(rt; ptr, case.ptr, "{what}");
-    assert_eq!(rt; rows, case.rows, "{what}");
-    assert_eq!(rt; parent, case.parent, "{what}");
+pub fn check_factor<A: Allocator>(rt: &impl Abort, case: &Case, factor: &Factor<A>) {
+    let lists_are = factor.ptr.as_slice() == case.ptr && factor.rows.as_slice() == case.rows;
+    assert!(rt;
+        lists_are && factor.parent.as_slice() == case.parent,
+        "{}",
+        case.what
+    );
 }
 
 #[test]
 fn worked_matrices(rt: HostRuntime) {
     for case in WORKED.iter().chain([&FOUR_CYCLE]) {
-        let what = case.what;
         let answer = columns(rt.alloc(), case.n, case.a_p, case.a_i, case.p, case.room);
         match answer {
             Ok(factor) => check_factor(&rt, case, &factor),
-            Err(fault) => panic!(rt; "{what}: {fault:?}"),
+            Err(_) => panic!(rt; "no factor for {}", case.what),
         }
     }
 }
@@ -169,13 +159,13 @@ fn a_star_whose_centre_stands_first(rt: HostRuntime) -> Result<(), Fail> {
     };
     let mut rows = Vec::new(rt.alloc());
     for k in 0..18usize {
-        assert_eq!(rt; factor.ptr.get(k), Some(&rows.len()));
+        assert!(rt; factor.ptr.get(k) == Some(&rows.len()));
         for j in k + 1..18 {
             rows.push(j)?;
         }
     }
-    assert_eq!(rt; factor.rows.as_slice(), rows.as_slice());
-    assert_eq!(rt; factor.ptr.get(18), Some(&153));
+    assert!(rt; factor.rows.as_slice() == rows.as_slice());
+    assert!(rt; factor.ptr.get(18) == Some(&153));
     Ok(())
 }
 
@@ -183,14 +173,12 @@ fn a_star_whose_centre_stands_first(rt: HostRuntime) -> Result<(), Fail> {
 fn worked_analyses(rt: HostRuntime) {
     let [_, no_rows, no_form, ..] = &WORKED;
     for case in [&FOUR_CYCLE, no_rows, no_form] {
-        let what = case.what;
         let answer = analyze(rt.alloc(), case.n, case.a_p, case.a_i, &Control::default());
         let Ok((p, p_inv, info, factor)) = answer else {
-            panic!(rt; "no answer for {what}");
+            panic!(rt; "no answer for {}", case.what);
         };
-        assert_eq!(rt; p.as_slice(), case.p, "{what}");
-        assert_eq!(rt; p_inv.len(), case.p.len(), "{what}");
-        assert_eq!(rt; info.lnz, case.rows.len(), "{what}");
+        assert!(rt; p.as_slice() == case.p && p_inv.len() == case.p.len());
+        assert!(rt; info.lnz == case.rows.len());
         check_factor(&rt, case, &factor);
     }
 }
