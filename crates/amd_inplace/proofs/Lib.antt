@@ -1,0 +1,22 @@
+-- The parts of a round join to a round of an engine.
+pub mod Fronts
+pub mod ByBound
+pub mod Neighbours
+pub mod Standing
+pub mod Begun
+pub mod Settled
+pub mod Renewed
+pub mod Halves
+pub mod Turned
+pub mod Counters
+pub mod Mergeable
+pub mod Absorbing
+pub mod Absorbed
+pub mod RoundLists
+pub mod Relaid
+pub mod Merged
+pub mod RoundSizes
+pub mod Ending
+pub mod RoundNumbers
+pub mod Relinked
+pub mod NextView

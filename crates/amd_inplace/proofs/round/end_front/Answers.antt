@@ -1,0 +1,88 @@
+use Rattle.std.proofs.Common.{ℕ, ℤ, List, true, ◌≡◌, ◌-◌, refl, sym, ap, subst, ◌∙◌, arith, cond, length}
+use Rattle.std.proofs.Common.{get_or-set_same, length-set}
+use Rattle.std.proofs.lemmas.Bool.{cond-true, cond-false}
+use Rattle.amd_places.specs.Words.{num, in_front}
+use Rattle.amd_places.specs.Layout.{end_of, Layout}
+use Rattle.amd_places.specs.Chains.{DegreeLists}
+use Rattle.amd_places.specs.Closing.{Closes}
+use Rattle.amd_places.specs.Renewal.{Filters}
+use Rattle.amd_places.specs.Restoring.{marked_in, bound_in, put_all}
+use Rattle.amd_inplace.specs.Parts.{front_at}
+use Rattle.amd_inplace.specs.Workspaces.{workspace_of}
+use Rattle.amd_inplace.proofs.Fronts.{other_degree, not_placed, ends_before}
+use Rattle.amd_inplace.proofs.round.end_front.Goals.{then-is_built, else-is_built}
+use Rattle.amd_inplace.proofs.round.end_front.Goals as goal
+
+pub returns : goal.returns
+returns g c =
+    let p = c.args.work.now in let v = c.place_list-from.new in let told = c.place_list-from.ensures in let s = c.requires.sized in
+    let n : ℕ = length p.nv.now in let me : ℕ = c.args.me in let iw : List ℤ = p.iw.now in let pe : List ℤ = p.pe.now in
+    let e_len : List ℤ = p.e_len.now in let len : List ℕ = p.len.now in let nv : List ℤ = p.nv.now in let free : ℕ = p.free in
+    let from : ℕ = c.place_list-from.result.0 in let end : ℕ = c.place_list-from.result.1 in
+    let border : ℕ = c.args.border in let h = c.requires.front in let front : List ℕ = front_at (workspace_of p) me in
+    let e_len' : List ℤ = c.close.new.e_len in let len' : List ℕ = c.close.new.len in
+    let same_len : v.len ≡ len = told.same.1 in let same_pe : v.pe ≡ pe = told.same.0 in
+    let filters : Filters n (in_front nv) (λ j. 0) 0 iw from (num v.len me) from v.iw end 0 =
+    subst (λ l. Filters n (in_front nv) (λ j. 0) 0 iw from (num l me) from v.iw end 0) (sym same_len)
+    (subst (λ k. Filters k (in_front nv) (λ j. 0) 0 iw from (num len me) from v.iw end 0) s.next told.filters) in
+    let closes : Closes n me (in_front nv) iw pe e_len len v.iw e_len' len' free =
+    subst (λ l. Closes n me (in_front nv) iw pe e_len l v.iw e_len' len' free) same_len
+    (c.close.ensures.closes n (in_front nv) (λ j. 0) 0 0 iw v.iw pe free (sym told.from) h.front.starts filters
+    (subst (λ l. Layout n iw pe e_len l free) (sym same_len) h.front.laid)) in
+    let count : num len' me ≡ end - from = ap (λ l. num l me) c.close.ensures.lengths ∙ get_or-set_same v.len me (end - from) 0
+    (let a = ap length same_len in let b = s.len in let d = h.front.row in omega (arith, a, b, d)) in
+    let ends : end_of pe len' me ≡ end = (let a = told.from in let b = filters.low in omega (arith, a, b, count)) in
+    let lowered : (c.args.is_built ≡ true) → Layout n v.iw pe e_len' len' end = λ built.
+    c.close.ensures.lowers n v.iw pe free (sym told.from)
+    (let a = closes.shorter in let b = h.front.within in omega (arith, a, b))
+    (λ j ne l. ends_before pe len len' from j (closes.lengths j ne)
+    (λ k. let a = h.before built j ne k in let b = told.from in omega (arith, a, b)) l) closes.laid in
+    let laid : Layout n v.iw pe e_len' len' c.if-is_built.free = elim c.if-is_built.branch [
+      | then-is_built w ↦ subst (Layout n v.iw pe e_len' len') (sym w.free-is) (lowered w.if-is_built.true)
+      | else-is_built w ↦ subst (Layout n v.iw pe e_len' len') (sym w.free-is) closes.laid
+    ] in
+    let free_is : c.if-is_built.free ≡ cond c.args.is_built (end_of pe len' me) free = elim c.if-is_built.branch [
+      | then-is_built w ↦ w.free-is ∙ sym ends ∙ sym (cond-true c.args.is_built (end_of pe len' me) free w.if-is_built.true)
+      | else-is_built w ↦ w.free-is ∙ sym (cond-false c.args.is_built (end_of pe len' me) free w.if-is_built.false)
+    ] in
+    let l = told.lengths in let m = told.more_lengths in
+    record {
+      ends = record {
+        long = filters.long;
+        bounds = v.degree;
+        restores = told.restores;
+        degrees = c.close.ensures.borders;
+        closes = closes;
+        counts = c.close.ensures.counts;
+        free_is = free_is ∙ ap (λ q. cond c.args.is_built (end_of q len' me) free) (sym same_pe);
+        laid = subst (λ q. Layout n v.iw q e_len' len' c.if-is_built.free) (sym same_pe) laid;
+        empty = λ b k. let a = s.next in let d = told.empty b (omega (arith, a, k)) in omega (arith, a, d);
+        linked = λ lists none other h'.
+            subst (λ z. DegreeLists n v.head v.next v.last z
+            (put_all (bound_in border p.live nv p.degree.now) (marked_in nv front) lists)) (sym c.close.ensures.borders)
+            (other_degree n me border v.head v.next v.last v.degree
+            (put_all (bound_in border p.live nv p.degree.now) (marked_in nv front) lists)
+            (λ d k. not_placed me front nv (bound_in border p.live nv p.degree.now) lists d h.front.apart (none d k))
+            (subst (λ k. DegreeLists k v.head v.next v.last v.degree
+            (put_all (bound_in border p.live nv p.degree.now) (marked_in nv front) lists)) s.next
+            (told.linked lists (λ b x k. other b x (let a = s.next in omega (arith, a, k)))
+            (subst (λ k. DegreeLists k p.head.now p.next.now p.last.now p.degree.now lists) (sym s.next) h'))));
+        lnz = c.add_front.ensures.lnz;
+        ldl = c.add_front.ensures.ldl;
+        lu = c.add_front.ensures.lu;
+        greatest = c.add_front.ensures.d_max;
+        sized = record {
+          pe = ap length same_pe ∙ s.pe;
+          e_len = (let a = ap length c.close.ensures.counts in a ∙ length-set e_len me _ ∙ s.e_len);
+          nv = l.0 ∙ s.next;
+          len = ap length c.close.ensures.lengths ∙ length-set v.len me (end - from) ∙ ap length same_len ∙ s.len;
+          degree = ap length c.close.ensures.borders ∙ length-set v.degree me border ∙ l.1 ∙ s.next;
+          w = s.w;
+          head = l.2 ∙ s.next;
+          next = m.0 ∙ s.next;
+          last = m.1 ∙ s.next;
+          hash = m.2 ∙ s.next;
+        };
+        same = rw same_pe refl;
+      };
+    }

@@ -1,0 +1,341 @@
+// The rounds of an elimination in one workspace. A round chooses a pivot, makes its element, turns the classes of its front over to it,
+// merges those that are alike, and places what is left by new bounds. Source: Amestoy, Davis and Duff 1996 and 2004. Called by the engine
+// in place. A part that only reads some slices is called through a function that is lent all of them for writing.
+
+ghost use Rattle.std.specs.Prelude.{◌≡◌, ◌<◌, ◌≤◌, ◌+◌, ◌^◌, ◌==◌, pos, ℕ, Bool, List, [], true, false, length, filter, sum_by};
+ghost use Rattle.amd_model.specs.Graph.{Graph};
+ghost use Rattle.amd_model.specs.State.{State};
+ghost use Rattle.amd_model.specs.Quotient.{QuotientGraph, has, Once};
+ghost use Rattle.amd_places.specs.Words.{num, word, place, is_place, start, size_of, in_front, classes, rows, Names};
+ghost use Rattle.amd_places.specs.Element.{front_of};
+ghost use Rattle.amd_places.specs.Layout.{has_list, end_of, list_in, Layout};
+ghost use Rattle.amd_places.specs.Chains.{DegreeLists, SomeFrom};
+ghost use Rattle.amd_places.specs.Beginning.{Begins};
+ghost use Rattle.amd_places.specs.Merging.{AreRenewed, MergesAll, represents_in};
+ghost use Rattle.amd_places.specs.Restoring.{marked_in, bound_in, put_all, IsPlaceable, Restores};
+ghost use Rattle.amd_places.specs.Renewal.{Filters};
+ghost use Rattle.amd_inplace.specs.Workspaces.{workspace_of};
+ghost use Rattle.amd_inplace.specs.Laid.{IsSized, IsNarrow, IsLaid};
+ghost use Rattle.amd_inplace.specs.Parts.{Picks, BeginsElement, TurnsOver, MergesFront, EndsFront};
+ghost use Rattle.amd_inplace.specs.Premises.{CanBegin, CanTurn, CanMerge, CanEnd};
+ghost use Rattle.amd_inplace.specs.Keeps.{Stands, IsRound, AreRounds, NoRowIsLive};
+
+use crate::work::Work;
+use amd_cells::{Figure, Signed, Unsigned, Word, figure_at};
+use amd_numbers::amd::Control;
+use amd_places::beginning::{Begun, begin_built, begin_own};
+use amd_places::chains::choose;
+use amd_places::closing::close;
+use amd_places::counts::renew_flag;
+use amd_places::merging::merge_front;
+use amd_places::restoring::restore;
+use amd_places::turning::turn;
+use amd_places::words::named;
+
+/// A new element in its round.
+#[derive(Drop)]
+pub struct Element {
+    /// The number of rows of the pivot.
+    pub block: usize,
+    /// The number of rows of its front.
+    pub total: usize,
+    /// Whether its list stands behind all others.
+    pub is_built: bool,
+}
+
+/// As `named`, with the slice lent for writing.
+fn named_lent<S: Signed>(words: &mut [Word<S>], i: usize) -> usize
+    requires inside { i < length words.old }
+    requires place { is_place (word words.old i) ≡ true }
+    ensures is { result ≡ place (word words.old i) }
+    ensures same { words.new ≡ words.old }
+{
+    named(words, i)
+}
+
+/// Chooses the pivot and takes it out of the lists by bound.
+pub fn pick<S: Signed, U: Unsigned>(work: &mut Work<'_, S, U>) -> usize
+    requires sized { IsSized (length work.old.nv.now) (workspace_of work.old) }
+    requires some { SomeFrom (length work.old.nv.now) work.old.head.now work.old.least }
+    ensures picks { Picks (length work.old.nv.now) result (workspace_of work.old) (workspace_of work.new) }
+{
+    let least = work.least;
+    let (me, bound) = choose(work.head, work.next, work.last, least);
+    work.least = bound;
+    me
+}
+
+/// As `begin_own`, with each slice lent for writing.
+fn begin_own_lent<S: Signed, U: Unsigned>(
+    iw: &mut [Word<S>],
+    nv: &mut [Word<S>],
+    e_len: &mut [Word<S>],
+    len: &mut [Figure<U>],
+    pe: &mut [Word<S>],
+    me: usize,
+    free: usize,
+) -> Begun
+    requires lengths { (length pe.old ≡ length nv.old) × (length e_len.old ≡ length nv.old) × (length len.old ≡ length nv.old) }
+    requires short { length iw.old < 2 ^ 63 }
+    requires end { free ≤ length iw.old }
+    requires laid { Layout (length nv.old) iw.old pe.old e_len.old len.old free }
+    requires pivot { (me < length nv.old) × (0 < size_of nv.old me) }
+    requires listed { has_list pe.old len.old me ≡ true }
+    requires count { word e_len.old me ≡ pos 0 }
+    requires clear { (j : ℕ) → in_front nv.old j ≡ false }
+    requires few { sum_by (size_of nv.old) (front_of iw.old nv.old pe.old len.old me 0) + 2 ≤ S.MOST }
+    ensures begins { Begins (length nv.old) me [] (front_of iw.old nv.old pe.old len.old me 0) result.total iw.old nv.old pe.old e_len.old len.old iw.new nv.new pe.new e_len.new len.new result.free }
+    ensures total { result.total ≡ sum_by (size_of nv.old) (front_of iw.old nv.old pe.old len.old me 0) }
+    ensures block { result.block ≡ size_of nv.old me }
+    ensures stays { (result.free ≡ free) × (result.packed ≡ false) }
+    ensures same { pe.new ≡ pe.old }
+{
+    begin_own(iw, nv, e_len, len, pe, me, free)
+}
+
+/// Makes the pivot `me`, which lists no element, an element in the place of its list.
+fn begin_in_place<S: Signed, U: Unsigned>(work: &mut Work<'_, S, U>, me: usize) -> Element
+    requires wide { IsNarrow S.MOST U.MOST (length work.old.nv.now) (workspace_of work.old) }
+    requires laid { (nzaat : ℕ) × IsLaid (length work.old.nv.now) nzaat (workspace_of work.old) }
+    requires pivot { CanBegin (length work.old.nv.now) me (workspace_of work.old) }
+    requires count { word work.old.e_len.now me ≡ pos 0 }
+    ensures begins { BeginsElement (length work.old.nv.now) me result.block result.total result.is_built (workspace_of work.old) (workspace_of work.new) }
+{
+    let free = work.free;
+    let begun = begin_own_lent(work.iw, work.nv, work.e_len, work.len, work.pe, me, free);
+    Element {
+        block: begun.block,
+        total: begun.total,
+        is_built: false,
+    }
+}
+
+/// Makes the pivot `me`, which lists elements, an element behind all lists, which are packed first if there is no room.
+fn begin_behind<S: Signed, U: Unsigned>(work: &mut Work<'_, S, U>, me: usize) -> Element
+    requires wide { IsNarrow S.MOST U.MOST (length work.old.nv.now) (workspace_of work.old) }
+    requires laid { (nzaat : ℕ) × IsLaid (length work.old.nv.now) nzaat (workspace_of work.old) }
+    requires pivot { CanBegin (length work.old.nv.now) me (workspace_of work.old) }
+    requires count { 0 < place (word work.old.e_len.now me) }
+    requires left { 0 < work.old.live }
+    ensures begins { BeginsElement (length work.old.nv.now) me result.block result.total result.is_built (workspace_of work.old) (workspace_of work.new) }
+{
+    let free = work.free;
+    let begun = begin_built(
+        work.iw, work.nv, work.pe, work.e_len, work.len, work.w, me, free,
+    );
+    work.free = begun.free;
+    work.n_cmp_a += usize::from(begun.packed);
+    Element {
+        block: begun.block,
+        total: begun.total,
+        is_built: true,
+    }
+}
+
+/// Makes the pivot `me` an element.
+pub fn begin<S: Signed, U: Unsigned>(work: &mut Work<'_, S, U>, me: usize) -> Element
+    requires wide { IsNarrow S.MOST U.MOST (length work.old.nv.now) (workspace_of work.old) }
+    requires laid { (nzaat : ℕ) × IsLaid (length work.old.nv.now) nzaat (workspace_of work.old) }
+    requires pivot { CanBegin (length work.old.nv.now) me (workspace_of work.old) }
+    requires left { 0 < work.old.live }
+    ensures begins { BeginsElement (length work.old.nv.now) me result.block result.total result.is_built (workspace_of work.old) (workspace_of work.new) }
+{
+    let n_elements = named_lent(work.e_len, me);
+    if n_elements == 0 {
+        begin_in_place(work, me)
+    } else {
+        begin_behind(work, me)
+    }
+}
+
+/// Turns the classes of the front of the new element `me` over to it. Answers the number of rows of those that ended.
+pub fn turn_over<S: Signed, U: Unsigned>(
+    work: &mut Work<'_, S, U>,
+    me: usize,
+    aggressive: bool,
+) -> usize
+    requires wide { IsNarrow S.MOST U.MOST (length work.old.nv.now) (workspace_of work.old) }
+    requires sized { IsSized (length work.old.nv.now) (workspace_of work.old) }
+    requires front { CanTurn (length work.old.nv.now) me (workspace_of work.old) }
+    ensures turns { TurnsOver aggressive (length work.old.nv.now) me result U.MOST (workspace_of work.old) (workspace_of work.new) }
+{
+    let free = work.free;
+    let before = work.flag;
+    let flag = renew_flag(work.w, before);
+    work.flag = flag;
+    turn(
+        work.iw,
+        work.pe,
+        work.e_len,
+        work.nv,
+        work.len,
+        work.degree,
+        work.w,
+        work.head,
+        work.next,
+        work.last,
+        me,
+        free,
+        flag,
+        aggressive,
+    )
+}
+
+/// Merges the classes of the front of `me` that are alike. Answers a flag above the counters.
+fn merge_list<S: Signed, U: Unsigned>(
+    iw: &mut [Word<S>],
+    pe: &mut [Word<S>],
+    e_len: &mut [Word<S>],
+    len: &mut [Figure<U>],
+    nv: &mut [Word<S>],
+    w: &mut [Figure<U>],
+    hash: &mut [Figure<U>],
+    next: &mut [Figure<U>],
+    last: &mut [Figure<U>],
+    me: usize,
+    flag: usize,
+) -> usize
+    requires lengths { (length pe.old ≡ length next.old) × (length e_len.old ≡ length next.old) × (length len.old ≡ length next.old) × (length nv.old ≡ length next.old) }
+    requires more_lengths { (length w.old ≡ length next.old) × (length hash.old ≡ length next.old) × (length last.old ≡ length next.old) }
+    requires short { (length iw.old < 2 ^ 63) × (length next.old + 2 ≤ S.MOST) × (length next.old ≤ U.MOST) }
+    requires list { (me < length next.old) × (is_place (word pe.old me) ≡ true) }
+    requires inside { end_of pe.old len.old me ≤ length iw.old }
+    requires front { Names (length next.old) iw.old (start pe.old me) (num len.old me) }
+    requires once { Once (list_in iw.old pe.old len.old me) }
+    requires few { num len.old me ≤ length next.old }
+    requires classes { AreRenewed (length next.old) iw.old pe.old e_len.old len.old nv.old w.old last.old (classes nv.old (list_in iw.old pe.old len.old me)) }
+    requires under { (x : ℕ) → num w.old x < flag }
+    requires room { flag + num len.old me ≤ U.MOST }
+    requires empty { (b : ℕ) → b < length next.old → length next.old ≤ num hash.old b }
+    ensures merged { MergesAll (classes nv.old (list_in iw.old pe.old len.old me)) (represents_in iw.old pe.old e_len.old len.old (classes nv.old (list_in iw.old pe.old len.old me))) pe.old e_len.old nv.old next.old pe.new e_len.new nv.new next.new }
+    ensures made { classes nv.new (list_in iw.old pe.old len.old me) ≡ filter (λ i. represents_in iw.old pe.old e_len.old len.old (classes nv.old (list_in iw.old pe.old len.old me)) i == i) (classes nv.old (list_in iw.old pe.old len.old me)) }
+    ensures heads { (b : ℕ) → b < length next.old → num hash.new b < length next.old → (has (classes nv.new (list_in iw.old pe.old len.old me)) (num hash.new b) ≡ true) × (num last.old (num hash.new b) ≡ b) }
+    ensures linked { (head degree : List ℕ) (lists : ℕ → List ℕ) → ((b x : ℕ) → b < length next.old → has (lists b) x ≡ true → has (classes nv.old (list_in iw.old pe.old len.old me)) x ≡ false) → DegreeLists (length next.old) head next.old last.old degree lists → DegreeLists (length next.old) head next.new last.new degree lists }
+    ensures lengths { (length pe.new ≡ length next.old) × (length e_len.new ≡ length next.old) × (length nv.new ≡ length next.old) }
+    ensures more_lengths { (length w.new ≡ length next.old) × (length hash.new ≡ length next.old) × (length next.new ≡ length next.old) }
+    ensures flag { flag ≤ result }
+    ensures under { (x : ℕ) → num w.new x < result }
+    ensures zeros { (x : ℕ) → (num w.new x == 0) ≡ (num w.old x == 0) }
+    ensures same { (iw.new ≡ iw.old) × (len.new ≡ len.old) × (last.new ≡ last.old) }
+{
+    let from = named(pe, me);
+    let count = figure_at(len, me);
+    merge_front(
+        iw, pe, e_len, len, nv, w, hash, next, last, from, count, flag,
+    )
+}
+
+/// Takes the rows of the block off those that are live, and merges the classes of the front of `me` that are alike. The flag rises above
+/// the counters of the round first, by the number of rows of the greatest border so far.
+pub fn merge_alike<S: Signed, U: Unsigned>(
+    work: &mut Work<'_, S, U>,
+    me: usize,
+    block: usize,
+    border: usize,
+)
+    requires wide { IsNarrow S.MOST U.MOST (length work.old.nv.now) (workspace_of work.old) }
+    requires sized { IsSized (length work.old.nv.now) (workspace_of work.old) }
+    requires front { CanMerge (length work.old.nv.now) me block border U.MOST (workspace_of work.old) }
+    ensures merges { MergesFront (length work.old.nv.now) me block border (workspace_of work.old) (workspace_of work.new) }
+{
+    work.live -= block;
+    work.most = work.most.max(border);
+    let risen = work.flag + work.most;
+    let flag = renew_flag(work.w, risen);
+    work.flag = merge_list(
+        work.iw, work.pe, work.e_len, work.len, work.nv, work.w, work.hash, work.next, work.last,
+        me, flag,
+    );
+}
+
+/// Places the classes that are left of the front of `me` by their new bounds. Answers where its list starts, where what is left of it ends,
+/// and a number below all bounds.
+fn place_list<S: Signed, U: Unsigned>(
+    iw: &mut [Word<S>],
+    nv: &mut [Word<S>],
+    degree: &mut [Figure<U>],
+    head: &mut [Figure<U>],
+    next: &mut [Figure<U>],
+    last: &mut [Figure<U>],
+    hash: &mut [Figure<U>],
+    pe: &mut [Word<S>],
+    len: &mut [Figure<U>],
+    me: usize,
+    border: usize,
+    left: usize,
+    least: usize,
+) -> (usize, usize, usize)
+    requires lengths { (length nv.old ≡ length next.old) × (length degree.old ≡ length next.old) × (length head.old ≡ length next.old) × (length last.old ≡ length next.old) × (length hash.old ≡ length next.old) }
+    requires more_lengths { (length pe.old ≡ length next.old) × (length len.old ≡ length next.old) }
+    requires short { (length iw.old < 2 ^ 63) × (length next.old + 2 ≤ S.MOST) × (length next.old ≤ U.MOST) }
+    requires list { (me < length next.old) × (is_place (word pe.old me) ≡ true) }
+    requires inside { end_of pe.old len.old me ≤ length iw.old }
+    requires names { Names (length next.old) iw.old (start pe.old me) (num len.old me) }
+    requires once { Once (list_in iw.old pe.old len.old me) }
+    requires classes { (i : ℕ) → has (list_in iw.old pe.old len.old me) i ≡ true → in_front nv.old i ≡ true → IsPlaceable (length next.old) border nv.old degree.old last.old i }
+    requires order { (border ≤ left) × (left ≤ length next.old) }
+    requires heads { (b : ℕ) → b < length next.old → num hash.old b < length next.old → (has (marked_in nv.old (list_in iw.old pe.old len.old me)) (num hash.old b) ≡ true) × (num last.old (num hash.old b) ≡ b) }
+    requires linked { (lists : ℕ → List ℕ) × DegreeLists (length next.old) head.old next.old last.old degree.old lists × ((b x : ℕ) → b < length next.old → has (lists b) x ≡ true → has (list_in iw.old pe.old len.old me) x ≡ false) }
+    ensures from { result.0 ≡ start pe.old me }
+    ensures filters { Filters (length next.old) (in_front nv.old) (λ j. 0) 0 iw.old result.0 (num len.old me) result.0 iw.new result.1 0 }
+    ensures restores { Restores (list_in iw.old pe.old len.old me) border left least nv.old degree.old nv.new degree.new result.2 }
+    ensures empty { (b : ℕ) → b < length next.old → length next.old ≤ num hash.new b }
+    ensures linked { (lists : ℕ → List ℕ) → ((b x : ℕ) → b < length next.old → has (lists b) x ≡ true → has (list_in iw.old pe.old len.old me) x ≡ false) → DegreeLists (length next.old) head.old next.old last.old degree.old lists → DegreeLists (length next.old) head.new next.new last.new degree.new (put_all (bound_in border left nv.old degree.old) (marked_in nv.old (list_in iw.old pe.old len.old me)) lists) }
+    ensures lengths { (length nv.new ≡ length next.old) × (length degree.new ≡ length next.old) × (length head.new ≡ length next.old) }
+    ensures more_lengths { (length next.new ≡ length next.old) × (length last.new ≡ length next.old) × (length hash.new ≡ length next.old) }
+    ensures same { (pe.new ≡ pe.old) × (len.new ≡ len.old) }
+{
+    let from = named(pe, me);
+    let count = figure_at(len, me);
+    let (end, least) = restore(
+        iw, nv, degree, head, next, last, hash, from, count, border, left, least,
+    );
+    (from, end, least)
+}
+
+/// Places the classes that are left of the front of `me` by their new bounds, closes the element, and adds its front to the figures. The
+/// free end goes back to the end of a list that was built behind all others.
+pub fn end_front<S: Signed, U: Unsigned>(
+    work: &mut Work<'_, S, U>,
+    me: usize,
+    block: usize,
+    border: usize,
+    is_built: bool,
+)
+    requires wide { IsNarrow S.MOST U.MOST (length work.old.nv.now) (workspace_of work.old) }
+    requires sized { IsSized (length work.old.nv.now) (workspace_of work.old) }
+    requires front { CanEnd (length work.old.nv.now) me block border is_built (workspace_of work.old) }
+    ensures ends { EndsFront (length work.old.nv.now) me block border is_built (workspace_of work.old) (workspace_of work.new) }
+{
+    let left = work.live;
+    let low = work.least;
+    let (from, end, least) = place_list(
+        work.iw,
+        work.nv,
+        work.degree,
+        work.head,
+        work.next,
+        work.last,
+        work.hash,
+        work.pe,
+        work.len,
+        me,
+        border,
+        left,
+        low,
+    );
+    work.least = least;
+    close(
+        work.e_len,
+        work.len,
+        work.degree,
+        me,
+        from,
+        end,
+        block,
+        border,
+    );
+    let free = if is_built { end } else { work.free };
+    work.free = free;
+    work.figures.add_front(block, border + work.n_dense);
+}

@@ -1,0 +1,51 @@
+// What an elimination in one workspace keeps between two rounds: borrowed slices, and some numbers. Source: Amestoy, Davis and Duff
+// 1996 and 2004 (the arrays of the quotient graph). Changed by `round`.
+
+use amd_cells::{Figure, Signed, Unsigned, Word};
+use amd_numbers::figures::Figures;
+
+/// The state of an elimination of a matrix with `n` rows. Each slice but `iw` has `n` numbers. Where a slice of figures names a row, `n`
+/// stands for no row. A mark is a number below zero: -1 names nothing, and `-k - 2` names `k`.
+#[derive(Drop)]
+pub struct Work<'a, S: Signed, U: Unsigned> {
+    /// All lists: that of a class names its elements and then its variables, that of an element its members.
+    pub iw: &'a mut [Word<S>],
+    /// Where the list of each row starts. An absorbed element has the mark of its parent here, and a row that was merged or went with a
+    /// pivot that of the row with which it goes.
+    pub pe: &'a mut [Word<S>],
+    /// The number of elements that a class lists. An element has the mark of the number of rows of its block and border here, and a row
+    /// that is neither has -1.
+    pub e_len: &'a mut [Word<S>],
+    /// The number of rows of each class, and 0 for what is no class. In a round it is negative for a class of the front.
+    pub nv: &'a mut [Word<S>],
+    /// The number of words of each list.
+    pub len: &'a mut [Figure<U>],
+    /// The bound of each class, and the number of rows of the border of each element.
+    pub degree: &'a mut [Figure<U>],
+    /// A counter of each row, above 0 for a class and for a standing element.
+    pub w: &'a mut [Figure<U>],
+    /// The first class of each bound.
+    pub head: &'a mut [Figure<U>],
+    /// The class behind each one in its list. In a round it links the classes of a bucket too.
+    pub next: &'a mut [Figure<U>],
+    /// The class before each one in its list. In a round a class of the front has its bucket here.
+    pub last: &'a mut [Figure<U>],
+    /// The first class of each bucket, in which classes alike are looked for. Between rounds there is none.
+    pub hash: &'a mut [Figure<U>],
+    /// No list has a word from here on.
+    pub free: usize,
+    /// The number of rows that are live.
+    pub live: usize,
+    /// No class has a bound below it.
+    pub least: usize,
+    /// A number above each counter.
+    pub flag: usize,
+    /// The number of rows of the greatest border so far.
+    pub most: usize,
+    /// How often the lists were packed.
+    pub n_cmp_a: usize,
+    /// The number of rows held last.
+    pub n_dense: usize,
+    /// The figures of the fronts so far.
+    pub figures: Figures,
+}
