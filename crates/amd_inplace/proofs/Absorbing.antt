@@ -81,8 +81,8 @@ module _ {g : Graph} {dense : ℕ → Bool} {nzaat : ℕ} {aggressive : Bool} {p
     pub listed_first : own e ≡ false → 0 < num r.turns.first e
     listed_first o =
         let some = listed_stood in
-        let was : num r.p2.w e ≡ num p.w e = counters_here r e
-        ∙ cond-false (own e) 0 (num p.w e) o in elim (cases_eq (num r.turns.first e) 0) [
+        let was : num r.p2.w e ≡ num p.w e = counters_here r e ∙ cond-false (own e) 0 (num p.w e) o in
+        elim (cases_eq (num r.turns.first e) 0) [
           | inr nz ↦ omega (arith, nz)
           | inl z ↦ (let b = eqb-true (num r.p2.w e) 0 (sym (r.turns.zeros e) ∙ eq-eqb (num r.turns.first e) 0 z) in
               absurd (omega (arith, b, was, some)))

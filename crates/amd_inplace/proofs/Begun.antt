@@ -15,7 +15,7 @@ use Rattle.amd_places.specs.Making.{IsTouched}
 use Rattle.amd_places.specs.Beginning.{Begins}
 use Rattle.amd_places.specs.Renewal.{is_kept}
 use Rattle.amd_places.specs.Turning.{IsTurning}
-use Rattle.amd_places.proofs.Touching.{front_apart, front_once, else_me, begun_elements, begun_rows, begun_loses, begun_met}
+use Rattle.amd_places.proofs.Touching.{else_me, begun_elements, begun_rows, begun_loses, begun_met, front_apart, front_once}
 use Rattle.amd_inplace.specs.Workspaces.{Workspace}
 use Rattle.amd_inplace.specs.Keeps.{Stands, by_bound}
 use Rattle.amd_inplace.specs.Parts.{Picks, BeginsElement, front_at}
@@ -66,16 +66,13 @@ module _ (g : Graph) (dense : ℕ → Bool) (nzaat : ℕ) (p : Workspace) (t : Q
   pub front_same : front_at p2 c ≡ begins.front
   front_same = begins.begins.list
 
-  -- a bound is below the number of rows
-  pub bound_small : (i : ℕ) → has t.placed i ≡ true → t.bound i < g.size
-  bound_small i h = let a : num p.degree i < length p.nv = st.view.keeps.small i h in
-      let b : num p.degree i ≡ t.bound i = st.view.keeps.bound i h in let r : length p.nv ≡ g.size = st.view.rows in
-      omega (arith, a, b, r)
+  -- the pivot is a class of the bound that was found
+  pub pivot_chosen : (has t.placed c ≡ true) × (t.bound c ≡ p1.least)
+  pivot_chosen = by_bounds.chosen_placed g.size p.head p.next p.last p.degree t st.linked p.least st.view.keeps.least
+      (standing.bound_small g dense nzaat p t s st) c p1.least (picks.chosen (by_bound t) st.linked)
 
-  -- the pivot is a class
   pub pivot_placed : has t.placed c ≡ true
-  pivot_placed = (by_bounds.chosen_placed g.size p.head p.next p.last p.degree t st.linked p.least st.view.keeps.least bound_small c
-      p1.least (picks.chosen (by_bound t) st.linked)).0
+  pivot_placed = pivot_chosen.0
 
   -- the choice wrote no list
   abbrev chosen : Workspace
@@ -142,7 +139,7 @@ module _ (g : Graph) (dense : ℕ → Bool) (nzaat : ℕ) (p : Workspace) (t : Q
         once = subst Once (sym (elements_stay i h)) (standing.elements_once g dense nzaat p t s st i k);
         class = let a = (standing.placed_class g dense nzaat p t s st i k).0 in let r = rows_stay i h in omega (arith, a, r);
         marked = begins_front.marks i ∙ h;
-        bound = let a = bound_small i k in let b : num p.degree i ≡ t.bound i = st.view.keeps.bound i k in
+        bound = let a = standing.bound_small g dense nzaat p t s st i k in let b : num p.degree i ≡ t.bound i = st.view.keeps.bound i k in
             let d = ap (λ l. num l i) bounds_stay in omega (arith, a, b, d);
         loses = begun_loses p.w p2.w st.laid.laid begins_front counters_are apart touched i h;
         apart = λ e f. ap (λ l. has l e) (elements_stay i h) ∙ standing.element_apart g dense nzaat p t s st i e k (front_placed e f);

@@ -1,9 +1,9 @@
 -- After the classes of a front are merged: those that are left can be placed, and the element can be closed.
-use Rattle.std.proofs.Common.{ℕ, ℤ, negsuc, Bool, true, false, List, ◌≡◌, ◌<◌, ◌≤◌, ◌+◌, ◌-◌, ◌&&◌, ◌⊎◌, inl, inr, sym, subst, ap, ◌∙◌}
+use Rattle.std.proofs.Common.{ℕ, negsuc, Bool, true, false, List, ◌≡◌, ◌<◌, ◌≤◌, ◌+◌, ◌-◌, ◌⊎◌, inl, inr, sym, subst, ap, ◌∙◌}
 use Rattle.std.proofs.Common.{arith, cond, not, filter, length, sum_by, ◌%◌}
 use Rattle.std.specs.Prelude.{◌^◌, ◌==◌, min}
 use Rattle.std.proofs.Math.Nat.{min-le_left, mod-lt}
-use Rattle.std.proofs.lemmas.Bool.{cases_Bool, cond-true, cond-false, ne_eqb, not-true, not_from_false, false_from_ne_true}
+use Rattle.std.proofs.lemmas.Bool.{cases_Bool, cond-true, cond-false, ne_eqb, not-true, not_from_false}
 use Rattle.amd_model.specs.Graph.{Graph}
 use Rattle.amd_model.specs.State.{State}
 use Rattle.amd_model.specs.Quotient.{QuotientGraph, has, Once}
@@ -15,7 +15,6 @@ use Rattle.amd_places.specs.Chains.{without}
 use Rattle.amd_places.specs.Merging.{words_of}
 use Rattle.amd_places.specs.Restoring.{marked_in, IsPlaceable}
 use Rattle.amd_places.proofs.Frames.{has_parts, has_from, dropped}
-use Rattle.amd_places.proofs.MergeEnds.{class_gives}
 use Rattle.amd_inplace.specs.Workspaces.{Workspace}
 use Rattle.amd_inplace.specs.Keeps.{by_bound}
 use Rattle.amd_inplace.specs.Parts.{Links, MergesFront, front_at}
@@ -23,17 +22,18 @@ use Rattle.amd_inplace.specs.Premises.{HasFront, CanEnd}
 use Rattle.amd_inplace.proofs.ByBound.{bound_names}
 use Rattle.amd_inplace.proofs.Renewed.{recounted}
 use Rattle.amd_inplace.proofs.Halves.{HalfRound, front, can_turn, front_begun, front_other, front_placed, degree_stays, left_pivot}
-use Rattle.amd_inplace.proofs.RoundLists.{half_place, starts_is, no_mark}
-use Rattle.amd_inplace.proofs.Turned.{front_after}
+use Rattle.amd_inplace.proofs.RoundLists.{half_place, no_mark}
+use Rattle.amd_inplace.proofs.Turned.{pivot_start as pivot_turned}
 use Rattle.amd_inplace.proofs.Mergeable.{can_merge}
-use Rattle.amd_inplace.proofs.Merged.{rest, into, made, marked_made, front_stays, pivot_start}
+use Rattle.amd_inplace.proofs.Merged as merging
+use Rattle.amd_inplace.proofs.Merged.{rest, into, made, marked_made, front_stays, front_merged, not_rest, pivot_start}
 use Rattle.amd_inplace.proofs.RoundSizes.{live_parts, live_few, made_sizes, all_rows}
 
 module _ {g : Graph} {dense : ℕ → Bool} {nzaat : ℕ} {aggressive : Bool} {p : Workspace} {t : QuotientGraph} {s : State}
     (r : HalfRound g dense nzaat aggressive p t s) (p4 : Workspace)
     (merges : MergesFront g.size r.c (r.block + r.gone) (r.total - r.gone) r.p3 p4) where
   abbrev merged : ℕ → Bool
-  merged j = has (rest r p4 merges) j && not (into r p4 merges j == j)
+  merged = merging.merged r p4 merges
 
   -- ---- the front
 
@@ -65,9 +65,6 @@ module _ {g : Graph} {dense : ℕ → Bool} {nzaat : ℕ} {aggressive : Bool} {p
     apart = ap (λ l. has l r.c) (front_stays r p4 merges) ∙ (can_merge r).front.apart;
   }
 
-  front_same : front_at p4 r.c ≡ front r
-  front_same = front_stays r p4 merges ∙ front_after r
-
   -- ---- its classes
 
   lower : (a b : Bool) (d m : ℕ) → cond a (cond b d (min d m)) d ≤ d
@@ -78,9 +75,9 @@ module _ {g : Graph} {dense : ℕ → Bool} {nzaat : ℕ} {aggressive : Bool} {p
   lowered : (a b : Bool) (d m x : ℕ) → x ≡ cond a (cond b d (min d m)) d → x ≤ d
   lowered a b d m x e = let l = lower a b d m in omega (arith, e, l)
 
-  bound_low : (i : ℕ) → has (front_at p4 r.c) i ≡ true → num p4.degree i < g.size
+  pub bound_low : (i : ℕ) → has (front_at p4 r.c) i ≡ true → num p4.degree i < g.size
   bound_low i h =
-      let here : has (front_at r.p2 r.c) i ≡ true = ap (λ l. has l i) (front_begun r) ∙ ap (λ l. has l i) (sym front_same) ∙ h in
+      let here : has (front_at r.p2 r.c) i ≡ true = ap (λ l. has l i) (front_begun r ∙ sym (front_merged r p4 merges)) ∙ h in
       let a = lowered _ _ (num r.p2.degree i) _ (num r.p3.degree i) (r.turns.turns.renewed.bounds i) in
       let e = ((can_turn r).classes i here).bound in
       let f = ap (λ (w : Workspace). num w.degree i) merges.same in omega (arith, a, e, f)
@@ -131,22 +128,11 @@ module _ {g : Graph} {dense : ℕ → Bool} {nzaat : ℕ} {aggressive : Bool} {p
   outside d x h = ap (λ l. has l x) (sym (front_begun r)) ∙ not-true (has (front_at r.p2 r.c) x)
       (filter_gives (λ j. not (has (front_at r.p2 r.c) j)) (without r.c (by_bound t d)) x h).1
 
-  not_rest : (x : ℕ) → has (front r) x ≡ false → has (rest r p4 merges) x ≡ false
-  not_rest x out = false_from_ne_true (has (rest r p4 merges) x) (λ h. clash {P = ⊥}
-      (ap (λ l. has l x) (sym (front_after r)) ∙ (class_gives r.p3.nv (front_at r.p3 r.c) x h).0) out)
-
   pub still_linked : Links g.size p4 lists
-  still_linked = merges.linked lists (λ d x l h. not_rest x (outside d x h))
+  still_linked = merges.linked lists (λ d x l h. not_rest r p4 merges x (outside d x h))
       (r.turns.linked (λ d. without r.c (by_bound t d)) named linked_begun)
 
   -- ---- an element behind all lists
-
-  unflipped : (a b : Bool) (m : ℕ) (y z : ℤ) → z ≡ cond (a && b) (flip_of m) y → a ≡ false → z ≡ y
-  unflipped a b m y z e f = e ∙ ap (λ q. cond (q && b) (flip_of m) y) f
-
-  off_pivot : word r.p3.pe r.c ≡ word r.p2.pe r.c
-  off_pivot = unflipped (has (front r) r.c) _ r.c (word r.turns.turns.left r.c) (word r.p3.pe r.c) (starts_is r r.c) (front_other r)
-      ∙ left_pivot r
 
   stays_before : r.is_built ≡ true → (j : ℕ) → (j ≡ r.c → ⊥) → has_list p4.pe p4.len j ≡ true → end_of p4.pe p4.len j ≤ start p4.pe r.c
   stays_before built j ne h =
@@ -159,7 +145,7 @@ module _ {g : Graph} {dense : ℕ → Bool} {nzaat : ℕ} {aggressive : Bool} {p
       let short = r.turns.turns.renewed.renewed.shorter j in
       let old = has_from r.p2.pe r.p2.len j (ap is_place (sym half.0 ∙ sym at) ∙ parts.0) (omega (arith, some, count, short)) in
       let a = r.begins.before built j ne old in
-      let b = ap place (at ∙ half.0) in let e = ap place (pivot_start r p4 merges ∙ off_pivot) in
+      let b = ap place (at ∙ half.0) in let e = ap place (pivot_start r p4 merges ∙ pivot_turned r ∙ left_pivot r) in
       omega (arith, a, b, e, count, short)
 
   pub can_end : g.size < 2 ^ 63 → CanEnd g.size r.c (r.block + r.gone) (r.total - r.gone) r.is_built p4
@@ -171,7 +157,7 @@ module _ {g : Graph} {dense : ℕ → Bool} {nzaat : ℕ} {aggressive : Bool} {p
       (let a = (live_parts r p4 merges).1 in let b = live_few r p4 merges in omega (arith, a, b)),
     );
     heads = heads_marked;
-    linked = (lists, still_linked, λ d x l h. ap (λ l. has l x) front_same ∙ outside d x h);
+    linked = (lists, still_linked, λ d x l h. ap (λ l. has l x) (front_merged r p4 merges) ∙ outside d x h);
     dense = (let a = all_rows r p4 merges in
         let e = ap (λ (w : Workspace). w.n_dense) merges.same in
         let f = ap (λ (w : Workspace). w.n_dense) r.turns.same in let h = ap (λ (w : Workspace). w.n_dense) r.begins.same in

@@ -67,16 +67,14 @@ module _ {g : Graph} {dense : ℕ → Bool} {nzaat : ℕ} {aggressive : Bool} {p
 
   -- ---- the pivot
 
-  chosen : Chooses g.size p.least (by_bound t) r.c r.p1.least
+  pub chosen : Chooses g.size p.least (by_bound t) r.c r.p1.least
   chosen = r.picks.chosen (by_bound t) r.st.linked
 
-  bound_small : (i : ℕ) → has t.placed i ≡ true → t.bound i < g.size
-  bound_small i h = let a = r.st.view.keeps.small i h in let b = r.st.view.keeps.bound i h in let e = r.st.view.rows in
-      omega (arith, a, b, e)
+  pub bound_small : (i : ℕ) → has t.placed i ≡ true → t.bound i < g.size
+  bound_small = standing.bound_small g dense nzaat p t s r.st
 
-  pivot_chosen : (has t.placed r.c ≡ true) × (t.bound r.c ≡ r.p1.least)
-  pivot_chosen = by_bounds.chosen_placed g.size p.head p.next p.last p.degree t r.st.linked p.least r.st.view.keeps.least bound_small r.c
-      r.p1.least chosen
+  pub pivot_chosen : (has t.placed r.c ≡ true) × (t.bound r.c ≡ r.p1.least)
+  pivot_chosen = begun.pivot_chosen g dense nzaat p t s r.st r.c r.p1 r.picks r.block r.total r.is_built r.p2 r.begins
 
   pub pivot_placed : has t.placed r.c ≡ true
   pivot_placed = pivot_chosen.0
@@ -174,8 +172,7 @@ module _ {g : Graph} {dense : ℕ → Bool} {nzaat : ℕ} {aggressive : Bool} {p
   left_is e = r.turns.turns.ended e ∙ ap (λ m. cond (ends aggressive r.p3.flag m) (flip_of r.c) (word r.p2.pe e)) (count_same e)
 
   turning : (i : ℕ) → has (front_at r.p2 r.c) i ≡ true →
-      IsTurning g.size r.c (front_at r.p2 r.c) r.p2.iw r.p2.pe r.p2.e_len r.p2.nv r.p2.len
-      r.p2.degree r.turns.first i
+      IsTurning g.size r.c (front_at r.p2 r.c) r.p2.iw r.p2.pe r.p2.e_len r.p2.nv r.p2.len r.p2.degree r.turns.first i
   turning i h = begun.turning_zeros r.turns.zeros (can_turn.classes i h)
 
   pub left_pivot : word r.turns.turns.left r.c ≡ word r.p2.pe r.c

@@ -4,7 +4,7 @@ use Rattle.std.proofs.Common.{◌∙◌, arith}
 use Rattle.std.proofs.Common.{cond, not, fold, filter}
 use Rattle.std.specs.Prelude.{◌==◌, nat_lt, min}
 use Rattle.std.proofs.Math.Nat.{min-le_left, min-le_right}
-use Rattle.std.proofs.lemmas.Bool.{cases_Bool, cond-false, eq-eqb, and_right, not_from_true, ltb-true, lt-ltb}
+use Rattle.std.proofs.lemmas.Bool.{cases_Bool, cond-false, eq-eqb, and_right, not_from_true, ltb-true, lt-ltb, false_from_ne_true}
 use Rattle.amd_model.specs.Graph.{Graph}
 use Rattle.amd_model.specs.State.{State}
 use Rattle.amd_model.specs.Quotient.{QuotientGraph, has, last_that}
@@ -20,7 +20,7 @@ use Rattle.amd_places.proofs.MergeLink.{last_same}
 use Rattle.amd_places.proofs.MergeEnds.{made_gives, class_gives}
 use Rattle.amd_inplace.specs.Workspaces.{Workspace}
 use Rattle.amd_inplace.specs.Parts.{MergesFront, front_at}
-use Rattle.amd_inplace.proofs.Halves.{HalfRound, kept_lists, front_other}
+use Rattle.amd_inplace.proofs.Halves.{HalfRound, front, kept_lists, front_other}
 use Rattle.amd_inplace.proofs.Turned.{front_after, kept_after}
 use Rattle.amd_inplace.proofs.Mergeable.{can_merge}
 
@@ -63,6 +63,10 @@ module _ {g : Graph} {dense : ℕ → Bool} {nzaat : ℕ} {aggressive : Bool} {p
   abbrev pub into : ℕ → ℕ
   into i = represents_in r.p3.iw r.p3.pe r.p3.e_len r.p3.len (classes r.p3.nv (front_at r.p3 r.c)) i
 
+  -- the class is merged into another
+  abbrev pub merged : ℕ → Bool
+  merged x = has rest x && not (into x == x)
+
   abbrev pub made : List ℕ
   made = filter (λ i. into i == i) rest
 
@@ -73,14 +77,14 @@ module _ {g : Graph} {dense : ℕ → Bool} {nzaat : ℕ} {aggressive : Bool} {p
       (kept_lists r).variables rest (λ i h x. ap (λ l. has l x) (kept_after r i h).0 ∙ has_turned ((kept_lists r).elements i) x)
       (λ i h x. ap (λ l. has l x) (kept_after r i h).1 ∙ has_turned ((kept_lists r).variables i) x) i h
 
+  -- what is left of the front was in it
+  pub not_rest : (x : ℕ) → has (front r) x ≡ false → has rest x ≡ false
+  not_rest x out = false_from_ne_true (has rest x) (λ h. clash {P = ⊥}
+      (ap (λ l. has l x) (sym (front_after r)) ∙ (class_gives r.p3.nv (front_at r.p3 r.c) x h).0) out)
+
   -- the pivot is none of the classes that are merged, and its list is where it was
   pub pivot_unmerged : has rest r.c ≡ false
-  pivot_unmerged = elim (cases_Bool (has rest r.c)) [
-    | inl y ↦ clash {P = has rest r.c ≡ false} (ap (λ l. has l r.c) (sym (front_after r))
-        ∙ (class_gives r.p3.nv (front_at r.p3 r.c) r.c y).0)
-        (front_other r)
-    | inr n ↦ n
-  ]
+  pivot_unmerged = not_rest r.c (front_other r)
 
   pub pivot_start : word p4.pe r.c ≡ word r.p3.pe r.c
   pivot_start = merges.merged.links r.c ∙ ap (λ b. cond (b && not (into r.c == r.c)) (Rattle.amd_places.specs.Words.flip_of (into r.c))
@@ -89,6 +93,9 @@ module _ {g : Graph} {dense : ℕ → Bool} {nzaat : ℕ} {aggressive : Bool} {p
   pub front_stays : front_at p4 r.c ≡ front_at r.p3 r.c
   front_stays = ap (λ z. rows p4.iw (place z) (num p4.len r.c)) pivot_start
       ∙ ap (λ (w : Workspace). rows w.iw (place (word r.p3.pe r.c)) (num w.len r.c)) merges.same
+
+  pub front_merged : front_at p4 r.c ≡ front r
+  front_merged = front_stays ∙ front_after r
 
   made_marked : (x : ℕ) → has (front_at r.p3 r.c) x ≡ true → 0 < size_of p4.nv x → in_front p4.nv x ≡ true
   made_marked x h l =

@@ -11,10 +11,8 @@ use Rattle.amd_views.proofs.Round.Finding as finding
 use Rattle.amd_views.proofs.Round.Turn.{Turn}
 use Rattle.amd_views.proofs.Round.NextRound.{one_round}
 use Rattle.amd_inplace.specs.Workspaces.{Workspace, view_of}
-use Rattle.amd_inplace.specs.Keeps.{by_bound}
 use Rattle.amd_inplace.specs.Parts.{MergesFront}
-use Rattle.amd_inplace.proofs.ByBound as by_bounds
-use Rattle.amd_inplace.proofs.Halves.{HalfRound, pivot_placed, pivot_least}
+use Rattle.amd_inplace.proofs.Halves.{HalfRound, pivot_chosen, pivot_placed, pivot_least}
 use Rattle.amd_inplace.proofs.Relinked.{is_pivot}
 
 module _ {g : Graph} {dense : ℕ → Bool} {nzaat : ℕ} {aggressive : Bool} {p : Workspace} {t : QuotientGraph} {s : State}
@@ -24,17 +22,8 @@ module _ {g : Graph} {dense : ℕ → Bool} {nzaat : ℕ} {aggressive : Bool} {p
   placed : has t.placed rounding.c ≡ true
   placed = ap (has t.placed) pivot_is ∙ pivot_placed r
 
-  -- the pivot was found in the list of its bound
-  bound_is : t.bound r.c ≡ r.p1.least
-  bound_is = (by_bounds.chosen_placed g.size p.head p.next p.last p.degree t r.st.linked p.least r.st.view.keeps.least small r.c
-      r.p1.least (r.picks.chosen (by_bound t) r.st.linked)).1
-    where
-      small : (i : ℕ) → has t.placed i ≡ true → t.bound i < g.size
-      small i h = let a = r.st.view.keeps.small i h in let b = r.st.view.keeps.bound i h in let e = r.st.view.rows in
-          omega (arith, a, b, e)
-
   lowest : rounding.least ≡ t.bound rounding.c
-  lowest = least_is ∙ sym bound_is ∙ ap t.bound (sym pivot_is)
+  lowest = least_is ∙ sym (pivot_chosen r).1 ∙ ap t.bound (sym pivot_is)
 
   low : (d : ℕ) → has t.placed d ≡ true → t.bound rounding.c ≤ t.bound d
   low d h = let a = pivot_least r d h in let b = ap t.bound pivot_is in omega (arith, a, b)

@@ -1,6 +1,6 @@
 -- The workspace after a round is laid again: which classes have a list, that nothing is marked, and that all lists have room.
-use Rattle.std.proofs.Common.{ℕ, ℤ, pos, negsuc, Bool, true, false, List, ◌≡◌, ◌<◌, ◌≤◌, ◌+◌, ◌-◌, ◌&&◌, ◌||◌, not, inl, inr, refl, sym, ap}
-use Rattle.std.proofs.Common.{◌∙◌}
+use Rattle.std.proofs.Common.{ℕ, ℤ, pos, negsuc, Bool, true, false, List, ◌≡◌, ◌<◌, ◌≤◌, ◌+◌, ◌-◌, ◌&&◌, ◌||◌, not, inl, inr, refl, sym}
+use Rattle.std.proofs.Common.{ap, ◌∙◌}
 use Rattle.std.proofs.Math.Nat.{le-max_left, max-le}
 use Rattle.std.proofs.Common.{get_or-set_other, cond, arith, length, sum_by, filter}
 use Rattle.std.specs.Prelude.{nat_lt, ◌==◌}
@@ -11,7 +11,7 @@ use Rattle.amd_model.specs.State.{State}
 use Rattle.amd_model.specs.Quotient.{QuotientGraph, has}
 use Rattle.amd_model.proofs.Counting.Below.{clash}
 use Rattle.amd_model.proofs.Listings.Words.{filter_has, has_filter as filter_gives}
-use Rattle.amd_places.specs.Words.{num, word, place, is_place, start, size_of, in_front as marked_at, rows, rows_in, inside, flip_of}
+use Rattle.amd_places.specs.Words.{num, word, place, is_place, start, size_of, in_front as marked_at, rows_in, inside, flip_of}
 use Rattle.amd_places.specs.Counts.{counter, ends}
 use Rattle.amd_places.specs.Layout.{has_list, end_of, elements_in, variables_in, ReadsSame, live_words}
 use Rattle.amd_places.proofs.Counting.{ends_none}
@@ -22,8 +22,9 @@ use Rattle.amd_inplace.proofs.Standing as standing
 use Rattle.amd_inplace.proofs.Halves.{HalfRound, ends_by, begins_here, front_other, pivot_placed, left_pivot, left_class}
 use Rattle.amd_inplace.proofs.Halves.{can_turn, free_stays, counters_here, front_placed, degree_stays, most_stays}
 use Rattle.amd_inplace.proofs.Mergeable.{can_merge}
-use Rattle.amd_inplace.proofs.Turned.{in_front, front_after}
+use Rattle.amd_inplace.proofs.Turned.{in_front, front_after, pivot_start}
 use Rattle.amd_inplace.proofs.Counters.{seen_none, class_counter, counter_zero}
+use Rattle.amd_inplace.proofs.Merged as merging
 use Rattle.amd_inplace.proofs.RoundLists as lists
 
 none_rows : (z : ℤ) → z ≡ pos 0 → rows_in z ≡ 0
@@ -45,13 +46,13 @@ module _ {g : Graph} {dense : ℕ → Bool} {nzaat : ℕ} {aggressive : Bool} {p
   module _ (p4 : Workspace) (merges : MergesFront g.size r.c (r.block + r.gone) (r.total - r.gone) r.p3 p4) (v : Workspace)
       (ended : EndsFront g.size r.c (r.block + r.gone) (r.total - r.gone) r.is_built p4 v) where
     abbrev rest : List ℕ
-    rest = lists.rest r p4 merges v ended
+    rest = merging.rest r p4 merges
 
     abbrev into : ℕ → ℕ
-    into = lists.into r p4 merges v ended
+    into = merging.into r p4 merges
 
     abbrev merged : ℕ → Bool
-    merged = lists.merged r p4 merges v ended
+    merged = merging.merged r p4 merges
 
     -- ---- classes outside the front
 
@@ -73,26 +74,16 @@ module _ {g : Graph} {dense : ℕ → Bool} {nzaat : ℕ} {aggressive : Bool} {p
 
     pub size_open : (i : ℕ) → has r.begins.front i ≡ false → size_of v.nv i ≡ cond (i == r.c) 0 (size_of p.nv i)
     size_open i out = ended.restores.sizes i ∙ merges.merged.sizes i
-        ∙ cond-false (has rest i) _ (size_of r.p3.nv i) (lists.not_rest r p4 merges v ended i out)
+        ∙ cond-false (has rest i) _ (size_of r.p3.nv i) (merging.not_rest r p4 merges i out)
         ∙ ap rows_in (row_half i out) ∙ (begins_here r).sizes i
 
     -- ---- the list of the new element
 
     alone : (j : ℕ) → has r.begins.front j ≡ false → merged j ≡ false
-    alone j out = ap (λ b. b && not (into j == j)) (lists.not_rest r p4 merges v ended j out)
+    alone j out = ap (λ b. b && not (into j == j)) (merging.not_rest r p4 merges j out)
 
     start_pivot : word p4.pe r.c ≡ word r.p2.pe r.c
-    start_pivot = merges.merged.links r.c ∙ cond-false _ (flip_of (into r.c)) (word r.p3.pe r.c) (alone r.c (front_other r))
-        ∙ lists.starts_is r r.c ∙ ap (λ b. cond (b && lists.done r r.c) (flip_of r.c) (word r.turns.turns.left r.c)) (front_other r)
-        ∙ left_pivot r
-
-    pub front_merged : front_at p4 r.c ≡ r.begins.front
-    front_merged =
-        let half : word p4.pe r.c ≡ word r.p3.pe r.c = merges.merged.links r.c
-        ∙ cond-false _ (flip_of (into r.c)) (word r.p3.pe r.c) (alone r.c (front_other r)) in
-        ap (λ w. rows w (start p4.pe r.c) (num p4.len r.c)) (ap (λ q. q.iw) merges.same)
-        ∙ ap (λ k. rows r.p3.iw k (num p4.len r.c)) (ap place half)
-        ∙ ap (λ l. rows r.p3.iw (start r.p3.pe r.c) (num l r.c)) (ap (λ q. q.len) merges.same) ∙ front_after r
+    start_pivot = merging.pivot_start r p4 merges ∙ pivot_start r ∙ left_pivot r
 
     -- ---- what is laid
 
@@ -122,7 +113,7 @@ module _ {g : Graph} {dense : ℕ → Bool} {nzaat : ℕ} {aggressive : Bool} {p
     -- nothing is marked
     pub clear_after : (j : ℕ) → marked_at v.nv j ≡ false
     clear_after j = elim (cases_Bool (has r.begins.front j)) [
-      | inl h ↦ ended.restores.marks j ∙ ap (λ l. marked_at p4.nv j && not (has l j)) front_merged
+      | inl h ↦ ended.restores.marks j ∙ ap (λ l. marked_at p4.nv j && not (has l j)) (merging.front_merged r p4 merges)
           ∙ ap (λ b. marked_at p4.nv j && not b) h ∙ and-false (marked_at p4.nv j)
       | inr out ↦ (
           let none : marked_at p4.nv j ≡ false = merges.merged.front j ∙ cond-false (merged j) false (marked_at r.p3.nv j) (alone j out)
@@ -243,7 +234,8 @@ module _ {g : Graph} {dense : ℕ → Bool} {nzaat : ℕ} {aggressive : Bool} {p
     -- the bound of an open class and the border of another element stay
     pub bound_open : (j : ℕ) → (j ≡ r.c → ⊥) → has r.begins.front j ≡ false → num v.degree j ≡ num p.degree j
     bound_open j ne out = ap (λ l. num l j) ended.degrees ∙ get_or-set_other ended.bounds r.c j (r.total - r.gone) 0 ne
-        ∙ ended.restores.bounds j ∙ cond-false (has (front_at p4 r.c) j) _ (num p4.degree j) (ap (λ l. has l j) front_merged ∙ out)
+        ∙ ended.restores.bounds j
+        ∙ cond-false (has (front_at p4 r.c) j) _ (num p4.degree j) (ap (λ l. has l j) (merging.front_merged r p4 merges) ∙ out)
         ∙ ap (λ l. num l j) (ap (λ q. q.degree) merges.same)
         ∙ r.turns.turns.renewed.bounds j ∙ cond-false (has (front_at r.p2 r.c) j) _ (num r.p2.degree j) (in_front r j ∙ out)
         ∙ ap (λ l. num l j) (degree_stays r)

@@ -1,6 +1,6 @@
 -- The lists by bound after a round: those of the next order of placing.
 use Rattle.std.proofs.Common.{ℕ, Bool, true, false, ◌++◌, ◌≡◌, ◌<◌, ◌+◌, ◌-◌, ◌||◌, refl, sym, ap, ◌∙◌}
-use Rattle.std.proofs.Common.{arith, cond, not, filter}
+use Rattle.std.proofs.Common.{cond, not, filter}
 use Rattle.std.specs.Prelude.{◌==◌, nat_lt}
 use Rattle.std.proofs.lemmas.Bool.{cond-true, cond-false, false_from_ne_true, not-true, or_parts, eq-eqb}
 use Rattle.std.proofs.lemmas.List.{get_or-set_other}
@@ -22,10 +22,11 @@ use Rattle.amd_inplace.specs.Keeps.{by_bound}
 use Rattle.amd_inplace.specs.Parts.{MergesFront, EndsFront, front_at}
 use Rattle.amd_inplace.proofs.ByBound as by_bounds
 use Rattle.amd_inplace.proofs.Standing as standing
-use Rattle.amd_inplace.proofs.Halves.{HalfRound, front, kept_lists, front_here, front_begun, front_other, pivot_placed, pivot_least}
+use Rattle.amd_inplace.proofs.Halves.{HalfRound, chosen, bound_small, front, kept_lists, front_here, front_begun, front_other}
+use Rattle.amd_inplace.proofs.Halves.{pivot_placed, pivot_least}
 use Rattle.amd_inplace.proofs.Turned.{rest_is, front_after}
 use Rattle.amd_inplace.proofs.Absorbed.{absorbed}
-use Rattle.amd_inplace.proofs.Merged.{rest, into, into_is, made, marked_made, front_stays}
+use Rattle.amd_inplace.proofs.Merged.{rest, into, into_is, made, marked_made, front_merged}
 use Rattle.amd_inplace.proofs.Ending.{lists, still_linked}
 
 module _ {g : Graph} {dense : ℕ → Bool} {nzaat : ℕ} {aggressive : Bool} {p : Workspace} {t : QuotientGraph} {s : State}
@@ -38,12 +39,8 @@ module _ {g : Graph} {dense : ℕ → Bool} {nzaat : ℕ} {aggressive : Bool} {p
       (into r p4 merges) (rest_is r) (into_is r p4 merges) refl
 
   chosen_pivot : pivot t.bound t.placed ≡ r.c
-  chosen_pivot = by_bounds.chosen_pivot g.size p.head p.next p.last p.degree t r.st.linked p.least r.st.view.keeps.least small r.c
-      r.p1.least (r.picks.chosen (by_bound t) r.st.linked)
-    where
-      small : (i : ℕ) → has t.placed i ≡ true → t.bound i < g.size
-      small i h = let a = r.st.view.keeps.small i h in let b = r.st.view.keeps.bound i h in let e = r.st.view.rows in
-          omega (arith, a, b, e)
+  chosen_pivot = by_bounds.chosen_pivot g.size p.head p.next p.last p.degree t r.st.linked p.least r.st.view.keeps.least (bound_small r) r.c
+      r.p1.least (chosen r)
 
   pub is_pivot : r.c ≡ pivot t.bound t.placed
   is_pivot = sym chosen_pivot
@@ -88,8 +85,7 @@ module _ {g : Graph} {dense : ℕ → Bool} {nzaat : ℕ} {aggressive : Bool} {p
     named_front i h = filter_gives (in_front p4.nv) (front_at p4 r.c) i h
 
     other : (i : ℕ) → has (front_at p4 r.c) i ≡ true → i ≡ r.c → ⊥
-    other i h e = clash {P = ⊥} (ap (λ l. has l r.c) (sym (front_stays r p4 merges ∙ front_after r))
-        ∙ ap (has (front_at p4 r.c)) (sym e) ∙ h)
+    other i h e = clash {P = ⊥} (ap (λ l. has l r.c) (sym (front_merged r p4 merges)) ∙ ap (has (front_at p4 r.c)) (sym e) ∙ h)
         (front_other r)
 
     bound_again : (i : ℕ) → has (marked_in p4.nv (front_at p4 r.c)) i ≡ true → (next aggressive t).bound i ≡ bounds i
@@ -107,13 +103,12 @@ module _ {g : Graph} {dense : ℕ → Bool} {nzaat : ℕ} {aggressive : Bool} {p
         clash {P = ⊥} (eq-eqb r.c r.c refl) (not-true (r.c == r.c) (filter_gives (λ j. not (j == r.c)) (by_bound t d) r.c a).1))
 
     apart_front : (d x : ℕ) → d < g.size → has (lists r p4 merges d) x ≡ true → has (front_at p4 r.c) x ≡ false
-    apart_front d x l h = ap (λ l. has l x) (front_stays r p4 merges ∙ front_after r ∙ sym (front_begun r))
+    apart_front d x l h = ap (λ l. has l x) (front_merged r p4 merges ∙ sym (front_begun r))
         ∙ not-true (has (front_at r.p2 r.c) x) (filter_gives (λ j. not (has (front_at r.p2 r.c) j)) (without r.c (by_bound t d)) x h).1
 
     pub linked_after : DegreeLists g.size v.head v.next v.last v.degree (by_bound (next aggressive t))
     linked_after = lists_same g.size v.head v.next v.last v.degree (put_all bounds (marked_in p4.nv (front_at p4 r.c)) (lists r p4 merges))
         (by_bound (next aggressive t))
-        (λ d l. by_bounds.by_bound_step t (next aggressive t) r.c (front_at r.p2 r.c) (marked_in p4.nv
-        (front_at p4 r.c)) bounds placed_after
-        bound_stays bound_again d)
+        (λ d l. by_bounds.by_bound_step t (next aggressive t) r.c (front_at r.p2 r.c) (marked_in p4.nv (front_at p4 r.c)) bounds
+        placed_after bound_stays bound_again d)
         (ended.linked (lists r p4 merges) apart_pivot apart_front (still_linked r p4 merges))

@@ -1,6 +1,6 @@
 -- The lists of a workspace through a round: which of them are left, and which read as before.
-use Rattle.std.proofs.Common.{ℕ, ℤ, pos, negsuc, Bool, true, false, List, ◌≡◌, ◌<◌, ◌≤◌, ◌+◌, ◌-◌, ◌&&◌, ◌⊎◌, not, inl, inr, refl, sym, ap}
-use Rattle.std.proofs.Common.{◌∙◌}
+use Rattle.std.proofs.Common.{ℕ, ℤ, pos, negsuc, Bool, true, false, List, ◌≡◌, ◌<◌, ◌≤◌, ◌+◌, ◌-◌, ◌&&◌, ◌⊎◌, not, inl, inr, refl, sym}
+use Rattle.std.proofs.Common.{ap, ◌∙◌}
 use Rattle.std.proofs.Common.{cond, arith, sum_by, filter}
 use Rattle.std.specs.Prelude.{nat_lt, ◌==◌}
 use Rattle.std.proofs.lemmas.Bool.{false≢true, cases_Bool, cases_eq, cond-true, cond-false, lt-ltb}
@@ -9,19 +9,19 @@ use Rattle.amd_model.specs.Graph.{Graph}
 use Rattle.amd_model.specs.State.{State}
 use Rattle.amd_model.specs.Quotient.{QuotientGraph, has}
 use Rattle.amd_model.proofs.Counting.Below.{clash}
-use Rattle.amd_model.proofs.Listings.Words.{filter_has, has_filter as filter_gives}
+use Rattle.amd_model.proofs.Listings.Words.{filter_has}
 use Rattle.amd_views.proofs.Lists.Named.{named_sum}
-use Rattle.amd_places.specs.Words.{num, word, place, is_place, start, size_of, classes, flip_of, rows_in}
+use Rattle.amd_places.specs.Words.{num, word, place, is_place, start, size_of, flip_of, rows_in}
 use Rattle.amd_places.specs.Layout.{has_list, elements_in, ReadsSame, live_words}
 use Rattle.amd_places.specs.Renewal.{is_kept, is_outside}
 use Rattle.amd_places.specs.Fronts.{is_done}
-use Rattle.amd_places.specs.Merging.{represents_in}
 use Rattle.amd_places.proofs.Frames.{has_parts, has_from, live_part}
 use Rattle.amd_inplace.specs.Workspaces.{Workspace}
 use Rattle.amd_inplace.specs.Parts.{MergesFront, EndsFront, front_at}
 use Rattle.amd_inplace.proofs.Begun as begun
 use Rattle.amd_inplace.proofs.Halves.{HalfRound, ends_by, begins_here, left_is, can_turn}
 use Rattle.amd_inplace.proofs.Turned.{in_front, front_after}
+use Rattle.amd_inplace.proofs.Merged as merging
 
 -- ---- words
 
@@ -80,14 +80,14 @@ module _ {g : Graph} {dense : ℕ → Bool} {nzaat : ℕ} {aggressive : Bool} {p
 
   module _ (p4 : Workspace) (merges : MergesFront g.size r.c (r.block + r.gone) (r.total - r.gone) r.p3 p4) (v : Workspace)
       (ended : EndsFront g.size r.c (r.block + r.gone) (r.total - r.gone) r.is_built p4 v) where
-    abbrev pub rest : List ℕ
-    rest = classes r.p3.nv (front_at r.p3 r.c)
+    abbrev rest : List ℕ
+    rest = merging.rest r p4 merges
 
-    abbrev pub into : ℕ → ℕ
-    into x = represents_in r.p3.iw r.p3.pe r.p3.e_len r.p3.len (classes r.p3.nv (front_at r.p3 r.c)) x
+    abbrev into : ℕ → ℕ
+    into = merging.into r p4 merges
 
-    abbrev pub merged : ℕ → Bool
-    merged x = has rest x && not (into x == x)
+    abbrev merged : ℕ → Bool
+    merged = merging.merged r p4 merges
 
     pub starts_stay : v.pe ≡ p4.pe
     starts_stay = ap (λ q. q.pe) ended.same
@@ -97,13 +97,6 @@ module _ {g : Graph} {dense : ℕ → Bool} {nzaat : ℕ} {aggressive : Bool} {p
 
     lengths_stay : p4.len ≡ r.p3.len
     lengths_stay = ap (λ q. q.len) merges.same
-
-    pub rest_front : (j : ℕ) → has rest j ≡ true → has r.begins.front j ≡ true
-    rest_front j h = sym (ap (λ l. has l j) (front_after r))
-        ∙ (filter_gives (λ x. nat_lt 0 (size_of r.p3.nv x)) (front_at r.p3 r.c) j h).0
-
-    pub not_rest : (j : ℕ) → has r.begins.front j ≡ false → has rest j ≡ false
-    not_rest j out = false_from_ne_true (has rest j) (λ h. clash {P = ⊥} (rest_front j h) out)
 
     -- a list that is left stands where it stood after the beginning
     pub place_after : (j : ℕ) → is_place (word v.pe j) ≡ true → (word v.pe j ≡ word r.p2.pe j) × (merged j ≡ false)
@@ -147,7 +140,7 @@ module _ {g : Graph} {dense : ℕ → Bool} {nzaat : ℕ} {aggressive : Bool} {p
         ∙ ap (λ b. cond (b && done j) (negsuc 0) (word all.counts j)) off in
         let listed3 : has_list r.p3.pe r.p3.len j ≡ true = has_same left r.p3.pe r.p3.len r.p3.len j start3 refl
         ∙ all.renewed.listed j ∙ listed in
-        let alone : merged j ≡ false = ap (λ b. b && not (into j == j)) (not_rest j out) in
+        let alone : merged j ≡ false = ap (λ b. b && not (into j == j)) (merging.not_rest r p4 merges j out) in
         let start4 : word p4.pe j ≡ word r.p3.pe j = merges.merged.links j ∙ cond-false _ (flip_of (into j)) (word r.p3.pe j) alone in
         let count4 : word p4.e_len j ≡ word r.p3.e_len j = merges.merged.lists j
         ∙ cond-false _ (negsuc 0) (word r.p3.e_len j) alone in

@@ -98,10 +98,9 @@ module _ {g : Graph} {dense : ℕ → Bool} {nzaat : ℕ} {aggressive : Bool} {p
     -- the border is live, and with the block it is what was live
     pub live_parts : (r.total - r.gone ≤ p4.live) × (p4.live + (r.block + r.gone) ≡ p.live)
     live_parts = finding.live_parts g dense aggressive (view_of p) t s r.st.view r.c (pivot_placed r) (pivot_least r) (front r)
-        (front_here r)
-        (kept_lists r) (view_of r.p3).parent beyond (absorbed r) (rest r p4 merges) (made r p4 merges) (into r p4 merges) (rest_is r)
-        (into_is r p4 merges) refl (r.total - r.gone) (r.block + r.gone) p4.live border_is block_is live_is retired joined (size_of p4.nv)
-        (λ x. refl) (λ x. refl) joined_is
+        (front_here r) (kept_lists r) (view_of r.p3).parent beyond (absorbed r) (rest r p4 merges) (made r p4 merges) (into r p4 merges)
+        (rest_is r) (into_is r p4 merges) refl (r.total - r.gone) (r.block + r.gone) p4.live border_is block_is live_is retired joined
+        (size_of p4.nv) (λ x. refl) (λ x. refl) joined_is
 
     pub live_few : p.live ≤ g.size
     live_few = finding.live_few g dense aggressive (view_of p) t s r.st.view r.c (pivot_placed r) (pivot_least r) (front r) (front_here r)
@@ -110,14 +109,13 @@ module _ {g : Graph} {dense : ℕ → Bool} {nzaat : ℕ} {aggressive : Bool} {p
     pub made_sizes : (i : ℕ) → has (made r p4 merges) i ≡ true →
         (size_of p4.nv i ≤ r.total - r.gone) × (size_of p4.nv i ≤ p4.live) × (0 < size_of p4.nv i)
     made_sizes = finding.made_sizes g dense aggressive (view_of p) t s r.st.view r.c (pivot_placed r) (pivot_least r) (front r)
-        (front_here r)
-        (kept_lists r) (view_of r.p3).parent beyond (absorbed r) (rest r p4 merges) (made r p4 merges) (into r p4 merges) (rest_is r)
-        (into_is r p4 merges) refl (r.total - r.gone) (r.block + r.gone) p4.live border_is block_is live_is retired joined (size_of p4.nv)
-        (λ x. refl) (λ x. refl) joined_is
+        (front_here r) (kept_lists r) (view_of r.p3).parent beyond (absorbed r) (rest r p4 merges) (made r p4 merges) (into r p4 merges)
+        (rest_is r) (into_is r p4 merges) refl (r.total - r.gone) (r.block + r.gone) p4.live border_is block_is live_is retired joined
+        (size_of p4.nv) (λ x. refl) (λ x. refl) joined_is
 
     -- block, border and the rows held last are no more than the rows
     pub all_rows : (r.block + r.gone) + ((r.total - r.gone) + p.n_dense) ≤ g.size + g.size
-    all_rows = finding.all_rows g dense aggressive (view_of p) t s r.st.view r.c (pivot_placed r) (pivot_least r) (front r) (front_here r)
-        (kept_lists r) (view_of r.p3).parent beyond (absorbed r) (rest r p4 merges) (made r p4 merges) (into r p4 merges) (rest_is r)
-        (into_is r p4 merges) refl (r.total - r.gone) (r.block + r.gone) p4.live border_is block_is live_is retired joined (size_of p4.nv)
-        (λ x. refl) (λ x. refl) joined_is
+    all_rows = finding.all_rows g dense aggressive (view_of p) t s r.st.view r.c (pivot_placed r) (pivot_least r) (front r)
+        (front_here r) (kept_lists r) (view_of r.p3).parent beyond (absorbed r) (rest r p4 merges) (made r p4 merges) (into r p4 merges)
+        (rest_is r) (into_is r p4 merges) refl (r.total - r.gone) (r.block + r.gone) p4.live border_is block_is live_is retired joined
+        (size_of p4.nv) (λ x. refl) (λ x. refl) joined_is

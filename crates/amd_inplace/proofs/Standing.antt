@@ -87,6 +87,11 @@ module _ (g : Graph) (dense : ℕ → Bool) (nzaat : ℕ) (p : Workspace) (t : Q
       | inr n ↦ absurd (let e : size_of p.nv i ≡ 0 = st.view.keeps.no_class i n in omega (arith, e, l))
     ]
 
+    -- the bound of a class is below the number of rows
+    pub bound_small : (i : ℕ) → has t.placed i ≡ true → t.bound i < g.size
+    bound_small i h = let a = st.view.keeps.small i h in let b = st.view.keeps.bound i h in let e = st.view.rows in
+        omega (arith, a, b, e)
+
     -- a class is in the state
     pub class_home : (i : ℕ) → has t.placed i ≡ true → s.home i ≡ Live i
     class_home i h = class_gives i (s.home i) (sym (st.view.fits.placed i) ∙ h)
@@ -114,8 +119,8 @@ module _ (g : Graph) (dense : ℕ → Bool) (nzaat : ℕ) (p : Workspace) (t : Q
         (λ q. true≢false (sym k ∙ standing_apart j (listed_stands i j h q)))
 
     -- a standing element has a mark, its block has rows, and its border is what its word says
-    pub standing_flip : (e : ℕ) → stands g s e ≡ true →
-        (is_flip (word p.e_len e) ≡ true) × (num p.degree e ≡ count_below g.size (s.border e))
+    pub standing_flip : (e : ℕ) → stands g s e ≡ true → (is_flip (word p.e_len e) ≡ true)
+        × (num p.degree e ≡ count_below g.size (s.border e))
     unfolding weight
     standing_flip e k =
         let z : ℤ = word p.e_len e in
@@ -161,8 +166,8 @@ module _ (g : Graph) (dense : ℕ → Bool) (nzaat : ℕ) (p : Workspace) (t : Q
     met_is : (xs : List ℕ) → ((i : ℕ) → has xs i ≡ true → has t.placed i ≡ true) → (e : ℕ) →
         met p.iw p.pe p.e_len p.nv xs e ≡ sum_by (λ i. cond (has (t.elements i) e) (t.size i) 0) xs
     met_is xs placed e =
-        sum_named (λ i. cond (has (elements_in p.iw p.pe p.e_len i) e) (size_of p.nv i) 0) (λ i. cond (has (t.elements i) e)
-        (t.size i) 0) xs
+        sum_named (λ i. cond (has (elements_in p.iw p.pe p.e_len i) e) (size_of p.nv i) 0)
+        (λ i. cond (has (t.elements i) e) (t.size i) 0) xs
         (λ i k. ap (λ l. cond (has l e) (size_of p.nv i) 0) (st.view.keeps.elements i (placed i k))
         ∙ ap (λ m. cond (has (t.elements i) e) m 0) (st.view.keeps.size i (placed i k)))
 
@@ -188,9 +193,8 @@ module _ (g : Graph) (dense : ℕ → Bool) (nzaat : ℕ) (p : Workspace) (t : Q
       front = front_of p.iw p.nv p.pe p.len c (place (word p.e_len c))
 
       pub front_is : front_of p.iw p.nv p.pe p.len c (place (word p.e_len c)) ≡ gathered t c
-      front_is = front_gathered g s t st.view.fits (view_of p) st.view.keeps p.iw p.nv p.pe p.len c (place
-          (word p.e_len c)) placed refl refl
-          refl refl
+      front_is = front_gathered g s t st.view.fits (view_of p) st.view.keeps p.iw p.nv p.pe p.len c (place (word p.e_len c)) placed refl
+          refl refl refl
 
       -- the front names classes, each once
       pub front_placed : (i : ℕ) → has front i ≡ true → has t.placed i ≡ true

@@ -2,8 +2,8 @@
 use Rattle.std.proofs.Common.{ℕ, ℤ, pos, negsuc, Bool, true, false, ◌∷◌, ◌++◌, ◌≡◌, ◌≤◌, ◌+◌, ◌-◌, ◌&&◌, inl, inr, refl, sym}
 use Rattle.std.proofs.Common.{ap, ◌∙◌, cond, arith, not, filter, sum_by}
 use Rattle.std.specs.Prelude.{nat_lt}
-use Rattle.std.proofs.lemmas.Bool.{false≢true, cases_Bool, cond-true, cond-false, and_right, lt-ltb, le-ltb, not_from_true, not_from_false}
-use Rattle.std.proofs.lemmas.Bool.{not-true}
+use Rattle.std.proofs.lemmas.Bool.{false≢true, cases_Bool, cond-true, cond-false, and_right, lt-ltb, le-ltb, not_from_true}
+use Rattle.std.proofs.lemmas.Bool.{not_from_false, not-true}
 use Rattle.std.proofs.lemmas.List.Filters.{sum_by-filter_both}
 use Rattle.amd_model.specs.Graph.{Graph}
 use Rattle.amd_model.specs.State.{State}

@@ -339,3 +339,36 @@ pub fn end_front<S: Signed, U: Unsigned>(
     work.free = free;
     work.figures.add_front(block, border + work.n_dense);
 }
+/// One round: chooses a pivot, makes its element, and gives the classes of the element their new lists, numbers of rows and bounds. A row
+/// must be live. The contract says what the workspace stands for, that its lists have no more words than before the first round, and when
+/// they are packed; what stands in words of no list, and in the places of rows that are neither class nor element, is left open.
+pub fn round<S: Signed, U: Unsigned>(work: &mut Work<'_, S, U>, control: &Control)
+    requires wide { IsNarrow S.MOST U.MOST (length work.old.nv.now) (workspace_of work.old) }
+    requires stands { (g : Graph) × (dense : ℕ → Bool) × (nzaat : ℕ) × (t : QuotientGraph) × (s : State) × Stands g dense nzaat (workspace_of work.old) t s }
+    requires left { 0 < work.old.live }
+    ensures round { IsRound control.now.aggressive (workspace_of work.old) (workspace_of work.new) }
+    ensures fewer { work.new.live < work.old.live }
+    ensures long { (length work.new.iw.now ≡ length work.old.iw.now) × (length work.new.nv.now ≡ length work.old.nv.now) }
+{
+    let me = pick(work);
+    let element = begin(work, me);
+    let gone = turn_over(work, me, control.aggressive);
+    let block = element.block + gone;
+    let border = element.total - gone;
+    merge_alike(work, me, block, border);
+    end_front(work, me, block, border, element.is_built);
+}
+
+/// Rounds until no row is live. The contract says what the workspace stands for; the lists were packed no more often than there are rows.
+pub fn eliminate<S: Signed, U: Unsigned>(work: &mut Work<'_, S, U>, control: &Control)
+    requires wide { IsNarrow S.MOST U.MOST (length work.old.nv.now) (workspace_of work.old) }
+    requires stands { (g : Graph) × (dense : ℕ → Bool) × (nzaat : ℕ) × (t : QuotientGraph) × (s : State) × Stands g dense nzaat (workspace_of work.old) t s }
+    ensures rounds { AreRounds control.now.aggressive (workspace_of work.old) (workspace_of work.new) }
+    ensures end { NoRowIsLive (workspace_of work.new) }
+    ensures packs { work.new.n_cmp_a ≤ length work.new.nv.now }
+    ensures long { (length work.new.iw.now ≡ length work.old.iw.now) × (length work.new.nv.now ≡ length work.old.nv.now) }
+{
+    'rounds: while work.live > 0 {
+        round(work, control);
+    }
+}
