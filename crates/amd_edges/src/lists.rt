@@ -1,6 +1,7 @@
 // The lists of the neighbours of each row, each in the order in which the walk over the edges meets those of its row: one after
 // another in a workspace, or each in a vector of its own. Each form has a visitor of the walk that fills it. Source: Amestoy,
-// Davis and Duff 2004. `plain_1` of the crate `amd_engine` starts from the vectors; the workspace is for an engine in place.
+// Davis and Duff 2004. `plain_1` of the crate `amd_engine` starts from the vectors; only tests call `neighbours`, which fills the one
+// workspace (the engine in place lays its words by `laying` of the crate `amd_workspace`).
 
 ghost use Rattle.std.specs.Prelude.{◌≡◌, ◌<◌, ◌≤◌, ℕ, [], pos, map, length, slice_index, slice_index_or, slice_range, IfOk};
 ghost use Rattle.std.specs.Vec.{vec_capacity};
@@ -26,6 +27,8 @@ pub struct Lists<A: Allocator> {
 impl<A: Allocator> Visitor for Lists<A> {
     ghost holds = { λ g seen arcs l. AreLists g seen arcs l.next.items l.rows.items };
 
+    ghost room = { λ l. length l.rows.items };
+
     fn arc(&mut self, i: usize, j: usize) {
         let place = self.next[i];
         self.rows[place] = j;
@@ -41,6 +44,8 @@ struct RowLists<A: Allocator> {
 
 impl<A: Allocator> Visitor for RowLists<A> {
     ghost holds = { λ g seen arcs l. AreRows g seen arcs (map (λ v. v.items) l.rows.items) (map vec_capacity l.rows.items) };
+
+    ghost room = { λ l. 0 };
 
     fn arc(&mut self, i: usize, j: usize) {
         self.rows[i].push_reserved(j);

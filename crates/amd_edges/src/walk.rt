@@ -1,7 +1,7 @@
 // A walk over the edges of a matrix: each edge is met once, whether the pattern holds it once or twice, and a visitor is told
 // both of its arcs. For each column in turn its upper entries are read, and with each of them the lower entries of that row's
 // own column that come before; a pointer of each column says how far it was read. Source: Amestoy, Davis and Duff 2004 (the
-// forming of A + A'). Called by `aat` of the crate `amd_input`, and by `lists`.
+// forming of A + A'). Called by `aat` of the crate `amd_input`, by `laying` of `amd_workspace`, and by `lists`.
 
 ghost use Rattle.std.specs.Prelude.{◌≡◌, ◌<◌, ◌≤◌, ◌+◌, ◌++◌, ◌∷◌, ℕ, Bool, List, [], true, false, pos, map, length, slice_index};
 ghost use Rattle.std.specs.Vec.{vec_capacity};
@@ -20,10 +20,14 @@ use std::alloc::Allocator;
 pub trait Visitor {
     ghost holds: { Graph → (ℕ → ℕ → Bool) → List (ℕ × ℕ) → Self → Type 0 };
 
+    // How much room it has: no arc changes it.
+    ghost room: { Self → ℕ };
+
     /// Takes the arc from `i` to `j`.
     fn arc(&mut self, i: usize, j: usize)
         requires { (g : Graph) × (seen : ℕ → ℕ → Bool) × (arcs : List (ℕ × ℕ)) × holds g seen arcs self.old × IsNew g seen i j }
-        ensures { (g : Graph) (seen : ℕ → ℕ → Bool) (arcs : List (ℕ × ℕ)) → holds g seen arcs self.old → IsNew g seen i j → holds g (with_arc seen i j) (arcs ++ (i, j) ∷ []) self.new };
+        ensures held { (g : Graph) (seen : ℕ → ℕ → Bool) (arcs : List (ℕ × ℕ)) → holds g seen arcs self.old → IsNew g seen i j → holds g (with_arc seen i j) (arcs ++ (i, j) ∷ []) self.new }
+        ensures kept { room self.new ≡ room self.old };
 }
 
 /// Reads the lower entries of column `j`, one of `size`, that were not read yet, up to row `k`.
@@ -46,6 +50,7 @@ fn lower<I: PrimInt, V: Visitor, A: Allocator>(
     ensures scan { IsScanOf size (map I.value a_p.now) (map I.value a_i.now) next.new.items k (j + 1) }
     ensures held { (arcs : List (ℕ × ℕ)) → V.holds (graph_read size (map I.value a_p.now) (map I.value a_i.now)) (met_read size (map I.value a_p.now) (map I.value a_i.now) next.old.items k (j + 1)) arcs visitor.old → V.holds (graph_read size (map I.value a_p.now) (map I.value a_i.now)) (met_read size (map I.value a_p.now) (map I.value a_i.now) next.new.items k (j + 1)) (arcs ++ arcs_of (met_below (entry_read size (map I.value a_p.now) (map I.value a_i.now)) k j)) visitor.new }
     ensures room { vec_capacity next.new ≡ vec_capacity next.old }
+    ensures kept { V.room visitor.new ≡ V.room visitor.old }
 {
     let end = count_at(a_p, j + 1);
     let mut place = next[j];
@@ -80,6 +85,7 @@ fn column<I: PrimInt, V: Visitor, A: Allocator>(
     ensures held { V.holds (graph_read size (map I.value a_p.now) (map I.value a_i.now)) (met_read size (map I.value a_p.now) (map I.value a_i.now) next.new.items (k + 1) 0) (arcs_of (edges_before (entry_read size (map I.value a_p.now) (map I.value a_i.now)) (k + 1))) visitor.new }
     ensures room { vec_capacity next.new ≡ vec_capacity next.old }
     ensures diagonal { result ≡ entry_read size (map I.value a_p.now) (map I.value a_i.now) k k }
+    ensures kept { V.room visitor.new ≡ V.room visitor.old }
 {
     let end = count_at(a_p, k + 1);
     let mut place = count_at(a_p, k);
@@ -111,6 +117,7 @@ fn rest<I: PrimInt, V: Visitor, A: Allocator>(
     requires scan { IsScanOf size (map I.value a_p.now) (map I.value a_i.now) next.old.items size 0 }
     requires held { V.holds (graph_read size (map I.value a_p.now) (map I.value a_i.now)) (met_read size (map I.value a_p.now) (map I.value a_i.now) next.old.items size 0) (arcs_of (edges_before (entry_read size (map I.value a_p.now) (map I.value a_i.now)) size)) visitor.old }
     ensures held { V.holds (graph_of size (map I.value a_p.now) (map I.value a_i.now)) ((graph_of size (map I.value a_p.now) (map I.value a_i.now)).edge) (arcs_of (met_edges size (is_pair size (map I.value a_p.now) (map I.value a_i.now)))) visitor.new }
+    ensures kept { V.room visitor.new ≡ V.room visitor.old }
 {
     'columns: for j in 0..size {
         lower(size, j, size, a_p, a_i, next, visitor);
@@ -138,6 +145,7 @@ pub fn walk<I: PrimInt, V: Visitor, A: Allocator>(
     requires held { V.holds (graph_of size (map I.value a_p.now) (map I.value a_i.now)) (λ a b. false) [] visitor.old }
     ensures held { V.holds (graph_of size (map I.value a_p.now) (map I.value a_i.now)) ((graph_of size (map I.value a_p.now) (map I.value a_i.now)).edge) (arcs_of (met_edges size (is_pair size (map I.value a_p.now) (map I.value a_i.now)))) visitor.new }
     ensures diagonals { result ≡ diagonal_count size (map I.value a_p.now) (map I.value a_i.now) }
+    ensures kept { V.room visitor.new ≡ V.room visitor.old }
 {
     let mut diagonals = 0;
     'columns: for k in 0..size {

@@ -1,5 +1,5 @@
 // The degrees of the rows of a matrix, and the figures of its pattern: those of the pattern of A + A' (Amestoy, Davis and Duff
-// 2004). Called by `order`.
+// 2004). Called by `order`, and by `facts` of the crate `amd_command`.
 
 ghost use Rattle.std.specs.Prelude.{◌≡◌, ◌<◌, ◌^◌, map, length, slice_index, unsigned_abs, IfOk, IfErr, OnOk, OnErr};
 ghost use Rattle.amd_model.specs.Below.{sum_below};
@@ -23,6 +23,8 @@ struct Counts<A: Allocator> {
 
 impl<A: Allocator> Visitor for Counts<A> {
     ghost holds = { λ g seen arcs v. AreCounts g seen v.degrees.items };
+
+    ghost room = { λ v. 0 };
 
     fn arc(&mut self, i: usize, j: usize) {
         self.degrees[i] += 1;

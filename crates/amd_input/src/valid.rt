@@ -1,5 +1,6 @@
 // Whether an input is a column form, and whether its columns are sorted. The rule is that of the AMD user guide; a fault in a
-// later column wins over a jumbled earlier one. Called by `order`.
+// later column wins over a jumbled earlier one. Called by `order`, by `columns` of the crate `amd_symbolic`, and by the crates of the command and
+// of C.
 
 ghost use Rattle.std.specs.Prelude.{◌<◌, ◌≤◌, length, map};
 ghost use Rattle.amd_numbers.specs.Statuses.{IsStatusOf};

@@ -1,23 +1,14 @@
--- What the start of the plain engine fills in, and numbers and tests of it.
-use Rattle.std.proofs.Common.{ℕ, zero, suc, Bool, true, false, Option, None, Some, List, [], Vec, ◌≡◌, ◌≤◌, ◌<◌, ◌+◌, ◌∙◌, ◌&&◌, ◌||◌, not}
-use Rattle.std.proofs.Common.{cond, max, ap, sym, refl, inl, inr, arith, length, replicate}
-use Rattle.std.specs.Prelude.{nat_lt, nat_eq, ◌==◌, ◌⊎◌}
-use Rattle.std.proofs.Math.Bool.{and-false}
-use Rattle.std.proofs.lemmas.Bool.{cases_eq, cases_lt, cond-false, eq-eqb, ne_eqb, lt-ltb, le-ltb}
+-- What the start of the plain engine fills in.
+use Rattle.std.proofs.Common.{ℕ, Bool, Option, None, List, [], Vec, ◌≡◌, ◌≤◌, ◌<◌, ◌+◌, ◌&&◌, max, inl, inr, arith, length, replicate}
+use Rattle.std.specs.Prelude.{nat_lt, ◌==◌}
+use Rattle.std.proofs.lemmas.Bool.{cases_lt}
 use Rattle.std.proofs.lemmas.List.{length-replicate, get_or-replicate, get_or_past}
 use Rattle.amd_model.specs.Below.{count_below, list_below}
-use Rattle.amd_model.specs.State.{Home, Last, Live, Gone, live}
-use Rattle.amd_model.specs.Figures.{front_sum, max_below, entries, ldl_steps, lu_steps, cut}
+use Rattle.amd_model.specs.Figures.{front_sum, entries, ldl_steps, lu_steps, cut}
+use Rattle.amd_views.specs.Starts.{class_of, block_of}
 use Rattle.amd_rounds.specs.Views.{num, some_at, list_at, ListsBelow}
-use Rattle.amd_rounds.specs.Keeps.{IsIdle, LinksLead}
+use Rattle.amd_rounds.specs.Keeps.{IsIdle}
 use Rattle.amd_rounds.specs.declared.work.Work.{Work}
-
--- the size of the class of a row, and of its block, by its degree and whether it is held last
-abbrev pub class_of : Bool → ℕ → ℕ
-class_of last d = cond (nat_lt 0 d && not last) 1 0
-
-abbrev pub block_of : Bool → ℕ → ℕ
-block_of last d = cond (nat_eq d 0 && not last) 1 0
 
 -- a number for each of n rows
 pub record Rows (n : ℕ) (numbers : List ℕ) (f : ℕ → ℕ) : Type 0 where
@@ -50,19 +41,6 @@ pub record Begun {A : Type 0} (rows : List (Vec ℕ A)) (degrees : List ℕ) (la
   pub greatest : w.figures.d_max ≡ max 1 (w.n_dense + 0)
   pub idle : IsIdle (length degrees) w.scratch
 
--- ---- numbers and tests
-
--- a row is a class if it is neither held last nor empty
-pub class_test : (last : Bool) (d : ℕ) → (nat_lt 0 d && not last) ≡ not (last || d == 0)
-class_test true d = and-false (nat_lt 0 d)
-class_test false d = elim (cases_eq d 0) [
-  | inl z ↦ ap (λ b. b && true) (le-ltb 0 d (omega (arith, z))) ∙ sym (ap not (eq-eqb d 0 z))
-  | inr nz ↦ ap (λ b. b && true) (lt-ltb 0 d (omega (arith, nz))) ∙ sym (ap not (ne_eqb d 0 nz))
-]
-
-pub add_none : (x y : ℕ) → x ≡ 0 → x + y ≡ y
-add_none x y e = omega (arith, e)
-
 -- what is nothing at each place
 pub none_at : (n i : ℕ) → some_at (nothing n) i ≡ None
 none_at n i = elim (cases_lt i n) [
@@ -73,35 +51,3 @@ none_at n i = elim (cases_lt i n) [
 -- no number past the last row
 pub past : (n : ℕ) (numbers : List ℕ) (f : ℕ → ℕ) → Rows n numbers f → (i : ℕ) → n ≤ i → num numbers i ≡ 0
 past n numbers f rows i l = get_or_past numbers i 0 (let e = rows.size in omega (arith, e, l))
-
--- the greatest of none
-pub max_none : (n : ℕ) (p : ℕ → Bool) (f : ℕ → ℕ) (d : ℕ) → ((k : ℕ) → p k ≡ false) → max_below n p f d ≡ d
-unfolding max_below
-max_none zero p f d h = refl
-max_none (suc n) p f d h = let here = cond-false (p n) (f n) 0 (h n) in let rest = max_none n p f d h in omega (arith, here, rest)
-
--- where a row is at the start
-pub home_cases : (v : ℕ) (a b : Bool) (h : Home) → h ≡ cond a Last (cond b (Gone v) (Live v)) → (h ≡ Live v) ⊎ (h ≡ Gone v) ⊎ (h ≡ Last)
-home_cases v true b h e = inr (inr e)
-home_cases v false true h e = inr (inl e)
-home_cases v false false h e = inl e
-
--- nothing is linked
-pub links_none : (n : ℕ) (home : ℕ → Home) → ((v : ℕ) → (home v ≡ Live v) ⊎ (home v ≡ Gone v) ⊎ (home v ≡ Last)) →
-    LinksLead (nothing n) home
-links_none n home h = record {
-  linked = λ v u e. absurd (no_link v u e);
-  alone = λ v e. h v;
-  free = λ v e. none_at n v;
-  last = λ v e. none_at n v;
-  rank = λ v. 0;
-  top = 0;
-  end = record {
-    rise = λ v u e. absurd (no_link v u e);
-    ends = λ v e. refl;
-    below = λ v u e. absurd (no_link v u e);
-  };
-}
-  where
-    no_link : (v u : ℕ) → some_at (nothing n) v ≡ Some u → ⊥
-    no_link v u e = let k = none_at n v in cc

@@ -167,8 +167,9 @@ fn shorten<A: Allocator>(
 
 /// The new element of the pivot absorbs elements, and the classes of its front keep what is left. The front and the pivot are
 /// marked before; nothing is after. `block` tells the number of rows of the block of each element, and `whole` that of block and
-/// border. `beyond` gets, for each element that holds a class of the front and not the pivot, the number of rows of its border in
-/// no class of the front. What `into` and the other places of `beyond` then hold is left open.
+/// border. `beyond` gets, for each element that holds a class of the front and not the pivot, the rows of block and border less those of
+/// the block and of each class of the front that lists it, 0 at least: in the rounds that is the number of rows of its border in no class
+/// of the front. What `into` and the other places of `beyond` then hold is left open.
 pub fn absorb<A: Allocator + Copy>(
     alloc: A,
     pivot: usize,

@@ -3,5 +3,6 @@ pub mod Added
 pub mod Cuts
 pub mod Named
 pub mod Pivots
+pub mod Rising
 pub mod Same
 pub mod Taken

@@ -2,3 +2,4 @@
 pub mod Views
 pub mod Rounds
 pub mod Keeps
+pub mod Starts

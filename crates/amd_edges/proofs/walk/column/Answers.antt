@@ -76,7 +76,7 @@ arc-requires-in-upper g c =
     let entry = entry_from (counts (map g.I.Number.value c.args.a_p.now)) (counts (map g.I.Number.value c.args.a_i.now)) c.args.size j k p
     r.k_in i.from (omega arith) (sym same) in
     let new = upper_new _ _ _ form t k m r.k_in i.scan j below entry (omega arith) gap in
-    (_, _, _, c.arc.ensures _ _ _ i.held new.0, new.1)
+    (_, _, _, c.arc.ensures.held _ _ _ i.held new.0, new.1)
 
 pub lower-requires : goal.lower-requires
 lower-requires g c =
@@ -103,7 +103,7 @@ lower-requires g c =
       held = (
         (arcs_of (edges_until pair k m) ++ (j, k) ∷ []) ++ (k, j) ∷ [],
         rw (← after)
-            (c.arc-in-upper.ensures _ _ _ (c.arc.ensures _ _ _ i.held new.0) new.1),
+            (c.arc-in-upper.ensures.held _ _ _ (c.arc.ensures.held _ _ _ i.held new.0) new.1),
       );
     }
 
@@ -135,9 +135,10 @@ upper-preserved g c =
         left = λ x y z. (let w = form.ascend k p x r.k_in i.from (omega arith) (omega arith) in omega arith);
         low = omega arith;
         room = e.room ∙ i.room;
+        kept = e.kept ∙ c.arc-in-upper.ensures.kept ∙ c.arc.ensures.kept ∙ i.kept;
         scan = e.scan;
         held = rw (← next) (e.held ((arcs_of (edges_until pair k m) ++ (j, k) ∷ []) ++ (k, j) ∷ [])
-            (rw (← after) (c.arc-in-upper.ensures _ _ _ (c.arc.ensures _ _ _ i.held new.0) new.1)));
+            (rw (← after) (c.arc-in-upper.ensures.held _ _ _ (c.arc.ensures.held _ _ _ i.held new.0) new.1)));
       },
     )
 
@@ -155,6 +156,7 @@ upper-init g c =
         left = λ x y z. omega arith;
         low = omega arith;
         room = refl;
+        kept = refl;
         scan = r.scan;
         held = rw (until_start (is_entry c.args.size (counts (map g.I.Number.value c.args.a_p.now))
             (counts (map g.I.Number.value c.args.a_i.now))) c.args.k) r.held;
@@ -199,6 +201,7 @@ returns g c =
             held = rw (edges, items, w.place-is, end_met _ _ _ form t k m r.k_in i.scan (p + 1) from (omega arith) behind rest uppers)
                 i.held;
             room = room;
+            kept = i.kept;
             diagonal = w.if-diagonal.true ∙ sym (entry_from _ _ _ k k p r.k_in i.from inside is.1);
           })
       | else-diagonal w ↦ (
@@ -210,6 +213,7 @@ returns g c =
             scan = rw (items, w.place-is) (end_scan _ _ _ form t k m r.k_in i.scan p i.from to behind rest uppers);
             held = rw (edges, items, w.place-is, end_met _ _ _ form t k m r.k_in i.scan p i.from to behind rest uppers) i.held;
             room = room;
+            kept = i.kept;
             diagonal = w.if-diagonal.false ∙ sym (exit_none _ _ _ form t k m r.k_in i.scan p i.from stop i.low i.read ne);
           })
     ]

@@ -15,6 +15,7 @@ invariant-upper g l = (m : ℕ) × record {
   left : (r : ℕ) → l.place ≤ r → r < l.end → m ≤ get_or (counts (map g.I.Number.value l.a_i)) r 0;
   low : m ≤ l.k;
   room : vec_capacity l.next ≡ vec_capacity l.fn.next;
+  kept : g.V.Visitor.room l.visitor ≡ g.V.Visitor.room l.fn.visitor;
   scan : IsScan l.fn.size (counts (map g.I.Number.value l.a_p)) (counts (map g.I.Number.value l.a_i)) l.next.items l.k m;
   held : g.V.Visitor.holds (count_graph l.fn.size (counts (map g.I.Number.value l.a_p)) (counts (map g.I.Number.value l.a_i)))
       (met l.fn.size (counts (map g.I.Number.value l.a_p)) (counts (map g.I.Number.value l.a_i)) l.next.items l.k m)

@@ -1,4 +1,4 @@
-use Rattle.std.proofs.Common.{inl, inr, ◌≡◌, ◌+◌, ◌<◌, ◌≤◌, ℕ, arith, length, map, get_or, refl}
+use Rattle.std.proofs.Common.{inl, inr, ◌≡◌, ◌+◌, ◌<◌, ◌≤◌, ℕ, arith, length, map, get_or, refl, ◌∙◌}
 use Rattle.std.proofs.lemmas.Bool.{cases_lt}
 use Rattle.std.proofs.lemmas.List.{append-nil, length-map, set-get_or}
 use Rattle.std.proofs.lemmas.Grind.{get_or_default_zero}
@@ -65,6 +65,7 @@ rows-init g c =
         read = λ x y z. absurd (omega (arith, is, y, z));
         left = λ x y z. omega arith;
         small = omega arith;
+        kept = refl;
         held = λ arcs h. rw (is, set-get_or, none, no_arcs, append-nil) h;
       },
     )
@@ -87,7 +88,7 @@ arc-requires-in-rows g c =
     let first = c.count_at.ensures.count in
     let new = lower_new _ _ _ (sorted_form _ _ _ r.form r.sorted) c.args.next.now.items c.args.k c.args.j c.rows.place r.scan r.before
     r.k_in i.from _ same (omega arith) (omega arith) in
-    (_, _, _, c.arc.ensures _ _ _ (i.held _ r.held.1) new.0, new.1)
+    (_, _, _, c.arc.ensures.held _ _ _ (i.held _ r.held.1) new.0, new.1)
 
 pub rows-preserved : goal.rows-preserved
 rows-preserved g c =
@@ -115,8 +116,9 @@ rows-preserved g c =
         ]);
         left = λ x y z. (let w = form.ascend j q x (omega arith) (omega arith) (omega arith) (omega arith) in omega arith);
         small = omega arith;
+        kept = c.arc-in-rows.ensures.kept ∙ c.arc.ensures.kept ∙ i.kept;
         held = λ arcs h. rw (← after, next, ← arcs_push arcs (met_above pair k j b) row j)
-            (c.arc-in-rows.ensures _ _ _ (c.arc.ensures _ _ _ (i.held arcs h) new.0) new.1);
+            (c.arc-in-rows.ensures.held _ _ _ (c.arc.ensures.held _ _ _ (i.held arcs h) new.0) new.1);
       },
     )
 
@@ -152,6 +154,7 @@ returns g c =
                   r.mirror,
             ) (i.held arcs h);
             room = refl;
+            kept = i.kept;
           })
       | else-place-end w ↦ (
           let other : q < get_or ap' (j + 1) 0 → k + 1 ≤ get_or ai q 0 = λ inside. elim w.else-place-end.branch [
@@ -165,5 +168,6 @@ returns g c =
                 (λ x y z. let v = rest x y z in omega arith));
             held = λ arcs h. rw (w.place-is, all) (i.held arcs h);
             room = refl;
+            kept = i.kept;
           })
     ]

@@ -1,5 +1,5 @@
 -- Once the last column was read, every edge was met.
-use Rattle.std.proofs.Common.{◌≡◌, map, arith}
+use Rattle.std.proofs.Common.{◌≡◌, map, arith, refl, ◌∙◌}
 use Rattle.amd_numbers.specs.Counts.{counts, is_entry}
 use Rattle.amd_edges.specs.Visits.{arcs_of}
 use Rattle.amd_edges.proofs.Forms.{sorted_form, same_graph}
@@ -24,7 +24,7 @@ lower-requires-clause-held g c =
 pub columns-init : goal.columns-init
 columns-init g c =
     let pair = is_entry c.args.size (counts (map g.I.Number.value c.args.a_p.now)) (counts (map g.I.Number.value c.args.a_i.now)) in
-    record { scan = c.requires.scan; held = rw (after_start pair c.args.size) c.requires.held }
+    record { kept = refl; scan = c.requires.scan; held = rw (after_start pair c.args.size) c.requires.held }
 
 pub columns-preserved : goal.columns-preserved
 columns-preserved g c =
@@ -33,6 +33,7 @@ columns-preserved g c =
     let form = sorted_form n _ _ c.requires.form c.requires.sorted in
     let next = after_next (is_entry n ap' ai) n c.columns.j in
     record {
+      kept = c.lower.ensures.kept ∙ c.columns.invariant.kept;
       scan = c.lower.ensures.scan;
       held = rw (← next)
           (c.lower.ensures.held (arcs_of (edges_after (is_entry n ap' ai) n c.columns.j))
@@ -51,4 +52,4 @@ returns g c =
     let s = rw f at i.scan in
     let h = rw f at i.held in
     let all = rw (done_met n ap' ai form c.columns.next.items s, after_end (is_entry n ap' ai) n) at h in
-    record { held = rw (graph, edges) all }
+    record { held = rw (graph, edges) all; kept = i.kept }

@@ -1,5 +1,5 @@
 -- The lower entries of the columns before `j` were read.
-use Rattle.std.proofs.Common.{map}
+use Rattle.std.proofs.Common.{◌≡◌, map}
 use Rattle.amd_numbers.specs.Counts.{counts, count_graph, is_entry}
 use Rattle.amd_edges.specs.Visits.{arcs_of}
 use Rattle.amd_edges.specs.Walk.{IsScan, met}
@@ -8,6 +8,7 @@ use Rattle.amd_edges.proofs.walk.rest.Given as goal
 
 abbrev pub invariant-columns : goal.invariant-columns
 invariant-columns g l = record {
+  kept : g.V.Visitor.room l.visitor ≡ g.V.Visitor.room l.fn.visitor;
   scan : IsScan l.fn.size (counts (map g.I.Number.value l.a_p)) (counts (map g.I.Number.value l.a_i)) l.next.items l.fn.size l.j;
   held : g.V.Visitor.holds (count_graph l.fn.size (counts (map g.I.Number.value l.a_p)) (counts (map g.I.Number.value l.a_i)))
       (met l.fn.size (counts (map g.I.Number.value l.a_p)) (counts (map g.I.Number.value l.a_i)) l.next.items l.fn.size l.j)

@@ -26,6 +26,7 @@ columns-init g c =
     record {
       count = refl;
       small = omega arith;
+      kept = refl;
       room = r.room;
       scan = start_scan n ap' ai form c.args.next.now.items r.empty;
       held = rw (
@@ -56,6 +57,7 @@ columns-preserved g c =
         | then-column w ↦ (let y = w.diagonals-is in let x = i.small in omega arith)
         | else-column w ↦ (let y = w.diagonals-is in let x = i.small in omega arith)
       ];
+      kept = e.kept ∙ i.kept;
       room = (let x = i.room in let y = e.room in omega (arith, x, y));
       scan = e.scan;
       held = e.held;
@@ -75,5 +77,6 @@ returns g c =
     let e : c.columns.k ≡ n = (let x = c.columns-test.false in let y = c.columns.auto.k-end in omega arith) in
     record {
       held = c.rest.ensures.held;
+      kept = c.rest.ensures.kept ∙ c.columns.invariant.kept;
       diagonals = rw e at c.columns.invariant.count ∙ sym (same_diagonals n _ _ c.requires.form);
     }

@@ -11,6 +11,7 @@ invariant-columns g l = record {
   count : l.diagonals ≡ count_below l.k (λ j. is_entry l.fn.size (counts (map g.I.Number.value l.a_p)) (counts (map g.I.Number.value l.a_i))
       j j);
   small : l.diagonals ≤ l.k;
+  kept : g.V.Visitor.room l.visitor ≡ g.V.Visitor.room l.fn.visitor;
   room : l.fn.size ≤ vec_capacity l.next;
   scan : IsScan l.fn.size (counts (map g.I.Number.value l.a_p)) (counts (map g.I.Number.value l.a_i)) l.next.items l.k 0;
   held : g.V.Visitor.holds (count_graph l.fn.size (counts (map g.I.Number.value l.a_p)) (counts (map g.I.Number.value l.a_i)))

@@ -4,7 +4,7 @@ use Rattle.std.proofs.lemmas.Bool.{lt-ltb, le-ltb}
 use Rattle.amd_model.specs.Below.{count_below, sum_below}
 use Rattle.amd_model.proofs.Counting.Below.{count_most}
 use Rattle.amd_rounds.specs.Views.{num}
-use Rattle.amd_rounds.proofs.StartLists.{count_yes, count_no}
+use Rattle.amd_views.proofs.Lists.Rising.{count_yes, count_no}
 use Rattle.amd_rounds.proofs.start.count_above.Goals as goal
 use Rattle.amd_rounds.proofs.start.count_above.Goals.{then-k-limit, else-k-limit}
 

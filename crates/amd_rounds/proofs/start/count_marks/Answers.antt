@@ -2,7 +2,7 @@ use Rattle.std.proofs.Common.{ℕ, arith, refl}
 use Rattle.amd_model.specs.Below.{count_below, sum_below}
 use Rattle.amd_model.proofs.Counting.Below.{count_most}
 use Rattle.amd_rounds.specs.Views.{at}
-use Rattle.amd_rounds.proofs.StartLists.{count_yes, count_no}
+use Rattle.amd_views.proofs.Lists.Rising.{count_yes, count_no}
 use Rattle.amd_rounds.proofs.start.count_marks.Goals as goal
 use Rattle.amd_rounds.proofs.start.count_marks.Goals.{then-mark, else-mark}
 

@@ -22,8 +22,8 @@ overflow_add-place g c =
     let short : length c.args.self.now.rows.items < 2 ^ 64 = search rules in
     omega (arith, here, room, value, short)
 
-pub returns : goal.returns
-returns g c = λ gr seen arcs h new.
+pub returns-clause-held : goal.returns-clause-held
+returns-clause-held g c = λ gr seen arcs h new.
     let size = h.size in let row = new.i_row in
     let here = get_or_default_zero c.args.self.now.next.items c.args.i c.index-place.result.now (omega arith) in
     lists_more gr seen arcs c.args.i c.args.j new c.args.self.now.next.items c.args.self.now.rows.items h c.index-place.result.now

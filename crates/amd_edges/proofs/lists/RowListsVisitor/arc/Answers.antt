@@ -11,8 +11,8 @@ push_reserved-requires g c =
     let len = v.ok.0 in
     omega (arith, room, len)
 
-pub returns : goal.returns
-returns g c = λ gr seen arcs h new.
+pub returns-clause-held : goal.returns-clause-held
+returns-clause-held g c = λ gr seen arcs h new.
     rows_more _ (λ v. v.items) vec_capacity gr seen arcs c.args.i c.args.j new c.args.self.now.rows.items h c.index_mut.result.now
     c.index_mut.ensures.value
     c.push_reserved.new.self c.push_reserved.ensures.items c.push_reserved.ensures.capacity

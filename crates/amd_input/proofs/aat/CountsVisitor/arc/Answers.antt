@@ -16,6 +16,6 @@ overflow_add-index_mut g c =
     let short : length c.args.self.now.degrees.items < 2 ^ 64 = search rules in
     omega (arith, room, size, count, here, value, short)
 
-pub returns : goal.returns
-returns g c = λ gr seen arcs h new. counts_more gr seen c.args.i c.args.j new c.args.self.now.degrees.items c.index_mut.result.now
+pub returns-clause-held : goal.returns-clause-held
+returns-clause-held g c = λ gr seen arcs h new. counts_more gr seen c.args.i c.args.j new c.args.self.now.degrees.items c.index_mut.result.now
     c.index_mut.ensures.value h
