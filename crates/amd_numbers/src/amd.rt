@@ -76,8 +76,7 @@ pub struct Info {
     pub nz_a_plus_at: usize,
     /// The number of dense rows.
     pub n_dense: usize,
-    /// How often the workspace was compacted. An engine whose lists have places of their own has no need to, and
-    /// tells 0.
+    /// How often the workspace was compacted: at most `n` times.
     pub n_cmp_a: usize,
     /// An upper bound on the entries of the factor `L` below the diagonal. Where it is below the greatest `usize`,
     /// room for so many entries is enough; this holds of the next three fields too.

@@ -1,9 +1,10 @@
 // Reading numbers of the caller's integer type, and making them. Later proofs speak of the integers alone, and never
 // of the laws of generic numbers. Called by `permutations`, by `walk` of the crate `amd_edges`, by the modules of
-// `amd_input`, and by `order`. Then links, which `amd_trees` and `blocks` of `amd_engine` use; and the shares of a
-// front in the figures, called by `figures`: the rule is that of the AMD user guide.
+// `amd_input`, by `rows` of `amd_listing`, by `order`, and by the crates of the exact factor and of C. Then links, which `amd_trees` and
+// `blocks` of `amd_engine` use, and `flip`, which tests alone call; and the shares of a front in the figures, called by `figures`: the
+// rule is that of the AMD user guide.
 
-ghost use Rattle.std.specs.Prelude.{◌≡◌, ◌<◌, ◌^◌, ◌↔◌, ◌<ℤ◌, IsTrue, length, map, pos, slice_index, slice_set};
+ghost use Rattle.std.specs.Prelude.{◌≡◌, ◌<◌, ◌^◌, ◌↔◌, ◌<ℤ◌, ◌-ℤ◌, IsTrue, length, map, negsuc, pos, slice_index, slice_set};
 ghost use Rattle.std.specs.Prelude.{unsigned_abs};
 ghost use Rattle.std.specs.Int.{FitsUnsignedBits};
 ghost use Rattle.num_traits.specs.Laws.{Checks, ChecksUnsigned};
@@ -116,6 +117,15 @@ pub fn front_counts(f: usize, r: usize) -> (usize, usize, usize)
 
 /// No place: the end of a list of links, and what an element without a parent has as parent.
 pub const EMPTY: isize = -1;
+
+/// The mark of a number, and the number of a mark: -2 less the number. The greatest `isize` alone has none.
+#[inline]
+pub fn flip(i: isize) -> isize
+    requires { i <ℤ pos 9223372036854775807 }
+    ensures { result ≡ negsuc 1 -ℤ i }
+{
+    -2 - i
+}
 
 /// The place that the link at a place names, if it names one.
 #[inline]

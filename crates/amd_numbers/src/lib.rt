@@ -7,5 +7,6 @@ pub mod amd;
 pub mod copies;
 pub mod dense;
 pub mod figures;
+pub mod held;
 pub mod internal;
 pub mod permutations;

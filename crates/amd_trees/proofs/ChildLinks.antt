@@ -93,6 +93,10 @@ module _ (nn : ℕ) (parent nv f_size : List ℤ) (forest : IsForest nn parent n
   element_small e h = Rattle.std.proofs.lemmas.Bool.ltb-true e nn
       (and_parts (Rattle.std.specs.Prelude.nat_lt e nn) (Rattle.std.specs.Prelude.int_lt (pos 0) (at nv e)) h).0
 
+  -- and so a parent is a place
+  pub parent_small : (j p : ℕ) → Some p ≡ cond (is_element (length nv) nv j) (named (at parent j)) None → p < nn
+  parent_small j p q = element_small p (child_gives p j (its_child j p q)).2
+
   -- ---- the heaviest child of each place
 
   -- what a place links to is an element, of which there is a size

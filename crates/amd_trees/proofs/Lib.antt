@@ -1,3 +1,4 @@
+pub mod FigureWrites
 pub mod Links
 pub mod ChildLinks
 pub mod ChildChains

@@ -1,6 +1,8 @@
-//! Trees in postorder: the numbers of the nodes of one tree, and those of a forest of elements. `amd_engine` calls it and hands
-//! it on.
+//! Trees in postorder: the numbers of the nodes of one tree, and those of a forest of elements. Their links and numbers
+//! are plain integers, or the figures and words of a workspace. Called by `amd_listing` and `amd_engine`, which hands it on.
 #![tactic(auto)]
 
+pub mod link;
+pub mod number;
 pub mod post_tree;
 pub mod postorder;

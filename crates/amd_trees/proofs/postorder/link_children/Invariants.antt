@@ -4,6 +4,8 @@ use Rattle.amd_trees.proofs.ChildChains.{AreLinkedFrom}
 use Rattle.amd_trees.proofs.postorder.link_children.Given as goal
 
 abbrev pub invariant-elements : goal.invariant-elements
-invariant-elements l = (f_size : List ℤ) → IsForest l.nn l.parent l.nv f_size →
-    AreHeaviest (tree_of l.nn l.parent l.nv f_size) l.nn l.heaviest →
-    AreLinkedFrom (tree_of l.nn l.parent l.nv f_size) l.j l.child l.sibling
+invariant-elements g l =
+    let parent = g.N.Number.read l.parent in let nv = g.N.Number.read l.nv in let links = g.L.Link.read in
+    (f_size : List ℤ) → IsForest l.nn parent nv f_size → AreHeaviest (tree_of l.nn parent nv f_size) l.nn (links l.heaviest) →
+    AreHeaviest (tree_of l.nn parent nv f_size) l.nn (links l.fn.child) →
+    AreLinkedFrom (tree_of l.nn parent nv f_size) l.j (links l.child) (links l.sibling)

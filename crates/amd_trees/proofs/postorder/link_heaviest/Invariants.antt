@@ -2,4 +2,7 @@ use Rattle.amd_trees.specs.Trees.{AreHeaviest, tree_of}
 use Rattle.amd_trees.proofs.postorder.link_heaviest.Given as goal
 
 abbrev pub invariant-elements : goal.invariant-elements
-invariant-elements l = AreHeaviest (tree_of l.nn l.parent l.nv l.f_size) l.j l.heaviest
+invariant-elements g l =
+    let read = g.N.Number.read in
+    let t = tree_of l.nn (read l.parent) (read l.nv) (read l.f_size) in
+    AreHeaviest t l.j (g.L.Link.read l.heaviest) × AreHeaviest t l.j (g.L.Link.read l.child)

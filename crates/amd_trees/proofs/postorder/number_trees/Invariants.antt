@@ -4,6 +4,7 @@ use Rattle.amd_trees.proofs.TreeNumbers.{AreNumbered}
 use Rattle.amd_trees.proofs.postorder.number_trees.Given as goal
 
 abbrev pub invariant-roots : goal.invariant-roots
-invariant-roots l = (f_size : List ℤ) → IsForest l.nn l.parent l.nv f_size →
-    AreLinked (tree_of l.nn l.parent l.nv f_size) l.fn.child l.sibling →
-    AreNumbered (tree_of l.nn l.parent l.nv f_size) l.j l.fn.child l.child l.order l.next
+invariant-roots g l =
+    let parent = g.N.Number.read l.parent in let nv = g.N.Number.read l.nv in let links = g.L.Link.read in
+    (f_size : List ℤ) → IsForest l.nn parent nv f_size → AreLinked (tree_of l.nn parent nv f_size) (links l.fn.child) (links l.sibling) →
+    AreNumbered (tree_of l.nn parent nv f_size) l.j (links l.fn.child) (links l.child) (links l.order) l.next

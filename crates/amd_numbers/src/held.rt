@@ -1,0 +1,17 @@
+// Whether a caller marked a row to be held last. Called by `last` of the crate `amd_engine`, and by `starting` of `amd_workspace`.
+
+ghost use Rattle.std.specs.Prelude.{◌≡◌, ◌<◌, ℕ};
+ghost use Rattle.std.specs.Option.{option_copied};
+ghost use Rattle.amd_model.specs.Input.Held.{HasMarks, is_marked};
+
+/// Whether a row is marked; without a list none is.
+#[inline]
+pub fn is_held(hold: Option<&[bool]>, row: usize) -> bool
+    requires within { (n : ℕ) × (row < n) × HasMarks (option_copied hold) n }
+    ensures { result ≡ is_marked (option_copied hold.entry) row }
+{
+    match hold {
+        Some(marks) => marks[row],
+        None => false,
+    }
+}
