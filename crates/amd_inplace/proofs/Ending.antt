@@ -100,10 +100,11 @@ module _ {g : Graph} {dense : ℕ → Bool} {nzaat : ℕ} {aggressive : Bool} {p
   }
 
   heads_marked : (b : ℕ) → b < g.size → num p4.hash b < g.size →
-      (has (marked_in p4.nv (front_at p4 r.c)) (num p4.hash b) ≡ true) × (num p4.last (num p4.hash b) ≡ b)
+      (1 < num p4.len r.c) × (has (marked_in p4.nv (front_at p4 r.c)) (num p4.hash b) ≡ true) × (num p4.last (num p4.hash b) ≡ b)
   heads_marked b l h = let q = merges.heads b l h in (
-    ap (λ xs. has xs (num p4.hash b)) (marked_made r p4 merges) ∙ sym (ap (λ xs. has xs (num p4.hash b)) merges.made) ∙ q.0,
-    ap (λ (w : Workspace). num w.last (num p4.hash b)) merges.same ∙ q.1,
+    (let a = q.0 in let f = ap (λ (w : Workspace). num w.len r.c) merges.same in omega (arith, a, f)),
+    ap (λ xs. has xs (num p4.hash b)) (marked_made r p4 merges) ∙ sym (ap (λ xs. has xs (num p4.hash b)) merges.made) ∙ q.1,
+    ap (λ (w : Workspace). num w.last (num p4.hash b)) merges.same ∙ q.2,
   )
 
   -- ---- lists by bound

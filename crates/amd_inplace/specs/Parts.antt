@@ -80,7 +80,7 @@ pub record MergesFront (n me block border : ℕ) (p v : Workspace) : Type 0 wher
       p.nv p.next v.pe v.e_len v.nv v.next
   pub made : classes v.nv (front_at p me) ≡ filter
       (λ i. represents_in p.iw p.pe p.e_len p.len (classes p.nv (front_at p me)) i == i) (classes p.nv (front_at p me))
-  pub heads : (b : ℕ) → b < n → num v.hash b < n → (has (classes v.nv (front_at p me)) (num v.hash b) ≡ true)
+  pub heads : (b : ℕ) → b < n → num v.hash b < n → (1 < num p.len me) × (has (classes v.nv (front_at p me)) (num v.hash b) ≡ true)
       × (num p.last (num v.hash b) ≡ b)
   pub linked : (lists : ℕ → List ℕ) → ((b x : ℕ) → b < n → has (lists b) x ≡ true → has (classes p.nv (front_at p me)) x ≡ false) →
       Links n p lists → Links n v lists

@@ -56,7 +56,7 @@ pub record CanEnd (n me block border : ℕ) (is_built : Bool) (p : Workspace) : 
   pub front : HasFront n me p
   pub classes : (i : ℕ) → has (front_at p me) i ≡ true → in_front p.nv i ≡ true → IsPlaceable n border p.nv p.degree p.last i
   pub order : (border ≤ p.live) × (p.live + block ≤ n)
-  pub heads : (b : ℕ) → b < n → num p.hash b < n → (has (marked_in p.nv (front_at p me)) (num p.hash b) ≡ true)
+  pub heads : (b : ℕ) → b < n → num p.hash b < n → (1 < num p.len me) × (has (marked_in p.nv (front_at p me)) (num p.hash b) ≡ true)
       × (num p.last (num p.hash b) ≡ b)
   pub linked : (lists : ℕ → List ℕ) × Links n p lists
       × ((b x : ℕ) → b < n → has (lists b) x ≡ true → has (front_at p me) x ≡ false)

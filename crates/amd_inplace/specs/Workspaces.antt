@@ -1,5 +1,6 @@
 -- What the slices of an elimination in one workspace say, as functions of a row, a class or an element.
-use Rattle.std.specs.Prelude.{ℕ, ℤ, pos, negsuc, zero, suc, Bool, true, false, Option, None, Some, List, ◌-◌, ◌==◌, cond, length}
+use Rattle.std.specs.Prelude.{ℕ, ℤ, pos, negsuc, zero, suc, Bool, true, false, Option, None, Some, List, ◌≡◌, ◌-◌, ◌==◌, cond}
+use Rattle.std.specs.Prelude.{length}
 use Rattle.amd_numbers.specs.declared.figures.Figures.{Figures}
 use Rattle.amd_views.specs.Views.{View}
 use Rattle.amd_places.specs.Words.{num, word, size_of}
@@ -51,6 +52,11 @@ workspace_of w = record {
   n_dense = w.n_dense;
   figures = w.figures;
 }
+
+-- the lists that are read at the end are those that were lent
+abbrev pub KeepsLoans : {S U : Type 0} → Work S U → Work S U → Type 0
+KeepsLoans old new = (new.pe.ghost_name ≡ old.pe.ghost_name) × (new.e_len.ghost_name ≡ old.e_len.ghost_name)
+    × (new.nv.ghost_name ≡ old.nv.ghost_name) × (new.degree.ghost_name ≡ old.degree.ghost_name)
 
 -- what a mark names, and nothing for a place and for the mark that names nothing
 unfoldable pub owner_of : ℤ → Option ℕ

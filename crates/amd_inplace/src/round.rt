@@ -1,6 +1,6 @@
 // The rounds of an elimination in one workspace. A round chooses a pivot, makes its element, turns the classes of its front over to it,
-// merges those that are alike, and places what is left by new bounds. Source: Amestoy, Davis and Duff 1996 and 2004. Called by the engine
-// in place. A part that only reads some slices is called through a function that is lent all of them for writing.
+// merges those that are alike, and places what is left by new bounds. Source: Amestoy, Davis and Duff 1996 and 2004. Called by
+// `running` of the crate `amd_engine`. A part that only reads some slices is called through a function that is lent all of them for writing.
 
 ghost use Rattle.std.specs.Prelude.{◌≡◌, ◌<◌, ◌≤◌, ◌+◌, ◌^◌, ◌==◌, pos, ℕ, Bool, List, [], true, false, length, filter, sum_by};
 ghost use Rattle.amd_model.specs.Graph.{Graph};
@@ -14,7 +14,7 @@ ghost use Rattle.amd_places.specs.Beginning.{Begins};
 ghost use Rattle.amd_places.specs.Merging.{AreRenewed, MergesAll, represents_in};
 ghost use Rattle.amd_places.specs.Restoring.{marked_in, bound_in, put_all, IsPlaceable, Restores};
 ghost use Rattle.amd_places.specs.Renewal.{Filters};
-ghost use Rattle.amd_inplace.specs.Workspaces.{workspace_of};
+ghost use Rattle.amd_inplace.specs.Workspaces.{workspace_of, KeepsLoans};
 ghost use Rattle.amd_inplace.specs.Laid.{IsSized, IsNarrow, IsLaid};
 ghost use Rattle.amd_inplace.specs.Parts.{Picks, BeginsElement, TurnsOver, MergesFront, EndsFront};
 ghost use Rattle.amd_inplace.specs.Premises.{CanBegin, CanTurn, CanMerge, CanEnd};
@@ -58,6 +58,7 @@ pub fn pick<S: Signed, U: Unsigned>(work: &mut Work<'_, S, U>) -> usize
     requires sized { IsSized (length work.old.nv.now) (workspace_of work.old) }
     requires some { SomeFrom (length work.old.nv.now) work.old.head.now work.old.least }
     ensures picks { Picks (length work.old.nv.now) result (workspace_of work.old) (workspace_of work.new) }
+    ensures loans { KeepsLoans work.old work.new }
 {
     let least = work.least;
     let (me, bound) = choose(work.head, work.next, work.last, least);
@@ -100,6 +101,7 @@ fn begin_in_place<S: Signed, U: Unsigned>(work: &mut Work<'_, S, U>, me: usize) 
     requires pivot { CanBegin (length work.old.nv.now) me (workspace_of work.old) }
     requires count { word work.old.e_len.now me ≡ pos 0 }
     ensures begins { BeginsElement (length work.old.nv.now) me result.block result.total result.is_built (workspace_of work.old) (workspace_of work.new) }
+    ensures loans { KeepsLoans work.old work.new }
 {
     let free = work.free;
     let begun = begin_own_lent(work.iw, work.nv, work.e_len, work.len, work.pe, me, free);
@@ -118,6 +120,7 @@ fn begin_behind<S: Signed, U: Unsigned>(work: &mut Work<'_, S, U>, me: usize) ->
     requires count { 0 < place (word work.old.e_len.now me) }
     requires left { 0 < work.old.live }
     ensures begins { BeginsElement (length work.old.nv.now) me result.block result.total result.is_built (workspace_of work.old) (workspace_of work.new) }
+    ensures loans { KeepsLoans work.old work.new }
 {
     let free = work.free;
     let begun = begin_built(
@@ -139,6 +142,7 @@ pub fn begin<S: Signed, U: Unsigned>(work: &mut Work<'_, S, U>, me: usize) -> El
     requires pivot { CanBegin (length work.old.nv.now) me (workspace_of work.old) }
     requires left { 0 < work.old.live }
     ensures begins { BeginsElement (length work.old.nv.now) me result.block result.total result.is_built (workspace_of work.old) (workspace_of work.new) }
+    ensures loans { KeepsLoans work.old work.new }
 {
     let n_elements = named_lent(work.e_len, me);
     if n_elements == 0 {
@@ -158,6 +162,7 @@ pub fn turn_over<S: Signed, U: Unsigned>(
     requires sized { IsSized (length work.old.nv.now) (workspace_of work.old) }
     requires front { CanTurn (length work.old.nv.now) me (workspace_of work.old) }
     ensures turns { TurnsOver aggressive (length work.old.nv.now) me result U.MOST (workspace_of work.old) (workspace_of work.new) }
+    ensures loans { KeepsLoans work.old work.new }
 {
     let free = work.free;
     let before = work.flag;
@@ -209,7 +214,7 @@ fn merge_list<S: Signed, U: Unsigned>(
     requires empty { (b : ℕ) → b < length next.old → length next.old ≤ num hash.old b }
     ensures merged { MergesAll (classes nv.old (list_in iw.old pe.old len.old me)) (represents_in iw.old pe.old e_len.old len.old (classes nv.old (list_in iw.old pe.old len.old me))) pe.old e_len.old nv.old next.old pe.new e_len.new nv.new next.new }
     ensures made { classes nv.new (list_in iw.old pe.old len.old me) ≡ filter (λ i. represents_in iw.old pe.old e_len.old len.old (classes nv.old (list_in iw.old pe.old len.old me)) i == i) (classes nv.old (list_in iw.old pe.old len.old me)) }
-    ensures heads { (b : ℕ) → b < length next.old → num hash.new b < length next.old → (has (classes nv.new (list_in iw.old pe.old len.old me)) (num hash.new b) ≡ true) × (num last.old (num hash.new b) ≡ b) }
+    ensures heads { (b : ℕ) → b < length next.old → num hash.new b < length next.old → (1 < num len.old me) × (has (classes nv.new (list_in iw.old pe.old len.old me)) (num hash.new b) ≡ true) × (num last.old (num hash.new b) ≡ b) }
     ensures linked { (head degree : List ℕ) (lists : ℕ → List ℕ) → ((b x : ℕ) → b < length next.old → has (lists b) x ≡ true → has (classes nv.old (list_in iw.old pe.old len.old me)) x ≡ false) → DegreeLists (length next.old) head next.old last.old degree lists → DegreeLists (length next.old) head next.new last.new degree lists }
     ensures lengths { (length pe.new ≡ length next.old) × (length e_len.new ≡ length next.old) × (length nv.new ≡ length next.old) }
     ensures more_lengths { (length w.new ≡ length next.old) × (length hash.new ≡ length next.old) × (length next.new ≡ length next.old) }
@@ -237,6 +242,7 @@ pub fn merge_alike<S: Signed, U: Unsigned>(
     requires sized { IsSized (length work.old.nv.now) (workspace_of work.old) }
     requires front { CanMerge (length work.old.nv.now) me block border U.MOST (workspace_of work.old) }
     ensures merges { MergesFront (length work.old.nv.now) me block border (workspace_of work.old) (workspace_of work.new) }
+    ensures loans { KeepsLoans work.old work.new }
 {
     work.live -= block;
     work.most = work.most.max(border);
@@ -274,7 +280,7 @@ fn place_list<S: Signed, U: Unsigned>(
     requires once { Once (list_in iw.old pe.old len.old me) }
     requires classes { (i : ℕ) → has (list_in iw.old pe.old len.old me) i ≡ true → in_front nv.old i ≡ true → IsPlaceable (length next.old) border nv.old degree.old last.old i }
     requires order { (border ≤ left) × (left ≤ length next.old) }
-    requires heads { (b : ℕ) → b < length next.old → num hash.old b < length next.old → (has (marked_in nv.old (list_in iw.old pe.old len.old me)) (num hash.old b) ≡ true) × (num last.old (num hash.old b) ≡ b) }
+    requires heads { (b : ℕ) → b < length next.old → num hash.old b < length next.old → (1 < num len.old me) × (has (marked_in nv.old (list_in iw.old pe.old len.old me)) (num hash.old b) ≡ true) × (num last.old (num hash.old b) ≡ b) }
     requires linked { (lists : ℕ → List ℕ) × DegreeLists (length next.old) head.old next.old last.old degree.old lists × ((b x : ℕ) → b < length next.old → has (lists b) x ≡ true → has (list_in iw.old pe.old len.old me) x ≡ false) }
     ensures from { result.0 ≡ start pe.old me }
     ensures filters { Filters (length next.old) (in_front nv.old) (λ j. 0) 0 iw.old result.0 (num len.old me) result.0 iw.new result.1 0 }
@@ -306,6 +312,7 @@ pub fn end_front<S: Signed, U: Unsigned>(
     requires sized { IsSized (length work.old.nv.now) (workspace_of work.old) }
     requires front { CanEnd (length work.old.nv.now) me block border is_built (workspace_of work.old) }
     ensures ends { EndsFront (length work.old.nv.now) me block border is_built (workspace_of work.old) (workspace_of work.new) }
+    ensures loans { KeepsLoans work.old work.new }
 {
     let left = work.live;
     let low = work.least;
@@ -349,6 +356,7 @@ pub fn round<S: Signed, U: Unsigned>(work: &mut Work<'_, S, U>, control: &Contro
     ensures round { IsRound control.now.aggressive (workspace_of work.old) (workspace_of work.new) }
     ensures fewer { work.new.live < work.old.live }
     ensures long { (length work.new.iw.now ≡ length work.old.iw.now) × (length work.new.nv.now ≡ length work.old.nv.now) }
+    ensures loans { KeepsLoans work.old work.new }
 {
     let me = pick(work);
     let element = begin(work, me);
@@ -367,6 +375,7 @@ pub fn eliminate<S: Signed, U: Unsigned>(work: &mut Work<'_, S, U>, control: &Co
     ensures end { NoRowIsLive (workspace_of work.new) }
     ensures packs { work.new.n_cmp_a ≤ length work.new.nv.now }
     ensures long { (length work.new.iw.now ≡ length work.old.iw.now) × (length work.new.nv.now ≡ length work.old.nv.now) }
+    ensures loans { KeepsLoans work.old work.new }
 {
     'rounds: while work.live > 0 {
         round(work, control);

@@ -1,7 +1,7 @@
 -- The classes that are left of a front go back into the lists by bound, one after another.
 use Rattle.amd_model.proofs.Counting.Below.{clash}
 use Rattle.std.proofs.Common.{ℕ, zero, suc, ℤ, true, false, List, [], ◌∷◌, ◌++◌, ◌≡◌, ◌<◌, ◌≤◌, ◌+◌}
-use Rattle.std.proofs.Common.{◌-◌, ◌⊎◌, ◌||◌, inl, inr, refl, sym, ap}
+use Rattle.std.proofs.Common.{◌-◌, ◌⊎◌, ◌||◌, inl, inr, refl, sym, subst, ap}
 use Rattle.std.proofs.Common.{◌∙◌, arith, cond, length, set, get_or-set_same, get_or-set_other, append-nil}
 use Rattle.std.specs.Prelude.{nat_lt, ◌==◌}
 use Rattle.std.proofs.Math.Bool.{or-false}
@@ -107,8 +107,8 @@ module _ (n : ℕ) (iw nv : List ℤ) (from count : ℕ) (hash0 last : List ℕ)
   unfolding has
   emptying_none = record { full = λ b l s. (refl, ap (λ xs. has xs (num hash0 b)) (rows_start iw from)) }
 
-  module _ (heads : (b : ℕ) → b < n → num hash0 b < n → (has (marked_in nv (rows iw from count)) (num hash0 b) ≡ true) × (num last
-      (num hash0 b) ≡ b))
+  module _ (heads : (b : ℕ) → b < n → num hash0 b < n → (1 < count) × (has (marked_in nv (rows iw from count)) (num hash0 b) ≡ true)
+      × (num last (num hash0 b) ≡ b))
     where
       module _ (k i : ℕ) (is : i ≡ place (word iw (from + k))) (hash : List ℕ) (st : Emptying n iw from hash0 k hash) where
         still : (x : ℕ) → has (rows iw from k) x ≡ false → (x ≡ i → ⊥) → has (rows iw from (k + 1)) x ≡ false
@@ -120,23 +120,38 @@ module _ (n : ℕ) (iw nv : List ℤ) (from count : ℕ) (hash0 last : List ℕ)
             p.0,
             still (num hash0 b) p.1 (λ q.
                 clash {P = ⊥} (ap (in_front nv) (sym q) ∙ (filter_gives (in_front nv) (rows iw from count) (num hash0 b)
-                (heads b l (omega (arith, s, e))).0).1) f),
+                (heads b l (omega (arith, s, e))).1).1) f),
           ));
         }
 
-        pub emptying_clears : num last i < n → length hash ≡ n → Emptying n iw from hash0 (k + 1) (set hash (num last i) n)
-        emptying_clears small long = record {
+        clears : num last i < n → length hash ≡ n → Emptying n iw from hash0 (k + 1) (set hash (num last i) n)
+        clears small long = record {
           full = λ b l s. elim (cases_eq b (num last i)) [
             | inl e ↦ (let v = ap (num (set hash (num last i) n)) e ∙ get_or-set_same hash (num last i) n 0 (omega (arith, small, long)) in
                 absurd (omega (arith, s, v)))
             | inr ne ↦ (let v = get_or-set_other hash (num last i) b n 0 ne in let p = st.full b l (omega (arith, s, v)) in let e = p.0 in
-                (v ∙ p.0, still (num hash0 b) p.1 (λ q. ne (sym (heads b l (omega (arith, s, v, e))).1 ∙ ap (num last) q))))
+                (v ∙ p.0, still (num hash0 b) p.1 (λ q. ne (sym (heads b l (omega (arith, s, v, e))).2 ∙ ap (num last) q))))
           ];
         }
+
+        -- no bucket was used for one row
+        stays : nat_lt 1 count ≡ false → Emptying n iw from hash0 (k + 1) hash
+        stays few = record {
+          full = λ b l s. (let e = (st.full b l s).0 in let m = (heads b l (omega (arith, s, e))).0 in let f = ltb-false 1 count few in
+              absurd (omega (arith, m, f)));
+        }
+
+        pub emptying_clears : num last i < n → length hash ≡ n →
+            Emptying n iw from hash0 (k + 1) (cond (nat_lt 1 count) (set hash (num last i) n) hash)
+        emptying_clears small long = elim (cases_Bool (nat_lt 1 count)) [
+          | inl t ↦ subst (Emptying n iw from hash0 (k + 1)) (sym (cond-true (nat_lt 1 count) (set hash (num last i) n) hash t))
+              (clears small long)
+          | inr f ↦ subst (Emptying n iw from hash0 (k + 1)) (sym (cond-false (nat_lt 1 count) (set hash (num last i) n) hash f)) (stays f)
+        ]
 
       pub emptying_all : (hash : List ℕ) → Emptying n iw from hash0 count hash → (b : ℕ) → b < n → n ≤ num hash b
       emptying_all hash st b l = elim (cases_Bool (nat_lt (num hash b) n)) [
         | inr f ↦ ltb-false (num hash b) n f
         | inl t ↦ (let s = ltb-true (num hash b) n t in let p = st.full b l s in let e = p.0 in
-            clash (filter_gives (in_front nv) (rows iw from count) (num hash0 b) (heads b l (omega (arith, s, e))).0).0 p.1)
+            clash (filter_gives (in_front nv) (rows iw from count) (num hash0 b) (heads b l (omega (arith, s, e))).1).0 p.1)
       ]

@@ -33,6 +33,7 @@ pub mod MergeState
 pub mod MergeWalk
 pub mod MergeEnds
 pub mod MergeLink
+pub mod FewMerged
 pub mod Meeting
 pub mod MakingRoom
 pub mod Beginnings

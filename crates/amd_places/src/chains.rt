@@ -1,6 +1,6 @@
 // The classes by bound: a list for each bound, linked both ways, with the class that was put in last at its head. The number of rows
 // stands for no row. Source: Amestoy, Davis and Duff 1996 (degree lists). Called by each part of a round in which a class gets or loses its
-// bound.
+// bound, and by the start of an elimination (`starting` of the crate `amd_workspace`).
 
 ghost use Rattle.std.specs.Prelude.{◌≡◌, ◌<◌, ◌≤◌, ℕ, true, false, List, ◌∷◌, ◌==◌, cond, length, slice_set};
 ghost use Rattle.amd_model.specs.Quotient.{has};

@@ -11,7 +11,7 @@ use crate::words::put_flip;
 use amd_cells::{Figure, Signed, Unsigned, Word, put_figure};
 
 /// Closes the element `me`, whose list stands from `from` to `end` now: writes its length, the rows of block and border together, and
-/// those of the border. If no other list ends behind `from`, the free end goes back to `end`.
+/// those of the border. If no other list ends behind `from`, the free end may go back to `end`; the caller moves it.
 pub fn close<S: Signed, U: Unsigned>(
     e_len: &mut [Word<S>],
     len: &mut [Figure<U>],

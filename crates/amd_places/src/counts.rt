@@ -1,7 +1,8 @@
 // For each element that a class of the front lists: the rows of its border outside the front. One step for each pair of a class and an
 // element that it lists. A counter is 0 for what is no standing element or class, and below the flag if it was not met. In the same
 // pass the classes leave the lists by bound, and with `aggressive` an element without rows outside ends.
-// Source: Amestoy, Davis and Duff 1996 (approximate external degree, aggressive absorption). Called by `turning`.
+// Source: Amestoy, Davis and Duff 1996 (approximate external degree, aggressive absorption). Called by `turning`, and the renewal of the
+// flag by `round` of the crate `amd_inplace`.
 
 ghost use Rattle.std.specs.Prelude.{◌≡◌, ◌<◌, ◌≤◌, ◌+◌, ◌-◌, ◌^◌, ◌==◌, ◌&&◌, not, cond, filter, ℕ, List, Bool, true, false, length};
 ghost use Rattle.amd_model.specs.Quotient.{has, Once};

@@ -250,9 +250,10 @@ fn is_class<S: Signed>(nv: &[Word<S>], i: usize) -> bool
     word_at(nv, i) != 0
 }
 
-/// Merges the classes of a new element that keep the same elements and variables, from the last one of its list to the first: the last
-/// one represents the others, and the classes that are left are its representatives. The buckets are empty before; after it the head of
-/// each one that is not is a class that is left, with the key of the bucket. Answers the next flag.
+/// Merges the classes of a new element that keep the same elements and variables, from the last one of its list to the
+/// first: the last one represents the others, and the classes that are left are its representatives. The buckets are
+/// empty before; after it the head of each one that is not is a class that is left, with the key of the bucket. Where
+/// the list names one row at most, all stays as it is. Answers the next flag.
 pub fn merge_front<S: Signed, U: Unsigned>(
     iw: &[Word<S>],
     pe: &mut [Word<S>],
@@ -280,13 +281,16 @@ pub fn merge_front<S: Signed, U: Unsigned>(
     requires empty { (b : ℕ) → b < length next.old → length next.old ≤ num hash.old b }
     ensures merged { MergesAll (classes nv.old (rows iw.now from count)) (represents_in iw.now pe.old e_len.old len.now (classes nv.old (rows iw.now from count))) pe.old e_len.old nv.old next.old pe.new e_len.new nv.new next.new }
     ensures made { classes nv.new (rows iw.now from count) ≡ filter (λ i. represents_in iw.now pe.old e_len.old len.now (classes nv.old (rows iw.now from count)) i == i) (classes nv.old (rows iw.now from count)) }
-    ensures heads { (b : ℕ) → b < length next.old → num hash.new b < length next.old → (has (classes nv.new (rows iw.now from count)) (num hash.new b) ≡ true) × (num last.now (num hash.new b) ≡ b) }
+    ensures heads { (b : ℕ) → b < length next.old → num hash.new b < length next.old → (1 < count) × (has (classes nv.new (rows iw.now from count)) (num hash.new b) ≡ true) × (num last.now (num hash.new b) ≡ b) }
     ensures linked { (head degree : List ℕ) (lists : ℕ → List ℕ) → ((b x : ℕ) → b < length next.old → has (lists b) x ≡ true → has (classes nv.old (rows iw.now from count)) x ≡ false) → DegreeLists (length next.old) head next.old last.now degree lists → DegreeLists (length next.old) head next.new last.now degree lists }
     ensures lengths { (length pe.new ≡ length next.old) × (length e_len.new ≡ length next.old) × (length nv.new ≡ length next.old) × (length w.new ≡ length next.old) × (length hash.new ≡ length next.old) × (length next.new ≡ length next.old) }
     ensures flag { (flag ≤ result) × (result ≤ flag + count) }
     ensures under { (x : ℕ) → num w.new x < result }
     ensures zeros { (x : ℕ) → (num w.new x == 0) ≡ (num w.old x == 0) }
 {
+    if count < 2 {
+        return flag;
+    }
     let mut now = flag;
     let mut left = count;
     'classes: while left > 0 {

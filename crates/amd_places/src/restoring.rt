@@ -23,7 +23,19 @@ fn new_bound(reach: usize, size: usize, border: usize, left: usize) -> usize
     (reach + (border - size)).min(left - size)
 }
 
-/// Takes the mark off a class, empties its bucket, and puts it at the head of the list of its new bound. Answers that bound.
+/// Empties the bucket of a class if buckets are used.
+fn empty_bucket<U: Unsigned>(hash: &mut [Figure<U>], last: &[Figure<U>], i: usize, is_used: bool)
+    requires class { (i < length last.now) × (num last.now i < length hash.old) }
+    requires short { length hash.old ≤ U.MOST }
+    ensures { hash.new ≡ cond is_used (slice_set hash.old (num last.now i) (length hash.old)) hash.old }
+{
+    if is_used {
+        put_figure(hash, figure_at(last, i), hash.len());
+    }
+}
+
+/// Takes the mark off a class, empties its bucket if buckets are used, and puts it at the head of the list of its new
+/// bound. Answers that bound.
 fn place_class<S: Signed, U: Unsigned>(
     nv: &mut [Word<S>],
     degree: &mut [Figure<U>],
@@ -34,6 +46,7 @@ fn place_class<S: Signed, U: Unsigned>(
     i: usize,
     border: usize,
     left: usize,
+    is_used: bool,
 ) -> usize
     requires lengths { (length nv.old ≡ length next.old) × (length degree.old ≡ length next.old) × (length head.old ≡ length next.old) × (length last.old ≡ length next.old) × (length hash.old ≡ length next.old) }
     requires short { (length next.old + 2 ≤ S.MOST) × (length next.old ≤ U.MOST) }
@@ -46,20 +59,21 @@ fn place_class<S: Signed, U: Unsigned>(
     ensures marks { (j : ℕ) → in_front nv.new j ≡ (in_front nv.old j && not (i == j)) }
     ensures bound { result ≡ bound_in border left nv.old degree.old i }
     ensures degrees { degree.new ≡ slice_set degree.old i result }
-    ensures emptied { hash.new ≡ slice_set hash.old (num last.old i) (length next.old) }
+    ensures emptied { hash.new ≡ cond is_used (slice_set hash.old (num last.old i) (length next.old)) hash.old }
     ensures lasts { (x : ℕ) → (x ≡ i → ⊥) → (x ≡ num head.old result → ⊥) → num last.new x ≡ num last.old x }
     ensures linked { (lists : ℕ → List ℕ) → ((b : ℕ) → b < length next.old → has (lists b) i ≡ false) → DegreeLists (length next.old) head.old next.old last.old degree.old lists → DegreeLists (length next.old) head.new next.new last.new degree.new (λ b. cond (b == result) (i ∷ lists b) (lists b)) }
 {
     let size = leave(nv, i);
-    put_figure(hash, figure_at(last, i), next.len());
+    empty_bucket(hash, last, i, is_used);
     let bound = new_bound(figure_at(degree, i), size, border, left);
     put_head(head, next, last, degree, i, bound);
     bound
 }
 
-/// Restores the classes that are left of a front, whose list stands in `count` words from `from` on: each is marked no more, has its
-/// bound in the lists by bound, and its bucket is empty. The classes are kept in these words, in their order. `border` is their number of
-/// rows, and `left` that of all rows that are left. Answers where the classes end, and the least of `least` and their bounds.
+/// Restores the classes that are left of a front, whose list stands in `count` words from `from` on: each is marked no
+/// more, has its bound in the lists by bound, and its bucket is empty, which it is before where the list names one row
+/// at most. The classes are kept in these words, in their order. `border` is their number of rows, and `left` that of
+/// all rows that are left. Answers where the classes end, and the least of `least` and their bounds.
 pub fn restore<S: Signed, U: Unsigned>(
     iw: &mut [Word<S>],
     nv: &mut [Word<S>],
@@ -81,7 +95,7 @@ pub fn restore<S: Signed, U: Unsigned>(
     requires once { Once (rows iw.old from count) }
     requires classes { (i : ℕ) → has (rows iw.old from count) i ≡ true → in_front nv.old i ≡ true → IsPlaceable (length next.old) border nv.old degree.old last.old i }
     requires order { (border ≤ left) × (left ≤ length next.old) }
-    requires heads { (b : ℕ) → b < length next.old → num hash.old b < length next.old → (has (marked_in nv.old (rows iw.old from count)) (num hash.old b) ≡ true) × (num last.old (num hash.old b) ≡ b) }
+    requires heads { (b : ℕ) → b < length next.old → num hash.old b < length next.old → (1 < count) × (has (marked_in nv.old (rows iw.old from count)) (num hash.old b) ≡ true) × (num last.old (num hash.old b) ≡ b) }
     requires linked { (lists : ℕ → List ℕ) × DegreeLists (length next.old) head.old next.old last.old degree.old lists × ((b x : ℕ) → b < length next.old → has (lists b) x ≡ true → has (rows iw.old from count) x ≡ false) }
     ensures filters { Filters (length next.old) (in_front nv.old) (λ j. 0) 0 iw.old from count from iw.new result.0 0 }
     ensures restores { Restores (rows iw.old from count) border left least nv.old degree.old nv.new degree.new result.1 }
@@ -94,7 +108,18 @@ pub fn restore<S: Signed, U: Unsigned>(
     for p in from..from + count {
         let i = named(iw, p);
         if is_marked(nv, i) {
-            let bound = place_class(nv, degree, head, next, last, hash, i, border, left);
+            let bound = place_class(
+                nv,
+                degree,
+                head,
+                next,
+                last,
+                hash,
+                i,
+                border,
+                left,
+                count > 1,
+            );
             low = low.min(bound);
             copy_word(iw, p, end);
             end += 1;

@@ -54,4 +54,5 @@ returns g c =
         };
         same = refl;
       };
+      loans = (refl, refl, refl, refl);
     }

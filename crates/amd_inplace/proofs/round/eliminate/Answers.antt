@@ -12,6 +12,7 @@ pub rounds-init : goal.rounds-init
 rounds-init g c = record {
   rounds = λ gr dense nzaat t s st. (t, ([], none, st));
   stands = c.requires.stands;
+  loans = (refl, refl, refl, refl);
   long = (refl, refl);
 }
 
@@ -46,6 +47,10 @@ rounds-preserved g c =
           let w = c.rounds.invariant.stands in
           let b = (step w.0 w.1 w.2 w.3 w.4 w.5).1 in
           (w.0, w.1, w.2, next aggressive w.3, b.0, b.2);
+      loans =
+          let a = c.round.ensures.loans in
+          let b = c.rounds.invariant.loans in
+          (a.0 ∙ b.0, a.1 ∙ b.1, a.2 ∙ b.2, a.3 ∙ b.3);
       long = (c.round.ensures.long.0 ∙ c.rounds.invariant.long.0, c.round.ensures.long.1 ∙ c.rounds.invariant.long.1);
     }
 

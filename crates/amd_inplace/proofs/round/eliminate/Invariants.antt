@@ -2,7 +2,7 @@ use Rattle.std.specs.Prelude.{ℕ, Bool, ◌≡◌, length}
 use Rattle.amd_model.specs.Graph.{Graph}
 use Rattle.amd_model.specs.State.{State}
 use Rattle.amd_model.specs.Quotient.{QuotientGraph}
-use Rattle.amd_inplace.specs.Workspaces.{workspace_of}
+use Rattle.amd_inplace.specs.Workspaces.{workspace_of, KeepsLoans}
 use Rattle.amd_inplace.specs.Keeps.{AreRounds, Stands}
 use Rattle.amd_inplace.proofs.round.eliminate.Given as goal
 
@@ -11,6 +11,7 @@ invariant-rounds g l = record {
   rounds : AreRounds l.control.aggressive (workspace_of l.fn.work) (workspace_of l.work);
   stands : (gr : Graph) × (dense : ℕ → Bool) × (nzaat : ℕ) × (t : QuotientGraph) × (s : State)
       × Stands gr dense nzaat (workspace_of l.work) t s;
+  loans : KeepsLoans l.fn.work l.work;
   long : (length l.work.iw.now ≡ length l.fn.work.iw.now) × (length l.work.nv.now ≡ length l.fn.work.nv.now);
 }
 

@@ -85,4 +85,5 @@ returns g c =
         };
         same = rw same_pe refl;
       };
+      loans = (refl, refl, refl, refl);
     }

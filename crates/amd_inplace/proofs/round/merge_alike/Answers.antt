@@ -56,4 +56,5 @@ returns g c =
         };
         same = rw (told.same.0, told.same.1, told.same.2) refl;
       };
+      loans = (refl, refl, refl, refl);
     }

@@ -56,8 +56,11 @@ returns-clause-heads g c b k m =
     let list : rows iw c.named-from.result c.figure_at-count.result ≡ list_in iw pe len c.args.me =
     ap (λ s. rows iw s c.figure_at-count.result) c.named-from.ensures
     ∙ ap (rows iw (start pe c.args.me)) c.figure_at-count.ensures.is in
-    let h = c.merge_front.ensures.heads b k m in
-    (subst (λ xs. has (classes c.merge_front.new.nv xs) (num c.merge_front.new.hash b) ≡ true) list h.0, h.1)
+    let h = c.merge_front.ensures.heads b k m in (
+      (let a = h.0 in let d = c.figure_at-count.ensures.is in omega (arith, a, d)),
+      subst (λ xs. has (classes c.merge_front.new.nv xs) (num c.merge_front.new.hash b) ≡ true) list h.1,
+      h.2,
+    )
 
 pub returns-clause-linked : goal.returns-clause-linked
 returns-clause-linked g c head degree lists other h =

@@ -80,3 +80,13 @@ returns-clause-fewer g c =
     let size3 = turns.sized.nv ∙ begins.sized.nv ∙ picks.sized.nv ∙ st.laid.sized.nv in
     live_less (half st picks begins turns) (workspace_of c.merge_alike.new.work) (merges_of size3 merges)
     (workspace_of c.end_front.new.work) (ends_of (merges.sized.nv ∙ size3) ends)
+
+pub returns-clause-loans : goal.returns-clause-loans
+returns-clause-loans g c =
+    let p = c.pick-me.ensures.loans in let b = c.begin-element.ensures.loans in let t = c.turn_over-gone.ensures.loans in
+    let m = c.merge_alike.ensures.loans in let e = c.end_front.ensures.loans in (
+      e.0 ∙ m.0 ∙ t.0 ∙ b.0 ∙ p.0,
+      e.1 ∙ m.1 ∙ t.1 ∙ b.1 ∙ p.1,
+      e.2 ∙ m.2 ∙ t.2 ∙ b.2 ∙ p.2,
+      e.3 ∙ m.3 ∙ t.3 ∙ b.3 ∙ p.3,
+    )

@@ -48,4 +48,5 @@ returns g c =
         };
         same = refl;
       };
+      loans = (refl, refl, refl, refl);
     }

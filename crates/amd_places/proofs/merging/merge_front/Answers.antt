@@ -1,6 +1,8 @@
 use Rattle.std.proofs.Common.{refl, sym, subst, ◌∙◌, ◌+◌, ◌≤◌, arith, length}
 use Rattle.amd_places.specs.Words.{num, classes, rows}
-use Rattle.amd_places.specs.Merging.{MergesAll, represents_in}
+use Rattle.amd_views.specs.Rounds.{alike_in}
+use Rattle.amd_places.specs.Merging.{MergesAll, kept_of, near_of, represents_in}
+use Rattle.amd_places.proofs.FewMerged.{few_merged}
 use Rattle.amd_places.proofs.MergeEnds.{made_is, made_from, still_linked}
 use Rattle.amd_places.proofs.MergeState.{Merging, merging_none, all_merged, all_heads}
 use Rattle.amd_places.proofs.MergeWalk.{premises, classes_few, classes_end, step_ready, step_room, step_skips, step_settles}
@@ -86,6 +88,21 @@ classes-preserved g c = let g = premises (length c.args.next.now)
           c.named-i.ensures _ _ _ _ _ _ _ c.classes.invariant.merging (sym c.is_class.ensures ∙ c.if-is_class.false);
     }
 
+pub returns-then-count-lt2-clause-merged : goal.returns-then-count-lt2-clause-merged
+returns-then-count-lt2-clause-merged g c =
+    let a = classes_few c.args.nv.now c.args.iw.now c.args.from c.args.count in let t = c.if-count-lt2.true in
+    few_merged (alike_in (kept_of c.args.iw.now c.args.pe.now c.args.e_len.now)
+    (near_of c.args.iw.now c.args.pe.now c.args.e_len.now c.args.len.now)) c.args.pe.now c.args.e_len.now c.args.nv.now c.args.next.now
+    (classes c.args.nv.now (rows c.args.iw.now c.args.from c.args.count)) (omega (arith, a, t))
+
+pub returns-then-count-lt2-clause-made : goal.returns-then-count-lt2-clause-made
+returns-then-count-lt2-clause-made g c =
+    let a = classes_few c.args.nv.now c.args.iw.now c.args.from c.args.count in let t = c.if-count-lt2.true in
+    made_is (rows c.args.iw.now c.args.from c.args.count) _ _ _ _ _ _ _ _ _
+    (few_merged (alike_in (kept_of c.args.iw.now c.args.pe.now c.args.e_len.now)
+    (near_of c.args.iw.now c.args.pe.now c.args.e_len.now c.args.len.now)) c.args.pe.now c.args.e_len.now c.args.nv.now c.args.next.now
+    (classes c.args.nv.now (rows c.args.iw.now c.args.from c.args.count)) (omega (arith, a, t)))
+
 pub returns-clause-merged : goal.returns-clause-merged
 returns-clause-merged g c =
     let g = premises (length c.args.next.now) c.args.iw.now c.args.pe.now c.args.e_len.now c.args.len.now c.args.nv.now c.args.w.now
@@ -128,8 +145,11 @@ returns-clause-heads g c b small full =
     (subst (λ k. Merging (length c.args.next.now) c.args.iw.now c.args.pe.now c.args.e_len.now c.args.len.now c.args.nv.now c.args.w.now
     c.args.next.now c.args.last.now (classes c.args.nv.now (rows c.args.iw.now c.args.from c.args.count)) c.args.flag
     k c.classes.pe c.classes.e_len c.classes.nv c.classes.w c.classes.hash c.classes.next c.classes.now)
-    (classes_end c.args.nv.now c.args.iw.now c.args.from c.classes.left c.classes-test.false) c.classes.invariant.merging) b small full) in
-    (made_from (rows c.args.iw.now c.args.from c.args.count) _ _ _ _ _ _ _ _ _ merged (num c.classes.hash b) head.0 head.1, head.2)
+    (classes_end c.args.nv.now c.args.iw.now c.args.from c.classes.left c.classes-test.false) c.classes.invariant.merging) b small full) in (
+      (let f = c.if-count-lt2.false in omega (arith, f)),
+      made_from (rows c.args.iw.now c.args.from c.args.count) _ _ _ _ _ _ _ _ _ merged (num c.classes.hash b) head.0 head.1,
+      head.2,
+    )
 
 pub returns-clause-linked : goal.returns-clause-linked
 returns-clause-linked g c head degree lists none h =

@@ -3,7 +3,7 @@ use Rattle.amd_model.proofs.Counting.Below.{clash}
 use Rattle.std.proofs.Common.{ℕ, ℤ, List, [], ◌∷◌, true, false, ◌≡◌, ◌<◌, ◌≤◌, ◌+◌, ◌-◌, ◌&&◌}
 use Rattle.std.proofs.Common.{not, inl, inr, refl, sym, ap, subst, ◌∙◌}
 use Rattle.std.proofs.Common.{arith, cond, length, fold, set, get_or-set_same, get_or-set_other}
-use Rattle.std.specs.Prelude.{min, ◌==◌}
+use Rattle.std.specs.Prelude.{min, nat_lt, ◌==◌}
 use Rattle.std.proofs.Math.Bool.{and-true}
 use Rattle.std.proofs.lemmas.Bool.{cases_eq, cond-true, cond-false, false_from_ne_true}
 use Rattle.std.proofs.lemmas.List.Sums.{fold-append}
@@ -158,8 +158,10 @@ loop-p-preserved g c =
             | inl u ↦ clash {P = ⊥} (filter_gives (in_front nv) (rows iw from k) x u).0 g
             | inr u ↦ clash {P = ⊥} m (out d x s u)
           ]) in
-          let hash_is : w.place_class-bound.new.hash ≡ set c.loop-p.hash (num c.args.last.now i) n = e.emptied
-          ∙ ap (λ m. set c.loop-p.hash m (length c.loop-p.next)) last_same ∙ ap (set c.loop-p.hash (num c.args.last.now i)) long.3 in
+          let hash_is : w.place_class-bound.new.hash
+          ≡ cond (nat_lt 1 c.args.count) (set c.loop-p.hash (num c.args.last.now i) n) c.loop-p.hash = e.emptied
+          ∙ ap (λ m. cond (nat_lt 1 c.args.count) (set c.loop-p.hash m (length c.loop-p.next)) c.loop-p.hash) last_same
+          ∙ ap (λ m. cond (nat_lt 1 c.args.count) (set c.loop-p.hash (num c.args.last.now i) m) c.loop-p.hash) long.3 in
           let v = e.lengths in
           rw (
             w.iw-is,
