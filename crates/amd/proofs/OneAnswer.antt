@@ -19,19 +19,11 @@ use Rattle.amd_numbers.specs.Statuses.{IsStatusOf}
 use Rattle.amd_numbers.specs.declared.amd.Info.{Info}
 use Rattle.amd_numbers.specs.declared.amd.Status.{Status}
 use Rattle.amd_numbers.specs.declared.amd.Status.TheVariants.{OK, Invalid, OkButJumbled, OutOfMemory}
+use Rattle.amd_engine.proofs.EnginesAgree.{inverse_one}
 use Rattle.amd.specs.Answers.{OrdersMatrix, TellsFigures, IsOrdering, IsOrderingHolding, AreDense, AreOneAnswer, ordered_pairs}
 use Rattle.amd.proofs.SamePairs.{graph_same, pairs_same}
 use Rattle.amd.proofs.Orderings.{HoldTheSame, last_equal, dense_equal, wells_equal}
 use Rattle.amd_edges.proofs.Places.{funext2}
-
--- a permutation has one inverse
-inverse_one : (n : ℕ) (p q s : List ℤ) → AreInverse n p q → AreInverse n p s → q ≡ s
-inverse_one n p q s a b = ext_get_or (pos 0) q s (a.q_length ∙ sym b.q_length) (λ k h.
-    let back = b.back k (let l = a.q_length in omega (arith, h, l)) in
-    let there = a.there back.0 back.1 in
-    let same : pos there.0 ≡ pos k = sym there.2 ∙ back.3 in
-    let k_is : there.0 ≡ k = cc in
-    ap (at q) (sym k_is) ∙ there.3 ∙ sym back.2)
 
 -- tests that agree everywhere are one
 same_tests : (f h : ℕ → Bool) → ((i : ℕ) → f i ≡ h i) → f ≡ h

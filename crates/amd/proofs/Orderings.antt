@@ -1,7 +1,7 @@
 -- From what the parts of an ordering promise to what the whole does.
 use Rattle.std.proofs.Common.{ℕ, ℤ, List, zero, suc, pos, negsuc, ◌≡◌, ◌*◌, ◌+◌, ◌-◌, ◌/◌, ◌^◌, ◌<◌, ◌≤◌, map, length, drop, Bool, true}
 use Rattle.std.proofs.Common.{false, refl, sym, ◌∙◌, ap, subst, arith}
-use Rattle.std.specs.Prelude.{unsigned_abs, Option, min, max, ◌↔◌, IsTrue}
+use Rattle.std.specs.Prelude.{unsigned_abs, Option, ◌↔◌, IsTrue}
 use Rattle.std.proofs.lemmas.List.{drop-map, length-append}
 use Rattle.std.proofs.Math.Seq.{drop-append_seam}
 use Rattle.amd_model.specs.Below.{count_below, list_below}
@@ -16,11 +16,12 @@ use Rattle.amd_model.specs.Ordering.{IsListingOf, Promises}
 use Rattle.amd_model.specs.Quotient.{starting_list}
 use Rattle.amd_model.proofs.Counting.Places.{length_below}
 use Rattle.amd_model.specs.Input.Pattern.{graph_of, is_pair, pair_count, diagonal_count, SamePattern}
-use Rattle.amd_model.specs.Input.Dense.{IsGreatest, IsRawThreshold, IsThreshold}
 use Rattle.amd_model.specs.Input.Held.{is_held_last}
 use Rattle.amd_model.specs.Listing.{ListsEachRow, IsPostorder}
 use Rattle.amd_model.proofs.Patterns.DegreeSums.{degrees_twice, pattern_graph}
 use Rattle.amd_model.proofs.Counting.Below.{count_same, sum_same}
+use Rattle.amd_model.specs.Input.Dense.{IsThreshold}
+use Rattle.amd_engine.proofs.EnginesAgree.{threshold_one}
 use Rattle.amd_engine.specs.Engine.{IsEngineAnswer, with_figures}
 use Rattle.amd_numbers.specs.declared.amd.Info.{Info}
 use Rattle.amd_numbers.specs.declared.amd.Status.{Status}
@@ -194,18 +195,6 @@ engine_orders hold n t aggressive a_p a_i p q numbers total info new degrees f r
           new told figures.off_diagonal (omega (arith, few_words)) count o.promises.forest;
       room = few_words;
     }
-
--- there is one greatest number with a property
-greatest_one : (P : ℕ → Type 0) (d e : ℕ) → IsGreatest P d → IsGreatest P e → d ≡ e
-greatest_one P d e a b = let up = b.most d a.has in let down = a.most e b.has in omega (arith, up, down)
-
-root_one : (n : ℕ) (t : ℤ) (d e : ℕ) → IsRawThreshold n t d → IsRawThreshold n t e → d ≡ e
-root_one n (pos t) d e a b = greatest_one (λ m. (1000 * m) * (1000 * m) ≤ t * t * n) d e a b
-root_one n (negsuc t) d e a b = a ∙ sym b
-
--- a size and a parameter have one threshold
-pub threshold_one : (n : ℕ) (t : ℤ) (x y : ℕ) → IsThreshold n t x → IsThreshold n t y → x ≡ y
-threshold_one n t x y a b = a.2 ∙ ap (λ d. min (max d 16) n) (root_one n t a.0 b.0 a.1 b.1) ∙ sym b.2
 
 -- two truth values of one fact
 same_truth : (a b : Bool) {P : Type 0} → IsTrue a ↔ P → IsTrue b ↔ P → a ≡ b

@@ -15,7 +15,7 @@ ghost use Rattle.amd_model.specs.Input.Pattern.{is_pair};
 ghost use Rattle.amd_numbers.specs.Statuses.{IsStatusOf};
 ghost use Rattle.amd.specs.Answers.{IsOrdering, IsOrderingHolding, IsRefusal, IsRefusalHolding, OrdersMatrix};
 
-use amd_engine::plain::plain_1;
+use amd_engine::amd_1::amd_1;
 use amd_input::aat::aat;
 use amd_input::preprocess::preprocess;
 use amd_input::valid::valid;
@@ -55,11 +55,11 @@ fn order_sorted<I: PrimInt, A: Allocator + Copy>(
 {
     let count = known_count(n);
     let mut info = Info::new(count);
-    let (nzaat, degrees) = aat(alloc, n, a_p, a_i, &mut info)?;
-    if workspace_words(nzaat, count).is_none() {
+    let (nzaat, mut len) = aat(alloc, n, a_p, a_i, &mut info)?;
+    let Some(room) = workspace_words(nzaat, count) else {
         return Err(Status::OutOfMemory);
-    }
-    let (p, p_inv) = plain_1(alloc, n, a_p, a_i, &degrees, control, hold, &mut info)?;
+    };
+    let (p, p_inv) = amd_1(alloc, n, a_p, a_i, &mut len, room, control, hold, &mut info)?;
     Ok((p, p_inv, info))
 }
 

@@ -12,7 +12,7 @@ use Rattle.amd_model.specs.Listing.{Tree, is_some_of, is_child, heaviest, heavie
 use Rattle.amd_model.specs.Listing.{assembly_tree, block_list, IsPostorder}
 use Rattle.amd_model.proofs.Listings.Words.{has_head, has_tail, has_cases, has_below}
 use Rattle.amd_views.proofs.Lists.Named.{flat_same}
-use Rattle.amd_rounds.proofs.StartLists.{list_same}
+use Rattle.amd_views.proofs.Lists.Rising.{list_same}
 use Rattle.amd_trees.proofs.ForestListings.{IsRanked, child_node, roots_siblings, listed_from}
 use Rattle.amd_trees.specs.Trees.{IsPostorderOf}
 

@@ -1,3 +1,7 @@
+pub mod EngineLaw
+pub mod EnginesAgree
+pub mod InPlaceLaw
+pub mod EndingLaw
 pub mod PlainLaw
 pub mod RowLinks
 pub mod ElementRows

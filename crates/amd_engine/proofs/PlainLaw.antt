@@ -8,7 +8,7 @@ use Rattle.std.proofs.lemmas.List.Elements.{All-from_get_or}
 use Rattle.amd_model.specs.Graph.{Graph, IsGraph, degree}
 use Rattle.amd_model.specs.State.{State}
 use Rattle.amd_model.specs.Run.{Run, last_state}
-use Rattle.amd_model.specs.Listing.{ListsEachRow}
+use Rattle.amd_model.specs.Listing.{IsPostorder, ListsEachRow}
 use Rattle.amd_model.specs.Quotient.{QuotientGraph, starting_list, start_tie}
 use Rattle.amd_model.specs.QuotientLaws.{NamesNeighbours}
 use Rattle.amd_model.specs.Figures.{cut}
@@ -28,7 +28,8 @@ use Rattle.amd_edges.specs.Visits.{AreCounts}
 use Rattle.amd_rounds.specs.Keeps.{Stands, AreRounds, NoRowIsLive}
 use Rattle.amd_rounds.specs.Starts.{StandsAtStart, ListsRun}
 use Rattle.amd_numbers.specs.Permutations.{AreInverse}
-use Rattle.amd_engine.specs.Engine.{IsEngineAnswer, with_figures}
+use Rattle.amd_engine.specs.Engine.{IsEngineAnswer, Reaches}
+use Rattle.amd_engine.proofs.EngineLaw.{degree_small, told_by, run, promises, answer_of}
 use Rattle.amd_numbers.specs.declared.amd.Info.{Info}
 use Rattle.amd_rounds.specs.declared.work.Work.{Work}
 use Rattle.amd_views.proofs.Lists.Named.{below_from}
@@ -43,26 +44,13 @@ each_list P items xs h = λ k d l. subst P (get_or-map items xs k d [] l) (h k l
 -- ---- the start
 
 module _ (g : Graph) (laws : IsGraph g) where
-  -- a row has no edge to itself
-  degree_small : (i : ℕ) → i < g.size → degree g i < g.size
-  unfolding degree
-  degree_small i l =
-      let others : ℕ → Bool = λ k. true && not (k == i) in
-      let a = count_without g.size (λ k. true) i l refl in
-      let b = count_most g.size (λ k. true) in
-      let d = count_mono g.size (g.edge i) others (λ k m e. elim (cases_eq k i) [
-        | inl q ↦ clash (sym (ap (g.edge i) q) ∙ e) (laws.no_loop i)
-        | inr n ↦ ap not (ne_eqb k i n)
-      ]) in
-      omega (arith, a, b, d)
-
   degrees_below : (len : List ℕ) → AreCounts g g.edge len → Below (length len) len
   unfolding degree
   degrees_below len counts = All-from_get_or (λ j. j < length len) len 0 (λ i h.
       let size = counts.size in
       let l : i < g.size = omega (arith, size, h) in
       let a : get_or len i 0 ≡ degree g i = counts.each i l in
-      let b : degree g i < g.size = degree_small i l in
+      let b : degree g i < g.size = degree_small g laws i l in
       omega (arith, a, b, size))
 
   lists_below : {A : Type 0} (len : List ℕ) (rows : List (Vec ℕ A)) (lists : ℕ → List ℕ) → AreCounts g g.edge len →
@@ -76,22 +64,6 @@ module _ (g : Graph) (laws : IsGraph g) where
   )
 
 -- ---- the end
-
--- the figures of a record
-abbrev pub told_by : {A : Type 0} → Work A → Info → Info
-told_by w old = record old {
-  n_dense = w.n_dense;
-  n_cmp_a = 0;
-  lnz = w.figures.lnz;
-  n_div = w.figures.lnz;
-  n_mult_subs_ldl = w.figures.n_mult_subs_ldl;
-  n_mult_subs_lu = w.figures.n_mult_subs_lu;
-  d_max = w.figures.d_max;
-}
-
-figures_told : {A : Type 0} (g : Graph) (dense : ℕ → Bool) (w : Work A) (t : QuotientGraph) (s : State) → Stands g dense w t s →
-    (old : Info) → told_by w old ≡ with_figures g dense s 0 old
-figures_told g dense w t s st old = let k = st.view.fronts in rw (k.dense_rows, k.lnz, k.ldl, k.lu, k.greatest) refl
 
 -- from a start whose rounds came to an end
 module _ {A : Type 0} (g : Graph) (laws : IsGraph g) (dense last : ℕ → Bool) (aggressive : Bool) (lists : ℕ → List ℕ)
@@ -125,37 +97,33 @@ module _ {A : Type 0} (g : Graph) (laws : IsGraph g) (dense last : ℕ → Bool)
     at_end : Stands g dense w end (last_state first states)
     at_end = (rounds g dense tie first started).1.2
 
-    run : Run g dense aggressive first states
-    run = record {
+    reaches : Reaches g dense aggressive lists first w.n_dense w.figures
+    reaches = record {
+      graph = laws;
       start = starts g dense;
-      steps = follows_steps g aggressive tie end first states (rounds g dense tie first started).1.1;
-      end = over g dense end (last_state first states) at_end;
+      fits = started.view.fits;
+      end = end;
+      states = states;
+      follows = (rounds g dense tie first started).1.1;
+      over = over g dense end (last_state first states) at_end;
+      tells = record {
+        dense_rows = at_end.view.fronts.dense_rows;
+        lnz = at_end.view.fronts.lnz;
+        ldl = at_end.view.fronts.ldl;
+        lu = at_end.view.fronts.lu;
+        greatest = at_end.view.fronts.greatest;
+      };
     }
 
     ended : (g : Graph) × (dense : ℕ → Bool) × (aggressive : Bool) × (first : State) × (states : List State) × (t : QuotientGraph)
         × IsGraph g × Run g dense aggressive first states × Stands g dense w t (last_state first states)
-    ended = (g, dense, aggressive, first, states, end, laws, run, at_end)
+    unfolding reaches
+    ended = (g, dense, aggressive, first, states, end, laws, run g dense aggressive lists first w.n_dense w.figures reaches, at_end)
 
-    module _ (order : List ℕ) (lists_run : ListsRun w order) where
-      promises : Promises g dense first states order
-      promises = orderings_promise g dense aggressive first states order laws run (lists_run g dense aggressive first states end run at_end)
-
-      is_listing : IsListingOf g dense aggressive lists first states order
-      is_listing = record {
-        run = run;
-        starts = started.view.fits;
-        end = end;
-        follows = (rounds g dense tie first started).1.1;
-        listing = lists_run g dense aggressive first states end run at_end;
-      }
-
-      told : (old_info : Info) → told_by w old_info ≡ with_figures g dense (last_state first states) 0 old_info
-      told old_info = figures_told g dense w end (last_state first states) at_end old_info
-
--- what is cut is no more
-cut_most : (x m : ℕ) → x ≤ m → cut x ≤ m
-unfolding cut
-cut_most x m h = omega (arith, h)
+    listed_run : (order : List ℕ) → ListsRun w order → IsPostorder g dense (last_state first states) order
+    unfolding reaches
+    listed_run order lists_run =
+        lists_run g dense aggressive first states end (run g dense aggressive lists first w.n_dense w.figures reaches) at_end
 
 -- ---- the engine
 
@@ -215,11 +183,17 @@ module _ {A : Type 0} (ap' ai : List ℤ) (len : List ℕ) (counts : AreCounts (
           × (t : QuotientGraph) × IsGraph g × Run g dense aggressive first states × Stands g dense w t (last_state first states)
       stands_last = ended graph is_graph dense (at marks) aggressive lists names rows len counts held listed_all old begun w rounds over
 
+      abbrev here : Reaches graph dense aggressive lists (first_state graph dense) w.n_dense w.figures
+      here = reaches graph is_graph dense (at marks) aggressive lists names rows len counts held listed_all old begun w rounds over
+
       module _ (order : List ℕ) (lists_run : ListsRun w order) where
-        kept : Promises graph dense (first_state graph dense)
-            (states graph is_graph dense (at marks) aggressive lists names rows len counts held listed_all old begun w rounds over) order
-        kept = promises graph is_graph dense (at marks) aggressive lists names rows len counts held listed_all old begun w rounds over order
-            lists_run
+        listed_here : IsPostorder graph dense (last_state (first_state graph dense) here.states) order
+        unfolding reaches
+        listed_here = listed_run graph is_graph dense (at marks) aggressive lists names rows len counts held listed_all old begun w rounds
+            over order lists_run
+
+        kept : Promises graph dense (first_state graph dense) here.states order
+        kept = promises graph dense aggressive lists (first_state graph dense) w.n_dense w.figures here order listed_here
 
         -- the listing has each row
         pub order_length : length order ≡ length len
@@ -229,35 +203,11 @@ module _ {A : Type 0} (ap' ai : List ℤ) (len : List ℕ) (counts : AreCounts (
         pub order_each : ListsEachRow (length order) order
         order_each = subst (λ k. ListsEachRow k order) (sym kept.each_row.places) kept.each_row
 
-        tells : (before : Info) → told_by w before ≡ with_figures graph dense
-            (last_state (first_state graph dense) (states graph is_graph dense (at marks) aggressive lists names rows len counts held
-            listed_all old begun w rounds over)) 0 before
-        tells before = told graph is_graph dense (at marks) aggressive lists names rows len counts held listed_all old begun w rounds over
-            order lists_run before
-
         -- the answer
         pub answer : (t : ℤ) → 0 < length len → IsThreshold (length len) t threshold → (p q : List ℤ) → p ≡ map pos order →
-            AreInverse (length order) p q →
-            (before after : Info) → after ≡ told_by w before → IsEngineAnswer hold (length len) t aggressive ap' ai p q before after
+            AreInverse (length order) p q → (before after : Info) → after ≡ told_by w.n_dense w.figures 0 before →
+            IsEngineAnswer hold (length len) t aggressive ap' ai p q before after
         unfolding graph_of
         answer t some is_threshold p q is inverse before after figures =
-            let all = figures ∙ tells before in
-            let none = ap (λ (x : Info). x.n_cmp_a) all in
-            record {
-              inverse = subst (λ k. AreInverse k p q) order_length inverse;
-              threshold = threshold;
-              is_threshold = is_threshold;
-              rows = order;
-              listed = is;
-              first = first_state graph dense;
-              states = states graph is_graph dense (at marks) aggressive lists names rows len counts held listed_all old begun w rounds
-                  over;
-              listing = is_listing graph is_graph dense (at marks) aggressive lists names rows len counts held listed_all old begun w rounds
-                  over order lists_run;
-              promises = kept;
-              told = all ∙ ap (λ c. with_figures graph dense
-                  (last_state (first_state graph dense) (states graph is_graph dense (at marks) aggressive lists names rows len counts held
-                  listed_all old begun w rounds over)) c before) (sym none);
-              lnz_most = subst (λ (x : Info). x.lnz ≤ length len * (length len - 1) / 2) (sym all) (cut_most _ _ kept.small.entries_most);
-              greatest_most = subst (λ (x : Info). x.d_max ≤ length len) (sym all) (kept.small.front_most some);
-            }
+            answer_of graph aggressive lists hold threshold (first_state graph dense) w.n_dense w.figures here order listed_here
+            (length len) t refl some is_threshold p q is (subst (λ k. AreInverse k p q) order_length inverse) 0 before after figures

@@ -5,18 +5,8 @@ ghost use Rattle.std.specs.Option.{option_copied};
 ghost use Rattle.amd_model.specs.Input.Held.{HasMarks, is_marked};
 ghost use Rattle.amd_rounds.specs.Views.{at, num};
 
+use amd_numbers::held::is_held;
 use std::alloc::{AllocError, Allocator};
-
-/// Whether a row is marked; without a list none is.
-fn is_held(hold: Option<&[bool]>, row: usize) -> bool
-    requires within { (n : ℕ) × (row < n) × HasMarks (option_copied hold) n }
-    ensures { result ≡ is_marked (option_copied hold.entry) row }
-{
-    match hold {
-        Some(marks) => marks[row],
-        None => false,
-    }
-}
 
 /// A mark for each row that is held last: it is marked in `hold`, or its degree is above the threshold of dense rows.
 ///

@@ -1,26 +1,19 @@
-use Rattle.std.proofs.Common.{rules, ℕ, ℤ, Bool, List, zero, suc, pos, negsuc, ◌≡◌, ◌≢◌, ◌+◌, ◌/◌, ◌^◌, ◌<◌, map, length, ap, subst, sym}
-use Rattle.std.proofs.Common.{◌∙◌, refl, arith}
-use Rattle.std.specs.Prelude.{unsigned_abs, Option, None, Some, is_none, not, false}
-use Rattle.std.specs.Option.{SomeIff, option_copied}
-use Rattle.std.proofs.lemmas.Bool.{true≢false}
+use Rattle.std.proofs.Common.{rules, ℕ, ℤ, Bool, List, zero, suc, pos, negsuc, ◌≡◌, ◌≢◌, ◌+◌, ◌/◌, ◌^◌, ◌<◌, ◌≤◌, map, length, ap, subst, sym}
+use Rattle.std.proofs.Common.{◌∙◌, arith}
+use Rattle.std.specs.Prelude.{unsigned_abs}
+use Rattle.std.specs.Option.{option_copied}
 use Rattle.std.proofs.lemmas.List.{length-map}
-use Rattle.amd_model.specs.Graph.{degree}
+use Rattle.amd_model.specs.Graph.{degree, degree_sum}
 use Rattle.amd_model.specs.Input.Columns.{IsColumnForm, IsSorted, IsInput}
 use Rattle.amd_model.specs.Input.Held.{HasMarks}
 use Rattle.amd_model.specs.Input.Pattern.{graph_of}
 use Rattle.amd_engine.specs.Engine.{IsEngineAnswer}
-use Rattle.amd_edges.specs.Visits.{AreCounts}
+use Rattle.amd_edges.specs.Visits.{AreCounts, start_of}
 use Rattle.amd_numbers.specs.declared.amd.Info.{Info}
 use Rattle.amd_input.specs.Degrees.{AreDegrees}
 use Rattle.amd.proofs.Orderings.{engine_orders}
 use Rattle.amd_input.proofs.PatternLemmas.{input_form, input_sorted, input_fits}
 use Rattle.amd.proofs.order_sorted.Goals as goal
-
--- the number of words is at most the greatest `isize` where it was answered
-fits : (total count : ℕ) (words : Option ℕ) → SomeIff words (total + total / 5 + count < 2 ^ 63) (total + total / 5 + count) →
-    is_none words ≡ false → total + total / 5 + count < 2 ^ 63
-fits total count None words there = absurd (true≢false there)
-fits total count (Some x) words there = words.0
 
 -- there is a degree for each row
 size_of : (z : ℤ) (a_p a_i : List ℤ) (numbers : List ℕ) → IsInput z z a_p a_i → length numbers ≡ unsigned_abs z → z ≡ pos (length numbers)
@@ -36,6 +29,17 @@ counts_of : (n : ℕ) (a_p a_i : List ℤ) (total : ℕ) (numbers : List ℕ) �
     AreCounts (graph_of n a_p a_i) ((graph_of n a_p a_i).edge) numbers
 unfolding graph_of degree
 counts_of n a_p a_i total numbers degrees = record { size = degrees.size; each = degrees.each }
+
+-- and they add up to where the lists of all neighbours end
+sums_are : (n : ℕ) (a_p a_i : List ℤ) (total : ℕ) (numbers : List ℕ) → AreDegrees n a_p a_i total numbers →
+    total ≡ start_of (graph_of n a_p a_i) n
+unfolding graph_of degree degree_sum start_of
+sums_are n a_p a_i total numbers degrees = degrees.sum
+
+-- so that the words of a workspace have room for these lists and one word more for each row
+room_of : (n : ℕ) (a_p a_i : List ℤ) (total words : ℕ) (numbers : List ℕ) → AreDegrees n a_p a_i total numbers →
+    words ≡ total + total / 5 + n → start_of (graph_of n a_p a_i) n + n ≤ words
+room_of n a_p a_i total words numbers degrees is = (let sums = sums_are n a_p a_i total numbers degrees in omega (arith, sums, is))
 
 pub known_count-count-requires : goal.known_count-count-requires
 known_count-count-requires g c = input_fits _ _ _ c.requires.form (simp length-map (omega arith))
@@ -55,55 +59,73 @@ returns-in_err-nzaat-clause-status g c = search rules
 pub returns-in_err-nzaat-clause-refused : goal.returns-in_err-nzaat-clause-refused
 returns-in_err-nzaat-clause-refused g c = search rules
 
-pub returns-then-is_none-clause-refused : goal.returns-then-is_none-clause-refused
-returns-then-is_none-clause-refused g c = refl
+pub amd_1-requires-clause-fits : goal.amd_1-requires-clause-fits
+amd_1-requires-clause-fits g c = c.requires.fits
 
-pub plain_1-requires-clause-fits : goal.plain_1-requires-clause-fits
-plain_1-requires-clause-fits g c = c.requires.fits
-
-pub plain_1-requires-clause-size : goal.plain_1-requires-clause-size
-plain_1-requires-clause-size g c =
+pub amd_1-requires-clause-size : goal.amd_1-requires-clause-size
+amd_1-requires-clause-size g c =
     let value = g.I.Number.value in
-    let size = ap length c.deref.ensures.value ∙ c.in_ok-nzaat.ensures.degrees.size in
-    size_of (value c.args.n) (map value c.args.a_p.now) (map value c.args.a_i.now) c.deref.result.now c.requires.form size
+    let same : c.deref_mut.result.now ≡ c.in_ok-nzaat.len.items = search rules in
+    let size = ap length same ∙ c.in_ok-nzaat.ensures.degrees.size in
+    size_of (value c.args.n) (map value c.args.a_p.now) (map value c.args.a_i.now) c.deref_mut.result.now c.requires.form size
 
-pub plain_1-requires-clause-some : goal.plain_1-requires-clause-some
-plain_1-requires-clause-some g c =
+pub amd_1-requires-clause-some : goal.amd_1-requires-clause-some
+amd_1-requires-clause-some g c =
     let value = g.I.Number.value in
-    let size = ap length c.deref.ensures.value ∙ c.in_ok-nzaat.ensures.degrees.size in
-    some_of (value c.args.n) (length c.deref.result.now) (size_of (value c.args.n) (map value c.args.a_p.now) (map value c.args.a_i.now)
-    c.deref.result.now c.requires.form size) c.requires.some
+    let same : c.deref_mut.result.now ≡ c.in_ok-nzaat.len.items = search rules in
+    let size = ap length same ∙ c.in_ok-nzaat.ensures.degrees.size in
+    some_of (value c.args.n) (length c.deref_mut.result.now) (size_of (value c.args.n) (map value c.args.a_p.now) (map value c.args.a_i.now)
+    c.deref_mut.result.now c.requires.form size) c.requires.some
 
-pub plain_1-requires-clause-form : goal.plain_1-requires-clause-form
-plain_1-requires-clause-form g c =
+pub amd_1-requires-clause-form : goal.amd_1-requires-clause-form
+amd_1-requires-clause-form g c =
     let value = g.I.Number.value in
     let a_p : List ℤ = map value c.args.a_p.now in
     let a_i : List ℤ = map value c.args.a_i.now in
-    let size = ap length c.deref.ensures.value ∙ c.in_ok-nzaat.ensures.degrees.size in
+    let same : c.deref_mut.result.now ≡ c.in_ok-nzaat.len.items = search rules in
+    let size = ap length same ∙ c.in_ok-nzaat.ensures.degrees.size in
     subst (λ m. IsColumnForm (pos m) m a_p a_i) (sym size) (input_form (value c.args.n) a_p a_i c.requires.form)
 
-pub plain_1-requires-clause-sorted : goal.plain_1-requires-clause-sorted
-plain_1-requires-clause-sorted g c =
+pub amd_1-requires-clause-sorted : goal.amd_1-requires-clause-sorted
+amd_1-requires-clause-sorted g c =
     let value = g.I.Number.value in
     let a_p : List ℤ = map value c.args.a_p.now in
     let a_i : List ℤ = map value c.args.a_i.now in
-    let size = ap length c.deref.ensures.value ∙ c.in_ok-nzaat.ensures.degrees.size in
+    let same : c.deref_mut.result.now ≡ c.in_ok-nzaat.len.items = search rules in
+    let size = ap length same ∙ c.in_ok-nzaat.ensures.degrees.size in
     subst (λ m. IsSorted m a_p a_i) (sym size) (input_sorted (value c.args.n) a_p a_i c.requires.sorted)
 
-pub plain_1-requires-clause-degrees : goal.plain_1-requires-clause-degrees
-plain_1-requires-clause-degrees g c =
+pub amd_1-requires-clause-degrees : goal.amd_1-requires-clause-degrees
+amd_1-requires-clause-degrees g c =
     let value = g.I.Number.value in
     let a_p : List ℤ = map value c.args.a_p.now in
     let a_i : List ℤ = map value c.args.a_i.now in
-    let numbers : List ℕ = c.in_ok-nzaat.degrees.items in
+    let numbers : List ℕ = c.in_ok-nzaat.len.items in
+    let same : c.deref_mut.result.now ≡ numbers = search rules in
     let degrees = c.in_ok-nzaat.ensures.degrees in
     let counts = counts_of (unsigned_abs (value c.args.n)) a_p a_i c.in_ok-nzaat.nzaat numbers degrees in
-    subst (λ xs. AreCounts (graph_of (length xs) a_p a_i) ((graph_of (length xs) a_p a_i).edge) xs) (sym c.deref.ensures.value)
+    subst (λ xs. AreCounts (graph_of (length xs) a_p a_i) ((graph_of (length xs) a_p a_i).edge) xs) (sym same)
     (subst (λ m. AreCounts (graph_of m a_p a_i) ((graph_of m a_p a_i).edge) numbers) (sym degrees.size) counts)
 
-pub plain_1-requires-clause-marks : goal.plain_1-requires-clause-marks
-plain_1-requires-clause-marks g c =
-    let size = ap length c.deref.ensures.value ∙ c.in_ok-nzaat.ensures.degrees.size in
+pub amd_1-requires-clause-room : goal.amd_1-requires-clause-room
+amd_1-requires-clause-room g c =
+    let value = g.I.Number.value in
+    let n : ℕ = unsigned_abs (value c.args.n) in
+    let a_p : List ℤ = map value c.args.a_p.now in
+    let a_i : List ℤ = map value c.args.a_i.now in
+    let total : ℕ = c.in_ok-nzaat.nzaat in
+    let words : ℕ = c.in-Some.room in
+    let same : c.deref_mut.result.now ≡ c.in_ok-nzaat.len.items = search rules in
+    let size = ap length same ∙ c.in_ok-nzaat.ensures.degrees.size in
+    let is : words ≡ total + total / 5 + n = subst (λ m. words ≡ total + total / 5 + m) c.known_count-count.ensures c.in-Some.ensures.1 in
+    let below : words < 2 ^ 63 = subst (λ m. m < 2 ^ 63) (sym c.in-Some.ensures.1) c.in-Some.ensures.0 in
+    subst (λ m. (start_of (graph_of m a_p a_i) m + m ≤ words) × (words < 2 ^ 63)) (sym size)
+    (room_of n a_p a_i total words c.in_ok-nzaat.len.items c.in_ok-nzaat.ensures.degrees is, below)
+
+pub amd_1-requires-clause-marks : goal.amd_1-requires-clause-marks
+amd_1-requires-clause-marks g c =
+    let same : c.deref_mut.result.now ≡ c.in_ok-nzaat.len.items = search rules in
+    let size = ap length same ∙ c.in_ok-nzaat.ensures.degrees.size in
     subst (HasMarks (option_copied c.args.hold)) (sym size) c.requires.marks
 
 pub returns-in_err-p-clause-orders : goal.returns-in_err-p-clause-orders
@@ -126,16 +148,15 @@ returns-clause-orders g c =
     let p : List ℤ = map value c.in_ok-p.p.items in
     let q : List ℤ = map value c.in_ok-p.p_inv.items in
     let total : ℕ = c.in_ok-nzaat.nzaat in
-    let size = ap length c.deref.ensures.value ∙ c.in_ok-nzaat.ensures.degrees.size in
-    let room = fits total c.known_count-count.result c.workspace_words.result c.workspace_words.ensures
-    (ap not (c.is_none.ensures ∙ ap not c.if-is_none.false)) in
+    let same : c.deref_mut.result.now ≡ c.in_ok-nzaat.len.items = search rules in
+    let size = ap length same ∙ c.in_ok-nzaat.ensures.degrees.size in
     let hold = option_copied c.args.hold in
-    engine_orders hold n t aggressive a_p a_i p q c.in_ok-nzaat.degrees.items total c.aat.new.info c.plain_1.new.info
+    engine_orders hold n t aggressive a_p a_i p q c.in_ok-nzaat.len.items total c.aat.new.info c.amd_1.new.info
     c.in_ok-nzaat.ensures.degrees
     c.in_ok-nzaat.ensures.figures
-    (subst (λ m. total + total / 5 + m < 2 ^ 63) c.known_count-count.ensures room)
-    (let none = c.in_ok-p.ensures.compactions in omega (arith, none))
-    (subst (λ m. IsEngineAnswer hold m t aggressive a_p a_i p q c.aat.new.info c.plain_1.new.info) size c.in_ok-p.ensures.orders)
+    (subst (λ m. total + total / 5 + m < 2 ^ 63) c.known_count-count.ensures c.in-Some.ensures.0)
+    (let few = c.in_ok-p.ensures.compactions in omega (arith, few, size))
+    (subst (λ m. IsEngineAnswer hold m t aggressive a_p a_i p q c.aat.new.info c.amd_1.new.info) size c.in_ok-p.ensures.orders)
 
 pub returns-clause-status : goal.returns-clause-status
 returns-clause-status g c =

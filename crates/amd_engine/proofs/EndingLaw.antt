@@ -1,0 +1,170 @@
+-- The end of the engine in place: the lists that are left tell the last state of a run, and their listing is an answer.
+use Rattle.std.proofs.Common.{ℕ, ℤ, pos, negsuc, Bool, List, Option, ◌≡◌, ◌≤◌, ◌<◌, ◌∙◌, ap, sym, refl, subst, inl, inr, arith, length, map, cond}
+use Rattle.std.specs.Prelude.{replicate}
+use Rattle.std.proofs.lemmas.Bool.{cases_Bool, cond-true, cond-false}
+use Rattle.std.proofs.lemmas.List.{get_or-replicate}
+use Rattle.amd_model.specs.Below.{count_below}
+use Rattle.amd_model.specs.Graph.{Graph, degree}
+use Rattle.amd_model.specs.State.{State, is_element, in_block}
+use Rattle.amd_model.specs.Run.{Run, last_state}
+use Rattle.amd_model.specs.Listing.{IsPostorder, weight}
+use Rattle.amd_model.specs.Quotient.{starting_list}
+use Rattle.amd_model.specs.Input.Dense.{IsThreshold}
+use Rattle.amd_model.specs.Input.Held.{is_held_last}
+use Rattle.amd_model.specs.Input.Pattern.{graph_of, is_pair}
+use Rattle.amd_model.proofs.Patterns.DegreeSums.{pattern_graph}
+use Rattle.amd_model.proofs.Patterns.StartingLists.{starting_lists}
+use Rattle.amd_model.proofs.States.EndState.{IsEnd, at_the_end}
+use Rattle.amd_numbers.specs.Permutations.{AreInverse}
+use Rattle.amd_numbers.specs.declared.amd.Info.{Info}
+use Rattle.amd_numbers.specs.declared.figures.Figures.{Figures}
+use Rattle.amd_edges.specs.Visits.{AreCounts}
+use Rattle.amd_places.specs.Layout.{list_in}
+use Rattle.amd_places.specs.Words.{num, word}
+use Rattle.amd_inplace.specs.Keeps.{Stands}
+use Rattle.amd_listing.specs.Ended.{IsEnded, HasEnded, ListsEnded}
+use Rattle.amd_workspace.specs.Ending.{EndsRows}
+use Rattle.amd_workspace.specs.Laying.{IsLaidOut}
+use Rattle.amd_engine.specs.Engine.{TellsElements}
+use Rattle.amd_engine.specs.InPlace.{AnswersInPlace, EndsRounds, LaysGraph, RunsInPlace}
+use Rattle.amd_engine.proofs.EngineLaw.{told_by, run, answer_of}
+use Rattle.amd_workspace.proofs.Ended.{ended}
+
+-- ---- one graph
+
+-- the lists that the rounds left, once its rows are ended
+module _ (g : Graph) (dense : ℕ → Bool) (aggressive : Bool) (lists : ℕ → List ℕ) (n_dense : ℕ) (figures : Figures)
+    (pe e_len nv : List ℤ) (degree : List ℕ) (e : EndsRounds g dense aggressive lists n_dense figures pe e_len nv degree)
+    (pe' e_len' nv' : List ℤ) (ends : EndsRows g.size pe e_len degree pe' e_len' nv')
+    (pe_long : length pe' ≡ g.size) (e_len_long : length e_len' ≡ g.size) (nv_long : length nv' ≡ g.size) where
+  abbrev last : State
+  last = last_state e.first e.reaches.states
+
+  the_run : Run g dense aggressive e.first e.reaches.states
+  the_run = run g dense aggressive lists e.first n_dense figures e.reaches
+
+  is_end : IsEnd g dense last
+  is_end = at_the_end g dense aggressive e.first e.reaches.states e.reaches.graph the_run
+
+  ends_after : EndsRows g.size e.after.pe e.after.e_len e.after.degree pe' e_len' nv'
+  ends_after = subst (λ xs. EndsRows g.size xs e.after.e_len e.after.degree pe' e_len' nv') (sym e.pe_is)
+      (subst (λ xs. EndsRows g.size pe xs e.after.degree pe' e_len' nv') (sym e.e_len_is)
+      (subst (λ xs. EndsRows g.size pe e_len xs pe' e_len' nv') (sym e.degree_is) ends))
+
+  is_ended : IsEnded g last pe' nv' e_len'
+  is_ended = ended g dense e.words e.after e.reaches.end last e.stands is_end pe' e_len' nv' ends_after pe_long e_len_long nv_long
+
+  has_ended : HasEnded pe' nv' e_len'
+  has_ended = (g, dense, aggressive, e.first, e.reaches.states, e.reaches.graph, the_run, is_ended)
+
+  listed : (rows : List ℕ) → ListsEnded pe' nv' e_len' rows → IsPostorder g dense last rows
+  listed rows all = all g dense aggressive e.first e.reaches.states e.reaches.graph the_run is_ended
+
+  tells : TellsElements g last nv' e_len'
+  tells = record {
+    long = (nv_long, e_len_long);
+    blocks = λ x l. elim (cases_Bool (is_element last x)) [
+      | inl y ↦ is_ended.blocks x y ∙ ap pos (sym (cond-true (is_element last x) (count_below g.size (in_block last x)) 0 y))
+      | inr f ↦ is_ended.no_element x f ∙ ap pos (sym (cond-false (is_element last x) (count_below g.size (in_block last x)) 0 f))
+    ];
+    fronts = λ x l. elim (cases_Bool (is_element last x)) [
+      | inl y ↦ is_ended.fronts x y ∙ sym (cond-true (is_element last x) (pos (weight g last x)) (negsuc 0) y)
+      | inr f ↦ is_ended.no_front x l f ∙ sym (cond-false (is_element last x) (pos (weight g last x)) (negsuc 0) f)
+    ];
+  }
+
+-- ---- whatever graph is laid
+
+module _ (hold : Option (List Bool)) (threshold : ℕ) (aggressive : Bool) (iw pe : List ℤ) (len : List ℕ) (n_dense : ℕ) (figures : Figures)
+    (pe1 e_len1 nv1 : List ℤ) (degree1 : List ℕ)
+    (runs : RunsInPlace hold threshold aggressive iw pe len n_dense figures pe1 e_len1 nv1 degree1)
+    (pe2 e_len2 nv2 : List ℤ) (ends : EndsRows (length len) pe1 e_len1 degree1 pe2 e_len2 nv2)
+    (pe_long : length pe2 ≡ length len) (e_len_long : length e_len2 ≡ length len) (nv_long : length nv2 ≡ length len) where
+  module _ (g : Graph) (lists : ℕ → List ℕ) (lays : LaysGraph g lists iw pe len) where
+    abbrev dense : ℕ → Bool
+    dense = is_held_last hold g threshold
+
+    size_is : length len ≡ g.size
+    size_is = lays.neighbours.size
+
+    ends_here : EndsRows g.size pe1 e_len1 degree1 pe2 e_len2 nv2
+    ends_here = subst (λ k. EndsRows k pe1 e_len1 degree1 pe2 e_len2 nv2) size_is ends
+
+    -- the lists tell the end of some run
+    pub is_over : HasEnded pe2 nv2 e_len2
+    is_over = has_ended g dense aggressive lists n_dense figures pe1 e_len1 nv1 degree1 (runs g lists lays) pe2 e_len2 nv2 ends_here
+        (pe_long ∙ size_is) (e_len_long ∙ size_is) (nv_long ∙ size_is)
+
+    -- the listing is an answer
+    pub answers : (rows : List ℕ) → ListsEnded pe2 nv2 e_len2 rows → (t : ℤ) → 0 < length len → IsThreshold (length len) t threshold →
+        (p q : List ℤ) → p ≡ map pos rows → AreInverse (length len) p q → (compactions : ℕ) (before after : Info) →
+        after ≡ told_by n_dense figures compactions before →
+        AnswersInPlace g lists hold (length len) t aggressive p q nv2 e_len2 before after
+    unfolding answer_of
+    answers rows all t some is_threshold p q is inverse compactions before after told =
+        let e = runs g lists lays in
+        let order : IsPostorder g dense (last_state e.first e.reaches.states) rows =
+        listed g dense aggressive lists n_dense figures pe1 e_len1 nv1 degree1 e pe2 e_len2 nv2 ends_here
+        (pe_long ∙ size_is) (e_len_long ∙ size_is) (nv_long ∙ size_is) rows all in
+        record {
+          answer = answer_of g aggressive lists hold threshold e.first n_dense figures e.reaches rows order (length len) t (sym size_is) some
+              is_threshold p q is inverse compactions before after told;
+          elements = tells g dense aggressive lists n_dense figures pe1 e_len1 nv1 degree1 e pe2 e_len2 nv2 ends_here
+              (pe_long ∙ size_is) (e_len_long ∙ size_is) (nv_long ∙ size_is);
+        }
+
+-- ---- the same lists under other names
+
+pub ends_same : (n m : ℕ) (pe e_len e_len1 : List ℤ) (degree degree1 : List ℕ) (pe' e_len' nv' e_len2 nv2 : List ℤ) →
+    EndsRows n pe e_len degree pe' e_len' nv' → n ≡ m → e_len ≡ e_len1 → degree ≡ degree1 → e_len' ≡ e_len2 → nv' ≡ nv2 →
+    EndsRows m pe e_len1 degree1 pe' e_len2 nv2
+ends_same n m pe e_len e_len1 degree degree1 pe' e_len' nv' e_len2 nv2 ends size a b x y =
+    subst (λ k. EndsRows k pe e_len1 degree1 pe' e_len2 nv2) size
+    (subst (λ xs. EndsRows n pe xs degree1 pe' e_len2 nv2) a (subst (λ xs. EndsRows n pe e_len xs pe' e_len2 nv2) b
+    (subst (λ xs. EndsRows n pe e_len degree pe' xs nv2) x (subst (λ xs. EndsRows n pe e_len degree pe' e_len' xs) y ends))))
+
+pub answers_same : (g : Graph) (lists : ℕ → List ℕ) (hold : Option (List Bool)) (n : ℕ) (t : ℤ) (aggressive : Bool)
+    (p q nv e_len p1 q1 nv1 e_len1 : List ℤ) (before after : Info) → AnswersInPlace g lists hold n t aggressive p q nv e_len before after →
+    p ≡ p1 → q ≡ q1 → nv ≡ nv1 → e_len ≡ e_len1 → AnswersInPlace g lists hold n t aggressive p1 q1 nv1 e_len1 before after
+answers_same g lists hold n t aggressive p q nv e_len p1 q1 nv1 e_len1 before after is a b x y =
+    subst (λ xs. AnswersInPlace g lists hold n t aggressive xs q1 nv1 e_len1 before after) a
+    (subst (λ xs. AnswersInPlace g lists hold n t aggressive p xs nv1 e_len1 before after) b
+    (subst (λ xs. AnswersInPlace g lists hold n t aggressive p q xs e_len1 before after) x
+    (subst (λ xs. AnswersInPlace g lists hold n t aggressive p q nv xs before after) y is)))
+
+pub laid_same : (n m : ℕ) (iw iw1 pe pe1 : List ℤ) (len len1 : List ℕ) (free : ℕ) → IsLaidOut n iw pe len free → n ≡ m → iw ≡ iw1 →
+    pe ≡ pe1 → len ≡ len1 → IsLaidOut m iw1 pe1 len1 free
+laid_same n m iw iw1 pe pe1 len len1 free laid a b d e =
+    subst (λ k. IsLaidOut k iw1 pe1 len1 free) a (subst (λ xs. IsLaidOut n xs pe1 len1 free) b
+    (subst (λ xs. IsLaidOut n iw xs len1 free) d (subst (λ xs. IsLaidOut n iw pe xs free) e laid)))
+
+pub lays_same : (g : Graph) (lists : ℕ → List ℕ) (iw iw1 pe pe1 : List ℤ) (len len1 : List ℕ) → LaysGraph g lists iw pe len → iw ≡ iw1 →
+    pe ≡ pe1 → len ≡ len1 → LaysGraph g lists iw1 pe1 len1
+lays_same g lists iw iw1 pe pe1 len len1 lays b d e = subst (λ xs. LaysGraph g lists xs pe1 len1) b
+    (subst (λ xs. LaysGraph g lists iw xs len1) d (subst (λ xs. LaysGraph g lists iw pe xs) e lays))
+
+-- ---- the start
+
+-- of lists with nothing in them no entry names a row
+pub no_heads : (n : ℕ) (head hash : List ℕ) → head ≡ replicate n n → hash ≡ replicate n n → (b : ℕ) → b < n →
+    (n ≤ num head b) × (n ≤ num hash b)
+no_heads n head hash a c b l =
+    let x : num head b ≡ n = ap (λ xs. num xs b) a ∙ get_or-replicate n b n 0 l in
+    let y : num hash b ≡ n = ap (λ xs. num xs b) c ∙ get_or-replicate n b n 0 l in
+    (omega (arith, x), omega (arith, y))
+
+-- the lists of a matrix are laid
+pub lays_pattern : (n : ℕ) (ap' ai : List ℤ) (degrees len : List ℕ) (iw pe : List ℤ) →
+    AreCounts (graph_of n ap' ai) ((graph_of n ap' ai).edge) degrees → len ≡ degrees →
+    ((i : ℕ) → i < n → list_in iw pe len i ≡ starting_list n (is_pair n ap' ai) i) →
+    LaysGraph (graph_of n ap' ai) (starting_list n (is_pair n ap' ai)) iw pe len
+unfolding graph_of degree
+lays_pattern n ap' ai degrees len iw pe counts same lists = record {
+  neighbours = record {
+    graph = pattern_graph n ap' ai;
+    size = ap length same ∙ counts.size;
+    counts = λ i l. ap (λ xs. num xs i) same ∙ counts.each i l;
+    names = λ i l. starting_lists n ap' ai i;
+  };
+  laid = lists;
+}

@@ -1,0 +1,92 @@
+-- The run of the engine in place: the workspace before its first round, and what its rounds promise.
+use Rattle.std.specs.Prelude.{ℕ, ℤ, Bool, Option, List, ◌≡◌, ◌<◌, ◌≤◌, ◌+◌, length, max}
+use Rattle.amd_model.specs.Graph.{Graph}
+use Rattle.amd_model.specs.State.{State}
+use Rattle.amd_model.specs.Run.{last_state}
+use Rattle.amd_model.specs.Figures.{front_sum, entries, ldl_steps, lu_steps, cut}
+use Rattle.amd_model.specs.Input.Dense.{IsThreshold}
+use Rattle.amd_model.specs.Input.Held.{is_held_last}
+use Rattle.amd_numbers.specs.declared.amd.Info.{Info}
+use Rattle.amd_numbers.specs.declared.figures.Figures.{Figures}
+use Rattle.amd_places.specs.Layout.{list_in}
+use Rattle.amd_inplace.specs.Workspaces.{Workspace}
+use Rattle.amd_inplace.specs.Keeps.{Stands, AreRounds, NoRowIsLive}
+use Rattle.amd_engine.specs.Engine.{AreNeighbours, IsAnswerOf, Reaches, TellsElements}
+
+-- the figures before the first round: the rows held last are a front
+abbrev pub first_sums : ℕ → Figures
+first_sums n_dense = record {
+  lnz = cut (0 + front_sum entries n_dense 0);
+  n_mult_subs_ldl = cut (0 + front_sum ldl_steps n_dense 0);
+  n_mult_subs_lu = cut (0 + front_sum lu_steps n_dense 0);
+  d_max = max 1 (n_dense + 0);
+}
+
+-- the workspace before the first round
+abbrev pub at_start : List ℤ → List ℤ → List ℤ → List ℤ → List ℕ → List ℕ → List ℕ → List ℕ → List ℕ → List ℕ → List ℕ →
+    ℕ → ℕ → ℕ → ℕ → Workspace
+at_start iw pe e_len nv len degree w head next last hash free live flag n_dense = record {
+  iw = iw;
+  pe = pe;
+  e_len = e_len;
+  nv = nv;
+  len = len;
+  degree = degree;
+  w = w;
+  head = head;
+  next = next;
+  last = last;
+  hash = hash;
+  free = free;
+  live = live;
+  least = 0;
+  flag = flag;
+  most = 0;
+  n_cmp_a = 0;
+  n_dense = n_dense;
+  figures = first_sums n_dense;
+}
+
+-- rounds came to an end in a workspace that has these lists, and these figures
+pub record EndsIn (aggressive : Bool) (before : Workspace) (pe e_len nv : List ℤ) (degree : List ℕ) (n_dense : ℕ) (figures : Figures) :
+    Type 0 where
+  pub after : Workspace
+  pub rounds : AreRounds aggressive before after
+  pub over : NoRowIsLive after
+  pub pe_is : after.pe ≡ pe
+  pub e_len_is : after.e_len ≡ e_len
+  pub nv_is : after.nv ≡ nv
+  pub degree_is : after.degree ≡ degree
+  pub dense_is : after.n_dense ≡ n_dense
+  pub figures_are : after.figures ≡ figures
+
+-- the neighbours of each row of a graph are laid in a workspace
+pub record LaysGraph (g : Graph) (lists : ℕ → List ℕ) (iw pe : List ℤ) (len : List ℕ) : Type 0 where
+  pub neighbours : AreNeighbours g lists len
+  pub laid : (i : ℕ) → i < g.size → list_in iw pe len i ≡ lists i
+
+-- a run from these lists of a graph came to an end, and lists of numbers of each row stand for it
+pub record EndsRounds (g : Graph) (dense : ℕ → Bool) (aggressive : Bool) (lists : ℕ → List ℕ) (n_dense : ℕ) (figures : Figures)
+    (pe e_len nv : List ℤ) (degree : List ℕ) : Type 0 where
+  pub first : State
+  pub reaches : Reaches g dense aggressive lists first n_dense figures
+  pub words : ℕ
+  pub after : Workspace
+  pub stands : Stands g dense words after reaches.end (last_state first reaches.states)
+  pub pe_is : after.pe ≡ pe
+  pub e_len_is : after.e_len ≡ e_len
+  pub nv_is : after.nv ≡ nv
+  pub degree_is : after.degree ≡ degree
+
+-- so of whatever graph is laid, the marked and the dense rows held last
+abbrev pub RunsInPlace : Option (List Bool) → ℕ → Bool → List ℤ → List ℤ → List ℕ → ℕ → Figures → List ℤ → List ℤ → List ℤ →
+    List ℕ → Type 0
+RunsInPlace hold threshold aggressive iw pe len n_dense figures new_pe e_len nv degree = (g : Graph) (lists : ℕ → List ℕ) →
+    LaysGraph g lists iw pe len →
+    EndsRounds g (is_held_last hold g threshold) aggressive lists n_dense figures new_pe e_len nv degree
+
+-- of whatever graph is laid the engine answers an ordering, and tells its elements
+pub record AnswersInPlace (g : Graph) (lists : ℕ → List ℕ) (hold : Option (List Bool)) (n : ℕ) (t : ℤ) (aggressive : Bool)
+    (p q nv e_len : List ℤ) (old new : Info) : Type 0 where
+  pub answer : IsAnswerOf g lists hold n t aggressive p q old new
+  pub elements : TellsElements g (last_state answer.first answer.states) nv e_len

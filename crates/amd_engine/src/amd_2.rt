@@ -1,0 +1,141 @@
+// The elimination of a workspace that is laid: its start, its rounds, and the listing at the end. All memory is asked for before the first
+// round. Source: Amestoy, Davis and Duff 1996 and 2004. Called by `amd_1`, which is handed `amd_2_from`; `amd_2` by tests.
+
+ghost use Rattle.std.specs.Prelude.{◌≡◌, ◌<◌, ◌≤◌, ◌+◌, ◌^◌, ℕ, pos, List, map, length, IfOk, IfErr, OnOk};
+ghost use Rattle.std.specs.Option.{option_copied};
+ghost use Rattle.amd_model.specs.Graph.{Graph};
+ghost use Rattle.amd_model.specs.Input.Held.{HasMarks};
+ghost use Rattle.amd_workspace.specs.Laying.{IsLaidOut};
+ghost use Rattle.amd_engine.specs.InPlace.{AnswersInPlace, LaysGraph};
+
+use crate::fresh::{Counts, Links, fresh_counts, fresh_links, numbers};
+use crate::running::{Told, run};
+use amd_cells::{Figure, Signed, Unsigned, Word};
+use amd_listing::listing::listing;
+use amd_numbers::amd::{Control, Info, Status};
+use amd_numbers::dense::dense_threshold;
+use amd_workspace::ending::end_rows;
+use num_traits::PrimInt;
+use std::alloc::Allocator;
+
+/// Writes what a run tells.
+fn tell(told: &Told, info: &mut Info)
+    ensures { info.new ≡ record info.old {
+      n_dense = told.now.n_dense;
+      n_cmp_a = told.now.n_cmp_a;
+      lnz = told.now.figures.lnz;
+      n_div = told.now.figures.lnz;
+      n_mult_subs_ldl = told.now.figures.n_mult_subs_ldl;
+      n_mult_subs_lu = told.now.figures.n_mult_subs_lu;
+      d_max = told.now.figures.d_max;
+    } }
+{
+    info.n_dense = told.n_dense;
+    info.n_cmp_a = told.n_cmp_a;
+    told.figures.write_figures(info);
+}
+
+/// As `amd_2`, with a first flag of 2 or more: the answer is the same with each. For tests.
+///
+/// # Errors
+///
+/// `OutOfMemory` for a refused request.
+pub fn amd_2_from<I: PrimInt, S: Signed, U: Unsigned, A: Allocator + Copy>(
+    alloc: A,
+    flag: usize,
+    n: I,
+    pe: &mut [Word<S>],
+    iw: &mut [Word<S>],
+    len: &mut [Figure<U>],
+    pfree: usize,
+    control: &Control,
+    hold: Option<&[bool]>,
+    info: &mut Info,
+) -> Result<(Vec<Word<S>, A>, Vec<I, A>, Vec<I, A>, Vec<Word<S>, A>), Status>
+    requires fits { I.fits (I.value n) }
+    requires size { I.value n ≡ pos (length len.old) }
+    requires some { 0 < length len.old }
+    requires laid { IsLaidOut (length len.old) iw.old pe.old len.old pfree }
+    requires graph { (g : Graph) × (lists : ℕ → List ℕ) × LaysGraph g lists iw.old pe.old len.old }
+    requires room { pfree + length len.old ≤ length iw.old }
+    requires narrow { (length iw.old ≤ S.MOST) × (length iw.old ≤ U.MOST) × (length len.old + 2 ≤ S.MOST) × (length len.old + 2 ≤ U.MOST) }
+    requires flag { 2 ≤ flag }
+    requires marks { HasMarks (option_copied hold) (length len.old) }
+    ensures orders { IfOk result (λ a. (g : Graph) (lists : ℕ → List ℕ) → LaysGraph g lists iw.old pe.old len.old → AnswersInPlace g lists (option_copied hold.entry) (length len.old) control.now.dense control.now.aggressive (map I.value a.2.items) (map I.value a.1.items) a.0.items a.3.items info.old info.new) }
+    ensures compactions { OnOk result (info.new.n_cmp_a ≤ length len.old) }
+    ensures refused { IfErr result (λ e. e ≡ Status.OutOfMemory) }
+{
+    let count = len.len();
+    let threshold = dense_threshold(count, control);
+    let mut counts: Counts<S, U, A> = fresh_counts(alloc, count)?;
+    let mut links: Links<U, A> = fresh_links(alloc, count)?;
+    let mut p = numbers(alloc, count)?;
+    let mut p_inv = numbers(alloc, count)?;
+    let told = run(
+        iw,
+        pe,
+        &mut counts.e_len,
+        &mut counts.nv,
+        len,
+        &mut counts.degree,
+        &mut counts.w,
+        &mut links.head,
+        &mut links.next,
+        &mut links.last,
+        &mut links.hash,
+        pfree,
+        flag,
+        control,
+        hold,
+        threshold,
+    );
+    tell(&told, info);
+    end_rows(pe, &mut counts.e_len, &mut counts.nv, &counts.degree);
+    listing(
+        pe,
+        &counts.nv,
+        &counts.e_len,
+        &mut links.head,
+        &mut links.next,
+        &mut links.last,
+        &mut links.hash,
+        &mut p,
+        &mut p_inv,
+    );
+    Ok((counts.nv, p_inv, p, counts.e_len))
+}
+
+/// Eliminates the rows of a workspace of `iwlen` words in which the lists of the neighbours are laid: that of row `i` has `len[i]` words from
+/// `pe[i]` on, and no list has a word from `pfree` on. Answers the number of rows of the block of each element, the inverse of the
+/// permutation, the permutation, and the number of rows of the front of each element, and -1 for what is none.
+///
+/// # Errors
+///
+/// `OutOfMemory` for a refused request.
+pub fn amd_2<I: PrimInt, S: Signed, U: Unsigned, A: Allocator + Copy>(
+    alloc: A,
+    n: I,
+    pe: &mut [Word<S>],
+    iw: &mut [Word<S>],
+    len: &mut [Figure<U>],
+    iwlen: usize,
+    pfree: usize,
+    control: &Control,
+    hold: Option<&[bool]>,
+    info: &mut Info,
+) -> Result<(Vec<Word<S>, A>, Vec<I, A>, Vec<I, A>, Vec<Word<S>, A>), Status>
+    requires fits { I.fits (I.value n) }
+    requires size { I.value n ≡ pos (length len.old) }
+    requires some { 0 < length len.old }
+    requires words { length iw.old ≡ iwlen }
+    requires laid { IsLaidOut (length len.old) iw.old pe.old len.old pfree }
+    requires graph { (g : Graph) × (lists : ℕ → List ℕ) × LaysGraph g lists iw.old pe.old len.old }
+    requires room { pfree + length len.old ≤ iwlen }
+    requires narrow { (iwlen ≤ S.MOST) × (iwlen ≤ U.MOST) × (length len.old + 2 ≤ S.MOST) × (length len.old + 2 ≤ U.MOST) }
+    requires marks { HasMarks (option_copied hold) (length len.old) }
+    ensures orders { IfOk result (λ a. (g : Graph) (lists : ℕ → List ℕ) → LaysGraph g lists iw.old pe.old len.old → AnswersInPlace g lists (option_copied hold.entry) (length len.old) control.now.dense control.now.aggressive (map I.value a.2.items) (map I.value a.1.items) a.0.items a.3.items info.old info.new) }
+    ensures compactions { OnOk result (info.new.n_cmp_a ≤ length len.old) }
+    ensures refused { IfErr result (λ e. e ≡ Status.OutOfMemory) }
+{
+    amd_2_from(alloc, 2, n, pe, iw, len, pfree, control, hold, info)
+}

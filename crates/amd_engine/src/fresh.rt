@@ -1,0 +1,91 @@
+// Fresh lists for an elimination in one workspace and for its answer: all memory that it takes beside the words of its lists is asked for
+// here, before the first round. Called by `amd_2`.
+
+ghost use Rattle.std.specs.Prelude.{◌≡◌, ◌≤◌, ℕ, pos, replicate, length, IfOk};
+
+use amd_cells::{Figure, Signed, Unsigned, Word};
+use amd_workspace::filling::{figures, words};
+use num_traits::PrimInt;
+use std::alloc::{AllocError, Allocator};
+
+/// The numbers of each row.
+#[derive(Drop)]
+pub struct Counts<S: Signed, U: Unsigned, A: Allocator> {
+    /// The number of rows of each class, and at the end that of each block.
+    pub nv: Vec<Word<S>, A>,
+    /// The number of elements of each class, and at the end the number of rows of each front.
+    pub e_len: Vec<Word<S>, A>,
+    /// The bound of each class.
+    pub degree: Vec<Figure<U>, A>,
+    /// The counter of each row.
+    pub w: Vec<Figure<U>, A>,
+}
+
+/// The lists by bound, and the buckets. After the rounds they are room for the listing.
+#[derive(Drop)]
+pub struct Links<U: Unsigned, A: Allocator> {
+    /// The first class of each bound; there is none.
+    pub head: Vec<Figure<U>, A>,
+    /// The class behind each one.
+    pub next: Vec<Figure<U>, A>,
+    /// The class before each one.
+    pub last: Vec<Figure<U>, A>,
+    /// The first class of each bucket; there is none.
+    pub hash: Vec<Figure<U>, A>,
+}
+
+/// `count` zeros of the caller's type.
+///
+/// # Errors
+///
+/// A refused request for memory.
+pub fn numbers<I: PrimInt, A: Allocator>(alloc: A, count: usize) -> Result<Vec<I, A>, AllocError>
+    ensures { IfOk result (λ v. length v.items ≡ count) }
+{
+    let mut list = Vec::with_capacity(alloc, count)?;
+    'numbers: for _ in 0..count {
+        list.push_reserved(I::zero());
+    }
+    Ok(list)
+}
+
+/// The numbers of each of `n` rows, all of them 0.
+///
+/// # Errors
+///
+/// A refused request for memory.
+pub fn fresh_counts<S: Signed, U: Unsigned, A: Allocator + Copy>(
+    alloc: A,
+    n: usize,
+) -> Result<Counts<S, U, A>, AllocError>
+    ensures words { IfOk result (λ c. (length c.nv.items ≡ n) × (length c.e_len.items ≡ n)) }
+    ensures figures { IfOk result (λ c. (length c.degree.items ≡ n) × (length c.w.items ≡ n)) }
+{
+    Ok(Counts {
+        nv: words(alloc, n, 0)?,
+        e_len: words(alloc, n, 0)?,
+        degree: figures(alloc, n, 0)?,
+        w: figures(alloc, n, 0)?,
+    })
+}
+
+/// The lists by bound of `n` rows, and their buckets, with nothing in them.
+///
+/// # Errors
+///
+/// A refused request for memory.
+pub fn fresh_links<U: Unsigned, A: Allocator + Copy>(
+    alloc: A,
+    n: usize,
+) -> Result<Links<U, A>, AllocError>
+    requires narrow { n ≤ U.MOST }
+    ensures heads { IfOk result (λ l. (l.head.items ≡ replicate n n) × (l.hash.items ≡ replicate n n)) }
+    ensures links { IfOk result (λ l. (length l.next.items ≡ n) × (length l.last.items ≡ n)) }
+{
+    Ok(Links {
+        head: figures(alloc, n, n)?,
+        next: figures(alloc, n, 0)?,
+        last: figures(alloc, n, 0)?,
+        hash: figures(alloc, n, n)?,
+    })
+}

@@ -1,0 +1,145 @@
+// The run of the engine in place: its start, and its rounds until no row is live. It asks for no memory. Source: Amestoy, Davis and Duff
+// 1996 and 2004. Called by `amd_2`.
+
+ghost use Rattle.std.specs.Prelude.{◌≡◌, ◌<◌, ◌≤◌, ◌+◌, ℕ, Bool, List, length};
+ghost use Rattle.std.specs.Option.{option_copied};
+ghost use Rattle.amd_model.specs.Graph.{Graph};
+ghost use Rattle.amd_model.specs.Input.Held.{HasMarks};
+ghost use Rattle.amd_model.specs.State.{State};
+ghost use Rattle.amd_model.specs.Quotient.{QuotientGraph};
+ghost use Rattle.amd_places.specs.Words.{num};
+ghost use Rattle.amd_inplace.specs.Keeps.{Stands};
+ghost use Rattle.amd_workspace.specs.Laying.{IsLaidOut};
+ghost use Rattle.amd_engine.specs.InPlace.{EndsIn, LaysGraph, RunsInPlace, at_start, first_sums};
+
+use amd_cells::{Figure, Signed, Unsigned, Word};
+use amd_inplace::round::eliminate;
+use amd_inplace::work::Work;
+use amd_numbers::amd::Control;
+use amd_numbers::figures::Figures;
+use amd_workspace::starting::begin;
+
+/// What a run tells at its end.
+#[derive(Drop)]
+pub struct Told {
+    /// The number of rows held last.
+    pub n_dense: usize,
+    /// How often the lists were packed.
+    pub n_cmp_a: usize,
+    /// The figures of the fronts.
+    pub figures: Figures,
+}
+
+/// The figures before the first round: the rows held last are a front.
+fn first_figures(n_dense: usize) -> Figures
+    ensures { result ≡ first_sums n_dense }
+{
+    let mut sums = Figures {
+        lnz: 0,
+        n_mult_subs_ldl: 0,
+        n_mult_subs_lu: 0,
+        d_max: 1,
+    };
+    sums.add_front(n_dense, 0);
+    sums
+}
+
+/// Eliminates in a workspace that has begun, until no row is live.
+fn run_rounds<S: Signed, U: Unsigned>(
+    iw: &mut [Word<S>],
+    pe: &mut [Word<S>],
+    e_len: &mut [Word<S>],
+    nv: &mut [Word<S>],
+    len: &mut [Figure<U>],
+    degree: &mut [Figure<U>],
+    w: &mut [Figure<U>],
+    head: &mut [Figure<U>],
+    next: &mut [Figure<U>],
+    last: &mut [Figure<U>],
+    hash: &mut [Figure<U>],
+    free: usize,
+    live: usize,
+    flag: usize,
+    n_dense: usize,
+    control: &Control,
+) -> Told
+    requires words { (length iw.old ≤ S.MOST) × (length nv.old + 2 ≤ S.MOST) }
+    requires figures { (length iw.old ≤ U.MOST) × (length nv.old + 2 ≤ U.MOST) }
+    requires stands { (g : Graph) × (dense : ℕ → Bool) × (nzaat : ℕ) × (t : QuotientGraph) × (s : State) × Stands g dense nzaat (at_start iw.old pe.old e_len.old nv.old len.old degree.old w.old head.old next.old last.old hash.old free live flag n_dense) t s }
+    ensures ends { EndsIn control.now.aggressive (at_start iw.old pe.old e_len.old nv.old len.old degree.old w.old head.old next.old last.old hash.old free live flag n_dense) pe.new e_len.new nv.new degree.new result.n_dense result.figures }
+    ensures packs { result.n_cmp_a ≤ length nv.old }
+    ensures words { (length pe.new ≡ length pe.old) × (length e_len.new ≡ length e_len.old) × (length nv.new ≡ length nv.old) × (length degree.new ≡ length degree.old) }
+    ensures links { (length head.new ≡ length head.old) × (length next.new ≡ length next.old) × (length last.new ≡ length last.old) × (length hash.new ≡ length hash.old) }
+{
+    let mut work = Work {
+        iw,
+        pe,
+        e_len,
+        nv,
+        len,
+        degree,
+        w,
+        head,
+        next,
+        last,
+        hash,
+        free,
+        live,
+        least: 0,
+        flag,
+        most: 0,
+        n_cmp_a: 0,
+        n_dense,
+        figures: first_figures(n_dense),
+    };
+    eliminate(&mut work, control);
+    Told {
+        n_dense: work.n_dense,
+        n_cmp_a: work.n_cmp_a,
+        figures: work.figures,
+    }
+}
+
+/// Starts the elimination of a workspace that is laid, and eliminates until no row is live. The rows marked in `hold` and those of a degree
+/// above the threshold are held last.
+pub fn run<S: Signed, U: Unsigned>(
+    iw: &mut [Word<S>],
+    pe: &mut [Word<S>],
+    e_len: &mut [Word<S>],
+    nv: &mut [Word<S>],
+    len: &mut [Figure<U>],
+    degree: &mut [Figure<U>],
+    w: &mut [Figure<U>],
+    head: &mut [Figure<U>],
+    next: &mut [Figure<U>],
+    last: &mut [Figure<U>],
+    hash: &mut [Figure<U>],
+    free: usize,
+    flag: usize,
+    control: &Control,
+    hold: Option<&[bool]>,
+    threshold: usize,
+) -> Told
+    requires words { (length pe.old ≡ length len.old) × (length e_len.old ≡ length len.old) × (length nv.old ≡ length len.old) }
+    requires figures { (length degree.old ≡ length len.old) × (length w.old ≡ length len.old) }
+    requires links { (length head.old ≡ length len.old) × (length next.old ≡ length len.old) × (length last.old ≡ length len.old) × (length hash.old ≡ length len.old) }
+    requires narrow { (length iw.old ≤ S.MOST) × (length iw.old ≤ U.MOST) × (length len.old + 2 ≤ S.MOST) × (length len.old + 2 ≤ U.MOST) }
+    requires heads { (b : ℕ) → b < length len.old → (length len.old ≤ num head.old b) × (length len.old ≤ num hash.old b) }
+    requires marks { HasMarks (option_copied hold) (length len.old) }
+    requires laid { IsLaidOut (length len.old) iw.old pe.old len.old free }
+    requires room { free + length len.old ≤ length iw.old }
+    requires flag { 2 ≤ flag }
+    requires graph { (g : Graph) × (lists : ℕ → List ℕ) × LaysGraph g lists iw.old pe.old len.old }
+    ensures runs { RunsInPlace (option_copied hold.entry) threshold control.now.aggressive iw.old pe.old len.old result.n_dense result.figures pe.new e_len.new nv.new degree.new }
+    ensures packs { result.n_cmp_a ≤ length len.old }
+    ensures lengths { (length pe.new ≡ length len.old) × (length e_len.new ≡ length len.old) × (length nv.new ≡ length len.old) × (length degree.new ≡ length len.old) }
+    ensures links { (length head.new ≡ length len.old) × (length next.new ≡ length len.old) × (length last.new ≡ length len.old) × (length hash.new ≡ length len.old) }
+{
+    let (live, n_dense) = begin(
+        pe, e_len, nv, len, degree, w, head, next, last, hold, threshold,
+    );
+    run_rounds(
+        iw, pe, e_len, nv, len, degree, w, head, next, last, hash, free, live, flag, n_dense,
+        control,
+    )
+}

@@ -1,0 +1,114 @@
+-- Where the blocks of elements start: of different blocks, none more than there are rows.
+use Rattle.std.proofs.Common.{ℕ, ℤ, Bool, ◌≡◌, ◌≢◌, ◌<◌, ◌≤◌, ◌+◌, ◌&&◌, ◌||◌, ◌∷◌, [], true, false, inl, inr, refl, sym, ◌∙◌, ap, subst}
+use Rattle.std.proofs.Common.{arith, List, length, take, pos}
+use Rattle.std.specs.Prelude.{slice_index, slice_set, nat_lt, sum_by, ◌==◌}
+use Rattle.std.proofs.Math.ListN.{set}
+use Rattle.std.proofs.lemmas.List.{length-set, get_or-set_same, get_or-set_other, take_all}
+use Rattle.std.proofs.lemmas.List.Sums.{sum_by-cons, sum_by_more, sum_by_more_le, sum_by-take-le}
+use Rattle.std.proofs.lemmas.Bool.{cases_eq, cases_lt, ltb-true, eqb-true, and_parts, or_cases, false≢true}
+use Rattle.amd_model.specs.Below.{count_below}
+use Rattle.amd_model.specs.State.{Home, Last, Live, Gone, block_at}
+use Rattle.amd_model.specs.Quotient.{has, Once}
+use Rattle.amd_model.proofs.Counting.Below.{clash, count_most, count_same, count_zero}
+use Rattle.amd_model.proofs.Counting.Places.{has_place, places_differ}
+use Rattle.amd_model.proofs.Counting.Points.{pigeonhole}
+use Rattle.amd_model.proofs.Counting.Unions.{count_apart}
+use Rattle.amd_model.proofs.Listings.Words.{has_head, has_tail}
+use Rattle.amd_places.specs.Words.{num, size_of, word}
+use Rattle.amd_listing.specs.Blocks.{AreElements, AreStarts, BeginWith}
+
+-- the row is in the block of one of the elements
+in_blocks : List ℕ → Home → Bool
+in_blocks [] h = false
+in_blocks (e ∷ es) h = block_at e h || in_blocks es h
+
+-- the element of the block that a row is in
+pub one_home : (e : ℕ) (h : Home) → block_at e h ≡ true → h ≡ Gone e
+unfolding block_at
+one_home e Last q = absurd (false≢true q)
+one_home e (Live c) q = absurd (false≢true q)
+one_home e (Gone f) q = ap Gone (eqb-true f e q)
+
+its_element : (es : List ℕ) (h : Home) → in_blocks es h ≡ true → (e : ℕ) × (has es e ≡ true) × (h ≡ Gone e)
+unfolding in_blocks
+its_element [] h q = absurd (false≢true q)
+its_element (e ∷ es) h q = elim (or_cases (block_at e h) (in_blocks es h) q) [
+  | inl b ↦ (e, has_head e e es refl, one_home e h b)
+  | inr b ↦ (let r = its_element es h b in (r.0, has_tail r.0 e es r.1, r.2))
+]
+
+-- the blocks of different elements have no more rows together than there are rows in them
+sum_in_blocks : (n : ℕ) (home : ℕ → Home) (size : ℕ → ℕ) (es : List ℕ) → Once es →
+    ((e : ℕ) → has es e ≡ true → size e ≡ count_below n (λ v. block_at e (home v))) →
+    sum_by size es ≤ count_below n (λ v. in_blocks es (home v))
+unfolding in_blocks
+sum_in_blocks n home size [] once sizes = omega arith
+sum_in_blocks n home size (e ∷ es) once sizes =
+    let cons = sum_by-cons size e es in let is = sizes e (has_head e e es refl) in
+    let rest = sum_in_blocks n home size es once.1 (λ f h. sizes f (has_tail f e es h)) in
+    let union = count_apart n (λ v. block_at e (home v)) (λ v. in_blocks es (home v)) (λ v l a b.
+    let r = its_element es (home v) b in
+    let x : Gone e ≡ Gone r.0 = sym (one_home e (home v) a) ∙ r.2 in let same : r.0 ≡ e = cc in
+    clash (subst (λ f. has es f ≡ true) same r.1) once.0) in
+    omega (arith, cons, is, rest, union)
+
+module _ (n : ℕ) (home : ℕ → Home) (es : List ℕ) (nv : List ℤ) (a : AreElements n home es nv) where
+  -- the blocks have at most n rows
+  pub sizes_fit : sum_by (size_of nv) es ≤ n
+  sizes_fit = let sum = sum_in_blocks n home (size_of nv) es a.once a.sizes in let most = count_most n (λ v. in_blocks es (home v)) in
+      omega (arith, sum, most)
+
+  pub element_small : (k : ℕ) → k < length es → slice_index es k < n
+  element_small k l = let e = slice_index es k in
+      ltb-true e n (and_parts (nat_lt e n) (nat_lt 0 (size_of nv e)) (sym (a.each e) ∙ has_place es k l)).0
+
+  pub elements_fit : length es ≤ n
+  elements_fit = pigeonhole n (length es) (slice_index es) element_small (λ j k l m. places_differ es a.once j k l m)
+
+-- the blocks of the first k elements start one after another, and `total` is where the next one starts
+pub record AreStarted (k : ℕ) (es : List ℕ) (nv : List ℤ) (starts : List ℕ) (total : ℕ) : Type 0 where
+  pub sum : total ≡ sum_by (size_of nv) (take k es)
+  pub each : (j : ℕ) → j < k → num starts (slice_index es j) ≡ sum_by (size_of nv) (take j es)
+
+pub started_none : (es : List ℕ) (nv : List ℤ) (starts : List ℕ) → AreStarted 0 es nv starts 0
+started_none es nv starts = record { sum = refl; each = λ j l. absurd (omega arith) }
+
+module _ (n : ℕ) (home : ℕ → Home) (es : List ℕ) (nv : List ℤ) (a : AreElements n home es nv) where
+  -- the next block lies within the rows
+  pub started_small : (k : ℕ) (starts : List ℕ) (total : ℕ) → AreStarted k es nv starts total → k < length es →
+      total + size_of nv (slice_index es k) ≤ n
+  started_small k starts total s l = let more = sum_by_more_le (size_of nv) es k 0 l in let fit = sizes_fit n home es nv a in
+      let sum = s.sum in omega (arith, more, fit, sum)
+
+  pub started_more : (k : ℕ) (starts : List ℕ) (total : ℕ) → AreStarted k es nv starts total → k < length es → length starts ≡ n →
+      AreStarted (k + 1) es nv (set starts (slice_index es k) total) (total + size_of nv (slice_index es k))
+  started_more k starts total s l room =
+      let e : ℕ = slice_index es k in let more = sum_by_more (size_of nv) es k 0 l in let sum = s.sum in
+      let small = element_small n home es nv a k l in
+      record {
+        sum = omega (arith, more, sum);
+        each = λ j m. elim (cases_eq j k) [
+          | inl same ↦ ap (λ i. num (set starts e total) (slice_index es i)) same
+              ∙ get_or-set_same starts e total 0 (omega (arith, small, room)) ∙ s.sum ∙ ap (λ i. sum_by (size_of nv) (take i es)) (sym same)
+          | inr ne ↦ (let low : j < k = omega (arith, m, ne) in
+              get_or-set_other starts e (slice_index es j) total 0 (places_differ es a.once j k low l) ∙ s.each j low)
+        ];
+      }
+
+  pub started_all : (k : ℕ) (starts : List ℕ) (total : ℕ) → AreStarted k es nv starts total → k ≡ length es → length starts ≡ n →
+      AreStarts n es nv starts total
+  started_all k starts total s all room = record {
+    long = room;
+    each = λ j l. s.each j (omega (arith, l, all));
+    end_is = s.sum ∙ ap (sum_by (size_of nv)) (take_all k es (omega (arith, all)));
+  }
+
+-- the number of rows that is read at an element
+pub size_read : (nv : List ℤ) (x e m : ℕ) → x ≡ e → word nv x ≡ pos (size_of nv x) → word nv x ≡ pos m → m ≡ size_of nv e
+size_read nv x e m q counts is = (let y : pos m ≡ pos (size_of nv x) = sym is ∙ counts in let z : m ≡ size_of nv x = cc in
+    z ∙ ap (size_of nv) q)
+
+-- the element that is read at a place of the list
+pub begun_at : (figures : List ℕ) (count : ℕ) (es : List ℕ) → BeginWith figures count es → (k x : ℕ) → k < count → x ≡ num figures k →
+    x ≡ slice_index es k
+begun_at figures count es b k x l q = q ∙ b.each k l

@@ -1,0 +1,54 @@
+// The blocks of the elements in the order of a listing: which element is listed at each place, and where its block
+// starts among the rows. Source: Amestoy, Davis and Duff 2004. Called by `listing`.
+
+ghost use Rattle.std.specs.Prelude.{◌≡◌, ◌<◌, ◌≤◌, ℕ, List, length, slice_index, pos};
+ghost use Rattle.amd_model.specs.Listing.{Tree};
+ghost use Rattle.amd_model.specs.State.{Home};
+ghost use Rattle.amd_places.specs.Words.{word, size_of};
+ghost use Rattle.amd_trees.specs.Trees.{IsPostorderOf};
+ghost use Rattle.amd_trees.specs.FigureLinks.{figure_links};
+ghost use Rattle.amd_listing.specs.Blocks.{AreElements, AreStarts, BeginWith};
+
+use amd_cells::{Figure, Signed, Unsigned, Word, figure_at, put_figure, row_at};
+use amd_trees::link::Link;
+
+/// Writes the element of each place of a listing, and answers how many there are.
+pub fn by_place<U: Unsigned>(order: &[Figure<U>], elements: &mut [Figure<U>]) -> usize
+    requires room { length elements.old ≡ length order.now }
+    requires narrow { length order.now ≤ U.MOST }
+    requires listed { (t : Tree) × (o : IsPostorderOf t (figure_links U.MOST order.now)) × ((k : ℕ) → k < length o.listing → slice_index o.listing k < t.size) }
+    ensures room { length elements.new ≡ length elements.old }
+    ensures elements { (t : Tree) → (o : IsPostorderOf t (figure_links U.MOST order.now)) → ((k : ℕ) → k < length o.listing → slice_index o.listing k < t.size) → BeginWith elements.new result o.listing }
+{
+    let mut count = 0;
+    'elements: for e in 0..order.len() {
+        if let Some(place) = Link::link_at(order, e) {
+            put_figure(elements, place, e);
+            count += 1;
+        }
+    }
+    count
+}
+
+/// Writes where the block of each of the first `count` elements starts, one after another. Answers where the last one
+/// ends.
+pub fn block_starts<S: Signed, U: Unsigned>(
+    nv: &[Word<S>],
+    elements: &[Figure<U>],
+    count: usize,
+    starts: &mut [Figure<U>],
+) -> usize
+    requires lengths { (length elements.now ≡ length nv.now) × (length starts.old ≡ length nv.now) }
+    requires narrow { length nv.now ≤ U.MOST }
+    requires counts { (v : ℕ) → word nv.now v ≡ pos (size_of nv.now v) }
+    requires blocks { (home : ℕ → Home) × (es : List ℕ) × AreElements (length nv.now) home es nv.now × BeginWith elements.now count es }
+    ensures { (home : ℕ → Home) (es : List ℕ) → AreElements (length nv.now) home es nv.now → BeginWith elements.now count es → AreStarts (length nv.now) es nv.now starts.new result }
+{
+    let mut total = 0;
+    'places: for k in 0..count {
+        let e = figure_at(elements, k);
+        put_figure(starts, e, total);
+        total += row_at(nv, e);
+    }
+    total
+}

@@ -1,0 +1,164 @@
+// The rows of a listing: each is put at its place in the block of the element to which its links lead, and those held
+// last behind all blocks; links are shortened on the way. Source: Amestoy, Davis and Duff 2004. Called by `listing`.
+
+ghost use Rattle.std.specs.Prelude.{◌≡◌, ◌<◌, ◌≤◌, ◌+◌, ℕ, List, true, false, length, map, pos, slice_index, slice_set};
+ghost use Rattle.amd_model.specs.State.{Home, Gone, gone_at, live_at};
+ghost use Rattle.amd_numbers.specs.Permutations.{AreInverse};
+ghost use Rattle.amd_places.specs.Words.{num, in_front, size_of};
+ghost use Rattle.amd_listing.specs.Blocks.{AreElements, AreStarts, listing_of};
+ghost use Rattle.amd_listing.specs.Ended.{LinksAre};
+ghost use Rattle.amd_listing.specs.Placing.{AllPlaced, AreBlocks, HasElements, OthersPlaced};
+
+use amd_cells::{Figure, Signed, Unsigned, Word, figure_at, put_figure};
+use amd_numbers::internal::from_count;
+use amd_places::words::{named, names_one, put_row, size_outside};
+use num_traits::PrimInt;
+
+/// The element to which the links from a row lead.
+fn root_of<S: Signed>(link: &[Word<S>], nv: &[Word<S>], v: usize) -> usize
+    requires led { (home : ℕ → Home) × LinksAre (length nv.now) link.now nv.now home × (gone_at (home v) ≡ true) }
+    ensures within { result < length nv.now }
+    ensures rows { 0 < size_of nv.now result }
+    ensures home { (home : ℕ → Home) → LinksAre (length nv.now) link.now nv.now home → home v ≡ Gone result }
+{
+    let mut row = v;
+    'links: while size_outside(nv, row) == 0 {
+        row = named(link, row);
+    }
+    row
+}
+
+/// Links a row and those on the way from it to their element straight to that.
+fn shortcut<S: Signed>(link: &mut [Word<S>], nv: &[Word<S>], v: usize, root: usize)
+    requires led { (home : ℕ → Home) × LinksAre (length nv.now) link.old nv.now home × (gone_at (home v) ≡ true) }
+    requires root { (root < length nv.now) × (0 < size_of nv.now root) }
+    requires home { (home : ℕ → Home) → LinksAre (length nv.now) link.old nv.now home → home v ≡ Gone root }
+    requires narrow { length nv.now ≤ S.MOST }
+    ensures { (home : ℕ → Home) → LinksAre (length nv.now) link.old nv.now home → LinksAre (length nv.now) link.new nv.now home }
+{
+    let mut row = v;
+    'links: while size_outside(nv, row) == 0 {
+        let next = named(link, row);
+        put_row(link, row, root);
+        row = next;
+    }
+}
+
+/// The element to which the links from a row lead that is none itself. They are shortened where there is more than one.
+fn element_of<S: Signed>(link: &mut [Word<S>], nv: &[Word<S>], v: usize) -> usize
+    requires led { (home : ℕ → Home) × LinksAre (length nv.now) link.old nv.now home × (gone_at (home v) ≡ true) }
+    requires apart { size_of nv.now v ≡ 0 }
+    requires narrow { length nv.now ≤ S.MOST }
+    ensures within { result < length nv.now }
+    ensures rows { 0 < size_of nv.now result }
+    ensures home { (home : ℕ → Home) → LinksAre (length nv.now) link.old nv.now home → home v ≡ Gone result }
+    ensures led { (home : ℕ → Home) → LinksAre (length nv.now) link.old nv.now home → LinksAre (length nv.now) link.new nv.now home }
+{
+    let next = named(link, v);
+    if size_outside(nv, next) != 0 {
+        return next;
+    }
+    let root = root_of(link, nv, next);
+    shortcut(link, nv, v, root);
+    root
+}
+
+/// Takes the next place of the block of an element.
+fn take_place<U: Unsigned>(place: &mut [Figure<U>], e: usize) -> usize
+    requires inside { e < length place.old }
+    requires fits { num place.old e + 1 ≤ U.MOST }
+    ensures is { result ≡ num place.old e }
+    ensures next { place.new ≡ slice_set place.old e (num place.old e + 1) }
+{
+    let k = figure_at(place, e);
+    put_figure(place, e, k + 1);
+    k
+}
+
+/// Puts a row at a place of the listing.
+fn put_listed<I: PrimInt>(p: &mut [I], p_inv: &mut [I], v: usize, k: usize)
+    requires inside { (v < length p_inv.old) × (k < length p.old) }
+    requires fits { I.fits (pos v) × I.fits (pos k) }
+    ensures listed { map I.value p.new ≡ slice_set (map I.value p.old) k (pos v) }
+    ensures inverse { map I.value p_inv.new ≡ slice_set (map I.value p_inv.old) v (pos k) }
+{
+    let (Some(row), Some(place)) = (from_count(v), from_count(k)) else {
+        unreachable!();
+    };
+    p[k] = row;
+    p_inv[v] = place;
+}
+
+/// Puts the rows that are no element at their places, rising: each at the next place of its block, and those held last
+/// behind all blocks. The place of each element is left at the last one of its block.
+fn place_others<I: PrimInt, S: Signed, U: Unsigned>(
+    link: &mut [Word<S>],
+    nv: &[Word<S>],
+    place: &mut [Figure<U>],
+    end: usize,
+    p: &mut [I],
+    p_inv: &mut [I],
+)
+    requires lengths { (length p.old ≡ length nv.now) × (length p_inv.old ≡ length nv.now) }
+    requires narrow { (length nv.now ≤ S.MOST) × (length nv.now ≤ U.MOST) }
+    requires fits { (k : ℕ) → k < length nv.now → I.fits (pos k) }
+    requires blocks { (home : ℕ → Home) × (elements : List ℕ) × AreBlocks link.old nv.now place.old end home elements }
+    ensures placed { (home : ℕ → Home) (elements : List ℕ) → AreBlocks link.old nv.now place.old end home elements → OthersPlaced nv.now (listing_of (length nv.now) home elements) (map I.value p.new) (map I.value p_inv.new) }
+    ensures last { (e : ℕ) → 0 < size_of nv.now e → num place.new e + 1 ≡ num place.old e + size_of nv.now e }
+{
+    let mut next = end;
+    'rows: for v in 0..nv.len() {
+        if size_outside(nv, v) == 0 {
+            if names_one(link, v) {
+                let e = element_of(link, nv, v);
+                let k = take_place(place, e);
+                put_listed(p, p_inv, v, k);
+            } else {
+                put_listed(p, p_inv, v, next);
+                next += 1;
+            }
+        }
+    }
+}
+
+/// Puts the pivot row of each element at the last place of its block.
+fn place_elements<I: PrimInt, S: Signed, U: Unsigned>(
+    nv: &[Word<S>],
+    place: &[Figure<U>],
+    p: &mut [I],
+    p_inv: &mut [I],
+)
+    requires lengths { (length place.now ≡ length nv.now) × (length p.old ≡ length nv.now) × (length p_inv.old ≡ length nv.now) }
+    requires fits { (k : ℕ) → k < length nv.now → I.fits (pos k) }
+    requires fresh { (v : ℕ) → in_front nv.now v ≡ false }
+    requires places { (e : ℕ) → 0 < size_of nv.now e → num place.now e < length nv.now }
+    ensures { (listing : List ℕ) → length listing ≡ length nv.now → HasElements nv.now place.now listing → OthersPlaced nv.now listing (map I.value p.old) (map I.value p_inv.old) → AllPlaced (length nv.now) listing (map I.value p.new) (map I.value p_inv.new) }
+{
+    'rows: for e in 0..nv.len() {
+        if size_outside(nv, e) != 0 {
+            put_listed(p, p_inv, e, figure_at(place, e));
+        }
+    }
+}
+
+/// Writes the listing of the blocks of the elements and its inverse: of each block, which starts where `starts` says,
+/// the other rows rising and then its pivot row, and from `end` on the rows held last, rising. Links are shortened;
+/// what `starts` then holds is not said.
+pub fn place_rows<I: PrimInt, S: Signed, U: Unsigned>(
+    link: &mut [Word<S>],
+    nv: &[Word<S>],
+    starts: &mut [Figure<U>],
+    end: usize,
+    p: &mut [I],
+    p_inv: &mut [I],
+)
+    requires lengths { (length link.old ≡ length nv.now) × (length starts.old ≡ length nv.now) × (length p.old ≡ length nv.now) × (length p_inv.old ≡ length nv.now) }
+    requires narrow { (length nv.now + 2 ≤ S.MOST) × (length nv.now + 2 ≤ U.MOST) }
+    requires fits { (k : ℕ) → k < length nv.now → I.fits (pos k) }
+    requires blocks { (home : ℕ → Home) × (elements : List ℕ) × LinksAre (length nv.now) link.old nv.now home × AreElements (length nv.now) home elements nv.now × AreStarts (length nv.now) elements nv.now starts.old end × ((v : ℕ) → live_at (home v) ≡ false) }
+    ensures rows { (home : ℕ → Home) (elements : List ℕ) → LinksAre (length nv.now) link.old nv.now home → AreElements (length nv.now) home elements nv.now → AreStarts (length nv.now) elements nv.now starts.old end → ((v : ℕ) → live_at (home v) ≡ false) → map I.value p.new ≡ map pos (listing_of (length nv.now) home elements) }
+    ensures inverse { AreInverse (length nv.now) (map I.value p.new) (map I.value p_inv.new) }
+{
+    place_others(link, nv, starts, end, p, p_inv);
+    place_elements(nv, starts, p, p_inv);
+}

@@ -1,0 +1,178 @@
+-- The lists of neighbours, laid one after another in one workspace.
+use Rattle.std.proofs.Common.{ℕ, ℤ, Bool, true, false, List, [], ◌∷◌, ◌++◌, zero, suc, ◌≡◌, ◌<◌, ◌≤◌, ◌+◌, ◌-◌, inl, inr}
+use Rattle.std.proofs.Common.{refl, sym, ap, ◌∙◌, arith, cond, map, length, get_or, set, take, drop, pos, get_or-set_same, get_or-set_other}
+use Rattle.std.proofs.Common.{length-drop}
+use Rattle.std.specs.Prelude.{replicate}
+use Rattle.std.proofs.lemmas.Bool.{cases_Bool, cases_eq, cases_lt}
+use Rattle.std.proofs.lemmas.List.{length-map, length-set, length-replicate, get_or-replicate, get_or-map, get_or-drop, get_or_past}
+use Rattle.std.proofs.lemmas.List.{map-set, take_more, map-append}
+use Rattle.amd_model.specs.Below.{sum_below, count_below}
+use Rattle.amd_model.specs.Graph.{Graph}
+use Rattle.amd_edges.specs.Visits.{IsNew, with_arc, AreCounts, start_of, ends_of}
+use Rattle.amd_edges.proofs.Listing.{start_later, start_sums, lists_none, lists_more, place_in}
+use Rattle.amd_places.specs.Words.{num, is_place, place, word, start, rows}
+use Rattle.amd_places.specs.Layout.{has_list, end_of, list_in, words_below, live_words}
+use Rattle.amd_places.proofs.Frames.{has_parts, has_none}
+use Rattle.amd_places.proofs.RowLists.{rows_none, rows_more}
+use Rattle.amd_workspace.specs.Laying.{Lays, Starts, IsLaidOut}
+
+-- ---- words as rows
+
+pub row_at : (iw : List ℤ) (k : ℕ) → get_or (map place iw) k 0 ≡ place (word iw k)
+unfolding place
+row_at iw k = elim (cases_lt k (length iw)) [
+  | inl l ↦ get_or-map place iw k (pos 0) 0 l
+  | inr l ↦ get_or_past (map place iw) k 0 (let e = length-map iw place in omega (arith, e, l))
+      ∙ ap place (sym (get_or_past iw k (pos 0) l))
+]
+
+-- the rows of a stretch of words are a stretch of the rows of all words
+pub rows_slice : (iw : List ℤ) (from count : ℕ) → from + count ≤ length iw → rows iw from count ≡ take count (drop from (map place iw))
+rows_slice iw from zero l = rows_none iw from
+rows_slice iw from (suc n) l =
+    let e : suc n ≡ n + 1 = omega arith in
+    let long : n < length (drop from (map place iw)) = (let a = length-drop from (map place iw) in let b = length-map iw place in
+    omega (arith, a, b, l)) in
+    let last : get_or (drop from (map place iw)) n 0 ≡ place (word iw (from + n)) =
+    get_or-drop from (map place iw) n 0 ∙ row_at iw (from + n) in
+    ap (rows iw from) e ∙ rows_more iw from n ∙ ap (λ xs. xs ++ place (word iw (from + n)) ∷ []) (rows_slice iw from n (omega (arith, l)))
+    ∙ ap (λ x. take n (drop from (map place iw)) ++ x ∷ []) (sym last) ∙ sym (take_more (drop from (map place iw)) n 0 long)
+    ∙ ap (λ m. take m (drop from (map place iw))) (sym e)
+
+place_set : (iw : List ℤ) (v j : ℕ) → map place (set iw v (pos j)) ≡ set (map place iw) v j
+unfolding place
+place_set iw v j = map-set place iw v (pos j)
+
+row_word : (n : ℕ) (x : ℤ) (j : ℕ) → x ≡ pos j → j < n → (is_place x ≡ true) × (place x < n)
+unfolding is_place place
+row_word n x j e l = rw e (refl, l)
+
+-- ---- the walk
+
+module _ (g : Graph) (seen : ℕ → ℕ → Bool) (arcs : List (ℕ × ℕ)) (i j : ℕ) (new : IsNew g seen i j) (most_word most_figure : ℕ)
+    (next : List ℕ) (iw : List ℤ) (h : Lays g seen arcs most_word most_figure next iw) where
+  pub lay_in : get_or next i 0 < length iw
+  lay_in = let a = place_in g seen arcs i j new next (map place iw) h.lists in let b = length-map iw place in omega (arith, a, b)
+
+  pub lays_more : (value : ℕ) → value ≡ get_or next i 0 →
+      Lays g (with_arc seen i j) (arcs ++ (i, j) ∷ []) most_word most_figure (set next i (value + 1)) (set iw value (pos j))
+  lays_more value is = record {
+    lists = rw (place_set iw value j) (lists_more g seen arcs i j new next (map place iw) h.lists value is);
+    words = λ k. elim (cases_eq k value) [
+      | inl e ↦ row_word g.size _ j (rw e (get_or-set_same iw value (pos j) (pos 0) (let a = lay_in in omega (arith, a, is)))) new.j_row
+      | inr ne ↦ rw (get_or-set_other iw value k (pos j) (pos 0) ne) (h.words k)
+    ];
+    rows = h.rows;
+    places = (let a = length-set iw value (pos j) in let b = h.places in omega (arith, a, b));
+  }
+
+-- ---- the starts
+
+pub sum_next : (n : ℕ) (f : ℕ → ℕ) → sum_below (n + 1) f ≡ f n + sum_below n f
+unfolding sum_below
+sum_next n f = let e : n + 1 ≡ suc n = omega arith in ap (λ m. sum_below m f) e
+
+pub total_is : (g : Graph) (degrees : List ℕ) → AreCounts g g.edge degrees → sum_below (length degrees) (num degrees) ≡ start_of g g.size
+total_is g degrees h = ap (λ n. sum_below n (num degrees)) h.size ∙ start_sums g degrees h g.size (omega arith)
+
+-- one start more
+pub words_next : (pe : List ℤ) (next : List ℕ) (total : ℕ) → pe ≡ map pos next → pe ++ pos total ∷ [] ≡ map pos (next ++ total ∷ [])
+words_next pe next total e = ap (λ xs. xs ++ pos total ∷ []) e ∙ sym (map-append pos next (total ∷ []))
+
+module _ (g : Graph) (degrees : List ℕ) (pe : List ℤ) (next len : List ℕ) (counts : AreCounts g g.edge degrees)
+    (s : Starts degrees pe next len) where
+  pub first_at : (i : ℕ) → i < g.size → get_or next i 0 ≡ start_of g i
+  first_at i l = s.each i (let a = counts.size in omega (arith, a, l)) ∙ start_sums g degrees counts i (omega (arith, l))
+
+  start_word : (i : ℕ) → i < g.size → word pe i ≡ pos (start_of g i)
+  start_word i l = ap (λ w. word w i) s.words
+      ∙ get_or-map pos next i 0 (pos 0) (let a = counts.size in let b = s.long in omega (arith, a, b, l)) ∙ ap pos (first_at i l)
+
+  pub start_at : (i : ℕ) → i < g.size → start pe i ≡ start_of g i
+  unfolding place
+  start_at i l = ap place (start_word i l)
+
+  start_place : (i : ℕ) → i < g.size → is_place (word pe i) ≡ true
+  unfolding is_place
+  start_place i l = ap is_place (start_word i l)
+
+  pub count_at : (i : ℕ) → i < g.size → num len i ≡ count_below g.size (g.edge i)
+  count_at i l = ap (λ xs. num xs i) s.counts ∙ counts.each i l
+
+  long : length len ≡ g.size
+  long = ap length s.counts ∙ counts.size
+
+  in_rows : (j : ℕ) → has_list pe len j ≡ true → j < g.size
+  in_rows j h = elim (cases_lt j (length len)) [
+    | inl l ↦ (let a = long in omega (arith, a, l))
+    | inr l ↦ (let a = (has_parts pe len j h).1 in let b = get_or_past len j 0 l in absurd (omega (arith, a, b)))
+  ]
+
+  -- no list is there before the walk
+  pub lays_none : (most_word most_figure room : ℕ) → 0 < g.size → start_of g g.size ≤ room → g.size ≤ most_word → room ≤ most_figure →
+      Lays g (λ a b. false) [] most_word most_figure next (replicate room (pos 0))
+  unfolding place is_place
+  lays_none most_word most_figure room some fits rows places =
+      let size = length-replicate room (pos 0) in record {
+        lists = lists_none g next (map place (replicate room (pos 0))) (s.long ∙ counts.size)
+            (let a = length-map (replicate room (pos 0)) place in omega (arith, a, size, fits)) first_at;
+        words = λ k. elim (cases_lt k room) [
+          | inl l ↦ row_word g.size _ 0 (get_or-replicate room k (pos 0) (pos 0) l) some
+          | inr l ↦ row_word g.size _ 0 (get_or_past (replicate room (pos 0)) k (pos 0) (omega (arith, size, l))) some
+        ];
+        rows = rows;
+        places = omega (arith, size, places);
+      }
+
+  words_sum : (n : ℕ) → n ≤ g.size → live_words n pe len ≡ start_of g n
+  unfolding words_below sum_below start_of
+  words_sum zero l = refl
+  words_sum (suc n) l =
+      let a = words_sum n (omega (arith, l)) in let m = count_at n (omega (arith, l)) in
+      let own : cond (has_list pe len n) (num len n) 0 ≡ num len n = elim (cases_Bool (has_list pe len n)) [
+        | inl h ↦ ap (λ b. cond b (num len n) 0) h
+        | inr h ↦ ap (λ b. cond b (num len n) 0) h ∙ sym (has_none pe len n (start_place n (omega (arith, l))) h)
+      ] in
+      omega (arith, a, m, own)
+
+  module _ (arcs : List (ℕ × ℕ)) (most_word most_figure : ℕ) (ends : List ℕ) (iw : List ℤ)
+      (h : Lays g g.edge arcs most_word most_figure ends iw) where
+    room : start_of g g.size ≤ length iw
+    room = let a = h.lists.room in let b = length-map iw place in omega (arith, a, b)
+
+    -- the list of a row has the rows that its arcs lead to, in their order
+    pub laid_list : (i : ℕ) → i < g.size → list_in iw pe len i ≡ ends_of i arcs
+    laid_list i l =
+        let a = start_at i l in let c = count_at i l in let e = h.lists.ends i l in let b = start_later g i g.size l in let r = room in
+        let m : get_or ends i 0 - start_of g i ≡ num len i = omega (arith, c, e) in
+        let fits : start_of g i + num len i ≤ length iw = omega (arith, b, c, r) in
+        ap (λ f. rows iw f (num len i)) a ∙ rows_slice iw (start_of g i) (num len i) fits
+        ∙ ap (λ k. take k (drop (start_of g i) (map place iw))) (sym m) ∙ h.lists.order i l
+
+    within : (j : ℕ) → has_list pe len j ≡ true → end_of pe len j ≤ start_of g g.size
+    within j k = let l = in_rows j k in let a = start_at j l in let c = count_at j l in let b = start_later g j g.size l in
+        omega (arith, a, b, c)
+
+    before : (i j : ℕ) → i < j → j < g.size → end_of pe len i ≤ start pe j
+    before i j l m = let x = start_at i (omega (arith, l, m)) in let y = start_at j m in let c = count_at i (omega (arith, l, m)) in
+        let b = start_later g i j l in omega (arith, x, y, b, c)
+
+    pub laid_out : IsLaidOut g.size iw pe len (start_of g g.size)
+    unfolding place
+    laid_out = record {
+      starts_long = ap length s.words ∙ length-map next pos ∙ s.long ∙ counts.size;
+      lengths_long = long;
+      starts = start_place;
+      layout = record {
+        within = within;
+        apart = λ i j a b ne. elim (cases_lt i j) [
+          | inl l ↦ inl (before i j l (in_rows j b))
+          | inr l ↦ inr (before j i (omega (arith, l, ne)) (in_rows i a))
+        ];
+        parts = λ j a. (let e : place (word (replicate g.size (pos 0)) j) ≡ 0 =
+            ap place (get_or-replicate g.size j (pos 0) (pos 0) (in_rows j a)) in omega (arith, e));
+        words = λ k l. h.words k;
+      };
+      words = words_sum g.size (omega arith);
+      room = room;
+    }

@@ -1,0 +1,171 @@
+-- The goals of starting::begin.
+use Rattle.std.proofs.Common.{ℕ, Bool, true, false, List, ◌≡◌, ◌<◌, ◌≤◌, ◌+◌, ◌||◌, ◌∙◌, ap, sym, subst, refl, inl, inr, cond}
+use Rattle.std.proofs.Common.{negsuc, arith, length, reverse, set}
+use Rattle.std.specs.Prelude.{nat_lt, ◌==◌, not}
+use Rattle.std.specs.Option.{option_copied}
+use Rattle.std.proofs.lemmas.Bool.{cases_Bool, true≢false}
+use Rattle.amd_model.specs.Below.{count_below, sum_below}
+use Rattle.amd_model.specs.Input.Held.{is_marked}
+use Rattle.amd_model.proofs.Counting.Below.{count_most}
+use Rattle.amd_views.proofs.Lists.Rising.{count_yes, count_no}
+use Rattle.amd_views.proofs.Starting.{class_test}
+use Rattle.amd_places.specs.Words.{num, flip_of}
+use Rattle.amd_places.specs.Chains.{DegreeLists}
+use Rattle.amd_workspace.specs.Starting.{Rows, held_in, is_class, classes_of}
+use Rattle.amd_workspace.proofs.Starts.{aside, placed, AreEqual, equal_rows, equal_rest, none_begin, aside_rows, placed_rows, count_next}
+use Rattle.amd_workspace.proofs.Starts.{linked_none, linked_skip, linked_take}
+use Rattle.amd_workspace.proofs.starting.begin.Goals as goal
+use Rattle.amd_workspace.proofs.starting.begin.Goals.{then-held, else-held, then-aside, else-aside}
+
+abbrev one_if : Bool → ℕ
+one_if b = cond b 1 0
+
+one_most : (b : Bool) → one_if b ≤ 1
+one_most true = omega arith
+one_most false = omega arith
+
+pub rows-init : goal.rows-init
+unfolding count_below sum_below
+rows-init g c =
+    let n : ℕ = length c.args.len.now in
+    let held : ℕ → Bool = held_in (option_copied c.args.hold) c.args.threshold c.args.len.now in
+    let a = c.requires.words in let b = c.requires.figures in
+    record {
+      begins = none_begin n held (record {
+        pe = c.args.pe.now;
+        e_len = c.args.e_len.now;
+        nv = c.args.nv.now;
+        len = c.args.len.now;
+        degree = c.args.degree.now;
+        w = c.args.w.now;
+      }) (record { pe = a.0; e_len = a.1; nv = a.2; len = refl; degree = b.0; w = b.1 });
+      rest = λ j l. record { pe = refl; e_len = refl; nv = refl; len = refl; degree = refl; w = refl };
+      links = c.requires.links;
+      linked = linked_none n c.args.head.now c.args.next.now c.args.last.now c.args.degree.now held c.args.len.now c.requires.heads;
+      live = refl;
+      dense = refl;
+    }
+
+pub place_row-requires-clause-row : goal.place_row-requires-clause-row
+place_row-requires-clause-row g c =
+    let i : ℕ = c.rows.i in let here = c.rows-test.true in let links = c.rows.invariant.links in
+    let count = c.figure_at-count.ensures.is ∙ (c.rows.invariant.rest i (omega arith)).len in
+    let small = c.requires.degrees i here in
+    let long : length c.rows.next ≡ length c.args.len.now = links.1 in
+    (omega (arith, here, long), omega (arith, count, small, long))
+
+pub overflow_add-n_dense : goal.overflow_add-n_dense
+overflow_add-n_dense g c =
+    let here = c.rows-test.true in let is = c.rows.invariant.dense in let narrow = c.requires.narrow.1 in
+    let top = g.met.U.Unsigned.narrow in
+    let most = count_most c.rows.i (held_in (option_copied c.args.hold) c.args.threshold c.args.len.now) in
+    let held : Bool = c.is_held_last-held.result in
+    let one : c.number_of-n_dense.result ≡ one_if held = c.number_of-n_dense.ensures in
+    let few = one_most held in
+    omega (arith, here, is, narrow, top, most, one, few)
+
+pub overflow_add-live : goal.overflow_add-live
+overflow_add-live g c =
+    let here = c.rows-test.true in let is = c.rows.invariant.live in let narrow = c.requires.narrow.1 in
+    let top = g.met.U.Unsigned.narrow in
+    let held : ℕ → Bool = held_in (option_copied c.args.hold) c.args.threshold c.args.len.now in
+    let most = count_most c.rows.i (is_class held c.args.len.now) in omega (arith, here, is, narrow, top, most)
+
+pub rows-preserved : goal.rows-preserved
+rows-preserved g c =
+    let len : List ℕ = c.args.len.now in let n : ℕ = length len in let i : ℕ = c.rows.i in
+    let held : ℕ → Bool = held_in (option_copied c.args.hold) c.args.threshold len in
+    let p : Rows = record {
+      pe = c.args.pe.now;
+      e_len = c.args.e_len.now;
+      nv = c.args.nv.now;
+      len = c.args.len.now;
+      degree = c.args.degree.now;
+      w = c.args.w.now;
+    } in
+    let q : Rows = record {
+      pe = c.rows.pe;
+      e_len = c.rows.e_len;
+      nv = c.rows.nv;
+      len = c.rows.len;
+      degree = c.rows.degree;
+      w = c.rows.w;
+    } in
+    let r : Rows = record {
+      pe = c.if-aside.pe;
+      e_len = c.if-aside.e_len;
+      nv = c.if-aside.nv;
+      len = c.if-aside.len;
+      degree = c.if-aside.degree;
+      w = c.if-aside.w;
+    } in
+    let was = c.rows.invariant in
+    let here : i < n = c.rows-test.true in
+    let here_is : c.figure_at-count.result ≡ num c.rows.len i = c.figure_at-count.ensures.is in
+    let count : c.figure_at-count.result ≡ num len i = here_is ∙ (was.rest i (omega arith)).len in
+    let marked : c.is_held_last-held.result ≡ held i = c.is_held_last-held.ensures
+    ∙ ap (λ d. is_marked (option_copied c.args.hold) i || nat_lt c.args.threshold d) count in
+    let either : c.if-held.aside ≡ (c.is_held_last-held.result || c.figure_at-count.result == 0) = elim c.if-held.branch [
+      | then-held v ↦ v.aside-is ∙ v.if-held.true ∙ sym (ap (λ b. b || c.figure_at-count.result == 0) v.if-held.true)
+      | else-held v ↦ v.aside-is ∙ sym (ap (λ b. b || c.figure_at-count.result == 0) v.if-held.false)
+    ] in
+    let value : c.if-held.aside ≡ (held i || num len i == 0) = either
+    ∙ ap (λ b. b || c.figure_at-count.result == 0) marked ∙ ap (λ d. held i || d == 0) count in
+    elim c.if-aside.branch [
+      | then-aside w ↦ (
+          let none : is_class held len i ≡ false = class_test (held i) (num len i) ∙ ap not (sym value ∙ w.if-aside.true) in
+          let rows = aside_rows i n held p q was.begins was.rest here none in
+          let wrote = w.put_aside.ensures in
+          let equal : AreEqual (aside (held i) i q) r = record {
+            pe = w.pe-is ∙ wrote.starts;
+            e_len = w.e_len-is ∙ wrote.counts ∙ ap (λ b. set c.rows.e_len i (cond b (negsuc 0) (flip_of 1))) marked;
+            nv = w.nv-is ∙ wrote.sizes;
+            len = w.len-is ∙ wrote.lengths;
+            degree = w.degree-is ∙ wrote.bounds;
+            w = w.w-is ∙ wrote.counters;
+          } in
+          let added : w.number_of-n_dense.result ≡ one_if (held i) = w.number_of-n_dense.ensures ∙ ap one_if marked in
+          record {
+            begins = equal_rows (i + 1) n held p (aside (held i) i q) r equal rows.0;
+            rest = equal_rest (i + 1) p (aside (held i) i q) r equal rows.1;
+            links = (ap length w.head-is ∙ was.links.0, ap length w.next-is ∙ was.links.1, ap length w.last-is ∙ was.links.2);
+            linked = rw w.head-is (rw w.next-is (rw w.last-is (rw (w.degree-is ∙ wrote.bounds)
+                (linked_skip n i held len c.rows.head c.rows.next c.rows.last c.rows.degree was.linked none))));
+            live = w.live-is ∙ count_no (is_class held len) i c.rows.live was.live none;
+            dense = w.n_dense-is ∙ ap (λ m. c.rows.n_dense + m) added ∙ count_next held i c.rows.n_dense was.dense;
+          })
+      | else-aside w ↦ (
+          let one : is_class held len i ≡ true = class_test (held i) (num len i) ∙ ap not (sym value ∙ w.if-aside.false) in
+          let rows = placed_rows i n held p q was.begins was.rest here one in
+          let wrote = w.place_row.ensures in
+          let equal : AreEqual (placed i q) r = record {
+            pe = w.pe-is;
+            e_len = w.e_len-is ∙ wrote.counts;
+            nv = w.nv-is ∙ wrote.sizes;
+            len = w.len-is;
+            degree = w.degree-is ∙ wrote.bounds ∙ ap (set c.rows.degree i) here_is;
+            w = w.w-is ∙ wrote.counters;
+          } in
+          let free : held i ≡ false = elim (cases_Bool (held i)) [
+            | inr f ↦ f
+            | inl y ↦ absurd (true≢false (sym (ap (λ b. b || num len i == 0) y) ∙ sym value ∙ w.if-aside.false))
+          ] in
+          let long : length c.rows.next ≡ n = was.links.1 in
+          let new = w.place_row.new in
+          record {
+            begins = equal_rows (i + 1) n held p (placed i q) r equal rows.0;
+            rest = equal_rest (i + 1) p (placed i q) r equal rows.1;
+            links = (
+              ap length w.head-is ∙ wrote.lengths.0 ∙ long,
+              ap length w.next-is ∙ wrote.lengths.1 ∙ long,
+              ap length w.last-is ∙ wrote.lengths.2 ∙ long,
+            );
+            linked = rw w.head-is (rw w.next-is (rw w.last-is (rw w.degree-is
+                (subst (λ m. DegreeLists m new.head new.next new.last new.degree (λ b. reverse (classes_of held len (i + 1) b))) long
+                (linked_take (length c.rows.next) i held len c.rows.head c.rows.next c.rows.last c.rows.degree
+                (subst (λ m. DegreeLists m c.rows.head c.rows.next c.rows.last c.rows.degree (λ b. reverse (classes_of held len i b)))
+                (sym long) was.linked) new.head new.next new.last new.degree c.figure_at-count.result count one wrote.linked)))));
+            live = w.live-is ∙ count_yes (is_class held len) i c.rows.live was.live one;
+            dense = w.n_dense-is ∙ count_no held i c.rows.n_dense was.dense free;
+          })
+    ]

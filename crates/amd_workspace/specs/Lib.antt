@@ -1,0 +1,4 @@
+-- What the filling and the laying of a workspace promise, the start of an elimination in it, and its end.
+pub mod Laying
+pub mod Starting
+pub mod Ending

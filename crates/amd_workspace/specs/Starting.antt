@@ -1,0 +1,59 @@
+-- The start of an elimination in a workspace that is laid, row by row.
+use Rattle.std.specs.Prelude.{ℕ, ℤ, pos, negsuc, Bool, Option, List, ◌≡◌, ◌<◌, ◌==◌, ◌&&◌, ◌||◌, not, cond, nat_lt, length}
+use Rattle.amd_model.specs.Below.{list_below}
+use Rattle.amd_model.specs.Input.Held.{is_marked}
+use Rattle.amd_places.specs.Words.{num, word, flip_of}
+
+-- what the lists say of the rows: where the list of each row starts, its count of elements, its size, its length, its bound and its counter
+pub record Rows : Type 0 where
+  pub pe : List ℤ
+  pub e_len : List ℤ
+  pub nv : List ℤ
+  pub len : List ℕ
+  pub degree : List ℕ
+  pub w : List ℕ
+
+-- there is a place for each of n rows in each of them
+pub record AreLong (n : ℕ) (p : Rows) : Type 0 where
+  pub pe : length p.pe ≡ n
+  pub e_len : length p.e_len ≡ n
+  pub nv : length p.nv ≡ n
+  pub len : length p.len ≡ n
+  pub degree : length p.degree ≡ n
+  pub w : length p.w ≡ n
+
+-- they say the same of a row
+pub record IsSame (j : ℕ) (p q : Rows) : Type 0 where
+  pub pe : word q.pe j ≡ word p.pe j
+  pub e_len : word q.e_len j ≡ word p.e_len j
+  pub nv : word q.nv j ≡ word p.nv j
+  pub len : num q.len j ≡ num p.len j
+  pub degree : num q.degree j ≡ num p.degree j
+  pub w : num q.w j ≡ num p.w j
+
+-- a row is held last if it is marked, or if its list is longer than the threshold
+abbrev pub held_in : Option (List Bool) → ℕ → List ℕ → ℕ → Bool
+held_in marks threshold len i = is_marked marks i || nat_lt threshold (num len i)
+
+-- a row is a class if it is neither held last nor empty
+abbrev pub is_class : (ℕ → Bool) → List ℕ → ℕ → Bool
+is_class held len i = nat_lt 0 (num len i) && not (held i)
+
+-- the classes below i of the bound b, rising
+abbrev pub classes_of : (ℕ → Bool) → List ℕ → ℕ → ℕ → List ℕ
+classes_of held len i b = list_below i (λ j. is_class held len j && num len j == b)
+
+-- a class keeps its list, lists no element, has one row, its degree as its bound and a counter above 0; another row has no list, and is an
+-- element of one row if it is not held last
+pub record BeginsRow (is_class held : Bool) (i : ℕ) (p q : Rows) : Type 0 where
+  pub starts : word q.pe i ≡ cond is_class (word p.pe i) (negsuc 0)
+  pub counts : word q.e_len i ≡ cond is_class (pos 0) (cond held (negsuc 0) (flip_of 1))
+  pub sizes : word q.nv i ≡ pos (cond is_class 1 0)
+  pub lengths : num q.len i ≡ cond is_class (num p.len i) 0
+  pub bounds : num q.degree i ≡ cond is_class (num p.len i) 0
+  pub counters : num q.w i ≡ cond is_class 1 0
+
+-- each row below i begins
+pub record BeginsRows (i n : ℕ) (held : ℕ → Bool) (p q : Rows) : Type 0 where
+  pub long : AreLong n q
+  pub rows : (j : ℕ) → j < i → BeginsRow (is_class held p.len j) (held j) j p q

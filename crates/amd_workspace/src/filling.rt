@@ -1,0 +1,46 @@
+// Fresh lists of a workspace, filled with one number. Called by `laying`, and by `fresh` of the crate `amd_engine`.
+
+ghost use Rattle.std.specs.Prelude.{◌≡◌, ◌≤◌, ℕ, replicate, unsigned_abs, IfOk};
+
+use amd_cells::{Figure, Signed, Unsigned, Word, figure_of, word_of};
+use std::alloc::{AllocError, Allocator};
+
+/// `count` words, each of them `number`.
+///
+/// # Errors
+///
+/// A refused request for memory.
+pub fn words<S: Signed, A: Allocator>(
+    alloc: A,
+    count: usize,
+    number: isize,
+) -> Result<Vec<Word<S>, A>, AllocError>
+    requires fits { unsigned_abs number ≤ S.MOST }
+    ensures { IfOk result (λ v. v.items ≡ replicate count number) }
+{
+    let mut list = Vec::with_capacity(alloc, count)?;
+    'words: for _ in 0..count {
+        list.push_reserved(word_of(number));
+    }
+    Ok(list)
+}
+
+/// `count` figures, each of them `number`.
+///
+/// # Errors
+///
+/// A refused request for memory.
+pub fn figures<U: Unsigned, A: Allocator>(
+    alloc: A,
+    count: usize,
+    number: usize,
+) -> Result<Vec<Figure<U>, A>, AllocError>
+    requires fits { number ≤ U.MOST }
+    ensures { IfOk result (λ v. v.items ≡ replicate count number) }
+{
+    let mut list = Vec::with_capacity(alloc, count)?;
+    'figures: for _ in 0..count {
+        list.push_reserved(figure_of(number));
+    }
+    Ok(list)
+}

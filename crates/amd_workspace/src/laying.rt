@@ -1,0 +1,122 @@
+// The laying of a workspace: the lists of the neighbours of all rows, one after another from the first word on, each in
+// the order in which the walk over the edges meets those of its row. Source: Amestoy, Davis and Duff 2004 (the forming
+// of A + A'). Called by `amd_1` of the crate `amd_engine`.
+
+ghost use Rattle.std.specs.Prelude.{◌≡◌, ◌<◌, ◌≤◌, ◌+◌, ℕ, pos, map, length, IfOk};
+ghost use Rattle.std.specs.Vec.{vec_capacity};
+ghost use Rattle.amd_model.specs.Input.Columns.{IsColumnForm, IsSorted};
+ghost use Rattle.amd_model.specs.Input.Pattern.{graph_of, is_pair};
+ghost use Rattle.amd_model.specs.Below.{sum_below};
+ghost use Rattle.amd_model.specs.Quotient.{starting_list};
+ghost use Rattle.amd_edges.specs.Visits.{AreCounts, start_of};
+ghost use Rattle.amd_places.specs.Layout.{list_in};
+ghost use Rattle.amd_places.specs.Words.{num};
+ghost use Rattle.amd_workspace.specs.Laying.{IsLaidOut, Lays, Starts};
+
+use crate::filling::words;
+use amd_cells::{Figure, Signed, Unsigned, Word, figure_at, figure_of, put_figure, word_of};
+use amd_edges::walk::{Visitor, walk};
+use amd_places::words::put_row;
+use num_traits::PrimInt;
+use std::alloc::{AllocError, Allocator};
+
+/// The words of the lists, and where the next word of each list goes.
+#[derive(Drop)]
+struct Words<S: Signed, U: Unsigned, A: Allocator> {
+    /// The place behind the last word of the list of each row.
+    next: Vec<Figure<U>, A>,
+    /// The words.
+    iw: Vec<Word<S>, A>,
+}
+
+impl<S: Signed, U: Unsigned, A: Allocator> Visitor for Words<S, U, A> {
+    ghost holds = { λ g seen arcs l. Lays g seen arcs S.MOST U.MOST l.next.items l.iw.items };
+
+    ghost room = { λ l. length l.iw.items };
+
+    fn arc(&mut self, i: usize, j: usize) {
+        let place = figure_at(&self.next, i);
+        put_row(&mut self.iw, place, j);
+        put_figure(&mut self.next, i, place + 1);
+    }
+}
+
+/// A workspace with a list for each row.
+#[derive(Drop)]
+pub struct Laid<S: Signed, U: Unsigned, A: Allocator> {
+    /// Where the list of each row starts.
+    pub pe: Vec<Word<S>, A>,
+    /// The number of its words.
+    pub len: Vec<Figure<U>, A>,
+    /// The words of all lists.
+    pub iw: Vec<Word<S>, A>,
+    /// No list has a word from here on.
+    pub free: usize,
+}
+
+/// Writes where the list of each row starts, once for the record and once for the walk, and its length. Answers where
+/// the last one ends.
+fn starts<S: Signed, U: Unsigned, A: Allocator>(
+    pe: &mut Vec<Word<S>, A>,
+    next: &mut Vec<Figure<U>, A>,
+    len: &mut Vec<Figure<U>, A>,
+    degrees: &[usize],
+) -> usize
+    requires empty { (length pe.old.items ≡ 0) × (length next.old.items ≡ 0) × (length len.old.items ≡ 0) }
+    requires room { (length degrees.now ≤ vec_capacity pe.old) × (length degrees.now ≤ vec_capacity next.old) × (length degrees.now ≤ vec_capacity len.old) }
+    requires fits { (sum_below (length degrees.now) (num degrees.now) ≤ S.MOST) × (sum_below (length degrees.now) (num degrees.now) ≤ U.MOST) }
+    ensures total { result ≡ sum_below (length degrees.now) (num degrees.now) }
+    ensures starts { Starts degrees.now pe.new.items next.new.items len.new.items }
+{
+    let mut total = 0;
+    'rows: for &degree in degrees {
+        pe.push_reserved(word_of(total as isize));
+        next.push_reserved(figure_of(total));
+        len.push_reserved(figure_of(degree));
+        total += degree;
+    }
+    total
+}
+
+/// Lays the lists of the neighbours of each of `size` rows, whose degrees are known, in a workspace of `room` words.
+/// The words behind the last list are 0.
+///
+/// # Errors
+///
+/// A refused request for memory.
+pub fn lay<I: PrimInt, S: Signed, U: Unsigned, A: Allocator + Copy>(
+    alloc: A,
+    size: usize,
+    a_p: &[I],
+    a_i: &[I],
+    degrees: &[usize],
+    room: usize,
+) -> Result<Laid<S, U, A>, AllocError>
+    requires form { IsColumnForm (pos size) size (map I.value a_p.now) (map I.value a_i.now) }
+    requires sorted { IsSorted size (map I.value a_p.now) (map I.value a_i.now) }
+    requires some { 0 < size }
+    requires degrees { AreCounts (graph_of size (map I.value a_p.now) (map I.value a_i.now)) ((graph_of size (map I.value a_p.now) (map I.value a_i.now)).edge) degrees.now }
+    requires room { start_of (graph_of size (map I.value a_p.now) (map I.value a_i.now)) size + size ≤ room }
+    requires fits { (size ≤ S.MOST) × (room ≤ S.MOST) × (room ≤ U.MOST) }
+    ensures laid { IfOk result (λ l. IsLaidOut size l.iw.items l.pe.items l.len.items l.free) }
+    ensures long { IfOk result (λ l. (length l.iw.items ≡ room) × (l.free ≡ start_of (graph_of size (map I.value a_p.now) (map I.value a_i.now)) size)) }
+    ensures degrees { IfOk result (λ l. l.len.items ≡ degrees.now) }
+    ensures lists { IfOk result (λ l. (i : ℕ) → i < size → list_in l.iw.items l.pe.items l.len.items i ≡ starting_list size (is_pair size (map I.value a_p.now) (map I.value a_i.now)) i) }
+{
+    let mut pe = Vec::with_capacity(alloc, size)?;
+    let mut len = Vec::with_capacity(alloc, size)?;
+    let mut next = Vec::with_capacity(alloc, size)?;
+    let free = starts(&mut pe, &mut next, &mut len, degrees);
+    let mut pointers = Vec::with_capacity(alloc, size)?;
+    let mut list = Words {
+        next,
+        iw: words(alloc, room, 0)?,
+    };
+    let _ = walk(size, a_p, a_i, &mut pointers, &mut list);
+    Ok(Laid {
+        pe,
+        len,
+        iw: list.iw,
+        free,
+    })
+}

@@ -1,0 +1,8 @@
+//! What stands before and behind the rounds of an elimination in one workspace: the filling of fresh lists, the laying
+//! of the lists of neighbours, the start, and what the record says at the end. Called by `amd_engine`.
+#![tactic(auto)]
+
+pub mod ending;
+pub mod filling;
+pub mod laying;
+pub mod starting;

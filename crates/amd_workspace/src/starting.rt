@@ -1,0 +1,139 @@
+// The start of an elimination in a workspace that is laid: each row that is neither held last nor empty is a class by
+// itself, in the list of its degree, and each other empty row is an element. Source: Amestoy, Davis and Duff 1996; the
+// AMD user guide on dense rows. Called by `running` of the crate `amd_engine`.
+
+ghost use Rattle.std.specs.Prelude.{◌≡◌, ◌<◌, ◌≤◌, ◌+◌, ◌==◌, ◌||◌, ℕ, ℤ, pos, negsuc, true, false, List, ◌∷◌, cond, nat_lt, length, reverse, slice_set};
+ghost use Rattle.std.specs.Option.{option_copied};
+ghost use Rattle.amd_model.specs.Below.{count_below};
+ghost use Rattle.amd_model.specs.Input.Held.{HasMarks, is_marked};
+ghost use Rattle.amd_model.specs.Quotient.{has};
+ghost use Rattle.amd_places.specs.Words.{num, flip_of};
+ghost use Rattle.amd_places.specs.Chains.{DegreeLists};
+ghost use Rattle.amd_workspace.specs.Starting.{BeginsRows, held_in, is_class, classes_of};
+
+use amd_cells::{Figure, Signed, Unsigned, Word, figure_at, put_figure, put_word};
+use amd_numbers::held::is_held;
+use amd_places::chains::put_head;
+use amd_places::words::put_flip;
+
+/// Sets aside a row that is held last, or an empty one, which is an element by itself: it has no list.
+fn put_aside<S: Signed, U: Unsigned>(
+    pe: &mut [Word<S>],
+    e_len: &mut [Word<S>],
+    nv: &mut [Word<S>],
+    len: &mut [Figure<U>],
+    degree: &mut [Figure<U>],
+    w: &mut [Figure<U>],
+    i: usize,
+    held: bool,
+)
+    requires words { (i < length pe.old) × (i < length e_len.old) × (i < length nv.old) }
+    requires figures { (i < length len.old) × (i < length degree.old) × (i < length w.old) }
+    requires narrow { 3 ≤ S.MOST }
+    ensures starts { pe.new ≡ slice_set pe.old i (negsuc 0) }
+    ensures counts { e_len.new ≡ slice_set e_len.old i (cond held (negsuc 0) (flip_of 1)) }
+    ensures sizes { nv.new ≡ slice_set nv.old i (pos 0) }
+    ensures lengths { len.new ≡ slice_set len.old i 0 }
+    ensures bounds { degree.new ≡ slice_set degree.old i 0 }
+    ensures counters { w.new ≡ slice_set w.old i 0 }
+{
+    put_word(pe, i, -1);
+    if held {
+        put_word(e_len, i, -1);
+    } else {
+        put_flip(e_len, i, 1);
+    }
+    put_word(nv, i, 0);
+    put_figure(len, i, 0);
+    put_figure(degree, i, 0);
+    put_figure(w, i, 0);
+}
+
+/// Makes a row a class by itself, and puts it at the head of the list of its degree.
+fn place_row<S: Signed, U: Unsigned>(
+    e_len: &mut [Word<S>],
+    nv: &mut [Word<S>],
+    degree: &mut [Figure<U>],
+    w: &mut [Figure<U>],
+    head: &mut [Figure<U>],
+    next: &mut [Figure<U>],
+    last: &mut [Figure<U>],
+    i: usize,
+    count: usize,
+)
+    requires words { (i < length e_len.old) × (i < length nv.old) × (i < length w.old) }
+    requires lengths { (length head.old ≡ length next.old) × (length last.old ≡ length next.old) × (length degree.old ≡ length next.old) }
+    requires narrow { (1 ≤ S.MOST) × (length next.old ≤ U.MOST) }
+    requires row { (i < length next.old) × (count < length next.old) }
+    ensures counts { e_len.new ≡ slice_set e_len.old i (pos 0) }
+    ensures sizes { nv.new ≡ slice_set nv.old i (pos 1) }
+    ensures bounds { degree.new ≡ slice_set degree.old i count }
+    ensures counters { w.new ≡ slice_set w.old i 1 }
+    ensures lengths { (length head.new ≡ length next.old) × (length next.new ≡ length next.old) × (length last.new ≡ length next.old) }
+    ensures linked { (lists : ℕ → List ℕ) → ((b : ℕ) → b < length next.old → has (lists b) i ≡ false) → DegreeLists (length next.old) head.old next.old last.old degree.old lists → DegreeLists (length next.old) head.new next.new last.new degree.new (λ b. cond (b == count) (i ∷ lists b) (lists b)) }
+{
+    put_word(e_len, i, 0);
+    put_word(nv, i, 1);
+    put_figure(w, i, 1);
+    put_head(head, next, last, degree, i, count);
+}
+
+/// Whether a row of `count` neighbours is held last.
+fn is_held_last(hold: Option<&[bool]>, i: usize, count: usize, threshold: usize) -> bool
+    requires within { (n : ℕ) × (i < n) × HasMarks (option_copied hold) n }
+    ensures { result ≡ (is_marked (option_copied hold.entry) i || nat_lt threshold count) }
+{
+    is_held(hold, i) || count > threshold
+}
+
+/// 1 for what holds, and 0 for what does not.
+fn number_of(holds: bool) -> usize
+    ensures { result ≡ cond holds 1 0 }
+{
+    if holds { 1 } else { 0 }
+}
+
+/// Starts the elimination: `len` has the degree of each row, and `pe` where its list starts. The rows marked in `hold`
+/// and those of a degree above the threshold are held last. Answers how many rows are live, and how many are held last.
+pub fn begin<S: Signed, U: Unsigned>(
+    pe: &mut [Word<S>],
+    e_len: &mut [Word<S>],
+    nv: &mut [Word<S>],
+    len: &mut [Figure<U>],
+    degree: &mut [Figure<U>],
+    w: &mut [Figure<U>],
+    head: &mut [Figure<U>],
+    next: &mut [Figure<U>],
+    last: &mut [Figure<U>],
+    hold: Option<&[bool]>,
+    threshold: usize,
+) -> (usize, usize)
+    requires words { (length pe.old ≡ length len.old) × (length e_len.old ≡ length len.old) × (length nv.old ≡ length len.old) }
+    requires figures { (length degree.old ≡ length len.old) × (length w.old ≡ length len.old) }
+    requires links { (length head.old ≡ length len.old) × (length next.old ≡ length len.old) × (length last.old ≡ length len.old) }
+    requires narrow { (length len.old + 2 ≤ S.MOST) × (length len.old ≤ U.MOST) }
+    requires degrees { (i : ℕ) → i < length len.old → num len.old i < length len.old }
+    requires heads { (b : ℕ) → b < length len.old → length len.old ≤ num head.old b }
+    requires marks { HasMarks (option_copied hold) (length len.old) }
+    ensures begins { BeginsRows (length len.old) (length len.old) (held_in (option_copied hold.entry) threshold len.old) (record { pe = pe.old; e_len = e_len.old; nv = nv.old; len = len.old; degree = degree.old; w = w.old }) (record { pe = pe.new; e_len = e_len.new; nv = nv.new; len = len.new; degree = degree.new; w = w.new }) }
+    ensures lengths { (length head.new ≡ length len.old) × (length next.new ≡ length len.old) × (length last.new ≡ length len.old) }
+    ensures linked { DegreeLists (length len.old) head.new next.new last.new degree.new (λ b. reverse (classes_of (held_in (option_copied hold.entry) threshold len.old) len.old (length len.old) b)) }
+    ensures live { result.0 ≡ count_below (length len.old) (is_class (held_in (option_copied hold.entry) threshold len.old) len.old) }
+    ensures dense { result.1 ≡ count_below (length len.old) (held_in (option_copied hold.entry) threshold len.old) }
+{
+    let mut live: usize = 0;
+    let mut n_dense: usize = 0;
+    'rows: for i in 0..len.len() {
+        let count = figure_at(len, i);
+        let held = is_held_last(hold, i, count, threshold);
+        let aside = held || count == 0;
+        if aside {
+            put_aside(pe, e_len, nv, len, degree, w, i, held);
+            n_dense += number_of(held);
+        } else {
+            place_row(e_len, nv, degree, w, head, next, last, i, count);
+            live += 1;
+        }
+    }
+    (live, n_dense)
+}
