@@ -19,6 +19,23 @@ fn defaults() -> Parameters {
     parameters
 }
 
+/// The numbers of a record, in the order of its fields.
+fn numbers_of(told: &Statistics) -> [usize; 11] {
+    [
+        told.n,
+        told.nz,
+        told.nz_diag,
+        told.nz_a_plus_at,
+        told.n_dense,
+        told.n_cmp_a,
+        told.lnz,
+        told.n_div,
+        told.n_mult_subs_ldl,
+        told.n_mult_subs_lu,
+        told.d_max,
+    ]
+}
+
 /// A record in which no call has written.
 fn blank() -> Statistics {
     statistics_of(&Info::new(77))
@@ -41,23 +58,9 @@ fn five_rows(rt: HostRuntime) {
         &mut p_inv,
         &mut told,
     );
-    assert_eq!(rt; number, 0);
-    assert_eq!(rt; p, [0, 3, 2, 4, 1]);
-    assert_eq!(rt; p_inv, [0, 4, 2, 1, 3]);
-    assert!(rt; !told.symmetry);
-    assert_eq!(rt;
-        [told.n, told.nz, told.nz_diag, told.nz_a_plus_at],
-        [5, 14, 5, 10]
-    );
-    assert_eq!(rt;
-        [told.n_dense, told.n_cmp_a, told.lnz, told.n_div],
-        [0, 0, 5, 5]
-    );
-    assert_eq!(rt;
-        [told.n_mult_subs_ldl, told.n_mult_subs_lu, told.d_max],
-        [6, 7, 3]
-    );
-    assert_eq!(rt; rimopaku_valid_i32(5, 5, &a_p, &a_i), 0);
+    assert!(rt; number == 0 && p == [0, 3, 2, 4, 1] && p_inv == [0, 4, 2, 1, 3]);
+    assert!(rt; numbers_of(&told) == [5, 14, 5, 10, 0, 0, 5, 5, 6, 7, 3]);
+    assert!(rt; !told.symmetry && rimopaku_valid_i32(5, 5, &a_p, &a_i) == 0);
 }
 
 #[test]
@@ -77,14 +80,9 @@ fn a_jumbled_path(rt: HostRuntime) {
         &mut p_inv,
         &mut told,
     );
-    assert_eq!(rt; number, 1);
-    assert_eq!(rt; p, [1, 0, 2]);
-    assert_eq!(rt; p_inv, [1, 0, 2]);
-    assert_eq!(rt;
-        [told.nz, told.nz_diag, told.nz_a_plus_at, told.lnz],
-        [3, 1, 4, 2]
-    );
-    assert_eq!(rt; rimopaku_valid_i64(3, 3, &a_p, &a_i), 1);
+    assert!(rt; number == 1 && p == [1, 0, 2] && p_inv == [1, 0, 2]);
+    let numbers = [told.nz, told.nz_diag, told.nz_a_plus_at, told.lnz];
+    assert!(rt; numbers == [3, 1, 4, 2] && rimopaku_valid_i64(3, 3, &a_p, &a_i) == 1);
 }
 
 #[test]
@@ -104,10 +102,8 @@ fn a_row_of_a_cycle_held_last(rt: HostRuntime) {
         &mut p_inv,
         &mut told,
     );
-    assert_eq!(rt; number, 0);
-    assert_eq!(rt; p, [3, 1, 2, 0]);
-    assert_eq!(rt; p_inv, [3, 1, 2, 0]);
-    assert_eq!(rt; [told.n_dense, told.lnz, told.d_max], [1, 5, 3]);
+    assert!(rt; number == 0 && p == [3, 1, 2, 0] && p_inv == [3, 1, 2, 0]);
+    assert!(rt; [told.n_dense, told.lnz, told.d_max] == [1, 5, 3]);
 }
 
 #[test]
@@ -128,7 +124,7 @@ fn refusals_leave_all_as_it_was(rt: HostRuntime) {
         &mut p_inv,
         &mut told,
     );
-    assert_eq!(rt; short, -2);
+    assert!(rt; short == -2);
     let short = rimopaku_order_i64(
         alloc,
         3,
@@ -139,7 +135,7 @@ fn refusals_leave_all_as_it_was(rt: HostRuntime) {
         &mut p_inv[..2],
         &mut told,
     );
-    assert_eq!(rt; short, -2);
+    assert!(rt; short == -2);
     let marks = [true, false];
     let few = rimopaku_order_holding_i64(
         alloc,
@@ -152,23 +148,19 @@ fn refusals_leave_all_as_it_was(rt: HostRuntime) {
         &mut p_inv,
         &mut told,
     );
-    assert_eq!(rt; few, -2);
-    assert_eq!(rt;
-        rimopaku_order_i64(
-            alloc,
-            3,
-            &a_p[1..],
-            &a_i,
-            &defaults(),
-            &mut p,
-            &mut p_inv,
-            &mut told
-        ),
-        -2
+    assert!(rt; few == -2);
+    let none = rimopaku_order_i64(
+        alloc,
+        3,
+        &a_p[1..],
+        &a_i,
+        &defaults(),
+        &mut p,
+        &mut p_inv,
+        &mut told,
     );
-    assert_eq!(rt; p, [-5; 3]);
-    assert_eq!(rt; p_inv, [-6; 3]);
-    assert_eq!(rt; told.n, 77);
+    assert!(rt; none == -2);
+    assert!(rt; p == [-5; 3] && p_inv == [-6; 3] && told.n == 77);
 }
 
 #[test]
@@ -189,10 +181,8 @@ fn columns_of_a_cycle(rt: HostRuntime) {
         &mut rows,
         &mut parent,
     );
-    assert_eq!(rt; number, 0);
-    assert_eq!(rt; ptr, [0, 2, 4, 5, 5]);
-    assert_eq!(rt; rows, [1, 3, 2, 3, 3, -5]);
-    assert_eq!(rt; parent, [1, 2, 3, -1]);
+    assert!(rt; number == 0 && ptr == [0, 2, 4, 5, 5]);
+    assert!(rt; rows == [1, 3, 2, 3, 3, -5] && parent == [1, 2, 3, -1]);
     let small = rimopaku_columns_i32(
         rt.alloc(),
         4,
@@ -203,7 +193,7 @@ fn columns_of_a_cycle(rt: HostRuntime) {
         &mut rows[..4],
         &mut parent,
     );
-    assert_eq!(rt; small, -4);
+    assert!(rt; small == -4);
     let twice = rimopaku_columns_i32(
         rt.alloc(),
         4,
@@ -214,6 +204,5 @@ fn columns_of_a_cycle(rt: HostRuntime) {
         &mut rows,
         &mut parent,
     );
-    assert_eq!(rt; twice, -3);
-    assert_eq!(rt; rows, [1, 3, 2, 3, 3, -5]);
+    assert!(rt; twice == -3 && rows == [1, 3, 2, 3, 3, -5]);
 }

@@ -1,5 +1,6 @@
 -- The factor under an order of the rows, its elimination tree, and the lists that it is made from.
 pub mod Columns
+pub mod Climbs
 pub mod Earlier
 pub mod Trees
 pub mod Walks

@@ -1,5 +1,5 @@
--- What a walk up the elimination tree reads and writes. Source: Liu 1986, 1990; Davis 2005 (LDL).
-use Rattle.std.specs.Prelude.{ℕ, Bool, true, ◌≡◌, ◌≢◌, ◌<◌, ◌≤◌, ◌↔◌, ◌+◌, List, Option, None, Some, length, slice_index, slice_index_or}
+-- What a pass over the rows reads and writes. Source: Liu 1986, 1990; Davis 2005 (LDL).
+use Rattle.std.specs.Prelude.{ℕ, Bool, true, ◌≡◌, ◌<◌, ◌≤◌, ◌↔◌, ◌+◌, List, Option, None, Some, length, slice_index, slice_index_or}
 use Rattle.amd_model.specs.Below.{count_below, sum_below}
 use Rattle.amd_factor.specs.Earlier.{Order}
 use Rattle.amd_factor.specs.Trees.{Entry, IsParent}
@@ -18,13 +18,6 @@ pub record TellParents (o : Order) (j : ℕ) (parent : List (Option ℕ)) : Type
 pub record MarksBefore (o : Order) (j : ℕ) (mark : List ℕ) : Type 0 where
   pub room : length mark ≡ length o.rows
   pub each : (k : ℕ) → k < length o.rows → slice_index mark k ≤ j
-
--- the first places of a list name the columns that have the entry j, each once
-pub record ListsColumns (o : Order) (j : ℕ) (path : List ℕ) (count : ℕ) : Type 0 where
-  pub fits : count ≤ length path
-  pub entries : (a : ℕ) → a < count → Entry o.graph o.rows (slice_index path a) j
-  pub all : (k : ℕ) → Entry o.graph o.rows k j → (a : ℕ) × (a < count) × (slice_index path a ≡ k)
-  pub differ : (a b : ℕ) → a < b → b < count → slice_index path a ≢ slice_index path b
 
 -- the column of place k has that many entries before place j
 pub record CountsEntry (o : Order) (j k count : ℕ) : Type 0 where

@@ -3,9 +3,10 @@
 
 ghost use Rattle.amd_factor.specs.Trees.{RowsAreSubtrees};
 
+pub mod climb;
 pub mod counts;
+pub mod entries;
 pub mod fill;
-pub mod subtree;
 
 /// A place is an entry of exactly those columns that lie in its subtree of the elimination tree.
 pub fn law_rows_are_subtrees()

@@ -1,6 +1,6 @@
 // The columns of a factor under an order that a caller hands in: the input is tested, the lists of earlier neighbours are made, all
 // memory is taken, and then the columns are written without any. Source: the path theorem of sparse factorization (Rose, Tarjan
-// and Lueker 1976); Liu 1990. Called by `analysis`.
+// and Lueker 1976); Liu 1990. Called by `analysis`, by users, by the demos and by the crate `amd_c`.
 
 ghost use Rattle.std.specs.Prelude.{◌≡◌, ◌≤◌, ◌∷◌, [], pos, length, map, IfOk, IfErr, MatchOption};
 ghost use Rattle.amd_model.specs.Graph.{IsGraph};
@@ -102,7 +102,6 @@ fn written_factor<A: Allocator + Copy>(
     let mut rows = vec![in alloc; 0; room]?;
     let mut parent = vec![in alloc; None; columns]?;
     let mut mark = vec![in alloc; 0; columns]?;
-    let mut path = vec![in alloc; 0; columns]?;
     let mut next = vec![in alloc; 0; columns]?;
     let Some(total) = fill(
         starts,
@@ -111,7 +110,6 @@ fn written_factor<A: Allocator + Copy>(
         &mut rows,
         &mut parent,
         &mut mark,
-        &mut path,
         &mut next,
     ) else {
         return Ok(None);

@@ -1,4 +1,4 @@
-use Rattle.std.proofs.Common.{length, ◌≡◌, ◌∙◌, ◌<◌, ◌≤◌, subst, sym, arith}
+use Rattle.std.proofs.Common.{length, ◌≡◌, ◌∙◌, ◌<◌, ◌≤◌, refl, subst, sym, arith}
 use Rattle.std.specs.Prelude.{slice_index}
 use Rattle.amd_model.specs.Below.{sum_below}
 use Rattle.amd_factor.proofs.Holding.{passes_room, begin_columns, hold_factor}
@@ -25,10 +25,10 @@ write_entries-requires g c =
           (
             c.count.auto.mark ∙ r.1.0,
             (
-              c.count.auto.path ∙ r.1.1.0,
               begin_columns g.o c.requires.0 c.count.new.counts c.begin_columns.new.next c.begin_columns.new.ptr c.args.rows.now n.counts
                   c.in-Some.total n.total.1 n.total.0 (c.begin_columns.auto.next ∙ n.counts.room)
                   (λ k l. c.begin_columns.ensures.begins k (subst (λ m. k < m) (sym n.counts.room) l)),
+              refl,
             ),
           ),
         ),
@@ -37,7 +37,7 @@ write_entries-requires g c =
 
 pub returns : goal.returns
 returns g c =
-    let n = c.in-Some.ensures in let r = c.requires.1.1.1 in record {
+    let n = c.in-Some.ensures in record {
       factor = (
         n.total.0,
         hold_factor g.o c.requires.0 c.count.new.counts c.begin_columns.new.next c.begin_columns.new.ptr c.write_entries.new.rows n.counts
