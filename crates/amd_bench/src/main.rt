@@ -3,7 +3,8 @@
 //!
 //! It prints one line: the type of numbers, the name of the file, the figures of the ordering and a hash of the permutation, or the
 //! number of the factor's entries and a hash of them, and the least and the median time of a call in nanoseconds. Reading the file
-//! is not timed. With no arguments it says how it is called.
+//! is not timed. With other arguments it says on standard error how it is called, and ends with status 2. Where the file cannot be
+//! read or holds no matrix, and where memory is refused, a message names the file, and the status is 1.
 #![tactic(auto)]
 
 mod factors;
@@ -11,10 +12,11 @@ mod factors;
 use crate::factors::{Factored, analyze_often, columns_often};
 use amd::{Control, Info, Status, order};
 use amd_cases::matrix::{Matrix, read_matrix};
-use anyhow::{Context, Result, bail, ensure};
+use anyhow::{Context, Result, bail};
 use num_traits::PrimInt;
 use std::alloc::Global;
 use std::io::BufReader;
+use std::process::ExitCode;
 use std::rt::Runtime;
 use std::time::{Duration, Instant};
 use std::{env, fs};
@@ -110,48 +112,77 @@ fn print_factored<R: Runtime>(
     print_times(rt, factored.times)
 }
 
+/// What the words of a command line ask for: a file, a type of numbers, a call, and how often.
+#[derive(Clone, Copy)]
+struct Request<'a> {
+    path: &'a str,
+    kind: &'a str,
+    call: &'a str,
+    repeats: usize,
+}
+
+/// What the words ask for, of which the first is the name of the program; `None` where they are not those that it takes.
+fn request_of(words: &[String]) -> Option<Request<'_>> {
+    let (path, kind, repeats, call) = match words {
+        [_, path, kind, repeats] => (path, kind.as_str(), repeats, "order"),
+        [_, path, kind, repeats, call] => (path, kind.as_str(), repeats, call.as_str()),
+        _ => return None,
+    };
+    let repeats: usize = repeats.parse().ok()?;
+    let is_kind = matches!(kind, "i32" | "i64" | "isize");
+    let is_call = matches!(call, "order" | "columns" | "analyze");
+    if !is_kind || !is_call || repeats == 0 {
+        return None;
+    }
+    Some(Request {
+        path,
+        kind,
+        call,
+        repeats,
+    })
+}
+
 /// Times a call on the matrix of a file in one type of numbers.
 fn time_file<R: Runtime + Alloc<A = Global>, I: PrimInt>(
     rt: &R,
-    path: &str,
-    kind: &str,
-    what: &str,
-    repeats: usize,
+    request: &Request<'_>,
 ) -> Result<()> {
+    let (path, kind, repeats) = (request.path, request.kind, request.repeats);
     let mut file = BufReader::new(rt.alloc(), fs::open(rt, path)?)?;
     let matrix: Matrix<I, Global> = read_matrix(rt.alloc(), &mut file)?;
     drop(file);
     let name = path.rsplit('/').next().unwrap_or(path);
-    match what {
-        "order" => {
-            let outcome = order_often(rt, &matrix, repeats)?;
-            print_outcome(rt, kind, name, outcome)
-        }
+    match request.call {
         "columns" => {
             let factored = columns_often(rt, &matrix, repeats)?;
-            print_factored(rt, kind, name, what, factored)
+            print_factored(rt, kind, name, "columns", factored)
         }
         "analyze" => {
             let factored = analyze_often(rt, &matrix, repeats)?;
-            print_factored(rt, kind, name, what, factored)
+            print_factored(rt, kind, name, "analyze", factored)
         }
-        _ => bail!("no call: {what}"),
+        _ => {
+            let outcome = order_often(rt, &matrix, repeats)?;
+            print_outcome(rt, kind, name, outcome)
+        }
     }
 }
 
-fn main(rt: HostRuntime) -> Result<()> {
-    let words: Vec<String> = env::args(&rt)?.collect(rt.alloc())?;
-    let (Some(path), Some(kind), Some(repeats)) = (words.get(1), words.get(2), words.get(3)) else {
-        println!(rt; "usage: amd_bench FILE i32|i64|isize REPEATS [order|columns|analyze]")?;
-        return Ok(());
-    };
-    let repeats = repeats.parse().context("the number of repeats")?;
-    ensure!(0 < repeats, "the number of repeats is 0");
-    let what = words.get(4).map_or("order", |word| word.as_str());
-    match kind.as_str() {
-        "i32" => time_file::<_, i32>(&rt, path, kind, what, repeats),
-        "i64" => time_file::<_, i64>(&rt, path, kind, what, repeats),
-        "isize" => time_file::<_, isize>(&rt, path, kind, what, repeats),
-        _ => bail!("no type of numbers: {kind}"),
+/// Times what is asked for.
+fn answer<R: Runtime + Alloc<A = Global>>(rt: &R, request: &Request<'_>) -> Result<()> {
+    match request.kind {
+        "i32" => time_file::<_, i32>(rt, request),
+        "i64" => time_file::<_, i64>(rt, request),
+        _ => time_file::<_, isize>(rt, request),
     }
+}
+
+fn main(rt: HostRuntime) -> Result<ExitCode> {
+    let words: Vec<String> = env::args(&rt)?.collect(rt.alloc())?;
+    let Some(request) = request_of(&words) else {
+        eprintln!(rt; "usage: amd_bench FILE i32|i64|isize REPEATS [order|columns|analyze]")?;
+        return Ok(ExitCode::from(2));
+    };
+    answer(&rt, &request).context(request.path)?;
+    Ok(ExitCode::SUCCESS)
 }

@@ -3,5 +3,6 @@ pub mod Words
 pub mod Items
 pub mod Drafts
 pub mod Spelling
+pub mod Limits
 pub mod Reading
 pub mod Matrices

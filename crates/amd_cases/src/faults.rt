@@ -9,7 +9,7 @@ use thiserror::Error;
 /// What is wrong with a line.
 #[derive(Clone, Copy, PartialEq, Debug, Drop, Error)]
 pub enum Fault {
-    /// The line has no word, or its first one is no keyword.
+    /// The first word of the line is no keyword.
     #[error("no keyword")]
     Keyword,
     /// A word behind the keyword is no number or does not fit, or there are more or fewer than the keyword takes.
@@ -30,6 +30,12 @@ pub enum Fault {
     /// The input ends inside a case.
     #[error("the input ends inside a case")]
     Unfinished,
+    /// The line has more bytes than a line may have.
+    #[error("a line that is too long")]
+    Long,
+    /// There are more lines than 64 bits count.
+    #[error("too many lines")]
+    Lines,
     /// Memory was refused.
     #[error("out of memory")]
     OutOfMemory,

@@ -1,17 +1,32 @@
 // A reader of cases, one after another, which holds one line and one case. Called by programs that order cases.
-// The format is that of the root; a line ends at a line feed or at the end of the input.
+// The format is that of the root; a line ends at a line feed or at the end of the input. No more is read of a line that is too long
+// than the most that a line may have, and a buffer.
 
 ghost use Rattle.std.specs.Prelude.{◌≡◌, ◌∷◌, [], true, false, IfOk, IfErr, MatchOption, is_err};
-ghost use Rattle.amd_cases.specs.Reading.{TakesLine, TakesItems, IsAtEnd, ReadsBody, ReadsCase, NamesLine, lines_read, has_failed, source_of};
+ghost use Rattle.amd_cases.specs.Words.{words};
+ghost use Rattle.amd_cases.specs.Reading.{TakesLine, TakesNext, TakesItems, TakesBlanks, ReadsBody, ReadsCase, NamesLine, lines_read, has_failed, source_of};
+ghost use Rattle.amd_cases.specs.Reading.{is_blank};
 ghost use Rattle.amd_cases.specs.declared.reader.ReadError.TheVariants as error;
 
 use crate::cases::{Case, Draft};
 use crate::faults::Fault;
 use crate::items::{Item, item_of};
+use crate::limits::Limited;
+use crate::words::first_word;
 use std::alloc::Allocator;
 use std::io;
 use std::io::{BufRead, ErrorKind};
 use thiserror::Error;
+
+/// The most bytes that a line may have, with its line feed.
+pub const LONGEST_LINE: usize = 1 << 24;
+
+/// Whether a line has no word.
+fn is_blank(line: &[u8]) -> bool
+    ensures { result ≡ is_blank (words line.now) }
+{
+    first_word(line).is_none()
+}
 
 /// Why there is no next case.
 #[derive(Debug, Drop, Error)]
@@ -40,7 +55,7 @@ pub enum ReadError {
 /// A reader of the cases of an input.
 #[derive(Drop)]
 pub struct CaseReader<R: BufRead + Drop, A: Allocator> {
-    input: R,
+    input: Limited<R>,
     alloc: A,
     line: Vec<u8, A>,
     lines: u64,
@@ -55,7 +70,7 @@ impl<R: BufRead + Drop, A: Allocator + Copy> CaseReader<R, A> {
         ensures ready { has_failed result ≡ false }
     {
         CaseReader {
-            input,
+            input: Limited::new(input),
             alloc,
             line: Vec::new(alloc),
             lines: 0,
@@ -79,7 +94,13 @@ impl<R: BufRead + Drop, A: Allocator + Copy> CaseReader<R, A> {
         ensures line { IfErr result (λ e. NamesLine e (lines_read self.new)) }
     {
         self.line.clear();
-        match self.input.read_until(b'\n', &mut self.line) {
+        self.input.allow(LONGEST_LINE as u64 + 1);
+        let outcome = self.input.read_until(b'\n', &mut self.line);
+        if self.line.len() > LONGEST_LINE {
+            self.lines = self.lines.saturating_add(1);
+            return Err(self.at_line(Fault::Long));
+        }
+        match outcome {
             Ok(0) => Ok(false),
             Ok(_) => {
                 self.lines = self.lines.saturating_add(1);
@@ -95,12 +116,29 @@ impl<R: BufRead + Drop, A: Allocator + Copy> CaseReader<R, A> {
         }
     }
 
-    /// The item of the next line, if there is one.
-    fn take_item(&mut self) -> Result<Option<Item<A>>, ReadError>
-        ensures takes { IfOk result (λ o. MatchOption o (IsAtEnd R.remaining self.old self.new) (λ i. TakesItems R.remaining self.old self.new (i ∷ []))) }
+    /// Reads lines up to the next one that has a word, and says whether there was one.
+    fn take_telling(&mut self) -> Result<bool, ReadError>
+        ensures takes { IfOk result (TakesNext R.remaining self.old self.new) }
         ensures line { IfErr result (λ e. NamesLine e (lines_read self.new)) }
     {
-        if !self.take_line()? {
+        // The loop has a bound because every function must return; no input has so many lines.
+        'lines: for _ in 0..u64::MAX {
+            if !self.take_line()? {
+                return Ok(false);
+            }
+            if !is_blank(&self.line) {
+                return Ok(true);
+            }
+        }
+        Err(self.at_line(Fault::Lines))
+    }
+
+    /// The item of the next line that has a word, if there is one.
+    fn take_item(&mut self) -> Result<Option<Item<A>>, ReadError>
+        ensures takes { IfOk result (λ o. MatchOption o (TakesBlanks R.remaining self.old self.new) (λ i. TakesItems R.remaining self.old self.new (i ∷ []))) }
+        ensures line { IfErr result (λ e. NamesLine e (lines_read self.new)) }
+    {
+        if !self.take_telling()? {
             return Ok(None);
         }
         match item_of(self.alloc, &self.line) {
@@ -133,7 +171,7 @@ impl<R: BufRead + Drop, A: Allocator + Copy> CaseReader<R, A> {
 
     /// The next case, where no error came before.
     fn take_case(&mut self) -> Result<Option<Case<A>>, ReadError>
-        ensures takes { IfOk result (λ o. MatchOption o (IsAtEnd R.remaining self.old self.new) (ReadsCase R.remaining self.old self.new)) }
+        ensures takes { IfOk result (λ o. MatchOption o (TakesBlanks R.remaining self.old self.new) (ReadsCase R.remaining self.old self.new)) }
         ensures line { IfErr result (λ e. NamesLine e (lines_read self.new)) }
     {
         match self.take_item()? {
@@ -150,7 +188,7 @@ impl<R: BufRead + Drop, A: Allocator + Copy> CaseReader<R, A> {
     /// `Line` for a line at fault, an input that ends inside a case or refused memory, `Input` where the input cannot be read, and
     /// `Stopped` after an error. But for `Stopped`, the contract does not say when an error comes, nor which fault it names.
     pub fn next_case(&mut self) -> Result<Option<Case<A>>, ReadError>
-        ensures takes { IfOk result (λ o. MatchOption o (IsAtEnd R.remaining self.old self.new) (ReadsCase R.remaining self.old self.new)) }
+        ensures takes { IfOk result (λ o. MatchOption o (TakesBlanks R.remaining self.old self.new) (ReadsCase R.remaining self.old self.new)) }
         ensures line { IfErr result (λ e. NamesLine e (lines_read self.new)) }
         ensures stopped { has_failed self.old ≡ true → result ≡ Err error.Stopped }
         ensures fails { has_failed self.new ≡ is_err result }

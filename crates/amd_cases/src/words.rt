@@ -1,4 +1,4 @@
-// The words of a line and the number that a word spells. Called by `items`.
+// The words of a line and the number that a word spells. Called by `items`, by the crate `amd_market`, and by `held` of `amd_command`.
 // Words are parted by ASCII white space, which takes in the line's end; a number is what `parse` of the standard library takes.
 
 ghost use Rattle.std.specs.Prelude.{◌≡◌, ◌<◌, ◌∷◌, ℤ, [], length, not, IfSome, MatchOption};

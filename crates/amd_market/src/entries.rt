@@ -1,4 +1,4 @@
-// The line of the size, and the lines of the entries. Called by `reader`.
+// The line of the size, and the lines of the entries. Called by `reader`, and by `held` of the crate `amd_command`.
 
 ghost use Rattle.std.specs.Prelude.{◌≡◌, ◌≢◌, ◌≤◌, ◌<◌, ◌+◌, ℕ, pos, length, IsTrue, ◌↔◌, MatchOption, MatchResult};
 ghost use Rattle.amd_cases.specs.Words.{words, SpellsNumber};

@@ -112,6 +112,30 @@ fn write_factor<W: Write, A: Allocator>(out: &mut W, factor: &Factor<A>) -> io::
     write_parents(out, &factor.parent)
 }
 
+/// The room that is asked for first.
+const FIRST_ROOM: usize = 1024;
+
+/// The columns of the factor of a case under a permutation, where they have no more than `room` entries. Since memory is asked for all
+/// of a room, whatever the factor needs, it is doubled from a small one on until it is enough: a case with a great room and few rows asks
+/// for no more than that.
+fn columns_within<A: Allocator + Copy>(
+    alloc: A,
+    case: &Case<A>,
+    p: &[i64],
+    room: usize,
+) -> Result<Factor<A>, Fault> {
+    let mut tried = room.min(FIRST_ROOM);
+    'rooms: for _ in 0..usize::BITS {
+        match columns(alloc, case.n, &case.a_p, &case.a_i, p, tried) {
+            Err(Fault::RoomTooSmall) if tried < room => {
+                tried = tried.saturating_mul(2).min(room);
+            }
+            outcome => return outcome,
+        }
+    }
+    columns(alloc, case.n, &case.a_p, &case.a_i, p, room)
+}
+
 /// Writes the columns of the factor of a case under a permutation, where they have no more than `room` entries.
 fn write_columns<W: Write, A: Allocator + Copy>(
     alloc: A,
@@ -120,7 +144,7 @@ fn write_columns<W: Write, A: Allocator + Copy>(
     room: usize,
     out: &mut W,
 ) -> Result<()> {
-    match columns(alloc, case.n, &case.a_p, &case.a_i, p, room) {
+    match columns_within(alloc, case, p, room) {
         Ok(factor) => {
             writeln!(out, "FAULT Ok")?;
             write_factor(out, &factor)?;
