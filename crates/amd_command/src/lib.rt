@@ -14,5 +14,6 @@ pub mod held;
 pub mod ordering;
 pub mod picture;
 pub mod program;
+pub mod progress;
 pub mod request;
 pub mod rows;

@@ -1,10 +1,10 @@
 // A picture of a matrix before and after its ordering, side by side, as SVG: the entries of the pattern of A + A' with the diagonal,
 // and in another colour the fill, which are the entries of the factor that are no entries of that pattern. Called by `program`.
-// Tested alone. The rows of the factor are walked along the elimination tree (Liu 1990), so that the memory grows with the rows
-// and the cells alone.
+// The factor that is drawn is that of `amd_symbolic::columns`, exact by its contract; what is drawn of it is tested alone.
 
-ghost use Rattle.std.specs.Prelude.{pos, map};
+ghost use Rattle.std.specs.Prelude.{pos, map, IfOk};
 ghost use Rattle.amd_model.specs.Input.Columns.{IsInput};
+ghost use Rattle.amd_symbolic.specs.Factors.{IsFactorOf};
 
 use crate::causes::Cause;
 use crate::grids::{Grid, LEVELS, SIDE};
@@ -13,6 +13,7 @@ use amd::valid::valid;
 use amd_earlier::lists::{Lists, earlier_lists};
 use amd_earlier::places::places;
 use amd_market::reader::Matrix;
+use amd_symbolic::{Factor, columns};
 use std::alloc::{AllocError, Allocator};
 use std::io;
 use std::io::Write;
@@ -70,41 +71,11 @@ fn mark_row<A: Allocator>(
     }
 }
 
-/// Marks row `j` of the factor: the places on the paths in the elimination tree from each earlier neighbour up to `j`. `parent`
-/// holds the parents that the rows before tell, and `mark` for each place one more than the last row that it was marked for.
-fn mark_paths<A: Allocator>(
-    j: usize,
-    earlier: &[usize],
-    parent: &mut [Option<usize>],
-    mark: &mut [usize],
-    picture: &mut Picture<A>,
-) {
-    let stamp = j.saturating_add(1);
-    'earlier: for &first in earlier {
-        let mut k = first;
-        'up: for _ in first..j {
-            let (Some(seen), Some(next)) = (mark.get_mut(k), parent.get_mut(k)) else {
-                continue 'earlier;
-            };
-            if k == j || *seen == stamp {
-                continue 'earlier;
-            }
-            *seen = stamp;
-            picture.factor.mark_both(j, k);
-            picture.entries = picture.entries.saturating_add(1);
-            k = *next.get_or_insert(j);
-        }
-    }
-}
-
-/// Marks the edges and the entries of the factor, row by row. `last` and `mark` are for the work alone: as many zeros as there are
-/// rows; and `parent` has a `None` for each row.
+/// Marks the edges, row by row. `last` is for the work alone: as many zeros as there are rows.
 fn mark_rows<A: Allocator>(
     lists: &Lists<A>,
     p: &[usize],
     last: &mut [usize],
-    mark: &mut [usize],
-    parent: &mut [Option<usize>],
     picture: &mut Picture<A>,
 ) {
     'rows: for j in 0..p.len() {
@@ -112,7 +83,25 @@ fn mark_rows<A: Allocator>(
         let end = lists.starts.get(j.saturating_add(1)).copied().unwrap_or(0);
         if let Some(earlier) = lists.earlier.get(begin..end) {
             mark_row(j, earlier, p, last, picture);
-            mark_paths(j, earlier, parent, mark, picture);
+        }
+    }
+}
+
+/// Marks the entries of column `k` of the factor.
+fn mark_column<A: Allocator>(k: usize, rows: &[usize], picture: &mut Picture<A>) {
+    'entries: for &j in rows {
+        picture.factor.mark_both(j, k);
+        picture.entries = picture.entries.saturating_add(1);
+    }
+}
+
+/// Marks the entries of a factor with `n` columns.
+fn mark_factor<A: Allocator>(n: usize, factor: &Factor<A>, picture: &mut Picture<A>) {
+    'columns: for k in 0..n {
+        let begin = factor.ptr.get(k).copied().unwrap_or(0);
+        let end = factor.ptr.get(k.saturating_add(1)).copied().unwrap_or(0);
+        if let Some(rows) = factor.rows.get(begin..end) {
+            mark_column(k, rows, picture);
         }
     }
 }
@@ -155,24 +144,39 @@ fn lists_of<A: Allocator + Copy>(
     }
 }
 
-/// The marks of a matrix and an order of its rows: row `p[k]` stands at place `k`.
+/// The factor of a matrix under an order of its rows: what is drawn as fill is taken from this.
+fn factor_of<A: Allocator + Copy>(
+    alloc: A,
+    matrix: &Matrix<A>,
+    p: &[usize],
+    room: usize,
+) -> Result<Factor<A>, Cause>
+    ensures { IfOk result (λ f. IsFactorOf (pos matrix.now.n) (map pos matrix.now.a_p.items) (map pos matrix.now.a_i.items) (map pos p.now) f.ptr.items f.rows.items f.parent.items) }
+{
+    let factor = columns(alloc, matrix.n, &matrix.a_p, &matrix.a_i, p, room)?;
+    Ok(factor)
+}
+
+/// The marks of a matrix and an order of its rows: row `p[k]` stands at place `k`, and the factor has at most `room` entries.
 ///
 /// # Errors
 ///
-/// `Form` where the matrix is no column form, or `p` is no permutation of its rows; `Memory` where memory was refused.
+/// Those of `write_picture`, but those of the writer.
 fn picture_of<A: Allocator + Copy>(
     alloc: A,
     matrix: &Matrix<A>,
     p: &[usize],
+    room: usize,
 ) -> Result<Picture<A>, Cause> {
     let n = matrix.n;
-    let lists = lists_of(alloc, matrix, p)?;
     let mut picture = empty_picture(alloc, n)?;
+    let factor = factor_of(alloc, matrix, p, room)?;
+    mark_factor(n, &factor, &mut picture);
+    drop(factor);
+    let lists = lists_of(alloc, matrix, p)?;
     let mut last = vec![in alloc; 0; n]?;
-    let mut mark = vec![in alloc; 0; n]?;
-    let mut parent = vec![in alloc; None; n]?;
     mark_diagonal(n, &mut picture);
-    mark_rows(&lists, p, &mut last, &mut mark, &mut parent, &mut picture);
+    mark_rows(&lists, p, &mut last, &mut picture);
     Ok(picture)
 }
 
@@ -279,18 +283,21 @@ fn write_foot<W: Write>(n: usize, edges: u64, fill: u64, out: &mut W) -> io::Res
 }
 
 /// Draws a matrix at the places of the file and, beside it, at those of an order of its rows: row `p[k]` stands at place `k`.
+/// The fill is that of the exact factor under this order, for which memory is asked for `room` entries.
 ///
 /// # Errors
 ///
-/// `Form` where the matrix is no column form, or `p` is no permutation of its rows; `Memory` where memory was refused; and `Write`
-/// where the writer failed. Before a fault of the first two kinds nothing is written, but where memory was refused to the writer.
+/// `Form` where the matrix is no column form, `p` is no permutation of its rows, or the factor has more than `room` entries;
+/// `Memory` where memory was refused; and `Write` where the writer failed. Before a fault of the first two kinds nothing is written,
+/// but where memory was refused to the writer.
 pub fn write_picture<W: Write, A: Allocator + Copy>(
     alloc: A,
     matrix: &Matrix<A>,
     p: &[usize],
+    room: usize,
     out: &mut W,
 ) -> Result<(), Cause> {
-    let picture = picture_of(alloc, matrix, p)?;
+    let picture = picture_of(alloc, matrix, p, room)?;
     let side = picture.before.side();
     let before = picture.before.levels(alloc)?;
     let after = picture.after.levels(alloc)?;

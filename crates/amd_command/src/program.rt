@@ -9,6 +9,7 @@ use crate::figures::write_figures;
 use crate::held::read_held;
 use crate::ordering::order_matrix;
 use crate::picture::write_picture;
+use crate::progress::Progress;
 use crate::request::{Options, Request, request_of};
 use crate::rows::write_rows;
 use amd::Control;
@@ -22,11 +23,14 @@ use std::rt::Runtime;
 use std::{fs, io};
 use thiserror::Error;
 
-/// A file of so many bytes takes some seconds.
+/// A file of so many bytes takes some seconds to read.
 const LONG_FILE: u64 = 1 << 26;
 
-/// A matrix with so many entries takes some seconds.
-const MANY_ENTRIES: usize = 1 << 22;
+/// A matrix with so many entries takes some seconds to order.
+const MANY_ENTRIES: usize = 1 << 20;
+
+/// A factor with so many entries takes some seconds to draw.
+const LARGE_FACTOR: usize = 1 << 26;
 
 /// What an ordering, or an analysis, writes.
 #[derive(Drop)]
@@ -61,64 +65,84 @@ fn about<'a, T: Drop>(subject: &'a str, outcome: Result<T, Cause>) -> Result<T, 
 }
 
 /// Opens a file to read, and says so where it is long.
-fn open_file<R: Runtime + AllocGlobal>(rt: &R, path: &str) -> Result<BufReader<R::File>, Cause> {
+fn open_file<R: Runtime + AllocGlobal>(
+    rt: &R,
+    progress: &Progress,
+    path: &str,
+) -> Result<BufReader<R::File>, Cause> {
     let file = fs::open(rt, path).map_err(Cause::Open)?;
     let size = file.metadata().map_err(Cause::Open)?.len();
-    if size >= LONG_FILE {
-        let megabytes = size >> 20;
-        eprintln!(rt; "rimopaku: reading {path}, {megabytes} MiB")?;
-    }
+    let megabytes = size >> 20;
+    let stage = format_args!("rimopaku: reading {path}, {megabytes} MiB");
+    progress.tell(rt, size >= LONG_FILE, stage);
     Ok(BufReader::new(rt.alloc(), file)?)
 }
 
 /// Reads the matrix of a file, or of standard input for `-`.
-fn read_file<R: Runtime + AllocGlobal>(rt: &R, path: &str) -> Result<Matrix<Global>, Cause> {
+fn read_file<R: Runtime + AllocGlobal>(
+    rt: &R,
+    progress: &Progress,
+    path: &str,
+) -> Result<Matrix<Global>, Cause> {
     if path == "-" {
         let input = BufReader::new(rt.alloc(), rt.reader())?;
         return read_matrix(rt.alloc(), input).map_err(Cause::Text);
     }
-    let input = open_file(rt, path)?;
+    let input = open_file(rt, progress, path)?;
     read_matrix(rt.alloc(), input).map_err(Cause::Text)
 }
 
 /// Reads the rows to hold last, where there is a file of them.
-fn read_marks<R: Runtime + AllocGlobal>(rt: &R, n: usize, path: &str) -> Result<Vec<bool>, Cause> {
-    let input = open_file(rt, path)?;
+fn read_marks<R: Runtime + AllocGlobal>(
+    rt: &R,
+    progress: &Progress,
+    n: usize,
+    path: &str,
+) -> Result<Vec<bool>, Cause> {
+    let input = open_file(rt, progress, path)?;
     read_held(rt.alloc(), n, input).map_err(Cause::Text)
 }
 
 /// Says that a matrix is ordered, where it is large.
-fn tell_size<R: Runtime>(rt: &R, matrix: &Matrix<Global>) -> Result<(), Cause> {
+fn tell_ordering<R: Runtime>(rt: &R, progress: &Progress, matrix: &Matrix<Global>) {
     let rows = matrix.n;
     let entries = matrix.a_i.len();
-    if entries >= MANY_ENTRIES {
-        eprintln!(rt; "rimopaku: ordering {rows} rows, {entries} entries")?;
-    }
-    Ok(())
+    let stage = format_args!("rimopaku: ordering {rows} rows, {entries} entries");
+    progress.tell(rt, entries >= MANY_ENTRIES, stage);
 }
 
-/// The picture of a matrix and its ordering.
-fn picture_text(alloc: Global, matrix: &Matrix<Global>, p: &[usize]) -> Result<Vec<u8>, Cause> {
-    let mut text = Vec::new(alloc);
-    write_picture(alloc, matrix, p, &mut text)?;
+/// The picture of a matrix and its ordering, whose factor has at most so many entries.
+fn picture_text<R: Runtime + AllocGlobal>(
+    rt: &R,
+    progress: &Progress,
+    matrix: &Matrix<Global>,
+    p: &[usize],
+    lnz: usize,
+) -> Result<Vec<u8>, Cause> {
+    let stage = format_args!("rimopaku: drawing up to {lnz} entries of L");
+    progress.tell(rt, lnz >= LARGE_FACTOR, stage);
+    let mut text = Vec::new(rt.alloc());
+    write_picture(rt.alloc(), matrix, p, lnz, &mut text)?;
     Ok(text)
 }
 
 /// Orders a matrix, and makes the texts of that, the picture where it is `drawn`.
-fn order_texts(
-    alloc: Global,
+fn order_texts<R: Runtime + AllocGlobal>(
+    rt: &R,
+    progress: &Progress,
     matrix: &Matrix<Global>,
     control: &Control,
     hold: Option<&[bool]>,
     drawn: bool,
 ) -> Result<Texts, Cause> {
+    let alloc = rt.alloc();
     let (p, info) = order_matrix(alloc, matrix, control, hold)?;
     let mut lines = Vec::new(alloc);
     let mut figures = Vec::new(alloc);
     write_rows(&p, &mut lines)?;
     write_figures(&info, &mut figures)?;
     let picture = if drawn {
-        Some(picture_text(alloc, matrix, &p)?)
+        Some(picture_text(rt, progress, matrix, &p, info.lnz)?)
     } else {
         None
     };
@@ -189,11 +213,12 @@ fn control_of<'a>(options: &Options<'a>) -> Result<Control, Complaint<'a>> {
 /// Reads the rows to hold last, where a file of them is named.
 fn read_hold<'a, R: Runtime + AllocGlobal>(
     rt: &R,
+    progress: &Progress,
     options: &Options<'a>,
     n: usize,
 ) -> Result<Option<Vec<bool>>, Complaint<'a>> {
     match options.hold {
-        Some(path) => Ok(Some(about(path, read_marks(rt, n, path))?)),
+        Some(path) => Ok(Some(about(path, read_marks(rt, progress, n, path))?)),
         None => Ok(None),
     }
 }
@@ -205,15 +230,16 @@ fn order_file<'a, R: Runtime + AllocGlobal>(
     analyzed: bool,
 ) -> Result<(), Complaint<'a>> {
     let control = control_of(options)?;
-    let matrix = about(options.file, read_file(rt, options.file))?;
-    let hold = read_hold(rt, options, matrix.n)?;
+    let progress = Progress::begin(rt);
+    let matrix = about(options.file, read_file(rt, &progress, options.file))?;
+    let hold = read_hold(rt, &progress, options, matrix.n)?;
     let marks = hold.as_deref();
-    about("standard error", tell_size(rt, &matrix))?;
+    tell_ordering(rt, &progress, &matrix);
     let made = if analyzed {
         analysis_texts(rt.alloc(), &matrix, &control, marks)
     } else {
         let drawn = options.picture.is_some();
-        order_texts(rt.alloc(), &matrix, &control, marks, drawn)
+        order_texts(rt, &progress, &matrix, &control, marks, drawn)
     };
     put_texts(rt, options, about(options.file, made)?)
 }
@@ -232,7 +258,8 @@ fn describe_file<'a, R: Runtime + AllocGlobal>(
     options: &Options<'a>,
 ) -> Result<(), Complaint<'a>> {
     let control = control_of(options)?;
-    let matrix = about(options.file, read_file(rt, options.file))?;
+    let progress = Progress::begin(rt);
+    let matrix = about(options.file, read_file(rt, &progress, options.file))?;
     let text = about(options.file, facts_text(rt.alloc(), &matrix, &control))?;
     about(output_name(None), put_text(rt, None, &text))
 }

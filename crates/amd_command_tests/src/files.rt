@@ -42,7 +42,7 @@ fn kinds_of_files(rt: HostRuntime) -> Result<(), Fail> {
         ("pattern general", "0 0 0\n", "[0] []"),
     ] {
         let file = file_of(rt.alloc(), kind, rest)?;
-        assert_eq!(&rt; told(rt.alloc(), &file)?.as_str(), wanted, "{kind}");
+        assert!(&rt; told(rt.alloc(), &file)?.as_str() == wanted, "{kind}");
     }
     Ok(())
 }
@@ -99,7 +99,10 @@ fn files_at_fault(rt: HostRuntime) -> Result<(), Fail> {
     for (kind, rest, line, fault) in FAULTS {
         let file = file_of(rt.alloc(), kind, rest)?;
         let wanted = format!(in rt.alloc(); "line {line}: {fault}")?;
-        assert_eq!(&rt; told(rt.alloc(), &file)?.as_str(), wanted.as_str());
+        assert!(&rt;
+            told(rt.alloc(), &file)?.as_str() == wanted.as_str(),
+            "{wanted}"
+        );
     }
     Ok(())
 }
@@ -120,7 +123,7 @@ fn rows_to_hold(rt: HostRuntime) -> Result<(), Fail> {
             }
             Err(error) => format!(in rt.alloc(); "{error}")?,
         };
-        assert_eq!(&rt; shown.as_str(), wanted, "{text}");
+        assert!(&rt; shown.as_str() == wanted, "{text}");
     }
     Ok(())
 }

@@ -1,0 +1,212 @@
+// Whole runs of the command: the exit status, what stands on standard output and what is told on standard error, for good files, for
+// files and words at fault, for outputs that fail, and for runs that take long.
+
+use crate::desk::{Desk, Pages};
+use crate::outputs::{PATH, PATH_FACTS};
+use amd_command::program::run;
+use std::alloc::{AllocError, Global};
+use std::cell::RefCell;
+use std::process::Abort;
+use std::test::Fail;
+
+/// What is told of the path where it is ordered.
+const PATH_FIGURES: &str = "    rows                                                3\n";
+
+/// A file whose third line has a row that there is not.
+const BAD: &str = "%%MatrixMarket matrix coordinate pattern general\n2 2 2\n3 1\n1 1\n";
+
+/// A path that there is not.
+const NOWHERE: &str = "/no/such/folder/file";
+
+/// The words of a command line.
+fn words_of(alloc: Global, words: &[&str]) -> Result<Vec<String>, AllocError> {
+    let mut owned = Vec::new(alloc);
+    owned.push(String::from_str(alloc, "rimopaku")?)?;
+    for word in words {
+        owned.push(String::from_str(alloc, word)?)?;
+    }
+    Ok(owned)
+}
+
+/// The text of a page.
+fn text_of(alloc: Global, page: &RefCell<Vec<u8>>) -> Result<String, Fail> {
+    match page.try_borrow() {
+        Ok(bytes) => Ok(String::from_utf8_lossy(alloc, &bytes)?),
+        Err(_) => Ok(String::new(alloc)),
+    }
+}
+
+/// How a run ended.
+#[derive(Drop)]
+struct Ended {
+    status: u8,
+    shown: String,
+    told: String,
+}
+
+/// Runs the command with a text as its input, with a clock that goes on by so many seconds, and with an output that fails where it is
+/// `broken`.
+fn run_at_desk(
+    host: &HostRuntime,
+    words: &[&str],
+    input: &str,
+    step: u64,
+    broken: bool,
+) -> Result<Ended, Fail> {
+    let alloc = host.alloc();
+    let pages = Pages::new(alloc);
+    let owned = words_of(alloc, words)?;
+    let desk = Desk {
+        host,
+        input: input.as_bytes(),
+        pages: &pages,
+        step,
+        broken,
+    };
+    let status = run(&desk, &owned);
+    Ok(Ended {
+        status,
+        shown: text_of(alloc, &pages.shown)?,
+        told: text_of(alloc, &pages.told)?,
+    })
+}
+
+/// Words, an input, the status, and a part of what is told, where something is at fault.
+type Refused = (&'static [&'static str], &'static str, u8, &'static str);
+
+/// Words and files at fault: status 2. Outputs that cannot be opened: status 1.
+const REFUSED: [Refused; 14] = [
+    (&[], "", 2, "Usage: rimopaku"),
+    (&["sort", "-"], PATH, 2, "sort"),
+    (&["order"], PATH, 2, "FILE"),
+    (&["order", "-", "--sort"], PATH, 2, "--sort"),
+    (
+        &["order", "-", "--dense", "ten"],
+        PATH,
+        2,
+        "rimopaku: --dense: the dense row parameter is no",
+    ),
+    (&["info", "-"], "", 2, "rimopaku: -: line 0: "),
+    (
+        &["info", "-"],
+        BAD,
+        2,
+        "rimopaku: -: line 3: no row and column in range",
+    ),
+    (
+        &["order", "-"],
+        BAD,
+        2,
+        "rimopaku: -: line 3: no row and column in range",
+    ),
+    (
+        &["analyze", "-"],
+        BAD,
+        2,
+        "rimopaku: -: line 3: no row and column in range",
+    ),
+    (
+        &["order", NOWHERE],
+        "",
+        2,
+        "rimopaku: /no/such/folder/file: cannot be opened: ",
+    ),
+    (&["info", "/"], "", 2, "rimopaku: /: "),
+    (
+        &["order", "-", "--hold", NOWHERE],
+        PATH,
+        2,
+        "rimopaku: /no/such/folder/file: cannot be opened: ",
+    ),
+    (
+        &["order", "-", "--out", NOWHERE],
+        PATH,
+        1,
+        "rimopaku: /no/such/folder/file: cannot be written: ",
+    ),
+    (
+        &["analyze", "-", "--out", NOWHERE],
+        PATH,
+        1,
+        "rimopaku: /no/such/folder/file: cannot be written: ",
+    ),
+];
+
+/// Nothing is shown where something is at fault, and a message tells what.
+#[test]
+fn runs_that_are_refused(rt: HostRuntime) -> Result<(), Fail> {
+    for (words, input, status, told) in REFUSED {
+        let end = run_at_desk(&rt, words, input, 0, false)?;
+        assert!(&rt; end.status == status, "{words:?}");
+        assert!(&rt;
+            end.shown.is_empty() && end.told.contains(told),
+            "{words:?}"
+        );
+    }
+    Ok(())
+}
+
+/// Runs that do what is asked for, and what they show.
+#[test]
+fn runs_that_end_well(rt: HostRuntime) -> Result<(), Fail> {
+    for (words, shown) in [
+        (["info", "-"].as_slice(), PATH_FACTS),
+        (&["order", "-", "--out", "/dev/null"], ""),
+        (
+            &["analyze", "-", "--hold", "/dev/null", "--out", "/dev/null"],
+            "",
+        ),
+        (
+            &["order", "-", "--picture", "/dev/null", "--out", "/dev/null"],
+            "",
+        ),
+    ] {
+        let end = run_at_desk(&rt, words, PATH, 0, false)?;
+        assert!(&rt; end.status == 0 && end.shown.as_str() == shown, "{words:?}");
+        assert!(&rt;
+            end.told.is_empty() || end.told.starts_with(PATH_FIGURES),
+            "{words:?}"
+        );
+    }
+    for word in ["--help", "--version"] {
+        let end = run_at_desk(&rt, &[word], "", 0, false)?;
+        assert!(&rt;
+            end.status == 0 && end.shown.contains("rimopaku") && end.told.is_empty(),
+            "{word}"
+        );
+    }
+    Ok(())
+}
+
+#[test]
+fn an_output_that_takes_nothing(rt: HostRuntime) -> Result<(), Fail> {
+    for name in ["order", "analyze", "info"] {
+        let end = run_at_desk(&rt, &[name, "-"], PATH, 0, true)?;
+        let wanted = "rimopaku: standard output: cannot be written: ";
+        assert!(&rt; end.status == 1 && end.told.starts_with(wanted), "{name}");
+    }
+    Ok(())
+}
+
+/// A run that has taken some seconds tells each stage that it begins; one that has not tells none.
+#[test]
+fn stages_of_long_runs(rt: HostRuntime) -> Result<(), Fail> {
+    let words = [
+        "order",
+        "-",
+        "--hold",
+        "/dev/null",
+        "--picture",
+        "/dev/null",
+    ];
+    let slow = run_at_desk(&rt, &words, PATH, 2, false)?;
+    let stages = "rimopaku: reading /dev/null, 0 MiB
+rimopaku: ordering 3 rows, 5 entries
+rimopaku: drawing up to 2 entries of L
+";
+    assert!(&rt; slow.status == 0 && slow.told.starts_with(stages));
+    let fast = run_at_desk(&rt, &words, PATH, 0, false)?;
+    assert!(&rt; fast.status == 0 && fast.told.starts_with(PATH_FIGURES));
+    assert!(&rt; slow.shown.as_str() == fast.shown.as_str());
+    Ok(())
+}
