@@ -26,9 +26,8 @@ fn check_case<R: BufRead + Drop, A: Allocator + Copy>(
     let Ok(Some(case)) = cases.next_case() else {
         panic!(rt; "no case");
     };
-    assert_eq!(rt; (case.number, case.n, case.dense, case.aggressive), scalars);
-    assert_eq!(rt; case.a_p.as_slice(), a_p);
-    assert_eq!(rt; case.a_i.as_slice(), a_i);
+    let is_chosen = (case.number, case.n, case.dense, case.aggressive) == scalars;
+    assert!(rt; is_chosen && case.a_p.as_slice() == a_p && case.a_i.as_slice() == a_i);
 }
 
 #[test]
@@ -38,6 +37,27 @@ fn two_cases_and_the_end(rt: HostRuntime) {
     check_case(&rt, &mut cases, (-8, 0, 10000, true), &[], &[]);
     for _ in 0..2 {
         assert!(rt; matches!(cases.next_case(), Ok(None)));
+    }
+}
+
+/// A case that is whole.
+const ONE_CASE: &[u8] = b"CASE 1\nN 2\nAP 0 1 2\nAI 0 1\nEND";
+
+/// What is cut off it at any place makes it no case; without a byte left the input is empty.
+#[test]
+fn a_case_that_is_cut_off(rt: HostRuntime) {
+    assert!(rt;
+        matches!(
+            CaseReader::new(rt.alloc(), ONE_CASE).next_case(),
+            Ok(Some(_))
+        )
+    );
+    for (length, _) in ONE_CASE.iter().enumerate() {
+        let front = ONE_CASE.get(..length).unwrap_or(ONE_CASE);
+        match CaseReader::new(rt.alloc(), front).next_case() {
+            Ok(case) => assert!(rt; length == 0 && case.is_none()),
+            Err(_) => assert!(rt; 0 < length),
+        }
     }
 }
 
@@ -51,15 +71,14 @@ fn items_that_may_be_left_out(rt: HostRuntime) {
     let Ok(Some(held)) = cases.next_case() else {
         panic!(rt; "no case");
     };
-    assert_eq!(rt; held.hold.as_deref(), Some([false, true, true].as_slice()));
+    assert!(rt; held.hold.as_deref() == Some([false, true, true].as_slice()));
     assert!(rt; held.permutation.is_none() && held.room.is_none());
     let Ok(Some(columns)) = cases.next_case() else {
         panic!(rt; "no second case");
     };
-    assert_eq!(rt; columns.hold.as_deref(), Some([].as_slice()));
-    assert_eq!(rt; columns.permutation.as_deref(), Some([1, 0].as_slice()));
-    assert_eq!(rt; columns.room, Some(-7));
-    assert_eq!(rt; (columns.n, columns.a_p.len()), (2, 1));
+    assert!(rt; columns.hold.as_deref() == Some([].as_slice()));
+    assert!(rt; columns.permutation.as_deref() == Some([1, 0].as_slice()));
+    assert!(rt; columns.room == Some(-7) && columns.n == 2 && columns.a_p.len() == 1);
     let mut cases = CaseReader::new(rt.alloc(), TWO_CASES);
     let Ok(Some(plain)) = cases.next_case() else {
         panic!(rt; "no case");
@@ -72,8 +91,7 @@ fn check_fault(rt: &impl Abort, alloc: Global, text: &[u8], wanted: u64, wanted_
     let mut cases = CaseReader::new(alloc, text);
     match cases.next_case() {
         Err(ReadError::Line { line, fault }) => {
-            assert_eq!(rt; line, wanted, "{text:?}");
-            assert!(rt; fault == wanted_fault, "{text:?}: {fault:?}");
+            assert!(rt; line == wanted && fault == wanted_fault, "{text:?}");
         }
         _ => panic!(rt; "not refused: {text:?}"),
     }
@@ -83,7 +101,6 @@ fn check_fault(rt: &impl Abort, alloc: Global, text: &[u8], wanted: u64, wanted_
 #[test]
 fn lines_that_spell_no_item(rt: HostRuntime) {
     for (text, line, fault) in [
-        (b"\n".as_slice(), 1, Fault::Keyword),
         (b"case 1\n".as_slice(), 1, Fault::Keyword),
         (b"CASES 1\n".as_slice(), 1, Fault::Keyword),
         (b"CASE 1\nM 2\n".as_slice(), 2, Fault::Keyword),
@@ -165,14 +182,9 @@ fn an_input_that_breaks_off(rt: HostRuntime) -> Result<(), Fail> {
         b"CASE 1\nN 0\nAP 0\nAI".as_slice(),
     ] {
         let mut cases = CaseReader::new(rt.alloc(), BufReader::new(rt.alloc(), Broken(text))?);
-        assert!(rt;
-            matches!(cases.next_case(), Err(ReadError::Input { .. })),
-            "{text:?}"
-        );
-        assert!(rt;
-            matches!(cases.next_case(), Err(ReadError::Stopped)),
-            "{text:?}"
-        );
+        let is_told = matches!(cases.next_case(), Err(ReadError::Input { .. }));
+        let is_stopped = matches!(cases.next_case(), Err(ReadError::Stopped));
+        assert!(rt; is_told && is_stopped, "{text:?}");
     }
     Ok(())
 }
@@ -225,9 +237,8 @@ fn a_matrix_file(rt: HostRuntime) -> Result<(), Fail> {
     else {
         panic!(rt; "refused");
     };
-    assert_eq!(rt; n, 2);
-    assert_eq!(rt; a_p.as_slice(), [0, 2, 3].as_slice());
-    assert_eq!(rt; a_i.as_slice(), [0, 1, -300].as_slice());
+    assert!(rt; n == 2 && a_p.as_slice() == [0, 2, 3].as_slice());
+    assert!(rt; a_i.as_slice() == [0, 1, -300].as_slice());
     for (length, _) in bytes.iter().enumerate() {
         let front: Vec<u8> = bytes.iter().copied().take(length).collect(rt.alloc())?;
         let outcome = read_matrix::<i32, _, _>(rt.alloc(), &mut front.as_slice());
@@ -265,6 +276,25 @@ fn matrix_files_that_are_none(rt: HostRuntime) -> Result<(), Fail> {
     let whole = file_of(rt.alloc(), &[0, 0, 0], &[])?;
     let outcome = read_matrix::<i64, _, _>(rt.alloc(), &mut Broken(&whole));
     assert!(rt; matches!(outcome, Err(MatrixError::Input(_))));
+    Ok(())
+}
+
+/// Sizes that the file has no bytes for: no more memory is asked for than the bytes that are there fill.
+#[test]
+fn matrix_files_that_say_too_much(rt: HostRuntime) -> Result<(), Fail> {
+    for wide in [
+        [].as_slice(),
+        &[i64::MAX],
+        &[i64::MAX, i64::MAX],
+        &[1 << 40, 0, 0],
+        &[0, 1 << 40, 1 << 40],
+        &[1, i64::MAX, 0, i64::MAX],
+    ] {
+        let bytes = file_of(rt.alloc(), wide, &[])?;
+        let heap = Refusing::new(rt.alloc(), 0);
+        let outcome = read_matrix::<i64, _, _>(&heap, &mut bytes.as_slice());
+        assert!(rt; matches!(outcome, Err(MatrixError::Short)) && heap.requests() < 2);
+    }
     Ok(())
 }
 

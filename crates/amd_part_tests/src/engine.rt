@@ -31,7 +31,7 @@ fn orders(
     let control = Control::default();
     match plain_1(heap, n, a_p, a_i, &degrees, &control, None, &mut info) {
         Ok((p, p_inv)) => {
-            assert_eq!(rt; (p.as_slice(), p_inv.as_slice()), wanted);
+            assert!(rt; p.as_slice() == wanted.0 && p_inv.as_slice() == wanted.1);
             true
         }
         Err(status) => {

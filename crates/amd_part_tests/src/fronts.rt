@@ -52,13 +52,8 @@ static FRONTS: [Case; 6] = [
 fn shares_of_a_front(rt: HostRuntime) {
     for case in &FRONTS {
         let (lnz, ldl, lu) = front_counts(case.rows, case.outside);
-        assert_eq!(rt;
-            [lnz, ldl, lu],
-            case.shares,
-            "{} {}",
-            case.rows,
-            case.outside
-        );
+        let is_same = [lnz, ldl, lu] == case.shares;
+        assert!(rt; is_same, "{} {}", case.rows, case.outside);
     }
 }
 
@@ -76,12 +71,9 @@ fn sums_of_fronts(rt: HostRuntime) {
     figures.add_front(1, 3);
     figures.add_front(3, 0);
     figures.write_figures(&mut info);
-    assert_eq!(rt; numbers_of(&info), [4, 12, 0, 0, 0, 0, 6, 6, 10, 14, 4]);
+    assert!(rt; numbers_of(&info) == [4, 12, 0, 0, 0, 0, 6, 6, 10, 14, 4]);
     figures.add_front(1, 4294967296);
     figures.write_figures(&mut info);
     let (lnz, ldl, lu) = (4294967302, 9223372039002259466, usize::MAX);
-    assert_eq!(rt;
-        numbers_of(&info),
-        [4, 12, 0, 0, 0, 0, lnz, lnz, ldl, lu, 4294967297]
-    );
+    assert!(rt; numbers_of(&info) == [4, 12, 0, 0, 0, 0, lnz, lnz, ldl, lu, 4294967297]);
 }

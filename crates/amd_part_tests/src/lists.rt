@@ -53,38 +53,49 @@ fn lists_of(
 ) -> (Lists<Global>, Vec<Vec<usize>>) {
     assert!(rt; n > 0);
     let Status::OK = valid(n, n, a_p, a_i) else {
-        panic!(rt; "not sorted: {a_p:?} {a_i:?}");
+        panic!(rt; "not sorted");
     };
     let mut info = Info::new(0);
     let Ok((sum, degrees)) = aat(alloc, n, a_p, a_i, &mut info) else {
-        panic!(rt; "no degrees: {a_p:?} {a_i:?}");
+        panic!(rt; "no degrees");
     };
     let size = degrees.len();
     let Ok(lists) = neighbours(alloc, size, a_p, a_i, &degrees, sum) else {
-        panic!(rt; "no lists: {a_p:?} {a_i:?}");
+        panic!(rt; "no lists");
     };
     let Ok(rows) = starting_lists(alloc, size, a_p, a_i, &degrees) else {
-        panic!(rt; "no lists apart: {a_p:?} {a_i:?}");
+        panic!(rt; "no lists apart");
     };
     (lists, rows)
 }
 
-/// Asserts that the lists of a matrix are those of the case, in both forms.
-fn check(rt: &impl Abort, alloc: Global, case: &Case) {
-    let what = case.what;
-    let (lists, rows) = lists_of(rt, alloc, case.n, case.a_p, case.a_i);
-    assert_eq!(rt; lists.next.len(), case.lists.len(), "{what}");
+/// Whether lists that stand one after another are those of a case.
+fn are_laid_out(case: &Case, lists: &Lists<Global>) -> bool {
     let mut start = 0;
     for (list, &end) in case.lists.iter().zip(&lists.next) {
-        assert!(rt; start <= end && end <= lists.rows.len(), "{what}");
-        assert_eq!(rt; &lists.rows[start..end], *list, "{what}");
+        if lists.rows.get(start..end) != Some(*list) {
+            return false;
+        }
         start = end;
     }
-    assert_eq!(rt; start, lists.rows.len(), "{what}");
-    assert_eq!(rt; rows.len(), case.lists.len(), "{what}");
-    for (list, row) in case.lists.iter().zip(&rows) {
-        assert_eq!(rt; row.as_slice(), *list, "{what}");
+    start == lists.rows.len() && lists.next.len() == case.lists.len()
+}
+
+/// Whether lists of which each stands in a vector are those of a case.
+fn are_apart(case: &Case, rows: &[Vec<usize>]) -> bool {
+    for (list, row) in case.lists.iter().zip(rows) {
+        if row.as_slice() != *list {
+            return false;
+        }
     }
+    rows.len() == case.lists.len()
+}
+
+/// Asserts that the lists of a matrix are those of the case, in both forms.
+fn check(rt: &impl Abort, alloc: Global, case: &Case) {
+    let (lists, rows) = lists_of(rt, alloc, case.n, case.a_p, case.a_i);
+    let are_same = are_laid_out(case, &lists) && are_apart(case, &rows);
+    assert!(rt; are_same, "{}", case.what);
 }
 
 #[test]

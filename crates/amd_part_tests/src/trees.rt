@@ -1,15 +1,19 @@
-// The postorder of forests: a worked one, hundreds that are drawn, and refused memory.
+// The postorder of forests: a worked one and hundreds that are drawn, in plain lists and in those of a workspace, and
+// refused memory.
 
 ghost use Rattle.std.specs.Prelude.{◌≡◌, ◌≤ℤ◌, ◌<◌, ◌⊎◌, ℕ, IsTrue, true, length, pos, negsuc, slice_index};
 ghost use Rattle.amd_model.specs.Input.Columns.{at};
 ghost use Rattle.amd_trees.specs.Trees.{IsForest, is_element};
 
+use amd_cells::{Figure, Signed, Unsigned, Word, word_of};
 use amd_engine::amd::Status;
 use amd_engine::internal::{EMPTY, link_at};
 use amd_engine::post_tree::post_tree;
-use amd_engine::postorder::postorder;
+use amd_engine::postorder::{postorder, postorder_in};
 use amd_testing::forests::{drawn_forest, listing_of};
 use amd_testing::refusing::{Refusing, each_refused};
+use amd_trees::link::Link;
+use amd_workspace::filling::figures;
 use std::alloc::{Allocator, Global};
 use std::process::Abort;
 use std::test::Fail;
@@ -69,8 +73,73 @@ fn places<A: Allocator + Copy>(
     postorder(alloc, parent.len(), parent, nv, f_size)
 }
 
-/// Seven places, of which the last holds no element, and the place of each in the postorder. Elements 0 to 3 are children of 5,
-/// and 1 and 2 have the largest size among them. The places were worked by hand.
+/// Words of a workspace with these numbers.
+fn words_of<S: Signed>(rt: &impl Abort, alloc: Global, numbers: &[isize]) -> Vec<Word<S>>
+    ensures { result.items ≡ numbers.now }
+{
+    let mut words = Vec::new(alloc);
+    'numbers: for &number in numbers {
+        assert!(rt; number.unsigned_abs() <= S::MOST);
+        let Ok(()) = words.push(word_of(number)) else {
+            panic!(rt; "no words");
+        };
+    }
+    words
+}
+
+/// Figures of a workspace, whatever they hold.
+fn figures_of<U: Unsigned>(rt: &impl Abort, alloc: Global, count: usize) -> Vec<Figure<U>>
+    ensures { length result.items ≡ count }
+{
+    let Ok(list) = figures(alloc, count, 0) else {
+        panic!(rt; "no figures");
+    };
+    list
+}
+
+/// The places of a forest's elements, in lists of a workspace whose words have these widths. The ranks show that it
+/// is one.
+fn places_in<S: Signed, U: Unsigned>(
+    rt: &impl Abort,
+    alloc: Global,
+    parent: &[isize],
+    nv: &[isize],
+    f_size: &[isize],
+    rank: &[usize],
+) -> Result<Vec<isize>, Fail> {
+    let nn = parent.len();
+    assert!(rt; nn < 1000 && nn <= U::MOST);
+    assert!(rt; is_forest(parent, nv, f_size, rank));
+    let parents: Vec<Word<S>> = words_of(rt, alloc, parent);
+    let counts: Vec<Word<S>> = words_of(rt, alloc, nv);
+    let sizes: Vec<Word<S>> = words_of(rt, alloc, f_size);
+    let mut child: Vec<Figure<U>> = figures_of(rt, alloc, nn);
+    let mut sibling: Vec<Figure<U>> = figures_of(rt, alloc, nn);
+    let mut order: Vec<Figure<U>> = figures_of(rt, alloc, nn);
+    let mut stack: Vec<Figure<U>> = figures_of(rt, alloc, nn);
+    postorder_in(
+        nn,
+        &parents,
+        &counts,
+        &sizes,
+        &mut child,
+        &mut sibling,
+        &mut order,
+        &mut stack,
+    );
+    let mut places = Vec::new(alloc);
+    for e in 0..order.len() {
+        let place = match Link::link_at(&order, e) {
+            Some(k) => isize::try_from(k).unwrap_or(isize::MAX),
+            None => EMPTY,
+        };
+        places.push(place)?;
+    }
+    Ok(places)
+}
+
+/// Seven places, of which the last holds no element, and the place of each in the postorder. Elements 0 to 3 are
+/// children of 5, and 1 and 2 have the largest size among them. The places were worked by hand.
 #[derive(Drop)]
 struct Worked {
     parent: [isize; 7],
@@ -101,7 +170,23 @@ fn worked_forest(rt: HostRuntime) {
     ) else {
         panic!(rt; "no postorder");
     };
-    assert_eq!(rt; order.as_slice(), worked.order.as_slice());
+    assert!(rt; order.as_slice() == worked.order.as_slice());
+}
+
+#[test]
+fn worked_forest_in_a_workspace(rt: HostRuntime) -> Result<(), Fail> {
+    let Worked {
+        parent,
+        nv,
+        f_size,
+        rank,
+        order,
+    } = WORKED;
+    let narrow = places_in::<i32, u32>(&rt, rt.alloc(), &parent, &nv, &f_size, &rank)?;
+    assert!(rt; narrow.as_slice() == order.as_slice());
+    let wide = places_in::<isize, usize>(&rt, rt.alloc(), &parent, &nv, &f_size, &rank)?;
+    assert!(rt; wide.as_slice() == order.as_slice());
+    Ok(())
 }
 
 #[test]
@@ -125,7 +210,7 @@ fn lists(rt: &impl Abort, heap: &Refusing<Global>) -> bool {
         &worked.rank,
     ) {
         Ok(order) => {
-            assert_eq!(rt; order.as_slice(), worked.order.as_slice());
+            assert!(rt; order.as_slice() == worked.order.as_slice());
             true
         }
         Err(status) => {
@@ -139,22 +224,28 @@ fn lists(rt: &impl Abort, heap: &Refusing<Global>) -> bool {
 fn each_request_of_postorder(rt: HostRuntime) {
     // The stack, the children, the siblings and the places.
     let refusals = each_refused(rt.alloc(), |heap| lists(&rt, heap));
-    assert_eq!(rt; refusals, Ok(4));
+    assert!(rt; refusals == Ok(4));
 }
 
-/// Asserts that places are those of a listing, and `EMPTY` for what is not listed.
-fn check_places(rt: &impl Abort, order: &[isize], listing: &[usize]) {
+/// Whether places are those of a listing, and `EMPTY` for what is not listed.
+fn are_places(order: &[isize], listing: &[usize]) -> bool {
     let mut numbered = 0usize;
     for (e, &number) in order.iter().enumerate() {
         match usize::try_from(number) {
             Ok(k) => {
-                assert_eq!(rt; listing.get(k).copied(), Some(e), "{order:?} {listing:?}");
+                if listing.get(k) != Some(&e) {
+                    return false;
+                }
                 numbered = numbered.saturating_add(1);
             }
-            Err(_) => assert_eq!(rt; number, EMPTY),
+            Err(_) => {
+                if number != EMPTY {
+                    return false;
+                }
+            }
         }
     }
-    assert_eq!(rt; numbered, listing.len(), "{order:?} {listing:?}");
+    numbered == listing.len()
 }
 
 #[test]
@@ -172,8 +263,20 @@ fn drawn_forests(rt: HostRuntime) -> Result<(), Fail> {
         ) else {
             panic!(rt; "no postorder at {seed}");
         };
-        assert_eq!(rt; order.len(), forest.nv.len());
-        check_places(&rt, &order, &listing);
+        let is_whole = order.len() == forest.nv.len();
+        assert!(rt;
+            is_whole && are_places(&order, &listing),
+            "{order:?} {listing:?}"
+        );
+        let lent = places_in::<i32, u32>(
+            &rt,
+            rt.alloc(),
+            &forest.parent,
+            &forest.nv,
+            &forest.f_size,
+            &forest.rank,
+        )?;
+        assert!(rt; lent.as_slice() == order.as_slice());
     }
     Ok(())
 }
@@ -187,7 +290,6 @@ fn one_tree(rt: HostRuntime) {
     let mut order = [-7; 7];
     let mut stack = [0; 5];
     let next = post_tree(5, 1, &mut child, &sibling, &mut order, &mut stack, 6);
-    assert_eq!(rt; next, 6);
-    assert_eq!(rt; order, [1, 2, 4, 3, -7, 5, -7]);
-    assert_eq!(rt; (child[4], child[6]), (-7, -7));
+    assert!(rt; next == 6 && order == [1, 2, 4, 3, -7, 5, -7]);
+    assert!(rt; child[4] == -7 && child[6] == -7);
 }

@@ -11,6 +11,8 @@ pub enum Fault {
     Fails,
     /// The call takes no byte.
     TakesNothing,
+    /// The call is interrupted, so that it is to be made again.
+    Interrupted,
 }
 
 /// Takes all bytes, but at the call that has the chosen number.
@@ -59,6 +61,7 @@ impl Write for Faulty {
             return match self.fault {
                 Fault::Fails => Err(io::Error::from(ErrorKind::Other)),
                 Fault::TakesNothing => Ok(0),
+                Fault::Interrupted => Err(io::Error::from(ErrorKind::Interrupted)),
             };
         }
         self.bytes.extend_from_slice(buf)?;

@@ -124,7 +124,7 @@ fn inputs_that_are_no_column_form(rt: HostRuntime) {
     }
 }
 
-/// An input with its status. It may have fewer columns than rows, or more.
+/// An input with its status. It may have fewer columns than rows, or more. A number of rows below 0 leaves no row.
 #[derive(Drop)]
 struct Class<'a> {
     n_row: i32,
@@ -135,7 +135,7 @@ struct Class<'a> {
 }
 
 /// Inputs of any shape with their statuses.
-static CLASSES: [Class<'static>; 12] = [
+static CLASSES: [Class<'static>; 16] = [
     Class {
         n_row: 2,
         n_col: 2,
@@ -217,6 +217,34 @@ static CLASSES: [Class<'static>; 12] = [
         n_row: 0,
         n_col: 0,
         a_p: &[7],
+        a_i: &[],
+        status: Status::Invalid,
+    },
+    Class {
+        n_row: -1,
+        n_col: 1,
+        a_p: &[0, 0],
+        a_i: &[],
+        status: Status::OK,
+    },
+    Class {
+        n_row: i32::MIN,
+        n_col: 0,
+        a_p: &[0],
+        a_i: &[],
+        status: Status::OK,
+    },
+    Class {
+        n_row: -1,
+        n_col: 1,
+        a_p: &[0, 1],
+        a_i: &[-1],
+        status: Status::Invalid,
+    },
+    Class {
+        n_row: 1,
+        n_col: i32::MIN,
+        a_p: &[0, 0],
         a_i: &[],
         status: Status::Invalid,
     },

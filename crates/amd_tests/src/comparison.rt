@@ -35,35 +35,16 @@ fn class_of(n: usize, a_p: &[i64], a_i: &[i64]) -> Status {
     }
 }
 
-/// Asserts that a record tells the figures of a pattern.
-fn compare_figures(rt: &impl Abort, n: usize, a_p: &[i64], a_i: &[i64], info: &Info) {
-    assert_eq!(rt;
-        figures_in(info),
-        figures_of(n, a_p, a_i),
-        "{a_p:?} {a_i:?}"
-    );
-    assert_eq!(rt;
-        info.symmetry,
-        plain::symmetric(n, a_p, a_i),
-        "{a_p:?} {a_i:?}"
-    );
+/// Whether a record tells the figures of a pattern.
+fn has_figures(n: usize, a_p: &[i64], a_i: &[i64], info: &Info) -> bool {
+    figures_in(info) == figures_of(n, a_p, a_i) && info.symmetry == plain::symmetric(n, a_p, a_i)
 }
 
-/// Asserts that two lists are inverse permutations, in which the rows chosen as dense stand last.
-fn compare_permutation(
-    rt: &impl Abort,
-    n: usize,
-    a_p: &[i64],
-    a_i: &[i64],
-    chosen: &[bool],
-    p: &[i64],
-    p_inv: &[i64],
-) {
-    assert!(rt;
-        plain::are_inverse(n, p, p_inv),
-        "{chosen:?} {a_p:?} {a_i:?}"
-    );
-    assert!(rt; plain::stand_last(chosen, p), "{chosen:?} {a_p:?} {a_i:?}");
+/// Whether two lists are inverse permutations, in which the rows chosen as dense, as many as are told, stand last.
+pub fn is_ordered(n: usize, chosen: &[bool], n_dense: usize, p: &[i64], p_inv: &[i64]) -> bool {
+    n_dense == plain::how_many(chosen)
+        && plain::are_inverse(n, p, p_inv)
+        && plain::stand_last(chosen, p)
 }
 
 /// Orders with one dense row parameter, and asserts that the answer is what the definitions say.
@@ -84,14 +65,11 @@ fn compare_order(
     };
     let size = usize::try_from(n).unwrap_or(0);
     let chosen = plain::dense_rows(alloc, dense, size, a_p, a_i)?;
-    assert!(rt; info.status == class_of(size, a_p, a_i), "{a_p:?} {a_i:?}");
-    compare_figures(rt, size, a_p, a_i, &info);
-    assert_eq!(rt;
-        info.n_dense,
-        plain::how_many(&chosen),
+    let is_told = info.status == class_of(size, a_p, a_i) && has_figures(size, a_p, a_i, &info);
+    assert!(rt;
+        is_told && is_ordered(size, &chosen, info.n_dense, &p, &p_inv),
         "{dense} {a_p:?} {a_i:?}"
     );
-    compare_permutation(rt, size, a_p, a_i, &chosen, &p, &p_inv);
     Ok(())
 }
 
@@ -111,10 +89,20 @@ fn compare_preprocess(
         _ => panic!(rt; "no column form: {a_p:?} {a_i:?}"),
     }
     let Ok((pointers, columns)) = preprocess(alloc, n, a_p, a_i) else {
-        panic!(rt; "no answer: {a_p:?} {a_i:?}");
+        panic!(rt; "no answer");
     };
-    assert_eq!(rt; pointers.as_slice(), b_p);
-    assert_eq!(rt; columns.as_slice(), b_i);
+    let is_same = pointers.as_slice() == b_p && columns.as_slice() == b_i;
+    assert!(rt; is_same, "{a_p:?} {a_i:?}");
+}
+
+/// Whether these are the degrees of all rows.
+fn are_degrees(n: usize, a_p: &[i64], a_i: &[i64], degrees: &[usize]) -> bool {
+    for (i, &degree) in degrees.iter().enumerate() {
+        if degree != plain::degree(n, a_p, a_i, i) {
+            return false;
+        }
+    }
+    degrees.len() == n
 }
 
 /// Asserts that `aat` answers the degrees and figures of a sorted column form.
@@ -124,23 +112,14 @@ fn compare_aat(rt: &impl Abort, alloc: Global, n: i64, a_p: &[i64], a_i: &[i64])
     };
     let mut info = Info::new(0);
     let Ok((total, degrees)) = aat(alloc, n, a_p, a_i, &mut info) else {
-        panic!(rt; "no answer: {a_p:?} {a_i:?}");
+        panic!(rt; "no answer");
     };
     let size = usize::try_from(n).unwrap_or(0);
-    assert_eq!(rt; degrees.len(), size);
-    for (i, &degree) in degrees.iter().enumerate() {
-        assert_eq!(rt;
-            degree,
-            plain::degree(size, a_p, a_i, i),
-            "row {i} of {a_p:?} {a_i:?}"
-        );
-    }
-    assert_eq!(rt;
-        total,
-        plain::nz_a_plus_at(size, a_p, a_i),
+    let is_counted = total == info.nz_a_plus_at && are_degrees(size, a_p, a_i, &degrees);
+    assert!(rt;
+        is_counted && has_figures(size, a_p, a_i, &info),
         "{a_p:?} {a_i:?}"
     );
-    compare_figures(rt, size, a_p, a_i, &info);
 }
 
 /// Compares each call on a matrix and on its transpose, which is sorted.

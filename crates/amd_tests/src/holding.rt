@@ -2,11 +2,12 @@
 // answers with nothing held, and matrices drawn from seeds with rows drawn to be held. The worked answers are from a plain program
 // that follows the rules; where nothing is held, the answer must be that of `order`.
 
+use crate::comparison::is_ordered;
 use crate::factors::check_bounds;
-use crate::memory::check_refusals;
+use crate::memory::{check_refusals, is_answer};
 use crate::patterns::CHOICES;
-use crate::worked::{Case, check_answer, check_nothing};
-use amd::{Control, Status, order, order_holding};
+use crate::worked::{Case, check_nothing};
+use amd::{Control, Info, Status, order, order_holding};
 use amd_testing::inputs::{draw, drawn, drawn_with_hub};
 use amd_testing::plain;
 use amd_testing::records::numbers_of;
@@ -94,18 +95,9 @@ static HELD: [Held<'static>; 5] = [
 /// Orders, and says whether there was an answer, which must be that of the case.
 fn orders(rt: &impl Abort, heap: &Refusing<Global>, held: &Held) -> bool {
     let case = &held.case;
-    let what = case.what;
     let control = Control::default();
-    match order_holding(heap, case.n, case.a_p, case.a_i, &control, held.hold) {
-        Ok((p, p_inv, info)) => {
-            check_answer(rt, case, &p, &p_inv, &info);
-            true
-        }
-        Err(status) => {
-            assert!(rt; status == Status::OutOfMemory, "{what}");
-            false
-        }
-    }
+    let answer = order_holding(heap, case.n, case.a_p, case.a_i, &control, held.hold);
+    is_answer(rt, case, answer)
 }
 
 #[test]
@@ -131,14 +123,10 @@ fn marks_that_are_not_one_for_each_row(rt: HostRuntime) {
         (-1, [0].as_slice(), [].as_slice(), [].as_slice()),
         (-1, [0].as_slice(), [].as_slice(), [true].as_slice()),
     ] {
-        match order_holding(&heap, n, a_p, a_i, &control, hold) {
-            Ok(_) => panic!(rt; "an answer for {n} {a_i:?} {hold:?}"),
-            Err(status) => {
-                assert!(rt; status == Status::Invalid, "{n} {a_i:?} {hold:?}");
-            }
-        }
+        let status = order_holding(&heap, n, a_p, a_i, &control, hold).err();
+        assert!(rt; status == Some(Status::Invalid), "{n} {a_i:?} {hold:?}");
     }
-    assert_eq!(rt; heap.requests(), 0);
+    assert!(rt; heap.requests() == 0);
 }
 
 #[test]
@@ -153,10 +141,17 @@ fn no_rows(rt: HostRuntime) {
         let Ok((p, p_inv, info)) = order_holding(&heap, 0i64, a_p, &[], &control, hold) else {
             panic!(rt; "no answer");
         };
-        assert_eq!(rt; (p.len(), p_inv.len()), (0, 0));
+        assert!(rt; p.is_empty() && p_inv.is_empty());
         check_nothing(&rt, &info);
     }
-    assert_eq!(rt; heap.requests(), 0);
+    assert!(rt; heap.requests() == 0);
+}
+
+/// Whether two records are one.
+fn is_same_record(one: &Info, other: &Info) -> bool {
+    numbers_of(one) == numbers_of(other)
+        && one.symmetry == other.symmetry
+        && one.status == other.status
 }
 
 /// Asserts that with nothing held the answer is that of `order`.
@@ -170,24 +165,16 @@ pub fn check_nothing_held(
 ) -> Result<(), AllocError> {
     let hold = vec![in alloc; false; usize::try_from(n).unwrap_or(0)]?;
     let Ok((p, p_inv, info)) = order(alloc, n, a_p, a_i, control) else {
-        panic!(rt; "no answer at {control:?} {a_p:?} {a_i:?}");
+        panic!(rt; "no answer");
     };
     let Ok((r, r_inv, other)) = order_holding(alloc, n, a_p, a_i, control, &hold) else {
-        panic!(rt; "no answer with marks at {control:?} {a_p:?} {a_i:?}");
+        panic!(rt; "no answer with marks");
     };
-    assert_eq!(rt; r.as_slice(), p.as_slice(), "{control:?} {a_p:?} {a_i:?}");
-    assert_eq!(rt;
-        r_inv.as_slice(),
-        p_inv.as_slice(),
+    let is_ordered = r.as_slice() == p.as_slice() && r_inv.as_slice() == p_inv.as_slice();
+    assert!(rt;
+        is_ordered && is_same_record(&other, &info),
         "{control:?} {a_p:?} {a_i:?}"
     );
-    assert_eq!(rt;
-        numbers_of(&other),
-        numbers_of(&info),
-        "{control:?} {a_p:?} {a_i:?}"
-    );
-    assert_eq!(rt; other.symmetry, info.symmetry);
-    assert!(rt; other.status == info.status);
     Ok(())
 }
 
@@ -216,19 +203,10 @@ fn check_drawn(
     let mut last = plain::dense_rows(alloc, control.dense, size, a_p, a_i)?;
     let hold = draw_marks(alloc, seed, &mut last)?;
     let Ok((p, p_inv, info)) = order_holding(alloc, n, a_p, a_i, control, &hold) else {
-        panic!(rt; "no answer at {control:?} {hold:?} {a_p:?} {a_i:?}");
+        panic!(rt; "no answer");
     };
     assert!(rt;
-        plain::are_inverse(size, &p, &p_inv),
-        "{control:?} {hold:?} {a_p:?} {a_i:?}"
-    );
-    assert!(rt;
-        plain::stand_last(&last, &p),
-        "{control:?} {hold:?} {a_p:?} {a_i:?}"
-    );
-    assert_eq!(rt;
-        info.n_dense,
-        plain::how_many(&last),
+        is_ordered(size, &last, info.n_dense, &p, &p_inv),
         "{control:?} {hold:?} {a_p:?} {a_i:?}"
     );
     check_bounds(rt, alloc, a_p, a_i, &p, &info)?;

@@ -16,13 +16,9 @@ fn counts_the_arcs_of_a_pattern(rt: HostRuntime) -> Result<(), Fail> {
         return Err(Fail::from("not sorted"));
     };
     let (sum, degrees) = aat(rt.alloc(), 5, &a_p, &a_i, &mut info)?;
-    assert_eq!(rt; sum, 10);
-    assert_eq!(rt; degrees.as_slice(), [1, 3, 3, 1, 2].as_slice());
-    assert_eq!(rt;
-        [info.n, info.nz, info.nz_diag, info.nz_a_plus_at].as_slice(),
-        [5, 14, 5, 10].as_slice()
-    );
-    assert_eq!(rt; info.symmetry, false);
+    assert!(rt; sum == 10 && degrees.as_slice() == [1, 3, 3, 1, 2].as_slice());
+    assert!(rt; [info.n, info.nz, info.nz_diag, info.nz_a_plus_at] == [5, 14, 5, 10]);
+    assert!(rt; !info.symmetry);
     Ok(())
 }
 
@@ -35,11 +31,7 @@ fn sees_a_symmetric_pattern(rt: HostRuntime) -> Result<(), Fail> {
         return Err(Fail::from("not sorted"));
     };
     let (sum, _) = aat(rt.alloc(), 3, &a_p, &a_i, &mut info)?;
-    assert_eq!(rt;
-        [sum, info.nz, info.nz_diag].as_slice(),
-        [6, 9, 3].as_slice()
-    );
-    assert_eq!(rt; info.symmetry, true);
+    assert!(rt; [sum, info.nz, info.nz_diag] == [6, 9, 3] && info.symmetry);
     Ok(())
 }
 

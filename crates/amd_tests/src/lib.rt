@@ -20,4 +20,6 @@ mod numbers;
 #[cfg(test)]
 mod patterns;
 #[cfg(test)]
+mod small_matrices;
+#[cfg(test)]
 mod worked;

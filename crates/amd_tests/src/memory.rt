@@ -1,11 +1,12 @@
 // Refused memory: each request in turn is refused, until a run makes no request of that number. Each run that met a refusal
 // answers `OutOfMemory`, and the first one without gives the answer. After each of them as many blocks came back as were granted.
 
-use crate::worked::{Case, DENSE_ROW, SMALL_MATRICES, check_answer, with_dense};
+use crate::small_matrices::SMALL_MATRICES;
+use crate::worked::{Case, DENSE_ROW, check_answer, with_dense};
 use amd::aat::aat;
 use amd::preprocess::preprocess;
 use amd::valid::valid;
-use amd::{Control, Info, Status, order};
+use amd::{Control, Info, Status, order, order_holding};
 use amd_testing::records::numbers_of;
 use amd_testing::refusing::{Refusing, Slip, each_refused};
 use std::alloc::{Allocator, Global};
@@ -19,25 +20,51 @@ pub fn check_refusals(rt: &impl Abort, what: &str, refusals: Result<u64, Slip>) 
     }
 }
 
-/// Orders, and says whether there was an answer, which must be that of the case.
-fn orders(rt: &impl Abort, heap: &Refusing<Global>, control: &Control, case: &Case) -> bool {
-    let what = case.what;
-    match order(heap, case.n, case.a_p, case.a_i, control) {
+/// Asserts that an answer is that of a case, or that memory was refused, and says whether it is the former.
+pub fn is_answer<A: Allocator>(
+    rt: &impl Abort,
+    case: &Case,
+    answer: Result<(Vec<i64, A>, Vec<i64, A>, Info), Status>,
+) -> bool {
+    match answer {
         Ok((p, p_inv, info)) => {
             check_answer(rt, case, &p, &p_inv, &info);
             true
         }
         Err(status) => {
-            assert!(rt; status == Status::OutOfMemory, "{what}");
+            assert!(rt; status == Status::OutOfMemory);
             false
         }
     }
 }
 
-/// Orders with each request refused in turn.
+/// Orders, and says whether there was an answer, which must be that of the case.
+fn orders(rt: &impl Abort, heap: &Refusing<Global>, control: &Control, case: &Case) -> bool {
+    let answer = order(heap, case.n, case.a_p, case.a_i, control);
+    is_answer(rt, case, answer)
+}
+
+/// Marks that hold no row.
+static NONE: [bool; 20] = [false; 20];
+
+/// The same with marks that hold no row.
+fn orders_holding_none(
+    rt: &impl Abort,
+    heap: &Refusing<Global>,
+    control: &Control,
+    case: &Case,
+) -> bool {
+    let hold = NONE.get(..case.p.len()).unwrap_or(&[]);
+    let answer = order_holding(heap, case.n, case.a_p, case.a_i, control, hold);
+    is_answer(rt, case, answer)
+}
+
+/// Orders with each request refused in turn, and again with marks that hold no row.
 fn check_order(rt: &impl Abort, alloc: Global, control: &Control, case: &Case) {
     let refusals = each_refused(alloc, |heap| orders(rt, heap, control, case));
     check_refusals(rt, case.what, refusals);
+    let holding = each_refused(alloc, |heap| orders_holding_none(rt, heap, control, case));
+    check_refusals(rt, case.what, holding);
 }
 
 /// The inputs are shared references, so no run can change them.
@@ -64,12 +91,10 @@ fn calls_that_ask_no_memory(rt: HostRuntime) {
         (2, [0, 1, 3].as_slice(), [0, 1].as_slice()),
         (2, [0, 2, 3].as_slice(), [1, 0, 5].as_slice()),
     ] {
-        match order(&heap, n, a_p, a_i, &control) {
-            Ok(_) => panic!(rt; "an answer for {a_p:?} {a_i:?}"),
-            Err(status) => assert!(rt; status == Status::Invalid),
-        }
+        let status = order(&heap, n, a_p, a_i, &control).err();
+        assert!(rt; status == Some(Status::Invalid), "{a_p:?} {a_i:?}");
     }
-    assert_eq!(rt; heap.requests(), 0);
+    assert!(rt; heap.requests() == 0);
 }
 
 /// Transposes, and says whether there was an answer.
@@ -81,8 +106,8 @@ fn transposes(rt: &impl Abort, heap: &Refusing<Global>) -> bool {
     };
     match preprocess(heap, 3, &a_p, &a_i) {
         Ok((pointers, columns)) => {
-            assert_eq!(rt; pointers.as_slice(), [0, 1, 2, 3].as_slice());
-            assert_eq!(rt; columns.as_slice(), [0, 2, 0].as_slice());
+            assert!(rt; pointers.as_slice() == [0, 1, 2, 3].as_slice());
+            assert!(rt; columns.as_slice() == [0, 2, 0].as_slice());
             true
         }
         Err(status) => {
@@ -107,7 +132,7 @@ fn built<A: Allocator + Copy>(alloc: A) -> Result<(Vec<i64, A>, Vec<i64, A>, Inf
 fn builds(rt: &impl Abort, heap: &Refusing<Global>) -> bool {
     match built(heap) {
         Ok((p, _, _)) => {
-            assert_eq!(rt; p.as_slice(), [0, 3, 2, 4, 1].as_slice());
+            assert!(rt; p.as_slice() == [0, 3, 2, 4, 1].as_slice());
             true
         }
         Err(status) => {
@@ -154,19 +179,14 @@ fn counts(rt: &impl Abort, heap: &Refusing<Global>) -> bool {
     assert!(rt; info.status == Status::OkButJumbled);
     match outcome {
         Ok((total, degrees)) => {
-            assert_eq!(rt; total, 10);
-            assert_eq!(rt; degrees.as_slice(), [1, 3, 3, 1, 2].as_slice());
-            assert_eq!(rt;
-                numbers_of(&info),
-                [5, 14, 5, 10, 105, 106, 107, 108, 109, 110, 111]
-            );
-            assert!(rt; !info.symmetry);
+            let numbers = [5, 14, 5, 10, 105, 106, 107, 108, 109, 110, 111];
+            assert!(rt; total == 10 && degrees.as_slice() == [1, 3, 3, 1, 2].as_slice());
+            assert!(rt; numbers_of(&info) == numbers && !info.symmetry);
             true
         }
         Err(status) => {
             assert!(rt; status == Status::OutOfMemory);
-            assert_eq!(rt; numbers_of(&info), numbers_of(&filled_info()));
-            assert!(rt; info.symmetry);
+            assert!(rt; numbers_of(&info) == numbers_of(&filled_info()) && info.symmetry);
             false
         }
     }

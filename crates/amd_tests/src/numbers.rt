@@ -41,10 +41,9 @@ fn check<I: PrimInt>(rt: &impl Abort, alloc: Global, case: &Case<I>) -> Result<(
     let Ok((p, p_inv, info)) = order(alloc, case.n, case.a_p, case.a_i, &Control::default()) else {
         panic!(rt; "no answer");
     };
-    assert!(rt; p.as_slice() == case.p);
-    assert!(rt; p_inv.as_slice() == case.p_inv);
+    assert!(rt; p.as_slice() == case.p && p_inv.as_slice() == case.p_inv);
     assert!(rt; info.status == case.status && info.symmetry == case.symmetric);
-    assert_eq!(rt; numbers_of(&info), case.numbers);
+    assert!(rt; numbers_of(&info) == case.numbers);
     let (a_p, a_i) = (widened(alloc, case.a_p)?, widened(alloc, case.a_i)?);
     check_bounds(rt, alloc, &a_p, &a_i, &widened(alloc, &p)?, &info)?;
     Ok(())
@@ -90,34 +89,49 @@ fn a_four_cycle_in_each_type(rt: HostRuntime) -> Result<(), Fail> {
     Ok(())
 }
 
-/// Whether a number is refused as the number of columns, in two lists of pointers to one column, and as a row. The lists are
-/// `[end, 1]`, `[0, end]` and `[0, 1]`, and `[0]` and `[end]`.
+/// Whether a number is refused as the number of columns, in lists of pointers to one or two columns, and as a row. The pointers are
+/// `[end, 1]`, `[0, end, 1]`, `[0, end]` and `[0, 1]`, and the rows `[0]` and `[end]`.
 fn refuses_end<I: PrimInt>(
     alloc: Global,
     end: I,
     one: I,
-    pointers: (&[I], &[I], &[I]),
+    two: I,
+    pointers: (&[I], &[I], &[I], &[I]),
     rows: (&[I], &[I]),
 ) -> bool
     requires end { I.fits (I.value end) }
     requires one { I.fits (I.value one) }
+    requires two { I.fits (I.value two) }
 {
-    let (first, last, unit) = pointers;
+    let (first, between, last, unit) = pointers;
     let (zero, row) = rows;
     is_refused(alloc, end, zero, &[])
         && is_refused(alloc, one, first, zero)
+        && is_refused(alloc, two, between, zero)
         && is_refused(alloc, one, last, zero)
         && is_refused(alloc, one, unit, row)
 }
 
-/// Takes the ends of each of the types, but for 0, as the number of columns, the first pointer, the last one, and a row.
+/// Whether what stands behind the end of a matrix with one entry is ignored.
+fn ignores_rest<I: PrimInt>(alloc: Global, one: I, a_p: &[I], a_i: &[I]) -> bool
+    requires { I.fits (I.value one) }
+{
+    match order(alloc, one, a_p, a_i, &Control::default()) {
+        Ok((p, _, info)) => p.len() == 1 && info.nz == 1 && info.status == Status::OK,
+        Err(_) => false,
+    }
+}
+
+/// Takes the ends of each of the types, and -1 where it has that, as the number of columns, as each pointer and as a row, but for 0,
+/// which may stand there; and behind the end of a matrix.
 macro_rules! both_ends {
     ($rt:ident; $($number:ty)*) => {
         $(
-            for end in [<$number>::MIN, <$number>::MAX] {
-                let pointers: ([$number; 2], [$number; 2], [$number; 2]) = ([end, 1], [0, end], [0, 1]);
-                let lists = (pointers.0.as_slice(), pointers.1.as_slice(), pointers.2.as_slice());
-                assert!($rt; end == 0 || refuses_end($rt.alloc(), end, 1, lists, (&[0], &[end])), "{end}");
+            for end in [<$number>::MIN, <$number>::MAX, <$number>::MAX.wrapping_add(<$number>::MIN)] {
+                let ends: ([$number; 2], [$number; 3], [$number; 2]) = ([end, 1], [0, end, 1], [0, end]);
+                let lists = (ends.0.as_slice(), ends.1.as_slice(), ends.2.as_slice(), [0, 1].as_slice());
+                let refused = end == 0 || refuses_end($rt.alloc(), end, 1, 2, lists, (&[0], &[end]));
+                assert!($rt; refused && ignores_rest($rt.alloc(), 1, &[0, 1, end], &[0, end]), "{end}");
             }
         )*
     };

@@ -2,6 +2,7 @@
 // the factor needs, nothing fills in where the graph is a forest without dense rows, and with nothing held the answer is the same.
 // For cycles and for complete graphs the bound on the entries is known, and compared.
 
+use crate::comparison::is_ordered;
 use crate::factors::{check_bounds, check_forest};
 use crate::holding::check_nothing_held;
 use amd::{Control, Info, order};
@@ -54,21 +55,12 @@ fn check_choice(
     control: &Control,
 ) -> Result<(Factor<Global>, Info), AllocError> {
     let Ok((p, p_inv, info)) = order(alloc, n, a_p, a_i, control) else {
-        panic!(rt; "no answer at {control:?} {a_p:?} {a_i:?}");
+        panic!(rt; "no answer");
     };
     let size = usize::try_from(n).unwrap_or(0);
     let dense = plain::dense_rows(alloc, control.dense, size, a_p, a_i)?;
     assert!(rt;
-        plain::are_inverse(size, &p, &p_inv),
-        "{control:?} {a_p:?} {a_i:?}"
-    );
-    assert!(rt;
-        plain::stand_last(&dense, &p),
-        "{control:?} {a_p:?} {a_i:?}"
-    );
-    assert_eq!(rt;
-        info.n_dense,
-        plain::how_many(&dense),
+        is_ordered(size, &dense, info.n_dense, &p, &p_inv),
         "{control:?} {a_p:?} {a_i:?}"
     );
     check_nothing_held(rt, alloc, n, a_p, a_i, control)?;
@@ -100,7 +92,7 @@ fn check_entries(
     let entries = usize::try_from(lnz).unwrap_or(0);
     for control in &CHOICES {
         let (_, info) = check_choice(rt, alloc, n, &a_p, &a_i, control)?;
-        assert_eq!(rt; info.lnz, entries, "{control:?} {a_p:?} {a_i:?}");
+        assert!(rt; info.lnz == entries, "{control:?} {a_p:?} {a_i:?}");
     }
     Ok(())
 }
@@ -185,14 +177,12 @@ fn a_complete_graph_with_many_entries(rt: HostRuntime) -> Result<(), Fail> {
         panic!(rt; "no answer");
     };
     for place in 0..363 {
-        assert_eq!(rt; plain::count_at(&p, place), place);
+        assert!(rt; plain::count_at(&p, place) == place);
     }
-    assert_eq!(rt;
-        numbers_of(&info),
-        [
-            363, 65703, 0, 131406, 0, 0, 65703, 65703, 7971964, 15878225, 363
-        ]
-    );
+    let numbers = [
+        363, 65703, 0, 131406, 0, 0, 65703, 65703, 7971964, 15878225, 363,
+    ];
+    assert!(rt; numbers_of(&info) == numbers);
     Ok(())
 }
 

@@ -117,6 +117,25 @@ fn five_rows() -> Info {
     }
 }
 
+/// A record whose numbers that are summed are the greatest ones.
+fn greatest() -> Info {
+    Info {
+        status: Status::OutOfMemory,
+        n: usize::MAX,
+        nz: 2,
+        symmetry: true,
+        nz_diag: 3,
+        nz_a_plus_at: 4,
+        n_dense: 5,
+        n_cmp_a: 6,
+        lnz: usize::MAX,
+        n_div: usize::MAX,
+        n_mult_subs_ldl: usize::MAX,
+        n_mult_subs_lu: usize::MAX,
+        d_max: 7,
+    }
+}
+
 /// The record of a graph of 24 rows, with a status.
 fn can_24(status: Status) -> Info {
     Info {
@@ -139,15 +158,17 @@ fn can_24(status: Status) -> Info {
 /// Asserts the text of what a caller chooses.
 fn check_control(rt: &impl Abort, alloc: Global, dense: i32, aggressive: bool, text: &str) {
     let mut out = Vec::new(alloc);
-    assert!(rt; control(&Control { dense, aggressive }, &mut out).is_ok());
-    assert_eq!(rt; out.as_slice(), text.as_bytes(), "at {dense}");
+    let is_written = control(&Control { dense, aggressive }, &mut out).is_ok();
+    assert!(rt;
+        is_written && out.as_slice() == text.as_bytes(),
+        "at {dense}"
+    );
 }
 
 /// Asserts the text of what the ordering tells.
 fn check_info(rt: &impl Abort, alloc: Global, record: &Info, text: &str) {
     let mut out = Vec::new(alloc);
-    assert!(rt; info(record, &mut out).is_ok());
-    assert_eq!(rt; out.as_slice(), text.as_bytes());
+    assert!(rt; info(record, &mut out).is_ok() && out.as_slice() == text.as_bytes());
 }
 
 #[test]
@@ -212,22 +233,7 @@ AMD: approximate minimum degree ordering
 #[test]
 fn whole_texts_of_info(rt: HostRuntime) {
     check_info(&rt, rt.alloc(), &five_rows(), FIVE_ROWS_TEXT);
-    let greatest = Info {
-        status: Status::OutOfMemory,
-        n: usize::MAX,
-        nz: 2,
-        symmetry: true,
-        nz_diag: 3,
-        nz_a_plus_at: 4,
-        n_dense: 5,
-        n_cmp_a: 6,
-        lnz: usize::MAX,
-        n_div: usize::MAX,
-        n_mult_subs_ldl: usize::MAX,
-        n_mult_subs_lu: usize::MAX,
-        d_max: 7,
-    };
-    check_info(&rt, rt.alloc(), &greatest, GREATEST_TEXT);
+    check_info(&rt, rt.alloc(), &greatest(), GREATEST_TEXT);
 }
 
 #[test]
@@ -275,62 +281,104 @@ AMD results:
     Ok(())
 }
 
-/// Writes both texts, of the default and of the five-row matrix.
-fn both_texts<W: Write>(out: &mut W) -> io::Result<()> {
-    control(&Control::default(), out)?;
-    info(&five_rows(), out)
+/// A choice and a record, and their texts.
+#[derive(Drop)]
+struct Written {
+    choice: Control,
+    record: Info,
+    texts: (&'static [u8], &'static [u8]),
 }
 
-/// Writes both texts with a fault at one call, and says whether that call was made.
+/// What is written with faults: texts of both kinds.
+fn both_kinds() -> [Written; 2] {
+    [
+        Written {
+            choice: Control::default(),
+            record: five_rows(),
+            texts: (DEFAULT_TEXT.as_bytes(), FIVE_ROWS_TEXT.as_bytes()),
+        },
+        Written {
+            choice: Control {
+                dense: -500,
+                aggressive: false,
+            },
+            record: greatest(),
+            texts: (NEGATIVE_TEXT.as_bytes(), GREATEST_TEXT.as_bytes()),
+        },
+    ]
+}
+
+/// Writes both texts.
+fn both_texts<W: Write>(written: &Written, out: &mut W) -> io::Result<()> {
+    control(&written.choice, out)?;
+    info(&written.record, out)
+}
+
+/// Whether bytes are both texts, one after the other.
+fn are_both(written: &Written, bytes: &[u8]) -> bool {
+    let (first, second) = written.texts;
+    bytes.len() == first.len().saturating_add(second.len())
+        && bytes.starts_with(first)
+        && bytes.ends_with(second)
+}
+
+/// Writes both texts with a fault at one call, and says whether that call was made. The fault is told, where it has a kind, and
+/// nothing is written behind it.
 fn both_with_fault(
     rt: &impl Abort,
     alloc: Global,
-    fault: Fault,
-    kind: ErrorKind,
+    written: &Written,
+    (fault, kind): (Fault, Option<ErrorKind>),
     fault_at: u64,
 ) -> bool {
     let mut out = Faulty::new(Vec::new(alloc), fault, fault_at);
-    match both_texts(&mut out) {
-        Ok(()) => {
-            assert_eq!(rt; out.faults(), 0, "{fault:?} at {fault_at}");
-            assert_eq!(rt;
-                out.bytes().len(),
-                DEFAULT_TEXT.len() + FIVE_ROWS_TEXT.len(),
-                "{fault:?} at {fault_at}"
-            );
-        }
-        Err(error) => {
-            assert_eq!(rt; out.faults(), 1, "{fault:?} at {fault_at}");
-            assert!(rt; error.kind() == kind, "{fault:?} at {fault_at}");
-            // Nothing is written after the fault.
-            assert_eq!(rt; out.calls(), fault_at, "{fault:?} at {fault_at}");
-        }
+    let told = both_texts(written, &mut out)
+        .err()
+        .map(|error| error.kind());
+    if out.faults() == 0 || kind.is_none() {
+        assert!(rt; told.is_none() && are_both(written, out.bytes()));
+    } else {
+        assert!(rt; told == kind && out.faults() == 1 && out.calls() == fault_at);
     }
     out.faults() > 0
 }
 
+/// Writes both texts with a fault at each call in turn, until a run has none.
+fn check_each_call(
+    rt: &impl Abort,
+    alloc: Global,
+    written: &Written,
+    fault: (Fault, Option<ErrorKind>),
+) {
+    let mut faults = 0;
+    for fault_at in 1..MANY {
+        if !both_with_fault(rt, alloc, written, fault, fault_at) {
+            break;
+        }
+        faults = fault_at;
+    }
+    assert!(rt; 0 < faults && faults < MANY - 1);
+}
+
 #[test]
 fn each_call_to_a_writer(rt: HostRuntime) {
-    for (fault, kind) in [
-        (Fault::Fails, ErrorKind::Other),
-        (Fault::TakesNothing, ErrorKind::WriteZero),
-    ] {
-        let mut faults = 0;
-        for fault_at in 1..MANY {
-            if !both_with_fault(&rt, rt.alloc(), fault, kind, fault_at) {
-                break;
-            }
-            faults = fault_at;
+    for written in &both_kinds() {
+        for fault in [
+            (Fault::Fails, Some(ErrorKind::Other)),
+            (Fault::TakesNothing, Some(ErrorKind::WriteZero)),
+            (Fault::Interrupted, None),
+        ] {
+            check_each_call(&rt, rt.alloc(), written, fault);
         }
-        assert!(rt; 0 < faults && faults < MANY - 1, "{faults} faults");
     }
 }
 
 #[test]
 fn a_writer_of_one_byte_a_call(rt: HostRuntime) -> Result<(), Fail> {
-    let mut out = Slow::new(Vec::new(rt.alloc()));
-    both_texts(&mut out)?;
-    let text = format!(in rt.alloc(); "{DEFAULT_TEXT}{FIVE_ROWS_TEXT}")?;
-    assert_eq!(rt; out.bytes(), text.as_bytes());
+    for written in &both_kinds() {
+        let mut out = Slow::new(Vec::new(rt.alloc()));
+        both_texts(written, &mut out)?;
+        assert!(rt; are_both(written, out.bytes()));
+    }
     Ok(())
 }

@@ -3,7 +3,8 @@
 
 ghost use Rattle.std.specs.Prelude.{◌<◌};
 
-use crate::demo_texts::{JUMBLED, ORDER, SIMPLE};
+use crate::demo_texts::{ORDER, SIMPLE};
+use crate::jumbled_texts::JUMBLED;
 use amd::{Control, order};
 use amd_demos::can_24::{JUMBLED_POINTERS, JUMBLED_ROWS, POINTERS, ROWS};
 use amd_demos::demo::{Form, demo_to};
@@ -69,9 +70,9 @@ fn text_of(alloc: Global, demo: Demo) -> Result<Vec<u8>, AllocError> {
 fn whole_texts(rt: HostRuntime) -> Result<(), Fail> {
     for demo in [Demo::Simple, Demo::Order, Demo::Jumbled] {
         let mut out = Slow::new(Vec::new(rt.alloc()));
-        assert_eq!(rt; run(demo, rt.alloc(), &mut out), 0, "{demo:?}");
+        let status = run(demo, rt.alloc(), &mut out);
         let text = text_of(rt.alloc(), demo)?;
-        assert_eq!(rt; out.bytes(), text.as_slice(), "{demo:?}");
+        assert!(rt; status == 0 && out.bytes() == text.as_slice(), "{demo:?}");
     }
     Ok(())
 }
@@ -89,8 +90,11 @@ fn small_matrices_without_an_ordering(rt: HostRuntime) {
     ] {
         let mut out = Vec::new(rt.alloc());
         let heap = Refusing::new(rt.alloc(), refuse_at);
-        assert_eq!(rt; simple_to(&heap, n, &a_p, &a_i, &mut out), 1, "{a_p:?}");
-        assert_eq!(rt; out.as_slice(), FAILED.as_bytes(), "{a_p:?}");
+        let status = simple_to(&heap, n, &a_p, &a_i, &mut out);
+        assert!(rt;
+            status == 1 && out.as_slice() == FAILED.as_bytes(),
+            "{a_p:?}"
+        );
     }
 }
 
@@ -98,7 +102,7 @@ fn small_matrices_without_an_ordering(rt: HostRuntime) {
 fn no_rows(rt: HostRuntime) {
     let mut out = Vec::new(rt.alloc());
     let heap = Refusing::new(rt.alloc(), 1);
-    assert_eq!(rt; simple_to(&heap, 0, &[7], &[], &mut out), 0);
+    assert!(rt; simple_to(&heap, 0, &[7], &[], &mut out) == 0);
     assert!(rt; out.starts_with(b"P = []\nPInv = []\n\nAMD results:\n"));
 }
 
@@ -118,16 +122,15 @@ fn check_refused(
     let taken = ROOM.saturating_sub(rest.len());
     let mut text = joined(alloc, parts)?;
     text.extend_from_slice(FAILED.as_bytes())?;
-    if heap.refused() {
-        assert_eq!(rt; status, 1, "{demo:?} at {refuse_at}");
-        assert!(rt;
-            array.get(..taken) == Some(text.as_slice()),
-            "{demo:?} at {refuse_at}"
-        );
+    let is_told = if heap.refused() {
+        status == 1 && array.get(..taken) == Some(text.as_slice())
     } else {
-        assert_eq!(rt; status, 0, "{demo:?} at {refuse_at}");
-    }
-    assert_eq!(rt; heap.granted(), heap.released(), "{demo:?} at {refuse_at}");
+        status == 0
+    };
+    assert!(rt;
+        is_told && heap.granted() == heap.released(),
+        "{demo:?} at {refuse_at}"
+    );
     Ok(heap.refused())
 }
 
@@ -180,7 +183,7 @@ fn each_request_of_ordering_and_factor(rt: HostRuntime) -> Result<(), Fail> {
     let ordering = requests_of_ordering(&rt, rt.alloc());
     let behind = ordering.saturating_add(1);
     let refused = check_requests(&rt, rt.alloc(), Demo::Order, &input, 1, behind)?;
-    assert_eq!(rt; refused, ordering);
+    assert!(rt; refused == ordering);
     let all_but_factor = [size, columns, plot, record, permutations, permuted_plot];
     let refused = check_requests(&rt, rt.alloc(), Demo::Order, &all_but_factor, behind, MANY)?;
     assert!(rt; ordering < refused && refused < MANY - 1);
@@ -216,12 +219,12 @@ fn matrices_of_the_other_kind(rt: HostRuntime) -> Result<(), Fail> {
         ),
     ] {
         let mut out = Vec::new(rt.alloc());
-        assert_eq!(rt; demo_to(rt.alloc(), form, matrix, &mut out), 1, "{line}");
+        let status = demo_to(rt.alloc(), form, matrix, &mut out);
         let Some((_, results)) = record.split_once('\n') else {
             panic!(rt; "no line");
         };
         let end = joined(rt.alloc(), &[line, results, FAILED])?;
-        assert!(rt; out.ends_with(&end), "{line}");
+        assert!(rt; status == 1 && out.ends_with(&end), "{line}");
     }
     Ok(())
 }
@@ -243,9 +246,9 @@ fn matrices_that_are_none(rt: HostRuntime) {
         for form in [Form::Sorted, Form::Jumbled] {
             let mut out = Vec::new(rt.alloc());
             let heap = Refusing::new(rt.alloc(), 1);
-            assert_eq!(rt; demo_to(&heap, form, &matrix, &mut out), 1, "{a_p:?}");
-            assert!(rt; out.starts_with(b"AMD demo, with "), "{a_p:?}");
-            assert!(rt; out.ends_with(FAILED.as_bytes()), "{a_p:?}");
+            let status = demo_to(&heap, form, &matrix, &mut out);
+            let is_told = out.starts_with(b"AMD demo, with ") && out.ends_with(FAILED.as_bytes());
+            assert!(rt; status == 1 && is_told, "{a_p:?}");
         }
     }
 }
@@ -262,22 +265,14 @@ fn check_fault(
     let mut out = Faulty::new(Vec::new(alloc), fault, fault_at);
     let status = run(demo, alloc, &mut out);
     let text = text_of(alloc, demo)?;
-    if out.faults() == 0 {
-        assert_eq!(rt; status, 0, "{demo:?}, {fault:?} at {fault_at}");
-        assert_eq!(rt;
-            out.bytes(),
-            text.as_slice(),
-            "{demo:?}, {fault:?} at {fault_at}"
-        );
-        return Ok(false);
-    }
-    assert_eq!(rt; status, 1, "{demo:?}, {fault:?} at {fault_at}");
-    assert_eq!(rt; out.calls(), fault_at, "{demo:?}, {fault:?} at {fault_at}");
-    assert!(rt;
-        text.starts_with(out.bytes()),
-        "{demo:?}, {fault:?} at {fault_at}"
-    );
-    Ok(true)
+    let is_made = out.faults() != 0;
+    let is_told = if is_made {
+        status == 1 && out.calls() == fault_at && text.starts_with(out.bytes())
+    } else {
+        status == 0 && out.bytes() == text.as_slice()
+    };
+    assert!(rt; is_told, "{demo:?}, {fault:?} at {fault_at}");
+    Ok(is_made)
 }
 
 /// How many calls to its writer a demo makes.
@@ -311,4 +306,29 @@ fn writers_with_faults(rt: HostRuntime) -> Result<(), Fail> {
     check_faults(&rt, rt.alloc(), Demo::Order, 499)?;
     check_faults(&rt, rt.alloc(), Demo::Jumbled, 499)?;
     Ok(())
+}
+
+/// Runs a demo with its first request refused and a fault at one call to its writer, and answers how many calls it made.
+fn calls_without_memory(
+    rt: &impl Abort,
+    alloc: Global,
+    demo: Demo,
+    fault: Fault,
+    fault_at: u64,
+) -> u64 {
+    let heap = Refusing::new(alloc, 1);
+    let mut out = Faulty::new(Vec::new(alloc), fault, fault_at);
+    assert!(rt; run(demo, &heap, &mut out) == 1);
+    out.calls()
+}
+
+/// Where there is no ordering, and the line that tells this cannot be written, nothing more is tried.
+#[test]
+fn failures_that_cannot_be_told(rt: HostRuntime) {
+    for demo in [Demo::Simple, Demo::Order, Demo::Jumbled] {
+        let last = calls_without_memory(&rt, rt.alloc(), demo, Fault::Fails, 0);
+        for fault in [Fault::Fails, Fault::TakesNothing] {
+            assert!(rt; calls_without_memory(&rt, rt.alloc(), demo, fault, last) == last);
+        }
+    }
 }

@@ -1,0 +1,134 @@
+// The lines of a case file that are no items: lines without a word, which are passed over, and lines that are too long, which are
+// refused before they were read whole.
+
+use amd_cases::faults::Fault;
+use amd_cases::reader::{CaseReader, LONGEST_LINE, ReadError};
+use std::alloc::{Allocator, Global};
+use std::io;
+use std::io::{BufRead, Read};
+use std::process::Abort;
+
+/// Two cases with lines of white space before, within and behind them.
+const SPACED: &[u8] =
+    b"\n \t\r\nCASE 1\n\nN 1\n  \nAP 0 0\nAI\n\nEND\n\n\nCASE 2\nN 0\nAP\nAI\nEND\n\n ";
+
+/// The next case, by its number and its number of rows; `None` where there is none.
+fn next_of<R: BufRead + Drop, A: Allocator + Copy>(
+    rt: &impl Abort,
+    cases: &mut CaseReader<R, A>,
+) -> Option<(i64, i64)> {
+    match cases.next_case() {
+        Ok(case) => case.map(|case| (case.number, case.n)),
+        Err(_) => panic!(rt; "refused"),
+    }
+}
+
+#[test]
+fn lines_without_a_word(rt: HostRuntime) {
+    let mut cases = CaseReader::new(rt.alloc(), SPACED);
+    assert!(rt; next_of(&rt, &mut cases) == Some((1, 1)));
+    assert!(rt; next_of(&rt, &mut cases) == Some((2, 0)));
+    assert!(rt; next_of(&rt, &mut cases).is_none());
+    let mut blank = CaseReader::new(rt.alloc(), b"\n\n \t".as_slice());
+    assert!(rt; next_of(&rt, &mut blank).is_none());
+}
+
+/// Whether a text is refused for this line.
+fn is_refused<R: BufRead + Drop>(
+    alloc: Global,
+    input: R,
+    wanted: u64,
+    wanted_fault: Fault,
+) -> bool {
+    let mut cases = CaseReader::new(alloc, input);
+    match cases.next_case() {
+        Err(ReadError::Line { line, fault }) => line == wanted && fault == wanted_fault,
+        _ => false,
+    }
+}
+
+/// The lines without a word count as the others do.
+#[test]
+fn faults_behind_lines_without_a_word(rt: HostRuntime) {
+    for (text, line, fault) in [
+        (b"\n \nN 1\n".as_slice(), 3, Fault::Outside),
+        (b"\nCASE 1\n\nN x\n".as_slice(), 4, Fault::Numbers),
+        (b"CASE 1\n\n\n".as_slice(), 3, Fault::Unfinished),
+    ] {
+        assert!(rt; is_refused(rt.alloc(), text, line, fault), "{text:?}");
+    }
+}
+
+/// What the endless line is made of.
+const PIECE: &[u8] = &[b' '; 4096];
+
+/// A reader of a line that begins in some way and does not end, up to a number of bytes behind which it must not be read.
+#[derive(Drop)]
+struct Endless<'a> {
+    front: &'a [u8],
+    left: usize,
+}
+
+impl Read for Endless<'_> {
+    fn read(&mut self, _buf: &mut [u8]) -> io::Result<usize> {
+        Ok(0)
+    }
+}
+
+impl BufRead for Endless<'_> {
+    fn fill_buf(&mut self) -> io::Result<&[u8]> {
+        if !self.front.is_empty() {
+            return Ok(self.front);
+        }
+        if self.left < PIECE.len() {
+            return Err(io::Error::from(io::ErrorKind::Other));
+        }
+        Ok(PIECE)
+    }
+
+    fn consume(&mut self, amount: usize) {
+        if self.front.is_empty() {
+            self.left = self.left.saturating_sub(amount);
+        } else {
+            self.front = self.front.get(amount..).unwrap_or(&[]);
+        }
+    }
+}
+
+/// Where the line goes on and on, no more is read of it than a line may have, and one piece.
+#[test]
+fn a_line_without_an_end(rt: HostRuntime) {
+    for (front, line) in [
+        (b"CASE 1".as_slice(), 1),
+        (b"".as_slice(), 1),
+        (b"CASE 1\nAP 0".as_slice(), 2),
+        (b"\n\nnothing".as_slice(), 3),
+    ] {
+        let left = LONGEST_LINE + PIECE.len();
+        let input = Endless { front, left };
+        assert!(rt;
+            is_refused(rt.alloc(), input, line, Fault::Long),
+            "line {line}"
+        );
+    }
+}
+
+/// A case whose first line has so many bytes, with its line feed.
+fn case_of(alloc: Global, bytes: usize) -> Result<Vec<u8>, std::alloc::AllocError> {
+    let mut text = Vec::new(alloc);
+    text.extend_from_slice(b"CASE 1")?;
+    text.resize(bytes.saturating_sub(1), b' ')?;
+    text.extend_from_slice(b"\nN 0\nAP\nAI\nEND\n")?;
+    Ok(text)
+}
+
+/// The longest line that there may be, and one that is longer by a byte.
+#[test]
+fn the_longest_line(rt: HostRuntime) -> Result<(), std::test::Fail> {
+    let text = case_of(rt.alloc(), LONGEST_LINE)?;
+    let mut cases = CaseReader::new(rt.alloc(), text.as_slice());
+    assert!(rt; next_of(&rt, &mut cases) == Some((1, 0)));
+    let text = case_of(rt.alloc(), LONGEST_LINE + 1)?;
+    assert!(rt; is_refused(rt.alloc(), text.as_slice(), 1, Fault::Long));
+    Ok(())
+}

@@ -1,0 +1,127 @@
+// The two engines over a sorted matrix, whose degrees are counted here: the engine in place with the words that the
+// degrees ask for and some more, and the plain one. Called by the tests of the engine in place.
+
+ghost use Rattle.std.specs.Option.{option_copied};
+ghost use Rattle.amd_model.specs.Input.Held.{HasMarks};
+
+use amd_engine::amd_1::amd_1_from;
+use amd_engine::plain::plain_1;
+use amd_input::aat::aat;
+use amd_input::valid::valid;
+use amd_numbers::amd::{Control, Info, Status};
+use std::alloc::{Allocator, Global};
+use std::process::Abort;
+
+/// A sorted matrix, and which of its rows are held last.
+#[derive(Drop)]
+pub struct Sorted<'a> {
+    pub n: i64,
+    pub a_p: &'a [i64],
+    pub a_i: &'a [i64],
+    pub hold: Option<&'a [bool]>,
+}
+
+/// A matrix of which no row is held last.
+pub fn unmarked<'a>(n: i64, a_p: &'a [i64], a_i: &'a [i64]) -> Sorted<'a> {
+    Sorted {
+        n,
+        a_p,
+        a_i,
+        hold: None,
+    }
+}
+
+/// Asserts that there is a mark for each of so many rows, where there are marks.
+fn check_marks(rt: &impl Abort, hold: Option<&[bool]>, size: usize)
+    ensures { HasMarks (option_copied hold.entry) size }
+{
+    if let Some(marks) = hold {
+        assert!(rt; marks.len() == size);
+    }
+}
+
+/// Orders by the plain engine.
+pub fn order_plainly(
+    rt: &impl Abort,
+    alloc: Global,
+    matrix: &Sorted,
+    control: &Control,
+    info: &mut Info,
+) -> (Vec<i64>, Vec<i64>) {
+    let (n, a_p, a_i) = (matrix.n, matrix.a_p, matrix.a_i);
+    assert!(rt; n > 0);
+    let Status::OK = valid(n, n, a_p, a_i) else {
+        panic!(rt; "not sorted");
+    };
+    let mut pattern = Info::new(0);
+    let Ok((_, degrees)) = aat(alloc, n, a_p, a_i, &mut pattern) else {
+        panic!(rt; "no degrees");
+    };
+    check_marks(rt, matrix.hold, degrees.len());
+    let Ok(answer) = plain_1(alloc, n, a_p, a_i, &degrees, control, matrix.hold, info) else {
+        panic!(rt; "no plain answer");
+    };
+    answer
+}
+
+/// Orders by the engine in place, from a first flag on and with so many words more than it needs. The lists of the
+/// engine come from `heap`.
+pub fn order_in_place<A: Allocator + Copy>(
+    rt: &impl Abort,
+    heap: A,
+    alloc: Global,
+    flag: usize,
+    more: usize,
+    matrix: &Sorted,
+    control: &Control,
+    info: &mut Info,
+) -> Result<(Vec<i64, A>, Vec<i64, A>), Status> {
+    let (n, a_p, a_i) = (matrix.n, matrix.a_p, matrix.a_i);
+    assert!(rt; n > 0);
+    let Status::OK = valid(n, n, a_p, a_i) else {
+        panic!(rt; "not sorted");
+    };
+    let mut pattern = Info::new(0);
+    let Ok((sum, mut degrees)) = aat(alloc, n, a_p, a_i, &mut pattern) else {
+        panic!(rt; "no degrees");
+    };
+    let size = degrees.len();
+    check_marks(rt, matrix.hold, size);
+    assert!(rt; flag >= 2);
+    assert!(rt; sum < 1 << 60);
+    assert!(rt; size < 1 << 60);
+    assert!(rt; more < 1 << 60);
+    let room = sum + size + more;
+    amd_1_from(
+        heap,
+        flag,
+        n,
+        a_p,
+        a_i,
+        &mut degrees,
+        room,
+        control,
+        matrix.hold,
+        info,
+    )
+}
+
+/// First flags for a matrix of `size` rows: the one of the product, and in each width the last four before the reset
+/// of the counters, which comes where the flag passes the greatest number of the width less `size`. Those above the
+/// greatest number of 32 bits ask for the wider words.
+pub fn first_flags(rt: &impl Abort, size: usize) -> [usize; 9] {
+    assert!(rt; size < 1 << 30);
+    let narrow = u32::MAX as usize - size;
+    let wide = usize::MAX - size;
+    [
+        2,
+        narrow - 3,
+        narrow - 2,
+        narrow - 1,
+        narrow,
+        wide - 3,
+        wide - 2,
+        wide - 1,
+        wide,
+    ]
+}
