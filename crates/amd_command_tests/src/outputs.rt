@@ -169,7 +169,7 @@ fn subcommands(rt: HostRuntime) -> Result<(), Fail> {
         ("analyse", "--out", "none"),
     ] {
         let words = ["rimopaku", name, "a", "--hold", "h", option, "o"];
-        assert!(&rt; asked(rt.alloc(), &words)?.as_str() == wanted, "{wanted}");
+        assert!(&rt; asked(rt.alloc(), &words)?.as_str() == wanted);
     }
     Ok(())
 }
