@@ -15,10 +15,11 @@ use std::test::Fail;
 /// The greatest number of rows of these tests.
 const MOST_ROWS: usize = 1000;
 
-/// Asserts that the engine in place has this answer from each first flag on, with so many words to spare.
-fn check_flags(
+/// Asserts that the engine in place has this answer from each of these first flags on, with so many words to spare.
+pub fn check_flags(
     rt: &impl Abort,
     alloc: Global,
+    flags: &[usize],
     more: usize,
     matrix: &Sorted,
     control: &Control,
@@ -26,7 +27,7 @@ fn check_flags(
     figures: [usize; 11],
 ) {
     let size = wanted.0.len();
-    for flag in first_flags(rt, size) {
+    for &flag in flags {
         let mut found = Info::new(0);
         let Ok((p, p_inv)) = order_in_place(
             rt, alloc, alloc, flag, more, matrix, control, &mut found,
@@ -45,8 +46,18 @@ fn agree(rt: &impl Abort, alloc: Global, matrix: &Sorted, control: &Control) {
     let mut info = Info::new(0);
     let (p, p_inv) = order_plainly(rt, alloc, matrix, control, &mut info);
     let wanted = (p.as_slice(), p_inv.as_slice());
+    let flags = first_flags(rt, p.len());
     for more in [0, 1, p.len().min(MOST_ROWS)] {
-        check_flags(rt, alloc, more, matrix, control, wanted, numbers_of(&info));
+        check_flags(
+            rt,
+            alloc,
+            &flags,
+            more,
+            matrix,
+            control,
+            wanted,
+            numbers_of(&info),
+        );
     }
 }
 

@@ -1,8 +1,11 @@
 // Worked matrices through the engine in place, from first flags with and without a reset of the counters, in words of
-// both widths, with no word to spare and with those of `order`. The answers were worked by hand, and come from the
-// Rust crate `amd` and from a plain program that follows the rules.
+// both widths, with no word to spare and with those of `order`; and through `amd_1` and `amd_2` by themselves, the latter
+// over lists that were laid. The answers were worked by hand, and come from the Rust crate `amd` and from a plain program
+// that follows the rules.
 
-use crate::sorted::{Sorted, first_flags, order_in_place};
+use crate::laid::{are_words, order_laid};
+use crate::sorted::{Sorted, first_flags, order_exactly, order_in_place};
+use amd_cells::{Signed, Unsigned};
 use amd_numbers::amd::{Control, Info};
 use amd_testing::inputs::complete;
 use amd_testing::plain::are_inverse;
@@ -11,7 +14,7 @@ use std::process::Abort;
 use std::test::Fail;
 
 /// A sorted matrix, what a caller chooses, and the answer. The figures are the number of rows held last, `lnz`, those
-/// of `LDL'` and of `LU`, and `d_max`; the divisions are as many as `lnz`.
+/// of `LDL'` and of `LU`, and `d_max`; the divisions are as many as `lnz`. An element stands at its pivot row.
 #[derive(Drop)]
 struct Case<'a> {
     what: &'a str,
@@ -22,6 +25,10 @@ struct Case<'a> {
     aggressive: bool,
     hold: Option<&'a [bool]>,
     p: &'a [i64],
+    /// The number of rows of the block of each element, 0 for what is none.
+    blocks: &'a [isize],
+    /// The number of rows of the front of each element, -1 for what is none.
+    fronts: &'a [isize],
     figures: [usize; 5],
     /// Whether the lists are packed, with no word to spare and with those of `order`.
     packs: bool,
@@ -38,6 +45,8 @@ static MATRICES: [Case<'static>; 23] = [
         aggressive: true,
         hold: None,
         p: &[0],
+        blocks: &[1],
+        fronts: &[1],
         figures: [0, 0, 0, 0, 1],
         packs: false,
     },
@@ -50,6 +59,8 @@ static MATRICES: [Case<'static>; 23] = [
         aggressive: true,
         hold: None,
         p: &[0],
+        blocks: &[1],
+        fronts: &[1],
         figures: [0, 0, 0, 0, 1],
         packs: false,
     },
@@ -62,6 +73,8 @@ static MATRICES: [Case<'static>; 23] = [
         aggressive: true,
         hold: None,
         p: &[1, 0, 2],
+        blocks: &[0, 1, 2],
+        fronts: &[-1, 1, 2],
         figures: [0, 1, 1, 1, 2],
         packs: false,
     },
@@ -74,6 +87,8 @@ static MATRICES: [Case<'static>; 23] = [
         aggressive: true,
         hold: Some(&[false, true, false]),
         p: &[0, 2, 1],
+        blocks: &[0, 0, 2],
+        fronts: &[-1, -1, 2],
         figures: [1, 3, 4, 5, 3],
         packs: false,
     },
@@ -86,6 +101,8 @@ static MATRICES: [Case<'static>; 23] = [
         aggressive: true,
         hold: None,
         p: &[0, 1],
+        blocks: &[0, 2],
+        fronts: &[-1, 2],
         figures: [0, 1, 1, 1, 2],
         packs: false,
     },
@@ -98,6 +115,8 @@ static MATRICES: [Case<'static>; 23] = [
         aggressive: true,
         hold: None,
         p: &[0, 3, 2, 4, 1],
+        blocks: &[1, 3, 0, 1, 0],
+        fronts: &[2, 3, -1, 2, -1],
         figures: [0, 5, 6, 7, 3],
         packs: false,
     },
@@ -110,6 +129,8 @@ static MATRICES: [Case<'static>; 23] = [
         aggressive: true,
         hold: None,
         p: &[2, 0, 1],
+        blocks: &[0, 2, 1],
+        fronts: &[-1, 2, 2],
         figures: [0, 2, 2, 2, 2],
         packs: false,
     },
@@ -122,6 +143,8 @@ static MATRICES: [Case<'static>; 23] = [
         aggressive: true,
         hold: Some(&[false, true, false]),
         p: &[0, 2, 1],
+        blocks: &[1, 0, 1],
+        fronts: &[1, -1, 1],
         figures: [1, 2, 2, 2, 2],
         packs: false,
     },
@@ -134,6 +157,8 @@ static MATRICES: [Case<'static>; 23] = [
         aggressive: true,
         hold: None,
         p: &[3, 0, 1, 2],
+        blocks: &[0, 0, 3, 1],
+        fronts: &[-1, -1, 3, 3],
         figures: [0, 5, 7, 9, 3],
         packs: false,
     },
@@ -146,6 +171,8 @@ static MATRICES: [Case<'static>; 23] = [
         aggressive: true,
         hold: Some(&[true, false, false, false]),
         p: &[3, 1, 2, 0],
+        blocks: &[0, 0, 2, 1],
+        fronts: &[-1, -1, 2, 2],
         figures: [1, 5, 7, 9, 3],
         packs: false,
     },
@@ -158,6 +185,8 @@ static MATRICES: [Case<'static>; 23] = [
         aggressive: true,
         hold: Some(&[true, true, true, true]),
         p: &[0, 1, 2, 3],
+        blocks: &[0, 0, 0, 0],
+        fronts: &[-1, -1, -1, -1],
         figures: [4, 6, 10, 14, 4],
         packs: false,
     },
@@ -172,6 +201,8 @@ static MATRICES: [Case<'static>; 23] = [
         aggressive: true,
         hold: None,
         p: &[17, 16, 15, 14, 13, 12, 11, 10, 9, 8, 7, 6, 5, 4, 3, 2, 1, 0],
+        blocks: &[2, 0, 1, 1, 1, 1, 1, 1, 1, 1, 1, 1, 1, 1, 1, 1, 1, 1],
+        fronts: &[2, -1, 2, 2, 2, 2, 2, 2, 2, 2, 2, 2, 2, 2, 2, 2, 2, 2],
         figures: [0, 17, 17, 17, 2],
         packs: false,
     },
@@ -186,6 +217,8 @@ static MATRICES: [Case<'static>; 23] = [
         aggressive: false,
         hold: None,
         p: &[2, 3, 4, 5, 6, 7, 8, 9, 10, 11, 12, 13, 14, 15, 16, 17, 1, 0],
+        blocks: &[2, 0, 1, 1, 1, 1, 1, 1, 1, 1, 1, 1, 1, 1, 1, 1, 1, 1],
+        fronts: &[2, -1, 2, 2, 2, 2, 2, 2, 2, 2, 2, 2, 2, 2, 2, 2, 2, 2],
         figures: [0, 17, 17, 17, 2],
         packs: false,
     },
@@ -200,6 +233,8 @@ static MATRICES: [Case<'static>; 23] = [
         aggressive: true,
         hold: None,
         p: &[1, 2, 3, 4, 5, 6, 7, 8, 9, 10, 11, 12, 13, 14, 15, 16, 17, 0],
+        blocks: &[0, 1, 1, 1, 1, 1, 1, 1, 1, 1, 1, 1, 1, 1, 1, 1, 1, 1],
+        fronts: &[-1, 1, 1, 1, 1, 1, 1, 1, 1, 1, 1, 1, 1, 1, 1, 1, 1, 1],
         figures: [1, 17, 17, 17, 2],
         packs: false,
     },
@@ -214,6 +249,8 @@ static MATRICES: [Case<'static>; 23] = [
         aggressive: true,
         hold: None,
         p: &[1, 2, 3, 4, 5, 6, 7, 8, 9, 10, 11, 12, 13, 14, 15, 16, 17, 0],
+        blocks: &[0, 1, 1, 1, 1, 1, 1, 1, 1, 1, 1, 1, 1, 1, 1, 1, 1, 1],
+        fronts: &[-1, 1, 1, 1, 1, 1, 1, 1, 1, 1, 1, 1, 1, 1, 1, 1, 1, 1],
         figures: [1, 17, 17, 17, 2],
         packs: false,
     },
@@ -228,6 +265,8 @@ static MATRICES: [Case<'static>; 23] = [
         aggressive: true,
         hold: None,
         p: &[1, 2, 3, 4, 5, 6, 7, 8, 9, 10, 11, 12, 13, 14, 15, 16, 17, 0],
+        blocks: &[0, 1, 1, 1, 1, 1, 1, 1, 1, 1, 1, 1, 1, 1, 1, 1, 1, 1],
+        fronts: &[-1, 1, 1, 1, 1, 1, 1, 1, 1, 1, 1, 1, 1, 1, 1, 1, 1, 1],
         figures: [1, 17, 17, 17, 2],
         packs: false,
     },
@@ -242,6 +281,8 @@ static MATRICES: [Case<'static>; 23] = [
         aggressive: true,
         hold: None,
         p: &[17, 16, 15, 14, 13, 12, 11, 10, 9, 8, 7, 6, 5, 4, 3, 2, 1, 0],
+        blocks: &[2, 0, 1, 1, 1, 1, 1, 1, 1, 1, 1, 1, 1, 1, 1, 1, 1, 1],
+        fronts: &[2, -1, 2, 2, 2, 2, 2, 2, 2, 2, 2, 2, 2, 2, 2, 2, 2, 2],
         figures: [0, 17, 17, 17, 2],
         packs: false,
     },
@@ -254,6 +295,8 @@ static MATRICES: [Case<'static>; 23] = [
         aggressive: true,
         hold: None,
         p: &[0, 1, 2],
+        blocks: &[0, 0, 3],
+        fronts: &[-1, -1, 3],
         figures: [0, 3, 4, 5, 3],
         packs: false,
     },
@@ -266,6 +309,8 @@ static MATRICES: [Case<'static>; 23] = [
         aggressive: true,
         hold: None,
         p: &[0],
+        blocks: &[1],
+        fronts: &[1],
         figures: [0, 0, 0, 0, 1],
         packs: false,
     },
@@ -278,6 +323,8 @@ static MATRICES: [Case<'static>; 23] = [
         aggressive: true,
         hold: None,
         p: &[0, 6, 1, 3, 4, 5, 2],
+        blocks: &[1, 0, 5, 0, 0, 0, 1],
+        fronts: &[3, -1, 5, -1, -1, -1, 4],
         figures: [0, 15, 29, 43, 5],
         packs: false,
     },
@@ -296,6 +343,8 @@ static MATRICES: [Case<'static>; 23] = [
         p: &[
             1, 2, 3, 4, 5, 6, 7, 8, 9, 10, 11, 12, 13, 14, 15, 16, 17, 18, 19, 0,
         ],
+        blocks: &[0, 1, 1, 1, 1, 1, 1, 1, 1, 1, 1, 1, 1, 1, 1, 1, 1, 1, 0, 2],
+        fronts: &[-1, 1, 1, 1, 1, 1, 1, 1, 1, 1, 1, 1, 1, 1, 1, 1, 1, 1, -1, 2],
         figures: [1, 20, 21, 22, 3],
         packs: false,
     },
@@ -308,6 +357,8 @@ static MATRICES: [Case<'static>; 23] = [
         aggressive: true,
         hold: None,
         p: &[13, 12, 11, 10, 9, 8, 7, 6, 5, 4, 3, 0, 1, 2],
+        blocks: &[0, 0, 3, 1, 1, 1, 1, 1, 1, 1, 1, 1, 1, 1],
+        fronts: &[-1, -1, 3, 3, 3, 3, 3, 3, 3, 3, 3, 3, 3, 3],
         figures: [0, 25, 37, 49, 3],
         packs: true,
     },
@@ -332,6 +383,12 @@ static MATRICES: [Case<'static>; 23] = [
         hold: None,
         p: &[
             22, 20, 10, 23, 12, 5, 16, 8, 14, 4, 15, 7, 1, 9, 13, 17, 0, 2, 3, 6, 11, 18, 21, 19,
+        ],
+        blocks: &[
+            0, 0, 0, 0, 1, 1, 0, 1, 1, 2, 1, 0, 1, 1, 1, 1, 1, 1, 0, 8, 1, 0, 1, 1,
+        ],
+        fronts: &[
+            -1, -1, -1, -1, 5, 6, -1, 6, 4, 6, 6, -1, 5, 7, 5, 6, 4, 7, -1, 8, 5, -1, 4, 4,
         ],
         figures: [0, 97, 275, 453, 8],
         packs: false,
@@ -358,19 +415,29 @@ fn is_answer(case: &Case, p: &[i64], p_inv: &[i64], info: &Info) -> bool {
     p == case.p && are_inverse(case.p.len(), p, p_inv) && are_figures(case, info)
 }
 
-/// Asserts that the engine in place gives the answer of a case from each first flag on, with so many words to spare.
-fn check(rt: &impl Abort, alloc: Global, case: &Case, more: usize) {
-    let what = case.what;
-    let matrix = Sorted {
+/// The matrix of a case.
+fn matrix_of<'a>(case: &Case<'a>) -> Sorted<'a> {
+    Sorted {
         n: case.n,
         a_p: case.a_p,
         a_i: case.a_i,
         hold: case.hold,
-    };
-    let control = Control {
+    }
+}
+
+/// What the caller of a case chooses.
+fn control_of(case: &Case) -> Control {
+    Control {
         dense: case.dense,
         aggressive: case.aggressive,
-    };
+    }
+}
+
+/// Asserts that the engine in place gives the answer of a case from each first flag on, with so many words to spare.
+fn check(rt: &impl Abort, alloc: Global, case: &Case, more: usize) {
+    let what = case.what;
+    let matrix = matrix_of(case);
+    let control = control_of(case);
     for flag in first_flags(rt, case.p.len()) {
         let mut info = Info::new(0);
         let Ok((p, p_inv)) = order_in_place(
@@ -382,6 +449,30 @@ fn check(rt: &impl Abort, alloc: Global, case: &Case, more: usize) {
     }
 }
 
+/// Asserts that `amd_1` gives the answer of a case, with no word to spare.
+fn check_amd_1(rt: &impl Abort, alloc: Global, case: &Case) {
+    let mut info = Info::new(0);
+    let (p, p_inv) = order_exactly(rt, alloc, &matrix_of(case), &control_of(case), &mut info);
+    assert!(rt; is_answer(case, &p, &p_inv, &info), "{}", case.what);
+}
+
+/// Asserts that `amd_2` gives the answer of a case over lists that were laid in words of these widths, and tells its
+/// elements.
+fn check_amd_2<S: Signed, U: Unsigned>(rt: &impl Abort, alloc: Global, case: &Case) {
+    let mut info = Info::new(0);
+    let control = control_of(case);
+    let (blocks, p_inv, p, fronts) = order_laid::<S, U>(
+        rt,
+        alloc,
+        &matrix_of(case),
+        &control,
+        &mut info,
+    );
+    assert!(rt; is_answer(case, &p, &p_inv, &info), "{}", case.what);
+    assert!(rt; are_words(&blocks, case.blocks), "blocks of {}", case.what);
+    assert!(rt; are_words(&fronts, case.fronts), "fronts of {}", case.what);
+}
+
 /// The words to spare are none, and a fifth of the sum of the degrees: of the cycle these are 5, and it takes 42
 /// words at least.
 #[test]
@@ -390,6 +481,15 @@ fn worked_matrices(rt: HostRuntime) {
         check(&rt, rt.alloc(), case, 0);
         check(&rt, rt.alloc(), case, 1);
         check(&rt, rt.alloc(), case, 5);
+    }
+}
+
+#[test]
+fn worked_matrices_through_each_call(rt: HostRuntime) {
+    for case in &MATRICES {
+        check_amd_1(&rt, rt.alloc(), case);
+        check_amd_2::<i32, u32>(&rt, rt.alloc(), case);
+        check_amd_2::<isize, usize>(&rt, rt.alloc(), case);
     }
 }
 
@@ -404,6 +504,10 @@ fn all_dense<'a>(a_p: &'a [i64], a_i: &'a [i64]) -> Case<'a> {
         aggressive: true,
         hold: None,
         p: &[0, 1, 2, 3, 4, 5, 6, 7, 8, 9, 10, 11, 12, 13, 14, 15, 16, 17],
+        blocks: &[0, 0, 0, 0, 0, 0, 0, 0, 0, 0, 0, 0, 0, 0, 0, 0, 0, 0],
+        fronts: &[
+            -1, -1, -1, -1, -1, -1, -1, -1, -1, -1, -1, -1, -1, -1, -1, -1, -1, -1,
+        ],
         figures: [18, 153, 969, 1785, 18],
         packs: false,
     }
@@ -413,6 +517,8 @@ fn all_dense<'a>(a_p: &'a [i64], a_i: &'a [i64]) -> Case<'a> {
 #[test]
 fn no_round(rt: HostRuntime) -> Result<(), Fail> {
     let (a_p, a_i) = complete(rt.alloc(), 18)?;
-    check(&rt, rt.alloc(), &all_dense(&a_p, &a_i), 0);
+    let case = all_dense(&a_p, &a_i);
+    check(&rt, rt.alloc(), &case, 0);
+    check_amd_2::<isize, usize>(&rt, rt.alloc(), &case);
     Ok(())
 }

@@ -1,23 +1,30 @@
 // The workspace as it is laid: the lists of the neighbours one after another, where each starts, how long it is, and
-// where the first free word is, in both widths of words. The lists were worked by hand in the order in which the walk
-// meets the edges.
+// where the first free word is, in both widths of words; and `amd_2` over such a workspace, for other tests. The lists
+// were worked by hand in the order in which the walk meets the edges.
 
+ghost use Rattle.std.specs.Prelude.{◌≡◌, ◌<◌, ◌≤◌, ◌+◌, ℕ, List, pos, length};
+ghost use Rattle.amd_model.specs.Graph.{Graph};
+ghost use Rattle.amd_workspace.specs.Laying.{IsLaidOut};
+ghost use Rattle.amd_engine.specs.InPlace.{LaysGraph};
+
+use crate::sorted::{Sorted, check_marks};
 use amd_cells::{Figure, Signed, Unsigned, Word, figure_at, word_at};
+use amd_engine::amd_2::amd_2;
 use amd_input::aat::aat;
 use amd_input::valid::valid;
-use amd_numbers::amd::{Info, Status};
+use amd_numbers::amd::{Control, Info, Status};
 use amd_workspace::laying::{Laid, lay};
 use std::alloc::Global;
 use std::process::Abort;
 
-/// A sorted matrix, the words of its workspace, and what is laid there.
+/// A sorted matrix, the words to spare in its workspace, and what is laid there.
 #[derive(Drop)]
 struct Case<'a> {
     what: &'a str,
     n: i64,
     a_p: &'a [i64],
     a_i: &'a [i64],
-    room: usize,
+    more: usize,
     words: &'a [isize],
     starts: &'a [isize],
     lengths: &'a [usize],
@@ -30,7 +37,7 @@ static MATRICES: [Case<'static>; 2] = [
         n: 4,
         a_p: &[0, 2, 3, 4, 4],
         a_i: &[1, 3, 2, 3],
-        room: 13,
+        more: 1,
         words: &[1, 3, 0, 2, 1, 3, 0, 2, 0, 0, 0, 0, 0],
         starts: &[0, 2, 4, 6],
         lengths: &[2, 2, 2, 2],
@@ -40,7 +47,7 @@ static MATRICES: [Case<'static>; 2] = [
         n: 5,
         a_p: &[0, 2, 6, 10, 12, 14],
         a_i: &[0, 1, 0, 1, 2, 4, 1, 2, 3, 4, 2, 3, 1, 4],
-        room: 17,
+        more: 2,
         words: &[1, 0, 2, 4, 1, 3, 4, 2, 1, 2, 0, 0, 0, 0, 0, 0, 0],
         starts: &[0, 1, 4, 7, 8],
         lengths: &[1, 3, 3, 1, 2],
@@ -48,7 +55,7 @@ static MATRICES: [Case<'static>; 2] = [
 ];
 
 /// Whether words are these numbers.
-fn are_words<S: Signed>(words: &[Word<S>], wanted: &[isize]) -> bool {
+pub fn are_words<S: Signed>(words: &[Word<S>], wanted: &[isize]) -> bool {
     for (k, &number) in wanted.iter().enumerate() {
         if k >= words.len() || word_at(words, k) != number {
             return false;
@@ -75,38 +82,79 @@ fn is_laid<S: Signed, U: Unsigned>(case: &Case, laid: &Laid<S, U, Global>, sum: 
         && laid.free == sum
 }
 
-/// Lays the lists of a sorted matrix in words of these widths, and answers the sum of the degrees too.
+/// Lays the lists of a sorted matrix in words of these widths, where `more` of them are to spare, and answers the sum of the degrees
+/// too. The record tells the pattern.
 fn laid_of<S: Signed, U: Unsigned>(
     rt: &impl Abort,
     alloc: Global,
     n: i64,
     a_p: &[i64],
     a_i: &[i64],
-    room: usize,
-) -> (Laid<S, U, Global>, usize) {
+    more: usize,
+    info: &mut Info,
+) -> (Laid<S, U, Global>, usize)
+    ensures size { (n ≡ pos (length result.0.len.items)) × (0 < length result.0.len.items) }
+    ensures laid { IsLaidOut (length result.0.len.items) result.0.iw.items result.0.pe.items result.0.len.items result.0.free }
+    ensures graph { (g : Graph) × (lists : ℕ → List ℕ) × LaysGraph g lists result.0.iw.items result.0.pe.items result.0.len.items }
+    ensures room { result.0.free + length result.0.len.items ≤ length result.0.iw.items }
+    ensures words { (length result.0.iw.items ≤ S.MOST) × (length result.0.len.items + 2 ≤ S.MOST) }
+    ensures figures { (length result.0.iw.items ≤ U.MOST) × (length result.0.len.items + 2 ≤ U.MOST) }
+{
     assert!(rt; n > 0);
     let Status::OK = valid(n, n, a_p, a_i) else {
         panic!(rt; "not sorted");
     };
-    let mut info = Info::new(0);
-    let Ok((sum, degrees)) = aat(alloc, n, a_p, a_i, &mut info) else {
+    let Ok((sum, degrees)) = aat(alloc, n, a_p, a_i, info) else {
         panic!(rt; "no degrees");
     };
     let size = degrees.len();
-    assert!(rt; sum < 100);
-    assert!(rt; size < 100);
-    assert!(rt; sum + size <= room);
+    assert!(rt; sum < 1000);
+    assert!(rt; size < 1000);
+    assert!(rt; more < 1000);
+    let room = sum + size + more;
     assert!(rt; room <= S::MOST);
     assert!(rt; room <= U::MOST);
+    assert!(rt; size + 2 <= S::MOST);
+    assert!(rt; size + 2 <= U::MOST);
     let Ok(laid) = lay(alloc, size, a_p, a_i, &degrees, room) else {
         panic!(rt; "not laid");
     };
     (laid, sum)
 }
 
+/// Orders by `amd_2` over lists that are laid in words of these widths, with no word to spare.
+pub fn order_laid<S: Signed, U: Unsigned>(
+    rt: &impl Abort,
+    alloc: Global,
+    matrix: &Sorted,
+    control: &Control,
+    info: &mut Info,
+) -> (Vec<Word<S>>, Vec<i64>, Vec<i64>, Vec<Word<S>>) {
+    let (n, a_p, a_i) = (matrix.n, matrix.a_p, matrix.a_i);
+    let (mut laid, _) = laid_of::<S, U>(rt, alloc, n, a_p, a_i, 0, info);
+    check_marks(rt, matrix.hold, laid.len.len());
+    let room = laid.iw.len();
+    let Ok(answer) = amd_2(
+        alloc,
+        n,
+        &mut laid.pe,
+        &mut laid.iw,
+        &mut laid.len,
+        room,
+        laid.free,
+        control,
+        matrix.hold,
+        info,
+    ) else {
+        panic!(rt; "no answer over laid lists");
+    };
+    answer
+}
+
 /// Asserts that the lists of a matrix, in words of these widths, are those of the case.
 fn check<S: Signed, U: Unsigned>(rt: &impl Abort, alloc: Global, case: &Case) {
-    let (laid, sum) = laid_of::<S, U>(rt, alloc, case.n, case.a_p, case.a_i, case.room);
+    let mut info = Info::new(0);
+    let (laid, sum) = laid_of::<S, U>(rt, alloc, case.n, case.a_p, case.a_i, case.more, &mut info);
     assert!(rt; is_laid(case, &laid, sum), "{}", case.what);
 }
 

@@ -1,6 +1,7 @@
 //! Tests of the parts that an ordering and a factor stand on: the shares of fronts, the lists of neighbours, the postorder of forests,
-//! the plain engine with refused memory, the engine in place beside the plain one, on worked matrices and with refused memory, the
-//! workspace as it is laid, the lists of earlier neighbours, the readers of cases, and the helpers of tests themselves.
+//! the plain engine with refused memory, the engine in place beside the plain one, on worked matrices and with refused memory, both
+//! engines beside `order` over families of graphs, the workspace as it is laid, the lists of earlier neighbours, the readers of cases,
+//! and the helpers of tests themselves.
 //! The answers come from outside: worked by hand, or from the Rust crate `amd`.
 #![tactic(auto)]
 
@@ -12,6 +13,8 @@ mod cases;
 mod earlier;
 #[cfg(test)]
 mod engine;
+#[cfg(test)]
+mod families;
 #[cfg(test)]
 mod fronts;
 #[cfg(test)]

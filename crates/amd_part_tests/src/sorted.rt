@@ -1,10 +1,11 @@
-// The two engines over a sorted matrix, whose degrees are counted here: the engine in place with the words that the
-// degrees ask for and some more, and the plain one. Called by the tests of the engine in place.
+// The two engines over a sorted matrix, whose degrees are counted here, and whose pattern the record tells too: the
+// engine in place with the words that the degrees ask for, and some more, and the plain one. Called by the tests of the
+// engine in place.
 
 ghost use Rattle.std.specs.Option.{option_copied};
 ghost use Rattle.amd_model.specs.Input.Held.{HasMarks};
 
-use amd_engine::amd_1::amd_1_from;
+use amd_engine::amd_1::{amd_1, amd_1_from};
 use amd_engine::plain::plain_1;
 use amd_input::aat::aat;
 use amd_input::valid::valid;
@@ -32,7 +33,7 @@ pub fn unmarked<'a>(n: i64, a_p: &'a [i64], a_i: &'a [i64]) -> Sorted<'a> {
 }
 
 /// Asserts that there is a mark for each of so many rows, where there are marks.
-fn check_marks(rt: &impl Abort, hold: Option<&[bool]>, size: usize)
+pub fn check_marks(rt: &impl Abort, hold: Option<&[bool]>, size: usize)
     ensures { HasMarks (option_copied hold.entry) size }
 {
     if let Some(marks) = hold {
@@ -53,13 +54,49 @@ pub fn order_plainly(
     let Status::OK = valid(n, n, a_p, a_i) else {
         panic!(rt; "not sorted");
     };
-    let mut pattern = Info::new(0);
-    let Ok((_, degrees)) = aat(alloc, n, a_p, a_i, &mut pattern) else {
+    let Ok((_, degrees)) = aat(alloc, n, a_p, a_i, info) else {
         panic!(rt; "no degrees");
     };
     check_marks(rt, matrix.hold, degrees.len());
     let Ok(answer) = plain_1(alloc, n, a_p, a_i, &degrees, control, matrix.hold, info) else {
         panic!(rt; "no plain answer");
+    };
+    answer
+}
+
+/// Orders by `amd_1`, with no word to spare.
+pub fn order_exactly(
+    rt: &impl Abort,
+    alloc: Global,
+    matrix: &Sorted,
+    control: &Control,
+    info: &mut Info,
+) -> (Vec<i64>, Vec<i64>) {
+    let (n, a_p, a_i) = (matrix.n, matrix.a_p, matrix.a_i);
+    assert!(rt; n > 0);
+    let Status::OK = valid(n, n, a_p, a_i) else {
+        panic!(rt; "not sorted");
+    };
+    let Ok((sum, mut degrees)) = aat(alloc, n, a_p, a_i, info) else {
+        panic!(rt; "no degrees");
+    };
+    let size = degrees.len();
+    check_marks(rt, matrix.hold, size);
+    assert!(rt; sum < 1 << 60);
+    assert!(rt; size < 1 << 60);
+    let room = sum + size;
+    let Ok(answer) = amd_1(
+        alloc,
+        n,
+        a_p,
+        a_i,
+        &mut degrees,
+        room,
+        control,
+        matrix.hold,
+        info,
+    ) else {
+        panic!(rt; "no answer in place");
     };
     answer
 }
@@ -81,8 +118,7 @@ pub fn order_in_place<A: Allocator + Copy>(
     let Status::OK = valid(n, n, a_p, a_i) else {
         panic!(rt; "not sorted");
     };
-    let mut pattern = Info::new(0);
-    let Ok((sum, mut degrees)) = aat(alloc, n, a_p, a_i, &mut pattern) else {
+    let Ok((sum, mut degrees)) = aat(alloc, n, a_p, a_i, info) else {
         panic!(rt; "no degrees");
     };
     let size = degrees.len();
@@ -124,4 +160,10 @@ pub fn first_flags(rt: &impl Abort, size: usize) -> [usize; 9] {
         wide - 1,
         wide,
     ]
+}
+
+/// The last of these first flags in each width: the first rise of the flag passes the reset.
+pub fn last_flags(rt: &impl Abort, size: usize) -> [usize; 2] {
+    let flags = first_flags(rt, size);
+    [flags[4], flags[8]]
 }

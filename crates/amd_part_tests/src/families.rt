@@ -1,0 +1,191 @@
+// Families of graphs of several sizes and matrices drawn from seeds, each with every choice of a caller, through three
+// calls: `order`, `amd_1` with no word to spare, and the plain engine; and through the engine in place from the last first
+// flag before a reset of the counters, in each width. There is one answer. In the crate `amd_tests` the answers of `order` over the same
+// families are compared with what the factor needs.
+
+use crate::in_place::check_flags;
+use crate::sorted::{Sorted, last_flags, order_exactly, order_plainly, unmarked};
+use amd::{Control, Info, Status, order};
+use amd_input::preprocess::preprocess;
+use amd_input::valid::valid;
+use amd_testing::inputs::{complete_below, cycle, drawn, grid, path, star, star_to_last};
+use amd_testing::records::numbers_of;
+use std::alloc::Global;
+use std::process::Abort;
+use std::test::Fail;
+
+/// An order of rows, its inverse, and the record.
+#[derive(Drop)]
+struct Answer {
+    p: Vec<i64>,
+    p_inv: Vec<i64>,
+    info: Info,
+}
+
+/// The answer of `order`.
+fn ordered(
+    rt: &impl Abort,
+    alloc: Global,
+    n: i64,
+    a_p: &[i64],
+    a_i: &[i64],
+    control: &Control,
+) -> Answer {
+    let Ok((p, p_inv, info)) = order(alloc, n, a_p, a_i, control) else {
+        panic!(rt; "no answer");
+    };
+    Answer { p, p_inv, info }
+}
+
+/// The answer of the plain engine.
+fn ordered_plainly(rt: &impl Abort, alloc: Global, matrix: &Sorted, control: &Control) -> Answer {
+    let mut info = Info::new(0);
+    let (p, p_inv) = order_plainly(rt, alloc, matrix, control, &mut info);
+    Answer { p, p_inv, info }
+}
+
+/// The answer of `amd_1` with no word to spare.
+fn ordered_exactly(rt: &impl Abort, alloc: Global, matrix: &Sorted, control: &Control) -> Answer {
+    let mut info = Info::new(0);
+    let (p, p_inv) = order_exactly(rt, alloc, matrix, control, &mut info);
+    Answer { p, p_inv, info }
+}
+
+/// Asserts that lists were packed once for a row at most, and forgets how often.
+fn take_packings(rt: &impl Abort, answer: &mut Answer) -> usize {
+    let packings = answer.info.n_cmp_a;
+    assert!(rt; packings <= answer.p.len());
+    answer.info.n_cmp_a = 0;
+    packings
+}
+
+/// Whether two answers are the same. The status is not compared: a sorted form may be that of a jumbled matrix.
+fn are_same(one: &Answer, other: &Answer) -> bool {
+    one.p.as_slice() == other.p.as_slice()
+        && one.p_inv.as_slice() == other.p_inv.as_slice()
+        && one.info.symmetry == other.info.symmetry
+        && numbers_of(&one.info) == numbers_of(&other.info)
+}
+
+/// Asserts that there is one answer for a matrix, of which a sorted form is given too, with one choice of a caller.
+/// Answers how often lists were packed with no word to spare.
+fn compare_choice(
+    rt: &impl Abort,
+    alloc: Global,
+    a_p: &[i64],
+    a_i: &[i64],
+    matrix: &Sorted,
+    control: &Control,
+) -> usize {
+    let mut answer = ordered(rt, alloc, matrix.n, a_p, a_i, control);
+    let mut exact = ordered_exactly(rt, alloc, matrix, control);
+    let plain = ordered_plainly(rt, alloc, matrix, control);
+    take_packings(rt, &mut answer);
+    let packings = take_packings(rt, &mut exact);
+    assert!(rt; are_same(&answer, &exact), "{control:?} {a_p:?} {a_i:?}");
+    assert!(rt; are_same(&answer, &plain), "{control:?} {a_p:?} {a_i:?}");
+    let wanted = (answer.p.as_slice(), answer.p_inv.as_slice());
+    check_flags(
+        rt,
+        alloc,
+        &last_flags(rt, answer.p.len()),
+        0,
+        matrix,
+        control,
+        wanted,
+        numbers_of(&answer.info),
+    );
+    packings
+}
+
+/// Asserts that there is one answer with each choice of a caller, and answers how often lists were packed at least.
+fn compare_choices(
+    rt: &impl Abort,
+    alloc: Global,
+    a_p: &[i64],
+    a_i: &[i64],
+    matrix: &Sorted,
+) -> usize {
+    let mut least = usize::MAX;
+    for dense in [10000, 0, -1] {
+        for aggressive in [false, true] {
+            let control = Control { dense, aggressive };
+            least = least.min(compare_choice(rt, alloc, a_p, a_i, matrix, &control));
+        }
+    }
+    least
+}
+
+/// Asserts that there is one answer for a matrix, by the sorted form that `order` takes. Answers how often lists were
+/// packed at least.
+fn compare(rt: &impl Abort, alloc: Global, n: i64, (a_p, a_i): (Vec<i64>, Vec<i64>)) -> usize {
+    assert!(rt; n > 0);
+    match valid(n, n, &a_p, &a_i) {
+        Status::OK => compare_choices(rt, alloc, &a_p, &a_i, &unmarked(n, &a_p, &a_i)),
+        Status::OkButJumbled => {
+            let Ok((c_p, c_i)) = preprocess(alloc, n, &a_p, &a_i) else {
+                panic!(rt; "no transpose");
+            };
+            compare_choices(rt, alloc, &a_p, &a_i, &unmarked(n, &c_p, &c_i))
+        }
+        _ => panic!(rt; "no column form"),
+    }
+}
+
+#[test]
+fn paths(rt: HostRuntime) -> Result<(), Fail> {
+    let heap = rt.alloc();
+    for n in 1..=30 {
+        compare(&rt, heap, n, path(heap, n)?);
+    }
+    Ok(())
+}
+
+/// The elements of a cycle of nine rows or more do not fit where there is no word to spare.
+#[test]
+fn cycles(rt: HostRuntime) -> Result<(), Fail> {
+    let heap = rt.alloc();
+    for n in 3..=40 {
+        let packings = compare(&rt, heap, n, cycle(heap, n)?);
+        assert!(rt; n < 9 || packings >= 1, "{n} rows");
+    }
+    Ok(())
+}
+
+#[test]
+fn stars(rt: HostRuntime) -> Result<(), Fail> {
+    let heap = rt.alloc();
+    for n in 2..=20 {
+        compare(&rt, heap, n, star(heap, n)?);
+        compare(&rt, heap, n, star_to_last(heap, n)?);
+    }
+    Ok(())
+}
+
+#[test]
+fn complete_graphs(rt: HostRuntime) -> Result<(), Fail> {
+    let heap = rt.alloc();
+    for n in 1..=20 {
+        compare(&rt, heap, n, complete_below(heap, n)?);
+    }
+    Ok(())
+}
+
+#[test]
+fn grids(rt: HostRuntime) -> Result<(), Fail> {
+    let heap = rt.alloc();
+    for side in 1..=12i64 {
+        compare(&rt, heap, side.saturating_mul(side), grid(heap, side)?);
+    }
+    Ok(())
+}
+
+#[test]
+fn drawn_matrices(rt: HostRuntime) -> Result<(), Fail> {
+    let heap = rt.alloc();
+    for seed in 1..=64 {
+        let (n, a_p, a_i) = drawn(heap, seed)?;
+        compare(&rt, heap, n, (a_p, a_i));
+    }
+    Ok(())
+}
