@@ -82,8 +82,8 @@ fn is_laid<S: Signed, U: Unsigned>(case: &Case, laid: &Laid<S, U, Global>, sum: 
         && laid.free == sum
 }
 
-/// Lays the lists of a sorted matrix in words of these widths, where `more` of them are to spare, and answers the sum of the degrees
-/// too. The record tells the pattern.
+/// Lays the lists of a sorted matrix in words of these widths, where `more` of them are to spare, and answers the sum
+/// of the degrees too. The record tells the pattern.
 fn laid_of<S: Signed, U: Unsigned>(
     rt: &impl Abort,
     alloc: Global,
