@@ -17,3 +17,8 @@ module _ (n : ℕ) (ap' ai : List ℤ) (total : ℕ) (degrees : List ℕ) (h : A
   -- with a word more for each row, and others to spare
   pub degrees_room : (size more k : ℕ) → k ≡ n → size ≡ n → start_of (graph_of k ap' ai) k + k ≤ total + size + more
   degrees_room size more k k_is size_is = rw k_is (let fill = degrees_fill in omega (arith, fill, size_is))
+
+  -- for a list and a size that are these
+  pub degrees_lent : (size : ℕ) (lent : List ℕ) → size ≡ n → lent ≡ degrees →
+      AreCounts (graph_of size ap' ai) ((graph_of size ap' ai).edge) lent
+  degrees_lent size lent size_is lent_is = rw (size_is, lent_is) degrees_count
