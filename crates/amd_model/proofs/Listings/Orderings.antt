@@ -37,13 +37,6 @@ follows_steps g aggressive t u s _ none = tt
 follows_steps g aggressive t u s _ (more {new = new} {rest = rest} some step fits later) =
     ((pivot t.bound t.placed, step), follows_steps g aggressive (next aggressive t) u new rest later)
 
--- the lists at the end stand for the last state
-pub follows_fits : (g : Graph) (aggressive : Bool) (t u : QuotientGraph) (s : State) (states : List State) → Fits g t s →
-    Follows g aggressive t s states u → Fits g u (last_state s states)
-follows_fits g aggressive t u s _ fits none = fits
-follows_fits g aggressive t u s _ fits (more {new = new} {rest = rest} some step fits' later) =
-    follows_fits g aggressive (next aggressive t) u new rest fits' later
-
 -- one more state
 pub follows_more : (g : Graph) (aggressive : Bool) (t u : QuotientGraph) (s : State) (states : List State) (new : State) →
     Follows g aggressive t s states u → is_empty u.placed ≡ false →

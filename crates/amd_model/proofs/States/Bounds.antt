@@ -87,9 +87,6 @@ module _ (g : Graph) (laws : IsGraph g) (aggressive : Bool) (c : ℕ) (old new :
   abbrev far : ℕ → ℕ → Bool
   far i v = front g new i v && not (front g old c v)
 
-  byE : ℕ → ℕ → ℕ → Bool
-  byE i e v = old.border e v && not (front g old c v)
-
   module _ (i : ℕ) (hi : new.home i ≡ Live i) (oi : old.home i ≡ Live i) (on : border_of g aggressive old c i ≡ true) where
     pub near_count : count_below g.size (λ v. border_of g aggressive old c v && not (in_class new i v)) ≡ count_below g.size
         (border_of g aggressive old c) - count_below g.size (in_class new i)
