@@ -47,9 +47,6 @@ stretch_same rows s e v j (inr x) = elim (cases_lt v s) [
 
 module _ (g : Graph) (seen : ℕ → ℕ → Bool) (arcs : List (ℕ × ℕ)) (i j : ℕ) (new : IsNew g seen i j) (next rows : List ℕ)
     (h : AreLists g seen arcs next rows) where
-  place : ℕ
-  place = get_or next i 0
-
   -- each list ends before the next one starts
   ends_before : (a : ℕ) → a < g.size → get_or next a 0 ≤ start_of g a + count_below g.size (g.edge a)
   ends_before a x = (let e = h.ends a x in let m = count_mono g.size (seen a) (g.edge a) (λ k l y. new.within a k y) in omega (arith, e, m))
