@@ -61,21 +61,6 @@ module _ (o : Order) (laws : IsGraph o.graph) (j : ℕ) (n : j < length o.rows) 
     others = c.others;
   }
 
-  -- a climb ends at a column that was met
-  pub settle : {k : ℕ} {parent : List (Option ℕ)} {mark : List ℕ} → Meets o j k parent mark → IsMet mark j k → Meets o j j parent mark
-  settle {mark = mark} c here = record {
-    parent_room = c.parent_room;
-    mark_room = c.mark_room;
-    top = c.top;
-    most = c.most;
-    within = omega arith;
-    pending = λ ne. absurd (ne refl);
-    sound = c.sound;
-    known = λ m lm e. (let r = c.known m lm e in
-        (r.0, r.1, r.2, elim r.3 [ inl t ↦ inl t | inr t ↦ inl (subst (λ y. slice_index mark y ≡ j + 1) (sym t) here) ]));
-    others = c.others;
-  }
-
   module _ {k : ℕ} {parent : List (Option ℕ)} {mark : List ℕ} (c : Meets o j k parent mark) (new : slice_index mark k ≢ j + 1) where
     not_top : k ≢ j
     not_top q = new (subst (λ x. slice_index mark x ≡ j + 1) (sym q) c.top)
@@ -171,9 +156,6 @@ module _ (o : Order) (laws : IsGraph o.graph) (j : ℕ) (n : j < length o.rows) 
         let s = entry_in_subtree o.graph o.rows laws k j e in
         let at = place_of earlier s.0 (contains_has earlier s.0 ((are s.0).1 (s.1, s.2))) in
         met_over s.3 e.0 (subst (λ x. slice_index mark x ≡ j + 1) (at.2 0) (done at.0 at.1))
-
-    pub marks : MarksBefore o (j + 1) mark
-    marks = record { room = c.mark_room; each = c.most }
 
     tells : (k : ℕ) → (v : Option ℕ) → k < length o.rows → (k < j → slice_index mark k ≡ j + 1 → ⊥) → TellsParent o j k v →
         TellsParent o (j + 1) k v
