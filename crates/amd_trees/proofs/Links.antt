@@ -128,10 +128,6 @@ pub names_none : (z : ℤ) → None ≡ named z → (p : ℕ) → z ≡ pos p �
 names_none (pos q) e p s = absurd (cc)
 names_none (negsuc q) e p s = absurd (cc)
 
--- the root is a node, and so the tree has one
-pub root_listed : {child sibling : List ℤ} {root : ℕ} {listing : List ℕ} → ListsTree child sibling root listing → has listing root ≡ true
-root_listed {root = root} t = subst (λ m. has m root ≡ true) (sym t.is) (has_right root t.below (root ∷ []) (has_head root root [] refl))
-
 pub tree_size : {child sibling : List ℤ} {root : ℕ} {listing : List ℕ} → ListsTree child sibling root listing → 0 < length listing
 tree_size {root = root} t = let e = ap length t.is ∙ length-append t.below (root ∷ []) in omega (arith, e)
 
