@@ -1,5 +1,5 @@
 -- The classes of a new element that are left, and those that represent others, are those of the elimination kept in lists.
-use Rattle.std.proofs.Common.{ℕ, Bool, true, ◌≡◌, ◌&&◌, ◌||◌, not, inl, refl, sym, ◌∙◌, ap, subst, List}
+use Rattle.std.proofs.Common.{ℕ, Bool, true, ◌≡◌, ◌&&◌, ◌||◌, not, inl, refl, sym, ◌∙◌, ap, List}
 use Rattle.std.specs.Prelude.{◌==◌, filter}
 use Rattle.amd_model.specs.Graph.{Graph, IsGraph}
 use Rattle.amd_model.specs.State.{State}
@@ -88,10 +88,3 @@ module _ (g : Graph) (laws : IsGraph g) (s : State) (sound : IsSound g s) (t : Q
         (λ x. last_that (alike_in elements variables x) x (rest aggressive t c (gathered t c))) (sym e)
         ∙ rep_rep (alike_in elements variables) (alike_self elements variables) (alike_flip elements variables)
         (alike_through elements variables) (rest aggressive t c (gathered t c)) i h ∙ e
-
-    -- these lists name each number once
-    pub lists_once : (i : ℕ) → has (rest aggressive t c (gathered t c)) i ≡ true → Once (elements i) × Once (variables i)
-    lists_once i h = let f = rest_in_front i h in (
-      subst Once (sym (es i f)) (elements_once i f),
-      subst Once (sym (vs i f)) (variables_once i f),
-    )
