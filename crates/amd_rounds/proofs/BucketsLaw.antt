@@ -43,15 +43,6 @@ has_lasts (y ∷ ys) x = elim (cases_Bool (has ys y)) [
   | inr h ↦ ap (λ l. has l x) (lasts_new y ys h) ∙ ap (λ b. (y == x) || b) (has_lasts ys x)
 ]
 
--- no number stands twice
-pub once_lasts : (xs : List ℕ) → Once (lasts xs)
-unfolding lasts
-once_lasts [] = tt
-once_lasts (y ∷ ys) = elim (cases_Bool (has ys y)) [
-  | inl h ↦ subst Once (sym (lasts_old y ys h)) (once_lasts ys)
-  | inr h ↦ subst Once (sym (lasts_new y ys h)) (has_lasts ys y ∙ h, once_lasts ys)
-]
-
 -- a list without repeats stays
 pub lasts_once : (xs : List ℕ) → Once xs → lasts xs ≡ xs
 unfolding lasts

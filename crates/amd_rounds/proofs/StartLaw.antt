@@ -34,9 +34,6 @@ module _ {A : Type 0} (rows : List (Vec ℕ A)) (degrees : List ℕ) (last : ℕ
   abbrev classes : List ℕ
   classes = list_below g.size is_class_row
 
-  within : (i : ℕ) → i < g.size → i < length degrees
-  within i l = omega (arith, l, size_is)
-
   abbrev one_if : Bool → ℕ
   one_if b = cond b 1 0
 
