@@ -54,9 +54,6 @@ module _ (aggressive : Bool) (flag x all seen more : ℕ) (two : 2 ≤ flag) (un
   pub settled_not : settled aggressive flag (counter flag x all seen) ≡ counter flag x all seen
   settled_not = cond-false (ends aggressive flag (counter flag x all seen)) 0 (counter flag x all seen) ends_not
 
-  pub settled_more : touched flag all more (settled aggressive flag (counter flag x all seen)) ≡ counter flag x all (seen + more)
-  settled_more = ap (touched flag all more) settled_not ∙ counter_more flag x all seen more two under part some
-
 -- a counter that no class touched is below the flag
 pub ends_none : (aggressive : Bool) (flag x all : ℕ) → 2 ≤ flag → x < flag → ends aggressive flag (counter flag x all 0) ≡ false
 ends_none aggressive flag x all two under = and_right aggressive (counter flag x all 0 == flag) (ne_eqb (counter flag x all 0) flag

@@ -105,9 +105,6 @@ module _ {n : ℕ} {iw pe e_len : List ℤ} {len : List ℕ} {free : ℕ} (y : L
   dropped = relaid 0 y (omega arith) (λ j h. let s = ap place (kept_start j h) in
       inr (kept_list j h, (omega (arith, s)), (omega (arith, s)))) (λ j h. y.parts j (kept_list j h)) y.words
 
-  pub dropped_fewer : live_words n pe' len ≤ live_words n pe len
-  dropped_fewer = live_part n pe pe' len len (λ j h. (kept_list j h, (omega arith)))
-
 pub lowered : {n : ℕ} {iw pe e_len : List ℤ} {len : List ℕ} {free : ℕ} (free' : ℕ) → Layout n iw pe e_len len free → free' ≤ free →
     ((j : ℕ) → has_list pe len j ≡ true → end_of pe len j ≤ free') → Layout n iw pe e_len len free'
 lowered free' y l ends = record { within = ends; apart = y.apart; parts = y.parts; words = λ k m. y.words k (omega (arith, m, l)) }

@@ -21,7 +21,6 @@ pub mod MarkedLists
 pub mod Moves
 pub mod Settling
 pub mod OwnPlace
-pub mod Shortening
 pub mod Touching
 pub mod BucketWalk
 pub mod WordMarks

@@ -21,10 +21,6 @@ pub once_left : (xs ys : List ℕ) → Once (xs ++ ys) → Once xs
 once_left [] ys o = tt
 once_left (x ∷ xs) ys o = ((or_parts (has xs x) (has ys x) (sym (has_append xs ys x) ∙ o.0)).0, once_left xs ys o.1)
 
-pub once_right : (xs ys : List ℕ) → Once (xs ++ ys) → Once ys
-once_right [] ys o = o
-once_right (x ∷ xs) ys o = once_right xs ys o.1
-
 -- the sum of a list without repeats is that of its set
 pub same_key : (n : ℕ) (xs ys : List ℕ) → Once xs → Once ys → each (has xs) ys ≡ true → each (has ys) xs ≡ true → key_of n xs ≡ key_of n ys
 same_key n xs ys o p h k = ap (λ m. (m % 2 ^ 64) % n) (same_sum (λ j. j) xs ys o p h k)

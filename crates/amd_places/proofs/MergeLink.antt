@@ -3,15 +3,13 @@
 use Rattle.std.specs.Cmp.{both_ways}
 use Rattle.std.proofs.Common.{ℕ, ℤ, pos, Bool, true, List, [], ◌∷◌, ◌++◌, ◌≡◌, ◌<◌, ◌≤◌, ◌+◌, ◌-◌, ◌%◌, ◌^◌, ◌&&◌, inl, refl, sym}
 use Rattle.std.proofs.Common.{subst, ap, ◌∙◌, arith, length}
-use Rattle.std.specs.Prelude.{◌==◌, filter, sum_by}
+use Rattle.std.specs.Prelude.{sum_by}
 use Rattle.std.proofs.lemmas.List.Sums.{sum_by-append, sum_by-cons}
-use Rattle.amd_model.specs.Quotient.{QuotientGraph, has, each, Once, turned, last_that, kept_elements, kept_variables, alike, rest}
-use Rattle.amd_model.specs.Quotient.{represents, made}
+use Rattle.amd_model.specs.Quotient.{QuotientGraph, has, each, Once, turned, last_that, kept_elements, kept_variables, rest}
 use Rattle.amd_model.proofs.Quotient.Lists.{has_turned, each_gives, each_from, once_append, once_turned, last_same'}
 use Rattle.amd_places.specs.Words.{num, word, place, is_place, rows, Names}
-use Rattle.amd_views.proofs.Lists.Named.{filter_named}
 use Rattle.amd_views.specs.Rounds.{alike_in}
-use Rattle.amd_places.specs.Merging.{kept_of, near_of, words_of, IsRenewed, represents_in, key_of}
+use Rattle.amd_places.specs.Merging.{kept_of, near_of, words_of, IsRenewed, key_of}
 use Rattle.amd_places.proofs.RowLists.{rows_length, rows_none, rows_more, rows_both}
 
 same_tail : (x y : ℕ) (xs ys : List ℕ) → x ∷ xs ≡ y ∷ ys → xs ≡ ys
@@ -44,11 +42,6 @@ module _ (me : ℕ) (ks vs : List ℕ) (iw : List ℤ) (from few all : ℕ) (ord
     unfolding place
     kept_is = ap (λ z. rows iw (place z + 1) (place (word e_len i) - 1)) starts ∙ ap (λ z. rows iw (from + 1) (place z - 1)) counts
         ∙ kept_words
-
-    pub near_is : near_of iw pe e_len len i ≡ turned vs
-    unfolding place
-    near_is = ap (λ z. rows iw (place z + place (word e_len i)) (num len i - place (word e_len i))) starts
-        ∙ ap (λ z. rows iw (from + place z) (num len i - place z)) counts ∙ ap (λ m. rows iw (from + few) (m - few)) lens ∙ variables
 
     pub words_is : words_of iw pe len i ≡ turned ks ++ turned vs
     unfolding place
@@ -104,11 +97,6 @@ module _ (es vs es' vs' : ℕ → List ℕ) (front : List ℕ) (same_es : (i : �
   pub last_same : (i : ℕ) → has front i ≡ true → last_that (alike_in es vs i) i front ≡ last_that (alike_in es' vs' i) i front
   last_same i h = last_same' (alike_in es vs i) (alike_in es' vs' i) i i front (λ x m. alike_same i x h m) (inl refl)
 
-  pub firsts_same : filter (λ i. last_that (alike_in es vs i) i front == i) front
-      ≡ filter (λ i. last_that (alike_in es' vs' i) i front == i) front
-  firsts_same = filter_named (λ i. last_that (alike_in es vs i) i front == i) (λ i.
-      last_that (alike_in es' vs' i) i front == i) front (λ i h. ap (λ r. r == i) (last_same i h))
-
 -- ---- the rules
 
 module _ (aggressive : Bool) (t : QuotientGraph) (c : ℕ) (front : List ℕ) (iw pe e_len : List ℤ) (len : List ℕ)
@@ -122,15 +110,3 @@ module _ (aggressive : Bool) (t : QuotientGraph) (c : ℕ) (front : List ℕ) (i
   same_vs : (i : ℕ) → has (rest aggressive t c front) i ≡ true → (x : ℕ) →
       has (near_of iw pe e_len len i) x ≡ has (kept_variables aggressive t c front i) x
   same_vs i h x = ap (λ l. has l x) (variables i h) ∙ has_turned (kept_variables aggressive t c front i) x
-
-  pub represents_is : (i : ℕ) → has (rest aggressive t c front) i ≡ true →
-      represents_in iw pe e_len len (rest aggressive t c front) i ≡ represents aggressive t c front i
-  unfolding represents alike
-  represents_is i h = last_same (kept_of iw pe e_len) (near_of iw pe e_len len) (kept_elements aggressive t c front)
-      (kept_variables aggressive t c front) (rest aggressive t c front) same_es same_vs i h
-
-  pub made_are : filter (λ i. represents_in iw pe e_len len (rest aggressive t c front) i == i) (rest aggressive t c front)
-      ≡ made aggressive t c front
-  unfolding made represents alike
-  made_are = firsts_same (kept_of iw pe e_len) (near_of iw pe e_len len) (kept_elements aggressive t c front)
-      (kept_variables aggressive t c front) (rest aggressive t c front) same_es same_vs

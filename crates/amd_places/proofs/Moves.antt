@@ -315,9 +315,6 @@ not_empty y l f h e = let a = word_owner y l f h in flip_some a.0 (sym a.3 ∙ e
 
 -- ---- the layout after it
 
-pub spaced : {n : ℕ} {iw pe e_len : List ℤ} {len : List ℕ} {free : ℕ} → Layout n iw pe e_len len free → Spaced iw pe len free
-spaced y = record { within = y.within; apart = y.apart; plain = λ p l. (y.words p l).0 }
-
 pub packs : {iw pe e_len : List ℤ} {len : List ℕ} {free : ℕ} {iw' pe' : List ℤ} {free' : ℕ} → Layout (length len) iw pe e_len len free →
     Compacts iw pe len free iw' pe' free' → Packs (length len) iw pe e_len len free iw' pe' free'
 packs {iw} {pe} {e_len} {len} {free} {iw'} {pe'} {free'} y c = record {

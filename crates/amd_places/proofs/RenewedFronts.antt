@@ -1,16 +1,14 @@
 -- The classes of a front are renewed one after another, each in the place of its list: all other lists read as before.
 use Rattle.amd_model.proofs.Counting.Below.{clash}
 use Rattle.std.proofs.Common.{ℕ, ℤ, Bool, true, false, List, [], ◌∷◌, ◌++◌, ◌≡◌, ◌<◌, ◌≤◌, ◌+◌, ◌-◌, ◌||◌, ◌⊎◌, inl, inr, refl, sym, subst}
-use Rattle.std.proofs.Common.{ap, ◌∙◌, arith, cond, length, filter, sum_by, pos, set, length-set, get_or-set_same, get_or-set_other}
+use Rattle.std.proofs.Common.{ap, ◌∙◌, arith, length, filter, pos, set, length-set, get_or-set_same, get_or-set_other}
 use Rattle.std.specs.Prelude.{◌==◌}
-use Rattle.std.proofs.lemmas.Bool.{true≢false, cases_Bool, cases_eq, eq-eqb, eqb-true, or_left, or_cases, or_parts, false_from_ne_true}
-use Rattle.std.proofs.lemmas.Bool.{cond-true, cond-false}
-use Rattle.amd_model.specs.Figures.{cut}
+use Rattle.std.proofs.lemmas.Bool.{true≢false, eq-eqb, eqb-true, or_left, or_cases, or_parts, false_from_ne_true}
 use Rattle.amd_model.specs.Quotient.{has, turned, Once}
 use Rattle.amd_model.proofs.Quotient.Lists.{has_append}
 use Rattle.amd_places.specs.Words.{num, is_place, place, word, start, rows}
 use Rattle.amd_places.specs.Renewal.{Renews}
-use Rattle.amd_places.specs.Layout.{has_list, elements_in, variables_in, list_in, Layout, ReadsSame, IsPlaced, LosesOne, reached}
+use Rattle.amd_places.specs.Layout.{has_list, elements_in, variables_in, list_in, Layout, ReadsSame, IsPlaced}
 use Rattle.amd_places.specs.Layout.{IsRenewable, RenewsOne, RenewsAll}
 use Rattle.amd_places.proofs.RowLists.{rows_more, rows_has, rows_part}
 use Rattle.amd_places.proofs.Counting.{fresh_word}
@@ -76,16 +74,6 @@ module _ (n me : ℕ) (kept outside : ℕ → Bool) (iw pe e_len : List ℤ) (le
       within = (let l = h.long in omega (arith, w, l, fit));
       names = λ k l. h.laid.words (start pe i + k) (omega (arith, w, l));
     }
-
-    pub all_loses : LosesOne kept outside iw1 pe e_len1 len1 i
-    all_loses = let a = ap (λ xs. length (filter kept xs)) still_elements in let b =
-        ap (λ xs. length (filter outside xs)) still_variables in let d = still.1 in let r = mine.2 in omega (arith, a, b, d, r)
-
-    pub all_reached : (far share : ℕ → ℕ) → reached far share kept outside iw1 pe e_len1 len1 i
-        ≡ reached far share kept outside iw pe e_len len i
-    all_reached far share = ap (λ xs. cut (sum_by far (filter kept xs)
-        + sum_by share (filter outside (variables_in iw1 pe e_len1 len1 i)))) still_elements
-        ∙ ap (λ xs. cut (sum_by far (filter kept (elements_in iw pe e_len i)) + sum_by share (filter outside xs))) still_variables
 
     pub all_more : {iw2 e_len2 : List ℤ} {len2 : List ℕ} → RenewsOne n me kept outside i iw1 pe e_len1 len1 iw2 e_len2 len2 →
         RenewsAll n me kept outside (xs ++ i ∷ []) free iw pe e_len len iw2 e_len2 len2
@@ -187,33 +175,6 @@ module _ {n me : ℕ} {kept outside : ℕ → Bool} {iw pe e_len : List ℤ} {le
 
     pub turn_placed : free ≤ length iw → IsPlaced n iw1 pe e_len1 len1 i
     turn_placed fit = all_placed n me kept outside iw pe e_len len free y h i fresh mine (let a = front_row.1 in omega (arith, a, was)) fit
-
-    pub turn_loses : LosesOne kept outside iw1 pe e_len1 len1 i
-    turn_loses = all_loses n me kept outside iw pe e_len len free y h i fresh mine
-
-    pub turn_reached : (far share : ℕ → ℕ) → reached far share kept outside iw1 pe e_len1 len1 i
-        ≡ reached far share kept outside iw pe e_len len i
-    turn_reached far share = all_reached n me kept outside iw pe e_len len free y h i fresh mine far share
-
-    -- a number for each class, by what was there before it
-    pub turn_each : {A : Type 0} (f f0 f' a : ℕ → A) → ((x : ℕ) → f x ≡ cond (has (rows iw (start pe me) k) x) (a x) (f0 x)) →
-        (f i ≡ f0 i → f' i ≡ a i) → ((x : ℕ) → (x ≡ i → ⊥) → f' x ≡ f x) →
-        (x : ℕ) → f' x ≡ cond (has (rows iw (start pe me) (k + 1)) x) (a x) (f0 x)
-    unfolding has
-    turn_each f f0 f' a before here there x =
-        let grown : has (rows iw (start pe me) (k + 1)) x ≡ has (rows iw (start pe me) k ++ i ∷ []) x =
-        ap (λ l. has l x) (rows_more iw (start pe me) k ∙ ap (λ z. rows iw (start pe me) k ++ z ∷ []) (sym was)) in
-        elim (cases_Bool (has (rows iw (start pe me) k ++ i ∷ []) x)) [
-          | inl t ↦ elim (cases_eq x i) [
-            | inl q ↦ ap f' q ∙ here (before i ∙ cond-false _ (a i) (f0 i) fresh) ∙ ap a (sym q)
-                ∙ sym (cond-true _ (a x) (f0 x) (grown ∙ t))
-            | inr ne ↦ there x ne ∙ before x ∙ cond-true _ (a x) (f0 x)
-                (elim (snoc_cases (rows iw (start pe me) k) i x t) [ inl b ↦ b | inr q ↦ absurd (ne q) ])
-                ∙ sym (cond-true _ (a x) (f0 x) (grown ∙ t))
-          ]
-          | inr t ↦ (let p = snoc_none (rows iw (start pe me) k) i x t in there x p.1 ∙ before x ∙ cond-false _ (a x) (f0 x) p.0
-              ∙ sym (cond-false _ (a x) (f0 x) (grown ∙ t)))
-        ]
 
     pub turn_more : {iw2 e_len2 : List ℤ} {len2 : List ℕ} → RenewsOne n me kept outside i iw1 pe e_len1 len1 iw2 e_len2 len2 →
         RenewsAll n me kept outside (rows iw (start pe me) (k + 1)) free iw pe e_len len iw2 e_len2 len2

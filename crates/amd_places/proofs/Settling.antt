@@ -89,21 +89,11 @@ module _ {n : ℕ} {iw pe e_len : List ℤ} {len : List ℕ} {free : ℕ} (y : L
     pub lists_laid : ListsLaid iw pe len n free me (place (word e_len me))
     lists_laid = (list_laid me own, λ e h. list_laid e (elements e h))
 
-    own_names : Names n iw (start pe me) (place (word e_len me))
-    own_names k l = y.words (start pe me + k) (let a = y.within me own in let b = y.parts me own in omega (arith, a, b, l))
-
     -- the words of the pivot after the build
     module _ {nv : List ℤ} {front : List ℕ} {iw' nv' : List ℤ} {end total : ℕ} (b : Builds me front iw nv free iw' nv' end total) where
       pub own_same : rows iw' (start pe me) (place (word e_len me)) ≡ elements_in iw pe e_len me
       own_same = rows_same iw iw' (start pe me) (start pe me) (place (word e_len me)) (λ k l.
           b.below (start pe me + k) (let a = y.within me own in let c = y.parts me own in omega (arith, a, c, l)))
-
-      pub own_still : Names n iw' (start pe me) (place (word e_len me))
-      own_still k l = subst (λ z. (is_place z ≡ true) × (place z < n))
-          (sym (b.below (start pe me + k) (let a = y.within me own in let c = y.parts me own in omega (arith, a, c, l)))) (own_names k l)
-
-      pub own_inside : free ≤ length iw → start pe me + place (word e_len me) ≤ length iw'
-      own_inside fit = let a = y.within me own in let c = y.parts me own in let l = b.long in omega (arith, a, c, l, fit)
 
 -- ---- the whole
 

@@ -4,7 +4,7 @@ use Rattle.std.proofs.Common.{length, set, inl, inr, get_or-set_same, get_or-set
 use Rattle.std.specs.Prelude.{nat_lt, ◌==◌}
 use Rattle.std.proofs.Math.Bool.{and-true, and-false, or-false, or-true}
 use Rattle.std.proofs.lemmas.Int.{ints}
-use Rattle.std.proofs.lemmas.Bool.{true≢false, cases_eq, eq-eqb, ne_eqb}
+use Rattle.std.proofs.lemmas.Bool.{true≢false, cases_eq, le-ltb, eq-eqb, ne_eqb}
 use Rattle.amd_places.specs.Words.{is_place, place, rows_in, inside, word, size_of, in_front, flip_of}
 
 pub place_is : (z : ℤ) → is_place z ≡ true → z ≡ pos (place z)
@@ -16,6 +16,12 @@ pub abs_is : (z : ℤ) → is_place z ≡ true → lib.IntN.nat_abs z ≡ place 
 unfolding is_place place
 abs_is (pos n) h = refl
 abs_is (negsuc n) h = absurd (true≢false (sym h))
+
+-- a number below 0
+pub mark_test : (z : ℤ) → lib.Signed.lt_z z (pos 0) ≡ inside z
+unfolding inside
+mark_test (pos n) = le-ltb n 0 (omega arith)
+mark_test (negsuc n) = refl
 
 -- a number above 0
 pub open_test : (z : ℤ) → lib.Signed.lt_z (pos 0) z ≡ (nat_lt 0 (rows_in z) && not (inside z))

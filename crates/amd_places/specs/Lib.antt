@@ -7,7 +7,6 @@ pub mod Chains
 pub mod Layout
 pub mod Compaction
 pub mod Making
-pub mod Ending
 pub mod Merging
 pub mod Room
 pub mod Beginning

@@ -9,7 +9,6 @@ pub mod closing;
 pub mod compaction;
 pub mod counts;
 pub mod element;
-pub mod ending;
 pub mod fronts;
 pub mod making;
 pub mod merging;

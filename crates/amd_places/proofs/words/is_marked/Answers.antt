@@ -1,7 +1,7 @@
 use Rattle.std.proofs.Common.{rules, ℤ, pos, ◌∙◌, ap, w64, FitsSigned}
 use Rattle.std.proofs.lemmas.Int.{to_z-of_z}
 use Rattle.amd_places.specs.Words.{word}
-use Rattle.amd_places.proofs.Shortening.{mark_test}
+use Rattle.amd_places.proofs.Signs.{mark_test}
 use Rattle.amd_places.proofs.words.is_marked.Goals as goal
 
 pub returns : goal.returns
