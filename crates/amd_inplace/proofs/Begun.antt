@@ -63,9 +63,6 @@ turning_zeros {n} {me} {front} {iw} {pe} {e_len} {nv} {len} {degree} {w} {w'} {i
 module _ (g : Graph) (dense : ℕ → Bool) (nzaat : ℕ) (p : Workspace) (t : QuotientGraph) (s : State) (st : Stands g dense nzaat p t s)
     (c : ℕ) (p1 : Workspace) (picks : Picks g.size c p p1) (block total : ℕ) (is_built : Bool) (p2 : Workspace)
     (begins : BeginsElement g.size c block total is_built p1 p2) where
-  pub front_same : front_at p2 c ≡ begins.front
-  front_same = begins.begins.list
-
   -- the pivot is a class of the bound that was found
   pub pivot_chosen : (has t.placed c ≡ true) × (t.bound c ≡ p1.least)
   pivot_chosen = by_bounds.chosen_placed g.size p.head p.next p.last p.degree t st.linked p.least st.view.keeps.least
