@@ -18,7 +18,6 @@ use Rattle.amd_trees.specs.Trees.{IsForest, is_element, tree_of}
 use Rattle.amd_trees.proofs.Links.{names_some}
 use Rattle.amd_listing.specs.Ended.{IsEnded}
 use Rattle.amd_listing.proofs.BlockLists.{AreAlike}
-use Rattle.amd_listing.proofs.BlockStarts.{one_home}
 
 -- a parent is named or not
 cases_parent : (o : Option ℕ) → (o ≡ None) ⊎ ((p : ℕ) × (o ≡ Some p))
@@ -27,9 +26,6 @@ cases_parent (Some p) = inr (p, refl)
 
 module _ (g : Graph) (dense : ℕ → Bool) (s : State) (end : IsEnd g dense s) (link nv f_size : List ℤ)
     (ended : IsEnded g s link nv f_size) where
-  row_small : (e : ℕ) → block_at e (s.home e) ≡ true → e < g.size
-  row_small e h = end.small e e (one_home e (s.home e) h)
-
   pub element_alike : (e : ℕ) → e < g.size → is_element g.size nv e ≡ block_at e (s.home e)
   element_alike e small = ap (λ b. b && int_lt (pos 0) (at nv e)) (lt-ltb e g.size small) ∙ elim (cases_Bool (block_at e (s.home e))) [
     | inl y ↦ ap (int_lt (pos 0)) (ended.blocks e y) ∙
