@@ -15,7 +15,7 @@ use Rattle.amd_model.specs.Figures.{cut}
 use Rattle.amd_model.specs.Input.Dense.{IsThreshold, is_dense}
 use Rattle.amd_model.specs.Input.Held.{is_marked, is_held_last}
 use Rattle.amd_model.specs.Input.Pattern.{graph_of, is_pair}
-use Rattle.amd_model.specs.Ordering.{Follows, IsListingOf, Promises}
+use Rattle.amd_model.specs.Ordering.{IsListingOf, Promises}
 use Rattle.amd_model.proofs.Counting.Below.{count_most, count_mono, clash}
 use Rattle.amd_model.proofs.Counting.Unions.{count_without}
 use Rattle.amd_model.proofs.Patterns.DegreeSums.{pattern_graph}
@@ -81,13 +81,6 @@ module _ {A : Type 0} (g : Graph) (laws : IsGraph g) (dense last : ℕ → Bool)
   started = begun g dense lists first laws (sym counts.size) counts.each held listed (λ i h. names i) (starts g dense)
 
   module _ (w : Work A) (rounds : AreRounds aggressive old w) (over : NoRowIsLive w) where
-    abbrev Reached : Type 0
-    Reached = (u : QuotientGraph) × ((states : List State) × Follows g aggressive tie first states u
-        × Stands g dense w u (last_state first states))
-
-    reached : Reached
-    reached = rounds g dense tie first started
-
     abbrev states : List State
     states = (rounds g dense tie first started).1.0
 
