@@ -1,5 +1,5 @@
 -- What the columns of a factor leave in a caller's arrays, and the same for the integers of C, whose values are themselves.
-use Rattle.std.proofs.Common.{ℕ, ℤ, List, ◌≡◌, ◌+◌, map, length, refl, ◌∙◌, ap, subst, to_z, of_z, w32}
+use Rattle.std.proofs.Common.{ℕ, ℤ, List, ◌≡◌, map, length, refl, ◌∙◌, ap, subst, to_z, of_z, w32}
 use Rattle.std.specs.Prelude.{Option, Result, Ok, Err, unsigned_abs}
 use Rattle.std.proofs.lemmas.List.{map-id, length-map}
 use Rattle.amd_symbolic.specs.Factors.{IsFactorOf}
@@ -7,12 +7,6 @@ use Rattle.amd_symbolic.specs.declared.factor.Fault.{Fault}
 use Rattle.amd_symbolic.specs.declared.factor.Fault.TheVariants.{NotColumnForm, NotPermutation, RoomTooSmall, OutOfMemory}
 use Rattle.amd_c.specs.Columns.{Arrays, arrays, number_of_end, LeavesColumns, ColumnsInto}
 use Rattle.amd_c.proofs.Leaving.{values}
-
--- the factor has a pointer for each row and one more
-pub pointers_are : (n : ℤ) (a_p a_i p : List ℤ) (ptr rows : List ℕ) (parent : List (Option ℕ)) → IsFactorOf n a_p a_i p ptr rows parent →
-    length ptr ≡ unsigned_abs n + 1
-pointers_are n a_p a_i p ptr rows parent f =
-    f.holds.holds.pointers ∙ ap (λ k. k + 1) (f.holds.factor.places ∙ f.permutes.each.places)
 
 -- and a parent for each row
 pub parents_are : (n : ℤ) (a_p a_i p : List ℤ) (ptr rows : List ℕ) (parent : List (Option ℕ)) → IsFactorOf n a_p a_i p ptr rows parent →
