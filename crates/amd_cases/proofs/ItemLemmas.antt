@@ -41,11 +41,6 @@ numbers-same (w ∷ ws) [] zs h k = elim h [ ]
 numbers-same (w ∷ ws) (y ∷ ys) [] h k = elim k [ ]
 numbers-same (w ∷ ws) (y ∷ ys) (z ∷ zs) h k = let a = h.0.value ∙ sym k.0.value in let b = numbers-same ws ys zs h.1 k.1 in cc
 
--- a line whose first word is no keyword spells no item
-pub no-item : {Z : Type 0} (line w : List ℕ) (ws : List (List ℕ)) → words line ≡ w ∷ ws → ((k : Keyword) → w ≡ keyword_text k → ⊥) →
-    (i : Item Z) → SpellsItem line i → ⊥
-no-item line w ws taken never i h = never (item_keyword i) (ap (λ t. get_or t 0 w) (sym taken ∙ h.begins))
-
 -- an item that a line spells has the keyword of the first word, and its numbers are what the others spell
 pub one-item : {Z : Type 0} (line w : List ℕ) (ws : List (List ℕ)) (k : Keyword) (zs : List ℤ) → words line ≡ w ∷ ws → w ≡ keyword_text k →
     SpellsNumbers ws zs

@@ -1,5 +1,5 @@
 -- Bytes that were read one part after another hold the numbers of all parts.
-use Rattle.std.proofs.Common.{◌≡◌, ◌≤◌, ℕ, ℤ, pos, Option, Some, None, List, [], ◌∷◌, ◌++◌, length, map, drop, refl, sym, ap, ◌∙◌, subst}
+use Rattle.std.proofs.Common.{◌≡◌, ◌≤◌, ℕ, ℤ, pos, Option, Some, None, List, [], ◌∷◌, ◌++◌, length, map, drop, sym, ap, ◌∙◌, subst}
 use Rattle.std.proofs.Common.{append_assoc, append-nil, length-append, arith}
 use Rattle.std.specs.Prelude.{IfSome}
 use Rattle.std.specs.Io.KnownBytes.{Consumes, IsAtEnd}
@@ -12,10 +12,6 @@ consumes-append (Some us) None c xs ys h k = elim h [ ]
 consumes-append (Some us) (Some vs) None xs ys h k = elim k [ ]
 consumes-append (Some us) (Some vs) (Some ws) xs ys h k = h ∙ ap (λ t. xs ++ t) k ∙ sym (append_assoc xs ys ws)
 
-consumes-none : (a : Option (List ℕ)) → Consumes a a []
-consumes-none None = tt
-consumes-none (Some us) = refl
-
 holds-append : (size : ℕ) (number : List ℕ → ℤ) (ys zs : List ℤ) (bs cs : List ℕ) → HoldsNumbers size number ys bs →
     HoldsNumbers size number zs cs → HoldsNumbers size number (ys ++ zs) (bs ++ cs)
 holds-append size number [] zs bs cs h k = rw h k
@@ -26,10 +22,6 @@ holds-append size number (y ∷ ys) zs bs cs h k =
       subst (HoldsNumbers size number (ys ++ zs)) (sym (drop-append-le size bs cs fits))
           (holds-append size number ys zs (drop size bs) cs h.2 k),
     )
-
--- nothing was read
-pub reads-none : (size : ℕ) (number : List ℕ → ℤ) (a : Option (List ℕ)) → ReadsNumbers size number a a []
-reads-none size number a = record { bytes = []; consumed = consumes-none a; held = refl }
 
 -- the bytes of one number
 pub reads-one : (size : ℕ) (number : List ℕ → ℤ) (a b : Option (List ℕ)) (bytes : List ℕ) (z : ℤ) → length bytes ≡ size → z ≡ number bytes →

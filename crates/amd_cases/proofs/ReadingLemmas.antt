@@ -4,7 +4,6 @@ use Rattle.std.specs.Prelude.{IfSome}
 use Rattle.std.specs.Io.BufRead.{drop_through}
 use Rattle.std.proofs.lemmas.List.Elements.{filter-append}
 use Rattle.amd_cases.specs.Words.{words}
-use Rattle.amd_cases.specs.Items.{SpellsItem}
 use Rattle.amd_cases.specs.Reading.{BeginsWith, TookLine, TakesLine, TakesLines, TakesTelling, TakesBlanks, TakesItems, SpellsItems}
 use Rattle.amd_cases.specs.Reading.{is_blank, tells, telling, line_number, one_line_more, source_of}
 use Rattle.amd_cases.specs.Reading.{ReadsBody, ReadsCase}
@@ -131,15 +130,6 @@ takes-append remaining a b c is js h k = record {
 -- no item was read yet
 pub takes-nothing : {R Z : Type 0} (remaining : R → Option (List ℕ)) (a : CaseReader R Z) → TakesItems remaining a a []
 takes-nothing remaining a = record { lines = []; takes = lines-none remaining a; spells = tt }
-
--- a line that spells an item
-pub takes-one : {R Z : Type 0} (remaining : R → Option (List ℕ)) (a b : CaseReader R Z) (line : List ℕ) (i : Item Z) →
-    TakesTelling remaining a b line → SpellsItem line i → TakesItems remaining a b (i ∷ [])
-takes-one remaining a b line i h s = record {
-  lines = h.lines;
-  takes = h.takes;
-  spells = subst (λ t. SpellsItems t (i ∷ [])) (sym h.tells) (s, tt);
-}
 
 -- the line of the number, and then the body
 pub case-behind : {R Z : Type 0} (remaining : R → Option (List ℕ)) (a b c : CaseReader R Z) (i : Item Z) (k number : ℤ) (case : Case Z) →
