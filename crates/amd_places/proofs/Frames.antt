@@ -23,6 +23,12 @@ pub has_length : (pe : List ℤ) (len len' : List ℕ) (j : ℕ) → num len' j 
 unfolding has_list
 has_length pe len len' j e = ap (λ m. is_place (word pe j) && nat_lt 0 m) e
 
+-- a list stands where it did, with as many words
+pub has_same : (pe pe' : List ℤ) (len len' : List ℕ) (j : ℕ) → word pe' j ≡ word pe j → num len' j ≡ num len j →
+    has_list pe' len' j ≡ has_list pe len j
+unfolding has_list
+has_same pe pe' len len' j e f = ap (λ z. is_place z && nat_lt 0 (num len' j)) e ∙ has_length pe len len' j f
+
 -- ---- a list that reads the same
 
 module _ (iw pe e_len : List ℤ) (len : List ℕ) (iw' pe' e_len' : List ℤ) (len' : List ℕ) (j : ℕ)

@@ -1,15 +1,11 @@
 -- The lists of a workspace are marked: the first word of each names its owner, whose start keeps the word.
-use Rattle.std.proofs.Common.{ℕ, true, false, List, ℤ, pos, ◌≡◌, ◌<◌, ◌≤◌, ◌+◌, ◌-◌, ◌&&◌, ◌⊎◌, inl, inr, sym, ap, subst, ◌∙◌, arith}
-use Rattle.std.proofs.Common.{length, set, length-set, get_or-set_same, get_or-set_other, ltb}
+use Rattle.std.proofs.Common.{ℕ, true, false, List, ℤ, pos, ◌≡◌, ◌<◌, ◌≤◌, ◌+◌, ◌-◌, ◌⊎◌, inl, inr, sym, ap, subst, ◌∙◌, arith}
+use Rattle.std.proofs.Common.{length, set, length-set, get_or-set_same, get_or-set_other}
 use Rattle.std.proofs.lemmas.Bool.{cases_eq, true≢false}
 use Rattle.amd_places.specs.Words.{num, is_place, place, flip_of, word, start}
 use Rattle.amd_places.specs.Layout.{has_list}
 use Rattle.amd_places.specs.Compaction.{Spaced}
 use Rattle.amd_places.proofs.Frames.{has_parts, has_from}
-
-pub has_same : (pe pe' : List ℤ) (len : List ℕ) (j : ℕ) → word pe' j ≡ word pe j → has_list pe' len j ≡ has_list pe len j
-unfolding has_list
-has_same pe pe' len j e = ap (λ z. is_place z && ltb 0 (num len j)) e
 
 pub same_start : {iw pe : List ℤ} {len : List ℕ} {free : ℕ} → Spaced iw pe len free → (i j : ℕ) → has_list pe len i ≡ true →
     has_list pe len j ≡ true → start pe i ≡ start pe j → i ≡ j

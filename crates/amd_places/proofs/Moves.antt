@@ -6,10 +6,10 @@ use Rattle.std.proofs.lemmas.List.{get_or_past}
 use Rattle.amd_places.specs.Words.{num, is_place, place, flip_of, word, start}
 use Rattle.amd_places.specs.Layout.{Layout, words_below, has_list, end_of}
 use Rattle.amd_places.specs.Compaction.{Spaced, Compacts, Moves, Packs}
-use Rattle.amd_places.proofs.Frames.{has_parts, has_from}
+use Rattle.amd_places.proofs.Frames.{has_parts, has_from, has_same}
 use Rattle.amd_places.proofs.Signs.{mark_no_place, place_of, is_place_of}
 use Rattle.amd_places.proofs.MoveSigns.{flip_same, flip_some}
-use Rattle.amd_places.proofs.MarkedLists.{has_same, same_start, start_below, Marked}
+use Rattle.amd_places.proofs.MarkedLists.{same_start, start_below, Marked}
 
 -- Sums with one changed term.
 pub sum_ext : (n : ℕ) (f g : ℕ → ℕ) → ((k : ℕ) → k < n → f k ≡ g k) → words_below n f ≡ words_below n g
@@ -238,7 +238,7 @@ swept_all {iw} {pe} {len} {free} {iw'} {pe'} {src} {dst} y l h =
     let all : (j : ℕ) → has_list pe len j ≡ true → start pe j < src = λ j k. let a = start_below y j k in omega (arith, a, l) in
     let live : (j : ℕ) → has_list pe' len j ≡ has_list pe len j = λ j. elim (cases_Bool (has_list pe len j)) [
       | inl k ↦ has_from pe' len j (h.done j k (all j k)).1 (has_parts pe len j k).1 ∙ sym k
-      | inr k ↦ has_same pe pe' len j (h.others j k)
+      | inr k ↦ has_same pe pe' len len j (h.others j k) refl
     ] in
     let high : src ≤ free = h.high in
     record {

@@ -1,9 +1,9 @@
 -- A new element's list behind the others, and the elements that it absorbs.
 use Rattle.amd_model.proofs.Counting.Below.{clash}
-use Rattle.std.proofs.Common.{ℕ, ℤ, Bool, true, false, List, [], ◌∷◌, ◌++◌, zero, suc, ◌≡◌, ◌<◌, ◌≤◌, ◌+◌, ◌-◌, ◌&&◌, ◌||◌, inl, inr}
+use Rattle.std.proofs.Common.{ℕ, ℤ, Bool, true, false, List, [], ◌∷◌, ◌++◌, zero, suc, ◌≡◌, ◌<◌, ◌≤◌, ◌+◌, ◌-◌, ◌||◌, inl, inr}
 use Rattle.std.proofs.Common.{refl, sym, subst, ap, ◌∙◌, arith, cond, length, sum_by, pos, set, length-set, get_or-set_same}
 use Rattle.std.proofs.Common.{get_or-set_other}
-use Rattle.std.specs.Prelude.{nat_lt, ◌==◌}
+use Rattle.std.specs.Prelude.{◌==◌}
 use Rattle.std.proofs.lemmas.Bool.{true≢false, cases_Bool, cases_eq, cases_lt, eq-eqb, ne_eqb, eqb-true, cond-true, cond-false}
 use Rattle.std.proofs.lemmas.Bool.{and_left, or_left, or_right, or_cases}
 use Rattle.std.proofs.lemmas.List.Sums.{sum_by-cons}
@@ -16,7 +16,7 @@ use Rattle.amd_places.specs.Making.{Makes}
 use Rattle.amd_places.proofs.Signs.{place_of, is_place_of, mark_no_place, mark_none}
 use Rattle.amd_places.proofs.RowLists.{rows_none, rows_more, rows_same, rows_length}
 use Rattle.amd_places.proofs.RoundWords.{words_more, words_both, words_one, words_fall, front_words}
-use Rattle.amd_places.proofs.Frames.{has_parts, relaid}
+use Rattle.amd_places.proofs.Frames.{has_parts, has_same, relaid}
 
 -- ---- one value written where each of some words points
 
@@ -101,11 +101,6 @@ has_not : (pe : List ℤ) (len : List ℕ) (j : ℕ) → is_place (word pe j) �
 unfolding has_list
 has_not pe len j h = and_left _ _ h
 
-has_both : (pe pe' : List ℤ) (len len' : List ℕ) (j : ℕ) → word pe' j ≡ word pe j → num len' j ≡ num len j →
-    has_list pe' len' j ≡ has_list pe len j
-unfolding has_list
-has_both pe pe' len len' j e f = ap (λ z. is_place z && nat_lt 0 (num len' j)) e ∙ ap (λ m. is_place (word pe j) && nat_lt 0 m) f
-
 module _ {n me : ℕ} {iw nv pe e_len : List ℤ} {len : List ℕ} {free : ℕ} {iw' nv' : List ℤ} {end total : ℕ} (pe1 : List ℤ)
     (y : Layout n iw pe e_len len free) (wide : length nv ≡ n) (small_p : me < length pe1) (small_e : me < length e_len)
     (small_l : me < length len) (small : me < n) (own : has_list pe len me ≡ true) (elements : (e : ℕ) →
@@ -155,7 +150,7 @@ module _ {n me : ℕ} {iw nv pe e_len : List ℤ} {len : List ℕ} {free : ℕ} 
   ended_now e h = has_not pe' len' e (ap is_place (pe_taken e h) ∙ mark_no_place me)
 
   listed_now : (j : ℕ) → has es j ≡ false → (j ≡ me → ⊥) → has_list pe' len' j ≡ has_list pe len j
-  listed_now j h ne = has_both pe pe' len len' j (pe_else j h ne) (len_else j ne)
+  listed_now j h ne = has_same pe pe' len len' j (pe_else j h ne) (len_else j ne)
 
   laid_now : Layout n iw' pe' e_len' len' end
   laid_now = relaid me y b.grows
