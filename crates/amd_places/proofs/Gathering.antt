@@ -1,11 +1,11 @@
 -- A list that grows behind the others: steps, and what they come to.
 use Rattle.amd_model.proofs.Counting.Below.{clash}
-use Rattle.std.proofs.Common.{ℕ, ℤ, Bool, true, false, List, [], ◌∷◌, ◌++◌, ◌≡◌, ◌<◌, ◌≤◌, ◌+◌, ◌-◌, ◌||◌, cond, inl, inr, refl, sym}
+use Rattle.std.proofs.Common.{ℕ, ℤ, Bool, true, false, List, [], ◌∷◌, ◌++◌, ◌≡◌, ◌<◌, ◌≤◌, ◌+◌, ◌-◌, ◌&&◌, ◌||◌, not, cond, inl, inr, refl, sym}
 use Rattle.std.proofs.Common.{subst, ap, ◌∙◌, arith, append_assoc, length, fold, sum_by, pos, set, length-set, get_or-set_same}
 use Rattle.std.proofs.Common.{get_or-set_other, append-nil}
 use Rattle.std.specs.Prelude.{nat_lt, ◌==◌}
 use Rattle.std.proofs.Math.Bool.{or_assoc, or-false}
-use Rattle.std.proofs.lemmas.Bool.{cases_Bool, cases_eq, ne_eqb, or_left, or_right, or_cases, or_from, or_parts}
+use Rattle.std.proofs.lemmas.Bool.{cases_Bool, cases_eq, ne_eqb, and_parts, not-true, or_left, or_right, or_cases, or_from, or_parts}
 use Rattle.std.proofs.lemmas.List.{length-append}
 use Rattle.std.proofs.lemmas.List.Sums.{fold-append, fold_push, sum_by-append, sum_by-cons}
 use Rattle.std.proofs.lemmas.List.Elements.{filter-append}
@@ -204,3 +204,21 @@ classes_split nv iw from n count l h = let e : count ≡ (n + 1) + (count - (n +
     ap (λ m. classes nv (rows iw from m)) e ∙ ap (classes nv) (rows_both iw from (n + 1) (count - (n + 1)))
     ∙ filter-append (λ j. nat_lt 0 (size_of nv j)) (rows iw from (n + 1)) (rows iw (from + (n + 1)) (count - (n + 1)))
     ∙ ap (λ l. l ++ classes nv (rows iw (from + (n + 1)) (count - (n + 1)))) (classes_yes nv iw from n h)
+
+-- the next of some words names a class that was not taken: it has room
+module _ (iw nv iw' nv' : List ℤ) (from count start free end sum n row : ℕ)
+    (h : Gathers iw nv start free (classes nv (rows iw from n)) iw' nv' end sum) (l : n < count)
+    (is : row ≡ place (word iw (from + n))) (opened : (nat_lt 0 (size_of nv' row) && not (in_front nv' row)) ≡ true) where
+  abbrev parts : (nat_lt 0 (size_of nv' row) ≡ true) × (not (in_front nv' row) ≡ true)
+  parts = and_parts (nat_lt 0 (size_of nv' row)) (not (in_front nv' row)) opened
+
+  pub class_here : nat_lt 0 (size_of nv (place (word iw (from + n)))) ≡ true
+  class_here = ap (nat_lt 0) (sym (h.sizes (place (word iw (from + n))))) ∙ ap (λ j. nat_lt 0 (size_of nv' j)) (sym is) ∙ parts.0
+
+  pub open_here : in_front nv' (place (word iw (from + n))) ≡ false
+  open_here = ap (in_front nv') (sym is) ∙ not-true (in_front nv' row) parts.1
+
+  pub room_here : (end < start + length (grown iw nv start free (classes nv (rows iw from count))))
+      × (sum + size_of nv (place (word iw (from + n))) ≤ sum_by (size_of nv) (grown iw nv start free (classes nv (rows iw from count))))
+  room_here = gathers_room h (place (word iw (from + n))) (classes nv (rows iw from count))
+      (classes nv (rows iw (from + (n + 1)) (count - (n + 1)))) (classes_split nv iw from n count l class_here) open_here

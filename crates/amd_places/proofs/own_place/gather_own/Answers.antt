@@ -1,13 +1,13 @@
 -- the goals of own_place::gather_own.
 use Rattle.amd_model.proofs.Counting.Below.{clash}
 use Rattle.std.proofs.Common.{ℕ, ℤ, List, true, false, [], ◌≡◌, ◌<◌, ◌≤◌, ◌+◌, ◌-◌, ◌&&◌, ◌||◌, not, inl, inr, sym, ap, ◌∙◌, arith}
-use Rattle.std.proofs.Common.{length, sum_by, rules, ◌^◌}
+use Rattle.std.proofs.Common.{length, rules, ◌^◌}
 use Rattle.std.specs.Prelude.{nat_lt, ◌==◌}
-use Rattle.std.proofs.lemmas.Bool.{cases_Bool, and_parts, and_from, not-true, not_from_false}
+use Rattle.std.proofs.lemmas.Bool.{cases_Bool, and_from, not_from_false}
 use Rattle.amd_places.specs.Words.{word, place, is_place, size_of, in_front, classes, rows}
-use Rattle.amd_places.specs.Element.{grown, Gathers}
+use Rattle.amd_places.specs.Element.{Gathers}
 use Rattle.amd_places.proofs.RowLists.{rows_none}
-use Rattle.amd_places.proofs.Gathering.{gathers_old, gathers_new, gathers_room, classes_yes, classes_no, classes_split}
+use Rattle.amd_places.proofs.Gathering.{gathers_old, gathers_new, classes_yes, classes_no, class_here, open_here, room_here}
 use Rattle.amd_places.proofs.OwnPlace.{own_none, own_end}
 use Rattle.amd_places.proofs.own_place.gather_own.Goals as goal
 use Rattle.amd_places.proofs.own_place.gather_own.Goals.{then-is_open, else-is_open}
@@ -52,24 +52,6 @@ enter-sum-requires-clause-inside g c =
     ∙ ap place (stands_at c.args.iw.now c.args.nv.now c.loop-p.iw c.loop-p.nv from c.loop-p.end c.loop-p.sum p n e c.loop-p.invariant)
     in
     let s = (c.requires.names n l).1 in let wide = c.loop-p.invariant.wide in omega (arith, r, s, wide)
-
--- the next class has room
-module _ (iw nv iw' nv' : List ℤ) (from count start free end sum n row : ℕ)
-    (h : Gathers iw nv start free (classes nv (rows iw from n)) iw' nv' end sum) (l : n < count)
-    (is : row ≡ place (word iw (from + n))) (opened : (nat_lt 0 (size_of nv' row) && not (in_front nv' row)) ≡ true) where
-  abbrev parts : (nat_lt 0 (size_of nv' row) ≡ true) × (not (in_front nv' row) ≡ true)
-  parts = and_parts (nat_lt 0 (size_of nv' row)) (not (in_front nv' row)) opened
-
-  class_here : nat_lt 0 (size_of nv (place (word iw (from + n)))) ≡ true
-  class_here = ap (nat_lt 0) (sym (h.sizes (place (word iw (from + n))))) ∙ ap (λ j. nat_lt 0 (size_of nv' j)) (sym is) ∙ parts.0
-
-  open_here : in_front nv' (place (word iw (from + n))) ≡ false
-  open_here = ap (in_front nv') (sym is) ∙ not-true (in_front nv' row) parts.1
-
-  room_here : (end < start + length (grown iw nv start free (classes nv (rows iw from count))))
-      × (sum + size_of nv (place (word iw (from + n))) ≤ sum_by (size_of nv) (grown iw nv start free (classes nv (rows iw from count))))
-  room_here = gathers_room h (place (word iw (from + n))) (classes nv (rows iw from count))
-      (classes nv (rows iw (from + (n + 1)) (count - (n + 1)))) (classes_split nv iw from n count l class_here) open_here
 
 pub copy_word-requires-clause-to : goal.copy_word-requires-clause-to
 copy_word-requires-clause-to g c =
