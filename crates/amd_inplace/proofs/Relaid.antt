@@ -15,7 +15,7 @@ use Rattle.amd_places.specs.Words.{num, word, place, is_place, start, size_of, i
 use Rattle.amd_places.specs.Counts.{counter, ends}
 use Rattle.amd_places.specs.Layout.{has_list, end_of, elements_in, variables_in, ReadsSame, live_words}
 use Rattle.amd_places.proofs.Counting.{ends_none}
-use Rattle.amd_places.proofs.Frames.{reads_elements, reads_variables}
+use Rattle.amd_places.proofs.Frames.{has_same, reads_elements, reads_variables}
 use Rattle.amd_inplace.specs.Workspaces.{Workspace}
 use Rattle.amd_inplace.specs.Parts.{MergesFront, EndsFront, front_at}
 use Rattle.amd_inplace.proofs.Standing as standing
@@ -167,10 +167,10 @@ module _ {g : Graph} {dense : ℕ → Bool} {nzaat : ℕ} {aggressive : Bool} {p
         ∙ lists.starts_is r i ∙ cond-false _ (flip_of r.c) (word r.turns.turns.left i) over in
         let count : num v.len i ≡ num r.p3.len i = ended.closes.lengths i ne ∙ ap (λ k. num k i) (ap (λ q. q.len) merges.same) in
         let listed : has_list r.turns.turns.left r.p2.len i ≡ true =
-        lists.has_same r.p2.pe r.turns.turns.left r.p2.len r.p2.len i (left_class r i h) refl ∙ ((can_turn r).classes i of_front).listed in
+        has_same r.p2.pe r.turns.turns.left r.p2.len r.p2.len i (left_class r i h) refl ∙ ((can_turn r).classes i of_front).listed in
         let mark : word v.e_len i ≡ word all.counts i = ended.closes.counts i ne ∙ merges.merged.lists i
         ∙ cond-false _ (negsuc 0) (word r.p3.e_len i) part.0 ∙ all.lists i ∙ cond-false _ (negsuc 0) (word all.counts i) out in (
-          lists.has_same r.turns.turns.left v.pe r.p3.len v.len i at count ∙ all.renewed.listed i ∙ listed,
+          has_same r.turns.turns.left v.pe r.p3.len v.len i at count ∙ all.renewed.listed i ∙ listed,
           ap is_place mark ∙ all.renewed.count i of_front,
         )
 

@@ -22,7 +22,7 @@ use Rattle.amd_places.specs.Layout.{has_list, elements_in, variables_in, list_in
 use Rattle.amd_places.specs.Renewal.{is_kept, is_outside}
 use Rattle.amd_places.specs.Chains.{DegreeLists}
 use Rattle.amd_places.specs.Restoring.{marked_in, bound_in}
-use Rattle.amd_places.proofs.Frames.{reads_elements, reads_variables, reads_list}
+use Rattle.amd_places.proofs.Frames.{has_same, reads_elements, reads_variables, reads_list}
 use Rattle.amd_inplace.specs.Workspaces.{Workspace, view_of, is_flip, flipped}
 use Rattle.amd_inplace.specs.Keeps.{by_bound}
 use Rattle.amd_inplace.specs.Parts.{MergesFront, EndsFront, front_at}
@@ -31,7 +31,7 @@ use Rattle.amd_inplace.proofs.Halves.{HalfRound, front, kept_lists, ends_by, beg
 use Rattle.amd_inplace.proofs.Turned.{done_is, rest_is, rest_parts, elements_left, variables_left, class_front, class_start, class_listed}
 use Rattle.amd_inplace.proofs.Turned.{class_order, class_elements, class_variables}
 use Rattle.amd_inplace.proofs.Absorbed.{absorbed, taken_ends}
-use Rattle.amd_inplace.proofs.RoundLists.{has_same, through}
+use Rattle.amd_inplace.proofs.RoundLists.{through}
 use Rattle.amd_inplace.proofs.Relaid.{open_elements, open_variables, size_open, bound_open}
 use Rattle.amd_inplace.proofs.Merged as merging
 use Rattle.amd_inplace.proofs.Merged.{rest, into, made, into_is, marked_made, fold_least}

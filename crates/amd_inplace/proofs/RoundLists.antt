@@ -15,7 +15,7 @@ use Rattle.amd_places.specs.Words.{num, word, place, is_place, start, size_of, f
 use Rattle.amd_places.specs.Layout.{has_list, elements_in, ReadsSame, live_words}
 use Rattle.amd_places.specs.Renewal.{is_kept, is_outside}
 use Rattle.amd_places.specs.Fronts.{is_done}
-use Rattle.amd_places.proofs.Frames.{has_parts, has_from, live_part}
+use Rattle.amd_places.proofs.Frames.{has_parts, has_from, has_same, live_part}
 use Rattle.amd_inplace.specs.Workspaces.{Workspace}
 use Rattle.amd_inplace.specs.Parts.{MergesFront, EndsFront, front_at}
 use Rattle.amd_inplace.proofs.Begun as begun
@@ -25,13 +25,7 @@ use Rattle.amd_inplace.proofs.Merged as merging
 
 -- ---- words
 
--- a list stands where it did, with as many words
-pub has_same : (pe pe' : List ℤ) (len len' : List ℕ) (j : ℕ) → word pe' j ≡ word pe j → num len' j ≡ num len j →
-    has_list pe' len' j ≡ has_list pe len j
-unfolding has_list
-has_same pe pe' len len' j p l = ap (λ z. is_place z && nat_lt 0 (num len' j)) p ∙ ap (λ m. is_place (word pe j) && nat_lt 0 m) l
-
--- and reads the same, in the same words
+-- a list that stands where it did, with as many words, reads the same, in the same words
 pub reads_by : (iw pe e_len : List ℤ) (len : List ℕ) (iw' pe' e_len' : List ℤ) (len' : List ℕ) (j : ℕ) → iw' ≡ iw →
     word pe' j ≡ word pe j → word e_len' j ≡ word e_len j → num len' j ≡ num len j → ReadsSame iw pe e_len len iw' pe' e_len' len' j
 reads_by iw pe e_len len iw' pe' e_len' len' j w p e l = (

@@ -73,7 +73,7 @@ some_term f (x ∷ xs) = elim (cases_eq (f x) 0) [
   | inr m ↦ inr (x, has_head x x xs refl, omega (arith, m))
 ]
 
-some_cond : (b : Bool) (m : ℕ) → 0 < cond b m 0 → b ≡ true
+pub some_cond : (b : Bool) (m : ℕ) → 0 < cond b m 0 → b ≡ true
 some_cond true m l = refl
 some_cond false m l = absurd (omega (arith, l))
 

@@ -2,7 +2,7 @@
 use Rattle.std.proofs.Common.{ℕ, ℤ, pos, negsuc, Bool, true, false, ◌∷◌, ◌++◌, ◌≡◌, ◌≤◌, ◌+◌, ◌-◌, ◌&&◌, inl, inr, refl, sym}
 use Rattle.std.proofs.Common.{ap, ◌∙◌, cond, arith, not, filter, sum_by}
 use Rattle.std.specs.Prelude.{nat_lt}
-use Rattle.std.proofs.lemmas.Bool.{false≢true, cases_Bool, cond-true, cond-false, and_right, lt-ltb, le-ltb, not_from_true}
+use Rattle.std.proofs.lemmas.Bool.{cases_Bool, cond-true, cond-false, and_right, lt-ltb, le-ltb, not_from_true}
 use Rattle.std.proofs.lemmas.Bool.{not_from_false, not-true}
 use Rattle.std.proofs.lemmas.List.Filters.{sum_by-filter_both}
 use Rattle.amd_model.specs.Graph.{Graph}
@@ -16,6 +16,7 @@ use Rattle.amd_places.specs.Renewal.{is_kept, is_outside}
 use Rattle.amd_places.specs.Fronts.{is_done, kept_in, near_in}
 use Rattle.amd_places.specs.Merging.{kept_of, near_of, words_of}
 use Rattle.amd_places.proofs.Frames.{has_none, has_parts, reads_list}
+use Rattle.amd_places.proofs.Signs.{place_is}
 use Rattle.amd_places.proofs.MergeLink.{kept_is, words_is}
 use Rattle.amd_places.proofs.RowLists.{rows_none}
 use Rattle.amd_inplace.specs.Workspaces.{Workspace}
@@ -23,11 +24,6 @@ use Rattle.amd_inplace.specs.Parts.{front_at}
 use Rattle.amd_inplace.proofs.Standing as standing
 use Rattle.amd_inplace.proofs.Halves.{HalfRound, front, kept_lists, ended_in, begins_here, total_here, front_placed, front_other}
 use Rattle.amd_inplace.proofs.Halves.{elements_begun, variables_begun, rows_begun, front_begun, left_pivot, left_class}
-
-place_pos : (z : ℤ) → is_place z ≡ true → z ≡ pos (place z)
-unfolding is_place place
-place_pos (pos n) h = refl
-place_pos (negsuc n) h = absurd (false≢true h)
 
 module _ {g : Graph} {dense : ℕ → Bool} {nzaat : ℕ} {aggressive : Bool} {p : Workspace} {t : QuotientGraph} {s : State}
     (r : HalfRound g dense nzaat aggressive p t s) where
@@ -157,11 +153,11 @@ module _ {g : Graph} {dense : ℕ → Bool} {nzaat : ℕ} {aggressive : Bool} {p
 
     -- where its list starts, and how many words of it name elements
     pub class_starts : word r.p3.pe i ≡ pos (start r.p3.pe i)
-    class_starts = place_pos (word r.p3.pe i)
+    class_starts = place_is (word r.p3.pe i)
         (ap is_place class_start ∙ (has_parts r.turns.turns.left r.p3.len i class_listed).0)
 
     pub class_counts : word r.p3.e_len i ≡ pos (place (word r.p3.e_len i))
-    class_counts = place_pos (word r.p3.e_len i) (ap is_place class_count ∙ r.turns.turns.renewed.renewed.count i class_front)
+    class_counts = place_is (word r.p3.e_len i) (ap is_place class_count ∙ r.turns.turns.renewed.renewed.count i class_front)
 
   pub kept_after : (i : ℕ) → has (classes r.p3.nv (front_at r.p3 r.c)) i ≡ true →
       (kept_of r.p3.iw r.p3.pe r.p3.e_len i ≡ turned ((kept_lists r).elements i))
