@@ -3,3 +3,4 @@ pub mod Inverses
 pub mod FrontShares
 pub mod CutSums
 pub mod EmptyLists
+pub mod SignedCounts
