@@ -18,12 +18,12 @@ begins-append [] js bytes mid rest h k =
     let P : Option (List ℕ) → Type 0 = λ m. IfSome m (λ bs. BeginsWith js bs rest) in subst P h k
 begins-append (i ∷ is) js bytes mid rest h k = (h.0, h.1, begins-append is js (drop_through 10 bytes) mid rest h.2 k)
 
-known-append : (is js : List (List ℕ)) (first mid rest : Option (List ℕ)) → IfSome first (λ bs. BeginsWith is bs mid)
+pub known-append : (is js : List (List ℕ)) (first mid rest : Option (List ℕ)) → IfSome first (λ bs. BeginsWith is bs mid)
     → IfSome mid (λ bs. BeginsWith js bs rest) → IfSome first (λ bs. BeginsWith (is ++ js) bs rest)
 known-append is js None mid rest h k = tt
 known-append is js (Some bytes) mid rest h k = begins-append is js bytes mid rest h k
 
-number-append : (n : ℕ) (is js : List (List ℕ)) → line_number n (is ++ js) ≡ line_number (line_number n is) js
+pub number-append : (n : ℕ) (is js : List (List ℕ)) → line_number n (is ++ js) ≡ line_number (line_number n is) js
 number-append n [] js = refl
 number-append n (i ∷ is) js = number-append (one_line_more n) is js
 
@@ -35,7 +35,7 @@ lines-append remaining a b c is js h k = record {
   took = known-append is js _ _ _ h.took k.took;
 }
 
-known-none : (rest : Option (List ℕ)) → IfSome rest (λ bs. rest ≡ Some bs)
+pub known-none : (rest : Option (List ℕ)) → IfSome rest (λ bs. rest ≡ Some bs)
 known-none None = tt
 known-none (Some bytes) = refl
 
@@ -43,7 +43,7 @@ known-none (Some bytes) = refl
 pub lines-none : {R Z : Type 0} (remaining : R → Option (List ℕ)) (a : CaseReader R Z) → TakesLines remaining a a []
 lines-none remaining a = record { counted = refl; took = known-none (remaining (source_of a)) }
 
-line-known : (first rest : Option (List ℕ)) (line : List ℕ) → IfSome first (λ bs. TookLine bs line rest true)
+pub line-known : (first rest : Option (List ℕ)) (line : List ℕ) → IfSome first (λ bs. TookLine bs line rest true)
     → IfSome first (λ bs. BeginsWith (line ∷ []) bs rest)
 line-known None rest line h = tt
 line-known (Some bytes) rest line h = (h.0, h.1, h.2)
@@ -53,12 +53,12 @@ pub lines-one : {R Z : Type 0} (remaining : R → Option (List ℕ)) (a b : Case
     → TakesLines remaining a b (b.line.items ∷ [])
 lines-one remaining a b h = record { counted = h.counted; took = line-known _ _ _ h.took }
 
-end-known : (first rest : Option (List ℕ)) (line : List ℕ) → IfSome first (λ bs. TookLine bs line rest false)
+pub end-known : (first rest : Option (List ℕ)) (line : List ℕ) → IfSome first (λ bs. TookLine bs line rest false)
     → IfSome first (λ bs. BeginsWith [] bs rest)
 end-known None rest line h = tt
 end-known (Some bytes) rest line h = h.1 ∙ ap Some (sym h.0)
 
-last-known : (first rest : Option (List ℕ)) (line : List ℕ) → IfSome first (λ bs. TookLine bs line rest false)
+pub last-known : (first rest : Option (List ℕ)) (line : List ℕ) → IfSome first (λ bs. TookLine bs line rest false)
     → IfSome first (λ bs. rest ≡ Some [])
 last-known None rest line h = tt
 last-known (Some bytes) rest line h = h.1
@@ -68,7 +68,7 @@ begins-known : (ls : List (List ℕ)) (bytes : List ℕ) (rest : Option (List �
 begins-known [] bytes rest h = (bytes, h)
 begins-known (l ∷ ls) bytes rest h = begins-known ls (drop_through 10 bytes) rest h.2
 
-end-append : (ls : List (List ℕ)) (first mid last : Option (List ℕ)) → IfSome first (λ bs. BeginsWith ls bs mid)
+pub end-append : (ls : List (List ℕ)) (first mid last : Option (List ℕ)) → IfSome first (λ bs. BeginsWith ls bs mid)
     → IfSome mid (λ bs. last ≡ Some []) → IfSome first (λ bs. last ≡ Some [])
 end-append ls None mid last h k = tt
 end-append ls (Some bytes) mid last h k =
