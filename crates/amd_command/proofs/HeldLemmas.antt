@@ -5,8 +5,10 @@ use Rattle.std.specs.Prelude.{IfSome, Contains, slice_index_or, ◌<◌, ◌↔�
 use Rattle.std.proofs.lemmas.Bool.{cases_lt, cases_eq}
 use Rattle.std.proofs.lemmas.List.{length-replicate, length-set, get_or-set_same, get_or-set_other, get_or-replicate, get_or_past}
 use Rattle.std.proofs.lemmas.List.Elements.{Contains-append_left, Contains-append_right, Contains-append_cases}
-use Rattle.amd_market.specs.Lines.{BeginsWith, TakesLines, TakesTelling, TakesNotes, telling}
-use Rattle.amd_market.proofs.LineLemmas.{takes-append, takes-none, telling-both, begins-known}
+use Rattle.amd_cases.specs.Reading.{BeginsWith}
+use Rattle.amd_cases.proofs.ReadingLemmas.{end-append}
+use Rattle.amd_market.specs.Lines.{TakesLines, TakesTelling, TakesNotes, telling}
+use Rattle.amd_market.proofs.LineLemmas.{takes-append, takes-none, telling-both}
 use Rattle.amd_market.specs.declared.lines.LineReader.{LineReader}
 use Rattle.amd_command.specs.Held.{SpellsRow, SpellsRows, AreMarks, MarksRows}
 
@@ -119,8 +121,4 @@ held-whole remaining a b c input n marks same h end =
         → IfSome mid (λ bs. last ≡ Some []) → IfSome first (λ bytes. MarksRows bytes n marks)
     known None mid last k w z = tt
     known (Some bytes) mid last k w z =
-        made bytes (subst (BeginsWith (h.lines ++ end.lines) bytes) (ending mid z (begins-known h.lines bytes mid k)) w)
-      where
-        ending : (m : Option (List ℕ)) → IfSome m (λ bs. last ≡ Some []) → (x : List ℕ) × (m ≡ Some x) → last ≡ Some []
-        ending None q x = let bad : None ≡ Some x.0 = x.1 in cc
-        ending (Some y) q x = q
+        made bytes (subst (BeginsWith (h.lines ++ end.lines) bytes) (end-append h.lines (Some bytes) mid last k z) w)

@@ -2,7 +2,8 @@
 use Rattle.std.specs.Prelude.{◌≡◌, ◌↔◌, ℕ, Bool, true, false, Some, List, [], ◌∷◌, length, Contains, slice_index_or}
 use Rattle.amd_cases.specs.Words.{words}
 use Rattle.amd_market.specs.Entries.{SpellsIndex}
-use Rattle.amd_market.specs.Lines.{BeginsWith, telling}
+use Rattle.amd_cases.specs.Reading.{BeginsWith}
+use Rattle.amd_market.specs.Lines.{telling}
 
 -- the line is the number of one of n rows, of which the first is 1
 pub record SpellsRow (n : ℕ) (line : List ℕ) (row : ℕ) : Type 0 where

@@ -5,10 +5,12 @@ use Rattle.std.specs.Prelude.{IfSome, flat_map, All, ◌<◌, ◌≤◌}
 use Rattle.std.proofs.lemmas.Grind.{flat_map-append}
 use Rattle.amd_market.specs.Headers.{SpellsHeader, pairs_of}
 use Rattle.amd_market.specs.Entries.{SpellsSize, SpellsEntry, SpellsEntries, most_rows}
-use Rattle.amd_market.specs.Lines.{BeginsWith, TakesLines, TakesTelling, TakesNotes, FailsAt, telling, line_number, named_line}
+use Rattle.amd_cases.specs.Reading.{BeginsWith, line_number}
+use Rattle.amd_cases.proofs.ReadingLemmas.{end-append}
+use Rattle.amd_market.specs.Lines.{TakesLines, TakesTelling, TakesNotes, FailsAt, telling, named_line}
 use Rattle.amd_market.specs.Columns.{HoldsPairs}
 use Rattle.amd_market.specs.Files.{TakesEntries, SpellsMatrix, NamesLine}
-use Rattle.amd_market.proofs.LineLemmas.{takes-append, takes-none, telling-both, begins-known}
+use Rattle.amd_market.proofs.LineLemmas.{takes-append, takes-none, telling-both}
 use Rattle.amd_market.proofs.EntryLemmas.{entries-more, all-inside}
 use Rattle.amd_market.specs.declared.headers.Header.{Header}
 use Rattle.amd_market.specs.declared.lines.LineReader.{LineReader}
@@ -99,11 +101,7 @@ file-whole remaining a b c d e input line size_line header n k ps ap' ai same fi
     known None mid last h w z = tt
     known (Some bytes) mid last h w z =
         made bytes (subst (BeginsWith (line ∷ others) bytes)
-        (ending mid z (begins-known ((line ∷ []) ++ (second.lines ++ third.lines)) bytes mid h)) w)
-      where
-        ending : (m : Option (List ℕ)) → IfSome m (λ bs. last ≡ Some []) → (x : List ℕ) × (m ≡ Some x) → last ≡ Some []
-        ending None q x = let bad : None ≡ Some x.0 = x.1 in cc
-        ending (Some y) q x = q
+        (end-append ((line ∷ []) ++ (second.lines ++ third.lines)) (Some bytes) mid last h z) w)
 
 -- an error of a reader that began at the start of a text
 pub names-line : {R Z : Type 0} (remaining : R → Option (List ℕ)) (a : LineReader R Z) (input : R) (e : ReadError) → a.input ≡ input →

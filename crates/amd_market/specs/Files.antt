@@ -2,7 +2,8 @@
 use Rattle.std.specs.Prelude.{◌≡◌, ◌≤◌, ℕ, Some, List, [], ◌∷◌, length, flat_map, Option}
 use Rattle.amd_market.specs.Headers.{SpellsHeader, pairs_of}
 use Rattle.amd_market.specs.Entries.{SpellsSize, SpellsEntries, most_rows}
-use Rattle.amd_market.specs.Lines.{BeginsWith, TakesLines, telling, line_number, named_line}
+use Rattle.amd_cases.specs.Reading.{BeginsWith, line_number}
+use Rattle.amd_market.specs.Lines.{TakesLines, telling, named_line}
 use Rattle.amd_market.specs.Columns.{HoldsPairs}
 use Rattle.amd_market.specs.declared.headers.Header.{Header}
 use Rattle.amd_market.specs.declared.lines.LineReader.{LineReader}

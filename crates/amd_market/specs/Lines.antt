@@ -1,17 +1,11 @@
 -- The lines of a text, and what a reader takes off its input, where the bytes of that are known.
-use Rattle.std.specs.Prelude.{◌≡◌, ◌<◌, ◌==◌, not, ℕ, Bool, true, false, Option, Some, IfSome, List, [], ◌∷◌, length, filter, slice_index}
+use Rattle.std.specs.Prelude.{◌≡◌, ◌==◌, not, ℕ, Bool, true, false, Option, Some, IfSome, List, [], ◌∷◌, filter, slice_index}
 use Rattle.std.specs.Prelude.{if◌then◌else◌}
-use Rattle.std.specs.Io.BufRead.{take_through, drop_through}
 use Rattle.amd_cases.specs.Words.{words}
-use Rattle.amd_cases.specs.Reading.{TookLine, one_line_more}
+use Rattle.amd_cases.specs.Reading.{BeginsWith, TookLine, line_number, one_line_more}
 use Rattle.amd_market.specs.declared.lines.LineReader.{LineReader}
 use Rattle.amd_market.specs.declared.faults.ReadError.{ReadError}
 use Rattle.amd_market.specs.declared.faults.ReadError.TheVariants.{Line, Input}
-
--- the bytes begin with these lines, each up to and with its line feed, or up to the end of the bytes; and this is left
-abbrev pub BeginsWith : List (List ℕ) → List ℕ → Option (List ℕ) → Type 0
-BeginsWith [] bytes rest = rest ≡ Some bytes
-BeginsWith (l ∷ ls) bytes rest = (0 < length bytes) × (l ≡ take_through 10 bytes) × BeginsWith ls (drop_through 10 bytes) rest
 
 -- a line without a word, or whose first word begins with '%', says nothing
 abbrev pub is_note : List (List ℕ) → Bool
@@ -37,11 +31,6 @@ lines_read r = r.lines
 -- the line that was read last
 abbrev pub line_of : {R Z : Type 0} → LineReader R Z → List ℕ
 line_of r = r.line.items
-
--- the number of lines behind so many others and these, up to the greatest number of 64 bits
-abbrev pub line_number : ℕ → List (List ℕ) → ℕ
-line_number n [] = n
-line_number n (l ∷ ls) = line_number (one_line_more n) ls
 
 -- the next line was read and counted, or there was none
 pub record TakesLine {R Z : Type 0} (remaining : R → Option (List ℕ)) (old new : LineReader R Z) (some : Bool) : Type 0 where
