@@ -19,6 +19,8 @@ use Rattle.amd_model.proofs.Counting.Lists.{both_below}
 use Rattle.amd_model.proofs.Counting.Places.{below_skip, below_take, place_of, length_below}
 use Rattle.amd_model.proofs.Counting.Points.{count_drop}
 use Rattle.amd_model.proofs.Listings.Words.{has_head, has_tail, has_left}
+use Rattle.amd_views.proofs.Lists.Named.{sum_named}
+use Rattle.amd_views.proofs.Lists.Pivots.{eq_flip}
 use Rattle.amd_places.specs.Words.{num, size_of}
 use Rattle.amd_listing.specs.Blocks.{others_of, block_of, listing_of}
 use Rattle.amd_listing.specs.Placing.{AreBlocks}
@@ -64,11 +66,6 @@ below_at (suc n) p v l h = elim (cases_eq v n) [
 
 -- ---- sums over lists
 
-sums_alike : (f g : ℕ → ℕ) (xs : List ℕ) → ((x : ℕ) → has xs x ≡ true → f x ≡ g x) → sum_by f xs ≡ sum_by g xs
-sums_alike f g [] h = refl
-sums_alike f g (x ∷ xs) h = let a = sum_by-cons f x xs in let b = sum_by-cons g x xs in let here = h x (has_head x x xs refl) in
-    let on = sums_alike f g xs (λ y k. h y (has_tail y x xs k)) in omega (arith, a, b, here, on)
-
 has_take : (k : ℕ) (xs : List ℕ) (x : ℕ) → has (take k xs) x ≡ true → has xs x ≡ true
 has_take k xs x h = subst (λ ys. has ys x ≡ true) (take-append-drop k xs) (has_left x (take k xs) (drop k xs) h)
 
@@ -78,17 +75,11 @@ in_blocks es Last = false
 in_blocks es (Live c) = false
 in_blocks es (Gone e) = has es e
 
-eqb_turned : (a b : ℕ) → (a == b) ≡ (b == a)
-eqb_turned a b = elim (cases_eq a b) [
-  | inl q ↦ eq-eqb a b q ∙ sym (eq-eqb b a (sym q))
-  | inr ne ↦ ne_eqb a b ne ∙ sym (ne_eqb b a (λ q. ne (sym q)))
-]
-
 one_more : (e : ℕ) (es : List ℕ) (h : Home) → in_blocks (e ∷ es) h ≡ (block_at e h || in_blocks es h)
 unfolding in_blocks block_at has
 one_more e es Last = refl
 one_more e es (Live c) = refl
-one_more e es (Gone f) = ap (λ b. b || has es f) (eqb_turned e f)
+one_more e es (Gone f) = ap (λ b. b || has es f) (eq_flip e f)
 
 apart_from : (e : ℕ) (es : List ℕ) (h : Home) → has es e ≡ false → block_at e h ≡ true → in_blocks es h ≡ false
 unfolding in_blocks block_at
@@ -175,7 +166,7 @@ module _ (link nv : List ℤ) (starts : List ℕ) (end : ℕ) (home : ℕ → Ho
   lengths_sum : (xs : List ℕ) → ((x : ℕ) → has xs x ≡ true → has elements x ≡ true) →
       length (flat_map (block_of n home) xs) ≡ sum_by (size_of nv) xs
   lengths_sum xs in_all = length-flat_map (block_of n home) xs
-      ∙ sums_alike (λ e. length (block_of n home e)) (size_of nv) xs (λ x h. block_long x (listed_sized x (in_all x h)))
+      ∙ sum_named (λ e. length (block_of n home e)) (size_of nv) xs (λ x h. block_long x (listed_sized x (in_all x h)))
 
   blocks_long : length blocks ≡ end
   blocks_long = lengths_sum elements (λ x h. h) ∙ sym b.begun.end_is

@@ -5,15 +5,16 @@ use Rattle.std.specs.Prelude.{slice_index, slice_set, nat_lt, sum_by, ◌==◌}
 use Rattle.std.proofs.Math.ListN.{set}
 use Rattle.std.proofs.lemmas.List.{length-set, get_or-set_same, get_or-set_other, take_all}
 use Rattle.std.proofs.lemmas.List.Sums.{sum_by-cons, sum_by_more, sum_by_more_le, sum_by-take-le}
-use Rattle.std.proofs.lemmas.Bool.{cases_eq, cases_lt, ltb-true, eqb-true, and_parts, or_cases, false≢true}
+use Rattle.std.proofs.lemmas.Bool.{cases_eq, cases_lt, ltb-true, and_parts, or_cases, false≢true}
 use Rattle.amd_model.specs.Below.{count_below}
-use Rattle.amd_model.specs.State.{Home, Last, Live, Gone, block_at}
+use Rattle.amd_model.specs.State.{Home, Gone, block_at}
 use Rattle.amd_model.specs.Quotient.{has, Once}
 use Rattle.amd_model.proofs.Counting.Below.{clash, count_most, count_same, count_zero}
 use Rattle.amd_model.proofs.Counting.Places.{has_place, places_differ}
 use Rattle.amd_model.proofs.Counting.Points.{pigeonhole}
 use Rattle.amd_model.proofs.Counting.Unions.{count_apart}
 use Rattle.amd_model.proofs.Listings.Words.{has_head, has_tail}
+use Rattle.amd_model.proofs.States.Words.{block_gives}
 use Rattle.amd_places.specs.Words.{num, size_of, word}
 use Rattle.amd_listing.specs.Blocks.{AreElements, AreStarts, BeginWith}
 
@@ -23,17 +24,11 @@ in_blocks [] h = false
 in_blocks (e ∷ es) h = block_at e h || in_blocks es h
 
 -- the element of the block that a row is in
-pub one_home : (e : ℕ) (h : Home) → block_at e h ≡ true → h ≡ Gone e
-unfolding block_at
-one_home e Last q = absurd (false≢true q)
-one_home e (Live c) q = absurd (false≢true q)
-one_home e (Gone f) q = ap Gone (eqb-true f e q)
-
 its_element : (es : List ℕ) (h : Home) → in_blocks es h ≡ true → (e : ℕ) × (has es e ≡ true) × (h ≡ Gone e)
 unfolding in_blocks
 its_element [] h q = absurd (false≢true q)
 its_element (e ∷ es) h q = elim (or_cases (block_at e h) (in_blocks es h) q) [
-  | inl b ↦ (e, has_head e e es refl, one_home e h b)
+  | inl b ↦ (e, has_head e e es refl, block_gives e h b)
   | inr b ↦ (let r = its_element es h b in (r.0, has_tail r.0 e es r.1, r.2))
 ]
 
@@ -48,7 +43,7 @@ sum_in_blocks n home size (e ∷ es) once sizes =
     let rest = sum_in_blocks n home size es once.1 (λ f h. sizes f (has_tail f e es h)) in
     let union = count_apart n (λ v. block_at e (home v)) (λ v. in_blocks es (home v)) (λ v l a b.
     let r = its_element es (home v) b in
-    let x : Gone e ≡ Gone r.0 = sym (one_home e (home v) a) ∙ r.2 in let same : r.0 ≡ e = cc in
+    let x : Gone e ≡ Gone r.0 = sym (block_gives e (home v) a) ∙ r.2 in let same : r.0 ≡ e = cc in
     clash (subst (λ f. has es f ≡ true) same r.1) once.0) in
     omega (arith, cons, is, rest, union)
 

@@ -24,7 +24,7 @@ pub record AreSoFar (e : ℕ) (listing elements : List ℕ) (count : ℕ) : Type
   pub each : (k : ℕ) → k < length listing → slice_index listing k < e → num elements k ≡ slice_index listing k
   pub counted : count ≡ count_below (length listing) (λ k. nat_lt (slice_index listing k) e)
 
-below_same : (x j : ℕ) → x ≢ j → nat_lt x (j + 1) ≡ nat_lt x j
+pub below_same : (x j : ℕ) → x ≢ j → nat_lt x (j + 1) ≡ nat_lt x j
 below_same x j ne = both_ways (nat_lt x (j + 1)) (nat_lt x j)
     (λ h. let l = ltb-true x (j + 1) h in lt-ltb x j (omega (arith, l, ne))) (λ h. let l = ltb-true x j h in
     lt-ltb x (j + 1) (omega (arith, l)))
@@ -44,7 +44,7 @@ so_far_start listing elements = record {
 module _ (t : Tree) (order : List ℤ) (o : IsPostorderOf t order)
     (inside : (k : ℕ) → k < length o.listing → slice_index o.listing k < t.size) where
   -- a listing names no number twice
-  apart : (i k : ℕ) → i < length o.listing → k < length o.listing → slice_index o.listing i ≡ slice_index o.listing k → i ≡ k
+  pub apart : (i k : ℕ) → i < length o.listing → k < length o.listing → slice_index o.listing i ≡ slice_index o.listing k → i ≡ k
   apart i k l m q = (let x : pos i ≡ pos k = sym (o.places i l) ∙ ap (at order) q ∙ o.places k m in cc)
 
   pub listing_fits : length o.listing ≤ t.size

@@ -1,7 +1,7 @@
 -- The blocks of the assembly tree in postorder, at the end of a run: exactly the elements are listed, and the rows of their blocks, with
 -- the rows held last behind them, are its listing.
-use Rattle.std.proofs.Common.{ℕ, ℤ, Bool, true, false, ◌≡◌, ◌<◌, ◌&&◌, inl, inr, refl, sym, ◌∙◌, ap, List, [], ◌∷◌, length, map, pos}
-use Rattle.std.specs.Prelude.{nat_lt, int_lt, slice_index, unsigned_abs}
+use Rattle.std.proofs.Common.{ℕ, ℤ, Bool, true, false, ◌≡◌, ◌<◌, ◌&&◌, inl, inr, refl, sym, ◌∙◌, ap, List, length, pos}
+use Rattle.std.specs.Prelude.{nat_lt, int_lt, slice_index}
 use Rattle.std.specs.Cmp.{both_ways}
 use Rattle.std.proofs.lemmas.Bool.{cases_Bool, true≢false}
 use Rattle.amd_model.specs.Below.{count_below, list_below}
@@ -65,11 +65,3 @@ module _ (g : Graph) (dense : ℕ → Bool) (s : State) (end : IsEnd g dense s) 
     pub listed : IsPostorder g dense s (listing_of g.size s.home o.listing)
     listed = blocks_listed g dense s (tree_of g.size link nv f_size) pairs rooted order o (listing_of g.size s.home o.listing)
         (others_of g.size s.home) (λ v. is_last (s.home v)) (λ e small. refl) last_row refl
-
--- lists of counts that say the same are one
-pub same_counts : (xs ys : List ℕ) → map pos xs ≡ map pos ys → xs ≡ ys
-same_counts xs ys q = sym (back xs) ∙ ap (map unsigned_abs) q ∙ back ys
-  where
-    back : (zs : List ℕ) → map unsigned_abs (map pos zs) ≡ zs
-    back [] = refl
-    back (z ∷ zs) = ap (λ ws. z ∷ ws) (back zs)

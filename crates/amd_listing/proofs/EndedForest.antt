@@ -1,7 +1,6 @@
 -- At the end of a run the elements, with their parents and the numbers of rows of their blocks and fronts, are the forest of the
 -- assembly tree.
-use Rattle.std.proofs.Common.{ℕ, ℤ, Bool, true, false, ◌≡◌, ◌<◌, ◌⊎◌, ◌&&◌, inl, inr, refl, sym, ◌∙◌, ap, arith, List, length, pos, negsuc}
-use Rattle.std.proofs.Common.{Option, None, Some}
+use Rattle.std.proofs.Common.{ℕ, ℤ, Bool, true, false, ◌≡◌, ◌<◌, ◌&&◌, inl, inr, refl, sym, ◌∙◌, ap, arith, List, length, pos, negsuc}
 use Rattle.std.specs.Prelude.{nat_lt, int_lt, unsigned_abs}
 use Rattle.std.proofs.lemmas.Int.{ints}
 use Rattle.std.proofs.lemmas.Bool.{cases_Bool, false≢true, lt-ltb, ltb-true, eqb-true, eq-eqb, and_parts}
@@ -18,11 +17,7 @@ use Rattle.amd_trees.specs.Trees.{IsForest, is_element, tree_of}
 use Rattle.amd_trees.proofs.Links.{names_some}
 use Rattle.amd_listing.specs.Ended.{IsEnded}
 use Rattle.amd_listing.proofs.BlockLists.{AreAlike}
-
--- a parent is named or not
-cases_parent : (o : Option ℕ) → (o ≡ None) ⊎ ((p : ℕ) × (o ≡ Some p))
-cases_parent None = inl refl
-cases_parent (Some p) = inr (p, refl)
+use Rattle.amd_listing.proofs.LinkSteps.{cases_link}
 
 module _ (g : Graph) (dense : ℕ → Bool) (s : State) (end : IsEnd g dense s) (link nv f_size : List ℤ)
     (ended : IsEnded g s link nv f_size) where
@@ -47,7 +42,7 @@ module _ (g : Graph) (dense : ℕ → Bool) (s : State) (end : IsEnd g dense s) 
     nv_room = ended.links.nv_long;
     f_size_room = ended.fronts_long;
     sizes = λ e h. (let q = ended.fronts e (element_is e h) in omega (arith, ints, q));
-    parents = λ e h. elim (cases_parent (s.parent e)) [
+    parents = λ e h. elim (cases_link (s.parent e)) [
       | inl q ↦ inl (ended.tops e (element_is e h) q)
       | inr w ↦ (let over = end.made.tree.over e w.0 w.1 in inr (
         w.0,

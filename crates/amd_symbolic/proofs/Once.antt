@@ -1,8 +1,9 @@
 -- An order names its rows once, and so a factor.
-use Rattle.std.proofs.Common.{ℕ, ℤ, pos, ◌≡◌, refl, sym, ◌∙◌, ap, subst, List, [], ◌∷◌, map}
+use Rattle.std.proofs.Common.{ℕ, ℤ, ◌≡◌, sym, ◌∙◌, subst, List}
 use Rattle.std.specs.Prelude.{unsigned_abs, Option}
 use Rattle.amd_model.specs.Factor.{IsFactor}
 use Rattle.amd_model.specs.Input.Pattern.{graph_of}
+use Rattle.amd_numbers.proofs.SignedCounts.{same_counts}
 use Rattle.amd_factor.specs.Columns.{HoldColumns}
 use Rattle.amd_factor.specs.Earlier.{Permutes}
 use Rattle.amd_factor.proofs.FactorOnce.{factor_once}
@@ -10,15 +11,8 @@ use Rattle.amd_symbolic.specs.Factors.{IsFactorOf}
 use Rattle.amd_symbolic.specs.Laws.{ThereIsOneFactor}
 use Rattle.amd_symbolic.proofs.Vectors.{vectors_once}
 
-pub pos_once : (xs ys : List ℕ) → map pos xs ≡ map pos ys → xs ≡ ys
-pos_once [] [] e = refl
-pos_once [] (y ∷ ys) e = absurd (cc)
-pos_once (x ∷ xs) [] e = absurd (cc)
-pos_once (x ∷ xs) (y ∷ ys) e = let h : x ≡ y = cc in let t : map pos xs ≡ map pos ys = cc in
-    ap (λ z. z ∷ xs) h ∙ ap (λ zs. y ∷ zs) (pos_once xs ys t)
-
 pub order_once : (n : ℕ) (p : List ℤ) (xs ys : List ℕ) → Permutes n p xs → Permutes n p ys → xs ≡ ys
-order_once n p xs ys a b = pos_once xs ys (sym a.listed ∙ b.listed)
+order_once n p xs ys a b = same_counts xs ys (sym a.listed ∙ b.listed)
 
 pub one_factor : ThereIsOneFactor
 one_factor n ap' ai p ptr rows ptr' rows' parent parent' f f' =

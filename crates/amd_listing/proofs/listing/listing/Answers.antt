@@ -5,7 +5,7 @@ use Rattle.amd_model.specs.Listing.{IsPostorder}
 use Rattle.amd_trees.specs.Trees.{tree_of}
 use Rattle.amd_trees.specs.FigureLinks.{figure_links}
 use Rattle.amd_listing.specs.Blocks.{listing_of}
-use Rattle.amd_listing.proofs.EndedBlocks.{same_counts}
+use Rattle.amd_numbers.proofs.SignedCounts.{same_counts}
 use Rattle.amd_listing.proofs.EndedListing.{forest_told, links_told, none_live, blocks_told}
 use Rattle.amd_listing.proofs.listing.listing.Goals as goal
 
