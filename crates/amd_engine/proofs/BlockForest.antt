@@ -18,8 +18,8 @@ use Rattle.amd_rounds.specs.Views.{num, some_at}
 use Rattle.amd_numbers.specs.Links.{named}
 use Rattle.amd_trees.specs.Trees.{IsForest, is_element, tree_of, link_of}
 use Rattle.amd_trees.proofs.ChildLinks.{named_link}
-use Rattle.amd_engine.proofs.BlockLists.{AreAlike}
-use Rattle.amd_engine.proofs.RowLinks.{cases_link}
+use Rattle.amd_listing.proofs.BlockLists.{AreAlike}
+use Rattle.amd_listing.proofs.LinkSteps.{cases_link}
 
 -- the signed numbers stand for the elements of s
 pub record AreElements (g : Graph) (s : State) (parent : List (Option ℕ)) (block front : List ℕ) (links nv f_size : List ℤ) : Type 0 where

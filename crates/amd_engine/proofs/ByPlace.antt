@@ -1,19 +1,16 @@
 -- A listing by the places of its numbers, and read back in their order.
-use Rattle.std.proofs.Common.{ℕ, ℤ, ◌≡◌, ◌≢◌, ◌<◌, ◌≤◌, ◌+◌, ◌++◌, ◌∷◌, [], cond, inl, inr, sym, ◌∙◌, ap, subst, arith, List, length, take}
-use Rattle.std.proofs.Common.{get_or, pos, Option, None, Some}
+use Rattle.std.proofs.Common.{ℕ, ℤ, ◌≡◌, ◌<◌, ◌≤◌, ◌+◌, ◌++◌, ◌∷◌, [], cond, inl, inr, sym, ◌∙◌, ap, arith, List, length, take}
+use Rattle.std.proofs.Common.{get_or, Option, None, Some}
 use Rattle.std.specs.Prelude.{slice_index, nat_lt}
 use Rattle.std.proofs.Math.ListN.{set}
 use Rattle.std.proofs.lemmas.List.{length-set, get_or-set_same, get_or-set_other, take_more, take_all}
-use Rattle.std.proofs.lemmas.Bool.{cases_eq, cases_lt, cases_Bool, lt-ltb, ltb-true}
-use Rattle.std.specs.Cmp.{both_ways}
+use Rattle.std.proofs.lemmas.Bool.{cases_eq, cases_lt, lt-ltb}
 use Rattle.amd_model.specs.Input.Columns.{at}
 use Rattle.amd_model.specs.Listing.{Tree}
-use Rattle.amd_model.proofs.Counting.Places.{place_of}
-use Rattle.amd_model.proofs.Counting.Points.{pigeonhole}
 use Rattle.amd_rounds.specs.Views.{some_at}
 use Rattle.amd_numbers.specs.Links.{named}
 use Rattle.amd_trees.specs.Trees.{IsByPlace, IsPostorderOf}
-use Rattle.amd_trees.proofs.Links.{names_some}
+use Rattle.amd_listing.proofs.ByPlace.{below_same, apart, listing_fits, found}
 
 module _ (n : ℕ) (listing : List ℕ) (places : List (Option ℕ)) (by : IsByPlace n listing places) where
   pub next_taken : (k e : ℕ) → some_at places k ≡ Some e → take (k + 1) listing ≡ take k listing ++ e ∷ []
@@ -41,25 +38,12 @@ pub record AreSoFar (j n : ℕ) (listing : List ℕ) (places : List (Option ℕ)
   pub each : (k : ℕ) → k < length listing → some_at places k ≡ cond (nat_lt (slice_index listing k) j) (Some (slice_index listing k)) None
   pub rest : (k : ℕ) → length listing ≤ k → some_at places k ≡ None
 
-below_same : (x j : ℕ) → x ≢ j → nat_lt x (j + 1) ≡ nat_lt x j
-below_same x j ne = both_ways (nat_lt x (j + 1)) (nat_lt x j)
-    (λ h. let l = ltb-true x (j + 1) h in lt-ltb x j (omega (arith, l, ne))) (λ h. let l = ltb-true x j h in
-    lt-ltb x (j + 1) (omega (arith, l)))
-
 module _ (t : Tree) (order : List ℤ) (o : IsPostorderOf t order)
     (inside : (k : ℕ) → k < length o.listing → slice_index o.listing k < t.size) where
-  -- a listing names no number twice
-  apart : (i k : ℕ) → i < length o.listing → k < length o.listing → slice_index o.listing i ≡ slice_index o.listing k → i ≡ k
-  apart i k l m q = (let x : pos i ≡ pos k = sym (o.places i l) ∙ ap (at order) q ∙ o.places k m in cc)
-
-  pub listing_fits : length o.listing ≤ t.size
-  listing_fits = pigeonhole t.size (length o.listing) (slice_index o.listing) inside
-      (λ j k m l q. let e = apart j k (omega (arith, m, l)) l q in omega (arith, m, e))
-
   pub so_far_end : (j : ℕ) (places : List (Option ℕ)) → j ≡ t.size → AreSoFar j t.size o.listing places → IsByPlace t.size o.listing places
   so_far_end j places q a = record {
     room = a.room;
-    fits = listing_fits;
+    fits = listing_fits t order o inside;
     each = λ k l. a.each k l ∙ ap (λ b. cond b (Some (slice_index o.listing k)) None)
         (lt-ltb (slice_index o.listing k) j (let s = inside k l in omega (arith, s, q)));
     rest = a.rest;
@@ -77,22 +61,10 @@ module _ (t : Tree) (order : List ℤ) (o : IsPostorderOf t order)
     rest = a.rest;
   }
 
-  -- the place of a node
-  pub found : (j p : ℕ) → j < t.size → named (at order j) ≡ Some p → (p < length o.listing) × (slice_index o.listing p ≡ j)
-  found j p small q =
-      let is = names_some (at order j) p (sym q) in
-      elim (cases_Bool (t.is_node j)) [
-        | inl y ↦ (let k = place_of o.listing j (o.each j small y) in
-            let x : pos k.0 ≡ pos p = sym (o.places k.0 k.1) ∙ ap (at order) (k.2 0) ∙ is in
-            let same : k.0 ≡ p = cc in
-            (subst (λ z. z < length o.listing) same k.1, ap (slice_index o.listing) (sym same) ∙ k.2 0))
-        | inr y ↦ absurd (let x : Some p ≡ None = sym q ∙ ap named (o.others j small y) in cc)
-      ]
-
   pub so_far_take : (j p : ℕ) (places : List (Option ℕ)) → AreSoFar j t.size o.listing places → j < t.size → named (at order j) ≡ Some p →
       AreSoFar (j + 1) t.size o.listing (set places p (Some j))
   so_far_take j p places a small q =
-      let f = found j p small q in let room = a.room in let fits = listing_fits in
+      let f = found t order o inside j p small q in let room = a.room in let fits = listing_fits t order o inside in
       record {
         room = length-set places p (Some j) ∙ a.room;
         each = λ k l. elim (cases_eq k p) [
@@ -104,7 +76,7 @@ module _ (t : Tree) (order : List ℤ) (o : IsPostorderOf t order)
               ap Some is))
           | inr ne ↦ get_or-set_other places p k (Some j) None ne ∙ a.each k l
               ∙ sym (ap (λ b. cond b (Some (slice_index o.listing k)) None)
-              (below_same (slice_index o.listing k) j (λ e. ne (apart k p l f.0 (e ∙ sym f.1)))))
+              (below_same (slice_index o.listing k) j (λ e. ne (apart t order o inside k p l f.0 (e ∙ sym f.1)))))
         ];
         rest = λ k l. get_or-set_other places p k (Some j) None (λ e. let x = f.0 in omega (arith, x, l, e)) ∙ a.rest k l;
       }

@@ -18,9 +18,9 @@ use Rattle.amd_rounds.specs.Views.{num, some_at}
 use Rattle.amd_rounds.specs.declared.work.Work.{Work}
 use Rattle.amd_engine.proofs.BlockForest.{AreElements, forest, alike, stands_elements, last_block}
 use Rattle.amd_views.proofs.Lists.Rising.{list_same}
-use Rattle.amd_engine.proofs.BlockLists.{AreAlike, blocks_listed, listing_inside}
+use Rattle.amd_listing.proofs.BlockLists.{AreAlike, blocks_listed, listing_inside}
 use Rattle.amd_trees.proofs.ForestListings.{IsRanked}
-use Rattle.amd_engine.proofs.RowLinks.{cases_link}
+use Rattle.amd_listing.proofs.LinkSteps.{cases_link}
 use Rattle.amd_trees.proofs.TreeNumbers.{ranked}
 
 -- what holds of an error that there is, holds of it if there is one

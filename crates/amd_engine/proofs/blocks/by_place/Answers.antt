@@ -1,5 +1,6 @@
 use Rattle.std.proofs.Common.{◌≡◌, ◌<◌, ◌+◌, sym, ◌∙◌, subst, arith, length}
-use Rattle.amd_engine.proofs.ByPlace.{AreSoFar, listing_fits, found, so_far_skip, so_far_take, so_far_end}
+use Rattle.amd_listing.proofs.ByPlace.{listing_fits, found}
+use Rattle.amd_engine.proofs.ByPlace.{AreSoFar, so_far_skip, so_far_take, so_far_end}
 use Rattle.amd_engine.proofs.blocks.by_place.Goals as goal
 use Rattle.amd_engine.proofs.blocks.by_place.Goals.{in-Some, in_default}
 

@@ -1,7 +1,7 @@
-use Rattle.std.proofs.Common.{◌≡◌, ◌∙◌, sym, None, Some}
+use Rattle.std.proofs.Common.{◌≡◌, ◌∙◌, sym, length, None, Some}
 use Rattle.std.proofs.lemmas.List.{get_or_read}
 use Rattle.amd_rounds.specs.Views.{some_at}
-use Rattle.amd_engine.proofs.RowLinks.{fewer_steps}
+use Rattle.amd_listing.proofs.LinkSteps.{fewer_steps}
 use Rattle.amd_engine.proofs.blocks.root_of.Goals as goal
 
 pub links-smaller : goal.links-smaller
@@ -9,7 +9,7 @@ links-smaller g c =
     let led = c.requires.led.1 in
     let q : some_at c.args.link.now.items c.links.row ≡ Some c.in-Some.next =
     sym (get_or_read c.args.link.now.items c.links.row _ c.links.invariant.within c.index.ensures None) ∙ c.in-Some.is in
-    fewer_steps c.args.link.now.items led.rank led.top led.end c.links.row c.in-Some.next q
+    fewer_steps (length c.args.link.now.items) (some_at c.args.link.now.items) led.rank led.top led.end c.links.row c.in-Some.next q
 
 pub links-preserved : goal.links-preserved
 links-preserved g c =

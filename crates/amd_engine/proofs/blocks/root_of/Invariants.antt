@@ -1,7 +1,8 @@
 use Rattle.std.proofs.Common.{ℕ, suc, ◌≡◌, ◌<◌, length}
 use Rattle.amd_model.specs.State.{Home}
+use Rattle.amd_rounds.specs.Views.{some_at}
 use Rattle.amd_rounds.specs.Keeps.{LinksLead}
-use Rattle.amd_engine.proofs.RowLinks.{steps}
+use Rattle.amd_listing.proofs.LinkSteps.{steps}
 use Rattle.amd_engine.proofs.blocks.root_of.Given as goal
 
 abbrev pub invariant-links : goal.invariant-links
@@ -11,4 +12,4 @@ invariant-links g l = record {
 }
 
 abbrev pub decreases-links : goal.decreases-links
-decreases-links g l = steps l.link.items (suc (length l.link.items)) l.row
+decreases-links g l = steps (some_at l.link.items) (suc (length l.link.items)) l.row

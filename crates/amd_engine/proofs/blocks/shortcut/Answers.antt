@@ -1,7 +1,8 @@
 use Rattle.std.proofs.Common.{◌≡◌, ◌≢◌, ◌<◌, ◌∙◌, ap, sym, length, None, Some, arith}
 use Rattle.std.proofs.lemmas.List.{get_or_read, length-set}
 use Rattle.amd_rounds.specs.Views.{some_at}
-use Rattle.amd_engine.proofs.RowLinks.{fewer_steps, led_straight, same_alone, other, none_as_before}
+use Rattle.amd_listing.proofs.LinkSteps.{fewer_steps}
+use Rattle.amd_engine.proofs.RowLinks.{led_straight, same_alone, other, none_as_before}
 use Rattle.amd_engine.proofs.blocks.shortcut.Goals as goal
 
 pub links-smaller : goal.links-smaller
@@ -12,7 +13,7 @@ links-smaller g c =
     let now : some_at c.links.link.items c.links.row ≡ Some c.in-Some.next =
     sym (get_or_read c.links.link.items c.links.row _ small c.index.ensures None) ∙ c.in-Some.is in
     let q = sym (i.ahead c.requires.led.0 led c.links.row (omega arith)) ∙ now in
-    fewer_steps c.args.link.now.items led.rank led.top led.end c.links.row c.in-Some.next q
+    fewer_steps (length c.args.link.now.items) (some_at c.args.link.now.items) led.rank led.top led.end c.links.row c.in-Some.next q
 
 pub links-preserved : goal.links-preserved
 links-preserved g c =

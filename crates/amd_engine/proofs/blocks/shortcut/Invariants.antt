@@ -2,7 +2,7 @@ use Rattle.std.proofs.Common.{ℕ, suc, ◌≡◌, ◌<◌, ◌≤◌, length, i
 use Rattle.amd_model.specs.State.{Home}
 use Rattle.amd_rounds.specs.Views.{some_at}
 use Rattle.amd_rounds.specs.Keeps.{LinksLead}
-use Rattle.amd_engine.proofs.RowLinks.{steps}
+use Rattle.amd_listing.proofs.LinkSteps.{steps}
 use Rattle.amd_engine.proofs.blocks.shortcut.Given as goal
 
 abbrev pub invariant-links : goal.invariant-links
@@ -17,4 +17,4 @@ invariant-links g l = record {
 }
 
 abbrev pub decreases-links : goal.decreases-links
-decreases-links g l = steps l.fn.link.items (suc (length l.fn.link.items)) l.row
+decreases-links g l = steps (some_at l.fn.link.items) (suc (length l.fn.link.items)) l.row
