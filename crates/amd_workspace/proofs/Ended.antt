@@ -16,7 +16,7 @@ use Rattle.amd_places.specs.Words.{num, word, is_place, rows_in, size_of}
 use Rattle.amd_places.proofs.Signs.{rows_of, is_place_of}
 use Rattle.amd_inplace.specs.Workspaces.{Workspace, view_of, owner_of, is_flip, is_over, flipped}
 use Rattle.amd_inplace.specs.Keeps.{Stands}
-use Rattle.amd_inplace.proofs.Standing.{over_is, flip_no_place}
+use Rattle.amd_inplace.proofs.Standing.{over_is, flip_no_place, some_cond}
 use Rattle.amd_inplace.proofs.RoundFields.{class_word}
 use Rattle.amd_listing.specs.Ended.{row_link, LinksAre, IsEnded}
 use Rattle.amd_workspace.specs.Ending.{named_word, EndsRows}
@@ -57,10 +57,6 @@ block_test d (negsuc (suc k)) = elim (cases_lt d k) [
   | inl l ↦ lt-ltb d k l ∙ sym (lt-ltb 0 (k - d) (omega (arith, l)))
   | inr l ↦ le-ltb d k l ∙ sym (le-ltb 0 (k - d) (omega (arith, l)))
 ]
-
-some_cond : (b : Bool) (m : ℕ) → 0 < cond b m 0 → b ≡ true
-some_cond true m l = refl
-some_cond false m l = absurd (omega (arith, l))
 
 module _ (g : Graph) (dense : ℕ → Bool) (nzaat : ℕ) (v : Workspace) (t : QuotientGraph) (s : State)
     (st : Stands g dense nzaat v t s) (end : IsEnd g dense s) (pe e_len nv : List ℤ)
