@@ -253,8 +253,8 @@ fn matrices_that_are_none(rt: HostRuntime) {
     }
 }
 
-/// Runs a demo with a fault at one call to its writer, and asserts that nothing is written after it. Answers whether that call was
-/// made.
+/// Runs a demo with a fault at one call to its writer, and asserts that nothing is written after it, or, where it is no failure, that
+/// all is written. Answers whether that call was made.
 fn check_fault(
     rt: &impl Abort,
     alloc: Global,
@@ -266,7 +266,8 @@ fn check_fault(
     let status = run(demo, alloc, &mut out);
     let text = text_of(alloc, demo)?;
     let is_made = out.faults() != 0;
-    let is_told = if is_made {
+    let is_failure = matches!(fault, Fault::Fails | Fault::TakesNothing);
+    let is_told = if is_made && is_failure {
         status == 1 && out.calls() == fault_at && text.starts_with(out.bytes())
     } else {
         status == 0 && out.bytes() == text.as_slice()
@@ -282,14 +283,13 @@ fn calls_of(alloc: Global, demo: Demo) -> u64 {
     out.calls()
 }
 
-/// Asserts that a demo stops at a fault, with a fault at one call in `step`, and at the last one, and that it meets none after
-/// that.
+/// Asserts what a demo does at a fault, with a fault at one call in `step`, and at the last one, and that it meets none after that.
 fn check_faults(rt: &impl Abort, alloc: Global, demo: Demo, step: usize) -> Result<(), AllocError>
     requires { 0 < step }
 {
     let calls = calls_of(alloc, demo);
     assert!(rt; 0 < calls && calls < MANY, "{demo:?}");
-    for fault in [Fault::Fails, Fault::TakesNothing] {
+    for fault in [Fault::Fails, Fault::TakesNothing, Fault::TakesOne] {
         for fault_at in (1..calls).step_by(step) {
             assert!(rt; check_fault(rt, alloc, demo, fault, fault_at)?);
         }

@@ -323,7 +323,7 @@ fn are_both(written: &Written, bytes: &[u8]) -> bool {
 }
 
 /// Writes both texts with a fault at one call, and says whether that call was made. The fault is told, where it has a kind, and
-/// nothing is written behind it.
+/// nothing is written behind it. Where it has none, all is written.
 fn both_with_fault(
     rt: &impl Abort,
     alloc: Global,
@@ -366,6 +366,7 @@ fn each_call_to_a_writer(rt: HostRuntime) {
         for fault in [
             (Fault::Fails, Some(ErrorKind::Other)),
             (Fault::TakesNothing, Some(ErrorKind::WriteZero)),
+            (Fault::TakesOne, None),
             (Fault::Interrupted, None),
         ] {
             check_each_call(&rt, rt.alloc(), written, fault);

@@ -1,5 +1,8 @@
-// Writers for tests: one that has a fault at a chosen call and counts its calls, and one that takes one byte a call. Each
-// keeps the bytes that it took. Code that writes is run with the fault at each call in turn. Called by tests alone.
+// Writers for tests: one that has a fault at a chosen call, or takes one byte there, and counts its calls, and one that takes
+// one byte a call. Each keeps the bytes that it took. Code that writes is run with the fault at each call in turn. Called by
+// tests alone.
+
+ghost use Rattle.std.specs.Io.{WritesAtMost};
 
 use std::io;
 use std::io::{ErrorKind, Write};
@@ -11,8 +14,21 @@ pub enum Fault {
     Fails,
     /// The call takes no byte.
     TakesNothing,
+    /// The call takes the first byte alone, so that the rest is to be written again.
+    TakesOne,
     /// The call is interrupted, so that it is to be made again.
     Interrupted,
+}
+
+/// Takes the first byte, where there is one, and answers how many were taken.
+fn take_first(bytes: &mut Vec<u8>, buf: &[u8]) -> io::Result<usize>
+    ensures { WritesAtMost result buf.now }
+{
+    let Some(first) = buf.first() else {
+        return Ok(0);
+    };
+    bytes.push(*first)?;
+    Ok(1)
 }
 
 /// Takes all bytes, but at the call that has the chosen number.
@@ -61,6 +77,7 @@ impl Write for Faulty {
             return match self.fault {
                 Fault::Fails => Err(io::Error::from(ErrorKind::Other)),
                 Fault::TakesNothing => Ok(0),
+                Fault::TakesOne => take_first(&mut self.bytes, buf),
                 Fault::Interrupted => Err(io::Error::from(ErrorKind::Interrupted)),
             };
         }
@@ -93,11 +110,7 @@ impl Slow {
 
 impl Write for Slow {
     fn write(&mut self, buf: &[u8]) -> io::Result<usize> {
-        let Some(first) = buf.first() else {
-            return Ok(0);
-        };
-        self.bytes.push(*first)?;
-        Ok(1)
+        take_first(&mut self.bytes, buf)
     }
 
     fn flush(&mut self) -> io::Result<()> {
