@@ -1,16 +1,20 @@
 // Refused memory: each request in turn is refused, until a run makes no request of that number. Each run that met a refusal
 // answers `OutOfMemory`, and the first one without gives the answer. After each of them as many blocks came back as were granted.
+// How many requests there are does not depend on the number of rounds.
 
+use crate::patterns::CHOICES;
 use crate::small_matrices::SMALL_MATRICES;
 use crate::worked::{Case, DENSE_ROW, check_answer, with_dense};
 use amd::aat::aat;
 use amd::preprocess::preprocess;
 use amd::valid::valid;
 use amd::{Control, Info, Status, order, order_holding};
+use amd_testing::inputs::path;
 use amd_testing::records::numbers_of;
 use amd_testing::refusing::{Refusing, Slip, each_refused};
-use std::alloc::{Allocator, Global};
+use std::alloc::{AllocError, Allocator, Global};
 use std::process::Abort;
+use std::test::Fail;
 
 /// Asserts that some requests were refused, and that no run did wrong.
 pub fn check_refusals(rt: &impl Abort, what: &str, refusals: Result<u64, Slip>) {
@@ -74,6 +78,34 @@ fn each_request_of_order(rt: HostRuntime) {
         check_order(&rt, rt.alloc(), &Control::default(), case);
     }
     check_order(&rt, rt.alloc(), &with_dense(0), &DENSE_ROW);
+}
+
+/// The number of requests of `order` for a path, whose rounds are nearly as many as its rows.
+fn requests_for_path(
+    rt: &impl Abort,
+    alloc: Global,
+    n: i64,
+    control: &Control,
+) -> Result<u64, AllocError> {
+    let (a_p, a_i) = path(alloc, n)?;
+    let heap = Refusing::new(alloc, 0);
+    let is_answered = order(&heap, n, &a_p, &a_i, control).is_ok();
+    assert!(rt; is_answered && heap.granted() == heap.released(), "{n}");
+    Ok(heap.requests())
+}
+
+#[test]
+fn rounds_ask_for_no_memory(rt: HostRuntime) -> Result<(), Fail> {
+    for control in &CHOICES {
+        let requests = requests_for_path(&rt, rt.alloc(), 10, control)?;
+        for n in [11, 30, 100, 300, 1000] {
+            assert!(rt;
+                requests_for_path(&rt, rt.alloc(), n, control)? == requests,
+                "{n}"
+            );
+        }
+    }
+    Ok(())
 }
 
 #[test]

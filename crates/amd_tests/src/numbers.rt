@@ -2,6 +2,7 @@
 // row; numbers of type `u128` past the greatest `usize`; and as many rows and entries as a type has.
 
 use crate::factors::check_bounds;
+use amd::valid::valid;
 use amd::{Control, Status, order};
 use amd_testing::records::numbers_of;
 use num_traits::PrimInt;
@@ -140,6 +141,36 @@ macro_rules! both_ends {
 #[test]
 fn both_ends_of_each_type(rt: HostRuntime) {
     both_ends!(rt; u8 u16 u32 u64 u128 usize i8 i16 i32 i64 i128 isize);
+}
+
+/// Whether `valid` has an answer for the greatest number `most` of a type as the number of rows, where the row before it is the last
+/// one, and as the number of columns, for which there are too few pointers, whatever the other number is. The lists are the pointers
+/// `[0, 1]`, and the rows `[most - 1]` and `[most]`.
+fn classes_greatest<I: PrimInt>(most: I, one: I, a_p: &[I], last: &[I], past: &[I]) -> bool {
+    valid(most, one, a_p, last) == Status::OK
+        && valid(most, one, a_p, past) == Status::Invalid
+        && valid(one, most, a_p, last) == Status::Invalid
+        && valid(most, most, a_p, last) == Status::Invalid
+}
+
+/// Takes the greatest number of each of the types as the number of rows and of columns.
+macro_rules! greatest_sizes {
+    ($rt:ident; $($number:ty)*) => {
+        $(
+            let most = <$number>::MAX;
+            assert!($rt; classes_greatest(most, 1, &[0, 1], &[most - 1], &[most]));
+        )*
+    };
+}
+
+#[test]
+fn the_greatest_size_of_each_type(rt: HostRuntime) {
+    greatest_sizes!(rt; u8 u16 u32 u64 u128 usize i8 i16 i32 i64 i128 isize);
+    // As many columns as the type has, and a pointer for each and one more.
+    assert!(rt; valid(255u8, 255, &[0; 256], &[]) == Status::OK);
+    assert!(rt; valid(127i8, 127, &[0; 128], &[]) == Status::OK);
+    assert!(rt; valid(255u8, 255, &[0; 255], &[]) == Status::Invalid);
+    assert!(rt; valid(127i8, 127, &[0; 127], &[]) == Status::Invalid);
 }
 
 /// The power of 2 just past the greatest `u64`.
