@@ -1,6 +1,6 @@
-/* Orders the cases of standard input by the calls of rimopaku.h and writes the answers, in the format of the program amd_replay, whose
- * stored input and output it is run on. The argument is 32 or 64: the width of the integers. The arrays are as long as they must be and
- * no longer, and after an error they must be as they were. */
+/* Answers the cases of standard input by the calls of rimopaku.h, in the format of the program amd_replay, whose stored input and output
+ * it is run on: orderings, and the columns of factors. The argument is 32 or 64: the width of the integers. The arrays are as long as
+ * they must be and no longer, and after an error they must be as they were. */
 #include <stdio.h>
 #include <stdlib.h>
 #include <string.h>
@@ -127,12 +127,99 @@ static void answer(int width, int64_t n, struct list a_p, struct list a_i, const
     free(p), free(p_inv), free(hold);
 }
 
+/* What an array of a factor holds before the call. */
+enum { UNTOUCHED = -9 };
+
+/* The arrays of the columns of a factor. */
+struct factor {
+    struct list ptr, rows, parent;
+};
+
+static struct list untouched(size_t len)
+{
+    struct list list = {len, (int64_t *)room(len, sizeof(int64_t))};
+    size_t k;
+    for (k = 0; k < len; k++)
+        list.numbers[k] = UNTOUCHED;
+    return list;
+}
+
+static bool is_untouched(struct list list, size_t from)
+{
+    size_t k;
+    for (k = from; k < list.len; k++)
+        if (list.numbers[k] != UNTOUCHED)
+            return false;
+    return true;
+}
+
+static void widen(struct list list, int32_t *numbers)
+{
+    size_t k;
+    for (k = 0; k < list.len; k++)
+        list.numbers[k] = numbers[k];
+    free(numbers);
+}
+
+static int32_t columns_32(int64_t n, struct list a_p, struct list a_i, struct list p, struct factor factor)
+{
+    int32_t *ap = narrow(a_p.numbers, a_p.len), *ai = narrow(a_i.numbers, a_i.len), *order = narrow(p.numbers, p.len);
+    int32_t *ptr = narrow(factor.ptr.numbers, factor.ptr.len), *rows = narrow(factor.rows.numbers, factor.rows.len);
+    int32_t *parent = narrow(factor.parent.numbers, factor.parent.len);
+    int32_t status = rimopaku_columns_i32((int32_t)n, ap, a_p.len, ai, a_i.len, order, p.len, ptr, factor.ptr.len, rows, factor.rows.len,
+                                          parent, factor.parent.len);
+    widen(factor.ptr, ptr), widen(factor.rows, rows), widen(factor.parent, parent);
+    free(ap), free(ai), free(order);
+    return status;
+}
+
+static int32_t columns_64(int64_t n, struct list a_p, struct list a_i, struct list p, struct factor factor)
+{
+    return rimopaku_columns_i64(n, a_p.numbers, a_p.len, a_i.numbers, a_i.len, p.numbers, p.len, factor.ptr.numbers, factor.ptr.len,
+                                factor.rows.numbers, factor.rows.len, factor.parent.numbers, factor.parent.len);
+}
+
+static const char *fault_of(int32_t status)
+{
+    switch (status) {
+    case RIMOPAKU_OK:
+        return "Ok";
+    case RIMOPAKU_INVALID:
+        return "NotColumnForm";
+    case RIMOPAKU_NOT_PERMUTATION:
+        return "NotPermutation";
+    case RIMOPAKU_ROOM_TOO_SMALL:
+        return "RoomTooSmall";
+    default:
+        return "OutOfMemory";
+    }
+}
+
+/* Answers a case that asks for the columns of the factor under the order p, where they have no more than `most` entries. */
+static void answer_columns(int width, int64_t n, struct list a_p, struct list a_i, struct list p, size_t most)
+{
+    size_t len = n < 0 ? 0 : (size_t)n, entries = 0;
+    struct factor factor = {untouched(len + 1), untouched(most), untouched(len)};
+    int32_t status = (width == 32 ? columns_32 : columns_64)(n, a_p, a_i, p, factor);
+    printf("FAULT %s\n", fault_of(status));
+    if (status == RIMOPAKU_OK)
+        entries = (size_t)factor.ptr.numbers[len];
+    else if (!is_untouched(factor.ptr, 0) || !is_untouched(factor.parent, 0))
+        fail("an array was written beside an error");
+    if (entries > most || !is_untouched(factor.rows, entries))
+        fail("an array was written behind the entries");
+    write_list("PTR", factor.ptr.numbers, status == RIMOPAKU_OK ? len + 1 : 0);
+    write_list("ROWS", factor.rows.numbers, entries);
+    write_list("PARENT", factor.parent.numbers, status == RIMOPAKU_OK ? len : 0);
+    free(factor.ptr.numbers), free(factor.rows.numbers), free(factor.parent.numbers);
+}
+
 int main(int argc, char **argv)
 {
     static char line[MOST * 16];
-    struct list a_p = {0, NULL}, a_i = {0, NULL}, hold = {0, NULL};
+    struct list a_p = {0, NULL}, a_i = {0, NULL}, hold = {0, NULL}, p = {0, NULL};
     struct rimopaku_parameters parameters;
-    long long n = 0, number;
+    long long n = 0, most = 0, number;
     int width = argc == 2 ? atoi(argv[1]) : 0;
 
     if (width != 32 && width != 64)
@@ -153,11 +240,18 @@ int main(int argc, char **argv)
             a_i = read_list(line + 2);
         } else if (strncmp(line, "HOLD", 4) == 0) {
             hold = read_list(line + 4);
+        } else if (strncmp(line, "PERM", 4) == 0) {
+            p = read_list(line + 4);
+        } else if (sscanf(line, "ROOM %lld", &number) == 1 && number >= 0) {
+            most = number;
         } else if (strncmp(line, "END", 3) == 0) {
-            answer(width, n, a_p, a_i, &parameters, hold);
+            if (p.numbers != NULL)
+                answer_columns(width, n, a_p, a_i, p, (size_t)most);
+            else
+                answer(width, n, a_p, a_i, &parameters, hold);
             printf("END\n");
-            free(a_p.numbers), free(a_i.numbers), free(hold.numbers);
-            a_p.numbers = a_i.numbers = hold.numbers = NULL;
+            free(a_p.numbers), free(a_i.numbers), free(hold.numbers), free(p.numbers);
+            a_p.numbers = a_i.numbers = hold.numbers = p.numbers = NULL;
             hold.len = 0;
         } else {
             fail("a line that is at fault");
