@@ -6,7 +6,7 @@ use Rattle.amd_model.specs.Graph.{Graph, IsGraph, degree}
 use Rattle.amd_model.specs.State.{State}
 use Rattle.amd_model.specs.Run.{Run, last_state}
 use Rattle.amd_model.specs.Listing.{IsPostorder}
-use Rattle.amd_model.specs.Quotient.{start_tie}
+use Rattle.amd_model.specs.Quotient.{start_quotient}
 use Rattle.amd_model.specs.Figures.{cut}
 use Rattle.amd_model.specs.Input.Dense.{IsThreshold}
 use Rattle.amd_model.specs.Input.Held.{is_held_last}
@@ -59,7 +59,7 @@ module _ (g : Graph) (dense : ℕ → Bool) (aggressive : Bool) (lists : ℕ →
   pub run : Run g dense aggressive first r.states
   run = record {
     start = r.start;
-    steps = follows_steps g aggressive (start_tie g dense lists) r.end first r.states r.follows;
+    steps = follows_steps g aggressive (start_quotient g dense lists) r.end first r.states r.follows;
     end = r.over;
   }
 

@@ -4,7 +4,7 @@ use Rattle.std.specs.Prelude.{nat_lt, replicate}
 use Rattle.amd_model.specs.Below.{count_below}
 use Rattle.amd_model.specs.Graph.{Graph, degree}
 use Rattle.amd_model.specs.State.{State}
-use Rattle.amd_model.specs.Quotient.{QuotientGraph, start_tie}
+use Rattle.amd_model.specs.Quotient.{QuotientGraph, start_quotient}
 use Rattle.amd_model.specs.Run.{last_state}
 use Rattle.amd_model.specs.Input.Dense.{is_dense}
 use Rattle.amd_model.specs.Input.Held.{is_marked, is_held_last}
@@ -87,7 +87,7 @@ module _ (hold : Option (List Bool)) (threshold : ℕ) (p : Rows) (v : Workspace
       (let w = laid.words in omega (arith, w)) laid.starts (degrees_small g lists v.iw p.pe p.len lays) fresh.most fresh.two fresh.empty fresh.packs fresh.live
 
   -- the workspace stands for the start of an elimination
-  pub stands_first : Stands g dense v.free v (start_tie g dense lists) (first_state g dense)
+  pub stands_first : Stands g dense v.free v (start_quotient g dense lists) (first_state g dense)
   stands_first =
       let view = begun_view (length p.len) held p v begins fresh.least fresh.live fresh.dense (ap (λ (f : Figures). f.lnz) fresh.sums)
       (ap (λ (f : Figures). f.n_mult_subs_ldl) fresh.sums) (ap (λ (f : Figures). f.n_mult_subs_lu) fresh.sums)
@@ -98,11 +98,11 @@ module _ (hold : Option (List Bool)) (threshold : ℕ) (p : Rows) (v : Workspace
   module _ (aggressive : Bool) (pe e_len nv : List ℤ) (degree : List ℕ) (n_dense : ℕ) (figures : Figures)
       (ends : EndsIn aggressive v pe e_len nv degree n_dense figures) where
     abbrev Reached : Type 0
-    Reached = (u : QuotientGraph) × ((states : List State) × Follows g aggressive (start_tie g dense lists) (first_state g dense) states u
+    Reached = (u : QuotientGraph) × ((states : List State) × Follows g aggressive (start_quotient g dense lists) (first_state g dense) states u
         × Stands g dense v.free ends.after u (last_state (first_state g dense) states))
 
     abbrev reached : Reached
-    reached = ends.rounds g dense v.free (start_tie g dense lists) (first_state g dense) stands_first
+    reached = ends.rounds g dense v.free (start_quotient g dense lists) (first_state g dense) stands_first
 
     -- its rounds came to an end
     pub ends_rounds : EndsRounds g dense aggressive lists n_dense figures pe e_len nv degree

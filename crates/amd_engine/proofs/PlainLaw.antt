@@ -9,7 +9,7 @@ use Rattle.amd_model.specs.Graph.{Graph, IsGraph, degree}
 use Rattle.amd_model.specs.State.{State}
 use Rattle.amd_model.specs.Run.{Run, last_state}
 use Rattle.amd_model.specs.Listing.{IsPostorder, ListsEachRow}
-use Rattle.amd_model.specs.Quotient.{QuotientGraph, starting_list, start_tie}
+use Rattle.amd_model.specs.Quotient.{QuotientGraph, starting_list, start_quotient}
 use Rattle.amd_model.specs.QuotientLaws.{NamesNeighbours}
 use Rattle.amd_model.specs.Figures.{cut}
 use Rattle.amd_model.specs.Input.Dense.{IsThreshold, is_dense}
@@ -74,7 +74,7 @@ module _ {A : Type 0} (g : Graph) (laws : IsGraph g) (dense last : ℕ → Bool)
   first = first_state g dense
 
   abbrev tie : QuotientGraph
-  tie = start_tie g dense lists
+  tie = start_quotient g dense lists
 
   started : Stands g dense old tie first
   unfolding degree
@@ -164,7 +164,7 @@ module _ {A : Type 0} (ap' ai : List ℤ) (len : List ℕ) (counts : AreCounts (
     stands_first = (
       graph,
       dense,
-      start_tie graph dense lists,
+      start_quotient graph dense lists,
       first_state graph dense,
       started graph is_graph dense (at marks) true lists
           names rows len counts held listed_all old begun,

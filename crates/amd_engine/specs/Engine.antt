@@ -11,7 +11,7 @@ use Rattle.amd_model.specs.Input.Pattern.{graph_of, is_pair}
 use Rattle.amd_model.specs.Input.Dense.{IsThreshold}
 use Rattle.amd_model.specs.Input.Held.{is_held_last}
 use Rattle.amd_model.specs.Ordering.{Follows, IsListingOf, Promises}
-use Rattle.amd_model.specs.Quotient.{QuotientGraph, Fits, starting_list, start_tie}
+use Rattle.amd_model.specs.Quotient.{QuotientGraph, Fits, starting_list, start_quotient}
 use Rattle.amd_model.specs.QuotientLaws.{NamesNeighbours}
 use Rattle.amd_numbers.specs.Permutations.{AreInverse}
 use Rattle.amd_numbers.specs.declared.amd.Info.{Info}
@@ -75,10 +75,10 @@ pub record Reaches (g : Graph) (dense : ℕ → Bool) (aggressive : Bool) (lists
     (figures : Figures) : Type 0 where
   pub graph : IsGraph g
   pub start : IsStart g dense first
-  pub fits : Fits g (start_tie g dense lists) first
+  pub fits : Fits g (start_quotient g dense lists) first
   pub end : QuotientGraph
   pub states : List State
-  pub follows : Follows g aggressive (start_tie g dense lists) first states end
+  pub follows : Follows g aggressive (start_quotient g dense lists) first states end
   pub over : (v : ℕ) → live (last_state first states) v ≡ false
   pub tells : TellsFigures g dense (last_state first states) n_dense figures
 

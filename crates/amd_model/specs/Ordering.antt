@@ -8,7 +8,7 @@ use Rattle.amd_model.specs.Step.{StepAt}
 use Rattle.amd_model.specs.Run.{Run, EachState, last_state}
 use Rattle.amd_model.specs.Listing.{IsPostorder, ListsEachRow}
 use Rattle.amd_model.specs.Forest.{IsForest}
-use Rattle.amd_model.specs.Quotient.{QuotientGraph, Fits, is_empty, pivot, next, start_tie}
+use Rattle.amd_model.specs.Quotient.{QuotientGraph, Fits, is_empty, pivot, next, start_quotient}
 use Rattle.amd_model.specs.Laws.{FrontsArePaths, BoundsMeetDegrees, LastRowsAre, DenseAreLast, EdgesFollowTree, ColumnsInside, EmptyColumns}
 use Rattle.amd_model.specs.Laws.{Covers, HasNoFill, FiguresAreSmall}
 
@@ -24,9 +24,9 @@ pub data Follows (g : Graph) (aggressive : Bool) : QuotientGraph → State → L
 pub record IsListingOf (g : Graph) (dense : ℕ → Bool) (aggressive : Bool) (lists : ℕ → List ℕ) (first : State) (states : List State)
     (p : List ℕ) : Type 0 where
   pub run : Run g dense aggressive first states
-  pub starts : Fits g (start_tie g dense lists) first
+  pub starts : Fits g (start_quotient g dense lists) first
   pub end : QuotientGraph
-  pub follows : Follows g aggressive (start_tie g dense lists) first states end
+  pub follows : Follows g aggressive (start_quotient g dense lists) first states end
   pub listing : IsPostorder g dense (last_state first states) p
 
 -- what holds of a run and of its listing

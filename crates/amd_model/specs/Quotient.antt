@@ -90,8 +90,8 @@ pub record QuotientGraph : Type 0 where
   pub parent : ℕ → Option ℕ
 
 -- the start: the rows that are live are placed rising, each with the lists given, without the dense rows, and its degree as bound
-unfoldable pub start_tie : Graph → (ℕ → Bool) → (ℕ → List ℕ) → QuotientGraph
-start_tie g dense lists = record {
+unfoldable pub start_quotient : Graph → (ℕ → Bool) → (ℕ → List ℕ) → QuotientGraph
+start_quotient g dense lists = record {
   placed = list_below g.size (λ v. not (dense v || degree g v == 0));
   variables = λ i. filter (λ j. not (dense j)) (lists i);
   elements = λ i. [];

@@ -6,7 +6,7 @@ use Rattle.amd_model.specs.Step.{StepAt}
 use Rattle.amd_model.specs.Run.{Run, last_state}
 use Rattle.amd_model.specs.Sound.{IsSound}
 use Rattle.amd_model.specs.Input.Pattern.{graph_of, is_pair}
-use Rattle.amd_model.specs.Quotient.{QuotientGraph, Fits, Once, has, is_empty, pivot, next, after_rounds, start_tie, starting_list}
+use Rattle.amd_model.specs.Quotient.{QuotientGraph, Fits, Once, has, is_empty, pivot, next, after_rounds, start_quotient, starting_list}
 
 -- a round with a class left leads to lists that stand for a state that a step with the pivot leads to
 abbrev pub NextIsAStep : Type 0
@@ -30,7 +30,7 @@ pub record NamesNeighbours (g : Graph) (i : ℕ) (xs : List ℕ) : Type 0 where
 -- with such lists for the live rows, the machine starts where the elimination starts
 abbrev pub StartFits : Type 0
 StartFits = (g : Graph) (dense : ℕ → Bool) (s : State) (lists : ℕ → List ℕ) → IsGraph g → IsStart g dense s →
-    ((i : ℕ) → s.home i ≡ Live i → NamesNeighbours g i (lists i)) → Fits g (start_tie g dense lists) s
+    ((i : ℕ) → s.home i ≡ Live i → NamesNeighbours g i (lists i)) → Fits g (start_quotient g dense lists) s
 
 -- the starting lists of a pattern are such lists
 abbrev pub StartingLists : Type 0

@@ -16,9 +16,9 @@ ghost use Rattle.amd_model.specs.Input.Dense.{IsThreshold, is_dense};
 ghost use Rattle.amd_model.specs.Input.Pattern.{is_pair, pair_count, diagonal_count};
 ghost use Rattle.amd_model.specs.Quotient.{Fits, starting_list, pivot, next, after_rounds};
 ghost use Rattle.amd_model.specs.Examples.Table.{none_dense};
-ghost use Rattle.amd_model.specs.Examples.Cycle.{cycle, cycle_tie};
-ghost use Rattle.amd_model.specs.Examples.Seven.{seven, seven_tie};
-ghost use Rattle.amd_model.specs.Examples.Eleven.{eleven, eleven_tie, row_one};
+ghost use Rattle.amd_model.specs.Examples.Cycle.{cycle, cycle_quotient};
+ghost use Rattle.amd_model.specs.Examples.Seven.{seven, seven_quotient};
+ghost use Rattle.amd_model.specs.Examples.Eleven.{eleven, eleven_quotient, row_one};
 ghost use Rattle.amd_model.specs.Examples.Cycle;
 ghost use Rattle.amd_model.specs.Examples.Seven;
 ghost use Rattle.amd_model.specs.Examples.Eleven;
@@ -41,10 +41,10 @@ pub fn example_cycle()
 pub fn example_cycle_lists()
     ensures lists { map (starting_list 4 (is_pair 4 Cycle.pointers Cycle.rows)) (0 ∷ 1 ∷ 2 ∷ 3 ∷ []) ≡
         (1 ∷ 3 ∷ []) ∷ (0 ∷ 2 ∷ []) ∷ (1 ∷ 3 ∷ []) ∷ (0 ∷ 2 ∷ []) ∷ [] }
-    ensures first_pivot { pivot cycle_tie.bound cycle_tie.placed ≡ 3 }
-    ensures second_pivot { pivot (next true cycle_tie).bound (next true cycle_tie).placed ≡ 2 }
-    ensures fits { Fits cycle cycle_tie Cycle.at_start }
-    ensures homes { map (after_rounds 4 true cycle_tie).home (0 ∷ 1 ∷ 2 ∷ 3 ∷ []) ≡ Cycle.two_table.homes }
+    ensures first_pivot { pivot cycle_quotient.bound cycle_quotient.placed ≡ 3 }
+    ensures second_pivot { pivot (next true cycle_quotient).bound (next true cycle_quotient).placed ≡ 2 }
+    ensures fits { Fits cycle cycle_quotient Cycle.at_start }
+    ensures homes { map (after_rounds 4 true cycle_quotient).home (0 ∷ 1 ∷ 2 ∷ 3 ∷ []) ≡ Cycle.two_table.homes }
 {}
 
 /// The columns of its factor under that listing.
@@ -73,11 +73,11 @@ pub fn example_seven_lists()
     ensures lists { map (starting_list 7 (is_pair 7 Seven.pointers Seven.rows)) (0 ∷ 1 ∷ 2 ∷ 3 ∷ 4 ∷ 5 ∷ 6 ∷ []) ≡
         (5 ∷ 6 ∷ []) ∷ (2 ∷ 3 ∷ 4 ∷ 5 ∷ []) ∷ (1 ∷ 3 ∷ 4 ∷ 6 ∷ []) ∷ (1 ∷ 2 ∷ 4 ∷ 6 ∷ []) ∷ (1 ∷ 2 ∷ 3 ∷ 5 ∷ [])
         ∷ (0 ∷ 1 ∷ 4 ∷ []) ∷ (0 ∷ 2 ∷ 3 ∷ []) ∷ [] }
-    ensures first_pivot { pivot seven_tie.bound seven_tie.placed ≡ 0 }
-    ensures second_pivot { pivot (next true seven_tie).bound (next true seven_tie).placed ≡ 6 }
-    ensures third_pivot { pivot (next true (next true seven_tie)).bound (next true (next true seven_tie)).placed ≡ 2 }
-    ensures fits { Fits seven seven_tie Seven.at_start }
-    ensures homes { map (after_rounds 7 true seven_tie).home (0 ∷ 1 ∷ 2 ∷ 3 ∷ 4 ∷ 5 ∷ 6 ∷ []) ≡
+    ensures first_pivot { pivot seven_quotient.bound seven_quotient.placed ≡ 0 }
+    ensures second_pivot { pivot (next true seven_quotient).bound (next true seven_quotient).placed ≡ 6 }
+    ensures third_pivot { pivot (next true (next true seven_quotient)).bound (next true (next true seven_quotient)).placed ≡ 2 }
+    ensures fits { Fits seven seven_quotient Seven.at_start }
+    ensures homes { map (after_rounds 7 true seven_quotient).home (0 ∷ 1 ∷ 2 ∷ 3 ∷ 4 ∷ 5 ∷ 6 ∷ []) ≡
         Seven.three_table.homes }
 {}
 
@@ -116,15 +116,15 @@ pub fn example_eleven_lists()
         (3 ∷ 1 ∷ 2 ∷ 4 ∷ 5 ∷ 7 ∷ []) ∷ (0 ∷ 4 ∷ []) ∷ (0 ∷ 10 ∷ 6 ∷ []) ∷ (0 ∷ 4 ∷ 5 ∷ 6 ∷ [])
         ∷ (3 ∷ 7 ∷ 0 ∷ 1 ∷ 9 ∷ []) ∷ (3 ∷ 0 ∷ 9 ∷ []) ∷ (9 ∷ 2 ∷ 3 ∷ []) ∷ (4 ∷ 9 ∷ 0 ∷ 10 ∷ []) ∷ []
         ∷ (6 ∷ 7 ∷ 10 ∷ 4 ∷ 5 ∷ []) ∷ (2 ∷ 9 ∷ 7 ∷ []) ∷ [] }
-    ensures first_pivot { pivot eleven_tie.bound eleven_tie.placed ≡ 10 }
-    ensures second_pivot { pivot (next true eleven_tie).bound (next true eleven_tie).placed ≡ 6 }
-    ensures third_pivot { pivot (next true (next true eleven_tie)).bound (next true (next true eleven_tie)).placed ≡ 5 }
-    ensures fourth_pivot { pivot (next true (next true (next true eleven_tie))).bound
-        (next true (next true (next true eleven_tie))).placed ≡ 3 }
-    ensures fifth_pivot { pivot (next true (next true (next true (next true eleven_tie)))).bound
-        (next true (next true (next true (next true eleven_tie)))).placed ≡ 4 }
-    ensures fits { Fits eleven eleven_tie Eleven.at_start }
-    ensures homes { map (after_rounds 11 true eleven_tie).home (0 ∷ 1 ∷ 2 ∷ 3 ∷ 4 ∷ 5 ∷ 6 ∷ 7 ∷ 8 ∷ 9 ∷ 10 ∷ []) ≡
+    ensures first_pivot { pivot eleven_quotient.bound eleven_quotient.placed ≡ 10 }
+    ensures second_pivot { pivot (next true eleven_quotient).bound (next true eleven_quotient).placed ≡ 6 }
+    ensures third_pivot { pivot (next true (next true eleven_quotient)).bound (next true (next true eleven_quotient)).placed ≡ 5 }
+    ensures fourth_pivot { pivot (next true (next true (next true eleven_quotient))).bound
+        (next true (next true (next true eleven_quotient))).placed ≡ 3 }
+    ensures fifth_pivot { pivot (next true (next true (next true (next true eleven_quotient)))).bound
+        (next true (next true (next true (next true eleven_quotient)))).placed ≡ 4 }
+    ensures fits { Fits eleven eleven_quotient Eleven.at_start }
+    ensures homes { map (after_rounds 11 true eleven_quotient).home (0 ∷ 1 ∷ 2 ∷ 3 ∷ 4 ∷ 5 ∷ 6 ∷ 7 ∷ 8 ∷ 9 ∷ 10 ∷ []) ≡
         Eleven.five_table.homes }
 {}
 

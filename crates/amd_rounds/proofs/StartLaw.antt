@@ -7,7 +7,7 @@ use Rattle.std.proofs.lemmas.List.{length-replicate}
 use Rattle.amd_model.specs.Below.{count_below, list_below}
 use Rattle.amd_model.specs.Graph.{Graph, IsGraph, degree}
 use Rattle.amd_model.specs.State.{State, IsStart}
-use Rattle.amd_model.specs.Quotient.{has, start_tie}
+use Rattle.amd_model.specs.Quotient.{has, start_quotient}
 use Rattle.amd_model.specs.QuotientLaws.{NamesNeighbours}
 use Rattle.amd_model.proofs.Quotient.Start.{once_below}
 use Rattle.amd_views.specs.Starts.{IsBegun}
@@ -119,8 +119,8 @@ module _ {A : Type 0} (rows : List (Vec ℕ A)) (degrees : List ℕ) (last : ℕ
     idle = begun.idle;
   })
 
-  stands_start : Stands g dense w (start_tie g dense lists) s
-  unfolding start_tie
+  stands_start : Stands g dense w (start_quotient g dense lists) s
+  unfolding start_quotient
   stands_start = record {
     view = starting.view_at_start (length degrees) (list_at rows) (num degrees) last (view_of w) row_begun small_rows g dense lists s laws
         size_is degree_is last_is list_is names start;

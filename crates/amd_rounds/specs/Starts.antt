@@ -4,7 +4,7 @@ use Rattle.amd_model.specs.Graph.{Graph, IsGraph, degree}
 use Rattle.amd_model.specs.State.{State, IsStart}
 use Rattle.amd_model.specs.Run.{Run, last_state}
 use Rattle.amd_model.specs.Listing.{IsPostorder}
-use Rattle.amd_model.specs.Quotient.{QuotientGraph, start_tie}
+use Rattle.amd_model.specs.Quotient.{QuotientGraph, start_quotient}
 use Rattle.amd_model.specs.QuotientLaws.{NamesNeighbours}
 use Rattle.amd_rounds.specs.Views.{num, list_at}
 use Rattle.amd_rounds.specs.Keeps.{Stands}
@@ -16,7 +16,7 @@ abbrev pub StandsAtStart : {A : Type 0} → List (Vec ℕ A) → List ℕ → (�
 StandsAtStart rows degrees last w = (g : Graph) (dense : ℕ → Bool) (lists : ℕ → List ℕ) (s : State) → IsGraph g → g.size ≡ length degrees →
     ((i : ℕ) → i < g.size → num degrees i ≡ degree g i) → ((i : ℕ) → i < g.size → last i ≡ dense i) →
     ((i : ℕ) → i < g.size → list_at rows i ≡ lists i) →
-    ((i : ℕ) → i < g.size → NamesNeighbours g i (lists i)) → IsStart g dense s → Stands g dense w (start_tie g dense lists) s
+    ((i : ℕ) → i < g.size → NamesNeighbours g i (lists i)) → IsStart g dense s → Stands g dense w (start_quotient g dense lists) s
 
 -- whatever run the record stands at the end of, p lists its assembly tree in postorder, and then the dense rows
 abbrev pub ListsRun : {A : Type 0} → Work A → List ℕ → Type 0

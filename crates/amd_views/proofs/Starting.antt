@@ -11,7 +11,7 @@ use Rattle.amd_model.specs.Graph.{Graph, IsGraph, degree}
 use Rattle.amd_model.specs.State.{State, Home, Last, Live, Gone, in_block, is_element, live, IsStart}
 use Rattle.amd_model.specs.Figures.{figure, front_sum, max_below, is_made, entries, ldl_steps, lu_steps, greatest_front, cut}
 use Rattle.amd_model.specs.Listing.{weight}
-use Rattle.amd_model.specs.Quotient.{has, start_tie, is_empty as names_none}
+use Rattle.amd_model.specs.Quotient.{has, start_quotient, is_empty as names_none}
 use Rattle.amd_model.specs.QuotientLaws.{NamesNeighbours}
 use Rattle.amd_model.proofs.Counting.Below.{count_same, sum_zero}
 use Rattle.amd_model.proofs.States.Words.{live_gives, block_gives, block_from, edge_small}
@@ -150,8 +150,8 @@ module _ (n : ℕ) (rows : ℕ → List ℕ) (degrees : ℕ → ℕ) (last : ℕ
   small_kept i h = let l = within i (class_small i h) in let k = small i l in let e = begun.bound i (class_some i h) in
       let m = begun.rows_are in omega (arith, k, e, m)
 
-  keeps : Keeps w (start_tie g dense lists)
-  unfolding start_tie names_none
+  keeps : Keeps w (start_quotient g dense lists)
+  unfolding start_quotient names_none
   keeps = record {
     size = size_one;
     no_class = size_none;
@@ -301,8 +301,8 @@ module _ (n : ℕ) (rows : ℕ → List ℕ) (degrees : ℕ → ℕ) (last : ℕ
       ]
 
   -- the record stands for the start
-  pub view_at_start : Stands g dense w (start_tie g dense lists) s
-  unfolding start_tie list_below
+  pub view_at_start : Stands g dense w (start_quotient g dense lists) s
+  unfolding start_quotient list_below
   view_at_start = record {
     graph = laws;
     sound = start_sound g laws dense s start;

@@ -4,7 +4,7 @@ use Rattle.std.specs.Prelude.{◌==◌}
 use Rattle.amd_model.specs.Below.{list_below}
 use Rattle.amd_model.specs.Graph.{Graph, IsGraph, degree}
 use Rattle.amd_model.specs.State.{State, IsStart}
-use Rattle.amd_model.specs.Quotient.{start_tie}
+use Rattle.amd_model.specs.Quotient.{start_quotient}
 use Rattle.amd_model.specs.QuotientLaws.{NamesNeighbours}
 use Rattle.amd_views.specs.Starts.{IsBegun}
 use Rattle.amd_views.proofs.Lists.Rising.{list_same, filter_below}
@@ -34,18 +34,18 @@ module _ (n nzaat : ℕ) (held : ℕ → Bool) (p : Rows) (v : Workspace)
       ∙ ap (λ h. not (h || num p.len i == 0) && num p.len i == b) (held_is i l)
       ∙ ap (λ d. not (dense i || d == 0) && d == b) (degree_is i l)
 
-  bound_list : (b : ℕ) → reverse (classes_of held p.len n b) ≡ by_bound (start_tie g dense lists) b
-  unfolding start_tie
+  bound_list : (b : ℕ) → reverse (classes_of held p.len n b) ≡ by_bound (start_quotient g dense lists) b
+  unfolding start_quotient
   bound_list b = ap reverse (ap (λ m. list_below m (λ i. is_class held p.len i && num p.len i == b)) (sym size_is)
       ∙ list_same g.size (λ i. is_class held p.len i && num p.len i == b) (λ i. is_row i && degree g i == b) (row b)
       ∙ sym (filter_below g.size is_row (λ i. degree g i == b)))
 
-  pub stands_at_start : Stands g dense nzaat v (start_tie g dense lists) s
+  pub stands_at_start : Stands g dense nzaat v (start_quotient g dense lists) s
   stands_at_start = record {
     view = view_at_start n (list_in v.iw p.pe p.len) (num p.len) held (view_of v) begun small g dense lists s laws size_is degree_is
         held_is list_is names start;
     laid = subst (λ m. IsLaid m nzaat v) (sym size_is) laid;
-    linked = subst (λ m. DegreeLists m v.head v.next v.last v.degree (by_bound (start_tie g dense lists))) (sym size_is)
-        (lists_same n v.head v.next v.last v.degree (λ b. reverse (classes_of held p.len n b)) (by_bound (start_tie g dense lists))
+    linked = subst (λ m. DegreeLists m v.head v.next v.last v.degree (by_bound (start_quotient g dense lists))) (sym size_is)
+        (lists_same n v.head v.next v.last v.degree (λ b. reverse (classes_of held p.len n b)) (by_bound (start_quotient g dense lists))
         (λ b l. bound_list b) linked);
   }

@@ -11,10 +11,10 @@ use Rattle.amd_model.specs.Listing.{IsPostorder}
 use Rattle.amd_model.specs.Input.Pattern.{graph_of, is_pair, holds_row, pair_count, diagonal_count}
 use Rattle.amd_model.specs.Input.Dense.{is_dense}
 use Rattle.amd_model.specs.Quotient.{Fits, has, each, is_empty, turned, last_that, add_new, was_read, met_below, met_at, met_edges}
-use Rattle.amd_model.specs.Quotient.{other_end, starting_list, start_tie, pivot, gathered, takes, kept_elements, kept_variables, done, rest}
+use Rattle.amd_model.specs.Quotient.{other_end, starting_list, start_quotient, pivot, gathered, takes, kept_elements, kept_variables, done, rest}
 use Rattle.amd_model.specs.Quotient.{alike, represents, made, ends, new_size, far, left, next_bound, new_home, round, next, after_rounds}
 use Rattle.amd_model.specs.Examples.Eleven.{eleven, pointers, rows, row_one, start_table, one_table, two_table, three_table, four_table}
-use Rattle.amd_model.specs.Examples.Eleven.{five_table, at_start, after_one, after_two, after_three, after_four, after_five, eleven_tie}
+use Rattle.amd_model.specs.Examples.Eleven.{five_table, at_start, after_one, after_two, after_three, after_four, after_five, eleven_quotient}
 use Rattle.amd_model.specs.Factor.{before, IsFactor}
 use Rattle.amd_model.proofs.Listings.ReachTest.{reaches, in_column, column, columns_to, columns, factor_of}
 use Rattle.amd_model.proofs.Patterns.DegreeSums.{pattern_graph}
@@ -73,44 +73,44 @@ pub lists : map (starting_list 11 (is_pair 11 pointers rows))
 unfolding any_below list_below is_pair holds_row was_read met_below met_at met_edges other_end starting_list
 lists = refl
 
-pub first_pivot : pivot eleven_tie.bound eleven_tie.placed ≡ 10
+pub first_pivot : pivot eleven_quotient.bound eleven_quotient.placed ≡ 10
 unfolding any_below list_below sum_below count_below graph_of is_pair holds_row degree has each is_empty turned last_that add_new was_read
-    met_below met_at met_edges other_end starting_list start_tie pivot gathered takes kept_elements kept_variables done rest alike represents
+    met_below met_at met_edges other_end starting_list start_quotient pivot gathered takes kept_elements kept_variables done rest alike represents
     made ends new_size far left next_bound new_home round next after_rounds
 first_pivot = refl
 
-pub second_pivot : pivot (next true eleven_tie).bound (next true eleven_tie).placed ≡ 6
+pub second_pivot : pivot (next true eleven_quotient).bound (next true eleven_quotient).placed ≡ 6
 unfolding any_below list_below sum_below count_below graph_of is_pair holds_row degree has each is_empty turned last_that add_new was_read
-    met_below met_at met_edges other_end starting_list start_tie pivot gathered takes kept_elements kept_variables done rest alike represents
+    met_below met_at met_edges other_end starting_list start_quotient pivot gathered takes kept_elements kept_variables done rest alike represents
     made ends new_size far left next_bound new_home round next after_rounds
 second_pivot = refl
 
-pub third_pivot : pivot (next true (next true eleven_tie)).bound (next true (next true eleven_tie)).placed ≡ 5
+pub third_pivot : pivot (next true (next true eleven_quotient)).bound (next true (next true eleven_quotient)).placed ≡ 5
 unfolding any_below list_below sum_below count_below graph_of is_pair holds_row degree has each is_empty turned last_that add_new was_read
-    met_below met_at met_edges other_end starting_list start_tie pivot gathered takes kept_elements kept_variables done rest alike represents
+    met_below met_at met_edges other_end starting_list start_quotient pivot gathered takes kept_elements kept_variables done rest alike represents
     made ends new_size far left next_bound new_home round next after_rounds
 third_pivot = refl
 
-pub fourth_pivot : pivot (next true (next true (next true eleven_tie))).bound (next true (next true (next true eleven_tie))).placed ≡ 3
+pub fourth_pivot : pivot (next true (next true (next true eleven_quotient))).bound (next true (next true (next true eleven_quotient))).placed ≡ 3
 unfolding any_below list_below sum_below count_below graph_of is_pair holds_row degree has each is_empty turned last_that add_new was_read
-    met_below met_at met_edges other_end starting_list start_tie pivot gathered takes kept_elements kept_variables done rest alike represents
+    met_below met_at met_edges other_end starting_list start_quotient pivot gathered takes kept_elements kept_variables done rest alike represents
     made ends new_size far left next_bound new_home round next after_rounds
 fourth_pivot = refl
 
-pub fifth_pivot : pivot (next true (next true (next true (next true eleven_tie)))).bound
-    (next true (next true (next true (next true eleven_tie)))).placed ≡ 4
+pub fifth_pivot : pivot (next true (next true (next true (next true eleven_quotient)))).bound
+    (next true (next true (next true (next true eleven_quotient)))).placed ≡ 4
 unfolding any_below list_below sum_below count_below graph_of is_pair holds_row degree has each is_empty turned last_that add_new was_read
-    met_below met_at met_edges other_end starting_list start_tie pivot gathered takes kept_elements kept_variables done rest alike represents
+    met_below met_at met_edges other_end starting_list start_quotient pivot gathered takes kept_elements kept_variables done rest alike represents
     made ends new_size far left next_bound new_home round next after_rounds
 fifth_pivot = refl
 
-pub fits : Fits eleven eleven_tie at_start
+pub fits : Fits eleven eleven_quotient at_start
 fits = start_fits eleven row_one at_start (starting_list 11 (is_pair 11 pointers rows)) (pattern_graph 11 pointers rows) run.start
     (λ i h. starting_lists 11 pointers rows i)
 
-pub homes : map (after_rounds 11 true eleven_tie).home (0 ∷ 1 ∷ 2 ∷ 3 ∷ 4 ∷ 5 ∷ 6 ∷ 7 ∷ 8 ∷ 9 ∷ 10 ∷ []) ≡ five_table.homes
+pub homes : map (after_rounds 11 true eleven_quotient).home (0 ∷ 1 ∷ 2 ∷ 3 ∷ 4 ∷ 5 ∷ 6 ∷ 7 ∷ 8 ∷ 9 ∷ 10 ∷ []) ≡ five_table.homes
 unfolding any_below list_below sum_below count_below graph_of is_pair holds_row degree has each is_empty turned last_that add_new was_read
-    met_below met_at met_edges other_end starting_list start_tie pivot gathered takes kept_elements kept_variables done rest alike represents
+    met_below met_at met_edges other_end starting_list start_quotient pivot gathered takes kept_elements kept_variables done rest alike represents
     made ends new_size far left next_bound new_home round next after_rounds
 homes = refl
 

@@ -10,11 +10,11 @@ use Rattle.amd_model.specs.Listing.{block_list, weight, is_child, is_some_of, he
 use Rattle.amd_model.specs.Listing.{IsPostorder}
 use Rattle.amd_model.specs.Input.Pattern.{graph_of, is_pair, holds_row}
 use Rattle.amd_model.specs.Quotient.{Fits, has, each, is_empty, turned, last_that, add_new, was_read, met_below, met_at, met_edges}
-use Rattle.amd_model.specs.Quotient.{other_end, starting_list, start_tie, pivot, gathered, takes, kept_elements, kept_variables, done, rest}
+use Rattle.amd_model.specs.Quotient.{other_end, starting_list, start_quotient, pivot, gathered, takes, kept_elements, kept_variables, done, rest}
 use Rattle.amd_model.specs.Quotient.{alike, represents, made, ends, new_size, far, left, next_bound, new_home, round, next, after_rounds}
 use Rattle.amd_model.specs.Examples.Table.{none_dense}
 use Rattle.amd_model.specs.Examples.Seven.{seven, pointers, rows, start_table, one_table, two_table, three_table, at_start, after_one}
-use Rattle.amd_model.specs.Examples.Seven.{after_two, after_three, seven_tie}
+use Rattle.amd_model.specs.Examples.Seven.{after_two, after_three, seven_quotient}
 use Rattle.amd_model.specs.Factor.{before, IsFactor}
 use Rattle.amd_model.proofs.Listings.ReachTest.{reaches, in_column, column, columns_to, columns, factor_of}
 use Rattle.amd_model.proofs.Patterns.DegreeSums.{pattern_graph}
@@ -67,31 +67,31 @@ pub lists : map (starting_list 7 (is_pair 7 pointers rows)) (0 ∷ 1 ∷ 2 ∷ 3
 unfolding any_below list_below is_pair holds_row was_read met_below met_at met_edges other_end starting_list
 lists = refl
 
-pub first_pivot : pivot seven_tie.bound seven_tie.placed ≡ 0
+pub first_pivot : pivot seven_quotient.bound seven_quotient.placed ≡ 0
 unfolding any_below list_below sum_below count_below graph_of is_pair holds_row degree has each is_empty turned last_that add_new was_read
-    met_below met_at met_edges other_end starting_list start_tie pivot gathered takes kept_elements kept_variables done rest alike represents
+    met_below met_at met_edges other_end starting_list start_quotient pivot gathered takes kept_elements kept_variables done rest alike represents
     made ends new_size far left next_bound new_home round next after_rounds
 first_pivot = refl
 
-pub second_pivot : pivot (next true seven_tie).bound (next true seven_tie).placed ≡ 6
+pub second_pivot : pivot (next true seven_quotient).bound (next true seven_quotient).placed ≡ 6
 unfolding any_below list_below sum_below count_below graph_of is_pair holds_row degree has each is_empty turned last_that add_new was_read
-    met_below met_at met_edges other_end starting_list start_tie pivot gathered takes kept_elements kept_variables done rest alike represents
+    met_below met_at met_edges other_end starting_list start_quotient pivot gathered takes kept_elements kept_variables done rest alike represents
     made ends new_size far left next_bound new_home round next after_rounds
 second_pivot = refl
 
-pub third_pivot : pivot (next true (next true seven_tie)).bound (next true (next true seven_tie)).placed ≡ 2
+pub third_pivot : pivot (next true (next true seven_quotient)).bound (next true (next true seven_quotient)).placed ≡ 2
 unfolding any_below list_below sum_below count_below graph_of is_pair holds_row degree has each is_empty turned last_that add_new was_read
-    met_below met_at met_edges other_end starting_list start_tie pivot gathered takes kept_elements kept_variables done rest alike represents
+    met_below met_at met_edges other_end starting_list start_quotient pivot gathered takes kept_elements kept_variables done rest alike represents
     made ends new_size far left next_bound new_home round next after_rounds
 third_pivot = refl
 
-pub fits : Fits seven seven_tie at_start
+pub fits : Fits seven seven_quotient at_start
 fits = start_fits seven none_dense at_start (starting_list 7 (is_pair 7 pointers rows)) (pattern_graph 7 pointers rows) run.start
     (λ i h. starting_lists 7 pointers rows i)
 
-pub homes : map (after_rounds 7 true seven_tie).home (0 ∷ 1 ∷ 2 ∷ 3 ∷ 4 ∷ 5 ∷ 6 ∷ []) ≡ three_table.homes
+pub homes : map (after_rounds 7 true seven_quotient).home (0 ∷ 1 ∷ 2 ∷ 3 ∷ 4 ∷ 5 ∷ 6 ∷ []) ≡ three_table.homes
 unfolding any_below list_below sum_below count_below graph_of is_pair holds_row degree has each is_empty turned last_that add_new was_read
-    met_below met_at met_edges other_end starting_list start_tie pivot gathered takes kept_elements kept_variables done rest alike represents
+    met_below met_at met_edges other_end starting_list start_quotient pivot gathered takes kept_elements kept_variables done rest alike represents
     made ends new_size far left next_bound new_home round next after_rounds
 homes = refl
 

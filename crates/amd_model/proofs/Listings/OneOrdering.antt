@@ -9,7 +9,7 @@ use Rattle.amd_model.specs.Run.{last_state}
 use Rattle.amd_model.specs.Listing.{Tree, children, roots, assembly_tree, block_list, weight, IsPostorder, ListsTrees, none as no_tree}
 use Rattle.amd_model.specs.Listing.{more as one_more}
 use Rattle.amd_model.specs.Figures.{figure, is_made, greatest_front}
-use Rattle.amd_model.specs.Quotient.{QuotientGraph, Fits, is_empty, pivot, next, start_tie}
+use Rattle.amd_model.specs.Quotient.{QuotientGraph, Fits, is_empty, pivot, next, start_quotient}
 use Rattle.amd_model.specs.Ordering.{Follows, none, more, SameTree, OneOrdering}
 use Rattle.amd_model.proofs.States.Words.{class_gives, live_from}
 use Rattle.amd_model.proofs.Quotient.Lists.{some_of}
@@ -119,8 +119,8 @@ postorder_one g dense s t p q same a b =
 
 pub one_ordering : OneOrdering
 one_ordering g dense aggressive lists first other states others p q a b =
-    let start = one_tree g (start_tie g dense lists) first other a.starts b.starts
+    let start = one_tree g (start_quotient g dense lists) first other a.starts b.starts
     (λ e v. a.run.start.borders e v ∙ sym (b.run.start.borders e v)) in
-    let same = ends_same g aggressive (start_tie g dense lists) a.end b.end first other states others a.follows b.follows a.starts b.starts
+    let same = ends_same g aggressive (start_quotient g dense lists) a.end b.end first other states others a.follows b.follows a.starts b.starts
     start a.run.end b.run.end in
     (postorder_one g dense (last_state first states) (last_state other others) p q same a.listing b.listing, same)

@@ -8,7 +8,7 @@ use Rattle.std.specs.Cmp.{both_ways}
 use Rattle.amd_model.specs.Below.{count_below, list_below}
 use Rattle.amd_model.specs.Graph.{Graph, IsGraph, degree}
 use Rattle.amd_model.specs.State.{State, Last, Live, Gone, in_class, is_class, holds, neighbours, IsStart}
-use Rattle.amd_model.specs.Quotient.{QuotientGraph, Fits, Once, has, start_tie}
+use Rattle.amd_model.specs.Quotient.{QuotientGraph, Fits, Once, has, start_quotient}
 use Rattle.amd_model.specs.QuotientLaws.{NamesNeighbours, StartFits}
 use Rattle.amd_model.proofs.Counting.Below.{count_same, clash}
 use Rattle.amd_model.proofs.States.Words.{class_gives, class_from, holds_gives, neighbours_gives, neighbours_from}
@@ -88,10 +88,10 @@ module _ (g : Graph) (dense : ℕ → Bool) (s : State) (lists : ℕ → List �
   ]
 
   t : QuotientGraph
-  t = start_tie g dense lists
+  t = start_quotient g dense lists
 
   start_placed : (i : ℕ) → has t.placed i ≡ is_class s i
-  unfolding t start_tie
+  unfolding t start_quotient
   start_placed i = has_below g.size (λ v. not (dense v || (degree g v == 0))) i ∙
       both_ways (nat_lt i g.size && not (dense i || (degree g i == 0))) (is_class s i)
       (λ h. let q = and_parts (nat_lt i g.size) (not (dense i || (degree g i == 0))) h in
@@ -102,7 +102,7 @@ module _ (g : Graph) (dense : ℕ → Bool) (s : State) (lists : ℕ → List �
       (not_from_false (dense i || (degree g i == 0)) (or_from (dense i) ((degree g i == 0)) r.1 r.2)))
 
   start_variables : (i j : ℕ) → s.home i ≡ Live i → has (t.variables i) j ≡ neighbours g s i j
-  unfolding t start_tie
+  unfolding t start_quotient
   start_variables i j hi = has_filter (λ j. not (dense j)) (lists i) j ∙ ap (λ b. b && not (dense j)) ((names i hi).named j) ∙
       both_ways (g.edge i j && not (dense j)) (neighbours g s i j)
       (λ h. let q = and_parts (g.edge i j) (not (dense j)) h in let r = edge_rows i j q.0 in
@@ -120,14 +120,14 @@ module _ (g : Graph) (dense : ℕ → Bool) (s : State) (lists : ℕ → List �
       (not_from_false (dense j) (live_row j n.second).1))
 
   start_size : (i : ℕ) → s.home i ≡ Live i → t.size i ≡ count_below g.size (in_class s i)
-  unfolding t start_tie count_below
+  unfolding t start_quotient count_below
   start_size i hi = sym (sum_one g.size (λ k. 1) i (live_row i hi).0) ∙
       count_same g.size (λ v. i == v) (in_class s i) (λ v l. both_ways (i == v) (in_class s i v)
       (λ h. class_from i (s.home v) (ap s.home (sym (eqb-true i v h)) ∙ hi))
       (λ h. eq-eqb i v (sym (own g laws dense s start v i (class_gives i (s.home v) h)))))
 
   start_home : (v : ℕ) → t.home v ≡ s.home v
-  unfolding t start_tie
+  unfolding t start_quotient
   start_home v = elim (cases_Bool (dense v || not (nat_lt v g.size))) [
     | inl y ↦ cond-true (dense v || not (nat_lt v g.size)) Last _ y ∙ sym (elim (cases_lt v g.size) [
       | inr l ↦ start.outside v l
@@ -151,23 +151,23 @@ module _ (g : Graph) (dense : ℕ → Bool) (s : State) (lists : ℕ → List �
   ]
 
   start_variables_once : (i : ℕ) → s.home i ≡ Live i → Once (t.variables i)
-  unfolding t start_tie
+  unfolding t start_quotient
   start_variables_once i hi = once_filter (λ j. not (dense j)) (lists i) (names i hi).once
 
   start_bound : (i : ℕ) → s.home i ≡ Live i → t.bound i ≡ s.bound i
-  unfolding t start_tie
+  unfolding t start_quotient
   start_bound i hi = sym (start.bounds i hi)
 
   start_elements : (i e : ℕ) → has (t.elements i) e ≡ holds g s e i
-  unfolding t start_tie has
+  unfolding t start_quotient has
   start_elements i e = sym (none_holds e i)
 
   start_members : (e i : ℕ) → has (t.members e) i ≡ holds g s e i
-  unfolding t start_tie has
+  unfolding t start_quotient has
   start_members e i = sym (none_holds e i)
 
-  pub fits_start : Fits g (start_tie g dense lists) s
-  unfolding t start_tie
+  pub fits_start : Fits g (start_quotient g dense lists) s
+  unfolding t start_quotient
   fits_start = record {
     placed = start_placed;
     variables = start_variables;

@@ -6,7 +6,7 @@ use Rattle.std.specs.Cmp.{both_ways}
 use Rattle.amd_model.specs.Below.{list_below}
 use Rattle.amd_model.specs.Graph.{Graph, IsGraph, degree}
 use Rattle.amd_model.specs.State.{State, Home, Last, Live, Gone, IsStart}
-use Rattle.amd_model.specs.Quotient.{start_tie}
+use Rattle.amd_model.specs.Quotient.{start_quotient}
 use Rattle.amd_model.specs.QuotientLaws.{NamesNeighbours}
 use Rattle.amd_model.specs.Laws.{RunsExist}
 use Rattle.amd_model.proofs.Quotient.Start.{has_below, once_below, start_fits}
@@ -45,5 +45,5 @@ pub runs_exist : RunsExist
 runs_exist g dense aggressive laws =
     let lists : ℕ → List ℕ = λ i. list_below g.size (g.edge i) in
     let fits = start_fits g dense (first_state g dense) lists laws (starts g dense) (λ i h. names_neighbours g laws i) in
-    let run = rounds_are_a_run g dense aggressive (start_tie g dense lists) (first_state g dense) laws (starts g dense) fits in
+    let run = rounds_are_a_run g dense aggressive (start_quotient g dense lists) (first_state g dense) laws (starts g dense) fits in
     (first_state g dense, run.0, run.1)

@@ -3,7 +3,7 @@ use Rattle.std.specs.Prelude.{ℕ, ℤ, pos, None, Some, List, [], ◌∷◌}
 use Rattle.amd_model.specs.Graph.{Graph}
 use Rattle.amd_model.specs.State.{State, Live, Gone}
 use Rattle.amd_model.specs.Input.Pattern.{graph_of, is_pair}
-use Rattle.amd_model.specs.Quotient.{QuotientGraph, start_tie, starting_list}
+use Rattle.amd_model.specs.Quotient.{QuotientGraph, start_quotient, starting_list}
 use Rattle.amd_model.specs.Examples.Table.{Table, state_of, none_dense}
 
 -- the column pointers
@@ -62,8 +62,8 @@ abbrev pub after_two : State
 after_two = state_of two_table
 
 -- the start kept in lists, from the starting lists of the pattern
-abbrev pub cycle_tie : QuotientGraph
-cycle_tie = start_tie cycle none_dense (starting_list 4 (is_pair 4 pointers rows))
+abbrev pub cycle_quotient : QuotientGraph
+cycle_quotient = start_quotient cycle none_dense (starting_list 4 (is_pair 4 pointers rows))
 
 -- its rows listed in postorder
 abbrev pub listing : List ℕ

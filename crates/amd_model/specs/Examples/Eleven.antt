@@ -4,7 +4,7 @@ use Rattle.std.specs.Prelude.{ℕ, ℤ, pos, Bool, None, Some, List, [], ◌∷�
 use Rattle.amd_model.specs.Graph.{Graph}
 use Rattle.amd_model.specs.State.{State, Last, Live, Gone}
 use Rattle.amd_model.specs.Input.Pattern.{graph_of, is_pair}
-use Rattle.amd_model.specs.Quotient.{QuotientGraph, start_tie, starting_list}
+use Rattle.amd_model.specs.Quotient.{QuotientGraph, start_quotient, starting_list}
 use Rattle.amd_model.specs.Examples.Table.{Table, state_of}
 
 -- the column pointers
@@ -103,8 +103,8 @@ abbrev pub after_five : State
 after_five = state_of five_table
 
 -- the start kept in lists, from the starting lists of the pattern
-abbrev pub eleven_tie : QuotientGraph
-eleven_tie = start_tie eleven row_one (starting_list 11 (is_pair 11 pointers rows))
+abbrev pub eleven_quotient : QuotientGraph
+eleven_quotient = start_quotient eleven row_one (starting_list 11 (is_pair 11 pointers rows))
 
 -- its rows listed in postorder
 abbrev pub listing : List ℕ

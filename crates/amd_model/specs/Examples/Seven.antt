@@ -4,7 +4,7 @@ use Rattle.std.specs.Prelude.{ℕ, ℤ, pos, None, Some, List, [], ◌∷◌}
 use Rattle.amd_model.specs.Graph.{Graph}
 use Rattle.amd_model.specs.State.{State, Live, Gone}
 use Rattle.amd_model.specs.Input.Pattern.{graph_of, is_pair}
-use Rattle.amd_model.specs.Quotient.{QuotientGraph, start_tie, starting_list}
+use Rattle.amd_model.specs.Quotient.{QuotientGraph, start_quotient, starting_list}
 use Rattle.amd_model.specs.Examples.Table.{Table, state_of, none_dense}
 
 -- the column pointers
@@ -72,8 +72,8 @@ abbrev pub after_three : State
 after_three = state_of three_table
 
 -- the start kept in lists, from the starting lists of the pattern
-abbrev pub seven_tie : QuotientGraph
-seven_tie = start_tie seven none_dense (starting_list 7 (is_pair 7 pointers rows))
+abbrev pub seven_quotient : QuotientGraph
+seven_quotient = start_quotient seven none_dense (starting_list 7 (is_pair 7 pointers rows))
 
 -- its rows listed in postorder
 abbrev pub listing : List ℕ

@@ -1,7 +1,7 @@
 use Rattle.std.proofs.Common.{arith, length, refl, ◌∙◌, sym}
 use Rattle.std.specs.Option.{option_copied}
 use Rattle.amd_model.specs.Input.Held.{is_held_last}
-use Rattle.amd_model.specs.Quotient.{start_tie}
+use Rattle.amd_model.specs.Quotient.{start_quotient}
 use Rattle.amd_model.proofs.States.RunsExist.{first_state}
 use Rattle.amd_inplace.specs.Workspaces.{Workspace}
 use Rattle.amd_workspace.specs.Starting.{Rows, held_in}
@@ -67,7 +67,7 @@ run_rounds-requires-clause-stands g c =
       w.0,
       is_held_last (option_copied a.hold) w.0 a.threshold,
       a.free,
-      start_tie w.0 (is_held_last (option_copied a.hold) w.0 a.threshold) w.1,
+      start_quotient w.0 (is_held_last (option_copied a.hold) w.0 a.threshold) w.1,
       first_state w.0 (is_held_last (option_copied a.hold) w.0 a.threshold),
       stands_first (option_copied a.hold) a.threshold p v e.begins fresh r.laid w.0 w.1 w.2,
     )
