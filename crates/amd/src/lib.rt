@@ -86,7 +86,7 @@ fn order_jumbled<I: PrimInt, A: Allocator + Copy>(
     Ok((p, p_inv, info))
 }
 
-/// The class of an input with marks of rows to hold last: that of the column form, but `Invalid` where there are marks and not one
+/// The status of an input with marks of rows to hold last: that of the column form, but `Invalid` where there are marks and not one
 /// for each of the `count` rows.
 fn class_of<I: PrimInt>(n: I, count: usize, a_p: &[I], a_i: &[I], hold: Option<&[bool]>) -> Status
     requires fits { I.fits (I.value n) }

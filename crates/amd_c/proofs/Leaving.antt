@@ -83,7 +83,7 @@ orders_into hold m n choice a_p a_i p q r s before after status number same left
     let five = subst (λ x. Leaves hold n choice a_p a_i (memory p q before) x status) (memory_of_values r s after) four in
     record { status = status; answer = answer_is status number is; left = five }
 
--- and so for the class of an input
+-- and so for the status of an input
 pub classifies_input : (k l m n : ℤ) (a_p a_i : List ℤ) (status : Status) (number : ℤ) → k ≡ m → l ≡ n →
     IsStatusOf k l (values a_p) (values a_i) status → number ≡ number_of status →
     ClassifiesInput m n a_p a_i (to_z w32 (of_z w32 number))

@@ -52,7 +52,7 @@ pub extern "C" fn rimopaku_order_holding_i32(
     number_of(&status)
 }
 
-/// The class of an input, as `valid` of the crate `amd`.
+/// The status of an input, as `valid` of the crate `amd`.
 #[unsafe(no_mangle)]
 pub extern "C" fn rimopaku_valid_i32(n_row: i32, n_col: i32, a_p: &[i32], a_i: &[i32]) -> i32
     ensures { ClassifiesInput n_row n_col a_p.now a_i.now result }

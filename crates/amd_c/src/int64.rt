@@ -52,7 +52,7 @@ pub extern "C" fn rimopaku_order_holding_i64(
     number_of(&status)
 }
 
-/// The class of an input, as `valid` of the crate `amd`.
+/// The status of an input, as `valid` of the crate `amd`.
 #[unsafe(no_mangle)]
 pub extern "C" fn rimopaku_valid_i64(n_row: i64, n_col: i64, a_p: &[i64], a_i: &[i64]) -> i32
     ensures { ClassifiesInput n_row n_col a_p.now a_i.now result }

@@ -10,8 +10,8 @@ use amd_numbers::amd::Status;
 use amd_numbers::internal::{is_below, is_negative, to_count, value_at};
 use num_traits::PrimInt;
 
-/// The class of the rows at the places from `from` on, before `to`: those of one column.
-fn column_class<I: PrimInt>(n_row: I, a_i: &[I], from: usize, to: usize) -> Status
+/// The status of the rows at the places from `from` on, before `to`: those of one column.
+fn column_status<I: PrimInt>(n_row: I, a_i: &[I], from: usize, to: usize) -> Status
     requires ordered { from ≤ to }
     requires within { to ≤ length a_i.now }
     ensures { IsColumnClass (I.value n_row) (map I.value a_i.now) from to result }
@@ -29,7 +29,7 @@ fn column_class<I: PrimInt>(n_row: I, a_i: &[I], from: usize, to: usize) -> Stat
     status
 }
 
-/// The class of an input with `n_col` columns and rows in `0..n_row`: `Invalid` where it is no column form, else
+/// The status of an input with `n_col` columns and rows in `0..n_row`: `Invalid` where it is no column form, else
 /// `OkButJumbled` where some column is out of order or has a repeat, else `OK`. For `n_col = 0` one pointer, 0, is needed.
 /// Any arguments are allowed, and no memory is taken.
 ///
@@ -62,7 +62,7 @@ pub fn valid<I: PrimInt>(n_row: I, n_col: I, a_p: &[I], a_i: &[I]) -> Status
         if to < from || to > a_i.len() {
             return Status::Invalid;
         }
-        match column_class(n_row, a_i, from, to) {
+        match column_status(n_row, a_i, from, to) {
             Status::OK => {}
             Status::OkButJumbled => status = Status::OkButJumbled,
             Status::Invalid => return Status::Invalid,

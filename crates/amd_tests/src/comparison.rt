@@ -26,7 +26,7 @@ fn figures_in(info: &Info) -> [usize; 4] {
     [info.n, info.nz, info.nz_diag, info.nz_a_plus_at]
 }
 
-/// The class of a column form by the definition.
+/// The status of a column form by the definition.
 fn class_of(n: usize, a_p: &[i64], a_i: &[i64]) -> Status {
     if plain::is_jumbled(n, a_p, a_i) {
         Status::OkButJumbled

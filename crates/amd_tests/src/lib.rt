@@ -4,7 +4,7 @@
 #![tactic(auto)]
 
 #[cfg(test)]
-mod classes;
+mod statuses;
 #[cfg(test)]
 mod comparison;
 #[cfg(test)]

@@ -30,7 +30,7 @@ columns-preserved g c =
     let to = c.in-Some-to_count-2.to in
     let inside : to ≤ length (map n c.args.a_i.now) = simp length-map (omega arith) in
     let room : c.columns.j + 1 < length (map n c.args.a_p.now) = simp length-map (omega arith) in
-    elim c.match-column_class.branch [
+    elim c.match-column_status.branch [
       | in-OK w ↦ record {
         form = form_more _ _ _ c.columns.j from to c.columns.invariant.form a b (omega arith) inside room w.in-OK.ensures.0;
         class = rw w.status-is (run_more (n c.args.n_row) _ _ c.columns.j from to c.columns.status a b w.in-OK.ensures.1

@@ -1,5 +1,5 @@
-// The class of an input: `valid` alone, and the refusals of `order`. A fault wins over a jumbled column, wherever either stands.
-// The classes were worked by hand from the definition of a column form.
+// The status of an input: `valid` alone, and the refusals of `order`. A fault wins over a jumbled column, wherever either stands.
+// The statuses were worked by hand from the definition of a column form.
 
 use amd::valid::valid;
 use amd::{Control, Status, order};
@@ -126,7 +126,7 @@ fn inputs_that_are_no_column_form(rt: HostRuntime) {
 
 /// An input with its status. It may have fewer columns than rows, or more. A number of rows below 0 leaves no row.
 #[derive(Drop)]
-struct Class<'a> {
+struct Judged<'a> {
     n_row: i32,
     n_col: i32,
     a_p: &'a [i32],
@@ -135,113 +135,113 @@ struct Class<'a> {
 }
 
 /// Inputs of any shape with their statuses.
-static CLASSES: [Class<'static>; 16] = [
-    Class {
+static JUDGED: [Judged<'static>; 16] = [
+    Judged {
         n_row: 2,
         n_col: 2,
         a_p: &[0, 1, 1],
         a_i: &[1],
         status: Status::OK,
     },
-    Class {
+    Judged {
         n_row: 2,
         n_col: 2,
         a_p: &[0, 2, 2],
         a_i: &[1, 1],
         status: Status::OkButJumbled,
     },
-    Class {
+    Judged {
         n_row: 2,
         n_col: 2,
         a_p: &[0, 2, 3],
         a_i: &[1, 0, 1],
         status: Status::OkButJumbled,
     },
-    Class {
+    Judged {
         n_row: 2,
         n_col: 2,
         a_p: &[0, 1, 2],
         a_i: &[1, 0],
         status: Status::OK,
     },
-    Class {
+    Judged {
         n_row: 2,
         n_col: 2,
         a_p: &[0, 1, 1],
         a_i: &[0, -1],
         status: Status::OK,
     },
-    Class {
+    Judged {
         n_row: 2,
         n_col: 3,
         a_p: &[0, 1, 1, 3],
         a_i: &[1, 0, 1],
         status: Status::OK,
     },
-    Class {
+    Judged {
         n_row: 1,
         n_col: 3,
         a_p: &[0, 1, 1, 3],
         a_i: &[1, 0, 1],
         status: Status::Invalid,
     },
-    Class {
+    Judged {
         n_row: 3,
         n_col: 1,
         a_p: &[0, 2],
         a_i: &[2, 1],
         status: Status::OkButJumbled,
     },
-    Class {
+    Judged {
         n_row: 0,
         n_col: 2,
         a_p: &[0, 0, 0],
         a_i: &[],
         status: Status::OK,
     },
-    Class {
+    Judged {
         n_row: 0,
         n_col: 0,
         a_p: &[0],
         a_i: &[],
         status: Status::OK,
     },
-    Class {
+    Judged {
         n_row: 0,
         n_col: 0,
         a_p: &[],
         a_i: &[],
         status: Status::Invalid,
     },
-    Class {
+    Judged {
         n_row: 0,
         n_col: 0,
         a_p: &[7],
         a_i: &[],
         status: Status::Invalid,
     },
-    Class {
+    Judged {
         n_row: -1,
         n_col: 1,
         a_p: &[0, 0],
         a_i: &[],
         status: Status::OK,
     },
-    Class {
+    Judged {
         n_row: i32::MIN,
         n_col: 0,
         a_p: &[0],
         a_i: &[],
         status: Status::OK,
     },
-    Class {
+    Judged {
         n_row: -1,
         n_col: 1,
         a_p: &[0, 1],
         a_i: &[-1],
         status: Status::Invalid,
     },
-    Class {
+    Judged {
         n_row: 1,
         n_col: i32::MIN,
         a_p: &[0, 0],
@@ -251,14 +251,14 @@ static CLASSES: [Class<'static>; 16] = [
 ];
 
 #[test]
-fn classes_of_inputs(rt: HostRuntime) {
-    for class in &CLASSES {
-        let a_p = class.a_p;
-        let a_i = class.a_i;
-        let n_row = class.n_row;
-        let n_col = class.n_col;
+fn statuses_of_inputs(rt: HostRuntime) {
+    for judged in &JUDGED {
+        let a_p = judged.a_p;
+        let a_i = judged.a_i;
+        let n_row = judged.n_row;
+        let n_col = judged.n_col;
         assert!(rt;
-            valid(n_row, n_col, a_p, a_i) == class.status,
+            valid(n_row, n_col, a_p, a_i) == judged.status,
             "at {n_row} {n_col} {a_p:?} {a_i:?}"
         );
     }
