@@ -1,5 +1,6 @@
 -- What `order` answers.
-use Rattle.std.specs.Prelude.{◌≡◌, ◌≢◌, ◌≤◌, ◌+◌, ◌-◌, ◌*◌, ◌/◌, ◌^◌, ◌<◌, ℕ, ℤ, pos, Bool, true, false, Option, None, Some, List, [], map}
+use Rattle.std.specs.Prelude.{◌≡◌, ◌≢◌, ◌≤◌, ◌+◌, ◌-◌, ◌*◌, ◌/◌, ◌^◌, ◌<◌, ℕ, ℤ, pos, Bool, true, false, Option, None}
+use Rattle.std.specs.Prelude.{Some, List, [], map}
 use Rattle.std.specs.Prelude.{drop, length, slice_index_or, unsigned_abs}
 use Rattle.amd_model.specs.Below.{count_below, list_below}
 use Rattle.amd_model.specs.Graph.{Graph}
@@ -28,16 +29,16 @@ pub record DenseStandLast (g : Graph) (dense : ℕ → Bool) (p : List ℤ) (n_d
   pub count : n_dense ≡ count_below g.size dense
   pub last : drop (g.size - n_dense) p ≡ map pos (list_below g.size dense)
 
--- the pairs by whose edges the starting lists are ordered: those of the matrix where it is sorted, and of its transpose, by which a
--- jumbled matrix is replaced
+-- the pairs by whose edges the starting lists are ordered: those of the matrix where it is sorted, and of its
+-- transpose, by which a jumbled matrix is replaced
 abbrev pub ordered_pairs : Status → ℕ → List ℤ → List ℤ → ℕ → ℕ → Bool
 ordered_pairs OK n ap ai = is_pair n ap ai
 ordered_pairs Invalid n ap ai = is_pair n ap ai
 ordered_pairs OkButJumbled n ap ai = λ i j. is_pair n ap ai j i
 ordered_pairs OutOfMemory n ap ai = is_pair n ap ai
 
--- the figures of the run that ended in the state s, cut where they pass the greatest count; the entries and the greatest front are
--- at most those of a full matrix
+-- the figures of the run that ended in the state s, cut where they pass the greatest count; the entries and the
+-- greatest front are at most those of a full matrix
 pub record TellsFigures (g : Graph) (dense : ℕ → Bool) (s : State) (info : Info) : Type 0 where
   pub lnz : info.lnz ≡ cut (figure entries g dense s)
   pub divisions : info.n_div ≡ info.lnz
@@ -62,9 +63,10 @@ pub record FillsNothing (g : Graph) (p : List ℕ) (info : Info) : Type 0 where
   pub count : info.lnz ≡ info.nz_a_plus_at / 2
   pub entry : EntriesAreEdges g p
 
--- what an ordering of a matrix with n rows and a dense row parameter of t thousandths promises, where the marked rows are held last
--- beside the dense ones; the pairs order the starting lists
-pub record OrdersMatrix (hold : Option (List Bool)) (n : ℕ) (t : ℤ) (aggressive : Bool) (pair : ℕ → ℕ → Bool) (ap ai p q : List ℤ)
+-- what an ordering of a matrix with n rows and a dense row parameter of t thousandths promises, where the marked rows
+-- are held last beside the dense ones; the pairs order the starting lists
+pub record OrdersMatrix (hold : Option (List Bool)) (n : ℕ) (t : ℤ) (aggressive : Bool) (pair : ℕ → ℕ → Bool)
+    (ap ai p q : List ℤ)
     (info : Info) : Type 0 where
   pub inverse : AreInverse n p q
   pub figures : HasPatternFigures n ap ai info
@@ -77,15 +79,18 @@ pub record OrdersMatrix (hold : Option (List Bool)) (n : ℕ) (t : ℤ) (aggress
   pub listed : p ≡ map pos rows
   pub first : State
   pub states : List State
-  pub listing : IsListingOf (graph_of n ap ai) (is_held_last hold (graph_of n ap ai) threshold) aggressive (starting_list n pair) first
+  pub listing : IsListingOf (graph_of n ap ai) (is_held_last hold (graph_of n ap ai) threshold) aggressive
+      (starting_list n pair) first
       states rows
   -- and with this run: paths, bounds, the tree, the columns, forests; its figures; and what they reserve
   pub promises : Promises (graph_of n ap ai) (is_held_last hold (graph_of n ap ai) threshold) first states rows
-  pub told : TellsFigures (graph_of n ap ai) (is_held_last hold (graph_of n ap ai) threshold) (last_state first states) info
+  pub told : TellsFigures (graph_of n ap ai) (is_held_last hold (graph_of n ap ai) threshold) (last_state first states)
+      info
   pub reserves : Reserves (graph_of n ap ai) rows info
   -- where the edges have no cycle and no row is held last, nothing fills in
   pub forest : IsForest (graph_of n ap ai) → info.n_dense ≡ 0 → FillsNothing (graph_of n ap ai) rows info
-  -- a workspace for the lists of that many rows, with a fifth more and n words, has at most the greatest `isize` of words
+  -- a workspace for the lists of that many rows, with a fifth more and n words, has at most the greatest `isize` of
+  -- words
   pub room : info.nz_a_plus_at + info.nz_a_plus_at / 5 + n < 2 ^ 63
 
 -- an answer for n = 0: two empty lists, and the record of nothing
@@ -94,14 +99,16 @@ pub record IsNothing (p q : List ℤ) (info : Info) : Type 0 where
   pub q_empty : q ≡ []
   pub fresh : info ≡ fresh_info 0
 
--- an answer: that for n = 0, and else an ordering of a column form, with its status; where there are marks of rows to hold last,
--- there is one for each row
-pub record IsOrderingHolding (hold : Option (List Bool)) (n t : ℤ) (aggressive : Bool) (ap ai p q : List ℤ) (info : Info) : Type 0 where
+-- an answer: that for n = 0, and else an ordering of a column form, with its status; where there are marks of rows to
+-- hold last, there is one for each row
+pub record IsOrderingHolding (hold : Option (List Bool)) (n t : ℤ) (aggressive : Bool) (ap ai p q : List ℤ)
+    (info : Info) : Type 0 where
   pub nothing : n ≡ pos 0 → IsNothing p q info
   pub form : n ≢ pos 0 → IsInput n n ap ai
   pub marks : n ≢ pos 0 → HasMarks hold (unsigned_abs n)
   pub status : n ≢ pos 0 → IsStatusOf n n ap ai info.status
-  pub orders : n ≢ pos 0 → OrdersMatrix hold (unsigned_abs n) t aggressive (ordered_pairs info.status (unsigned_abs n) ap ai) ap ai p q info
+  pub orders : n ≢ pos 0 → OrdersMatrix hold (unsigned_abs n) t aggressive
+      (ordered_pairs info.status (unsigned_abs n) ap ai) ap ai p q info
 
 -- an answer where no row is marked: the rows held last are the dense ones
 abbrev pub IsOrdering : ℤ → ℤ → Bool → List ℤ → List ℤ → List ℤ → List ℤ → Info → Type 0
@@ -112,8 +119,8 @@ abbrev pub IsInputHolding : Option (List Bool) → ℤ → List ℤ → List ℤ
 IsInputHolding None n ap ai = IsInput n n ap ai
 IsInputHolding (Some marks) n ap ai = IsInput n n ap ai × (length marks ≡ unsigned_abs n)
 
--- a refusal: `Invalid` exactly where n is not 0 and the input is no column form, or has not a mark for each row where it has marks;
--- `OutOfMemory` only for such an input
+-- a refusal: `Invalid` exactly where n is not 0 and the input is no column form, or has not a mark for each row where
+-- it has marks; `OutOfMemory` only for such an input
 abbrev pub IsRefusalHolding : Option (List Bool) → ℤ → List ℤ → List ℤ → Status → Type 0
 IsRefusalHolding hold n ap ai Invalid = (n ≢ pos 0) × (¬ (IsInputHolding hold n ap ai))
 IsRefusalHolding hold n ap ai OutOfMemory = (n ≢ pos 0) × IsInputHolding hold n ap ai

@@ -1,8 +1,8 @@
 //! An approximate minimum degree ordering of sparse matrices.
 //!
-//! [`order`] takes the pattern of a square matrix by columns and answers a permutation of its rows, its inverse, and figures.
-//! [`order_holding`] does the same with rows that a caller wants last.
-//! [`control`] and [`info`] write what a caller chooses and what the ordering tells, as text.
+//! [`order`] takes the pattern of a square matrix by columns and answers a permutation of its rows, its inverse, and
+//! figures. [`order_holding`] does the same with rows that a caller wants last. [`control`] and [`info`] write what a
+//! caller chooses and what the ordering tells, as text.
 #![tactic(auto)]
 
 pub mod laws;
@@ -26,8 +26,8 @@ pub use amd_texts::{control, info};
 use num_traits::PrimInt;
 use std::alloc::Allocator;
 
-/// The words of a workspace for lists of `nzaat` entries in all, with a fifth more and `n` words of elbow room, where they
-/// are at most the greatest `isize`.
+/// The words of a workspace for lists of `nzaat` entries in all, with a fifth more and `n` words of elbow room, where
+/// they are at most the greatest `isize`.
 fn workspace_words(nzaat: usize, n: usize) -> Option<usize>
     ensures { SomeIff result (nzaat + nzaat / 5 + n < 2 ^ 63) (nzaat + nzaat / 5 + n) }
 {
@@ -49,7 +49,10 @@ fn order_sorted<I: PrimInt, A: Allocator + Copy>(
     requires marks { HasMarks (option_copied hold) (unsigned_abs (I.value n)) }
     requires form { IsInput (I.value n) (I.value n) (map I.value a_p.now) (map I.value a_i.now) }
     requires sorted { IsSortedInput (I.value n) (map I.value a_p.now) (map I.value a_i.now) }
-    ensures orders { IfOk result (λ a. OrdersMatrix (option_copied hold.entry) (unsigned_abs (I.value n)) control.now.dense control.now.aggressive (is_pair (unsigned_abs (I.value n)) (map I.value a_p.now) (map I.value a_i.now)) (map I.value a_p.now) (map I.value a_i.now) (map I.value a.0.items) (map I.value a.1.items) a.2) }
+    ensures orders { IfOk result (λ a. OrdersMatrix (option_copied hold.entry) (unsigned_abs (I.value n))
+        control.now.dense control.now.aggressive (is_pair (unsigned_abs (I.value n)) (map I.value a_p.now)
+        (map I.value a_i.now)) (map I.value a_p.now) (map I.value a_i.now) (map I.value a.0.items)
+        (map I.value a.1.items) a.2) }
     ensures status { IfOk result (λ a. a.2.status ≡ Status.OK) }
     ensures refused { IfErr result (λ e. e ≡ Status.OutOfMemory) }
 {
@@ -76,7 +79,10 @@ fn order_jumbled<I: PrimInt, A: Allocator + Copy>(
     requires some { I.value n ≢ pos 0 }
     requires marks { HasMarks (option_copied hold) (unsigned_abs (I.value n)) }
     requires form { IsInput (I.value n) (I.value n) (map I.value a_p.now) (map I.value a_i.now) }
-    ensures orders { IfOk result (λ a. OrdersMatrix (option_copied hold.entry) (unsigned_abs (I.value n)) control.now.dense control.now.aggressive (λ i j. is_pair (unsigned_abs (I.value n)) (map I.value a_p.now) (map I.value a_i.now) j i) (map I.value a_p.now) (map I.value a_i.now) (map I.value a.0.items) (map I.value a.1.items) a.2) }
+    ensures orders { IfOk result (λ a. OrdersMatrix (option_copied hold.entry) (unsigned_abs (I.value n))
+        control.now.dense control.now.aggressive (λ i j. is_pair (unsigned_abs (I.value n)) (map I.value a_p.now)
+        (map I.value a_i.now) j i) (map I.value a_p.now) (map I.value a_i.now) (map I.value a.0.items)
+        (map I.value a.1.items) a.2) }
     ensures status { IfOk result (λ a. a.2.status ≡ Status.OkButJumbled) }
     ensures refused { IfErr result (λ e. e ≡ Status.OutOfMemory) }
 {
@@ -86,13 +92,14 @@ fn order_jumbled<I: PrimInt, A: Allocator + Copy>(
     Ok((p, p_inv, info))
 }
 
-/// The status of an input with marks of rows to hold last: that of the column form, but `Invalid` where there are marks and not one
-/// for each of the `count` rows.
+/// The status of an input with marks of rows to hold last: that of the column form, but `Invalid` where there are marks
+/// and not one for each of the `count` rows.
 fn class_of<I: PrimInt>(n: I, count: usize, a_p: &[I], a_i: &[I], hold: Option<&[bool]>) -> Status
     requires fits { I.fits (I.value n) }
     requires count { I.value n ≡ pos count }
     ensures marks { result ≢ Status.Invalid → HasMarks (option_copied hold.entry) count }
-    ensures status { HasMarks (option_copied hold.entry) count → IsStatusOf (I.value n) (I.value n) (map I.value a_p.now) (map I.value a_i.now) result }
+    ensures status { HasMarks (option_copied hold.entry) count →
+        IsStatusOf (I.value n) (I.value n) (map I.value a_p.now) (map I.value a_i.now) result }
 {
     match hold {
         Some(marks) if marks.len() != count => Status::Invalid,
@@ -110,8 +117,11 @@ fn order_form<I: PrimInt, A: Allocator + Copy>(
     hold: Option<&[bool]>,
 ) -> Result<(Vec<I, A>, Vec<I, A>, Info), Status>
     requires fits { I.fits (I.value n) }
-    ensures ordering { IfOk result (λ a. IsOrderingHolding (option_copied hold.entry) (I.value n) control.now.dense control.now.aggressive (map I.value a_p.now) (map I.value a_i.now) (map I.value a.0.items) (map I.value a.1.items) a.2) }
-    ensures refusal { IfErr result (λ e. IsRefusalHolding (option_copied hold.entry) (I.value n) (map I.value a_p.now) (map I.value a_i.now) e) }
+    ensures ordering { IfOk result (λ a. IsOrderingHolding (option_copied hold.entry) (I.value n) control.now.dense
+        control.now.aggressive (map I.value a_p.now) (map I.value a_i.now) (map I.value a.0.items)
+        (map I.value a.1.items) a.2) }
+    ensures refusal { IfErr result (λ e. IsRefusalHolding (option_copied hold.entry) (I.value n) (map I.value a_p.now)
+        (map I.value a_i.now) e) }
 {
     let Some(count) = to_count(n) else {
         return Err(Status::Invalid);
@@ -127,14 +137,14 @@ fn order_form<I: PrimInt, A: Allocator + Copy>(
     }
 }
 
-/// Orders the rows of the square matrix with `n` columns whose column `j` holds the rows `a_i[a_p[j]..a_p[j + 1]]`, by the pattern
-/// of `A + A'`, and answers the permutation, its inverse, and what is known of the matrix: row `p[k]` stands at place `k`, and
-/// `p_inv[p[k]]` is `k`.
+/// Orders the rows of the square matrix with `n` columns whose column `j` holds the rows `a_i[a_p[j]..a_p[j + 1]]`, by
+/// the pattern of `A + A'`, and answers the permutation, its inverse, and what is known of the matrix: row `p[k]`
+/// stands at place `k`, and `p_inv[p[k]]` is `k`.
 ///
-/// The input is a *column form*: `n` is not negative, `a_p` has at least `n + 1` pointers, of which the first is 0; up to `a_p[n]`,
-/// which is at most the length of `a_i`, they never descend; and the row indices before place `a_p[n]` lie in `0..n`. What stands
-/// behind is ignored. Columns may be out of order and have repeats. A sorted input is used as it is, and a jumbled one is replaced
-/// by its sorted transpose.
+/// The input is a *column form*: `n` is not negative, `a_p` has at least `n + 1` pointers, of which the first is 0; up
+/// to `a_p[n]`, which is at most the length of `a_i`, they never descend; and the row indices before place `a_p[n]` lie
+/// in `0..n`. What stands behind is ignored. Columns may be out of order and have repeats. A sorted input is used as it
+/// is, and a jumbled one is replaced by its sorted transpose.
 ///
 /// For `n = 0` two empty vectors and `Info::new(0)`, whatever the pointers are.
 ///
@@ -142,8 +152,8 @@ fn order_form<I: PrimInt, A: Allocator + Copy>(
 ///
 /// # Errors
 ///
-/// `Invalid` exactly where `n` is not 0 and the input is no column form; no memory is asked before. `OutOfMemory` where an
-/// allocation was refused, or the workspace would have more than the greatest `isize` of words.
+/// `Invalid` exactly where `n` is not 0 and the input is no column form; no memory is asked before. `OutOfMemory` where
+/// an allocation was refused, or the workspace would have more than the greatest `isize` of words.
 ///
 /// Source: AMD user guide; Amestoy, Davis and Duff 1996 and 2004.
 pub fn order<I: PrimInt, A: Allocator + Copy>(
@@ -155,22 +165,23 @@ pub fn order<I: PrimInt, A: Allocator + Copy>(
 ) -> Result<(Vec<I, A>, Vec<I, A>, Info), Status>
     // A number of a primitive type is always in range.
     requires fits { I.fits (I.value n) }
-    ensures ordering { IfOk result (λ a. IsOrdering (I.value n) control.now.dense control.now.aggressive (map I.value a_p.now) (map I.value a_i.now) (map I.value a.0.items) (map I.value a.1.items) a.2) }
+    ensures ordering { IfOk result (λ a. IsOrdering (I.value n) control.now.dense control.now.aggressive
+        (map I.value a_p.now) (map I.value a_i.now) (map I.value a.0.items) (map I.value a.1.items) a.2) }
     ensures refusal { IfErr result (λ e. IsRefusal (I.value n) (map I.value a_p.now) (map I.value a_i.now) e) }
 {
     order_form(alloc, n, a_p, a_i, control, None)
 }
 
-/// Orders as [`order`] does, with the rows marked in `hold` held last beside the dense ones: they take no part in the elimination,
-/// stand last in rising order, and are counted in `n_dense`. A marked row may be empty. With nothing marked, and where each marked
-/// row is dense anyway, the answer is that of `order`.
+/// Orders as [`order`] does, with the rows marked in `hold` held last beside the dense ones: they take no part in the
+/// elimination, stand last in rising order, and are counted in `n_dense`. A marked row may be empty. With nothing
+/// marked, and where each marked row is dense anyway, the answer is that of `order`.
 ///
 /// For `n = 0` two empty vectors and `Info::new(0)`, whatever the pointers and the marks are.
 ///
 /// # Errors
 ///
-/// `Invalid` exactly where `n` is not 0 and the input is no column form, or `hold` has not one mark for each of the `n` rows; no
-/// memory is asked before. `OutOfMemory` as `order`.
+/// `Invalid` exactly where `n` is not 0 and the input is no column form, or `hold` has not one mark for each of the `n`
+/// rows; no memory is asked before. `OutOfMemory` as `order`.
 ///
 /// Source: AMD user guide; Amestoy, Davis and Duff 1996 and 2004.
 pub fn order_holding<I: PrimInt, A: Allocator + Copy>(
@@ -183,8 +194,11 @@ pub fn order_holding<I: PrimInt, A: Allocator + Copy>(
 ) -> Result<(Vec<I, A>, Vec<I, A>, Info), Status>
     // A number of a primitive type is always in range.
     requires fits { I.fits (I.value n) }
-    ensures ordering { IfOk result (λ a. IsOrderingHolding (Some hold.now) (I.value n) control.now.dense control.now.aggressive (map I.value a_p.now) (map I.value a_i.now) (map I.value a.0.items) (map I.value a.1.items) a.2) }
-    ensures refusal { IfErr result (λ e. IsRefusalHolding (Some hold.now) (I.value n) (map I.value a_p.now) (map I.value a_i.now) e) }
+    ensures ordering { IfOk result (λ a. IsOrderingHolding (Some hold.now) (I.value n) control.now.dense
+        control.now.aggressive (map I.value a_p.now) (map I.value a_i.now) (map I.value a.0.items)
+        (map I.value a.1.items) a.2) }
+    ensures refusal { IfErr result (λ e. IsRefusalHolding (Some hold.now) (I.value n) (map I.value a_p.now)
+        (map I.value a_i.now) e) }
 {
     order_form(alloc, n, a_p, a_i, control, Some(hold))
 }

@@ -1,10 +1,12 @@
-//! Times `order` on a matrix file: `amd_bench FILE i32|i64|isize REPEATS`. The format of the file is that of `amd_cases`. With a
-//! fourth word, `columns` or `analyze`, it times that call of `amd_symbolic`, `columns` under the order that `order` gives.
+//! Times `order` on a matrix file: `amd_bench FILE i32|i64|isize REPEATS`. The format of the file is that of
+//! `amd_cases`. With a fourth word, `columns` or `analyze`, it times that call of `amd_symbolic`, `columns` under the
+//! order that `order` gives.
 //!
-//! It prints one line: the type of numbers, the name of the file, the figures of the ordering and a hash of the permutation, or the
-//! number of the factor's entries and a hash of them, and the least and the median time of a call in nanoseconds. Reading the file
-//! is not timed. With other arguments it says on standard error how it is called, and ends with status 2. Where the file cannot be
-//! read or holds no matrix, and where memory is refused, a message names the file, and the status is 1.
+//! It prints one line: the type of numbers, the name of the file, the figures of the ordering and a hash of the
+//! permutation, or the number of the factor's entries and a hash of them, and the least and the median time of a call
+//! in nanoseconds. Reading the file is not timed. With other arguments it says on standard error how it is called, and
+//! ends with status 2. Where the file cannot be read or holds no matrix, and where memory is refused, a message names
+//! the file, and the status is 1.
 #![tactic(auto)]
 
 mod factors;
@@ -29,8 +31,8 @@ struct Outcome<I: PrimInt> {
     times: Vec<Duration>,
 }
 
-/// Orders a matrix by the default control some times. It is compiled apart from its caller, so that no other loop takes its
-/// registers.
+/// Orders a matrix by the default control some times. It is compiled apart from its caller, so that no other loop takes
+/// its registers.
 #[inline(never)]
 fn order_often<R: Runtime + Alloc<A = Global>, I: PrimInt>(
     rt: &R,
@@ -56,8 +58,8 @@ fn order_often<R: Runtime + Alloc<A = Global>, I: PrimInt>(
     Ok(Outcome { p, info, times })
 }
 
-/// A hash of a list: from a fixed start, each number is mixed in by an exclusive or and a product. The factor is the FNV-1a prime,
-/// and the start any fixed number, the same in the programs that `docs/BENCHMARKS.md` compares.
+/// A hash of a list: from a fixed start, each number is mixed in by an exclusive or and a product. The factor is the
+/// FNV-1a prime, and the start any fixed number, the same in the programs that `docs/BENCHMARKS.md` compares.
 fn hash_of<I: PrimInt>(numbers: &[I]) -> Result<u64> {
     let mut hash: u64 = 1469598103934665603;
     'numbers: for number in numbers {
@@ -121,7 +123,8 @@ struct Request<'a> {
     repeats: usize,
 }
 
-/// What the words ask for, of which the first is the name of the program; `None` where they are not those that it takes.
+/// What the words ask for, of which the first is the name of the program; `None` where they are not those that it
+/// takes.
 fn request_of(words: &[String]) -> Option<Request<'_>> {
     let (path, kind, repeats, call) = match words {
         [_, path, kind, repeats] => (path, kind.as_str(), repeats, "order"),

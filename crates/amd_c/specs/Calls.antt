@@ -23,15 +23,16 @@ abbrev pub HasPlaces : ℤ → List ℤ → List ℤ → Type 0
 HasPlaces n p q = (n ≡ pos (length p)) × (n ≡ pos (length q))
 
 -- an ordering with this status stands in the arrays, and what it tells in the statistics
-pub record HoldsOrdering (hold : Option (List Bool)) (n : ℤ) (choice : Parameters) (ap ai : List ℤ) (m : Memory) (status : Status) : Type 0
+pub record HoldsOrdering (hold : Option (List Bool)) (n : ℤ) (choice : Parameters) (ap ai : List ℤ) (m : Memory)
+    (status : Status) : Type 0
   where
     pub info : Info
     pub ordering : IsOrderingHolding hold n choice.dense choice.aggressive ap ai m.p m.q info
     pub told : m.statistics ≡ statistics_of info
     pub status_is : info.status ≡ status
 
--- a refusal by this status: `Invalid` where an array has not n places, and else where `IsRefusalHolding` says so; `OutOfMemory` only
--- where each array has n places
+-- a refusal by this status: `Invalid` where an array has not n places, and else where `IsRefusalHolding` says so;
+-- `OutOfMemory` only where each array has n places
 abbrev pub Refuses : Option (List Bool) → ℤ → List ℤ → List ℤ → Memory → Status → Type 0
 Refuses hold n ap ai m Invalid = HasPlaces n m.p m.q → IsRefusalHolding hold n ap ai Invalid
 Refuses hold n ap ai m OutOfMemory = HasPlaces n m.p m.q × IsRefusalHolding hold n ap ai OutOfMemory
@@ -46,7 +47,8 @@ Leaves hold n choice ap ai old new Invalid = Refuses hold n ap ai old Invalid ×
 Leaves hold n choice ap ai old new OutOfMemory = Refuses hold n ap ai old OutOfMemory × (new ≡ old)
 
 -- the number is that of a status, and the call leaves what this says
-pub record OrdersInto (hold : Option (List Bool)) (n : ℤ) (choice : Parameters) (ap ai : List ℤ) (old new : Memory) (number : ℤ) : Type 0
+pub record OrdersInto (hold : Option (List Bool)) (n : ℤ) (choice : Parameters) (ap ai : List ℤ) (old new : Memory)
+    (number : ℤ) : Type 0
   where
     pub status : Status
     pub answer : number ≡ number_of status

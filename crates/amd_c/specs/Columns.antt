@@ -1,8 +1,10 @@
 -- What the calls for the columns of a factor leave in a caller's arrays, and which number they answer.
-use Rattle.std.specs.Prelude.{◌≡◌, ◌≢◌, ◌+◌, ℕ, ℤ, pos, negsuc, Option, None, Some, Result, Ok, Err, List, ◌++◌, map, drop, length}
+use Rattle.std.specs.Prelude.{◌≡◌, ◌≢◌, ◌+◌, ℕ, ℤ, pos, negsuc, Option, None, Some, Result, Ok, Err, List, ◌++◌, map}
+use Rattle.std.specs.Prelude.{drop, length}
 use Rattle.amd_symbolic.specs.Factors.{IsFactorOf, IsFault}
 use Rattle.amd_symbolic.specs.declared.factor.Fault.{Fault}
-use Rattle.amd_symbolic.specs.declared.factor.Fault.TheVariants.{NotColumnForm, NotPermutation, RoomTooSmall, OutOfMemory}
+use Rattle.amd_symbolic.specs.declared.factor.Fault.TheVariants.{NotColumnForm, NotPermutation, RoomTooSmall}
+use Rattle.amd_symbolic.specs.declared.factor.Fault.TheVariants.{OutOfMemory}
 
 -- what stands in a caller's arrays for the pointers, the entries and the parents
 pub record Arrays : Type 0 where
@@ -40,10 +42,12 @@ pub record HoldsColumns (n : ℤ) (ap ai p : List ℤ) (old new : Arrays) : Type
   pub entries : new.rows ≡ map pos rows ++ drop (length rows) old.rows
   pub parents : new.parent ≡ map parent_number parent
 
--- a fault: that of the factor with the array of the entries as room, or `NotColumnForm` where an array has not its places
+-- a fault: that of the factor with the array of the entries as room, or `NotColumnForm` where an array has not its
+-- places
 abbrev pub RefusesColumns : ℤ → List ℤ → List ℤ → List ℤ → Arrays → Fault → Type 0
 RefusesColumns n ap ai p a e =
-    (HasColumnPlaces n a.ptr a.parent → IsFault n ap ai p (length a.rows) e) × (e ≢ NotColumnForm → HasColumnPlaces n a.ptr a.parent)
+    (HasColumnPlaces n a.ptr a.parent → IsFault n ap ai p (length a.rows) e) ×
+    (e ≢ NotColumnForm → HasColumnPlaces n a.ptr a.parent)
 
 -- what a call with this outcome leaves: the columns, or after a fault all as it was
 abbrev pub LeavesColumns : ℤ → List ℤ → List ℤ → List ℤ → Arrays → Arrays → Result (Unit {0}) Fault → Type 0

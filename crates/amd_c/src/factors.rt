@@ -1,5 +1,5 @@
-// Writes the columns of a factor into a caller's arrays: the body of the exported functions, for any integer type. The arrays are
-// written last, so they stay as they were where there is a fault. Called by `int32` and `int64`.
+// Writes the columns of a factor into a caller's arrays: the body of the exported functions, for any integer type. The
+// arrays are written last, so they stay as they were where there is a fault. Called by `int32` and `int64`.
 
 ghost use Rattle.std.specs.Prelude.{◌≡◌, ◌↔◌, IfErr, IfOk, IsTrue, map, pos};
 ghost use Rattle.num_traits.specs.Laws.{Checks};
@@ -81,14 +81,15 @@ fn parents_of<I: PrimInt>(alloc: Global, parents: &[Option<usize>]) -> Result<Ve
     Ok(numbers)
 }
 
-/// Writes the columns of the factor of a matrix under the order `p`: where each column begins into `ptr`, which has `n + 1` places,
-/// the entries into `rows`, and the parents into `parent`, which has `n` places, with -1 for none. What stands in `rows` behind the
-/// entries stays.
+/// Writes the columns of the factor of a matrix under the order `p`: where each column begins into `ptr`, which has `n
+/// + 1` places, the entries into `rows`, and the parents into `parent`, which has `n` places, with -1 for none. What
+/// stands in `rows` behind the entries stays.
 ///
 /// # Errors
 ///
-/// Those of `columns` of the crate `amd_symbolic`, with the length of `rows` as room; all stays as it was. `NotColumnForm` also
-/// where `ptr` or `parent` has not that many places, and `OutOfMemory` also where a pointer is too great for the type.
+/// Those of `columns` of the crate `amd_symbolic`, with the length of `rows` as room; all stays as it was.
+/// `NotColumnForm` also where `ptr` or `parent` has not that many places, and `OutOfMemory` also where a pointer is too
+/// great for the type.
 pub fn columns_into<I: PrimInt>(
     alloc: Global,
     n: I,

@@ -1,4 +1,5 @@
-// The exports for `int64_t`. Each is a thin call of `writing`, `factors` or the crate `amd`, and says its contract again. Called by C.
+// The exports for `int64_t`. Each is a thin call of `writing`, `factors` or the crate `amd`, and says its contract
+// again. Called by C.
 
 ghost use Rattle.std.specs.Prelude.{None, Some};
 ghost use Rattle.amd_c.specs.Calls.{ClassifiesInput, OrdersInto, memory};

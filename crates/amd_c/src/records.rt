@@ -1,5 +1,5 @@
-// The records that cross to C, laid out as C lays them out, and the numbers of the statuses, which are those of SuiteSparse's AMD.
-// `include/rimopaku.h` declares the same. Called by the exported functions and by `writing`.
+// The records that cross to C, laid out as C lays them out, and the numbers of the statuses, which are those of
+// SuiteSparse's AMD. `include/rimopaku.h` declares the same. Called by the exported functions and by `writing`.
 
 ghost use Rattle.std.specs.Prelude.{◌≡◌};
 ghost use Rattle.amd_c.specs.Numbers.{number_of, statistics_of};
@@ -16,7 +16,8 @@ pub struct Parameters {
     pub aggressive: bool,
 }
 
-/// What an ordering tells beside the permutations: the fields of `Info` of the crate `amd` but for the status, which is the answer.
+/// What an ordering tells beside the permutations: the fields of `Info` of the crate `amd` but for the status, which is
+/// the answer.
 #[derive(Drop)]
 #[repr(C)]
 pub struct Statistics {

@@ -1,5 +1,5 @@
-// Each exported function on its happy path, with worked answers, and what a refusal leaves. The matrix with five rows is that of
-// the AMD user guide.
+// Each exported function on its happy path, with worked answers, and what a refusal leaves. The matrix with five rows
+// is that of the AMD user guide.
 
 use crate::int32::{
     rimopaku_columns_i32, rimopaku_order_holding_i32, rimopaku_order_i32, rimopaku_valid_i32,

@@ -1,5 +1,5 @@
-// Writes an ordering into a caller's arrays: the body of the exported functions, for any integer type. The arrays and the record
-// are written last, so they stay as they were where there is no ordering. Called by the exported functions.
+// Writes an ordering into a caller's arrays: the body of the exported functions, for any integer type. The arrays and
+// the record are written last, so they stay as they were where there is no ordering. Called by the exported functions.
 
 ghost use Rattle.std.specs.Prelude.{◌↔◌, IfErr, IfOk, IsTrue, map};
 ghost use Rattle.std.specs.Option.{option_copied};
@@ -44,8 +44,9 @@ fn order_marked<I: PrimInt>(
     }
 }
 
-/// Orders a matrix, writes the permutation into `p`, its inverse into `p_inv` and what the ordering tells into `statistics`, and
-/// answers the status. Each of the two arrays has `n` places. Where the status is an error, all stays as it was.
+/// Orders a matrix, writes the permutation into `p`, its inverse into `p_inv` and what the ordering tells into
+/// `statistics`, and answers the status. Each of the two arrays has `n` places. Where the status is an error, all stays
+/// as it was.
 ///
 /// `Invalid` also where an array has not `n` places.
 pub fn order_into<I: PrimInt>(

@@ -1,6 +1,8 @@
 -- A case of which some items were read.
-use Rattle.std.specs.Prelude.{◌≡◌, ℕ, ◌+◌, pos, Bool, true, ◌&&◌, Option, None, Some, ◌++◌, is_some, unwrap_or, option_to_list}
-use Rattle.amd_cases.specs.Items.{size_of, dense_of, aggressive_of, pointers_of, rows_of, hold_of, permutation_of, room_of, list_items}
+use Rattle.std.specs.Prelude.{◌≡◌, ℕ, ◌+◌, pos, Bool, true, ◌&&◌, Option, None, Some, ◌++◌, is_some, unwrap_or}
+use Rattle.std.specs.Prelude.{option_to_list}
+use Rattle.amd_cases.specs.Items.{size_of, dense_of, aggressive_of, pointers_of, rows_of, hold_of, permutation_of}
+use Rattle.amd_cases.specs.Items.{room_of, list_items}
 use Rattle.amd_cases.specs.Items.{IsInside}
 use Rattle.amd_cases.specs.declared.items.Item.{Item}
 use Rattle.amd_cases.specs.declared.cases.Draft.{Draft}
@@ -26,7 +28,8 @@ empty_slot (Some x) = 0
 
 -- how many items the draft can still take
 abbrev pub free_slots : {Z : Type 0} → Draft Z → ℕ
-free_slots d = empty_slot d.n + empty_slot d.dense + empty_slot d.aggressive + empty_slot d.a_p + empty_slot d.a_i + empty_slot
+free_slots d = empty_slot d.n + empty_slot d.dense + empty_slot d.aggressive + empty_slot d.a_p + empty_slot d.a_i
+    + empty_slot
     d.hold + empty_slot d.permutation + empty_slot d.room
 
 -- whether N, AP and AI were there

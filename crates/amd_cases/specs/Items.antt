@@ -1,12 +1,14 @@
 -- The items of a case, and the lines that spell them.
-use Rattle.std.specs.Prelude.{◌≡◌, ℕ, ℤ, pos, Bool, true, false, Option, None, Some, List, [], ◌∷◌, map, codes, FitsSigned}
+use Rattle.std.specs.Prelude.{◌≡◌, ℕ, ℤ, pos, Bool, true, false, Option, None, Some, List, [], ◌∷◌, map, codes}
+use Rattle.std.specs.Prelude.{FitsSigned}
 use Rattle.std.specs.Int.{w32}
 use Rattle.std.specs.declared.vec.Vec.{Vec}
 use Rattle.amd_cases.specs.Words.{words, SpellsNumbers}
 use Rattle.amd_cases.specs.declared.items.Keyword.{Keyword}
 use Rattle.amd_cases.specs.declared.items.Keyword.TheVariants as key
 use Rattle.amd_cases.specs.declared.items.Item.{Item}
-use Rattle.amd_cases.specs.declared.items.Item.TheVariants.{Case, Size, Dense, Aggressive, Pointers, Rows, Hold, Permutation, Room, End}
+use Rattle.amd_cases.specs.declared.items.Item.TheVariants.{Case, Size, Dense, Aggressive, Pointers, Rows, Hold}
+use Rattle.amd_cases.specs.declared.items.Item.TheVariants.{Permutation, Room, End}
 
 -- the word that a keyword is
 abbrev pub keyword_text : Keyword → List ℕ

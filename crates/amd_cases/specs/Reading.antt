@@ -1,5 +1,6 @@
 -- What a reader of cases takes off its input, where the bytes of that are known.
-use Rattle.std.specs.Prelude.{◌≡◌, ◌<◌, ◌+◌, ◌-◌, ◌^◌, ℕ, ℤ, min, not, Bool, true, false, Option, Some, IfSome, List, [], ◌∷◌, length}
+use Rattle.std.specs.Prelude.{◌≡◌, ◌<◌, ◌+◌, ◌-◌, ◌^◌, ℕ, ℤ, min, not, Bool, true, false, Option, Some, IfSome, List}
+use Rattle.std.specs.Prelude.{[], ◌∷◌, length}
 use Rattle.std.specs.Prelude.{if◌then◌else◌, filter}
 use Rattle.std.specs.Io.BufRead.{take_through, drop_through}
 use Rattle.amd_cases.specs.Words.{words}
@@ -16,7 +17,8 @@ use Rattle.amd_cases.specs.declared.reader.CaseReader.{CaseReader}
 -- the bytes begin with these lines, each up to and with its line feed, or up to the end of the bytes; and this is left
 abbrev pub BeginsWith : List (List ℕ) → List ℕ → Option (List ℕ) → Type 0
 BeginsWith [] bytes rest = rest ≡ Some bytes
-BeginsWith (l ∷ ls) bytes rest = (0 < length bytes) × (l ≡ take_through 10 bytes) × BeginsWith ls (drop_through 10 bytes) rest
+BeginsWith (l ∷ ls) bytes rest = (0 < length bytes) × (l ≡ take_through 10 bytes) ×
+    BeginsWith ls (drop_through 10 bytes) rest
 
 -- whether a line has no word
 abbrev pub is_blank : List (List ℕ) → Bool
@@ -54,21 +56,26 @@ line_number n (l ∷ ls) = line_number (one_line_more n) ls
 
 -- where there was a line, it is the bytes up to and with the next line feed, or all of them; else no byte was left
 abbrev pub TookLine : List ℕ → List ℕ → Option (List ℕ) → Bool → Type 0
-TookLine bytes line rest true = (0 < length bytes) × (line ≡ take_through 10 bytes) × (rest ≡ Some (drop_through 10 bytes))
+TookLine bytes line rest true = (0 < length bytes) × (line ≡ take_through 10 bytes) ×
+    (rest ≡ Some (drop_through 10 bytes))
 TookLine bytes line rest false = (bytes ≡ []) × (rest ≡ Some [])
 
 -- a line was read and counted, or there was none
-pub record TakesLine {R Z : Type 0} (remaining : R → Option (List ℕ)) (old new : CaseReader R Z) (some : Bool) : Type 0 where
-  pub counted : new.lines ≡ (if some then one_line_more old.lines else old.lines)
-  pub took : IfSome (remaining (source_of old)) (λ bytes. TookLine bytes new.line.items (remaining (source_of new)) some)
+pub record TakesLine {R Z : Type 0} (remaining : R → Option (List ℕ)) (old new : CaseReader R Z) (some : Bool) : Type 0
+  where
+    pub counted : new.lines ≡ (if some then one_line_more old.lines else old.lines)
+    pub took : IfSome (remaining (source_of old)) (λ bytes. TookLine bytes new.line.items (remaining (source_of new))
+        some)
 
 -- these lines were read and counted
-pub record TakesLines {R Z : Type 0} (remaining : R → Option (List ℕ)) (old new : CaseReader R Z) (ls : List (List ℕ)) : Type 0 where
+pub record TakesLines {R Z : Type 0} (remaining : R → Option (List ℕ)) (old new : CaseReader R Z)
+    (ls : List (List ℕ)) : Type 0 where
   pub counted : new.lines ≡ line_number old.lines ls
   pub took : IfSome (remaining (source_of old)) (λ bytes. BeginsWith ls bytes (remaining (source_of new)))
 
 -- lines were read, of which the last alone has a word
-pub record TakesTelling {R Z : Type 0} (remaining : R → Option (List ℕ)) (old new : CaseReader R Z) (line : List ℕ) : Type 0 where
+pub record TakesTelling {R Z : Type 0} (remaining : R → Option (List ℕ)) (old new : CaseReader R Z)
+    (line : List ℕ) : Type 0 where
   pub lines : List (List ℕ)
   pub takes : TakesLines remaining old new lines
   pub tells : telling lines ≡ line ∷ []
@@ -93,19 +100,22 @@ SpellsItems [] (i ∷ is) = ⊥
 SpellsItems (l ∷ ls) [] = ⊥
 
 -- lines were read and counted, and those of them that have a word spell the items one by one
-pub record TakesItems {R Z : Type 0} (remaining : R → Option (List ℕ)) (old new : CaseReader R Z) (items : List (Item Z)) : Type 0 where
+pub record TakesItems {R Z : Type 0} (remaining : R → Option (List ℕ)) (old new : CaseReader R Z)
+    (items : List (Item Z)) : Type 0 where
   pub lines : List (List ℕ)
   pub takes : TakesLines remaining old new lines
   pub spells : SpellsItems (telling lines) items
 
 -- lines were read that spell the items of a case
-pub record ReadsCase {R Z : Type 0} (remaining : R → Option (List ℕ)) (old new : CaseReader R Z) (case : Case Z) : Type 0 where
+pub record ReadsCase {R Z : Type 0} (remaining : R → Option (List ℕ)) (old new : CaseReader R Z) (case : Case Z) : Type
+    0 where
   pub items : List (Item Z)
   pub takes : TakesItems remaining old new items
   pub spells : SpellsCase items case
 
 -- the same of the lines behind the first one of a case, which named its number
-pub record ReadsBody {R Z : Type 0} (remaining : R → Option (List ℕ)) (old new : CaseReader R Z) (number : ℤ) (case : Case Z) : Type 0 where
+pub record ReadsBody {R Z : Type 0} (remaining : R → Option (List ℕ)) (old new : CaseReader R Z) (number : ℤ)
+    (case : Case Z) : Type 0 where
   pub items : List (Item Z)
   pub takes : TakesItems remaining old new items
   pub spells : SpellsCase (item.Case number ∷ items) case

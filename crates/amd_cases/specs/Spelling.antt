@@ -1,7 +1,8 @@
 -- The items that spell a case.
 use Rattle.std.specs.Prelude.{◌≡◌, pos, true, List, [], ◌∷◌, ◌++◌, option_to_list}
 use Rattle.std.specs.List.{flat_map}
-use Rattle.amd_cases.specs.Items.{IsInside, size_of, dense_of, aggressive_of, pointers_of, rows_of, hold_of, permutation_of, room_of}
+use Rattle.amd_cases.specs.Items.{IsInside, size_of, dense_of, aggressive_of, pointers_of, rows_of, hold_of}
+use Rattle.amd_cases.specs.Items.{permutation_of, room_of}
 use Rattle.amd_cases.specs.Items.{list_items}
 use Rattle.amd_cases.specs.declared.items.Item.{Item}
 use Rattle.amd_cases.specs.declared.items.Item.TheVariants as item
@@ -18,7 +19,8 @@ abbrev pub AllInside : {Z : Type 0} → List (Item Z) → Type 0
 AllInside [] = Unit {0}
 AllInside (i ∷ is) = IsInside i × AllInside is
 
--- the items are CASE, then once each N, AP and AI and at most once each of the others, in any order, and then END; they tell the fields
+-- the items are CASE, then once each N, AP and AI and at most once each of the others, in any order, and then END; they
+-- tell the fields
 pub record SpellsCase {Z : Type 0} (items : List (Item Z)) (case : Case Z) : Type 0 where
   pub body : List (Item Z)
   pub framed : items ≡ item.Case case.number ∷ (body ++ item.End ∷ [])

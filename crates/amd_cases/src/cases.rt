@@ -66,7 +66,17 @@ fn fill<T: Drop>(slot: &mut Option<T>, value: T) -> Result<(), Fault>
 impl<A: Allocator> Draft<A> {
     /// A case of which only the number is known.
     pub(crate) fn new(number: i64) -> Draft<A>
-        ensures { result ≡ record { number = number; n = None; dense = None; aggressive = None; a_p = None; a_i = None; hold = None; permutation = None; room = None } }
+        ensures { result ≡ record {
+          number = number;
+          n = None;
+          dense = None;
+          aggressive = None;
+          a_p = None;
+          a_i = None;
+          hold = None;
+          permutation = None;
+          room = None;
+        } }
     {
         Draft {
             number,
@@ -81,8 +91,8 @@ impl<A: Allocator> Draft<A> {
         }
     }
 
-    /// Takes an item in. `Repeated` comes exactly where an item of the same keyword was there, and `Inside` for a `CASE`. The
-    /// contract says nothing of the fault.
+    /// Takes an item in. `Repeated` comes exactly where an item of the same keyword was there, and `Inside` for a
+    /// `CASE`. The contract says nothing of the fault.
     pub(crate) fn add(&mut self, item: Item<A>) -> Result<(), Fault>
         requires { item_keyword item ≢ key.End }
         ensures adds { OnOk result (Adds self.old self.new item) }

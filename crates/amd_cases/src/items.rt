@@ -163,7 +163,8 @@ fn item_from<A: Allocator>(keyword: Keyword, numbers: Vec<i64, A>) -> Option<Ite
 /// The item of the keyword `HOLD` with its numbers. Memory may be refused.
 fn hold_from<A: Allocator>(alloc: A, numbers: &[i64]) -> Result<Item<A>, Fault>
     ensures { MatchResult result (λ i. FitsItem i × (item_keyword i ≡ key.Hold) × (item_numbers i ≡ numbers.now))
-        (λ e. e ≢ Fault.OutOfMemory → (i : Item A) → FitsItem i → item_keyword i ≡ key.Hold → item_numbers i ≢ numbers.now) }
+        (λ e. e ≢ Fault.OutOfMemory → (i : Item A) → FitsItem i → item_keyword i ≡ key.Hold →
+        item_numbers i ≢ numbers.now) }
 {
     match marks_of(alloc, numbers) {
         Ok(marks) => Ok(Item::Hold(marks)),
@@ -173,7 +174,8 @@ fn hold_from<A: Allocator>(alloc: A, numbers: &[i64]) -> Result<Item<A>, Fault>
 
 /// The item that a line spells. Which fault comes is left open, and so is when memory is refused.
 pub fn item_of<A: Allocator + Copy>(alloc: A, line: &[u8]) -> Result<Item<A>, Fault>
-    ensures { MatchResult result (SpellsItem line.now) (λ e. e ≢ Fault.OutOfMemory → (i : Item A) → SpellsItem line.now i → ⊥) }
+    ensures { MatchResult result (SpellsItem line.now)
+        (λ e. e ≢ Fault.OutOfMemory → (i : Item A) → SpellsItem line.now i → ⊥) }
 {
     let Some((word, text)) = first_word(line) else {
         return Err(Fault::Keyword);

@@ -13,12 +13,13 @@
 //!     ROOM r        how many entries these columns may have; it may be left out
 //!     END           it comes last
 //!
-//! Numbers are those that `parse::<i64>` takes: a sign or none, and decimal digits. The lists may be empty. Between `CASE` and
-//! `END` the items may come in any order, each of them once. Lines without a word may stand anywhere. Refused are: a first word that
-//! is no keyword; a number that is no number or does not fit, as a mark other than 0 and 1, and more or fewer numbers than the
-//! keyword takes; an item that was there already, and `CASE` inside a case; an item outside of a case; `END` where `N`, `AP` or `AI`
-//! is missing; an end of the input inside a case; and a line of more than 16,777,216 bytes, of which no more is read than that and
-//! what the input's buffer holds. That the lists are as long as the others say is not asked for.
+//! Numbers are those that `parse::<i64>` takes: a sign or none, and decimal digits. The lists may be empty. Between
+//! `CASE` and `END` the items may come in any order, each of them once. Lines without a word may stand anywhere.
+//! Refused are: a first word that is no keyword; a number that is no number or does not fit, as a mark other than 0 and
+//! 1, and more or fewer numbers than the keyword takes; an item that was there already, and `CASE` inside a case; an
+//! item outside of a case; `END` where `N`, `AP` or `AI` is missing; an end of the input inside a case; and a line of
+//! more than 16,777,216 bytes, of which no more is read than that and what the input's buffer holds. That the lists are
+//! as long as the others say is not asked for.
 #![tactic(auto)]
 
 pub mod cases;

@@ -1,5 +1,5 @@
-// An input whose buffer hands on some bytes, and then fails, until more are allowed. Called by `reader`, so that a line that is too
-// long is not read whole.
+// An input whose buffer hands on some bytes, and then fails, until more are allowed. Called by `reader`, so that a line
+// that is too long is not read whole.
 
 ghost use Rattle.std.specs.Prelude.{◌≡◌};
 ghost use Rattle.amd_cases.specs.Limits.{inner_of};

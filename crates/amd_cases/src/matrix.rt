@@ -1,5 +1,5 @@
-// A matrix file, which is binary and little endian: `n` and the number of entries as 64-bit numbers, `n + 1` pointers of 64 bits,
-// and the row of each entry in 32 bits. Called by programs that time an ordering.
+// A matrix file, which is binary and little endian: `n` and the number of entries as 64-bit numbers, `n + 1` pointers
+// of 64 bits, and the row of each entry in 32 bits. Called by programs that time an ordering.
 
 ghost use Rattle.std.specs.Prelude.{◌≡◌, ◌∷◌, [], true, length, map, IfOk, IfSome, MatchResult};
 ghost use Rattle.std.specs.Io.KnownBytes.{IsAtEnd};
@@ -87,7 +87,8 @@ fn narrow_number<R: Read>(input: &mut R) -> Result<i32, MatrixError>
 
 /// A number in the type that was asked for.
 fn converted<I: PrimInt>(number: i64) -> Result<I, MatrixError>
-    ensures { MatchResult result (λ x. I.fits number × (I.value x ≡ number)) (λ e. (e ≡ TooLarge) × (I.fits number → ⊥)) }
+    ensures { MatchResult result (λ x. I.fits number × (I.value x ≡ number))
+        (λ e. (e ≡ TooLarge) × (I.fits number → ⊥)) }
 {
     num_traits::cast::<i64, I>(number).ok_or(MatrixError::TooLarge)
 }
@@ -98,7 +99,8 @@ fn wide_numbers<I: PrimInt, R: Read, A: Allocator>(
     input: &mut R,
     count: usize,
 ) -> Result<Vec<I, A>, MatrixError>
-    ensures { IfOk result (λ v. ReadsNumbers 8 wide_of (R.remaining input.old) (R.remaining input.new) (map I.value v.items) × (length v.items ≡ count)) }
+    ensures { IfOk result (λ v. ReadsNumbers 8 wide_of (R.remaining input.old) (R.remaining input.new)
+        (map I.value v.items) × (length v.items ≡ count)) }
 {
     let mut numbers = Vec::new(alloc);
     'numbers: for _done in 0..count {
@@ -114,7 +116,8 @@ fn narrow_numbers<I: PrimInt, R: Read, A: Allocator>(
     input: &mut R,
     count: usize,
 ) -> Result<Vec<I, A>, MatrixError>
-    ensures { IfOk result (λ v. ReadsNumbers 4 narrow_of (R.remaining input.old) (R.remaining input.new) (map I.value v.items) × (length v.items ≡ count)) }
+    ensures { IfOk result (λ v. ReadsNumbers 4 narrow_of (R.remaining input.old) (R.remaining input.new)
+        (map I.value v.items) × (length v.items ≡ count)) }
 {
     let mut numbers = Vec::new(alloc);
     'numbers: for _done in 0..count {
@@ -131,7 +134,8 @@ fn pointers<I: PrimInt, R: Read, A: Allocator>(
     n: usize,
     entries: i64,
 ) -> Result<Vec<I, A>, MatrixError>
-    ensures { IfOk result (λ v. ReadsNumbers 8 wide_of (R.remaining input.old) (R.remaining input.new) (map I.value v.items) × EndsWith (map I.value v.items) n entries) }
+    ensures { IfOk result (λ v. ReadsNumbers 8 wide_of (R.remaining input.old) (R.remaining input.new)
+        (map I.value v.items) × EndsWith (map I.value v.items) n entries) }
 {
     let mut numbers = wide_numbers(alloc, input, n)?;
     let last = wide_number(input)?;
@@ -153,18 +157,20 @@ fn is_at_end<R: Read>(input: &mut R) -> Result<bool, MatrixError>
     }
 }
 
-/// Reads the matrix that a file holds. Whether it is a column form is not looked at, but for the last pointer; an ordering does.
+/// Reads the matrix that a file holds. Whether it is a column form is not looked at, but for the last pointer; an
+/// ordering does.
 ///
 /// # Errors
 ///
-/// A `MatrixError` where the file cannot be read or is no matrix, a number does not fit, or memory is refused. The contract says
-/// nothing of errors.
+/// A `MatrixError` where the file cannot be read or is no matrix, a number does not fit, or memory is refused. The
+/// contract says nothing of errors.
 pub fn read_matrix<I: PrimInt, R: Read, A: Allocator + Copy>(
     alloc: A,
     input: &mut R,
 ) -> Result<Matrix<I, A>, MatrixError>
     ensures fits { IfOk result (λ m. I.fits (I.value m.n)) }
-    ensures holds { IfOk result (λ m. IfSome (R.remaining input.old) (HoldsMatrix (I.value m.n) (map I.value m.a_p.items) (map I.value m.a_i.items))) }
+    ensures holds { IfOk result (λ m. IfSome (R.remaining input.old)
+        (HoldsMatrix (I.value m.n) (map I.value m.a_p.items) (map I.value m.a_i.items))) }
 {
     let columns = wide_number(input)?;
     let entries = wide_number(input)?;

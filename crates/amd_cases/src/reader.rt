@@ -1,10 +1,11 @@
 // A reader of cases, one after another, which holds one line and one case. Called by programs that order cases.
-// The format is that of the root; a line ends at a line feed or at the end of the input. No more is read of a line that is too long
-// than the most that a line may have, and a buffer.
+// The format is that of the root; a line ends at a line feed or at the end of the input. No more is read of a line that
+// is too long than the most that a line may have, and a buffer.
 
 ghost use Rattle.std.specs.Prelude.{◌≡◌, ◌∷◌, [], true, false, IfOk, IfErr, MatchOption, is_err};
 ghost use Rattle.amd_cases.specs.Words.{words};
-ghost use Rattle.amd_cases.specs.Reading.{TakesLine, TakesNext, TakesItems, TakesBlanks, ReadsBody, ReadsCase, NamesLine, lines_read, has_failed, source_of};
+ghost use Rattle.amd_cases.specs.Reading.{TakesLine, TakesNext, TakesItems, TakesBlanks, ReadsBody, ReadsCase};
+ghost use Rattle.amd_cases.specs.Reading.{NamesLine, lines_read, has_failed, source_of};
 ghost use Rattle.amd_cases.specs.Reading.{is_blank};
 ghost use Rattle.amd_cases.specs.declared.reader.ReadError.TheVariants as error;
 
@@ -135,7 +136,8 @@ impl<R: BufRead + Drop, A: Allocator + Copy> CaseReader<R, A> {
 
     /// The item of the next line that has a word, if there is one.
     fn take_item(&mut self) -> Result<Option<Item<A>>, ReadError>
-        ensures takes { IfOk result (λ o. MatchOption o (TakesBlanks R.remaining self.old self.new) (λ i. TakesItems R.remaining self.old self.new (i ∷ []))) }
+        ensures takes { IfOk result (λ o. MatchOption o (TakesBlanks R.remaining self.old self.new)
+            (λ i. TakesItems R.remaining self.old self.new (i ∷ []))) }
         ensures line { IfErr result (λ e. NamesLine e (lines_read self.new)) }
     {
         if !self.take_telling()? {
@@ -171,7 +173,8 @@ impl<R: BufRead + Drop, A: Allocator + Copy> CaseReader<R, A> {
 
     /// The next case, where no error came before.
     fn take_case(&mut self) -> Result<Option<Case<A>>, ReadError>
-        ensures takes { IfOk result (λ o. MatchOption o (TakesBlanks R.remaining self.old self.new) (ReadsCase R.remaining self.old self.new)) }
+        ensures takes { IfOk result (λ o. MatchOption o (TakesBlanks R.remaining self.old self.new)
+            (ReadsCase R.remaining self.old self.new)) }
         ensures line { IfErr result (λ e. NamesLine e (lines_read self.new)) }
     {
         match self.take_item()? {
@@ -185,10 +188,12 @@ impl<R: BufRead + Drop, A: Allocator + Copy> CaseReader<R, A> {
     ///
     /// # Errors
     ///
-    /// `Line` for a line at fault, an input that ends inside a case or refused memory, `Input` where the input cannot be read, and
-    /// `Stopped` after an error. But for `Stopped`, the contract does not say when an error comes, nor which fault it names.
+    /// `Line` for a line at fault, an input that ends inside a case or refused memory, `Input` where the input cannot
+    /// be read, and `Stopped` after an error. But for `Stopped`, the contract does not say when an error comes, nor
+    /// which fault it names.
     pub fn next_case(&mut self) -> Result<Option<Case<A>>, ReadError>
-        ensures takes { IfOk result (λ o. MatchOption o (TakesBlanks R.remaining self.old self.new) (ReadsCase R.remaining self.old self.new)) }
+        ensures takes { IfOk result (λ o. MatchOption o (TakesBlanks R.remaining self.old self.new)
+            (ReadsCase R.remaining self.old self.new)) }
         ensures line { IfErr result (λ e. NamesLine e (lines_read self.new)) }
         ensures stopped { has_failed self.old ≡ true → result ≡ Err error.Stopped }
         ensures fails { has_failed self.new ≡ is_err result }

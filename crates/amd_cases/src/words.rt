@@ -1,5 +1,6 @@
-// The words of a line and the number that a word spells. Called by `items`, by the crate `amd_market`, and by `held` of `amd_command`.
-// Words are parted by ASCII white space, which takes in the line's end; a number is what `parse` of the standard library takes.
+// The words of a line and the number that a word spells. Called by `items`, by the crate `amd_market`, and by `held` of
+// `amd_command`. Words are parted by ASCII white space, which takes in the line's end; a number is what `parse` of the
+// standard library takes.
 
 ghost use Rattle.std.specs.Prelude.{◌≡◌, ◌<◌, ◌∷◌, ℤ, [], length, not, IfSome, MatchOption};
 ghost use Rattle.std.specs.List.{position};
@@ -20,8 +21,8 @@ fn word_end(line: &[u8]) -> Option<usize>
     line.iter().position(|b| b.is_ascii_whitespace())
 }
 
-/// The first word of a line, and what stands behind it; `None` where the line has no word. How much white space stands before the
-/// rest is not said.
+/// The first word of a line, and what stands behind it; `None` where the line has no word. How much white space stands
+/// before the rest is not said.
 pub fn first_word(line: &[u8]) -> Option<(&[u8], &[u8])>
     ensures words { MatchOption result (words line.now ≡ []) (λ p. words line.now ≡ p.0.now ∷ words p.1.now) }
     ensures shorter { IfSome result (λ p. length p.1.now < length line.now) }

@@ -1,9 +1,11 @@
-//! The cells of a workspace, each in one of two widths: words, which have a sign, and figures, which have none. A contract sees a word
-//! as an integer and a figure as a number, so that it reads the same in each width. Called by `amd_trees` and by each crate of the engine
-//! in place: `amd_places`, `amd_inplace`, `amd_listing`, `amd_workspace`, `amd_engine`.
+//! The cells of a workspace, each in one of two widths: words, which have a sign, and figures, which have none. A
+//! contract sees a word as an integer and a figure as a number, so that it reads the same in each width. Called by
+//! `amd_trees` and by each crate of the engine in place: `amd_places`, `amd_inplace`, `amd_listing`, `amd_workspace`,
+//! `amd_engine`.
 #![tactic(auto)]
 
-ghost use Rattle.std.specs.Prelude.{ℕ, ℤ, pos, ◌≡◌, ◌<◌, ◌≤◌, ◌+◌, ◌^◌, unsigned_abs, length, slice_index_or, slice_set};
+ghost use Rattle.std.specs.Prelude.{ℕ, ℤ, pos, ◌≡◌, ◌<◌, ◌≤◌, ◌+◌, ◌^◌, unsigned_abs, length, slice_index_or};
+ghost use Rattle.std.specs.Prelude.{slice_set};
 
 use std::marker::Model;
 

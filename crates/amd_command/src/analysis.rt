@@ -1,7 +1,8 @@
-// The ordering of a matrix with the exact factor under it, and the texts of the two: a line for each column, and what the factor
-// needs beside the bounds that the ordering tells. Called by `program`.
+// The ordering of a matrix with the exact factor under it, and the texts of the two: a line for each column, and what
+// the factor needs beside the bounds that the ordering tells. Called by `program`.
 
-ghost use Rattle.std.specs.Prelude.{◌≡◌, ◌<◌, ◌+◌, ◌^◌, ℕ, ℤ, List, None, pos, map, length, slice_index, slice_index_or, IfOk, IfErr, IsTrue, OnOk};
+ghost use Rattle.std.specs.Prelude.{◌≡◌, ◌<◌, ◌+◌, ◌^◌, ℕ, ℤ, List, None, pos, map, length, slice_index};
+ghost use Rattle.std.specs.Prelude.{slice_index_or, IfOk, IfErr, IsTrue, OnOk};
 ghost use Rattle.std.specs.Char.{is_ascii};
 ghost use Rattle.std.specs.List.{list_all};
 ghost use Rattle.std.specs.Io.KnownBytes.{Appends};
@@ -34,7 +35,8 @@ pub struct Analysis<A: Allocator> {
     pub need: Need,
 }
 
-/// Orders a matrix, with the marked rows held last where there are marks, and answers the factor under the ordering with it.
+/// Orders a matrix, with the marked rows held last where there are marks, and answers the factor under the ordering
+/// with it.
 ///
 /// # Errors
 ///
@@ -45,10 +47,16 @@ pub fn analyze_matrix<A: Allocator + Copy>(
     control: &Control,
     hold: Option<&[bool]>,
 ) -> Result<Analysis<A>, Fault>
-    ensures ordering { IfOk result (λ a. (q : List ℤ) × IsOrderingHolding (option_copied hold.entry) (pos matrix.now.n) control.now.dense control.now.aggressive (map pos matrix.now.a_p.items) (map pos matrix.now.a_i.items) (map pos a.p.items) q a.info) }
-    ensures factor { IfOk result (λ a. IsFactorOf (pos matrix.now.n) (map pos matrix.now.a_p.items) (map pos matrix.now.a_i.items) (map pos a.p.items) a.factor.ptr.items a.factor.rows.items a.factor.parent.items) }
-    ensures need { IfOk result (λ a. (columns : List (List ℕ)) → TellSizes columns a.factor.ptr.items → IsNeed columns a.need) }
-    ensures fault { IfErr result (λ e. IsFaultHolding (option_copied hold.entry) (pos matrix.now.n) (map pos matrix.now.a_p.items) (map pos matrix.now.a_i.items) e) }
+    ensures ordering { IfOk result (λ a. (q : List ℤ) ×
+        IsOrderingHolding (option_copied hold.entry) (pos matrix.now.n) control.now.dense control.now.aggressive
+        (map pos matrix.now.a_p.items) (map pos matrix.now.a_i.items) (map pos a.p.items) q a.info) }
+    ensures factor { IfOk result (λ a. IsFactorOf (pos matrix.now.n) (map pos matrix.now.a_p.items)
+        (map pos matrix.now.a_i.items) (map pos a.p.items) a.factor.ptr.items a.factor.rows.items
+        a.factor.parent.items) }
+    ensures need { IfOk result (λ a. (columns : List (List ℕ)) → TellSizes columns a.factor.ptr.items →
+        IsNeed columns a.need) }
+    ensures fault { IfErr result (λ e. IsFaultHolding (option_copied hold.entry) (pos matrix.now.n)
+        (map pos matrix.now.a_p.items) (map pos matrix.now.a_i.items) e) }
 {
     match hold {
         Some(marks) => {
@@ -110,8 +118,8 @@ fn size_at(ptr: &[usize], k: usize) -> usize
     end.saturating_sub(begin)
 }
 
-/// Writes a line for each column of a factor: the row of the column, the row of its parent in the elimination tree, or 0 where it
-/// has none, and the number of its entries below the diagonal. Rows count from 1.
+/// Writes a line for each column of a factor: the row of the column, the row of its parent in the elimination tree, or
+/// 0 where it has none, and the number of its entries below the diagonal. Rows count from 1.
 ///
 /// # Errors
 ///
@@ -121,7 +129,8 @@ pub fn write_columns<W: Write, A: Allocator>(
     factor: &Factor<A>,
     out: &mut W,
 ) -> io::Result<()>
-    ensures { OnOk result (Appends (W.contents out.old) (W.contents out.new) (column_lines p.now factor.now.ptr.items factor.now.parent.items (length p.now))) }
+    ensures { OnOk result (Appends (W.contents out.old) (W.contents out.new)
+        (column_lines p.now factor.now.ptr.items factor.now.parent.items (length p.now))) }
 {
     'columns: for k in 0..p.len() {
         let row = number_at(p, k);

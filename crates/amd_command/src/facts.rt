@@ -105,7 +105,8 @@ fn facts_of_jumbled<A: Allocator + Copy>(
     matrix: &Matrix<A>,
     control: &Control,
 ) -> Result<Facts, Status>
-    requires { IsInput (pos matrix.now.n) (pos matrix.now.n) (map pos matrix.now.a_p.items) (map pos matrix.now.a_i.items) }
+    requires { IsInput (pos matrix.now.n) (pos matrix.now.n) (map pos matrix.now.a_p.items)
+        (map pos matrix.now.a_i.items) }
 {
     let (c_p, c_i) = preprocess(alloc, matrix.n, &matrix.a_p, &matrix.a_i)?;
     let mut facts = facts_of_sorted(alloc, matrix.n, &c_p, &c_i, control)?;

@@ -1,5 +1,5 @@
-// A square of cells that counts marks at places of a matrix. A cell is one place, or a square of places where there are more rows
-// than a picture has pixels. Called by `picture`. Tested alone.
+// A square of cells that counts marks at places of a matrix. A cell is one place, or a square of places where there are
+// more rows than a picture has pixels. Called by `picture`. Tested alone.
 
 use std::alloc::{AllocError, Allocator};
 
@@ -59,7 +59,8 @@ impl<A: Allocator> Grid<A> {
         self.counts.get(cell).copied().unwrap_or(0)
     }
 
-    /// How full so many marks make a cell: 0 for none, and else from 1 up to `LEVELS`, by the logarithm of their number.
+    /// How full so many marks make a cell: 0 for none, and else from 1 up to `LEVELS`, by the logarithm of their
+    /// number.
     fn level(&self, marks: u64) -> u8 {
         if marks == 0 {
             return 0;

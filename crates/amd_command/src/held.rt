@@ -1,5 +1,6 @@
-// The rows that a caller wants last, from a text with the number of one row a line. Rows count from 1; lines without a word, and
-// lines whose first word begins with `%`, are passed over. A row may stand there more than once. Called by `program`.
+// The rows that a caller wants last, from a text with the number of one row a line. Rows count from 1; lines without a
+// word, and lines whose first word begins with `%`, are passed over. A row may stand there more than once. Called by
+// `program`.
 
 ghost use Rattle.std.specs.Prelude.{◌≡◌, ℕ, length, IfOk, IfErr, IfSome, MatchOption};
 ghost use Rattle.amd_market.specs.Files.{NamesLine};
@@ -27,7 +28,8 @@ fn row_of(line: &[u8], n: usize) -> Option<usize>
 ///
 /// # Errors
 ///
-/// `Line` for a line at fault or refused memory; `Input` where the input cannot be read. Each names the line that was read last.
+/// `Line` for a line at fault or refused memory; `Input` where the input cannot be read. Each names the line that was
+/// read last.
 pub fn read_held<R: BufRead + Drop, A: Allocator + Copy>(
     alloc: A,
     n: usize,

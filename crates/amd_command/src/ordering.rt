@@ -8,8 +8,8 @@ use amd::{Control, Info, Status, order, order_holding};
 use amd_market::reader::Matrix;
 use std::alloc::Allocator;
 
-/// Orders a matrix, with the marked rows held last where there are marks, and answers the permutation and what it tells: row `p[k]`
-/// stands at place `k`.
+/// Orders a matrix, with the marked rows held last where there are marks, and answers the permutation and what it
+/// tells: row `p[k]` stands at place `k`.
 ///
 /// # Errors
 ///
@@ -20,8 +20,11 @@ pub fn order_matrix<A: Allocator + Copy>(
     control: &Control,
     hold: Option<&[bool]>,
 ) -> Result<(Vec<usize, A>, Info), Status>
-    ensures ordering { IfOk result (λ a. (q : List ℤ) × IsOrderingHolding (option_copied hold.entry) (pos matrix.now.n) control.now.dense control.now.aggressive (map pos matrix.now.a_p.items) (map pos matrix.now.a_i.items) (map pos a.0.items) q a.1) }
-    ensures refusal { IfErr result (λ e. IsRefusalHolding (option_copied hold.entry) (pos matrix.now.n) (map pos matrix.now.a_p.items) (map pos matrix.now.a_i.items) e) }
+    ensures ordering { IfOk result (λ a. (q : List ℤ) ×
+        IsOrderingHolding (option_copied hold.entry) (pos matrix.now.n) control.now.dense control.now.aggressive
+        (map pos matrix.now.a_p.items) (map pos matrix.now.a_i.items) (map pos a.0.items) q a.1) }
+    ensures refusal { IfErr result (λ e. IsRefusalHolding (option_copied hold.entry) (pos matrix.now.n)
+        (map pos matrix.now.a_p.items) (map pos matrix.now.a_i.items) e) }
 {
     match hold {
         Some(marks) => {

@@ -1,6 +1,7 @@
-// A picture of a matrix before and after its ordering, side by side, as SVG: the entries of the pattern of A + A' with the diagonal,
-// and in another colour the fill, which are the entries of the factor that are no entries of that pattern. Called by `program`.
-// The factor that is drawn is that of `amd_symbolic::columns`, exact by its contract; what is drawn of it is tested alone.
+// A picture of a matrix before and after its ordering, side by side, as SVG: the entries of the pattern of A + A' with
+// the diagonal, and in another colour the fill, which are the entries of the factor that are no entries of that
+// pattern. Called by `program`. The factor that is drawn is that of `amd_symbolic::columns`, exact by its contract;
+// what is drawn of it is tested alone.
 
 ghost use Rattle.std.specs.Prelude.{pos, map, IfOk};
 ghost use Rattle.amd_model.specs.Input.Columns.{IsInput};
@@ -48,8 +49,8 @@ fn mark_diagonal<A: Allocator>(n: usize, picture: &mut Picture<A>) {
     }
 }
 
-/// Marks the edges of the row at place `j` with earlier ones, each once. `last` holds for each place one more than the last place
-/// that it was met from.
+/// Marks the edges of the row at place `j` with earlier ones, each once. `last` holds for each place one more than the
+/// last place that it was met from.
 fn mark_row<A: Allocator>(
     j: usize,
     earlier: &[usize],
@@ -123,7 +124,8 @@ fn form_lists<A: Allocator + Copy>(
     matrix: &Matrix<A>,
     p: &[usize],
 ) -> Result<Lists<A>, Cause>
-    requires { IsInput (pos matrix.now.n) (pos matrix.now.n) (map pos matrix.now.a_p.items) (map pos matrix.now.a_i.items) }
+    requires { IsInput (pos matrix.now.n) (pos matrix.now.n) (map pos matrix.now.a_p.items)
+        (map pos matrix.now.a_i.items) }
 {
     let Some(places) = places(alloc, matrix.n, p)? else {
         return Err(Cause::Form);
@@ -151,13 +153,15 @@ fn factor_of<A: Allocator + Copy>(
     p: &[usize],
     room: usize,
 ) -> Result<Factor<A>, Cause>
-    ensures { IfOk result (λ f. IsFactorOf (pos matrix.now.n) (map pos matrix.now.a_p.items) (map pos matrix.now.a_i.items) (map pos p.now) f.ptr.items f.rows.items f.parent.items) }
+    ensures { IfOk result (λ f. IsFactorOf (pos matrix.now.n) (map pos matrix.now.a_p.items)
+        (map pos matrix.now.a_i.items) (map pos p.now) f.ptr.items f.rows.items f.parent.items) }
 {
     let factor = columns(alloc, matrix.n, &matrix.a_p, &matrix.a_i, p, room)?;
     Ok(factor)
 }
 
-/// The marks of a matrix and an order of its rows: row `p[k]` stands at place `k`, and the factor has at most `room` entries.
+/// The marks of a matrix and an order of its rows: row `p[k]` stands at place `k`, and the factor has at most `room`
+/// entries.
 ///
 /// # Errors
 ///
@@ -282,14 +286,14 @@ fn write_foot<W: Write>(n: usize, edges: u64, fill: u64, out: &mut W) -> io::Res
     writeln!(out, "</svg>")
 }
 
-/// Draws a matrix at the places of the file and, beside it, at those of an order of its rows: row `p[k]` stands at place `k`.
-/// The fill is that of the exact factor under this order, for which memory is asked for `room` entries.
+/// Draws a matrix at the places of the file and, beside it, at those of an order of its rows: row `p[k]` stands at
+/// place `k`. The fill is that of the exact factor under this order, for which memory is asked for `room` entries.
 ///
 /// # Errors
 ///
-/// `Form` where the matrix is no column form, `p` is no permutation of its rows, or the factor has more than `room` entries;
-/// `Memory` where memory was refused; and `Write` where the writer failed. Before a fault of the first two kinds nothing is written,
-/// but where memory was refused to the writer.
+/// `Form` where the matrix is no column form, `p` is no permutation of its rows, or the factor has more than `room`
+/// entries; `Memory` where memory was refused; and `Write` where the writer failed. Before a fault of the first two
+/// kinds nothing is written, but where memory was refused to the writer.
 pub fn write_picture<W: Write, A: Allocator + Copy>(
     alloc: A,
     matrix: &Matrix<A>,

@@ -1,6 +1,6 @@
-// Runs what the words of a command line ask for: opens the files, and writes what comes of them. Called by the program `rimopaku`.
-// What the functions that it calls read and write is told by their contracts; files and messages are tested alone. Each text is
-// made in memory first, so that nothing is left half written where memory is refused.
+// Runs what the words of a command line ask for: opens the files, and writes what comes of them. Called by the program
+// `rimopaku`. What the functions that it calls read and write is told by their contracts; files and messages are tested
+// alone. Each text is made in memory first, so that nothing is left half written where memory is refused.
 
 use crate::analysis::{analyze_matrix, write_columns, write_comparison};
 use crate::causes::Cause;
@@ -285,10 +285,10 @@ fn exit_status_of(error: &Error) -> u8 {
     }
 }
 
-/// Runs a command line, the first word of which is the name of the program, and answers the exit status: 0 where all was done, 1
-/// where memory was refused or an output failed, and 2 where an argument or an input is wrong. A message on standard error tells
-/// why it is not 0. Where an input is wrong or memory is refused, no output is written; lines on standard error that tell of a long
-/// file or a large matrix may stand before the message.
+/// Runs a command line, the first word of which is the name of the program, and answers the exit status: 0 where all
+/// was done, 1 where memory was refused or an output failed, and 2 where an argument or an input is wrong. A message on
+/// standard error tells why it is not 0. Where an input is wrong or memory is refused, no output is written; lines on
+/// standard error that tell of a long file or a large matrix may stand before the message.
 pub fn run<R: Runtime + AllocGlobal>(rt: &R, words: &[String]) -> u8 {
     match request_of(rt.alloc(), words) {
         Ok(request) => match answer(rt, &request) {

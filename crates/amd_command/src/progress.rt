@@ -1,5 +1,6 @@
-// What the command tells on standard error while it works: a line at the beginning of a stage, where the run has taken some time
-// already, or where the stage is large. Called by `program`. Tested by hand: no contract can speak of the clock.
+// What the command tells on standard error while it works: a line at the beginning of a stage, where the run has taken
+// some time already, or where the stage is large. Called by `program`. Tested by hand: no contract can speak of the
+// clock.
 
 use std::fmt::Display;
 use std::rt::Runtime;
@@ -33,8 +34,8 @@ impl Progress {
         }
     }
 
-    /// Tells the stage that begins, where it is `large` or the run has taken some time. Where standard error takes no text, the run
-    /// goes on.
+    /// Tells the stage that begins, where it is `large` or the run has taken some time. Where standard error takes no
+    /// text, the run goes on.
     pub fn tell<R: Runtime, T: Display + Drop>(&self, rt: &R, large: bool, stage: T) {
         if large || self.is_slow(rt) {
             let _ = rt.eprintln(stage);

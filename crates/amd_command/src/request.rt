@@ -1,4 +1,5 @@
-// The words of the command line, and what they ask for. Called by `program`. No contract says what they ask for; tests do.
+// The words of the command line, and what they ask for. Called by `program`. No contract says what they ask for; tests
+// do.
 
 use amd::Control;
 use clap::{Arg, ArgAction, ArgMatches, Command, Error};

@@ -1,6 +1,6 @@
-// What a caller chooses is heard, and what an ordering tells stands beside what the factor needs: twenty rows, of which one is dense by a
-// low threshold, so that each bound is above the need. The order, the bounds and the needs come from an independent program that
-// follows the rules; the thresholds follow from their definition.
+// What a caller chooses is heard, and what an ordering tells stands beside what the factor needs: twenty rows, of which
+// one is dense by a low threshold, so that each bound is above the need. The order, the bounds and the needs come from
+// an independent program that follows the rules; the thresholds follow from their definition.
 
 use amd::Control;
 use amd_command::analysis::{analyze_matrix, write_comparison};

@@ -1,5 +1,5 @@
-// A runtime for tests: its input is a text, it keeps what is shown on standard output and told on standard error, its output may
-// fail, and its clock goes on by so many seconds whenever it is read. Files are those of the host.
+// A runtime for tests: its input is a text, it keeps what is shown on standard output and told on standard error, its
+// output may fail, and its clock goes on by so many seconds whenever it is read. Files are those of the host.
 
 use std::alloc::{Allocator, Global};
 use std::cell::{Cell, RefCell};

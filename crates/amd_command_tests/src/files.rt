@@ -1,5 +1,5 @@
-// Files of each kind and files at fault, read from memory. The column forms were worked by hand, and the messages name the lines by
-// hand too.
+// Files of each kind and files at fault, read from memory. The column forms were worked by hand, and the messages name
+// the lines by hand too.
 
 use amd_command::held::read_held;
 use amd_market::reader::read_matrix;

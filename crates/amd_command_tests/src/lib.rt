@@ -1,5 +1,5 @@
-//! Tests of the reader of Matrix Market files and of the command `rimopaku`: files of each kind, files at fault, words of the
-//! command line, choices that are heard, what is written, writers with faults, and refused memory.
+//! Tests of the reader of Matrix Market files and of the command `rimopaku`: files of each kind, files at fault, words
+//! of the command line, choices that are heard, what is written, writers with faults, and refused memory.
 #![tactic(auto)]
 
 #[cfg(test)]

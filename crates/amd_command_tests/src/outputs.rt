@@ -1,4 +1,5 @@
-// The words of a command line, what is written, writers with a fault at each call, and each request for memory refused in turn.
+// The words of a command line, what is written, writers with a fault at each call, and each request for memory refused
+// in turn.
 
 use amd::{Control, Info};
 use amd_command::analysis::{analyze_matrix, write_columns, write_comparison};
@@ -54,7 +55,8 @@ const FIVE: &str = "%%MatrixMarket matrix coordinate pattern general
 5 5
 ";
 
-/// What `analyze` writes of them: the rows stand in the order 1, 4, 3, 5, 2, and the columns have the places 4; 2; 3 and 4; 4; none.
+/// What `analyze` writes of them: the rows stand in the order 1, 4, 3, 5, 2, and the columns have the places 4; 2; 3
+/// and 4; 4; none.
 const FIVE_COLUMNS: &str = "1 2 1\n4 3 1\n3 5 2\n5 2 1\n2 0 0\n";
 
 /// What it tells of them.

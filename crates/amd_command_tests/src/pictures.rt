@@ -1,5 +1,5 @@
-// What is drawn of the fill: the entries of the exact factor, and not those that the ordering bounds. The matrices and the figures of
-// their factors are worked examples and the one of the demos.
+// What is drawn of the fill: the entries of the exact factor, and not those that the ordering bounds. The matrices and
+// the figures of their factors are worked examples and the one of the demos.
 
 use amd_command::causes::Cause;
 use amd_command::ordering::order_matrix;
@@ -27,7 +27,8 @@ fn matrix_of(alloc: Global, a_p: &[i32], a_i: &[i32]) -> Result<Matrix<Global>, 
     })
 }
 
-/// The pointers of twenty rows, of which the first has an edge with each of the next seventeen, and the nineteenth one with the last.
+/// The pointers of twenty rows, of which the first has an edge with each of the next seventeen, and the nineteenth one
+/// with the last.
 const DENSE_POINTERS: [i32; 21] = [
     0, 17, 17, 17, 17, 17, 17, 17, 17, 17, 17, 17, 17, 17, 17, 17, 17, 17, 17, 18, 18,
 ];
@@ -59,7 +60,8 @@ fn no_fill_where_the_bound_has_some(rt: HostRuntime) -> Result<(), Fail> {
     Ok(())
 }
 
-/// How many entries the columns of the exact factor of the 24 rows have below the diagonal, in the order of the elimination.
+/// How many entries the columns of the exact factor of the 24 rows have below the diagonal, in the order of the
+/// elimination.
 const COLUMN_SIZES: [usize; 24] = [
     3, 4, 5, 3, 4, 5, 3, 3, 4, 4, 5, 5, 5, 4, 6, 6, 6, 6, 5, 4, 3, 2, 1, 0,
 ];
@@ -92,7 +94,8 @@ fn count_cells(text: &str, sizes: &mut [usize]) {
     }
 }
 
-/// Entries and fill together are the columns of the exact factor: 68 edges and 28 entries of fill, and not the 29 of the bound.
+/// Entries and fill together are the columns of the exact factor: 68 edges and 28 entries of fill, and not the 29 of
+/// the bound.
 #[test]
 fn fill_of_can_24(rt: HostRuntime) -> Result<(), Fail> {
     let alloc = rt.alloc();

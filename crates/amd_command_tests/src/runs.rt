@@ -1,5 +1,5 @@
-// Whole runs of the command: the exit status, what stands on standard output and what is told on standard error, for good files, for
-// files and words at fault, for outputs that fail, and for runs that take long.
+// Whole runs of the command: the exit status, what stands on standard output and what is told on standard error, for
+// good files, for files and words at fault, for outputs that fail, and for runs that take long.
 
 use crate::desk::{Desk, Pages};
 use crate::outputs::{PATH, PATH_FACTS};
@@ -44,8 +44,8 @@ struct Ended {
     told: String,
 }
 
-/// Runs the command with a text as its input, with a clock that goes on by so many seconds, and with an output that fails where it is
-/// `broken`.
+/// Runs the command with a text as its input, with a clock that goes on by so many seconds, and with an output that
+/// fails where it is `broken`.
 fn run_at_desk(
     host: &HostRuntime,
     words: &[&str],

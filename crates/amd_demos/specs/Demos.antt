@@ -50,8 +50,8 @@ IsEnd Jumbled n ap ai p info text = text ≡ []
 abbrev pub HasEnd : Form → ℤ → List ℤ → List ℤ → List ℤ → Info → Option (List ℕ) → Option (List ℕ) → Type 0
 HasEnd form n ap ai p info old new = (text : List ℕ) × IsEnd form n ap ai p info text × Appends old new text
 
--- a writer that tells its bytes has a text more, in which the record of an ordering of this matrix stands, which has the wanted
--- status, behind it the permutation and its inverse, and at the end what this form of a matrix calls for
+-- a writer that tells its bytes has a text more, in which the record of an ordering of this matrix stands, which has
+-- the wanted status, behind it the permutation and its inverse, and at the end what this form of a matrix calls for
 pub record HasDemo (form : Form) (n : ℤ) (ap ai : List ℤ) (old new : Option (List ℕ)) : Type 0 where
   pub p : List ℤ
   pub q : List ℤ
@@ -61,4 +61,5 @@ pub record HasDemo (form : Form) (n : ℤ) (ap ai : List ℤ) (old new : Option 
   pub ends : IsEnd form n ap ai p info end
   pub before : List ℕ
   pub between : List ℕ
-  pub text : Appends old new (before ++ ((record_lines (wanted_status form) info ++ permutation_lines p q) ++ (between ++ end)))
+  pub text : Appends old new (before ++ ((record_lines (wanted_status form) info ++ permutation_lines p q) ++
+      (between ++ end)))

@@ -14,7 +14,8 @@ counts (column ∷ rest) = (codes " " ++ decimal (length column)) ++ counts rest
 
 -- the line of a figure: what the factor needs, and the bound
 abbrev pub beside_line : List ℕ → ℕ → ℕ → List ℕ
-beside_line name exact bound = name ++ codes ": exact " ++ decimal exact ++ codes ", bound " ++ decimal bound ++ codes "\n"
+beside_line name exact bound = name ++ codes ": exact " ++ decimal exact ++ codes ", bound " ++ decimal bound ++ codes
+    "\n"
 
 -- the lines of the figures of a factor with these columns, and of a record
 abbrev pub figure_lines : List (List ℕ) → Info → List ℕ
@@ -26,7 +27,8 @@ figure_lines columns info =
 
 -- the lines of the columns, and of the figures
 abbrev pub exact_lines : List (List ℕ) → Info → List ℕ
-exact_lines columns info = (codes "\nExact column counts of the factor:\n" ++ (counts columns ++ codes "\n")) ++ figure_lines columns info
+exact_lines columns info = (codes "\nExact column counts of the factor:\n" ++ (counts columns ++ codes "\n")) ++
+    figure_lines columns info
 
 -- a text tells the factor of a matrix with n rows under the order p, beside the bounds in a record
 pub record TellsExact (n : ℤ) (ap ai p : List ℤ) (info : Info) (text : List ℕ) : Type 0 where

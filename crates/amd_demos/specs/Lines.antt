@@ -38,9 +38,11 @@ status_name OutOfMemory = codes "OutOfMemory"
 -- the line of a status and the one that is wanted, and the record
 abbrev pub record_lines : Status → Info → List ℕ
 record_lines wanted info =
-    (codes "return value from amd::order: " ++ status_name info.status ++ codes " (should be " ++ status_name wanted ++ codes ")\n")
+    (codes "return value from amd::order: " ++ status_name info.status ++ codes " (should be " ++ status_name wanted ++
+    codes ")\n")
     ++ info_text info
 
 -- a permutation and its inverse
 abbrev pub permutation_lines : List ℤ → List ℤ → List ℕ
-permutation_lines p q = vector_lines (codes "Permutation vector:") p ++ vector_lines (codes "Inverse permutation vector:") q
+permutation_lines p q = vector_lines (codes "Permutation vector:") p ++ vector_lines
+    (codes "Inverse permutation vector:") q

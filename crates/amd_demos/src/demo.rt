@@ -1,5 +1,6 @@
-// The demo that prints a matrix, orders it, and prints the ordering and the permuted matrix, for a matrix with sorted columns, whose
-// exact factor it prints too, and for a jumbled one. Called by the demos of the matrix can_24 and by tests.
+// The demo that prints a matrix, orders it, and prints the ordering and the permuted matrix, for a matrix with sorted
+// columns, whose exact factor it prints too, and for a jumbled one. Called by the demos of the matrix can_24 and by
+// tests.
 
 ghost use Rattle.std.specs.Prelude.{◌≡◌, ◌≤◌, true, false, IfOk, OnOk};
 ghost use Rattle.std.specs.Io.KnownBytes.{Appends};
@@ -140,7 +141,8 @@ fn write_input<W: Write>(form: Form, matrix: &Matrix, out: &mut W) -> io::Result
 
 /// Writes the status that an ordering has, and the one that it is to have, and its record.
 fn write_record<W: Write>(form: Form, told: &Info, out: &mut W) -> io::Result<()>
-    ensures { OnOk result (Appends (W.contents out.old) (W.contents out.new) (record_lines (wanted_status form) told.now)) }
+    ensures { OnOk result (Appends (W.contents out.old) (W.contents out.new)
+        (record_lines (wanted_status form) told.now)) }
 {
     let status = status_name(&told.status);
     let wanted = status_name(&wanted_status(form));
@@ -187,8 +189,8 @@ fn write_permuted_plot<W: Write>(
     Ok(())
 }
 
-/// Writes what stands behind the plots: for a sorted matrix its exact factor under the ordering, or the line of failure where there
-/// is none, and nothing for a jumbled one. Answers whether there was no failure.
+/// Writes what stands behind the plots: for a sorted matrix its exact factor under the ordering, or the line of failure
+/// where there is none, and nothing for a jumbled one. Answers whether there was no failure.
 fn print_end<W: Write, A: Allocator + Copy>(
     alloc: A,
     form: Form,
@@ -197,8 +199,11 @@ fn print_end<W: Write, A: Allocator + Copy>(
     told: &Info,
     out: &mut W,
 ) -> io::Result<bool>
-    ensures ended { IfOk result (λ ended. ended ≡ true → HasEnd form matrix.now.n matrix.now.a_p.now matrix.now.a_i.now p.now told.now (W.contents out.old) (W.contents out.new)) }
-    ensures failure { IfOk result (λ ended. ended ≡ false → Appends (W.contents out.old) (W.contents out.new) failure_line) }
+    ensures ended { IfOk result (λ ended. ended ≡ true →
+        HasEnd form matrix.now.n matrix.now.a_p.now matrix.now.a_i.now p.now told.now (W.contents out.old)
+        (W.contents out.new)) }
+    ensures failure { IfOk result (λ ended. ended ≡ false →
+        Appends (W.contents out.old) (W.contents out.new) failure_line) }
 {
     match form {
         Form::Sorted => print_exact(alloc, matrix, p, told, out),
@@ -206,16 +211,18 @@ fn print_end<W: Write, A: Allocator + Copy>(
     }
 }
 
-/// Orders a matrix, and writes the ordering, the permuted matrix and what stands behind it. The line of failure comes where there is
-/// no ordering, its status is another, or there is no exact factor. Answers whether all was written.
+/// Orders a matrix, and writes the ordering, the permuted matrix and what stands behind it. The line of failure comes
+/// where there is no ordering, its status is another, or there is no exact factor. Answers whether all was written.
 fn print_outcome<W: Write, A: Allocator + Copy>(
     alloc: A,
     form: Form,
     matrix: &Matrix,
     out: &mut W,
 ) -> io::Result<bool>
-    ensures ordered { IfOk result (λ ordered. ordered ≡ true → HasDemo form matrix.now.n matrix.now.a_p.now matrix.now.a_i.now (W.contents out.old) (W.contents out.new)) }
-    ensures failure { IfOk result (λ ordered. ordered ≡ false → EndsInFailure (W.contents out.old) (W.contents out.new)) }
+    ensures ordered { IfOk result (λ ordered. ordered ≡ true →
+        HasDemo form matrix.now.n matrix.now.a_p.now matrix.now.a_i.now (W.contents out.old) (W.contents out.new)) }
+    ensures failure { IfOk result (λ ordered. ordered ≡ false →
+        EndsInFailure (W.contents out.old) (W.contents out.new)) }
 {
     let n = matrix.n;
     let answer = order(alloc, n, matrix.a_p, matrix.a_i, &Control::default());
@@ -240,22 +247,25 @@ fn print_demo<W: Write, A: Allocator + Copy>(
     matrix: &Matrix,
     out: &mut W,
 ) -> io::Result<bool>
-    ensures ordered { IfOk result (λ ordered. ordered ≡ true → HasDemo form matrix.now.n matrix.now.a_p.now matrix.now.a_i.now (W.contents out.old) (W.contents out.new)) }
-    ensures failure { IfOk result (λ ordered. ordered ≡ false → EndsInFailure (W.contents out.old) (W.contents out.new)) }
+    ensures ordered { IfOk result (λ ordered. ordered ≡ true →
+        HasDemo form matrix.now.n matrix.now.a_p.now matrix.now.a_i.now (W.contents out.old) (W.contents out.new)) }
+    ensures failure { IfOk result (λ ordered. ordered ≡ false →
+        EndsInFailure (W.contents out.old) (W.contents out.new)) }
 {
     write_input(form, matrix, out)?;
     print_outcome(alloc, form, matrix, out)
 }
 
-/// Writes a matrix, orders it, and writes the ordering and the permuted matrix; and for a sorted matrix the exact factor under the
-/// ordering beside the bounds in the record. No memory is asked before it is ordered. Where there is no ordering, the line
-/// `AMD failed` ends the text in place of the ordering; where the ordering has another status than this form of a matrix is to have,
-/// that line comes after the record; and where memory is refused for the factor, it comes in place of the factor. The answer is
-/// the exit status: 0 where all was written, else 1. After a fault of the writer nothing more is written.
+/// Writes a matrix, orders it, and writes the ordering and the permuted matrix; and for a sorted matrix the exact
+/// factor under the ordering beside the bounds in the record. No memory is asked before it is ordered. Where there is
+/// no ordering, the line `AMD failed` ends the text in place of the ordering; where the ordering has another status
+/// than this form of a matrix is to have, that line comes after the record; and where memory is refused for the factor,
+/// it comes in place of the factor. The answer is the exit status: 0 where all was written, else 1. After a fault of
+/// the writer nothing more is written.
 ///
-/// The contract speaks of the status 0 alone: what a writer holds does not tell its faults. The contract of `print_demo` tells the
-/// last line where there was no fault. What stands before the record, and between the permutations and the factor, plots among it,
-/// is not said.
+/// The contract speaks of the status 0 alone: what a writer holds does not tell its faults. The contract of
+/// `print_demo` tells the last line where there was no fault. What stands before the record, and between the
+/// permutations and the factor, plots among it, is not said.
 pub fn demo_to<W: Write, A: Allocator + Copy>(
     alloc: A,
     form: Form,
@@ -263,7 +273,8 @@ pub fn demo_to<W: Write, A: Allocator + Copy>(
     out: &mut W,
 ) -> u8
     ensures status { result ≤ 1 }
-    ensures written { result ≡ 0 → HasDemo form matrix.now.n matrix.now.a_p.now matrix.now.a_i.now (W.contents out.old) (W.contents out.new) }
+    ensures written { result ≡ 0 → HasDemo form matrix.now.n matrix.now.a_p.now matrix.now.a_i.now (W.contents out.old)
+        (W.contents out.new) }
 {
     match print_demo(alloc, form, matrix, out) {
         Ok(true) => 0,

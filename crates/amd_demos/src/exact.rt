@@ -1,5 +1,5 @@
-// The exact factor of a matrix under its ordering, beside the bounds that the ordering told. The figures are those of the AMD user
-// guide. Called by the demo that prints a matrix.
+// The exact factor of a matrix under its ordering, beside the bounds that the ordering told. The figures are those of
+// the AMD user guide. Called by the demo that prints a matrix.
 
 ghost use Rattle.std.specs.Prelude.{◌≡◌, ℕ, List, ◌++◌, codes, true, false, IfOk, OnOk};
 ghost use Rattle.std.specs.Io.KnownBytes.{Appends};
@@ -19,7 +19,8 @@ use std::io::Write;
 /// Writes a line with how many entries each column has.
 fn write_counts<W: Write>(ptr: &[usize], out: &mut W) -> io::Result<()>
     requires { (columns : List (List ℕ)) × TellSizes columns ptr.now }
-    ensures { OnOk result ((columns : List (List ℕ)) → TellSizes columns ptr.now → Appends (W.contents out.old) (W.contents out.new) (counts columns ++ codes "\n")) }
+    ensures { OnOk result ((columns : List (List ℕ)) → TellSizes columns ptr.now →
+        Appends (W.contents out.old) (W.contents out.new) (counts columns ++ codes "\n")) }
 {
     'columns: for k in 0..ptr.len() - 1 {
         let size = column_size(ptr, k);
@@ -38,7 +39,8 @@ fn write_beside<W: Write>(name: &str, exact: u128, bound: usize, out: &mut W) ->
 
 /// Writes the lines of the figures.
 fn write_figures<W: Write>(need: &Need, told: &Info, out: &mut W) -> io::Result<()>
-    ensures { OnOk result ((columns : List (List ℕ)) → IsNeed columns need.now → Appends (W.contents out.old) (W.contents out.new) (figure_lines columns told.now)) }
+    ensures { OnOk result ((columns : List (List ℕ)) → IsNeed columns need.now →
+        Appends (W.contents out.old) (W.contents out.new) (figure_lines columns told.now)) }
 {
     write_beside(
         "nonzeros in L (excluding diagonal)",
@@ -70,7 +72,8 @@ fn write_figures<W: Write>(need: &Need, told: &Info, out: &mut W) -> io::Result<
 /// Writes a factor, by where its columns begin and end, beside the bounds in a record.
 fn write_exact<W: Write>(ptr: &[usize], told: &Info, out: &mut W) -> io::Result<()>
     requires { (columns : List (List ℕ)) × TellSizes columns ptr.now }
-    ensures { OnOk result ((columns : List (List ℕ)) → TellSizes columns ptr.now → Appends (W.contents out.old) (W.contents out.new) (exact_lines columns told.now)) }
+    ensures { OnOk result ((columns : List (List ℕ)) → TellSizes columns ptr.now →
+        Appends (W.contents out.old) (W.contents out.new) (exact_lines columns told.now)) }
 {
     out.write_all(b"\nExact column counts of the factor:\n")?;
     write_counts(ptr, out)?;
@@ -78,8 +81,8 @@ fn write_exact<W: Write>(ptr: &[usize], told: &Info, out: &mut W) -> io::Result<
     Ok(())
 }
 
-/// Works out the factor of a matrix under an ordering, and writes it beside the bounds in the ordering's record; or the line of
-/// failure where there is no factor. Answers whether it was the former.
+/// Works out the factor of a matrix under an ordering, and writes it beside the bounds in the ordering's record; or the
+/// line of failure where there is no factor. Answers whether it was the former.
 pub fn print_exact<W: Write, A: Allocator + Copy>(
     alloc: A,
     matrix: &Matrix,
@@ -87,8 +90,11 @@ pub fn print_exact<W: Write, A: Allocator + Copy>(
     told: &Info,
     out: &mut W,
 ) -> io::Result<bool>
-    ensures exact { IfOk result (λ exact. exact ≡ true → HasExact matrix.now.n matrix.now.a_p.now matrix.now.a_i.now p.now told.now (W.contents out.old) (W.contents out.new)) }
-    ensures failure { IfOk result (λ exact. exact ≡ false → Appends (W.contents out.old) (W.contents out.new) failure_line) }
+    ensures exact { IfOk result (λ exact. exact ≡ true →
+        HasExact matrix.now.n matrix.now.a_p.now matrix.now.a_i.now p.now told.now (W.contents out.old)
+        (W.contents out.new)) }
+    ensures failure { IfOk result (λ exact. exact ≡ false →
+        Appends (W.contents out.old) (W.contents out.new) failure_line) }
 {
     match columns(alloc, matrix.n, matrix.a_p, matrix.a_i, p, told.lnz) {
         Ok(factor) => {

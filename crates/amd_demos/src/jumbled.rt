@@ -1,5 +1,5 @@
-// The demo that orders a jumbled form of the matrix can_24, after the third demo of the AMD user guide. Called by the program
-// `demo_jumbled` and by tests.
+// The demo that orders a jumbled form of the matrix can_24, after the third demo of the AMD user guide. Called by the
+// program `demo_jumbled` and by tests.
 
 ghost use Rattle.std.specs.Prelude.{◌≡◌, ◌≤◌, pos};
 ghost use Rattle.amd_demos.specs.Demos.{HasDemo};
@@ -10,13 +10,14 @@ use crate::matrix::Matrix;
 use std::alloc::Allocator;
 use std::io::Write;
 
-/// Writes the jumbled form of the matrix can_24, orders it, and writes the ordering and the permuted matrix. The answer is the
-/// exit status: 0 where an ordering was written, and 1 where there is none, which the line `AMD failed` says, or after a fault of
-/// the writer, when nothing more is written. What stands before the record and behind the permutations, plots among it, is not
-/// said.
+/// Writes the jumbled form of the matrix can_24, orders it, and writes the ordering and the permuted matrix. The answer
+/// is the exit status: 0 where an ordering was written, and 1 where there is none, which the line `AMD failed` says, or
+/// after a fault of the writer, when nothing more is written. What stands before the record and behind the
+/// permutations, plots among it, is not said.
 pub fn jumbled_to<W: Write, A: Allocator + Copy>(alloc: A, out: &mut W) -> u8
     ensures status { result ≤ 1 }
-    ensures written { result ≡ 0 → HasDemo Form.Jumbled (pos 24) JUMBLED_POINTERS JUMBLED_ROWS (W.contents out.old) (W.contents out.new) }
+    ensures written { result ≡ 0 → HasDemo Form.Jumbled (pos 24) JUMBLED_POINTERS JUMBLED_ROWS (W.contents out.old)
+        (W.contents out.new) }
 {
     let matrix = Matrix {
         n: 24,

@@ -1,5 +1,5 @@
-//! The demos of the ordering, each a core that writes to a writer and answers the exit status. A program over each of them
-//! hands in standard output.
+//! The demos of the ordering, each a core that writes to a writer and answers the exit status. A program over each of
+//! them hands in standard output.
 #![tactic(auto)]
 
 pub mod can_24;

@@ -8,7 +8,8 @@ use crate::numbers::write_each;
 use std::io;
 use std::io::Write;
 
-/// Writes where column `j` stands and how many entries it has, and then its rows; nothing where there is no such column.
+/// Writes where column `j` stands and how many entries it has, and then its rows; nothing where there is no such
+/// column.
 fn write_column<W: Write>(matrix: &Matrix, j: i32, out: &mut W) -> io::Result<()>
     ensures { OnOk result (Grows (W.contents out.old) (W.contents out.new)) }
 {

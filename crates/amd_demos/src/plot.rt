@@ -1,4 +1,5 @@
-// A plot of a matrix in letters, a line for each row, after the Rust crate's demos. Called by the demo that prints a matrix.
+// A plot of a matrix in letters, a line for each row, after the Rust crate's demos. Called by the demo that prints a
+// matrix.
 
 ghost use Rattle.std.specs.Prelude.{OnOk};
 ghost use Rattle.amd_demos.specs.Demos.{Grows};
@@ -16,8 +17,8 @@ pub enum Marks {
     BothPlaces,
 }
 
-/// A plot of a matrix: what it marks, how many spaces it has before its heading, and the rows that stand at the places from 0
-/// on, where row and column `k` stand at the place `k` from the end of that list on.
+/// A plot of a matrix: what it marks, how many spaces it has before its heading, and the rows that stand at the places
+/// from 0 on, where row and column `k` stand at the place `k` from the end of that list on.
 #[derive(Clone, Copy)]
 pub struct Plot<'a> {
     /// The matrix.

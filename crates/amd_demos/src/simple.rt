@@ -1,5 +1,5 @@
-// The demo that orders one small matrix and prints the permutation, its inverse, and what the ordering tells, after the first
-// demo of the AMD user guide. Called by the program `demo_simple` and by tests.
+// The demo that orders one small matrix and prints the permutation, its inverse, and what the ordering tells, after the
+// first demo of the AMD user guide. Called by the program `demo_simple` and by tests.
 
 ghost use Rattle.std.specs.Prelude.{◌≡◌, ◌≢◌, ◌≤◌, pos, true, false, IfOk, OnOk};
 ghost use Rattle.std.specs.Io.KnownBytes.{Appends};
@@ -31,8 +31,10 @@ fn print_outcome<W: Write, A: Allocator + Copy>(
     a_i: &[i32],
     out: &mut W,
 ) -> io::Result<bool>
-    ensures ordered { IfOk result (λ ordered. ordered ≡ true → HasOrdering n a_p.now a_i.now (W.contents out.old) (W.contents out.new)) }
-    ensures failure { IfOk result (λ ordered. ordered ≡ false → Appends (W.contents out.old) (W.contents out.new) failure_line) }
+    ensures ordered { IfOk result (λ ordered. ordered ≡ true →
+        HasOrdering n a_p.now a_i.now (W.contents out.old) (W.contents out.new)) }
+    ensures failure { IfOk result (λ ordered. ordered ≡ false →
+        Appends (W.contents out.old) (W.contents out.new) failure_line) }
     ensures some_rows { IfOk result (λ ordered. ordered ≡ false → n ≢ pos 0) }
 {
     match order(alloc, n, a_p, a_i, &Control::default()) {
@@ -47,13 +49,13 @@ fn print_outcome<W: Write, A: Allocator + Copy>(
     }
 }
 
-/// Orders a matrix in column form with `n` rows and sorted columns, and writes the permutation, its inverse, and what the
-/// ordering tells. Where there is no ordering, or `n` is not 0 and the columns are not sorted, the one line `AMD failed` comes
-/// in their place. The answer is the exit status: 0 where an ordering was written, else 1. After a fault of the writer nothing
-/// more is written.
+/// Orders a matrix in column form with `n` rows and sorted columns, and writes the permutation, its inverse, and what
+/// the ordering tells. Where there is no ordering, or `n` is not 0 and the columns are not sorted, the one line `AMD
+/// failed` comes in their place. The answer is the exit status: 0 where an ordering was written, else 1. After a fault
+/// of the writer nothing more is written.
 ///
-/// The contract speaks of the status 0 alone: what a writer holds does not tell its faults. The contract of `print_outcome`
-/// tells the line where there was no fault.
+/// The contract speaks of the status 0 alone: what a writer holds does not tell its faults. The contract of
+/// `print_outcome` tells the line where there was no fault.
 pub fn simple_to<W: Write, A: Allocator + Copy>(
     alloc: A,
     n: i32,

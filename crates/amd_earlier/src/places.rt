@@ -10,8 +10,9 @@ use amd_numbers::internal::{to_count, value_at};
 use num_traits::PrimInt;
 use std::alloc::{AllocError, Allocator};
 
-/// The place of each of `size` rows in the list `p`: row `p[k]` has place `k`. `None` where `p` does not list each number below
-/// `size`, once: it is longer or shorter, or has a number that is negative, too large or repeated. Any arguments are allowed.
+/// The place of each of `size` rows in the list `p`: row `p[k]` has place `k`. `None` where `p` does not list each
+/// number below `size`, once: it is longer or shorter, or has a number that is negative, too large or repeated. Any
+/// arguments are allowed.
 ///
 /// # Errors
 ///
@@ -21,9 +22,12 @@ pub fn places<I: PrimInt, A: Allocator>(
     size: usize,
     p: &[I],
 ) -> Result<Option<Vec<usize, A>>, AllocError>
-    ensures permutation { IfOk result (λ r. MatchOption r (Unit {0}) (λ places. Permutes size (map I.value p.now) (counts (map I.value p.now)))) }
-    ensures places { IfOk result (λ r. MatchOption r (Unit {0}) (λ places. ArePlaces size (counts (map I.value p.now)) places.items)) }
-    ensures none { IfOk result (λ r. MatchOption r ((rows : List ℕ) → Permutes size (map I.value p.now) rows → ⊥) (λ places. Unit {0})) }
+    ensures permutation { IfOk result (λ r. MatchOption r (Unit {0})
+        (λ places. Permutes size (map I.value p.now) (counts (map I.value p.now)))) }
+    ensures places { IfOk result (λ r. MatchOption r (Unit {0})
+        (λ places. ArePlaces size (counts (map I.value p.now)) places.items)) }
+    ensures none { IfOk result (λ r. MatchOption r ((rows : List ℕ) → Permutes size (map I.value p.now) rows → ⊥)
+        (λ places. Unit {0})) }
 {
     if p.len() != size {
         return Ok(None);

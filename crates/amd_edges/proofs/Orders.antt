@@ -174,7 +174,8 @@ module _ (pair : ℕ → ℕ → Bool) (k : ℕ) where
 
   pub after_next : (j : ℕ) → arcs_of (edges_after j) ++ arcs_of (met_below pair k j) ≡ arcs_of (edges_after (j + 1))
   after_next j = sym (arcs_append (edges_after j) (met_below pair k j)) ∙
-      ap arcs_of (sym (flat_next (met_below pair k) (edges_before pair k) (λ c. true) j j (omega arith) (λ a x y. absurd (omega arith)) refl))
+      ap arcs_of (sym (flat_next (met_below pair k) (edges_before pair k) (λ c. true) j j (omega arith) (λ a x y. absurd (omega arith))
+      refl))
 
   pub after_end : edges_after k ≡ met_edges k pair
   unfolding edges_before met_edges

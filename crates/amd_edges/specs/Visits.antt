@@ -1,6 +1,7 @@
--- Arcs: an edge is two arcs, one in each direction. A set of arcs is a test of two rows, and a list of them has the order in
--- which they are met. What visitors make of them.
-use Rattle.std.specs.Prelude.{◌≡◌, ◌≢◌, ◌+◌, ◌<◌, ◌≤◌, ◌&&◌, ◌||◌, ℕ, Bool, true, false, cond, nat_eq, List, [], ◌∷◌, flat_map, length}
+-- Arcs: an edge is two arcs, one in each direction. A set of arcs is a test of two rows, and a list of them has the
+-- order in which they are met. What visitors make of them.
+use Rattle.std.specs.Prelude.{◌≡◌, ◌≢◌, ◌+◌, ◌<◌, ◌≤◌, ◌&&◌, ◌||◌, ℕ, Bool, true, false, cond, nat_eq, List, [], ◌∷◌}
+use Rattle.std.specs.Prelude.{flat_map, length}
 use Rattle.std.specs.Prelude.{slice_index, slice_index_or, slice_range}
 use Rattle.amd_model.specs.Below.{sum_below, count_below}
 use Rattle.amd_model.specs.Graph.{Graph}
@@ -34,19 +35,23 @@ pub record AreCounts (g : Graph) (seen : ℕ → ℕ → Bool) (numbers : List �
 unfoldable pub start_of : Graph → ℕ → ℕ
 start_of g i = sum_below i (λ a. count_below g.size (g.edge a))
 
--- the lists of the arcs of each row: each is filled from its start up to its `next`, in the order of the arcs, and names a row at most once
+-- the lists of the arcs of each row: each is filled from its start up to its `next`, in the order of the arcs, and
+-- names a row at most once
 pub record AreLists (g : Graph) (seen : ℕ → ℕ → Bool) (arcs : List (ℕ × ℕ)) (next rows : List ℕ) : Type 0 where
   pub size : length next ≡ g.size
   pub room : start_of g g.size ≤ length rows
   pub ends : (i : ℕ) → i < g.size → slice_index next i ≡ start_of g i + count_below g.size (seen i)
   pub named : (i q : ℕ) → i < g.size → start_of g i ≤ q → q < slice_index next i → seen i (slice_index rows q) ≡ true
-  pub found : (i j : ℕ) → i < g.size → j < g.size → seen i j ≡ true → (q : ℕ) × (start_of g i ≤ q) × (q < slice_index next i)
+  pub found : (i j : ℕ) → i < g.size → j < g.size → seen i j ≡ true → (q : ℕ) × (start_of g i ≤ q) ×
+      (q < slice_index next i)
       × (slice_index rows q ≡ j)
-  pub once : (i q r : ℕ) → i < g.size → start_of g i ≤ q → q < r → r < slice_index next i → slice_index rows q ≢ slice_index rows r
+  pub once : (i q r : ℕ) → i < g.size → start_of g i ≤ q → q < r → r < slice_index next i →
+      slice_index rows q ≢ slice_index rows r
   pub order : (i : ℕ) → i < g.size → slice_range rows (start_of g i) (slice_index next i) ≡ ends_of i arcs
 
 -- a list for each row: what the arcs of the row lead to, in their order, with room for all neighbours
-pub record AreRows (g : Graph) (seen : ℕ → ℕ → Bool) (arcs : List (ℕ × ℕ)) (lists : List (List ℕ)) (rooms : List ℕ) : Type 0 where
+pub record AreRows (g : Graph) (seen : ℕ → ℕ → Bool) (arcs : List (ℕ × ℕ)) (lists : List (List ℕ))
+    (rooms : List ℕ) : Type 0 where
   pub size : length lists ≡ g.size
   pub counts : (i : ℕ) → i < g.size → length (slice_index_or lists i []) ≡ count_below g.size (seen i)
   pub room : (i : ℕ) → i < g.size → count_below g.size (g.edge i) ≤ slice_index rooms i

@@ -1,9 +1,11 @@
-// The lists of the neighbours of each row, each in the order in which the walk over the edges meets those of its row: one after
-// another in a workspace, or each in a vector of its own. Each form has a visitor of the walk that fills it. Source: Amestoy,
-// Davis and Duff 2004. `plain_1` of the crate `amd_engine` starts from the vectors; only tests call `neighbours`, which fills the one
-// workspace (the engine in place lays its words by `laying` of the crate `amd_workspace`).
+// The lists of the neighbours of each row, each in the order in which the walk over the edges meets those of its row:
+// one after another in a workspace, or each in a vector of its own. Each form has a visitor of the walk that fills it.
+// Source: Amestoy, Davis and Duff 2004. `plain_1` of the crate `amd_engine` starts from the vectors; only tests call
+// `neighbours`, which fills the one workspace (the engine in place lays its words by `laying` of the crate
+// `amd_workspace`).
 
-ghost use Rattle.std.specs.Prelude.{◌≡◌, ◌<◌, ◌≤◌, ℕ, [], pos, map, length, slice_index, slice_index_or, slice_range, IfOk};
+ghost use Rattle.std.specs.Prelude.{◌≡◌, ◌<◌, ◌≤◌, ℕ, [], pos, map, length, slice_index, slice_index_or, slice_range};
+ghost use Rattle.std.specs.Prelude.{IfOk};
 ghost use Rattle.std.specs.Vec.{vec_capacity};
 ghost use Rattle.amd_model.specs.Below.{sum_below};
 ghost use Rattle.amd_model.specs.Input.Columns.{IsColumnForm, IsSorted};
@@ -43,7 +45,8 @@ struct RowLists<A: Allocator> {
 }
 
 impl<A: Allocator> Visitor for RowLists<A> {
-    ghost holds = { λ g seen arcs l. AreRows g seen arcs (map (λ v. v.items) l.rows.items) (map vec_capacity l.rows.items) };
+    ghost holds = { λ g seen arcs l. AreRows g seen arcs (map (λ v. v.items) l.rows.items)
+        (map vec_capacity l.rows.items) };
 
     ghost room = { λ l. 0 };
 
@@ -59,7 +62,8 @@ fn starts<A: Allocator + Copy>(
     room: usize,
 ) -> Result<Vec<usize, A>, AllocError>
     requires { sum_below (length degrees.now) (λ a. slice_index degrees.now a) ≤ room }
-    ensures { IfOk result (λ v. (length v.items ≡ length degrees.now) × ((i : ℕ) → i < length degrees.now → slice_index v.items i ≡ sum_below i (λ a. slice_index degrees.now a))) }
+    ensures { IfOk result (λ v. (length v.items ≡ length degrees.now) ×
+        ((i : ℕ) → i < length degrees.now → slice_index v.items i ≡ sum_below i (λ a. slice_index degrees.now a))) }
 {
     let mut next = Vec::with_capacity(alloc, degrees.len())?;
     let mut total = 0;
@@ -72,8 +76,8 @@ fn starts<A: Allocator + Copy>(
 
 /// The lists of the neighbours of each of `size` rows, whose degrees are known, in a workspace of `room` places.
 ///
-/// List `i` starts where the degrees before `i` add up to, and ends at `next[i]`. Its entries stand in the order in which the walk
-/// meets the edges. The contract does not say that `rows` has no further place.
+/// List `i` starts where the degrees before `i` add up to, and ends at `next[i]`. Its entries stand in the order in
+/// which the walk meets the edges. The contract does not say that `rows` has no further place.
 ///
 /// # Errors
 ///
@@ -88,10 +92,17 @@ pub fn neighbours<I: PrimInt, A: Allocator + Copy>(
 ) -> Result<Lists<A>, AllocError>
     requires form { IsColumnForm (pos size) size (map I.value a_p.now) (map I.value a_i.now) }
     requires sorted { IsSorted size (map I.value a_p.now) (map I.value a_i.now) }
-    requires degrees { AreCounts (graph_of size (map I.value a_p.now) (map I.value a_i.now)) ((graph_of size (map I.value a_p.now) (map I.value a_i.now)).edge) degrees.now }
+    requires degrees { AreCounts (graph_of size (map I.value a_p.now) (map I.value a_i.now))
+        ((graph_of size (map I.value a_p.now) (map I.value a_i.now)).edge) degrees.now }
     requires room { start_of (graph_of size (map I.value a_p.now) (map I.value a_i.now)) size ≤ room }
-    ensures lists { IfOk result (λ l. AreLists (graph_of size (map I.value a_p.now) (map I.value a_i.now)) ((graph_of size (map I.value a_p.now) (map I.value a_i.now)).edge) (arcs_of (met_edges size (is_pair size (map I.value a_p.now) (map I.value a_i.now)))) l.next.items l.rows.items) }
-    ensures order { IfOk result (λ l. (i : ℕ) → i < size → slice_range l.rows.items (start_of (graph_of size (map I.value a_p.now) (map I.value a_i.now)) i) (slice_index l.next.items i) ≡ starting_list size (is_pair size (map I.value a_p.now) (map I.value a_i.now)) i) }
+    ensures lists { IfOk result (λ l. AreLists (graph_of size (map I.value a_p.now) (map I.value a_i.now))
+        ((graph_of size (map I.value a_p.now) (map I.value a_i.now)).edge)
+        (arcs_of (met_edges size (is_pair size (map I.value a_p.now) (map I.value a_i.now)))) l.next.items
+        l.rows.items) }
+    ensures order { IfOk result (λ l. (i : ℕ) → i < size →
+        slice_range l.rows.items (start_of (graph_of size (map I.value a_p.now) (map I.value a_i.now)) i)
+        (slice_index l.next.items i) ≡ starting_list size (is_pair size (map I.value a_p.now) (map I.value a_i.now))
+        i) }
 {
     let next = starts(alloc, degrees, room)?;
     let mut pointers = Vec::with_capacity(alloc, size)?;
@@ -109,8 +120,10 @@ fn empty_lists<A: Allocator + Copy>(
     degrees: &[usize],
 ) -> Result<Vec<Vec<usize, A>, A>, AllocError>
     ensures size { IfOk result (λ rows. length rows.items ≡ length degrees.now) }
-    ensures empty { IfOk result (λ rows. (i : ℕ) → i < length degrees.now → slice_index_or (map (λ v. v.items) rows.items) i [] ≡ []) }
-    ensures room { IfOk result (λ rows. (i : ℕ) → i < length degrees.now → slice_index degrees.now i ≤ slice_index (map vec_capacity rows.items) i) }
+    ensures empty { IfOk result (λ rows. (i : ℕ) → i < length degrees.now →
+        slice_index_or (map (λ v. v.items) rows.items) i [] ≡ []) }
+    ensures room { IfOk result (λ rows. (i : ℕ) → i < length degrees.now →
+        slice_index degrees.now i ≤ slice_index (map vec_capacity rows.items) i) }
 {
     let mut rows = Vec::with_capacity(alloc, degrees.len())?;
     'rows: for &degree in degrees {
@@ -136,9 +149,12 @@ pub fn starting_lists<I: PrimInt, A: Allocator + Copy>(
 ) -> Result<Vec<Vec<usize, A>, A>, AllocError>
     requires form { IsColumnForm (pos size) size (map I.value a_p.now) (map I.value a_i.now) }
     requires sorted { IsSorted size (map I.value a_p.now) (map I.value a_i.now) }
-    requires degrees { AreCounts (graph_of size (map I.value a_p.now) (map I.value a_i.now)) ((graph_of size (map I.value a_p.now) (map I.value a_i.now)).edge) degrees.now }
+    requires degrees { AreCounts (graph_of size (map I.value a_p.now) (map I.value a_i.now))
+        ((graph_of size (map I.value a_p.now) (map I.value a_i.now)).edge) degrees.now }
     ensures size { IfOk result (λ rows. length rows.items ≡ size) }
-    ensures lists { IfOk result (λ rows. (i : ℕ) → i < size → slice_index_or (map (λ v. v.items) rows.items) i [] ≡ starting_list size (is_pair size (map I.value a_p.now) (map I.value a_i.now)) i) }
+    ensures lists { IfOk result (λ rows. (i : ℕ) → i < size →
+        slice_index_or (map (λ v. v.items) rows.items) i [] ≡ starting_list size
+        (is_pair size (map I.value a_p.now) (map I.value a_i.now)) i) }
 {
     let mut pointers = Vec::with_capacity(alloc, size)?;
     let mut lists = RowLists {

@@ -1,9 +1,11 @@
-// A walk over the edges of a matrix: each edge is met once, whether the pattern holds it once or twice, and a visitor is told
-// both of its arcs. For each column in turn its upper entries are read, and with each of them the lower entries of that row's
-// own column that come before; a pointer of each column says how far it was read. Source: Amestoy, Davis and Duff 2004 (the
-// forming of A + A'). Called by `aat` of the crate `amd_input`, by `laying` of `amd_workspace`, and by `lists`.
+// A walk over the edges of a matrix: each edge is met once, whether the pattern holds it once or twice, and a visitor
+// is told both of its arcs. For each column in turn its upper entries are read, and with each of them the lower entries
+// of that row's own column that come before; a pointer of each column says how far it was read. Source: Amestoy, Davis
+// and Duff 2004 (the forming of A + A'). Called by `aat` of the crate `amd_input`, by `laying` of `amd_workspace`, and
+// by `lists`.
 
-ghost use Rattle.std.specs.Prelude.{◌≡◌, ◌<◌, ◌≤◌, ◌+◌, ◌++◌, ◌∷◌, ℕ, Bool, List, [], true, false, pos, map, length, slice_index};
+ghost use Rattle.std.specs.Prelude.{◌≡◌, ◌<◌, ◌≤◌, ◌+◌, ◌++◌, ◌∷◌, ℕ, Bool, List, [], true, false, pos, map, length};
+ghost use Rattle.std.specs.Prelude.{slice_index};
 ghost use Rattle.std.specs.Vec.{vec_capacity};
 ghost use Rattle.amd_model.specs.Graph.{Graph};
 ghost use Rattle.amd_model.specs.Input.Columns.{IsColumnForm, IsSorted};
@@ -16,7 +18,8 @@ use amd_numbers::internal::count_at;
 use num_traits::PrimInt;
 use std::alloc::Allocator;
 
-/// What takes the arcs of a graph, one at a time. What holds of it speaks of the set of the arcs that it took, and of their list.
+/// What takes the arcs of a graph, one at a time. What holds of it speaks of the set of the arcs that it took, and of
+/// their list.
 pub trait Visitor {
     ghost holds: { Graph → (ℕ → ℕ → Bool) → List (ℕ × ℕ) → Self → Type 0 };
 
@@ -25,8 +28,10 @@ pub trait Visitor {
 
     /// Takes the arc from `i` to `j`.
     fn arc(&mut self, i: usize, j: usize)
-        requires { (g : Graph) × (seen : ℕ → ℕ → Bool) × (arcs : List (ℕ × ℕ)) × holds g seen arcs self.old × IsNew g seen i j }
-        ensures held { (g : Graph) (seen : ℕ → ℕ → Bool) (arcs : List (ℕ × ℕ)) → holds g seen arcs self.old → IsNew g seen i j → holds g (with_arc seen i j) (arcs ++ (i, j) ∷ []) self.new }
+        requires { (g : Graph) × (seen : ℕ → ℕ → Bool) × (arcs : List (ℕ × ℕ)) × holds g seen arcs self.old ×
+            IsNew g seen i j }
+        ensures held { (g : Graph) (seen : ℕ → ℕ → Bool) (arcs : List (ℕ × ℕ)) → holds g seen arcs self.old →
+            IsNew g seen i j → holds g (with_arc seen i j) (arcs ++ (i, j) ∷ []) self.new }
         ensures kept { room self.new ≡ room self.old };
 }
 
@@ -46,9 +51,14 @@ fn lower<I: PrimInt, V: Visitor, A: Allocator>(
     requires k_in { k ≤ size }
     requires mirror { k < size → entry_read size (map I.value a_p.now) (map I.value a_i.now) j k ≡ true }
     requires scan { IsScanOf size (map I.value a_p.now) (map I.value a_i.now) next.old.items k j }
-    requires held { (arcs : List (ℕ × ℕ)) × V.holds (graph_read size (map I.value a_p.now) (map I.value a_i.now)) (met_read size (map I.value a_p.now) (map I.value a_i.now) next.old.items k (j + 1)) arcs visitor.old }
+    requires held { (arcs : List (ℕ × ℕ)) × V.holds (graph_read size (map I.value a_p.now) (map I.value a_i.now))
+        (met_read size (map I.value a_p.now) (map I.value a_i.now) next.old.items k (j + 1)) arcs visitor.old }
     ensures scan { IsScanOf size (map I.value a_p.now) (map I.value a_i.now) next.new.items k (j + 1) }
-    ensures held { (arcs : List (ℕ × ℕ)) → V.holds (graph_read size (map I.value a_p.now) (map I.value a_i.now)) (met_read size (map I.value a_p.now) (map I.value a_i.now) next.old.items k (j + 1)) arcs visitor.old → V.holds (graph_read size (map I.value a_p.now) (map I.value a_i.now)) (met_read size (map I.value a_p.now) (map I.value a_i.now) next.new.items k (j + 1)) (arcs ++ arcs_of (met_below (entry_read size (map I.value a_p.now) (map I.value a_i.now)) k j)) visitor.new }
+    ensures held { (arcs : List (ℕ × ℕ)) → V.holds (graph_read size (map I.value a_p.now) (map I.value a_i.now))
+        (met_read size (map I.value a_p.now) (map I.value a_i.now) next.old.items k (j + 1)) arcs visitor.old →
+        V.holds (graph_read size (map I.value a_p.now) (map I.value a_i.now))
+        (met_read size (map I.value a_p.now) (map I.value a_i.now) next.new.items k (j + 1))
+        (arcs ++ arcs_of (met_below (entry_read size (map I.value a_p.now) (map I.value a_i.now)) k j)) visitor.new }
     ensures room { vec_capacity next.new ≡ vec_capacity next.old }
     ensures kept { V.room visitor.new ≡ V.room visitor.old }
 {
@@ -80,9 +90,13 @@ fn column<I: PrimInt, V: Visitor, A: Allocator>(
     requires k_in { k < size }
     requires room { size ≤ vec_capacity next.old }
     requires scan { IsScanOf size (map I.value a_p.now) (map I.value a_i.now) next.old.items k 0 }
-    requires held { V.holds (graph_read size (map I.value a_p.now) (map I.value a_i.now)) (met_read size (map I.value a_p.now) (map I.value a_i.now) next.old.items k 0) (arcs_of (edges_before (entry_read size (map I.value a_p.now) (map I.value a_i.now)) k)) visitor.old }
+    requires held { V.holds (graph_read size (map I.value a_p.now) (map I.value a_i.now))
+        (met_read size (map I.value a_p.now) (map I.value a_i.now) next.old.items k 0)
+        (arcs_of (edges_before (entry_read size (map I.value a_p.now) (map I.value a_i.now)) k)) visitor.old }
     ensures scan { IsScanOf size (map I.value a_p.now) (map I.value a_i.now) next.new.items (k + 1) 0 }
-    ensures held { V.holds (graph_read size (map I.value a_p.now) (map I.value a_i.now)) (met_read size (map I.value a_p.now) (map I.value a_i.now) next.new.items (k + 1) 0) (arcs_of (edges_before (entry_read size (map I.value a_p.now) (map I.value a_i.now)) (k + 1))) visitor.new }
+    ensures held { V.holds (graph_read size (map I.value a_p.now) (map I.value a_i.now))
+        (met_read size (map I.value a_p.now) (map I.value a_i.now) next.new.items (k + 1) 0)
+        (arcs_of (edges_before (entry_read size (map I.value a_p.now) (map I.value a_i.now)) (k + 1))) visitor.new }
     ensures room { vec_capacity next.new ≡ vec_capacity next.old }
     ensures diagonal { result ≡ entry_read size (map I.value a_p.now) (map I.value a_i.now) k k }
     ensures kept { V.room visitor.new ≡ V.room visitor.old }
@@ -115,8 +129,12 @@ fn rest<I: PrimInt, V: Visitor, A: Allocator>(
     requires form { IsColumnForm (pos size) size (map I.value a_p.now) (map I.value a_i.now) }
     requires sorted { IsSorted size (map I.value a_p.now) (map I.value a_i.now) }
     requires scan { IsScanOf size (map I.value a_p.now) (map I.value a_i.now) next.old.items size 0 }
-    requires held { V.holds (graph_read size (map I.value a_p.now) (map I.value a_i.now)) (met_read size (map I.value a_p.now) (map I.value a_i.now) next.old.items size 0) (arcs_of (edges_before (entry_read size (map I.value a_p.now) (map I.value a_i.now)) size)) visitor.old }
-    ensures held { V.holds (graph_of size (map I.value a_p.now) (map I.value a_i.now)) ((graph_of size (map I.value a_p.now) (map I.value a_i.now)).edge) (arcs_of (met_edges size (is_pair size (map I.value a_p.now) (map I.value a_i.now)))) visitor.new }
+    requires held { V.holds (graph_read size (map I.value a_p.now) (map I.value a_i.now))
+        (met_read size (map I.value a_p.now) (map I.value a_i.now) next.old.items size 0)
+        (arcs_of (edges_before (entry_read size (map I.value a_p.now) (map I.value a_i.now)) size)) visitor.old }
+    ensures held { V.holds (graph_of size (map I.value a_p.now) (map I.value a_i.now))
+        ((graph_of size (map I.value a_p.now) (map I.value a_i.now)).edge)
+        (arcs_of (met_edges size (is_pair size (map I.value a_p.now) (map I.value a_i.now)))) visitor.new }
     ensures kept { V.room visitor.new ≡ V.room visitor.old }
 {
     'columns: for j in 0..size {
@@ -124,13 +142,14 @@ fn rest<I: PrimInt, V: Visitor, A: Allocator>(
     }
 }
 
-/// Meets each edge of a sorted column form once, and answers the number of diagonal entries. The matrix has `size` rows and
-/// columns, and `next` is empty and has room for a pointer of each column. What `next` holds afterwards is not said.
+/// Meets each edge of a sorted column form once, and answers the number of diagonal entries. The matrix has `size` rows
+/// and columns, and `next` is empty and has room for a pointer of each column. What `next` holds afterwards is not
+/// said.
 ///
-/// For each column `k` in turn: each upper entry `j < k` of it, rising, gives the edge of `j` and `k`, and after it the lower
-/// entries of column `j` that were not read yet and are below `k` give theirs; an entry `k` itself is passed over. At the end
-/// the lower entries that were never read give theirs. The visitor is handed both arcs of each edge, the one from its first row
-/// to its second one before the other.
+/// For each column `k` in turn: each upper entry `j < k` of it, rising, gives the edge of `j` and `k`, and after it the
+/// lower entries of column `j` that were not read yet and are below `k` give theirs; an entry `k` itself is passed
+/// over. At the end the lower entries that were never read give theirs. The visitor is handed both arcs of each edge,
+/// the one from its first row to its second one before the other.
 pub fn walk<I: PrimInt, V: Visitor, A: Allocator>(
     size: usize,
     a_p: &[I],
@@ -143,7 +162,9 @@ pub fn walk<I: PrimInt, V: Visitor, A: Allocator>(
     requires empty { length next.old.items ≡ 0 }
     requires room { size ≤ vec_capacity next.old }
     requires held { V.holds (graph_of size (map I.value a_p.now) (map I.value a_i.now)) (λ a b. false) [] visitor.old }
-    ensures held { V.holds (graph_of size (map I.value a_p.now) (map I.value a_i.now)) ((graph_of size (map I.value a_p.now) (map I.value a_i.now)).edge) (arcs_of (met_edges size (is_pair size (map I.value a_p.now) (map I.value a_i.now)))) visitor.new }
+    ensures held { V.holds (graph_of size (map I.value a_p.now) (map I.value a_i.now))
+        ((graph_of size (map I.value a_p.now) (map I.value a_i.now)).edge)
+        (arcs_of (met_edges size (is_pair size (map I.value a_p.now) (map I.value a_i.now)))) visitor.new }
     ensures diagonals { result ≡ diagonal_count size (map I.value a_p.now) (map I.value a_i.now) }
     ensures kept { V.room visitor.new ≡ V.room visitor.old }
 {

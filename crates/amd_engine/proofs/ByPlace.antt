@@ -56,7 +56,8 @@ module _ (t : Tree) (order : List ℤ) (o : IsPostorderOf t order)
     room = a.room;
     each = λ k l. a.each k l ∙
         sym (ap (λ b. cond b (Some (slice_index o.listing k)) None)
-        (below_same (slice_index o.listing k) j (λ e. let x : Some k ≡ None = sym (ap named (o.places k l)) ∙ ap (λ y. named (at order y)) e ∙
+        (below_same (slice_index o.listing k) j (λ e. let x : Some k ≡ None = sym (ap named (o.places k l)) ∙ ap (λ y. named (at order y)) e
+        ∙
         q in cc)));
     rest = a.rest;
   }

@@ -1,5 +1,6 @@
 -- The end of the engine in place: the lists that are left tell the last state of a run, and their listing is an answer.
-use Rattle.std.proofs.Common.{ℕ, ℤ, pos, negsuc, Bool, List, Option, ◌≡◌, ◌≤◌, ◌<◌, ◌∙◌, ap, sym, refl, subst, inl, inr, arith, length, map, cond}
+use Rattle.std.proofs.Common.{ℕ, ℤ, pos, negsuc, Bool, List, Option, ◌≡◌, ◌≤◌, ◌<◌, ◌∙◌, ap, sym, refl, subst, inl, inr, arith, length, map}
+use Rattle.std.proofs.Common.{cond}
 use Rattle.std.specs.Prelude.{replicate}
 use Rattle.std.proofs.lemmas.Bool.{cases_Bool, cond-true, cond-false}
 use Rattle.std.proofs.lemmas.List.{get_or-replicate}
@@ -107,7 +108,8 @@ module _ (hold : Option (List Bool)) (threshold : ℕ) (aggressive : Bool) (iw p
         listed g dense aggressive lists n_dense figures pe1 e_len1 nv1 degree1 e pe2 e_len2 nv2 ends_here
         (pe_long ∙ size_is) (e_len_long ∙ size_is) (nv_long ∙ size_is) rows all in
         record {
-          answer = answer_of g aggressive lists hold threshold e.first n_dense figures e.reaches rows order (length len) t (sym size_is) some
+          answer = answer_of g aggressive lists hold threshold e.first n_dense figures e.reaches rows order (length len) t (sym size_is)
+              some
               is_threshold p q is inverse compactions before after told;
           elements = tells g dense aggressive lists n_dense figures pe1 e_len1 nv1 degree1 e pe2 e_len2 nv2 ends_here
               (pe_long ∙ size_is) (e_len_long ∙ size_is) (nv_long ∙ size_is);

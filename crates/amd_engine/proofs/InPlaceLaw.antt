@@ -84,7 +84,8 @@ module _ (hold : Option (List Bool)) (threshold : ℕ) (p : Rows) (v : Workspace
 
   is_laid : IsLaid (length p.len) v.free v
   is_laid = begun_laid (length p.len) held p v begins (replicate (length p.len) (pos 0)) laid.layout v.free sized fresh.room laid.room
-      (let w = laid.words in omega (arith, w)) laid.starts (degrees_small g lists v.iw p.pe p.len lays) fresh.most fresh.two fresh.empty fresh.packs fresh.live
+      (let w = laid.words in omega (arith, w)) laid.starts (degrees_small g lists v.iw p.pe p.len lays) fresh.most fresh.two fresh.empty
+      fresh.packs fresh.live
 
   -- the workspace stands for the start of an elimination
   pub stands_first : Stands g dense v.free v (start_quotient g dense lists) (first_state g dense)
@@ -92,13 +93,15 @@ module _ (hold : Option (List Bool)) (threshold : ℕ) (p : Rows) (v : Workspace
       let view = begun_view (length p.len) held p v begins fresh.least fresh.live fresh.dense (ap (λ (f : Figures). f.lnz) fresh.sums)
       (ap (λ (f : Figures). f.n_mult_subs_ldl) fresh.sums) (ap (λ (f : Figures). f.n_mult_subs_lu) fresh.sums)
       (ap (λ (f : Figures). f.d_max) fresh.sums) in
-      stands_at_start (length p.len) v.free held p v view is_laid fresh.linked (degrees_small g lists v.iw p.pe p.len lays) g dense lists (first_state g dense)
+      stands_at_start (length p.len) v.free held p v view is_laid fresh.linked (degrees_small g lists v.iw p.pe p.len lays) g dense lists
+      (first_state g dense)
       lays.neighbours.graph size_is lays.neighbours.counts held_is lays.laid lays.neighbours.names (starts g dense)
 
   module _ (aggressive : Bool) (pe e_len nv : List ℤ) (degree : List ℕ) (n_dense : ℕ) (figures : Figures)
       (ends : EndsIn aggressive v pe e_len nv degree n_dense figures) where
     abbrev Reached : Type 0
-    Reached = (u : QuotientGraph) × ((states : List State) × Follows g aggressive (start_quotient g dense lists) (first_state g dense) states u
+    Reached = (u : QuotientGraph) × ((states : List State) ×
+        Follows g aggressive (start_quotient g dense lists) (first_state g dense) states u
         × Stands g dense v.free ends.after u (last_state (first_state g dense) states))
 
     abbrev reached : Reached

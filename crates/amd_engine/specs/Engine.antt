@@ -1,6 +1,7 @@
--- What an engine answers: the listing of a run that follows the rules, from the starting lists of the matrix, with what holds of each
--- such run and listing, and its figures. How often it compacts its workspace is a clause of each engine.
-use Rattle.std.specs.Prelude.{ℕ, ℤ, pos, negsuc, Bool, false, Option, List, map, length, cond, ◌≡◌, ◌<◌, ◌≤◌, ◌*◌, ◌-◌, ◌/◌}
+-- What an engine answers: the listing of a run that follows the rules, from the starting lists of the matrix, with what
+-- holds of each such run and listing, and its figures. How often it compacts its workspace is a clause of each engine.
+use Rattle.std.specs.Prelude.{ℕ, ℤ, pos, negsuc, Bool, false, Option, List, map, length, cond, ◌≡◌, ◌<◌, ◌≤◌, ◌*◌, ◌-◌}
+use Rattle.std.specs.Prelude.{◌/◌}
 use Rattle.amd_model.specs.Below.{count_below}
 use Rattle.amd_model.specs.Graph.{Graph, IsGraph, degree}
 use Rattle.amd_model.specs.State.{State, IsStart, live, is_element, in_block}
@@ -18,7 +19,8 @@ use Rattle.amd_numbers.specs.declared.amd.Info.{Info}
 use Rattle.amd_numbers.specs.declared.figures.Figures.{Figures}
 use Rattle.amd_places.specs.Words.{num, word}
 
--- the record with the figures of a run that ended in the state s, and a count of compactions; the other fields are the old ones
+-- the record with the figures of a run that ended in the state s, and a count of compactions; the other fields are the
+-- old ones
 abbrev pub with_figures : Graph → (ℕ → Bool) → State → ℕ → Info → Info
 with_figures g dense s compactions old = record old {
   n_dense = count_below g.size dense;
@@ -30,10 +32,12 @@ with_figures g dense s compactions old = record old {
   d_max = greatest_front g dense s;
 }
 
--- p and q are inverse permutations; p lists the run of the rules from these starting lists of a graph with n rows, in which the
--- marked rows and the dense ones of a parameter of t thousandths are held last; the run and its listing keep what is promised of
--- each; and its figures are told, of which the entries and the greatest front are at most those of a full matrix
-pub record IsAnswerOf (g : Graph) (lists : ℕ → List ℕ) (hold : Option (List Bool)) (n : ℕ) (t : ℤ) (aggressive : Bool) (p q : List ℤ)
+-- p and q are inverse permutations; p lists the run of the rules from these starting lists of a graph with n rows, in
+-- which the marked rows and the dense ones of a parameter of t thousandths are held last; the run and its listing keep
+-- what is promised of each; and its figures are told, of which the entries and the greatest front are at most those of
+-- a full matrix
+pub record IsAnswerOf (g : Graph) (lists : ℕ → List ℕ) (hold : Option (List Bool)) (n : ℕ) (t : ℤ) (aggressive : Bool)
+    (p q : List ℤ)
     (old new : Info) : Type 0 where
   pub inverse : AreInverse n p q
   pub threshold : ℕ

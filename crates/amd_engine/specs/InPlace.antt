@@ -48,7 +48,8 @@ at_start iw pe e_len nv len degree w head next last hash free live flag n_dense 
 }
 
 -- rounds came to an end in a workspace that has these lists, and these figures
-pub record EndsIn (aggressive : Bool) (before : Workspace) (pe e_len nv : List ℤ) (degree : List ℕ) (n_dense : ℕ) (figures : Figures) :
+pub record EndsIn (aggressive : Bool) (before : Workspace) (pe e_len nv : List ℤ) (degree : List ℕ) (n_dense : ℕ)
+    (figures : Figures) :
     Type 0 where
   pub after : Workspace
   pub rounds : AreRounds aggressive before after
@@ -66,7 +67,8 @@ pub record LaysGraph (g : Graph) (lists : ℕ → List ℕ) (iw pe : List ℤ) (
   pub laid : (i : ℕ) → i < g.size → list_in iw pe len i ≡ lists i
 
 -- a run from these lists of a graph came to an end, and lists of numbers of each row stand for it
-pub record EndsRounds (g : Graph) (dense : ℕ → Bool) (aggressive : Bool) (lists : ℕ → List ℕ) (n_dense : ℕ) (figures : Figures)
+pub record EndsRounds (g : Graph) (dense : ℕ → Bool) (aggressive : Bool) (lists : ℕ → List ℕ) (n_dense : ℕ)
+    (figures : Figures)
     (pe e_len nv : List ℤ) (degree : List ℕ) : Type 0 where
   pub first : State
   pub reaches : Reaches g dense aggressive lists first n_dense figures
@@ -79,14 +81,17 @@ pub record EndsRounds (g : Graph) (dense : ℕ → Bool) (aggressive : Bool) (li
   pub degree_is : after.degree ≡ degree
 
 -- so of whatever graph is laid, the marked and the dense rows held last
-abbrev pub RunsInPlace : Option (List Bool) → ℕ → Bool → List ℤ → List ℤ → List ℕ → ℕ → Figures → List ℤ → List ℤ → List ℤ →
+abbrev pub RunsInPlace : Option (List Bool) → ℕ → Bool → List ℤ → List ℤ → List ℕ → ℕ → Figures → List ℤ → List ℤ →
+    List ℤ →
     List ℕ → Type 0
-RunsInPlace hold threshold aggressive iw pe len n_dense figures new_pe e_len nv degree = (g : Graph) (lists : ℕ → List ℕ) →
+RunsInPlace hold threshold aggressive iw pe len n_dense figures new_pe e_len nv degree =
+    (g : Graph) (lists : ℕ → List ℕ) →
     LaysGraph g lists iw pe len →
     EndsRounds g (is_held_last hold g threshold) aggressive lists n_dense figures new_pe e_len nv degree
 
 -- of whatever graph is laid the engine answers an ordering, and tells its elements
-pub record AnswersInPlace (g : Graph) (lists : ℕ → List ℕ) (hold : Option (List Bool)) (n : ℕ) (t : ℤ) (aggressive : Bool)
+pub record AnswersInPlace (g : Graph) (lists : ℕ → List ℕ) (hold : Option (List Bool)) (n : ℕ) (t : ℤ)
+    (aggressive : Bool)
     (p q nv e_len : List ℤ) (old new : Info) : Type 0 where
   pub answer : IsAnswerOf g lists hold n t aggressive p q old new
   pub elements : TellsElements g (last_state answer.first answer.states) nv e_len

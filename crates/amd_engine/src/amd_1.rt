@@ -1,5 +1,6 @@
-// The engine in place: the lists of the neighbours are laid in one workspace, whose words have 32 bits where that is wide enough, and the
-// rows are eliminated in it. Source: Amestoy, Davis and Duff 1996 and 2004. Called by `order` of the crate `amd`.
+// The engine in place: the lists of the neighbours are laid in one workspace, whose words have 32 bits where that is
+// wide enough, and the rows are eliminated in it. Source: Amestoy, Davis and Duff 1996 and 2004. Called by `order` of
+// the crate `amd`.
 
 ghost use Rattle.std.specs.Prelude.{◌≡◌, ◌<◌, ◌≤◌, ◌+◌, ◌^◌, ◌↔◌, IsTrue, pos, map, length, IfOk, IfErr, OnOk};
 ghost use Rattle.std.specs.Option.{option_copied};
@@ -16,10 +17,12 @@ use amd_workspace::laying::{Laid, lay};
 use num_traits::PrimInt;
 use std::alloc::Allocator;
 
-/// Whether words of these widths hold all numbers of an elimination of `n` rows in `iwlen` words from the flag `flag` on.
+/// Whether words of these widths hold all numbers of an elimination of `n` rows in `iwlen` words from the flag `flag`
+/// on.
 fn holds<S: Signed, U: Unsigned>(n: usize, iwlen: usize, flag: usize) -> bool
     requires { n < 2 ^ 63 }
-    ensures { IsTrue result ↔ ((n + 2 ≤ S.MOST) × (n + 2 ≤ U.MOST) × (iwlen ≤ S.MOST) × (iwlen ≤ U.MOST) × (flag ≤ U.MOST)) }
+    ensures { IsTrue result ↔ ((n + 2 ≤ S.MOST) × (n + 2 ≤ U.MOST) × (iwlen ≤ S.MOST) × (iwlen ≤ U.MOST) ×
+        (flag ≤ U.MOST)) }
 {
     n + 2 <= S::MOST && n + 2 <= U::MOST && iwlen <= S::MOST && iwlen <= U::MOST && flag <= U::MOST
 }
@@ -42,12 +45,17 @@ fn order_in<I: PrimInt, S: Signed, U: Unsigned, A: Allocator + Copy>(
     requires some { 0 < length len.now }
     requires form { IsColumnForm (pos (length len.now)) (length len.now) (map I.value a_p.now) (map I.value a_i.now) }
     requires sorted { IsSorted (length len.now) (map I.value a_p.now) (map I.value a_i.now) }
-    requires degrees { AreCounts (graph_of (length len.now) (map I.value a_p.now) (map I.value a_i.now)) ((graph_of (length len.now) (map I.value a_p.now) (map I.value a_i.now)).edge) len.now }
-    requires room { start_of (graph_of (length len.now) (map I.value a_p.now) (map I.value a_i.now)) (length len.now) + length len.now ≤ iwlen }
-    requires narrow { (length len.now + 2 ≤ S.MOST) × (length len.now + 2 ≤ U.MOST) × (iwlen ≤ S.MOST) × (iwlen ≤ U.MOST) }
+    requires degrees { AreCounts (graph_of (length len.now) (map I.value a_p.now) (map I.value a_i.now))
+        ((graph_of (length len.now) (map I.value a_p.now) (map I.value a_i.now)).edge) len.now }
+    requires room { start_of (graph_of (length len.now) (map I.value a_p.now) (map I.value a_i.now)) (length len.now)
+        + length len.now ≤ iwlen }
+    requires narrow { (length len.now + 2 ≤ S.MOST) × (length len.now + 2 ≤ U.MOST) × (iwlen ≤ S.MOST) ×
+        (iwlen ≤ U.MOST) }
     requires flag { 2 ≤ flag }
     requires marks { HasMarks (option_copied hold) (length len.now) }
-    ensures orders { IfOk result (λ a. IsEngineAnswer (option_copied hold.entry) (length len.now) control.now.dense control.now.aggressive (map I.value a_p.now) (map I.value a_i.now) (map I.value a.0.items) (map I.value a.1.items) info.old info.new) }
+    ensures orders { IfOk result (λ a. IsEngineAnswer (option_copied hold.entry) (length len.now) control.now.dense
+        control.now.aggressive (map I.value a_p.now) (map I.value a_i.now) (map I.value a.0.items)
+        (map I.value a.1.items) info.old info.new) }
     ensures compactions { OnOk result (info.new.n_cmp_a ≤ length len.now) }
     ensures refused { IfErr result (λ e. e ≡ Status.OutOfMemory) }
 {
@@ -89,11 +97,15 @@ pub fn amd_1_from<I: PrimInt, A: Allocator + Copy>(
     requires some { 0 < length len.old }
     requires form { IsColumnForm (pos (length len.old)) (length len.old) (map I.value a_p.now) (map I.value a_i.now) }
     requires sorted { IsSorted (length len.old) (map I.value a_p.now) (map I.value a_i.now) }
-    requires degrees { AreCounts (graph_of (length len.old) (map I.value a_p.now) (map I.value a_i.now)) ((graph_of (length len.old) (map I.value a_p.now) (map I.value a_i.now)).edge) len.old }
-    requires room { (start_of (graph_of (length len.old) (map I.value a_p.now) (map I.value a_i.now)) (length len.old) + length len.old ≤ iwlen) × (iwlen < 2 ^ 63) }
+    requires degrees { AreCounts (graph_of (length len.old) (map I.value a_p.now) (map I.value a_i.now))
+        ((graph_of (length len.old) (map I.value a_p.now) (map I.value a_i.now)).edge) len.old }
+    requires room { (start_of (graph_of (length len.old) (map I.value a_p.now) (map I.value a_i.now)) (length len.old)
+        + length len.old ≤ iwlen) × (iwlen < 2 ^ 63) }
     requires flag { 2 ≤ flag }
     requires marks { HasMarks (option_copied hold) (length len.old) }
-    ensures orders { IfOk result (λ a. IsEngineAnswer (option_copied hold.entry) (length len.old) control.now.dense control.now.aggressive (map I.value a_p.now) (map I.value a_i.now) (map I.value a.0.items) (map I.value a.1.items) info.old info.new) }
+    ensures orders { IfOk result (λ a. IsEngineAnswer (option_copied hold.entry) (length len.old) control.now.dense
+        control.now.aggressive (map I.value a_p.now) (map I.value a_i.now) (map I.value a.0.items)
+        (map I.value a.1.items) info.old info.new) }
     ensures compactions { OnOk result (info.new.n_cmp_a ≤ length len.old) }
     ensures refused { IfErr result (λ e. e ≡ Status.OutOfMemory) }
     ensures degrees { len.new ≡ len.old }
@@ -112,10 +124,10 @@ pub fn amd_1_from<I: PrimInt, A: Allocator + Copy>(
     Err(Status::OutOfMemory)
 }
 
-/// Orders the rows of a matrix with at least one row and sorted columns, whose rows have the degrees `len`, by elimination in a workspace of
-/// `iwlen` words, at least as many as the degrees add up to and one more for each row. The rows marked in `hold`, which has a mark for each
-/// row where it is given, are held last beside the dense ones. Writes of `info` the number of rows held last, the figures of the fronts, and
-/// how often the workspace was packed.
+/// Orders the rows of a matrix with at least one row and sorted columns, whose rows have the degrees `len`, by
+/// elimination in a workspace of `iwlen` words, at least as many as the degrees add up to and one more for each row.
+/// The rows marked in `hold`, which has a mark for each row where it is given, are held last beside the dense ones.
+/// Writes of `info` the number of rows held last, the figures of the fronts, and how often the workspace was packed.
 ///
 /// # Errors
 ///
@@ -136,10 +148,14 @@ pub fn amd_1<I: PrimInt, A: Allocator + Copy>(
     requires some { 0 < length len.old }
     requires form { IsColumnForm (pos (length len.old)) (length len.old) (map I.value a_p.now) (map I.value a_i.now) }
     requires sorted { IsSorted (length len.old) (map I.value a_p.now) (map I.value a_i.now) }
-    requires degrees { AreCounts (graph_of (length len.old) (map I.value a_p.now) (map I.value a_i.now)) ((graph_of (length len.old) (map I.value a_p.now) (map I.value a_i.now)).edge) len.old }
-    requires room { (start_of (graph_of (length len.old) (map I.value a_p.now) (map I.value a_i.now)) (length len.old) + length len.old ≤ iwlen) × (iwlen < 2 ^ 63) }
+    requires degrees { AreCounts (graph_of (length len.old) (map I.value a_p.now) (map I.value a_i.now))
+        ((graph_of (length len.old) (map I.value a_p.now) (map I.value a_i.now)).edge) len.old }
+    requires room { (start_of (graph_of (length len.old) (map I.value a_p.now) (map I.value a_i.now)) (length len.old)
+        + length len.old ≤ iwlen) × (iwlen < 2 ^ 63) }
     requires marks { HasMarks (option_copied hold) (length len.old) }
-    ensures orders { IfOk result (λ a. IsEngineAnswer (option_copied hold.entry) (length len.old) control.now.dense control.now.aggressive (map I.value a_p.now) (map I.value a_i.now) (map I.value a.0.items) (map I.value a.1.items) info.old info.new) }
+    ensures orders { IfOk result (λ a. IsEngineAnswer (option_copied hold.entry) (length len.old) control.now.dense
+        control.now.aggressive (map I.value a_p.now) (map I.value a_i.now) (map I.value a.0.items)
+        (map I.value a.1.items) info.old info.new) }
     ensures compactions { OnOk result (info.new.n_cmp_a ≤ length len.old) }
     ensures refused { IfErr result (λ e. e ≡ Status.OutOfMemory) }
     ensures degrees { len.new ≡ len.old }

@@ -1,5 +1,6 @@
-// The elimination of a workspace that is laid: its start, its rounds, and the listing at the end. All memory is asked for before the first
-// round. Source: Amestoy, Davis and Duff 1996 and 2004. Called by `amd_1`, which is handed `amd_2_from`; `amd_2` by tests.
+// The elimination of a workspace that is laid: its start, its rounds, and the listing at the end. All memory is asked
+// for before the first round. Source: Amestoy, Davis and Duff 1996 and 2004. Called by `amd_1`, which is handed
+// `amd_2_from`; `amd_2` by tests.
 
 ghost use Rattle.std.specs.Prelude.{◌≡◌, ◌<◌, ◌≤◌, ◌+◌, ◌^◌, ℕ, pos, List, map, length, IfOk, IfErr, OnOk};
 ghost use Rattle.std.specs.Option.{option_copied};
@@ -58,10 +59,13 @@ pub fn amd_2_from<I: PrimInt, S: Signed, U: Unsigned, A: Allocator + Copy>(
     requires laid { IsLaidOut (length len.old) iw.old pe.old len.old pfree }
     requires graph { (g : Graph) × (lists : ℕ → List ℕ) × LaysGraph g lists iw.old pe.old len.old }
     requires room { pfree + length len.old ≤ length iw.old }
-    requires narrow { (length iw.old ≤ S.MOST) × (length iw.old ≤ U.MOST) × (length len.old + 2 ≤ S.MOST) × (length len.old + 2 ≤ U.MOST) }
+    requires narrow { (length iw.old ≤ S.MOST) × (length iw.old ≤ U.MOST) × (length len.old + 2 ≤ S.MOST) ×
+        (length len.old + 2 ≤ U.MOST) }
     requires flag { 2 ≤ flag }
     requires marks { HasMarks (option_copied hold) (length len.old) }
-    ensures orders { IfOk result (λ a. (g : Graph) (lists : ℕ → List ℕ) → LaysGraph g lists iw.old pe.old len.old → AnswersInPlace g lists (option_copied hold.entry) (length len.old) control.now.dense control.now.aggressive (map I.value a.2.items) (map I.value a.1.items) a.0.items a.3.items info.old info.new) }
+    ensures orders { IfOk result (λ a. (g : Graph) (lists : ℕ → List ℕ) → LaysGraph g lists iw.old pe.old len.old →
+        AnswersInPlace g lists (option_copied hold.entry) (length len.old) control.now.dense control.now.aggressive
+        (map I.value a.2.items) (map I.value a.1.items) a.0.items a.3.items info.old info.new) }
     ensures compactions { OnOk result (info.new.n_cmp_a ≤ length len.old) }
     ensures refused { IfErr result (λ e. e ≡ Status.OutOfMemory) }
 {
@@ -105,9 +109,10 @@ pub fn amd_2_from<I: PrimInt, S: Signed, U: Unsigned, A: Allocator + Copy>(
     Ok((counts.nv, p_inv, p, counts.e_len))
 }
 
-/// Eliminates the rows of a workspace of `iwlen` words in which the lists of the neighbours are laid: that of row `i` has `len[i]` words from
-/// `pe[i]` on, and no list has a word from `pfree` on. Answers the number of rows of the block of each element, the inverse of the
-/// permutation, the permutation, and the number of rows of the front of each element, and -1 for what is none.
+/// Eliminates the rows of a workspace of `iwlen` words in which the lists of the neighbours are laid: that of row `i`
+/// has `len[i]` words from `pe[i]` on, and no list has a word from `pfree` on. Answers the number of rows of the block
+/// of each element, the inverse of the permutation, the permutation, and the number of rows of the front of each
+/// element, and -1 for what is none.
 ///
 /// # Errors
 ///
@@ -131,9 +136,12 @@ pub fn amd_2<I: PrimInt, S: Signed, U: Unsigned, A: Allocator + Copy>(
     requires laid { IsLaidOut (length len.old) iw.old pe.old len.old pfree }
     requires graph { (g : Graph) × (lists : ℕ → List ℕ) × LaysGraph g lists iw.old pe.old len.old }
     requires room { pfree + length len.old ≤ iwlen }
-    requires narrow { (iwlen ≤ S.MOST) × (iwlen ≤ U.MOST) × (length len.old + 2 ≤ S.MOST) × (length len.old + 2 ≤ U.MOST) }
+    requires narrow { (iwlen ≤ S.MOST) × (iwlen ≤ U.MOST) × (length len.old + 2 ≤ S.MOST) ×
+        (length len.old + 2 ≤ U.MOST) }
     requires marks { HasMarks (option_copied hold) (length len.old) }
-    ensures orders { IfOk result (λ a. (g : Graph) (lists : ℕ → List ℕ) → LaysGraph g lists iw.old pe.old len.old → AnswersInPlace g lists (option_copied hold.entry) (length len.old) control.now.dense control.now.aggressive (map I.value a.2.items) (map I.value a.1.items) a.0.items a.3.items info.old info.new) }
+    ensures orders { IfOk result (λ a. (g : Graph) (lists : ℕ → List ℕ) → LaysGraph g lists iw.old pe.old len.old →
+        AnswersInPlace g lists (option_copied hold.entry) (length len.old) control.now.dense control.now.aggressive
+        (map I.value a.2.items) (map I.value a.1.items) a.0.items a.3.items info.old info.new) }
     ensures compactions { OnOk result (info.new.n_cmp_a ≤ length len.old) }
     ensures refused { IfErr result (λ e. e ≡ Status.OutOfMemory) }
 {

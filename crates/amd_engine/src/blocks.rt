@@ -1,7 +1,10 @@
-// The listing at the end of an elimination: the assembly tree in postorder, of each block its other rows rising and then its pivot
-// row, and after all blocks the dense rows, rising. Source: Amestoy, Davis and Duff 2004. Called by `plain_1`.
+// The listing at the end of an elimination: the assembly tree in postorder, of each block its other rows rising and
+// then its pivot row, and after all blocks the dense rows, rising. Source: Amestoy, Davis and Duff 2004. Called by
+// `plain_1`.
 
-ghost use Rattle.std.specs.Prelude.{[], ◌≡◌, ◌^◌, ◌<◌, ◌==◌, ◌&&◌, ◌++◌, ◌∷◌, ℕ, Bool, List, None, Some, cond, flat_map, map, nat_eq, nat_lt, pos, slice_index, OnOk, false, is_none, not, filter, length, IfOk, IfErr};
+ghost use Rattle.std.specs.Prelude.{[], ◌≡◌, ◌^◌, ◌<◌, ◌==◌, ◌&&◌, ◌++◌, ◌∷◌, ℕ, Bool, List, None, Some, cond};
+ghost use Rattle.std.specs.Prelude.{flat_map, map, nat_eq, nat_lt, pos, slice_index, OnOk, false, is_none, not, filter};
+ghost use Rattle.std.specs.Prelude.{length, IfOk, IfErr};
 ghost use Rattle.amd_model.specs.Below.{list_below};
 ghost use Rattle.amd_model.specs.Graph.{Graph, IsGraph};
 ghost use Rattle.amd_model.specs.Input.Columns.{at};
@@ -76,7 +79,9 @@ fn rows_of_elements<A: Allocator + Copy>(
 ) -> Result<Vec<Vec<usize, A>, A>, AllocError>
     requires led { (home : ℕ → Home) × LinksLead link.old.items home × ((v : ℕ) → live_at (home v) ≡ false) }
     ensures size { IfOk result (λ rows. length rows.items ≡ length link.old.items) }
-    ensures rows { IfOk result (λ rows. (home : ℕ → Home) → LinksLead link.old.items home → ((v : ℕ) → live_at (home v) ≡ false) → (e : ℕ) → e < length link.old.items → list_at rows.items e ≡ list_below (length link.old.items) (λ v. block_at e (home v) && not (v == e))) }
+    ensures rows { IfOk result (λ rows. (home : ℕ → Home) → LinksLead link.old.items home →
+        ((v : ℕ) → live_at (home v) ≡ false) → (e : ℕ) → e < length link.old.items →
+        list_at rows.items e ≡ list_below (length link.old.items) (λ v. block_at e (home v) && not (v == e))) }
     ensures links { length link.new.items ≡ length link.old.items }
     ensures alone { (u : ℕ) → is_none (some_at link.new.items u) ≡ is_none (some_at link.old.items u) }
 {
@@ -125,7 +130,8 @@ fn of_elements<A: Allocator + Copy>(
     requires lengths { length numbers.now ≡ length block.now }
     requires fits { (e : ℕ) → 0 < num block.now e → num numbers.now e < 2 ^ 63 }
     ensures size { IfOk result (λ v. length v.items ≡ length block.now) }
-    ensures numbers { IfOk result (λ v. (e : ℕ) → e < length block.now → at v.items e ≡ pos (cond (nat_lt 0 (num block.now e)) (num numbers.now e) 0)) }
+    ensures numbers { IfOk result (λ v. (e : ℕ) → e < length block.now →
+        at v.items e ≡ pos (cond (nat_lt 0 (num block.now e)) (num numbers.now e) 0)) }
 {
     let mut sizes = Vec::with_capacity(alloc, block.len())?;
     'elements: for e in 0..block.len() {
@@ -140,8 +146,10 @@ fn by_place<A: Allocator + Copy>(
     alloc: A,
     places: &[isize],
 ) -> Result<Vec<Option<usize>, A>, AllocError>
-    requires listed { (t : Tree) × (o : IsPostorderOf t places.now) × ((k : ℕ) → k < length o.listing → slice_index o.listing k < t.size) }
-    ensures { IfOk result (λ v. (t : Tree) → (o : IsPostorderOf t places.now) → ((k : ℕ) → k < length o.listing → slice_index o.listing k < t.size) → IsByPlace t.size o.listing v.items) }
+    requires listed { (t : Tree) × (o : IsPostorderOf t places.now) ×
+        ((k : ℕ) → k < length o.listing → slice_index o.listing k < t.size) }
+    ensures { IfOk result (λ v. (t : Tree) → (o : IsPostorderOf t places.now) →
+        ((k : ℕ) → k < length o.listing → slice_index o.listing k < t.size) → IsByPlace t.size o.listing v.items) }
 {
     let mut elements = vec![in alloc; None; places.len()]?;
     'elements: for e in 0..places.len() {
@@ -192,7 +200,8 @@ fn add_last<A: Allocator>(
     block: &[usize],
 ) -> Result<(), AllocError>
     requires lengths { length block.now ≡ length link.now }
-    ensures { OnOk result (p.new.items ≡ p.old.items ++ list_below (length link.now) (λ v. is_none (some_at link.now v) && nat_eq (num block.now v) 0)) }
+    ensures { OnOk result (p.new.items ≡ p.old.items ++ list_below (length link.now)
+        (λ v. is_none (some_at link.now v) && nat_eq (num block.now v) 0)) }
 {
     'rows: for v in 0..link.len() {
         if link[v].is_none() && block[v] == 0 {
@@ -202,14 +211,16 @@ fn add_last<A: Allocator>(
     Ok(())
 }
 
-/// The listing of a run that has ended: the blocks of its tree in postorder, then the dense rows; each row once. Links of the
-/// record are shortened; what the record then holds is not said.
+/// The listing of a run that has ended: the blocks of its tree in postorder, then the dense rows; each row once. Links
+/// of the record are shortened; what the record then holds is not said.
 ///
 /// # Errors
 ///
 /// `OutOfMemory` for a refused request.
 pub fn listing<A: Allocator + Copy>(work: &mut Work<A>) -> Result<Vec<usize, A>, Status>
-    requires ended { (g : Graph) × (dense : ℕ → Bool) × (aggressive : Bool) × (first : State) × (states : List State) × (t : QuotientGraph) × IsGraph g × Run g dense aggressive first states × Stands g dense work.old t (last_state first states) }
+    requires ended { (g : Graph) × (dense : ℕ → Bool) × (aggressive : Bool) × (first : State) × (states : List State) ×
+        (t : QuotientGraph) × IsGraph g × Run g dense aggressive first states ×
+        Stands g dense work.old t (last_state first states) }
     ensures lists { IfOk result (λ p. ListsRun work.old p.items) }
     ensures refused { IfErr result (λ e. e ≡ Status.OutOfMemory) }
 {

@@ -1,4 +1,5 @@
-// The rows held last: those that a caller marks, and the dense ones. Source: the AMD user guide on dense rows. Called by `plain_1`.
+// The rows held last: those that a caller marks, and the dense ones. Source: the AMD user guide on dense rows. Called
+// by `plain_1`.
 
 ghost use Rattle.std.specs.Prelude.{◌≡◌, ◌<◌, ◌||◌, ℕ, nat_lt, length, IfOk};
 ghost use Rattle.std.specs.Option.{option_copied};
@@ -21,7 +22,8 @@ pub fn rows_held_last<A: Allocator + Copy>(
 ) -> Result<Vec<bool, A>, AllocError>
     requires marks { HasMarks (option_copied hold) (length degrees.now) }
     ensures size { IfOk result (λ v. length v.items ≡ length degrees.now) }
-    ensures rows { IfOk result (λ v. (i : ℕ) → i < length degrees.now → at v.items i ≡ (is_marked (option_copied hold.entry) i || nat_lt threshold (num degrees.now i))) }
+    ensures rows { IfOk result (λ v. (i : ℕ) → i < length degrees.now →
+        at v.items i ≡ (is_marked (option_copied hold.entry) i || nat_lt threshold (num degrees.now i))) }
 {
     let mut last = Vec::with_capacity(alloc, degrees.len())?;
     'rows: for i in 0..degrees.len() {

@@ -1,7 +1,7 @@
-// The plain engine: an elimination that keeps the lists of the quotient graph (for each class its elements and its variables, for
-// each element its members), and one list of classes for each bound. It is the second engine: `order` does not call it. Source:
-// Amestoy, Davis and Duff 1996 and 2004. Called by tests alone. The rounds under `plain_1` stand in the crate `amd_rounds` and are
-// handed on here.
+// The plain engine: an elimination that keeps the lists of the quotient graph (for each class its elements and its
+// variables, for each element its members), and one list of classes for each bound. It is the second engine: `order`
+// does not call it. Source: Amestoy, Davis and Duff 1996 and 2004. Called by tests alone. The rounds under `plain_1`
+// stand in the crate `amd_rounds` and are handed on here.
 
 ghost use Rattle.std.specs.Prelude.{◌≡◌, ◌<◌, pos, map, length, IfOk, IfErr, OnOk};
 ghost use Rattle.std.specs.Option.{option_copied};
@@ -22,9 +22,9 @@ use amd_rounds::start::start;
 use num_traits::PrimInt;
 use std::alloc::Allocator;
 
-/// Orders the rows of a matrix with at least one row and sorted columns, whose rows have the degrees `len`, by elimination. The rows
-/// marked in `hold`, which has a mark for each row where it is given, are held last beside the dense ones. Writes of `info` the
-/// number of rows held last and the figures of the fronts; there is no compaction.
+/// Orders the rows of a matrix with at least one row and sorted columns, whose rows have the degrees `len`, by
+/// elimination. The rows marked in `hold`, which has a mark for each row where it is given, are held last beside the
+/// dense ones. Writes of `info` the number of rows held last and the figures of the fronts; there is no compaction.
 ///
 /// # Errors
 ///
@@ -44,9 +44,12 @@ pub fn plain_1<I: PrimInt, A: Allocator + Copy>(
     requires some { 0 < length len.now }
     requires form { IsColumnForm (pos (length len.now)) (length len.now) (map I.value a_p.now) (map I.value a_i.now) }
     requires sorted { IsSorted (length len.now) (map I.value a_p.now) (map I.value a_i.now) }
-    requires degrees { AreCounts (graph_of (length len.now) (map I.value a_p.now) (map I.value a_i.now)) ((graph_of (length len.now) (map I.value a_p.now) (map I.value a_i.now)).edge) len.now }
+    requires degrees { AreCounts (graph_of (length len.now) (map I.value a_p.now) (map I.value a_i.now))
+        ((graph_of (length len.now) (map I.value a_p.now) (map I.value a_i.now)).edge) len.now }
     requires marks { HasMarks (option_copied hold) (length len.now) }
-    ensures orders { IfOk result (λ a. IsEngineAnswer (option_copied hold.entry) (length len.now) control.now.dense control.now.aggressive (map I.value a_p.now) (map I.value a_i.now) (map I.value a.0.items) (map I.value a.1.items) info.old info.new) }
+    ensures orders { IfOk result (λ a. IsEngineAnswer (option_copied hold.entry) (length len.now) control.now.dense
+        control.now.aggressive (map I.value a_p.now) (map I.value a_i.now) (map I.value a.0.items)
+        (map I.value a.1.items) info.old info.new) }
     ensures compactions { OnOk result (info.new.n_cmp_a ≡ 0) }
     ensures refused { IfErr result (λ e. e ≡ Status.OutOfMemory) }
 {

@@ -1,5 +1,5 @@
-// The run of the engine in place: its start, and its rounds until no row is live. It asks for no memory. Source: Amestoy, Davis and Duff
-// 1996 and 2004. Called by `amd_2`.
+// The run of the engine in place: its start, and its rounds until no row is live. It asks for no memory. Source:
+// Amestoy, Davis and Duff 1996 and 2004. Called by `amd_2`.
 
 ghost use Rattle.std.specs.Prelude.{◌≡◌, ◌<◌, ◌≤◌, ◌+◌, ℕ, Bool, List, length};
 ghost use Rattle.std.specs.Option.{option_copied};
@@ -65,11 +65,17 @@ fn run_rounds<S: Signed, U: Unsigned>(
 ) -> Told
     requires words { (length iw.old ≤ S.MOST) × (length nv.old + 2 ≤ S.MOST) }
     requires figures { (length iw.old ≤ U.MOST) × (length nv.old + 2 ≤ U.MOST) }
-    requires stands { (g : Graph) × (dense : ℕ → Bool) × (nzaat : ℕ) × (t : QuotientGraph) × (s : State) × Stands g dense nzaat (at_start iw.old pe.old e_len.old nv.old len.old degree.old w.old head.old next.old last.old hash.old free live flag n_dense) t s }
-    ensures ends { EndsIn control.now.aggressive (at_start iw.old pe.old e_len.old nv.old len.old degree.old w.old head.old next.old last.old hash.old free live flag n_dense) pe.new e_len.new nv.new degree.new result.n_dense result.figures }
+    requires stands { (g : Graph) × (dense : ℕ → Bool) × (nzaat : ℕ) × (t : QuotientGraph) × (s : State) ×
+        Stands g dense nzaat (at_start iw.old pe.old e_len.old nv.old len.old degree.old w.old head.old next.old
+        last.old hash.old free live flag n_dense) t s }
+    ensures ends { EndsIn control.now.aggressive (at_start iw.old pe.old e_len.old nv.old len.old degree.old w.old
+        head.old next.old last.old hash.old free live flag n_dense) pe.new e_len.new nv.new degree.new result.n_dense
+        result.figures }
     ensures packs { result.n_cmp_a ≤ length nv.old }
-    ensures words { (length pe.new ≡ length pe.old) × (length e_len.new ≡ length e_len.old) × (length nv.new ≡ length nv.old) × (length degree.new ≡ length degree.old) }
-    ensures links { (length head.new ≡ length head.old) × (length next.new ≡ length next.old) × (length last.new ≡ length last.old) × (length hash.new ≡ length hash.old) }
+    ensures words { (length pe.new ≡ length pe.old) × (length e_len.new ≡ length e_len.old) ×
+        (length nv.new ≡ length nv.old) × (length degree.new ≡ length degree.old) }
+    ensures links { (length head.new ≡ length head.old) × (length next.new ≡ length next.old) ×
+        (length last.new ≡ length last.old) × (length hash.new ≡ length hash.old) }
 {
     let mut work = Work {
         iw,
@@ -100,8 +106,8 @@ fn run_rounds<S: Signed, U: Unsigned>(
     }
 }
 
-/// Starts the elimination of a workspace that is laid, and eliminates until no row is live. The rows marked in `hold` and those of a degree
-/// above the threshold are held last.
+/// Starts the elimination of a workspace that is laid, and eliminates until no row is live. The rows marked in `hold`
+/// and those of a degree above the threshold are held last.
 pub fn run<S: Signed, U: Unsigned>(
     iw: &mut [Word<S>],
     pe: &mut [Word<S>],
@@ -120,20 +126,27 @@ pub fn run<S: Signed, U: Unsigned>(
     hold: Option<&[bool]>,
     threshold: usize,
 ) -> Told
-    requires words { (length pe.old ≡ length len.old) × (length e_len.old ≡ length len.old) × (length nv.old ≡ length len.old) }
+    requires words { (length pe.old ≡ length len.old) × (length e_len.old ≡ length len.old) ×
+        (length nv.old ≡ length len.old) }
     requires figures { (length degree.old ≡ length len.old) × (length w.old ≡ length len.old) }
-    requires links { (length head.old ≡ length len.old) × (length next.old ≡ length len.old) × (length last.old ≡ length len.old) × (length hash.old ≡ length len.old) }
-    requires narrow { (length iw.old ≤ S.MOST) × (length iw.old ≤ U.MOST) × (length len.old + 2 ≤ S.MOST) × (length len.old + 2 ≤ U.MOST) }
-    requires heads { (b : ℕ) → b < length len.old → (length len.old ≤ num head.old b) × (length len.old ≤ num hash.old b) }
+    requires links { (length head.old ≡ length len.old) × (length next.old ≡ length len.old) ×
+        (length last.old ≡ length len.old) × (length hash.old ≡ length len.old) }
+    requires narrow { (length iw.old ≤ S.MOST) × (length iw.old ≤ U.MOST) × (length len.old + 2 ≤ S.MOST) ×
+        (length len.old + 2 ≤ U.MOST) }
+    requires heads { (b : ℕ) → b < length len.old → (length len.old ≤ num head.old b) ×
+        (length len.old ≤ num hash.old b) }
     requires marks { HasMarks (option_copied hold) (length len.old) }
     requires laid { IsLaidOut (length len.old) iw.old pe.old len.old free }
     requires room { free + length len.old ≤ length iw.old }
     requires flag { 2 ≤ flag }
     requires graph { (g : Graph) × (lists : ℕ → List ℕ) × LaysGraph g lists iw.old pe.old len.old }
-    ensures runs { RunsInPlace (option_copied hold.entry) threshold control.now.aggressive iw.old pe.old len.old result.n_dense result.figures pe.new e_len.new nv.new degree.new }
+    ensures runs { RunsInPlace (option_copied hold.entry) threshold control.now.aggressive iw.old pe.old len.old
+        result.n_dense result.figures pe.new e_len.new nv.new degree.new }
     ensures packs { result.n_cmp_a ≤ length len.old }
-    ensures lengths { (length pe.new ≡ length len.old) × (length e_len.new ≡ length len.old) × (length nv.new ≡ length len.old) × (length degree.new ≡ length len.old) }
-    ensures links { (length head.new ≡ length len.old) × (length next.new ≡ length len.old) × (length last.new ≡ length len.old) × (length hash.new ≡ length len.old) }
+    ensures lengths { (length pe.new ≡ length len.old) × (length e_len.new ≡ length len.old) ×
+        (length nv.new ≡ length len.old) × (length degree.new ≡ length len.old) }
+    ensures links { (length head.new ≡ length len.old) × (length next.new ≡ length len.old) ×
+        (length last.new ≡ length len.old) × (length hash.new ≡ length len.old) }
 {
     let (live, n_dense) = begin(
         pe, e_len, nv, len, degree, w, head, next, last, hold, threshold,

@@ -1,6 +1,7 @@
--- What a row meets on its climbs up the elimination tree, and what a pass has done for the columns that it met. Source: Liu 1986, 1990;
--- Davis 2005 (LDL).
-use Rattle.std.specs.Prelude.{ℕ, ◌≡◌, ◌≢◌, ◌<◌, ◌≤◌, ◌+◌, ◌==◌, ◌⊎◌, cond, List, Option, None, Some, length, slice_index, slice_index_or}
+-- What a row meets on its climbs up the elimination tree, and what a pass has done for the columns that it met. Source:
+-- Liu 1986, 1990; Davis 2005 (LDL).
+use Rattle.std.specs.Prelude.{ℕ, ◌≡◌, ◌≢◌, ◌<◌, ◌≤◌, ◌+◌, ◌==◌, ◌⊎◌, cond, List, Option, None, Some, length}
+use Rattle.std.specs.Prelude.{slice_index, slice_index_or}
 use Rattle.amd_model.specs.Below.{count_below}
 use Rattle.amd_factor.specs.Earlier.{Order}
 use Rattle.amd_factor.specs.Trees.{Entry, IsParent, InSubtree}
@@ -10,8 +11,9 @@ use Rattle.amd_factor.specs.Walks.{TellsParent, CountsEntry}
 abbrev pub IsMet : List ℕ → ℕ → ℕ → Type 0
 IsMet mark j m = slice_index mark m ≡ j + 1
 
--- what row j has met is in its subtree, with all that stands over it, but for what a climb that has come to place k is to meet; k is j
--- where no climb is under way; and the parents are those that the rows before j and the columns met tell
+-- what row j has met is in its subtree, with all that stands over it, but for what a climb that has come to place k is
+-- to meet; k is j where no climb is under way; and the parents are those that the rows before j and the columns met
+-- tell
 pub record Meets (o : Order) (j k : ℕ) (parent : List (Option ℕ)) (mark : List ℕ) : Type 0 where
   pub parent_room : length parent ≡ length o.rows
   pub mark_room : length mark ≡ length o.rows
@@ -22,7 +24,8 @@ pub record Meets (o : Order) (j k : ℕ) (parent : List (Option ℕ)) (mark : Li
   pub sound : (m : ℕ) → m < j → IsMet mark j m → InSubtree o.graph o.rows j m
   pub known : (m : ℕ) → m < j → IsMet mark j m →
       (q : ℕ) × (slice_index_or parent m None ≡ Some q) × IsParent o.graph o.rows m q × (IsMet mark j q ⊎ (q ≡ k))
-  pub others : (m : ℕ) → m < length o.rows → (m < j → IsMet mark j m → ⊥) → TellsParent o j m (slice_index_or parent m None)
+  pub others : (m : ℕ) → m < length o.rows → (m < j → IsMet mark j m → ⊥) →
+      TellsParent o j m (slice_index_or parent m None)
 
 -- how many columns row j has met
 abbrev pub met_columns : List ℕ → ℕ → ℕ
@@ -42,9 +45,11 @@ pub record Layout : Type 0 where
   pub order : Order
   pub begins : List ℕ
 
--- the entries of each column in as many rows as it has seen stand from its beginning on, and next says where the one behind them goes
+-- the entries of each column in as many rows as it has seen stand from its beginning on, and next says where the one
+-- behind them goes
 pub record WriteSeen (l : Layout) (seen : ℕ → ℕ) (next rows : List ℕ) : Type 0 where
   pub room : length next ≡ length l.order.rows
-  pub next_is : (k c : ℕ) → k < length l.order.rows → CountsEntry l.order (seen k) k c → slice_index next k ≡ slice_index l.begins k + c
+  pub next_is : (k c : ℕ) → k < length l.order.rows → CountsEntry l.order (seen k) k c →
+      slice_index next k ≡ slice_index l.begins k + c
   pub entries : (k m c : ℕ) → m < seen k → Entry l.order.graph l.order.rows k m → CountsEntry l.order m k c →
       slice_index rows (slice_index l.begins k + c) ≡ m

@@ -1,5 +1,6 @@
 -- The columns of a factor in vectors, one after another.
-use Rattle.std.specs.Prelude.{ℕ, ◌≡◌, ◌<◌, ◌+◌, List, [], ◌∷◌, Option, None, Some, map, length, slice_index, slice_index_or, slice_range}
+use Rattle.std.specs.Prelude.{ℕ, ◌≡◌, ◌<◌, ◌+◌, List, [], ◌∷◌, Option, None, Some, map, length, slice_index}
+use Rattle.std.specs.Prelude.{slice_index_or, slice_range}
 use Rattle.amd_model.specs.Factor.{IsFactor, needed}
 use Rattle.amd_model.specs.Figures.{entries}
 use Rattle.amd_model.specs.Graph.{Graph}
@@ -9,14 +10,16 @@ abbrev pub first_of : List ℕ → Option ℕ
 first_of [] = None
 first_of (j ∷ rest) = Some j
 
--- the entries of column k stand in rows from place ptr[k] on, before ptr[k + 1], and nothing else stands there; the parent of a column
--- is its first entry
+-- the entries of column k stand in rows from place ptr[k] on, before ptr[k + 1], and nothing else stands there; the
+-- parent of a column is its first entry
 pub record HoldColumns (columns : List (List ℕ)) (ptr rows : List ℕ) (parent : List (Option ℕ)) : Type 0 where
   pub pointers : length ptr ≡ length columns + 1
   pub first : slice_index ptr 0 ≡ 0
-  pub ends : (k : ℕ) (d : List ℕ) → k < length columns → slice_index ptr (k + 1) ≡ slice_index ptr k + length (slice_index_or columns k d)
+  pub ends : (k : ℕ) (d : List ℕ) → k < length columns → slice_index ptr (k + 1) ≡ slice_index ptr k
+      + length (slice_index_or columns k d)
   pub total : slice_index ptr (length columns) ≡ length rows
-  pub each : (k : ℕ) (d : List ℕ) → k < length columns → slice_range rows (slice_index ptr k) (slice_index ptr (k + 1)) ≡ slice_index_or
+  pub each : (k : ℕ) (d : List ℕ) → k < length columns →
+      slice_range rows (slice_index ptr k) (slice_index ptr (k + 1)) ≡ slice_index_or
       columns k d
   pub parents : parent ≡ map first_of columns
 

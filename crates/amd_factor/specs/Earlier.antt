@@ -1,6 +1,7 @@
 -- An order of the rows of a graph, and the earlier neighbours of each place in it, in lists one after another.
 -- The lists are made in amd_earlier, and read here.
-use Rattle.std.specs.Prelude.{ℕ, ℤ, pos, true, ◌≡◌, ◌<◌, ◌≤◌, ◌↔◌, ◌+◌, List, Contains, map, length, slice_index, slice_range}
+use Rattle.std.specs.Prelude.{ℕ, ℤ, pos, true, ◌≡◌, ◌<◌, ◌≤◌, ◌↔◌, ◌+◌, List, Contains, map, length, slice_index}
+use Rattle.std.specs.Prelude.{slice_range}
 use Rattle.amd_model.specs.Graph.{Graph}
 use Rattle.amd_model.specs.Listing.{ListsEachRow}
 
@@ -16,11 +17,13 @@ pub record Permutes (n : ℕ) (p : List ℤ) (rows : List ℕ) : Type 0 where
 
 -- the list names the earlier neighbours of place j, each at least once, and nothing else
 abbrev pub AreEarlier : Order → ℕ → List ℕ → Type 0
-AreEarlier o j earlier = (i : ℕ) → Contains earlier i ↔ ((i < j) × (o.graph.edge (slice_index o.rows i) (slice_index o.rows j) ≡ true))
+AreEarlier o j earlier = (i : ℕ) → Contains earlier i ↔
+    ((i < j) × (o.graph.edge (slice_index o.rows i) (slice_index o.rows j) ≡ true))
 
 -- the earlier neighbours of place j stand in the list from place starts[j] on, before starts[j + 1]
 pub record HasEarlier (o : Order) (starts earlier : List ℕ) : Type 0 where
   pub room : length starts ≡ length o.rows + 1
   pub ascending : (j : ℕ) → j < length o.rows → slice_index starts j ≤ slice_index starts (j + 1)
   pub within : (j : ℕ) → j < length o.rows → slice_index starts (j + 1) ≤ length earlier
-  pub each : (j : ℕ) → j < length o.rows → AreEarlier o j (slice_range earlier (slice_index starts j) (slice_index starts (j + 1)))
+  pub each : (j : ℕ) → j < length o.rows → AreEarlier o j
+      (slice_range earlier (slice_index starts j) (slice_index starts (j + 1)))

@@ -1,10 +1,12 @@
 -- What a pass over the rows reads and writes. Source: Liu 1986, 1990; Davis 2005 (LDL).
-use Rattle.std.specs.Prelude.{ℕ, Bool, true, ◌≡◌, ◌<◌, ◌≤◌, ◌↔◌, ◌+◌, List, Option, None, Some, length, slice_index, slice_index_or}
+use Rattle.std.specs.Prelude.{ℕ, Bool, true, ◌≡◌, ◌<◌, ◌≤◌, ◌↔◌, ◌+◌, List, Option, None, Some, length, slice_index}
+use Rattle.std.specs.Prelude.{slice_index_or}
 use Rattle.amd_model.specs.Below.{count_below, sum_below}
 use Rattle.amd_factor.specs.Earlier.{Order}
 use Rattle.amd_factor.specs.Trees.{Entry, IsParent}
 
--- what the rows before place j tell of the parent of place k: it has no entry before j, or this parent, which may lie behind j
+-- what the rows before place j tell of the parent of place k: it has no entry before j, or this parent, which may lie
+-- behind j
 abbrev pub TellsParent : Order → ℕ → ℕ → Option ℕ → Type 0
 TellsParent o j k None = (m : ℕ) → m < j → Entry o.graph o.rows k m → ⊥
 TellsParent o j k (Some parent) = IsParent o.graph o.rows k parent
@@ -32,11 +34,13 @@ pub record CountEntries (o : Order) (j : ℕ) (counts : List ℕ) : Type 0 where
 
 -- there are that many entries in all
 abbrev pub TotalOf : Order → ℕ → Type 0
-TotalOf o total = (f : ℕ → ℕ) → ((k : ℕ) → k < length o.rows → CountsEntry o (length o.rows) k (f k)) → sum_below (length o.rows) f ≡ total
+TotalOf o total = (f : ℕ → ℕ) → ((k : ℕ) → k < length o.rows → CountsEntry o (length o.rows) k (f k)) →
+    sum_below (length o.rows) f ≡ total
 
 -- there are more entries than that in all
 abbrev pub MoreThan : Order → ℕ → Type 0
-MoreThan o room = (f : ℕ → ℕ) → ((k : ℕ) → k < length o.rows → CountsEntry o (length o.rows) k (f k)) → room < sum_below (length o.rows) f
+MoreThan o room = (f : ℕ → ℕ) → ((k : ℕ) → k < length o.rows → CountsEntry o (length o.rows) k (f k)) →
+    room < sum_below (length o.rows) f
 
 -- column k begins behind the entries of those before it, and there is room for all
 pub record BeginColumns (o : Order) (begins : List ℕ) (room : ℕ) : Type 0 where

@@ -1,4 +1,5 @@
-// The climb of a row up the elimination tree: from an earlier neighbour on, to a column that the row has met. Source: Liu 1986,
+// The climb of a row up the elimination tree: from an earlier neighbour on, to a column that the row has met. Source:
+// Liu 1986,
 // 1990. Called by `counts` and `entries`, where each column on the way gets what the pass is for.
 
 ghost use Rattle.std.specs.Prelude.{ℕ, ◌≡◌, ◌≢◌, ◌<◌, ◌+◌, length, slice_index};
@@ -6,8 +7,8 @@ ghost use Rattle.amd_model.specs.Graph.{IsGraph};
 ghost use Rattle.amd_factor.specs.Earlier.{Order};
 ghost use Rattle.amd_factor.specs.Climbs.{IsMet, Meets};
 
-/// Marks column `k` as met by row `j`, and answers the next one on the way: its parent, which is `j` where the rows before tell
-/// none.
+/// Marks column `k` as met by row `j`, and answers the next one on the way: its parent, which is `j` where the rows
+/// before tell none.
 pub fn meet(k: usize, j: usize, parent: &mut [Option<usize>], mark: &mut [usize]) -> usize
     ghost o: { Order }
     requires laws { IsGraph o.graph }

@@ -1,4 +1,5 @@
-// How many entries each column has, and the parents: the first pass over the rows. Source: Liu 1986, 1990. Called by `fill`.
+// How many entries each column has, and the parents: the first pass over the rows. Source: Liu 1986, 1990. Called by
+// `fill`.
 
 ghost use Rattle.std.specs.Prelude.{ℕ, ◌≡◌, ◌<◌, ◌≤◌, ◌+◌, true, length, slice_index, MatchOption};
 ghost use Rattle.amd_model.specs.Below.{sum_below};
@@ -9,8 +10,8 @@ ghost use Rattle.amd_factor.specs.Walks.{TellParents, MarksBefore, CountEntries,
 
 use crate::climb::meet;
 
-/// Climbs from the earlier neighbour `i` of row `j`, and adds 1 to the count of each column that the row meets on the way. The
-/// answer is their number.
+/// Climbs from the earlier neighbour `i` of row `j`, and adds 1 to the count of each column that the row meets on the
+/// way. The answer is their number.
 fn count_climb(
     i: usize,
     j: usize,
@@ -30,7 +31,8 @@ fn count_climb(
     ensures kept { (m : ℕ) → IsMet mark.old j m → IsMet mark.new j m }
     ensures counts { CountSeen o (rows_seen mark.new j) counts.new }
     ensures columns { met_columns mark.new j ≡ met_columns mark.old j + result }
-    ensures sum { sum_below (length o.rows) (λ k. slice_index counts.new k) ≡ sum_below (length o.rows) (λ k. slice_index counts.old k) + result }
+    ensures sum { sum_below (length o.rows) (λ k. slice_index counts.new k) ≡ sum_below (length o.rows)
+        (λ k. slice_index counts.old k) + result }
 {
     let mut k = i;
     let mut columns = 0;
@@ -62,7 +64,8 @@ fn count_row(
     ensures parents { TellParents o (j + 1) parent.new }
     ensures marks { MarksBefore o (j + 1) mark.new }
     ensures counts { CountEntries o (j + 1) counts.new }
-    ensures sum { sum_below (length o.rows) (λ k. slice_index counts.new k) ≡ sum_below (length o.rows) (λ k. slice_index counts.old k) + result }
+    ensures sum { sum_below (length o.rows) (λ k. slice_index counts.new k) ≡ sum_below (length o.rows)
+        (λ k. slice_index counts.old k) + result }
 {
     mark[j] = j + 1;
     let mut columns = 0;

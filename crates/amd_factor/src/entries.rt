@@ -1,5 +1,5 @@
-// The entries of the columns: the second pass over the rows. Rows are taken rising, and each is appended to its columns on the
-// climb, so each column comes out rising without a sort. Source: Davis 2005 (LDL). Called by `fill`.
+// The entries of the columns: the second pass over the rows. Rows are taken rising, and each is appended to its columns
+// on the climb, so each column comes out rising without a sort. Source: Davis 2005 (LDL). Called by `fill`.
 
 ghost use Rattle.std.specs.Prelude.{ℕ, ◌≡◌, ◌<◌, ◌+◌, true, length, slice_index};
 ghost use Rattle.amd_model.specs.Graph.{IsGraph};
@@ -9,8 +9,8 @@ ghost use Rattle.amd_factor.specs.Walks.{TellParents, MarksBefore, BeginColumns,
 
 use crate::climb::meet;
 
-/// Climbs from the earlier neighbour `i` of row `j`, and writes the entry `j` behind those of each column that the row meets on
-/// the way.
+/// Climbs from the earlier neighbour `i` of row `j`, and writes the entry `j` behind those of each column that the row
+/// meets on the way.
 fn write_climb(
     i: usize,
     j: usize,

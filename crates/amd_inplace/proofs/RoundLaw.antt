@@ -14,7 +14,7 @@ use Rattle.amd_model.proofs.Counting.Below.{clash}
 use Rattle.amd_model.proofs.Listings.Words.{has_filter as filter_gives}
 use Rattle.amd_numbers.specs.declared.figures.Figures.{Figures}
 use Rattle.amd_views.specs.Keeps as views
-use Rattle.amd_views.specs.Rounds.{Absorbed, bound_after}
+use Rattle.amd_views.specs.Rounds.{Absorbed, new_bound}
 use Rattle.amd_views.proofs.Lists.Named.{sum_named}
 use Rattle.amd_views.proofs.Rounding.{Rounding}
 use Rattle.amd_places.specs.Words.{num, word, place, start, size_of, in_front, flip_of, rows}
@@ -185,7 +185,7 @@ module _ {g : Graph} {dense : ℕ → Bool} {nzaat : ℕ} {aggressive : Bool} {p
         ∙ ap (λ m. min (num p.degree i) (cut (sum_by beyond ((kept_lists r).elements i) + m)))
         (sum_named (size_of r.p2.nv) (size_of v.nv) ((kept_lists r).variables i) share_stays)
 
-    bound_now : num v.degree i ≡ bound_after (r.total - r.gone) v.live (kept_lists r) beyond (size_of v.nv) (num p.degree) i
+    bound_now : num v.degree i ≡ new_bound (r.total - r.gone) v.live (kept_lists r) beyond (size_of v.nv) (num p.degree) i
     bound_now = degree_made
         ∙ ap (λ m. min (num p4.degree i + ((r.total - r.gone) - m)) (p4.live - m)) (sym (ended.restores.sizes i))
         ∙ ap (λ m. min (num p4.degree i + ((r.total - r.gone) - size_of v.nv i)) (m - size_of v.nv i))

@@ -15,20 +15,24 @@ use Rattle.amd_inplace.specs.Laid.{IsLaid}
 abbrev pub by_bound : QuotientGraph → ℕ → List ℕ
 by_bound t b = reverse (filter (λ i. t.bound i == b) t.placed)
 
--- the workspace keeps the lists t, which stand for the sound state s of an elimination of the graph, in nzaat words at most
-pub record Stands (g : Graph) (dense : ℕ → Bool) (nzaat : ℕ) (p : Workspace) (t : QuotientGraph) (s : State) : Type 0 where
-  pub view : views.Stands g dense (view_of p) t s
-  pub laid : IsLaid g.size nzaat p
-  pub linked : DegreeLists g.size p.head p.next p.last p.degree (by_bound t)
+-- the workspace keeps the lists t, which stand for the sound state s of an elimination of the graph, in nzaat words at
+-- most
+pub record Stands (g : Graph) (dense : ℕ → Bool) (nzaat : ℕ) (p : Workspace) (t : QuotientGraph) (s : State) : Type 0
+  where
+    pub view : views.Stands g dense (view_of p) t s
+    pub laid : IsLaid g.size nzaat p
+    pub linked : DegreeLists g.size p.head p.next p.last p.degree (by_bound t)
 
 -- an element holds the pivot, and its front has more classes than there are words from the free end on
 abbrev pub is_packed : Workspace → QuotientGraph → ℕ → Bool
 is_packed p t c = not (is_empty (t.elements c)) && nat_lt (length p.iw) (p.free + length (gathered t c))
 
--- whatever lists and state the old workspace stands for, the new one stands for the lists of the next round, and for a state that the
--- step with the pivot of the rules leads to, with no more words; and the lists were packed exactly where they had to be
+-- whatever lists and state the old workspace stands for, the new one stands for the lists of the next round, and for a
+-- state that the step with the pivot of the rules leads to, with no more words; and the lists were packed exactly where
+-- they had to be
 abbrev pub IsRound : Bool → Workspace → Workspace → Type 0
-IsRound aggressive old new = (g : Graph) (dense : ℕ → Bool) (nzaat : ℕ) (t : QuotientGraph) (s : State) → Stands g dense nzaat old t s →
+IsRound aggressive old new = (g : Graph) (dense : ℕ → Bool) (nzaat : ℕ) (t : QuotientGraph) (s : State) →
+    Stands g dense nzaat old t s →
     (is_empty t.placed ≡ false) × ((u : State) × StepAt g aggressive (pivot t.bound t.placed) s u
     × Stands g dense nzaat new (next aggressive t) u)
     × (new.n_cmp_a ≡ old.n_cmp_a + cond (is_packed old t (pivot t.bound t.placed)) 1 0)
@@ -37,9 +41,11 @@ IsRound aggressive old new = (g : Graph) (dense : ℕ → Bool) (nzaat : ℕ) (t
 abbrev pub AreRounds : Bool → Workspace → Workspace → Type 0
 AreRounds aggressive old new = (g : Graph) (dense : ℕ → Bool) (nzaat : ℕ) (t : QuotientGraph) (s : State) →
     Stands g dense nzaat old t s →
-    (u : QuotientGraph) × ((states : List State) × Follows g aggressive t s states u × Stands g dense nzaat new u (last_state s states))
+    (u : QuotientGraph) × ((states : List State) × Follows g aggressive t s states u ×
+    Stands g dense nzaat new u (last_state s states))
 
 -- no row is live in any state that the workspace stands for
 abbrev pub NoRowIsLive : Workspace → Type 0
-NoRowIsLive p = (g : Graph) (dense : ℕ → Bool) (nzaat : ℕ) (t : QuotientGraph) (s : State) → Stands g dense nzaat p t s →
+NoRowIsLive p = (g : Graph) (dense : ℕ → Bool) (nzaat : ℕ) (t : QuotientGraph) (s : State) →
+    Stands g dense nzaat p t s →
     (v : ℕ) → live s v ≡ false

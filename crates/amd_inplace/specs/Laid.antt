@@ -23,8 +23,8 @@ abbrev pub IsNarrow : ℕ → ℕ → ℕ → Workspace → Type 0
 IsNarrow most_word most_figure n p = (length p.iw ≤ most_word) × (length p.iw ≤ most_figure) × (n + 2 ≤ most_word)
     × (n + 2 ≤ most_figure)
 
--- the lists of n rows have no more than nzaat words; each class and what it lists as elements have a list; counters are below the flag,
--- and above 0 for what has a list; buckets are empty, and nothing is marked
+-- the lists of n rows have no more than nzaat words; each class and what it lists as elements have a list; counters are
+-- below the flag, and above 0 for what has a list; buckets are empty, and nothing is marked
 pub record IsLaid (n nzaat : ℕ) (p : Workspace) : Type 0 where
   pub sized : IsSized n p
   pub room : nzaat + n ≤ length p.iw
@@ -33,7 +33,8 @@ pub record IsLaid (n nzaat : ℕ) (p : Workspace) : Type 0 where
   pub words : live_words n p.pe p.len ≤ nzaat
   pub clear : (j : ℕ) → in_front p.nv j ≡ false
   pub classes : (i : ℕ) → 0 < size_of p.nv i → (has_list p.pe p.len i ≡ true) × (is_place (word p.e_len i) ≡ true)
-  pub elements : (i e : ℕ) → 0 < size_of p.nv i → has (elements_in p.iw p.pe p.e_len i) e ≡ true → has_list p.pe p.len e ≡ true
+  pub elements : (i e : ℕ) → 0 < size_of p.nv i → has (elements_in p.iw p.pe p.e_len i) e ≡ true →
+      has_list p.pe p.len e ≡ true
   -- no row has a bound or a border above n, and no standing element a border above the greatest so far
   pub degrees : (j : ℕ) → num p.degree j ≤ n
   pub borders : (e : ℕ) → is_place (word p.e_len e) ≡ false → has_list p.pe p.len e ≡ true → num p.degree e ≤ p.most

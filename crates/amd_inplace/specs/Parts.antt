@@ -1,5 +1,6 @@
 -- What the parts of a round do to a workspace, each between the workspace before and after it.
-use Rattle.std.specs.Prelude.{ℕ, Bool, true, false, List, ◌≡◌, ◌<◌, ◌≤◌, ◌+◌, ◌-◌, ◌==◌, ◌&&◌, not, cond, max, nat_lt, length, filter}
+use Rattle.std.specs.Prelude.{ℕ, Bool, true, false, List, ◌≡◌, ◌<◌, ◌≤◌, ◌+◌, ◌-◌, ◌==◌, ◌&&◌, not, cond, max, nat_lt}
+use Rattle.std.specs.Prelude.{length, filter}
 use Rattle.std.specs.Prelude.{sum_by, slice_set}
 use Rattle.amd_model.specs.Figures.{cut, front_sum, entries, ldl_steps, lu_steps}
 use Rattle.amd_model.specs.Quotient.{has}
@@ -31,31 +32,43 @@ pub record Picks (n me : ℕ) (p v : Workspace) : Type 0 where
   pub sized : IsSized n v
   pub same : v ≡ record p { head = v.head; next = v.next; last = v.last; least = v.least }
 
--- the pivot me is an element, behind all lists if it listed elements, which it absorbs; `block` and `total` are its number of rows and
--- that of its front
+-- the pivot me is an element, behind all lists if it listed elements, which it absorbs; `block` and `total` are its
+-- number of rows and that of its front
 pub record BeginsElement (n me block total : ℕ) (is_built : Bool) (p v : Workspace) : Type 0 where
   pub front : List ℕ
   pub front_is : front ≡ front_of p.iw p.nv p.pe p.len me (place (word p.e_len me))
-  pub begins : Begins n me (elements_in p.iw p.pe p.e_len me) front total p.iw p.nv p.pe p.e_len p.len v.iw v.nv v.pe v.e_len v.len v.free
+  pub begins : Begins n me (elements_in p.iw p.pe p.e_len me) front total p.iw p.nv p.pe p.e_len p.len v.iw v.nv v.pe
+      v.e_len v.len v.free
   pub counters : (e : ℕ) → num v.w e ≡ cond (has (elements_in p.iw p.pe p.e_len me) e) 0 (num p.w e)
   pub built_is : is_built ≡ nat_lt 0 (place (word p.e_len me))
-  pub before : is_built ≡ true → (j : ℕ) → (j ≡ me → ⊥) → has_list v.pe v.len j ≡ true → end_of v.pe v.len j ≤ start v.pe me
+  pub before : is_built ≡ true → (j : ℕ) → (j ≡ me → ⊥) → has_list v.pe v.len j ≡ true →
+      end_of v.pe v.len j ≤ start v.pe me
   pub total_is : total ≡ sum_by (size_of p.nv) front
   pub block_is : block ≡ size_of p.nv me
   pub end : v.free ≤ length v.iw
   pub packed : v.n_cmp_a ≡ p.n_cmp_a + cond (is_built && nat_lt (length p.iw) (p.free + length front)) 1 0
   pub sized : IsSized n v
-  pub same : v ≡ record p { iw = v.iw; nv = v.nv; pe = v.pe; e_len = v.e_len; len = v.len; w = v.w; free = v.free; n_cmp_a = v.n_cmp_a }
+  pub same : v ≡ record p {
+    iw = v.iw;
+    nv = v.nv;
+    pe = v.pe;
+    e_len = v.e_len;
+    len = v.len;
+    w = v.w;
+    free = v.free;
+    n_cmp_a = v.n_cmp_a;
+  }
 
--- the classes of the front of me were turned over to it, with counters that first may have been set anew; all counters come to at most
--- most_figure
+-- the classes of the front of me were turned over to it, with counters that first may have been set anew; all counters
+-- come to at most most_figure
 pub record TurnsOver (aggressive : Bool) (n me gone most_figure : ℕ) (p v : Workspace) : Type 0 where
   pub first : List ℕ
   pub zeros : (e : ℕ) → (num first e == 0) ≡ (num p.w e == 0)
   pub under : (e : ℕ) → num first e < v.flag
   pub two : 2 ≤ v.flag
   pub room : v.flag + n ≤ most_figure
-  pub turns : TurnsFront aggressive n me v.flag (front_at p me) p.free p.iw p.pe p.e_len p.nv p.len p.degree first v.iw v.pe v.e_len v.nv
+  pub turns : TurnsFront aggressive n me v.flag (front_at p me) p.free p.iw p.pe p.e_len p.nv p.len p.degree first v.iw
+      v.pe v.e_len v.nv
       v.len v.degree v.w v.last gone
   pub linked : (lists : ℕ → List ℕ) → ((i : ℕ) → has (front_at p me) i ≡ true → has (lists (num p.degree i)) i ≡ true) →
       Links n p lists → Links n v (λ d. filter (λ j. not (has (front_at p me) j)) (lists d))
@@ -76,13 +89,16 @@ pub record TurnsOver (aggressive : Bool) (n me gone most_figure : ℕ) (p v : Wo
 
 -- the rows of the block are not live any more, and the classes of the front that are alike were merged
 pub record MergesFront (n me block border : ℕ) (p v : Workspace) : Type 0 where
-  pub merged : MergesAll (classes p.nv (front_at p me)) (represents_in p.iw p.pe p.e_len p.len (classes p.nv (front_at p me))) p.pe p.e_len
+  pub merged : MergesAll (classes p.nv (front_at p me))
+      (represents_in p.iw p.pe p.e_len p.len (classes p.nv (front_at p me))) p.pe p.e_len
       p.nv p.next v.pe v.e_len v.nv v.next
   pub made : classes v.nv (front_at p me) ≡ filter
       (λ i. represents_in p.iw p.pe p.e_len p.len (classes p.nv (front_at p me)) i == i) (classes p.nv (front_at p me))
-  pub heads : (b : ℕ) → b < n → num v.hash b < n → (1 < num p.len me) × (has (classes v.nv (front_at p me)) (num v.hash b) ≡ true)
+  pub heads : (b : ℕ) → b < n → num v.hash b < n → (1 < num p.len me) ×
+      (has (classes v.nv (front_at p me)) (num v.hash b) ≡ true)
       × (num p.last (num v.hash b) ≡ b)
-  pub linked : (lists : ℕ → List ℕ) → ((b x : ℕ) → b < n → has (lists b) x ≡ true → has (classes p.nv (front_at p me)) x ≡ false) →
+  pub linked : (lists : ℕ → List ℕ) → ((b x : ℕ) → b < n → has (lists b) x ≡ true →
+      has (classes p.nv (front_at p me)) x ≡ false) →
       Links n p lists → Links n v lists
   pub under : (x : ℕ) → num v.w x < v.flag
   pub two : 2 ≤ v.flag

@@ -40,7 +40,8 @@ pub record CanTurn (n me : ℕ) (p : Workspace) : Type 0 where
   pub degrees : (e : ℕ) → num p.degree e ≤ n
   pub part : (e : ℕ) → 0 < num p.w e → met p.iw p.pe p.e_len p.nv (front_at p me) e ≤ num p.degree e
 
--- the classes that are left of the front of me can be merged, where counters are below the flag and the greatest border together
+-- the classes that are left of the front of me can be merged, where counters are below the flag and the greatest border
+-- together
 pub record CanMerge (n me block border most_figure : ℕ) (p : Workspace) : Type 0 where
   pub front : HasFront n me p
   pub renewed : AreRenewed n p.iw p.pe p.e_len p.len p.nv p.w p.last (classes p.nv (front_at p me))
@@ -54,11 +55,14 @@ pub record CanMerge (n me block border most_figure : ℕ) (p : Workspace) : Type
 -- the classes that are left of the front of me can be placed, and the element can be closed
 pub record CanEnd (n me block border : ℕ) (is_built : Bool) (p : Workspace) : Type 0 where
   pub front : HasFront n me p
-  pub classes : (i : ℕ) → has (front_at p me) i ≡ true → in_front p.nv i ≡ true → IsPlaceable n border p.nv p.degree p.last i
+  pub classes : (i : ℕ) → has (front_at p me) i ≡ true → in_front p.nv i ≡ true →
+      IsPlaceable n border p.nv p.degree p.last i
   pub order : (border ≤ p.live) × (p.live + block ≤ n)
-  pub heads : (b : ℕ) → b < n → num p.hash b < n → (1 < num p.len me) × (has (marked_in p.nv (front_at p me)) (num p.hash b) ≡ true)
+  pub heads : (b : ℕ) → b < n → num p.hash b < n → (1 < num p.len me) ×
+      (has (marked_in p.nv (front_at p me)) (num p.hash b) ≡ true)
       × (num p.last (num p.hash b) ≡ b)
   pub linked : (lists : ℕ → List ℕ) × Links n p lists
       × ((b x : ℕ) → b < n → has (lists b) x ≡ true → has (front_at p me) x ≡ false)
   pub dense : block + (border + p.n_dense) < 2 ^ 64
-  pub before : is_built ≡ true → (j : ℕ) → (j ≡ me → ⊥) → has_list p.pe p.len j ≡ true → end_of p.pe p.len j ≤ start p.pe me
+  pub before : is_built ≡ true → (j : ℕ) → (j ≡ me → ⊥) → has_list p.pe p.len j ≡ true →
+      end_of p.pe p.len j ≤ start p.pe me

@@ -1,5 +1,6 @@
 -- What the slices of an elimination in one workspace say, as functions of a row, a class or an element.
-use Rattle.std.specs.Prelude.{ℕ, ℤ, pos, negsuc, zero, suc, Bool, true, false, Option, None, Some, List, ◌≡◌, ◌-◌, ◌==◌, cond}
+use Rattle.std.specs.Prelude.{ℕ, ℤ, pos, negsuc, zero, suc, Bool, true, false, Option, None, Some, List, ◌≡◌, ◌-◌, ◌==◌}
+use Rattle.std.specs.Prelude.{cond}
 use Rattle.std.specs.Prelude.{length}
 use Rattle.amd_numbers.specs.declared.figures.Figures.{Figures}
 use Rattle.amd_views.specs.Views.{View}
@@ -80,8 +81,8 @@ unfoldable pub is_over : ℤ → Bool
 is_over (pos k) = false
 is_over (negsuc k) = k == 0
 
--- the record of the engine in place. The count of elements of a class is a place; an element has the flipped number of rows of its
--- block and border there, and any other row the mark that names nothing
+-- the record of the engine in place. The count of elements of a class is a place; an element has the flipped number of
+-- rows of its block and border there, and any other row the mark that names nothing
 abbrev pub view_of : Workspace → View
 view_of p = record {
   rows = length p.nv;

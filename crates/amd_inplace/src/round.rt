@@ -1,8 +1,10 @@
-// The rounds of an elimination in one workspace. A round chooses a pivot, makes its element, turns the classes of its front over to it,
-// merges those that are alike, and places what is left by new bounds. Source: Amestoy, Davis and Duff 1996 and 2004. Called by
-// `running` of the crate `amd_engine`. A part that only reads some slices is called through a function that is lent all of them for writing.
+// The rounds of an elimination in one workspace. A round chooses a pivot, makes its element, turns the classes of its
+// front over to it, merges those that are alike, and places what is left by new bounds. Source: Amestoy, Davis and Duff
+// 1996 and 2004. Called by `running` of the crate `amd_engine`. A part that only reads some slices is called through a
+// function that is lent all of them for writing.
 
-ghost use Rattle.std.specs.Prelude.{◌≡◌, ◌<◌, ◌≤◌, ◌+◌, ◌^◌, ◌==◌, pos, ℕ, Bool, List, [], true, false, length, filter, sum_by};
+ghost use Rattle.std.specs.Prelude.{◌≡◌, ◌<◌, ◌≤◌, ◌+◌, ◌^◌, ◌==◌, pos, ℕ, Bool, List, [], true, false, length, filter};
+ghost use Rattle.std.specs.Prelude.{sum_by};
 ghost use Rattle.amd_model.specs.Graph.{Graph};
 ghost use Rattle.amd_model.specs.State.{State};
 ghost use Rattle.amd_model.specs.Quotient.{QuotientGraph, has, Once};
@@ -76,7 +78,8 @@ fn begin_own_lent<S: Signed, U: Unsigned>(
     me: usize,
     free: usize,
 ) -> Begun
-    requires lengths { (length pe.old ≡ length nv.old) × (length e_len.old ≡ length nv.old) × (length len.old ≡ length nv.old) }
+    requires lengths { (length pe.old ≡ length nv.old) × (length e_len.old ≡ length nv.old) ×
+        (length len.old ≡ length nv.old) }
     requires short { length iw.old < 2 ^ 63 }
     requires end { free ≤ length iw.old }
     requires laid { Layout (length nv.old) iw.old pe.old e_len.old len.old free }
@@ -85,7 +88,8 @@ fn begin_own_lent<S: Signed, U: Unsigned>(
     requires count { word e_len.old me ≡ pos 0 }
     requires clear { (j : ℕ) → in_front nv.old j ≡ false }
     requires few { sum_by (size_of nv.old) (front_of iw.old nv.old pe.old len.old me 0) + 2 ≤ S.MOST }
-    ensures begins { Begins (length nv.old) me [] (front_of iw.old nv.old pe.old len.old me 0) result.total iw.old nv.old pe.old e_len.old len.old iw.new nv.new pe.new e_len.new len.new result.free }
+    ensures begins { Begins (length nv.old) me [] (front_of iw.old nv.old pe.old len.old me 0) result.total iw.old
+        nv.old pe.old e_len.old len.old iw.new nv.new pe.new e_len.new len.new result.free }
     ensures total { result.total ≡ sum_by (size_of nv.old) (front_of iw.old nv.old pe.old len.old me 0) }
     ensures block { result.block ≡ size_of nv.old me }
     ensures stays { (result.free ≡ free) × (result.packed ≡ false) }
@@ -100,7 +104,8 @@ fn begin_in_place<S: Signed, U: Unsigned>(work: &mut Work<'_, S, U>, me: usize) 
     requires laid { (nzaat : ℕ) × IsLaid (length work.old.nv.now) nzaat (workspace_of work.old) }
     requires pivot { CanBegin (length work.old.nv.now) me (workspace_of work.old) }
     requires count { word work.old.e_len.now me ≡ pos 0 }
-    ensures begins { BeginsElement (length work.old.nv.now) me result.block result.total result.is_built (workspace_of work.old) (workspace_of work.new) }
+    ensures begins { BeginsElement (length work.old.nv.now) me result.block result.total result.is_built
+        (workspace_of work.old) (workspace_of work.new) }
     ensures loans { KeepsLoans work.old work.new }
 {
     let free = work.free;
@@ -119,7 +124,8 @@ fn begin_behind<S: Signed, U: Unsigned>(work: &mut Work<'_, S, U>, me: usize) ->
     requires pivot { CanBegin (length work.old.nv.now) me (workspace_of work.old) }
     requires count { 0 < place (word work.old.e_len.now me) }
     requires left { 0 < work.old.live }
-    ensures begins { BeginsElement (length work.old.nv.now) me result.block result.total result.is_built (workspace_of work.old) (workspace_of work.new) }
+    ensures begins { BeginsElement (length work.old.nv.now) me result.block result.total result.is_built
+        (workspace_of work.old) (workspace_of work.new) }
     ensures loans { KeepsLoans work.old work.new }
 {
     let free = work.free;
@@ -141,7 +147,8 @@ pub fn begin<S: Signed, U: Unsigned>(work: &mut Work<'_, S, U>, me: usize) -> El
     requires laid { (nzaat : ℕ) × IsLaid (length work.old.nv.now) nzaat (workspace_of work.old) }
     requires pivot { CanBegin (length work.old.nv.now) me (workspace_of work.old) }
     requires left { 0 < work.old.live }
-    ensures begins { BeginsElement (length work.old.nv.now) me result.block result.total result.is_built (workspace_of work.old) (workspace_of work.new) }
+    ensures begins { BeginsElement (length work.old.nv.now) me result.block result.total result.is_built
+        (workspace_of work.old) (workspace_of work.new) }
     ensures loans { KeepsLoans work.old work.new }
 {
     let n_elements = named_lent(work.e_len, me);
@@ -161,7 +168,8 @@ pub fn turn_over<S: Signed, U: Unsigned>(
     requires wide { IsNarrow S.MOST U.MOST (length work.old.nv.now) (workspace_of work.old) }
     requires sized { IsSized (length work.old.nv.now) (workspace_of work.old) }
     requires front { CanTurn (length work.old.nv.now) me (workspace_of work.old) }
-    ensures turns { TurnsOver aggressive (length work.old.nv.now) me result U.MOST (workspace_of work.old) (workspace_of work.new) }
+    ensures turns { TurnsOver aggressive (length work.old.nv.now) me result U.MOST (workspace_of work.old)
+        (workspace_of work.new) }
     ensures loans { KeepsLoans work.old work.new }
 {
     let free = work.free;
@@ -200,24 +208,39 @@ fn merge_list<S: Signed, U: Unsigned>(
     me: usize,
     flag: usize,
 ) -> usize
-    requires lengths { (length pe.old ≡ length next.old) × (length e_len.old ≡ length next.old) × (length len.old ≡ length next.old) × (length nv.old ≡ length next.old) }
-    requires more_lengths { (length w.old ≡ length next.old) × (length hash.old ≡ length next.old) × (length last.old ≡ length next.old) }
+    requires lengths { (length pe.old ≡ length next.old) × (length e_len.old ≡ length next.old) ×
+        (length len.old ≡ length next.old) × (length nv.old ≡ length next.old) }
+    requires more_lengths { (length w.old ≡ length next.old) × (length hash.old ≡ length next.old) ×
+        (length last.old ≡ length next.old) }
     requires short { (length iw.old < 2 ^ 63) × (length next.old + 2 ≤ S.MOST) × (length next.old ≤ U.MOST) }
     requires list { (me < length next.old) × (is_place (word pe.old me) ≡ true) }
     requires inside { end_of pe.old len.old me ≤ length iw.old }
     requires front { Names (length next.old) iw.old (start pe.old me) (num len.old me) }
     requires once { Once (list_in iw.old pe.old len.old me) }
     requires few { num len.old me ≤ length next.old }
-    requires classes { AreRenewed (length next.old) iw.old pe.old e_len.old len.old nv.old w.old last.old (classes nv.old (list_in iw.old pe.old len.old me)) }
+    requires classes { AreRenewed (length next.old) iw.old pe.old e_len.old len.old nv.old w.old last.old
+        (classes nv.old (list_in iw.old pe.old len.old me)) }
     requires under { (x : ℕ) → num w.old x < flag }
     requires room { flag + num len.old me ≤ U.MOST }
     requires empty { (b : ℕ) → b < length next.old → length next.old ≤ num hash.old b }
-    ensures merged { MergesAll (classes nv.old (list_in iw.old pe.old len.old me)) (represents_in iw.old pe.old e_len.old len.old (classes nv.old (list_in iw.old pe.old len.old me))) pe.old e_len.old nv.old next.old pe.new e_len.new nv.new next.new }
-    ensures made { classes nv.new (list_in iw.old pe.old len.old me) ≡ filter (λ i. represents_in iw.old pe.old e_len.old len.old (classes nv.old (list_in iw.old pe.old len.old me)) i == i) (classes nv.old (list_in iw.old pe.old len.old me)) }
-    ensures heads { (b : ℕ) → b < length next.old → num hash.new b < length next.old → (1 < num len.old me) × (has (classes nv.new (list_in iw.old pe.old len.old me)) (num hash.new b) ≡ true) × (num last.old (num hash.new b) ≡ b) }
-    ensures linked { (head degree : List ℕ) (lists : ℕ → List ℕ) → ((b x : ℕ) → b < length next.old → has (lists b) x ≡ true → has (classes nv.old (list_in iw.old pe.old len.old me)) x ≡ false) → DegreeLists (length next.old) head next.old last.old degree lists → DegreeLists (length next.old) head next.new last.new degree lists }
-    ensures lengths { (length pe.new ≡ length next.old) × (length e_len.new ≡ length next.old) × (length nv.new ≡ length next.old) }
-    ensures more_lengths { (length w.new ≡ length next.old) × (length hash.new ≡ length next.old) × (length next.new ≡ length next.old) }
+    ensures merged { MergesAll (classes nv.old (list_in iw.old pe.old len.old me))
+        (represents_in iw.old pe.old e_len.old len.old (classes nv.old (list_in iw.old pe.old len.old me))) pe.old
+        e_len.old nv.old next.old pe.new e_len.new nv.new next.new }
+    ensures made { classes nv.new (list_in iw.old pe.old len.old me) ≡ filter
+        (λ i. represents_in iw.old pe.old e_len.old len.old (classes nv.old (list_in iw.old pe.old len.old me)) i == i)
+        (classes nv.old (list_in iw.old pe.old len.old me)) }
+    ensures heads { (b : ℕ) → b < length next.old → num hash.new b < length next.old → (1 < num len.old me) ×
+        (has (classes nv.new (list_in iw.old pe.old len.old me)) (num hash.new b) ≡ true) ×
+        (num last.old (num hash.new b) ≡ b) }
+    ensures linked { (head degree : List ℕ) (lists : ℕ → List ℕ) →
+        ((b x : ℕ) → b < length next.old → has (lists b) x ≡ true →
+        has (classes nv.old (list_in iw.old pe.old len.old me)) x ≡ false) →
+        DegreeLists (length next.old) head next.old last.old degree lists →
+        DegreeLists (length next.old) head next.new last.new degree lists }
+    ensures lengths { (length pe.new ≡ length next.old) × (length e_len.new ≡ length next.old) ×
+        (length nv.new ≡ length next.old) }
+    ensures more_lengths { (length w.new ≡ length next.old) × (length hash.new ≡ length next.old) ×
+        (length next.new ≡ length next.old) }
     ensures flag { flag ≤ result }
     ensures under { (x : ℕ) → num w.new x < result }
     ensures zeros { (x : ℕ) → (num w.new x == 0) ≡ (num w.old x == 0) }
@@ -230,8 +253,8 @@ fn merge_list<S: Signed, U: Unsigned>(
     )
 }
 
-/// Takes the rows of the block off those that are live, and merges the classes of the front of `me` that are alike. The flag rises above
-/// the counters of the round first, by the number of rows of the greatest border so far.
+/// Takes the rows of the block off those that are live, and merges the classes of the front of `me` that are alike. The
+/// flag rises above the counters of the round first, by the number of rows of the greatest border so far.
 pub fn merge_alike<S: Signed, U: Unsigned>(
     work: &mut Work<'_, S, U>,
     me: usize,
@@ -241,7 +264,8 @@ pub fn merge_alike<S: Signed, U: Unsigned>(
     requires wide { IsNarrow S.MOST U.MOST (length work.old.nv.now) (workspace_of work.old) }
     requires sized { IsSized (length work.old.nv.now) (workspace_of work.old) }
     requires front { CanMerge (length work.old.nv.now) me block border U.MOST (workspace_of work.old) }
-    ensures merges { MergesFront (length work.old.nv.now) me block border (workspace_of work.old) (workspace_of work.new) }
+    ensures merges { MergesFront (length work.old.nv.now) me block border (workspace_of work.old)
+        (workspace_of work.new) }
     ensures loans { KeepsLoans work.old work.new }
 {
     work.live -= block;
@@ -254,8 +278,8 @@ pub fn merge_alike<S: Signed, U: Unsigned>(
     );
 }
 
-/// Places the classes that are left of the front of `me` by their new bounds. Answers where its list starts, where what is left of it ends,
-/// and a number below all bounds.
+/// Places the classes that are left of the front of `me` by their new bounds. Answers where its list starts, where what
+/// is left of it ends, and a number below all bounds.
 fn place_list<S: Signed, U: Unsigned>(
     iw: &mut [Word<S>],
     nv: &mut [Word<S>],
@@ -271,24 +295,38 @@ fn place_list<S: Signed, U: Unsigned>(
     left: usize,
     least: usize,
 ) -> (usize, usize, usize)
-    requires lengths { (length nv.old ≡ length next.old) × (length degree.old ≡ length next.old) × (length head.old ≡ length next.old) × (length last.old ≡ length next.old) × (length hash.old ≡ length next.old) }
+    requires lengths { (length nv.old ≡ length next.old) × (length degree.old ≡ length next.old) ×
+        (length head.old ≡ length next.old) × (length last.old ≡ length next.old) ×
+        (length hash.old ≡ length next.old) }
     requires more_lengths { (length pe.old ≡ length next.old) × (length len.old ≡ length next.old) }
     requires short { (length iw.old < 2 ^ 63) × (length next.old + 2 ≤ S.MOST) × (length next.old ≤ U.MOST) }
     requires list { (me < length next.old) × (is_place (word pe.old me) ≡ true) }
     requires inside { end_of pe.old len.old me ≤ length iw.old }
     requires names { Names (length next.old) iw.old (start pe.old me) (num len.old me) }
     requires once { Once (list_in iw.old pe.old len.old me) }
-    requires classes { (i : ℕ) → has (list_in iw.old pe.old len.old me) i ≡ true → in_front nv.old i ≡ true → IsPlaceable (length next.old) border nv.old degree.old last.old i }
+    requires classes { (i : ℕ) → has (list_in iw.old pe.old len.old me) i ≡ true → in_front nv.old i ≡ true →
+        IsPlaceable (length next.old) border nv.old degree.old last.old i }
     requires order { (border ≤ left) × (left ≤ length next.old) }
-    requires heads { (b : ℕ) → b < length next.old → num hash.old b < length next.old → (1 < num len.old me) × (has (marked_in nv.old (list_in iw.old pe.old len.old me)) (num hash.old b) ≡ true) × (num last.old (num hash.old b) ≡ b) }
-    requires linked { (lists : ℕ → List ℕ) × DegreeLists (length next.old) head.old next.old last.old degree.old lists × ((b x : ℕ) → b < length next.old → has (lists b) x ≡ true → has (list_in iw.old pe.old len.old me) x ≡ false) }
+    requires heads { (b : ℕ) → b < length next.old → num hash.old b < length next.old → (1 < num len.old me) ×
+        (has (marked_in nv.old (list_in iw.old pe.old len.old me)) (num hash.old b) ≡ true) ×
+        (num last.old (num hash.old b) ≡ b) }
+    requires linked { (lists : ℕ → List ℕ) × DegreeLists (length next.old) head.old next.old last.old degree.old lists ×
+        ((b x : ℕ) → b < length next.old → has (lists b) x ≡ true → has (list_in iw.old pe.old len.old me) x ≡ false) }
     ensures from { result.0 ≡ start pe.old me }
-    ensures filters { Filters (length next.old) (in_front nv.old) (λ j. 0) 0 iw.old result.0 (num len.old me) result.0 iw.new result.1 0 }
-    ensures restores { Restores (list_in iw.old pe.old len.old me) border left least nv.old degree.old nv.new degree.new result.2 }
+    ensures filters { Filters (length next.old) (in_front nv.old) (λ j. 0) 0 iw.old result.0 (num len.old me) result.0
+        iw.new result.1 0 }
+    ensures restores { Restores (list_in iw.old pe.old len.old me) border left least nv.old degree.old nv.new degree.new
+        result.2 }
     ensures empty { (b : ℕ) → b < length next.old → length next.old ≤ num hash.new b }
-    ensures linked { (lists : ℕ → List ℕ) → ((b x : ℕ) → b < length next.old → has (lists b) x ≡ true → has (list_in iw.old pe.old len.old me) x ≡ false) → DegreeLists (length next.old) head.old next.old last.old degree.old lists → DegreeLists (length next.old) head.new next.new last.new degree.new (put_all (bound_in border left nv.old degree.old) (marked_in nv.old (list_in iw.old pe.old len.old me)) lists) }
-    ensures lengths { (length nv.new ≡ length next.old) × (length degree.new ≡ length next.old) × (length head.new ≡ length next.old) }
-    ensures more_lengths { (length next.new ≡ length next.old) × (length last.new ≡ length next.old) × (length hash.new ≡ length next.old) }
+    ensures linked { (lists : ℕ → List ℕ) → ((b x : ℕ) → b < length next.old → has (lists b) x ≡ true →
+        has (list_in iw.old pe.old len.old me) x ≡ false) →
+        DegreeLists (length next.old) head.old next.old last.old degree.old lists →
+        DegreeLists (length next.old) head.new next.new last.new degree.new
+        (put_all (bound_in border left nv.old degree.old) (marked_in nv.old (list_in iw.old pe.old len.old me)) lists) }
+    ensures lengths { (length nv.new ≡ length next.old) × (length degree.new ≡ length next.old) ×
+        (length head.new ≡ length next.old) }
+    ensures more_lengths { (length next.new ≡ length next.old) × (length last.new ≡ length next.old) ×
+        (length hash.new ≡ length next.old) }
     ensures same { (pe.new ≡ pe.old) × (len.new ≡ len.old) }
 {
     let from = named(pe, me);
@@ -299,8 +337,8 @@ fn place_list<S: Signed, U: Unsigned>(
     (from, end, least)
 }
 
-/// Places the classes that are left of the front of `me` by their new bounds, closes the element, and adds its front to the figures. The
-/// free end goes back to the end of a list that was built behind all others.
+/// Places the classes that are left of the front of `me` by their new bounds, closes the element, and adds its front to
+/// the figures. The free end goes back to the end of a list that was built behind all others.
 pub fn end_front<S: Signed, U: Unsigned>(
     work: &mut Work<'_, S, U>,
     me: usize,
@@ -311,7 +349,8 @@ pub fn end_front<S: Signed, U: Unsigned>(
     requires wide { IsNarrow S.MOST U.MOST (length work.old.nv.now) (workspace_of work.old) }
     requires sized { IsSized (length work.old.nv.now) (workspace_of work.old) }
     requires front { CanEnd (length work.old.nv.now) me block border is_built (workspace_of work.old) }
-    ensures ends { EndsFront (length work.old.nv.now) me block border is_built (workspace_of work.old) (workspace_of work.new) }
+    ensures ends { EndsFront (length work.old.nv.now) me block border is_built (workspace_of work.old)
+        (workspace_of work.new) }
     ensures loans { KeepsLoans work.old work.new }
 {
     let left = work.live;
@@ -346,16 +385,19 @@ pub fn end_front<S: Signed, U: Unsigned>(
     work.free = free;
     work.figures.add_front(block, border + work.n_dense);
 }
-/// One round: chooses a pivot, makes its element, and gives the classes of the element their new lists, numbers of rows and bounds. A row
-/// must be live. The contract says what the workspace stands for, that its lists have no more words than before the first round, and when
-/// they are packed; what stands in words of no list, and in the places of rows that are neither class nor element, is left open.
+/// One round: chooses a pivot, makes its element, and gives the classes of the element their new lists, numbers of rows
+/// and bounds. A row must be live. The contract says what the workspace stands for, that its lists have no more words
+/// than before the first round, and when they are packed; what stands in words of no list, and in the places of rows
+/// that are neither class nor element, is left open.
 pub fn round<S: Signed, U: Unsigned>(work: &mut Work<'_, S, U>, control: &Control)
     requires wide { IsNarrow S.MOST U.MOST (length work.old.nv.now) (workspace_of work.old) }
-    requires stands { (g : Graph) × (dense : ℕ → Bool) × (nzaat : ℕ) × (t : QuotientGraph) × (s : State) × Stands g dense nzaat (workspace_of work.old) t s }
+    requires stands { (g : Graph) × (dense : ℕ → Bool) × (nzaat : ℕ) × (t : QuotientGraph) × (s : State) ×
+        Stands g dense nzaat (workspace_of work.old) t s }
     requires left { 0 < work.old.live }
     ensures round { IsRound control.now.aggressive (workspace_of work.old) (workspace_of work.new) }
     ensures fewer { work.new.live < work.old.live }
-    ensures long { (length work.new.iw.now ≡ length work.old.iw.now) × (length work.new.nv.now ≡ length work.old.nv.now) }
+    ensures long { (length work.new.iw.now ≡ length work.old.iw.now) ×
+        (length work.new.nv.now ≡ length work.old.nv.now) }
     ensures loans { KeepsLoans work.old work.new }
 {
     let me = pick(work);
@@ -367,14 +409,17 @@ pub fn round<S: Signed, U: Unsigned>(work: &mut Work<'_, S, U>, control: &Contro
     end_front(work, me, block, border, element.is_built);
 }
 
-/// Rounds until no row is live. The contract says what the workspace stands for; the lists were packed no more often than there are rows.
+/// Rounds until no row is live. The contract says what the workspace stands for; the lists were packed no more often
+/// than there are rows.
 pub fn eliminate<S: Signed, U: Unsigned>(work: &mut Work<'_, S, U>, control: &Control)
     requires wide { IsNarrow S.MOST U.MOST (length work.old.nv.now) (workspace_of work.old) }
-    requires stands { (g : Graph) × (dense : ℕ → Bool) × (nzaat : ℕ) × (t : QuotientGraph) × (s : State) × Stands g dense nzaat (workspace_of work.old) t s }
+    requires stands { (g : Graph) × (dense : ℕ → Bool) × (nzaat : ℕ) × (t : QuotientGraph) × (s : State) ×
+        Stands g dense nzaat (workspace_of work.old) t s }
     ensures rounds { AreRounds control.now.aggressive (workspace_of work.old) (workspace_of work.new) }
     ensures end { NoRowIsLive (workspace_of work.new) }
     ensures packs { work.new.n_cmp_a ≤ length work.new.nv.now }
-    ensures long { (length work.new.iw.now ≡ length work.old.iw.now) × (length work.new.nv.now ≡ length work.old.nv.now) }
+    ensures long { (length work.new.iw.now ≡ length work.old.iw.now) ×
+        (length work.new.nv.now ≡ length work.old.nv.now) }
     ensures loans { KeepsLoans work.old work.new }
 {
     'rounds: while work.live > 0 {

@@ -1,22 +1,23 @@
-// What an elimination in one workspace keeps between two rounds: borrowed slices, and some numbers. Source: Amestoy, Davis and Duff
-// 1996 and 2004 (the arrays of the quotient graph). Changed by `round`.
+// What an elimination in one workspace keeps between two rounds: borrowed slices, and some numbers. Source: Amestoy,
+// Davis and Duff 1996 and 2004 (the arrays of the quotient graph). Changed by `round`.
 
 use amd_cells::{Figure, Signed, Unsigned, Word};
 use amd_numbers::figures::Figures;
 
-/// The state of an elimination of a matrix with `n` rows. Each slice but `iw` has `n` numbers. Where a slice of figures names a row, `n`
-/// stands for no row. A mark is a number below zero: -1 names nothing, and `-k - 2` names `k`.
+/// The state of an elimination of a matrix with `n` rows. Each slice but `iw` has `n` numbers. Where a slice of figures
+/// names a row, `n` stands for no row. A mark is a number below zero: -1 names nothing, and `-k - 2` names `k`.
 #[derive(Drop)]
 pub struct Work<'a, S: Signed, U: Unsigned> {
     /// All lists: that of a class names its elements and then its variables, that of an element its members.
     pub iw: &'a mut [Word<S>],
-    /// Where the list of each row starts. An absorbed element has the mark of its parent here, and a row that was merged or went with a
-    /// pivot that of the row with which it goes.
+    /// Where the list of each row starts. An absorbed element has the mark of its parent here, and a row that was
+    /// merged or went with a pivot that of the row with which it goes.
     pub pe: &'a mut [Word<S>],
-    /// The number of elements that a class lists. An element has the mark of the number of rows of its block and border here, and a row
-    /// that is neither has -1.
+    /// The number of elements that a class lists. An element has the mark of the number of rows of its block and border
+    /// here, and a row that is neither has -1.
     pub e_len: &'a mut [Word<S>],
-    /// The number of rows of each class, and 0 for what is no class. In a round it is negative for a class of the front.
+    /// The number of rows of each class, and 0 for what is no class. In a round it is negative for a class of the
+    /// front.
     pub nv: &'a mut [Word<S>],
     /// The number of words of each list.
     pub len: &'a mut [Figure<U>],

@@ -1,5 +1,5 @@
-// The degrees of the rows of a matrix, and the figures of its pattern: those of the pattern of A + A' (Amestoy, Davis and Duff
-// 2004). Called by `order`, and by `facts` of the crate `amd_command`.
+// The degrees of the rows of a matrix, and the figures of its pattern: those of the pattern of A + A' (Amestoy, Davis
+// and Duff 2004). Called by `order`, and by `facts` of the crate `amd_command`.
 
 ghost use Rattle.std.specs.Prelude.{◌≡◌, ◌<◌, ◌^◌, map, length, slice_index, unsigned_abs, IfOk, IfErr, OnOk, OnErr};
 ghost use Rattle.amd_model.specs.Below.{sum_below};
@@ -43,18 +43,18 @@ fn total(numbers: &[usize]) -> usize
     sum
 }
 
-/// The sum of the degrees and the degree of each row of a matrix with `n` rows, by the pattern of `A + A'`; the figures of the
-/// pattern go to `info`, of which the other fields stay. The pattern is symmetric where there are as many arcs as entries off
-/// the diagonal.
+/// The sum of the degrees and the degree of each row of a matrix with `n` rows, by the pattern of `A + A'`; the figures
+/// of the pattern go to `info`, of which the other fields stay. The pattern is symmetric where there are as many arcs
+/// as entries off the diagonal.
 ///
-/// The input is a column form with `n` rows and columns, each of which strictly rises: `valid` tells `OK`. `a_p` has at least
-/// `n + 1` pointers, and `a_i` at least `a_p[n]` row indices; what stands behind is ignored. The list that is answered has `n`
-/// degrees.
+/// The input is a column form with `n` rows and columns, each of which strictly rises: `valid` tells `OK`. `a_p` has at
+/// least `n + 1` pointers, and `a_i` at least `a_p[n]` row indices; what stands behind is ignored. The list that is
+/// answered has `n` degrees.
 ///
 /// # Errors
 ///
-/// `OutOfMemory` where an allocation was refused, or there are 2^63 entries or more, so that the sum of the degrees may not
-/// fit; `info` is then as it was.
+/// `OutOfMemory` where an allocation was refused, or there are 2^63 entries or more, so that the sum of the degrees may
+/// not fit; `info` is then as it was.
 ///
 /// Source: AMD user guide; Amestoy, Davis and Duff 2004.
 pub fn aat<I: PrimInt, A: Allocator + Copy>(
@@ -66,9 +66,18 @@ pub fn aat<I: PrimInt, A: Allocator + Copy>(
 ) -> Result<(usize, Vec<usize, A>), Status>
     requires form { IsInput (I.value n) (I.value n) (map I.value a_p.now) (map I.value a_i.now) }
     requires sorted { IsSortedInput (I.value n) (map I.value a_p.now) (map I.value a_i.now) }
-    ensures degrees { IfOk result (λ a. AreDegrees (unsigned_abs (I.value n)) (map I.value a_p.now) (map I.value a_i.now) a.0 a.1.items) }
-    ensures figures { OnOk result (HasPatternFigures (unsigned_abs (I.value n)) (map I.value a_p.now) (map I.value a_i.now) info.new) }
-    ensures others { OnOk result (info.new ≡ record info.old { n = info.new.n; nz = info.new.nz; symmetry = info.new.symmetry; nz_diag = info.new.nz_diag; nz_a_plus_at = info.new.nz_a_plus_at }) }
+    ensures degrees { IfOk result (λ a. AreDegrees (unsigned_abs (I.value n)) (map I.value a_p.now)
+        (map I.value a_i.now) a.0 a.1.items) }
+    ensures figures { OnOk result (HasPatternFigures (unsigned_abs (I.value n)) (map I.value a_p.now)
+        (map I.value a_i.now) info.new) }
+    ensures others { OnOk result (info.new ≡ record info.old {
+      n = info.new.n;
+      nz = info.new.nz;
+      symmetry = info.new.symmetry;
+      nz_diag = info.new.nz_diag;
+      nz_a_plus_at =
+          info.new.nz_a_plus_at;
+    }) }
     ensures refused { IfErr result (λ e. e ≡ OutOfMemory) }
     ensures unchanged { OnErr result (info.new ≡ info.old) }
 {

@@ -1,5 +1,5 @@
-//! The input of an ordering: whether it is a column form, its transpose with sorted columns, and the degrees and figures of its
-//! pattern. The crate `amd` calls it and hands it on.
+//! The input of an ordering: whether it is a column form, its transpose with sorted columns, and the degrees and
+//! figures of its pattern. The crate `amd` calls it and hands it on.
 #![tactic(auto)]
 
 pub mod aat;

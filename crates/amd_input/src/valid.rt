@@ -1,6 +1,6 @@
-// Whether an input is a column form, and whether its columns are sorted. The rule is that of the AMD user guide; a fault in a
-// later column wins over a jumbled earlier one. Called by `order`, by `columns` of the crate `amd_symbolic`, and by the crates of the command and
-// of C.
+// Whether an input is a column form, and whether its columns are sorted. The rule is that of the AMD user guide; a
+// fault in a later column wins over a jumbled earlier one. Called by `order`, by `columns` of the crate `amd_symbolic`,
+// and by the crates of the command and of C.
 
 ghost use Rattle.std.specs.Prelude.{◌<◌, ◌≤◌, length, map};
 ghost use Rattle.amd_numbers.specs.Statuses.{IsStatusOf};
@@ -30,12 +30,12 @@ fn column_status<I: PrimInt>(n_row: I, a_i: &[I], from: usize, to: usize) -> Sta
 }
 
 /// The status of an input with `n_col` columns and rows in `0..n_row`: `Invalid` where it is no column form, else
-/// `OkButJumbled` where some column is out of order or has a repeat, else `OK`. For `n_col = 0` one pointer, 0, is needed.
-/// Any arguments are allowed, and no memory is taken.
+/// `OkButJumbled` where some column is out of order or has a repeat, else `OK`. For `n_col = 0` one pointer, 0, is
+/// needed. Any arguments are allowed, and no memory is taken.
 ///
-/// The input is a column form where `n_col` is not negative, `a_p` has at least `n_col + 1` pointers, of which the first is 0, up
-/// to `a_p[n_col]`, which is at most the length of `a_i`, they never descend, and the row indices before place `a_p[n_col]` lie in
-/// `0..n_row`.
+/// The input is a column form where `n_col` is not negative, `a_p` has at least `n_col + 1` pointers, of which the
+/// first is 0, up to `a_p[n_col]`, which is at most the length of `a_i`, they never descend, and the row indices before
+/// place `a_p[n_col]` lie in `0..n_row`.
 ///
 /// Source: AMD user guide.
 pub fn valid<I: PrimInt>(n_row: I, n_col: I, a_p: &[I], a_i: &[I]) -> Status

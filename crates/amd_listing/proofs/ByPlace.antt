@@ -84,7 +84,8 @@ module _ (t : Tree) (order : List ℤ) (o : IsPostorderOf t order)
         ap (λ b. nat_lt (slice_index o.listing k) (j + 1) && not b) (eq-eqb k p same) ∙ never (nat_lt (slice_index o.listing k) (j + 1))
         ∙ sym (le-ltb (slice_index o.listing k) j (omega (arith, here))))
     | inr ne ↦ ap (λ b. nat_lt (slice_index o.listing k) (j + 1) && not b) (ne_eqb k p ne)
-        ∙ always (nat_lt (slice_index o.listing k) (j + 1)) ∙ below_same (slice_index o.listing k) j (λ e. ne (apart k p l small (e ∙ sym is)))
+        ∙ always (nat_lt (slice_index o.listing k) (j + 1)) ∙ below_same (slice_index o.listing k) j
+        (λ e. ne (apart k p l small (e ∙ sym is)))
   ]
     where
       never : (b : Bool) → (b && false) ≡ false

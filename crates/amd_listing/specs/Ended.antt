@@ -1,5 +1,6 @@
 -- What lists of links and numbers say at the end of an elimination, and what it means to list it.
-use Rattle.std.specs.Prelude.{ℕ, ℤ, pos, negsuc, Bool, true, false, Option, None, List, ◌≡◌, ◌<◌, cond, nat_lt, length, slice_index_or}
+use Rattle.std.specs.Prelude.{ℕ, ℤ, pos, negsuc, Bool, true, false, Option, None, List, ◌≡◌, ◌<◌, cond, nat_lt, length}
+use Rattle.std.specs.Prelude.{slice_index_or}
 use Rattle.amd_model.specs.Below.{count_below}
 use Rattle.amd_model.specs.Graph.{Graph, IsGraph}
 use Rattle.amd_model.specs.State.{State, Home, Last, Live, Gone, in_block, is_element}
@@ -13,7 +14,8 @@ use Rattle.amd_views.specs.Keeps.{LinksLead}
 abbrev pub row_link : List ℤ → List ℤ → ℕ → Option ℕ
 row_link link nv v = cond (nat_lt 0 (size_of nv v)) None (named (slice_index_or link v (negsuc 0)))
 
--- of n rows each that is linked is where its target is, what has a number of rows is an element, and what has neither is held last
+-- of n rows each that is linked is where its target is, what has a number of rows is an element, and what has neither
+-- is held last
 pub record LinksAre (n : ℕ) (link nv : List ℤ) (home : ℕ → Home) : Type 0 where
   pub link_long : length link ≡ n
   pub nv_long : length nv ≡ n
@@ -22,8 +24,8 @@ pub record LinksAre (n : ℕ) (link nv : List ℤ) (home : ℕ → Home) : Type 
   pub others : (v : ℕ) → size_of nv v ≡ 0 → row_link link nv v ≡ None → home v ≡ Last
   pub leads : LinksLead n (row_link link nv) home
 
--- the lists tell the state at the end of a run: where each row went, and of each element its parent and the numbers of rows of its block
--- and of its front
+-- the lists tell the state at the end of a run: where each row went, and of each element its parent and the numbers of
+-- rows of its block and of its front
 pub record IsEnded (g : Graph) (s : State) (link nv f_size : List ℤ) : Type 0 where
   pub links : LinksAre g.size link nv s.home
   pub fronts_long : length f_size ≡ g.size
@@ -36,11 +38,13 @@ pub record IsEnded (g : Graph) (s : State) (link nv f_size : List ℤ) : Type 0 
 
 -- some run ended so
 abbrev pub HasEnded : List ℤ → List ℤ → List ℤ → Type 0
-HasEnded link nv f_size = (g : Graph) × (dense : ℕ → Bool) × (aggressive : Bool) × (first : State) × (states : List State)
+HasEnded link nv f_size = (g : Graph) × (dense : ℕ → Bool) × (aggressive : Bool) × (first : State) ×
+    (states : List State)
     × IsGraph g × Run g dense aggressive first states × IsEnded g (last_state first states) link nv f_size
 
 -- of whatever run ended so, rows lists the assembly tree in postorder, and then the rows held last
 abbrev pub ListsEnded : List ℤ → List ℤ → List ℤ → List ℕ → Type 0
-ListsEnded link nv f_size rows = (g : Graph) (dense : ℕ → Bool) (aggressive : Bool) (first : State) (states : List State) → IsGraph g →
+ListsEnded link nv f_size rows = (g : Graph) (dense : ℕ → Bool) (aggressive : Bool) (first : State)
+    (states : List State) → IsGraph g →
     Run g dense aggressive first states → IsEnded g (last_state first states) link nv f_size →
     IsPostorder g dense (last_state first states) rows

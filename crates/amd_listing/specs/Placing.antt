@@ -8,7 +8,8 @@ use Rattle.amd_listing.specs.Ended.{LinksAre}
 
 -- the listing has a row at some place; there p names the row, and q names the place at the row
 abbrev pub IsPlaced : List ℕ → List ℤ → List ℤ → ℕ → Type 0
-IsPlaced listing p q v = (k : ℕ) × (k < length listing) × (slice_index listing k ≡ v) × (at p k ≡ pos v) × (at q v ≡ pos k)
+IsPlaced listing p q v = (k : ℕ) × (k < length listing) × (slice_index listing k ≡ v) × (at p k ≡ pos v) ×
+    (at q v ≡ pos k)
 
 -- each row below n is placed; each of those that are no element; and the listing has each element where `place` says
 abbrev pub AllPlaced : ℕ → List ℕ → List ℤ → List ℤ → Type 0

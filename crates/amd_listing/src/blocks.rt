@@ -16,9 +16,11 @@ use amd_trees::link::Link;
 pub fn by_place<U: Unsigned>(order: &[Figure<U>], elements: &mut [Figure<U>]) -> usize
     requires room { length elements.old ≡ length order.now }
     requires narrow { length order.now ≤ U.MOST }
-    requires listed { (t : Tree) × (o : IsPostorderOf t (figure_links U.MOST order.now)) × ((k : ℕ) → k < length o.listing → slice_index o.listing k < t.size) }
+    requires listed { (t : Tree) × (o : IsPostorderOf t (figure_links U.MOST order.now)) ×
+        ((k : ℕ) → k < length o.listing → slice_index o.listing k < t.size) }
     ensures room { length elements.new ≡ length elements.old }
-    ensures elements { (t : Tree) → (o : IsPostorderOf t (figure_links U.MOST order.now)) → ((k : ℕ) → k < length o.listing → slice_index o.listing k < t.size) → BeginWith elements.new result o.listing }
+    ensures elements { (t : Tree) → (o : IsPostorderOf t (figure_links U.MOST order.now)) →
+        ((k : ℕ) → k < length o.listing → slice_index o.listing k < t.size) → BeginWith elements.new result o.listing }
 {
     let mut count = 0;
     'elements: for e in 0..order.len() {
@@ -41,8 +43,10 @@ pub fn block_starts<S: Signed, U: Unsigned>(
     requires lengths { (length elements.now ≡ length nv.now) × (length starts.old ≡ length nv.now) }
     requires narrow { length nv.now ≤ U.MOST }
     requires counts { (v : ℕ) → word nv.now v ≡ pos (size_of nv.now v) }
-    requires blocks { (home : ℕ → Home) × (es : List ℕ) × AreElements (length nv.now) home es nv.now × BeginWith elements.now count es }
-    ensures { (home : ℕ → Home) (es : List ℕ) → AreElements (length nv.now) home es nv.now → BeginWith elements.now count es → AreStarts (length nv.now) es nv.now starts.new result }
+    requires blocks { (home : ℕ → Home) × (es : List ℕ) × AreElements (length nv.now) home es nv.now ×
+        BeginWith elements.now count es }
+    ensures { (home : ℕ → Home) (es : List ℕ) → AreElements (length nv.now) home es nv.now →
+        BeginWith elements.now count es → AreStarts (length nv.now) es nv.now starts.new result }
 {
     let mut total = 0;
     'places: for k in 0..count {

@@ -1,6 +1,6 @@
-// The listing at the end of an elimination, and its inverse: the assembly tree in postorder, of each block its other rows
-// rising and then its pivot row, and after all blocks the rows held last, rising. Source: Amestoy, Davis and Duff 2004.
-// Called by `amd_2` of the crate `amd_engine`.
+// The listing at the end of an elimination, and its inverse: the assembly tree in postorder, of each block its other
+// rows rising and then its pivot row, and after all blocks the rows held last, rising. Source: Amestoy, Davis and Duff
+// 2004. Called by `amd_2` of the crate `amd_engine`.
 
 ghost use Rattle.std.specs.Prelude.{◌≡◌, ◌<◌, ◌≤◌, ◌+◌, ℕ, List, length, map, pos};
 ghost use Rattle.amd_numbers.specs.Permutations.{AreInverse};
@@ -13,8 +13,8 @@ use amd_trees::postorder::postorder_in;
 use num_traits::PrimInt;
 
 /// Writes the listing of an elimination that has ended, and its inverse: `link` names for each row the row or parent to
-/// which it is linked, `nv` the number of rows of each block, and `f_size` that of each front. The four lists of figures
-/// are room, and links are shortened.
+/// which it is linked, `nv` the number of rows of each block, and `f_size` that of each front. The four lists of
+/// figures are room, and links are shortened.
 pub fn listing<I: PrimInt, S: Signed, U: Unsigned>(
     link: &mut [Word<S>],
     nv: &[Word<S>],
@@ -27,7 +27,8 @@ pub fn listing<I: PrimInt, S: Signed, U: Unsigned>(
     p_inv: &mut [I],
 )
     requires ended { HasEnded link.old nv.now f_size.now }
-    requires lengths { (length child.old ≡ length nv.now) × (length sibling.old ≡ length nv.now) × (length order.old ≡ length nv.now) × (length stack.old ≡ length nv.now) }
+    requires lengths { (length child.old ≡ length nv.now) × (length sibling.old ≡ length nv.now) ×
+        (length order.old ≡ length nv.now) × (length stack.old ≡ length nv.now) }
     requires more_lengths { (length p.old ≡ length nv.now) × (length p_inv.old ≡ length nv.now) }
     requires narrow { (length nv.now + 2 ≤ S.MOST) × (length nv.now + 2 ≤ U.MOST) }
     requires fits { (k : ℕ) → k < length nv.now → I.fits (pos k) }

@@ -34,7 +34,8 @@ fn shortcut<S: Signed>(link: &mut [Word<S>], nv: &[Word<S>], v: usize, root: usi
     requires root { (root < length nv.now) × (0 < size_of nv.now root) }
     requires home { (home : ℕ → Home) → LinksAre (length nv.now) link.old nv.now home → home v ≡ Gone root }
     requires narrow { length nv.now ≤ S.MOST }
-    ensures { (home : ℕ → Home) → LinksAre (length nv.now) link.old nv.now home → LinksAre (length nv.now) link.new nv.now home }
+    ensures { (home : ℕ → Home) → LinksAre (length nv.now) link.old nv.now home →
+        LinksAre (length nv.now) link.new nv.now home }
 {
     let mut row = v;
     'links: while size_outside(nv, row) == 0 {
@@ -52,7 +53,8 @@ fn element_of<S: Signed>(link: &mut [Word<S>], nv: &[Word<S>], v: usize) -> usiz
     ensures within { result < length nv.now }
     ensures rows { 0 < size_of nv.now result }
     ensures home { (home : ℕ → Home) → LinksAre (length nv.now) link.old nv.now home → home v ≡ Gone result }
-    ensures led { (home : ℕ → Home) → LinksAre (length nv.now) link.old nv.now home → LinksAre (length nv.now) link.new nv.now home }
+    ensures led { (home : ℕ → Home) → LinksAre (length nv.now) link.old nv.now home →
+        LinksAre (length nv.now) link.new nv.now home }
 {
     let next = named(link, v);
     if size_outside(nv, next) != 0 {
@@ -103,7 +105,8 @@ fn place_others<I: PrimInt, S: Signed, U: Unsigned>(
     requires narrow { (length nv.now ≤ S.MOST) × (length nv.now ≤ U.MOST) }
     requires fits { (k : ℕ) → k < length nv.now → I.fits (pos k) }
     requires blocks { (home : ℕ → Home) × (elements : List ℕ) × AreBlocks link.old nv.now place.old end home elements }
-    ensures placed { (home : ℕ → Home) (elements : List ℕ) → AreBlocks link.old nv.now place.old end home elements → OthersPlaced nv.now (listing_of (length nv.now) home elements) (map I.value p.new) (map I.value p_inv.new) }
+    ensures placed { (home : ℕ → Home) (elements : List ℕ) → AreBlocks link.old nv.now place.old end home elements →
+        OthersPlaced nv.now (listing_of (length nv.now) home elements) (map I.value p.new) (map I.value p_inv.new) }
     ensures last { (e : ℕ) → 0 < size_of nv.now e → num place.new e + 1 ≡ num place.old e + size_of nv.now e }
 {
     let mut next = end;
@@ -128,11 +131,14 @@ fn place_elements<I: PrimInt, S: Signed, U: Unsigned>(
     p: &mut [I],
     p_inv: &mut [I],
 )
-    requires lengths { (length place.now ≡ length nv.now) × (length p.old ≡ length nv.now) × (length p_inv.old ≡ length nv.now) }
+    requires lengths { (length place.now ≡ length nv.now) × (length p.old ≡ length nv.now) ×
+        (length p_inv.old ≡ length nv.now) }
     requires fits { (k : ℕ) → k < length nv.now → I.fits (pos k) }
     requires fresh { (v : ℕ) → in_front nv.now v ≡ false }
     requires places { (e : ℕ) → 0 < size_of nv.now e → num place.now e < length nv.now }
-    ensures { (listing : List ℕ) → length listing ≡ length nv.now → HasElements nv.now place.now listing → OthersPlaced nv.now listing (map I.value p.old) (map I.value p_inv.old) → AllPlaced (length nv.now) listing (map I.value p.new) (map I.value p_inv.new) }
+    ensures { (listing : List ℕ) → length listing ≡ length nv.now → HasElements nv.now place.now listing →
+        OthersPlaced nv.now listing (map I.value p.old) (map I.value p_inv.old) →
+        AllPlaced (length nv.now) listing (map I.value p.new) (map I.value p_inv.new) }
 {
     'rows: for e in 0..nv.len() {
         if size_outside(nv, e) != 0 {
@@ -152,11 +158,16 @@ pub fn place_rows<I: PrimInt, S: Signed, U: Unsigned>(
     p: &mut [I],
     p_inv: &mut [I],
 )
-    requires lengths { (length link.old ≡ length nv.now) × (length starts.old ≡ length nv.now) × (length p.old ≡ length nv.now) × (length p_inv.old ≡ length nv.now) }
+    requires lengths { (length link.old ≡ length nv.now) × (length starts.old ≡ length nv.now) ×
+        (length p.old ≡ length nv.now) × (length p_inv.old ≡ length nv.now) }
     requires narrow { (length nv.now + 2 ≤ S.MOST) × (length nv.now + 2 ≤ U.MOST) }
     requires fits { (k : ℕ) → k < length nv.now → I.fits (pos k) }
-    requires blocks { (home : ℕ → Home) × (elements : List ℕ) × LinksAre (length nv.now) link.old nv.now home × AreElements (length nv.now) home elements nv.now × AreStarts (length nv.now) elements nv.now starts.old end × ((v : ℕ) → live_at (home v) ≡ false) }
-    ensures rows { (home : ℕ → Home) (elements : List ℕ) → LinksAre (length nv.now) link.old nv.now home → AreElements (length nv.now) home elements nv.now → AreStarts (length nv.now) elements nv.now starts.old end → ((v : ℕ) → live_at (home v) ≡ false) → map I.value p.new ≡ map pos (listing_of (length nv.now) home elements) }
+    requires blocks { (home : ℕ → Home) × (elements : List ℕ) × LinksAre (length nv.now) link.old nv.now home ×
+        AreElements (length nv.now) home elements nv.now × AreStarts (length nv.now) elements nv.now starts.old end ×
+        ((v : ℕ) → live_at (home v) ≡ false) }
+    ensures rows { (home : ℕ → Home) (elements : List ℕ) → LinksAre (length nv.now) link.old nv.now home →
+        AreElements (length nv.now) home elements nv.now → AreStarts (length nv.now) elements nv.now starts.old end →
+        ((v : ℕ) → live_at (home v) ≡ false) → map I.value p.new ≡ map pos (listing_of (length nv.now) home elements) }
     ensures inverse { AreInverse (length nv.now) (map I.value p.new) (map I.value p_inv.new) }
 {
     place_others(link, nv, starts, end, p, p_inv);

@@ -18,7 +18,8 @@ pub record SpellsSize (line : List ℕ) (rows columns entries : ℕ) : Type 0 wh
 abbrev pub SpellsIndex : List ℕ → ℕ → ℕ → Type 0
 SpellsIndex word n i = (i < n) × SpellsNumber word (pos (i + 1))
 
--- the line is an entry of a matrix with n rows and columns: the numbers of its row and its column, and as many words as its field has
+-- the line is an entry of a matrix with n rows and columns: the numbers of its row and its column, and as many words as
+-- its field has
 pub record SpellsEntry (field : Field) (n : ℕ) (line : List ℕ) (e : ℕ × ℕ) : Type 0 where
   pub first : List ℕ
   pub second : List ℕ

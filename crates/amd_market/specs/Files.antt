@@ -10,7 +10,8 @@ use Rattle.amd_market.specs.declared.lines.LineReader.{LineReader}
 use Rattle.amd_market.specs.declared.faults.ReadError.{ReadError}
 
 -- lines were read whose telling ones are the entries, one by one, and the pairs are those that the entries stand for
-pub record TakesEntries {R Z : Type 0} (remaining : R → Option (List ℕ)) (old new : LineReader R Z) (header : Header) (n count : ℕ)
+pub record TakesEntries {R Z : Type 0} (remaining : R → Option (List ℕ)) (old new : LineReader R Z) (header : Header)
+    (n count : ℕ)
     (pairs : List (ℕ × ℕ)) : Type 0 where
   pub lines : List (List ℕ)
   pub takes : TakesLines remaining old new lines
@@ -19,8 +20,8 @@ pub record TakesEntries {R Z : Type 0} (remaining : R → Option (List ℕ)) (ol
   pub spells : SpellsEntries header.field n (telling lines) entries
   pub pairs_are : pairs ≡ flat_map (pairs_of header.symmetry) entries
 
--- the text is a header, the line of the size and the lines of the entries, with notes between them; the column form with n
--- columns is that of the pairs that the entries stand for, in their order
+-- the text is a header, the line of the size and the lines of the entries, with notes between them; the column form
+-- with n columns is that of the pairs that the entries stand for, in their order
 pub record SpellsMatrix (bytes : List ℕ) (n : ℕ) (ap ai : List ℕ) : Type 0 where
   pub first : List ℕ
   pub others : List (List ℕ)
@@ -36,7 +37,8 @@ pub record SpellsMatrix (bytes : List ℕ) (n : ℕ) (ap ai : List ℕ) : Type 0
   pub has_entries : SpellsEntries header.field n entry_lines entries
   pub columns : HoldsPairs n (flat_map (pairs_of header.symmetry) entries) ap ai
 
--- the text begins with some lines, and the error names the last of them by its number, from 1 on; 0 where there are none
+-- the text begins with some lines, and the error names the last of them by its number, from 1 on; 0 where there are
+-- none
 pub record NamesLine (bytes : List ℕ) (e : ReadError) : Type 0 where
   pub lines : List (List ℕ)
   pub rest : Option (List ℕ)

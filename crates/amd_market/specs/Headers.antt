@@ -38,8 +38,10 @@ is_mirrored kind.Hermitian = true
 -- the line is that of a sparse matrix with this field and this symmetry
 abbrev pub SpellsHeader : List ℕ → Header → Type 0
 SpellsHeader line h =
-    words line ≡ codes "%%MatrixMarket" ∷ (codes "matrix" ∷ (codes "coordinate" ∷ (field_text h.field ∷ (symmetry_text h.symmetry ∷ []))))
+    words line ≡ codes "%%MatrixMarket" ∷ (codes "matrix" ∷
+    (codes "coordinate" ∷ (field_text h.field ∷ (symmetry_text h.symmetry ∷ []))))
 
--- the pairs of a row and a column that an entry stands for: its own, and off the diagonal, where there is a symmetry, the mirror image
+-- the pairs of a row and a column that an entry stands for: its own, and off the diagonal, where there is a symmetry,
+-- the mirror image
 abbrev pub pairs_of : Symmetry → (ℕ × ℕ) → List (ℕ × ℕ)
 pairs_of s e = cond (is_mirrored s && not (e.0 == e.1)) ((e.0, e.1) ∷ ((e.1, e.0) ∷ [])) ((e.0, e.1) ∷ [])

@@ -1,5 +1,6 @@
 -- The lines of a text, and what a reader takes off its input, where the bytes of that are known.
-use Rattle.std.specs.Prelude.{◌≡◌, ◌==◌, not, ℕ, Bool, true, false, Option, Some, IfSome, List, [], ◌∷◌, filter, slice_index}
+use Rattle.std.specs.Prelude.{◌≡◌, ◌==◌, not, ℕ, Bool, true, false, Option, Some, IfSome, List, [], ◌∷◌, filter}
+use Rattle.std.specs.Prelude.{slice_index}
 use Rattle.std.specs.Prelude.{if◌then◌else◌}
 use Rattle.amd_cases.specs.Words.{words}
 use Rattle.amd_cases.specs.Reading.{BeginsWith, TookLine, line_number, one_line_more}
@@ -33,17 +34,20 @@ abbrev pub line_of : {R Z : Type 0} → LineReader R Z → List ℕ
 line_of r = r.line.items
 
 -- the next line was read and counted, or there was none
-pub record TakesLine {R Z : Type 0} (remaining : R → Option (List ℕ)) (old new : LineReader R Z) (some : Bool) : Type 0 where
-  pub counted : new.lines ≡ (if some then one_line_more old.lines else old.lines)
-  pub took : IfSome (remaining old.input) (λ bytes. TookLine bytes new.line.items (remaining new.input) some)
+pub record TakesLine {R Z : Type 0} (remaining : R → Option (List ℕ)) (old new : LineReader R Z) (some : Bool) : Type 0
+  where
+    pub counted : new.lines ≡ (if some then one_line_more old.lines else old.lines)
+    pub took : IfSome (remaining old.input) (λ bytes. TookLine bytes new.line.items (remaining new.input) some)
 
 -- these lines were read and counted
-pub record TakesLines {R Z : Type 0} (remaining : R → Option (List ℕ)) (old new : LineReader R Z) (ls : List (List ℕ)) : Type 0 where
+pub record TakesLines {R Z : Type 0} (remaining : R → Option (List ℕ)) (old new : LineReader R Z)
+    (ls : List (List ℕ)) : Type 0 where
   pub counted : new.lines ≡ line_number old.lines ls
   pub took : IfSome (remaining old.input) (λ bytes. BeginsWith ls bytes (remaining new.input))
 
 -- lines were read, of which the last alone says something
-pub record TakesTelling {R Z : Type 0} (remaining : R → Option (List ℕ)) (old new : LineReader R Z) (line : List ℕ) : Type 0 where
+pub record TakesTelling {R Z : Type 0} (remaining : R → Option (List ℕ)) (old new : LineReader R Z)
+    (line : List ℕ) : Type 0 where
   pub lines : List (List ℕ)
   pub takes : TakesLines remaining old new lines
   pub tells : telling lines ≡ line ∷ []
@@ -66,8 +70,9 @@ named_line (Line line fault) = line
 named_line (Input line error) = line
 
 -- some lines were read, and the error names the last of them
-pub record FailsAt {R Z : Type 0} (remaining : R → Option (List ℕ)) (old : LineReader R Z) (e : ReadError) : Type 0 where
-  pub lines : List (List ℕ)
-  pub rest : Option (List ℕ)
-  pub named : named_line e ≡ line_number old.lines lines
-  pub took : IfSome (remaining old.input) (λ bytes. BeginsWith lines bytes rest)
+pub record FailsAt {R Z : Type 0} (remaining : R → Option (List ℕ)) (old : LineReader R Z) (e : ReadError) : Type 0
+  where
+    pub lines : List (List ℕ)
+    pub rest : Option (List ℕ)
+    pub named : named_line e ≡ line_number old.lines lines
+    pub took : IfSome (remaining old.input) (λ bytes. BeginsWith lines bytes rest)

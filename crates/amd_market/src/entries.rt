@@ -57,7 +57,8 @@ fn has_words(text: &[u8], count: usize) -> bool
 
 /// The numbers that a line spells.
 fn spelled_size(line: &[u8]) -> Option<Size>
-    ensures { MatchOption result ((r c e : ℕ) → SpellsSize line.now r c e → ⊥) (λ s. SpellsSize line.now s.rows s.columns s.entries) }
+    ensures { MatchOption result ((r c e : ℕ) → SpellsSize line.now r c e → ⊥)
+        (λ s. SpellsSize line.now s.rows s.columns s.entries) }
 {
     let (first, rest) = first_word(line)?;
     let (second, rest) = first_word(rest)?;
@@ -79,10 +80,11 @@ fn has_too_many_rows(rows: usize, entries: usize) -> bool
     rows > entries.saturating_mul(ROWS_PER_ENTRY).max(ROWS)
 }
 
-/// The size that a line spells: `Size` where it spells none, `NotSquare` where it is not square, and `Rows` where there are too many
-/// rows for the entries.
+/// The size that a line spells: `Size` where it spells none, `NotSquare` where it is not square, and `Rows` where there
+/// are too many rows for the entries.
 pub fn size_of(line: &[u8]) -> Result<Size, Fault>
-    ensures { MatchResult result (λ s. (s.columns ≡ s.rows) × SpellsSize line.now s.rows s.rows s.entries × (s.rows ≤ most_rows s.entries))
+    ensures { MatchResult result (λ s. (s.columns ≡ s.rows) × SpellsSize line.now s.rows s.rows s.entries ×
+        (s.rows ≤ most_rows s.entries))
         (λ e. (r k : ℕ) → r ≤ most_rows k → SpellsSize line.now r r k → ⊥) }
 {
     let Some(size) = spelled_size(line) else {
@@ -99,7 +101,8 @@ pub fn size_of(line: &[u8]) -> Result<Size, Fault>
 
 /// The entry that a line spells.
 fn spelled_entry(line: &[u8], field: Field, n: usize) -> Option<(usize, usize)>
-    ensures { MatchOption result ((e : ℕ × ℕ) → SpellsEntry field n line.now e → ⊥) (λ p. SpellsEntry field n line.now (p.0, p.1)) }
+    ensures { MatchOption result ((e : ℕ × ℕ) → SpellsEntry field n line.now e → ⊥)
+        (λ p. SpellsEntry field n line.now (p.0, p.1)) }
 {
     let (first, rest) = first_word(line)?;
     let (second, rest) = first_word(rest)?;
@@ -114,7 +117,8 @@ fn spelled_entry(line: &[u8], field: Field, n: usize) -> Option<(usize, usize)>
 
 /// The row and the column, from 0 on, of the entry that a line spells; `Entry` where it spells none.
 pub fn entry_of(line: &[u8], field: Field, n: usize) -> Result<(usize, usize), Fault>
-    ensures { MatchResult result (λ p. SpellsEntry field n line.now (p.0, p.1)) (λ f. (f ≡ fault.Entry) × ((e : ℕ × ℕ) → SpellsEntry field n line.now e → ⊥)) }
+    ensures { MatchResult result (λ p. SpellsEntry field n line.now (p.0, p.1))
+        (λ f. (f ≡ fault.Entry) × ((e : ℕ × ℕ) → SpellsEntry field n line.now e → ⊥)) }
 {
     spelled_entry(line, field, n).ok_or(Fault::Entry)
 }

@@ -1,4 +1,5 @@
-// What is wrong with a line of a file. Given by `headers`, `entries` and `reader`, which hands it on with the line's number.
+// What is wrong with a line of a file. Given by `headers`, `entries` and `reader`, which hands it on with the line's
+// number.
 
 ghost use Rattle.std.specs.Prelude.{◌≡◌};
 ghost use Rattle.amd_market.specs.declared.faults.Fault.TheVariants.{OutOfMemory};

@@ -1,4 +1,5 @@
-// The first line of a file, and what it says of the entries. Called by `reader`. Source: the Matrix Market exchange formats.
+// The first line of a file, and what it says of the entries. Called by `reader`. Source: the Matrix Market exchange
+// formats.
 
 ghost use Rattle.std.specs.Prelude.{◌≡◌, ◌≢◌, ◌∷◌, [], List, ℕ, MatchOption, MatchResult};
 ghost use Rattle.amd_cases.specs.Words.{words};
@@ -101,7 +102,8 @@ fn symmetry_of(word: &[u8]) -> Option<Symmetry>
 
 /// What stands behind the first word of a text, where it is this word.
 fn behind<'a>(text: &'a [u8], word: &[u8]) -> Option<&'a [u8]>
-    ensures { MatchOption result ((ws : List (List ℕ)) → words text.now ≢ word.now ∷ ws) (λ rest. words text.now ≡ word.now ∷ words rest.now) }
+    ensures { MatchOption result ((ws : List (List ℕ)) → words text.now ≢ word.now ∷ ws)
+        (λ rest. words text.now ≡ word.now ∷ words rest.now) }
 {
     let (first, rest) = first_word(text)?;
     if first == word { Some(rest) } else { None }
@@ -134,7 +136,8 @@ fn spelled_header(line: &[u8]) -> Option<Header>
 
 /// The header that the first line of a file spells; `Header` where it spells none.
 pub fn header_of(line: &[u8]) -> Result<Header, Fault>
-    ensures { MatchResult result (SpellsHeader line.now) (λ e. (e ≡ fault.Header) × ((h : Header) → SpellsHeader line.now h → ⊥)) }
+    ensures { MatchResult result (SpellsHeader line.now)
+        (λ e. (e ≡ fault.Header) × ((h : Header) → SpellsHeader line.now h → ⊥)) }
 {
     spelled_header(line).ok_or(Fault::Header)
 }

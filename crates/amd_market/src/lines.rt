@@ -1,5 +1,5 @@
-// A reader of the lines of a text, which holds one line and counts those that it read. Called by `reader`, and by `held` of the crate `amd_command`.
-// A line ends at a line feed or at the end of the input.
+// A reader of the lines of a text, which holds one line and counts those that it read. Called by `reader`, and by
+// `held` of the crate `amd_command`. A line ends at a line feed or at the end of the input.
 
 ghost use Rattle.std.specs.Prelude.{◌≡◌, IfOk, IfErr};
 ghost use Rattle.amd_cases.specs.Words.{words};

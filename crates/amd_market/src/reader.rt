@@ -30,7 +30,8 @@ pub struct Matrix<A: Allocator> {
 fn take_header<R: BufRead + Drop, A: Allocator>(
     lines: &mut LineReader<R, A>,
 ) -> Result<Header, ReadError>
-    ensures takes { IfOk result (λ h. (line : List ℕ) × TakesLines R.remaining lines.old lines.new (line ∷ []) × SpellsHeader line h) }
+    ensures takes { IfOk result (λ h. (line : List ℕ) × TakesLines R.remaining lines.old lines.new (line ∷ []) ×
+        SpellsHeader line h) }
     ensures fails { IfErr result (FailsAt R.remaining lines.old) }
 {
     if !lines.take_line()? {
@@ -46,7 +47,8 @@ fn take_header<R: BufRead + Drop, A: Allocator>(
 fn take_size<R: BufRead + Drop, A: Allocator>(
     lines: &mut LineReader<R, A>,
 ) -> Result<Size, ReadError>
-    ensures takes { IfOk result (λ s. (line : List ℕ) × TakesTelling R.remaining lines.old lines.new line × SpellsSize line s.rows s.rows s.entries × (s.rows ≤ most_rows s.entries)) }
+    ensures takes { IfOk result (λ s. (line : List ℕ) × TakesTelling R.remaining lines.old lines.new line ×
+        SpellsSize line s.rows s.rows s.entries × (s.rows ≤ most_rows s.entries)) }
     ensures fails { IfErr result (FailsAt R.remaining lines.old) }
 {
     if !lines.take_telling()? {
@@ -64,7 +66,8 @@ fn take_entry<R: BufRead + Drop, A: Allocator>(
     field: Field,
     n: usize,
 ) -> Result<(usize, usize), ReadError>
-    ensures takes { IfOk result (λ e. (line : List ℕ) × TakesTelling R.remaining lines.old lines.new line × SpellsEntry field n line e) }
+    ensures takes { IfOk result (λ e. (line : List ℕ) × TakesTelling R.remaining lines.old lines.new line ×
+        SpellsEntry field n line e) }
     ensures fails { IfErr result (FailsAt R.remaining lines.old) }
 {
     if !lines.take_telling()? {
@@ -99,7 +102,8 @@ fn take_pairs<R: BufRead + Drop, A: Allocator + Copy>(
     header: Header,
     size: Size,
 ) -> Result<Vec<(usize, usize), A>, ReadError>
-    ensures takes { IfOk result (λ v. TakesEntries R.remaining lines.old lines.new header size.rows size.entries v.items) }
+    ensures takes { IfOk result (λ v. TakesEntries R.remaining lines.old lines.new header size.rows size.entries
+        v.items) }
     ensures fails { IfErr result (FailsAt R.remaining lines.old) }
 {
     let mut pairs = Vec::new(alloc);
@@ -125,18 +129,19 @@ fn take_end<R: BufRead + Drop, A: Allocator>(lines: &mut LineReader<R, A>) -> Re
 
 /// Reads the matrix that a text in the coordinate format of the Matrix Market spells, up to the end of the input.
 ///
-/// Each column lists its rows in the order of the entries; a pair that the text spells twice stands there twice. Memory is asked
-/// for as entries are read, and for the columns when all of them were.
+/// Each column lists its rows in the order of the entries; a pair that the text spells twice stands there twice. Memory
+/// is asked for as entries are read, and for the columns when all of them were.
 ///
 /// # Errors
 ///
-/// `Line` for a line at fault, an input that ends too early, or refused memory; `Input` where the input cannot be read. Each names
-/// the line that was read last.
+/// `Line` for a line at fault, an input that ends too early, or refused memory; `Input` where the input cannot be read.
+/// Each names the line that was read last.
 pub fn read_matrix<R: BufRead + Drop, A: Allocator + Copy>(
     alloc: A,
     input: R,
 ) -> Result<Matrix<A>, ReadError>
-    ensures spells { IfOk result (λ m. IfSome (R.remaining input) (λ bytes. SpellsMatrix bytes m.n m.a_p.items m.a_i.items)) }
+    ensures spells { IfOk result (λ m. IfSome (R.remaining input)
+        (λ bytes. SpellsMatrix bytes m.n m.a_p.items m.a_i.items)) }
     ensures line { IfErr result (λ e. IfSome (R.remaining input) (λ bytes. NamesLine bytes e)) }
 {
     let mut lines = LineReader::new(alloc, input);

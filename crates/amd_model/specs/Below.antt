@@ -1,4 +1,5 @@
--- Tests, counts and sums over the numbers below a bound: the sets of rows that the other definitions speak of are such tests.
+-- Tests, counts and sums over the numbers below a bound: the sets of rows that the other definitions speak of are such
+-- tests.
 use Rattle.std.specs.Prelude.{ℕ, zero, suc, Bool, true, false, ◌&&◌, ◌||◌, ◌+◌, cond, List, [], ◌∷◌, ◌++◌}
 
 -- some number below n passes

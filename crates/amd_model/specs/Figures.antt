@@ -1,4 +1,5 @@
--- The figures of a run: sums over its fronts, and the greatest front. Source: AMD user guide; Amestoy, Davis and Duff 2004.
+-- The figures of a run: sums over its fronts, and the greatest front. Source: AMD user guide; Amestoy, Davis and Duff
+-- 2004.
 use Rattle.std.specs.Prelude.{ℕ, zero, suc, Bool, ◌+◌, ◌*◌, ◌/◌, ◌&&◌, cond, max, min, nat_lt}
 use Rattle.amd_model.specs.Below.{count_below, sum_below}
 use Rattle.amd_model.specs.Graph.{Graph, degree}
@@ -12,8 +13,8 @@ front_sum share f r = sum_below f (λ j. share (r + j))
 unfoldable pub is_made : Graph → State → ℕ → Bool
 is_made g s e = is_element s e && nat_lt 0 (degree g e)
 
--- the figure of the elements of a state: one front for each that was made, and one for the dense rows; the rows outside a
--- front are those of its border and the dense rows
+-- the figure of the elements of a state: one front for each that was made, and one for the dense rows; the rows outside
+-- a front are those of its border and the dense rows
 unfoldable pub figure : (ℕ → ℕ) → Graph → (ℕ → Bool) → State → ℕ
 figure share g dense s =
     sum_below g.size (λ e.
@@ -41,7 +42,8 @@ max_below (suc n) p f d = max (cond (p n) (f n) 0) (max_below n p f d)
 -- the greatest of 1, the number of rows of each front, and that of the dense rows
 unfoldable pub greatest_front : Graph → (ℕ → Bool) → State → ℕ
 greatest_front g dense s =
-    max_below g.size (is_made g s) (λ e. count_below g.size (in_block s e) + (count_below g.size (s.border e) + count_below g.size dense))
+    max_below g.size (is_made g s) (λ e. count_below g.size (in_block s e)
+    + (count_below g.size (s.border e) + count_below g.size dense))
     (max 1 (count_below g.size dense))
 
 -- what a field of 64 bits holds of a figure: the lesser of it and the greatest such number

@@ -1,10 +1,12 @@
--- The laws of eliminations, in the words of the field. They hold for every permitted choice of pivot and representative.
--- No statement here is a law by itself: each is the contract of a function in src/, where it is proved.
+-- The laws of eliminations, in the words of the field. They hold for every permitted choice of pivot and
+-- representative. No statement here is a law by itself: each is the contract of a function in src/, where it is proved.
 -- Source: Amestoy, Davis and Duff 1996, 2004; George and Liu 1981.
-use Rattle.std.specs.Prelude.{ℕ, Bool, true, false, List, Some, ◌≡◌, ◌≢◌, ◌≤◌, ◌<◌, ◌↔◌, ◌⊎◌, ◌+◌, ◌*◌, ◌-◌, ◌/◌, ◌&&◌, length, slice_index}
+use Rattle.std.specs.Prelude.{ℕ, Bool, true, false, List, Some, ◌≡◌, ◌≢◌, ◌≤◌, ◌<◌, ◌↔◌, ◌⊎◌, ◌+◌, ◌*◌, ◌-◌, ◌/◌, ◌&&◌}
+use Rattle.std.specs.Prelude.{length, slice_index}
 use Rattle.amd_model.specs.Below.{any_below, count_below}
 use Rattle.amd_model.specs.Graph.{Graph, IsGraph, degree, edge_count}
-use Rattle.amd_model.specs.State.{State, Home, Last, Live, Gone, live, eliminated, in_class, is_class, stands, holds, neighbours, front}
+use Rattle.amd_model.specs.State.{State, Home, Last, Live, Gone, live, eliminated, in_class, is_class, stands, holds}
+use Rattle.amd_model.specs.State.{neighbours, front}
 use Rattle.amd_model.specs.State.{IsStart}
 use Rattle.amd_model.specs.Step.{outer, block, border_of}
 use Rattle.amd_model.specs.Run.{Run, Steps, EachState, last_state}
@@ -37,28 +39,32 @@ is_last (Gone e) = false
 
 -- the number of rows held last that an edge joins to a class
 unfoldable pub last_neighbours : Graph → State → ℕ → ℕ
-last_neighbours g s c = count_below g.size (λ v. is_last (s.home v) && any_below g.size (λ w. in_class s c w && g.edge w v))
+last_neighbours g s c = count_below g.size (λ v. is_last (s.home v) &&
+    any_below g.size (λ w. in_class s c w && g.edge w v))
 
--- the size of a front is the true external degree, and the bound is no lower: equal where one or two elements hold the class,
--- and greater by its dense neighbours where none does
+-- the size of a front is the true external degree, and the bound is no lower: equal where one or two elements hold the
+-- class, and greater by its dense neighbours where none does
 pub record BoundsMeetDegrees (g : Graph) (s : State) : Type 0 where
   pub degree : (c : ℕ) → is_class s c ≡ true → TrueDegree g s c (front_size g s c)
   pub enough : (c : ℕ) → is_class s c ≡ true → front_size g s c ≤ s.bound c
   pub exact : (c : ℕ) → is_class s c ≡ true → 0 < holders g s c → holders g s c ≤ 2 → s.bound c ≡ front_size g s c
-  pub untouched : (c : ℕ) → is_class s c ≡ true → holders g s c ≡ 0 → s.bound c ≡ front_size g s c + last_neighbours g s c
+  pub untouched : (c : ℕ) → is_class s c ≡ true → holders g s c ≡ 0 → s.bound c ≡ front_size g s c
+      + last_neighbours g s c
 
--- what is tested at the representative of a class holds of its rows alike: lying on a border, in a front, in a block and on a
--- border to be made, and being alike; and each row of a class has an edge to each row of a direct neighbour
+-- what is tested at the representative of a class holds of its rows alike: lying on a border, in a front, in a block
+-- and on a border to be made, and being alike; and each row of a class has an edge to each row of a direct neighbour
 pub record ClassesAreWhole (g : Graph) (aggressive : Bool) (s : State) : Type 0 where
   pub held : (e d v : ℕ) → stands g s e ≡ true → in_class s d v ≡ true → holds g s e d ≡ s.border e v
   pub fronts : (c d v : ℕ) → in_class s d v ≡ true → front g s c d ≡ front g s c v
   pub blocks : (c d v : ℕ) → in_class s d v ≡ true → block g aggressive s c d ≡ block g aggressive s c v
   pub borders : (c d v : ℕ) → in_class s d v ≡ true → border_of g aggressive s c d ≡ border_of g aggressive s c v
-  pub edges : (c d v w : ℕ) → neighbours g s c d ≡ true → in_class s c v ≡ true → in_class s d w ≡ true → g.edge v w ≡ true
-  -- being alike: a class has a direct neighbour outside L and c exactly if each row of the one has an edge to each row of the
-  -- other, no standing element has both rows on its border, and the other row lies outside L and c
+  pub edges : (c d v w : ℕ) → neighbours g s c d ≡ true → in_class s c v ≡ true → in_class s d w ≡ true →
+      g.edge v w ≡ true
+  -- being alike: a class has a direct neighbour outside L and c exactly if each row of the one has an edge to each row
+  -- of the other, no standing element has both rows on its border, and the other row lies outside L and c
   pub likeness : (c d z v w : ℕ) → in_class s d v ≡ true → in_class s z w ≡ true → d ≢ z →
-      (outer g s c d z ≡ true) ↔ ((g.edge v w ≡ true) × (front g s c w ≡ false) × (in_class s c w ≡ false) × (Together g s v w → ⊥))
+      (outer g s c d z ≡ true) ↔ ((g.edge v w ≡ true) × (front g s c w ≡ false) × (in_class s c w ≡ false) ×
+      (Together g s v w → ⊥))
 
 -- ---- of the last state of a run, and of its listing
 
@@ -77,9 +83,11 @@ pub data Under (s : State) : ℕ → ℕ → Type 0 where
   itself : {e : ℕ} → Under s e e
   over : {e f h : ℕ} → s.parent e ≡ Some f → Under s f h → Under s e h
 
--- an edge between rows that are not dense joins rows of one block, or of two blocks of which one is a descendant of the other
+-- an edge between rows that are not dense joins rows of one block, or of two blocks of which one is a descendant of the
+-- other
 abbrev pub EdgesFollowTree : Graph → State → Type 0
-EdgesFollowTree g s = (v w e f : ℕ) → g.edge v w ≡ true → s.home v ≡ Gone e → s.home w ≡ Gone f → Under s e f ⊎ Under s f e
+EdgesFollowTree g s = (v w e f : ℕ) → g.edge v w ≡ true → s.home v ≡ Gone e → s.home w ≡ Gone f → Under s e f ⊎
+    Under s f e
 
 -- the column of a row lies in the later rows of its block, on the border of its element, and in the dense rows
 abbrev pub ColumnsInside : Graph → State → List ℕ → Type 0

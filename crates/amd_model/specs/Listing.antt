@@ -1,5 +1,7 @@
--- Trees listed in postorder, and the listing of the assembly tree. Source: Amestoy, Davis and Duff 2004; George and Liu 1981.
-use Rattle.std.specs.Prelude.{ℕ, Bool, false, Option, None, Some, ◌≡◌, ◌<◌, ◌==◌, ◌+◌, ◌&&◌, not, is_none, cond, nat_le, List, [], ◌∷◌}
+-- Trees listed in postorder, and the listing of the assembly tree. Source: Amestoy, Davis and Duff 2004; George and Liu
+-- 1981.
+use Rattle.std.specs.Prelude.{ℕ, Bool, false, Option, None, Some, ◌≡◌, ◌<◌, ◌==◌, ◌+◌, ◌&&◌, not, is_none, cond, nat_le}
+use Rattle.std.specs.Prelude.{List, [], ◌∷◌}
 use Rattle.std.specs.Prelude.{◌++◌, filter, length, Contains}
 use Rattle.amd_model.specs.Below.{count_below, list_below}
 use Rattle.amd_model.specs.Graph.{Graph}
@@ -56,7 +58,14 @@ weight g s e = count_below g.size (in_block s e) + count_below g.size (s.border 
 
 -- the assembly tree: its nodes are the elements
 abbrev pub assembly_tree : Graph → State → Tree
-assembly_tree g s = record { size = g.size; is_node = is_element s; parent = s.parent; weight = weight g s; block = block_list g s }
+assembly_tree g s = record {
+  size = g.size;
+  is_node = is_element s;
+  parent = s.parent;
+  weight = weight g s;
+  block =
+      block_list g s;
+}
 
 -- p lists the blocks of the assembly tree in postorder, and then the dense rows
 pub record IsPostorder (g : Graph) (dense : ℕ → Bool) (s : State) (p : List ℕ) : Type 0 where

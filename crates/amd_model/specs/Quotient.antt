@@ -1,8 +1,9 @@
--- An elimination kept in lists, with each choice made: the pivot, the representatives, and the order of each list. The rules
--- are those by which the Rust crate `amd` 0.2.2 breaks ties, as tests show; the relation of Step permits each of them. Lists of
--- Amestoy, Davis and Duff 1996: a class has a variable list (its direct neighbours) and an element list (the elements that hold
--- it), an element its members.
-use Rattle.std.specs.Prelude.{ℕ, zero, suc, Bool, true, false, Option, None, Some, ◌≡◌, ◌==◌, ◌&&◌, ◌||◌, not, ◌+◌, ◌-◌, min, cond, nat_le}
+-- An elimination kept in lists, with each choice made: the pivot, the representatives, and the order of each list. The
+-- rules are those by which the Rust crate `amd` 0.2.2 breaks ties, as tests show; the relation of Step permits each of
+-- them. Lists of Amestoy, Davis and Duff 1996: a class has a variable list (its direct neighbours) and an element list
+-- (the elements that hold it), an element its members.
+use Rattle.std.specs.Prelude.{ℕ, zero, suc, Bool, true, false, Option, None, Some, ◌≡◌, ◌==◌, ◌&&◌, ◌||◌, not, ◌+◌, ◌-◌}
+use Rattle.std.specs.Prelude.{min, cond, nat_le}
 use Rattle.std.specs.Prelude.{nat_lt, List, [], ◌∷◌, ◌++◌, filter, fold, flat_map, map, sum_by}
 use Rattle.amd_model.specs.Below.{any_below, count_below, list_below}
 use Rattle.amd_model.specs.Graph.{Graph, degree}
@@ -53,14 +54,16 @@ was_read pair k j i = any_below k (λ c. nat_le i c && pair j c)
 unfoldable pub met_below : (ℕ → ℕ → Bool) → ℕ → ℕ → List (ℕ × ℕ)
 met_below pair k j = map (λ i. (i, j)) (list_below k (λ i. nat_lt j i && pair i j && not (was_read pair k j i)))
 
--- column k is gone through down to its diagonal, rising: its entry (j, k) is an edge, and after it the lower entries of column j are
--- read as far as row k; the entry (k, j), which is the same edge, is passed over
+-- column k is gone through down to its diagonal, rising: its entry (j, k) is an edge, and after it the lower entries of
+-- column j are read as far as row k; the entry (k, j), which is the same edge, is passed over
 unfoldable pub met_at : (ℕ → ℕ → Bool) → ℕ → List (ℕ × ℕ)
 met_at pair k = flat_map (λ j. (j, k) ∷ met_below pair k j) (list_below k (λ j. pair j k))
 
--- the edges in the order in which the columns are read, and then those of the lower entries that were never read, columns rising
+-- the edges in the order in which the columns are read, and then those of the lower entries that were never read,
+-- columns rising
 unfoldable pub met_edges : ℕ → (ℕ → ℕ → Bool) → List (ℕ × ℕ)
-met_edges n pair = flat_map (met_at pair) (list_below n (λ k. true)) ++ flat_map (met_below pair n) (list_below n (λ j. true))
+met_edges n pair = flat_map (met_at pair) (list_below n (λ k. true)) ++ flat_map (met_below pair n)
+    (list_below n (λ j. true))
 
 -- the other end of an edge of the row i, if it is one
 unfoldable pub other_end : ℕ → ℕ × ℕ → List ℕ
@@ -89,7 +92,8 @@ pub record QuotientGraph : Type 0 where
   pub home : ℕ → Home
   pub parent : ℕ → Option ℕ
 
--- the start: the rows that are live are placed rising, each with the lists given, without the dense rows, and its degree as bound
+-- the start: the rows that are live are placed rising, each with the lists given, without the dense rows, and its
+-- degree as bound
 unfoldable pub start_quotient : Graph → (ℕ → Bool) → (ℕ → List ℕ) → QuotientGraph
 start_quotient g dense lists = record {
   placed = list_below g.size (λ v. not (dense v || degree g v == 0));
@@ -107,32 +111,32 @@ unfoldable pub pivot : (ℕ → ℕ) → List ℕ → ℕ
 pivot bound [] = 0
 pivot bound (x ∷ xs) = fold (λ r y. cond (nat_le (bound y) (bound r)) y r) x xs
 
--- the list of the new element before the round: the members of the pivot's elements, element after element in the order of its
--- element list, and then its variables, each class at its first occurrence and the pivot left out
+-- the list of the new element before the round: the members of the pivot's elements, element after element in the order
+-- of its element list, and then its variables, each class at its first occurrence and the pivot left out
 unfoldable pub gathered : QuotientGraph → ℕ → List ℕ
 gathered t c = fold (add_new (λ x. x == c)) [] (flat_map t.members (t.elements c) ++ t.variables c)
 
 -- a round with the pivot c, where the list front names the classes of L
 module _ (aggressive : Bool) (t : QuotientGraph) (c : ℕ) (front : List ℕ) where
   -- the new element absorbs e: an element of the pivot or, aggressively, one whose members are all in L
-  unfoldable pub takes : ℕ → Bool
-  takes e = has (t.elements c) e || (aggressive && not (is_empty (t.members e)) && each (has front) (t.members e))
+  unfoldable pub absorbed : ℕ → Bool
+  absorbed e = has (t.elements c) e || (aggressive && not (is_empty (t.members e)) && each (has front) (t.members e))
 
   -- what a class of L keeps of its element list: the elements that are not absorbed
   unfoldable pub kept_elements : ℕ → List ℕ
-  kept_elements i = filter (λ e. not (takes e)) (t.elements i)
+  kept_elements i = filter (λ e. not (absorbed e)) (t.elements i)
 
   -- what it keeps of its variable list: the classes that are neither the pivot nor in L
   unfoldable pub kept_variables : ℕ → List ℕ
   kept_variables i = filter (λ j. not (j == c || has front j)) (t.variables i)
 
   -- mass elimination: the class keeps nothing
-  unfoldable pub done : ℕ → Bool
-  done i = is_empty (kept_elements i) && is_empty (kept_variables i)
+  unfoldable pub mass : ℕ → Bool
+  mass i = is_empty (kept_elements i) && is_empty (kept_variables i)
 
   -- the other classes of L, in its order
-  unfoldable pub rest : List ℕ
-  rest = filter (λ i. not (done i)) front
+  unfoldable pub border_of : List ℕ
+  border_of = filter (λ i. not (mass i)) front
 
   -- two classes that keep the same elements and the same variables
   unfoldable pub alike : ℕ → ℕ → Bool
@@ -141,11 +145,11 @@ module _ (aggressive : Bool) (t : QuotientGraph) (c : ℕ) (front : List ℕ) wh
 
   -- merged classes are represented by the one that stands last in the list of the new element
   unfoldable pub represents : ℕ → ℕ
-  represents i = last_that (alike i) i rest
+  represents i = last_that (alike i) i border_of
 
   -- the list of the new element after the round: the representatives, in the order that they had
   unfoldable pub made : List ℕ
-  made = filter (λ i. represents i == i) rest
+  made = filter (λ i. represents i == i) border_of
 
   -- the class i is one no longer: the pivot, what was mass-eliminated, and what was merged into another
   unfoldable pub ends : ℕ → Bool
@@ -153,39 +157,42 @@ module _ (aggressive : Bool) (t : QuotientGraph) (c : ℕ) (front : List ℕ) wh
 
   -- the number of rows of a merged class
   unfoldable pub new_size : ℕ → ℕ
-  new_size i = sum_by t.size (filter (λ j. represents j == i) rest)
+  new_size i = sum_by t.size (filter (λ j. represents j == i) border_of)
 
   -- the number of rows outside L of the elements that a class keeps, each taken by itself, plus that of its variables
-  unfoldable pub far : ℕ → ℕ
-  far i = sum_by (λ e. sum_by t.size (filter (λ j. not (has front j)) (t.members e))) (kept_elements i) + sum_by t.size (kept_variables i)
+  unfoldable pub outside : ℕ → ℕ
+  outside i = sum_by (λ e. sum_by t.size (filter (λ j. not (has front j)) (t.members e))) (kept_elements i)
+      + sum_by t.size (kept_variables i)
 
   -- the number of rows that are live after the round
   unfoldable pub left : ℕ
-  left = sum_by t.size (filter (λ i. not (i == c || has front i)) t.placed) + sum_by t.size rest
+  left = sum_by t.size (filter (λ i. not (i == c || has front i)) t.placed) + sum_by t.size border_of
 
-  -- the new bound of a representative: of the old bounds of merged classes its own counts, and of what they keep its own lists
-  unfoldable pub next_bound : ℕ → ℕ
-  next_bound i = min (min (t.bound i) (far i) + (sum_by t.size rest - new_size i)) (left - new_size i)
+  -- the new bound of a representative: of the old bounds of merged classes its own counts, and of what they keep its
+  -- own lists
+  unfoldable pub new_bound : ℕ → ℕ
+  new_bound i = min (min (t.bound i) (outside i) + (sum_by t.size border_of - new_size i)) (left - new_size i)
 
   -- where a row goes with its class
   unfoldable pub new_home : Home → Home
   new_home Last = Last
   new_home (Gone e) = Gone e
-  new_home (Live d) = cond (d == c || (has front d && done d)) (Gone c) (cond (has rest d) (Live (represents d)) (Live d))
+  new_home (Live d) = cond (d == c || (has front d && mass d)) (Gone c)
+      (cond (has border_of d) (Live (represents d)) (Live d))
 
-  -- the round: L and the pivot are taken out of the order of placing, and the representatives are placed in the order of the new
-  -- element's list; a representative lists the new element and then what it keeps, the first kept element and the first kept
-  -- variable each moved behind the others; what has ended is taken out of the other lists
+  -- the round: L and the pivot are taken out of the order of placing, and the representatives are placed in the order
+  -- of the new element's list; a representative lists the new element and then what it keeps, the first kept element
+  -- and the first kept variable each moved behind the others; what has ended is taken out of the other lists
   unfoldable pub round : QuotientGraph
   round = record {
     placed = filter (λ i. not (i == c || has front i)) t.placed ++ made;
     variables = λ i. cond (has made i) (turned (kept_variables i)) (filter (λ j. not (ends j)) (t.variables i));
     elements = λ i. cond (has made i) (c ∷ turned (kept_elements i)) (t.elements i);
-    members = λ e. cond (e == c) made (cond (takes e) [] (filter (λ j. not (ends j)) (t.members e)));
+    members = λ e. cond (e == c) made (cond (absorbed e) [] (filter (λ j. not (ends j)) (t.members e)));
     size = λ i. cond (has made i) (new_size i) (t.size i);
-    bound = λ i. cond (has made i) (next_bound i) (t.bound i);
+    bound = λ i. cond (has made i) (new_bound i) (t.bound i);
     home = λ v. new_home (t.home v);
-    parent = λ e. cond (e == c) None (cond (takes e) (Some c) (t.parent e));
+    parent = λ e. cond (e == c) None (cond (absorbed e) (Some c) (t.parent e));
   }
 
 -- the round with the pivot that the rules choose

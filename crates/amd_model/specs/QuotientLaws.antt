@@ -1,4 +1,5 @@
--- The laws of the elimination kept in lists: it starts where an elimination starts, its rounds are steps, and they end as a run.
+-- The laws of the elimination kept in lists: it starts where an elimination starts, its rounds are steps, and they end
+-- as a run.
 use Rattle.std.specs.Prelude.{ℕ, ℤ, Bool, false, List, [], ◌≡◌}
 use Rattle.amd_model.specs.Graph.{Graph, IsGraph}
 use Rattle.amd_model.specs.State.{State, Live, IsStart}
@@ -6,7 +7,8 @@ use Rattle.amd_model.specs.Step.{StepAt}
 use Rattle.amd_model.specs.Run.{Run, last_state}
 use Rattle.amd_model.specs.Sound.{IsSound}
 use Rattle.amd_model.specs.Input.Pattern.{graph_of, is_pair}
-use Rattle.amd_model.specs.Quotient.{QuotientGraph, Fits, Once, has, is_empty, pivot, next, after_rounds, start_quotient, starting_list}
+use Rattle.amd_model.specs.Quotient.{QuotientGraph, Fits, Once, has, is_empty, pivot, next, after_rounds}
+use Rattle.amd_model.specs.Quotient.{start_quotient, starting_list}
 
 -- a round with a class left leads to lists that stand for a state that a step with the pivot leads to
 abbrev pub NextIsAStep : Type 0
@@ -14,12 +16,14 @@ NextIsAStep = (g : Graph) (aggressive : Bool) (t : QuotientGraph) (s : State) �
     is_empty t.placed ≡ false →
     (new : State) × StepAt g aggressive (pivot t.bound t.placed) s new × Fits g (next aggressive t) new × IsSound g new
 
--- from lists that stand for a start, as many rounds as the graph has rows are a run: the lists stand for its last state, and no class is
--- left
+-- from lists that stand for a start, as many rounds as the graph has rows are a run: the lists stand for its last
+-- state, and no class is left
 abbrev pub RoundsAreARun : Type 0
-RoundsAreARun = (g : Graph) (dense : ℕ → Bool) (aggressive : Bool) (t : QuotientGraph) (s : State) → IsGraph g → IsStart g dense s →
+RoundsAreARun = (g : Graph) (dense : ℕ → Bool) (aggressive : Bool) (t : QuotientGraph) (s : State) → IsGraph g →
+    IsStart g dense s →
     Fits g t s →
-    (states : List State) × Run g dense aggressive s states × Fits g (after_rounds g.size aggressive t) (last_state s states)
+    (states : List State) × Run g dense aggressive s states ×
+    Fits g (after_rounds g.size aggressive t) (last_state s states)
     × ((after_rounds g.size aggressive t).placed ≡ [])
 
 -- the list names exactly the neighbours of the row, each once
@@ -34,4 +38,5 @@ StartFits = (g : Graph) (dense : ℕ → Bool) (s : State) (lists : ℕ → List
 
 -- the starting lists of a pattern are such lists
 abbrev pub StartingLists : Type 0
-StartingLists = (n : ℕ) (ap ai : List ℤ) (i : ℕ) → NamesNeighbours (graph_of n ap ai) i (starting_list n (is_pair n ap ai) i)
+StartingLists = (n : ℕ) (ap ai : List ℤ) (i : ℕ) →
+    NamesNeighbours (graph_of n ap ai) i (starting_list n (is_pair n ap ai) i)

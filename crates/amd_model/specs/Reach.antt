@@ -17,7 +17,8 @@ pub record Counts (g : Graph) (P : ℕ → Type 0) (n : ℕ) : Type 0 where
 
 -- the live rows outside the class c that are reached from a row of it through eliminated rows
 abbrev pub Reached : Graph → State → ℕ → ℕ → Type 0
-Reached g s c w = (live s w ≡ true) × (in_class s c w ≡ false) × ((v : ℕ) × (in_class s c v ≡ true) × Reach g (eliminated s) v w)
+Reached g s c w = (live s w ≡ true) × (in_class s c w ≡ false) ×
+    ((v : ℕ) × (in_class s c v ≡ true) × Reach g (eliminated s) v w)
 
 -- the true external degree of the class c is n
 abbrev pub TrueDegree : Graph → State → ℕ → ℕ → Type 0

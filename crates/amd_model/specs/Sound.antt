@@ -20,10 +20,14 @@ pub record IsSound (g : Graph) (s : State) : Type 0 where
   -- the rows on the border of a standing element are live
   pub borders_live : (e v : ℕ) → stands g s e ≡ true → s.border e v ≡ true → live s v ≡ true
   -- a border has whole classes
-  pub whole : (e c v w : ℕ) → stands g s e ≡ true → s.home v ≡ Live c → s.home w ≡ Live c → s.border e v ≡ true → s.border e w ≡ true
+  pub whole : (e c v w : ℕ) → stands g s e ≡ true → s.home v ≡ Live c → s.home w ≡ Live c → s.border e v ≡ true →
+      s.border e w ≡ true
   -- rows of one class have the same edges, where no element explains them
-  pub uniform : (c d v x w : ℕ) → s.home v ≡ Live c → s.home x ≡ Live c → s.home w ≡ Live d → c ≢ d → (Together g s v w → ⊥) →
+  pub uniform : (c d v x w : ℕ) → s.home v ≡ Live c → s.home x ≡ Live c → s.home w ≡ Live d → c ≢ d →
+      (Together g s v w → ⊥) →
       g.edge v w ≡ true → g.edge x w ≡ true
   -- rows on one border are joined by a path, and a path comes from a border or is an edge
-  pub met : (e v w : ℕ) → stands g s e ≡ true → s.border e v ≡ true → s.border e w ≡ true → v ≢ w → Reach g (eliminated s) v w
-  pub only : (v w : ℕ) → live s v ≡ true → live s w ≡ true → v ≢ w → Reach g (eliminated s) v w → Together g s v w ⊎ (g.edge v w ≡ true)
+  pub met : (e v w : ℕ) → stands g s e ≡ true → s.border e v ≡ true → s.border e w ≡ true → v ≢ w →
+      Reach g (eliminated s) v w
+  pub only : (v w : ℕ) → live s v ≡ true → live s w ≡ true → v ≢ w → Reach g (eliminated s) v w → Together g s v w ⊎
+      (g.edge v w ≡ true)

@@ -1,13 +1,14 @@
--- The state of an elimination with element absorption: where each row is, the bound of each class, and the border and the
--- parent of each element. A class (a supervariable) is named by its representative, and an element by its pivot row.
--- A pivot leaves an element behind: its block, the rows eliminated with it, and its border, the live rows that they reached.
--- A state is four functions of a row; a bound, border or parent at a number that names no class or element means nothing.
--- Source: Amestoy, Davis and Duff 1996 (quotient graph, elements, supervariables).
+-- The state of an elimination with element absorption: where each row is, the bound of each class, and the border and
+-- the parent of each element. A class (a supervariable) is named by its representative, and an element by its pivot
+-- row. A pivot leaves an element behind: its block, the rows eliminated with it, and its border, the live rows that
+-- they reached. A state is four functions of a row; a bound, border or parent at a number that names no class or
+-- element means nothing. Source: Amestoy, Davis and Duff 1996 (quotient graph, elements, supervariables).
 use Rattle.std.specs.Prelude.{ℕ, Bool, true, false, Option, None, ◌==◌, ◌&&◌, ◌||◌, not, is_none, ◌≡◌, ◌≤◌, ◌<◌}
 use Rattle.amd_model.specs.Below.{any_below, all_below}
 use Rattle.amd_model.specs.Graph.{Graph, degree}
 
--- a row is held last (a dense row), is live in the class of a representative, or is eliminated in the block of a pivot row
+-- a row is held last (a dense row), is live in the class of a representative, or is eliminated in the block of a pivot
+-- row
 pub data Home : Type 0 where
   Last : Home
   Live : ℕ → Home
@@ -89,11 +90,13 @@ unfoldable pub neighbours : Graph → State → ℕ → ℕ → Bool
 neighbours g s c d = is_class s c && is_class s d && not (c == d) && joined g s c d
     && not (any_below g.size (λ e. holds g s e c && holds g s e d))
 
--- the front of a class, L(c): the borders of the standing elements that hold it and the rows of its direct neighbours, without
--- its own rows. (The front whose columns a figure counts is another thing: a block, its border, and the rows held last.)
+-- the front of a class, L(c): the borders of the standing elements that hold it and the rows of its direct neighbours,
+-- without its own rows. (The front whose columns a figure counts is another thing: a block, its border, and the rows
+-- held last.)
 unfoldable pub front : Graph → State → ℕ → ℕ → Bool
 front g s c v = not (in_class s c v)
-    && (any_below g.size (λ e. holds g s e c && s.border e v) || any_below g.size (λ d. neighbours g s c d && in_class s d v))
+    && (any_below g.size (λ e. holds g s e c && s.border e v) ||
+    any_below g.size (λ d. neighbours g s c d && in_class s d v))
 
 -- the start: dense rows last, empty rows eliminated, each other row a class with its degree as bound
 pub record IsStart (g : Graph) (dense : ℕ → Bool) (s : State) : Type 0 where

@@ -1,15 +1,17 @@
 -- One step of the elimination, as a relation: any class of least bound may be the pivot, and any class that goes into a
--- merged one may represent it. In comments c is the pivot, L its front, P the block and S the border of the new element, and
--- others are the elements that stand beside it.
--- Source: Amestoy, Davis and Duff 1996 and 2004 (absorption, mass elimination, approximate degree).
-use Rattle.std.specs.Prelude.{ℕ, Bool, true, false, None, Some, ◌==◌, ◌&&◌, ◌||◌, not, ◌≡◌, ◌≤◌, ◌<◌, ◌+◌, ◌-◌, min, cond}
+-- merged one may represent it. In comments c is the pivot, L its front, P the block and S the border of the new
+-- element, and others are the elements that stand beside it. Source: Amestoy, Davis and Duff 1996 and 2004 (absorption,
+-- mass elimination, approximate degree).
+use Rattle.std.specs.Prelude.{ℕ, Bool, true, false, None, Some, ◌==◌, ◌&&◌, ◌||◌, not, ◌≡◌, ◌≤◌, ◌<◌, ◌+◌, ◌-◌, min}
+use Rattle.std.specs.Prelude.{cond}
 use Rattle.amd_model.specs.Below.{any_below, count_below, sum_below}
 use Rattle.amd_model.specs.Graph.{Graph}
 use Rattle.amd_model.specs.State.{State, Live, Gone, live, in_class, is_class, stands, inside, holds, neighbours, front}
 
 -- The parts of a step from the state s with the pivot c.
 
--- the elements that the new one absorbs: those that hold c and, if aggressive, those whose border lies inside the front of c
+-- the elements that the new one absorbs: those that hold c and, if aggressive, those whose border lies inside the front
+-- of c
 unfoldable pub absorbed : Graph → Bool → State → ℕ → ℕ → Bool
 absorbed g aggressive s c e = holds g s e c || (aggressive && stands g s e && inside g (s.border e) (front g s c))
 
@@ -43,8 +45,8 @@ pub record Alike (g : Graph) (aggressive : Bool) (s : State) (c x y : ℕ) : Typ
 unfoldable pub beyond : Graph → State → ℕ → ℕ → ℕ
 beyond g s c e = count_below g.size (λ v. s.border e v && not (front g s c v))
 
--- of the class i of the new state: the number of rows outside L of the border of each other that holds it, summed up, plus the
--- number of rows of its direct neighbours outside L and c
+-- of the class i of the new state: the number of rows outside L of the border of each other that holds it, summed up,
+-- plus the number of rows of its direct neighbours outside L and c
 unfoldable pub outside : Graph → Bool → State → State → ℕ → ℕ → ℕ
 outside g aggressive old new c i =
     sum_below g.size (λ e. cond (other g aggressive old c e && holds g new e i) (beyond g old c e) 0)
@@ -67,7 +69,8 @@ pub record StepAt (g : Graph) (aggressive : Bool) (c : ℕ) (old new : State) : 
   pub kept : (v : ℕ) → in_class old c v ≡ false → front g old c v ≡ false → new.home v ≡ old.home v
   -- each row of S goes to a class that was one of S, and is alike to the one that it was in
   pub moved : (v x : ℕ) → border_of g aggressive old c v ≡ true → in_class old x v ≡ true →
-      (i : ℕ) × (new.home v ≡ Live i) × (new.home i ≡ Live i) × (old.home i ≡ Live i) × (border_of g aggressive old c i ≡ true)
+      (i : ℕ) × (new.home v ≡ Live i) × (new.home i ≡ Live i) × (old.home i ≡ Live i) ×
+      (border_of g aggressive old c i ≡ true)
       × Alike g aggressive old c x i
   -- classes of S that are alike become one
   pub merged : (x y : ℕ) → is_class old x ≡ true → is_class old y ≡ true → border_of g aggressive old c x ≡ true →
@@ -80,7 +83,8 @@ pub record StepAt (g : Graph) (aggressive : Bool) (c : ℕ) (old new : State) : 
   pub border_stays : (e v : ℕ) → (e ≡ c → ⊥) → new.border e v ≡ old.border e v
   pub parent_stays : (e : ℕ) → (e ≡ c → ⊥) → absorbed g aggressive old c e ≡ false → new.parent e ≡ old.parent e
   -- the new bounds
-  pub bounds : (i : ℕ) → is_class new i ≡ true → border_of g aggressive old c i ≡ true → new.bound i ≡ new_bound g aggressive old new c i
+  pub bounds : (i : ℕ) → is_class new i ≡ true → border_of g aggressive old c i ≡ true →
+      new.bound i ≡ new_bound g aggressive old new c i
   pub bound_stays : (i : ℕ) → is_class new i ≡ true → border_of g aggressive old c i ≡ false → new.bound i ≡ old.bound i
 
 -- a step with some pivot

@@ -75,7 +75,8 @@ pub fn example_seven_lists()
         ∷ (0 ∷ 1 ∷ 4 ∷ []) ∷ (0 ∷ 2 ∷ 3 ∷ []) ∷ [] }
     ensures first_pivot { pivot seven_quotient.bound seven_quotient.placed ≡ 0 }
     ensures second_pivot { pivot (next true seven_quotient).bound (next true seven_quotient).placed ≡ 6 }
-    ensures third_pivot { pivot (next true (next true seven_quotient)).bound (next true (next true seven_quotient)).placed ≡ 2 }
+    ensures third_pivot { pivot (next true (next true seven_quotient)).bound
+        (next true (next true seven_quotient)).placed ≡ 2 }
     ensures fits { Fits seven seven_quotient Seven.at_start }
     ensures homes { map (after_rounds 7 true seven_quotient).home (0 ∷ 1 ∷ 2 ∷ 3 ∷ 4 ∷ 5 ∷ 6 ∷ []) ≡
         Seven.three_table.homes }
@@ -118,7 +119,8 @@ pub fn example_eleven_lists()
         ∷ (6 ∷ 7 ∷ 10 ∷ 4 ∷ 5 ∷ []) ∷ (2 ∷ 9 ∷ 7 ∷ []) ∷ [] }
     ensures first_pivot { pivot eleven_quotient.bound eleven_quotient.placed ≡ 10 }
     ensures second_pivot { pivot (next true eleven_quotient).bound (next true eleven_quotient).placed ≡ 6 }
-    ensures third_pivot { pivot (next true (next true eleven_quotient)).bound (next true (next true eleven_quotient)).placed ≡ 5 }
+    ensures third_pivot { pivot (next true (next true eleven_quotient)).bound
+        (next true (next true eleven_quotient)).placed ≡ 5 }
     ensures fourth_pivot { pivot (next true (next true (next true eleven_quotient))).bound
         (next true (next true (next true eleven_quotient))).placed ≡ 3 }
     ensures fifth_pivot { pivot (next true (next true (next true (next true eleven_quotient)))).bound

@@ -1,5 +1,6 @@
 -- The pattern of a column form whose numbers are known to be counts.
-use Rattle.std.specs.Prelude.{◌+◌, ◌||◌, ◌&&◌, ℕ, ℤ, Bool, not, nat_eq, nat_le, nat_lt, List, map, slice_index, unsigned_abs}
+use Rattle.std.specs.Prelude.{◌+◌, ◌||◌, ◌&&◌, ℕ, ℤ, Bool, not, nat_eq, nat_le, nat_lt, List, map, slice_index}
+use Rattle.std.specs.Prelude.{unsigned_abs}
 use Rattle.amd_model.specs.Below.{any_below}
 use Rattle.amd_model.specs.Graph.{Graph}
 

@@ -1,4 +1,5 @@
-// Whether a caller marked a row to be held last. Called by `last` of the crate `amd_engine`, and by `starting` of `amd_workspace`.
+// Whether a caller marked a row to be held last. Called by `last` of the crate `amd_engine`, and by `starting` of
+// `amd_workspace`.
 
 ghost use Rattle.std.specs.Prelude.{◌≡◌, ◌<◌, ℕ};
 ghost use Rattle.std.specs.Option.{option_copied};

@@ -1,5 +1,6 @@
-// Families of graphs of several sizes, and matrices drawn from seeds: the factor of an analysis with each choice of a caller, and that
-// under orders by other rules, each beside the factor that searches for paths find, which is slow. No room is smaller than that.
+// Families of graphs of several sizes, and matrices drawn from seeds: the factor of an analysis with each choice of a
+// caller, and that under orders by other rules, each beside the factor that searches for paths find, which is slow. No
+// room is smaller than that.
 
 use amd::Control;
 use amd_symbolic::{Factor, Fault, analyze, columns};
@@ -41,8 +42,8 @@ fn is_same(factor: &Factor<Global>, slow: &SlowFactor<Global>) -> bool {
     factor.ptr.last() == Some(&end) && factor.rows.len() == end
 }
 
-/// Asserts that the columns under an order are the slow ones, in exactly the room that they need, and that with one place less there
-/// is no room.
+/// Asserts that the columns under an order are the slow ones, in exactly the room that they need, and that with one
+/// place less there is no room.
 fn check_order(
     rt: &impl Abort,
     alloc: Global,
@@ -193,7 +194,8 @@ fn drawn_matrices_with_a_hub(rt: HostRuntime) -> Result<(), Fail> {
     Ok(())
 }
 
-/// A row that is dense by the lowest threshold stands last, and has few edges to the others: the bound is 20 entries, the need 18.
+/// A row that is dense by the lowest threshold stands last, and has few edges to the others: the bound is 20 entries,
+/// the need 18.
 #[test]
 fn a_bound_that_is_not_exact(rt: HostRuntime) -> Result<(), Fail> {
     let (a_p, a_i) = (

@@ -1,5 +1,5 @@
-// What the demos write, in parts. The texts are those of the Rust crate's demos, but for the line on symmetry, which follows the
-// definition, and the exact factor, which the Rust crate's demos have not.
+// What the demos write, in parts. The texts are those of the Rust crate's demos, but for the line on symmetry, which
+// follows the definition, and the exact factor, which the Rust crate's demos have not.
 
 /// The demo of a small matrix: the permutations, and the record.
 pub const SIMPLE: [&str; 2] = [
@@ -38,8 +38,8 @@ AMD results:
 ",
 ];
 
-/// The demo of the matrix can_24: its size, its columns, and its plot; the record, the permutations, and the plot of the permuted
-/// matrix; and the exact factor, whose figures were found by searches for paths.
+/// The demo of the matrix can_24: its size, its columns, and its plot; the record, the permutations, and the plot of
+/// the permuted matrix; and the exact factor, whose figures were found by searches for paths.
 pub const ORDER: [&str; 7] = [
     "AMD demo, with the 24-by-24 Harwell/Boeing matrix, can_24:
 

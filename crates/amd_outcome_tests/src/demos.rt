@@ -1,5 +1,5 @@
-// The demos, over writers that keep what they take: whole texts, matrices of the other kind and matrices that are none, refused
-// memory, and writers with faults.
+// The demos, over writers that keep what they take: whole texts, matrices of the other kind and matrices that are none,
+// refused memory, and writers with faults.
 
 ghost use Rattle.std.specs.Prelude.{◌<◌};
 
@@ -106,8 +106,9 @@ fn no_rows(rt: HostRuntime) {
     assert!(rt; out.starts_with(b"P = []\nPInv = []\n\nAMD results:\n"));
 }
 
-/// Runs a demo with a refused request and a writer over an array, and asserts that these parts alone are written, that the line of
-/// failure stands in the place of the others, and that nothing is left. Answers whether there was such a request.
+/// Runs a demo with a refused request and a writer over an array, and asserts that these parts alone are written, that
+/// the line of failure stands in the place of the others, and that nothing is left. Answers whether there was such a
+/// request.
 fn check_refused(
     rt: &impl Abort,
     alloc: Global,
@@ -134,8 +135,8 @@ fn check_refused(
     Ok(heap.refused())
 }
 
-/// Runs a demo with each request refused in turn, from the number `first` on and before `end`, until a run meets no refusal. Answers
-/// the number of the last request that was refused, or 0.
+/// Runs a demo with each request refused in turn, from the number `first` on and before `end`, until a run meets no
+/// refusal. Answers the number of the last request that was refused, or 0.
 fn check_requests(
     rt: &impl Abort,
     alloc: Global,
@@ -175,7 +176,8 @@ fn requests_of_ordering(rt: &impl Abort, alloc: Global) -> u64 {
     heap.requests()
 }
 
-/// Memory that is refused for the ordering leaves the input alone, and memory that is refused for the factor all but the factor.
+/// Memory that is refused for the ordering leaves the input alone, and memory that is refused for the factor all but
+/// the factor.
 #[test]
 fn each_request_of_ordering_and_factor(rt: HostRuntime) -> Result<(), Fail> {
     let [size, columns, plot, record, permutations, permuted_plot, _] = ORDER;
@@ -253,8 +255,8 @@ fn matrices_that_are_none(rt: HostRuntime) {
     }
 }
 
-/// Runs a demo with a fault at one call to its writer, and asserts that nothing is written after it, or, where it is no failure, that
-/// all is written. Answers whether that call was made.
+/// Runs a demo with a fault at one call to its writer, and asserts that nothing is written after it, or, where it is no
+/// failure, that all is written. Answers whether that call was made.
 fn check_fault(
     rt: &impl Abort,
     alloc: Global,
@@ -283,7 +285,8 @@ fn calls_of(alloc: Global, demo: Demo) -> u64 {
     out.calls()
 }
 
-/// Asserts what a demo does at a fault, with a fault at one call in `step`, and at the last one, and that it meets none after that.
+/// Asserts what a demo does at a fault, with a fault at one call in `step`, and at the last one, and that it meets none
+/// after that.
 fn check_faults(rt: &impl Abort, alloc: Global, demo: Demo, step: usize) -> Result<(), AllocError>
     requires { 0 < step }
 {
@@ -302,13 +305,15 @@ fn check_faults(rt: &impl Abort, alloc: Global, demo: Demo, step: usize) -> Resu
 #[test]
 fn writers_with_faults(rt: HostRuntime) -> Result<(), Fail> {
     check_faults(&rt, rt.alloc(), Demo::Simple, 1)?;
-    // Each long demo makes some thousand calls to its writer, and each fault costs a run, so that only some calls are tried.
+    // Each long demo makes some thousand calls to its writer, and each fault costs a run, so that only some calls are
+    // tried.
     check_faults(&rt, rt.alloc(), Demo::Order, 499)?;
     check_faults(&rt, rt.alloc(), Demo::Jumbled, 499)?;
     Ok(())
 }
 
-/// Runs a demo with its first request refused and a fault at one call to its writer, and answers how many calls it made.
+/// Runs a demo with its first request refused and a fault at one call to its writer, and answers how many calls it
+/// made.
 fn calls_without_memory(
     rt: &impl Abort,
     alloc: Global,

@@ -1,5 +1,5 @@
-// What the demo of the jumbled matrix writes, in parts, beside `demo_texts`: its size, its columns, and its plot; the record, the
-// permutations, and the plot of the permuted matrix.
+// What the demo of the jumbled matrix writes, in parts, beside `demo_texts`: its size, its columns, and its plot; the
+// record, the permutations, and the plot of the permuted matrix.
 
 /// The same of the demo of its jumbled form, which has no exact factor.
 pub const JUMBLED: [&str; 6] = [

@@ -1,5 +1,6 @@
-// Refused memory: each request in turn is refused, until a run makes no request of that number. Each run that met a refusal
-// answers `OutOfMemory`, and the first one without gives the answer. After each of them as many blocks came back as were granted.
+// Refused memory: each request in turn is refused, until a run makes no request of that number. Each run that met a
+// refusal answers `OutOfMemory`, and the first one without gives the answer. After each of them as many blocks came
+// back as were granted.
 
 use crate::worked::{Case, FOUR_CYCLE, WORKED, check_factor};
 use amd::Control;

@@ -39,8 +39,8 @@ fn a_four_cycle_in_each_type(rt: HostRuntime) {
     four_cycles!(rt; u8 u16 u32 u64 u128 usize i8 i16 i32 i64 i128 isize);
 }
 
-/// A number past the greatest `usize` is no number of rows, no pointer, no row, and none that an order lists; behind the end of a
-/// matrix it is not looked at.
+/// A number past the greatest `usize` is no number of rows, no pointer, no row, and none that an order lists; behind
+/// the end of a matrix it is not looked at.
 #[test]
 fn numbers_past_the_greatest_count(rt: HostRuntime) {
     let far = 1u128 << 64;

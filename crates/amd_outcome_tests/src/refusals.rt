@@ -1,5 +1,5 @@
-// Inputs that are no column form, orders that do not list each row once, and rooms that are too small. The faults follow from the
-// definitions: the first of them, in that order.
+// Inputs that are no column form, orders that do not list each row once, and rooms that are too small. The faults
+// follow from the definitions: the first of them, in that order.
 
 use crate::worked::{FOUR_CYCLE, check_factor};
 use amd::Control;
@@ -66,7 +66,8 @@ fn marks_that_are_not_one_for_each_row(rt: HostRuntime) {
     assert!(rt; heap.requests() == 0);
 }
 
-/// Where an order is too long or too short, or a row stands in it twice, or it lists a row that is none, there is no room that helps.
+/// Where an order is too long or too short, or a row stands in it twice, or it lists a row that is none, there is no
+/// room that helps.
 #[test]
 fn orders_that_do_not_list_each_row(rt: HostRuntime) {
     let case = &FOUR_CYCLE;

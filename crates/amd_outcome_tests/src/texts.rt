@@ -1,6 +1,6 @@
-// The texts of `control` and `info`: whole texts, numbers at the ends of their ranges, and writers with faults. The texts of the
-// demos are those of the Rust crate's demos, but for the line on symmetry, which follows the definition; the others have the same
-// form, with sums worked by hand.
+// The texts of `control` and `info`: whole texts, numbers at the ends of their ranges, and writers with faults. The
+// texts of the demos are those of the Rust crate's demos, but for the line on symmetry, which follows the definition;
+// the others have the same form, with sums worked by hand.
 
 use amd::{Control, Info, Status, control, info};
 use amd_testing::writers::{Fault, Faulty, Slow};
@@ -322,8 +322,8 @@ fn are_both(written: &Written, bytes: &[u8]) -> bool {
         && bytes.ends_with(second)
 }
 
-/// Writes both texts with a fault at one call, and says whether that call was made. The fault is told, where it has a kind, and
-/// nothing is written behind it. Where it has none, all is written.
+/// Writes both texts with a fault at one call, and says whether that call was made. The fault is told, where it has a
+/// kind, and nothing is written behind it. Where it has none, all is written.
 fn both_with_fault(
     rt: &impl Abort,
     alloc: Global,

@@ -1,5 +1,5 @@
-// The lines of a case file that are no items: lines without a word, which are passed over, and lines that are too long, which are
-// refused before they were read whole.
+// The lines of a case file that are no items: lines without a word, which are passed over, and lines that are too long,
+// which are refused before they were read whole.
 
 use amd_cases::faults::Fault;
 use amd_cases::reader::{CaseReader, LONGEST_LINE, ReadError};
@@ -62,7 +62,8 @@ fn faults_behind_lines_without_a_word(rt: HostRuntime) {
 /// What the endless line is made of.
 const PIECE: &[u8] = &[b' '; 4096];
 
-/// A reader of a line that begins in some way and does not end, up to a number of bytes behind which it must not be read.
+/// A reader of a line that begins in some way and does not end, up to a number of bytes behind which it must not be
+/// read.
 #[derive(Drop)]
 struct Endless<'a> {
     front: &'a [u8],

@@ -11,7 +11,8 @@ use std::io::{BufRead, BufReader, ErrorKind, Read};
 use std::process::Abort;
 use std::test::Fail;
 
-/// Two cases: one with all items, and one with what must be there alone, in another order and with no line feed at its end.
+/// Two cases: one with all items, and one with what must be there alone, in another order and with no line feed at its
+/// end.
 const TWO_CASES: &[u8] =
     b"CASE 7\nN 3\nT -5\nAGG 0\nAP 0 1 +2 02\nAI 1  -2\r\nEND\nCASE -8\nAI\nAP \nN 0\nEND";
 

@@ -1,5 +1,5 @@
-// The place of each row in an order, and the lists of the earlier neighbours of each place: of matrices with repeats, out of order and
-// without mirrors, with orders that are none, and with refused memory. The lists were worked by hand.
+// The place of each row in an order, and the lists of the earlier neighbours of each place: of matrices with repeats,
+// out of order and without mirrors, with orders that are none, and with refused memory. The lists were worked by hand.
 
 use amd_earlier::lists::{Lists, earlier_lists};
 use amd_earlier::places::places;
@@ -11,7 +11,8 @@ use std::alloc::{AllocError, Allocator, Global};
 use std::process::Abort;
 use std::test::Fail;
 
-/// A matrix, an order of its rows, and the list of each place, rising, in which a place stands once for each entry that joins the two.
+/// A matrix, an order of its rows, and the list of each place, rising, in which a place stands once for each entry that
+/// joins the two.
 #[derive(Drop)]
 struct Case<'a> {
     what: &'a str,

@@ -1,5 +1,5 @@
-// The plain engine by itself: refused memory, and nothing left behind. The answer is that of the crate `amd` for these five
-// rows.
+// The plain engine by itself: refused memory, and nothing left behind. The answer is that of the crate `amd` for these
+// five rows.
 
 use amd_engine::plain::plain_1;
 use amd_input::aat::aat;
@@ -9,8 +9,8 @@ use amd_testing::refusing::{Refusing, each_refused};
 use std::alloc::Global;
 use std::process::Abort;
 
-/// Orders a sorted matrix, whose degrees are counted with memory of their own, and says whether there was an answer, which must be
-/// the one that is wanted.
+/// Orders a sorted matrix, whose degrees are counted with memory of their own, and says whether there was an answer,
+/// which must be the one that is wanted.
 fn orders(
     rt: &impl Abort,
     heap: &Refusing<Global>,

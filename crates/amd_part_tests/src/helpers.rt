@@ -1,5 +1,6 @@
-// The helpers of `amd_testing`, on which other tests stand: an allocator that refuses a request, writers with faults, and the
-// definitions of an input and of a factor in their plain form. The columns, sums and thresholds were worked by hand.
+// The helpers of `amd_testing`, on which other tests stand: an allocator that refuses a request, writers with faults,
+// and the definitions of an input and of a factor in their plain form. The columns, sums and thresholds were worked by
+// hand.
 
 use amd_testing::factors::{Factor, Need, factor_of, fills_nothing, need_of};
 use amd_testing::plain::{are_inverse, clean_transpose, is_column_form, is_jumbled, threshold};

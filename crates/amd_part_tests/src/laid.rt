@@ -94,8 +94,10 @@ fn laid_of<S: Signed, U: Unsigned>(
     info: &mut Info,
 ) -> (Laid<S, U, Global>, usize)
     ensures size { (n ≡ pos (length result.0.len.items)) × (0 < length result.0.len.items) }
-    ensures laid { IsLaidOut (length result.0.len.items) result.0.iw.items result.0.pe.items result.0.len.items result.0.free }
-    ensures graph { (g : Graph) × (lists : ℕ → List ℕ) × LaysGraph g lists result.0.iw.items result.0.pe.items result.0.len.items }
+    ensures laid { IsLaidOut (length result.0.len.items) result.0.iw.items result.0.pe.items result.0.len.items
+        result.0.free }
+    ensures graph { (g : Graph) × (lists : ℕ → List ℕ) ×
+        LaysGraph g lists result.0.iw.items result.0.pe.items result.0.len.items }
     ensures room { result.0.free + length result.0.len.items ≤ length result.0.iw.items }
     ensures words { (length result.0.iw.items ≤ S.MOST) × (length result.0.len.items + 2 ≤ S.MOST) }
     ensures figures { (length result.0.iw.items ≤ U.MOST) × (length result.0.len.items + 2 ≤ U.MOST) }

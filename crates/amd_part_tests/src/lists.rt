@@ -17,8 +17,8 @@ struct Case<'a> {
     lists: &'a [&'a [usize]],
 }
 
-/// Matrices with their lists, worked by hand in the order in which the walk meets the edges. Those of the last one do not all
-/// rise.
+/// Matrices with their lists, worked by hand in the order in which the walk meets the edges. Those of the last one do
+/// not all rise.
 static MATRICES: [Case<'static>; 3] = [
     Case {
         what: "a four-cycle",

@@ -26,7 +26,9 @@ fn is_placed(e: usize, parent: &[isize], nv: &[isize], f_size: &[isize], rank: &
     requires nv_room { length nv.now ≡ length parent.now }
     requires rank_room { length rank.now ≡ length parent.now }
     ensures size { IsTrue result → pos 0 ≤ℤ at f_size.now e }
-    ensures parent { IsTrue result → (at parent.now e ≡ negsuc 0) ⊎ ((p : ℕ) × (at parent.now e ≡ pos p) × (is_element (length parent.now) nv.now p ≡ true) × (slice_index rank.now e < slice_index rank.now p)) }
+    ensures parent { IsTrue result → (at parent.now e ≡ negsuc 0) ⊎
+        ((p : ℕ) × (at parent.now e ≡ pos p) × (is_element (length parent.now) nv.now p ≡ true) ×
+        (slice_index rank.now e < slice_index rank.now p)) }
 {
     if f_size[e] < 0 {
         return false;

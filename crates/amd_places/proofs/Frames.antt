@@ -172,9 +172,9 @@ module _ {n : ℕ} {iw pe e_len : List ℤ} {len : List ℕ} {free : ℕ} (i : �
 
 -- ---- one class renewed
 
-module _ {n me : ℕ} {kept outside : ℕ → Bool} {i : ℕ} {iw pe e_len : List ℤ} {len : List ℕ} {free : ℕ} {iw' e_len' : List ℤ}
+module _ {n me : ℕ} {kept is_apart : ℕ → Bool} {i : ℕ} {iw pe e_len : List ℤ} {len : List ℕ} {free : ℕ} {iw' e_len' : List ℤ}
     {len' : List ℕ} (y : Layout n iw pe e_len len free) (mine : has_list pe len i ≡ true)
-    (h : RenewsOne n me kept outside i iw pe e_len len iw' e_len' len') where
+    (h : RenewsOne n me kept is_apart i iw pe e_len len iw' e_len' len') where
   pub one_shorter : (j : ℕ) → num len' j ≤ num len j
   one_shorter j = elim (cases_eq j i) [
     | inl q ↦ (let a = h.list.shorter.1 in let b = ap (num len') q in let d = ap (num len) q in omega (arith, a, b, d))

@@ -97,13 +97,14 @@ module _ {n me : ℕ} {iw pe e_len nv : List ℤ} {len degree w : List ℕ} {fre
 
 -- ---- lists by bound that name no class of the front stay
 
-pub others_linked : {n me : ℕ} {kept outside : ℕ → Bool} {far : ℕ → ℕ} {front : List ℕ} {free : ℕ} {iw pe e_len nv : List ℤ}
+pub others_linked : {n me : ℕ} {kept is_apart : ℕ → Bool} {beyond : ℕ → ℕ} {front : List ℕ} {free : ℕ} {iw pe e_len nv : List ℤ}
     {len degree last : List ℕ} {iw' pe' e_len' nv' : List ℤ} {len' degree' last' : List ℕ} {gone : ℕ} (head next : List ℕ)
     (lists : ℕ → List ℕ) →
-    RenewsFront n me kept outside far front free iw pe e_len nv len degree last iw' pe' e_len' nv' len' degree' last' gone →
+    RenewsFront n me kept is_apart beyond front free iw pe e_len nv len degree last iw' pe' e_len' nv' len' degree' last' gone →
     DegreeLists n head next last degree (λ d. filter (λ j. not (has front j)) (lists d)) →
     DegreeLists n head next last' degree' (λ d. filter (λ j. not (has front j)) (lists d))
-others_linked {n} {me} {kept} {outside} {far} {front} {free} {iw} {pe} {e_len} {nv} {len} {degree} {last} {iw'} {pe'} {e_len'} {nv'} {len'}
+others_linked {n} {me} {kept} {is_apart} {beyond} {front} {free} {iw} {pe} {e_len} {nv} {len} {degree} {last} {iw'} {pe'} {e_len'} {nv'}
+    {len'}
     {degree'} {last'} {gone} head next lists r h =
     let out : (d x : ℕ) → has (filter (λ j. not (has front j)) (lists d)) x ≡ true → has front x ≡ false = λ d x k.
     false_from_ne_true (has front x) (λ q. clash {P = ⊥} (filter_gives (λ j. not (has front j)) (lists d) x k).1 (not_from_true

@@ -1,6 +1,7 @@
 -- A list that grows behind the others: steps, and what they come to.
 use Rattle.amd_model.proofs.Counting.Below.{clash}
-use Rattle.std.proofs.Common.{ℕ, ℤ, Bool, true, false, List, [], ◌∷◌, ◌++◌, ◌≡◌, ◌<◌, ◌≤◌, ◌+◌, ◌-◌, ◌&&◌, ◌||◌, not, cond, inl, inr, refl, sym}
+use Rattle.std.proofs.Common.{ℕ, ℤ, Bool, true, false, List, [], ◌∷◌, ◌++◌, ◌≡◌, ◌<◌, ◌≤◌, ◌+◌, ◌-◌, ◌&&◌, ◌||◌, not, cond, inl, inr, refl}
+use Rattle.std.proofs.Common.{sym}
 use Rattle.std.proofs.Common.{subst, ap, ◌∙◌, arith, append_assoc, length, fold, sum_by, pos, set, length-set, get_or-set_same}
 use Rattle.std.proofs.Common.{get_or-set_other, append-nil}
 use Rattle.std.specs.Prelude.{nat_lt, ◌==◌}

@@ -5,7 +5,7 @@ use Rattle.std.proofs.Common.{ℕ, ℤ, pos, Bool, true, List, [], ◌∷◌, �
 use Rattle.std.proofs.Common.{subst, ap, ◌∙◌, arith, length}
 use Rattle.std.specs.Prelude.{sum_by}
 use Rattle.std.proofs.lemmas.List.Sums.{sum_by-append, sum_by-cons}
-use Rattle.amd_model.specs.Quotient.{QuotientGraph, has, each, Once, turned, last_that, kept_elements, kept_variables, rest}
+use Rattle.amd_model.specs.Quotient.{QuotientGraph, has, each, Once, turned, last_that, kept_elements, kept_variables, border_of}
 use Rattle.amd_model.proofs.Quotient.Lists.{has_turned, each_gives, each_from, once_append, once_turned, last_same'}
 use Rattle.amd_places.specs.Words.{num, word, place, is_place, rows, Names}
 use Rattle.amd_views.specs.Rounds.{alike_in}
@@ -100,13 +100,14 @@ module _ (es vs es' vs' : ℕ → List ℕ) (front : List ℕ) (same_es : (i : �
 -- ---- the rules
 
 module _ (aggressive : Bool) (t : QuotientGraph) (c : ℕ) (front : List ℕ) (iw pe e_len : List ℤ) (len : List ℕ)
-    (elements : (i : ℕ) → has (rest aggressive t c front) i ≡ true → kept_of iw pe e_len i ≡ turned (kept_elements aggressive t c front i))
-    (variables : (i : ℕ) → has (rest aggressive t c front) i ≡ true →
+    (elements : (i : ℕ) → has (border_of aggressive t c front) i ≡ true →
+    kept_of iw pe e_len i ≡ turned (kept_elements aggressive t c front i))
+    (variables : (i : ℕ) → has (border_of aggressive t c front) i ≡ true →
     near_of iw pe e_len len i ≡ turned (kept_variables aggressive t c front i)) where
-  same_es : (i : ℕ) → has (rest aggressive t c front) i ≡ true → (x : ℕ) →
+  same_es : (i : ℕ) → has (border_of aggressive t c front) i ≡ true → (x : ℕ) →
       has (kept_of iw pe e_len i) x ≡ has (kept_elements aggressive t c front i) x
   same_es i h x = ap (λ l. has l x) (elements i h) ∙ has_turned (kept_elements aggressive t c front i) x
 
-  same_vs : (i : ℕ) → has (rest aggressive t c front) i ≡ true → (x : ℕ) →
+  same_vs : (i : ℕ) → has (border_of aggressive t c front) i ≡ true → (x : ℕ) →
       has (near_of iw pe e_len len i) x ≡ has (kept_variables aggressive t c front i) x
   same_vs i h x = ap (λ l. has l x) (variables i h) ∙ has_turned (kept_variables aggressive t c front i) x

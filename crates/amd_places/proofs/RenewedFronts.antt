@@ -29,8 +29,8 @@ unfolding has
 snoc_none xs i j h = let a = or_parts (has xs j) (i == j || false) (sym (has_append xs (i ∷ []) j) ∙ h) in
     (a.0, λ q. clash {P = ⊥} (or_left (i == j) false (eq-eqb i j (sym q))) a.1)
 
-module _ (n me : ℕ) (kept outside : ℕ → Bool) (iw pe e_len : List ℤ) (len : List ℕ) (free : ℕ) (y : Layout n iw pe e_len len free) where
-  pub all_none : RenewsAll n me kept outside [] free iw pe e_len len iw e_len len
+module _ (n me : ℕ) (kept is_apart : ℕ → Bool) (iw pe e_len : List ℤ) (len : List ℕ) (free : ℕ) (y : Layout n iw pe e_len len free) where
+  pub all_none : RenewsAll n me kept is_apart [] free iw pe e_len len iw e_len len
   unfolding has
   all_none = record {
     long = refl;
@@ -50,8 +50,8 @@ module _ (n me : ℕ) (kept outside : ℕ → Bool) (iw pe e_len : List ℤ) (le
     laid = y;
   }
 
-  module _ {xs : List ℕ} {iw1 e_len1 : List ℤ} {len1 : List ℕ} (h : RenewsAll n me kept outside xs free iw pe e_len len iw1 e_len1 len1)
-      (i : ℕ) (fresh : has xs i ≡ false) (mine : IsRenewable kept outside iw pe e_len len i) where
+  module _ {xs : List ℕ} {iw1 e_len1 : List ℤ} {len1 : List ℕ} (h : RenewsAll n me kept is_apart xs free iw pe e_len len iw1 e_len1 len1)
+      (i : ℕ) (fresh : has xs i ≡ false) (mine : IsRenewable kept is_apart iw pe e_len len i) where
     still : ReadsSame iw pe e_len len iw1 pe e_len1 len1 i
     still = h.same i fresh mine.0
 
@@ -75,8 +75,8 @@ module _ (n me : ℕ) (kept outside : ℕ → Bool) (iw pe e_len : List ℤ) (le
       names = λ k l. h.laid.words (start pe i + k) (omega (arith, w, l));
     }
 
-    pub all_more : {iw2 e_len2 : List ℤ} {len2 : List ℕ} → RenewsOne n me kept outside i iw1 pe e_len1 len1 iw2 e_len2 len2 →
-        RenewsAll n me kept outside (xs ++ i ∷ []) free iw pe e_len len iw2 e_len2 len2
+    pub all_more : {iw2 e_len2 : List ℤ} {len2 : List ℕ} → RenewsOne n me kept is_apart i iw1 pe e_len1 len1 iw2 e_len2 len2 →
+        RenewsAll n me kept is_apart (xs ++ i ∷ []) free iw pe e_len len iw2 e_len2 len2
     all_more {iw2} {e_len2} {len2} g =
         let else_one : (j : ℕ) → has xs j ≡ true → j ≡ i → ⊥ = λ j k q. clash {P = ⊥} k (ap (has xs) q ∙ fresh) in
         let reads : (j : ℕ) → (j ≡ i → ⊥) → has_list pe len j ≡ true → ReadsSame iw1 pe e_len1 len1 iw2 pe e_len2 len2 j =
@@ -97,7 +97,7 @@ module _ (n me : ℕ) (kept outside : ℕ → Bool) (iw pe e_len : List ℤ) (le
           variables = λ j k. elim (snoc_cases xs i j k) [
             | inl a ↦ reads_variables iw1 pe e_len1 len1 iw2 pe e_len2 len2 j (reads j (else_one j a) (h.known j a))
                 (h.laid.parts j (h.listed j ∙ h.known j a)) ∙ h.variables j a
-            | inr q ↦ rw q (g.list.variables ∙ ap (λ l. turned (filter outside l)) still_variables)
+            | inr q ↦ rw q (g.list.variables ∙ ap (λ l. turned (filter is_apart l)) still_variables)
           ];
           count = λ j k. elim (snoc_cases xs i j k) [
             | inl a ↦ ap is_place (g.counts j (else_one j a))
@@ -118,17 +118,17 @@ module _ (n me : ℕ) (kept outside : ℕ → Bool) (iw pe e_len : List ℤ) (le
 -- ---- the loop over the words of the new element
 
 -- what is written for one class
-pub one_from : (n me : ℕ) (kept outside : ℕ → Bool) (i few count : ℕ) (iw pe e_len : List ℤ) (len : List ℕ) (iw' : List ℤ) →
+pub one_from : (n me : ℕ) (kept is_apart : ℕ → Bool) (i few count : ℕ) (iw pe e_len : List ℤ) (len : List ℕ) (iw' : List ℤ) →
     i < length e_len → i < length len →
-    Renews n me kept outside iw (start pe i) (place (word e_len i)) (num len i) iw' few count →
-    RenewsOne n me kept outside i iw pe e_len len iw' (set e_len i (pos few)) (set len i count)
+    Renews n me kept is_apart iw (start pe i) (place (word e_len i)) (num len i) iw' few count →
+    RenewsOne n me kept is_apart i iw pe e_len len iw' (set e_len i (pos few)) (set len i count)
 unfolding place is_place
-one_from n me kept outside i few count iw pe e_len len iw' small_e small_l h =
+one_from n me kept is_apart i few count iw pe e_len len iw' small_e small_l h =
     let a : word (set e_len i (pos few)) i ≡ pos few = get_or-set_same e_len i (pos few) (pos 0) small_e in
     let b : num (set len i count) i ≡ count = get_or-set_same len i count 0 small_l in record {
-      list = subst (λ m. Renews n me kept outside iw (start pe i) (place (word e_len i)) (num len i) iw'
+      list = subst (λ m. Renews n me kept is_apart iw (start pe i) (place (word e_len i)) (num len i) iw'
           (place (word (set e_len i (pos few)) i)) m) (sym b)
-          (subst (λ m. Renews n me kept outside iw (start pe i) (place (word e_len i)) (num len i) iw' m count) (sym (ap place a)) h);
+          (subst (λ m. Renews n me kept is_apart iw (start pe i) (place (word e_len i)) (num len i) iw' m count) (sym (ap place a)) h);
       count = ap is_place a;
       e_long = length-set e_len i (pos few);
       l_long = length-set len i count;
@@ -136,11 +136,11 @@ one_from n me kept outside i few count iw pe e_len len iw' small_e small_l h =
       lengths = λ j ne. get_or-set_other len i j count 0 ne;
     }
 
-module _ {n me : ℕ} {kept outside : ℕ → Bool} {iw pe e_len : List ℤ} {len : List ℕ} {free : ℕ} (y : Layout n iw pe e_len len free)
+module _ {n me : ℕ} {kept is_apart : ℕ → Bool} {iw pe e_len : List ℤ} {len : List ℕ} {free : ℕ} (y : Layout n iw pe e_len len free)
     (starts : is_place (word pe me) ≡ true)
     (apart : has (list_in iw pe len me) me ≡ false) (once : Once (list_in iw pe len me)) {iw1 e_len1 : List ℤ} {len1 : List ℕ} (k : ℕ)
     (l : k < num len me)
-    (h : RenewsAll n me kept outside (rows iw (start pe me) k) free iw pe e_len len iw1 e_len1 len1) where
+    (h : RenewsAll n me kept is_apart (rows iw (start pe me) k) free iw pe e_len len iw1 e_len1 len1) where
   own : has_list pe len me ≡ true
   own = has_from pe len me starts (omega (arith, l))
 
@@ -163,24 +163,24 @@ module _ {n me : ℕ} {kept outside : ℕ → Bool} {iw pe e_len : List ℤ} {le
   front_has = rows_has iw (start pe me) (num len me) k l
 
   module _ (can : (i : ℕ) → has (list_in iw pe len me) i ≡ true →
-      IsRenewable kept outside iw pe e_len len i) (i : ℕ) (is : i ≡ place (word iw1 (start pe me + k))) where
+      IsRenewable kept is_apart iw pe e_len len i) (i : ℕ) (is : i ≡ place (word iw1 (start pe me + k))) where
     was : i ≡ place (word iw (start pe me + k))
     was = is ∙ ap place front_word
 
     fresh : has (rows iw (start pe me) k) i ≡ false
     fresh = ap (has (rows iw (start pe me) k)) was ∙ front_fresh
 
-    mine : IsRenewable kept outside iw pe e_len len i
+    mine : IsRenewable kept is_apart iw pe e_len len i
     mine = can i (ap (has (list_in iw pe len me)) was ∙ front_has)
 
     pub turn_placed : free ≤ length iw → IsPlaced n iw1 pe e_len1 len1 i
-    turn_placed fit = all_placed n me kept outside iw pe e_len len free y h i fresh mine (let a = front_row.1 in omega (arith, a, was)) fit
+    turn_placed fit = all_placed n me kept is_apart iw pe e_len len free y h i fresh mine (let a = front_row.1 in omega (arith, a, was)) fit
 
-    pub turn_more : {iw2 e_len2 : List ℤ} {len2 : List ℕ} → RenewsOne n me kept outside i iw1 pe e_len1 len1 iw2 e_len2 len2 →
-        RenewsAll n me kept outside (rows iw (start pe me) (k + 1)) free iw pe e_len len iw2 e_len2 len2
-    turn_more {iw2} {e_len2} {len2} g = subst (λ xs. RenewsAll n me kept outside xs free iw pe e_len len iw2 e_len2 len2)
+    pub turn_more : {iw2 e_len2 : List ℤ} {len2 : List ℕ} → RenewsOne n me kept is_apart i iw1 pe e_len1 len1 iw2 e_len2 len2 →
+        RenewsAll n me kept is_apart (rows iw (start pe me) (k + 1)) free iw pe e_len len iw2 e_len2 len2
+    turn_more {iw2} {e_len2} {len2} g = subst (λ xs. RenewsAll n me kept is_apart xs free iw pe e_len len iw2 e_len2 len2)
         (ap (λ x. rows iw (start pe me) k ++ x ∷ []) was ∙ sym (rows_more iw (start pe me) k))
-        (all_more n me kept outside iw pe e_len len free y h i fresh mine g)
+        (all_more n me kept is_apart iw pe e_len len free y h i fresh mine g)
 
     pub turn_fresh : has (rows iw (start pe me) k) i ≡ false
     turn_fresh = fresh
@@ -193,10 +193,10 @@ module _ {n me : ℕ} {kept outside : ℕ → Bool} {iw pe e_len : List ℤ} {le
 
     -- what the class lists is what it listed
     pub turn_elements : elements_in iw1 pe e_len1 i ≡ elements_in iw pe e_len i
-    turn_elements = still_elements n me kept outside iw pe e_len len free y h i fresh mine
+    turn_elements = still_elements n me kept is_apart iw pe e_len len free y h i fresh mine
 
     pub turn_variables : variables_in iw1 pe e_len1 len1 i ≡ variables_in iw pe e_len len i
-    turn_variables = still_variables n me kept outside iw pe e_len len free y h i fresh mine
+    turn_variables = still_variables n me kept is_apart iw pe e_len len free y h i fresh mine
 
     pub turn_length : num len1 i ≡ num len i
     turn_length = (h.same i fresh mine.0).1

@@ -102,10 +102,10 @@ module _ (iw : List ℤ) (from mid end me : ℕ) (down : from ≤ mid) (on : mid
   ]
 
 -- the words behind the elements name rows after these were moved
-pub names_after : (n : ℕ) (kept : ℕ → Bool) (far : ℕ → ℕ) (iw iw1 : List ℤ) (from n_elements count mid part : ℕ) →
-    Filters n kept far 0 iw from n_elements from iw1 mid part → Names n iw from count →
+pub names_after : (n : ℕ) (kept : ℕ → Bool) (beyond : ℕ → ℕ) (iw iw1 : List ℤ) (from n_elements count mid part : ℕ) →
+    Filters n kept beyond 0 iw from n_elements from iw1 mid part → Names n iw from count →
     Names n iw1 (from + n_elements) (count - n_elements)
-names_after n kept far iw iw1 from n_elements count mid part h names k l = let high = h.high in let w =
+names_after n kept beyond iw iw1 from n_elements count mid part h names k l = let high = h.high in let w =
     h.above (from + n_elements + k) (omega (arith, high)) in let at : from + n_elements + k ≡ from + (n_elements + k) = omega arith in
     let b = names (n_elements + k) (omega (arith, l)) in let z : word iw1 (from + n_elements + k) ≡ word iw (from + (n_elements + k)) = w
     ∙ ap (word iw) at in
@@ -113,11 +113,11 @@ names_after n kept far iw iw1 from n_elements count mid part h names k l = let h
 
 -- ---- the whole
 
-module _ (n : ℕ) (kept outside : ℕ → Bool) (far share : ℕ → ℕ) (iw iw1 iw2 : List ℤ) (from n_elements count mid part end total me : ℕ)
-    (h : Filters n kept far 0 iw from n_elements from iw1 mid part)
-    (g : Filters n outside share part iw1 (from + n_elements) (count - n_elements) mid iw2 end total) (parts : n_elements ≤ count)
+module _ (n : ℕ) (kept is_apart : ℕ → Bool) (beyond share : ℕ → ℕ) (iw iw1 iw2 : List ℤ) (from n_elements count mid part end total me : ℕ)
+    (h : Filters n kept beyond 0 iw from n_elements from iw1 mid part)
+    (g : Filters n is_apart share part iw1 (from + n_elements) (count - n_elements) mid iw2 end total) (parts : n_elements ≤ count)
     (small : me < n) (inside : from + count ≤ length iw)
-    (room : length (filter kept (rows iw from n_elements)) + length (filter outside (rows iw (from + n_elements) (count - n_elements)))
+    (room : length (filter kept (rows iw from n_elements)) + length (filter is_apart (rows iw (from + n_elements) (count - n_elements)))
     < count) where
   still : rows iw1 (from + n_elements) (count - n_elements) ≡ rows iw (from + n_elements) (count - n_elements)
   still = let high = h.high in rows_same iw iw1 (from + n_elements) (from + n_elements) (count - n_elements) (λ k l.
@@ -126,8 +126,8 @@ module _ (n : ℕ) (kept outside : ℕ → Bool) (far share : ℕ → ℕ) (iw i
   elements_are : rows iw2 from (mid - from) ≡ filter kept (rows iw from n_elements)
   elements_are = let low = h.low in rows_same iw1 iw2 from from (mid - from) (λ k l. g.below (from + k) (omega (arith, l, low))) ∙ h.list
 
-  variables_are : rows iw2 mid (end - mid) ≡ filter outside (rows iw (from + n_elements) (count - n_elements))
-  variables_are = g.list ∙ ap (filter outside) still
+  variables_are : rows iw2 mid (end - mid) ≡ filter is_apart (rows iw (from + n_elements) (count - n_elements))
+  variables_are = g.list ∙ ap (filter is_apart) still
 
   pub renew_end : end < from + count
   renew_end = let a = ap length elements_are in let b = rows_length iw2 from (mid - from) in let c = ap length variables_are in let d =
@@ -150,7 +150,7 @@ module _ (n : ℕ) (kept outside : ℕ → Bool) (far share : ℕ → ℕ) (iw i
       lib_lt : (a b : ℕ) → (a < b) ⊎ (b ≤ a)
       lib_lt a b = cases_lt a b
 
-  pub renews : Renews n me kept outside iw from n_elements count (put iw2 from mid end me h.low g.low renew_fit) (mid + 1 - from)
+  pub renews : Renews n me kept is_apart iw from n_elements count (put iw2 from mid end me h.low g.low renew_fit) (mid + 1 - from)
       (end + 1 - from)
   renews = let low = h.low in let on = g.low in let fit = renew_fit in let last = renew_end in record {
     long = put_long iw2 from mid end me low on fit ∙ g.long ∙ h.long;
@@ -177,6 +177,7 @@ module _ (n : ℕ) (kept outside : ℕ → Bool) (far share : ℕ → ℕ) (iw i
       apart : (k : ℕ) → (k < from) ⊎ (end < k) → from ≤ k → k ≤ end → ⊥
       apart k out a b = elim out [ inl q ↦ omega (arith, q, a) | inr q ↦ omega (arith, q, b) ]
 
-  pub renew_far : total ≡ cut (sum_by far (filter kept (rows iw from n_elements))
-      + sum_by share (filter outside (rows iw (from + n_elements) (count - n_elements))))
-  renew_far = g.sum_is ∙ cut_more part _ _ h.sum_is ∙ ap cut (let a = ap (λ xs. sum_by share (filter outside xs)) still in omega (arith, a))
+  pub renew_outside : total ≡ cut (sum_by beyond (filter kept (rows iw from n_elements))
+      + sum_by share (filter is_apart (rows iw (from + n_elements) (count - n_elements))))
+  renew_outside = g.sum_is ∙ cut_more part _ _ h.sum_is ∙ ap cut
+      (let a = ap (λ xs. sum_by share (filter is_apart xs)) still in omega (arith, a))

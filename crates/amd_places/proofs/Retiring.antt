@@ -47,16 +47,16 @@ bucket_is n xs hash e = ap (λ h. h % n) (e ∙ ap (λ m. m % 2 ^ 64) (let a : 0
 
 -- ---- one class
 
-module _ {n me : ℕ} {kept outside : ℕ → Bool} {i : ℕ} {iw pe e_len : List ℤ} {len : List ℕ} {iw' e_len' : List ℤ} {len' : List ℕ}
-    (r : RenewsOne n me kept outside i iw pe e_len len iw' e_len' len') where
+module _ {n me : ℕ} {kept is_apart : ℕ → Bool} {i : ℕ} {iw pe e_len : List ℤ} {len : List ℕ} {iw' e_len' : List ℤ} {len' : List ℕ}
+    (r : RenewsOne n me kept is_apart i iw pe e_len len iw' e_len' len') where
   abbrev ks : List ℕ
   ks = kept_in kept iw pe e_len i
 
   abbrev vs : List ℕ
-  vs = near_in outside iw pe e_len len i
+  vs = near_in is_apart iw pe e_len len i
 
   abbrev done : Bool
-  done = is_done kept outside iw pe e_len len i
+  done = is_done kept is_apart iw pe e_len len i
 
   one_count : num len' i ≡ 1 + (length ks + length vs)
   one_count = let few = r.list.few_is in let short = r.list.shorter.0 in let v = ap length r.list.variables in
@@ -69,11 +69,11 @@ module _ {n me : ℕ} {kept outside : ℕ → Bool} {i : ℕ} {iw pe e_len : Lis
   pub one_left : (num len' i ≡ 1 → ⊥) → done ≡ false
   one_left ne = done_no ks vs (λ e. let c = one_count in ne (omega (arith, c, e)))
 
-  pub one_ends : (far : ℕ → ℕ) (nv : List ℤ) (degree last : List ℕ) (gone : ℕ) → num len' i ≡ 1 → i < length pe →
+  pub one_ends : (beyond : ℕ → ℕ) (nv : List ℤ) (degree last : List ℕ) (gone : ℕ) → num len' i ≡ 1 → i < length pe →
       i < length e_len' → i < length nv →
-      gone ≡ size_of nv i → RenewsOrEnds n me kept outside far i iw pe e_len nv len degree last
+      gone ≡ size_of nv i → RenewsOrEnds n me kept is_apart beyond i iw pe e_len nv len degree last
       iw' (set pe i (flip_of me)) (set e_len' i (negsuc 0)) (set nv i (pos 0)) len' degree last gone
-  one_ends far nv degree last gone few p e m is = let d : done ≡ true = one_done few in record {
+  one_ends beyond nv degree last gone few p e m is = let d : done ≡ true = one_done few in record {
     counts = e_len';
     renewed = r;
     starts = λ x ne. get_or-set_other pe i x (flip_of me) (pos 0) ne;
@@ -84,16 +84,16 @@ module _ {n me : ℕ} {kept outside : ℕ → Bool} {i : ℕ} {iw pe e_len : Lis
     start_is = get_or-set_same pe i (flip_of me) (pos 0) p ∙ sym (cond-true done (flip_of me) (word pe i) d);
     list_is = get_or-set_same e_len' i (negsuc 0) (pos 0) e ∙ sym (cond-true done (negsuc 0) (word e_len' i) d);
     row_is = get_or-set_same nv i (pos 0) (pos 0) m ∙ sym (cond-true done (pos 0) (word nv i) d);
-    bound_is = sym (cond-true done (num degree i) (min (num degree i) (reached far (size_of nv) kept outside iw pe e_len len i)) d);
-    key_is = sym (cond-true done (num last i) (bucket_at n kept outside iw pe e_len len i) d);
+    bound_is = sym (cond-true done (num degree i) (min (num degree i) (reached beyond (size_of nv) kept is_apart iw pe e_len len i)) d);
+    key_is = sym (cond-true done (num last i) (bucket_at n kept is_apart iw pe e_len len i) d);
     gone_is = is ∙ sym (cond-true done (size_of nv i) 0 d);
   }
 
-  pub one_stays : (far : ℕ → ℕ) (nv : List ℤ) (degree degree' last : List ℕ) (reach hash : ℕ) → (num len' i ≡ 1 → ⊥) → i < length last →
-      reach ≡ reached far (size_of nv) kept outside iw pe e_len len i → num degree' i ≡ min (num degree i) reach →
+  pub one_stays : (beyond : ℕ → ℕ) (nv : List ℤ) (degree degree' last : List ℕ) (reach hash : ℕ) → (num len' i ≡ 1 → ⊥) → i < length last →
+      reach ≡ reached beyond (size_of nv) kept is_apart iw pe e_len len i → num degree' i ≡ min (num degree i) reach →
       ((x : ℕ) → (x ≡ i → ⊥) → num degree' x ≡ num degree x) → hash ≡ hashed 0 (ks ++ vs) →
-      RenewsOrEnds n me kept outside far i iw pe e_len nv len degree last iw' pe e_len' nv len' degree' (set last i (hash % n)) 0
-  one_stays far nv degree degree' last reach hash many l reach_is bound others hash_is = let d : done ≡ false = one_left many in record {
+      RenewsOrEnds n me kept is_apart beyond i iw pe e_len nv len degree last iw' pe e_len' nv len' degree' (set last i (hash % n)) 0
+  one_stays beyond nv degree degree' last reach hash many l reach_is bound others hash_is = let d : done ≡ false = one_left many in record {
     counts = e_len';
     renewed = r;
     starts = λ x ne. refl;
@@ -105,22 +105,22 @@ module _ {n me : ℕ} {kept outside : ℕ → Bool} {i : ℕ} {iw pe e_len : Lis
     list_is = sym (cond-false done (negsuc 0) (word e_len' i) d);
     row_is = sym (cond-false done (pos 0) (word nv i) d);
     bound_is = bound ∙ ap (min (num degree i)) reach_is
-        ∙ sym (cond-false done (num degree i) (min (num degree i) (reached far (size_of nv) kept outside iw pe e_len len i)) d);
+        ∙ sym (cond-false done (num degree i) (min (num degree i) (reached beyond (size_of nv) kept is_apart iw pe e_len len i)) d);
     key_is = get_or-set_same last i (hash % n) 0 l ∙ bucket_is n (ks ++ vs) hash hash_is
-        ∙ sym (cond-false done (num last i) (bucket_at n kept outside iw pe e_len len i) d);
+        ∙ sym (cond-false done (num last i) (bucket_at n kept is_apart iw pe e_len len i) d);
     gone_is = sym (cond-false done (size_of nv i) 0 d);
   }
 
 -- ---- one class after another
 
 -- none was gone through
-pub front_none : (n me : ℕ) (kept outside : ℕ → Bool) (far : ℕ → ℕ) (free : ℕ) (iw pe e_len nv : List ℤ) (len degree last : List ℕ) →
-    Layout n iw pe e_len len free → RenewsFront n me kept outside far [] free iw pe e_len nv len degree last iw pe e_len nv len
+pub front_none : (n me : ℕ) (kept is_apart : ℕ → Bool) (beyond : ℕ → ℕ) (free : ℕ) (iw pe e_len nv : List ℤ) (len degree last : List ℕ) →
+    Layout n iw pe e_len len free → RenewsFront n me kept is_apart beyond [] free iw pe e_len nv len degree last iw pe e_len nv len
     degree last 0
 unfolding has
-front_none n me kept outside far free iw pe e_len nv len degree last y = record {
+front_none n me kept is_apart beyond free iw pe e_len nv len degree last y = record {
   counts = e_len;
-  renewed = all_none n me kept outside iw pe e_len len free y;
+  renewed = all_none n me kept is_apart iw pe e_len len free y;
   lengths = (refl, refl, refl, refl, refl);
   starts = λ x. refl;
   lists = λ x. refl;
@@ -130,13 +130,13 @@ front_none n me kept outside far free iw pe e_len nv len degree last y = record 
   gone_is = refl;
 }
 
-module _ {n me : ℕ} {kept : ℕ → Bool} {far : ℕ → ℕ} {iw pe e_len nv : List ℤ} {len degree last : List ℕ} {free : ℕ}
+module _ {n me : ℕ} {kept : ℕ → Bool} {beyond : ℕ → ℕ} {iw pe e_len nv : List ℤ} {len degree last : List ℕ} {free : ℕ}
     (y : Layout n iw pe e_len len free)
     (starts : is_place (word pe me) ≡ true) (apart : has (list_in iw pe len me) me ≡ false) (once : Once (list_in iw pe len me))
     (can : (i : ℕ) → has (list_in iw pe len me) i ≡ true → IsRenewable kept (is_outside nv) iw pe e_len len i)
     (marked : (i : ℕ) → has (list_in iw pe len me) i ≡ true → in_front nv i ≡ true)
     {iw1 pe1 e_len1 nv1 : List ℤ} {len1 degree1 last1 : List ℕ} {gone : ℕ} (k : ℕ) (l : k < num len me)
-    (h : RenewsFront n me kept (is_outside nv) far (rows iw (start pe me) k) free iw pe e_len nv len degree last
+    (h : RenewsFront n me kept (is_outside nv) beyond (rows iw (start pe me) k) free iw pe e_len nv len degree last
     iw1 pe1 e_len1 nv1 len1 degree1 last1 gone)
     (i : ℕ) (is : i ≡ place (word iw1 (start pe me + k))) where
   abbrev front : List ℕ
@@ -212,11 +212,11 @@ module _ {n me : ℕ} {kept : ℕ → Bool} {far : ℕ → ℕ} {iw pe e_len nv 
   over_same = ap (λ xs. is_empty xs && is_empty (near_in (is_outside nv1) iw1 pe1 e_len1 len1 i)) kept_same
       ∙ ap (λ xs. is_empty (kept_in kept iw pe e_len i) && is_empty xs) near_same
 
-  reached_same : reached far (size_of nv1) kept (is_outside nv1) iw1 pe1 e_len1 len1 i ≡ reached far (size_of nv) kept
+  reached_same : reached beyond (size_of nv1) kept (is_outside nv1) iw1 pe1 e_len1 len1 i ≡ reached beyond (size_of nv) kept
       (is_outside nv) iw pe e_len len i
-  reached_same = ap (λ xs. cut (sum_by far xs + sum_by (size_of nv1) (near_in (is_outside nv1) iw1 pe1 e_len1 len1 i))) kept_same
-      ∙ ap (λ xs. cut (sum_by far (kept_in kept iw pe e_len i) + sum_by (size_of nv1) xs)) near_same
-      ∙ ap (λ m. cut (sum_by far (kept_in kept iw pe e_len i) + m)) (sum_named (size_of nv1) (size_of nv)
+  reached_same = ap (λ xs. cut (sum_by beyond xs + sum_by (size_of nv1) (near_in (is_outside nv1) iw1 pe1 e_len1 len1 i))) kept_same
+      ∙ ap (λ xs. cut (sum_by beyond (kept_in kept iw pe e_len i) + sum_by (size_of nv1) xs)) near_same
+      ∙ ap (λ m. cut (sum_by beyond (kept_in kept iw pe e_len i) + m)) (sum_named (size_of nv1) (size_of nv)
       (near_in (is_outside nv) iw pe e_len len i) (λ x m. size_same x (filter_gives (is_outside nv)
       (variables_in iw pe e_len len i) x m).1))
 
@@ -268,7 +268,8 @@ module _ {n me : ℕ} {kept : ℕ → Bool} {far : ℕ → ℕ} {iw pe e_len nv 
   -- ---- and the state behind it
 
   module _ {iw2 pe2 e_len2 nv2 : List ℤ} {len2 degree2 last2 : List ℕ} {more : ℕ}
-      (g : RenewsOrEnds n me kept (is_outside nv1) far i iw1 pe1 e_len1 nv1 len1 degree1 last1 iw2 pe2 e_len2 nv2 len2 degree2 last2 more)
+      (g : RenewsOrEnds n me kept (is_outside nv1) beyond i iw1 pe1 e_len1 nv1 len1 degree1 last1 iw2 pe2 e_len2 nv2 len2 degree2 last2
+      more)
       (e_wide : length e_len ≡ n) (long : (length pe2 ≡ length pe1) × (length e_len2 ≡ length e_len1) × (length nv2 ≡ length nv1)
       × (length degree2 ≡ length degree1) × (length last2 ≡ length last1)) where
     more_is : more ≡ cond (over i) (size_of nv i) 0
@@ -316,7 +317,7 @@ module _ {n me : ℕ} {kept : ℕ → Bool} {far : ℕ → ℕ} {iw pe e_len nv 
           others = r.others;
         }
 
-    pub front_more : RenewsFront n me kept (is_outside nv) far (rows iw (start pe me) (k + 1)) free iw pe e_len nv len degree last
+    pub front_more : RenewsFront n me kept (is_outside nv) beyond (rows iw (start pe me) (k + 1)) free iw pe e_len nv len degree last
         iw2 pe2 e_len2 nv2 len2 degree2 last2 (gone + more)
     front_more = let f = h.lengths in record {
       counts = counts2;
@@ -337,11 +338,11 @@ module _ {n me : ℕ} {kept : ℕ → Bool} {far : ℕ → ℕ} {iw pe e_len nv 
       rows = each_next iw (start pe me) k (word nv) (word nv1) (λ x. cond (over x) (pos 0) (word nv x)) h.rows i row fresh (word nv2)
           (λ e. g.row_is ∙ ap (λ b. cond b (pos 0) (word nv1 i)) over_same ∙ ap (cond (over i) (pos 0)) e) g.rows;
       bounds = each_next iw (start pe me) k (num degree) (num degree1) (λ x. cond (over x) (num degree x)
-          (min (num degree x) (reached far (size_of nv) kept (is_outside nv) iw pe e_len len x))) h.bounds i row fresh (num degree2)
-          (λ e. g.bound_is ∙ ap (λ b. cond b (num degree1 i) (min (num degree1 i) (reached far (size_of nv1) kept
+          (min (num degree x) (reached beyond (size_of nv) kept (is_outside nv) iw pe e_len len x))) h.bounds i row fresh (num degree2)
+          (λ e. g.bound_is ∙ ap (λ b. cond b (num degree1 i) (min (num degree1 i) (reached beyond (size_of nv1) kept
           (is_outside nv1) iw1 pe1 e_len1 len1 i))) over_same
           ∙ ap (λ m. cond (over i) (num degree1 i) (min (num degree1 i) m)) reached_same
-          ∙ ap (λ m. cond (over i) m (min m (reached far (size_of nv) kept (is_outside nv) iw pe e_len len i))) e) g.bounds;
+          ∙ ap (λ m. cond (over i) m (min m (reached beyond (size_of nv) kept (is_outside nv) iw pe e_len len i))) e) g.bounds;
       keys = each_next iw (start pe me) k (num last) (num last1) (λ x. cond (over x) (num last x) (bucket_at n kept
           (is_outside nv) iw pe e_len len x))
           h.keys i row fresh (num last2)

@@ -4,8 +4,8 @@ use Rattle.amd_model.specs.Quotient.{has}
 use Rattle.amd_places.specs.Words.{num, is_place, word, start, size_of, in_front, flip_of, Names}
 use Rattle.amd_places.specs.Layout.{has_list, end_of, list_in, Layout, live_words, ReadsSame}
 
--- the pivot me is an element with `total` rows whose list names the front, which is marked; it absorbed others, and has no rows itself.
--- All other lists read as before
+-- the pivot me is an element with `total` rows whose list names the front, which is marked; it absorbed others, and has
+-- no rows itself. All other lists read as before
 pub record Begins (n me : ℕ) (absorbed front : List ℕ) (total : ℕ) (iw nv pe e_len : List ℤ) (len : List ℕ)
     (iw' nv' pe' e_len' : List ℤ) (len' : List ℕ) (free' : ℕ) : Type 0 where
   pub long : length iw' ≡ length iw

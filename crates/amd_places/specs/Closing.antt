@@ -4,7 +4,8 @@ use Rattle.amd_places.specs.Words.{num, word}
 use Rattle.amd_places.specs.Layout.{has_list, list_in, Layout, live_words, ReadsSame}
 
 -- the list of the element me keeps what passes; all other lists read as before, and there are no more words
-pub record Closes (n me : ℕ) (pass : ℕ → Bool) (iw pe e_len : List ℤ) (len : List ℕ) (iw' e_len' : List ℤ) (len' : List ℕ)
+pub record Closes (n me : ℕ) (pass : ℕ → Bool) (iw pe e_len : List ℤ) (len : List ℕ) (iw' e_len' : List ℤ)
+    (len' : List ℕ)
     (free : ℕ) : Type 0 where
   pub list : list_in iw' pe len' me ≡ filter pass (list_in iw pe len me)
   pub shorter : num len' me ≤ num len me

@@ -15,9 +15,11 @@ pub record Compacts (iw pe : List ℤ) (len : List ℕ) (free : ℕ) (iw' pe' : 
   pub long : length iw' ≡ length iw
   pub rows : length pe' ≡ length pe
   pub live : (j : ℕ) → has_list pe' len j ≡ has_list pe len j
-  pub same : (j k : ℕ) → has_list pe len j ≡ true → k < num len j → word iw' (start pe' j + k) ≡ word iw (start pe j + k)
+  pub same : (j k : ℕ) → has_list pe len j ≡ true → k < num len j →
+      word iw' (start pe' j + k) ≡ word iw (start pe j + k)
   pub others : (j : ℕ) → has_list pe len j ≡ false → word pe' j ≡ word pe j
-  pub order : (i j : ℕ) → has_list pe len i ≡ true → has_list pe len j ≡ true → start pe i < start pe j → end_of pe' len i ≤ start pe' j
+  pub order : (i j : ℕ) → has_list pe len i ≡ true → has_list pe len j ≡ true → start pe i < start pe j →
+      end_of pe' len i ≤ start pe' j
   pub laid : Spaced iw' pe' len free'
   pub full : (q : ℕ) → q < free' → (j : ℕ) × (has_list pe len j ≡ true) × (start pe' j ≤ q) × (q < end_of pe' len j)
   pub count : free' ≡ live_words (length len) pe len

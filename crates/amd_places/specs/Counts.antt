@@ -1,5 +1,5 @@
--- The rows of elements outside a front, counted in one list of numbers with a flag: 0 stands for what is no standing element, and
--- before a count each number is below the flag.
+-- The rows of elements outside a front, counted in one list of numbers with a flag: 0 stands for what is no standing
+-- element, and before a count each number is below the flag.
 use Rattle.std.specs.Prelude.{ℕ, ℤ, Bool, true, List, ◌≡◌, ◌<◌, ◌≤◌, ◌+◌, ◌-◌, ◌==◌, ◌&&◌, nat_le, cond, length, sum_by}
 use Rattle.amd_model.specs.Quotient.{has, Once}
 use Rattle.amd_places.specs.Words.{is_place, place, word, start, size_of, in_front, rows, Names}

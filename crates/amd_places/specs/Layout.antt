@@ -1,5 +1,6 @@
 -- The lists of the classes and of the standing elements, each in its own place in one workspace.
-use Rattle.std.specs.Prelude.{ℕ, ℤ, Bool, true, false, List, ◌∷◌, ◌≡◌, ◌<◌, ◌≤◌, ◌+◌, ◌-◌, ◌&&◌, ◌⊎◌, zero, suc, nat_lt, cond, length}
+use Rattle.std.specs.Prelude.{ℕ, ℤ, Bool, true, false, List, ◌∷◌, ◌≡◌, ◌<◌, ◌≤◌, ◌+◌, ◌-◌, ◌&&◌, ◌⊎◌, zero, suc, nat_lt}
+use Rattle.std.specs.Prelude.{cond, length}
 use Rattle.std.specs.Prelude.{filter, sum_by}
 use Rattle.amd_model.specs.Figures.{cut}
 use Rattle.amd_model.specs.Quotient.{has, turned}
@@ -24,8 +25,8 @@ variables_in iw pe e_len len j = rows iw (start pe j + place (word e_len j)) (nu
 abbrev pub list_in : List ℤ → List ℤ → List ℕ → ℕ → List ℕ
 list_in iw pe len j = rows iw (start pe j) (num len j)
 
--- lists end before the free end, no two share a word, the words for elements are among those of the list, and each word before the
--- free end names a row below n
+-- lists end before the free end, no two share a word, the words for elements are among those of the list, and each word
+-- before the free end names a row below n
 pub record Layout (n : ℕ) (iw pe e_len : List ℤ) (len : List ℕ) (free : ℕ) : Type 0 where
   pub within : (j : ℕ) → has_list pe len j ≡ true → end_of pe len j ≤ free
   pub apart : (i j : ℕ) → has_list pe len i ≡ true → has_list pe len j ≡ true → (i ≡ j → ⊥) →
@@ -44,7 +45,8 @@ live_words n pe len = words_below n (λ j. cond (has_list pe len j) (num len j) 
 
 -- the list of a row reads the same, word for word
 abbrev pub ReadsSame : List ℤ → List ℤ → List ℤ → List ℕ → List ℤ → List ℤ → List ℤ → List ℕ → ℕ → Type 0
-ReadsSame iw pe e_len len iw' pe' e_len' len' j = (word e_len' j ≡ word e_len j) × (num len' j ≡ num len j) × ((k : ℕ) → k < num len j →
+ReadsSame iw pe e_len len iw' pe' e_len' len' j = (word e_len' j ≡ word e_len j) × (num len' j ≡ num len j) ×
+    ((k : ℕ) → k < num len j →
     word iw' (start pe' j + k) ≡ word iw (start pe j + k))
 
 -- a class and its list, elements first
@@ -58,23 +60,25 @@ pub record IsPlaced (n : ℕ) (iw pe e_len : List ℤ) (len : List ℕ) (i : ℕ
 
 -- what a class keeps is less than its list
 abbrev pub LosesOne : (ℕ → Bool) → (ℕ → Bool) → List ℤ → List ℤ → List ℤ → List ℕ → ℕ → Type 0
-LosesOne kept outside iw pe e_len len i = length (filter kept (elements_in iw pe e_len i))
-    + length (filter outside (variables_in iw pe e_len len i)) < num len i
+LosesOne kept is_apart iw pe e_len len i = length (filter kept (elements_in iw pe e_len i))
+    + length (filter is_apart (variables_in iw pe e_len len i)) < num len i
 
 -- how many rows a class reaches by what it keeps, cut
 abbrev pub reached : (ℕ → ℕ) → (ℕ → ℕ) → (ℕ → Bool) → (ℕ → Bool) → List ℤ → List ℤ → List ℤ → List ℕ → ℕ → ℕ
-reached far share kept outside iw pe e_len len i = cut (sum_by far (filter kept (elements_in iw pe e_len i))
-    + sum_by share (filter outside (variables_in iw pe e_len len i)))
+reached beyond share kept is_apart iw pe e_len len i = cut (sum_by beyond (filter kept (elements_in iw pe e_len i))
+    + sum_by share (filter is_apart (variables_in iw pe e_len len i)))
 
 -- a class whose list can be renewed
 abbrev pub IsRenewable : (ℕ → Bool) → (ℕ → Bool) → List ℤ → List ℤ → List ℤ → List ℕ → ℕ → Type 0
-IsRenewable kept outside iw pe e_len len i = (has_list pe len i ≡ true) × (is_place (word e_len i) ≡ true)
-    × LosesOne kept outside iw pe e_len len i
+IsRenewable kept is_apart iw pe e_len len i = (has_list pe len i ≡ true) × (is_place (word e_len i) ≡ true)
+    × LosesOne kept is_apart iw pe e_len len i
 
 -- the list of one class was renewed
-pub record RenewsOne (n me : ℕ) (kept outside : ℕ → Bool) (i : ℕ) (iw pe e_len : List ℤ) (len : List ℕ) (iw' e_len' : List ℤ)
+pub record RenewsOne (n me : ℕ) (kept is_apart : ℕ → Bool) (i : ℕ) (iw pe e_len : List ℤ) (len : List ℕ)
+    (iw' e_len' : List ℤ)
     (len' : List ℕ) : Type 0 where
-  pub list : Renews n me kept outside iw (start pe i) (place (word e_len i)) (num len i) iw' (place (word e_len' i)) (num len' i)
+  pub list : Renews n me kept is_apart iw (start pe i) (place (word e_len i)) (num len i) iw' (place (word e_len' i))
+      (num len' i)
   pub count : is_place (word e_len' i) ≡ true
   pub e_long : length e_len' ≡ length e_len
   pub l_long : length len' ≡ length len
@@ -82,15 +86,17 @@ pub record RenewsOne (n me : ℕ) (kept outside : ℕ → Bool) (i : ℕ) (iw pe
   pub lengths : (j : ℕ) → (j ≡ i → ⊥) → num len' j ≡ num len j
 
 -- the lists of the classes of a front were renewed, and all others read as before
-pub record RenewsAll (n me : ℕ) (kept outside : ℕ → Bool) (front : List ℕ) (free : ℕ) (iw pe e_len : List ℤ) (len : List ℕ)
+pub record RenewsAll (n me : ℕ) (kept is_apart : ℕ → Bool) (front : List ℕ) (free : ℕ) (iw pe e_len : List ℤ)
+    (len : List ℕ)
     (iw' e_len' : List ℤ) (len' : List ℕ) : Type 0 where
   pub long : length iw' ≡ length iw
   pub e_long : length e_len' ≡ length e_len
   pub l_long : length len' ≡ length len
   pub known : (i : ℕ) → has front i ≡ true → has_list pe len i ≡ true
-  pub elements : (i : ℕ) → has front i ≡ true → elements_in iw' pe e_len' i ≡ me ∷ turned (filter kept (elements_in iw pe e_len i))
+  pub elements : (i : ℕ) → has front i ≡ true → elements_in iw' pe e_len' i ≡ me ∷ turned
+      (filter kept (elements_in iw pe e_len i))
   pub variables : (i : ℕ) → has front i ≡ true → variables_in iw' pe e_len' len' i
-      ≡ turned (filter outside (variables_in iw pe e_len len i))
+      ≡ turned (filter is_apart (variables_in iw pe e_len len i))
   pub count : (i : ℕ) → has front i ≡ true → is_place (word e_len' i) ≡ true
   pub counts : (j : ℕ) → has front j ≡ false → word e_len' j ≡ word e_len j
   pub lengths : (j : ℕ) → has front j ≡ false → num len' j ≡ num len j

@@ -4,7 +4,8 @@ use Rattle.amd_model.specs.Quotient.{has}
 use Rattle.amd_places.specs.Words.{num, is_place, word, flip_of}
 use Rattle.amd_places.specs.Layout.{has_list, end_of, elements_in, variables_in, list_in, Layout, live_words, ReadsSame}
 
--- the list of me stands from free to end, with its number of rows; the elements that it absorbs have none, and all others read as before
+-- the list of me stands from free to end, with its number of rows; the elements that it absorbs have none, and all
+-- others read as before
 pub record Makes (n me : ℕ) (absorbed front : List ℕ) (rows : ℕ) (iw pe e_len : List ℤ) (len : List ℕ) (free : ℕ)
     (iw' pe' e_len' : List ℤ) (len' : List ℕ) (end : ℕ) : Type 0 where
   pub p_long : length pe' ≡ length pe
@@ -19,7 +20,8 @@ pub record Makes (n me : ℕ) (absorbed front : List ℕ) (rows : ℕ) (iw pe e_
   pub lengths : (j : ℕ) → (j ≡ me → ⊥) → num len' j ≡ num len j
   pub ended : (e : ℕ) → has absorbed e ≡ true → has_list pe' len' e ≡ false
   pub listed : (j : ℕ) → has absorbed j ≡ false → (j ≡ me → ⊥) → has_list pe' len' j ≡ has_list pe len j
-  pub same : (j : ℕ) → has absorbed j ≡ false → (j ≡ me → ⊥) → has_list pe len j ≡ true → ReadsSame iw pe e_len len iw' pe' e_len' len' j
+  pub same : (j : ℕ) → has absorbed j ≡ false → (j ≡ me → ⊥) → has_list pe len j ≡ true →
+      ReadsSame iw pe e_len len iw' pe' e_len' len' j
   pub before : (j : ℕ) → (j ≡ me → ⊥) → has_list pe' len' j ≡ true → end_of pe' len' j ≤ free
   pub fewer : live_words n pe' len' ≤ live_words n pe len
   pub laid : Layout n iw' pe' e_len' len' end

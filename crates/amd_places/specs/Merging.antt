@@ -1,5 +1,6 @@
 -- Classes of a front that keep the same lists, found through buckets and merged in their places.
-use Rattle.std.specs.Prelude.{ℕ, ℤ, zero, suc, Bool, true, false, List, [], ◌∷◌, ◌≡◌, ◌<◌, ◌≤◌, ◌+◌, ◌-◌, ◌%◌, ◌^◌, ◌==◌, ◌&&◌, ◌⊎◌}
+use Rattle.std.specs.Prelude.{ℕ, ℤ, zero, suc, Bool, true, false, List, [], ◌∷◌, ◌≡◌, ◌<◌, ◌≤◌, ◌+◌, ◌-◌, ◌%◌, ◌^◌}
+use Rattle.std.specs.Prelude.{◌==◌, ◌&&◌, ◌⊎◌}
 use Rattle.std.specs.Prelude.{negsuc, not, nat_lt, cond, length, sum_by, filter, slice_set}
 use Rattle.amd_model.specs.Quotient.{has, each, Once, last_that}
 use Rattle.amd_places.specs.Words.{num, is_place, place, word, start, size_of, in_front, flip_of, rows, Names}
@@ -37,7 +38,8 @@ pub record IsRenewed (n : ℕ) (iw pe e_len : List ℤ) (len : List ℕ) (i : �
 
 -- no element that one of two classes keeps is a variable of the other
 abbrev pub AreApart : List ℤ → List ℤ → List ℤ → List ℕ → ℕ → ℕ → Type 0
-AreApart iw pe e_len len i j = ((x : ℕ) → has (kept_of iw pe e_len i) x ≡ true → has (near_of iw pe e_len len j) x ≡ false)
+AreApart iw pe e_len len i j = ((x : ℕ) → has (kept_of iw pe e_len i) x ≡ true →
+    has (near_of iw pe e_len len j) x ≡ false)
     × ((x : ℕ) → has (kept_of iw pe e_len j) x ≡ true → has (near_of iw pe e_len len i) x ≡ false)
 
 -- the class j has as many words and elements as given, and all its words are marked with the flag
@@ -47,14 +49,16 @@ looks iw pe e_len len w count few flag j = (num len j == count && place (word e_
 
 -- what a search among some rows below n finds: one that passes, or n if none does
 abbrev pub Finds : ℕ → (ℕ → Bool) → List ℕ → ℕ → Type 0
-Finds n p members r = ((r < n) × (has members r ≡ true) × (p r ≡ true)) ⊎ ((r ≡ n) × ((x : ℕ) → has members x ≡ true → p x ≡ false))
+Finds n p members r = ((r < n) × (has members r ≡ true) × (p r ≡ true)) ⊎
+    ((r ≡ n) × ((x : ℕ) → has members x ≡ true → p x ≡ false))
 
 -- the bucket of a class that keeps these words, one of n
 abbrev pub key_of : ℕ → List ℕ → ℕ
 key_of n xs = (sum_by (λ j. j) xs % 2 ^ 64) % n
 
 -- the class i of the front was merged into the class r
-pub record MergesInto (i r : ℕ) (hash next : List ℕ) (pe e_len nv : List ℤ) (hash' next' : List ℕ) (pe' e_len' nv' : List ℤ) : Type 0 where
+pub record MergesInto (i r : ℕ) (hash next : List ℕ) (pe e_len nv : List ℤ) (hash' next' : List ℕ)
+    (pe' e_len' nv' : List ℤ) : Type 0 where
   pub links : pe' ≡ slice_set pe i (flip_of r)
   pub lists : e_len' ≡ slice_set e_len i (negsuc 0)
   pub sizes : (x : ℕ) → size_of nv' x ≡ cond (x == i) 0 (cond (x == r) (size_of nv r + size_of nv i) (size_of nv x))
@@ -63,20 +67,24 @@ pub record MergesInto (i r : ℕ) (hash next : List ℕ) (pe e_len nv : List ℤ
   pub nexts : next' ≡ next
 
 -- the class i was put at the head of the bucket key
-pub record Pushes (i key : ℕ) (hash next : List ℕ) (pe e_len nv : List ℤ) (hash' next' : List ℕ) (pe' e_len' nv' : List ℤ) : Type 0 where
+pub record Pushes (i key : ℕ) (hash next : List ℕ) (pe e_len nv : List ℤ) (hash' next' : List ℕ)
+    (pe' e_len' nv' : List ℤ) : Type 0 where
   pub heads : hash' ≡ slice_set hash key i
   pub nexts : next' ≡ slice_set next i (num hash key)
   pub links : pe' ≡ pe
   pub lists : e_len' ≡ e_len
   pub sizes : nv' ≡ nv
 
--- the class i was looked for among the members of the bucket key: it is merged into one alike, or, if there is none, it is put
--- into the bucket
-abbrev pub Settles : (ℕ → ℕ → Bool) → List ℕ → ℕ → ℕ → List ℕ → List ℕ → List ℤ → List ℤ → List ℤ → List ℕ → List ℕ → List ℤ → List ℤ →
+-- the class i was looked for among the members of the bucket key: it is merged into one alike, or, if there is none, it
+-- is put into the bucket
+abbrev pub Settles : (ℕ → ℕ → Bool) → List ℕ → ℕ → ℕ → List ℕ → List ℕ → List ℤ → List ℤ → List ℤ → List ℕ → List ℕ →
+    List ℤ → List ℤ →
     List ℤ → Type 0
 Settles alike members i key hash next pe e_len nv hash' next' pe' e_len' nv' =
-    ((r : ℕ) × (has members r ≡ true) × (alike i r ≡ true) × MergesInto i r hash next pe e_len nv hash' next' pe' e_len' nv')
-    ⊎ (((x : ℕ) → has members x ≡ true → alike i x ≡ false) × Pushes i key hash next pe e_len nv hash' next' pe' e_len' nv')
+    ((r : ℕ) × (has members r ≡ true) × (alike i r ≡ true) ×
+    MergesInto i r hash next pe e_len nv hash' next' pe' e_len' nv')
+    ⊎ (((x : ℕ) → has members x ≡ true → alike i x ≡ false) ×
+    Pushes i key hash next pe e_len nv hash' next' pe' e_len' nv')
 
 -- a class of a bucket, into which another one can be merged
 pub record IsMember (n : ℕ) (iw pe e_len : List ℤ) (len : List ℕ) (nv : List ℤ) (i j : ℕ) : Type 0 where
@@ -86,8 +94,8 @@ pub record IsMember (n : ℕ) (iw pe e_len : List ℤ) (len : List ℕ) (nv : Li
   pub marked : in_front nv j ≡ true
   pub small : size_of nv j + size_of nv i ≤ n
 
--- what is known of the classes of a front, with rows of their own and lists that were renewed, before they are merged: each has its
--- key in `last`, and what it lists has a counter that is not 0
+-- what is known of the classes of a front, with rows of their own and lists that were renewed, before they are merged:
+-- each has its key in `last`, and what it lists has a counter that is not 0
 pub record AreRenewed (n : ℕ) (iw pe e_len : List ℤ) (len : List ℕ) (nv : List ℤ) (w last rest : List ℕ) : Type 0 where
   pub renewed : (i : ℕ) → has rest i ≡ true → IsRenewed n iw pe e_len len i
   pub apart : (i j : ℕ) → has rest i ≡ true → has rest j ≡ true → AreApart iw pe e_len len i j
@@ -100,10 +108,13 @@ pub record AreRenewed (n : ℕ) (iw pe e_len : List ℤ) (len : List ℕ) (nv : 
 abbrev pub represents_in : List ℤ → List ℤ → List ℤ → List ℕ → List ℕ → ℕ → ℕ
 represents_in iw pe e_len len rest x = last_that (alike_in (kept_of iw pe e_len) (near_of iw pe e_len len) x) x rest
 
--- each class of a list was merged into its representative: that one has the rows of all, and the others end; other links stay
-pub record MergesAll (rest : List ℕ) (rep : ℕ → ℕ) (pe e_len nv : List ℤ) (next : List ℕ) (pe' e_len' nv' : List ℤ) (next' : List ℕ)
+-- each class of a list was merged into its representative: that one has the rows of all, and the others end; other
+-- links stay
+pub record MergesAll (rest : List ℕ) (rep : ℕ → ℕ) (pe e_len nv : List ℤ) (next : List ℕ) (pe' e_len' nv' : List ℤ)
+    (next' : List ℕ)
     : Type 0 where
-  pub sizes : (x : ℕ) → size_of nv' x ≡ cond (has rest x) (cond (rep x == x) (sum_by (size_of nv) (filter (λ j. rep j == x) rest)) 0)
+  pub sizes : (x : ℕ) → size_of nv' x ≡ cond (has rest x)
+      (cond (rep x == x) (sum_by (size_of nv) (filter (λ j. rep j == x) rest)) 0)
       (size_of nv x)
   pub links : (x : ℕ) → word pe' x ≡ cond (has rest x && not (rep x == x)) (flip_of (rep x)) (word pe x)
   pub lists : (x : ℕ) → word e_len' x ≡ cond (has rest x && not (rep x == x)) (negsuc 0) (word e_len x)

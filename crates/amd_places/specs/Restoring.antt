@@ -22,8 +22,10 @@ pub record IsPlaceable (n border : ℕ) (nv : List ℤ) (degree last : List ℕ)
   pub bound : num degree i < n
   pub key : num last i < n
 
--- the marks of a list are off, and the classes that had one have their new bounds; the least of these and of another number is least'
-pub record Restores (list : List ℕ) (border left least : ℕ) (nv : List ℤ) (degree : List ℕ) (nv' : List ℤ) (degree' : List ℕ) (least' : ℕ)
+-- the marks of a list are off, and the classes that had one have their new bounds; the least of these and of another
+-- number is least'
+pub record Restores (list : List ℕ) (border left least : ℕ) (nv : List ℤ) (degree : List ℕ) (nv' : List ℤ)
+    (degree' : List ℕ) (least' : ℕ)
     : Type 0 where
   pub sizes : (j : ℕ) → size_of nv' j ≡ size_of nv j
   pub marks : (j : ℕ) → in_front nv' j ≡ (in_front nv j && not (has list j))

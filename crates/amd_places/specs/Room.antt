@@ -1,5 +1,5 @@
--- Whether the list of a new element fits behind the lists of a workspace: its classes are met one by one, each takes one place, and
--- the marks that were set for this are taken off again.
+-- Whether the list of a new element fits behind the lists of a workspace: its classes are met one by one, each takes
+-- one place, and the marks that were set for this are taken off again.
 use Rattle.std.specs.Prelude.{ℕ, ℤ, true, false, List, ◌++◌, ◌≡◌, ◌≤◌, ◌-◌, ◌||◌, ◌&&◌, not, length, flat_map}
 use Rattle.amd_model.specs.Quotient.{has}
 use Rattle.amd_views.specs.Rounds.{firsts}
@@ -20,7 +20,8 @@ pub record Unmarks (nv : List ℤ) (xs : List ℕ) (nv' : List ℤ) : Type 0 whe
   pub sizes : (j : ℕ) → size_of nv' j ≡ size_of nv j
   pub front : (j : ℕ) → in_front nv' j ≡ (in_front nv j && not (has xs j))
 
--- what the lists of a pivot's elements name, element after element, and then what the pivot's own list names as variables
+-- what the lists of a pivot's elements name, element after element, and then what the pivot's own list names as
+-- variables
 abbrev pub named_around : List ℤ → List ℤ → List ℕ → ℕ → ℕ → List ℕ
 named_around iw pe len pivot n_elements = flat_map (members_at iw pe len) (elements_at iw pe pivot n_elements)
     ++ variables_at iw pe len pivot n_elements

@@ -1,8 +1,10 @@
-// The beginning of an element: the pivot becomes an element whose list names its front, and leaves the front itself. A pivot that
-// lists no element becomes one in the place of its own list; for another one room is made behind all lists, and the elements that it
-// lists end. Source: Amestoy, Davis and Duff 1996 (element formation and absorption). Called by: a round.
+// The beginning of an element: the pivot becomes an element whose list names its front, and leaves the front itself. A
+// pivot that lists no element becomes one in the place of its own list; for another one room is made behind all lists,
+// and the elements that it lists end. Source: Amestoy, Davis and Duff 1996 (element formation and absorption). Called
+// by: a round.
 
-ghost use Rattle.std.specs.Prelude.{◌≡◌, ◌<◌, ◌≤◌, ◌+◌, ◌^◌, ◌==◌, ◌&&◌, not, cond, pos, ℕ, [], true, false, length, nat_lt, sum_by};
+ghost use Rattle.std.specs.Prelude.{◌≡◌, ◌<◌, ◌≤◌, ◌+◌, ◌^◌, ◌==◌, ◌&&◌, not, cond, pos, ℕ, [], true, false, length};
+ghost use Rattle.std.specs.Prelude.{nat_lt, sum_by};
 ghost use Rattle.amd_model.specs.Quotient.{has, Once};
 ghost use Rattle.amd_places.specs.Words.{num, word, place, is_place, start, size_of, in_front};
 ghost use Rattle.amd_places.specs.Element.{front_of};
@@ -53,7 +55,8 @@ pub fn begin_own<S: Signed, U: Unsigned>(
     me: usize,
     free: usize,
 ) -> Begun
-    requires lengths { (length pe.now ≡ length nv.old) × (length e_len.old ≡ length nv.old) × (length len.old ≡ length nv.old) }
+    requires lengths { (length pe.now ≡ length nv.old) × (length e_len.old ≡ length nv.old) ×
+        (length len.old ≡ length nv.old) }
     requires short { length iw.old < 2 ^ 63 }
     requires end { free ≤ length iw.old }
     requires laid { Layout (length nv.old) iw.old pe.now e_len.old len.old free }
@@ -62,7 +65,8 @@ pub fn begin_own<S: Signed, U: Unsigned>(
     requires count { word e_len.old me ≡ pos 0 }
     requires clear { (j : ℕ) → in_front nv.old j ≡ false }
     requires few { sum_by (size_of nv.old) (front_of iw.old nv.old pe.now len.old me 0) + 2 ≤ S.MOST }
-    ensures begins { Begins (length nv.old) me [] (front_of iw.old nv.old pe.now len.old me 0) result.total iw.old nv.old pe.now e_len.old len.old iw.new nv.new pe.now e_len.new len.new result.free }
+    ensures begins { Begins (length nv.old) me [] (front_of iw.old nv.old pe.now len.old me 0) result.total iw.old
+        nv.old pe.now e_len.old len.old iw.new nv.new pe.now e_len.new len.new result.free }
     ensures total { result.total ≡ sum_by (size_of nv.old) (front_of iw.old nv.old pe.now len.old me 0) }
     ensures block { result.block ≡ size_of nv.old me }
     ensures stays { (result.free ≡ free) × (result.packed ≡ false) }
@@ -77,8 +81,8 @@ pub fn begin_own<S: Signed, U: Unsigned>(
     }
 }
 
-/// Begins the element of a pivot that lists elements, behind all lists, which are packed if there is no room. The elements that it
-/// lists end.
+/// Begins the element of a pivot that lists elements, behind all lists, which are packed if there is no room. The
+/// elements that it lists end.
 #[tactic(none)]
 pub fn begin_built<S: Signed, U: Unsigned>(
     iw: &mut [Word<S>],
@@ -90,7 +94,8 @@ pub fn begin_built<S: Signed, U: Unsigned>(
     me: usize,
     free: usize,
 ) -> Begun
-    requires lengths { (length pe.old ≡ length nv.old) × (length e_len.old ≡ length nv.old) × (length len.old ≡ length nv.old) × (length w.old ≡ length nv.old) }
+    requires lengths { (length pe.old ≡ length nv.old) × (length e_len.old ≡ length nv.old) ×
+        (length len.old ≡ length nv.old) × (length w.old ≡ length nv.old) }
     requires short { (length iw.old < 2 ^ 63) × (length nv.old + 2 ≤ S.MOST) }
     requires narrow { (length iw.old ≤ S.MOST) × (length iw.old ≤ U.MOST) }
     requires end { free ≤ length iw.old }
@@ -99,19 +104,26 @@ pub fn begin_built<S: Signed, U: Unsigned>(
     requires pivot { (me < length nv.old) × (0 < size_of nv.old me) }
     requires listed { has_list pe.old len.old me ≡ true }
     requires count { is_place (word e_len.old me) ≡ true }
-    requires elements { (e : ℕ) → has (elements_in iw.old pe.old e_len.old me) e ≡ true → has_list pe.old len.old e ≡ true }
+    requires elements { (e : ℕ) → has (elements_in iw.old pe.old e_len.old me) e ≡ true →
+        has_list pe.old len.old e ≡ true }
     requires apart { has (elements_in iw.old pe.old e_len.old me) me ≡ false }
     requires once { Once (elements_in iw.old pe.old e_len.old me) }
     requires clear { (j : ℕ) → in_front nv.old j ≡ false }
-    requires few { sum_by (size_of nv.old) (front_of iw.old nv.old pe.old len.old me (place (word e_len.old me))) + 2 ≤ S.MOST }
-    ensures begins { Begins (length nv.old) me (elements_in iw.old pe.old e_len.old me) (front_of iw.old nv.old pe.old len.old me (place (word e_len.old me))) result.total iw.old nv.old pe.old e_len.old len.old iw.new nv.new pe.new e_len.new len.new result.free }
+    requires few { sum_by (size_of nv.old) (front_of iw.old nv.old pe.old len.old me (place (word e_len.old me)))
+        + 2 ≤ S.MOST }
+    ensures begins { Begins (length nv.old) me (elements_in iw.old pe.old e_len.old me)
+        (front_of iw.old nv.old pe.old len.old me (place (word e_len.old me))) result.total iw.old nv.old pe.old
+        e_len.old len.old iw.new nv.new pe.new e_len.new len.new result.free }
     ensures counters { (e : ℕ) → num w.new e ≡ cond (has (elements_in iw.old pe.old e_len.old me) e) 0 (num w.old e) }
     ensures long { length w.new ≡ length w.old }
-    ensures before { (j : ℕ) → (j ≡ me → ⊥) → has_list pe.new len.new j ≡ true → end_of pe.new len.new j ≤ start pe.new me }
+    ensures before { (j : ℕ) → (j ≡ me → ⊥) → has_list pe.new len.new j ≡ true →
+        end_of pe.new len.new j ≤ start pe.new me }
     ensures end { result.free ≤ length iw.new }
-    ensures total { result.total ≡ sum_by (size_of nv.old) (front_of iw.old nv.old pe.old len.old me (place (word e_len.old me))) }
+    ensures total { result.total ≡ sum_by (size_of nv.old)
+        (front_of iw.old nv.old pe.old len.old me (place (word e_len.old me))) }
     ensures block { result.block ≡ size_of nv.old me }
-    ensures packed { result.packed ≡ nat_lt (length iw.old) (free + length (front_of iw.old nv.old pe.old len.old me (place (word e_len.old me)))) }
+    ensures packed { result.packed ≡ nat_lt (length iw.old)
+        (free + length (front_of iw.old nv.old pe.old len.old me (place (word e_len.old me)))) }
 {
     let (from, packed) = make_room(iw, nv, pe, len, e_len, me, free);
     let (end, total) = make_element(iw, nv, pe, e_len, len, w, me, from);

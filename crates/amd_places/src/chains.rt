@@ -1,6 +1,7 @@
-// The classes by bound: a list for each bound, linked both ways, with the class that was put in last at its head. The number of rows
-// stands for no row. Source: Amestoy, Davis and Duff 1996 (degree lists). Called by each part of a round in which a class gets or loses its
-// bound, and by the start of an elimination (`starting` of the crate `amd_workspace`).
+// The classes by bound: a list for each bound, linked both ways, with the class that was put in last at its head. The
+// number of rows stands for no row. Source: Amestoy, Davis and Duff 1996 (degree lists). Called by each part of a round
+// in which a class gets or loses its bound, and by the start of an elimination (`starting` of the crate
+// `amd_workspace`).
 
 ghost use Rattle.std.specs.Prelude.{◌≡◌, ◌<◌, ◌≤◌, ℕ, true, false, List, ◌∷◌, ◌==◌, cond, length, slice_set};
 ghost use Rattle.amd_model.specs.Quotient.{has};
@@ -20,7 +21,8 @@ fn unlink<U: Unsigned>(
     requires lengths { (length head.old ≡ length next.old) × (length last.old ≡ length next.old) }
     requires row { (i < length next.old) × (d < length next.old) }
     ensures unlinks { Unlinks (length next.old) i d head.old next.old last.old head.new next.new last.new }
-    ensures lengths { (length head.new ≡ length next.old) × (length next.new ≡ length next.old) × (length last.new ≡ length next.old) }
+    ensures lengths { (length head.new ≡ length next.old) × (length next.new ≡ length next.old) ×
+        (length last.new ≡ length next.old) }
 {
     let n = next.len();
     let before = figure_at(last, i);
@@ -43,10 +45,14 @@ pub fn take_out<U: Unsigned>(
     degree: &[Figure<U>],
     i: usize,
 )
-    requires lengths { (length head.old ≡ length next.old) × (length last.old ≡ length next.old) × (length degree.now ≡ length next.old) }
+    requires lengths { (length head.old ≡ length next.old) × (length last.old ≡ length next.old) ×
+        (length degree.now ≡ length next.old) }
     requires row { (i < length next.old) × (num degree.now i < length next.old) }
-    ensures lengths { (length head.new ≡ length next.old) × (length next.new ≡ length next.old) × (length last.new ≡ length next.old) }
-    ensures linked { (lists : ℕ → List ℕ) → has (lists (num degree.now i)) i ≡ true → DegreeLists (length next.old) head.old next.old last.old degree.now lists → DegreeLists (length next.old) head.new next.new last.new degree.now (λ d. without i (lists d)) }
+    ensures lengths { (length head.new ≡ length next.old) × (length next.new ≡ length next.old) ×
+        (length last.new ≡ length next.old) }
+    ensures linked { (lists : ℕ → List ℕ) → has (lists (num degree.now i)) i ≡ true →
+        DegreeLists (length next.old) head.old next.old last.old degree.now lists →
+        DegreeLists (length next.old) head.new next.new last.new degree.now (λ d. without i (lists d)) }
 {
     unlink(head, next, last, i, figure_at(degree, i));
 }
@@ -63,7 +69,8 @@ fn link<U: Unsigned>(
     requires short { length next.old ≤ U.MOST }
     requires row { (i < length next.old) × (d < length next.old) }
     ensures relinks { Relinks (length next.old) i d head.old next.old last.old head.new next.new last.new }
-    ensures lengths { (length head.new ≡ length next.old) × (length next.new ≡ length next.old) × (length last.new ≡ length next.old) }
+    ensures lengths { (length head.new ≡ length next.old) × (length next.new ≡ length next.old) ×
+        (length last.new ≡ length next.old) }
 {
     let n = next.len();
     let after = figure_at(head, d);
@@ -84,11 +91,16 @@ pub fn put_head<U: Unsigned>(
     i: usize,
     d: usize,
 )
-    requires lengths { (length head.old ≡ length next.old) × (length last.old ≡ length next.old) × (length degree.old ≡ length next.old) }
+    requires lengths { (length head.old ≡ length next.old) × (length last.old ≡ length next.old) ×
+        (length degree.old ≡ length next.old) }
     requires short { length next.old ≤ U.MOST }
     requires row { (i < length next.old) × (d < length next.old) }
-    ensures lengths { (length head.new ≡ length next.old) × (length next.new ≡ length next.old) × (length last.new ≡ length next.old) × (length degree.new ≡ length next.old) }
-    ensures linked { (lists : ℕ → List ℕ) → ((b : ℕ) → b < length next.old → has (lists b) i ≡ false) → DegreeLists (length next.old) head.old next.old last.old degree.old lists → DegreeLists (length next.old) head.new next.new last.new degree.new (λ b. cond (b == d) (i ∷ lists b) (lists b)) }
+    ensures lengths { (length head.new ≡ length next.old) × (length next.new ≡ length next.old) ×
+        (length last.new ≡ length next.old) × (length degree.new ≡ length next.old) }
+    ensures linked { (lists : ℕ → List ℕ) → ((b : ℕ) → b < length next.old → has (lists b) i ≡ false) →
+        DegreeLists (length next.old) head.old next.old last.old degree.old lists →
+        DegreeLists (length next.old) head.new next.new last.new degree.new
+        (λ b. cond (b == d) (i ∷ lists b) (lists b)) }
     ensures degrees { degree.new ≡ slice_set degree.old i d }
     ensures lasts { (x : ℕ) → (x ≡ i → ⊥) → (x ≡ num head.old d → ⊥) → num last.new x ≡ num last.old x }
 {
@@ -112,8 +124,8 @@ fn least_bound<U: Unsigned>(head: &[Figure<U>], least: usize) -> usize
     bound
 }
 
-/// Chooses the pivot, the first row of the least bound that has one, and takes it out of its list. No bound below `least` has a row.
-/// Answers the pivot and its bound.
+/// Chooses the pivot, the first row of the least bound that has one, and takes it out of its list. No bound below
+/// `least` has a row. Answers the pivot and its bound.
 pub fn choose<U: Unsigned>(
     head: &mut [Figure<U>],
     next: &mut [Figure<U>],
@@ -122,10 +134,15 @@ pub fn choose<U: Unsigned>(
 ) -> (usize, usize)
     requires lengths { (length head.old ≡ length next.old) × (length last.old ≡ length next.old) }
     requires some { SomeFrom (length next.old) head.old least }
-    ensures lengths { (length head.new ≡ length next.old) × (length next.new ≡ length next.old) × (length last.new ≡ length next.old) }
+    ensures lengths { (length head.new ≡ length next.old) × (length next.new ≡ length next.old) ×
+        (length last.new ≡ length next.old) }
     ensures row { (result.0 < length next.old) × (result.1 < length next.old) }
-    ensures chosen { (degree : List ℕ) (lists : ℕ → List ℕ) → DegreeLists (length next.old) head.old next.old last.old degree lists → Chooses (length next.old) least lists result.0 result.1 }
-    ensures linked { (degree : List ℕ) (lists : ℕ → List ℕ) → DegreeLists (length next.old) head.old next.old last.old degree lists → DegreeLists (length next.old) head.new next.new last.new degree (λ b. without result.0 (lists b)) }
+    ensures chosen { (degree : List ℕ) (lists : ℕ → List ℕ) →
+        DegreeLists (length next.old) head.old next.old last.old degree lists →
+        Chooses (length next.old) least lists result.0 result.1 }
+    ensures linked { (degree : List ℕ) (lists : ℕ → List ℕ) →
+        DegreeLists (length next.old) head.old next.old last.old degree lists →
+        DegreeLists (length next.old) head.new next.new last.new degree (λ b. without result.0 (lists b)) }
 {
     let bound = least_bound(head, least);
     let me = figure_at(head, bound);

@@ -1,5 +1,6 @@
-// The closing of an element: its list has lost what is no class of the front any more, and its length, its rows and the rows of its
-// border are written. Source: Amestoy, Davis and Duff 1996 (the arrays of the quotient graph). Called by: a round.
+// The closing of an element: its list has lost what is no class of the front any more, and its length, its rows and the
+// rows of its border are written. Source: Amestoy, Davis and Duff 1996 (the arrays of the quotient graph). Called by: a
+// round.
 
 ghost use Rattle.std.specs.Prelude.{◌≡◌, ◌<◌, ◌≤◌, ◌+◌, ◌-◌, ℕ, ℤ, Bool, List, true, length, slice_set};
 ghost use Rattle.amd_places.specs.Words.{num, word, is_place, start, flip_of};
@@ -10,8 +11,9 @@ ghost use Rattle.amd_places.specs.Closing.{Closes};
 use crate::words::put_flip;
 use amd_cells::{Figure, Signed, Unsigned, Word, put_figure};
 
-/// Closes the element `me`, whose list stands from `from` to `end` now: writes its length, the rows of block and border together, and
-/// those of the border. If no other list ends behind `from`, the free end may go back to `end`; the caller moves it.
+/// Closes the element `me`, whose list stands from `from` to `end` now: writes its length, the rows of block and border
+/// together, and those of the border. If no other list ends behind `from`, the free end may go back to `end`; the
+/// caller moves it.
 pub fn close<S: Signed, U: Unsigned>(
     e_len: &mut [Word<S>],
     len: &mut [Figure<U>],
@@ -29,8 +31,13 @@ pub fn close<S: Signed, U: Unsigned>(
     ensures counts { e_len.new ≡ slice_set e_len.old me (flip_of (block + border)) }
     ensures lengths { len.new ≡ slice_set len.old me (end - from) }
     ensures borders { degree.new ≡ slice_set degree.old me border }
-    ensures closes { (n : ℕ) (pass : ℕ → Bool) (share : ℕ → ℕ) (first sum : ℕ) (iw iw' pe : List ℤ) (free : ℕ) → start pe me ≡ from → is_place (word pe me) ≡ true → Filters n pass share first iw from (num len.old me) from iw' end sum → Layout n iw pe e_len.old len.old free → Closes n me pass iw pe e_len.old len.old iw' e_len.new len.new free }
-    ensures lowers { (n : ℕ) (iw pe : List ℤ) (free : ℕ) → start pe me ≡ from → end_of pe len.new me ≤ free → ((j : ℕ) → (j ≡ me → ⊥) → has_list pe len.new j ≡ true → end_of pe len.new j ≤ from) → Layout n iw pe e_len.new len.new free → Layout n iw pe e_len.new len.new end }
+    ensures closes { (n : ℕ) (pass : ℕ → Bool) (share : ℕ → ℕ) (first sum : ℕ) (iw iw' pe : List ℤ) (free : ℕ) →
+        start pe me ≡ from → is_place (word pe me) ≡ true →
+        Filters n pass share first iw from (num len.old me) from iw' end sum → Layout n iw pe e_len.old len.old free →
+        Closes n me pass iw pe e_len.old len.old iw' e_len.new len.new free }
+    ensures lowers { (n : ℕ) (iw pe : List ℤ) (free : ℕ) → start pe me ≡ from → end_of pe len.new me ≤ free →
+        ((j : ℕ) → (j ≡ me → ⊥) → has_list pe len.new j ≡ true → end_of pe len.new j ≤ from) →
+        Layout n iw pe e_len.new len.new free → Layout n iw pe e_len.new len.new end }
 {
     put_flip(e_len, me, block + border);
     put_figure(len, me, end - from);

@@ -1,8 +1,9 @@
-// Compaction: the lists of the workspace move down, so that no word lies between them. The first word of each list makes room for a
-// mark of its row, so that one pass over the words meets the lists in the order of their places.
+// Compaction: the lists of the workspace move down, so that no word lies between them. The first word of each list
+// makes room for a mark of its row, so that one pass over the words meets the lists in the order of their places.
 // Source: Amestoy, Davis and Duff 1996 (garbage collection). Called by `room`.
 
-ghost use Rattle.std.specs.Prelude.{◌≡◌, ◌≢◌, ◌<◌, ◌≤◌, ◌+◌, ◌^◌, pos, negsuc, true, false, length, slice_index_or, slice_set};
+ghost use Rattle.std.specs.Prelude.{◌≡◌, ◌≢◌, ◌<◌, ◌≤◌, ◌+◌, ◌^◌, pos, negsuc, true, false, length, slice_index_or};
+ghost use Rattle.std.specs.Prelude.{slice_set};
 ghost use Rattle.amd_places.specs.Words.{is_place, place, flip_of, word, start};
 ghost use Rattle.amd_places.specs.Layout.{Layout};
 ghost use Rattle.amd_places.specs.Compaction.{Spaced, Compacts, Moves, Packs};

@@ -1,10 +1,11 @@
-// For each element that a class of the front lists: the rows of its border outside the front. One step for each pair of a class and an
-// element that it lists. A counter is 0 for what is no standing element or class, and below the flag if it was not met. In the same
-// pass the classes leave the lists by bound, and with `aggressive` an element without rows outside ends.
-// Source: Amestoy, Davis and Duff 1996 (approximate external degree, aggressive absorption). Called by `turning`, and the renewal of the
-// flag by `round` of the crate `amd_inplace`.
+// For each element that a class of the front lists: the rows of its border outside the front. One step for each pair of
+// a class and an element that it lists. A counter is 0 for what is no standing element or class, and below the flag if
+// it was not met. In the same pass the classes leave the lists by bound, and with `aggressive` an element without rows
+// outside ends. Source: Amestoy, Davis and Duff 1996 (approximate external degree, aggressive absorption). Called by
+// `turning`, and the renewal of the flag by `round` of the crate `amd_inplace`.
 
-ghost use Rattle.std.specs.Prelude.{◌≡◌, ◌<◌, ◌≤◌, ◌+◌, ◌-◌, ◌^◌, ◌==◌, ◌&&◌, not, cond, filter, ℕ, List, Bool, true, false, length};
+ghost use Rattle.std.specs.Prelude.{◌≡◌, ◌<◌, ◌≤◌, ◌+◌, ◌-◌, ◌^◌, ◌==◌, ◌&&◌, not, cond, filter, ℕ, List, Bool, true};
+ghost use Rattle.std.specs.Prelude.{false, length};
 ghost use Rattle.amd_model.specs.Quotient.{has, Once};
 ghost use Rattle.amd_places.specs.Words.{num, word, place, is_place, start, size_of, in_front, flip_of, rows, Names};
 ghost use Rattle.amd_places.specs.Chains.{DegreeLists, without};
@@ -21,7 +22,8 @@ fn touch<U: Unsigned>(w: &mut [Figure<U>], degree: &[Figure<U>], e: usize, more:
     requires first { 0 < num w.old e → more ≤ num degree.now e }
     requires fits { num degree.now e + flag ≤ U.MOST }
     ensures long { length w.new ≡ length w.old }
-    ensures counted { (x : ℕ) → num w.new x ≡ cond (x == e) (touched flag (num degree.now e) more (num w.old e)) (num w.old x) }
+    ensures counted { (x : ℕ) → num w.new x ≡ cond (x == e) (touched flag (num degree.now e) more (num w.old e))
+        (num w.old x) }
 {
     let before = figure_at(w, e);
     if before >= flag {
@@ -31,7 +33,8 @@ fn touch<U: Unsigned>(w: &mut [Figure<U>], degree: &[Figure<U>], e: usize, more:
     }
 }
 
-/// As `touch`. With `aggressive` the pivot `me` absorbs the element if none of its rows is left: its list ends, and its counter is 0.
+/// As `touch`. With `aggressive` the pivot `me` absorbs the element if none of its rows is left: its list ends, and its
+/// counter is 0.
 fn touch_or_end<S: Signed, U: Unsigned>(
     pe: &mut [Word<S>],
     w: &mut [Figure<U>],
@@ -48,8 +51,11 @@ fn touch_or_end<S: Signed, U: Unsigned>(
     requires first { 0 < num w.old e → more ≤ num degree.now e }
     requires fits { num degree.now e + flag ≤ U.MOST }
     ensures long { (length w.new ≡ length w.old) × (length pe.new ≡ length pe.old) }
-    ensures counted { (x : ℕ) → num w.new x ≡ cond (x == e) (settled aggressive flag (touched flag (num degree.now e) more (num w.old e))) (num w.old x) }
-    ensures starts { (x : ℕ) → word pe.new x ≡ cond (x == e && ends aggressive flag (touched flag (num degree.now e) more (num w.old e))) (flip_of me) (word pe.old x) }
+    ensures counted { (x : ℕ) → num w.new x ≡ cond (x == e)
+        (settled aggressive flag (touched flag (num degree.now e) more (num w.old e))) (num w.old x) }
+    ensures starts { (x : ℕ) → word pe.new x ≡ cond
+        (x == e && ends aggressive flag (touched flag (num degree.now e) more (num w.old e))) (flip_of me)
+        (word pe.old x) }
 {
     touch(w, degree, e, more, flag);
     let left = figure_at(w, e);
@@ -59,7 +65,8 @@ fn touch_or_end<S: Signed, U: Unsigned>(
     }
 }
 
-/// Takes the `more` rows of a class off the counters of the elements that it lists: they stand in `count` words from `from` on.
+/// Takes the `more` rows of a class off the counters of the elements that it lists: they stand in `count` words from
+/// `from` on.
 fn touch_all<S: Signed, U: Unsigned>(
     iw: &[Word<S>],
     pe: &mut [Word<S>],
@@ -81,8 +88,11 @@ fn touch_all<S: Signed, U: Unsigned>(
     requires first { (e : ℕ) → has (rows iw.now from count) e ≡ true → 0 < num w.old e → more ≤ num degree.now e }
     requires fits { (e : ℕ) → e < length w.old → num degree.now e + flag ≤ U.MOST }
     ensures long { (length w.new ≡ length w.old) × (length pe.new ≡ length pe.old) }
-    ensures counted { (e : ℕ) → num w.new e ≡ cond (has (rows iw.now from count) e) (settled aggressive flag (touched flag (num degree.now e) more (num w.old e))) (num w.old e) }
-    ensures starts { (e : ℕ) → word pe.new e ≡ cond (has (rows iw.now from count) e && ends aggressive flag (touched flag (num degree.now e) more (num w.old e))) (flip_of me) (word pe.old e) }
+    ensures counted { (e : ℕ) → num w.new e ≡ cond (has (rows iw.now from count) e)
+        (settled aggressive flag (touched flag (num degree.now e) more (num w.old e))) (num w.old e) }
+    ensures starts { (e : ℕ) → word pe.new e ≡ cond
+        (has (rows iw.now from count) e && ends aggressive flag (touched flag (num degree.now e) more (num w.old e)))
+        (flip_of me) (word pe.old e) }
 {
     for q in from..from + count {
         let e = named(iw, q);
@@ -90,7 +100,8 @@ fn touch_all<S: Signed, U: Unsigned>(
     }
 }
 
-/// Takes a class of the front out of the list of its bound, and its rows off the counters of the elements that it lists.
+/// Takes a class of the front out of the list of its bound, and its rows off the counters of the elements that it
+/// lists.
 fn count_class<S: Signed, U: Unsigned>(
     iw: &[Word<S>],
     pe: &mut [Word<S>],
@@ -106,19 +117,30 @@ fn count_class<S: Signed, U: Unsigned>(
     me: usize,
     aggressive: bool,
 )
-    requires lengths { (length pe.old ≡ length w.old) × (length e_len.now ≡ length w.old) × (length nv.now ≡ length w.old) × (length degree.now ≡ length w.old) }
-    requires more_lengths { (length head.old ≡ length w.old) × (length next.old ≡ length w.old) × (length last.old ≡ length w.old) }
+    requires lengths { (length pe.old ≡ length w.old) × (length e_len.now ≡ length w.old) ×
+        (length nv.now ≡ length w.old) × (length degree.now ≡ length w.old) }
+    requires more_lengths { (length head.old ≡ length w.old) × (length next.old ≡ length w.old) ×
+        (length last.old ≡ length w.old) }
     requires row { (i < length w.old) × (num degree.now i < length w.old) }
     requires small { me + 2 ≤ S.MOST }
     requires listed { IsListed (length w.old) iw.now pe.old e_len.now nv.now i }
-    requires again { (e : ℕ) → has (elements_of iw.now pe.old e_len.now i) e ≡ true → flag ≤ num w.old e → size_of nv.now i ≤ num w.old e }
-    requires first { (e : ℕ) → has (elements_of iw.now pe.old e_len.now i) e ≡ true → 0 < num w.old e → size_of nv.now i ≤ num degree.now e }
+    requires again { (e : ℕ) → has (elements_of iw.now pe.old e_len.now i) e ≡ true → flag ≤ num w.old e →
+        size_of nv.now i ≤ num w.old e }
+    requires first { (e : ℕ) → has (elements_of iw.now pe.old e_len.now i) e ≡ true → 0 < num w.old e →
+        size_of nv.now i ≤ num degree.now e }
     requires fits { (e : ℕ) → e < length w.old → num degree.now e + flag ≤ U.MOST }
     ensures long { (length w.new ≡ length w.old) × (length pe.new ≡ length pe.old) }
-    ensures counted { (e : ℕ) → num w.new e ≡ cond (has (elements_of iw.now pe.old e_len.now i) e) (settled aggressive flag (touched flag (num degree.now e) (size_of nv.now i) (num w.old e))) (num w.old e) }
-    ensures starts { (e : ℕ) → word pe.new e ≡ cond (has (elements_of iw.now pe.old e_len.now i) e && ends aggressive flag (touched flag (num degree.now e) (size_of nv.now i) (num w.old e))) (flip_of me) (word pe.old e) }
-    ensures lengths { (length head.new ≡ length head.old) × (length next.new ≡ length next.old) × (length last.new ≡ length last.old) }
-    ensures linked { (lists : ℕ → List ℕ) → has (lists (num degree.now i)) i ≡ true → DegreeLists (length w.old) head.old next.old last.old degree.now lists → DegreeLists (length w.old) head.new next.new last.new degree.now (λ d. without i (lists d)) }
+    ensures counted { (e : ℕ) → num w.new e ≡ cond (has (elements_of iw.now pe.old e_len.now i) e)
+        (settled aggressive flag (touched flag (num degree.now e) (size_of nv.now i) (num w.old e))) (num w.old e) }
+    ensures starts { (e : ℕ) → word pe.new e ≡ cond
+        (has (elements_of iw.now pe.old e_len.now i) e &&
+        ends aggressive flag (touched flag (num degree.now e) (size_of nv.now i) (num w.old e))) (flip_of me)
+        (word pe.old e) }
+    ensures lengths { (length head.new ≡ length head.old) × (length next.new ≡ length next.old) ×
+        (length last.new ≡ length last.old) }
+    ensures linked { (lists : ℕ → List ℕ) → has (lists (num degree.now i)) i ≡ true →
+        DegreeLists (length w.old) head.old next.old last.old degree.now lists →
+        DegreeLists (length w.old) head.new next.new last.new degree.now (λ d. without i (lists d)) }
 {
     take_out(head, next, last, degree, i);
     let first = named(pe, i);
@@ -129,9 +151,9 @@ fn count_class<S: Signed, U: Unsigned>(
     );
 }
 
-/// Counts, for each standing element that a class of the front lists, the rows of its border outside the front: the rows of each
-/// class are taken off the elements that it lists. The front, whose list stands in `count` words from `from` on, leaves the lists by
-/// bound; with `aggressive` the pivot `me` absorbs the elements without rows outside.
+/// Counts, for each standing element that a class of the front lists, the rows of its border outside the front: the
+/// rows of each class are taken off the elements that it lists. The front, whose list stands in `count` words from
+/// `from` on, leaves the lists by bound; with `aggressive` the pivot `me` absorbs the elements without rows outside.
 pub fn count_outside<S: Signed, U: Unsigned>(
     iw: &[Word<S>],
     pe: &mut [Word<S>],
@@ -148,24 +170,37 @@ pub fn count_outside<S: Signed, U: Unsigned>(
     me: usize,
     aggressive: bool,
 )
-    requires lengths { (length pe.old ≡ length w.old) × (length e_len.now ≡ length w.old) × (length nv.now ≡ length w.old) × (length degree.now ≡ length w.old) }
-    requires more_lengths { (length head.old ≡ length w.old) × (length next.old ≡ length w.old) × (length last.old ≡ length w.old) }
+    requires lengths { (length pe.old ≡ length w.old) × (length e_len.now ≡ length w.old) ×
+        (length nv.now ≡ length w.old) × (length degree.now ≡ length w.old) }
+    requires more_lengths { (length head.old ≡ length w.old) × (length next.old ≡ length w.old) ×
+        (length last.old ≡ length w.old) }
     requires inside { from + count ≤ length iw.now }
     requires small { me + 2 ≤ S.MOST }
     requires front { Names (length w.old) iw.now from count }
     requires once { Once (rows iw.now from count) }
-    requires listed { (i : ℕ) → has (rows iw.now from count) i ≡ true → IsListed (length w.old) iw.now pe.old e_len.now nv.now i }
-    requires apart { (i e : ℕ) → has (rows iw.now from count) i ≡ true → has (rows iw.now from count) e ≡ true → has (elements_of iw.now pe.old e_len.now i) e ≡ false }
+    requires listed { (i : ℕ) → has (rows iw.now from count) i ≡ true →
+        IsListed (length w.old) iw.now pe.old e_len.now nv.now i }
+    requires apart { (i e : ℕ) → has (rows iw.now from count) i ≡ true → has (rows iw.now from count) e ≡ true →
+        has (elements_of iw.now pe.old e_len.now i) e ≡ false }
     requires bounds { (i : ℕ) → has (rows iw.now from count) i ≡ true → num degree.now i < length w.old }
     requires flag { 2 ≤ flag }
     requires under { (e : ℕ) → num w.old e < flag }
     requires fits { (e : ℕ) → e < length w.old → num degree.now e + flag ≤ U.MOST }
-    requires part { (e : ℕ) → 0 < num w.old e → met iw.now pe.old e_len.now nv.now (rows iw.now from count) e ≤ num degree.now e }
+    requires part { (e : ℕ) → 0 < num w.old e → met iw.now pe.old e_len.now nv.now (rows iw.now from count) e ≤ num
+        degree.now e }
     ensures long { (length w.new ≡ length w.old) × (length pe.new ≡ length pe.old) }
-    ensures counted { (e : ℕ) → num w.new e ≡ settled aggressive flag (counter flag (num w.old e) (num degree.now e) (met iw.now pe.old e_len.now nv.now (rows iw.now from count) e)) }
-    ensures starts { (e : ℕ) → word pe.new e ≡ cond (ends aggressive flag (counter flag (num w.old e) (num degree.now e) (met iw.now pe.old e_len.now nv.now (rows iw.now from count) e))) (flip_of me) (word pe.old e) }
-    ensures lengths { (length head.new ≡ length head.old) × (length next.new ≡ length next.old) × (length last.new ≡ length last.old) }
-    ensures linked { (lists : ℕ → List ℕ) → ((i : ℕ) → has (rows iw.now from count) i ≡ true → has (lists (num degree.now i)) i ≡ true) → DegreeLists (length w.old) head.old next.old last.old degree.now lists → DegreeLists (length w.old) head.new next.new last.new degree.now (λ d. filter (λ j. not (has (rows iw.now from count) j)) (lists d)) }
+    ensures counted { (e : ℕ) → num w.new e ≡ settled aggressive flag
+        (counter flag (num w.old e) (num degree.now e)
+        (met iw.now pe.old e_len.now nv.now (rows iw.now from count) e)) }
+    ensures starts { (e : ℕ) → word pe.new e ≡ cond
+        (ends aggressive flag (counter flag (num w.old e) (num degree.now e)
+        (met iw.now pe.old e_len.now nv.now (rows iw.now from count) e))) (flip_of me) (word pe.old e) }
+    ensures lengths { (length head.new ≡ length head.old) × (length next.new ≡ length next.old) ×
+        (length last.new ≡ length last.old) }
+    ensures linked { (lists : ℕ → List ℕ) → ((i : ℕ) → has (rows iw.now from count) i ≡ true →
+        has (lists (num degree.now i)) i ≡ true) → DegreeLists (length w.old) head.old next.old last.old degree.now
+        lists → DegreeLists (length w.old) head.new next.new last.new degree.now
+        (λ d. filter (λ j. not (has (rows iw.now from count) j)) (lists d)) }
 {
     for p in from..from + count {
         let i = named(iw, p);
@@ -188,8 +223,8 @@ fn clear<U: Unsigned>(w: &mut [Figure<U>])
     }
 }
 
-/// The flag for what comes next: the one given, if there is room for a count above it, or else 2 in new numbers. Numbers under the
-/// flag stay under it, and 0 stays 0 alone.
+/// The flag for what comes next: the one given, if there is room for a count above it, or else 2 in new numbers.
+/// Numbers under the flag stay under it, and 0 stays 0 alone.
 pub fn renew_flag<U: Unsigned>(w: &mut [Figure<U>], flag: usize) -> usize
     requires short { length w.old + 2 ≤ U.MOST }
     requires two { 2 ≤ flag }

@@ -1,7 +1,9 @@
-// The list of a new element, built at the free end of the workspace from the lists of its pivot and of the elements that the pivot
-// lists. All other lists stay as they are. Source: Amestoy, Davis and Duff 1996 (element formation). Called by `making`.
+// The list of a new element, built at the free end of the workspace from the lists of its pivot and of the elements
+// that the pivot lists. All other lists stay as they are. Source: Amestoy, Davis and Duff 1996 (element formation).
+// Called by `making`.
 
-ghost use Rattle.std.specs.Prelude.{◌≡◌, ◌<◌, ◌≤◌, ◌+◌, ◌-◌, ◌^◌, ◌||◌, ◌&&◌, ◌==◌, not, ℕ, true, false, length, sum_by};
+ghost use Rattle.std.specs.Prelude.{◌≡◌, ◌<◌, ◌≤◌, ◌+◌, ◌-◌, ◌^◌, ◌||◌, ◌&&◌, ◌==◌, not, ℕ, true, false, length};
+ghost use Rattle.std.specs.Prelude.{sum_by};
 ghost use Rattle.amd_model.specs.Quotient.{has};
 ghost use Rattle.amd_places.specs.Words.{num, word, size_of, in_front, classes, rows, Names};
 ghost use Rattle.amd_places.specs.Element.{grown, Gathers, front_of, ListsLaid, Builds};
@@ -9,8 +11,8 @@ ghost use Rattle.amd_places.specs.Element.{grown, Gathers, front_of, ListsLaid, 
 use crate::words::{enter, is_open, named};
 use amd_cells::{Figure, Signed, Unsigned, Word, copy_word, figure_at};
 
-/// Appends the classes among some words that are not in the front yet to the list that stands from `start` to `free`, and puts
-/// them into the front. Answers the new end, and the number of rows of the list.
+/// Appends the classes among some words that are not in the front yet to the list that stands from `start` to `free`,
+/// and puts them into the front. Answers the new end, and the number of rows of the list.
 pub fn gather<S: Signed>(
     iw: &mut [Word<S>],
     nv: &mut [Word<S>],
@@ -28,9 +30,12 @@ pub fn gather<S: Signed>(
     requires made { Names (length nv.old) iw.old start (free - start) }
     requires known { (j : ℕ) → has (rows iw.old start (free - start)) j ≡ true → in_front nv.old j ≡ true }
     requires total { total ≡ sum_by (size_of nv.old) (rows iw.old start (free - start)) }
-    requires fits { start + length (grown iw.old nv.old start free (classes nv.old (rows iw.old from count))) ≤ length iw.old }
-    requires few { sum_by (size_of nv.old) (grown iw.old nv.old start free (classes nv.old (rows iw.old from count))) < 2 ^ 63 }
-    ensures { Gathers iw.old nv.old start free (classes nv.old (rows iw.old from count)) iw.new nv.new result.0 result.1 }
+    requires fits { start + length (grown iw.old nv.old start free (classes nv.old (rows iw.old from count))) ≤ length
+        iw.old }
+    requires few { sum_by (size_of nv.old) (grown iw.old nv.old start free
+        (classes nv.old (rows iw.old from count))) < 2 ^ 63 }
+    ensures { Gathers iw.old nv.old start free (classes nv.old (rows iw.old from count)) iw.new nv.new result.0
+        result.1 }
 {
     let mut end = free;
     let mut sum = total;
@@ -45,9 +50,9 @@ pub fn gather<S: Signed>(
     (end, sum)
 }
 
-/// Builds the list of the pivot's new element behind the lists: the classes of the pivot's elements, element after element, and
-/// then those of its variables, each at its first occurrence and without the pivot. They and the pivot are in the front then.
-/// Answers the new end, and the number of rows of the front.
+/// Builds the list of the pivot's new element behind the lists: the classes of the pivot's elements, element after
+/// element, and then those of its variables, each at its first occurrence and without the pivot. They and the pivot are
+/// in the front then. Answers the new end, and the number of rows of the front.
 pub fn build<S: Signed, U: Unsigned>(
     iw: &mut [Word<S>],
     nv: &mut [Word<S>],
@@ -66,7 +71,8 @@ pub fn build<S: Signed, U: Unsigned>(
     requires clear { (j : ℕ) → in_front nv.old j ≡ false }
     requires fits { free + length (front_of iw.old nv.old pe.now len.now pivot n_elements) ≤ length iw.old }
     requires few { sum_by (size_of nv.old) (front_of iw.old nv.old pe.now len.now pivot n_elements) < 2 ^ 63 }
-    ensures { Builds pivot (front_of iw.old nv.old pe.now len.now pivot n_elements) iw.old nv.old free iw.new nv.new result.0 result.1 }
+    ensures { Builds pivot (front_of iw.old nv.old pe.now len.now pivot n_elements) iw.old nv.old free iw.new nv.new
+        result.0 result.1 }
 {
     enter(nv, pivot);
     let from = named(pe, pivot);

@@ -1,8 +1,9 @@
-// The lists and bounds of all classes of a front are renewed, each list in its place. A class that keeps nothing but the new element
-// ends: it goes with the pivot. Source: Amestoy, Davis and Duff 1996 (approximate external degree, element absorption, mass
-// elimination). Called by `turning`.
+// The lists and bounds of all classes of a front are renewed, each list in its place. A class that keeps nothing but
+// the new element ends: it goes with the pivot. Source: Amestoy, Davis and Duff 1996 (approximate external degree,
+// element absorption, mass elimination). Called by `turning`.
 
-ghost use Rattle.std.specs.Prelude.{◌++◌, ◌≡◌, ◌<◌, ◌≤◌, ◌+◌, ◌-◌, ◌^◌, pos, negsuc, ℕ, true, false, length, min, sum_by, slice_set};
+ghost use Rattle.std.specs.Prelude.{◌++◌, ◌≡◌, ◌<◌, ◌≤◌, ◌+◌, ◌-◌, ◌^◌, pos, negsuc, ℕ, true, false, length, min};
+ghost use Rattle.std.specs.Prelude.{sum_by, slice_set};
 ghost use Rattle.amd_model.specs.Quotient.{has, Once};
 ghost use Rattle.amd_places.specs.Words.{num, word, is_place, size_of, in_front, flip_of};
 ghost use Rattle.amd_places.specs.Renewal.{is_kept, is_outside, hashed};
@@ -13,8 +14,8 @@ use crate::renewal::renew_list;
 use crate::words::{named, put_flip, put_row, size_inside};
 use amd_cells::{Figure, Signed, Unsigned, Word, figure_at, put_figure, put_word};
 
-/// Renews the list of the class `i` in its place. Answers the number of its words, the number of rows that it reaches outside the
-/// front, at most the greatest `usize`, and the sum of what it keeps, which wraps.
+/// Renews the list of the class `i` in its place. Answers the number of its words, the number of rows that it reaches
+/// outside the front, at most the greatest `usize`, and the sum of what it keeps, which wraps.
 fn renew_class<S: Signed, U: Unsigned>(
     iw: &mut [Word<S>],
     e_len: &mut [Word<S>],
@@ -26,20 +27,24 @@ fn renew_class<S: Signed, U: Unsigned>(
     flag: usize,
     me: usize,
 ) -> (usize, usize, usize)
-    requires lengths { (length pe.now ≡ length w.now) × (length e_len.old ≡ length w.now) × (length len.old ≡ length w.now) × (length nv.now ≡ length w.now) }
+    requires lengths { (length pe.now ≡ length w.now) × (length e_len.old ≡ length w.now) ×
+        (length len.old ≡ length w.now) × (length nv.now ≡ length w.now) }
     requires short { length iw.old < 2 ^ 63 }
     requires narrow { length iw.old ≤ S.MOST }
     requires me { (me < length w.now) × (me ≤ S.MOST) }
     requires placed { IsPlaced (length w.now) iw.old pe.now e_len.old len.old i }
     requires loses { LosesOne (is_kept w.now) (is_outside nv.now) iw.old pe.now e_len.old len.old i }
-    ensures renews { RenewsOne (length w.now) me (is_kept w.now) (is_outside nv.now) i iw.old pe.now e_len.old len.old iw.new e_len.new len.new }
+    ensures renews { RenewsOne (length w.now) me (is_kept w.now) (is_outside nv.now) i iw.old pe.now e_len.old len.old
+        iw.new e_len.new len.new }
     ensures count { result.0 ≡ num len.new i }
-    ensures far { result.1 ≡ reached (λ e. num w.now e - flag) (size_of nv.now) (is_kept w.now) (is_outside nv.now) iw.old pe.now e_len.old len.old i }
-    ensures hash { result.2 ≡ hashed 0 (kept_in (is_kept w.now) iw.old pe.now e_len.old i ++ near_in (is_outside nv.now) iw.old pe.now e_len.old len.old i) }
+    ensures outside { result.1 ≡ reached (λ e. num w.now e - flag) (size_of nv.now) (is_kept w.now) (is_outside nv.now)
+        iw.old pe.now e_len.old len.old i }
+    ensures hash { result.2 ≡ hashed 0 (kept_in (is_kept w.now) iw.old pe.now e_len.old i ++ near_in (is_outside nv.now)
+        iw.old pe.now e_len.old len.old i) }
 {
     let from = named(pe, i);
     let n_elements = named(e_len, i);
-    let (few, count, far, hash) = renew_list(
+    let (few, count, outside, hash) = renew_list(
         iw,
         w,
         nv,
@@ -51,18 +56,18 @@ fn renew_class<S: Signed, U: Unsigned>(
     );
     put_row(e_len, i, few);
     put_figure(len, i, count);
-    (count, far, hash)
+    (count, outside, hash)
 }
 
 /// Makes the bound of a class no greater than the number given.
-fn lower_bound<U: Unsigned>(degree: &mut [Figure<U>], i: usize, far: usize)
+fn lower_bound<U: Unsigned>(degree: &mut [Figure<U>], i: usize, outside: usize)
     requires inside { i < length degree.old }
     ensures long { length degree.new ≡ length degree.old }
-    ensures bound { num degree.new i ≡ min (num degree.old i) far }
+    ensures bound { num degree.new i ≡ min (num degree.old i) outside }
     ensures others { (x : ℕ) → (x ≡ i → ⊥) → num degree.new x ≡ num degree.old x }
 {
-    if far < figure_at(degree, i) {
-        put_figure(degree, i, far);
+    if outside < figure_at(degree, i) {
+        put_figure(degree, i, outside);
     }
 }
 
@@ -89,8 +94,8 @@ fn retire<S: Signed>(
     gone
 }
 
-/// Renews the list, the bound and the bucket of a class of the front, or ends it if it keeps nothing but the new element. Answers the
-/// number of rows that go with the pivot.
+/// Renews the list, the bound and the bucket of a class of the front, or ends it if it keeps nothing but the new
+/// element. Answers the number of rows that go with the pivot.
 fn renew_or_retire<S: Signed, U: Unsigned>(
     iw: &mut [Word<S>],
     pe: &mut [Word<S>],
@@ -104,7 +109,8 @@ fn renew_or_retire<S: Signed, U: Unsigned>(
     flag: usize,
     me: usize,
 ) -> usize
-    requires lengths { (length pe.old ≡ length w.now) × (length e_len.old ≡ length w.now) × (length len.old ≡ length w.now) × (length nv.old ≡ length w.now) }
+    requires lengths { (length pe.old ≡ length w.now) × (length e_len.old ≡ length w.now) ×
+        (length len.old ≡ length w.now) × (length nv.old ≡ length w.now) }
     requires more_lengths { (length degree.old ≡ length w.now) × (length last.old ≡ length w.now) }
     requires short { length iw.old < 2 ^ 63 }
     requires narrow { (length iw.old ≤ S.MOST) × (length w.now ≤ U.MOST) }
@@ -112,21 +118,25 @@ fn renew_or_retire<S: Signed, U: Unsigned>(
     requires placed { IsPlaced (length w.now) iw.old pe.old e_len.old len.old i }
     requires loses { LosesOne (is_kept w.now) (is_outside nv.old) iw.old pe.old e_len.old len.old i }
     requires marked { in_front nv.old i ≡ true }
-    ensures renews { RenewsOrEnds (length w.now) me (is_kept w.now) (is_outside nv.old) (λ e. num w.now e - flag) i iw.old pe.old e_len.old nv.old len.old degree.old last.old iw.new pe.new e_len.new nv.new len.new degree.new last.new result }
-    ensures lengths { (length pe.new ≡ length pe.old) × (length e_len.new ≡ length e_len.old) × (length nv.new ≡ length nv.old) × (length degree.new ≡ length degree.old) × (length last.new ≡ length last.old) }
+    ensures renews { RenewsOrEnds (length w.now) me (is_kept w.now) (is_outside nv.old) (λ e. num w.now e - flag) i
+        iw.old pe.old e_len.old nv.old len.old degree.old last.old iw.new pe.new e_len.new nv.new len.new degree.new
+        last.new result }
+    ensures lengths { (length pe.new ≡ length pe.old) × (length e_len.new ≡ length e_len.old) ×
+        (length nv.new ≡ length nv.old) × (length degree.new ≡ length degree.old) ×
+        (length last.new ≡ length last.old) }
 {
-    let (count, far, hash) = renew_class(iw, e_len, len, pe, w, nv, i, flag, me);
+    let (count, outside, hash) = renew_class(iw, e_len, len, pe, w, nv, i, flag, me);
     if count == 1 {
         return retire(pe, e_len, nv, i, me);
     }
-    lower_bound(degree, i, far);
+    lower_bound(degree, i, outside);
     put_figure(last, i, hash % w.len());
     0
 }
 
-/// Renews the list of each class of the new element's list in its place, makes its bound no greater than the number of rows that it
-/// reaches outside the front, and leaves its bucket in `last`. A class that keeps nothing but the new element ends. Answers the number
-/// of rows of those that ended. All lists end before `free`.
+/// Renews the list of each class of the new element's list in its place, makes its bound no greater than the number of
+/// rows that it reaches outside the front, and leaves its bucket in `last`. A class that keeps nothing but the new
+/// element ends. Answers the number of rows of those that ended. All lists end before `free`.
 pub fn renew_all<S: Signed, U: Unsigned>(
     iw: &mut [Word<S>],
     pe: &mut [Word<S>],
@@ -140,7 +150,8 @@ pub fn renew_all<S: Signed, U: Unsigned>(
     me: usize,
     free: usize,
 ) -> usize
-    requires lengths { (length pe.old ≡ length w.now) × (length e_len.old ≡ length w.now) × (length len.old ≡ length w.now) × (length nv.old ≡ length w.now) }
+    requires lengths { (length pe.old ≡ length w.now) × (length e_len.old ≡ length w.now) ×
+        (length len.old ≡ length w.now) × (length nv.old ≡ length w.now) }
     requires more_lengths { (length degree.old ≡ length w.now) × (length last.old ≡ length w.now) }
     requires short { length iw.old < 2 ^ 63 }
     requires narrow { (length iw.old ≤ S.MOST) × (length w.now ≤ U.MOST) }
@@ -150,10 +161,13 @@ pub fn renew_all<S: Signed, U: Unsigned>(
     requires list { is_place (word pe.old me) ≡ true }
     requires apart { has (list_in iw.old pe.old len.old me) me ≡ false }
     requires once { Once (list_in iw.old pe.old len.old me) }
-    requires front { (i : ℕ) → has (list_in iw.old pe.old len.old me) i ≡ true → IsRenewable (is_kept w.now) (is_outside nv.old) iw.old pe.old e_len.old len.old i }
+    requires front { (i : ℕ) → has (list_in iw.old pe.old len.old me) i ≡ true →
+        IsRenewable (is_kept w.now) (is_outside nv.old) iw.old pe.old e_len.old len.old i }
     requires marked { (i : ℕ) → has (list_in iw.old pe.old len.old me) i ≡ true → in_front nv.old i ≡ true }
     requires few { sum_by (size_of nv.old) (list_in iw.old pe.old len.old me) ≤ S.MOST }
-    ensures renews { RenewsFront (length w.now) me (is_kept w.now) (is_outside nv.old) (λ e. num w.now e - flag) (list_in iw.old pe.old len.old me) free iw.old pe.old e_len.old nv.old len.old degree.old last.old iw.new pe.new e_len.new nv.new len.new degree.new last.new result }
+    ensures renews { RenewsFront (length w.now) me (is_kept w.now) (is_outside nv.old) (λ e. num w.now e - flag)
+        (list_in iw.old pe.old len.old me) free iw.old pe.old e_len.old nv.old len.old degree.old last.old iw.new pe.new
+        e_len.new nv.new len.new degree.new last.new result }
 {
     let from = named(pe, me);
     let end = from + figure_at(len, me);

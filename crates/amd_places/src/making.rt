@@ -59,8 +59,8 @@ fn settle<S: Signed, U: Unsigned>(
     put_figure(len, me, end - from);
 }
 
-/// Makes the pivot `me` an element, whose list is built behind all lists, and ends the elements that it absorbs. Answers the new
-/// free end, and the number of rows of its list.
+/// Makes the pivot `me` an element, whose list is built behind all lists, and ends the elements that it absorbs.
+/// Answers the new free end, and the number of rows of its list.
 pub fn make_element<S: Signed, U: Unsigned>(
     iw: &mut [Word<S>],
     nv: &mut [Word<S>],
@@ -71,7 +71,8 @@ pub fn make_element<S: Signed, U: Unsigned>(
     me: usize,
     free: usize,
 ) -> (usize, usize)
-    requires lengths { (length pe.old ≡ length nv.old) × (length e_len.old ≡ length nv.old) × (length len.old ≡ length nv.old) × (length w.old ≡ length nv.old) }
+    requires lengths { (length pe.old ≡ length nv.old) × (length e_len.old ≡ length nv.old) ×
+        (length len.old ≡ length nv.old) × (length w.old ≡ length nv.old) }
     requires short { (length iw.old < 2 ^ 63) × (length nv.old + 2 ≤ S.MOST) }
     requires narrow { (length iw.old ≤ S.MOST) × (length iw.old ≤ U.MOST) }
     requires end { free ≤ length iw.old }
@@ -79,14 +80,20 @@ pub fn make_element<S: Signed, U: Unsigned>(
     requires pivot { (me < length nv.old) × (0 < size_of nv.old me) }
     requires listed { has_list pe.old len.old me ≡ true }
     requires count { is_place (word e_len.old me) ≡ true }
-    requires elements { (e : ℕ) → has (elements_in iw.old pe.old e_len.old me) e ≡ true → has_list pe.old len.old e ≡ true }
+    requires elements { (e : ℕ) → has (elements_in iw.old pe.old e_len.old me) e ≡ true →
+        has_list pe.old len.old e ≡ true }
     requires apart { has (elements_in iw.old pe.old e_len.old me) me ≡ false }
     requires once { Once (elements_in iw.old pe.old e_len.old me) }
     requires clear { (j : ℕ) → in_front nv.old j ≡ false }
-    requires fits { free + length (front_of iw.old nv.old pe.old len.old me (place (word e_len.old me))) ≤ length iw.old }
-    requires few { sum_by (size_of nv.old) (front_of iw.old nv.old pe.old len.old me (place (word e_len.old me))) + 2 ≤ S.MOST }
-    ensures builds { Builds me (front_of iw.old nv.old pe.old len.old me (place (word e_len.old me))) iw.old nv.old free iw.new nv.new result.0 result.1 }
-    ensures makes { Makes (length nv.old) me (elements_in iw.old pe.old e_len.old me) (front_of iw.old nv.old pe.old len.old me (place (word e_len.old me))) result.1 iw.old pe.old e_len.old len.old free iw.new pe.new e_len.new len.new result.0 }
+    requires fits { free + length (front_of iw.old nv.old pe.old len.old me (place (word e_len.old me))) ≤ length
+        iw.old }
+    requires few { sum_by (size_of nv.old) (front_of iw.old nv.old pe.old len.old me (place (word e_len.old me)))
+        + 2 ≤ S.MOST }
+    ensures builds { Builds me (front_of iw.old nv.old pe.old len.old me (place (word e_len.old me))) iw.old nv.old free
+        iw.new nv.new result.0 result.1 }
+    ensures makes { Makes (length nv.old) me (elements_in iw.old pe.old e_len.old me)
+        (front_of iw.old nv.old pe.old len.old me (place (word e_len.old me))) result.1 iw.old pe.old e_len.old len.old
+        free iw.new pe.new e_len.new len.new result.0 }
     ensures counters { (e : ℕ) → num w.new e ≡ cond (has (elements_in iw.old pe.old e_len.old me) e) 0 (num w.old e) }
     ensures start { start pe.new me ≡ free }
     ensures long { length w.new ≡ length w.old }

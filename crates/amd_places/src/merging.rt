@@ -1,13 +1,15 @@
-// Merging: classes of a new element that keep the same elements and the same variables become one, which the last of them
-// represents. Only classes of one bucket are compared; a bucket is the sum of what a class lists, modulo the number of rows.
-// Source: Amestoy, Davis and Duff 1996 (supervariables, found by a hash function). Called by: a round.
+// Merging: classes of a new element that keep the same elements and the same variables become one, which the last of
+// them represents. Only classes of one bucket are compared; a bucket is the sum of what a class lists, modulo the
+// number of rows. Source: Amestoy, Davis and Duff 1996 (supervariables, found by a hash function). Called by: a round.
 
-ghost use Rattle.std.specs.Prelude.{◌≡◌, ◌≢◌, ◌<◌, ◌≤◌, ◌+◌, ◌-◌, ◌^◌, ◌&&◌, ◌||◌, ◌==◌, not, cond, negsuc, nat_lt, ℕ, List, true, false, length, slice_set, filter, sum_by};
+ghost use Rattle.std.specs.Prelude.{◌≡◌, ◌≢◌, ◌<◌, ◌≤◌, ◌+◌, ◌-◌, ◌^◌, ◌&&◌, ◌||◌, ◌==◌, not, cond, negsuc, nat_lt, ℕ};
+ghost use Rattle.std.specs.Prelude.{List, true, false, length, slice_set, filter, sum_by};
 ghost use Rattle.amd_model.specs.Quotient.{has, each, Once};
 ghost use Rattle.amd_places.specs.Words.{num, word, place, is_place, flip_of, size_of, in_front, classes, rows, Names};
 ghost use Rattle.amd_views.specs.Rounds.{alike_in};
 ghost use Rattle.amd_places.specs.Chains.{Chain, DegreeLists};
-ghost use Rattle.amd_places.specs.Merging.{bucket, kept_of, near_of, words_of, IsRenewed, AreApart, looks, Finds, Settles, IsMember, AreRenewed, MergesAll, represents_in};
+ghost use Rattle.amd_places.specs.Merging.{bucket, kept_of, near_of, words_of, IsRenewed, AreApart, looks, Finds};
+ghost use Rattle.amd_places.specs.Merging.{Settles, IsMember, AreRenewed, MergesAll, represents_in};
 
 use crate::words::{named, put_flip};
 use amd_cells::{Figure, Signed, Unsigned, Word, figure_at, put_figure, put_word, word_at};
@@ -66,7 +68,8 @@ fn is_like<S: Signed, U: Unsigned>(
     few: usize,
     flag: usize,
 ) -> bool
-    requires lengths { (length pe.now ≡ length w.now) × (length e_len.now ≡ length w.now) × (length len.now ≡ length w.now) }
+    requires lengths { (length pe.now ≡ length w.now) × (length e_len.now ≡ length w.now) ×
+        (length len.now ≡ length w.now) }
     requires short { length iw.now < 2 ^ 63 }
     requires renewed { IsRenewed (length w.now) iw.now pe.now e_len.now len.now j }
     ensures { result ≡ looks iw.now pe.now e_len.now len.now w.now count few flag j }
@@ -94,11 +97,14 @@ fn walk<S: Signed, U: Unsigned>(
     few: usize,
     flag: usize,
 ) -> usize
-    requires lengths { (length pe.now ≡ length w.now) × (length e_len.now ≡ length w.now) × (length len.now ≡ length w.now) × (length next.now ≡ length w.now) }
+    requires lengths { (length pe.now ≡ length w.now) × (length e_len.now ≡ length w.now) ×
+        (length len.now ≡ length w.now) × (length next.now ≡ length w.now) }
     requires short { length iw.now < 2 ^ 63 }
     requires chain { Chain (length next.now) next.now head (bucket next.now head) }
-    requires members { (j : ℕ) → has (bucket next.now head) j ≡ true → IsRenewed (length w.now) iw.now pe.now e_len.now len.now j }
-    ensures { Finds (length next.now) (looks iw.now pe.now e_len.now len.now w.now count few flag) (bucket next.now head) result }
+    requires members { (j : ℕ) → has (bucket next.now head) j ≡ true →
+        IsRenewed (length w.now) iw.now pe.now e_len.now len.now j }
+    ensures { Finds (length next.now) (looks iw.now pe.now e_len.now len.now w.now count few flag)
+        (bucket next.now head) result }
 {
     let n = next.len();
     let mut j = head;
@@ -111,8 +117,8 @@ fn walk<S: Signed, U: Unsigned>(
     n
 }
 
-/// The class of a bucket that keeps the same elements and variables as the class `i`, or the number of rows if there is none. The
-/// words of `i` are marked with the flag.
+/// The class of a bucket that keeps the same elements and variables as the class `i`, or the number of rows if there is
+/// none. The words of `i` are marked with the flag.
 fn find<S: Signed, U: Unsigned>(
     iw: &[Word<S>],
     pe: &[Word<S>],
@@ -124,15 +130,18 @@ fn find<S: Signed, U: Unsigned>(
     i: usize,
     flag: usize,
 ) -> usize
-    requires lengths { (length pe.now ≡ length w.old) × (length e_len.now ≡ length w.old) × (length len.now ≡ length w.old) × (length next.now ≡ length w.old) }
+    requires lengths { (length pe.now ≡ length w.old) × (length e_len.now ≡ length w.old) ×
+        (length len.now ≡ length w.old) × (length next.now ≡ length w.old) }
     requires short { length iw.now < 2 ^ 63 }
     requires chain { Chain (length next.now) next.now head (bucket next.now head) }
     requires here { IsRenewed (length w.old) iw.now pe.now e_len.now len.now i }
-    requires members { (j : ℕ) → has (bucket next.now head) j ≡ true → IsRenewed (length w.old) iw.now pe.now e_len.now len.now j }
+    requires members { (j : ℕ) → has (bucket next.now head) j ≡ true →
+        IsRenewed (length w.old) iw.now pe.now e_len.now len.now j }
     requires apart { (j : ℕ) → has (bucket next.now head) j ≡ true → AreApart iw.now pe.now e_len.now len.now i j }
     requires under { (x : ℕ) → num w.old x < flag }
     requires fits { flag ≤ U.MOST }
-    ensures found { Finds (length next.now) (alike_in (kept_of iw.now pe.now e_len.now) (near_of iw.now pe.now e_len.now len.now) i) (bucket next.now head) result }
+    ensures found { Finds (length next.now) (alike_in (kept_of iw.now pe.now e_len.now)
+        (near_of iw.now pe.now e_len.now len.now) i) (bucket next.now head) result }
     ensures long { length w.new ≡ length w.old }
     ensures marked { (x : ℕ) → num w.new x ≡ cond (has (words_of iw.now pe.now len.now i) x) flag (num w.old x) }
 {
@@ -150,7 +159,8 @@ fn add_inside<S: Signed>(nv: &mut [Word<S>], i: usize, j: usize)
     requires marked { (in_front nv.old i ≡ true) × (in_front nv.old j ≡ true) }
     requires small { size_of nv.old j + size_of nv.old i ≤ S.MOST }
     ensures long { length nv.new ≡ length nv.old }
-    ensures sizes { (x : ℕ) → size_of nv.new x ≡ cond (x == i) 0 (cond (x == j) (size_of nv.old j + size_of nv.old i) (size_of nv.old x)) }
+    ensures sizes { (x : ℕ) → size_of nv.new x ≡ cond (x == i) 0
+        (cond (x == j) (size_of nv.old j + size_of nv.old i) (size_of nv.old x)) }
     ensures front { (x : ℕ) → in_front nv.new x ≡ (in_front nv.old x && not (x == i)) }
 {
     let sum = word_at(nv, j) + word_at(nv, i);
@@ -175,7 +185,8 @@ fn merge<S: Signed>(
     ensures links { pe.new ≡ slice_set pe.old i (flip_of j) }
     ensures lists { e_len.new ≡ slice_set e_len.old i (negsuc 0) }
     ensures long { length nv.new ≡ length nv.old }
-    ensures sizes { (x : ℕ) → size_of nv.new x ≡ cond (x == i) 0 (cond (x == j) (size_of nv.old j + size_of nv.old i) (size_of nv.old x)) }
+    ensures sizes { (x : ℕ) → size_of nv.new x ≡ cond (x == i) 0
+        (cond (x == j) (size_of nv.old j + size_of nv.old i) (size_of nv.old x)) }
     ensures front { (x : ℕ) → in_front nv.new x ≡ (in_front nv.old x && not (x == i)) }
 {
     add_inside(nv, i, j);
@@ -194,8 +205,8 @@ fn push<U: Unsigned>(hash: &mut [Figure<U>], next: &mut [Figure<U>], i: usize, k
     put_figure(hash, key, i);
 }
 
-/// Merges a class of the front into one of its bucket that keeps the same elements and variables, or, if there is none, puts it into
-/// the bucket. Answers the next flag.
+/// Merges a class of the front into one of its bucket that keeps the same elements and variables, or, if there is none,
+/// puts it into the bucket. Answers the next flag.
 fn merge_one<S: Signed, U: Unsigned>(
     iw: &[Word<S>],
     pe: &mut [Word<S>],
@@ -209,19 +220,26 @@ fn merge_one<S: Signed, U: Unsigned>(
     i: usize,
     flag: usize,
 ) -> usize
-    requires lengths { (length pe.old ≡ length next.old) × (length e_len.old ≡ length next.old) × (length len.now ≡ length next.old) × (length nv.old ≡ length next.old) }
-    requires more_lengths { (length w.old ≡ length next.old) × (length hash.old ≡ length next.old) × (length last.now ≡ length next.old) }
+    requires lengths { (length pe.old ≡ length next.old) × (length e_len.old ≡ length next.old) ×
+        (length len.now ≡ length next.old) × (length nv.old ≡ length next.old) }
+    requires more_lengths { (length w.old ≡ length next.old) × (length hash.old ≡ length next.old) ×
+        (length last.now ≡ length next.old) }
     requires short { (length iw.now < 2 ^ 63) × (length next.old + 2 ≤ S.MOST) × (length next.old ≤ U.MOST) }
     requires key { num last.now i < length next.old }
-    requires chain { Chain (length next.old) next.old (num hash.old (num last.now i)) (bucket next.old (num hash.old (num last.now i))) }
+    requires chain { Chain (length next.old) next.old (num hash.old (num last.now i))
+        (bucket next.old (num hash.old (num last.now i))) }
     requires here { IsRenewed (length next.old) iw.now pe.old e_len.old len.now i }
     requires marked { in_front nv.old i ≡ true }
-    requires members { (j : ℕ) → has (bucket next.old (num hash.old (num last.now i))) j ≡ true → IsMember (length next.old) iw.now pe.old e_len.old len.now nv.old i j }
+    requires members { (j : ℕ) → has (bucket next.old (num hash.old (num last.now i))) j ≡ true →
+        IsMember (length next.old) iw.now pe.old e_len.old len.now nv.old i j }
     requires under { (x : ℕ) → num w.old x < flag }
     requires standing { (x : ℕ) → has (words_of iw.now pe.old len.now i) x ≡ true → 0 < num w.old x }
     requires room { flag + 1 ≤ U.MOST }
-    ensures settles { Settles (alike_in (kept_of iw.now pe.old e_len.old) (near_of iw.now pe.old e_len.old len.now)) (bucket next.old (num hash.old (num last.now i))) i (num last.now i) hash.old next.old pe.old e_len.old nv.old hash.new next.new pe.new e_len.new nv.new }
-    ensures lengths { (length pe.new ≡ length pe.old) × (length e_len.new ≡ length e_len.old) × (length nv.new ≡ length nv.old) × (length w.new ≡ length w.old) }
+    ensures settles { Settles (alike_in (kept_of iw.now pe.old e_len.old) (near_of iw.now pe.old e_len.old len.now))
+        (bucket next.old (num hash.old (num last.now i))) i (num last.now i) hash.old next.old pe.old e_len.old nv.old
+        hash.new next.new pe.new e_len.new nv.new }
+    ensures lengths { (length pe.new ≡ length pe.old) × (length e_len.new ≡ length e_len.old) ×
+        (length nv.new ≡ length nv.old) × (length w.new ≡ length w.old) }
     ensures more_lengths { (length hash.new ≡ length hash.old) × (length next.new ≡ length next.old) }
     ensures flag { (flag ≤ result) × (result ≤ flag + 1) }
     ensures under { (x : ℕ) → num w.new x < result }
@@ -268,22 +286,36 @@ pub fn merge_front<S: Signed, U: Unsigned>(
     count: usize,
     flag: usize,
 ) -> usize
-    requires lengths { (length pe.old ≡ length next.old) × (length e_len.old ≡ length next.old) × (length len.now ≡ length next.old) × (length nv.old ≡ length next.old) }
-    requires more_lengths { (length w.old ≡ length next.old) × (length hash.old ≡ length next.old) × (length last.now ≡ length next.old) }
+    requires lengths { (length pe.old ≡ length next.old) × (length e_len.old ≡ length next.old) ×
+        (length len.now ≡ length next.old) × (length nv.old ≡ length next.old) }
+    requires more_lengths { (length w.old ≡ length next.old) × (length hash.old ≡ length next.old) ×
+        (length last.now ≡ length next.old) }
     requires short { (length iw.now < 2 ^ 63) × (length next.old + 2 ≤ S.MOST) × (length next.old ≤ U.MOST) }
     requires inside { from + count ≤ length iw.now }
     requires front { Names (length next.old) iw.now from count }
     requires once { Once (rows iw.now from count) }
     requires few { count ≤ length next.old }
-    requires classes { AreRenewed (length next.old) iw.now pe.old e_len.old len.now nv.old w.old last.now (classes nv.old (rows iw.now from count)) }
+    requires classes { AreRenewed (length next.old) iw.now pe.old e_len.old len.now nv.old w.old last.now
+        (classes nv.old (rows iw.now from count)) }
     requires under { (x : ℕ) → num w.old x < flag }
     requires room { flag + count ≤ U.MOST }
     requires empty { (b : ℕ) → b < length next.old → length next.old ≤ num hash.old b }
-    ensures merged { MergesAll (classes nv.old (rows iw.now from count)) (represents_in iw.now pe.old e_len.old len.now (classes nv.old (rows iw.now from count))) pe.old e_len.old nv.old next.old pe.new e_len.new nv.new next.new }
-    ensures made { classes nv.new (rows iw.now from count) ≡ filter (λ i. represents_in iw.now pe.old e_len.old len.now (classes nv.old (rows iw.now from count)) i == i) (classes nv.old (rows iw.now from count)) }
-    ensures heads { (b : ℕ) → b < length next.old → num hash.new b < length next.old → (1 < count) × (has (classes nv.new (rows iw.now from count)) (num hash.new b) ≡ true) × (num last.now (num hash.new b) ≡ b) }
-    ensures linked { (head degree : List ℕ) (lists : ℕ → List ℕ) → ((b x : ℕ) → b < length next.old → has (lists b) x ≡ true → has (classes nv.old (rows iw.now from count)) x ≡ false) → DegreeLists (length next.old) head next.old last.now degree lists → DegreeLists (length next.old) head next.new last.now degree lists }
-    ensures lengths { (length pe.new ≡ length next.old) × (length e_len.new ≡ length next.old) × (length nv.new ≡ length next.old) × (length w.new ≡ length next.old) × (length hash.new ≡ length next.old) × (length next.new ≡ length next.old) }
+    ensures merged { MergesAll (classes nv.old (rows iw.now from count))
+        (represents_in iw.now pe.old e_len.old len.now (classes nv.old (rows iw.now from count))) pe.old e_len.old
+        nv.old next.old pe.new e_len.new nv.new next.new }
+    ensures made { classes nv.new (rows iw.now from count) ≡ filter
+        (λ i. represents_in iw.now pe.old e_len.old len.now (classes nv.old (rows iw.now from count)) i == i)
+        (classes nv.old (rows iw.now from count)) }
+    ensures heads { (b : ℕ) → b < length next.old → num hash.new b < length next.old → (1 < count) ×
+        (has (classes nv.new (rows iw.now from count)) (num hash.new b) ≡ true) × (num last.now (num hash.new b) ≡ b) }
+    ensures linked { (head degree : List ℕ) (lists : ℕ → List ℕ) →
+        ((b x : ℕ) → b < length next.old → has (lists b) x ≡ true →
+        has (classes nv.old (rows iw.now from count)) x ≡ false) →
+        DegreeLists (length next.old) head next.old last.now degree lists →
+        DegreeLists (length next.old) head next.new last.now degree lists }
+    ensures lengths { (length pe.new ≡ length next.old) × (length e_len.new ≡ length next.old) ×
+        (length nv.new ≡ length next.old) × (length w.new ≡ length next.old) × (length hash.new ≡ length next.old) ×
+        (length next.new ≡ length next.old) }
     ensures flag { (flag ≤ result) × (result ≤ flag + count) }
     ensures under { (x : ℕ) → num w.new x < result }
     ensures zeros { (x : ℕ) → (num w.new x == 0) ≡ (num w.old x == 0) }

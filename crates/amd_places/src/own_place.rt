@@ -1,5 +1,5 @@
-// The list of a new element whose pivot lists no element: it is made in the place of the pivot's list, so it needs no room.
-// Source: Amestoy, Davis and Duff 1996 (element formation in place). Called by `beginning`.
+// The list of a new element whose pivot lists no element: it is made in the place of the pivot's list, so it needs no
+// room. Source: Amestoy, Davis and Duff 1996 (element formation in place). Called by `beginning`.
 
 ghost use Rattle.std.specs.Prelude.{◌≡◌, ◌<◌, ◌≤◌, ◌+◌, ◌-◌, ◌^◌, pos, ℕ, [], true, false, length, sum_by};
 ghost use Rattle.amd_places.specs.Words.{num, word, start, size_of, in_front, classes, rows, Names};
@@ -10,8 +10,8 @@ ghost use Rattle.amd_places.specs.Making.{Makes};
 use crate::words::{enter, is_open, named, put_flip};
 use amd_cells::{Figure, Signed, Unsigned, Word, copy_word, figure_at, put_figure};
 
-/// Keeps, in their place, the classes among some words that are not in the front yet, each at its first occurrence, and puts them
-/// into the front. Answers where they end, and their number of rows.
+/// Keeps, in their place, the classes among some words that are not in the front yet, each at its first occurrence, and
+/// puts them into the front. Answers where they end, and their number of rows.
 pub fn gather_own<S: Signed>(
     iw: &mut [Word<S>],
     nv: &mut [Word<S>],
@@ -21,8 +21,10 @@ pub fn gather_own<S: Signed>(
     requires short { length iw.old < 2 ^ 63 }
     requires inside { from + count ≤ length iw.old }
     requires names { Names (length nv.old) iw.old from count }
-    requires few { sum_by (size_of nv.old) (grown iw.old nv.old from from (classes nv.old (rows iw.old from count))) < 2 ^ 63 }
-    ensures { Gathers iw.old nv.old from from (classes nv.old (rows iw.old from count)) iw.new nv.new result.0 result.1 }
+    requires few { sum_by (size_of nv.old) (grown iw.old nv.old from from (classes nv.old (rows iw.old from count))) < 2
+        ^ 63 }
+    ensures { Gathers iw.old nv.old from from (classes nv.old (rows iw.old from count)) iw.new nv.new result.0
+        result.1 }
 {
     let mut end = from;
     let mut sum = 0;
@@ -37,8 +39,8 @@ pub fn gather_own<S: Signed>(
     (end, sum)
 }
 
-/// Makes the pivot `me`, which lists no element, an element in its own place: the classes that it lists. Answers where the list
-/// ends, and its number of rows.
+/// Makes the pivot `me`, which lists no element, an element in its own place: the classes that it lists. Answers where
+/// the list ends, and its number of rows.
 pub fn make_own<S: Signed, U: Unsigned>(
     iw: &mut [Word<S>],
     nv: &mut [Word<S>],
@@ -48,7 +50,8 @@ pub fn make_own<S: Signed, U: Unsigned>(
     me: usize,
     free: usize,
 ) -> (usize, usize)
-    requires lengths { (length pe.now ≡ length nv.old) × (length e_len.old ≡ length nv.old) × (length len.old ≡ length nv.old) }
+    requires lengths { (length pe.now ≡ length nv.old) × (length e_len.old ≡ length nv.old) ×
+        (length len.old ≡ length nv.old) }
     requires short { length iw.old < 2 ^ 63 }
     requires end { free ≤ length iw.old }
     requires laid { Layout (length nv.old) iw.old pe.now e_len.old len.old free }
@@ -57,8 +60,10 @@ pub fn make_own<S: Signed, U: Unsigned>(
     requires count { word e_len.old me ≡ pos 0 }
     requires clear { (j : ℕ) → in_front nv.old j ≡ false }
     requires few { sum_by (size_of nv.old) (front_of iw.old nv.old pe.now len.old me 0) + 2 ≤ S.MOST }
-    ensures builds { Builds me (front_of iw.old nv.old pe.now len.old me 0) iw.old nv.old (start pe.now me) iw.new nv.new result.0 result.1 }
-    ensures makes { Makes (length nv.old) me [] (front_of iw.old nv.old pe.now len.old me 0) result.1 iw.old pe.now e_len.old len.old free iw.new pe.now e_len.new len.new free }
+    ensures builds { Builds me (front_of iw.old nv.old pe.now len.old me 0) iw.old nv.old (start pe.now me) iw.new
+        nv.new result.0 result.1 }
+    ensures makes { Makes (length nv.old) me [] (front_of iw.old nv.old pe.now len.old me 0) result.1 iw.old pe.now
+        e_len.old len.old free iw.new pe.now e_len.new len.new free }
 {
     let from = named(pe, me);
     let count = figure_at(len, me);

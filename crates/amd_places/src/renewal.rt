@@ -1,5 +1,5 @@
-// The list of one class of a front is renewed in its place: the new element comes in front, and what the new element absorbed or
-// holds itself goes. Source: Amestoy, Davis and Duff 1996 (element absorption). Called by `fronts`.
+// The list of one class of a front is renewed in its place: the new element comes in front, and what the new element
+// absorbed or holds itself goes. Source: Amestoy, Davis and Duff 1996 (element absorption). Called by `fronts`.
 
 ghost use Rattle.std.specs.Prelude.{◌++◌, ◌≡◌, ◌<◌, ◌≤◌, ◌+◌, ◌-◌, ◌^◌, pos, ℕ, length, slice_set, filter, sum_by};
 ghost use Rattle.amd_model.specs.Figures.{cut};
@@ -10,8 +10,8 @@ ghost use Rattle.amd_places.specs.Renewal.{is_kept, is_outside, hashed, Filters,
 use crate::words::{is_open, named, put_row, size_outside};
 use amd_cells::{Figure, Signed, Unsigned, Word, copy_word, figure_at};
 
-/// Moves the standing ones among the elements that `count` words name to the front of these words. Answers where they end, the number of
-/// their rows outside the front, at most the greatest `usize`, and their sum, which wraps.
+/// Moves the standing ones among the elements that `count` words name to the front of these words. Answers where they
+/// end, the number of their rows outside the front, at most the greatest `usize`, and their sum, which wraps.
 fn keep_elements<S: Signed, U: Unsigned>(
     iw: &mut [Word<S>],
     w: &[Figure<U>],
@@ -22,27 +22,29 @@ fn keep_elements<S: Signed, U: Unsigned>(
     requires inside { from + count ≤ length iw.old }
     requires short { length iw.old < 2 ^ 63 }
     requires names { Names (length w.now) iw.old from count }
-    ensures filters { Filters (length w.now) (is_kept w.now) (λ e. num w.now e - flag) 0 iw.old from count from iw.new result.0 result.1 }
+    ensures filters { Filters (length w.now) (is_kept w.now) (λ e. num w.now e - flag) 0 iw.old from count from iw.new
+        result.0 result.1 }
     ensures hash { result.2 ≡ hashed 0 (filter (is_kept w.now) (rows iw.old from count)) }
 {
     let mut end = from;
-    let mut far: usize = 0;
+    let mut outside: usize = 0;
     let mut hash: usize = 0;
     for p in from..from + count {
         let e = named(iw, p);
         let counter = figure_at(w, e);
         if counter > 0 {
             copy_word(iw, p, end);
-            far = far.saturating_add(counter.saturating_sub(flag));
+            outside = outside.saturating_add(counter.saturating_sub(flag));
             hash = hash.wrapping_add(e);
             end += 1;
         }
     }
-    (end, far, hash)
+    (end, outside, hash)
 }
 
-/// Moves the classes outside the front among the variables that `count` words name to the words from `to` on. Answers where they
-/// end, the number of their rows on top of `first`, at most the greatest `usize`, and their sum on top of `sum`, which wraps.
+/// Moves the classes outside the front among the variables that `count` words name to the words from `to` on. Answers
+/// where they end, the number of their rows on top of `first`, at most the greatest `usize`, and their sum on top of
+/// `sum`, which wraps.
 fn keep_variables<S: Signed>(
     iw: &mut [Word<S>],
     nv: &[Word<S>],
@@ -56,41 +58,44 @@ fn keep_variables<S: Signed>(
     requires down { to ≤ from }
     requires short { length iw.old < 2 ^ 63 }
     requires names { Names (length nv.now) iw.old from count }
-    ensures filters { Filters (length nv.now) (is_outside nv.now) (size_of nv.now) first iw.old from count to iw.new result.0 result.1 }
+    ensures filters { Filters (length nv.now) (is_outside nv.now) (size_of nv.now) first iw.old from count to iw.new
+        result.0 result.1 }
     ensures hash { result.2 ≡ hashed sum (filter (is_outside nv.now) (rows iw.old from count)) }
 {
     let mut end = to;
-    let mut far = first;
+    let mut outside = first;
     let mut hash = sum;
     for p in from..from + count {
         let j = named(iw, p);
         if is_open(nv, j) {
             let more = size_outside(nv, j);
             copy_word(iw, p, end);
-            far = far.saturating_add(more);
+            outside = outside.saturating_add(more);
             hash = hash.wrapping_add(j);
             end += 1;
         }
     }
-    (end, far, hash)
+    (end, outside, hash)
 }
 
-/// Puts the new element in front of the kept elements, which stand from `from` to `middle`, and the kept variables, which stand
-/// from there to `end`: the first of each goes behind the others.
+/// Puts the new element in front of the kept elements, which stand from `from` to `middle`, and the kept variables,
+/// which stand from there to `end`: the first of each goes behind the others.
 fn put_first<S: Signed>(iw: &mut [Word<S>], from: usize, middle: usize, end: usize, me: usize)
     requires order { (from ≤ middle) × (middle ≤ end) }
     requires inside { end < length iw.old }
     requires small { me ≤ S.MOST }
-    ensures { iw.new ≡ slice_set (slice_set (slice_set iw.old end (word iw.old middle)) middle (word (slice_set iw.old end (word iw.old middle)) from)) from (pos me) }
+    ensures { iw.new ≡ slice_set (slice_set (slice_set iw.old end (word iw.old middle)) middle
+        (word (slice_set iw.old end (word iw.old middle)) from)) from (pos me) }
 {
     copy_word(iw, middle, end);
     copy_word(iw, from, middle);
     put_row(iw, from, me);
 }
 
-/// Renews the list of a class of the front in its place: the elements and variables that it keeps, with the new element in front.
-/// Answers how many of its words name elements, how many words it has, the number of rows that it reaches outside the front, at most
-/// the greatest `usize`, and the sum of what it keeps, which wraps; for a class that keeps nothing 1, 1, 0 and 0.
+/// Renews the list of a class of the front in its place: the elements and variables that it keeps, with the new element
+/// in front. Answers how many of its words name elements, how many words it has, the number of rows that it reaches
+/// outside the front, at most the greatest `usize`, and the sum of what it keeps, which wraps; for a class that keeps
+/// nothing 1, 1, 0 and 0.
 pub fn renew_list<S: Signed, U: Unsigned>(
     iw: &mut [Word<S>],
     w: &[Figure<U>],
@@ -107,13 +112,18 @@ pub fn renew_list<S: Signed, U: Unsigned>(
     requires parts { n_elements ≤ count }
     requires names { Names (length w.now) iw.old from count }
     requires me { (me < length w.now) × (me ≤ S.MOST) }
-    requires room { length (filter (is_kept w.now) (rows iw.old from n_elements)) + length (filter (is_outside nv.now) (rows iw.old (from + n_elements) (count - n_elements))) < count }
-    ensures renews { Renews (length w.now) me (is_kept w.now) (is_outside nv.now) iw.old from n_elements count iw.new result.0 result.1 }
-    ensures far { result.2 ≡ cut (sum_by (λ e. num w.now e - flag) (filter (is_kept w.now) (rows iw.old from n_elements)) + sum_by (size_of nv.now) (filter (is_outside nv.now) (rows iw.old (from + n_elements) (count - n_elements)))) }
-    ensures hash { result.3 ≡ hashed 0 (filter (is_kept w.now) (rows iw.old from n_elements) ++ filter (is_outside nv.now) (rows iw.old (from + n_elements) (count - n_elements))) }
+    requires room { length (filter (is_kept w.now) (rows iw.old from n_elements))
+        + length (filter (is_outside nv.now) (rows iw.old (from + n_elements) (count - n_elements))) < count }
+    ensures renews { Renews (length w.now) me (is_kept w.now) (is_outside nv.now) iw.old from n_elements count iw.new
+        result.0 result.1 }
+    ensures outside { result.2 ≡ cut (sum_by (λ e. num w.now e - flag)
+        (filter (is_kept w.now) (rows iw.old from n_elements))
+        + sum_by (size_of nv.now) (filter (is_outside nv.now) (rows iw.old (from + n_elements) (count - n_elements)))) }
+    ensures hash { result.3 ≡ hashed 0 (filter (is_kept w.now) (rows iw.old from n_elements) ++ filter
+        (is_outside nv.now) (rows iw.old (from + n_elements) (count - n_elements))) }
 {
     let (middle, rows, sum) = keep_elements(iw, w, from, n_elements, flag);
-    let (end, far, hash) = keep_variables(
+    let (end, outside, hash) = keep_variables(
         iw,
         nv,
         from + n_elements,
@@ -123,5 +133,5 @@ pub fn renew_list<S: Signed, U: Unsigned>(
         sum,
     );
     put_first(iw, from, middle, end, me);
-    (middle + 1 - from, end + 1 - from, far, hash)
+    (middle + 1 - from, end + 1 - from, outside, hash)
 }

@@ -1,8 +1,9 @@
-// The last pass over a front: the marks of its classes are taken off, each class gets its bound and its place in the lists by bound, its
-// bucket is emptied, and the list of the new element keeps the classes alone. Source: Amestoy, Davis and Duff 1996 (restored degree
-// lists). Called by: a round.
+// The last pass over a front: the marks of its classes are taken off, each class gets its bound and its place in the
+// lists by bound, its bucket is emptied, and the list of the new element keeps the classes alone. Source: Amestoy,
+// Davis and Duff 1996 (restored degree lists). Called by: a round.
 
-ghost use Rattle.std.specs.Prelude.{◌≡◌, ◌<◌, ◌≤◌, ◌+◌, ◌-◌, ◌^◌, ◌==◌, ◌&&◌, ◌∷◌, not, min, cond, ℕ, List, true, false, length, slice_set};
+ghost use Rattle.std.specs.Prelude.{◌≡◌, ◌<◌, ◌≤◌, ◌+◌, ◌-◌, ◌^◌, ◌==◌, ◌&&◌, ◌∷◌, not, min, cond, ℕ, List, true};
+ghost use Rattle.std.specs.Prelude.{false, length, slice_set};
 ghost use Rattle.amd_model.specs.Quotient.{has, Once};
 ghost use Rattle.amd_places.specs.Words.{num, size_of, in_front, rows, Names};
 ghost use Rattle.amd_places.specs.Chains.{DegreeLists};
@@ -13,8 +14,8 @@ use crate::chains::put_head;
 use crate::words::{is_marked, leave, named};
 use amd_cells::{Figure, Signed, Unsigned, Word, copy_word, figure_at, put_figure};
 
-/// The bound of a class of `size` rows, from the number of rows that it reaches outside the front, the rows of the border, and the rows
-/// that are left.
+/// The bound of a class of `size` rows, from the number of rows that it reaches outside the front, the rows of the
+/// border, and the rows that are left.
 fn new_bound(reach: usize, size: usize, border: usize, left: usize) -> usize
     requires order { (size ≤ border) × (border ≤ left) }
     requires fits { reach + border < 2 ^ 64 }
@@ -48,20 +49,27 @@ fn place_class<S: Signed, U: Unsigned>(
     left: usize,
     is_used: bool,
 ) -> usize
-    requires lengths { (length nv.old ≡ length next.old) × (length degree.old ≡ length next.old) × (length head.old ≡ length next.old) × (length last.old ≡ length next.old) × (length hash.old ≡ length next.old) }
+    requires lengths { (length nv.old ≡ length next.old) × (length degree.old ≡ length next.old) ×
+        (length head.old ≡ length next.old) × (length last.old ≡ length next.old) ×
+        (length hash.old ≡ length next.old) }
     requires short { (length next.old + 2 ≤ S.MOST) × (length next.old ≤ U.MOST) }
     requires row { i < length next.old }
     requires marked { in_front nv.old i ≡ true }
     requires class { IsPlaceable (length next.old) border nv.old degree.old last.old i }
     requires order { (border ≤ left) × (left ≤ length next.old) }
-    ensures lengths { (length nv.new ≡ length next.old) × (length degree.new ≡ length next.old) × (length head.new ≡ length next.old) × (length next.new ≡ length next.old) × (length last.new ≡ length next.old) × (length hash.new ≡ length next.old) }
+    ensures lengths { (length nv.new ≡ length next.old) × (length degree.new ≡ length next.old) ×
+        (length head.new ≡ length next.old) × (length next.new ≡ length next.old) ×
+        (length last.new ≡ length next.old) × (length hash.new ≡ length next.old) }
     ensures sizes { (j : ℕ) → size_of nv.new j ≡ size_of nv.old j }
     ensures marks { (j : ℕ) → in_front nv.new j ≡ (in_front nv.old j && not (i == j)) }
     ensures bound { result ≡ bound_in border left nv.old degree.old i }
     ensures degrees { degree.new ≡ slice_set degree.old i result }
     ensures emptied { hash.new ≡ cond is_used (slice_set hash.old (num last.old i) (length next.old)) hash.old }
     ensures lasts { (x : ℕ) → (x ≡ i → ⊥) → (x ≡ num head.old result → ⊥) → num last.new x ≡ num last.old x }
-    ensures linked { (lists : ℕ → List ℕ) → ((b : ℕ) → b < length next.old → has (lists b) i ≡ false) → DegreeLists (length next.old) head.old next.old last.old degree.old lists → DegreeLists (length next.old) head.new next.new last.new degree.new (λ b. cond (b == result) (i ∷ lists b) (lists b)) }
+    ensures linked { (lists : ℕ → List ℕ) → ((b : ℕ) → b < length next.old → has (lists b) i ≡ false) →
+        DegreeLists (length next.old) head.old next.old last.old degree.old lists →
+        DegreeLists (length next.old) head.new next.new last.new degree.new
+        (λ b. cond (b == result) (i ∷ lists b) (lists b)) }
 {
     let size = leave(nv, i);
     empty_bucket(hash, last, i, is_used);
@@ -88,20 +96,32 @@ pub fn restore<S: Signed, U: Unsigned>(
     left: usize,
     least: usize,
 ) -> (usize, usize)
-    requires lengths { (length nv.old ≡ length next.old) × (length degree.old ≡ length next.old) × (length head.old ≡ length next.old) × (length last.old ≡ length next.old) × (length hash.old ≡ length next.old) }
+    requires lengths { (length nv.old ≡ length next.old) × (length degree.old ≡ length next.old) ×
+        (length head.old ≡ length next.old) × (length last.old ≡ length next.old) ×
+        (length hash.old ≡ length next.old) }
     requires short { (length iw.old < 2 ^ 63) × (length next.old + 2 ≤ S.MOST) × (length next.old ≤ U.MOST) }
     requires inside { from + count ≤ length iw.old }
     requires names { Names (length next.old) iw.old from count }
     requires once { Once (rows iw.old from count) }
-    requires classes { (i : ℕ) → has (rows iw.old from count) i ≡ true → in_front nv.old i ≡ true → IsPlaceable (length next.old) border nv.old degree.old last.old i }
+    requires classes { (i : ℕ) → has (rows iw.old from count) i ≡ true → in_front nv.old i ≡ true →
+        IsPlaceable (length next.old) border nv.old degree.old last.old i }
     requires order { (border ≤ left) × (left ≤ length next.old) }
-    requires heads { (b : ℕ) → b < length next.old → num hash.old b < length next.old → (1 < count) × (has (marked_in nv.old (rows iw.old from count)) (num hash.old b) ≡ true) × (num last.old (num hash.old b) ≡ b) }
-    requires linked { (lists : ℕ → List ℕ) × DegreeLists (length next.old) head.old next.old last.old degree.old lists × ((b x : ℕ) → b < length next.old → has (lists b) x ≡ true → has (rows iw.old from count) x ≡ false) }
+    requires heads { (b : ℕ) → b < length next.old → num hash.old b < length next.old → (1 < count) ×
+        (has (marked_in nv.old (rows iw.old from count)) (num hash.old b) ≡ true) ×
+        (num last.old (num hash.old b) ≡ b) }
+    requires linked { (lists : ℕ → List ℕ) × DegreeLists (length next.old) head.old next.old last.old degree.old lists ×
+        ((b x : ℕ) → b < length next.old → has (lists b) x ≡ true → has (rows iw.old from count) x ≡ false) }
     ensures filters { Filters (length next.old) (in_front nv.old) (λ j. 0) 0 iw.old from count from iw.new result.0 0 }
-    ensures restores { Restores (rows iw.old from count) border left least nv.old degree.old nv.new degree.new result.1 }
+    ensures restores { Restores (rows iw.old from count) border left least nv.old degree.old nv.new degree.new
+        result.1 }
     ensures empty { (b : ℕ) → b < length next.old → length next.old ≤ num hash.new b }
-    ensures linked { (lists : ℕ → List ℕ) → ((b x : ℕ) → b < length next.old → has (lists b) x ≡ true → has (rows iw.old from count) x ≡ false) → DegreeLists (length next.old) head.old next.old last.old degree.old lists → DegreeLists (length next.old) head.new next.new last.new degree.new (put_all (bound_in border left nv.old degree.old) (marked_in nv.old (rows iw.old from count)) lists) }
-    ensures lengths { (length nv.new ≡ length next.old) × (length degree.new ≡ length next.old) × (length head.new ≡ length next.old) × (length next.new ≡ length next.old) × (length last.new ≡ length next.old) × (length hash.new ≡ length next.old) }
+    ensures linked { (lists : ℕ → List ℕ) → ((b x : ℕ) → b < length next.old → has (lists b) x ≡ true →
+        has (rows iw.old from count) x ≡ false) → DegreeLists (length next.old) head.old next.old last.old degree.old
+        lists → DegreeLists (length next.old) head.new next.new last.new degree.new
+        (put_all (bound_in border left nv.old degree.old) (marked_in nv.old (rows iw.old from count)) lists) }
+    ensures lengths { (length nv.new ≡ length next.old) × (length degree.new ≡ length next.old) ×
+        (length head.new ≡ length next.old) × (length next.new ≡ length next.old) ×
+        (length last.new ≡ length next.old) × (length hash.new ≡ length next.old) }
 {
     let mut end = from;
     let mut low = least;

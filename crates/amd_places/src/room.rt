@@ -1,8 +1,10 @@
-// Whether the list of a new element fits behind all lists, and the compaction of the workspace where it does not. The lengths of the
-// lists around the pivot are tried first; the classes of the new element are counted only where these do not fit. Counts go down
-// from the room that there is, so no sum is formed. Source: Amestoy, Davis and Duff 1996 (garbage collection). Called by `beginning`.
+// Whether the list of a new element fits behind all lists, and the compaction of the workspace where it does not. The
+// lengths of the lists around the pivot are tried first; the classes of the new element are counted only where these do
+// not fit. Counts go down from the room that there is, so no sum is formed. Source: Amestoy, Davis and Duff 1996
+// (garbage collection). Called by `beginning`.
 
-ghost use Rattle.std.specs.Prelude.{◌≡◌, ◌<◌, ◌≤◌, ◌+◌, ◌-◌, ◌^◌, ◌||◌, ◌&&◌, ◌==◌, ◌∷◌, [], not, ℕ, true, false, length, sum_by, nat_le, nat_lt};
+ghost use Rattle.std.specs.Prelude.{◌≡◌, ◌<◌, ◌≤◌, ◌+◌, ◌-◌, ◌^◌, ◌||◌, ◌&&◌, ◌==◌, ◌∷◌, [], not, ℕ, true, false};
+ghost use Rattle.std.specs.Prelude.{length, sum_by, nat_le, nat_lt};
 ghost use Rattle.amd_model.specs.Quotient.{has};
 ghost use Rattle.amd_places.specs.Words.{num, word, place, is_place, size_of, in_front, classes, rows, Names};
 ghost use Rattle.amd_places.specs.Element.{elements_at, front_of, ListsLaid};
@@ -13,7 +15,8 @@ use crate::compaction::pack;
 use crate::words::{enter, is_marked, is_open, leave, named};
 use amd_cells::{Figure, Signed, Unsigned, Word, figure_at};
 
-/// A row is met: a class that was not met before is put into the front, and takes one of `left` places. Answers how many are left.
+/// A row is met: a class that was not met before is put into the front, and takes one of `left` places. Answers how
+/// many are left.
 fn meet<S: Signed>(nv: &mut [Word<S>], j: usize, left: usize) -> usize
     requires { j < length nv.old }
     ensures { Meets nv.old (classes nv.old (j ∷ [])) left nv.new result }
@@ -45,8 +48,8 @@ fn meet_all<S: Signed>(
     now
 }
 
-/// Puts the pivot and the classes of its new element into the front. Each of these takes one of `left` places. Answers how many are
-/// left.
+/// Puts the pivot and the classes of its new element into the front. Each of these takes one of `left` places. Answers
+/// how many are left.
 fn meet_front<S: Signed, U: Unsigned>(
     iw: &[Word<S>],
     nv: &mut [Word<S>],
@@ -63,7 +66,8 @@ fn meet_front<S: Signed, U: Unsigned>(
     requires clear { (j : ℕ) → in_front nv.old j ≡ false }
     ensures wide { length nv.new ≡ length nv.old }
     ensures sizes { (j : ℕ) → size_of nv.new j ≡ size_of nv.old j }
-    ensures front { (j : ℕ) → in_front nv.new j ≡ (j == pivot || has (front_of iw.now nv.old pe.now len.now pivot n_elements) j) }
+    ensures front { (j : ℕ) → in_front nv.new j ≡ (j == pivot ||
+        has (front_of iw.now nv.old pe.now len.now pivot n_elements) j) }
     ensures left { result ≡ left - length (front_of iw.now nv.old pe.now len.now pivot n_elements) }
 {
     enter(nv, pivot);
@@ -126,8 +130,8 @@ fn unmark_front<S: Signed, U: Unsigned>(
     unmark_all(iw, nv, from + n_elements, rest);
 }
 
-/// What is left of `room` words when the words around the pivot are taken off: those of the lists of its elements, and those of its
-/// own list that name variables.
+/// What is left of `room` words when the words around the pivot are taken off: those of the lists of its elements, and
+/// those of its own list that name variables.
 fn room_beyond_lists<S: Signed, U: Unsigned>(
     iw: &[Word<S>],
     pe: &[Word<S>],
@@ -140,7 +144,8 @@ fn room_beyond_lists<S: Signed, U: Unsigned>(
     requires pivot { pivot < length len.now }
     requires elements { n_elements ≤ num len.now pivot }
     requires laid { ListsLaid iw.now pe.now len.now (length len.now) (length iw.now) pivot n_elements }
-    ensures { result ≡ room - (sum_by (num len.now) (elements_at iw.now pe.now pivot n_elements) + (num len.now pivot - n_elements)) }
+    ensures { result ≡ room - (sum_by (num len.now) (elements_at iw.now pe.now pivot n_elements)
+        + (num len.now pivot - n_elements)) }
 {
     let from = named(pe, pivot);
     let mut left = room;
@@ -168,7 +173,8 @@ pub fn fits<S: Signed, U: Unsigned>(
     requires elements { n_elements ≤ num len.now pivot }
     requires laid { ListsLaid iw.now pe.now len.now (length nv.old) free pivot n_elements }
     requires clear { (j : ℕ) → in_front nv.old j ≡ false }
-    ensures fits { result ≡ nat_le (free + length (front_of iw.now nv.old pe.now len.now pivot n_elements)) (length iw.now) }
+    ensures fits { result ≡ nat_le (free + length (front_of iw.now nv.old pe.now len.now pivot n_elements))
+        (length iw.now) }
     ensures same { nv.new ≡ nv.old }
 {
     let room = iw.len() - free + 1;
@@ -180,8 +186,8 @@ pub fn fits<S: Signed, U: Unsigned>(
     left > 0
 }
 
-/// Makes room behind all lists for the list of the pivot's new element: if it does not fit there, the lists are packed. Answers the
-/// new free end, and whether the lists were packed.
+/// Makes room behind all lists for the list of the pivot's new element: if it does not fit there, the lists are packed.
+/// Answers the new free end, and whether the lists were packed.
 #[tactic(none)]
 pub fn make_room<S: Signed, U: Unsigned>(
     iw: &mut [Word<S>],
@@ -192,7 +198,8 @@ pub fn make_room<S: Signed, U: Unsigned>(
     me: usize,
     free: usize,
 ) -> (usize, bool)
-    requires lengths { (length pe.old ≡ length nv.old) × (length e_len.now ≡ length nv.old) × (length len.old ≡ length nv.old) }
+    requires lengths { (length pe.old ≡ length nv.old) × (length e_len.now ≡ length nv.old) ×
+        (length len.old ≡ length nv.old) }
     requires small { length nv.old + 2 ≤ S.MOST }
     requires narrow { length iw.old ≤ S.MOST }
     requires short { length iw.old < 2 ^ 63 }
@@ -202,11 +209,14 @@ pub fn make_room<S: Signed, U: Unsigned>(
     requires pivot { (me < length nv.old) × (0 < size_of nv.old me) }
     requires listed { has_list pe.old len.old me ≡ true }
     requires count { is_place (word e_len.now me) ≡ true }
-    requires elements { (e : ℕ) → has (elements_in iw.old pe.old e_len.now me) e ≡ true → has_list pe.old len.old e ≡ true }
+    requires elements { (e : ℕ) → has (elements_in iw.old pe.old e_len.now me) e ≡ true →
+        has_list pe.old len.old e ≡ true }
     requires clear { (j : ℕ) → in_front nv.old j ≡ false }
     ensures rooms { Rooms (length nv.old) iw.old pe.old e_len.now len.old free iw.new pe.new result.0 }
-    ensures fits { result.0 + length (front_of iw.old nv.old pe.old len.old me (place (word e_len.now me))) ≤ length iw.old }
-    ensures moved { result.1 ≡ nat_lt (length iw.old) (free + length (front_of iw.old nv.old pe.old len.old me (place (word e_len.now me)))) }
+    ensures fits { result.0 + length (front_of iw.old nv.old pe.old len.old me (place (word e_len.now me))) ≤ length
+        iw.old }
+    ensures moved { result.1 ≡ nat_lt (length iw.old)
+        (free + length (front_of iw.old nv.old pe.old len.old me (place (word e_len.now me)))) }
     ensures packed { result.1 ≡ true → result.0 ≡ live_words (length nv.old) pe.old len.old }
     ensures stays { result.1 ≡ false → result.0 ≡ free }
     ensures same { (nv.new ≡ nv.old) × (len.new ≡ len.old) }

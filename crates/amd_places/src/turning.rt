@@ -1,5 +1,6 @@
-// The classes of the front of a new element are turned over to it: they leave the lists by bound, the rows of other elements outside
-// the front are counted, and each list is renewed, or its class ends. Source: Amestoy, Davis and Duff 1996. Called by: a round.
+// The classes of the front of a new element are turned over to it: they leave the lists by bound, the rows of other
+// elements outside the front are counted, and each list is renewed, or its class ends. Source: Amestoy, Davis and Duff
+// 1996. Called by: a round.
 
 ghost use Rattle.std.specs.Prelude.{◌≡◌, ◌<◌, ◌≤◌, ◌+◌, ◌-◌, ◌^◌, not, filter, ℕ, List, true, false, length, sum_by};
 ghost use Rattle.amd_model.specs.Quotient.{has, Once};
@@ -14,10 +15,10 @@ use crate::fronts::renew_all;
 use crate::words::named;
 use amd_cells::{Figure, Signed, Unsigned, Word, figure_at};
 
-/// Takes the classes of the front of the new element `me` out of the lists by bound, counts the rows of other elements outside the
-/// front, and renews the lists, bounds and buckets of the classes. With `aggressive` the elements without rows outside end, and a class
-/// that keeps nothing but the new element always ends. Answers the number of rows of the classes that ended. All lists end before
-/// `free`.
+/// Takes the classes of the front of the new element `me` out of the lists by bound, counts the rows of other elements
+/// outside the front, and renews the lists, bounds and buckets of the classes. With `aggressive` the elements without
+/// rows outside end, and a class that keeps nothing but the new element always ends. Answers the number of rows of the
+/// classes that ended. All lists end before `free`.
 pub fn turn<S: Signed, U: Unsigned>(
     iw: &mut [Word<S>],
     pe: &mut [Word<S>],
@@ -34,8 +35,10 @@ pub fn turn<S: Signed, U: Unsigned>(
     flag: usize,
     aggressive: bool,
 ) -> usize
-    requires lengths { (length pe.old ≡ length w.old) × (length e_len.old ≡ length w.old) × (length len.old ≡ length w.old) × (length nv.old ≡ length w.old) }
-    requires more_lengths { (length degree.old ≡ length w.old) × (length head.old ≡ length w.old) × (length next.old ≡ length w.old) × (length last.old ≡ length w.old) }
+    requires lengths { (length pe.old ≡ length w.old) × (length e_len.old ≡ length w.old) ×
+        (length len.old ≡ length w.old) × (length nv.old ≡ length w.old) }
+    requires more_lengths { (length degree.old ≡ length w.old) × (length head.old ≡ length w.old) ×
+        (length next.old ≡ length w.old) × (length last.old ≡ length w.old) }
     requires short { length iw.old < 2 ^ 63 }
     requires narrow { (length iw.old ≤ S.MOST) × (length w.old ≤ U.MOST) }
     requires end { free ≤ length iw.old }
@@ -45,15 +48,24 @@ pub fn turn<S: Signed, U: Unsigned>(
     requires within { end_of pe.old len.old me ≤ free }
     requires apart { has (list_in iw.old pe.old len.old me) me ≡ false }
     requires once { Once (list_in iw.old pe.old len.old me) }
-    requires front { (i : ℕ) → has (list_in iw.old pe.old len.old me) i ≡ true → IsTurning (length w.old) me (list_in iw.old pe.old len.old me) iw.old pe.old e_len.old nv.old len.old degree.old w.old i }
+    requires front { (i : ℕ) → has (list_in iw.old pe.old len.old me) i ≡ true →
+        IsTurning (length w.old) me (list_in iw.old pe.old len.old me) iw.old pe.old e_len.old nv.old len.old degree.old
+        w.old i }
     requires few { sum_by (size_of nv.old) (list_in iw.old pe.old len.old me) ≤ S.MOST }
     requires flag { 2 ≤ flag }
     requires under { (e : ℕ) → num w.old e < flag }
     requires fits { (e : ℕ) → e < length w.old → num degree.old e + flag ≤ U.MOST }
-    requires part { (e : ℕ) → 0 < num w.old e → met iw.old pe.old e_len.old nv.old (list_in iw.old pe.old len.old me) e ≤ num degree.old e }
-    ensures turns { TurnsFront aggressive (length w.old) me flag (list_in iw.old pe.old len.old me) free iw.old pe.old e_len.old nv.old len.old degree.old w.old iw.new pe.new e_len.new nv.new len.new degree.new w.new last.new result }
-    ensures linked { (lists : ℕ → List ℕ) → ((i : ℕ) → has (list_in iw.old pe.old len.old me) i ≡ true → has (lists (num degree.old i)) i ≡ true) → DegreeLists (length w.old) head.old next.old last.old degree.old lists → DegreeLists (length w.old) head.new next.new last.new degree.new (λ d. filter (λ j. not (has (list_in iw.old pe.old len.old me) j)) (lists d)) }
-    ensures lengths { (length w.new ≡ length w.old) × (length head.new ≡ length head.old) × (length next.new ≡ length next.old) }
+    requires part { (e : ℕ) → 0 < num w.old e → met iw.old pe.old e_len.old nv.old (list_in iw.old pe.old len.old me)
+        e ≤ num degree.old e }
+    ensures turns { TurnsFront aggressive (length w.old) me flag (list_in iw.old pe.old len.old me) free iw.old pe.old
+        e_len.old nv.old len.old degree.old w.old iw.new pe.new e_len.new nv.new len.new degree.new w.new last.new
+        result }
+    ensures linked { (lists : ℕ → List ℕ) → ((i : ℕ) → has (list_in iw.old pe.old len.old me) i ≡ true →
+        has (lists (num degree.old i)) i ≡ true) → DegreeLists (length w.old) head.old next.old last.old degree.old
+        lists → DegreeLists (length w.old) head.new next.new last.new degree.new
+        (λ d. filter (λ j. not (has (list_in iw.old pe.old len.old me) j)) (lists d)) }
+    ensures lengths { (length w.new ≡ length w.old) × (length head.new ≡ length head.old) ×
+        (length next.new ≡ length next.old) }
     ensures more_lengths { (length pe.new ≡ length w.old) × (length last.new ≡ length w.old) }
 {
     let from = named(pe, me);

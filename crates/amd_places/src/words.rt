@@ -1,8 +1,10 @@
-// The words of the workspace: places, rows and marks, and the sizes of classes, whose sign marks the classes of a front. All signed
-// numbers are read and written by these short functions alone. Source: Amestoy, Davis and Duff 1996 and 2004
-// (the arrays `pe` and `nv`). Called by most other modules, and by `amd_inplace`, `amd_listing` and `amd_workspace`.
+// The words of the workspace: places, rows and marks, and the sizes of classes, whose sign marks the classes of a
+// front. All signed numbers are read and written by these short functions alone. Source: Amestoy, Davis and Duff 1996
+// and 2004 (the arrays `pe` and `nv`). Called by most other modules, and by `amd_inplace`, `amd_listing` and
+// `amd_workspace`.
 
-ghost use Rattle.std.specs.Prelude.{◌≡◌, ◌<◌, ◌≤◌, ◌+◌, ◌^◌, ◌||◌, ◌&&◌, ◌==◌, not, pos, ℕ, true, false, nat_lt, length, slice_set};
+ghost use Rattle.std.specs.Prelude.{◌≡◌, ◌<◌, ◌≤◌, ◌+◌, ◌^◌, ◌||◌, ◌&&◌, ◌==◌, not, pos, ℕ, true, false, nat_lt};
+ghost use Rattle.std.specs.Prelude.{length, slice_set};
 ghost use Rattle.amd_places.specs.Words.{is_place, place, flip_of, word, size_of, in_front};
 
 use amd_cells::{Signed, Word, put_word, row_at, word_at};

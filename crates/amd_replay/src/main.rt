@@ -7,9 +7,10 @@
 //!     INFO n nz symmetry(0|1) nz_diag nz_a_plus_at n_dense lnz n_div ldl lu d_max
 //!     END
 //!
-//! Where the status is `Invalid` the three lines behind it are left out. The format of the input is that of `amd_cases`; with
-//! `HOLD` the marked rows are held last. A case with `PERM` and `ROOM` asks for the columns of the factor instead. Its answer has
-//! in place of the four lines between `CASE` and `END` these, where a parent that is none is -1:
+//! Where the status is `Invalid` the three lines behind it are left out. The format of the input is that of
+//! `amd_cases`; with `HOLD` the marked rows are held last. A case with `PERM` and `ROOM` asks for the columns of the
+//! factor instead. Its answer has in place of the four lines between `CASE` and `END` these, where a parent that is
+//! none is -1:
 //!
 //!     FAULT Ok | NotColumnForm | NotPermutation | RoomTooSmall
 //!     PTR ..
@@ -18,8 +19,8 @@
 //!
 //! Where there is a fault the three lists are empty. The items `T`, `AGG` and `HOLD` of such a case say nothing.
 //!
-//! At a line that is at fault, at a case with `PERM` or `ROOM` alone, and at a negative room, the program names it on standard
-//! error and ends with status 1; the answers before it are written.
+//! At a line that is at fault, at a case with `PERM` or `ROOM` alone, and at a negative room, the program names it on
+//! standard error and ends with status 1; the answers before it are written.
 #![tactic(auto)]
 
 use amd::{Control, Info, Status, order, order_holding};
@@ -115,9 +116,9 @@ fn write_factor<W: Write, A: Allocator>(out: &mut W, factor: &Factor<A>) -> io::
 /// The room that is asked for first.
 const FIRST_ROOM: usize = 1024;
 
-/// The columns of the factor of a case under a permutation, where they have no more than `room` entries. Since memory is asked for all
-/// of a room, whatever the factor needs, it is doubled from a small one on until it is enough: a case with a great room and few rows asks
-/// for no more than that.
+/// The columns of the factor of a case under a permutation, where they have no more than `room` entries. Since memory
+/// is asked for all of a room, whatever the factor needs, it is doubled from a small one on until it is enough: a case
+/// with a great room and few rows asks for no more than that.
 fn columns_within<A: Allocator + Copy>(
     alloc: A,
     case: &Case<A>,

@@ -17,7 +17,7 @@ use Rattle.amd_views.specs.Views.{View}
 use Rattle.amd_views.specs.Rounds as views
 use Rattle.amd_rounds.specs.Views.{num, some_at, list_at, Below, lists_of, view_of}
 use Rattle.amd_rounds.specs.Buckets.{live_in, lasts}
-use Rattle.amd_rounds.specs.Rounds.{keeps_none, bound_after}
+use Rattle.amd_rounds.specs.Rounds.{mass, new_bound}
 use Rattle.amd_rounds.specs.Keeps.{IsSized, Stands, IsRound}
 use Rattle.amd_rounds.specs.Parts.{MakesElement, MergesClasses, RenewsClasses}
 use Rattle.amd_rounds.specs.declared.work.Work.{Work}
@@ -117,7 +117,7 @@ module _ {A : Type 0} (g : Graph) (dense : ℕ → Bool) (aggressive : Bool) (w 
         into i = num w2.scratch.into.items i
 
         abbrev none_kept : ℕ → Bool
-        none_kept i = keeps_none w1.lists.elements.items w1.lists.variables.items i
+        none_kept i = mass w1.lists.elements.items w1.lists.variables.items i
 
         made_front : (i : ℕ) → has made i ≡ true → has front i ≡ true
         made_front = finding.made_front g dense aggressive old t s st.view c placed least front m.front_is (lists_of w1.lists)
@@ -215,17 +215,17 @@ module _ {A : Type 0} (g : Graph) (dense : ℕ → Bool) (aggressive : Bool) (w 
           figures_same = k.elements.figures ∙ m.elements.figures
 
           bounds : (i : ℕ) → num v.bound.items i ≡ cond (has made i)
-              (bound_after border v.live w1.lists w1.scratch.beyond.items v.size.items w.bound.items i) (num w.bound.items i)
+              (new_bound border v.live w1.lists w1.scratch.beyond.items v.size.items w.bound.items i) (num w.bound.items i)
           bounds i = n.bound_is i
-              ∙ ap (λ l. cond (has made i) (bound_after border l w2.lists w2.scratch.beyond.items w2.size.items w2.bound.items i)
+              ∙ ap (λ l. cond (has made i) (new_bound border l w2.lists w2.scratch.beyond.items w2.size.items w2.bound.items i)
               (num w2.bound.items i)) (sym n.live)
-              ∙ ap (λ l. cond (has made i) (bound_after border v.live l w2.scratch.beyond.items w2.size.items w2.bound.items i)
+              ∙ ap (λ l. cond (has made i) (new_bound border v.live l w2.scratch.beyond.items w2.size.items w2.bound.items i)
               (num w2.bound.items i)) k.lists
-              ∙ ap (λ l. cond (has made i) (bound_after border v.live w1.lists l.items w2.size.items w2.bound.items i)
+              ∙ ap (λ l. cond (has made i) (new_bound border v.live w1.lists l.items w2.size.items w2.bound.items i)
               (num w2.bound.items i)) k.beyond
-              ∙ ap (λ l. cond (has made i) (bound_after border v.live w1.lists w1.scratch.beyond.items l.items w2.bound.items i)
+              ∙ ap (λ l. cond (has made i) (new_bound border v.live w1.lists w1.scratch.beyond.items l.items w2.bound.items i)
               (num w2.bound.items i)) (sym n.size)
-              ∙ ap (λ l. cond (has made i) (bound_after border v.live w1.lists w1.scratch.beyond.items v.size.items l.items i)
+              ∙ ap (λ l. cond (has made i) (new_bound border v.live w1.lists w1.scratch.beyond.items v.size.items l.items i)
               (num l.items i)) bound_same
 
           -- what is not in the front is not placed anew

@@ -1,5 +1,6 @@
 -- What the start of the plain engine fills in stands for the start of an elimination.
-use Rattle.std.proofs.Common.{ℕ, Bool, true, false, None, List, Vec, ◌≡◌, ◌<◌, ◌∙◌, ◌&&◌, ◌||◌, not, cond, inl, inr, ap, sym, refl, subst, arith, length}
+use Rattle.std.proofs.Common.{ℕ, Bool, true, false, None, List, Vec, ◌≡◌, ◌<◌, ◌∙◌, ◌&&◌, ◌||◌, not, cond, inl, inr, ap, sym, refl, subst}
+use Rattle.std.proofs.Common.{arith, length}
 use Rattle.std.specs.Prelude.{filter, nat_lt, nat_eq, ◌==◌}
 use Rattle.std.proofs.Math.Bool.{and_self}
 use Rattle.std.proofs.lemmas.Bool.{cases_lt}

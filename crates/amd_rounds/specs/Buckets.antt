@@ -1,5 +1,6 @@
 -- The classes by bound. A list for a bound names each class of that bound, and others that are passed over.
-use Rattle.std.specs.Prelude.{ℕ, Option, None, Some, List, [], ◌∷◌, ◌++◌, ◌≡◌, ◌≤◌, ◌<◌, ◌==◌, ◌&&◌, ◌⊎◌, cond, Vec, filter, nat_lt}
+use Rattle.std.specs.Prelude.{ℕ, Option, None, Some, List, [], ◌∷◌, ◌++◌, ◌≡◌, ◌≤◌, ◌<◌, ◌==◌, ◌&&◌, ◌⊎◌, cond, Vec}
+use Rattle.std.specs.Prelude.{filter, nat_lt}
 use Rattle.amd_model.specs.Quotient.{has}
 use Rattle.amd_rounds.specs.Views.{num, list_at}
 
@@ -12,14 +13,16 @@ unfoldable pub lasts : List ℕ → List ℕ
 lasts [] = []
 lasts (x ∷ xs) = cond (has xs x) (lasts xs) (x ∷ lasts xs)
 
--- the last class of the bound b was taken from the end of a list, with all that stood behind it; if it has none, everything was
+-- the last class of the bound b was taken from the end of a list, with all that stood behind it; if it has none,
+-- everything was
 abbrev pub Popped : List ℕ → List ℕ → ℕ → List ℕ → List ℕ → Option ℕ → Type 0
 Popped size bound b old new None = (new ≡ []) × (live_in size bound b old ≡ [])
-Popped size bound b old new (Some i) = (tail : List ℕ) × (old ≡ new ++ (i ∷ tail)) × (live_in size bound b (i ∷ []) ≡ i ∷ [])
+Popped size bound b old new (Some i) = (tail : List ℕ) × (old ≡ new ++ (i ∷ tail)) ×
+    (live_in size bound b (i ∷ []) ≡ i ∷ [])
     × (live_in size bound b tail ≡ [])
 
--- the last class of the bound least was taken out of its list: c; the lists looked through before held no class of their bound and
--- are empty now; the others stay
+-- the last class of the bound least was taken out of its list: c; the lists looked through before held no class of
+-- their bound and are empty now; the others stay
 pub record Chosen {A : Type 0} (size bound : List ℕ) (old new : List (Vec ℕ A)) (before least c : ℕ) : Type 0 where
   pub rise : before ≤ least
   pub lower : (b : ℕ) → before ≤ b → b < least → (list_at new b ≡ []) × (live_in size bound b (list_at old b) ≡ [])

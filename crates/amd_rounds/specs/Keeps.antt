@@ -42,14 +42,16 @@ abbrev pub LinksLead : List (Option ℕ) → (ℕ → Home) → Type 0
 LinksLead links home = views.LinksLead (length links) (some_at links) home
 
 -- the record keeps the lists t, which stand for the sound state s of an elimination of the graph
-pub record Stands {A : Type 0} (g : Graph) (dense : ℕ → Bool) (w : Work A) (t : QuotientGraph) (s : State) : Type 0 where
-  pub view : views.Stands g dense (view_of w) t s
-  pub sized : IsSized g.size w
-  -- the classes of each bound, each at its last place
-  pub placed : (b : ℕ) → lasts (live_in w.size.items w.bound.items b (list_at w.placed.items b)) ≡ filter (λ i. t.bound i == b) t.placed
+pub record Stands {A : Type 0} (g : Graph) (dense : ℕ → Bool) (w : Work A) (t : QuotientGraph) (s : State) : Type 0
+  where
+    pub view : views.Stands g dense (view_of w) t s
+    pub sized : IsSized g.size w
+    -- the classes of each bound, each at its last place
+    pub placed : (b : ℕ) → lasts (live_in w.size.items w.bound.items b (list_at w.placed.items b)) ≡ filter
+        (λ i. t.bound i == b) t.placed
 
--- whatever lists and state the old record stands for, the new one stands for the lists of the next round, and for a state that the
--- step with the pivot of the rules leads to
+-- whatever lists and state the old record stands for, the new one stands for the lists of the next round, and for a
+-- state that the step with the pivot of the rules leads to
 abbrev pub IsRound : {A : Type 0} → Bool → Work A → Work A → Type 0
 IsRound aggressive old new = (g : Graph) (dense : ℕ → Bool) (t : QuotientGraph) (s : State) → Stands g dense old t s →
     (is_empty t.placed ≡ false) × ((u : State) × StepAt g aggressive (pivot t.bound t.placed) s u
@@ -58,8 +60,10 @@ IsRound aggressive old new = (g : Graph) (dense : ℕ → Bool) (t : QuotientGra
 -- whatever lists and state the old record stands for, the new one stands for lists and a state some rounds later
 abbrev pub AreRounds : {A : Type 0} → Bool → Work A → Work A → Type 0
 AreRounds aggressive old new = (g : Graph) (dense : ℕ → Bool) (t : QuotientGraph) (s : State) → Stands g dense old t s →
-    (u : QuotientGraph) × ((states : List State) × Follows g aggressive t s states u × Stands g dense new u (last_state s states))
+    (u : QuotientGraph) × ((states : List State) × Follows g aggressive t s states u ×
+    Stands g dense new u (last_state s states))
 
 -- no row is live in any state that the record stands for
 abbrev pub NoRowIsLive : {A : Type 0} → Work A → Type 0
-NoRowIsLive w = (g : Graph) (dense : ℕ → Bool) (t : QuotientGraph) (s : State) → Stands g dense w t s → (v : ℕ) → live s v ≡ false
+NoRowIsLive w = (g : Graph) (dense : ℕ → Bool) (t : QuotientGraph) (s : State) → Stands g dense w t s → (v : ℕ) →
+    live s v ≡ false

@@ -1,11 +1,12 @@
 -- The three parts of a round of the plain engine, each between the record before and after it.
-use Rattle.std.specs.Prelude.{ℕ, Bool, true, Some, List, ◌∷◌, ◌++◌, ◌≡◌, ◌≤◌, ◌⊎◌, ◌==◌, ◌&&◌, ◌+◌, ◌-◌, not, cond, max, length, filter}
+use Rattle.std.specs.Prelude.{ℕ, Bool, true, Some, List, ◌∷◌, ◌++◌, ◌≡◌, ◌≤◌, ◌⊎◌, ◌==◌, ◌&&◌, ◌+◌, ◌-◌, not, cond, max}
+use Rattle.std.specs.Prelude.{length, filter}
 use Rattle.std.specs.Prelude.{flat_map, sum_by}
 use Rattle.amd_model.specs.Figures.{cut, front_sum, entries, ldl_steps, lu_steps}
 use Rattle.amd_model.specs.Quotient.{has, last_that, turned}
 use Rattle.amd_rounds.specs.Views.{num, some_at, list_at, live_of}
 use Rattle.amd_rounds.specs.Buckets.{Chosen}
-use Rattle.amd_rounds.specs.Rounds.{firsts, keeps_none, alike_in, Absorbed, bound_after}
+use Rattle.amd_rounds.specs.Rounds.{firsts, mass, alike_in, Absorbed, new_bound}
 use Rattle.amd_rounds.specs.Keeps.{IsSized}
 use Rattle.amd_rounds.specs.declared.work.Work.{Work}
 
@@ -28,7 +29,8 @@ pub record MakesElement {A : Type 0} (aggressive : Bool) (c : ℕ) (front : List
   pub chosen : Chosen w.size.items w.bound.items w.placed.items v.placed.items w.least v.least c
   pub front_is : front ≡ firsts (λ x. x == c) (flat_map (λ e. live_of w.size.items (list_at w.lists.members.items e))
       (list_at w.lists.elements.items c) ++ live_of w.size.items (list_at w.lists.variables.items c))
-  pub absorbed : Absorbed aggressive c front w.size.items w.block.items w.front.items w.lists v.lists w.parent.items v.parent.items
+  pub absorbed : Absorbed aggressive c front w.size.items w.block.items w.front.items w.lists v.lists w.parent.items
+      v.parent.items
       v.scratch.beyond.items
   pub rows : KeepsRows w v
   pub elements : KeepsElements w v
@@ -37,22 +39,24 @@ pub record MakesElement {A : Type 0} (aggressive : Bool) (c : ℕ) (front : List
 -- the pivot and what keeps nothing are eliminated, and classes alike become one
 pub record MergesClasses {A : Type 0} (c : ℕ) (front made : List ℕ) (border block : ℕ) (w v : Work A) : Type 0 where
   pub rest : List ℕ
-  pub rest_is : rest ≡ filter (λ i. not (keeps_none w.lists.elements.items w.lists.variables.items i)) front
+  pub rest_is : rest ≡ filter (λ i. not (mass w.lists.elements.items w.lists.variables.items i)) front
   pub border_is : border ≡ sum_by (num w.size.items) rest
   pub block_is : block ≡ num w.size.items c + (sum_by (num w.size.items) front - border)
   pub into_is : (i : ℕ) → has rest i ≡ true → num v.scratch.into.items i ≡ last_that
       (alike_in w.lists.elements.items w.lists.variables.items i) i rest
   pub made_is : made ≡ filter (λ i. num v.scratch.into.items i == i) rest
   pub retired : List ℕ
-  pub retired_is : (x : ℕ) → num retired x ≡ cond (has front x && keeps_none w.lists.elements.items w.lists.variables.items x) 0
+  pub retired_is : (x : ℕ) → num retired x ≡ cond (has front x && mass w.lists.elements.items w.lists.variables.items x)
+      0
       (num w.size.items x)
   pub joined : List ℕ
   pub joined_is : (x : ℕ) → num joined x ≡ cond (has rest x)
-      (cond (num v.scratch.into.items x == x) (sum_by (num retired) (filter (λ j. num v.scratch.into.items j == x) rest)) 0) (num retired x)
+      (cond (num v.scratch.into.items x == x) (sum_by (num retired)
+      (filter (λ j. num v.scratch.into.items j == x) rest)) 0) (num retired x)
   pub size_is : (x : ℕ) → num v.size.items x ≡ cond (x == c) 0 (num joined x)
   pub link_is : (x : ℕ) → some_at v.link.items x ≡ cond (has rest x && not (num v.scratch.into.items x == x))
       (Some (num v.scratch.into.items x))
-      (cond (has front x && keeps_none w.lists.elements.items w.lists.variables.items x) (Some c) (some_at w.link.items x))
+      (cond (has front x && mass w.lists.elements.items w.lists.variables.items x) (Some c) (some_at w.link.items x))
   pub live_is : v.live ≡ w.live - block
   pub lists : v.lists ≡ w.lists
   pub bound : v.bound ≡ w.bound
@@ -66,13 +70,16 @@ pub record MergesClasses {A : Type 0} (c : ℕ) (front made : List ℕ) (border 
 -- the classes of the new element c have their new bounds and lists, and are placed
 pub record RenewsClasses {A : Type 0} (c : ℕ) (made : List ℕ) (border block : ℕ) (w v : Work A) : Type 0 where
   pub bound_is : (i : ℕ) → num v.bound.items i ≡ cond (has made i)
-      (bound_after border w.live w.lists w.scratch.beyond.items w.size.items w.bound.items i) (num w.bound.items i)
-  pub elements_is : (i : ℕ) → list_at v.lists.elements.items i ≡ cond (has made i) (c ∷ turned (list_at w.lists.elements.items i))
+      (new_bound border w.live w.lists w.scratch.beyond.items w.size.items w.bound.items i) (num w.bound.items i)
+  pub elements_is : (i : ℕ) → list_at v.lists.elements.items i ≡ cond (has made i)
+      (c ∷ turned (list_at w.lists.elements.items i))
       (list_at w.lists.elements.items i)
-  pub variables_is : (i : ℕ) → list_at v.lists.variables.items i ≡ cond (has made i) (turned (list_at w.lists.variables.items i))
+  pub variables_is : (i : ℕ) → list_at v.lists.variables.items i ≡ cond (has made i)
+      (turned (list_at w.lists.variables.items i))
       (list_at w.lists.variables.items i)
   pub members_is : (e : ℕ) → list_at v.lists.members.items e ≡ cond (e == c) made (list_at w.lists.members.items e)
-  pub placed_is : (b : ℕ) → list_at v.placed.items b ≡ list_at w.placed.items b ++ filter (λ i. num v.bound.items i == b) made
+  pub placed_is : (b : ℕ) → list_at v.placed.items b ≡ list_at w.placed.items b ++ filter
+      (λ i. num v.bound.items i == b) made
   pub least_is : (v.least ≤ w.least) × ((i : ℕ) → has made i ≡ true → v.least ≤ num v.bound.items i)
   pub least_one : (v.least ≡ w.least) ⊎ ((i : ℕ) × (has made i ≡ true) × (v.least ≡ num v.bound.items i))
   pub blocks : (e : ℕ) → num v.block.items e ≡ cond (e == c) block (num w.block.items e)

@@ -10,15 +10,19 @@ use Rattle.amd_rounds.specs.Views.{num, list_at}
 use Rattle.amd_rounds.specs.Keeps.{Stands}
 use Rattle.amd_rounds.specs.declared.work.Work.{Work}
 
--- of each graph with these degrees and these lists of neighbours the record stands for the start in which exactly the rows of the
--- set last are held last
+-- of each graph with these degrees and these lists of neighbours the record stands for the start in which exactly the
+-- rows of the set last are held last
 abbrev pub StandsAtStart : {A : Type 0} → List (Vec ℕ A) → List ℕ → (ℕ → Bool) → Work A → Type 0
-StandsAtStart rows degrees last w = (g : Graph) (dense : ℕ → Bool) (lists : ℕ → List ℕ) (s : State) → IsGraph g → g.size ≡ length degrees →
+StandsAtStart rows degrees last w = (g : Graph) (dense : ℕ → Bool) (lists : ℕ → List ℕ) (s : State) → IsGraph g →
+    g.size ≡ length degrees →
     ((i : ℕ) → i < g.size → num degrees i ≡ degree g i) → ((i : ℕ) → i < g.size → last i ≡ dense i) →
     ((i : ℕ) → i < g.size → list_at rows i ≡ lists i) →
-    ((i : ℕ) → i < g.size → NamesNeighbours g i (lists i)) → IsStart g dense s → Stands g dense w (start_quotient g dense lists) s
+    ((i : ℕ) → i < g.size → NamesNeighbours g i (lists i)) → IsStart g dense s →
+    Stands g dense w (start_quotient g dense lists) s
 
 -- whatever run the record stands at the end of, p lists its assembly tree in postorder, and then the dense rows
 abbrev pub ListsRun : {A : Type 0} → Work A → List ℕ → Type 0
-ListsRun w p = (g : Graph) (dense : ℕ → Bool) (aggressive : Bool) (first : State) (states : List State) (t : QuotientGraph) →
-    Run g dense aggressive first states → Stands g dense w t (last_state first states) → IsPostorder g dense (last_state first states) p
+ListsRun w p = (g : Graph) (dense : ℕ → Bool) (aggressive : Bool) (first : State) (states : List State)
+    (t : QuotientGraph) →
+    Run g dense aggressive first states → Stands g dense w t (last_state first states) →
+    IsPostorder g dense (last_state first states) p

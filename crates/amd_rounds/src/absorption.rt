@@ -1,20 +1,21 @@
-// What the classes of a new element keep: the rows outside of the elements that they also stand in are counted, and the elements
-// that the new one absorbs and the variables that lie in the new element are left out of their lists. A class that then keeps
-// nothing is mass-eliminated.
-// Source: Amestoy, Davis and Duff 1996 (element absorption, aggressive absorption, mass elimination). Called by `rounds`.
+// What the classes of a new element keep: the rows outside of the elements that they also stand in are counted, and the
+// elements that the new one absorbs and the variables that lie in the new element are left out of their lists. A class
+// that then keeps nothing is mass-eliminated. Source: Amestoy, Davis and Duff 1996 (element absorption, aggressive
+// absorption, mass elimination). Called by `rounds`.
 
-ghost use Rattle.std.specs.Prelude.{[], ◌≡◌, ◌<◌, ◌^◌, ◌||◌, ◌&&◌, ◌==◌, ◌-◌, not, cond, nat_eq, nat_lt, ℕ, Some, true, false, filter, length, sum_by, OnOk, IfOk};
+ghost use Rattle.std.specs.Prelude.{[], ◌≡◌, ◌<◌, ◌^◌, ◌||◌, ◌&&◌, ◌==◌, ◌-◌, not, cond, nat_eq, nat_lt, ℕ, Some, true};
+ghost use Rattle.std.specs.Prelude.{false, filter, length, sum_by, OnOk, IfOk};
 ghost use Rattle.amd_model.specs.Quotient.{has, Once};
 ghost use Rattle.amd_rounds.specs.Views.{num, at, some_at, list_at, Below, ListsBelow, Clear};
-ghost use Rattle.amd_rounds.specs.Rounds.{keeps_none, less, rows_left, Absorbed};
+ghost use Rattle.amd_rounds.specs.Rounds.{mass, less, rows_left, Absorbed};
 ghost use Rattle.amd_rounds.specs.Keeps.{IsIdle};
 
 use crate::marks::{clear_all, touched_by};
 use crate::work::{Lists, Scratch};
 use std::alloc::{AllocError, Allocator};
 
-/// Writes, for each element of a list, the number of rows of its border: that of block and border less that of its block.
-/// In the rounds it never goes below 0; saturating spares a condition.
+/// Writes, for each element of a list, the number of rows of its border: that of block and border less that of its
+/// block. In the rounds it never goes below 0; saturating spares a condition.
 fn count_borders<A: Allocator>(
     touched: &[usize],
     block: &[usize],
@@ -24,15 +25,16 @@ fn count_borders<A: Allocator>(
     requires lengths { (length whole.now ≡ length block.now) × (length beyond.old.items ≡ length block.now) }
     requires range { Below (length block.now) touched.now }
     ensures size { length beyond.new.items ≡ length beyond.old.items }
-    ensures counted { (e : ℕ) → num beyond.new.items e ≡ cond (has touched.now e) (num whole.now e - num block.now e) (num beyond.old.items e) }
+    ensures counted { (e : ℕ) → num beyond.new.items e ≡ cond (has touched.now e) (num whole.now e - num block.now e)
+        (num beyond.old.items e) }
 {
     for e in touched {
         beyond[*e] = whole[*e].saturating_sub(block[*e]);
     }
 }
 
-/// Takes the number of rows of a class off the numbers of the elements in its list. In the rounds no number goes below 0;
-/// saturating spares a condition.
+/// Takes the number of rows of a class off the numbers of the elements in its list. In the rounds no number goes below
+/// 0; saturating spares a condition.
 fn take_off<A: Allocator>(rows: usize, elements: &[usize], beyond: &mut Vec<usize, A>)
     requires range { Below (length beyond.old.items) elements.now }
     ensures size { length beyond.new.items ≡ length beyond.old.items }
@@ -43,8 +45,8 @@ fn take_off<A: Allocator>(rows: usize, elements: &[usize], beyond: &mut Vec<usiz
     }
 }
 
-/// Writes, for each element of a list, the number of rows of its border in no class of the front: the rows of each class are taken
-/// off the elements that it lists, so no list of members is gone through.
+/// Writes, for each element of a list, the number of rows of its border in no class of the front: the rows of each
+/// class are taken off the elements that it lists, so no list of members is gone through.
 fn count_beyond<A: Allocator>(
     touched: &[usize],
     front: &[usize],
@@ -54,12 +56,14 @@ fn count_beyond<A: Allocator>(
     whole: &[usize],
     beyond: &mut Vec<usize, A>,
 )
-    requires lengths { (length block.now ≡ length size.now) × (length whole.now ≡ length size.now) × (length beyond.old.items ≡ length size.now) }
+    requires lengths { (length block.now ≡ length size.now) × (length whole.now ≡ length size.now) ×
+        (length beyond.old.items ≡ length size.now) }
     requires elements { ListsBelow (length size.now) elements.now.items }
     requires range { Below (length size.now) touched.now }
     requires front { Below (length size.now) front.now }
     ensures size { length beyond.new.items ≡ length beyond.old.items }
-    ensures counted { (e : ℕ) → has touched.now e ≡ true → num beyond.new.items e ≡ rows_left block.now whole.now size.now elements.now.items front.now e }
+    ensures counted { (e : ℕ) → has touched.now e ≡ true →
+        num beyond.new.items e ≡ rows_left block.now whole.now size.now elements.now.items front.now e }
 {
     count_borders(touched, block, whole, beyond);
     for i in front {
@@ -67,8 +71,8 @@ fn count_beyond<A: Allocator>(
     }
 }
 
-/// Clears the mark of each element of a list that is not absorbed: without `aggressive` all of them, and else those with a row
-/// outside the new one.
+/// Clears the mark of each element of a list that is not absorbed: without `aggressive` all of them, and else those
+/// with a row outside the new one.
 fn spare<A: Allocator>(
     touched: &[usize],
     beyond: &[usize],
@@ -78,7 +82,8 @@ fn spare<A: Allocator>(
     requires length { length beyond.now ≡ length taken.old.items }
     requires range { Below (length beyond.now) touched.now }
     ensures size { length taken.new.items ≡ length taken.old.items }
-    ensures spared { (e : ℕ) → at taken.new.items e ≡ (at taken.old.items e && not (has touched.now e && not (aggressive && nat_eq (num beyond.now e) 0))) }
+    ensures spared { (e : ℕ) → at taken.new.items e ≡ (at taken.old.items e &&
+        not (has touched.now e && not (aggressive && nat_eq (num beyond.now e) 0))) }
 {
     for e in touched {
         if !(aggressive && beyond[*e] == 0) {
@@ -97,7 +102,8 @@ fn adopt<A: Allocator>(
     requires length { length parent.old.items ≡ length taken.now }
     requires range { Below (length taken.now) list.now }
     ensures size { length parent.new.items ≡ length parent.old.items }
-    ensures adopted { (e : ℕ) → some_at parent.new.items e ≡ cond (has list.now e && at taken.now e) (Some pivot) (some_at parent.old.items e) }
+    ensures adopted { (e : ℕ) → some_at parent.new.items e ≡ cond (has list.now e && at taken.now e) (Some pivot)
+        (some_at parent.old.items e) }
 {
     for e in list {
         if taken[*e] {
@@ -140,7 +146,8 @@ fn keep_variables<A: Allocator>(size: &[usize], marks: &[bool], list: &mut Vec<u
     list.retain(|j| is_outside(size, marks, *j));
 }
 
-/// Leaves in the lists of each class of the front the elements that are not absorbed, and the classes that are not marked.
+/// Leaves in the lists of each class of the front the elements that are not absorbed, and the classes that are not
+/// marked.
 fn shorten<A: Allocator>(
     front: &[usize],
     size: &[usize],
@@ -153,8 +160,11 @@ fn shorten<A: Allocator>(
     requires variables { ListsBelow (length size.now) lists.old.variables.items }
     requires range { Below (length size.now) front.now }
     requires once { Once front.now }
-    ensures kept_elements { (i : ℕ) → list_at lists.new.elements.items i ≡ cond (has front.now i) (filter (λ e. not (at taken.now e)) (list_at lists.old.elements.items i)) (list_at lists.old.elements.items i) }
-    ensures kept_variables { (i : ℕ) → list_at lists.new.variables.items i ≡ cond (has front.now i) (filter (λ j. nat_lt 0 (num size.now j) && not (at marks.now j)) (list_at lists.old.variables.items i)) (list_at lists.old.variables.items i) }
+    ensures kept_elements { (i : ℕ) → list_at lists.new.elements.items i ≡ cond (has front.now i)
+        (filter (λ e. not (at taken.now e)) (list_at lists.old.elements.items i)) (list_at lists.old.elements.items i) }
+    ensures kept_variables { (i : ℕ) → list_at lists.new.variables.items i ≡ cond (has front.now i)
+        (filter (λ j. nat_lt 0 (num size.now j) && not (at marks.now j)) (list_at lists.old.variables.items i))
+        (list_at lists.old.variables.items i) }
     ensures members { lists.new.members ≡ lists.old.members }
     ensures elements { ListsBelow (length size.now) lists.new.elements.items }
     ensures variables { ListsBelow (length size.now) lists.new.variables.items }
@@ -165,11 +175,12 @@ fn shorten<A: Allocator>(
     }
 }
 
-/// The new element of the pivot absorbs elements, and the classes of its front keep what is left. The front and the pivot are
-/// marked before; nothing is after. `block` tells the number of rows of the block of each element, and `whole` that of block and
-/// border. `beyond` gets, for each element that holds a class of the front and not the pivot, the rows of block and border less those of
-/// the block and of each class of the front that lists it, 0 at least: in the rounds that is the number of rows of its border in no class
-/// of the front. What `into` and the other places of `beyond` then hold is left open.
+/// The new element of the pivot absorbs elements, and the classes of its front keep what is left. The front and the
+/// pivot are marked before; nothing is after. `block` tells the number of rows of the block of each element, and
+/// `whole` that of block and border. `beyond` gets, for each element that holds a class of the front and not the pivot,
+/// the rows of block and border less those of the block and of each class of the front that lists it, 0 at least: in
+/// the rounds that is the number of rows of its border in no class of the front. What `into` and the other places of
+/// `beyond` then hold is left open.
 pub fn absorb<A: Allocator + Copy>(
     alloc: A,
     pivot: usize,
@@ -190,11 +201,15 @@ pub fn absorb<A: Allocator + Copy>(
     requires range { Below (length size.now) front.now }
     requires once { Once front.now }
     requires parent { length parent.old.items ≡ length size.now }
-    requires rows { (length scratch.old.rows.items ≡ length size.now) × ((j : ℕ) → at scratch.old.rows.items j ≡ (j == pivot || has front.now j)) }
+    requires rows { (length scratch.old.rows.items ≡ length size.now) ×
+        ((j : ℕ) → at scratch.old.rows.items j ≡ (j == pivot || has front.now j)) }
     requires taken { (length scratch.old.elements.items ≡ length size.now) × Clear scratch.old.elements.items }
-    requires groups { (length scratch.old.groups.items ≡ length size.now) × ((b : ℕ) → list_at scratch.old.groups.items b ≡ []) }
-    requires numbers { (length scratch.old.beyond.items ≡ length size.now) × (length scratch.old.into.items ≡ length size.now) }
-    ensures absorbed { OnOk result (Absorbed aggressive pivot front.now size.now block.now whole.now lists.old lists.new parent.old.items parent.new.items scratch.new.beyond.items) }
+    requires groups { (length scratch.old.groups.items ≡ length size.now) ×
+        ((b : ℕ) → list_at scratch.old.groups.items b ≡ []) }
+    requires numbers { (length scratch.old.beyond.items ≡ length size.now) ×
+        (length scratch.old.into.items ≡ length size.now) }
+    ensures absorbed { OnOk result (Absorbed aggressive pivot front.now size.now block.now whole.now lists.old lists.new
+        parent.old.items parent.new.items scratch.new.beyond.items) }
     ensures elements { OnOk result (ListsBelow (length size.now) lists.new.elements.items) }
     ensures variables { OnOk result (ListsBelow (length size.now) lists.new.variables.items) }
     ensures parent { OnOk result (length parent.new.items ≡ length size.now) }
@@ -225,7 +240,7 @@ pub fn absorb<A: Allocator + Copy>(
 fn keeps_nothing<A: Allocator>(lists: &Lists<A>, i: usize) -> bool
     requires elements { i < length lists.now.elements.items }
     requires variables { i < length lists.now.variables.items }
-    ensures { result ≡ keeps_none lists.now.elements.items lists.now.variables.items i }
+    ensures { result ≡ mass lists.now.elements.items lists.now.variables.items i }
 {
     lists.elements[i].is_empty() && lists.variables[i].is_empty()
 }
@@ -238,7 +253,8 @@ pub fn others_left<A: Allocator + Copy>(
 ) -> Result<Vec<usize, A>, AllocError>
     requires elements { Below (length lists.now.elements.items) front.now }
     requires variables { Below (length lists.now.variables.items) front.now }
-    ensures { IfOk result (λ rest. rest.items ≡ filter (λ i. not (keeps_none lists.now.elements.items lists.now.variables.items i)) front.now) }
+    ensures { IfOk result (λ rest. rest.items ≡ filter
+        (λ i. not (mass lists.now.elements.items lists.now.variables.items i)) front.now) }
 {
     let mut rest = Vec::with_capacity(alloc, front.len())?;
     for i in front {
@@ -257,11 +273,16 @@ pub fn retire<A: Allocator>(
     size: &mut Vec<usize, A>,
     link: &mut Vec<Option<usize>, A>,
 )
-    requires lengths { (length lists.now.elements.items ≡ length size.old.items) × (length lists.now.variables.items ≡ length size.old.items) × (length link.old.items ≡ length size.old.items) }
+    requires lengths { (length lists.now.elements.items ≡ length size.old.items) ×
+        (length lists.now.variables.items ≡ length size.old.items) × (length link.old.items ≡ length size.old.items) }
     requires range { Below (length size.old.items) front.now }
-    ensures sizes { (x : ℕ) → num size.new.items x ≡ cond (has front.now x && keeps_none lists.now.elements.items lists.now.variables.items x) 0 (num size.old.items x) }
-    ensures links { (x : ℕ) → some_at link.new.items x ≡ cond (has front.now x && keeps_none lists.now.elements.items lists.now.variables.items x) (Some pivot) (some_at link.old.items x) }
-    ensures lengths { (length size.new.items ≡ length size.old.items) × (length link.new.items ≡ length link.old.items) }
+    ensures sizes { (x : ℕ) → num size.new.items x ≡ cond
+        (has front.now x && mass lists.now.elements.items lists.now.variables.items x) 0 (num size.old.items x) }
+    ensures links { (x : ℕ) → some_at link.new.items x ≡ cond
+        (has front.now x && mass lists.now.elements.items lists.now.variables.items x) (Some pivot)
+        (some_at link.old.items x) }
+    ensures lengths { (length size.new.items ≡ length size.old.items) ×
+        (length link.new.items ≡ length link.old.items) }
 {
     for i in front {
         if keeps_nothing(lists, *i) {

@@ -5,7 +5,7 @@ ghost use Rattle.std.specs.Prelude.{◌≡◌, ◌<◌, ◌^◌, ◌≤◌, ◌+
 ghost use Rattle.amd_model.specs.Figures.{cut};
 ghost use Rattle.amd_model.specs.Quotient.{has, turned, Once};
 ghost use Rattle.amd_rounds.specs.Views.{num, list_at, Below, ListsBelow};
-ghost use Rattle.amd_rounds.specs.Rounds.{bound_after};
+ghost use Rattle.amd_rounds.specs.Rounds.{new_bound};
 
 use crate::work::Lists;
 use std::alloc::{AllocError, Allocator};
@@ -39,7 +39,8 @@ pub fn renew_bounds<A: Allocator>(
     requires once { Once made.now }
     requires sizes { (i : ℕ) → has made.now i ≡ true → (num size.now i ≤ border) × (num size.now i ≤ live) }
     requires fits { (i : ℕ) → has made.now i ≡ true → num bound.old.items i + border < 2 ^ 64 }
-    ensures bounds { (i : ℕ) → num bound.new.items i ≡ cond (has made.now i) (bound_after border live lists.now beyond.now size.now bound.old.items i) (num bound.old.items i) }
+    ensures bounds { (i : ℕ) → num bound.new.items i ≡ cond (has made.now i)
+        (new_bound border live lists.now beyond.now size.now bound.old.items i) (num bound.old.items i) }
     ensures length { length bound.new.items ≡ length bound.old.items }
 {
     for i in made {
@@ -62,8 +63,8 @@ fn turn<A: Allocator>(list: &mut Vec<usize, A>)
     }
 }
 
-/// Gives each class of a list its new lists: the new element, and then the elements that it keeps, of which the first goes behind
-/// the others; and the variables that it keeps, of which the first goes behind the others.
+/// Gives each class of a list its new lists: the new element, and then the elements that it keeps, of which the first
+/// goes behind the others; and the variables that it keeps, of which the first goes behind the others.
 pub fn renew_lists<A: Allocator>(
     pivot: usize,
     made: &[usize],
@@ -75,8 +76,11 @@ pub fn renew_lists<A: Allocator>(
     requires variables { ListsBelow (length lists.old.elements.items) lists.old.variables.items }
     requires range { Below (length lists.old.elements.items) made.now }
     requires once { Once made.now }
-    ensures new_elements { OnOk result ((i : ℕ) → list_at lists.new.elements.items i ≡ cond (has made.now i) (pivot ∷ turned (list_at lists.old.elements.items i)) (list_at lists.old.elements.items i)) }
-    ensures new_variables { OnOk result ((i : ℕ) → list_at lists.new.variables.items i ≡ cond (has made.now i) (turned (list_at lists.old.variables.items i)) (list_at lists.old.variables.items i)) }
+    ensures new_elements { OnOk result ((i : ℕ) → list_at lists.new.elements.items i ≡ cond (has made.now i)
+        (pivot ∷ turned (list_at lists.old.elements.items i)) (list_at lists.old.elements.items i)) }
+    ensures new_variables { OnOk result ((i : ℕ) →
+        list_at lists.new.variables.items i ≡ cond (has made.now i) (turned (list_at lists.old.variables.items i))
+        (list_at lists.old.variables.items i)) }
     ensures members { OnOk result (lists.new.members ≡ lists.old.members) }
     ensures elements { OnOk result (ListsBelow (length lists.old.elements.items) lists.new.elements.items) }
     ensures variables { OnOk result (ListsBelow (length lists.old.elements.items) lists.new.variables.items) }

@@ -1,6 +1,6 @@
-// The classes by bound: a list for each bound, in which a class stands behind those that were placed before it. What has got
-// another bound, or is a class no longer, is passed over when it is met. Source: Amestoy, Davis and Duff 1996 (degree lists).
-// Called by `rounds`.
+// The classes by bound: a list for each bound, in which a class stands behind those that were placed before it. What
+// has got another bound, or is a class no longer, is passed over when it is met. Source: Amestoy, Davis and Duff 1996
+// (degree lists). Called by `rounds`.
 
 ghost use Rattle.std.specs.Prelude.{◌≡◌, ◌<◌, ◌≤◌, ◌⊎◌, ◌++◌, ◌==◌, ℕ, true, filter, length, OnOk};
 ghost use Rattle.amd_model.specs.Quotient.{has};
@@ -37,7 +37,8 @@ pub fn choose<A: Allocator>(
 ) -> usize
     requires lengths { length bound.now ≡ length size.now }
     requires range { ListsBelow (length size.now) lists.old.items }
-    requires some { (b : ℕ) × (i : ℕ) × (least.old ≤ b) × (has (live_in size.now bound.now b (list_at lists.old.items b)) i ≡ true) }
+    requires some { (b : ℕ) × (i : ℕ) × (least.old ≤ b) ×
+        (has (live_in size.now bound.now b (list_at lists.old.items b)) i ≡ true) }
     ensures chosen { Chosen size.now bound.now lists.old.items lists.new.items least.old least.new result }
     ensures range { ListsBelow (length size.now) lists.new.items }
 {
@@ -59,10 +60,13 @@ pub fn place_all<A: Allocator>(
     requires range { ListsBelow (length bound.now) lists.old.items }
     requires made { Below (length bound.now) made.now }
     requires small { (i : ℕ) → has made.now i ≡ true → num bound.now i < length bound.now }
-    ensures placed { OnOk result ((b : ℕ) → list_at lists.new.items b ≡ list_at lists.old.items b ++ filter (λ i. num bound.now i == b) made.now) }
+    ensures placed { OnOk result ((b : ℕ) → list_at lists.new.items b ≡ list_at lists.old.items b ++ filter
+        (λ i. num bound.now i == b) made.now) }
     ensures range { OnOk result (ListsBelow (length bound.now) lists.new.items) }
-    ensures least { OnOk result ((least.new ≤ least.old) × ((i : ℕ) → has made.now i ≡ true → least.new ≤ num bound.now i)) }
-    ensures one { OnOk result ((least.new ≡ least.old) ⊎ ((i : ℕ) × (has made.now i ≡ true) × (least.new ≡ num bound.now i))) }
+    ensures least { OnOk result ((least.new ≤ least.old) ×
+        ((i : ℕ) → has made.now i ≡ true → least.new ≤ num bound.now i)) }
+    ensures one { OnOk result ((least.new ≡ least.old) ⊎
+        ((i : ℕ) × (has made.now i ≡ true) × (least.new ≡ num bound.now i))) }
 {
     for i in made {
         let b = bound[*i];

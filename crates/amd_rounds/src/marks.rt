@@ -1,7 +1,9 @@
-// Marks of rows or elements: a test of numbers that a round sets and clears, and the lists that it gathers with them, each number
-// at its first occurrence. Source: Amestoy, Davis and Duff 1996. Called by `rounds`, `absorption` and `merging`.
+// Marks of rows or elements: a test of numbers that a round sets and clears, and the lists that it gathers with them,
+// each number at its first occurrence. Source: Amestoy, Davis and Duff 1996. Called by `rounds`, `absorption` and
+// `merging`.
 
-ghost use Rattle.std.specs.Prelude.{◌≡◌, ◌<◌, ◌||◌, ◌&&◌, ◌==◌, ◌++◌, not, ℕ, true, false, fold, flat_map, length, OnOk, IfOk};
+ghost use Rattle.std.specs.Prelude.{◌≡◌, ◌<◌, ◌||◌, ◌&&◌, ◌==◌, ◌++◌, not, ℕ, true, false, fold, flat_map, length};
+ghost use Rattle.std.specs.Prelude.{OnOk, IfOk};
 ghost use Rattle.amd_model.specs.Quotient.{add_new, has};
 ghost use Rattle.amd_rounds.specs.Views.{at, live_of, list_at, Below, ListsBelow, Clear};
 ghost use Rattle.amd_rounds.specs.Rounds.{firsts};
@@ -63,8 +65,10 @@ fn add_classes<A: Allocator>(
     requires range { Below (length marks.old.items) list.now }
     requires known { (j : ℕ) → has out.old.items j ≡ true → at marks.old.items j ≡ true }
     ensures size { length marks.new.items ≡ length marks.old.items }
-    ensures list { OnOk result (out.new.items ≡ fold (add_new (at marks.old.items)) out.old.items (live_of size.now list.now)) }
-    ensures marked { OnOk result ((j : ℕ) → at marks.new.items j ≡ (at marks.old.items j || has (live_of size.now list.now) j)) }
+    ensures list { OnOk result (out.new.items ≡ fold (add_new (at marks.old.items)) out.old.items
+        (live_of size.now list.now)) }
+    ensures marked { OnOk result ((j : ℕ) → at marks.new.items
+        j ≡ (at marks.old.items j || has (live_of size.now list.now) j)) }
 {
     for j in list {
         if size[*j] > 0 && !marks[*j] {
@@ -75,8 +79,8 @@ fn add_classes<A: Allocator>(
     Ok(())
 }
 
-/// The list of a new element: the classes of the pivot's elements, element after element, and then those of its variables, each
-/// at its first occurrence and without the pivot. They and the pivot are marked.
+/// The list of a new element: the classes of the pivot's elements, element after element, and then those of its
+/// variables, each at its first occurrence and without the pivot. They and the pivot are marked.
 pub fn front_of<A: Allocator + Copy>(
     alloc: A,
     pivot: usize,
@@ -91,7 +95,9 @@ pub fn front_of<A: Allocator + Copy>(
     requires members { ListsBelow (length size.now) lists.now.members.items }
     requires clear { Clear marks.old.items }
     ensures size { length marks.new.items ≡ length marks.old.items }
-    ensures list { IfOk result (λ front. front.items ≡ firsts (λ x. x == pivot) (flat_map (λ e. live_of size.now (list_at lists.now.members.items e)) (list_at lists.now.elements.items pivot) ++ live_of size.now (list_at lists.now.variables.items pivot))) }
+    ensures list { IfOk result (λ front. front.items ≡ firsts (λ x. x == pivot)
+        (flat_map (λ e. live_of size.now (list_at lists.now.members.items e)) (list_at lists.now.elements.items pivot)
+        ++ live_of size.now (list_at lists.now.variables.items pivot))) }
     ensures marked { IfOk result (λ front. (j : ℕ) → at marks.new.items j ≡ (j == pivot || has front.items j)) }
 {
     let mut front = Vec::new(alloc);
@@ -103,8 +109,8 @@ pub fn front_of<A: Allocator + Copy>(
     Ok(front)
 }
 
-/// The elements that hold a class of a list and not the pivot, each at its first occurrence. They and those of the pivot are
-/// marked.
+/// The elements that hold a class of a list and not the pivot, each at its first occurrence. They and those of the
+/// pivot are marked.
 pub fn touched_by<A: Allocator + Copy>(
     alloc: A,
     pivot: usize,
@@ -117,8 +123,10 @@ pub fn touched_by<A: Allocator + Copy>(
     requires range { Below (length marks.old.items) front.now }
     requires clear { Clear marks.old.items }
     ensures size { length marks.new.items ≡ length marks.old.items }
-    ensures list { IfOk result (λ out. out.items ≡ firsts (has (list_at elements.now.items pivot)) (flat_map (list_at elements.now.items) front.now)) }
-    ensures marked { IfOk result (λ out. (j : ℕ) → at marks.new.items j ≡ (has (list_at elements.now.items pivot) j || has out.items j)) }
+    ensures list { IfOk result (λ out. out.items ≡ firsts (has (list_at elements.now.items pivot))
+        (flat_map (list_at elements.now.items) front.now)) }
+    ensures marked { IfOk result (λ out. (j : ℕ) →
+        at marks.new.items j ≡ (has (list_at elements.now.items pivot) j || has out.items j)) }
 {
     let mut out = Vec::new(alloc);
     mark_all(marks, &elements[pivot]);

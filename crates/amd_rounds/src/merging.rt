@@ -1,9 +1,11 @@
-// Merging: classes of a new element that keep the same elements and the same variables become one, which the last of them
-// represents. Only classes of one group are compared: groups are made by the sum of the two lists modulo the number of rows. Of two
-// lists the lengths are compared before the entries. A *group* is a hash bucket; the lists of `buckets` are the degree lists.
-// Source: Amestoy, Davis and Duff 1996 (supervariables, found by a hash function). Called by `rounds`.
+// Merging: classes of a new element that keep the same elements and the same variables become one, which the last of
+// them represents. Only classes of one group are compared: groups are made by the sum of the two lists modulo the
+// number of rows. Of two lists the lengths are compared before the entries. A *group* is a hash bucket; the lists of
+// `buckets` are the degree lists. Source: Amestoy, Davis and Duff 1996 (supervariables, found by a hash function).
+// Called by `rounds`.
 
-ghost use Rattle.std.specs.Prelude.{[], ◌≡◌, ◌≢◌, ◌<◌, ◌^◌, ◌&&◌, ◌==◌, not, cond, ℕ, Some, true, filter, length, sum_by, OnOk, IfOk};
+ghost use Rattle.std.specs.Prelude.{[], ◌≡◌, ◌≢◌, ◌<◌, ◌^◌, ◌&&◌, ◌==◌, not, cond, ℕ, Some, true, filter, length};
+ghost use Rattle.std.specs.Prelude.{sum_by, OnOk, IfOk};
 ghost use Rattle.amd_model.specs.Quotient.{has, each, Once, last_that};
 ghost use Rattle.amd_rounds.specs.Views.{num, at, some_at, list_at, Below, ListsBelow, Clear};
 ghost use Rattle.amd_rounds.specs.Rounds.{alike_in};
@@ -70,9 +72,12 @@ fn first_alike<A: Allocator>(
     requires lists_variables { ListsBelow (length lists.now.elements.items) lists.now.variables.items }
     requires range { Below (length lists.now.elements.items) group.now }
     requires once { Once (list_at lists.now.elements.items i) × Once (list_at lists.now.variables.items i) }
-    requires group_once { (r : ℕ) → has group.now r ≡ true → Once (list_at lists.now.elements.items r) × Once (list_at lists.now.variables.items r) }
-    requires elements { (length elements.now ≡ length lists.now.elements.items) × ((j : ℕ) → at elements.now j ≡ has (list_at lists.now.elements.items i) j) }
-    requires rows { (length rows.now ≡ length lists.now.elements.items) × ((j : ℕ) → at rows.now j ≡ has (list_at lists.now.variables.items i) j) }
+    requires group_once { (r : ℕ) → has group.now r ≡ true → Once (list_at lists.now.elements.items r) ×
+        Once (list_at lists.now.variables.items r) }
+    requires elements { (length elements.now ≡ length lists.now.elements.items) ×
+        ((j : ℕ) → at elements.now j ≡ has (list_at lists.now.elements.items i) j) }
+    requires rows { (length rows.now ≡ length lists.now.elements.items) ×
+        ((j : ℕ) → at rows.now j ≡ has (list_at lists.now.variables.items i) j) }
     ensures { FoundIn lists.now.elements.items lists.now.variables.items i group.now result }
 {
     for r in group {
@@ -85,8 +90,8 @@ fn first_alike<A: Allocator>(
     None
 }
 
-/// The class of a group that keeps the same elements and the same variables as the class `i`, if there is one. The marks are
-/// clear before and after.
+/// The class of a group that keeps the same elements and the same variables as the class `i`, if there is one. The
+/// marks are clear before and after.
 fn representative_in<A: Allocator>(
     i: usize,
     group: &[usize],
@@ -99,7 +104,8 @@ fn representative_in<A: Allocator>(
     requires lists_variables { ListsBelow (length lists.now.elements.items) lists.now.variables.items }
     requires range { Below (length lists.now.elements.items) group.now }
     requires once { Once (list_at lists.now.elements.items i) × Once (list_at lists.now.variables.items i) }
-    requires group_once { (r : ℕ) → has group.now r ≡ true → Once (list_at lists.now.elements.items r) × Once (list_at lists.now.variables.items r) }
+    requires group_once { (r : ℕ) → has group.now r ≡ true → Once (list_at lists.now.elements.items r) ×
+        Once (list_at lists.now.variables.items r) }
     requires elements { (length elements.old.items ≡ length lists.now.elements.items) × Clear elements.old.items }
     requires rows { (length rows.old.items ≡ length lists.now.elements.items) × Clear rows.old.items }
     ensures found { FoundIn lists.now.elements.items lists.now.variables.items i group.now result }
@@ -128,8 +134,10 @@ fn represent<A: Allocator>(
     requires variables { ListsBelow (length lists.now.elements.items) lists.now.variables.items }
     requires once { Once (list_at lists.now.elements.items i) × Once (list_at lists.now.variables.items i) }
     requires ready { IsReady (length lists.now.elements.items) scratch.old }
-    requires group_once { (b : ℕ) (r : ℕ) → has (list_at scratch.old.groups.items b) r ≡ true → Once (list_at lists.now.elements.items r) × Once (list_at lists.now.variables.items r) }
-    ensures looked { OnOk result (Looked lists.now.elements.items lists.now.variables.items i (list_at scratch.old.groups.items) (list_at scratch.new.groups.items) (num scratch.new.into.items i)) }
+    requires group_once { (b : ℕ) (r : ℕ) → has (list_at scratch.old.groups.items b) r ≡ true →
+        Once (list_at lists.now.elements.items r) × Once (list_at lists.now.variables.items r) }
+    ensures looked { OnOk result (Looked lists.now.elements.items lists.now.variables.items i
+        (list_at scratch.old.groups.items) (list_at scratch.new.groups.items) (num scratch.new.into.items i)) }
     ensures others { OnOk result ((x : ℕ) → x ≢ i → num scratch.new.into.items x ≡ num scratch.old.into.items x) }
     ensures ready { OnOk result (IsReady (length lists.now.elements.items) scratch.new) }
     ensures beyond { OnOk result (scratch.new.beyond ≡ scratch.old.beyond) }
@@ -163,9 +171,13 @@ fn represent_all<A: Allocator>(
     requires variables { ListsBelow (length lists.now.elements.items) lists.now.variables.items }
     requires range { Below (length lists.now.elements.items) rest.now }
     requires once { Once rest.now }
-    requires lists_once { (i : ℕ) → has rest.now i ≡ true → Once (list_at lists.now.elements.items i) × Once (list_at lists.now.variables.items i) }
-    ensures into { OnOk result ((i : ℕ) → has rest.now i ≡ true → num scratch.new.into.items i ≡ last_that (alike_in lists.now.elements.items lists.now.variables.items i) i rest.now) }
-    ensures grouped { OnOk result (AreGrouped lists.now.elements.items lists.now.variables.items rest.now (list_at scratch.new.groups.items)) }
+    requires lists_once { (i : ℕ) → has rest.now i ≡ true → Once (list_at lists.now.elements.items i) ×
+        Once (list_at lists.now.variables.items i) }
+    ensures into { OnOk result ((i : ℕ) → has rest.now i ≡ true →
+        num scratch.new.into.items i ≡ last_that (alike_in lists.now.elements.items lists.now.variables.items i) i
+        rest.now) }
+    ensures grouped { OnOk result (AreGrouped lists.now.elements.items lists.now.variables.items rest.now
+        (list_at scratch.new.groups.items)) }
     ensures ready { OnOk result (IsReady (length lists.now.elements.items) scratch.new) }
     ensures beyond { OnOk result (scratch.new.beyond ≡ scratch.old.beyond) }
 {
@@ -182,7 +194,8 @@ fn empty_groups<A: Allocator>(rest: &[usize], lists: &Lists<A>, groups: &mut Vec
     requires variables { length lists.now.variables.items ≡ length lists.now.elements.items }
     requires range { Below (length lists.now.elements.items) rest.now }
     requires groups { length groups.old.items ≡ length lists.now.elements.items }
-    requires grouped { AreGrouped lists.now.elements.items lists.now.variables.items rest.now (list_at groups.old.items) }
+    requires grouped { AreGrouped lists.now.elements.items lists.now.variables.items rest.now
+        (list_at groups.old.items) }
     ensures size { length groups.new.items ≡ length groups.old.items }
     ensures empty { (b : ℕ) → list_at groups.new.items b ≡ [] }
 {
@@ -192,8 +205,8 @@ fn empty_groups<A: Allocator>(rest: &[usize], lists: &Lists<A>, groups: &mut Vec
     }
 }
 
-/// Finds the representative of each class of a list: the last one of the list that keeps the same elements and variables. Other
-/// places of `into` are left open.
+/// Finds the representative of each class of a list: the last one of the list that keeps the same elements and
+/// variables. Other places of `into` are left open.
 pub fn representatives<A: Allocator>(
     rest: &[usize],
     lists: &Lists<A>,
@@ -204,8 +217,11 @@ pub fn representatives<A: Allocator>(
     requires variables { ListsBelow (length lists.now.elements.items) lists.now.variables.items }
     requires range { Below (length lists.now.elements.items) rest.now }
     requires once { Once rest.now }
-    requires lists_once { (i : ℕ) → has rest.now i ≡ true → Once (list_at lists.now.elements.items i) × Once (list_at lists.now.variables.items i) }
-    ensures into { OnOk result ((i : ℕ) → has rest.now i ≡ true → num scratch.new.into.items i ≡ last_that (alike_in lists.now.elements.items lists.now.variables.items i) i rest.now) }
+    requires lists_once { (i : ℕ) → has rest.now i ≡ true → Once (list_at lists.now.elements.items i) ×
+        Once (list_at lists.now.variables.items i) }
+    ensures into { OnOk result ((i : ℕ) → has rest.now i ≡ true →
+        num scratch.new.into.items i ≡ last_that (alike_in lists.now.elements.items lists.now.variables.items i) i
+        rest.now) }
     ensures idle { OnOk result (IsIdle (length lists.now.elements.items) scratch.new) }
     ensures beyond { OnOk result (scratch.new.beyond ≡ scratch.old.beyond) }
 {
@@ -224,11 +240,16 @@ pub fn join<A: Allocator>(
     requires lengths { (length into.now ≡ length size.old.items) × (length link.old.items ≡ length size.old.items) }
     requires range { Below (length size.old.items) rest.now }
     requires once { Once rest.now }
-    requires into { (i : ℕ) → has rest.now i ≡ true → (has rest.now (num into.now i) ≡ true) × (num into.now (num into.now i) ≡ num into.now i) }
+    requires into { (i : ℕ) → has rest.now i ≡ true → (has rest.now (num into.now i) ≡ true) ×
+        (num into.now (num into.now i) ≡ num into.now i) }
     requires fits { sum_by (num size.old.items) rest.now < 2 ^ 64 }
-    ensures sizes { (x : ℕ) → num size.new.items x ≡ cond (has rest.now x) (cond (num into.now x == x) (sum_by (num size.old.items) (filter (λ j. num into.now j == x) rest.now)) 0) (num size.old.items x) }
-    ensures links { (x : ℕ) → some_at link.new.items x ≡ cond (has rest.now x && not (num into.now x == x)) (Some (num into.now x)) (some_at link.old.items x) }
-    ensures lengths { (length size.new.items ≡ length size.old.items) × (length link.new.items ≡ length link.old.items) }
+    ensures sizes { (x : ℕ) → num size.new.items x ≡ cond (has rest.now x)
+        (cond (num into.now x == x) (sum_by (num size.old.items) (filter (λ j. num into.now j == x) rest.now)) 0)
+        (num size.old.items x) }
+    ensures links { (x : ℕ) → some_at link.new.items x ≡ cond (has rest.now x && not (num into.now x == x))
+        (Some (num into.now x)) (some_at link.old.items x) }
+    ensures lengths { (length size.new.items ≡ length size.old.items) ×
+        (length link.new.items ≡ length link.old.items) }
 {
     for i in rest {
         let r = into[*i];

@@ -1,8 +1,7 @@
-// The rounds of an elimination that keeps the lists of the quotient graph (for each class its elements and its variables, for each
-// element its members), and one list of classes for each bound.
-// Source: Amestoy, Davis and Duff 1996 and 2004. Called by `plain_1` of the crate `amd_engine`.
-// The goals of the functions that call many parts are answered by hand (`tactic(none)`): a search through all that the parts say
-// takes minutes.
+// The rounds of an elimination that keeps the lists of the quotient graph (for each class its elements and its
+// variables, for each element its members), and one list of classes for each bound. Source: Amestoy, Davis and Duff
+// 1996 and 2004. Called by `plain_1` of the crate `amd_engine`. The goals of the functions that call many parts are
+// answered by hand (`tactic(none)`): a search through all that the parts say takes minutes.
 
 ghost use Rattle.std.specs.Prelude.{◌≡◌, ◌<◌, ◌≤◌, ◌+◌, ◌^◌, ℕ, Bool, true, length, sum_by, IfOk, OnOk};
 ghost use Rattle.amd_model.specs.Graph.{Graph};
@@ -22,15 +21,16 @@ use crate::work::Work;
 use amd_numbers::amd::Control;
 use std::alloc::{AllocError, Allocator};
 
-/// Chooses a pivot and makes its element: it absorbs what it may, and the classes of its front keep what is left. Answers the pivot
-/// and the front.
+/// Chooses a pivot and makes its element: it absorbs what it may, and the classes of its front keep what is left.
+/// Answers the pivot and the front.
 #[tactic(none)]
 fn make_element<A: Allocator + Copy>(
     work: &mut Work<A>,
     aggressive: bool,
 ) -> Result<(usize, Vec<usize, A>), AllocError>
     requires sized { IsSized (length work.old.size.items) work.old }
-    requires some { (b : ℕ) × (i : ℕ) × (work.old.least ≤ b) × (has (live_in work.old.size.items work.old.bound.items b (list_at work.old.placed.items b)) i ≡ true) }
+    requires some { (b : ℕ) × (i : ℕ) × (work.old.least ≤ b) ×
+        (has (live_in work.old.size.items work.old.bound.items b (list_at work.old.placed.items b)) i ≡ true) }
     ensures makes { IfOk result (λ r. MakesElement aggressive r.0 r.1.items work.old work.new) }
 {
     let pivot = choose(&mut work.placed, &mut work.least, &work.size, &work.bound);
@@ -56,8 +56,8 @@ fn make_element<A: Allocator + Copy>(
     Ok((pivot, front))
 }
 
-/// Eliminates the pivot and the classes of its front that keep nothing, and merges others that are alike. Answers the classes that
-/// are left, and the numbers of rows of the border and of the block.
+/// Eliminates the pivot and the classes of its front that keep nothing, and merges others that are alike. Answers the
+/// classes that are left, and the numbers of rows of the border and of the block.
 #[tactic(none)]
 fn merge_classes<A: Allocator + Copy>(
     work: &mut Work<A>,
@@ -68,7 +68,8 @@ fn merge_classes<A: Allocator + Copy>(
     requires pivot { pivot < length work.old.size.items }
     requires range { Below (length work.old.size.items) front.now }
     requires once { Once front.now }
-    requires lists_once { (i : ℕ) → has front.now i ≡ true → Once (list_at work.old.lists.elements.items i) × Once (list_at work.old.lists.variables.items i) }
+    requires lists_once { (i : ℕ) → has front.now i ≡ true → Once (list_at work.old.lists.elements.items i) ×
+        Once (list_at work.old.lists.variables.items i) }
     requires live { num work.old.size.items pivot + sum_by (num work.old.size.items) front.now ≤ work.old.live }
     ensures merges { IfOk result (λ r. MergesClasses pivot front.now r.0.items r.1 r.2 work.old work.new) }
 {
@@ -97,7 +98,8 @@ fn renew_classes<A: Allocator + Copy>(
     requires pivot { pivot < length work.old.size.items }
     requires range { Below (length work.old.size.items) made.items }
     requires once { Once made.items }
-    requires sizes { (i : ℕ) → has made.items i ≡ true → (num work.old.size.items i ≤ border) × (num work.old.size.items i ≤ work.old.live) × (0 < num work.old.size.items i) }
+    requires sizes { (i : ℕ) → has made.items i ≡ true → (num work.old.size.items i ≤ border) ×
+        (num work.old.size.items i ≤ work.old.live) × (0 < num work.old.size.items i) }
     requires small { (i : ℕ) → has made.items i ≡ true → num work.old.bound.items i < length work.old.size.items }
     requires live { work.old.live + block ≤ length work.old.size.items }
     requires border { border ≤ work.old.live }
@@ -122,16 +124,17 @@ fn renew_classes<A: Allocator + Copy>(
     Ok(())
 }
 
-/// One round: chooses a pivot, makes its element, and gives the classes of the element their new lists, numbers of rows and bounds.
-/// A row must be live. The contract says what the record stands for; the rest (entries at what is no class or element, stale
-/// entries, how low `least` is) is left open.
+/// One round: chooses a pivot, makes its element, and gives the classes of the element their new lists, numbers of rows
+/// and bounds. A row must be live. The contract says what the record stands for; the rest (entries at what is no class
+/// or element, stale entries, how low `least` is) is left open.
 ///
 /// # Errors
 ///
 /// `AllocError` for a refused request. What the record then holds is not said.
 #[tactic(none)]
 pub fn round<A: Allocator + Copy>(work: &mut Work<A>, control: &Control) -> Result<(), AllocError>
-    requires stands { (g : Graph) × (dense : ℕ → Bool) × (t : QuotientGraph) × (s : State) × Stands g dense work.old t s }
+    requires stands { (g : Graph) × (dense : ℕ → Bool) × (t : QuotientGraph) × (s : State) ×
+        Stands g dense work.old t s }
     requires left { 0 < work.old.live }
     ensures round { OnOk result (IsRound control.now.aggressive work.old work.new) }
     ensures fewer { OnOk result (work.new.live < work.old.live) }
@@ -141,8 +144,8 @@ pub fn round<A: Allocator + Copy>(work: &mut Work<A>, control: &Control) -> Resu
     renew_classes(work, pivot, made, border, block)
 }
 
-/// Rounds until no row is live. The contract says what the record stands for; the rest (entries at what is no class or element,
-/// stale entries, how low `least` is) is left open.
+/// Rounds until no row is live. The contract says what the record stands for; the rest (entries at what is no class or
+/// element, stale entries, how low `least` is) is left open.
 ///
 /// # Errors
 ///
@@ -151,7 +154,8 @@ pub fn eliminate<A: Allocator + Copy>(
     work: &mut Work<A>,
     control: &Control,
 ) -> Result<(), AllocError>
-    requires stands { (g : Graph) × (dense : ℕ → Bool) × (t : QuotientGraph) × (s : State) × Stands g dense work.old t s }
+    requires stands { (g : Graph) × (dense : ℕ → Bool) × (t : QuotientGraph) × (s : State) ×
+        Stands g dense work.old t s }
     ensures rounds { OnOk result (AreRounds control.now.aggressive work.old work.new) }
     ensures end { OnOk result (NoRowIsLive work.new) }
 {

@@ -1,6 +1,6 @@
-// The start of an elimination: the rows that are neither held last nor empty are classes of their own, each placed under its degree,
-// and the other empty rows are elements. Source: Amestoy, Davis and Duff 1996; the AMD user guide on dense rows. Called by `plain_1`
-// of the crate `amd_engine`.
+// The start of an elimination: the rows that are neither held last nor empty are classes of their own, each placed
+// under its degree, and the other empty rows are elements. Source: Amestoy, Davis and Duff 1996; the AMD user guide on
+// dense rows. Called by `plain_1` of the crate `amd_engine`.
 
 ghost use Rattle.std.specs.Prelude.{◌≡◌, ◌==◌, ◌&&◌, ◌<◌, ℕ, [], not, cond, nat_eq, nat_lt, length, IfOk};
 ghost use Rattle.amd_model.specs.Below.{count_below, list_below};
@@ -41,7 +41,8 @@ fn first_sizes<A: Allocator + Copy>(
 ) -> Result<Vec<usize, A>, AllocError>
     requires lengths { length last.now ≡ length degrees.now }
     ensures size { IfOk result (λ v. length v.items ≡ length degrees.now) }
-    ensures numbers { IfOk result (λ v. (i : ℕ) → i < length degrees.now → num v.items i ≡ cond (nat_lt 0 (num degrees.now i) && not (at last.now i)) 1 0) }
+    ensures numbers { IfOk result (λ v. (i : ℕ) → i < length degrees.now →
+        num v.items i ≡ cond (nat_lt 0 (num degrees.now i) && not (at last.now i)) 1 0) }
 {
     let mut sizes = Vec::with_capacity(alloc, degrees.len())?;
     'rows: for i in 0..degrees.len() {
@@ -65,7 +66,8 @@ fn first_blocks<A: Allocator + Copy>(
 ) -> Result<Vec<usize, A>, AllocError>
     requires lengths { length last.now ≡ length degrees.now }
     ensures size { IfOk result (λ v. length v.items ≡ length degrees.now) }
-    ensures numbers { IfOk result (λ v. (i : ℕ) → i < length degrees.now → num v.items i ≡ cond (nat_eq (num degrees.now i) 0 && not (at last.now i)) 1 0) }
+    ensures numbers { IfOk result (λ v. (i : ℕ) → i < length degrees.now →
+        num v.items i ≡ cond (nat_eq (num degrees.now i) 0 && not (at last.now i)) 1 0) }
 {
     let mut blocks = Vec::with_capacity(alloc, degrees.len())?;
     'rows: for i in 0..degrees.len() {
@@ -83,7 +85,8 @@ fn first_placed<A: Allocator + Copy>(
     requires lengths { length size.now ≡ length degrees.now }
     requires degrees { Below (length degrees.now) degrees.now }
     ensures size { IfOk result (λ v. ListsBelow (length degrees.now) v.items) }
-    ensures lists { IfOk result (λ v. (b : ℕ) → list_at v.items b ≡ list_below (length degrees.now) (λ i. nat_lt 0 (num size.now i) && num degrees.now i == b)) }
+    ensures lists { IfOk result (λ v. (b : ℕ) → list_at v.items b ≡ list_below (length degrees.now)
+        (λ i. nat_lt 0 (num size.now i) && num degrees.now i == b)) }
 {
     let mut placed = empty_lists(alloc, degrees.len())?;
     'rows: for i in 0..degrees.len() {
@@ -133,9 +136,10 @@ fn scratch<A: Allocator + Copy>(alloc: A, n: usize) -> Result<Scratch<A>, AllocE
     })
 }
 
-/// The start of an elimination of a matrix whose rows have the neighbours `rows` and as many of them as `degrees` says; the rows
-/// marked in `last` are held last, empty ones too. The contract says what the record stands for; the rest (entries at what is no
-/// class or element, stale entries, how low `least` is) is left open. Of rows and degrees that no graph has it says nothing.
+/// The start of an elimination of a matrix whose rows have the neighbours `rows` and as many of them as `degrees` says;
+/// the rows marked in `last` are held last, empty ones too. The contract says what the record stands for; the rest
+/// (entries at what is no class or element, stale entries, how low `least` is) is left open. Of rows and degrees that
+/// no graph has it says nothing.
 ///
 /// # Errors
 ///

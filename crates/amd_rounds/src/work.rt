@@ -1,11 +1,12 @@
-// What an elimination keeps between two rounds. Source: Amestoy, Davis and Duff 1996 (quotient graph). Filled by `start`, changed
-// by `rounds`.
+// What an elimination keeps between two rounds. Source: Amestoy, Davis and Duff 1996 (quotient graph). Filled by
+// `start`, changed by `rounds`.
 
 use amd_numbers::figures::Figures;
 use std::alloc::Allocator;
 
-/// The lists of the quotient graph: for each class its elements and its variables, for each element its members. Rows, classes and
-/// elements are numbers below the size of the matrix: a class is named by its representative, and an element by its pivot row.
+/// The lists of the quotient graph: for each class its elements and its variables, for each element its members. Rows,
+/// classes and elements are numbers below the size of the matrix: a class is named by its representative, and an
+/// element by its pivot row.
 #[derive(Drop)]
 pub struct Lists<A: Allocator> {
     /// The direct neighbours of each class. What is a class no longer may stand among them.
@@ -16,7 +17,8 @@ pub struct Lists<A: Allocator> {
     pub members: Vec<Vec<usize, A>, A>,
 }
 
-/// Room for a round: marks, which are clear between rounds, groups, which are empty then, and numbers that mean nothing then.
+/// Room for a round: marks, which are clear between rounds, groups, which are empty then, and numbers that mean nothing
+/// then.
 #[derive(Drop)]
 pub struct Scratch<A: Allocator> {
     /// Marks of classes, and of the pivot.
@@ -48,7 +50,8 @@ pub struct Work<A: Allocator> {
     pub least: usize,
     /// The number of rows that are live.
     pub live: usize,
-    /// For a row that was merged the row of the class that it went into, and for one that was mass-eliminated the pivot.
+    /// For a row that was merged the row of the class that it went into, and for one that was mass-eliminated the
+    /// pivot.
     pub link: Vec<Option<usize>, A>,
     /// The parent of each absorbed element.
     pub parent: Vec<Option<usize>, A>,

@@ -6,28 +6,30 @@ use Rattle.amd_factor.specs.Columns.{HoldFactor, PassesRoom}
 use Rattle.amd_factor.specs.Earlier.{Permutes}
 use Rattle.amd.specs.Answers.{IsInputHolding}
 use Rattle.amd_symbolic.specs.declared.factor.Fault.{Fault}
-use Rattle.amd_symbolic.specs.declared.factor.Fault.TheVariants.{NotColumnForm, NotPermutation, RoomTooSmall, OutOfMemory}
+use Rattle.amd_symbolic.specs.declared.factor.Fault.TheVariants.{NotColumnForm, NotPermutation, RoomTooSmall}
+use Rattle.amd_symbolic.specs.declared.factor.Fault.TheVariants.{OutOfMemory}
 
--- the vectors hold the factor of a matrix with n rows under the order p, which lists each row once; where n is not 0 the matrix is a
--- column form
+-- the vectors hold the factor of a matrix with n rows under the order p, which lists each row once; where n is not 0
+-- the matrix is a column form
 pub record IsFactorOf (n : ℤ) (ap ai p : List ℤ) (ptr rows : List ℕ) (parent : List (Option ℕ)) : Type 0 where
   pub form : n ≢ pos 0 → IsInput n n ap ai
   pub order : List ℕ
   pub permutes : Permutes (unsigned_abs n) p order
   pub holds : HoldFactor (graph_of (unsigned_abs n) ap ai) order ptr rows parent
 
--- a fault of `columns`: the first that there is, in the order of the variants, but for want of memory, which may come before the
--- two in the middle are decided
+-- a fault of `columns`: the first that there is, in the order of the variants, but for want of memory, which may come
+-- before the two in the middle are decided
 abbrev pub IsFault : ℤ → List ℤ → List ℤ → List ℤ → ℕ → Fault → Type 0
 IsFault n ap ai p room NotColumnForm = (n ≢ pos 0) × (¬ (IsInput n n ap ai))
-IsFault n ap ai p room NotPermutation = (n ≢ pos 0 → IsInput n n ap ai) × ((order : List ℕ) → ¬ (Permutes (unsigned_abs n) p order))
+IsFault n ap ai p room NotPermutation = (n ≢ pos 0 → IsInput n n ap ai) ×
+    ((order : List ℕ) → ¬ (Permutes (unsigned_abs n) p order))
 IsFault n ap ai p room RoomTooSmall =
     (n ≢ pos 0 → IsInput n n ap ai) × (order : List ℕ) × Permutes (unsigned_abs n) p order ×
     PassesRoom (graph_of (unsigned_abs n) ap ai) order room
 IsFault n ap ai p room OutOfMemory = n ≢ pos 0 → IsInput n n ap ai
 
--- a fault of an analysis: `NotColumnForm` exactly where n is not 0 and the input is no column form, or has not a mark for each row
--- where it has marks; `OutOfMemory` only for another input
+-- a fault of an analysis: `NotColumnForm` exactly where n is not 0 and the input is no column form, or has not a mark
+-- for each row where it has marks; `OutOfMemory` only for another input
 abbrev pub IsFaultHolding : Option (List Bool) → ℤ → List ℤ → List ℤ → Fault → Type 0
 IsFaultHolding hold n ap ai NotColumnForm = (n ≢ pos 0) × (¬ (IsInputHolding hold n ap ai))
 IsFaultHolding hold n ap ai NotPermutation = ⊥

@@ -1,5 +1,5 @@
--- Laws of a factor in vectors: its parents are the elimination tree, its rows are subtrees, there is one, and the record of an
--- ordering bounds it. Source: Liu 1986, 1990.
+-- Laws of a factor in vectors: its parents are the elimination tree, its rows are subtrees, there is one, and the
+-- record of an ordering bounds it. Source: Liu 1986, 1990.
 use Rattle.std.specs.Prelude.{ℕ, ℤ, Bool, ◌≡◌, ◌<◌, ◌≤◌, ◌+◌, ◌-◌, ◌↔◌, List, Contains, Option, None, Some, length}
 use Rattle.std.specs.Prelude.{slice_index, slice_index_or, slice_range, unsigned_abs}
 use Rattle.amd_model.specs.Below.{sum_below}
@@ -20,8 +20,8 @@ size_of ptr k = slice_index ptr (k + 1) - slice_index ptr k
 abbrev pub column_of : List ℕ → List ℕ → ℕ → List ℕ
 column_of ptr rows k = slice_range rows (slice_index ptr k) (slice_index ptr (k + 1))
 
--- what the parent of column k tells: none, that the column is empty; and some, that it is the first entry of the column and the
--- parent in the elimination tree
+-- what the parent of column k tells: none, that the column is empty; and some, that it is the first entry of the column
+-- and the parent in the elimination tree
 abbrev pub TellsTree : Graph → List ℕ → List ℕ → List ℕ → ℕ → Option ℕ → Type 0
 TellsTree g order ptr rows k None = slice_index ptr (k + 1) ≡ slice_index ptr k
 TellsTree g order ptr rows k (Some j) =
@@ -30,14 +30,16 @@ TellsTree g order ptr rows k (Some j) =
 -- the parents tell the elimination tree
 abbrev pub ParentsTellTree : Type 0
 ParentsTellTree =
-    (n : ℤ) (ap ai p : List ℤ) (ptr rows order : List ℕ) (parent : List (Option ℕ)) → IsFactorOf n ap ai p ptr rows parent →
+    (n : ℤ) (ap ai p : List ℤ) (ptr rows order : List ℕ) (parent : List (Option ℕ)) →
+    IsFactorOf n ap ai p ptr rows parent →
     Permutes (unsigned_abs n) p order → (k : ℕ) → k < unsigned_abs n →
     TellsTree (graph_of (unsigned_abs n) ap ai) order ptr rows k (slice_index_or parent k None)
 
 -- column k has the entry j exactly where k lies in the subtree of row j
 abbrev pub RowsTellSubtrees : Type 0
 RowsTellSubtrees =
-    (n : ℤ) (ap ai p : List ℤ) (ptr rows order : List ℕ) (parent : List (Option ℕ)) → IsFactorOf n ap ai p ptr rows parent →
+    (n : ℤ) (ap ai p : List ℤ) (ptr rows order : List ℕ) (parent : List (Option ℕ)) →
+    IsFactorOf n ap ai p ptr rows parent →
     Permutes (unsigned_abs n) p order → (k j : ℕ) → k < j → j < unsigned_abs n →
     Contains (column_of ptr rows k) j ↔ InSubtree (graph_of (unsigned_abs n) ap ai) order j k
 
@@ -52,13 +54,16 @@ ThereIsOneFactor =
 pub record FiguresBound (n : ℕ) (ptr rows : List ℕ) (info : Info) : Type 0 where
   pub lnz : info.lnz < 18446744073709551615 → length rows ≤ info.lnz
   pub divisions : info.n_div < 18446744073709551615 → length rows ≤ info.n_div
-  pub ldl : info.n_mult_subs_ldl < 18446744073709551615 → sum_below n (λ k. ldl_steps (size_of ptr k)) ≤ info.n_mult_subs_ldl
-  pub lu : info.n_mult_subs_lu < 18446744073709551615 → sum_below n (λ k. lu_steps (size_of ptr k)) ≤ info.n_mult_subs_lu
+  pub ldl : info.n_mult_subs_ldl < 18446744073709551615 →
+      sum_below n (λ k. ldl_steps (size_of ptr k)) ≤ info.n_mult_subs_ldl
+  pub lu : info.n_mult_subs_lu < 18446744073709551615 →
+      sum_below n (λ k. lu_steps (size_of ptr k)) ≤ info.n_mult_subs_lu
   pub greatest : (k : ℕ) → k < n → size_of ptr k + 1 ≤ info.d_max
 
 -- the record of an ordering bounds the factor under its order
 abbrev pub FiguresReserve : Type 0
 FiguresReserve =
     (hold : Option (List Bool)) (n t : ℤ) (aggressive : Bool) (ap ai p q : List ℤ) (info : Info) (ptr rows : List ℕ)
-    (parent : List (Option ℕ)) → IsOrderingHolding hold n t aggressive ap ai p q info → IsFactorOf n ap ai p ptr rows parent →
+    (parent : List (Option ℕ)) → IsOrderingHolding hold n t aggressive ap ai p q info →
+    IsFactorOf n ap ai p ptr rows parent →
     FiguresBound (unsigned_abs n) ptr rows info

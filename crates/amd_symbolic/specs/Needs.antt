@@ -8,7 +8,8 @@ use Rattle.amd_symbolic.specs.declared.needs.Need.{Need}
 pub record TellSizes (columns : List (List ℕ)) (ptr : List ℕ) : Type 0 where
   pub pointers : length ptr ≡ length columns + 1
   pub first : slice_index ptr 0 ≡ 0
-  pub ends : (k : ℕ) (d : List ℕ) → k < length columns → slice_index ptr (k + 1) ≡ slice_index ptr k + length (slice_index_or columns k d)
+  pub ends : (k : ℕ) (d : List ℕ) → k < length columns → slice_index ptr (k + 1) ≡ slice_index ptr k
+      + length (slice_index_or columns k d)
 
 -- the needs of a factor with these columns
 pub record IsNeed (columns : List (List ℕ)) (need : Need) : Type 0 where

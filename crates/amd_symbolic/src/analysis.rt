@@ -1,5 +1,5 @@
-// An ordering and the factor under it in one call: the record of the ordering tells a room that is never too small. Called by:
-// whoever wants both.
+// An ordering and the factor under it in one call: the record of the ordering tells a room that is never too small.
+// Called by: whoever wants both.
 
 ghost use Rattle.std.specs.Prelude.{◌≡◌, ◌≢◌, ℤ, Bool, Option, List, Some, map, IfOk, IfErr};
 ghost use Rattle.amd.specs.Answers.{IsOrdering, IsOrderingHolding};
@@ -20,8 +20,11 @@ fn reserved_columns<I: PrimInt, A: Allocator + Copy>(
     info: &Info,
 ) -> Result<Factor<A>, Fault>
     requires fits { I.fits (I.value n) }
-    requires ordering { (hold : Option (List Bool)) × (t : ℤ) × (aggressive : Bool) × (q : List ℤ) × IsOrderingHolding hold (I.value n) t aggressive (map I.value a_p.now) (map I.value a_i.now) (map I.value p.now) q info.now }
-    ensures factor { IfOk result (λ f. IsFactorOf (I.value n) (map I.value a_p.now) (map I.value a_i.now) (map I.value p.now) f.ptr.items f.rows.items f.parent.items) }
+    requires ordering { (hold : Option (List Bool)) × (t : ℤ) × (aggressive : Bool) × (q : List ℤ) ×
+        IsOrderingHolding hold (I.value n) t aggressive (map I.value a_p.now) (map I.value a_i.now) (map I.value p.now)
+        q info.now }
+    ensures factor { IfOk result (λ f. IsFactorOf (I.value n) (map I.value a_p.now) (map I.value a_i.now)
+        (map I.value p.now) f.ptr.items f.rows.items f.parent.items) }
     ensures fault { IfErr result (λ e. e ≡ Fault.OutOfMemory) }
 {
     if info.lnz == usize::MAX {
@@ -47,16 +50,16 @@ fn fault_of(refusal: Status) -> Fault
     }
 }
 
-/// Orders as [`amd::order`] does, and answers the permutation `p`, its inverse, the record, and the factor under `p` as [`columns`]
-/// does with this order and `info.lnz` as room, which is never too small.
+/// Orders as [`amd::order`] does, and answers the permutation `p`, its inverse, the record, and the factor under `p` as
+/// [`columns`] does with this order and `info.lnz` as room, which is never too small.
 ///
 /// For `n = 0` two empty vectors, `Info::new(0)` and a factor of which `ptr` is `[0]`, whatever the pointers are.
 ///
 /// # Errors
 ///
-/// `NotColumnForm` exactly where `n` is not 0 and the input is no column form; no memory is asked before. `OutOfMemory` where an
-/// allocation was refused, the workspace would have more than the greatest `isize` of words, or `lnz` is the greatest `usize`. No
-/// other fault.
+/// `NotColumnForm` exactly where `n` is not 0 and the input is no column form; no memory is asked before. `OutOfMemory`
+/// where an allocation was refused, the workspace would have more than the greatest `isize` of words, or `lnz` is the
+/// greatest `usize`. No other fault.
 pub fn analyze<I: PrimInt, A: Allocator + Copy>(
     alloc: A,
     n: I,
@@ -66,8 +69,10 @@ pub fn analyze<I: PrimInt, A: Allocator + Copy>(
 ) -> Result<(Vec<I, A>, Vec<I, A>, Info, Factor<A>), Fault>
     // A number of a primitive type is always in range.
     requires fits { I.fits (I.value n) }
-    ensures ordering { IfOk result (λ a. IsOrdering (I.value n) control.now.dense control.now.aggressive (map I.value a_p.now) (map I.value a_i.now) (map I.value a.0.items) (map I.value a.1.items) a.2) }
-    ensures factor { IfOk result (λ a. IsFactorOf (I.value n) (map I.value a_p.now) (map I.value a_i.now) (map I.value a.0.items) a.3.ptr.items a.3.rows.items a.3.parent.items) }
+    ensures ordering { IfOk result (λ a. IsOrdering (I.value n) control.now.dense control.now.aggressive
+        (map I.value a_p.now) (map I.value a_i.now) (map I.value a.0.items) (map I.value a.1.items) a.2) }
+    ensures factor { IfOk result (λ a. IsFactorOf (I.value n) (map I.value a_p.now) (map I.value a_i.now)
+        (map I.value a.0.items) a.3.ptr.items a.3.rows.items a.3.parent.items) }
     ensures fault { IfErr result (λ e. IsAnalysisFault (I.value n) (map I.value a_p.now) (map I.value a_i.now) e) }
 {
     let (p, p_inv, info) = match order(alloc, n, a_p, a_i, control) {
@@ -83,8 +88,8 @@ pub fn analyze<I: PrimInt, A: Allocator + Copy>(
 ///
 /// # Errors
 ///
-/// `NotColumnForm` exactly where `order_holding` answers `Invalid`: `n` is not 0 and the input is no column form, or `hold` has not
-/// one mark for each of the `n` rows. `OutOfMemory` as `analyze`. No other fault.
+/// `NotColumnForm` exactly where `order_holding` answers `Invalid`: `n` is not 0 and the input is no column form, or
+/// `hold` has not one mark for each of the `n` rows. `OutOfMemory` as `analyze`. No other fault.
 pub fn analyze_holding<I: PrimInt, A: Allocator + Copy>(
     alloc: A,
     n: I,
@@ -95,9 +100,13 @@ pub fn analyze_holding<I: PrimInt, A: Allocator + Copy>(
 ) -> Result<(Vec<I, A>, Vec<I, A>, Info, Factor<A>), Fault>
     // A number of a primitive type is always in range.
     requires fits { I.fits (I.value n) }
-    ensures ordering { IfOk result (λ a. IsOrderingHolding (Some hold.now) (I.value n) control.now.dense control.now.aggressive (map I.value a_p.now) (map I.value a_i.now) (map I.value a.0.items) (map I.value a.1.items) a.2) }
-    ensures factor { IfOk result (λ a. IsFactorOf (I.value n) (map I.value a_p.now) (map I.value a_i.now) (map I.value a.0.items) a.3.ptr.items a.3.rows.items a.3.parent.items) }
-    ensures fault { IfErr result (λ e. IsFaultHolding (Some hold.now) (I.value n) (map I.value a_p.now) (map I.value a_i.now) e) }
+    ensures ordering { IfOk result (λ a. IsOrderingHolding (Some hold.now) (I.value n) control.now.dense
+        control.now.aggressive (map I.value a_p.now) (map I.value a_i.now) (map I.value a.0.items)
+        (map I.value a.1.items) a.2) }
+    ensures factor { IfOk result (λ a. IsFactorOf (I.value n) (map I.value a_p.now) (map I.value a_i.now)
+        (map I.value a.0.items) a.3.ptr.items a.3.rows.items a.3.parent.items) }
+    ensures fault { IfErr result (λ e. IsFaultHolding (Some hold.now) (I.value n) (map I.value a_p.now)
+        (map I.value a_i.now) e) }
 {
     let (p, p_inv, info) = match order_holding(alloc, n, a_p, a_i, control, hold) {
         Ok(answer) => answer,

@@ -1,6 +1,7 @@
-// The columns of a factor under an order that a caller hands in: the input is tested, the lists of earlier neighbours are made, all
-// memory is taken, and then the columns are written without any. Source: the path theorem of sparse factorization (Rose, Tarjan
-// and Lueker 1976); Liu 1990. Called by `analysis`, by users, by the demos and by the crate `amd_c`.
+// The columns of a factor under an order that a caller hands in: the input is tested, the lists of earlier neighbours
+// are made, all memory is taken, and then the columns are written without any. Source: the path theorem of sparse
+// factorization (Rose, Tarjan and Lueker 1976); Liu 1990. Called by `analysis`, by users, by the demos and by the crate
+// `amd_c`.
 
 ghost use Rattle.std.specs.Prelude.{◌≡◌, ◌≤◌, ◌∷◌, [], pos, length, map, IfOk, IfErr, MatchOption};
 ghost use Rattle.amd_model.specs.Graph.{IsGraph};
@@ -35,15 +36,15 @@ pub struct Factor<A: Allocator> {
 /// Why there is no factor.
 #[derive(PartialEq, Clone, Debug, Drop)]
 pub enum Fault {
-    /// The input is no column form; `amd::order` tells what that is. `analyze_holding` answers it also where there is not one mark
-    /// for each row.
+    /// The input is no column form; `amd::order` tells what that is. `analyze_holding` answers it also where there is
+    /// not one mark for each row.
     NotColumnForm,
     /// The order does not list each row, once.
     NotPermutation,
     /// The factor has more entries than the room that the caller allows.
     RoomTooSmall,
-    /// Memory was refused; `analyze` and `analyze_holding` answer it also where `amd::order` does, and where its bound on the
-    /// entries is the greatest `usize`.
+    /// Memory was refused; `analyze` and `analyze_holding` answer it also where `amd::order` does, and where its bound
+    /// on the entries is the greatest `usize`.
     OutOfMemory,
 }
 
@@ -79,8 +80,8 @@ fn empty_factor<A: Allocator + Copy>(alloc: A) -> Result<Factor<A>, Fault>
     })
 }
 
-/// Takes all memory, for at most `room` entries, and writes the factor that the lists of earlier neighbours give; none, exactly
-/// where it has more entries.
+/// Takes all memory, for at most `room` entries, and writes the factor that the lists of earlier neighbours give; none,
+/// exactly where it has more entries.
 ///
 /// # Errors
 ///
@@ -94,7 +95,8 @@ fn written_factor<A: Allocator + Copy>(
     ghost o: { Order }
     requires laws { IsGraph o.graph }
     requires earlier { HasEarlier o starts.now earlier.now }
-    ensures factor { IfOk result (λ r. MatchOption r (PassesRoom o.graph o.rows room) (λ f. HoldFactor o.graph o.rows f.ptr.items f.rows.items f.parent.items)) }
+    ensures factor { IfOk result (λ r. MatchOption r (PassesRoom o.graph o.rows room)
+        (λ f. HoldFactor o.graph o.rows f.ptr.items f.rows.items f.parent.items)) }
     ensures room { IfOk result (λ r. MatchOption r (Unit {0}) (λ f. length f.rows.items ≤ room)) }
 {
     let columns = starts.len() - 1;
@@ -131,9 +133,11 @@ fn form_columns<I: PrimInt, A: Allocator + Copy>(
     requires form { IsColumnForm (pos size) size (map I.value a_p.now) (map I.value a_i.now) }
     requires graph { o.graph ≡ graph_of size (map I.value a_p.now) (map I.value a_i.now) }
     requires rows { o.rows ≡ counts (map I.value p.now) }
-    ensures factor { IfOk result (λ f. IsFactorOf (pos size) (map I.value a_p.now) (map I.value a_i.now) (map I.value p.now) f.ptr.items f.rows.items f.parent.items) }
+    ensures factor { IfOk result (λ f. IsFactorOf (pos size) (map I.value a_p.now) (map I.value a_i.now)
+        (map I.value p.now) f.ptr.items f.rows.items f.parent.items) }
     ensures room { IfOk result (λ f. length f.rows.items ≤ room) }
-    ensures fault { IfErr result (λ e. IsFault (pos size) (map I.value a_p.now) (map I.value a_i.now) (map I.value p.now) room e) }
+    ensures fault { IfErr result (λ e. IsFault (pos size) (map I.value a_p.now) (map I.value a_i.now)
+        (map I.value p.now) room e) }
 {
     let Some(places) = places(alloc, size, p)? else {
         return Err(Fault::NotPermutation);
@@ -145,17 +149,18 @@ fn form_columns<I: PrimInt, A: Allocator + Copy>(
     }
 }
 
-/// The columns of the factor of the square matrix with `n` columns whose column `j` holds the rows `a_i[a_p[j]..a_p[j + 1]]`, by the
-/// pattern of `A + A'`, under the order `p`: row `p[k]` stands at place `k`. Column `k` has the entry `j` where `k < j`, and a path of
-/// edges leads from row `p[k]` to row `p[j]` through rows that stand before place `k`.
+/// The columns of the factor of the square matrix with `n` columns whose column `j` holds the rows `a_i[a_p[j]..a_p[j +
+/// 1]]`, by the pattern of `A + A'`, under the order `p`: row `p[k]` stands at place `k`. Column `k` has the entry `j`
+/// where `k < j`, and a path of edges leads from row `p[k]` to row `p[j]` through rows that stand before place `k`.
 ///
 /// The answer has exactly these entries. It has `n + 1` pointers, `ptr[n]` entries, at most `room`, and `n` parents.
 ///
-/// The input is a column form as that of [`amd::order`], and is taken as it is: columns may be out of order and have repeats. `p` is
-/// any permutation of the rows. For `n = 0` the pointers and row indices are not looked at, `p` must be empty, and `ptr` is `[0]`.
+/// The input is a column form as that of [`amd::order`], and is taken as it is: columns may be out of order and have
+/// repeats. `p` is any permutation of the rows. For `n = 0` the pointers and row indices are not looked at, `p` must be
+/// empty, and `ptr` is `[0]`.
 ///
-/// Memory is asked for `room` entries, whatever the factor needs, and all of it before the first entry is written. The steps are as
-/// many as there are rows, entries of the matrix, entries of the factor, and `room`.
+/// Memory is asked for `room` entries, whatever the factor needs, and all of it before the first entry is written. The
+/// steps are as many as there are rows, entries of the matrix, entries of the factor, and `room`.
 ///
 /// # Errors
 ///
@@ -178,9 +183,11 @@ pub fn columns<I: PrimInt, A: Allocator + Copy>(
 ) -> Result<Factor<A>, Fault>
     // A number of a primitive type is always in range.
     requires fits { I.fits (I.value n) }
-    ensures factor { IfOk result (λ f. IsFactorOf (I.value n) (map I.value a_p.now) (map I.value a_i.now) (map I.value p.now) f.ptr.items f.rows.items f.parent.items) }
+    ensures factor { IfOk result (λ f. IsFactorOf (I.value n) (map I.value a_p.now) (map I.value a_i.now)
+        (map I.value p.now) f.ptr.items f.rows.items f.parent.items) }
     ensures room { IfOk result (λ f. length f.rows.items ≤ room) }
-    ensures fault { IfErr result (λ e. IsFault (I.value n) (map I.value a_p.now) (map I.value a_i.now) (map I.value p.now) room e) }
+    ensures fault { IfErr result (λ e. IsFault (I.value n) (map I.value a_p.now) (map I.value a_i.now)
+        (map I.value p.now) room e) }
 {
     let Some(size) = to_count(n) else {
         return Err(Fault::NotColumnForm);

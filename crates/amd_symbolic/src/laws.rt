@@ -1,15 +1,16 @@
-// Laws on the contracts of `columns`, `analyze` and `analyze_holding`, each the contract of a function with an empty body. Called by:
-// nobody.
+// Laws on the contracts of `columns`, `analyze` and `analyze_holding`, each the contract of a function with an empty
+// body. Called by: nobody.
 
 ghost use Rattle.amd_symbolic.specs.Laws.{FiguresReserve, ParentsTellTree, RowsTellSubtrees, ThereIsOneFactor};
 
-/// The parent of a column is its parent in the elimination tree, the first entry of the column. A column has none exactly where it
-/// is empty.
+/// The parent of a column is its parent in the elimination tree, the first entry of the column. A column has none
+/// exactly where it is empty.
 pub fn law_parents()
     ensures { ParentsTellTree }
 {}
 
-/// A column has an entry in a later row exactly where the column lies in the subtree of that row in the elimination tree.
+/// A column has an entry in a later row exactly where the column lies in the subtree of that row in the elimination
+/// tree.
 pub fn law_rows()
     ensures { RowsTellSubtrees }
 {}
@@ -19,9 +20,9 @@ pub fn law_one_factor()
     ensures { ThereIsOneFactor }
 {}
 
-/// The record of an ordering bounds the factor under its order: the number of entries is at most `lnz` and `n_div`, the steps of a
-/// factorization are at most `n_mult_subs_ldl` and `n_mult_subs_lu`, each where the figure was not cut, and a column with its
-/// diagonal has at most `d_max` entries.
+/// The record of an ordering bounds the factor under its order: the number of entries is at most `lnz` and `n_div`, the
+/// steps of a factorization are at most `n_mult_subs_ldl` and `n_mult_subs_lu`, each where the figure was not cut, and
+/// a column with its diagonal has at most `d_max` entries.
 pub fn law_figures_reserve()
     ensures { FiguresReserve }
 {}

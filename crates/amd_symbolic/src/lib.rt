@@ -1,8 +1,9 @@
-//! The exact columns of the factor of a sparse matrix: where its entries below the diagonal stand, and the elimination tree.
+//! The exact columns of the factor of a sparse matrix: where its entries below the diagonal stand, and the elimination
+//! tree.
 //!
-//! [`columns`] takes the pattern of a square matrix by columns and any order of its rows. [`analyze`] takes the order from
-//! [`amd::order`] and the room from its record, and [`analyze_holding`] does the same with rows that a caller wants last.
-//! [`needs::need_of`] sums what a factor needs.
+//! [`columns`] takes the pattern of a square matrix by columns and any order of its rows. [`analyze`] takes the order
+//! from [`amd::order`] and the room from its record, and [`analyze_holding`] does the same with rows that a caller
+//! wants last. [`needs::need_of`] sums what a factor needs.
 #![tactic(auto)]
 
 pub mod analysis;

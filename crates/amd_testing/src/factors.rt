@@ -1,5 +1,6 @@
-// The factor of a matrix whose rows stand in a given order, as the path theorem says it, found slowly: from each row a search
-// through the rows before it alone. No elimination occurs. Rows are named by their places. Called by tests alone.
+// The factor of a matrix whose rows stand in a given order, as the path theorem says it, found slowly: from each row a
+// search through the rows before it alone. No elimination occurs. Rows are named by their places. Called by tests
+// alone.
 
 use crate::plain::{count_at, is_edge};
 use std::alloc::{AllocError, AllocFailed, Allocator};
@@ -13,8 +14,8 @@ pub struct Factor<A: Allocator> {
     pub columns: Vec<Vec<usize, A>, A>,
 }
 
-/// What a factor needs: the sums of `c`, of `c (c + 1) / 2` and of `c^2` over the sizes `c` of its columns, and the size of
-/// the largest column with its diagonal, 0 where there is no column.
+/// What a factor needs: the sums of `c`, of `c (c + 1) / 2` and of `c^2` over the sizes `c` of its columns, and the
+/// size of the largest column with its diagonal, 0 where there is no column.
 #[derive(Clone, Copy, Debug, PartialEq, Drop)]
 pub struct Need {
     /// The entries, and the divisions.

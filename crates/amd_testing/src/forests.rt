@@ -1,10 +1,11 @@
-// Forests for tests, drawn from a seed, and their listing in postorder as it is said: by recursion, with a search for the
-// children of each node. Called by tests alone.
+// Forests for tests, drawn from a seed, and their listing in postorder as it is said: by recursion, with a search for
+// the children of each node. Called by tests alone.
 
 use crate::inputs::draw;
 use std::alloc::{AllocError, AllocFailed, Allocator};
 
-/// Elements with their parents. A place with `nv` above 0 holds an element; the rank of its parent is greater than its own.
+/// Elements with their parents. A place with `nv` above 0 holds an element; the rank of its parent is greater than its
+/// own.
 #[derive(Drop)]
 pub struct Forest<A: Allocator> {
     /// The parent of each element, -1 where it has none.

@@ -1,5 +1,5 @@
-// Families of inputs for tests, in column form with `n` rows and columns: named graphs, and matrices drawn from a seed by a
-// linear congruential generator. Called by tests alone.
+// Families of inputs for tests, in column form with `n` rows and columns: named graphs, and matrices drawn from a seed
+// by a linear congruential generator. Called by tests alone.
 
 ghost use Rattle.std.specs.Prelude.{◌≤◌};
 
@@ -19,8 +19,8 @@ fn push_rows<A: Allocator>(
     Ok(())
 }
 
-/// The column form of a list of entries, each a row and a column. A column has its rows in the order in which they stand there.
-/// This is slow: it takes `n` times as many steps as there are entries.
+/// The column form of a list of entries, each a row and a column. A column has its rows in the order in which they
+/// stand there. This is slow: it takes `n` times as many steps as there are entries.
 pub fn columns_of<A: Allocator + Copy>(
     alloc: A,
     n: i64,
@@ -92,8 +92,8 @@ pub fn cycle<A: Allocator + Copy>(
     columns_of(alloc, n, &entries)
 }
 
-/// A square grid with `side` rows of the matrix on each side, at least one: each is joined to the one on its right and to the
-/// one below it.
+/// A square grid with `side` rows of the matrix on each side, at least one: each is joined to the one on its right and
+/// to the one below it.
 pub fn grid<A: Allocator + Copy>(
     alloc: A,
     side: i64,
@@ -164,8 +164,8 @@ pub fn complete<A: Allocator + Copy>(
     columns_of(alloc, n, &entries)
 }
 
-/// Draws a number below `n`, or 0 where `n` is 0: the generator's state makes one step, and its upper 31 bits are taken. The
-/// factor and the summand are those of Knuth's generator for MMIX.
+/// Draws a number below `n`, or 0 where `n` is 0: the generator's state makes one step, and its upper 31 bits are
+/// taken. The factor and the summand are those of Knuth's generator for MMIX.
 pub fn draw(state: &mut u64, n: u64) -> i64 {
     *state = state
         .wrapping_mul(6364136223846793005)

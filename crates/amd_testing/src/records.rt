@@ -1,4 +1,5 @@
-// The record of an ordering as a list of its numbers, so that a test compares all of them at once. Called by tests alone.
+// The record of an ordering as a list of its numbers, so that a test compares all of them at once. Called by tests
+// alone.
 
 use amd_numbers::amd::Info;
 

@@ -1,5 +1,5 @@
-// An allocator for tests that refuses one request for memory, and counts requests and releases. Code that answers want of
-// memory is run with each request refused in turn, and must leave nothing behind. Called by tests alone.
+// An allocator for tests that refuses one request for memory, and counts requests and releases. Code that answers want
+// of memory is run with each request refused in turn, and must leave nothing behind. Called by tests alone.
 
 use std::alloc::{AllocError, Allocator, Global};
 use std::cell::Cell;
@@ -7,8 +7,8 @@ use std::cell::Cell;
 /// More requests than any call makes that a test runs with each of them refused.
 const MANY: u64 = 1000;
 
-/// Hands each request on to the allocator inside, but for the one that has the chosen number. A `&` to it is an allocator
-/// that can be copied.
+/// Hands each request on to the allocator inside, but for the one that has the chosen number. A `&` to it is an
+/// allocator that can be copied.
 pub struct Refusing<B: Allocator> {
     inner: B,
     // how many requests there are up to and with the one to refuse; it wraps below 0
@@ -110,9 +110,9 @@ fn slip_of<B: Allocator>(heap: &Refusing<B>, answered: bool) -> Option<Slip> {
     }
 }
 
-/// Makes a call with each of its requests refused in turn, until a run meets no refusal, and answers how many were refused. The
-/// call says whether it had an answer, which it has dropped. There must be one exactly where no request was refused, and after
-/// each run as many blocks must have come back as were granted.
+/// Makes a call with each of its requests refused in turn, until a run meets no refusal, and answers how many were
+/// refused. The call says whether it had an answer, which it has dropped. There must be one exactly where no request
+/// was refused, and after each run as many blocks must have come back as were granted.
 ///
 /// # Errors
 ///

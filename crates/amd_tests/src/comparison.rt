@@ -1,5 +1,5 @@
-// The calls beside the definitions in their plain form, on matrices drawn from seeds, jumbled and sorted, with and without a row
-// that has an edge to each other one.
+// The calls beside the definitions in their plain form, on matrices drawn from seeds, jumbled and sorted, with and
+// without a row that has an edge to each other one.
 
 use amd::aat::aat;
 use amd::preprocess::preprocess;

@@ -1,6 +1,6 @@
-// The figures of an ordering beside what the factor under its permutation needs, which is found by searches for paths. The
-// expected needs come from worked examples and from an independent program that follows the rules, which is no part of this
-// repository.
+// The figures of an ordering beside what the factor under its permutation needs, which is found by searches for paths.
+// The expected needs come from worked examples and from an independent program that follows the rules, which is no part
+// of this repository.
 
 use crate::worked::widened;
 use amd::{Control, Info, order};

@@ -1,6 +1,6 @@
-// Rows that a caller wants held last: worked matrices with their answers, marks that are not one for each row, refused memory,
-// answers with nothing held, and matrices drawn from seeds with rows drawn to be held. The worked answers are from a plain program
-// that follows the rules; where nothing is held, the answer must be that of `order`.
+// Rows that a caller wants held last: worked matrices with their answers, marks that are not one for each row, refused
+// memory, answers with nothing held, and matrices drawn from seeds with rows drawn to be held. The worked answers are
+// from a plain program that follows the rules; where nothing is held, the answer must be that of `order`.
 
 use crate::comparison::is_ordered;
 use crate::factors::check_bounds;
@@ -108,7 +108,8 @@ fn worked_matrices_and_each_request(rt: HostRuntime) {
     }
 }
 
-/// Marks of another length than the matrix, and a matrix that is no column form: no memory is asked before these answers.
+/// Marks of another length than the matrix, and a matrix that is no column form: no memory is asked before these
+/// answers.
 #[test]
 fn marks_that_are_not_one_for_each_row(rt: HostRuntime) {
     let heap = Refusing::new(rt.alloc(), 1);
@@ -178,7 +179,8 @@ pub fn check_nothing_held(
     Ok(())
 }
 
-/// Adds to the rows that are chosen about a fifth of all, drawn from a seed, and answers the marks of those that were drawn.
+/// Adds to the rows that are chosen about a fifth of all, drawn from a seed, and answers the marks of those that were
+/// drawn.
 fn draw_marks(alloc: Global, seed: u64, chosen: &mut [bool]) -> Result<Vec<bool>, AllocError> {
     let mut marks = Vec::new(alloc);
     let mut state = seed;
@@ -190,8 +192,8 @@ fn draw_marks(alloc: Global, seed: u64, chosen: &mut [bool]) -> Result<Vec<bool>
     Ok(marks)
 }
 
-/// Orders a matrix with drawn rows held, and asserts that exactly these and the dense ones stand last, rising, that they are
-/// counted, and that the figures bound what the factor needs.
+/// Orders a matrix with drawn rows held, and asserts that exactly these and the dense ones stand last, rising, that
+/// they are counted, and that the figures bound what the factor needs.
 fn check_drawn(
     rt: &impl Abort,
     alloc: Global,

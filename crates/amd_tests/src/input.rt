@@ -1,5 +1,5 @@
-// What is read of an input: degrees and figures of a pattern, and the transpose of a jumbled matrix. The answers were worked by
-// hand from the definition of a column form.
+// What is read of an input: degrees and figures of a pattern, and the transpose of a jumbled matrix. The answers were
+// worked by hand from the definition of a column form.
 
 use amd::aat::aat;
 use amd::preprocess::preprocess;

@@ -1,10 +1,9 @@
-//! Tests of the ordering through its calls: worked inputs with their answers, hostile inputs, refused memory, rows held last, and
-//! a comparison with the definitions in a plain form. The answers come from outside: worked by hand, from the Rust crate's demos, or from
-//! the Rust crate `amd` and an independent program that follows the rules, which is no part of this repository.
+//! Tests of the ordering through its calls: worked inputs with their answers, hostile inputs, refused memory, rows held
+//! last, and a comparison with the definitions in a plain form. The answers come from outside: worked by hand, from the
+//! Rust crate's demos, or from the Rust crate `amd` and an independent program that follows the rules, which is no part
+//! of this repository.
 #![tactic(auto)]
 
-#[cfg(test)]
-mod statuses;
 #[cfg(test)]
 mod comparison;
 #[cfg(test)]
@@ -21,5 +20,7 @@ mod numbers;
 mod patterns;
 #[cfg(test)]
 mod small_matrices;
+#[cfg(test)]
+mod statuses;
 #[cfg(test)]
 mod worked;

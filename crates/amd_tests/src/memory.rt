@@ -1,6 +1,6 @@
-// Refused memory: each request in turn is refused, until a run makes no request of that number. Each run that met a refusal
-// answers `OutOfMemory`, and the first one without gives the answer. After each of them as many blocks came back as were granted.
-// How many requests there are does not depend on the number of rounds.
+// Refused memory: each request in turn is refused, until a run makes no request of that number. Each run that met a
+// refusal answers `OutOfMemory`, and the first one without gives the answer. After each of them as many blocks came
+// back as were granted. How many requests there are does not depend on the number of rounds.
 
 use crate::patterns::CHOICES;
 use crate::small_matrices::SMALL_MATRICES;

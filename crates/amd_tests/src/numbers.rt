@@ -1,5 +1,5 @@
-// The twelve integer types: one input in each of them; both ends of each range, as the number of columns, as a pointer and as a
-// row; numbers of type `u128` past the greatest `usize`; and as many rows and entries as a type has.
+// The twelve integer types: one input in each of them; both ends of each range, as the number of columns, as a pointer
+// and as a row; numbers of type `u128` past the greatest `usize`; and as many rows and entries as a type has.
 
 use crate::factors::check_bounds;
 use amd::valid::valid;
@@ -90,8 +90,8 @@ fn a_four_cycle_in_each_type(rt: HostRuntime) -> Result<(), Fail> {
     Ok(())
 }
 
-/// Whether a number is refused as the number of columns, in lists of pointers to one or two columns, and as a row. The pointers are
-/// `[end, 1]`, `[0, end, 1]`, `[0, end]` and `[0, 1]`, and the rows `[0]` and `[end]`.
+/// Whether a number is refused as the number of columns, in lists of pointers to one or two columns, and as a row. The
+/// pointers are `[end, 1]`, `[0, end, 1]`, `[0, end]` and `[0, 1]`, and the rows `[0]` and `[end]`.
 fn refuses_end<I: PrimInt>(
     alloc: Global,
     end: I,
@@ -123,8 +123,8 @@ fn ignores_rest<I: PrimInt>(alloc: Global, one: I, a_p: &[I], a_i: &[I]) -> bool
     }
 }
 
-/// Takes the ends of each of the types, and -1 where it has that, as the number of columns, as each pointer and as a row, but for 0,
-/// which may stand there; and behind the end of a matrix.
+/// Takes the ends of each of the types, and -1 where it has that, as the number of columns, as each pointer and as a
+/// row, but for 0, which may stand there; and behind the end of a matrix.
 macro_rules! both_ends {
     ($rt:ident; $($number:ty)*) => {
         $(
@@ -143,9 +143,9 @@ fn both_ends_of_each_type(rt: HostRuntime) {
     both_ends!(rt; u8 u16 u32 u64 u128 usize i8 i16 i32 i64 i128 isize);
 }
 
-/// Whether `valid` has an answer for the greatest number `most` of a type as the number of rows, where the row before it is the last
-/// one, and as the number of columns, for which there are too few pointers, whatever the other number is. The lists are the pointers
-/// `[0, 1]`, and the rows `[most - 1]` and `[most]`.
+/// Whether `valid` has an answer for the greatest number `most` of a type as the number of rows, where the row before
+/// it is the last one, and as the number of columns, for which there are too few pointers, whatever the other number
+/// is. The lists are the pointers `[0, 1]`, and the rows `[most - 1]` and `[most]`.
 fn classes_greatest<I: PrimInt>(most: I, one: I, a_p: &[I], last: &[I], past: &[I]) -> bool {
     valid(most, one, a_p, last) == Status::OK
         && valid(most, one, a_p, past) == Status::Invalid

@@ -1,6 +1,6 @@
-// Families of graphs of several sizes and matrices drawn from seeds, each with every choice of a caller: no figure is below what
-// the factor needs, nothing fills in where the graph is a forest without dense rows, and with nothing held the answer is the same.
-// For cycles and for complete graphs the bound on the entries is known, and compared.
+// Families of graphs of several sizes and matrices drawn from seeds, each with every choice of a caller: no figure is
+// below what the factor needs, nothing fills in where the graph is a forest without dense rows, and with nothing held
+// the answer is the same. For cycles and for complete graphs the bound on the entries is known, and compared.
 
 use crate::comparison::is_ordered;
 use crate::factors::{check_bounds, check_forest};
@@ -44,8 +44,8 @@ pub static CHOICES: [Control; 6] = [
     },
 ];
 
-/// Orders a matrix, and asserts that the two lists are inverse permutations with the dense rows last, and that the figures
-/// bound what the factor needs. Answers the factor and the record.
+/// Orders a matrix, and asserts that the two lists are inverse permutations with the dense rows last, and that the
+/// figures bound what the factor needs. Answers the factor and the record.
 fn check_choice(
     rt: &impl Abort,
     alloc: Global,
@@ -129,8 +129,8 @@ fn paths(rt: HostRuntime) -> Result<(), Fail> {
     Ok(())
 }
 
-/// A cycle of `n` rows has `2 n - 3` entries in its factor: each of the first `n - 2` columns has two, and the next one has
-/// one.
+/// A cycle of `n` rows has `2 n - 3` entries in its factor: each of the first `n - 2` columns has two, and the next one
+/// has one.
 #[test]
 fn cycles(rt: HostRuntime) -> Result<(), Fail> {
     let heap = rt.alloc();
@@ -151,8 +151,8 @@ fn stars(rt: HostRuntime) -> Result<(), Fail> {
     Ok(())
 }
 
-/// A complete graph of `n` rows has all `n (n - 1) / 2` entries below the diagonal in its factor, also where all its rows are
-/// dense.
+/// A complete graph of `n` rows has all `n (n - 1) / 2` entries below the diagonal in its factor, also where all its
+/// rows are dense.
 #[test]
 fn complete_graphs(rt: HostRuntime) -> Result<(), Fail> {
     let heap = rt.alloc();
@@ -163,8 +163,8 @@ fn complete_graphs(rt: HostRuntime) -> Result<(), Fail> {
     Ok(())
 }
 
-/// A complete graph with more entries than 16 bits count. One step eliminates all rows, and the figures are sums over columns
-/// of 0 to 362 entries.
+/// A complete graph with more entries than 16 bits count. One step eliminates all rows, and the figures are sums over
+/// columns of 0 to 362 entries.
 #[test]
 fn a_complete_graph_with_many_entries(rt: HostRuntime) -> Result<(), Fail> {
     let heap = rt.alloc();

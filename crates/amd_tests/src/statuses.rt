@@ -1,5 +1,5 @@
-// The status of an input: `valid` alone, and the refusals of `order`. A fault wins over a jumbled column, wherever either stands.
-// The statuses were worked by hand from the definition of a column form.
+// The status of an input: `valid` alone, and the refusals of `order`. A fault wins over a jumbled column, wherever
+// either stands. The statuses were worked by hand from the definition of a column form.
 
 use amd::valid::valid;
 use amd::{Control, Status, order};

@@ -1,5 +1,5 @@
-// Worked inputs of `order` with their answers: the permutation and each figure. They come from worked examples, from the Rust
-// crate `amd`, and from a plain program that follows the rules.
+// Worked inputs of `order` with their answers: the permutation and each figure. They come from worked examples, from
+// the Rust crate `amd`, and from a plain program that follows the rules.
 
 use crate::factors::check_bounds;
 use crate::holding::check_nothing_held;
@@ -13,8 +13,8 @@ use std::alloc::{AllocError, Global};
 use std::process::Abort;
 use std::test::Fail;
 
-/// An input and its answer. The figures are `nz`, `nz_diag`, `nz_a_plus_at`, `n_dense`, `lnz`, those of `LDL'` and of `LU`, and
-/// `d_max`; the divisions are as many as `lnz`, and there is no compaction.
+/// An input and its answer. The figures are `nz`, `nz_diag`, `nz_a_plus_at`, `n_dense`, `lnz`, those of `LDL'` and of
+/// `LU`, and `d_max`; the divisions are as many as `lnz`, and there is no compaction.
 #[derive(Drop)]
 pub struct Case<'a> {
     pub what: &'a str,
@@ -62,7 +62,8 @@ pub fn check_answer(rt: &impl Abort, case: &Case, p: &[i64], p_inv: &[i64], info
     assert!(rt; is_ordered && is_told(case, info), "{}", case.what);
 }
 
-/// Asserts that `order` gives the answer of a case, also with nothing held, and that its figures bound what the factor needs.
+/// Asserts that `order` gives the answer of a case, also with nothing held, and that its figures bound what the factor
+/// needs.
 fn check(rt: &impl Abort, alloc: Global, control: &Control, case: &Case) -> Result<(), AllocError> {
     let what = case.what;
     let Ok((p, p_inv, info)) = order(alloc, case.n, case.a_p, case.a_i, control) else {

@@ -1,5 +1,6 @@
 -- The texts that `control` and `info` write.
-use Rattle.std.specs.Prelude.{◌+◌, ◌-◌, ◌*◌, ◌/◌, ◌%◌, ◌==◌, ℕ, ℤ, Bool, List, [], ◌∷◌, ◌++◌, length, replicate, codes, decimal}
+use Rattle.std.specs.Prelude.{◌+◌, ◌-◌, ◌*◌, ◌/◌, ◌%◌, ◌==◌, ℕ, ℤ, Bool, List, [], ◌∷◌, ◌++◌, length, replicate, codes}
+use Rattle.std.specs.Prelude.{decimal}
 use Rattle.std.specs.Prelude.{unsigned_abs, if◌then◌else◌}
 use Rattle.std.specs.Int.{is_negative}
 use Rattle.std.specs.List.{list_all}
@@ -23,7 +24,8 @@ fraction n = if n == 0 then [] else codes "." ++ without_end_zeros (three_digits
 
 -- a number of thousandths
 abbrev pub thousandths : ℤ → List ℕ
-thousandths t = (if is_negative t then codes "-" else []) ++ decimal (unsigned_abs t / 1000) ++ fraction (unsigned_abs t % 1000)
+thousandths t = (if is_negative t then codes "-" else []) ++ decimal (unsigned_abs t / 1000) ++ fraction
+    (unsigned_abs t % 1000)
 
 -- the line of the dense row parameter
 abbrev pub parameter_line : ℤ → List ℕ
@@ -91,7 +93,8 @@ factor_lines i =
 -- the lines on the steps of whole factorizations
 abbrev pub total_lines : Info → List ℕ
 total_lines i =
-    labelled (codes "chol flop count for real A, sqrt counted as 1 flop:") (decimal (i.n + i.n_div + 2 * i.n_mult_subs_ldl))
+    labelled (codes "chol flop count for real A, sqrt counted as 1 flop:")
+    (decimal (i.n + i.n_div + 2 * i.n_mult_subs_ldl))
     ++ labelled (codes "LDL' flop count for real A:") (decimal (i.n_div + 2 * i.n_mult_subs_ldl))
     ++ labelled (codes "LDL' flop count for complex A:") (decimal (9 * i.n_div + 8 * i.n_mult_subs_ldl))
     ++ labelled (codes "LU flop count for real A (with no pivoting):") (decimal (i.n_div + 2 * i.n_mult_subs_lu))

@@ -1,9 +1,10 @@
-// The text of what a caller chooses, after the AMD user guide, with the parameter in thousandths. It goes to the writer in
-// pieces, and no memory is asked. Called by users and by the demos.
+// The text of what a caller chooses, after the AMD user guide, with the parameter in thousandths. It goes to the writer
+// in pieces, and no memory is asked. Called by users and by the demos.
 
 ghost use Rattle.std.specs.Prelude.{◌≡◌, ◌<◌, OnOk};
 ghost use Rattle.std.specs.Io.KnownBytes.{Appends};
-ghost use Rattle.amd_texts.specs.Texts.{absorption_line, control_text, dense_lines, fraction, parameter_line, thousandths, threshold_lines};
+ghost use Rattle.amd_texts.specs.Texts.{absorption_line, control_text, dense_lines, fraction, parameter_line};
+ghost use Rattle.amd_texts.specs.Texts.{thousandths, threshold_lines};
 
 use amd_numbers::amd::Control;
 use std::io;
@@ -89,9 +90,9 @@ fn write_absorption<W: Write>(control: &Control, out: &mut W) -> io::Result<()>
     Ok(())
 }
 
-/// Writes what a caller chooses, as five or six lines between two empty ones: a title, the dense row parameter, which rows
-/// are dense, whether absorption is aggressive, and the bytes of a number. The parameter is a decimal fraction of as many
-/// places as it needs: `10` for 10000 thousandths, `-0.5` for -500. Any record is written as it is.
+/// Writes what a caller chooses, as five or six lines between two empty ones: a title, the dense row parameter, which
+/// rows are dense, whether absorption is aggressive, and the bytes of a number. The parameter is a decimal fraction of
+/// as many places as it needs: `10` for 10000 thousandths, `-0.5` for -500. Any record is written as it is.
 ///
 /// # Errors
 ///

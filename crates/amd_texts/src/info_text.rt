@@ -1,11 +1,12 @@
-// The text of what the ordering tells, after the AMD user guide. It goes to the writer in pieces, and no memory is asked.
-// Called by users and by the demos.
+// The text of what the ordering tells, after the AMD user guide. It goes to the writer in pieces, and no memory is
+// asked. Called by users and by the demos.
 
 ghost use Rattle.std.specs.Prelude.{◌≡◌, OnOk, IfSome, IsTrue};
 ghost use Rattle.std.specs.Char.{is_ascii};
 ghost use Rattle.std.specs.List.{list_all};
 ghost use Rattle.std.specs.Io.KnownBytes.{Appends};
-ghost use Rattle.amd_texts.specs.Texts.{factor_lines, info_text, labelled, matrix_lines, note_lines, status_word, total_lines};
+ghost use Rattle.amd_texts.specs.Texts.{factor_lines, info_text, labelled, matrix_lines, note_lines, status_word};
+ghost use Rattle.amd_texts.specs.Texts.{total_lines};
 
 use amd_numbers::amd::{Info, Status};
 use std::fmt::Display;
@@ -15,7 +16,8 @@ use std::io::Write;
 /// Writes a line of a label of ASCII characters and a value, which begins in a column of its own.
 pub fn write_labelled<W: Write, D: Display>(label: &str, value: &D, out: &mut W) -> io::Result<()>
     requires { IsTrue (list_all is_ascii label.now) }
-    ensures { OnOk result (IfSome (D.output value.now) (λ text. Appends (W.contents out.old) (W.contents out.new) (labelled label.now text))) }
+    ensures { OnOk result (IfSome (D.output value.now)
+        (λ text. Appends (W.contents out.old) (W.contents out.new) (labelled label.now text))) }
 {
     writeln!(out, "    {label:<52}{value}")?;
     Ok(())
@@ -123,8 +125,9 @@ fn write_totals<W: Write>(info: &Info, out: &mut W) -> io::Result<()>
     Ok(())
 }
 
-/// Writes what the ordering tells, as lines of a label and a value: on the matrix, on the factor, and the steps of whole
-/// factorizations. Any record is written as it is, `unknown` for the status `OutOfMemory`; the sums are never cut.
+/// Writes what the ordering tells, as lines of a label and a value: on the matrix, on the factor, and the steps of
+/// whole factorizations. Any record is written as it is, `unknown` for the status `OutOfMemory`; the sums are never
+/// cut.
 ///
 /// # Errors
 ///

@@ -156,12 +156,15 @@ module _ (t : Tree) (j p : ℕ) (its : is_child t p j ≡ true) (other : (e : �
       ]);
     }
       where
-        there : (e : ℕ) → e ≢ p → GoesFrom t (suc j) child sibling e → GoesFrom t (suc j) (set child p (pos j)) (set sibling j (at child p)) e
+        there : (e : ℕ) → e ≢ p → GoesFrom t (suc j) child sibling e →
+            GoesFrom t (suc j) (set child p (pos j)) (set sibling j (at child p)) e
         there e ne r = (
           r.0,
           r.1,
-          subst (λ z. IsChain (set sibling j (at child p)) z (with_last (big t e) r.0)) (sym (get_or-set_other child p e (pos j) (pos 0) ne))
-              (chain_kept sibling j (at child p) (at child e) (with_last (big t e) r.0) (λ k. clash (elim (with_last_has (big t e) r.0 j k) [
+          subst (λ z. IsChain (set sibling j (at child p)) z (with_last (big t e) r.0))
+              (sym (get_or-set_other child p e (pos j) (pos 0) ne))
+              (chain_kept sibling j (at child p) (at child e) (with_last (big t e) r.0)
+              (λ k. clash (elim (with_last_has (big t e) r.0 j k) [
                 | inl b ↦ (has_below t.size (is_child t e) j (subst (λ m. has m j ≡ true) (sym r.1)
                     (has_right j (list_below (suc j) (is_child t e)) r.0 b))).1
                 | inr b ↦ big_child t e j b

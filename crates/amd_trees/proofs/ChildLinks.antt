@@ -115,7 +115,8 @@ module _ (nn : ℕ) (parent nv f_size : List ℤ) (forest : IsForest nn parent n
   heaviest_start links u = record {
     room = u.room;
     each = λ e l. u.each e l ∙
-        ap (λ xs. link_of (heaviest_of (tree_of nn parent nv f_size).weight xs)) (sym (below_none (is_child (tree_of nn parent nv f_size) e)));
+        ap (λ xs. link_of (heaviest_of (tree_of nn parent nv f_size).weight xs))
+        (sym (below_none (is_child (tree_of nn parent nv f_size) e)));
   }
 
   -- a place that is no child

@@ -1,6 +1,7 @@
--- Trees in lists of numbers: by the parent of each element, and by links to a first child and a next sibling; -1 is no place.
--- Source: Amestoy, Davis and Duff 2004.
-use Rattle.std.specs.Prelude.{◌≡◌, ◌+◌, ◌<◌, ◌≤◌, ◌≤ℤ◌, ◌⊎◌, ◌&&◌, ◌++◌, ℕ, ℤ, pos, negsuc, Bool, true, false, Option, None, Some, List, []}
+-- Trees in lists of numbers: by the parent of each element, and by links to a first child and a next sibling; -1 is no
+-- place. Source: Amestoy, Davis and Duff 2004.
+use Rattle.std.specs.Prelude.{◌≡◌, ◌+◌, ◌<◌, ◌≤◌, ◌≤ℤ◌, ◌⊎◌, ◌&&◌, ◌++◌, ℕ, ℤ, pos, negsuc, Bool, true, false, Option}
+use Rattle.std.specs.Prelude.{None, Some, List, []}
 use Rattle.std.specs.Prelude.{◌∷◌, cond, nat_lt, nat_le, int_lt, length, slice_index, slice_index_or, unsigned_abs}
 use Rattle.amd_model.specs.Below.{list_below}
 use Rattle.amd_model.specs.Input.Columns.{at}
@@ -25,7 +26,8 @@ tree_of nn parent nv f_size = record {
   block = λ e. e ∷ [];
 }
 
--- each element has a size, and as parent an element or -1; a rank that rises from each element to its parent leaves no cycle
+-- each element has a size, and as parent an element or -1; a rank that rises from each element to its parent leaves no
+-- cycle
 pub record IsForest (nn : ℕ) (parent nv f_size : List ℤ) : Type 0 where
   pub parent_room : length parent ≡ nn
   pub nv_room : length nv ≡ nn
@@ -62,7 +64,8 @@ IsChain sibling first (e ∷ rest) = (first ≡ pos e) × IsChain sibling (at si
 -- the trees of a link and of the siblings after it, in postorder
 pub data ListsLinks (child sibling : List ℤ) : ℤ → List ℕ → Type 0 where
   none : ListsLinks child sibling (negsuc 0) []
-  more : {e : ℕ} {below after : List ℕ} → ListsLinks child sibling (at child e) below → ListsLinks child sibling (at sibling e) after →
+  more : {e : ℕ} {below after : List ℕ} → ListsLinks child sibling (at child e) below →
+      ListsLinks child sibling (at sibling e) after →
       ListsLinks child sibling (pos e) (below ++ e ∷ after)
 
 -- the nodes of the tree below a root in postorder, each once
@@ -72,8 +75,8 @@ pub record ListsTree (child sibling : List ℤ) (root : ℕ) (listing : List ℕ
   pub is : listing ≡ below ++ root ∷ []
   pub once : Once listing
 
--- a finite tree that fits: its nodes are places of the lists, of sibling only those below the root, and as many as the stack and the
--- numbers from k on allow
+-- a finite tree that fits: its nodes are places of the lists, of sibling only those below the root, and as many as the
+-- stack and the numbers from k on allow
 pub record FitsTree (child sibling order stack : List ℤ) (root k nn : ℕ) : Type 0 where
   pub listing : List ℕ
   pub tree : ListsTree child sibling root listing

@@ -26,10 +26,14 @@ pub fn post_tree<L: Link>(
     requires fits { FitsTree (L.read child.old) (L.read sibling.now) (L.read order.old) (L.read stack.old) root k nn }
     requires numbers { nn ≤ L.reach }
     requires root { root < L.reach }
-    ensures next { (listing : List ℕ) → ListsTree (L.read child.old) (L.read sibling.now) root listing → result ≡ k + length listing }
-    ensures numbered { (listing : List ℕ) → ListsTree (L.read child.old) (L.read sibling.now) root listing → NumbersFrom k listing (L.read order.new) }
-    ensures order { (listing : List ℕ) → ListsTree (L.read child.old) (L.read sibling.now) root listing → StaysOutside listing (L.read order.old) (L.read order.new) }
-    ensures child { (listing : List ℕ) → ListsTree (L.read child.old) (L.read sibling.now) root listing → StaysOutside listing (L.read child.old) (L.read child.new) }
+    ensures next { (listing : List ℕ) → ListsTree (L.read child.old) (L.read sibling.now) root listing → result ≡ k
+        + length listing }
+    ensures numbered { (listing : List ℕ) → ListsTree (L.read child.old) (L.read sibling.now) root listing →
+        NumbersFrom k listing (L.read order.new) }
+    ensures order { (listing : List ℕ) → ListsTree (L.read child.old) (L.read sibling.now) root listing →
+        StaysOutside listing (L.read order.old) (L.read order.new) }
+    ensures child { (listing : List ℕ) → ListsTree (L.read child.old) (L.read sibling.now) root listing →
+        StaysOutside listing (L.read child.old) (L.read child.new) }
 {
     let mut next = k;
     let mut height = 1;

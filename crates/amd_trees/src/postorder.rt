@@ -20,7 +20,8 @@ use std::alloc::Allocator;
 fn parent_of<N: Number>(j: usize, parent: &[N], nv: &[N]) -> Option<usize>
     requires in_parent { j < length parent.now }
     requires in_nv { j < length nv.now }
-    ensures { result ≡ cond (is_element (length (N.read nv.now)) (N.read nv.now) j) (named (at (N.read parent.now) j)) None }
+    ensures { result ≡ cond (is_element (length (N.read nv.now)) (N.read nv.now) j) (named (at (N.read parent.now) j))
+        None }
 {
     if N::number_at(nv, j) > 0 {
         usize::try_from(N::number_at(parent, j)).ok()
@@ -33,7 +34,8 @@ fn parent_of<N: Number>(j: usize, parent: &[N], nv: &[N]) -> Option<usize>
 fn is_root<N: Number>(j: usize, parent: &[N], nv: &[N]) -> bool
     requires in_parent { j < length parent.now }
     requires in_nv { j < length nv.now }
-    ensures { result ≡ (is_element (length (N.read nv.now)) (N.read nv.now) j && is_none (named (at (N.read parent.now) j))) }
+    ensures { result ≡ (is_element (length (N.read nv.now)) (N.read nv.now) j &&
+        is_none (named (at (N.read parent.now) j))) }
 {
     N::number_at(nv, j) > 0 && N::number_at(parent, j) < 0
 }
@@ -75,8 +77,10 @@ fn link_heaviest<N: Number, L: Link>(
     requires numbers { nn ≤ L.reach }
     requires unlinked { AreUnlinked nn (L.read heaviest.old) }
     requires child { AreUnlinked nn (L.read child.old) }
-    ensures heaviest { AreHeaviest (tree_of nn (N.read parent.now) (N.read nv.now) (N.read f_size.now)) nn (L.read heaviest.new) }
-    ensures child { AreHeaviest (tree_of nn (N.read parent.now) (N.read nv.now) (N.read f_size.now)) nn (L.read child.new) }
+    ensures heaviest { AreHeaviest (tree_of nn (N.read parent.now) (N.read nv.now) (N.read f_size.now)) nn
+        (L.read heaviest.new) }
+    ensures child { AreHeaviest (tree_of nn (N.read parent.now) (N.read nv.now) (N.read f_size.now)) nn
+        (L.read child.new) }
 {
     'elements: for j in 0..nn {
         let Some(p) = parent_of(j, parent, nv) else {
@@ -97,10 +101,15 @@ fn link_children<N: Number, L: Link>(
     child: &mut [L],
     sibling: &mut [L],
 )
-    requires heaviest { (f_size : List ℤ) × IsForest nn (N.read parent.now) (N.read nv.now) f_size × AreHeaviest (tree_of nn (N.read parent.now) (N.read nv.now) f_size) nn (L.read heaviest.now) × AreHeaviest (tree_of nn (N.read parent.now) (N.read nv.now) f_size) nn (L.read child.old) }
+    requires heaviest { (f_size : List ℤ) × IsForest nn (N.read parent.now) (N.read nv.now) f_size ×
+        AreHeaviest (tree_of nn (N.read parent.now) (N.read nv.now) f_size) nn (L.read heaviest.now) ×
+        AreHeaviest (tree_of nn (N.read parent.now) (N.read nv.now) f_size) nn (L.read child.old) }
     requires numbers { nn ≤ L.reach }
     requires sibling { AreUnlinked nn (L.read sibling.old) }
-    ensures { (f_size : List ℤ) → IsForest nn (N.read parent.now) (N.read nv.now) f_size → AreHeaviest (tree_of nn (N.read parent.now) (N.read nv.now) f_size) nn (L.read heaviest.now) → AreHeaviest (tree_of nn (N.read parent.now) (N.read nv.now) f_size) nn (L.read child.old) → AreLinked (tree_of nn (N.read parent.now) (N.read nv.now) f_size) (L.read child.new) (L.read sibling.new) }
+    ensures { (f_size : List ℤ) → IsForest nn (N.read parent.now) (N.read nv.now) f_size →
+        AreHeaviest (tree_of nn (N.read parent.now) (N.read nv.now) f_size) nn (L.read heaviest.now) →
+        AreHeaviest (tree_of nn (N.read parent.now) (N.read nv.now) f_size) nn (L.read child.old) →
+        AreLinked (tree_of nn (N.read parent.now) (N.read nv.now) f_size) (L.read child.new) (L.read sibling.new) }
 {
     'elements: for j in (0..nn).rev() {
         let Some(p) = parent_of(j, parent, nv) else {
@@ -124,11 +133,14 @@ fn number_trees<N: Number, L: Link>(
     order: &mut [L],
     stack: &mut [L],
 )
-    requires linked { (f_size : List ℤ) × IsForest nn (N.read parent.now) (N.read nv.now) f_size × AreLinked (tree_of nn (N.read parent.now) (N.read nv.now) f_size) (L.read child.old) (L.read sibling.now) }
+    requires linked { (f_size : List ℤ) × IsForest nn (N.read parent.now) (N.read nv.now) f_size ×
+        AreLinked (tree_of nn (N.read parent.now) (N.read nv.now) f_size) (L.read child.old) (L.read sibling.now) }
     requires numbers { nn ≤ L.reach }
     requires order { AreUnlinked nn (L.read order.old) }
     requires stack { length stack.old ≡ nn }
-    ensures { (f_size : List ℤ) → IsForest nn (N.read parent.now) (N.read nv.now) f_size → AreLinked (tree_of nn (N.read parent.now) (N.read nv.now) f_size) (L.read child.old) (L.read sibling.now) → IsPostorderOf (tree_of nn (N.read parent.now) (N.read nv.now) f_size) (L.read order.new) }
+    ensures { (f_size : List ℤ) → IsForest nn (N.read parent.now) (N.read nv.now) f_size →
+        AreLinked (tree_of nn (N.read parent.now) (N.read nv.now) f_size) (L.read child.old) (L.read sibling.now) →
+        IsPostorderOf (tree_of nn (N.read parent.now) (N.read nv.now) f_size) (L.read order.new) }
 {
     let mut next = 0;
     'roots: for j in 0..nn {
@@ -163,7 +175,8 @@ pub fn postorder_in<N: Number, L: Link>(
     requires sibling { length sibling.old ≡ nn }
     requires order { length order.old ≡ nn }
     requires stack { length stack.old ≡ nn }
-    ensures postorder { IsPostorderOf (tree_of nn (N.read parent.now) (N.read nv.now) (N.read f_size.now)) (L.read order.new) }
+    ensures postorder { IsPostorderOf (tree_of nn (N.read parent.now) (N.read nv.now) (N.read f_size.now))
+        (L.read order.new) }
     ensures child { length child.new ≡ nn }
     ensures sibling { length sibling.new ≡ nn }
     ensures order { length order.new ≡ nn }
@@ -193,7 +206,8 @@ pub fn postorder<A: Allocator + Copy>(
 ) -> Result<Vec<isize, A>, Status>
     requires forest { IsForest nn parent.now nv.now f_size.now }
     requires numbers { nn < 2 ^ 63 }
-    ensures { MatchResult result (λ v. IsPostorderOf (tree_of nn parent.now nv.now f_size.now) v.items) (λ s. s ≡ Status.OutOfMemory) }
+    ensures { MatchResult result (λ v. IsPostorderOf (tree_of nn parent.now nv.now f_size.now) v.items)
+        (λ s. s ≡ Status.OutOfMemory) }
 {
     let mut child = vec![in alloc; EMPTY; nn]?;
     let mut sibling = vec![in alloc; EMPTY; nn]?;

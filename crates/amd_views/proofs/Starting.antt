@@ -163,7 +163,8 @@ module _ (n : ℕ) (rows : ℕ → List ℕ) (degrees : ℕ → ℕ) (last : ℕ
     least = λ i h. (let e = begun.least in omega (arith, e));
     live = live_kept;
     parents = begun.parent;
-    links = links_none w.rows w.link (λ v. cond (dense v || not (nat_lt v g.size)) Last (cond (degree g v == 0) (Gone v) (Live v))) begun.link
+    links = links_none w.rows w.link (λ v. cond (dense v || not (nat_lt v g.size)) Last (cond (degree g v == 0) (Gone v) (Live v)))
+        begun.link
         (λ v. home_cases v (dense v || not (nat_lt v g.size)) (degree g v == 0)
         (cond (dense v || not (nat_lt v g.size)) Last (cond (degree g v == 0) (Gone v) (Live v))) refl);
   }

@@ -1,5 +1,5 @@
--- The record of an engine keeps the lists of an elimination, and stands for a state of it. In what order it keeps the classes of
--- a bound is not said here: engines differ in it.
+-- The record of an engine keeps the lists of an elimination, and stands for a state of it. In what order it keeps the
+-- classes of a bound is not said here: engines differ in it.
 use Rattle.std.specs.Prelude.{ℕ, Bool, true, false, Option, None, Some, ◌≡◌, ◌<◌, ◌≤◌, ◌⊎◌, sum_by}
 use Rattle.amd_model.specs.Below.{count_below}
 use Rattle.amd_model.specs.Graph.{Graph, IsGraph, degree}
@@ -10,14 +10,15 @@ use Rattle.amd_model.specs.Sound.{IsSound}
 use Rattle.amd_model.specs.Quotient.{QuotientGraph, Fits, has, is_empty}
 use Rattle.amd_views.specs.Views.{View, live_of}
 
--- following the links of rows that were merged or mass-eliminated comes to an end: the rank rises with each, and what has no
--- link has the greatest
+-- following the links of rows that were merged or mass-eliminated comes to an end: the rank rises with each, and what
+-- has no link has the greatest
 pub record LinksEnd (n : ℕ) (links : ℕ → Option ℕ) (rank : ℕ → ℕ) (top : ℕ) : Type 0 where
   pub rise : (v u : ℕ) → links v ≡ Some u → (rank v < rank u) × (u < n)
   pub ends : (v : ℕ) → links v ≡ None → rank v ≡ top
   pub below : (v u : ℕ) → links v ≡ Some u → rank v < top
 
--- a linked row is where its target is; exactly the representatives, the pivot rows and the rows held last have no link; links end
+-- a linked row is where its target is; exactly the representatives, the pivot rows and the rows held last have no link;
+-- links end
 pub record LinksLead (n : ℕ) (links : ℕ → Option ℕ) (home : ℕ → Home) : Type 0 where
   pub linked : (v u : ℕ) → links v ≡ Some u → home v ≡ home u
   pub alone : (v : ℕ) → links v ≡ None → (home v ≡ Live v) ⊎ (home v ≡ Gone v) ⊎ (home v ≡ Last)

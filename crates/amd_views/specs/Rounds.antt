@@ -1,5 +1,6 @@
 -- What the parts of a round do to the lists of an elimination, each as a function of what stood there before.
-use Rattle.std.specs.Prelude.{ℕ, Bool, true, false, Option, Some, List, [], ◌≡◌, ◌<◌, ◌==◌, ◌&&◌, ◌||◌, ◌+◌, ◌-◌, not, min, cond, nat_eq}
+use Rattle.std.specs.Prelude.{ℕ, Bool, true, false, Option, Some, List, [], ◌≡◌, ◌<◌, ◌==◌, ◌&&◌, ◌||◌, ◌+◌, ◌-◌, not}
+use Rattle.std.specs.Prelude.{min, cond, nat_eq}
 use Rattle.std.specs.Prelude.{nat_lt, filter, fold, flat_map, sum_by}
 use Rattle.amd_model.specs.Figures.{cut}
 use Rattle.amd_model.specs.Quotient.{has, each, is_empty, add_new}
@@ -10,8 +11,8 @@ abbrev pub firsts : (ℕ → Bool) → List ℕ → List ℕ
 firsts skip xs = fold (add_new skip) [] xs
 
 -- the class i keeps neither an element nor a variable
-abbrev pub keeps_none : (ℕ → List ℕ) → (ℕ → List ℕ) → ℕ → Bool
-keeps_none elements variables i = is_empty (elements i) && is_empty (variables i)
+abbrev pub mass : (ℕ → List ℕ) → (ℕ → List ℕ) → ℕ → Bool
+mass elements variables i = is_empty (elements i) && is_empty (variables i)
 
 -- two classes keep the same elements and the same variables
 abbrev pub alike_in : (ℕ → List ℕ) → (ℕ → List ℕ) → ℕ → ℕ → Bool
@@ -22,11 +23,13 @@ alike_in elements variables i j = each (has (elements i)) (elements j) && each (
 abbrev pub less : ℕ → ℕ → ℕ → List ℕ → ℕ
 less e rows b xs = fold (λ m x. cond (x == e) (m - rows) m) b xs
 
--- the number of rows of the border of e (block and border less the block), less that of each class of a front that lists it
+-- the number of rows of the border of e (block and border less the block), less that of each class of a front that
+-- lists it
 abbrev pub rows_left : (ℕ → ℕ) → (ℕ → ℕ) → (ℕ → ℕ) → (ℕ → List ℕ) → List ℕ → ℕ → ℕ
 rows_left block whole size elements front e = fold (λ m i. less e (size i) m (elements i)) (whole e - block e) front
 
--- the lists of the classes of a front after the new element of the pivot c has absorbed others. Of other classes nothing is said
+-- the lists of the classes of a front after the new element of the pivot c has absorbed others. Of other classes
+-- nothing is said
 pub record Absorbed (aggressive : Bool) (c : ℕ) (front : List ℕ) (size block whole : ℕ → ℕ) (old new : ClassLists)
     (before after : ℕ → Option ℕ) (beyond : ℕ → ℕ) : Type 0 where
   -- the elements that hold a class of the front and not the pivot
@@ -49,7 +52,8 @@ pub record IsApart (size : ℕ → ℕ) (c : ℕ) (front : List ℕ) (i : ℕ) :
   pub other : (i == c) ≡ false
   pub outside : has front i ≡ false
 
--- the lesser of the old bound and the number of rows that the lists reach, plus the other border rows; at most the other live rows
-abbrev pub bound_after : ℕ → ℕ → ClassLists → (ℕ → ℕ) → (ℕ → ℕ) → (ℕ → ℕ) → ℕ → ℕ
-bound_after border live lists beyond size bound i = min (min (bound i)
+-- the lesser of the old bound and the number of rows that the lists reach, plus the other border rows; at most the
+-- other live rows
+abbrev pub new_bound : ℕ → ℕ → ClassLists → (ℕ → ℕ) → (ℕ → ℕ) → (ℕ → ℕ) → ℕ → ℕ
+new_bound border live lists beyond size bound i = min (min (bound i)
     (cut (sum_by beyond (lists.elements i) + sum_by size (lists.variables i))) + (border - size i)) (live - size i)

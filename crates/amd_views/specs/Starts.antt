@@ -11,8 +11,8 @@ class_of last d = cond (nat_lt 0 d && not last) 1 0
 abbrev pub block_of : Bool → ℕ → ℕ
 block_of last d = cond (nat_eq d 0 && not last) 1 0
 
--- of n rows each one that is neither held last nor empty is a class by itself, with its neighbours and its degree, and each other
--- empty one an element by itself
+-- of n rows each one that is neither held last nor empty is a class by itself, with its neighbours and its degree, and
+-- each other empty one an element by itself
 pub record IsBegun (n : ℕ) (rows : ℕ → List ℕ) (degrees : ℕ → ℕ) (last : ℕ → Bool) (w : View) : Type 0 where
   pub rows_are : w.rows ≡ n
   pub size : (i : ℕ) → i < n → w.size i ≡ class_of (last i) (degrees i)

@@ -1,5 +1,5 @@
--- What an engine keeps, as functions of a row, a class or an element. An engine reads its own record so, and the laws of a round
--- are proved of these functions, once for all engines.
+-- What an engine keeps, as functions of a row, a class or an element. An engine reads its own record so, and the laws
+-- of a round are proved of these functions, once for all engines.
 use Rattle.std.specs.Prelude.{ℕ, Option, List, All, ◌<◌, filter, nat_lt}
 use Rattle.amd_numbers.specs.declared.figures.Figures.{Figures}
 

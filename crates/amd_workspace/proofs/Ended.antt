@@ -196,7 +196,8 @@ module _ (g : Graph) (dense : ℕ → Bool) (nzaat : ℕ) (v : Workspace) (t : Q
     blocks = λ e h. size_word e ∙ ap pos (st.view.fronts.blocks e h);
     no_element = λ e f. size_word e ∙ ap pos (st.view.fronts.no_element e f);
     fronts = λ e h. front_word e (element_small e h)
-        ∙ cond-true (nat_lt 0 ((view_of v).block e)) (pos ((view_of v).front e)) (negsuc 0) (lt-ltb 0 ((view_of v).block e) (some_block e h))
+        ∙ cond-true (nat_lt 0 ((view_of v).block e)) (pos ((view_of v).front e)) (negsuc 0)
+        (lt-ltb 0 ((view_of v).block e) (some_block e h))
         ∙ ap pos (st.view.fronts.fronts e h);
     no_front = λ e l f. front_word e l
         ∙ cond-false (nat_lt 0 ((view_of v).block e)) (pos ((view_of v).front e)) (negsuc 0)

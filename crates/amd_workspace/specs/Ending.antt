@@ -12,7 +12,8 @@ named_word (negsuc (suc k)) = pos k
 -- of a row its link, the rows of its front, and those of its block
 pub record EndsRow (i : ℕ) (pe e_len : List ℤ) (degree : List ℕ) (pe' e_len' nv' : List ℤ) : Type 0 where
   pub links : word pe' i ≡ cond (is_place (word e_len i)) (negsuc 0) (named_word (word pe i))
-  pub fronts : word e_len' i ≡ cond (nat_lt (num degree i) (flipped (word e_len i))) (pos (flipped (word e_len i))) (negsuc 0)
+  pub fronts : word e_len' i ≡ cond (nat_lt (num degree i) (flipped (word e_len i))) (pos (flipped (word e_len i)))
+      (negsuc 0)
   pub blocks : word nv' i ≡ pos (cond (is_flip (word e_len i)) (flipped (word e_len i) - num degree i) 0)
 
 -- so for each row below n

@@ -1,10 +1,12 @@
 -- The start of an elimination in a workspace that is laid, row by row.
-use Rattle.std.specs.Prelude.{ℕ, ℤ, pos, negsuc, Bool, Option, List, ◌≡◌, ◌<◌, ◌==◌, ◌&&◌, ◌||◌, not, cond, nat_lt, length}
+use Rattle.std.specs.Prelude.{ℕ, ℤ, pos, negsuc, Bool, Option, List, ◌≡◌, ◌<◌, ◌==◌, ◌&&◌, ◌||◌, not, cond, nat_lt}
+use Rattle.std.specs.Prelude.{length}
 use Rattle.amd_model.specs.Below.{list_below}
 use Rattle.amd_model.specs.Input.Held.{is_marked}
 use Rattle.amd_places.specs.Words.{num, word, flip_of}
 
--- what the lists say of the rows: where the list of each row starts, its count of elements, its size, its length, its bound and its counter
+-- what the lists say of the rows: where the list of each row starts, its count of elements, its size, its length, its
+-- bound and its counter
 pub record Rows : Type 0 where
   pub pe : List ℤ
   pub e_len : List ℤ
@@ -43,8 +45,8 @@ is_class held len i = nat_lt 0 (num len i) && not (held i)
 abbrev pub classes_of : (ℕ → Bool) → List ℕ → ℕ → ℕ → List ℕ
 classes_of held len i b = list_below i (λ j. is_class held len j && num len j == b)
 
--- a class keeps its list, lists no element, has one row, its degree as its bound and a counter above 0; another row has no list, and is an
--- element of one row if it is not held last
+-- a class keeps its list, lists no element, has one row, its degree as its bound and a counter above 0; another row has
+-- no list, and is an element of one row if it is not held last
 pub record BeginsRow (is_class held : Bool) (i : ℕ) (p q : Rows) : Type 0 where
   pub starts : word q.pe i ≡ cond is_class (word p.pe i) (negsuc 0)
   pub counts : word q.e_len i ≡ cond is_class (pos 0) (cond held (negsuc 0) (flip_of 1))

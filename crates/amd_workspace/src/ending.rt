@@ -1,8 +1,10 @@
-// What the record of an elimination says at its end, made into links and numbers of rows: the row or the parent to which
-// each row is linked, and for each element the number of rows of its front and of its block. Source: Amestoy, Davis and
-// Duff 2004 (the output of the elimination, before the assembly tree is listed). Called by `amd_2` of the crate `amd_engine`.
+// What the record of an elimination says at its end, made into links and numbers of rows: the row or the parent to
+// which each row is linked, and for each element the number of rows of its front and of its block. Source: Amestoy,
+// Davis and Duff 2004 (the output of the elimination, before the assembly tree is listed). Called by `amd_2` of the
+// crate `amd_engine`.
 
-ghost use Rattle.std.specs.Prelude.{◌≡◌, ◌<◌, ◌≤◌, ◌-◌, ◌<ℤ◌, pos, negsuc, cond, nat_lt, length, slice_set, unsigned_abs};
+ghost use Rattle.std.specs.Prelude.{◌≡◌, ◌<◌, ◌≤◌, ◌-◌, ◌<ℤ◌, pos, negsuc, cond, nat_lt, length, slice_set};
+ghost use Rattle.std.specs.Prelude.{unsigned_abs};
 ghost use Rattle.amd_places.specs.Words.{num, word, is_place, flip_of};
 ghost use Rattle.amd_inplace.specs.Workspaces.{is_flip, flipped};
 ghost use Rattle.amd_workspace.specs.Ending.{named_word, EndsRows};
@@ -53,8 +55,8 @@ fn front_in<S: Signed>(e_len: &[Word<S>], i: usize) -> usize
     if mark < -1 { number_in(mark) } else { 0 }
 }
 
-/// Makes the mark of an element the number of rows of its front, and writes that of its block, which is the front without
-/// the border; what is no element has -1 and 0.
+/// Makes the mark of an element the number of rows of its front, and writes that of its block, which is the front
+/// without the border; what is no element has -1 and 0.
 fn end_element<S: Signed, U: Unsigned>(
     e_len: &mut [Word<S>],
     nv: &mut [Word<S>],
@@ -63,8 +65,10 @@ fn end_element<S: Signed, U: Unsigned>(
 )
     requires inside { (i < length e_len.old) × (i < length nv.old) × (i < length degree.now) }
     requires narrow { 1 ≤ S.MOST }
-    ensures fronts { e_len.new ≡ slice_set e_len.old i (cond (nat_lt (num degree.now i) (flipped (word e_len.old i))) (pos (flipped (word e_len.old i))) (negsuc 0)) }
-    ensures blocks { nv.new ≡ slice_set nv.old i (pos (cond (is_flip (word e_len.old i)) (flipped (word e_len.old i) - num degree.now i) 0)) }
+    ensures fronts { e_len.new ≡ slice_set e_len.old i
+        (cond (nat_lt (num degree.now i) (flipped (word e_len.old i))) (pos (flipped (word e_len.old i))) (negsuc 0)) }
+    ensures blocks { nv.new ≡ slice_set nv.old i (pos
+        (cond (is_flip (word e_len.old i)) (flipped (word e_len.old i) - num degree.now i) 0)) }
 {
     let front = front_in(e_len, i);
     let border = figure_at(degree, i);
@@ -84,9 +88,11 @@ pub fn end_rows<S: Signed, U: Unsigned>(
     nv: &mut [Word<S>],
     degree: &[Figure<U>],
 )
-    requires lengths { (length pe.old ≡ length degree.now) × (length e_len.old ≡ length degree.now) × (length nv.old ≡ length degree.now) }
+    requires lengths { (length pe.old ≡ length degree.now) × (length e_len.old ≡ length degree.now) ×
+        (length nv.old ≡ length degree.now) }
     requires narrow { 1 ≤ S.MOST }
-    ensures lengths { (length pe.new ≡ length degree.now) × (length e_len.new ≡ length degree.now) × (length nv.new ≡ length degree.now) }
+    ensures lengths { (length pe.new ≡ length degree.now) × (length e_len.new ≡ length degree.now) ×
+        (length nv.new ≡ length degree.now) }
     ensures ends { EndsRows (length degree.now) pe.old e_len.old degree.now pe.new e_len.new nv.new }
 {
     'rows: for i in 0..degree.len() {

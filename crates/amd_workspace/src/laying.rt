@@ -63,8 +63,10 @@ fn starts<S: Signed, U: Unsigned, A: Allocator>(
     degrees: &[usize],
 ) -> usize
     requires empty { (length pe.old.items ≡ 0) × (length next.old.items ≡ 0) × (length len.old.items ≡ 0) }
-    requires room { (length degrees.now ≤ vec_capacity pe.old) × (length degrees.now ≤ vec_capacity next.old) × (length degrees.now ≤ vec_capacity len.old) }
-    requires fits { (sum_below (length degrees.now) (num degrees.now) ≤ S.MOST) × (sum_below (length degrees.now) (num degrees.now) ≤ U.MOST) }
+    requires room { (length degrees.now ≤ vec_capacity pe.old) × (length degrees.now ≤ vec_capacity next.old) ×
+        (length degrees.now ≤ vec_capacity len.old) }
+    requires fits { (sum_below (length degrees.now) (num degrees.now) ≤ S.MOST) ×
+        (sum_below (length degrees.now) (num degrees.now) ≤ U.MOST) }
     ensures total { result ≡ sum_below (length degrees.now) (num degrees.now) }
     ensures starts { Starts degrees.now pe.new.items next.new.items len.new.items }
 {
@@ -95,13 +97,17 @@ pub fn lay<I: PrimInt, S: Signed, U: Unsigned, A: Allocator + Copy>(
     requires form { IsColumnForm (pos size) size (map I.value a_p.now) (map I.value a_i.now) }
     requires sorted { IsSorted size (map I.value a_p.now) (map I.value a_i.now) }
     requires some { 0 < size }
-    requires degrees { AreCounts (graph_of size (map I.value a_p.now) (map I.value a_i.now)) ((graph_of size (map I.value a_p.now) (map I.value a_i.now)).edge) degrees.now }
+    requires degrees { AreCounts (graph_of size (map I.value a_p.now) (map I.value a_i.now))
+        ((graph_of size (map I.value a_p.now) (map I.value a_i.now)).edge) degrees.now }
     requires room { start_of (graph_of size (map I.value a_p.now) (map I.value a_i.now)) size + size ≤ room }
     requires fits { (size ≤ S.MOST) × (room ≤ S.MOST) × (room ≤ U.MOST) }
     ensures laid { IfOk result (λ l. IsLaidOut size l.iw.items l.pe.items l.len.items l.free) }
-    ensures long { IfOk result (λ l. (length l.iw.items ≡ room) × (l.free ≡ start_of (graph_of size (map I.value a_p.now) (map I.value a_i.now)) size)) }
+    ensures long { IfOk result (λ l. (length l.iw.items ≡ room) ×
+        (l.free ≡ start_of (graph_of size (map I.value a_p.now) (map I.value a_i.now)) size)) }
     ensures degrees { IfOk result (λ l. l.len.items ≡ degrees.now) }
-    ensures lists { IfOk result (λ l. (i : ℕ) → i < size → list_in l.iw.items l.pe.items l.len.items i ≡ starting_list size (is_pair size (map I.value a_p.now) (map I.value a_i.now)) i) }
+    ensures lists { IfOk result (λ l. (i : ℕ) → i < size →
+        list_in l.iw.items l.pe.items l.len.items i ≡ starting_list size
+        (is_pair size (map I.value a_p.now) (map I.value a_i.now)) i) }
 {
     let mut pe = Vec::with_capacity(alloc, size)?;
     let mut len = Vec::with_capacity(alloc, size)?;

@@ -2,7 +2,8 @@
 // itself, in the list of its degree, and each other empty row is an element. Source: Amestoy, Davis and Duff 1996; the
 // AMD user guide on dense rows. Called by `running` of the crate `amd_engine`.
 
-ghost use Rattle.std.specs.Prelude.{◌≡◌, ◌<◌, ◌≤◌, ◌+◌, ◌==◌, ◌||◌, ℕ, ℤ, pos, negsuc, true, false, List, ◌∷◌, cond, nat_lt, length, reverse, slice_set};
+ghost use Rattle.std.specs.Prelude.{◌≡◌, ◌<◌, ◌≤◌, ◌+◌, ◌==◌, ◌||◌, ℕ, ℤ, pos, negsuc, true, false, List, ◌∷◌, cond};
+ghost use Rattle.std.specs.Prelude.{nat_lt, length, reverse, slice_set};
 ghost use Rattle.std.specs.Option.{option_copied};
 ghost use Rattle.amd_model.specs.Below.{count_below};
 ghost use Rattle.amd_model.specs.Input.Held.{HasMarks, is_marked};
@@ -62,15 +63,20 @@ fn place_row<S: Signed, U: Unsigned>(
     count: usize,
 )
     requires words { (i < length e_len.old) × (i < length nv.old) × (i < length w.old) }
-    requires lengths { (length head.old ≡ length next.old) × (length last.old ≡ length next.old) × (length degree.old ≡ length next.old) }
+    requires lengths { (length head.old ≡ length next.old) × (length last.old ≡ length next.old) ×
+        (length degree.old ≡ length next.old) }
     requires narrow { (1 ≤ S.MOST) × (length next.old ≤ U.MOST) }
     requires row { (i < length next.old) × (count < length next.old) }
     ensures counts { e_len.new ≡ slice_set e_len.old i (pos 0) }
     ensures sizes { nv.new ≡ slice_set nv.old i (pos 1) }
     ensures bounds { degree.new ≡ slice_set degree.old i count }
     ensures counters { w.new ≡ slice_set w.old i 1 }
-    ensures lengths { (length head.new ≡ length next.old) × (length next.new ≡ length next.old) × (length last.new ≡ length next.old) }
-    ensures linked { (lists : ℕ → List ℕ) → ((b : ℕ) → b < length next.old → has (lists b) i ≡ false) → DegreeLists (length next.old) head.old next.old last.old degree.old lists → DegreeLists (length next.old) head.new next.new last.new degree.new (λ b. cond (b == count) (i ∷ lists b) (lists b)) }
+    ensures lengths { (length head.new ≡ length next.old) × (length next.new ≡ length next.old) ×
+        (length last.new ≡ length next.old) }
+    ensures linked { (lists : ℕ → List ℕ) → ((b : ℕ) → b < length next.old → has (lists b) i ≡ false) →
+        DegreeLists (length next.old) head.old next.old last.old degree.old lists →
+        DegreeLists (length next.old) head.new next.new last.new degree.new
+        (λ b. cond (b == count) (i ∷ lists b) (lists b)) }
 {
     put_word(e_len, i, 0);
     put_word(nv, i, 1);
@@ -108,17 +114,24 @@ pub fn begin<S: Signed, U: Unsigned>(
     hold: Option<&[bool]>,
     threshold: usize,
 ) -> (usize, usize)
-    requires words { (length pe.old ≡ length len.old) × (length e_len.old ≡ length len.old) × (length nv.old ≡ length len.old) }
+    requires words { (length pe.old ≡ length len.old) × (length e_len.old ≡ length len.old) ×
+        (length nv.old ≡ length len.old) }
     requires figures { (length degree.old ≡ length len.old) × (length w.old ≡ length len.old) }
-    requires links { (length head.old ≡ length len.old) × (length next.old ≡ length len.old) × (length last.old ≡ length len.old) }
+    requires links { (length head.old ≡ length len.old) × (length next.old ≡ length len.old) ×
+        (length last.old ≡ length len.old) }
     requires narrow { (length len.old + 2 ≤ S.MOST) × (length len.old ≤ U.MOST) }
     requires degrees { (i : ℕ) → i < length len.old → num len.old i < length len.old }
     requires heads { (b : ℕ) → b < length len.old → length len.old ≤ num head.old b }
     requires marks { HasMarks (option_copied hold) (length len.old) }
-    ensures begins { BeginsRows (length len.old) (length len.old) (held_in (option_copied hold.entry) threshold len.old) (record { pe = pe.old; e_len = e_len.old; nv = nv.old; len = len.old; degree = degree.old; w = w.old }) (record { pe = pe.new; e_len = e_len.new; nv = nv.new; len = len.new; degree = degree.new; w = w.new }) }
-    ensures lengths { (length head.new ≡ length len.old) × (length next.new ≡ length len.old) × (length last.new ≡ length len.old) }
-    ensures linked { DegreeLists (length len.old) head.new next.new last.new degree.new (λ b. reverse (classes_of (held_in (option_copied hold.entry) threshold len.old) len.old (length len.old) b)) }
-    ensures live { result.0 ≡ count_below (length len.old) (is_class (held_in (option_copied hold.entry) threshold len.old) len.old) }
+    ensures begins { BeginsRows (length len.old) (length len.old) (held_in (option_copied hold.entry) threshold len.old)
+        (record { pe = pe.old; e_len = e_len.old; nv = nv.old; len = len.old; degree = degree.old; w = w.old })
+        (record { pe = pe.new; e_len = e_len.new; nv = nv.new; len = len.new; degree = degree.new; w = w.new }) }
+    ensures lengths { (length head.new ≡ length len.old) × (length next.new ≡ length len.old) ×
+        (length last.new ≡ length len.old) }
+    ensures linked { DegreeLists (length len.old) head.new next.new last.new degree.new
+        (λ b. reverse (classes_of (held_in (option_copied hold.entry) threshold len.old) len.old (length len.old) b)) }
+    ensures live { result.0 ≡ count_below (length len.old)
+        (is_class (held_in (option_copied hold.entry) threshold len.old) len.old) }
     ensures dense { result.1 ≡ count_below (length len.old) (held_in (option_copied hold.entry) threshold len.old) }
 {
     let mut live: usize = 0;

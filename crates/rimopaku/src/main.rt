@@ -1,16 +1,18 @@
-//! Orders the rows of a sparse matrix in a file of the Matrix Market, works out the exact factor, or tells what the matrix is.
+//! Orders the rows of a sparse matrix in a file of the Matrix Market, works out the exact factor, or tells what the
+//! matrix is.
 //!
 //!     rimopaku order FILE.mtx [--dense T] [--no-aggressive] [--hold PATH] [--out PATH] [--picture PATH]
 //!     rimopaku analyze FILE.mtx [--dense T] [--no-aggressive] [--hold PATH] [--out PATH]
 //!     rimopaku info FILE.mtx [--dense T]
 //!
-//! `-` in place of a file is standard input. `order` writes the permutation to standard output or to the file of `--out`, the number
-//! of a row a line. `analyze` writes there a line for each column of the factor, in the order of the elimination: three numbers with
-//! a space between them, which are the row of the column, the row of its parent in the elimination tree, or 0 where it has none, and
-//! how many entries the column has below the diagonal. Rows count from 1. Figures and messages go to standard error.
+//! `-` in place of a file is standard input. `order` writes the permutation to standard output or to the file of
+//! `--out`, the number of a row a line. `analyze` writes there a line for each column of the factor, in the order of
+//! the elimination: three numbers with a space between them, which are the row of the column, the row of its parent in
+//! the elimination tree, or 0 where it has none, and how many entries the column has below the diagonal. Rows count
+//! from 1. Figures and messages go to standard error.
 //!
-//! The exit status is 0 where all was done, 1 where memory was refused or an output failed, and 2 where an argument or an input is
-//! wrong. Where an input is wrong or memory is refused, no output is written.
+//! The exit status is 0 where all was done, 1 where memory was refused or an output failed, and 2 where an argument or
+//! an input is wrong. Where an input is wrong or memory is refused, no output is written.
 #![tactic(auto)]
 
 use amd_command::program::run;

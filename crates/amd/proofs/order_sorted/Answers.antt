@@ -1,4 +1,5 @@
-use Rattle.std.proofs.Common.{rules, ℕ, ℤ, Bool, List, zero, suc, pos, negsuc, ◌≡◌, ◌≢◌, ◌+◌, ◌/◌, ◌^◌, ◌<◌, ◌≤◌, map, length, ap, subst, sym}
+use Rattle.std.proofs.Common.{rules, ℕ, ℤ, Bool, List, zero, suc, pos, negsuc, ◌≡◌, ◌≢◌, ◌+◌, ◌/◌, ◌^◌, ◌<◌, ◌≤◌, map, length, ap, subst}
+use Rattle.std.proofs.Common.{sym}
 use Rattle.std.proofs.Common.{◌∙◌, arith}
 use Rattle.std.specs.Prelude.{unsigned_abs}
 use Rattle.std.specs.Option.{option_copied}

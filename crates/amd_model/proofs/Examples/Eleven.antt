@@ -11,10 +11,13 @@ use Rattle.amd_model.specs.Listing.{IsPostorder}
 use Rattle.amd_model.specs.Input.Pattern.{graph_of, is_pair, holds_row, pair_count, diagonal_count}
 use Rattle.amd_model.specs.Input.Dense.{is_dense}
 use Rattle.amd_model.specs.Quotient.{Fits, has, each, is_empty, turned, last_that, add_new, was_read, met_below, met_at, met_edges}
-use Rattle.amd_model.specs.Quotient.{other_end, starting_list, start_quotient, pivot, gathered, takes, kept_elements, kept_variables, done, rest}
-use Rattle.amd_model.specs.Quotient.{alike, represents, made, ends, new_size, far, left, next_bound, new_home, round, next, after_rounds}
+use Rattle.amd_model.specs.Quotient.{other_end, starting_list, start_quotient, pivot, gathered, absorbed as absorbed_listed, kept_elements}
+use Rattle.amd_model.specs.Quotient.{kept_variables, mass as mass_listed, border_of as border_of_listed}
+use Rattle.amd_model.specs.Quotient.{alike, represents, made, ends, new_size, outside as outside_listed, left}
+use Rattle.amd_model.specs.Quotient.{new_bound as new_bound_listed, new_home, round, next, after_rounds}
 use Rattle.amd_model.specs.Examples.Eleven.{eleven, pointers, rows, row_one, start_table, one_table, two_table, three_table, four_table}
-use Rattle.amd_model.specs.Examples.Eleven.{five_table, at_start, after_one, after_two, after_three, after_four, after_five, eleven_quotient}
+use Rattle.amd_model.specs.Examples.Eleven.{five_table, at_start, after_one, after_two, after_three, after_four, after_five}
+use Rattle.amd_model.specs.Examples.Eleven.{eleven_quotient}
 use Rattle.amd_model.specs.Factor.{before, IsFactor}
 use Rattle.amd_model.proofs.Listings.ReachTest.{reaches, in_column, column, columns_to, columns, factor_of}
 use Rattle.amd_model.proofs.Patterns.DegreeSums.{pattern_graph}
@@ -45,7 +48,8 @@ listing = record {
   lists = more {e = 4} {rest = 8 ∷ []} {below = 10 ∷ 5 ∷ 6 ∷ 3 ∷ []} {after = 8 ∷ []}
       (more {e = 10} {rest = 3 ∷ []} {below = []} {after = 5 ∷ 6 ∷ 3 ∷ []} none
       (more {e = 3} {rest = []} {below = 5 ∷ 6 ∷ []} {after = []}
-      (more {e = 5} {rest = 6 ∷ []} {below = []} {after = 6 ∷ []} none (more {e = 6} {rest = []} {below = []} {after = []} none none)) none))
+      (more {e = 5} {rest = 6 ∷ []} {below = []} {after = 6 ∷ []} none (more {e = 6} {rest = []} {below = []} {after = []} none none))
+      none))
       (more {e = 8} {rest = []} {below = []} {after = []} none none);
   is = refl;
 }
@@ -67,7 +71,8 @@ unfolding any_below sum_below count_below graph_of is_pair holds_row degree clas
 d_max = refl
 
 pub lists : map (starting_list 11 (is_pair 11 pointers rows))
-    (0 ∷ 1 ∷ 2 ∷ 3 ∷ 4 ∷ 5 ∷ 6 ∷ 7 ∷ 8 ∷ 9 ∷ 10 ∷ []) ≡ (3 ∷ 1 ∷ 2 ∷ 4 ∷ 5 ∷ 7 ∷ []) ∷ (0 ∷ 4 ∷ []) ∷ (0 ∷ 10 ∷ 6 ∷ []) ∷ (0 ∷ 4 ∷ 5 ∷ 6 ∷ [])
+    (0 ∷ 1 ∷ 2 ∷ 3 ∷ 4 ∷ 5 ∷ 6 ∷ 7 ∷ 8 ∷ 9 ∷ 10 ∷ []) ≡ (3 ∷ 1 ∷ 2 ∷ 4 ∷ 5 ∷ 7 ∷ []) ∷ (0 ∷ 4 ∷ []) ∷ (0 ∷ 10 ∷ 6 ∷ []) ∷
+    (0 ∷ 4 ∷ 5 ∷ 6 ∷ [])
     ∷ (3 ∷ 7 ∷ 0 ∷ 1 ∷ 9 ∷ []) ∷ (3 ∷ 0 ∷ 9 ∷ []) ∷ (9 ∷ 2 ∷ 3 ∷ []) ∷ (4 ∷ 9 ∷ 0 ∷ 10 ∷ []) ∷ [] ∷ (6 ∷ 7 ∷ 10 ∷ 4 ∷ 5 ∷ []) ∷
     (2 ∷ 9 ∷ 7 ∷ []) ∷ []
 unfolding any_below list_below is_pair holds_row was_read met_below met_at met_edges other_end starting_list
@@ -75,33 +80,39 @@ lists = refl
 
 pub first_pivot : pivot eleven_quotient.bound eleven_quotient.placed ≡ 10
 unfolding any_below list_below sum_below count_below graph_of is_pair holds_row degree has each is_empty turned last_that add_new was_read
-    met_below met_at met_edges other_end starting_list start_quotient pivot gathered takes kept_elements kept_variables done rest alike represents
-    made ends new_size far left next_bound new_home round next after_rounds
+    met_below met_at met_edges other_end starting_list start_quotient pivot gathered absorbed_listed kept_elements kept_variables
+    mass_listed border_of_listed alike represents
+    made ends new_size outside_listed left new_bound_listed new_home round next after_rounds
 first_pivot = refl
 
 pub second_pivot : pivot (next true eleven_quotient).bound (next true eleven_quotient).placed ≡ 6
 unfolding any_below list_below sum_below count_below graph_of is_pair holds_row degree has each is_empty turned last_that add_new was_read
-    met_below met_at met_edges other_end starting_list start_quotient pivot gathered takes kept_elements kept_variables done rest alike represents
-    made ends new_size far left next_bound new_home round next after_rounds
+    met_below met_at met_edges other_end starting_list start_quotient pivot gathered absorbed_listed kept_elements kept_variables
+    mass_listed border_of_listed alike represents
+    made ends new_size outside_listed left new_bound_listed new_home round next after_rounds
 second_pivot = refl
 
 pub third_pivot : pivot (next true (next true eleven_quotient)).bound (next true (next true eleven_quotient)).placed ≡ 5
 unfolding any_below list_below sum_below count_below graph_of is_pair holds_row degree has each is_empty turned last_that add_new was_read
-    met_below met_at met_edges other_end starting_list start_quotient pivot gathered takes kept_elements kept_variables done rest alike represents
-    made ends new_size far left next_bound new_home round next after_rounds
+    met_below met_at met_edges other_end starting_list start_quotient pivot gathered absorbed_listed kept_elements kept_variables
+    mass_listed border_of_listed alike represents
+    made ends new_size outside_listed left new_bound_listed new_home round next after_rounds
 third_pivot = refl
 
-pub fourth_pivot : pivot (next true (next true (next true eleven_quotient))).bound (next true (next true (next true eleven_quotient))).placed ≡ 3
+pub fourth_pivot : pivot (next true (next true (next true eleven_quotient))).bound
+    (next true (next true (next true eleven_quotient))).placed ≡ 3
 unfolding any_below list_below sum_below count_below graph_of is_pair holds_row degree has each is_empty turned last_that add_new was_read
-    met_below met_at met_edges other_end starting_list start_quotient pivot gathered takes kept_elements kept_variables done rest alike represents
-    made ends new_size far left next_bound new_home round next after_rounds
+    met_below met_at met_edges other_end starting_list start_quotient pivot gathered absorbed_listed kept_elements kept_variables
+    mass_listed border_of_listed alike represents
+    made ends new_size outside_listed left new_bound_listed new_home round next after_rounds
 fourth_pivot = refl
 
 pub fifth_pivot : pivot (next true (next true (next true (next true eleven_quotient)))).bound
     (next true (next true (next true (next true eleven_quotient)))).placed ≡ 4
 unfolding any_below list_below sum_below count_below graph_of is_pair holds_row degree has each is_empty turned last_that add_new was_read
-    met_below met_at met_edges other_end starting_list start_quotient pivot gathered takes kept_elements kept_variables done rest alike represents
-    made ends new_size far left next_bound new_home round next after_rounds
+    met_below met_at met_edges other_end starting_list start_quotient pivot gathered absorbed_listed kept_elements kept_variables
+    mass_listed border_of_listed alike represents
+    made ends new_size outside_listed left new_bound_listed new_home round next after_rounds
 fifth_pivot = refl
 
 pub fits : Fits eleven eleven_quotient at_start
@@ -110,8 +121,9 @@ fits = start_fits eleven row_one at_start (starting_list 11 (is_pair 11 pointers
 
 pub homes : map (after_rounds 11 true eleven_quotient).home (0 ∷ 1 ∷ 2 ∷ 3 ∷ 4 ∷ 5 ∷ 6 ∷ 7 ∷ 8 ∷ 9 ∷ 10 ∷ []) ≡ five_table.homes
 unfolding any_below list_below sum_below count_below graph_of is_pair holds_row degree has each is_empty turned last_that add_new was_read
-    met_below met_at met_edges other_end starting_list start_quotient pivot gathered takes kept_elements kept_variables done rest alike represents
-    made ends new_size far left next_bound new_home round next after_rounds
+    met_below met_at met_edges other_end starting_list start_quotient pivot gathered absorbed_listed kept_elements kept_variables
+    mass_listed border_of_listed alike represents
+    made ends new_size outside_listed left new_bound_listed new_home round next after_rounds
 homes = refl
 
 pub second_border : list_below 11 (border_of eleven true after_one 6) ≡ 2 ∷ 3 ∷ 9 ∷ []

@@ -10,8 +10,10 @@ use Rattle.amd_model.specs.Listing.{block_list, weight, is_child, is_some_of, he
 use Rattle.amd_model.specs.Listing.{IsPostorder}
 use Rattle.amd_model.specs.Input.Pattern.{graph_of, is_pair, holds_row}
 use Rattle.amd_model.specs.Quotient.{Fits, has, each, is_empty, turned, last_that, add_new, was_read, met_below, met_at, met_edges}
-use Rattle.amd_model.specs.Quotient.{other_end, starting_list, start_quotient, pivot, gathered, takes, kept_elements, kept_variables, done, rest}
-use Rattle.amd_model.specs.Quotient.{alike, represents, made, ends, new_size, far, left, next_bound, new_home, round, next, after_rounds}
+use Rattle.amd_model.specs.Quotient.{other_end, starting_list, start_quotient, pivot, gathered, absorbed as absorbed_listed, kept_elements}
+use Rattle.amd_model.specs.Quotient.{kept_variables, mass as mass_listed, border_of as border_of_listed}
+use Rattle.amd_model.specs.Quotient.{alike, represents, made, ends, new_size, outside as outside_listed, left}
+use Rattle.amd_model.specs.Quotient.{new_bound as new_bound_listed, new_home, round, next, after_rounds}
 use Rattle.amd_model.specs.Examples.Table.{none_dense}
 use Rattle.amd_model.specs.Examples.Seven.{seven, pointers, rows, start_table, one_table, two_table, three_table, at_start, after_one}
 use Rattle.amd_model.specs.Examples.Seven.{after_two, after_three, seven_quotient}
@@ -69,20 +71,23 @@ lists = refl
 
 pub first_pivot : pivot seven_quotient.bound seven_quotient.placed ≡ 0
 unfolding any_below list_below sum_below count_below graph_of is_pair holds_row degree has each is_empty turned last_that add_new was_read
-    met_below met_at met_edges other_end starting_list start_quotient pivot gathered takes kept_elements kept_variables done rest alike represents
-    made ends new_size far left next_bound new_home round next after_rounds
+    met_below met_at met_edges other_end starting_list start_quotient pivot gathered absorbed_listed kept_elements kept_variables
+    mass_listed border_of_listed alike represents
+    made ends new_size outside_listed left new_bound_listed new_home round next after_rounds
 first_pivot = refl
 
 pub second_pivot : pivot (next true seven_quotient).bound (next true seven_quotient).placed ≡ 6
 unfolding any_below list_below sum_below count_below graph_of is_pair holds_row degree has each is_empty turned last_that add_new was_read
-    met_below met_at met_edges other_end starting_list start_quotient pivot gathered takes kept_elements kept_variables done rest alike represents
-    made ends new_size far left next_bound new_home round next after_rounds
+    met_below met_at met_edges other_end starting_list start_quotient pivot gathered absorbed_listed kept_elements kept_variables
+    mass_listed border_of_listed alike represents
+    made ends new_size outside_listed left new_bound_listed new_home round next after_rounds
 second_pivot = refl
 
 pub third_pivot : pivot (next true (next true seven_quotient)).bound (next true (next true seven_quotient)).placed ≡ 2
 unfolding any_below list_below sum_below count_below graph_of is_pair holds_row degree has each is_empty turned last_that add_new was_read
-    met_below met_at met_edges other_end starting_list start_quotient pivot gathered takes kept_elements kept_variables done rest alike represents
-    made ends new_size far left next_bound new_home round next after_rounds
+    met_below met_at met_edges other_end starting_list start_quotient pivot gathered absorbed_listed kept_elements kept_variables
+    mass_listed border_of_listed alike represents
+    made ends new_size outside_listed left new_bound_listed new_home round next after_rounds
 third_pivot = refl
 
 pub fits : Fits seven seven_quotient at_start
@@ -91,8 +96,9 @@ fits = start_fits seven none_dense at_start (starting_list 7 (is_pair 7 pointers
 
 pub homes : map (after_rounds 7 true seven_quotient).home (0 ∷ 1 ∷ 2 ∷ 3 ∷ 4 ∷ 5 ∷ 6 ∷ []) ≡ three_table.homes
 unfolding any_below list_below sum_below count_below graph_of is_pair holds_row degree has each is_empty turned last_that add_new was_read
-    met_below met_at met_edges other_end starting_list start_quotient pivot gathered takes kept_elements kept_variables done rest alike represents
-    made ends new_size far left next_bound new_home round next after_rounds
+    met_below met_at met_edges other_end starting_list start_quotient pivot gathered absorbed_listed kept_elements kept_variables
+    mass_listed border_of_listed alike represents
+    made ends new_size outside_listed left new_bound_listed new_home round next after_rounds
 homes = refl
 
 pub second_front : list_below 7 (front seven after_one 6) ≡ 2 ∷ 3 ∷ 5 ∷ []

@@ -121,6 +121,7 @@ pub one_ordering : OneOrdering
 one_ordering g dense aggressive lists first other states others p q a b =
     let start = one_tree g (start_quotient g dense lists) first other a.starts b.starts
     (λ e v. a.run.start.borders e v ∙ sym (b.run.start.borders e v)) in
-    let same = ends_same g aggressive (start_quotient g dense lists) a.end b.end first other states others a.follows b.follows a.starts b.starts
+    let same = ends_same g aggressive (start_quotient g dense lists) a.end b.end first other states others a.follows b.follows a.starts
+    b.starts
     start a.run.end b.run.end in
     (postorder_one g dense (last_state first states) (last_state other others) p q same a.listing b.listing, same)

@@ -1,4 +1,5 @@
--- The cycle 0 1 2 3: two pivots, of which the first merges the two rows beside it, and the second takes the last row with it.
+-- The cycle 0 1 2 3: two pivots, of which the first merges the two rows beside it, and the second takes the last row
+-- with it.
 use Rattle.std.specs.Prelude.{ℕ, ℤ, pos, None, Some, List, [], ◌∷◌}
 use Rattle.amd_model.specs.Graph.{Graph}
 use Rattle.amd_model.specs.State.{State, Live, Gone}

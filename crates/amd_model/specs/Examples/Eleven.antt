@@ -1,5 +1,6 @@
--- A graph of eleven rows, of which one is held last and one has no edge. Elements hold rows of L that stay, of two rows the elements or
--- the neighbours differ, an element is absorbed that does not hold the pivot, and the heavier of two children is listed behind the other.
+-- A graph of eleven rows, of which one is held last and one has no edge. Elements hold rows of L that stay, of two rows
+-- the elements or the neighbours differ, an element is absorbed that does not hold the pivot, and the heavier of two
+-- children is listed behind the other.
 use Rattle.std.specs.Prelude.{ℕ, ℤ, pos, Bool, None, Some, List, [], ◌∷◌, ◌==◌}
 use Rattle.amd_model.specs.Graph.{Graph}
 use Rattle.amd_model.specs.State.{State, Last, Live, Gone}
@@ -13,7 +14,8 @@ pointers = pos 0 ∷ pos 6 ∷ pos 8 ∷ pos 9 ∷ pos 13 ∷ pos 15 ∷ pos 17 
 
 -- the row indices
 abbrev pub rows : List ℤ
-rows = pos 1 ∷ pos 2 ∷ pos 3 ∷ pos 4 ∷ pos 5 ∷ pos 7 ∷ pos 1 ∷ pos 4 ∷ pos 6 ∷ pos 0 ∷ pos 4 ∷ pos 5 ∷ pos 6 ∷ pos 3 ∷ pos 9 ∷ pos 3 ∷ pos 9
+rows = pos 1 ∷ pos 2 ∷ pos 3 ∷ pos 4 ∷ pos 5 ∷ pos 7 ∷ pos 1 ∷ pos 4 ∷ pos 6 ∷ pos 0 ∷ pos 4 ∷ pos 5 ∷ pos 6 ∷ pos 3 ∷
+    pos 9 ∷ pos 3 ∷ pos 9
     ∷ pos 4 ∷ pos 10 ∷ pos 6 ∷ pos 7 ∷ pos 2 ∷ pos 9 ∷ []
 
 -- edges in the column of the lesser row, of the greater one, and of both; and a diagonal entry
@@ -81,7 +83,8 @@ abbrev pub four_table : Table
 four_table = record {
   homes = Live 4 ∷ Last ∷ Live 2 ∷ Gone 3 ∷ Live 4 ∷ Gone 5 ∷ Gone 6 ∷ Live 7 ∷ Gone 8 ∷ Live 2 ∷ Gone 10 ∷ [];
   bounds = 5 ∷ 2 ∷ 3 ∷ 4 ∷ 3 ∷ 3 ∷ 3 ∷ 4 ∷ 0 ∷ 5 ∷ 3 ∷ [];
-  borders = [] ∷ [] ∷ [] ∷ (0 ∷ 2 ∷ 4 ∷ 9 ∷ []) ∷ [] ∷ (0 ∷ 3 ∷ 9 ∷ []) ∷ (2 ∷ 3 ∷ 9 ∷ []) ∷ [] ∷ [] ∷ [] ∷ (2 ∷ 7 ∷ 9 ∷ []) ∷ [];
+  borders = [] ∷ [] ∷ [] ∷ (0 ∷ 2 ∷ 4 ∷ 9 ∷ []) ∷ [] ∷ (0 ∷ 3 ∷ 9 ∷ []) ∷ (2 ∷ 3 ∷ 9 ∷ []) ∷ [] ∷ [] ∷ [] ∷
+      (2 ∷ 7 ∷ 9 ∷ []) ∷ [];
   parents = None ∷ None ∷ None ∷ None ∷ None ∷ Some 3 ∷ Some 3 ∷ [];
 }
 
@@ -94,11 +97,13 @@ abbrev pub five_table : Table
 five_table = record {
   homes = Gone 4 ∷ Last ∷ Gone 4 ∷ Gone 3 ∷ Gone 4 ∷ Gone 5 ∷ Gone 6 ∷ Gone 4 ∷ Gone 8 ∷ Gone 4 ∷ Gone 10 ∷ [];
   bounds = 5 ∷ 2 ∷ 3 ∷ 4 ∷ 3 ∷ 3 ∷ 3 ∷ 4 ∷ 0 ∷ 5 ∷ 3 ∷ [];
-  borders = [] ∷ [] ∷ [] ∷ (0 ∷ 2 ∷ 4 ∷ 9 ∷ []) ∷ [] ∷ (0 ∷ 3 ∷ 9 ∷ []) ∷ (2 ∷ 3 ∷ 9 ∷ []) ∷ [] ∷ [] ∷ [] ∷ (2 ∷ 7 ∷ 9 ∷ []) ∷ [];
+  borders = [] ∷ [] ∷ [] ∷ (0 ∷ 2 ∷ 4 ∷ 9 ∷ []) ∷ [] ∷ (0 ∷ 3 ∷ 9 ∷ []) ∷ (2 ∷ 3 ∷ 9 ∷ []) ∷ [] ∷ [] ∷ [] ∷
+      (2 ∷ 7 ∷ 9 ∷ []) ∷ [];
   parents = None ∷ None ∷ None ∷ Some 4 ∷ None ∷ Some 3 ∷ Some 3 ∷ None ∷ None ∷ None ∷ Some 4 ∷ [];
 }
 
--- after pivot 4: it takes element 3, which holds it, element 10, whose border lies in its own, and the rows that are left
+-- after pivot 4: it takes element 3, which holds it, element 10, whose border lies in its own, and the rows that are
+-- left
 abbrev pub after_five : State
 after_five = state_of five_table
 

@@ -1,5 +1,5 @@
--- A graph of seven rows: its second pivot merges three rows, of which one is held by an element, and its third pivot takes the two
--- rows that are left with it.
+-- A graph of seven rows: its second pivot merges three rows, of which one is held by an element, and its third pivot
+-- takes the two rows that are left with it.
 use Rattle.std.specs.Prelude.{ℕ, ℤ, pos, None, Some, List, [], ◌∷◌}
 use Rattle.amd_model.specs.Graph.{Graph}
 use Rattle.amd_model.specs.State.{State, Live, Gone}

@@ -1,5 +1,5 @@
--- Column forms: column j holds the rows that stand at the places from a_p[j] on, before a_p[j + 1]. Source: AMD user guide.
--- The numbers are the integers that the caller's values stand for.
+-- Column forms: column j holds the rows that stand at the places from a_p[j] on, before a_p[j + 1]. Source: AMD user
+-- guide. The numbers are the integers that the caller's values stand for.
 use Rattle.std.specs.Prelude.{◌≡◌, ◌+◌, ◌<◌, ◌≤ℤ◌, ◌<ℤ◌, ℕ, ℤ, pos, negsuc, List, length, slice_index_or}
 
 -- the number at place k, 0 past the end
@@ -26,7 +26,8 @@ IsSorted n ap ai = (j k : ℕ) → j < n → at ap j ≤ℤ pos k → pos (k + 1
 
 -- in some column a row is not greater than the one before it
 abbrev pub IsJumbled : ℕ → List ℤ → List ℤ → Type 0
-IsJumbled n ap ai = (j : ℕ) × (k : ℕ) × (j < n) × (at ap j ≤ℤ pos k) × (pos (k + 1) <ℤ at ap (j + 1)) × (at ai (k + 1) ≤ℤ at ai k)
+IsJumbled n ap ai = (j : ℕ) × (k : ℕ) × (j < n) × (at ap j ≤ℤ pos k) × (pos (k + 1) <ℤ at ap (j + 1)) ×
+    (at ai (k + 1) ≤ℤ at ai k)
 
 -- a column form over m rows, for a number of columns that may be negative; never for a negative one
 abbrev pub IsInput : ℤ → ℤ → List ℤ → List ℤ → Type 0

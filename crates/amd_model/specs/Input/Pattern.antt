@@ -1,5 +1,6 @@
 -- The pattern of a column form, its graph, and their figures. Source: AMD user guide; George and Liu 1981.
-use Rattle.std.specs.Prelude.{ℕ, ℤ, pos, Bool, true, ◌≡◌, ◌==◌, ◌&&◌, ◌||◌, ◌+◌, ◌<◌, not, nat_lt, int_le, int_lt, List, length}
+use Rattle.std.specs.Prelude.{ℕ, ℤ, pos, Bool, true, ◌≡◌, ◌==◌, ◌&&◌, ◌||◌, ◌+◌, ◌<◌, not, nat_lt, int_le, int_lt, List}
+use Rattle.std.specs.Prelude.{length}
 use Rattle.std.specs.Ordering.{int_eq}
 use Rattle.amd_model.specs.Below.{any_below, count_below, sum_below}
 use Rattle.amd_model.specs.Graph.{Graph}
@@ -7,7 +8,8 @@ use Rattle.amd_model.specs.Input.Columns.{at}
 
 -- column j holds row i: at some place from a_p[j] on, before a_p[j + 1], the row index is i
 unfoldable pub holds_row : List ℤ → List ℤ → ℕ → ℕ → Bool
-holds_row ap ai j i = any_below (length ai) (λ k. int_le (at ap j) (pos k) && int_lt (pos k) (at ap (j + 1)) && int_eq (at ai k) (pos i))
+holds_row ap ai j i = any_below (length ai) (λ k. int_le (at ap j) (pos k) && int_lt (pos k) (at ap (j + 1)) &&
+    int_eq (at ai k) (pos i))
 
 -- the pair (i, j) of a row and a column is in the pattern
 unfoldable pub is_pair : ℕ → List ℤ → List ℤ → ℕ → ℕ → Bool

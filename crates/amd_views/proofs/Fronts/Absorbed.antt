@@ -8,7 +8,7 @@ use Rattle.amd_model.specs.Below.{count_below}
 use Rattle.amd_model.specs.Graph.{Graph, IsGraph}
 use Rattle.amd_model.specs.Sound.{IsSound}
 use Rattle.amd_model.specs.State.{State, Live, stands}
-use Rattle.amd_model.specs.Quotient.{QuotientGraph, Fits, Once, has, each, is_empty, gathered, takes, kept_elements, kept_variables}
+use Rattle.amd_model.specs.Quotient.{QuotientGraph, Fits, Once, has, each, is_empty, gathered, absorbed, kept_elements, kept_variables}
 use Rattle.amd_model.proofs.States.Words.{class_gives, class_from, holds_gives}
 use Rattle.amd_model.proofs.Quotient.Lists.{each_from, empty_from, each_gives, some_of, flat_gives, flat_from}
 use Rattle.amd_model.proofs.Quotient.Lists.{firsts as firsts_names}
@@ -129,8 +129,8 @@ module _ (g : Graph) (s : State) (t : QuotientGraph) (fits : Fits g t s) (w : Vi
         omega (arith, is, off, same, border, parts)
 
     -- what is absorbed is what the rules say
-    pub taken_takes : (e : ℕ) → a.taken e ≡ takes aggressive t c (gathered t c) e
-    unfolding takes
+    pub taken_takes : (e : ℕ) → a.taken e ≡ absorbed aggressive t c (gathered t c) e
+    unfolding absorbed
     taken_takes e =
         let whole : Bool = aggressive && nat_eq (beyond e) 0 in let inner : Bool = aggressive && not (is_empty (t.members e))
         && each (has (gathered t c)) (t.members e) in
@@ -156,9 +156,9 @@ module _ (g : Graph) (s : State) (t : QuotientGraph) (fits : Fits g t s) (w : Vi
     pub elements_kept : (i : ℕ) → has (gathered t c) i ≡ true → new.elements i ≡ kept_elements aggressive t c (gathered t c) i
     unfolding kept_elements
     elements_kept i l = a.elements i l
-        ∙ filter_named (λ e. not (a.taken e)) (λ e. not (takes aggressive t c (gathered t c) e)) (w.lists.elements i)
+        ∙ filter_named (λ e. not (a.taken e)) (λ e. not (absorbed aggressive t c (gathered t c) e)) (w.lists.elements i)
         (λ e h. ap not (taken_takes e))
-        ∙ ap (filter (λ e. not (takes aggressive t c (gathered t c) e))) (kept.elements i (front_placed i l))
+        ∙ ap (filter (λ e. not (absorbed aggressive t c (gathered t c) e))) (kept.elements i (front_placed i l))
 
     pub variables_kept : (i : ℕ) → has (gathered t c) i ≡ true → new.variables i ≡ kept_variables aggressive t c (gathered t c) i
     unfolding kept_variables
@@ -169,13 +169,14 @@ module _ (g : Graph) (s : State) (t : QuotientGraph) (fits : Fits g t s) (w : Vi
     -- the rows outside the front of an element that a class of it keeps
     pub rows_counted : (i e : ℕ) → has (gathered t c) i ≡ true → has (kept_elements aggressive t c (gathered t c) i) e ≡ true →
         beyond e ≡ sum_by t.size (filter (λ j. not (has (gathered t c) j)) (t.members e))
-    unfolding kept_elements takes
+    unfolding kept_elements absorbed
     rows_counted i e l h =
-        let p = filter_gives (λ e. not (takes aggressive t c (gathered t c) e)) (t.elements i) e h in
-        let apart = (or_parts (has (t.elements c) e) _ (not-true (takes aggressive t c (gathered t c) e) p.1)).0 in
+        let p = filter_gives (λ e. not (absorbed aggressive t c (gathered t c) e)) (t.elements i) e h in
+        let apart = (or_parts (has (t.elements c) e) _ (not-true (absorbed aggressive t c (gathered t c) e) p.1)).0 in
         counted_far e (touched_from i e l p.0 apart)
 
     -- the pivot is the parent of what is absorbed
-    pub parents : ((e : ℕ) → before e ≡ t.parent e) → (e : ℕ) → after e ≡ cond (takes aggressive t c (gathered t c) e) (Some c) (t.parent e)
+    pub parents : ((e : ℕ) → before e ≡ t.parent e) → (e : ℕ) →
+        after e ≡ cond (absorbed aggressive t c (gathered t c) e) (Some c) (t.parent e)
     parents was e = a.parents e ∙ ap (λ b. cond b (Some c) (before e)) (taken_takes e) ∙ ap
-        (cond (takes aggressive t c (gathered t c) e) (Some c)) (was e)
+        (cond (absorbed aggressive t c (gathered t c) e) (Some c)) (was e)

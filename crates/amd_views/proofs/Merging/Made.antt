@@ -4,34 +4,34 @@ use Rattle.std.specs.Prelude.{◌==◌, filter}
 use Rattle.amd_model.specs.Graph.{Graph, IsGraph}
 use Rattle.amd_model.specs.State.{State}
 use Rattle.amd_model.specs.Sound.{IsSound}
-use Rattle.amd_model.specs.Quotient.{QuotientGraph, Fits, has, is_empty, each, last_that, gathered, kept_elements, kept_variables, takes}
-use Rattle.amd_model.specs.Quotient.{done, rest}
+use Rattle.amd_model.specs.Quotient.{QuotientGraph, Fits, has, is_empty, each, last_that, gathered, kept_elements, kept_variables, absorbed}
+use Rattle.amd_model.specs.Quotient.{mass as mass_listed, border_of}
 use Rattle.amd_model.specs.Quotient.{alike, represents, made, Once}
 use Rattle.amd_model.proofs.Quotient.Lists.{once_filter, last_same'}
 use Rattle.amd_model.proofs.Listings.Words.{has_filter as filter_gives}
-use Rattle.amd_views.specs.Rounds.{keeps_none, alike_in}
+use Rattle.amd_views.specs.Rounds.{mass as mass_viewed, alike_in}
 use Rattle.amd_views.proofs.Lists.Named.{filter_named}
 use Rattle.amd_views.proofs.Merging.Representatives.{alike_self, alike_flip, alike_through, rep_in, rep_rep}
 use Rattle.amd_views.proofs.Fronts.Gathered.{gathered_once, gathered_live}
 
 module _ (g : Graph) (laws : IsGraph g) (s : State) (sound : IsSound g s) (t : QuotientGraph) (fits : Fits g t s) (c : ℕ)
     (placed : has t.placed c ≡ true) (aggressive : Bool) where
-  pub rest_in_front : (i : ℕ) → has (rest aggressive t c (gathered t c)) i ≡ true → has (gathered t c) i ≡ true
-  unfolding rest
-  rest_in_front i h = (filter_gives (λ i. not (done aggressive t c (gathered t c) i)) (gathered t c) i h).0
+  pub rest_in_front : (i : ℕ) → has (border_of aggressive t c (gathered t c)) i ≡ true → has (gathered t c) i ≡ true
+  unfolding border_of
+  rest_in_front i h = (filter_gives (λ i. not (mass_listed aggressive t c (gathered t c) i)) (gathered t c) i h).0
 
-  pub rest_once : Once (rest aggressive t c (gathered t c))
-  unfolding rest
-  rest_once = once_filter (λ i. not (done aggressive t c (gathered t c) i)) (gathered t c) (gathered_once t c)
+  pub rest_once : Once (border_of aggressive t c (gathered t c))
+  unfolding border_of
+  rest_once = once_filter (λ i. not (mass_listed aggressive t c (gathered t c) i)) (gathered t c) (gathered_once t c)
 
   pub made_once : Once (made aggressive t c (gathered t c))
   unfolding made
-  made_once = once_filter (λ i. represents aggressive t c (gathered t c) i == i) (rest aggressive t c (gathered t c)) rest_once
+  made_once = once_filter (λ i. represents aggressive t c (gathered t c) i == i) (border_of aggressive t c (gathered t c)) rest_once
 
   -- the lists that a class of the front keeps name each number once
   pub elements_once : (i : ℕ) → has (gathered t c) i ≡ true → Once (kept_elements aggressive t c (gathered t c) i)
   unfolding kept_elements
-  elements_once i h = once_filter (λ e. not (takes aggressive t c (gathered t c) e)) (t.elements i)
+  elements_once i h = once_filter (λ e. not (absorbed aggressive t c (gathered t c) e)) (t.elements i)
       (fits.elements_once i (gathered_live g s t fits c placed i h))
 
   pub variables_once : (i : ℕ) → has (gathered t c) i ≡ true → Once (kept_variables aggressive t c (gathered t c) i)
@@ -39,7 +39,7 @@ module _ (g : Graph) (laws : IsGraph g) (s : State) (sound : IsSound g s) (t : Q
   variables_once i h = once_filter (λ j. not (j == c || has (gathered t c) j)) (t.variables i)
       (fits.variables_once i (gathered_live g s t fits c placed i h))
 
-  pub made_is : filter (λ i. represents aggressive t c (gathered t c) i == i) (rest aggressive t c (gathered t c))
+  pub made_is : filter (λ i. represents aggressive t c (gathered t c) i == i) (border_of aggressive t c (gathered t c))
       ≡ made aggressive t c (gathered t c)
   unfolding made
   made_is = refl
@@ -48,13 +48,15 @@ module _ (g : Graph) (laws : IsGraph g) (s : State) (sound : IsSound g s) (t : Q
   module _ (elements variables : ℕ → List ℕ) (es : (i : ℕ) → has (gathered t c) i ≡ true →
       elements i ≡ kept_elements aggressive t c (gathered t c) i)
       (vs : (i : ℕ) → has (gathered t c) i ≡ true → variables i ≡ kept_variables aggressive t c (gathered t c) i) where
-    pub rest_of : filter (λ i. not (keeps_none elements variables i)) (gathered t c) ≡ rest aggressive t c (gathered t c)
-    unfolding rest done
-    rest_of = filter_named (λ i. not (keeps_none elements variables i)) (λ i. not (done aggressive t c (gathered t c) i)) (gathered t c)
+    pub rest_of : filter (λ i. not (mass_viewed elements variables i)) (gathered t c) ≡ border_of aggressive t c (gathered t c)
+    unfolding border_of mass_listed
+    rest_of = filter_named (λ i. not (mass_viewed elements variables i)) (λ i. not (mass_listed aggressive t c (gathered t c) i))
+        (gathered t c)
         (λ i h. ap (λ xs. not (is_empty xs && is_empty (variables i))) (es i h) ∙ ap
         (λ xs. not (is_empty (kept_elements aggressive t c (gathered t c) i) && is_empty xs)) (vs i h))
 
-    pub alike_is : (i j : ℕ) → has (rest aggressive t c (gathered t c)) i ≡ true → has (rest aggressive t c (gathered t c)) j ≡ true →
+    pub alike_is : (i j : ℕ) → has (border_of aggressive t c (gathered t c)) i ≡ true →
+        has (border_of aggressive t c (gathered t c)) j ≡ true →
         alike_in elements variables i j ≡ alike aggressive t c (gathered t c) i j
     unfolding alike
     alike_is i j hi hj = let fi = rest_in_front i hi in let fj = rest_in_front j hj in
@@ -69,22 +71,22 @@ module _ (g : Graph) (laws : IsGraph g) (s : State) (sound : IsSound g s) (t : Q
             ∙ ap (λ x. each (has ei') ej' && each (has ej') ei' && each (has x) vj && each (has vj) x) r
             ∙ ap (λ x. each (has ei') ej' && each (has ej') ei' && each (has vi') x && each (has x) vi') w
 
-    pub represents_is : (i : ℕ) → has (rest aggressive t c (gathered t c)) i ≡ true →
-        last_that (alike_in elements variables i) i (rest aggressive t c (gathered t c)) ≡ represents aggressive t c (gathered t c) i
+    pub represents_is : (i : ℕ) → has (border_of aggressive t c (gathered t c)) i ≡ true →
+        last_that (alike_in elements variables i) i (border_of aggressive t c (gathered t c)) ≡ represents aggressive t c (gathered t c) i
     unfolding represents
     represents_is i h = last_same' (alike_in elements variables i) (alike aggressive t c (gathered t c) i) i i
-        (rest aggressive t c (gathered t c)) (λ j k. alike_is i j h k) (inl refl)
+        (border_of aggressive t c (gathered t c)) (λ j k. alike_is i j h k) (inl refl)
 
-    pub represents_in : (i : ℕ) → has (rest aggressive t c (gathered t c)) i ≡ true →
-        has (rest aggressive t c (gathered t c)) (represents aggressive t c (gathered t c) i) ≡ true
-    represents_in i h = ap (has (rest aggressive t c (gathered t c))) (sym (represents_is i h))
+    pub represents_in : (i : ℕ) → has (border_of aggressive t c (gathered t c)) i ≡ true →
+        has (border_of aggressive t c (gathered t c)) (represents aggressive t c (gathered t c) i) ≡ true
+    represents_in i h = ap (has (border_of aggressive t c (gathered t c))) (sym (represents_is i h))
         ∙ rep_in (alike_in elements variables) (alike_self elements variables) (alike_flip elements variables)
-        (alike_through elements variables) (rest aggressive t c (gathered t c)) i h
+        (alike_through elements variables) (border_of aggressive t c (gathered t c)) i h
 
-    pub represents_itself : (i : ℕ) → has (rest aggressive t c (gathered t c)) i ≡ true →
+    pub represents_itself : (i : ℕ) → has (border_of aggressive t c (gathered t c)) i ≡ true →
         represents aggressive t c (gathered t c) (represents aggressive t c (gathered t c) i) ≡ represents aggressive t c (gathered t c) i
     represents_itself i h = let e = represents_is i h in
         sym (represents_is (represents aggressive t c (gathered t c) i) (represents_in i h)) ∙ ap
-        (λ x. last_that (alike_in elements variables x) x (rest aggressive t c (gathered t c))) (sym e)
+        (λ x. last_that (alike_in elements variables x) x (border_of aggressive t c (gathered t c))) (sym e)
         ∙ rep_rep (alike_in elements variables) (alike_self elements variables) (alike_flip elements variables)
-        (alike_through elements variables) (rest aggressive t c (gathered t c)) i h ∙ e
+        (alike_through elements variables) (border_of aggressive t c (gathered t c)) i h ∙ e

@@ -6,8 +6,8 @@ use Rattle.std.proofs.lemmas.Bool.{cases_Bool, cond-true, cond-false}
 use Rattle.amd_model.specs.Graph.{Graph}
 use Rattle.amd_model.specs.Figures.{cut}
 use Rattle.amd_model.specs.State.{State}
-use Rattle.amd_model.specs.Quotient.{QuotientGraph, has, gathered, kept_elements, kept_variables, rest}
-use Rattle.amd_model.specs.Quotient.{made, new_size, far, left, next_bound, round}
+use Rattle.amd_model.specs.Quotient.{QuotientGraph, has, gathered, kept_elements, kept_variables, border_of}
+use Rattle.amd_model.specs.Quotient.{made, new_size, outside, left, new_bound, round}
 use Rattle.amd_views.specs.Keeps.{Stands}
 use Rattle.amd_views.specs.Views.{View}
 use Rattle.amd_views.proofs.Lists.Named.{sum_named}
@@ -37,7 +37,7 @@ module _ {g : Graph} {dense : ℕ → Bool} {aggressive : Bool} {w v : View} {t 
     L = gathered t turn.wrote.c
 
     abbrev R : List ℕ
-    R = rest aggressive t turn.wrote.c (gathered t turn.wrote.c)
+    R = border_of aggressive t turn.wrote.c (gathered t turn.wrote.c)
 
     abbrev M : List ℕ
     M = made aggressive t turn.wrote.c (gathered t turn.wrote.c)
@@ -45,18 +45,18 @@ module _ {g : Graph} {dense : ℕ → Bool} {aggressive : Bool} {w v : View} {t 
     abbrev new_lists : QuotientGraph
     new_lists = lists_after turn
 
-    module _ (few : g.size < 2 ^ 64) (border_is : r.border ≡ sum_by t.size (rest aggressive t r.c (gathered t r.c)))
+    module _ (few : g.size < 2 ^ 64) (border_is : r.border ≡ sum_by t.size (border_of aggressive t r.c (gathered t r.c)))
         (live_is : v.live ≡ left aggressive t r.c (gathered t r.c)) (live_small : v.live ≤ g.size) where
-      least_of : (i : ℕ) → next_bound aggressive t r.c L i ≤ left aggressive t r.c L - new_size aggressive t r.c L i
-      unfolding next_bound
+      least_of : (i : ℕ) → new_bound aggressive t r.c L i ≤ left aggressive t r.c L - new_size aggressive t r.c L i
+      unfolding new_bound
       least_of i = omega arith
 
       old_bound : (i : ℕ) → has t.placed i ≡ true → w.bound i < 2 ^ 64
       old_bound i h = let a = st.keeps.small i h in let b = st.rows in omega (arith, a, b, few)
 
       far_is : (i : ℕ) → has L i ≡ true → cut (sum_by r.beyond (r.kept.elements i) + sum_by v.size (r.kept.variables i))
-          ≡ cut (far aggressive t r.c L i)
-      unfolding far
+          ≡ cut (outside aggressive t r.c L i)
+      unfolding outside
       far_is i l =
           let h : ℕ → ℕ = λ e. sum_by t.size (filter (λ j. not (has L j)) (t.members e)) in
           let ke : List ℕ = kept_elements aggressive t r.c L i in let kv : List ℕ = kept_variables aggressive t r.c L i in
@@ -66,12 +66,12 @@ module _ {g : Graph} {dense : ℕ → Bool} {aggressive : Bool} {w v : View} {t 
           ap (sum_by v.size) (f.variables i l) ∙ sum_named v.size t.size kv (λ j k. outside_size turn j (kept_outside turn i l j k)) in
           ap (λ m. cut (m + sum_by v.size (r.kept.variables i))) one ∙ ap (λ m. cut (sum_by h ke + m)) two
 
-      made_bound : (i : ℕ) → has M i ≡ true → v.bound i ≡ next_bound aggressive t r.c L i
-      unfolding next_bound
+      made_bound : (i : ℕ) → has M i ≡ true → v.bound i ≡ new_bound aggressive t r.c L i
+      unfolding new_bound
       made_bound i m = let l = made_front turn i m in let p = front_placed turn i l in
           r.bound_is i (in_made turn i ∙ m)
           ∙ formula (w.bound i) (t.bound i) (cut (sum_by r.beyond (r.kept.elements i) + sum_by v.size (r.kept.variables i)))
-          (far aggressive t r.c L i)
+          (outside aggressive t r.c L i)
           r.border (sum_by t.size R) (v.size i) (new_size aggressive t r.c L i) v.live (left aggressive t r.c L) (st.keeps.bound i p)
           (far_is i l) (old_bound i p) border_is (size_made turn i m) live_is
         where
@@ -86,9 +86,9 @@ module _ {g : Graph} {dense : ℕ → Bool} {aggressive : Bool} {w v : View} {t 
       pub bound_kept : (i : ℕ) → has new_lists.placed i ≡ true → v.bound i ≡ new_lists.bound i
       unfolding round
       bound_kept i h = elim (cases_Bool (has M i)) [
-        | inl m ↦ made_bound i m ∙ sym (cond-true (has M i) (next_bound aggressive t r.c L i) (t.bound i) m)
+        | inl m ↦ made_bound i m ∙ sym (cond-true (has M i) (new_bound aggressive t r.c L i) (t.bound i) m)
         | inr n ↦ (let p = placed_cases turn i h n in other_bound i h n ∙ st.keeps.bound i p.0 ∙ sym
-            (cond-false (has M i) (next_bound aggressive t r.c L i) (t.bound i) n))
+            (cond-false (has M i) (new_bound aggressive t r.c L i) (t.bound i) n))
       ]
 
       pub small_kept : (i : ℕ) → has new_lists.placed i ≡ true → v.bound i < v.rows

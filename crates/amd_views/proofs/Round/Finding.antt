@@ -8,7 +8,7 @@ use Rattle.amd_model.specs.Below.{count_below}
 use Rattle.amd_model.specs.Graph.{Graph}
 use Rattle.amd_model.specs.Listing.{weight}
 use Rattle.amd_model.specs.State.{State, stands}
-use Rattle.amd_model.specs.Quotient.{QuotientGraph, has, Once, pivot, gathered, kept_elements, kept_variables, rest, represents}
+use Rattle.amd_model.specs.Quotient.{QuotientGraph, has, Once, pivot, gathered, kept_elements, kept_variables, border_of, represents}
 use Rattle.amd_model.specs.Quotient.{made as made_of}
 use Rattle.amd_model.specs.Quotient.{last_that}
 use Rattle.amd_model.proofs.Counting.Below.{count_most, clash}
@@ -16,7 +16,7 @@ use Rattle.amd_model.proofs.States.Words.{block_from, stands_gives}
 use Rattle.amd_model.proofs.Listings.Words.{filter_has, has_filter as filter_gives}
 use Rattle.amd_model.proofs.Quotient.Round.Rows.{front_small, placed_small}
 use Rattle.amd_views.specs.Views.{ClassLists, View, live_of}
-use Rattle.amd_views.specs.Rounds.{firsts, keeps_none, alike_in, Absorbed}
+use Rattle.amd_views.specs.Rounds.{firsts, mass, alike_in, Absorbed}
 use Rattle.amd_views.specs.Keeps.{Stands}
 use Rattle.amd_views.proofs.Lists.Named.{filter_named, sum_named, named_sum, sum_part}
 use Rattle.amd_views.proofs.Fronts.Gathered.{gathered_other, gathered_placed, placed_rows}
@@ -90,17 +90,17 @@ module _ (g : Graph) (dense : ℕ → Bool) (aggressive : Bool) (w : View) (t : 
 
     -- the classes that are left, and those that represent others
     module _ (left made : List ℕ) (into : ℕ → ℕ)
-        (left_is : left ≡ filter (λ i. not (keeps_none kept.elements kept.variables i)) front)
+        (left_is : left ≡ filter (λ i. not (mass kept.elements kept.variables i)) front)
         (into_is : (i : ℕ) → has left i ≡ true → into i ≡ last_that (alike_in kept.elements kept.variables i) i left)
         (made_is : made ≡ filter (λ i. into i == i) left) where
       abbrev R : List ℕ
-      R = rest aggressive t c (gathered t c)
+      R = border_of aggressive t c (gathered t c)
 
       abbrev M : List ℕ
       M = made_of aggressive t c (gathered t c)
 
       abbrev none_kept : ℕ → Bool
-      none_kept i = keeps_none kept.elements kept.variables i
+      none_kept i = mass kept.elements kept.variables i
 
       left_parts : (i : ℕ) → has left i ≡ true → (has front i ≡ true) × (none_kept i ≡ false)
       left_parts i h = let p = filter_gives (λ i. not (none_kept i)) front i (ap (λ l. has l i) (sym left_is) ∙ h) in
@@ -112,11 +112,11 @@ module _ (g : Graph) (dense : ℕ → Bool) (aggressive : Bool) (w : View) (t : 
       pub made_front : (i : ℕ) → has made i ≡ true → has front i ≡ true
       made_front i h = (left_parts i (made_parts i h).0).0
 
-      pub left_same : left ≡ rest aggressive t c (gathered t c)
+      pub left_same : left ≡ border_of aggressive t c (gathered t c)
       left_same = left_is ∙ ap (λ l. filter (λ i. not (none_kept i)) l) front_is
           ∙ merging.rest_of g st.graph s st.sound t st.fits c placed aggressive kept.elements kept.variables elements variables
 
-      pub into_same : (i : ℕ) → has (rest aggressive t c (gathered t c)) i ≡ true → into i ≡ represents aggressive t c (gathered t c) i
+      pub into_same : (i : ℕ) → has (border_of aggressive t c (gathered t c)) i ≡ true → into i ≡ represents aggressive t c (gathered t c) i
       into_same i h = into_is i (ap (λ l. has l i) left_same ∙ h) ∙ ap (λ l. last_that (alike_in kept.elements kept.variables i) i l)
           left_same
           ∙ merging.represents_is g st.graph s st.sound t st.fits c placed aggressive kept.elements kept.variables elements variables i h
@@ -139,7 +139,7 @@ module _ (g : Graph) (dense : ℕ → Bool) (aggressive : Bool) (w : View) (t : 
       module _ (border block live : ℕ) (border_is : border ≡ sum_by w.size left)
           (block_is : block ≡ w.size c + (sum_by w.size front - border))
           (live_is : live ≡ w.live - block) (retired joined sizes : ℕ → ℕ)
-          (retired_is : (x : ℕ) → retired x ≡ cond (has front x && keeps_none kept.elements kept.variables x) 0 (w.size x))
+          (retired_is : (x : ℕ) → retired x ≡ cond (has front x && mass kept.elements kept.variables x) 0 (w.size x))
           (joined_is : (x : ℕ) → joined x ≡ cond (has left x) (cond (into x == x) (sum_by retired (filter (λ j. into j == x) left)) 0)
           (retired x))
           (size_is : (x : ℕ) → sizes x ≡ cond (x == c) 0 (joined x)) where

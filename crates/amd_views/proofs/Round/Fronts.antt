@@ -9,7 +9,7 @@ use Rattle.amd_model.specs.Figures.{cut, front_sum, figure, greatest_front, entr
 use Rattle.amd_model.specs.State.{State, Home, Live, Gone, live, is_element, in_block}
 use Rattle.amd_model.specs.Listing.{weight}
 use Rattle.amd_model.specs.Step.{StepAt}
-use Rattle.amd_model.specs.Quotient.{QuotientGraph, gathered, rest, left, round}
+use Rattle.amd_model.specs.Quotient.{QuotientGraph, gathered, border_of, left, round}
 use Rattle.amd_model.proofs.Counting.Below.{clash}
 use Rattle.amd_model.proofs.States.Words.{class_from, live_from}
 use Rattle.amd_model.proofs.Quotient.Round.RoundAt.{RoundAt, pivot_live}
@@ -58,7 +58,7 @@ module _ (n : ℕ) (links : ℕ → Option ℕ) (home : ℕ → Home) (lead : Li
 module _ (g : Graph) (dense : ℕ → Bool) (aggressive : Bool) (w v : View) (t : QuotientGraph) (s : State) (st : Stands g dense w t s)
     (r : Rounding aggressive w v)
     (this : RoundAt g aggressive t s r.c) (front_is : r.front ≡ gathered t r.c)
-    (rest_is : r.rest ≡ rest aggressive t r.c (gathered t r.c)) where
+    (rest_is : r.rest ≡ border_of aggressive t r.c (gathered t r.c)) where
   abbrev pub U : State
   U = state_after this
 
@@ -76,12 +76,12 @@ module _ (g : Graph) (dense : ℕ → Bool) (aggressive : Bool) (w v : View) (t 
       ∙ sum_named w.size t.size (gathered t r.c) (λ i k. size_of i
       (front_class this i k).0)
 
-  pub border_is : r.border ≡ sum_by t.size (rest aggressive t r.c (gathered t r.c))
+  pub border_is : r.border ≡ sum_by t.size (border_of aggressive t r.c (gathered t r.c))
   border_is = r.border_is ∙ ap (sum_by w.size) rest_is
-      ∙ sum_named w.size t.size (rest aggressive t r.c (gathered t r.c))
+      ∙ sum_named w.size t.size (border_of aggressive t r.c (gathered t r.c))
       (λ i k. size_of i (border_class this i k).0)
 
-  pub block_is : r.block ≡ t.size r.c + (sum_by t.size (gathered t r.c) - sum_by t.size (rest aggressive t r.c (gathered t r.c)))
+  pub block_is : r.block ≡ t.size r.c + (sum_by t.size (gathered t r.c) - sum_by t.size (border_of aggressive t r.c (gathered t r.c)))
   block_is = let a = r.block_is in let b = border_is in let c = front_rows_are in let d = size_of r.c home_c in omega (arith, a, b, c, d)
 
   pub live_left : v.live ≡ left aggressive t r.c (gathered t r.c)

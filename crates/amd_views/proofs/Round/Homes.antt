@@ -7,7 +7,7 @@ use Rattle.std.proofs.lemmas.Bool.{cases_Bool, cases_eq, cond-true, cond-false, 
 use Rattle.std.proofs.lemmas.Bool.{and_left, eq-eqb, ne_eqb}
 use Rattle.amd_model.specs.Graph.{Graph}
 use Rattle.amd_model.specs.State.{State, Home, Last, Live, Gone}
-use Rattle.amd_model.specs.Quotient.{QuotientGraph, has, gathered, done, rest}
+use Rattle.amd_model.specs.Quotient.{QuotientGraph, has, gathered, mass, border_of}
 use Rattle.amd_model.specs.Quotient.{represents, made, new_home, round}
 use Rattle.amd_model.proofs.Quotient.Sums.{home_cases}
 use Rattle.amd_views.specs.Keeps.{Stands}
@@ -32,7 +32,7 @@ module _ {g : Graph} {dense : ℕ → Bool} {aggressive : Bool} {w v : View} {t 
     L = gathered t turn.wrote.c
 
     abbrev R : List ℕ
-    R = rest aggressive t turn.wrote.c (gathered t turn.wrote.c)
+    R = border_of aggressive t turn.wrote.c (gathered t turn.wrote.c)
 
     abbrev M : List ℕ
     M = made aggressive t turn.wrote.c (gathered t turn.wrote.c)
@@ -48,29 +48,29 @@ module _ {g : Graph} {dense : ℕ → Bool} {aggressive : Bool} {w v : View} {t 
 
     moved_pivot : moved (Live r.c) ≡ Gone r.c
     unfolding new_home
-    moved_pivot = cond-true (r.c == r.c || (has L r.c && done aggressive t r.c L r.c)) (Gone r.c)
+    moved_pivot = cond-true (r.c == r.c || (has L r.c && mass aggressive t r.c L r.c)) (Gone r.c)
         (cond (has R r.c) (Live (represents aggressive t r.c L r.c)) (Live r.c))
-        (or_left (r.c == r.c) (has L r.c && done aggressive t r.c L r.c) (eq-eqb r.c r.c refl))
+        (or_left (r.c == r.c) (has L r.c && mass aggressive t r.c L r.c) (eq-eqb r.c r.c refl))
 
-    moved_done : (d : ℕ) → has L d ≡ true → done aggressive t r.c L d ≡ true → moved (Live d) ≡ Gone r.c
+    moved_done : (d : ℕ) → has L d ≡ true → mass aggressive t r.c L d ≡ true → moved (Live d) ≡ Gone r.c
     unfolding new_home
-    moved_done d h k = cond-true (d == r.c || (has L d && done aggressive t r.c L d)) (Gone r.c)
+    moved_done d h k = cond-true (d == r.c || (has L d && mass aggressive t r.c L d)) (Gone r.c)
         (cond (has R d) (Live (represents aggressive t r.c L d)) (Live d))
-        (or_right (d == r.c) (has L d && done aggressive t r.c L d) (and_from (has L d) (done aggressive t r.c L d) h k))
+        (or_right (d == r.c) (has L d && mass aggressive t r.c L d) (and_from (has L d) (mass aggressive t r.c L d) h k))
 
     moved_rest : (d : ℕ) → has R d ≡ true → moved (Live d) ≡ Live (represents aggressive t r.c L d)
     unfolding new_home
-    moved_rest d h = cond-false (d == r.c || (has L d && done aggressive t r.c L d)) (Gone r.c)
+    moved_rest d h = cond-false (d == r.c || (has L d && mass aggressive t r.c L d)) (Gone r.c)
         (cond (has R d) (Live (represents aggressive t r.c L d)) (Live d))
-        (or_from (d == r.c) (has L d && done aggressive t r.c L d) (not_c turn d (rest_front turn d h))
+        (or_from (d == r.c) (has L d && mass aggressive t r.c L d) (not_c turn d (rest_front turn d h))
         (ap (λ b. has L d && b) (rest_keeps turn d h) ∙ and-false (has L d)))
         ∙ cond-true (has R d) (Live (represents aggressive t r.c L d)) (Live d) h
 
     pub moved_other : (d : ℕ) → (d == r.c) ≡ false → has L d ≡ false → moved (Live d) ≡ Live d
     unfolding new_home
-    moved_other d e n = cond-false (d == r.c || (has L d && done aggressive t r.c L d)) (Gone r.c)
+    moved_other d e n = cond-false (d == r.c || (has L d && mass aggressive t r.c L d)) (Gone r.c)
         (cond (has R d) (Live (represents aggressive t r.c L d)) (Live d))
-        (or_from (d == r.c) (has L d && done aggressive t r.c L d) e (and_left (has L d) (done aggressive t r.c L d) n))
+        (or_from (d == r.c) (has L d && mass aggressive t r.c L d) e (and_left (has L d) (mass aggressive t r.c L d) n))
         ∙ cond-false (has R d) (Live (represents aggressive t r.c L d)) (Live d) (outside_rest turn d n)
 
     pub moved_gone : (e : ℕ) → moved (Gone e) ≡ Gone e
@@ -94,7 +94,7 @@ module _ {g : Graph} {dense : ℕ → Bool} {aggressive : Bool} {w v : View} {t 
     pub pivot_home : new_lists.home r.c ≡ Gone r.c
     pivot_home = new_home_is r.c ∙ ap moved (home_of r.c f.placed) ∙ moved_pivot
 
-    pub done_home : (x : ℕ) → has L x ≡ true → done aggressive t r.c L x ≡ true → new_lists.home x ≡ Gone r.c
+    pub done_home : (x : ℕ) → has L x ≡ true → mass aggressive t r.c L x ≡ true → new_lists.home x ≡ Gone r.c
     done_home x h k = new_home_is x ∙ ap moved (home_of x (front_placed turn x h)) ∙ moved_done x h k
 
     -- a row that names a class or an element did so before, or is the pivot
@@ -104,7 +104,7 @@ module _ {g : Graph} {dense : ℕ → Bool} {aggressive : Bool} {w v : View} {t 
       | inr (inl (d, z)) ↦ (let m = sym h ∙ new_home_is x ∙ ap moved z in elim (cases_eq d r.c) [
         | inl y ↦ absurd (let k = m ∙ ap moved (ap Live y) ∙ moved_pivot in cc)
         | inr ne ↦ elim (cases_Bool (has L d)) [
-          | inl l ↦ elim (cases_Bool (done aggressive t r.c L d)) [
+          | inl l ↦ elim (cases_Bool (mass aggressive t r.c L d)) [
             | inl k ↦ absurd (let q = m ∙ moved_done d l k in cc)
             | inr k ↦ (let q : Live x ≡ Live (represents aggressive t r.c L d) = m ∙ moved_rest d (in_left turn d l k) in
                 let e : x ≡ represents aggressive t r.c L d = cc in
@@ -122,7 +122,7 @@ module _ {g : Graph} {dense : ℕ → Bool} {aggressive : Bool} {w v : View} {t 
       | inr (inl (d, z)) ↦ inl (let m = sym h ∙ new_home_is x ∙ ap moved z in elim (cases_eq d r.c) [
         | inl y ↦ (let k : Gone x ≡ Gone r.c = m ∙ ap moved (ap Live y) ∙ moved_pivot in let e : x ≡ r.c = cc in z ∙ ap Live (y ∙ sym e))
         | inr ne ↦ elim (cases_Bool (has L d)) [
-          | inl l ↦ elim (cases_Bool (done aggressive t r.c L d)) [
+          | inl l ↦ elim (cases_Bool (mass aggressive t r.c L d)) [
             | inl k ↦ (let q : Gone x ≡ Gone r.c = m ∙ moved_done d l k in let e : x ≡ r.c = cc in
                 ap t.home e ∙ home_of r.c f.placed ∙ sym (ap Live e))
             | inr k ↦ absurd (let q = m ∙ moved_rest d (in_left turn d l k) in cc)
@@ -139,7 +139,7 @@ module _ {g : Graph} {dense : ℕ → Bool} {aggressive : Bool} {w v : View} {t 
       | inr (inl (d, z)) ↦ absurd (let m = sym h ∙ new_home_is x ∙ ap moved z in elim (cases_eq d r.c) [
         | inl y ↦ (let k = m ∙ ap moved (ap Live y) ∙ moved_pivot in cc)
         | inr ne ↦ elim (cases_Bool (has L d)) [
-          | inl l ↦ elim (cases_Bool (done aggressive t r.c L d)) [
+          | inl l ↦ elim (cases_Bool (mass aggressive t r.c L d)) [
             | inl k ↦ (let q = m ∙ moved_done d l k in cc)
             | inr k ↦ (let q = m ∙ moved_rest d (in_left turn d l k) in cc)
           ]

@@ -6,10 +6,10 @@ use Rattle.std.proofs.lemmas.Bool.{cases_Bool, cases_eq, cond-true, cond-false, 
 use Rattle.std.proofs.lemmas.Bool.{and_parts, and_left, eq-eqb, ne_eqb, not-true, not_from_false}
 use Rattle.amd_model.specs.Graph.{Graph}
 use Rattle.amd_model.specs.State.{State, Last, Live, Gone}
-use Rattle.amd_model.specs.Quotient.{QuotientGraph, has, gathered, done, rest}
+use Rattle.amd_model.specs.Quotient.{QuotientGraph, has, gathered, mass as mass_listed, border_of}
 use Rattle.amd_model.specs.Quotient.{represents}
 use Rattle.amd_model.proofs.Counting.Below.{clash}
-use Rattle.amd_views.specs.Rounds.{keeps_none}
+use Rattle.amd_views.specs.Rounds.{mass as mass_viewed}
 use Rattle.amd_views.specs.Keeps.{LinksLead, Stands}
 use Rattle.amd_views.specs.Views.{View}
 use Rattle.amd_views.proofs.Rounding.{Rounding}
@@ -34,7 +34,7 @@ module _ {g : Graph} {dense : ℕ → Bool} {aggressive : Bool} {w v : View} {t 
     L = gathered t turn.wrote.c
 
     abbrev R : List ℕ
-    R = rest aggressive t turn.wrote.c (gathered t turn.wrote.c)
+    R = border_of aggressive t turn.wrote.c (gathered t turn.wrote.c)
 
     abbrev new_lists : QuotientGraph
     new_lists = lists_after turn
@@ -43,7 +43,7 @@ module _ {g : Graph} {dense : ℕ → Bool} {aggressive : Bool} {w v : View} {t 
     merges x = has R x && not (represents aggressive t r.c L x == x)
 
     abbrev leaves : ℕ → Bool
-    leaves x = has L x && done aggressive t r.c L x
+    leaves x = has L x && mass_listed aggressive t r.c L x
 
     merges_is : (x : ℕ) → (has r.rest x && not (r.into x == x)) ≡ merges x
     merges_is x = elim (cases_Bool (has R x)) [
@@ -52,17 +52,18 @@ module _ {g : Graph} {dense : ℕ → Bool} {aggressive : Bool} {w v : View} {t 
           (and_left (has R x) (not (represents aggressive t r.c L x == x)) n)
     ]
 
-    leaves_is : (x : ℕ) → (has r.front x && keeps_none r.kept.elements r.kept.variables x) ≡ leaves x
+    leaves_is : (x : ℕ) → (has r.front x && mass_viewed r.kept.elements r.kept.variables x) ≡ leaves x
     leaves_is x = elim (cases_Bool (has L x)) [
-      | inl y ↦ ap (λ b. b && keeps_none r.kept.elements r.kept.variables x) (in_front turn x) ∙ ap (λ b. has L x && b) (none_kept turn x y)
-      | inr n ↦ and_left (has r.front x) (keeps_none r.kept.elements r.kept.variables x) (in_front turn x ∙ n) ∙ sym
-          (and_left (has L x) (done aggressive t r.c L x) n)
+      | inl y ↦ ap (λ b. b && mass_viewed r.kept.elements r.kept.variables x) (in_front turn x)
+          ∙ ap (λ b. has L x && b) (none_kept turn x y)
+      | inr n ↦ and_left (has r.front x) (mass_viewed r.kept.elements r.kept.variables x) (in_front turn x ∙ n) ∙ sym
+          (and_left (has L x) (mass_listed aggressive t r.c L x) n)
     ]
 
     -- the new link of a row: to its representative, to the pivot, or the old one
     data NewLink (x : ℕ) : Type 0 where
       merged : has R x ≡ true → represents aggressive t r.c L x ≢ x → v.link x ≡ Some (represents aggressive t r.c L x) → NewLink x
-      left_out : has L x ≡ true → done aggressive t r.c L x ≡ true → v.link x ≡ Some r.c → NewLink x
+      left_out : has L x ≡ true → mass_listed aggressive t r.c L x ≡ true → v.link x ≡ Some r.c → NewLink x
       as_before : (has R x ≡ true → represents aggressive t r.c L x ≡ x) → (has L x ≡ true → has R x ≡ true) → v.link x ≡ w.link x →
           NewLink x
 
@@ -72,19 +73,19 @@ module _ {g : Graph} {dense : ℕ → Bool} {aggressive : Bool} {w v : View} {t 
           merged p.0 (λ e. clash (eq-eqb (represents aggressive t r.c L x) x e) (not-true (represents aggressive t r.c L x == x) p.1))
           (r.link_is x ∙ cond-true (has r.rest x && not (r.into x == x)) _ _ (merges_is x ∙ y) ∙ ap (λ n. Some n) (f.into_is x p.0)))
       | inr n ↦ elim (cases_Bool (leaves x)) [
-        | inl y ↦ (let p = and_parts (has L x) (done aggressive t r.c L x) y in
+        | inl y ↦ (let p = and_parts (has L x) (mass_listed aggressive t r.c L x) y in
             left_out p.0 p.1 (r.link_is x ∙ cond-false (has r.rest x && not (r.into x == x)) _ _ (merges_is x ∙ n) ∙ cond-true
-            (has r.front x && keeps_none r.kept.elements r.kept.variables x) _ _ (leaves_is x ∙ y)))
+            (has r.front x && mass_viewed r.kept.elements r.kept.variables x) _ _ (leaves_is x ∙ y)))
         | inr k ↦ as_before
             (λ h. elim (cases_eq (represents aggressive t r.c L x) x) [
               | inl q ↦ q
               | inr ne ↦ clash (and_from (has R x) (not (represents aggressive t r.c L x == x)) h
                   (not_from_false (represents aggressive t r.c L x == x) (ne_eqb (represents aggressive t r.c L x) x ne))) n
             ])
-            (λ h. in_left turn x h (elim (cases_Bool (done aggressive t r.c L x))
-            [ inr m ↦ m | inl m ↦ clash (and_from (has L x) (done aggressive t r.c L x) h m) k ]))
+            (λ h. in_left turn x h (elim (cases_Bool (mass_listed aggressive t r.c L x))
+            [ inr m ↦ m | inl m ↦ clash (and_from (has L x) (mass_listed aggressive t r.c L x) h m) k ]))
             (r.link_is x ∙ cond-false (has r.rest x && not (r.into x == x)) _ _ (merges_is x ∙ n) ∙ cond-false
-            (has r.front x && keeps_none r.kept.elements r.kept.variables x) _ _ (leaves_is x ∙ k))
+            (has r.front x && mass_viewed r.kept.elements r.kept.variables x) _ _ (leaves_is x ∙ k))
       ]
     ]
 

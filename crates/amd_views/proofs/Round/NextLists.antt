@@ -6,7 +6,7 @@ use Rattle.std.proofs.lemmas.Bool.{cases_Bool, cond-true, cond-false, or_parts, 
 use Rattle.std.proofs.lemmas.Bool.{eqb-true, not-true}
 use Rattle.amd_model.specs.Graph.{Graph}
 use Rattle.amd_model.specs.State.{State}
-use Rattle.amd_model.specs.Quotient.{QuotientGraph, has, is_empty, turned, gathered, takes, kept_elements, kept_variables}
+use Rattle.amd_model.specs.Quotient.{QuotientGraph, has, is_empty, turned, gathered, absorbed, kept_elements, kept_variables}
 use Rattle.amd_model.specs.Quotient.{made, ends, round}
 use Rattle.amd_model.proofs.States.Words.{neighbours_gives, holds_gives}
 use Rattle.amd_model.proofs.Quotient.Lists.{has_turned, some_of}
@@ -83,13 +83,13 @@ module _ {g : Graph} {dense : ℕ → Bool} {aggressive : Bool} {w v : View} {t 
         let a = st.keeps.size m.0 placed in let b = class_size turn m.0 placed in
         (m.0, omega (arith, a, b), ap (λ l. has l e) (st.keeps.elements m.0 placed) ∙ st.fits.elements m.0 e class ∙ held)
 
-    none_taken : (e : ℕ) → (e == r.c) ≡ false → takes aggressive t r.c L e ≡ true →
-        is_empty (cond (e == r.c) M (cond (takes aggressive t r.c L e) [] (filter (λ j. not (ends aggressive t r.c L j)) (t.members e))))
+    none_taken : (e : ℕ) → (e == r.c) ≡ false → absorbed aggressive t r.c L e ≡ true →
+        is_empty (cond (e == r.c) M (cond (absorbed aggressive t r.c L e) [] (filter (λ j. not (ends aggressive t r.c L j)) (t.members e))))
         ≡ true
     unfolding is_empty
-    none_taken e n y = ap is_empty (cond-false (e == r.c) M (cond (takes aggressive t r.c L e) []
+    none_taken e n y = ap is_empty (cond-false (e == r.c) M (cond (absorbed aggressive t r.c L e) []
         (filter (λ j. not (ends aggressive t r.c L j)) (t.members e))) n
-        ∙ cond-true (takes aggressive t r.c L e) [] (filter (λ j. not (ends aggressive t r.c L j)) (t.members e)) y)
+        ∙ cond-true (absorbed aggressive t r.c L e) [] (filter (λ j. not (ends aggressive t r.c L j)) (t.members e)) y)
 
     -- the lists are kept
     pub variables_kept : (i : ℕ) → has new_lists.placed i ≡ true → live_of v.size (v.lists.variables i) ≡ new_lists.variables i
@@ -122,13 +122,14 @@ module _ {g : Graph} {dense : ℕ → Bool} {aggressive : Bool} {w v : View} {t 
     members_kept e some = elim (cases_Bool (e == r.c)) [
       | inl y ↦ ap (live_of v.size) (ap v.members (eqb-true e r.c y) ∙ r.members_are ∙ f.made_is)
           ∙ filter_all (λ j. nat_lt 0 (v.size j)) M (λ j a. new_live turn j ∙ made_placed turn j a)
-          ∙ sym (cond-true (e == r.c) M (cond (takes aggressive t r.c L e) [] (filter (λ j. not (ends aggressive t r.c L j)) (t.members e)))
+          ∙ sym (cond-true (e == r.c) M (cond (absorbed aggressive t r.c L e) []
+          (filter (λ j. not (ends aggressive t r.c L j)) (t.members e)))
           y)
-      | inr n ↦ elim (cases_Bool (takes aggressive t r.c L e)) [
+      | inr n ↦ elim (cases_Bool (absorbed aggressive t r.c L e)) [
         | inl y ↦ clash (none_taken e n y) some
-        | inr k ↦ (let e1 = cond-false (e == r.c) M (cond (takes aggressive t r.c L e) []
+        | inr k ↦ (let e1 = cond-false (e == r.c) M (cond (absorbed aggressive t r.c L e) []
             (filter (λ j. not (ends aggressive t r.c L j)) (t.members e))) n in
-            let e2 = cond-false (takes aggressive t r.c L e) [] (filter (λ j. not (ends aggressive t r.c L j)) (t.members e)) k in
+            let e2 = cond-false (absorbed aggressive t r.c L e) [] (filter (λ j. not (ends aggressive t r.c L j)) (t.members e)) k in
             let had = had_some (t.members e) (λ j. not (ends aggressive t r.c L j)) (sym (ap is_empty (e1 ∙ e2)) ∙ some) in
             let by = listed e had in
             ap (live_of v.size) (r.members_stay e by.0 by.1 by.2 n (f.taken e ∙ k))

@@ -5,7 +5,7 @@ use Rattle.std.specs.Prelude.{sum_by, ◌^◌}
 use Rattle.amd_model.specs.Graph.{Graph}
 use Rattle.amd_model.specs.State.{State}
 use Rattle.amd_model.specs.Step.{StepAt}
-use Rattle.amd_model.specs.Quotient.{QuotientGraph, is_empty, pivot, gathered, rest}
+use Rattle.amd_model.specs.Quotient.{QuotientGraph, is_empty, pivot, gathered, border_of}
 use Rattle.amd_model.specs.Quotient.{left, round, next}
 use Rattle.amd_views.specs.Keeps.{Stands}
 use Rattle.amd_views.specs.Views.{View}
@@ -41,7 +41,7 @@ module _ {g : Graph} {dense : ℕ → Bool} {aggressive : Bool} {w v : View} {t 
 
     -- the record stands for the next lists, and for the state that the (step turn) leads to
     module _ (few : g.size < 2 ^ 64) where
-      border_is : r.border ≡ sum_by t.size (rest aggressive t r.c (gathered t r.c))
+      border_is : r.border ≡ sum_by t.size (border_of aggressive t r.c (gathered t r.c))
       border_is = border_rows g dense aggressive w v t s st r (model turn) f.front_is f.rest_is
 
       live_left : v.live ≡ left aggressive t r.c (gathered t r.c)

@@ -8,13 +8,13 @@ use Rattle.std.proofs.lemmas.Bool.{and_parts, and_left, eq-eqb, ne_eqb, lt-ltb, 
 use Rattle.std.specs.Cmp.{both_ways}
 use Rattle.amd_model.specs.Graph.{Graph}
 use Rattle.amd_model.specs.State.{State}
-use Rattle.amd_model.specs.Quotient.{QuotientGraph, has, gathered, done, rest}
+use Rattle.amd_model.specs.Quotient.{QuotientGraph, has, gathered, mass as mass_listed, border_of}
 use Rattle.amd_model.specs.Quotient.{represents, made, ends, new_size, round}
 use Rattle.amd_model.proofs.Quotient.Lists.{has_append, has_filter}
 use Rattle.amd_model.proofs.Listings.Words.{has_filter as filter_gives, has_right}
 use Rattle.amd_model.proofs.Counting.Below.{clash}
 use Rattle.amd_views.specs.Views.{live_of}
-use Rattle.amd_views.specs.Rounds.{keeps_none}
+use Rattle.amd_views.specs.Rounds.{mass as mass_viewed}
 use Rattle.amd_views.specs.Keeps.{Stands}
 use Rattle.amd_views.specs.Views.{View}
 use Rattle.amd_views.proofs.Lists.Named.{filter_named, sum_named, filter_both}
@@ -40,7 +40,7 @@ module _ {g : Graph} {dense : ℕ → Bool} {aggressive : Bool} {w v : View} {t 
     L = gathered t turn.wrote.c
 
     abbrev R : List ℕ
-    R = rest aggressive t turn.wrote.c (gathered t turn.wrote.c)
+    R = border_of aggressive t turn.wrote.c (gathered t turn.wrote.c)
 
     abbrev M : List ℕ
     M = made aggressive t turn.wrote.c (gathered t turn.wrote.c)
@@ -53,7 +53,7 @@ module _ {g : Graph} {dense : ℕ → Bool} {aggressive : Bool} {w v : View} {t 
 
     retired_rest : (j : ℕ) → has R j ≡ true → r.retired j ≡ t.size j
     retired_rest j h = r.retired_is j
-        ∙ cond-false (has r.front j && keeps_none r.kept.elements r.kept.variables j) 0 (w.size j)
+        ∙ cond-false (has r.front j && mass_viewed r.kept.elements r.kept.variables j) 0 (w.size j)
         (ap (λ b. has r.front j && b) (none_kept turn j (rest_front turn j h) ∙ rest_keeps turn j h) ∙ and-false (has r.front j))
         ∙ st.keeps.size j (front_placed turn j (rest_front turn j h))
 
@@ -80,20 +80,20 @@ module _ {g : Graph} {dense : ℕ → Bool} {aggressive : Bool} {w v : View} {t 
           (ne_eqb (r.into x) x (λ e. clash (rest_made turn x y (sym (f.into_is x y) ∙ e)) n))
       | inr k ↦ cond-false (has r.rest x) (cond (r.into x == x) (sum_by r.retired (filter (λ j. r.into j == x) r.rest)) 0) (r.retired x)
           (in_rest turn x ∙ k)
-          ∙ r.retired_is x ∙ cond-true (has r.front x && keeps_none r.kept.elements r.kept.variables x) 0 (w.size x)
-          (and_from (has r.front x) (keeps_none r.kept.elements r.kept.variables x) (in_front turn x ∙ h)
+          ∙ r.retired_is x ∙ cond-true (has r.front x && mass_viewed r.kept.elements r.kept.variables x) 0 (w.size x)
+          (and_from (has r.front x) (mass_viewed r.kept.elements r.kept.variables x) (in_front turn x ∙ h)
           (none_kept turn x h ∙ not_rest x h k))
     ]
       where
-        not_rest : (x : ℕ) → has L x ≡ true → has R x ≡ false → done aggressive t r.c L x ≡ true
-        not_rest x h k = elim (cases_Bool (done aggressive t r.c L x)) [ inl y ↦ y | inr n ↦ clash (in_left turn x h n) k ]
+        not_rest : (x : ℕ) → has L x ≡ true → has R x ≡ false → mass_listed aggressive t r.c L x ≡ true
+        not_rest x h k = elim (cases_Bool (mass_listed aggressive t r.c L x)) [ inl y ↦ y | inr n ↦ clash (in_left turn x h n) k ]
 
     pub size_outside : (x : ℕ) → (x == r.c) ≡ false → has L x ≡ false → v.size x ≡ w.size x
     size_outside x e n = size_at x e ∙ r.joined_is x
         ∙ cond-false (has r.rest x) (cond (r.into x == x) (sum_by r.retired (filter (λ j. r.into j == x) r.rest)) 0) (r.retired x)
         (in_rest turn x ∙ outside_rest turn x n)
-        ∙ r.retired_is x ∙ cond-false (has r.front x && keeps_none r.kept.elements r.kept.variables x) 0 (w.size x)
-        (and_left (has r.front x) (keeps_none r.kept.elements r.kept.variables x) (in_front turn x ∙ n))
+        ∙ r.retired_is x ∙ cond-false (has r.front x && mass_viewed r.kept.elements r.kept.variables x) 0 (w.size x)
+        (and_left (has r.front x) (mass_viewed r.kept.elements r.kept.variables x) (in_front turn x ∙ n))
 
     pub not_ends : (i : ℕ) → (i == r.c) ≡ false → has L i ≡ false → not (ends aggressive t r.c L i) ≡ true
     unfolding ends

@@ -8,7 +8,8 @@ use Rattle.amd_model.specs.Graph.{Graph}
 use Rattle.amd_model.specs.State.{State, Live, is_class, front}
 use Rattle.amd_model.specs.Step.{StepAt}
 use Rattle.amd_model.specs.Sound.{IsSound}
-use Rattle.amd_model.specs.Quotient.{QuotientGraph, Fits, has, is_empty, pivot, gathered, takes, kept_elements, kept_variables, done, rest}
+use Rattle.amd_model.specs.Quotient.{QuotientGraph, Fits, has, is_empty, pivot, gathered, absorbed, kept_elements, kept_variables}
+use Rattle.amd_model.specs.Quotient.{mass as mass_listed, border_of}
 use Rattle.amd_model.specs.Quotient.{represents, made, round}
 use Rattle.amd_model.proofs.States.Words.{class_gives, class_from}
 use Rattle.amd_model.proofs.States.Sound.{live_small}
@@ -19,7 +20,7 @@ use Rattle.amd_model.proofs.Quotient.Round.Front.{front_class}
 use Rattle.amd_model.proofs.Quotient.Round.After.{state_after as after, step_after}
 use Rattle.amd_model.proofs.Quotient.Round.IsStep.{fits_after}
 use Rattle.amd_model.proofs.Counting.Below.{clash}
-use Rattle.amd_views.specs.Rounds.{keeps_none}
+use Rattle.amd_views.specs.Rounds.{mass as mass_viewed}
 use Rattle.amd_views.specs.Keeps.{Stands}
 use Rattle.amd_views.specs.Views.{View}
 use Rattle.amd_views.proofs.Rounding.{Rounding}
@@ -51,12 +52,13 @@ pub record Found (aggressive : Bool) (w v : View) (t : QuotientGraph) (r : Round
   pub variables : (i : ℕ) → has (gathered t r.c) i ≡ true → r.kept.variables i ≡ kept_variables aggressive t r.c (gathered t r.c) i
   pub beyond : (i e : ℕ) → has (gathered t r.c) i ≡ true → has (kept_elements aggressive t r.c (gathered t r.c) i) e ≡ true →
       r.beyond e ≡ sum_by t.size (filter (λ j. not (has (gathered t r.c) j)) (t.members e))
-  pub taken : (e : ℕ) → r.absorbed.taken e ≡ takes aggressive t r.c (gathered t r.c) e
-  pub parents : (e : ℕ) → v.parent e ≡ cond (takes aggressive t r.c (gathered t r.c) e) (Some r.c) (t.parent e)
-  pub rest_is : r.rest ≡ rest aggressive t r.c (gathered t r.c)
-  pub into_is : (i : ℕ) → has (rest aggressive t r.c (gathered t r.c)) i ≡ true → r.into i ≡ represents aggressive t r.c (gathered t r.c) i
+  pub taken : (e : ℕ) → r.absorbed.taken e ≡ absorbed aggressive t r.c (gathered t r.c) e
+  pub parents : (e : ℕ) → v.parent e ≡ cond (absorbed aggressive t r.c (gathered t r.c) e) (Some r.c) (t.parent e)
+  pub rest_is : r.rest ≡ border_of aggressive t r.c (gathered t r.c)
+  pub into_is : (i : ℕ) → has (border_of aggressive t r.c (gathered t r.c)) i ≡ true →
+      r.into i ≡ represents aggressive t r.c (gathered t r.c) i
   pub made_is : r.made ≡ made aggressive t r.c (gathered t r.c)
-  pub one_made : (i : ℕ) → has (rest aggressive t r.c (gathered t r.c)) i ≡ true →
+  pub one_made : (i : ℕ) → has (border_of aggressive t r.c (gathered t r.c)) i ≡ true →
       has (made aggressive t r.c (gathered t r.c)) (represents aggressive t r.c (gathered t r.c) i) ≡ true
 
 -- a round: the record before stands for lists and a state, and what was found and written is what the rules say
@@ -81,7 +83,7 @@ module _ {g : Graph} {dense : ℕ → Bool} {aggressive : Bool} {w v : View} {t 
     L = gathered t turn.wrote.c
 
     abbrev R : List ℕ
-    R = rest aggressive t turn.wrote.c (gathered t turn.wrote.c)
+    R = border_of aggressive t turn.wrote.c (gathered t turn.wrote.c)
 
     abbrev M : List ℕ
     M = made aggressive t turn.wrote.c (gathered t turn.wrote.c)
@@ -121,12 +123,12 @@ module _ {g : Graph} {dense : ℕ → Bool} {aggressive : Bool} {w v : View} {t 
     not_pivot = gathered_other t r.c
 
     pub rest_front : (i : ℕ) → has R i ≡ true → has L i ≡ true
-    unfolding rest
-    rest_front i h = (filter_gives (λ i. not (done aggressive t r.c L i)) L i h).0
+    unfolding border_of
+    rest_front i h = (filter_gives (λ i. not (mass_listed aggressive t r.c L i)) L i h).0
 
-    pub rest_keeps : (i : ℕ) → has R i ≡ true → done aggressive t r.c L i ≡ false
-    unfolding rest
-    rest_keeps i h = not-true (done aggressive t r.c L i) (filter_gives (λ i. not (done aggressive t r.c L i)) L i h).1
+    pub rest_keeps : (i : ℕ) → has R i ≡ true → mass_listed aggressive t r.c L i ≡ false
+    unfolding border_of
+    rest_keeps i h = not-true (mass_listed aggressive t r.c L i) (filter_gives (λ i. not (mass_listed aggressive t r.c L i)) L i h).1
 
     pub made_rest : (i : ℕ) → has M i ≡ true → (has R i ≡ true) × (represents aggressive t r.c L i ≡ i)
     unfolding made
@@ -138,8 +140,8 @@ module _ {g : Graph} {dense : ℕ → Bool} {aggressive : Bool} {w v : View} {t 
     rest_made i h e = filter_has (λ i. represents aggressive t r.c L i == i) R i h (eq-eqb (represents aggressive t r.c L i) i e)
 
     -- what becomes of a class
-    pub none_kept : (i : ℕ) → has L i ≡ true → keeps_none r.kept.elements r.kept.variables i ≡ done aggressive t r.c L i
-    unfolding done
+    pub none_kept : (i : ℕ) → has L i ≡ true → mass_viewed r.kept.elements r.kept.variables i ≡ mass_listed aggressive t r.c L i
+    unfolding mass_listed
     none_kept i h = ap (λ l. is_empty l && is_empty (r.kept.variables i)) (f.elements i h) ∙ ap
         (λ l. is_empty (kept_elements aggressive t r.c L i) && is_empty l) (f.variables i h)
 
@@ -158,9 +160,9 @@ module _ {g : Graph} {dense : ℕ → Bool} {aggressive : Bool} {w v : View} {t 
     pub not_c : (i : ℕ) → has L i ≡ true → (i == r.c) ≡ false
     not_c i h = ne_eqb i r.c (λ e. clash h (ap (has L) e ∙ not_pivot))
 
-    pub in_left : (x : ℕ) → has L x ≡ true → done aggressive t r.c L x ≡ false → has R x ≡ true
-    unfolding rest
-    in_left x h n = filter_has (λ i. not (done aggressive t r.c L i)) L x h (not_from_false (done aggressive t r.c L x) n)
+    pub in_left : (x : ℕ) → has L x ≡ true → mass_listed aggressive t r.c L x ≡ false → has R x ≡ true
+    unfolding border_of
+    in_left x h n = filter_has (λ i. not (mass_listed aggressive t r.c L i)) L x h (not_from_false (mass_listed aggressive t r.c L x) n)
 
     pub outside_rest : (x : ℕ) → has L x ≡ false → has R x ≡ false
     outside_rest x n = elim (cases_Bool (has R x)) [ inr k ↦ k | inl k ↦ clash (rest_front x k) n ]

@@ -176,7 +176,8 @@ returns g c =
       | else-upper-test w ↦ (let x = w.upper-test.false in absurd (omega arith))
     ] in
     let uppers = exit_uppers _ _ _ form t k m r.k_in i.scan p i.from stop i.low i.read in
-    let edges = until_end (is_entry c.args.size ap' ai) k m i.low (λ a x y. false_from_ne_true _ (λ e. let z = uppers a y e in omega arith)) in
+    let edges = until_end (is_entry c.args.size ap' ai) k m i.low
+    (λ a x y. false_from_ne_true _ (λ e. let z = uppers a y e in omega arith)) in
     let found : c.if-place-end.diagonal ≡ true → (p < get_or ap' (k + 1) 0) × (get_or ai p 0 ≡ k) = λ e. elim c.if-place-end.branch [
       | then-place-end w ↦ (let x = w.if-place-end.true in let y = w.count_at-then-place-end.ensures.count in
           let z = eqb-true _ _ (sym w.diagonal-is ∙ e) in (omega arith, omega arith))

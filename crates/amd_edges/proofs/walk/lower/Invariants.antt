@@ -15,7 +15,8 @@ invariant-rows g l = (b : ℕ) × record {
   kept : g.V.Visitor.room l.visitor ≡ g.V.Visitor.room l.fn.visitor;
   held : (arcs : List (ℕ × ℕ)) →
       g.V.Visitor.holds (count_graph l.size (counts (map g.I.Number.value l.a_p)) (counts (map g.I.Number.value l.a_i)))
-      (met l.size (counts (map g.I.Number.value l.a_p)) (counts (map g.I.Number.value l.a_i)) l.next.items l.k (l.j + 1)) arcs l.fn.visitor →
+      (met l.size (counts (map g.I.Number.value l.a_p)) (counts (map g.I.Number.value l.a_i)) l.next.items l.k (l.j + 1)) arcs
+      l.fn.visitor →
       g.V.Visitor.holds (count_graph l.size (counts (map g.I.Number.value l.a_p)) (counts (map g.I.Number.value l.a_i)))
       (met l.size (counts (map g.I.Number.value l.a_p)) (counts (map g.I.Number.value l.a_i)) (set l.next.items l.j l.place) l.k
       (l.j + 1)) (arcs ++ arcs_of (met_above (is_entry l.size (counts (map g.I.Number.value l.a_p)) (counts (map g.I.Number.value l.a_i)))

@@ -16,5 +16,6 @@ invariant-columns g l = record {
   scan : IsScan l.fn.size (counts (map g.I.Number.value l.a_p)) (counts (map g.I.Number.value l.a_i)) l.next.items l.k 0;
   held : g.V.Visitor.holds (count_graph l.fn.size (counts (map g.I.Number.value l.a_p)) (counts (map g.I.Number.value l.a_i)))
       (met l.fn.size (counts (map g.I.Number.value l.a_p)) (counts (map g.I.Number.value l.a_i)) l.next.items l.k 0)
-      (arcs_of (edges_before (is_entry l.fn.size (counts (map g.I.Number.value l.a_p)) (counts (map g.I.Number.value l.a_i))) l.k)) l.visitor;
+      (arcs_of (edges_before (is_entry l.fn.size (counts (map g.I.Number.value l.a_p)) (counts (map g.I.Number.value l.a_i))) l.k))
+      l.visitor;
 }

@@ -162,10 +162,14 @@ listing-requires-clause-lengths g c =
     let links = c.run-told.ensures.links in
     let fresh = c.in_ok-links.ensures in
     let none : length (replicate n n) ≡ n = length-replicate n n in (
-      ap length c.deref_mut-11.ensures.value ∙ ap length (take_at c.run-told.new.head _ _ (links.0 ∙ sym (c.in_ok-links.links.head.ok.0 ∙ ap length fresh.heads.0 ∙ none))) ∙ links.0 ∙ sym rows,
-      ap length c.deref_mut-12.ensures.value ∙ ap length (take_at c.run-told.new.next _ _ (links.1 ∙ sym (c.in_ok-links.links.next.ok.0 ∙ fresh.links.0))) ∙ links.1 ∙ sym rows,
-      ap length c.deref_mut-13.ensures.value ∙ ap length (take_at c.run-told.new.last _ _ (links.2 ∙ sym (c.in_ok-links.links.last.ok.0 ∙ fresh.links.1))) ∙ links.2 ∙ sym rows,
-      ap length c.deref_mut-14.ensures.value ∙ ap length (take_at c.run-told.new.hash _ _ (links.3 ∙ sym (c.in_ok-links.links.hash.ok.0 ∙ ap length fresh.heads.1 ∙ none))) ∙ links.3 ∙ sym rows,
+      ap length c.deref_mut-11.ensures.value ∙ ap length (take_at c.run-told.new.head _ _
+          (links.0 ∙ sym (c.in_ok-links.links.head.ok.0 ∙ ap length fresh.heads.0 ∙ none))) ∙ links.0 ∙ sym rows,
+      ap length c.deref_mut-12.ensures.value ∙ ap length (take_at c.run-told.new.next _ _
+          (links.1 ∙ sym (c.in_ok-links.links.next.ok.0 ∙ fresh.links.0))) ∙ links.1 ∙ sym rows,
+      ap length c.deref_mut-13.ensures.value ∙ ap length (take_at c.run-told.new.last _ _
+          (links.2 ∙ sym (c.in_ok-links.links.last.ok.0 ∙ fresh.links.1))) ∙ links.2 ∙ sym rows,
+      ap length c.deref_mut-14.ensures.value ∙ ap length (take_at c.run-told.new.hash _ _
+          (links.3 ∙ sym (c.in_ok-links.links.hash.ok.0 ∙ ap length fresh.heads.1 ∙ none))) ∙ links.3 ∙ sym rows,
     )
 
 pub listing-requires-clause-more_lengths : goal.listing-requires-clause-more_lengths
@@ -262,18 +266,24 @@ returns-clause-orders g c = λ graph lists lays.
     c.deref-3.result.now c.deref-2.result.now c.end_rows.ensures.ends same e1 d1 (sym e2) (sym v2) in
     let value = g.I.Number.value in
     let listed = c.listing.ensures.lists in
-    let p_long : length c.listing.new.p ≡ c.in_ok-p.p.len = c.listing.auto.p ∙ ap length c.deref_mut-15.ensures.value ∙ sym c.in_ok-p.p.ok.0 in
-    let q_long : length c.listing.new.p_inv ≡ c.in_ok-p_inv.p_inv.len = c.listing.auto.p_inv ∙ ap length c.deref_mut-16.ensures.value ∙ sym c.in_ok-p_inv.p_inv.ok.0 in
+    let p_long : length c.listing.new.p ≡ c.in_ok-p.p.len = c.listing.auto.p ∙ ap length c.deref_mut-15.ensures.value
+    ∙ sym c.in_ok-p.p.ok.0 in
+    let q_long : length c.listing.new.p_inv ≡ c.in_ok-p_inv.p_inv.len = c.listing.auto.p_inv ∙ ap length c.deref_mut-16.ensures.value
+    ∙ sym c.in_ok-p_inv.p_inv.ok.0 in
     let inverse = subst (λ k. AreInverse k (map value c.listing.new.p) (map value c.listing.new.p_inv)) rows c.listing.ensures.inverse in
-    answers_same graph lists (option_copied c.args.hold) n c.args.control.now.dense c.args.control.now.aggressive (map value c.listing.new.p)
+    answers_same graph lists (option_copied c.args.hold) n c.args.control.now.dense c.args.control.now.aggressive
+    (map value c.listing.new.p)
     (map value c.listing.new.p_inv) c.deref-2.result.now c.deref-3.result.now _ _ _ _ c.args.info.now c.tell.new.info
     (answers (option_copied c.args.hold) c.dense_threshold-threshold.result c.args.control.now.aggressive c.args.iw.now c.args.pe.now
     c.args.len.now c.run-told.result.n_dense c.run-told.result.figures c.run-told.new.pe c.run-told.new.e_len c.run-told.new.nv
     c.run-told.new.degree c.run-told.ensures.runs c.end_rows.new.pe c.deref-3.result.now c.deref-2.result.now ends
-    (ended.0 ∙ same) (ap length e2 ∙ ended.1 ∙ same) rows graph lists lays listed.0 listed.2 c.args.control.now.dense c.requires.some c.dense_threshold-threshold.ensures
-    (map value c.listing.new.p) (map value c.listing.new.p_inv) listed.1 inverse c.run-told.result.n_cmp_a c.args.info.now c.tell.new.info c.tell.ensures)
+    (ended.0 ∙ same) (ap length e2 ∙ ended.1 ∙ same) rows graph lists lays listed.0 listed.2 c.args.control.now.dense c.requires.some
+    c.dense_threshold-threshold.ensures
+    (map value c.listing.new.p) (map value c.listing.new.p_inv) listed.1 inverse c.run-told.result.n_cmp_a c.args.info.now c.tell.new.info
+    c.tell.ensures)
     (sym (ap (map value) (take_at c.listing.new.p _ _ p_long))) (sym (ap (map value) (take_at c.listing.new.p_inv _ _ q_long)))
     c.deref-2.ensures.value c.deref-3.ensures.value
 
 pub returns-clause-compactions : goal.returns-clause-compactions
-returns-clause-compactions g c = subst (λ k. k ≤ length c.args.len.now) (sym (ap (λ (x : Info). x.n_cmp_a) c.tell.ensures)) c.run-told.ensures.packs
+returns-clause-compactions g c = subst (λ k. k ≤ length c.args.len.now) (sym (ap (λ (x : Info). x.n_cmp_a) c.tell.ensures))
+    c.run-told.ensures.packs

@@ -60,7 +60,8 @@ places-preserved g c =
     record {
       room = room;
       started = λ home es a b. (
-          let long = b.long in let is = begun_at c.args.elements.now c.args.count es b c.places.k c.figure_at-e.result test c.figure_at-e.ensures.is in
+          let long = b.long in let is = begun_at c.args.elements.now c.args.count es b c.places.k c.figure_at-e.result test
+          c.figure_at-e.ensures.is in
           let read = size_read nv c.figure_at-e.result (slice_index es c.places.k) c.row_at-total.result is
           (c.requires.counts c.figure_at-e.result) c.row_at-total.ensures in
           let written : c.put_figure.new.figures ≡ set c.places.starts (slice_index es c.places.k) c.places.total =

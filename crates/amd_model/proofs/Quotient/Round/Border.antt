@@ -5,7 +5,7 @@ use Rattle.std.specs.Cmp.{both_ways}
 use Rattle.amd_model.specs.Graph.{Graph}
 use Rattle.amd_model.specs.State.{State, Live, holds, front}
 use Rattle.amd_model.specs.Step.{Alike, other, outer, mass, block, border_of}
-use Rattle.amd_model.specs.Quotient.{QuotientGraph, has, each, rest, alike, represents}
+use Rattle.amd_model.specs.Quotient.{QuotientGraph, has, each, border_of as border_of_listed, alike, represents}
 use Rattle.amd_model.proofs.States.Words.{class_from, holds_gives, front_gives}
 use Rattle.amd_model.proofs.States.Sound.{standing_small}
 use Rattle.amd_model.proofs.States.Next.{IsPick}
@@ -25,7 +25,7 @@ module _ {g : Graph} {aggressive : Bool} {t : QuotientGraph} {s : State} {c : �
 
   -- the classes of S
   pub border_is : (i : ℕ) → s.home i ≡ Live i → has (border_list this) i ≡ border_of g aggressive s c i
-  unfolding rest border_of
+  unfolding border_of_listed border_of
   border_is i h = has_filter (λ i. not (keeps_none this i)) L i ∙
       both_ways (has L i && not (keeps_none this i)) (front g s c i && not (block g aggressive s c i))
       (λ a. let p = and_parts (has L i) (not (keeps_none this i)) a in let f = (front_class this i p.0).1 in
@@ -47,7 +47,7 @@ module _ {g : Graph} {aggressive : Bool} {t : QuotientGraph} {s : State} {c : �
       ])))
 
   pub border_class : (i : ℕ) → has (border_list this) i ≡ true → (s.home i ≡ Live i) × (border_of g aggressive s c i ≡ true)
-  unfolding rest
+  unfolding border_of_listed
   border_class i k = let h = (front_class this i (in_L i k)).0 in (h, sym (border_is i h) ∙ k)
     where
       in_L : (i : ℕ) → has (border_list this) i ≡ true → has L i ≡ true

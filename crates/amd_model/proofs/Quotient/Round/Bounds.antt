@@ -8,7 +8,7 @@ use Rattle.amd_model.specs.Below.{any_below, count_below, sum_below}
 use Rattle.amd_model.specs.Graph.{Graph}
 use Rattle.amd_model.specs.State.{State, Live, live, in_class, stands, holds, front}
 use Rattle.amd_model.specs.Step.{StepAt, other, outer, border_of, outside, beyond, new_bound}
-use Rattle.amd_model.specs.Quotient.{QuotientGraph, has, new_size, far, left, next_bound, round}
+use Rattle.amd_model.specs.Quotient.{QuotientGraph, has, new_size, outside as outside_listed, left, new_bound as new_bound_listed, round}
 use Rattle.amd_model.proofs.Counting.Below.{any_gives, any_from, sum_same, count_same, count_split, clash}
 use Rattle.amd_model.proofs.States.Words.{class_gives, class_from, live_gives, holds_gives, neighbours_gives, live_from}
 use Rattle.amd_model.proofs.States.Sound.{live_small, holds_class, standing_small}
@@ -72,8 +72,8 @@ module _ {g : Graph} {aggressive : Bool} {t : QuotientGraph} {s : State} {c : �
       let q = and_parts (outer g s c i r.0) (in_class s r.0 v) r.2 in
       named_from kv (s.home v) r.0 (class_gives r.0 (s.home v) q.1) (variables_left this i r.0 h ∙ q.0)))
 
-  outside_is : (i : ℕ) → new.home i ≡ Live i → far aggressive t c L i ≡ outside g aggressive s new c i
-  unfolding far outside
+  outside_is : (i : ℕ) → new.home i ≡ Live i → outside_listed aggressive t c L i ≡ outside g aggressive s new c i
+  unfolding outside_listed outside
   outside_is i hi = let h = class_before this i hi in let ke : List ℕ = elements_kept this i in
       let F : ℕ → ℕ = λ e. sum_by t.size (filter (λ j. not (has L j)) (t.members e)) in
       let a = sum_over g.size F ke (elements_kept_once this i h)
@@ -143,12 +143,12 @@ module _ {g : Graph} {aggressive : Bool} {t : QuotientGraph} {s : State} {c : �
   as_bound i = refl
 
   pub bound_after : (i : ℕ) → new.home i ≡ Live i → now.bound i ≡ new.bound i
-  unfolding round next_bound
+  unfolding round new_bound_listed
   bound_after i hi = elim (cases_Bool (border_of g aggressive s c i)) [
     | inr nb ↦ cond-false (has (made_list this) i) _ _ (not_made this i nb) ∙ fits.bound i (class_before this i hi) ∙
         sym (step.bound_stays i (class_from i (new.home i) hi) nb)
     | inl b ↦ cond-true (has (made_list this) i) _ _ (made_from this i hi b)
-        ∙ formula (t.bound i) (s.bound i) (far aggressive t c L i) (outside g aggressive s new c i)
+        ∙ formula (t.bound i) (s.bound i) (outside_listed aggressive t c L i) (outside g aggressive s new c i)
         (sum_by t.size (border_list this)) (count_below g.size (border_of g aggressive s c))
         (new_size aggressive t c L i) (count_below g.size (in_class new i)) (left aggressive t c L) (count_below g.size (live new))
         (fits.bound i (class_before this i hi)) (outside_is i hi) (border_sum this) (size_is this i hi b) live_is

@@ -6,7 +6,7 @@ use Rattle.std.specs.Cmp.{both_ways}
 use Rattle.amd_model.specs.Graph.{Graph}
 use Rattle.amd_model.specs.State.{State, Live, is_class, stands, inside, holds, neighbours, front}
 use Rattle.amd_model.specs.Step.{absorbed}
-use Rattle.amd_model.specs.Quotient.{QuotientGraph, has, each, is_empty, gathered, takes, Once}
+use Rattle.amd_model.specs.Quotient.{QuotientGraph, has, each, is_empty, gathered, absorbed as absorbed_listed, Once}
 use Rattle.amd_model.proofs.Counting.Below.{any_gives, clash}
 use Rattle.amd_model.proofs.States.Words.{class_gives, class_from, live_gives, stands_gives, holds_gives, inside_gives, inside_from}
 use Rattle.amd_model.proofs.States.Words.{neighbours_gives, by_element, by_neighbour, front_gives, front_from}
@@ -73,7 +73,7 @@ module _ {g : Graph} {aggressive : Bool} {t : QuotientGraph} {s : State} {c : �
   front_once = once_firsts (λ x. x == c) [] (flat_map t.members (t.elements c) ++ t.variables c) tt
 
   pub absorbed_is : (e : ℕ) → taken this e ≡ absorbed g aggressive s c e
-  unfolding takes absorbed
+  unfolding absorbed_listed absorbed
   absorbed_is e = ap (λ b. b || (aggressive && not (is_empty (t.members e)) && each (has L) (t.members e)))
       (fits.elements c e (pivot_live this))
       ∙ ap (λ b. holds g s e c || b) (both_ways (aggressive && not (is_empty (t.members e)) && each (has L) (t.members e))

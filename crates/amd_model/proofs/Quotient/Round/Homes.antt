@@ -6,7 +6,7 @@ use Rattle.std.proofs.lemmas.Bool.{not-true, and_left, and_right}
 use Rattle.amd_model.specs.Graph.{Graph}
 use Rattle.amd_model.specs.State.{State, Home, Last, Live, Gone}
 use Rattle.amd_model.specs.Step.{absorbed, border_of}
-use Rattle.amd_model.specs.Quotient.{QuotientGraph, has, rest, new_home, round}
+use Rattle.amd_model.specs.Quotient.{QuotientGraph, has, border_of as border_of_listed, new_home, round}
 use Rattle.amd_model.proofs.States.Words.{class_from, front_gives}
 use Rattle.amd_model.proofs.States.Next.{next_state, unbounded}
 use Rattle.amd_model.proofs.States.SoundStep.{goes, moves, stays}
@@ -44,7 +44,7 @@ module _ {g : Graph} {aggressive : Bool} {t : QuotientGraph} {s : State} {c : �
   row_on_border v x h b = border_whole g laws aggressive s sound c x x v (sound.named v x h) h b
 
   border_keeps : (x : ℕ) → has (border_list this) x ≡ true → (has L x ≡ true) × (keeps_none this x ≡ false)
-  unfolding rest
+  unfolding border_of_listed
   border_keeps x k = let p = and_parts (has L x) (not (keeps_none this x))
       (sym (has_filter (λ i. not (keeps_none this i)) L x) ∙ k) in (p.0, not-true (keeps_none this x) p.1)
 

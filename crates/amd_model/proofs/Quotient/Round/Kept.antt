@@ -6,7 +6,7 @@ use Rattle.std.specs.Cmp.{both_ways}
 use Rattle.amd_model.specs.Graph.{Graph}
 use Rattle.amd_model.specs.State.{State, Live, stands, holds, neighbours, front}
 use Rattle.amd_model.specs.Step.{absorbed, other, outer, mass}
-use Rattle.amd_model.specs.Quotient.{QuotientGraph, has, is_empty, kept_elements, kept_variables, done, Once}
+use Rattle.amd_model.specs.Quotient.{QuotientGraph, has, is_empty, kept_elements, kept_variables, mass as mass_listed, Once}
 use Rattle.amd_model.proofs.States.Words.{holds_gives, neighbours_gives}
 use Rattle.amd_model.proofs.States.Sound.{live_small, standing_small}
 use Rattle.amd_model.proofs.States.NewParts.{mass_from}
@@ -53,7 +53,7 @@ module _ {g : Graph} {aggressive : Bool} {t : QuotientGraph} {s : State} {c : �
   outer_small i x o = live_small g laws s sound x x (neighbours_gives g s i x (outer_parts g s c i x o).0).second
 
   pub mass_is : (i : ℕ) → has L i ≡ true → keeps_none this i ≡ mass g aggressive s c i
-  unfolding done
+  unfolding mass_listed
   mass_is i h = let f = front_class this i h in let ke : List ℕ = elements_kept this i in
       let kv : List ℕ = variables_kept this i in
       both_ways (is_empty ke && is_empty kv) (mass g aggressive s c i)

@@ -8,7 +8,8 @@ use Rattle.std.specs.Cmp.{both_ways}
 use Rattle.amd_model.specs.Graph.{Graph}
 use Rattle.amd_model.specs.State.{State, Live, is_class, holds, neighbours}
 use Rattle.amd_model.specs.Step.{StepAt, absorbed, other, outer, border_of}
-use Rattle.amd_model.specs.Quotient.{QuotientGraph, has, turned, kept_elements, kept_variables, rest, made, round, Once}
+use Rattle.amd_model.specs.Quotient.{QuotientGraph, has, turned, kept_elements, kept_variables, border_of as border_of_listed, made, round}
+use Rattle.amd_model.specs.Quotient.{Once}
 use Rattle.amd_model.proofs.States.Words.{class_gives, class_from, holds_gives, neighbours_gives}
 use Rattle.amd_model.proofs.States.Sound.{live_small}
 use Rattle.amd_model.proofs.States.SoundStep.{other_not_pivot}
@@ -159,7 +160,7 @@ module _ {g : Graph} {aggressive : Bool} {t : QuotientGraph} {s : State} {c : �
       ]
 
   made_once : Once (made_list this)
-  unfolding made rest
+  unfolding made border_of_listed
   made_once = once_filter (λ i. representative this i == i) (border_list this)
       (once_filter (λ i. not (keeps_none this i)) L (front_once this))
 

@@ -3,7 +3,8 @@ use Rattle.std.proofs.Common.{ℕ, Bool, true, false, ◌≡◌, ◌≢◌, ◌�
 use Rattle.std.proofs.lemmas.Bool.{cases_Bool}
 use Rattle.amd_model.specs.Graph.{Graph, IsGraph}
 use Rattle.amd_model.specs.State.{State, Live, in_class, is_class}
-use Rattle.amd_model.specs.Quotient.{QuotientGraph, gathered, takes, kept_elements, kept_variables, done, rest, represents, made, ends}
+use Rattle.amd_model.specs.Quotient.{QuotientGraph, gathered, absorbed, kept_elements, kept_variables, mass, border_of, represents, made}
+use Rattle.amd_model.specs.Quotient.{ends}
 use Rattle.amd_model.specs.Quotient.{Fits}
 use Rattle.amd_model.specs.Sound.{IsSound}
 use Rattle.amd_model.proofs.States.Words.{class_gives}
@@ -22,7 +23,7 @@ module _ {g : Graph} {aggressive : Bool} {t : QuotientGraph} {s : State} {c : �
   front_list = gathered t c
 
   abbrev pub taken : ℕ → Bool
-  taken = takes aggressive t c (gathered t c)
+  taken = absorbed aggressive t c (gathered t c)
 
   -- what a class keeps
   abbrev pub elements_kept : ℕ → List ℕ
@@ -32,11 +33,11 @@ module _ {g : Graph} {aggressive : Bool} {t : QuotientGraph} {s : State} {c : �
   variables_kept = kept_variables aggressive t c (gathered t c)
 
   abbrev pub keeps_none : ℕ → Bool
-  keeps_none = done aggressive t c (gathered t c)
+  keeps_none = mass aggressive t c (gathered t c)
 
   -- the classes of S, what represents them, and those that do
   abbrev pub border_list : List ℕ
-  border_list = rest aggressive t c (gathered t c)
+  border_list = border_of aggressive t c (gathered t c)
 
   abbrev pub representative : ℕ → ℕ
   representative = represents aggressive t c (gathered t c)

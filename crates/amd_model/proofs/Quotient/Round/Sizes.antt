@@ -7,7 +7,7 @@ use Rattle.amd_model.specs.Below.{count_below}
 use Rattle.amd_model.specs.Graph.{Graph}
 use Rattle.amd_model.specs.State.{State, Live, in_class}
 use Rattle.amd_model.specs.Step.{StepAt, border_of}
-use Rattle.amd_model.specs.Quotient.{QuotientGraph, has, rest, new_size, round, Once}
+use Rattle.amd_model.specs.Quotient.{QuotientGraph, has, border_of as border_of_listed, new_size, round, Once}
 use Rattle.amd_model.proofs.Counting.Below.{count_same, clash}
 use Rattle.amd_model.proofs.States.Words.{class_gives, class_from, live_gives}
 use Rattle.amd_model.proofs.States.Sound.{front_live}
@@ -44,7 +44,7 @@ module _ {g : Graph} {aggressive : Bool} {t : QuotientGraph} {s : State} {c : �
       named_from (border_list this) (s.home v) d.0 d.1 (border_is this d.0 (sound.named v d.0 d.1) ∙ class_on_border this v d.0 d.1 b))
 
   border_once : Once (border_list this)
-  unfolding rest
+  unfolding border_of_listed
   border_once = once_filter (λ i. not (keeps_none this i)) L (front_once this)
 
   pub border_sum : sum_by t.size (border_list this) ≡ count_below g.size (border_of g aggressive s c)

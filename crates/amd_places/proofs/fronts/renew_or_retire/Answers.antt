@@ -16,5 +16,5 @@ returns-clause-renews g c =
     let row = c.requires.placed.row in let b = c.requires.more_lengths in let r = c.renew_class-count.ensures in
     rw c.put_figure.ensures
     (one_stays r.renews (λ e. num c.args.w.now e - c.args.flag) c.args.nv.now c.args.degree.now c.lower_bound.new.degree c.args.last.now
-    c.renew_class-count.result.1 c.renew_class-count.result.2 (λ e. c.if-count-eq1.false (r.count ∙ e)) (omega (arith, row, b)) r.far
+    c.renew_class-count.result.1 c.renew_class-count.result.2 (λ e. c.if-count-eq1.false (r.count ∙ e)) (omega (arith, row, b)) r.outside
     c.lower_bound.ensures.bound c.lower_bound.ensures.others r.hash)

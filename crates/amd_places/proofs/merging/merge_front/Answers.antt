@@ -145,7 +145,8 @@ returns-clause-heads g c b small full =
     (subst (λ k. Merging (length c.args.next.now) c.args.iw.now c.args.pe.now c.args.e_len.now c.args.len.now c.args.nv.now c.args.w.now
     c.args.next.now c.args.last.now (classes c.args.nv.now (rows c.args.iw.now c.args.from c.args.count)) c.args.flag
     k c.classes.pe c.classes.e_len c.classes.nv c.classes.w c.classes.hash c.classes.next c.classes.now)
-    (classes_end c.args.nv.now c.args.iw.now c.args.from c.classes.left c.classes-test.false) c.classes.invariant.merging) b small full) in (
+    (classes_end c.args.nv.now c.args.iw.now c.args.from c.classes.left c.classes-test.false) c.classes.invariant.merging) b small full)
+    in (
       (let f = c.if-count-lt2.false in omega (arith, f)),
       made_from (rows c.args.iw.now c.args.from c.args.count) _ _ _ _ _ _ _ _ _ merged (num c.classes.hash b) head.0 head.1,
       head.2,

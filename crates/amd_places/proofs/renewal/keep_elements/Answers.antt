@@ -61,20 +61,20 @@ loop-p-preserved g c =
     let read : c.figure_at-counter.result ≡ num w0 c.named-e.result = c.figure_at-counter.ensures.is in
     let counter_is : c.figure_at-counter.result ≡ num w0 (place (word iw (from + k))) = read ∙ ap (num w0) there in
     elim c.if-counter-gt0.branch [
-      | then-counter-gt0 w ↦ rw (w.iw-is, w.end-is, w.far-is, w.hash-is, w.copy_word.ensures, next) record {
+      | then-counter-gt0 w ↦ rw (w.iw-is, w.end-is, w.outside-is, w.hash-is, w.copy_word.ensures, next) record {
         filters =
             (filters_yes (length c.args.w.now) (is_kept c.args.w.now) (λ e.
-            num c.args.w.now e - c.args.flag) 0 iw from from h p w.saturating_add-far.result at (omega arith) (let a =
+            num c.args.w.now e - c.args.flag) 0 iw from from h p w.saturating_add-outside.result at (omega arith) (let a =
             c.requires.inside in omega (arith, a, at, l)) is_one small
             (ap (is_kept w0) (sym there) ∙ ap (nat_lt 0) (sym read)
             ∙ lt-ltb 0 c.figure_at-counter.result w.if-counter-gt0.true)
-            (w.saturating_add-far.ensures ∙ cut_min _ ∙ ap (λ m. cut (c.loop-p.far + m)) (w.saturating_sub.ensures
+            (w.saturating_add-outside.ensures ∙ cut_min _ ∙ ap (λ m. cut (c.loop-p.outside + m)) (w.saturating_sub.ensures
             ∙ ap (λ m. m - c.args.flag) counter_is)));
         hash = hashed_yes (is_kept c.args.w.now) 0 iw from k c.loop-p.hash c.loop-p.invariant.hash c.named-e.result there
             (ap (is_kept w0) (sym there) ∙ ap (nat_lt 0) (sym read)
             ∙ lt-ltb 0 c.figure_at-counter.result w.if-counter-gt0.true);
       }
-      | else-counter-gt0 w ↦ rw (w.iw-is, w.end-is, w.far-is, w.hash-is, next) record {
+      | else-counter-gt0 w ↦ rw (w.iw-is, w.end-is, w.outside-is, w.hash-is, next) record {
         filters =
             (filters_no (length c.args.w.now) (is_kept c.args.w.now) (λ e.
             num c.args.w.now e - c.args.flag) 0 iw from from h (ap (is_kept w0) (sym there)
@@ -95,4 +95,4 @@ returns-clause-filters g c = let t = c.loop-p-test.false in let after : c.args.f
     let past : c.loop-p.p ≤ c.args.from + c.args.count = c.loop-p.auto.p-end (omega arith) in
     let all : c.loop-p.p - c.args.from ≡ c.args.count = omega (arith, t, after, past) in
     subst (λ m. Filters (length c.args.w.now) (is_kept c.args.w.now) (λ e. num c.args.w.now e - c.args.flag) 0 c.args.iw.now c.args.from m
-    c.args.from c.loop-p.iw c.loop-p.end c.loop-p.far) all c.loop-p.invariant.filters
+    c.args.from c.loop-p.iw c.loop-p.end c.loop-p.outside) all c.loop-p.invariant.filters

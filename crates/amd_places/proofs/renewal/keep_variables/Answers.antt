@@ -72,18 +72,18 @@ loop-p-preserved g c =
     let row : c.named-j.result ≡ place (word iw p) = c.named-j.ensures ∙ ap place same in
     let nv : List ℤ = c.args.nv.now in let there : c.named-j.result ≡ place (word iw (from + k)) = row ∙ ap (λ m. place (word iw m)) at in
     elim c.if-is_open.branch [
-      | then-is_open w ↦ rw (w.iw-is, w.end-is, w.far-is, w.hash-is, w.copy_word.ensures, next) record {
+      | then-is_open w ↦ rw (w.iw-is, w.end-is, w.outside-is, w.hash-is, w.copy_word.ensures, next) record {
         filters =
             (filters_yes (length c.args.nv.now) (is_outside c.args.nv.now) (size_of c.args.nv.now)
-            c.args.first iw from c.args.to h p w.saturating_add-far.result at down (let a = c.requires.inside in
+            c.args.first iw from c.args.to h p w.saturating_add-outside.result at down (let a = c.requires.inside in
             omega (arith, a, at, l)) is_one small
             (ap (is_outside nv) (sym there) ∙ sym c.is_open.ensures ∙ w.if-is_open.true)
-            (w.saturating_add-far.ensures ∙ cut_min _ ∙ ap (λ m. cut (c.loop-p.far + m)) (w.size_outside-more.ensures
+            (w.saturating_add-outside.ensures ∙ cut_min _ ∙ ap (λ m. cut (c.loop-p.outside + m)) (w.size_outside-more.ensures
             ∙ ap (size_of nv) there)));
         hash = hashed_yes (is_outside c.args.nv.now) c.args.sum iw from k c.loop-p.hash c.loop-p.invariant.hash c.named-j.result there
             (ap (is_outside nv) (sym there) ∙ sym c.is_open.ensures ∙ w.if-is_open.true);
       }
-      | else-is_open w ↦ rw (w.iw-is, w.end-is, w.far-is, w.hash-is, next) record {
+      | else-is_open w ↦ rw (w.iw-is, w.end-is, w.outside-is, w.hash-is, next) record {
         filters =
             (filters_no (length c.args.nv.now) (is_outside c.args.nv.now) (size_of c.args.nv.now) c.args.first iw from c.args.to h
             (ap (is_outside nv) (sym there) ∙ sym c.is_open.ensures ∙ w.if-is_open.false));
@@ -103,4 +103,4 @@ returns-clause-filters g c = let t = c.loop-p-test.false in let after : c.args.f
     let past : c.loop-p.p ≤ c.args.from + c.args.count = c.loop-p.auto.p-end (omega arith) in
     let all : c.loop-p.p - c.args.from ≡ c.args.count = omega (arith, t, after, past) in
     subst (λ m. Filters (length c.args.nv.now) (is_outside c.args.nv.now) (size_of c.args.nv.now) c.args.first c.args.iw.now c.args.from m
-    c.args.to c.loop-p.iw c.loop-p.end c.loop-p.far) all c.loop-p.invariant.filters
+    c.args.to c.loop-p.iw c.loop-p.end c.loop-p.outside) all c.loop-p.invariant.filters

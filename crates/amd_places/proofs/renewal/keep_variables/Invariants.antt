@@ -5,6 +5,6 @@ use Rattle.amd_places.proofs.renewal.keep_variables.Given as goal
 
 abbrev pub invariant-loop-p : goal.invariant-loop-p
 invariant-loop-p g l = record {
-  filters : Filters (length l.nv) (is_outside l.nv) (size_of l.nv) l.first l.fn.iw l.from (l.p - l.from) l.to l.iw l.end l.far;
+  filters : Filters (length l.nv) (is_outside l.nv) (size_of l.nv) l.first l.fn.iw l.from (l.p - l.from) l.to l.iw l.end l.outside;
   hash : l.hash ≡ hashed l.sum (filter (is_outside l.nv) (rows l.fn.iw l.from (l.p - l.from)));
 }

@@ -1,7 +1,7 @@
 use Rattle.std.proofs.Common.{ℕ, List, ◌≡◌, ◌+◌, ◌-◌, sym, ap, ◌∙◌, arith, subst, length, filter}
 use Rattle.amd_places.specs.Words.{num, size_of, rows, Names}
 use Rattle.amd_places.specs.Renewal.{is_kept, is_outside, hashed, Filters}
-use Rattle.amd_places.proofs.Renewing.{names_after, renew_fit, renews, renew_far}
+use Rattle.amd_places.proofs.Renewing.{names_after, renew_fit, renews, renew_outside}
 use Rattle.amd_places.proofs.RowLists.{rows_same}
 use Rattle.amd_places.proofs.Filtering.{hashed_both}
 use Rattle.amd_places.proofs.renewal.renew_list.Goals as goal
@@ -37,13 +37,13 @@ returns-clause-renews g c =
     c.keep_elements-middle.result.0 c.keep_elements-middle.result.1 c.keep_variables-end.result.0 c.keep_variables-end.result.1
     c.args.me c.keep_elements-middle.ensures.filters g c.requires.parts c.requires.me.0 c.requires.inside c.requires.room)
 
-pub returns-clause-far : goal.returns-clause-far
-returns-clause-far g c =
+pub returns-clause-outside : goal.returns-clause-outside
+returns-clause-outside g c =
     let g = subst (λ m. Filters m (is_outside c.args.nv.now) (size_of c.args.nv.now)
     c.keep_elements-middle.result.1 c.keep_elements-middle.new.iw (c.args.from + c.args.n_elements) (c.args.count - c.args.n_elements)
     c.keep_elements-middle.result.0 c.keep_variables-end.new.iw c.keep_variables-end.result.0 c.keep_variables-end.result.1)
     c.requires.lengths c.keep_variables-end.ensures.filters in
-    renew_far (length c.args.w.now) (is_kept c.args.w.now) (is_outside c.args.nv.now) (λ e.
+    renew_outside (length c.args.w.now) (is_kept c.args.w.now) (is_outside c.args.nv.now) (λ e.
     num c.args.w.now e - c.args.flag) (size_of c.args.nv.now)
     c.args.iw.now c.keep_elements-middle.new.iw c.keep_variables-end.new.iw c.args.from c.args.n_elements c.args.count
     c.keep_elements-middle.result.0 c.keep_elements-middle.result.1 c.keep_variables-end.result.0 c.keep_variables-end.result.1

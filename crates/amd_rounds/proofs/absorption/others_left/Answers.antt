@@ -1,5 +1,5 @@
 use Rattle.std.proofs.Common.{ℕ, Bool, List, [], ◌∷◌, ◌++◌, ◌<◌, ◌∙◌, ap, sym, length, get_or}
-use Rattle.amd_rounds.specs.Rounds.{keeps_none}
+use Rattle.amd_rounds.specs.Rounds.{mass}
 use Rattle.amd_rounds.proofs.Kept.{filter_next, filter_passed}
 use Rattle.amd_rounds.proofs.absorption.others_left.Goals as goal
 use Rattle.amd_rounds.proofs.absorption.others_left.Goals.{then-not-keeps_nothing+in_ok-push, else-not-keeps_nothing}
@@ -7,7 +7,7 @@ use Rattle.amd_rounds.proofs.absorption.others_left.Goals.{then-not-keeps_nothin
 pub loop-i-preserved : goal.loop-i-preserved
 loop-i-preserved g c =
     let k : ℕ = c.loop-i.i-index in let front : List ℕ = c.args.front.now in let here : k < length front = c.loop-i-test.true in
-    let none : ℕ → Bool = keeps_none c.args.lists.now.elements.items c.args.lists.now.variables.items in
+    let none : ℕ → Bool = mass c.args.lists.now.elements.items c.args.lists.now.variables.items in
     elim c.if-not-keeps_nothing.branch [
       | then-not-keeps_nothing+in_ok-push w ↦ ap (λ v. v.items) w.rest-is ∙ w.in_ok-push.ensures.items ∙
           ap (λ l. l ++ get_or front k 0 ∷ []) c.loop-i.invariant

@@ -1,6 +1,6 @@
 use Rattle.std.proofs.Common.{ℕ, Bool, Option, Some, None, List, ◌≡◌, ◌<◌, ◌∙◌, ap, refl, sym, arith, length, get_or, set, length-set}
 use Rattle.amd_rounds.specs.Views.{num, some_at}
-use Rattle.amd_rounds.specs.Rounds.{keeps_none}
+use Rattle.amd_rounds.specs.Rounds.{mass}
 use Rattle.amd_model.specs.Quotient.{has}
 use Rattle.amd_rounds.proofs.Kept.{set_passing, set_none}
 use Rattle.amd_rounds.proofs.absorption.retire.Goals as goal
@@ -17,7 +17,7 @@ loop-i-preserved g c =
     let size : List ℕ = c.loop-i.size.items in let link : List (Option ℕ) = c.loop-i.link.items in
     let small : x < length size = (let a = was.size in omega (arith, range, a)) in
     let room : x < length link = (let a = was.link in let b = c.requires.lengths in omega (arith, range, a, b)) in
-    let none : ℕ → Bool = keeps_none c.args.lists.now.elements.items c.args.lists.now.variables.items in
+    let none : ℕ → Bool = mass c.args.lists.now.elements.items c.args.lists.now.variables.items in
     let written : Option ℕ = Some c.args.pivot in
     elim c.if-keeps_nothing.branch [
       | then-keeps_nothing w ↦ (

@@ -4,7 +4,7 @@ use Rattle.std.proofs.lemmas.Grind.{get_or_default_zero}
 use Rattle.std.proofs.lemmas.Result.{IfOk-from_err}
 use Rattle.amd_model.specs.Quotient.{has, last_that}
 use Rattle.amd_rounds.specs.Views.{num, some_at, ListsBelow}
-use Rattle.amd_rounds.specs.Rounds.{keeps_none, alike_in}
+use Rattle.amd_rounds.specs.Rounds.{mass, alike_in}
 use Rattle.amd_rounds.specs.Keeps.{IsIdle}
 use Rattle.amd_rounds.proofs.ListPlaces.{put_at}
 use Rattle.amd_rounds.proofs.MergeParts.{part_below, part_once, part_named, part_rows, part_left, into_settled, rows_same, rows_joined}
@@ -123,7 +123,7 @@ join-requires-clause-fits g c =
     let same = ap (sum_by (num c.retire.new.size.items)) c.deref-5.ensures.value in
     let part : sum_by (num c.retire.new.size.items) c.in_ok-rest.rest.items ≤ sum_by (num c.args.work.now.size.items) c.args.front.now =
     part_left _ c.args.front.now _ c.in_ok-rest.ensures (num c.args.work.now.size.items) (num c.retire.new.size.items)
-    (λ x. has c.args.front.now x && keeps_none c.args.work.now.lists.elements.items c.args.work.now.lists.variables.items x)
+    (λ x. has c.args.front.now x && mass c.args.work.now.lists.elements.items c.args.work.now.lists.variables.items x)
     c.retire.ensures.sizes in
     let live = c.requires.live in
     let word : c.args.work.now.live < 2 ^ 64 = omega arith in

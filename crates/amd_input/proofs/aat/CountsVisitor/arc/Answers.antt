@@ -17,5 +17,6 @@ overflow_add-index_mut g c =
     omega (arith, room, size, count, here, value, short)
 
 pub returns-clause-held : goal.returns-clause-held
-returns-clause-held g c = λ gr seen arcs h new. counts_more gr seen c.args.i c.args.j new c.args.self.now.degrees.items c.index_mut.result.now
+returns-clause-held g c = λ gr seen arcs h new. counts_more gr seen c.args.i c.args.j new c.args.self.now.degrees.items
+    c.index_mut.result.now
     c.index_mut.ensures.value h
