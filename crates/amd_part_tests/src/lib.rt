@@ -22,6 +22,8 @@ mod helpers;
 #[cfg(test)]
 mod in_place;
 #[cfg(test)]
+mod in_place_matrices;
+#[cfg(test)]
 mod in_place_memory;
 #[cfg(test)]
 mod in_place_rows;
