@@ -9,7 +9,7 @@ use Rattle.amd_rounds.specs.declared.work.Lists.{Lists}
 
 -- the class i keeps neither an element nor a variable
 abbrev pub mass : {A : Type 0} → List (Vec ℕ A) → List (Vec ℕ A) → ℕ → Bool
-mass elements variables i = views.keeps_none (list_at elements) (list_at variables) i
+mass elements variables i = views.mass (list_at elements) (list_at variables) i
 
 -- two classes keep the same elements and the same variables
 abbrev pub alike_in : {A : Type 0} → List (Vec ℕ A) → List (Vec ℕ A) → ℕ → ℕ → Bool
@@ -36,4 +36,4 @@ pub record Absorbed {A : Type 0} (aggressive : Bool) (c : ℕ) (front size block
 -- other live rows
 abbrev pub new_bound : {A : Type 0} → ℕ → ℕ → Lists A → List ℕ → List ℕ → List ℕ → ℕ → ℕ
 new_bound border live lists beyond size bound i =
-    views.bound_after border live (lists_of lists) (num beyond) (num size) (num bound) i
+    views.new_bound border live (lists_of lists) (num beyond) (num size) (num bound) i
