@@ -1,10 +1,10 @@
 // Families of graphs of several sizes and matrices drawn from seeds, each with every choice of a caller, through
-// three calls: `order`, `amd_1` with no word to spare, and the plain engine; and through the engine in place from the
-// last first flag before a reset of the counters, in each width. There is one answer. In the crate `amd_tests` the
-// answers of `order` over the same families are compared with what the factor needs.
+// three calls: `order`, `amd_1` with no word to spare, and the plain engine; and through the engine in place from each
+// first flag, in words of both widths. There is one answer. In the crate `amd_tests` the answers of `order` over the same
+// families are compared with what the factor needs.
 
 use crate::in_place::check_flags;
-use crate::sorted::{Sorted, last_flags, order_exactly, order_plainly, unmarked};
+use crate::sorted::{Sorted, first_flags, order_exactly, order_plainly, unmarked};
 use amd::{Control, Info, Status, order};
 use amd_input::preprocess::preprocess;
 use amd_input::valid::valid;
@@ -88,7 +88,7 @@ fn compare_choice(
     check_flags(
         rt,
         alloc,
-        &last_flags(rt, answer.p.len()),
+        &first_flags(rt, answer.p.len()),
         0,
         matrix,
         control,

@@ -182,6 +182,17 @@ fn has_its_fault_at_the_chosen_call(rt: HostRuntime) {
     }
 }
 
+/// The rest of a word of which one byte was taken is written by one call more.
+#[test]
+fn takes_one_byte_at_the_chosen_call(rt: HostRuntime) {
+    for (fault_at, calls, faults) in [(0, 3, 0), (1, 4, 1), (2, 4, 1), (3, 4, 1), (4, 3, 0)] {
+        let mut out = Faulty::new(Vec::new(rt.alloc()), Fault::TakesOne, fault_at);
+        let is_written = three_words(&mut out).is_ok();
+        assert!(rt; is_written && out.bytes() == b"onetwothree".as_slice());
+        assert!(rt; out.calls() == calls && out.faults() == faults);
+    }
+}
+
 #[test]
 fn takes_all_in_the_end(rt: HostRuntime) {
     let mut out = Slow::new(Vec::new(rt.alloc()));

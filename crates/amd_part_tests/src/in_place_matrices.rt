@@ -23,7 +23,7 @@ pub struct Case<'a> {
 }
 
 /// Matrices with their answers.
-pub static MATRICES: [Case<'static>; 23] = [
+pub static MATRICES: [Case<'static>; 24] = [
     Case {
         what: "one row without entries",
         n: 1,
@@ -85,6 +85,20 @@ pub static MATRICES: [Case<'static>; 23] = [
         n: 2,
         a_p: &[0, 1, 1],
         a_i: &[1],
+        dense: 10000,
+        aggressive: true,
+        hold: None,
+        p: &[0, 1],
+        blocks: &[0, 2],
+        fronts: &[-1, 2],
+        figures: [0, 1, 1, 1, 2],
+        packs: false,
+    },
+    Case {
+        what: "one edge, by its other entry",
+        n: 2,
+        a_p: &[0, 0, 1],
+        a_i: &[0],
         dense: 10000,
         aggressive: true,
         hold: None,

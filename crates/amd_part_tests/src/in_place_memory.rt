@@ -1,7 +1,10 @@
-// The engine in place with refused memory: each request refused in turn, and nothing left behind. How many requests
-// there are does not depend on the number of rounds. The answers were worked by hand.
+// The engine in place with refused memory: each request refused in turn, over the worked matrices and in words of both
+// widths, and nothing left behind; workspaces that no memory holds. How many requests there are does not depend on the
+// number of rounds.
 
-use crate::sorted::{Sorted, order_in_place, unmarked};
+use crate::in_place_matrices::{Case, MATRICES};
+use crate::in_place_rows::{control_of, is_answer, matrix_of};
+use crate::sorted::{order_in_place, unmarked};
 use amd_numbers::amd::{Control, Info, Status};
 use amd_testing::inputs::path;
 use amd_testing::refusing::{Refusing, each_refused};
@@ -9,66 +12,58 @@ use std::alloc::Global;
 use std::process::Abort;
 use std::test::Fail;
 
-/// Orders a matrix with no word to spare, and says whether there was an answer, which must be the one that is wanted.
+/// Orders the matrix of a case from a first flag on, with so many words to spare, and says whether there was an answer,
+/// which must be that of the case.
 fn orders(
     rt: &impl Abort,
     heap: &Refusing<Global>,
     alloc: Global,
-    flag: usize,
-    matrix: &Sorted,
-    wanted: &[i64],
+    (flag, more): (usize, usize),
+    case: &Case,
 ) -> bool {
     let mut info = Info::new(0);
-    let control = Control::default();
-    match order_in_place(rt, heap, alloc, flag, 0, matrix, &control, &mut info) {
+    let (matrix, control) = (matrix_of(case), control_of(case));
+    match order_in_place(rt, heap, alloc, flag, more, &matrix, &control, &mut info) {
         Ok((p, p_inv)) => {
-            assert!(rt; p.as_slice() == wanted && p_inv.len() == wanted.len());
+            assert!(rt; is_answer(case, &p, &p_inv, &info), "{}", case.what);
             true
         }
         Err(status) => {
-            assert!(rt; status == Status::OutOfMemory);
+            assert!(rt; status == Status::OutOfMemory, "{}", case.what);
             false
         }
     }
 }
 
-/// A four-cycle, in words of each width.
+/// The first flag 2 has words of 32 bits, and the other one has wider words.
 #[test]
 fn each_request_of_the_engine_in_place(rt: HostRuntime) {
-    let matrix = Sorted {
-        n: 4,
-        a_p: &[0, 2, 3, 4, 4],
-        a_i: &[1, 3, 2, 3],
-        hold: None,
-    };
     let heap = rt.alloc();
-    for flag in [2, 1 << 32] {
-        match each_refused(
-            heap,
-            |refusing| orders(&rt, refusing, heap, flag, &matrix, &[3, 0, 1, 2]),
-        ) {
-            Ok(refusals) => assert!(rt; 0 < refusals),
-            Err(_) => panic!(rt; "a slip"),
+    for case in &MATRICES {
+        for flag in [2, 1 << 32] {
+            match each_refused(
+                heap,
+                |refusing| orders(&rt, refusing, heap, (flag, 0), case),
+            ) {
+                Ok(refusals) => assert!(rt; 0 < refusals, "{}", case.what),
+                Err(_) => panic!(rt; "a slip at {}", case.what),
+            }
         }
     }
 }
 
-/// The five rows of the demo.
+/// So many words are refused as memory is, and what was granted before comes back.
 #[test]
-fn each_request_for_five_rows(rt: HostRuntime) {
-    let matrix = Sorted {
-        n: 5,
-        a_p: &[0, 2, 6, 10, 12, 14],
-        a_i: &[0, 1, 0, 1, 2, 4, 1, 2, 3, 4, 2, 3, 1, 4],
-        hold: None,
-    };
-    let heap = rt.alloc();
-    match each_refused(
-        heap,
-        |refusing| orders(&rt, refusing, heap, 2, &matrix, &[0, 3, 2, 4, 1]),
-    ) {
-        Ok(refusals) => assert!(rt; 0 < refusals),
-        Err(_) => panic!(rt; "a slip"),
+fn workspaces_that_no_memory_holds(rt: HostRuntime) {
+    for case in &MATRICES {
+        for more in [1 << 58, (1 << 60) - 1] {
+            let heap = Refusing::new(rt.alloc(), 0);
+            assert!(rt;
+                !orders(&rt, &heap, rt.alloc(), (2, more), case),
+                "{}",
+                case.what
+            );
+        }
     }
 }
 

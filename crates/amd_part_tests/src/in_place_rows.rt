@@ -1,7 +1,7 @@
 // Worked matrices through the engine in place, from first flags with and without a reset of the counters, in words of
 // both widths, with no word to spare and with those of `order`; and through `amd_1` and `amd_2` by themselves, the
-// latter over lists that were laid. The answers were worked by hand, and come from the Rust crate `amd` and from a
-// plain program that follows the rules.
+// latter over lists that were laid. The answers were worked by hand, and come from the Rust crate `amd` and from a plain
+// program that follows the rules.
 
 use crate::in_place_matrices::{Case, MATRICES};
 use crate::laid::{are_words, order_laid};
@@ -30,12 +30,12 @@ fn are_figures(case: &Case, info: &Info) -> bool {
 }
 
 /// Whether an answer is that of a case.
-fn is_answer(case: &Case, p: &[i64], p_inv: &[i64], info: &Info) -> bool {
+pub fn is_answer(case: &Case, p: &[i64], p_inv: &[i64], info: &Info) -> bool {
     p == case.p && are_inverse(case.p.len(), p, p_inv) && are_figures(case, info)
 }
 
 /// The matrix of a case.
-fn matrix_of<'a>(case: &Case<'a>) -> Sorted<'a> {
+pub fn matrix_of<'a>(case: &Case<'a>) -> Sorted<'a> {
     Sorted {
         n: case.n,
         a_p: case.a_p,
@@ -45,7 +45,7 @@ fn matrix_of<'a>(case: &Case<'a>) -> Sorted<'a> {
 }
 
 /// What the caller of a case chooses.
-fn control_of(case: &Case) -> Control {
+pub fn control_of(case: &Case) -> Control {
     Control {
         dense: case.dense,
         aggressive: case.aggressive,

@@ -142,28 +142,26 @@ pub fn order_in_place<A: Allocator + Copy>(
     )
 }
 
-/// First flags for a matrix of `size` rows: the one of the product, and in each width the last four before the reset
-/// of the counters, which comes where the flag passes the greatest number of the width less `size`. Those above the
-/// greatest number of 32 bits ask for the wider words.
-pub fn first_flags(rt: &impl Abort, size: usize) -> [usize; 9] {
+/// First flags for a matrix of `size` rows: the one of the product, and in each width one far from a reset of the counters,
+/// the last four before it, which comes where the flag passes the greatest number of the width less `size`, and the
+/// greatest number. Those above the greatest number of 32 bits ask for the wider words.
+pub fn first_flags(rt: &impl Abort, size: usize) -> [usize; 13] {
     assert!(rt; size < 1 << 30);
     let narrow = u32::MAX as usize - size;
     let wide = usize::MAX - size;
     [
         2,
+        1 << 31,
         narrow - 3,
         narrow - 2,
         narrow - 1,
         narrow,
+        u32::MAX as usize,
+        1 << 32,
         wide - 3,
         wide - 2,
         wide - 1,
         wide,
+        usize::MAX,
     ]
-}
-
-/// The last of these first flags in each width: the first rise of the flag passes the reset.
-pub fn last_flags(rt: &impl Abort, size: usize) -> [usize; 2] {
-    let flags = first_flags(rt, size);
-    [flags[4], flags[8]]
 }
