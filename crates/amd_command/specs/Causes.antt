@@ -5,7 +5,7 @@ use Rattle.amd_market.specs.declared.faults.Fault.TheVariants as fault
 use Rattle.amd_market.specs.declared.faults.ReadError.{ReadError}
 use Rattle.amd_market.specs.declared.faults.ReadError.TheVariants.{Line, Input}
 use Rattle.amd_command.specs.declared.causes.Cause.{Cause}
-use Rattle.amd_command.specs.declared.causes.Cause.TheVariants.{Dense, Open, Text, Form, Memory, Write}
+use Rattle.amd_command.specs.declared.causes.Cause.TheVariants.{Dense, Open, Text, Form, Memory, Write, Picture}
 
 -- the exit status after a fault of a line: 1 where memory was refused, else 2
 abbrev pub fault_status : Fault → ℕ
@@ -25,7 +25,8 @@ abbrev pub read_status : ReadError → ℕ
 read_status (Line line f) = fault_status f
 read_status (Input line e) = 2
 
--- the exit status: 1 where memory was refused or an output failed, and 2 where an argument or an input is wrong
+-- the exit status: 1 where memory was refused or an output failed, 2 where an argument or an input is wrong, and 3
+-- where the picture alone failed
 abbrev pub exit_status : Cause → ℕ
 exit_status Dense = 2
 exit_status (Open e) = 2
@@ -33,3 +34,4 @@ exit_status (Text e) = read_status e
 exit_status Form = 2
 exit_status Memory = 1
 exit_status (Write e) = 1
+exit_status (Picture e) = 3

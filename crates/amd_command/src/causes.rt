@@ -31,10 +31,14 @@ pub enum Cause {
     /// Something could not be written.
     #[error("cannot be written: {0}")]
     Write(io::Error),
+    /// The picture could not be drawn or written, though all else was.
+    #[error("the picture cannot be written: {0}")]
+    Picture(io::Error),
 }
 
 impl Cause {
-    /// The exit status: 1 where memory was refused or an output failed, and 2 where an argument or an input is wrong.
+    /// The exit status: 1 where memory was refused or an output failed, 2 where an argument or an input is wrong, and 3
+    /// where the picture alone failed.
     pub fn exit_status(&self) -> u8
         ensures { result ≡ exit_status self.now }
     {
@@ -45,6 +49,22 @@ impl Cause {
             }
             Cause::Text(ReadError::Input { .. }) => 2,
             Cause::Memory | Cause::Write(_) => 1,
+            Cause::Picture(_) => 3,
+        }
+    }
+
+    /// The cause where it was the picture that failed for this one.
+    pub fn at_picture(self) -> Cause
+        ensures { exit_status result ≡ 3 }
+    {
+        match self {
+            Cause::Write(error) | Cause::Open(error) | Cause::Picture(error) => {
+                Cause::Picture(error)
+            }
+            Cause::Memory => Cause::Picture(io::Error::from(io::ErrorKind::OutOfMemory)),
+            Cause::Dense | Cause::Text(_) | Cause::Form => {
+                Cause::Picture(io::Error::from(io::ErrorKind::InvalidInput))
+            }
         }
     }
 }

@@ -1,6 +1,7 @@
 // Runs what the words of a command line ask for: opens the files, and writes what comes of them. Called by the program
 // `rimopaku`. What the functions that it calls read and write is told by their contracts; files and messages are tested
-// alone. Each text is made in memory first, so that nothing is left half written where memory is refused.
+// alone. Each text is made in memory first, so that nothing is left half written where memory is refused. The picture
+// comes last, since it may want more memory than all before it: where it fails, all else is written.
 
 use crate::analysis::{analyze_matrix, write_columns, write_comparison};
 use crate::causes::Cause;
@@ -12,7 +13,7 @@ use crate::picture::write_picture;
 use crate::progress::Progress;
 use crate::request::{Options, Request, request_of};
 use crate::rows::write_rows;
-use amd::Control;
+use amd::{Control, Info};
 use amd_market::reader::{Matrix, read_matrix};
 use clap::Error;
 use clap::error::ErrorKind;
@@ -32,15 +33,23 @@ const MANY_ENTRIES: usize = 1 << 20;
 /// A factor with so many entries takes some seconds to draw.
 const LARGE_FACTOR: usize = 1 << 26;
 
-/// What an ordering, or an analysis, writes.
+/// What is ordered, and how.
+#[derive(Drop)]
+struct Task {
+    progress: Progress,
+    control: Control,
+    matrix: Matrix<Global>,
+    /// The rows to hold last, where there is a file of them.
+    hold: Option<Vec<bool>>,
+}
+
+/// What an ordering, or an analysis, writes beside the picture.
 #[derive(Drop)]
 struct Texts {
     /// The permutation, or the columns of the factor.
     lines: Vec<u8>,
     /// The figures.
     figures: String,
-    /// The picture, where one is asked for.
-    picture: Option<Vec<u8>>,
 }
 
 /// Why a run ended early, and with which file or word.
@@ -111,67 +120,32 @@ fn tell_ordering<R: Runtime>(rt: &R, progress: &Progress, matrix: &Matrix<Global
     progress.tell(rt, entries >= MANY_ENTRIES, stage);
 }
 
-/// The picture of a matrix and its ordering, whose factor has at most so many entries.
-fn picture_text<R: Runtime + AllocGlobal>(
-    rt: &R,
-    progress: &Progress,
-    matrix: &Matrix<Global>,
-    p: &[usize],
-    lnz: usize,
-) -> Result<Vec<u8>, Cause> {
-    let stage = format_args!("rimopaku: drawing up to {lnz} entries of L");
-    progress.tell(rt, lnz >= LARGE_FACTOR, stage);
-    let mut text = Vec::new(rt.alloc());
-    write_picture(rt.alloc(), matrix, p, lnz, &mut text)?;
-    Ok(text)
+/// Orders what a task has.
+fn order_task(alloc: Global, task: &Task) -> Result<(Vec<usize>, Info), Cause> {
+    let marks = task.hold.as_deref();
+    Ok(order_matrix(alloc, &task.matrix, &task.control, marks)?)
 }
 
-/// Orders a matrix, and makes the texts of that, the picture where it is `drawn`.
-fn order_texts<R: Runtime + AllocGlobal>(
-    rt: &R,
-    progress: &Progress,
-    matrix: &Matrix<Global>,
-    control: &Control,
-    hold: Option<&[bool]>,
-    drawn: bool,
-) -> Result<Texts, Cause> {
-    let alloc = rt.alloc();
-    let (p, info) = order_matrix(alloc, matrix, control, hold)?;
+/// The texts of an ordering.
+fn order_texts(alloc: Global, p: &[usize], info: &Info) -> Result<Texts, Cause> {
     let mut lines = Vec::new(alloc);
     let mut figures = Vec::new(alloc);
-    write_rows(&p, &mut lines)?;
-    write_figures(&info, &mut figures)?;
-    let picture = if drawn {
-        Some(picture_text(rt, progress, matrix, &p, info.lnz)?)
-    } else {
-        None
-    };
+    write_rows(p, &mut lines)?;
+    write_figures(info, &mut figures)?;
     let figures = String::from_utf8_lossy(alloc, &figures)?;
-    Ok(Texts {
-        lines,
-        figures,
-        picture,
-    })
+    Ok(Texts { lines, figures })
 }
 
-/// Orders a matrix, works out the factor under the ordering, and makes the texts of that.
-fn analysis_texts(
-    alloc: Global,
-    matrix: &Matrix<Global>,
-    control: &Control,
-    hold: Option<&[bool]>,
-) -> Result<Texts, Cause> {
-    let analysis = analyze_matrix(alloc, matrix, control, hold)?;
+/// Orders what a task has, works out the factor under the ordering, and makes the texts of that.
+fn analysis_texts(alloc: Global, task: &Task) -> Result<Texts, Cause> {
+    let marks = task.hold.as_deref();
+    let analysis = analyze_matrix(alloc, &task.matrix, &task.control, marks)?;
     let mut lines = Vec::new(alloc);
     let mut figures = Vec::new(alloc);
     write_columns(&analysis.p, &analysis.factor, &mut lines)?;
     write_comparison(&analysis.need, &analysis.info, &mut figures)?;
     let figures = String::from_utf8_lossy(alloc, &figures)?;
-    Ok(Texts {
-        lines,
-        figures,
-        picture: None,
-    })
+    Ok(Texts { lines, figures })
 }
 
 /// Writes a text to a file.
@@ -198,11 +172,40 @@ fn put_texts<'a, R: Runtime>(
 ) -> Result<(), Complaint<'a>> {
     let lines = put_text(rt, options.out, &texts.lines);
     about(output_name(options.out), lines)?;
-    if let (Some(path), Some(picture)) = (options.picture, &texts.picture) {
-        about(path, put_file(rt, path, picture))?;
-    }
     let told = rt.eprint(texts.figures).map_err(Cause::from);
     about("standard error", told)
+}
+
+/// Draws what a task has and its ordering, whose factor has at most so many entries, to a file.
+fn draw_file<R: Runtime + AllocGlobal>(
+    rt: &R,
+    path: &str,
+    task: &Task,
+    p: &[usize],
+    lnz: usize,
+) -> Result<(), Cause> {
+    let stage = format_args!("rimopaku: drawing up to {lnz} entries of L");
+    task.progress.tell(rt, lnz >= LARGE_FACTOR, stage);
+    let mut text = Vec::new(rt.alloc());
+    write_picture(rt.alloc(), &task.matrix, p, lnz, &mut text)?;
+    put_file(rt, path, &text)
+}
+
+/// Draws what a task has and its ordering, where a file is named for the picture.
+fn put_picture<'a, R: Runtime + AllocGlobal>(
+    rt: &R,
+    options: &Options<'a>,
+    task: &Task,
+    p: &[usize],
+    lnz: usize,
+) -> Result<(), Complaint<'a>> {
+    match options.picture {
+        Some(path) => {
+            let drawn = draw_file(rt, path, task, p, lnz);
+            about(path, drawn.map_err(Cause::at_picture))
+        }
+        None => Ok(()),
+    }
 }
 
 /// What the words of a subcommand choose.
@@ -223,25 +226,44 @@ fn read_hold<'a, R: Runtime + AllocGlobal>(
     }
 }
 
-/// Orders a file, and works out its factor where it is `analyzed`. All memory is taken before an output is written.
-fn order_file<'a, R: Runtime + AllocGlobal>(
+/// Reads what is to be ordered, and says so where it is large.
+fn read_task<'a, R: Runtime + AllocGlobal>(
     rt: &R,
     options: &Options<'a>,
-    analyzed: bool,
-) -> Result<(), Complaint<'a>> {
+) -> Result<Task, Complaint<'a>> {
     let control = control_of(options)?;
     let progress = Progress::begin(rt);
     let matrix = about(options.file, read_file(rt, &progress, options.file))?;
     let hold = read_hold(rt, &progress, options, matrix.n)?;
-    let marks = hold.as_deref();
     tell_ordering(rt, &progress, &matrix);
-    let made = if analyzed {
-        analysis_texts(rt.alloc(), &matrix, &control, marks)
-    } else {
-        let drawn = options.picture.is_some();
-        order_texts(rt, &progress, &matrix, &control, marks, drawn)
-    };
-    put_texts(rt, options, about(options.file, made)?)
+    Ok(Task {
+        progress,
+        control,
+        matrix,
+        hold,
+    })
+}
+
+/// Orders a file. All memory is taken before an output is written, but that for the picture, which comes last.
+fn order_file<'a, R: Runtime + AllocGlobal>(
+    rt: &R,
+    options: &Options<'a>,
+) -> Result<(), Complaint<'a>> {
+    let task = read_task(rt, options)?;
+    let (p, info) = about(options.file, order_task(rt.alloc(), &task))?;
+    let texts = about(options.file, order_texts(rt.alloc(), &p, &info))?;
+    put_texts(rt, options, texts)?;
+    put_picture(rt, options, &task, &p, info.lnz)
+}
+
+/// Orders a file, and works out its factor. All memory is taken before an output is written.
+fn analyze_file<'a, R: Runtime + AllocGlobal>(
+    rt: &R,
+    options: &Options<'a>,
+) -> Result<(), Complaint<'a>> {
+    let task = read_task(rt, options)?;
+    let texts = about(options.file, analysis_texts(rt.alloc(), &task))?;
+    put_texts(rt, options, texts)
 }
 
 /// The text of what a matrix is.
@@ -270,8 +292,8 @@ fn answer<'a, R: Runtime + AllocGlobal>(
     request: &Request<'a>,
 ) -> Result<(), Complaint<'a>> {
     match request {
-        Request::Order(options) => order_file(rt, options, false),
-        Request::Analyze(options) => order_file(rt, options, true),
+        Request::Order(options) => order_file(rt, options),
+        Request::Analyze(options) => analyze_file(rt, options),
         Request::Info(options) => describe_file(rt, options),
     }
 }
@@ -286,9 +308,10 @@ fn exit_status_of(error: &Error) -> u8 {
 }
 
 /// Runs a command line, the first word of which is the name of the program, and answers the exit status: 0 where all
-/// was done, 1 where memory was refused or an output failed, and 2 where an argument or an input is wrong. A message on
-/// standard error tells why it is not 0. Where an input is wrong or memory is refused, no output is written; lines on
-/// standard error that tell of a long file or a large matrix may stand before the message.
+/// was done, 1 where memory was refused or an output failed, 2 where an argument or an input is wrong, and 3 where the
+/// picture could not be drawn or written, but all else is. A message on standard error tells why it is not 0. With a
+/// status of 2, and where memory was refused with a status of 1, no output is written; lines on standard error that
+/// tell of a long file or a large matrix may stand before the message.
 pub fn run<R: Runtime + AllocGlobal>(rt: &R, words: &[String]) -> u8 {
     match request_of(rt.alloc(), words) {
         Ok(request) => match answer(rt, &request) {

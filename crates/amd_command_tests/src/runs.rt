@@ -3,6 +3,7 @@
 
 use crate::desk::{Desk, Pages};
 use crate::outputs::{PATH, PATH_FACTS};
+use amd_command::causes::Cause;
 use amd_command::program::run;
 use std::alloc::{AllocError, Global};
 use std::cell::RefCell;
@@ -11,6 +12,9 @@ use std::test::Fail;
 
 /// What is told of the path where it is ordered.
 const PATH_FIGURES: &str = "    rows                                                3\n";
+
+/// What is shown of it then, by the independent program: row 2 comes first, then 1 and 3.
+const PATH_ORDER: &str = "2\n1\n3\n";
 
 /// A file whose third line has a row that there is not.
 const BAD: &str = "%%MatrixMarket matrix coordinate pattern general\n2 2 2\n3 1\n1 1\n";
@@ -75,7 +79,7 @@ fn run_at_desk(
 type Refused = (&'static [&'static str], &'static str, u8, &'static str);
 
 /// Words and files at fault: status 2. Outputs that cannot be opened: status 1.
-const REFUSED: [Refused; 14] = [
+const REFUSED: [Refused; 15] = [
     (&[], "", 2, "Usage: rimopaku"),
     (&["sort", "-"], PATH, 2, "sort"),
     (&["order"], PATH, 2, "FILE"),
@@ -95,6 +99,12 @@ const REFUSED: [Refused; 14] = [
     ),
     (
         &["order", "-"],
+        BAD,
+        2,
+        "rimopaku: -: line 3: no row and column in range",
+    ),
+    (
+        &["order", "-", "--picture", NOWHERE],
         BAD,
         2,
         "rimopaku: -: line 3: no row and column in range",
@@ -188,6 +198,26 @@ fn an_output_that_takes_nothing(rt: HostRuntime) -> Result<(), Fail> {
     Ok(())
 }
 
+/// Where the picture fails, the permutation and the figures are written, and a message behind them names the picture.
+#[test]
+fn a_picture_that_fails(rt: HostRuntime) -> Result<(), Fail> {
+    let end = run_at_desk(&rt, &["order", "-", "--picture", NOWHERE], PATH, 0, false)?;
+    assert!(&rt; end.status == 3 && end.shown.as_str() == PATH_ORDER);
+    let message = "\nrimopaku: /no/such/folder/file: the picture cannot be written: ";
+    assert!(&rt; end.told.starts_with(PATH_FIGURES) && end.told.contains(message));
+    let words = ["order", "-", "--out", "/dev/null", "--picture", "/dev/full"];
+    let full = run_at_desk(&rt, &words, PATH, 0, false)?;
+    assert!(&rt; full.status == 3 && full.told.starts_with(PATH_FIGURES));
+    assert!(&rt;
+        full.told
+            .contains("rimopaku: /dev/full: the picture cannot be written: ")
+    );
+    let alloc = rt.alloc();
+    let told = format!(in alloc; "{}", Cause::Memory.at_picture())?;
+    assert!(&rt; told.as_str() == "the picture cannot be written: out of memory");
+    Ok(())
+}
+
 /// A run that has taken some seconds tells each stage that it begins; one that has not tells none.
 #[test]
 fn stages_of_long_runs(rt: HostRuntime) -> Result<(), Fail> {
@@ -202,9 +232,10 @@ fn stages_of_long_runs(rt: HostRuntime) -> Result<(), Fail> {
     let slow = run_at_desk(&rt, &words, PATH, 2, false)?;
     let stages = "rimopaku: reading /dev/null, 0 MiB
 rimopaku: ordering 3 rows, 5 entries
-rimopaku: drawing up to 2 entries of L
 ";
     assert!(&rt; slow.status == 0 && slow.told.starts_with(stages));
+    let last = "\nrimopaku: drawing up to 2 entries of L\n";
+    assert!(&rt; slow.told.contains(PATH_FIGURES) && slow.told.ends_with(last));
     let fast = run_at_desk(&rt, &words, PATH, 0, false)?;
     assert!(&rt; fast.status == 0 && fast.told.starts_with(PATH_FIGURES));
     assert!(&rt; slow.shown.as_str() == fast.shown.as_str());

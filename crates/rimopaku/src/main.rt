@@ -11,8 +11,9 @@
 //! the elimination tree, or 0 where it has none, and how many entries the column has below the diagonal. Rows count
 //! from 1. Figures and messages go to standard error.
 //!
-//! The exit status is 0 where all was done, 1 where memory was refused or an output failed, and 2 where an argument or
-//! an input is wrong. Where an input is wrong or memory is refused, no output is written.
+//! The exit status is 0 where all was done, 1 where memory was refused or an output failed, 2 where an argument or an
+//! input is wrong, and 3 where the picture could not be drawn or written, but all else is. With a status of 2, and
+//! where memory was refused with a status of 1, no output is written.
 #![tactic(auto)]
 
 use amd_command::program::run;
