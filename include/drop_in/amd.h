@@ -1,25 +1,25 @@
 /* amd.h: the calls of SuiteSparse's AMD over the library rimopaku, with the same names, arguments and numbers.
  *
- * A C or C++ program that includes "amd.h" is compiled with -I../rimopaku/include/drop_in and linked with libamd_c.a in place of
- * SuiteSparse's libamd, with no other change (docs/USING.md). The permutation and the status are the same. What differs:
+ * A C or C++ program that includes "amd.h" is compiled with -I../rimopaku/include/drop_in and linked with libamd_c.a instead of SuiteSparse's
+ * libamd, with no other change (docs/USING.md). The permutation and the status are the same. What differs:
  *
- *   - Control [AMD_DENSE] is rounded to thousandths, and cut at 2147483.647. NaN stands for the default.
- *   - Info [AMD_LNZ] to Info [AMD_NMULTSUBS_LU] are cut at 2^64, and a count above 2^53 is the double next to it. SuiteSparse adds up
- *     doubles, so that its last digits differ there.
- *   - Info [AMD_MEMORY] is what SuiteSparse's AMD would take for such a matrix. This library takes other amounts.
+ *   - Control [AMD_DENSE] is rounded to thousandths, and limited to 2147483.647. NaN stands for the default.
+ *   - Info [AMD_LNZ] to Info [AMD_NMULTSUBS_LU] saturate at 2^64, and a count above 2^53 is rounded to a double. SuiteSparse adds up doubles,
+ *     so its last digits differ there.
+ *   - Info [AMD_MEMORY] is what SuiteSparse's AMD would take for such a matrix, and not what this library takes.
  *   - Info [AMD_NCMPA] counts the compactions of this library's workspace.
- *   - amd_order takes a second array of n integers for the inverse permutation. Where malloc refuses it, the answer is
- *     AMD_OUT_OF_MEMORY, also for a matrix that is not valid.
- *   - The first line of what amd_control and amd_info print names this library.
- *   - There is no amd_2, amd_l2, amd_malloc or amd_printf, and SuiteSparse_config has no part: memory comes from malloc, text goes to
+ *   - amd_order takes a second array of n integers for the inverse permutation. If malloc refuses it, the call returns AMD_OUT_OF_MEMORY,
+ *     even if the matrix is not valid.
+ *   - The first line that amd_control and amd_info print names this library.
+ *   - There is no amd_2, amd_l2, amd_malloc or amd_printf, and SuiteSparse_config is not used: memory comes from malloc, and text goes to
  *     standard output.
  *
- * As with SuiteSparse, a NULL Ap, Ai or P and a negative n are AMD_INVALID, a NULL Control stands for the defaults, and a NULL Info is
- * allowed. Each other pointer must point to as many numbers as the comment at its function says, and P overlaps neither Ap nor Ai. That
- * Ai has Ap [n] numbers cannot be tested.
+ * What a caller must uphold, as with SuiteSparse: each pointer that is not NULL points to as many numbers as the comment at its function
+ * says, and P overlaps neither Ap nor Ai. That Ai has Ap [n] numbers cannot be checked. A NULL Ap, Ai or P and a negative n are
+ * AMD_INVALID, a NULL Control stands for the defaults, and a NULL Info is allowed.
  *
- * The functions are `static inline`. To make a library that programs and libraries link which were compiled with SuiteSparse's own
- * amd.h, compile one C file that defines RIMOPAKU_AMD_LINKAGE as nothing and then includes this header. */
+ * The functions are `static inline`. For programs and libraries that were compiled with SuiteSparse's own amd.h, compile one C file that
+ * defines RIMOPAKU_AMD_LINKAGE as nothing and then includes this header; it has the functions as symbols. */
 
 #ifndef AMD_H
 #define AMD_H
@@ -44,17 +44,17 @@
 #define AMD_CONTROL 5 /* length of Control */
 #define AMD_INFO 20   /* length of Info */
 
-/* What stands in Control. */
+/* The places of Control. */
 #define AMD_DENSE 0      /* a row with more than max (16, Control [0] * sqrt (n)) entries is dense; below 0: nearly none is */
-#define AMD_AGGRESSIVE 1 /* not 0: aggressive absorption */
+#define AMD_AGGRESSIVE 1 /* other than 0: aggressive absorption */
 
 #define AMD_DEFAULT_DENSE 10.0
 #define AMD_DEFAULT_AGGRESSIVE 1
 
-/* What stands in Info; -1 where it is not known. */
-#define AMD_STATUS 0         /* what amd_order answered */
+/* The places of Info; -1 where a number is not known. */
+#define AMD_STATUS 0         /* what amd_order returned */
 #define AMD_N 1              /* rows */
-#define AMD_NZ 2             /* entries, repeats dropped; after an error Ap [n] */
+#define AMD_NZ 2             /* entries, without duplicates; after an error Ap [n] */
 #define AMD_SYMMETRY 3       /* the share of the entries off the diagonal whose mirror is an entry */
 #define AMD_NZDIAG 4         /* entries on the diagonal */
 #define AMD_NZ_A_PLUS_AT 5   /* entries of A + A' off the diagonal */
@@ -96,7 +96,7 @@ static inline int32_t rimopaku_amd_thousandths(double dense)
     return (int32_t)(dense * 1000 + 0.5);
 }
 
-/* The parameters that stand in Control. */
+/* The parameters in Control. */
 static inline struct rimopaku_parameters rimopaku_amd_parameters(const double Control[])
 {
     struct rimopaku_parameters parameters;
@@ -108,7 +108,7 @@ static inline struct rimopaku_parameters rimopaku_amd_parameters(const double Co
     return parameters;
 }
 
-/* Makes Info say that nothing is known but n. */
+/* Sets Info to unknown, except for n. */
 static inline void rimopaku_amd_begin(double Info[], double n)
 {
     int i;
@@ -120,7 +120,7 @@ static inline void rimopaku_amd_begin(double Info[], double n)
     Info[AMD_STATUS] = AMD_OK;
 }
 
-/* Writes the status and answers it. */
+/* Writes the status and returns it. */
 static inline int32_t rimopaku_amd_end(double Info[], int32_t status)
 {
     if (Info != NULL)
@@ -128,7 +128,7 @@ static inline int32_t rimopaku_amd_end(double Info[], int32_t status)
     return status;
 }
 
-/* Writes what an ordering told. `integers` is how many integers SuiteSparse's AMD would take, and `size` the bytes of one. */
+/* Writes the statistics of an ordering. `integers` is how many integers SuiteSparse's AMD would take, and `size` the bytes of one. */
 static inline void rimopaku_amd_tell(double Info[], const struct rimopaku_statistics *told, double integers, double size)
 {
     size_t off_diagonal = told->nz - told->nz_diag;
@@ -214,7 +214,7 @@ RIMOPAKU_AMD_LINKAGE SuiteSparse_long amd_l_order(SuiteSparse_long n, const Suit
     return rimopaku_amd_end(Info, status);
 }
 
-/* The class of a matrix: AMD_OK, AMD_OK_BUT_JUMBLED or AMD_INVALID. Ap has n_col + 1 integers, and Ai has Ap [n_col]. */
+/* Checks a matrix: AMD_OK, AMD_OK_BUT_JUMBLED or AMD_INVALID. Ap has n_col + 1 integers, and Ai has Ap [n_col]. */
 RIMOPAKU_AMD_LINKAGE int amd_valid(int n_row, int n_col, const int Ap[], const int Ai[])
 {
     if (Ap == NULL || Ai == NULL || n_row < 0 || n_col < 0 || Ap[n_col] < 0)
@@ -222,7 +222,7 @@ RIMOPAKU_AMD_LINKAGE int amd_valid(int n_row, int n_col, const int Ap[], const i
     return rimopaku_valid_i32(n_row, n_col, Ap, (size_t)n_col + 1, Ai, (size_t)Ap[n_col]);
 }
 
-/* The class of a matrix with 64-bit integers. */
+/* Checks a matrix with 64-bit integers. */
 RIMOPAKU_AMD_LINKAGE SuiteSparse_long amd_l_valid(SuiteSparse_long n_row, SuiteSparse_long n_col, const SuiteSparse_long Ap[],
                                                   const SuiteSparse_long Ai[])
 {
@@ -248,7 +248,7 @@ RIMOPAKU_AMD_LINKAGE void amd_l_defaults(double Control[])
     amd_defaults(Control);
 }
 
-/* Prints what stands in Control, or the defaults. */
+/* Prints Control, or the defaults. */
 static inline void rimopaku_amd_print_control(const double Control[], int size)
 {
     double dense = Control != NULL ? Control[AMD_DENSE] : AMD_DEFAULT_DENSE;
@@ -275,14 +275,14 @@ RIMOPAKU_AMD_LINKAGE void amd_l_control(double Control[])
     rimopaku_amd_print_control(Control, (int)sizeof(SuiteSparse_long));
 }
 
-/* Prints a line of amd_info, where the number is known. */
+/* Prints a line of amd_info, if the number is known. */
 static inline void rimopaku_amd_print(const char *label, double number)
 {
     if (number >= 0)
         printf("    %-52s%.20g\n", label, number);
 }
 
-/* Prints what stands in Info. */
+/* Prints Info. */
 RIMOPAKU_AMD_LINKAGE void amd_info(double Info[])
 {
     double n, divisions, ldl, lu;
