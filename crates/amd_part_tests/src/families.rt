@@ -1,7 +1,7 @@
 // Families of graphs of several sizes and matrices drawn from seeds, each with every choice of a caller, through
 // three calls: `order`, `amd_1` with no word to spare, and the plain engine; and through the engine in place from each
-// first flag, in words of both widths. There is one answer. In the crate `amd_tests` the answers of `order` over the same
-// families are compared with what the factor needs.
+// first flag, in words of both widths. There is one answer. In the crate `amd_tests` the answers of `order` over the
+// same families are compared with what the factor needs.
 
 use crate::in_place::check_flags;
 use crate::sorted::{Sorted, first_flags, order_exactly, order_plainly, unmarked};

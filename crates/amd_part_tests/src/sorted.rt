@@ -142,9 +142,9 @@ pub fn order_in_place<A: Allocator + Copy>(
     )
 }
 
-/// First flags for a matrix of `size` rows: the one of the product, and in each width one far from a reset of the counters,
-/// the last four before it, which comes where the flag passes the greatest number of the width less `size`, and the
-/// greatest number. Those above the greatest number of 32 bits ask for the wider words.
+/// First flags for a matrix of `size` rows: the one of the product, and in each width one far from a reset of the
+/// counters, the last four before it, which comes where the flag passes the greatest number of the width less `size`,
+/// and the greatest number. Those above the greatest number of 32 bits ask for the wider words.
 pub fn first_flags(rt: &impl Abort, size: usize) -> [usize; 13] {
     assert!(rt; size < 1 << 30);
     let narrow = u32::MAX as usize - size;
