@@ -1,12 +1,11 @@
 -- Lists that share no word: what is written in the place of one leaves each other one.
-use Rattle.amd_model.proofs.Counting.Below.{clash}
+use Rattle.amd_model.proofs.Counting.Below.{clash, sum_mono}
 use Rattle.std.proofs.Common.{ℕ, ℤ, Bool, true, false, List, ◌≡◌, ◌<◌, ◌≤◌, ◌+◌, ◌-◌, ◌&&◌, ◌⊎◌, inl, inr, sym, subst, ap, ◌∙◌, arith, cond}
 use Rattle.std.specs.Prelude.{nat_lt}
 use Rattle.std.proofs.lemmas.Bool.{cases_Bool, cases_eq, cases_lt, and_parts, and_from, ltb-true, lt-ltb}
 use Rattle.amd_places.specs.Words.{num, is_place, place, word, start, rows, Names}
 use Rattle.amd_places.specs.Layout.{has_list, end_of, elements_in, variables_in, list_in, Layout, live_words, ReadsSame, RenewsOne}
 use Rattle.amd_places.proofs.RowLists.{rows_same}
-use Rattle.amd_places.proofs.RoundWords.{words_more}
 
 pub has_parts : (pe : List ℤ) (len : List ℕ) (j : ℕ) → has_list pe len j ≡ true → (is_place (word pe j) ≡ true) × (0 < num len j)
 unfolding has_list
@@ -77,7 +76,7 @@ relaid {n} {iw} {pe} {e_len} {len} {free} {iw'} {pe'} {e_len'} {len'} {free'} c 
 -- no list longer: no more live words
 pub live_less : (n : ℕ) (pe : List ℤ) (len len' : List ℕ) → ((j : ℕ) → has_list pe len' j ≡ has_list pe len j) →
     ((j : ℕ) → num len' j ≤ num len j) → live_words n pe len' ≤ live_words n pe len
-live_less n pe len len' listed shorter = words_more n (λ j. cond (has_list pe len' j) (num len' j) 0) (λ j.
+live_less n pe len len' listed shorter = sum_mono n (λ j. cond (has_list pe len' j) (num len' j) 0) (λ j.
     cond (has_list pe len j) (num len j) 0) (λ j l. let s = shorter j in elim (cases_Bool (has_list pe len j)) [
       | inl h ↦ (let a = ap (λ b. cond b (num len' j) 0) (listed j ∙ h) in let b = ap (λ b. cond b (num len j) 0) h in
           omega (arith, a, b, s))
@@ -89,7 +88,7 @@ live_less n pe len len' listed shorter = words_more n (λ j. cond (has_list pe l
 pub live_part : (n : ℕ) (pe pe' : List ℤ) (len len' : List ℕ) →
     ((j : ℕ) → has_list pe' len' j ≡ true → (has_list pe len j ≡ true) × (num len' j ≤ num len j)) →
     live_words n pe' len' ≤ live_words n pe len
-live_part n pe pe' len len' part = words_more n (λ j. cond (has_list pe' len' j) (num len' j) 0) (λ j.
+live_part n pe pe' len len' part = sum_mono n (λ j. cond (has_list pe' len' j) (num len' j) 0) (λ j.
     cond (has_list pe len j) (num len j) 0) (λ j l. elim (cases_Bool (has_list pe' len' j)) [
       | inl h ↦ (let p = part j h in let a = ap (λ b. cond b (num len' j) 0) h in let b = ap (λ b. cond b (num len j) 0) p.0 in
           let s = p.1 in

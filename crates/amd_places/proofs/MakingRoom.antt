@@ -1,20 +1,23 @@
 -- Room for a new element: the lists stay, or they are packed.
 use Rattle.std.proofs.Common.{ℕ, ℤ, Bool, true, List, [], ◌∷◌, ◌++◌, ◌≡◌, ◌<◌, ◌≤◌, ◌+◌, ◌-◌, inl, inr, refl, sym, ap}
-use Rattle.std.proofs.Common.{◌∙◌, arith, cond, length, flat_map, sum_by, zero, suc}
+use Rattle.std.proofs.Common.{◌∙◌, arith, length, flat_map, sum_by}
 use Rattle.std.specs.Prelude.{◌==◌}
-use Rattle.std.proofs.lemmas.Bool.{cases_Bool, or_cases}
+use Rattle.std.proofs.lemmas.Bool.{or_cases}
 use Rattle.std.proofs.lemmas.List.Sums.{sum_by-cons}
+use Rattle.amd_model.specs.Below.{count_below}
 use Rattle.amd_model.specs.Quotient.{Once, has}
+use Rattle.amd_model.proofs.Counting.Below.{count_most}
+use Rattle.amd_model.proofs.Quotient.Sums.{sum_over}
 use Rattle.amd_model.proofs.Quotient.Lists.{has_append, flat_gives}
 use Rattle.amd_views.specs.Rounds.{firsts}
 use Rattle.amd_views.proofs.Lists.Named.{flat_same}
 use Rattle.amd_places.specs.Words.{num, place, word, start, classes}
 use Rattle.amd_places.specs.Element.{front_of, elements_at, variables_at, members_at, ListsLaid}
-use Rattle.amd_places.specs.Layout.{has_list, elements_in, Layout, words_below}
+use Rattle.amd_places.specs.Layout.{has_list, elements_in, Layout}
 use Rattle.amd_places.specs.Compaction.{Packs}
 use Rattle.amd_places.specs.Room.{Rooms, named_around}
 use Rattle.amd_places.proofs.Frames.{reads_list, reads_elements, reads_variables}
-use Rattle.amd_places.proofs.Settling.{names_below, sum_once}
+use Rattle.amd_places.proofs.Settling.{names_below}
 use Rattle.amd_places.proofs.Touching.{front_once}
 use Rattle.amd_places.proofs.Building.{own_variables}
 use Rattle.amd_places.proofs.Meeting.{front_named}
@@ -47,17 +50,10 @@ ones : (xs : List ℕ) → sum_by (λ j. 1) xs ≡ length xs
 ones [] = refl
 ones (x ∷ xs) = let a = sum_by-cons (λ j. 1) x xs in let b = ones xs in omega (arith, a, b)
 
-at_most : (n : ℕ) (p : ℕ → Bool) → words_below n (λ j. cond (p j) 1 0) ≤ n
-unfolding words_below
-at_most zero p = omega arith
-at_most (suc n) p = let a = at_most n p in elim (cases_Bool (p n)) [
-  | inl h ↦ (let b = ap {B = ℕ} (λ b. cond b 1 0) h in omega (arith, a, b))
-  | inr h ↦ (let b = ap {B = ℕ} (λ b. cond b 1 0) h in omega (arith, a, b))
-]
-
 -- rows below n that are listed once each are at most n
 pub once_few : (n : ℕ) (xs : List ℕ) → Once xs → ((j : ℕ) → has xs j ≡ true → j < n) → length xs ≤ n
-once_few n xs once small = let a = sum_once n (λ j. 1) xs once small in let b = ones xs in let c = at_most n (has xs) in
+unfolding count_below
+once_few n xs once small = let a = sum_over n (λ j. 1) xs once small in let b = ones xs in let c = count_most n (has xs) in
     omega (arith, a, b, c)
 
 -- the list of a new element names no more than all rows

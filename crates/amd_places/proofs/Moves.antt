@@ -1,35 +1,22 @@
 -- The marked lists of a workspace are moved down, each behind the one before it.
-use Rattle.std.proofs.Common.{ℕ, true, false, List, ℤ, pos, negsuc, zero, suc, ◌≡◌, ◌<◌, ◌≤◌, ◌+◌, ◌-◌, ◌&&◌, ◌⊎◌, inl, inr, refl, sym, ap}
+use Rattle.std.proofs.Common.{ℕ, true, false, List, ℤ, pos, negsuc, ◌≡◌, ◌<◌, ◌≤◌, ◌+◌, ◌-◌, ◌&&◌, ◌⊎◌, inl, inr, refl, sym, ap}
 use Rattle.std.proofs.Common.{subst, ◌∙◌, arith, length, set, length-set, get_or-set_same, get_or-set_other, cond, ltb}
 use Rattle.std.proofs.lemmas.Bool.{cases_eq, cases_lt, cases_order, cases_Bool, and_from, and_left, and_right, lt-ltb, le-ltb, true≢false}
 use Rattle.std.proofs.lemmas.List.{get_or_past}
+use Rattle.amd_model.specs.Below.{sum_below}
+use Rattle.amd_model.proofs.Counting.Below.{sum_same, sum_zero, sum_at}
 use Rattle.amd_places.specs.Words.{num, is_place, place, flip_of, word, start}
-use Rattle.amd_places.specs.Layout.{Layout, words_below, has_list, end_of}
+use Rattle.amd_places.specs.Layout.{Layout, has_list, end_of}
 use Rattle.amd_places.specs.Compaction.{Spaced, Compacts, Moves, Packs}
 use Rattle.amd_places.proofs.Frames.{has_parts, has_from, has_same}
 use Rattle.amd_places.proofs.Signs.{mark_no_place, place_of, is_place_of}
 use Rattle.amd_places.proofs.MoveSigns.{flip_same, flip_some}
 use Rattle.amd_places.proofs.MarkedLists.{same_start, start_below, Marked}
 
--- Sums with one changed term.
-pub sum_ext : (n : ℕ) (f g : ℕ → ℕ) → ((k : ℕ) → k < n → f k ≡ g k) → words_below n f ≡ words_below n g
-unfolding words_below
-sum_ext zero f g h = refl
-sum_ext (suc n) f g h = let a = h n (omega arith) in let b = sum_ext n f g (λ k l. h k (omega (arith, l))) in omega (arith, a, b)
-
-pub sum_none : (n : ℕ) (f : ℕ → ℕ) → ((k : ℕ) → k < n → f k ≡ 0) → words_below n f ≡ 0
-unfolding words_below
-sum_none zero f h = refl
-sum_none (suc n) f h = let a = h n (omega arith) in let b = sum_none n f (λ k l. h k (omega (arith, l))) in omega (arith, a, b)
-
+-- a sum with one changed term
 pub sum_one : (n : ℕ) (f g : ℕ → ℕ) (j c : ℕ) → j < n → g j ≡ f j + c → ((k : ℕ) → (k ≡ j → ⊥) → g k ≡ f k) →
-    words_below n g ≡ words_below n f + c
-unfolding words_below
-sum_one zero f g j c l e h = absurd (omega (arith, l))
-sum_one (suc n) f g j c l e h = elim (cases_eq n j) [
-  | inl q ↦ (let a : g n ≡ f n + c = rw q e in let b = sum_ext n g f (λ k m. h k (λ r. omega (arith, r, q, m))) in omega (arith, a, b))
-  | inr ne ↦ (let a = h n ne in let b = sum_one n f g j c (omega (arith, l, ne)) e h in omega (arith, a, b))
-]
+    sum_below n g ≡ sum_below n f + c
+sum_one n f g j c l e h = let a = sum_at n f g j l (λ k m ne. sym (h k ne)) in omega (arith, a, e)
 
 -- the words of row j, if its list starts before src
 abbrev share : List ℤ → List ℕ → ℕ → ℕ → ℕ
@@ -73,7 +60,7 @@ pub record Swept (iw pe : List ℤ) (len : List ℕ) (free : ℕ) (iw' pe' : Lis
   pub order : (i j : ℕ) → has_list pe len i ≡ true → has_list pe len j ≡ true → start pe i < start pe j → start pe j < src →
       end_of pe' len i ≤ start pe' j
   pub full : (q : ℕ) → q < dst → (j : ℕ) × (has_list pe len j ≡ true) × (start pe j < src) × (start pe' j ≤ q) × (q < end_of pe' len j)
-  pub sum : dst ≡ words_below (length len) (share pe len src)
+  pub sum : dst ≡ sum_below (length len) (share pe len src)
 
 row_small : (pe : List ℤ) (len : List ℕ) (j : ℕ) → has_list pe len j ≡ true → j < length len
 row_small pe len j h = elim (cases_lt j (length len)) [
@@ -104,7 +91,7 @@ swept_none {iw} {pe} {len} {free} {iw'} {pe'} y h = record {
   others = h.others;
   order = λ i j _ _ _ l. absurd (omega (arith, l));
   full = λ q l. absurd (omega (arith, l));
-  sum = sym (sum_none (length len) (share pe len 0) (λ j _. share_out pe len 0 j (λ _. omega arith)));
+  sum = sym (sum_zero (length len) (share pe len 0) (λ j _. share_out pe len 0 j (λ _. omega arith)));
 }
 
 -- no list starts at src
@@ -128,7 +115,7 @@ swept_skip {iw} {pe} {len} {free} {iw'} {pe'} {src} {dst} l plain h =
       others = h.others;
       order = λ i j a b m n. h.order i j a b m (before j b n);
       full = λ q m. let a = h.full q m in (a.0, a.1, (let b = a.2 in omega (arith, b)), a.3, a.4);
-      sum = h.sum ∙ sum_ext (length len) (share pe len src) (share pe len (src + 1)) (λ j _.
+      sum = h.sum ∙ sum_same (length len) (share pe len src) (share pe len (src + 1)) (λ j _.
           share_same pe len src (src + 1) j (λ k. elim (cases_lt (start pe j) src) [
             | inl m ↦ inl (m, (omega (arith, m)))
             | inr m ↦ inr (m, (let ne = none j k in omega (arith, m, ne)))
@@ -263,7 +250,7 @@ swept_all {iw} {pe} {len} {free} {iw'} {pe'} {src} {dst} y l h =
             ap is_place w ∙ y.plain (start pe a.0 + k) (let b = y.within a.0 a.1 in omega (arith, b, small));
       };
       full = λ q m. let a = h.full q m in (a.0, a.1, a.3, a.4);
-      count = h.sum ∙ sum_ext (length len) (share pe len src) (λ j. cond (has_list pe len j) (num len j) 0) (λ j _.
+      count = h.sum ∙ sum_same (length len) (share pe len src) (λ j. cond (has_list pe len j) (num len j) 0) (λ j _.
           elim (cases_Bool (has_list pe len j)) [
             | inl k ↦ share_in pe len src j k (all j k) ∙ sym (ap (λ b. cond b (num len j) 0) k)
             | inr k ↦ share_out pe len src j (λ k'. absurd (true≢false (sym k' ∙ k))) ∙ sym (ap (λ b. cond b (num len j) 0) k)

@@ -1,15 +1,17 @@
 -- The words of the lists of a round: the new element has no more than its pivot and the elements that it absorbs leave.
-use Rattle.std.proofs.Common.{ℕ, ℤ, Bool, List, [], ◌∷◌, ◌++◌, zero, suc, ◌≡◌, ◌<◌, ◌≤◌, ◌+◌, ◌-◌, ◌||◌, inl, inr, refl, ap, arith}
+use Rattle.std.proofs.Common.{ℕ, ℤ, Bool, List, [], ◌∷◌, ◌++◌, ◌≡◌, ◌<◌, ◌≤◌, ◌+◌, ◌-◌, ◌||◌, inl, inr, sym, ap, arith}
 use Rattle.std.proofs.Common.{cond, length, fold, filter, flat_map, sum_by}
 use Rattle.std.specs.Prelude.{◌==◌}
 use Rattle.std.proofs.lemmas.Bool.{cases_Bool, cases_eq, eq-eqb, ne_eqb}
 use Rattle.std.proofs.lemmas.List.{length-append}
 use Rattle.std.proofs.lemmas.List.Sums.{sum_by-cons}
+use Rattle.amd_model.specs.Below.{sum_below}
 use Rattle.amd_model.specs.Quotient.{has, add_new}
+use Rattle.amd_model.proofs.Counting.Below.{sum_mono, sum_plus}
+use Rattle.amd_model.proofs.Quotient.Sums.{sum_one}
 use Rattle.amd_model.proofs.Quotient.Lists.{add_old, add_fresh, filter_yes, filter_no}
 use Rattle.amd_places.specs.Words.{num, classes, rows}
 use Rattle.amd_places.specs.Element.{front_of, members_at, elements_at, variables_at}
-use Rattle.amd_places.specs.Layout.{words_below}
 use Rattle.amd_places.proofs.RowLists.{rows_length}
 
 pub adds_few : (skip : ℕ → Bool) (out xs : List ℕ) → length (fold (add_new skip) out xs) ≤ length out + length xs
@@ -53,44 +55,21 @@ front_words iw nv pe len pivot n_elements =
 
 -- ---- the words of all lists
 
-pub words_more : (n : ℕ) (f g : ℕ → ℕ) → ((j : ℕ) → j < n → f j ≤ g j) → words_below n f ≤ words_below n g
-unfolding words_below
-words_more zero f g h = omega arith
-words_more (suc n) f g h = let a = words_more n f g (λ j l. h j (omega (arith, l))) in let b = h n (omega arith) in omega (arith, a, b)
-
-pub words_both : (n : ℕ) (f g : ℕ → ℕ) → words_below n (λ j. f j + g j) ≡ words_below n f + words_below n g
-unfolding words_below
-words_both zero f g = refl
-words_both (suc n) f g = let a = words_both n f g in omega (arith, a)
-
-pub words_one : (n c m : ℕ) → c < n → words_below n (λ j. cond (j == c) m 0) ≡ m
-unfolding words_below
-words_one zero c m l = absurd (omega (arith, l))
-words_one (suc n) c m l = elim (cases_eq n c) [
-  | inl q ↦ (let a = ap (λ b. cond b m 0) (eq-eqb n c q) in let z = words_none n c m (omega (arith, q)) in omega (arith, a, z))
-  | inr ne ↦ (let a = ap (λ b. cond b m 0) (ne_eqb n c ne) in let z = words_one n c m (omega (arith, l, ne)) in omega (arith, a, z))
-]
-  where
-    words_none : (n c m : ℕ) → n ≤ c → words_below n (λ j. cond (j == c) m 0) ≡ 0
-    words_none zero c m l = refl
-    words_none (suc n) c m l = let a = ap (λ b. cond b m 0) (ne_eqb n c (λ q. omega (arith, q, l))) in let z =
-        words_none n c m (omega (arith, l)) in omega (arith, a, z)
-
 -- a round: no list but that of the pivot grows, those of the elements that it absorbs end, and what the new element has is no more
 -- than they and the pivot had: so the live words do not grow
 pub words_fall : (n c : ℕ) (before after gone : ℕ → ℕ) → c < n → ((j : ℕ) → j < n → (j ≡ c → ⊥) → after j + gone j ≤ before j) →
-    gone c ≡ 0 → after c ≤ before c + words_below n gone →
-    words_below n after ≤ words_below n before
+    gone c ≡ 0 → after c ≤ before c + sum_below n gone →
+    sum_below n after ≤ sum_below n before
 words_fall n c before after gone l others none fits =
-    let less : (j : ℕ) → j < n → (after j + gone j) + cond (j == c) (before c) 0 ≤ before j + cond (j == c) (after c) 0 =
-    λ j m. elim (cases_eq j c) [
-      | inl q ↦ (let a = ap (λ b. cond b (before c) 0) (eq-eqb j c q) in let b = ap (λ b. cond b (after c) 0) (eq-eqb j c q) in
-          let d = ap after q in let e = ap before q in let g = ap gone q in omega (arith, a, b, d, e, g, none))
-      | inr ne ↦ (let a = ap (λ b. cond b (before c) 0) (ne_eqb j c ne) in let b = ap (λ b. cond b (after c) 0) (ne_eqb j c ne) in
-          let d = others j m ne in omega (arith, a, b, d))
+    let less : (j : ℕ) → j < n → (after j + gone j) + cond (c == j) (before j) 0 ≤ before j + cond (c == j) (after j) 0 =
+    λ j m. elim (cases_eq c j) [
+      | inl q ↦ (let a = ap (λ b. cond b (before j) 0) (eq-eqb c j q) in let b = ap (λ b. cond b (after j) 0) (eq-eqb c j q) in
+          let g = ap gone q in omega (arith, a, b, g, none))
+      | inr ne ↦ (let a = ap (λ b. cond b (before j) 0) (ne_eqb c j ne) in let b = ap (λ b. cond b (after j) 0) (ne_eqb c j ne) in
+          let d = others j m (λ q. ne (sym q)) in omega (arith, a, b, d))
     ] in
-    let a = words_more n (λ j. (after j + gone j) + cond (j == c) (before c) 0) (λ j. before j + cond (j == c) (after c) 0) less in
-    let b = words_both n (λ j. after j + gone j) (λ j. cond (j == c) (before c) 0) in let d = words_both n after gone in let e =
-    words_both n before (λ j. cond (j == c) (after c) 0) in
-    let f = words_one n c (before c) l in let g = words_one n c (after c) l in
+    let a = sum_mono n (λ j. (after j + gone j) + cond (c == j) (before j) 0) (λ j. before j + cond (c == j) (after j) 0) less in
+    let b = sum_plus n (λ j. after j + gone j) (λ j. cond (c == j) (before j) 0) in let d = sum_plus n after gone in let e =
+    sum_plus n before (λ j. cond (c == j) (after j) 0) in
+    let f = sum_one n before c l in let g = sum_one n after c l in
     omega (arith, a, b, d, e, f, g, fits)

@@ -1,21 +1,21 @@
 -- A new element's list behind the others, and the elements that it absorbs.
 use Rattle.amd_model.proofs.Counting.Below.{clash}
 use Rattle.std.proofs.Common.{ℕ, ℤ, Bool, true, false, List, [], ◌∷◌, ◌++◌, zero, suc, ◌≡◌, ◌<◌, ◌≤◌, ◌+◌, ◌-◌, ◌||◌, inl, inr}
-use Rattle.std.proofs.Common.{refl, sym, subst, ap, ◌∙◌, arith, cond, length, sum_by, pos, set, length-set, get_or-set_same}
+use Rattle.std.proofs.Common.{refl, sym, subst, ap, ◌∙◌, arith, cond, length, pos, set, length-set, get_or-set_same}
 use Rattle.std.proofs.Common.{get_or-set_other}
 use Rattle.std.specs.Prelude.{◌==◌}
 use Rattle.std.proofs.lemmas.Bool.{true≢false, cases_Bool, cases_eq, cases_lt, eq-eqb, ne_eqb, eqb-true, cond-true, cond-false}
 use Rattle.std.proofs.lemmas.Bool.{and_left, or_left, or_right, or_cases}
-use Rattle.std.proofs.lemmas.List.Sums.{sum_by-cons}
 use Rattle.amd_model.specs.Quotient.{has, Once}
 use Rattle.amd_model.proofs.Quotient.Lists.{has_append}
+use Rattle.amd_model.proofs.Quotient.Sums.{sum_over}
 use Rattle.amd_places.specs.Words.{num, is_place, place, flip_of, word, start, rows, Names}
 use Rattle.amd_places.specs.Element.{front_of, IsListLaid, ListsLaid, Builds}
-use Rattle.amd_places.specs.Layout.{has_list, elements_in, list_in, Layout, live_words, words_below}
+use Rattle.amd_places.specs.Layout.{has_list, elements_in, list_in, Layout, live_words}
 use Rattle.amd_places.specs.Making.{Makes}
 use Rattle.amd_places.proofs.Signs.{place_of, is_place_of, mark_no_place, mark_none}
 use Rattle.amd_places.proofs.RowLists.{rows_none, rows_more, rows_same, rows_length}
-use Rattle.amd_places.proofs.RoundWords.{words_more, words_both, words_one, words_fall, front_words}
+use Rattle.amd_places.proofs.RoundWords.{words_fall, front_words}
 use Rattle.amd_places.proofs.Frames.{has_parts, has_same, relaid}
 
 -- ---- one value written where each of some words points
@@ -56,27 +56,6 @@ names_below n iw from (suc count) x names h = elim (or_cases (has (rows iw from 
         | inr b ↦ absurd (true≢false (sym b))
       ]
     ]
-
--- the sum over a list that names no row twice is no more than the sum over all rows that it names
-pub sum_once : (n : ℕ) (f : ℕ → ℕ) (xs : List ℕ) → Once xs → ((x : ℕ) → has xs x ≡ true → x < n) →
-    sum_by f xs ≤ words_below n (λ j. cond (has xs j) (f j) 0)
-unfolding has
-sum_once n f [] once small = omega arith
-sum_once n f (x ∷ xs) once small =
-    let a = sum_by-cons f x xs in let b = sum_once n f xs once.1 (λ y h. small y (or_right (x == y) (has xs y) h)) in let d =
-    words_one n x (f x) (small x (or_left (x == x) (has xs x) (eq-eqb x x refl))) in
-    let e = words_both n (λ j. cond (j == x) (f x) 0) (λ j. cond (has xs j) (f j) 0) in
-    let g = words_more n (λ j. cond (j == x) (f x) 0 + cond (has xs j) (f j) 0) (λ j. cond (has (x ∷ xs) j) (f j) 0) (λ j l.
-    elim (cases_eq j x) [
-      | inl q ↦ (let s : cond (j == x) (f x) 0 ≡ f x = cond-true _ (f x) 0 (eq-eqb j x q) in
-          let t : cond (has xs j) (f j) 0 ≡ 0 = cond-false _ (f j) 0 (ap (has xs) q ∙ once.0) in
-          let u : cond (has (x ∷ xs) j) (f j) 0 ≡ f j = cond-true _ (f j) 0 (or_left (x == j) (has xs j) (eq-eqb x j (sym q))) in let v =
-          ap f q in omega (arith, s, t, u, v))
-      | inr ne ↦ (let s : cond (j == x) (f x) 0 ≡ 0 = cond-false _ (f x) 0 (ne_eqb j x ne) in
-          let u : cond (has (x ∷ xs) j) (f j) 0 ≡ cond (has xs j) (f j) 0 =
-          ap (λ b. cond (b || has xs j) (f j) 0) (ne_eqb x j (λ q. ne (sym q))) in omega (arith, s, u))
-    ]) in
-    omega (arith, a, b, d, e, g)
 
 -- ---- the lists that a build reads
 
@@ -206,7 +185,7 @@ module _ {n me : ℕ} {iw nv pe e_len : List ℤ} {len : List ℕ} {free : ℕ} 
       ] in
       let u = len_me in let v = ap length b.list in let v' = rows_length iw' free (end - free) in let x =
       front_words iw nv pe len me (place (word e_len me)) in
-      let z = sum_once n (num len) es once (λ e h. names_below n iw (start pe me) (place (word e_len me)) e (λ k l.
+      let z = sum_over n (num len) es once (λ e h. names_below n iw (start pe me) (place (word e_len me)) e (λ k l.
       y.words (start pe me + k) (let a = y.within me own in let c = y.parts me own in omega (arith, a, c, l))) h) in
       omega (arith, s, t, u, v, v', x, z))
     where

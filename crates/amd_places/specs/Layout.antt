@@ -1,7 +1,8 @@
 -- The lists of the classes and of the standing elements, each in its own place in one workspace.
-use Rattle.std.specs.Prelude.{ℕ, ℤ, Bool, true, false, List, ◌∷◌, ◌≡◌, ◌<◌, ◌≤◌, ◌+◌, ◌-◌, ◌&&◌, ◌⊎◌, zero, suc, nat_lt}
+use Rattle.std.specs.Prelude.{ℕ, ℤ, Bool, true, false, List, ◌∷◌, ◌≡◌, ◌<◌, ◌≤◌, ◌+◌, ◌-◌, ◌&&◌, ◌⊎◌, nat_lt}
 use Rattle.std.specs.Prelude.{cond, length}
 use Rattle.std.specs.Prelude.{filter, sum_by}
+use Rattle.amd_model.specs.Below.{sum_below}
 use Rattle.amd_model.specs.Figures.{cut}
 use Rattle.amd_model.specs.Quotient.{has, turned}
 use Rattle.amd_places.specs.Words.{num, is_place, place, word, start, rows, Names}
@@ -34,14 +35,9 @@ pub record Layout (n : ℕ) (iw pe e_len : List ℤ) (len : List ℕ) (free : �
   pub parts : (j : ℕ) → has_list pe len j ≡ true → place (word e_len j) ≤ num len j
   pub words : (k : ℕ) → k < free → (is_place (word iw k) ≡ true) × (place (word iw k) < n)
 
--- the sum of f over the rows below n
-unfoldable pub words_below : ℕ → (ℕ → ℕ) → ℕ
-words_below zero f = 0
-words_below (suc n) f = f n + words_below n f
-
 -- how many words the lists have together
 abbrev pub live_words : ℕ → List ℤ → List ℕ → ℕ
-live_words n pe len = words_below n (λ j. cond (has_list pe len j) (num len j) 0)
+live_words n pe len = sum_below n (λ j. cond (has_list pe len j) (num len j) 0)
 
 -- the list of a row reads the same, word for word
 abbrev pub ReadsSame : List ℤ → List ℤ → List ℤ → List ℕ → List ℤ → List ℤ → List ℤ → List ℕ → ℕ → Type 0

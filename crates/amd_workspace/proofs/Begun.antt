@@ -8,12 +8,11 @@ use Rattle.std.proofs.lemmas.List.{get_or_past}
 use Rattle.amd_model.specs.Below.{count_below}
 use Rattle.amd_model.specs.Figures.{front_sum, entries, ldl_steps, lu_steps, cut}
 use Rattle.amd_model.specs.Quotient.{has}
-use Rattle.amd_model.proofs.Counting.Below.{count_same, count_most}
+use Rattle.amd_model.proofs.Counting.Below.{sum_mono, count_same, count_most}
 use Rattle.amd_model.proofs.Listings.Words.{has_none}
 use Rattle.amd_views.specs.Starts.{class_of, block_of, IsBegun}
 use Rattle.amd_places.specs.Words.{num, word, place, is_place, start, size_of, inside, rows_in, rows, flip_of}
 use Rattle.amd_places.specs.Layout.{has_list, end_of, elements_in, variables_in, list_in, Layout, live_words}
-use Rattle.amd_places.proofs.RoundWords.{words_more}
 use Rattle.amd_inplace.specs.Workspaces.{Workspace, owner_of, is_flip, is_over, flipped, view_of}
 use Rattle.amd_inplace.specs.Laid.{IsSized, IsLaid}
 use Rattle.amd_inplace.proofs.Standing.{flip_is, over_is, place_is}
@@ -311,7 +310,7 @@ module _ (n : ℕ) (held : ℕ → Bool) (p : Rows) (v : Workspace) (begins : Be
       room = room;
       end = end;
       laid = begun_layout;
-      words = (let l = words_more n (λ j. cond (has_list v.pe v.len j) (num v.len j) 0) (λ j. cond (has_list p.pe p.len j) (num p.len j) 0)
+      words = (let l = sum_mono n (λ j. cond (has_list v.pe v.len j) (num v.len j) 0) (λ j. cond (has_list p.pe p.len j) (num p.len j) 0)
           (λ j k. one_list j) in omega (arith, l, few));
       clear = λ j. elim (kind j) [
         | inl k ↦ not_inside (word v.nv j) 1 k.0.size

@@ -11,7 +11,7 @@ use Rattle.amd_model.specs.Graph.{Graph}
 use Rattle.amd_edges.specs.Visits.{IsNew, with_arc, AreCounts, start_of, ends_of}
 use Rattle.amd_edges.proofs.Listing.{start_later, start_sums, lists_none, lists_more, place_in}
 use Rattle.amd_places.specs.Words.{num, is_place, place, word, start, rows}
-use Rattle.amd_places.specs.Layout.{has_list, end_of, list_in, words_below, live_words}
+use Rattle.amd_places.specs.Layout.{has_list, end_of, list_in, live_words}
 use Rattle.amd_places.proofs.Frames.{has_parts, has_none}
 use Rattle.amd_places.proofs.RowLists.{rows_none, rows_more}
 use Rattle.amd_workspace.specs.Laying.{Lays, Starts, IsLaidOut}
@@ -125,7 +125,7 @@ module _ (g : Graph) (degrees : List ℕ) (pe : List ℤ) (next len : List ℕ) 
       }
 
   words_sum : (n : ℕ) → n ≤ g.size → live_words n pe len ≡ start_of g n
-  unfolding words_below sum_below start_of
+  unfolding sum_below start_of
   words_sum zero l = refl
   words_sum (suc n) l =
       let a = words_sum n (omega (arith, l)) in let m = count_at n (omega (arith, l)) in
