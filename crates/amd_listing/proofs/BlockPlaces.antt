@@ -14,10 +14,11 @@ use Rattle.amd_model.specs.Listing.{ListsEachRow}
 use Rattle.amd_model.specs.Laws.{is_last}
 use Rattle.amd_model.specs.Quotient.{has, Once}
 use Rattle.amd_model.specs.State.{Home, Last, Live, Gone, block_at}
-use Rattle.amd_model.proofs.Counting.Below.{count_same, count_split, count_none}
+use Rattle.amd_model.proofs.Counting.Below.{clash, count_same, count_or, count_none}
 use Rattle.amd_model.proofs.Counting.Lists.{both_below}
 use Rattle.amd_model.proofs.Counting.Places.{below_skip, below_take, place_of, length_below}
 use Rattle.amd_model.proofs.Counting.Points.{count_drop}
+use Rattle.amd_model.proofs.Counting.Unions.{count_apart}
 use Rattle.amd_model.proofs.Listings.Words.{has_head, has_tail, has_left}
 use Rattle.amd_views.proofs.Lists.Named.{sum_named}
 use Rattle.amd_views.proofs.Lists.Pivots.{eq_flip}
@@ -70,7 +71,7 @@ has_take : (k : ℕ) (xs : List ℕ) (x : ℕ) → has (take k xs) x ≡ true �
 has_take k xs x h = subst (λ ys. has ys x ≡ true) (take-append-drop k xs) (has_left x (take k xs) (drop k xs) h)
 
 -- in the block of an element of the list
-in_blocks : List ℕ → Home → Bool
+pub in_blocks : List ℕ → Home → Bool
 in_blocks es Last = false
 in_blocks es (Live c) = false
 in_blocks es (Gone e) = has es e
@@ -96,23 +97,8 @@ in_none Last = refl
 in_none (Live c) = refl
 in_none (Gone e) = refl
 
-either : (a b : Bool) → ((a || b) && a) ≡ a
-either true b = refl
-either false true = refl
-either false false = refl
-
-second : (a b : Bool) → (a ≡ true → b ≡ false) → ((a || b) && not a) ≡ b
-second true b h = sym (h refl)
-second false true h = refl
-second false false h = refl
-
-count_disjoint : (n : ℕ) (p q : ℕ → Bool) → ((k : ℕ) → p k ≡ true → q k ≡ false) →
-    count_below n (λ k. p k || q k) ≡ count_below n p + count_below n q
-count_disjoint n p q h = let split = count_split n (λ k. p k || q k) p in
-    let a = count_same n (λ k. (p k || q k) && p k) p (λ k l. either (p k) (q k)) in
-    let b = count_same n (λ k. (p k || q k) && not (p k)) q (λ k l. second (p k) (q k) (h k)) in omega (arith, split, a, b)
-
-blocks_counted : (n : ℕ) (home : ℕ → Home) (size : ℕ → ℕ) (es : List ℕ) → Once es →
+-- the blocks of different elements have as many rows together as there are rows in them
+pub blocks_counted : (n : ℕ) (home : ℕ → Home) (size : ℕ → ℕ) (es : List ℕ) → Once es →
     ((e : ℕ) → has es e ≡ true → size e ≡ count_below n (λ v. block_at e (home v))) →
     sum_by size es ≡ count_below n (λ v. in_blocks es (home v))
 blocks_counted n home size [] once sizes =
@@ -122,8 +108,10 @@ blocks_counted n home size (e ∷ es) once sizes =
     let on = blocks_counted n home size es once.1 (λ f h. sizes f (has_tail f e es h)) in
     let join = count_same n (λ v. in_blocks (e ∷ es) (home v)) (λ v. block_at e (home v) || in_blocks es (home v))
     (λ v l. one_more e es (home v)) in
-    let split = count_disjoint n (λ v. block_at e (home v)) (λ v. in_blocks es (home v)) (λ v. apart_from e es (home v) once.0) in
-    omega (arith, a, here, on, join, split)
+    let most = count_or n (λ v. block_at e (home v)) (λ v. in_blocks es (home v)) in
+    let least = count_apart n (λ v. block_at e (home v)) (λ v. in_blocks es (home v))
+    (λ v l q r. clash r (apart_from e es (home v) once.0 q)) in
+    omega (arith, a, here, on, join, most, least)
 
 module _ (link nv : List ℤ) (starts : List ℕ) (end : ℕ) (home : ℕ → Home) (elements : List ℕ)
     (b : AreBlocks link nv starts end home elements) where

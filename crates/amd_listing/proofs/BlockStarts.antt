@@ -1,56 +1,23 @@
 -- Where the blocks of elements start: of different blocks, none more than there are rows.
-use Rattle.std.proofs.Common.{ℕ, ℤ, Bool, ◌≡◌, ◌≢◌, ◌<◌, ◌≤◌, ◌+◌, ◌&&◌, ◌||◌, ◌∷◌, [], true, false, inl, inr, refl, sym, ◌∙◌, ap, subst}
+use Rattle.std.proofs.Common.{ℕ, ℤ, ◌≡◌, ◌<◌, ◌≤◌, ◌+◌, ◌&&◌, inl, inr, refl, sym, ◌∙◌, ap}
 use Rattle.std.proofs.Common.{arith, List, length, take, pos}
 use Rattle.std.specs.Prelude.{slice_index, slice_set, nat_lt, sum_by, ◌==◌}
 use Rattle.std.proofs.Math.ListN.{set}
 use Rattle.std.proofs.lemmas.List.{length-set, get_or-set_same, get_or-set_other, take_all}
-use Rattle.std.proofs.lemmas.List.Sums.{sum_by-cons, sum_by_more, sum_by_more_le, sum_by-take-le}
-use Rattle.std.proofs.lemmas.Bool.{cases_eq, cases_lt, ltb-true, and_parts, or_cases, false≢true}
-use Rattle.amd_model.specs.Below.{count_below}
-use Rattle.amd_model.specs.State.{Home, Gone, block_at}
-use Rattle.amd_model.specs.Quotient.{has, Once}
-use Rattle.amd_model.proofs.Counting.Below.{clash, count_most, count_same, count_zero}
+use Rattle.std.proofs.lemmas.List.Sums.{sum_by_more, sum_by_more_le, sum_by-take-le}
+use Rattle.std.proofs.lemmas.Bool.{cases_eq, cases_lt, ltb-true, and_parts}
+use Rattle.amd_model.specs.State.{Home}
+use Rattle.amd_model.proofs.Counting.Below.{count_most, count_same, count_zero}
 use Rattle.amd_model.proofs.Counting.Places.{has_place, places_differ}
 use Rattle.amd_model.proofs.Counting.Points.{pigeonhole}
-use Rattle.amd_model.proofs.Counting.Unions.{count_apart}
-use Rattle.amd_model.proofs.Listings.Words.{has_head, has_tail}
-use Rattle.amd_model.proofs.States.Words.{block_gives}
 use Rattle.amd_places.specs.Words.{num, size_of, word}
 use Rattle.amd_listing.specs.Blocks.{AreElements, AreStarts, BeginWith}
-
--- the row is in the block of one of the elements
-in_blocks : List ℕ → Home → Bool
-in_blocks [] h = false
-in_blocks (e ∷ es) h = block_at e h || in_blocks es h
-
--- the element of the block that a row is in
-its_element : (es : List ℕ) (h : Home) → in_blocks es h ≡ true → (e : ℕ) × (has es e ≡ true) × (h ≡ Gone e)
-unfolding in_blocks
-its_element [] h q = absurd (false≢true q)
-its_element (e ∷ es) h q = elim (or_cases (block_at e h) (in_blocks es h) q) [
-  | inl b ↦ (e, has_head e e es refl, block_gives e h b)
-  | inr b ↦ (let r = its_element es h b in (r.0, has_tail r.0 e es r.1, r.2))
-]
-
--- the blocks of different elements have no more rows together than there are rows in them
-sum_in_blocks : (n : ℕ) (home : ℕ → Home) (size : ℕ → ℕ) (es : List ℕ) → Once es →
-    ((e : ℕ) → has es e ≡ true → size e ≡ count_below n (λ v. block_at e (home v))) →
-    sum_by size es ≤ count_below n (λ v. in_blocks es (home v))
-unfolding in_blocks
-sum_in_blocks n home size [] once sizes = omega arith
-sum_in_blocks n home size (e ∷ es) once sizes =
-    let cons = sum_by-cons size e es in let is = sizes e (has_head e e es refl) in
-    let rest = sum_in_blocks n home size es once.1 (λ f h. sizes f (has_tail f e es h)) in
-    let union = count_apart n (λ v. block_at e (home v)) (λ v. in_blocks es (home v)) (λ v l a b.
-    let r = its_element es (home v) b in
-    let x : Gone e ≡ Gone r.0 = sym (block_gives e (home v) a) ∙ r.2 in let same : r.0 ≡ e = cc in
-    clash (subst (λ f. has es f ≡ true) same r.1) once.0) in
-    omega (arith, cons, is, rest, union)
+use Rattle.amd_listing.proofs.BlockPlaces.{in_blocks, blocks_counted}
 
 module _ (n : ℕ) (home : ℕ → Home) (es : List ℕ) (nv : List ℤ) (a : AreElements n home es nv) where
   -- the blocks have at most n rows
   pub sizes_fit : sum_by (size_of nv) es ≤ n
-  sizes_fit = let sum = sum_in_blocks n home (size_of nv) es a.once a.sizes in let most = count_most n (λ v. in_blocks es (home v)) in
+  sizes_fit = let sum = blocks_counted n home (size_of nv) es a.once a.sizes in let most = count_most n (λ v. in_blocks es (home v)) in
       omega (arith, sum, most)
 
   pub element_small : (k : ℕ) → k < length es → slice_index es k < n
