@@ -35,9 +35,6 @@ pub record IsSized {A : Type 0} (n : ℕ) (w : Work A) : Type 0 where
   pub idle : IsIdle n w.scratch
 
 -- following the links comes to an end, and leads to where the rows are
-abbrev pub LinksEnd : List (Option ℕ) → (ℕ → ℕ) → ℕ → Type 0
-LinksEnd links rank top = views.LinksEnd (length links) (some_at links) rank top
-
 abbrev pub LinksLead : List (Option ℕ) → (ℕ → Home) → Type 0
 LinksLead links home = views.LinksLead (length links) (some_at links) home
 
