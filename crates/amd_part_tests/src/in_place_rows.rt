@@ -1,7 +1,7 @@
 // Worked matrices through the engine in place, from first flags with and without a reset of the counters, in words of
 // both widths, with no word to spare and with those of `order`; and through `amd_1` and `amd_2` by themselves, the
-// latter over lists that were laid. The answers were worked by hand, and come from the Rust crate `amd` and from a plain
-// program that follows the rules.
+// latter over lists that were laid. The answers were worked by hand, and come from the Rust crate `amd` and from a
+// plain program that follows the rules.
 
 use crate::in_place_matrices::{Case, MATRICES};
 use crate::laid::{are_words, order_laid};

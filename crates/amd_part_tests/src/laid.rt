@@ -1,5 +1,6 @@
 // The workspace as it is laid: the lists of the neighbours one after another, where each starts, how long it is, and
-// where the first free word is, in both widths of words; and `amd_2` over such a workspace, for other tests. The lists
+// where the first free word is, in both widths of words; the marks that stand there; and `amd_2` over such a workspace,
+// for other tests. The lists
 // were worked by hand in the order in which the walk meets the edges.
 
 ghost use Rattle.std.specs.Prelude.{◌≡◌, ◌<◌, ◌≤◌, ◌+◌, ℕ, List, pos, length};
@@ -13,6 +14,7 @@ use amd_engine::amd_2::amd_2;
 use amd_input::aat::aat;
 use amd_input::valid::valid;
 use amd_numbers::amd::{Control, Info, Status};
+use amd_numbers::internal::flip;
 use amd_workspace::laying::{Laid, lay};
 use std::alloc::Global;
 use std::process::Abort;
@@ -165,5 +167,23 @@ fn workspaces_are_laid(rt: HostRuntime) {
     for case in &MATRICES {
         check::<i32, u32>(&rt, rt.alloc(), case);
         check::<isize, usize>(&rt, rt.alloc(), case);
+    }
+}
+
+/// Numbers and their marks: what names a parent or an owner in a workspace. -1 is its own mark.
+static MARKS: [(isize, isize); 7] = [
+    (-1, -1),
+    (0, -2),
+    (1, -3),
+    (41, -43),
+    (-43, 41),
+    (isize::MIN, isize::MAX - 1),
+    (isize::MAX - 1, isize::MIN),
+];
+
+#[test]
+fn marks_of_numbers(rt: HostRuntime) {
+    for (number, mark) in &MARKS {
+        assert!(rt; flip(*number) == *mark, "a mark");
     }
 }
