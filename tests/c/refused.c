@@ -1,0 +1,130 @@
+/* Each request for memory of a call is refused in turn, until a call meets no refusal: each call before must return RIMOPAKU_OUT_OF_MEMORY
+ * and leave the arrays as they were, the last one must answer, and every block must have come back. Linked with
+ * -Wl,--wrap=malloc,--wrap=realloc,--wrap=free, so that the requests of the library come here. */
+#include <stdio.h>
+#include <string.h>
+
+#include "rimopaku.h"
+
+enum { ROWS = 5, ROOM = 10, UNTOUCHED = -9 };
+
+void *__real_malloc(size_t size);
+void *__real_realloc(void *block, size_t size);
+void __real_free(void *block);
+
+static size_t asked, refused, blocks;
+
+void *__wrap_malloc(size_t size)
+{
+    void *block = ++asked == refused ? NULL : __real_malloc(size);
+    if (block)
+        blocks++;
+    return block;
+}
+
+void *__wrap_realloc(void *old, size_t size)
+{
+    void *block = ++asked == refused ? NULL : __real_realloc(old, size);
+    if (block && !old)
+        blocks++;
+    return block;
+}
+
+void __wrap_free(void *block)
+{
+    if (block)
+        blocks--;
+    __real_free(block);
+}
+
+/* What the calls may write. */
+struct answer {
+    int32_t narrow[ROWS + ROWS + ROWS + 1 + ROOM];
+    int64_t wide[ROWS + ROWS + ROWS + 1 + ROOM];
+    struct rimopaku_statistics statistics;
+};
+
+static const int32_t a_p_32[] = {0, 2, 6, 10, 12, 14}, a_i_32[] = {0, 1, 0, 1, 2, 4, 1, 2, 3, 4, 2, 3, 1, 4}, p_32[] = {0, 3, 2, 4, 1};
+static const int64_t a_p_64[] = {0, 2, 6, 10, 12, 14}, a_i_64[] = {0, 1, 0, 1, 2, 4, 1, 2, 3, 4, 2, 3, 1, 4}, p_64[] = {0, 3, 2, 4, 1};
+static const bool hold[ROWS] = {true, false, false, false, false};
+
+static int32_t order_32(struct answer *to)
+{
+    return rimopaku_order_i32(ROWS, a_p_32, ROWS + 1, a_i_32, 14, &(struct rimopaku_parameters){10000, true}, to->narrow, ROWS,
+                              to->narrow + ROWS, ROWS, &to->statistics);
+}
+
+static int32_t order_64(struct answer *to)
+{
+    return rimopaku_order_i64(ROWS, a_p_64, ROWS + 1, a_i_64, 14, &(struct rimopaku_parameters){10000, true}, to->wide, ROWS,
+                              to->wide + ROWS, ROWS, &to->statistics);
+}
+
+static int32_t order_holding_32(struct answer *to)
+{
+    return rimopaku_order_holding_i32(ROWS, a_p_32, ROWS + 1, a_i_32, 14, &(struct rimopaku_parameters){10000, true}, hold, ROWS, to->narrow,
+                                      ROWS, to->narrow + ROWS, ROWS, &to->statistics);
+}
+
+static int32_t order_holding_64(struct answer *to)
+{
+    return rimopaku_order_holding_i64(ROWS, a_p_64, ROWS + 1, a_i_64, 14, &(struct rimopaku_parameters){10000, true}, hold, ROWS, to->wide,
+                                      ROWS, to->wide + ROWS, ROWS, &to->statistics);
+}
+
+static int32_t columns_32(struct answer *to)
+{
+    return rimopaku_columns_i32(ROWS, a_p_32, ROWS + 1, a_i_32, 14, p_32, ROWS, to->narrow, ROWS + 1, to->narrow + ROWS + 1, ROOM,
+                                to->narrow + ROWS + 1 + ROOM, ROWS);
+}
+
+static int32_t columns_64(struct answer *to)
+{
+    return rimopaku_columns_i64(ROWS, a_p_64, ROWS + 1, a_i_64, 14, p_64, ROWS, to->wide, ROWS + 1, to->wide + ROWS + 1, ROOM,
+                                to->wide + ROWS + 1 + ROOM, ROWS);
+}
+
+/* Fills everything that a call may write. */
+static void untouch(struct answer *answer)
+{
+    size_t k;
+    memset(answer, 0, sizeof *answer);
+    for (k = 0; k < sizeof answer->narrow / sizeof *answer->narrow; k++)
+        answer->narrow[k] = answer->wide[k] = UNTOUCHED;
+    answer->statistics.lnz = 77;
+}
+
+/* Refuses each request of a call in turn, and tells what went wrong, or how the last call ended. */
+static void refuse_each(const char *name, int32_t (*call)(struct answer *to))
+{
+    struct answer before, after;
+    int32_t status;
+
+    untouch(&before);
+    for (refused = 1;; refused++) {
+        untouch(&after);
+        asked = 0;
+        status = call(&after);
+        if (blocks != 0)
+            printf("%s: blocks are left\n", name);
+        if (asked < refused)
+            break;
+        if (status != RIMOPAKU_OUT_OF_MEMORY)
+            printf("%s: status %d where a request was refused\n", name, (int)status);
+        if (memcmp(&before, &after, sizeof before) != 0)
+            printf("%s: something was written where a request was refused\n", name);
+    }
+    printf("%s: %s, at last status %d\n", name, refused > 1 ? "each request refused" : "no request met", (int)status);
+    refused = 0;
+}
+
+int main(void)
+{
+    refuse_each("order, 32 bits", order_32);
+    refuse_each("order, 64 bits", order_64);
+    refuse_each("order with a row held, 32 bits", order_holding_32);
+    refuse_each("order with a row held, 64 bits", order_holding_64);
+    refuse_each("columns, 32 bits", columns_32);
+    refuse_each("columns, 64 bits", columns_64);
+    return 0;
+}
