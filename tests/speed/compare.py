@@ -1,41 +1,42 @@
 #!/usr/bin/env python3
-"""Times programs on matrix files, in turn, and prints a table of the least times:
+"""Times programs on matrix files, in turn, and prints a table of the least times, in milliseconds:
 
-    compare.py ROUNDS CALLS [--peak FILE.so] NAME=PROGRAM:TYPE.. -- MATRIX..
+    compare.py ROUNDS CALLS [--load FILE.so] NAME=PROGRAM:TYPE.. -- MATRIX..
 
 Each program is called as PROGRAM MATRIX TYPE CALLS, and prints a line with words such as min_ns=TIME and phash=HASH. All programs must
-tell the same figures and the same hash for a matrix, or it is said. With --peak the table has the memory of one call in place of times."""
+tell the same figures and the same hash for a matrix, or it is said. With --load, of process.c, the times are those of the processor, and
+the table has the greatest memory of a call too, in megabytes, and the requests for it."""
 import os
 import re
 import subprocess
 import sys
 
 
-def words(program, kind, matrix, calls, peak):
-    env = {**os.environ, "LD_PRELOAD": os.path.abspath(peak)} if peak else None
+def words(program, kind, matrix, calls, load):
+    env = {**os.environ, "LD_PRELOAD": os.path.abspath(load)} if load else None
     ran = subprocess.run([program, matrix, kind, str(calls)], env=env, capture_output=True, text=True, check=True)
     return dict(re.findall(r"(\w+)=(\S+)", ran.stdout + ran.stderr))
 
 
 def main():
     arguments = sys.argv[1:]
-    rounds, calls, peak = int(arguments.pop(0)), int(arguments.pop(0)), None
-    if arguments[0] == "--peak":
-        peak, arguments = arguments[1], arguments[2:]
+    rounds, calls, load = int(arguments.pop(0)), int(arguments.pop(0)), None
+    if arguments[0] == "--load":
+        load, arguments = arguments[1], arguments[2:]
     cut = arguments.index("--")
     programs = [re.fullmatch(r"([^=]+)=(.+):(\w+)", it).groups() for it in arguments[:cut]]
     names = [name for name, _, _ in programs]
-    tells = ["peak", "requests"] if peak else ["time"]
+    tells = ["ms", "MB", "requests"] if load else ["ms"]
     print("matrix", *(f"{name}.{it}" for name in names for it in tells), sep="\t", flush=True)
     for matrix in arguments[cut + 1:]:
         least, told, more = {}, set(), {}
         for _ in range(rounds):
             for name, program, kind in programs:
-                said = words(program, kind, matrix, calls, peak)
+                said = words(program, kind, matrix, calls, load)
                 told.add(tuple(said.get(it) for it in ("lnz", "ldl", "lu", "dmax", "ndense", "phash")))
                 least[name] = min(least.get(name, 1 << 62), int(said["min_ns"]))
-                more[name] = [said.get("peak"), said.get("requests")]
-        cells = [it for name in names for it in more[name]] if peak else [f"{least[name] / 1e6:.2f}" for name in names]
+                more[name] = [f"{int(said.get('peak', 0)) / 1e6:.2f}", said.get("requests")] if load else []
+        cells = [it for name in names for it in (f"{least[name] / 1e6:.2f}", *more[name])]
         print(os.path.basename(matrix), *cells, *["ANSWERS DIFFER"] * (len(told) > 1), sep="\t", flush=True)
 
 
