@@ -1,5 +1,5 @@
 -- Classes of columns, one more row or column at a time.
-use Rattle.std.proofs.Common.{◌≡◌, ◌+◌, ◌^◌, ◌<◌, ◌≤◌, ◌⊎◌, inl, inr, ℕ, ℤ, pos, List, length, arith, sym, subst, below_more}
+use Rattle.std.proofs.Common.{◌≡◌, ◌+◌, ◌-◌, ◌^◌, ◌<◌, ◌≤◌, ◌≤ℤ◌, ◌<ℤ◌, ◌⊎◌, inl, inr, refl, ℕ, ℤ, zero, suc, pos, List, length, arith, sym, subst, below_more}
 use native.Mathlib.Decide.{dec_lt}
 use Prim.{yes, no}
 use Rattle.std.specs.Int.{FitsUnsignedBits}
@@ -11,12 +11,21 @@ use Rattle.amd_input.specs.Scans.{AreRows, Rise, HaveDescent, IsColumnClass}
 use Rattle.amd_numbers.specs.declared.amd.Status.{Status}
 use Rattle.amd_numbers.specs.declared.amd.Status.TheVariants.{OK, Invalid, OkButJumbled, OutOfMemory}
 
--- the class of the rows read so far, none of which was out of range
-abbrev pub IsClassSoFar : ℤ → List ℤ → ℕ → ℕ → Status → Type 0
-IsClassSoFar m ai a b OK = AreRows m ai a b × Rise ai a b
-IsClassSoFar m ai a b Invalid = ⊥
-IsClassSoFar m ai a b OkButJumbled = AreRows m ai a b × HaveDescent ai a b
-IsClassSoFar m ai a b OutOfMemory = ⊥
+-- numbers that rise: none is below the first of them
+pub from_first : (ai : List ℤ) (a k d : ℕ) → a + d ≡ k → Rise ai a (k + 1) → at ai a ≤ℤ at ai k
+from_first ai a k zero e up = let same : a ≡ k = omega (arith, e) in rw same (omega (arith, ints))
+from_first ai a k (suc d) e up =
+    let below = from_first ai a (a + d) d refl (λ i low high. up i low (omega (arith, e))) in
+    let step = up (a + d) (omega arith) (omega (arith, e)) in
+    let more : at ai (a + d) <ℤ at ai k = (let last : a + d + 1 ≡ k = omega (arith, e) in rw (sym last) step) in
+    omega (arith, ints, below, more)
+
+-- rows that rise lie in range where the first and the last of them do
+pub rising_rows : (m : ℤ) (ai : List ℤ) (a b : ℕ) → a < b → Rise ai a b → pos 0 ≤ℤ at ai a → at ai (b - 1) <ℤ m → AreRows m ai a b
+rising_rows m ai a b some up first last k low high =
+    let above = from_first ai a k (k - a) (omega arith) (λ i from below. up i from (omega arith)) in
+    let under = from_first ai k (b - 1) (b - 1 - k) (omega arith) (λ i from below. up i (omega arith) (omega arith)) in
+    (omega (arith, ints, first, above), omega (arith, ints, last, under))
 
 -- the class of the columns read so far, which were well formed
 abbrev pub IsRunSoFar : ℕ → List ℤ → List ℤ → Status → Type 0

@@ -16,9 +16,13 @@ Rise ai a b = (k : ℕ) → a ≤ k → k + 1 < b → at ai k <ℤ at ai (k + 1)
 abbrev pub HaveDescent : List ℤ → ℕ → ℕ → Type 0
 HaveDescent ai a b = (k : ℕ) × (a ≤ k) × (k + 1 < b) × (at ai (k + 1) ≤ℤ at ai k)
 
+-- at some of them stands no row of a matrix with m rows
+abbrev pub HaveNoRow : ℤ → List ℤ → ℕ → ℕ → Type 0
+HaveNoRow m ai a b = (k : ℕ) × (a ≤ k) × (k < b) × (¬ (IsRow m (at ai k)))
+
 -- what a status says of the rows at the places from a on, before b
 abbrev pub IsColumnClass : ℤ → List ℤ → ℕ → ℕ → Status → Type 0
 IsColumnClass m ai a b OK = AreRows m ai a b × Rise ai a b
-IsColumnClass m ai a b Invalid = (k : ℕ) × (a ≤ k) × (k < b) × (¬ (IsRow m (at ai k)))
+IsColumnClass m ai a b Invalid = HaveNoRow m ai a b
 IsColumnClass m ai a b OkButJumbled = AreRows m ai a b × HaveDescent ai a b
 IsColumnClass m ai a b OutOfMemory = ⊥

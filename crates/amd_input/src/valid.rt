@@ -2,31 +2,67 @@
 // fault in a later column wins over a jumbled earlier one. Called by `order`, by `columns` of the crate `amd_symbolic`,
 // and by the crates of the command and of C.
 
-ghost use Rattle.std.specs.Prelude.{◌<◌, ◌≤◌, length, map};
+ghost use Rattle.std.specs.Prelude.{◌≡◌, ◌<◌, ◌≤◌, true, false, length, map};
 ghost use Rattle.amd_numbers.specs.Statuses.{IsStatusOf};
-ghost use Rattle.amd_input.specs.Scans.{IsColumnClass};
+ghost use Rattle.amd_input.specs.Scans.{AreRows, HaveDescent, HaveNoRow, IsColumnClass, Rise};
 
 use amd_numbers::amd::Status;
 use amd_numbers::internal::{is_below, is_negative, to_count, value_at};
 use num_traits::PrimInt;
 
-/// The status of the rows at the places from `from` on, before `to`: those of one column.
+/// Whether the rows at the places from `from` on, before `to`, strictly rise.
+fn rises<I: PrimInt>(a_i: &[I], from: usize, to: usize) -> bool
+    requires some { from < to }
+    requires within { to ≤ length a_i.now }
+    ensures rise { result ≡ true → Rise (map I.value a_i.now) from to }
+    ensures descend { result ≡ false → HaveDescent (map I.value a_i.now) from to }
+{
+    'rows: for k in from + 1..to {
+        if !is_below(value_at(a_i, k - 1), value_at(a_i, k)) {
+            return false;
+        }
+    }
+    true
+}
+
+/// Whether the rows at the places from `from` on, before `to`, all lie in `0..n_row`.
+fn are_rows<I: PrimInt>(n_row: I, a_i: &[I], from: usize, to: usize) -> bool
+    requires ordered { from ≤ to }
+    requires within { to ≤ length a_i.now }
+    ensures are { result ≡ true → AreRows (I.value n_row) (map I.value a_i.now) from to }
+    ensures are_not { result ≡ false → HaveNoRow (I.value n_row) (map I.value a_i.now) from to }
+{
+    'rows: for k in from..to {
+        let row = value_at(a_i, k);
+        if is_negative(row) || !is_below(row, n_row) {
+            return false;
+        }
+    }
+    true
+}
+
+/// The status of the rows at the places from `from` on, before `to`: those of one column. Rows that rise lie in range
+/// where the first and the last of them do.
 fn column_status<I: PrimInt>(n_row: I, a_i: &[I], from: usize, to: usize) -> Status
     requires ordered { from ≤ to }
     requires within { to ≤ length a_i.now }
     ensures { IsColumnClass (I.value n_row) (map I.value a_i.now) from to result }
 {
-    let mut status = Status::OK;
-    'rows: for k in from..to {
-        let row = value_at(a_i, k);
-        if is_negative(row) || !is_below(row, n_row) {
+    if from == to {
+        return Status::OK;
+    }
+    if rises(a_i, from, to) {
+        let last = value_at(a_i, to - 1);
+        if is_negative(value_at(a_i, from)) || !is_below(last, n_row) {
             return Status::Invalid;
         }
-        if k > from && !is_below(value_at(a_i, k - 1), row) {
-            status = Status::OkButJumbled;
-        }
+        return Status::OK;
     }
-    status
+    if are_rows(n_row, a_i, from, to) {
+        Status::OkButJumbled
+    } else {
+        Status::Invalid
+    }
 }
 
 /// The status of an input with `n_col` columns and rows in `0..n_row`: `Invalid` where it is no column form, else
