@@ -4,7 +4,7 @@
 // which `amd_trees` and `blocks` of `amd_engine` use, and `flip`, which tests alone call; and the shares of a front in
 // the figures, called by `figures`: the rule is that of the AMD user guide.
 
-ghost use Rattle.std.specs.Prelude.{◌≡◌, ◌<◌, ◌^◌, ◌↔◌, ◌<ℤ◌, ◌-ℤ◌, IsTrue, length, map, negsuc, pos, slice_index};
+ghost use Rattle.std.specs.Prelude.{◌≡◌, ◌<◌, ◌≤◌, ◌^◌, ◌↔◌, ◌<ℤ◌, ◌-ℤ◌, IsTrue, length, map, negsuc, pos, slice_index};
 ghost use Rattle.std.specs.Prelude.{slice_set};
 ghost use Rattle.std.specs.Prelude.{unsigned_abs};
 ghost use Rattle.std.specs.Int.{FitsUnsignedBits};
@@ -88,19 +88,33 @@ fn cut_to_count(figure: u128) -> usize
     figure.min(usize::MAX as u128) as usize
 }
 
-/// The shares of a front with `f` rows in its block and `r` rows outside: its entries below the diagonal, and its
-/// multiply-subtract steps in a factorization `LDL'` and in a factorization `LU`. They are the sums of `c`, of
-/// `c (c + 1) / 2` and of `c^2` over the columns, where `c` runs from `r` to `r + f - 1`. Any `f` and `r` are
-/// allowed, and each sum is exact up to the greatest count, which stands for all that pass it. Source: AMD user
-/// guide.
-pub fn front_counts(f: usize, r: usize) -> (usize, usize, usize)
+/// The greatest count of rows in the block of a small front, and of rows outside.
+const SMALL_FRONT: usize = 1 << 20;
+
+/// The shares of a front with few rows: as `front_counts`, but each is exact, since no term passes the greatest count.
+fn small_front_counts(f: usize, r: usize) -> (usize, usize, usize)
+    requires some { 0 < f }
+    requires few { f ≤ 2 ^ 20 }
+    requires few_outside { r ≤ 2 ^ 20 }
+    ensures lnz { result.0 ≡ front_sum entries f r }
+    ensures ldl { result.1 ≡ front_sum ldl_steps f r }
+    ensures lu { result.2 ≡ front_sum lu_steps f r }
+{
+    let last = f - 1;
+    let border = f * r;
+    let pairs = f * last / 2;
+    let lnz = border + pairs;
+    let lu = border * (r + last) + pairs * (2 * f - 1) / 3;
+    (lnz, (lu + lnz) / 2, lu)
+}
+
+/// The shares of any front that has rows: as `front_counts`, by sums and products of 128 bits.
+fn wide_front_counts(f: usize, r: usize) -> (usize, usize, usize)
+    requires { 0 < f }
     ensures lnz { result.0 ≡ cut (front_sum entries f r) }
     ensures ldl { result.1 ≡ cut (front_sum ldl_steps f r) }
     ensures lu { result.2 ≡ cut (front_sum lu_steps f r) }
 {
-    if f == 0 {
-        return (0, 0, 0);
-    }
     let rows = f as u128;
     let outside = r as u128;
     let last = rows - 1;
@@ -114,6 +128,25 @@ pub fn front_counts(f: usize, r: usize) -> (usize, usize, usize)
         .saturating_add(squares);
     let ldl = lu.saturating_add(lnz) / 2;
     (cut_to_count(lnz), cut_to_count(ldl), cut_to_count(lu))
+}
+
+/// The shares of a front with `f` rows in its block and `r` rows outside: its entries below the diagonal, and its
+/// multiply-subtract steps in a factorization `LDL'` and in a factorization `LU`. They are the sums of `c`, of
+/// `c (c + 1) / 2` and of `c^2` over the columns, where `c` runs from `r` to `r + f - 1`. Any `f` and `r` are
+/// allowed, and each sum is exact up to the greatest count, which stands for all that pass it. Source: AMD user
+/// guide.
+pub fn front_counts(f: usize, r: usize) -> (usize, usize, usize)
+    ensures lnz { result.0 ≡ cut (front_sum entries f r) }
+    ensures ldl { result.1 ≡ cut (front_sum ldl_steps f r) }
+    ensures lu { result.2 ≡ cut (front_sum lu_steps f r) }
+{
+    if f == 0 {
+        (0, 0, 0)
+    } else if f <= SMALL_FRONT && r <= SMALL_FRONT {
+        small_front_counts(f, r)
+    } else {
+        wide_front_counts(f, r)
+    }
 }
 
 /// No place: the end of a list of links, and what an element without a parent has as parent.

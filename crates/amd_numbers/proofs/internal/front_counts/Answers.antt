@@ -1,5 +1,6 @@
-use Rattle.amd_model.specs.Figures.{entries, ldl_steps, lu_steps}
-use Rattle.amd_numbers.proofs.FrontShares.{lnz_share, ldl_share, lu_share, none}
+use Rattle.std.proofs.Common.{arith}
+use Rattle.amd_model.specs.Figures.{cut, entries, ldl_steps, lu_steps}
+use Rattle.amd_numbers.proofs.FrontShares.{none}
 use Rattle.amd_numbers.proofs.internal.front_counts.Goals as goal
 
 pub returns-then-f-eq0 : goal.returns-then-f-eq0
@@ -9,17 +10,10 @@ returns-then-f-eq0 c = record {
   lu = none lu_steps c.args.f c.args.r c.if-f-eq0.true;
 }
 
-pub returns : goal.returns
-returns c = record {
-  lnz = rw (c.cut_to_count.ensures, c.saturating_add-lnz.ensures) (lnz_share c.args.f c.args.r c.if-f-eq0.false);
-  ldl = rw (
-    c.cut_to_count-2.ensures,
-    c.saturating_add-ldl.ensures,
-    c.saturating_add-lu.ensures,
-    c.saturating_mul.ensures,
-    c.saturating_mul-squares.ensures,
-    c.saturating_add-lnz.ensures,
-  ) (ldl_share c.args.f c.args.r c.if-f-eq0.false);
-  lu = rw (c.cut_to_count-3.ensures, c.saturating_add-lu.ensures, c.saturating_mul.ensures, c.saturating_mul-squares.ensures)
-      (lu_share c.args.f c.args.r c.if-f-eq0.false);
+pub returns-then-r-le-SMALL_FRONT : goal.returns-then-r-le-SMALL_FRONT
+unfolding cut
+returns-then-r-le-SMALL_FRONT c = record {
+  lnz = omega arith;
+  ldl = omega arith;
+  lu = omega arith;
 }

@@ -1,4 +1,4 @@
-use Rattle.std.proofs.Common.{◌≡◌, ◌++◌, ◌∷◌, [], ℕ, map, pos, get_or, take, length, arith, sym, ◌∙◌, ap}
+use Rattle.std.proofs.Common.{◌≡◌, ◌+◌, ◌<◌, ◌++◌, ◌∷◌, [], ℕ, ℤ, List, map, pos, get_or, take, length, arith, sym, ◌∙◌, ap}
 use Rattle.std.specs.Prelude.{◌<ℤ◌, ◌≤ℤ◌}
 use Rattle.std.proofs.Math.Seq.{take-length}
 use Rattle.std.proofs.lemmas.Int.{ints}
@@ -21,11 +21,18 @@ returns g c =
     omega (arith, most, least)) in
     c.rows.invariant ∙ ap (map pos) (ap (λ k. take k c.args.rows.now) all ∙ take-length c.args.rows.now)
 
+-- one more row, as a number of the caller's type
+push_row : {X : Type 0} (value : X → ℤ) (items : List X) {grown : List X} (rows : List ℕ) (k : ℕ) (x : X) → grown ≡ items ++ x ∷ [] →
+    map value items ≡ map pos (take k rows) → value x ≡ pos (get_or rows k 0) → k < length rows →
+    map value grown ≡ map pos (take (k + 1) rows)
+push_row value items rows k x grows read number within =
+    ap (map value) grows
+    ∙ map-append value items (x ∷ [])
+    ∙ ap (λ xs. xs ++ value x ∷ []) read
+    ∙ ap (λ z. map pos (take k rows) ++ z ∷ []) number
+    ∙ sym (map_more pos rows k 0 within)
+
 pub rows-preserved : goal.rows-preserved
 rows-preserved g c =
-    let value = g.I.Number.value in
-    ap (map value) c.in_ok-push.ensures.items
-    ∙ map-append value c.rows.numbers.items (c.in-Some.number ∷ [])
-    ∙ ap (λ xs. xs ++ value c.in-Some.number ∷ []) c.rows.invariant
-    ∙ ap (λ z. map pos (take c.rows.k c.args.rows.now) ++ z ∷ []) c.in-Some.ensures.1
-    ∙ sym (map_more pos c.args.rows.now c.rows.k 0 c.rows-test.true)
+    push_row g.I.Number.value c.rows.numbers.items c.args.rows.now c.rows.k c.in-Some.number c.in_ok-push.ensures.items c.rows.invariant
+    c.in-Some.ensures.1 c.rows-test.true

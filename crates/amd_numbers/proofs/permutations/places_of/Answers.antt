@@ -1,4 +1,4 @@
-use Rattle.std.proofs.Common.{◌≡◌, ◌<◌, ℕ, get_or, length, arith, ◌∙◌, below_more}
+use Rattle.std.proofs.Common.{◌≡◌, ◌<◌, ℕ, pos, get_or, length, arith, ◌∙◌, below_more}
 use Rattle.std.proofs.lemmas.List.{length-set}
 use Rattle.amd_model.proofs.Counting.Pigeonhole.{permutation_below, permutation_once}
 use Rattle.amd_numbers.proofs.NumberReads.{at_set_same, at_set_other}
@@ -22,5 +22,5 @@ rows-preserved g c =
       written = below_more _ _
           (λ j before. at_set_other value places row (get_or rows j 0) c.in-Some.place
           (permutation_once (length rows) rows listing j c.rows.k before c.rows-test.true) ∙ c.rows.invariant.written j before)
-          (at_set_same value places row c.in-Some.place (omega (arith, small, room)) ∙ c.in-Some.ensures.1);
+          (◌∙◌ {c = pos c.rows.k} (at_set_same value places row c.in-Some.place (omega (arith, small, room))) c.in-Some.ensures.1);
     }
