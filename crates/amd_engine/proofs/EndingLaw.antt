@@ -125,15 +125,6 @@ ends_same n m pe e_len e_len1 degree degree1 pe' e_len' nv' e_len2 nv2 ends size
     (subst (λ xs. EndsRows n pe xs degree1 pe' e_len2 nv2) a (subst (λ xs. EndsRows n pe e_len xs pe' e_len2 nv2) b
     (subst (λ xs. EndsRows n pe e_len degree pe' xs nv2) x (subst (λ xs. EndsRows n pe e_len degree pe' e_len' xs) y ends))))
 
-pub answers_same : (g : Graph) (lists : ℕ → List ℕ) (hold : Option (List Bool)) (n : ℕ) (t : ℤ) (aggressive : Bool)
-    (p q nv e_len p1 q1 nv1 e_len1 : List ℤ) (before after : Info) → AnswersInPlace g lists hold n t aggressive p q nv e_len before after →
-    p ≡ p1 → q ≡ q1 → nv ≡ nv1 → e_len ≡ e_len1 → AnswersInPlace g lists hold n t aggressive p1 q1 nv1 e_len1 before after
-answers_same g lists hold n t aggressive p q nv e_len p1 q1 nv1 e_len1 before after is a b x y =
-    subst (λ xs. AnswersInPlace g lists hold n t aggressive xs q1 nv1 e_len1 before after) a
-    (subst (λ xs. AnswersInPlace g lists hold n t aggressive p xs nv1 e_len1 before after) b
-    (subst (λ xs. AnswersInPlace g lists hold n t aggressive p q xs e_len1 before after) x
-    (subst (λ xs. AnswersInPlace g lists hold n t aggressive p q nv xs before after) y is)))
-
 pub laid_same : (n m : ℕ) (iw iw1 pe pe1 : List ℤ) (len len1 : List ℕ) (free : ℕ) → IsLaidOut n iw pe len free → n ≡ m → iw ≡ iw1 →
     pe ≡ pe1 → len ≡ len1 → IsLaidOut m iw1 pe1 len1 free
 laid_same n m iw iw1 pe pe1 len len1 free laid a b d e =

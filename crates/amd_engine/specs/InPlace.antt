@@ -1,16 +1,18 @@
 -- The run of the engine in place: the workspace before its first round, and what its rounds promise.
-use Rattle.std.specs.Prelude.{ℕ, ℤ, Bool, Option, List, ◌≡◌, ◌<◌, ◌≤◌, ◌+◌, length, max}
+use Rattle.std.specs.Prelude.{ℕ, ℤ, Bool, Option, List, ◌≡◌, ◌<◌, ◌+◌, length, max, pos, map, replicate}
 use Rattle.amd_model.specs.Graph.{Graph}
 use Rattle.amd_model.specs.State.{State}
 use Rattle.amd_model.specs.Run.{last_state}
 use Rattle.amd_model.specs.Figures.{front_sum, entries, ldl_steps, lu_steps, cut}
-use Rattle.amd_model.specs.Input.Dense.{IsThreshold}
 use Rattle.amd_model.specs.Input.Held.{is_held_last}
+use Rattle.amd_numbers.specs.Permutations.{AreInverse}
 use Rattle.amd_numbers.specs.declared.amd.Info.{Info}
 use Rattle.amd_numbers.specs.declared.figures.Figures.{Figures}
 use Rattle.amd_places.specs.Layout.{list_in}
 use Rattle.amd_inplace.specs.Workspaces.{Workspace}
 use Rattle.amd_inplace.specs.Keeps.{Stands, AreRounds, NoRowIsLive}
+use Rattle.amd_listing.specs.Ended.{HasEnded, ListsEnded}
+use Rattle.amd_workspace.specs.Ending.{EndsRows}
 use Rattle.amd_engine.specs.Engine.{AreNeighbours, IsAnswerOf, Reaches, TellsElements}
 
 -- the figures before the first round: the rows held last are a front
@@ -88,6 +90,30 @@ RunsInPlace hold threshold aggressive iw pe len n_dense figures new_pe e_len nv 
     (g : Graph) (lists : ℕ → List ℕ) →
     LaysGraph g lists iw pe len →
     EndsRounds g (is_held_last hold g threshold) aggressive lists n_dense figures new_pe e_len nv degree
+
+-- lists for an elimination of n rows, before it starts: of the lists by bound and the buckets no entry names a row
+pub record AreFresh (n : ℕ) (e_len nv : List ℤ) (degree w head next last hash : List ℕ) : Type 0 where
+  pub words : (length e_len ≡ n) × (length nv ≡ n)
+  pub figures : (length degree ≡ n) × (length w ≡ n)
+  pub heads : (head ≡ replicate n n) × (hash ≡ replicate n n)
+  pub links : (length next ≡ n) × (length last ≡ n)
+
+-- what rounds left of n rows can be listed: made into links and numbers of rows, it tells the end of a run
+pub record AreOver (n : ℕ) (pe e_len nv : List ℤ) (degree head next last hash : List ℕ) : Type 0 where
+  pub words : (length pe ≡ n) × (length e_len ≡ n) × (length nv ≡ n) × (length degree ≡ n)
+  pub links : (length head ≡ n) × (length next ≡ n) × (length last ≡ n) × (length hash ≡ n)
+  pub ends : (link f_size blocks : List ℤ) → EndsRows n pe e_len degree link f_size blocks → length link ≡ n →
+      length f_size ≡ n → length blocks ≡ n → HasEnded link blocks f_size
+
+-- rows that were so made into links and numbers of rows were listed: p lists them, and q is its inverse
+pub record AreListed (n : ℕ) (pe e_len : List ℤ) (degree : List ℕ) (f_size blocks p q : List ℤ) : Type 0 where
+  pub link : List ℤ
+  pub ends : EndsRows n pe e_len degree link f_size blocks
+  pub long : (length link ≡ n) × (length f_size ≡ n) × (length blocks ≡ n)
+  pub rows : List ℕ
+  pub listed : p ≡ map pos rows
+  pub lists : ListsEnded link blocks f_size rows
+  pub inverse : AreInverse n p q
 
 -- of whatever graph is laid the engine answers an ordering, and tells its elements
 pub record AnswersInPlace (g : Graph) (lists : ℕ → List ℕ) (hold : Option (List Bool)) (n : ℕ) (t : ℤ)

@@ -19,7 +19,7 @@ use std::alloc::Allocator;
 
 /// Whether words of these widths hold all numbers of an elimination of `n` rows in `iwlen` words from the flag `flag`
 /// on.
-fn holds<S: Signed, U: Unsigned>(n: usize, iwlen: usize, flag: usize) -> bool
+pub fn holds<S: Signed, U: Unsigned>(n: usize, iwlen: usize, flag: usize) -> bool
     requires { n < 2 ^ 63 }
     ensures { IsTrue result ↔ ((n + 2 ≤ S.MOST) × (n + 2 ≤ U.MOST) × (iwlen ≤ S.MOST) × (iwlen ≤ U.MOST) ×
         (flag ≤ U.MOST)) }

@@ -9,13 +9,12 @@ ghost use Rattle.amd_model.specs.Input.Held.{HasMarks};
 ghost use Rattle.amd_workspace.specs.Laying.{IsLaidOut};
 ghost use Rattle.amd_engine.specs.InPlace.{AnswersInPlace, LaysGraph};
 
-use crate::fresh::{Counts, Links, fresh_counts, fresh_links, numbers};
-use crate::running::{Told, run};
+use crate::ended::list_rows;
+use crate::fresh::{Lists, fresh_lists};
+use crate::running::{Told, run_fresh};
 use amd_cells::{Figure, Signed, Unsigned, Word};
-use amd_listing::listing::listing;
 use amd_numbers::amd::{Control, Info, Status};
 use amd_numbers::dense::dense_threshold;
-use amd_workspace::ending::end_rows;
 use num_traits::PrimInt;
 use std::alloc::Allocator;
 
@@ -69,24 +68,19 @@ pub fn amd_2_from<I: PrimInt, S: Signed, U: Unsigned, A: Allocator + Copy>(
     ensures compactions { OnOk result (info.new.n_cmp_a ≤ length len.old) }
     ensures refused { IfErr result (λ e. e ≡ Status.OutOfMemory) }
 {
-    let count = len.len();
-    let threshold = dense_threshold(count, control);
-    let mut counts: Counts<S, U, A> = fresh_counts(alloc, count)?;
-    let mut links: Links<U, A> = fresh_links(alloc, count)?;
-    let mut p = numbers(alloc, count)?;
-    let mut p_inv = numbers(alloc, count)?;
-    let told = run(
+    let threshold = dense_threshold(len.len(), control);
+    let Lists {
+        mut counts,
+        mut links,
+        mut p,
+        mut p_inv,
+    } = fresh_lists(alloc, len.len())?;
+    let told = run_fresh(
         iw,
         pe,
-        &mut counts.e_len,
-        &mut counts.nv,
         len,
-        &mut counts.degree,
-        &mut counts.w,
-        &mut links.head,
-        &mut links.next,
-        &mut links.last,
-        &mut links.hash,
+        &mut counts,
+        &mut links,
         pfree,
         flag,
         control,
@@ -94,18 +88,7 @@ pub fn amd_2_from<I: PrimInt, S: Signed, U: Unsigned, A: Allocator + Copy>(
         threshold,
     );
     tell(&told, info);
-    end_rows(pe, &mut counts.e_len, &mut counts.nv, &counts.degree);
-    listing(
-        pe,
-        &counts.nv,
-        &counts.e_len,
-        &mut links.head,
-        &mut links.next,
-        &mut links.last,
-        &mut links.hash,
-        &mut p,
-        &mut p_inv,
-    );
+    list_rows(pe, &mut counts, &mut links, &mut p, &mut p_inv);
     Ok((counts.nv, p_inv, p, counts.e_len))
 }
 

@@ -2,6 +2,7 @@
 // lists is asked for here, before the first round. Called by `amd_2`.
 
 ghost use Rattle.std.specs.Prelude.{◌≡◌, ◌≤◌, ℕ, pos, replicate, length, IfOk};
+ghost use Rattle.amd_engine.specs.InPlace.{AreFresh};
 
 use amd_cells::{Figure, Signed, Unsigned, Word};
 use amd_workspace::filling::{figures, words};
@@ -87,5 +88,40 @@ pub fn fresh_links<U: Unsigned, A: Allocator + Copy>(
         next: figures(alloc, n, 0)?,
         last: figures(alloc, n, 0)?,
         hash: figures(alloc, n, n)?,
+    })
+}
+
+/// All lists of an elimination beside its workspace.
+#[derive(Drop)]
+pub struct Lists<I: PrimInt, S: Signed, U: Unsigned, A: Allocator> {
+    /// The numbers of each row.
+    pub counts: Counts<S, U, A>,
+    /// The lists by bound, and the buckets.
+    pub links: Links<U, A>,
+    /// Room for the permutation.
+    pub p: Vec<I, A>,
+    /// Room for its inverse.
+    pub p_inv: Vec<I, A>,
+}
+
+/// The lists of an elimination of `n` rows.
+///
+/// # Errors
+///
+/// A refused request for memory.
+pub fn fresh_lists<I: PrimInt, S: Signed, U: Unsigned, A: Allocator + Copy>(
+    alloc: A,
+    n: usize,
+) -> Result<Lists<I, S, U, A>, AllocError>
+    requires narrow { n ≤ U.MOST }
+    ensures fresh { IfOk result (λ l. AreFresh n l.counts.e_len.items l.counts.nv.items l.counts.degree.items
+        l.counts.w.items l.links.head.items l.links.next.items l.links.last.items l.links.hash.items) }
+    ensures rows { IfOk result (λ l. (length l.p.items ≡ n) × (length l.p_inv.items ≡ n)) }
+{
+    Ok(Lists {
+        counts: fresh_counts(alloc, n)?,
+        links: fresh_links(alloc, n)?,
+        p: numbers(alloc, n)?,
+        p_inv: numbers(alloc, n)?,
     })
 }

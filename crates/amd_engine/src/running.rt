@@ -10,14 +10,16 @@ ghost use Rattle.amd_model.specs.Quotient.{QuotientGraph};
 ghost use Rattle.amd_places.specs.Words.{num};
 ghost use Rattle.amd_inplace.specs.Keeps.{Stands};
 ghost use Rattle.amd_workspace.specs.Laying.{IsLaidOut};
-ghost use Rattle.amd_engine.specs.InPlace.{EndsIn, LaysGraph, RunsInPlace, at_start, first_sums};
+ghost use Rattle.amd_engine.specs.InPlace.{AreFresh, AreOver, EndsIn, LaysGraph, RunsInPlace, at_start, first_sums};
 
+use crate::fresh::{Counts, Links};
 use amd_cells::{Figure, Signed, Unsigned, Word};
 use amd_inplace::round::eliminate;
 use amd_inplace::work::Work;
 use amd_numbers::amd::Control;
 use amd_numbers::figures::Figures;
 use amd_workspace::starting::begin;
+use std::alloc::Allocator;
 
 /// What a run tells at its end.
 #[derive(Drop)]
@@ -154,5 +156,53 @@ pub fn run<S: Signed, U: Unsigned>(
     run_rounds(
         iw, pe, e_len, nv, len, degree, w, head, next, last, hash, free, live, flag, n_dense,
         control,
+    )
+}
+
+/// As `run`, over fresh lists.
+pub fn run_fresh<S: Signed, U: Unsigned, A: Allocator>(
+    iw: &mut [Word<S>],
+    pe: &mut [Word<S>],
+    len: &mut [Figure<U>],
+    counts: &mut Counts<S, U, A>,
+    links: &mut Links<U, A>,
+    free: usize,
+    flag: usize,
+    control: &Control,
+    hold: Option<&[bool]>,
+    threshold: usize,
+) -> Told
+    requires fresh { AreFresh (length len.old) counts.old.e_len.items counts.old.nv.items counts.old.degree.items
+        counts.old.w.items links.old.head.items links.old.next.items links.old.last.items links.old.hash.items }
+    requires narrow { (length iw.old ≤ S.MOST) × (length iw.old ≤ U.MOST) × (length len.old + 2 ≤ S.MOST) ×
+        (length len.old + 2 ≤ U.MOST) }
+    requires marks { HasMarks (option_copied hold) (length len.old) }
+    requires laid { IsLaidOut (length len.old) iw.old pe.old len.old free }
+    requires room { free + length len.old ≤ length iw.old }
+    requires flag { 2 ≤ flag }
+    requires graph { (g : Graph) × (lists : ℕ → List ℕ) × LaysGraph g lists iw.old pe.old len.old }
+    ensures runs { RunsInPlace (option_copied hold.entry) threshold control.now.aggressive iw.old pe.old len.old
+        result.n_dense result.figures pe.new counts.new.e_len.items counts.new.nv.items counts.new.degree.items }
+    ensures packs { result.n_cmp_a ≤ length len.old }
+    ensures over { AreOver (length len.old) pe.new counts.new.e_len.items counts.new.nv.items
+        counts.new.degree.items links.new.head.items links.new.next.items links.new.last.items links.new.hash.items }
+{
+    run(
+        iw,
+        pe,
+        &mut counts.e_len,
+        &mut counts.nv,
+        len,
+        &mut counts.degree,
+        &mut counts.w,
+        &mut links.head,
+        &mut links.next,
+        &mut links.last,
+        &mut links.hash,
+        free,
+        flag,
+        control,
+        hold,
+        threshold,
     )
 }

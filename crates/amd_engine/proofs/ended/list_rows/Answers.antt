@@ -1,0 +1,115 @@
+use Rattle.std.proofs.Common.{arith, ℕ, map, length, ap, sym, subst, drop, ◌≡◌, ◌∙◌, ◌<◌}
+use Rattle.std.proofs.lemmas.List.{take_at}
+use Rattle.amd_numbers.specs.Permutations.{AreInverse}
+use Rattle.amd_engine.proofs.EndingLaw.{ends_same}
+use Rattle.amd_engine.proofs.ended.list_rows.Goals as goal
+
+pub end_rows-requires-clause-lengths : goal.end_rows-requires-clause-lengths
+end_rows-requires-clause-lengths g c =
+    let n : ℕ = length c.args.pe.now in
+    let words = c.requires.over.words in
+    let d : length c.deref.result.now ≡ n = ap length c.deref.ensures.value ∙ words.3 in
+    (words.0 ∙ sym d, ap length c.deref_mut.ensures.value ∙ words.1 ∙ sym d, ap length c.deref_mut-2.ensures.value ∙ words.2 ∙ sym d)
+
+pub end_rows-requires-clause-narrow : goal.end_rows-requires-clause-narrow
+end_rows-requires-clause-narrow g c = let n = c.requires.narrow in let m = n.0 in omega (arith, m)
+
+pub listing-requires-clause-ended : goal.listing-requires-clause-ended
+listing-requires-clause-ended g c =
+    let n : ℕ = length c.args.pe.now in
+    let words = c.requires.over.words in
+    let d : length c.deref.result.now ≡ n = ap length c.deref.ensures.value ∙ words.3 in
+    let ended = c.end_rows.ensures.lengths in
+    let counts = c.args.counts.now in
+    let v2 : c.deref-2.result.now ≡ c.end_rows.new.nv = c.deref-2.ensures.value
+    ∙ take_at c.end_rows.new.nv (drop (length c.end_rows.new.nv) counts.nv.items) counts.nv.len (ended.2 ∙ d ∙ sym (counts.nv.ok.0 ∙ words.2)) in
+    let rows : length c.deref-2.result.now ≡ n = ap length v2 ∙ ended.2 ∙ d in
+    let e2 : c.deref-3.result.now ≡ c.end_rows.new.e_len = c.deref-3.ensures.value
+    ∙ take_at c.end_rows.new.e_len (drop (length c.end_rows.new.e_len) counts.e_len.items) counts.e_len.len (ended.1 ∙ d ∙ sym (counts.e_len.ok.0 ∙ words.1)) in
+    let ends = ends_same (length c.deref.result.now) n c.args.pe.now c.deref_mut.result.now counts.e_len.items
+    c.deref.result.now counts.degree.items c.end_rows.new.pe c.end_rows.new.e_len c.end_rows.new.nv
+    c.deref-3.result.now c.deref-2.result.now c.end_rows.ensures.ends d c.deref_mut.ensures.value c.deref.ensures.value
+    (sym e2) (sym v2) in
+    c.requires.over.ends c.end_rows.new.pe c.deref-3.result.now c.deref-2.result.now ends (ended.0 ∙ d) (ap length e2 ∙ ended.1 ∙ d) rows
+
+pub listing-requires-clause-lengths : goal.listing-requires-clause-lengths
+listing-requires-clause-lengths g c =
+    let n : ℕ = length c.args.pe.now in
+    let words = c.requires.over.words in
+    let d : length c.deref.result.now ≡ n = ap length c.deref.ensures.value ∙ words.3 in
+    let ended = c.end_rows.ensures.lengths in
+    let counts = c.args.counts.now in
+    let v2 : c.deref-2.result.now ≡ c.end_rows.new.nv = c.deref-2.ensures.value
+    ∙ take_at c.end_rows.new.nv (drop (length c.end_rows.new.nv) counts.nv.items) counts.nv.len (ended.2 ∙ d ∙ sym (counts.nv.ok.0 ∙ words.2)) in
+    let rows : length c.deref-2.result.now ≡ n = ap length v2 ∙ ended.2 ∙ d in
+    let more = c.requires.over.links in (
+      ap length c.deref_mut-3.ensures.value ∙ more.0 ∙ sym rows,
+      ap length c.deref_mut-4.ensures.value ∙ more.1 ∙ sym rows,
+      ap length c.deref_mut-5.ensures.value ∙ more.2 ∙ sym rows,
+      ap length c.deref_mut-6.ensures.value ∙ more.3 ∙ sym rows,
+    )
+
+pub listing-requires-clause-more_lengths : goal.listing-requires-clause-more_lengths
+listing-requires-clause-more_lengths g c =
+    let n : ℕ = length c.args.pe.now in
+    let words = c.requires.over.words in
+    let d : length c.deref.result.now ≡ n = ap length c.deref.ensures.value ∙ words.3 in
+    let ended = c.end_rows.ensures.lengths in
+    let counts = c.args.counts.now in
+    let v2 : c.deref-2.result.now ≡ c.end_rows.new.nv = c.deref-2.ensures.value
+    ∙ take_at c.end_rows.new.nv (drop (length c.end_rows.new.nv) counts.nv.items) counts.nv.len (ended.2 ∙ d ∙ sym (counts.nv.ok.0 ∙ words.2)) in
+    let rows : length c.deref-2.result.now ≡ n = ap length v2 ∙ ended.2 ∙ d in
+    (c.requires.rows.0 ∙ sym rows, c.requires.rows.1 ∙ sym rows)
+
+pub listing-requires-clause-narrow : goal.listing-requires-clause-narrow
+listing-requires-clause-narrow g c =
+    let n : ℕ = length c.args.pe.now in
+    let words = c.requires.over.words in
+    let d : length c.deref.result.now ≡ n = ap length c.deref.ensures.value ∙ words.3 in
+    let ended = c.end_rows.ensures.lengths in
+    let counts = c.args.counts.now in
+    let v2 : c.deref-2.result.now ≡ c.end_rows.new.nv = c.deref-2.ensures.value
+    ∙ take_at c.end_rows.new.nv (drop (length c.end_rows.new.nv) counts.nv.items) counts.nv.len (ended.2 ∙ d ∙ sym (counts.nv.ok.0 ∙ words.2)) in
+    let rows : length c.deref-2.result.now ≡ n = ap length v2 ∙ ended.2 ∙ d in
+    let m = c.requires.narrow in let s = m.0 in let u = m.1 in (omega (arith, rows, s), omega (arith, rows, u))
+
+pub listing-requires-clause-fits : goal.listing-requires-clause-fits
+listing-requires-clause-fits g c = λ k l.
+    let n : ℕ = length c.args.pe.now in
+    let words = c.requires.over.words in
+    let d : length c.deref.result.now ≡ n = ap length c.deref.ensures.value ∙ words.3 in
+    let ended = c.end_rows.ensures.lengths in
+    let counts = c.args.counts.now in
+    let v2 : c.deref-2.result.now ≡ c.end_rows.new.nv = c.deref-2.ensures.value
+    ∙ take_at c.end_rows.new.nv (drop (length c.end_rows.new.nv) counts.nv.items) counts.nv.len (ended.2 ∙ d ∙ sym (counts.nv.ok.0 ∙ words.2)) in
+    let rows : length c.deref-2.result.now ≡ n = ap length v2 ∙ ended.2 ∙ d in
+    let small : k < n = omega (arith, l, rows) in
+    c.requires.fits k small
+
+pub returns : goal.returns
+returns g c =
+    let n : ℕ = length c.args.pe.now in
+    let words = c.requires.over.words in
+    let d : length c.deref.result.now ≡ n = ap length c.deref.ensures.value ∙ words.3 in
+    let ended = c.end_rows.ensures.lengths in
+    let counts = c.args.counts.now in
+    let v2 : c.deref-2.result.now ≡ c.end_rows.new.nv = c.deref-2.ensures.value
+    ∙ take_at c.end_rows.new.nv (drop (length c.end_rows.new.nv) counts.nv.items) counts.nv.len (ended.2 ∙ d ∙ sym (counts.nv.ok.0 ∙ words.2)) in
+    let rows : length c.deref-2.result.now ≡ n = ap length v2 ∙ ended.2 ∙ d in
+    let e2 : c.deref-3.result.now ≡ c.end_rows.new.e_len = c.deref-3.ensures.value
+    ∙ take_at c.end_rows.new.e_len (drop (length c.end_rows.new.e_len) counts.e_len.items) counts.e_len.len (ended.1 ∙ d ∙ sym (counts.e_len.ok.0 ∙ words.1)) in
+    let ends = ends_same (length c.deref.result.now) n c.args.pe.now c.deref_mut.result.now counts.e_len.items
+    c.deref.result.now counts.degree.items c.end_rows.new.pe c.end_rows.new.e_len c.end_rows.new.nv
+    c.deref-3.result.now c.deref-2.result.now c.end_rows.ensures.ends d c.deref_mut.ensures.value c.deref.ensures.value
+    (sym e2) (sym v2) in
+    let listed = c.listing.ensures.lists in
+    let value = g.I.Number.value in
+    rw (sym c.deref-3.ensures.value, sym c.deref-2.ensures.value) (record {
+      link = c.end_rows.new.pe;
+      ends = ends;
+      long = (ended.0 ∙ d, ap length e2 ∙ ended.1 ∙ d, rows);
+      rows = listed.0;
+      listed = listed.1;
+      lists = listed.2;
+      inverse = subst (λ k. AreInverse k (map value c.listing.new.p) (map value c.listing.new.p_inv)) rows c.listing.ensures.inverse;
+    })
