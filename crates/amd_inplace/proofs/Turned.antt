@@ -1,5 +1,5 @@
 -- After the classes of a front are turned over: the front, the classes that are left of it, and what these keep.
-use Rattle.std.proofs.Common.{ℕ, ℤ, pos, negsuc, Bool, true, false, ◌∷◌, ◌++◌, ◌≡◌, ◌≤◌, ◌+◌, ◌-◌, ◌&&◌, inl, inr, refl, sym}
+use Rattle.std.proofs.Common.{ℕ, pos, negsuc, Bool, true, false, ◌∷◌, ◌++◌, ◌≡◌, ◌≤◌, ◌+◌, ◌-◌, ◌&&◌, inl, inr, refl, sym}
 use Rattle.std.proofs.Common.{ap, ◌∙◌, cond, arith, not, filter, sum_by}
 use Rattle.std.specs.Prelude.{nat_lt}
 use Rattle.std.proofs.lemmas.Bool.{cases_Bool, cond-true, cond-false, and_right, lt-ltb, le-ltb, not_from_true}

@@ -2,5 +2,6 @@
 //! A round joins the parts of `amd_places`; the contracts say which elimination the workspace stands for.
 #![tactic(auto)]
 
+pub mod pivot;
 pub mod round;
 pub mod work;

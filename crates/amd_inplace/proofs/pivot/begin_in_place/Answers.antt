@@ -5,7 +5,7 @@ use Rattle.amd_places.specs.Words.{num, word, place, start, size_of, rows}
 use Rattle.amd_places.specs.Element.{front_of}
 use Rattle.amd_places.specs.Layout.{elements_in}
 use Rattle.amd_places.specs.Beginning.{Begins}
-use Rattle.amd_inplace.proofs.round.begin_in_place.Goals as goal
+use Rattle.amd_inplace.proofs.pivot.begin_in_place.Goals as goal
 
 pub begin_own_lent-begun-requires-clause-few : goal.begin_own_lent-begun-requires-clause-few
 unfolding place rows has
