@@ -1,6 +1,6 @@
-//! Times `order` on a matrix file: `amd_bench FILE i32|i64|isize REPEATS`. The format of the file is that of
-//! `amd_cases`. With a fourth word, `columns` or `analyze`, it times that call of `amd_symbolic`, `columns` under the
-//! order that `order` gives.
+//! Times `order` on a matrix file: `amd_bench FILE i32|i64|isize REPEATS`. A file whose name ends in `.mtx` is a text of
+//! the Matrix Market, and any other one has the binary format of `amd_cases`. With a fourth word, `columns` or
+//! `analyze`, it times that call of `amd_symbolic`, `columns` under the order that `order` gives.
 //!
 //! It prints one line: the type of numbers, the name of the file, the figures of the ordering and a hash of the
 //! permutation, or the number of the factor's entries and a hash of them, and the least and the median time of a call
@@ -10,18 +10,19 @@
 #![tactic(auto)]
 
 mod factors;
+mod reading;
 
 use crate::factors::{Factored, analyze_often, columns_often};
+use crate::reading::read_file;
 use amd::{Control, Info, Status, order};
-use amd_cases::matrix::{Matrix, read_matrix};
+use amd_cases::matrix::Matrix;
 use anyhow::{Context, Result, bail};
 use num_traits::PrimInt;
 use std::alloc::Global;
-use std::io::BufReader;
+use std::env;
 use std::process::ExitCode;
 use std::rt::Runtime;
 use std::time::{Duration, Instant};
-use std::{env, fs};
 
 /// What the calls answered, which is the same each time, and how long each took.
 #[derive(Drop)]
@@ -151,9 +152,7 @@ fn time_file<R: Runtime + Alloc<A = Global>, I: PrimInt>(
     request: &Request<'_>,
 ) -> Result<()> {
     let (path, kind, repeats) = (request.path, request.kind, request.repeats);
-    let mut file = BufReader::new(rt.alloc(), fs::open(rt, path)?)?;
-    let matrix: Matrix<I, Global> = read_matrix(rt.alloc(), &mut file)?;
-    drop(file);
+    let matrix: Matrix<I, Global> = read_file(rt, path)?;
     let name = path.rsplit('/').next().unwrap_or(path);
     match request.call {
         "columns" => {

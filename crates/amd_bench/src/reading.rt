@@ -1,0 +1,55 @@
+// Reads the matrix of a file: a text in the coordinate format of the Matrix Market where the name ends in `.mtx`, and
+// else the binary form of `amd_cases`. Called by `main`.
+
+ghost use Rattle.std.specs.Prelude.{IfOk};
+
+use amd_cases::matrix::{Matrix, read_matrix};
+use amd_market::reader::{Matrix as Listed, read_matrix as read_listed};
+use anyhow::{Context, Result};
+use num_traits::PrimInt;
+use std::alloc::Global;
+use std::fs;
+use std::io::BufReader;
+use std::rt::Runtime;
+
+/// Numbers in the type that was asked for.
+fn converted<R: Runtime + Alloc<A = Global>, I: PrimInt>(
+    rt: &R,
+    numbers: &[usize],
+) -> Result<Vec<I>> {
+    let mut list = Vec::with_capacity(rt.alloc(), numbers.len())?;
+    'numbers: for &number in numbers {
+        let number = num_traits::cast::<usize, I>(number);
+        list.push(number.context("a number does not fit")?)?;
+    }
+    Ok(list)
+}
+
+/// A matrix of the Matrix Market in the type of numbers that was asked for.
+fn narrowed<R: Runtime + Alloc<A = Global>, I: PrimInt>(
+    rt: &R,
+    matrix: &Listed<Global>,
+) -> Result<Matrix<I, Global>>
+    ensures { IfOk result (λ m. I.fits (I.value m.n)) }
+{
+    let n = num_traits::cast::<usize, I>(matrix.n);
+    Ok(Matrix {
+        n: n.context("a number does not fit")?,
+        a_p: converted(rt, &matrix.a_p)?,
+        a_i: converted(rt, &matrix.a_i)?,
+    })
+}
+
+/// Reads the matrix of the file at a path.
+pub fn read_file<R: Runtime + Alloc<A = Global>, I: PrimInt>(
+    rt: &R,
+    path: &str,
+) -> Result<Matrix<I, Global>>
+    ensures { IfOk result (λ m. I.fits (I.value m.n)) }
+{
+    let mut file = BufReader::new(rt.alloc(), fs::open(rt, path)?)?;
+    if path.ends_with(".mtx") {
+        return narrowed(rt, &read_listed(rt.alloc(), file)?);
+    }
+    Ok(read_matrix(rt.alloc(), &mut file)?)
+}
