@@ -1,6 +1,5 @@
 -- The end of the engine in place: the lists that are left tell the last state of a run, and their listing is an answer.
-use Rattle.std.proofs.Common.{ℕ, ℤ, pos, negsuc, Bool, List, Option, ◌≡◌, ◌≤◌, ◌<◌, ◌∙◌, ap, sym, refl, subst, inl, inr, arith, length, map}
-use Rattle.std.proofs.Common.{cond}
+use Rattle.std.proofs.Common.{ℕ, ℤ, pos, negsuc, Bool, List, Option, ◌≡◌, ◌≤◌, ◌<◌, ◌∙◌, ap, sym, subst, inl, inr, arith, length, map}
 use Rattle.std.specs.Prelude.{replicate}
 use Rattle.std.proofs.lemmas.Bool.{cases_Bool, cond-true, cond-false}
 use Rattle.std.proofs.lemmas.List.{get_or-replicate}
@@ -21,8 +20,7 @@ use Rattle.amd_numbers.specs.declared.amd.Info.{Info}
 use Rattle.amd_numbers.specs.declared.figures.Figures.{Figures}
 use Rattle.amd_edges.specs.Visits.{AreCounts}
 use Rattle.amd_places.specs.Layout.{list_in}
-use Rattle.amd_places.specs.Words.{num, word}
-use Rattle.amd_inplace.specs.Keeps.{Stands}
+use Rattle.amd_places.specs.Words.{num}
 use Rattle.amd_listing.specs.Ended.{IsEnded, HasEnded, ListsEnded}
 use Rattle.amd_workspace.specs.Ending.{EndsRows}
 use Rattle.amd_workspace.specs.Laying.{IsLaidOut}

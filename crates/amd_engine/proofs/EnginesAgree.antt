@@ -4,7 +4,7 @@ use Rattle.std.specs.Prelude.{◌*◌, min}
 use Rattle.std.proofs.lemmas.List.{ext_get_or}
 use Rattle.amd_model.specs.Graph.{Graph}
 use Rattle.amd_model.specs.Run.{last_state}
-use Rattle.amd_model.specs.Figures.{cut, entries, ldl_steps, lu_steps}
+use Rattle.amd_model.specs.Figures.{entries, ldl_steps, lu_steps}
 use Rattle.amd_model.specs.Ordering.{IsListingOf, SameTree}
 use Rattle.amd_model.specs.State.{State}
 use Rattle.amd_model.specs.Input.Columns.{at}

@@ -1,8 +1,8 @@
 -- The engine in place runs the rules: it starts where an elimination starts, and its rounds come to an end.
-use Rattle.std.proofs.Common.{ℕ, ℤ, pos, Bool, List, Option, ◌≡◌, ◌≤◌, ◌<◌, ◌+◌, ◌||◌, ◌∙◌, ap, sym, refl, subst, arith, length, reverse}
+use Rattle.std.proofs.Common.{ℕ, ℤ, pos, Bool, List, Option, ◌≡◌, ◌≤◌, ◌<◌, ◌+◌, ◌||◌, ◌∙◌, ap, sym, arith, length, reverse}
 use Rattle.std.specs.Prelude.{nat_lt, replicate}
 use Rattle.amd_model.specs.Below.{count_below}
-use Rattle.amd_model.specs.Graph.{Graph, degree}
+use Rattle.amd_model.specs.Graph.{Graph}
 use Rattle.amd_model.specs.State.{State}
 use Rattle.amd_model.specs.Quotient.{QuotientGraph, start_quotient}
 use Rattle.amd_model.specs.Run.{last_state}
@@ -11,7 +11,7 @@ use Rattle.amd_model.specs.Input.Held.{is_marked, is_held_last}
 use Rattle.amd_model.specs.Ordering.{Follows}
 use Rattle.amd_model.proofs.States.RunsExist.{first_state, starts}
 use Rattle.amd_numbers.specs.declared.figures.Figures.{Figures}
-use Rattle.amd_places.specs.Words.{num, is_place, word}
+use Rattle.amd_places.specs.Words.{num}
 use Rattle.amd_places.specs.Chains.{DegreeLists}
 use Rattle.amd_inplace.specs.Workspaces.{Workspace}
 use Rattle.amd_inplace.specs.Laid.{IsSized, IsLaid}
@@ -20,8 +20,7 @@ use Rattle.amd_workspace.specs.Laying.{IsLaidOut}
 use Rattle.amd_workspace.specs.Starting.{Rows, BeginsRows, held_in, is_class, classes_of}
 use Rattle.amd_workspace.proofs.Begun.{rows_of, begun_view, begun_laid}
 use Rattle.amd_workspace.proofs.AtStart.{stands_at_start}
-use Rattle.amd_engine.specs.Engine.{Reaches}
-use Rattle.amd_engine.specs.InPlace.{EndsIn, EndsRounds, LaysGraph, RunsInPlace, first_sums}
+use Rattle.amd_engine.specs.InPlace.{EndsIn, EndsRounds, LaysGraph, first_sums}
 use Rattle.amd_engine.proofs.EngineLaw.{degree_small}
 
 -- what the lists of a workspace say before its first round, beside its rows

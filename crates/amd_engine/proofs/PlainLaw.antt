@@ -1,8 +1,7 @@
 -- The parts of the plain engine make its answer: what the calls ask, and that what they give is the listing of a run of the rules.
-use Rattle.std.proofs.Common.{ℕ, ℤ, pos, Bool, true, List, [], Vec, All, ◌≡◌, ◌≤◌, ◌<◌, ◌∙◌, ◌&&◌, not, ap, sym, refl, subst, inl, inr}
+use Rattle.std.proofs.Common.{ℕ, ℤ, pos, Bool, true, List, [], Vec, All, ◌≡◌, ◌<◌, ◌∙◌, ap, sym, refl, subst}
 use Rattle.std.proofs.Common.{arith, length, map, get_or}
-use Rattle.std.specs.Prelude.{◌==◌, ◌||◌, ◌*◌, ◌-◌, ◌/◌, nat_lt, Option}
-use Rattle.std.proofs.lemmas.Bool.{cases_eq, ne_eqb}
+use Rattle.std.specs.Prelude.{◌||◌, nat_lt, Option}
 use Rattle.std.proofs.lemmas.List.{get_or-map}
 use Rattle.std.proofs.lemmas.List.Elements.{All-from_get_or}
 use Rattle.amd_model.specs.Graph.{Graph, IsGraph, degree}
@@ -11,15 +10,11 @@ use Rattle.amd_model.specs.Run.{Run, last_state}
 use Rattle.amd_model.specs.Listing.{IsPostorder, ListsEachRow}
 use Rattle.amd_model.specs.Quotient.{QuotientGraph, starting_list, start_quotient}
 use Rattle.amd_model.specs.QuotientLaws.{NamesNeighbours}
-use Rattle.amd_model.specs.Figures.{cut}
 use Rattle.amd_model.specs.Input.Dense.{IsThreshold, is_dense}
 use Rattle.amd_model.specs.Input.Held.{is_marked, is_held_last}
 use Rattle.amd_model.specs.Input.Pattern.{graph_of, is_pair}
-use Rattle.amd_model.specs.Ordering.{IsListingOf, Promises}
-use Rattle.amd_model.proofs.Counting.Below.{count_most, count_mono, clash}
-use Rattle.amd_model.proofs.Counting.Unions.{count_without}
+use Rattle.amd_model.specs.Ordering.{Promises}
 use Rattle.amd_model.proofs.Patterns.DegreeSums.{pattern_graph}
-use Rattle.amd_model.proofs.Listings.Orderings.{follows_steps, orderings_promise}
 use Rattle.amd_model.proofs.States.RunsExist.{first_state, starts}
 use Rattle.amd_model.proofs.Patterns.StartingLists.{starting_lists}
 use Rattle.amd_model.proofs.States.Words.{edge_small}

@@ -1,6 +1,6 @@
 // The beginning of a round: the pivot is chosen, and becomes an element, in the place of its own list or behind all
-// lists. Source: Amestoy, Davis and Duff 1996 (element formation). Called by `round`. A part that only reads some slices
-// is called through a function that is lent all of them for writing.
+// lists. Source: Amestoy, Davis and Duff 1996 (element formation). Called by `round`. A part that only reads some
+// slices is called through a function that is lent all of them for writing.
 
 ghost use Rattle.std.specs.Prelude.{◌≡◌, ◌<◌, ◌≤◌, ◌+◌, ◌^◌, pos, ℕ, [], true, false, length, sum_by};
 ghost use Rattle.amd_places.specs.Words.{word, place, is_place, size_of, in_front};

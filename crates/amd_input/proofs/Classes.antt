@@ -1,5 +1,6 @@
 -- Classes of columns, one more row or column at a time.
-use Rattle.std.proofs.Common.{◌≡◌, ◌+◌, ◌-◌, ◌^◌, ◌<◌, ◌≤◌, ◌≤ℤ◌, ◌<ℤ◌, ◌⊎◌, inl, inr, refl, ℕ, ℤ, zero, suc, pos, List, length, arith, sym, subst, below_more}
+use Rattle.std.proofs.Common.{◌≡◌, ◌+◌, ◌-◌, ◌^◌, ◌<◌, ◌≤◌, ◌≤ℤ◌, ◌<ℤ◌, ◌⊎◌, inl, inr, refl, ℕ, ℤ, zero, suc, pos, List, length}
+use Rattle.std.proofs.Common.{arith, sym, subst, below_more}
 use native.Mathlib.Decide.{dec_lt}
 use Prim.{yes, no}
 use Rattle.std.specs.Int.{FitsUnsignedBits}

@@ -1,4 +1,4 @@
-use Rattle.std.proofs.Common.{arith, refl, length, ◌+◌, ◌≤◌}
+use Rattle.std.proofs.Common.{arith, refl}
 use Rattle.amd_engine.proofs.amd_1.amd_1_from.Goals as goal
 
 pub holds-requires : goal.holds-requires

@@ -1,4 +1,4 @@
-use Rattle.std.proofs.Common.{rules, arith, ℕ, ℤ, List, pos, map, length, ap, sym, subst, ◌≡◌, ◌≤◌, ◌<◌, ◌∙◌, ◌+◌}
+use Rattle.std.proofs.Common.{rules, arith, ℕ, ℤ, List, pos, map, length, ap, sym, subst, ◌≡◌, ◌∙◌}
 use Rattle.std.specs.Option.{option_copied}
 use Rattle.amd_model.specs.Quotient.{starting_list}
 use Rattle.amd_model.specs.Input.Held.{HasMarks}

@@ -1,8 +1,15 @@
-use Rattle.std.proofs.Common.{arith, ℕ, map, length, ap, sym, subst, drop, ◌≡◌, ◌∙◌, ◌<◌}
+use Rattle.std.proofs.Common.{arith, ℕ, List, map, length, ap, sym, subst, take, drop, ◌≡◌, ◌∙◌, ◌<◌, ◌++◌}
 use Rattle.std.proofs.lemmas.List.{take_at}
 use Rattle.amd_numbers.specs.Permutations.{AreInverse}
 use Rattle.amd_engine.proofs.EndingLaw.{ends_same}
 use Rattle.amd_engine.proofs.ended.list_rows.Goals as goal
+
+-- a list that a call wrote, lent again, is what the call left
+written : {A : Type 0} {lent : List A} {n : ℕ} (new items : List A) (len : ℕ) → len ≡ length items → length items ≡ n → length new ≡ n →
+    lent ≡ take len (new ++ drop (length new) items) → (lent ≡ new) × (length lent ≡ n)
+written new items len is long same value =
+    let whole = value ∙ take_at new (drop (length new) items) len (same ∙ sym (is ∙ long)) in
+    (whole, ap length whole ∙ same)
 
 pub end_rows-requires-clause-lengths : goal.end_rows-requires-clause-lengths
 end_rows-requires-clause-lengths g c =
@@ -21,16 +28,15 @@ listing-requires-clause-ended g c =
     let d : length c.deref.result.now ≡ n = ap length c.deref.ensures.value ∙ words.3 in
     let ended = c.end_rows.ensures.lengths in
     let counts = c.args.counts.now in
-    let v2 : c.deref-2.result.now ≡ c.end_rows.new.nv = c.deref-2.ensures.value
-    ∙ take_at c.end_rows.new.nv (drop (length c.end_rows.new.nv) counts.nv.items) counts.nv.len (ended.2 ∙ d ∙ sym (counts.nv.ok.0 ∙ words.2)) in
-    let rows : length c.deref-2.result.now ≡ n = ap length v2 ∙ ended.2 ∙ d in
-    let e2 : c.deref-3.result.now ≡ c.end_rows.new.e_len = c.deref-3.ensures.value
-    ∙ take_at c.end_rows.new.e_len (drop (length c.end_rows.new.e_len) counts.e_len.items) counts.e_len.len (ended.1 ∙ d ∙ sym (counts.e_len.ok.0 ∙ words.1)) in
+    let nv = written c.end_rows.new.nv counts.nv.items counts.nv.len counts.nv.ok.0 words.2 (ended.2 ∙ d) c.deref-2.ensures.value in
+    let rows : length c.deref-2.result.now ≡ n = nv.1 in
+    let e_len = written c.end_rows.new.e_len counts.e_len.items counts.e_len.len counts.e_len.ok.0 words.1 (ended.1 ∙ d)
+    c.deref-3.ensures.value in
     let ends = ends_same (length c.deref.result.now) n c.args.pe.now c.deref_mut.result.now counts.e_len.items
     c.deref.result.now counts.degree.items c.end_rows.new.pe c.end_rows.new.e_len c.end_rows.new.nv
     c.deref-3.result.now c.deref-2.result.now c.end_rows.ensures.ends d c.deref_mut.ensures.value c.deref.ensures.value
-    (sym e2) (sym v2) in
-    c.requires.over.ends c.end_rows.new.pe c.deref-3.result.now c.deref-2.result.now ends (ended.0 ∙ d) (ap length e2 ∙ ended.1 ∙ d) rows
+    (sym e_len.0) (sym nv.0) in
+    c.requires.over.ends c.end_rows.new.pe c.deref-3.result.now c.deref-2.result.now ends (ended.0 ∙ d) (e_len.1) rows
 
 pub listing-requires-clause-lengths : goal.listing-requires-clause-lengths
 listing-requires-clause-lengths g c =
@@ -39,9 +45,8 @@ listing-requires-clause-lengths g c =
     let d : length c.deref.result.now ≡ n = ap length c.deref.ensures.value ∙ words.3 in
     let ended = c.end_rows.ensures.lengths in
     let counts = c.args.counts.now in
-    let v2 : c.deref-2.result.now ≡ c.end_rows.new.nv = c.deref-2.ensures.value
-    ∙ take_at c.end_rows.new.nv (drop (length c.end_rows.new.nv) counts.nv.items) counts.nv.len (ended.2 ∙ d ∙ sym (counts.nv.ok.0 ∙ words.2)) in
-    let rows : length c.deref-2.result.now ≡ n = ap length v2 ∙ ended.2 ∙ d in
+    let nv = written c.end_rows.new.nv counts.nv.items counts.nv.len counts.nv.ok.0 words.2 (ended.2 ∙ d) c.deref-2.ensures.value in
+    let rows : length c.deref-2.result.now ≡ n = nv.1 in
     let more = c.requires.over.links in (
       ap length c.deref_mut-3.ensures.value ∙ more.0 ∙ sym rows,
       ap length c.deref_mut-4.ensures.value ∙ more.1 ∙ sym rows,
@@ -56,9 +61,8 @@ listing-requires-clause-more_lengths g c =
     let d : length c.deref.result.now ≡ n = ap length c.deref.ensures.value ∙ words.3 in
     let ended = c.end_rows.ensures.lengths in
     let counts = c.args.counts.now in
-    let v2 : c.deref-2.result.now ≡ c.end_rows.new.nv = c.deref-2.ensures.value
-    ∙ take_at c.end_rows.new.nv (drop (length c.end_rows.new.nv) counts.nv.items) counts.nv.len (ended.2 ∙ d ∙ sym (counts.nv.ok.0 ∙ words.2)) in
-    let rows : length c.deref-2.result.now ≡ n = ap length v2 ∙ ended.2 ∙ d in
+    let nv = written c.end_rows.new.nv counts.nv.items counts.nv.len counts.nv.ok.0 words.2 (ended.2 ∙ d) c.deref-2.ensures.value in
+    let rows : length c.deref-2.result.now ≡ n = nv.1 in
     (c.requires.rows.0 ∙ sym rows, c.requires.rows.1 ∙ sym rows)
 
 pub listing-requires-clause-narrow : goal.listing-requires-clause-narrow
@@ -68,9 +72,8 @@ listing-requires-clause-narrow g c =
     let d : length c.deref.result.now ≡ n = ap length c.deref.ensures.value ∙ words.3 in
     let ended = c.end_rows.ensures.lengths in
     let counts = c.args.counts.now in
-    let v2 : c.deref-2.result.now ≡ c.end_rows.new.nv = c.deref-2.ensures.value
-    ∙ take_at c.end_rows.new.nv (drop (length c.end_rows.new.nv) counts.nv.items) counts.nv.len (ended.2 ∙ d ∙ sym (counts.nv.ok.0 ∙ words.2)) in
-    let rows : length c.deref-2.result.now ≡ n = ap length v2 ∙ ended.2 ∙ d in
+    let nv = written c.end_rows.new.nv counts.nv.items counts.nv.len counts.nv.ok.0 words.2 (ended.2 ∙ d) c.deref-2.ensures.value in
+    let rows : length c.deref-2.result.now ≡ n = nv.1 in
     let m = c.requires.narrow in let s = m.0 in let u = m.1 in (omega (arith, rows, s), omega (arith, rows, u))
 
 pub listing-requires-clause-fits : goal.listing-requires-clause-fits
@@ -80,9 +83,8 @@ listing-requires-clause-fits g c = λ k l.
     let d : length c.deref.result.now ≡ n = ap length c.deref.ensures.value ∙ words.3 in
     let ended = c.end_rows.ensures.lengths in
     let counts = c.args.counts.now in
-    let v2 : c.deref-2.result.now ≡ c.end_rows.new.nv = c.deref-2.ensures.value
-    ∙ take_at c.end_rows.new.nv (drop (length c.end_rows.new.nv) counts.nv.items) counts.nv.len (ended.2 ∙ d ∙ sym (counts.nv.ok.0 ∙ words.2)) in
-    let rows : length c.deref-2.result.now ≡ n = ap length v2 ∙ ended.2 ∙ d in
+    let nv = written c.end_rows.new.nv counts.nv.items counts.nv.len counts.nv.ok.0 words.2 (ended.2 ∙ d) c.deref-2.ensures.value in
+    let rows : length c.deref-2.result.now ≡ n = nv.1 in
     let small : k < n = omega (arith, l, rows) in
     c.requires.fits k small
 
@@ -93,21 +95,20 @@ returns g c =
     let d : length c.deref.result.now ≡ n = ap length c.deref.ensures.value ∙ words.3 in
     let ended = c.end_rows.ensures.lengths in
     let counts = c.args.counts.now in
-    let v2 : c.deref-2.result.now ≡ c.end_rows.new.nv = c.deref-2.ensures.value
-    ∙ take_at c.end_rows.new.nv (drop (length c.end_rows.new.nv) counts.nv.items) counts.nv.len (ended.2 ∙ d ∙ sym (counts.nv.ok.0 ∙ words.2)) in
-    let rows : length c.deref-2.result.now ≡ n = ap length v2 ∙ ended.2 ∙ d in
-    let e2 : c.deref-3.result.now ≡ c.end_rows.new.e_len = c.deref-3.ensures.value
-    ∙ take_at c.end_rows.new.e_len (drop (length c.end_rows.new.e_len) counts.e_len.items) counts.e_len.len (ended.1 ∙ d ∙ sym (counts.e_len.ok.0 ∙ words.1)) in
+    let nv = written c.end_rows.new.nv counts.nv.items counts.nv.len counts.nv.ok.0 words.2 (ended.2 ∙ d) c.deref-2.ensures.value in
+    let rows : length c.deref-2.result.now ≡ n = nv.1 in
+    let e_len = written c.end_rows.new.e_len counts.e_len.items counts.e_len.len counts.e_len.ok.0 words.1 (ended.1 ∙ d)
+    c.deref-3.ensures.value in
     let ends = ends_same (length c.deref.result.now) n c.args.pe.now c.deref_mut.result.now counts.e_len.items
     c.deref.result.now counts.degree.items c.end_rows.new.pe c.end_rows.new.e_len c.end_rows.new.nv
     c.deref-3.result.now c.deref-2.result.now c.end_rows.ensures.ends d c.deref_mut.ensures.value c.deref.ensures.value
-    (sym e2) (sym v2) in
+    (sym e_len.0) (sym nv.0) in
     let listed = c.listing.ensures.lists in
     let value = g.I.Number.value in
     rw (sym c.deref-3.ensures.value, sym c.deref-2.ensures.value) (record {
       link = c.end_rows.new.pe;
       ends = ends;
-      long = (ended.0 ∙ d, ap length e2 ∙ ended.1 ∙ d, rows);
+      long = (ended.0 ∙ d, e_len.1, rows);
       rows = listed.0;
       listed = listed.1;
       lists = listed.2;

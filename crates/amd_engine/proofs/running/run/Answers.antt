@@ -1,4 +1,4 @@
-use Rattle.std.proofs.Common.{arith, length, refl, ◌∙◌, sym}
+use Rattle.std.proofs.Common.{arith, length, refl, ◌∙◌}
 use Rattle.std.specs.Option.{option_copied}
 use Rattle.amd_model.specs.Input.Held.{is_held_last}
 use Rattle.amd_model.specs.Quotient.{start_quotient}

@@ -1,7 +1,8 @@
 use Rattle.std.proofs.Common.{◌-◌, ◌<◌, arith, sym, rules}
 use Rattle.amd_input.proofs.Classes.{rising_rows}
 use Rattle.amd_input.proofs.valid.column_status.Goals as goal
-use Rattle.amd_input.proofs.valid.column_status.Goals.{then-is_negative-via-then-is_negative, then-is_negative-via-else-is_negative+then-not-is_below}
+use Rattle.amd_input.proofs.valid.column_status.Goals.{then-is_negative-via-then-is_negative}
+use Rattle.amd_input.proofs.valid.column_status.Goals.{then-is_negative-via-else-is_negative+then-not-is_below}
 
 pub returns-then-is_negative : goal.returns-then-is_negative
 returns-then-is_negative g c = elim c.then-is_negative.branch [
