@@ -107,15 +107,14 @@ fn a_row_of_a_cycle_held_last(rt: HostRuntime) {
 }
 
 #[test]
-fn refusals_leave_all_as_it_was(rt: HostRuntime) {
+fn results_that_are_too_short(rt: HostRuntime) {
     let a_p = [0i64, 1, 2, 2];
     let a_i = [1i64, 2];
     let mut p = [-5; 3];
     let mut p_inv = [-6; 3];
     let mut told = blank();
-    let alloc = rt.alloc();
-    let short = rimopaku_order_i64(
-        alloc,
+    let first = rimopaku_order_i64(
+        rt.alloc(),
         3,
         &a_p,
         &a_i,
@@ -124,9 +123,8 @@ fn refusals_leave_all_as_it_was(rt: HostRuntime) {
         &mut p_inv,
         &mut told,
     );
-    assert!(rt; short == -2);
-    let short = rimopaku_order_i64(
-        alloc,
+    let second = rimopaku_order_i64(
+        rt.alloc(),
         3,
         &a_p,
         &a_i,
@@ -135,22 +133,30 @@ fn refusals_leave_all_as_it_was(rt: HostRuntime) {
         &mut p_inv[..2],
         &mut told,
     );
-    assert!(rt; short == -2);
-    let marks = [true, false];
-    let few = rimopaku_order_holding_i64(
-        alloc,
+    assert!(rt; first == -2 && second == -2);
+    assert!(rt; p == [-5; 3] && p_inv == [-6; 3] && told.n == 77);
+}
+
+#[test]
+fn inputs_that_are_refused(rt: HostRuntime) {
+    let a_p = [0i64, 1, 2, 2];
+    let a_i = [1i64, 2];
+    let mut p = [-5; 3];
+    let mut p_inv = [-6; 3];
+    let mut told = blank();
+    let few_marks = rimopaku_order_holding_i64(
+        rt.alloc(),
         3,
         &a_p,
         &a_i,
         &defaults(),
-        &marks,
+        &[true, false],
         &mut p,
         &mut p_inv,
         &mut told,
     );
-    assert!(rt; few == -2);
-    let none = rimopaku_order_i64(
-        alloc,
+    let few_pointers = rimopaku_order_i64(
+        rt.alloc(),
         3,
         &a_p[1..],
         &a_i,
@@ -159,7 +165,7 @@ fn refusals_leave_all_as_it_was(rt: HostRuntime) {
         &mut p_inv,
         &mut told,
     );
-    assert!(rt; none == -2);
+    assert!(rt; few_marks == -2 && few_pointers == -2);
     assert!(rt; p == [-5; 3] && p_inv == [-6; 3] && told.n == 77);
 }
 
