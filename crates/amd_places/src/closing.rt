@@ -1,4 +1,4 @@
-// The closing of an element: its list has lost what is no class of the front any more, and its length, its rows and the
+// The closing of an element: its list has lost the rows that are no longer classes, and its length, its rows and the
 // rows of its border are written. Source: Amestoy, Davis and Duff 1996 (the arrays of the quotient graph). Called by: a
 // round.
 

@@ -45,7 +45,7 @@ module _ {g : Graph} {aggressive : Bool} {t : QuotientGraph} {s : State} {c : �
   abbrev pub made_list : List ℕ
   made_list = made aggressive t c (gathered t c)
 
-  -- what is no class any more
+  -- what is no longer a class
   abbrev pub ended : ℕ → Bool
   ended = ends aggressive t c (gathered t c)
 
