@@ -54,10 +54,20 @@ module _ (g : Graph) (dense : ℕ → Bool) (aggressive : Bool) (lists : ℕ →
   is_ended = ended g dense e.words e.after e.reaches.end last e.stands is_end pe' e_len' nv' ends_after pe_long e_len_long nv_long
 
   has_ended : HasEnded pe' nv' e_len'
-  has_ended = (g, dense, aggressive, e.first, e.reaches.states, e.reaches.graph, the_run, is_ended)
+  has_ended = record {
+    graph = g;
+    dense = dense;
+    aggressive = aggressive;
+    first = e.first;
+    states = e.reaches.states;
+    laws = e.reaches.graph;
+    run = the_run;
+    ended = is_ended;
+  }
 
   listed : (rows : List ℕ) → ListsEnded pe' nv' e_len' rows → IsPostorder g dense last rows
-  listed rows all = all g dense aggressive e.first e.reaches.states e.reaches.graph the_run is_ended
+  unfolding has_ended
+  listed rows all = all has_ended
 
   tells : TellsElements g last nv' e_len'
   tells = record {

@@ -6,7 +6,7 @@ use Rattle.std.proofs.lemmas.List.{get_or-map}
 use Rattle.std.proofs.lemmas.List.Elements.{All-from_get_or}
 use Rattle.amd_model.specs.Graph.{Graph, IsGraph, degree}
 use Rattle.amd_model.specs.State.{State}
-use Rattle.amd_model.specs.Run.{Run, last_state}
+use Rattle.amd_model.specs.Run.{last_state}
 use Rattle.amd_model.specs.Listing.{IsPostorder, ListsEachRow}
 use Rattle.amd_model.specs.Quotient.{QuotientGraph, starting_list, start_quotient}
 use Rattle.amd_model.specs.QuotientLaws.{NamesNeighbours}
@@ -21,7 +21,7 @@ use Rattle.amd_model.proofs.States.Words.{edge_small}
 use Rattle.amd_rounds.specs.Views.{at, num, list_at, Below, ListsBelow}
 use Rattle.amd_edges.specs.Visits.{AreCounts}
 use Rattle.amd_rounds.specs.Keeps.{Stands, AreRounds, NoRowIsLive}
-use Rattle.amd_rounds.specs.Starts.{StandsAtStart, ListsRun}
+use Rattle.amd_rounds.specs.Starts.{StandsAtStart, EndsRun, ListsRun}
 use Rattle.amd_numbers.specs.Permutations.{AreInverse}
 use Rattle.amd_engine.specs.Engine.{IsEngineAnswer, Reaches}
 use Rattle.amd_engine.proofs.EngineLaw.{degree_small, told_by, run, promises, answer_of}
@@ -103,10 +103,19 @@ module _ {A : Type 0} (g : Graph) (laws : IsGraph g) (dense last : ℕ → Bool)
       };
     }
 
-    ended : (g : Graph) × (dense : ℕ → Bool) × (aggressive : Bool) × (first : State) × (states : List State) × (t : QuotientGraph)
-        × IsGraph g × Run g dense aggressive first states × Stands g dense w t (last_state first states)
+    ended : EndsRun w
     unfolding reaches
-    ended = (g, dense, aggressive, first, states, end, laws, run g dense aggressive lists first w.n_dense w.figures reaches, at_end)
+    ended = record {
+      graph = g;
+      dense = dense;
+      aggressive = aggressive;
+      first = first;
+      states = states;
+      lists = end;
+      laws = laws;
+      run = run g dense aggressive lists first w.n_dense w.figures reaches;
+      stands = at_end;
+    }
 
     listed_run : (order : List ℕ) → ListsRun w order → IsPostorder g dense (last_state first states) order
     unfolding reaches
@@ -167,8 +176,7 @@ module _ {A : Type 0} (ap' ai : List ℤ) (len : List ℕ) (counts : AreCounts (
 
     module _ (aggressive : Bool) (w : Work A) (rounds : AreRounds aggressive old w) (over : NoRowIsLive w) where
       -- what the listing asks of it
-      pub stands_last : (g : Graph) × (dense : ℕ → Bool) × (aggressive : Bool) × (first : State) × (states : List State)
-          × (t : QuotientGraph) × IsGraph g × Run g dense aggressive first states × Stands g dense w t (last_state first states)
+      pub stands_last : EndsRun w
       stands_last = ended graph is_graph dense (at marks) aggressive lists names rows len counts held listed_all old begun w rounds over
 
       abbrev here : Reaches graph dense aggressive lists (first_state graph dense) w.n_dense w.figures

@@ -6,15 +6,12 @@ ghost use Rattle.std.specs.Prelude.{[], ◌≡◌, ◌^◌, ◌<◌, ◌==◌, �
 ghost use Rattle.std.specs.Prelude.{flat_map, map, nat_eq, nat_lt, pos, slice_index, OnOk, false, is_none, not, filter};
 ghost use Rattle.std.specs.Prelude.{length, IfOk, IfErr};
 ghost use Rattle.amd_model.specs.Below.{list_below};
-ghost use Rattle.amd_model.specs.Graph.{Graph, IsGraph};
 ghost use Rattle.amd_model.specs.Input.Columns.{at};
 ghost use Rattle.amd_model.specs.Listing.{Tree};
-ghost use Rattle.amd_model.specs.State.{Home, State, block_at, live_at};
-ghost use Rattle.amd_model.specs.Run.{Run, last_state};
-ghost use Rattle.amd_model.specs.Quotient.{QuotientGraph};
+ghost use Rattle.amd_model.specs.State.{Home, block_at, live_at};
 ghost use Rattle.amd_rounds.specs.Views.{list_at, num, some_at, Below};
-ghost use Rattle.amd_rounds.specs.Keeps.{LinksLead, Stands};
-ghost use Rattle.amd_rounds.specs.Starts.{ListsRun};
+ghost use Rattle.amd_rounds.specs.Keeps.{LinksLead};
+ghost use Rattle.amd_rounds.specs.Starts.{EndsRun, ListsRun};
 ghost use Rattle.amd_trees.specs.Trees.{IsByPlace, IsPostorderOf, link_of};
 
 use amd_numbers::amd::Status;
@@ -218,9 +215,7 @@ fn add_last<A: Allocator>(
 ///
 /// `OutOfMemory` for a refused request.
 pub fn listing<A: Allocator + Copy>(work: &mut Work<A>) -> Result<Vec<usize, A>, Status>
-    requires ended { (g : Graph) × (dense : ℕ → Bool) × (aggressive : Bool) × (first : State) × (states : List State) ×
-        (t : QuotientGraph) × IsGraph g × Run g dense aggressive first states ×
-        Stands g dense work.old t (last_state first states) }
+    requires ended { EndsRun work.old }
     ensures lists { IfOk result (λ p. ListsRun work.old p.items) }
     ensures refused { IfErr result (λ e. e ≡ Status.OutOfMemory) }
 {

@@ -1,13 +1,13 @@
 -- Where the blocks of elements start: of different blocks, none more than there are rows.
-use Rattle.std.proofs.Common.{ℕ, ℤ, ◌≡◌, ◌<◌, ◌≤◌, ◌+◌, ◌&&◌, inl, inr, refl, sym, ◌∙◌, ap}
+use Rattle.std.proofs.Common.{ℕ, ℤ, ◌≡◌, ◌<◌, ◌≤◌, ◌+◌, inl, inr, refl, sym, ◌∙◌, ap}
 use Rattle.std.proofs.Common.{arith, List, length, take, pos}
-use Rattle.std.specs.Prelude.{slice_index, slice_set, nat_lt, sum_by, ◌==◌}
+use Rattle.std.specs.Prelude.{slice_index, nat_lt, sum_by}
 use Rattle.std.proofs.Math.ListN.{set}
-use Rattle.std.proofs.lemmas.List.{length-set, get_or-set_same, get_or-set_other, take_all}
-use Rattle.std.proofs.lemmas.List.Sums.{sum_by_more, sum_by_more_le, sum_by-take-le}
-use Rattle.std.proofs.lemmas.Bool.{cases_eq, cases_lt, ltb-true, and_parts}
+use Rattle.std.proofs.lemmas.List.{get_or-set_same, get_or-set_other, take_all}
+use Rattle.std.proofs.lemmas.List.Sums.{sum_by_more, sum_by_more_le}
+use Rattle.std.proofs.lemmas.Bool.{cases_eq, ltb-true, and_parts}
 use Rattle.amd_model.specs.State.{Home}
-use Rattle.amd_model.proofs.Counting.Below.{count_most, count_same, count_zero}
+use Rattle.amd_model.proofs.Counting.Below.{count_most}
 use Rattle.amd_model.proofs.Counting.Places.{has_place, places_differ}
 use Rattle.amd_model.proofs.Counting.Points.{pigeonhole}
 use Rattle.amd_places.specs.Words.{num, size_of, word}

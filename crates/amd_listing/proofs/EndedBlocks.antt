@@ -1,18 +1,17 @@
 -- The blocks of the assembly tree in postorder, at the end of a run: exactly the elements are listed, and the rows of their blocks, with
 -- the rows held last behind them, are its listing.
-use Rattle.std.proofs.Common.{ℕ, ℤ, Bool, true, false, ◌≡◌, ◌<◌, ◌&&◌, inl, inr, refl, sym, ◌∙◌, ap, List, length, pos}
+use Rattle.std.proofs.Common.{ℕ, ℤ, Bool, false, ◌≡◌, ◌<◌, ◌&&◌, inl, inr, refl, sym, ◌∙◌, ap, List, length, pos}
 use Rattle.std.specs.Prelude.{nat_lt, int_lt, slice_index}
 use Rattle.std.specs.Cmp.{both_ways}
 use Rattle.std.proofs.lemmas.Bool.{cases_Bool, true≢false}
-use Rattle.amd_model.specs.Below.{count_below, list_below}
+use Rattle.amd_model.specs.Below.{count_below}
 use Rattle.amd_model.specs.Graph.{Graph}
 use Rattle.amd_model.specs.State.{State, Home, Last, Live, Gone, block_at}
 use Rattle.amd_model.specs.Laws.{is_last}
 use Rattle.amd_model.specs.Listing.{IsPostorder, assembly_tree, roots}
-use Rattle.amd_model.specs.Quotient.{has, Once}
-use Rattle.amd_model.specs.Input.Columns.{at}
+use Rattle.amd_model.specs.Quotient.{has}
 use Rattle.amd_model.proofs.States.EndState.{IsEnd}
-use Rattle.amd_places.specs.Words.{size_of, rows_in}
+use Rattle.amd_places.specs.Words.{rows_in}
 use Rattle.amd_places.proofs.Signs.{rows_of}
 use Rattle.amd_trees.specs.Trees.{IsPostorderOf, is_element, tree_of}
 use Rattle.amd_trees.proofs.ForestListings.{IsRanked, trees_distinct, roots_siblings}

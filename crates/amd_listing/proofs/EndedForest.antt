@@ -1,18 +1,17 @@
 -- At the end of a run the elements, with their parents and the numbers of rows of their blocks and fronts, are the forest of the
 -- assembly tree.
-use Rattle.std.proofs.Common.{ℕ, ℤ, Bool, true, false, ◌≡◌, ◌<◌, ◌&&◌, inl, inr, refl, sym, ◌∙◌, ap, arith, List, length, pos, negsuc}
+use Rattle.std.proofs.Common.{ℕ, ℤ, Bool, true, ◌≡◌, ◌<◌, ◌&&◌, inl, inr, refl, sym, ◌∙◌, ap, arith, List, pos}
 use Rattle.std.specs.Prelude.{nat_lt, int_lt, unsigned_abs}
 use Rattle.std.proofs.lemmas.Int.{ints}
-use Rattle.std.proofs.lemmas.Bool.{cases_Bool, false≢true, lt-ltb, ltb-true, eqb-true, eq-eqb, and_parts}
+use Rattle.std.proofs.lemmas.Bool.{cases_Bool, lt-ltb, ltb-true, eq-eqb, and_parts}
 use Rattle.amd_model.specs.Graph.{Graph}
-use Rattle.amd_model.specs.State.{State, Home, Last, Live, Gone, block_at}
+use Rattle.amd_model.specs.State.{State, block_at}
 use Rattle.amd_model.specs.Below.{count_below}
-use Rattle.amd_model.specs.Listing.{assembly_tree, weight}
+use Rattle.amd_model.specs.Listing.{assembly_tree}
 use Rattle.amd_model.specs.Input.Columns.{at}
 use Rattle.amd_model.proofs.Counting.Below.{count_pos}
 use Rattle.amd_model.proofs.States.EndState.{IsEnd}
 use Rattle.amd_numbers.specs.Links.{named}
-use Rattle.amd_places.specs.Words.{size_of}
 use Rattle.amd_trees.specs.Trees.{IsForest, is_element, tree_of}
 use Rattle.amd_trees.proofs.Links.{names_some}
 use Rattle.amd_listing.specs.Ended.{IsEnded}

@@ -1,5 +1,5 @@
 -- The blocks of elements one after another, with their rows: where each starts in the listing, and what the listing is.
-use Rattle.std.specs.Prelude.{ℕ, ℤ, Bool, true, List, [], ◌∷◌, ◌++◌, ◌≡◌, ◌<◌, ◌==◌, ◌&&◌, not, flat_map, length}
+use Rattle.std.specs.Prelude.{ℕ, ℤ, true, List, [], ◌∷◌, ◌++◌, ◌≡◌, ◌<◌, ◌==◌, ◌&&◌, not, flat_map, length}
 use Rattle.std.specs.Prelude.{nat_lt, slice_index}
 use Rattle.std.specs.Prelude.{sum_by, take}
 use Rattle.amd_model.specs.Below.{count_below, list_below}

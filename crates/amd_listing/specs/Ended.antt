@@ -3,7 +3,7 @@ use Rattle.std.specs.Prelude.{ℕ, ℤ, pos, negsuc, Bool, true, false, Option, 
 use Rattle.std.specs.Prelude.{slice_index_or}
 use Rattle.amd_model.specs.Below.{count_below}
 use Rattle.amd_model.specs.Graph.{Graph, IsGraph}
-use Rattle.amd_model.specs.State.{State, Home, Last, Live, Gone, in_block, is_element}
+use Rattle.amd_model.specs.State.{State, Home, Last, Gone, in_block, is_element}
 use Rattle.amd_model.specs.Run.{Run, last_state}
 use Rattle.amd_model.specs.Listing.{IsPostorder, weight}
 use Rattle.amd_numbers.specs.Links.{named}
@@ -36,15 +36,18 @@ pub record IsEnded (g : Graph) (s : State) (link nv f_size : List ℤ) : Type 0 
   pub parents : (e : ℕ) → is_element s e ≡ true → named (word link e) ≡ s.parent e
   pub tops : (e : ℕ) → is_element s e ≡ true → s.parent e ≡ None → word link e ≡ negsuc 0
 
--- some run ended so
-abbrev pub HasEnded : List ℤ → List ℤ → List ℤ → Type 0
-HasEnded link nv f_size = (g : Graph) × (dense : ℕ → Bool) × (aggressive : Bool) × (first : State) ×
-    (states : List State)
-    × IsGraph g × Run g dense aggressive first states × IsEnded g (last_state first states) link nv f_size
+-- a run that ended so: its graph, the rows held last, its states, and what it obeys
+pub record HasEnded (link nv f_size : List ℤ) : Type 0 where
+  pub graph : Graph
+  pub dense : ℕ → Bool
+  pub aggressive : Bool
+  pub first : State
+  pub states : List State
+  pub laws : IsGraph graph
+  pub run : Run graph dense aggressive first states
+  pub ended : IsEnded graph (last_state first states) link nv f_size
 
 -- of whatever run ended so, rows lists the assembly tree in postorder, and then the rows held last
 abbrev pub ListsEnded : List ℤ → List ℤ → List ℤ → List ℕ → Type 0
-ListsEnded link nv f_size rows = (g : Graph) (dense : ℕ → Bool) (aggressive : Bool) (first : State)
-    (states : List State) → IsGraph g →
-    Run g dense aggressive first states → IsEnded g (last_state first states) link nv f_size →
-    IsPostorder g dense (last_state first states) rows
+ListsEnded link nv f_size rows = (r : HasEnded link nv f_size) →
+    IsPostorder r.graph r.dense (last_state r.first r.states) rows

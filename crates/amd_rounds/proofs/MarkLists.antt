@@ -3,11 +3,11 @@ use Rattle.amd_model.proofs.Counting.Below.{clash}
 use Rattle.std.proofs.Common.{ℕ, Bool, true, false, ◌≡◌, ◌<◌, ◌&&◌, ◌||◌, not, inl, inr, refl, sym, ◌∙◌, ap, List, [], ◌∷◌, ◌++◌, length}
 use Rattle.std.proofs.Common.{set, get_or-set_same, get_or-set_other}
 use Rattle.std.specs.Prelude.{fold, flat_map, ◌==◌}
-use Rattle.std.proofs.Math.Bool.{or-true, or-false, or_assoc, and-true, and-false}
+use Rattle.std.proofs.Math.Bool.{or-true, or-false, and-true, and-false}
 use Rattle.std.proofs.lemmas.Bool.{cases_Bool, cases_eq, eq-eqb, ne_eqb, or_left, or_right}
 use Rattle.std.proofs.lemmas.List.Sums.{fold-append}
 use Rattle.amd_model.specs.Quotient.{has, add_new}
-use Rattle.amd_model.proofs.Quotient.Lists.{has_append, add_old, add_fresh, firsts}
+use Rattle.amd_model.proofs.Quotient.Lists.{has_append, add_old, add_fresh}
 use Rattle.amd_model.proofs.Listings.Words.{has_right}
 use Rattle.amd_views.proofs.Lists.Added.{same_adds, adds_marks}
 use Rattle.amd_rounds.specs.Views.{at, Clear}

@@ -1,5 +1,5 @@
 -- The new bounds of the classes that are placed anew.
-use Rattle.std.proofs.Common.{ℕ, true, refl, ◌≡◌, ◌<◌, ◌≤◌, ◌+◌, ◌-◌, ◌∙◌, ap, arith, List}
+use Rattle.std.proofs.Common.{ℕ, true, ◌≡◌, ◌<◌, ◌≤◌, ◌+◌, ◌-◌, ◌∙◌, ap, arith, List}
 use Rattle.std.specs.Prelude.{cond, min, sum_by}
 use Rattle.std.proofs.lemmas.Bool.{cond-true}
 use Rattle.amd_model.specs.Figures.{cut}

@@ -20,6 +20,18 @@ StandsAtStart rows degrees last w = (g : Graph) (dense : ℕ → Bool) (lists : 
     ((i : ℕ) → i < g.size → NamesNeighbours g i (lists i)) → IsStart g dense s →
     Stands g dense w (start_quotient g dense lists) s
 
+-- a run at whose end the record stands: its graph, the rows held last, its states, and the lists of the last of them
+pub record EndsRun {A : Type 0} (w : Work A) : Type 0 where
+  pub graph : Graph
+  pub dense : ℕ → Bool
+  pub aggressive : Bool
+  pub first : State
+  pub states : List State
+  pub lists : QuotientGraph
+  pub laws : IsGraph graph
+  pub run : Run graph dense aggressive first states
+  pub stands : Stands graph dense w lists (last_state first states)
+
 -- whatever run the record stands at the end of, p lists its assembly tree in postorder, and then the dense rows
 abbrev pub ListsRun : {A : Type 0} → Work A → List ℕ → Type 0
 ListsRun w p = (g : Graph) (dense : ℕ → Bool) (aggressive : Bool) (first : State) (states : List State)

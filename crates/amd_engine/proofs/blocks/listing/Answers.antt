@@ -17,8 +17,8 @@ use Rattle.amd_engine.proofs.blocks.listing.Goals as goal
 pub rows_of_elements-requires : goal.rows_of_elements-requires
 rows_of_elements-requires g c =
     let h = c.requires.ended in let w = c.args.work.now in
-    let gr = h.0 in let dense = h.1 in let t = h.5 in let s = last_state h.3 h.4 in let st = h.8 in
-    let end = at_the_end h.0 h.1 h.2 h.3 h.4 h.6 h.7 in
+    let gr = h.graph in let dense = h.dense in let t = h.lists in let s = last_state h.first h.states in let st = h.stands in
+    let end = at_the_end h.graph h.dense h.aggressive h.first h.states h.laws h.run in
     record { led = (t.home, st.view.keeps.links, none_live gr dense w t s st end) }
 
 -- src/blocks.rt:224:16
@@ -34,8 +34,8 @@ returns-in_err-rows-clause-refused g c = if_err c.from_residual.result (λ e. e 
 pub parent_links-requires : goal.parent_links-requires
 parent_links-requires g c =
     let h = c.requires.ended in let w = c.args.work.now in
-    let gr = h.0 in let dense = h.1 in let t = h.5 in let s = last_state h.3 h.4 in let st = h.8 in
-    let end = at_the_end h.0 h.1 h.2 h.3 h.4 h.6 h.7 in
+    let gr = h.graph in let dense = h.dense in let t = h.lists in let s = last_state h.first h.states in let st = h.stands in
+    let end = at_the_end h.graph h.dense h.aggressive h.first h.states h.laws h.run in
     record {
       fits = λ e p q.
           let small = parent_small gr dense w t s st end e p (ap (λ xs. some_at xs e) (sym c.deref.ensures.value) ∙ q) in
@@ -62,8 +62,8 @@ of_elements-requires-clause-lengths g c = ap length c.deref-3.ensures.value ∙ 
 pub of_elements-requires-clause-fits : goal.of_elements-requires-clause-fits
 of_elements-requires-clause-fits g c = λ e some.
     let h = c.requires.ended in let w = c.args.work.now in
-    let gr = h.0 in let dense = h.1 in let t = h.5 in let s = last_state h.3 h.4 in let st = h.8 in
-    let end = at_the_end h.0 h.1 h.2 h.3 h.4 h.6 h.7 in
+    let gr = h.graph in let dense = h.dense in let t = h.lists in let s = last_state h.first h.states in let st = h.stands in
+    let end = at_the_end h.graph h.dense h.aggressive h.first h.states h.laws h.run in
     let small = block_small gr dense w t s st end e (subst (λ xs. 0 < num xs e) c.deref-2.ensures.value some) in
     let few : length c.deref-2.result.now * 8 < 2 ^ 64 = search rules in
     let same : length c.deref-2.result.now ≡ gr.size = ap length c.deref-2.ensures.value ∙ st.sized.block in
@@ -82,15 +82,15 @@ returns-in_err-nv-clause-refused g c = if_err c.from_residual-in_err-nv.result (
 -- src/blocks.rt:227:18
 pub of_elements-requires-2-clause-lengths : goal.of_elements-requires-2-clause-lengths
 of_elements-requires-2-clause-lengths g c =
-    let st = c.requires.ended.8 in ap length c.deref-5.ensures.value ∙ st.sized.front ∙
+    let st = c.requires.ended.stands in ap length c.deref-5.ensures.value ∙ st.sized.front ∙
     sym (ap length c.deref-4.ensures.value ∙ st.sized.block)
 
 -- src/blocks.rt:227:18
 pub of_elements-requires-2-clause-fits : goal.of_elements-requires-2-clause-fits
 of_elements-requires-2-clause-fits g c = λ e some.
     let h = c.requires.ended in let w = c.args.work.now in
-    let gr = h.0 in let dense = h.1 in let t = h.5 in let s = last_state h.3 h.4 in let st = h.8 in
-    let end = at_the_end h.0 h.1 h.2 h.3 h.4 h.6 h.7 in
+    let gr = h.graph in let dense = h.dense in let t = h.lists in let s = last_state h.first h.states in let st = h.stands in
+    let end = at_the_end h.graph h.dense h.aggressive h.first h.states h.laws h.run in
     let small = front_small gr dense w t s st end e (subst (λ xs. 0 < num xs e) c.deref-4.ensures.value some) in
     let few : length c.deref-4.result.now * 8 < 2 ^ 64 = search rules in
     let same : length c.deref-4.result.now ≡ gr.size = ap length c.deref-4.ensures.value ∙ st.sized.block in
@@ -111,8 +111,8 @@ returns-in_err-f_size-clause-refused g c = if_err c.from_residual-in_err-f_size.
 pub postorder-requires-clause-forest : goal.postorder-requires-clause-forest
 postorder-requires-clause-forest g c =
     let h = c.requires.ended in let w = c.args.work.now in
-    let gr = h.0 in let dense = h.1 in let t = h.5 in let s = last_state h.3 h.4 in let st = h.8 in
-    let end = at_the_end h.0 h.1 h.2 h.3 h.4 h.6 h.7 in
+    let gr = h.graph in let dense = h.dense in let t = h.lists in let s = last_state h.first h.states in let st = h.stands in
+    let end = at_the_end h.graph h.dense h.aggressive h.first h.states h.laws h.run in
     let links = c.deref-6.result.now in let nv = c.deref-7.result.now in let f_size = c.deref-8.result.now in
     let a = (elements gr dense w t s st end c.deref.result.now c.deref-2.result.now c.deref-3.result.now c.deref-4.result.now
     c.deref-5.result.now c.in_ok-nv.nv.items c.in_ok-f_size.f_size.items links nv f_size
@@ -126,10 +126,10 @@ postorder-requires-clause-forest g c =
 -- src/blocks.rt:228:18
 pub postorder-requires-clause-numbers : goal.postorder-requires-clause-numbers
 postorder-requires-clause-numbers g c =
-    let st = c.requires.ended.8 in let w = c.args.work.now in
+    let st = c.requires.ended.stands in let w = c.args.work.now in
     let few : length c.deref-2.result.now * 8 < 2 ^ 64 = search rules in
-    let same : length c.deref-2.result.now ≡ c.requires.ended.0.size = ap length c.deref-2.ensures.value ∙ st.sized.block in
-    let size : c.len.result ≡ c.requires.ended.0.size = c.len.ensures ∙ w.size.ok.0 ∙ st.sized.size in
+    let same : length c.deref-2.result.now ≡ c.requires.ended.graph.size = ap length c.deref-2.ensures.value ∙ st.sized.block in
+    let size : c.len.result ≡ c.requires.ended.graph.size = c.len.ensures ∙ w.size.ok.0 ∙ st.sized.size in
     omega (arith, few, same, size)
 
 -- src/blocks.rt:228:18
@@ -146,8 +146,8 @@ returns-in_err-places-clause-refused g c = if_same_err c.from_residual-in_err-pl
 pub by_place-requires : goal.by_place-requires
 by_place-requires g c =
     let h = c.requires.ended in let w = c.args.work.now in
-    let gr = h.0 in let dense = h.1 in let t = h.5 in let s = last_state h.3 h.4 in let st = h.8 in
-    let end = at_the_end h.0 h.1 h.2 h.3 h.4 h.6 h.7 in
+    let gr = h.graph in let dense = h.dense in let t = h.lists in let s = last_state h.first h.states in let st = h.stands in
+    let end = at_the_end h.graph h.dense h.aggressive h.first h.states h.laws h.run in
     let links = c.deref-6.result.now in let nv = c.deref-7.result.now in let f_size = c.deref-8.result.now in
     let a = (elements gr dense w t s st end c.deref.result.now c.deref-2.result.now c.deref-3.result.now c.deref-4.result.now
     c.deref-5.result.now c.in_ok-nv.nv.items c.in_ok-f_size.f_size.items links nv f_size
@@ -187,8 +187,8 @@ returns-in_err-elements-clause-refused g c = if_err c.from_residual-in_err-eleme
 pub rows_in_order-requires : goal.rows_in_order-requires
 rows_in_order-requires g c =
     let h = c.requires.ended in let w = c.args.work.now in
-    let gr = h.0 in let dense = h.1 in let t = h.5 in let s = last_state h.3 h.4 in let st = h.8 in
-    let end = at_the_end h.0 h.1 h.2 h.3 h.4 h.6 h.7 in
+    let gr = h.graph in let dense = h.dense in let t = h.lists in let s = last_state h.first h.states in let st = h.stands in
+    let end = at_the_end h.graph h.dense h.aggressive h.first h.states h.laws h.run in
     let links = c.deref-6.result.now in let nv = c.deref-7.result.now in let f_size = c.deref-8.result.now in
     let a = (elements gr dense w t s st end c.deref.result.now c.deref-2.result.now c.deref-3.result.now c.deref-4.result.now
     c.deref-5.result.now c.in_ok-nv.nv.items c.in_ok-f_size.f_size.items links nv f_size
@@ -224,7 +224,7 @@ returns-in_err-p-clause-refused g c = if_err c.from_residual-in_err-p.result (λ
 -- src/blocks.rt:232:5
 pub add_last-requires : goal.add_last-requires
 add_last-requires g c =
-    let st = c.requires.ended.8 in
+    let st = c.requires.ended.stands in
     let link : c.deref-12.result.now ≡ c.rows_of_elements.new.link.items = c.deref-12.ensures.value in
     let block : c.deref-13.result.now ≡ c.args.work.now.block.items = c.deref-13.ensures.value in
     record { lengths = ap length block ∙ st.sized.block ∙ sym (ap length link ∙ c.in_ok-rows.ensures.links ∙ st.sized.link) }

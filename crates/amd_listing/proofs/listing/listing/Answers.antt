@@ -1,25 +1,24 @@
 -- the goals of listing::listing: the elements that the postorder lists are those of each end that the lists may tell.
-use Rattle.std.proofs.Common.{ℕ, ℤ, List, ◌≡◌, ◌∙◌, sym, subst, length, map, pos}
-use Rattle.amd_model.specs.Run.{last_state}
+use Rattle.std.proofs.Common.{ℤ, List, ◌∙◌, sym, subst, length}
 use Rattle.amd_model.specs.Listing.{IsPostorder}
 use Rattle.amd_trees.specs.Trees.{tree_of}
 use Rattle.amd_trees.specs.FigureLinks.{figure_links}
 use Rattle.amd_listing.specs.Blocks.{listing_of}
 use Rattle.amd_numbers.proofs.SignedCounts.{same_counts}
-use Rattle.amd_listing.proofs.EndedListing.{forest_told, links_told, none_live, blocks_told}
+use Rattle.amd_listing.proofs.EndedListing.{last, forest_told, links_told, none_live, blocks_told}
 use Rattle.amd_listing.proofs.listing.listing.Goals as goal
 
 pub postorder_in-requires-clause-forest : goal.postorder_in-requires-clause-forest
 postorder_in-requires-clause-forest g c =
     let h = c.requires.ended in
-    forest_told c.args.link.now c.args.nv.now c.args.f_size.now h.0 h.1 h.2 h.3 h.4 h.5 h.6 h.7
+    forest_told c.args.link.now c.args.nv.now c.args.f_size.now h
 
 pub by_place-count-requires-clause-listed : goal.by_place-count-requires-clause-listed
 by_place-count-requires-clause-listed g c =
     let h = c.requires.ended in let link : List ℤ = c.args.link.now in let nv : List ℤ = c.args.nv.now in
     let f_size : List ℤ = c.args.f_size.now in let order : List ℤ = figure_links g.U.Unsigned.MOST c.postorder_in.new.order in
     let o = c.postorder_in.ensures.postorder in
-    let blocks = blocks_told link nv f_size h.0 h.1 h.2 h.3 h.4 h.5 h.6 h.7 order o in
+    let blocks = blocks_told link nv f_size h order o in
     (tree_of (length nv) link nv f_size, o, blocks.inside)
 
 pub block_starts-end-requires-clause-blocks : goal.block_starts-end-requires-clause-blocks
@@ -27,8 +26,8 @@ block_starts-end-requires-clause-blocks g c =
     let h = c.requires.ended in let link : List ℤ = c.args.link.now in let nv : List ℤ = c.args.nv.now in
     let f_size : List ℤ = c.args.f_size.now in let order : List ℤ = figure_links g.U.Unsigned.MOST c.postorder_in.new.order in
     let o = c.postorder_in.ensures.postorder in
-    let blocks = blocks_told link nv f_size h.0 h.1 h.2 h.3 h.4 h.5 h.6 h.7 order o in (
-      (last_state h.3 h.4).home,
+    let blocks = blocks_told link nv f_size h order o in (
+      (last link nv f_size h).home,
       o.listing,
       blocks.elements,
       c.by_place-count.ensures.elements (tree_of (length nv) link nv f_size) o blocks.inside,
@@ -39,15 +38,15 @@ place_rows-requires-clause-blocks g c =
     let h = c.requires.ended in let link : List ℤ = c.args.link.now in let nv : List ℤ = c.args.nv.now in
     let f_size : List ℤ = c.args.f_size.now in let order : List ℤ = figure_links g.U.Unsigned.MOST c.postorder_in.new.order in
     let o = c.postorder_in.ensures.postorder in
-    let blocks = blocks_told link nv f_size h.0 h.1 h.2 h.3 h.4 h.5 h.6 h.7 order o in
-    let home = (last_state h.3 h.4).home in
+    let blocks = blocks_told link nv f_size h order o in
+    let home = (last link nv f_size h).home in
     let begin = c.by_place-count.ensures.elements (tree_of (length nv) link nv f_size) o blocks.inside in (
       home,
       o.listing,
-      links_told link nv f_size h.0 h.1 h.2 h.3 h.4 h.5 h.6 h.7,
+      links_told link nv f_size h,
       blocks.elements,
       c.block_starts-end.ensures home o.listing blocks.elements begin,
-      none_live link nv f_size h.0 h.1 h.2 h.3 h.4 h.5 h.6 h.7,
+      none_live link nv f_size h,
     )
 
 pub returns-clause-lists : goal.returns-clause-lists
@@ -55,19 +54,18 @@ returns-clause-lists g c =
     let h = c.requires.ended in let link : List ℤ = c.args.link.now in let nv : List ℤ = c.args.nv.now in
     let f_size : List ℤ = c.args.f_size.now in let order : List ℤ = figure_links g.U.Unsigned.MOST c.postorder_in.new.order in
     let o = c.postorder_in.ensures.postorder in
-    let blocks = blocks_told link nv f_size h.0 h.1 h.2 h.3 h.4 h.5 h.6 h.7 order o in
-    let home = (last_state h.3 h.4).home in
+    let blocks = blocks_told link nv f_size h order o in
+    let home = (last link nv f_size h).home in
     let begin = c.by_place-count.ensures.elements (tree_of (length nv) link nv f_size) o blocks.inside in
-    let is = c.place_rows.ensures.rows home o.listing (links_told link nv f_size h.0 h.1 h.2 h.3 h.4 h.5 h.6 h.7) blocks.elements
-    (c.block_starts-end.ensures home o.listing blocks.elements begin) (none_live link nv f_size h.0 h.1 h.2 h.3 h.4 h.5 h.6 h.7) in (
+    let is = c.place_rows.ensures.rows home o.listing (links_told link nv f_size h) blocks.elements
+    (c.block_starts-end.ensures home o.listing blocks.elements begin) (none_live link nv f_size h) in (
       listing_of (length nv) home o.listing,
       is,
-      λ graph dense aggressive first states laws run ended. (
-          let more = blocks_told link nv f_size graph dense aggressive first states laws run ended order o in
-          let there = (last_state first states).home in
-          let too = c.place_rows.ensures.rows there o.listing (links_told link nv f_size graph dense aggressive first states laws run ended)
-          more.elements (c.block_starts-end.ensures there o.listing more.elements begin)
-          (none_live link nv f_size graph dense aggressive first states laws run ended) in
-          subst (IsPostorder graph dense (last_state first states))
+      λ r. (
+          let more = blocks_told link nv f_size r order o in
+          let there = (last link nv f_size r).home in
+          let too = c.place_rows.ensures.rows there o.listing (links_told link nv f_size r) more.elements
+          (c.block_starts-end.ensures there o.listing more.elements begin) (none_live link nv f_size r) in
+          subst (IsPostorder r.graph r.dense (last link nv f_size r))
           (same_counts (listing_of (length nv) there o.listing) (listing_of (length nv) home o.listing) (sym too ∙ is)) more.listed),
     )
