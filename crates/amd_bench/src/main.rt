@@ -1,19 +1,23 @@
 //! Times `order` on a matrix file: `amd_bench FILE i32|i64|isize REPEATS`. A file whose name ends in `.mtx` is a text of
 //! the Matrix Market, and any other one has the binary format of `amd_cases`. With a fourth word, `columns` or
-//! `analyze`, it times that call of `amd_symbolic`, `columns` under the order that `order` gives.
+//! `analyze`, it times that call of `amd_symbolic`, `columns` under the order that `order` gives; with `stages` it times
+//! the stages of a call of `order`.
 //!
 //! It prints one line: the type of numbers, the name of the file, the figures of the ordering and a hash of the
 //! permutation, or the number of the factor's entries and a hash of them, and the least and the median time of a call
-//! in nanoseconds. Reading the file is not timed. With other arguments it says on standard error how it is called, and
+//! in nanoseconds. For `stages` it prints a line for each stage, and one for a whole call, with the hash of the
+//! permutation. Reading the file is not timed. With other arguments it says on standard error how it is called, and
 //! ends with status 2. Where the file cannot be read or holds no matrix, and where memory is refused, a message names
 //! the file, and the status is 1.
 #![tactic(auto)]
 
 mod factors;
 mod reading;
+mod stages;
 
 use crate::factors::{Factored, analyze_often, columns_often};
 use crate::reading::read_file;
+use crate::stages::{Staged, stages_often};
 use amd::{Control, Info, Status, order};
 use amd_cases::matrix::Matrix;
 use anyhow::{Context, Result, bail};
@@ -115,6 +119,39 @@ fn print_factored<R: Runtime>(
     print_times(rt, factored.times)
 }
 
+/// The times of a stage in each of some calls, which have their stages in one order.
+fn times_of<R: Runtime + Alloc<A = Global>>(
+    rt: &R,
+    calls: &[Vec<(&'static str, Duration)>],
+    stage: usize,
+) -> Result<Vec<Duration>> {
+    let mut times = Vec::with_capacity(rt.alloc(), calls.len())?;
+    'calls: for call in calls {
+        let (_, time) = call.get(stage).context("no such stage")?;
+        times.push(*time)?;
+    }
+    Ok(times)
+}
+
+/// Prints a line with the times of each stage; that of the whole call, the last one, has the hash of the permutation.
+fn print_staged<R: Runtime + Alloc<A = Global>, I: PrimInt>(
+    rt: &R,
+    kind: &str,
+    name: &str,
+    staged: &Staged<I>,
+) -> Result<()> {
+    let hash = hash_of(&staged.p)?;
+    let stages = staged.calls.first().context("no repeats")?;
+    'stages: for (place, (stage, _)) in stages.iter().enumerate() {
+        print!(rt; "rattle {kind} {name} {stage}")?;
+        if *stage == "whole" {
+            print!(rt; " phash={hash:016x}")?;
+        }
+        print_times(rt, times_of(rt, &staged.calls, place)?)?;
+    }
+    Ok(())
+}
+
 /// What the words of a command line ask for: a file, a type of numbers, a call, and how often.
 #[derive(Clone, Copy)]
 struct Request<'a> {
@@ -134,7 +171,7 @@ fn request_of(words: &[String]) -> Option<Request<'_>> {
     };
     let repeats: usize = repeats.parse().ok()?;
     let is_kind = matches!(kind, "i32" | "i64" | "isize");
-    let is_call = matches!(call, "order" | "columns" | "analyze");
+    let is_call = matches!(call, "order" | "columns" | "analyze" | "stages");
     if !is_kind || !is_call || repeats == 0 {
         return None;
     }
@@ -163,6 +200,10 @@ fn time_file<R: Runtime + Alloc<A = Global>, I: PrimInt>(
             let factored = analyze_often(rt, &matrix, repeats)?;
             print_factored(rt, kind, name, "analyze", factored)
         }
+        "stages" => {
+            let staged = stages_often(rt, &matrix, repeats)?;
+            print_staged(rt, kind, name, &staged)
+        }
         _ => {
             let outcome = order_often(rt, &matrix, repeats)?;
             print_outcome(rt, kind, name, outcome)
@@ -182,7 +223,9 @@ fn answer<R: Runtime + Alloc<A = Global>>(rt: &R, request: &Request<'_>) -> Resu
 fn main(rt: HostRuntime) -> Result<ExitCode> {
     let words: Vec<String> = env::args(&rt)?.collect(rt.alloc())?;
     let Some(request) = request_of(&words) else {
-        eprintln!(rt; "usage: amd_bench FILE i32|i64|isize REPEATS [order|columns|analyze]")?;
+        eprintln!(rt;
+            "usage: amd_bench FILE i32|i64|isize REPEATS [order|columns|analyze|stages]"
+        )?;
         return Ok(ExitCode::from(2));
     };
     answer(&rt, &request).context(request.path)?;

@@ -1,0 +1,217 @@
+// Times the stages of a call of `order`, each from one reading of the clock to the next: `valid`, `preprocess` where the
+// columns are jumbled, `aat`, the laying of the workspace (`lay`), the other lists of the elimination (`lists`), its
+// rounds (`rounds`), and the listing of what they left (`listing`). Words are as wide as those of `order`. Called by
+// `main`.
+
+ghost use Rattle.std.specs.Prelude.{◌≡◌, ◌≢◌, ◌<◌, ◌≤◌, ◌+◌, ◌/◌, ◌^◌, pos, map, length};
+ghost use Rattle.std.specs.Option.{SomeIff};
+ghost use Rattle.amd_model.specs.Input.Columns.{IsColumnForm, IsInput, IsSorted, IsSortedInput};
+ghost use Rattle.amd_model.specs.Input.Pattern.{graph_of};
+ghost use Rattle.amd_edges.specs.Visits.{AreCounts, start_of};
+
+use amd::aat::aat;
+use amd::preprocess::preprocess;
+use amd::valid::valid;
+use amd::{Control, Info, Status};
+use amd_cases::matrix::Matrix;
+use amd_cells::{Signed, Unsigned};
+use amd_engine::amd_1::holds;
+use amd_engine::ended::list_rows;
+use amd_engine::fresh::{Lists, fresh_lists};
+use amd_engine::running::run_fresh;
+use amd_numbers::dense::dense_threshold;
+use amd_numbers::internal::{known_count, to_count};
+use amd_workspace::laying::{Laid, lay};
+use anyhow::{Context, Result, bail};
+use num_traits::PrimInt;
+use std::alloc::Global;
+use std::rt::Runtime;
+use std::time::{Duration, Instant};
+
+/// A stage, and how long it took.
+pub type Span = (&'static str, Duration);
+
+/// The clock of a call.
+#[derive(Drop)]
+struct Clock {
+    /// When the call began.
+    first: Instant,
+    /// When the last stage ended.
+    last: Instant,
+    /// The stages so far.
+    spans: Vec<Span>,
+}
+
+impl Clock {
+    /// A clock that starts.
+    fn start<R: Runtime + Alloc<A = Global>>(rt: &R) -> Result<Clock> {
+        let spans = Vec::with_capacity(rt.alloc(), 8)?;
+        let now = Instant::now(rt)?;
+        Ok(Clock {
+            first: now,
+            last: now,
+            spans,
+        })
+    }
+
+    /// Ends a stage.
+    fn end<R: Runtime>(&mut self, rt: &R, stage: &'static str) -> Result<()> {
+        let now = Instant::now(rt)?;
+        self.spans.push((stage, now.duration_since(self.last)))?;
+        self.last = now;
+        Ok(())
+    }
+
+    /// The stages of a call that is over, and then the whole call.
+    fn spans(self) -> Result<Vec<Span>> {
+        let mut spans = self.spans;
+        spans.push(("whole", self.last.duration_since(self.first)))?;
+        Ok(spans)
+    }
+}
+
+/// What the calls answered, which is the same each time, and the stages of each call.
+#[derive(Drop)]
+pub struct Staged<I: PrimInt> {
+    pub p: Vec<I>,
+    pub calls: Vec<Vec<Span>>,
+}
+
+/// The words of a workspace for lists of `nzaat` entries in all: as many as `order` asks for.
+fn workspace_words(nzaat: usize, n: usize) -> Option<usize>
+    ensures { SomeIff result (nzaat + nzaat / 5 + n < 2 ^ 63) (nzaat + nzaat / 5 + n) }
+{
+    let words = nzaat.checked_add(nzaat / 5)?.checked_add(n)?;
+    if words < 1 << 63 { Some(words) } else { None }
+}
+
+/// Lays the lists of rows of known degrees, eliminates and lists, in words of these widths.
+fn time_elimination<R: Runtime + Alloc<A = Global>, I: PrimInt, S: Signed, U: Unsigned>(
+    rt: &R,
+    clock: &mut Clock,
+    n: I,
+    a_p: &[I],
+    a_i: &[I],
+    degrees: &[usize],
+    room: usize,
+) -> Result<Vec<I>>
+    requires fits { I.fits (I.value n) }
+    requires size { I.value n ≡ pos (length degrees.now) }
+    requires some { 0 < length degrees.now }
+    requires form { IsColumnForm (pos (length degrees.now)) (length degrees.now) (map I.value a_p.now)
+        (map I.value a_i.now) }
+    requires sorted { IsSorted (length degrees.now) (map I.value a_p.now) (map I.value a_i.now) }
+    requires degrees { AreCounts (graph_of (length degrees.now) (map I.value a_p.now) (map I.value a_i.now))
+        ((graph_of (length degrees.now) (map I.value a_p.now) (map I.value a_i.now)).edge) degrees.now }
+    requires room { start_of (graph_of (length degrees.now) (map I.value a_p.now) (map I.value a_i.now))
+        (length degrees.now) + length degrees.now ≤ room }
+    requires narrow { (length degrees.now + 2 ≤ S.MOST) × (length degrees.now + 2 ≤ U.MOST) × (room ≤ S.MOST) ×
+        (room ≤ U.MOST) }
+{
+    let control = Control::default();
+    let size = degrees.len();
+    let mut laid: Laid<S, U, Global> = lay(rt.alloc(), size, a_p, a_i, degrees, room)?;
+    clock.end(rt, "lay")?;
+    let threshold = dense_threshold(size, &control);
+    let Lists {
+        mut counts,
+        mut links,
+        mut p,
+        mut p_inv,
+    } = fresh_lists(rt.alloc(), size)?;
+    clock.end(rt, "lists")?;
+    run_fresh(
+        &mut laid.iw,
+        &mut laid.pe,
+        &mut laid.len,
+        &mut counts,
+        &mut links,
+        laid.free,
+        2,
+        &control,
+        None,
+        threshold,
+    );
+    clock.end(rt, "rounds")?;
+    list_rows(&mut laid.pe, &mut counts, &mut links, &mut p, &mut p_inv);
+    clock.end(rt, "listing")?;
+    Ok(p)
+}
+
+/// Orders a matrix whose columns are sorted.
+fn time_sorted<R: Runtime + Alloc<A = Global>, I: PrimInt>(
+    rt: &R,
+    clock: &mut Clock,
+    n: I,
+    a_p: &[I],
+    a_i: &[I],
+) -> Result<Vec<I>>
+    requires fits { I.fits (I.value n) }
+    requires some { I.value n ≢ pos 0 }
+    requires form { IsInput (I.value n) (I.value n) (map I.value a_p.now) (map I.value a_i.now) }
+    requires sorted { IsSortedInput (I.value n) (map I.value a_p.now) (map I.value a_i.now) }
+{
+    let count = known_count(n);
+    let mut info = Info::new(count);
+    let Ok((nzaat, degrees)) = aat(rt.alloc(), n, a_p, a_i, &mut info) else {
+        bail!("out of memory");
+    };
+    clock.end(rt, "aat")?;
+    let Some(room) = workspace_words(nzaat, count) else {
+        bail!("out of memory");
+    };
+    if holds::<i32, u32>(count, room, 2) {
+        return time_elimination::<R, I, i32, u32>(rt, clock, n, a_p, a_i, &degrees, room);
+    }
+    if holds::<isize, usize>(count, room, 2) {
+        return time_elimination::<R, I, isize, usize>(rt, clock, n, a_p, a_i, &degrees, room);
+    }
+    bail!("out of memory")
+}
+
+/// Orders a matrix by the default control.
+fn time_call<R: Runtime + Alloc<A = Global>, I: PrimInt>(
+    rt: &R,
+    clock: &mut Clock,
+    matrix: &Matrix<I, Global>,
+) -> Result<Vec<I>>
+    requires { I.fits (I.value matrix.now.n) }
+{
+    let n = matrix.n;
+    if to_count(n) == Some(0) {
+        return Ok(Vec::new(rt.alloc()));
+    }
+    let status = valid(n, n, &matrix.a_p, &matrix.a_i);
+    clock.end(rt, "valid")?;
+    match status {
+        Status::OK => time_sorted(rt, clock, n, &matrix.a_p, &matrix.a_i),
+        Status::OkButJumbled => {
+            let transpose = preprocess(rt.alloc(), n, &matrix.a_p, &matrix.a_i);
+            let Ok((c_p, c_i)) = transpose else {
+                bail!("out of memory");
+            };
+            clock.end(rt, "preprocess")?;
+            time_sorted(rt, clock, n, &c_p, &c_i)
+        }
+        _ => bail!("the file holds no column form"),
+    }
+}
+
+/// Orders a matrix by the default control some times.
+pub fn stages_often<R: Runtime + Alloc<A = Global>, I: PrimInt>(
+    rt: &R,
+    matrix: &Matrix<I, Global>,
+    repeats: usize,
+) -> Result<Staged<I>>
+    requires { I.fits (I.value matrix.now.n) }
+{
+    let mut calls = Vec::new(rt.alloc());
+    let mut last = None;
+    'repeats: for _ in 0..repeats {
+        let mut clock = Clock::start(rt)?;
+        last = Some(time_call(rt, &mut clock, matrix)?);
+        calls.push(clock.spans()?)?;
+    }
+    let p = last.context("no repeats")?;
+    Ok(Staged { p, calls })
+}
