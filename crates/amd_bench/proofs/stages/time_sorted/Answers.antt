@@ -147,7 +147,8 @@ time_elimination-requires-then-holds-2-clause-some g c =
     let numbers : List ℕ = c.in-Ok.degrees.items in
     let same : c.deref-then-holds-2.result.now ≡ numbers = c.deref-then-holds-2.ensures.value in
     let size = ap length same ∙ c.in-Ok.ensures.degrees.size in
-    some_of (value c.args.n) (length c.deref-then-holds-2.result.now) (size_of (value c.args.n) a_p a_i c.deref-then-holds-2.result.now c.requires.form size)
+    some_of (value c.args.n) (length c.deref-then-holds-2.result.now)
+    (size_of (value c.args.n) a_p a_i c.deref-then-holds-2.result.now c.requires.form size)
     c.requires.some
 
 pub time_elimination-requires-then-holds-2-clause-form : goal.time_elimination-requires-then-holds-2-clause-form
