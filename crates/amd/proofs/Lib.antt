@@ -1,3 +1,4 @@
 pub mod SamePairs
 pub mod Orderings
 pub mod OneAnswer
+pub mod Ready

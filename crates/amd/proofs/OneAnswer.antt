@@ -1,15 +1,14 @@
 -- The contract of an ordering has one answer for each input.
-use Rattle.std.proofs.Common.{ℕ, ℤ, List, zero, suc, pos, negsuc, ◌≡◌, ◌≢◌, map, Bool, true, false, refl, sym, ◌∙◌, ap, subst, arith}
+use Rattle.std.proofs.Common.{ℕ, ℤ, List, zero, suc, pos, negsuc, ◌≡◌, ◌≢◌, map, Bool, true, false, refl, sym, ◌∙◌, ap, subst}
 use Rattle.std.specs.Prelude.{unsigned_abs, ◌||◌, Option, None, Some, slice_index_or}
 use Rattle.std.specs.Int.Signed.{clash_ℤ}
-use Rattle.std.proofs.lemmas.List.{ext_get_or}
 use Rattle.amd_model.specs.Graph.{Graph}
 use Rattle.amd_model.specs.State.{State}
 use Rattle.amd_model.specs.Run.{last_state}
 use Rattle.amd_model.specs.Figures.{cut, entries, ldl_steps, lu_steps}
 use Rattle.amd_model.specs.Ordering.{IsListingOf, SameTree}
 use Rattle.amd_model.specs.Quotient.{starting_list}
-use Rattle.amd_model.specs.Input.Columns.{at, IsSortedInput, IsJumbledInput}
+use Rattle.amd_model.specs.Input.Columns.{IsSortedInput, IsJumbledInput}
 use Rattle.amd_model.specs.Input.Pattern.{graph_of, SamePattern}
 use Rattle.amd_model.specs.Input.Dense.{is_dense}
 use Rattle.amd_model.specs.Input.Held.{is_held_last}

@@ -1,8 +1,9 @@
 -- The end of the engine in place: the lists that are left tell the last state of a run, and their listing is an answer.
-use Rattle.std.proofs.Common.{ℕ, ℤ, pos, negsuc, Bool, List, Option, ◌≡◌, ◌≤◌, ◌<◌, ◌∙◌, ap, sym, subst, inl, inr, arith, length, map}
+use Rattle.std.proofs.Common.{ℕ, ℤ, pos, negsuc, Bool, List, Option, ◌≡◌, ◌≤◌, ◌<◌, ◌∙◌, ◌++◌, ap, sym, subst, inl, inr, arith, length, map}
+use Rattle.std.proofs.Common.{take, drop}
 use Rattle.std.specs.Prelude.{replicate}
 use Rattle.std.proofs.lemmas.Bool.{cases_Bool, cond-true, cond-false}
-use Rattle.std.proofs.lemmas.List.{get_or-replicate}
+use Rattle.std.proofs.lemmas.List.{get_or-replicate, take_at}
 use Rattle.amd_model.specs.Below.{count_below}
 use Rattle.amd_model.specs.Graph.{Graph, degree}
 use Rattle.amd_model.specs.State.{State, is_element, in_block}
@@ -143,6 +144,13 @@ pub lays_same : (g : Graph) (lists : ℕ → List ℕ) (iw iw1 pe pe1 : List ℤ
     pe ≡ pe1 → len ≡ len1 → LaysGraph g lists iw1 pe1 len1
 lays_same g lists iw iw1 pe pe1 len len1 lays b d e = subst (λ xs. LaysGraph g lists xs pe1 len1) b
     (subst (λ xs. LaysGraph g lists iw xs len1) d (subst (λ xs. LaysGraph g lists iw pe xs) e lays))
+
+-- a list that a call wrote, lent again, is what the call left
+pub written : {A : Type 0} {lent : List A} {n : ℕ} (new items : List A) (len : ℕ) → len ≡ length items → length items ≡ n → length new ≡ n →
+    lent ≡ take len (new ++ drop (length new) items) → (lent ≡ new) × (length lent ≡ n)
+written new items len is long same value =
+    let whole = value ∙ take_at new (drop (length new) items) len (same ∙ sym (is ∙ long)) in
+    (whole, ap length whole ∙ same)
 
 -- ---- the start
 

@@ -1,11 +1,10 @@
-use Rattle.std.proofs.Common.{arith, ℕ, ℤ, List, map, pos, length, ap, sym, subst, drop, ◌≡◌, ◌∙◌, ◌<◌}
+use Rattle.std.proofs.Common.{arith, ℕ, ℤ, List, map, pos, length, ap, sym, subst, refl, ◌≡◌, ◌∙◌, ◌<◌}
 use Rattle.std.specs.Prelude.{◌≤ℤ◌}
 use Rattle.std.proofs.lemmas.Int.{ints}
-use Rattle.std.proofs.lemmas.List.{take_at}
 use Rattle.amd_model.specs.Quotient.{starting_list}
 use Rattle.amd_model.specs.Input.Pattern.{graph_of, is_pair}
 use Rattle.amd_engine.specs.InPlace.{AreFresh, AreOver}
-use Rattle.amd_engine.proofs.EndingLaw.{laid_same, lays_same, lays_pattern}
+use Rattle.amd_engine.proofs.EndingLaw.{laid_same, lays_same, lays_pattern, written}
 use Rattle.amd_bench.proofs.stages.time_elimination.Goals as goal
 
 -- fresh lists for as many rows
@@ -92,15 +91,14 @@ list_rows-requires-clause-over g c =
     ap length c.deref_mut-3.ensures.value ∙ ap length c.in_ok-laid.ensures.degrees in
     let over = c.run_fresh.ensures.over in
     let pe = c.in_ok-laid.laid.pe in
-    let same : c.deref_mut-4.result.now ≡ c.run_fresh.new.pe = c.deref_mut-4.ensures.value
-    ∙ take_at c.run_fresh.new.pe (drop (length c.run_fresh.new.pe) pe.items) pe.len
-    (c.run_fresh.auto.pe ∙ ap length c.deref_mut-2.ensures.value ∙ sym pe.ok.0) in
-    let rows : length c.deref_mut-4.result.now ≡ length c.deref_mut-3.result.now = ap length same ∙ over.words.0 in
+    let left = written c.run_fresh.new.pe pe.items pe.len pe.ok.0 refl (c.run_fresh.auto.pe ∙ ap length c.deref_mut-2.ensures.value)
+    c.deref_mut-4.ensures.value in
+    let rows : length c.deref_mut-4.result.now ≡ length c.deref_mut-3.result.now = ap length left.0 ∙ over.words.0 in
     let counts = c.run_fresh.new.counts in
     let links = c.run_fresh.new.links in
     over_same (length c.deref_mut-3.result.now) (length c.deref_mut-4.result.now) c.run_fresh.new.pe c.deref_mut-4.result.now
     counts.e_len.items counts.nv.items counts.degree.items links.head.items links.next.items links.last.items links.hash.items over
-    (sym rows) (sym same)
+    (sym rows) (sym left.0)
 
 pub list_rows-requires-clause-rows : goal.list_rows-requires-clause-rows
 list_rows-requires-clause-rows g c =
@@ -108,10 +106,9 @@ list_rows-requires-clause-rows g c =
     ap length c.deref_mut-3.ensures.value ∙ ap length c.in_ok-laid.ensures.degrees in
     let over = c.run_fresh.ensures.over in
     let pe = c.in_ok-laid.laid.pe in
-    let same : c.deref_mut-4.result.now ≡ c.run_fresh.new.pe = c.deref_mut-4.ensures.value
-    ∙ take_at c.run_fresh.new.pe (drop (length c.run_fresh.new.pe) pe.items) pe.len
-    (c.run_fresh.auto.pe ∙ ap length c.deref_mut-2.ensures.value ∙ sym pe.ok.0) in
-    let rows : length c.deref_mut-4.result.now ≡ length c.deref_mut-3.result.now = ap length same ∙ over.words.0 in
+    let left = written c.run_fresh.new.pe pe.items pe.len pe.ok.0 refl (c.run_fresh.auto.pe ∙ ap length c.deref_mut-2.ensures.value)
+    c.deref_mut-4.ensures.value in
+    let rows : length c.deref_mut-4.result.now ≡ length c.deref_mut-3.result.now = ap length left.0 ∙ over.words.0 in
     let some = c.in_ok-counts.ensures.rows in
     (ap length c.deref_mut-5.ensures.value ∙ some.0 ∙ sym (rows ∙ size), ap length c.deref_mut-6.ensures.value ∙ some.1 ∙ sym (rows ∙ size))
 
@@ -121,10 +118,9 @@ list_rows-requires-clause-narrow g c =
     ap length c.deref_mut-3.ensures.value ∙ ap length c.in_ok-laid.ensures.degrees in
     let over = c.run_fresh.ensures.over in
     let pe = c.in_ok-laid.laid.pe in
-    let same : c.deref_mut-4.result.now ≡ c.run_fresh.new.pe = c.deref_mut-4.ensures.value
-    ∙ take_at c.run_fresh.new.pe (drop (length c.run_fresh.new.pe) pe.items) pe.len
-    (c.run_fresh.auto.pe ∙ ap length c.deref_mut-2.ensures.value ∙ sym pe.ok.0) in
-    let rows : length c.deref_mut-4.result.now ≡ length c.deref_mut-3.result.now = ap length same ∙ over.words.0 in
+    let left = written c.run_fresh.new.pe pe.items pe.len pe.ok.0 refl (c.run_fresh.auto.pe ∙ ap length c.deref_mut-2.ensures.value)
+    c.deref_mut-4.ensures.value in
+    let rows : length c.deref_mut-4.result.now ≡ length c.deref_mut-3.result.now = ap length left.0 ∙ over.words.0 in
     let n = c.requires.narrow in let s = n.0 in let u = n.1 in (omega (arith, rows, size, s), omega (arith, rows, size, u))
 
 pub list_rows-requires-clause-fits : goal.list_rows-requires-clause-fits
@@ -133,10 +129,9 @@ list_rows-requires-clause-fits g c = λ k l.
     ap length c.deref_mut-3.ensures.value ∙ ap length c.in_ok-laid.ensures.degrees in
     let over = c.run_fresh.ensures.over in
     let pe = c.in_ok-laid.laid.pe in
-    let same : c.deref_mut-4.result.now ≡ c.run_fresh.new.pe = c.deref_mut-4.ensures.value
-    ∙ take_at c.run_fresh.new.pe (drop (length c.run_fresh.new.pe) pe.items) pe.len
-    (c.run_fresh.auto.pe ∙ ap length c.deref_mut-2.ensures.value ∙ sym pe.ok.0) in
-    let rows : length c.deref_mut-4.result.now ≡ length c.deref_mut-3.result.now = ap length same ∙ over.words.0 in
+    let left = written c.run_fresh.new.pe pe.items pe.len pe.ok.0 refl (c.run_fresh.auto.pe ∙ ap length c.deref_mut-2.ensures.value)
+    c.deref_mut-4.ensures.value in
+    let rows : length c.deref_mut-4.result.now ≡ length c.deref_mut-3.result.now = ap length left.0 ∙ over.words.0 in
     let small : k < length c.args.degrees.now = omega (arith, l, rows, size) in
     let count = c.requires.size in
     let low : pos 0 ≤ℤ pos k = omega (arith, ints) in

@@ -1,15 +1,7 @@
-use Rattle.std.proofs.Common.{arith, ℕ, List, map, length, ap, sym, subst, take, drop, ◌≡◌, ◌∙◌, ◌<◌, ◌++◌}
-use Rattle.std.proofs.lemmas.List.{take_at}
+use Rattle.std.proofs.Common.{arith, ℕ, map, length, ap, sym, subst, ◌≡◌, ◌∙◌, ◌<◌}
 use Rattle.amd_numbers.specs.Permutations.{AreInverse}
-use Rattle.amd_engine.proofs.EndingLaw.{ends_same}
+use Rattle.amd_engine.proofs.EndingLaw.{ends_same, written}
 use Rattle.amd_engine.proofs.ended.list_rows.Goals as goal
-
--- a list that a call wrote, lent again, is what the call left
-written : {A : Type 0} {lent : List A} {n : ℕ} (new items : List A) (len : ℕ) → len ≡ length items → length items ≡ n → length new ≡ n →
-    lent ≡ take len (new ++ drop (length new) items) → (lent ≡ new) × (length lent ≡ n)
-written new items len is long same value =
-    let whole = value ∙ take_at new (drop (length new) items) len (same ∙ sym (is ∙ long)) in
-    (whole, ap length whole ∙ same)
 
 pub end_rows-requires-clause-lengths : goal.end_rows-requires-clause-lengths
 end_rows-requires-clause-lengths g c =
