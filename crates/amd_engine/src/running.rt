@@ -1,13 +1,12 @@
 // The run of the engine in place: its start, and its rounds until no row is live. It asks for no memory. Source:
 // Amestoy, Davis and Duff 1996 and 2004. Called by `amd_2`.
 
-ghost use Rattle.std.specs.Prelude.{◌≡◌, ◌<◌, ◌≤◌, ◌+◌, ℕ, Bool, List, length};
+ghost use Rattle.std.specs.Prelude.{◌≡◌, ◌≤◌, ◌+◌, ℕ, Bool, List, length};
 ghost use Rattle.std.specs.Option.{option_copied};
 ghost use Rattle.amd_model.specs.Graph.{Graph};
 ghost use Rattle.amd_model.specs.Input.Held.{HasMarks};
 ghost use Rattle.amd_model.specs.State.{State};
 ghost use Rattle.amd_model.specs.Quotient.{QuotientGraph};
-ghost use Rattle.amd_places.specs.Words.{num};
 ghost use Rattle.amd_inplace.specs.Keeps.{Stands};
 ghost use Rattle.amd_workspace.specs.Laying.{IsLaidOut};
 ghost use Rattle.amd_engine.specs.InPlace.{AreFresh, AreOver, EndsIn, LaysGraph, RunsInPlace, at_start, first_sums};
@@ -109,7 +108,7 @@ fn run_rounds<S: Signed, U: Unsigned>(
 }
 
 /// Starts the elimination of a workspace that is laid, and eliminates until no row is live. The rows marked in `hold`
-/// and those of a degree above the threshold are held last.
+/// and those of a degree above the threshold are held last. The lists beside the workspace are fresh.
 pub fn run<S: Signed, U: Unsigned>(
     iw: &mut [Word<S>],
     pe: &mut [Word<S>],
@@ -128,15 +127,9 @@ pub fn run<S: Signed, U: Unsigned>(
     hold: Option<&[bool]>,
     threshold: usize,
 ) -> Told
-    requires words { (length pe.old ≡ length len.old) × (length e_len.old ≡ length len.old) ×
-        (length nv.old ≡ length len.old) }
-    requires figures { (length degree.old ≡ length len.old) × (length w.old ≡ length len.old) }
-    requires links { (length head.old ≡ length len.old) × (length next.old ≡ length len.old) ×
-        (length last.old ≡ length len.old) × (length hash.old ≡ length len.old) }
+    requires fresh { AreFresh (length len.old) e_len.old nv.old degree.old w.old head.old next.old last.old hash.old }
     requires narrow { (length iw.old ≤ S.MOST) × (length iw.old ≤ U.MOST) × (length len.old + 2 ≤ S.MOST) ×
         (length len.old + 2 ≤ U.MOST) }
-    requires heads { (b : ℕ) → b < length len.old → (length len.old ≤ num head.old b) ×
-        (length len.old ≤ num hash.old b) }
     requires marks { HasMarks (option_copied hold) (length len.old) }
     requires laid { IsLaidOut (length len.old) iw.old pe.old len.old free }
     requires room { free + length len.old ≤ length iw.old }

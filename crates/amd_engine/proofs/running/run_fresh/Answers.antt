@@ -2,32 +2,16 @@ use Rattle.std.proofs.Common.{ℕ, length, ap, sym, drop, ◌≡◌, ◌∙◌}
 use Rattle.std.specs.Option.{option_copied}
 use Rattle.std.specs.Prelude.{replicate}
 use Rattle.std.proofs.lemmas.List.{length-replicate, take_at}
-use Rattle.amd_engine.proofs.EndingLaw.{is_over, no_heads}
+use Rattle.amd_engine.proofs.EndingLaw.{is_over}
 use Rattle.amd_engine.proofs.running.run_fresh.Goals as goal
 
-pub run-requires-clause-words : goal.run-requires-clause-words
-run-requires-clause-words g c = (
-  c.requires.laid.starts_long,
-  ap length c.deref_mut.ensures.value ∙ c.requires.fresh.words.0,
-  ap length c.deref_mut-2.ensures.value ∙ c.requires.fresh.words.1,
-)
-
-pub run-requires-clause-figures : goal.run-requires-clause-figures
-run-requires-clause-figures g c = (
-  ap length c.deref_mut-3.ensures.value ∙ c.requires.fresh.figures.0,
-  ap length c.deref_mut-4.ensures.value ∙ c.requires.fresh.figures.1,
-)
-
-pub run-requires-clause-links : goal.run-requires-clause-links
-run-requires-clause-links g c =
-    let n : ℕ = length c.args.len.now in
-    let fresh = c.requires.fresh in
-    let none : length (replicate n n) ≡ n = length-replicate n n in (
-      ap length c.deref_mut-5.ensures.value ∙ ap length fresh.heads.0 ∙ none,
-      ap length c.deref_mut-6.ensures.value ∙ fresh.links.0,
-      ap length c.deref_mut-7.ensures.value ∙ fresh.links.1,
-      ap length c.deref_mut-8.ensures.value ∙ ap length fresh.heads.1 ∙ none,
-    )
+pub run-requires-clause-fresh : goal.run-requires-clause-fresh
+run-requires-clause-fresh g c = let fresh = c.requires.fresh in record {
+  words = (ap length c.deref_mut.ensures.value ∙ fresh.words.0, ap length c.deref_mut-2.ensures.value ∙ fresh.words.1);
+  figures = (ap length c.deref_mut-3.ensures.value ∙ fresh.figures.0, ap length c.deref_mut-4.ensures.value ∙ fresh.figures.1);
+  heads = (c.deref_mut-5.ensures.value ∙ fresh.heads.0, c.deref_mut-8.ensures.value ∙ fresh.heads.1);
+  links = (ap length c.deref_mut-6.ensures.value ∙ fresh.links.0, ap length c.deref_mut-7.ensures.value ∙ fresh.links.1);
+}
 
 pub run-requires-clause-narrow : goal.run-requires-clause-narrow
 run-requires-clause-narrow g c = c.requires.narrow
@@ -46,10 +30,6 @@ run-requires-clause-flag g c = c.requires.flag
 
 pub run-requires-clause-graph : goal.run-requires-clause-graph
 run-requires-clause-graph g c = c.requires.graph
-
-pub run-requires-clause-heads : goal.run-requires-clause-heads
-run-requires-clause-heads g c = no_heads (length c.args.len.now) c.deref_mut-5.result.now c.deref_mut-8.result.now
-    (c.deref_mut-5.ensures.value ∙ c.requires.fresh.heads.0) (c.deref_mut-8.ensures.value ∙ c.requires.fresh.heads.1)
 
 pub returns-clause-runs : goal.returns-clause-runs
 returns-clause-runs g c =
