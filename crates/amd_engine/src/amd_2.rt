@@ -10,7 +10,7 @@ ghost use Rattle.amd_workspace.specs.Laying.{IsLaidOut};
 ghost use Rattle.amd_engine.specs.InPlace.{AnswersInPlace, LaysGraph};
 
 use crate::ended::list_rows;
-use crate::fresh::{Lists, fresh_lists};
+use crate::fresh::fresh_lists;
 use crate::running::{Told, run_fresh};
 use amd_cells::{Figure, Signed, Unsigned, Word};
 use amd_numbers::amd::{Control, Info, Status};
@@ -69,27 +69,15 @@ pub fn amd_2_from<I: PrimInt, S: Signed, U: Unsigned, A: Allocator + Copy>(
     ensures refused { IfErr result (λ e. e ≡ Status.OutOfMemory) }
 {
     let threshold = dense_threshold(len.len(), control);
-    let Lists {
-        mut counts,
-        mut links,
-        mut p,
-        mut p_inv,
-    } = fresh_lists(alloc, len.len())?;
+    let mut lists = fresh_lists(alloc, len.len())?;
+    let (counts, links) = (&mut lists.counts, &mut lists.links);
     let told = run_fresh(
-        iw,
-        pe,
-        len,
-        &mut counts,
-        &mut links,
-        pfree,
-        flag,
-        control,
-        hold,
-        threshold,
+        iw, pe, len, counts, links, pfree, flag, control, hold, threshold,
     );
     tell(&told, info);
-    list_rows(pe, &mut counts, &mut links, &mut p, &mut p_inv);
-    Ok((counts.nv, p_inv, p, counts.e_len))
+    list_rows(pe, counts, links, &mut lists.p, &mut lists.p_inv);
+    let counts = lists.counts;
+    Ok((counts.nv, lists.p_inv, lists.p, counts.e_len))
 }
 
 /// Eliminates the rows of a workspace of `iwlen` words in which the lists of the neighbours are laid: that of row `i`

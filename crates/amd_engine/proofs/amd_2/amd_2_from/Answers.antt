@@ -27,8 +27,8 @@ returns-clause-orders g c = λ graph lists lays.
     let value = g.I.Number.value in
     let told = c.run_fresh-told in
     let listed = c.list_rows.ensures in
-    let p = c.in_ok-counts.field-0.p in
-    let q = c.in_ok-counts.field-0.p_inv in
+    let p = c.in_ok-lists.lists.p in
+    let q = c.in_ok-lists.lists.p_inv in
     let rows : length told.new.pe ≡ n = told.ensures.over.words.0 in
     let p_is = take_at c.list_rows.new.p (drop (length c.list_rows.new.p) p.items) p.len
     (c.list_rows.auto.p ∙ ap length c.deref_mut.ensures.value ∙ sym p.ok.0) in
