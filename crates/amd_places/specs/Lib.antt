@@ -14,3 +14,5 @@ pub mod Closing
 pub mod Fronts
 pub mod Turning
 pub mod Restoring
+pub mod Lengths
+pub mod Tallies

@@ -4,12 +4,14 @@
 // outside ends. Source: Amestoy, Davis and Duff 1996 (approximate external degree, aggressive absorption). Called by
 // `turning`, and the renewal of the flag by `round` of the crate `amd_inplace`.
 
-ghost use Rattle.std.specs.Prelude.{◌≡◌, ◌<◌, ◌≤◌, ◌+◌, ◌-◌, ◌^◌, ◌==◌, ◌&&◌, not, cond, filter, ℕ, List, Bool, true};
-ghost use Rattle.std.specs.Prelude.{false, length};
+ghost use Rattle.std.specs.Prelude.{◌≡◌, ◌<◌, ◌≤◌, ◌+◌, ◌-◌, ◌^◌, ◌==◌, ◌&&◌, cond, ℕ, List, Bool, true, length};
 ghost use Rattle.amd_model.specs.Quotient.{has, Once};
 ghost use Rattle.amd_places.specs.Words.{num, word, place, is_place, start, size_of, in_front, flip_of, rows, Names};
 ghost use Rattle.amd_places.specs.Chains.{DegreeLists, without};
-ghost use Rattle.amd_places.specs.Counts.{touched, settled, ends, counter, met, elements_of, IsListed};
+ghost use Rattle.amd_places.specs.Counts.{settled, ends, elements_of, IsListed};
+ghost use Rattle.amd_places.specs.Lengths.{HasBounds, HasLinks, KeepsLinks};
+ghost use Rattle.amd_places.specs.Tallies.{touched_in, NamesFront, IsCounted, IsPart, CountsFront, EndsCounted};
+ghost use Rattle.amd_places.specs.Tallies.{LeavesLists};
 
 use crate::chains::take_out;
 use crate::words::{named, put_flip, size_inside};
@@ -22,8 +24,7 @@ fn touch<U: Unsigned>(w: &mut [Figure<U>], degree: &[Figure<U>], e: usize, more:
     requires first { 0 < num w.old e → more ≤ num degree.now e }
     requires fits { num degree.now e + flag ≤ U.MOST }
     ensures long { length w.new ≡ length w.old }
-    ensures counted { (x : ℕ) → num w.new x ≡ cond (x == e) (touched flag (num degree.now e) more (num w.old e))
-        (num w.old x) }
+    ensures counted { (x : ℕ) → num w.new x ≡ cond (x == e) (touched_in degree.now w.old flag more e) (num w.old x) }
 {
     let before = figure_at(w, e);
     if before >= flag {
@@ -52,10 +53,9 @@ fn touch_or_end<S: Signed, U: Unsigned>(
     requires fits { num degree.now e + flag ≤ U.MOST }
     ensures long { (length w.new ≡ length w.old) × (length pe.new ≡ length pe.old) }
     ensures counted { (x : ℕ) → num w.new x ≡ cond (x == e)
-        (settled aggressive flag (touched flag (num degree.now e) more (num w.old e))) (num w.old x) }
+        (settled aggressive flag (touched_in degree.now w.old flag more e)) (num w.old x) }
     ensures starts { (x : ℕ) → word pe.new x ≡ cond
-        (x == e && ends aggressive flag (touched flag (num degree.now e) more (num w.old e))) (flip_of me)
-        (word pe.old x) }
+        (x == e && ends aggressive flag (touched_in degree.now w.old flag more e)) (flip_of me) (word pe.old x) }
 {
     touch(w, degree, e, more, flag);
     let left = figure_at(w, e);
@@ -89,10 +89,9 @@ fn touch_all<S: Signed, U: Unsigned>(
     requires fits { (e : ℕ) → e < length w.old → num degree.now e + flag ≤ U.MOST }
     ensures long { (length w.new ≡ length w.old) × (length pe.new ≡ length pe.old) }
     ensures counted { (e : ℕ) → num w.new e ≡ cond (has (rows iw.now from count) e)
-        (settled aggressive flag (touched flag (num degree.now e) more (num w.old e))) (num w.old e) }
-    ensures starts { (e : ℕ) → word pe.new e ≡ cond
-        (has (rows iw.now from count) e && ends aggressive flag (touched flag (num degree.now e) more (num w.old e)))
-        (flip_of me) (word pe.old e) }
+        (settled aggressive flag (touched_in degree.now w.old flag more e)) (num w.old e) }
+    ensures starts { (e : ℕ) → word pe.new e ≡ cond (has (rows iw.now from count) e &&
+        ends aggressive flag (touched_in degree.now w.old flag more e)) (flip_of me) (word pe.old e) }
 {
     for q in from..from + count {
         let e = named(iw, q);
@@ -117,10 +116,8 @@ fn count_class<S: Signed, U: Unsigned>(
     me: usize,
     aggressive: bool,
 )
-    requires lengths { (length pe.old ≡ length w.old) × (length e_len.now ≡ length w.old) ×
-        (length nv.now ≡ length w.old) × (length degree.now ≡ length w.old) }
-    requires more_lengths { (length head.old ≡ length w.old) × (length next.old ≡ length w.old) ×
-        (length last.old ≡ length w.old) }
+    requires lengths { HasBounds (length w.old) pe.old e_len.now nv.now degree.now }
+    requires more_lengths { HasLinks (length w.old) head.old next.old last.old }
     requires row { (i < length w.old) × (num degree.now i < length w.old) }
     requires small { me + 2 ≤ S.MOST }
     requires listed { IsListed (length w.old) iw.now pe.old e_len.now nv.now i }
@@ -131,13 +128,10 @@ fn count_class<S: Signed, U: Unsigned>(
     requires fits { (e : ℕ) → e < length w.old → num degree.now e + flag ≤ U.MOST }
     ensures long { (length w.new ≡ length w.old) × (length pe.new ≡ length pe.old) }
     ensures counted { (e : ℕ) → num w.new e ≡ cond (has (elements_of iw.now pe.old e_len.now i) e)
-        (settled aggressive flag (touched flag (num degree.now e) (size_of nv.now i) (num w.old e))) (num w.old e) }
-    ensures starts { (e : ℕ) → word pe.new e ≡ cond
-        (has (elements_of iw.now pe.old e_len.now i) e &&
-        ends aggressive flag (touched flag (num degree.now e) (size_of nv.now i) (num w.old e))) (flip_of me)
-        (word pe.old e) }
-    ensures lengths { (length head.new ≡ length head.old) × (length next.new ≡ length next.old) ×
-        (length last.new ≡ length last.old) }
+        (settled aggressive flag (touched_in degree.now w.old flag (size_of nv.now i) e)) (num w.old e) }
+    ensures starts { (e : ℕ) → word pe.new e ≡ cond (has (elements_of iw.now pe.old e_len.now i) e &&
+        ends aggressive flag (touched_in degree.now w.old flag (size_of nv.now i) e)) (flip_of me) (word pe.old e) }
+    ensures lengths { KeepsLinks head.old next.old last.old head.new next.new last.new }
     ensures linked { (lists : ℕ → List ℕ) → has (lists (num degree.now i)) i ≡ true →
         DegreeLists (length w.old) head.old next.old last.old degree.now lists →
         DegreeLists (length w.old) head.new next.new last.new degree.now (λ d. without i (lists d)) }
@@ -170,37 +164,25 @@ pub fn count_outside<S: Signed, U: Unsigned>(
     me: usize,
     aggressive: bool,
 )
-    requires lengths { (length pe.old ≡ length w.old) × (length e_len.now ≡ length w.old) ×
-        (length nv.now ≡ length w.old) × (length degree.now ≡ length w.old) }
-    requires more_lengths { (length head.old ≡ length w.old) × (length next.old ≡ length w.old) ×
-        (length last.old ≡ length w.old) }
+    requires lengths { HasBounds (length w.old) pe.old e_len.now nv.now degree.now }
+    requires more_lengths { HasLinks (length w.old) head.old next.old last.old }
     requires inside { from + count ≤ length iw.now }
     requires small { me + 2 ≤ S.MOST }
-    requires front { Names (length w.old) iw.now from count }
-    requires once { Once (rows iw.now from count) }
-    requires listed { (i : ℕ) → has (rows iw.now from count) i ≡ true →
-        IsListed (length w.old) iw.now pe.old e_len.now nv.now i }
-    requires apart { (i e : ℕ) → has (rows iw.now from count) i ≡ true → has (rows iw.now from count) e ≡ true →
-        has (elements_of iw.now pe.old e_len.now i) e ≡ false }
-    requires bounds { (i : ℕ) → has (rows iw.now from count) i ≡ true → num degree.now i < length w.old }
+    requires front { NamesFront (length w.old) iw.now from count }
+    requires classes { (i : ℕ) → has (rows iw.now from count) i ≡ true →
+        IsCounted (length w.old) (rows iw.now from count) iw.now pe.old e_len.now nv.now degree.now i }
     requires flag { 2 ≤ flag }
     requires under { (e : ℕ) → num w.old e < flag }
     requires fits { (e : ℕ) → e < length w.old → num degree.now e + flag ≤ U.MOST }
-    requires part { (e : ℕ) → 0 < num w.old e → met iw.now pe.old e_len.now nv.now (rows iw.now from count) e ≤ num
-        degree.now e }
+    requires part { IsPart iw.now pe.old e_len.now nv.now degree.now w.old (rows iw.now from count) }
     ensures long { (length w.new ≡ length w.old) × (length pe.new ≡ length pe.old) }
-    ensures counted { (e : ℕ) → num w.new e ≡ settled aggressive flag
-        (counter flag (num w.old e) (num degree.now e)
-        (met iw.now pe.old e_len.now nv.now (rows iw.now from count) e)) }
-    ensures starts { (e : ℕ) → word pe.new e ≡ cond
-        (ends aggressive flag (counter flag (num w.old e) (num degree.now e)
-        (met iw.now pe.old e_len.now nv.now (rows iw.now from count) e))) (flip_of me) (word pe.old e) }
-    ensures lengths { (length head.new ≡ length head.old) × (length next.new ≡ length next.old) ×
-        (length last.new ≡ length last.old) }
-    ensures linked { (lists : ℕ → List ℕ) → ((i : ℕ) → has (rows iw.now from count) i ≡ true →
-        has (lists (num degree.now i)) i ≡ true) → DegreeLists (length w.old) head.old next.old last.old degree.now
-        lists → DegreeLists (length w.old) head.new next.new last.new degree.now
-        (λ d. filter (λ j. not (has (rows iw.now from count) j)) (lists d)) }
+    ensures counted { CountsFront aggressive flag (rows iw.now from count) iw.now pe.old e_len.now nv.now degree.now
+        w.old w.new }
+    ensures starts { EndsCounted aggressive flag me (rows iw.now from count) iw.now pe.old e_len.now nv.now degree.now
+        w.old pe.new }
+    ensures lengths { KeepsLinks head.old next.old last.old head.new next.new last.new }
+    ensures linked { LeavesLists (length w.old) (rows iw.now from count) head.old next.old last.old degree.now head.new
+        next.new last.new degree.now }
 {
     for p in from..from + count {
         let i = named(iw, p);

@@ -38,7 +38,7 @@ named-i-requires-clause-is_one g c =
     let after : from ≤ p = c.loop-p.auto.p in let t = c.loop-p-test.true in let at : from + k ≡ p = omega (arith, after) in
     let l : k < c.args.count = omega (arith, after, t) in let next : p + 1 - from ≡ k + 1 = omega (arith, after) in
     let was = c.loop-p.invariant in
-    ap (λ m. is_place (word iw m)) (sym at) ∙ (c.requires.front k l).0
+    ap (λ m. is_place (word iw m)) (sym at) ∙ (c.requires.front.0 k l).0
 
 pub count_class-requires : goal.count_class-requires
 count_class-requires g c =
@@ -50,13 +50,14 @@ count_class-requires g c =
     let i : ℕ = c.named-i.result in
     let is : i ≡ place (word iw (from + k)) = c.named-i.ensures ∙ ap (λ m. place (word iw m)) (sym at) in
     let named : has (rows iw from c.args.count) i ≡ true = ap (has (rows iw from c.args.count)) is ∙ rows_has iw from c.args.count k l in
-    let listed = c.requires.listed i named in let ag : Bool = c.args.aggressive in let flag : ℕ = c.args.flag in
+    let class = c.requires.classes i named in let listed = class.listed in
+    let ag : Bool = c.args.aggressive in let flag : ℕ = c.args.flag in
     let same : word c.loop-p.pe i ≡ word pe i = start_stays iw pe e_len nv ag flag c.args.me c.args.degree.now c.args.w.now c.loop-p.pe from
-    c.args.count k (omega (arith, l)) c.requires.flag c.requires.under was.starts i (λ j h. c.requires.apart j i h named) in
+    c.args.count k (omega (arith, l)) c.requires.flag c.requires.under was.starts i (λ j h. (c.requires.classes j h).apart i named) in
     let list : elements_of iw c.loop-p.pe e_len i ≡ elements_of iw pe e_len i = ap (λ z. rows iw (place z) (place (word e_len i))) same in
-    let row : i < length c.args.w.now = (let b = (c.requires.front k l).1 in omega (arith, b, is)) in let long = was.long in
+    let row : i < length c.args.w.now = (let b = (c.requires.front.0 k l).1 in omega (arith, b, is)) in let long = was.long in
     let p_long = was.p_long in let a = c.requires.lengths in let b = c.requires.more_lengths in let d = was.lengths in
-    let s = c.requires.bounds i named in record {
+    let s = class.bound in record {
       lengths = ((omega (arith, long, p_long, a)), (omega (arith, long, a)), (omega (arith, long, a)), (omega (arith, long, a)));
       more_lengths = ((omega (arith, long, b, d)), (omega (arith, long, b, d)), (omega (arith, long, b, d)));
       row = ((omega (arith, row, long)), (omega (arith, s, long)));
@@ -80,12 +81,13 @@ loop-p-preserved g c =
     let i : ℕ = c.named-i.result in
     let is : i ≡ place (word iw (from + k)) = c.named-i.ensures ∙ ap (λ m. place (word iw m)) (sym at) in
     let named : has (rows iw from c.args.count) i ≡ true = ap (has (rows iw from c.args.count)) is ∙ rows_has iw from c.args.count k l in
-    let listed = c.requires.listed i named in let ag : Bool = c.args.aggressive in let flag : ℕ = c.args.flag in
+    let class = c.requires.classes i named in let listed = class.listed in
+    let ag : Bool = c.args.aggressive in let flag : ℕ = c.args.flag in
     let same : word c.loop-p.pe i ≡ word pe i = start_stays iw pe e_len nv ag flag c.args.me c.args.degree.now c.args.w.now c.loop-p.pe from
-    c.args.count k (omega (arith, l)) c.requires.flag c.requires.under was.starts i (λ j h. c.requires.apart j i h named) in
+    c.args.count k (omega (arith, l)) c.requires.flag c.requires.under was.starts i (λ j h. (c.requires.classes j h).apart i named) in
     let list : elements_of iw c.loop-p.pe e_len i ≡ elements_of iw pe e_len i = ap (λ z. rows iw (place z) (place (word e_len i))) same in
     let top : ℕ → ℕ = λ e. touched flag (num c.args.degree.now e) (size_of nv i) (num c.loop-p.w e) in
-    let fresh : has (rows iw from k) i ≡ false = ap (has (rows iw from k)) is ∙ fresh_word iw from c.args.count k l c.requires.once in
+    let fresh : has (rows iw from k) i ≡ false = ap (has (rows iw from k)) is ∙ fresh_word iw from c.args.count k l c.requires.front.1 in
     let d = was.lengths in let f = c.count_class.ensures.lengths in let long = was.long in
     record {
       long = c.count_class.ensures.long.0 ∙ was.long;

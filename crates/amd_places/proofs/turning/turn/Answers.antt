@@ -26,13 +26,17 @@ count_outside-requires g c =
       more_lengths = (b.1, b.2, b.3);
       inside = (let e = c.requires.within in let f = c.requires.end in omega (arith, e, f, from, count));
       small = c.requires.me.1;
-      front = λ k l. let e = c.requires.within in
-          subst (λ s. (is_place (word iw (s + k)) ≡ true) × (place (word iw (s + k)) < length c.args.w.now)) (sym from)
-          (c.requires.laid.words (start pe me + k) (omega (arith, e, l, count)));
-      once = subst Once (sym list) c.requires.once;
-      listed = λ i h. turn_listed c.requires.laid c.requires.end (c.requires.front i (has_front i h));
-      apart = λ i e h k. (c.requires.front i (has_front i h)).apart e (has_front e k);
-      bounds = λ i h. (c.requires.front i (has_front i h)).bound;
+      front = (
+        λ k l. let e = c.requires.within in
+            subst (λ s. (is_place (word iw (s + k)) ≡ true) × (place (word iw (s + k)) < length c.args.w.now)) (sym from)
+            (c.requires.laid.words (start pe me + k) (omega (arith, e, l, count))),
+        subst Once (sym list) c.requires.once,
+      );
+      classes = λ i h. let class = c.requires.front i (has_front i h) in record {
+        listed = turn_listed c.requires.laid c.requires.end class;
+        apart = λ e k. class.apart e (has_front e k);
+        bound = class.bound;
+      };
       flag = c.requires.flag;
       under = c.requires.under;
       fits = c.requires.fits;

@@ -1,0 +1,17 @@
+-- There is a place for each of n rows in each of some slices: where lists start, counts of elements, sizes, bounds, and
+-- the links of the lists by bound.
+use Rattle.std.specs.Prelude.{ℕ, ℤ, List, ◌≡◌, length}
+
+abbrev pub HasWords : ℕ → List ℤ → List ℤ → List ℤ → Type 0
+HasWords n pe e_len nv = (length pe ≡ n) × (length e_len ≡ n) × (length nv ≡ n)
+
+abbrev pub HasBounds : ℕ → List ℤ → List ℤ → List ℤ → List ℕ → Type 0
+HasBounds n pe e_len nv degree = (length pe ≡ n) × (length e_len ≡ n) × (length nv ≡ n) × (length degree ≡ n)
+
+abbrev pub HasLinks : ℕ → List ℕ → List ℕ → List ℕ → Type 0
+HasLinks n head next last = (length head ≡ n) × (length next ≡ n) × (length last ≡ n)
+
+-- the slices of the links are as long as before
+abbrev pub KeepsLinks : List ℕ → List ℕ → List ℕ → List ℕ → List ℕ → List ℕ → Type 0
+KeepsLinks head next last head' next' last' = (length head' ≡ length head) × (length next' ≡ length next) ×
+    (length last' ≡ length last)
