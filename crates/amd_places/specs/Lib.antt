@@ -16,3 +16,4 @@ pub mod Turning
 pub mod Restoring
 pub mod Lengths
 pub mod Tallies
+pub mod TurningLists

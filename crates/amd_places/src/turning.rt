@@ -2,13 +2,13 @@
 // elements outside the front are counted, and each list is renewed, or its class ends. Source: Amestoy, Davis and Duff
 // 1996. Called by: a round.
 
-ghost use Rattle.std.specs.Prelude.{◌≡◌, ◌<◌, ◌≤◌, ◌+◌, ◌-◌, ◌^◌, not, filter, ℕ, List, true, false, length, sum_by};
-ghost use Rattle.amd_model.specs.Quotient.{has, Once};
-ghost use Rattle.amd_places.specs.Words.{num, word, is_place, size_of};
-ghost use Rattle.amd_places.specs.Chains.{DegreeLists};
-ghost use Rattle.amd_places.specs.Counts.{met};
-ghost use Rattle.amd_places.specs.Layout.{list_in, end_of, Layout};
-ghost use Rattle.amd_places.specs.Turning.{IsTurning, TurnsFront};
+ghost use Rattle.std.specs.Prelude.{◌≡◌, ◌<◌, ◌≤◌, ◌+◌, ◌-◌, ◌^◌, ℕ, length, sum_by};
+ghost use Rattle.amd_places.specs.Words.{num, size_of};
+ghost use Rattle.amd_places.specs.Layout.{list_in, Layout};
+ghost use Rattle.amd_places.specs.Turning.{TurnsFront};
+ghost use Rattle.amd_places.specs.Lengths.{HasBounds, HasLinks};
+ghost use Rattle.amd_places.specs.Tallies.{IsPart, LeavesLists};
+ghost use Rattle.amd_places.specs.TurningLists.{IsFrontList, AreTurning};
 
 use crate::counts::count_outside;
 use crate::fronts::renew_all;
@@ -35,35 +35,23 @@ pub fn turn<S: Signed, U: Unsigned>(
     flag: usize,
     aggressive: bool,
 ) -> usize
-    requires lengths { (length pe.old ≡ length w.old) × (length e_len.old ≡ length w.old) ×
-        (length len.old ≡ length w.old) × (length nv.old ≡ length w.old) }
-    requires more_lengths { (length degree.old ≡ length w.old) × (length head.old ≡ length w.old) ×
-        (length next.old ≡ length w.old) × (length last.old ≡ length w.old) }
-    requires short { length iw.old < 2 ^ 63 }
-    requires narrow { (length iw.old ≤ S.MOST) × (length w.old ≤ U.MOST) }
+    requires lengths { HasBounds (length w.old) pe.old e_len.old nv.old degree.old × (length len.old ≡ length w.old) }
+    requires more_lengths { HasLinks (length w.old) head.old next.old last.old }
+    requires narrow { (length iw.old < 2 ^ 63) × (length iw.old ≤ S.MOST) × (length w.old ≤ U.MOST) }
     requires end { free ≤ length iw.old }
     requires laid { Layout (length w.old) iw.old pe.old e_len.old len.old free }
     requires me { (me < length w.old) × (me + 2 ≤ S.MOST) }
-    requires list { is_place (word pe.old me) ≡ true }
-    requires within { end_of pe.old len.old me ≤ free }
-    requires apart { has (list_in iw.old pe.old len.old me) me ≡ false }
-    requires once { Once (list_in iw.old pe.old len.old me) }
-    requires front { (i : ℕ) → has (list_in iw.old pe.old len.old me) i ≡ true →
-        IsTurning (length w.old) me (list_in iw.old pe.old len.old me) iw.old pe.old e_len.old nv.old len.old degree.old
-        w.old i }
+    requires list { IsFrontList iw.old pe.old len.old me free }
+    requires front { AreTurning (length w.old) me iw.old pe.old e_len.old nv.old len.old degree.old w.old }
     requires few { sum_by (size_of nv.old) (list_in iw.old pe.old len.old me) ≤ S.MOST }
-    requires flag { 2 ≤ flag }
-    requires under { (e : ℕ) → num w.old e < flag }
+    requires flag { (2 ≤ flag) × ((e : ℕ) → num w.old e < flag) }
     requires fits { (e : ℕ) → e < length w.old → num degree.old e + flag ≤ U.MOST }
-    requires part { (e : ℕ) → 0 < num w.old e → met iw.old pe.old e_len.old nv.old (list_in iw.old pe.old len.old me)
-        e ≤ num degree.old e }
+    requires part { IsPart iw.old pe.old e_len.old nv.old degree.old w.old (list_in iw.old pe.old len.old me) }
     ensures turns { TurnsFront aggressive (length w.old) me flag (list_in iw.old pe.old len.old me) free iw.old pe.old
         e_len.old nv.old len.old degree.old w.old iw.new pe.new e_len.new nv.new len.new degree.new w.new last.new
         result }
-    ensures linked { (lists : ℕ → List ℕ) → ((i : ℕ) → has (list_in iw.old pe.old len.old me) i ≡ true →
-        has (lists (num degree.old i)) i ≡ true) → DegreeLists (length w.old) head.old next.old last.old degree.old
-        lists → DegreeLists (length w.old) head.new next.new last.new degree.new
-        (λ d. filter (λ j. not (has (list_in iw.old pe.old len.old me) j)) (lists d)) }
+    ensures linked { LeavesLists (length w.old) (list_in iw.old pe.old len.old me) head.old next.old last.old degree.old
+        head.new next.new last.new degree.new }
     ensures lengths { (length w.new ≡ length w.old) × (length head.new ≡ length head.old) ×
         (length next.new ≡ length next.old) }
     ensures more_lengths { (length pe.new ≡ length w.old) × (length last.new ≡ length w.old) }

@@ -22,23 +22,23 @@ count_outside-requires g c =
     has (list_in iw pe len me) i ≡ true = λ i h.
     sym (ap (λ xs. has xs i) list) ∙ h in
     record {
-      lengths = (a.0, a.1, a.3, b.0);
-      more_lengths = (b.1, b.2, b.3);
-      inside = (let e = c.requires.within in let f = c.requires.end in omega (arith, e, f, from, count));
+      lengths = a.0;
+      more_lengths = b;
+      inside = (let e = c.requires.list.within in let f = c.requires.end in omega (arith, e, f, from, count));
       small = c.requires.me.1;
       front = (
-        λ k l. let e = c.requires.within in
+        λ k l. let e = c.requires.list.within in
             subst (λ s. (is_place (word iw (s + k)) ≡ true) × (place (word iw (s + k)) < length c.args.w.now)) (sym from)
             (c.requires.laid.words (start pe me + k) (omega (arith, e, l, count))),
-        subst Once (sym list) c.requires.once,
+        subst Once (sym list) c.requires.list.once,
       );
       classes = λ i h. let class = c.requires.front i (has_front i h) in record {
         listed = turn_listed c.requires.laid c.requires.end class;
         apart = λ e k. class.apart e (has_front e k);
         bound = class.bound;
       };
-      flag = c.requires.flag;
-      under = c.requires.under;
+      flag = c.requires.flag.0;
+      under = c.requires.flag.1;
       fits = c.requires.fits;
       part = λ e s. let r = c.requires.part e s in let q = ap (λ xs. met iw pe c.args.e_len.now c.args.nv.now xs e) list in
           omega (arith, r, q);
@@ -64,7 +64,7 @@ renew_all-requires-clause-laid g c =
     ∙ ap (λ xs. settled c.args.aggressive c.args.flag (seen (met iw pe c.args.e_len.now c.args.nv.now xs e) e)) list in
     let long = c.count_outside.ensures.long.0 in
     subst (λ n. Layout n iw left c.args.e_len.now len c.args.free) (sym long)
-    (left_laid c.args.aggressive c.args.flag c.requires.laid c.requires.flag c.requires.under c.requires.front left ended)
+    (left_laid c.args.aggressive c.args.flag c.requires.laid c.requires.flag.0 c.requires.flag.1 c.requires.front left ended)
 
 pub renew_all-requires-clause-list : goal.renew_all-requires-clause-list
 renew_all-requires-clause-list g c =
@@ -85,8 +85,8 @@ renew_all-requires-clause-list g c =
     c.count_outside.ensures.counted e
     ∙ ap (λ xs. settled c.args.aggressive c.args.flag (seen (met iw pe c.args.e_len.now c.args.nv.now xs e) e)) list in
     let long = c.count_outside.ensures.long.0 in
-    ap is_place (left_me c.args.aggressive c.args.flag c.requires.laid c.requires.flag c.requires.under c.requires.front left ended)
-    ∙ c.requires.list
+    ap is_place (left_me c.args.aggressive c.args.flag c.requires.laid c.requires.flag.0 c.requires.flag.1 c.requires.front left ended)
+    ∙ c.requires.list.starts
 
 pub renew_all-requires-clause-apart : goal.renew_all-requires-clause-apart
 renew_all-requires-clause-apart g c =
@@ -107,8 +107,8 @@ renew_all-requires-clause-apart g c =
     c.count_outside.ensures.counted e
     ∙ ap (λ xs. settled c.args.aggressive c.args.flag (seen (met iw pe c.args.e_len.now c.args.nv.now xs e) e)) list in
     let long = c.count_outside.ensures.long.0 in
-    ap (λ xs. has xs me) (left_list c.args.aggressive c.args.flag c.requires.laid c.requires.flag c.requires.under
-    c.requires.front left ended) ∙ c.requires.apart
+    ap (λ xs. has xs me) (left_list c.args.aggressive c.args.flag c.requires.laid c.requires.flag.0 c.requires.flag.1
+    c.requires.front left ended) ∙ c.requires.list.apart
 
 pub renew_all-requires-clause-once : goal.renew_all-requires-clause-once
 renew_all-requires-clause-once g c =
@@ -129,8 +129,8 @@ renew_all-requires-clause-once g c =
     c.count_outside.ensures.counted e
     ∙ ap (λ xs. settled c.args.aggressive c.args.flag (seen (met iw pe c.args.e_len.now c.args.nv.now xs e) e)) list in
     let long = c.count_outside.ensures.long.0 in
-    subst Once (sym (left_list c.args.aggressive c.args.flag c.requires.laid c.requires.flag c.requires.under c.requires.front
-    left ended)) c.requires.once
+    subst Once (sym (left_list c.args.aggressive c.args.flag c.requires.laid c.requires.flag.0 c.requires.flag.1 c.requires.front
+    left ended)) c.requires.list.once
 
 pub renew_all-requires-clause-front : goal.renew_all-requires-clause-front
 renew_all-requires-clause-front g c =
@@ -151,7 +151,7 @@ renew_all-requires-clause-front g c =
     c.count_outside.ensures.counted e
     ∙ ap (λ xs. settled c.args.aggressive c.args.flag (seen (met iw pe c.args.e_len.now c.args.nv.now xs e) e)) list in
     let long = c.count_outside.ensures.long.0 in
-    left_renewable c.args.aggressive c.args.flag c.requires.laid c.requires.flag c.requires.under c.requires.front left ended
+    left_renewable c.args.aggressive c.args.flag c.requires.laid c.requires.flag.0 c.requires.flag.1 c.requires.front left ended
     c.count_outside.new.w counted
 
 pub renew_all-requires-clause-marked : goal.renew_all-requires-clause-marked
@@ -174,7 +174,7 @@ renew_all-requires-clause-marked g c i h =
     ∙ ap (λ xs. settled c.args.aggressive c.args.flag (seen (met iw pe c.args.e_len.now c.args.nv.now xs e) e)) list in
     let long = c.count_outside.ensures.long.0 in
     (c.requires.front i (sym (ap (λ xs. has xs i)
-    (left_list c.args.aggressive c.args.flag c.requires.laid c.requires.flag c.requires.under c.requires.front left ended)) ∙ h)).marked
+    (left_list c.args.aggressive c.args.flag c.requires.laid c.requires.flag.0 c.requires.flag.1 c.requires.front left ended)) ∙ h)).marked
 
 pub renew_all-requires-clause-few : goal.renew_all-requires-clause-few
 renew_all-requires-clause-few g c =
@@ -196,7 +196,7 @@ renew_all-requires-clause-few g c =
     ∙ ap (λ xs. settled c.args.aggressive c.args.flag (seen (met iw pe c.args.e_len.now c.args.nv.now xs e) e)) list in
     let long = c.count_outside.ensures.long.0 in
     let a = ap (sum_by (size_of c.args.nv.now))
-    (left_list c.args.aggressive c.args.flag c.requires.laid c.requires.flag c.requires.under c.requires.front left ended) in
+    (left_list c.args.aggressive c.args.flag c.requires.laid c.requires.flag.0 c.requires.flag.1 c.requires.front left ended) in
     let b = c.requires.few in omega (arith, a, b)
 
 pub returns-clause-turns : goal.returns-clause-turns
@@ -231,7 +231,7 @@ returns-clause-turns g c =
           (λ e. num c.count_outside.new.w e - c.args.flag) xs c.args.free iw left c.args.e_len.now c.args.nv.now len
           c.args.degree.now c.count_outside.new.last c.renew_all.new.iw c.renew_all.new.pe c.renew_all.new.e_len c.renew_all.new.nv
           c.renew_all.new.len c.renew_all.new.degree c.renew_all.new.last c.renew_all.result)
-          (left_list c.args.aggressive c.args.flag c.requires.laid c.requires.flag c.requires.under c.requires.front left
+          (left_list c.args.aggressive c.args.flag c.requires.laid c.requires.flag.0 c.requires.flag.1 c.requires.front left
           ended) c.renew_all.ensures.renews);
     }
 
@@ -255,7 +255,7 @@ returns-clause-linked g c lists member h =
     ∙ ap (λ xs. settled c.args.aggressive c.args.flag (seen (met iw pe c.args.e_len.now c.args.nv.now xs e) e)) list in
     let long = c.count_outside.ensures.long.0 in
     let out = c.count_outside.ensures.linked lists (λ i m. member i (sym (ap (λ xs. has xs i) list) ∙ m)) h in
-    let same = left_list c.args.aggressive c.args.flag c.requires.laid c.requires.flag c.requires.under c.requires.front left ended in
+    let same = left_list c.args.aggressive c.args.flag c.requires.laid c.requires.flag.0 c.requires.flag.1 c.requires.front left ended in
     let turned = subst (λ n. RenewsFront n me (is_kept c.count_outside.new.w) (is_outside c.args.nv.now)
     (λ e. num c.count_outside.new.w e - c.args.flag) (list_in iw left len me) c.args.free iw left c.args.e_len.now c.args.nv.now len
     c.args.degree.now c.count_outside.new.last c.renew_all.new.iw c.renew_all.new.pe c.renew_all.new.e_len c.renew_all.new.nv
