@@ -3,15 +3,16 @@
 // Davis and Duff 1996 and 2004. Called by `running` of the crate `amd_engine`. A part that only reads some slices is
 // called through a function that is lent all of them for writing.
 
-ghost use Rattle.std.specs.Prelude.{◌≡◌, ◌<◌, ◌≤◌, ◌+◌, ◌^◌, ◌==◌, ℕ, Bool, List, true, false, length, filter};
+ghost use Rattle.std.specs.Prelude.{◌≡◌, ◌<◌, ◌≤◌, ◌+◌, ◌^◌, ◌==◌, ℕ, Bool, List, true, length};
 ghost use Rattle.amd_model.specs.Graph.{Graph};
 ghost use Rattle.amd_model.specs.State.{State};
-ghost use Rattle.amd_model.specs.Quotient.{QuotientGraph, has, Once};
-ghost use Rattle.amd_places.specs.Words.{num, word, is_place, start, in_front, classes, rows, Names};
-ghost use Rattle.amd_places.specs.Layout.{end_of, list_in};
-ghost use Rattle.amd_places.specs.Chains.{DegreeLists};
-ghost use Rattle.amd_places.specs.Merging.{AreRenewed, MergesAll, represents_in};
-ghost use Rattle.amd_places.specs.Restoring.{marked_in, bound_in, put_all, IsPlaceable, Restores};
+ghost use Rattle.amd_model.specs.Quotient.{QuotientGraph};
+ghost use Rattle.amd_places.specs.Words.{num, word, is_place, start, in_front, classes};
+ghost use Rattle.amd_places.specs.Layout.{list_in};
+ghost use Rattle.amd_places.specs.FrontLists.{IsList, LongToMerge, LongToPlace, AreHeads, MergesList};
+ghost use Rattle.amd_places.specs.FrontLists.{CanPlace, HasLists, PutsAll};
+ghost use Rattle.amd_places.specs.Merging.{AreRenewed};
+ghost use Rattle.amd_places.specs.Restoring.{marked_in, Restores};
 ghost use Rattle.amd_places.specs.Renewal.{Filters};
 ghost use Rattle.amd_inplace.specs.Workspaces.{workspace_of, KeepsLoans};
 ghost use Rattle.amd_inplace.specs.Laid.{IsSized, IsNarrow};
@@ -79,39 +80,19 @@ fn merge_list<S: Signed, U: Unsigned>(
     me: usize,
     flag: usize,
 ) -> usize
-    requires lengths { (length pe.old ≡ length next.old) × (length e_len.old ≡ length next.old) ×
-        (length len.old ≡ length next.old) × (length nv.old ≡ length next.old) }
-    requires more_lengths { (length w.old ≡ length next.old) × (length hash.old ≡ length next.old) ×
-        (length last.old ≡ length next.old) }
+    requires lengths { LongToMerge (length next.old) pe.old e_len.old nv.old len.old w.old hash.old next.old last.old }
     requires short { (length iw.old < 2 ^ 63) × (length next.old + 2 ≤ S.MOST) × (length next.old ≤ U.MOST) }
     requires list { (me < length next.old) × (is_place (word pe.old me) ≡ true) }
-    requires inside { end_of pe.old len.old me ≤ length iw.old }
-    requires front { Names (length next.old) iw.old (start pe.old me) (num len.old me) }
-    requires once { Once (list_in iw.old pe.old len.old me) }
+    requires front { IsList (length next.old) iw.old (start pe.old me) (num len.old me) }
     requires few { num len.old me ≤ length next.old }
     requires classes { AreRenewed (length next.old) iw.old pe.old e_len.old len.old nv.old w.old last.old
         (classes nv.old (list_in iw.old pe.old len.old me)) }
     requires under { (x : ℕ) → num w.old x < flag }
     requires room { flag + num len.old me ≤ U.MOST }
     requires empty { (b : ℕ) → b < length next.old → length next.old ≤ num hash.old b }
-    ensures merged { MergesAll (classes nv.old (list_in iw.old pe.old len.old me))
-        (represents_in iw.old pe.old e_len.old len.old (classes nv.old (list_in iw.old pe.old len.old me))) pe.old
-        e_len.old nv.old next.old pe.new e_len.new nv.new next.new }
-    ensures made { classes nv.new (list_in iw.old pe.old len.old me) ≡ filter
-        (λ i. represents_in iw.old pe.old e_len.old len.old (classes nv.old (list_in iw.old pe.old len.old me)) i == i)
-        (classes nv.old (list_in iw.old pe.old len.old me)) }
-    ensures heads { (b : ℕ) → b < length next.old → num hash.new b < length next.old → (1 < num len.old me) ×
-        (has (classes nv.new (list_in iw.old pe.old len.old me)) (num hash.new b) ≡ true) ×
-        (num last.old (num hash.new b) ≡ b) }
-    ensures linked { (head degree : List ℕ) (lists : ℕ → List ℕ) →
-        ((b x : ℕ) → b < length next.old → has (lists b) x ≡ true →
-        has (classes nv.old (list_in iw.old pe.old len.old me)) x ≡ false) →
-        DegreeLists (length next.old) head next.old last.old degree lists →
-        DegreeLists (length next.old) head next.new last.new degree lists }
-    ensures lengths { (length pe.new ≡ length next.old) × (length e_len.new ≡ length next.old) ×
-        (length nv.new ≡ length next.old) }
-    ensures more_lengths { (length w.new ≡ length next.old) × (length hash.new ≡ length next.old) ×
-        (length next.new ≡ length next.old) }
+    ensures merges { MergesList (length next.old) iw.old (start pe.old me) (num len.old me) len.old last.old pe.old
+        e_len.old nv.old next.old pe.new e_len.new nv.new hash.new next.new }
+    ensures lengths { LongToMerge (length next.old) pe.new e_len.new nv.new len.new w.new hash.new next.new last.new }
     ensures flag { flag ≤ result }
     ensures under { (x : ℕ) → num w.new x < result }
     ensures zeros { (x : ℕ) → (num w.new x == 0) ≡ (num w.old x == 0) }
@@ -166,38 +147,26 @@ fn place_list<S: Signed, U: Unsigned>(
     left: usize,
     least: usize,
 ) -> (usize, usize, usize)
-    requires lengths { (length nv.old ≡ length next.old) × (length degree.old ≡ length next.old) ×
-        (length head.old ≡ length next.old) × (length last.old ≡ length next.old) ×
-        (length hash.old ≡ length next.old) }
+    requires lengths { LongToPlace (length next.old) nv.old degree.old head.old next.old last.old hash.old }
     requires more_lengths { (length pe.old ≡ length next.old) × (length len.old ≡ length next.old) }
     requires short { (length iw.old < 2 ^ 63) × (length next.old + 2 ≤ S.MOST) × (length next.old ≤ U.MOST) }
     requires list { (me < length next.old) × (is_place (word pe.old me) ≡ true) }
-    requires inside { end_of pe.old len.old me ≤ length iw.old }
-    requires names { Names (length next.old) iw.old (start pe.old me) (num len.old me) }
-    requires once { Once (list_in iw.old pe.old len.old me) }
-    requires classes { (i : ℕ) → has (list_in iw.old pe.old len.old me) i ≡ true → in_front nv.old i ≡ true →
-        IsPlaceable (length next.old) border nv.old degree.old last.old i }
+    requires front { IsList (length next.old) iw.old (start pe.old me) (num len.old me) }
+    requires classes { CanPlace (length next.old) border nv.old degree.old last.old (list_in iw.old pe.old len.old me) }
     requires order { (border ≤ left) × (left ≤ length next.old) }
-    requires heads { (b : ℕ) → b < length next.old → num hash.old b < length next.old → (1 < num len.old me) ×
-        (has (marked_in nv.old (list_in iw.old pe.old len.old me)) (num hash.old b) ≡ true) ×
-        (num last.old (num hash.old b) ≡ b) }
-    requires linked { (lists : ℕ → List ℕ) × DegreeLists (length next.old) head.old next.old last.old degree.old lists ×
-        ((b x : ℕ) → b < length next.old → has (lists b) x ≡ true → has (list_in iw.old pe.old len.old me) x ≡ false) }
+    requires heads { AreHeads (length next.old) (num len.old me) (marked_in nv.old (list_in iw.old pe.old len.old me))
+        hash.old last.old }
+    requires linked { HasLists (length next.old) (list_in iw.old pe.old len.old me) head.old next.old last.old
+        degree.old }
     ensures from { result.0 ≡ start pe.old me }
     ensures filters { Filters (length next.old) (in_front nv.old) (λ j. 0) 0 iw.old result.0 (num len.old me) result.0
         iw.new result.1 0 }
     ensures restores { Restores (list_in iw.old pe.old len.old me) border left least nv.old degree.old nv.new degree.new
         result.2 }
     ensures empty { (b : ℕ) → b < length next.old → length next.old ≤ num hash.new b }
-    ensures linked { (lists : ℕ → List ℕ) → ((b x : ℕ) → b < length next.old → has (lists b) x ≡ true →
-        has (list_in iw.old pe.old len.old me) x ≡ false) →
-        DegreeLists (length next.old) head.old next.old last.old degree.old lists →
-        DegreeLists (length next.old) head.new next.new last.new degree.new
-        (put_all (bound_in border left nv.old degree.old) (marked_in nv.old (list_in iw.old pe.old len.old me)) lists) }
-    ensures lengths { (length nv.new ≡ length next.old) × (length degree.new ≡ length next.old) ×
-        (length head.new ≡ length next.old) }
-    ensures more_lengths { (length next.new ≡ length next.old) × (length last.new ≡ length next.old) ×
-        (length hash.new ≡ length next.old) }
+    ensures linked { PutsAll (length next.old) border left (list_in iw.old pe.old len.old me) nv.old head.old next.old
+        last.old degree.old head.new next.new last.new degree.new }
+    ensures lengths { LongToPlace (length next.old) nv.new degree.new head.new next.new last.new hash.new }
     ensures same { (pe.new ≡ pe.old) × (len.new ≡ len.old) }
 {
     let from = named(pe, me);

@@ -17,3 +17,4 @@ pub mod Restoring
 pub mod Lengths
 pub mod Tallies
 pub mod TurningLists
+pub mod FrontLists

@@ -45,7 +45,7 @@ returns g c =
       | then-is_built w ↦ w.free-is ∙ sym ends ∙ sym (cond-true c.args.is_built (end_of pe len' me) free w.if-is_built.true)
       | else-is_built w ↦ w.free-is ∙ sym (cond-false c.args.is_built (end_of pe len' me) free w.if-is_built.false)
     ] in
-    let l = told.lengths in let m = told.more_lengths in
+    let l = told.lengths in
     record {
       ends = record {
         long = filters.long;
@@ -79,9 +79,9 @@ returns g c =
           degree = ap length c.close.ensures.borders ∙ length-set v.degree me border ∙ l.1 ∙ s.next;
           w = s.w;
           head = l.2 ∙ s.next;
-          next = m.0 ∙ s.next;
-          last = m.1 ∙ s.next;
-          hash = m.2 ∙ s.next;
+          next = l.3 ∙ s.next;
+          last = l.4 ∙ s.next;
+          hash = l.5 ∙ s.next;
         };
         same = rw same_pe refl;
       };

@@ -8,6 +8,11 @@ use Rattle.amd_inplace.proofs.Fronts.{front_count}
 use Rattle.amd_inplace.proofs.Renewed.{renewed_zeros}
 use Rattle.amd_inplace.proofs.round.merge_alike.Goals as goal
 
+pub merge_list-work-requires-clause-lengths : goal.merge_list-work-requires-clause-lengths
+merge_list-work-requires-clause-lengths g c =
+    let s = c.requires.sized in let n = sym s.next in
+    (s.pe ∙ n, s.e_len ∙ n, s.nv ∙ n, s.len ∙ n, c.renew_flag-flag.ensures.long ∙ s.w ∙ n, s.hash ∙ n, refl, s.last ∙ n)
+
 pub merge_list-work-requires-clause-few : goal.merge_list-work-requires-clause-few
 merge_list-work-requires-clause-few g c =
     let a = front_count c.requires.front.front in let s = c.requires.sized.next in omega (arith, a, s)
@@ -27,16 +32,17 @@ merge_list-work-requires-clause-room g c =
 pub returns : goal.returns
 returns g c =
     let p = c.args.work.now in let v = c.merge_list-work.new in let told = c.merge_list-work.ensures in let s = c.requires.sized in
-    let l = told.lengths in let m = told.more_lengths in
+    let l = told.lengths in
     record {
       merges = record {
-        merged = told.merged;
-        made = told.made;
-        heads = λ b k m. let n = s.next in told.heads b (omega (arith, n, k)) (omega (arith, n, m));
+        merged = told.merges.merged;
+        made = told.merges.made;
+        heads = λ b k m. let n = s.next in told.merges.heads b (omega (arith, n, k)) (omega (arith, n, m));
         linked = λ lists other h.
             subst (λ n. DegreeLists n p.head.now v.next v.last p.degree.now lists) s.next
-            (told.linked p.head.now p.degree.now lists (λ b x k m. other b x (let n = s.next in omega (arith, n, k)) m)
-            (subst (λ n. DegreeLists n p.head.now p.next.now p.last.now p.degree.now lists) (sym s.next) h));
+            (subst (λ l. DegreeLists (length p.next.now) p.head.now v.next l p.degree.now lists) (sym told.same.2)
+            (told.merges.linked p.head.now p.degree.now lists (λ b x k m. other b x (let n = s.next in omega (arith, n, k)) m)
+            (subst (λ n. DegreeLists n p.head.now p.next.now p.last.now p.degree.now lists) (sym s.next) h)));
         under = told.under;
         two = (let a = told.flag in let b = c.renew_flag-flag.ensures.two in omega (arith, a, b));
         zeros = λ x. told.zeros x ∙ c.renew_flag-flag.ensures.zeros x;
@@ -48,11 +54,11 @@ returns g c =
           nv = l.2 ∙ s.next;
           len = ap length told.same.1 ∙ s.len;
           degree = s.degree;
-          w = m.0 ∙ s.next;
+          w = l.4 ∙ s.next;
           head = s.head;
-          next = m.2 ∙ s.next;
+          next = l.6 ∙ s.next;
           last = ap length told.same.2 ∙ s.last;
-          hash = m.1 ∙ s.next;
+          hash = l.5 ∙ s.next;
         };
         same = rw (told.same.0, told.same.1, told.same.2) refl;
       };
