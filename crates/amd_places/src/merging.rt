@@ -3,13 +3,14 @@
 // number of rows. Source: Amestoy, Davis and Duff 1996 (supervariables, found by a hash function). Called by: a round.
 
 ghost use Rattle.std.specs.Prelude.{◌≡◌, ◌≢◌, ◌<◌, ◌≤◌, ◌+◌, ◌-◌, ◌^◌, ◌&&◌, ◌||◌, ◌==◌, not, cond, negsuc, nat_lt, ℕ};
-ghost use Rattle.std.specs.Prelude.{List, true, false, length, slice_set, filter, sum_by};
-ghost use Rattle.amd_model.specs.Quotient.{has, each, Once};
+ghost use Rattle.std.specs.Prelude.{List, true, length, slice_set};
+ghost use Rattle.amd_model.specs.Quotient.{has, each};
 ghost use Rattle.amd_places.specs.Words.{num, word, place, is_place, flip_of, size_of, in_front, classes, rows, Names};
 ghost use Rattle.amd_views.specs.Rounds.{alike_in};
-ghost use Rattle.amd_places.specs.Chains.{Chain, DegreeLists};
+ghost use Rattle.amd_places.specs.Chains.{Chain};
+ghost use Rattle.amd_places.specs.FrontLists.{IsList, LongToMerge, MergesList};
 ghost use Rattle.amd_places.specs.Merging.{bucket, kept_of, near_of, words_of, IsRenewed, AreApart, looks, Finds};
-ghost use Rattle.amd_places.specs.Merging.{Settles, IsMember, AreRenewed, MergesAll, represents_in};
+ghost use Rattle.amd_places.specs.Merging.{Settles, IsMember, AreRenewed};
 
 use crate::words::{named, put_flip};
 use amd_cells::{Figure, Signed, Unsigned, Word, figure_at, put_figure, put_word, word_at};
@@ -286,36 +287,18 @@ pub fn merge_front<S: Signed, U: Unsigned>(
     count: usize,
     flag: usize,
 ) -> usize
-    requires lengths { (length pe.old ≡ length next.old) × (length e_len.old ≡ length next.old) ×
-        (length len.now ≡ length next.old) × (length nv.old ≡ length next.old) }
-    requires more_lengths { (length w.old ≡ length next.old) × (length hash.old ≡ length next.old) ×
-        (length last.now ≡ length next.old) }
+    requires lengths { LongToMerge (length next.old) pe.old e_len.old nv.old len.now w.old hash.old next.old last.now }
     requires short { (length iw.now < 2 ^ 63) × (length next.old + 2 ≤ S.MOST) × (length next.old ≤ U.MOST) }
-    requires inside { from + count ≤ length iw.now }
-    requires front { Names (length next.old) iw.now from count }
-    requires once { Once (rows iw.now from count) }
+    requires front { IsList (length next.old) iw.now from count }
     requires few { count ≤ length next.old }
     requires classes { AreRenewed (length next.old) iw.now pe.old e_len.old len.now nv.old w.old last.now
         (classes nv.old (rows iw.now from count)) }
     requires under { (x : ℕ) → num w.old x < flag }
     requires room { flag + count ≤ U.MOST }
     requires empty { (b : ℕ) → b < length next.old → length next.old ≤ num hash.old b }
-    ensures merged { MergesAll (classes nv.old (rows iw.now from count))
-        (represents_in iw.now pe.old e_len.old len.now (classes nv.old (rows iw.now from count))) pe.old e_len.old
-        nv.old next.old pe.new e_len.new nv.new next.new }
-    ensures made { classes nv.new (rows iw.now from count) ≡ filter
-        (λ i. represents_in iw.now pe.old e_len.old len.now (classes nv.old (rows iw.now from count)) i == i)
-        (classes nv.old (rows iw.now from count)) }
-    ensures heads { (b : ℕ) → b < length next.old → num hash.new b < length next.old → (1 < count) ×
-        (has (classes nv.new (rows iw.now from count)) (num hash.new b) ≡ true) × (num last.now (num hash.new b) ≡ b) }
-    ensures linked { (head degree : List ℕ) (lists : ℕ → List ℕ) →
-        ((b x : ℕ) → b < length next.old → has (lists b) x ≡ true →
-        has (classes nv.old (rows iw.now from count)) x ≡ false) →
-        DegreeLists (length next.old) head next.old last.now degree lists →
-        DegreeLists (length next.old) head next.new last.now degree lists }
-    ensures lengths { (length pe.new ≡ length next.old) × (length e_len.new ≡ length next.old) ×
-        (length nv.new ≡ length next.old) × (length w.new ≡ length next.old) × (length hash.new ≡ length next.old) ×
-        (length next.new ≡ length next.old) }
+    ensures merges { MergesList (length next.old) iw.now from count len.now last.now pe.old e_len.old nv.old next.old
+        pe.new e_len.new nv.new hash.new next.new }
+    ensures lengths { LongToMerge (length next.old) pe.new e_len.new nv.new len.now w.new hash.new next.new last.now }
     ensures flag { (flag ≤ result) × (result ≤ flag + count) }
     ensures under { (x : ℕ) → num w.new x < result }
     ensures zeros { (x : ℕ) → (num w.new x == 0) ≡ (num w.old x == 0) }

@@ -3,23 +3,9 @@ use Rattle.amd_places.specs.Words.{num, start}
 use Rattle.amd_places.specs.FrontLists.{MergesList}
 use Rattle.amd_inplace.proofs.round.merge_list.Goals as goal
 
-pub merge_front-requires-clause-lengths : goal.merge_front-requires-clause-lengths
-merge_front-requires-clause-lengths g c = let l = c.requires.lengths in (l.0, l.1, l.3, l.2)
-
-pub merge_front-requires-clause-more_lengths : goal.merge_front-requires-clause-more_lengths
-merge_front-requires-clause-more_lengths g c = let l = c.requires.lengths in (l.4, l.5, l.7)
-
-pub merge_front-requires-clause-inside : goal.merge_front-requires-clause-inside
-merge_front-requires-clause-inside g c =
-    let a = c.requires.front.0 in let b = c.named-from.ensures in let d = c.figure_at-count.ensures.is in omega (arith, a, b, d)
-
 pub merge_front-requires-clause-front : goal.merge_front-requires-clause-front
 merge_front-requires-clause-front g c =
-    rw (c.named-from.ensures, c.figure_at-count.ensures.is) c.requires.front.1
-
-pub merge_front-requires-clause-once : goal.merge_front-requires-clause-once
-merge_front-requires-clause-once g c =
-    rw (c.named-from.ensures, c.figure_at-count.ensures.is) c.requires.front.2
+    rw (c.named-from.ensures, c.figure_at-count.ensures.is) c.requires.front
 
 pub merge_front-requires-clause-few : goal.merge_front-requires-clause-few
 merge_front-requires-clause-few g c =
@@ -35,22 +21,12 @@ merge_front-requires-clause-room g c =
 
 pub returns-clause-merges : goal.returns-clause-merges
 returns-clause-merges g c =
-    let p = c.args in let v = c.merge_front.new in let told = c.merge_front.ensures in
+    let p = c.args in let v = c.merge_front.new in
     let n : ℕ = length p.next.now in let from : ℕ = start p.pe.now p.me in let count : ℕ = num p.len.now p.me in
     subst (λ k. MergesList n p.iw.now from k p.len.now p.last.now p.pe.now p.e_len.now p.nv.now p.next.now v.pe v.e_len v.nv v.hash
     v.next) c.figure_at-count.ensures.is
     (subst (λ s. MergesList n p.iw.now s c.figure_at-count.result p.len.now p.last.now p.pe.now p.e_len.now p.nv.now p.next.now v.pe
-    v.e_len v.nv v.hash v.next) c.named-from.ensures
-    (record {
-      merged = told.merged;
-      made = told.made;
-      heads = told.heads;
-      linked = told.linked;
-    }))
-
-pub returns-clause-lengths : goal.returns-clause-lengths
-returns-clause-lengths g c =
-    let l = c.merge_front.ensures.lengths in let r = c.requires.lengths in (l.0, l.1, l.2, r.3, l.3, l.4, l.5, r.7)
+    v.e_len v.nv v.hash v.next) c.named-from.ensures c.merge_front.ensures.merges)
 
 pub returns-clause-flag : goal.returns-clause-flag
 returns-clause-flag g c = c.merge_front.ensures.flag.0

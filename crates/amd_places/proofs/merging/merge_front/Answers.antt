@@ -1,4 +1,4 @@
-use Rattle.std.proofs.Common.{refl, sym, subst, ◌∙◌, ◌+◌, ◌≤◌, arith, length}
+use Rattle.std.proofs.Common.{ℕ, List, refl, sym, subst, ◌∙◌, ◌+◌, ◌≤◌, arith, length}
 use Rattle.amd_places.specs.Words.{num, classes, rows}
 use Rattle.amd_views.specs.Rounds.{alike_in}
 use Rattle.amd_places.specs.Merging.{MergesAll, kept_of, near_of, represents_in}
@@ -9,59 +9,59 @@ use Rattle.amd_places.proofs.MergeWalk.{premises, classes_few, classes_end, step
 use Rattle.amd_places.proofs.merging.merge_front.Goals as goal
 
 pub classes-init : goal.classes-init
-classes-init g c = let l = c.requires.lengths in let m = c.requires.more_lengths in record {
+classes-init g c = let l = c.requires.lengths in record {
   within = omega arith;
   merging = merging_none (length c.args.next.now) c.args.iw.now c.args.pe.now c.args.e_len.now c.args.len.now c.args.nv.now c.args.w.now
       c.args.next.now c.args.last.now (classes c.args.nv.now (rows c.args.iw.now c.args.from c.args.count)) c.args.flag
-      c.args.hash.now c.requires.empty c.requires.under (l.0, l.1, l.3, m.0, m.1, refl);
+      c.args.hash.now c.requires.empty c.requires.under (l.0, l.1, l.2, l.4, l.5, refl);
 }
 
 pub merge_one-now-requires-clause-key : goal.merge_one-now-requires-clause-key
 merge_one-now-requires-clause-key g c = let g = premises (length c.args.next.now)
     c.args.iw.now c.args.pe.now c.args.e_len.now c.args.len.now c.args.nv.now c.args.w.now c.args.next.now c.args.last.now c.args.from
-    c.args.count c.args.flag c.requires.once c.requires.few c.requires.classes in
+    c.args.count c.args.flag c.requires.front.2 c.requires.few c.requires.classes in
     (step_ready _ _ _ _ _ _ _ _ _ _ _ _ g c.classes.left c.classes-test.true c.classes.invariant.within c.named-i.result c.named-i.ensures
     _ _ _ _ _ _ _ c.classes.invariant.merging (sym c.is_class.ensures ∙ c.if-is_class.true)).key
 
 pub merge_one-now-requires-clause-chain : goal.merge_one-now-requires-clause-chain
 merge_one-now-requires-clause-chain g c = let g = premises (length c.args.next.now)
     c.args.iw.now c.args.pe.now c.args.e_len.now c.args.len.now c.args.nv.now c.args.w.now c.args.next.now c.args.last.now c.args.from
-    c.args.count c.args.flag c.requires.once c.requires.few c.requires.classes in
+    c.args.count c.args.flag c.requires.front.2 c.requires.few c.requires.classes in
     (step_ready _ _ _ _ _ _ _ _ _ _ _ _ g c.classes.left c.classes-test.true c.classes.invariant.within c.named-i.result c.named-i.ensures
     _ _ _ _ _ _ _ c.classes.invariant.merging (sym c.is_class.ensures ∙ c.if-is_class.true)).chain
 
 pub merge_one-now-requires-clause-here : goal.merge_one-now-requires-clause-here
 merge_one-now-requires-clause-here g c = let g = premises (length c.args.next.now)
     c.args.iw.now c.args.pe.now c.args.e_len.now c.args.len.now c.args.nv.now c.args.w.now c.args.next.now c.args.last.now c.args.from
-    c.args.count c.args.flag c.requires.once c.requires.few c.requires.classes in
+    c.args.count c.args.flag c.requires.front.2 c.requires.few c.requires.classes in
     (step_ready _ _ _ _ _ _ _ _ _ _ _ _ g c.classes.left c.classes-test.true c.classes.invariant.within c.named-i.result c.named-i.ensures
     _ _ _ _ _ _ _ c.classes.invariant.merging (sym c.is_class.ensures ∙ c.if-is_class.true)).here
 
 pub merge_one-now-requires-clause-marked : goal.merge_one-now-requires-clause-marked
 merge_one-now-requires-clause-marked g c = let g = premises (length c.args.next.now)
     c.args.iw.now c.args.pe.now c.args.e_len.now c.args.len.now c.args.nv.now c.args.w.now c.args.next.now c.args.last.now c.args.from
-    c.args.count c.args.flag c.requires.once c.requires.few c.requires.classes in
+    c.args.count c.args.flag c.requires.front.2 c.requires.few c.requires.classes in
     (step_ready _ _ _ _ _ _ _ _ _ _ _ _ g c.classes.left c.classes-test.true c.classes.invariant.within c.named-i.result c.named-i.ensures
     _ _ _ _ _ _ _ c.classes.invariant.merging (sym c.is_class.ensures ∙ c.if-is_class.true)).marked
 
 pub merge_one-now-requires-clause-members : goal.merge_one-now-requires-clause-members
 merge_one-now-requires-clause-members g c = let g = premises (length c.args.next.now)
     c.args.iw.now c.args.pe.now c.args.e_len.now c.args.len.now c.args.nv.now c.args.w.now c.args.next.now c.args.last.now c.args.from
-    c.args.count c.args.flag c.requires.once c.requires.few c.requires.classes in
+    c.args.count c.args.flag c.requires.front.2 c.requires.few c.requires.classes in
     (step_ready _ _ _ _ _ _ _ _ _ _ _ _ g c.classes.left c.classes-test.true c.classes.invariant.within c.named-i.result c.named-i.ensures
     _ _ _ _ _ _ _ c.classes.invariant.merging (sym c.is_class.ensures ∙ c.if-is_class.true)).members
 
 pub merge_one-now-requires-clause-standing : goal.merge_one-now-requires-clause-standing
 merge_one-now-requires-clause-standing g c = let g = premises (length c.args.next.now)
     c.args.iw.now c.args.pe.now c.args.e_len.now c.args.len.now c.args.nv.now c.args.w.now c.args.next.now c.args.last.now c.args.from
-    c.args.count c.args.flag c.requires.once c.requires.few c.requires.classes in
+    c.args.count c.args.flag c.requires.front.2 c.requires.few c.requires.classes in
     (step_ready _ _ _ _ _ _ _ _ _ _ _ _ g c.classes.left c.classes-test.true c.classes.invariant.within c.named-i.result c.named-i.ensures
     _ _ _ _ _ _ _ c.classes.invariant.merging (sym c.is_class.ensures ∙ c.if-is_class.true)).standing
 
 pub merge_one-now-requires-clause-room : goal.merge_one-now-requires-clause-room
 merge_one-now-requires-clause-room g c = let g = premises (length c.args.next.now)
     c.args.iw.now c.args.pe.now c.args.e_len.now c.args.len.now c.args.nv.now c.args.w.now c.args.next.now c.args.last.now c.args.from
-    c.args.count c.args.flag c.requires.once c.requires.few c.requires.classes in
+    c.args.count c.args.flag c.requires.front.2 c.requires.few c.requires.classes in
     let a : c.classes.now + 1 ≤ c.args.flag + c.args.count = step_room _ _ _ _ _ _ _ _ _ _ _ _ g c.classes.left c.classes-test.true
     c.classes.invariant.within c.named-i.result c.named-i.ensures _ _ _ _ _ _ _ c.classes.invariant.merging (sym c.is_class.ensures
     ∙ c.if-is_class.true) in
@@ -70,7 +70,7 @@ merge_one-now-requires-clause-room g c = let g = premises (length c.args.next.no
 pub classes-preserved-then-is_class : goal.classes-preserved-then-is_class
 classes-preserved-then-is_class g c = let g = premises (length c.args.next.now)
     c.args.iw.now c.args.pe.now c.args.e_len.now c.args.len.now c.args.nv.now c.args.w.now c.args.next.now c.args.last.now c.args.from
-    c.args.count c.args.flag c.requires.once c.requires.few c.requires.classes in
+    c.args.count c.args.flag c.requires.front.2 c.requires.few c.requires.classes in
     let t = c.classes.invariant.within in let d = c.merge_one-now.ensures in record {
       within = omega (arith, t);
       merging = step_settles _ _ _ _ _ _ _ _ _ _ _ _ g c.classes.left c.classes-test.true c.classes.invariant.within c.named-i.result
@@ -81,91 +81,47 @@ classes-preserved-then-is_class g c = let g = premises (length c.args.next.now)
 pub classes-preserved : goal.classes-preserved
 classes-preserved g c = let g = premises (length c.args.next.now)
     c.args.iw.now c.args.pe.now c.args.e_len.now c.args.len.now c.args.nv.now c.args.w.now c.args.next.now c.args.last.now c.args.from
-    c.args.count c.args.flag c.requires.once c.requires.few c.requires.classes in
+    c.args.count c.args.flag c.requires.front.2 c.requires.few c.requires.classes in
     let t = c.classes.invariant.within in record {
       within = omega (arith, t);
       merging = step_skips _ _ _ _ _ _ _ _ _ _ _ _ g c.classes.left c.classes-test.true c.classes.invariant.within c.named-i.result
           c.named-i.ensures _ _ _ _ _ _ _ c.classes.invariant.merging (sym c.is_class.ensures ∙ c.if-is_class.false);
     }
 
-pub returns-then-count-lt2-clause-merged : goal.returns-then-count-lt2-clause-merged
-returns-then-count-lt2-clause-merged g c =
+pub returns-then-count-lt2-clause-merges : goal.returns-then-count-lt2-clause-merges
+returns-then-count-lt2-clause-merges g c =
     let a = classes_few c.args.nv.now c.args.iw.now c.args.from c.args.count in let t = c.if-count-lt2.true in
-    few_merged (alike_in (kept_of c.args.iw.now c.args.pe.now c.args.e_len.now)
+    let merged = few_merged (alike_in (kept_of c.args.iw.now c.args.pe.now c.args.e_len.now)
     (near_of c.args.iw.now c.args.pe.now c.args.e_len.now c.args.len.now)) c.args.pe.now c.args.e_len.now c.args.nv.now c.args.next.now
-    (classes c.args.nv.now (rows c.args.iw.now c.args.from c.args.count)) (omega (arith, a, t))
+    (classes c.args.nv.now (rows c.args.iw.now c.args.from c.args.count)) (omega (arith, a, t)) in record {
+      merged = merged;
+      made = made_is (rows c.args.iw.now c.args.from c.args.count) _ _ _ _ _ _ _ _ _ merged;
+      heads = λ b k m. absurd (let e = c.requires.empty b k in omega (arith, e, m));
+      linked = λ head degree lists none h. h;
+    }
 
-pub returns-then-count-lt2-clause-made : goal.returns-then-count-lt2-clause-made
-returns-then-count-lt2-clause-made g c =
-    let a = classes_few c.args.nv.now c.args.iw.now c.args.from c.args.count in let t = c.if-count-lt2.true in
-    made_is (rows c.args.iw.now c.args.from c.args.count) _ _ _ _ _ _ _ _ _
-    (few_merged (alike_in (kept_of c.args.iw.now c.args.pe.now c.args.e_len.now)
-    (near_of c.args.iw.now c.args.pe.now c.args.e_len.now c.args.len.now)) c.args.pe.now c.args.e_len.now c.args.nv.now c.args.next.now
-    (classes c.args.nv.now (rows c.args.iw.now c.args.from c.args.count)) (omega (arith, a, t)))
-
-pub returns-clause-merged : goal.returns-clause-merged
-returns-clause-merged g c =
-    let g = premises (length c.args.next.now) c.args.iw.now c.args.pe.now c.args.e_len.now c.args.len.now c.args.nv.now c.args.w.now
-    c.args.next.now c.args.last.now c.args.from c.args.count c.args.flag c.requires.once c.requires.few c.requires.classes in
-    all_merged _ _ _ _ _ _ _ _ _ _ _ g.once _ _ _ _ _ _ _
-    (subst (λ k. Merging (length c.args.next.now) c.args.iw.now c.args.pe.now c.args.e_len.now c.args.len.now c.args.nv.now c.args.w.now
-    c.args.next.now c.args.last.now (classes c.args.nv.now (rows c.args.iw.now c.args.from c.args.count)) c.args.flag
+pub returns-clause-merges : goal.returns-clause-merges
+returns-clause-merges g c =
+    let list : List ℕ = rows c.args.iw.now c.args.from c.args.count in
+    let state = subst (λ k. Merging (length c.args.next.now) c.args.iw.now c.args.pe.now c.args.e_len.now c.args.len.now c.args.nv.now
+    c.args.w.now c.args.next.now c.args.last.now (classes c.args.nv.now list) c.args.flag
     k c.classes.pe c.classes.e_len c.classes.nv c.classes.w c.classes.hash c.classes.next c.classes.now)
-    (classes_end c.args.nv.now c.args.iw.now c.args.from c.classes.left c.classes-test.false) c.classes.invariant.merging)
-
-pub returns-clause-made : goal.returns-clause-made
-returns-clause-made g c =
-    let merged : MergesAll (classes c.args.nv.now (rows c.args.iw.now c.args.from c.args.count))
-    (represents_in c.args.iw.now c.args.pe.now c.args.e_len.now c.args.len.now (classes c.args.nv.now
-    (rows c.args.iw.now c.args.from c.args.count)))
+    (classes_end c.args.nv.now c.args.iw.now c.args.from c.classes.left c.classes-test.false) c.classes.invariant.merging in
+    let merged : MergesAll (classes c.args.nv.now list)
+    (represents_in c.args.iw.now c.args.pe.now c.args.e_len.now c.args.len.now (classes c.args.nv.now list))
     c.args.pe.now c.args.e_len.now c.args.nv.now c.args.next.now c.classes.pe c.classes.e_len c.classes.nv c.classes.next = (
     let g = premises (length c.args.next.now) c.args.iw.now c.args.pe.now c.args.e_len.now c.args.len.now c.args.nv.now c.args.w.now
-    c.args.next.now c.args.last.now c.args.from c.args.count c.args.flag c.requires.once c.requires.few c.requires.classes in
-    all_merged _ _ _ _ _ _ _ _ _ _ _ g.once _ _ _ _ _ _ _
-    (subst (λ k. Merging (length c.args.next.now) c.args.iw.now c.args.pe.now c.args.e_len.now c.args.len.now c.args.nv.now c.args.w.now
-    c.args.next.now c.args.last.now (classes c.args.nv.now (rows c.args.iw.now c.args.from c.args.count)) c.args.flag
-    k c.classes.pe c.classes.e_len c.classes.nv c.classes.w c.classes.hash c.classes.next c.classes.now)
-    (classes_end c.args.nv.now c.args.iw.now c.args.from c.classes.left c.classes-test.false) c.classes.invariant.merging)) in
-    made_is (rows c.args.iw.now c.args.from c.args.count) _ _ _ _ _ _ _ _ _ merged
-
-pub returns-clause-heads : goal.returns-clause-heads
-returns-clause-heads g c b small full =
-    let merged : MergesAll (classes c.args.nv.now (rows c.args.iw.now c.args.from c.args.count))
-    (represents_in c.args.iw.now c.args.pe.now c.args.e_len.now c.args.len.now (classes c.args.nv.now
-    (rows c.args.iw.now c.args.from c.args.count)))
-    c.args.pe.now c.args.e_len.now c.args.nv.now c.args.next.now c.classes.pe c.classes.e_len c.classes.nv c.classes.next = (
-    let g = premises (length c.args.next.now) c.args.iw.now c.args.pe.now c.args.e_len.now c.args.len.now c.args.nv.now c.args.w.now
-    c.args.next.now c.args.last.now c.args.from c.args.count c.args.flag c.requires.once c.requires.few c.requires.classes in
-    all_merged _ _ _ _ _ _ _ _ _ _ _ g.once _ _ _ _ _ _ _
-    (subst (λ k. Merging (length c.args.next.now) c.args.iw.now c.args.pe.now c.args.e_len.now c.args.len.now c.args.nv.now c.args.w.now
-    c.args.next.now c.args.last.now (classes c.args.nv.now (rows c.args.iw.now c.args.from c.args.count)) c.args.flag
-    k c.classes.pe c.classes.e_len c.classes.nv c.classes.w c.classes.hash c.classes.next c.classes.now)
-    (classes_end c.args.nv.now c.args.iw.now c.args.from c.classes.left c.classes-test.false) c.classes.invariant.merging)) in
-    let head = (all_heads _ _ _ _ _ _ _ _ _ _ _ _ _ _ _ _ _ _
-    (subst (λ k. Merging (length c.args.next.now) c.args.iw.now c.args.pe.now c.args.e_len.now c.args.len.now c.args.nv.now c.args.w.now
-    c.args.next.now c.args.last.now (classes c.args.nv.now (rows c.args.iw.now c.args.from c.args.count)) c.args.flag
-    k c.classes.pe c.classes.e_len c.classes.nv c.classes.w c.classes.hash c.classes.next c.classes.now)
-    (classes_end c.args.nv.now c.args.iw.now c.args.from c.classes.left c.classes-test.false) c.classes.invariant.merging) b small full)
-    in (
-      (let f = c.if-count-lt2.false in omega (arith, f)),
-      made_from (rows c.args.iw.now c.args.from c.args.count) _ _ _ _ _ _ _ _ _ merged (num c.classes.hash b) head.0 head.1,
-      head.2,
-    )
-
-pub returns-clause-linked : goal.returns-clause-linked
-returns-clause-linked g c head degree lists none h =
-    let merged : MergesAll (classes c.args.nv.now (rows c.args.iw.now c.args.from c.args.count))
-    (represents_in c.args.iw.now c.args.pe.now c.args.e_len.now c.args.len.now (classes c.args.nv.now
-    (rows c.args.iw.now c.args.from c.args.count)))
-    c.args.pe.now c.args.e_len.now c.args.nv.now c.args.next.now c.classes.pe c.classes.e_len c.classes.nv c.classes.next = (
-    let g = premises (length c.args.next.now) c.args.iw.now c.args.pe.now c.args.e_len.now c.args.len.now c.args.nv.now c.args.w.now
-    c.args.next.now c.args.last.now c.args.from c.args.count c.args.flag c.requires.once c.requires.few c.requires.classes in
-    all_merged _ _ _ _ _ _ _ _ _ _ _ g.once _ _ _ _ _ _ _
-    (subst (λ k. Merging (length c.args.next.now) c.args.iw.now c.args.pe.now c.args.e_len.now c.args.len.now c.args.nv.now c.args.w.now
-    c.args.next.now c.args.last.now (classes c.args.nv.now (rows c.args.iw.now c.args.from c.args.count)) c.args.flag
-    k c.classes.pe c.classes.e_len c.classes.nv c.classes.w c.classes.hash c.classes.next c.classes.now)
-    (classes_end c.args.nv.now c.args.iw.now c.args.from c.classes.left c.classes-test.false) c.classes.invariant.merging)) in
-    still_linked (rows c.args.iw.now c.args.from c.args.count) _ _ _ _ _ _ _ _ _ merged _ head c.args.last.now degree lists none h
+    c.args.next.now c.args.last.now c.args.from c.args.count c.args.flag c.requires.front.2 c.requires.few c.requires.classes in
+    all_merged _ _ _ _ _ _ _ _ _ _ _ g.once _ _ _ _ _ _ _ state) in record {
+      merged = merged;
+      made = made_is list _ _ _ _ _ _ _ _ _ merged;
+      heads = λ b small full. let head = all_heads _ _ _ _ _ _ _ _ _ _ _ _ _ _ _ _ _ _ state b small full in (
+        (let f = c.if-count-lt2.false in omega (arith, f)),
+        made_from list _ _ _ _ _ _ _ _ _ merged (num c.classes.hash b) head.0 head.1,
+        head.2,
+      );
+      linked = λ head degree lists none h. still_linked list _ _ _ _ _ _ _ _ _ merged _ head c.args.last.now degree lists none h;
+    }
 
 pub returns-clause-flag : goal.returns-clause-flag
 returns-clause-flag g c = let f = c.classes.invariant.merging.flags in let a = f.0 in let b = f.1 in let d =
