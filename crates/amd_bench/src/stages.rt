@@ -17,7 +17,7 @@ use amd_cases::matrix::Matrix;
 use amd_cells::{Signed, Unsigned};
 use amd_engine::amd_1::holds;
 use amd_engine::ended::list_rows;
-use amd_engine::fresh::{Lists, fresh_lists};
+use amd_engine::fresh::fresh_lists;
 use amd_engine::running::run_fresh;
 use amd_numbers::dense::dense_threshold;
 use amd_numbers::internal::{known_count, to_count};
@@ -113,29 +113,17 @@ fn time_elimination<R: Runtime + Alloc<A = Global>, I: PrimInt, S: Signed, U: Un
     let mut laid: Laid<S, U, Global> = lay(rt.alloc(), size, a_p, a_i, degrees, room)?;
     clock.end(rt, "lay")?;
     let threshold = dense_threshold(size, &control);
-    let Lists {
-        mut counts,
-        mut links,
-        mut p,
-        mut p_inv,
-    } = fresh_lists(rt.alloc(), size)?;
+    let mut lists = fresh_lists(rt.alloc(), size)?;
     clock.end(rt, "lists")?;
+    let (iw, pe, len) = (&mut laid.iw, &mut laid.pe, &mut laid.len);
+    let (counts, links) = (&mut lists.counts, &mut lists.links);
     run_fresh(
-        &mut laid.iw,
-        &mut laid.pe,
-        &mut laid.len,
-        &mut counts,
-        &mut links,
-        laid.free,
-        2,
-        &control,
-        None,
-        threshold,
+        iw, pe, len, counts, links, laid.free, 2, &control, None, threshold,
     );
     clock.end(rt, "rounds")?;
-    list_rows(&mut laid.pe, &mut counts, &mut links, &mut p, &mut p_inv);
+    list_rows(pe, counts, links, &mut lists.p, &mut lists.p_inv);
     clock.end(rt, "listing")?;
-    Ok(p)
+    Ok(lists.p)
 }
 
 /// Orders a matrix whose columns are sorted.

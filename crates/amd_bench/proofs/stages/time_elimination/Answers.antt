@@ -43,10 +43,10 @@ pub run_fresh-requires-clause-fresh : goal.run_fresh-requires-clause-fresh
 run_fresh-requires-clause-fresh g c =
     let size : length c.deref_mut-3.result.now ≡ length c.args.degrees.now =
     ap length c.deref_mut-3.ensures.value ∙ ap length c.in_ok-laid.ensures.degrees in
-    let counts = c.in_ok-counts.field-0.counts in
-    let links = c.in_ok-counts.field-0.links in
+    let counts = c.in_ok-lists.lists.counts in
+    let links = c.in_ok-lists.lists.links in
     fresh_same (length c.args.degrees.now) (length c.deref_mut-3.result.now) counts.e_len.items counts.nv.items counts.degree.items
-    counts.w.items links.head.items links.next.items links.last.items links.hash.items c.in_ok-counts.ensures.fresh (sym size)
+    counts.w.items links.head.items links.next.items links.last.items links.hash.items c.in_ok-lists.ensures.fresh (sym size)
 
 pub run_fresh-requires-clause-narrow : goal.run_fresh-requires-clause-narrow
 run_fresh-requires-clause-narrow g c =
@@ -109,7 +109,7 @@ list_rows-requires-clause-rows g c =
     let left = written c.run_fresh.new.pe pe.items pe.len pe.ok.0 refl (c.run_fresh.auto.pe ∙ ap length c.deref_mut-2.ensures.value)
     c.deref_mut-4.ensures.value in
     let rows : length c.deref_mut-4.result.now ≡ length c.deref_mut-3.result.now = ap length left.0 ∙ over.words.0 in
-    let some = c.in_ok-counts.ensures.rows in
+    let some = c.in_ok-lists.ensures.rows in
     (ap length c.deref_mut-5.ensures.value ∙ some.0 ∙ sym (rows ∙ size), ap length c.deref_mut-6.ensures.value ∙ some.1 ∙ sym (rows ∙ size))
 
 pub list_rows-requires-clause-narrow : goal.list_rows-requires-clause-narrow
