@@ -18,3 +18,4 @@ pub mod Lengths
 pub mod Tallies
 pub mod TurningLists
 pub mod FrontLists
+pub mod Pivots

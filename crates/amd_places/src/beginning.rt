@@ -5,11 +5,13 @@
 
 ghost use Rattle.std.specs.Prelude.{◌≡◌, ◌<◌, ◌≤◌, ◌+◌, ◌^◌, ◌==◌, ◌&&◌, not, cond, pos, ℕ, [], true, false, length};
 ghost use Rattle.std.specs.Prelude.{nat_lt, sum_by};
-ghost use Rattle.amd_model.specs.Quotient.{has, Once};
-ghost use Rattle.amd_places.specs.Words.{num, word, place, is_place, start, size_of, in_front};
+ghost use Rattle.amd_model.specs.Quotient.{has};
+ghost use Rattle.amd_places.specs.Words.{num, word, is_place, size_of, in_front};
 ghost use Rattle.amd_places.specs.Element.{front_of};
-ghost use Rattle.amd_places.specs.Layout.{has_list, end_of, elements_in, Layout, live_words};
+ghost use Rattle.amd_places.specs.Layout.{has_list, elements_in, Layout, live_words};
 ghost use Rattle.amd_places.specs.Beginning.{Begins};
+ghost use Rattle.amd_places.specs.Lengths.{HasLists};
+ghost use Rattle.amd_places.specs.Pivots.{built_front, HasElements, IsBehind};
 
 use crate::making::make_element;
 use crate::own_place::make_own;
@@ -94,8 +96,7 @@ pub fn begin_built<S: Signed, U: Unsigned>(
     me: usize,
     free: usize,
 ) -> Begun
-    requires lengths { (length pe.old ≡ length nv.old) × (length e_len.old ≡ length nv.old) ×
-        (length len.old ≡ length nv.old) × (length w.old ≡ length nv.old) }
+    requires lengths { HasLists (length nv.old) pe.old e_len.old len.old w.old }
     requires short { (length iw.old < 2 ^ 63) × (length nv.old + 2 ≤ S.MOST) }
     requires narrow { (length iw.old ≤ S.MOST) × (length iw.old ≤ U.MOST) }
     requires end { free ≤ length iw.old }
@@ -104,26 +105,20 @@ pub fn begin_built<S: Signed, U: Unsigned>(
     requires pivot { (me < length nv.old) × (0 < size_of nv.old me) }
     requires listed { has_list pe.old len.old me ≡ true }
     requires count { is_place (word e_len.old me) ≡ true }
-    requires elements { (e : ℕ) → has (elements_in iw.old pe.old e_len.old me) e ≡ true →
-        has_list pe.old len.old e ≡ true }
-    requires apart { has (elements_in iw.old pe.old e_len.old me) me ≡ false }
-    requires once { Once (elements_in iw.old pe.old e_len.old me) }
+    requires elements { HasElements iw.old pe.old e_len.old len.old me }
     requires clear { (j : ℕ) → in_front nv.old j ≡ false }
-    requires few { sum_by (size_of nv.old) (front_of iw.old nv.old pe.old len.old me (place (word e_len.old me)))
-        + 2 ≤ S.MOST }
+    requires few { sum_by (size_of nv.old) (built_front iw.old nv.old pe.old e_len.old len.old me) + 2 ≤ S.MOST }
     ensures begins { Begins (length nv.old) me (elements_in iw.old pe.old e_len.old me)
-        (front_of iw.old nv.old pe.old len.old me (place (word e_len.old me))) result.total iw.old nv.old pe.old
-        e_len.old len.old iw.new nv.new pe.new e_len.new len.new result.free }
+        (built_front iw.old nv.old pe.old e_len.old len.old me) result.total iw.old nv.old pe.old e_len.old len.old
+        iw.new nv.new pe.new e_len.new len.new result.free }
     ensures counters { (e : ℕ) → num w.new e ≡ cond (has (elements_in iw.old pe.old e_len.old me) e) 0 (num w.old e) }
     ensures long { length w.new ≡ length w.old }
-    ensures before { (j : ℕ) → (j ≡ me → ⊥) → has_list pe.new len.new j ≡ true →
-        end_of pe.new len.new j ≤ start pe.new me }
+    ensures before { IsBehind pe.new len.new me }
     ensures end { result.free ≤ length iw.new }
-    ensures total { result.total ≡ sum_by (size_of nv.old)
-        (front_of iw.old nv.old pe.old len.old me (place (word e_len.old me))) }
+    ensures total { result.total ≡ sum_by (size_of nv.old) (built_front iw.old nv.old pe.old e_len.old len.old me) }
     ensures block { result.block ≡ size_of nv.old me }
     ensures packed { result.packed ≡ nat_lt (length iw.old)
-        (free + length (front_of iw.old nv.old pe.old len.old me (place (word e_len.old me)))) }
+        (free + length (built_front iw.old nv.old pe.old e_len.old len.old me)) }
 {
     let (from, packed) = make_room(iw, nv, pe, len, e_len, me, free);
     let (end, total) = make_element(iw, nv, pe, e_len, len, w, me, from);

@@ -56,7 +56,7 @@ make_room-from-requires-clause-count g c =
 
 pub make_room-from-requires-clause-elements : goal.make_room-from-requires-clause-elements
 make_room-from-requires-clause-elements g c =
-    c.requires.elements
+    c.requires.elements.listed
 
 pub make_room-from-requires-clause-clear : goal.make_room-from-requires-clause-clear
 make_room-from-requires-clause-clear g c =
@@ -145,7 +145,7 @@ make_element-end-requires-clause-elements g c =
     let rooms : Rooms (length nv) iw pe e_len len c.args.free iw1 pe1 c.make_room-from.result.0 = c.make_room-from.ensures.rooms in
     let same_nv : c.make_room-from.new.nv ≡ nv = c.make_room-from.ensures.same.0 in
     let same_len : c.make_room-from.new.len ≡ len = c.make_room-from.ensures.same.1 in
-    rw same_len (rooms_known c.requires.laid rooms me c.requires.listed c.requires.elements)
+    rw same_len (rooms_known c.requires.laid rooms me c.requires.listed c.requires.elements.listed)
 
 pub make_element-end-requires-clause-apart : goal.make_element-end-requires-clause-apart
 make_element-end-requires-clause-apart g c =
@@ -155,9 +155,9 @@ make_element-end-requires-clause-apart g c =
     let rooms : Rooms (length nv) iw pe e_len len c.args.free iw1 pe1 c.make_room-from.result.0 = c.make_room-from.ensures.rooms in
     let same_nv : c.make_room-from.new.nv ≡ nv = c.make_room-from.ensures.same.0 in
     let same_len : c.make_room-from.new.len ≡ len = c.make_room-from.ensures.same.1 in
-    let es = rooms_elements c.requires.laid rooms me c.requires.listed c.requires.elements in
-    let front_is = rooms_front c.requires.laid rooms me c.requires.listed c.requires.elements nv in
-    ap (λ xs. has xs me) es ∙ c.requires.apart
+    let es = rooms_elements c.requires.laid rooms me c.requires.listed c.requires.elements.listed in
+    let front_is = rooms_front c.requires.laid rooms me c.requires.listed c.requires.elements.listed nv in
+    ap (λ xs. has xs me) es ∙ c.requires.elements.apart
 
 pub make_element-end-requires-clause-once : goal.make_element-end-requires-clause-once
 make_element-end-requires-clause-once g c =
@@ -167,9 +167,9 @@ make_element-end-requires-clause-once g c =
     let rooms : Rooms (length nv) iw pe e_len len c.args.free iw1 pe1 c.make_room-from.result.0 = c.make_room-from.ensures.rooms in
     let same_nv : c.make_room-from.new.nv ≡ nv = c.make_room-from.ensures.same.0 in
     let same_len : c.make_room-from.new.len ≡ len = c.make_room-from.ensures.same.1 in
-    let es = rooms_elements c.requires.laid rooms me c.requires.listed c.requires.elements in
-    let front_is = rooms_front c.requires.laid rooms me c.requires.listed c.requires.elements nv in
-    subst Once (sym es) c.requires.once
+    let es = rooms_elements c.requires.laid rooms me c.requires.listed c.requires.elements.listed in
+    let front_is = rooms_front c.requires.laid rooms me c.requires.listed c.requires.elements.listed nv in
+    subst Once (sym es) c.requires.elements.once
 
 pub make_element-end-requires-clause-clear : goal.make_element-end-requires-clause-clear
 make_element-end-requires-clause-clear g c =
@@ -189,8 +189,8 @@ make_element-end-requires-clause-fits g c =
     let rooms : Rooms (length nv) iw pe e_len len c.args.free iw1 pe1 c.make_room-from.result.0 = c.make_room-from.ensures.rooms in
     let same_nv : c.make_room-from.new.nv ≡ nv = c.make_room-from.ensures.same.0 in
     let same_len : c.make_room-from.new.len ≡ len = c.make_room-from.ensures.same.1 in
-    let es = rooms_elements c.requires.laid rooms me c.requires.listed c.requires.elements in
-    let front_is = rooms_front c.requires.laid rooms me c.requires.listed c.requires.elements nv in
+    let es = rooms_elements c.requires.laid rooms me c.requires.listed c.requires.elements.listed in
+    let front_is = rooms_front c.requires.laid rooms me c.requires.listed c.requires.elements.listed nv in
     rw (same_nv, same_len) (let a = ap length front_is in let l = rooms.long in let f = c.make_room-from.ensures.fits in
     omega (arith, a, l, f))
 
@@ -202,8 +202,8 @@ make_element-end-requires-clause-few g c =
     let rooms : Rooms (length nv) iw pe e_len len c.args.free iw1 pe1 c.make_room-from.result.0 = c.make_room-from.ensures.rooms in
     let same_nv : c.make_room-from.new.nv ≡ nv = c.make_room-from.ensures.same.0 in
     let same_len : c.make_room-from.new.len ≡ len = c.make_room-from.ensures.same.1 in
-    let es = rooms_elements c.requires.laid rooms me c.requires.listed c.requires.elements in
-    let front_is = rooms_front c.requires.laid rooms me c.requires.listed c.requires.elements nv in
+    let es = rooms_elements c.requires.laid rooms me c.requires.listed c.requires.elements.listed in
+    let front_is = rooms_front c.requires.laid rooms me c.requires.listed c.requires.elements.listed nv in
     rw (same_nv, same_len) (let a = ap (sum_by (size_of nv)) front_is in let f = c.requires.few in omega (arith, a, f))
 
 pub take_pivot-block-requires-clause-inside : goal.take_pivot-block-requires-clause-inside
@@ -214,8 +214,8 @@ take_pivot-block-requires-clause-inside g c =
     let rooms : Rooms (length nv) iw pe e_len len c.args.free iw1 pe1 c.make_room-from.result.0 = c.make_room-from.ensures.rooms in
     let same_nv : c.make_room-from.new.nv ≡ nv = c.make_room-from.ensures.same.0 in
     let same_len : c.make_room-from.new.len ≡ len = c.make_room-from.ensures.same.1 in
-    let es = rooms_elements c.requires.laid rooms me c.requires.listed c.requires.elements in
-    let front_is = rooms_front c.requires.laid rooms me c.requires.listed c.requires.elements nv in
+    let es = rooms_elements c.requires.laid rooms me c.requires.listed c.requires.elements.listed in
+    let front_is = rooms_front c.requires.laid rooms me c.requires.listed c.requires.elements.listed nv in
     let from : ℕ = c.make_room-from.result.0 in let end : ℕ = c.make_element-end.result.0 in
     let total : ℕ = c.make_element-end.result.1 in let iw2 : List ℤ = c.make_element-end.new.iw in
     let nv2 : List ℤ = c.make_element-end.new.nv in let front : List ℕ = front_of iw nv pe len me m in
@@ -233,8 +233,8 @@ take_pivot-block-requires-clause-marked g c =
     let rooms : Rooms (length nv) iw pe e_len len c.args.free iw1 pe1 c.make_room-from.result.0 = c.make_room-from.ensures.rooms in
     let same_nv : c.make_room-from.new.nv ≡ nv = c.make_room-from.ensures.same.0 in
     let same_len : c.make_room-from.new.len ≡ len = c.make_room-from.ensures.same.1 in
-    let es = rooms_elements c.requires.laid rooms me c.requires.listed c.requires.elements in
-    let front_is = rooms_front c.requires.laid rooms me c.requires.listed c.requires.elements nv in
+    let es = rooms_elements c.requires.laid rooms me c.requires.listed c.requires.elements.listed in
+    let front_is = rooms_front c.requires.laid rooms me c.requires.listed c.requires.elements.listed nv in
     let from : ℕ = c.make_room-from.result.0 in let end : ℕ = c.make_element-end.result.0 in
     let total : ℕ = c.make_element-end.result.1 in let iw2 : List ℤ = c.make_element-end.new.iw in
     let nv2 : List ℤ = c.make_element-end.new.nv in let front : List ℕ = front_of iw nv pe len me m in
@@ -252,8 +252,8 @@ returns-clause-begins g c =
     let rooms : Rooms (length nv) iw pe e_len len c.args.free iw1 pe1 c.make_room-from.result.0 = c.make_room-from.ensures.rooms in
     let same_nv : c.make_room-from.new.nv ≡ nv = c.make_room-from.ensures.same.0 in
     let same_len : c.make_room-from.new.len ≡ len = c.make_room-from.ensures.same.1 in
-    let es = rooms_elements c.requires.laid rooms me c.requires.listed c.requires.elements in
-    let front_is = rooms_front c.requires.laid rooms me c.requires.listed c.requires.elements nv in
+    let es = rooms_elements c.requires.laid rooms me c.requires.listed c.requires.elements.listed in
+    let front_is = rooms_front c.requires.laid rooms me c.requires.listed c.requires.elements.listed nv in
     let from : ℕ = c.make_room-from.result.0 in let end : ℕ = c.make_element-end.result.0 in
     let total : ℕ = c.make_element-end.result.1 in let iw2 : List ℤ = c.make_element-end.new.iw in
     let nv2 : List ℤ = c.make_element-end.new.nv in let front : List ℕ = front_of iw nv pe len me m in
@@ -282,8 +282,8 @@ returns-clause-counters g c =
     let rooms : Rooms (length nv) iw pe e_len len c.args.free iw1 pe1 c.make_room-from.result.0 = c.make_room-from.ensures.rooms in
     let same_nv : c.make_room-from.new.nv ≡ nv = c.make_room-from.ensures.same.0 in
     let same_len : c.make_room-from.new.len ≡ len = c.make_room-from.ensures.same.1 in
-    let es = rooms_elements c.requires.laid rooms me c.requires.listed c.requires.elements in
-    let front_is = rooms_front c.requires.laid rooms me c.requires.listed c.requires.elements nv in
+    let es = rooms_elements c.requires.laid rooms me c.requires.listed c.requires.elements.listed in
+    let front_is = rooms_front c.requires.laid rooms me c.requires.listed c.requires.elements.listed nv in
     λ e. c.make_element-end.ensures.counters e ∙ ap (λ xs. cond (has xs e) 0 (num c.args.w.now e)) es
 
 pub returns-clause-long : goal.returns-clause-long
@@ -298,8 +298,8 @@ returns-clause-before g c =
     let rooms : Rooms (length nv) iw pe e_len len c.args.free iw1 pe1 c.make_room-from.result.0 = c.make_room-from.ensures.rooms in
     let same_nv : c.make_room-from.new.nv ≡ nv = c.make_room-from.ensures.same.0 in
     let same_len : c.make_room-from.new.len ≡ len = c.make_room-from.ensures.same.1 in
-    let es = rooms_elements c.requires.laid rooms me c.requires.listed c.requires.elements in
-    let front_is = rooms_front c.requires.laid rooms me c.requires.listed c.requires.elements nv in
+    let es = rooms_elements c.requires.laid rooms me c.requires.listed c.requires.elements.listed in
+    let front_is = rooms_front c.requires.laid rooms me c.requires.listed c.requires.elements.listed nv in
     let from : ℕ = c.make_room-from.result.0 in let end : ℕ = c.make_element-end.result.0 in
     let total : ℕ = c.make_element-end.result.1 in let iw2 : List ℤ = c.make_element-end.new.iw in
     let nv2 : List ℤ = c.make_element-end.new.nv in let front : List ℕ = front_of iw nv pe len me m in
@@ -326,8 +326,8 @@ returns-clause-end g c =
     let rooms : Rooms (length nv) iw pe e_len len c.args.free iw1 pe1 c.make_room-from.result.0 = c.make_room-from.ensures.rooms in
     let same_nv : c.make_room-from.new.nv ≡ nv = c.make_room-from.ensures.same.0 in
     let same_len : c.make_room-from.new.len ≡ len = c.make_room-from.ensures.same.1 in
-    let es = rooms_elements c.requires.laid rooms me c.requires.listed c.requires.elements in
-    let front_is = rooms_front c.requires.laid rooms me c.requires.listed c.requires.elements nv in
+    let es = rooms_elements c.requires.laid rooms me c.requires.listed c.requires.elements.listed in
+    let front_is = rooms_front c.requires.laid rooms me c.requires.listed c.requires.elements.listed nv in
     let from : ℕ = c.make_room-from.result.0 in let end : ℕ = c.make_element-end.result.0 in
     let total : ℕ = c.make_element-end.result.1 in let iw2 : List ℤ = c.make_element-end.new.iw in
     let nv2 : List ℤ = c.make_element-end.new.nv in let front : List ℕ = front_of iw nv pe len me m in
@@ -347,8 +347,8 @@ returns-clause-total g c =
     let rooms : Rooms (length nv) iw pe e_len len c.args.free iw1 pe1 c.make_room-from.result.0 = c.make_room-from.ensures.rooms in
     let same_nv : c.make_room-from.new.nv ≡ nv = c.make_room-from.ensures.same.0 in
     let same_len : c.make_room-from.new.len ≡ len = c.make_room-from.ensures.same.1 in
-    let es = rooms_elements c.requires.laid rooms me c.requires.listed c.requires.elements in
-    let front_is = rooms_front c.requires.laid rooms me c.requires.listed c.requires.elements nv in
+    let es = rooms_elements c.requires.laid rooms me c.requires.listed c.requires.elements.listed in
+    let front_is = rooms_front c.requires.laid rooms me c.requires.listed c.requires.elements.listed nv in
     let from : ℕ = c.make_room-from.result.0 in let end : ℕ = c.make_element-end.result.0 in
     let total : ℕ = c.make_element-end.result.1 in let iw2 : List ℤ = c.make_element-end.new.iw in
     let nv2 : List ℤ = c.make_element-end.new.nv in let front : List ℕ = front_of iw nv pe len me m in
@@ -366,8 +366,8 @@ returns-clause-block g c =
     let rooms : Rooms (length nv) iw pe e_len len c.args.free iw1 pe1 c.make_room-from.result.0 = c.make_room-from.ensures.rooms in
     let same_nv : c.make_room-from.new.nv ≡ nv = c.make_room-from.ensures.same.0 in
     let same_len : c.make_room-from.new.len ≡ len = c.make_room-from.ensures.same.1 in
-    let es = rooms_elements c.requires.laid rooms me c.requires.listed c.requires.elements in
-    let front_is = rooms_front c.requires.laid rooms me c.requires.listed c.requires.elements nv in
+    let es = rooms_elements c.requires.laid rooms me c.requires.listed c.requires.elements.listed in
+    let front_is = rooms_front c.requires.laid rooms me c.requires.listed c.requires.elements.listed nv in
     let from : ℕ = c.make_room-from.result.0 in let end : ℕ = c.make_element-end.result.0 in
     let total : ℕ = c.make_element-end.result.1 in let iw2 : List ℤ = c.make_element-end.new.iw in
     let nv2 : List ℤ = c.make_element-end.new.nv in let front : List ℕ = front_of iw nv pe len me m in
