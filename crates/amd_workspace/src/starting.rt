@@ -3,14 +3,16 @@
 // AMD user guide on dense rows. Called by `running` of the crate `amd_engine`.
 
 ghost use Rattle.std.specs.Prelude.{◌≡◌, ◌<◌, ◌≤◌, ◌+◌, ◌==◌, ◌||◌, ℕ, ℤ, pos, negsuc, true, false, List, ◌∷◌, cond};
-ghost use Rattle.std.specs.Prelude.{nat_lt, length, reverse, slice_set};
+ghost use Rattle.std.specs.Prelude.{nat_lt, length, slice_set};
 ghost use Rattle.std.specs.Option.{option_copied};
 ghost use Rattle.amd_model.specs.Below.{count_below};
 ghost use Rattle.amd_model.specs.Input.Held.{HasMarks, is_marked};
 ghost use Rattle.amd_model.specs.Quotient.{has};
 ghost use Rattle.amd_places.specs.Words.{num, flip_of};
 ghost use Rattle.amd_places.specs.Chains.{DegreeLists};
-ghost use Rattle.amd_workspace.specs.Starting.{BeginsRows, held_in, is_class, classes_of};
+ghost use Rattle.amd_places.specs.Lengths.{HasWords, HasLinks};
+ghost use Rattle.amd_workspace.specs.Starting.{BeginsRows, held_in};
+ghost use Rattle.amd_workspace.specs.Classes.{class_in, HasClasses};
 
 use amd_cells::{Figure, Signed, Unsigned, Word, figure_at, put_figure, put_word};
 use amd_numbers::held::is_held;
@@ -71,8 +73,7 @@ fn place_row<S: Signed, U: Unsigned>(
     ensures sizes { nv.new ≡ slice_set nv.old i (pos 1) }
     ensures bounds { degree.new ≡ slice_set degree.old i count }
     ensures counters { w.new ≡ slice_set w.old i 1 }
-    ensures lengths { (length head.new ≡ length next.old) × (length next.new ≡ length next.old) ×
-        (length last.new ≡ length next.old) }
+    ensures lengths { HasLinks (length next.old) head.new next.new last.new }
     ensures linked { (lists : ℕ → List ℕ) → ((b : ℕ) → b < length next.old → has (lists b) i ≡ false) →
         DegreeLists (length next.old) head.old next.old last.old degree.old lists →
         DegreeLists (length next.old) head.new next.new last.new degree.new
@@ -114,11 +115,9 @@ pub fn begin<S: Signed, U: Unsigned>(
     hold: Option<&[bool]>,
     threshold: usize,
 ) -> (usize, usize)
-    requires words { (length pe.old ≡ length len.old) × (length e_len.old ≡ length len.old) ×
-        (length nv.old ≡ length len.old) }
+    requires words { HasWords (length len.old) pe.old e_len.old nv.old }
     requires figures { (length degree.old ≡ length len.old) × (length w.old ≡ length len.old) }
-    requires links { (length head.old ≡ length len.old) × (length next.old ≡ length len.old) ×
-        (length last.old ≡ length len.old) }
+    requires links { HasLinks (length len.old) head.old next.old last.old }
     requires narrow { (length len.old + 2 ≤ S.MOST) × (length len.old ≤ U.MOST) }
     requires degrees { (i : ℕ) → i < length len.old → num len.old i < length len.old }
     requires heads { (b : ℕ) → b < length len.old → length len.old ≤ num head.old b }
@@ -126,12 +125,9 @@ pub fn begin<S: Signed, U: Unsigned>(
     ensures begins { BeginsRows (length len.old) (length len.old) (held_in (option_copied hold.entry) threshold len.old)
         (record { pe = pe.old; e_len = e_len.old; nv = nv.old; len = len.old; degree = degree.old; w = w.old })
         (record { pe = pe.new; e_len = e_len.new; nv = nv.new; len = len.new; degree = degree.new; w = w.new }) }
-    ensures lengths { (length head.new ≡ length len.old) × (length next.new ≡ length len.old) ×
-        (length last.new ≡ length len.old) }
-    ensures linked { DegreeLists (length len.old) head.new next.new last.new degree.new
-        (λ b. reverse (classes_of (held_in (option_copied hold.entry) threshold len.old) len.old (length len.old) b)) }
-    ensures live { result.0 ≡ count_below (length len.old)
-        (is_class (held_in (option_copied hold.entry) threshold len.old) len.old) }
+    ensures lengths { HasLinks (length len.old) head.new next.new last.new }
+    ensures linked { HasClasses (option_copied hold.entry) threshold len.old head.new next.new last.new degree.new }
+    ensures live { result.0 ≡ count_below (length len.old) (class_in (option_copied hold.entry) threshold len.old) }
     ensures dense { result.1 ≡ count_below (length len.old) (held_in (option_copied hold.entry) threshold len.old) }
 {
     let mut live: usize = 0;
