@@ -4,11 +4,12 @@
 
 ghost use Rattle.std.specs.Prelude.{◌≡◌, ◌<◌, ◌≤◌, ◌+◌, ◌-◌, ◌^◌, ◌==◌, ◌&&◌, ◌∷◌, not, min, cond, ℕ, List, true};
 ghost use Rattle.std.specs.Prelude.{false, length, slice_set};
-ghost use Rattle.amd_model.specs.Quotient.{has, Once};
-ghost use Rattle.amd_places.specs.Words.{num, size_of, in_front, rows, Names};
+ghost use Rattle.amd_model.specs.Quotient.{has};
+ghost use Rattle.amd_places.specs.Words.{num, size_of, in_front, rows};
 ghost use Rattle.amd_places.specs.Chains.{DegreeLists};
+ghost use Rattle.amd_places.specs.FrontLists.{IsList, LongToPlace, AreHeads, CanPlace, HasLists, PutsAll};
 ghost use Rattle.amd_places.specs.Renewal.{Filters};
-ghost use Rattle.amd_places.specs.Restoring.{marked_in, bound_in, put_all, IsPlaceable, Restores};
+ghost use Rattle.amd_places.specs.Restoring.{marked_in, bound_in, IsPlaceable, Restores};
 
 use crate::chains::put_head;
 use crate::words::{is_marked, leave, named};
@@ -96,50 +97,27 @@ pub fn restore<S: Signed, U: Unsigned>(
     left: usize,
     least: usize,
 ) -> (usize, usize)
-    requires lengths { (length nv.old ≡ length next.old) × (length degree.old ≡ length next.old) ×
-        (length head.old ≡ length next.old) × (length last.old ≡ length next.old) ×
-        (length hash.old ≡ length next.old) }
+    requires lengths { LongToPlace (length next.old) nv.old degree.old head.old next.old last.old hash.old }
     requires short { (length iw.old < 2 ^ 63) × (length next.old + 2 ≤ S.MOST) × (length next.old ≤ U.MOST) }
-    requires inside { from + count ≤ length iw.old }
-    requires names { Names (length next.old) iw.old from count }
-    requires once { Once (rows iw.old from count) }
-    requires classes { (i : ℕ) → has (rows iw.old from count) i ≡ true → in_front nv.old i ≡ true →
-        IsPlaceable (length next.old) border nv.old degree.old last.old i }
+    requires front { IsList (length next.old) iw.old from count }
+    requires classes { CanPlace (length next.old) border nv.old degree.old last.old (rows iw.old from count) }
     requires order { (border ≤ left) × (left ≤ length next.old) }
-    requires heads { (b : ℕ) → b < length next.old → num hash.old b < length next.old → (1 < count) ×
-        (has (marked_in nv.old (rows iw.old from count)) (num hash.old b) ≡ true) ×
-        (num last.old (num hash.old b) ≡ b) }
-    requires linked { (lists : ℕ → List ℕ) × DegreeLists (length next.old) head.old next.old last.old degree.old lists ×
-        ((b x : ℕ) → b < length next.old → has (lists b) x ≡ true → has (rows iw.old from count) x ≡ false) }
+    requires heads { AreHeads (length next.old) count (marked_in nv.old (rows iw.old from count)) hash.old last.old }
+    requires linked { HasLists (length next.old) (rows iw.old from count) head.old next.old last.old degree.old }
     ensures filters { Filters (length next.old) (in_front nv.old) (λ j. 0) 0 iw.old from count from iw.new result.0 0 }
-    ensures restores { Restores (rows iw.old from count) border left least nv.old degree.old nv.new degree.new
-        result.1 }
+    ensures placed { Restores (rows iw.old from count) border left least nv.old degree.old nv.new degree.new result.1 }
     ensures empty { (b : ℕ) → b < length next.old → length next.old ≤ num hash.new b }
-    ensures linked { (lists : ℕ → List ℕ) → ((b x : ℕ) → b < length next.old → has (lists b) x ≡ true →
-        has (rows iw.old from count) x ≡ false) → DegreeLists (length next.old) head.old next.old last.old degree.old
-        lists → DegreeLists (length next.old) head.new next.new last.new degree.new
-        (put_all (bound_in border left nv.old degree.old) (marked_in nv.old (rows iw.old from count)) lists) }
-    ensures lengths { (length nv.new ≡ length next.old) × (length degree.new ≡ length next.old) ×
-        (length head.new ≡ length next.old) × (length next.new ≡ length next.old) ×
-        (length last.new ≡ length next.old) × (length hash.new ≡ length next.old) }
+    ensures linked { PutsAll (length next.old) border left (rows iw.old from count) nv.old head.old next.old last.old
+        degree.old head.new next.new last.new degree.new }
+    ensures lengths { LongToPlace (length next.old) nv.new degree.new head.new next.new last.new hash.new }
 {
+    let is_used = count > 1;
     let mut end = from;
     let mut low = least;
     for p in from..from + count {
         let i = named(iw, p);
         if is_marked(nv, i) {
-            let bound = place_class(
-                nv,
-                degree,
-                head,
-                next,
-                last,
-                hash,
-                i,
-                border,
-                left,
-                count > 1,
-            );
+            let bound = place_class(nv, degree, head, next, last, hash, i, border, left, is_used);
             low = low.min(bound);
             copy_word(iw, p, end);
             end += 1;

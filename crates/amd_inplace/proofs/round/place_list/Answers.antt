@@ -7,20 +7,9 @@ use Rattle.amd_places.specs.Renewal.{Filters}
 use Rattle.amd_places.specs.Restoring.{marked_in, bound_in, put_all, Restores}
 use Rattle.amd_inplace.proofs.round.place_list.Goals as goal
 
-pub restore-end-requires-clause-lengths : goal.restore-end-requires-clause-lengths
-restore-end-requires-clause-lengths g c = let l = c.requires.lengths in (l.0, l.1, l.2, l.4, l.5)
-
-pub restore-end-requires-clause-inside : goal.restore-end-requires-clause-inside
-restore-end-requires-clause-inside g c =
-    let a = c.requires.front.0 in let b = c.named-from.ensures in let d = c.figure_at-count.ensures.is in omega (arith, a, b, d)
-
-pub restore-end-requires-clause-names : goal.restore-end-requires-clause-names
-restore-end-requires-clause-names g c =
-    rw (c.named-from.ensures, c.figure_at-count.ensures.is) c.requires.front.1
-
-pub restore-end-requires-clause-once : goal.restore-end-requires-clause-once
-restore-end-requires-clause-once g c =
-    rw (c.named-from.ensures, c.figure_at-count.ensures.is) c.requires.front.2
+pub restore-end-requires-clause-front : goal.restore-end-requires-clause-front
+restore-end-requires-clause-front g c =
+    rw (c.named-from.ensures, c.figure_at-count.ensures.is) c.requires.front
 
 pub restore-end-requires-clause-classes : goal.restore-end-requires-clause-classes
 restore-end-requires-clause-classes g c =
@@ -46,7 +35,7 @@ returns-clause-restores g c =
     ap (λ s. rows iw s c.figure_at-count.result) c.named-from.ensures
     ∙ ap (rows iw (start pe c.args.me)) c.figure_at-count.ensures.is in
     subst (λ xs. Restores xs c.args.border c.args.left c.args.least c.args.nv.now c.args.degree.now c.restore-end.new.nv
-    c.restore-end.new.degree c.restore-end.result.1) list c.restore-end.ensures.restores
+    c.restore-end.new.degree c.restore-end.result.1) list c.restore-end.ensures.placed
 
 pub returns-clause-linked : goal.returns-clause-linked
 returns-clause-linked g c lists other h =

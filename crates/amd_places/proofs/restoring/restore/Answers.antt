@@ -32,8 +32,8 @@ unfolding has
 loop-p-init g c =
     let iw : List ℤ = c.args.iw.now in let nv : List ℤ = c.args.nv.now in let from : ℕ = c.args.from in
     let n : ℕ = length c.args.next.now in
-    let e : from - from ≡ 0 = omega arith in let none = marked_none nv iw from in let a = c.requires.lengths in record {
-      lengths = (a.0, a.1, a.2, refl, a.3, a.4);
+    let e : from - from ≡ 0 = omega arith in let none = marked_none nv iw from in record {
+      lengths = c.requires.lengths;
       filters = subst (λ m. Filters n (in_front nv) (λ j. 0) 0 iw from m from iw from 0) (sym e)
           (filters_none n (in_front nv) (λ j. 0) 0 iw from from (omega arith));
       restores = record {
@@ -53,7 +53,7 @@ named-i-requires-clause-is_one g c =
     let n : ℕ = length c.args.next.now in let from : ℕ = c.args.from in let p : ℕ = c.loop-p.p in let k : ℕ = p - from in
     let after : from ≤ p = c.loop-p.auto.p in let t = c.loop-p-test.true in let at : p ≡ from + k = omega (arith, after) in
     let l : k < c.args.count = omega (arith, after, t) in let next : p + 1 - from ≡ k + 1 = omega (arith, after) in
-    let was = c.loop-p.invariant in let h = was.filters in let word_k = c.requires.names k l in let high = h.high in
+    let was = c.loop-p.invariant in let h = was.filters in let word_k = c.requires.front.1 k l in let high = h.high in
     let same : word c.loop-p.iw p ≡ word iw p = h.above p (omega (arith, high, at)) in
     let is_one : is_place (word iw p) ≡ true = ap (λ m. is_place (word iw m)) at ∙ word_k.0 in
     let small : place (word iw p) < n = (let a = ap (λ m. place (word iw m)) at in let b = word_k.1 in omega (arith, a, b)) in
@@ -65,14 +65,14 @@ is_marked-requires g c =
     let n : ℕ = length c.args.next.now in let from : ℕ = c.args.from in let p : ℕ = c.loop-p.p in let k : ℕ = p - from in
     let after : from ≤ p = c.loop-p.auto.p in let t = c.loop-p-test.true in let at : p ≡ from + k = omega (arith, after) in
     let l : k < c.args.count = omega (arith, after, t) in let next : p + 1 - from ≡ k + 1 = omega (arith, after) in
-    let was = c.loop-p.invariant in let h = was.filters in let word_k = c.requires.names k l in let high = h.high in
+    let was = c.loop-p.invariant in let h = was.filters in let word_k = c.requires.front.1 k l in let high = h.high in
     let same : word c.loop-p.iw p ≡ word iw p = h.above p (omega (arith, high, at)) in
     let is_one : is_place (word iw p) ≡ true = ap (λ m. is_place (word iw m)) at ∙ word_k.0 in
     let small : place (word iw p) < n = (let a = ap (λ m. place (word iw m)) at in let b = word_k.1 in omega (arith, a, b)) in
     let i : ℕ = c.named-i.result in let row : i ≡ place (word iw p) = c.named-i.ensures ∙ ap place same in
     let is : i ≡ place (word iw (from + k)) = row ∙ ap (λ m. place (word iw m)) at in let tiny : i < n = omega (arith, row, small) in
     let named : has (rows iw from c.args.count) i ≡ true = ap (has (rows iw from c.args.count)) is ∙ rows_has iw from c.args.count k l in
-    let fresh : has (rows iw from k) i ≡ false = ap (has (rows iw from k)) is ∙ fresh_word iw from c.args.count k l c.requires.once in
+    let fresh : has (rows iw from k) i ≡ false = ap (has (rows iw from k)) is ∙ fresh_word iw from c.args.count k l c.requires.front.2 in
     let bound : ℕ → ℕ = bound_in c.args.border c.args.left nv degree in
     let mark_same : in_front c.loop-p.nv i ≡ in_front nv i = was.restores.marks i
     ∙ ap (λ b. in_front nv i && not b) fresh ∙ and-true (in_front nv i) in
@@ -88,14 +88,14 @@ place_class-bound-requires g c =
     let n : ℕ = length c.args.next.now in let from : ℕ = c.args.from in let p : ℕ = c.loop-p.p in let k : ℕ = p - from in
     let after : from ≤ p = c.loop-p.auto.p in let t = c.loop-p-test.true in let at : p ≡ from + k = omega (arith, after) in
     let l : k < c.args.count = omega (arith, after, t) in let next : p + 1 - from ≡ k + 1 = omega (arith, after) in
-    let was = c.loop-p.invariant in let h = was.filters in let word_k = c.requires.names k l in let high = h.high in
+    let was = c.loop-p.invariant in let h = was.filters in let word_k = c.requires.front.1 k l in let high = h.high in
     let same : word c.loop-p.iw p ≡ word iw p = h.above p (omega (arith, high, at)) in
     let is_one : is_place (word iw p) ≡ true = ap (λ m. is_place (word iw m)) at ∙ word_k.0 in
     let small : place (word iw p) < n = (let a = ap (λ m. place (word iw m)) at in let b = word_k.1 in omega (arith, a, b)) in
     let i : ℕ = c.named-i.result in let row : i ≡ place (word iw p) = c.named-i.ensures ∙ ap place same in
     let is : i ≡ place (word iw (from + k)) = row ∙ ap (λ m. place (word iw m)) at in let tiny : i < n = omega (arith, row, small) in
     let named : has (rows iw from c.args.count) i ≡ true = ap (has (rows iw from c.args.count)) is ∙ rows_has iw from c.args.count k l in
-    let fresh : has (rows iw from k) i ≡ false = ap (has (rows iw from k)) is ∙ fresh_word iw from c.args.count k l c.requires.once in
+    let fresh : has (rows iw from k) i ≡ false = ap (has (rows iw from k)) is ∙ fresh_word iw from c.args.count k l c.requires.front.2 in
     let bound : ℕ → ℕ = bound_in c.args.border c.args.left nv degree in
     let mark_same : in_front c.loop-p.nv i ≡ in_front nv i = was.restores.marks i
     ∙ ap (λ b. in_front nv i && not b) fresh ∙ and-true (in_front nv i) in
@@ -125,14 +125,14 @@ loop-p-preserved g c =
     let n : ℕ = length c.args.next.now in let from : ℕ = c.args.from in let p : ℕ = c.loop-p.p in let k : ℕ = p - from in
     let after : from ≤ p = c.loop-p.auto.p in let t = c.loop-p-test.true in let at : p ≡ from + k = omega (arith, after) in
     let l : k < c.args.count = omega (arith, after, t) in let next : p + 1 - from ≡ k + 1 = omega (arith, after) in
-    let was = c.loop-p.invariant in let h = was.filters in let word_k = c.requires.names k l in let high = h.high in
+    let was = c.loop-p.invariant in let h = was.filters in let word_k = c.requires.front.1 k l in let high = h.high in
     let same : word c.loop-p.iw p ≡ word iw p = h.above p (omega (arith, high, at)) in
     let is_one : is_place (word iw p) ≡ true = ap (λ m. is_place (word iw m)) at ∙ word_k.0 in
     let small : place (word iw p) < n = (let a = ap (λ m. place (word iw m)) at in let b = word_k.1 in omega (arith, a, b)) in
     let i : ℕ = c.named-i.result in let row : i ≡ place (word iw p) = c.named-i.ensures ∙ ap place same in
     let is : i ≡ place (word iw (from + k)) = row ∙ ap (λ m. place (word iw m)) at in let tiny : i < n = omega (arith, row, small) in
     let named : has (rows iw from c.args.count) i ≡ true = ap (has (rows iw from c.args.count)) is ∙ rows_has iw from c.args.count k l in
-    let fresh : has (rows iw from k) i ≡ false = ap (has (rows iw from k)) is ∙ fresh_word iw from c.args.count k l c.requires.once in
+    let fresh : has (rows iw from k) i ≡ false = ap (has (rows iw from k)) is ∙ fresh_word iw from c.args.count k l c.requires.front.2 in
     let bound : ℕ → ℕ = bound_in c.args.border c.args.left nv degree in
     let mark_same : in_front c.loop-p.nv i ≡ in_front nv i = was.restores.marks i
     ∙ ap (λ b. in_front nv i && not b) fresh ∙ and-true (in_front nv i) in
@@ -177,7 +177,7 @@ loop-p-preserved g c =
             next,
           ) record {
             lengths = (v.0 ∙ long.3, v.1 ∙ long.3, v.2 ∙ long.3, v.3 ∙ long.3, v.4 ∙ long.3, v.5 ∙ long.3);
-            filters = filters_yes n (in_front nv) (λ j. 0) 0 iw from from h p 0 at (omega arith) (let a = c.requires.inside in
+            filters = filters_yes n (in_front nv) (λ j. 0) 0 iw from from h p 0 at (omega arith) (let a = c.requires.front.0 in
                 omega (arith, a, at, l))
                 is_one small (ap (in_front nv) (sym is) ∙ here) (let z = cut_small 0 (omega arith) in omega (arith, z));
             restores = record {
@@ -196,7 +196,7 @@ loop-p-preserved g c =
             };
             lasts = λ x m g. let q = rows_fresh nv iw from k i is x g in let given = c.requires.linked in
                 e.lasts x q.0 (no_head n c.loop-p.head c.loop-p.next c.loop-p.last c.loop-p.degree (put_all bound met given.0) b x
-                (was.linked given.0 given.2 given.1) tight (rows_small n iw from c.args.count c.requires.names x m)
+                (was.linked given.0 given.2 given.1) tight (rows_small n iw from c.args.count c.requires.front.1 x m)
                 (out_met given.0 given.2 b x tight m q.1)) ∙ was.lasts x m q.1;
             empties = subst (Emptying n iw from c.args.hash.now (k + 1)) (sym hash_is)
                 (emptying_clears n iw nv from c.args.count c.args.hash.now c.args.last.now c.requires.heads k i is
@@ -250,8 +250,8 @@ returns-clause-filters g c =
     subst (λ m. Filters (length c.args.next.now) (in_front c.args.nv.now) (λ j. 0) 0 c.args.iw.now c.args.from m c.args.from c.loop-p.iw
     c.loop-p.end 0) all c.loop-p.invariant.filters
 
-pub returns-clause-restores : goal.returns-clause-restores
-returns-clause-restores g c =
+pub returns-clause-placed : goal.returns-clause-placed
+returns-clause-placed g c =
     let t = c.loop-p-test.false in let after : c.args.from ≤ c.loop-p.p = c.loop-p.auto.p in
     let past : c.loop-p.p ≤ c.args.from + c.args.count = c.loop-p.auto.p-end (omega arith) in
     let all : c.loop-p.p - c.args.from ≡ c.args.count = omega (arith, t, after, past) in
