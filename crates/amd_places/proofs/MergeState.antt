@@ -16,7 +16,7 @@ use Rattle.amd_views.proofs.Merging.Representatives.{Found, found_none, found_mo
 use Rattle.amd_views.proofs.Merging.Representatives.{alike_flip, alike_through}
 use Rattle.amd_views.specs.Rounds.{alike_in}
 use Rattle.amd_places.specs.Chains.{Chain}
-use Rattle.amd_places.specs.Merging.{links, kept_of, near_of, words_of, IsRenewed, AreApart, IsMember, MergesInto, Pushes, Settles}
+use Rattle.amd_places.specs.Merging.{links, kept_of, near_of, words_of, IsRenewed, AreApart, IsMember, MergesInto, Pushes, Settles, IsReady}
 use Rattle.amd_places.specs.Merging.{MergesAll, IsHead, key_of}
 use Rattle.amd_places.proofs.BucketWalk.{links_is}
 use Rattle.amd_places.proofs.ChainLists.{chain_same}
@@ -24,15 +24,6 @@ use Rattle.amd_places.proofs.Likeness.{alike_key}
 use Rattle.amd_places.proofs.MergeBack.{miss, MergedBack, back_none, back_stays, back_moves, back_fits, Written, written_none, written_not}
 use Rattle.amd_places.proofs.MergeBack.{written_self, written_stays, written_moves, back_all}
 use Rattle.amd_places.proofs.SameWords.{words_same, renewed_same, apart_same, alike_same, once_back, either_end}
-
--- what merge_one asks for the class i
-pub record Ready (n : ℕ) (iw : List ℤ) (len last : List ℕ) (i : ℕ) (pe e_len nv : List ℤ) (w hash next : List ℕ) : Type 0 where
-  pub key : num last i < n
-  pub chain : Chain n next (num hash (num last i)) (links n next n (num hash (num last i)))
-  pub here : IsRenewed n iw pe e_len len i
-  pub marked : in_front nv i ≡ true
-  pub members : (j : ℕ) → has (links n next n (num hash (num last i))) j ≡ true → IsMember n iw pe e_len len nv i j
-  pub standing : (x : ℕ) → has (words_of iw pe len i) x ≡ true → 0 < num w x
 
 module _ (n : ℕ) (iw pe0 e_len0 : List ℤ) (len : List ℕ) (nv0 : List ℤ) (w0 next0 last rest : List ℕ) (flag0 : ℕ) where
   abbrev pub like : ℕ → ℕ → Bool
@@ -166,7 +157,7 @@ module _ (n : ℕ) (iw pe0 e_len0 : List ℤ) (len : List ℕ) (nv0 : List ℤ) 
       | inl e ↦ (let z = eqb-true (num w0 x) 0 (sym (st.zeros x) ∙ eq-eqb (num w x) 0 e) in absurd (omega (arith, z, l)))
     ]
 
-    ready : Ready n iw len last i pe e_len nv w hash next
+    ready : IsReady n iw len last i pe e_len nv w hash next
     ready = record {
       key = key_small;
       chain = subst (Chain n next (num hash (num last i))) (sym bucket_is) (st.chains (num last i) key_small);
@@ -177,8 +168,8 @@ module _ (n : ℕ) (iw pe0 e_len0 : List ℤ) (len : List ℕ) (nv0 : List ℤ) 
           ∙ h));
     }
 
-    pub ready_at : (j : ℕ) → j ≡ get_or rest k 0 → Ready n iw len last j pe e_len nv w hash next
-    ready_at j e = subst (λ z. Ready n iw len last z pe e_len nv w hash next) (sym e) ready
+    pub ready_at : (j : ℕ) → j ≡ get_or rest k 0 → IsReady n iw len last j pe e_len nv w hash next
+    ready_at j e = subst (λ z. IsReady n iw len last z pe e_len nv w hash next) (sym e) ready
 
     pub size_at : (j : ℕ) → j ≡ get_or rest k 0 → size_of nv j ≡ size_of nv0 j
     size_at j e = ap (size_of nv) e ∙ st.left i fresh ∙ ap (size_of nv0) (sym e)

@@ -10,10 +10,10 @@ use Rattle.amd_model.specs.Quotient.{has, Once}
 use Rattle.amd_model.proofs.Quotient.Lists.{once_filter, has_filter}
 use Rattle.amd_places.specs.Words.{num, word, place, rows, size_of, classes}
 use Rattle.amd_views.specs.Rounds.{alike_in}
-use Rattle.amd_places.specs.Merging.{bucket, links, kept_of, near_of, AreRenewed, Settles}
+use Rattle.amd_places.specs.Merging.{bucket, links, kept_of, near_of, AreRenewed, Settles, IsReady}
 use Rattle.amd_places.proofs.RowLists.{rows_none, rows_length}
 use Rattle.amd_places.proofs.Gathering.{classes_yes, classes_no, classes_split}
-use Rattle.amd_places.proofs.MergeState.{Ready, Premises, Merging, ready_at, size_at, settled_at}
+use Rattle.amd_places.proofs.MergeState.{Premises, Merging, ready_at, size_at, settled_at}
 
 -- what a test keeps is no longer
 kept_short : (p : ℕ → Bool) (xs : List ℕ) → length (Rattle.std.specs.Prelude.filter p xs) ≤ length xs
@@ -98,8 +98,8 @@ module _ (n : ℕ) (iw pe0 e_len0 : List ℤ) (len : List ℕ) (nv0 : List ℤ) 
     was : (b : Bool) → nat_lt 0 (size_of nv j) ≡ b → nat_lt 0 (size_of nv0 (place (word iw (from + (left - 1))))) ≡ b
     was b h = ap (λ x. nat_lt 0 (size_of nv0 x)) (sym is) ∙ ap (nat_lt 0) (sym size_now) ∙ h
 
-    pub step_ready : nat_lt 0 (size_of nv j) ≡ true → Ready (length next) iw len last j pe e_len nv w hash next
-    step_ready h = let c = was true h in subst (λ z. Ready z iw len last j pe e_len nv w hash next) (sym st.long.5)
+    pub step_ready : nat_lt 0 (size_of nv j) ≡ true → IsReady (length next) iw len last j pe e_len nv w hash next
+    step_ready h = let c = was true h in subst (λ z. IsReady z iw len last j pe e_len nv w hash next) (sym st.long.5)
         (ready_at n iw pe0 e_len0 len nv0 w0 next0 last rest flag0 g (k c) (within c) pe e_len nv w hash next flag (st_k c) j (at_k c))
 
     pub step_room : nat_lt 0 (size_of nv j) ≡ true → flag + 1 ≤ flag0 + count

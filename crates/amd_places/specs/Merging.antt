@@ -4,6 +4,7 @@ use Rattle.std.specs.Prelude.{◌==◌, ◌&&◌, ◌⊎◌}
 use Rattle.std.specs.Prelude.{negsuc, not, nat_lt, cond, length, sum_by, filter, slice_set}
 use Rattle.amd_model.specs.Quotient.{has, each, Once, last_that}
 use Rattle.amd_places.specs.Words.{num, is_place, place, word, start, size_of, in_front, flip_of, rows, Names}
+use Rattle.amd_places.specs.Chains.{Chain}
 use Rattle.amd_views.specs.Rounds.{alike_in}
 
 -- the rows to which the links from x on lead, as many as the fuel at most
@@ -93,6 +94,16 @@ pub record IsMember (n : ℕ) (iw pe e_len : List ℤ) (len : List ℕ) (nv : Li
   pub other : j ≡ i → ⊥
   pub marked : in_front nv j ≡ true
   pub small : size_of nv j + size_of nv i ≤ n
+
+-- the class i stands ready to be looked for in its bucket, and to be merged or put there
+pub record IsReady (n : ℕ) (iw : List ℤ) (len last : List ℕ) (i : ℕ) (pe e_len nv : List ℤ) (w hash next : List ℕ)
+    : Type 0 where
+  pub key : num last i < n
+  pub chain : Chain n next (num hash (num last i)) (links n next n (num hash (num last i)))
+  pub here : IsRenewed n iw pe e_len len i
+  pub marked : in_front nv i ≡ true
+  pub members : (j : ℕ) → has (links n next n (num hash (num last i))) j ≡ true → IsMember n iw pe e_len len nv i j
+  pub standing : (x : ℕ) → has (words_of iw pe len i) x ≡ true → 0 < num w x
 
 -- what is known of the classes of a front, with rows of their own and lists that were renewed, before they are merged:
 -- each has its key in `last`, and what it lists has a counter that is not 0

@@ -10,7 +10,7 @@ ghost use Rattle.amd_views.specs.Rounds.{alike_in};
 ghost use Rattle.amd_places.specs.Chains.{Chain};
 ghost use Rattle.amd_places.specs.FrontLists.{IsList, LongToMerge, MergesList};
 ghost use Rattle.amd_places.specs.Merging.{bucket, kept_of, near_of, words_of, IsRenewed, AreApart, looks, Finds};
-ghost use Rattle.amd_places.specs.Merging.{Settles, IsMember, AreRenewed};
+ghost use Rattle.amd_places.specs.Merging.{Settles, AreRenewed, IsReady};
 
 use crate::words::{named, put_flip};
 use amd_cells::{Figure, Signed, Unsigned, Word, figure_at, put_figure, put_word, word_at};
@@ -221,27 +221,16 @@ fn merge_one<S: Signed, U: Unsigned>(
     i: usize,
     flag: usize,
 ) -> usize
-    requires lengths { (length pe.old ≡ length next.old) × (length e_len.old ≡ length next.old) ×
-        (length len.now ≡ length next.old) × (length nv.old ≡ length next.old) }
-    requires more_lengths { (length w.old ≡ length next.old) × (length hash.old ≡ length next.old) ×
-        (length last.now ≡ length next.old) }
+    requires lengths { LongToMerge (length next.old) pe.old e_len.old nv.old len.now w.old hash.old next.old last.now }
     requires short { (length iw.now < 2 ^ 63) × (length next.old + 2 ≤ S.MOST) × (length next.old ≤ U.MOST) }
-    requires key { num last.now i < length next.old }
-    requires chain { Chain (length next.old) next.old (num hash.old (num last.now i))
-        (bucket next.old (num hash.old (num last.now i))) }
-    requires here { IsRenewed (length next.old) iw.now pe.old e_len.old len.now i }
-    requires marked { in_front nv.old i ≡ true }
-    requires members { (j : ℕ) → has (bucket next.old (num hash.old (num last.now i))) j ≡ true →
-        IsMember (length next.old) iw.now pe.old e_len.old len.now nv.old i j }
+    requires ready { IsReady (length next.old) iw.now len.now last.now i pe.old e_len.old nv.old w.old hash.old
+        next.old }
     requires under { (x : ℕ) → num w.old x < flag }
-    requires standing { (x : ℕ) → has (words_of iw.now pe.old len.now i) x ≡ true → 0 < num w.old x }
     requires room { flag + 1 ≤ U.MOST }
     ensures settles { Settles (alike_in (kept_of iw.now pe.old e_len.old) (near_of iw.now pe.old e_len.old len.now))
         (bucket next.old (num hash.old (num last.now i))) i (num last.now i) hash.old next.old pe.old e_len.old nv.old
         hash.new next.new pe.new e_len.new nv.new }
-    ensures lengths { (length pe.new ≡ length pe.old) × (length e_len.new ≡ length e_len.old) ×
-        (length nv.new ≡ length nv.old) × (length w.new ≡ length w.old) }
-    ensures more_lengths { (length hash.new ≡ length hash.old) × (length next.new ≡ length next.old) }
+    ensures lengths { LongToMerge (length next.old) pe.new e_len.new nv.new len.now w.new hash.new next.new last.now }
     ensures flag { (flag ≤ result) × (result ≤ flag + 1) }
     ensures under { (x : ℕ) → num w.new x < result }
     ensures zeros { (x : ℕ) → (num w.new x == 0) ≡ (num w.old x == 0) }

@@ -16,47 +16,12 @@ classes-init g c = let l = c.requires.lengths in record {
       c.args.hash.now c.requires.empty c.requires.under (l.0, l.1, l.2, l.4, l.5, refl);
 }
 
-pub merge_one-now-requires-clause-key : goal.merge_one-now-requires-clause-key
-merge_one-now-requires-clause-key g c = let g = premises (length c.args.next.now)
+pub merge_one-now-requires-clause-ready : goal.merge_one-now-requires-clause-ready
+merge_one-now-requires-clause-ready g c = let g = premises (length c.args.next.now)
     c.args.iw.now c.args.pe.now c.args.e_len.now c.args.len.now c.args.nv.now c.args.w.now c.args.next.now c.args.last.now c.args.from
     c.args.count c.args.flag c.requires.front.2 c.requires.few c.requires.classes in
-    (step_ready _ _ _ _ _ _ _ _ _ _ _ _ g c.classes.left c.classes-test.true c.classes.invariant.within c.named-i.result c.named-i.ensures
-    _ _ _ _ _ _ _ c.classes.invariant.merging (sym c.is_class.ensures ∙ c.if-is_class.true)).key
-
-pub merge_one-now-requires-clause-chain : goal.merge_one-now-requires-clause-chain
-merge_one-now-requires-clause-chain g c = let g = premises (length c.args.next.now)
-    c.args.iw.now c.args.pe.now c.args.e_len.now c.args.len.now c.args.nv.now c.args.w.now c.args.next.now c.args.last.now c.args.from
-    c.args.count c.args.flag c.requires.front.2 c.requires.few c.requires.classes in
-    (step_ready _ _ _ _ _ _ _ _ _ _ _ _ g c.classes.left c.classes-test.true c.classes.invariant.within c.named-i.result c.named-i.ensures
-    _ _ _ _ _ _ _ c.classes.invariant.merging (sym c.is_class.ensures ∙ c.if-is_class.true)).chain
-
-pub merge_one-now-requires-clause-here : goal.merge_one-now-requires-clause-here
-merge_one-now-requires-clause-here g c = let g = premises (length c.args.next.now)
-    c.args.iw.now c.args.pe.now c.args.e_len.now c.args.len.now c.args.nv.now c.args.w.now c.args.next.now c.args.last.now c.args.from
-    c.args.count c.args.flag c.requires.front.2 c.requires.few c.requires.classes in
-    (step_ready _ _ _ _ _ _ _ _ _ _ _ _ g c.classes.left c.classes-test.true c.classes.invariant.within c.named-i.result c.named-i.ensures
-    _ _ _ _ _ _ _ c.classes.invariant.merging (sym c.is_class.ensures ∙ c.if-is_class.true)).here
-
-pub merge_one-now-requires-clause-marked : goal.merge_one-now-requires-clause-marked
-merge_one-now-requires-clause-marked g c = let g = premises (length c.args.next.now)
-    c.args.iw.now c.args.pe.now c.args.e_len.now c.args.len.now c.args.nv.now c.args.w.now c.args.next.now c.args.last.now c.args.from
-    c.args.count c.args.flag c.requires.front.2 c.requires.few c.requires.classes in
-    (step_ready _ _ _ _ _ _ _ _ _ _ _ _ g c.classes.left c.classes-test.true c.classes.invariant.within c.named-i.result c.named-i.ensures
-    _ _ _ _ _ _ _ c.classes.invariant.merging (sym c.is_class.ensures ∙ c.if-is_class.true)).marked
-
-pub merge_one-now-requires-clause-members : goal.merge_one-now-requires-clause-members
-merge_one-now-requires-clause-members g c = let g = premises (length c.args.next.now)
-    c.args.iw.now c.args.pe.now c.args.e_len.now c.args.len.now c.args.nv.now c.args.w.now c.args.next.now c.args.last.now c.args.from
-    c.args.count c.args.flag c.requires.front.2 c.requires.few c.requires.classes in
-    (step_ready _ _ _ _ _ _ _ _ _ _ _ _ g c.classes.left c.classes-test.true c.classes.invariant.within c.named-i.result c.named-i.ensures
-    _ _ _ _ _ _ _ c.classes.invariant.merging (sym c.is_class.ensures ∙ c.if-is_class.true)).members
-
-pub merge_one-now-requires-clause-standing : goal.merge_one-now-requires-clause-standing
-merge_one-now-requires-clause-standing g c = let g = premises (length c.args.next.now)
-    c.args.iw.now c.args.pe.now c.args.e_len.now c.args.len.now c.args.nv.now c.args.w.now c.args.next.now c.args.last.now c.args.from
-    c.args.count c.args.flag c.requires.front.2 c.requires.few c.requires.classes in
-    (step_ready _ _ _ _ _ _ _ _ _ _ _ _ g c.classes.left c.classes-test.true c.classes.invariant.within c.named-i.result c.named-i.ensures
-    _ _ _ _ _ _ _ c.classes.invariant.merging (sym c.is_class.ensures ∙ c.if-is_class.true)).standing
+    step_ready _ _ _ _ _ _ _ _ _ _ _ _ g c.classes.left c.classes-test.true c.classes.invariant.within c.named-i.result c.named-i.ensures
+    _ _ _ _ _ _ _ c.classes.invariant.merging (sym c.is_class.ensures ∙ c.if-is_class.true)
 
 pub merge_one-now-requires-clause-room : goal.merge_one-now-requires-clause-room
 merge_one-now-requires-clause-room g c = let g = premises (length c.args.next.now)
@@ -71,11 +36,13 @@ pub classes-preserved-then-is_class : goal.classes-preserved-then-is_class
 classes-preserved-then-is_class g c = let g = premises (length c.args.next.now)
     c.args.iw.now c.args.pe.now c.args.e_len.now c.args.len.now c.args.nv.now c.args.w.now c.args.next.now c.args.last.now c.args.from
     c.args.count c.args.flag c.requires.front.2 c.requires.few c.requires.classes in
-    let t = c.classes.invariant.within in let d = c.merge_one-now.ensures in record {
+    let t = c.classes.invariant.within in let d = c.merge_one-now.ensures in let l = d.lengths in
+    let o = c.classes.invariant.merging.long in let m = o.5 in record {
       within = omega (arith, t);
       merging = step_settles _ _ _ _ _ _ _ _ _ _ _ _ g c.classes.left c.classes-test.true c.classes.invariant.within c.named-i.result
           c.named-i.ensures _ _ _ _ _ _ _ c.classes.invariant.merging (sym c.is_class.ensures ∙ c.if-is_class.true)
-          _ _ _ _ _ _ _ d.lengths d.more_lengths d.flag d.under d.zeros d.settles;
+          _ _ _ _ _ _ _ (l.0 ∙ m ∙ sym o.0, l.1 ∙ m ∙ sym o.1, l.2 ∙ m ∙ sym o.2, l.4 ∙ m ∙ sym o.3)
+          (l.5 ∙ m ∙ sym o.4, l.6) d.flag d.under d.zeros d.settles;
     }
 
 pub classes-preserved : goal.classes-preserved
