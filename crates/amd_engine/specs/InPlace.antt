@@ -1,5 +1,5 @@
 -- The run of the engine in place: the workspace before its first round, and what its rounds promise.
-use Rattle.std.specs.Prelude.{ℕ, ℤ, Bool, Option, List, ◌≡◌, ◌<◌, ◌+◌, length, max, pos, map, replicate}
+use Rattle.std.specs.Prelude.{ℕ, ℤ, Bool, Option, List, ◌≡◌, ◌<◌, ◌≤◌, ◌+◌, length, max, pos, map, replicate}
 use Rattle.amd_model.specs.Graph.{Graph}
 use Rattle.amd_model.specs.State.{State}
 use Rattle.amd_model.specs.Run.{last_state}
@@ -8,6 +8,7 @@ use Rattle.amd_model.specs.Input.Held.{is_held_last}
 use Rattle.amd_numbers.specs.Permutations.{AreInverse}
 use Rattle.amd_numbers.specs.declared.amd.Info.{Info}
 use Rattle.amd_numbers.specs.declared.figures.Figures.{Figures}
+use Rattle.amd_places.specs.Words.{num}
 use Rattle.amd_places.specs.Layout.{list_in}
 use Rattle.amd_inplace.specs.Workspaces.{Workspace}
 use Rattle.amd_inplace.specs.Keeps.{Stands, AreRounds, NoRowIsLive}
@@ -91,7 +92,14 @@ RunsInPlace hold threshold aggressive iw pe len n_dense figures new_pe e_len nv 
     LaysGraph g lists iw pe len →
     EndsRounds g (is_held_last hold g threshold) aggressive lists n_dense figures new_pe e_len nv degree
 
--- lists for an elimination of n rows, before it starts: of the lists by bound and the buckets no entry names a row
+-- lists in which an elimination of n rows can start: of the lists by bound and the buckets no entry names a row
+pub record AreEmpty (n : ℕ) (e_len nv : List ℤ) (degree w head next last hash : List ℕ) : Type 0 where
+  pub words : (length e_len ≡ n) × (length nv ≡ n)
+  pub figures : (length degree ≡ n) × (length w ≡ n)
+  pub links : (length head ≡ n) × (length next ≡ n) × (length last ≡ n) × (length hash ≡ n)
+  pub heads : (b : ℕ) → b < n → (n ≤ num head b) × (n ≤ num hash b)
+
+-- lists for an elimination of n rows as they are when they are made
 pub record AreFresh (n : ℕ) (e_len nv : List ℤ) (degree w head next last hash : List ℕ) : Type 0 where
   pub words : (length e_len ≡ n) × (length nv ≡ n)
   pub figures : (length degree ≡ n) × (length w ≡ n)

@@ -9,7 +9,7 @@ ghost use Rattle.amd_model.specs.State.{State};
 ghost use Rattle.amd_model.specs.Quotient.{QuotientGraph};
 ghost use Rattle.amd_inplace.specs.Keeps.{Stands};
 ghost use Rattle.amd_workspace.specs.Laying.{IsLaidOut};
-ghost use Rattle.amd_engine.specs.InPlace.{AreFresh, AreOver, EndsIn, LaysGraph, RunsInPlace, at_start, first_sums};
+ghost use Rattle.amd_engine.specs.InPlace.{AreEmpty, AreFresh, AreOver, EndsIn, LaysGraph, RunsInPlace, at_start, first_sums};
 
 use crate::fresh::{Counts, Links};
 use amd_cells::{Figure, Signed, Unsigned, Word};
@@ -108,7 +108,7 @@ fn run_rounds<S: Signed, U: Unsigned>(
 }
 
 /// Starts the elimination of a workspace that is laid, and eliminates until no row is live. The rows marked in `hold`
-/// and those of a degree above the threshold are held last. The lists beside the workspace are fresh.
+/// and those of a degree above the threshold are held last.
 pub fn run<S: Signed, U: Unsigned>(
     iw: &mut [Word<S>],
     pe: &mut [Word<S>],
@@ -127,7 +127,7 @@ pub fn run<S: Signed, U: Unsigned>(
     hold: Option<&[bool]>,
     threshold: usize,
 ) -> Told
-    requires fresh { AreFresh (length len.old) e_len.old nv.old degree.old w.old head.old next.old last.old hash.old }
+    requires empty { AreEmpty (length len.old) e_len.old nv.old degree.old w.old head.old next.old last.old hash.old }
     requires narrow { (length iw.old ≤ S.MOST) × (length iw.old ≤ U.MOST) × (length len.old + 2 ≤ S.MOST) ×
         (length len.old + 2 ≤ U.MOST) }
     requires marks { HasMarks (option_copied hold) (length len.old) }

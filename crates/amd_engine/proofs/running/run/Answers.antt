@@ -1,5 +1,4 @@
-use Rattle.std.proofs.Common.{ℕ, arith, ap, length, refl, ◌∙◌}
-use Rattle.std.proofs.lemmas.List.{length-replicate}
+use Rattle.std.proofs.Common.{arith, length, refl, ◌∙◌}
 use Rattle.std.specs.Option.{option_copied}
 use Rattle.amd_model.specs.Input.Held.{is_held_last}
 use Rattle.amd_model.specs.Quotient.{start_quotient}
@@ -8,20 +7,16 @@ use Rattle.amd_inplace.specs.Workspaces.{Workspace}
 use Rattle.amd_workspace.specs.Starting.{Rows, held_in}
 use Rattle.amd_engine.specs.InPlace.{at_start}
 use Rattle.amd_engine.proofs.InPlaceLaw.{IsFresh, degrees_small, stands_first, ends_rounds}
-use Rattle.amd_engine.proofs.EndingLaw.{no_heads}
 use Rattle.amd_engine.proofs.running.run.Goals as goal
 
 pub begin-live-requires-clause-words : goal.begin-live-requires-clause-words
-begin-live-requires-clause-words g c = let w = c.requires.fresh.words in (c.requires.laid.starts_long, w.0, w.1)
+begin-live-requires-clause-words g c = let w = c.requires.empty.words in (c.requires.laid.starts_long, w.0, w.1)
 
 pub begin-live-requires-clause-figures : goal.begin-live-requires-clause-figures
-begin-live-requires-clause-figures g c = c.requires.fresh.figures
+begin-live-requires-clause-figures g c = c.requires.empty.figures
 
 pub begin-live-requires-clause-links : goal.begin-live-requires-clause-links
-begin-live-requires-clause-links g c =
-    let n : ℕ = length c.args.len.now in
-    let fresh = c.requires.fresh in
-    (ap length fresh.heads.0 ∙ length-replicate n n, fresh.links.0, fresh.links.1)
+begin-live-requires-clause-links g c = let l = c.requires.empty.links in (l.0, l.1, l.2)
 
 pub begin-live-requires-clause-narrow : goal.begin-live-requires-clause-narrow
 begin-live-requires-clause-narrow g c = let w = c.requires.narrow in (w.2, omega (arith, w))
@@ -30,9 +25,7 @@ pub begin-live-requires-clause-degrees : goal.begin-live-requires-clause-degrees
 begin-live-requires-clause-degrees g c = let w = c.requires.graph in degrees_small w.0 w.1 c.args.iw.now c.args.pe.now c.args.len.now w.2
 
 pub begin-live-requires-clause-heads : goal.begin-live-requires-clause-heads
-begin-live-requires-clause-heads g c =
-    let heads = c.requires.fresh.heads in
-    λ b l. (no_heads (length c.args.len.now) c.args.head.now c.args.hash.now heads.0 heads.1 b l).0
+begin-live-requires-clause-heads g c = λ b l. (c.requires.empty.heads b l).0
 
 pub begin-live-requires-clause-marks : goal.begin-live-requires-clause-marks
 begin-live-requires-clause-marks g c = c.requires.marks
@@ -59,9 +52,9 @@ run_rounds-requires-clause-stands g c =
     let v : Workspace = at_start a.iw.now b.new.pe b.new.e_len b.new.nv b.new.len b.new.degree b.new.w b.new.head b.new.next b.new.last
     a.hash.now a.free b.result.0 a.flag b.result.1 in
     let fresh : IsFresh (length a.len.now) (held_in (option_copied a.hold) a.threshold a.len.now) a.len.now v = record {
-      sized = (e.lengths.0, e.lengths.1, e.lengths.2, ap length r.fresh.heads.1 ∙ length-replicate (length a.len.now) (length a.len.now));
+      sized = (e.lengths.0, e.lengths.1, e.lengths.2, r.empty.links.3);
       linked = e.linked;
-      empty = λ k l. (no_heads (length a.len.now) a.head.now a.hash.now r.fresh.heads.0 r.fresh.heads.1 k l).1;
+      empty = λ k l. (r.empty.heads k l).1;
       live = e.live;
       dense = e.dense;
       sums = refl;
@@ -93,9 +86,9 @@ returns-clause-runs g c = λ gr lists lays.
     let v : Workspace = at_start a.iw.now b.new.pe b.new.e_len b.new.nv b.new.len b.new.degree b.new.w b.new.head b.new.next b.new.last
     a.hash.now a.free b.result.0 a.flag b.result.1 in
     let fresh : IsFresh (length a.len.now) (held_in (option_copied a.hold) a.threshold a.len.now) a.len.now v = record {
-      sized = (e.lengths.0, e.lengths.1, e.lengths.2, ap length r.fresh.heads.1 ∙ length-replicate (length a.len.now) (length a.len.now));
+      sized = (e.lengths.0, e.lengths.1, e.lengths.2, r.empty.links.3);
       linked = e.linked;
-      empty = λ k l. (no_heads (length a.len.now) a.head.now a.hash.now r.fresh.heads.0 r.fresh.heads.1 k l).1;
+      empty = λ k l. (r.empty.heads k l).1;
       live = e.live;
       dense = e.dense;
       sums = refl;
@@ -118,5 +111,4 @@ returns-clause-lengths g c = let w = c.run_rounds.ensures.words in let l = c.beg
 
 pub returns-clause-links : goal.returns-clause-links
 returns-clause-links g c = let w = c.run_rounds.ensures.links in let l = c.begin-live.ensures.lengths in
-    let n : ℕ = length c.args.len.now in
-    (w.0 ∙ l.0, w.1 ∙ l.1, w.2 ∙ l.2, w.3 ∙ ap length c.requires.fresh.heads.1 ∙ length-replicate n n)
+    (w.0 ∙ l.0, w.1 ∙ l.1, w.2 ∙ l.2, w.3 ∙ c.requires.empty.links.3)

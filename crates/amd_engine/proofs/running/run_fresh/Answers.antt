@@ -2,16 +2,25 @@ use Rattle.std.proofs.Common.{ℕ, length, ap, sym, drop, ◌≡◌, ◌∙◌}
 use Rattle.std.specs.Option.{option_copied}
 use Rattle.std.specs.Prelude.{replicate}
 use Rattle.std.proofs.lemmas.List.{length-replicate, take_at}
-use Rattle.amd_engine.proofs.EndingLaw.{is_over}
+use Rattle.amd_engine.proofs.EndingLaw.{is_over, no_heads}
 use Rattle.amd_engine.proofs.running.run_fresh.Goals as goal
 
-pub run-requires-clause-fresh : goal.run-requires-clause-fresh
-run-requires-clause-fresh g c = let fresh = c.requires.fresh in record {
-  words = (ap length c.deref_mut.ensures.value ∙ fresh.words.0, ap length c.deref_mut-2.ensures.value ∙ fresh.words.1);
-  figures = (ap length c.deref_mut-3.ensures.value ∙ fresh.figures.0, ap length c.deref_mut-4.ensures.value ∙ fresh.figures.1);
-  heads = (c.deref_mut-5.ensures.value ∙ fresh.heads.0, c.deref_mut-8.ensures.value ∙ fresh.heads.1);
-  links = (ap length c.deref_mut-6.ensures.value ∙ fresh.links.0, ap length c.deref_mut-7.ensures.value ∙ fresh.links.1);
-}
+pub run-requires-clause-empty : goal.run-requires-clause-empty
+run-requires-clause-empty g c =
+    let n : ℕ = length c.args.len.now in
+    let fresh = c.requires.fresh in
+    let none : length (replicate n n) ≡ n = length-replicate n n in record {
+      words = (ap length c.deref_mut.ensures.value ∙ fresh.words.0, ap length c.deref_mut-2.ensures.value ∙ fresh.words.1);
+      figures = (ap length c.deref_mut-3.ensures.value ∙ fresh.figures.0, ap length c.deref_mut-4.ensures.value ∙ fresh.figures.1);
+      links = (
+        ap length c.deref_mut-5.ensures.value ∙ ap length fresh.heads.0 ∙ none,
+        ap length c.deref_mut-6.ensures.value ∙ fresh.links.0,
+        ap length c.deref_mut-7.ensures.value ∙ fresh.links.1,
+        ap length c.deref_mut-8.ensures.value ∙ ap length fresh.heads.1 ∙ none,
+      );
+      heads = no_heads n c.deref_mut-5.result.now c.deref_mut-8.result.now (c.deref_mut-5.ensures.value ∙ fresh.heads.0)
+          (c.deref_mut-8.ensures.value ∙ fresh.heads.1);
+    }
 
 pub run-requires-clause-narrow : goal.run-requires-clause-narrow
 run-requires-clause-narrow g c = c.requires.narrow
