@@ -12,8 +12,8 @@ abbrev pub HasLinks : ℕ → List ℕ → List ℕ → List ℕ → Type 0
 HasLinks n head next last = (length head ≡ n) × (length next ≡ n) × (length last ≡ n)
 
 -- where lists start, counts of elements, lengths and counters
-abbrev pub HasLists : ℕ → List ℤ → List ℤ → List ℕ → List ℕ → Type 0
-HasLists n pe e_len len w = (length pe ≡ n) × (length e_len ≡ n) × (length len ≡ n) × (length w ≡ n)
+abbrev pub HasCounters : ℕ → List ℤ → List ℤ → List ℕ → List ℕ → Type 0
+HasCounters n pe e_len len w = (length pe ≡ n) × (length e_len ≡ n) × (length len ≡ n) × (length w ≡ n)
 
 -- the slices of the links are as long as before
 abbrev pub KeepsLinks : List ℕ → List ℕ → List ℕ → List ℕ → List ℕ → List ℕ → Type 0

@@ -10,7 +10,7 @@ ghost use Rattle.amd_places.specs.Words.{num, word, is_place, size_of, in_front}
 ghost use Rattle.amd_places.specs.Element.{front_of};
 ghost use Rattle.amd_places.specs.Layout.{has_list, elements_in, Layout, live_words};
 ghost use Rattle.amd_places.specs.Beginning.{Begins};
-ghost use Rattle.amd_places.specs.Lengths.{HasLists};
+ghost use Rattle.amd_places.specs.Lengths.{HasCounters};
 ghost use Rattle.amd_places.specs.Pivots.{built_front, HasElements, IsBehind};
 
 use crate::making::make_element;
@@ -96,7 +96,7 @@ pub fn begin_built<S: Signed, U: Unsigned>(
     me: usize,
     free: usize,
 ) -> Begun
-    requires lengths { HasLists (length nv.old) pe.old e_len.old len.old w.old }
+    requires lengths { HasCounters (length nv.old) pe.old e_len.old len.old w.old }
     requires short { (length iw.old < 2 ^ 63) × (length nv.old + 2 ≤ S.MOST) }
     requires narrow { (length iw.old ≤ S.MOST) × (length iw.old ≤ U.MOST) }
     requires end { free ≤ length iw.old }
