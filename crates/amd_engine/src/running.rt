@@ -9,7 +9,8 @@ ghost use Rattle.amd_model.specs.State.{State};
 ghost use Rattle.amd_model.specs.Quotient.{QuotientGraph};
 ghost use Rattle.amd_inplace.specs.Keeps.{Stands};
 ghost use Rattle.amd_workspace.specs.Laying.{IsLaidOut};
-ghost use Rattle.amd_engine.specs.InPlace.{AreEmpty, AreFresh, AreOver, EndsIn, LaysGraph, RunsInPlace, at_start, first_sums};
+ghost use Rattle.amd_engine.specs.InPlace.{AreEmpty, AreFresh, AreOver, EndsIn, LaysGraph, RunsInPlace};
+ghost use Rattle.amd_engine.specs.InPlace.{at_start, first_sums};
 
 use crate::fresh::{Counts, Links};
 use amd_cells::{Figure, Signed, Unsigned, Word};
