@@ -17,7 +17,8 @@ use crate::chains::take_out;
 use crate::words::{named, put_flip, size_inside};
 use amd_cells::{Figure, Signed, Unsigned, Word, figure_at, put_figure};
 
-/// Takes the `more` rows of a class off the counter of the element `e`, which that class lists.
+/// Takes the `more` rows of a class off the counter of the element `e`, which that class lists. There is no branch:
+/// whether the element was met before in this round is hard to foresee, and a wrong guess costs more than a read.
 fn touch<U: Unsigned>(w: &mut [Figure<U>], degree: &[Figure<U>], e: usize, more: usize, flag: usize)
     requires inside { (e < length w.old) × (e < length degree.now) }
     requires again { flag ≤ num w.old e → more ≤ num w.old e }
@@ -27,11 +28,10 @@ fn touch<U: Unsigned>(w: &mut [Figure<U>], degree: &[Figure<U>], e: usize, more:
     ensures counted { (x : ℕ) → num w.new x ≡ cond (x == e) (touched_in degree.now w.old flag more e) (num w.old x) }
 {
     let before = figure_at(w, e);
-    if before >= flag {
-        put_figure(w, e, before - more);
-    } else if before != 0 {
-        put_figure(w, e, figure_at(degree, e) + flag - more);
-    }
+    let start = figure_at(degree, e) + flag;
+    let base = if before >= flag { before } else { start };
+    let taken = if before == 0 { base } else { more };
+    put_figure(w, e, base - taken);
 }
 
 /// As `touch`. With `aggressive` the pivot `me` absorbs the element if none of its rows is left: its list ends, and its

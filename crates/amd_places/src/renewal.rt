@@ -1,14 +1,39 @@
 // The list of one class of a front is renewed in its place: the new element comes in front, and what the new element
 // absorbed or holds itself goes. Source: Amestoy, Davis and Duff 1996 (element absorption). Called by `fronts`.
 
-ghost use Rattle.std.specs.Prelude.{◌++◌, ◌≡◌, ◌<◌, ◌≤◌, ◌+◌, ◌-◌, ◌^◌, pos, ℕ, length, slice_set, filter, sum_by};
+ghost use Rattle.std.specs.Prelude.{◌++◌, ◌≡◌, ◌<◌, ◌≤◌, ◌+◌, ◌-◌, ◌^◌, pos, ℕ, cond, length, slice_set, filter, sum_by};
 ghost use Rattle.amd_model.specs.Figures.{cut};
 ghost use Rattle.amd_model.specs.Quotient.{has};
 ghost use Rattle.amd_places.specs.Words.{num, word, place, is_place, size_of, in_front, rows, Names};
 ghost use Rattle.amd_places.specs.Renewal.{is_kept, is_outside, hashed, Filters, Renews};
 
 use crate::words::{is_open, named, put_row, size_outside};
-use amd_cells::{Figure, Signed, Unsigned, Word, copy_word, figure_at};
+use amd_cells::{Figure, Signed, Unsigned, Word, copy_word, figure_at, put_word, word_at};
+
+/// One number where a word is kept, and another one where it is not.
+fn chosen(kept: bool, moved: isize, stays: isize) -> isize
+    ensures { result ≡ cond kept moved stays }
+{
+    if kept { moved } else { stays }
+}
+
+/// Copies the word at `p` to `end` where it is kept. There is no branch: which words are kept is hard to foresee, and a
+/// wrong guess costs more than writing a word that stays as it is.
+fn keep_word<S: Signed>(iw: &mut [Word<S>], p: usize, end: usize, kept: bool)
+    requires inside { (p < length iw.old) × (end < length iw.old) }
+    ensures { iw.new ≡ cond kept (slice_set iw.old end (word iw.old p)) iw.old }
+{
+    let moved = word_at(iw, p);
+    let stays = word_at(iw, end);
+    put_word(iw, end, chosen(kept, moved, stays));
+}
+
+/// The number where a word is kept, and 0 where it is not.
+fn where_kept(kept: bool, number: usize) -> usize
+    ensures { result ≡ cond kept number 0 }
+{
+    if kept { number } else { 0 }
+}
 
 /// Moves the standing ones among the elements that `count` words name to the front of these words. Answers where they
 /// end, the number of their rows outside the front, at most the greatest `usize`, and their sum, which wraps.
@@ -32,12 +57,11 @@ fn keep_elements<S: Signed, U: Unsigned>(
     for p in from..from + count {
         let e = named(iw, p);
         let counter = figure_at(w, e);
-        if counter > 0 {
-            copy_word(iw, p, end);
-            outside = outside.saturating_add(counter.saturating_sub(flag));
-            hash = hash.wrapping_add(e);
-            end += 1;
-        }
+        let kept = counter > 0;
+        keep_word(iw, p, end, kept);
+        outside = outside.saturating_add(counter.saturating_sub(flag));
+        hash = hash.wrapping_add(where_kept(kept, e));
+        end += where_kept(kept, 1);
     }
     (end, outside, hash)
 }

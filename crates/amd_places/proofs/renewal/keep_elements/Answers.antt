@@ -1,13 +1,12 @@
-use Rattle.std.proofs.Common.{ℕ, ℤ, List, true, ◌≡◌, ◌<◌, ◌≤◌, ◌+◌, ◌-◌, sym, ap, subst, ◌∙◌, arith, length}
-use Rattle.std.specs.Prelude.{nat_lt, filter}
-use Rattle.std.proofs.lemmas.Bool.{lt-ltb, le-ltb}
+use Rattle.std.proofs.Common.{ℕ, ℤ, List, true, false, cond, inl, inr, ◌≡◌, ◌<◌, ◌≤◌, ◌+◌, ◌-◌, ◌%◌, ◌^◌, sym, ap, subst, ◌∙◌, arith, length}
+use Rattle.std.specs.Prelude.{nat_lt, filter, slice_set}
+use Rattle.std.proofs.lemmas.Bool.{lt-ltb, le-ltb, cases_eq}
 use Rattle.amd_model.specs.Figures.{cut}
 use Rattle.amd_places.specs.Words.{num, word, place, is_place, rows}
-use Rattle.amd_views.proofs.Lists.Cuts.{cut_min}
+use Rattle.amd_views.proofs.Lists.Cuts.{cut_min, cut_more}
 use Rattle.amd_places.specs.Renewal.{is_kept, hashed, Filters}
 use Rattle.amd_places.proofs.Filtering.{filters_none, filters_no, filters_yes, hashed_none, hashed_no, hashed_yes}
 use Rattle.amd_places.proofs.renewal.keep_elements.Goals as goal
-use Rattle.amd_places.proofs.renewal.keep_elements.Goals.{then-counter-gt0, else-counter-gt0}
 
 pub loop-p-init : goal.loop-p-init
 loop-p-init g c = let e : c.args.from - c.args.from ≡ 0 = omega arith in record {
@@ -60,28 +59,37 @@ loop-p-preserved g c =
     let w0 : List ℕ = c.args.w.now in let there : c.named-e.result ≡ place (word iw (from + k)) = row ∙ ap (λ m. place (word iw m)) at in
     let read : c.figure_at-counter.result ≡ num w0 c.named-e.result = c.figure_at-counter.ensures.is in
     let counter_is : c.figure_at-counter.result ≡ num w0 (place (word iw (from + k))) = read ∙ ap (num w0) there in
-    elim c.if-counter-gt0.branch [
-      | then-counter-gt0 w ↦ rw (w.iw-is, w.end-is, w.outside-is, w.hash-is, w.copy_word.ensures, next) record {
-        filters =
-            (filters_yes (length c.args.w.now) (is_kept c.args.w.now) (λ e.
-            num c.args.w.now e - c.args.flag) 0 iw from from h p w.saturating_add-outside.result at (omega arith) (let a =
-            c.requires.inside in omega (arith, a, at, l)) is_one small
-            (ap (is_kept w0) (sym there) ∙ ap (nat_lt 0) (sym read)
-            ∙ lt-ltb 0 c.figure_at-counter.result w.if-counter-gt0.true)
-            (w.saturating_add-outside.ensures ∙ cut_min _ ∙ ap (λ m. cut (c.loop-p.outside + m)) (w.saturating_sub.ensures
-            ∙ ap (λ m. m - c.args.flag) counter_is)));
-        hash = hashed_yes (is_kept c.args.w.now) 0 iw from k c.loop-p.hash c.loop-p.invariant.hash c.named-e.result there
-            (ap (is_kept w0) (sym there) ∙ ap (nat_lt 0) (sym read)
-            ∙ lt-ltb 0 c.figure_at-counter.result w.if-counter-gt0.true);
-      }
-      | else-counter-gt0 w ↦ rw (w.iw-is, w.end-is, w.outside-is, w.hash-is, next) record {
-        filters =
-            (filters_no (length c.args.w.now) (is_kept c.args.w.now) (λ e.
-            num c.args.w.now e - c.args.flag) 0 iw from from h (ap (is_kept w0) (sym there)
-            ∙ ap (nat_lt 0) (sym read) ∙ le-ltb 0 c.figure_at-counter.result w.if-counter-gt0.false));
-        hash = hashed_no (is_kept c.args.w.now) 0 iw from k c.loop-p.hash c.loop-p.invariant.hash
-            (ap (is_kept w0) (sym there) ∙ ap (nat_lt 0) (sym read) ∙ le-ltb 0 c.figure_at-counter.result w.if-counter-gt0.false);
-      }
+    let x : ℕ = c.figure_at-counter.result in
+    let pass_is : is_kept w0 (place (word iw (from + k))) ≡ nat_lt 0 x = ap (is_kept w0) (sym there) ∙ ap (nat_lt 0) (sym read) in
+    let total : c.saturating_add-outside.result ≡ cut (c.loop-p.outside + (x - c.args.flag)) = c.saturating_add-outside.ensures
+    ∙ cut_min _ ∙ ap (λ m. cut (c.loop-p.outside + m)) c.saturating_sub.ensures in
+    let now : List ℤ = c.loop-p.iw in let moved : List ℤ = slice_set now c.loop-p.end (word now p) in
+    elim (cases_eq x 0) [
+      | inl none ↦ (let no : nat_lt 0 x ≡ false = le-ltb 0 x (omega (arith, none)) in
+          let stays : c.saturating_add-outside.result ≡ c.loop-p.outside = total
+          ∙ ap (λ m. cut (c.loop-p.outside + m)) (omega (arith, none)) ∙ cut_more c.loop-p.outside _ 0 h.sum_is
+          ∙ ap cut (omega arith) ∙ sym h.sum_is in
+          let words : c.keep_word.new.iw ≡ now = c.keep_word.ensures ∙ ap (λ b. cond b moved now) no in
+          let ends : c.where_kept-end.result ≡ 0 = c.where_kept-end.ensures ∙ ap (λ b. cond b 1 0) no in
+          let adds : c.where_kept-hash.result ≡ 0 = c.where_kept-hash.ensures ∙ ap (λ b. cond b c.named-e.result 0) no in
+          let stands : c.loop-p.end + c.where_kept-end.result ≡ c.loop-p.end = omega (arith, ends) in
+          let is = c.loop-p.invariant.hash in
+          let sums : (c.loop-p.hash + c.where_kept-hash.result) % 2 ^ 64 ≡ c.loop-p.hash = omega (arith, adds, is) in
+          rw (words, stands, sums, stays, next) record {
+            filters = filters_no (length w0) (is_kept w0) (λ e. num w0 e - c.args.flag) 0 iw from from h (pass_is ∙ no);
+            hash = hashed_no (is_kept w0) 0 iw from k c.loop-p.hash c.loop-p.invariant.hash (pass_is ∙ no);
+          })
+      | inr some ↦ (let yes : nat_lt 0 x ≡ true = lt-ltb 0 x (omega (arith, some)) in
+          let words : c.keep_word.new.iw ≡ moved = c.keep_word.ensures ∙ ap (λ b. cond b moved now) yes in
+          let ends : c.where_kept-end.result ≡ 1 = c.where_kept-end.ensures ∙ ap (λ b. cond b 1 0) yes in
+          let adds : c.where_kept-hash.result ≡ c.named-e.result = c.where_kept-hash.ensures
+          ∙ ap (λ b. cond b c.named-e.result 0) yes in
+          rw (words, ends, adds, next) record {
+            filters = filters_yes (length w0) (is_kept w0) (λ e. num w0 e - c.args.flag) 0 iw from from h p
+                c.saturating_add-outside.result at (omega arith) (let a = c.requires.inside in omega (arith, a, at, l)) is_one small
+                (pass_is ∙ yes) (total ∙ ap (λ m. cut (c.loop-p.outside + (m - c.args.flag))) counter_is);
+            hash = hashed_yes (is_kept w0) 0 iw from k c.loop-p.hash c.loop-p.invariant.hash c.named-e.result there (pass_is ∙ yes);
+          })
     ]
 
 pub returns-clause-hash : goal.returns-clause-hash
