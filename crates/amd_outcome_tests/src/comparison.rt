@@ -1,10 +1,10 @@
 // Families of graphs of several sizes, and matrices drawn from seeds: the factor of an analysis with each choice of a
 // caller, and that under orders by other rules, each beside the factor that searches for paths find, which is slow. No
-// room is smaller than that.
+// room is smaller than that, and no figure of the ordering is below what it needs.
 
-use amd::Control;
+use amd::{Control, Info};
 use amd_symbolic::{Factor, Fault, analyze, columns};
-use amd_testing::factors::{Factor as SlowFactor, factor_of, need_of};
+use amd_testing::factors::{Factor as SlowFactor, Need, factor_of, need_of};
 use amd_testing::inputs::{
     complete, complete_below, cycle, draw, drawn, drawn_with_hub, grid, path, star, star_to_last,
 };
@@ -102,6 +102,14 @@ fn check_other_orders(
     Ok(())
 }
 
+/// Whether no figure of a record is below what the factor needs.
+fn is_bounded(info: &Info, need: &Need) -> bool {
+    need.lnz <= info.lnz
+        && need.n_mult_subs_ldl <= info.n_mult_subs_ldl
+        && need.n_mult_subs_lu <= info.n_mult_subs_lu
+        && need.d_max <= info.d_max
+}
+
 /// Analyzes a matrix with each choice, and asks for its columns under other orders.
 fn check(
     rt: &impl Abort,
@@ -115,9 +123,8 @@ fn check(
             panic!(rt; "no answer");
         };
         let slow = factor_of(alloc, &a_p, &a_i, &p)?;
-        let is_bounded = factor.rows.len() <= info.lnz;
         assert!(rt;
-            is_bounded && is_same(&factor, &slow),
+            is_bounded(&info, &need_of(&slow.columns)) && is_same(&factor, &slow),
             "{control:?} {a_p:?} {a_i:?}"
         );
     }
@@ -191,29 +198,5 @@ fn drawn_matrices_with_a_hub(rt: HostRuntime) -> Result<(), Fail> {
         let (n, a_p, a_i) = drawn_with_hub(rt.alloc(), seed)?;
         check(&rt, rt.alloc(), n, (a_p, a_i))?;
     }
-    Ok(())
-}
-
-/// A row that is dense by the lowest threshold stands last, and has few edges to the others: the bound is 20 entries,
-/// the need 18.
-#[test]
-fn a_bound_that_is_not_exact(rt: HostRuntime) -> Result<(), Fail> {
-    let (a_p, a_i) = (
-        [
-            0, 17, 17, 17, 17, 17, 17, 17, 17, 17, 17, 17, 17, 17, 17, 17, 17, 17, 17, 18, 18,
-        ],
-        [
-            1, 2, 3, 4, 5, 6, 7, 8, 9, 10, 11, 12, 13, 14, 15, 16, 17, 19,
-        ],
-    );
-    let control = Control {
-        dense: 0,
-        aggressive: true,
-    };
-    let Ok((p, _, info, factor)) = analyze(rt.alloc(), 20i64, &a_p, &a_i, &control) else {
-        panic!(rt; "no answer");
-    };
-    assert!(rt; info.lnz == 20 && factor.rows.len() == 18);
-    check_order(&rt, rt.alloc(), 20, &a_p, &a_i, &p)?;
     Ok(())
 }

@@ -1,14 +1,13 @@
-// Inputs that are no column form, orders that do not list each row once, and rooms that are too small. The faults
-// follow from the definitions: the first of them, in that order.
+// Inputs that are no column form, orders of no rows, and rooms that no memory holds. The faults follow from the
+// definitions: the first of them, in that order. More orders that do not list each row once, and rooms that are too
+// small, are stored cases of `amd_replay`.
 
-use crate::worked::{FOUR_CYCLE, check_factor};
+use crate::worked::FOUR_CYCLE;
 use amd::Control;
 use amd_symbolic::{Fault, analyze, analyze_holding, columns};
-use amd_testing::inputs::star;
 use amd_testing::refusing::Refusing;
 use std::alloc::Global;
 use std::process::Abort;
-use std::test::Fail;
 
 /// Inputs that are no column form: the number of rows, the pointers, and the row indices.
 static NO_FORMS: [(i64, &[i64], &[i64]); 9] = [
@@ -66,30 +65,6 @@ fn marks_that_are_not_one_for_each_row(rt: HostRuntime) {
     assert!(rt; heap.requests() == 0);
 }
 
-/// Where an order is too long or too short, or a row stands in it twice, or it lists a row that is none, there is no
-/// room that helps.
-#[test]
-fn orders_that_do_not_list_each_row(rt: HostRuntime) {
-    let case = &FOUR_CYCLE;
-    for p in [
-        [3, 0, 1, 1].as_slice(),
-        &[3, 3, 3, 3],
-        &[3, 0, 1, 4],
-        &[3, 0, 1, i64::MAX],
-        &[3, 0, 1, -1],
-        &[i64::MIN, 0, 1, 2],
-        &[3, 0, 1],
-        &[3, 0, 1, 2, 0],
-        &[3, 0, 1, 2, 4],
-        &[],
-    ] {
-        for room in [0, 4, 5] {
-            let fault = columns(rt.alloc(), case.n, case.a_p, case.a_i, p, room).err();
-            assert!(rt; fault == Some(Fault::NotPermutation), "{p:?}");
-        }
-    }
-}
-
 /// For no rows the order must be empty, and nothing else is looked at.
 #[test]
 fn orders_of_no_rows(rt: HostRuntime) {
@@ -104,32 +79,6 @@ fn orders_of_no_rows(rt: HostRuntime) {
         assert!(rt; fault == Some(Fault::NotPermutation));
     }
     assert!(rt; heap.requests() == 0);
-}
-
-#[test]
-fn rooms_of_a_four_cycle(rt: HostRuntime) {
-    let case = &FOUR_CYCLE;
-    for room in 0..9 {
-        match columns(rt.alloc(), case.n, case.a_p, case.a_i, case.p, room) {
-            Ok(factor) => {
-                assert!(rt; 5 <= room);
-                check_factor(&rt, case, &factor);
-            }
-            Err(fault) => assert!(rt; room < 5 && fault == Fault::RoomTooSmall),
-        }
-    }
-}
-
-/// A factor with 153 entries, where the ordering would have left 17.
-#[test]
-fn rooms_of_a_star(rt: HostRuntime) -> Result<(), Fail> {
-    let (a_p, a_i) = star(rt.alloc(), 18)?;
-    let p = [0, 1, 2, 3, 4, 5, 6, 7, 8, 9, 10, 11, 12, 13, 14, 15, 16, 17];
-    for room in [0, 17, 152] {
-        let fault = columns(rt.alloc(), 18, &a_p, &a_i, &p, room).err();
-        assert!(rt; fault == Some(Fault::RoomTooSmall));
-    }
-    Ok(())
 }
 
 /// A room that no memory holds is refused as memory is.

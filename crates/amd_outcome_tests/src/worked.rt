@@ -1,11 +1,10 @@
-// Worked matrices with the factors under orders of their rows: the pointers, the entries and the parents.
+// Worked matrices with the factors under orders of their rows: the pointers, the entries and the parents. The tests of
+// refused memory ask for the columns of each of them; they are stored cases of `amd_replay` too.
 
 use amd::Control;
-use amd_symbolic::{Factor, analyze, columns};
-use amd_testing::inputs::star;
+use amd_symbolic::{Factor, analyze};
 use std::alloc::Allocator;
 use std::process::Abort;
-use std::test::Fail;
 
 /// A matrix, an order of its rows, a room, and the factor under that order.
 #[derive(Drop)]
@@ -134,39 +133,6 @@ pub fn check_factor<A: Allocator>(rt: &impl Abort, case: &Case, factor: &Factor<
         "{}",
         case.what
     );
-}
-
-#[test]
-fn worked_matrices(rt: HostRuntime) {
-    for case in WORKED.iter().chain([&FOUR_CYCLE]) {
-        let answer = columns(rt.alloc(), case.n, case.a_p, case.a_i, case.p, case.room);
-        match answer {
-            Ok(factor) => check_factor(&rt, case, &factor),
-            Err(_) => panic!(rt; "no factor for {}", case.what),
-        }
-    }
-}
-
-/// The centre of a star that stands first joins all other rows, so that the factor is full.
-#[test]
-fn a_star_whose_centre_stands_first(rt: HostRuntime) -> Result<(), Fail> {
-    let (a_p, a_i) = star(rt.alloc(), 18)?;
-    let p = [
-        0i64, 1, 2, 3, 4, 5, 6, 7, 8, 9, 10, 11, 12, 13, 14, 15, 16, 17,
-    ];
-    let Ok(factor) = columns(rt.alloc(), 18, &a_p, &a_i, &p, 153) else {
-        panic!(rt; "no factor");
-    };
-    let mut rows = Vec::new(rt.alloc());
-    for k in 0..18usize {
-        assert!(rt; factor.ptr.get(k) == Some(&rows.len()));
-        for j in k + 1..18 {
-            rows.push(j)?;
-        }
-    }
-    assert!(rt; factor.rows.as_slice() == rows.as_slice());
-    assert!(rt; factor.ptr.get(18) == Some(&153));
-    Ok(())
 }
 
 #[test]

@@ -1,12 +1,12 @@
-// The engine in place beside the plain one: equal answers on matrices that are drawn and on cycles, in a workspace
-// with no word to spare and in one with more, in both widths of words, and from first flags with and without a reset
-// of the counters.
+// The engine in place beside the plain one: equal answers on matrices that are drawn, in a workspace with no word to
+// spare and in one with more, in both widths of words, and from first flags with and without a reset of the counters.
+// Cycles, whose lists are packed, are in `families`.
 
-use crate::sorted::{Sorted, first_flags, order_in_place, order_plainly, unmarked};
+use crate::sorted::{Sorted, first_flags, order_in_place, order_plainly};
 use amd_input::preprocess::preprocess;
 use amd_input::valid::valid;
 use amd_numbers::amd::{Control, Info, Status};
-use amd_testing::inputs::{cycle, drawn, drawn_with_hub};
+use amd_testing::inputs::{drawn, drawn_with_hub};
 use amd_testing::records::numbers_of;
 use std::alloc::Global;
 use std::process::Abort;
@@ -100,30 +100,6 @@ fn engines_agree(rt: HostRuntime) -> Result<(), Fail> {
         compare(&rt, rt.alloc(), n, &a_p, &a_i, 10000)?;
         let (n, a_p, a_i) = drawn_with_hub(rt.alloc(), seed)?;
         compare(&rt, rt.alloc(), n, &a_p, &a_i, 0)?;
-    }
-    Ok(())
-}
-
-/// A cycle of nine rows or more does not fit where there is no word to spare: its lists are packed.
-#[test]
-fn cycles_are_packed(rt: HostRuntime) -> Result<(), Fail> {
-    for n in 9..41 {
-        let (a_p, a_i) = cycle(rt.alloc(), n)?;
-        let matrix = unmarked(n, &a_p, &a_i);
-        let control = Control::default();
-        agree(&rt, rt.alloc(), &matrix, &control);
-        let mut info = Info::new(0);
-        let answer = order_in_place(
-            &rt,
-            rt.alloc(),
-            rt.alloc(),
-            2,
-            0,
-            &matrix,
-            &control,
-            &mut info,
-        );
-        assert!(rt; answer.is_ok() && info.n_cmp_a >= 1, "{n} rows");
     }
     Ok(())
 }

@@ -1,5 +1,5 @@
-// Small matrices with their answers: the permutation and each figure. Where the answers come from is said in `worked`,
-// whose tests order each of them; those of refused memory order them too.
+// Small matrices with their answers: the permutation and each figure. Where the answers come from is said in `worked`;
+// the tests of refused memory order each of them. They are stored cases of `amd_replay` too.
 
 use crate::worked::Case;
 

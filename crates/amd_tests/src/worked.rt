@@ -1,12 +1,12 @@
 // Worked inputs of `order` with their answers: the permutation and each figure. They come from worked examples, from
-// the Rust crate `amd`, and from a plain program that follows the rules.
+// the Rust crate `amd`, and from a plain program that follows the rules. The stored cases of `amd_replay` have these and
+// more; here each is also ordered with nothing held, and compared with what its factor needs.
 
 use crate::factors::check_bounds;
 use crate::holding::check_nothing_held;
 use crate::small_matrices::SMALL_MATRICES;
 use amd::{Control, Info, Status, order};
 use amd_demos::can_24::{JUMBLED_POINTERS, JUMBLED_ROWS, POINTERS, ROWS};
-use amd_testing::inputs::{complete, star};
 use amd_testing::plain::are_inverse;
 use amd_testing::records::numbers_of;
 use std::alloc::{AllocError, Global};
@@ -107,80 +107,6 @@ fn matrices_without_rows(rt: HostRuntime) {
     }
 }
 
-#[test]
-fn a_star(rt: HostRuntime) -> Result<(), Fail> {
-    let heap = rt.alloc();
-    let (star_p, star_i) = star(heap, 18)?;
-    let case = Case {
-        what: "a star with eighteen rows",
-        n: 18,
-        a_p: &star_p,
-        a_i: &star_i,
-        jumbled: false,
-        p: &[17, 16, 15, 14, 13, 12, 11, 10, 9, 8, 7, 6, 5, 4, 3, 2, 1, 0],
-        figures: [17, 0, 34, 0, 17, 17, 17, 2],
-        symmetric: false,
-    };
-    // The centre is dense exactly where the threshold is 16; these parameters make it 17 or more.
-    for dense in [10000, 4007, i32::MAX] {
-        check(&rt, heap, &with_dense(dense), &case)?;
-    }
-    Ok(())
-}
-
-#[test]
-fn a_star_with_a_dense_centre(rt: HostRuntime) -> Result<(), Fail> {
-    let heap = rt.alloc();
-    let (star_p, star_i) = star(heap, 18)?;
-    let case = Case {
-        what: "a star with eighteen rows and a dense centre",
-        n: 18,
-        a_p: &star_p,
-        a_i: &star_i,
-        jumbled: false,
-        p: &[1, 2, 3, 4, 5, 6, 7, 8, 9, 10, 11, 12, 13, 14, 15, 16, 17, 0],
-        figures: [17, 0, 34, 1, 17, 17, 17, 2],
-        symmetric: false,
-    };
-    for dense in [4006, 0, -1, i32::MIN] {
-        check(&rt, heap, &with_dense(dense), &case)?;
-    }
-    Ok(())
-}
-
-#[test]
-fn without_aggressive_absorption(rt: HostRuntime) -> Result<(), Fail> {
-    let control = Control {
-        dense: 10000,
-        aggressive: false,
-    };
-    let heap = rt.alloc();
-    let (star_p, star_i) = star(heap, 18)?;
-    let centre_is_root = Case {
-        what: "a star with eighteen rows, not aggressive",
-        n: 18,
-        a_p: &star_p,
-        a_i: &star_i,
-        jumbled: false,
-        p: &[2, 3, 4, 5, 6, 7, 8, 9, 10, 11, 12, 13, 14, 15, 16, 17, 1, 0],
-        figures: [17, 0, 34, 0, 17, 17, 17, 2],
-        symmetric: false,
-    };
-    check(&rt, heap, &control, &centre_is_root)?;
-    let merged = Case {
-        what: "six rows in which the place of a merged class shows, not aggressive",
-        n: 6,
-        a_p: &[0, 4, 7, 9, 10, 11, 11],
-        a_i: &[2, 3, 4, 5, 2, 4, 5, 3, 4, 4, 5],
-        jumbled: false,
-        p: &[5, 0, 1, 2, 3, 4],
-        figures: [11, 0, 22, 0, 13, 26, 39, 5],
-        symmetric: false,
-    };
-    check(&rt, heap, &control, &merged)?;
-    Ok(())
-}
-
 /// A matrix whose row 0 is dense where the parameter is 0.
 pub static DENSE_ROW: Case<'static> = Case {
     what: "twenty rows, of which one is dense and one stands apart",
@@ -202,37 +128,6 @@ pub static DENSE_ROW: Case<'static> = Case {
 #[test]
 fn a_dense_row_beside_others(rt: HostRuntime) -> Result<(), Fail> {
     check(&rt, rt.alloc(), &with_dense(0), &DENSE_ROW)?;
-    Ok(())
-}
-
-#[test]
-fn all_rows_dense(rt: HostRuntime) -> Result<(), Fail> {
-    let heap = rt.alloc();
-    let (full_p, full_i) = complete(heap, 18)?;
-    let full = Case {
-        what: "a complete graph with eighteen rows",
-        n: 18,
-        a_p: &full_p,
-        a_i: &full_i,
-        jumbled: false,
-        p: &[0, 1, 2, 3, 4, 5, 6, 7, 8, 9, 10, 11, 12, 13, 14, 15, 16, 17],
-        figures: [306, 0, 306, 18, 153, 969, 1785, 18],
-        symmetric: true,
-    };
-    check(&rt, heap, &with_dense(-1), &full)?;
-    let one = Case {
-        what: "one row without entries",
-        n: 1,
-        a_p: &[0, 0],
-        a_i: &[],
-        jumbled: false,
-        p: &[0],
-        figures: [0, 0, 0, 0, 0, 0, 0, 1],
-        symmetric: true,
-    };
-    for dense in [-1, i32::MIN, i32::MAX] {
-        check(&rt, heap, &with_dense(dense), &one)?;
-    }
     Ok(())
 }
 
