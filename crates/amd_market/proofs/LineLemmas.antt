@@ -38,16 +38,9 @@ takes-end remaining a b h = record {
   end = last-known _ _ b.line.items h.took;
 }
 
-telling-append : (is js : List (List ℕ)) → telling (is ++ js) ≡ telling is ++ telling js
-telling-append is js = filter-append tells is js
-
--- notes, and then lines
-pub notes-then : (is js ks : List (List ℕ)) → telling is ≡ [] → telling js ≡ ks → telling (is ++ js) ≡ ks
-notes-then is js ks h k = telling-append is js ∙ ap (λ t. t ++ telling js) h ∙ k
-
--- lines of which each part tells some
+-- lines of which each part tells some; notes tell none
 pub telling-both : (is js ks us : List (List ℕ)) → telling is ≡ ks → telling js ≡ us → telling (is ++ js) ≡ ks ++ us
-telling-both is js ks us h k = telling-append is js ∙ ap (λ t. t ++ telling js) h ∙ ap (λ t. ks ++ t) k
+telling-both is js ks us h k = filter-append tells is js ∙ ap (λ t. t ++ telling js) h ∙ ap (λ t. ks ++ t) k
 
 -- a line that says something, and one that does not
 pub telling-one : (line : List ℕ) → is_note (words line) ≡ false → telling (line ∷ []) ≡ line ∷ []
@@ -62,7 +55,7 @@ pub notes-end : {R Z : Type 0} (remaining : R → Option (List ℕ)) (a b c : Li
 notes-end remaining a b c is h tell k = record {
   lines = is ++ k.lines;
   takes = takes-append remaining a b c is k.lines h k.takes;
-  tells = notes-then is k.lines [] tell k.tells;
+  tells = telling-both is k.lines [] [] tell k.tells;
   end = end-append is _ _ _ h.took k.end;
 }
 
@@ -73,7 +66,7 @@ pub notes-telling : {R Z : Type 0} (remaining : R → Option (List ℕ)) (a b c 
 notes-telling remaining a b c is h tell k says = record {
   lines = is ++ c.line.items ∷ [];
   takes = takes-append remaining a b c is (c.line.items ∷ []) h (takes-one remaining b c k);
-  tells = notes-then is (c.line.items ∷ []) (c.line.items ∷ []) tell (telling-one c.line.items says);
+  tells = telling-both is (c.line.items ∷ []) [] (c.line.items ∷ []) tell (telling-one c.line.items says);
 }
 
 -- the error names the line that was read last

@@ -3,8 +3,8 @@ use Rattle.std.proofs.Common.{◌≡◌, true, false, [], ◌∷◌, ◌++◌, r
 use Rattle.std.proofs.lemmas.Result.{err_from_is_err_and}
 use Rattle.amd_cases.specs.Words.{words}
 use Rattle.amd_market.specs.Lines.{named_line, is_note}
-use Rattle.amd_market.proofs.LineLemmas.{takes-none, takes-one, takes-append, takes-end, telling-none, notes-then, notes-end, notes-telling}
-use Rattle.amd_market.proofs.LineLemmas.{fails-here, fails-behind}
+use Rattle.amd_market.proofs.LineLemmas.{takes-none, takes-one, takes-append, takes-end, fails-here, fails-behind}
+use Rattle.amd_market.proofs.LineLemmas.{telling-none, telling-both, notes-end, notes-telling}
 use Rattle.amd_market.proofs.lines.LineReader.take_telling.Goals as goal
 
 pub lines-init : goal.lines-init
@@ -33,7 +33,8 @@ lines-preserved g c =
     let line = c.take_line.new.self.line.items in
     let one = takes-one _ _ _ (rw c.if-not-branch.false at c.in_ok-take_line.ensures.takes) in
     let note : is_note (words line) ≡ true = search rules in
-    (inv.0 ++ line ∷ [], takes-append _ _ _ _ inv.0 (line ∷ []) inv.1 one, notes-then inv.0 (line ∷ []) [] inv.2 (telling-none line note))
+    let tells = telling-both inv.0 (line ∷ []) [] [] inv.2 (telling-none line note) in
+    (inv.0 ++ line ∷ [], takes-append _ _ _ _ inv.0 (line ∷ []) inv.1 one, tells)
 
 pub returns-clause-fails : goal.returns-clause-fails
 returns-clause-fails g c = let inv = c.lines.invariant in fails-here _ _ _ inv.0 _ inv.1 (ap named_line c.at_line.ensures)
