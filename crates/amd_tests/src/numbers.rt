@@ -1,6 +1,6 @@
 // The twelve integer types: both ends of each range, as the number of columns, as a pointer and as a row; numbers of
-// type `u128` past the greatest `usize`; and as many rows and entries as a type has. That a matrix is ordered in each of
-// the types is in the crate `amd_outcome_tests`.
+// type `u128` past the greatest `usize`; and as many rows and entries as a type has. That a matrix is ordered in each
+// of the types is in the crate `amd_outcome_tests`.
 
 use amd::valid::valid;
 use amd::{Control, Status, order};
@@ -82,8 +82,8 @@ fn ignores_rest<I: PrimInt>(alloc: Global, one: I, a_p: &[I], a_i: &[I]) -> bool
     }
 }
 
-/// Takes the ends of some types, and -1 where they have that, as the number of columns, as each pointer and as a row, but
-/// for 0, which may stand there; and behind the end of a matrix.
+/// Takes the ends of some types, and -1 where they have that, as the number of columns, as each pointer and as a row,
+/// but for 0, which may stand there; and behind the end of a matrix.
 macro_rules! both_ends {
     ($rt:ident; $($number:ty)*) => {
         $(

@@ -1,6 +1,6 @@
 // Worked inputs of `order` with their answers: the permutation and each figure. They come from worked examples, from
-// the Rust crate `amd`, and from a plain program that follows the rules. The stored cases of `amd_replay` have these and
-// more; here each is also ordered with nothing held, and compared with what its factor needs.
+// the Rust crate `amd`, and from a plain program that follows the rules. The stored cases of `amd_replay` have these
+// and more; here each is also ordered with nothing held, and compared with what its factor needs.
 
 use crate::factors::check_bounds;
 use crate::holding::check_nothing_held;
