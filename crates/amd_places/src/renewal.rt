@@ -1,7 +1,8 @@
 // The list of one class of a front is renewed in its place: the new element comes in front, and what the new element
 // absorbed or holds itself goes. Source: Amestoy, Davis and Duff 1996 (element absorption). Called by `fronts`.
 
-ghost use Rattle.std.specs.Prelude.{◌++◌, ◌≡◌, ◌<◌, ◌≤◌, ◌+◌, ◌-◌, ◌^◌, pos, ℕ, cond, length, slice_set, filter, sum_by};
+ghost use Rattle.std.specs.Prelude.{◌++◌, ◌≡◌, ◌<◌, ◌≤◌, ◌+◌, ◌-◌, ◌^◌, pos, ℕ, cond, length, slice_set};
+ghost use Rattle.std.specs.Prelude.{filter, sum_by};
 ghost use Rattle.amd_model.specs.Figures.{cut};
 ghost use Rattle.amd_model.specs.Quotient.{has};
 ghost use Rattle.amd_places.specs.Words.{num, word, place, is_place, size_of, in_front, rows, Names};

@@ -1,4 +1,5 @@
-use Rattle.std.proofs.Common.{ℕ, ℤ, List, true, false, cond, inl, inr, ◌≡◌, ◌<◌, ◌≤◌, ◌+◌, ◌-◌, ◌%◌, ◌^◌, sym, ap, subst, ◌∙◌, arith, length}
+use Rattle.std.proofs.Common.{ℕ, ℤ, List, true, false, cond, inl, inr, ◌≡◌, ◌<◌, ◌≤◌, ◌+◌, ◌-◌}
+use Rattle.std.proofs.Common.{◌%◌, ◌^◌, sym, ap, subst, ◌∙◌, arith, length}
 use Rattle.std.specs.Prelude.{nat_lt, filter, slice_set}
 use Rattle.std.proofs.lemmas.Bool.{lt-ltb, le-ltb, cases_eq}
 use Rattle.amd_model.specs.Figures.{cut}
