@@ -1,14 +1,15 @@
 -- A work record keeps the lists of an elimination, and stands for a state of it.
-use Rattle.std.specs.Prelude.{ℕ, Bool, false, Option, List, [], ◌≡◌, ◌==◌, length, filter}
+use Rattle.std.specs.Prelude.{ℕ, Bool, false, Option, List, [], ◌≡◌, ◌==◌, ◌||◌, length, filter}
 use Rattle.amd_model.specs.Graph.{Graph}
 use Rattle.amd_model.specs.State.{State, Home, live}
 use Rattle.amd_model.specs.Step.{StepAt}
 use Rattle.amd_model.specs.Run.{last_state}
 use Rattle.amd_model.specs.Ordering.{Follows}
-use Rattle.amd_model.specs.Quotient.{QuotientGraph, is_empty, pivot, next}
+use Rattle.amd_model.specs.Quotient.{QuotientGraph, has, is_empty, pivot, next}
 use Rattle.amd_views.specs.Keeps as views
-use Rattle.amd_rounds.specs.Views.{some_at, list_at, view_of, ListsBelow, Clear}
+use Rattle.amd_rounds.specs.Views.{at, some_at, list_at, view_of, ListsBelow, Clear}
 use Rattle.amd_rounds.specs.Buckets.{live_in, lasts}
+use Rattle.amd_rounds.specs.declared.work.Lists.{Lists}
 use Rattle.amd_rounds.specs.declared.work.Work.{Work}
 use Rattle.amd_rounds.specs.declared.work.Scratch.{Scratch}
 
@@ -19,6 +20,20 @@ pub record IsIdle {A : Type 0} (n : ℕ) (s : Scratch A) : Type 0 where
   pub groups : (length s.groups.items ≡ n) × ((b : ℕ) → list_at s.groups.items b ≡ [])
   pub beyond : length s.beyond.items ≡ n
   pub into : length s.into.items ≡ n
+
+-- the same, but a pivot and the classes of its front are marked in the rows, and nothing else
+pub record IsMarked {A : Type 0} (n pivot : ℕ) (front : List ℕ) (s : Scratch A) : Type 0 where
+  pub rows : (length s.rows.items ≡ n) × ((j : ℕ) → at s.rows.items j ≡ (j == pivot || has front j))
+  pub elements : (length s.elements.items ≡ n) × Clear s.elements.items
+  pub groups : (length s.groups.items ≡ n) × ((b : ℕ) → list_at s.groups.items b ≡ [])
+  pub beyond : length s.beyond.items ≡ n
+  pub into : length s.into.items ≡ n
+
+-- there is a list of each kind for each of n rows, and each names rows alone
+pub record AreSized {A : Type 0} (n : ℕ) (lists : Lists A) : Type 0 where
+  pub variables : ListsBelow n lists.variables.items
+  pub elements : ListsBelow n lists.elements.items
+  pub members : ListsBelow n lists.members.items
 
 -- there is a place for each of n rows, and each list names rows alone
 pub record IsSized {A : Type 0} (n : ℕ) (w : Work A) : Type 0 where

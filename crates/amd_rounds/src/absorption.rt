@@ -3,12 +3,12 @@
 // that then keeps nothing is mass-eliminated. Source: Amestoy, Davis and Duff 1996 (element absorption, aggressive
 // absorption, mass elimination). Called by `rounds`.
 
-ghost use Rattle.std.specs.Prelude.{[], ◌≡◌, ◌<◌, ◌^◌, ◌||◌, ◌&&◌, ◌==◌, ◌-◌, not, cond, nat_eq, nat_lt, ℕ, Some, true};
+ghost use Rattle.std.specs.Prelude.{◌≡◌, ◌<◌, ◌^◌, ◌&&◌, ◌-◌, not, cond, nat_eq, nat_lt, ℕ, Some, true};
 ghost use Rattle.std.specs.Prelude.{false, filter, length, sum_by, OnOk, IfOk};
 ghost use Rattle.amd_model.specs.Quotient.{has, Once};
-ghost use Rattle.amd_rounds.specs.Views.{num, at, some_at, list_at, Below, ListsBelow, Clear};
+ghost use Rattle.amd_rounds.specs.Views.{num, at, some_at, list_at, Below, ListsBelow};
 ghost use Rattle.amd_rounds.specs.Rounds.{mass, less, rows_left, Absorbed};
-ghost use Rattle.amd_rounds.specs.Keeps.{IsIdle};
+ghost use Rattle.amd_rounds.specs.Keeps.{AreSized, IsIdle, IsMarked};
 
 use crate::marks::{clear_all, touched_by};
 use crate::work::{Lists, Scratch};
@@ -194,24 +194,15 @@ pub fn absorb<A: Allocator + Copy>(
     scratch: &mut Scratch<A>,
 ) -> Result<(), AllocError>
     requires fronts { (length block.now ≡ length size.now) × (length whole.now ≡ length size.now) }
-    requires elements { ListsBelow (length size.now) lists.old.elements.items }
-    requires variables { ListsBelow (length size.now) lists.old.variables.items }
-    requires members { ListsBelow (length size.now) lists.old.members.items }
+    requires lists { AreSized (length size.now) lists.old }
     requires pivot { (pivot < length size.now) × (has front.now pivot ≡ false) }
     requires range { Below (length size.now) front.now }
     requires once { Once front.now }
     requires parent { length parent.old.items ≡ length size.now }
-    requires rows { (length scratch.old.rows.items ≡ length size.now) ×
-        ((j : ℕ) → at scratch.old.rows.items j ≡ (j == pivot || has front.now j)) }
-    requires taken { (length scratch.old.elements.items ≡ length size.now) × Clear scratch.old.elements.items }
-    requires groups { (length scratch.old.groups.items ≡ length size.now) ×
-        ((b : ℕ) → list_at scratch.old.groups.items b ≡ []) }
-    requires numbers { (length scratch.old.beyond.items ≡ length size.now) ×
-        (length scratch.old.into.items ≡ length size.now) }
+    requires marked { IsMarked (length size.now) pivot front.now scratch.old }
     ensures absorbed { OnOk result (Absorbed aggressive pivot front.now size.now block.now whole.now lists.old lists.new
         parent.old.items parent.new.items scratch.new.beyond.items) }
-    ensures elements { OnOk result (ListsBelow (length size.now) lists.new.elements.items) }
-    ensures variables { OnOk result (ListsBelow (length size.now) lists.new.variables.items) }
+    ensures lists { OnOk result (AreSized (length size.now) lists.new) }
     ensures parent { OnOk result (length parent.new.items ≡ length size.now) }
     ensures idle { OnOk result (IsIdle (length size.now) scratch.new) }
 {

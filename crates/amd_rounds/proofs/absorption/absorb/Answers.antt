@@ -1,8 +1,8 @@
-use Rattle.std.proofs.Common.{ℕ, Bool, false, Some, List, ◌≡◌, ◌<◌, ◌∙◌, ◌&&◌, ◌||◌, ◌==◌, not, cond, nat_eq, nat_lt, ap, sym, arith}
+use Rattle.std.proofs.Common.{ℕ, Bool, false, Some, List, ◌≡◌, ◌<◌, ◌∙◌, ◌&&◌, ◌||◌, ◌==◌, not, cond, nat_eq, nat_lt, ap, sym, subst, arith}
 use Rattle.std.proofs.Common.{length, length-set, filter, flat_map}
 use Rattle.std.proofs.lemmas.Bool.{cond-true, cond-false}
 use Rattle.amd_model.specs.Quotient.{has}
-use Rattle.amd_rounds.specs.Views.{num, at, some_at, list_at}
+use Rattle.amd_rounds.specs.Views.{num, at, some_at, list_at, ListsBelow}
 use Rattle.amd_rounds.specs.Rounds.{firsts}
 use Rattle.amd_rounds.proofs.ListPlaces.{list_read}
 use Rattle.amd_views.proofs.Lists.Named.{filter_named}
@@ -14,34 +14,34 @@ pub count_beyond-requires-clause-range : goal.count_beyond-requires-clause-range
 count_beyond-requires-clause-range g c =
     let elements = c.args.lists.now.elements.items in
     let below = touched_below (length c.args.size.now) elements (has (list_at elements c.args.pivot)) c.args.front.now
-    c.in_ok-touched.touched.items c.requires.elements c.in_ok-touched.ensures.list in
+    c.in_ok-touched.touched.items c.requires.lists.elements c.in_ok-touched.ensures.list in
     rw c.deref.ensures.value below
 
 pub spare-requires-clause-range : goal.spare-requires-clause-range
 spare-requires-clause-range g c =
     let elements = c.args.lists.now.elements.items in
     let below = touched_below (length c.args.size.now) elements (has (list_at elements c.args.pivot)) c.args.front.now
-    c.in_ok-touched.touched.items c.requires.elements c.in_ok-touched.ensures.list in
+    c.in_ok-touched.touched.items c.requires.lists.elements c.in_ok-touched.ensures.list in
     let room : length c.deref-3.result.now ≡ length c.args.size.now = ap length c.deref-3.ensures.value ∙ c.count_beyond.ensures.size ∙
-    c.requires.numbers.0 in
+    c.requires.marked.beyond in
     rw (c.deref-2.ensures.value, room) below
 
 pub adopt-requires-2-clause-range : goal.adopt-requires-2-clause-range
 adopt-requires-2-clause-range g c =
     let elements = c.args.lists.now.elements.items in
     let below = touched_below (length c.args.size.now) elements (has (list_at elements c.args.pivot)) c.args.front.now
-    c.in_ok-touched.touched.items c.requires.elements c.in_ok-touched.ensures.list in
+    c.in_ok-touched.touched.items c.requires.lists.elements c.in_ok-touched.ensures.list in
     let room : length c.deref-7.result.now ≡ length c.args.size.now = ap length c.deref-7.ensures.value ∙ c.spare.ensures.size ∙
-    c.in_ok-touched.ensures.size ∙ c.requires.taken.0 in
+    c.in_ok-touched.ensures.size ∙ c.requires.marked.elements.0 in
     rw (c.deref-6.ensures.value, room) below
 
 pub clear_all-requires-2 : goal.clear_all-requires-2
 clear_all-requires-2 g c =
     let elements = c.args.lists.now.elements.items in
     let below = touched_below (length c.args.size.now) elements (has (list_at elements c.args.pivot)) c.args.front.now
-    c.in_ok-touched.touched.items c.requires.elements c.in_ok-touched.ensures.list in
+    c.in_ok-touched.touched.items c.requires.lists.elements c.in_ok-touched.ensures.list in
     let room : length c.clear_all.new.marks.items ≡ length c.args.size.now = c.clear_all.ensures.size ∙ c.spare.ensures.size ∙
-    c.in_ok-touched.ensures.size ∙ c.requires.taken.0 in
+    c.in_ok-touched.ensures.size ∙ c.requires.marked.elements.0 in
     rw (c.deref-11.ensures.value, room) (record { range = below })
 
 pub returns : goal.returns
@@ -53,12 +53,12 @@ returns g c =
     let beyond : List ℕ = c.count_beyond.new.beyond.items in let rows : List Bool = c.args.scratch.now.rows.items in
     let marked : List Bool = c.touched_by.new.marks.items in let taken : List Bool = c.spare.new.taken.items in
     let inside : ℕ → Bool = λ j. j == p || has front j in
-    let row : p < length elements = (let a = r.pivot.0 in let b = r.elements.0 in omega (arith, a, b)) in
+    let row : p < length elements = (let a = r.pivot.0 in let b = r.lists.elements.0 in omega (arith, a, b)) in
     let touched_is : touched ≡ firsts (has own) (flat_map (list_at elements) front) = c.in_ok-touched.ensures.list in
     let gathered = firsts_gives (has own) (flat_map (list_at elements) front) touched touched_is in
     let whole : ℕ → Bool = λ e. c.args.aggressive && nat_eq (num beyond e) 0 in
     let first : c.deref-4.result.now ≡ own = c.deref-4.ensures.value ∙ sym (list_read elements p c.index.result.now row c.index.ensures) in
-    let rows_marked : (j : ℕ) → at c.deref-8.result.now j ≡ inside j = λ j. ap (λ l. at l j) c.deref-8.ensures.value ∙ r.rows.1 j in
+    let rows_marked : (j : ℕ) → at c.deref-8.result.now j ≡ inside j = λ j. ap (λ l. at l j) c.deref-8.ensures.value ∙ r.marked.rows.1 j in
     let taken_is : (e : ℕ) → at taken e ≡ (has own e || (has touched e && whole e)) = λ e.
     c.spare.ensures.spared e
     ∙ ap (λ l. at marked e && not (has l e && not (c.args.aggressive && nat_eq (num c.deref-3.result.now e) 0))) c.deref-2.ensures.value
@@ -80,7 +80,7 @@ returns g c =
     sym (list_read after p c.index-2.result.now room c.index-2.ensures) ∙ c.shorten.ensures.kept_elements p ∙
     cond-false _ _ _ r.pivot.1 in
     let marks : List Bool = c.clear_all-3.new.marks.items in
-    let long : length marks ≡ length size = c.clear_all-3.ensures.size ∙ r.rows.0 in
+    let long : length marks ≡ length size = c.clear_all-3.ensures.size ∙ r.marked.rows.0 in
     let clear : (j : ℕ) → at c.clear_all-2.new.marks.items j ≡ false = λ j.
     c.clear_all-2.ensures.cleared j ∙ ap (λ l. at c.clear_all.new.marks.items j && not (has l j)) c.deref-11.ensures.value
     ∙ ap (λ b. b && not (has touched j)) (c.clear_all.ensures.cleared j ∙ ap (λ l. at taken j && not (has l j)) second ∙
@@ -105,22 +105,25 @@ returns g c =
         variables = λ i h. c.shorten.ensures.kept_variables i ∙ cond-false (has front i) _ _ h;
         members = c.shorten.ensures.members;
       };
-      elements = c.shorten.ensures.elements;
-      variables = c.shorten.ensures.variables;
+      lists = record {
+        variables = c.shorten.ensures.variables;
+        elements = c.shorten.ensures.elements;
+        members = subst (λ l. ListsBelow (length size) l.items) (sym c.shorten.ensures.members) r.lists.members;
+      };
       parent = c.adopt-2.ensures.size ∙ c.adopt.ensures.size ∙ r.parent;
       idle = record {
         rows = (
           length-set marks p false ∙ long,
           pivot_cleared marks p front (let a = r.pivot.0 in omega (arith, a, long))
-              (λ j. c.clear_all-3.ensures.cleared j ∙ ap (λ b. b && not (has front j)) (r.rows.1 j)),
+              (λ j. c.clear_all-3.ensures.cleared j ∙ ap (λ b. b && not (has front j)) (r.marked.rows.1 j)),
         );
         elements = (
           c.clear_all-2.ensures.size ∙ c.clear_all.ensures.size ∙ c.spare.ensures.size ∙ c.in_ok-touched.ensures.size ∙
-              r.taken.0,
+              r.marked.elements.0,
           clear,
         );
-        groups = r.groups;
-        beyond = c.count_beyond.ensures.size ∙ r.numbers.0;
-        into = r.numbers.1;
+        groups = r.marked.groups;
+        beyond = c.count_beyond.ensures.size ∙ r.marked.beyond;
+        into = r.marked.into;
       };
     }

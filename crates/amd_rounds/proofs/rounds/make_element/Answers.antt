@@ -1,4 +1,4 @@
-use Rattle.std.proofs.Common.{rules, ℕ, List, ◌≡◌, ◌<◌, ◌∙◌, ap, length, refl, subst, sym}
+use Rattle.std.proofs.Common.{rules, ℕ, List, ◌≡◌, ◌<◌, ◌∙◌, ap, length, refl, subst}
 use Rattle.std.specs.Prelude.{flat_map, ◌++◌, ◌==◌}
 use Rattle.amd_rounds.specs.Views.{list_at, live_of, ListsBelow}
 use Rattle.amd_rounds.specs.Buckets.{Chosen}
@@ -53,14 +53,9 @@ pub absorb-requires-clause-fronts : goal.absorb-requires-clause-fronts
 absorb-requires-clause-fronts g c = let s = c.requires.sized in
     rw (c.deref-5.ensures.value, c.deref-6.ensures.value, c.deref-7.ensures.value) (s.block, s.front)
 
-pub absorb-requires-clause-elements : goal.absorb-requires-clause-elements
-absorb-requires-clause-elements g c = rw c.deref-5.ensures.value c.requires.sized.elements
-
-pub absorb-requires-clause-variables : goal.absorb-requires-clause-variables
-absorb-requires-clause-variables g c = rw c.deref-5.ensures.value c.requires.sized.variables
-
-pub absorb-requires-clause-members : goal.absorb-requires-clause-members
-absorb-requires-clause-members g c = rw c.deref-5.ensures.value c.requires.sized.members
+pub absorb-requires-clause-lists : goal.absorb-requires-clause-lists
+absorb-requires-clause-lists g c = let s = c.requires.sized in
+    rw c.deref-5.ensures.value (record { variables = s.variables; elements = s.elements; members = s.members })
 
 pub absorb-requires-clause-pivot : goal.absorb-requires-clause-pivot
 absorb-requires-clause-pivot g c =
@@ -90,19 +85,15 @@ absorb-requires-clause-once g c =
 pub absorb-requires-clause-parent : goal.absorb-requires-clause-parent
 absorb-requires-clause-parent g c = rw c.deref-5.ensures.value c.requires.sized.parent
 
-pub absorb-requires-clause-rows : goal.absorb-requires-clause-rows
-absorb-requires-clause-rows g c =
-    let room = c.front_of.ensures.size ∙ c.requires.sized.idle.rows.0 in
-    rw (c.deref-5.ensures.value, c.deref-4.ensures.value) (room, c.in_ok-front.ensures.marked)
-
-pub absorb-requires-clause-taken : goal.absorb-requires-clause-taken
-absorb-requires-clause-taken g c = rw c.deref-5.ensures.value c.requires.sized.idle.elements
-
-pub absorb-requires-clause-groups : goal.absorb-requires-clause-groups
-absorb-requires-clause-groups g c = rw c.deref-5.ensures.value c.requires.sized.idle.groups
-
-pub absorb-requires-clause-numbers : goal.absorb-requires-clause-numbers
-absorb-requires-clause-numbers g c = rw c.deref-5.ensures.value (c.requires.sized.idle.beyond, c.requires.sized.idle.into)
+pub absorb-requires-clause-marked : goal.absorb-requires-clause-marked
+absorb-requires-clause-marked g c = let idle = c.requires.sized.idle in
+    rw (c.deref-5.ensures.value, c.deref-4.ensures.value) (record {
+      rows = (c.front_of.ensures.size ∙ idle.rows.0, c.in_ok-front.ensures.marked);
+      elements = idle.elements;
+      groups = idle.groups;
+      beyond = idle.beyond;
+      into = idle.into;
+    })
 
 pub returns-in_err-absorb : goal.returns-in_err-absorb
 returns-in_err-absorb g c = search rules
@@ -132,10 +123,11 @@ returns g c =
         elements = record { block = refl; front = refl; n_dense = refl; figures = refl };
         sized = record {
           variables = subst (λ s. ListsBelow (length s) c.absorb.new.lists.variables.items) c.deref-5.ensures.value
-              c.in_ok-absorb.ensures.variables;
+              c.in_ok-absorb.ensures.lists.variables;
           elements = subst (λ s. ListsBelow (length s) c.absorb.new.lists.elements.items) c.deref-5.ensures.value
-              c.in_ok-absorb.ensures.elements;
-          members = subst (λ l. ListsBelow (length w.size.items) l.items) (sym c.in_ok-absorb.ensures.absorbed.members) sized.members;
+              c.in_ok-absorb.ensures.lists.elements;
+          members = subst (λ s. ListsBelow (length s) c.absorb.new.lists.members.items) c.deref-5.ensures.value
+              c.in_ok-absorb.ensures.lists.members;
           placed = subst (λ s. ListsBelow (length s) c.choose-pivot.new.lists.items) c.deref.ensures.value c.choose-pivot.ensures.range;
           size = sized.size;
           bound = sized.bound;
