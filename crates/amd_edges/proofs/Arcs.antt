@@ -1,12 +1,13 @@
 -- Counting the arcs of a row, one more at a time: for visitors that count or list them.
 use Rattle.std.proofs.Common.{◌≡◌, ◌≢◌, ◌+◌, ◌<◌, ◌≤◌, inl, inr, ℕ, zero, suc, Bool, true, false, arith, refl, ap, sym, ◌∙◌, eqb, cond}
-use Rattle.std.proofs.Common.{◌||◌}
+use Rattle.std.proofs.Common.{◌||◌, List, set, subst}
 use Rattle.std.proofs.Math.Bool.{or-false, or-true}
-use Rattle.std.proofs.lemmas.Bool.{or_cases, cases_eq, eqb-true, eq-eqb, ne_eqb}
+use Rattle.std.proofs.lemmas.Bool.{or_cases, or_right, cases_eq, eqb-true, eq-eqb, ne_eqb, true≢false}
+use Rattle.std.proofs.lemmas.List.{set_comm, set-set}
 use Rattle.amd_model.specs.Below.{sum_below, count_below}
 use Rattle.amd_model.specs.Graph.{Graph}
 use Rattle.amd_model.proofs.Counting.Below.{count_mono, count_same, count_most}
-use Rattle.amd_edges.specs.Visits.{IsNew, with_arc}
+use Rattle.amd_edges.specs.Visits.{IsNew, IsNewEdge, with_arc}
 use Rattle.amd_edges.proofs.Places.{funext}
 
 abbrev one_if : Bool → ℕ
@@ -56,3 +57,12 @@ module _ (g : Graph) (seen : ℕ → ℕ → Bool) (i j : ℕ) (new : IsNew g se
 
   pub count_room : count_below g.size (seen i) < g.size
   count_room = let a = arc_counts in let b = count_most g.size (with_arc seen i j i) in omega (arith, a, b)
+
+-- the two ends of a new edge are two rows
+pub ends_apart : (g : Graph) (seen : ℕ → ℕ → Bool) (i j : ℕ) → IsNewEdge g seen i j → i ≢ j
+ends_apart g seen i j new same = true≢false (sym (arc_here seen i j j ∙ or_right (seen i j) (eqb j j) (eq-eqb j j refl))
+    ∙ subst (λ a. with_arc seen i j a j ≡ false) (sym same) (subst (λ a. with_arc seen i j j a ≡ false) same new.back.fresh))
+
+-- a number of a list is written, another one, and the first one again
+pub written_again : (xs : List ℕ) (i j a b c : ℕ) → i ≢ j → set (set (set xs j a) i b) j c ≡ set (set xs i b) j c
+written_again xs i j a b c ne = ap (λ l. set l j c) (set_comm xs j i a b (λ e. ne (sym e))) ∙ set-set (set xs i b) j a c

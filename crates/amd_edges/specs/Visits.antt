@@ -26,6 +26,15 @@ pub record IsNew (g : Graph) (seen : ℕ → ℕ → Bool) (i j : ℕ) : Type 0 
   pub fresh : seen i j ≡ false
   pub within : (a b : ℕ) → seen a b ≡ true → g.edge a b ≡ true
 
+-- the arcs so far, and both of the edge of i and j
+abbrev pub with_edge : (ℕ → ℕ → Bool) → ℕ → ℕ → ℕ → ℕ → Bool
+with_edge seen i j = with_arc (with_arc seen i j) j i
+
+-- both arcs of the edge of i and j are new, the second one when the first was taken
+pub record IsNewEdge (g : Graph) (seen : ℕ → ℕ → Bool) (i j : ℕ) : Type 0 where
+  pub there : IsNew g seen i j
+  pub back : IsNew g (with_arc seen i j) j i
+
 -- the numbers of arcs of each row
 pub record AreCounts (g : Graph) (seen : ℕ → ℕ → Bool) (numbers : List ℕ) : Type 0 where
   pub size : length numbers ≡ g.size

@@ -11,17 +11,20 @@ ghost use Rattle.amd_model.specs.Graph.{Graph};
 ghost use Rattle.amd_model.specs.Input.Columns.{IsColumnForm, IsSorted};
 ghost use Rattle.amd_model.specs.Input.Pattern.{graph_of, diagonal_count, is_pair};
 ghost use Rattle.amd_model.specs.Quotient.{met_below, met_edges};
-ghost use Rattle.amd_edges.specs.Visits.{IsNew, arcs_of, with_arc};
+ghost use Rattle.amd_edges.specs.Visits.{IsNew, IsNewEdge, arcs_of, with_arc, with_edge};
 ghost use Rattle.amd_edges.specs.Walk.{IsScanOf, edges_before, entry_read, graph_read, met_read};
 
 use amd_numbers::internal::count_at;
 use num_traits::PrimInt;
 use std::alloc::Allocator;
 
-/// What takes the arcs of a graph, one at a time. What holds of it speaks of the set of the arcs that it took, and of
-/// their list.
+/// What takes the arcs of a graph: one at a time, or in a run of edges of one row, whose next place the walk holds
+/// meanwhile, as a mark. What holds of it speaks of the set of the arcs that it took, and of their list.
 pub trait Visitor {
     ghost holds: { Graph → (ℕ → ℕ → Bool) → List (ℕ × ℕ) → Self → Type 0 };
+
+    // What holds in a run of a row, with the mark of that row.
+    ghost runs: { Graph → (ℕ → ℕ → Bool) → List (ℕ × ℕ) → ℕ → ℕ → Self → Type 0 };
 
     // How much room it has: no arc changes it.
     ghost room: { Self → ℕ };
@@ -32,6 +35,30 @@ pub trait Visitor {
             IsNew g seen i j }
         ensures held { (g : Graph) (seen : ℕ → ℕ → Bool) (arcs : List (ℕ × ℕ)) → holds g seen arcs self.old →
             IsNew g seen i j → holds g (with_arc seen i j) (arcs ++ (i, j) ∷ []) self.new }
+        ensures kept { room self.new ≡ room self.old };
+
+    /// Begins a run of row `j`. Answers its mark.
+    fn begin(&self, j: usize) -> usize
+        requires { (g : Graph) × (seen : ℕ → ℕ → Bool) × (arcs : List (ℕ × ℕ)) × holds g seen arcs self.now ×
+            (j < g.size) }
+        ensures { (g : Graph) (seen : ℕ → ℕ → Bool) (arcs : List (ℕ × ℕ)) → holds g seen arcs self.now →
+            runs g seen arcs j result self.now };
+
+    /// Takes both arcs of the edge of `i` and `j`, that from `i` before the other, in a run of row `j` with this mark.
+    /// Answers the next mark.
+    fn edge(&mut self, i: usize, j: usize, mark: usize) -> usize
+        requires { (g : Graph) × (seen : ℕ → ℕ → Bool) × (arcs : List (ℕ × ℕ)) × runs g seen arcs j mark self.old ×
+            IsNewEdge g seen i j }
+        ensures held { (g : Graph) (seen : ℕ → ℕ → Bool) (arcs : List (ℕ × ℕ)) → runs g seen arcs j mark self.old →
+            IsNewEdge g seen i j → runs g (with_edge seen i j) ((arcs ++ (i, j) ∷ []) ++ (j, i) ∷ []) j result self.new }
+        ensures kept { room self.new ≡ room self.old };
+
+    /// Ends a run of row `j` with this mark.
+    fn end(&mut self, j: usize, mark: usize)
+        requires { (g : Graph) × (seen : ℕ → ℕ → Bool) × (arcs : List (ℕ × ℕ)) × runs g seen arcs j mark self.old ×
+            (j < g.size) }
+        ensures held { (g : Graph) (seen : ℕ → ℕ → Bool) (arcs : List (ℕ × ℕ)) → runs g seen arcs j mark self.old →
+            j < g.size → holds g seen arcs self.new }
         ensures kept { room self.new ≡ room self.old };
 }
 
@@ -64,12 +91,12 @@ fn lower<I: PrimInt, V: Visitor, A: Allocator>(
 {
     let end = count_at(a_p, j + 1);
     let mut place = next[j];
+    let mut mark = visitor.begin(j);
     'rows: while place < end && count_at(a_i, place) < k {
-        let i = count_at(a_i, place);
-        visitor.arc(i, j);
-        visitor.arc(j, i);
+        mark = visitor.edge(count_at(a_i, place), j, mark);
         place += 1;
     }
+    visitor.end(j, mark);
     if place < end && count_at(a_i, place) == k {
         place += 1;
     }

@@ -1,14 +1,14 @@
 -- The counts of the arcs of each row, one arc more.
 use Rattle.std.proofs.Common.{◌≡◌, ◌+◌, inl, inr, ℕ, Bool, false, List, length, get_or, set, get_or-set_same, get_or-set_other, arith, ap}
-use Rattle.std.proofs.Common.{sym, ◌∙◌}
+use Rattle.std.proofs.Common.{sym, ◌∙◌, ◌<◌, subst}
 use Rattle.std.proofs.lemmas.Bool.{cases_eq}
 use Rattle.std.proofs.lemmas.List.{length-set}
 use Rattle.std.proofs.lemmas.Grind.{get_or_default_zero}
 use Rattle.amd_model.specs.Below.{count_below}
 use Rattle.amd_model.specs.Graph.{Graph}
 use Rattle.amd_model.proofs.Counting.Below.{count_none}
-use Rattle.amd_edges.specs.Visits.{IsNew, with_arc, AreCounts}
-use Rattle.amd_edges.proofs.Arcs.{arc_same, arc_counts}
+use Rattle.amd_edges.specs.Visits.{IsNew, IsNewEdge, with_arc, with_edge, AreCounts}
+use Rattle.amd_edges.proofs.Arcs.{arc_same, arc_counts, count_room, ends_apart, written_again}
 
 pub counts_more : (g : Graph) (seen : ℕ → ℕ → Bool) (i j : ℕ) → IsNew g seen i j → (numbers : List ℕ) (v : ℕ) → v ≡ get_or numbers i v →
     AreCounts g seen numbers →
@@ -26,3 +26,32 @@ counts_more g seen i j new numbers v is h = record {
 pub counts_none : (g : Graph) (numbers : List ℕ) → length numbers ≡ g.size → ((a : ℕ) → get_or numbers a 0 ≡ 0) →
     AreCounts g (λ a b. false) numbers
 counts_none g numbers size zeros = record { size = size; each = λ i h. zeros i ∙ sym (count_none g.size) }
+
+-- the counts in a run of row j, whose own count is the mark: both arcs of one edge more
+module _ (g : Graph) (seen : ℕ → ℕ → Bool) (i j mark : ℕ) (new : IsNewEdge g seen i j) (numbers : List ℕ)
+    (h : AreCounts g seen (set numbers j mark)) where
+  pub long : length numbers ≡ g.size
+  long = sym (length-set numbers j mark) ∙ h.size
+
+  pub other_count : get_or (set numbers j mark) i 0 ≡ get_or numbers i 0
+  other_count = get_or-set_other numbers j i mark 0 (ends_apart g seen i j new)
+
+  module _ (v : ℕ) (is : v ≡ get_or numbers i v) where
+    there : AreCounts g (with_arc seen i j) (set (set numbers j mark) i (v + 1))
+    there = counts_more g seen i j new.there (set numbers j mark) v
+        (is ∙ sym (get_or-set_other numbers j i mark v (ends_apart g seen i j new))) h
+
+    own_count : mark ≡ get_or (set (set numbers j mark) i (v + 1)) j mark
+    own_count = sym (get_or-set_other (set numbers j mark) i j (v + 1) mark (λ e. ends_apart g seen i j new (sym e))
+        ∙ get_or-set_same numbers j mark mark (let a = long in let b = new.there.j_row in omega (arith, a, b)))
+
+    pub run_more : AreCounts g (with_edge seen i j) (set (set numbers i (v + 1)) j (mark + 1))
+    run_more = subst (AreCounts g (with_edge seen i j)) (written_again numbers i j mark (v + 1) (mark + 1) (ends_apart g seen i j new))
+        (counts_more g (with_arc seen i j) j i new.back (set (set numbers j mark) i (v + 1)) mark own_count there)
+
+    pub mark_room : mark < g.size
+    mark_room = let a = there.each j new.there.j_row in let b = count_room g (with_arc seen i j) j i new.back in
+        let c : get_or (set (set numbers j mark) i (v + 1)) j 0 ≡ mark = get_or-set_other (set numbers j mark) i j (v + 1) 0
+        (λ e. ends_apart g seen i j new (sym e))
+        ∙ get_or-set_same numbers j mark 0 (let l = long in let m = new.there.j_row in omega (arith, l, m)) in
+        omega (arith, a, b, c)

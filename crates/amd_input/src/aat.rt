@@ -1,7 +1,8 @@
 // The degrees of the rows of a matrix, and the figures of its pattern: those of the pattern of A + A' (Amestoy, Davis
 // and Duff 2004). Called by `order`, and by `facts` of the crate `amd_command`.
 
-ghost use Rattle.std.specs.Prelude.{◌≡◌, ◌<◌, ◌^◌, map, length, slice_index, unsigned_abs, IfOk, IfErr, OnOk, OnErr};
+ghost use Rattle.std.specs.Prelude.{◌≡◌, ◌<◌, ◌^◌, map, length, slice_index, slice_set, unsigned_abs, IfOk, IfErr};
+ghost use Rattle.std.specs.Prelude.{OnOk, OnErr};
 ghost use Rattle.amd_model.specs.Below.{sum_below};
 ghost use Rattle.amd_model.specs.Input.Columns.{IsInput, IsSortedInput};
 ghost use Rattle.amd_edges.specs.Visits.{AreCounts};
@@ -24,10 +25,25 @@ struct Counts<A: Allocator> {
 impl<A: Allocator> Visitor for Counts<A> {
     ghost holds = { λ g seen arcs v. AreCounts g seen v.degrees.items };
 
+    ghost runs = { λ g seen arcs j mark v. AreCounts g seen (slice_set v.degrees.items j mark) };
+
     ghost room = { λ v. 0 };
 
     fn arc(&mut self, i: usize, j: usize) {
         self.degrees[i] += 1;
+    }
+
+    fn begin(&self, j: usize) -> usize {
+        self.degrees[j]
+    }
+
+    fn edge(&mut self, i: usize, j: usize, mark: usize) -> usize {
+        self.degrees[i] += 1;
+        mark + 1
+    }
+
+    fn end(&mut self, j: usize, mark: usize) {
+        self.degrees[j] = mark;
     }
 }
 

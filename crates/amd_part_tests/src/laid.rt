@@ -33,7 +33,7 @@ struct Case<'a> {
 }
 
 /// Matrices with their workspaces, of which `order` takes as many words as here.
-static MATRICES: [Case<'static>; 2] = [
+static MATRICES: [Case<'static>; 3] = [
     Case {
         what: "a four-cycle",
         n: 4,
@@ -53,6 +53,16 @@ static MATRICES: [Case<'static>; 2] = [
         words: &[1, 0, 2, 4, 1, 3, 4, 2, 1, 2, 0, 0, 0, 0, 0, 0, 0],
         starts: &[0, 1, 4, 7, 8],
         lengths: &[1, 3, 3, 1, 2],
+    },
+    Case {
+        what: "five rows whose lists do not all rise",
+        n: 5,
+        a_p: &[0, 1, 2, 3, 3, 6],
+        a_i: &[4, 3, 3, 1, 2, 3],
+        more: 2,
+        words: &[4, 4, 3, 4, 3, 1, 2, 4, 1, 2, 3, 0, 0, 0, 0, 0, 0, 0, 0],
+        starts: &[0, 1, 3, 5, 8],
+        lengths: &[1, 2, 2, 3, 4],
     },
 ];
 

@@ -1,6 +1,6 @@
-// The lists of the neighbours of each row, in the order in which the walk meets the edges.
+// The lists of the neighbours of each row, in a vector for each, in the order in which the walk meets the edges.
 
-use amd_edges::lists::{Lists, neighbours, starting_lists};
+use amd_edges::lists::starting_lists;
 use amd_input::aat::aat;
 use amd_input::valid::valid;
 use amd_numbers::amd::{Info, Status};
@@ -43,46 +43,24 @@ static MATRICES: [Case<'static>; 3] = [
     },
 ];
 
-/// Lays out the lists of a sorted matrix, one after another, and each in a vector of its own.
-fn lists_of(
-    rt: &impl Abort,
-    alloc: Global,
-    n: i64,
-    a_p: &[i64],
-    a_i: &[i64],
-) -> (Lists<Global>, Vec<Vec<usize>>) {
+/// The lists of a sorted matrix.
+fn lists_of(rt: &impl Abort, alloc: Global, n: i64, a_p: &[i64], a_i: &[i64]) -> Vec<Vec<usize>> {
     assert!(rt; n > 0);
     let Status::OK = valid(n, n, a_p, a_i) else {
         panic!(rt; "not sorted");
     };
     let mut info = Info::new(0);
-    let Ok((sum, degrees)) = aat(alloc, n, a_p, a_i, &mut info) else {
+    let Ok((_, degrees)) = aat(alloc, n, a_p, a_i, &mut info) else {
         panic!(rt; "no degrees");
     };
-    let size = degrees.len();
-    let Ok(lists) = neighbours(alloc, size, a_p, a_i, &degrees, sum) else {
+    let Ok(rows) = starting_lists(alloc, degrees.len(), a_p, a_i, &degrees) else {
         panic!(rt; "no lists");
     };
-    let Ok(rows) = starting_lists(alloc, size, a_p, a_i, &degrees) else {
-        panic!(rt; "no lists apart");
-    };
-    (lists, rows)
+    rows
 }
 
-/// Whether lists that stand one after another are those of a case.
-fn are_laid_out(case: &Case, lists: &Lists<Global>) -> bool {
-    let mut start = 0;
-    for (list, &end) in case.lists.iter().zip(&lists.next) {
-        if lists.rows.get(start..end) != Some(*list) {
-            return false;
-        }
-        start = end;
-    }
-    start == lists.rows.len() && lists.next.len() == case.lists.len()
-}
-
-/// Whether lists of which each stands in a vector are those of a case.
-fn are_apart(case: &Case, rows: &[Vec<usize>]) -> bool {
+/// Whether lists are those of a case.
+fn are_lists(case: &Case, rows: &[Vec<usize>]) -> bool {
     for (list, row) in case.lists.iter().zip(rows) {
         if row.as_slice() != *list {
             return false;
@@ -91,11 +69,10 @@ fn are_apart(case: &Case, rows: &[Vec<usize>]) -> bool {
     rows.len() == case.lists.len()
 }
 
-/// Asserts that the lists of a matrix are those of the case, in both forms.
+/// Asserts that the lists of a matrix are those of the case.
 fn check(rt: &impl Abort, alloc: Global, case: &Case) {
-    let (lists, rows) = lists_of(rt, alloc, case.n, case.a_p, case.a_i);
-    let are_same = are_laid_out(case, &lists) && are_apart(case, &rows);
-    assert!(rt; are_same, "{}", case.what);
+    let rows = lists_of(rt, alloc, case.n, case.a_p, case.a_i);
+    assert!(rt; are_lists(case, &rows), "{}", case.what);
 }
 
 #[test]

@@ -1,14 +1,15 @@
 -- The lists of neighbours, laid one after another in one workspace.
 use Rattle.std.proofs.Common.{ℕ, ℤ, Bool, true, false, List, [], ◌∷◌, ◌++◌, zero, suc, ◌≡◌, ◌<◌, ◌≤◌, ◌+◌, ◌-◌, inl, inr}
 use Rattle.std.proofs.Common.{refl, sym, ap, ◌∙◌, arith, cond, map, length, get_or, set, take, drop, pos, get_or-set_same, get_or-set_other}
-use Rattle.std.proofs.Common.{length-drop}
+use Rattle.std.proofs.Common.{length-drop, ◌≢◌, subst}
 use Rattle.std.specs.Prelude.{replicate}
 use Rattle.std.proofs.lemmas.Bool.{cases_Bool, cases_eq, cases_lt}
 use Rattle.std.proofs.lemmas.List.{length-map, length-set, length-replicate, get_or-replicate, get_or-map, get_or-drop, get_or_past}
-use Rattle.std.proofs.lemmas.List.{map-set, take_more, map-append}
+use Rattle.std.proofs.lemmas.List.{map-set, take_at, take_more, map-append}
 use Rattle.amd_model.specs.Below.{sum_below, count_below}
 use Rattle.amd_model.specs.Graph.{Graph}
-use Rattle.amd_edges.specs.Visits.{IsNew, with_arc, AreCounts, start_of, ends_of}
+use Rattle.amd_edges.specs.Visits.{IsNew, IsNewEdge, with_arc, with_edge, AreCounts, start_of, ends_of}
+use Rattle.amd_edges.proofs.Arcs.{ends_apart, written_again}
 use Rattle.amd_edges.proofs.Listing.{start_later, start_sums, lists_none, lists_more, place_in}
 use Rattle.amd_places.specs.Words.{num, is_place, place, word, start, rows}
 use Rattle.amd_places.specs.Layout.{has_list, end_of, list_in, live_words}
@@ -43,6 +44,19 @@ place_set : (iw : List ℤ) (v j : ℕ) → map place (set iw v (pos j)) ≡ set
 unfolding place
 place_set iw v j = map-set place iw v (pos j)
 
+-- what is written into all elements of a list is the list
+pub written : {X : Type 0} (xs ys rest : List X) (count : ℕ) → xs ≡ ys → length ys ≡ count → take count (xs ++ rest) ≡ ys
+written xs ys rest count e l = take_at xs rest count (ap length e ∙ l) ∙ e
+
+-- the words of a vector, when a row was written behind a list
+pub appended : (next lent_next : List ℕ) (iw lent_iw new_iw : List ℤ) (i j count : ℕ) → lent_next ≡ next → lent_iw ≡ iw →
+    new_iw ≡ set lent_iw (get_or lent_next i 0) (pos j) → length iw ≡ count →
+    take count (new_iw ++ drop (length new_iw) iw) ≡ set iw (get_or next i 0) (pos j)
+appended next lent_next iw lent_iw new_iw i j count next_is iw_is new long =
+    written new_iw (set iw (get_or next i 0) (pos j)) (drop (length new_iw) iw) count
+    (new ∙ ap (λ xs. set lent_iw (get_or xs i 0) (pos j)) next_is ∙ ap (λ xs. set xs (get_or next i 0) (pos j)) iw_is)
+    (length-set iw (get_or next i 0) (pos j) ∙ long)
+
 row_word : (n : ℕ) (x : ℤ) (j : ℕ) → x ≡ pos j → j < n → (is_place x ≡ true) × (place x < n)
 unfolding is_place place
 row_word n x j e l = rw e (refl, l)
@@ -65,6 +79,44 @@ module _ (g : Graph) (seen : ℕ → ℕ → Bool) (arcs : List (ℕ × ℕ)) (i
     rows = h.rows;
     places = (let a = length-set iw value (pos j) in let b = h.places in omega (arith, a, b));
   }
+
+-- the words in a run of row j, whose list ends at the mark: both arcs of one edge more
+module _ (g : Graph) (seen : ℕ → ℕ → Bool) (arcs : List (ℕ × ℕ)) (i j mark : ℕ) (new : IsNewEdge g seen i j)
+    (most_word most_figure : ℕ) (next : List ℕ) (iw : List ℤ)
+    (h : Lays g seen arcs most_word most_figure (set next j mark) iw) where
+  ne : i ≢ j
+  ne = ends_apart g seen i j new
+
+  pub run_long : length next ≡ g.size
+  run_long = sym (length-set next j mark) ∙ h.lists.size
+
+  other_end : get_or (set next j mark) i 0 ≡ get_or next i 0
+  other_end = get_or-set_other next j i mark 0 ne
+
+  pub other_in : get_or next i 0 < length iw
+  other_in = let a = lay_in g seen arcs i j new.there most_word most_figure (set next j mark) iw h in let b = other_end in
+      omega (arith, a, b)
+
+  module _ (value : ℕ) (is : value ≡ get_or next i 0) where
+    there : Lays g (with_arc seen i j) (arcs ++ (i, j) ∷ []) most_word most_figure (set (set next j mark) i (value + 1))
+        (set iw value (pos j))
+    there = lays_more g seen arcs i j new.there most_word most_figure (set next j mark) iw h value (is ∙ sym other_end)
+
+    own_end : mark ≡ get_or (set (set next j mark) i (value + 1)) j 0
+    own_end = sym (get_or-set_other (set next j mark) i j (value + 1) 0 (λ e. ne (sym e))
+        ∙ get_or-set_same next j mark 0 (let a = run_long in let b = new.there.j_row in omega (arith, a, b)))
+
+    pub own_in : mark < length iw
+    own_in = let a = lay_in g (with_arc seen i j) (arcs ++ (i, j) ∷ []) j i new.back most_word most_figure
+        (set (set next j mark) i (value + 1)) (set iw value (pos j)) there in
+        let b = own_end in let c = length-set iw value (pos j) in omega (arith, a, b, c)
+
+    pub run_more : Lays g (with_edge seen i j) ((arcs ++ (i, j) ∷ []) ++ (j, i) ∷ []) most_word most_figure
+        (set (set next i (value + 1)) j (mark + 1)) (set (set iw value (pos j)) mark (pos i))
+    run_more = subst (λ ends. Lays g (with_edge seen i j) ((arcs ++ (i, j) ∷ []) ++ (j, i) ∷ []) most_word most_figure ends
+        (set (set iw value (pos j)) mark (pos i))) (written_again next i j mark (value + 1) (mark + 1) ne)
+        (lays_more g (with_arc seen i j) (arcs ++ (i, j) ∷ []) j i new.back most_word most_figure
+        (set (set next j mark) i (value + 1)) (set iw value (pos j)) there mark own_end)
 
 -- ---- the starts
 

@@ -2,7 +2,7 @@
 // the order in which the walk over the edges meets those of its row. Source: Amestoy, Davis and Duff 2004 (the forming
 // of A + A'). Called by `amd_1` of the crate `amd_engine`.
 
-ghost use Rattle.std.specs.Prelude.{◌≡◌, ◌<◌, ◌≤◌, ◌+◌, ℕ, pos, map, length, IfOk};
+ghost use Rattle.std.specs.Prelude.{◌≡◌, ◌<◌, ◌≤◌, ◌+◌, ℕ, pos, map, length, slice_set, IfOk};
 ghost use Rattle.std.specs.Vec.{vec_capacity};
 ghost use Rattle.amd_model.specs.Input.Columns.{IsColumnForm, IsSorted};
 ghost use Rattle.amd_model.specs.Input.Pattern.{graph_of, is_pair};
@@ -29,15 +29,43 @@ struct Words<S: Signed, U: Unsigned, A: Allocator> {
     iw: Vec<Word<S>, A>,
 }
 
+/// Writes a word behind the list of row `i`.
+fn append<S: Signed, U: Unsigned>(next: &mut [Figure<U>], iw: &mut [Word<S>], i: usize, j: usize)
+    requires inside { (i < length next.old) × (num next.old i < length iw.old) }
+    requires fits { (j ≤ S.MOST) × (length iw.old ≤ U.MOST) }
+    ensures ends { next.new ≡ slice_set next.old i (num next.old i + 1) }
+    ensures words { iw.new ≡ slice_set iw.old (num next.old i) (pos j) }
+{
+    let place = figure_at(next, i);
+    put_row(iw, place, j);
+    put_figure(next, i, place + 1);
+}
+
 impl<S: Signed, U: Unsigned, A: Allocator> Visitor for Words<S, U, A> {
     ghost holds = { λ g seen arcs l. Lays g seen arcs S.MOST U.MOST l.next.items l.iw.items };
+
+    // The mark is the place behind the last word of the list of the row.
+    ghost runs = { λ g seen arcs j mark l. Lays g seen arcs S.MOST U.MOST (slice_set l.next.items j mark) l.iw.items ×
+        (mark ≤ U.MOST) };
 
     ghost room = { λ l. length l.iw.items };
 
     fn arc(&mut self, i: usize, j: usize) {
-        let place = figure_at(&self.next, i);
-        put_row(&mut self.iw, place, j);
-        put_figure(&mut self.next, i, place + 1);
+        append(&mut self.next, &mut self.iw, i, j);
+    }
+
+    fn begin(&self, j: usize) -> usize {
+        figure_at(&self.next, j)
+    }
+
+    fn edge(&mut self, i: usize, j: usize, mark: usize) -> usize {
+        append(&mut self.next, &mut self.iw, i, j);
+        put_row(&mut self.iw, mark, i);
+        mark + 1
+    }
+
+    fn end(&mut self, j: usize, mark: usize) {
+        put_figure(&mut self.next, j, mark);
     }
 }
 

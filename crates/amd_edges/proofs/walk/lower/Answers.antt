@@ -25,14 +25,14 @@ count_at-requires-clause-fits g c =
     let end = c.count_at-end.ensures.count in
     row_fits _ _ _ c.requires.form c.args.j c.rows.place (omega arith) (omega arith) (omega arith)
 
-pub count_at-i-requires-clause-within : goal.count_at-i-requires-clause-within
-count_at-i-requires-clause-within g c =
+pub count_at-requires-in-rows-clause-within : goal.count_at-requires-in-rows-clause-within
+count_at-requires-in-rows-clause-within g c =
     let end = c.count_at-end.ensures.count in
     let inside = place_within _ _ _ c.requires.form c.args.j c.rows.place (omega arith) (omega arith) in
     simp length-map at inside
 
-pub count_at-i-requires-clause-fits : goal.count_at-i-requires-clause-fits
-count_at-i-requires-clause-fits g c =
+pub count_at-requires-in-rows-clause-fits : goal.count_at-requires-in-rows-clause-fits
+count_at-requires-in-rows-clause-fits g c =
     let end = c.count_at-end.ensures.count in
     row_fits _ _ _ c.requires.form c.args.j c.rows.place (omega arith) (omega arith) (omega arith)
 
@@ -66,37 +66,35 @@ rows-init g c =
         left = λ x y z. omega arith;
         small = omega arith;
         kept = refl;
-        held = λ arcs h. rw (is, set-get_or, none, no_arcs, append-nil) h;
+        held = λ arcs h. rw (is, set-get_or, none, no_arcs, append-nil) (c.begin-mark.ensures _ _ _ h);
       },
     )
 
-pub arc-requires : goal.arc-requires
-arc-requires g c =
-    let i = c.rows.invariant.1 in let r = c.requires in
-    let end = c.count_at-end.ensures.count in
-    let same = c.count_at-i.ensures.count in
-    let first = c.count_at.ensures.count in
-    let new = lower_new _ _ _ (sorted_form _ _ _ r.form r.sorted) c.args.next.now.items c.args.k c.args.j c.rows.place r.scan r.before
-    r.k_in i.from _ same (omega arith) (omega arith) in
-    (_, _, _, i.held _ r.held.1, new.0)
+pub begin-mark-requires : goal.begin-mark-requires
+begin-mark-requires g c = let r = c.requires in (_, _, r.held.0, r.held.1, (let a = r.before in let b = r.k_in in omega (arith, a, b)))
 
-pub arc-requires-in-rows : goal.arc-requires-in-rows
-arc-requires-in-rows g c =
+pub edge-mark-requires : goal.edge-mark-requires
+edge-mark-requires g c =
     let i = c.rows.invariant.1 in let r = c.requires in
     let end = c.count_at-end.ensures.count in
-    let same = c.count_at-i.ensures.count in
+    let same = c.count_at-in-rows.ensures.count in
     let first = c.count_at.ensures.count in
     let new = lower_new _ _ _ (sorted_form _ _ _ r.form r.sorted) c.args.next.now.items c.args.k c.args.j c.rows.place r.scan r.before
     r.k_in i.from _ same (omega arith) (omega arith) in
-    (_, _, _, c.arc.ensures.held _ _ _ (i.held _ r.held.1) new.0, new.1)
+    (_, _, _, i.held _ r.held.1, record { there = new.0; back = new.1 })
+
+pub end-requires : goal.end-requires
+end-requires g c =
+    let i = c.rows.invariant.1 in let r = c.requires in
+    (_, _, _, i.held _ r.held.1, (let a = r.before in let b = r.k_in in omega (arith, a, b)))
 
 pub rows-preserved : goal.rows-preserved
 rows-preserved g c =
     let b = c.rows.invariant.0 in let i = c.rows.invariant.1 in let r = c.requires in
-    let j = c.args.j in let k = c.args.k in let q = c.rows.place in let row = c.count_at-i.result in let t = c.args.next.now.items in
+    let j = c.args.j in let k = c.args.k in let q = c.rows.place in let row = c.count_at-in-rows.result in let t = c.args.next.now.items in
     let pair = is_entry c.args.size (counts (map g.I.Number.value c.args.a_p.now)) (counts (map g.I.Number.value c.args.a_i.now)) in
     let end = c.count_at-end.ensures.count in
-    let same = c.count_at-i.ensures.count in
+    let same = c.count_at-in-rows.ensures.count in
     let first = c.count_at.ensures.count in
     let form = sorted_form _ _ _ r.form r.sorted in
     let low = r.scan.start j r.before (omega arith) in
@@ -116,9 +114,9 @@ rows-preserved g c =
         ]);
         left = λ x y z. (let w = form.ascend j q x (omega arith) (omega arith) (omega arith) (omega arith) in omega arith);
         small = omega arith;
-        kept = c.arc-in-rows.ensures.kept ∙ c.arc.ensures.kept ∙ i.kept;
+        kept = c.edge-mark.ensures.kept ∙ i.kept;
         held = λ arcs h. rw (← after, next, ← arcs_push arcs (met_above pair k j b) row j)
-            (c.arc-in-rows.ensures.held _ _ _ (c.arc.ensures.held _ _ _ (i.held arcs h) new.0) new.1);
+            (c.edge-mark.ensures.held _ _ _ (i.held arcs h) (record { there = new.0; back = new.1 }));
       },
     )
 
@@ -130,6 +128,7 @@ returns g c =
     let end = c.count_at-end.ensures.count in
     let form = sorted_form _ _ _ r.form r.sorted in
     let from = i.from in let small = i.small in
+    let row : j < c.args.size = (let x = r.before in let y = r.k_in in omega (arith, x, y)) in
     let above : (x : ℕ) → get_or t j 0 ≤ x → x < q → get_or ai x 0 ≤ k = λ x y z. (let w = i.read x y z in omega arith) in
     let stop : q < get_or ap' (j + 1) 0 → k ≤ get_or ai q 0 = λ inside. elim c.rows-test.branch [
       | then-rows-test+else-count_at-k v ↦ (let low = v.if-count_at-k.false in let one = v.count_at.ensures.count in omega arith)
@@ -152,9 +151,9 @@ returns g c =
               all,
               lower_mirror _ _ _ form t k j q r.scan r.before r.k_in i.from _ same (omega arith) here
                   r.mirror,
-            ) (i.held arcs h);
+            ) (c.end.ensures.held _ _ _ (i.held arcs h) row);
             room = refl;
-            kept = i.kept;
+            kept = c.end.ensures.kept ∙ i.kept;
           })
       | else-place-end w ↦ (
           let other : q < get_or ap' (j + 1) 0 → k + 1 ≤ get_or ai q 0 = λ inside. elim w.else-place-end.branch [
@@ -166,8 +165,8 @@ returns g c =
           record {
             scan = rw w.place-is (lower_end _ _ _ form t k j q r.scan r.before r.k_in i.from (let x = i.to in omega arith) r.mirror above
                 (λ x y z. let v = rest x y z in omega arith));
-            held = λ arcs h. rw (w.place-is, all) (i.held arcs h);
+            held = λ arcs h. rw (w.place-is, all) (c.end.ensures.held _ _ _ (i.held arcs h) row);
             room = refl;
-            kept = i.kept;
+            kept = c.end.ensures.kept ∙ i.kept;
           })
     ]

@@ -17,10 +17,10 @@ invariant-rows g l = (b : ℕ) × record {
       g.V.Visitor.holds (count_graph l.size (counts (map g.I.Number.value l.a_p)) (counts (map g.I.Number.value l.a_i)))
       (met l.size (counts (map g.I.Number.value l.a_p)) (counts (map g.I.Number.value l.a_i)) l.next.items l.k (l.j + 1)) arcs
       l.fn.visitor →
-      g.V.Visitor.holds (count_graph l.size (counts (map g.I.Number.value l.a_p)) (counts (map g.I.Number.value l.a_i)))
+      g.V.Visitor.runs (count_graph l.size (counts (map g.I.Number.value l.a_p)) (counts (map g.I.Number.value l.a_i)))
       (met l.size (counts (map g.I.Number.value l.a_p)) (counts (map g.I.Number.value l.a_i)) (set l.next.items l.j l.place) l.k
       (l.j + 1)) (arcs ++ arcs_of (met_above (is_entry l.size (counts (map g.I.Number.value l.a_p)) (counts (map g.I.Number.value l.a_i)))
-      l.k l.j b)) l.visitor;
+      l.k l.j b)) l.j l.mark l.visitor;
 }
 
 abbrev pub decreases-rows : goal.decreases-rows
