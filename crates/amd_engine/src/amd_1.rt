@@ -11,11 +11,11 @@ ghost use Rattle.amd_edges.specs.Visits.{AreCounts, start_of};
 ghost use Rattle.amd_engine.specs.Engine.{IsEngineAnswer};
 
 use crate::amd_2::amd_2_from;
-use amd_cells::{Signed, Unsigned};
+use amd_cells::{Signed, Unsigned, Word};
 use amd_numbers::amd::{Control, Info, Status};
 use amd_workspace::laying::{Laid, lay};
 use num_traits::PrimInt;
-use std::alloc::Allocator;
+use std::alloc::{AllocError, Allocator};
 
 /// Whether words of these widths hold all numbers of an elimination of `n` rows in `iwlen` words from the flag `flag`
 /// on.
@@ -25,6 +25,20 @@ pub fn holds<S: Signed, U: Unsigned>(n: usize, iwlen: usize, flag: usize) -> boo
         (flag ≤ U.MOST)) }
 {
     n + 2 <= S::MOST && n + 2 <= U::MOST && iwlen <= S::MOST && iwlen <= U::MOST && flag <= U::MOST
+}
+
+/// Asks for half of the memory that an ordering of `n` rows in `iwlen` words of 32 bits takes beside its input, and gives
+/// it back at once. An allocator may keep as much free memory as twice the greatest block that it was given back, and
+/// return the rest to the system, as that of glibc does. No list of an ordering is half of all of them; so without this
+/// request each ordering would take all its pages from the system anew.
+///
+/// # Errors
+///
+/// A refused request for memory.
+fn ask_for_half<A: Allocator>(alloc: A, n: usize, iwlen: usize) -> Result<(), AllocError> {
+    let half = n.saturating_mul(9).saturating_add(iwlen / 2);
+    let _: Vec<Word<i32>, A> = Vec::with_capacity(alloc, half)?;
+    Ok(())
 }
 
 /// Lays the lists and eliminates, in words of these widths.
@@ -111,6 +125,7 @@ pub fn amd_1_from<I: PrimInt, A: Allocator + Copy>(
     ensures degrees { len.new ≡ len.old }
 {
     let size = len.len();
+    ask_for_half(alloc, size, iwlen)?;
     if holds::<i32, u32>(size, iwlen, flag) {
         return order_in::<I, i32, u32, A>(
             alloc, flag, n, a_p, a_i, len, iwlen, control, hold, info,
