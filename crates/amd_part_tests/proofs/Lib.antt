@@ -1,2 +1,1 @@
 mod Forests
-mod Degrees

@@ -53,7 +53,8 @@ fn lists_of(rt: &impl Abort, alloc: Global, n: i64, a_p: &[i64], a_i: &[i64]) ->
     let Ok((_, degrees)) = aat(alloc, n, a_p, a_i, &mut info) else {
         panic!(rt; "no degrees");
     };
-    let Ok(rows) = starting_lists(alloc, degrees.len(), a_p, a_i, &degrees) else {
+    let size = degrees.len();
+    let Ok(rows) = starting_lists(alloc, size, a_p, a_i, &degrees) else {
         panic!(rt; "no lists");
     };
     rows

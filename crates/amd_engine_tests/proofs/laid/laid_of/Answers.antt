@@ -1,8 +1,8 @@
 -- The degrees that `aat` answers are numbers of arcs, and their sum is room for the lists.
 use Rattle.std.proofs.Common.{rules, ◌≡◌, length, ap, ◌∙◌, arith}
 use Rattle.amd_engine.proofs.EndingLaw.{lays_pattern}
-use Rattle.amd_part_tests.proofs.Degrees.{degrees_count, degrees_lent, degrees_room}
-use Rattle.amd_part_tests.proofs.laid.laid_of.Goals as goal
+use Rattle.amd_engine_tests.proofs.Degrees.{degrees_count, degrees_lent, degrees_room}
+use Rattle.amd_engine_tests.proofs.laid.laid_of.Goals as goal
 
 pub lay-requires-clause-degrees : goal.lay-requires-clause-degrees
 lay-requires-clause-degrees g c =

@@ -1,7 +1,7 @@
 -- The degrees that `aat` answers are those that the engine asks for, and their sum is room for its lists.
 use Rattle.std.proofs.Common.{rules, ◌≡◌, length, ap, ◌∙◌, arith}
-use Rattle.amd_part_tests.proofs.Degrees.{degrees_count, degrees_room}
-use Rattle.amd_part_tests.proofs.sorted.order_in_place.Goals as goal
+use Rattle.amd_engine_tests.proofs.Degrees.{degrees_count, degrees_room}
+use Rattle.amd_engine_tests.proofs.sorted.order_in_place.Goals as goal
 
 pub amd_1_from-requires-clause-degrees : goal.amd_1_from-requires-clause-degrees
 amd_1_from-requires-clause-degrees g c =

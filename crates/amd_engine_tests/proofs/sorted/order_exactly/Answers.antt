@@ -1,7 +1,7 @@
 -- The degrees that `aat` answers are those that the engine asks for, and their sum with a word for each row is room for its lists.
 use Rattle.std.proofs.Common.{rules, ◌≡◌, length, ap, ◌∙◌, arith}
-use Rattle.amd_part_tests.proofs.Degrees.{degrees_count, degrees_room}
-use Rattle.amd_part_tests.proofs.sorted.order_exactly.Goals as goal
+use Rattle.amd_engine_tests.proofs.Degrees.{degrees_count, degrees_room}
+use Rattle.amd_engine_tests.proofs.sorted.order_exactly.Goals as goal
 
 pub amd_1-requires-clause-degrees : goal.amd_1-requires-clause-degrees
 amd_1-requires-clause-degrees g c =
