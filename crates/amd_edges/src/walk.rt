@@ -50,7 +50,8 @@ pub trait Visitor {
         requires { (g : Graph) × (seen : ℕ → ℕ → Bool) × (arcs : List (ℕ × ℕ)) × runs g seen arcs j mark self.old ×
             IsNewEdge g seen i j }
         ensures held { (g : Graph) (seen : ℕ → ℕ → Bool) (arcs : List (ℕ × ℕ)) → runs g seen arcs j mark self.old →
-            IsNewEdge g seen i j → runs g (with_edge seen i j) ((arcs ++ (i, j) ∷ []) ++ (j, i) ∷ []) j result self.new }
+            IsNewEdge g seen i j →
+            runs g (with_edge seen i j) ((arcs ++ (i, j) ∷ []) ++ (j, i) ∷ []) j result self.new }
         ensures kept { room self.new ≡ room self.old };
 
     /// Ends a run of row `j` with this mark.

@@ -1,7 +1,7 @@
-//! Tests of both engines and of the lists that they start from: the plain engine with refused memory, the engine in place
-//! beside the plain one, on worked matrices and with refused memory, both engines beside `order` over families of graphs,
-//! the workspace as it is laid, and the lists of neighbours. The answers come from outside: worked by hand, or from the
-//! Rust crate `amd`.
+//! Tests of both engines and of the lists that they start from: the plain engine with refused memory, the engine in
+//! place beside the plain one, on worked matrices and with refused memory, both engines beside `order` over families of
+//! graphs, the workspace as it is laid, and the lists of neighbours. The answers come from outside: worked by hand, or
+//! from the Rust crate `amd`.
 #![tactic(auto)]
 
 #[cfg(test)]
