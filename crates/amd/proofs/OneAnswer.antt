@@ -18,7 +18,7 @@ use Rattle.amd_numbers.specs.Statuses.{IsStatusOf}
 use Rattle.amd_numbers.specs.declared.amd.Info.{Info}
 use Rattle.amd_numbers.specs.declared.amd.Status.{Status}
 use Rattle.amd_numbers.specs.declared.amd.Status.TheVariants.{OK, Invalid, OkButJumbled, OutOfMemory}
-use Rattle.amd_engine.proofs.EnginesAgree.{inverse_one}
+use Rattle.amd_plain.proofs.EnginesAgree.{inverse_one}
 use Rattle.amd.specs.Answers.{OrdersMatrix, TellsFigures, IsOrdering, IsOrderingHolding, AreDense, AreOneAnswer, ordered_pairs}
 use Rattle.amd.proofs.SamePairs.{graph_same, pairs_same}
 use Rattle.amd.proofs.Orderings.{HoldTheSame, last_equal, dense_equal, wells_equal}

@@ -25,9 +25,9 @@ use Rattle.amd_places.specs.Words.{num}
 use Rattle.amd_listing.specs.Ended.{IsEnded, HasEnded, ListsEnded}
 use Rattle.amd_workspace.specs.Ending.{EndsRows}
 use Rattle.amd_workspace.specs.Laying.{IsLaidOut}
-use Rattle.amd_engine.specs.Engine.{TellsElements}
+use Rattle.amd_plain.specs.Engine.{TellsElements}
 use Rattle.amd_engine.specs.InPlace.{AnswersInPlace, EndsRounds, LaysGraph, RunsInPlace}
-use Rattle.amd_engine.proofs.EngineLaw.{told_by, run, answer_of}
+use Rattle.amd_plain.proofs.EngineLaw.{told_by, run, answer_of}
 use Rattle.amd_workspace.proofs.Ended.{ended}
 
 -- ---- one graph

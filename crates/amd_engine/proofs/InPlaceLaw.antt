@@ -21,7 +21,7 @@ use Rattle.amd_workspace.specs.Starting.{Rows, BeginsRows, held_in, is_class, cl
 use Rattle.amd_workspace.proofs.Begun.{rows_of, begun_view, begun_laid}
 use Rattle.amd_workspace.proofs.AtStart.{stands_at_start}
 use Rattle.amd_engine.specs.InPlace.{EndsIn, EndsRounds, LaysGraph, first_sums}
-use Rattle.amd_engine.proofs.EngineLaw.{degree_small}
+use Rattle.amd_plain.proofs.EngineLaw.{degree_small}
 
 -- what the lists of a workspace say before its first round, beside its rows
 pub record IsFresh (n : ℕ) (held : ℕ → Bool) (degrees : List ℕ) (v : Workspace) : Type 0 where

@@ -1,10 +1,2 @@
-pub mod EngineLaw
-pub mod EnginesAgree
 pub mod InPlaceLaw
 pub mod EndingLaw
-pub mod PlainLaw
-pub mod RowLinks
-pub mod ElementRows
-pub mod ByPlace
-pub mod BlockForest
-pub mod ListingLaw

@@ -14,7 +14,7 @@ use Rattle.amd_inplace.specs.Workspaces.{Workspace}
 use Rattle.amd_inplace.specs.Keeps.{Stands, AreRounds, NoRowIsLive}
 use Rattle.amd_listing.specs.Ended.{HasEnded, ListsEnded}
 use Rattle.amd_workspace.specs.Ending.{EndsRows}
-use Rattle.amd_engine.specs.Engine.{AreNeighbours, IsAnswerOf, Reaches, TellsElements}
+use Rattle.amd_plain.specs.Engine.{AreNeighbours, IsAnswerOf, Reaches, TellsElements}
 
 -- the figures before the first round: the rows held last are a front
 abbrev pub first_sums : ℕ → Figures

@@ -1,3 +1,2 @@
--- What an engine answers, and what the run of the engine in place promises.
-pub mod Engine
+-- What the run of the engine in place promises.
 pub mod InPlace

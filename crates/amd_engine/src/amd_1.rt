@@ -8,7 +8,7 @@ ghost use Rattle.amd_model.specs.Input.Columns.{IsColumnForm, IsSorted};
 ghost use Rattle.amd_model.specs.Input.Held.{HasMarks};
 ghost use Rattle.amd_model.specs.Input.Pattern.{graph_of};
 ghost use Rattle.amd_edges.specs.Visits.{AreCounts, start_of};
-ghost use Rattle.amd_engine.specs.Engine.{IsEngineAnswer};
+ghost use Rattle.amd_plain.specs.Engine.{IsEngineAnswer};
 
 use crate::amd_2::amd_2_from;
 use amd_cells::{Signed, Unsigned, Word};
@@ -27,10 +27,10 @@ pub fn holds<S: Signed, U: Unsigned>(n: usize, iwlen: usize, flag: usize) -> boo
     n + 2 <= S::MOST && n + 2 <= U::MOST && iwlen <= S::MOST && iwlen <= U::MOST && flag <= U::MOST
 }
 
-/// Asks for half of the memory that an ordering of `n` rows in `iwlen` words of 32 bits takes beside its input, and gives
-/// it back at once. An allocator may keep as much free memory as twice the greatest block that it was given back, and
-/// return the rest to the system, as that of glibc does. No list of an ordering is half of all of them; so without this
-/// request each ordering would take all its pages from the system anew.
+/// Asks for half of the memory that an ordering of `n` rows in `iwlen` words of 32 bits takes beside its input, and
+/// gives it back at once. An allocator may keep as much free memory as twice the greatest block that it was given back,
+/// and return the rest to the system, as that of glibc does. No list of an ordering is half of all of them; so without
+/// this request each ordering would take all its pages from the system anew.
 ///
 /// # Errors
 ///

@@ -1,4 +1,4 @@
-// Whether a caller marked a row to be held last. Called by `last` of the crate `amd_engine`, and by `starting` of
+// Whether a caller marked a row to be held last. Called by `last` of the crate `amd_plain`, and by `starting` of
 // `amd_workspace`.
 
 ghost use Rattle.std.specs.Prelude.{◌≡◌, ◌<◌, ℕ};

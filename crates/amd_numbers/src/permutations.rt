@@ -1,5 +1,5 @@
 // From a listing of the rows to the two permutations that a caller is given. Called by `plain_1` of the crate
-// `amd_engine`, at the end of an ordering; the engine in place writes both in its listing.
+// `amd_plain`, at the end of an ordering; the engine in place writes both in its listing.
 
 ghost use Rattle.std.specs.Prelude.{ℕ, ◌≡◌, ◌<◌, ◌<ℤ◌, IfOk, length, map, pos, slice_index};
 ghost use Rattle.amd_model.specs.Input.Columns.{at};

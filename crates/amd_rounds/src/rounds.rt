@@ -1,6 +1,6 @@
 // The rounds of an elimination that keeps the lists of the quotient graph (for each class its elements and its
 // variables, for each element its members), and one list of classes for each bound. Source: Amestoy, Davis and Duff
-// 1996 and 2004. Called by `plain_1` of the crate `amd_engine`. The goals of the functions that call many parts are
+// 1996 and 2004. Called by `plain_1` of the crate `amd_plain`. The goals of the functions that call many parts are
 // answered by hand (`tactic(none)`): a search through all that the parts say takes minutes.
 
 ghost use Rattle.std.specs.Prelude.{◌≡◌, ◌<◌, ◌≤◌, ◌+◌, ◌^◌, ℕ, Bool, true, length, sum_by, IfOk, OnOk};
