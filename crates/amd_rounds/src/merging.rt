@@ -273,7 +273,7 @@ pub fn made_of<A: Allocator + Copy>(
     let mut made = Vec::with_capacity(alloc, rest.len())?;
     for i in rest {
         if into[*i] == *i {
-            made.push(*i)?;
+            made.push_reserved(*i);
         }
     }
     Ok(made)
