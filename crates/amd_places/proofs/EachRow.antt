@@ -12,6 +12,11 @@ pub cond_both : {A : Type 0} (a b : Bool) (x y : A) → cond (a && b) x y ≡ co
 cond_both true b x y = refl
 cond_both false b x y = refl
 
+-- a test between equals
+pub cond_same : {A : Type 0} (a : Bool) (x : A) → cond a x x ≡ x
+cond_same true x = refl
+cond_same false x = refl
+
 pub each_none : {A : Type 0} (iw : List ℤ) (from : ℕ) (g a : ℕ → A) (x : ℕ) → g x ≡ cond (has (rows iw from (from - from)) x) (a x) (g x)
 unfolding has
 each_none iw from g a x = sym (ap (λ xs. cond (has xs x) (a x) (g x)) (rows_start iw from))

@@ -1,5 +1,6 @@
 -- The rows that words name, marked with a flag one by one.
-use Rattle.std.proofs.Common.{ℕ, ℤ, Bool, true, List, [], ◌∷◌, ◌≡◌, ◌<◌, ◌+◌, ◌-◌, ◌||◌, cond, inl, inr, sym, ap, ◌∙◌, arith, length}
+use Rattle.std.proofs.Common.{ℕ, ℤ, Bool, true, false, List, [], ◌∷◌, ◌≡◌, ◌<◌, ◌+◌, ◌-◌, ◌||◌, cond, inl, inr, refl, sym, ap, ◌∙◌, arith}
+use Rattle.std.proofs.Common.{length}
 use Rattle.std.proofs.Common.{set, get_or-set_same, get_or-set_other}
 use Rattle.std.specs.Prelude.{◌==◌}
 use Rattle.std.proofs.Math.Bool.{or-false}
@@ -38,6 +39,16 @@ marked_more iw from k flag w0 w before y is small x = elim (cases_eq x y) [
       ∙ ap (λ b. has (rows iw from k) x || b) (ne_eqb (place (word iw (from + k))) x (λ e. ne (sym e ∙ sym is)))
       ∙ or-false (has (rows iw from k) x)))
 ]
+
+-- a counter that was below the flag, marked with it or not
+pub marked_below : (is_marked : Bool) (flag v : ℕ) → v < flag → cond is_marked flag v < flag + 1
+marked_below true flag v low = omega arith
+marked_below false flag v low = omega (arith, low)
+
+pub marked_zero : (is_marked : Bool) (flag v : ℕ) → (is_marked ≡ true → 0 < v) → v < flag → (cond is_marked flag v == 0) ≡ (v == 0)
+marked_zero true flag v stands low =
+    let some = stands refl in ne_eqb flag 0 (λ e. omega (arith, low, e)) ∙ sym (ne_eqb v 0 (λ e. omega (arith, some, e)))
+marked_zero false flag v stands low = refl
 
 -- what all of some words pass
 pub each_none : (p : ℕ → Bool) (iw : List ℤ) (from : ℕ) → each p (rows iw from (from - from)) ≡ true

@@ -1,9 +1,12 @@
-use Rattle.std.proofs.Common.{◌≡◌, [], inr, refl, sym, ap, ◌∙◌, arith, set}
+use Rattle.std.proofs.Common.{ℕ, true, ◌≡◌, [], inl, inr, refl, sym, ap, subst, ◌∙◌, arith, length, set}
+use Rattle.std.specs.Prelude.{◌==◌}
 use Rattle.amd_model.specs.Quotient.{has}
 use Rattle.amd_model.proofs.Listings.Words.{has_none}
 use Rattle.amd_places.specs.Words.{num}
-use Rattle.amd_places.specs.Merging.{bucket}
+use Rattle.amd_places.specs.Chains.{Chain}
+use Rattle.amd_places.specs.Merging.{bucket, words_of}
 use Rattle.amd_places.proofs.BucketWalk.{links_is}
+use Rattle.amd_places.proofs.WordMarks.{marked_below, marked_zero}
 use Rattle.amd_places.proofs.merging.merge_one.Goals as goal
 
 pub returns-then-head-next-clause-settles : goal.returns-then-head-next-clause-settles
@@ -24,3 +27,71 @@ returns-then-head-next-clause-settles g c =
         sizes = refl;
       },
     )
+
+pub find-found-requires-clause-here : goal.find-found-requires-clause-here
+find-found-requires-clause-here g c = rw c.requires.lengths.4 c.requires.ready.here
+
+pub find-found-requires-clause-chain : goal.find-found-requires-clause-chain
+find-found-requires-clause-chain g c =
+    let next = c.args.next.now in
+    let head_is = c.figure_at-head.ensures.is ∙ ap (num c.args.hash.now) c.figure_at-key.ensures.is in
+    subst (λ k. Chain (length next) next k (bucket next k)) (sym head_is) c.requires.ready.chain
+
+pub find-found-requires-clause-members : goal.find-found-requires-clause-members
+find-found-requires-clause-members g c j h =
+    let head_is = c.figure_at-head.ensures.is ∙ ap (num c.args.hash.now) c.figure_at-key.ensures.is in
+    rw c.requires.lengths.4
+    (c.requires.ready.members j (subst (λ k. has (bucket c.args.next.now k) j ≡ true) head_is h)).renewed
+
+pub find-found-requires-clause-apart : goal.find-found-requires-clause-apart
+find-found-requires-clause-apart g c j h =
+    let head_is = c.figure_at-head.ensures.is ∙ ap (num c.args.hash.now) c.figure_at-key.ensures.is in
+    (c.requires.ready.members j (subst (λ k. has (bucket c.args.next.now k) j ≡ true) head_is h)).apart
+
+pub merge-requires-clause-other : goal.merge-requires-clause-other
+merge-requires-clause-other g c = elim c.find-found.ensures.found [
+  | inl h ↦
+      let head_is = c.figure_at-head.ensures.is ∙ ap (num c.args.hash.now) c.figure_at-key.ensures.is in
+      (c.requires.ready.members c.find-found.result
+      (subst (λ k. has (bucket c.args.next.now k) c.find-found.result ≡ true) head_is h.1)).other
+  | inr h ↦ let l = c.if-found-next.true in let e = h.0 in absurd (omega (arith, l, e))
+]
+
+pub merge-requires-clause-marked : goal.merge-requires-clause-marked
+merge-requires-clause-marked g c = elim c.find-found.ensures.found [
+  | inl h ↦
+      let head_is = c.figure_at-head.ensures.is ∙ ap (num c.args.hash.now) c.figure_at-key.ensures.is in (
+        c.requires.ready.marked,
+        (c.requires.ready.members c.find-found.result
+            (subst (λ k. has (bucket c.args.next.now k) c.find-found.result ≡ true) head_is h.1)).marked,
+      )
+  | inr h ↦ let l = c.if-found-next.true in let e = h.0 in absurd (omega (arith, l, e))
+]
+
+pub merge-requires-clause-small : goal.merge-requires-clause-small
+merge-requires-clause-small g c = elim c.find-found.ensures.found [
+  | inl h ↦
+      let head_is = c.figure_at-head.ensures.is ∙ ap (num c.args.hash.now) c.figure_at-key.ensures.is in
+      let m = (c.requires.ready.members c.find-found.result
+      (subst (λ k. has (bucket c.args.next.now k) c.find-found.result ≡ true) head_is h.1)).small in
+      let n = c.requires.short.1 in omega (arith, m, n)
+  | inr h ↦ let l = c.if-found-next.true in let e = h.0 in absurd (omega (arith, l, e))
+]
+
+pub returns-clause-lengths : goal.returns-clause-lengths
+returns-clause-lengths g c =
+    let a = c.if-found-next.auto in let l = c.requires.lengths in
+    (a.pe ∙ l.0, a.e_len ∙ l.1, a.nv ∙ l.2, l.3, c.find-found.ensures.long ∙ l.4, a.hash ∙ l.5, a.next ∙ l.6, l.7)
+
+pub returns-clause-under : goal.returns-clause-under
+returns-clause-under g c x =
+    let m = c.find-found.ensures.marked x in
+    let b = marked_below (has (words_of c.args.iw.now c.args.pe.now c.args.len.now c.args.i) x) c.args.flag (num c.args.w.now x)
+    (c.requires.under x) in
+    omega (arith, m, b)
+
+pub returns-clause-zeros : goal.returns-clause-zeros
+returns-clause-zeros g c x =
+    ap (λ k. k == 0) (c.find-found.ensures.marked x)
+    ∙ marked_zero (has (words_of c.args.iw.now c.args.pe.now c.args.len.now c.args.i) x) c.args.flag (num c.args.w.now x)
+    (c.requires.ready.standing x) (c.requires.under x)
