@@ -36,7 +36,7 @@ pub overflow_add-result : goal.overflow_add-result
 overflow_add-result g c =
     let r = c.requires in let l = c.args.self.now in
     let own = own_in r.0 r.1 r.2 c.args.i c.args.j c.args.mark r.4 _ _ l.next.items l.iw.items r.3.0
-        (get_or l.next.items c.args.i 0) refl in
+    (get_or l.next.items c.args.i 0) refl in
     let places = r.3.0.places in let narrow = g.met.U.Unsigned.narrow in omega (arith, own, places, narrow)
 
 pub returns-clause-held : goal.returns-clause-held
