@@ -5,6 +5,7 @@ use amd_cases::faults::Fault;
 use amd_cases::matrix::{Matrix, MatrixError, read_matrix};
 use amd_cases::reader::{CaseReader, ReadError};
 use amd_testing::refusing::{Refusing, each_refused};
+use num_traits::PrimInt;
 use std::alloc::{AllocError, Allocator, Global};
 use std::io;
 use std::io::{BufRead, BufReader, ErrorKind, Read};
@@ -231,52 +232,78 @@ fn file_of(alloc: Global, wide: &[i64], narrow: &[i32]) -> Result<Vec<u8>, Alloc
     Ok(bytes)
 }
 
+/// The fault of a matrix file with rows of this type, where it has one.
+fn fault_of<I: PrimInt, R: Read>(alloc: Global, input: &mut R) -> Option<MatrixError> {
+    read_matrix::<I, _, _>(alloc, input).err()
+}
+
 #[test]
 fn a_matrix_file(rt: HostRuntime) -> Result<(), Fail> {
-    let mut bytes = file_of(rt.alloc(), &[2, 3, 0, 2, 3], &[0, 1, -300])?;
+    let bytes = file_of(rt.alloc(), &[2, 3, 0, 2, 3], &[0, 1, -300])?;
     let Ok(Matrix { n, a_p, a_i }) = read_matrix::<i64, _, _>(rt.alloc(), &mut bytes.as_slice())
     else {
         panic!(rt; "refused");
     };
     assert!(rt; n == 2 && a_p.as_slice() == [0, 2, 3].as_slice());
     assert!(rt; a_i.as_slice() == [0, 1, -300].as_slice());
-    for (length, _) in bytes.iter().enumerate() {
-        let front: Vec<u8> = bytes.iter().copied().take(length).collect(rt.alloc())?;
-        let outcome = read_matrix::<i32, _, _>(rt.alloc(), &mut front.as_slice());
-        assert!(rt;
-            matches!(outcome, Err(MatrixError::Short)),
-            "{length} bytes"
-        );
+    Ok(())
+}
+
+#[test]
+fn matrix_files_that_break_off(rt: HostRuntime) -> Result<(), Fail> {
+    let bytes = file_of(rt.alloc(), &[2, 3, 0, 2, 3], &[0, 1, -300])?;
+    for length in 0..bytes.len() {
+        let mut front = bytes.get(..length).unwrap_or(&[]);
+        let fault = fault_of::<i32, _>(rt.alloc(), &mut front);
+        assert!(rt; matches!(fault, Some(MatrixError::Short)), "{length} bytes");
     }
-    let narrow = read_matrix::<i8, _, _>(rt.alloc(), &mut bytes.as_slice());
-    assert!(rt; matches!(narrow, Err(MatrixError::TooLarge)));
-    let unsigned = read_matrix::<u64, _, _>(rt.alloc(), &mut bytes.as_slice());
-    assert!(rt; matches!(unsigned, Err(MatrixError::TooLarge)));
+    Ok(())
+}
+
+#[test]
+fn matrix_files_that_do_not_fit(rt: HostRuntime) -> Result<(), Fail> {
+    let heap = rt.alloc();
+    let bytes = file_of(heap, &[2, 3, 0, 2, 3], &[0, 1, -300])?;
+    let is_large = |fault| matches!(fault, Some(MatrixError::TooLarge));
+    assert!(rt; is_large(fault_of::<i8, _>(heap, &mut bytes.as_slice())));
+    assert!(rt; is_large(fault_of::<u64, _>(heap, &mut bytes.as_slice())));
+    Ok(())
+}
+
+#[test]
+fn matrix_files_that_are_too_long(rt: HostRuntime) -> Result<(), Fail> {
+    let heap = rt.alloc();
+    let mut bytes = file_of(heap, &[2, 3, 0, 2, 3], &[0, 1, -300])?;
     bytes.push(0)?;
-    let longer = read_matrix::<i32, _, _>(rt.alloc(), &mut bytes.as_slice());
-    assert!(rt; matches!(longer, Err(MatrixError::Long)));
-    let broken = read_matrix::<i32, _, _>(rt.alloc(), &mut Broken(&bytes));
-    assert!(rt; matches!(broken, Err(MatrixError::Long)));
+    let is_long = |fault| matches!(fault, Some(MatrixError::Long));
+    assert!(rt; is_long(fault_of::<i32, _>(heap, &mut bytes.as_slice())));
+    assert!(rt; is_long(fault_of::<i32, _>(heap, &mut Broken(&bytes))));
     Ok(())
 }
 
 #[test]
 fn matrix_files_that_are_none(rt: HostRuntime) -> Result<(), Fail> {
-    let negative = file_of(rt.alloc(), &[-1, 0], &[])?;
-    let outcome = read_matrix::<i64, _, _>(rt.alloc(), &mut negative.as_slice());
-    assert!(rt; matches!(outcome, Err(MatrixError::Negative)));
-    let negative = file_of(rt.alloc(), &[0, -1, -1], &[])?;
-    let outcome = read_matrix::<i64, _, _>(rt.alloc(), &mut negative.as_slice());
-    assert!(rt; matches!(outcome, Err(MatrixError::Negative)));
-    let apart = file_of(rt.alloc(), &[1, 2, 0, 1], &[0, 0])?;
-    let outcome = read_matrix::<i64, _, _>(rt.alloc(), &mut apart.as_slice());
-    assert!(rt; matches!(outcome, Err(MatrixError::Pointers)));
-    let huge = file_of(rt.alloc(), &[i64::MAX, i64::MAX, 0], &[])?;
-    let outcome = read_matrix::<i64, _, _>(rt.alloc(), &mut huge.as_slice());
-    assert!(rt; matches!(outcome, Err(MatrixError::Short)));
-    let whole = file_of(rt.alloc(), &[0, 0, 0], &[])?;
-    let outcome = read_matrix::<i64, _, _>(rt.alloc(), &mut Broken(&whole));
-    assert!(rt; matches!(outcome, Err(MatrixError::Input(_))));
+    let heap = rt.alloc();
+    for wide in [[-1, 0].as_slice(), &[0, -1, -1]] {
+        let bytes = file_of(heap, wide, &[])?;
+        let fault = fault_of::<i64, _>(heap, &mut bytes.as_slice());
+        assert!(rt; matches!(fault, Some(MatrixError::Negative)));
+    }
+    let apart = file_of(heap, &[1, 2, 0, 1], &[0, 0])?;
+    let fault = fault_of::<i64, _>(heap, &mut apart.as_slice());
+    assert!(rt; matches!(fault, Some(MatrixError::Pointers)));
+    Ok(())
+}
+
+#[test]
+fn matrix_files_that_say_too_much_or_cannot_be_read(rt: HostRuntime) -> Result<(), Fail> {
+    let heap = rt.alloc();
+    let huge = file_of(heap, &[i64::MAX, i64::MAX, 0], &[])?;
+    let fault = fault_of::<i64, _>(heap, &mut huge.as_slice());
+    assert!(rt; matches!(fault, Some(MatrixError::Short)));
+    let whole = file_of(heap, &[0, 0, 0], &[])?;
+    let fault = fault_of::<i64, _>(heap, &mut Broken(&whole));
+    assert!(rt; matches!(fault, Some(MatrixError::Input(_))));
     Ok(())
 }
 
