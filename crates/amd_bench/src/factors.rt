@@ -27,6 +27,41 @@ fn told(fault: Fault) -> &'static str {
     }
 }
 
+/// Makes the columns of a matrix under an order, with this room, and says how long that took.
+fn time_columns<R: Runtime + Alloc<A = Global>, I: PrimInt>(
+    rt: &R,
+    matrix: &Matrix<I, Global>,
+    p: &[I],
+    room: usize,
+) -> Result<(Factor<Global>, Duration)>
+    requires { I.fits (I.value matrix.now.n) }
+{
+    let start = Instant::now(rt)?;
+    let answer = columns(rt.alloc(), matrix.n, &matrix.a_p, &matrix.a_i, p, room);
+    let time = start.elapsed(rt)?;
+    match answer {
+        Ok(factor) => Ok((factor, time)),
+        Err(fault) => bail!("{}", told(fault)),
+    }
+}
+
+/// Orders a matrix by the default control and makes the columns under this order, and says how long that took.
+fn time_analysis<R: Runtime + Alloc<A = Global>, I: PrimInt>(
+    rt: &R,
+    matrix: &Matrix<I, Global>,
+) -> Result<(Factor<Global>, Duration)>
+    requires { I.fits (I.value matrix.now.n) }
+{
+    let control = Control::default();
+    let start = Instant::now(rt)?;
+    let answer = analyze(rt.alloc(), matrix.n, &matrix.a_p, &matrix.a_i, &control);
+    let time = start.elapsed(rt)?;
+    match answer {
+        Ok((_, _, _, factor)) => Ok((factor, time)),
+        Err(fault) => bail!("{}", told(fault)),
+    }
+}
+
 /// Makes the columns of a matrix some times, under the order by the default control, with its bound as room.
 #[inline(never)]
 pub fn columns_often<R: Runtime + Alloc<A = Global>, I: PrimInt>(
@@ -46,13 +81,9 @@ pub fn columns_often<R: Runtime + Alloc<A = Global>, I: PrimInt>(
     'repeats: for _ in 0..repeats {
         // The factor before is given back outside the time.
         last = None;
-        let start = Instant::now(rt)?;
-        let answer = columns(rt.alloc(), matrix.n, &matrix.a_p, &matrix.a_i, &p, info.lnz);
-        times.push(start.elapsed(rt)?)?;
-        match answer {
-            Ok(factor) => last = Some(factor),
-            Err(fault) => bail!("{}", told(fault)),
-        }
+        let (factor, time) = time_columns(rt, matrix, &p, info.lnz)?;
+        last = Some(factor);
+        times.push(time)?;
     }
     let factor = last.context("no repeats")?;
     Ok(Factored { factor, times })
@@ -67,19 +98,14 @@ pub fn analyze_often<R: Runtime + Alloc<A = Global>, I: PrimInt>(
 ) -> Result<Factored>
     requires { I.fits (I.value matrix.now.n) }
 {
-    let control = Control::default();
     let mut times = Vec::new(rt.alloc());
     let mut last = None;
     'repeats: for _ in 0..repeats {
         // The factor before is given back outside the time.
         last = None;
-        let start = Instant::now(rt)?;
-        let answer = analyze(rt.alloc(), matrix.n, &matrix.a_p, &matrix.a_i, &control);
-        times.push(start.elapsed(rt)?)?;
-        match answer {
-            Ok((_, _, _, factor)) => last = Some(factor),
-            Err(fault) => bail!("{}", told(fault)),
-        }
+        let (factor, time) = time_analysis(rt, matrix)?;
+        last = Some(factor);
+        times.push(time)?;
     }
     let factor = last.context("no repeats")?;
     Ok(Factored { factor, times })
