@@ -40,6 +40,8 @@ struct Clock {
     last: Instant,
     /// The stages so far.
     spans: Vec<Span>,
+    /// The first fault, after which no stage is ended.
+    outcome: Result<()>,
 }
 
 impl Clock {
@@ -51,11 +53,20 @@ impl Clock {
             first: now,
             last: now,
             spans,
+            outcome: Ok(()),
         })
     }
 
-    /// Ends a stage.
-    fn end<R: Runtime>(&mut self, rt: &R, stage: &'static str) -> Result<()> {
+    /// Ends a stage, where there was no fault yet. `spans` returns a fault of the clock, so that no caller has to give
+    /// up in the middle of a call.
+    fn end<R: Runtime>(&mut self, rt: &R, stage: &'static str) {
+        if self.outcome.is_ok() {
+            self.outcome = self.note(rt, stage);
+        }
+    }
+
+    /// Notes a stage that ends now.
+    fn note<R: Runtime>(&mut self, rt: &R, stage: &'static str) -> Result<()> {
         let now = Instant::now(rt)?;
         self.spans.push((stage, now.duration_since(self.last)))?;
         self.last = now;
@@ -64,6 +75,7 @@ impl Clock {
 
     /// The stages of a call that is over, and then the whole call.
     fn spans(self) -> Result<Vec<Span>> {
+        self.outcome?;
         let mut spans = self.spans;
         spans.push(("whole", self.last.duration_since(self.first)))?;
         Ok(spans)
@@ -111,18 +123,18 @@ fn time_elimination<R: Runtime + Alloc<A = Global>, I: PrimInt, S: Signed, U: Un
     let control = Control::default();
     let size = degrees.len();
     let mut laid: Laid<S, U, Global> = lay(rt.alloc(), size, a_p, a_i, degrees, room)?;
-    clock.end(rt, "lay")?;
+    clock.end(rt, "lay");
     let threshold = dense_threshold(size, &control);
     let mut lists = fresh_lists(rt.alloc(), size)?;
-    clock.end(rt, "lists")?;
+    clock.end(rt, "lists");
     let (iw, pe, len) = (&mut laid.iw, &mut laid.pe, &mut laid.len);
     let (counts, links) = (&mut lists.counts, &mut lists.links);
     run_fresh(
         iw, pe, len, counts, links, laid.free, 2, &control, None, threshold,
     );
-    clock.end(rt, "rounds")?;
+    clock.end(rt, "rounds");
     list_rows(pe, counts, links, &mut lists.p, &mut lists.p_inv);
-    clock.end(rt, "listing")?;
+    clock.end(rt, "listing");
     Ok(lists.p)
 }
 
@@ -144,7 +156,7 @@ fn time_sorted<R: Runtime + Alloc<A = Global>, I: PrimInt>(
     let Ok((nzaat, degrees)) = aat(rt.alloc(), n, a_p, a_i, &mut info) else {
         bail!("out of memory");
     };
-    clock.end(rt, "aat")?;
+    clock.end(rt, "aat");
     let Some(room) = workspace_words(nzaat, count) else {
         bail!("out of memory");
     };
@@ -170,7 +182,7 @@ fn time_call<R: Runtime + Alloc<A = Global>, I: PrimInt>(
         return Ok(Vec::new(rt.alloc()));
     }
     let status = valid(n, n, &matrix.a_p, &matrix.a_i);
-    clock.end(rt, "valid")?;
+    clock.end(rt, "valid");
     match status {
         Status::OK => time_sorted(rt, clock, n, &matrix.a_p, &matrix.a_i),
         Status::OkButJumbled => {
@@ -178,7 +190,7 @@ fn time_call<R: Runtime + Alloc<A = Global>, I: PrimInt>(
             let Ok((c_p, c_i)) = transpose else {
                 bail!("out of memory");
             };
-            clock.end(rt, "preprocess")?;
+            clock.end(rt, "preprocess");
             time_sorted(rt, clock, n, &c_p, &c_i)
         }
         _ => bail!("the file holds no column form"),
