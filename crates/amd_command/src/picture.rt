@@ -269,6 +269,24 @@ fn write_head<W: Write>(out: &mut W) -> io::Result<()> {
     writeln!(out, "<rect width=\"860\" height=\"472\" fill=\"#ffffff\"/>")
 }
 
+/// Writes both panels, from the levels of their cells: of the entries before and after, and of the fill, which is
+/// beyond the entries after.
+fn write_panels<W: Write>(
+    side: usize,
+    before: &[u8],
+    after: &[u8],
+    beyond: &[u8],
+    out: &mut W,
+) -> io::Result<()> {
+    begin_panel(20, side, "before", out)?;
+    write_cells(side, before, ENTRY_COLOUR, out)?;
+    writeln!(out, "</svg>")?;
+    begin_panel(440, side, "after", out)?;
+    write_cells(side, beyond, FILL_COLOUR, out)?;
+    write_cells(side, after, ENTRY_COLOUR, out)?;
+    writeln!(out, "</svg>")
+}
+
 /// Writes what the colours mean, and the end of the picture.
 fn write_foot<W: Write>(n: usize, edges: u64, fill: u64, out: &mut W) -> io::Result<()> {
     writeln!(
@@ -308,13 +326,7 @@ pub fn write_picture<W: Write, A: Allocator + Copy>(
     let beyond = picture.factor.levels_beyond(alloc, &picture.after)?;
     let fill = picture.entries.saturating_sub(picture.edges);
     write_head(out)?;
-    begin_panel(20, side, "before", out)?;
-    write_cells(side, &before, ENTRY_COLOUR, out)?;
-    writeln!(out, "</svg>")?;
-    begin_panel(440, side, "after", out)?;
-    write_cells(side, &beyond, FILL_COLOUR, out)?;
-    write_cells(side, &after, ENTRY_COLOUR, out)?;
-    writeln!(out, "</svg>")?;
+    write_panels(side, &before, &after, &beyond, out)?;
     write_foot(matrix.n, picture.edges, fill, out)?;
     Ok(())
 }

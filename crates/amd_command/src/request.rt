@@ -59,6 +59,26 @@ fn path_argument<'a>(alloc: Global, name: &'a str, help: &'a str) -> Arg<'a> {
         .help(help)
 }
 
+/// The option that turns aggressive absorption off.
+fn plain_argument<'a>(alloc: Global) -> Arg<'a> {
+    Arg::new(alloc, "no-aggressive")
+        .long("no-aggressive")
+        .action(ArgAction::SetTrue)
+        .help("Do not absorb elements aggressively")
+}
+
+/// A subcommand that reads a matrix, with the arguments that all of them have.
+fn matrix_command<'a>(
+    alloc: Global,
+    name: &'a str,
+    about: &'a str,
+) -> Result<Command<'a>, AllocError> {
+    Command::new(alloc, name)
+        .about(about)
+        .arg(file_argument(alloc))?
+        .arg(dense_argument(alloc))
+}
+
 /// A subcommand that orders the rows of a file, with the arguments that all of them have.
 fn ordering_command<'a>(
     alloc: Global,
@@ -66,21 +86,10 @@ fn ordering_command<'a>(
     about: &'a str,
     out: &'a str,
 ) -> Result<Command<'a>, AllocError> {
-    let plain = Arg::new(alloc, "no-aggressive")
-        .long("no-aggressive")
-        .action(ArgAction::SetTrue)
-        .help("Do not absorb elements aggressively");
-    let hold = path_argument(
-        alloc,
-        "hold",
-        "Hold the rows last whose numbers PATH lists, one a line",
-    );
-    Command::new(alloc, name)
-        .about(about)
-        .arg(file_argument(alloc))?
-        .arg(dense_argument(alloc))?
-        .arg(plain)?
-        .arg(hold)?
+    let hold = "Hold the rows last whose numbers PATH lists, one a line";
+    matrix_command(alloc, name, about)?
+        .arg(plain_argument(alloc))?
+        .arg(path_argument(alloc, "hold", hold))?
         .arg(path_argument(alloc, "out", out))
 }
 
@@ -112,22 +121,27 @@ fn analyze_command<'a>(alloc: Global) -> Result<Command<'a>, AllocError> {
 
 /// The subcommand `info`.
 fn info_command<'a>(alloc: Global) -> Result<Command<'a>, AllocError> {
-    Command::new(alloc, "info")
-        .about("Tell what the matrix is")
-        .arg(file_argument(alloc))?
-        .arg(dense_argument(alloc))
+    matrix_command(alloc, "info", "Tell what the matrix is")
+}
+
+/// A command with one more subcommand.
+fn with_subcommand<'a>(
+    command: Command<'a>,
+    subcommand: Result<Command<'a>, AllocError>,
+) -> Result<Command<'a>, AllocError> {
+    command.subcommand(subcommand?)
 }
 
 /// The whole command.
 fn whole_command<'a>(alloc: Global) -> Result<Command<'a>, AllocError> {
-    Command::new(alloc, "rimopaku")
+    let command = Command::new(alloc, "rimopaku")
         .version("0.1.0")
         .about("Approximate minimum degree orderings of sparse matrices")
         .subcommand_required(true)
-        .arg_required_else_help(true)
-        .subcommand(order_command(alloc)?)?
-        .subcommand(analyze_command(alloc)?)?
-        .subcommand(info_command(alloc)?)
+        .arg_required_else_help(true);
+    let command = with_subcommand(command, order_command(alloc))?;
+    let command = with_subcommand(command, analyze_command(alloc))?;
+    with_subcommand(command, info_command(alloc))
 }
 
 /// The words of a subcommand.
