@@ -2,8 +2,9 @@
 // columns, whose exact factor it prints too, and for a jumbled one. Called by the demos of the matrix can_24 and by
 // tests.
 
-ghost use Rattle.std.specs.Prelude.{◌≡◌, ◌≤◌, true, false, IfOk, OnOk};
+ghost use Rattle.std.specs.Prelude.{◌≡◌, ◌≤◌, pos, true, false, IfOk, OnOk};
 ghost use Rattle.std.specs.Io.KnownBytes.{Appends};
+ghost use Rattle.amd.specs.Answers.{IsOrdering};
 ghost use Rattle.amd_demos.specs.Lines.{failure_line, permutation_lines, record_lines};
 ghost use Rattle.amd_demos.specs.Demos.{EndsInFailure, Grows, HasDemo, HasEnd, wanted_status};
 
@@ -211,6 +212,33 @@ fn print_end<W: Write, A: Allocator + Copy>(
     }
 }
 
+/// Writes the record of an ordering; and where its status is the wanted one, its permutations, the permuted matrix and
+/// what stands behind it, else the line of failure. Answers whether all was written.
+fn print_ordering<W: Write, A: Allocator + Copy>(
+    alloc: A,
+    form: Form,
+    matrix: &Matrix,
+    p: &[i32],
+    p_inv: &[i32],
+    told: &Info,
+    out: &mut W,
+) -> io::Result<bool>
+    requires { IsOrdering matrix.now.n (pos 10000) true matrix.now.a_p.now matrix.now.a_i.now p.now p_inv.now told.now }
+    ensures ordered { IfOk result (λ ordered. ordered ≡ true →
+        HasDemo form matrix.now.n matrix.now.a_p.now matrix.now.a_i.now (W.contents out.old) (W.contents out.new)) }
+    ensures failure { IfOk result (λ ordered. ordered ≡ false →
+        EndsInFailure (W.contents out.old) (W.contents out.new)) }
+{
+    write_record(form, told, out)?;
+    if told.status == wanted_status(form) {
+        write_permutations(p, p_inv, out)?;
+        write_permuted_plot(form, matrix, p, out)?;
+        return print_end(alloc, form, matrix, p, told, out);
+    }
+    write_failure(out)?;
+    Ok(false)
+}
+
 /// Orders a matrix, and writes the ordering, the permuted matrix and what stands behind it. The line of failure comes
 /// where there is no ordering, its status is another, or there is no exact factor. Answers whether all was written.
 fn print_outcome<W: Write, A: Allocator + Copy>(
@@ -225,19 +253,13 @@ fn print_outcome<W: Write, A: Allocator + Copy>(
         EndsInFailure (W.contents out.old) (W.contents out.new)) }
 {
     let n = matrix.n;
-    let answer = order(alloc, n, matrix.a_p, matrix.a_i, &Control::default());
-    let Ok((p, p_inv, told)) = answer else {
-        write_failure(out)?;
-        return Ok(false);
-    };
-    write_record(form, &told, out)?;
-    if told.status == wanted_status(form) {
-        write_permutations(&p, &p_inv, out)?;
-        write_permuted_plot(form, matrix, &p, out)?;
-        return print_end(alloc, form, matrix, &p, &told, out);
+    match order(alloc, n, matrix.a_p, matrix.a_i, &Control::default()) {
+        Ok((p, p_inv, told)) => print_ordering(alloc, form, matrix, &p, &p_inv, &told, out),
+        Err(_) => {
+            write_failure(out)?;
+            Ok(false)
+        }
     }
-    write_failure(out)?;
-    Ok(false)
 }
 
 /// Writes a matrix, and then its ordering. Answers whether all was written.
