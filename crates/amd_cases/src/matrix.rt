@@ -1,7 +1,7 @@
 // A matrix file, which is binary and little endian: `n` and the number of entries as 64-bit numbers, `n + 1` pointers
 // of 64 bits, and the row of each entry in 32 bits. Called by programs that time an ordering.
 
-ghost use Rattle.std.specs.Prelude.{◌≡◌, ◌∷◌, [], true, length, map, IfOk, IfSome, MatchResult};
+ghost use Rattle.std.specs.Prelude.{◌≡◌, ◌∷◌, [], length, map, IfOk, IfSome, MatchResult, OnOk};
 ghost use Rattle.std.specs.Io.KnownBytes.{IsAtEnd};
 ghost use Rattle.amd_cases.specs.Matrices.{wide_of, narrow_of, ReadsNumbers, EndsWith, HoldsMatrix};
 ghost use Rattle.amd_cases.specs.declared.matrix.MatrixError.TheVariants.{OutOfMemory, TooLarge};
@@ -146,13 +146,13 @@ fn pointers<I: PrimInt, R: Read, A: Allocator>(
     Ok(numbers)
 }
 
-/// Whether no byte is left.
-fn is_at_end<R: Read>(input: &mut R) -> Result<bool, MatrixError>
-    ensures { IfOk result (λ end. end ≡ true → IsAtEnd (R.remaining input.old)) }
+/// Reads on, where no byte is to be left.
+fn expect_end<R: Read>(input: &mut R) -> Result<(), MatrixError>
+    ensures { OnOk result (IsAtEnd (R.remaining input.old)) }
 {
     match input.bytes().next() {
-        None => Ok(true),
-        Some(Ok(_)) => Ok(false),
+        None => Ok(()),
+        Some(Ok(_)) => Err(MatrixError::Long),
         Some(Err(error)) => Err(MatrixError::from(error)),
     }
 }
@@ -174,14 +174,12 @@ pub fn read_matrix<I: PrimInt, R: Read, A: Allocator + Copy>(
 {
     let columns = wide_number(input)?;
     let entries = wide_number(input)?;
-    let (Ok(n), Ok(nz)) = (usize::try_from(columns), usize::try_from(entries)) else {
+    let (Ok(size), Ok(nz)) = (usize::try_from(columns), usize::try_from(entries)) else {
         return Err(MatrixError::Negative);
     };
-    let a_p = pointers(alloc, input, n, entries)?;
-    let a_i = narrow_numbers(alloc, input, nz)?;
-    if !is_at_end(input)? {
-        return Err(MatrixError::Long);
-    }
     let n = converted(columns)?;
+    let a_p = pointers(alloc, input, size, entries)?;
+    let a_i = narrow_numbers(alloc, input, nz)?;
+    expect_end(input)?;
     Ok(Matrix { n, a_p, a_i })
 }
