@@ -7,45 +7,97 @@ use num_traits::PrimInt;
 use std::alloc::Global;
 use std::process::Abort;
 
-/// Asserts that a four-cycle, in numbers of some type, has its factor under the order that the ordering gives
-/// it, with its figures. The lists are its pointers, its row indices, this order and its inverse.
-fn check_four_cycle<I: PrimInt>(
-    rt: &impl Abort,
-    alloc: Global,
+/// A four-cycle in numbers of some type: its pointers, its row indices, the order that it is given, and the inverse.
+#[derive(Drop)]
+struct Cycle<'a, I> {
     n: I,
-    lists: (&[I], &[I], &[I], &[I]),
-)
-    requires { I.fits (I.value n) }
+    a_p: &'a [I],
+    a_i: &'a [I],
+    p: &'a [I],
+    p_inv: &'a [I],
+}
+
+/// Asserts that a four-cycle is analyzed: its order, its figures, and its factor under this order.
+fn check_analysis<I: PrimInt>(rt: &impl Abort, alloc: Global, cycle: &Cycle<I>)
+    requires { I.fits (I.value cycle.now.n) }
 {
-    let (a_p, a_i, p, p_inv) = lists;
-    let Ok((order, inverse, info, factor)) = analyze(alloc, n, a_p, a_i, &Control::default()) else {
+    let Ok((p, p_inv, info, factor)) = analyze(
+        alloc,
+        cycle.n,
+        cycle.a_p,
+        cycle.a_i,
+        &Control::default(),
+    ) else {
         panic!(rt; "no answer");
     };
-    assert!(rt; order.as_slice() == p && inverse.as_slice() == p_inv);
+    assert!(rt; p.as_slice() == cycle.p && p_inv.as_slice() == cycle.p_inv);
     assert!(rt; info.status == Status::OK && !info.symmetry);
     assert!(rt; numbers_of(&info) == [4, 4, 0, 8, 0, 0, 5, 5, 7, 9, 3]);
     assert!(rt; factor.ptr.as_slice() == [0, 2, 4, 5, 5].as_slice());
-    let Ok(other) = columns(alloc, n, a_p, a_i, p, 5) else {
-        panic!(rt; "no factor");
-    };
-    assert!(rt; other.rows.as_slice() == [1, 3, 2, 3, 3].as_slice());
-    assert!(rt; factor.rows.as_slice() == other.rows.as_slice());
+    assert!(rt; factor.rows.as_slice() == [1, 3, 2, 3, 3].as_slice());
 }
 
-/// Analyzes a four-cycle in each of the types.
-macro_rules! four_cycles {
-    ($rt:ident; $($number:ty)*) => {
+/// Asserts that a four-cycle has its factor under its order, which just fits.
+fn check_columns<I: PrimInt>(rt: &impl Abort, alloc: Global, cycle: &Cycle<I>)
+    requires { I.fits (I.value cycle.now.n) }
+{
+    let Ok(factor) = columns(alloc, cycle.n, cycle.a_p, cycle.a_i, cycle.p, 5) else {
+        panic!(rt; "no factor");
+    };
+    assert!(rt; factor.ptr.as_slice() == [0, 2, 4, 5, 5].as_slice());
+    assert!(rt; factor.rows.as_slice() == [1, 3, 2, 3, 3].as_slice());
+}
+
+/// The four-cycle.
+macro_rules! cycle {
+    () => {
+        Cycle {
+            n: 4,
+            a_p: &[0, 2, 3, 4, 4],
+            a_i: &[1, 3, 2, 3],
+            p: &[3, 0, 1, 2],
+            p_inv: &[1, 2, 3, 0],
+        }
+    };
+}
+
+static U8: Cycle<'static, u8> = cycle!();
+
+static U16: Cycle<'static, u16> = cycle!();
+
+static U32: Cycle<'static, u32> = cycle!();
+
+static U64: Cycle<'static, u64> = cycle!();
+
+static U128: Cycle<'static, u128> = cycle!();
+
+static USIZE: Cycle<'static, usize> = cycle!();
+
+static I8: Cycle<'static, i8> = cycle!();
+
+static I16: Cycle<'static, i16> = cycle!();
+
+static I32: Cycle<'static, i32> = cycle!();
+
+static I64: Cycle<'static, i64> = cycle!();
+
+static I128: Cycle<'static, i128> = cycle!();
+
+static ISIZE: Cycle<'static, isize> = cycle!();
+
+/// Analyzes the four-cycles of some types.
+macro_rules! assert_cycles {
+    ($rt:ident; $($cycle:ident)*) => {
         $(
-            let lists: ([$number; 5], [$number; 4], [$number; 4], [$number; 4]) =
-                ([0, 2, 3, 4, 4], [1, 3, 2, 3], [3, 0, 1, 2], [1, 2, 3, 0]);
-            check_four_cycle(&$rt, $rt.alloc(), 4, (&lists.0, &lists.1, &lists.2, &lists.3));
+            check_analysis(&$rt, $rt.alloc(), &$cycle);
+            check_columns(&$rt, $rt.alloc(), &$cycle);
         )*
     };
 }
 
 #[test]
 fn a_four_cycle_in_each_type(rt: HostRuntime) {
-    four_cycles!(rt; u8 u16 u32 u64 u128 usize i8 i16 i32 i64 i128 isize);
+    assert_cycles!(rt; U8 U16 U32 U64 U128 USIZE I8 I16 I32 I64 I128 ISIZE);
 }
 
 /// A number past the greatest `usize` is no number of rows, no pointer, no row, and none that an order lists; behind

@@ -108,23 +108,29 @@ fn rounds_ask_for_no_memory(rt: HostRuntime) -> Result<(), Fail> {
     Ok(())
 }
 
+/// The status with which `order` refuses an input, if it does.
+fn refusal_of(heap: &Refusing<Global>, n: i64, a_p: &[i64], a_i: &[i64]) -> Option<Status> {
+    order(heap, n, a_p, a_i, &Control::default()).err()
+}
+
+/// Inputs without rows, and inputs that are no column form, with the status of the refusal.
+static WITHOUT_REQUESTS: [(i64, &[i64], &[i64], Option<Status>); 9] = [
+    (0, &[], &[], None),
+    (0, &[7], &[], None),
+    (2, &[0, 2, 1], &[0, 1], Some(Status::Invalid)),
+    (1, &[1, 1], &[0], Some(Status::Invalid)),
+    (1, &[0, 1], &[1], Some(Status::Invalid)),
+    (-1, &[0], &[], Some(Status::Invalid)),
+    (2, &[0, 1], &[0], Some(Status::Invalid)),
+    (2, &[0, 1, 3], &[0, 1], Some(Status::Invalid)),
+    (2, &[0, 2, 3], &[1, 0, 5], Some(Status::Invalid)),
+];
+
 #[test]
 fn calls_that_ask_no_memory(rt: HostRuntime) {
     let heap = Refusing::new(rt.alloc(), 1);
-    let control = Control::default();
-    assert!(rt; order(&heap, 0i64, &[], &[], &control).is_ok());
-    assert!(rt; order(&heap, 0i64, &[7], &[], &control).is_ok());
-    for (n, a_p, a_i) in [
-        (2i64, [0, 2, 1].as_slice(), [0, 1].as_slice()),
-        (1, [1, 1].as_slice(), [0].as_slice()),
-        (1, [0, 1].as_slice(), [1].as_slice()),
-        (-1, [0].as_slice(), [].as_slice()),
-        (2, [0, 1].as_slice(), [0].as_slice()),
-        (2, [0, 1, 3].as_slice(), [0, 1].as_slice()),
-        (2, [0, 2, 3].as_slice(), [1, 0, 5].as_slice()),
-    ] {
-        let status = order(&heap, n, a_p, a_i, &control).err();
-        assert!(rt; status == Some(Status::Invalid), "{a_p:?} {a_i:?}");
+    for (n, a_p, a_i, wanted) in &WITHOUT_REQUESTS {
+        assert!(rt; refusal_of(&heap, *n, a_p, a_i) == *wanted, "{n} {a_p:?}");
     }
     assert!(rt; heap.requests() == 0);
 }

@@ -49,49 +49,100 @@ fn is_refused<I: PrimInt>(alloc: Global, n: I, a_p: &[I], a_i: &[I]) -> bool
     }
 }
 
-/// Whether a number is refused as the number of columns, in lists of pointers to one or two columns, and as a row. The
-/// pointers are `[end, 1]`, `[0, end, 1]`, `[0, end]` and `[0, 1]`, and the rows `[0]` and `[end]`.
-fn refuses_end<I: PrimInt>(
-    alloc: Global,
+/// A number that is no number of columns, no pointer and no row; the numbers 1 and 2; and the lists in which it stands:
+/// of pointers to one or two columns, of rows, and behind the end of a matrix with one entry.
+#[derive(Drop)]
+struct End<'a, I> {
     end: I,
     one: I,
     two: I,
-    pointers: (&[I], &[I], &[I], &[I]),
-    rows: (&[I], &[I]),
-) -> bool
-    requires end { I.fits (I.value end) }
-    requires one { I.fits (I.value one) }
-    requires two { I.fits (I.value two) }
-{
-    let (first, between, last, unit) = pointers;
-    let (zero, row) = rows;
-    is_refused(alloc, end, zero, &[])
-        && is_refused(alloc, one, first, zero)
-        && is_refused(alloc, two, between, zero)
-        && is_refused(alloc, one, last, zero)
-        && is_refused(alloc, one, unit, row)
+    zero: &'a [I],
+    unit: &'a [I],
+    first: &'a [I],
+    between: &'a [I],
+    last: &'a [I],
+    row: &'a [I],
+    more_pointers: &'a [I],
+    more_rows: &'a [I],
 }
 
-/// Whether what stands behind the end of a matrix with one entry is ignored.
-fn ignores_rest<I: PrimInt>(alloc: Global, one: I, a_p: &[I], a_i: &[I]) -> bool
-    requires { I.fits (I.value one) }
+/// Whether a number is refused as the number of columns, as each pointer and as a row.
+fn is_refused_end<I: PrimInt>(alloc: Global, end: &End<I>) -> bool
+    requires end { I.fits (I.value end.now.end) }
+    requires one { I.fits (I.value end.now.one) }
+    requires two { I.fits (I.value end.now.two) }
 {
-    match order(alloc, one, a_p, a_i, &Control::default()) {
-        Ok((p, _, info)) => p.len() == 1 && info.nz == 1 && info.status == Status::OK,
-        Err(_) => false,
-    }
+    is_refused(alloc, end.end, end.zero, &[])
+        && is_refused(alloc, end.one, end.first, end.zero)
+        && is_refused(alloc, end.two, end.between, end.zero)
+        && is_refused(alloc, end.one, end.last, end.zero)
+        && is_refused(alloc, end.one, end.unit, end.row)
 }
 
-/// Takes the ends of some types, and -1 where they have that, as the number of columns, as each pointer and as a row,
-/// but for 0, which may stand there; and behind the end of a matrix.
-macro_rules! both_ends {
-    ($rt:ident; $($number:ty)*) => {
+/// Whether a number behind the end of a matrix with one entry is ignored.
+fn is_ignored<I: PrimInt>(alloc: Global, end: &End<I>) -> bool
+    requires { I.fits (I.value end.now.one) }
+{
+    let control = Control::default();
+    let answer = order(alloc, end.one, end.more_pointers, end.more_rows, &control);
+    let Ok((p, p_inv, info)) = answer else {
+        return false;
+    };
+    p.len() == 1 && p_inv.len() == 1 && info.nz == 1 && info.status == Status::OK
+}
+
+/// The lists of a number.
+macro_rules! end {
+    ($end:expr) => {
+        End {
+            end: $end,
+            one: 1,
+            two: 2,
+            zero: &[0],
+            unit: &[0, 1],
+            first: &[$end, 1],
+            between: &[0, $end, 1],
+            last: &[0, $end],
+            row: &[$end],
+            more_pointers: &[0, 1, $end],
+            more_rows: &[0, $end],
+        }
+    };
+}
+
+// The ends of each type, and -1 where the type has it, but for 0, which may stand there.
+
+static U8: [End<'static, u8>; 1] = [end!(u8::MAX)];
+
+static U16: [End<'static, u16>; 1] = [end!(u16::MAX)];
+
+static U32: [End<'static, u32>; 1] = [end!(u32::MAX)];
+
+static U64: [End<'static, u64>; 1] = [end!(u64::MAX)];
+
+static U128: [End<'static, u128>; 1] = [end!(u128::MAX)];
+
+static USIZE: [End<'static, usize>; 1] = [end!(usize::MAX)];
+
+static I8: [End<'static, i8>; 3] = [end!(i8::MIN), end!(-1), end!(i8::MAX)];
+
+static I16: [End<'static, i16>; 3] = [end!(i16::MIN), end!(-1), end!(i16::MAX)];
+
+static I32: [End<'static, i32>; 3] = [end!(i32::MIN), end!(-1), end!(i32::MAX)];
+
+static I64: [End<'static, i64>; 3] = [end!(i64::MIN), end!(-1), end!(i64::MAX)];
+
+static I128: [End<'static, i128>; 3] = [end!(i128::MIN), end!(-1), end!(i128::MAX)];
+
+static ISIZE: [End<'static, isize>; 3] = [end!(isize::MIN), end!(-1), end!(isize::MAX)];
+
+/// Asserts that the ends of some types are refused where they may not stand, and ignored behind the end of a matrix.
+macro_rules! assert_ends {
+    ($rt:ident; $($ends:ident)*) => {
         $(
-            for end in [<$number>::MIN, <$number>::MAX, <$number>::MAX.wrapping_add(<$number>::MIN)] {
-                let ends: ([$number; 2], [$number; 3], [$number; 2]) = ([end, 1], [0, end, 1], [0, end]);
-                let lists = (ends.0.as_slice(), ends.1.as_slice(), ends.2.as_slice(), [0, 1].as_slice());
-                let refused = end == 0 || refuses_end($rt.alloc(), end, 1, 2, lists, (&[0], &[end]));
-                assert!($rt; refused && ignores_rest($rt.alloc(), 1, &[0, 1, end], &[0, end]), "{end}");
+            for end in &$ends {
+                let alloc = $rt.alloc();
+                assert!($rt; is_refused_end(alloc, end) && is_ignored(alloc, end), "{}", end.end);
             }
         )*
     };
@@ -100,23 +151,18 @@ macro_rules! both_ends {
 // A few types a test: a test of all twelve is dear to prove.
 
 #[test]
-fn both_ends_of_narrow_unsigned_types(rt: HostRuntime) {
-    both_ends!(rt; u8 u16 u32);
-}
-
-#[test]
-fn both_ends_of_wide_unsigned_types(rt: HostRuntime) {
-    both_ends!(rt; u64 u128 usize);
+fn both_ends_of_unsigned_types(rt: HostRuntime) {
+    assert_ends!(rt; U8 U16 U32 U64 U128 USIZE);
 }
 
 #[test]
 fn both_ends_of_narrow_signed_types(rt: HostRuntime) {
-    both_ends!(rt; i8 i16 i32);
+    assert_ends!(rt; I8 I16 I32);
 }
 
 #[test]
 fn both_ends_of_wide_signed_types(rt: HostRuntime) {
-    both_ends!(rt; i64 i128 isize);
+    assert_ends!(rt; I64 I128 ISIZE);
 }
 
 /// Whether `valid` has an answer for the greatest number `most` of a type as the number of rows, where the row before
