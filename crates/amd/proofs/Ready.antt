@@ -10,7 +10,7 @@ use Rattle.amd_input.specs.Degrees.{AreDegrees}
 use Rattle.amd_input.proofs.PatternLemmas.{input_form, input_sorted}
 
 -- there is a degree for each row
-size_of : (z : ℤ) (a_p a_i : List ℤ) (numbers : List ℕ) → IsInput z z a_p a_i → length numbers ≡ unsigned_abs z → z ≡ pos (length numbers)
+pub size_of : (z : ℤ) (a_p a_i : List ℤ) (numbers : List ℕ) → IsInput z z a_p a_i → length numbers ≡ unsigned_abs z → z ≡ pos (length numbers)
 size_of (pos n) a_p a_i numbers form size = ap pos (sym size)
 size_of (negsuc n) a_p a_i numbers form size = absurd form
 
@@ -19,13 +19,13 @@ some_of z zero e some = absurd (some e)
 some_of z (suc m) e some = omega arith
 
 -- the degrees of the rows are the numbers of their arcs
-counts_of : (n : ℕ) (a_p a_i : List ℤ) (total : ℕ) (numbers : List ℕ) → AreDegrees n a_p a_i total numbers →
+pub counts_of : (n : ℕ) (a_p a_i : List ℤ) (total : ℕ) (numbers : List ℕ) → AreDegrees n a_p a_i total numbers →
     AreCounts (graph_of n a_p a_i) ((graph_of n a_p a_i).edge) numbers
 unfolding graph_of degree
 counts_of n a_p a_i total numbers degrees = record { size = degrees.size; each = degrees.each }
 
 -- and they add up to where the lists of all neighbours end
-sums_are : (n : ℕ) (a_p a_i : List ℤ) (total : ℕ) (numbers : List ℕ) → AreDegrees n a_p a_i total numbers →
+pub sums_are : (n : ℕ) (a_p a_i : List ℤ) (total : ℕ) (numbers : List ℕ) → AreDegrees n a_p a_i total numbers →
     total ≡ start_of (graph_of n a_p a_i) n
 unfolding graph_of degree degree_sum start_of
 sums_are n a_p a_i total numbers degrees = degrees.sum

@@ -1,24 +1,38 @@
--- The degrees that `aat` answers are numbers of arcs, and their sum is room for lists of neighbours.
-use Rattle.std.proofs.Common.{◌≡◌, ℕ, ℤ, List, ◌≤◌, ◌+◌, arith}
-use Rattle.amd_model.specs.Graph.{degree, degree_sum}
+-- What `aat` answers of a sorted matrix is what the engines ask for.
+use Rattle.std.proofs.Common.{ℕ, ℤ, List, pos, ◌≡◌, ◌+◌, ◌≤◌, length, subst, sym, arith}
+use Rattle.std.specs.Prelude.{unsigned_abs}
+use Rattle.amd_model.specs.Input.Columns.{IsColumnForm, IsSorted, IsInput, IsSortedInput}
 use Rattle.amd_model.specs.Input.Pattern.{graph_of}
 use Rattle.amd_edges.specs.Visits.{AreCounts, start_of}
 use Rattle.amd_input.specs.Degrees.{AreDegrees}
+use Rattle.amd_input.proofs.PatternLemmas.{input_form, input_sorted}
+use Rattle.amd.proofs.Ready.{size_of, counts_of, sums_are}
 
-module _ (n : ℕ) (ap' ai : List ℤ) (total : ℕ) (degrees : List ℕ) (h : AreDegrees n ap' ai total degrees) where
-  pub degrees_count : AreCounts (graph_of n ap' ai) ((graph_of n ap' ai).edge) degrees
-  unfolding graph_of degree
-  degrees_count = record { size = h.size; each = h.each }
+module _ (z : ℤ) (ap' ai : List ℤ) (total : ℕ) (degrees : List ℕ) (form : IsInput z z ap' ai) (sorted : IsSortedInput z ap' ai)
+    (h : AreDegrees (unsigned_abs z) ap' ai total degrees) where
+  pub degrees_size : z ≡ pos (length degrees)
+  degrees_size = size_of z ap' ai degrees form h.size
 
-  pub degrees_fill : start_of (graph_of n ap' ai) n ≤ total
-  unfolding graph_of degree degree_sum start_of
-  degrees_fill = (let sum = h.sum in omega (arith, sum))
+  pub degrees_form : IsColumnForm (pos (length degrees)) (length degrees) ap' ai
+  degrees_form = subst (λ m. IsColumnForm (pos m) m ap' ai) (sym h.size) (input_form z ap' ai form)
+
+  pub degrees_sorted : IsSorted (length degrees) ap' ai
+  degrees_sorted = subst (λ m. IsSorted m ap' ai) (sym h.size) (input_sorted z ap' ai sorted)
+
+  pub degrees_count : AreCounts (graph_of (length degrees) ap' ai) ((graph_of (length degrees) ap' ai).edge) degrees
+  degrees_count = subst (λ m. AreCounts (graph_of m ap' ai) ((graph_of m ap' ai).edge) degrees) (sym h.size)
+      (counts_of (unsigned_abs z) ap' ai total degrees h)
 
   -- with a word more for each row, and others to spare
-  pub degrees_room : (size more k : ℕ) → k ≡ n → size ≡ n → start_of (graph_of k ap' ai) k + k ≤ total + size + more
-  degrees_room size more k k_is size_is = rw k_is (let fill = degrees_fill in omega (arith, fill, size_is))
+  pub degrees_room : (size more : ℕ) → size ≡ length degrees →
+      start_of (graph_of (length degrees) ap' ai) (length degrees) + length degrees ≤ total + size + more
+  degrees_room size more same =
+      let sum : total ≡ start_of (graph_of (length degrees) ap' ai) (length degrees) =
+      subst (λ m. total ≡ start_of (graph_of m ap' ai) m) (sym h.size) (sums_are (unsigned_abs z) ap' ai total degrees h) in
+      omega (arith, sum, same)
 
-  -- for a list and a size that are these
-  pub degrees_lent : (size : ℕ) (lent : List ℕ) → size ≡ n → lent ≡ degrees →
-      AreCounts (graph_of size ap' ai) ((graph_of size ap' ai).edge) lent
-  degrees_lent size lent size_is lent_is = rw (size_is, lent_is) degrees_count
+-- for a list and a size that are these
+pub degrees_lent : (ap' ai : List ℤ) (degrees lent : List ℕ) (size : ℕ) → size ≡ length degrees → lent ≡ degrees →
+    AreCounts (graph_of (length degrees) ap' ai) ((graph_of (length degrees) ap' ai).edge) degrees →
+    AreCounts (graph_of size ap' ai) ((graph_of size ap' ai).edge) lent
+degrees_lent ap' ai degrees lent size size_is lent_is counts = rw (size_is, lent_is) counts

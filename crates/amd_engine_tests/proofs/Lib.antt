@@ -1,1 +1,2 @@
 mod Degrees
+mod Forests

@@ -35,35 +35,34 @@ fn orders(
     }
 }
 
+/// Asserts that the engine in place answers, or is refused memory, whichever of its requests is refused.
+fn check_requests(rt: &impl Abort, heap: Global, flag: usize, case: &Case) {
+    let refusals = each_refused(heap, |refusing| orders(rt, refusing, heap, (flag, 0), case));
+    assert!(rt; 0 < refusals.unwrap_or(0), "{}", case.what);
+}
+
 /// The first flag 2 has words of 32 bits, and the other one has wider words.
 #[test]
 fn each_request_of_the_engine_in_place(rt: HostRuntime) {
-    let heap = rt.alloc();
     for case in &MATRICES {
-        for flag in [2, 1 << 32] {
-            match each_refused(
-                heap,
-                |refusing| orders(&rt, refusing, heap, (flag, 0), case),
-            ) {
-                Ok(refusals) => assert!(rt; 0 < refusals, "{}", case.what),
-                Err(_) => panic!(rt; "a slip at {}", case.what),
-            }
-        }
+        check_requests(&rt, rt.alloc(), 2, case);
+        check_requests(&rt, rt.alloc(), 1 << 32, case);
     }
+}
+
+/// Asserts that a workspace with so many words to spare is refused.
+fn check_workspace(rt: &impl Abort, alloc: Global, more: usize, case: &Case) {
+    let heap = Refusing::new(alloc, 0);
+    let answered = orders(rt, &heap, alloc, (2, more), case);
+    assert!(rt; !answered, "{}", case.what);
 }
 
 /// So many words are refused as memory is, and what was granted before comes back.
 #[test]
 fn workspaces_that_no_memory_holds(rt: HostRuntime) {
     for case in &MATRICES {
-        for more in [1 << 58, (1 << 60) - 1] {
-            let heap = Refusing::new(rt.alloc(), 0);
-            assert!(rt;
-                !orders(&rt, &heap, rt.alloc(), (2, more), case),
-                "{}",
-                case.what
-            );
-        }
+        check_workspace(&rt, rt.alloc(), 1 << 58, case);
+        check_workspace(&rt, rt.alloc(), (1 << 60) - 1, case);
     }
 }
 

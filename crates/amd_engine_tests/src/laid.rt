@@ -1,19 +1,17 @@
 // The workspace as it is laid: the lists of the neighbours one after another, where each starts, how long it is, and
 // where the first free word is, in both widths of words; the marks that stand there; and `amd_2` over such a workspace,
-// for other tests. The lists
-// were worked by hand in the order in which the walk meets the edges.
+// for other tests. The lists were worked by hand in the order in which the walk meets the edges.
 
 ghost use Rattle.std.specs.Prelude.{◌≡◌, ◌<◌, ◌≤◌, ◌+◌, ℕ, List, pos, length};
 ghost use Rattle.amd_model.specs.Graph.{Graph};
 ghost use Rattle.amd_workspace.specs.Laying.{IsLaidOut};
 ghost use Rattle.amd_engine.specs.InPlace.{LaysGraph};
 
-use crate::sorted::{Sorted, check_marks};
+use crate::sorted::{Sorted, check_marks, degrees_of};
 use amd_cells::{Figure, Signed, Unsigned, Word, figure_at, word_at};
+use amd_engine::amd_1::holds;
 use amd_engine::amd_2::amd_2;
-use amd_input::aat::aat;
-use amd_input::valid::valid;
-use amd_numbers::amd::{Control, Info, Status};
+use amd_numbers::amd::{Control, Info};
 use amd_numbers::internal::flip;
 use amd_workspace::laying::{Laid, lay};
 use std::alloc::Global;
@@ -94,8 +92,8 @@ fn is_laid<S: Signed, U: Unsigned>(case: &Case, laid: &Laid<S, U, Global>, sum: 
         && laid.free == sum
 }
 
-/// Lays the lists of a sorted matrix in words of these widths, where `more` of them are to spare, and answers the sum
-/// of the degrees too. The record tells the pattern.
+/// Lays the lists of a sorted matrix in words of these widths, where `more` of them are to spare. The record tells the
+/// pattern.
 fn laid_of<S: Signed, U: Unsigned>(
     rt: &impl Abort,
     alloc: Global,
@@ -104,36 +102,22 @@ fn laid_of<S: Signed, U: Unsigned>(
     a_i: &[i64],
     more: usize,
     info: &mut Info,
-) -> (Laid<S, U, Global>, usize)
-    ensures size { (n ≡ pos (length result.0.len.items)) × (0 < length result.0.len.items) }
-    ensures laid { IsLaidOut (length result.0.len.items) result.0.iw.items result.0.pe.items result.0.len.items
-        result.0.free }
+) -> Laid<S, U, Global>
+    ensures size { (n ≡ pos (length result.len.items)) × (0 < length result.len.items) }
+    ensures laid { IsLaidOut (length result.len.items) result.iw.items result.pe.items result.len.items result.free }
     ensures graph { (g : Graph) × (lists : ℕ → List ℕ) ×
-        LaysGraph g lists result.0.iw.items result.0.pe.items result.0.len.items }
-    ensures room { result.0.free + length result.0.len.items ≤ length result.0.iw.items }
-    ensures words { (length result.0.iw.items ≤ S.MOST) × (length result.0.len.items + 2 ≤ S.MOST) }
-    ensures figures { (length result.0.iw.items ≤ U.MOST) × (length result.0.len.items + 2 ≤ U.MOST) }
+        LaysGraph g lists result.iw.items result.pe.items result.len.items }
+    ensures room { result.free + length result.len.items ≤ length result.iw.items }
+    ensures words { (length result.iw.items ≤ S.MOST) × (length result.len.items + 2 ≤ S.MOST) }
+    ensures figures { (length result.iw.items ≤ U.MOST) × (length result.len.items + 2 ≤ U.MOST) }
 {
-    assert!(rt; n > 0);
-    let Status::OK = valid(n, n, a_p, a_i) else {
-        panic!(rt; "not sorted");
-    };
-    let Ok((sum, degrees)) = aat(alloc, n, a_p, a_i, info) else {
-        panic!(rt; "no degrees");
-    };
+    let (degrees, room) = degrees_of(rt, alloc, n, a_p, a_i, more, info);
     let size = degrees.len();
-    assert!(rt; sum < 1000);
-    assert!(rt; size < 1000);
-    assert!(rt; more < 1000);
-    let room = sum + size + more;
-    assert!(rt; room <= S::MOST);
-    assert!(rt; room <= U::MOST);
-    assert!(rt; size + 2 <= S::MOST);
-    assert!(rt; size + 2 <= U::MOST);
+    assert!(rt; holds::<S, U>(size, room, 2));
     let Ok(laid) = lay(alloc, size, a_p, a_i, &degrees, room) else {
         panic!(rt; "not laid");
     };
-    (laid, sum)
+    laid
 }
 
 /// Orders by `amd_2` over lists that are laid in words of these widths, with no word to spare.
@@ -145,7 +129,7 @@ pub fn order_laid<S: Signed, U: Unsigned>(
     info: &mut Info,
 ) -> (Vec<Word<S>>, Vec<i64>, Vec<i64>, Vec<Word<S>>) {
     let (n, a_p, a_i) = (matrix.n, matrix.a_p, matrix.a_i);
-    let (mut laid, _) = laid_of::<S, U>(rt, alloc, n, a_p, a_i, 0, info);
+    let mut laid = laid_of::<S, U>(rt, alloc, n, a_p, a_i, 0, info);
     check_marks(rt, matrix.hold, laid.len.len());
     let room = laid.iw.len();
     let Ok(answer) = amd_2(
@@ -168,8 +152,8 @@ pub fn order_laid<S: Signed, U: Unsigned>(
 /// Asserts that the lists of a matrix, in words of these widths, are those of the case.
 fn check<S: Signed, U: Unsigned>(rt: &impl Abort, alloc: Global, case: &Case) {
     let mut info = Info::new(0);
-    let (laid, sum) = laid_of::<S, U>(rt, alloc, case.n, case.a_p, case.a_i, case.more, &mut info);
-    assert!(rt; is_laid(case, &laid, sum), "{}", case.what);
+    let laid = laid_of::<S, U>(rt, alloc, case.n, case.a_p, case.a_i, case.more, &mut info);
+    assert!(rt; is_laid(case, &laid, info.nz_a_plus_at), "{}", case.what);
 }
 
 #[test]

@@ -1,13 +1,24 @@
-//! Tests of both engines and of the lists that they start from: the plain engine with refused memory, the engine in
-//! place beside the plain one, on worked matrices and with refused memory, both engines beside `order` over families of
-//! graphs, the workspace as it is laid, and the lists of neighbours. The answers come from outside: worked by hand, or
-//! from the Rust crate `amd`.
+//! Tests of both engines and of the parts that an ordering and a factor stand on. Of the engines: the plain one with
+//! refused memory, the one in place beside it, on worked matrices and with refused memory, and both beside `order` over
+//! families of graphs. Of the parts: the workspace as it is laid, the lists of neighbours, the shares of fronts, the
+//! postorder of forests, the lists of earlier neighbours, the readers of cases, and the helpers of tests themselves.
+//! The answers come from outside: worked by hand, or from the Rust crate `amd`.
 #![tactic(auto)]
 
+#[cfg(test)]
+mod case_lines;
+#[cfg(test)]
+mod cases;
+#[cfg(test)]
+mod earlier;
 #[cfg(test)]
 mod engine;
 #[cfg(test)]
 mod families;
+#[cfg(test)]
+mod fronts;
+#[cfg(test)]
+mod helpers;
 #[cfg(test)]
 mod in_place;
 #[cfg(test)]
@@ -22,3 +33,5 @@ mod laid;
 mod lists;
 #[cfg(test)]
 mod sorted;
+#[cfg(test)]
+mod trees;

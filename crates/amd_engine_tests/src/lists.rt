@@ -1,9 +1,8 @@
 // The lists of the neighbours of each row, in a vector for each, in the order in which the walk meets the edges.
 
+use crate::sorted::degrees_of;
 use amd_edges::lists::starting_lists;
-use amd_input::aat::aat;
-use amd_input::valid::valid;
-use amd_numbers::amd::{Info, Status};
+use amd_numbers::amd::Info;
 use std::alloc::Global;
 use std::process::Abort;
 
@@ -45,16 +44,9 @@ static MATRICES: [Case<'static>; 3] = [
 
 /// The lists of a sorted matrix.
 fn lists_of(rt: &impl Abort, alloc: Global, n: i64, a_p: &[i64], a_i: &[i64]) -> Vec<Vec<usize>> {
-    assert!(rt; n > 0);
-    let Status::OK = valid(n, n, a_p, a_i) else {
-        panic!(rt; "not sorted");
-    };
     let mut info = Info::new(0);
-    let Ok((_, degrees)) = aat(alloc, n, a_p, a_i, &mut info) else {
-        panic!(rt; "no degrees");
-    };
-    let size = degrees.len();
-    let Ok(rows) = starting_lists(alloc, size, a_p, a_i, &degrees) else {
+    let (degrees, _) = degrees_of(rt, alloc, n, a_p, a_i, 0, &mut info);
+    let Ok(rows) = starting_lists(alloc, degrees.len(), a_p, a_i, &degrees) else {
         panic!(rt; "no lists");
     };
     rows

@@ -1,15 +1,20 @@
 // The two engines over a sorted matrix, whose degrees are counted here, and whose pattern the record tells too: the
-// engine in place with the words that the degrees ask for, and some more, and the plain one. Called by the tests of the
-// engine in place.
+// engine in place with the words that the degrees ask for, and some more, and the plain one. Called by the tests of
+// both engines and of the lists that they start from.
 
+ghost use Rattle.std.specs.Prelude.{◌≡◌, ◌<◌, ◌≤◌, ◌+◌, ◌^◌, pos, map, length};
 ghost use Rattle.std.specs.Option.{option_copied};
+ghost use Rattle.amd_model.specs.Input.Columns.{IsColumnForm, IsSorted};
 ghost use Rattle.amd_model.specs.Input.Held.{HasMarks};
+ghost use Rattle.amd_model.specs.Input.Pattern.{graph_of};
+ghost use Rattle.amd_edges.specs.Visits.{AreCounts, start_of};
 
 use amd_engine::amd_1::{amd_1, amd_1_from};
 use amd_engine::plain::plain_1;
 use amd_input::aat::aat;
 use amd_input::valid::valid;
 use amd_numbers::amd::{Control, Info, Status};
+use num_traits::PrimInt;
 use std::alloc::{Allocator, Global};
 use std::process::Abort;
 
@@ -41,6 +46,39 @@ pub fn check_marks(rt: &impl Abort, hold: Option<&[bool]>, size: usize)
     }
 }
 
+/// The degrees of a sorted matrix with at least one row, and as many words as an engine in place needs for it, and
+/// `more`. The record tells the pattern.
+pub fn degrees_of<I: PrimInt>(
+    rt: &impl Abort,
+    alloc: Global,
+    n: I,
+    a_p: &[I],
+    a_i: &[I],
+    more: usize,
+    info: &mut Info,
+) -> (Vec<usize>, usize)
+    ensures size { I.value n ≡ pos (length result.0.items) }
+    ensures some { 0 < length result.0.items }
+    ensures form { IsColumnForm (pos (length result.0.items)) (length result.0.items) (map I.value a_p.now)
+        (map I.value a_i.now) }
+    ensures sorted { IsSorted (length result.0.items) (map I.value a_p.now) (map I.value a_i.now) }
+    ensures degrees { AreCounts (graph_of (length result.0.items) (map I.value a_p.now) (map I.value a_i.now))
+        ((graph_of (length result.0.items) (map I.value a_p.now) (map I.value a_i.now)).edge) result.0.items }
+    ensures room { start_of (graph_of (length result.0.items) (map I.value a_p.now) (map I.value a_i.now))
+        (length result.0.items) + length result.0.items ≤ result.1 }
+    ensures fits { result.1 < 2 ^ 63 }
+{
+    let Status::OK = valid(n, n, a_p, a_i) else {
+        panic!(rt; "not sorted");
+    };
+    let Ok((sum, degrees)) = aat(alloc, n, a_p, a_i, info) else {
+        panic!(rt; "no degrees");
+    };
+    let size = degrees.len();
+    assert!(rt; 0 < size && size < 1 << 60 && sum < 1 << 60 && more < 1 << 60);
+    (degrees, sum + size + more)
+}
+
 /// Orders by the plain engine.
 pub fn order_plainly(
     rt: &impl Abort,
@@ -50,13 +88,7 @@ pub fn order_plainly(
     info: &mut Info,
 ) -> (Vec<i64>, Vec<i64>) {
     let (n, a_p, a_i) = (matrix.n, matrix.a_p, matrix.a_i);
-    assert!(rt; n > 0);
-    let Status::OK = valid(n, n, a_p, a_i) else {
-        panic!(rt; "not sorted");
-    };
-    let Ok((_, degrees)) = aat(alloc, n, a_p, a_i, info) else {
-        panic!(rt; "no degrees");
-    };
+    let (degrees, _) = degrees_of(rt, alloc, n, a_p, a_i, 0, info);
     check_marks(rt, matrix.hold, degrees.len());
     let Ok(answer) = plain_1(alloc, n, a_p, a_i, &degrees, control, matrix.hold, info) else {
         panic!(rt; "no plain answer");
@@ -73,18 +105,8 @@ pub fn order_exactly(
     info: &mut Info,
 ) -> (Vec<i64>, Vec<i64>) {
     let (n, a_p, a_i) = (matrix.n, matrix.a_p, matrix.a_i);
-    assert!(rt; n > 0);
-    let Status::OK = valid(n, n, a_p, a_i) else {
-        panic!(rt; "not sorted");
-    };
-    let Ok((sum, mut degrees)) = aat(alloc, n, a_p, a_i, info) else {
-        panic!(rt; "no degrees");
-    };
-    let size = degrees.len();
-    check_marks(rt, matrix.hold, size);
-    assert!(rt; sum < 1 << 60);
-    assert!(rt; size < 1 << 60);
-    let room = sum + size;
+    let (mut degrees, room) = degrees_of(rt, alloc, n, a_p, a_i, 0, info);
+    check_marks(rt, matrix.hold, degrees.len());
     let Ok(answer) = amd_1(
         alloc,
         n,
@@ -114,20 +136,9 @@ pub fn order_in_place<A: Allocator + Copy>(
     info: &mut Info,
 ) -> Result<(Vec<i64, A>, Vec<i64, A>), Status> {
     let (n, a_p, a_i) = (matrix.n, matrix.a_p, matrix.a_i);
-    assert!(rt; n > 0);
-    let Status::OK = valid(n, n, a_p, a_i) else {
-        panic!(rt; "not sorted");
-    };
-    let Ok((sum, mut degrees)) = aat(alloc, n, a_p, a_i, info) else {
-        panic!(rt; "no degrees");
-    };
-    let size = degrees.len();
-    check_marks(rt, matrix.hold, size);
     assert!(rt; flag >= 2);
-    assert!(rt; sum < 1 << 60);
-    assert!(rt; size < 1 << 60);
-    assert!(rt; more < 1 << 60);
-    let room = sum + size + more;
+    let (mut degrees, room) = degrees_of(rt, alloc, n, a_p, a_i, more, info);
+    check_marks(rt, matrix.hold, degrees.len());
     amd_1_from(
         heap,
         flag,

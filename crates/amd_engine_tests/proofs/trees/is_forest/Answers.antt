@@ -1,6 +1,6 @@
 use Rattle.std.proofs.Common.{◌≡◌, length, subst, arith}
-use Rattle.amd_part_tests.proofs.Forests.{ArePlaced, forest_from}
-use Rattle.amd_part_tests.proofs.trees.is_forest.Goals as goal
+use Rattle.amd_engine_tests.proofs.Forests.{ArePlaced, forest_from}
+use Rattle.amd_engine_tests.proofs.trees.is_forest.Goals as goal
 
 pub returns : goal.returns
 returns c = λ _.

@@ -5,7 +5,7 @@ use Rattle.std.proofs.lemmas.Bool.{ltb-true}
 use Rattle.amd_model.specs.Quotient.{has, each, Once}
 use Rattle.amd_model.proofs.Quotient.Lists.{each_gives}
 use Rattle.amd_trees.specs.Trees.{none, more}
-use Rattle.amd_part_tests.proofs.trees.one_tree.Goals as goal
+use Rattle.amd_engine_tests.proofs.trees.one_tree.Goals as goal
 
 -- the nodes are below 7
 small : (e : ℕ) → has (0 ∷ 1 ∷ 3 ∷ 2 ∷ 5 ∷ []) e ≡ true → e < 7
