@@ -3,6 +3,7 @@
 
 use amd_cases::faults::Fault;
 use amd_cases::reader::{CaseReader, LONGEST_LINE, ReadError};
+use amd_testing::check;
 use std::alloc::{Allocator, Global};
 use std::io;
 use std::io::{BufRead, Read};
@@ -26,11 +27,11 @@ fn next_of<R: BufRead + Drop, A: Allocator + Copy>(
 #[test]
 fn lines_without_a_word(rt: HostRuntime) {
     let mut cases = CaseReader::new(rt.alloc(), SPACED);
-    assert!(rt; next_of(&rt, &mut cases) == Some((1, 1)));
-    assert!(rt; next_of(&rt, &mut cases) == Some((2, 0)));
-    assert!(rt; next_of(&rt, &mut cases).is_none());
+    check!(&rt; next_of(&rt, &mut cases) == Some((1, 1)));
+    check!(&rt; next_of(&rt, &mut cases) == Some((2, 0)));
+    check!(&rt; next_of(&rt, &mut cases).is_none());
     let mut blank = CaseReader::new(rt.alloc(), b"\n\n \t".as_slice());
-    assert!(rt; next_of(&rt, &mut blank).is_none());
+    check!(&rt; next_of(&rt, &mut blank).is_none());
 }
 
 /// Whether a text is refused for this line.
@@ -128,8 +129,8 @@ fn case_of(alloc: Global, bytes: usize) -> Result<Vec<u8>, std::alloc::AllocErro
 fn the_longest_line(rt: HostRuntime) -> Result<(), std::test::Fail> {
     let text = case_of(rt.alloc(), LONGEST_LINE)?;
     let mut cases = CaseReader::new(rt.alloc(), text.as_slice());
-    assert!(rt; next_of(&rt, &mut cases) == Some((1, 0)));
+    check!(&rt; next_of(&rt, &mut cases) == Some((1, 0)));
     let text = case_of(rt.alloc(), LONGEST_LINE + 1)?;
-    assert!(rt; is_refused(rt.alloc(), text.as_slice(), 1, Fault::Long));
+    check!(&rt; is_refused(rt.alloc(), text.as_slice(), 1, Fault::Long));
     Ok(())
 }

@@ -4,6 +4,7 @@ use amd_cases::cases::Case;
 use amd_cases::faults::Fault;
 use amd_cases::matrix::{Matrix, MatrixError, read_matrix};
 use amd_cases::reader::{CaseReader, ReadError};
+use amd_testing::check;
 use amd_testing::refusing::{Refusing, each_refused};
 use num_traits::PrimInt;
 use std::alloc::{AllocError, Allocator, Global};
@@ -29,7 +30,7 @@ fn check_case<R: BufRead + Drop, A: Allocator + Copy>(
         panic!(rt; "no case");
     };
     let is_chosen = (case.number, case.n, case.dense, case.aggressive) == scalars;
-    assert!(rt; is_chosen && case.a_p.as_slice() == a_p && case.a_i.as_slice() == a_i);
+    check!(rt; is_chosen && case.a_p.as_slice() == a_p && case.a_i.as_slice() == a_i);
 }
 
 #[test]
@@ -38,7 +39,7 @@ fn two_cases_and_the_end(rt: HostRuntime) {
     check_case(&rt, &mut cases, (7, 3, -5, false), &[0, 1, 2, 2], &[1, -2]);
     check_case(&rt, &mut cases, (-8, 0, 10000, true), &[], &[]);
     for _ in 0..2 {
-        assert!(rt; matches!(cases.next_case(), Ok(None)));
+        check!(&rt; matches!(cases.next_case(), Ok(None)));
     }
 }
 
@@ -48,17 +49,15 @@ const ONE_CASE: &[u8] = b"CASE 1\nN 2\nAP 0 1 2\nAI 0 1\nEND";
 /// What is cut off it at any place makes it no case; without a byte left the input is empty.
 #[test]
 fn a_case_that_is_cut_off(rt: HostRuntime) {
-    assert!(rt;
-        matches!(
+    check!(&rt; matches!(
             CaseReader::new(rt.alloc(), ONE_CASE).next_case(),
             Ok(Some(_))
-        )
-    );
+        ));
     for (length, _) in ONE_CASE.iter().enumerate() {
         let front = ONE_CASE.get(..length).unwrap_or(ONE_CASE);
         match CaseReader::new(rt.alloc(), front).next_case() {
-            Ok(case) => assert!(rt; length == 0 && case.is_none()),
-            Err(_) => assert!(rt; 0 < length),
+            Ok(case) => check!(&rt; length == 0 && case.is_none()),
+            Err(_) => check!(&rt; 0 < length),
         }
     }
 }
@@ -73,19 +72,19 @@ fn items_that_may_be_left_out(rt: HostRuntime) {
     let Ok(Some(held)) = cases.next_case() else {
         panic!(rt; "no case");
     };
-    assert!(rt; held.hold.as_deref() == Some([false, true, true].as_slice()));
-    assert!(rt; held.permutation.is_none() && held.room.is_none());
+    check!(&rt; held.hold.as_deref() == Some([false, true, true].as_slice()));
+    check!(&rt; held.permutation.is_none() && held.room.is_none());
     let Ok(Some(columns)) = cases.next_case() else {
         panic!(rt; "no second case");
     };
-    assert!(rt; columns.hold.as_deref() == Some([].as_slice()));
-    assert!(rt; columns.permutation.as_deref() == Some([1, 0].as_slice()));
-    assert!(rt; columns.room == Some(-7) && columns.n == 2 && columns.a_p.len() == 1);
+    check!(&rt; columns.hold.as_deref() == Some([].as_slice()));
+    check!(&rt; columns.permutation.as_deref() == Some([1, 0].as_slice()));
+    check!(&rt; columns.room == Some(-7) && columns.n == 2 && columns.a_p.len() == 1);
     let mut cases = CaseReader::new(rt.alloc(), TWO_CASES);
     let Ok(Some(plain)) = cases.next_case() else {
         panic!(rt; "no case");
     };
-    assert!(rt; plain.hold.is_none() && plain.permutation.is_none() && plain.room.is_none());
+    check!(&rt; plain.hold.is_none() && plain.permutation.is_none() && plain.room.is_none());
 }
 
 /// Checks that a text is refused for a line, and that nothing is read behind it.
@@ -97,7 +96,7 @@ fn check_fault(rt: &impl Abort, alloc: Global, text: &[u8], wanted: u64, wanted_
         }
         _ => panic!(rt; "not refused: {text:?}"),
     }
-    assert!(rt; matches!(cases.next_case(), Err(ReadError::Stopped)));
+    check!(rt; matches!(cases.next_case(), Err(ReadError::Stopped)));
 }
 
 #[test]
@@ -205,7 +204,7 @@ fn reads_cases(rt: &impl Abort, heap: &Refusing<Global>) -> bool {
                     ..
                 },
             )
-            | Err(ReadError::Stopped) => assert!(rt; heap.refused()),
+            | Err(ReadError::Stopped) => check!(rt; heap.refused()),
             Err(_) => panic!(rt; "another error"),
         }
     }
@@ -215,7 +214,7 @@ fn reads_cases(rt: &impl Abort, heap: &Refusing<Global>) -> bool {
 #[test]
 fn each_request_of_the_reader(rt: HostRuntime) {
     match each_refused(rt.alloc(), |heap| reads_cases(&rt, heap)) {
-        Ok(refusals) => assert!(rt; 0 < refusals),
+        Ok(refusals) => check!(&rt; 0 < refusals),
         Err(slip) => panic!(rt; "{slip:?}"),
     }
 }
@@ -244,8 +243,8 @@ fn a_matrix_file(rt: HostRuntime) -> Result<(), Fail> {
     else {
         panic!(rt; "refused");
     };
-    assert!(rt; n == 2 && a_p.as_slice() == [0, 2, 3].as_slice());
-    assert!(rt; a_i.as_slice() == [0, 1, -300].as_slice());
+    check!(&rt; n == 2 && a_p.as_slice() == [0, 2, 3].as_slice());
+    check!(&rt; a_i.as_slice() == [0, 1, -300].as_slice());
     Ok(())
 }
 
@@ -265,8 +264,8 @@ fn matrix_files_that_do_not_fit(rt: HostRuntime) -> Result<(), Fail> {
     let heap = rt.alloc();
     let bytes = file_of(heap, &[2, 3, 0, 2, 3], &[0, 1, -300])?;
     let is_large = |fault| matches!(fault, Some(MatrixError::TooLarge));
-    assert!(rt; is_large(fault_of::<i8, _>(heap, &mut bytes.as_slice())));
-    assert!(rt; is_large(fault_of::<u64, _>(heap, &mut bytes.as_slice())));
+    check!(&rt; is_large(fault_of::<i8, _>(heap, &mut bytes.as_slice())));
+    check!(&rt; is_large(fault_of::<u64, _>(heap, &mut bytes.as_slice())));
     Ok(())
 }
 
@@ -276,8 +275,8 @@ fn matrix_files_that_are_too_long(rt: HostRuntime) -> Result<(), Fail> {
     let mut bytes = file_of(heap, &[2, 3, 0, 2, 3], &[0, 1, -300])?;
     bytes.push(0)?;
     let is_long = |fault| matches!(fault, Some(MatrixError::Long));
-    assert!(rt; is_long(fault_of::<i32, _>(heap, &mut bytes.as_slice())));
-    assert!(rt; is_long(fault_of::<i32, _>(heap, &mut Broken(&bytes))));
+    check!(&rt; is_long(fault_of::<i32, _>(heap, &mut bytes.as_slice())));
+    check!(&rt; is_long(fault_of::<i32, _>(heap, &mut Broken(&bytes))));
     Ok(())
 }
 
@@ -287,11 +286,11 @@ fn matrix_files_that_are_none(rt: HostRuntime) -> Result<(), Fail> {
     for wide in [[-1, 0].as_slice(), &[0, -1, -1]] {
         let bytes = file_of(heap, wide, &[])?;
         let fault = fault_of::<i64, _>(heap, &mut bytes.as_slice());
-        assert!(rt; matches!(fault, Some(MatrixError::Negative)));
+        check!(&rt; matches!(fault, Some(MatrixError::Negative)));
     }
     let apart = file_of(heap, &[1, 2, 0, 1], &[0, 0])?;
     let fault = fault_of::<i64, _>(heap, &mut apart.as_slice());
-    assert!(rt; matches!(fault, Some(MatrixError::Pointers)));
+    check!(&rt; matches!(fault, Some(MatrixError::Pointers)));
     Ok(())
 }
 
@@ -300,10 +299,10 @@ fn matrix_files_that_say_too_much_or_cannot_be_read(rt: HostRuntime) -> Result<(
     let heap = rt.alloc();
     let huge = file_of(heap, &[i64::MAX, i64::MAX, 0], &[])?;
     let fault = fault_of::<i64, _>(heap, &mut huge.as_slice());
-    assert!(rt; matches!(fault, Some(MatrixError::Short)));
+    check!(&rt; matches!(fault, Some(MatrixError::Short)));
     let whole = file_of(heap, &[0, 0, 0], &[])?;
     let fault = fault_of::<i64, _>(heap, &mut Broken(&whole));
-    assert!(rt; matches!(fault, Some(MatrixError::Input(_))));
+    check!(&rt; matches!(fault, Some(MatrixError::Input(_))));
     Ok(())
 }
 
@@ -321,7 +320,7 @@ fn matrix_files_that_say_too_much(rt: HostRuntime) -> Result<(), Fail> {
         let bytes = file_of(rt.alloc(), wide, &[])?;
         let heap = Refusing::new(rt.alloc(), 0);
         let outcome = read_matrix::<i64, _, _>(&heap, &mut bytes.as_slice());
-        assert!(rt; matches!(outcome, Err(MatrixError::Short)) && heap.requests() < 2);
+        check!(&rt; matches!(outcome, Err(MatrixError::Short)) && heap.requests() < 2);
     }
     Ok(())
 }
@@ -340,7 +339,7 @@ fn reads_matrix(rt: &impl Abort, heap: &Refusing<Global>, bytes: &[u8]) -> bool 
 fn each_request_of_the_matrix_reader(rt: HostRuntime) -> Result<(), Fail> {
     let bytes = file_of(rt.alloc(), &[2, 3, 0, 2, 3], &[0, 1, 1])?;
     match each_refused(rt.alloc(), |heap| reads_matrix(&rt, heap, &bytes)) {
-        Ok(refusals) => assert!(rt; 0 < refusals),
+        Ok(refusals) => check!(&rt; 0 < refusals),
         Err(slip) => panic!(rt; "{slip:?}"),
     }
     Ok(())

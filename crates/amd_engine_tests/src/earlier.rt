@@ -6,6 +6,7 @@ use amd_earlier::places::places;
 use amd_input::valid::valid;
 use amd_numbers::amd::Status;
 use amd_numbers::internal::to_count;
+use amd_testing::check;
 use amd_testing::refusing::{Refusing, each_refused};
 use std::alloc::{AllocError, Allocator, Global};
 use std::process::Abort;
@@ -106,7 +107,7 @@ fn are_lists<A: Allocator>(case: &Case, lists: &mut Lists<A>) -> bool {
 
 /// Asserts that the lists are those of a case.
 fn check<A: Allocator>(rt: &impl Abort, case: &Case, lists: &mut Lists<A>) {
-    assert!(rt; are_lists(case, lists), "{}", case.what);
+    check!(rt; are_lists(case, lists), case.what);
 }
 
 #[test]
@@ -133,7 +134,7 @@ fn makes(rt: &impl Abort, heap: &Refusing<Global>, case: &Case) -> bool {
 fn each_request_of_the_lists(rt: HostRuntime) {
     for case in &MATRICES {
         match each_refused(rt.alloc(), |heap| makes(&rt, heap, case)) {
-            Ok(refusals) => assert!(rt; 2 <= refusals, "{}", case.what),
+            Ok(refusals) => check!(&rt; 2 <= refusals, case.what),
             Err(slip) => panic!(rt; "{}: {slip:?}", case.what),
         }
     }
@@ -152,7 +153,7 @@ fn lists_that_are_no_order(rt: HostRuntime) -> Result<(), Fail> {
         assert!(rt; places::<i64, _>(rt.alloc(), 4, p)?.is_none(), "{p:?}");
     }
     let heap = Refusing::new(rt.alloc(), 1);
-    assert!(rt; places(&heap, 4, &[3i64, 0, 1])?.is_none());
-    assert!(rt; heap.requests() == 0);
+    check!(&rt; places(&heap, 4, &[3i64, 0, 1])?.is_none());
+    check!(&rt; heap.requests() == 0);
     Ok(())
 }

@@ -4,6 +4,7 @@
 use crate::sorted::degrees_of;
 use amd_engine::plain::plain_1;
 use amd_numbers::amd::{Control, Info, Status};
+use amd_testing::check;
 use amd_testing::refusing::{Refusing, each_refused};
 use std::alloc::Global;
 use std::process::Abort;
@@ -24,11 +25,11 @@ fn orders(
     let control = Control::default();
     match plain_1(heap, n, a_p, a_i, &degrees, &control, None, &mut info) {
         Ok((p, p_inv)) => {
-            assert!(rt; p.as_slice() == wanted.0 && p_inv.as_slice() == wanted.1);
+            check!(rt; p.as_slice() == wanted.0 && p_inv.as_slice() == wanted.1);
             true
         }
         Err(status) => {
-            assert!(rt; status == Status::OutOfMemory);
+            check!(rt; status == Status::OutOfMemory);
             false
         }
     }
@@ -45,5 +46,5 @@ fn each_request_of_the_plain_engine(rt: HostRuntime) {
         heap,
         |refusing| orders(&rt, refusing, heap, 5, a_p, a_i, wanted),
     );
-    assert!(rt; 0 < refusals.unwrap_or(0));
+    check!(&rt; 0 < refusals.unwrap_or(0));
 }

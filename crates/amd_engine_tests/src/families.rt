@@ -8,6 +8,7 @@ use crate::sorted::{Sorted, first_flags, order_exactly, order_plainly, unmarked}
 use amd::{Control, Info, Status, order};
 use amd_input::preprocess::preprocess;
 use amd_input::valid::valid;
+use amd_testing::check;
 use amd_testing::inputs::{complete_below, cycle, drawn, grid, path, star, star_to_last};
 use amd_testing::records::numbers_of;
 use std::alloc::Global;
@@ -54,7 +55,7 @@ fn ordered_exactly(rt: &impl Abort, alloc: Global, matrix: &Sorted, control: &Co
 /// Asserts that lists were packed once for a row at most, and forgets how often.
 fn take_packings(rt: &impl Abort, answer: &mut Answer) -> usize {
     let packings = answer.info.n_cmp_a;
-    assert!(rt; packings <= answer.p.len());
+    check!(rt; packings <= answer.p.len());
     answer.info.n_cmp_a = 0;
     packings
 }
@@ -119,7 +120,7 @@ fn compare_choices(
 /// Asserts that there is one answer for a matrix, by the sorted form that `order` takes. Answers how often lists were
 /// packed at least.
 fn compare(rt: &impl Abort, alloc: Global, n: i64, (a_p, a_i): (Vec<i64>, Vec<i64>)) -> usize {
-    assert!(rt; n > 0);
+    check!(rt; n > 0);
     match valid(n, n, &a_p, &a_i) {
         Status::OK => compare_choices(rt, alloc, &a_p, &a_i, &unmarked(n, &a_p, &a_i)),
         Status::OkButJumbled => {

@@ -4,6 +4,7 @@
 use amd_engine::internal::front_counts;
 use amd_numbers::amd::Info;
 use amd_numbers::figures::Figures;
+use amd_testing::check;
 use amd_testing::records::numbers_of;
 
 /// A front, and its shares.
@@ -71,9 +72,9 @@ fn sums_of_fronts(rt: HostRuntime) {
     figures.add_front(1, 3);
     figures.add_front(3, 0);
     figures.write_figures(&mut info);
-    assert!(rt; numbers_of(&info) == [4, 12, 0, 0, 0, 0, 6, 6, 10, 14, 4]);
+    check!(&rt; numbers_of(&info) == [4, 12, 0, 0, 0, 0, 6, 6, 10, 14, 4]);
     figures.add_front(1, 4294967296);
     figures.write_figures(&mut info);
     let (lnz, ldl, lu) = (4294967302, 9223372039002259466, usize::MAX);
-    assert!(rt; numbers_of(&info) == [4, 12, 0, 0, 0, 0, lnz, lnz, ldl, lu, 4294967297]);
+    check!(&rt; numbers_of(&info) == [4, 12, 0, 0, 0, 0, lnz, lnz, ldl, lu, 4294967297]);
 }

@@ -2,6 +2,7 @@
 // and the definitions of an input and of a factor in their plain form. The columns, sums and thresholds were worked by
 // hand.
 
+use amd_testing::check;
 use amd_testing::factors::{Factor, Need, factor_of, fills_nothing, need_of};
 use amd_testing::plain::{are_inverse, clean_transpose, is_column_form, is_jumbled, threshold};
 use amd_testing::refusing::{Refusing, Slip, each_refused};
@@ -15,9 +16,9 @@ use std::test::Fail;
 
 /// Asserts that a factor has these columns.
 fn check_columns(rt: &impl Abort, factor: &Factor<Global>, columns: &[&[usize]]) {
-    assert!(rt; factor.columns.len() == columns.len());
+    check!(rt; factor.columns.len() == columns.len());
     for (column, want) in factor.columns.iter().zip(columns) {
-        assert!(rt; column.as_slice() == *want);
+        check!(rt; column.as_slice() == *want);
     }
 }
 
@@ -25,14 +26,14 @@ fn check_columns(rt: &impl Abort, factor: &Factor<Global>, columns: &[&[usize]])
 fn a_four_cycle_fills_in(rt: HostRuntime) -> Result<(), Fail> {
     let factor = factor_of(rt.alloc(), &[0, 2, 3, 4, 4], &[1, 3, 2, 3], &[3, 0, 1, 2])?;
     check_columns(&rt, &factor, &[&[1, 3], &[2, 3], &[3], &[]]);
-    assert!(rt; !fills_nothing(&factor));
+    check!(&rt; !fills_nothing(&factor));
     let need = Need {
         lnz: 5,
         n_mult_subs_ldl: 7,
         n_mult_subs_lu: 9,
         d_max: 3,
     };
-    assert!(rt; need_of(&factor.columns) == need);
+    check!(&rt; need_of(&factor.columns) == need);
     Ok(())
 }
 
@@ -42,7 +43,7 @@ fn five_rows_do_not_fill_in(rt: HostRuntime) -> Result<(), Fail> {
     let a_i = [0, 1, 0, 1, 2, 4, 1, 2, 3, 4, 2, 3, 1, 4];
     let factor = factor_of(rt.alloc(), &a_p, &a_i, &[0, 3, 2, 4, 1])?;
     check_columns(&rt, &factor, &[&[4], &[2], &[3, 4], &[4], &[]]);
-    assert!(rt; fills_nothing(&factor));
+    check!(&rt; fills_nothing(&factor));
     Ok(())
 }
 
@@ -50,8 +51,8 @@ fn five_rows_do_not_fill_in(rt: HostRuntime) -> Result<(), Fail> {
 fn no_rows_need_nothing(rt: HostRuntime) -> Result<(), Fail> {
     let factor = factor_of(rt.alloc(), &[], &[], &[])?;
     check_columns(&rt, &factor, &[]);
-    assert!(rt; fills_nothing(&factor));
-    assert!(rt; need_of(&factor.columns).d_max == 0);
+    check!(&rt; fills_nothing(&factor));
+    check!(&rt; need_of(&factor.columns).d_max == 0);
     Ok(())
 }
 
@@ -81,12 +82,12 @@ fn thresholds(rt: HostRuntime) {
 fn jumbled_columns(rt: HostRuntime) -> Result<(), Fail> {
     let a_p = [0, 3, 3, 4];
     let a_i = [2, 0, 2, 1];
-    assert!(rt; is_column_form(3, 3, &a_p, &a_i) && is_jumbled(3, &a_p, &a_i));
+    check!(&rt; is_column_form(3, 3, &a_p, &a_i) && is_jumbled(3, &a_p, &a_i));
     let (pointers, columns) = clean_transpose(rt.alloc(), 3, &a_p, &a_i)?;
-    assert!(rt; pointers.as_slice() == [0, 1, 2, 3].as_slice());
-    assert!(rt; columns.as_slice() == [0, 2, 0].as_slice());
-    assert!(rt; are_inverse(3, &[1, 2, 0], &[2, 0, 1]));
-    assert!(rt; !are_inverse(3, &[1, 2, 0], &[1, 2, 0]));
+    check!(&rt; pointers.as_slice() == [0, 1, 2, 3].as_slice());
+    check!(&rt; columns.as_slice() == [0, 2, 0].as_slice());
+    check!(&rt; are_inverse(3, &[1, 2, 0], &[2, 0, 1]));
+    check!(&rt; !are_inverse(3, &[1, 2, 0], &[1, 2, 0]));
     Ok(())
 }
 
@@ -107,8 +108,8 @@ fn three_lists<A: Allocator + Copy>(alloc: A) -> Result<usize, AllocError> {
 fn check_counts(rt: &impl Abort, alloc: Global, refuse_at: u64, fails: bool, counts: [u64; 3]) {
     let heap = Refusing::new(alloc, refuse_at);
     let is_refused = three_lists(&heap).is_err();
-    assert!(rt; is_refused == fails && heap.refused() == fails);
-    assert!(rt; [heap.requests(), heap.granted(), heap.released()] == counts);
+    check!(rt; is_refused == fails && heap.refused() == fails);
+    check!(rt; [heap.requests(), heap.granted(), heap.released()] == counts);
 }
 
 #[test]
@@ -127,14 +128,14 @@ fn refuses_the_chosen_request(rt: HostRuntime) {
 #[test]
 fn notices_what_a_call_does_wrong(rt: HostRuntime) {
     let fair = each_refused(rt.alloc(), |heap| three_lists(heap).is_ok());
-    assert!(rt; fair == Ok(3));
+    check!(&rt; fair == Ok(3));
     let hides = each_refused(
         rt.alloc(),
         |heap| three_lists(heap).is_ok() || heap.refused(),
     );
-    assert!(rt; hides == Err(Slip::Answered(1)));
+    check!(&rt; hides == Err(Slip::Answered(1)));
     let gives_up = each_refused(rt.alloc(), |_| false);
-    assert!(rt; gives_up == Err(Slip::Unanswered(1)));
+    check!(&rt; gives_up == Err(Slip::Unanswered(1)));
     let forgets = each_refused(rt.alloc(), |heap| {
         let Ok(list) = Vec::<u8, _>::with_capacity(heap, 1) else {
             return false;
@@ -142,7 +143,7 @@ fn notices_what_a_call_does_wrong(rt: HostRuntime) {
         forget(list);
         three_lists(heap).is_ok()
     });
-    assert!(rt; forgets == Err(Slip::Unbalanced(2)));
+    check!(&rt; forgets == Err(Slip::Unbalanced(2)));
 }
 
 /// Writes three words.
@@ -164,7 +165,7 @@ fn check_fault(
 ) {
     let mut out = Faulty::new(Vec::new(alloc), fault, fault_at);
     let fails = three_words(&mut out).is_err();
-    assert!(rt; fails == (out.faults() == 1) && out.calls() == calls && out.bytes() == text);
+    check!(rt; fails == (out.faults() == 1) && out.calls() == calls && out.bytes() == text);
 }
 
 #[test]
@@ -188,14 +189,14 @@ fn takes_one_byte_at_the_chosen_call(rt: HostRuntime) {
     for (fault_at, calls, faults) in [(0, 3, 0), (1, 4, 1), (2, 4, 1), (3, 4, 1), (4, 3, 0)] {
         let mut out = Faulty::new(Vec::new(rt.alloc()), Fault::TakesOne, fault_at);
         let is_written = three_words(&mut out).is_ok();
-        assert!(rt; is_written && out.bytes() == b"onetwothree".as_slice());
-        assert!(rt; out.calls() == calls && out.faults() == faults);
+        check!(&rt; is_written && out.bytes() == b"onetwothree".as_slice());
+        check!(&rt; out.calls() == calls && out.faults() == faults);
     }
 }
 
 #[test]
 fn takes_all_in_the_end(rt: HostRuntime) {
     let mut out = Slow::new(Vec::new(rt.alloc()));
-    assert!(rt; three_words(&mut out).is_ok());
-    assert!(rt; out.bytes() == b"onetwothree".as_slice());
+    check!(&rt; three_words(&mut out).is_ok());
+    check!(&rt; out.bytes() == b"onetwothree".as_slice());
 }

@@ -6,6 +6,7 @@ use crate::sorted::{Sorted, first_flags, order_in_place, order_plainly};
 use amd_input::preprocess::preprocess;
 use amd_input::valid::valid;
 use amd_numbers::amd::{Control, Info, Status};
+use amd_testing::check;
 use amd_testing::inputs::{drawn, drawn_with_hub};
 use amd_testing::records::numbers_of;
 use std::alloc::Global;
@@ -34,10 +35,10 @@ pub fn check_flags(
         ) else {
             panic!(rt; "no answer in place");
         };
-        assert!(rt; p.as_slice() == wanted.0 && p_inv.as_slice() == wanted.1);
-        assert!(rt; found.n_cmp_a <= size);
+        check!(rt; p.as_slice() == wanted.0 && p_inv.as_slice() == wanted.1);
+        check!(rt; found.n_cmp_a <= size);
         found.n_cmp_a = 0;
-        assert!(rt; numbers_of(&found) == figures);
+        check!(rt; numbers_of(&found) == figures);
     }
 }
 

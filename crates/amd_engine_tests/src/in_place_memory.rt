@@ -6,6 +6,7 @@ use crate::in_place_matrices::{Case, MATRICES};
 use crate::in_place_rows::{control_of, is_answer, matrix_of};
 use crate::sorted::{order_in_place, unmarked};
 use amd_numbers::amd::{Control, Info, Status};
+use amd_testing::check;
 use amd_testing::inputs::path;
 use amd_testing::refusing::{Refusing, each_refused};
 use std::alloc::Global;
@@ -25,11 +26,11 @@ fn orders(
     let (matrix, control) = (matrix_of(case), control_of(case));
     match order_in_place(rt, heap, alloc, flag, more, &matrix, &control, &mut info) {
         Ok((p, p_inv)) => {
-            assert!(rt; is_answer(case, &p, &p_inv, &info), "{}", case.what);
+            check!(rt; is_answer(case, &p, &p_inv, &info), case.what);
             true
         }
         Err(status) => {
-            assert!(rt; status == Status::OutOfMemory, "{}", case.what);
+            check!(rt; status == Status::OutOfMemory, case.what);
             false
         }
     }
@@ -38,7 +39,7 @@ fn orders(
 /// Asserts that the engine in place answers, or is refused memory, whichever of its requests is refused.
 fn check_requests(rt: &impl Abort, heap: Global, flag: usize, case: &Case) {
     let refusals = each_refused(heap, |refusing| orders(rt, refusing, heap, (flag, 0), case));
-    assert!(rt; 0 < refusals.unwrap_or(0), "{}", case.what);
+    check!(rt; 0 < refusals.unwrap_or(0), case.what);
 }
 
 /// The first flag 2 has words of 32 bits, and the other one has wider words.
@@ -54,7 +55,7 @@ fn each_request_of_the_engine_in_place(rt: HostRuntime) {
 fn check_workspace(rt: &impl Abort, alloc: Global, more: usize, case: &Case) {
     let heap = Refusing::new(alloc, 0);
     let answered = orders(rt, &heap, alloc, (2, more), case);
-    assert!(rt; !answered, "{}", case.what);
+    check!(rt; !answered, case.what);
 }
 
 /// So many words are refused as memory is, and what was granted before comes back.
@@ -74,7 +75,7 @@ fn requests_for_path(rt: &impl Abort, alloc: Global, n: i64, flag: usize) -> Res
     let mut info = Info::new(0);
     let control = Control::default();
     let answered = order_in_place(rt, &heap, alloc, flag, 0, &matrix, &control, &mut info).is_ok();
-    assert!(rt; answered && heap.granted() == heap.released());
+    check!(rt; answered && heap.granted() == heap.released());
     Ok(heap.requests())
 }
 
@@ -83,7 +84,7 @@ fn rounds_ask_for_no_memory(rt: HostRuntime) -> Result<(), Fail> {
     for flag in [2, 1 << 32] {
         let requests = requests_for_path(&rt, rt.alloc(), 10, flag)?;
         for n in [11, 30, 100, 300, 1000] {
-            assert!(rt; requests_for_path(&rt, rt.alloc(), n, flag)? == requests);
+            check!(&rt; requests_for_path(&rt, rt.alloc(), n, flag)? == requests);
         }
     }
     Ok(())

@@ -8,6 +8,7 @@ use crate::laid::{are_words, order_laid};
 use crate::sorted::{Sorted, first_flags, order_exactly, order_in_place};
 use amd_cells::{Signed, Unsigned};
 use amd_numbers::amd::{Control, Info};
+use amd_testing::check;
 use amd_testing::inputs::complete;
 use amd_testing::plain::are_inverse;
 use std::alloc::Global;
@@ -72,7 +73,7 @@ fn check(rt: &impl Abort, alloc: Global, case: &Case, more: usize) {
 fn check_amd_1(rt: &impl Abort, alloc: Global, case: &Case) {
     let mut info = Info::new(0);
     let (p, p_inv) = order_exactly(rt, alloc, &matrix_of(case), &control_of(case), &mut info);
-    assert!(rt; is_answer(case, &p, &p_inv, &info), "{}", case.what);
+    check!(rt; is_answer(case, &p, &p_inv, &info), case.what);
 }
 
 /// Asserts that `amd_2` gives the answer of a case over lists that were laid in words of these widths, and tells its
@@ -87,7 +88,7 @@ fn check_amd_2<S: Signed, U: Unsigned>(rt: &impl Abort, alloc: Global, case: &Ca
         &control,
         &mut info,
     );
-    assert!(rt; is_answer(case, &p, &p_inv, &info), "{}", case.what);
+    check!(rt; is_answer(case, &p, &p_inv, &info), case.what);
     assert!(rt; are_words(&blocks, case.blocks), "blocks of {}", case.what);
     assert!(rt; are_words(&fronts, case.fronts), "fronts of {}", case.what);
 }

@@ -10,6 +10,8 @@ mod case_lines;
 #[cfg(test)]
 mod cases;
 #[cfg(test)]
+mod checks;
+#[cfg(test)]
 mod earlier;
 #[cfg(test)]
 mod engine;

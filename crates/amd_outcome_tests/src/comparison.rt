@@ -4,6 +4,7 @@
 
 use amd::{Control, Info};
 use amd_symbolic::{Factor, Fault, analyze, columns};
+use amd_testing::check;
 use amd_testing::factors::{Factor as SlowFactor, Need, factor_of, need_of};
 use amd_testing::inputs::{
     complete, complete_below, cycle, draw, drawn, drawn_with_hub, grid, path, star, star_to_last,
@@ -60,7 +61,7 @@ fn check_order(
     assert!(rt; is_same(&factor, &slow), "{a_p:?} {a_i:?} {p:?}");
     if 0 < room {
         let fault = columns(alloc, n, a_p, a_i, p, room - 1).err();
-        assert!(rt; fault == Some(Fault::RoomTooSmall));
+        check!(rt; fault == Some(Fault::RoomTooSmall));
     }
     Ok(())
 }

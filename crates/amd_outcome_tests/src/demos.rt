@@ -12,6 +12,7 @@ use amd_demos::jumbled::jumbled_to;
 use amd_demos::matrix::Matrix;
 use amd_demos::order::order_to;
 use amd_demos::simple::simple_to;
+use amd_testing::check;
 use amd_testing::refusing::Refusing;
 use amd_testing::writers::{Fault, Faulty, Slow};
 use std::alloc::{AllocError, Allocator, Global};
@@ -102,8 +103,8 @@ fn small_matrices_without_an_ordering(rt: HostRuntime) {
 fn no_rows(rt: HostRuntime) {
     let mut out = Vec::new(rt.alloc());
     let heap = Refusing::new(rt.alloc(), 1);
-    assert!(rt; simple_to(&heap, 0, &[7], &[], &mut out) == 0);
-    assert!(rt; out.starts_with(b"P = []\nPInv = []\n\nAMD results:\n"));
+    check!(&rt; simple_to(&heap, 0, &[7], &[], &mut out) == 0);
+    check!(&rt; out.starts_with(b"P = []\nPInv = []\n\nAMD results:\n"));
 }
 
 /// Runs a demo with a refused request and a writer over an array, and asserts that these parts alone are written, that
@@ -172,7 +173,7 @@ fn each_request(rt: HostRuntime) -> Result<(), Fail> {
 fn requests_of_ordering(rt: &impl Abort, alloc: Global) -> u64 {
     let heap = Refusing::new(alloc, 0);
     let answer = order(&heap, 24i32, &POINTERS, &ROWS, &Control::default());
-    assert!(rt; answer.is_ok());
+    check!(rt; answer.is_ok());
     heap.requests()
 }
 
@@ -185,10 +186,10 @@ fn each_request_of_ordering_and_factor(rt: HostRuntime) -> Result<(), Fail> {
     let ordering = requests_of_ordering(&rt, rt.alloc());
     let behind = ordering.saturating_add(1);
     let refused = check_requests(&rt, rt.alloc(), Demo::Order, &input, 1, behind)?;
-    assert!(rt; refused == ordering);
+    check!(&rt; refused == ordering);
     let all_but_factor = [size, columns, plot, record, permutations, permuted_plot];
     let refused = check_requests(&rt, rt.alloc(), Demo::Order, &all_but_factor, behind, MANY)?;
-    assert!(rt; ordering < refused && refused < MANY - 1);
+    check!(&rt; ordering < refused && refused < MANY - 1);
     Ok(())
 }
 
@@ -294,10 +295,10 @@ fn check_faults(rt: &impl Abort, alloc: Global, demo: Demo, step: usize) -> Resu
     assert!(rt; 0 < calls && calls < MANY, "{demo:?}");
     for fault in [Fault::Fails, Fault::TakesNothing, Fault::TakesOne] {
         for fault_at in (1..calls).step_by(step) {
-            assert!(rt; check_fault(rt, alloc, demo, fault, fault_at)?);
+            check!(rt; check_fault(rt, alloc, demo, fault, fault_at)?);
         }
-        assert!(rt; check_fault(rt, alloc, demo, fault, calls)?);
-        assert!(rt; !check_fault(rt, alloc, demo, fault, calls.saturating_add(1))?);
+        check!(rt; check_fault(rt, alloc, demo, fault, calls)?);
+        check!(rt; !check_fault(rt, alloc, demo, fault, calls.saturating_add(1))?);
     }
     Ok(())
 }
@@ -323,7 +324,7 @@ fn calls_without_memory(
 ) -> u64 {
     let heap = Refusing::new(alloc, 1);
     let mut out = Faulty::new(Vec::new(alloc), fault, fault_at);
-    assert!(rt; run(demo, &heap, &mut out) == 1);
+    check!(rt; run(demo, &heap, &mut out) == 1);
     out.calls()
 }
 
@@ -333,7 +334,7 @@ fn failures_that_cannot_be_told(rt: HostRuntime) {
     for demo in [Demo::Simple, Demo::Order, Demo::Jumbled] {
         let last = calls_without_memory(&rt, rt.alloc(), demo, Fault::Fails, 0);
         for fault in [Fault::Fails, Fault::TakesNothing] {
-            assert!(rt; calls_without_memory(&rt, rt.alloc(), demo, fault, last) == last);
+            check!(&rt; calls_without_memory(&rt, rt.alloc(), demo, fault, last) == last);
         }
     }
 }

@@ -5,6 +5,7 @@
 use crate::worked::{Case, FOUR_CYCLE, WORKED, check_factor};
 use amd::Control;
 use amd_symbolic::{Factor, Fault, analyze, analyze_holding, columns};
+use amd_testing::check;
 use amd_testing::refusing::{Refusing, Slip, each_refused};
 use std::alloc::{Allocator, Global};
 use std::process::Abort;
@@ -12,7 +13,7 @@ use std::process::Abort;
 /// Asserts that some requests were refused, and that no run did wrong.
 fn check_refusals(rt: &impl Abort, what: &str, refusals: Result<u64, Slip>) {
     match refusals {
-        Ok(count) => assert!(rt; 0 < count, "{what}"),
+        Ok(count) => check!(rt; 0 < count, what),
         Err(_) => panic!(rt; "{what}"),
     }
 }
@@ -25,7 +26,7 @@ fn is_answer<A: Allocator>(rt: &impl Abort, case: &Case, answer: Result<Factor<A
             true
         }
         Err(fault) => {
-            assert!(rt; fault == Fault::OutOfMemory);
+            check!(rt; fault == Fault::OutOfMemory);
             false
         }
     }
@@ -57,7 +58,7 @@ fn meets_fault(
     let Err(fault) = columns(heap, case.n, case.a_p, case.a_i, p, room) else {
         panic!(rt; "a factor");
     };
-    assert!(rt; fault == *want || fault == Fault::OutOfMemory);
+    check!(rt; fault == *want || fault == Fault::OutOfMemory);
     fault == *want
 }
 
@@ -78,7 +79,7 @@ fn analyzes(rt: &impl Abort, heap: &Refusing<Global>) -> bool {
     let case = &FOUR_CYCLE;
     match analyze(heap, case.n, case.a_p, case.a_i, &Control::default()) {
         Ok((p, _, info, factor)) => {
-            assert!(rt; p.as_slice() == case.p && info.lnz == 5);
+            check!(rt; p.as_slice() == case.p && info.lnz == 5);
             is_answer(rt, case, Ok(factor))
         }
         Err(fault) => is_answer::<&Refusing<Global>>(rt, case, Err(fault)),
@@ -104,7 +105,7 @@ fn analyzes_holding(rt: &impl Abort, heap: &Refusing<Global>) -> bool {
     let control = Control::default();
     match analyze_holding(heap, HELD.n, HELD.a_p, HELD.a_i, &control, &hold) {
         Ok((p, _, info, factor)) => {
-            assert!(rt; p.as_slice() == HELD.p && info.n_dense == 1);
+            check!(rt; p.as_slice() == HELD.p && info.n_dense == 1);
             is_answer(rt, &HELD, Ok(factor))
         }
         Err(fault) => is_answer::<&Refusing<Global>>(rt, &HELD, Err(fault)),

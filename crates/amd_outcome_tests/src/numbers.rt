@@ -2,6 +2,7 @@
 
 use amd::{Control, Status};
 use amd_symbolic::{Fault, analyze, columns};
+use amd_testing::check;
 use amd_testing::records::numbers_of;
 use num_traits::PrimInt;
 use std::alloc::Global;
@@ -30,11 +31,11 @@ fn check_analysis<I: PrimInt>(rt: &impl Abort, alloc: Global, cycle: &Cycle<I>)
     ) else {
         panic!(rt; "no answer");
     };
-    assert!(rt; p.as_slice() == cycle.p && p_inv.as_slice() == cycle.p_inv);
-    assert!(rt; info.status == Status::OK && !info.symmetry);
-    assert!(rt; numbers_of(&info) == [4, 4, 0, 8, 0, 0, 5, 5, 7, 9, 3]);
-    assert!(rt; factor.ptr.as_slice() == [0, 2, 4, 5, 5].as_slice());
-    assert!(rt; factor.rows.as_slice() == [1, 3, 2, 3, 3].as_slice());
+    check!(rt; p.as_slice() == cycle.p && p_inv.as_slice() == cycle.p_inv);
+    check!(rt; info.status == Status::OK && !info.symmetry);
+    check!(rt; numbers_of(&info) == [4, 4, 0, 8, 0, 0, 5, 5, 7, 9, 3]);
+    check!(rt; factor.ptr.as_slice() == [0, 2, 4, 5, 5].as_slice());
+    check!(rt; factor.rows.as_slice() == [1, 3, 2, 3, 3].as_slice());
 }
 
 /// Asserts that a four-cycle has its factor under its order, which just fits.
@@ -44,8 +45,8 @@ fn check_columns<I: PrimInt>(rt: &impl Abort, alloc: Global, cycle: &Cycle<I>)
     let Ok(factor) = columns(alloc, cycle.n, cycle.a_p, cycle.a_i, cycle.p, 5) else {
         panic!(rt; "no factor");
     };
-    assert!(rt; factor.ptr.as_slice() == [0, 2, 4, 5, 5].as_slice());
-    assert!(rt; factor.rows.as_slice() == [1, 3, 2, 3, 3].as_slice());
+    check!(rt; factor.ptr.as_slice() == [0, 2, 4, 5, 5].as_slice());
+    check!(rt; factor.rows.as_slice() == [1, 3, 2, 3, 3].as_slice());
 }
 
 /// The four-cycle.
@@ -119,6 +120,6 @@ fn numbers_past_the_greatest_count(rt: HostRuntime) {
         (1, &[0, 0, far], &[far], &[0], None),
     ] {
         let fault = columns(rt.alloc(), n, a_p, a_i, p, 0).err();
-        assert!(rt; fault == want);
+        check!(&rt; fault == want);
     }
 }

@@ -5,6 +5,7 @@
 use crate::worked::FOUR_CYCLE;
 use amd::Control;
 use amd_symbolic::{Fault, analyze, analyze_holding, columns};
+use amd_testing::check;
 use amd_testing::refusing::Refusing;
 use std::alloc::Global;
 use std::process::Abort;
@@ -42,9 +43,9 @@ fn inputs_that_are_no_column_form(rt: HostRuntime) {
     for &(n, a_p, a_i) in &NO_FORMS {
         check_no_form(&rt, &heap, n, a_p, a_i);
         let fault = analyze(&heap, n, a_p, a_i, &Control::default()).err();
-        assert!(rt; fault == Some(Fault::NotColumnForm));
+        check!(&rt; fault == Some(Fault::NotColumnForm));
     }
-    assert!(rt; heap.requests() == 0);
+    check!(&rt; heap.requests() == 0);
 }
 
 /// Marks of another length than the matrix, and a matrix that is no column form with marks: no memory is asked.
@@ -60,9 +61,9 @@ fn marks_that_are_not_one_for_each_row(rt: HostRuntime) {
     ] {
         let rows = [1, 3, 2, 3];
         let answer = analyze_holding(&heap, 4, a_p, &rows, &Control::default(), hold);
-        assert!(rt; answer.err() == Some(Fault::NotColumnForm));
+        check!(&rt; answer.err() == Some(Fault::NotColumnForm));
     }
-    assert!(rt; heap.requests() == 0);
+    check!(&rt; heap.requests() == 0);
 }
 
 /// For no rows the order must be empty, and nothing else is looked at.
@@ -76,9 +77,9 @@ fn orders_of_no_rows(rt: HostRuntime) {
         (&[0], &[-1]),
     ] {
         let fault = columns(&heap, 0i64, a_p, &[], p, 0).err();
-        assert!(rt; fault == Some(Fault::NotPermutation));
+        check!(&rt; fault == Some(Fault::NotPermutation));
     }
-    assert!(rt; heap.requests() == 0);
+    check!(&rt; heap.requests() == 0);
 }
 
 /// A room that no memory holds is refused as memory is.
@@ -87,6 +88,6 @@ fn rooms_that_no_memory_holds(rt: HostRuntime) {
     let case = &FOUR_CYCLE;
     for room in [usize::MAX, 1 << 61] {
         let fault = columns(rt.alloc(), case.n, case.a_p, case.a_i, case.p, room).err();
-        assert!(rt; fault == Some(Fault::OutOfMemory));
+        check!(&rt; fault == Some(Fault::OutOfMemory));
     }
 }

@@ -3,6 +3,7 @@
 // the others have the same form, with sums worked by hand.
 
 use amd::{Control, Info, Status, control, info};
+use amd_testing::check;
 use amd_testing::writers::{Fault, Faulty, Slow};
 use std::alloc::Global;
 use std::io;
@@ -168,7 +169,7 @@ fn check_control(rt: &impl Abort, alloc: Global, dense: i32, aggressive: bool, t
 /// Asserts the text of what the ordering tells.
 fn check_info(rt: &impl Abort, alloc: Global, record: &Info, text: &str) {
     let mut out = Vec::new(alloc);
-    assert!(rt; info(record, &mut out).is_ok() && out.as_slice() == text.as_bytes());
+    check!(rt; info(record, &mut out).is_ok() && out.as_slice() == text.as_bytes());
 }
 
 #[test]
@@ -336,9 +337,9 @@ fn both_with_fault(
         .err()
         .map(|error| error.kind());
     if out.faults() == 0 || kind.is_none() {
-        assert!(rt; told.is_none() && are_both(written, out.bytes()));
+        check!(rt; told.is_none() && are_both(written, out.bytes()));
     } else {
-        assert!(rt; told == kind && out.faults() == 1 && out.calls() == fault_at);
+        check!(rt; told == kind && out.faults() == 1 && out.calls() == fault_at);
     }
     out.faults() > 0
 }
@@ -357,7 +358,7 @@ fn check_each_call(
         }
         faults = fault_at;
     }
-    assert!(rt; 0 < faults && faults < MANY - 1);
+    check!(rt; 0 < faults && faults < MANY - 1);
 }
 
 #[test]
@@ -379,7 +380,7 @@ fn a_writer_of_one_byte_a_call(rt: HostRuntime) -> Result<(), Fail> {
     for written in &both_kinds() {
         let mut out = Slow::new(Vec::new(rt.alloc()));
         both_texts(written, &mut out)?;
-        assert!(rt; are_both(written, out.bytes()));
+        check!(&rt; are_both(written, out.bytes()));
     }
     Ok(())
 }

@@ -3,6 +3,7 @@
 
 use amd::Control;
 use amd_symbolic::{Factor, analyze};
+use amd_testing::check;
 use std::alloc::Allocator;
 use std::process::Abort;
 
@@ -128,11 +129,7 @@ pub static WORKED: [Case<'static>; 8] = [
 /// Asserts that a factor is that of a case.
 pub fn check_factor<A: Allocator>(rt: &impl Abort, case: &Case, factor: &Factor<A>) {
     let lists_are = factor.ptr.as_slice() == case.ptr && factor.rows.as_slice() == case.rows;
-    assert!(rt;
-        lists_are && factor.parent.as_slice() == case.parent,
-        "{}",
-        case.what
-    );
+    check!(rt; lists_are && factor.parent.as_slice() == case.parent, case.what);
 }
 
 #[test]
@@ -143,8 +140,8 @@ fn worked_analyses(rt: HostRuntime) {
         let Ok((p, p_inv, info, factor)) = answer else {
             panic!(rt; "no answer for {}", case.what);
         };
-        assert!(rt; p.as_slice() == case.p && p_inv.len() == case.p.len());
-        assert!(rt; info.lnz == case.rows.len());
+        check!(&rt; p.as_slice() == case.p && p_inv.len() == case.p.len());
+        check!(&rt; info.lnz == case.rows.len());
         check_factor(&rt, case, &factor);
     }
 }

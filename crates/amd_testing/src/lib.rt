@@ -3,6 +3,7 @@
 //! factor in a plain, slow form to compare with.
 #![tactic(auto)]
 
+pub mod checks;
 pub mod factors;
 pub mod forests;
 pub mod inputs;

@@ -6,7 +6,7 @@ use amd::preprocess::preprocess;
 use amd::valid::valid;
 use amd::{Control, Info, Status, order};
 use amd_testing::inputs::{drawn, drawn_with_hub};
-use amd_testing::plain;
+use amd_testing::{check, plain};
 use std::alloc::{AllocError, Global};
 use std::process::Abort;
 use std::test::Fail;
@@ -145,7 +145,7 @@ fn compare(
     a_p: &[i64],
     a_i: &[i64],
 ) -> Result<(), AllocError> {
-    assert!(rt; plain::is_column_form(n, n, a_p, a_i));
+    check!(rt; plain::is_column_form(n, n, a_p, a_i));
     let (b_p, b_i) = plain::clean_transpose(alloc, usize::try_from(n).unwrap_or(0), a_p, a_i)?;
     compare_preprocess(rt, alloc, n, a_p, a_i, &b_p, &b_i);
     compare_aat(rt, alloc, n, &b_p, &b_i);

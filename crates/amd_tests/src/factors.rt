@@ -5,6 +5,7 @@
 use crate::worked::widened;
 use amd::{Control, Info, order};
 use amd_demos::can_24::{POINTERS, ROWS};
+use amd_testing::check;
 use amd_testing::factors::{Factor, Need, factor_of, fills_nothing, need_of};
 use amd_testing::inputs::star;
 use std::alloc::{AllocError, Global};
@@ -46,8 +47,8 @@ pub fn check_bounds(
 
 /// Asserts that the factor of a forest without dense rows has its edges alone, and that the bounds say so.
 pub fn check_forest(rt: &impl Abort, factor: &Factor<Global>, info: &Info) {
-    assert!(rt; info.n_dense == 0 && info.lnz == info.nz_a_plus_at / 2);
-    assert!(rt; need_of(&factor.columns).lnz == info.lnz && fills_nothing(factor));
+    check!(rt; info.n_dense == 0 && info.lnz == info.nz_a_plus_at / 2);
+    check!(rt; need_of(&factor.columns).lnz == info.lnz && fills_nothing(factor));
 }
 
 /// A matrix, an order of its rows, and what the factor under it needs.
@@ -97,7 +98,7 @@ static FACTORS: [Case<'static>; 2] = [
 /// Asserts what the factor of a case needs.
 fn check_need(rt: &impl Abort, alloc: Global, case: &Case) -> Result<(), AllocError> {
     let factor = factor_of(alloc, case.a_p, case.a_i, case.p)?;
-    assert!(rt; need_of(&factor.columns) == case.need, "{}", case.what);
+    check!(rt; need_of(&factor.columns) == case.need, case.what);
     Ok(())
 }
 

@@ -9,9 +9,9 @@ use crate::patterns::CHOICES;
 use crate::worked::{Case, check_nothing};
 use amd::{Control, Info, Status, order, order_holding};
 use amd_testing::inputs::{draw, drawn, drawn_with_hub};
-use amd_testing::plain;
 use amd_testing::records::numbers_of;
 use amd_testing::refusing::{Refusing, each_refused};
+use amd_testing::{check, plain};
 use std::alloc::{AllocError, Global};
 use std::process::Abort;
 use std::test::Fail;
@@ -127,7 +127,7 @@ fn marks_that_are_not_one_for_each_row(rt: HostRuntime) {
         let status = order_holding(&heap, n, a_p, a_i, &control, hold).err();
         assert!(rt; status == Some(Status::Invalid), "{n} {a_i:?} {hold:?}");
     }
-    assert!(rt; heap.requests() == 0);
+    check!(&rt; heap.requests() == 0);
 }
 
 #[test]
@@ -142,10 +142,10 @@ fn no_rows(rt: HostRuntime) {
         let Ok((p, p_inv, info)) = order_holding(&heap, 0i64, a_p, &[], &control, hold) else {
             panic!(rt; "no answer");
         };
-        assert!(rt; p.is_empty() && p_inv.is_empty());
+        check!(&rt; p.is_empty() && p_inv.is_empty());
         check_nothing(&rt, &info);
     }
-    assert!(rt; heap.requests() == 0);
+    check!(&rt; heap.requests() == 0);
 }
 
 /// Whether two records are one.

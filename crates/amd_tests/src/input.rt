@@ -5,6 +5,7 @@ use amd::aat::aat;
 use amd::preprocess::preprocess;
 use amd::valid::valid;
 use amd::{Info, Status};
+use amd_testing::check;
 use std::test::Fail;
 
 #[test]
@@ -16,9 +17,9 @@ fn counts_the_arcs_of_a_pattern(rt: HostRuntime) -> Result<(), Fail> {
         return Err(Fail::from("not sorted"));
     };
     let (sum, degrees) = aat(rt.alloc(), 5, &a_p, &a_i, &mut info)?;
-    assert!(rt; sum == 10 && degrees.as_slice() == [1, 3, 3, 1, 2].as_slice());
-    assert!(rt; [info.n, info.nz, info.nz_diag, info.nz_a_plus_at] == [5, 14, 5, 10]);
-    assert!(rt; !info.symmetry);
+    check!(&rt; sum == 10 && degrees.as_slice() == [1, 3, 3, 1, 2].as_slice());
+    check!(&rt; [info.n, info.nz, info.nz_diag, info.nz_a_plus_at] == [5, 14, 5, 10]);
+    check!(&rt; !info.symmetry);
     Ok(())
 }
 
@@ -31,7 +32,7 @@ fn sees_a_symmetric_pattern(rt: HostRuntime) -> Result<(), Fail> {
         return Err(Fail::from("not sorted"));
     };
     let (sum, _) = aat(rt.alloc(), 3, &a_p, &a_i, &mut info)?;
-    assert!(rt; [sum, info.nz, info.nz_diag] == [6, 9, 3] && info.symmetry);
+    check!(&rt; [sum, info.nz, info.nz_diag] == [6, 9, 3] && info.symmetry);
     Ok(())
 }
 
@@ -42,8 +43,8 @@ fn transposes(rt: HostRuntime) {
     let Ok((pointers, rows)) = preprocess(heap, 3i32, &[0, 3, 3, 4], &[2, 0, 2, 1, -5, 77]) else {
         panic!(rt; "no answer");
     };
-    assert!(rt; pointers.as_slice() == [0, 1, 2, 3].as_slice());
-    assert!(rt; rows.as_slice() == [0, 2, 0].as_slice());
+    check!(&rt; pointers.as_slice() == [0, 1, 2, 3].as_slice());
+    check!(&rt; rows.as_slice() == [0, 2, 0].as_slice());
 }
 
 #[test]
@@ -55,6 +56,6 @@ fn drops_repeats_up_to_the_greatest_pointer(rt: HostRuntime) {
     let Ok((pointers, rows)) = preprocess(heap, 2u8, &[0, 255, 255], &[1; 255]) else {
         panic!(rt; "no answer");
     };
-    assert!(rt; pointers.as_slice() == [0, 0, 1].as_slice());
-    assert!(rt; rows.as_slice() == [0].as_slice());
+    check!(&rt; pointers.as_slice() == [0, 0, 1].as_slice());
+    check!(&rt; rows.as_slice() == [0].as_slice());
 }

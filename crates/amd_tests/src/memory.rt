@@ -9,6 +9,7 @@ use amd::aat::aat;
 use amd::preprocess::preprocess;
 use amd::valid::valid;
 use amd::{Control, Info, Status, order, order_holding};
+use amd_testing::check;
 use amd_testing::inputs::path;
 use amd_testing::records::numbers_of;
 use amd_testing::refusing::{Refusing, Slip, each_refused};
@@ -19,7 +20,7 @@ use std::test::Fail;
 /// Asserts that some requests were refused, and that no run did wrong.
 pub fn check_refusals(rt: &impl Abort, what: &str, refusals: Result<u64, Slip>) {
     match refusals {
-        Ok(count) => assert!(rt; 0 < count, "{what}"),
+        Ok(count) => check!(rt; 0 < count, what),
         Err(slip) => panic!(rt; "{what}: {slip:?}"),
     }
 }
@@ -36,7 +37,7 @@ pub fn is_answer<A: Allocator>(
             true
         }
         Err(status) => {
-            assert!(rt; status == Status::OutOfMemory);
+            check!(rt; status == Status::OutOfMemory);
             false
         }
     }
@@ -132,7 +133,7 @@ fn calls_that_ask_no_memory(rt: HostRuntime) {
     for (n, a_p, a_i, wanted) in &WITHOUT_REQUESTS {
         assert!(rt; refusal_of(&heap, *n, a_p, a_i) == *wanted, "{n} {a_p:?}");
     }
-    assert!(rt; heap.requests() == 0);
+    check!(&rt; heap.requests() == 0);
 }
 
 /// Transposes, and says whether there was an answer.
@@ -144,12 +145,12 @@ fn transposes(rt: &impl Abort, heap: &Refusing<Global>) -> bool {
     };
     match preprocess(heap, 3, &a_p, &a_i) {
         Ok((pointers, columns)) => {
-            assert!(rt; pointers.as_slice() == [0, 1, 2, 3].as_slice());
-            assert!(rt; columns.as_slice() == [0, 2, 0].as_slice());
+            check!(rt; pointers.as_slice() == [0, 1, 2, 3].as_slice());
+            check!(rt; columns.as_slice() == [0, 2, 0].as_slice());
             true
         }
         Err(status) => {
-            assert!(rt; status == Status::OutOfMemory);
+            check!(rt; status == Status::OutOfMemory);
             false
         }
     }
@@ -170,11 +171,11 @@ fn built<A: Allocator + Copy>(alloc: A) -> Result<(Vec<i64, A>, Vec<i64, A>, Inf
 fn builds(rt: &impl Abort, heap: &Refusing<Global>) -> bool {
     match built(heap) {
         Ok((p, _, _)) => {
-            assert!(rt; p.as_slice() == [0, 3, 2, 4, 1].as_slice());
+            check!(rt; p.as_slice() == [0, 3, 2, 4, 1].as_slice());
             true
         }
         Err(status) => {
-            assert!(rt; status == Status::OutOfMemory);
+            check!(rt; status == Status::OutOfMemory);
             false
         }
     }
@@ -214,17 +215,17 @@ fn counts(rt: &impl Abort, heap: &Refusing<Global>) -> bool {
         panic!(rt; "not sorted");
     };
     let outcome = aat(heap, 5, &a_p, &a_i, &mut info);
-    assert!(rt; info.status == Status::OkButJumbled);
+    check!(rt; info.status == Status::OkButJumbled);
     match outcome {
         Ok((total, degrees)) => {
             let numbers = [5, 14, 5, 10, 105, 106, 107, 108, 109, 110, 111];
-            assert!(rt; total == 10 && degrees.as_slice() == [1, 3, 3, 1, 2].as_slice());
-            assert!(rt; numbers_of(&info) == numbers && !info.symmetry);
+            check!(rt; total == 10 && degrees.as_slice() == [1, 3, 3, 1, 2].as_slice());
+            check!(rt; numbers_of(&info) == numbers && !info.symmetry);
             true
         }
         Err(status) => {
-            assert!(rt; status == Status::OutOfMemory);
-            assert!(rt; numbers_of(&info) == numbers_of(&filled_info()) && info.symmetry);
+            check!(rt; status == Status::OutOfMemory);
+            check!(rt; numbers_of(&info) == numbers_of(&filled_info()) && info.symmetry);
             false
         }
     }

@@ -4,6 +4,7 @@
 
 use amd::valid::valid;
 use amd::{Control, Status, order};
+use amd_testing::check;
 use amd_testing::records::numbers_of;
 use num_traits::PrimInt;
 use std::alloc::Global;
@@ -29,9 +30,9 @@ fn check<I: PrimInt>(rt: &impl Abort, alloc: Global, case: &Case<I>)
     let Ok((p, p_inv, info)) = order(alloc, case.n, case.a_p, case.a_i, &Control::default()) else {
         panic!(rt; "no answer");
     };
-    assert!(rt; p.as_slice() == case.p && p_inv.as_slice() == case.p_inv);
-    assert!(rt; info.status == case.status && info.symmetry == case.symmetric);
-    assert!(rt; numbers_of(&info) == case.numbers);
+    check!(rt; p.as_slice() == case.p && p_inv.as_slice() == case.p_inv);
+    check!(rt; info.status == case.status && info.symmetry == case.symmetric);
+    check!(rt; numbers_of(&info) == case.numbers);
 }
 
 /// The numbers of a record for `n` rows without entries.
@@ -198,10 +199,10 @@ fn the_greatest_size_of_signed_types(rt: HostRuntime) {
 #[test]
 fn as_many_columns_as_a_type_has(rt: HostRuntime) {
     // As many columns as the type has, and a pointer for each and one more.
-    assert!(rt; valid(255u8, 255, &[0; 256], &[]) == Status::OK);
-    assert!(rt; valid(127i8, 127, &[0; 128], &[]) == Status::OK);
-    assert!(rt; valid(255u8, 255, &[0; 255], &[]) == Status::Invalid);
-    assert!(rt; valid(127i8, 127, &[0; 127], &[]) == Status::Invalid);
+    check!(&rt; valid(255u8, 255, &[0; 256], &[]) == Status::OK);
+    check!(&rt; valid(127i8, 127, &[0; 128], &[]) == Status::OK);
+    check!(&rt; valid(255u8, 255, &[0; 255], &[]) == Status::Invalid);
+    check!(&rt; valid(127i8, 127, &[0; 127], &[]) == Status::Invalid);
 }
 
 /// The power of 2 just past the greatest `u64`.
@@ -210,9 +211,9 @@ const PAST: u128 = 18446744073709551616;
 #[test]
 fn inputs_past_the_ends(rt: HostRuntime) {
     let heap = rt.alloc();
-    assert!(rt; is_refused(heap, PAST, &[0], &[]));
-    assert!(rt; is_refused(heap, 1u128, &[0, PAST], &[0]));
-    assert!(rt; is_refused(heap, 1u128, &[0, 1], &[PAST]));
+    check!(&rt; is_refused(heap, PAST, &[0], &[]));
+    check!(&rt; is_refused(heap, 1u128, &[0, PAST], &[0]));
+    check!(&rt; is_refused(heap, 1u128, &[0, 1], &[PAST]));
     let ignored: Case<u128> = Case {
         n: 1,
         a_p: &[0, 0, PAST],

@@ -10,8 +10,8 @@ use amd_testing::factors::Factor;
 use amd_testing::inputs::{
     complete_below, cycle, drawn, drawn_with_hub, grid, path, star, star_to_last,
 };
-use amd_testing::plain;
 use amd_testing::records::numbers_of;
+use amd_testing::{check, plain};
 use std::alloc::{AllocError, Global};
 use std::process::Abort;
 use std::test::Fail;
@@ -177,12 +177,12 @@ fn a_complete_graph_with_many_entries(rt: HostRuntime) -> Result<(), Fail> {
         panic!(rt; "no answer");
     };
     for place in 0..363 {
-        assert!(rt; plain::count_at(&p, place) == place);
+        check!(&rt; plain::count_at(&p, place) == place);
     }
     let numbers = [
         363, 65703, 0, 131406, 0, 0, 65703, 65703, 7971964, 15878225, 363,
     ];
-    assert!(rt; numbers_of(&info) == numbers);
+    check!(&rt; numbers_of(&info) == numbers);
     Ok(())
 }
 

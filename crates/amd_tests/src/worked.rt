@@ -7,6 +7,7 @@ use crate::holding::check_nothing_held;
 use crate::small_matrices::SMALL_MATRICES;
 use amd::{Control, Info, Status, order};
 use amd_demos::can_24::{JUMBLED_POINTERS, JUMBLED_ROWS, POINTERS, ROWS};
+use amd_testing::check;
 use amd_testing::plain::are_inverse;
 use amd_testing::records::numbers_of;
 use std::alloc::{AllocError, Global};
@@ -59,7 +60,7 @@ fn is_told(case: &Case, info: &Info) -> bool {
 /// Asserts that an answer is that of a case.
 pub fn check_answer(rt: &impl Abort, case: &Case, p: &[i64], p_inv: &[i64], info: &Info) {
     let is_ordered = p == case.p && are_inverse(info.n, p, p_inv);
-    assert!(rt; is_ordered && is_told(case, info), "{}", case.what);
+    check!(rt; is_ordered && is_told(case, info), case.what);
 }
 
 /// Asserts that `order` gives the answer of a case, also with nothing held, and that its figures bound what the factor
@@ -93,7 +94,7 @@ fn small_matrices(rt: HostRuntime) -> Result<(), Fail> {
 
 /// Asserts that a record is that of a matrix without rows.
 pub fn check_nothing(rt: &impl Abort, info: &Info) {
-    assert!(rt; info.status == Status::OK && !info.symmetry && numbers_of(info) == [0; 11]);
+    check!(rt; info.status == Status::OK && !info.symmetry && numbers_of(info) == [0; 11]);
 }
 
 #[test]
@@ -102,7 +103,7 @@ fn matrices_without_rows(rt: HostRuntime) {
         let Ok((p, p_inv, info)) = order(rt.alloc(), 0i64, a_p, &[], &Control::default()) else {
             panic!(rt; "no answer");
         };
-        assert!(rt; p.is_empty() && p_inv.is_empty());
+        check!(&rt; p.is_empty() && p_inv.is_empty());
         check_nothing(&rt, &info);
     }
 }
