@@ -74,7 +74,17 @@ module _ {n : ℕ} {iw pe e_len : List ℤ} {len : List ℕ} {free : ℕ} (y : L
       own_same = rows_same iw iw' (start pe me) (start pe me) (place (word e_len me)) (λ k l.
           b.below (start pe me + k) (let a = y.within me own in let c = y.parts me own in omega (arith, a, c, l)))
 
+      pub own_read : {from count : ℕ} → from ≡ start pe me → count ≡ place (word e_len me) → rows iw' from count ≡ elements_in iw pe e_len me
+      own_read {from} {count} f c = ap (λ s. rows iw' s count) f ∙ ap (rows iw' (start pe me)) c ∙ own_same
+
+      pub own_names : Names n iw' (start pe me) (place (word e_len me))
+      own_names k l = let a = y.within me own in let c = y.parts me own in let before : start pe me + k < free = omega (arith, a, c, l) in
+          subst (λ z. (is_place z ≡ true) × (place z < n)) (sym (b.below (start pe me + k) before)) (y.words (start pe me + k) before)
+
 -- ---- the whole
+
+pub start_set : (pe : List ℤ) (me free : ℕ) → me < length pe → start (set pe me (pos free)) me ≡ free
+start_set pe me free l = ap place (get_or-set_same pe me (pos free) (pos 0) l) ∙ place_of free
 
 has_not : (pe : List ℤ) (len : List ℕ) (j : ℕ) → is_place (word pe j) ≡ false → has_list pe len j ≡ false
 unfolding has_list
@@ -226,3 +236,12 @@ module _ {n me : ℕ} {iw nv pe e_len : List ℤ} {len : List ℕ} {free : ℕ} 
     fewer = fewer_now;
     laid = laid_now;
   }
+
+  -- the same of lists that are equal to these
+  pub makes_as : {pe2 e_len2 : List ℤ} {len2 : List ℕ} → pe2 ≡ pe' → e_len2 ≡ e_len' → len2 ≡ len' →
+      Makes n me es (front_of iw nv pe len me (place (word e_len me))) total iw pe e_len len free iw' pe2 e_len2 len2 end
+  makes_as {pe2} {e_len2} {len2} p e l =
+      subst (λ q. Makes n me es (front_of iw nv pe len me (place (word e_len me))) total iw pe e_len len free iw' q e_len2 len2 end) (sym p)
+      (subst (λ q. Makes n me es (front_of iw nv pe len me (place (word e_len me))) total iw pe e_len len free iw' pe' q len2 end) (sym e)
+      (subst (λ q. Makes n me es (front_of iw nv pe len me (place (word e_len me))) total iw pe e_len len free iw' pe' e_len' q end) (sym l)
+      makes))
