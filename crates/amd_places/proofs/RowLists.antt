@@ -1,13 +1,13 @@
 -- The rows that words name.
 use Rattle.std.proofs.Common.{ℕ, ℤ, true, List, [], ◌∷◌, ◌++◌, zero, suc, ◌≡◌, ◌<◌, ◌≤◌, ◌+◌, ◌-◌}
-use Rattle.std.proofs.Common.{◌||◌, inl, inr, false, refl, sym, ap, ◌∙◌}
+use Rattle.std.proofs.Common.{◌||◌, inl, inr, false, refl, sym, ap, subst, ◌∙◌}
 use Rattle.std.proofs.Common.{arith, append_assoc, length}
 use Rattle.std.proofs.lemmas.List.{length-append}
 use Rattle.std.proofs.lemmas.Bool.{cases_eq, eq-eqb, or_left, or_right}
 use Rattle.std.specs.Prelude.{◌==◌}
 use Rattle.amd_model.specs.Quotient.{has}
 use Rattle.amd_model.proofs.Quotient.Lists.{has_append}
-use Rattle.amd_places.specs.Words.{word, place, rows}
+use Rattle.amd_places.specs.Words.{word, place, rows, Names}
 
 pub rows_none : (iw : List ℤ) (from : ℕ) → rows iw from 0 ≡ []
 unfolding rows
@@ -16,6 +16,15 @@ rows_none iw from = refl
 pub rows_more : (iw : List ℤ) (from n : ℕ) → rows iw from (n + 1) ≡ rows iw from n ++ place (word iw (from + n)) ∷ []
 unfolding rows
 rows_more iw from n = let e : n + 1 ≡ suc n = omega arith in ap (rows iw from) e
+
+-- the same range of words, under equal numbers
+pub rows_at : (iw : List ℤ) {from count from' count' : ℕ} → from ≡ from' → count ≡ count' → rows iw from count ≡ rows iw from' count'
+rows_at iw {from} {count} {from'} {count'} f c = ap (λ s. rows iw s count) f ∙ ap (rows iw from') c
+
+pub names_at : (iw : List ℤ) {n from count n' from' count' : ℕ} → n ≡ n' → from ≡ from' → count ≡ count' →
+    Names n iw from count → Names n' iw from' count'
+names_at iw {n} {from} {count} {n'} {from'} {count'} e f c h = subst (λ m. Names m iw from' count') e
+    (subst (λ s. Names n iw s count') f (subst (λ k. Names n iw from k) c h))
 
 -- the same words name the same rows
 pub rows_same : (iw iw' : List ℤ) (from from' count : ℕ) → ((k : ℕ) → k < count → word iw' (from' + k) ≡ word iw (from + k)) →

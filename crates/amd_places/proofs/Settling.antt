@@ -14,7 +14,7 @@ use Rattle.amd_places.specs.Element.{front_of, IsListLaid, ListsLaid, Builds}
 use Rattle.amd_places.specs.Layout.{has_list, elements_in, list_in, Layout, live_words}
 use Rattle.amd_places.specs.Making.{Makes}
 use Rattle.amd_places.proofs.Signs.{place_of, is_place_of, mark_no_place, mark_none}
-use Rattle.amd_places.proofs.RowLists.{rows_none, rows_more, rows_same, rows_length}
+use Rattle.amd_places.proofs.RowLists.{rows_none, rows_more, rows_same, rows_length, rows_at}
 use Rattle.amd_places.proofs.RoundWords.{words_fall, front_words}
 use Rattle.amd_places.proofs.Frames.{has_parts, has_same, relaid}
 
@@ -75,7 +75,7 @@ module _ {n : ℕ} {iw pe e_len : List ℤ} {len : List ℕ} {free : ℕ} (y : L
           b.below (start pe me + k) (let a = y.within me own in let c = y.parts me own in omega (arith, a, c, l)))
 
       pub own_read : {from count : ℕ} → from ≡ start pe me → count ≡ place (word e_len me) → rows iw' from count ≡ elements_in iw pe e_len me
-      own_read {from} {count} f c = ap (λ s. rows iw' s count) f ∙ ap (rows iw' (start pe me)) c ∙ own_same
+      own_read f c = rows_at iw' f c ∙ own_same
 
       pub own_names : Names n iw' (start pe me) (place (word e_len me))
       own_names k l = let a = y.within me own in let c = y.parts me own in let before : start pe me + k < free = omega (arith, a, c, l) in

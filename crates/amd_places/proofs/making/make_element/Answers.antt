@@ -1,9 +1,9 @@
-use Rattle.std.proofs.Common.{pos, get_or-set_same, ℕ, ℤ, List, ◌≡◌, ◌≤◌, ◌+◌, ◌-◌, sym, ap, subst, ◌∙◌, arith, refl, length, cond}
+use Rattle.std.proofs.Common.{ℕ, ℤ, List, ◌≡◌, ◌≤◌, ◌+◌, ◌-◌, sym, ap, subst, ◌∙◌, arith, refl, length, cond}
 use Rattle.amd_model.specs.Quotient.{has}
-use Rattle.amd_places.specs.Words.{num, word, place, start, rows, flip_of, Names}
+use Rattle.amd_places.specs.Words.{num, word, place, start, rows, flip_of}
 use Rattle.amd_places.specs.Element.{front_of, ListsLaid, Builds}
 use Rattle.amd_places.specs.Layout.{elements_in}
-use Rattle.amd_places.proofs.RowLists.{rows_length}
+use Rattle.amd_places.proofs.RowLists.{rows_length, names_at}
 use Rattle.amd_places.proofs.Frames.{has_parts}
 use Rattle.amd_places.proofs.Settling.{lists_laid, own_names, own_read, start_set, makes_as}
 use Rattle.amd_places.proofs.making.make_element.Goals as goal
@@ -16,11 +16,9 @@ build-end-requires-clause-laid g c = subst (λ m. ListsLaid c.args.iw.now c.args
     c.args.free c.args.me m) (sym c.named-n_elements.ensures) (lists_laid c.requires.laid c.args.me c.requires.listed c.requires.elements)
 
 pub absorb_own-requires-clause-names : goal.absorb_own-requires-clause-names
-absorb_own-requires-clause-names g c =
-    let names = own_names c.requires.laid c.args.me c.requires.listed c.requires.elements c.build-end.ensures in
-    subst (λ n. Names n c.build-end.new.iw c.named-from.result c.named-n_elements.result) (sym c.requires.lengths.0)
-    (subst (λ s. Names (length c.args.nv.now) c.build-end.new.iw s c.named-n_elements.result) (sym c.named-from.ensures)
-    (subst (λ m. Names (length c.args.nv.now) c.build-end.new.iw (start c.args.pe.now c.args.me) m) (sym c.named-n_elements.ensures) names))
+absorb_own-requires-clause-names g c = names_at c.build-end.new.iw (sym c.requires.lengths.0) (sym c.named-from.ensures)
+    (sym c.named-n_elements.ensures)
+    (own_names c.requires.laid c.args.me c.requires.listed c.requires.elements c.build-end.ensures)
 
 pub absorb_own-requires-clause-inside : goal.absorb_own-requires-clause-inside
 absorb_own-requires-clause-inside g c =
