@@ -22,6 +22,14 @@ unfolding has
 own_none iw nv from = gathers_none iw nv from from 0 (omega arith) (λ k l. absurd (omega (arith, l))) (λ j h.
     absurd (true≢false (sym h ∙ ap (λ l. has l j) (rows_start iw from)))) (sym (ap (sum_by (size_of nv)) (rows_start iw from)))
 
+-- the same gathering, under equal numbers
+pub gathers_at : {iw nv : List ℤ} {from count from' count' : ℕ} {iw' nv' : List ℤ} {end total : ℕ} → from ≡ from' → count ≡ count' →
+    Gathers iw nv from from (classes nv (rows iw from count)) iw' nv' end total →
+    Gathers iw nv from' from' (classes nv (rows iw from' count')) iw' nv' end total
+gathers_at {iw} {nv} {from} {count} {from'} {count'} {iw'} {nv'} {end} {total} f c h =
+    subst (λ s. Gathers iw nv s s (classes nv (rows iw s count')) iw' nv' end total) f
+    (subst (λ m. Gathers iw nv from from (classes nv (rows iw from m)) iw' nv' end total) c h)
+
 -- what is kept of some words ends no later than they do
 pub own_end : {iw nv : List ℤ} {from : ℕ} {iw' nv' : List ℤ} {end total : ℕ} (n : ℕ) →
     Gathers iw nv from from (classes nv (rows iw from n)) iw' nv' end total → end ≤ from + n
@@ -132,3 +140,9 @@ module _ {n me : ℕ} {iw nv pe e_len : List ℤ} {len : List ℕ} {free : ℕ} 
           ]
         ]);
   }
+
+  -- the same of lists that are equal to these
+  pub own_makes_as : {e_len2 : List ℤ} {len2 : List ℕ} → e_len2 ≡ e_len' → len2 ≡ len' →
+      Makes n me [] front total iw pe e_len len free iw' pe e_len2 len2 free
+  own_makes_as {e_len2} {len2} e l = subst (λ q. Makes n me [] front total iw pe e_len len free iw' pe q len2 free) (sym e)
+      (subst (λ q. Makes n me [] front total iw pe e_len len free iw' pe e_len' q free) (sym l) own_makes)
