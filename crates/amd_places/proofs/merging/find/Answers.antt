@@ -1,10 +1,55 @@
-use Rattle.std.proofs.Common.{ℕ, ℤ, List, ◌≡◌, inl, inr, true, cond, sym, ap, ◌∙◌, ◌+◌, ◌-◌, length, subst}
+use Rattle.std.proofs.Common.{ℕ, ℤ, List, ◌≡◌, inl, inr, true, cond, refl, arith, sym, ap, ◌∙◌, ◌+◌, ◌-◌, length, subst}
 use Rattle.amd_model.specs.Quotient.{has}
 use Rattle.amd_places.specs.Words.{num, word, place, start, rows}
 use Rattle.amd_views.specs.Rounds.{alike_in}
-use Rattle.amd_places.specs.Merging.{Finds, bucket, looks, kept_of, near_of, words_of}
+use Rattle.amd_places.specs.Merging.{Finds, IsRenewed, bucket, looks, kept_of, near_of, words_of}
+use Rattle.amd_places.proofs.RowLists.{names_at}
 use Rattle.amd_places.proofs.Likeness.{looks_alike}
 use Rattle.amd_places.proofs.merging.find.Goals as goal
+
+pub named-from-requires-clause-inside : goal.named-from-requires-clause-inside
+named-from-requires-clause-inside g c = let a = c.requires.here.row in let n = c.requires.lengths.0 in omega (arith, a, n)
+
+pub named-from-requires-clause-is_one : goal.named-from-requires-clause-is_one
+named-from-requires-clause-is_one g c = c.requires.here.starts
+
+pub named-few-requires-clause-inside : goal.named-few-requires-clause-inside
+named-few-requires-clause-inside g c = let a = c.requires.here.row in let n = c.requires.lengths.1 in omega (arith, a, n)
+
+pub named-few-requires-clause-is_one : goal.named-few-requires-clause-is_one
+named-few-requires-clause-is_one g c = c.requires.here.counts
+
+pub figure_at-count-requires : goal.figure_at-count-requires
+figure_at-count-requires g c = let a = c.requires.here.row in let n = c.requires.lengths.2 in omega (arith, a, n)
+
+pub spread-requires-clause-fits : goal.spread-requires-clause-fits
+spread-requires-clause-fits g c = c.requires.fits
+
+pub spread-requires-clause-inside : goal.spread-requires-clause-inside
+spread-requires-clause-inside g c =
+    let f = c.named-from.ensures in let n = c.figure_at-count.ensures.is in let h = c.requires.here in
+    let a = h.some in let b = h.parts in let w = h.within in omega (arith, f, n, a, b, w)
+
+pub spread-requires-clause-names : goal.spread-requires-clause-names
+spread-requires-clause-names g c = names_at c.args.iw.now refl (ap (λ s. s + 1) (sym c.named-from.ensures))
+    (ap (λ m. m - 1) (sym c.figure_at-count.ensures.is)) c.requires.here.names
+
+pub walk-requires-clause-lengths : goal.walk-requires-clause-lengths
+walk-requires-clause-lengths g c = let l = c.requires.lengths in let w = sym c.spread.ensures.long in
+    (l.0 ∙ w, l.1 ∙ w, l.2 ∙ w, l.3 ∙ w)
+
+pub walk-requires-clause-short : goal.walk-requires-clause-short
+walk-requires-clause-short g c = c.requires.short
+
+pub walk-requires-clause-chain : goal.walk-requires-clause-chain
+walk-requires-clause-chain g c = c.requires.chain
+
+pub walk-requires-clause-members : goal.walk-requires-clause-members
+walk-requires-clause-members g c j h = subst (λ n. IsRenewed n c.args.iw.now c.args.pe.now c.args.e_len.now c.args.len.now j)
+    (sym c.spread.ensures.long) (c.requires.members j h)
+
+pub returns-clause-long : goal.returns-clause-long
+returns-clause-long g c = c.spread.ensures.long
 
 pub returns-clause-found : goal.returns-clause-found
 returns-clause-found g c =
