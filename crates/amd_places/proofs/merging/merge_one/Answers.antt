@@ -28,6 +28,52 @@ returns-then-head-next-clause-settles g c =
       },
     )
 
+pub figure_at-key-requires : goal.figure_at-key-requires
+figure_at-key-requires g c = let a = c.requires.ready.here.row in let n = c.requires.lengths.7 in omega (arith, a, n)
+
+pub figure_at-head-requires : goal.figure_at-head-requires
+figure_at-head-requires g c =
+    let e = c.figure_at-key.ensures.is in let k = c.requires.ready.key in let n = c.requires.lengths.5 in omega (arith, e, k, n)
+
+pub push-requires-clause-inside : goal.push-requires-clause-inside
+push-requires-clause-inside g c =
+    let e = c.figure_at-key.ensures.is in let k = c.requires.ready.key in let n = c.requires.lengths.5 in
+    (c.requires.ready.here.row, (omega (arith, e, k, n)))
+
+pub push-requires-clause-short : goal.push-requires-clause-short
+push-requires-clause-short g c = c.requires.short.2
+
+pub push-requires-else-found-next-clause-inside : goal.push-requires-else-found-next-clause-inside
+push-requires-else-found-next-clause-inside g c =
+    let e = c.figure_at-key.ensures.is in let k = c.requires.ready.key in let n = c.requires.lengths.5 in
+    (c.requires.ready.here.row, (omega (arith, e, k, n)))
+
+pub push-requires-else-found-next-clause-short : goal.push-requires-else-found-next-clause-short
+push-requires-else-found-next-clause-short g c = c.requires.short.2
+
+pub find-found-requires-clause-lengths : goal.find-found-requires-clause-lengths
+find-found-requires-clause-lengths g c = let l = c.requires.lengths in let w = sym l.4 in (l.0 ∙ w, l.1 ∙ w, l.3 ∙ w, w)
+
+pub find-found-requires-clause-short : goal.find-found-requires-clause-short
+find-found-requires-clause-short g c = c.requires.short.0
+
+pub find-found-requires-clause-under : goal.find-found-requires-clause-under
+find-found-requires-clause-under g c = c.requires.under
+
+pub find-found-requires-clause-fits : goal.find-found-requires-clause-fits
+find-found-requires-clause-fits g c = let r = c.requires.room in omega (arith, r)
+
+pub merge-requires-clause-lengths : goal.merge-requires-clause-lengths
+merge-requires-clause-lengths g c = let l = c.requires.lengths in let n = sym l.2 in (l.0 ∙ n, l.1 ∙ n)
+
+pub merge-requires-clause-inside : goal.merge-requires-clause-inside
+merge-requires-clause-inside g c =
+    let a = c.requires.ready.here.row in let n = c.requires.lengths.2 in let f = c.if-found-next.true in
+    ((omega (arith, a, n)), (omega (arith, f, n)))
+
+pub merge-requires-clause-short : goal.merge-requires-clause-short
+merge-requires-clause-short g c = let s = c.requires.short.1 in let n = c.requires.lengths.2 in omega (arith, s, n)
+
 pub find-found-requires-clause-here : goal.find-found-requires-clause-here
 find-found-requires-clause-here g c = rw c.requires.lengths.4 c.requires.ready.here
 
