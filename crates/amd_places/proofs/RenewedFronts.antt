@@ -136,6 +136,15 @@ one_from n me kept is_apart i few count iw pe e_len len iw' small_e small_l h =
       lengths = λ j ne. get_or-set_other len i j count 0 ne;
     }
 
+-- the same of lists that are equal to those
+pub one_from_as : {n me : ℕ} {kept is_apart : ℕ → Bool} {i : ℕ} {iw pe e_len : List ℤ} {len : List ℕ} {iw' e_len' : List ℤ}
+    {len' : List ℕ} (few count : ℕ) → e_len' ≡ set e_len i (pos few) → len' ≡ set len i count →
+    RenewsOne n me kept is_apart i iw pe e_len len iw' (set e_len i (pos few)) (set len i count) →
+    RenewsOne n me kept is_apart i iw pe e_len len iw' e_len' len'
+one_from_as {n} {me} {kept} {is_apart} {i} {iw} {pe} {e_len} {len} {iw'} {e_len'} {len'} few count a b h =
+    subst (λ q. RenewsOne n me kept is_apart i iw pe e_len len iw' q len') (sym a)
+    (subst (λ q. RenewsOne n me kept is_apart i iw pe e_len len iw' (set e_len i (pos few)) q) (sym b) h)
+
 module _ {n me : ℕ} {kept is_apart : ℕ → Bool} {iw pe e_len : List ℤ} {len : List ℕ} {free : ℕ} (y : Layout n iw pe e_len len free)
     (starts : is_place (word pe me) ≡ true)
     (apart : has (list_in iw pe len me) me ≡ false) (once : Once (list_in iw pe len me)) {iw1 e_len1 : List ℤ} {len1 : List ℕ} (k : ℕ)
