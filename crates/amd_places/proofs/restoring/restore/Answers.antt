@@ -1,6 +1,6 @@
 -- The goals of restoring::restore.
 use Rattle.amd_model.proofs.Counting.Below.{clash}
-use Rattle.std.proofs.Common.{ℕ, ℤ, List, [], ◌∷◌, true, false, ◌≡◌, ◌<◌, ◌≤◌, ◌+◌, ◌-◌, ◌&&◌}
+use Rattle.std.proofs.Common.{ℕ, ℤ, Bool, List, [], ◌∷◌, true, false, ◌≡◌, ◌<◌, ◌≤◌, ◌+◌, ◌-◌, ◌&&◌}
 use Rattle.std.proofs.Common.{not, inl, inr, refl, sym, ap, subst, ◌∙◌}
 use Rattle.std.proofs.Common.{arith, cond, length, fold, set, get_or-set_same, get_or-set_other}
 use Rattle.std.specs.Prelude.{min, nat_lt, ◌==◌}
@@ -10,7 +10,7 @@ use Rattle.std.proofs.lemmas.List.Sums.{fold-append}
 use Rattle.amd_model.specs.Quotient.{has}
 use Rattle.amd_model.proofs.Listings.Words.{has_filter as filter_gives}
 use Rattle.amd_views.proofs.Lists.Cuts.{cut_small}
-use Rattle.amd_places.specs.Words.{num, word, place, is_place, size_of, in_front, rows}
+use Rattle.amd_places.specs.Words.{num, word, place, is_place, size_of, in_front, rows, Names}
 use Rattle.amd_places.specs.Chains.{DegreeLists}
 use Rattle.amd_places.specs.Renewal.{Filters}
 use Rattle.amd_places.specs.Restoring.{marked_in, bound_in, put_all, Restores}
@@ -26,6 +26,19 @@ use Rattle.amd_places.proofs.FrontBack.{marked_none, marked_next, marked_skip}
 use Rattle.amd_places.proofs.FrontBack.{rows_other, rows_fresh, rows_small, put_none, put_more, put_gives, no_head}
 use Rattle.amd_places.proofs.restoring.restore.Goals as goal
 use Rattle.amd_places.proofs.restoring.restore.Goals.{then-is_marked, else-is_marked}
+
+-- the word that the loop is at stands as it was
+module _ {n m : ℕ} {pass : ℕ → Bool} {share : ℕ → ℕ} {iw iw' : List ℤ} {from count p end : ℕ} (names : Names n iw from count)
+    (after : from ≤ p) (l : p - from < count) (h : Filters m pass share 0 iw from (p - from) from iw' end 0) where
+  word_same : word iw' p ≡ word iw (from + (p - from))
+  word_same = let at : p ≡ from + (p - from) = omega (arith, after) in let high = h.high in
+      h.above p (omega (arith, high, at)) ∙ ap (word iw) at
+
+  word_row : place (word iw' p) ≡ place (word iw (from + (p - from)))
+  word_row = ap place word_same
+
+  word_one : is_place (word iw' p) ≡ true
+  word_one = ap is_place word_same ∙ (names (p - from) l).0
 
 pub loop-p-init : goal.loop-p-init
 unfolding has
@@ -49,74 +62,49 @@ loop-p-init g c =
 
 pub named-i-requires-clause-is_one : goal.named-i-requires-clause-is_one
 named-i-requires-clause-is_one g c =
-    let iw : List ℤ = c.args.iw.now in let nv : List ℤ = c.args.nv.now in let degree : List ℕ = c.args.degree.now in
-    let n : ℕ = length c.args.next.now in let from : ℕ = c.args.from in let p : ℕ = c.loop-p.p in let k : ℕ = p - from in
-    let after : from ≤ p = c.loop-p.auto.p in let t = c.loop-p-test.true in let at : p ≡ from + k = omega (arith, after) in
-    let l : k < c.args.count = omega (arith, after, t) in let next : p + 1 - from ≡ k + 1 = omega (arith, after) in
-    let was = c.loop-p.invariant in let h = was.filters in let word_k = c.requires.front.1 k l in let high = h.high in
-    let same : word c.loop-p.iw p ≡ word iw p = h.above p (omega (arith, high, at)) in
-    let is_one : is_place (word iw p) ≡ true = ap (λ m. is_place (word iw m)) at ∙ word_k.0 in
-    let small : place (word iw p) < n = (let a = ap (λ m. place (word iw m)) at in let b = word_k.1 in omega (arith, a, b)) in
-    ap is_place same ∙ is_one
+    let after : c.args.from ≤ c.loop-p.p = c.loop-p.auto.p in let t = c.loop-p-test.true in
+    word_one c.requires.front.1 after (omega (arith, after, t)) c.loop-p.invariant.filters
 
 pub is_marked-requires : goal.is_marked-requires
 is_marked-requires g c =
-    let iw : List ℤ = c.args.iw.now in let nv : List ℤ = c.args.nv.now in let degree : List ℕ = c.args.degree.now in
-    let n : ℕ = length c.args.next.now in let from : ℕ = c.args.from in let p : ℕ = c.loop-p.p in let k : ℕ = p - from in
-    let after : from ≤ p = c.loop-p.auto.p in let t = c.loop-p-test.true in let at : p ≡ from + k = omega (arith, after) in
-    let l : k < c.args.count = omega (arith, after, t) in let next : p + 1 - from ≡ k + 1 = omega (arith, after) in
-    let was = c.loop-p.invariant in let h = was.filters in let word_k = c.requires.front.1 k l in let high = h.high in
-    let same : word c.loop-p.iw p ≡ word iw p = h.above p (omega (arith, high, at)) in
-    let is_one : is_place (word iw p) ≡ true = ap (λ m. is_place (word iw m)) at ∙ word_k.0 in
-    let small : place (word iw p) < n = (let a = ap (λ m. place (word iw m)) at in let b = word_k.1 in omega (arith, a, b)) in
-    let i : ℕ = c.named-i.result in let row : i ≡ place (word iw p) = c.named-i.ensures ∙ ap place same in
-    let is : i ≡ place (word iw (from + k)) = row ∙ ap (λ m. place (word iw m)) at in let tiny : i < n = omega (arith, row, small) in
-    let named : has (rows iw from c.args.count) i ≡ true = ap (has (rows iw from c.args.count)) is ∙ rows_has iw from c.args.count k l in
-    let fresh : has (rows iw from k) i ≡ false = ap (has (rows iw from k)) is ∙ fresh_word iw from c.args.count k l c.requires.front.2 in
-    let bound : ℕ → ℕ = bound_in c.args.border c.args.left nv degree in
-    let mark_same : in_front c.loop-p.nv i ≡ in_front nv i = was.restores.marks i
-    ∙ ap (λ b. in_front nv i && not b) fresh ∙ and-true (in_front nv i) in
-    let bound_same : num c.loop-p.degree i ≡ num degree i = was.restores.bounds i
-    ∙ cond-false (has (rows iw from k) i) (cond (in_front nv i) (bound i) (num degree i)) (num degree i) fresh in
-    let last_same : num c.loop-p.last i ≡ num c.args.last.now i = was.lasts i named fresh in
-    let size_same = was.restores.sizes in let long = was.lengths in
-    omega (arith, tiny, long)
+    let after : c.args.from ≤ c.loop-p.p = c.loop-p.auto.p in let t = c.loop-p-test.true in
+    let e = c.named-i.ensures in
+    let s = word_row c.requires.front.1 after (omega (arith, after, t)) c.loop-p.invariant.filters in
+    let small = (c.requires.front.1 (c.loop-p.p - c.args.from) (omega (arith, after, t))).1 in
+    let long = c.loop-p.invariant.lengths.0 in omega (arith, e, s, small, long)
 
 pub place_class-bound-requires : goal.place_class-bound-requires
 place_class-bound-requires g c =
     let iw : List ℤ = c.args.iw.now in let nv : List ℤ = c.args.nv.now in let degree : List ℕ = c.args.degree.now in
-    let n : ℕ = length c.args.next.now in let from : ℕ = c.args.from in let p : ℕ = c.loop-p.p in let k : ℕ = p - from in
-    let after : from ≤ p = c.loop-p.auto.p in let t = c.loop-p-test.true in let at : p ≡ from + k = omega (arith, after) in
-    let l : k < c.args.count = omega (arith, after, t) in let next : p + 1 - from ≡ k + 1 = omega (arith, after) in
-    let was = c.loop-p.invariant in let h = was.filters in let word_k = c.requires.front.1 k l in let high = h.high in
-    let same : word c.loop-p.iw p ≡ word iw p = h.above p (omega (arith, high, at)) in
-    let is_one : is_place (word iw p) ≡ true = ap (λ m. is_place (word iw m)) at ∙ word_k.0 in
-    let small : place (word iw p) < n = (let a = ap (λ m. place (word iw m)) at in let b = word_k.1 in omega (arith, a, b)) in
-    let i : ℕ = c.named-i.result in let row : i ≡ place (word iw p) = c.named-i.ensures ∙ ap place same in
-    let is : i ≡ place (word iw (from + k)) = row ∙ ap (λ m. place (word iw m)) at in let tiny : i < n = omega (arith, row, small) in
+    let from : ℕ = c.args.from in let k : ℕ = c.loop-p.p - from in
+    let after : from ≤ c.loop-p.p = c.loop-p.auto.p in let t = c.loop-p-test.true in
+    let l : k < c.args.count = omega (arith, after, t) in
+    let was = c.loop-p.invariant in let i : ℕ = c.named-i.result in
+    let is : i ≡ place (word iw (from + k)) = c.named-i.ensures ∙ word_row c.requires.front.1 after l was.filters in
+    let small = (c.requires.front.1 k l).1 in
     let named : has (rows iw from c.args.count) i ≡ true = ap (has (rows iw from c.args.count)) is ∙ rows_has iw from c.args.count k l in
     let fresh : has (rows iw from k) i ≡ false = ap (has (rows iw from k)) is ∙ fresh_word iw from c.args.count k l c.requires.front.2 in
-    let bound : ℕ → ℕ = bound_in c.args.border c.args.left nv degree in
     let mark_same : in_front c.loop-p.nv i ≡ in_front nv i = was.restores.marks i
     ∙ ap (λ b. in_front nv i && not b) fresh ∙ and-true (in_front nv i) in
     let bound_same : num c.loop-p.degree i ≡ num degree i = was.restores.bounds i
-    ∙ cond-false (has (rows iw from k) i) (cond (in_front nv i) (bound i) (num degree i)) (num degree i) fresh in
+    ∙ cond-false (has (rows iw from k) i) (cond (in_front nv i) (bound_in c.args.border c.args.left nv degree i) (num degree i))
+    (num degree i) fresh in
     let last_same : num c.loop-p.last i ≡ num c.args.last.now i = was.lasts i named fresh in
-    let size_same = was.restores.sizes in let long = was.lengths in
+    let long = was.lengths in let next = long.3 in
     let here : in_front c.loop-p.nv i ≡ true = sym c.is_marked.ensures ∙ c.if-is_marked.true in
-    let old = c.requires.classes i named (sym mark_same ∙ here) in let s = size_same i in let order = c.requires.order in
-    let short = c.requires.short in record {
-      lengths = ((omega (arith, long)), (omega (arith, long)), (omega (arith, long)), (omega (arith, long)), (omega (arith, long)));
-      short = ((omega (arith, short, long)), (omega (arith, short, long)));
-      row = omega (arith, tiny, long);
+    let old = c.requires.classes i named (sym mark_same ∙ here) in let s = was.restores.sizes i in let order = c.requires.order in
+    let short = c.requires.short in let n = sym next in record {
+      lengths = (long.0 ∙ n, long.1 ∙ n, long.2 ∙ n, long.4 ∙ n, long.5 ∙ n);
+      short = (let a = short.1 in omega (arith, a, next), (let a = short.2 in omega (arith, a, next)));
+      row = omega (arith, is, small, next);
       marked = here;
       class = record {
         class = (let a = old.class in omega (arith, a, s));
         part = (let a = old.part in omega (arith, a, s));
-        bound = (let a = old.bound in omega (arith, a, bound_same, long));
-        key = (let a = old.key in omega (arith, a, last_same, long));
+        bound = (let a = old.bound in omega (arith, a, bound_same, next));
+        key = (let a = old.key in omega (arith, a, last_same, next));
       };
-      order = (order.0, (omega (arith, order, long)));
+      order = (order.0, (let a = order.1 in omega (arith, a, next)));
     }
 
 pub loop-p-preserved : goal.loop-p-preserved
