@@ -40,6 +40,39 @@ module _ {n m : ℕ} {pass : ℕ → Bool} {share : ℕ → ℕ} {iw iw' : List 
   word_one : is_place (word iw' p) ≡ true
   word_one = ap is_place word_same ∙ (names (p - from) l).0
 
+-- the parts of the invariant, of values that are equal to others
+filters_as : {n : ℕ} {pass : ℕ → Bool} {share : ℕ → ℕ} {iw : List ℤ} {from k k' : ℕ} {iw1 iw2 : List ℤ} {end1 end2 : ℕ} →
+    k' ≡ k → iw2 ≡ iw1 → end2 ≡ end1 → Filters n pass share 0 iw from k from iw1 end1 0 → Filters n pass share 0 iw from k' from iw2 end2 0
+filters_as {n} {pass} {share} {iw} {from} {k} {k'} {iw1} {iw2} {end1} {end2} a b d h =
+    subst (λ q. Filters n pass share 0 iw from q from iw2 end2 0) (sym a)
+    (subst (λ q. Filters n pass share 0 iw from k from q end2 0) (sym b)
+    (subst (λ q. Filters n pass share 0 iw from k from iw1 q 0) (sym d) h))
+
+restores_as : (iw : List ℤ) (from : ℕ) {border left least : ℕ} {nv : List ℤ} {degree : List ℕ} {k k' : ℕ} {nv1 nv2 : List ℤ}
+    {degree1 degree2 : List ℕ} {low1 low2 : ℕ} → k' ≡ k → nv2 ≡ nv1 → degree2 ≡ degree1 → low2 ≡ low1 →
+    Restores (rows iw from k) border left least nv degree nv1 degree1 low1 →
+    Restores (rows iw from k') border left least nv degree nv2 degree2 low2
+restores_as iw from {border} {left} {least} {nv} {degree} {k} {k'} {nv1} {nv2} {degree1} {degree2} {low1} {low2} a b d e h =
+    subst (λ q. Restores (rows iw from q) border left least nv degree nv2 degree2 low2) (sym a)
+    (subst (λ q. Restores (rows iw from k) border left least nv degree q degree2 low2) (sym b)
+    (subst (λ q. Restores (rows iw from k) border left least nv degree nv1 q low2) (sym d)
+    (subst (λ q. Restores (rows iw from k) border left least nv degree nv1 degree1 q) (sym e) h)))
+
+emptying_as : {n : ℕ} {iw : List ℤ} {from : ℕ} {hash0 : List ℕ} {k k' : ℕ} {hash1 hash2 : List ℕ} → k' ≡ k → hash2 ≡ hash1 →
+    Emptying n iw from hash0 k hash1 → Emptying n iw from hash0 k' hash2
+emptying_as {n} {iw} {from} {hash0} {k} {k'} {hash1} {hash2} a b h = subst (λ q. Emptying n iw from hash0 q hash2) (sym a)
+    (subst (λ q. Emptying n iw from hash0 k q) (sym b) h)
+
+linked_as : {n : ℕ} {head1 head2 next1 next2 last1 last2 degree1 degree2 : List ℕ} {k k' : ℕ} (lists : ℕ → ℕ → List ℕ) → k' ≡ k →
+    head2 ≡ head1 → next2 ≡ next1 → last2 ≡ last1 → degree2 ≡ degree1 → DegreeLists n head1 next1 last1 degree1 (lists k) →
+    DegreeLists n head2 next2 last2 degree2 (lists k')
+linked_as {n} {head1} {head2} {next1} {next2} {last1} {last2} {degree1} {degree2} {k} {k'} lists a b d e f h =
+    subst (λ q. DegreeLists n head2 next2 last2 degree2 (lists q)) (sym a)
+    (subst (λ q. DegreeLists n q next2 last2 degree2 (lists k)) (sym b)
+    (subst (λ q. DegreeLists n head1 q last2 degree2 (lists k)) (sym d)
+    (subst (λ q. DegreeLists n head1 next1 q degree2 (lists k)) (sym e)
+    (subst (λ q. DegreeLists n head1 next1 last1 q (lists k)) (sym f) h))))
+
 pub loop-p-init : goal.loop-p-init
 unfolding has
 loop-p-init g c =
@@ -113,12 +146,13 @@ loop-p-preserved g c =
     let n : ℕ = length c.args.next.now in let from : ℕ = c.args.from in let p : ℕ = c.loop-p.p in let k : ℕ = p - from in
     let after : from ≤ p = c.loop-p.auto.p in let t = c.loop-p-test.true in let at : p ≡ from + k = omega (arith, after) in
     let l : k < c.args.count = omega (arith, after, t) in let next : p + 1 - from ≡ k + 1 = omega (arith, after) in
-    let was = c.loop-p.invariant in let h = was.filters in let word_k = c.requires.front.1 k l in let high = h.high in
-    let same : word c.loop-p.iw p ≡ word iw p = h.above p (omega (arith, high, at)) in
+    let was = c.loop-p.invariant in let h = was.filters in let word_k = c.requires.front.1 k l in
     let is_one : is_place (word iw p) ≡ true = ap (λ m. is_place (word iw m)) at ∙ word_k.0 in
     let small : place (word iw p) < n = (let a = ap (λ m. place (word iw m)) at in let b = word_k.1 in omega (arith, a, b)) in
-    let i : ℕ = c.named-i.result in let row : i ≡ place (word iw p) = c.named-i.ensures ∙ ap place same in
-    let is : i ≡ place (word iw (from + k)) = row ∙ ap (λ m. place (word iw m)) at in let tiny : i < n = omega (arith, row, small) in
+    let i : ℕ = c.named-i.result in
+    let is : i ≡ place (word iw (from + k)) = c.named-i.ensures ∙ word_row c.requires.front.1 after l h in
+    let tiny : i < n = (let a = word_k.1 in omega (arith, is, a)) in
+    let rows_next_is : rows iw from (p + 1 - from) ≡ rows iw from (k + 1) = ap (rows iw from) next in
     let named : has (rows iw from c.args.count) i ≡ true = ap (has (rows iw from c.args.count)) is ∙ rows_has iw from c.args.count k l in
     let fresh : has (rows iw from k) i ≡ false = ap (has (rows iw from k)) is ∙ fresh_word iw from c.args.count k l c.requires.front.2 in
     let bound : ℕ → ℕ = bound_in c.args.border c.args.left nv degree in
@@ -151,24 +185,19 @@ loop-p-preserved g c =
           ∙ ap (λ m. cond (nat_lt 1 c.args.count) (set c.loop-p.hash m (length c.loop-p.next)) c.loop-p.hash) last_same
           ∙ ap (λ m. cond (nat_lt 1 c.args.count) (set c.loop-p.hash (num c.args.last.now i) m) c.loop-p.hash) long.3 in
           let v = e.lengths in
-          rw (
-            w.iw-is,
-            w.nv-is,
-            w.degree-is,
-            w.head-is,
-            w.next-is,
-            w.last-is,
-            w.hash-is,
-            w.end-is,
-            w.low-is,
-            w.copy_word.ensures,
-            next,
-          ) record {
-            lengths = (v.0 ∙ long.3, v.1 ∙ long.3, v.2 ∙ long.3, v.3 ∙ long.3, v.4 ∙ long.3, v.5 ∙ long.3);
-            filters = filters_yes n (in_front nv) (λ j. 0) 0 iw from from h p 0 at (omega arith) (let a = c.requires.front.0 in
+          record {
+            lengths = (
+              ap length w.nv-is ∙ v.0 ∙ long.3,
+              ap length w.degree-is ∙ v.1 ∙ long.3,
+              ap length w.head-is ∙ v.2 ∙ long.3,
+              ap length w.next-is ∙ v.3 ∙ long.3,
+              ap length w.last-is ∙ v.4 ∙ long.3,
+              ap length w.hash-is ∙ v.5 ∙ long.3,
+            );
+            filters = filters_as next (w.iw-is ∙ w.copy_word.ensures) w.end-is (filters_yes n (in_front nv) (λ j. 0) 0 iw from from h p 0 at (omega arith) (let a = c.requires.front.0 in
                 omega (arith, a, at, l))
-                is_one small (ap (in_front nv) (sym is) ∙ here) (let z = cut_small 0 (omega arith) in omega (arith, z));
-            restores = record {
+                is_one small (ap (in_front nv) (sym is) ∙ here) (let z = cut_small 0 (omega arith) in omega (arith, z)));
+            restores = restores_as iw from next w.nv-is w.degree-is w.low-is record {
               sizes = λ j. e.sizes j ∙ was.restores.sizes j;
               marks = λ j. e.marks j ∙ ap (λ z. z && not (i == j)) (was.restores.marks j)
                   ∙ ap (λ z. (in_front nv j && not (has (rows iw from k) j)) && not (z == j)) is
@@ -182,33 +211,43 @@ loop-p-preserved g c =
               least_is = w.min-low.ensures ∙ ap (λ m. min m b) was.restores.least_is ∙ ap (min (fold f c.args.least met)) bound_is
                   ∙ sym (ap (fold f c.args.least) grown ∙ fold-append f c.args.least met (i ∷ []));
             };
-            lasts = λ x m g. let q = rows_fresh nv iw from k i is x g in let given = c.requires.linked in
-                e.lasts x q.0 (no_head n c.loop-p.head c.loop-p.next c.loop-p.last c.loop-p.degree (put_all bound met given.0) b x
+            lasts = λ x m g. let q = rows_fresh nv iw from k i is x (sym (ap (λ xs. has xs x) rows_next_is) ∙ g) in
+                let given = c.requires.linked in
+                ap (λ l. num l x) w.last-is ∙ e.lasts x q.0 (no_head n c.loop-p.head c.loop-p.next c.loop-p.last c.loop-p.degree (put_all bound met given.0) b x
                 (was.linked given.0 given.2 given.1) tight (rows_small n iw from c.args.count c.requires.front.1 x m)
                 (out_met given.0 given.2 b x tight m q.1)) ∙ was.lasts x m q.1;
-            empties = subst (Emptying n iw from c.args.hash.now (k + 1)) (sym hash_is)
+            empties = emptying_as next (w.hash-is ∙ hash_is)
                 (emptying_clears n iw nv from c.args.count c.args.hash.now c.args.last.now c.requires.heads k i is
                 c.loop-p.hash was.empties old.key long.5);
             linked = λ lists out g.
                 let before = subst (λ m. DegreeLists m c.loop-p.head c.loop-p.next c.loop-p.last c.loop-p.degree (put_all bound met lists))
                 (sym long.3) (was.linked lists out g) in
                 let put = e.linked (put_all bound met lists) (λ d s. out_met lists out d i (omega (arith, s, long)) named fresh) before in
-                lists_same n _ _ _ _ (λ d. cond (d == b) (i ∷ put_all bound met lists d) (put_all bound met lists d)) _
+                linked_as (λ m. put_all bound (marked_in nv (rows iw from m)) lists) next w.head-is w.next-is w.last-is w.degree-is
+                (lists_same n _ _ _ _ (λ d. cond (d == b) (i ∷ put_all bound met lists d) (put_all bound met lists d)) _
                 (λ d s. ap (λ m. cond (d == m) (i ∷ put_all bound met lists d) (put_all bound met lists d)) bound_is
                 ∙ put_more bound met i lists d
                 ∙ ap (λ xs. put_all bound xs lists d) (sym grown))
                 (subst (λ m. DegreeLists m w.place_class-bound.new.head w.place_class-bound.new.next w.place_class-bound.new.last
                 w.place_class-bound.new.degree (λ d. cond (d == b) (i ∷ put_all bound met lists d)
-                (put_all bound met lists d))) long.3 put);
+                (put_all bound met lists d))) long.3 put));
           }
           )
       | else-is_marked w ↦ (
           let none : in_front nv i ≡ false = sym mark_same ∙ sym c.is_marked.ensures ∙ w.if-is_marked.false in
           let same_met = marked_skip nv iw from k i is none in
-          rw (w.iw-is, w.nv-is, w.degree-is, w.head-is, w.next-is, w.last-is, w.hash-is, w.end-is, w.low-is, next) record {
-            lengths = long;
-            filters = filters_no n (in_front nv) (λ j. 0) 0 iw from from h (ap (in_front nv) (sym is) ∙ none);
-            restores = record {
+          record {
+            lengths = (
+              ap length w.nv-is ∙ long.0,
+              ap length w.degree-is ∙ long.1,
+              ap length w.head-is ∙ long.2,
+              ap length w.next-is ∙ long.3,
+              ap length w.last-is ∙ long.4,
+              ap length w.hash-is ∙ long.5,
+            );
+            filters = filters_as next w.iw-is w.end-is (filters_no n (in_front nv) (λ j. 0) 0 iw from from h (ap (in_front nv) (sym is)
+                ∙ none));
+            restores = restores_as iw from next w.nv-is w.degree-is w.low-is record {
               sizes = was.restores.sizes;
               marks = λ j. elim (cases_eq j i) [
                 | inl q ↦ was.restores.marks j ∙ ap (λ z. z && not (has (rows iw from k) j)) (ap (in_front nv) q ∙ none)
@@ -220,12 +259,14 @@ loop-p-preserved g c =
                   (λ q. q ∙ sym (cond-false (in_front nv i) (bound i) (num degree i) none)) (λ x ne. refl);
               least_is = was.restores.least_is ∙ sym (ap (fold f c.args.least) same_met);
             };
-            lasts = λ x m g. was.lasts x m (rows_fresh nv iw from k i is x g).1;
-            empties = emptying_skips n iw nv from c.args.count c.args.hash.now c.args.last.now c.requires.heads k i is
-                c.loop-p.hash was.empties none;
-            linked = λ lists out g. subst (λ xs. DegreeLists n c.loop-p.head c.loop-p.next c.loop-p.last c.loop-p.degree
+            lasts = λ x m g. ap (λ l. num l x) w.last-is
+                ∙ was.lasts x m (rows_fresh nv iw from k i is x (sym (ap (λ xs. has xs x) rows_next_is) ∙ g)).1;
+            empties = emptying_as next w.hash-is (emptying_skips n iw nv from c.args.count c.args.hash.now c.args.last.now c.requires.heads k i is
+                c.loop-p.hash was.empties none);
+            linked = λ lists out g. linked_as (λ m. put_all bound (marked_in nv (rows iw from m)) lists) next w.head-is w.next-is
+                w.last-is w.degree-is (subst (λ xs. DegreeLists n c.loop-p.head c.loop-p.next c.loop-p.last c.loop-p.degree
                 (put_all bound xs lists))
-                (sym same_met) (was.linked lists out g);
+                (sym same_met) (was.linked lists out g));
           }
           )
     ]
