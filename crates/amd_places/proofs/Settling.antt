@@ -74,7 +74,8 @@ module _ {n : ℕ} {iw pe e_len : List ℤ} {len : List ℕ} {free : ℕ} (y : L
       own_same = rows_same iw iw' (start pe me) (start pe me) (place (word e_len me)) (λ k l.
           b.below (start pe me + k) (let a = y.within me own in let c = y.parts me own in omega (arith, a, c, l)))
 
-      pub own_read : {from count : ℕ} → from ≡ start pe me → count ≡ place (word e_len me) → rows iw' from count ≡ elements_in iw pe e_len me
+      pub own_read : {from count : ℕ} → from ≡ start pe me → count ≡ place (word e_len me) → rows iw' from count ≡ elements_in iw pe e_len
+          me
       own_read f c = rows_at iw' f c ∙ own_same
 
       pub own_names : Names n iw' (start pe me) (place (word e_len me))

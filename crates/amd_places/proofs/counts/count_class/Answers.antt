@@ -1,6 +1,6 @@
-use Rattle.std.proofs.Common.{ℕ, List, true, refl, sym, ap, subst, ◌∙◌, ◌≡◌, ◌≤◌, ◌&&◌, arith, length, cond}
+use Rattle.std.proofs.Common.{ℕ, List, true, refl, sym, ap, subst, ◌∙◌, ◌≡◌, ◌≤◌, ◌&&◌, arith, cond}
 use Rattle.amd_model.specs.Quotient.{has, Once}
-use Rattle.amd_places.specs.Words.{num, word, size_of, flip_of}
+use Rattle.amd_places.specs.Words.{num, word, flip_of}
 use Rattle.amd_places.specs.Chains.{DegreeLists, without}
 use Rattle.amd_places.specs.Counts.{settled, ends, elements_of}
 use Rattle.amd_places.specs.Tallies.{touched_in}

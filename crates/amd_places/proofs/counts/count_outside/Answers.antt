@@ -33,20 +33,16 @@ loop-p-init g c =
 
 pub named-i-requires-clause-is_one : goal.named-i-requires-clause-is_one
 named-i-requires-clause-is_one g c =
-    let iw : List ℤ = c.args.iw.now in let pe : List ℤ = c.args.pe.now in let e_len : List ℤ = c.args.e_len.now in
-    let nv : List ℤ = c.args.nv.now in let from : ℕ = c.args.from in let p : ℕ = c.loop-p.p in let k : ℕ = p - from in
+    let iw : List ℤ = c.args.iw.now in let from : ℕ = c.args.from in let p : ℕ = c.loop-p.p in let k : ℕ = p - from in
     let after : from ≤ p = c.loop-p.auto.p in let t = c.loop-p-test.true in let at : from + k ≡ p = omega (arith, after) in
-    let l : k < c.args.count = omega (arith, after, t) in let next : p + 1 - from ≡ k + 1 = omega (arith, after) in
-    let was = c.loop-p.invariant in
-    ap (λ m. is_place (word iw m)) (sym at) ∙ (c.requires.front.0 k l).0
+    let l : k < c.args.count = omega (arith, after, t) in ap (λ m. is_place (word iw m)) (sym at) ∙ (c.requires.front.0 k l).0
 
 pub count_class-requires : goal.count_class-requires
 count_class-requires g c =
     let iw : List ℤ = c.args.iw.now in let pe : List ℤ = c.args.pe.now in let e_len : List ℤ = c.args.e_len.now in
     let nv : List ℤ = c.args.nv.now in let from : ℕ = c.args.from in let p : ℕ = c.loop-p.p in let k : ℕ = p - from in
     let after : from ≤ p = c.loop-p.auto.p in let t = c.loop-p-test.true in let at : from + k ≡ p = omega (arith, after) in
-    let l : k < c.args.count = omega (arith, after, t) in let next : p + 1 - from ≡ k + 1 = omega (arith, after) in
-    let was = c.loop-p.invariant in
+    let l : k < c.args.count = omega (arith, after, t) in let was = c.loop-p.invariant in
     let i : ℕ = c.named-i.result in
     let is : i ≡ place (word iw (from + k)) = c.named-i.ensures ∙ ap (λ m. place (word iw m)) (sym at) in
     let named : has (rows iw from c.args.count) i ≡ true = ap (has (rows iw from c.args.count)) is ∙ rows_has iw from c.args.count k l in

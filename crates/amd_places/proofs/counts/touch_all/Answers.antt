@@ -23,7 +23,6 @@ named-e-requires-clause-is_one g c =
     let iw : List ℤ = c.args.iw.now in let from : ℕ = c.args.from in let q : ℕ = c.loop-q.q in let k : ℕ = q - from in
     let after : from ≤ q = c.loop-q.auto.q in let t = c.loop-q-test.true in
     let at : from + k ≡ q = omega (arith, after) in let l : k < c.args.count = omega (arith, after, t) in
-    let next : q + 1 - from ≡ k + 1 = omega (arith, after) in let was = c.loop-q.invariant in
     ap (λ m. is_place (word iw m)) (sym at) ∙ (c.requires.names k l).0
 
 pub touch_or_end-requires : goal.touch_or_end-requires
@@ -31,7 +30,7 @@ touch_or_end-requires g c =
     let iw : List ℤ = c.args.iw.now in let from : ℕ = c.args.from in let q : ℕ = c.loop-q.q in let k : ℕ = q - from in
     let after : from ≤ q = c.loop-q.auto.q in let t = c.loop-q-test.true in
     let at : from + k ≡ q = omega (arith, after) in let l : k < c.args.count = omega (arith, after, t) in
-    let next : q + 1 - from ≡ k + 1 = omega (arith, after) in let was = c.loop-q.invariant in
+    let was = c.loop-q.invariant in
     let is : c.named-e.result ≡ place (word iw (from + k)) = c.named-e.ensures ∙ ap (λ m. place (word iw m)) (sym at) in
     let e : ℕ = c.named-e.result in
     let fresh : has (rows iw from k) e ≡ false = ap (has (rows iw from k)) is ∙ fresh_word iw from c.args.count k l c.requires.once in

@@ -1,4 +1,4 @@
-use Rattle.std.proofs.Common.{ℕ, ℤ, Bool, List, true, false, pos, ◌≡◌, ◌<◌, ◌&&◌, cond, inl, inr, refl, sym, ap, ◌∙◌, arith, length}
+use Rattle.std.proofs.Common.{ℕ, ℤ, List, true, false, pos, ◌≡◌, ◌<◌, ◌&&◌, cond, inl, inr, refl, sym, ap, ◌∙◌, arith, length}
 use Rattle.std.proofs.Common.{get_or-set_same, get_or-set_other}
 use Rattle.std.specs.Prelude.{◌==◌}
 use Rattle.std.proofs.lemmas.Bool.{cases_eq, eq-eqb, ne_eqb, cond-true, cond-false}

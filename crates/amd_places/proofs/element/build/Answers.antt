@@ -24,18 +24,13 @@ named-e-requires-clause-is_one g c =
     let from : ℕ = c.named-from.result in let is : from ≡ start pe pivot = c.named-from.ensures in
     let f : (ℕ → List ℕ) = λ e. classes nv (members_at iw pe len e) in let p : ℕ = c.loop-p.p in let k : ℕ = p - from in
     let after : from ≤ p = c.loop-p.auto.p in let t = c.loop-p-test.true in
-    let at : from + k ≡ p = omega (arith, after) in let l : k < m = omega (arith, after, t) in let next : p + 1 - from ≡ k + 1 =
-    omega (arith, after) in
+    let at : from + k ≡ p = omega (arith, after) in let l : k < m = omega (arith, after, t) in
     let there : start pe pivot + k ≡ p = omega (arith, at, is) in
     let h : Gathers iw nv1 free free (flat_map f (rows iw (start pe pivot) k)) c.loop-p.iw c.loop-p.nv c.loop-p.end c.loop-p.sum
     = subst (λ s. Gathers iw nv1 free free (flat_map f (rows iw s k)) c.loop-p.iw c.loop-p.nv c.loop-p.end c.loop-p.sum)
     is c.loop-p.invariant in
     let word_k = pivot_word c.args.iw.now c.args.nv.now c.enter.new.nv c.args.pe.now c.args.len.now c.args.pivot c.args.n_elements
     c.args.free c.enter.ensures.sizes c.enter.ensures.front c.requires.clear (length c.args.nv.now)
-    refl c.enter.ensures.long c.requires.elements c.requires.laid c.requires.fits c.requires.few k l in
-    let e : ℕ = place (word iw (start pe pivot + k)) in let laid =
-    element_laid c.args.iw.now c.args.nv.now c.enter.new.nv c.args.pe.now c.args.len.now c.args.pivot c.args.n_elements c.args.free
-    c.enter.ensures.sizes c.enter.ensures.front c.requires.clear (length c.args.nv.now)
     refl c.enter.ensures.long c.requires.elements c.requires.laid c.requires.fits c.requires.few k l in
     let same : word c.loop-p.iw p ≡ word iw (start pe pivot + k) = h.below p (let b = word_k.2 in omega (arith, b, there))
     ∙ ap (word iw) (sym there) in
@@ -49,8 +44,7 @@ named-first-requires-clause-inside g c =
     let from : ℕ = c.named-from.result in let is : from ≡ start pe pivot = c.named-from.ensures in
     let f : (ℕ → List ℕ) = λ e. classes nv (members_at iw pe len e) in let p : ℕ = c.loop-p.p in let k : ℕ = p - from in
     let after : from ≤ p = c.loop-p.auto.p in let t = c.loop-p-test.true in
-    let at : from + k ≡ p = omega (arith, after) in let l : k < m = omega (arith, after, t) in let next : p + 1 - from ≡ k + 1 =
-    omega (arith, after) in
+    let at : from + k ≡ p = omega (arith, after) in let l : k < m = omega (arith, after, t) in
     let there : start pe pivot + k ≡ p = omega (arith, at, is) in
     let h : Gathers iw nv1 free free (flat_map f (rows iw (start pe pivot) k)) c.loop-p.iw c.loop-p.nv c.loop-p.end c.loop-p.sum
     = subst (λ s. Gathers iw nv1 free free (flat_map f (rows iw s k)) c.loop-p.iw c.loop-p.nv c.loop-p.end c.loop-p.sum)
@@ -58,10 +52,7 @@ named-first-requires-clause-inside g c =
     let word_k = pivot_word c.args.iw.now c.args.nv.now c.enter.new.nv c.args.pe.now c.args.len.now c.args.pivot c.args.n_elements
     c.args.free c.enter.ensures.sizes c.enter.ensures.front c.requires.clear (length c.args.nv.now)
     refl c.enter.ensures.long c.requires.elements c.requires.laid c.requires.fits c.requires.few k l in
-    let e : ℕ = place (word iw (start pe pivot + k)) in let laid =
-    element_laid c.args.iw.now c.args.nv.now c.enter.new.nv c.args.pe.now c.args.len.now c.args.pivot c.args.n_elements c.args.free
-    c.enter.ensures.sizes c.enter.ensures.front c.requires.clear (length c.args.nv.now)
-    refl c.enter.ensures.long c.requires.elements c.requires.laid c.requires.fits c.requires.few k l in
+    let e : ℕ = place (word iw (start pe pivot + k)) in
     let same : word c.loop-p.iw p ≡ word iw (start pe pivot + k) = h.below p (let b = word_k.2 in omega (arith, b, there))
     ∙ ap (word iw) (sym there) in
     let row : c.named-e.result ≡ e = c.named-e.ensures ∙ ap place same in
@@ -75,8 +66,7 @@ named-first-requires-clause-is_one g c =
     let from : ℕ = c.named-from.result in let is : from ≡ start pe pivot = c.named-from.ensures in
     let f : (ℕ → List ℕ) = λ e. classes nv (members_at iw pe len e) in let p : ℕ = c.loop-p.p in let k : ℕ = p - from in
     let after : from ≤ p = c.loop-p.auto.p in let t = c.loop-p-test.true in
-    let at : from + k ≡ p = omega (arith, after) in let l : k < m = omega (arith, after, t) in let next : p + 1 - from ≡ k + 1 =
-    omega (arith, after) in
+    let at : from + k ≡ p = omega (arith, after) in let l : k < m = omega (arith, after, t) in
     let there : start pe pivot + k ≡ p = omega (arith, at, is) in
     let h : Gathers iw nv1 free free (flat_map f (rows iw (start pe pivot) k)) c.loop-p.iw c.loop-p.nv c.loop-p.end c.loop-p.sum
     = subst (λ s. Gathers iw nv1 free free (flat_map f (rows iw s k)) c.loop-p.iw c.loop-p.nv c.loop-p.end c.loop-p.sum)
@@ -101,8 +91,7 @@ figure_at-requires g c =
     let from : ℕ = c.named-from.result in let is : from ≡ start pe pivot = c.named-from.ensures in
     let f : (ℕ → List ℕ) = λ e. classes nv (members_at iw pe len e) in let p : ℕ = c.loop-p.p in let k : ℕ = p - from in
     let after : from ≤ p = c.loop-p.auto.p in let t = c.loop-p-test.true in
-    let at : from + k ≡ p = omega (arith, after) in let l : k < m = omega (arith, after, t) in let next : p + 1 - from ≡ k + 1 =
-    omega (arith, after) in
+    let at : from + k ≡ p = omega (arith, after) in let l : k < m = omega (arith, after, t) in
     let there : start pe pivot + k ≡ p = omega (arith, at, is) in
     let h : Gathers iw nv1 free free (flat_map f (rows iw (start pe pivot) k)) c.loop-p.iw c.loop-p.nv c.loop-p.end c.loop-p.sum
     = subst (λ s. Gathers iw nv1 free free (flat_map f (rows iw s k)) c.loop-p.iw c.loop-p.nv c.loop-p.end c.loop-p.sum)
@@ -110,10 +99,7 @@ figure_at-requires g c =
     let word_k = pivot_word c.args.iw.now c.args.nv.now c.enter.new.nv c.args.pe.now c.args.len.now c.args.pivot c.args.n_elements
     c.args.free c.enter.ensures.sizes c.enter.ensures.front c.requires.clear (length c.args.nv.now)
     refl c.enter.ensures.long c.requires.elements c.requires.laid c.requires.fits c.requires.few k l in
-    let e : ℕ = place (word iw (start pe pivot + k)) in let laid =
-    element_laid c.args.iw.now c.args.nv.now c.enter.new.nv c.args.pe.now c.args.len.now c.args.pivot c.args.n_elements c.args.free
-    c.enter.ensures.sizes c.enter.ensures.front c.requires.clear (length c.args.nv.now)
-    refl c.enter.ensures.long c.requires.elements c.requires.laid c.requires.fits c.requires.few k l in
+    let e : ℕ = place (word iw (start pe pivot + k)) in
     let same : word c.loop-p.iw p ≡ word iw (start pe pivot + k) = h.below p (let b = word_k.2 in omega (arith, b, there))
     ∙ ap (word iw) (sym there) in
     let row : c.named-e.result ≡ e = c.named-e.ensures ∙ ap place same in
@@ -127,8 +113,7 @@ gather-requires g c =
     let from : ℕ = c.named-from.result in let is : from ≡ start pe pivot = c.named-from.ensures in
     let f : (ℕ → List ℕ) = λ e. classes nv (members_at iw pe len e) in let p : ℕ = c.loop-p.p in let k : ℕ = p - from in
     let after : from ≤ p = c.loop-p.auto.p in let t = c.loop-p-test.true in
-    let at : from + k ≡ p = omega (arith, after) in let l : k < m = omega (arith, after, t) in let next : p + 1 - from ≡ k + 1 =
-    omega (arith, after) in
+    let at : from + k ≡ p = omega (arith, after) in let l : k < m = omega (arith, after, t) in
     let there : start pe pivot + k ≡ p = omega (arith, at, is) in
     let h : Gathers iw nv1 free free (flat_map f (rows iw (start pe pivot) k)) c.loop-p.iw c.loop-p.nv c.loop-p.end c.loop-p.sum
     = subst (λ s. Gathers iw nv1 free free (flat_map f (rows iw s k)) c.loop-p.iw c.loop-p.nv c.loop-p.end c.loop-p.sum)

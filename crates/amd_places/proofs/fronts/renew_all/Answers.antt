@@ -37,7 +37,6 @@ named-i-requires-clause-inside g c =
     let k : ℕ = p - from in
     let after : from ≤ p = c.loop-p.auto.p in let t = c.loop-p-test.true in let count = c.figure_at.ensures.is in
     let at : start pe me + k ≡ p = omega (arith, after, is) in let l : k < num len me = omega (arith, after, t, count) in
-    let next : p + 1 - from ≡ k + 1 = omega (arith, after) in
     let h : RenewsFront (length c.args.w.now) me (is_kept c.args.w.now) (is_outside c.args.nv.now) (λ e. num c.args.w.now e - c.args.flag)
     (rows iw (start pe me) k) c.args.free iw pe c.args.e_len.now c.args.nv.now len c.args.degree.now c.args.last.now
     c.loop-p.iw c.loop-p.pe c.loop-p.e_len c.loop-p.nv c.loop-p.len c.loop-p.degree c.loop-p.last c.loop-p.gone
@@ -55,7 +54,6 @@ named-i-requires-clause-is_one g c =
     let k : ℕ = p - from in
     let after : from ≤ p = c.loop-p.auto.p in let t = c.loop-p-test.true in let count = c.figure_at.ensures.is in
     let at : start pe me + k ≡ p = omega (arith, after, is) in let l : k < num len me = omega (arith, after, t, count) in
-    let next : p + 1 - from ≡ k + 1 = omega (arith, after) in
     let h : RenewsFront (length c.args.w.now) me (is_kept c.args.w.now) (is_outside c.args.nv.now) (λ e. num c.args.w.now e - c.args.flag)
     (rows iw (start pe me) k) c.args.free iw pe c.args.e_len.now c.args.nv.now len c.args.degree.now c.args.last.now
     c.loop-p.iw c.loop-p.pe c.loop-p.e_len c.loop-p.nv c.loop-p.len c.loop-p.degree c.loop-p.last c.loop-p.gone
@@ -74,7 +72,6 @@ renew_or_retire-gone-requires-clause-placed g c =
     let k : ℕ = p - from in
     let after : from ≤ p = c.loop-p.auto.p in let t = c.loop-p-test.true in let count = c.figure_at.ensures.is in
     let at : start pe me + k ≡ p = omega (arith, after, is) in let l : k < num len me = omega (arith, after, t, count) in
-    let next : p + 1 - from ≡ k + 1 = omega (arith, after) in
     let h : RenewsFront (length c.args.w.now) me (is_kept c.args.w.now) (is_outside c.args.nv.now) (λ e. num c.args.w.now e - c.args.flag)
     (rows iw (start pe me) k) c.args.free iw pe c.args.e_len.now c.args.nv.now len c.args.degree.now c.args.last.now
     c.loop-p.iw c.loop-p.pe c.loop-p.e_len c.loop-p.nv c.loop-p.len c.loop-p.degree c.loop-p.last c.loop-p.gone
@@ -92,7 +89,6 @@ renew_or_retire-gone-requires-clause-loses g c =
     let k : ℕ = p - from in
     let after : from ≤ p = c.loop-p.auto.p in let t = c.loop-p-test.true in let count = c.figure_at.ensures.is in
     let at : start pe me + k ≡ p = omega (arith, after, is) in let l : k < num len me = omega (arith, after, t, count) in
-    let next : p + 1 - from ≡ k + 1 = omega (arith, after) in
     let h : RenewsFront (length c.args.w.now) me (is_kept c.args.w.now) (is_outside c.args.nv.now) (λ e. num c.args.w.now e - c.args.flag)
     (rows iw (start pe me) k) c.args.free iw pe c.args.e_len.now c.args.nv.now len c.args.degree.now c.args.last.now
     c.loop-p.iw c.loop-p.pe c.loop-p.e_len c.loop-p.nv c.loop-p.len c.loop-p.degree c.loop-p.last c.loop-p.gone
@@ -110,7 +106,6 @@ renew_or_retire-gone-requires-clause-marked g c =
     let k : ℕ = p - from in
     let after : from ≤ p = c.loop-p.auto.p in let t = c.loop-p-test.true in let count = c.figure_at.ensures.is in
     let at : start pe me + k ≡ p = omega (arith, after, is) in let l : k < num len me = omega (arith, after, t, count) in
-    let next : p + 1 - from ≡ k + 1 = omega (arith, after) in
     let h : RenewsFront (length c.args.w.now) me (is_kept c.args.w.now) (is_outside c.args.nv.now) (λ e. num c.args.w.now e - c.args.flag)
     (rows iw (start pe me) k) c.args.free iw pe c.args.e_len.now c.args.nv.now len c.args.degree.now c.args.last.now
     c.loop-p.iw c.loop-p.pe c.loop-p.e_len c.loop-p.nv c.loop-p.len c.loop-p.degree c.loop-p.last c.loop-p.gone
@@ -155,7 +150,6 @@ overflow_add-gone g c =
     let k : ℕ = p - from in
     let after : from ≤ p = c.loop-p.auto.p in let t = c.loop-p-test.true in let count = c.figure_at.ensures.is in
     let at : start pe me + k ≡ p = omega (arith, after, is) in let l : k < num len me = omega (arith, after, t, count) in
-    let next : p + 1 - from ≡ k + 1 = omega (arith, after) in
     let h : RenewsFront (length c.args.w.now) me (is_kept c.args.w.now) (is_outside c.args.nv.now) (λ e. num c.args.w.now e - c.args.flag)
     (rows iw (start pe me) k) c.args.free iw pe c.args.e_len.now c.args.nv.now len c.args.degree.now c.args.last.now
     c.loop-p.iw c.loop-p.pe c.loop-p.e_len c.loop-p.nv c.loop-p.len c.loop-p.degree c.loop-p.last c.loop-p.gone

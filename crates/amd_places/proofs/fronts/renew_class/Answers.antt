@@ -1,8 +1,8 @@
 use Rattle.std.proofs.Common.{ℕ, ℤ, List, filter, subst, sum_by, refl, sym, ap, ◌∙◌, ◌≡◌, ◌+◌, ◌-◌, ◌++◌, arith, length, get_or-set_same}
 use Rattle.amd_model.specs.Figures.{cut}
-use Rattle.amd_places.specs.Words.{num, place, word, start, size_of, rows}
+use Rattle.amd_places.specs.Words.{num, start, size_of, rows}
 use Rattle.amd_places.specs.Renewal.{is_kept, is_outside, hashed, Renews}
-use Rattle.amd_places.specs.Layout.{elements_in, variables_in}
+use Rattle.amd_places.specs.Layout.{elements_in}
 use Rattle.amd_places.proofs.RowLists.{rows_at, names_at}
 use Rattle.amd_places.proofs.RenewedFronts.{one_from, one_from_as}
 use Rattle.amd_places.proofs.fronts.renew_class.Goals as goal
@@ -82,7 +82,8 @@ returns-clause-renews g c =
     (start c.args.pe.now c.args.i) m (num c.args.len.now c.args.i)
     c.renew_list-few.new.iw c.renew_list-few.result.0 c.renew_list-few.result.1) c.named-n_elements.ensures s in
     let small = c.requires.placed.row in let e = c.requires.lengths.1 in let l = c.requires.lengths.2 in
-    one_from_as c.renew_list-few.result.0 c.renew_list-few.result.1 c.put_row.ensures c.put_figure.ensures (one_from n c.args.me (is_kept c.args.w.now) (is_outside c.args.nv.now)
+    one_from_as c.renew_list-few.result.0 c.renew_list-few.result.1 c.put_row.ensures c.put_figure.ensures
+    (one_from n c.args.me (is_kept c.args.w.now) (is_outside c.args.nv.now)
     c.args.i c.renew_list-few.result.0 c.renew_list-few.result.1 c.args.iw.now c.args.pe.now c.args.e_len.now c.args.len.now
     c.renew_list-few.new.iw (omega (arith, small, e)) (omega (arith, small, l)) t)
 

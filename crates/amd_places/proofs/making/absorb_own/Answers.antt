@@ -20,7 +20,6 @@ named-e-requires-clause-is_one g c =
     let iw : List ℤ = c.args.iw.now in let from : ℕ = c.args.from in let p : ℕ = c.loop-p.p in let k : ℕ = p - from in
     let after : from ≤ p = c.loop-p.auto.p in let t = c.loop-p-test.true in
     let at : from + k ≡ p = omega (arith, after) in let l : k < c.args.count = omega (arith, after, t) in
-    let next : p + 1 - from ≡ k + 1 = omega (arith, after) in let was = c.loop-p.invariant in
     ap (λ m. is_place (word iw m)) (sym at) ∙ (c.requires.names k l).0
 
 pub put_flip-requires-clause-inside : goal.put_flip-requires-clause-inside
@@ -28,12 +27,10 @@ put_flip-requires-clause-inside g c =
     let iw : List ℤ = c.args.iw.now in let from : ℕ = c.args.from in let p : ℕ = c.loop-p.p in let k : ℕ = p - from in
     let after : from ≤ p = c.loop-p.auto.p in let t = c.loop-p-test.true in
     let at : from + k ≡ p = omega (arith, after) in let l : k < c.args.count = omega (arith, after, t) in
-    let next : p + 1 - from ≡ k + 1 = omega (arith, after) in let was = c.loop-p.invariant in
+    let was = c.loop-p.invariant in
     let is : c.named-e.result ≡ place (word iw (from + k)) = c.named-e.ensures ∙ ap (λ m. place (word iw m)) (sym at) in
     let small : c.named-e.result < length c.args.pe.now = (let b = (c.requires.names k l).1 in omega (arith, b, is)) in
     let in_pe : c.named-e.result < length c.loop-p.pe = (let a = was.p_long in omega (arith, a, small)) in
-    let in_w : c.named-e.result < length c.loop-p.w = (let a = was.w_long in let b = c.requires.lengths in
-    omega (arith, a, b, small)) in
     in_pe
 
 pub put_figure-requires-clause-inside : goal.put_figure-requires-clause-inside
@@ -41,10 +38,9 @@ put_figure-requires-clause-inside g c =
     let iw : List ℤ = c.args.iw.now in let from : ℕ = c.args.from in let p : ℕ = c.loop-p.p in let k : ℕ = p - from in
     let after : from ≤ p = c.loop-p.auto.p in let t = c.loop-p-test.true in
     let at : from + k ≡ p = omega (arith, after) in let l : k < c.args.count = omega (arith, after, t) in
-    let next : p + 1 - from ≡ k + 1 = omega (arith, after) in let was = c.loop-p.invariant in
+    let was = c.loop-p.invariant in
     let is : c.named-e.result ≡ place (word iw (from + k)) = c.named-e.ensures ∙ ap (λ m. place (word iw m)) (sym at) in
     let small : c.named-e.result < length c.args.pe.now = (let b = (c.requires.names k l).1 in omega (arith, b, is)) in
-    let in_pe : c.named-e.result < length c.loop-p.pe = (let a = was.p_long in omega (arith, a, small)) in
     let in_w : c.named-e.result < length c.loop-p.w = (let a = was.w_long in let b = c.requires.lengths in
     omega (arith, a, b, small)) in
     in_w

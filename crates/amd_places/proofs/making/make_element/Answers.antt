@@ -45,7 +45,8 @@ returns-clause-makes g c =
     iw c.args.nv.now c.args.free c.build-end.new.iw c.build-end.new.nv c.build-end.result.0 c.build-end.result.1)
     c.named-n_elements.ensures c.build-end.ensures in
     let same : rows c.build-end.new.iw c.named-from.result c.named-n_elements.result ≡ elements_in iw pe e_len me
-    = own_read c.requires.laid me c.requires.listed c.requires.elements c.build-end.ensures c.named-from.ensures c.named-n_elements.ensures in
+    = own_read c.requires.laid me c.requires.listed c.requires.elements c.build-end.ensures c.named-from.ensures
+    c.named-n_elements.ensures in
     let small = c.requires.pivot.0 in let long = c.requires.lengths in let grown = c.absorb_own.ensures.lengths.0 in
     let p = long.0 in let e = long.1 in let l = long.2 in
     makes_as c.absorb_own.new.pe c.requires.laid refl (omega (arith, small, p, grown)) (omega (arith, small, e))

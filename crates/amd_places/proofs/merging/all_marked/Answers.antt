@@ -43,8 +43,7 @@ returns-then-mark-flag g c =
 pub loop-q-preserved : goal.loop-q-preserved
 loop-q-preserved g c =
     let iw : List ℤ = c.args.iw.now in let from : ℕ = c.args.from in let q : ℕ = c.loop-q.q in let k : ℕ = q - from in
-    let after : from ≤ q = c.loop-q.auto.q in let t = c.loop-q-test.true in
-    let at : from + k ≡ q = omega (arith, after) in let l : k < c.args.count = omega (arith, after, t) in
+    let after : from ≤ q = c.loop-q.auto.q in let at : from + k ≡ q = omega (arith, after) in
     let next : q + 1 - from ≡ k + 1 = omega (arith, after) in
     let is : c.named-x.result ≡ place (word iw (from + k)) = c.named-x.ensures ∙ ap (λ m. place (word iw m)) (sym at) in
     let marks = λ (x : ℕ). num c.args.w.now x == c.args.flag in

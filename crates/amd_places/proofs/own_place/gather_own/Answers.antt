@@ -57,12 +57,7 @@ pub copy_word-requires-clause-to : goal.copy_word-requires-clause-to
 copy_word-requires-clause-to g c =
     let from : ℕ = c.args.from in let p : ℕ = c.loop-p.p in let n : ℕ = p - from in let after : from ≤ p = c.loop-p.auto.p in let t =
     c.loop-p-test.true in
-    let e : from + n ≡ p = omega (arith, after) in let l : n < c.args.count = omega (arith, after, t) in
-    let r : c.named-row.result ≡ place (word c.args.iw.now (from + n)) = c.named-row.ensures
-    ∙ ap place (stands_at c.args.iw.now c.args.nv.now c.loop-p.iw c.loop-p.nv from c.loop-p.end c.loop-p.sum p n e c.loop-p.invariant)
-    in
-    let room = room_here c.args.iw.now c.args.nv.now c.loop-p.iw c.loop-p.nv from c.args.count c.args.from c.args.from c.loop-p.end
-    c.loop-p.sum n c.named-row.result c.loop-p.invariant l r (sym c.is_open.ensures ∙ c.if-is_open.true) in
+    let l : n < c.args.count = omega (arith, after, t) in
     let a = own_end n c.loop-p.invariant in let f = c.requires.inside in let long = c.loop-p.invariant.long in omega (arith, a, f, long, l)
 
 pub overflow_add-sum : goal.overflow_add-sum
@@ -84,12 +79,7 @@ pub overflow_add-end : goal.overflow_add-end
 overflow_add-end g c =
     let from : ℕ = c.args.from in let p : ℕ = c.loop-p.p in let n : ℕ = p - from in let after : from ≤ p = c.loop-p.auto.p in let t =
     c.loop-p-test.true in
-    let e : from + n ≡ p = omega (arith, after) in let l : n < c.args.count = omega (arith, after, t) in
-    let r : c.named-row.result ≡ place (word c.args.iw.now (from + n)) = c.named-row.ensures
-    ∙ ap place (stands_at c.args.iw.now c.args.nv.now c.loop-p.iw c.loop-p.nv from c.loop-p.end c.loop-p.sum p n e c.loop-p.invariant)
-    in
-    let room = room_here c.args.iw.now c.args.nv.now c.loop-p.iw c.loop-p.nv from c.args.count c.args.from c.args.from c.loop-p.end
-    c.loop-p.sum n c.named-row.result c.loop-p.invariant l r (sym c.is_open.ensures ∙ c.if-is_open.true) in
+    let l : n < c.args.count = omega (arith, after, t) in
     let a = own_end n c.loop-p.invariant in let f = c.requires.inside in let b = c.requires.short in
     let fits : c.loop-p.end + 1 < 2 ^ 64 = omega (arith, a, f, b, l) in search (rules, fits)
 

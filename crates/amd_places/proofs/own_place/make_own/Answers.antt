@@ -1,5 +1,5 @@
 use Rattle.std.proofs.Common.{◌<◌, ◌^◌, ◌-◌, refl, sym, ap, subst, ◌∙◌, arith, sum_by, set}
-use Rattle.amd_places.specs.Words.{num, start, size_of, classes, rows}
+use Rattle.amd_places.specs.Words.{num, size_of, classes, rows}
 use Rattle.amd_places.specs.Element.{grown}
 use Rattle.amd_places.proofs.Frames.{has_parts}
 use Rattle.amd_places.proofs.RowLists.{names_at}

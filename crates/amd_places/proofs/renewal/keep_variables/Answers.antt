@@ -22,12 +22,9 @@ named-j-requires-clause-is_one g c =
     let iw : List ℤ = c.args.iw.now in let from : ℕ = c.args.from in let p : ℕ = c.loop-p.p in let k : ℕ = p - from in
     let after : from ≤ p = c.loop-p.auto.p in let t = c.loop-p-test.true in
     let at : p ≡ from + k = omega (arith, after) in let l : k < c.args.count = omega (arith, after, t) in
-    let next : p + 1 - from ≡ k + 1 = omega (arith, after) in
     let h = c.loop-p.invariant.filters in let word_k = c.requires.names k l in let high = h.high in let down = c.requires.down in
     let same : word c.loop-p.iw p ≡ word iw p = h.above p (omega (arith, high, at, down)) in
     let is_one : is_place (word iw p) ≡ true = ap (λ m. is_place (word iw m)) at ∙ word_k.0 in
-    let small : place (word iw p) < length c.args.nv.now = (let a = ap (λ m. place (word iw m)) at in let b = word_k.1 in
-    omega (arith, a, b)) in
     ap is_place same ∙ is_one
 
 pub is_open-requires : goal.is_open-requires
@@ -35,10 +32,8 @@ is_open-requires g c =
     let iw : List ℤ = c.args.iw.now in let from : ℕ = c.args.from in let p : ℕ = c.loop-p.p in let k : ℕ = p - from in
     let after : from ≤ p = c.loop-p.auto.p in let t = c.loop-p-test.true in
     let at : p ≡ from + k = omega (arith, after) in let l : k < c.args.count = omega (arith, after, t) in
-    let next : p + 1 - from ≡ k + 1 = omega (arith, after) in
     let h = c.loop-p.invariant.filters in let word_k = c.requires.names k l in let high = h.high in let down = c.requires.down in
     let same : word c.loop-p.iw p ≡ word iw p = h.above p (omega (arith, high, at, down)) in
-    let is_one : is_place (word iw p) ≡ true = ap (λ m. is_place (word iw m)) at ∙ word_k.0 in
     let small : place (word iw p) < length c.args.nv.now = (let a = ap (λ m. place (word iw m)) at in let b = word_k.1 in
     omega (arith, a, b)) in
     let row : c.named-j.result ≡ place (word iw p) = c.named-j.ensures ∙ ap place same in
@@ -49,10 +44,8 @@ size_outside-more-requires-clause-inside g c =
     let iw : List ℤ = c.args.iw.now in let from : ℕ = c.args.from in let p : ℕ = c.loop-p.p in let k : ℕ = p - from in
     let after : from ≤ p = c.loop-p.auto.p in let t = c.loop-p-test.true in
     let at : p ≡ from + k = omega (arith, after) in let l : k < c.args.count = omega (arith, after, t) in
-    let next : p + 1 - from ≡ k + 1 = omega (arith, after) in
     let h = c.loop-p.invariant.filters in let word_k = c.requires.names k l in let high = h.high in let down = c.requires.down in
     let same : word c.loop-p.iw p ≡ word iw p = h.above p (omega (arith, high, at, down)) in
-    let is_one : is_place (word iw p) ≡ true = ap (λ m. is_place (word iw m)) at ∙ word_k.0 in
     let small : place (word iw p) < length c.args.nv.now = (let a = ap (λ m. place (word iw m)) at in let b = word_k.1 in
     omega (arith, a, b)) in
     let row : c.named-j.result ≡ place (word iw p) = c.named-j.ensures ∙ ap place same in

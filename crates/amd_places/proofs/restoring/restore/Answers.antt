@@ -194,7 +194,8 @@ loop-p-preserved g c =
               ap length w.last-is ∙ v.4 ∙ long.3,
               ap length w.hash-is ∙ v.5 ∙ long.3,
             );
-            filters = filters_as next (w.iw-is ∙ w.copy_word.ensures) w.end-is (filters_yes n (in_front nv) (λ j. 0) 0 iw from from h p 0 at (omega arith) (let a = c.requires.front.0 in
+            filters = filters_as next (w.iw-is ∙ w.copy_word.ensures) w.end-is
+                (filters_yes n (in_front nv) (λ j. 0) 0 iw from from h p 0 at (omega arith) (let a = c.requires.front.0 in
                 omega (arith, a, at, l))
                 is_one small (ap (in_front nv) (sym is) ∙ here) (let z = cut_small 0 (omega arith) in omega (arith, z)));
             restores = restores_as iw from next w.nv-is w.degree-is w.low-is record {
@@ -213,7 +214,8 @@ loop-p-preserved g c =
             };
             lasts = λ x m g. let q = rows_fresh nv iw from k i is x (sym (ap (λ xs. has xs x) rows_next_is) ∙ g) in
                 let given = c.requires.linked in
-                ap (λ l. num l x) w.last-is ∙ e.lasts x q.0 (no_head n c.loop-p.head c.loop-p.next c.loop-p.last c.loop-p.degree (put_all bound met given.0) b x
+                ap (λ l. num l x) w.last-is ∙ e.lasts x q.0 (no_head n c.loop-p.head c.loop-p.next c.loop-p.last c.loop-p.degree
+                (put_all bound met given.0) b x
                 (was.linked given.0 given.2 given.1) tight (rows_small n iw from c.args.count c.requires.front.1 x m)
                 (out_met given.0 given.2 b x tight m q.1)) ∙ was.lasts x m q.1;
             empties = emptying_as next (w.hash-is ∙ hash_is)
@@ -261,7 +263,8 @@ loop-p-preserved g c =
             };
             lasts = λ x m g. ap (λ l. num l x) w.last-is
                 ∙ was.lasts x m (rows_fresh nv iw from k i is x (sym (ap (λ xs. has xs x) rows_next_is) ∙ g)).1;
-            empties = emptying_as next w.hash-is (emptying_skips n iw nv from c.args.count c.args.hash.now c.args.last.now c.requires.heads k i is
+            empties = emptying_as next w.hash-is (emptying_skips n iw nv from c.args.count c.args.hash.now c.args.last.now
+                c.requires.heads k i is
                 c.loop-p.hash was.empties none);
             linked = λ lists out g. linked_as (λ m. put_all bound (marked_in nv (rows iw from m)) lists) next w.head-is w.next-is
                 w.last-is w.degree-is (subst (λ xs. DegreeLists n c.loop-p.head c.loop-p.next c.loop-p.last c.loop-p.degree

@@ -114,11 +114,7 @@ pack-end-requires-clause-laid g c =
 pub returns-clause-rooms : goal.returns-clause-rooms
 returns-clause-rooms g c =
     let iw : List ℤ = c.args.iw.now in let nv : List ℤ = c.args.nv.now in let pe : List ℤ = c.args.pe.now in
-    let len : List ℕ = c.args.len.now in let e_len : List ℤ = c.args.e_len.now in let me : ℕ = c.args.me in
-    let m : ℕ = place (word e_len me) in let need : ℕ = c.args.free + length (front_of iw nv pe len me m) in
-    let is : c.named-n_elements.result ≡ m = c.named-n_elements.ensures in
-    let told : c.fits.result ≡ nat_le need (length iw) = c.fits.ensures.fits
-    ∙ ap (λ k. nat_le (c.args.free + length (front_of iw nv pe len me k)) (length iw)) is in
+    let len : List ℕ = c.args.len.now in let e_len : List ℤ = c.args.e_len.now in
     let packs : Packs (length nv) iw pe e_len len c.args.free c.pack-end.new.iw c.pack-end.new.pe c.pack-end.result =
     subst (λ n. Packs n iw pe e_len len c.args.free c.pack-end.new.iw c.pack-end.new.pe c.pack-end.result) c.requires.lengths.2
     c.pack-end.ensures.packs in
@@ -128,10 +124,7 @@ pub returns-clause-fits : goal.returns-clause-fits
 returns-clause-fits g c =
     let iw : List ℤ = c.args.iw.now in let nv : List ℤ = c.args.nv.now in let pe : List ℤ = c.args.pe.now in
     let len : List ℕ = c.args.len.now in let e_len : List ℤ = c.args.e_len.now in let me : ℕ = c.args.me in
-    let m : ℕ = place (word e_len me) in let need : ℕ = c.args.free + length (front_of iw nv pe len me m) in
-    let is : c.named-n_elements.result ≡ m = c.named-n_elements.ensures in
-    let told : c.fits.result ≡ nat_le need (length iw) = c.fits.ensures.fits
-    ∙ ap (λ k. nat_le (c.args.free + length (front_of iw nv pe len me k)) (length iw)) is in
+    let m : ℕ = place (word e_len me) in
     let packs : Packs (length nv) iw pe e_len len c.args.free c.pack-end.new.iw c.pack-end.new.pe c.pack-end.result =
     subst (λ n. Packs n iw pe e_len len c.args.free c.pack-end.new.iw c.pack-end.new.pe c.pack-end.result) c.requires.lengths.2
     c.pack-end.ensures.packs in
@@ -154,11 +147,7 @@ returns-clause-moved g c =
 pub returns-clause-packed : goal.returns-clause-packed
 returns-clause-packed g c =
     let iw : List ℤ = c.args.iw.now in let nv : List ℤ = c.args.nv.now in let pe : List ℤ = c.args.pe.now in
-    let len : List ℕ = c.args.len.now in let e_len : List ℤ = c.args.e_len.now in let me : ℕ = c.args.me in
-    let m : ℕ = place (word e_len me) in let need : ℕ = c.args.free + length (front_of iw nv pe len me m) in
-    let is : c.named-n_elements.result ≡ m = c.named-n_elements.ensures in
-    let told : c.fits.result ≡ nat_le need (length iw) = c.fits.ensures.fits
-    ∙ ap (λ k. nat_le (c.args.free + length (front_of iw nv pe len me k)) (length iw)) is in
+    let len : List ℕ = c.args.len.now in let e_len : List ℤ = c.args.e_len.now in
     let packs : Packs (length nv) iw pe e_len len c.args.free c.pack-end.new.iw c.pack-end.new.pe c.pack-end.result =
     subst (λ n. Packs n iw pe e_len len c.args.free c.pack-end.new.iw c.pack-end.new.pe c.pack-end.result) c.requires.lengths.2
     c.pack-end.ensures.packs in

@@ -15,7 +15,6 @@ named-j-requires-clause-is_one g c =
     let iw : List ℤ = c.args.iw.now in let from : ℕ = c.args.from in let p : ℕ = c.loop-p.p in let k : ℕ = p - from in
     let after : from ≤ p = c.loop-p.auto.p in let t = c.loop-p-test.true in
     let at : from + k ≡ p = omega (arith, after) in let l : k < c.args.count = omega (arith, after, t) in
-    let next : p + 1 - from ≡ k + 1 = omega (arith, after) in let was = c.loop-p.invariant in
     ap (λ m. is_place (word iw m)) (sym at) ∙ (c.requires.names k l).0
 
 pub meet-now-requires : goal.meet-now-requires
@@ -23,15 +22,14 @@ meet-now-requires g c =
     let iw : List ℤ = c.args.iw.now in let from : ℕ = c.args.from in let p : ℕ = c.loop-p.p in let k : ℕ = p - from in
     let after : from ≤ p = c.loop-p.auto.p in let t = c.loop-p-test.true in
     let at : from + k ≡ p = omega (arith, after) in let l : k < c.args.count = omega (arith, after, t) in
-    let next : p + 1 - from ≡ k + 1 = omega (arith, after) in let was = c.loop-p.invariant in
+    let was = c.loop-p.invariant in
     let is : c.named-j.result ≡ place (word iw (from + k)) = c.named-j.ensures ∙ ap (λ m. place (word iw m)) (sym at) in
     let small = (c.requires.names k l).1 in let wide = was.wide in omega (arith, is, small, wide)
 
 pub loop-p-preserved : goal.loop-p-preserved
 loop-p-preserved g c =
     let iw : List ℤ = c.args.iw.now in let from : ℕ = c.args.from in let p : ℕ = c.loop-p.p in let k : ℕ = p - from in
-    let after : from ≤ p = c.loop-p.auto.p in let t = c.loop-p-test.true in
-    let at : from + k ≡ p = omega (arith, after) in let l : k < c.args.count = omega (arith, after, t) in
+    let after : from ≤ p = c.loop-p.auto.p in let at : from + k ≡ p = omega (arith, after) in
     let next : p + 1 - from ≡ k + 1 = omega (arith, after) in let was = c.loop-p.invariant in
     let is : c.named-j.result ≡ place (word iw (from + k)) = c.named-j.ensures ∙ ap (λ m. place (word iw m)) (sym at) in
     subst (λ m. Meets c.args.nv.now (classes c.args.nv.now (rows iw from m)) c.args.left c.meet-now.new.nv c.meet-now.result) (sym next)

@@ -18,7 +18,7 @@ named-e-requires-clause-is_one g c =
     let from : ℕ = c.named-from.result in let is : from ≡ start pe pivot = c.named-from.ensures in
     let p : ℕ = c.loop-p.p in let k : ℕ = p - from in let after : from ≤ p = c.loop-p.auto.p in let t = c.loop-p-test.true in
     let at : from + k ≡ p = omega (arith, after) in let l : k < m = omega (arith, after, t) in
-    let next : p + 1 - from ≡ k + 1 = omega (arith, after) in let there : start pe pivot + k ≡ p = omega (arith, at, is) in
+    let there : start pe pivot + k ≡ p = omega (arith, at, is) in
     let word_k = own_word iw pe len (length len) (length iw) pivot m c.requires.elements c.requires.laid k l in
     ap (λ q. is_place (word iw q)) (sym there) ∙ word_k.0
 
@@ -29,7 +29,7 @@ figure_at-requires g c =
     let from : ℕ = c.named-from.result in let is : from ≡ start pe pivot = c.named-from.ensures in
     let p : ℕ = c.loop-p.p in let k : ℕ = p - from in let after : from ≤ p = c.loop-p.auto.p in let t = c.loop-p-test.true in
     let at : from + k ≡ p = omega (arith, after) in let l : k < m = omega (arith, after, t) in
-    let next : p + 1 - from ≡ k + 1 = omega (arith, after) in let there : start pe pivot + k ≡ p = omega (arith, at, is) in
+    let there : start pe pivot + k ≡ p = omega (arith, at, is) in
     let word_k = own_word iw pe len (length len) (length iw) pivot m c.requires.elements c.requires.laid k l in
     let e : ℕ = place (word iw (start pe pivot + k)) in
     let e_is : c.named-e.result ≡ e = c.named-e.ensures ∙ ap (λ q. place (word iw q)) (sym there) in
@@ -38,12 +38,11 @@ figure_at-requires g c =
 pub loop-p-preserved : goal.loop-p-preserved
 loop-p-preserved g c =
     let iw : List ℤ = c.args.iw.now in let pe : List ℤ = c.args.pe.now in
-    let len : List ℕ = c.args.len.now in let pivot : ℕ = c.args.pivot in let m : ℕ = c.args.n_elements in
-    let from : ℕ = c.named-from.result in let is : from ≡ start pe pivot = c.named-from.ensures in
-    let p : ℕ = c.loop-p.p in let k : ℕ = p - from in let after : from ≤ p = c.loop-p.auto.p in let t = c.loop-p-test.true in
-    let at : from + k ≡ p = omega (arith, after) in let l : k < m = omega (arith, after, t) in
-    let next : p + 1 - from ≡ k + 1 = omega (arith, after) in let there : start pe pivot + k ≡ p = omega (arith, at, is) in
-    let word_k = own_word iw pe len (length len) (length iw) pivot m c.requires.elements c.requires.laid k l in
+    let len : List ℕ = c.args.len.now in let pivot : ℕ = c.args.pivot in let from : ℕ = c.named-from.result in
+    let is : from ≡ start pe pivot = c.named-from.ensures in
+    let p : ℕ = c.loop-p.p in let k : ℕ = p - from in let after : from ≤ p = c.loop-p.auto.p in
+    let at : from + k ≡ p = omega (arith, after) in let next : p + 1 - from ≡ k + 1 = omega (arith, after) in
+    let there : start pe pivot + k ≡ p = omega (arith, at, is) in
     let e : ℕ = place (word iw (start pe pivot + k)) in
     let e_is : c.named-e.result ≡ e = c.named-e.ensures ∙ ap (λ q. place (word iw q)) (sym there) in
     let read = c.figure_at.ensures.is ∙ ap (num len) e_is in let more = words_next len iw (start pe pivot) k in

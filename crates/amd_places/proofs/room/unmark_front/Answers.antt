@@ -20,9 +20,8 @@ named-e-requires-clause-is_one g c =
     let from : ℕ = c.named-from.result in let is : from ≡ start pe pivot = c.named-from.ensures in
     let p : ℕ = c.loop-p.p in let k : ℕ = p - from in let after : from ≤ p = c.loop-p.auto.p in let t = c.loop-p-test.true in
     let at : from + k ≡ p = omega (arith, after) in let l : k < m = omega (arith, after, t) in
-    let next : p + 1 - from ≡ k + 1 = omega (arith, after) in let there : start pe pivot + k ≡ p = omega (arith, at, is) in
+    let there : start pe pivot + k ≡ p = omega (arith, at, is) in
     let word_k = own_word iw pe len (length nv) (length iw) pivot m c.requires.elements c.requires.laid k l in
-    let laid = own_element iw pe len (length nv) (length iw) pivot m c.requires.elements c.requires.laid k l in
     ap (λ q. is_place (word iw q)) (sym there) ∙ word_k.0
 
 pub named-first-requires-clause-inside : goal.named-first-requires-clause-inside
@@ -32,9 +31,8 @@ named-first-requires-clause-inside g c =
     let from : ℕ = c.named-from.result in let is : from ≡ start pe pivot = c.named-from.ensures in
     let p : ℕ = c.loop-p.p in let k : ℕ = p - from in let after : from ≤ p = c.loop-p.auto.p in let t = c.loop-p-test.true in
     let at : from + k ≡ p = omega (arith, after) in let l : k < m = omega (arith, after, t) in
-    let next : p + 1 - from ≡ k + 1 = omega (arith, after) in let there : start pe pivot + k ≡ p = omega (arith, at, is) in
+    let there : start pe pivot + k ≡ p = omega (arith, at, is) in
     let word_k = own_word iw pe len (length nv) (length iw) pivot m c.requires.elements c.requires.laid k l in
-    let laid = own_element iw pe len (length nv) (length iw) pivot m c.requires.elements c.requires.laid k l in
     let e : ℕ = place (word iw (start pe pivot + k)) in
     let e_is : c.named-e.result ≡ e = c.named-e.ensures ∙ ap (λ q. place (word iw q)) (sym there) in
     let small = word_k.1 in let long = c.requires.lengths.0 in omega (arith, small, e_is, long)
@@ -46,8 +44,7 @@ named-first-requires-clause-is_one g c =
     let from : ℕ = c.named-from.result in let is : from ≡ start pe pivot = c.named-from.ensures in
     let p : ℕ = c.loop-p.p in let k : ℕ = p - from in let after : from ≤ p = c.loop-p.auto.p in let t = c.loop-p-test.true in
     let at : from + k ≡ p = omega (arith, after) in let l : k < m = omega (arith, after, t) in
-    let next : p + 1 - from ≡ k + 1 = omega (arith, after) in let there : start pe pivot + k ≡ p = omega (arith, at, is) in
-    let word_k = own_word iw pe len (length nv) (length iw) pivot m c.requires.elements c.requires.laid k l in
+    let there : start pe pivot + k ≡ p = omega (arith, at, is) in
     let laid = own_element iw pe len (length nv) (length iw) pivot m c.requires.elements c.requires.laid k l in
     let e : ℕ = place (word iw (start pe pivot + k)) in
     let e_is : c.named-e.result ≡ e = c.named-e.ensures ∙ ap (λ q. place (word iw q)) (sym there) in
@@ -60,9 +57,8 @@ figure_at-requires g c =
     let from : ℕ = c.named-from.result in let is : from ≡ start pe pivot = c.named-from.ensures in
     let p : ℕ = c.loop-p.p in let k : ℕ = p - from in let after : from ≤ p = c.loop-p.auto.p in let t = c.loop-p-test.true in
     let at : from + k ≡ p = omega (arith, after) in let l : k < m = omega (arith, after, t) in
-    let next : p + 1 - from ≡ k + 1 = omega (arith, after) in let there : start pe pivot + k ≡ p = omega (arith, at, is) in
+    let there : start pe pivot + k ≡ p = omega (arith, at, is) in
     let word_k = own_word iw pe len (length nv) (length iw) pivot m c.requires.elements c.requires.laid k l in
-    let laid = own_element iw pe len (length nv) (length iw) pivot m c.requires.elements c.requires.laid k l in
     let e : ℕ = place (word iw (start pe pivot + k)) in
     let e_is : c.named-e.result ≡ e = c.named-e.ensures ∙ ap (λ q. place (word iw q)) (sym there) in
     let small = word_k.1 in let long = c.requires.lengths.1 in omega (arith, small, e_is, long)
@@ -74,8 +70,7 @@ unmark_all-requires-clause-inside g c =
     let from : ℕ = c.named-from.result in let is : from ≡ start pe pivot = c.named-from.ensures in
     let p : ℕ = c.loop-p.p in let k : ℕ = p - from in let after : from ≤ p = c.loop-p.auto.p in let t = c.loop-p-test.true in
     let at : from + k ≡ p = omega (arith, after) in let l : k < m = omega (arith, after, t) in
-    let next : p + 1 - from ≡ k + 1 = omega (arith, after) in let there : start pe pivot + k ≡ p = omega (arith, at, is) in
-    let word_k = own_word iw pe len (length nv) (length iw) pivot m c.requires.elements c.requires.laid k l in
+    let there : start pe pivot + k ≡ p = omega (arith, at, is) in
     let laid = own_element iw pe len (length nv) (length iw) pivot m c.requires.elements c.requires.laid k l in
     let e : ℕ = place (word iw (start pe pivot + k)) in
     let e_is : c.named-e.result ≡ e = c.named-e.ensures ∙ ap (λ q. place (word iw q)) (sym there) in
@@ -90,8 +85,7 @@ unmark_all-requires-clause-names g c =
     let from : ℕ = c.named-from.result in let is : from ≡ start pe pivot = c.named-from.ensures in
     let p : ℕ = c.loop-p.p in let k : ℕ = p - from in let after : from ≤ p = c.loop-p.auto.p in let t = c.loop-p-test.true in
     let at : from + k ≡ p = omega (arith, after) in let l : k < m = omega (arith, after, t) in
-    let next : p + 1 - from ≡ k + 1 = omega (arith, after) in let there : start pe pivot + k ≡ p = omega (arith, at, is) in
-    let word_k = own_word iw pe len (length nv) (length iw) pivot m c.requires.elements c.requires.laid k l in
+    let there : start pe pivot + k ≡ p = omega (arith, at, is) in
     let laid = own_element iw pe len (length nv) (length iw) pivot m c.requires.elements c.requires.laid k l in
     let e : ℕ = place (word iw (start pe pivot + k)) in
     let e_is : c.named-e.result ≡ e = c.named-e.ensures ∙ ap (λ q. place (word iw q)) (sym there) in
@@ -105,13 +99,11 @@ unmark_all-requires-clause-names g c =
 pub loop-p-preserved : goal.loop-p-preserved
 loop-p-preserved g c =
     let iw : List ℤ = c.args.iw.now in let nv : List ℤ = c.args.nv.now in let pe : List ℤ = c.args.pe.now in
-    let len : List ℕ = c.args.len.now in let pivot : ℕ = c.args.pivot in let m : ℕ = c.args.n_elements in
-    let from : ℕ = c.named-from.result in let is : from ≡ start pe pivot = c.named-from.ensures in
-    let p : ℕ = c.loop-p.p in let k : ℕ = p - from in let after : from ≤ p = c.loop-p.auto.p in let t = c.loop-p-test.true in
-    let at : from + k ≡ p = omega (arith, after) in let l : k < m = omega (arith, after, t) in
-    let next : p + 1 - from ≡ k + 1 = omega (arith, after) in let there : start pe pivot + k ≡ p = omega (arith, at, is) in
-    let word_k = own_word iw pe len (length nv) (length iw) pivot m c.requires.elements c.requires.laid k l in
-    let laid = own_element iw pe len (length nv) (length iw) pivot m c.requires.elements c.requires.laid k l in
+    let len : List ℕ = c.args.len.now in let pivot : ℕ = c.args.pivot in let from : ℕ = c.named-from.result in
+    let is : from ≡ start pe pivot = c.named-from.ensures in
+    let p : ℕ = c.loop-p.p in let k : ℕ = p - from in let after : from ≤ p = c.loop-p.auto.p in
+    let at : from + k ≡ p = omega (arith, after) in let next : p + 1 - from ≡ k + 1 = omega (arith, after) in
+    let there : start pe pivot + k ≡ p = omega (arith, at, is) in
     let e : ℕ = place (word iw (start pe pivot + k)) in
     let e_is : c.named-e.result ≡ e = c.named-e.ensures ∙ ap (λ q. place (word iw q)) (sym there) in
     let first_is : c.named-first.result ≡ start pe e = c.named-first.ensures ∙ ap (start pe) e_is in
@@ -129,9 +121,8 @@ pub unmark_all-requires-2-clause-names : goal.unmark_all-requires-2-clause-names
 unmark_all-requires-2-clause-names g c =
     let iw : List ℤ = c.args.iw.now in let nv : List ℤ = c.args.nv.now in let pe : List ℤ = c.args.pe.now in
     let len : List ℕ = c.args.len.now in let pivot : ℕ = c.args.pivot in let m : ℕ = c.args.n_elements in
-    let from : ℕ = c.named-from.result in let is : from ≡ start pe pivot = c.named-from.ensures in let t = c.loop-p-test.false in
-    let after : from ≤ c.loop-p.p = c.loop-p.auto.p in let past : c.loop-p.p ≤ from + m = c.loop-p.auto.p-end (omega arith) in
-    let all : c.loop-p.p - from ≡ m = omega (arith, t, after, past) in let place_is : from + m ≡ start pe pivot + m = omega (arith, is) in
+    let from : ℕ = c.named-from.result in let is : from ≡ start pe pivot = c.named-from.ensures in
+    let place_is : from + m ≡ start pe pivot + m = omega (arith, is) in
     let read = c.figure_at-2.ensures.is in let count_is : c.figure_at-2.result - m ≡ num len pivot - m = omega (arith, read) in
     let rest = own_variables iw pe len (length nv) (length iw) pivot m c.requires.elements c.requires.laid in
     let wide : length c.loop-p.nv ≡ length nv = c.loop-p.invariant.wide in

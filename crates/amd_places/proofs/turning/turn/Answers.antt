@@ -58,10 +58,6 @@ renew_all-requires-clause-laid g c =
     (flip_of me) (word pe e) = λ e. c.count_outside.ensures.starts e
     ∙ ap (λ xs. cond (ends c.args.aggressive c.args.flag (seen (met iw pe c.args.e_len.now c.args.nv.now xs e) e)) (flip_of me)
     (word pe e)) list in
-    let counted : (e : ℕ) → num c.count_outside.new.w e
-    ≡ settled c.args.aggressive c.args.flag (seen (met iw pe c.args.e_len.now c.args.nv.now (list_in iw pe len me) e) e) = λ e.
-    c.count_outside.ensures.counted e
-    ∙ ap (λ xs. settled c.args.aggressive c.args.flag (seen (met iw pe c.args.e_len.now c.args.nv.now xs e) e)) list in
     let long = c.count_outside.ensures.long.0 in
     subst (λ n. Layout n iw left c.args.e_len.now len c.args.free) (sym long)
     (left_laid c.args.aggressive c.args.flag c.requires.laid c.requires.flag.0 c.requires.flag.1 c.requires.front left ended)
@@ -80,11 +76,6 @@ renew_all-requires-clause-list g c =
     (flip_of me) (word pe e) = λ e. c.count_outside.ensures.starts e
     ∙ ap (λ xs. cond (ends c.args.aggressive c.args.flag (seen (met iw pe c.args.e_len.now c.args.nv.now xs e) e)) (flip_of me)
     (word pe e)) list in
-    let counted : (e : ℕ) → num c.count_outside.new.w e
-    ≡ settled c.args.aggressive c.args.flag (seen (met iw pe c.args.e_len.now c.args.nv.now (list_in iw pe len me) e) e) = λ e.
-    c.count_outside.ensures.counted e
-    ∙ ap (λ xs. settled c.args.aggressive c.args.flag (seen (met iw pe c.args.e_len.now c.args.nv.now xs e) e)) list in
-    let long = c.count_outside.ensures.long.0 in
     ap is_place (left_me c.args.aggressive c.args.flag c.requires.laid c.requires.flag.0 c.requires.flag.1 c.requires.front left ended)
     ∙ c.requires.list.starts
 
@@ -102,11 +93,6 @@ renew_all-requires-clause-apart g c =
     (flip_of me) (word pe e) = λ e. c.count_outside.ensures.starts e
     ∙ ap (λ xs. cond (ends c.args.aggressive c.args.flag (seen (met iw pe c.args.e_len.now c.args.nv.now xs e) e)) (flip_of me)
     (word pe e)) list in
-    let counted : (e : ℕ) → num c.count_outside.new.w e
-    ≡ settled c.args.aggressive c.args.flag (seen (met iw pe c.args.e_len.now c.args.nv.now (list_in iw pe len me) e) e) = λ e.
-    c.count_outside.ensures.counted e
-    ∙ ap (λ xs. settled c.args.aggressive c.args.flag (seen (met iw pe c.args.e_len.now c.args.nv.now xs e) e)) list in
-    let long = c.count_outside.ensures.long.0 in
     ap (λ xs. has xs me) (left_list c.args.aggressive c.args.flag c.requires.laid c.requires.flag.0 c.requires.flag.1
     c.requires.front left ended) ∙ c.requires.list.apart
 
@@ -124,11 +110,6 @@ renew_all-requires-clause-once g c =
     (flip_of me) (word pe e) = λ e. c.count_outside.ensures.starts e
     ∙ ap (λ xs. cond (ends c.args.aggressive c.args.flag (seen (met iw pe c.args.e_len.now c.args.nv.now xs e) e)) (flip_of me)
     (word pe e)) list in
-    let counted : (e : ℕ) → num c.count_outside.new.w e
-    ≡ settled c.args.aggressive c.args.flag (seen (met iw pe c.args.e_len.now c.args.nv.now (list_in iw pe len me) e) e) = λ e.
-    c.count_outside.ensures.counted e
-    ∙ ap (λ xs. settled c.args.aggressive c.args.flag (seen (met iw pe c.args.e_len.now c.args.nv.now xs e) e)) list in
-    let long = c.count_outside.ensures.long.0 in
     subst Once (sym (left_list c.args.aggressive c.args.flag c.requires.laid c.requires.flag.0 c.requires.flag.1 c.requires.front
     left ended)) c.requires.list.once
 
@@ -150,7 +131,6 @@ renew_all-requires-clause-front g c =
     ≡ settled c.args.aggressive c.args.flag (seen (met iw pe c.args.e_len.now c.args.nv.now (list_in iw pe len me) e) e) = λ e.
     c.count_outside.ensures.counted e
     ∙ ap (λ xs. settled c.args.aggressive c.args.flag (seen (met iw pe c.args.e_len.now c.args.nv.now xs e) e)) list in
-    let long = c.count_outside.ensures.long.0 in
     left_renewable c.args.aggressive c.args.flag c.requires.laid c.requires.flag.0 c.requires.flag.1 c.requires.front left ended
     c.count_outside.new.w counted
 
@@ -168,11 +148,6 @@ renew_all-requires-clause-marked g c i h =
     (flip_of me) (word pe e) = λ e. c.count_outside.ensures.starts e
     ∙ ap (λ xs. cond (ends c.args.aggressive c.args.flag (seen (met iw pe c.args.e_len.now c.args.nv.now xs e) e)) (flip_of me)
     (word pe e)) list in
-    let counted : (e : ℕ) → num c.count_outside.new.w e
-    ≡ settled c.args.aggressive c.args.flag (seen (met iw pe c.args.e_len.now c.args.nv.now (list_in iw pe len me) e) e) = λ e.
-    c.count_outside.ensures.counted e
-    ∙ ap (λ xs. settled c.args.aggressive c.args.flag (seen (met iw pe c.args.e_len.now c.args.nv.now xs e) e)) list in
-    let long = c.count_outside.ensures.long.0 in
     (c.requires.front i (sym (ap (λ xs. has xs i)
     (left_list c.args.aggressive c.args.flag c.requires.laid c.requires.flag.0 c.requires.flag.1 c.requires.front left ended)) ∙ h)).marked
 
@@ -190,11 +165,6 @@ renew_all-requires-clause-few g c =
     (flip_of me) (word pe e) = λ e. c.count_outside.ensures.starts e
     ∙ ap (λ xs. cond (ends c.args.aggressive c.args.flag (seen (met iw pe c.args.e_len.now c.args.nv.now xs e) e)) (flip_of me)
     (word pe e)) list in
-    let counted : (e : ℕ) → num c.count_outside.new.w e
-    ≡ settled c.args.aggressive c.args.flag (seen (met iw pe c.args.e_len.now c.args.nv.now (list_in iw pe len me) e) e) = λ e.
-    c.count_outside.ensures.counted e
-    ∙ ap (λ xs. settled c.args.aggressive c.args.flag (seen (met iw pe c.args.e_len.now c.args.nv.now xs e) e)) list in
-    let long = c.count_outside.ensures.long.0 in
     let a = ap (sum_by (size_of c.args.nv.now))
     (left_list c.args.aggressive c.args.flag c.requires.laid c.requires.flag.0 c.requires.flag.1 c.requires.front left ended) in
     let b = c.requires.few in omega (arith, a, b)
@@ -249,10 +219,6 @@ returns-clause-linked g c lists member h =
     (flip_of me) (word pe e) = λ e. c.count_outside.ensures.starts e
     ∙ ap (λ xs. cond (ends c.args.aggressive c.args.flag (seen (met iw pe c.args.e_len.now c.args.nv.now xs e) e)) (flip_of me)
     (word pe e)) list in
-    let counted : (e : ℕ) → num c.count_outside.new.w e
-    ≡ settled c.args.aggressive c.args.flag (seen (met iw pe c.args.e_len.now c.args.nv.now (list_in iw pe len me) e) e) = λ e.
-    c.count_outside.ensures.counted e
-    ∙ ap (λ xs. settled c.args.aggressive c.args.flag (seen (met iw pe c.args.e_len.now c.args.nv.now xs e) e)) list in
     let long = c.count_outside.ensures.long.0 in
     let out = c.count_outside.ensures.linked lists (λ i m. member i (sym (ap (λ xs. has xs i) list) ∙ m)) h in
     let same = left_list c.args.aggressive c.args.flag c.requires.laid c.requires.flag.0 c.requires.flag.1 c.requires.front left ended in
