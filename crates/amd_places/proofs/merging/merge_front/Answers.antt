@@ -1,4 +1,4 @@
-use Rattle.std.proofs.Common.{ℕ, List, refl, sym, subst, ◌∙◌, ◌+◌, ◌≤◌, arith, length}
+use Rattle.std.proofs.Common.{ℕ, List, refl, sym, subst, ◌∙◌, ◌+◌, ◌-◌, ◌≤◌, arith, length}
 use Rattle.amd_places.specs.Words.{num, classes, rows}
 use Rattle.amd_views.specs.Rounds.{alike_in}
 use Rattle.amd_places.specs.Merging.{MergesAll, kept_of, near_of, represents_in}
@@ -15,6 +15,30 @@ classes-init g c = let l = c.requires.lengths in record {
       c.args.next.now c.args.last.now (classes c.args.nv.now (rows c.args.iw.now c.args.from c.args.count)) c.args.flag
       c.args.hash.now c.requires.empty c.requires.under (l.0, l.1, l.2, l.4, l.5, refl);
 }
+
+pub named-i-requires-clause-inside : goal.named-i-requires-clause-inside
+named-i-requires-clause-inside g c = let f = c.requires.front.0 in let w = c.classes.invariant.within in let t = c.classes-test.true in
+    omega (arith, f, w, t)
+
+pub named-i-requires-clause-is_one : goal.named-i-requires-clause-is_one
+named-i-requires-clause-is_one g c = let w = c.classes.invariant.within in let t = c.classes-test.true in
+    (c.requires.front.1 (c.classes.left - 1) (omega (arith, w, t))).0
+
+pub is_class-requires : goal.is_class-requires
+is_class-requires g c = let w = c.classes.invariant.within in let t = c.classes-test.true in
+    let s = (c.requires.front.1 (c.classes.left - 1) (omega (arith, w, t))).1 in let e = c.named-i.ensures in
+    let l = c.classes.invariant.merging.long.2 in omega (arith, s, e, l)
+
+pub merge_one-now-requires-clause-lengths : goal.merge_one-now-requires-clause-lengths
+merge_one-now-requires-clause-lengths g c = let o = c.classes.invariant.merging.long in let l = c.requires.lengths in
+    let n = sym o.5 in (o.0 ∙ n, o.1 ∙ n, o.2 ∙ n, l.3 ∙ n, o.3 ∙ n, o.4 ∙ n, refl, l.7 ∙ n)
+
+pub merge_one-now-requires-clause-short : goal.merge_one-now-requires-clause-short
+merge_one-now-requires-clause-short g c = let s = c.requires.short.1 in let t = c.requires.short.2 in
+    let n = c.classes.invariant.merging.long.5 in (c.requires.short.0, (omega (arith, s, n)), (omega (arith, t, n)))
+
+pub merge_one-now-requires-clause-under : goal.merge_one-now-requires-clause-under
+merge_one-now-requires-clause-under g c = c.classes.invariant.merging.under
 
 pub merge_one-now-requires-clause-ready : goal.merge_one-now-requires-clause-ready
 merge_one-now-requires-clause-ready g c = let g = premises (length c.args.next.now)
@@ -93,3 +117,13 @@ returns-clause-merges g c =
 pub returns-clause-flag : goal.returns-clause-flag
 returns-clause-flag g c = let f = c.classes.invariant.merging.flags in let a = f.0 in let b = f.1 in let d =
     classes_few c.args.nv.now c.args.iw.now c.args.from c.args.count in (a, omega (arith, b, d))
+
+pub returns-clause-lengths : goal.returns-clause-lengths
+returns-clause-lengths g c = let o = c.classes.invariant.merging.long in let l = c.requires.lengths in
+    (o.0, o.1, o.2, l.3, o.3, o.4, o.5, l.7)
+
+pub returns-clause-under : goal.returns-clause-under
+returns-clause-under g c = c.classes.invariant.merging.under
+
+pub returns-clause-zeros : goal.returns-clause-zeros
+returns-clause-zeros g c = c.classes.invariant.merging.zeros
