@@ -1,4 +1,4 @@
-use Rattle.std.proofs.Common.{ℕ, true, ◌≡◌, [], inl, inr, refl, sym, ap, subst, ◌∙◌, arith, length, set}
+use Rattle.std.proofs.Common.{true, ◌≡◌, [], inl, inr, refl, sym, ap, subst, ◌∙◌, arith, length, set}
 use Rattle.std.specs.Prelude.{◌==◌}
 use Rattle.amd_model.specs.Quotient.{has}
 use Rattle.amd_model.proofs.Listings.Words.{has_none}

@@ -25,6 +25,14 @@ module _ (iw nv iw' nv' : List ℤ) (from end total p n : ℕ) (e : from + n
   stands_at : word iw' p ≡ word iw (from + n)
   stands_at = h.above p (let a = own_end n h in omega (arith, e, a)) ∙ ap (word iw) (sym e)
 
+pub named-row-requires-clause-inside : goal.named-row-requires-clause-inside
+named-row-requires-clause-inside g c = let t = c.loop-p-test.true in let i = c.requires.inside in let l = c.loop-p.invariant.long in
+    omega (arith, t, i, l)
+
+pub copy_word-requires-clause-from : goal.copy_word-requires-clause-from
+copy_word-requires-clause-from g c = let t = c.loop-p-test.true in let i = c.requires.inside in let l = c.loop-p.invariant.long in
+    omega (arith, t, i, l)
+
 pub named-row-requires-clause-is_one : goal.named-row-requires-clause-is_one
 named-row-requires-clause-is_one g c =
     let from : ℕ = c.args.from in let p : ℕ = c.loop-p.p in let n : ℕ = p - from in let after : from ≤ p = c.loop-p.auto.p in let t =
