@@ -10,10 +10,24 @@ use Rattle.amd_edges.proofs.walk.walk.Goals.{then-column, else-column}
 abbrev one_if : Bool → ℕ
 one_if b = cond b 1 0
 
-pub column-requires : goal.column-requires
-column-requires g c =
-    let i = c.columns.invariant in let r = c.requires in
-    record { form = r.form; sorted = r.sorted; k_in = c.columns-test.true; room = i.room; scan = i.scan; held = i.held }
+-- Each clause of a `requires` has an answer of its own: stated all at once, the clauses take long to check.
+pub column-requires-clause-form : goal.column-requires-clause-form
+column-requires-clause-form g c = c.requires.form
+
+pub column-requires-clause-sorted : goal.column-requires-clause-sorted
+column-requires-clause-sorted g c = c.requires.sorted
+
+pub column-requires-clause-k_in : goal.column-requires-clause-k_in
+column-requires-clause-k_in g c = c.columns-test.true
+
+pub column-requires-clause-room : goal.column-requires-clause-room
+column-requires-clause-room g c = c.columns.invariant.room
+
+pub column-requires-clause-scan : goal.column-requires-clause-scan
+column-requires-clause-scan g c = c.columns.invariant.scan
+
+pub column-requires-clause-held : goal.column-requires-clause-held
+column-requires-clause-held g c = c.columns.invariant.held
 
 pub columns-init : goal.columns-init
 unfolding count_below sum_below
@@ -63,13 +77,21 @@ columns-preserved g c =
       held = e.held;
     }
 
-pub rest-requires : goal.rest-requires
-rest-requires g c =
-    let i = c.columns.invariant in
+pub rest-requires-clause-form : goal.rest-requires-clause-form
+rest-requires-clause-form g c = c.requires.form
+
+pub rest-requires-clause-sorted : goal.rest-requires-clause-sorted
+rest-requires-clause-sorted g c = c.requires.sorted
+
+pub rest-requires-clause-scan : goal.rest-requires-clause-scan
+rest-requires-clause-scan g c =
     let e : c.columns.k ≡ c.args.size = (let x = c.columns-test.false in let y = c.columns.auto.k-end in omega arith) in
-    let s = rw e at i.scan in
-    let h = rw e at i.held in
-    record { form = c.requires.form; sorted = c.requires.sorted; scan = s; held = h }
+    rw e at c.columns.invariant.scan
+
+pub rest-requires-clause-held : goal.rest-requires-clause-held
+rest-requires-clause-held g c =
+    let e : c.columns.k ≡ c.args.size = (let x = c.columns-test.false in let y = c.columns.auto.k-end in omega arith) in
+    rw e at c.columns.invariant.held
 
 pub returns : goal.returns
 returns g c =
