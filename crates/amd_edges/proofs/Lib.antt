@@ -1,5 +1,6 @@
 pub mod Places
 pub mod Forms
+pub mod Reading
 pub mod Scans
 pub mod Uppers
 pub mod Ends

@@ -2,14 +2,22 @@
 use Rattle.std.proofs.Common.{◌≡◌, ◌≢◌, ◌+◌, ◌<◌, ◌≤◌, ◌⊎◌, inl, inr, ℕ, Bool, true, false, List, [], ◌∷◌, ◌++◌, get_or, arith, refl, ap}
 use Rattle.std.proofs.Common.{sym, ◌∙◌, cond, eqb, ltb, ◌||◌, ◌&&◌}
 use Rattle.std.proofs.Math.Bool.{and_comm}
-use Rattle.std.proofs.lemmas.Bool.{cases_eq, cases_lt, cases_Bool, true≢false, eq-eqb, lt-ltb, le-ltb, ne_eqb}
+use Rattle.std.proofs.lemmas.Bool.{cases_eq, cases_lt, cases_Bool, true≢false, eq-eqb, lt-ltb, le-ltb, ne_eqb, false_from_ne_true}
 use Rattle.std.proofs.lemmas.List.{length_push, get_or_push, get_or_append_left, get_or_past}
 use Rattle.amd_edges.specs.Visits.{with_arc, IsNew}
 use Rattle.amd_edges.proofs.Forms.{IsSortedForm}
+use Rattle.amd_edges.proofs.Reading.{IsReading}
 use Rattle.amd_numbers.specs.Counts.{is_before, is_entry, count_graph}
 use Rattle.amd_edges.specs.Walk.{IsScan, is_read, is_met, met}
-use Rattle.amd_edges.proofs.Places.{cases_order, funext2, before_none, entry_gives, entry_none}
+use Rattle.amd_edges.proofs.Places.{cases_order, funext2, before_none, entry_from, entry_gives, entry_none}
 use Rattle.amd_edges.proofs.Scans.{both_arcs, two_new, met_within, in_column, reached_on}
+
+-- the row j stands above the diagonal of column k, and is the first one there from row m on
+pub record IsUpper (n : ℕ) (ap' ai : List ℕ) (k m j : ℕ) : Type 0 where
+  pub up : j < k
+  pub pair : is_entry n ap' ai j k ≡ true
+  pub low : m ≤ j
+  pub gap : (a : ℕ) → m ≤ a → a < j → is_entry n ap' ai a k ≡ false
 
 module _ (n : ℕ) (ap' ai : List ℕ) (form : IsSortedForm n ap' ai) (t : List ℕ) (k m : ℕ) (k_in : k < n) (scan : IsScan n ap' ai t k m) where
   module _ (j : ℕ) (up : j < k) (pair : is_entry n ap' ai j k ≡ true) (low : m ≤ j)
@@ -104,6 +112,19 @@ module _ (n : ℕ) (ap' ai : List ℕ) (form : IsSortedForm n ap' ai) (t : List 
       | inr other ↦ (let w = form.ascend k p q h from (omega arith) y in omega arith)
     ]
   ])
+
+  -- the row j at the place p is the next one above the diagonal
+  pub upper_next : (end p j : ℕ) → end ≡ get_or ap' (k + 1) 0 → IsReading ai (get_or ap' k 0) end k m p → j ≡ get_or ai p 0 → p < end →
+      j < k → IsUpper n ap' ai k m j
+  upper_next end p j end_is so is inside below =
+      let to : p < get_or ap' (k + 1) 0 = omega (arith, end_is, inside) in
+      let here = so.left p (omega arith) inside in
+      record {
+        up = below;
+        pair = entry_from ap' ai n j k p k_in so.from to (sym is);
+        low = omega (arith, is, here);
+        gap = λ a x y. upper_gap p so.from to so.read a x (omega (arith, is, y));
+      }
 
   module _ (p : ℕ) (from : get_or ap' k 0 ≤ p) (to : p ≤ get_or ap' (k + 1) 0)
       (behind : (r : ℕ) → get_or ap' k 0 ≤ r → r < p → get_or ai r 0 ≤ k)
@@ -206,6 +227,9 @@ module _ (n : ℕ) (ap' ai : List ℕ) (form : IsSortedForm n ap' ai) (t : List 
       | inl x ↦ (let w = read r.0 r.2 x in omega arith)
       | inr x ↦ (let w = (rows_from r.0 x r.3).1 in absurd (omega arith))
     ])
+
+    pub exit_gap : (a : ℕ) → m ≤ a → a < k → is_entry n ap' ai a k ≡ false
+    exit_gap a x y = false_from_ne_true _ (λ e. let z = exit_uppers a y e in omega arith)
 
     pub exit_rest : (p < get_or ap' (k + 1) 0 → get_or ai p 0 ≢ k) → (r : ℕ) → p ≤ r → r < get_or ap' (k + 1) 0 → k < get_or ai r 0
     exit_rest ne r x y = (let w = rows_from r x y in let w0 = w.0 in let v = stop (omega arith) in let d = ne (omega arith) in omega arith)

@@ -1,19 +1,15 @@
-use Rattle.std.proofs.Common.{◌≡◌, ◌-◌, ◌<◌, ◌≤◌, ℕ, map, get_or}
+use Rattle.std.proofs.Common.{◌≡◌, ◌-◌, ℕ, map, get_or}
 use Rattle.std.specs.Vec.{vec_capacity}
 use Rattle.amd_numbers.specs.Counts.{counts, count_graph, is_entry}
 use Rattle.amd_edges.specs.Visits.{arcs_of}
 use Rattle.amd_edges.specs.Walk.{IsScan, met}
 use Rattle.amd_edges.proofs.Orders.{edges_until}
+use Rattle.amd_edges.proofs.Reading.{IsReading}
 use Rattle.amd_edges.proofs.walk.column.Given as goal
 
 abbrev pub invariant-upper : goal.invariant-upper
 invariant-upper g l = (m : ℕ) × record {
-  from : get_or (counts (map g.I.Number.value l.a_p)) l.k 0 ≤ l.place;
-  to : l.place ≤ l.end;
-  read : (r : ℕ) → get_or (counts (map g.I.Number.value l.a_p)) l.k 0 ≤ r → r < l.place →
-      get_or (counts (map g.I.Number.value l.a_i)) r 0 < m;
-  left : (r : ℕ) → l.place ≤ r → r < l.end → m ≤ get_or (counts (map g.I.Number.value l.a_i)) r 0;
-  low : m ≤ l.k;
+  place : IsReading (counts (map g.I.Number.value l.a_i)) (get_or (counts (map g.I.Number.value l.a_p)) l.k 0) l.end l.k m l.place;
   room : vec_capacity l.next ≡ vec_capacity l.fn.next;
   kept : g.V.Visitor.room l.visitor ≡ g.V.Visitor.room l.fn.visitor;
   scan : IsScan l.fn.size (counts (map g.I.Number.value l.a_p)) (counts (map g.I.Number.value l.a_i)) l.next.items l.k m;

@@ -1,0 +1,51 @@
+-- How far the rows of a column were read.
+use Rattle.std.proofs.Common.{◌≡◌, ◌+◌, ◌<◌, ◌≤◌, inl, inr, ℕ, List, get_or, arith, le_trans, le_of_eq, lt_of_lt_of_le}
+use Rattle.std.proofs.lemmas.Bool.{cases_lt}
+use Rattle.amd_edges.proofs.Forms.{IsSortedForm}
+
+-- the rows at the places from the start up to p are below m, which is at most k, and those from p to the end are not
+pub record IsReading (ai : List ℕ) (start end k m p : ℕ) : Type 0 where
+  pub from : start ≤ p
+  pub to : p ≤ end
+  pub read : (r : ℕ) → start ≤ r → r < p → get_or ai r 0 < m
+  pub left : (r : ℕ) → p ≤ r → r < end → m ≤ get_or ai r 0
+  pub low : m ≤ k
+
+-- two readings of one place give the same row
+pub row_below : {first i row k : ℕ} → first ≡ row → i ≡ row → first < k → i < k
+row_below a b h = omega arith
+
+pub row_from : {first row k : ℕ} → first ≡ row → k ≤ first → k ≤ row
+row_from a h = le_trans h (le_of_eq a)
+
+-- places before and behind the end of a column
+pub before_end : {p end stop : ℕ} → end ≡ stop → p < end → p < stop
+before_end e h = lt_of_lt_of_le h (le_of_eq e)
+
+pub past_end : {p end stop : ℕ} → end ≡ stop → end ≤ p → p < stop → ⊥
+past_end e past h = omega arith
+
+pub reading_start : (ai : List ℕ) (start end k p : ℕ) → p ≡ start → start ≤ end → IsReading ai start end k 0 p
+reading_start ai start end k p is le = record {
+  from = omega (arith, is);
+  to = omega (arith, is, le);
+  read = λ r x y. absurd (omega (arith, is, x, y));
+  left = λ r x y. omega arith;
+  low = omega arith;
+}
+
+-- the row i at the place is read
+pub reading_next : (n : ℕ) (ap' ai : List ℕ) → IsSortedForm n ap' ai → (c start end k m p i : ℕ) → c < n → get_or ap' c 0 ≤ start →
+    end ≡ get_or ap' (c + 1) 0 → IsReading ai start end k m p → i ≡ get_or ai p 0 → p < end → i < k →
+    IsReading ai start end k (i + 1) (p + 1)
+reading_next n ap' ai form c start end k m p i c_in low end_is so is inside below = let from = so.from in record {
+  from = omega (arith, from);
+  to = omega (arith, inside);
+  read = λ r x y. elim (cases_lt r p) [
+    | inl u ↦ (let w = form.ascend c r p c_in (omega (arith, low, x)) u (omega (arith, inside, end_is)) in omega (arith, is, w))
+    | inr u ↦ (let w : r ≡ p = omega (arith, u, y) in rw w (omega (arith, is)))
+  ];
+  left = λ r x y. (let w = form.ascend c p r c_in (omega (arith, low, from)) (omega (arith, x)) (omega (arith, y, end_is)) in
+      omega (arith, is, w));
+  low = omega (arith, below);
+}
