@@ -1,5 +1,5 @@
 -- A sorted column form read as counts: any two rows of a column rise, and the pairs and the graph are the same.
-use Rattle.std.proofs.Common.{◌≡◌, ◌+◌, ◌-◌, ◌^◌, ◌<◌, ◌≤◌, ℕ, ℤ, zero, suc, Bool, true, pos, negsuc, List, length, get_or, refl, ap, sym}
+use Rattle.std.proofs.Common.{◌≡◌, ◌+◌, ◌-◌, ◌^◌, ◌<◌, ◌≤◌, ℕ, ℤ, zero, suc, Bool, true, pos, negsuc, List, length, get_or, map, refl, ap, sym}
 use Rattle.std.proofs.Common.{◌∙◌, subst, arith, ltb, ◌&&◌, unsigned_abs}
 use Rattle.std.specs.Prelude.{◌≤ℤ◌, ◌<ℤ◌, int_le, int_lt}
 use Rattle.std.specs.Int.{FitsUnsignedBits}
@@ -143,3 +143,9 @@ module _ (n : ℕ) (ap' ai : List ℤ) (form : IsColumnForm (pos n) n ap' ai) wh
   pub same_diagonals : diagonal_count n ap' ai ≡ count_below n (λ j. is_entry n (counts ap') (counts ai) j j)
   unfolding diagonal_count
   same_diagonals = count_same n _ _ (λ k h. same_pair k k)
+
+-- a place before the end of a column is one of the rows as the caller has them
+pub place_in : {A : Type 0} (value : A → ℤ) (rows : List A) (n : ℕ) (ap' : List ℤ) → IsColumnForm (pos n) n ap' (map value rows) →
+    (j q end : ℕ) → j < n → end ≡ get_or (counts ap') (j + 1) 0 → q < end → q < length rows
+place_in value rows n ap' form j q end h is high = subst (λ x. q < x) (length-map rows value)
+    (place_within n ap' (map value rows) form j q h (omega (arith, is, high)))

@@ -75,9 +75,9 @@ unread pair k j i = ltb j i && pair i j && not (was_read pair k j i)
 abbrev pub met_above : (ℕ → ℕ → Bool) → ℕ → ℕ → ℕ → List (ℕ × ℕ)
 met_above pair k j b = map (λ i. (i, j)) (list_below b (unread pair k j))
 
-pub above_none : (pair : ℕ → ℕ → Bool) (k j : ℕ) → met_above pair k j 0 ≡ []
-unfolding list_below
-above_none pair k j = refl
+pub above_start : (pair : ℕ → ℕ → Bool) (k j : ℕ) (arcs : List (ℕ × ℕ)) → arcs ≡ arcs ++ arcs_of (met_above pair k j 0)
+unfolding list_below arcs_of
+above_start pair k j arcs = sym (append-nil arcs)
 
 module _ (n : ℕ) (ap' ai : List ℕ) (form : IsSortedForm n ap' ai) (t : List ℕ) (k j q : ℕ) (scan : IsScan n ap' ai t k j) (before : j < k)
     (k_in : k ≤ n) (from : get_or t j 0 ≤ q) where
@@ -120,7 +120,8 @@ module _ (n : ℕ) (ap' ai : List ℕ) (form : IsSortedForm n ap' ai) (t : List 
           ]
         ])
 
-    pub above_next : (i : ℕ) → i ≡ get_or ai q 0 → q < get_or ap' (j + 1) 0 → b ≤ i →
+    -- the edge of the row at the place is added
+    above_next : (i : ℕ) → i ≡ get_or ai q 0 → q < get_or ap' (j + 1) 0 → b ≤ i →
         met_above (is_entry n ap' ai) k j (i + 1) ≡ met_above (is_entry n ap' ai) k j b ++ (i, j) ∷ []
     above_next i is to le =
         let low = scan.start j before (omega arith) in
@@ -130,6 +131,13 @@ module _ (n : ℕ) (ap' ai : List ℕ) (form : IsSortedForm n ap' ai) (t : List 
         ] in
         ap (map (λ x. (x, j))) (list_next (unread (is_entry n ap' ai) k j) b i le (unread_none i left) (unread_at i is to)) ∙
         map-append (λ x. (x, j)) (list_below b (unread (is_entry n ap' ai) k j)) (i ∷ [])
+
+    -- and so are the arcs
+    pub above_push : (i : ℕ) → i ≡ get_or ai q 0 → q < get_or ap' (j + 1) 0 → b ≤ i → (arcs : List (ℕ × ℕ)) →
+        ((arcs ++ arcs_of (met_above (is_entry n ap' ai) k j b)) ++ (i, j) ∷ []) ++ (j, i) ∷ [] ≡ arcs ++ arcs_of
+        (met_above (is_entry n ap' ai) k j (i + 1))
+    above_push i is to le arcs = arcs_push arcs (met_above (is_entry n ap' ai) k j b) i j ∙
+        ap (λ l. arcs ++ arcs_of l) (sym (above_next i is to le))
 
     pub above_end : b ≤ k → ((r : ℕ) → q ≤ r → r < get_or ap' (j + 1) 0 → k ≤ get_or ai r 0) →
         met_below (is_entry n ap' ai) k j ≡ met_above (is_entry n ap' ai) k j b

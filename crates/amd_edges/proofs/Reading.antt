@@ -1,5 +1,5 @@
 -- How far the rows of a column were read.
-use Rattle.std.proofs.Common.{◌≡◌, ◌+◌, ◌<◌, ◌≤◌, inl, inr, ℕ, List, get_or, arith, le_trans, le_of_eq, lt_of_lt_of_le}
+use Rattle.std.proofs.Common.{◌≡◌, ◌+◌, ◌<◌, ◌≤◌, inl, inr, ℕ, List, get_or, arith, le_trans, le_of_eq, le_of_lt, lt_of_lt_of_le}
 use Rattle.std.proofs.lemmas.Bool.{cases_lt}
 use Rattle.amd_edges.proofs.Forms.{IsSortedForm}
 
@@ -33,6 +33,15 @@ reading_start ai start end k p is le = record {
   left = λ r x y. omega arith;
   low = omega arith;
 }
+
+-- what was read is at most k, the row k itself at the place included
+module _ {ai : List ℕ} {start end k m p : ℕ} (so : IsReading ai start end k m p) where
+  pub reading_behind : (r : ℕ) → start ≤ r → r < p → get_or ai r 0 ≤ k
+  reading_behind r x y = le_trans (le_of_lt (so.read r x y)) so.low
+
+  pub reading_behind_next : get_or ai p 0 ≡ k → (r : ℕ) → start ≤ r → r < p + 1 → get_or ai r 0 ≤ k
+  reading_behind_next is r x y =
+      elim (cases_lt r p) [ inl u ↦ reading_behind r x u | inr u ↦ (let w : r ≡ p = omega (arith, u, y) in rw (w, is) (omega arith)) ]
 
 -- the row i at the place is read
 pub reading_next : (n : ℕ) (ap' ai : List ℕ) → IsSortedForm n ap' ai → (c start end k m p i : ℕ) → c < n → get_or ap' c 0 ≤ start →

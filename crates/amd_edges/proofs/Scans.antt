@@ -4,8 +4,8 @@ use Rattle.std.proofs.Common.{get_or-set_other, arith, refl, sym, ◌∙◌, con
 use Rattle.std.proofs.Math.Bool.{and_comm, or_comm}
 use Rattle.std.proofs.lemmas.Bool.{and_parts, or_cases, and_from, or_left, or_right, cases_eq, cases_lt, eqb-true, ltb-true, eq-eqb, lt-ltb}
 use Rattle.std.proofs.lemmas.Bool.{le-ltb, ne_eqb, false_from_ne_true}
-use Rattle.std.proofs.lemmas.List.{length-set, get_or_past}
-use Rattle.amd_edges.specs.Visits.{with_arc, IsNew}
+use Rattle.std.proofs.lemmas.List.{length-set, get_or_past, set-get_or}
+use Rattle.amd_edges.specs.Visits.{with_arc, IsNew, IsNewEdge}
 use Rattle.amd_edges.proofs.Forms.{IsSortedForm}
 use Rattle.amd_numbers.specs.Counts.{is_before, is_entry, is_edge, count_graph}
 use Rattle.amd_edges.specs.Walk.{IsScan, IsReached, is_read, is_met, met}
@@ -138,6 +138,10 @@ module _ (n : ℕ) (ap' ai : List ℕ) (form : IsSortedForm n ap' ai) where
     | inr ne ↦ (let there : get_or (set t j q) a 0 ≡ get_or t a 0 = get_or-set_other t j a q 0 ne in rw there (in_column t k m s a h))
   ]
 
+  -- a pointer that is set to where it stands
+  pub met_still : (t : List ℕ) (k m j q : ℕ) → q ≡ get_or t j 0 → met n ap' ai t k m ≡ met n ap' ai (set t j q) k m
+  met_still t k m j q is = ap (λ u. met n ap' ai u k m) (sym (ap (set t j) is ∙ set-get_or t j 0))
+
   -- what was reached stays so
   pub reached_on : (k m k2 m2 a b : ℕ) → ((c : ℕ) → (c < k) ⊎ ((c ≡ k) × (a < m)) → (c < k2) ⊎ ((c ≡ k2) × (a < m2))) →
       (b ≤ a) ⊎ IsReached n ap' ai k m a b → (b ≤ a) ⊎ IsReached n ap' ai k2 m2 a b
@@ -213,8 +217,7 @@ module _ (n : ℕ) (ap' ai : List ℕ) (form : IsSortedForm n ap' ai) where
           let w = scan.passed j i q (omega arith) (omega arith) (inl below) (λ _. e) (omega arith) to (omega arith) in omega arith)
 
       pub lower_new : i < k →
-          IsNew (count_graph n ap' ai) (met n ap' ai (set t j q) k (j + 1)) i j
-          × IsNew (count_graph n ap' ai) (with_arc (met n ap' ai (set t j q) k (j + 1)) i j) j i
+          IsNewEdge (count_graph n ap' ai) (met n ap' ai (set t j q) k (j + 1)) i j
       lower_new below =
           let up = scan.low j q before (omega arith) from to in
           let low = scan.start j before (omega arith) in
@@ -222,9 +225,10 @@ module _ (n : ℕ) (ap' ai : List ℕ) (form : IsSortedForm n ap' ai) where
           let here : get_or (set t j q) j 0 ≡ q = get_or-set_same t j q 0 (let z = scan.size in omega arith) in
           let size = length-set t j q in
           let fresh = lower_fresh (set t j q) k (j + 1) j i q here (omega arith) (omega arith) to (sym is) never in
-          two_new _ i j (omega arith) (omega arith) (λ e. omega arith) (entry_from ap' ai n i j q (omega arith) (omega arith) to (sym is))
-          fresh.0 fresh.1
-          (met_within (set t j q) k (j + 1) (let z = scan.size in omega arith) (moved_in t k j j q before (omega arith) scan))
+          let new = two_new _ i j (omega arith) (omega arith) (λ e. omega arith)
+          (entry_from ap' ai n i j q (omega arith) (omega arith) to (sym is)) fresh.0 fresh.1
+          (met_within (set t j q) k (j + 1) (let z = scan.size in omega arith) (moved_in t k j j q before (omega arith) scan)) in
+          record { there = new.0; back = new.1 }
 
       pub lower_after : i < k → with_arc (with_arc (met n ap' ai (set t j q) k (j + 1)) i j) j i ≡ met n ap' ai (set t j (q + 1)) k (j + 1)
       lower_after below =

@@ -1,9 +1,9 @@
-use Rattle.std.proofs.Common.{inl, inr, ◌≡◌, ◌+◌, ◌<◌, ◌≤◌, ◌≢◌, ◌++◌, ◌∷◌, [], ℕ, map, get_or, arith, sym, true, false, refl, ◌∙◌, le_refl, le_of_lt, le_trans, le_of_eq}
+use Rattle.std.proofs.Common.{inl, inr, ◌≡◌, ◌+◌, ◌<◌, ◌≤◌, ◌≢◌, ◌++◌, ◌∷◌, [], ℕ, map, get_or, arith, sym, true, false, refl, ◌∙◌, ◌^◌, subst, le_refl, le_of_lt, le_trans, le_of_eq}
 use Rattle.std.proofs.lemmas.Bool.{eqb-true, eqb-false, true≢false, le-ltb}
 use Rattle.std.proofs.lemmas.List.{length-map}
 use Rattle.amd_numbers.specs.Counts.{counts, is_entry}
 use Rattle.amd_edges.specs.Visits.{arcs_of}
-use Rattle.amd_edges.proofs.Forms.{pointer_fits, row_fits, place_within, sorted_form}
+use Rattle.amd_edges.proofs.Forms.{pointer_fits, row_fits, place_in, sorted_form}
 use Rattle.amd_edges.proofs.Places.{entry_from}
 use Rattle.amd_edges.proofs.Orders.{edges_until, until_start, until_next, until_end}
 use Rattle.amd_edges.proofs.Uppers.{upper_new, upper_after, upper_scan, end_scan, end_met, exit_uppers, exit_rest}
@@ -14,50 +14,43 @@ use Rattle.amd_edges.proofs.walk.column.Goals.{then-upper-test+else-count_at-k, 
 use Rattle.amd_edges.proofs.walk.column.Goals.{then-diagonal, else-diagonal}
 
 pub count_at-end-requires-clause-fits : goal.count_at-end-requires-clause-fits
-count_at-end-requires-clause-fits g c = pointer_fits _ _ _ c.requires.form (c.args.k + 1) (omega arith) (simp length-map (omega arith))
+count_at-end-requires-clause-fits g c = pointer_fits c.args.size (map g.I.Number.value c.args.a_p.now) (map g.I.Number.value c.args.a_i.now) c.requires.form (c.args.k + 1)
+    (let a = c.requires.k_in in omega (arith, a)) (subst (λ x. x < 2 ^ 64) (sym (length-map c.args.a_i.now g.I.Number.value)) (omega arith))
 
 pub count_at-place-requires-clause-fits : goal.count_at-place-requires-clause-fits
-count_at-place-requires-clause-fits g c = pointer_fits _ _ _ c.requires.form c.args.k (omega arith) (simp length-map (omega arith))
+count_at-place-requires-clause-fits g c = pointer_fits c.args.size (map g.I.Number.value c.args.a_p.now) (map g.I.Number.value c.args.a_i.now) c.requires.form c.args.k
+    (le_of_lt c.requires.k_in) (subst (λ x. x < 2 ^ 64) (sym (length-map c.args.a_i.now g.I.Number.value)) (omega arith))
 
 pub count_at-requires-clause-within : goal.count_at-requires-clause-within
-count_at-requires-clause-within g c =
-    let end = c.count_at-end.ensures.count in
-    let inside = place_within _ _ _ c.requires.form c.args.k c.upper.place (omega arith) (omega arith) in
-    simp length-map at inside
+count_at-requires-clause-within g c = place_in g.I.Number.value c.args.a_i.now c.args.size (map g.I.Number.value c.args.a_p.now) c.requires.form c.args.k c.upper.place
+    c.count_at-end.result c.requires.k_in c.count_at-end.ensures.count c.upper-test.true
 
 pub count_at-requires-clause-fits : goal.count_at-requires-clause-fits
-count_at-requires-clause-fits g c =
-    let end = c.count_at-end.ensures.count in
-    row_fits _ _ _ c.requires.form c.args.k c.upper.place (omega arith) (omega arith) (omega arith)
+count_at-requires-clause-fits g c = row_fits c.args.size (map g.I.Number.value c.args.a_p.now) (map g.I.Number.value c.args.a_i.now) c.requires.form c.args.k
+    c.upper.place c.requires.k_in (before_end c.count_at-end.ensures.count c.upper-test.true) c.ranges.size.fits
 
 pub count_at-j-requires-clause-within : goal.count_at-j-requires-clause-within
-count_at-j-requires-clause-within g c =
-    let end = c.count_at-end.ensures.count in
-    let inside = place_within _ _ _ c.requires.form c.args.k c.upper.place (omega arith) (omega arith) in
-    simp length-map at inside
+count_at-j-requires-clause-within g c = place_in g.I.Number.value c.args.a_i.now c.args.size (map g.I.Number.value c.args.a_p.now) c.requires.form c.args.k c.upper.place
+    c.count_at-end.result c.requires.k_in c.count_at-end.ensures.count c.upper-test.true
 
 pub count_at-j-requires-clause-fits : goal.count_at-j-requires-clause-fits
-count_at-j-requires-clause-fits g c =
-    let end = c.count_at-end.ensures.count in
-    row_fits _ _ _ c.requires.form c.args.k c.upper.place (omega arith) (omega arith) (omega arith)
+count_at-j-requires-clause-fits g c = row_fits c.args.size (map g.I.Number.value c.args.a_p.now) (map g.I.Number.value c.args.a_i.now) c.requires.form c.args.k
+    c.upper.place c.requires.k_in (before_end c.count_at-end.ensures.count c.upper-test.true) c.ranges.size.fits
 
 pub count_at-requires-then-place-end-clause-within : goal.count_at-requires-then-place-end-clause-within
-count_at-requires-then-place-end-clause-within g c =
-    let end = c.count_at-end.ensures.count in
-    let inside = place_within _ _ _ c.requires.form c.args.k c.upper.place (omega arith) (omega arith) in
-    simp length-map at inside
+count_at-requires-then-place-end-clause-within g c = place_in g.I.Number.value c.args.a_i.now c.args.size (map g.I.Number.value c.args.a_p.now) c.requires.form c.args.k c.upper.place
+    c.count_at-end.result c.requires.k_in c.count_at-end.ensures.count c.if-place-end.true
 
 pub count_at-requires-then-place-end-clause-fits : goal.count_at-requires-then-place-end-clause-fits
-count_at-requires-then-place-end-clause-fits g c =
-    let end = c.count_at-end.ensures.count in
-    row_fits _ _ _ c.requires.form c.args.k c.upper.place (omega arith) (omega arith) (omega arith)
+count_at-requires-then-place-end-clause-fits g c = row_fits c.args.size (map g.I.Number.value c.args.a_p.now) (map g.I.Number.value c.args.a_i.now) c.requires.form c.args.k
+    c.upper.place c.requires.k_in (before_end c.count_at-end.ensures.count c.if-place-end.true) c.ranges.size.fits
 
 pub arc-requires : goal.arc-requires
 arc-requires g c =
     let i = c.upper.invariant.1 in let r = c.requires in let m = c.upper.invariant.0 in let t = c.upper.next.items in let k = c.args.k in
     let n = c.args.size in let j = c.count_at-j.result in
     let ap' = counts (map g.I.Number.value c.args.a_p.now) in let ai = counts (map g.I.Number.value c.args.a_i.now) in
-    let form = sorted_form n _ _ r.form r.sorted in
+    let form = sorted_form n (map g.I.Number.value c.args.a_p.now) (map g.I.Number.value c.args.a_i.now) r.form r.sorted in
     let below = row_below c.count_at.ensures.count c.count_at-j.ensures.count c.if-count_at-k.true in
     let u = upper_next n ap' ai form t k m r.k_in i.scan c.count_at-end.result c.upper.place j c.count_at-end.ensures.count i.place
     c.count_at-j.ensures.count c.upper-test.true below in
@@ -68,7 +61,7 @@ arc-requires-in-upper g c =
     let i = c.upper.invariant.1 in let r = c.requires in let m = c.upper.invariant.0 in let t = c.upper.next.items in let k = c.args.k in
     let n = c.args.size in let j = c.count_at-j.result in
     let ap' = counts (map g.I.Number.value c.args.a_p.now) in let ai = counts (map g.I.Number.value c.args.a_i.now) in
-    let form = sorted_form n _ _ r.form r.sorted in
+    let form = sorted_form n (map g.I.Number.value c.args.a_p.now) (map g.I.Number.value c.args.a_i.now) r.form r.sorted in
     let below = row_below c.count_at.ensures.count c.count_at-j.ensures.count c.if-count_at-k.true in
     let u = upper_next n ap' ai form t k m r.k_in i.scan c.count_at-end.result c.upper.place j c.count_at-end.ensures.count i.place
     c.count_at-j.ensures.count c.upper-test.true below in
@@ -93,7 +86,7 @@ lower-requires-clause-mirror g c =
     let i = c.upper.invariant.1 in let r = c.requires in let m = c.upper.invariant.0 in let t = c.upper.next.items in let k = c.args.k in
     let n = c.args.size in let j = c.count_at-j.result in
     let ap' = counts (map g.I.Number.value c.args.a_p.now) in let ai = counts (map g.I.Number.value c.args.a_i.now) in
-    let form = sorted_form n _ _ r.form r.sorted in
+    let form = sorted_form n (map g.I.Number.value c.args.a_p.now) (map g.I.Number.value c.args.a_i.now) r.form r.sorted in
     let below = row_below c.count_at.ensures.count c.count_at-j.ensures.count c.if-count_at-k.true in
     let u = upper_next n ap' ai form t k m r.k_in i.scan c.count_at-end.result c.upper.place j c.count_at-end.ensures.count i.place
     c.count_at-j.ensures.count c.upper-test.true below in
@@ -104,7 +97,7 @@ lower-requires-clause-scan g c =
     let i = c.upper.invariant.1 in let r = c.requires in let m = c.upper.invariant.0 in let t = c.upper.next.items in let k = c.args.k in
     let n = c.args.size in let j = c.count_at-j.result in
     let ap' = counts (map g.I.Number.value c.args.a_p.now) in let ai = counts (map g.I.Number.value c.args.a_i.now) in
-    let form = sorted_form n _ _ r.form r.sorted in
+    let form = sorted_form n (map g.I.Number.value c.args.a_p.now) (map g.I.Number.value c.args.a_i.now) r.form r.sorted in
     let below = row_below c.count_at.ensures.count c.count_at-j.ensures.count c.if-count_at-k.true in
     let u = upper_next n ap' ai form t k m r.k_in i.scan c.count_at-end.result c.upper.place j c.count_at-end.ensures.count i.place
     c.count_at-j.ensures.count c.upper-test.true below in
@@ -115,7 +108,7 @@ lower-requires-clause-held g c =
     let i = c.upper.invariant.1 in let r = c.requires in let m = c.upper.invariant.0 in let t = c.upper.next.items in let k = c.args.k in
     let n = c.args.size in let j = c.count_at-j.result in
     let ap' = counts (map g.I.Number.value c.args.a_p.now) in let ai = counts (map g.I.Number.value c.args.a_i.now) in
-    let form = sorted_form n _ _ r.form r.sorted in
+    let form = sorted_form n (map g.I.Number.value c.args.a_p.now) (map g.I.Number.value c.args.a_i.now) r.form r.sorted in
     let below = row_below c.count_at.ensures.count c.count_at-j.ensures.count c.if-count_at-k.true in
     let u = upper_next n ap' ai form t k m r.k_in i.scan c.count_at-end.result c.upper.place j c.count_at-end.ensures.count i.place
     c.count_at-j.ensures.count c.upper-test.true below in
@@ -131,7 +124,7 @@ upper-preserved g c =
     let i = c.upper.invariant.1 in let r = c.requires in let m = c.upper.invariant.0 in let t = c.upper.next.items in let k = c.args.k in
     let n = c.args.size in let j = c.count_at-j.result in
     let ap' = counts (map g.I.Number.value c.args.a_p.now) in let ai = counts (map g.I.Number.value c.args.a_i.now) in
-    let form = sorted_form n _ _ r.form r.sorted in
+    let form = sorted_form n (map g.I.Number.value c.args.a_p.now) (map g.I.Number.value c.args.a_i.now) r.form r.sorted in
     let below = row_below c.count_at.ensures.count c.count_at-j.ensures.count c.if-count_at-k.true in
     let u = upper_next n ap' ai form t k m r.k_in i.scan c.count_at-end.result c.upper.place j c.count_at-end.ensures.count i.place
     c.count_at-j.ensures.count c.upper-test.true below in
@@ -156,7 +149,7 @@ pub upper-init : goal.upper-init
 upper-init g c =
     let r = c.requires in
     let ap' = counts (map g.I.Number.value c.args.a_p.now) in let ai = counts (map g.I.Number.value c.args.a_i.now) in
-    let form = sorted_form c.args.size _ _ r.form r.sorted in
+    let form = sorted_form c.args.size (map g.I.Number.value c.args.a_p.now) (map g.I.Number.value c.args.a_i.now) r.form r.sorted in
     let start = c.count_at-place.ensures.count in (
       0,
       record {
@@ -173,7 +166,7 @@ pub returns : goal.returns
 returns g c =
     let v = c.upper.invariant.1 in let i = v.place in let scan = v.scan in let r = c.requires in let m = c.upper.invariant.0 in let t = c.upper.next.items in let k = c.args.k in
     let p = c.upper.place in let n = c.args.size in
-    let form = sorted_form n _ _ r.form r.sorted in
+    let form = sorted_form n (map g.I.Number.value c.args.a_p.now) (map g.I.Number.value c.args.a_i.now) r.form r.sorted in
     let ends = c.count_at-end.ensures.count in
     let ap' = counts (map g.I.Number.value c.args.a_p.now) in
     let ai = counts (map g.I.Number.value c.args.a_i.now) in

@@ -1,172 +1,158 @@
-use Rattle.std.proofs.Common.{inl, inr, ◌≡◌, ◌+◌, ◌<◌, ◌≤◌, ℕ, arith, length, map, get_or, refl, ◌∙◌}
-use Rattle.std.proofs.lemmas.Bool.{cases_lt}
-use Rattle.std.proofs.lemmas.List.{append-nil, length-map, set-get_or}
+use Rattle.std.proofs.Common.{◌≡◌, ◌+◌, ◌<◌, ◌≤◌, ◌++◌, ◌^◌, ℕ, suc, List, arith, map, get_or, set, ap, sym, refl, ◌∙◌, subst, subst₂, le_refl, le_trans}
+use Rattle.std.proofs.Common.{le_of_eq, lt_of_lt_of_le}
+use Rattle.std.proofs.lemmas.List.{length-map}
 use Rattle.std.proofs.lemmas.Grind.{get_or_default_zero}
-use Rattle.amd_numbers.specs.Counts.{counts, is_entry}
-use Rattle.amd_edges.proofs.Orders.{met_above, above_none, above_next, above_end, arcs_push, no_arcs}
-use Rattle.amd_edges.proofs.Forms.{pointer_fits, row_fits, place_within, sorted_form}
-use Rattle.amd_edges.proofs.Scans.{lower_new, lower_after, lower_mirror, lower_end, lower_behind, lower_next}
+use Rattle.amd_numbers.specs.Counts.{counts, count_graph, is_entry}
+use Rattle.amd_edges.specs.Visits.{arcs_of}
+use Rattle.amd_edges.specs.Walk.{IsScan, met}
+use Rattle.amd_edges.proofs.Orders.{met_above, above_start, above_push, above_end}
+use Rattle.amd_edges.proofs.Forms.{pointer_fits, row_fits, place_in, sorted_form}
+use Rattle.amd_edges.proofs.Reading.{row_below, row_from, before_end, past_end, reading_start, reading_next, reading_behind, reading_behind_next}
+use Rattle.amd_edges.proofs.Scans.{met_still, lower_new, lower_after, lower_mirror, lower_end, lower_behind, lower_next}
 use Rattle.amd_edges.proofs.walk.lower.Goals as goal
 use Rattle.amd_edges.proofs.walk.lower.Goals.{then-place-end+then-count_at-k-2, else-place-end}
 use Rattle.amd_edges.proofs.walk.lower.Goals.{else-place-end-via-then-place-end+else-count_at-k-2, else-place-end-via-else-place-end}
 use Rattle.amd_edges.proofs.walk.lower.Goals.{then-rows-test+else-count_at-k, else-rows-test}
 
 pub count_at-end-requires-clause-fits : goal.count_at-end-requires-clause-fits
-count_at-end-requires-clause-fits g c = pointer_fits _ _ _ c.requires.form (c.args.j + 1) (omega arith) (simp length-map (omega arith))
+count_at-end-requires-clause-fits g c = pointer_fits c.args.size (map g.I.Number.value c.args.a_p.now) (map g.I.Number.value c.args.a_i.now) c.requires.form (c.args.j + 1)
+    (let a = c.requires.before in let b = c.requires.k_in in omega (arith, a, b)) (subst (λ x. x < 2 ^ 64) (sym (length-map c.args.a_i.now g.I.Number.value)) (omega arith))
 
 pub count_at-requires-clause-within : goal.count_at-requires-clause-within
-count_at-requires-clause-within g c =
-    let end = c.count_at-end.ensures.count in
-    let inside = place_within _ _ _ c.requires.form c.args.j c.rows.place (omega arith) (omega arith) in
-    simp length-map at inside
+count_at-requires-clause-within g c = place_in g.I.Number.value c.args.a_i.now c.args.size (map g.I.Number.value c.args.a_p.now) c.requires.form c.args.j c.rows.place
+    c.count_at-end.result (lt_of_lt_of_le c.requires.before c.requires.k_in) c.count_at-end.ensures.count c.rows-test.true
 
 pub count_at-requires-clause-fits : goal.count_at-requires-clause-fits
-count_at-requires-clause-fits g c =
-    let end = c.count_at-end.ensures.count in
-    row_fits _ _ _ c.requires.form c.args.j c.rows.place (omega arith) (omega arith) (omega arith)
+count_at-requires-clause-fits g c = row_fits c.args.size (map g.I.Number.value c.args.a_p.now) (map g.I.Number.value c.args.a_i.now) c.requires.form c.args.j
+    c.rows.place (lt_of_lt_of_le c.requires.before c.requires.k_in) (before_end c.count_at-end.ensures.count c.rows-test.true) c.ranges.size.fits
 
 pub count_at-requires-in-rows-clause-within : goal.count_at-requires-in-rows-clause-within
-count_at-requires-in-rows-clause-within g c =
-    let end = c.count_at-end.ensures.count in
-    let inside = place_within _ _ _ c.requires.form c.args.j c.rows.place (omega arith) (omega arith) in
-    simp length-map at inside
+count_at-requires-in-rows-clause-within g c = place_in g.I.Number.value c.args.a_i.now c.args.size (map g.I.Number.value c.args.a_p.now) c.requires.form c.args.j c.rows.place
+    c.count_at-end.result (lt_of_lt_of_le c.requires.before c.requires.k_in) c.count_at-end.ensures.count c.rows-test.true
 
 pub count_at-requires-in-rows-clause-fits : goal.count_at-requires-in-rows-clause-fits
-count_at-requires-in-rows-clause-fits g c =
-    let end = c.count_at-end.ensures.count in
-    row_fits _ _ _ c.requires.form c.args.j c.rows.place (omega arith) (omega arith) (omega arith)
+count_at-requires-in-rows-clause-fits g c = row_fits c.args.size (map g.I.Number.value c.args.a_p.now) (map g.I.Number.value c.args.a_i.now) c.requires.form c.args.j
+    c.rows.place (lt_of_lt_of_le c.requires.before c.requires.k_in) (before_end c.count_at-end.ensures.count c.rows-test.true) c.ranges.size.fits
 
 pub count_at-requires-then-place-end-clause-within : goal.count_at-requires-then-place-end-clause-within
-count_at-requires-then-place-end-clause-within g c =
-    let end = c.count_at-end.ensures.count in
-    let inside = place_within _ _ _ c.requires.form c.args.j c.rows.place (omega arith) (omega arith) in
-    simp length-map at inside
+count_at-requires-then-place-end-clause-within g c = place_in g.I.Number.value c.args.a_i.now c.args.size (map g.I.Number.value c.args.a_p.now) c.requires.form c.args.j c.rows.place
+    c.count_at-end.result (lt_of_lt_of_le c.requires.before c.requires.k_in) c.count_at-end.ensures.count c.if-place-end.true
 
 pub count_at-requires-then-place-end-clause-fits : goal.count_at-requires-then-place-end-clause-fits
-count_at-requires-then-place-end-clause-fits g c =
-    let end = c.count_at-end.ensures.count in
-    row_fits _ _ _ c.requires.form c.args.j c.rows.place (omega arith) (omega arith) (omega arith)
+count_at-requires-then-place-end-clause-fits g c = row_fits c.args.size (map g.I.Number.value c.args.a_p.now) (map g.I.Number.value c.args.a_i.now) c.requires.form c.args.j
+    c.rows.place (lt_of_lt_of_le c.requires.before c.requires.k_in) (before_end c.count_at-end.ensures.count c.if-place-end.true) c.ranges.size.fits
 
 pub rows-init : goal.rows-init
 rows-init g c =
     let r = c.requires in
-    let end = c.count_at-end.ensures.count in
-    let stop = r.scan.stop c.args.j r.before (omega arith) in
-    let inside : c.args.j < length c.args.next.now.items = (let z = r.scan.size in let b = r.before in omega arith) in
-    let value = c.index-place.ensures in
-    let same = get_or_default_zero c.args.next.now.items c.args.j c.index-place.result.now inside in
-    let is : c.index-place.result.now ≡ get_or c.args.next.now.items c.args.j 0 = omega (arith, value, same) in
-    let none = above_none (is_entry c.args.size (counts (map g.I.Number.value c.args.a_p.now))
-    (counts (map g.I.Number.value c.args.a_i.now))) c.args.k c.args.j in (
+    let n = c.args.size in let j = c.args.j in let k = c.args.k in let t = c.args.next.now.items in
+    let ap' = counts (map g.I.Number.value c.args.a_p.now) in let ai = counts (map g.I.Number.value c.args.a_i.now) in
+    let form = sorted_form n (map g.I.Number.value c.args.a_p.now) (map g.I.Number.value c.args.a_i.now) r.form r.sorted in
+    let place = c.index-place.result.now in
+    let is : place ≡ get_or t j 0 = c.index-place.ensures ∙ get_or_default_zero t j place (before_end (sym r.scan.size) r.before) in
+    let stop = r.scan.stop j r.before (lt_of_lt_of_le r.before r.k_in) in (
       0,
       record {
-        from = omega (arith, is);
-        to = omega (arith, is, end, stop);
-        read = λ x y z. absurd (omega (arith, is, y, z));
-        left = λ x y z. omega arith;
-        small = omega arith;
+        place = reading_start ai (get_or t j 0) c.count_at-end.result k place is (row_from (sym c.count_at-end.ensures.count) stop);
         kept = refl;
-        held = λ arcs h. rw (is, set-get_or, none, no_arcs, append-nil) (c.begin-mark.ensures _ _ _ h);
+        held = λ arcs h. subst₂ (λ s l. g.V.Visitor.runs (count_graph n ap' ai) s l j c.begin-mark.result c.args.visitor.now)
+            (met_still n ap' ai form t k (j + 1) j place is) (above_start (is_entry n ap' ai) k j arcs) (c.begin-mark.ensures (count_graph n ap' ai) (met n ap' ai t k (j + 1)) arcs h);
       },
     )
 
 pub begin-mark-requires : goal.begin-mark-requires
-begin-mark-requires g c = let r = c.requires in (_, _, r.held.0, r.held.1, (let a = r.before in let b = r.k_in in omega (arith, a, b)))
+begin-mark-requires g c = let r = c.requires in (_, _, r.held.0, r.held.1, lt_of_lt_of_le r.before r.k_in)
 
 pub edge-mark-requires : goal.edge-mark-requires
 edge-mark-requires g c =
-    let i = c.rows.invariant.1 in let r = c.requires in
-    let end = c.count_at-end.ensures.count in
-    let same = c.count_at-in-rows.ensures.count in
-    let first = c.count_at.ensures.count in
-    let new = lower_new _ _ _ (sorted_form _ _ _ r.form r.sorted) c.args.next.now.items c.args.k c.args.j c.rows.place r.scan r.before
-    r.k_in i.from _ same (omega arith) (omega arith) in
-    (_, _, _, i.held _ r.held.1, record { there = new.0; back = new.1 })
+    let b = c.rows.invariant.0 in let v = c.rows.invariant.1 in let i = v.place in let r = c.requires in
+    let n = c.args.size in let j = c.args.j in let k = c.args.k in let q = c.rows.place in let t = c.args.next.now.items in
+    let ap' = counts (map g.I.Number.value c.args.a_p.now) in let ai = counts (map g.I.Number.value c.args.a_i.now) in
+    let form = sorted_form n (map g.I.Number.value c.args.a_p.now) (map g.I.Number.value c.args.a_i.now) r.form r.sorted in
+    let row = c.count_at-in-rows.result in let same = c.count_at-in-rows.ensures.count in
+    let below = row_below c.count_at.ensures.count same c.if-count_at-k.true in
+    let inside = before_end c.count_at-end.ensures.count c.rows-test.true in
+    let new = lower_new n ap' ai form t k j q r.scan r.before r.k_in i.from row same inside below in
+    (_, _, _, v.held _ r.held.1, new)
 
 pub end-requires : goal.end-requires
-end-requires g c =
-    let i = c.rows.invariant.1 in let r = c.requires in
-    (_, _, _, i.held _ r.held.1, (let a = r.before in let b = r.k_in in omega (arith, a, b)))
+end-requires g c = let r = c.requires in (_, _, _, c.rows.invariant.1.held _ r.held.1, lt_of_lt_of_le r.before r.k_in)
 
 pub rows-preserved : goal.rows-preserved
 rows-preserved g c =
-    let b = c.rows.invariant.0 in let i = c.rows.invariant.1 in let r = c.requires in
-    let j = c.args.j in let k = c.args.k in let q = c.rows.place in let row = c.count_at-in-rows.result in let t = c.args.next.now.items in
-    let pair = is_entry c.args.size (counts (map g.I.Number.value c.args.a_p.now)) (counts (map g.I.Number.value c.args.a_i.now)) in
-    let end = c.count_at-end.ensures.count in
-    let same = c.count_at-in-rows.ensures.count in
-    let first = c.count_at.ensures.count in
-    let form = sorted_form _ _ _ r.form r.sorted in
-    let low = r.scan.start j r.before (omega arith) in
-    let from = i.from in
-    let least = i.left q (omega arith) c.rows-test.true in
-    let new = lower_new _ _ _ form t k j q r.scan r.before r.k_in i.from _ same (omega arith) (omega arith) in
-    let after = lower_after _ _ _ form t k j q r.scan r.before r.k_in i.from _ same (omega arith) (omega arith) in
-    let next = above_next _ _ _ form t k j q r.scan r.before r.k_in i.from b i.read row same (omega arith) (omega arith) in (
+    let b = c.rows.invariant.0 in let v = c.rows.invariant.1 in let i = v.place in let r = c.requires in
+    let n = c.args.size in let j = c.args.j in let k = c.args.k in let q = c.rows.place in let t = c.args.next.now.items in
+    let ap' = counts (map g.I.Number.value c.args.a_p.now) in let ai = counts (map g.I.Number.value c.args.a_i.now) in
+    let form = sorted_form n (map g.I.Number.value c.args.a_p.now) (map g.I.Number.value c.args.a_i.now) r.form r.sorted in
+    let row = c.count_at-in-rows.result in let same = c.count_at-in-rows.ensures.count in
+    let below = row_below c.count_at.ensures.count same c.if-count_at-k.true in
+    let inside = before_end c.count_at-end.ensures.count c.rows-test.true in
+    let new = lower_new n ap' ai form t k j q r.scan r.before r.k_in i.from row same inside below in
+    let after = lower_after n ap' ai form t k j q r.scan r.before r.k_in i.from row same inside below in
+    let row_in = lt_of_lt_of_le r.before r.k_in in
+    let least = row_from (sym same) (i.left q (le_refl q) c.rows-test.true) in (
       row + 1,
       record {
-        from = omega arith;
-        to = omega arith;
-        read = λ x y z. (elim (cases_lt x q) [
-          | inl u ↦ (let w = form.ascend j x q (omega arith) (omega arith) u (omega arith) in
-              omega arith)
-          | inr u ↦ (let w : x ≡ q = omega arith in rw w (omega arith))
-        ]);
-        left = λ x y z. (let w = form.ascend j q x (omega arith) (omega arith) (omega arith) (omega arith) in omega arith);
-        small = omega arith;
-        kept = c.edge-mark.ensures.kept ∙ i.kept;
-        held = λ arcs h. rw (← after, next, ← arcs_push arcs (met_above pair k j b) row j)
-            (c.edge-mark.ensures.held _ _ _ (i.held arcs h) (record { there = new.0; back = new.1 }));
+        place = reading_next n ap' ai form j (get_or t j 0) c.count_at-end.result k b q row row_in (r.scan.start j r.before row_in)
+            c.count_at-end.ensures.count i same c.rows-test.true below;
+        kept = c.edge-mark.ensures.kept ∙ v.kept;
+        held = λ arcs h. subst₂ (λ s l. g.V.Visitor.runs (count_graph n ap' ai) s l j c.edge-mark.result c.edge-mark.new.self) after
+            (above_push n ap' ai form t k j q r.scan r.before r.k_in i.from b i.read row same inside least arcs)
+            (c.edge-mark.ensures.held (count_graph n ap' ai) (met n ap' ai (set t j q) k (j + 1))
+            (arcs ++ arcs_of (met_above (is_entry n ap' ai) k j b)) (v.held arcs h) new);
       },
     )
 
 pub returns : goal.returns
 returns g c =
-    let b = c.rows.invariant.0 in let i = c.rows.invariant.1 in let r = c.requires in
-    let j = c.args.j in let k = c.args.k in let q = c.rows.place in let t = c.args.next.now.items in
+    let b = c.rows.invariant.0 in let v = c.rows.invariant.1 in let i = v.place in let r = c.requires in
+    let n = c.args.size in let j = c.args.j in let k = c.args.k in let q = c.rows.place in let t = c.args.next.now.items in
     let ap' = counts (map g.I.Number.value c.args.a_p.now) in let ai = counts (map g.I.Number.value c.args.a_i.now) in
-    let end = c.count_at-end.ensures.count in
-    let form = sorted_form _ _ _ r.form r.sorted in
-    let from = i.from in let small = i.small in
-    let row : j < c.args.size = (let x = r.before in let y = r.k_in in omega (arith, x, y)) in
-    let above : (x : ℕ) → get_or t j 0 ≤ x → x < q → get_or ai x 0 ≤ k = λ x y z. (let w = i.read x y z in omega arith) in
+    let form = sorted_form n (map g.I.Number.value c.args.a_p.now) (map g.I.Number.value c.args.a_i.now) r.form r.sorted in
+    let ends = c.count_at-end.ensures.count in
+    let row : j < n = lt_of_lt_of_le r.before r.k_in in
     let stop : q < get_or ap' (j + 1) 0 → k ≤ get_or ai q 0 = λ inside. elim c.rows-test.branch [
-      | then-rows-test+else-count_at-k v ↦ (let low = v.if-count_at-k.false in let one = v.count_at.ensures.count in omega arith)
-      | else-rows-test v ↦ (let past = v.rows-test.false in absurd (omega arith))
+      | then-rows-test+else-count_at-k w ↦ row_from w.count_at.ensures.count w.if-count_at-k.false
+      | else-rows-test w ↦ absurd (past_end ends w.rows-test.false inside)
     ] in
-    let left = lower_behind _ _ _ form t k j q r.scan r.before r.k_in i.from k stop in
-    let all = above_end _ _ _ form t k j q r.scan r.before r.k_in i.from b i.read i.small left in
+    let left = lower_behind n ap' ai form t k j q r.scan r.before r.k_in i.from k stop in
+    let all = above_end n ap' ai form t k j q r.scan r.before r.k_in i.from b i.read i.low left in
+    let moved : (x y : ℕ) → x ≡ y → met n ap' ai (set t j y) k (j + 1) ≡ met n ap' ai (set t j x) k (j + 1) =
+    λ x y e. ap (λ z. met n ap' ai (set t j z) k (j + 1)) (sym e) in
     elim c.if-place-end.branch [
       | then-place-end+then-count_at-k-2 w ↦ (
           let same = w.count_at-then-place-end.ensures.count in
-          let inside = w.if-place-end.true in
+          let inside = before_end ends w.if-place-end.true in
           let here = w.if-count_at-k-2.true in
-          let next : (x : ℕ) → get_or t j 0 ≤ x → x < q + 1 → get_or ai x 0 ≤ k = λ x y z.
-          elim (cases_lt x q) [ inl u ↦ above x y u | inr u ↦ (let v : x ≡ q = omega arith in rw v (omega arith)) ] in
+          let from : get_or t j 0 ≤ q + 1 = (let x = i.from in omega (arith, x)) in
           record {
-            scan = rw w.place-is (lower_end _ _ _ form t k j (q + 1) r.scan r.before r.k_in (omega arith) (omega arith) r.mirror next
-                (lower_next _ _ _ form t k j q r.scan r.before r.k_in i.from _ same (omega arith) here));
-            held = λ arcs h. rw (
-              w.place-is,
-              all,
-              lower_mirror _ _ _ form t k j q r.scan r.before r.k_in i.from _ same (omega arith) here
-                  r.mirror,
-            ) (c.end.ensures.held _ _ _ (i.held arcs h) row);
+            scan = subst (λ x. IsScan n ap' ai (set t j x) k (j + 1)) (sym w.place-is)
+                (lower_end n ap' ai form t k j (q + 1) r.scan r.before r.k_in from (omega (arith, inside)) r.mirror
+                (reading_behind_next i (sym same ∙ here))
+                (lower_next n ap' ai form t k j q r.scan r.before r.k_in i.from w.count_at-then-place-end.result same inside here));
+            held = λ arcs h. subst₂ (λ s l. g.V.Visitor.holds (count_graph n ap' ai) s l c.end.new.self)
+                (sym (lower_mirror n ap' ai form t k j q r.scan r.before r.k_in i.from w.count_at-then-place-end.result same inside here r.mirror)
+                ∙ moved c.if-place-end.place (q + 1) w.place-is)
+                (ap (λ l. arcs ++ arcs_of l) (sym all)) (c.end.ensures.held (count_graph n ap' ai) (met n ap' ai (set t j q) k (j + 1))
+                (arcs ++ arcs_of (met_above (is_entry n ap' ai) k j b)) (v.held arcs h) row);
             room = refl;
-            kept = c.end.ensures.kept ∙ i.kept;
+            kept = c.end.ensures.kept ∙ v.kept;
           })
       | else-place-end w ↦ (
-          let other : q < get_or ap' (j + 1) 0 → k + 1 ≤ get_or ai q 0 = λ inside. elim w.else-place-end.branch [
+          let other : q < get_or ap' (j + 1) 0 → k < get_or ai q 0 = λ inside. elim w.else-place-end.branch [
             | else-place-end-via-then-place-end+else-count_at-k-2 u ↦ (let ne = u.if-count_at-k-2.false in
-                let two = u.count_at-then-place-end.ensures.count in let v = stop inside in omega arith)
-            | else-place-end-via-else-place-end u ↦ (let past = u.if-place-end.false in absurd (omega arith))
+                let two = u.count_at-then-place-end.ensures.count in let x = stop inside in omega (arith, ne, two, x))
+            | else-place-end-via-else-place-end u ↦ absurd (past_end ends u.if-place-end.false inside)
           ] in
-          let rest = lower_behind _ _ _ form t k j q r.scan r.before r.k_in i.from (k + 1) other in
           record {
-            scan = rw w.place-is (lower_end _ _ _ form t k j q r.scan r.before r.k_in i.from (let x = i.to in omega arith) r.mirror above
-                (λ x y z. let v = rest x y z in omega arith));
-            held = λ arcs h. rw (w.place-is, all) (c.end.ensures.held _ _ _ (i.held arcs h) row);
+            scan = subst (λ x. IsScan n ap' ai (set t j x) k (j + 1)) (sym w.place-is)
+                (lower_end n ap' ai form t k j q r.scan r.before r.k_in i.from (le_trans i.to (le_of_eq ends)) r.mirror
+                (reading_behind i) (lower_behind n ap' ai form t k j q r.scan r.before r.k_in i.from (suc k) other));
+            held = λ arcs h. subst₂ (λ s l. g.V.Visitor.holds (count_graph n ap' ai) s l c.end.new.self)
+                (moved c.if-place-end.place q w.place-is) (ap (λ l. arcs ++ arcs_of l) (sym all))
+                (c.end.ensures.held (count_graph n ap' ai) (met n ap' ai (set t j q) k (j + 1))
+                (arcs ++ arcs_of (met_above (is_entry n ap' ai) k j b)) (v.held arcs h) row);
             room = refl;
-            kept = c.end.ensures.kept ∙ i.kept;
+            kept = c.end.ensures.kept ∙ v.kept;
           })
     ]

@@ -1,17 +1,14 @@
-use Rattle.std.proofs.Common.{◌≡◌, ◌+◌, ◌-◌, ◌<◌, ◌≤◌, ◌++◌, ℕ, List, map, get_or, set}
+use Rattle.std.proofs.Common.{◌≡◌, ◌+◌, ◌-◌, ◌++◌, ℕ, List, map, get_or, set}
 use Rattle.amd_numbers.specs.Counts.{counts, count_graph, is_entry}
 use Rattle.amd_edges.specs.Visits.{arcs_of}
 use Rattle.amd_edges.specs.Walk.{met}
 use Rattle.amd_edges.proofs.Orders.{met_above}
+use Rattle.amd_edges.proofs.Reading.{IsReading}
 use Rattle.amd_edges.proofs.walk.lower.Given as goal
 
 abbrev pub invariant-rows : goal.invariant-rows
 invariant-rows g l = (b : ℕ) × record {
-  from : get_or l.next.items l.j 0 ≤ l.place;
-  to : l.place ≤ l.end;
-  read : (r : ℕ) → get_or l.next.items l.j 0 ≤ r → r < l.place → get_or (counts (map g.I.Number.value l.a_i)) r 0 < b;
-  left : (r : ℕ) → l.place ≤ r → r < l.end → b ≤ get_or (counts (map g.I.Number.value l.a_i)) r 0;
-  small : b ≤ l.k;
+  place : IsReading (counts (map g.I.Number.value l.a_i)) (get_or l.next.items l.j 0) l.end l.k b l.place;
   kept : g.V.Visitor.room l.visitor ≡ g.V.Visitor.room l.fn.visitor;
   held : (arcs : List (ℕ × ℕ)) →
       g.V.Visitor.holds (count_graph l.size (counts (map g.I.Number.value l.a_p)) (counts (map g.I.Number.value l.a_i)))
