@@ -19,6 +19,12 @@ pub record IsUpper (n : ℕ) (ap' ai : List ℕ) (k m j : ℕ) : Type 0 where
   pub low : m ≤ j
   pub gap : (a : ℕ) → m ≤ a → a < j → is_entry n ap' ai a k ≡ false
 
+-- column k is over: its pointer is at `next`, and `diagonal` says whether it has a diagonal entry
+pub record IsOver (n : ℕ) (ap' ai t : List ℕ) (k m next : ℕ) (diagonal : Bool) : Type 0 where
+  pub scan : IsScan n ap' ai (t ++ next ∷ []) (k + 1) 0
+  pub same : met n ap' ai t k m ≡ met n ap' ai (t ++ next ∷ []) (k + 1) 0
+  pub entry : diagonal ≡ is_entry n ap' ai k k
+
 module _ (n : ℕ) (ap' ai : List ℕ) (form : IsSortedForm n ap' ai) (t : List ℕ) (k m : ℕ) (k_in : k < n) (scan : IsScan n ap' ai t k m) where
   module _ (j : ℕ) (up : j < k) (pair : is_entry n ap' ai j k ≡ true) (low : m ≤ j)
       (gap : (a : ℕ) → m ≤ a → a < j → is_entry n ap' ai a k ≡ false) where
@@ -103,7 +109,7 @@ module _ (n : ℕ) (ap' ai : List ℕ) (form : IsSortedForm n ap' ai) (t : List 
     }
 
   -- no row stands between those that were read and the next one
-  pub upper_gap : (p : ℕ) → get_or ap' k 0 ≤ p → p < get_or ap' (k + 1) 0 → ((r : ℕ) → get_or ap' k 0 ≤ r → r < p → get_or ai r 0 < m) →
+  upper_gap : (p : ℕ) → get_or ap' k 0 ≤ p → p < get_or ap' (k + 1) 0 → ((r : ℕ) → get_or ap' k 0 ≤ r → r < p → get_or ai r 0 < m) →
       (a : ℕ) → m ≤ a → a < get_or ai p 0 → is_entry n ap' ai a k ≡ false
   upper_gap p from to read a low high = entry_none ap' ai n a k (λ q h x y e. elim (cases_lt q p) [
     | inl v ↦ (let w = read q x v in omega arith)
@@ -141,7 +147,7 @@ module _ (n : ℕ) (ap' ai : List ℕ) (form : IsSortedForm n ap' ai) (t : List 
     ]
 
     -- the pointer of column k is added
-    pub end_scan : IsScan n ap' ai (t ++ p ∷ []) (k + 1) 0
+    end_scan : IsScan n ap' ai (t ++ p ∷ []) (k + 1) 0
     end_scan = record {
       size = length_push t p ∙ ap (λ x. x + 1) scan.size;
       start = λ a x y. elim (cases_eq a k) [ inl e ↦ rw (e, here) from | inr e ↦ rw (there a e) (scan.start a (omega arith) y) ];
@@ -169,7 +175,7 @@ module _ (n : ℕ) (ap' ai : List ℕ) (form : IsSortedForm n ap' ai) (t : List 
           | inr e ↦ inl (omega arith)
         ]
 
-    pub end_met : met n ap' ai (t ++ p ∷ []) (k + 1) 0 ≡ met n ap' ai t k m
+    end_met : met n ap' ai (t ++ p ∷ []) (k + 1) 0 ≡ met n ap' ai t k m
     unfolding met is_met is_read
     end_met = funext2 _ _ (λ a b. rw (half a b, half b a) refl)
       where
@@ -222,7 +228,7 @@ module _ (n : ℕ) (ap' ai : List ℕ) (form : IsSortedForm n ap' ai) (t : List 
       | inr other ↦ (let w = form.ascend k p q k_in from (omega arith) y in let v = stop (omega arith) in (omega arith, omega arith))
     ]
 
-    pub exit_uppers : (a : ℕ) → a < k → is_entry n ap' ai a k ≡ true → a < m
+    exit_uppers : (a : ℕ) → a < k → is_entry n ap' ai a k ≡ true → a < m
     exit_uppers a h e = (let r = entry_gives ap' ai n a k e in let e = r.4 in elim (cases_lt r.0 p) [
       | inl x ↦ (let w = read r.0 r.2 x in omega arith)
       | inr x ↦ (let w = (rows_from r.0 x r.3).1 in absurd (omega arith))
@@ -231,21 +237,40 @@ module _ (n : ℕ) (ap' ai : List ℕ) (form : IsSortedForm n ap' ai) (t : List 
     pub exit_gap : (a : ℕ) → m ≤ a → a < k → is_entry n ap' ai a k ≡ false
     exit_gap a x y = false_from_ne_true _ (λ e. let z = exit_uppers a y e in omega arith)
 
-    pub exit_rest : (p < get_or ap' (k + 1) 0 → get_or ai p 0 ≢ k) → (r : ℕ) → p ≤ r → r < get_or ap' (k + 1) 0 → k < get_or ai r 0
+    exit_rest : (p < get_or ap' (k + 1) 0 → get_or ai p 0 ≢ k) → (r : ℕ) → p ≤ r → r < get_or ap' (k + 1) 0 → k < get_or ai r 0
     exit_rest ne r x y = (let w = rows_from r x y in let w0 = w.0 in let v = stop (omega arith) in let d = ne (omega arith) in omega arith)
 
-    pub exit_rest_next : get_or ai p 0 ≡ k → (r : ℕ) → p + 1 ≤ r → r < get_or ap' (k + 1) 0 → k < get_or ai r 0
+    exit_rest_next : get_or ai p 0 ≡ k → (r : ℕ) → p + 1 ≤ r → r < get_or ap' (k + 1) 0 → k < get_or ai r 0
     exit_rest_next e r x y = (let w = form.ascend k p r k_in from (omega arith) y in omega arith)
 
-    pub exit_behind : (r : ℕ) → get_or ap' k 0 ≤ r → r < p → get_or ai r 0 ≤ k
+    exit_behind : (r : ℕ) → get_or ap' k 0 ≤ r → r < p → get_or ai r 0 ≤ k
     exit_behind r x y = (let w = read r x y in omega arith)
 
-    pub exit_behind_next : get_or ai p 0 ≡ k → (r : ℕ) → get_or ap' k 0 ≤ r → r < p + 1 → get_or ai r 0 ≤ k
+    exit_behind_next : get_or ai p 0 ≡ k → (r : ℕ) → get_or ap' k 0 ≤ r → r < p + 1 → get_or ai r 0 ≤ k
     exit_behind_next e r x y =
         elim (cases_lt r p) [ inl z ↦ exit_behind r x z | inr z ↦ (let w : r ≡ p = omega arith in rw (w, e) (omega arith)) ]
 
-    pub exit_none : (p < get_or ap' (k + 1) 0 → get_or ai p 0 ≢ k) → is_entry n ap' ai k k ≡ false
+    exit_none : (p < get_or ap' (k + 1) 0 → get_or ai p 0 ≢ k) → is_entry n ap' ai k k ≡ false
     exit_none ne = entry_none ap' ai n k k (λ q h x y e. elim (cases_lt q p) [
       | inl z ↦ (let w = read q x z in omega arith)
       | inr z ↦ (let w = exit_rest ne q z y in omega arith)
     ])
+
+    module _ (to : p ≤ get_or ap' (k + 1) 0) (next : ℕ) (diagonal : Bool) where
+      -- the diagonal entry at the place is passed over
+      pub over_entry : diagonal ≡ true → next ≡ p + 1 → p < get_or ap' (k + 1) 0 → get_or ai p 0 ≡ k → IsOver n ap' ai t k m next diagonal
+      over_entry yes' next_is inside is =
+          let low : get_or ap' k 0 ≤ p + 1 = omega (arith, from) in
+          let high : p + 1 ≤ get_or ap' (k + 1) 0 = omega (arith, inside) in
+          rw (yes', next_is) (record {
+            scan = end_scan (p + 1) low high (exit_behind_next is) (exit_rest_next is) exit_uppers;
+            same = sym (end_met (p + 1) low high (exit_behind_next is) (exit_rest_next is) exit_uppers);
+            entry = sym (entry_from ap' ai n k k p k_in from inside is);
+          })
+
+      pub over_none : diagonal ≡ false → next ≡ p → (p < get_or ap' (k + 1) 0 → get_or ai p 0 ≢ k) → IsOver n ap' ai t k m next diagonal
+      over_none no' next_is ne = rw (no', next_is) (record {
+        scan = end_scan p from to exit_behind (exit_rest ne) exit_uppers;
+        same = sym (end_met p from to exit_behind (exit_rest ne) exit_uppers);
+        entry = sym (exit_none ne);
+      })

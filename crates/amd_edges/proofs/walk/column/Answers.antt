@@ -1,14 +1,14 @@
-use Rattle.std.proofs.Common.{inl, inr, ◌≡◌, ◌+◌, ◌<◌, ◌≤◌, ◌≢◌, ◌++◌, ◌∷◌, [], ℕ, map, get_or, arith, sym, true, false, refl, ◌∙◌, ◌^◌, subst, le_refl, le_of_lt, le_trans, le_of_eq}
+use Rattle.std.proofs.Common.{◌≡◌, ◌+◌, ◌^◌, ◌<◌, ◌≤◌, ◌≢◌, ◌++◌, ◌∷◌, [], ℕ, map, get_or, arith, ap, sym, true, false, refl, ◌∙◌, subst, subst₂}
+use Rattle.std.proofs.Common.{le_refl, le_of_lt, le_trans, le_of_eq}
 use Rattle.std.proofs.lemmas.Bool.{eqb-true, eqb-false, true≢false, le-ltb}
 use Rattle.std.proofs.lemmas.List.{length-map}
-use Rattle.amd_numbers.specs.Counts.{counts, is_entry}
-use Rattle.amd_edges.specs.Visits.{arcs_of}
+use Rattle.amd_numbers.specs.Counts.{counts, count_graph, is_entry}
+use Rattle.amd_edges.specs.Visits.{arcs_of, with_arc}
+use Rattle.amd_edges.specs.Walk.{IsScan, met}
 use Rattle.amd_edges.proofs.Forms.{pointer_fits, row_fits, place_in, sorted_form}
-use Rattle.amd_edges.proofs.Places.{entry_from}
 use Rattle.amd_edges.proofs.Orders.{edges_until, until_start, until_next, until_end}
-use Rattle.amd_edges.proofs.Uppers.{upper_new, upper_after, upper_scan, end_scan, end_met, exit_uppers, exit_rest}
 use Rattle.amd_edges.proofs.Reading.{row_below, row_from, before_end, past_end, reading_start, reading_next}
-use Rattle.amd_edges.proofs.Uppers.{upper_next, exit_gap, exit_rest_next, exit_behind, exit_behind_next, exit_none}
+use Rattle.amd_edges.proofs.Uppers.{IsOver, upper_next, upper_new, upper_after, upper_scan, exit_gap, over_entry, over_none}
 use Rattle.amd_edges.proofs.walk.column.Goals as goal
 use Rattle.amd_edges.proofs.walk.column.Goals.{then-upper-test+else-count_at-k, else-upper-test, then-place-end, else-place-end}
 use Rattle.amd_edges.proofs.walk.column.Goals.{then-diagonal, else-diagonal}
@@ -54,7 +54,7 @@ arc-requires g c =
     let below = row_below c.count_at.ensures.count c.count_at-j.ensures.count c.if-count_at-k.true in
     let u = upper_next n ap' ai form t k m r.k_in i.scan c.count_at-end.result c.upper.place j c.count_at-end.ensures.count i.place
     c.count_at-j.ensures.count c.upper-test.true below in
-    (_, _, _, i.held, (upper_new n ap' ai form t k m r.k_in i.scan j u.up u.pair u.low u.gap).0)
+    (count_graph n ap' ai, met n ap' ai t k m, arcs_of (edges_until (is_entry n ap' ai) k m), i.held, (upper_new n ap' ai form t k m r.k_in i.scan j u.up u.pair u.low u.gap).0)
 
 pub arc-requires-in-upper : goal.arc-requires-in-upper
 arc-requires-in-upper g c =
@@ -66,7 +66,8 @@ arc-requires-in-upper g c =
     let u = upper_next n ap' ai form t k m r.k_in i.scan c.count_at-end.result c.upper.place j c.count_at-end.ensures.count i.place
     c.count_at-j.ensures.count c.upper-test.true below in
     let new = upper_new n ap' ai form t k m r.k_in i.scan j u.up u.pair u.low u.gap in
-    (_, _, _, c.arc.ensures.held _ _ _ i.held new.0, new.1)
+    let arcs = arcs_of (edges_until (is_entry n ap' ai) k m) in
+    (count_graph n ap' ai, with_arc (met n ap' ai t k m) j k, arcs ++ (j, k) ∷ [], c.arc.ensures.held (count_graph n ap' ai) (met n ap' ai t k m) arcs i.held new.0, new.1)
 
 -- the clauses have an answer each: stated as one goal, they take far longer to check
 pub lower-requires-clause-form : goal.lower-requires-clause-form
@@ -112,11 +113,13 @@ lower-requires-clause-held g c =
     let below = row_below c.count_at.ensures.count c.count_at-j.ensures.count c.if-count_at-k.true in
     let u = upper_next n ap' ai form t k m r.k_in i.scan c.count_at-end.result c.upper.place j c.count_at-end.ensures.count i.place
     c.count_at-j.ensures.count c.upper-test.true below in
-    let pair = is_entry n ap' ai in
     let new = upper_new n ap' ai form t k m r.k_in i.scan j u.up u.pair u.low u.gap in
-    let after = upper_after n ap' ai form t k m r.k_in i.scan j u.up u.pair u.low u.gap in (
-      (arcs_of (edges_until pair k m) ++ (j, k) ∷ []) ++ (k, j) ∷ [],
-      rw (← after) (c.arc-in-upper.ensures.held _ _ _ (c.arc.ensures.held _ _ _ i.held new.0) new.1),
+    let arcs = arcs_of (edges_until (is_entry n ap' ai) k m) in (
+      (arcs ++ (j, k) ∷ []) ++ (k, j) ∷ [],
+      subst (λ s. g.V.Visitor.holds (count_graph n ap' ai) s ((arcs ++ (j, k) ∷ []) ++ (k, j) ∷ []) c.arc-in-upper.new.self)
+          (upper_after n ap' ai form t k m r.k_in i.scan j u.up u.pair u.low u.gap)
+          (c.arc-in-upper.ensures.held (count_graph n ap' ai) (with_arc (met n ap' ai t k m) j k) (arcs ++ (j, k) ∷ [])
+          (c.arc.ensures.held (count_graph n ap' ai) (met n ap' ai t k m) arcs i.held new.0) new.1),
     )
 
 pub upper-preserved : goal.upper-preserved
@@ -128,93 +131,82 @@ upper-preserved g c =
     let below = row_below c.count_at.ensures.count c.count_at-j.ensures.count c.if-count_at-k.true in
     let u = upper_next n ap' ai form t k m r.k_in i.scan c.count_at-end.result c.upper.place j c.count_at-end.ensures.count i.place
     c.count_at-j.ensures.count c.upper-test.true below in
-    let pair = is_entry n ap' ai in
     let new = upper_new n ap' ai form t k m r.k_in i.scan j u.up u.pair u.low u.gap in
-    let after = upper_after n ap' ai form t k m r.k_in i.scan j u.up u.pair u.low u.gap in
-    let next = until_next pair k m j u.low u.gap u.pair in
+    let arcs = arcs_of (edges_until (is_entry n ap' ai) k m) in
     let e = c.lower.ensures in (
       j + 1,
       record {
-        place = reading_next n ap' ai form k (get_or ap' k 0) c.count_at-end.result k m c.upper.place j r.k_in (le_refl _)
+        place = reading_next n ap' ai form k (get_or ap' k 0) c.count_at-end.result k m c.upper.place j r.k_in (le_refl (get_or ap' k 0))
             c.count_at-end.ensures.count i.place c.count_at-j.ensures.count c.upper-test.true below;
         room = e.room ∙ i.room;
         kept = e.kept ∙ c.arc-in-upper.ensures.kept ∙ c.arc.ensures.kept ∙ i.kept;
         scan = e.scan;
-        held = rw (← next) (e.held ((arcs_of (edges_until pair k m) ++ (j, k) ∷ []) ++ (k, j) ∷ [])
-            (rw (← after) (c.arc-in-upper.ensures.held _ _ _ (c.arc.ensures.held _ _ _ i.held new.0) new.1)));
+        held = subst (λ l. g.V.Visitor.holds (count_graph n ap' ai) (met n ap' ai c.lower.new.next.items k (j + 1)) l c.lower.new.visitor)
+            (until_next (is_entry n ap' ai) k m j u.low u.gap u.pair)
+            (e.held ((arcs ++ (j, k) ∷ []) ++ (k, j) ∷ [])
+            (subst (λ s. g.V.Visitor.holds (count_graph n ap' ai) s ((arcs ++ (j, k) ∷ []) ++ (k, j) ∷ []) c.arc-in-upper.new.self)
+            (upper_after n ap' ai form t k m r.k_in i.scan j u.up u.pair u.low u.gap)
+            (c.arc-in-upper.ensures.held (count_graph n ap' ai) (with_arc (met n ap' ai t k m) j k) (arcs ++ (j, k) ∷ [])
+            (c.arc.ensures.held (count_graph n ap' ai) (met n ap' ai t k m) arcs i.held new.0) new.1)));
       },
     )
 
 pub upper-init : goal.upper-init
 upper-init g c =
     let r = c.requires in
+    let n = c.args.size in let k = c.args.k in
     let ap' = counts (map g.I.Number.value c.args.a_p.now) in let ai = counts (map g.I.Number.value c.args.a_i.now) in
-    let form = sorted_form c.args.size (map g.I.Number.value c.args.a_p.now) (map g.I.Number.value c.args.a_i.now) r.form r.sorted in
-    let start = c.count_at-place.ensures.count in (
+    let form = sorted_form n (map g.I.Number.value c.args.a_p.now) (map g.I.Number.value c.args.a_i.now) r.form r.sorted in (
       0,
       record {
-        place = reading_start ai (get_or ap' c.args.k 0) c.count_at-end.result c.args.k c.count_at-place.result start
-            (row_from (sym c.count_at-end.ensures.count) (form.rising c.args.k r.k_in));
+        place = reading_start ai (get_or ap' k 0) c.count_at-end.result k c.count_at-place.result c.count_at-place.ensures.count
+            (row_from (sym c.count_at-end.ensures.count) (form.rising k r.k_in));
         room = refl;
         kept = refl;
         scan = r.scan;
-        held = rw (until_start (is_entry c.args.size ap' ai) c.args.k) r.held;
+        held = subst (λ l. g.V.Visitor.holds (count_graph n ap' ai) (met n ap' ai c.args.next.now.items k 0) (arcs_of l) c.args.visitor.now)
+            (sym (until_start (is_entry n ap' ai) k)) r.held;
       },
     )
 
 pub returns : goal.returns
 returns g c =
-    let v = c.upper.invariant.1 in let i = v.place in let scan = v.scan in let r = c.requires in let m = c.upper.invariant.0 in let t = c.upper.next.items in let k = c.args.k in
-    let p = c.upper.place in let n = c.args.size in
+    let v = c.upper.invariant.1 in let i = v.place in let r = c.requires in
+    let m = c.upper.invariant.0 in let t = c.upper.next.items in let k = c.args.k in let p = c.upper.place in let n = c.args.size in
+    let ap' = counts (map g.I.Number.value c.args.a_p.now) in let ai = counts (map g.I.Number.value c.args.a_i.now) in
     let form = sorted_form n (map g.I.Number.value c.args.a_p.now) (map g.I.Number.value c.args.a_i.now) r.form r.sorted in
     let ends = c.count_at-end.ensures.count in
-    let ap' = counts (map g.I.Number.value c.args.a_p.now) in
-    let ai = counts (map g.I.Number.value c.args.a_i.now) in
+    let to = le_trans i.to (le_of_eq ends) in
+    let diagonal = c.if-place-end.diagonal in let next = c.if-diagonal.place in
     let stop : p < get_or ap' (k + 1) 0 → k ≤ get_or ai p 0 = λ inside. elim c.upper-test.branch [
       | then-upper-test+else-count_at-k w ↦ row_from w.count_at.ensures.count w.if-count_at-k.false
       | else-upper-test w ↦ absurd (past_end ends w.upper-test.false inside)
     ] in
-    let uppers = exit_uppers n ap' ai form t k m r.k_in scan p i.from stop i.low i.read in
-    let edges = until_end (is_entry n ap' ai) k m i.low (exit_gap n ap' ai form t k m r.k_in scan p i.from stop i.low i.read) in
-    let found : c.if-place-end.diagonal ≡ true → (p < get_or ap' (k + 1) 0) × (get_or ai p 0 ≡ k) = λ e. elim c.if-place-end.branch [
+    let found : diagonal ≡ true → (p < get_or ap' (k + 1) 0) × (get_or ai p 0 ≡ k) = λ e. elim c.if-place-end.branch [
       | then-place-end w ↦ (
         before_end ends w.if-place-end.true,
-        sym w.count_at-then-place-end.ensures.count ∙ eqb-true _ _ (sym w.diagonal-is ∙ e),
+        sym w.count_at-then-place-end.ensures.count ∙ eqb-true w.count_at-then-place-end.result k (sym w.diagonal-is ∙ e),
       )
-      | else-place-end w ↦ (let x = w.if-place-end.false in absurd (true≢false (sym e ∙ w.diagonal-is ∙ le-ltb p c.count_at-end.result x)))
+      | else-place-end w ↦ absurd (true≢false (sym e ∙ w.diagonal-is ∙ le-ltb p c.count_at-end.result w.if-place-end.false))
     ] in
-    let missed : c.if-place-end.diagonal ≡ false → p < get_or ap' (k + 1) 0 → get_or ai p 0 ≢ k = λ e inside. elim c.if-place-end.branch [
-      | then-place-end w ↦ (let y = w.count_at-then-place-end.ensures.count in let z = eqb-false _ _ (sym w.diagonal-is ∙ e) in
-          λ same. z (y ∙ same))
+    let missed : diagonal ≡ false → p < get_or ap' (k + 1) 0 → get_or ai p 0 ≢ k = λ e inside. elim c.if-place-end.branch [
+      | then-place-end w ↦ λ same. eqb-false w.count_at-then-place-end.result k (sym w.diagonal-is ∙ e)
+          (w.count_at-then-place-end.ensures.count ∙ same)
       | else-place-end w ↦ absurd (past_end ends w.if-place-end.false inside)
     ] in
-    let items = c.push_reserved.ensures.items in
-    let room = c.push_reserved.ensures.capacity ∙ v.room in
-    elim c.if-diagonal.branch [
-      | then-diagonal w ↦ (
-          let is = found w.if-diagonal.true in
-          let inside = is.0 in
-          let rest = exit_rest_next n ap' ai form t k m r.k_in scan p i.from stop i.low i.read is.1 in
-          let behind = exit_behind_next n ap' ai form t k m r.k_in scan p i.from stop i.low i.read is.1 in
-          let from : get_or ap' k 0 ≤ p + 1 = (let x = i.from in omega (arith, x)) in
-          record {
-            scan = rw (items, w.place-is) (end_scan n ap' ai form t k m r.k_in scan (p + 1) from (omega (arith, inside)) behind rest uppers);
-            held = rw (edges, items, w.place-is, end_met n ap' ai form t k m r.k_in scan (p + 1) from (omega (arith, inside)) behind rest uppers)
-                v.held;
-            room = room;
-            kept = v.kept;
-            diagonal = w.if-diagonal.true ∙ sym (entry_from ap' ai n k k p r.k_in i.from inside is.1);
-          })
-      | else-diagonal w ↦ (
-          let ne = missed w.if-diagonal.false in
-          let to : p ≤ get_or ap' (k + 1) 0 = le_trans i.to (le_of_eq ends) in
-          let rest = exit_rest n ap' ai form t k m r.k_in scan p i.from stop i.low i.read ne in
-          let behind = exit_behind n ap' ai form t k m r.k_in scan p i.from stop i.low i.read in
-          record {
-            scan = rw (items, w.place-is) (end_scan n ap' ai form t k m r.k_in scan p i.from to behind rest uppers);
-            held = rw (edges, items, w.place-is, end_met n ap' ai form t k m r.k_in scan p i.from to behind rest uppers) v.held;
-            room = room;
-            kept = v.kept;
-            diagonal = w.if-diagonal.false ∙ sym (exit_none n ap' ai form t k m r.k_in scan p i.from stop i.low i.read ne);
-          })
-    ]
+    let over : IsOver n ap' ai t k m next diagonal = elim c.if-diagonal.branch [
+      | then-diagonal w ↦ (let is = found w.if-diagonal.true in
+          over_entry n ap' ai form t k m r.k_in v.scan p i.from stop i.low i.read to next diagonal w.if-diagonal.true w.place-is is.0 is.1)
+      | else-diagonal w ↦ over_none n ap' ai form t k m r.k_in v.scan p i.from stop i.low i.read to next diagonal w.if-diagonal.false w.place-is
+          (missed w.if-diagonal.false)
+    ] in
+    let items = sym c.push_reserved.ensures.items in
+    record {
+      scan = subst (λ l. IsScan n ap' ai l (k + 1) 0) items over.scan;
+      held = subst₂ (λ s l. g.V.Visitor.holds (count_graph n ap' ai) s (arcs_of l) c.upper.visitor)
+          (over.same ∙ ap (λ l. met n ap' ai l (k + 1) 0) items)
+          (sym (until_end (is_entry n ap' ai) k m i.low (exit_gap n ap' ai form t k m r.k_in v.scan p i.from stop i.low i.read))) v.held;
+      room = c.push_reserved.ensures.capacity ∙ v.room;
+      kept = v.kept;
+      diagonal = over.entry;
+    }
