@@ -1,5 +1,6 @@
 -- A sorted column form read as counts: any two rows of a column rise, and the pairs and the graph are the same.
-use Rattle.std.proofs.Common.{◌≡◌, ◌+◌, ◌-◌, ◌^◌, ◌<◌, ◌≤◌, ℕ, ℤ, zero, suc, Bool, true, pos, negsuc, List, length, get_or, map, refl, ap, sym}
+use Rattle.std.proofs.Common.{◌≡◌, ◌+◌, ◌-◌, ◌^◌, ◌<◌, ◌≤◌, ℕ, ℤ, zero, suc}
+use Rattle.std.proofs.Common.{Bool, true, pos, negsuc, List, length, get_or, map, refl, ap, sym}
 use Rattle.std.proofs.Common.{◌∙◌, subst, arith, ltb, ◌&&◌, unsigned_abs}
 use Rattle.std.specs.Prelude.{◌≤ℤ◌, ◌<ℤ◌, int_le, int_lt}
 use Rattle.std.specs.Int.{FitsUnsignedBits}

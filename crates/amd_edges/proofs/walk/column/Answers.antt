@@ -1,4 +1,5 @@
-use Rattle.std.proofs.Common.{◌≡◌, ◌+◌, ◌^◌, ◌<◌, ◌≤◌, ◌≢◌, ◌++◌, ◌∷◌, [], ℕ, map, get_or, arith, ap, sym, true, false, refl, ◌∙◌, subst, subst₂}
+use Rattle.std.proofs.Common.{◌≡◌, ◌+◌, ◌^◌, ◌<◌, ◌≤◌, ◌≢◌, ◌++◌, ◌∷◌, [], map}
+use Rattle.std.proofs.Common.{get_or, arith, ap, sym, true, false, refl, ◌∙◌, subst, subst₂}
 use Rattle.std.proofs.Common.{le_refl, le_of_lt, le_trans, le_of_eq}
 use Rattle.std.proofs.lemmas.Bool.{eqb-true, eqb-false, true≢false, le-ltb}
 use Rattle.std.proofs.lemmas.List.{length-map}
@@ -14,35 +15,44 @@ use Rattle.amd_edges.proofs.walk.column.Goals.{then-upper-test+else-count_at-k, 
 use Rattle.amd_edges.proofs.walk.column.Goals.{then-diagonal, else-diagonal}
 
 pub count_at-end-requires-clause-fits : goal.count_at-end-requires-clause-fits
-count_at-end-requires-clause-fits g c = pointer_fits c.args.size (map g.I.Number.value c.args.a_p.now) (map g.I.Number.value c.args.a_i.now) c.requires.form (c.args.k + 1)
-    (let a = c.requires.k_in in omega (arith, a)) (subst (λ x. x < 2 ^ 64) (sym (length-map c.args.a_i.now g.I.Number.value)) (omega arith))
+count_at-end-requires-clause-fits g c = pointer_fits c.args.size (map g.I.Number.value c.args.a_p.now)
+    (map g.I.Number.value c.args.a_i.now) c.requires.form (c.args.k + 1)
+    (let a = c.requires.k_in in omega (arith, a)) (subst (λ x. x < 2 ^ 64) (sym (length-map c.args.a_i.now g.I.Number.value))
+    (omega (arith, c.well_formed)))
 
 pub count_at-place-requires-clause-fits : goal.count_at-place-requires-clause-fits
-count_at-place-requires-clause-fits g c = pointer_fits c.args.size (map g.I.Number.value c.args.a_p.now) (map g.I.Number.value c.args.a_i.now) c.requires.form c.args.k
-    (le_of_lt c.requires.k_in) (subst (λ x. x < 2 ^ 64) (sym (length-map c.args.a_i.now g.I.Number.value)) (omega arith))
+count_at-place-requires-clause-fits g c = pointer_fits c.args.size (map g.I.Number.value c.args.a_p.now)
+    (map g.I.Number.value c.args.a_i.now) c.requires.form c.args.k
+    (le_of_lt c.requires.k_in) (subst (λ x. x < 2 ^ 64) (sym (length-map c.args.a_i.now g.I.Number.value)) (omega (arith, c.well_formed)))
 
 pub count_at-requires-clause-within : goal.count_at-requires-clause-within
-count_at-requires-clause-within g c = place_in g.I.Number.value c.args.a_i.now c.args.size (map g.I.Number.value c.args.a_p.now) c.requires.form c.args.k c.upper.place
+count_at-requires-clause-within g c = place_in g.I.Number.value c.args.a_i.now c.args.size (map g.I.Number.value c.args.a_p.now)
+    c.requires.form c.args.k c.upper.place
     c.count_at-end.result c.requires.k_in c.count_at-end.ensures.count c.upper-test.true
 
 pub count_at-requires-clause-fits : goal.count_at-requires-clause-fits
-count_at-requires-clause-fits g c = row_fits c.args.size (map g.I.Number.value c.args.a_p.now) (map g.I.Number.value c.args.a_i.now) c.requires.form c.args.k
+count_at-requires-clause-fits g c = row_fits c.args.size (map g.I.Number.value c.args.a_p.now) (map g.I.Number.value c.args.a_i.now)
+    c.requires.form c.args.k
     c.upper.place c.requires.k_in (before_end c.count_at-end.ensures.count c.upper-test.true) c.ranges.size.fits
 
 pub count_at-j-requires-clause-within : goal.count_at-j-requires-clause-within
-count_at-j-requires-clause-within g c = place_in g.I.Number.value c.args.a_i.now c.args.size (map g.I.Number.value c.args.a_p.now) c.requires.form c.args.k c.upper.place
+count_at-j-requires-clause-within g c = place_in g.I.Number.value c.args.a_i.now c.args.size (map g.I.Number.value c.args.a_p.now)
+    c.requires.form c.args.k c.upper.place
     c.count_at-end.result c.requires.k_in c.count_at-end.ensures.count c.upper-test.true
 
 pub count_at-j-requires-clause-fits : goal.count_at-j-requires-clause-fits
-count_at-j-requires-clause-fits g c = row_fits c.args.size (map g.I.Number.value c.args.a_p.now) (map g.I.Number.value c.args.a_i.now) c.requires.form c.args.k
+count_at-j-requires-clause-fits g c = row_fits c.args.size (map g.I.Number.value c.args.a_p.now) (map g.I.Number.value c.args.a_i.now)
+    c.requires.form c.args.k
     c.upper.place c.requires.k_in (before_end c.count_at-end.ensures.count c.upper-test.true) c.ranges.size.fits
 
 pub count_at-requires-then-place-end-clause-within : goal.count_at-requires-then-place-end-clause-within
-count_at-requires-then-place-end-clause-within g c = place_in g.I.Number.value c.args.a_i.now c.args.size (map g.I.Number.value c.args.a_p.now) c.requires.form c.args.k c.upper.place
+count_at-requires-then-place-end-clause-within g c = place_in g.I.Number.value c.args.a_i.now c.args.size
+    (map g.I.Number.value c.args.a_p.now) c.requires.form c.args.k c.upper.place
     c.count_at-end.result c.requires.k_in c.count_at-end.ensures.count c.if-place-end.true
 
 pub count_at-requires-then-place-end-clause-fits : goal.count_at-requires-then-place-end-clause-fits
-count_at-requires-then-place-end-clause-fits g c = row_fits c.args.size (map g.I.Number.value c.args.a_p.now) (map g.I.Number.value c.args.a_i.now) c.requires.form c.args.k
+count_at-requires-then-place-end-clause-fits g c = row_fits c.args.size (map g.I.Number.value c.args.a_p.now)
+    (map g.I.Number.value c.args.a_i.now) c.requires.form c.args.k
     c.upper.place c.requires.k_in (before_end c.count_at-end.ensures.count c.if-place-end.true) c.ranges.size.fits
 
 pub arc-requires : goal.arc-requires
@@ -53,8 +63,13 @@ arc-requires g c =
     let form = sorted_form n (map g.I.Number.value c.args.a_p.now) (map g.I.Number.value c.args.a_i.now) r.form r.sorted in
     let below = row_below c.count_at.ensures.count c.count_at-j.ensures.count c.if-count_at-k.true in
     let u = upper_next n ap' ai form t k m r.k_in i.scan c.count_at-end.result c.upper.place j c.count_at-end.ensures.count i.place
-    c.count_at-j.ensures.count c.upper-test.true below in
-    (count_graph n ap' ai, met n ap' ai t k m, arcs_of (edges_until (is_entry n ap' ai) k m), i.held, (upper_new n ap' ai form t k m r.k_in i.scan j u.up u.pair u.low u.gap).0)
+    c.count_at-j.ensures.count c.upper-test.true below in (
+      count_graph n ap' ai,
+      met n ap' ai t k m,
+      arcs_of (edges_until (is_entry n ap' ai) k m),
+      i.held,
+      (upper_new n ap' ai form t k m r.k_in i.scan j u.up u.pair u.low u.gap).0,
+    )
 
 pub arc-requires-in-upper : goal.arc-requires-in-upper
 arc-requires-in-upper g c =
@@ -66,8 +81,14 @@ arc-requires-in-upper g c =
     let u = upper_next n ap' ai form t k m r.k_in i.scan c.count_at-end.result c.upper.place j c.count_at-end.ensures.count i.place
     c.count_at-j.ensures.count c.upper-test.true below in
     let new = upper_new n ap' ai form t k m r.k_in i.scan j u.up u.pair u.low u.gap in
-    let arcs = arcs_of (edges_until (is_entry n ap' ai) k m) in
-    (count_graph n ap' ai, with_arc (met n ap' ai t k m) j k, arcs ++ (j, k) ∷ [], c.arc.ensures.held (count_graph n ap' ai) (met n ap' ai t k m) arcs i.held new.0, new.1)
+    let arcs = arcs_of (edges_until (is_entry n ap' ai) k m) in (
+      count_graph n ap' ai,
+      with_arc (met n ap' ai t k m) j k,
+      arcs ++ (j, k) ∷ [],
+      c.arc.ensures.held (count_graph n ap' ai)
+          (met n ap' ai t k m) arcs i.held new.0,
+      new.1,
+    )
 
 -- the clauses have an answer each: stated as one goal, they take far longer to check
 pub lower-requires-clause-form : goal.lower-requires-clause-form
@@ -164,7 +185,8 @@ upper-init g c =
         room = refl;
         kept = refl;
         scan = r.scan;
-        held = subst (λ l. g.V.Visitor.holds (count_graph n ap' ai) (met n ap' ai c.args.next.now.items k 0) (arcs_of l) c.args.visitor.now)
+        held = subst (λ l. g.V.Visitor.holds (count_graph n ap' ai) (met n ap' ai c.args.next.now.items k 0) (arcs_of l)
+            c.args.visitor.now)
             (sym (until_start (is_entry n ap' ai) k)) r.held;
       },
     )
@@ -196,8 +218,10 @@ returns g c =
     ] in
     let over : IsOver n ap' ai t k m next diagonal = elim c.if-diagonal.branch [
       | then-diagonal w ↦ (let is = found w.if-diagonal.true in
-          over_entry n ap' ai form t k m r.k_in v.scan p i.from stop i.low i.read to next diagonal w.if-diagonal.true w.place-is is.0 is.1)
-      | else-diagonal w ↦ over_none n ap' ai form t k m r.k_in v.scan p i.from stop i.low i.read to next diagonal w.if-diagonal.false w.place-is
+          over_entry n ap' ai form t k m r.k_in v.scan p i.from stop i.low i.read to next diagonal w.if-diagonal.true w.place-is is.0
+          is.1)
+      | else-diagonal w ↦ over_none n ap' ai form t k m r.k_in v.scan p i.from stop i.low i.read to next diagonal w.if-diagonal.false
+          w.place-is
           (missed w.if-diagonal.false)
     ] in
     let items = sym c.push_reserved.ensures.items in

@@ -1,4 +1,5 @@
-use Rattle.std.proofs.Common.{◌≡◌, ◌+◌, ◌<◌, ◌≤◌, ◌++◌, ◌^◌, ℕ, suc, List, arith, map, get_or, set, ap, sym, refl, ◌∙◌, subst, subst₂, le_refl, le_trans}
+use Rattle.std.proofs.Common.{◌≡◌, ◌+◌, ◌<◌, ◌≤◌, ◌++◌, ◌^◌, ℕ, suc, arith, map}
+use Rattle.std.proofs.Common.{get_or, set, ap, sym, refl, ◌∙◌, subst, subst₂, le_refl, le_trans}
 use Rattle.std.proofs.Common.{le_of_eq, lt_of_lt_of_le}
 use Rattle.std.proofs.lemmas.List.{length-map}
 use Rattle.std.proofs.lemmas.Grind.{get_or_default_zero}
@@ -7,7 +8,8 @@ use Rattle.amd_edges.specs.Visits.{arcs_of}
 use Rattle.amd_edges.specs.Walk.{IsScan, met}
 use Rattle.amd_edges.proofs.Orders.{met_above, above_start, above_push, above_end}
 use Rattle.amd_edges.proofs.Forms.{pointer_fits, row_fits, place_in, sorted_form}
-use Rattle.amd_edges.proofs.Reading.{row_below, row_from, before_end, past_end, reading_start, reading_next, reading_behind, reading_behind_next}
+use Rattle.amd_edges.proofs.Reading.{row_below, row_from, before_end, past_end}
+use Rattle.amd_edges.proofs.Reading.{reading_start, reading_next, reading_behind, reading_behind_next}
 use Rattle.amd_edges.proofs.Scans.{met_still, lower_new, lower_after, lower_mirror, lower_end, lower_behind, lower_next}
 use Rattle.amd_edges.proofs.walk.lower.Goals as goal
 use Rattle.amd_edges.proofs.walk.lower.Goals.{then-place-end+then-count_at-k-2, else-place-end}
@@ -15,32 +17,43 @@ use Rattle.amd_edges.proofs.walk.lower.Goals.{else-place-end-via-then-place-end+
 use Rattle.amd_edges.proofs.walk.lower.Goals.{then-rows-test+else-count_at-k, else-rows-test}
 
 pub count_at-end-requires-clause-fits : goal.count_at-end-requires-clause-fits
-count_at-end-requires-clause-fits g c = pointer_fits c.args.size (map g.I.Number.value c.args.a_p.now) (map g.I.Number.value c.args.a_i.now) c.requires.form (c.args.j + 1)
-    (let a = c.requires.before in let b = c.requires.k_in in omega (arith, a, b)) (subst (λ x. x < 2 ^ 64) (sym (length-map c.args.a_i.now g.I.Number.value)) (omega arith))
+count_at-end-requires-clause-fits g c = pointer_fits c.args.size (map g.I.Number.value c.args.a_p.now)
+    (map g.I.Number.value c.args.a_i.now) c.requires.form (c.args.j + 1)
+    (let a = c.requires.before in let b = c.requires.k_in in omega (arith, a, b))
+    (subst (λ x. x < 2 ^ 64) (sym (length-map c.args.a_i.now g.I.Number.value)) (omega (arith, c.well_formed)))
 
 pub count_at-requires-clause-within : goal.count_at-requires-clause-within
-count_at-requires-clause-within g c = place_in g.I.Number.value c.args.a_i.now c.args.size (map g.I.Number.value c.args.a_p.now) c.requires.form c.args.j c.rows.place
+count_at-requires-clause-within g c = place_in g.I.Number.value c.args.a_i.now c.args.size (map g.I.Number.value c.args.a_p.now)
+    c.requires.form c.args.j c.rows.place
     c.count_at-end.result (lt_of_lt_of_le c.requires.before c.requires.k_in) c.count_at-end.ensures.count c.rows-test.true
 
 pub count_at-requires-clause-fits : goal.count_at-requires-clause-fits
-count_at-requires-clause-fits g c = row_fits c.args.size (map g.I.Number.value c.args.a_p.now) (map g.I.Number.value c.args.a_i.now) c.requires.form c.args.j
-    c.rows.place (lt_of_lt_of_le c.requires.before c.requires.k_in) (before_end c.count_at-end.ensures.count c.rows-test.true) c.ranges.size.fits
+count_at-requires-clause-fits g c = row_fits c.args.size (map g.I.Number.value c.args.a_p.now) (map g.I.Number.value c.args.a_i.now)
+    c.requires.form c.args.j
+    c.rows.place (lt_of_lt_of_le c.requires.before c.requires.k_in) (before_end c.count_at-end.ensures.count c.rows-test.true)
+    c.ranges.size.fits
 
 pub count_at-requires-in-rows-clause-within : goal.count_at-requires-in-rows-clause-within
-count_at-requires-in-rows-clause-within g c = place_in g.I.Number.value c.args.a_i.now c.args.size (map g.I.Number.value c.args.a_p.now) c.requires.form c.args.j c.rows.place
+count_at-requires-in-rows-clause-within g c = place_in g.I.Number.value c.args.a_i.now c.args.size (map g.I.Number.value c.args.a_p.now)
+    c.requires.form c.args.j c.rows.place
     c.count_at-end.result (lt_of_lt_of_le c.requires.before c.requires.k_in) c.count_at-end.ensures.count c.rows-test.true
 
 pub count_at-requires-in-rows-clause-fits : goal.count_at-requires-in-rows-clause-fits
-count_at-requires-in-rows-clause-fits g c = row_fits c.args.size (map g.I.Number.value c.args.a_p.now) (map g.I.Number.value c.args.a_i.now) c.requires.form c.args.j
-    c.rows.place (lt_of_lt_of_le c.requires.before c.requires.k_in) (before_end c.count_at-end.ensures.count c.rows-test.true) c.ranges.size.fits
+count_at-requires-in-rows-clause-fits g c = row_fits c.args.size (map g.I.Number.value c.args.a_p.now)
+    (map g.I.Number.value c.args.a_i.now) c.requires.form c.args.j
+    c.rows.place (lt_of_lt_of_le c.requires.before c.requires.k_in) (before_end c.count_at-end.ensures.count c.rows-test.true)
+    c.ranges.size.fits
 
 pub count_at-requires-then-place-end-clause-within : goal.count_at-requires-then-place-end-clause-within
-count_at-requires-then-place-end-clause-within g c = place_in g.I.Number.value c.args.a_i.now c.args.size (map g.I.Number.value c.args.a_p.now) c.requires.form c.args.j c.rows.place
+count_at-requires-then-place-end-clause-within g c = place_in g.I.Number.value c.args.a_i.now c.args.size
+    (map g.I.Number.value c.args.a_p.now) c.requires.form c.args.j c.rows.place
     c.count_at-end.result (lt_of_lt_of_le c.requires.before c.requires.k_in) c.count_at-end.ensures.count c.if-place-end.true
 
 pub count_at-requires-then-place-end-clause-fits : goal.count_at-requires-then-place-end-clause-fits
-count_at-requires-then-place-end-clause-fits g c = row_fits c.args.size (map g.I.Number.value c.args.a_p.now) (map g.I.Number.value c.args.a_i.now) c.requires.form c.args.j
-    c.rows.place (lt_of_lt_of_le c.requires.before c.requires.k_in) (before_end c.count_at-end.ensures.count c.if-place-end.true) c.ranges.size.fits
+count_at-requires-then-place-end-clause-fits g c = row_fits c.args.size (map g.I.Number.value c.args.a_p.now)
+    (map g.I.Number.value c.args.a_i.now) c.requires.form c.args.j
+    c.rows.place (lt_of_lt_of_le c.requires.before c.requires.k_in) (before_end c.count_at-end.ensures.count c.if-place-end.true)
+    c.ranges.size.fits
 
 pub rows-init : goal.rows-init
 rows-init g c =
@@ -56,7 +69,8 @@ rows-init g c =
         place = reading_start ai (get_or t j 0) c.count_at-end.result k place is (row_from (sym c.count_at-end.ensures.count) stop);
         kept = refl;
         held = λ arcs h. subst₂ (λ s l. g.V.Visitor.runs (count_graph n ap' ai) s l j c.begin-mark.result c.args.visitor.now)
-            (met_still n ap' ai form t k (j + 1) j place is) (above_start (is_entry n ap' ai) k j arcs) (c.begin-mark.ensures (count_graph n ap' ai) (met n ap' ai t k (j + 1)) arcs h);
+            (met_still n ap' ai form t k (j + 1) j place is) (above_start (is_entry n ap' ai) k j arcs)
+            (c.begin-mark.ensures (count_graph n ap' ai) (met n ap' ai t k (j + 1)) arcs h);
       },
     )
 
@@ -131,7 +145,8 @@ returns g c =
                 (reading_behind_next i (sym same ∙ here))
                 (lower_next n ap' ai form t k j q r.scan r.before r.k_in i.from w.count_at-then-place-end.result same inside here));
             held = λ arcs h. subst₂ (λ s l. g.V.Visitor.holds (count_graph n ap' ai) s l c.end.new.self)
-                (sym (lower_mirror n ap' ai form t k j q r.scan r.before r.k_in i.from w.count_at-then-place-end.result same inside here r.mirror)
+                (sym (lower_mirror n ap' ai form t k j q r.scan r.before r.k_in i.from w.count_at-then-place-end.result same inside here
+                r.mirror)
                 ∙ moved c.if-place-end.place (q + 1) w.place-is)
                 (ap (λ l. arcs ++ arcs_of l) (sym all)) (c.end.ensures.held (count_graph n ap' ai) (met n ap' ai (set t j q) k (j + 1))
                 (arcs ++ arcs_of (met_above (is_entry n ap' ai) k j b)) (v.held arcs h) row);

@@ -32,9 +32,13 @@ pub lower-requires-clause-held : goal.lower-requires-clause-held
 lower-requires-clause-held g c =
     let n = c.args.size in let j = c.columns.j in let t = c.columns.next.items in
     let ap' = counts (map g.I.Number.value c.args.a_p.now) in let ai = counts (map g.I.Number.value c.args.a_i.now) in
-    let form = sorted_form n (map g.I.Number.value c.args.a_p.now) (map g.I.Number.value c.args.a_i.now) c.requires.form c.requires.sorted in
-    let arcs = arcs_of (edges_after (is_entry n ap' ai) n j) in
-    (arcs, subst (λ s. g.V.Visitor.holds (count_graph n ap' ai) s arcs c.columns.visitor) (sym (rest_met n ap' ai form t j)) c.columns.invariant.held)
+    let form = sorted_form n (map g.I.Number.value c.args.a_p.now) (map g.I.Number.value c.args.a_i.now) c.requires.form
+    c.requires.sorted in
+    let arcs = arcs_of (edges_after (is_entry n ap' ai) n j) in (
+      arcs,
+      subst (λ s. g.V.Visitor.holds (count_graph n ap' ai) s arcs c.columns.visitor) (sym (rest_met n ap' ai form t j))
+          c.columns.invariant.held,
+    )
 
 pub columns-init : goal.columns-init
 columns-init g c =
@@ -51,7 +55,8 @@ pub columns-preserved : goal.columns-preserved
 columns-preserved g c =
     let n = c.args.size in let j = c.columns.j in let t = c.columns.next.items in
     let ap' = counts (map g.I.Number.value c.args.a_p.now) in let ai = counts (map g.I.Number.value c.args.a_i.now) in
-    let form = sorted_form n (map g.I.Number.value c.args.a_p.now) (map g.I.Number.value c.args.a_i.now) c.requires.form c.requires.sorted in
+    let form = sorted_form n (map g.I.Number.value c.args.a_p.now) (map g.I.Number.value c.args.a_i.now) c.requires.form
+    c.requires.sorted in
     let arcs = arcs_of (edges_after (is_entry n ap' ai) n j) in
     record {
       kept = c.lower.ensures.kept ∙ c.columns.invariant.kept;
@@ -66,7 +71,8 @@ pub returns : goal.returns
 returns g c =
     let n = c.args.size in let j = c.columns.j in let t = c.columns.next.items in
     let ap' = counts (map g.I.Number.value c.args.a_p.now) in let ai = counts (map g.I.Number.value c.args.a_i.now) in
-    let form = sorted_form n (map g.I.Number.value c.args.a_p.now) (map g.I.Number.value c.args.a_i.now) c.requires.form c.requires.sorted in
+    let form = sorted_form n (map g.I.Number.value c.args.a_p.now) (map g.I.Number.value c.args.a_i.now) c.requires.form
+    c.requires.sorted in
     let i = c.columns.invariant in
     let pair = is_pair n (map g.I.Number.value c.args.a_p.now) (map g.I.Number.value c.args.a_i.now) in
     let end : j ≡ n = (let x = c.columns-test.false in let y = c.columns.auto.j-end in omega (arith, x, y)) in
@@ -76,6 +82,7 @@ returns g c =
     record {
       held = subst (λ h. g.V.Visitor.holds h h.edge (arcs_of (met_edges n pair)) c.columns.visitor)
           (sym (same_graph n (map g.I.Number.value c.args.a_p.now) (map g.I.Number.value c.args.a_i.now) c.requires.form))
-          (subst₂ (λ s l. g.V.Visitor.holds (count_graph n ap' ai) s (arcs_of l) c.columns.visitor) (ap (met n ap' ai t n) end ∙ all) edges i.held);
+          (subst₂ (λ s l. g.V.Visitor.holds (count_graph n ap' ai) s (arcs_of l) c.columns.visitor) (ap (met n ap' ai t n) end ∙ all)
+          edges i.held);
       kept = i.kept;
     }
