@@ -1,5 +1,5 @@
 -- Classes of columns, one more row or column at a time.
-use Rattle.std.proofs.Common.{◌≡◌, ◌+◌, ◌-◌, ◌^◌, ◌<◌, ◌≤◌, ◌≤ℤ◌, ◌<ℤ◌, ◌⊎◌, inl, inr, refl, ℕ, ℤ, zero, suc, pos, List, length}
+use Rattle.std.proofs.Common.{◌≡◌, ◌+◌, ◌-◌, ◌^◌, ◌<◌, ◌≤◌, ◌≤ℤ◌, ◌<ℤ◌, ◌⊎◌, ◌≢◌, ◌∙◌, inl, inr, refl, ℕ, ℤ, zero, suc, pos, negsuc, List, length}
 use Rattle.std.proofs.Common.{arith, sym, subst, below_more}
 use native.Mathlib.Decide.{dec_lt}
 use Prim.{yes, no}
@@ -21,6 +21,27 @@ from_first ai a k (suc d) e up =
     let more : at ai (a + d) <ℤ at ai k = (let last : a + d + 1 ≡ k = omega (arith, e) in rw (sym last) step) in
     omega (arith, ints, below, more)
 
+-- one more number that rises
+pub rise_more : (ai : List ℤ) (a j k : ℕ) → k ≡ j + 1 → Rise ai a k → at ai j <ℤ at ai k → Rise ai a (k + 1)
+rise_more ai a j k next up last i low high = elim (dec_lt (i + 1) k) [
+  | yes x ↦ up i low x
+  | no x ↦ (let e : j ≡ i = omega (arith, next, high, x) in
+      subst (λ z. at ai z <ℤ at ai (z + 1)) e (subst (λ z. at ai j <ℤ at ai z) next last))
+]
+
+-- a number that is not below 0
+not_below : (z : ℤ) → (z <ℤ pos 0 → ⊥) → pos 0 ≤ℤ z
+not_below (pos n) h = omega (arith, ints)
+not_below (negsuc n) h = absurd (h (omega (arith, ints)))
+
+-- one more row
+pub rows_more : (m : ℤ) (ai : List ℤ) (a k : ℕ) → AreRows m ai a k → (at ai k <ℤ pos 0 → ⊥) → at ai k <ℤ m → AreRows m ai a (k + 1)
+rows_more m ai a k rows first last i low high = elim (dec_lt i k) [
+  | yes x ↦ rows i low x
+  | no x ↦ (let e : k ≡ i = omega (arith, high, x) in
+      subst (λ z. (pos 0 ≤ℤ at ai z) × (at ai z <ℤ m)) e (not_below (at ai k) first, last))
+]
+
 -- rows that rise lie in range where the first and the last of them do
 pub rising_rows : (m : ℤ) (ai : List ℤ) (a b : ℕ) → a < b → Rise ai a b → pos 0 ≤ℤ at ai a → at ai (b - 1) <ℤ m → AreRows m ai a b
 rising_rows m ai a b some up first last k low high =
@@ -39,6 +60,35 @@ module _ (m : ℤ) (ap ai : List ℤ) where
   -- an input with a count of columns that is natural
   pub input_of : (n : ℤ) (k : ℕ) → pos k ≡ n → IsInput m n ap ai → IsColumnForm m k ap ai
   input_of n k e f = let P : ℤ → Type 0 = λ z. IsInput m z ap ai in subst P (sym e) f
+
+  -- no column is read yet
+  pub form_none : at ap 0 ≡ pos 0 → 0 < length ap → IsColumnForm m 0 ap ai
+  form_none e some = record {
+    enough = some;
+    first = e;
+    ascending = λ j h. absurd (omega (arith, h));
+    within = omega (arith, ints, e);
+    rows = λ k h. absurd (omega (arith, ints, e, h));
+  }
+
+  pub sorted_none : IsSorted 0 ap ai
+  sorted_none j k h low high = absurd (omega (arith, h))
+
+  -- where the columns are no count, where they have too few pointers, and where the first pointer is not 0
+  pub no_columns : (n : ℤ) → length ap < 2 ^ 64 → (FitsUnsignedBits 64 n → ⊥) → IsInput m n ap ai → ⊥
+  no_columns (pos n) short never f = let enough = f.enough in never (omega (arith, enough, short))
+  no_columns (negsuc n) short never f = f
+
+  pub few_pointers : (n : ℤ) (k : ℕ) → pos k ≡ n → length ap ≤ k → IsInput m n ap ai → ⊥
+  few_pointers n k e few f = let enough = (input_of n k e f).enough in omega (arith, enough, few)
+
+  pub no_first : (n z : ℤ) → z ≡ at ap 0 → (FitsUnsignedBits 64 z → ⊥) → IsInput m n ap ai → ⊥
+  no_first (pos n) z is never f = never (subst (FitsUnsignedBits 64) (sym f.first ∙ sym is) (omega arith))
+  no_first (negsuc n) z is never f = f
+
+  pub bad_first : (n : ℤ) (first : ℕ) → pos first ≡ at ap 0 → first ≢ 0 → IsInput m n ap ai → ⊥
+  bad_first (pos n) first is ne f = ne (let e = is ∙ f.first in omega (arith, ints, e))
+  bad_first (negsuc n) first is ne f = f
 
   pub no_count : (n : ℤ) (k j : ℕ) (z : ℤ) → pos k ≡ n → j < k → length ai < 2 ^ 64 → z ≡ at ap (j + 1) → (FitsUnsignedBits 64 z → ⊥) →
       IsInput m n ap ai → ⊥

@@ -1,10 +1,32 @@
-use Rattle.std.proofs.Common.{◌≡◌, ◌<◌, ◌≤◌, ◌+◌, map, pos, arith, sym, ◌∙◌, inl, inr, length}
+use Rattle.std.proofs.Common.{◌≡◌, ◌<◌, ◌≤◌, ◌+◌, map, pos, arith, sym, ap, ◌∙◌, inl, inr, length}
 use Rattle.std.proofs.lemmas.List.{length-map}
 use Rattle.std.proofs.lemmas.Int.{ints}
 use Rattle.amd_model.specs.Input.Columns.{at}
-use Rattle.amd_input.proofs.Classes.{no_count, bad_pointer, bad_row, form_more, run_more, descent_jumbles, class_of}
+use Rattle.amd_input.proofs.Classes.{form_none, sorted_none, no_columns, few_pointers, no_first, bad_first, no_count, bad_pointer, bad_row}
+use Rattle.amd_input.proofs.Classes.{form_more, run_more, descent_jumbles, class_of}
 use Rattle.amd_input.proofs.valid.valid.Goals as goal
 use Rattle.amd_input.proofs.valid.valid.Goals.{in-OK, in-OkButJumbled}
+
+pub returns-in_default : goal.returns-in_default
+returns-in_default g c = no_columns _ _ _ _ (simp length-map (omega arith)) c.in_default.ensures
+
+pub returns-then-columns-a_p : goal.returns-then-columns-a_p
+returns-then-columns-a_p g c = few_pointers _ _ _ _ c.in-Some.columns c.in-Some.ensures.1 (simp length-map c.if-columns-a_p.true)
+
+pub returns-in_default-to_count : goal.returns-in_default-to_count
+returns-in_default-to_count g c = no_first _ _ _ _ _ c.value_at.ensures c.in_default-to_count.ensures
+
+pub returns-then-first-ne0 : goal.returns-then-first-ne0
+returns-then-first-ne0 g c = bad_first _ _ _ _ c.in-Some-to_count.first (c.in-Some-to_count.ensures.1 ∙ c.value_at.ensures)
+    c.if-first-ne0.true
+
+pub columns-init : goal.columns-init
+columns-init g c =
+    let start = sym (c.in-Some-to_count.ensures.1 ∙ c.value_at.ensures) ∙ ap pos c.if-first-ne0.false in
+    record { form = form_none _ _ _ start (simp length-map (omega arith)); class = sorted_none (g.I.Number.value c.args.n_row) _ _; start = start }
+
+pub column_status-requires : goal.column_status-requires
+column_status-requires g c = record { ordered = c.if-to-from.false; within = c.if-to-a_i.false }
 
 pub returns-in_default-to_count-2 : goal.returns-in_default-to_count-2
 returns-in_default-to_count-2 g c =
