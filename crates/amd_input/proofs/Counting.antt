@@ -1,14 +1,25 @@
 -- The counts of the arcs of each row, one arc more.
 use Rattle.std.proofs.Common.{◌≡◌, ◌+◌, inl, inr, ℕ, Bool, false, List, length, get_or, set, get_or-set_same, get_or-set_other, arith, ap}
 use Rattle.std.proofs.Common.{sym, ◌∙◌, ◌<◌, subst}
-use Rattle.std.proofs.lemmas.Bool.{cases_eq}
-use Rattle.std.proofs.lemmas.List.{length-set}
+use Rattle.std.proofs.Common.{replicate}
+use Rattle.std.proofs.lemmas.Bool.{cases_eq, cases_lt}
+use Rattle.std.proofs.lemmas.List.{length-set, length-replicate, get_or-replicate, get_or_past}
 use Rattle.std.proofs.lemmas.Grind.{get_or_default_zero}
 use Rattle.amd_model.specs.Below.{count_below}
 use Rattle.amd_model.specs.Graph.{Graph}
 use Rattle.amd_model.proofs.Counting.Below.{count_none}
 use Rattle.amd_edges.specs.Visits.{IsNew, IsNewEdge, with_arc, with_edge, AreCounts}
 use Rattle.amd_edges.proofs.Arcs.{arc_same, arc_counts, count_room, ends_apart, written_again}
+
+-- a list of n zeros
+pub zeros_of : (n : ℕ) (xs : List ℕ) → xs ≡ replicate n 0 → (length xs ≡ n) × ((a : ℕ) → get_or xs a 0 ≡ 0)
+zeros_of n xs h = (
+  ap length h ∙ length-replicate {A = ℕ} n 0,
+  λ a. ap (λ l. get_or l a 0) h ∙ elim (cases_lt a n) [
+    | inl l ↦ get_or-replicate n a 0 0 l
+    | inr l ↦ get_or_past (replicate n 0) a 0 (let e = length-replicate {A = ℕ} n 0 in omega (arith, e, l))
+  ],
+)
 
 pub counts_more : (g : Graph) (seen : ℕ → ℕ → Bool) (i j : ℕ) → IsNew g seen i j → (numbers : List ℕ) (v : ℕ) → v ≡ get_or numbers i v →
     AreCounts g seen numbers →
