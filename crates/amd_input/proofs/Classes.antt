@@ -1,5 +1,6 @@
 -- Classes of columns, one more row or column at a time.
-use Rattle.std.proofs.Common.{◌≡◌, ◌+◌, ◌-◌, ◌^◌, ◌<◌, ◌≤◌, ◌≤ℤ◌, ◌<ℤ◌, ◌⊎◌, ◌≢◌, ◌∙◌, inl, inr, refl, ℕ, ℤ, zero, suc, pos, negsuc, List, length}
+use Rattle.std.proofs.Common.{◌≡◌, ◌+◌, ◌-◌, ◌^◌, ◌<◌, ◌≤◌, ◌≤ℤ◌, ◌<ℤ◌, ◌⊎◌, ◌≢◌, ◌∙◌, inl, inr, refl, ℕ, ℤ, zero, suc, pos, negsuc, List}
+use Rattle.std.proofs.Common.{length}
 use Rattle.std.proofs.Common.{arith, sym, subst, below_more}
 use native.Mathlib.Decide.{dec_lt}
 use Prim.{yes, no}

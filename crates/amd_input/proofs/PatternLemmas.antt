@@ -1,5 +1,5 @@
 -- What the walk over the edges tells of a matrix: its degrees and the figures of its pattern.
-use Rattle.std.proofs.Common.{◌≡◌, ◌-◌, ◌^◌, ◌<◌, ℕ, ℤ, pos, negsuc, List, length, get_or, arith, refl, sym, ◌∙◌, eqb, unsigned_abs}
+use Rattle.std.proofs.Common.{◌≡◌, ◌-◌, ◌^◌, ◌<◌, ◌≤◌, ℕ, ℤ, pos, negsuc, List, length, get_or, arith, refl, sym, ◌∙◌, eqb, unsigned_abs}
 use Rattle.std.specs.Int.{FitsUnsignedBits}
 use Rattle.std.proofs.lemmas.Bool.{eqb-true, eq-eqb}
 use Rattle.amd_model.specs.Below.{sum_below, count_below}
@@ -13,7 +13,8 @@ use Rattle.amd_numbers.specs.declared.amd.Info.{Info}
 use Rattle.amd_edges.specs.Visits.{AreCounts}
 use Rattle.amd_input.specs.Degrees.{AreDegrees}
 use Rattle.amd_input.specs.PatternFigures.{HasPatternFigures}
-use Rattle.amd_input.proofs.Symmetry.{pairs_counted, symmetric_when, symmetric_only}
+use Rattle.amd_input.specs.Transposes.{IsCleanForm, IsCleanTranspose}
+use Rattle.amd_input.proofs.Symmetry.{pairs_counted, diagonal_part, arcs_most, symmetric_when, symmetric_only}
 
 -- the number of columns of an input is a count
 pub input_form : (z : ℤ) (ap' ai : List ℤ) → IsInput z z ap' ai → IsColumnForm (pos (unsigned_abs z)) (unsigned_abs z) ap' ai
@@ -23,6 +24,16 @@ input_form (negsuc n) ap' ai h = absurd h
 pub input_sorted : (z : ℤ) (ap' ai : List ℤ) → IsSortedInput z ap' ai → IsSorted (unsigned_abs z) ap' ai
 input_sorted (pos n) ap' ai h = h
 input_sorted (negsuc n) ap' ai h = absurd h
+
+-- so it is one itself, and what holds of the count holds of it
+pub input_pos : (z : ℤ) (ap' ai : List ℤ) → IsInput z z ap' ai → z ≡ pos (unsigned_abs z)
+input_pos (pos n) ap' ai h = refl
+input_pos (negsuc n) ap' ai h = absurd h
+
+pub input_clean : (z : ℤ) (ap' ai bp bi : List ℤ) → IsInput z z ap' ai → IsCleanForm (unsigned_abs z) ap' ai bp bi →
+    IsCleanTranspose z ap' ai bp bi
+input_clean (pos n) ap' ai bp bi h clean = clean
+input_clean (negsuc n) ap' ai bp bi h clean = absurd h
 
 pub input_fits : (z : ℤ) (ap' ai : List ℤ) → IsInput z z ap' ai → length ap' < 2 ^ 64 → FitsUnsignedBits 64 z
 input_fits (pos n) ap' ai h short = (let enough = h.enough in omega arith)
@@ -56,3 +67,21 @@ module _ (n : ℕ) (ap' ai : List ℤ) where
           (λ h. test ∙ eq-eqb info.nz_a_plus_at (info.nz - info.nz_diag) (arcs ∙ symmetric_only n ap' ai h ∙ sym rest)),
         );
       }
+
+  -- where there are fewer than 2 ^ 63 entries, the sum of the degrees fits
+  pub sum_fits : IsColumnForm (pos n) n ap' ai → IsSorted n ap' ai → (numbers : List ℕ) (entries : ℕ) →
+      AreCounts (graph_of n ap' ai) ((graph_of n ap' ai).edge) numbers → entries ≡ get_or (counts ap') n 0 → entries < 2 ^ 63 →
+      sum_below (length numbers) (λ k. get_or numbers k 0) < 2 ^ 64
+  sum_fits form sorted numbers entries held places few =
+      let pairs = pairs_counted n ap' ai form sorted in
+      let sum = (degrees_are numbers _ held refl).sum in
+      let most = arcs_most n ap' ai in
+      omega (arith, sum, places, pairs, most, few)
+
+  -- there are no more entries on the diagonal than entries
+  pub diagonal_within : IsColumnForm (pos n) n ap' ai → IsSorted n ap' ai → (diagonals entries : ℕ) → diagonals ≡ diagonal_count n ap' ai →
+      entries ≡ get_or (counts ap') n 0 → diagonals ≤ entries
+  diagonal_within form sorted diagonals entries is places =
+      let pairs = pairs_counted n ap' ai form sorted in
+      let part = diagonal_part n ap' ai in
+      omega (arith, is, places, pairs, part)

@@ -13,5 +13,6 @@ rows-preserved g c =
     let k : ℕ = c.rows.k in
     let ai : List ℤ = map g.I.Number.value c.args.a_i.now in
     let next : k ≡ k - 1 + 1 = omega arith in
-    let up = subst (λ z. g.I.Number.value c.value_at.result <ℤ z) c.value_at-in-rows.ensures (c.is_below.ensures.0 c.if-not-is_below.false) in
+    let up = subst (λ z. g.I.Number.value c.value_at.result <ℤ z) c.value_at-in-rows.ensures (c.is_below.ensures.0
+    c.if-not-is_below.false) in
     rise_more ai c.args.from (k - 1) k next c.rows.invariant (subst (λ z. z <ℤ at ai k) c.value_at.ensures up)

@@ -23,7 +23,12 @@ returns-then-first-ne0 g c = bad_first _ _ _ _ c.in-Some-to_count.first (c.in-So
 pub columns-init : goal.columns-init
 columns-init g c =
     let start = sym (c.in-Some-to_count.ensures.1 ∙ c.value_at.ensures) ∙ ap pos c.if-first-ne0.false in
-    record { form = form_none _ _ _ start (simp length-map (omega arith)); class = sorted_none (g.I.Number.value c.args.n_row) _ _; start = start }
+    record {
+      form = form_none _ _ _ start (simp length-map (omega arith));
+      class = sorted_none (g.I.Number.value c.args.n_row) _ _;
+      start
+          = start;
+    }
 
 pub column_status-requires : goal.column_status-requires
 column_status-requires g c = record { ordered = c.if-to-from.false; within = c.if-to-a_i.false }
