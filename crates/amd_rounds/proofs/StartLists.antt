@@ -3,11 +3,12 @@ use Rattle.std.proofs.Common.{ℕ, Bool, true, false, ◌≡◌, ◌<◌, ◌+�
 use Rattle.std.proofs.Common.{List, [], ◌∷◌, ◌++◌, Vec, map, length, get_or, set, replicate}
 use Rattle.std.specs.Prelude.{◌==◌}
 use Rattle.std.proofs.lemmas.Bool.{cases_eq, cases_lt, eq-eqb, ne_eqb}
-use Rattle.std.proofs.lemmas.List.{length-map, length_push, length-replicate, get_or-replicate, get_or_past}
+use Rattle.std.proofs.lemmas.List.{length-map, length_push, length-replicate, get_or-replicate, get_or_past, get_or_append_left}
+use Rattle.std.proofs.lemmas.List.{get_or_push}
 use Rattle.std.proofs.lemmas.List.Elements.{All-push}
 use Rattle.amd_model.specs.Below.{list_below}
 use Rattle.amd_views.proofs.Lists.Rising.{list_yes, list_no}
-use Rattle.amd_rounds.specs.Views.{at, list_at, Below, ListsBelow, Clear}
+use Rattle.amd_rounds.specs.Views.{at, num, list_at, Below, ListsBelow, Clear}
 use Rattle.amd_numbers.proofs.EmptyLists.{empty_more}
 use Rattle.amd_rounds.proofs.ListPlaces.{list_read, list_set_same, list_set_other, lists_set}
 
@@ -18,6 +19,14 @@ empty_push {A} lists v empty is i = elim (cases_lt i (length lists + 1)) [
   | inl l ↦ empty_more (Vec ℕ A) (λ w. w.items) lists v (length lists) refl i l (λ k h. empty k) is
   | inr l ↦ get_or_past (map (λ w. w.items) (lists ++ v ∷ [])) i [] (let m = length-map (lists ++ v ∷ []) (λ (w : Vec ℕ A). w.items) in
       let p = length_push lists v in omega (arith, m, p, l))
+]
+
+-- a number more
+pub numbers_push : (xs : List ℕ) (x i : ℕ) (f : ℕ → ℕ) → length xs ≡ i → ((a : ℕ) → a < i → num xs a ≡ f a) → x ≡ f i → (a : ℕ) →
+    a < i + 1 → num (xs ++ x ∷ []) a ≡ f a
+numbers_push xs x i f size was is a h = elim (cases_lt a i) [
+  | inl l ↦ get_or_append_left xs (x ∷ []) 0 a (omega (arith, size, l)) ∙ was a l
+  | inr l ↦ (let e : a ≡ i = omega (arith, h, l) in ap (num (xs ++ x ∷ [])) e ∙ get_or_push xs x 0 i size ∙ is ∙ ap f (sym e))
 ]
 
 -- one value at each of n places
