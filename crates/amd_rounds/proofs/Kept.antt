@@ -75,18 +75,26 @@ set_none F G test xs k now here fail was e = was e ∙ ap (λ b. cond b (F e) (G
   | inr ne ↦ ap (λ b. b && test e) (sym (has_others xs k 0 e here ne))
 ])
 
+-- of what passes a test, the next number of a list is added or passed over
+pub filter_add : (test : ℕ → Bool) (xs : List ℕ) (k : ℕ) → k < length xs → test (get_or xs k 0) ≡ true →
+    filter test (take k xs) ++ get_or xs k 0 ∷ [] ≡ filter test (take (k + 1) xs)
+filter_add test xs k here pass = let x : ℕ = get_or xs k 0 in
+    sym (filter_more test xs k 0 here ∙ ap (λ l. filter test (take k xs) ++ l) (cond-true (test x) (x ∷ []) [] pass))
+
+pub filter_pass : (test : ℕ → Bool) (xs : List ℕ) (k : ℕ) → k < length xs → test (get_or xs k 0) ≡ false →
+    filter test (take k xs) ≡ filter test (take (k + 1) xs)
+filter_pass test xs k here fail = let x : ℕ = get_or xs k 0 in
+    sym (filter_more test xs k 0 here ∙ ap (λ l. filter test (take k xs) ++ l) (cond-false (test x) (x ∷ []) [] fail) ∙
+    append-nil (filter test (take k xs)))
+
 -- of what fails a test, the next number of a list is added or passed over
 pub filter_next : (test : ℕ → Bool) (xs : List ℕ) (k : ℕ) → k < length xs → test (get_or xs k 0) ≡ false →
     filter (λ i. not (test i)) (take k xs) ++ get_or xs k 0 ∷ [] ≡ filter (λ i. not (test i)) (take (k + 1) xs)
-filter_next test xs k here fail = let x : ℕ = get_or xs k 0 in let other : ℕ → Bool = λ i. not (test i) in
-    sym (filter_more other xs k 0 here ∙ ap (λ l. filter other (take k xs) ++ l)
-    (cond-true (other x) (x ∷ []) [] (not_from_false (test x) fail)))
+filter_next test xs k here fail = filter_add (λ i. not (test i)) xs k here (not_from_false (test (get_or xs k 0)) fail)
 
 pub filter_passed : (test : ℕ → Bool) (xs : List ℕ) (k : ℕ) → k < length xs → test (get_or xs k 0) ≡ true →
     filter (λ i. not (test i)) (take k xs) ≡ filter (λ i. not (test i)) (take (k + 1) xs)
-filter_passed test xs k here pass = let x : ℕ = get_or xs k 0 in let other : ℕ → Bool = λ i. not (test i) in
-    sym (filter_more other xs k 0 here ∙ ap (λ l. filter other (take k xs) ++ l)
-    (cond-false (other x) (x ∷ []) [] (not_from_true (test x) pass)) ∙ append-nil (filter other (take k xs)))
+filter_passed test xs k here pass = filter_pass (λ i. not (test i)) xs k here (not_from_true (test (get_or xs k 0)) pass)
 
 -- ---- lists at places
 

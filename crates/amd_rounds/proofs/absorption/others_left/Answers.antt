@@ -1,4 +1,5 @@
-use Rattle.std.proofs.Common.{ℕ, Bool, List, [], ◌∷◌, ◌++◌, ◌<◌, ◌∙◌, ap, sym, length, get_or}
+use Rattle.std.proofs.Common.{ℕ, Bool, List, [], ◌∷◌, ◌++◌, ◌<◌, ◌∙◌, ap, sym, length, get_or, filter, not}
+use Rattle.std.proofs.lemmas.List.{take_all}
 use Rattle.amd_rounds.specs.Rounds.{mass}
 use Rattle.amd_rounds.proofs.Kept.{filter_next, filter_passed}
 use Rattle.amd_rounds.proofs.absorption.others_left.Goals as goal
@@ -15,3 +16,17 @@ loop-i-preserved g c =
       | else-not-keeps_nothing w ↦ ap (λ v. v.items) w.rest-is ∙ c.loop-i.invariant ∙
           filter_passed none front k here (sym c.keeps_nothing.ensures ∙ w.if-not-keeps_nothing.false)
     ]
+
+pub loop-i-init : goal.loop-i-init
+loop-i-init g c = c.in_ok-rest.ensures.items
+
+pub keeps_nothing-requires : goal.keeps_nothing-requires
+keeps_nothing-requires g c = record {
+  elements = c.requires.elements c.loop-i.i-index 0 c.loop-i-test.true;
+  variables = c.requires.variables c.loop-i.i-index 0 c.loop-i-test.true;
+}
+
+pub returns : goal.returns
+returns g c = c.loop-i.invariant ∙
+    ap (filter (λ i. not (mass c.args.lists.now.elements.items c.args.lists.now.variables.items i)))
+    (take_all c.loop-i.i-index c.args.front.now c.loop-i-test.false)
