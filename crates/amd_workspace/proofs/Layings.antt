@@ -14,7 +14,8 @@ use Rattle.amd_edges.proofs.Listing.{start_later, start_sums, lists_none, lists_
 use Rattle.amd_places.specs.Words.{num, is_place, place, word, start, rows}
 use Rattle.amd_places.specs.Layout.{has_list, end_of, list_in, live_words}
 use Rattle.amd_places.proofs.Frames.{has_parts, has_none}
-use Rattle.amd_places.proofs.RowLists.{rows_none, rows_more}
+use Rattle.amd_places.proofs.RowLists.{rows_at, rows_none, rows_more}
+use Rattle.amd_workspace.specs.Copying.{AreRows}
 use Rattle.amd_workspace.specs.Laying.{Lays, Starts, IsLaidOut}
 
 -- ---- words as rows
@@ -57,9 +58,17 @@ appended next lent_next iw lent_iw new_iw i j count next_is iw_is new long =
     (new ∙ ap (λ xs. set lent_iw (get_or xs i 0) (pos j)) next_is ∙ ap (λ xs. set xs (get_or next i 0) (pos j)) iw_is)
     (length-set iw (get_or next i 0) (pos j) ∙ long)
 
-row_word : (n : ℕ) (x : ℤ) (j : ℕ) → x ≡ pos j → j < n → (is_place x ≡ true) × (place x < n)
+pub row_word : (n : ℕ) (x : ℤ) (j : ℕ) → x ≡ pos j → j < n → (is_place x ≡ true) × (place x < n)
 unfolding is_place place
 row_word n x j e l = rw e (refl, l)
+
+-- words that are 0 name the first row
+pub zeros_are_rows : (n room : ℕ) → 0 < n → AreRows n (replicate room (pos 0))
+zeros_are_rows n room some k = elim (cases_lt k room) [
+  | inl l ↦ row_word n _ 0 (get_or-replicate room k (pos 0) (pos 0) l) some
+  | inr l ↦ row_word n _ 0 (get_or_past (replicate room (pos 0)) k (pos 0)
+      (let size = length-replicate room (pos 0) in omega (arith, size, l))) some
+]
 
 -- ---- the walk
 
@@ -161,20 +170,14 @@ module _ (g : Graph) (degrees : List ℕ) (pe : List ℤ) (next len : List ℕ) 
   ]
 
   -- no list is there before the walk
-  pub lays_none : (most_word most_figure room : ℕ) → 0 < g.size → start_of g g.size ≤ room → g.size ≤ most_word → room ≤ most_figure →
-      Lays g (λ a b. false) [] most_word most_figure next (replicate room (pos 0))
-  unfolding place is_place
-  lays_none most_word most_figure room some fits rows places =
-      let size = length-replicate room (pos 0) in record {
-        lists = lists_none g next (map place (replicate room (pos 0))) (s.long ∙ counts.size)
-            (let a = length-map (replicate room (pos 0)) place in omega (arith, a, size, fits)) first_at;
-        words = λ k. elim (cases_lt k room) [
-          | inl l ↦ row_word g.size _ 0 (get_or-replicate room k (pos 0) (pos 0) l) some
-          | inr l ↦ row_word g.size _ 0 (get_or_past (replicate room (pos 0)) k (pos 0) (omega (arith, size, l))) some
-        ];
-        rows = rows;
-        places = omega (arith, size, places);
-      }
+  pub lays_none : (most_word most_figure : ℕ) (iw : List ℤ) → AreRows g.size iw → start_of g g.size ≤ length iw → g.size ≤ most_word →
+      length iw ≤ most_figure → Lays g (λ a b. false) [] most_word most_figure next iw
+  lays_none most_word most_figure iw names fits rows places = record {
+    lists = lists_none g next (map place iw) (s.long ∙ counts.size) (let a = length-map iw place in omega (arith, a, fits)) first_at;
+    words = names;
+    rows = rows;
+    places = places;
+  }
 
   words_sum : (n : ℕ) → n ≤ g.size → live_words n pe len ≡ start_of g n
   unfolding sum_below start_of
@@ -187,20 +190,11 @@ module _ (g : Graph) (degrees : List ℕ) (pe : List ℤ) (next len : List ℕ) 
       ] in
       omega (arith, a, m, own)
 
-  module _ (arcs : List (ℕ × ℕ)) (most_word most_figure : ℕ) (ends : List ℕ) (iw : List ℤ)
-      (h : Lays g g.edge arcs most_word most_figure ends iw) where
-    room : start_of g g.size ≤ length iw
-    room = let a = h.lists.room in let b = length-map iw place in omega (arith, a, b)
+  -- a list that was written at the start of a row, and is as long as its degree says
+  pub list_at : (iw : List ℤ) (xs : List ℕ) (i : ℕ) → i < g.size → rows iw (start_of g i) (num degrees i) ≡ xs → list_in iw pe len i ≡ xs
+  list_at iw xs i l e = rows_at iw (start_at i l) (ap (λ ys. num ys i) s.counts) ∙ e
 
-    -- the list of a row has the rows that its arcs lead to, in their order
-    pub laid_list : (i : ℕ) → i < g.size → list_in iw pe len i ≡ ends_of i arcs
-    laid_list i l =
-        let a = start_at i l in let c = count_at i l in let e = h.lists.ends i l in let b = start_later g i g.size l in let r = room in
-        let m : get_or ends i 0 - start_of g i ≡ num len i = omega (arith, c, e) in
-        let fits : start_of g i + num len i ≤ length iw = omega (arith, b, c, r) in
-        ap (λ f. rows iw f (num len i)) a ∙ rows_slice iw (start_of g i) (num len i) fits
-        ∙ ap (λ k. take k (drop (start_of g i) (map place iw))) (sym m) ∙ h.lists.order i l
-
+  module _ (iw : List ℤ) (names : AreRows g.size iw) (room : start_of g g.size ≤ length iw) where
     within : (j : ℕ) → has_list pe len j ≡ true → end_of pe len j ≤ start_of g g.size
     within j k = let l = in_rows j k in let a = start_at j l in let c = count_at j l in let b = start_later g j g.size l in
         omega (arith, a, b, c)
@@ -223,8 +217,22 @@ module _ (g : Graph) (degrees : List ℕ) (pe : List ℤ) (next len : List ℕ) 
         ];
         parts = λ j a. (let e : place (word (replicate g.size (pos 0)) j) ≡ 0 =
             ap place (get_or-replicate g.size j (pos 0) (pos 0) (in_rows j a)) in omega (arith, e));
-        words = λ k l. h.words k;
+        words = λ k l. names k;
       };
       words = words_sum g.size (omega arith);
       room = room;
     }
+
+  module _ (arcs : List (ℕ × ℕ)) (most_word most_figure : ℕ) (ends : List ℕ) (iw : List ℤ)
+      (h : Lays g g.edge arcs most_word most_figure ends iw) where
+    pub walk_room : start_of g g.size ≤ length iw
+    walk_room = let a = h.lists.room in let b = length-map iw place in omega (arith, a, b)
+
+    -- the list of a row has the rows that its arcs lead to, in their order
+    pub laid_list : (i : ℕ) → i < g.size → list_in iw pe len i ≡ ends_of i arcs
+    laid_list i l =
+        let a = start_at i l in let c = count_at i l in let e = h.lists.ends i l in let b = start_later g i g.size l in let r = walk_room in
+        let m : get_or ends i 0 - start_of g i ≡ num len i = omega (arith, c, e) in
+        let fits : start_of g i + num len i ≤ length iw = omega (arith, b, c, r) in
+        ap (λ f. rows iw f (num len i)) a ∙ rows_slice iw (start_of g i) (num len i) fits
+        ∙ ap (λ k. take k (drop (start_of g i) (map place iw))) (sym m) ∙ h.lists.order i l

@@ -1,6 +1,10 @@
 -- Lemmas on the lists of neighbours that are laid in one workspace, on the start row by row, and on what its record stands for then and
 -- at the end.
 pub mod Layings
+pub mod SymmetricLists
+pub mod SymmetricCounts
+pub mod Copied
+pub mod CopiedColumns
 pub mod Starts
 pub mod Begun
 pub mod AtStart

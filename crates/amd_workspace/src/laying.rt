@@ -13,6 +13,7 @@ ghost use Rattle.amd_places.specs.Layout.{list_in};
 ghost use Rattle.amd_places.specs.Words.{num};
 ghost use Rattle.amd_workspace.specs.Laying.{IsLaidOut, Lays, Starts};
 
+use crate::copying::copy_symmetric;
 use crate::filling::words;
 use amd_cells::{Figure, Signed, Unsigned, Word, figure_at, figure_of, put_figure, word_of};
 use amd_edges::walk::{Visitor, walk};
@@ -109,7 +110,8 @@ fn starts<S: Signed, U: Unsigned, A: Allocator>(
 }
 
 /// Lays the lists of the neighbours of each of `size` rows, whose degrees are known, in a workspace of `room` words.
-/// The words behind the last list are 0.
+/// Those of a symmetric pattern are copied from its columns; those of any other one are written by a walk over the
+/// edges. The words behind the last list name rows.
 ///
 /// # Errors
 ///
@@ -142,10 +144,11 @@ pub fn lay<I: PrimInt, S: Signed, U: Unsigned, A: Allocator + Copy>(
     let mut next = Vec::with_capacity(alloc, size)?;
     let free = starts(&mut pe, &mut next, &mut len, degrees);
     let mut pointers = Vec::with_capacity(alloc, size)?;
-    let mut list = Words {
-        next,
-        iw: words(alloc, room, 0)?,
-    };
+    let mut iw = words(alloc, room, 0)?;
+    if copy_symmetric(size, a_p, a_i, degrees, &mut iw) {
+        return Ok(Laid { pe, len, iw, free });
+    }
+    let mut list = Words { next, iw };
     let _ = walk(size, a_p, a_i, &mut pointers, &mut list);
     Ok(Laid {
         pe,

@@ -1,5 +1,4 @@
-use Rattle.std.proofs.Common.{arith, ap, ◌∙◌}
-use Rattle.std.specs.Prelude.{slice_set}
+use Rattle.std.proofs.Common.{arith}
 use Rattle.amd_workspace.proofs.laying.append.Goals as goal
 
 pub put_row-requires-clause-inside : goal.put_row-requires-clause-inside

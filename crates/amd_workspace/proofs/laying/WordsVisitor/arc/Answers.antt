@@ -1,4 +1,4 @@
-use Rattle.std.proofs.Common.{◌≡◌, ◌+◌, ℕ, List, arith, refl, ap, ◌∙◌, length, get_or, set, drop}
+use Rattle.std.proofs.Common.{◌+◌, arith, refl, ap, ◌∙◌, length, get_or, set, drop}
 use Rattle.std.proofs.lemmas.List.{length-set}
 use Rattle.amd_workspace.proofs.Layings.{appended, lay_in, lays_more, written}
 use Rattle.amd_workspace.proofs.laying.WordsVisitor.arc.Goals as goal
