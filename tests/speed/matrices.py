@@ -112,6 +112,17 @@ def jumbled(columns, seed):
         yield column
 
 
+def both(columns):
+    """Both triangles of a matrix that has one, and its diagonal."""
+    columns = [list(column) for column in columns]
+    upper = [[] for _ in columns]
+    for j, column in enumerate(columns):
+        for i in column:
+            upper[i].append(j)
+    for j, column in enumerate(columns):
+        yield upper[j] + [j] + column
+
+
 PLAIN = {
     "grid_1000x1000": lambda: grid(1000, 1000),
     "grid_300x300": lambda: grid(300, 300),
@@ -127,6 +138,8 @@ PLAIN = {
     "clique_1500": lambda: band(1500, 1500),
 }
 JUMBLED = {f"{name}_jumbled": lambda name=name: jumbled(PLAIN[name](), 3) for name in ("grid_300x300", "random_20000", "power_50000")}
+BOTH = {f"{name}_both": lambda name=name: both(PLAIN[name]()) for name in (
+    "grid_1000x1000", "grid_60x60x60", "band_100000", "arrow_100000", "grid9_500x500", "clique_1500")}
 HOSTILE = {
     "star_100000": lambda: stars(1, 99999),
     "stars_33x3000": lambda: stars(33, 3000),
@@ -135,7 +148,7 @@ HOSTILE = {
 }
 GROWTH = {"x".join(map(str, ("growth_" + str(s[0]), *s[1:]))): lambda s=s: grid(*s) for s in (
     (71, 71), (224, 224), (708, 708), (2237, 2237), (15,) * 3, (33,) * 3, (70,) * 3, (150,) * 3)}
-ALL = {**PLAIN, **JUMBLED, **HOSTILE, **GROWTH}
+ALL = {**PLAIN, **JUMBLED, **BOTH, **HOSTILE, **GROWTH}
 
 
 def write(path, columns):
