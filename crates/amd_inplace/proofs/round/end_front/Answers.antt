@@ -1,7 +1,7 @@
-use Rattle.std.proofs.Common.{ℕ, ℤ, List, true, ◌≡◌, ◌-◌, refl, sym, ap, subst, ◌∙◌, arith, cond, length}
+use Rattle.std.proofs.Common.{ℕ, ℤ, List, true, ◌≡◌, ◌+◌, ◌-◌, refl, sym, ap, subst, ◌∙◌, arith, cond, length}
 use Rattle.std.proofs.Common.{get_or-set_same, length-set}
 use Rattle.std.proofs.lemmas.Bool.{cond-true, cond-false}
-use Rattle.amd_places.specs.Words.{num, in_front}
+use Rattle.amd_places.specs.Words.{num, start, in_front}
 use Rattle.amd_places.specs.Layout.{end_of, Layout}
 use Rattle.amd_places.specs.Chains.{DegreeLists}
 use Rattle.amd_places.specs.Closing.{Closes}
@@ -86,4 +86,47 @@ returns g c =
         same = rw same_pe refl;
       };
       loans = (refl, refl, refl, refl);
+    }
+
+pub place_list-from-requires : goal.place_list-from-requires
+place_list-from-requires g c =
+    let s = c.requires.sized in let h = c.requires.front in let w = c.requires.wide in let f = h.front in let p = c.args.work.now in
+    rw s.next (record {
+      lengths = (refl, s.degree, s.head, refl, s.last, s.hash);
+      more_lengths = (s.pe, s.len);
+      short = (omega (arith, w.0, g.met.S.Signed.narrow), w.2, (let a = w.3 in omega (arith, a)));
+      list = (f.row, f.starts);
+      front = (
+        (let a = f.within in let b = f.end in omega (arith, a, b)),
+        (λ k l. f.laid.words (start p.pe.now c.args.me + k) (let a = f.within in omega (arith, a, l))),
+        f.once,
+      );
+      classes = h.classes;
+      order = (h.order.0, (let a = h.order.1 in omega (arith, a)));
+      heads = h.heads;
+      linked = h.linked;
+    })
+
+pub overflow_add-border : goal.overflow_add-border
+overflow_add-border g c = let a = c.requires.front.dense in omega (arith, a)
+
+pub add_front-requires : goal.add_front-requires
+add_front-requires g c = c.requires.front.dense
+
+pub close-requires : goal.close-requires
+close-requires g c =
+    let s = c.requires.sized in let h = c.requires.front in let told = c.place_list-from.ensures in let w = c.requires.wide in
+    let row = h.front.row in let low = told.filters.low in record {
+      row = (
+        (let a = s.e_len in omega (arith, a, row)),
+        (let a = ap length told.same.1 in let b = s.len in omega (arith, a, b, row)),
+        (let a = told.lengths.1 in let b = s.next in omega (arith, a, b, row)),
+      );
+      order = low;
+      few = (let a = h.order.0 in let b = h.order.1 in let d = w.2 in omega (arith, a, b, d));
+      fits = (
+        (let a = told.filters.high in let b = ap (λ l. num l c.args.me) told.same.1 in let d = h.front.within in let e = h.front.end in
+            let f = w.1 in omega (arith, a, b, d, e, f)),
+        (let a = h.order.0 in let b = h.order.1 in let d = w.3 in omega (arith, a, b, d)),
+      );
     }
