@@ -23,6 +23,8 @@ pub mod Settling
 pub mod OwnPlace
 pub mod Touching
 pub mod BucketWalk
+pub mod TurnedSigns
+pub mod WordCounts
 pub mod WordMarks
 pub mod Likeness
 pub mod MovedRows

@@ -1,4 +1,4 @@
-use Rattle.std.proofs.Common.{ℕ, ℤ, List, ◌≡◌, ◌<◌, ◌-◌, refl, sym, ap, subst, ◌∙◌}
+use Rattle.std.proofs.Common.{ℕ, ℤ, List, ◌≡◌, ◌<◌, ◌-◌, refl, sym, ap, subst, ◌∙◌, le_trans, add-le-add, le_refl, le_of_eq}
 use Rattle.std.proofs.Common.{arith, cond, length}
 use Rattle.std.specs.Prelude.{◌==◌, sum_by}
 use Rattle.std.proofs.lemmas.Bool.{eq-eqb, or_left}
@@ -88,7 +88,7 @@ pub make_element-end-requires-clause-lengths : goal.make_element-end-requires-cl
 make_element-end-requires-clause-lengths g c =
     let p = c.make_room-from.ensures.rooms.p_long in let n = ap length c.make_room-from.ensures.same.0 in
     let k = ap length c.make_room-from.ensures.same.1 in let l = c.requires.lengths in let a = l.0 in let b = l.1 in let d = l.2 in
-    let e = l.3 in ((omega (arith, p, a, n)), (omega (arith, b, n)), (omega (arith, d, n, k)), (omega (arith, e, n)))
+    let e = l.3 in let w = sym n in (p ∙ a ∙ w, b ∙ w, k ∙ d ∙ w, e ∙ w)
 
 pub make_element-end-requires-clause-short : goal.make_element-end-requires-clause-short
 make_element-end-requires-clause-short g c =
@@ -153,8 +153,8 @@ make_element-end-requires-clause-fits g c =
     let same_nv : c.make_room-from.new.nv ≡ nv = c.make_room-from.ensures.same.0 in
     let same_len : c.make_room-from.new.len ≡ len = c.make_room-from.ensures.same.1 in
     let front_is = rooms_front c.requires.laid rooms me c.requires.listed c.requires.elements.listed nv in
-    rw (same_nv, same_len) (let a = ap length front_is in let l = rooms.long in let f = c.make_room-from.ensures.fits in
-    omega (arith, a, l, f))
+    rw (same_nv, same_len) (le_trans (add-le-add (le_refl c.make_room-from.result.0) (le_of_eq (ap length front_is)))
+    (le_trans c.make_room-from.ensures.fits (le_of_eq (sym rooms.long))))
 
 pub make_element-end-requires-clause-few : goal.make_element-end-requires-clause-few
 make_element-end-requires-clause-few g c =
@@ -165,7 +165,7 @@ make_element-end-requires-clause-few g c =
     let same_nv : c.make_room-from.new.nv ≡ nv = c.make_room-from.ensures.same.0 in
     let same_len : c.make_room-from.new.len ≡ len = c.make_room-from.ensures.same.1 in
     let front_is = rooms_front c.requires.laid rooms me c.requires.listed c.requires.elements.listed nv in
-    rw (same_nv, same_len) (let a = ap (sum_by (size_of nv)) front_is in let f = c.requires.few in omega (arith, a, f))
+    rw (same_nv, same_len) (le_trans (add-le-add (le_of_eq (ap (sum_by (size_of nv)) front_is)) (le_refl 2)) c.requires.few)
 
 pub take_pivot-block-requires-clause-inside : goal.take_pivot-block-requires-clause-inside
 take_pivot-block-requires-clause-inside g c =

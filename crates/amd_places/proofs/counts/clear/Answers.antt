@@ -2,6 +2,8 @@ use Rattle.std.proofs.Common.{ℕ, List, ◌≡◌, ◌+◌, inl, inr, sym, ap, 
 use Rattle.std.specs.Prelude.{nat_lt, ◌==◌}
 use Rattle.std.proofs.lemmas.Bool.{cases_eq, cases_lt, eq-eqb, ne_eqb, cond-true, cond-false, lt-ltb, le-ltb}
 use Rattle.amd_places.specs.Words.{num}
+use Rattle.std.proofs.Common.{le_trans, lt_of_lt_of_le, le_of_eq, falls, refl, length, zero-le}
+use Rattle.std.proofs.lemmas.List.{get_or_past}
 use Rattle.amd_places.proofs.counts.clear.Goals as goal
 use Rattle.amd_places.proofs.counts.clear.Goals.{then-figure_at-ne0, else-figure_at-ne0}
 
@@ -38,3 +40,34 @@ loop-k-preserved g c =
             | else-figure_at-ne0 v ↦ ap (λ l. num l x) v.w-is
           ]);
     }
+
+pub loop-k-init : goal.loop-k-init
+loop-k-init g c = record {
+  long = refl;
+  cleared = λ e. sym (cond-false (nat_lt e 0) (cond (num c.args.w.now e == 0) 0 1) (num c.args.w.now e) (le-ltb e 0 zero-le));
+}
+
+pub figure_at-requires : goal.figure_at-requires
+figure_at-requires g c = lt_of_lt_of_le c.loop-k-test.true (le_of_eq (sym c.loop-k.invariant.long))
+
+pub put_figure-requires-clause-inside : goal.put_figure-requires-clause-inside
+put_figure-requires-clause-inside g c = lt_of_lt_of_le c.loop-k-test.true (le_of_eq (sym c.loop-k.invariant.long))
+
+pub put_figure-requires-clause-fits : goal.put_figure-requires-clause-fits
+put_figure-requires-clause-fits g c = c.requires.some
+
+pub loop-k-smaller : goal.loop-k-smaller
+loop-k-smaller g c = falls (length c.args.w.now) c.loop-k.k c.loop-k-test.true
+
+pub returns-clause-long : goal.returns-clause-long
+returns-clause-long g c = c.loop-k.invariant.long
+
+pub returns-clause-cleared : goal.returns-clause-cleared
+returns-clause-cleared g c e =
+    let w : List ℕ = c.args.w.now in let k : ℕ = c.loop-k.k in let was = c.loop-k.invariant.cleared e in
+    elim (cases_lt e k) [
+      | inl l ↦ was ∙ cond-true (nat_lt e k) (cond (num w e == 0) 0 1) (num w e) (lt-ltb e k l)
+      | inr m ↦ (let past : num w e ≡ 0 = get_or_past w e 0 (le_trans c.loop-k-test.false m) in
+          was ∙ cond-false (nat_lt e k) (cond (num w e == 0) 0 1) (num w e) (le-ltb e k m) ∙ past
+          ∙ sym (ap (λ v. cond (v == 0) 0 1) past))
+    ]

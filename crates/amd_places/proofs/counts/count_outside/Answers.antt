@@ -1,6 +1,6 @@
 -- The goals of counts::count_outside.
-use Rattle.std.proofs.Common.{ℕ, ℤ, Bool, List, true, false, ◌≡◌, ◌<◌, ◌≤◌, ◌+◌, ◌-◌, ◌&&◌, not, refl}
-use Rattle.std.proofs.Common.{sym, ap, subst, ◌∙◌, arith, cond, length, filter}
+use Rattle.std.proofs.Common.{ℕ, ℤ, Bool, List, true, false, ◌≡◌, ◌<◌, ◌≤◌, ◌+◌, ◌-◌, ◌&&◌, not, refl, add-sub_of_le, le-add_right}
+use Rattle.std.proofs.Common.{sym, ap, subst, ◌∙◌, arith, cond, length, filter, lt_of_le_of_lt, lt_of_lt_of_le, le_of_eq}
 use Rattle.std.proofs.lemmas.Bool.{not_from_false}
 use Rattle.amd_model.specs.Quotient.{has}
 use Rattle.amd_model.proofs.Listings.Words.{filter_has}
@@ -11,6 +11,7 @@ use Rattle.amd_places.proofs.RowLists.{rows_has}
 use Rattle.amd_places.proofs.WordMarks.{rows_start}
 use Rattle.amd_places.proofs.Counting.{fresh_word, counted_none, starts_none, count_again, count_first, count_next, start_next, start_stays}
 use Rattle.amd_places.proofs.Leaving.{lists_same, all_left, one_leaves, listed_same}
+use Rattle.amd_places.proofs.WordCounts.{all_passed, next_place, within_count}
 use Rattle.amd_places.proofs.counts.count_outside.Goals as goal
 
 pub loop-p-init : goal.loop-p-init
@@ -34,15 +35,15 @@ loop-p-init g c =
 pub named-i-requires-clause-is_one : goal.named-i-requires-clause-is_one
 named-i-requires-clause-is_one g c =
     let iw : List ℤ = c.args.iw.now in let from : ℕ = c.args.from in let p : ℕ = c.loop-p.p in let k : ℕ = p - from in
-    let after : from ≤ p = c.loop-p.auto.p in let t = c.loop-p-test.true in let at : from + k ≡ p = omega (arith, after) in
-    let l : k < c.args.count = omega (arith, after, t) in ap (λ m. is_place (word iw m)) (sym at) ∙ (c.requires.front.0 k l).0
+    let after : from ≤ p = c.loop-p.auto.p in let t = c.loop-p-test.true in let at : from + k ≡ p = add-sub_of_le after in
+    let l : k < c.args.count = within_count after t in ap (λ m. is_place (word iw m)) (sym at) ∙ (c.requires.front.0 k l).0
 
 pub count_class-requires : goal.count_class-requires
 count_class-requires g c =
     let iw : List ℤ = c.args.iw.now in let pe : List ℤ = c.args.pe.now in let e_len : List ℤ = c.args.e_len.now in
     let nv : List ℤ = c.args.nv.now in let from : ℕ = c.args.from in let p : ℕ = c.loop-p.p in let k : ℕ = p - from in
-    let after : from ≤ p = c.loop-p.auto.p in let t = c.loop-p-test.true in let at : from + k ≡ p = omega (arith, after) in
-    let l : k < c.args.count = omega (arith, after, t) in let was = c.loop-p.invariant in
+    let after : from ≤ p = c.loop-p.auto.p in let t = c.loop-p-test.true in let at : from + k ≡ p = add-sub_of_le after in
+    let l : k < c.args.count = within_count after t in let was = c.loop-p.invariant in
     let i : ℕ = c.named-i.result in
     let is : i ≡ place (word iw (from + k)) = c.named-i.ensures ∙ ap (λ m. place (word iw m)) (sym at) in
     let named : has (rows iw from c.args.count) i ≡ true = ap (has (rows iw from c.args.count)) is ∙ rows_has iw from c.args.count k l in
@@ -51,12 +52,12 @@ count_class-requires g c =
     let same : word c.loop-p.pe i ≡ word pe i = start_stays iw pe e_len nv ag flag c.args.me c.args.degree.now c.args.w.now c.loop-p.pe from
     c.args.count k (omega (arith, l)) c.requires.flag c.requires.under was.starts i (λ j h. (c.requires.classes j h).apart i named) in
     let list : elements_of iw c.loop-p.pe e_len i ≡ elements_of iw pe e_len i = ap (λ z. rows iw (place z) (place (word e_len i))) same in
-    let row : i < length c.args.w.now = (let b = (c.requires.front.0 k l).1 in omega (arith, b, is)) in let long = was.long in
-    let p_long = was.p_long in let a = c.requires.lengths in let b = c.requires.more_lengths in let d = was.lengths in
+    let row : i < length c.args.w.now = lt_of_le_of_lt (le_of_eq is) (c.requires.front.0 k l).1 in let long = was.long in
+    let w = sym long in let p_long = was.p_long in let a = c.requires.lengths in let b = c.requires.more_lengths in let d = was.lengths in
     let s = class.bound in record {
-      lengths = ((omega (arith, long, p_long, a)), (omega (arith, long, a)), (omega (arith, long, a)), (omega (arith, long, a)));
-      more_lengths = ((omega (arith, long, b, d)), (omega (arith, long, b, d)), (omega (arith, long, b, d)));
-      row = ((omega (arith, row, long)), (omega (arith, s, long)));
+      lengths = (p_long ∙ a.0 ∙ w, a.1 ∙ w, a.2 ∙ w, a.3 ∙ w);
+      more_lengths = (d.0 ∙ b.0 ∙ w, d.1 ∙ b.1 ∙ w, d.2 ∙ b.2 ∙ w);
+      row = (lt_of_lt_of_le row (le_of_eq w), lt_of_lt_of_le s (le_of_eq w));
       small = c.requires.small;
       listed = subst (λ m. IsListed m iw c.loop-p.pe e_len nv i) (sym long) (listed_same
           (length c.args.w.now) iw pe c.loop-p.pe e_len nv i same listed);
@@ -64,15 +65,15 @@ count_class-requires g c =
           c.requires.flag c.requires.under c.requires.part was.counted i is listed.class e (ap (λ xs. has xs e) (sym list) ∙ h) b;
       first = λ e h b. count_first iw pe e_len nv ag c.args.degree.now c.args.w.now c.loop-p.w c.loop-p.w from c.args.count k flag l
           c.requires.flag c.requires.under c.requires.part was.counted i is listed.class e (ap (λ xs. has xs e) (sym list) ∙ h) b;
-      fits = λ e m. c.requires.fits e (omega (arith, m, long));
+      fits = λ e m. c.requires.fits e (lt_of_lt_of_le m (le_of_eq long));
     }
 
 pub loop-p-preserved : goal.loop-p-preserved
 loop-p-preserved g c =
     let iw : List ℤ = c.args.iw.now in let pe : List ℤ = c.args.pe.now in let e_len : List ℤ = c.args.e_len.now in
     let nv : List ℤ = c.args.nv.now in let from : ℕ = c.args.from in let p : ℕ = c.loop-p.p in let k : ℕ = p - from in
-    let after : from ≤ p = c.loop-p.auto.p in let t = c.loop-p-test.true in let at : from + k ≡ p = omega (arith, after) in
-    let l : k < c.args.count = omega (arith, after, t) in let next : p + 1 - from ≡ k + 1 = omega (arith, after) in
+    let after : from ≤ p = c.loop-p.auto.p in let t = c.loop-p-test.true in let at : from + k ≡ p = add-sub_of_le after in
+    let l : k < c.args.count = within_count after t in let next : p + 1 - from ≡ k + 1 = next_place after in
     let was = c.loop-p.invariant in
     let i : ℕ = c.named-i.result in
     let is : i ≡ place (word iw (from + k)) = c.named-i.ensures ∙ ap (λ m. place (word iw m)) (sym at) in
@@ -119,8 +120,8 @@ loop-p-preserved g c =
 pub returns-clause-counted : goal.returns-clause-counted
 returns-clause-counted g c =
     let t = c.loop-p-test.false in let after : c.args.from ≤ c.loop-p.p = c.loop-p.auto.p in
-    let past : c.loop-p.p ≤ c.args.from + c.args.count = c.loop-p.auto.p-end (omega arith) in
-    let all : c.loop-p.p - c.args.from ≡ c.args.count = omega (arith, t, after, past) in
+    let past : c.loop-p.p ≤ c.args.from + c.args.count = c.loop-p.auto.p-end (le-add_right _ _) in
+    let all : c.loop-p.p - c.args.from ≡ c.args.count = all_passed _ _ _ after past t in
     subst (λ m. (e : ℕ) → num c.loop-p.w e ≡ settled c.args.aggressive c.args.flag (counter c.args.flag (num c.args.w.now e)
     (num c.args.degree.now e) (met c.args.iw.now c.args.pe.now c.args.e_len.now c.args.nv.now
     (rows c.args.iw.now c.args.from m) e))) all c.loop-p.invariant.counted
@@ -128,8 +129,8 @@ returns-clause-counted g c =
 pub returns-clause-starts : goal.returns-clause-starts
 returns-clause-starts g c =
     let t = c.loop-p-test.false in let after : c.args.from ≤ c.loop-p.p = c.loop-p.auto.p in
-    let past : c.loop-p.p ≤ c.args.from + c.args.count = c.loop-p.auto.p-end (omega arith) in
-    let all : c.loop-p.p - c.args.from ≡ c.args.count = omega (arith, t, after, past) in
+    let past : c.loop-p.p ≤ c.args.from + c.args.count = c.loop-p.auto.p-end (le-add_right _ _) in
+    let all : c.loop-p.p - c.args.from ≡ c.args.count = all_passed _ _ _ after past t in
     subst (λ m. (e : ℕ) → word c.loop-p.pe e ≡ cond (ends c.args.aggressive c.args.flag (counter c.args.flag (num c.args.w.now e)
     (num c.args.degree.now e) (met c.args.iw.now c.args.pe.now c.args.e_len.now c.args.nv.now
     (rows c.args.iw.now c.args.from m) e))) (flip_of c.args.me) (word c.args.pe.now e)) all c.loop-p.invariant.starts
@@ -137,7 +138,7 @@ returns-clause-starts g c =
 pub returns-clause-linked : goal.returns-clause-linked
 returns-clause-linked g c lists member h =
     let t = c.loop-p-test.false in let after : c.args.from ≤ c.loop-p.p = c.loop-p.auto.p in
-    let past : c.loop-p.p ≤ c.args.from + c.args.count = c.loop-p.auto.p-end (omega arith) in
-    let all : c.loop-p.p - c.args.from ≡ c.args.count = omega (arith, t, after, past) in
+    let past : c.loop-p.p ≤ c.args.from + c.args.count = c.loop-p.auto.p-end (le-add_right _ _) in
+    let all : c.loop-p.p - c.args.from ≡ c.args.count = all_passed _ _ _ after past t in
     subst (λ m. DegreeLists (length c.args.w.now) c.loop-p.head c.loop-p.next c.loop-p.last c.args.degree.now
     (λ d. filter (λ j. not (has (rows c.args.iw.now c.args.from m) j)) (lists d))) all (c.loop-p.invariant.linked lists member h)

@@ -60,3 +60,6 @@ returns-clause-counted g c x =
     ∙ written c.args.w.now c.args.e (c.if-before-flag.base - c.if-before-eq0.taken) x c.requires.inside.0
     ∙ ap (λ y. cond (x == c.args.e) y (num c.args.w.now x))
     (left_is c.args.flag all c.args.more v c.if-before-flag.base c.if-before-eq0.taken base taken)
+
+pub returns-clause-long : goal.returns-clause-long
+returns-clause-long g c = c.put_figure.auto.figures

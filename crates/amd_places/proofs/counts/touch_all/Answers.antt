@@ -1,5 +1,5 @@
 -- The goals of counts::touch_all.
-use Rattle.std.proofs.Common.{ℕ, ℤ, Bool, List, true, false, ◌≡◌, ◌<◌, ◌≤◌, ◌+◌, ◌-◌, refl, sym, ap, subst, ◌∙◌, arith, cond, length}
+use Rattle.std.proofs.Common.{ℕ, ℤ, Bool, List, true, false, ◌≡◌, ◌<◌, ◌≤◌, ◌+◌, ◌-◌, refl, sym, ap, subst, ◌∙◌, cond, length}
 use Rattle.std.specs.Prelude.{◌==◌}
 use Rattle.std.proofs.lemmas.Bool.{eq-eqb, ne_eqb, cond-true, cond-false}
 use Rattle.amd_model.specs.Quotient.{has}
@@ -8,6 +8,8 @@ use Rattle.amd_places.specs.Counts.{touched, ends, settled}
 use Rattle.amd_places.proofs.RowLists.{rows_has}
 use Rattle.amd_places.proofs.EachRow.{cond_both, each_none, each_fresh, each_next}
 use Rattle.amd_places.proofs.Counting.{fresh_word}
+use Rattle.std.proofs.Common.{add-sub_of_le, le-add_right, lt_of_le_of_lt, lt_of_lt_of_le, le_of_eq, le_trans}
+use Rattle.amd_places.proofs.WordCounts.{all_passed, next_place, within_count}
 use Rattle.amd_places.proofs.counts.touch_all.Goals as goal
 
 pub loop-q-init : goal.loop-q-init
@@ -22,14 +24,14 @@ pub named-e-requires-clause-is_one : goal.named-e-requires-clause-is_one
 named-e-requires-clause-is_one g c =
     let iw : List ℤ = c.args.iw.now in let from : ℕ = c.args.from in let q : ℕ = c.loop-q.q in let k : ℕ = q - from in
     let after : from ≤ q = c.loop-q.auto.q in let t = c.loop-q-test.true in
-    let at : from + k ≡ q = omega (arith, after) in let l : k < c.args.count = omega (arith, after, t) in
+    let at : from + k ≡ q = add-sub_of_le after in let l : k < c.args.count = within_count after t in
     ap (λ m. is_place (word iw m)) (sym at) ∙ (c.requires.names k l).0
 
 pub touch_or_end-requires : goal.touch_or_end-requires
 touch_or_end-requires g c =
     let iw : List ℤ = c.args.iw.now in let from : ℕ = c.args.from in let q : ℕ = c.loop-q.q in let k : ℕ = q - from in
     let after : from ≤ q = c.loop-q.auto.q in let t = c.loop-q-test.true in
-    let at : from + k ≡ q = omega (arith, after) in let l : k < c.args.count = omega (arith, after, t) in
+    let at : from + k ≡ q = add-sub_of_le after in let l : k < c.args.count = within_count after t in
     let was = c.loop-q.invariant in
     let is : c.named-e.result ≡ place (word iw (from + k)) = c.named-e.ensures ∙ ap (λ m. place (word iw m)) (sym at) in
     let e : ℕ = c.named-e.result in
@@ -39,13 +41,17 @@ touch_or_end-requires g c =
     let same : num c.loop-q.w e ≡ num c.args.w.now e = each_fresh iw from k (num c.args.w.now) (num c.loop-q.w)
     (λ x. settled ag flag (top x))
     was.counted e fresh in
-    let small : e < length c.args.w.now = (let b = (c.requires.names k l).1 in omega (arith, b, is)) in
+    let small : e < length c.args.w.now = lt_of_le_of_lt (le_of_eq is) (c.requires.names k l).1 in
     let named : has (rows iw from c.args.count) e ≡ true = ap (has (rows iw from c.args.count)) is ∙ rows_has iw from c.args.count k l in
     let long = was.long in let p_long = was.p_long in let d = c.requires.lengths.0 in let p = c.requires.lengths.1 in record {
-      inside = ((omega (arith, long, small)), (omega (arith, d, small)), (omega (arith, p, p_long, small)));
+      inside = (
+        lt_of_lt_of_le small (le_of_eq (sym long)),
+        lt_of_lt_of_le small (le_of_eq (sym d)),
+        lt_of_lt_of_le small (le_of_eq (sym (p_long ∙ p))),
+      );
       small = c.requires.small;
-      again = λ h. let r = c.requires.again e named (omega (arith, h, same)) in omega (arith, r, same);
-      first = λ h. c.requires.first e named (omega (arith, h, same));
+      again = λ h. le_trans (c.requires.again e named (le_trans h (le_of_eq same))) (le_of_eq (sym same));
+      first = λ h. c.requires.first e named (lt_of_lt_of_le h (le_of_eq same));
       fits = c.requires.fits e small;
     }
 
@@ -53,8 +59,8 @@ pub loop-q-preserved : goal.loop-q-preserved
 loop-q-preserved g c =
     let iw : List ℤ = c.args.iw.now in let from : ℕ = c.args.from in let q : ℕ = c.loop-q.q in let k : ℕ = q - from in
     let after : from ≤ q = c.loop-q.auto.q in let t = c.loop-q-test.true in
-    let at : from + k ≡ q = omega (arith, after) in let l : k < c.args.count = omega (arith, after, t) in
-    let next : q + 1 - from ≡ k + 1 = omega (arith, after) in let was = c.loop-q.invariant in
+    let at : from + k ≡ q = add-sub_of_le after in let l : k < c.args.count = within_count after t in
+    let next : q + 1 - from ≡ k + 1 = next_place after in let was = c.loop-q.invariant in
     let is : c.named-e.result ≡ place (word iw (from + k)) = c.named-e.ensures ∙ ap (λ m. place (word iw m)) (sym at) in
     let e : ℕ = c.named-e.result in
     let fresh : has (rows iw from k) e ≡ false = ap (has (rows iw from k)) is ∙ fresh_word iw from c.args.count k l c.requires.once in
@@ -93,8 +99,8 @@ loop-q-preserved g c =
 pub returns-clause-counted : goal.returns-clause-counted
 returns-clause-counted g c =
     let t = c.loop-q-test.false in let after : c.args.from ≤ c.loop-q.q = c.loop-q.auto.q in
-    let past : c.loop-q.q ≤ c.args.from + c.args.count = c.loop-q.auto.q-end (omega arith) in
-    let all : c.loop-q.q - c.args.from ≡ c.args.count = omega (arith, t, after, past) in
+    let past : c.loop-q.q ≤ c.args.from + c.args.count = c.loop-q.auto.q-end (le-add_right _ _) in
+    let all : c.loop-q.q - c.args.from ≡ c.args.count = all_passed _ _ _ after past t in
     subst (λ m. (e : ℕ) → num c.loop-q.w e ≡ cond (has (rows c.args.iw.now c.args.from m) e)
     (settled c.args.aggressive c.args.flag (touched c.args.flag (num c.args.degree.now e) c.args.more (num c.args.w.now e)))
     (num c.args.w.now e)) all c.loop-q.invariant.counted
@@ -102,8 +108,8 @@ returns-clause-counted g c =
 pub returns-clause-starts : goal.returns-clause-starts
 returns-clause-starts g c e =
     let t = c.loop-q-test.false in let after : c.args.from ≤ c.loop-q.q = c.loop-q.auto.q in
-    let past : c.loop-q.q ≤ c.args.from + c.args.count = c.loop-q.auto.q-end (omega arith) in
-    let all : c.loop-q.q - c.args.from ≡ c.args.count = omega (arith, t, after, past) in
+    let past : c.loop-q.q ≤ c.args.from + c.args.count = c.loop-q.auto.q-end (le-add_right _ _) in
+    let all : c.loop-q.q - c.args.from ≡ c.args.count = all_passed _ _ _ after past t in
     let last : ℕ → Bool = λ x. ends c.args.aggressive c.args.flag (touched c.args.flag (num c.args.degree.now x) c.args.more
     (num c.args.w.now x)) in
     subst (λ m. word c.loop-q.pe e ≡ cond (has (rows c.args.iw.now c.args.from m) e)

@@ -5,6 +5,7 @@ use Rattle.std.proofs.lemmas.Bool.{cases_eq, eq-eqb, ne_eqb, cond-true, cond-fal
 use Rattle.amd_places.specs.Words.{num, word, flip_of}
 use Rattle.amd_places.specs.Counts.{ends, settled, touched}
 use Rattle.amd_places.proofs.EachRow.{cond_both, cond_same}
+use Rattle.std.proofs.Common.{lt_of_lt_of_le, le_of_eq, zero-le}
 use Rattle.amd_places.proofs.counts.touch_or_end.Goals as goal
 
 pub returns-then-left-flag-clause-counted : goal.returns-then-left-flag-clause-counted
@@ -69,3 +70,36 @@ returns-else-aggressive-clause-starts g c x =
     ] in
     sym (cond_both (x == e) (ends c.args.aggressive flag top) (flip_of c.args.me) (word pe x)
     ∙ ap (λ b. cond (x == e) (cond b (flip_of c.args.me) (word pe x)) (word pe x)) stays ∙ cond_same (x == e) (word pe x))
+
+pub touch-requires-clause-inside : goal.touch-requires-clause-inside
+touch-requires-clause-inside g c = (c.requires.inside.0, c.requires.inside.1)
+
+pub touch-requires-clause-again : goal.touch-requires-clause-again
+touch-requires-clause-again g c = c.requires.again
+
+pub touch-requires-clause-first : goal.touch-requires-clause-first
+touch-requires-clause-first g c = c.requires.first
+
+pub touch-requires-clause-fits : goal.touch-requires-clause-fits
+touch-requires-clause-fits g c = c.requires.fits
+
+pub figure_at-left-requires : goal.figure_at-left-requires
+figure_at-left-requires g c = lt_of_lt_of_le c.requires.inside.0 (le_of_eq (sym c.touch.ensures.long))
+
+pub put_flip-requires-clause-inside : goal.put_flip-requires-clause-inside
+put_flip-requires-clause-inside g c = c.requires.inside.2
+
+pub put_flip-requires-clause-small : goal.put_flip-requires-clause-small
+put_flip-requires-clause-small g c = c.requires.small
+
+pub put_figure-requires-clause-inside : goal.put_figure-requires-clause-inside
+put_figure-requires-clause-inside g c = lt_of_lt_of_le c.requires.inside.0 (le_of_eq (sym c.touch.ensures.long))
+
+pub put_figure-requires-clause-fits : goal.put_figure-requires-clause-fits
+put_figure-requires-clause-fits g c = zero-le
+
+pub returns-then-left-flag-clause-long : goal.returns-then-left-flag-clause-long
+returns-then-left-flag-clause-long g c = (c.put_figure.auto.figures ∙ c.touch.ensures.long, c.put_flip.auto.words)
+
+pub returns-else-aggressive-clause-long : goal.returns-else-aggressive-clause-long
+returns-else-aggressive-clause-long g c = (c.touch.ensures.long, refl)

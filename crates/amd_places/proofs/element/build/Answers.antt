@@ -4,10 +4,13 @@ use Rattle.amd_places.specs.Element.{Gathers, members_at, elements_at, variables
 use Rattle.amd_places.proofs.RowLists.{rows_none}
 use Rattle.amd_places.proofs.Building.{gathers_known, gathers_total, builds_none, next_element, split_element, split_variables}
 use Rattle.amd_places.proofs.Building.{still_names, pivot_word, element_laid, turn_end, turn_fits, turn_few, turn_done, builds_all}
+use Rattle.std.proofs.Common.{lt_of_lt_of_le, lt_of_le_of_lt, le_trans, lt_trans, le_of_eq, lit<, add-le-add, falls}
+use Rattle.std.proofs.Common.{add-sub_of_le, le-add_right}
+use Rattle.amd_places.proofs.WordCounts.{all_passed, next_place, none_passed, within_count}
 use Rattle.amd_places.proofs.element.build.Goals as goal
 
 pub loop-p-init : goal.loop-p-init
-loop-p-init g c = let e : c.named-from.result - c.named-from.result ≡ 0 = omega arith in
+loop-p-init g c = let e : c.named-from.result - c.named-from.result ≡ 0 = none_passed c.named-from.result in
     let none : rows c.args.iw.now c.named-from.result (c.named-from.result - c.named-from.result) ≡ [] =
     ap (rows c.args.iw.now c.named-from.result) e ∙ rows_none c.args.iw.now c.named-from.result in
     subst (λ xs. Gathers c.args.iw.now c.enter.new.nv c.args.free c.args.free
@@ -24,8 +27,8 @@ named-e-requires-clause-is_one g c =
     let from : ℕ = c.named-from.result in let is : from ≡ start pe pivot = c.named-from.ensures in
     let f : (ℕ → List ℕ) = λ e. classes nv (members_at iw pe len e) in let p : ℕ = c.loop-p.p in let k : ℕ = p - from in
     let after : from ≤ p = c.loop-p.auto.p in let t = c.loop-p-test.true in
-    let at : from + k ≡ p = omega (arith, after) in let l : k < m = omega (arith, after, t) in
-    let there : start pe pivot + k ≡ p = omega (arith, at, is) in
+    let at : from + k ≡ p = add-sub_of_le after in let l : k < m = within_count after t in
+    let there : start pe pivot + k ≡ p = ap (λ s. s + k) (sym is) ∙ at in
     let h : Gathers iw nv1 free free (flat_map f (rows iw (start pe pivot) k)) c.loop-p.iw c.loop-p.nv c.loop-p.end c.loop-p.sum
     = subst (λ s. Gathers iw nv1 free free (flat_map f (rows iw s k)) c.loop-p.iw c.loop-p.nv c.loop-p.end c.loop-p.sum)
     is c.loop-p.invariant in
@@ -44,8 +47,8 @@ named-first-requires-clause-inside g c =
     let from : ℕ = c.named-from.result in let is : from ≡ start pe pivot = c.named-from.ensures in
     let f : (ℕ → List ℕ) = λ e. classes nv (members_at iw pe len e) in let p : ℕ = c.loop-p.p in let k : ℕ = p - from in
     let after : from ≤ p = c.loop-p.auto.p in let t = c.loop-p-test.true in
-    let at : from + k ≡ p = omega (arith, after) in let l : k < m = omega (arith, after, t) in
-    let there : start pe pivot + k ≡ p = omega (arith, at, is) in
+    let at : from + k ≡ p = add-sub_of_le after in let l : k < m = within_count after t in
+    let there : start pe pivot + k ≡ p = ap (λ s. s + k) (sym is) ∙ at in
     let h : Gathers iw nv1 free free (flat_map f (rows iw (start pe pivot) k)) c.loop-p.iw c.loop-p.nv c.loop-p.end c.loop-p.sum
     = subst (λ s. Gathers iw nv1 free free (flat_map f (rows iw s k)) c.loop-p.iw c.loop-p.nv c.loop-p.end c.loop-p.sum)
     is c.loop-p.invariant in
@@ -66,8 +69,8 @@ named-first-requires-clause-is_one g c =
     let from : ℕ = c.named-from.result in let is : from ≡ start pe pivot = c.named-from.ensures in
     let f : (ℕ → List ℕ) = λ e. classes nv (members_at iw pe len e) in let p : ℕ = c.loop-p.p in let k : ℕ = p - from in
     let after : from ≤ p = c.loop-p.auto.p in let t = c.loop-p-test.true in
-    let at : from + k ≡ p = omega (arith, after) in let l : k < m = omega (arith, after, t) in
-    let there : start pe pivot + k ≡ p = omega (arith, at, is) in
+    let at : from + k ≡ p = add-sub_of_le after in let l : k < m = within_count after t in
+    let there : start pe pivot + k ≡ p = ap (λ s. s + k) (sym is) ∙ at in
     let h : Gathers iw nv1 free free (flat_map f (rows iw (start pe pivot) k)) c.loop-p.iw c.loop-p.nv c.loop-p.end c.loop-p.sum
     = subst (λ s. Gathers iw nv1 free free (flat_map f (rows iw s k)) c.loop-p.iw c.loop-p.nv c.loop-p.end c.loop-p.sum)
     is c.loop-p.invariant in
@@ -91,8 +94,8 @@ figure_at-requires g c =
     let from : ℕ = c.named-from.result in let is : from ≡ start pe pivot = c.named-from.ensures in
     let f : (ℕ → List ℕ) = λ e. classes nv (members_at iw pe len e) in let p : ℕ = c.loop-p.p in let k : ℕ = p - from in
     let after : from ≤ p = c.loop-p.auto.p in let t = c.loop-p-test.true in
-    let at : from + k ≡ p = omega (arith, after) in let l : k < m = omega (arith, after, t) in
-    let there : start pe pivot + k ≡ p = omega (arith, at, is) in
+    let at : from + k ≡ p = add-sub_of_le after in let l : k < m = within_count after t in
+    let there : start pe pivot + k ≡ p = ap (λ s. s + k) (sym is) ∙ at in
     let h : Gathers iw nv1 free free (flat_map f (rows iw (start pe pivot) k)) c.loop-p.iw c.loop-p.nv c.loop-p.end c.loop-p.sum
     = subst (λ s. Gathers iw nv1 free free (flat_map f (rows iw s k)) c.loop-p.iw c.loop-p.nv c.loop-p.end c.loop-p.sum)
     is c.loop-p.invariant in
@@ -113,8 +116,8 @@ gather-requires g c =
     let from : ℕ = c.named-from.result in let is : from ≡ start pe pivot = c.named-from.ensures in
     let f : (ℕ → List ℕ) = λ e. classes nv (members_at iw pe len e) in let p : ℕ = c.loop-p.p in let k : ℕ = p - from in
     let after : from ≤ p = c.loop-p.auto.p in let t = c.loop-p-test.true in
-    let at : from + k ≡ p = omega (arith, after) in let l : k < m = omega (arith, after, t) in
-    let there : start pe pivot + k ≡ p = omega (arith, at, is) in
+    let at : from + k ≡ p = add-sub_of_le after in let l : k < m = within_count after t in
+    let there : start pe pivot + k ≡ p = ap (λ s. s + k) (sym is) ∙ at in
     let h : Gathers iw nv1 free free (flat_map f (rows iw (start pe pivot) k)) c.loop-p.iw c.loop-p.nv c.loop-p.end c.loop-p.sum
     = subst (λ s. Gathers iw nv1 free free (flat_map f (rows iw s k)) c.loop-p.iw c.loop-p.nv c.loop-p.end c.loop-p.sum)
     is c.loop-p.invariant in
@@ -170,9 +173,9 @@ loop-p-preserved g c =
     let from : ℕ = c.named-from.result in let is : from ≡ start pe pivot = c.named-from.ensures in
     let f : (ℕ → List ℕ) = λ e. classes nv (members_at iw pe len e) in let p : ℕ = c.loop-p.p in let k : ℕ = p - from in
     let after : from ≤ p = c.loop-p.auto.p in let t = c.loop-p-test.true in
-    let at : from + k ≡ p = omega (arith, after) in let l : k < m = omega (arith, after, t) in let next : p + 1 - from ≡ k + 1 =
-    omega (arith, after) in
-    let there : start pe pivot + k ≡ p = omega (arith, at, is) in
+    let at : from + k ≡ p = add-sub_of_le after in let l : k < m = within_count after t in let next : p + 1 - from ≡ k + 1 =
+    next_place after in
+    let there : start pe pivot + k ≡ p = ap (λ s. s + k) (sym is) ∙ at in
     let h : Gathers iw nv1 free free (flat_map f (rows iw (start pe pivot) k)) c.loop-p.iw c.loop-p.nv c.loop-p.end c.loop-p.sum
     = subst (λ s. Gathers iw nv1 free free (flat_map f (rows iw s k)) c.loop-p.iw c.loop-p.nv c.loop-p.end c.loop-p.sum)
     is c.loop-p.invariant in
@@ -211,8 +214,8 @@ gather-requires-2 g c =
     let from : ℕ = c.named-from.result in let is : from ≡ start pe pivot = c.named-from.ensures in
     let f : (ℕ → List ℕ) = λ e. classes nv (members_at iw pe len e) in let p : ℕ = c.loop-p.p in let t = c.loop-p-test.false in
     let after : from ≤ p = c.loop-p.auto.p in
-    let past : p ≤ from + m = c.loop-p.auto.p-end (omega arith) in
-    let all_k : p - from ≡ m = omega (arith, t, past, after) in
+    let past : p ≤ from + m = c.loop-p.auto.p-end (le-add_right _ _) in
+    let all_k : p - from ≡ m = all_passed _ _ _ after past t in
     let h : Gathers iw nv1 free free (flat_map f (elements_at iw pe pivot m)) c.loop-p.iw c.loop-p.nv c.loop-p.end c.loop-p.sum
     = subst (λ k. Gathers iw nv1 free free (flat_map f (rows iw (start pe pivot) k)) c.loop-p.iw c.loop-p.nv c.loop-p.end c.loop-p.sum)
     all_k
@@ -265,8 +268,8 @@ returns g c =
     let from : ℕ = c.named-from.result in let is : from ≡ start pe pivot = c.named-from.ensures in
     let f : (ℕ → List ℕ) = λ e. classes nv (members_at iw pe len e) in let p : ℕ = c.loop-p.p in let t = c.loop-p-test.false in
     let after : from ≤ p = c.loop-p.auto.p in
-    let past : p ≤ from + m = c.loop-p.auto.p-end (omega arith) in
-    let all_k : p - from ≡ m = omega (arith, t, past, after) in
+    let past : p ≤ from + m = c.loop-p.auto.p-end (le-add_right _ _) in
+    let all_k : p - from ≡ m = all_passed _ _ _ after past t in
     let h : Gathers iw nv1 free free (flat_map f (elements_at iw pe pivot m)) c.loop-p.iw c.loop-p.nv c.loop-p.end c.loop-p.sum
     = subst (λ k. Gathers iw nv1 free free (flat_map f (rows iw (start pe pivot) k)) c.loop-p.iw c.loop-p.nv c.loop-p.end c.loop-p.sum)
     all_k
@@ -286,3 +289,44 @@ returns g c =
     (c.figure_at-2.result - m) before (classes nv (variables_at iw pe len pivot m)) [] ys
     (split_variables c.args.iw.now c.args.nv.now c.enter.new.nv c.args.pe.now c.args.len.now c.args.pivot c.args.n_elements
     c.args.free c.enter.ensures.sizes c.enter.ensures.front c.requires.clear) c.gather-2.ensures)
+
+pub enter-requires-clause-inside : goal.enter-requires-clause-inside
+enter-requires-clause-inside g c = c.requires.pivot.0
+
+pub enter-requires-clause-class : goal.enter-requires-clause-class
+enter-requires-clause-class g c = c.requires.pivot.1
+
+pub enter-requires-clause-fresh : goal.enter-requires-clause-fresh
+enter-requires-clause-fresh g c = c.requires.clear c.args.pivot
+
+pub named-from-requires-clause-inside : goal.named-from-requires-clause-inside
+named-from-requires-clause-inside g c = lt_of_lt_of_le c.requires.pivot.0 (le_of_eq (sym c.requires.lengths.0))
+
+pub named-from-requires-clause-is_one : goal.named-from-requires-clause-is_one
+named-from-requires-clause-is_one g c = c.requires.laid.0.0
+
+pub overflow_add-p-end : goal.overflow_add-p-end
+overflow_add-p-end g c = record {
+  fits = lt_of_le_of_lt (le_trans (add-le-add (le_of_eq c.named-from.ensures) c.requires.elements)
+      (le_trans c.requires.laid.0.1 c.requires.end)) (lt_trans c.requires.short (lit< tt));
+}
+
+pub named-e-requires-clause-inside : goal.named-e-requires-clause-inside
+named-e-requires-clause-inside g c = lt_of_lt_of_le c.loop-p-test.true
+    (le_trans (add-le-add (le_of_eq c.named-from.ensures) c.requires.elements)
+    (le_trans c.requires.laid.0.1 (le_trans c.requires.end (le_of_eq (sym c.loop-p.invariant.long)))))
+
+pub loop-p-smaller : goal.loop-p-smaller
+loop-p-smaller g c = falls (c.named-from.result + c.args.n_elements) c.loop-p.p c.loop-p-test.true
+
+pub overflow_add-from : goal.overflow_add-from
+overflow_add-from g c = record {
+  fits = lt_of_le_of_lt (le_trans (add-le-add (le_of_eq c.named-from.ensures) c.requires.elements)
+      (le_trans c.requires.laid.0.1 c.requires.end)) (lt_trans c.requires.short (lit< tt));
+}
+
+pub figure_at-requires-2 : goal.figure_at-requires-2
+figure_at-requires-2 g c = lt_of_lt_of_le c.requires.pivot.0 (le_of_eq (sym c.requires.lengths.1))
+
+pub overflow_sub-figure_at : goal.overflow_sub-figure_at
+overflow_sub-figure_at g c = le_trans c.requires.elements (le_of_eq (sym c.figure_at-2.ensures.is))

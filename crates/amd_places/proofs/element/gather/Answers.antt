@@ -1,16 +1,20 @@
 use Rattle.amd_model.proofs.Counting.Below.{clash}
 use Rattle.std.proofs.Common.{ℕ, ℤ, List, true, false, [], ◌≡◌, ◌<◌, ◌≤◌, ◌+◌, ◌-◌, ◌&&◌, ◌||◌, not, inl, inr, sym, ap, ◌∙◌, arith}
-use Rattle.std.proofs.Common.{length, rules, ◌^◌}
+use Rattle.std.proofs.Common.{length, rules, ◌^◌, add-sub_of_le}
 use Rattle.std.specs.Prelude.{nat_lt, ◌==◌}
 use Rattle.std.proofs.lemmas.Bool.{cases_Bool, and_from, not_from_false}
 use Rattle.amd_places.specs.Words.{word, place, is_place, size_of, in_front, classes, rows}
 use Rattle.amd_places.proofs.RowLists.{rows_none}
 use Rattle.amd_places.proofs.Gathering.{gathers_none, gathers_old, gathers_new, classes_yes, classes_no, class_here, open_here, room_here}
+use Rattle.std.proofs.Common.{lt_of_lt_of_le, lt_of_le_of_lt, le_trans, lt_trans, le_of_eq, lit<, le-add_right, falls, subst}
+use Rattle.std.proofs.lemmas.Bool.{ltb-true, and_parts, not-true}
+use Rattle.amd_places.proofs.WordCounts.{all_passed, next_place, none_passed, within_count}
+use Rattle.amd_places.specs.Element.{Gathers}
 use Rattle.amd_places.proofs.element.gather.Goals as goal
 use Rattle.amd_places.proofs.element.gather.Goals.{then-is_open, else-is_open}
 
 pub loop-p-init : goal.loop-p-init
-loop-p-init g c = let e : c.args.from - c.args.from ≡ 0 = omega arith in
+loop-p-init g c = let e : c.args.from - c.args.from ≡ 0 = none_passed c.args.from in
     let none : classes c.args.nv.now (rows c.args.iw.now c.args.from (c.args.from - c.args.from)) ≡ [] =
     ap (λ n. classes c.args.nv.now (rows c.args.iw.now c.args.from n)) e
     ∙ ap (classes c.args.nv.now) (rows_none c.args.iw.now c.args.from) in
@@ -28,7 +32,7 @@ pub named-row-requires-clause-is_one : goal.named-row-requires-clause-is_one
 named-row-requires-clause-is_one g c =
     let from : ℕ = c.args.from in let p : ℕ = c.loop-p.p in let n : ℕ = p - from in let after : from ≤ p = c.loop-p.auto.p in let t =
     c.loop-p-test.true in
-    let e : from + n ≡ p = omega (arith, after) in let l : n < c.args.count = omega (arith, after, t) in
+    let e : from + n ≡ p = add-sub_of_le after in let l : n < c.args.count = within_count after t in
     ap is_place (stands_at c.args.iw.now c.loop-p.iw from c.args.count c.args.start c.args.free p n e l c.requires.source c.requires.order
     c.loop-p.invariant.below) ∙ (c.requires.names n l).0
 
@@ -36,7 +40,7 @@ pub is_open-requires : goal.is_open-requires
 is_open-requires g c =
     let from : ℕ = c.args.from in let p : ℕ = c.loop-p.p in let n : ℕ = p - from in let after : from ≤ p = c.loop-p.auto.p in let t =
     c.loop-p-test.true in
-    let e : from + n ≡ p = omega (arith, after) in let l : n < c.args.count = omega (arith, after, t) in
+    let e : from + n ≡ p = add-sub_of_le after in let l : n < c.args.count = within_count after t in
     let r : c.named-row.result ≡ place (word c.args.iw.now (from + n)) = c.named-row.ensures
     ∙ ap place (stands_at c.args.iw.now c.loop-p.iw from c.args.count c.args.start c.args.free p n e l c.requires.source
     c.requires.order c.loop-p.invariant.below) in
@@ -46,7 +50,7 @@ pub enter-sum-requires-clause-inside : goal.enter-sum-requires-clause-inside
 enter-sum-requires-clause-inside g c =
     let from : ℕ = c.args.from in let p : ℕ = c.loop-p.p in let n : ℕ = p - from in let after : from ≤ p = c.loop-p.auto.p in let t =
     c.loop-p-test.true in
-    let e : from + n ≡ p = omega (arith, after) in let l : n < c.args.count = omega (arith, after, t) in
+    let e : from + n ≡ p = add-sub_of_le after in let l : n < c.args.count = within_count after t in
     let r : c.named-row.result ≡ place (word c.args.iw.now (from + n)) = c.named-row.ensures
     ∙ ap place (stands_at c.args.iw.now c.loop-p.iw from c.args.count c.args.start c.args.free p n e l c.requires.source
     c.requires.order c.loop-p.invariant.below) in
@@ -56,7 +60,7 @@ pub copy_word-requires-clause-to : goal.copy_word-requires-clause-to
 copy_word-requires-clause-to g c =
     let from : ℕ = c.args.from in let p : ℕ = c.loop-p.p in let n : ℕ = p - from in let after : from ≤ p = c.loop-p.auto.p in let t =
     c.loop-p-test.true in
-    let e : from + n ≡ p = omega (arith, after) in let l : n < c.args.count = omega (arith, after, t) in
+    let e : from + n ≡ p = add-sub_of_le after in let l : n < c.args.count = within_count after t in
     let r : c.named-row.result ≡ place (word c.args.iw.now (from + n)) = c.named-row.ensures
     ∙ ap place (stands_at c.args.iw.now c.loop-p.iw from c.args.count c.args.start c.args.free p n e l c.requires.source
     c.requires.order c.loop-p.invariant.below) in
@@ -68,7 +72,7 @@ pub overflow_add-sum : goal.overflow_add-sum
 overflow_add-sum g c =
     let from : ℕ = c.args.from in let p : ℕ = c.loop-p.p in let n : ℕ = p - from in let after : from ≤ p = c.loop-p.auto.p in let t =
     c.loop-p-test.true in
-    let e : from + n ≡ p = omega (arith, after) in let l : n < c.args.count = omega (arith, after, t) in
+    let e : from + n ≡ p = add-sub_of_le after in let l : n < c.args.count = within_count after t in
     let r : c.named-row.result ≡ place (word c.args.iw.now (from + n)) = c.named-row.ensures
     ∙ ap place (stands_at c.args.iw.now c.loop-p.iw from c.args.count c.args.start c.args.free p n e l c.requires.source
     c.requires.order c.loop-p.invariant.below) in
@@ -83,7 +87,7 @@ pub overflow_add-end : goal.overflow_add-end
 overflow_add-end g c =
     let from : ℕ = c.args.from in let p : ℕ = c.loop-p.p in let n : ℕ = p - from in let after : from ≤ p = c.loop-p.auto.p in let t =
     c.loop-p-test.true in
-    let e : from + n ≡ p = omega (arith, after) in let l : n < c.args.count = omega (arith, after, t) in
+    let e : from + n ≡ p = add-sub_of_le after in let l : n < c.args.count = within_count after t in
     let r : c.named-row.result ≡ place (word c.args.iw.now (from + n)) = c.named-row.ensures
     ∙ ap place (stands_at c.args.iw.now c.loop-p.iw from c.args.count c.args.start c.args.free p n e l c.requires.source
     c.requires.order c.loop-p.invariant.below) in
@@ -96,8 +100,8 @@ pub loop-p-preserved : goal.loop-p-preserved
 loop-p-preserved g c =
     let from : ℕ = c.args.from in let p : ℕ = c.loop-p.p in let n : ℕ = p - from in let after : from ≤ p = c.loop-p.auto.p in let t =
     c.loop-p-test.true in
-    let e : from + n ≡ p = omega (arith, after) in let l : n < c.args.count = omega (arith, after, t) in let e' : p + 1 - from ≡ n + 1 =
-    omega (arith, after) in
+    let e : from + n ≡ p = add-sub_of_le after in let l : n < c.args.count = within_count after t in let e' : p + 1 - from ≡ n + 1 =
+    next_place after in
     let h = c.loop-p.invariant in let iw : List ℤ = c.args.iw.now in let nv : List ℤ = c.args.nv.now in
     let stands = stands_at iw c.loop-p.iw from c.args.count c.args.start c.args.free p n e l c.requires.source c.requires.order h.below in
     let y : ℕ = place (word iw (from + n)) in
@@ -131,3 +135,34 @@ loop-p-preserved g c =
             | inr q ↦ rw (classes_no nv iw from n q) h
           ]))
     ]
+
+pub overflow_add-p-end : goal.overflow_add-p-end
+overflow_add-p-end g c = record {
+  fits = lt_of_le_of_lt (le_trans c.requires.source (le_trans c.requires.order c.requires.end)) (lt_trans c.requires.short (lit< tt));
+}
+
+pub named-row-requires-clause-inside : goal.named-row-requires-clause-inside
+named-row-requires-clause-inside g c = lt_of_lt_of_le c.loop-p-test.true
+    (le_trans c.requires.source (le_trans c.requires.order (le_trans c.requires.end (le_of_eq (sym c.loop-p.invariant.long)))))
+
+pub copy_word-requires-clause-from : goal.copy_word-requires-clause-from
+copy_word-requires-clause-from g c = lt_of_lt_of_le c.loop-p-test.true
+    (le_trans c.requires.source (le_trans c.requires.order (le_trans c.requires.end (le_of_eq (sym c.loop-p.invariant.long)))))
+
+pub enter-sum-requires-clause-class : goal.enter-sum-requires-clause-class
+enter-sum-requires-clause-class g c = ltb-true 0 (size_of c.loop-p.nv c.named-row.result)
+    (and_parts _ _ (sym c.is_open.ensures ∙ c.if-is_open.true)).0
+
+pub enter-sum-requires-clause-fresh : goal.enter-sum-requires-clause-fresh
+enter-sum-requires-clause-fresh g c = not-true (in_front c.loop-p.nv c.named-row.result)
+    (and_parts _ _ (sym c.is_open.ensures ∙ c.if-is_open.true)).1
+
+pub loop-p-smaller : goal.loop-p-smaller
+loop-p-smaller g c = falls (c.args.from + c.args.count) c.loop-p.p c.loop-p-test.true
+
+pub returns : goal.returns
+returns g c =
+    let from : ℕ = c.args.from in subst (λ m. Gathers c.args.iw.now c.args.nv.now c.args.start c.args.free
+    (classes c.args.nv.now (rows c.args.iw.now from m)) c.loop-p.iw c.loop-p.nv c.loop-p.end c.loop-p.sum)
+    (all_passed c.loop-p.p from c.args.count c.loop-p.auto.p (c.loop-p.auto.p-end (le-add_right from c.args.count)) c.loop-p-test.false)
+    c.loop-p.invariant

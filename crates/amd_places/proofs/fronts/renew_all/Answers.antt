@@ -8,6 +8,8 @@ use Rattle.amd_places.proofs.WordMarks.{rows_start}
 use Rattle.amd_places.proofs.Frames.{has_from}
 use Rattle.amd_places.proofs.RenewedFronts.{front_word, front_inside, front_row}
 use Rattle.amd_places.proofs.Retiring.{front_none, front_placed, front_loses, front_marked, front_room, front_more}
+use Rattle.std.proofs.Common.{lt_of_lt_of_le, le_of_eq, add-sub_of_le, le-add_right}
+use Rattle.amd_places.proofs.WordCounts.{next_place, within_count}
 use Rattle.amd_places.proofs.fronts.renew_all.Goals as goal
 
 pub overflow_add-end : goal.overflow_add-end
@@ -36,7 +38,8 @@ named-i-requires-clause-inside g c =
     let from : ℕ = c.named-from.result in let is : from ≡ start pe me = c.named-from.ensures in let p : ℕ = c.loop-p.p in
     let k : ℕ = p - from in
     let after : from ≤ p = c.loop-p.auto.p in let t = c.loop-p-test.true in let count = c.figure_at.ensures.is in
-    let at : start pe me + k ≡ p = omega (arith, after, is) in let l : k < num len me = omega (arith, after, t, count) in
+    let at : start pe me + k ≡ p = ap (λ s. s + k) (sym is) ∙ add-sub_of_le after in
+    let l : k < num len me = lt_of_lt_of_le (within_count after t) (le_of_eq count) in
     let h : RenewsFront (length c.args.w.now) me (is_kept c.args.w.now) (is_outside c.args.nv.now) (λ e. num c.args.w.now e - c.args.flag)
     (rows iw (start pe me) k) c.args.free iw pe c.args.e_len.now c.args.nv.now len c.args.degree.now c.args.last.now
     c.loop-p.iw c.loop-p.pe c.loop-p.e_len c.loop-p.nv c.loop-p.len c.loop-p.degree c.loop-p.last c.loop-p.gone
@@ -53,7 +56,8 @@ named-i-requires-clause-is_one g c =
     let from : ℕ = c.named-from.result in let is : from ≡ start pe me = c.named-from.ensures in let p : ℕ = c.loop-p.p in
     let k : ℕ = p - from in
     let after : from ≤ p = c.loop-p.auto.p in let t = c.loop-p-test.true in let count = c.figure_at.ensures.is in
-    let at : start pe me + k ≡ p = omega (arith, after, is) in let l : k < num len me = omega (arith, after, t, count) in
+    let at : start pe me + k ≡ p = ap (λ s. s + k) (sym is) ∙ add-sub_of_le after in
+    let l : k < num len me = lt_of_lt_of_le (within_count after t) (le_of_eq count) in
     let h : RenewsFront (length c.args.w.now) me (is_kept c.args.w.now) (is_outside c.args.nv.now) (λ e. num c.args.w.now e - c.args.flag)
     (rows iw (start pe me) k) c.args.free iw pe c.args.e_len.now c.args.nv.now len c.args.degree.now c.args.last.now
     c.loop-p.iw c.loop-p.pe c.loop-p.e_len c.loop-p.nv c.loop-p.len c.loop-p.degree c.loop-p.last c.loop-p.gone
@@ -71,7 +75,8 @@ renew_or_retire-gone-requires-clause-placed g c =
     let from : ℕ = c.named-from.result in let is : from ≡ start pe me = c.named-from.ensures in let p : ℕ = c.loop-p.p in
     let k : ℕ = p - from in
     let after : from ≤ p = c.loop-p.auto.p in let t = c.loop-p-test.true in let count = c.figure_at.ensures.is in
-    let at : start pe me + k ≡ p = omega (arith, after, is) in let l : k < num len me = omega (arith, after, t, count) in
+    let at : start pe me + k ≡ p = ap (λ s. s + k) (sym is) ∙ add-sub_of_le after in
+    let l : k < num len me = lt_of_lt_of_le (within_count after t) (le_of_eq count) in
     let h : RenewsFront (length c.args.w.now) me (is_kept c.args.w.now) (is_outside c.args.nv.now) (λ e. num c.args.w.now e - c.args.flag)
     (rows iw (start pe me) k) c.args.free iw pe c.args.e_len.now c.args.nv.now len c.args.degree.now c.args.last.now
     c.loop-p.iw c.loop-p.pe c.loop-p.e_len c.loop-p.nv c.loop-p.len c.loop-p.degree c.loop-p.last c.loop-p.gone
@@ -88,7 +93,8 @@ renew_or_retire-gone-requires-clause-loses g c =
     let from : ℕ = c.named-from.result in let is : from ≡ start pe me = c.named-from.ensures in let p : ℕ = c.loop-p.p in
     let k : ℕ = p - from in
     let after : from ≤ p = c.loop-p.auto.p in let t = c.loop-p-test.true in let count = c.figure_at.ensures.is in
-    let at : start pe me + k ≡ p = omega (arith, after, is) in let l : k < num len me = omega (arith, after, t, count) in
+    let at : start pe me + k ≡ p = ap (λ s. s + k) (sym is) ∙ add-sub_of_le after in
+    let l : k < num len me = lt_of_lt_of_le (within_count after t) (le_of_eq count) in
     let h : RenewsFront (length c.args.w.now) me (is_kept c.args.w.now) (is_outside c.args.nv.now) (λ e. num c.args.w.now e - c.args.flag)
     (rows iw (start pe me) k) c.args.free iw pe c.args.e_len.now c.args.nv.now len c.args.degree.now c.args.last.now
     c.loop-p.iw c.loop-p.pe c.loop-p.e_len c.loop-p.nv c.loop-p.len c.loop-p.degree c.loop-p.last c.loop-p.gone
@@ -105,7 +111,8 @@ renew_or_retire-gone-requires-clause-marked g c =
     let from : ℕ = c.named-from.result in let is : from ≡ start pe me = c.named-from.ensures in let p : ℕ = c.loop-p.p in
     let k : ℕ = p - from in
     let after : from ≤ p = c.loop-p.auto.p in let t = c.loop-p-test.true in let count = c.figure_at.ensures.is in
-    let at : start pe me + k ≡ p = omega (arith, after, is) in let l : k < num len me = omega (arith, after, t, count) in
+    let at : start pe me + k ≡ p = ap (λ s. s + k) (sym is) ∙ add-sub_of_le after in
+    let l : k < num len me = lt_of_lt_of_le (within_count after t) (le_of_eq count) in
     let h : RenewsFront (length c.args.w.now) me (is_kept c.args.w.now) (is_outside c.args.nv.now) (λ e. num c.args.w.now e - c.args.flag)
     (rows iw (start pe me) k) c.args.free iw pe c.args.e_len.now c.args.nv.now len c.args.degree.now c.args.last.now
     c.loop-p.iw c.loop-p.pe c.loop-p.e_len c.loop-p.nv c.loop-p.len c.loop-p.degree c.loop-p.last c.loop-p.gone
@@ -122,8 +129,9 @@ loop-p-preserved g c =
     let from : ℕ = c.named-from.result in let is : from ≡ start pe me = c.named-from.ensures in let p : ℕ = c.loop-p.p in
     let k : ℕ = p - from in
     let after : from ≤ p = c.loop-p.auto.p in let t = c.loop-p-test.true in let count = c.figure_at.ensures.is in
-    let at : start pe me + k ≡ p = omega (arith, after, is) in let l : k < num len me = omega (arith, after, t, count) in
-    let next : p + 1 - from ≡ k + 1 = omega (arith, after) in
+    let at : start pe me + k ≡ p = ap (λ s. s + k) (sym is) ∙ add-sub_of_le after in
+    let l : k < num len me = lt_of_lt_of_le (within_count after t) (le_of_eq count) in
+    let next : p + 1 - from ≡ k + 1 = next_place after in
     let h : RenewsFront (length c.args.w.now) me (is_kept c.args.w.now) (is_outside c.args.nv.now) (λ e. num c.args.w.now e - c.args.flag)
     (rows iw (start pe me) k) c.args.free iw pe c.args.e_len.now c.args.nv.now len c.args.degree.now c.args.last.now
     c.loop-p.iw c.loop-p.pe c.loop-p.e_len c.loop-p.nv c.loop-p.len c.loop-p.degree c.loop-p.last c.loop-p.gone
@@ -149,7 +157,8 @@ overflow_add-gone g c =
     let from : ℕ = c.named-from.result in let is : from ≡ start pe me = c.named-from.ensures in let p : ℕ = c.loop-p.p in
     let k : ℕ = p - from in
     let after : from ≤ p = c.loop-p.auto.p in let t = c.loop-p-test.true in let count = c.figure_at.ensures.is in
-    let at : start pe me + k ≡ p = omega (arith, after, is) in let l : k < num len me = omega (arith, after, t, count) in
+    let at : start pe me + k ≡ p = ap (λ s. s + k) (sym is) ∙ add-sub_of_le after in
+    let l : k < num len me = lt_of_lt_of_le (within_count after t) (le_of_eq count) in
     let h : RenewsFront (length c.args.w.now) me (is_kept c.args.w.now) (is_outside c.args.nv.now) (λ e. num c.args.w.now e - c.args.flag)
     (rows iw (start pe me) k) c.args.free iw pe c.args.e_len.now c.args.nv.now len c.args.degree.now c.args.last.now
     c.loop-p.iw c.loop-p.pe c.loop-p.e_len c.loop-p.nv c.loop-p.len c.loop-p.degree c.loop-p.last c.loop-p.gone
@@ -168,7 +177,7 @@ returns g c =
     let iw : List ℤ = c.args.iw.now in let pe : List ℤ = c.args.pe.now in let len : List ℕ = c.args.len.now in let me : ℕ = c.args.me in
     let from : ℕ = c.named-from.result in let is : from ≡ start pe me = c.named-from.ensures in let p : ℕ = c.loop-p.p in
     let t = c.loop-p-test.false in let after : from ≤ p = c.loop-p.auto.p in let count = c.figure_at.ensures.is in
-    let past : p ≤ from + c.figure_at.result = c.loop-p.auto.p-end (omega arith) in
+    let past : p ≤ from + c.figure_at.result = c.loop-p.auto.p-end (le-add_right _ _) in
     let all : rows iw from (p - from) ≡ rows iw (start pe me) (num len me) = ap (rows iw from) (omega (arith, t, after, past, count))
     ∙ ap (λ s. rows iw s (num len me)) is in
     record {
@@ -178,3 +187,15 @@ returns g c =
           c.loop-p.iw c.loop-p.pe c.loop-p.e_len c.loop-p.nv c.loop-p.len c.loop-p.degree c.loop-p.last c.loop-p.gone) all
           c.loop-p.invariant;
     }
+
+pub named-from-requires-clause-inside : goal.named-from-requires-clause-inside
+named-from-requires-clause-inside g c = lt_of_lt_of_le c.requires.me.0 (le_of_eq (sym c.requires.lengths.0))
+
+pub named-from-requires-clause-is_one : goal.named-from-requires-clause-is_one
+named-from-requires-clause-is_one g c = c.requires.list
+
+pub figure_at-requires : goal.figure_at-requires
+figure_at-requires g c = lt_of_lt_of_le c.requires.me.0 (le_of_eq (sym c.requires.lengths.2))
+
+pub renew_or_retire-gone-requires-clause-me : goal.renew_or_retire-gone-requires-clause-me
+renew_or_retire-gone-requires-clause-me g c = c.requires.me

@@ -2,6 +2,7 @@
 use Rattle.std.proofs.Common.{◌-◌, sym, ◌∙◌, arith}
 use Rattle.amd_places.specs.Words.{num}
 use Rattle.amd_places.proofs.Retiring.{one_ends, one_stays}
+use Rattle.std.proofs.Common.{lt_of_lt_of_le, le_trans, le_of_eq, le-add_right}
 use Rattle.amd_places.proofs.fronts.renew_or_retire.Goals as goal
 
 pub returns-then-count-eq1-clause-renews : goal.returns-then-count-eq1-clause-renews
@@ -18,3 +19,42 @@ returns-clause-renews g c =
     (one_stays r.renews (λ e. num c.args.w.now e - c.args.flag) c.args.nv.now c.args.degree.now c.lower_bound.new.degree c.args.last.now
     c.renew_class-count.result.1 c.renew_class-count.result.2 (λ e. c.if-count-eq1.false (r.count ∙ e)) (omega (arith, row, b)) r.outside
     c.lower_bound.ensures.bound c.lower_bound.ensures.others r.hash)
+
+pub renew_class-count-requires-clause-lengths : goal.renew_class-count-requires-clause-lengths
+renew_class-count-requires-clause-lengths g c = c.requires.lengths
+
+pub renew_class-count-requires-clause-short : goal.renew_class-count-requires-clause-short
+renew_class-count-requires-clause-short g c = c.requires.short
+
+pub renew_class-count-requires-clause-narrow : goal.renew_class-count-requires-clause-narrow
+renew_class-count-requires-clause-narrow g c = c.requires.narrow.0
+
+pub renew_class-count-requires-clause-me : goal.renew_class-count-requires-clause-me
+renew_class-count-requires-clause-me g c = (c.requires.me.0, le_trans (le-add_right c.args.me 2) c.requires.me.1)
+
+pub renew_class-count-requires-clause-placed : goal.renew_class-count-requires-clause-placed
+renew_class-count-requires-clause-placed g c = c.requires.placed
+
+pub renew_class-count-requires-clause-loses : goal.renew_class-count-requires-clause-loses
+renew_class-count-requires-clause-loses g c = c.requires.loses
+
+pub retire-requires-clause-inside : goal.retire-requires-clause-inside
+retire-requires-clause-inside g c = let row = c.requires.placed.row in let l = c.requires.lengths in (
+  lt_of_lt_of_le row (le_of_eq (sym l.0)),
+  lt_of_lt_of_le row (le_of_eq (sym (c.renew_class-count.auto.e_len ∙ l.1))),
+  lt_of_lt_of_le row (le_of_eq (sym l.3)),
+)
+
+pub retire-requires-clause-small : goal.retire-requires-clause-small
+retire-requires-clause-small g c = c.requires.me.1
+
+pub retire-requires-clause-marked : goal.retire-requires-clause-marked
+retire-requires-clause-marked g c = c.requires.marked
+
+pub put_figure-requires-clause-inside : goal.put_figure-requires-clause-inside
+put_figure-requires-clause-inside g c = lt_of_lt_of_le c.requires.placed.row (le_of_eq (sym c.requires.more_lengths.1))
+
+pub lower_bound-requires : goal.lower_bound-requires
+lower_bound-requires g c = record {
+  inside = lt_of_lt_of_le c.requires.placed.row (le_of_eq (sym c.requires.more_lengths.0));
+}

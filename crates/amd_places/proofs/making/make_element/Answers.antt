@@ -6,6 +6,10 @@ use Rattle.amd_places.specs.Layout.{elements_in}
 use Rattle.amd_places.proofs.RowLists.{rows_length, names_at}
 use Rattle.amd_places.proofs.Frames.{has_parts}
 use Rattle.amd_places.proofs.Settling.{lists_laid, own_names, own_read, start_set, makes_as}
+use Rattle.std.proofs.Common.{lt_of_le_of_lt, le-add_right, lt_of_lt_of_le, le_of_eq, le_trans, le_of_lt}
+use Rattle.amd_places.specs.Words.{size_of}
+use Rattle.std.specs.Prelude.{sum_by}
+use Rattle.std.proofs.Common.{add-le-add, le_refl}
 use Rattle.amd_places.proofs.making.make_element.Goals as goal
 
 pub named-from-requires-clause-is_one : goal.named-from-requires-clause-is_one
@@ -72,3 +76,66 @@ settle-requires-clause-fits g c =
     let f = subst (λ m. c.args.free + length (front_of c.args.iw.now c.args.nv.now c.args.pe.now c.args.len.now c.args.me m)
     ≤ length c.args.iw.now) (sym c.named-n_elements.ensures) c.requires.fits in
     let w = c.requires.narrow.1 in omega (arith, l, k, f, w)
+
+pub named-from-requires-clause-inside : goal.named-from-requires-clause-inside
+named-from-requires-clause-inside g c = lt_of_lt_of_le c.requires.pivot.0 (le_of_eq (sym c.requires.lengths.0))
+
+pub named-n_elements-requires-clause-inside : goal.named-n_elements-requires-clause-inside
+named-n_elements-requires-clause-inside g c = lt_of_lt_of_le c.requires.pivot.0 (le_of_eq (sym c.requires.lengths.1))
+
+pub named-n_elements-requires-clause-is_one : goal.named-n_elements-requires-clause-is_one
+named-n_elements-requires-clause-is_one g c = c.requires.count
+
+pub build-end-requires-clause-short : goal.build-end-requires-clause-short
+build-end-requires-clause-short g c = c.requires.short.0
+
+pub build-end-requires-clause-end : goal.build-end-requires-clause-end
+build-end-requires-clause-end g c = c.requires.end
+
+pub build-end-requires-clause-lengths : goal.build-end-requires-clause-lengths
+build-end-requires-clause-lengths g c = (c.requires.lengths.0, c.requires.lengths.2)
+
+pub build-end-requires-clause-pivot : goal.build-end-requires-clause-pivot
+build-end-requires-clause-pivot g c = c.requires.pivot
+
+pub build-end-requires-clause-clear : goal.build-end-requires-clause-clear
+build-end-requires-clause-clear g c = c.requires.clear
+
+pub build-end-requires-clause-few : goal.build-end-requires-clause-few
+build-end-requires-clause-few g c =
+    let front : ℕ → List ℕ = front_of c.args.iw.now c.args.nv.now c.args.pe.now c.args.len.now c.args.me in
+    let few : sum_by (size_of c.args.nv.now) (front c.named-n_elements.result) + 2 ≤ g.S.Signed.MOST =
+    subst (λ m. sum_by (size_of c.args.nv.now) (front m) + 2 ≤ g.S.Signed.MOST) (sym c.named-n_elements.ensures) c.requires.few in
+    lt_of_le_of_lt (le_trans (le-add_right (sum_by (size_of c.args.nv.now) (front c.named-n_elements.result)) 2) few) g.met.S.Signed.narrow
+
+pub absorb_own-requires-clause-lengths : goal.absorb_own-requires-clause-lengths
+absorb_own-requires-clause-lengths g c = c.requires.lengths.3 ∙ sym c.requires.lengths.0
+
+pub settle-requires-clause-row : goal.settle-requires-clause-row
+settle-requires-clause-row g c = let me = c.requires.pivot.0 in let l = c.requires.lengths in (
+  lt_of_lt_of_le me (le_of_eq (sym (c.absorb_own.ensures.lengths.0 ∙ l.0))),
+  lt_of_lt_of_le me (le_of_eq (sym l.1)),
+  lt_of_lt_of_le me (le_of_eq (sym l.2)),
+)
+
+pub returns-clause-long : goal.returns-clause-long
+returns-clause-long g c = c.absorb_own.ensures.lengths.1
+
+pub absorb_own-requires-clause-small : goal.absorb_own-requires-clause-small
+absorb_own-requires-clause-small g c = le_trans (add-le-add (le_of_lt c.requires.pivot.0) (le_refl 2)) c.requires.short.1
+
+pub settle-requires-clause-order : goal.settle-requires-clause-order
+settle-requires-clause-order g c = (c.build-end.ensures.grows, le_trans c.requires.end c.requires.narrow.0)
+
+pub settle-requires-clause-few : goal.settle-requires-clause-few
+settle-requires-clause-few g c =
+    subst (λ t. t + 2 ≤ g.S.Signed.MOST) (sym c.build-end.ensures.total_is)
+    (subst (λ m. sum_by (size_of c.args.nv.now)
+    (front_of c.args.iw.now c.args.nv.now c.args.pe.now c.args.len.now c.args.me m) + 2 ≤ g.S.Signed.MOST)
+    (sym c.named-n_elements.ensures) c.requires.few)
+
+pub returns-clause-builds : goal.returns-clause-builds
+returns-clause-builds g c = subst (λ m. Builds c.args.me
+    (front_of c.args.iw.now c.args.nv.now c.args.pe.now c.args.len.now c.args.me m)
+    c.args.iw.now c.args.nv.now c.args.free c.build-end.new.iw c.build-end.new.nv c.build-end.result.0 c.build-end.result.1)
+    c.named-n_elements.ensures c.build-end.ensures

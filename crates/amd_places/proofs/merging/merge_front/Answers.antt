@@ -1,3 +1,4 @@
+use borrow.Author.Count.{falls_down}
 use Rattle.std.proofs.Common.{ℕ, List, refl, sym, subst, ◌∙◌, ◌+◌, ◌-◌, ◌≤◌, arith, length}
 use Rattle.amd_places.specs.Words.{num, classes, rows}
 use Rattle.amd_views.specs.Rounds.{alike_in}
@@ -6,6 +7,8 @@ use Rattle.amd_places.proofs.FewMerged.{few_merged}
 use Rattle.amd_places.proofs.MergeEnds.{made_is, made_from, still_linked}
 use Rattle.amd_places.proofs.MergeState.{Merging, merging_none, all_merged, all_heads}
 use Rattle.amd_places.proofs.MergeWalk.{premises, classes_few, classes_end, step_ready, step_room, step_skips, step_settles}
+use Rattle.std.proofs.Common.{le_refl, le-add_right}
+use Rattle.amd_places.proofs.WordCounts.{before_fits}
 use Rattle.amd_places.proofs.merging.merge_front.Goals as goal
 
 pub classes-init : goal.classes-init
@@ -127,3 +130,30 @@ returns-clause-under g c = c.classes.invariant.merging.under
 
 pub returns-clause-zeros : goal.returns-clause-zeros
 returns-clause-zeros g c = c.classes.invariant.merging.zeros
+
+pub returns-then-count-lt2-clause-lengths : goal.returns-then-count-lt2-clause-lengths
+returns-then-count-lt2-clause-lengths g c = c.requires.lengths
+
+pub returns-then-count-lt2-clause-flag : goal.returns-then-count-lt2-clause-flag
+returns-then-count-lt2-clause-flag g c = (le_refl c.args.flag, le-add_right c.args.flag c.args.count)
+
+pub returns-then-count-lt2-clause-under : goal.returns-then-count-lt2-clause-under
+returns-then-count-lt2-clause-under g c = c.requires.under
+
+pub returns-then-count-lt2-clause-zeros : goal.returns-then-count-lt2-clause-zeros
+returns-then-count-lt2-clause-zeros g c x = refl
+
+pub overflow_sub-left : goal.overflow_sub-left
+overflow_sub-left g c = c.classes-test.true
+
+pub overflow_add-from : goal.overflow_add-from
+overflow_add-from g c = record {
+  fits = before_fits c.args.from c.classes.left c.args.count (length c.args.iw.now) c.classes.invariant.within c.requires.front.0
+      c.requires.short.0;
+}
+
+pub classes-smaller-then-is_class : goal.classes-smaller-then-is_class
+classes-smaller-then-is_class g c = falls_down c.classes.left c.classes-test.true
+
+pub classes-smaller : goal.classes-smaller
+classes-smaller g c = falls_down c.classes.left c.classes-test.true

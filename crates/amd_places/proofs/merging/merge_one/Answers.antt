@@ -7,6 +7,9 @@ use Rattle.amd_places.specs.Chains.{Chain}
 use Rattle.amd_places.specs.Merging.{bucket, words_of}
 use Rattle.amd_places.proofs.BucketWalk.{links_is}
 use Rattle.amd_places.proofs.WordMarks.{marked_below, marked_zero}
+use Rattle.std.proofs.Common.{le_refl, le-add_right, lt_of_le_of_lt, lt_irrefl, lt_of_lt_of_le, le_of_eq, ◌+◌}
+use Rattle.amd_places.specs.Words.{size_of, in_front}
+use Rattle.amd_places.proofs.merging.merge_one.Goals.{then-found-next, else-found-next}
 use Rattle.amd_places.proofs.merging.merge_one.Goals as goal
 
 pub returns-then-head-next-clause-settles : goal.returns-then-head-next-clause-settles
@@ -141,3 +144,59 @@ returns-clause-zeros g c x =
     ap (λ k. k == 0) (c.find-found.ensures.marked x)
     ∙ marked_zero (has (words_of c.args.iw.now c.args.pe.now c.args.len.now c.args.i) x) c.args.flag (num c.args.w.now x)
     (c.requires.ready.standing x) (c.requires.under x)
+
+pub returns-then-head-next-clause-lengths : goal.returns-then-head-next-clause-lengths
+returns-then-head-next-clause-lengths g c = let l = c.requires.lengths in
+    (l.0, l.1, l.2, l.3, l.4, c.push.auto.hash ∙ l.5, c.push.auto.next, l.7)
+
+pub returns-then-head-next-clause-flag : goal.returns-then-head-next-clause-flag
+returns-then-head-next-clause-flag g c = (le_refl c.args.flag, le-add_right c.args.flag 1)
+
+pub returns-then-head-next-clause-under : goal.returns-then-head-next-clause-under
+returns-then-head-next-clause-under g c = c.requires.under
+
+pub returns-then-head-next-clause-zeros : goal.returns-then-head-next-clause-zeros
+returns-then-head-next-clause-zeros g c x = refl
+
+pub returns-clause-flag : goal.returns-clause-flag
+returns-clause-flag g c = (le-add_right c.args.flag 1, le_refl (c.args.flag + 1))
+
+pub returns-clause-settles : goal.returns-clause-settles
+returns-clause-settles g c =
+    let next = c.args.next.now in let key_is = c.figure_at-key.ensures.is in
+    let head_is : c.figure_at-head.result ≡ num c.args.hash.now (num c.args.last.now c.args.i) = c.figure_at-head.ensures.is
+    ∙ ap (num c.args.hash.now) key_is in
+    elim c.if-found-next.branch [
+      | then-found-next w ↦ elim c.find-found.ensures.found [
+        | inl h ↦ inl (
+          c.find-found.result,
+          subst (λ k. has (bucket next k) c.find-found.result ≡ true) head_is h.1,
+          h.2,
+          record {
+            links = w.pe-is ∙ w.merge.ensures.links;
+            lists = w.e_len-is ∙ w.merge.ensures.lists;
+            sizes = λ x. ap (λ l. size_of l x) w.nv-is ∙ w.merge.ensures.sizes x;
+            front = λ x. ap (λ l. in_front l x) w.nv-is ∙ w.merge.ensures.front x;
+            heads = w.hash-is;
+            nexts = w.next-is;
+          },
+        )
+        | inr h ↦ absurd (lt_irrefl _ (lt_of_lt_of_le w.if-found-next.true (le_of_eq (sym h.0))))
+      ]
+      | else-found-next w ↦ elim c.find-found.ensures.found [
+        | inl h ↦ absurd (lt_irrefl _ (lt_of_lt_of_le h.0 w.if-found-next.false))
+        | inr h ↦ inr (
+          (λ x m. h.1 x (subst (λ k. has (bucket next k) x ≡ true) (sym head_is) m)),
+          record {
+            heads = w.hash-is ∙ w.push-else-found-next.ensures.heads ∙ ap (λ k. set c.args.hash.now k c.args.i) key_is;
+            nexts = w.next-is ∙ w.push-else-found-next.ensures.links ∙ ap (λ k. set next c.args.i (num c.args.hash.now k)) key_is;
+            links = w.pe-is;
+            lists = w.e_len-is;
+            sizes = w.nv-is;
+          },
+        )
+      ]
+    ]
+
+pub overflow_add-result : goal.overflow_add-result
+overflow_add-result g c = record { fits = lt_of_le_of_lt c.requires.room g.met.U.Unsigned.narrow }

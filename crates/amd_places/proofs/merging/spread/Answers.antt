@@ -1,6 +1,8 @@
 use Rattle.std.proofs.Common.{ℕ, ℤ, List, ◌≡◌, ◌<◌, ◌≤◌, ◌+◌, ◌-◌, refl, sym, ap, subst, ◌∙◌, arith, length, length-set, set}
 use Rattle.amd_places.specs.Words.{word, place, is_place}
 use Rattle.amd_places.proofs.WordMarks.{Marked, marked_none, marked_more}
+use Rattle.std.proofs.Common.{add-sub_of_le, le-add_right}
+use Rattle.amd_places.proofs.WordCounts.{all_passed, next_place, within_count}
 use Rattle.amd_places.proofs.merging.spread.Goals as goal
 
 pub loop-q-init : goal.loop-q-init
@@ -10,14 +12,14 @@ pub named-x-requires-clause-is_one : goal.named-x-requires-clause-is_one
 named-x-requires-clause-is_one g c =
     let from : ℕ = c.args.from in let q : ℕ = c.loop-q.q in let k : ℕ = q - from in let after : from ≤ q = c.loop-q.auto.q in let t =
     c.loop-q-test.true in
-    let at : from + k ≡ q = omega (arith, after) in let l : k < c.args.count = omega (arith, after, t) in
+    let at : from + k ≡ q = add-sub_of_le after in let l : k < c.args.count = within_count after t in
     ap (λ m. is_place (word c.args.iw.now m)) (sym at) ∙ (c.requires.names k l).0
 
 pub put_figure-requires-clause-inside : goal.put_figure-requires-clause-inside
 put_figure-requires-clause-inside g c =
     let iw : List ℤ = c.args.iw.now in let from : ℕ = c.args.from in let q : ℕ = c.loop-q.q in let k : ℕ = q - from in
     let after : from ≤ q = c.loop-q.auto.q in let t = c.loop-q-test.true in
-    let at : from + k ≡ q = omega (arith, after) in let l : k < c.args.count = omega (arith, after, t) in
+    let at : from + k ≡ q = add-sub_of_le after in let l : k < c.args.count = within_count after t in
     let is : c.named-x.result ≡ place (word iw (from + k)) = c.named-x.ensures ∙ ap (λ m. place (word iw m)) (sym at) in
     let b = (c.requires.names k l).1 in let long = c.loop-q.invariant.long in omega (arith, b, is, long)
 
@@ -25,8 +27,8 @@ pub loop-q-preserved : goal.loop-q-preserved
 loop-q-preserved g c =
     let iw : List ℤ = c.args.iw.now in let from : ℕ = c.args.from in let q : ℕ = c.loop-q.q in let k : ℕ = q - from in
     let after : from ≤ q = c.loop-q.auto.q in let t = c.loop-q-test.true in
-    let at : from + k ≡ q = omega (arith, after) in let l : k < c.args.count = omega (arith, after, t) in
-    let next : q + 1 - from ≡ k + 1 = omega (arith, after) in
+    let at : from + k ≡ q = add-sub_of_le after in let l : k < c.args.count = within_count after t in
+    let next : q + 1 - from ≡ k + 1 = next_place after in
     let is : c.named-x.result ≡ place (word iw (from + k)) = c.named-x.ensures ∙ ap (λ m. place (word iw m)) (sym at) in
     let b = (c.requires.names k l).1 in let long = c.loop-q.invariant.long in let small : c.named-x.result < length c.loop-q.w =
     omega (arith, b, is, long) in
@@ -39,6 +41,6 @@ loop-q-preserved g c =
 
 pub returns-clause-marked : goal.returns-clause-marked
 returns-clause-marked g c = let t = c.loop-q-test.false in let after : c.args.from ≤ c.loop-q.q = c.loop-q.auto.q in
-    let past : c.loop-q.q ≤ c.args.from + c.args.count = c.loop-q.auto.q-end (omega arith) in
-    let all : c.loop-q.q - c.args.from ≡ c.args.count = omega (arith, t, after, past) in
+    let past : c.loop-q.q ≤ c.args.from + c.args.count = c.loop-q.auto.q-end (le-add_right _ _) in
+    let all : c.loop-q.q - c.args.from ≡ c.args.count = all_passed _ _ _ after past t in
     subst (λ m. Marked c.args.iw.now c.args.from m c.args.flag c.args.w.now c.loop-q.w) all c.loop-q.invariant.marked

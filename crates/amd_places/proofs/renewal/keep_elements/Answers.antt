@@ -1,4 +1,4 @@
-use Rattle.std.proofs.Common.{ℕ, ℤ, List, true, false, cond, inl, inr, ◌≡◌, ◌<◌, ◌≤◌, ◌+◌, ◌-◌}
+use Rattle.std.proofs.Common.{ℕ, ℤ, List, true, false, cond, inl, inr, ◌≡◌, ◌<◌, ◌≤◌, ◌+◌, ◌-◌, add-sub_of_le, le-add_right, add-zero}
 use Rattle.std.proofs.Common.{◌%◌, ◌^◌, sym, ap, subst, ◌∙◌, arith, length}
 use Rattle.std.specs.Prelude.{nat_lt, filter, slice_set}
 use Rattle.std.proofs.lemmas.Bool.{lt-ltb, le-ltb, cases_eq}
@@ -7,10 +7,12 @@ use Rattle.amd_places.specs.Words.{num, word, place, is_place, rows}
 use Rattle.amd_views.proofs.Lists.Cuts.{cut_min, cut_more}
 use Rattle.amd_places.specs.Renewal.{is_kept, hashed, Filters}
 use Rattle.amd_places.proofs.Filtering.{filters_none, filters_no, filters_yes, hashed_none, hashed_no, hashed_yes}
+use Rattle.std.proofs.Common.{lt_of_le_of_lt, lt_of_lt_of_le, le_trans, lt_trans, le_of_eq, lit<, falls}
+use Rattle.amd_places.proofs.WordCounts.{all_passed, next_place, none_passed, within_count}
 use Rattle.amd_places.proofs.renewal.keep_elements.Goals as goal
 
 pub loop-p-init : goal.loop-p-init
-loop-p-init g c = let e : c.args.from - c.args.from ≡ 0 = omega arith in record {
+loop-p-init g c = let e : c.args.from - c.args.from ≡ 0 = none_passed c.args.from in record {
   filters = subst (λ m. Filters (length c.args.w.now) (is_kept c.args.w.now) (λ e.
       num c.args.w.now e - c.args.flag) 0 c.args.iw.now c.args.from m c.args.from c.args.iw.now c.args.from 0) (sym e)
       (filters_none (length c.args.w.now) (is_kept c.args.w.now) (λ e.
@@ -22,7 +24,7 @@ pub named-e-requires-clause-is_one : goal.named-e-requires-clause-is_one
 named-e-requires-clause-is_one g c =
     let iw : List ℤ = c.args.iw.now in let from : ℕ = c.args.from in let p : ℕ = c.loop-p.p in let k : ℕ = p - from in
     let after : from ≤ p = c.loop-p.auto.p in let t = c.loop-p-test.true in
-    let at : p ≡ from + k = omega (arith, after) in let l : k < c.args.count = omega (arith, after, t) in
+    let at : p ≡ from + k = sym (add-sub_of_le after) in let l : k < c.args.count = within_count after t in
     let h = c.loop-p.invariant.filters in let word_k = c.requires.names k l in let high = h.high in
     let same : word c.loop-p.iw p ≡ word iw p = h.above p (omega (arith, high, at)) in
     let is_one : is_place (word iw p) ≡ true = ap (λ m. is_place (word iw m)) at ∙ word_k.0 in
@@ -32,25 +34,23 @@ pub figure_at-counter-requires : goal.figure_at-counter-requires
 figure_at-counter-requires g c =
     let iw : List ℤ = c.args.iw.now in let from : ℕ = c.args.from in let p : ℕ = c.loop-p.p in let k : ℕ = p - from in
     let after : from ≤ p = c.loop-p.auto.p in let t = c.loop-p-test.true in
-    let at : p ≡ from + k = omega (arith, after) in let l : k < c.args.count = omega (arith, after, t) in
+    let at : p ≡ from + k = sym (add-sub_of_le after) in let l : k < c.args.count = within_count after t in
     let h = c.loop-p.invariant.filters in let word_k = c.requires.names k l in let high = h.high in
     let same : word c.loop-p.iw p ≡ word iw p = h.above p (omega (arith, high, at)) in
-    let small : place (word iw p) < length c.args.w.now = (let a = ap (λ m. place (word iw m)) at in let b = word_k.1 in
-    omega (arith, a, b)) in
+    let small : place (word iw p) < length c.args.w.now = lt_of_le_of_lt (le_of_eq (ap (λ m. place (word iw m)) at)) word_k.1 in
     let row : c.named-e.result ≡ place (word iw p) = c.named-e.ensures ∙ ap place same in
-    omega (arith, row, small)
+    lt_of_le_of_lt (le_of_eq row) small
 
 pub loop-p-preserved : goal.loop-p-preserved
 loop-p-preserved g c =
     let iw : List ℤ = c.args.iw.now in let from : ℕ = c.args.from in let p : ℕ = c.loop-p.p in let k : ℕ = p - from in
     let after : from ≤ p = c.loop-p.auto.p in let t = c.loop-p-test.true in
-    let at : p ≡ from + k = omega (arith, after) in let l : k < c.args.count = omega (arith, after, t) in
-    let next : p + 1 - from ≡ k + 1 = omega (arith, after) in
+    let at : p ≡ from + k = sym (add-sub_of_le after) in let l : k < c.args.count = within_count after t in
+    let next : p + 1 - from ≡ k + 1 = next_place after in
     let h = c.loop-p.invariant.filters in let word_k = c.requires.names k l in let high = h.high in
     let same : word c.loop-p.iw p ≡ word iw p = h.above p (omega (arith, high, at)) in
     let is_one : is_place (word iw p) ≡ true = ap (λ m. is_place (word iw m)) at ∙ word_k.0 in
-    let small : place (word iw p) < length c.args.w.now = (let a = ap (λ m. place (word iw m)) at in let b = word_k.1 in
-    omega (arith, a, b)) in
+    let small : place (word iw p) < length c.args.w.now = lt_of_le_of_lt (le_of_eq (ap (λ m. place (word iw m)) at)) word_k.1 in
     let row : c.named-e.result ≡ place (word iw p) = c.named-e.ensures ∙ ap place same in
     let w0 : List ℕ = c.args.w.now in let there : c.named-e.result ≡ place (word iw (from + k)) = row ∙ ap (λ m. place (word iw m)) at in
     let read : c.figure_at-counter.result ≡ num w0 c.named-e.result = c.figure_at-counter.ensures.is in
@@ -61,14 +61,14 @@ loop-p-preserved g c =
     ∙ cut_min _ ∙ ap (λ m. cut (c.loop-p.outside + m)) c.saturating_sub.ensures in
     let now : List ℤ = c.loop-p.iw in let moved : List ℤ = slice_set now c.loop-p.end (word now p) in
     elim (cases_eq x 0) [
-      | inl none ↦ (let no : nat_lt 0 x ≡ false = le-ltb 0 x (omega (arith, none)) in
+      | inl none ↦ (let no : nat_lt 0 x ≡ false = le-ltb 0 x (le_of_eq none) in
           let stays : c.saturating_add-outside.result ≡ c.loop-p.outside = total
           ∙ ap (λ m. cut (c.loop-p.outside + m)) (omega (arith, none)) ∙ cut_more c.loop-p.outside _ 0 h.sum_is
           ∙ ap cut (omega arith) ∙ sym h.sum_is in
           let words : c.keep_word.new.iw ≡ now = c.keep_word.ensures ∙ ap (λ b. cond b moved now) no in
           let ends : c.where_kept-end.result ≡ 0 = c.where_kept-end.ensures ∙ ap (λ b. cond b 1 0) no in
           let adds : c.where_kept-hash.result ≡ 0 = c.where_kept-hash.ensures ∙ ap (λ b. cond b c.named-e.result 0) no in
-          let stands : c.loop-p.end + c.where_kept-end.result ≡ c.loop-p.end = omega (arith, ends) in
+          let stands : c.loop-p.end + c.where_kept-end.result ≡ c.loop-p.end = ap (λ m. c.loop-p.end + m) ends ∙ add-zero c.loop-p.end in
           let is = c.loop-p.invariant.hash in
           let sums : (c.loop-p.hash + c.where_kept-hash.result) % 2 ^ 64 ≡ c.loop-p.hash = omega (arith, adds, is) in
           rw (words, stands, sums, stays, next) record {
@@ -90,13 +90,23 @@ loop-p-preserved g c =
 
 pub returns-clause-hash : goal.returns-clause-hash
 returns-clause-hash g c = let t = c.loop-p-test.false in let after : c.args.from ≤ c.loop-p.p = c.loop-p.auto.p in
-    let past : c.loop-p.p ≤ c.args.from + c.args.count = c.loop-p.auto.p-end (omega arith) in
-    let all : c.loop-p.p - c.args.from ≡ c.args.count = omega (arith, t, after, past) in
+    let past : c.loop-p.p ≤ c.args.from + c.args.count = c.loop-p.auto.p-end (le-add_right _ _) in
+    let all : c.loop-p.p - c.args.from ≡ c.args.count = all_passed _ _ _ after past t in
     c.loop-p.invariant.hash ∙ ap (λ m. hashed 0 (filter (is_kept c.args.w.now) (rows c.args.iw.now c.args.from m))) all
 
 pub returns-clause-filters : goal.returns-clause-filters
 returns-clause-filters g c = let t = c.loop-p-test.false in let after : c.args.from ≤ c.loop-p.p = c.loop-p.auto.p in
-    let past : c.loop-p.p ≤ c.args.from + c.args.count = c.loop-p.auto.p-end (omega arith) in
-    let all : c.loop-p.p - c.args.from ≡ c.args.count = omega (arith, t, after, past) in
+    let past : c.loop-p.p ≤ c.args.from + c.args.count = c.loop-p.auto.p-end (le-add_right _ _) in
+    let all : c.loop-p.p - c.args.from ≡ c.args.count = all_passed _ _ _ after past t in
     subst (λ m. Filters (length c.args.w.now) (is_kept c.args.w.now) (λ e. num c.args.w.now e - c.args.flag) 0 c.args.iw.now c.args.from m
     c.args.from c.loop-p.iw c.loop-p.end c.loop-p.outside) all c.loop-p.invariant.filters
+
+pub overflow_add-p-end : goal.overflow_add-p-end
+overflow_add-p-end g c = record { fits = lt_of_le_of_lt c.requires.inside (lt_trans c.requires.short (lit< tt)) }
+
+pub named-e-requires-clause-inside : goal.named-e-requires-clause-inside
+named-e-requires-clause-inside g c = lt_of_lt_of_le c.loop-p-test.true
+    (le_trans c.requires.inside (le_of_eq (sym c.loop-p.invariant.filters.long)))
+
+pub loop-p-smaller : goal.loop-p-smaller
+loop-p-smaller g c = falls (c.args.from + c.args.count) c.loop-p.p c.loop-p-test.true

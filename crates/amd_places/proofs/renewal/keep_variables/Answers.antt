@@ -1,15 +1,16 @@
-use Rattle.std.proofs.Common.{ℕ, ℤ, List, true, ◌≡◌, ◌<◌, ◌≤◌, ◌+◌, ◌-◌, sym, ap, subst, ◌∙◌, arith, length}
+use Rattle.std.proofs.Common.{ℕ, ℤ, List, true, ◌≡◌, ◌<◌, ◌≤◌, ◌+◌, ◌-◌, sym, ap, subst, ◌∙◌, arith, length, add-sub_of_le, le-add_right}
 use Rattle.std.specs.Prelude.{filter}
 use Rattle.amd_model.specs.Figures.{cut}
 use Rattle.amd_views.proofs.Lists.Cuts.{cut_min}
 use Rattle.amd_places.specs.Words.{word, place, is_place, size_of, rows}
 use Rattle.amd_places.specs.Renewal.{is_outside, hashed, Filters}
 use Rattle.amd_places.proofs.Filtering.{filters_none, filters_no, filters_yes, hashed_none, hashed_no, hashed_yes}
+use Rattle.amd_places.proofs.WordCounts.{all_passed, next_place, none_passed, within_count}
 use Rattle.amd_places.proofs.renewal.keep_variables.Goals as goal
 use Rattle.amd_places.proofs.renewal.keep_variables.Goals.{then-is_open, else-is_open}
 
 pub loop-p-init : goal.loop-p-init
-loop-p-init g c = let e : c.args.from - c.args.from ≡ 0 = omega arith in let fits = c.ranges.first.fits in record {
+loop-p-init g c = let e : c.args.from - c.args.from ≡ 0 = none_passed c.args.from in let fits = c.ranges.first.fits in record {
   filters = subst (λ m. Filters (length c.args.nv.now) (is_outside c.args.nv.now) (size_of c.args.nv.now)
       c.args.first c.args.iw.now c.args.from m c.args.to c.args.iw.now c.args.to c.args.first) (sym e)
       (filters_none (length c.args.nv.now) (is_outside c.args.nv.now) (size_of c.args.nv.now)
@@ -21,7 +22,7 @@ pub named-j-requires-clause-is_one : goal.named-j-requires-clause-is_one
 named-j-requires-clause-is_one g c =
     let iw : List ℤ = c.args.iw.now in let from : ℕ = c.args.from in let p : ℕ = c.loop-p.p in let k : ℕ = p - from in
     let after : from ≤ p = c.loop-p.auto.p in let t = c.loop-p-test.true in
-    let at : p ≡ from + k = omega (arith, after) in let l : k < c.args.count = omega (arith, after, t) in
+    let at : p ≡ from + k = sym (add-sub_of_le after) in let l : k < c.args.count = within_count after t in
     let h = c.loop-p.invariant.filters in let word_k = c.requires.names k l in let high = h.high in let down = c.requires.down in
     let same : word c.loop-p.iw p ≡ word iw p = h.above p (omega (arith, high, at, down)) in
     let is_one : is_place (word iw p) ≡ true = ap (λ m. is_place (word iw m)) at ∙ word_k.0 in
@@ -31,7 +32,7 @@ pub is_open-requires : goal.is_open-requires
 is_open-requires g c =
     let iw : List ℤ = c.args.iw.now in let from : ℕ = c.args.from in let p : ℕ = c.loop-p.p in let k : ℕ = p - from in
     let after : from ≤ p = c.loop-p.auto.p in let t = c.loop-p-test.true in
-    let at : p ≡ from + k = omega (arith, after) in let l : k < c.args.count = omega (arith, after, t) in
+    let at : p ≡ from + k = sym (add-sub_of_le after) in let l : k < c.args.count = within_count after t in
     let h = c.loop-p.invariant.filters in let word_k = c.requires.names k l in let high = h.high in let down = c.requires.down in
     let same : word c.loop-p.iw p ≡ word iw p = h.above p (omega (arith, high, at, down)) in
     let small : place (word iw p) < length c.args.nv.now = (let a = ap (λ m. place (word iw m)) at in let b = word_k.1 in
@@ -43,7 +44,7 @@ pub size_outside-more-requires-clause-inside : goal.size_outside-more-requires-c
 size_outside-more-requires-clause-inside g c =
     let iw : List ℤ = c.args.iw.now in let from : ℕ = c.args.from in let p : ℕ = c.loop-p.p in let k : ℕ = p - from in
     let after : from ≤ p = c.loop-p.auto.p in let t = c.loop-p-test.true in
-    let at : p ≡ from + k = omega (arith, after) in let l : k < c.args.count = omega (arith, after, t) in
+    let at : p ≡ from + k = sym (add-sub_of_le after) in let l : k < c.args.count = within_count after t in
     let h = c.loop-p.invariant.filters in let word_k = c.requires.names k l in let high = h.high in let down = c.requires.down in
     let same : word c.loop-p.iw p ≡ word iw p = h.above p (omega (arith, high, at, down)) in
     let small : place (word iw p) < length c.args.nv.now = (let a = ap (λ m. place (word iw m)) at in let b = word_k.1 in
@@ -55,8 +56,8 @@ pub loop-p-preserved : goal.loop-p-preserved
 loop-p-preserved g c =
     let iw : List ℤ = c.args.iw.now in let from : ℕ = c.args.from in let p : ℕ = c.loop-p.p in let k : ℕ = p - from in
     let after : from ≤ p = c.loop-p.auto.p in let t = c.loop-p-test.true in
-    let at : p ≡ from + k = omega (arith, after) in let l : k < c.args.count = omega (arith, after, t) in
-    let next : p + 1 - from ≡ k + 1 = omega (arith, after) in
+    let at : p ≡ from + k = sym (add-sub_of_le after) in let l : k < c.args.count = within_count after t in
+    let next : p + 1 - from ≡ k + 1 = next_place after in
     let h = c.loop-p.invariant.filters in let word_k = c.requires.names k l in let high = h.high in let down = c.requires.down in
     let same : word c.loop-p.iw p ≡ word iw p = h.above p (omega (arith, high, at, down)) in
     let is_one : is_place (word iw p) ≡ true = ap (λ m. is_place (word iw m)) at ∙ word_k.0 in
@@ -87,13 +88,13 @@ loop-p-preserved g c =
 
 pub returns-clause-hash : goal.returns-clause-hash
 returns-clause-hash g c = let t = c.loop-p-test.false in let after : c.args.from ≤ c.loop-p.p = c.loop-p.auto.p in
-    let past : c.loop-p.p ≤ c.args.from + c.args.count = c.loop-p.auto.p-end (omega arith) in
-    let all : c.loop-p.p - c.args.from ≡ c.args.count = omega (arith, t, after, past) in
+    let past : c.loop-p.p ≤ c.args.from + c.args.count = c.loop-p.auto.p-end (le-add_right _ _) in
+    let all : c.loop-p.p - c.args.from ≡ c.args.count = all_passed _ _ _ after past t in
     c.loop-p.invariant.hash ∙ ap (λ m. hashed c.args.sum (filter (is_outside c.args.nv.now) (rows c.args.iw.now c.args.from m))) all
 
 pub returns-clause-filters : goal.returns-clause-filters
 returns-clause-filters g c = let t = c.loop-p-test.false in let after : c.args.from ≤ c.loop-p.p = c.loop-p.auto.p in
-    let past : c.loop-p.p ≤ c.args.from + c.args.count = c.loop-p.auto.p-end (omega arith) in
-    let all : c.loop-p.p - c.args.from ≡ c.args.count = omega (arith, t, after, past) in
+    let past : c.loop-p.p ≤ c.args.from + c.args.count = c.loop-p.auto.p-end (le-add_right _ _) in
+    let all : c.loop-p.p - c.args.from ≡ c.args.count = all_passed _ _ _ after past t in
     subst (λ m. Filters (length c.args.nv.now) (is_outside c.args.nv.now) (size_of c.args.nv.now) c.args.first c.args.iw.now c.args.from m
     c.args.to c.loop-p.iw c.loop-p.end c.loop-p.outside) all c.loop-p.invariant.filters

@@ -1,6 +1,6 @@
 -- The goals of restoring::restore.
 use Rattle.amd_model.proofs.Counting.Below.{clash}
-use Rattle.std.proofs.Common.{ℕ, ℤ, Bool, List, [], ◌∷◌, true, false, ◌≡◌, ◌<◌, ◌≤◌, ◌+◌, ◌-◌, ◌&&◌}
+use Rattle.std.proofs.Common.{ℕ, ℤ, Bool, List, [], ◌∷◌, true, false, ◌≡◌, ◌<◌, ◌≤◌, ◌+◌, ◌-◌, ◌&&◌, le-add_right}
 use Rattle.std.proofs.Common.{not, inl, inr, refl, sym, ap, subst, ◌∙◌}
 use Rattle.std.proofs.Common.{arith, cond, length, fold, set, get_or-set_same, get_or-set_other}
 use Rattle.std.specs.Prelude.{min, nat_lt, ◌==◌}
@@ -24,6 +24,8 @@ use Rattle.amd_places.proofs.Meeting.{both_not}
 use Rattle.amd_places.proofs.FrontBack.{Emptying, emptying_none, emptying_skips, emptying_clears, emptying_all}
 use Rattle.amd_places.proofs.FrontBack.{marked_none, marked_next, marked_skip}
 use Rattle.amd_places.proofs.FrontBack.{rows_other, rows_fresh, rows_small, put_none, put_more, put_gives, no_head}
+use Rattle.std.proofs.Common.{lt_of_le_of_lt, lt_of_lt_of_le, le_trans, lt_trans, le_of_eq, lit<, falls, add-sub_of_le}
+use Rattle.amd_places.proofs.WordCounts.{all_passed, next_place, none_passed, within_count}
 use Rattle.amd_places.proofs.restoring.restore.Goals as goal
 use Rattle.amd_places.proofs.restoring.restore.Goals.{then-is_marked, else-is_marked}
 
@@ -31,7 +33,7 @@ use Rattle.amd_places.proofs.restoring.restore.Goals.{then-is_marked, else-is_ma
 module _ {n m : ℕ} {pass : ℕ → Bool} {share : ℕ → ℕ} {iw iw' : List ℤ} {from count p end : ℕ} (names : Names n iw from count)
     (after : from ≤ p) (l : p - from < count) (h : Filters m pass share 0 iw from (p - from) from iw' end 0) where
   word_same : word iw' p ≡ word iw (from + (p - from))
-  word_same = let at : p ≡ from + (p - from) = omega (arith, after) in let high = h.high in
+  word_same = let at : p ≡ from + (p - from) = sym (add-sub_of_le after) in let high = h.high in
       h.above p (omega (arith, high, at)) ∙ ap (word iw) at
 
   word_row : place (word iw' p) ≡ place (word iw (from + (p - from)))
@@ -78,7 +80,7 @@ unfolding has
 loop-p-init g c =
     let iw : List ℤ = c.args.iw.now in let nv : List ℤ = c.args.nv.now in let from : ℕ = c.args.from in
     let n : ℕ = length c.args.next.now in
-    let e : from - from ≡ 0 = omega arith in let none = marked_none nv iw from in record {
+    let e : from - from ≡ 0 = none_passed from in let none = marked_none nv iw from in record {
       lengths = c.requires.lengths;
       filters = subst (λ m. Filters n (in_front nv) (λ j. 0) 0 iw from m from iw from 0) (sym e)
           (filters_none n (in_front nv) (λ j. 0) 0 iw from from (omega arith));
@@ -111,7 +113,7 @@ place_class-bound-requires g c =
     let iw : List ℤ = c.args.iw.now in let nv : List ℤ = c.args.nv.now in let degree : List ℕ = c.args.degree.now in
     let from : ℕ = c.args.from in let k : ℕ = c.loop-p.p - from in
     let after : from ≤ c.loop-p.p = c.loop-p.auto.p in let t = c.loop-p-test.true in
-    let l : k < c.args.count = omega (arith, after, t) in
+    let l : k < c.args.count = within_count after t in
     let was = c.loop-p.invariant in let i : ℕ = c.named-i.result in
     let is : i ≡ place (word iw (from + k)) = c.named-i.ensures ∙ word_row c.requires.front.1 after l was.filters in
     let small = (c.requires.front.1 k l).1 in
@@ -128,30 +130,30 @@ place_class-bound-requires g c =
     let old = c.requires.classes i named (sym mark_same ∙ here) in let s = was.restores.sizes i in let order = c.requires.order in
     let short = c.requires.short in let n = sym next in record {
       lengths = (long.0 ∙ n, long.1 ∙ n, long.2 ∙ n, long.4 ∙ n, long.5 ∙ n);
-      short = (let a = short.1 in omega (arith, a, next), (let a = short.2 in omega (arith, a, next)));
-      row = omega (arith, is, small, next);
+      short = (subst (λ q. q + 2 ≤ g.S.Signed.MOST) n short.1, le_trans (le_of_eq next) short.2);
+      row = lt_of_le_of_lt (le_of_eq is) (lt_of_lt_of_le small (le_of_eq n));
       marked = here;
       class = record {
-        class = (let a = old.class in omega (arith, a, s));
-        part = (let a = old.part in omega (arith, a, s));
-        bound = (let a = old.bound in omega (arith, a, bound_same, next));
-        key = (let a = old.key in omega (arith, a, last_same, next));
+        class = lt_of_lt_of_le old.class (le_of_eq (sym s));
+        part = le_trans (le_of_eq s) old.part;
+        bound = lt_of_le_of_lt (le_of_eq bound_same) (lt_of_lt_of_le old.bound (le_of_eq n));
+        key = lt_of_le_of_lt (le_of_eq last_same) (lt_of_lt_of_le old.key (le_of_eq n));
       };
-      order = (order.0, (let a = order.1 in omega (arith, a, next)));
+      order = (order.0, le_trans order.1 (le_of_eq n));
     }
 
 pub loop-p-preserved : goal.loop-p-preserved
 loop-p-preserved g c =
     let iw : List ℤ = c.args.iw.now in let nv : List ℤ = c.args.nv.now in let degree : List ℕ = c.args.degree.now in
     let n : ℕ = length c.args.next.now in let from : ℕ = c.args.from in let p : ℕ = c.loop-p.p in let k : ℕ = p - from in
-    let after : from ≤ p = c.loop-p.auto.p in let t = c.loop-p-test.true in let at : p ≡ from + k = omega (arith, after) in
-    let l : k < c.args.count = omega (arith, after, t) in let next : p + 1 - from ≡ k + 1 = omega (arith, after) in
+    let after : from ≤ p = c.loop-p.auto.p in let t = c.loop-p-test.true in let at : p ≡ from + k = sym (add-sub_of_le after) in
+    let l : k < c.args.count = within_count after t in let next : p + 1 - from ≡ k + 1 = next_place after in
     let was = c.loop-p.invariant in let h = was.filters in let word_k = c.requires.front.1 k l in
     let is_one : is_place (word iw p) ≡ true = ap (λ m. is_place (word iw m)) at ∙ word_k.0 in
-    let small : place (word iw p) < n = (let a = ap (λ m. place (word iw m)) at in let b = word_k.1 in omega (arith, a, b)) in
+    let small : place (word iw p) < n = lt_of_le_of_lt (le_of_eq (ap (λ m. place (word iw m)) at)) word_k.1 in
     let i : ℕ = c.named-i.result in
     let is : i ≡ place (word iw (from + k)) = c.named-i.ensures ∙ word_row c.requires.front.1 after l h in
-    let tiny : i < n = (let a = word_k.1 in omega (arith, is, a)) in
+    let tiny : i < n = lt_of_le_of_lt (le_of_eq is) word_k.1 in
     let rows_next_is : rows iw from (p + 1 - from) ≡ rows iw from (k + 1) = ap (rows iw from) next in
     let named : has (rows iw from c.args.count) i ≡ true = ap (has (rows iw from c.args.count)) is ∙ rows_has iw from c.args.count k l in
     let fresh : has (rows iw from k) i ≡ false = ap (has (rows iw from k)) is ∙ fresh_word iw from c.args.count k l c.requires.front.2 in
@@ -206,7 +208,8 @@ loop-p-preserved g c =
                   ∙ ap (λ z. in_front nv j && not z) (sym (rows_next iw from k j));
               bounds = each_next iw from k (num degree) (num c.loop-p.degree) (λ x. cond (in_front nv x) (bound x) (num degree x))
                   was.restores.bounds i is fresh (num w.place_class-bound.new.degree)
-                  (λ q. ap (λ ds. num ds i) e.degrees ∙ get_or-set_same c.loop-p.degree i b 0 (omega (arith, tiny, long)) ∙ bound_is
+                  (λ q. ap (λ ds. num ds i) e.degrees
+                  ∙ get_or-set_same c.loop-p.degree i b 0 (lt_of_lt_of_le tiny (le_of_eq (sym long.1))) ∙ bound_is
                   ∙ sym (cond-true (in_front nv i) (bound i) (num degree i) here))
                   (λ x ne. ap (λ ds. num ds x) e.degrees ∙ get_or-set_other c.loop-p.degree i x b 0 ne);
               least_is = w.min-low.ensures ∙ ap (λ m. min m b) was.restores.least_is ∙ ap (min (fold f c.args.least met)) bound_is
@@ -224,7 +227,8 @@ loop-p-preserved g c =
             linked = λ lists out g.
                 let before = subst (λ m. DegreeLists m c.loop-p.head c.loop-p.next c.loop-p.last c.loop-p.degree (put_all bound met lists))
                 (sym long.3) (was.linked lists out g) in
-                let put = e.linked (put_all bound met lists) (λ d s. out_met lists out d i (omega (arith, s, long)) named fresh) before in
+                let put = e.linked (put_all bound met lists)
+                (λ d s. out_met lists out d i (lt_of_lt_of_le s (le_of_eq long.3)) named fresh) before in
                 linked_as (λ m. put_all bound (marked_in nv (rows iw from m)) lists) next w.head-is w.next-is w.last-is w.degree-is
                 (lists_same n _ _ _ _ (λ d. cond (d == b) (i ∷ put_all bound met lists d) (put_all bound met lists d)) _
                 (λ d s. ap (λ m. cond (d == m) (i ∷ put_all bound met lists d) (put_all bound met lists d)) bound_is
@@ -277,24 +281,24 @@ loop-p-preserved g c =
 pub returns-clause-filters : goal.returns-clause-filters
 returns-clause-filters g c =
     let t = c.loop-p-test.false in let after : c.args.from ≤ c.loop-p.p = c.loop-p.auto.p in
-    let past : c.loop-p.p ≤ c.args.from + c.args.count = c.loop-p.auto.p-end (omega arith) in
-    let all : c.loop-p.p - c.args.from ≡ c.args.count = omega (arith, t, after, past) in
+    let past : c.loop-p.p ≤ c.args.from + c.args.count = c.loop-p.auto.p-end (le-add_right _ _) in
+    let all : c.loop-p.p - c.args.from ≡ c.args.count = all_passed _ _ _ after past t in
     subst (λ m. Filters (length c.args.next.now) (in_front c.args.nv.now) (λ j. 0) 0 c.args.iw.now c.args.from m c.args.from c.loop-p.iw
     c.loop-p.end 0) all c.loop-p.invariant.filters
 
 pub returns-clause-placed : goal.returns-clause-placed
 returns-clause-placed g c =
     let t = c.loop-p-test.false in let after : c.args.from ≤ c.loop-p.p = c.loop-p.auto.p in
-    let past : c.loop-p.p ≤ c.args.from + c.args.count = c.loop-p.auto.p-end (omega arith) in
-    let all : c.loop-p.p - c.args.from ≡ c.args.count = omega (arith, t, after, past) in
+    let past : c.loop-p.p ≤ c.args.from + c.args.count = c.loop-p.auto.p-end (le-add_right _ _) in
+    let all : c.loop-p.p - c.args.from ≡ c.args.count = all_passed _ _ _ after past t in
     subst (λ m. Restores (rows c.args.iw.now c.args.from m) c.args.border c.args.left c.args.least c.args.nv.now c.args.degree.now
     c.loop-p.nv c.loop-p.degree c.loop-p.low) all c.loop-p.invariant.restores
 
 pub returns-clause-empty : goal.returns-clause-empty
 returns-clause-empty g c =
     let t = c.loop-p-test.false in let after : c.args.from ≤ c.loop-p.p = c.loop-p.auto.p in
-    let past : c.loop-p.p ≤ c.args.from + c.args.count = c.loop-p.auto.p-end (omega arith) in
-    let all : c.loop-p.p - c.args.from ≡ c.args.count = omega (arith, t, after, past) in
+    let past : c.loop-p.p ≤ c.args.from + c.args.count = c.loop-p.auto.p-end (le-add_right _ _) in
+    let all : c.loop-p.p - c.args.from ≡ c.args.count = all_passed _ _ _ after past t in
     emptying_all (length c.args.next.now) c.args.iw.now c.args.nv.now c.args.from c.args.count c.args.hash.now c.args.last.now
     c.requires.heads c.loop-p.hash (subst (λ m. Emptying (length c.args.next.now) c.args.iw.now c.args.from c.args.hash.now m c.loop-p.hash)
     all c.loop-p.invariant.empties)
@@ -302,9 +306,31 @@ returns-clause-empty g c =
 pub returns-clause-linked : goal.returns-clause-linked
 returns-clause-linked g c lists out h =
     let t = c.loop-p-test.false in let after : c.args.from ≤ c.loop-p.p = c.loop-p.auto.p in
-    let past : c.loop-p.p ≤ c.args.from + c.args.count = c.loop-p.auto.p-end (omega arith) in
-    let all : c.loop-p.p - c.args.from ≡ c.args.count = omega (arith, t, after, past) in
+    let past : c.loop-p.p ≤ c.args.from + c.args.count = c.loop-p.auto.p-end (le-add_right _ _) in
+    let all : c.loop-p.p - c.args.from ≡ c.args.count = all_passed _ _ _ after past t in
     subst (λ m. DegreeLists (length c.args.next.now) c.loop-p.head c.loop-p.next c.loop-p.last c.loop-p.degree
     (put_all (bound_in c.args.border c.args.left c.args.nv.now c.args.degree.now) (marked_in c.args.nv.now
     (rows c.args.iw.now c.args.from m)) lists))
     all (c.loop-p.invariant.linked lists out h)
+
+pub overflow_add-p-end : goal.overflow_add-p-end
+overflow_add-p-end g c = record { fits = lt_of_le_of_lt c.requires.front.0 (lt_trans c.requires.short.0 (lit< tt)) }
+
+pub named-i-requires-clause-inside : goal.named-i-requires-clause-inside
+named-i-requires-clause-inside g c = lt_of_lt_of_le c.loop-p-test.true
+    (le_trans c.requires.front.0 (le_of_eq (sym c.loop-p.invariant.filters.long)))
+
+pub copy_word-requires-clause-from : goal.copy_word-requires-clause-from
+copy_word-requires-clause-from g c = lt_of_lt_of_le c.loop-p-test.true
+    (le_trans c.requires.front.0 (le_of_eq (sym c.loop-p.invariant.filters.long)))
+
+pub copy_word-requires-clause-to : goal.copy_word-requires-clause-to
+copy_word-requires-clause-to g c =
+    lt_of_le_of_lt (le_trans c.loop-p.invariant.filters.high (le_of_eq (add-sub_of_le c.loop-p.auto.p)))
+    (lt_of_lt_of_le c.loop-p-test.true (le_trans c.requires.front.0 (le_of_eq (sym c.loop-p.invariant.filters.long))))
+
+pub loop-p-smaller : goal.loop-p-smaller
+loop-p-smaller g c = falls (c.args.from + c.args.count) c.loop-p.p c.loop-p-test.true
+
+pub returns-clause-lengths : goal.returns-clause-lengths
+returns-clause-lengths g c = c.loop-p.invariant.lengths

@@ -8,6 +8,7 @@ use Rattle.amd_places.specs.Renewal.{is_kept, is_outside}
 use Rattle.amd_places.specs.Layout.{list_in, Layout}
 use Rattle.amd_places.specs.Fronts.{RenewsFront}
 use Rattle.amd_places.proofs.FrontTurns.{turn_listed, left_me, left_list, left_laid, left_renewable, others_linked}
+use Rattle.std.proofs.Common.{lt_of_lt_of_le, le_of_eq, le_trans}
 use Rattle.amd_places.proofs.turning.turn.Goals as goal
 
 pub count_outside-requires : goal.count_outside-requires
@@ -235,7 +236,42 @@ returns-clause-linked g c lists member h =
     (λ d. filter (λ j. not (has xs j)) (lists d))) (list ∙ sym same) out))
 
 pub returns-clause-more_lengths : goal.returns-clause-more_lengths
-returns-clause-more_lengths g c =
-    let a = c.requires.lengths in let b = c.requires.more_lengths in
-    let d = c.count_outside.ensures.long in let e = c.count_outside.ensures.lengths in let f = c.renew_all.ensures.renews.lengths in
-    (omega (arith, a, d, f), omega (arith, b, e, f))
+returns-clause-more_lengths g c = (
+  c.renew_all.auto.pe ∙ c.count_outside.auto.pe ∙ c.requires.lengths.0.0,
+  c.renew_all.auto.last ∙ c.count_outside.auto.last ∙ c.requires.more_lengths.2,
+)
+
+pub named-from-requires-clause-inside : goal.named-from-requires-clause-inside
+named-from-requires-clause-inside g c = lt_of_lt_of_le c.requires.me.0 (le_of_eq (sym c.requires.lengths.0.0))
+
+pub named-from-requires-clause-is_one : goal.named-from-requires-clause-is_one
+named-from-requires-clause-is_one g c = c.requires.list.starts
+
+pub figure_at-count-requires : goal.figure_at-count-requires
+figure_at-count-requires g c = lt_of_lt_of_le c.requires.me.0 (le_of_eq (sym c.requires.lengths.1))
+
+pub renew_all-requires-clause-lengths : goal.renew_all-requires-clause-lengths
+renew_all-requires-clause-lengths g c =
+    let l = c.requires.lengths in let w = sym c.count_outside.ensures.long.0 in
+    (c.count_outside.auto.pe ∙ l.0.0 ∙ w, l.0.1 ∙ w, l.1 ∙ w, l.0.2 ∙ w)
+
+pub renew_all-requires-clause-more_lengths : goal.renew_all-requires-clause-more_lengths
+renew_all-requires-clause-more_lengths g c = let w = sym c.count_outside.ensures.long.0 in
+    (c.requires.lengths.0.3 ∙ w, c.count_outside.auto.last ∙ c.requires.more_lengths.2 ∙ w)
+
+pub renew_all-requires-clause-short : goal.renew_all-requires-clause-short
+renew_all-requires-clause-short g c = c.requires.narrow.0
+
+pub renew_all-requires-clause-narrow : goal.renew_all-requires-clause-narrow
+renew_all-requires-clause-narrow g c =
+    (c.requires.narrow.1, le_trans (le_of_eq c.count_outside.ensures.long.0) c.requires.narrow.2)
+
+pub renew_all-requires-clause-end : goal.renew_all-requires-clause-end
+renew_all-requires-clause-end g c = c.requires.end
+
+pub renew_all-requires-clause-me : goal.renew_all-requires-clause-me
+renew_all-requires-clause-me g c =
+    (lt_of_lt_of_le c.requires.me.0 (le_of_eq (sym c.count_outside.ensures.long.0)), c.requires.me.1)
+
+pub returns-clause-lengths : goal.returns-clause-lengths
+returns-clause-lengths g c = (c.count_outside.ensures.long.0, c.count_outside.auto.head, c.count_outside.auto.next)

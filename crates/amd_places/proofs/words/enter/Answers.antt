@@ -1,7 +1,8 @@
-use Rattle.std.proofs.Common.{rules, ℤ, pos, negsuc, ◌≡◌, ◌∙◌, ap, sym, arith, w64, FitsSigned, to_z, of_z, ◌-ℤ◌, set}
+use Rattle.std.proofs.Common.{rules, ℤ, suc, pos, ◌≡◌, ◌∙◌, ap, sym, w64, FitsSigned, set}
 use Rattle.std.proofs.lemmas.Int.{to_z-of_z, ints}
 use Rattle.amd_places.specs.Words.{word, size_of, in_front}
 use Rattle.amd_places.proofs.Signs.{open_is, turned_size, turned_front}
+use Rattle.amd_places.proofs.TurnedSigns.{turned_over, small_size}
 use Rattle.amd_places.proofs.words.enter.Goals as goal
 
 pub overflow_cast-result : goal.overflow_cast-result
@@ -14,17 +15,17 @@ returns-clause-rows g c = let z : ℤ = c.word_at-rows.result in let a =
     let f : FitsSigned w64 z = search rules in ap lib.IntN.nat_abs (to_z-of_z w64 z f ∙ c.word_at-rows.ensures.is ∙ a.1) ∙ sym a.2
 
 pub returns-clause-sizes : goal.returns-clause-sizes
-returns-clause-sizes g c i = let z : ℤ = c.word_at-rows.result in let a =
-    open_is (word c.args.nv.now c.args.j) c.requires.class c.requires.fresh in
-    let f : FitsSigned w64 z = search rules in let e = c.word_at-rows.ensures.is ∙ a.1 in
-    let x : to_z w64 (of_z w64 (pos 0 -ℤ to_z w64 (of_z w64 z))) ≡ negsuc a.0 = omega (arith, ints, e, f) in
-    ap (λ l. size_of l i) (c.put_word.ensures ∙ ap (set c.args.nv.now c.args.j) x)
+returns-clause-sizes g c i =
+    let a = open_is (word c.args.nv.now c.args.j) c.requires.class c.requires.fresh in
+    let is : c.word_at-rows.result ≡ lib.IntN.pos (suc a.0) = c.word_at-rows.ensures.is ∙ a.1 in
+    ap (λ l. size_of l i) (c.put_word.ensures ∙ ap (set c.args.nv.now c.args.j) (turned_over c.word_at-rows.result a.0 is
+    (small_size c.word_at-rows.result a.0 g.S.Signed.MOST is c.word_at-rows.ensures.small g.met.S.Signed.narrow)))
     ∙ turned_size c.args.nv.now c.args.j a.0 c.requires.inside a.1 i
 
 pub returns-clause-front : goal.returns-clause-front
-returns-clause-front g c i = let z : ℤ = c.word_at-rows.result in let a =
-    open_is (word c.args.nv.now c.args.j) c.requires.class c.requires.fresh in
-    let f : FitsSigned w64 z = search rules in let e = c.word_at-rows.ensures.is ∙ a.1 in
-    let x : to_z w64 (of_z w64 (pos 0 -ℤ to_z w64 (of_z w64 z))) ≡ negsuc a.0 = omega (arith, ints, e, f) in
-    ap (λ l. in_front l i) (c.put_word.ensures ∙ ap (set c.args.nv.now c.args.j) x)
+returns-clause-front g c i =
+    let a = open_is (word c.args.nv.now c.args.j) c.requires.class c.requires.fresh in
+    let is : c.word_at-rows.result ≡ lib.IntN.pos (suc a.0) = c.word_at-rows.ensures.is ∙ a.1 in
+    ap (λ l. in_front l i) (c.put_word.ensures ∙ ap (set c.args.nv.now c.args.j) (turned_over c.word_at-rows.result a.0 is
+    (small_size c.word_at-rows.result a.0 g.S.Signed.MOST is c.word_at-rows.ensures.small g.met.S.Signed.narrow)))
     ∙ turned_front c.args.nv.now c.args.j a.0 c.requires.inside a.1 i
