@@ -1,4 +1,5 @@
 pub mod ListPlaces
+pub mod ReadLists
 pub mod StartLists
 pub mod Begun
 pub mod StartLaw

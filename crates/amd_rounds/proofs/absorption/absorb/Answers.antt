@@ -1,4 +1,4 @@
-use Rattle.std.proofs.Common.{ℕ, Bool, false, Some, List, ◌≡◌, ◌<◌, ◌∙◌, ◌&&◌, ◌||◌, ◌==◌, not, cond, nat_eq, nat_lt, ap, sym, subst, arith}
+use Rattle.std.proofs.Common.{ℕ, Bool, false, Some, List, ◌≡◌, ◌<◌, ◌∙◌, ◌&&◌, ◌||◌, ◌==◌, not, cond, nat_eq, nat_lt, ap, sym, subst}
 use Rattle.std.proofs.Common.{length, length-set, filter, flat_map}
 use Rattle.std.proofs.lemmas.Bool.{cond-true, cond-false}
 use Rattle.amd_model.specs.Quotient.{has}
@@ -8,6 +8,9 @@ use Rattle.amd_rounds.proofs.ListPlaces.{list_read}
 use Rattle.amd_views.proofs.Lists.Named.{filter_named}
 use Rattle.amd_views.proofs.Fronts.Gathered.{firsts_gives}
 use Rattle.amd_rounds.proofs.KeptParts.{touched_below, spared_is, adopted_is, in_either, cleared_is, pivot_cleared}
+use Rattle.std.proofs.Common.{lt_of_lt_of_le, le_of_eq}
+use Rattle.amd_rounds.specs.Views.{Below}
+use Rattle.amd_rounds.proofs.ReadLists.{read_below}
 use Rattle.amd_rounds.proofs.absorption.absorb.Goals as goal
 
 pub count_beyond-requires-clause-range : goal.count_beyond-requires-clause-range
@@ -53,7 +56,7 @@ returns g c =
     let beyond : List ℕ = c.count_beyond.new.beyond.items in let rows : List Bool = c.args.scratch.now.rows.items in
     let marked : List Bool = c.touched_by.new.marks.items in let taken : List Bool = c.spare.new.taken.items in
     let inside : ℕ → Bool = λ j. j == p || has front j in
-    let row : p < length elements = (let a = r.pivot.0 in let b = r.lists.elements.0 in omega (arith, a, b)) in
+    let row : p < length elements = lt_of_lt_of_le r.pivot.0 (le_of_eq (sym r.lists.elements.0)) in
     let touched_is : touched ≡ firsts (has own) (flat_map (list_at elements) front) = c.in_ok-touched.ensures.list in
     let gathered = firsts_gives (has own) (flat_map (list_at elements) front) touched touched_is in
     let whole : ℕ → Bool = λ e. c.args.aggressive && nat_eq (num beyond e) 0 in
@@ -75,7 +78,7 @@ returns g c =
     c.deref-6.ensures.value
     ∙ ap (λ l. cond (has touched e && at l e) (Some p) (some_at c.adopt.new.parent.items e)) c.deref-7.ensures.value) in
     let after = c.shorten.new.lists.elements.items in
-    let room : p < length after = (let a = r.pivot.0 in let b = c.shorten.ensures.elements.0 in omega (arith, a, b)) in
+    let room : p < length after = lt_of_lt_of_le r.pivot.0 (le_of_eq (sym c.shorten.ensures.elements.0)) in
     let second : c.deref-10.result.now ≡ own = c.deref-10.ensures.value ∙
     sym (list_read after p c.index-2.result.now room c.index-2.ensures) ∙ c.shorten.ensures.kept_elements p ∙
     cond-false _ _ _ r.pivot.1 in
@@ -114,7 +117,7 @@ returns g c =
       idle = record {
         rows = (
           length-set marks p false ∙ long,
-          pivot_cleared marks p front (let a = r.pivot.0 in omega (arith, a, long))
+          pivot_cleared marks p front (lt_of_lt_of_le r.pivot.0 (le_of_eq (sym long)))
               (λ j. c.clear_all-3.ensures.cleared j ∙ ap (λ b. b && not (has front j)) (r.marked.rows.1 j)),
         );
         elements = (
@@ -127,3 +130,62 @@ returns g c =
         into = r.marked.into;
       };
     }
+
+pub clear_all-requires-3 : goal.clear_all-requires-3
+clear_all-requires-3 g c = record { range = subst (λ n. Below n c.args.front.now) (sym c.requires.marked.rows.0) c.requires.range }
+
+pub clear_all-requires : goal.clear_all-requires
+clear_all-requires g c = record {
+  range = read_below (length c.args.size.now) (length c.spare.new.taken.items) c.shorten.new.lists.elements.items c.args.pivot
+      c.index-2.result.now c.deref-10.result.now c.shorten.ensures.elements c.requires.pivot.0 c.index-2.ensures c.deref-10.ensures.value
+      (c.spare.ensures.size ∙ c.in_ok-touched.ensures.size ∙ c.requires.marked.elements.0);
+}
+
+pub shorten-requires-clause-range : goal.shorten-requires-clause-range
+shorten-requires-clause-range g c = c.requires.range
+
+pub shorten-requires-clause-once : goal.shorten-requires-clause-once
+shorten-requires-clause-once g c = c.requires.once
+
+pub shorten-requires-clause-elements : goal.shorten-requires-clause-elements
+shorten-requires-clause-elements g c = c.requires.lists.elements
+
+pub shorten-requires-clause-variables : goal.shorten-requires-clause-variables
+shorten-requires-clause-variables g c = c.requires.lists.variables
+
+pub shorten-requires-clause-lengths : goal.shorten-requires-clause-lengths
+shorten-requires-clause-lengths g c = (
+  ap length c.deref-8.ensures.value ∙ c.requires.marked.rows.0,
+  ap length c.deref-9.ensures.value ∙ c.spare.ensures.size ∙ c.in_ok-touched.ensures.size ∙ c.requires.marked.elements.0,
+)
+
+pub adopt-requires-clause-range : goal.adopt-requires-clause-range
+adopt-requires-clause-range g c =
+    read_below (length c.args.size.now) (length c.deref-5.result.now) c.args.lists.now.elements.items c.args.pivot
+    c.index.result.now c.deref-4.result.now c.requires.lists.elements c.requires.pivot.0 c.index.ensures c.deref-4.ensures.value
+    (ap length c.deref-5.ensures.value ∙ c.spare.ensures.size ∙ c.in_ok-touched.ensures.size ∙ c.requires.marked.elements.0)
+
+pub adopt-requires-clause-length : goal.adopt-requires-clause-length
+adopt-requires-clause-length g c = c.requires.parent
+    ∙ sym (ap length c.deref-5.ensures.value ∙ c.spare.ensures.size ∙ c.in_ok-touched.ensures.size ∙ c.requires.marked.elements.0)
+
+pub adopt-requires-2-clause-length : goal.adopt-requires-2-clause-length
+adopt-requires-2-clause-length g c = c.adopt.ensures.size ∙ c.requires.parent
+    ∙ sym (ap length c.deref-7.ensures.value ∙ c.spare.ensures.size ∙ c.in_ok-touched.ensures.size ∙ c.requires.marked.elements.0)
+
+pub count_beyond-requires-clause-front : goal.count_beyond-requires-clause-front
+count_beyond-requires-clause-front g c = c.requires.range
+
+pub count_beyond-requires-clause-elements : goal.count_beyond-requires-clause-elements
+count_beyond-requires-clause-elements g c = c.requires.lists.elements
+
+pub spare-requires-clause-length : goal.spare-requires-clause-length
+spare-requires-clause-length g c = ap length c.deref-3.ensures.value ∙ c.count_beyond.ensures.size ∙ c.requires.marked.beyond
+    ∙ sym (c.in_ok-touched.ensures.size ∙ c.requires.marked.elements.0)
+
+pub touched_by-requires-clause-range : goal.touched_by-requires-clause-range
+touched_by-requires-clause-range g c = subst (λ n. Below n c.args.front.now) (sym c.requires.marked.elements.0) c.requires.range
+
+pub touched_by-requires-clause-elements : goal.touched_by-requires-clause-elements
+touched_by-requires-clause-elements g c = subst (λ n. ListsBelow n c.args.lists.now.elements.items) (sym c.requires.marked.elements.0)
+    c.requires.lists.elements

@@ -43,3 +43,6 @@ pub returns-clause-counted : goal.returns-clause-counted
 returns-clause-counted g c = λ e h. c.loop-i.invariant.counted e h
     ∙ ap (λ xs. rows_left c.args.block.now c.args.whole.now c.args.size.now c.args.elements.now.items xs e)
     (take_all c.loop-i.i-index c.args.front.now c.loop-i-test.false)
+
+pub bounds-size-i : goal.bounds-size-i
+bounds-size-i g c = c.requires.front c.loop-i.i-index 0 c.loop-i-test.true

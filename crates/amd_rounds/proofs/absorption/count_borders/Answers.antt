@@ -2,6 +2,7 @@ use Rattle.std.proofs.Common.{ℕ, List, ◌<◌, ◌-◌, ◌∙◌, refl, arit
 use Rattle.amd_model.specs.Quotient.{has}
 use Rattle.amd_rounds.specs.Views.{num}
 use Rattle.amd_rounds.proofs.Kept.{set_next}
+use Rattle.amd_rounds.proofs.Kept.{changed_all}
 use Rattle.amd_rounds.proofs.absorption.count_borders.Goals as goal
 
 pub loop-e-init : goal.loop-e-init
@@ -19,3 +20,8 @@ loop-e-preserved g c =
       counted = set_next (λ e. num c.args.whole.now e - num c.args.block.now e) (num c.args.beyond.now.items) list k now 0
           c.saturating_sub.result here small c.saturating_sub.ensures was.counted;
     }
+
+pub returns-clause-counted : goal.returns-clause-counted
+returns-clause-counted g c = changed_all c.args.touched.now c.loop-e.e-index c.loop-e-test.false
+    (λ e. num c.args.whole.now e - num c.args.block.now e) (num c.args.beyond.now.items) (num c.loop-e.beyond.items)
+    c.loop-e.invariant.counted

@@ -3,6 +3,8 @@ use Rattle.amd_rounds.specs.Views.{num, some_at}
 use Rattle.amd_rounds.specs.Rounds.{mass}
 use Rattle.amd_model.specs.Quotient.{has}
 use Rattle.amd_rounds.proofs.Kept.{set_passing, set_none}
+use Rattle.std.proofs.Common.{◌&&◌, cond}
+use Rattle.std.proofs.lemmas.List.{take_all}
 use Rattle.amd_rounds.proofs.absorption.retire.Goals as goal
 use Rattle.amd_rounds.proofs.absorption.retire.Goals.{then-keeps_nothing, else-keeps_nothing}
 
@@ -40,3 +42,13 @@ loop-i-preserved g c =
             link = ap (λ v. length v.items) w.link-is ∙ was.link;
           })
     ]
+
+pub returns-clause-sizes : goal.returns-clause-sizes
+returns-clause-sizes g c x = c.loop-i.invariant.sizes x
+    ∙ ap (λ xs. cond (has xs x && mass c.args.lists.now.elements.items c.args.lists.now.variables.items x) 0 (num c.args.size.now.items x))
+    (take_all c.loop-i.i-index c.args.front.now c.loop-i-test.false)
+
+pub returns-clause-links : goal.returns-clause-links
+returns-clause-links g c x = c.loop-i.invariant.links x
+    ∙ ap (λ xs. cond (has xs x && mass c.args.lists.now.elements.items c.args.lists.now.variables.items x) (Some c.args.pivot)
+    (some_at c.args.link.now.items x)) (take_all c.loop-i.i-index c.args.front.now c.loop-i-test.false)

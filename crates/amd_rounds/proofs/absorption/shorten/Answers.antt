@@ -2,6 +2,9 @@ use Rattle.std.proofs.Common.{ℕ, Bool, List, ◌<◌, refl, arith, length, get
 use Rattle.amd_rounds.specs.Views.{num, at}
 use Rattle.amd_model.specs.Quotient.{has}
 use Rattle.amd_rounds.proofs.Kept.{keep_next, below_next}
+use Rattle.std.proofs.Common.{filter}
+use Rattle.amd_rounds.specs.Views.{list_at}
+use Rattle.amd_rounds.proofs.Kept.{changed_all}
 use Rattle.amd_rounds.proofs.absorption.shorten.Goals as goal
 
 pub loop-i-init : goal.loop-i-init
@@ -36,3 +39,19 @@ loop-i-preserved g c =
       variables = below_next (length c.args.size.now) outer variables x c.index_mut-in-loop-i.result.now c.keep_variables.new.list room
           c.index_mut-in-loop-i.ensures.value c.keep_variables.ensures was.variables;
     }
+
+pub returns-clause-kept_variables : goal.returns-clause-kept_variables
+returns-clause-kept_variables g c = changed_all c.args.front.now c.loop-i.i-index c.loop-i-test.false
+    (λ i. filter (λ j. nat_lt 0 (num c.args.size.now j) && not (at c.args.marks.now j)) (list_at c.args.lists.now.variables.items i))
+    (list_at c.args.lists.now.variables.items) (list_at c.loop-i.lists.variables.items) c.loop-i.invariant.kept_variables
+
+pub returns-clause-kept_elements : goal.returns-clause-kept_elements
+returns-clause-kept_elements g c = changed_all c.args.front.now c.loop-i.i-index c.loop-i-test.false
+    (λ i. filter (λ e. not (at c.args.taken.now e)) (list_at c.args.lists.now.elements.items i))
+    (list_at c.args.lists.now.elements.items) (list_at c.loop-i.lists.elements.items) c.loop-i.invariant.kept_elements
+
+pub returns-clause-variables : goal.returns-clause-variables
+returns-clause-variables g c = c.loop-i.invariant.variables
+
+pub returns-clause-elements : goal.returns-clause-elements
+returns-clause-elements g c = c.loop-i.invariant.elements

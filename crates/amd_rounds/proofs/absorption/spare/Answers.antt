@@ -3,6 +3,9 @@ use Rattle.std.proofs.lemmas.Bool.{and_left, not_from_false, not_from_true}
 use Rattle.amd_rounds.specs.Views.{at, num}
 use Rattle.amd_model.specs.Quotient.{has}
 use Rattle.amd_rounds.proofs.Kept.{set_passing, set_none}
+use Rattle.std.proofs.Common.{true, cond}
+use Rattle.std.proofs.Math.Bool.{and-true, and-false}
+use Rattle.std.proofs.lemmas.List.{take_all}
 use Rattle.amd_rounds.proofs.absorption.spare.Goals as goal
 use Rattle.amd_rounds.proofs.absorption.spare.Goals.{then-aggressive, else-aggressive, then-not-beyond-e, else-not-beyond-e}
 
@@ -35,3 +38,14 @@ loop-e-preserved g c =
             (not_from_true (whole (get_or list k 0)) (value ∙ w.if-not-beyond-e.false)) was.spared);
       }
     ]
+
+-- what is cleared where a test holds
+cleared_where : (test was : Bool) → cond test false was ≡ (was && not test)
+cleared_where true was = sym (and-false was)
+cleared_where false was = sym (and-true was)
+
+pub returns-clause-spared : goal.returns-clause-spared
+returns-clause-spared g c e = let kept : Bool = not (c.args.aggressive && nat_eq (num c.args.beyond.now e) 0) in
+    c.loop-e.invariant.spared e ∙ ap (λ xs. cond (has xs e && kept) false (at c.args.taken.now.items e))
+    (take_all c.loop-e.e-index c.args.touched.now c.loop-e-test.false)
+    ∙ cleared_where (has c.args.touched.now e && kept) (at c.args.taken.now.items e)

@@ -10,6 +10,9 @@ use Rattle.amd_views.proofs.Lists.Cuts.{cut_more}
 use Rattle.amd_rounds.proofs.Kept.{changed_more, changed_none, unchanged}
 use Rattle.amd_views.proofs.Lists.Named.{has_at}
 use Rattle.amd_rounds.proofs.ListPlaces.{list_read}
+use Rattle.std.proofs.Common.{lt_of_lt_of_le, le_of_eq, refl}
+use Rattle.amd_rounds.proofs.Kept.{changed_all}
+use Rattle.amd_rounds.proofs.ReadLists.{read_below}
 use Rattle.amd_rounds.proofs.bounds.renew_bounds.Goals as goal
 
 pub loop-i-init : goal.loop-i-init
@@ -85,3 +88,32 @@ loop-i-preserved g c =
   where
     zero_first : (a : ℕ) → 0 + a ≡ a
     zero_first a = omega arith
+
+pub index_mut-requires : goal.index_mut-requires
+index_mut-requires g c = lt_of_lt_of_le (c.requires.range c.loop-i.i-index 0 c.loop-i-test.true)
+    (le_of_eq (sym (c.loop-i.bound.ok.0 ∙ c.loop-i.invariant.room ∙ c.requires.lengths.1)))
+
+pub bounds-size-i : goal.bounds-size-i
+bounds-size-i g c = c.requires.range c.loop-i.i-index 0 c.loop-i-test.true
+
+pub bounds-size-i-in-loop-i : goal.bounds-size-i-in-loop-i
+bounds-size-i-in-loop-i g c = c.requires.range c.loop-i.i-index 0 c.loop-i-test.true
+
+pub returns-clause-bounds : goal.returns-clause-bounds
+returns-clause-bounds g c = changed_all c.args.made.now c.loop-i.i-index c.loop-i-test.false
+    (new_bound c.args.border c.args.live c.args.lists.now c.args.beyond.now c.args.size.now c.args.bound.now.items)
+    (num c.args.bound.now.items) (num c.loop-i.bound.items) c.loop-i.invariant.bounds
+
+pub sum_at-requires : goal.sum_at-requires
+sum_at-requires g c = record {
+  range = read_below (length c.args.size.now) (length c.args.beyond.now) c.args.lists.now.elements.items
+      (get_or c.args.made.now c.loop-i.i-index 0) c.index.result.now c.deref.result.now c.requires.elements
+      (c.requires.range c.loop-i.i-index 0 c.loop-i-test.true) c.index.ensures c.deref.ensures.value c.requires.lengths.0;
+}
+
+pub sum_at-outside-requires : goal.sum_at-outside-requires
+sum_at-outside-requires g c = record {
+  range = read_below (length c.args.size.now) (length c.args.size.now) c.args.lists.now.variables.items
+      (get_or c.args.made.now c.loop-i.i-index 0) c.index-in-loop-i.result.now c.deref-in-loop-i.result.now c.requires.variables
+      (c.requires.range c.loop-i.i-index 0 c.loop-i-test.true) c.index-in-loop-i.ensures c.deref-in-loop-i.ensures.value refl;
+}

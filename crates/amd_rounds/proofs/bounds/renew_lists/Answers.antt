@@ -5,6 +5,7 @@ use Rattle.amd_views.proofs.Lists.Named.{below_turned}
 use Rattle.amd_rounds.proofs.Kept.{changed_more, changed_none, unchanged}
 use Rattle.amd_rounds.proofs.ListPlaces.{list_read, list_set_same, list_set_other, lists_set, list_below}
 use Rattle.std.proofs.lemmas.List.Elements.{All-cons}
+use Rattle.amd_rounds.proofs.Kept.{changed_all}
 use Rattle.amd_rounds.proofs.bounds.renew_lists.Goals as goal
 
 pub loop-i-init : goal.loop-i-init
@@ -65,3 +66,19 @@ loop-i-preserved g c =
           (subst (Below n) (sym put) (All-cons (λ j. j < n) c.args.pivot (turned (list_at es i)) c.requires.pivot e_below));
       variables = lists_set n vs i u inv.variables (subst (Below n) (sym turned_v) v_below);
     }
+
+pub returns-clause-new_elements : goal.returns-clause-new_elements
+returns-clause-new_elements g c = changed_all c.args.made.now c.loop-i.i-index c.loop-i-test.false
+    (λ i. c.args.pivot ∷ turned (list_at c.args.lists.now.elements.items i)) (list_at c.args.lists.now.elements.items)
+    (list_at c.loop-i.lists.elements.items) c.loop-i.invariant.new_elements
+
+pub returns-clause-new_variables : goal.returns-clause-new_variables
+returns-clause-new_variables g c = changed_all c.args.made.now c.loop-i.i-index c.loop-i-test.false
+    (λ i. turned (list_at c.args.lists.now.variables.items i)) (list_at c.args.lists.now.variables.items)
+    (list_at c.loop-i.lists.variables.items) c.loop-i.invariant.new_variables
+
+pub returns-clause-variables : goal.returns-clause-variables
+returns-clause-variables g c = c.loop-i.invariant.variables
+
+pub returns-clause-elements : goal.returns-clause-elements
+returns-clause-elements g c = c.loop-i.invariant.elements

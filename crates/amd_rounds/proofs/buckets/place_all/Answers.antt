@@ -8,6 +8,8 @@ use Rattle.amd_rounds.specs.Views.{num, list_at, Below}
 use Rattle.amd_views.proofs.Lists.Named.{has_at}
 use Rattle.amd_rounds.proofs.ListPlaces.{list_read, list_below, lists_set}
 use Rattle.amd_rounds.proofs.BucketLists.{pushed, least_next, least_lower, least_end}
+use Rattle.std.proofs.Common.{append-nil}
+use Rattle.std.proofs.lemmas.List.{at_drop_all}
 use Rattle.amd_rounds.proofs.buckets.place_all.Goals as goal
 use Rattle.amd_rounds.proofs.buckets.place_all.Goals.{then-b-least, else-b-least}
 
@@ -67,3 +69,9 @@ returns-clause-least g c = (
 
 pub returns-clause-one : goal.returns-clause-one
 returns-clause-one g c = c.loop-i.invariant.one
+
+pub returns-clause-placed : goal.returns-clause-placed
+returns-clause-placed g c b =
+    sym (append-nil (list_at c.loop-i.lists.items b))
+    ∙ sym (at_drop_all (λ xs. list_at c.loop-i.lists.items b ++ filter (λ i. num c.args.bound.now i == b) xs) c.args.made.now
+    c.loop-i.i-index c.loop-i-test.false) ∙ c.loop-i.invariant.placed b

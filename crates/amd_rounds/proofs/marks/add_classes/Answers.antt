@@ -1,4 +1,4 @@
-use Rattle.std.proofs.Common.{ℕ, List, Bool, true, false, [], ◌∷◌, ◌++◌, fold, ◌≡◌, ◌<◌, ◌+◌, ◌∙◌, ◌||◌, sym, ap, arith, length, set}
+use Rattle.std.proofs.Common.{ℕ, List, Bool, true, false, [], ◌∷◌, ◌++◌, fold, ◌≡◌, ◌<◌, ◌+◌, ◌∙◌, ◌||◌, sym, ap, length, set}
 use Rattle.std.proofs.Common.{length-set, get_or, drop}
 use Rattle.std.specs.Prelude.{nat_lt}
 use Rattle.std.proofs.lemmas.Bool.{lt-ltb, le-ltb}
@@ -7,6 +7,7 @@ use Rattle.amd_model.specs.Quotient.{has, add_new}
 use Rattle.amd_model.proofs.Quotient.Lists.{filter_yes, filter_no}
 use Rattle.amd_rounds.specs.Views.{at, num, live_of}
 use Rattle.amd_rounds.proofs.MarkLists.{marks_next, marks_end, marks_old, marked_passed, unmarked_added, known_added}
+use Rattle.std.proofs.Common.{lt_of_lt_of_le, le_of_eq}
 use Rattle.amd_rounds.proofs.marks.add_classes.Goals as goal
 use Rattle.amd_rounds.proofs.marks.add_classes.Goals.{then-size-j-gt0+then-not-index+in_ok-push, else-size-j-gt0}
 use Rattle.amd_rounds.proofs.marks.add_classes.Goals.{else-size-j-gt0-via-then-size-j-gt0+else-not-index}
@@ -26,7 +27,7 @@ loop-j-preserved g c =
     let here : i < length list = c.loop-j-test.true in
     let was = c.loop-j.invariant in
     let size = was.size in
-    let small : row < length marks = (let a = c.requires.range i 0 here in omega (arith, a, size)) in
+    let small : row < length marks = lt_of_lt_of_le (c.requires.range i 0 here) (le_of_eq (sym size)) in
     let list_now = sym (at_drop_more (λ xs. fold (add_new (at marks)) out (live_of sizes xs)) list i 0 here) ∙ was.list in
     let marked_now = λ (j : ℕ). sym (at_drop_more (λ xs. at marks j || has (live_of sizes xs) j) list i 0 here) ∙ was.marked j in
     elim c.if-size-j-gt0.branch [
@@ -70,3 +71,12 @@ pub returns-clause-marked : goal.returns-clause-marked
 returns-clause-marked g c j =
     sym (at_drop_all (λ xs. at c.loop-j.marks.items j || has (live_of c.args.size.now xs) j) c.args.list.now c.loop-j.j-index
     c.loop-j-test.false ∙ marks_end c.loop-j.marks.items j) ∙ c.loop-j.invariant.marked j
+
+pub returns-in_err-push-clause-size : goal.returns-in_err-push-clause-size
+returns-in_err-push-clause-size g c =
+    length-set c.loop-j.marks.items (get_or c.args.list.now c.loop-j.j-index 0) true ∙ c.loop-j.invariant.size
+
+pub returns-clause-list : goal.returns-clause-list
+returns-clause-list g c =
+    sym (at_drop_all (λ xs. fold (add_new (at c.loop-j.marks.items)) c.loop-j.out.items (live_of c.args.size.now xs)) c.args.list.now
+    c.loop-j.j-index c.loop-j-test.false) ∙ c.loop-j.invariant.list

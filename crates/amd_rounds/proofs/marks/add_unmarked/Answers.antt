@@ -1,5 +1,5 @@
-use Rattle.std.proofs.Common.{ℕ, List, Bool, true, false, [], ◌∷◌, ◌++◌, fold, ◌≡◌, ◌<◌, ◌+◌, ◌∙◌, ◌||◌, sym, ap, arith, length, set}
-use Rattle.std.proofs.Common.{length-set, get_or, drop}
+use Rattle.std.proofs.Common.{ℕ, List, Bool, true, false, [], ◌∷◌, ◌++◌, fold, ◌≡◌, ◌<◌, ◌+◌, ◌∙◌, ◌||◌, sym, ap, length, set}
+use Rattle.std.proofs.Common.{length-set, get_or, drop, lt_of_lt_of_le, le_of_eq}
 use Rattle.std.proofs.lemmas.List.{at_drop_more, at_drop_all, get_or_read}
 use Rattle.amd_model.specs.Quotient.{has, add_new}
 use Rattle.amd_rounds.specs.Views.{at}
@@ -18,7 +18,7 @@ loop-j-preserved g c =
     let here : i < length list = c.loop-j-test.true in
     let was = c.loop-j.invariant in
     let size = was.size in
-    let small : row < length marks = (let a = c.requires.range i 0 here in omega (arith, a, size)) in
+    let small : row < length marks = lt_of_lt_of_le (c.requires.range i 0 here) (le_of_eq (sym size)) in
     let read = get_or_read marks row _ small c.index.ensures false in
     let list_now = sym (at_drop_more (λ xs. fold (add_new (at marks)) out xs) list i 0 here) ∙ was.list in
     let marked_now = λ (j : ℕ). sym (at_drop_more (λ xs. at marks j || has xs j) list i 0 here) ∙ was.marked j in
@@ -47,3 +47,12 @@ pub returns-clause-marked : goal.returns-clause-marked
 returns-clause-marked g c j =
     sym (at_drop_all (λ xs. at c.loop-j.marks.items j || has xs j) c.args.list.now c.loop-j.j-index c.loop-j-test.false ∙
     marks_end c.loop-j.marks.items j) ∙ c.loop-j.invariant.marked j
+
+pub returns-in_err-push-clause-size : goal.returns-in_err-push-clause-size
+returns-in_err-push-clause-size g c =
+    length-set c.loop-j.marks.items (get_or c.args.list.now c.loop-j.j-index 0) true ∙ c.loop-j.invariant.size
+
+pub returns-clause-list : goal.returns-clause-list
+returns-clause-list g c =
+    sym (at_drop_all (λ xs. fold (add_new (at c.loop-j.marks.items)) c.loop-j.out.items xs) c.args.list.now
+    c.loop-j.j-index c.loop-j-test.false) ∙ c.loop-j.invariant.list

@@ -1,8 +1,9 @@
-use Rattle.std.proofs.Common.{ℕ, List, false, ◌<◌, ◌+◌, ◌∙◌, sym, arith, length, length-set, get_or, drop, ◌&&◌, not}
+use Rattle.std.proofs.Common.{ℕ, List, false, ◌<◌, ◌+◌, ◌∙◌, sym, length, length-set, get_or, drop, ◌&&◌, not}
 use Rattle.std.proofs.lemmas.List.{at_drop_more, at_drop_all}
 use Rattle.amd_model.specs.Quotient.{has}
 use Rattle.amd_rounds.specs.Views.{at}
 use Rattle.amd_rounds.proofs.MarkLists.{clears_next, clears_end}
+use Rattle.std.proofs.Common.{lt_of_lt_of_le, le_of_eq}
 use Rattle.amd_rounds.proofs.marks.clear_all.Goals as goal
 
 pub loop-j-preserved : goal.loop-j-preserved
@@ -12,7 +13,7 @@ loop-j-preserved g c =
     let marks = c.loop-j.marks.items in
     let here : i < length list = c.loop-j-test.true in
     let size = c.loop-j.invariant.size in
-    let small : get_or list i 0 < length marks = (let a = c.requires.range i 0 here in omega (arith, a, size)) in
+    let small : get_or list i 0 < length marks = lt_of_lt_of_le (c.requires.range i 0 here) (le_of_eq (sym size)) in
     record {
       size = length-set marks (get_or list i 0) false ∙ size;
       cleared = λ j. clears_next marks (get_or list i 0) j (drop (i + 1) list) small ∙

@@ -7,6 +7,9 @@ use Rattle.amd_model.specs.Quotient.{has, add_new}
 use Rattle.amd_rounds.specs.Views.{at, list_at, live_of}
 use Rattle.amd_rounds.proofs.ListPlaces.{list_read, list_below}
 use Rattle.amd_rounds.proofs.MarkLists.{marks_one, gathered_list, gathered_marks, gathered_next}
+use Rattle.std.proofs.Common.{lt_of_lt_of_le, le_of_eq, refl}
+use Rattle.std.proofs.Math.Bool.{or-true}
+use Rattle.amd_rounds.proofs.ReadLists.{read_below}
 use Rattle.amd_rounds.proofs.marks.front_of.Goals as goal
 
 pub elements-init : goal.elements-init
@@ -36,7 +39,7 @@ elements-preserved g c =
     let grown : List ℕ = c.add_classes.new.out.items in
     let was = c.elements.invariant in
     let elements : List ℕ = list_at lists.elements.items pivot in
-    let row : pivot < length lists.elements.items = omega (arith, c.requires.pivot, c.requires.elements.0) in
+    let row : pivot < length lists.elements.items = lt_of_lt_of_le c.requires.pivot (le_of_eq (sym c.requires.elements.0)) in
     let those : elements ≡ c.deref-e-items.result.now = list_read lists.elements.items pivot c.index.result.now row c.index.ensures ∙
     sym c.deref-e-items.ensures.value in
     let here : i < length elements = (let t = c.elements-test.true in let l = ap length those in omega (arith, t, l)) in
@@ -73,10 +76,10 @@ returns-clause-list g c =
     let was = c.elements.invariant in
     let elements : List ℕ = list_at lists.elements.items pivot in
     let variables : List ℕ = list_at lists.variables.items pivot in
-    let row : pivot < length lists.elements.items = omega (arith, c.requires.pivot, c.requires.elements.0) in
+    let row : pivot < length lists.elements.items = lt_of_lt_of_le c.requires.pivot (le_of_eq (sym c.requires.elements.0)) in
     let those : elements ≡ c.deref-e-items.result.now = list_read lists.elements.items pivot c.index.result.now row c.index.ensures ∙
     sym c.deref-e-items.ensures.value in
-    let row_too : pivot < length lists.variables.items = omega (arith, c.requires.pivot, c.requires.variables.0) in
+    let row_too : pivot < length lists.variables.items = lt_of_lt_of_le c.requires.pivot (le_of_eq (sym c.requires.variables.0)) in
     let list : variables ≡ c.deref-2.result.now = list_read lists.variables.items pivot c.index-2.result.now row_too c.index-2.ensures ∙
     sym c.deref-2.ensures.value in
     let past : length elements ≤ i = (let t = c.elements-test.false in let l = ap length those in omega (arith, t, l)) in
@@ -93,3 +96,42 @@ returns-clause-marked g c =
     let was = c.elements.invariant in
     gathered_marks (λ x. x == c.args.pivot) c.elements.marks.items c.elements.front.items c.add_classes-2.new.out.items _ was.marked
     c.in_ok-add_classes-2.ensures.list c.add_classes-2.new.marks.items c.in_ok-add_classes-2.ensures.marked
+
+pub add_classes-requires-clause-range : goal.add_classes-requires-clause-range
+add_classes-requires-clause-range g c =
+    let n : ℕ = length c.args.size.now in
+    let e : get_or c.deref-e-items.result.now c.elements.e-index 0 < n =
+    read_below n n c.args.lists.now.elements.items c.args.pivot c.index.result.now c.deref-e-items.result.now c.requires.elements
+    c.requires.pivot c.index.ensures c.deref-e-items.ensures.value refl c.elements.e-index 0 c.elements-test.true in
+    read_below n (length c.elements.marks.items) c.args.lists.now.members.items (get_or c.deref-e-items.result.now c.elements.e-index 0)
+    c.index-in-elements.result.now c.deref.result.now c.requires.members e c.index-in-elements.ensures c.deref.ensures.value
+    (c.elements.invariant.size ∙ c.requires.size)
+
+pub add_classes-requires-2-clause-range : goal.add_classes-requires-2-clause-range
+add_classes-requires-2-clause-range g c =
+    read_below (length c.args.size.now) (length c.elements.marks.items) c.args.lists.now.variables.items c.args.pivot
+    c.index-2.result.now c.deref-2.result.now c.requires.variables c.requires.pivot c.index-2.ensures c.deref-2.ensures.value
+    (c.elements.invariant.size ∙ c.requires.size)
+
+pub returns-clause-size : goal.returns-clause-size
+returns-clause-size g c = c.in_ok-add_classes-2.ensures.size ∙ c.elements.invariant.size
+
+pub returns-in_err-add_classes-2-clause-size : goal.returns-in_err-add_classes-2-clause-size
+returns-in_err-add_classes-2-clause-size g c = c.in_err-add_classes-2.ensures.size ∙ c.elements.invariant.size
+
+pub returns-in_err-add_classes-clause-size : goal.returns-in_err-add_classes-clause-size
+returns-in_err-add_classes-clause-size g c = c.in_err-add_classes.ensures.size ∙ c.elements.invariant.size
+
+pub add_classes-requires-clause-lengths : goal.add_classes-requires-clause-lengths
+add_classes-requires-clause-lengths g c = sym (c.elements.invariant.size ∙ c.requires.size)
+
+pub add_classes-requires-2-clause-lengths : goal.add_classes-requires-2-clause-lengths
+add_classes-requires-2-clause-lengths g c = sym (c.elements.invariant.size ∙ c.requires.size)
+
+pub add_classes-requires-clause-known : goal.add_classes-requires-clause-known
+add_classes-requires-clause-known g c j h =
+    c.elements.invariant.marked j ∙ ap (λ b. (j == c.args.pivot) || b) h ∙ or-true (j == c.args.pivot)
+
+pub add_classes-requires-2-clause-known : goal.add_classes-requires-2-clause-known
+add_classes-requires-2-clause-known g c j h =
+    c.elements.invariant.marked j ∙ ap (λ b. (j == c.args.pivot) || b) h ∙ or-true (j == c.args.pivot)

@@ -9,6 +9,7 @@ use Rattle.amd_rounds.specs.Views.{num, some_at}
 use Rattle.amd_rounds.proofs.Kept.{changed_more, changed_none, unchanged, changed_all}
 use Rattle.amd_views.proofs.Lists.Named.{has_at, below_gives}
 use Rattle.amd_rounds.proofs.Joins.{Merged, merged_none, merged_stays, merged_fits, merged_moves, merged_all}
+use Rattle.std.proofs.Common.{lt_of_lt_of_le, le_of_eq}
 use Rattle.amd_rounds.proofs.merging.join.Goals as goal
 use Rattle.amd_rounds.proofs.merging.join.Goals.{then-r-i, else-r-i}
 
@@ -70,9 +71,9 @@ loop-i-preserved g c =
     let lengths = c.requires.lengths.1 in
     let i_small = c.requires.range k 0 test in
     let r_small = below_gives (length c.args.size.now.items) rest c.requires.range (into i) target.0 in
-    let i_in : i < length size = omega (arith, i_small, room) in
-    let r_in : into i < length size = omega (arith, r_small, room) in
-    let l_in : i < length link = omega (arith, i_small, link_room, lengths) in
+    let i_in : i < length size = lt_of_lt_of_le i_small (le_of_eq (sym room)) in
+    let r_in : into i < length size = lt_of_lt_of_le r_small (le_of_eq (sym room)) in
+    let l_in : i < length link = lt_of_lt_of_le i_small (le_of_eq (sym (link_room ∙ lengths))) in
     let new = new_link c.args.into.now c.args.link.now.items in
     let olds = some_at c.args.link.now.items in
     elim c.if-r-i.branch [
@@ -85,7 +86,7 @@ loop-i-preserved g c =
           let read_r = w.index_mut.ensures.value in
           let sum_is : sum ≡ num size (into i) + num size i = omega (arith, at_i, at_r, read_i, read_r) in
           let one = set size (into i) sum in
-          let one_in : i < length one = omega (arith, i_in, length-set size (into i) sum) in
+          let one_in : i < length one = lt_of_lt_of_le i_in (le_of_eq (sym (length-set size (into i) sum))) in
           let sizes : Merged rest into old (k + 1) (num (set one i 0)) =
           merged_moves rest into old k test (num size) inv.sizes c.requires.once ne target (num (set one i 0))
           (get_or-set_same one i 0 0 one_in)

@@ -1,5 +1,5 @@
 use Rattle.std.proofs.Common.{ℕ, Some, List, ◌≡◌, ◌<◌, ◌≤◌, ◌+◌, ◌-◌, ◌^◌, ◌∙◌, ◌&&◌, ◌==◌, not, cond, ap, refl, sym, arith, subst, filter}
-use Rattle.std.proofs.Common.{sum_by, length, length-set}
+use Rattle.std.proofs.Common.{sum_by, length, length-set, lt_of_lt_of_le, le_of_eq}
 use Rattle.std.proofs.lemmas.Grind.{get_or_default_zero}
 use Rattle.std.proofs.lemmas.Result.{IfOk-from_err}
 use Rattle.amd_model.specs.Quotient.{has, last_that}
@@ -162,7 +162,7 @@ returns g c =
     let s = c.requires.sized in let p : ℕ = c.args.pivot in
     let left : List ℕ = c.retire.new.size.items in let joined : List ℕ = c.join.new.size.items in
     let room : length joined ≡ length size = c.join.ensures.lengths.0 ∙ c.retire.ensures.lengths.0 in
-    let within : p < length joined = (let row = c.requires.pivot in omega (arith, row, room)) in
+    let within : p < length joined = lt_of_lt_of_le c.requires.pivot (le_of_eq (sym room)) in
     let idle : IsIdle (length size) c.representatives.new.scratch =
     subst (λ m. IsIdle m c.representatives.new.scratch) s.elements.0 c.in_ok-representatives.ensures.idle in
     record {

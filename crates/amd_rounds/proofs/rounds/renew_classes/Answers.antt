@@ -1,5 +1,5 @@
 use Rattle.std.proofs.Common.{rules, ℕ, true, List, ◌∷◌, ◌++◌, ◌≡◌, ◌<◌, ◌+◌, ◌∙◌, ◌==◌, inl, inr, ap, refl, sym, arith, subst, cond}
-use Rattle.std.proofs.Common.{filter, length, length-set}
+use Rattle.std.proofs.Common.{filter, length, length-set, lt_of_lt_of_le, le_of_eq, le_trans}
 use Rattle.amd_model.specs.Quotient.{has, turned}
 use Rattle.amd_rounds.specs.Views.{num, list_at, ListsBelow}
 use Rattle.amd_rounds.proofs.ListPlaces.{lists_set, put_at, list_written}
@@ -117,10 +117,9 @@ returns g c =
     let bound : List ℕ = c.renew_bounds.new.bound.items in
     let placing = c.in_ok-place_all.ensures in
     let row : length c.deref-6.result.now ≡ n = ap length c.deref-6.ensures.value ∙ c.renew_bounds.ensures.length ∙ s.bound in
-    let room : p < length members = (let a = r.pivot in let b = ap (λ v. length v.items) lists.members ∙ s.members.0 in omega (arith, a, b))
-    in
-    let block_room : p < length c.args.work.now.block.items = (let a = r.pivot in let b = s.block in omega (arith, a, b)) in
-    let front_room : p < length c.args.work.now.front.items = (let a = r.pivot in let b = s.front in omega (arith, a, b)) in
+    let room : p < length members = lt_of_lt_of_le r.pivot (le_of_eq (sym (ap (λ v. length v.items) lists.members ∙ s.members.0))) in
+    let block_room : p < length c.args.work.now.block.items = lt_of_lt_of_le r.pivot (le_of_eq (sym s.block)) in
+    let front_room : p < length c.args.work.now.front.items = lt_of_lt_of_le r.pivot (le_of_eq (sym s.front)) in
     record {
       renews = record {
         bound_is = renewed c.args.border c.args.work.now.live old made c.deref.result.now c.args.work.now.scratch.beyond.items
@@ -138,7 +137,7 @@ returns g c =
         least_is = (
           placing.least.0,
           λ i h. (let low = placing.least.1 i (ap (λ l. has l i) c.deref-5.ensures.value ∙ h) in
-              let e = ap (λ l. num l i) c.deref-6.ensures.value in omega (arith, low, e)),
+              le_trans low (le_of_eq (ap (λ l. num l i) c.deref-6.ensures.value))),
         );
         least_one = elim placing.one [
           | inl e ↦ inl e

@@ -38,3 +38,6 @@ rows-preserved g c =
         lists = placed_no n lists bound light i was.lists (le-ltb 0 (num c.args.size.now i) w.if-size-i-gt0.false);
       })
     ]
+
+pub returns-clause-size : goal.returns-clause-size
+returns-clause-size g c = c.rows.invariant.range

@@ -1,9 +1,15 @@
-use Rattle.std.proofs.Common.{ℕ, ◌∙◌, ap, length, refl, rules}
+use Rattle.std.proofs.Common.{ℕ, ◌∙◌, ap, length, refl, Option, ◌≡◌}
 use Rattle.std.specs.Prelude.{nat_lt, ◌==◌, ◌&&◌}
 use Rattle.amd_model.specs.Below.{count_below, list_below}
 use Rattle.amd_rounds.specs.Views.{at, num}
 use Rattle.amd_rounds.proofs.StartLaw.{stands_at_start}
+use Rattle.std.proofs.Common.{None, Some}
 use Rattle.amd_rounds.proofs.start.start.Goals as goal
+
+-- what holds of no number that is there holds of none alone
+none_only : (P : Option ℕ → Type 0) → ((x : ℕ) → P (Some x) → ⊥) → (o : Option ℕ) → P o → o ≡ None
+none_only P never None h = refl
+none_only P never (Some x) h = absurd (never x h)
 
 pub returns : goal.returns
 returns g c =
@@ -20,8 +26,8 @@ returns g c =
           c.deref.ensures.value;
       least = refl;
       live = c.count_above.ensures ∙ ap (λ xs. count_below (length xs) (λ i. nat_lt 0 (num xs i))) c.deref-2.ensures.value;
-      link = c.in_ok-vec.ensures.items_if_clones_equal (λ o h. search rules);
-      parent = c.in_ok-vec-2.ensures.items_if_clones_equal (λ o h. search rules);
+      link = c.in_ok-vec.ensures.items_if_clones_equal (none_only _ (λ x h. h));
+      parent = c.in_ok-vec-2.ensures.items_if_clones_equal (none_only _ (λ x h. h));
       block = record { size = c.in_ok-first_blocks.ensures.size; each = c.in_ok-first_blocks.ensures.numbers };
       front = record { size = c.in_ok-first_blocks-2.ensures.size; each = c.in_ok-first_blocks-2.ensures.numbers };
       n_dense = c.count_marks-n_dense.ensures ∙ ap (λ n. count_below n (at c.args.last.now)) c.requires.marks;
@@ -31,3 +37,12 @@ returns g c =
       greatest = c.add_front.ensures.d_max;
       idle = c.in_ok-scratch.ensures;
     }) c.requires.rows c.requires.degrees
+
+pub first_placed-requires-clause-degrees : goal.first_placed-requires-clause-degrees
+first_placed-requires-clause-degrees g c = c.requires.degrees
+
+pub first_blocks-requires : goal.first_blocks-requires
+first_blocks-requires g c = record { lengths = c.requires.marks }
+
+pub first_blocks-requires-2 : goal.first_blocks-requires-2
+first_blocks-requires-2 g c = record { lengths = c.requires.marks }
