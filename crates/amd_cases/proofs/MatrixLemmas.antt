@@ -1,6 +1,6 @@
 -- Bytes that were read one part after another hold the numbers of all parts.
 use Rattle.std.proofs.Common.{◌≡◌, ◌≤◌, ℕ, ℤ, pos, Option, Some, None, List, [], ◌∷◌, ◌++◌, length, map, drop, sym, ap, ◌∙◌, subst}
-use Rattle.std.proofs.Common.{append_assoc, append-nil, length-append, arith}
+use Rattle.std.proofs.Common.{append_assoc, append-nil, length-append, arith, ◌<◌, ◌^◌, negsuc, nat_abs, int_lt, FitsSigned, w64, false}
 use Rattle.std.specs.Prelude.{IfSome}
 use Rattle.std.specs.Io.KnownBytes.{Consumes, IsAtEnd}
 use Rattle.std.proofs.lemmas.List.{map-append, length-map, take_all, drop_all, take-append-le, drop-append-le}
@@ -49,25 +49,35 @@ reads-more value size number a b c xs ys x z h k is more =
     subst (ReadsNumbers size number a c) (ap (λ t. map value xs ++ t ∷ []) (sym is) ∙ sym (map-append value xs (x ∷ [])) ∙
     ap (map value) (sym more)) (reads-append size number a b c (map value xs) (z ∷ []) h k)
 
+-- a number that is no less than 0 is its absolute value, and that fits too
+pub not-negative : (y z : ℤ) → int_lt y (pos 0) ≡ false → y ≡ z → FitsSigned w64 z → (z ≡ pos (nat_abs y)) × (nat_abs y < 2 ^ 63)
+not-negative (pos k) z h e f = (sym e, (subst (FitsSigned w64) (sym e) f).sfits)
+not-negative (negsuc k) z h e f = cc
+
+-- two numbers that are no less than 0
+pub reads-two : (size : ℕ) (number : List ℕ → ℤ) (a b c : Option (List ℕ)) (y z : ℤ) (m n : ℕ) → ReadsNumbers size number a b (y ∷ []) →
+    ReadsNumbers size number b c (z ∷ []) → y ≡ pos m → z ≡ pos n → ReadsNumbers size number a c (pos m ∷ pos n ∷ [])
+reads-two size number a b c y z m n first second is_m is_n =
+    subst (λ t. ReadsNumbers size number a c (t ∷ pos n ∷ [])) is_m
+    (subst (λ t. ReadsNumbers size number a c (y ∷ t ∷ [])) is_n (reads-append size number a b c (y ∷ []) (z ∷ []) first second))
+
 -- all bytes of a file hold a matrix
-pub holds-all : (o a b c d : Option (List ℕ)) (n nz : ℤ) (columns entries : ℕ) (ap' ai : List ℤ) → ReadsNumbers 8 wide_of o a (n ∷ []) →
-    ReadsNumbers 8 wide_of a b (nz ∷ [])
-    → ReadsNumbers 8 wide_of b c ap' → ReadsNumbers 4 narrow_of c d ai → IsAtEnd d → n ≡ pos columns → nz ≡ pos entries →
-    EndsWith ap' columns nz → length ai ≡ entries
-    → IfSome o (HoldsMatrix n ap' ai)
-holds-all o a b c d n nz columns entries ap' ai first second third fourth end is_n is_nz ends len =
-    let entries_are : nz ≡ pos (length ai) = is_nz ∙ ap pos (sym len) in
-    let wide = reads-append 8 wide_of o b c (n ∷ nz ∷ []) ap' (reads-append 8 wide_of o a b (n ∷ []) (nz ∷ []) first second) third in
-    known o d (wide.bytes ++ fourth.bytes) (consumes-append o c d wide.bytes fourth.bytes wide.consumed fourth.consumed) end
+pub holds-all : (o b c d : Option (List ℕ)) (n z : ℤ) (columns entries : ℕ) (ap' ai : List ℤ) → n ≡ pos columns → z ≡ pos entries →
+    length ai ≡ entries → ReadsNumbers 8 wide_of o b (pos columns ∷ pos entries ∷ [])
+    → ReadsNumbers 8 wide_of b c ap' → EndsWith ap' columns z → ReadsNumbers 4 narrow_of c d ai → IsAtEnd d → IfSome o (HoldsMatrix n ap' ai)
+holds-all o b c d n z columns entries ap' ai is_n is_z len first second ends third end =
+    let wide = reads-append 8 wide_of o b c (pos columns ∷ pos entries ∷ []) ap' first second in
+    known o d (wide.bytes ++ third.bytes) (consumes-append o c d wide.bytes third.bytes wide.consumed third.consumed) end
     (λ bytes is. record {
       wide = wide.bytes;
-      narrow = fourth.bytes;
+      narrow = third.bytes;
       parts = is;
       columns = columns;
       counted = is_n;
-      pointers = subst (EndsWith ap' columns) entries_are ends;
-      wide_numbers = subst (λ z. HoldsNumbers 8 wide_of (n ∷ (z ∷ ap')) wide.bytes) entries_are wide.held;
-      narrow_numbers = fourth.held;
+      pointers = subst (EndsWith ap' columns) (is_z ∙ ap pos (sym len)) ends;
+      wide_numbers = subst (λ x. HoldsNumbers 8 wide_of (x ∷ (pos (length ai) ∷ ap')) wide.bytes) (sym is_n)
+          (subst (λ k. HoldsNumbers 8 wide_of (pos columns ∷ (pos k ∷ ap')) wide.bytes) (sym len) wide.held);
+      narrow_numbers = third.held;
     })
   where
     known : (o d : Option (List ℕ)) (bytes : List ℕ) → Consumes o d bytes → IsAtEnd d →

@@ -15,7 +15,7 @@ use std::alloc::Allocator;
 pub const DEFAULT_DENSE: i32 = 10000;
 
 /// What an ordering is called with.
-#[derive(Debug, Drop)]
+#[derive(Drop)]
 pub struct Case<A: Allocator> {
     /// The number that the case has in its file.
     pub number: i64,

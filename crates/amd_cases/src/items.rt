@@ -11,7 +11,7 @@ use crate::words::{first_word, number_of};
 use std::alloc::Allocator;
 
 /// What a line begins with.
-#[derive(Clone, Copy, PartialEq, Debug)]
+#[derive(Clone, Copy)]
 pub enum Keyword {
     /// `CASE`
     Case,
@@ -36,7 +36,7 @@ pub enum Keyword {
 }
 
 /// What a line of a case says.
-#[derive(Debug, Drop)]
+#[derive(Drop)]
 pub enum Item<A: Allocator> {
     /// The number of the case.
     Case(i64),

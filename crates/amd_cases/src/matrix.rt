@@ -1,7 +1,7 @@
 // A matrix file, which is binary and little endian: `n` and the number of entries as 64-bit numbers, `n + 1` pointers
 // of 64 bits, and the row of each entry in 32 bits. Called by programs that time an ordering.
 
-ghost use Rattle.std.specs.Prelude.{◌≡◌, ◌∷◌, [], length, map, IfOk, IfSome, MatchResult, OnOk};
+ghost use Rattle.std.specs.Prelude.{◌≡◌, ◌∷◌, [], length, map, pos, ◌<◌, ◌^◌, IfOk, IfSome, MatchResult, OnOk};
 ghost use Rattle.std.specs.Io.KnownBytes.{IsAtEnd};
 ghost use Rattle.amd_cases.specs.Matrices.{wide_of, narrow_of, ReadsNumbers, EndsWith, HoldsMatrix};
 ghost use Rattle.amd_cases.specs.declared.matrix.MatrixError.TheVariants.{OutOfMemory, TooLarge};
@@ -13,7 +13,7 @@ use std::io::{ErrorKind, Read};
 use thiserror::Error;
 
 /// A square matrix in column form.
-#[derive(Debug, Drop)]
+#[derive(Drop)]
 pub struct Matrix<I: PrimInt, A: Allocator> {
     /// The number of rows and columns.
     pub n: I,
@@ -93,6 +93,22 @@ fn converted<I: PrimInt>(number: i64) -> Result<I, MatrixError>
     num_traits::cast::<i64, I>(number).ok_or(MatrixError::TooLarge)
 }
 
+/// The next number of 64 bits, in the type that was asked for.
+fn next_wide<I: PrimInt, R: Read>(input: &mut R) -> Result<I, MatrixError>
+    ensures { IfOk result (λ x. ReadsNumbers 8 wide_of (R.remaining input.old) (R.remaining input.new)
+        (I.value x ∷ [])) }
+{
+    converted(wide_number(input)?)
+}
+
+/// The next number of 32 bits, in the type that was asked for.
+fn next_narrow<I: PrimInt, R: Read>(input: &mut R) -> Result<I, MatrixError>
+    ensures { IfOk result (λ x. ReadsNumbers 4 narrow_of (R.remaining input.old) (R.remaining input.new)
+        (I.value x ∷ [])) }
+{
+    converted(i64::from(narrow_number(input)?))
+}
+
 /// The next numbers of 64 bits, as many as asked for.
 fn wide_numbers<I: PrimInt, R: Read, A: Allocator>(
     alloc: A,
@@ -104,8 +120,8 @@ fn wide_numbers<I: PrimInt, R: Read, A: Allocator>(
 {
     let mut numbers = Vec::new(alloc);
     'numbers: for _done in 0..count {
-        let number = wide_number(input)?;
-        numbers.push(converted(number)?)?;
+        let number = next_wide(input)?;
+        numbers.push(number)?;
     }
     Ok(numbers)
 }
@@ -121,10 +137,22 @@ fn narrow_numbers<I: PrimInt, R: Read, A: Allocator>(
 {
     let mut numbers = Vec::new(alloc);
     'numbers: for _done in 0..count {
-        let number = narrow_number(input)?;
-        numbers.push(converted(i64::from(number))?)?;
+        let number = next_narrow(input)?;
+        numbers.push(number)?;
     }
     Ok(numbers)
+}
+
+/// The last pointer, which has to be the number of entries.
+fn last_pointer<I: PrimInt, R: Read>(input: &mut R, entries: i64) -> Result<I, MatrixError>
+    ensures { IfOk result (λ x. (I.value x ≡ entries) × ReadsNumbers 8 wide_of (R.remaining input.old)
+        (R.remaining input.new) (I.value x ∷ [])) }
+{
+    let last = wide_number(input)?;
+    if last != entries {
+        return Err(MatrixError::Pointers);
+    }
+    converted(last)
 }
 
 /// The pointers of `n` columns, of which the last has to be the number of entries.
@@ -138,12 +166,22 @@ fn pointers<I: PrimInt, R: Read, A: Allocator>(
         (map I.value v.items) × EndsWith (map I.value v.items) n entries) }
 {
     let mut numbers = wide_numbers(alloc, input, n)?;
-    let last = wide_number(input)?;
-    if last != entries {
-        return Err(MatrixError::Pointers);
-    }
-    numbers.push(converted(last)?)?;
+    let last = last_pointer(input, entries)?;
+    numbers.push(last)?;
     Ok(numbers)
+}
+
+/// The number of rows and that of entries, neither of which may be negative.
+fn sizes<R: Read>(input: &mut R) -> Result<(usize, usize), MatrixError>
+    ensures { IfOk result (λ p. (p.0 < 2 ^ 63) × (p.1 < 2 ^ 63) × ReadsNumbers 8 wide_of (R.remaining input.old)
+        (R.remaining input.new) (pos p.0 ∷ (pos p.1 ∷ []))) }
+{
+    let columns = wide_number(input)?;
+    let entries = wide_number(input)?;
+    if columns < 0 || entries < 0 {
+        return Err(MatrixError::Negative);
+    }
+    Ok((columns as usize, entries as usize))
 }
 
 /// Reads on, where no byte is to be left.
@@ -172,14 +210,10 @@ pub fn read_matrix<I: PrimInt, R: Read, A: Allocator + Copy>(
     ensures holds { IfOk result (λ m. IfSome (R.remaining input.old)
         (HoldsMatrix (I.value m.n) (map I.value m.a_p.items) (map I.value m.a_i.items))) }
 {
-    let columns = wide_number(input)?;
-    let entries = wide_number(input)?;
-    let (Ok(size), Ok(nz)) = (usize::try_from(columns), usize::try_from(entries)) else {
-        return Err(MatrixError::Negative);
-    };
-    let n = converted(columns)?;
-    let a_p = pointers(alloc, input, size, entries)?;
-    let a_i = narrow_numbers(alloc, input, nz)?;
+    let (columns, entries) = sizes(input)?;
+    let n = converted(columns as i64)?;
+    let a_p = pointers(alloc, input, columns, entries as i64)?;
+    let a_i = narrow_numbers(alloc, input, entries)?;
     expect_end(input)?;
     Ok(Matrix { n, a_p, a_i })
 }
