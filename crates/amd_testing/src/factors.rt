@@ -16,7 +16,7 @@ pub struct Factor<A: Allocator> {
 
 /// What a factor needs: the sums of `c`, of `c (c + 1) / 2` and of `c^2` over the sizes `c` of its columns, and the
 /// size of the largest column with its diagonal, 0 where there is no column.
-#[derive(Clone, Copy, Debug, PartialEq, Drop)]
+#[derive(Clone, Copy, PartialEq, Drop)]
 pub struct Need {
     /// The entries, and the divisions.
     pub lnz: usize,

@@ -50,6 +50,29 @@ fn draw_parent(state: &mut u64, n: u64, e: usize, nv: &[isize], rank: &[usize]) 
     }
 }
 
+/// Draws the number, the size and the rank of a place more.
+fn push_place<A: Allocator>(state: &mut u64, forest: &mut Forest<A>) -> Result<(), AllocError> {
+    forest.nv.push(draw_number(state, 5))?;
+    forest.f_size.push(draw_number(state, 4).max(0))?;
+    let rank = usize::try_from(draw(state, 30)).unwrap_or(0);
+    forest.rank.push(rank)?;
+    Ok(())
+}
+
+/// Draws the parent of each place.
+fn push_parents<A: Allocator>(
+    state: &mut u64,
+    n: u64,
+    forest: &mut Forest<A>,
+) -> Result<(), AllocFailed<isize>> {
+    for e in 0..forest.nv.len() {
+        let first = draw_parent(state, n, e, &forest.nv, &forest.rank);
+        let second = draw_parent(state, n, e, &forest.nv, &forest.rank);
+        forest.parent.push(first.max(second))?;
+    }
+    Ok(())
+}
+
 /// A forest with up to 12 places, drawn from a seed. Many elements have the same size, and many places hold none.
 pub fn drawn_forest<A: Allocator + Copy>(alloc: A, seed: u64) -> Result<Forest<A>, AllocError> {
     let n = seed % 13;
@@ -61,17 +84,9 @@ pub fn drawn_forest<A: Allocator + Copy>(alloc: A, seed: u64) -> Result<Forest<A
         rank: Vec::new(alloc),
     };
     for _ in 0..n {
-        forest.nv.push(draw_number(&mut state, 5))?;
-        forest.f_size.push(draw_number(&mut state, 4).max(0))?;
-        forest
-            .rank
-            .push(usize::try_from(draw(&mut state, 30)).unwrap_or(0))?;
+        push_place(&mut state, &mut forest)?;
     }
-    for e in 0..forest.nv.len() {
-        let first = draw_parent(&mut state, n, e, &forest.nv, &forest.rank);
-        let second = draw_parent(&mut state, n, e, &forest.nv, &forest.rank);
-        forest.parent.push(first.max(second))?;
-    }
+    push_parents(&mut state, n, &mut forest)?;
     Ok(forest)
 }
 

@@ -36,15 +36,28 @@ pub fn columns_of<A: Allocator + Copy>(
     Ok((a_p, a_i))
 }
 
+/// Adds the entries of column `j` of a full matrix without its diagonal, from row `from` on.
+fn push_column<A: Allocator>(
+    from: i64,
+    n: i64,
+    j: i64,
+    entries: &mut Vec<(i64, i64), A>,
+) -> Result<(), AllocFailed<(i64, i64)>> {
+    for i in from..n {
+        if i != j {
+            entries.push((i, j))?;
+        }
+    }
+    Ok(())
+}
+
 /// A star whose centre is row 0.
 pub fn star<A: Allocator + Copy>(
     alloc: A,
     n: i64,
 ) -> Result<(Vec<i64, A>, Vec<i64, A>), AllocError> {
     let mut entries = Vec::new(alloc);
-    for i in 1..n {
-        entries.push((i, 0))?;
-    }
+    push_column(0, n, 0, &mut entries)?;
     columns_of(alloc, n, &entries)
 }
 
@@ -112,20 +125,6 @@ pub fn grid<A: Allocator + Copy>(
     columns_of(alloc, n, &entries)
 }
 
-/// Adds the entries below the diagonal in column `j` of a full matrix.
-fn push_lower_column<A: Allocator>(
-    n: i64,
-    j: i64,
-    entries: &mut Vec<(i64, i64), A>,
-) -> Result<(), AllocFailed<(i64, i64)>> {
-    for i in 0..n {
-        if j < i {
-            entries.push((i, j))?;
-        }
-    }
-    Ok(())
-}
-
 /// A complete graph by the entries below the diagonal alone.
 pub fn complete_below<A: Allocator + Copy>(
     alloc: A,
@@ -133,23 +132,9 @@ pub fn complete_below<A: Allocator + Copy>(
 ) -> Result<(Vec<i64, A>, Vec<i64, A>), AllocError> {
     let mut entries = Vec::new(alloc);
     for j in 0..n {
-        push_lower_column(n, j, &mut entries)?;
+        push_column(j, n, j, &mut entries)?;
     }
     columns_of(alloc, n, &entries)
-}
-
-/// Adds the entries of column `j` of a full matrix without its diagonal.
-fn push_full_column<A: Allocator>(
-    n: i64,
-    j: i64,
-    entries: &mut Vec<(i64, i64), A>,
-) -> Result<(), AllocFailed<(i64, i64)>> {
-    for i in 0..n {
-        if i != j {
-            entries.push((i, j))?;
-        }
-    }
-    Ok(())
 }
 
 /// A complete graph: a full matrix without its diagonal.
@@ -159,7 +144,7 @@ pub fn complete<A: Allocator + Copy>(
 ) -> Result<(Vec<i64, A>, Vec<i64, A>), AllocError> {
     let mut entries = Vec::new(alloc);
     for j in 0..n {
-        push_full_column(n, j, &mut entries)?;
+        push_column(0, n, j, &mut entries)?;
     }
     columns_of(alloc, n, &entries)
 }
