@@ -1,5 +1,5 @@
 -- The words of a size and of an entry, one by one.
-use Rattle.std.proofs.Common.{◌≡◌, ◌<◌, ◌+◌, ℕ, zero, suc, pos, arith, Bool, true, false, List, [], ◌∷◌, ◌++◌, length, cond, refl, sym, ap}
+use Rattle.std.proofs.Common.{◌≡◌, ◌<◌, ℕ, zero, suc, pos, arith, Bool, true, false, List, [], ◌∷◌, ◌++◌, length, cond, sym, ap}
 use Rattle.std.proofs.Common.{◌∙◌, subst}
 use Rattle.std.specs.Prelude.{All, flat_map, ◌==◌, ◌&&◌, not}
 use Rattle.std.proofs.lemmas.List.Elements.{All-append}
@@ -9,25 +9,19 @@ use Rattle.amd_market.specs.Entries.{SpellsSize, SpellsIndex, SpellsEntry, Spell
 use Rattle.amd_market.specs.declared.headers.Field.{Field}
 use Rattle.amd_market.specs.declared.headers.Symmetry.{Symmetry}
 
--- the words of a line that was taken apart spell the numbers of any size that it spells
-pub size-words : (line f s t : List ℕ) (a b d : List (List ℕ)) → words line ≡ f ∷ a → a ≡ s ∷ b → b ≡ t ∷ d → (r c e : ℕ) →
-    SpellsSize line r c e
-    → SpellsNumber f (pos r) × (SpellsNumber s (pos c) × (SpellsNumber t (pos e) × (d ≡ [])))
-size-words line f s t a b d hf hs ht r c e h =
-    let all : h.first ∷ (h.second ∷ (h.third ∷ [])) ≡ f ∷ (s ∷ (t ∷ d)) =
-    sym h.parts ∙ hf ∙ ap (λ z. f ∷ z) (hs ∙ ap (λ z. s ∷ z) ht) in
+-- the three words of a line spell the numbers of any size that it spells
+pub size-words : (line f s t : List ℕ) → words line ≡ f ∷ (s ∷ (t ∷ [])) → (r c e : ℕ) → SpellsSize line r c e →
+    SpellsNumber f (pos r) × (SpellsNumber s (pos c) × SpellsNumber t (pos e))
+size-words line f s t are r c e h =
+    let all : h.first ∷ (h.second ∷ (h.third ∷ [])) ≡ f ∷ (s ∷ (t ∷ [])) = sym h.parts ∙ are in
     let one : h.first ≡ f = cc in
     let two : h.second ≡ s = cc in
-    let three : h.third ≡ t = cc in
-    let none : d ≡ [] = cc in (
+    let three : h.third ≡ t = cc in (
       subst (λ w. SpellsNumber w (pos r)) one h.has_rows,
-      (
-        subst (λ w. SpellsNumber w (pos c)) two h.has_columns,
-        (subst (λ w. SpellsNumber w (pos e)) three h.has_entries, none),
-      ),
+      (subst (λ w. SpellsNumber w (pos c)) two h.has_columns, subst (λ w. SpellsNumber w (pos e)) three h.has_entries),
     )
 
--- the same of an entry
+-- the words of a line that was taken apart spell the numbers of any entry that it spells
 pub entry-words : (field : Field) (n : ℕ) (line f s : List ℕ) (a b : List (List ℕ)) → words line ≡ f ∷ a → a ≡ s ∷ b → (e : ℕ × ℕ) →
     SpellsEntry field n line e
     → SpellsIndex f n e.0 × (SpellsIndex s n e.1 × (length b ≡ value_words field))

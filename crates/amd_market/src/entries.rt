@@ -1,6 +1,6 @@
 // The line of the size, and the lines of the entries. Called by `reader`, and by `held` of the crate `amd_command`.
 
-ghost use Rattle.std.specs.Prelude.{◌≡◌, ◌≢◌, ◌≤◌, ◌<◌, ◌+◌, ℕ, pos, length, IsTrue, ◌↔◌, MatchOption, MatchResult};
+ghost use Rattle.std.specs.Prelude.{◌≡◌, ◌≢◌, ◌≤◌, ◌<◌, ◌+◌, ◌∷◌, [], ℕ, List, pos, length, IsTrue, ◌↔◌, MatchOption, MatchResult};
 ghost use Rattle.amd_cases.specs.Words.{words, SpellsNumber};
 ghost use Rattle.amd_market.specs.Entries.{SpellsSize, SpellsIndex, SpellsEntry, most_rows};
 ghost use Rattle.amd_market.specs.declared.faults.Fault.TheVariants as fault;
@@ -10,7 +10,7 @@ use crate::headers::Field;
 use amd_cases::words::{first_word, number_of};
 
 /// How large a matrix is.
-#[derive(Clone, Copy, PartialEq, Debug)]
+#[derive(Clone, Copy)]
 pub struct Size {
     /// The number of rows.
     pub rows: usize,
@@ -55,17 +55,27 @@ fn has_words(text: &[u8], count: usize) -> bool
     first_word(left).is_none()
 }
 
+/// The words of a line that has three.
+fn three_words(line: &[u8]) -> Option<(&[u8], &[u8], &[u8])>
+    ensures { MatchOption result ((f s t : List ℕ) → words line.now ≢ f ∷ (s ∷ (t ∷ [])))
+        (λ p. words line.now ≡ p.0.now ∷ (p.1.now ∷ (p.2.now ∷ []))) }
+{
+    let (first, rest) = first_word(line)?;
+    let (second, rest) = first_word(rest)?;
+    let (third, rest) = first_word(rest)?;
+    if first_word(rest).is_none() {
+        Some((first, second, third))
+    } else {
+        None
+    }
+}
+
 /// The numbers that a line spells.
 fn spelled_size(line: &[u8]) -> Option<Size>
     ensures { MatchOption result ((r c e : ℕ) → SpellsSize line.now r c e → ⊥)
         (λ s. SpellsSize line.now s.rows s.columns s.entries) }
 {
-    let (first, rest) = first_word(line)?;
-    let (second, rest) = first_word(rest)?;
-    let (third, rest) = first_word(rest)?;
-    if first_word(rest).is_some() {
-        return None;
-    }
+    let (first, second, third) = three_words(line)?;
     Some(Size {
         rows: count_of(first)?,
         columns: count_of(second)?,

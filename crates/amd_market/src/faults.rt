@@ -5,43 +5,59 @@ ghost use Rattle.std.specs.Prelude.{◌≡◌};
 ghost use Rattle.amd_market.specs.declared.faults.Fault.TheVariants.{OutOfMemory};
 
 use std::alloc::AllocFailed;
-use std::io;
+use std::{fmt, io};
 use thiserror::Error;
 
 /// What is wrong with a line.
-#[derive(Clone, Copy, PartialEq, Debug, Drop, Error)]
+#[derive(Clone, Copy, PartialEq, Debug, Drop)]
 pub enum Fault {
     /// The first line is not that of a sparse matrix.
-    #[error("no line '%%MatrixMarket matrix coordinate', a field and a symmetry")]
     Header,
     /// The line of the size is not three numbers, or there is none.
-    #[error("no numbers of rows, columns and entries")]
     Size,
     /// There are not as many rows as columns.
-    #[error("a matrix that is not square")]
     NotSquare,
     /// There are more rows than a matrix with so many entries may have here.
-    #[error("too many rows for so few entries")]
     Rows,
     /// The line is no entry: its row or its column is no number in range, or it has more or fewer words.
-    #[error("no row and column in range with the value that the header tells")]
     Entry,
     /// The line of a list of rows is no number of a row alone.
-    #[error("no number of a row alone")]
     Row,
     /// The input ends before the last entry.
-    #[error("fewer entries than the size tells")]
     Missing,
     /// An entry stands behind the last one.
-    #[error("more entries than the size tells")]
     More,
     /// There are more lines than 64 bits count.
-    #[error("too many lines")]
     Lines,
     /// Memory was refused.
-    #[error("out of memory")]
     OutOfMemory,
 }
+
+impl Fault {
+    /// The fault in words.
+    fn text(self) -> &'static str {
+        match self {
+            Fault::Header => "no line '%%MatrixMarket matrix coordinate', a field and a symmetry",
+            Fault::Size => "no numbers of rows, columns and entries",
+            Fault::NotSquare => "a matrix that is not square",
+            Fault::Rows => "too many rows for so few entries",
+            Fault::Entry => "no row and column in range with the value that the header tells",
+            Fault::Row => "no number of a row alone",
+            Fault::Missing => "fewer entries than the size tells",
+            Fault::More => "more entries than the size tells",
+            Fault::Lines => "too many lines",
+            Fault::OutOfMemory => "out of memory",
+        }
+    }
+}
+
+impl fmt::Display for Fault {
+    fn fmt<W: fmt::Write>(&self, f: &mut fmt::Formatter<W>) -> fmt::Result {
+        f.write_str(self.text())
+    }
+}
+
+impl std::error::Error for Fault {}
 
 impl<T: Drop> From<AllocFailed<T>> for Fault {
     ghost from_gives = { λ _ e. e ≡ OutOfMemory };

@@ -10,7 +10,7 @@ use crate::faults::Fault;
 use amd_cases::words::first_word;
 
 /// What a value is.
-#[derive(Clone, Copy, PartialEq, Debug)]
+#[derive(Clone, Copy)]
 pub enum Field {
     /// `real`
     Real,
@@ -23,7 +23,7 @@ pub enum Field {
 }
 
 /// What an entry says of its mirror image.
-#[derive(Clone, Copy, PartialEq, Debug)]
+#[derive(Clone, Copy)]
 pub enum Symmetry {
     /// `general`: nothing.
     General,
@@ -36,7 +36,7 @@ pub enum Symmetry {
 }
 
 /// What the first line says.
-#[derive(Clone, Copy, PartialEq, Debug)]
+#[derive(Clone, Copy)]
 pub struct Header {
     /// What a value is.
     pub field: Field,
@@ -69,19 +69,38 @@ impl Symmetry {
     }
 }
 
-/// The word of a skew-symmetric matrix.
-const SKEW: &[u8] = b"skew-symmetric";
+// The words of the fields.
+const REAL: &[u8] = b"real";
+
+const INTEGER: &[u8] = b"integer";
+
+const COMPLEX: &[u8] = b"complex";
+
+const PATTERN: &[u8] = b"pattern";
+
+// The words of the symmetries.
+const GENERAL: &[u8] = b"general";
+
+const SYMMETRIC: &[u8] = b"symmetric";
+
+const SKEW_SYMMETRIC: &[u8] = b"skew-symmetric";
+
+const HERMITIAN: &[u8] = b"hermitian";
 
 /// The field that a word is.
 fn field_of(word: &[u8]) -> Option<Field>
     ensures { MatchOption result ((f : Field) → word.now ≢ field_text f) (λ f. word.now ≡ field_text f) }
 {
-    match word {
-        b"real" => Some(Field::Real),
-        b"integer" => Some(Field::Integer),
-        b"complex" => Some(Field::Complex),
-        b"pattern" => Some(Field::Pattern),
-        _ => None,
+    if word == REAL {
+        Some(Field::Real)
+    } else if word == INTEGER {
+        Some(Field::Integer)
+    } else if word == COMPLEX {
+        Some(Field::Complex)
+    } else if word == PATTERN {
+        Some(Field::Pattern)
+    } else {
+        None
     }
 }
 
@@ -89,14 +108,16 @@ fn field_of(word: &[u8]) -> Option<Field>
 fn symmetry_of(word: &[u8]) -> Option<Symmetry>
     ensures { MatchOption result ((s : Symmetry) → word.now ≢ symmetry_text s) (λ s. word.now ≡ symmetry_text s) }
 {
-    if word == SKEW {
-        return Some(Symmetry::SkewSymmetric);
-    }
-    match word {
-        b"general" => Some(Symmetry::General),
-        b"symmetric" => Some(Symmetry::Symmetric),
-        b"hermitian" => Some(Symmetry::Hermitian),
-        _ => None,
+    if word == GENERAL {
+        Some(Symmetry::General)
+    } else if word == SYMMETRIC {
+        Some(Symmetry::Symmetric)
+    } else if word == SKEW_SYMMETRIC {
+        Some(Symmetry::SkewSymmetric)
+    } else if word == HERMITIAN {
+        Some(Symmetry::Hermitian)
+    } else {
+        None
     }
 }
 

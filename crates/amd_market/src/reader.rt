@@ -16,7 +16,7 @@ use std::alloc::{AllocError, Allocator};
 use std::io::BufRead;
 
 /// The pattern of a square matrix in column form.
-#[derive(Debug, Drop)]
+#[derive(Drop)]
 pub struct Matrix<A: Allocator> {
     /// The number of rows and columns.
     pub n: usize,
