@@ -1,6 +1,6 @@
 // The twelve integer types: both ends of each range, as the number of columns, as a pointer and as a row; numbers of
 // type `u128` past the greatest `usize`; and as many rows and entries as a type has. That a matrix is ordered in each
-// of the types is in the crate `amd_outcome_tests`.
+// of the types is in `outcome::numbers`.
 
 use amd::valid::valid;
 use amd::{Control, Status, order};

@@ -2,7 +2,7 @@
 // refusal answers `OutOfMemory`, and the first one without gives the answer. After each of them as many blocks came
 // back as were granted.
 
-use crate::worked::{Case, FOUR_CYCLE, WORKED, check_factor};
+use crate::outcome::worked::{Case, FOUR_CYCLE, WORKED, check_factor};
 use amd::Control;
 use amd_symbolic::{Factor, Fault, analyze, analyze_holding, columns};
 use amd_testing::check;
