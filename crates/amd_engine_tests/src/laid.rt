@@ -31,7 +31,7 @@ struct Case<'a> {
 }
 
 /// Matrices with their workspaces, of which `order` takes as many words as here.
-static MATRICES: [Case<'static>; 3] = [
+static MATRICES: [Case<'static>; 4] = [
     Case {
         what: "a four-cycle",
         n: 4,
@@ -61,6 +61,16 @@ static MATRICES: [Case<'static>; 3] = [
         words: &[4, 4, 3, 4, 3, 1, 2, 4, 1, 2, 3, 0, 0, 0, 0, 0, 0, 0, 0],
         starts: &[0, 1, 3, 5, 8],
         lengths: &[1, 2, 2, 3, 4],
+    },
+    Case {
+        what: "a path of three rows in both triangles, behind whose last list the last diagonal entry was copied",
+        n: 3,
+        a_p: &[0, 2, 5, 7],
+        a_i: &[0, 1, 0, 1, 2, 1, 2],
+        more: 0,
+        words: &[1, 0, 2, 1, 2, 0, 0],
+        starts: &[0, 1, 3],
+        lengths: &[1, 2, 1],
     },
 ];
 
