@@ -64,7 +64,8 @@ reads-two size number a b c y z m n first second is_m is_n =
 -- all bytes of a file hold a matrix
 pub holds-all : (o b c d : Option (List ℕ)) (n z : ℤ) (columns entries : ℕ) (ap' ai : List ℤ) → n ≡ pos columns → z ≡ pos entries →
     length ai ≡ entries → ReadsNumbers 8 wide_of o b (pos columns ∷ pos entries ∷ [])
-    → ReadsNumbers 8 wide_of b c ap' → EndsWith ap' columns z → ReadsNumbers 4 narrow_of c d ai → IsAtEnd d → IfSome o (HoldsMatrix n ap' ai)
+    → ReadsNumbers 8 wide_of b c ap' → EndsWith ap' columns z → ReadsNumbers 4 narrow_of c d ai → IsAtEnd d → IfSome o (HoldsMatrix n
+    ap' ai)
 holds-all o b c d n z columns entries ap' ai is_n is_z len first second ends third end =
     let wide = reads-append 8 wide_of o b c (pos columns ∷ pos entries ∷ []) ap' first second in
     known o d (wide.bytes ++ third.bytes) (consumes-append o c d wide.bytes third.bytes wide.consumed third.consumed) end

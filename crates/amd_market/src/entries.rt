@@ -1,6 +1,7 @@
 // The line of the size, and the lines of the entries. Called by `reader`, and by `held` of the crate `amd_command`.
 
-ghost use Rattle.std.specs.Prelude.{◌≡◌, ◌≢◌, ◌≤◌, ◌<◌, ◌+◌, ◌∷◌, [], ℕ, List, pos, length, IsTrue, ◌↔◌, MatchOption, MatchResult};
+ghost use Rattle.std.specs.Prelude.{◌≡◌, ◌≢◌, ◌≤◌, ◌<◌, ◌+◌, ◌∷◌, [], ℕ, List, pos, length};
+ghost use Rattle.std.specs.Prelude.{IsTrue, ◌↔◌, MatchOption, MatchResult};
 ghost use Rattle.amd_cases.specs.Words.{words, SpellsNumber};
 ghost use Rattle.amd_market.specs.Entries.{SpellsSize, SpellsIndex, SpellsEntry, most_rows};
 ghost use Rattle.amd_market.specs.declared.faults.Fault.TheVariants as fault;

@@ -40,7 +40,12 @@ module _ (n from : ℕ) (xs : List ℕ) (old iw : List ℤ) (end : ℕ) (c : Cop
   here = get_or-set_same iw end (pos j) (pos 0) inside
 
   same_rows : rows (set iw end (pos j)) from (length xs) ≡ xs
-  same_rows = rows_same iw (set iw end (pos j)) from from (length xs) (λ k l. still (from + k) (let e = c.ends in λ w. omega (arith, e, l, w)))
+  same_rows = rows_same iw (set iw end (pos j)) from from (length xs) (λ k l. still (from + k) (let e = c.ends in λ w. omega (
+    arith,
+    e,
+    l,
+    w,
+  )))
       ∙ c.copied
 
   same_before : (k : ℕ) → k < from → word (set iw end (pos j)) k ≡ word old k
@@ -124,7 +129,8 @@ module _ (n : ℕ) (ap' ai : List ℕ) (form : IsSortedForm n ap' ai) (i stop m 
     left_of : (r : ℕ) → p ≤ r → r < stop → row ≤ get_or ai r 0
     left_of r a b = elim (cases_eq p r) [
       | inl e ↦ (let w = ap (λ z. get_or ai z 0) e in omega (arith, w, is))
-      | inr ne ↦ (let f = so.from in let w = form.ascend i p r i_in f (omega (arith, a, ne)) (omega (arith, b, stop_is)) in omega (arith, w, is))
+      | inr ne ↦ (let f = so.from in let w = form.ascend i p r i_in f (omega (arith, a, ne)) (omega (arith, b, stop_is)) in omega
+          (arith, w, is))
     ]
 
     pub row_small : row < n
@@ -136,7 +142,8 @@ module _ (n : ℕ) (ap' ai : List ℕ) (form : IsSortedForm n ap' ai) (i stop m 
         (entry_from ap' ai n row i p i_in so.from (omega (arith, inside, stop_is)) (sym is)))
 
     pub others_same : row ≡ i → list_below (row + 1) (own (is_entry n ap' ai) i) ≡ list_below m (own (is_entry n ap' ai) i)
-    others_same e = list_gap (own (is_entry n ap' ai) i) m (row + 1) (let w = least in omega (arith, w)) (λ x low high. elim (cases_eq x i) [
-      | inl s ↦ rw (eq-eqb x i s) refl
-      | inr ne ↦ none_left row left_of x low (omega (arith, high, ne, e))
-    ])
+    others_same e = list_gap (own (is_entry n ap' ai) i) m (row + 1) (let w = least in omega (arith, w)) (λ x low high. elim (cases_eq
+        x i) [
+          | inl s ↦ rw (eq-eqb x i s) refl
+          | inr ne ↦ none_left row left_of x low (omega (arith, high, ne, e))
+        ])

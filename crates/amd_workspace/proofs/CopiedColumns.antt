@@ -27,7 +27,8 @@ module _ (n : ℕ) (ap' ai : List ℤ) (degrees : List ℕ)
   neighbours j m = are.each j m
 
   -- the lists before are as they were
-  kept : (j : ℕ) → j < i → rows new (start_of (graph_of n ap' ai) j) (num degrees j) ≡ rows old (start_of (graph_of n ap' ai) j) (num degrees j)
+  kept : (j : ℕ) → j < i → rows new (start_of (graph_of n ap' ai) j) (num degrees j) ≡ rows old (start_of (graph_of n ap' ai) j) (num
+      degrees j)
   unfolding graph_of
   kept j m = rows_same old new (start_of (graph_of n ap' ai) j) (start_of (graph_of n ap' ai) j) (num degrees j) (λ k x.
       c.before (start_of (graph_of n ap' ai) j + k)

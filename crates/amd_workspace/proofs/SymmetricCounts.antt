@@ -69,7 +69,8 @@ module _ (n : ℕ) (ap' ai : List ℤ) where
       omega (arith, is, room, few, later)
 
   -- where the next list starts
-  pub next_start : (i : ℕ) → start_of (graph_of n ap' ai) (i + 1) ≡ start_of (graph_of n ap' ai) i + count_below n ((graph_of n ap' ai).edge i)
+  pub next_start : (i : ℕ) → start_of (graph_of n ap' ai) (i + 1) ≡ start_of (graph_of n ap' ai) i + count_below n ((graph_of n ap'
+      ai).edge i)
   unfolding start_of graph_of
   next_start i = let e = sum_next i (λ a. count_below n ((graph_of n ap' ai).edge a)) in omega (arith, e)
 

@@ -114,7 +114,10 @@ module _ (n : ℕ) (pair : ℕ → ℕ → Bool) (mirror : (a b : ℕ) → pair 
             lt-ltb i (suc i) (omega arith),
           ) refl
           | inr ne ↦ rw (end_none k b ne (λ w. omega (arith, m, w))) (elim (cases_lt i b) [
-            | inl x ↦ rw (lt-ltb i b x, lt-ltb i (suc b) (omega (arith, x))) (elim (cases_Bool (pair b k)) [ inl p ↦ rw p (append-nil _) | inr p ↦ rw p (append-nil _) ])
+            | inl x ↦ rw (lt-ltb i b x, lt-ltb i (suc b) (omega (arith, x))) (elim (cases_Bool (pair b k)) [
+              | inl p ↦ rw p (append-nil _)
+              | inr p ↦ rw p (append-nil _)
+            ])
             | inr x ↦ rw (
               not_before b (omega (arith, x)),
               not_before (suc b) (omega (arith, x, ne)),
@@ -139,7 +142,11 @@ module _ (n : ℕ) (pair : ℕ → ℕ → Bool) (mirror : (a b : ℕ) → pair 
       | inl l ↦ rw (before_own m l, not_before m (omega (arith, l)), not_before (suc m) (omega (arith, l))) refl
       | inr l ↦ elim (cases_eq m i) [
         | inl e ↦ rw (e, not_before i (omega arith), lt-ltb i (suc i) (omega arith), own_self)
-            (own_column i i refl (omega arith) ∙ list_same i (λ j. pair j i) (own pair i) (λ x m. sym (own_other x (λ w. omega (arith, m, w))))
+            (own_column i i refl (omega arith) ∙ list_same i (λ j. pair j i) (own pair i) (λ x m. sym (own_other x (λ w. omega (
+              arith,
+              m,
+              w,
+            ))))
             ∙ sym (append-nil (list_below i (own pair i))))
         | inr ne ↦ rw (lt-ltb i m (omega (arith, l, ne)), lt-ltb i (suc m) (omega (arith, l)), own_other m ne)
             (ap (λ ys. list_below m (own pair i) ++ ys) (later_column m m (omega (arith, l, ne)) (omega arith)

@@ -20,7 +20,8 @@ columns-init g c = record {
 
 pub copy_column-end-requires-clause-room : goal.copy_column-end-requires-clause-room
 copy_column-end-requires-clause-room g c = others_room c.args.size (map g.I.Number.value c.args.a_p.now)
-    (map g.I.Number.value c.args.a_i.now) c.columns.i c.columns.free (length c.columns.iw) c.columns-test.true c.columns.invariant.copied.place
+    (map g.I.Number.value c.args.a_i.now) c.columns.i c.columns.free (length c.columns.iw) c.columns-test.true
+    c.columns.invariant.copied.place
     (let a = c.columns.invariant.long in let b = c.requires.room in omega (arith, a, b))
 
 pub bounds-degrees-i : goal.bounds-degrees-i

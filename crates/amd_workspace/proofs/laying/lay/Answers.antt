@@ -44,11 +44,14 @@ returns-then-copy_symmetric-clause-laid g c =
     let ap' = map g.I.Number.value c.args.a_p.now in let ai = map g.I.Number.value c.args.a_i.now in
     let graph = graph_of c.args.size ap' ai in
     let r = c.requires in let s = c.starts-free.new in let iw = c.in_ok-iw.iw in let new = c.copy_symmetric.new.iw in
-    let back = copied_back c.args.size c.args.room r.some iw.items c.deref_mut.result.now new iw.len c.deref_mut.ensures.value c.in_ok-iw.ensures
+    let back = copied_back c.args.size c.args.room r.some iw.items c.deref_mut.result.now new iw.len c.deref_mut.ensures.value
+    c.in_ok-iw.ensures
     (let b = iw.ok.0 in omega (arith, b)) c.copy_symmetric.ensures.long c.copy_symmetric.ensures.words in
-    let long = copied_long c.args.size c.args.room r.some iw.items c.deref_mut.result.now new iw.len c.deref_mut.ensures.value c.in_ok-iw.ensures
+    let long = copied_long c.args.size c.args.room r.some iw.items c.deref_mut.result.now new iw.len c.deref_mut.ensures.value
+    c.in_ok-iw.ensures
     (let b = iw.ok.0 in omega (arith, b)) c.copy_symmetric.ensures.long c.copy_symmetric.ensures.words in
-    let names = copied_rows c.args.size c.args.room r.some iw.items c.deref_mut.result.now new iw.len c.deref_mut.ensures.value c.in_ok-iw.ensures
+    let names = copied_rows c.args.size c.args.room r.some iw.items c.deref_mut.result.now new iw.len c.deref_mut.ensures.value
+    c.in_ok-iw.ensures
     (let b = iw.ok.0 in omega (arith, b)) c.copy_symmetric.ensures.long c.copy_symmetric.ensures.words in
     let out = laid_out graph c.args.degrees.now s.pe.items s.next.items s.len.items r.degrees c.starts-free.ensures.starts new names
     (let a = r.room in omega (arith, a, long)) in
@@ -62,9 +65,11 @@ returns-then-copy_symmetric-clause-long g c =
     let ap' = map g.I.Number.value c.args.a_p.now in let ai = map g.I.Number.value c.args.a_i.now in
     let graph = graph_of c.args.size ap' ai in
     let r = c.requires in let s = c.starts-free.new in let iw = c.in_ok-iw.iw in let new = c.copy_symmetric.new.iw in
-    let back = copied_back c.args.size c.args.room r.some iw.items c.deref_mut.result.now new iw.len c.deref_mut.ensures.value c.in_ok-iw.ensures
+    let back = copied_back c.args.size c.args.room r.some iw.items c.deref_mut.result.now new iw.len c.deref_mut.ensures.value
+    c.in_ok-iw.ensures
     (let b = iw.ok.0 in omega (arith, b)) c.copy_symmetric.ensures.long c.copy_symmetric.ensures.words in
-    let long = copied_long c.args.size c.args.room r.some iw.items c.deref_mut.result.now new iw.len c.deref_mut.ensures.value c.in_ok-iw.ensures
+    let long = copied_long c.args.size c.args.room r.some iw.items c.deref_mut.result.now new iw.len c.deref_mut.ensures.value
+    c.in_ok-iw.ensures
     (let b = iw.ok.0 in omega (arith, b)) c.copy_symmetric.ensures.long c.copy_symmetric.ensures.words in
     (ap length back ∙ long, c.starts-free.ensures.total ∙ total_is graph c.args.degrees.now r.degrees)
 
@@ -74,7 +79,8 @@ returns-then-copy_symmetric-clause-lists g c = λ i l.
     let ap' = map g.I.Number.value c.args.a_p.now in let ai = map g.I.Number.value c.args.a_i.now in
     let graph = graph_of c.args.size ap' ai in
     let r = c.requires in let s = c.starts-free.new in let iw = c.in_ok-iw.iw in let new = c.copy_symmetric.new.iw in
-    let back = copied_back c.args.size c.args.room r.some iw.items c.deref_mut.result.now new iw.len c.deref_mut.ensures.value c.in_ok-iw.ensures
+    let back = copied_back c.args.size c.args.room r.some iw.items c.deref_mut.result.now new iw.len c.deref_mut.ensures.value
+    c.in_ok-iw.ensures
     (let b = iw.ok.0 in omega (arith, b)) c.copy_symmetric.ensures.long c.copy_symmetric.ensures.words in
     ap (λ xs. list_in xs s.pe.items s.len.items i) back
     ∙ list_at graph c.args.degrees.now s.pe.items s.next.items s.len.items r.degrees c.starts-free.ensures.starts new _ i l
@@ -86,15 +92,22 @@ walk-requires-clause-held g c =
     let ap' = map g.I.Number.value c.args.a_p.now in let ai = map g.I.Number.value c.args.a_i.now in
     let graph = graph_of c.args.size ap' ai in
     let r = c.requires in let s = c.starts-free.new in let iw = c.in_ok-iw.iw in let new = c.copy_symmetric.new.iw in
-    let back = copied_back c.args.size c.args.room r.some iw.items c.deref_mut.result.now new iw.len c.deref_mut.ensures.value c.in_ok-iw.ensures
+    let back = copied_back c.args.size c.args.room r.some iw.items c.deref_mut.result.now new iw.len c.deref_mut.ensures.value
+    c.in_ok-iw.ensures
     (let b = iw.ok.0 in omega (arith, b)) c.copy_symmetric.ensures.long c.copy_symmetric.ensures.words in
-    let long = copied_long c.args.size c.args.room r.some iw.items c.deref_mut.result.now new iw.len c.deref_mut.ensures.value c.in_ok-iw.ensures
+    let long = copied_long c.args.size c.args.room r.some iw.items c.deref_mut.result.now new iw.len c.deref_mut.ensures.value
+    c.in_ok-iw.ensures
     (let b = iw.ok.0 in omega (arith, b)) c.copy_symmetric.ensures.long c.copy_symmetric.ensures.words in
-    let names = copied_rows c.args.size c.args.room r.some iw.items c.deref_mut.result.now new iw.len c.deref_mut.ensures.value c.in_ok-iw.ensures
+    let names = copied_rows c.args.size c.args.room r.some iw.items c.deref_mut.result.now new iw.len c.deref_mut.ensures.value
+    c.in_ok-iw.ensures
     (let b = iw.ok.0 in omega (arith, b)) c.copy_symmetric.ensures.long c.copy_symmetric.ensures.words in
     let P : List ℤ → Type 0 = λ xs. Lays graph (λ a b. false) [] g.S.Signed.MOST g.U.Unsigned.MOST s.next.items xs in
     subst P (sym back) (lays_none graph c.args.degrees.now s.pe.items s.next.items s.len.items r.degrees c.starts-free.ensures.starts
-    g.S.Signed.MOST g.U.Unsigned.MOST new names (let a = r.room in omega (arith, a, long)) r.fits.0 (let a = r.fits.2 in omega (arith, a, long)))
+    g.S.Signed.MOST g.U.Unsigned.MOST new names (let a = r.room in omega (arith, a, long)) r.fits.0 (let a = r.fits.2 in omega (
+      arith,
+      a,
+      long,
+    )))
 
 pub returns-clause-laid : goal.returns-clause-laid
 unfolding graph_of
@@ -117,9 +130,11 @@ returns-clause-long g c =
     let ap' = map g.I.Number.value c.args.a_p.now in let ai = map g.I.Number.value c.args.a_i.now in
     let graph = graph_of c.args.size ap' ai in
     let r = c.requires in let s = c.starts-free.new in let iw = c.in_ok-iw.iw in let new = c.copy_symmetric.new.iw in
-    let back = copied_back c.args.size c.args.room r.some iw.items c.deref_mut.result.now new iw.len c.deref_mut.ensures.value c.in_ok-iw.ensures
+    let back = copied_back c.args.size c.args.room r.some iw.items c.deref_mut.result.now new iw.len c.deref_mut.ensures.value
+    c.in_ok-iw.ensures
     (let b = iw.ok.0 in omega (arith, b)) c.copy_symmetric.ensures.long c.copy_symmetric.ensures.words in
-    let long = copied_long c.args.size c.args.room r.some iw.items c.deref_mut.result.now new iw.len c.deref_mut.ensures.value c.in_ok-iw.ensures
+    let long = copied_long c.args.size c.args.room r.some iw.items c.deref_mut.result.now new iw.len c.deref_mut.ensures.value
+    c.in_ok-iw.ensures
     (let b = iw.ok.0 in omega (arith, b)) c.copy_symmetric.ensures.long c.copy_symmetric.ensures.words in (
       c.walk.ensures.kept ∙ ap length back ∙ long,
       c.starts-free.ensures.total ∙ total_is graph c.args.degrees.now c.requires.degrees,
