@@ -83,7 +83,7 @@ module _ (n : ℕ) (iw pe e_len : List ℤ) (len : List ℕ) where
     pub alike_key : alike_in es vs i j ≡ true → key_of n (words_of iw pe len i) ≡ key_of n (words_of iw pe len j)
     alike_key h = let p = alike_words h in same_key n (words_of iw pe len i) (words_of iw pe len j) ri.once rj.once p.0 p.1
 
-    alike_counts : alike_in es vs i j ≡ true → (num len j ≡ num len i) × (place (word e_len j) ≡ place (word e_len i))
+    pub alike_counts : alike_in es vs i j ≡ true → (num len j ≡ num len i) × (place (word e_len j) ≡ place (word e_len i))
     alike_counts h = let p = alike_words h in let q = alike_gives es vs i j h in
         let all = same_length (words_of iw pe len i) (words_of iw pe len j) ri.once rj.once p.0 p.1 in
         let some = same_length (es i) (es j) (once_left (es i) (vs i) once_i) (once_left (es j) (vs j) once_j) q.0 q.1 in

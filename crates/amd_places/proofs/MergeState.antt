@@ -1,6 +1,6 @@
 -- The classes of a front are gone through from the last one on: each is merged into one alike of its bucket, or put into it.
 use Rattle.amd_model.proofs.Counting.Below.{clash}
-use Rattle.std.proofs.Common.{ℕ, suc, ℤ, negsuc, Bool, true, false, List, [], ◌∷◌, ◌++◌, ◌≡◌, ◌<◌, ◌≤◌, ◌+◌, ◌-◌, ◌&&◌, not, cond, inl, inr}
+use Rattle.std.proofs.Common.{ℕ, suc, ℤ, negsuc, Bool, true, false, List, [], ◌∷◌, ◌++◌, ◌≡◌, ◌<◌, ◌≤◌, ◌+◌, ◌&&◌, not, cond, inl, inr}
 use Rattle.std.proofs.Common.{refl, sym, subst, ap, ◌∙◌, arith, length, get_or, set, take, drop, pos, get_or-set_same, get_or-set_other}
 use Rattle.std.specs.Prelude.{◌==◌, sum_by}
 use Rattle.std.proofs.lemmas.Bool.{cases_Bool, cases_eq, eq-eqb, ne_eqb, eqb-true, cond-true, cond-false, and_parts, and_right}

@@ -1,5 +1,4 @@
 -- The list of a new element gone through from its end: each word names a class of the front, or a row that is none any more.
-use Rattle.amd_model.proofs.Counting.Below.{clash}
 use Rattle.std.proofs.Common.{ℕ, ℤ, Bool, true, false, List, [], ◌∷◌, ◌++◌, ◌≡◌, ◌<◌, ◌≤◌, ◌+◌, ◌-◌, inl, inr, sym, subst, ap, ◌∙◌}
 use Rattle.std.proofs.Common.{arith, length, get_or, append_assoc}
 use Rattle.std.specs.Prelude.{◌==◌, nat_lt}

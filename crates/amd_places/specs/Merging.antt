@@ -43,9 +43,13 @@ AreApart iw pe e_len len i j = ((x : ℕ) → has (kept_of iw pe e_len i) x ≡ 
     has (near_of iw pe e_len len j) x ≡ false)
     × ((x : ℕ) → has (kept_of iw pe e_len j) x ≡ true → has (near_of iw pe e_len len i) x ≡ false)
 
--- the class j has as many words and elements as given, and all its words are marked with the flag
+-- the class j has as many words and elements as given
+abbrev pub as_long : List ℤ → List ℕ → ℕ → ℕ → ℕ → Bool
+as_long e_len len count few j = num len j == count && place (word e_len j) == few
+
+-- so it has, and all its words are marked with the flag
 abbrev pub looks : List ℤ → List ℤ → List ℤ → List ℕ → List ℕ → ℕ → ℕ → ℕ → ℕ → Bool
-looks iw pe e_len len w count few flag j = (num len j == count && place (word e_len j) == few)
+looks iw pe e_len len w count few flag j = as_long e_len len count few j
     && each (λ x. num w x == flag) (words_of iw pe len j)
 
 -- what a search among some rows below n finds: one that passes, or n if none does

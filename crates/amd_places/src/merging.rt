@@ -3,14 +3,14 @@
 // number of rows. Source: Amestoy, Davis and Duff 1996 (supervariables, found by a hash function). Called by: a round.
 
 ghost use Rattle.std.specs.Prelude.{◌≡◌, ◌≢◌, ◌<◌, ◌≤◌, ◌+◌, ◌-◌, ◌^◌, ◌&&◌, ◌||◌, ◌==◌, not, cond, negsuc, nat_lt, ℕ};
-ghost use Rattle.std.specs.Prelude.{List, true, length, slice_set};
+ghost use Rattle.std.specs.Prelude.{List, true, false, length, slice_set, ◌⊎◌};
 ghost use Rattle.amd_model.specs.Quotient.{has, each};
 ghost use Rattle.amd_places.specs.Words.{num, word, place, is_place, flip_of, size_of, in_front, classes, rows, Names};
 ghost use Rattle.amd_views.specs.Rounds.{alike_in};
 ghost use Rattle.amd_places.specs.Chains.{Chain};
 ghost use Rattle.amd_places.specs.FrontLists.{IsList, LongToMerge, MergesList};
 ghost use Rattle.amd_places.specs.Merging.{bucket, kept_of, near_of, words_of, IsRenewed, AreApart, looks, Finds};
-ghost use Rattle.amd_places.specs.Merging.{Settles, AreRenewed, IsReady};
+ghost use Rattle.amd_places.specs.Merging.{as_long, Settles, AreRenewed, IsReady};
 
 use crate::words::{named, put_flip};
 use amd_cells::{Figure, Signed, Unsigned, Word, figure_at, put_figure, put_word, word_at};
@@ -57,6 +57,50 @@ fn all_marked<S: Signed, U: Unsigned>(
     true
 }
 
+/// Whether a class has so many words and elements.
+fn is_as_long<S: Signed, U: Unsigned>(
+    e_len: &[Word<S>],
+    len: &[Figure<U>],
+    j: usize,
+    count: usize,
+    few: usize,
+) -> bool
+    requires inside { (j < length e_len.now) × (j < length len.now) }
+    requires counts { is_place (word e_len.now j) ≡ true }
+    ensures { result ≡ as_long e_len.now len.now count few j }
+{
+    if figure_at(len, j) != count {
+        return false;
+    }
+    named(e_len, j) == few
+}
+
+/// Whether some class of a bucket has so many words and elements.
+fn any_as_long<S: Signed, U: Unsigned>(
+    e_len: &[Word<S>],
+    len: &[Figure<U>],
+    next: &[Figure<U>],
+    head: usize,
+    count: usize,
+    few: usize,
+) -> bool
+    requires lengths { (length e_len.now ≡ length next.now) × (length len.now ≡ length next.now) }
+    requires chain { Chain (length next.now) next.now head (bucket next.now head) }
+    requires members { (j : ℕ) → has (bucket next.now head) j ≡ true → is_place (word e_len.now j) ≡ true }
+    ensures { result ≡ false → (j : ℕ) → has (bucket next.now head) j ≡ true →
+        as_long e_len.now len.now count few j ≡ false }
+{
+    let n = next.len();
+    let mut j = head;
+    'members: while j < n {
+        if is_as_long(e_len, len, j, count, few) {
+            return true;
+        }
+        j = figure_at(next, j);
+    }
+    false
+}
+
 /// Whether a class has so many words and elements, and each of its words is marked.
 fn is_like<S: Signed, U: Unsigned>(
     iw: &[Word<S>],
@@ -75,10 +119,7 @@ fn is_like<S: Signed, U: Unsigned>(
     requires renewed { IsRenewed (length w.now) iw.now pe.now e_len.now len.now j }
     ensures { result ≡ looks iw.now pe.now e_len.now len.now w.now count few flag j }
 {
-    if figure_at(len, j) != count {
-        return false;
-    }
-    if named(e_len, j) != few {
+    if !is_as_long(e_len, len, j, count, few) {
         return false;
     }
     let from = named(pe, j);
@@ -119,7 +160,7 @@ fn walk<S: Signed, U: Unsigned>(
 }
 
 /// The class of a bucket that keeps the same elements and variables as the class `i`, or the number of rows if there is
-/// none. The words of `i` are marked with the flag.
+/// none. The words of `i` are marked with the flag, if some class of the bucket has as many.
 fn find<S: Signed, U: Unsigned>(
     iw: &[Word<S>],
     pe: &[Word<S>],
@@ -144,11 +185,15 @@ fn find<S: Signed, U: Unsigned>(
     ensures found { Finds (length next.now) (alike_in (kept_of iw.now pe.now e_len.now)
         (near_of iw.now pe.now e_len.now len.now) i) (bucket next.now head) result }
     ensures long { length w.new ≡ length w.old }
-    ensures marked { (x : ℕ) → num w.new x ≡ cond (has (words_of iw.now pe.now len.now i) x) flag (num w.old x) }
+    ensures marked { (w.new ≡ w.old) ⊎ ((x : ℕ) →
+        num w.new x ≡ cond (has (words_of iw.now pe.now len.now i) x) flag (num w.old x)) }
 {
-    let from = named(pe, i);
     let few = named(e_len, i);
     let count = figure_at(len, i);
+    if !any_as_long(e_len, len, next, head, count, few) {
+        return next.len();
+    }
+    let from = named(pe, i);
     spread(iw, w, from + 1, count - 1, flag);
     walk(iw, pe, e_len, len, w, next, head, count, few, flag)
 }

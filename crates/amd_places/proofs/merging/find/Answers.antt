@@ -4,7 +4,10 @@ use Rattle.amd_places.specs.Words.{num, word, place, start, rows}
 use Rattle.amd_views.specs.Rounds.{alike_in}
 use Rattle.amd_places.specs.Merging.{Finds, IsRenewed, bucket, looks, kept_of, near_of, words_of}
 use Rattle.amd_places.proofs.RowLists.{names_at}
-use Rattle.amd_places.proofs.Likeness.{looks_alike}
+use Rattle.amd_places.proofs.Likeness.{alike_counts, looks_alike}
+use Rattle.std.specs.Prelude.{◌==◌}
+use Rattle.std.proofs.lemmas.Bool.{cases_Bool, and_from, eq-eqb}
+use Rattle.amd_model.proofs.Counting.Below.{clash}
 use Rattle.amd_places.proofs.merging.find.Goals as goal
 
 pub named-from-requires-clause-inside : goal.named-from-requires-clause-inside
@@ -73,7 +76,31 @@ returns-clause-found g c =
     ]
 
 pub returns-clause-marked : goal.returns-clause-marked
-returns-clause-marked g c x = c.spread.ensures.marked x ∙ ap (λ m.
+returns-clause-marked g c = inr (λ x. c.spread.ensures.marked x ∙ ap (λ m.
     cond (has (rows c.args.iw.now (c.named-from.result + 1) (m - 1)) x) c.args.flag (num c.args.w.now x)) c.figure_at-count.ensures.is
     ∙ ap (λ s. cond (has (rows c.args.iw.now (s + 1) (num c.args.len.now c.args.i - 1)) x) c.args.flag (num c.args.w.now x))
-    c.named-from.ensures
+    c.named-from.ensures)
+
+pub any_as_long-requires-clause-lengths : goal.any_as_long-requires-clause-lengths
+any_as_long-requires-clause-lengths g c = let l = c.requires.lengths in let n = sym l.3 in (l.1 ∙ n, l.2 ∙ n)
+
+pub any_as_long-requires-clause-members : goal.any_as_long-requires-clause-members
+any_as_long-requires-clause-members g c j h = (c.requires.members j h).counts
+
+-- a class that is not as long is not alike
+pub returns-then-not-any_as_long-clause-found : goal.returns-then-not-any_as_long-clause-found
+returns-then-not-any_as_long-clause-found g c = inr (
+  refl,
+  λ x h.
+      let iw : List ℤ = c.args.iw.now in let pe : List ℤ = c.args.pe.now in let e_len : List ℤ = c.args.e_len.now in let len : List ℕ =
+      c.args.len.now in let i : ℕ = c.args.i in
+      elim (cases_Bool (alike_in (kept_of iw pe e_len) (near_of iw pe e_len len) i x)) [
+        | inr f ↦ f
+        | inl t ↦
+            let q = alike_counts (length c.args.w.now) iw pe e_len len i x c.requires.here (c.requires.members x h) t in
+            clash (and_from (num len x == c.figure_at-count.result) (place (word e_len x) == c.named-few.result)
+            (eq-eqb (num len x) c.figure_at-count.result (q.0 ∙ sym c.figure_at-count.ensures.is))
+            (eq-eqb (place (word e_len x)) c.named-few.result (q.1 ∙ sym c.named-few.ensures)))
+            (c.any_as_long.ensures c.if-not-any_as_long.true x h)
+      ],
+)

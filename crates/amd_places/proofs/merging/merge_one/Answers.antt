@@ -133,17 +133,23 @@ returns-clause-lengths g c =
     (a.pe ∙ l.0, a.e_len ∙ l.1, a.nv ∙ l.2, l.3, c.find-found.ensures.long ∙ l.4, a.hash ∙ l.5, a.next ∙ l.6, l.7)
 
 pub returns-clause-under : goal.returns-clause-under
-returns-clause-under g c x =
-    let m = c.find-found.ensures.marked x in
-    let b = marked_below (has (words_of c.args.iw.now c.args.pe.now c.args.len.now c.args.i) x) c.args.flag (num c.args.w.now x)
-    (c.requires.under x) in
-    omega (arith, m, b)
+returns-clause-under g c x = elim c.find-found.ensures.marked [
+  | inl same ↦ let u = c.requires.under x in let e = ap (λ w. num w x) same in omega (arith, u, e)
+  | inr marks ↦
+      let m = marks x in
+      let b = marked_below (has (words_of c.args.iw.now c.args.pe.now c.args.len.now c.args.i) x) c.args.flag (num c.args.w.now x)
+      (c.requires.under x) in
+      omega (arith, m, b)
+]
 
 pub returns-clause-zeros : goal.returns-clause-zeros
-returns-clause-zeros g c x =
-    ap (λ k. k == 0) (c.find-found.ensures.marked x)
-    ∙ marked_zero (has (words_of c.args.iw.now c.args.pe.now c.args.len.now c.args.i) x) c.args.flag (num c.args.w.now x)
-    (c.requires.ready.standing x) (c.requires.under x)
+returns-clause-zeros g c x = elim c.find-found.ensures.marked [
+  | inl same ↦ ap (λ w. num w x == 0) same
+  | inr marks ↦
+      ap (λ k. k == 0) (marks x)
+      ∙ marked_zero (has (words_of c.args.iw.now c.args.pe.now c.args.len.now c.args.i) x) c.args.flag (num c.args.w.now x)
+      (c.requires.ready.standing x) (c.requires.under x)
+]
 
 pub returns-then-head-next-clause-lengths : goal.returns-then-head-next-clause-lengths
 returns-then-head-next-clause-lengths g c = let l = c.requires.lengths in
