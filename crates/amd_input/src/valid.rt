@@ -17,12 +17,14 @@ fn rises<I: PrimInt>(a_i: &[I], from: usize, to: usize) -> bool
     ensures rise { result ≡ true → Rise (map I.value a_i.now) from to }
     ensures descend { result ≡ false → HaveDescent (map I.value a_i.now) from to }
 {
+    // All rows are read, even behind a descent: without an early end a processor compares several at once.
+    let mut rising = true;
     'rows: for k in from + 1..to {
         if !is_below(value_at(a_i, k - 1), value_at(a_i, k)) {
-            return false;
+            rising = false;
         }
     }
-    true
+    rising
 }
 
 /// Whether the rows at the places from `from` on, before `to`, all lie in `0..n_row`.
