@@ -100,6 +100,11 @@ fn small_front_counts(f: usize, r: usize) -> (usize, usize, usize)
     ensures ldl { result.1 ≡ front_sum ldl_steps f r }
     ensures lu { result.2 ≡ front_sum lu_steps f r }
 {
+    if f == 1 {
+        // Most fronts have one row in their block.
+        let square = r * r;
+        return (r, (square + r) / 2, square);
+    }
     let last = f - 1;
     let border = f * r;
     let pairs = f * last / 2;
