@@ -36,8 +36,3 @@ told_again o j parent t = record { room = t.room; each = λ k l. again k (slice_
     again : (k : ℕ) (v : Option ℕ) → TellsParent o j k v → TellsParent o 0 k v
     again k None h = λ m l. absurd (omega arith)
     again k (Some q) h = h
-
--- what holds of none alone
-pub only_none : (P : Option ℕ → Type 0) → ((q : ℕ) → P (Some q) → ⊥) → (v : Option ℕ) → P v → v ≡ None
-only_none P f None h = refl
-only_none P f (Some q) h = absurd (f q h)

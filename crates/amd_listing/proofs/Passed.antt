@@ -8,6 +8,7 @@ use Rattle.std.proofs.lemmas.Bool.{cases_eq, eq-eqb, ne_eqb, and_from, not_from_
 use Rattle.amd_model.specs.Below.{count_below, sum_below}
 use Rattle.amd_model.specs.Laws.{is_last}
 use Rattle.amd_model.specs.State.{Home, Last, Gone, block_at}
+use Rattle.amd_model.proofs.Counting.Below.{not_both}
 use Rattle.amd_views.proofs.Lists.Rising.{count_yes, count_no}
 use Rattle.amd_places.specs.Words.{num, size_of}
 use Rattle.amd_listing.specs.Blocks.{listing_of}
@@ -31,10 +32,6 @@ passed_same nv starts end home elements place place' next next' p p' q q' v e f 
   placed = λ w l none. placed_same (listing_of (length nv) home elements) p q p' q' w g h (passed.placed w l none);
 }
 
-itself : (b : Bool) → (b && not b) ≡ false
-itself true = refl
-itself false = refl
-
 module _ (link nv : List ℤ) (starts : List ℕ) (end : ℕ) (home : ℕ → Home) (elements : List ℕ)
     (b : AreBlocks link nv starts end home elements) where
   pub passed_none : (p q : List ℤ) → Passed nv starts end home elements starts end p q 0
@@ -52,7 +49,7 @@ module _ (link nv : List ℤ) (starts : List ℕ) (end : ℕ) (home : ℕ → Ho
     passed_element some = let is = b.led.elements v some in record {
       places = λ e sized. passed.places e sized
           ∙ ap (λ m. num starts e + m) (count_no (other_of home e) v (count_below v (other_of home e)) refl
-          (ap (λ h. block_at e h && not (v == e)) is ∙ itself (v == e)));
+          (ap (λ h. block_at e h && not (v == e)) is ∙ not_both (v == e)));
       next_is = passed.next_is
           ∙ ap (λ m. end + m) (count_no (λ w. is_last (home w)) v (count_below v (λ w. is_last (home w))) refl (ap is_last is));
       placed = λ w l none. let ne : w ≢ v = λ e. (let s = ap (size_of nv) e in omega (arith, s, none, some)) in

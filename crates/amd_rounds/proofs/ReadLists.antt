@@ -2,6 +2,7 @@
 use Rattle.std.proofs.Common.{ℕ, Bool, true, false, List, Vec, ◌≡◌, ◌<◌, ◌&&◌, ◌||◌, not, refl, sym, ap, subst, ◌∙◌, get_or}
 use Rattle.std.proofs.Common.{lt_of_lt_of_le, le_of_eq}
 use Rattle.amd_model.specs.Quotient.{has}
+use Rattle.amd_model.proofs.Counting.Below.{not_both}
 use Rattle.amd_rounds.specs.Views.{Below, ListsBelow}
 use Rattle.amd_rounds.proofs.ListPlaces.{list_deref, list_below}
 
@@ -12,10 +13,6 @@ read_below n m lists e v xs all small read same long = subst (λ q. Below q xs) 
     (subst (Below n) (sym (list_deref lists e v xs (lt_of_lt_of_le small (le_of_eq (sym all.0))) read same)) (list_below n lists all e))
 
 -- what was marked of a list alone is clear once the marks of that list are cleared
-not_both : (x : Bool) → (x && not x) ≡ false
-not_both true = refl
-not_both false = refl
-
 pub cleared_own : (j : ℕ) (old marked new : Bool) (xs ys : List ℕ) → old ≡ false → marked ≡ (old || has xs j) →
     new ≡ (marked && not (has ys j)) → xs ≡ ys → new ≡ false
 cleared_own j old marked new xs ys clear is then same =

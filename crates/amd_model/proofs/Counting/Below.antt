@@ -1,12 +1,22 @@
 -- Laws of the tests, counts and sums over the numbers below a bound.
 use Rattle.std.proofs.Common.{ℕ, zero, suc, Bool, true, false, ◌≡◌, ◌≢◌, ◌<◌, ◌≤◌, ◌+◌, ◌-◌, ◌&&◌, ◌||◌, not, cond, inl, inr, refl, sym}
-use Rattle.std.proofs.Common.{◌∙◌, ap, subst, arith}
+use Rattle.std.proofs.Common.{◌∙◌, ap, subst, arith, Option, None, Some}
 use Rattle.std.proofs.lemmas.Bool.{and_parts, or_cases, and_from, or_left, or_right, cases_eq, cases_Bool, true≢false}
 use Rattle.amd_model.specs.Below.{any_below, all_below, sum_below, count_below}
 
 -- a test that is both true and false gives anything
 pub clash : {b : Bool} {P : Type 0} → b ≡ true → b ≡ false → P
 clash t f = absurd (true≢false (sym t ∙ f))
+
+-- and there is none
+pub not_both : (b : Bool) → (b && not b) ≡ false
+not_both true = refl
+not_both false = refl
+
+-- what holds of no number that is there holds of none alone
+pub only_none : (P : Option ℕ → Type 0) → ((q : ℕ) → P (Some q) → ⊥) → (v : Option ℕ) → P v → v ≡ None
+only_none P never None h = refl
+only_none P never (Some q) h = absurd (never q h)
 
 pub any_from : (n : ℕ) (p : ℕ → Bool) (k : ℕ) → k < n → p k ≡ true → any_below n p ≡ true
 unfolding any_below

@@ -1,5 +1,6 @@
 use Rattle.std.proofs.Common.{◌+◌, arith}
-use Rattle.amd_factor.proofs.Clearing.{no_marks, no_parents, no_counts, only_none}
+use Rattle.amd_factor.proofs.Clearing.{no_marks, no_parents, no_counts}
+use Rattle.amd_model.proofs.Counting.Below.{only_none}
 use Rattle.amd_factor.proofs.Counting.{none_yet, total_of, more_than, at_last}
 use Rattle.amd_factor.proofs.counts.count.Goals as goal
 

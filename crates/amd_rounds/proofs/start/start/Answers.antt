@@ -2,14 +2,10 @@ use Rattle.std.proofs.Common.{ℕ, ◌∙◌, ap, length, refl, Option, ◌≡�
 use Rattle.std.specs.Prelude.{nat_lt, ◌==◌, ◌&&◌}
 use Rattle.amd_model.specs.Below.{count_below, list_below}
 use Rattle.amd_rounds.specs.Views.{at, num}
+use Rattle.amd_model.proofs.Counting.Below.{only_none}
 use Rattle.amd_rounds.proofs.StartLaw.{stands_at_start}
 use Rattle.std.proofs.Common.{None, Some}
 use Rattle.amd_rounds.proofs.start.start.Goals as goal
-
--- what holds of no number that is there holds of none alone
-none_only : (P : Option ℕ → Type 0) → ((x : ℕ) → P (Some x) → ⊥) → (o : Option ℕ) → P o → o ≡ None
-none_only P never None h = refl
-none_only P never (Some x) h = absurd (never x h)
 
 pub returns : goal.returns
 returns g c =
@@ -26,8 +22,8 @@ returns g c =
           c.deref.ensures.value;
       least = refl;
       live = c.count_above.ensures ∙ ap (λ xs. count_below (length xs) (λ i. nat_lt 0 (num xs i))) c.deref-2.ensures.value;
-      link = c.in_ok-vec.ensures.items_if_clones_equal (none_only _ (λ x h. h));
-      parent = c.in_ok-vec-2.ensures.items_if_clones_equal (none_only _ (λ x h. h));
+      link = c.in_ok-vec.ensures.items_if_clones_equal (only_none _ (λ x h. h));
+      parent = c.in_ok-vec-2.ensures.items_if_clones_equal (only_none _ (λ x h. h));
       block = record { size = c.in_ok-first_blocks.ensures.size; each = c.in_ok-first_blocks.ensures.numbers };
       front = record { size = c.in_ok-first_blocks-2.ensures.size; each = c.in_ok-first_blocks-2.ensures.numbers };
       n_dense = c.count_marks-n_dense.ensures ∙ ap (λ n. count_below n (at c.args.last.now)) c.requires.marks;
