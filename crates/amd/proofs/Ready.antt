@@ -10,7 +10,8 @@ use Rattle.amd_input.specs.Degrees.{AreDegrees}
 use Rattle.amd_input.proofs.PatternLemmas.{input_form, input_sorted}
 
 -- there is a degree for each row
-pub size_of : (z : ℤ) (a_p a_i : List ℤ) (numbers : List ℕ) → IsInput z z a_p a_i → length numbers ≡ unsigned_abs z → z ≡ pos (length numbers)
+pub size_of : (z : ℤ) (a_p a_i : List ℤ) (numbers : List ℕ) → IsInput z z a_p a_i → length numbers ≡ unsigned_abs z →
+    z ≡ pos (length numbers)
 size_of (pos n) a_p a_i numbers form size = ap pos (sym size)
 size_of (negsuc n) a_p a_i numbers form size = absurd form
 

@@ -1,5 +1,5 @@
-// What `check!` of `amd_testing` calls: an assertion as a function, since a call is quicker to prove than an `assert!` in
-// each place.
+// What `check!` of `amd_testing` calls: an assertion as a function, since a call is quicker to prove than an `assert!`
+// in each place.
 
 ghost use Rattle.std.specs.Prelude.{IsTrue};
 
