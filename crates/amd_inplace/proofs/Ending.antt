@@ -12,7 +12,7 @@ use Rattle.amd_model.proofs.Listings.Words.{filter_has, has_filter as filter_giv
 use Rattle.amd_places.specs.Words.{num, word, place, is_place, start, in_front, flip_of}
 use Rattle.amd_places.specs.Layout.{has_list, end_of, Layout}
 use Rattle.amd_places.specs.Chains.{without}
-use Rattle.amd_places.specs.Merging.{words_of}
+use Rattle.amd_places.specs.Merging.{words_of, bucket_of}
 use Rattle.amd_places.specs.Restoring.{marked_in, IsPlaceable}
 use Rattle.amd_places.proofs.Frames.{has_parts, has_from, dropped}
 use Rattle.amd_inplace.specs.Workspaces.{Workspace}
@@ -100,11 +100,12 @@ module _ {g : Graph} {dense : ℕ → Bool} {nzaat : ℕ} {aggressive : Bool} {p
   }
 
   heads_marked : (b : ℕ) → b < g.size → num p4.hash b < g.size →
-      (1 < num p4.len r.c) × (has (marked_in p4.nv (front_at p4 r.c)) (num p4.hash b) ≡ true) × (num p4.last (num p4.hash b) ≡ b)
+      (1 < num p4.len r.c) × (has (marked_in p4.nv (front_at p4 r.c)) (num p4.hash b) ≡ true) ×
+      (bucket_of (num p4.len r.c) p4.last (num p4.hash b) ≡ b)
   heads_marked b l h = let q = merges.heads b l h in (
     (let a = q.0 in let f = ap (λ (w : Workspace). num w.len r.c) merges.same in omega (arith, a, f)),
     ap (λ xs. has xs (num p4.hash b)) (marked_made r p4 merges) ∙ sym (ap (λ xs. has xs (num p4.hash b)) merges.made) ∙ q.1,
-    ap (λ (w : Workspace). num w.last (num p4.hash b)) merges.same ∙ q.2,
+    ap (λ (w : Workspace). bucket_of (num w.len r.c) w.last (num p4.hash b)) merges.same ∙ q.2,
   )
 
   -- ---- lists by bound

@@ -10,7 +10,7 @@ use Rattle.amd_places.specs.Layout.{has_list, end_of, elements_in, list_in, Layo
 use Rattle.amd_places.specs.Chains.{DegreeLists, Chooses, without}
 use Rattle.amd_places.specs.Beginning.{Begins}
 use Rattle.amd_places.specs.Turning.{TurnsFront}
-use Rattle.amd_places.specs.Merging.{MergesAll, represents_in}
+use Rattle.amd_places.specs.Merging.{MergesAll, represents_in, bucket_of}
 use Rattle.amd_places.specs.Restoring.{marked_in, bound_in, put_all, Restores}
 use Rattle.amd_places.specs.Closing.{Closes}
 use Rattle.amd_inplace.specs.Workspaces.{Workspace}
@@ -96,7 +96,7 @@ pub record MergesFront (n me block border : ℕ) (p v : Workspace) : Type 0 wher
       (λ i. represents_in p.iw p.pe p.e_len p.len (classes p.nv (front_at p me)) i == i) (classes p.nv (front_at p me))
   pub heads : (b : ℕ) → b < n → num v.hash b < n → (1 < num p.len me) ×
       (has (classes v.nv (front_at p me)) (num v.hash b) ≡ true)
-      × (num p.last (num v.hash b) ≡ b)
+      × (bucket_of (num p.len me) p.last (num v.hash b) ≡ b)
   pub linked : (lists : ℕ → List ℕ) → ((b x : ℕ) → b < n → has (lists b) x ≡ true →
       has (classes p.nv (front_at p me)) x ≡ false) →
       Links n p lists → Links n v lists

@@ -6,7 +6,7 @@ use Rattle.amd_places.specs.Element.{front_of}
 use Rattle.amd_places.specs.Layout.{has_list, end_of, elements_in, Layout}
 use Rattle.amd_places.specs.Counts.{met}
 use Rattle.amd_places.specs.Turning.{IsTurning}
-use Rattle.amd_places.specs.Merging.{AreRenewed}
+use Rattle.amd_places.specs.Merging.{AreRenewed, bucket_of}
 use Rattle.amd_places.specs.Restoring.{marked_in, IsPlaceable}
 use Rattle.amd_inplace.specs.Workspaces.{Workspace}
 use Rattle.amd_inplace.specs.Parts.{Links, front_at}
@@ -60,7 +60,7 @@ pub record CanEnd (n me block border : ℕ) (is_built : Bool) (p : Workspace) : 
   pub order : (border ≤ p.live) × (p.live + block ≤ n)
   pub heads : (b : ℕ) → b < n → num p.hash b < n → (1 < num p.len me) ×
       (has (marked_in p.nv (front_at p me)) (num p.hash b) ≡ true)
-      × (num p.last (num p.hash b) ≡ b)
+      × (bucket_of (num p.len me) p.last (num p.hash b) ≡ b)
   pub linked : (lists : ℕ → List ℕ) × Links n p lists
       × ((b x : ℕ) → b < n → has (lists b) x ≡ true → has (front_at p me) x ≡ false)
   pub dense : block + (border + p.n_dense) < 2 ^ 64

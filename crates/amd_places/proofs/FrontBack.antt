@@ -12,6 +12,7 @@ use Rattle.amd_model.specs.Quotient.{has}
 use Rattle.amd_model.proofs.Listings.Words.{has_none, has_head, has_tail, has_cases, has_append as in_parts, has_filter as filter_gives}
 use Rattle.amd_places.specs.Words.{num, word, place, rows, in_front, Names}
 use Rattle.amd_places.specs.Chains.{Chain, DegreeLists}
+use Rattle.amd_places.specs.Merging.{bucket_of}
 use Rattle.amd_places.specs.Restoring.{marked_in, put_all}
 use Rattle.amd_places.proofs.RowLists.{rows_more, rows_has, rows_part}
 use Rattle.amd_places.proofs.WordMarks.{rows_start, rows_next}
@@ -108,7 +109,7 @@ module _ (n : ℕ) (iw nv : List ℤ) (from count : ℕ) (hash0 last : List ℕ)
   emptying_none = record { full = λ b l s. (refl, ap (λ xs. has xs (num hash0 b)) (rows_start iw from)) }
 
   module _ (heads : (b : ℕ) → b < n → num hash0 b < n → (1 < count) × (has (marked_in nv (rows iw from count)) (num hash0 b) ≡ true)
-      × (num last (num hash0 b) ≡ b))
+      × (bucket_of count last (num hash0 b) ≡ b))
     where
       module _ (k i : ℕ) (is : i ≡ place (word iw (from + k))) (hash : List ℕ) (st : Emptying n iw from hash0 k hash) where
         still : (x : ℕ) → has (rows iw from k) x ≡ false → (x ≡ i → ⊥) → has (rows iw from (k + 1)) x ≡ false
@@ -124,13 +125,15 @@ module _ (n : ℕ) (iw nv : List ℤ) (from count : ℕ) (hash0 last : List ℕ)
           ));
         }
 
-        clears : num last i < n → length hash ≡ n → Emptying n iw from hash0 (k + 1) (set hash (num last i) n)
+        clears : bucket_of count last i < n → length hash ≡ n → Emptying n iw from hash0 (k + 1) (set hash (bucket_of count last i) n)
         clears small long = record {
-          full = λ b l s. elim (cases_eq b (num last i)) [
-            | inl e ↦ (let v = ap (num (set hash (num last i) n)) e ∙ get_or-set_same hash (num last i) n 0 (omega (arith, small, long)) in
+          full = λ b l s. elim (cases_eq b (bucket_of count last i)) [
+            | inl e ↦ (let v = ap (num (set hash (bucket_of count last i) n)) e
+                ∙ get_or-set_same hash (bucket_of count last i) n 0 (omega (arith, small, long)) in
                 absurd (omega (arith, s, v)))
-            | inr ne ↦ (let v = get_or-set_other hash (num last i) b n 0 ne in let p = st.full b l (omega (arith, s, v)) in let e = p.0 in
-                (v ∙ p.0, still (num hash0 b) p.1 (λ q. ne (sym (heads b l (omega (arith, s, v, e))).2 ∙ ap (num last) q))))
+            | inr ne ↦ (let v = get_or-set_other hash (bucket_of count last i) b n 0 ne in
+                let p = st.full b l (omega (arith, s, v)) in let e = p.0 in
+                (v ∙ p.0, still (num hash0 b) p.1 (λ q. ne (sym (heads b l (omega (arith, s, v, e))).2 ∙ ap (bucket_of count last) q))))
           ];
         }
 
@@ -141,12 +144,13 @@ module _ (n : ℕ) (iw nv : List ℤ) (from count : ℕ) (hash0 last : List ℕ)
               absurd (omega (arith, m, f)));
         }
 
-        pub emptying_clears : num last i < n → length hash ≡ n →
-            Emptying n iw from hash0 (k + 1) (cond (nat_lt 1 count) (set hash (num last i) n) hash)
+        pub emptying_clears : bucket_of count last i < n → length hash ≡ n →
+            Emptying n iw from hash0 (k + 1) (cond (nat_lt 1 count) (set hash (bucket_of count last i) n) hash)
         emptying_clears small long = elim (cases_Bool (nat_lt 1 count)) [
-          | inl t ↦ subst (Emptying n iw from hash0 (k + 1)) (sym (cond-true (nat_lt 1 count) (set hash (num last i) n) hash t))
+          | inl t ↦ subst (Emptying n iw from hash0 (k + 1)) (sym (cond-true (nat_lt 1 count) (set hash (bucket_of count last i) n) hash t))
               (clears small long)
-          | inr f ↦ subst (Emptying n iw from hash0 (k + 1)) (sym (cond-false (nat_lt 1 count) (set hash (num last i) n) hash f)) (stays f)
+          | inr f ↦ subst (Emptying n iw from hash0 (k + 1))
+              (sym (cond-false (nat_lt 1 count) (set hash (bucket_of count last i) n) hash f)) (stays f)
         ]
 
       pub emptying_all : (hash : List ℕ) → Emptying n iw from hash0 count hash → (b : ℕ) → b < n → n ≤ num hash b

@@ -2,6 +2,7 @@
 pub mod Signs
 pub mod RowLists
 pub mod Gathering
+pub mod Buckets
 pub mod Building
 pub mod EachRow
 pub mod Counting

@@ -17,7 +17,8 @@ use Rattle.amd_views.proofs.Merging.Representatives.{alike_flip, alike_through}
 use Rattle.amd_views.specs.Rounds.{alike_in}
 use Rattle.amd_places.specs.Chains.{Chain}
 use Rattle.amd_places.specs.Merging.{links, kept_of, near_of, words_of, IsRenewed, AreApart, IsMember, MergesInto, Pushes, Settles, IsReady}
-use Rattle.amd_places.specs.Merging.{MergesAll, IsHead, key_of}
+use Rattle.amd_places.specs.Merging.{MergesAll, IsHead, bucket_of, key_of}
+use Rattle.amd_places.proofs.Buckets.{bucket_least, bucket_same}
 use Rattle.amd_places.proofs.BucketWalk.{links_is}
 use Rattle.amd_places.proofs.ChainLists.{chain_same}
 use Rattle.amd_places.proofs.Likeness.{alike_key}
@@ -25,7 +26,7 @@ use Rattle.amd_places.proofs.MergeBack.{miss, MergedBack, back_none, back_stays,
 use Rattle.amd_places.proofs.MergeBack.{written_self, written_stays, written_moves, back_all}
 use Rattle.amd_places.proofs.SameWords.{words_same, renewed_same, apart_same, alike_same, once_back, either_end}
 
-module _ (n : ℕ) (iw pe0 e_len0 : List ℤ) (len : List ℕ) (nv0 : List ℤ) (w0 next0 last rest : List ℕ) (flag0 : ℕ) where
+module _ (n : ℕ) (iw pe0 e_len0 : List ℤ) (len : List ℕ) (nv0 : List ℤ) (w0 next0 last rest : List ℕ) (flag0 count : ℕ) where
   abbrev pub like : ℕ → ℕ → Bool
   like = alike_in (kept_of iw pe0 e_len0) (near_of iw pe0 e_len0 len)
 
@@ -46,7 +47,7 @@ module _ (n : ℕ) (iw pe0 e_len0 : List ℤ) (len : List ℕ) (nv0 : List ℤ) 
   abbrev pub IsFound : ℕ → (ℕ → ℕ) → (ℕ → List ℕ) → Type 0
   IsFound k now buckets = Found like (alike_self (kept_of iw pe0 e_len0) (near_of iw pe0 e_len0 len))
       (alike_flip (kept_of iw pe0 e_len0) (near_of iw pe0 e_len0 len)) (alike_through (kept_of iw pe0 e_len0) (near_of iw pe0 e_len0 len))
-      rest (num last) k now buckets
+      rest (bucket_of count last) k now buckets
 
   -- the classes behind the first k were gone through
   pub record Merging (k : ℕ) (pe e_len nv : List ℤ) (w hash next : List ℕ) (flag : ℕ) : Type 0 where
@@ -75,7 +76,7 @@ module _ (n : ℕ) (iw pe0 e_len0 : List ℤ) (len : List ℕ) (nv0 : List ℤ) 
         short = λ b. omega arith;
         found = found_none like (alike_self (kept_of iw pe0 e_len0) (near_of iw pe0 e_len0 len))
             (alike_flip (kept_of iw pe0 e_len0) (near_of iw pe0 e_len0 len))
-            (alike_through (kept_of iw pe0 e_len0) (near_of iw pe0 e_len0 len)) rest (num last) rep (λ b. []) (λ b. refl);
+            (alike_through (kept_of iw pe0 e_len0) (near_of iw pe0 e_len0 len)) rest (bucket_of count last) rep (λ b. []) (λ b. refl);
         sizes = subst (λ xs. MergedBack rest rep (size_of nv0) xs (size_of nv0)) none (back_none rest rep (size_of nv0));
         left = λ x h. refl;
         ends = subst (λ xs. Written rep (λ x. flip_of (rep x)) (word pe0) xs (word pe0)) none
@@ -108,19 +109,21 @@ module _ (n : ℕ) (iw pe0 e_len0 : List ℤ) (len : List ℕ) (nv0 : List ℤ) 
     in_rest = has_at rest k 0 within
 
     abbrev key : ℕ
-    key = num last i
+    key = bucket_of count last i
 
-    key_small : num last i < n
-    key_small = let e = g.keys i in_rest in let r = (g.renewed i in_rest).row in omega (arith, e, r)
+    key_small : bucket_of count last i < n
+    key_small = let e = g.keys i in_rest in let r = (g.renewed i in_rest).row in let l = bucket_least count last i in
+        omega (arith, e, r, l)
 
-    bucket_is : links n next n (num hash (num last i)) ≡ st.buckets (num last i)
-    bucket_is = let s = st.short (num last i) in let f = g.few in
-        links_is n next n (num hash (num last i)) (st.buckets (num last i)) (st.chains (num last i) key_small) (omega (arith, s, f))
+    bucket_is : links n next n (num hash (bucket_of count last i)) ≡ st.buckets (bucket_of count last i)
+    bucket_is = let s = st.short (bucket_of count last i) in let f = g.few in
+        links_is n next n (num hash (bucket_of count last i)) (st.buckets (bucket_of count last i))
+        (st.chains (bucket_of count last i) key_small) (omega (arith, s, f))
 
     -- a member of the bucket
-    member : (b j : ℕ) → has (st.buckets b) j ≡ true → (has back j ≡ true) × (rep j ≡ j) × (num last j ≡ b)
-    member b j h = let p = and_parts (has back j && rep j == j) (num last j == b) (sym (st.found.groups b j) ∙ h) in
-        let q = and_parts (has back j) (rep j == j) p.0 in (q.0, eqb-true (rep j) j q.1, eqb-true (num last j) b p.1)
+    member : (b j : ℕ) → has (st.buckets b) j ≡ true → (has back j ≡ true) × (rep j ≡ j) × (bucket_of count last j ≡ b)
+    member b j h = let p = and_parts (has back j && rep j == j) (bucket_of count last j == b) (sym (st.found.groups b j) ∙ h) in
+        let q = and_parts (has back j) (rep j == j) p.0 in (q.0, eqb-true (rep j) j q.1, eqb-true (bucket_of count last j) b p.1)
 
     same_here : (word pe i ≡ word pe0 i) × (word e_len i ≡ word e_len0 i)
     same_here = (
@@ -142,8 +145,8 @@ module _ (n : ℕ) (iw pe0 e_len0 : List ℤ) (len : List ℕ) (nv0 : List ℤ) 
         let t = ap (sum_by (size_of nv0)) (take-append-drop k rest) in let u = sum_by-append (size_of nv0) (take k rest) (drop k rest) in
         let s = g.small in omega (arith, a, b, c, d, t, u, s)
 
-    is_member : (j : ℕ) → has (st.buckets (num last i)) j ≡ true → IsMember n iw pe e_len len nv i j
-    is_member j h = let m = member (num last i) j h in let in_j = behind_in rest (k + 1) j m.0 in record {
+    is_member : (j : ℕ) → has (st.buckets (bucket_of count last i)) j ≡ true → IsMember n iw pe e_len len nv i j
+    is_member j h = let m = member (bucket_of count last i) j h in let in_j = behind_in rest (k + 1) j m.0 in record {
       renewed = renewed_same n iw pe0 e_len0 pe e_len len j (same_member j m.1) (g.renewed j in_j);
       apart = apart_same n iw pe0 e_len0 pe e_len len i j same_here (same_member j m.1) (g.apart i j in_rest in_j);
       other = λ e. clash {P = ⊥} (sym (ap (has back) e) ∙ m.0) fresh;
@@ -157,36 +160,41 @@ module _ (n : ℕ) (iw pe0 e_len0 : List ℤ) (len : List ℕ) (nv0 : List ℤ) 
       | inl e ↦ (let z = eqb-true (num w0 x) 0 (sym (st.zeros x) ∙ eq-eqb (num w x) 0 e) in absurd (omega (arith, z, l)))
     ]
 
-    ready : IsReady n iw len last i pe e_len nv w hash next
+    keyed : (x y : ℕ) → has rest x ≡ true → has rest y ≡ true → like x y ≡ true → num last x ≡ num last y
+    keyed x y hx hy a = g.keys x hx ∙ alike_key n iw pe0 e_len0 len x y (g.renewed x hx) (g.renewed y hy) a ∙ sym (g.keys y hy)
+
+    like_is : (j : ℕ) → rep j ≡ j → alike_in (kept_of iw pe e_len) (near_of iw pe e_len len) i j ≡ like i j
+    like_is j e = alike_same n iw pe0 e_len0 pe e_len len i j same_here (same_member j e)
+
+    ready : IsReady n iw len last count i pe e_len nv w hash next
     ready = record {
       key = key_small;
-      chain = subst (Chain n next (num hash (num last i))) (sym bucket_is) (st.chains (num last i) key_small);
+      chain = subst (Chain n next (num hash (bucket_of count last i))) (sym bucket_is) (st.chains (bucket_of count last i) key_small);
       here = renewed_same n iw pe0 e_len0 pe e_len len i same_here (g.renewed i in_rest);
       marked = written_not rep (λ x. false) (in_front nv0) back (in_front nv) st.front i fresh ∙ g.marked i in_rest;
       members = λ j h. is_member j (sym (ap (λ xs. has xs j) bucket_is) ∙ h);
+      keys = λ j h a. let m = member (bucket_of count last i) j (sym (ap (λ xs. has xs j) bucket_is) ∙ h) in
+          sym (keyed i j in_rest (behind_in rest (k + 1) j m.0) (sym (like_is j m.1) ∙ a));
       standing = λ x h. stands x (g.standing i x in_rest (sym (ap (λ xs. has xs x) (words_same n iw pe0 e_len0 pe e_len len i same_here))
           ∙ h));
     }
 
-    pub ready_at : (j : ℕ) → j ≡ get_or rest k 0 → IsReady n iw len last j pe e_len nv w hash next
-    ready_at j e = subst (λ z. IsReady n iw len last z pe e_len nv w hash next) (sym e) ready
+    pub ready_at : (j : ℕ) → j ≡ get_or rest k 0 → IsReady n iw len last count j pe e_len nv w hash next
+    ready_at j e = subst (λ z. IsReady n iw len last count z pe e_len nv w hash next) (sym e) ready
 
     pub size_at : (j : ℕ) → j ≡ get_or rest k 0 → size_of nv j ≡ size_of nv0 j
     size_at j e = ap (size_of nv) e ∙ st.left i fresh ∙ ap (size_of nv0) (sym e)
 
     -- ---- the class is settled
 
-    grouped : (x y : ℕ) → has rest x ≡ true → has rest y ≡ true → like x y ≡ true → num last x ≡ num last y
-    grouped x y hx hy a = g.keys x hx ∙ alike_key n iw pe0 e_len0 len x y (g.renewed x hx) (g.renewed y hy) a ∙ sym (g.keys y hy)
+    grouped : (x y : ℕ) → has rest x ≡ true → has rest y ≡ true → like x y ≡ true → bucket_of count last x ≡ bucket_of count last y
+    grouped x y hx hy a = bucket_same count last last x y (keyed x y hx hy a)
 
     here_first : has (drop k rest) i ≡ true
     here_first = ap (λ ys. has ys i) next_is ∙ has_head i i back refl
 
     apart_from : (x : ℕ) → has (drop k rest) x ≡ false → (x ≡ i → ⊥) × (has back x ≡ false)
     apart_from x h = miss i back x (sym (ap (λ ys. has ys x) next_is) ∙ h)
-
-    like_is : (j : ℕ) → rep j ≡ j → alike_in (kept_of iw pe e_len) (near_of iw pe e_len len) i j ≡ like i j
-    like_is j e = alike_same n iw pe0 e_len0 pe e_len len i j same_here (same_member j e)
 
     module _ (pe' e_len' nv' : List ℤ) (w' hash' next' : List ℕ) (flag' : ℕ)
         (long' : (length pe' ≡ length pe) × (length e_len' ≡ length e_len) × (length nv' ≡ length nv)
@@ -208,21 +216,21 @@ module _ (n : ℕ) (iw pe0 e_len0 : List ℤ) (len : List ℕ) (nv0 : List ℤ) 
       flags_all = let a = st.flags.0 in let b = st.flags.1 in let c = flags'.0 in let d = flags'.1 in
           (omega (arith, a, c), omega (arith, b, d))
 
-      merged : (r : ℕ) → has (links n next n (num hash (num last i))) r ≡ true →
+      merged : (r : ℕ) → has (links n next n (num hash (bucket_of count last i))) r ≡ true →
           alike_in (kept_of iw pe e_len) (near_of iw pe e_len len) i r ≡ true →
           MergesInto i r hash next pe e_len nv hash' next' pe' e_len' nv' →
           Merging k pe' e_len' nv' w' hash' next' flag'
       merged r h a m =
-          let h' : has (st.buckets (num last i)) r ≡ true = sym (ap (λ xs. has xs r) bucket_is) ∙ h in
-          let q = member (num last i) r h' in
+          let h' : has (st.buckets (bucket_of count last i)) r ≡ true = sym (ap (λ xs. has xs r) bucket_is) ∙ h in
+          let q = member (bucket_of count last i) r h' in
           let a' : like i r ≡ true = sym (like_is r q.1) ∙ a in
           let into' = λ (x : ℕ). cond (x == i) r (rep x) in
           let at_i : into' i ≡ r = cond-true (i == i) r (rep i) (eq-eqb i i refl) in
           let f = found_more like (alike_self (kept_of iw pe0 e_len0) (near_of iw pe0 e_len0 len))
           (alike_flip (kept_of iw pe0 e_len0) (near_of iw pe0 e_len0 len))
           (alike_through (kept_of iw pe0 e_len0) (near_of iw pe0 e_len0 len)) rest
-          g.once (num last) grouped k within rep into' st.buckets st.buckets st.found (λ x ne.
-          cond-false (x == i) r (rep x) (ne_eqb x i ne)) (ap (has (st.buckets (num last i))) at_i ∙ h') (ap (like i) at_i
+          g.once (bucket_of count last) grouped k within rep into' st.buckets st.buckets st.found (λ x ne.
+          cond-false (x == i) r (rep x) (ne_eqb x i ne)) (ap (has (st.buckets (bucket_of count last i))) at_i ∙ h') (ap (like i) at_i
           ∙ a') (λ b. refl) in
           let is : rep i ≡ r = sym (f.into i here_first) ∙ at_i in
           let other : r ≡ i → ⊥ = λ e. clash {P = ⊥} (sym (ap (has back) e) ∙ q.0) fresh in
@@ -265,13 +273,13 @@ module _ (n : ℕ) (iw pe0 e_len0 : List ℤ) (len : List ℕ) (nv0 : List ℤ) 
             long = long_all;
           }
 
-      pushed : ((x : ℕ) → has (links n next n (num hash (num last i))) x ≡ true →
+      pushed : ((x : ℕ) → has (links n next n (num hash (bucket_of count last i))) x ≡ true →
           alike_in (kept_of iw pe e_len) (near_of iw pe e_len len) i x ≡ false) →
-          Pushes i (num last i) hash next pe e_len nv hash' next' pe' e_len' nv' →
+          Pushes i (bucket_of count last i) hash next pe e_len nv hash' next' pe' e_len' nv' →
           Merging k pe' e_len' nv' w' hash' next' flag'
       pushed f p =
-          let f' : (x : ℕ) → has (st.buckets (num last i)) x ≡ true → like i x ≡ false =
-          λ x h. sym (like_is x (member (num last i) x h).1) ∙ f x (ap (λ xs. has xs x) bucket_is ∙ h) in
+          let f' : (x : ℕ) → has (st.buckets (bucket_of count last i)) x ≡ true → like i x ≡ false =
+          λ x h. sym (like_is x (member (bucket_of count last i) x h).1) ∙ f x (ap (λ xs. has xs x) bucket_is ∙ h) in
           let into' = λ (x : ℕ). cond (x == i) i (rep x) in
           let at_i : into' i ≡ i = cond-true (i == i) i (rep i) (eq-eqb i i refl) in
           let longer = λ (b : ℕ). cond (b == key) (st.buckets b ++ i ∷ []) (st.buckets b) in
@@ -279,7 +287,7 @@ module _ (n : ℕ) (iw pe0 e_len0 : List ℤ) (len : List ℕ) (nv0 : List ℤ) 
           let q = found_new like (alike_self (kept_of iw pe0 e_len0) (near_of iw pe0 e_len0 len))
           (alike_flip (kept_of iw pe0 e_len0) (near_of iw pe0 e_len0 len))
           (alike_through (kept_of iw pe0 e_len0) (near_of iw pe0 e_len0 len)) rest
-          g.once (num last) grouped k within rep into' st.buckets longer st.found (λ x ne.
+          g.once (bucket_of count last) grouped k within rep into' st.buckets longer st.found (λ x ne.
           cond-false (x == i) i (rep x) (ne_eqb x i ne)) f' at_i (λ b. refl) in
           let is : rep i ≡ i = sym (q.into i here_first) ∙ at_i in
           let ends_same : (b x : ℕ) → has (now b) x ≡ has (longer b) x = λ b x. elim (cases_Bool (b == key)) [
@@ -336,15 +344,18 @@ module _ (n : ℕ) (iw pe0 e_len0 : List ℤ) (len : List ℕ) (nv0 : List ℤ) 
             long = long_all;
           }
 
-      settled : Settles (alike_in (kept_of iw pe e_len) (near_of iw pe e_len len)) (links n next n (num hash (num last i))) i (num last i)
+      settled : Settles (alike_in (kept_of iw pe e_len) (near_of iw pe e_len len))
+          (links n next n (num hash (bucket_of count last i))) i (bucket_of count last i)
           hash next pe e_len nv hash' next' pe' e_len' nv' → Merging k pe' e_len' nv' w' hash' next' flag'
       settled done = elim done [ inl p ↦ merged p.0 p.1 p.2 p.3 | inr p ↦ pushed p.0 p.1 ]
 
       pub settled_at : (j : ℕ) → j ≡ get_or rest k 0 →
-          Settles (alike_in (kept_of iw pe e_len) (near_of iw pe e_len len)) (links n next n (num hash (num last j))) j (num last j)
+          Settles (alike_in (kept_of iw pe e_len) (near_of iw pe e_len len))
+          (links n next n (num hash (bucket_of count last j))) j (bucket_of count last j)
           hash next pe e_len nv hash' next' pe' e_len' nv' → Merging k pe' e_len' nv' w' hash' next' flag'
       settled_at j e done = settled (subst (λ z. Settles (alike_in (kept_of iw pe e_len) (near_of iw pe e_len len))
-          (links n next n (num hash (num last z))) z (num last z) hash next pe e_len nv hash' next' pe' e_len' nv') e done)
+          (links n next n (num hash (bucket_of count last z))) z (bucket_of count last z) hash next pe e_len nv hash' next' pe' e_len' nv')
+          e done)
 
   -- ---- all were gone through
 
@@ -359,12 +370,12 @@ module _ (n : ℕ) (iw pe0 e_len0 : List ℤ) (len : List ℕ) (nv0 : List ℤ) 
   }
 
   pub all_heads : (pe e_len nv : List ℤ) (w hash next : List ℕ) (flag : ℕ) → Merging 0 pe e_len nv w hash next flag → (b : ℕ) → b < n →
-      num hash b < n → IsHead last rest rep b (num hash b)
+      num hash b < n → IsHead count last rest rep b (num hash b)
   all_heads pe e_len nv w hash next flag st b l s = first (st.buckets b) (st.chains b l) (λ y h. sym (st.found.groups b y) ∙ h)
     where
       first : (xs : List ℕ) → Chain n next (num hash b) xs → ((y : ℕ) → has xs y ≡ true →
-          (has rest y && rep y == y && num last y == b) ≡ true) → IsHead last rest rep b (num hash b)
+          (has rest y && rep y == y && bucket_of count last y == b) ≡ true) → IsHead count last rest rep b (num hash b)
       first [] c f = absurd (omega (arith, c, s))
       first (y ∷ ys) c f = let h = f (num hash b) (has_head (num hash b) y ys c.0) in let x : ℕ = num hash b in
-          let p = and_parts (has rest x && rep x == x) (num last x == b) h in let q = and_parts (has rest x) (rep x == x) p.0 in
-          (q.0, eqb-true (rep x) x q.1, eqb-true (num last x) b p.1)
+          let p = and_parts (has rest x && rep x == x) (bucket_of count last x == b) h in let q = and_parts (has rest x) (rep x == x) p.0 in
+          (q.0, eqb-true (rep x) x q.1, eqb-true (bucket_of count last x) b p.1)

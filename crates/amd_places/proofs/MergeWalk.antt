@@ -9,7 +9,7 @@ use Rattle.amd_model.specs.Quotient.{has, Once}
 use Rattle.amd_model.proofs.Quotient.Lists.{once_filter, has_filter}
 use Rattle.amd_places.specs.Words.{num, word, place, rows, size_of, classes}
 use Rattle.amd_views.specs.Rounds.{alike_in}
-use Rattle.amd_places.specs.Merging.{bucket, links, kept_of, near_of, AreRenewed, Settles, IsReady}
+use Rattle.amd_places.specs.Merging.{bucket, links, kept_of, near_of, AreRenewed, Settles, IsReady, bucket_of}
 use Rattle.amd_places.proofs.RowLists.{rows_none, rows_length}
 use Rattle.amd_places.proofs.Gathering.{classes_yes, classes_no, classes_split}
 use Rattle.amd_places.proofs.MergeState.{Premises, Merging, ready_at, size_at, settled_at}
@@ -38,7 +38,7 @@ module _ (n : ℕ) (iw pe0 e_len0 : List ℤ) (len : List ℕ) (nv0 : List ℤ) 
   upto m = length (classes nv0 (rows iw from m))
 
   pub premises : Once (rows iw from count) → count ≤ n → AreRenewed n iw pe0 e_len0 len nv0 w0 last rest →
-      Premises n iw pe0 e_len0 len nv0 w0 next0 last rest flag0
+      Premises n iw pe0 e_len0 len nv0 w0 next0 last rest flag0 count
   premises o l a = record {
     once = once_filter (λ j. nat_lt 0 (size_of nv0 j)) (rows iw from count) o;
     few = (let c = classes_few nv0 iw from count in omega (arith, c, l));
@@ -50,10 +50,10 @@ module _ (n : ℕ) (iw pe0 e_len0 : List ℤ) (len : List ℕ) (nv0 : List ℤ) 
     standing = a.standing;
   }
 
-  module _ (g : Premises n iw pe0 e_len0 len nv0 w0 next0 last rest flag0) (left : ℕ) (some : 0 < left) (part : left ≤ count) (j : ℕ)
+  module _ (g : Premises n iw pe0 e_len0 len nv0 w0 next0 last rest flag0 count) (left : ℕ) (some : 0 < left) (part : left ≤ count) (j : ℕ)
       (is : j ≡ place (word iw (from + (left - 1))))
       (pe e_len nv : List ℤ) (w hash next : List ℕ) (flag : ℕ)
-      (st : Merging n iw pe0 e_len0 len nv0 w0 next0 last rest flag0 (upto left) pe e_len nv w hash next flag) where
+      (st : Merging n iw pe0 e_len0 len nv0 w0 next0 last rest flag0 count (upto left) pe e_len nv w hash next flag) where
     m : ℕ
     m = left - 1
 
@@ -83,13 +83,14 @@ module _ (n : ℕ) (iw pe0 e_len0 : List ℤ) (len : List ℕ) (nv0 : List ℤ) 
       at_k : j ≡ get_or rest k 0
       at_k = is ∙ sym (ap (λ xs. get_or xs k 0) split ∙ get_or-append_seam (classes nv0 (rows iw from (left - 1))) y behind 0)
 
-      st_k : Merging n iw pe0 e_len0 len nv0 w0 next0 last rest flag0 (k + 1) pe e_len nv w hash next flag
-      st_k = subst (λ z. Merging n iw pe0 e_len0 len nv0 w0 next0 last rest flag0 z pe e_len nv w hash next flag) more_is st
+      st_k : Merging n iw pe0 e_len0 len nv0 w0 next0 last rest flag0 count (k + 1) pe e_len nv w hash next flag
+      st_k = subst (λ z. Merging n iw pe0 e_len0 len nv0 w0 next0 last rest flag0 count z pe e_len nv w hash next flag) more_is st
 
     -- the class at hand has the size that it had
     size_now : size_of nv j ≡ size_of nv0 j
     size_now = elim (cases_Bool (nat_lt 0 (size_of nv0 (place (word iw (from + (left - 1))))))) [
-      | inl c ↦ size_at n iw pe0 e_len0 len nv0 w0 next0 last rest flag0 g (k c) (within c) pe e_len nv w hash next flag (st_k c) j (at_k c)
+      | inl c ↦ size_at n iw pe0 e_len0 len nv0 w0 next0 last rest flag0 count g (k c) (within c) pe e_len nv w hash next flag (st_k c)
+          j (at_k c)
       | inr c ↦ st.sizes.apart j (has_filter (λ x. nat_lt 0 (size_of nv0 x)) (rows iw from count) j
           ∙ and_right (has (rows iw from count) j) (nat_lt 0 (size_of nv0 j)) (ap (λ x. nat_lt 0 (size_of nv0 x)) is ∙ c))
     ]
@@ -97,28 +98,31 @@ module _ (n : ℕ) (iw pe0 e_len0 : List ℤ) (len : List ℕ) (nv0 : List ℤ) 
     was : (b : Bool) → nat_lt 0 (size_of nv j) ≡ b → nat_lt 0 (size_of nv0 (place (word iw (from + (left - 1))))) ≡ b
     was b h = ap (λ x. nat_lt 0 (size_of nv0 x)) (sym is) ∙ ap (nat_lt 0) (sym size_now) ∙ h
 
-    pub step_ready : nat_lt 0 (size_of nv j) ≡ true → IsReady (length next) iw len last j pe e_len nv w hash next
-    step_ready h = let c = was true h in subst (λ z. IsReady z iw len last j pe e_len nv w hash next) (sym st.long.5)
-        (ready_at n iw pe0 e_len0 len nv0 w0 next0 last rest flag0 g (k c) (within c) pe e_len nv w hash next flag (st_k c) j (at_k c))
+    pub step_ready : nat_lt 0 (size_of nv j) ≡ true → IsReady (length next) iw len last count j pe e_len nv w hash next
+    step_ready h = let c = was true h in subst (λ z. IsReady z iw len last count j pe e_len nv w hash next) (sym st.long.5)
+        (ready_at n iw pe0 e_len0 len nv0 w0 next0 last rest flag0 count g (k c) (within c) pe e_len nv w hash next flag (st_k c)
+        j (at_k c))
 
     pub step_room : nat_lt 0 (size_of nv j) ≡ true → flag + 1 ≤ flag0 + count
     step_room h = let c = was true h in let a = (st_k c).flags.1 in let b = classes_few nv0 iw from count in omega (arith, a, b)
 
-    pub step_skips : nat_lt 0 (size_of nv j) ≡ false → Merging n iw pe0 e_len0 len nv0 w0 next0 last rest flag0 (upto (left - 1))
+    pub step_skips : nat_lt 0 (size_of nv j) ≡ false → Merging n iw pe0 e_len0 len nv0 w0 next0 last rest flag0 count (upto (left - 1))
         pe e_len nv w hash next flag
     step_skips h = let c = was false h in let e : left ≡ (left - 1) + 1 = omega (arith, some) in
-        subst (λ z. Merging n iw pe0 e_len0 len nv0 w0 next0 last rest flag0 z pe e_len nv w hash next flag)
+        subst (λ z. Merging n iw pe0 e_len0 len nv0 w0 next0 last rest flag0 count z pe e_len nv w hash next flag)
         (ap (λ z. length (classes nv0 (rows iw from z))) e ∙ ap length (classes_no nv0 iw from (left - 1) c)) st
 
     pub step_settles : nat_lt 0 (size_of nv j) ≡ true → (pe' e_len' nv' : List ℤ) (w' hash' next' : List ℕ) (flag' : ℕ) →
         (length pe' ≡ length pe) × (length e_len' ≡ length e_len) × (length nv' ≡ length nv) × (length w' ≡ length w) →
         (length hash' ≡ length hash) × (length next' ≡ length next) →
         (flag ≤ flag') × (flag' ≤ flag + 1) → ((x : ℕ) → num w' x < flag') → ((x : ℕ) → (num w' x == 0) ≡ (num w x == 0)) →
-        Settles (alike_in (kept_of iw pe e_len) (near_of iw pe e_len len)) (bucket next (num hash (num last j))) j (num last j)
+        Settles (alike_in (kept_of iw pe e_len) (near_of iw pe e_len len)) (bucket next (num hash (bucket_of count last j))) j
+        (bucket_of count last j)
         hash next pe e_len nv hash' next' pe' e_len' nv' →
-        Merging n iw pe0 e_len0 len nv0 w0 next0 last rest flag0 (upto (left - 1)) pe' e_len' nv' w' hash' next' flag'
+        Merging n iw pe0 e_len0 len nv0 w0 next0 last rest flag0 count (upto (left - 1)) pe' e_len' nv' w' hash' next' flag'
     step_settles h pe' e_len' nv' w' hash' next' flag' long more flags under zeros done = let c = was true h in
-        settled_at n iw pe0 e_len0 len nv0 w0 next0 last rest flag0 g (k c) (within c) pe e_len nv w hash next flag (st_k c)
+        settled_at n iw pe0 e_len0 len nv0 w0 next0 last rest flag0 count g (k c) (within c) pe e_len nv w hash next flag (st_k c)
         pe' e_len' nv' w' hash' next' flag' long more flags under zeros j (at_k c)
-        (subst (λ z. Settles (alike_in (kept_of iw pe e_len) (near_of iw pe e_len len)) (links z next z (num hash (num last j))) j
-        (num last j) hash next pe e_len nv hash' next' pe' e_len' nv') st.long.5 done)
+        (subst (λ z. Settles (alike_in (kept_of iw pe e_len) (near_of iw pe e_len len))
+        (links z next z (num hash (bucket_of count last j))) j
+        (bucket_of count last j) hash next pe e_len nv hash' next' pe' e_len' nv') st.long.5 done)

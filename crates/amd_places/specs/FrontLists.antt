@@ -3,7 +3,7 @@ use Rattle.std.specs.Prelude.{ℕ, ℤ, true, false, List, ◌≡◌, ◌<◌, �
 use Rattle.amd_model.specs.Quotient.{has, Once}
 use Rattle.amd_places.specs.Words.{num, in_front, classes, rows, Names}
 use Rattle.amd_places.specs.Chains.{DegreeLists}
-use Rattle.amd_places.specs.Merging.{MergesAll, represents_in}
+use Rattle.amd_places.specs.Merging.{MergesAll, represents_in, bucket_of}
 use Rattle.amd_places.specs.Restoring.{IsPlaceable, marked_in, bound_in, put_all}
 
 -- count words from a place on are a list of rows below n, each named once
@@ -24,11 +24,11 @@ LongToPlace n nv degree head next last hash = (length nv ≡ n) × (length degre
 abbrev pub AreOutside : ℕ → (ℕ → List ℕ) → List ℕ → Type 0
 AreOutside n lists xs = (b x : ℕ) → b < n → has (lists b) x ≡ true → has xs x ≡ false
 
--- a bucket that is not empty has one of the given rows at its head, with the key of the bucket, and the list of the
--- front has more than one word
+-- a bucket that is not empty has one of the given rows at its head, which belongs into it, and the list of the front
+-- has more than one word
 abbrev pub AreHeads : ℕ → ℕ → List ℕ → List ℕ → List ℕ → Type 0
 AreHeads n count xs hash last = (b : ℕ) → b < n → num hash b < n → (1 < count) × (has xs (num hash b) ≡ true) ×
-    (num last (num hash b) ≡ b)
+    (bucket_of count last (num hash b) ≡ b)
 
 -- the classes of a list were merged into their representatives, which alone are classes now; lists by bound of other
 -- rows stay

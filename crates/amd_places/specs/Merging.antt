@@ -1,7 +1,7 @@
 -- Classes of a front that keep the same lists, found through buckets and merged in their places.
 use Rattle.std.specs.Prelude.{ℕ, ℤ, zero, suc, Bool, true, false, List, [], ◌∷◌, ◌≡◌, ◌<◌, ◌≤◌, ◌+◌, ◌-◌, ◌%◌, ◌^◌}
 use Rattle.std.specs.Prelude.{◌==◌, ◌&&◌, ◌⊎◌}
-use Rattle.std.specs.Prelude.{negsuc, not, nat_lt, cond, length, sum_by, filter, slice_set}
+use Rattle.std.specs.Prelude.{bit_and, negsuc, not, nat_lt, cond, length, sum_by, filter, slice_set}
 use Rattle.amd_model.specs.Quotient.{has, each, Once, last_that}
 use Rattle.amd_places.specs.Words.{num, is_place, place, word, start, size_of, in_front, flip_of, rows, Names}
 use Rattle.amd_places.specs.Chains.{Chain}
@@ -57,9 +57,18 @@ abbrev pub Finds : ℕ → (ℕ → Bool) → List ℕ → ℕ → Type 0
 Finds n p members r = ((r < n) × (has members r ≡ true) × (p r ≡ true)) ⊎
     ((r ≡ n) × ((x : ℕ) → has members x ≡ true → p x ≡ false))
 
--- the bucket of a class that keeps these words, one of n
+-- the key of a class that keeps these words, a number below n
 abbrev pub key_of : ℕ → List ℕ → ℕ
 key_of n xs = (sum_by (λ j. j) xs % 2 ^ 64) % n
+
+-- the bits of a key that choose a bucket: the lowest ten for a front whose list has few words, so that the buckets in use
+-- stand close together, and all bits for another one
+abbrev pub mask_of : ℕ → ℕ
+mask_of count = cond (nat_lt count 256) 1023 (2 ^ 64 - 1)
+
+-- the bucket of a class of a front whose list has so many words
+unfoldable pub bucket_of : ℕ → List ℕ → ℕ → ℕ
+bucket_of count last i = bit_and (num last i) (mask_of count)
 
 -- the class i of the front was merged into the class r
 pub record MergesInto (i r : ℕ) (hash next : List ℕ) (pe e_len nv : List ℤ) (hash' next' : List ℕ)
@@ -100,13 +109,16 @@ pub record IsMember (n : ℕ) (iw pe e_len : List ℤ) (len : List ℕ) (nv : Li
   pub small : size_of nv j + size_of nv i ≤ n
 
 -- the class i stands ready to be looked for in its bucket, and to be merged or put there
-pub record IsReady (n : ℕ) (iw : List ℤ) (len last : List ℕ) (i : ℕ) (pe e_len nv : List ℤ) (w hash next : List ℕ)
-    : Type 0 where
-  pub key : num last i < n
-  pub chain : Chain n next (num hash (num last i)) (links n next n (num hash (num last i)))
+pub record IsReady (n : ℕ) (iw : List ℤ) (len last : List ℕ) (count i : ℕ) (pe e_len nv : List ℤ)
+    (w hash next : List ℕ) : Type 0 where
+  pub key : bucket_of count last i < n
+  pub chain : Chain n next (num hash (bucket_of count last i)) (links n next n (num hash (bucket_of count last i)))
   pub here : IsRenewed n iw pe e_len len i
   pub marked : in_front nv i ≡ true
-  pub members : (j : ℕ) → has (links n next n (num hash (num last i))) j ≡ true → IsMember n iw pe e_len len nv i j
+  pub members : (j : ℕ) → has (links n next n (num hash (bucket_of count last i))) j ≡ true →
+      IsMember n iw pe e_len len nv i j
+  pub keys : (j : ℕ) → has (links n next n (num hash (bucket_of count last i))) j ≡ true →
+      alike_in (kept_of iw pe e_len) (near_of iw pe e_len len) i j ≡ true → num last j ≡ num last i
   pub standing : (x : ℕ) → has (words_of iw pe len i) x ≡ true → 0 < num w x
 
 -- what is known of the classes of a front, with rows of their own and lists that were renewed, before they are merged:
@@ -136,6 +148,6 @@ pub record MergesAll (rest : List ℕ) (rep : ℕ → ℕ) (pe e_len nv : List �
   pub front : (x : ℕ) → in_front nv' x ≡ cond (has rest x && not (rep x == x)) false (in_front nv x)
   pub nexts : (x : ℕ) → has rest x ≡ false → num next' x ≡ num next x
 
--- the row at the head of a bucket represents itself, and has the key of the bucket
-abbrev pub IsHead : List ℕ → List ℕ → (ℕ → ℕ) → ℕ → ℕ → Type 0
-IsHead last rest rep b x = (has rest x ≡ true) × (rep x ≡ x) × (num last x ≡ b)
+-- the row at the head of a bucket represents itself, and belongs into the bucket
+abbrev pub IsHead : ℕ → List ℕ → List ℕ → (ℕ → ℕ) → ℕ → ℕ → Type 0
+IsHead count last rest rep b x = (has rest x ≡ true) × (rep x ≡ x) × (bucket_of count last x ≡ b)

@@ -1,6 +1,7 @@
 // Merging: classes of a new element that keep the same elements and the same variables become one, which the last of
-// them represents. Only classes of one bucket are compared; a bucket is the sum of what a class lists, modulo the
-// number of rows. Source: Amestoy, Davis and Duff 1996 (supervariables, found by a hash function). Called by: a round.
+// them represents. The key of a class is the sum of what it lists, modulo the number of rows. Only classes of one
+// bucket are compared: a bucket is chosen by the lowest bits of a key, or by all of them in a large front. Source:
+// Amestoy, Davis and Duff 1996 (supervariables, found by a hash function). Called by: a round.
 
 ghost use Rattle.std.specs.Prelude.{◌≡◌, ◌≢◌, ◌<◌, ◌≤◌, ◌+◌, ◌-◌, ◌^◌, ◌&&◌, ◌||◌, ◌==◌, not, cond, negsuc, nat_lt, ℕ};
 ghost use Rattle.std.specs.Prelude.{List, true, false, length, slice_set, ◌⊎◌};
@@ -10,7 +11,7 @@ ghost use Rattle.amd_views.specs.Rounds.{alike_in};
 ghost use Rattle.amd_places.specs.Chains.{Chain};
 ghost use Rattle.amd_places.specs.FrontLists.{IsList, LongToMerge, MergesList};
 ghost use Rattle.amd_places.specs.Merging.{bucket, kept_of, near_of, words_of, IsRenewed, AreApart, looks, Finds};
-ghost use Rattle.amd_places.specs.Merging.{as_long, Settles, AreRenewed, IsReady};
+ghost use Rattle.amd_places.specs.Merging.{as_long, bucket_of, Settles, AreRenewed, IsReady};
 
 use crate::words::{named, put_flip};
 use amd_cells::{Figure, Signed, Unsigned, Word, figure_at, put_figure, put_word, word_at};
@@ -75,25 +76,37 @@ fn is_as_long<S: Signed, U: Unsigned>(
     named(e_len, j) == few
 }
 
-/// Whether some class of a bucket has so many words and elements.
+/// The bucket of a class of a front whose list has `count` words.
+pub fn bucket_at<U: Unsigned>(last: &[Figure<U>], i: usize, count: usize) -> usize
+    requires { i < length last.now }
+    ensures { result ≡ bucket_of count last.now i }
+{
+    let mask = if count < 256 { 1023 } else { usize::MAX };
+    figure_at(last, i) & mask
+}
+
+/// Whether some class of a bucket has the key given and so many words and elements.
 fn any_as_long<S: Signed, U: Unsigned>(
     e_len: &[Word<S>],
     len: &[Figure<U>],
     next: &[Figure<U>],
+    last: &[Figure<U>],
     head: usize,
+    key: usize,
     count: usize,
     few: usize,
 ) -> bool
-    requires lengths { (length e_len.now ≡ length next.now) × (length len.now ≡ length next.now) }
+    requires lengths { (length e_len.now ≡ length next.now) × (length len.now ≡ length next.now) ×
+        (length last.now ≡ length next.now) }
     requires chain { Chain (length next.now) next.now head (bucket next.now head) }
     requires members { (j : ℕ) → has (bucket next.now head) j ≡ true → is_place (word e_len.now j) ≡ true }
     ensures { result ≡ false → (j : ℕ) → has (bucket next.now head) j ≡ true →
-        as_long e_len.now len.now count few j ≡ false }
+        (num last.now j == key && as_long e_len.now len.now count few j) ≡ false }
 {
     let n = next.len();
     let mut j = head;
     'members: while j < n {
-        if is_as_long(e_len, len, j, count, few) {
+        if figure_at(last, j) == key && is_as_long(e_len, len, j, count, few) {
             return true;
         }
         j = figure_at(next, j);
@@ -160,7 +173,7 @@ fn walk<S: Signed, U: Unsigned>(
 }
 
 /// The class of a bucket that keeps the same elements and variables as the class `i`, or the number of rows if there is
-/// none. The words of `i` are marked with the flag, if some class of the bucket has as many.
+/// none. The words of `i` are marked with the flag, if some class of the bucket has its key and as many.
 fn find<S: Signed, U: Unsigned>(
     iw: &[Word<S>],
     pe: &[Word<S>],
@@ -168,18 +181,21 @@ fn find<S: Signed, U: Unsigned>(
     len: &[Figure<U>],
     w: &mut [Figure<U>],
     next: &[Figure<U>],
+    last: &[Figure<U>],
     head: usize,
     i: usize,
     flag: usize,
 ) -> usize
     requires lengths { (length pe.now ≡ length w.old) × (length e_len.now ≡ length w.old) ×
-        (length len.now ≡ length w.old) × (length next.now ≡ length w.old) }
+        (length len.now ≡ length w.old) × (length next.now ≡ length w.old) × (length last.now ≡ length w.old) }
     requires short { length iw.now < 2 ^ 63 }
     requires chain { Chain (length next.now) next.now head (bucket next.now head) }
     requires here { IsRenewed (length w.old) iw.now pe.now e_len.now len.now i }
     requires members { (j : ℕ) → has (bucket next.now head) j ≡ true →
         IsRenewed (length w.old) iw.now pe.now e_len.now len.now j }
     requires apart { (j : ℕ) → has (bucket next.now head) j ≡ true → AreApart iw.now pe.now e_len.now len.now i j }
+    requires keys { (j : ℕ) → has (bucket next.now head) j ≡ true → alike_in (kept_of iw.now pe.now e_len.now)
+        (near_of iw.now pe.now e_len.now len.now) i j ≡ true → num last.now j ≡ num last.now i }
     requires under { (x : ℕ) → num w.old x < flag }
     requires fits { flag ≤ U.MOST }
     ensures found { Finds (length next.now) (alike_in (kept_of iw.now pe.now e_len.now)
@@ -190,7 +206,7 @@ fn find<S: Signed, U: Unsigned>(
 {
     let few = named(e_len, i);
     let count = figure_at(len, i);
-    if !any_as_long(e_len, len, next, head, count, few) {
+    if !any_as_long(e_len, len, next, last, head, figure_at(last, i), count, few) {
         return next.len();
     }
     let from = named(pe, i);
@@ -252,7 +268,7 @@ fn push<U: Unsigned>(hash: &mut [Figure<U>], next: &mut [Figure<U>], i: usize, k
 }
 
 /// Merges a class of the front into one of its bucket that keeps the same elements and variables, or, if there is none,
-/// puts it into the bucket. Answers the next flag.
+/// puts it into the bucket. The list of the front has `count` words. Answers the next flag.
 fn merge_one<S: Signed, U: Unsigned>(
     iw: &[Word<S>],
     pe: &mut [Word<S>],
@@ -263,30 +279,31 @@ fn merge_one<S: Signed, U: Unsigned>(
     hash: &mut [Figure<U>],
     next: &mut [Figure<U>],
     last: &[Figure<U>],
+    count: usize,
     i: usize,
     flag: usize,
 ) -> usize
     requires lengths { LongToMerge (length next.old) pe.old e_len.old nv.old len.now w.old hash.old next.old last.now }
     requires short { (length iw.now < 2 ^ 63) × (length next.old + 2 ≤ S.MOST) × (length next.old ≤ U.MOST) }
-    requires ready { IsReady (length next.old) iw.now len.now last.now i pe.old e_len.old nv.old w.old hash.old
+    requires ready { IsReady (length next.old) iw.now len.now last.now count i pe.old e_len.old nv.old w.old hash.old
         next.old }
     requires under { (x : ℕ) → num w.old x < flag }
     requires room { flag + 1 ≤ U.MOST }
     ensures settles { Settles (alike_in (kept_of iw.now pe.old e_len.old) (near_of iw.now pe.old e_len.old len.now))
-        (bucket next.old (num hash.old (num last.now i))) i (num last.now i) hash.old next.old pe.old e_len.old nv.old
-        hash.new next.new pe.new e_len.new nv.new }
+        (bucket next.old (num hash.old (bucket_of count last.now i))) i (bucket_of count last.now i) hash.old next.old
+        pe.old e_len.old nv.old hash.new next.new pe.new e_len.new nv.new }
     ensures lengths { LongToMerge (length next.old) pe.new e_len.new nv.new len.now w.new hash.new next.new last.now }
     ensures flag { (flag ≤ result) × (result ≤ flag + 1) }
     ensures under { (x : ℕ) → num w.new x < result }
     ensures zeros { (x : ℕ) → (num w.new x == 0) ≡ (num w.old x == 0) }
 {
-    let key = figure_at(last, i);
+    let key = bucket_at(last, i, count);
     let head = figure_at(hash, key);
     if head >= next.len() {
         push(hash, next, i, key);
         return flag;
     }
-    let found = find(iw, pe, e_len, len, w, next, head, i, flag);
+    let found = find(iw, pe, e_len, len, w, next, last, head, i, flag);
     if found < next.len() {
         merge(pe, e_len, nv, i, found);
     } else {
@@ -346,7 +363,7 @@ pub fn merge_front<S: Signed, U: Unsigned>(
         left -= 1;
         let i = named(iw, from + left);
         if is_class(nv, i) {
-            now = merge_one(iw, pe, e_len, len, nv, w, hash, next, last, i, now);
+            now = merge_one(iw, pe, e_len, len, nv, w, hash, next, last, count, i, now);
         }
     }
     now

@@ -3,15 +3,17 @@
 // Davis and Duff 1996 (restored degree lists). Called by: a round.
 
 ghost use Rattle.std.specs.Prelude.{◌≡◌, ◌<◌, ◌≤◌, ◌+◌, ◌-◌, ◌^◌, ◌==◌, ◌&&◌, ◌∷◌, not, min, cond, ℕ, List, true};
-ghost use Rattle.std.specs.Prelude.{false, length, slice_set};
+ghost use Rattle.std.specs.Prelude.{false, length, nat_lt, slice_set};
 ghost use Rattle.amd_model.specs.Quotient.{has};
 ghost use Rattle.amd_places.specs.Words.{num, size_of, in_front, rows};
 ghost use Rattle.amd_places.specs.Chains.{DegreeLists};
 ghost use Rattle.amd_places.specs.FrontLists.{IsList, LongToPlace, AreHeads, CanPlace, HasLists, PutsAll};
+ghost use Rattle.amd_places.specs.Merging.{bucket_of};
 ghost use Rattle.amd_places.specs.Renewal.{Filters};
 ghost use Rattle.amd_places.specs.Restoring.{marked_in, bound_in, IsPlaceable, Restores};
 
 use crate::chains::put_head;
+use crate::merging::bucket_at;
 use crate::words::{is_marked, leave, named};
 use amd_cells::{Figure, Signed, Unsigned, Word, copy_word, figure_at, put_figure};
 
@@ -25,19 +27,21 @@ fn new_bound(reach: usize, size: usize, border: usize, left: usize) -> usize
     (reach + (border - size)).min(left - size)
 }
 
-/// Empties the bucket of a class if buckets are used.
-fn empty_bucket<U: Unsigned>(hash: &mut [Figure<U>], last: &[Figure<U>], i: usize, is_used: bool)
+/// Empties the bucket of a class of a front whose list has `count` words. Where there is one at most, no bucket is
+/// used.
+fn empty_bucket<U: Unsigned>(hash: &mut [Figure<U>], last: &[Figure<U>], i: usize, count: usize)
     requires class { (i < length last.now) × (num last.now i < length hash.old) }
     requires short { length hash.old ≤ U.MOST }
-    ensures { hash.new ≡ cond is_used (slice_set hash.old (num last.now i) (length hash.old)) hash.old }
+    ensures { hash.new ≡ cond (nat_lt 1 count) (slice_set hash.old (bucket_of count last.now i) (length hash.old))
+        hash.old }
 {
-    if is_used {
-        put_figure(hash, figure_at(last, i), hash.len());
+    if count > 1 {
+        put_figure(hash, bucket_at(last, i, count), hash.len());
     }
 }
 
-/// Takes the mark off a class, empties its bucket if buckets are used, and puts it at the head of the list of its new
-/// bound. Answers that bound.
+/// Takes the mark off a class of a front whose list has `count` words, empties its bucket if buckets are used, and puts
+/// it at the head of the list of its new bound. Answers that bound.
 fn place_class<S: Signed, U: Unsigned>(
     nv: &mut [Word<S>],
     degree: &mut [Figure<U>],
@@ -48,7 +52,7 @@ fn place_class<S: Signed, U: Unsigned>(
     i: usize,
     border: usize,
     left: usize,
-    is_used: bool,
+    count: usize,
 ) -> usize
     requires lengths { (length nv.old ≡ length next.old) × (length degree.old ≡ length next.old) ×
         (length head.old ≡ length next.old) × (length last.old ≡ length next.old) ×
@@ -65,7 +69,8 @@ fn place_class<S: Signed, U: Unsigned>(
     ensures marks { (j : ℕ) → in_front nv.new j ≡ (in_front nv.old j && not (i == j)) }
     ensures bound { result ≡ bound_in border left nv.old degree.old i }
     ensures degrees { degree.new ≡ slice_set degree.old i result }
-    ensures emptied { hash.new ≡ cond is_used (slice_set hash.old (num last.old i) (length next.old)) hash.old }
+    ensures emptied { hash.new ≡ cond (nat_lt 1 count)
+        (slice_set hash.old (bucket_of count last.old i) (length next.old)) hash.old }
     ensures lasts { (x : ℕ) → (x ≡ i → ⊥) → (x ≡ num head.old result → ⊥) → num last.new x ≡ num last.old x }
     ensures linked { (lists : ℕ → List ℕ) → ((b : ℕ) → b < length next.old → has (lists b) i ≡ false) →
         DegreeLists (length next.old) head.old next.old last.old degree.old lists →
@@ -73,7 +78,7 @@ fn place_class<S: Signed, U: Unsigned>(
         (λ b. cond (b == result) (i ∷ lists b) (lists b)) }
 {
     let size = leave(nv, i);
-    empty_bucket(hash, last, i, is_used);
+    empty_bucket(hash, last, i, count);
     let bound = new_bound(figure_at(degree, i), size, border, left);
     put_head(head, next, last, degree, i, bound);
     bound
@@ -111,13 +116,12 @@ pub fn restore<S: Signed, U: Unsigned>(
         degree.old head.new next.new last.new degree.new }
     ensures lengths { LongToPlace (length next.old) nv.new degree.new head.new next.new last.new hash.new }
 {
-    let is_used = count > 1;
     let mut end = from;
     let mut low = least;
     for p in from..from + count {
         let i = named(iw, p);
         if is_marked(nv, i) {
-            let bound = place_class(nv, degree, head, next, last, hash, i, border, left, is_used);
+            let bound = place_class(nv, degree, head, next, last, hash, i, border, left, count);
             low = low.min(bound);
             copy_word(iw, p, end);
             end += 1;

@@ -1,10 +1,13 @@
-use Rattle.std.proofs.Common.{length}
+use Rattle.std.proofs.Common.{◌&&◌, length}
+use Rattle.std.specs.Prelude.{◌==◌}
+use Rattle.amd_places.specs.Words.{num}
 use Rattle.amd_places.specs.Merging.{as_long, bucket}
 use Rattle.amd_places.proofs.BucketWalk.{Walks}
 use Rattle.amd_places.proofs.merging.any_as_long.Given as goal
 
 abbrev pub invariant-members : goal.invariant-members
-invariant-members g l = Walks (length l.next) l.next (as_long l.e_len l.len l.count l.few) (bucket l.next l.head) l.j
+invariant-members g l = Walks (length l.next) l.next (λ j. num l.last j == l.key && as_long l.e_len l.len l.count l.few j)
+    (bucket l.next l.head) l.j
 
 abbrev pub decreases-members : goal.decreases-members
 decreases-members g l = length (bucket l.next l.j)

@@ -5,7 +5,7 @@ use Rattle.amd_views.specs.Rounds.{alike_in}
 use Rattle.amd_places.specs.Merging.{Finds, IsRenewed, bucket, looks, kept_of, near_of, words_of}
 use Rattle.amd_places.proofs.RowLists.{names_at}
 use Rattle.amd_places.proofs.Likeness.{alike_counts, looks_alike}
-use Rattle.std.specs.Prelude.{◌==◌}
+use Rattle.std.specs.Prelude.{◌==◌, ◌&&◌}
 use Rattle.std.proofs.lemmas.Bool.{cases_Bool, and_from, eq-eqb}
 use Rattle.amd_model.proofs.Counting.Below.{clash}
 use Rattle.amd_places.proofs.merging.find.Goals as goal
@@ -82,7 +82,7 @@ returns-clause-marked g c = inr (λ x. c.spread.ensures.marked x ∙ ap (λ m.
     c.named-from.ensures)
 
 pub any_as_long-requires-clause-lengths : goal.any_as_long-requires-clause-lengths
-any_as_long-requires-clause-lengths g c = let l = c.requires.lengths in let n = sym l.3 in (l.1 ∙ n, l.2 ∙ n)
+any_as_long-requires-clause-lengths g c = let l = c.requires.lengths in let n = sym l.3 in (l.1 ∙ n, l.2 ∙ n, l.4 ∙ n)
 
 pub any_as_long-requires-clause-members : goal.any_as_long-requires-clause-members
 any_as_long-requires-clause-members g c j h = (c.requires.members j h).counts
@@ -98,9 +98,13 @@ returns-then-not-any_as_long-clause-found g c = inr (
         | inr f ↦ f
         | inl t ↦
             let q = alike_counts (length c.args.w.now) iw pe e_len len i x c.requires.here (c.requires.members x h) t in
-            clash (and_from (num len x == c.figure_at-count.result) (place (word e_len x) == c.named-few.result)
+            let key = c.requires.keys x h t ∙ sym c.figure_at.ensures.is in
+            clash (and_from (num c.args.last.now x == c.figure_at.result)
+            (num len x == c.figure_at-count.result && place (word e_len x) == c.named-few.result)
+            (eq-eqb (num c.args.last.now x) c.figure_at.result key)
+            (and_from (num len x == c.figure_at-count.result) (place (word e_len x) == c.named-few.result)
             (eq-eqb (num len x) c.figure_at-count.result (q.0 ∙ sym c.figure_at-count.ensures.is))
-            (eq-eqb (place (word e_len x)) c.named-few.result (q.1 ∙ sym c.named-few.ensures)))
+            (eq-eqb (place (word e_len x)) c.named-few.result (q.1 ∙ sym c.named-few.ensures))))
             (c.any_as_long.ensures c.if-not-any_as_long.true x h)
       ],
 )

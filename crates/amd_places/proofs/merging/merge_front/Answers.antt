@@ -15,7 +15,7 @@ pub classes-init : goal.classes-init
 classes-init g c = let l = c.requires.lengths in record {
   within = omega arith;
   merging = merging_none (length c.args.next.now) c.args.iw.now c.args.pe.now c.args.e_len.now c.args.len.now c.args.nv.now c.args.w.now
-      c.args.next.now c.args.last.now (classes c.args.nv.now (rows c.args.iw.now c.args.from c.args.count)) c.args.flag
+      c.args.next.now c.args.last.now (classes c.args.nv.now (rows c.args.iw.now c.args.from c.args.count)) c.args.flag c.args.count
       c.args.hash.now c.requires.empty c.requires.under (l.0, l.1, l.2, l.4, l.5, refl);
 }
 
@@ -98,7 +98,7 @@ pub returns-clause-merges : goal.returns-clause-merges
 returns-clause-merges g c =
     let list : List ℕ = rows c.args.iw.now c.args.from c.args.count in
     let state = subst (λ k. Merging (length c.args.next.now) c.args.iw.now c.args.pe.now c.args.e_len.now c.args.len.now c.args.nv.now
-    c.args.w.now c.args.next.now c.args.last.now (classes c.args.nv.now list) c.args.flag
+    c.args.w.now c.args.next.now c.args.last.now (classes c.args.nv.now list) c.args.flag c.args.count
     k c.classes.pe c.classes.e_len c.classes.nv c.classes.w c.classes.hash c.classes.next c.classes.now)
     (classes_end c.args.nv.now c.args.iw.now c.args.from c.classes.left c.classes-test.false) c.classes.invariant.merging in
     let merged : MergesAll (classes c.args.nv.now list)
@@ -106,10 +106,10 @@ returns-clause-merges g c =
     c.args.pe.now c.args.e_len.now c.args.nv.now c.args.next.now c.classes.pe c.classes.e_len c.classes.nv c.classes.next = (
     let g = premises (length c.args.next.now) c.args.iw.now c.args.pe.now c.args.e_len.now c.args.len.now c.args.nv.now c.args.w.now
     c.args.next.now c.args.last.now c.args.from c.args.count c.args.flag c.requires.front.2 c.requires.few c.requires.classes in
-    all_merged _ _ _ _ _ _ _ _ _ _ _ g.once _ _ _ _ _ _ _ state) in record {
+    all_merged _ _ _ _ _ _ _ _ _ _ _ _ g.once _ _ _ _ _ _ _ state) in record {
       merged = merged;
       made = made_is list _ _ _ _ _ _ _ _ _ merged;
-      heads = λ b small full. let head = all_heads _ _ _ _ _ _ _ _ _ _ _ _ _ _ _ _ _ _ state b small full in (
+      heads = λ b small full. let head = all_heads _ _ _ _ _ _ _ _ _ _ _ _ _ _ _ _ _ _ _ state b small full in (
         (let f = c.if-count-lt2.false in omega (arith, f)),
         made_from list _ _ _ _ _ _ _ _ _ merged (num c.classes.hash b) head.0 head.1,
         head.2,

@@ -7,7 +7,7 @@ abbrev pub invariant-classes : goal.invariant-classes
 invariant-classes g l = record {
   within : l.left ≤ l.count;
   merging : Merging (length l.fn.next) l.iw l.fn.pe l.fn.e_len l.len l.fn.nv l.fn.w l.fn.next l.last
-      (classes l.fn.nv (rows l.iw l.from l.count)) l.flag
+      (classes l.fn.nv (rows l.iw l.from l.count)) l.flag l.count
       (length (classes l.fn.nv (rows l.iw l.from l.left))) l.pe l.e_len l.nv l.w l.hash l.next l.now;
 }
 

@@ -4,7 +4,7 @@ use Rattle.amd_model.specs.Quotient.{has}
 use Rattle.amd_model.proofs.Listings.Words.{has_none}
 use Rattle.amd_places.specs.Words.{num}
 use Rattle.amd_places.specs.Chains.{Chain}
-use Rattle.amd_places.specs.Merging.{bucket, words_of}
+use Rattle.amd_places.specs.Merging.{bucket, bucket_of, words_of}
 use Rattle.amd_places.proofs.BucketWalk.{links_is}
 use Rattle.amd_places.proofs.WordMarks.{marked_below, marked_zero}
 use Rattle.std.proofs.Common.{le_refl, le-add_right, lt_of_le_of_lt, lt_irrefl, lt_of_lt_of_le, le_of_eq, ◌+◌}
@@ -14,8 +14,8 @@ use Rattle.amd_places.proofs.merging.merge_one.Goals as goal
 
 pub returns-then-head-next-clause-settles : goal.returns-then-head-next-clause-settles
 returns-then-head-next-clause-settles g c =
-    let next = c.args.next.now in let head = num c.args.hash.now (num c.args.last.now c.args.i) in
-    let key_is = c.figure_at-key.ensures.is in let head_is : c.figure_at-head.result ≡ head = c.figure_at-head.ensures.is
+    let next = c.args.next.now in let head = num c.args.hash.now (bucket_of c.args.count c.args.last.now c.args.i) in
+    let key_is = c.bucket_at-key.ensures in let head_is : c.figure_at-head.result ≡ head = c.figure_at-head.ensures.is
     ∙ ap (num c.args.hash.now) key_is in
     let none : bucket next head ≡ [] = links_is _ next _ head [] (let b = c.if-head-next.true in omega (arith, b, head_is)) (omega arith) in
     inr (
@@ -31,16 +31,16 @@ returns-then-head-next-clause-settles g c =
       },
     )
 
-pub figure_at-key-requires : goal.figure_at-key-requires
-figure_at-key-requires g c = let a = c.requires.ready.here.row in let n = c.requires.lengths.7 in omega (arith, a, n)
+pub bucket_at-key-requires : goal.bucket_at-key-requires
+bucket_at-key-requires g c = let a = c.requires.ready.here.row in let n = c.requires.lengths.7 in omega (arith, a, n)
 
 pub figure_at-head-requires : goal.figure_at-head-requires
 figure_at-head-requires g c =
-    let e = c.figure_at-key.ensures.is in let k = c.requires.ready.key in let n = c.requires.lengths.5 in omega (arith, e, k, n)
+    let e = c.bucket_at-key.ensures in let k = c.requires.ready.key in let n = c.requires.lengths.5 in omega (arith, e, k, n)
 
 pub push-requires-clause-inside : goal.push-requires-clause-inside
 push-requires-clause-inside g c =
-    let e = c.figure_at-key.ensures.is in let k = c.requires.ready.key in let n = c.requires.lengths.5 in
+    let e = c.bucket_at-key.ensures in let k = c.requires.ready.key in let n = c.requires.lengths.5 in
     (c.requires.ready.here.row, (omega (arith, e, k, n)))
 
 pub push-requires-clause-short : goal.push-requires-clause-short
@@ -48,14 +48,14 @@ push-requires-clause-short g c = c.requires.short.2
 
 pub push-requires-else-found-next-clause-inside : goal.push-requires-else-found-next-clause-inside
 push-requires-else-found-next-clause-inside g c =
-    let e = c.figure_at-key.ensures.is in let k = c.requires.ready.key in let n = c.requires.lengths.5 in
+    let e = c.bucket_at-key.ensures in let k = c.requires.ready.key in let n = c.requires.lengths.5 in
     (c.requires.ready.here.row, (omega (arith, e, k, n)))
 
 pub push-requires-else-found-next-clause-short : goal.push-requires-else-found-next-clause-short
 push-requires-else-found-next-clause-short g c = c.requires.short.2
 
 pub find-found-requires-clause-lengths : goal.find-found-requires-clause-lengths
-find-found-requires-clause-lengths g c = let l = c.requires.lengths in let w = sym l.4 in (l.0 ∙ w, l.1 ∙ w, l.3 ∙ w, w)
+find-found-requires-clause-lengths g c = let l = c.requires.lengths in let w = sym l.4 in (l.0 ∙ w, l.1 ∙ w, l.3 ∙ w, w, l.7 ∙ w)
 
 pub find-found-requires-clause-short : goal.find-found-requires-clause-short
 find-found-requires-clause-short g c = c.requires.short.0
@@ -83,24 +83,29 @@ find-found-requires-clause-here g c = rw c.requires.lengths.4 c.requires.ready.h
 pub find-found-requires-clause-chain : goal.find-found-requires-clause-chain
 find-found-requires-clause-chain g c =
     let next = c.args.next.now in
-    let head_is = c.figure_at-head.ensures.is ∙ ap (num c.args.hash.now) c.figure_at-key.ensures.is in
+    let head_is = c.figure_at-head.ensures.is ∙ ap (num c.args.hash.now) c.bucket_at-key.ensures in
     subst (λ k. Chain (length next) next k (bucket next k)) (sym head_is) c.requires.ready.chain
 
 pub find-found-requires-clause-members : goal.find-found-requires-clause-members
 find-found-requires-clause-members g c j h =
-    let head_is = c.figure_at-head.ensures.is ∙ ap (num c.args.hash.now) c.figure_at-key.ensures.is in
+    let head_is = c.figure_at-head.ensures.is ∙ ap (num c.args.hash.now) c.bucket_at-key.ensures in
     rw c.requires.lengths.4
     (c.requires.ready.members j (subst (λ k. has (bucket c.args.next.now k) j ≡ true) head_is h)).renewed
 
 pub find-found-requires-clause-apart : goal.find-found-requires-clause-apart
 find-found-requires-clause-apart g c j h =
-    let head_is = c.figure_at-head.ensures.is ∙ ap (num c.args.hash.now) c.figure_at-key.ensures.is in
+    let head_is = c.figure_at-head.ensures.is ∙ ap (num c.args.hash.now) c.bucket_at-key.ensures in
     (c.requires.ready.members j (subst (λ k. has (bucket c.args.next.now k) j ≡ true) head_is h)).apart
+
+pub find-found-requires-clause-keys : goal.find-found-requires-clause-keys
+find-found-requires-clause-keys g c j h alike =
+    let head_is = c.figure_at-head.ensures.is ∙ ap (num c.args.hash.now) c.bucket_at-key.ensures in
+    c.requires.ready.keys j (subst (λ k. has (bucket c.args.next.now k) j ≡ true) head_is h) alike
 
 pub merge-requires-clause-other : goal.merge-requires-clause-other
 merge-requires-clause-other g c = elim c.find-found.ensures.found [
   | inl h ↦
-      let head_is = c.figure_at-head.ensures.is ∙ ap (num c.args.hash.now) c.figure_at-key.ensures.is in
+      let head_is = c.figure_at-head.ensures.is ∙ ap (num c.args.hash.now) c.bucket_at-key.ensures in
       (c.requires.ready.members c.find-found.result
       (subst (λ k. has (bucket c.args.next.now k) c.find-found.result ≡ true) head_is h.1)).other
   | inr h ↦ let l = c.if-found-next.true in let e = h.0 in absurd (omega (arith, l, e))
@@ -109,7 +114,7 @@ merge-requires-clause-other g c = elim c.find-found.ensures.found [
 pub merge-requires-clause-marked : goal.merge-requires-clause-marked
 merge-requires-clause-marked g c = elim c.find-found.ensures.found [
   | inl h ↦
-      let head_is = c.figure_at-head.ensures.is ∙ ap (num c.args.hash.now) c.figure_at-key.ensures.is in (
+      let head_is = c.figure_at-head.ensures.is ∙ ap (num c.args.hash.now) c.bucket_at-key.ensures in (
         c.requires.ready.marked,
         (c.requires.ready.members c.find-found.result
             (subst (λ k. has (bucket c.args.next.now k) c.find-found.result ≡ true) head_is h.1)).marked,
@@ -120,7 +125,7 @@ merge-requires-clause-marked g c = elim c.find-found.ensures.found [
 pub merge-requires-clause-small : goal.merge-requires-clause-small
 merge-requires-clause-small g c = elim c.find-found.ensures.found [
   | inl h ↦
-      let head_is = c.figure_at-head.ensures.is ∙ ap (num c.args.hash.now) c.figure_at-key.ensures.is in
+      let head_is = c.figure_at-head.ensures.is ∙ ap (num c.args.hash.now) c.bucket_at-key.ensures in
       let m = (c.requires.ready.members c.find-found.result
       (subst (λ k. has (bucket c.args.next.now k) c.find-found.result ≡ true) head_is h.1)).small in
       let n = c.requires.short.1 in omega (arith, m, n)
@@ -169,9 +174,9 @@ returns-clause-flag g c = (le-add_right c.args.flag 1, le_refl (c.args.flag + 1)
 
 pub returns-clause-settles : goal.returns-clause-settles
 returns-clause-settles g c =
-    let next = c.args.next.now in let key_is = c.figure_at-key.ensures.is in
-    let head_is : c.figure_at-head.result ≡ num c.args.hash.now (num c.args.last.now c.args.i) = c.figure_at-head.ensures.is
-    ∙ ap (num c.args.hash.now) key_is in
+    let next = c.args.next.now in let key_is = c.bucket_at-key.ensures in
+    let head_is : c.figure_at-head.result ≡ num c.args.hash.now (bucket_of c.args.count c.args.last.now c.args.i)
+    = c.figure_at-head.ensures.is ∙ ap (num c.args.hash.now) key_is in
     elim c.if-found-next.branch [
       | then-found-next w ↦ elim c.find-found.ensures.found [
         | inl h ↦ inl (

@@ -1,6 +1,8 @@
 use Rattle.std.proofs.Common.{ap, ◌∙◌, ◌+◌, ◌-◌, arith, cond, set}
 use Rattle.std.specs.Prelude.{min}
 use Rattle.amd_places.specs.Words.{num}
+use Rattle.std.specs.Prelude.{nat_lt}
+use Rattle.amd_places.specs.Merging.{bucket_of}
 use Rattle.amd_places.proofs.restoring.place_class.Goals as goal
 
 pub leave-size-requires-clause-inside : goal.leave-size-requires-clause-inside
@@ -44,7 +46,8 @@ returns-clause-degrees g c = c.put_head.ensures.degrees
 
 pub returns-clause-emptied : goal.returns-clause-emptied
 returns-clause-emptied g c = c.empty_bucket.ensures
-    ∙ ap (λ m. cond c.args.is_used (set c.args.hash.now (num c.args.last.now c.args.i) m) c.args.hash.now) c.requires.lengths.4
+    ∙ ap (λ m. cond (nat_lt 1 c.args.count) (set c.args.hash.now (bucket_of c.args.count c.args.last.now c.args.i) m) c.args.hash.now)
+    c.requires.lengths.4
 
 pub returns-clause-lasts : goal.returns-clause-lasts
 returns-clause-lasts g c = c.put_head.ensures.lasts

@@ -13,7 +13,9 @@ use Rattle.amd_views.proofs.Lists.Cuts.{cut_small}
 use Rattle.amd_places.specs.Words.{num, word, place, is_place, size_of, in_front, rows, Names}
 use Rattle.amd_places.specs.Chains.{DegreeLists}
 use Rattle.amd_places.specs.Renewal.{Filters}
+use Rattle.amd_places.specs.Merging.{bucket_of}
 use Rattle.amd_places.specs.Restoring.{marked_in, bound_in, put_all, Restores}
+use Rattle.amd_places.proofs.Buckets.{bucket_least, bucket_same}
 use Rattle.amd_places.proofs.RowLists.{rows_has}
 use Rattle.amd_places.proofs.WordMarks.{rows_start, rows_next}
 use Rattle.amd_places.proofs.EachRow.{each_none, each_next}
@@ -183,9 +185,10 @@ loop-p-preserved g c =
             | inr u ↦ clash {P = ⊥} m (out d x s u)
           ]) in
           let hash_is : w.place_class-bound.new.hash
-          ≡ cond (nat_lt 1 c.args.count) (set c.loop-p.hash (num c.args.last.now i) n) c.loop-p.hash = e.emptied
-          ∙ ap (λ m. cond (nat_lt 1 c.args.count) (set c.loop-p.hash m (length c.loop-p.next)) c.loop-p.hash) last_same
-          ∙ ap (λ m. cond (nat_lt 1 c.args.count) (set c.loop-p.hash (num c.args.last.now i) m) c.loop-p.hash) long.3 in
+          ≡ cond (nat_lt 1 c.args.count) (set c.loop-p.hash (bucket_of c.args.count c.args.last.now i) n) c.loop-p.hash = e.emptied
+          ∙ ap (λ m. cond (nat_lt 1 c.args.count) (set c.loop-p.hash m (length c.loop-p.next)) c.loop-p.hash)
+          (bucket_same c.args.count c.loop-p.last c.args.last.now i i last_same)
+          ∙ ap (λ m. cond (nat_lt 1 c.args.count) (set c.loop-p.hash (bucket_of c.args.count c.args.last.now i) m) c.loop-p.hash) long.3 in
           let v = e.lengths in
           record {
             lengths = (
@@ -223,7 +226,7 @@ loop-p-preserved g c =
                 (out_met given.0 given.2 b x tight m q.1)) ∙ was.lasts x m q.1;
             empties = emptying_as next (w.hash-is ∙ hash_is)
                 (emptying_clears n iw nv from c.args.count c.args.hash.now c.args.last.now c.requires.heads k i is
-                c.loop-p.hash was.empties old.key long.5);
+                c.loop-p.hash was.empties (lt_of_le_of_lt (bucket_least c.args.count c.args.last.now i) old.key) long.5);
             linked = λ lists out g.
                 let before = subst (λ m. DegreeLists m c.loop-p.head c.loop-p.next c.loop-p.last c.loop-p.degree (put_all bound met lists))
                 (sym long.3) (was.linked lists out g) in
