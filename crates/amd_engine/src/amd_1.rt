@@ -27,17 +27,24 @@ pub fn holds<S: Signed, U: Unsigned>(n: usize, iwlen: usize, flag: usize) -> boo
     n + 2 <= S::MOST && n + 2 <= U::MOST && iwlen <= S::MOST && iwlen <= U::MOST && flag <= U::MOST
 }
 
-/// Asks for half of the memory that an ordering of `n` rows in `iwlen` words of 32 bits takes beside its input, and
+/// The greatest block, in words of 32 bits, whose return tells the allocator of glibc how much to keep: 32 MB, but for
+/// its own head.
+const GREATEST_MEASURE: usize = 8_380_000;
+
+/// Asks for most of the memory that an ordering of `n` rows in `iwlen` words of 32 bits takes beside its input, and
 /// gives it back at once. An allocator may keep as much free memory as twice the greatest block that it was given back,
-/// and return the rest to the system, as that of glibc does. No list of an ordering is half of all of them; so without
-/// this request each ordering would take all its pages from the system anew.
+/// and return the rest to the system, as that of glibc does. No list of an ordering is as great; so without this
+/// request each ordering would take all its pages from the system anew.
 ///
 /// # Errors
 ///
 /// A refused request for memory.
-fn ask_for_half<A: Allocator>(alloc: A, n: usize, iwlen: usize) -> Result<(), AllocError> {
-    let half = n.saturating_mul(9).saturating_add(iwlen / 2);
-    let _: Vec<Word<i32>, A> = Vec::with_capacity(alloc, half)?;
+fn ask_for_most<A: Allocator>(alloc: A, n: usize, iwlen: usize) -> Result<(), AllocError> {
+    let most = n
+        .saturating_mul(12)
+        .saturating_add(iwlen)
+        .min(GREATEST_MEASURE);
+    let _: Vec<Word<i32>, A> = Vec::with_capacity(alloc, most)?;
     Ok(())
 }
 
@@ -125,7 +132,7 @@ pub fn amd_1_from<I: PrimInt, A: Allocator + Copy>(
     ensures degrees { len.new ≡ len.old }
 {
     let size = len.len();
-    ask_for_half(alloc, size, iwlen)?;
+    ask_for_most(alloc, size, iwlen)?;
     if holds::<i32, u32>(size, iwlen, flag) {
         return order_in::<I, i32, u32, A>(
             alloc, flag, n, a_p, a_i, len, iwlen, control, hold, info,
