@@ -1,5 +1,5 @@
 -- A pass over the rows that are no element, rising: how far the next places of the blocks have come, and which rows have been put.
-use Rattle.std.proofs.Common.{ℕ, ℤ, pos, Bool, true, false, ◌≡◌, ◌≢◌, ◌<◌, ◌+◌, ◌&&◌, not, inl, inr, refl, sym, ◌∙◌, ap}
+use Rattle.std.proofs.Common.{ℕ, ℤ, pos, ◌≡◌, ◌≢◌, ◌<◌, ◌+◌, ◌-◌, ◌&&◌, ◌⊎◌, not, inl, inr, refl, sym, ◌∙◌, ap}
 use Rattle.std.proofs.Common.{subst, arith, List, length, slice_index}
 use Rattle.std.specs.Prelude.{◌==◌}
 use Rattle.std.proofs.Math.ListN.{set}
@@ -12,16 +12,17 @@ use Rattle.amd_model.proofs.Counting.Below.{not_both}
 use Rattle.amd_views.proofs.Lists.Rising.{count_yes, count_no}
 use Rattle.amd_places.specs.Words.{num, size_of}
 use Rattle.amd_listing.specs.Blocks.{listing_of}
-use Rattle.amd_listing.specs.Placing.{AreBlocks, IsPlaced}
+use Rattle.amd_listing.specs.Placing.{AreBlocks, IsPlaced, PivotsPlaced}
 use Rattle.amd_listing.proofs.Placed.{placed_same, placed_here, placed_there}
-use Rattle.amd_listing.proofs.BlockPlaces.{other_of, other_listed, last_listed, listing_long, others_counted}
+use Rattle.amd_listing.proofs.BlockPlaces.{other_of, other_listed, last_listed, listing_long, pivot_at}
 
--- the pass has come to row v: each block is filled as far as its rows below v, and so is the part behind the blocks
+-- the pass has come to row v: each block is filled as far as its rows below v, and so is the part behind the blocks;
+-- the elements have been put before
 pub record Passed (nv : List ℤ) (starts : List ℕ) (end : ℕ) (home : ℕ → Home) (elements place : List ℕ) (next : ℕ) (p q : List ℤ) (v : ℕ)
     : Type 0 where
   pub places : (e : ℕ) → 0 < size_of nv e → num place e ≡ num starts e + count_below v (other_of home e)
   pub next_is : next ≡ end + count_below v (λ w. is_last (home w))
-  pub placed : (w : ℕ) → w < v → size_of nv w ≡ 0 → IsPlaced (listing_of (length nv) home elements) p q w
+  pub placed : (w : ℕ) → w < length nv → (w < v) ⊎ (0 < size_of nv w) → IsPlaced (listing_of (length nv) home elements) p q w
 
 pub passed_same : (nv : List ℤ) (starts : List ℕ) (end : ℕ) (home : ℕ → Home) (elements place place' : List ℕ) (next next' : ℕ)
     (p p' q q' : List ℤ) (v : ℕ) → place' ≡ place → next' ≡ next → p' ≡ p → q' ≡ q →
@@ -29,17 +30,23 @@ pub passed_same : (nv : List ℤ) (starts : List ℕ) (end : ℕ) (home : ℕ �
 passed_same nv starts end home elements place place' next next' p p' q q' v e f g h passed = record {
   places = λ k some. ap (λ l. num l k) e ∙ passed.places k some;
   next_is = f ∙ passed.next_is;
-  placed = λ w l none. placed_same (listing_of (length nv) home elements) p q p' q' w g h (passed.placed w l none);
+  placed = λ w l put. placed_same (listing_of (length nv) home elements) p q p' q' w g h (passed.placed w l put);
 }
 
 module _ (link nv : List ℤ) (starts : List ℕ) (end : ℕ) (home : ℕ → Home) (elements : List ℕ)
     (b : AreBlocks link nv starts end home elements) where
-  pub passed_none : (p q : List ℤ) → Passed nv starts end home elements starts end p q 0
+  pub passed_none : (p q : List ℤ) → PivotsPlaced nv starts p q → Passed nv starts end home elements starts end p q 0
   unfolding count_below sum_below
-  passed_none p q = record {
+  passed_none p q pivots = record {
     places = λ e some. omega arith;
     next_is = omega arith;
-    placed = λ w l none. absurd (omega (arith, l));
+    placed = λ w l put. elim put [
+      | inl low ↦ absurd (omega (arith, low))
+      | inr some ↦ (let k : ℕ = num starts w + size_of nv w - 1 in let is : k + 1 ≡ num starts w + size_of nv w = omega (arith, some) in
+          let there = pivot_at link nv starts end home elements b w k some is in let small = there.1 in
+          let long = listing_long link nv starts end home elements b in let pair = pivots w k some is in
+          (k, omega (arith, small, long), there.0, pair.0, pair.1))
+    ];
   }
 
   module _ (place : List ℕ) (next : ℕ) (p q : List ℤ) (v : ℕ) (passed : Passed nv starts end home elements place next p q v) where
@@ -52,8 +59,13 @@ module _ (link nv : List ℤ) (starts : List ℕ) (end : ℕ) (home : ℕ → Ho
           (ap (λ h. block_at e h && not (v == e)) is ∙ not_both (v == e)));
       next_is = passed.next_is
           ∙ ap (λ m. end + m) (count_no (λ w. is_last (home w)) v (count_below v (λ w. is_last (home w))) refl (ap is_last is));
-      placed = λ w l none. let ne : w ≢ v = λ e. (let s = ap (size_of nv) e in omega (arith, s, none, some)) in
-          passed.placed w (omega (arith, l, ne)) none;
+      placed = λ w l put. passed.placed w l (elim put [
+        | inl low ↦ elim (cases_eq w v) [
+          | inl same ↦ inr (subst (λ r. 0 < size_of nv r) (sym same) some)
+          | inr ne ↦ inl (omega (arith, low, ne))
+        ]
+        | inr sized ↦ inr sized
+      ]);
     }
 
     -- the places that are taken next
@@ -80,12 +92,14 @@ module _ (link nv : List ℤ) (starts : List ℕ) (end : ℕ) (home : ℕ → Ho
     -- the row is put at a place that the listing has for it
     put_there : (k : ℕ) → slice_index (listing_of (length nv) home elements) k ≡ v → k < length (listing_of (length nv) home elements) →
         v < length nv → length p ≡ length nv → length q ≡ length nv →
-        (w : ℕ) → w < v + 1 → size_of nv w ≡ 0 → IsPlaced (listing_of (length nv) home elements) (set p k (pos v)) (set q v (pos k)) w
-    put_there k is less small p_long q_long w l none = elim (cases_eq w v) [
+        (w : ℕ) → w < length nv → (w < v + 1) ⊎ (0 < size_of nv w) →
+        IsPlaced (listing_of (length nv) home elements) (set p k (pos v)) (set q v (pos k)) w
+    put_there k is less small p_long q_long w l put = elim (cases_eq w v) [
       | inl same ↦ subst (λ r. IsPlaced (listing_of (length nv) home elements) (set p k (pos v)) (set q v (pos k)) r) (sym same)
           (placed_here (listing_of (length nv) home elements) p q v k is less
           (let a = listing_long link nv starts end home elements b in omega (arith, less, a, p_long)) (omega (arith, small, q_long)))
-      | inr ne ↦ placed_there (listing_of (length nv) home elements) p q v k is w ne (passed.placed w (omega (arith, l, ne)) none)
+      | inr ne ↦ placed_there (listing_of (length nv) home elements) p q v k is w ne
+          (passed.placed w l (elim put [ inl low ↦ inl (omega (arith, low, ne)) | inr sized ↦ inr sized ]))
     ]
 
     -- a row held last is put behind the others
@@ -123,9 +137,3 @@ module _ (link nv : List ℤ) (starts : List ℕ) (end : ℕ) (home : ℕ → Ho
           ∙ ap (λ m. end + m) (count_no (λ w. is_last (home w)) v (count_below v (λ w. is_last (home w))) refl (ap is_last is));
       placed = let at = place_listed e is some ne small in put_there (num place e) at.0 at.1 small p_long q_long;
     }
-
-  -- at the end each block lacks its pivot row alone
-  pub passed_all : (place : List ℕ) (next : ℕ) (p q : List ℤ) → Passed nv starts end home elements place next p q (length nv) →
-      (e : ℕ) → 0 < size_of nv e → num place e + 1 ≡ num starts e + size_of nv e
-  passed_all place next p q passed e some = let m = passed.places e some in
-      let c = others_counted link nv starts end home elements b e some in omega (arith, m, c)

@@ -1,5 +1,5 @@
 -- The rows are put at their places of a listing, and into its inverse.
-use Rattle.std.specs.Prelude.{ℕ, ℤ, pos, false, List, ◌≡◌, ◌<◌, length, slice_index}
+use Rattle.std.specs.Prelude.{ℕ, ℤ, pos, false, List, ◌≡◌, ◌<◌, ◌+◌, length, slice_index}
 use Rattle.amd_model.specs.Input.Columns.{at}
 use Rattle.amd_model.specs.State.{Home, live_at}
 use Rattle.amd_places.specs.Words.{num, size_of}
@@ -11,15 +11,14 @@ abbrev pub IsPlaced : List ℕ → List ℤ → List ℤ → ℕ → Type 0
 IsPlaced listing p q v = (k : ℕ) × (k < length listing) × (slice_index listing k ≡ v) × (at p k ≡ pos v) ×
     (at q v ≡ pos k)
 
--- each row below n is placed; each of those that are no element; and the listing has each element where `place` says
+-- each row below n is placed
 abbrev pub AllPlaced : ℕ → List ℕ → List ℤ → List ℤ → Type 0
 AllPlaced n listing p q = (v : ℕ) → v < n → IsPlaced listing p q v
 
-abbrev pub OthersPlaced : List ℤ → List ℕ → List ℤ → List ℤ → Type 0
-OthersPlaced nv listing p q = (v : ℕ) → v < length nv → size_of nv v ≡ 0 → IsPlaced listing p q v
-
-abbrev pub HasElements : List ℤ → List ℕ → List ℕ → Type 0
-HasElements nv place listing = (e : ℕ) → 0 < size_of nv e → slice_index listing (num place e) ≡ e
+-- each element is at the last place of its block: there p names it, and q names the place at it
+abbrev pub PivotsPlaced : List ℤ → List ℕ → List ℤ → List ℤ → Type 0
+PivotsPlaced nv starts p q = (e k : ℕ) → 0 < size_of nv e → k + 1 ≡ num starts e + size_of nv e →
+    (at p k ≡ pos e) × (at q e ≡ pos k)
 
 -- the links lead each row to its element, the elements are listed, and each block starts where it says; no row is live
 pub record AreBlocks (link nv : List ℤ) (starts : List ℕ) (end : ℕ) (home : ℕ → Home) (elements : List ℕ) : Type 0 where

@@ -1,16 +1,19 @@
 // The blocks of the elements in the order of a listing: which element is listed at each place, and where its block
 // starts among the rows. Source: Amestoy, Davis and Duff 2004. Called by `listing`.
 
-ghost use Rattle.std.specs.Prelude.{◌≡◌, ◌<◌, ◌≤◌, ℕ, List, length, slice_index, pos};
+ghost use Rattle.std.specs.Prelude.{◌≡◌, ◌<◌, ◌≤◌, ℕ, List, length, map, slice_index, pos};
 ghost use Rattle.amd_model.specs.Listing.{Tree};
 ghost use Rattle.amd_model.specs.State.{Home};
 ghost use Rattle.amd_places.specs.Words.{word, size_of};
 ghost use Rattle.amd_trees.specs.Trees.{IsPostorderOf};
 ghost use Rattle.amd_trees.specs.FigureLinks.{figure_links};
 ghost use Rattle.amd_listing.specs.Blocks.{AreElements, AreStarts, BeginWith};
+ghost use Rattle.amd_listing.specs.Placing.{PivotsPlaced};
 
+use crate::rows::put_listed;
 use amd_cells::{Figure, Signed, Unsigned, Word, figure_at, put_figure, row_at};
 use amd_trees::link::Link;
+use num_traits::PrimInt;
 
 /// Writes the element of each place of a listing, and answers how many there are.
 pub fn by_place<U: Unsigned>(order: &[Figure<U>], elements: &mut [Figure<U>]) -> usize
@@ -32,27 +35,33 @@ pub fn by_place<U: Unsigned>(order: &[Figure<U>], elements: &mut [Figure<U>]) ->
     count
 }
 
-/// Writes where the block of each of the first `count` elements starts, one after another. Answers where the last one
-/// ends.
-pub fn block_starts<S: Signed, U: Unsigned>(
+/// Writes where the block of each of the first `count` elements starts, one after another, and puts the element at the
+/// last place of its block, in the listing and its inverse. Answers where the last block ends.
+pub fn block_starts<I: PrimInt, S: Signed, U: Unsigned>(
     nv: &[Word<S>],
     elements: &[Figure<U>],
     count: usize,
     starts: &mut [Figure<U>],
+    p: &mut [I],
+    p_inv: &mut [I],
 ) -> usize
     requires lengths { (length elements.now ≡ length nv.now) × (length starts.old ≡ length nv.now) }
+    requires more_lengths { (length p.old ≡ length nv.now) × (length p_inv.old ≡ length nv.now) }
+    requires fits { (k : ℕ) → k < length nv.now → I.fits (pos k) }
     requires narrow { length nv.now ≤ U.MOST }
     requires counts { (v : ℕ) → word nv.now v ≡ pos (size_of nv.now v) }
     requires blocks { (home : ℕ → Home) × (es : List ℕ) × AreElements (length nv.now) home es nv.now ×
         BeginWith elements.now count es }
-    ensures { (home : ℕ → Home) (es : List ℕ) → AreElements (length nv.now) home es nv.now →
+    ensures starts { (home : ℕ → Home) (es : List ℕ) → AreElements (length nv.now) home es nv.now →
         BeginWith elements.now count es → AreStarts (length nv.now) es nv.now starts.new result }
+    ensures pivots { PivotsPlaced nv.now starts.new (map I.value p.new) (map I.value p_inv.new) }
 {
     let mut total = 0;
     'places: for k in 0..count {
         let e = figure_at(elements, k);
         put_figure(starts, e, total);
         total += row_at(nv, e);
+        put_listed(p, p_inv, e, total - 1);
     }
     total
 }

@@ -37,6 +37,6 @@ pub fn listing<I: PrimInt, S: Signed, U: Unsigned>(
 {
     postorder_in(nv.len(), link, nv, f_size, child, sibling, order, stack);
     let count = by_place(order, child);
-    let end = block_starts(nv, child, count, sibling);
+    let end = block_starts(nv, child, count, sibling, p, p_inv);
     place_rows(link, nv, sibling, end, p, p_inv);
 }

@@ -1,13 +1,13 @@
 // The rows of a listing: each is put at its place in the block of the element to which its links lead, and those held
 // last behind all blocks; links are shortened on the way. Source: Amestoy, Davis and Duff 2004. Called by `listing`.
 
-ghost use Rattle.std.specs.Prelude.{◌≡◌, ◌<◌, ◌≤◌, ◌+◌, ℕ, List, true, false, length, map, pos, slice_index, slice_set};
+ghost use Rattle.std.specs.Prelude.{◌≡◌, ◌<◌, ◌≤◌, ◌+◌, ℕ, List, true, false, length, map, pos, slice_set};
 ghost use Rattle.amd_model.specs.State.{Home, Gone, gone_at, live_at};
 ghost use Rattle.amd_numbers.specs.Permutations.{AreInverse};
 ghost use Rattle.amd_places.specs.Words.{num, in_front, size_of};
 ghost use Rattle.amd_listing.specs.Blocks.{AreElements, AreStarts, listing_of};
 ghost use Rattle.amd_listing.specs.Ended.{LinksAre};
-ghost use Rattle.amd_listing.specs.Placing.{AllPlaced, AreBlocks, HasElements, OthersPlaced};
+ghost use Rattle.amd_listing.specs.Placing.{AllPlaced, AreBlocks, PivotsPlaced};
 
 use amd_cells::{Figure, Signed, Unsigned, Word, figure_at, put_figure};
 use amd_numbers::internal::from_count;
@@ -78,7 +78,7 @@ fn take_place<U: Unsigned>(place: &mut [Figure<U>], e: usize) -> usize
 }
 
 /// Puts a row at a place of the listing.
-fn put_listed<I: PrimInt>(p: &mut [I], p_inv: &mut [I], v: usize, k: usize)
+pub fn put_listed<I: PrimInt>(p: &mut [I], p_inv: &mut [I], v: usize, k: usize)
     requires inside { (v < length p_inv.old) × (k < length p.old) }
     requires fits { I.fits (pos v) × I.fits (pos k) }
     ensures listed { map I.value p.new ≡ slice_set (map I.value p.old) k (pos v) }
@@ -92,7 +92,7 @@ fn put_listed<I: PrimInt>(p: &mut [I], p_inv: &mut [I], v: usize, k: usize)
 }
 
 /// Puts the rows that are no element at their places, rising: each at the next place of its block, and those held last
-/// behind all blocks. The place of each element is left at the last one of its block.
+/// behind all blocks.
 fn place_others<I: PrimInt, S: Signed, U: Unsigned>(
     link: &mut [Word<S>],
     nv: &[Word<S>],
@@ -105,9 +105,10 @@ fn place_others<I: PrimInt, S: Signed, U: Unsigned>(
     requires narrow { (length nv.now ≤ S.MOST) × (length nv.now ≤ U.MOST) }
     requires fits { (k : ℕ) → k < length nv.now → I.fits (pos k) }
     requires blocks { (home : ℕ → Home) × (elements : List ℕ) × AreBlocks link.old nv.now place.old end home elements }
+    requires pivots { PivotsPlaced nv.now place.old (map I.value p.old) (map I.value p_inv.old) }
     ensures placed { (home : ℕ → Home) (elements : List ℕ) → AreBlocks link.old nv.now place.old end home elements →
-        OthersPlaced nv.now (listing_of (length nv.now) home elements) (map I.value p.new) (map I.value p_inv.new) }
-    ensures last { (e : ℕ) → 0 < size_of nv.now e → num place.new e + 1 ≡ num place.old e + size_of nv.now e }
+        AllPlaced (length nv.now) (listing_of (length nv.now) home elements) (map I.value p.new)
+        (map I.value p_inv.new) }
 {
     let mut next = end;
     'rows: for v in 0..nv.len() {
@@ -124,32 +125,9 @@ fn place_others<I: PrimInt, S: Signed, U: Unsigned>(
     }
 }
 
-/// Puts the pivot row of each element at the last place of its block.
-fn place_elements<I: PrimInt, S: Signed, U: Unsigned>(
-    nv: &[Word<S>],
-    place: &[Figure<U>],
-    p: &mut [I],
-    p_inv: &mut [I],
-)
-    requires lengths { (length place.now ≡ length nv.now) × (length p.old ≡ length nv.now) ×
-        (length p_inv.old ≡ length nv.now) }
-    requires fits { (k : ℕ) → k < length nv.now → I.fits (pos k) }
-    requires fresh { (v : ℕ) → in_front nv.now v ≡ false }
-    requires places { (e : ℕ) → 0 < size_of nv.now e → num place.now e < length nv.now }
-    ensures { (listing : List ℕ) → length listing ≡ length nv.now → HasElements nv.now place.now listing →
-        OthersPlaced nv.now listing (map I.value p.old) (map I.value p_inv.old) →
-        AllPlaced (length nv.now) listing (map I.value p.new) (map I.value p_inv.new) }
-{
-    'rows: for e in 0..nv.len() {
-        if size_outside(nv, e) != 0 {
-            put_listed(p, p_inv, e, figure_at(place, e));
-        }
-    }
-}
-
 /// Writes the listing of the blocks of the elements and its inverse: of each block, which starts where `starts` says,
-/// the other rows rising and then its pivot row, and from `end` on the rows held last, rising. Links are shortened;
-/// what `starts` then holds is not said.
+/// the other rows rising before its pivot row, which is there, and from `end` on the rows held last, rising. Links are
+/// shortened; what `starts` then holds is not said.
 pub fn place_rows<I: PrimInt, S: Signed, U: Unsigned>(
     link: &mut [Word<S>],
     nv: &[Word<S>],
@@ -165,11 +143,11 @@ pub fn place_rows<I: PrimInt, S: Signed, U: Unsigned>(
     requires blocks { (home : ℕ → Home) × (elements : List ℕ) × LinksAre (length nv.now) link.old nv.now home ×
         AreElements (length nv.now) home elements nv.now × AreStarts (length nv.now) elements nv.now starts.old end ×
         ((v : ℕ) → live_at (home v) ≡ false) }
+    requires pivots { PivotsPlaced nv.now starts.old (map I.value p.old) (map I.value p_inv.old) }
     ensures rows { (home : ℕ → Home) (elements : List ℕ) → LinksAre (length nv.now) link.old nv.now home →
         AreElements (length nv.now) home elements nv.now → AreStarts (length nv.now) elements nv.now starts.old end →
         ((v : ℕ) → live_at (home v) ≡ false) → map I.value p.new ≡ map pos (listing_of (length nv.now) home elements) }
     ensures inverse { AreInverse (length nv.now) (map I.value p.new) (map I.value p_inv.new) }
 {
     place_others(link, nv, starts, end, p, p_inv);
-    place_elements(nv, starts, p, p_inv);
 }

@@ -1,7 +1,7 @@
-use Rattle.std.proofs.Common.{ℕ, ◌≡◌, List, length}
+use Rattle.std.proofs.Common.{ℕ, ◌≡◌, List, length, map}
 use Rattle.amd_model.specs.State.{Home}
 use Rattle.amd_listing.specs.Blocks.{AreElements, BeginWith}
-use Rattle.amd_listing.proofs.BlockStarts.{AreStarted}
+use Rattle.amd_listing.proofs.BlockStarts.{AreStarted, PivotsPut}
 use Rattle.amd_listing.proofs.blocks.block_starts.Given as goal
 
 abbrev pub invariant-places : goal.invariant-places
@@ -9,4 +9,6 @@ invariant-places g l = record {
   room : length l.starts ≡ length l.fn.starts;
   started : (home : ℕ → Home) (es : List ℕ) → AreElements (length l.nv) home es l.nv → BeginWith l.elements l.count es →
       AreStarted l.k es l.nv l.starts l.total;
+  put : (home : ℕ → Home) (es : List ℕ) → AreElements (length l.nv) home es l.nv → BeginWith l.elements l.count es →
+      PivotsPut l.k es l.nv l.total (map g.I.Number.value l.p) (map g.I.Number.value l.p_inv);
 }

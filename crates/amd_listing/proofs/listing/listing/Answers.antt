@@ -45,7 +45,7 @@ place_rows-requires-clause-blocks g c =
       o.listing,
       links_told link nv f_size h,
       blocks.elements,
-      c.block_starts-end.ensures home o.listing blocks.elements begin,
+      c.block_starts-end.ensures.starts home o.listing blocks.elements begin,
       none_live link nv f_size h,
     )
 
@@ -58,14 +58,14 @@ returns-clause-lists g c =
     let home = (last link nv f_size h).home in
     let begin = c.by_place-count.ensures.elements (tree_of (length nv) link nv f_size) o blocks.inside in
     let is = c.place_rows.ensures.rows home o.listing (links_told link nv f_size h) blocks.elements
-    (c.block_starts-end.ensures home o.listing blocks.elements begin) (none_live link nv f_size h) in (
+    (c.block_starts-end.ensures.starts home o.listing blocks.elements begin) (none_live link nv f_size h) in (
       listing_of (length nv) home o.listing,
       is,
       λ r. (
           let more = blocks_told link nv f_size r order o in
           let there = (last link nv f_size r).home in
           let too = c.place_rows.ensures.rows there o.listing (links_told link nv f_size r) more.elements
-          (c.block_starts-end.ensures there o.listing more.elements begin) (none_live link nv f_size r) in
+          (c.block_starts-end.ensures.starts there o.listing more.elements begin) (none_live link nv f_size r) in
           subst (IsPostorder r.graph r.dense (last link nv f_size r))
           (same_counts (listing_of (length nv) there o.listing) (listing_of (length nv) home o.listing) (sym too ∙ is)) more.listed),
     )

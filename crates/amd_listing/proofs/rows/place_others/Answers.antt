@@ -1,11 +1,11 @@
-use Rattle.std.proofs.Common.{ℕ, ℤ, List, pos, true, false, ◌≡◌, ◌≢◌, ◌<◌, ◌+◌, ◌∙◌, ap, subst, sym, arith, length, map}
+use Rattle.std.proofs.Common.{ℕ, ℤ, List, pos, true, false, inl, ◌≡◌, ◌≢◌, ◌<◌, ◌+◌, ◌∙◌, ap, subst, sym, arith, length, map}
 use Rattle.std.proofs.Math.ListN.{set}
 use Rattle.std.proofs.lemmas.List.{length-map}
 use Rattle.amd_model.specs.State.{Home, Last, gone_at}
 use Rattle.amd_places.specs.Words.{num, size_of, is_place, word, place}
 use Rattle.amd_listing.specs.Ended.{LinksAre}
 use Rattle.amd_listing.proofs.RowLinks.{unmarked, link_some, link_none, linked_gone}
-use Rattle.amd_listing.proofs.Passed.{Passed, passed_none, passed_same, passed_element, passed_last, passed_other, passed_all, next_small}
+use Rattle.amd_listing.proofs.Passed.{passed_none, passed_same, passed_element, passed_last, passed_other, next_small}
 use Rattle.amd_listing.proofs.Passed.{place_small}
 use Rattle.amd_listing.proofs.rows.place_others.Goals as goal
 use Rattle.amd_listing.proofs.rows.place_others.Goals.{then-size_outside-eq0+then-names_one, then-size_outside-eq0+else-names_one}
@@ -30,7 +30,7 @@ pub rows-init : goal.rows-init
 rows-init g c = let value = g.I.Number.value in record {
   led = λ home are. are;
   passed = λ home elements b. passed_none c.args.link.now c.args.nv.now c.args.place.now c.args.end home elements b
-      (map value c.args.p.now) (map value c.args.p_inv.now);
+      (map value c.args.p.now) (map value c.args.p_inv.now) c.requires.pivots;
 }
 
 pub size_outside-requires-clause-fresh : goal.size_outside-requires-clause-fresh
@@ -170,16 +170,8 @@ rows-preserved g c =
           })
     ]
 
-pub returns-clause-placed : goal.returns-clause-placed
-returns-clause-placed g c = λ home elements b w small none.
-    (c.rows.invariant.passed home elements b).placed w (let t = c.rows-test.false in omega (arith, t, small)) none
-
-pub returns-clause-last : goal.returns-clause-last
-returns-clause-last g c = λ e some.
-    let value = g.I.Number.value in let nv = c.args.nv.now in
-    let home = c.requires.blocks.0 in let elements = c.requires.blocks.1 in let b = c.requires.blocks.2 in
-    let all : c.rows.v ≡ length nv = (let t = c.rows-test.false in let m = c.rows.auto.v-end in omega (arith, t, m)) in
-    passed_all c.args.link.now nv c.args.place.now c.args.end home elements b c.rows.place c.rows.next (map value c.rows.p)
-    (map value c.rows.p_inv)
-    (subst (λ m. Passed nv c.args.place.now c.args.end home elements c.rows.place c.rows.next (map value c.rows.p)
-    (map value c.rows.p_inv) m) all (c.rows.invariant.passed home elements b)) e some
+pub returns : goal.returns
+returns g c = record {
+  placed = λ home elements b w small.
+      (c.rows.invariant.passed home elements b).placed w small (inl (let t = c.rows-test.false in omega (arith, t, small)));
+}
