@@ -2,6 +2,8 @@
 use Rattle.std.proofs.Common.{ℕ, ℤ, Bool, true, false, List, [], ◌∷◌, ◌++◌, ◌≡◌, ◌<◌, ◌≤◌, ◌+◌, ◌-◌}
 use Rattle.std.proofs.Common.{◌%◌, ◌^◌, cond, inl, inr, refl, sym, ap}
 use Rattle.std.proofs.Common.{◌∙◌, arith, append-nil, length, filter, sum_by, pos, set, length-set, get_or-set_same, get_or-set_other}
+use Rattle.std.proofs.Common.{subst}
+use Rattle.std.proofs.lemmas.List.{set-set, set-get_or}
 use Rattle.std.proofs.lemmas.Bool.{cases_eq}
 use Rattle.std.proofs.lemmas.List.Elements.{filter-append}
 use Rattle.std.proofs.lemmas.List.Sums.{sum_by-append, sum_by-cons}
@@ -83,6 +85,37 @@ module _ (n : ℕ) (pass : ℕ → Bool) (share : ℕ → ℕ) (first : ℕ) (iw
               let c = sum_by-cons share y [] in
               let none : sum_by share [] ≡ 0 = refl in omega (arith, a, b, c, none));
         }
+
+  -- the same where the word at `end` may be any: the list is filtered once the word that was there at first is put back
+  module _ {count : ℕ} (iw' : List ℤ) {end sum : ℕ} (h : Filters n pass share first iw from count to (set iw' end (word iw end)) end sum)
+      (p : ℕ) (at : p ≡ from + count) (down : to ≤ from) (behind : (k : ℕ) → p ≤ k → word iw' k ≡ word iw k) where
+    pub open_behind : (k : ℕ) → p + 1 ≤ k → word (set iw' end (word iw' p)) k ≡ word iw k
+    open_behind k l = let high = h.high in get_or-set_other iw' end k (word iw' p) (pos 0) (λ q. omega (arith, q, l, high, down, at))
+        ∙ behind k (omega (arith, l))
+
+    pub open_no : pass (place (word iw (from + count))) ≡ false →
+        Filters n pass share first iw from (count + 1) to (set (set iw' end (word iw' p)) end (word iw end)) end sum
+    open_no fails = subst (λ l. Filters n pass share first iw from (count + 1) to l end sum)
+        (sym (set-set iw' end (word iw' p) (word iw end))) (filters_no h fails)
+
+    pub open_yes : (total : ℕ) → p < length iw → is_place (word iw p) ≡ true → place (word iw p) < n →
+        pass (place (word iw (from + count))) ≡ true → total ≡ cut (sum + share (place (word iw (from + count)))) →
+        Filters n pass share first iw from (count + 1) to (set (set iw' end (word iw' p)) (end + 1) (word iw (end + 1))) (end + 1) total
+    open_yes total fit is_one small passes total_is =
+        let high = h.high in let long = h.long in let same = length-set iw' end (word iw end) in let v : ℤ = word iw' p in
+        let back : List ℤ = set iw' end (word iw end) in let written : List ℤ = set iw' end v in
+        let read : word back p ≡ v = elim (cases_eq p end) [
+          | inl q ↦ ap (word back) q ∙ get_or-set_same iw' end (word iw end) (pos 0) (omega (arith, q, fit, long, same))
+              ∙ ap (word iw) (sym q) ∙ sym (behind p (omega arith))
+          | inr ne ↦ get_or-set_other iw' end p (word iw end) (pos 0) ne
+        ] in
+        let next : word written (end + 1) ≡ word iw (end + 1) = get_or-set_other iw' end (end + 1) v (pos 0) (λ q. omega (arith, q))
+        ∙ sym (get_or-set_other iw' end (end + 1) (word iw end) (pos 0) (λ q. omega (arith, q))) ∙ h.above (end + 1) (omega arith) in
+        let stays : set written (end + 1) (word iw (end + 1)) ≡ written = ap (set written (end + 1)) (sym next)
+        ∙ set-get_or written (end + 1) (pos 0) in
+        subst (λ l. Filters n pass share first iw from (count + 1) to l (end + 1) total)
+        (ap (set back end) read ∙ set-set iw' end (word iw end) v ∙ sym stays)
+        (filters_yes h p total at down fit is_one small passes total_is)
 
 -- ---- the sum of what passes, which wraps
 

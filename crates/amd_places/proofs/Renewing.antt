@@ -102,29 +102,38 @@ module _ (iw : List ℤ) (from mid end me : ℕ) (down : from ≤ mid) (on : mid
   ]
 
 -- the words behind the elements name rows after these were moved
-pub names_after : (n : ℕ) (kept : ℕ → Bool) (beyond : ℕ → ℕ) (iw iw1 : List ℤ) (from n_elements count mid part : ℕ) →
-    Filters n kept beyond 0 iw from n_elements from iw1 mid part → Names n iw from count →
+pub names_after : (n : ℕ) (iw iw1 : List ℤ) (from n_elements count : ℕ) →
+    ((k : ℕ) → from + n_elements ≤ k → word iw1 k ≡ word iw k) → Names n iw from count →
     Names n iw1 (from + n_elements) (count - n_elements)
-names_after n kept beyond iw iw1 from n_elements count mid part h names k l = let high = h.high in let w =
-    h.above (from + n_elements + k) (omega (arith, high)) in let at : from + n_elements + k ≡ from + (n_elements + k) = omega arith in
-    let b = names (n_elements + k) (omega (arith, l)) in let z : word iw1 (from + n_elements + k) ≡ word iw (from + (n_elements + k)) = w
+names_after n iw iw1 from n_elements count behind names k l =
+    let at : from + n_elements + k ≡ from + (n_elements + k) = omega arith in let b = names (n_elements + k) (omega (arith, l)) in
+    let z : word iw1 (from + n_elements + k) ≡ word iw (from + (n_elements + k)) = behind (from + n_elements + k) (omega arith)
     ∙ ap (word iw) at in
     (ap is_place z ∙ b.0, (let e = ap place z in let s = b.1 in omega (arith, e, s)))
 
 -- ---- the whole
 
 module _ (n : ℕ) (kept is_apart : ℕ → Bool) (beyond share : ℕ → ℕ) (iw iw1 iw2 : List ℤ) (from n_elements count mid part end total me : ℕ)
-    (h : Filters n kept beyond 0 iw from n_elements from iw1 mid part)
+    (h : Filters n kept beyond 0 iw from n_elements from (set iw1 mid (word iw mid)) mid part)
+    (behind : (k : ℕ) → from + n_elements ≤ k → word iw1 k ≡ word iw k)
     (g : Filters n is_apart share part iw1 (from + n_elements) (count - n_elements) mid iw2 end total) (parts : n_elements ≤ count)
     (small : me < n) (inside : from + count ≤ length iw)
     (room : length (filter kept (rows iw from n_elements)) + length (filter is_apart (rows iw (from + n_elements) (count - n_elements)))
     < count) where
   still : rows iw1 (from + n_elements) (count - n_elements) ≡ rows iw (from + n_elements) (count - n_elements)
-  still = let high = h.high in rows_same iw iw1 (from + n_elements) (from + n_elements) (count - n_elements) (λ k l.
-      h.above (from + n_elements + k) (omega (arith, high)))
+  still = rows_same iw iw1 (from + n_elements) (from + n_elements) (count - n_elements) (λ k l.
+      behind (from + n_elements + k) (omega arith))
+
+  -- only the word at which the elements end may be another one in `h`
+  agree : (k : ℕ) → (k ≡ mid → ⊥) → word iw1 k ≡ word (set iw1 mid (word iw mid)) k
+  agree k ne = sym (get_or-set_other iw1 mid k (word iw mid) (pos 0) ne)
+
+  as_long : length iw1 ≡ length iw
+  as_long = sym (length-set iw1 mid (word iw mid)) ∙ h.long
 
   elements_are : rows iw2 from (mid - from) ≡ filter kept (rows iw from n_elements)
-  elements_are = let low = h.low in rows_same iw1 iw2 from from (mid - from) (λ k l. g.below (from + k) (omega (arith, l, low))) ∙ h.list
+  elements_are = let low = h.low in rows_same (set iw1 mid (word iw mid)) iw2 from from (mid - from) (λ k l.
+      g.below (from + k) (omega (arith, l, low)) ∙ agree (from + k) (λ q. omega (arith, q, l, low))) ∙ h.list
 
   variables_are : rows iw2 mid (end - mid) ≡ filter is_apart (rows iw (from + n_elements) (count - n_elements))
   variables_are = g.list ∙ ap (filter is_apart) still
@@ -135,12 +144,13 @@ module _ (n : ℕ) (kept is_apart : ℕ → Bool) (beyond share : ℕ → ℕ) (
       omega (arith, a, b, c, d, low, on, room)
 
   pub renew_fit : end < length iw2
-  renew_fit = let a = renew_end in let b = h.long in let c = g.long in omega (arith, a, b, c, inside)
+  renew_fit = let a = renew_end in let b = as_long in let c = g.long in omega (arith, a, b, c, inside)
 
   -- what is kept names rows
   kept_names : Names n iw2 from (end - from)
   kept_names k l = let low = h.low in let on = g.low in elim (lib_lt k (mid - from)) [
-    | inl m ↦ (let w = g.below (from + k) (omega (arith, m, low)) in let b = h.names k m in
+    | inl m ↦ (let w = g.below (from + k) (omega (arith, m, low)) ∙ agree (from + k) (λ q. omega (arith, q, m, low)) in
+        let b = h.names k m in
         (ap is_place w ∙ b.0, (let e = ap place w in let s = b.1 in omega (arith, e, s))))
     | inr m ↦ (let at : mid + (from + k - mid) ≡ from + k = omega (arith, m, low) in
         let b = g.names (from + k - mid) (omega (arith, l, m, low, on)) in
@@ -153,7 +163,7 @@ module _ (n : ℕ) (kept is_apart : ℕ → Bool) (beyond share : ℕ → ℕ) (
   pub renews : Renews n me kept is_apart iw from n_elements count (put iw2 from mid end me h.low g.low renew_fit) (mid + 1 - from)
       (end + 1 - from)
   renews = let low = h.low in let on = g.low in let fit = renew_fit in let last = renew_end in record {
-    long = put_long iw2 from mid end me low on fit ∙ g.long ∙ h.long;
+    long = put_long iw2 from mid end me low on fit ∙ g.long ∙ as_long;
     few_is = (let a = ap length elements_are in let b = rows_length iw2 from (mid - from) in omega (arith, a, b, low));
     shorter = ((omega (arith, on)), (omega (arith, last)));
     elements = put_elements iw2 from mid end me low on fit ∙ ap (λ l. me ∷ turned l) elements_are;
@@ -168,8 +178,8 @@ module _ (n : ℕ) (kept is_apart : ℕ → Bool) (beyond share : ℕ → ℕ) (
         apart k far_off (omega (arith, q, low)) (omega (arith, q, on)))
         (λ q. apart k far_off (omega (arith, q, low, on)) (omega (arith, q)))
         ∙ elim far_off [
-          | inl q ↦ g.below k (omega (arith, q, low)) ∙ h.below k q
-          | inr q ↦ g.above k (omega (arith, q))
+          | inl q ↦ g.below k (omega (arith, q, low)) ∙ agree k (λ e. omega (arith, e, q, low)) ∙ h.below k q
+          | inr q ↦ g.above k (omega (arith, q)) ∙ agree k (λ e. omega (arith, e, q, on))
               ∙ h.above k (omega (arith, q, on))
         ]);
   }

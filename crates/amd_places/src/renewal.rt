@@ -9,25 +9,7 @@ ghost use Rattle.amd_places.specs.Words.{num, word, place, is_place, size_of, in
 ghost use Rattle.amd_places.specs.Renewal.{is_kept, is_outside, hashed, Filters, Renews};
 
 use crate::words::{is_open, named, put_row, size_outside};
-use amd_cells::{Figure, Signed, Unsigned, Word, copy_word, figure_at, put_word, word_at};
-
-/// One number where a word is kept, and another one where it is not.
-fn chosen(kept: bool, moved: isize, stays: isize) -> isize
-    ensures { result ≡ cond kept moved stays }
-{
-    if kept { moved } else { stays }
-}
-
-/// Copies the word at `p` to `end` where it is kept. There is no branch: which words are kept is hard to foresee, and a
-/// wrong guess costs more than writing a word that stays as it is.
-fn keep_word<S: Signed>(iw: &mut [Word<S>], p: usize, end: usize, kept: bool)
-    requires inside { (p < length iw.old) × (end < length iw.old) }
-    ensures { iw.new ≡ cond kept (slice_set iw.old end (word iw.old p)) iw.old }
-{
-    let moved = word_at(iw, p);
-    let stays = word_at(iw, end);
-    put_word(iw, end, chosen(kept, moved, stays));
-}
+use amd_cells::{Figure, Signed, Unsigned, Word, copy_word, figure_at};
 
 /// The number where a word is kept, and 0 where it is not.
 fn where_kept(kept: bool, number: usize) -> usize
@@ -37,7 +19,9 @@ fn where_kept(kept: bool, number: usize) -> usize
 }
 
 /// Moves the standing ones among the elements that `count` words name to the front of these words. Answers where they
-/// end, the number of their rows outside the front, at most the greatest `usize`, and their sum, which wraps.
+/// end, the number of their rows outside the front, at most the greatest `usize`, and their sum, which wraps. Each word
+/// is written behind those that are kept, and the next one over it if it is not kept: there is no branch, since which
+/// words are kept is hard to foresee. So of the word at which they end nothing is said, where it is one of these.
 fn keep_elements<S: Signed, U: Unsigned>(
     iw: &mut [Word<S>],
     w: &[Figure<U>],
@@ -48,8 +32,9 @@ fn keep_elements<S: Signed, U: Unsigned>(
     requires inside { from + count ≤ length iw.old }
     requires short { length iw.old < 2 ^ 63 }
     requires names { Names (length w.now) iw.old from count }
-    ensures filters { Filters (length w.now) (is_kept w.now) (λ e. num w.now e - flag) 0 iw.old from count from iw.new
-        result.0 result.1 }
+    ensures filters { Filters (length w.now) (is_kept w.now) (λ e. num w.now e - flag) 0 iw.old from count from
+        (slice_set iw.new result.0 (word iw.old result.0)) result.0 result.1 }
+    ensures behind { (k : ℕ) → from + count ≤ k → word iw.new k ≡ word iw.old k }
     ensures hash { result.2 ≡ hashed 0 (filter (is_kept w.now) (rows iw.old from count)) }
 {
     let mut end = from;
@@ -59,7 +44,7 @@ fn keep_elements<S: Signed, U: Unsigned>(
         let e = named(iw, p);
         let counter = figure_at(w, e);
         let kept = counter > 0;
-        keep_word(iw, p, end, kept);
+        copy_word(iw, p, end);
         outside = outside.saturating_add(counter.saturating_sub(flag));
         hash = hash.wrapping_add(where_kept(kept, e));
         end += where_kept(kept, 1);

@@ -1,4 +1,4 @@
-use Rattle.std.proofs.Common.{ℕ, List, ◌≡◌, ◌+◌, ◌-◌, sym, ap, ◌∙◌, arith, subst, length, filter}
+use Rattle.std.proofs.Common.{ℕ, List, ◌≡◌, ◌+◌, ◌-◌, sym, ap, ◌∙◌, arith, subst, length, length-set, filter}
 use Rattle.amd_places.specs.Words.{num, size_of, rows, Names}
 use Rattle.amd_places.specs.Renewal.{is_kept, is_outside, hashed, Filters}
 use Rattle.amd_places.proofs.Renewing.{names_after, renew_fit, renews, renew_outside}
@@ -11,9 +11,8 @@ use Rattle.amd_places.proofs.renewal.renew_list.Goals as goal
 pub keep_variables-end-requires-clause-names : goal.keep_variables-end-requires-clause-names
 keep_variables-end-requires-clause-names g c = subst (λ m. Names m c.keep_elements-middle.new.iw (c.args.from + c.args.n_elements)
     (c.args.count - c.args.n_elements)) (sym c.requires.lengths)
-    (names_after (length c.args.w.now) (is_kept c.args.w.now) (λ e.
-    num c.args.w.now e - c.args.flag) c.args.iw.now c.keep_elements-middle.new.iw c.args.from c.args.n_elements c.args.count
-    c.keep_elements-middle.result.0 c.keep_elements-middle.result.1 c.keep_elements-middle.ensures.filters c.requires.names)
+    (names_after (length c.args.w.now) c.args.iw.now c.keep_elements-middle.new.iw c.args.from c.args.n_elements c.args.count
+    c.keep_elements-middle.ensures.behind c.requires.names)
 
 pub put_first-requires-clause-inside : goal.put_first-requires-clause-inside
 put_first-requires-clause-inside g c =
@@ -25,7 +24,8 @@ put_first-requires-clause-inside g c =
     num c.args.w.now e - c.args.flag) (size_of c.args.nv.now)
     c.args.iw.now c.keep_elements-middle.new.iw c.keep_variables-end.new.iw c.args.from c.args.n_elements c.args.count
     c.keep_elements-middle.result.0 c.keep_elements-middle.result.1 c.keep_variables-end.result.0 c.keep_variables-end.result.1
-    c.args.me c.keep_elements-middle.ensures.filters g c.requires.parts c.requires.me.0 c.requires.inside c.requires.room
+    c.args.me c.keep_elements-middle.ensures.filters c.keep_elements-middle.ensures.behind g
+    c.requires.parts c.requires.me.0 c.requires.inside c.requires.room
 
 pub returns-clause-renews : goal.returns-clause-renews
 returns-clause-renews g c =
@@ -37,7 +37,8 @@ returns-clause-renews g c =
     num c.args.w.now e - c.args.flag) (size_of c.args.nv.now)
     c.args.iw.now c.keep_elements-middle.new.iw c.keep_variables-end.new.iw c.args.from c.args.n_elements c.args.count
     c.keep_elements-middle.result.0 c.keep_elements-middle.result.1 c.keep_variables-end.result.0 c.keep_variables-end.result.1
-    c.args.me c.keep_elements-middle.ensures.filters g c.requires.parts c.requires.me.0 c.requires.inside c.requires.room)
+    c.args.me c.keep_elements-middle.ensures.filters c.keep_elements-middle.ensures.behind g
+    c.requires.parts c.requires.me.0 c.requires.inside c.requires.room)
 
 pub returns-clause-outside : goal.returns-clause-outside
 returns-clause-outside g c =
@@ -49,15 +50,15 @@ returns-clause-outside g c =
     num c.args.w.now e - c.args.flag) (size_of c.args.nv.now)
     c.args.iw.now c.keep_elements-middle.new.iw c.keep_variables-end.new.iw c.args.from c.args.n_elements c.args.count
     c.keep_elements-middle.result.0 c.keep_elements-middle.result.1 c.keep_variables-end.result.0 c.keep_variables-end.result.1
-    c.args.me c.keep_elements-middle.ensures.filters g c.requires.parts c.requires.me.0 c.requires.inside c.requires.room
+    c.args.me c.keep_elements-middle.ensures.filters c.keep_elements-middle.ensures.behind g
+    c.requires.parts c.requires.me.0 c.requires.inside c.requires.room
 
 pub returns-clause-hash : goal.returns-clause-hash
 returns-clause-hash g c =
     let ks : List ℕ = filter (is_kept c.args.w.now) (rows c.args.iw.now c.args.from c.args.n_elements) in
     let from : ℕ = c.args.from + c.args.n_elements in let count : ℕ = c.args.count - c.args.n_elements in
-    let first = c.keep_elements-middle.ensures.filters in let high = first.high in
     let same : rows c.keep_elements-middle.new.iw from count ≡ rows c.args.iw.now from count = rows_same c.args.iw.now
-    c.keep_elements-middle.new.iw from from count (λ k l. first.above (from + k) (omega (arith, high))) in
+    c.keep_elements-middle.new.iw from from count (λ k l. c.keep_elements-middle.ensures.behind (from + k) (omega arith)) in
     c.keep_variables-end.ensures.hash ∙ ap (λ xs. hashed c.keep_elements-middle.result.2 (filter (is_outside c.args.nv.now) xs)) same
     ∙ ap (λ h. hashed h (filter (is_outside c.args.nv.now) (rows c.args.iw.now from count))) c.keep_elements-middle.ensures.hash
     ∙ hashed_both ks (filter (is_outside c.args.nv.now) (rows c.args.iw.now from count))
@@ -83,14 +84,14 @@ overflow_sub-count g c = c.requires.parts
 pub keep_variables-end-requires-clause-inside : goal.keep_variables-end-requires-clause-inside
 keep_variables-end-requires-clause-inside g c =
     rest_within c.args.from c.args.n_elements c.args.count (length c.keep_elements-middle.new.iw) c.requires.parts
-    (le_trans c.requires.inside (le_of_eq (sym c.keep_elements-middle.ensures.filters.long)))
+    (le_trans c.requires.inside (le_of_eq (sym c.keep_elements-middle.ensures.filters.long ∙ length-set _ _ _)))
 
 pub keep_variables-end-requires-clause-down : goal.keep_variables-end-requires-clause-down
 keep_variables-end-requires-clause-down g c = c.keep_elements-middle.ensures.filters.high
 
 pub keep_variables-end-requires-clause-short : goal.keep_variables-end-requires-clause-short
 keep_variables-end-requires-clause-short g c =
-    subst (λ n. n < 2 ^ 63) (sym c.keep_elements-middle.ensures.filters.long) c.requires.short
+    subst (λ n. n < 2 ^ 63) (sym c.keep_elements-middle.ensures.filters.long ∙ length-set _ _ _) c.requires.short
 
 pub put_first-requires-clause-order : goal.put_first-requires-clause-order
 put_first-requires-clause-order g c = (c.keep_elements-middle.ensures.filters.low, c.keep_variables-end.ensures.filters.low)
