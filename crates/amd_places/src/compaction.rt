@@ -96,6 +96,7 @@ fn compact<S: Signed, U: Unsigned>(
 }
 
 /// Moves the lists down so that no word lies between them, and answers the new free end: how many words they have.
+#[cold]
 pub fn pack<S: Signed, U: Unsigned>(
     iw: &mut [Word<S>],
     pe: &mut [Word<S>],

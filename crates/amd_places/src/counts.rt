@@ -193,6 +193,7 @@ pub fn count_outside<S: Signed, U: Unsigned>(
 }
 
 /// Makes each number that is not 0 a 1.
+#[cold]
 fn clear<U: Unsigned>(w: &mut [Figure<U>])
     requires some { 1 ≤ U.MOST }
     ensures long { length w.new ≡ length w.old }

@@ -50,6 +50,7 @@ fn meet_all<S: Signed>(
 
 /// Puts the pivot and the classes of its new element into the front. Each of these takes one of `left` places. Answers
 /// how many are left.
+#[cold]
 fn meet_front<S: Signed, U: Unsigned>(
     iw: &[Word<S>],
     nv: &mut [Word<S>],
@@ -105,6 +106,7 @@ fn unmark_all<S: Signed>(iw: &[Word<S>], nv: &mut [Word<S>], from: usize, count:
 }
 
 /// Takes the pivot and the classes of its new element out of the front.
+#[cold]
 fn unmark_front<S: Signed, U: Unsigned>(
     iw: &[Word<S>],
     nv: &mut [Word<S>],
