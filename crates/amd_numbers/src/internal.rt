@@ -63,6 +63,10 @@ pub fn known_count<I: PrimInt>(number: I) -> usize
     requires { FitsUnsignedBits 64 (I.value number) }
     ensures { result ≡ unsigned_abs (I.value number) }
 {
+    // No signed type of at most 64 bits has a number that passes an `isize`: for those no test is left.
+    if let Some(count) = number.to_isize() {
+        return count as usize;
+    }
     let Some(count) = to_count(number) else {
         unreachable!()
     };
