@@ -54,6 +54,18 @@ module _ (aggressive : Bool) (flag x all seen more : ℕ) (two : 2 ≤ flag) (un
   pub settled_not : settled aggressive flag (counter flag x all seen) ≡ counter flag x all seen
   settled_not = cond-false (ends aggressive flag (counter flag x all seen)) 0 (counter flag x all seen) ends_not
 
+-- the counter of an element that a class of the front lists is at least the flag after the count, if the element stands
+module _ (flag x all seen : ℕ) (some : 0 < seen) (part : 0 < x → seen ≤ all) where
+  met_counter : 0 < counter flag x all seen → flag ≤ counter flag x all seen
+  met_counter h = grind arith
+
+  pub met_stands : (aggressive : Bool) → 0 < settled aggressive flag (counter flag x all seen) →
+      flag ≤ settled aggressive flag (counter flag x all seen)
+  met_stands aggressive h = let c : ℕ = counter flag x all seen in let b : Bool = ends aggressive flag c in elim (cases_Bool b) [
+    | inl t ↦ (let z = cond-true b 0 c t in absurd (omega (arith, h, z)))
+    | inr f ↦ (let z = cond-false b 0 c f in let m = met_counter (omega (arith, h, z)) in omega (arith, m, z))
+  ]
+
 -- a counter that no class touched is below the flag
 pub ends_none : (aggressive : Bool) (flag x all : ℕ) → 2 ≤ flag → x < flag → ends aggressive flag (counter flag x all 0) ≡ false
 ends_none aggressive flag x all two under = and_right aggressive (counter flag x all 0 == flag) (ne_eqb (counter flag x all 0) flag

@@ -6,15 +6,17 @@ use Rattle.std.proofs.lemmas.Bool.{cases_Bool, cases_eq, cond-true, cond-false, 
 use Rattle.amd_model.specs.Quotient.{has}
 use Rattle.amd_model.proofs.Quotient.Lists.{filter_yes, filter_no}
 use Rattle.amd_model.proofs.Listings.Words.{has_filter as filter_gives}
-use Rattle.amd_places.specs.Words.{num, word, place, is_place, start, flip_of, rows}
+use Rattle.amd_views.proofs.Lists.Named.{named_sum}
+use Rattle.amd_places.specs.Words.{num, word, place, is_place, start, size_of, flip_of, rows}
 use Rattle.amd_places.specs.Chains.{DegreeLists}
-use Rattle.amd_places.specs.Counts.{counter, ends, settled, met, IsListed}
-use Rattle.amd_places.specs.Renewal.{is_kept, is_outside}
+use Rattle.amd_places.specs.Counts.{counter, ends, settled, elements_of, met, IsListed}
+use Rattle.amd_places.specs.Tallies.{IsPart}
+use Rattle.amd_places.specs.Renewal.{is_kept, is_outside, AreMet}
 use Rattle.amd_places.specs.Layout.{elements_in, list_in, Layout, IsRenewable}
 use Rattle.amd_places.specs.Fronts.{RenewsFront}
 use Rattle.amd_places.specs.Turning.{IsTurning}
 use Rattle.amd_places.proofs.Frames.{has_parts, has_from, dropped}
-use Rattle.amd_places.proofs.Counting.{start_stays}
+use Rattle.amd_places.proofs.Counting.{start_stays, met_stands}
 use Rattle.amd_places.proofs.ChainLists.{back_same}
 
 -- a class of the front as the count reads it
@@ -94,6 +96,20 @@ module _ {n me : ℕ} {iw pe e_len nv : List ℤ} {len degree w : List ℕ} {fre
       let es = ap (λ z. length (filter (is_kept w1) (rows iw (place z) (place (word e_len i))))) s in
       let vs = ap (λ z. length (filter (is_outside nv) (rows iw (place z + place (word e_len i)) (num len i - place (word e_len i))))) s in
       let r = t.loses in (has_from left len i (ap is_place s ∙ p.0) p.1, t.counts, omega (arith, less, es, vs, r))
+
+  pub left_met : (w1 : List ℕ) → ((e : ℕ) → num w1 e ≡ settled aggressive flag (counter flag (num w e) (num degree e)
+      (met iw pe e_len nv (list_in iw pe len me) e))) → IsPart iw pe e_len nv degree w (list_in iw pe len me) →
+      (i : ℕ) → has (list_in iw left len me) i ≡ true → AreMet flag w1 (elements_in iw left e_len i)
+  left_met w1 counted part i h e named kept =
+      let m : has (list_in iw pe len me) i ≡ true = sym (ap (λ xs. has xs i) left_list) ∙ h in let t = can i m in let s = left_front i m in
+      let lists : has (elements_of iw pe e_len i) e ≡ true = sym (ap (λ z. has (rows iw (place z) (place (word e_len i))) e) s) ∙ named in
+      let share : ℕ → ℕ = λ j. cond (has (elements_of iw pe e_len j) e) (size_of nv j) 0 in
+      let all = named_sum share (list_in iw pe len me) i m in
+      let own = cond-true (has (elements_of iw pe e_len i) e) (size_of nv i) 0 lists in
+      let class = t.class in let count = counted e in let stands = ltb-true 0 (num w1 e) kept in
+      let flagged = met_stands flag (num w e) (num degree e) (met iw pe e_len nv (list_in iw pe len me) e)
+      (omega (arith, all, own, class)) (part e) aggressive (omega (arith, count, stands)) in
+      omega (arith, flagged, count)
 
 -- ---- lists by bound that name no class of the front stay
 

@@ -11,6 +11,7 @@ pub mod Retiring
 pub mod FrontTurns
 pub mod FrontBack
 pub mod Filtering
+pub mod PlainSums
 pub mod Renewing
 pub mod ChainLists
 pub mod RoundWords

@@ -14,7 +14,7 @@ use Rattle.amd_model.specs.Quotient.{has, turned, is_empty, Once}
 use Rattle.amd_model.proofs.Listings.Words.{has_filter as filter_gives}
 use Rattle.amd_views.proofs.Lists.Named.{filter_named, sum_named, sum_part}
 use Rattle.amd_places.specs.Words.{num, word, place, is_place, start, size_of, in_front, rows_in, inside, flip_of, rows, Names}
-use Rattle.amd_places.specs.Renewal.{is_outside, hashed, Renews}
+use Rattle.amd_places.specs.Renewal.{is_outside, hashed, AreMet, Renews}
 use Rattle.amd_places.specs.Layout.{elements_in, variables_in, list_in, Layout, IsPlaced, LosesOne, reached, IsRenewable, RenewsOne}
 use Rattle.amd_places.specs.Merging.{key_of}
 use Rattle.amd_places.specs.Fronts.{kept_in, near_in, is_done, bucket_at, RenewsOrEnds, RenewsFront}
@@ -240,6 +240,11 @@ module _ {n me : ℕ} {kept : ℕ → Bool} {beyond : ℕ → ℕ} {iw pe e_len 
   front_loses = let a = ap length kept_same in let b = ap length near_same in
       let d = turn_length y starts apart once k l h.renewed can i is in
       let r = (can i known).2 in omega (arith, a, b, d, r)
+
+  pub front_met : (flag : ℕ) (w : List ℕ) →
+      ((j : ℕ) → has (list_in iw pe len me) j ≡ true → AreMet flag w (elements_in iw pe e_len j)) →
+      AreMet flag w (elements_in iw1 pe1 e_len1 i)
+  front_met flag w met = subst (λ xs. AreMet flag w xs) (sym own_elements) (met i known)
 
   pub front_marked : in_front nv1 i ≡ true
   front_marked = ap inside row_same ∙ marked i known

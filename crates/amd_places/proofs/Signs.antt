@@ -17,6 +17,11 @@ unfolding is_place place
 abs_is (pos n) h = refl
 abs_is (negsuc n) h = absurd (true≢false (sym h))
 
+pub abs_rows : (z : ℤ) → lib.IntN.nat_abs z ≡ rows_in z
+unfolding rows_in
+abs_rows (pos n) = refl
+abs_rows (negsuc n) = refl
+
 -- a number below 0
 pub mark_test : (z : ℤ) → lib.Signed.lt_z z (pos 0) ≡ inside z
 unfolding inside

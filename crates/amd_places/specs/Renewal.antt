@@ -1,13 +1,17 @@
 -- The list of a class of a front, edited in its place.
-use Rattle.std.specs.Prelude.{ℕ, ℤ, Bool, List, ◌∷◌, ◌≡◌, ◌<◌, ◌≤◌, ◌+◌, ◌-◌, ◌%◌, ◌^◌, ◌&&◌, ◌⊎◌, not, nat_lt, length}
+use Rattle.std.specs.Prelude.{ℕ, ℤ, Bool, true, List, ◌∷◌, ◌≡◌, ◌<◌, ◌≤◌, ◌+◌, ◌-◌, ◌%◌, ◌^◌, ◌&&◌, ◌⊎◌, not, nat_lt, length}
 use Rattle.std.specs.Prelude.{filter, sum_by}
 use Rattle.amd_model.specs.Figures.{cut}
-use Rattle.amd_model.specs.Quotient.{turned}
+use Rattle.amd_model.specs.Quotient.{has, turned}
 use Rattle.amd_places.specs.Words.{num, word, size_of, in_front, rows, Names}
 
 -- an element is kept: it stands still
 abbrev pub is_kept : List ℕ → ℕ → Bool
 is_kept w e = nat_lt 0 (num w e)
+
+-- the counter of each element of a list that stands is at least the flag
+abbrev pub AreMet : ℕ → List ℕ → List ℕ → Type 0
+AreMet flag w elements = (e : ℕ) → has elements e ≡ true → is_kept w e ≡ true → flag ≤ num w e
 
 -- a variable is kept: it is a class outside the front
 abbrev pub is_outside : List ℤ → ℕ → Bool

@@ -6,8 +6,8 @@ ghost use Rattle.std.specs.Prelude.{◌++◌, ◌≡◌, ◌<◌, ◌≤◌, ◌
 ghost use Rattle.std.specs.Prelude.{sum_by, slice_set};
 ghost use Rattle.amd_model.specs.Quotient.{has, Once};
 ghost use Rattle.amd_places.specs.Words.{num, word, is_place, size_of, in_front, flip_of};
-ghost use Rattle.amd_places.specs.Renewal.{is_kept, is_outside, hashed};
-ghost use Rattle.amd_places.specs.Layout.{list_in, Layout, reached, IsPlaced, LosesOne, IsRenewable, RenewsOne};
+ghost use Rattle.amd_places.specs.Renewal.{is_kept, is_outside, hashed, AreMet};
+ghost use Rattle.amd_places.specs.Layout.{elements_in, list_in, Layout, reached, IsPlaced, LosesOne, IsRenewable, RenewsOne};
 ghost use Rattle.amd_places.specs.Fronts.{kept_in, near_in, RenewsOrEnds, RenewsFront};
 
 use crate::renewal::renew_list;
@@ -34,6 +34,7 @@ fn renew_class<S: Signed, U: Unsigned>(
     requires me { (me < length w.now) × (me ≤ S.MOST) }
     requires placed { IsPlaced (length w.now) iw.old pe.now e_len.old len.old i }
     requires loses { LosesOne (is_kept w.now) (is_outside nv.now) iw.old pe.now e_len.old len.old i }
+    requires met { AreMet flag w.now (elements_in iw.old pe.now e_len.old i) }
     ensures renews { RenewsOne (length w.now) me (is_kept w.now) (is_outside nv.now) i iw.old pe.now e_len.old len.old
         iw.new e_len.new len.new }
     ensures count { result.0 ≡ num len.new i }
@@ -118,6 +119,7 @@ fn renew_or_retire<S: Signed, U: Unsigned>(
     requires placed { IsPlaced (length w.now) iw.old pe.old e_len.old len.old i }
     requires loses { LosesOne (is_kept w.now) (is_outside nv.old) iw.old pe.old e_len.old len.old i }
     requires marked { in_front nv.old i ≡ true }
+    requires met { AreMet flag w.now (elements_in iw.old pe.old e_len.old i) }
     ensures renews { RenewsOrEnds (length w.now) me (is_kept w.now) (is_outside nv.old) (λ e. num w.now e - flag) i
         iw.old pe.old e_len.old nv.old len.old degree.old last.old iw.new pe.new e_len.new nv.new len.new degree.new
         last.new result }
@@ -164,6 +166,8 @@ pub fn renew_all<S: Signed, U: Unsigned>(
     requires front { (i : ℕ) → has (list_in iw.old pe.old len.old me) i ≡ true →
         IsRenewable (is_kept w.now) (is_outside nv.old) iw.old pe.old e_len.old len.old i }
     requires marked { (i : ℕ) → has (list_in iw.old pe.old len.old me) i ≡ true → in_front nv.old i ≡ true }
+    requires met { (i : ℕ) → has (list_in iw.old pe.old len.old me) i ≡ true →
+        AreMet flag w.now (elements_in iw.old pe.old e_len.old i) }
     requires few { sum_by (size_of nv.old) (list_in iw.old pe.old len.old me) ≤ S.MOST }
     ensures renews { RenewsFront (length w.now) me (is_kept w.now) (is_outside nv.old) (λ e. num w.now e - flag)
         (list_in iw.old pe.old len.old me) free iw.old pe.old e_len.old nv.old len.old degree.old last.old iw.new pe.new

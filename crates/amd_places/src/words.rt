@@ -21,7 +21,8 @@ pub fn named<S: Signed>(words: &[Word<S>], k: usize) -> usize
 /// Whether a row is a class outside the front.
 pub fn is_open<S: Signed>(nv: &[Word<S>], j: usize) -> bool
     requires { j < length nv.now }
-    ensures { result ≡ (nat_lt 0 (size_of nv.now j) && not (in_front nv.now j)) }
+    ensures is { result ≡ (nat_lt 0 (size_of nv.now j) && not (in_front nv.now j)) }
+    ensures small { size_of nv.now j ≤ S.MOST }
 {
     word_at(nv, j) > 0
 }

@@ -65,7 +65,7 @@ copy_word-requires-clause-to g c =
     ∙ ap place (stands_at c.args.iw.now c.loop-p.iw from c.args.count c.args.start c.args.free p n e l c.requires.source
     c.requires.order c.loop-p.invariant.below) in
     let room = room_here c.args.iw.now c.args.nv.now c.loop-p.iw c.loop-p.nv from c.args.count c.args.start c.args.free c.loop-p.end
-    c.loop-p.sum n c.named-row.result c.loop-p.invariant l r (sym c.is_open.ensures ∙ c.if-is_open.true) in
+    c.loop-p.sum n c.named-row.result c.loop-p.invariant l r (sym c.is_open.ensures.is ∙ c.if-is_open.true) in
     let a = room.0 in let f = c.requires.fits in let long = c.loop-p.invariant.long in omega (arith, a, f, long)
 
 pub overflow_add-sum : goal.overflow_add-sum
@@ -77,7 +77,7 @@ overflow_add-sum g c =
     ∙ ap place (stands_at c.args.iw.now c.loop-p.iw from c.args.count c.args.start c.args.free p n e l c.requires.source
     c.requires.order c.loop-p.invariant.below) in
     let room = room_here c.args.iw.now c.args.nv.now c.loop-p.iw c.loop-p.nv from c.args.count c.args.start c.args.free c.loop-p.end
-    c.loop-p.sum n c.named-row.result c.loop-p.invariant l r (sym c.is_open.ensures ∙ c.if-is_open.true) in
+    c.loop-p.sum n c.named-row.result c.loop-p.invariant l r (sym c.is_open.ensures.is ∙ c.if-is_open.true) in
     let a = room.1 in let f = c.requires.few in let rows_is : c.enter-sum.result
     ≡ size_of c.args.nv.now (place (word c.args.iw.now (from + n))) = c.enter-sum.ensures.rows
     ∙ c.loop-p.invariant.sizes c.named-row.result ∙ ap (size_of c.args.nv.now) r in
@@ -92,7 +92,7 @@ overflow_add-end g c =
     ∙ ap place (stands_at c.args.iw.now c.loop-p.iw from c.args.count c.args.start c.args.free p n e l c.requires.source
     c.requires.order c.loop-p.invariant.below) in
     let room = room_here c.args.iw.now c.args.nv.now c.loop-p.iw c.loop-p.nv from c.args.count c.args.start c.args.free c.loop-p.end
-    c.loop-p.sum n c.named-row.result c.loop-p.invariant l r (sym c.is_open.ensures ∙ c.if-is_open.true) in
+    c.loop-p.sum n c.named-row.result c.loop-p.invariant l r (sym c.is_open.ensures.is ∙ c.if-is_open.true) in
     let a = room.0 in let f = c.requires.fits in let long = c.loop-p.invariant.long in let b = c.requires.short in
     let fits : c.loop-p.end + 1 < 2 ^ 64 = omega (arith, a, f, long, b) in search (rules, fits)
 
@@ -109,7 +109,7 @@ loop-p-preserved g c =
     let small : y < length nv = (c.requires.names n l).1 in
     elim c.if-is_open.branch [
       | then-is_open w ↦ (let opened : (nat_lt 0 (size_of c.loop-p.nv c.named-row.result)
-          && not (in_front c.loop-p.nv c.named-row.result)) ≡ true = sym c.is_open.ensures ∙ w.if-is_open.true in
+          && not (in_front c.loop-p.nv c.named-row.result)) ≡ true = sym c.is_open.ensures.is ∙ w.if-is_open.true in
           let room = (room_here iw nv c.loop-p.iw c.loop-p.nv from c.args.count c.args.start c.args.free c.loop-p.end c.loop-p.sum n
           c.named-row.result h l r opened).0 in let f = c.requires.fits in
           let class = class_here iw nv c.loop-p.iw c.loop-p.nv from c.args.count c.args.start c.args.free c.loop-p.end c.loop-p.sum n
@@ -124,7 +124,7 @@ loop-p-preserved g c =
           ∙ ap (λ x. in_front c.loop-p.nv j || x == j) r) (ap (λ m. c.loop-p.sum + m) (w.enter-sum.ensures.rows
           ∙ ap (size_of c.loop-p.nv) r))))
       | else-is_open w ↦ (let shut : (nat_lt 0 (size_of c.loop-p.nv y) && not (in_front c.loop-p.nv y))
-          ≡ false = ap (λ x. nat_lt 0 (size_of c.loop-p.nv x) && not (in_front c.loop-p.nv x)) (sym r) ∙ sym c.is_open.ensures
+          ≡ false = ap (λ x. nat_lt 0 (size_of c.loop-p.nv x) && not (in_front c.loop-p.nv x)) (sym r) ∙ sym c.is_open.ensures.is
           ∙ w.if-is_open.false in
           rw (w.iw-is, w.nv-is, w.end-is, w.sum-is, e') (elim (cases_Bool (nat_lt 0 (size_of nv y))) [
             | inl q ↦ rw (classes_yes nv iw from n q) (gathers_old h y (elim (cases_Bool (in_front c.loop-p.nv y)) [
@@ -151,11 +151,11 @@ copy_word-requires-clause-from g c = lt_of_lt_of_le c.loop-p-test.true
 
 pub enter-sum-requires-clause-class : goal.enter-sum-requires-clause-class
 enter-sum-requires-clause-class g c = ltb-true 0 (size_of c.loop-p.nv c.named-row.result)
-    (and_parts _ _ (sym c.is_open.ensures ∙ c.if-is_open.true)).0
+    (and_parts _ _ (sym c.is_open.ensures.is ∙ c.if-is_open.true)).0
 
 pub enter-sum-requires-clause-fresh : goal.enter-sum-requires-clause-fresh
 enter-sum-requires-clause-fresh g c = not-true (in_front c.loop-p.nv c.named-row.result)
-    (and_parts _ _ (sym c.is_open.ensures ∙ c.if-is_open.true)).1
+    (and_parts _ _ (sym c.is_open.ensures.is ∙ c.if-is_open.true)).1
 
 pub loop-p-smaller : goal.loop-p-smaller
 loop-p-smaller g c = falls (c.args.from + c.args.count) c.loop-p.p c.loop-p-test.true

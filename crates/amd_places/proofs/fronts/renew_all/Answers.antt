@@ -7,7 +7,7 @@ use Rattle.amd_places.specs.Fronts.{RenewsFront}
 use Rattle.amd_places.proofs.WordMarks.{rows_start}
 use Rattle.amd_places.proofs.Frames.{has_from}
 use Rattle.amd_places.proofs.RenewedFronts.{front_word, front_inside, front_row}
-use Rattle.amd_places.proofs.Retiring.{front_none, front_placed, front_loses, front_marked, front_room, front_more}
+use Rattle.amd_places.proofs.Retiring.{front_none, front_placed, front_loses, front_marked, front_met, front_room, front_more}
 use Rattle.std.proofs.Common.{lt_of_lt_of_le, le_of_eq, add-sub_of_le, le-add_right}
 use Rattle.amd_places.proofs.WordCounts.{next_place, within_count}
 use Rattle.amd_places.proofs.fronts.renew_all.Goals as goal
@@ -122,6 +122,25 @@ renew_or_retire-gone-requires-clause-marked g c =
     c.loop-p.iw c.loop-p.pe c.loop-p.e_len c.loop-p.nv c.loop-p.len c.loop-p.degree c.loop-p.last c.loop-p.gone) is c.loop-p.invariant in
     front_marked c.requires.laid c.requires.list c.requires.apart c.requires.once c.requires.front c.requires.marked k l h c.named-i.result
     (c.named-i.ensures ∙ ap (λ q. place (word c.loop-p.iw q)) (sym at))
+
+pub renew_or_retire-gone-requires-clause-met : goal.renew_or_retire-gone-requires-clause-met
+renew_or_retire-gone-requires-clause-met g c =
+    let iw : List ℤ = c.args.iw.now in let pe : List ℤ = c.args.pe.now in let len : List ℕ = c.args.len.now in let me : ℕ = c.args.me in
+    let from : ℕ = c.named-from.result in let is : from ≡ start pe me = c.named-from.ensures in let p : ℕ = c.loop-p.p in
+    let k : ℕ = p - from in
+    let after : from ≤ p = c.loop-p.auto.p in let t = c.loop-p-test.true in let count = c.figure_at.ensures.is in
+    let at : start pe me + k ≡ p = ap (λ s. s + k) (sym is) ∙ add-sub_of_le after in
+    let l : k < num len me = lt_of_lt_of_le (within_count after t) (le_of_eq count) in
+    let h : RenewsFront (length c.args.w.now) me (is_kept c.args.w.now) (is_outside c.args.nv.now) (λ e. num c.args.w.now e - c.args.flag)
+    (rows iw (start pe me) k) c.args.free iw pe c.args.e_len.now c.args.nv.now len c.args.degree.now c.args.last.now
+    c.loop-p.iw c.loop-p.pe c.loop-p.e_len c.loop-p.nv c.loop-p.len c.loop-p.degree c.loop-p.last c.loop-p.gone
+    = subst (λ s. RenewsFront (length c.args.w.now) me (is_kept c.args.w.now) (is_outside c.args.nv.now)
+    (λ e. num c.args.w.now e - c.args.flag)
+    (rows iw s k) c.args.free iw pe c.args.e_len.now c.args.nv.now len c.args.degree.now c.args.last.now
+    c.loop-p.iw c.loop-p.pe c.loop-p.e_len c.loop-p.nv c.loop-p.len c.loop-p.degree c.loop-p.last c.loop-p.gone) is c.loop-p.invariant in
+    front_met c.requires.laid c.requires.list c.requires.apart c.requires.once c.requires.front c.requires.marked k l h c.named-i.result
+    (c.named-i.ensures ∙ ap (λ q. place (word c.loop-p.iw q)) (sym at))
+    c.args.flag c.args.w.now c.requires.met
 
 pub loop-p-preserved : goal.loop-p-preserved
 loop-p-preserved g c =

@@ -1,5 +1,6 @@
 use Rattle.std.proofs.Common.{ℕ, ℤ, List, filter, subst, sum_by, refl, sym, ap, ◌∙◌, ◌≡◌, ◌+◌, ◌-◌, ◌++◌, arith, length, get_or-set_same}
 use Rattle.amd_model.specs.Figures.{cut}
+use Rattle.amd_model.specs.Quotient.{has}
 use Rattle.amd_places.specs.Words.{num, start, size_of, rows}
 use Rattle.amd_places.specs.Renewal.{is_kept, is_outside, hashed, Renews}
 use Rattle.amd_places.specs.Layout.{elements_in}
@@ -54,6 +55,13 @@ renew_list-few-requires-clause-room g c =
     let a = ap (λ xs. length (filter (is_kept c.args.w.now) xs)) (rows_at c.args.iw.now f m) in
     let b = ap (λ xs. length (filter (is_outside c.args.nv.now) xs)) (behind c.args.iw.now f m k) in
     let r = c.requires.loses in omega (arith, a, b, k, r)
+
+pub renew_list-few-requires-clause-narrow : goal.renew_list-few-requires-clause-narrow
+renew_list-few-requires-clause-narrow g c = c.requires.narrow
+
+pub renew_list-few-requires-clause-met : goal.renew_list-few-requires-clause-met
+renew_list-few-requires-clause-met g c e h = let f = c.named-from.ensures in let m = c.named-n_elements.ensures in
+    c.requires.met e (sym (ap (λ xs. has xs e) (rows_at c.args.iw.now f m)) ∙ h)
 
 pub put_row-requires-clause-inside : goal.put_row-requires-clause-inside
 put_row-requires-clause-inside g c = let a = c.requires.placed.row in let n = c.requires.lengths.1 in omega (arith, a, n)

@@ -58,3 +58,6 @@ pub lower_bound-requires : goal.lower_bound-requires
 lower_bound-requires g c = record {
   inside = lt_of_lt_of_le c.requires.placed.row (le_of_eq (sym c.requires.more_lengths.0));
 }
+
+pub renew_class-count-requires-clause-met : goal.renew_class-count-requires-clause-met
+renew_class-count-requires-clause-met g c = c.requires.met

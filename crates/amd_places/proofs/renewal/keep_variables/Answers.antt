@@ -1,10 +1,11 @@
 use Rattle.std.proofs.Common.{ℕ, ℤ, List, true, ◌≡◌, ◌<◌, ◌≤◌, ◌+◌, ◌-◌, sym, ap, subst, ◌∙◌, arith, length, add-sub_of_le, le-add_right}
+use Rattle.std.proofs.Common.{◌*◌, le_of_eq, lt_of_le_of_lt}
 use Rattle.std.specs.Prelude.{filter}
 use Rattle.amd_model.specs.Figures.{cut}
-use Rattle.amd_views.proofs.Lists.Cuts.{cut_min}
 use Rattle.amd_places.specs.Words.{word, place, is_place, size_of, rows}
 use Rattle.amd_places.specs.Renewal.{is_outside, hashed, Filters}
 use Rattle.amd_places.proofs.Filtering.{filters_none, filters_no, filters_yes, hashed_none, hashed_no, hashed_yes}
+use Rattle.amd_places.proofs.PlainSums.{first_fits, first_grows}
 use Rattle.amd_places.proofs.WordCounts.{all_passed, next_place, none_passed, within_count}
 use Rattle.amd_places.proofs.renewal.keep_variables.Goals as goal
 use Rattle.amd_places.proofs.renewal.keep_variables.Goals.{then-is_open, else-is_open}
@@ -16,6 +17,7 @@ loop-p-init g c = let e : c.args.from - c.args.from ≡ 0 = none_passed c.args.f
       (filters_none (length c.args.nv.now) (is_outside c.args.nv.now) (size_of c.args.nv.now)
       c.args.first c.args.iw.now c.args.from c.args.to (omega (arith, fits)));
   hash = hashed_none (is_outside c.args.nv.now) c.args.sum c.args.iw.now c.args.from (let s = c.ranges.sum.fits in omega (arith, s));
+  small = λ n. le-add_right _ _;
 }
 
 pub named-j-requires-clause-is_one : goal.named-j-requires-clause-is_one
@@ -52,6 +54,15 @@ size_outside-more-requires-clause-inside g c =
     let row : c.named-j.result ≡ place (word iw p) = c.named-j.ensures ∙ ap place same in
     omega (arith, row, small)
 
+pub add_up-outside-requires : goal.add_up-outside-requires
+add_up-outside-requires g c n = first_fits c.args.first c.loop-p.outside c.size_outside-more.result (c.loop-p.p - c.args.from)
+    (c.loop-p.invariant.small n)
+    (lt_of_le_of_lt (le_of_eq c.size_outside-more.ensures) (lt_of_le_of_lt c.is_open.ensures.small (c.requires.narrow n).0))
+    c.args.count (within_count c.loop-p.auto.p c.loop-p-test.true) (c.requires.narrow n).2
+
+later_bound : (first sum k : ℕ) → sum ≤ first + 4294967295 * k → sum ≤ first + 4294967295 * (k + 1)
+later_bound first sum k so_far = omega (arith, so_far)
+
 pub loop-p-preserved : goal.loop-p-preserved
 loop-p-preserved g c =
     let iw : List ℤ = c.args.iw.now in let from : ℕ = c.args.from in let p : ℕ = c.loop-p.p in let k : ℕ = p - from in
@@ -69,20 +80,24 @@ loop-p-preserved g c =
       | then-is_open w ↦ rw (w.iw-is, w.end-is, w.outside-is, w.hash-is, w.copy_word.ensures, next) record {
         filters =
             (filters_yes (length c.args.nv.now) (is_outside c.args.nv.now) (size_of c.args.nv.now)
-            c.args.first iw from c.args.to h p w.saturating_add-outside.result at down (let a = c.requires.inside in
+            c.args.first iw from c.args.to h p w.add_up-outside.result at down (let a = c.requires.inside in
             omega (arith, a, at, l)) is_one small
-            (ap (is_outside nv) (sym there) ∙ sym c.is_open.ensures ∙ w.if-is_open.true)
-            (w.saturating_add-outside.ensures ∙ cut_min _ ∙ ap (λ m. cut (c.loop-p.outside + m)) (w.size_outside-more.ensures
+            (ap (is_outside nv) (sym there) ∙ sym c.is_open.ensures.is ∙ w.if-is_open.true)
+            (w.add_up-outside.ensures ∙ ap (λ m. cut (c.loop-p.outside + m)) (w.size_outside-more.ensures
             ∙ ap (size_of nv) there)));
         hash = hashed_yes (is_outside c.args.nv.now) c.args.sum iw from k c.loop-p.hash c.loop-p.invariant.hash c.named-j.result there
-            (ap (is_outside nv) (sym there) ∙ sym c.is_open.ensures ∙ w.if-is_open.true);
+            (ap (is_outside nv) (sym there) ∙ sym c.is_open.ensures.is ∙ w.if-is_open.true);
+        small = λ n. first_grows c.args.first c.loop-p.outside w.size_outside-more.result k (c.loop-p.invariant.small n)
+            (lt_of_le_of_lt (le_of_eq w.size_outside-more.ensures) (lt_of_le_of_lt c.is_open.ensures.small (c.requires.narrow n).0))
+            w.add_up-outside.result w.add_up-outside.ensures;
       }
       | else-is_open w ↦ rw (w.iw-is, w.end-is, w.outside-is, w.hash-is, next) record {
         filters =
             (filters_no (length c.args.nv.now) (is_outside c.args.nv.now) (size_of c.args.nv.now) c.args.first iw from c.args.to h
-            (ap (is_outside nv) (sym there) ∙ sym c.is_open.ensures ∙ w.if-is_open.false));
+            (ap (is_outside nv) (sym there) ∙ sym c.is_open.ensures.is ∙ w.if-is_open.false));
         hash = hashed_no (is_outside c.args.nv.now) c.args.sum iw from k c.loop-p.hash c.loop-p.invariant.hash
-            (ap (is_outside nv) (sym there) ∙ sym c.is_open.ensures ∙ w.if-is_open.false);
+            (ap (is_outside nv) (sym there) ∙ sym c.is_open.ensures.is ∙ w.if-is_open.false);
+        small = λ n. later_bound c.args.first c.loop-p.outside k (c.loop-p.invariant.small n);
       }
     ]
 

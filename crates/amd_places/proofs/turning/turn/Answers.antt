@@ -7,7 +7,7 @@ use Rattle.amd_places.specs.Counts.{counter, ends, settled, met}
 use Rattle.amd_places.specs.Renewal.{is_kept, is_outside}
 use Rattle.amd_places.specs.Layout.{list_in, Layout}
 use Rattle.amd_places.specs.Fronts.{RenewsFront}
-use Rattle.amd_places.proofs.FrontTurns.{turn_listed, left_me, left_list, left_laid, left_renewable, others_linked}
+use Rattle.amd_places.proofs.FrontTurns.{turn_listed, left_me, left_list, left_laid, left_renewable, left_met, others_linked}
 use Rattle.std.proofs.Common.{lt_of_lt_of_le, le_of_eq, le_trans}
 use Rattle.amd_places.proofs.turning.turn.Goals as goal
 
@@ -134,6 +134,27 @@ renew_all-requires-clause-front g c =
     ∙ ap (λ xs. settled c.args.aggressive c.args.flag (seen (met iw pe c.args.e_len.now c.args.nv.now xs e) e)) list in
     left_renewable c.args.aggressive c.args.flag c.requires.laid c.requires.flag.0 c.requires.flag.1 c.requires.front left ended
     c.count_outside.new.w counted
+
+pub renew_all-requires-clause-met : goal.renew_all-requires-clause-met
+renew_all-requires-clause-met g c =
+    let me : ℕ = c.args.me in let iw : List ℤ = c.args.iw.now in let pe : List ℤ = c.args.pe.now in let len : List ℕ = c.args.len.now in
+    let from : c.named-from.result ≡ start pe me = c.named-from.ensures in let count = c.figure_at-count.ensures.is in
+    let list : rows iw c.named-from.result c.figure_at-count.result ≡ list_in iw pe len me = ap
+    (λ s. rows iw s c.figure_at-count.result) from
+    ∙ ap (rows iw (start pe me)) count in
+    let left : List ℤ = c.count_outside.new.pe in
+    let seen : ℕ → ℕ → ℕ = λ m e. counter c.args.flag (num c.args.w.now e) (num c.args.degree.now e) m in
+    let ended : (e : ℕ) → word left e ≡ cond (ends c.args.aggressive c.args.flag (seen (met iw pe c.args.e_len.now c.args.nv.now
+    (list_in iw pe len me) e) e))
+    (flip_of me) (word pe e) = λ e. c.count_outside.ensures.starts e
+    ∙ ap (λ xs. cond (ends c.args.aggressive c.args.flag (seen (met iw pe c.args.e_len.now c.args.nv.now xs e) e)) (flip_of me)
+    (word pe e)) list in
+    let counted : (e : ℕ) → num c.count_outside.new.w e
+    ≡ settled c.args.aggressive c.args.flag (seen (met iw pe c.args.e_len.now c.args.nv.now (list_in iw pe len me) e) e) = λ e.
+    c.count_outside.ensures.counted e
+    ∙ ap (λ xs. settled c.args.aggressive c.args.flag (seen (met iw pe c.args.e_len.now c.args.nv.now xs e) e)) list in
+    left_met c.args.aggressive c.args.flag c.requires.laid c.requires.flag.0 c.requires.flag.1 c.requires.front left ended
+    c.count_outside.new.w counted c.requires.part
 
 pub renew_all-requires-clause-marked : goal.renew_all-requires-clause-marked
 renew_all-requires-clause-marked g c i h =
