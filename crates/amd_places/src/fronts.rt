@@ -173,6 +173,10 @@ pub fn renew_all<S: Signed, U: Unsigned>(
         (list_in iw.old pe.old len.old me) free iw.old pe.old e_len.old nv.old len.old degree.old last.old iw.new pe.new
         e_len.new nv.new len.new degree.new last.new result }
 {
+    // There are rows, since `me` is one; said once here, it is not tested for each remainder by their number.
+    if w.is_empty() {
+        unreachable!();
+    }
     let from = named(pe, me);
     let end = from + figure_at(len, me);
     let mut gone: usize = 0;
