@@ -3,7 +3,7 @@ use Rattle.std.proofs.Common.{ℕ, ℤ, pos, negsuc, Bool, List, Option, ◌≡�
 use Rattle.std.proofs.Common.{take, drop}
 use Rattle.std.specs.Prelude.{replicate}
 use Rattle.std.proofs.lemmas.Bool.{cases_Bool, cond-true, cond-false}
-use Rattle.std.proofs.lemmas.List.{get_or-replicate, take_at}
+use Rattle.std.proofs.lemmas.List.{get_or-map, get_or-replicate, length-map, take_at}
 use Rattle.amd_model.specs.Below.{count_below}
 use Rattle.amd_model.specs.Graph.{Graph, degree}
 use Rattle.amd_model.specs.State.{State, is_element, in_block}
@@ -151,6 +151,31 @@ pub written : {A : Type 0} {lent : List A} {n : ℕ} (new items : List A) (len :
 written new items len is long same value =
     let whole = value ∙ take_at new (drop (length new) items) len (same ∙ sym (is ∙ long)) in
     (whole, ap length whole ∙ same)
+
+-- ---- the two answers
+
+-- of figures that list a permutation each names a row
+pub names_row : (n : ℕ) (figures : List ℕ) (q : List ℤ) → AreInverse n (map pos figures) q → (k : ℕ) → k < length figures →
+    num figures k < n
+names_row n figures q inverse k l =
+    let long : length (map pos figures) ≡ length figures = simp length-map in let all = inverse.p_length in
+    let there = inverse.there k (omega (arith, l, long, all)) in let small = there.1 in
+    let is : pos (num figures k) ≡ pos there.0 = sym (get_or-map pos figures k 0 (pos 0) l) ∙ there.2 in
+    let same = ap lib.IntN.nat_abs is in omega (arith, small, same)
+
+-- each of the two is the inverse of the other
+pub turned : (n : ℕ) (p q : List ℤ) → AreInverse n p q → AreInverse n q p
+turned n p q inverse = record {
+  p_length = inverse.q_length;
+  q_length = inverse.p_length;
+  there = inverse.back;
+  back = inverse.there;
+}
+
+-- the same pair under other names
+pub inverse_same : (n m : ℕ) (p q p' q' : List ℤ) → AreInverse n p q → n ≡ m → p' ≡ p → q' ≡ q → AreInverse m p' q'
+inverse_same n m p q p' q' inverse size a b = subst (λ k. AreInverse k p' q') size
+    (subst (λ xs. AreInverse n xs q') (sym a) (subst (λ xs. AreInverse n p xs) (sym b) inverse))
 
 -- ---- the start
 

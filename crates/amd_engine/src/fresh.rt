@@ -2,6 +2,7 @@
 // lists is asked for here, before the first round. Called by `amd_2`.
 
 ghost use Rattle.std.specs.Prelude.{◌≡◌, ◌≤◌, ℕ, pos, replicate, length, IfOk};
+ghost use Rattle.std.specs.Vec.{vec_capacity};
 ghost use Rattle.amd_engine.specs.InPlace.{AreFresh};
 
 use amd_cells::{Figure, Signed, Unsigned, Word};
@@ -35,22 +36,8 @@ pub struct Links<U: Unsigned, A: Allocator> {
     pub hash: Vec<Figure<U>, A>,
 }
 
-/// `count` zeros of the caller's type.
-///
-/// # Errors
-///
-/// A refused request for memory.
-pub fn numbers<I: PrimInt, A: Allocator>(alloc: A, count: usize) -> Result<Vec<I, A>, AllocError>
-    ensures { IfOk result (λ v. length v.items ≡ count) }
-{
-    let mut list = Vec::with_capacity(alloc, count)?;
-    'numbers: for _ in 0..count {
-        list.push_reserved(I::zero());
-    }
-    Ok(list)
-}
-
-/// The numbers of each of `n` rows, all of them 0.
+/// The numbers of each of `n` rows. Each is `n`, which nothing relies on: a loop of stores is faster here than the
+/// `memset` that zeros would become.
 ///
 /// # Errors
 ///
@@ -59,14 +46,15 @@ pub fn fresh_counts<S: Signed, U: Unsigned, A: Allocator + Copy>(
     alloc: A,
     n: usize,
 ) -> Result<Counts<S, U, A>, AllocError>
+    requires narrow { (n ≤ S.MOST) × (n ≤ U.MOST) }
     ensures words { IfOk result (λ c. (length c.nv.items ≡ n) × (length c.e_len.items ≡ n)) }
     ensures figures { IfOk result (λ c. (length c.degree.items ≡ n) × (length c.w.items ≡ n)) }
 {
     Ok(Counts {
-        nv: words(alloc, n, 0)?,
-        e_len: words(alloc, n, 0)?,
-        degree: figures(alloc, n, 0)?,
-        w: figures(alloc, n, 0)?,
+        nv: words(alloc, n, n as isize)?,
+        e_len: words(alloc, n, n as isize)?,
+        degree: figures(alloc, n, n)?,
+        w: figures(alloc, n, n)?,
     })
 }
 
@@ -85,8 +73,8 @@ pub fn fresh_links<U: Unsigned, A: Allocator + Copy>(
 {
     Ok(Links {
         head: figures(alloc, n, n)?,
-        next: figures(alloc, n, 0)?,
-        last: figures(alloc, n, 0)?,
+        next: figures(alloc, n, n)?,
+        last: figures(alloc, n, n)?,
         hash: figures(alloc, n, n)?,
     })
 }
@@ -98,9 +86,9 @@ pub struct Lists<I: PrimInt, S: Signed, U: Unsigned, A: Allocator> {
     pub counts: Counts<S, U, A>,
     /// The lists by bound, and the buckets.
     pub links: Links<U, A>,
-    /// Room for the permutation.
+    /// Room for the permutation, which is empty.
     pub p: Vec<I, A>,
-    /// Room for its inverse.
+    /// Room for its inverse, which is empty.
     pub p_inv: Vec<I, A>,
 }
 
@@ -113,15 +101,16 @@ pub fn fresh_lists<I: PrimInt, S: Signed, U: Unsigned, A: Allocator + Copy>(
     alloc: A,
     n: usize,
 ) -> Result<Lists<I, S, U, A>, AllocError>
-    requires narrow { n ≤ U.MOST }
+    requires narrow { (n ≤ S.MOST) × (n ≤ U.MOST) }
     ensures fresh { IfOk result (λ l. AreFresh n l.counts.e_len.items l.counts.nv.items l.counts.degree.items
         l.counts.w.items l.links.head.items l.links.next.items l.links.last.items l.links.hash.items) }
-    ensures rows { IfOk result (λ l. (length l.p.items ≡ n) × (length l.p_inv.items ≡ n)) }
+    ensures rows { IfOk result (λ l. (length l.p.items ≡ 0) × (length l.p_inv.items ≡ 0) × (n ≤ vec_capacity l.p) ×
+        (n ≤ vec_capacity l.p_inv)) }
 {
     Ok(Lists {
         counts: fresh_counts(alloc, n)?,
         links: fresh_links(alloc, n)?,
-        p: numbers(alloc, n)?,
-        p_inv: numbers(alloc, n)?,
+        p: Vec::with_capacity(alloc, n)?,
+        p_inv: Vec::with_capacity(alloc, n)?,
     })
 }

@@ -17,7 +17,8 @@ use amd_workspace::laying::{Laid, lay};
 use std::alloc::Global;
 use std::process::Abort;
 
-/// A sorted matrix, the words to spare in its workspace, and what is laid there.
+/// A sorted matrix, the words to spare in its workspace, how many it has, and what is laid there. Behind the lists the
+/// words are any.
 #[derive(Drop)]
 struct Case<'a> {
     what: &'a str,
@@ -25,6 +26,7 @@ struct Case<'a> {
     a_p: &'a [i64],
     a_i: &'a [i64],
     more: usize,
+    room: usize,
     words: &'a [isize],
     starts: &'a [isize],
     lengths: &'a [usize],
@@ -38,7 +40,8 @@ static MATRICES: [Case<'static>; 4] = [
         a_p: &[0, 2, 3, 4, 4],
         a_i: &[1, 3, 2, 3],
         more: 1,
-        words: &[1, 3, 0, 2, 1, 3, 0, 2, 0, 0, 0, 0, 0],
+        room: 13,
+        words: &[1, 3, 0, 2, 1, 3, 0, 2],
         starts: &[0, 2, 4, 6],
         lengths: &[2, 2, 2, 2],
     },
@@ -48,7 +51,8 @@ static MATRICES: [Case<'static>; 4] = [
         a_p: &[0, 2, 6, 10, 12, 14],
         a_i: &[0, 1, 0, 1, 2, 4, 1, 2, 3, 4, 2, 3, 1, 4],
         more: 2,
-        words: &[1, 0, 2, 4, 1, 3, 4, 2, 1, 2, 0, 0, 0, 0, 0, 0, 0],
+        room: 17,
+        words: &[1, 0, 2, 4, 1, 3, 4, 2, 1, 2],
         starts: &[0, 1, 4, 7, 8],
         lengths: &[1, 3, 3, 1, 2],
     },
@@ -58,7 +62,8 @@ static MATRICES: [Case<'static>; 4] = [
         a_p: &[0, 1, 2, 3, 3, 6],
         a_i: &[4, 3, 3, 1, 2, 3],
         more: 2,
-        words: &[4, 4, 3, 4, 3, 1, 2, 4, 1, 2, 3, 0, 0, 0, 0, 0, 0, 0, 0],
+        room: 19,
+        words: &[4, 4, 3, 4, 3, 1, 2, 4, 1, 2, 3, 0],
         starts: &[0, 1, 3, 5, 8],
         lengths: &[1, 2, 2, 3, 4],
     },
@@ -68,20 +73,26 @@ static MATRICES: [Case<'static>; 4] = [
         a_p: &[0, 2, 5, 7],
         a_i: &[0, 1, 0, 1, 2, 1, 2],
         more: 0,
-        words: &[1, 0, 2, 1, 2, 0, 0],
+        room: 7,
+        words: &[1, 0, 2, 1],
         starts: &[0, 1, 3],
         lengths: &[1, 2, 1],
     },
 ];
 
-/// Whether words are these numbers.
-pub fn are_words<S: Signed>(words: &[Word<S>], wanted: &[isize]) -> bool {
+/// Whether words begin with these numbers.
+fn begin_with<S: Signed>(words: &[Word<S>], wanted: &[isize]) -> bool {
     for (k, &number) in wanted.iter().enumerate() {
         if k >= words.len() || word_at(words, k) != number {
             return false;
         }
     }
-    words.len() == wanted.len()
+    true
+}
+
+/// Whether words are these numbers.
+pub fn are_words<S: Signed>(words: &[Word<S>], wanted: &[isize]) -> bool {
+    words.len() == wanted.len() && begin_with(words, wanted)
 }
 
 /// Whether figures are these numbers.
@@ -96,7 +107,9 @@ fn are_figures<U: Unsigned>(figures: &[Figure<U>], wanted: &[usize]) -> bool {
 
 /// Whether lists are laid as in a case, with so many words in use.
 fn is_laid<S: Signed, U: Unsigned>(case: &Case, laid: &Laid<S, U, Global>, sum: usize) -> bool {
-    are_words(&laid.iw, case.words)
+    laid.iw.len() == case.room
+        && begin_with(&laid.iw, case.words)
+        && case.words.len() == sum
         && are_words(&laid.pe, case.starts)
         && are_figures(&laid.len, case.lengths)
         && laid.free == sum

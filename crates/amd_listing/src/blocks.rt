@@ -13,7 +13,6 @@ ghost use Rattle.amd_listing.specs.Placing.{PivotsPlaced};
 use crate::rows::put_listed;
 use amd_cells::{Figure, Signed, Unsigned, Word, figure_at, put_figure, row_at};
 use amd_trees::link::Link;
-use num_traits::PrimInt;
 
 /// Writes the element of each place of a listing, and answers how many there are.
 pub fn by_place<U: Unsigned>(order: &[Figure<U>], elements: &mut [Figure<U>]) -> usize
@@ -37,24 +36,23 @@ pub fn by_place<U: Unsigned>(order: &[Figure<U>], elements: &mut [Figure<U>]) ->
 
 /// Writes where the block of each of the first `count` elements starts, one after another, and puts the element at the
 /// last place of its block, in the listing and its inverse. Answers where the last block ends.
-pub fn block_starts<I: PrimInt, S: Signed, U: Unsigned>(
+pub fn block_starts<S: Signed, U: Unsigned>(
     nv: &[Word<S>],
     elements: &[Figure<U>],
     count: usize,
     starts: &mut [Figure<U>],
-    p: &mut [I],
-    p_inv: &mut [I],
+    p: &mut [Figure<U>],
+    p_inv: &mut [Figure<U>],
 ) -> usize
     requires lengths { (length elements.now ≡ length nv.now) × (length starts.old ≡ length nv.now) }
     requires more_lengths { (length p.old ≡ length nv.now) × (length p_inv.old ≡ length nv.now) }
-    requires fits { (k : ℕ) → k < length nv.now → I.fits (pos k) }
     requires narrow { length nv.now ≤ U.MOST }
     requires counts { (v : ℕ) → word nv.now v ≡ pos (size_of nv.now v) }
     requires blocks { (home : ℕ → Home) × (es : List ℕ) × AreElements (length nv.now) home es nv.now ×
         BeginWith elements.now count es }
     ensures starts { (home : ℕ → Home) (es : List ℕ) → AreElements (length nv.now) home es nv.now →
         BeginWith elements.now count es → AreStarts (length nv.now) es nv.now starts.new result }
-    ensures pivots { PivotsPlaced nv.now starts.new (map I.value p.new) (map I.value p_inv.new) }
+    ensures pivots { PivotsPlaced nv.now starts.new (map pos p.new) (map pos p_inv.new) }
 {
     let mut total = 0;
     'places: for k in 0..count {

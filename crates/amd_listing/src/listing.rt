@@ -10,12 +10,11 @@ use crate::blocks::{block_starts, by_place};
 use crate::rows::place_rows;
 use amd_cells::{Figure, Signed, Unsigned, Word};
 use amd_trees::postorder::postorder_in;
-use num_traits::PrimInt;
 
 /// Writes the listing of an elimination that has ended, and its inverse: `link` names for each row the row or parent to
 /// which it is linked, `nv` the number of rows of each block, and `f_size` that of each front. The four lists of
 /// figures are room, and links are shortened.
-pub fn listing<I: PrimInt, S: Signed, U: Unsigned>(
+pub fn listing<S: Signed, U: Unsigned>(
     link: &mut [Word<S>],
     nv: &[Word<S>],
     f_size: &[Word<S>],
@@ -23,17 +22,16 @@ pub fn listing<I: PrimInt, S: Signed, U: Unsigned>(
     sibling: &mut [Figure<U>],
     order: &mut [Figure<U>],
     stack: &mut [Figure<U>],
-    p: &mut [I],
-    p_inv: &mut [I],
+    p: &mut [Figure<U>],
+    p_inv: &mut [Figure<U>],
 )
     requires ended { HasEnded link.old nv.now f_size.now }
     requires lengths { (length child.old ≡ length nv.now) × (length sibling.old ≡ length nv.now) ×
         (length order.old ≡ length nv.now) × (length stack.old ≡ length nv.now) }
     requires more_lengths { (length p.old ≡ length nv.now) × (length p_inv.old ≡ length nv.now) }
     requires narrow { (length nv.now + 2 ≤ S.MOST) × (length nv.now + 2 ≤ U.MOST) }
-    requires fits { (k : ℕ) → k < length nv.now → I.fits (pos k) }
-    ensures lists { (rows : List ℕ) × (map I.value p.new ≡ map pos rows) × ListsEnded link.old nv.now f_size.now rows }
-    ensures inverse { AreInverse (length nv.now) (map I.value p.new) (map I.value p_inv.new) }
+    ensures lists { (rows : List ℕ) × (map pos p.new ≡ map pos rows) × ListsEnded link.old nv.now f_size.now rows }
+    ensures inverse { AreInverse (length nv.now) (map pos p.new) (map pos p_inv.new) }
 {
     postorder_in(nv.len(), link, nv, f_size, child, sibling, order, stack);
     let count = by_place(order, child);

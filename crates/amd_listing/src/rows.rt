@@ -10,9 +10,7 @@ ghost use Rattle.amd_listing.specs.Ended.{LinksAre};
 ghost use Rattle.amd_listing.specs.Placing.{AllPlaced, AreBlocks, PivotsPlaced};
 
 use amd_cells::{Figure, Signed, Unsigned, Word, figure_at, put_figure};
-use amd_numbers::internal::from_count;
 use amd_places::words::{named, names_one, put_row, size_outside};
-use num_traits::PrimInt;
 
 /// The element to which the links from a row lead.
 fn root_of<S: Signed>(link: &[Word<S>], nv: &[Word<S>], v: usize) -> usize
@@ -78,37 +76,33 @@ fn take_place<U: Unsigned>(place: &mut [Figure<U>], e: usize) -> usize
 }
 
 /// Puts a row at a place of the listing.
-pub fn put_listed<I: PrimInt>(p: &mut [I], p_inv: &mut [I], v: usize, k: usize)
+pub fn put_listed<U: Unsigned>(p: &mut [Figure<U>], p_inv: &mut [Figure<U>], v: usize, k: usize)
     requires inside { (v < length p_inv.old) × (k < length p.old) }
-    requires fits { I.fits (pos v) × I.fits (pos k) }
-    ensures listed { map I.value p.new ≡ slice_set (map I.value p.old) k (pos v) }
-    ensures inverse { map I.value p_inv.new ≡ slice_set (map I.value p_inv.old) v (pos k) }
+    requires fits { (v ≤ U.MOST) × (k ≤ U.MOST) }
+    ensures listed { map pos p.new ≡ slice_set (map pos p.old) k (pos v) }
+    ensures inverse { map pos p_inv.new ≡ slice_set (map pos p_inv.old) v (pos k) }
 {
-    let (Some(row), Some(place)) = (from_count(v), from_count(k)) else {
-        unreachable!();
-    };
-    p[k] = row;
-    p_inv[v] = place;
+    put_figure(p, k, v);
+    put_figure(p_inv, v, k);
 }
 
 /// Puts the rows that are no element at their places, rising: each at the next place of its block, and those held last
 /// behind all blocks.
-fn place_others<I: PrimInt, S: Signed, U: Unsigned>(
+fn place_others<S: Signed, U: Unsigned>(
     link: &mut [Word<S>],
     nv: &[Word<S>],
     place: &mut [Figure<U>],
     end: usize,
-    p: &mut [I],
-    p_inv: &mut [I],
+    p: &mut [Figure<U>],
+    p_inv: &mut [Figure<U>],
 )
     requires lengths { (length p.old ≡ length nv.now) × (length p_inv.old ≡ length nv.now) }
     requires narrow { (length nv.now ≤ S.MOST) × (length nv.now ≤ U.MOST) }
-    requires fits { (k : ℕ) → k < length nv.now → I.fits (pos k) }
     requires blocks { (home : ℕ → Home) × (elements : List ℕ) × AreBlocks link.old nv.now place.old end home elements }
-    requires pivots { PivotsPlaced nv.now place.old (map I.value p.old) (map I.value p_inv.old) }
+    requires pivots { PivotsPlaced nv.now place.old (map pos p.old) (map pos p_inv.old) }
     ensures placed { (home : ℕ → Home) (elements : List ℕ) → AreBlocks link.old nv.now place.old end home elements →
-        AllPlaced (length nv.now) (listing_of (length nv.now) home elements) (map I.value p.new)
-        (map I.value p_inv.new) }
+        AllPlaced (length nv.now) (listing_of (length nv.now) home elements) (map pos p.new)
+        (map pos p_inv.new) }
 {
     let mut next = end;
     'rows: for v in 0..nv.len() {
@@ -128,26 +122,25 @@ fn place_others<I: PrimInt, S: Signed, U: Unsigned>(
 /// Writes the listing of the blocks of the elements and its inverse: of each block, which starts where `starts` says,
 /// the other rows rising before its pivot row, which is there, and from `end` on the rows held last, rising. Links are
 /// shortened; what `starts` then holds is not said.
-pub fn place_rows<I: PrimInt, S: Signed, U: Unsigned>(
+pub fn place_rows<S: Signed, U: Unsigned>(
     link: &mut [Word<S>],
     nv: &[Word<S>],
     starts: &mut [Figure<U>],
     end: usize,
-    p: &mut [I],
-    p_inv: &mut [I],
+    p: &mut [Figure<U>],
+    p_inv: &mut [Figure<U>],
 )
     requires lengths { (length link.old ≡ length nv.now) × (length starts.old ≡ length nv.now) ×
         (length p.old ≡ length nv.now) × (length p_inv.old ≡ length nv.now) }
     requires narrow { (length nv.now + 2 ≤ S.MOST) × (length nv.now + 2 ≤ U.MOST) }
-    requires fits { (k : ℕ) → k < length nv.now → I.fits (pos k) }
     requires blocks { (home : ℕ → Home) × (elements : List ℕ) × LinksAre (length nv.now) link.old nv.now home ×
         AreElements (length nv.now) home elements nv.now × AreStarts (length nv.now) elements nv.now starts.old end ×
         ((v : ℕ) → live_at (home v) ≡ false) }
-    requires pivots { PivotsPlaced nv.now starts.old (map I.value p.old) (map I.value p_inv.old) }
+    requires pivots { PivotsPlaced nv.now starts.old (map pos p.old) (map pos p_inv.old) }
     ensures rows { (home : ℕ → Home) (elements : List ℕ) → LinksAre (length nv.now) link.old nv.now home →
         AreElements (length nv.now) home elements nv.now → AreStarts (length nv.now) elements nv.now starts.old end →
-        ((v : ℕ) → live_at (home v) ≡ false) → map I.value p.new ≡ map pos (listing_of (length nv.now) home elements) }
-    ensures inverse { AreInverse (length nv.now) (map I.value p.new) (map I.value p_inv.new) }
+        ((v : ℕ) → live_at (home v) ≡ false) → map pos p.new ≡ map pos (listing_of (length nv.now) home elements) }
+    ensures inverse { AreInverse (length nv.now) (map pos p.new) (map pos p_inv.new) }
 {
     place_others(link, nv, starts, end, p, p_inv);
 }

@@ -62,12 +62,12 @@ pub row_word : (n : ℕ) (x : ℤ) (j : ℕ) → x ≡ pos j → j < n → (is_p
 unfolding is_place place
 row_word n x j e l = rw e (refl, l)
 
--- words that are 0 name the first row
-pub zeros_are_rows : (n room : ℕ) → 0 < n → AreRows n (replicate room (pos 0))
-zeros_are_rows n room some k = elim (cases_lt k room) [
-  | inl l ↦ row_word n _ 0 (get_or-replicate room k (pos 0) (pos 0) l) some
-  | inr l ↦ row_word n _ 0 (get_or_past (replicate room (pos 0)) k (pos 0)
-      (let size = length-replicate room (pos 0) in omega (arith, size, l))) some
+-- words that are all the number of one row name rows
+pub same_are_rows : (n room row : ℕ) → row < n → AreRows n (replicate room (pos row))
+same_are_rows n room row small k = elim (cases_lt k room) [
+  | inl l ↦ row_word n _ row (get_or-replicate room k (pos row) (pos 0) l) small
+  | inr l ↦ row_word n _ 0 (get_or_past (replicate room (pos row)) k (pos 0)
+      (let size = length-replicate room (pos row) in omega (arith, size, l))) (omega (arith, small))
 ]
 
 -- ---- the walk

@@ -144,7 +144,8 @@ pub fn lay<I: PrimInt, S: Signed, U: Unsigned, A: Allocator + Copy>(
     let mut next = Vec::with_capacity(alloc, size)?;
     let free = starts(&mut pe, &mut next, &mut len, degrees);
     let mut pointers = Vec::with_capacity(alloc, size)?;
-    let mut iw = words(alloc, room, 0)?;
+    // Each word names a row. It is not 0: a loop of stores is faster here than the `memset` that zeros would become.
+    let mut iw = words(alloc, room, (size - 1) as isize)?;
     if copy_symmetric(size, a_p, a_i, degrees, &mut iw) {
         return Ok(Laid { pe, len, iw, free });
     }

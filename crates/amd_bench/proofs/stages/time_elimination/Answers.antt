@@ -13,10 +13,10 @@ fresh_same : (n m : ℕ) (e_len nv : List ℤ) (degree w head next last hash : L
 fresh_same n m e_len nv degree w head next last hash fresh a = subst (λ k. AreFresh k e_len nv degree w head next last hash) a fresh
 
 -- what rounds left, under other names
-over_same : (n m : ℕ) (pe pe1 e_len nv : List ℤ) (degree head next last hash : List ℕ) → AreOver n pe e_len nv degree head next last hash →
-    n ≡ m → pe ≡ pe1 → AreOver m pe1 e_len nv degree head next last hash
-over_same n m pe pe1 e_len nv degree head next last hash over a b = subst (λ k. AreOver k pe1 e_len nv degree head next last hash) a
-    (subst (λ xs. AreOver n xs e_len nv degree head next last hash) b over)
+over_same : (n m : ℕ) (pe pe1 e_len nv : List ℤ) (degree w head next last hash : List ℕ) →
+    AreOver n pe e_len nv degree w head next last hash → n ≡ m → pe ≡ pe1 → AreOver m pe1 e_len nv degree w head next last hash
+over_same n m pe pe1 e_len nv degree w head next last hash over a b = subst (λ k. AreOver k pe1 e_len nv degree w head next last hash) a
+    (subst (λ xs. AreOver n xs e_len nv degree w head next last hash) b over)
 
 pub lay-requires-clause-form : goal.lay-requires-clause-form
 lay-requires-clause-form g c = c.requires.form
@@ -37,7 +37,8 @@ pub lay-requires-clause-fits : goal.lay-requires-clause-fits
 lay-requires-clause-fits g c = let n = c.requires.narrow in let s = n.0 in (omega (arith, s), n.2, n.3)
 
 pub fresh_lists-requires : goal.fresh_lists-requires
-fresh_lists-requires g c = let n = c.requires.narrow in let u = n.1 in record { narrow = omega (arith, u) }
+fresh_lists-requires g c =
+    let n = c.requires.narrow in let s = n.0 in let u = n.1 in record { narrow = (omega (arith, s), omega (arith, u)) }
 
 pub run_fresh-requires-clause-fresh : goal.run_fresh-requires-clause-fresh
 run_fresh-requires-clause-fresh g c =
@@ -97,11 +98,14 @@ list_rows-requires-clause-over g c =
     let counts = c.run_fresh.new.counts in
     let links = c.run_fresh.new.links in
     over_same (length c.deref_mut-3.result.now) (length c.deref_mut-4.result.now) c.run_fresh.new.pe c.deref_mut-4.result.now
-    counts.e_len.items counts.nv.items counts.degree.items links.head.items links.next.items links.last.items links.hash.items over
-    (sym rows) (sym left.0)
+    counts.e_len.items counts.nv.items counts.degree.items counts.w.items links.head.items links.next.items links.last.items
+    links.hash.items over (sym rows) (sym left.0)
 
-pub list_rows-requires-clause-rows : goal.list_rows-requires-clause-rows
-list_rows-requires-clause-rows g c =
+pub list_rows-requires-clause-empty : goal.list_rows-requires-clause-empty
+list_rows-requires-clause-empty g c = let some = c.in_ok-lists.ensures.rows in (some.0, some.1)
+
+pub list_rows-requires-clause-room : goal.list_rows-requires-clause-room
+list_rows-requires-clause-room g c =
     let size : length c.deref_mut-3.result.now ≡ length c.args.degrees.now =
     ap length c.deref_mut-3.ensures.value ∙ ap length c.in_ok-laid.ensures.degrees in
     let over = c.run_fresh.ensures.over in
@@ -110,7 +114,7 @@ list_rows-requires-clause-rows g c =
     c.deref_mut-4.ensures.value in
     let rows : length c.deref_mut-4.result.now ≡ length c.deref_mut-3.result.now = ap length left.0 ∙ over.words.0 in
     let some = c.in_ok-lists.ensures.rows in
-    (ap length c.deref_mut-5.ensures.value ∙ some.0 ∙ sym (rows ∙ size), ap length c.deref_mut-6.ensures.value ∙ some.1 ∙ sym (rows ∙ size))
+    let p_room = some.2 in let q_room = some.3 in (omega (arith, rows, size, p_room), omega (arith, rows, size, q_room))
 
 pub list_rows-requires-clause-narrow : goal.list_rows-requires-clause-narrow
 list_rows-requires-clause-narrow g c =

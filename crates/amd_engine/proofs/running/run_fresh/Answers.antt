@@ -77,8 +77,11 @@ returns-clause-over g c =
     let hash_is = take_at c.run.new.hash (drop (length c.run.new.hash) links.hash.items) links.hash.len
     (more.3 ∙ sym (links.hash.ok.0 ∙ ap length fresh.heads.1 ∙ none)) in
     let graph = c.requires.graph in
-    rw (e_len_is, nv_is, degree_is, head_is, next_is, last_is, hash_is) (record {
+    let w_is = take_at c.run.new.w (drop (length c.run.new.w) counts.w.items) counts.w.len
+    (c.run.auto.w ∙ ap length c.deref_mut-4.ensures.value ∙ sym counts.w.ok.0) in
+    rw (e_len_is, nv_is, degree_is, w_is, head_is, next_is, last_is, hash_is) (record {
       words = long;
+      counters = c.run.auto.w ∙ ap length c.deref_mut-4.ensures.value ∙ fresh.figures.1;
       links = more;
       ends = λ link f_size blocks ends link_long f_size_long blocks_long. is_over (option_copied c.args.hold) c.args.threshold
           c.args.control.now.aggressive c.args.iw.now c.args.pe.now c.args.len.now c.run.result.n_dense c.run.result.figures

@@ -15,7 +15,7 @@ pub places-init : goal.places-init
 places-init g c = record {
   room = ap length (λ i. c.args.starts.now);
   started = λ home es a b. started_none es c.args.nv.now c.args.starts.now;
-  put = λ home es a b. pivots_none es c.args.nv.now (map g.I.Number.value c.args.p.now) (map g.I.Number.value c.args.p_inv.now);
+  put = λ home es a b. pivots_none es c.args.nv.now (map pos c.args.p.now) (map pos c.args.p_inv.now);
 }
 
 pub figure_at-e-requires : goal.figure_at-e-requires
@@ -111,7 +111,7 @@ put_listed-requires-clause-fits g c =
     c.figure_at-e.result c.row_at-total.result e_is read in
     let small = inside nv c.args.elements.now c.args.count h.0 h.1 h.2 h.3 c.places.k c.places.starts c.places.total s test
     c.figure_at-e.result c.row_at-total.result e_is read in
-    (c.requires.fits c.figure_at-e.result small, c.requires.fits (c.places.total + c.row_at-total.result - 1) (omega (arith, fit, more)))
+    let narrow = c.requires.narrow in (omega (arith, small, narrow), omega (arith, fit, more, narrow))
 
 pub overflow_sub-total : goal.overflow_sub-total
 overflow_sub-total g c =
@@ -126,7 +126,7 @@ overflow_sub-total g c =
 pub places-preserved : goal.places-preserved
 places-preserved g c =
     let nv : List ℤ = c.args.nv.now in let n : ℕ = length nv in let test = c.places-test.true in
-    let value = g.I.Number.value in let p : List ℤ = map value c.places.p in let q : List ℤ = map value c.places.p_inv in
+    let p : List ℤ = map pos c.places.p in let q : List ℤ = map pos c.places.p_inv in
     let rooms = c.requires.more_lengths in
     let p_long : length p ≡ n = (let a = c.places.auto.p in let m : length p ≡ length c.places.p = simp length-map in
     omega (arith, a, m, rooms)) in
@@ -167,10 +167,10 @@ returns-clause-starts g c = λ home es a b.
 pub returns-clause-pivots : goal.returns-clause-pivots
 returns-clause-pivots g c =
     let h = c.requires.blocks in let nv : List ℤ = c.args.nv.now in let es : List ℕ = h.1 in let long = h.3.long in
-    let value = g.I.Number.value in let end = c.places.auto.k-end in let test = c.places-test.false in
+    let end = c.places.auto.k-end in let test = c.places-test.false in
     let all : c.places.k ≡ length es = omega (arith, long, end, test) in
     let starts = started_all (length nv) h.0 es nv h.2 c.places.k c.places.starts c.places.total
     (c.places.invariant.started h.0 es h.2 h.3) all (c.places.invariant.room ∙ c.requires.lengths.1) in
-    pivots_all h.0 es nv c.places.starts c.places.total (map value c.places.p) (map value c.places.p_inv) h.2 starts
-    (subst (λ k. PivotsPut k es nv c.places.total (map value c.places.p) (map value c.places.p_inv)) all
+    pivots_all h.0 es nv c.places.starts c.places.total (map pos c.places.p) (map pos c.places.p_inv) h.2 starts
+    (subst (λ k. PivotsPut k es nv c.places.total (map pos c.places.p) (map pos c.places.p_inv)) all
     (c.places.invariant.put h.0 es h.2 h.3))

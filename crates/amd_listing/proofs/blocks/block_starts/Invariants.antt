@@ -1,4 +1,4 @@
-use Rattle.std.proofs.Common.{ℕ, ◌≡◌, List, length, map}
+use Rattle.std.proofs.Common.{ℕ, ◌≡◌, List, length, map, pos}
 use Rattle.amd_model.specs.State.{Home}
 use Rattle.amd_listing.specs.Blocks.{AreElements, BeginWith}
 use Rattle.amd_listing.proofs.BlockStarts.{AreStarted, PivotsPut}
@@ -10,5 +10,5 @@ invariant-places g l = record {
   started : (home : ℕ → Home) (es : List ℕ) → AreElements (length l.nv) home es l.nv → BeginWith l.elements l.count es →
       AreStarted l.k es l.nv l.starts l.total;
   put : (home : ℕ → Home) (es : List ℕ) → AreElements (length l.nv) home es l.nv → BeginWith l.elements l.count es →
-      PivotsPut l.k es l.nv l.total (map g.I.Number.value l.p) (map g.I.Number.value l.p_inv);
+      PivotsPut l.k es l.nv l.total (map pos l.p) (map pos l.p_inv);
 }

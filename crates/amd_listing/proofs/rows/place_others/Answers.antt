@@ -27,10 +27,10 @@ apart : (nv : List ℤ) (v e : ℕ) → size_of nv v ≡ 0 → 0 < size_of nv e 
 apart nv v e none some q = let s = ap (size_of nv) q in omega (arith, s, none, some)
 
 pub rows-init : goal.rows-init
-rows-init g c = let value = g.I.Number.value in record {
+rows-init g c = record {
   led = λ home are. are;
   passed = λ home elements b. passed_none c.args.link.now c.args.nv.now c.args.place.now c.args.end home elements b
-      (map value c.args.p.now) (map value c.args.p_inv.now) c.requires.pivots;
+      (map pos c.args.p.now) (map pos c.args.p_inv.now) c.requires.pivots;
 }
 
 pub size_outside-requires-clause-fresh : goal.size_outside-requires-clause-fresh
@@ -48,22 +48,22 @@ element_of-e-requires-clause-led g c =
 
 pub take_place-k-requires-clause-fits : goal.take_place-k-requires-clause-fits
 take_place-k-requires-clause-fits g c =
-    let value = g.I.Number.value in let nv = c.args.nv.now in let v = c.rows.v in let e = c.element_of-e.result in
+    let nv = c.args.nv.now in let v = c.rows.v in let e = c.element_of-e.result in
     let home = c.requires.blocks.0 in let elements = c.requires.blocks.1 in let b = c.requires.blocks.2 in
     let none : size_of nv v ≡ 0 = sym c.size_outside.ensures ∙ c.if-size_outside-eq0.true in
-    let small = place_small c.args.link.now nv c.args.place.now c.args.end home elements b c.rows.place c.rows.next (map value c.rows.p)
-    (map value c.rows.p_inv) v (c.rows.invariant.passed home elements b) e
+    let small = place_small c.args.link.now nv c.args.place.now c.args.end home elements b c.rows.place c.rows.next (map pos c.rows.p)
+    (map pos c.rows.p_inv) v (c.rows.invariant.passed home elements b) e
     (c.element_of-e.ensures.home home (c.rows.invariant.led home b.led)) c.element_of-e.ensures.rows
     (apart nv v e none c.element_of-e.ensures.rows) c.rows-test.true in
     let most = c.requires.narrow.1 in omega (arith, small, most)
 
 pub put_listed-requires-clause-inside : goal.put_listed-requires-clause-inside
 put_listed-requires-clause-inside g c =
-    let value = g.I.Number.value in let nv = c.args.nv.now in let v = c.rows.v in let e = c.element_of-e.result in
+    let nv = c.args.nv.now in let v = c.rows.v in let e = c.element_of-e.result in
     let home = c.requires.blocks.0 in let elements = c.requires.blocks.1 in let b = c.requires.blocks.2 in
     let none : size_of nv v ≡ 0 = sym c.size_outside.ensures ∙ c.if-size_outside-eq0.true in
-    let small = place_small c.args.link.now nv c.args.place.now c.args.end home elements b c.rows.place c.rows.next (map value c.rows.p)
-    (map value c.rows.p_inv) v (c.rows.invariant.passed home elements b) e
+    let small = place_small c.args.link.now nv c.args.place.now c.args.end home elements b c.rows.place c.rows.next (map pos c.rows.p)
+    (map pos c.rows.p_inv) v (c.rows.invariant.passed home elements b) e
     (c.element_of-e.ensures.home home (c.rows.invariant.led home b.led)) c.element_of-e.ensures.rows
     (apart nv v e none c.element_of-e.ensures.rows) c.rows-test.true in
     let is = c.take_place-k.ensures.is in let l = c.requires.lengths in let t = c.rows-test.true in
@@ -72,56 +72,56 @@ put_listed-requires-clause-inside g c =
 
 pub put_listed-requires-clause-fits : goal.put_listed-requires-clause-fits
 put_listed-requires-clause-fits g c =
-    let value = g.I.Number.value in let nv = c.args.nv.now in let v = c.rows.v in let e = c.element_of-e.result in
+    let nv = c.args.nv.now in let v = c.rows.v in let e = c.element_of-e.result in
     let home = c.requires.blocks.0 in let elements = c.requires.blocks.1 in let b = c.requires.blocks.2 in
     let none : size_of nv v ≡ 0 = sym c.size_outside.ensures ∙ c.if-size_outside-eq0.true in
-    let small = place_small c.args.link.now nv c.args.place.now c.args.end home elements b c.rows.place c.rows.next (map value c.rows.p)
-    (map value c.rows.p_inv) v (c.rows.invariant.passed home elements b) e
+    let small = place_small c.args.link.now nv c.args.place.now c.args.end home elements b c.rows.place c.rows.next (map pos c.rows.p)
+    (map pos c.rows.p_inv) v (c.rows.invariant.passed home elements b) e
     (c.element_of-e.ensures.home home (c.rows.invariant.led home b.led)) c.element_of-e.ensures.rows
     (apart nv v e none c.element_of-e.ensures.rows) c.rows-test.true in
     let is = c.take_place-k.ensures.is in
-    (c.requires.fits v c.rows-test.true, c.requires.fits c.take_place-k.result (omega (arith, small, is)))
+    let t = c.rows-test.true in let most = c.requires.narrow.1 in (omega (arith, t, most), omega (arith, small, is, most))
 
 pub put_listed-requires-else-names_one-clause-inside : goal.put_listed-requires-else-names_one-clause-inside
 put_listed-requires-else-names_one-clause-inside g c =
-    let value = g.I.Number.value in let nv = c.args.nv.now in let v = c.rows.v in
+    let nv = c.args.nv.now in let v = c.rows.v in
     let home = c.requires.blocks.0 in let elements = c.requires.blocks.1 in let b = c.requires.blocks.2 in
     let last = last_by (length nv) c.rows.link nv home (c.rows.invariant.led home b.led) v c.rows-test.true
     (sym c.size_outside.ensures ∙ c.if-size_outside-eq0.true) (sym c.names_one.ensures ∙ c.if-names_one.false) in
-    let small = next_small c.args.link.now nv c.args.place.now c.args.end home elements b c.rows.place c.rows.next (map value c.rows.p)
-    (map value c.rows.p_inv) v (c.rows.invariant.passed home elements b) last c.rows-test.true in
+    let small = next_small c.args.link.now nv c.args.place.now c.args.end home elements b c.rows.place c.rows.next (map pos c.rows.p)
+    (map pos c.rows.p_inv) v (c.rows.invariant.passed home elements b) last c.rows-test.true in
     let l = c.requires.lengths in let t = c.rows-test.true in let a = c.rows.auto.p in let d = c.rows.auto.p_inv in
     (omega (arith, t, l, d), omega (arith, small, l, a))
 
 pub put_listed-requires-else-names_one-clause-fits : goal.put_listed-requires-else-names_one-clause-fits
 put_listed-requires-else-names_one-clause-fits g c =
-    let value = g.I.Number.value in let nv = c.args.nv.now in let v = c.rows.v in
+    let nv = c.args.nv.now in let v = c.rows.v in
     let home = c.requires.blocks.0 in let elements = c.requires.blocks.1 in let b = c.requires.blocks.2 in
     let last = last_by (length nv) c.rows.link nv home (c.rows.invariant.led home b.led) v c.rows-test.true
     (sym c.size_outside.ensures ∙ c.if-size_outside-eq0.true) (sym c.names_one.ensures ∙ c.if-names_one.false) in
-    let small = next_small c.args.link.now nv c.args.place.now c.args.end home elements b c.rows.place c.rows.next (map value c.rows.p)
-    (map value c.rows.p_inv) v (c.rows.invariant.passed home elements b) last c.rows-test.true in
-    (c.requires.fits v c.rows-test.true, c.requires.fits c.rows.next small)
+    let small = next_small c.args.link.now nv c.args.place.now c.args.end home elements b c.rows.place c.rows.next (map pos c.rows.p)
+    (map pos c.rows.p_inv) v (c.rows.invariant.passed home elements b) last c.rows-test.true in
+    let t = c.rows-test.true in let most = c.requires.narrow.1 in (omega (arith, t, most), omega (arith, small, most))
 
 pub overflow_add-next : goal.overflow_add-next
 overflow_add-next g c =
-    let value = g.I.Number.value in let nv = c.args.nv.now in let v = c.rows.v in
+    let nv = c.args.nv.now in let v = c.rows.v in
     let home = c.requires.blocks.0 in let elements = c.requires.blocks.1 in let b = c.requires.blocks.2 in
     let last = last_by (length nv) c.rows.link nv home (c.rows.invariant.led home b.led) v c.rows-test.true
     (sym c.size_outside.ensures ∙ c.if-size_outside-eq0.true) (sym c.names_one.ensures ∙ c.if-names_one.false) in
-    let small = next_small c.args.link.now nv c.args.place.now c.args.end home elements b c.rows.place c.rows.next (map value c.rows.p)
-    (map value c.rows.p_inv) v (c.rows.invariant.passed home elements b) last c.rows-test.true in
+    let small = next_small c.args.link.now nv c.args.place.now c.args.end home elements b c.rows.place c.rows.next (map pos c.rows.p)
+    (map pos c.rows.p_inv) v (c.rows.invariant.passed home elements b) last c.rows-test.true in
     let most = c.requires.narrow.1 in let top = g.met.U.Unsigned.narrow in omega (arith, small, most, top)
 
 pub rows-preserved : goal.rows-preserved
 rows-preserved g c =
-    let value = g.I.Number.value in let i = c.rows.invariant in
+    let i = c.rows.invariant in
     let old = c.args.link.now in let nv = c.args.nv.now in let starts = c.args.place.now in let end = c.args.end in
     let n : ℕ = length nv in let v = c.rows.v in
     let link = c.rows.link in let place = c.rows.place in let next = c.rows.next in
-    let p : List ℤ = map value c.rows.p in let q : List ℤ = map value c.rows.p_inv in
+    let p : List ℤ = map pos c.rows.p in let q : List ℤ = map pos c.rows.p_inv in
     let small : v < n = c.rows-test.true in
-    let new_p : List ℤ = map value c.if-size_outside-eq0.p in let new_q : List ℤ = map value c.if-size_outside-eq0.p_inv in
+    let new_p : List ℤ = map pos c.if-size_outside-eq0.p in let new_q : List ℤ = map pos c.if-size_outside-eq0.p_inv in
     let room = c.requires.lengths in
     let p_long : length p ≡ n = (let a = c.rows.auto.p in let m : length p ≡ length c.rows.p = simp length-map in
     omega (arith, a, m, room)) in
@@ -141,8 +141,8 @@ rows-preserved g c =
                 passed_same nv starts end home elements (set place e (num place e + 1)) c.if-size_outside-eq0.place next
                 c.if-size_outside-eq0.next (set p (num place e) (pos v)) new_p (set q v (pos (num place e))) new_q (v + 1)
                 (w.place-is ∙ taken.next) w.next-is
-                (ap (map value) w.p-is ∙ w.put_listed.ensures.listed ∙ ap (λ k. set p k (pos v)) taken.is)
-                (ap (map value) w.p_inv-is ∙ w.put_listed.ensures.inverse ∙ ap (λ k. set q v (pos k)) taken.is)
+                (ap (map pos) w.p-is ∙ w.put_listed.ensures.listed ∙ ap (λ k. set p k (pos v)) taken.is)
+                (ap (map pos) w.p_inv-is ∙ w.put_listed.ensures.inverse ∙ ap (λ k. set q v (pos k)) taken.is)
                 (passed_other old nv starts end home elements b place next p q v (i.passed home elements b) e
                 (made.home home (i.led home b.led)) some (apart nv v e none some) small inside p_long q_long);
           })
@@ -154,8 +154,8 @@ rows-preserved g c =
             passed = λ home elements b.
                 passed_same nv starts end home elements place c.if-size_outside-eq0.place (next + 1) c.if-size_outside-eq0.next
                 (set p next (pos v)) new_p (set q v (pos next)) new_q (v + 1) w.place-is w.next-is
-                (ap (map value) w.p-is ∙ w.put_listed-else-names_one.ensures.listed)
-                (ap (map value) w.p_inv-is ∙ w.put_listed-else-names_one.ensures.inverse)
+                (ap (map pos) w.p-is ∙ w.put_listed-else-names_one.ensures.listed)
+                (ap (map pos) w.p_inv-is ∙ w.put_listed-else-names_one.ensures.inverse)
                 (passed_last old nv starts end home elements b place next p q v (i.passed home elements b)
                 (last_by n link nv home (i.led home b.led) v small none off) small p_long q_long);
           })
@@ -165,7 +165,7 @@ rows-preserved g c =
             led = λ home are. subst (λ l. LinksAre n l nv home) (sym w.link-is) (i.led home are);
             passed = λ home elements b.
                 passed_same nv starts end home elements place c.if-size_outside-eq0.place next c.if-size_outside-eq0.next p new_p q new_q
-                (v + 1) w.place-is w.next-is (ap (map value) w.p-is) (ap (map value) w.p_inv-is)
+                (v + 1) w.place-is w.next-is (ap (map pos) w.p-is) (ap (map pos) w.p_inv-is)
                 (passed_element old nv starts end home elements b place next p q v (i.passed home elements b) some);
           })
     ]

@@ -1,4 +1,4 @@
-use Rattle.std.proofs.Common.{ℕ, List, length, map}
+use Rattle.std.proofs.Common.{ℕ, List, length, map, pos}
 use Rattle.amd_model.specs.State.{Home}
 use Rattle.amd_listing.specs.Ended.{LinksAre}
 use Rattle.amd_listing.specs.Placing.{AreBlocks}
@@ -9,5 +9,5 @@ abbrev pub invariant-rows : goal.invariant-rows
 invariant-rows g l = record {
   led : (home : ℕ → Home) → LinksAre (length l.nv) l.fn.link l.nv home → LinksAre (length l.nv) l.link l.nv home;
   passed : (home : ℕ → Home) (elements : List ℕ) → AreBlocks l.fn.link l.nv l.fn.place l.end home elements →
-      Passed l.nv l.fn.place l.end home elements l.place l.next (map g.I.Number.value l.p) (map g.I.Number.value l.p_inv) l.v;
+      Passed l.nv l.fn.place l.end home elements l.place l.next (map pos l.p) (map pos l.p_inv) l.v;
 }

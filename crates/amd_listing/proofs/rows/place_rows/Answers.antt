@@ -23,28 +23,28 @@ module _ (link nv : List ℤ) (starts : List ℕ) (end : ℕ) (home : ℕ → Ho
 
 pub returns-clause-rows : goal.returns-clause-rows
 returns-clause-rows g c = λ home elements led listed begun over.
-    let value = g.I.Number.value in let l = c.requires.lengths in
+    let l = c.requires.lengths in
     let b : AreBlocks c.args.link.now c.args.nv.now c.args.starts.now c.args.end home elements =
     record { led = led; listed = listed; begun = begun; over = over } in
-    let p_long : length (map value c.place_others.new.p) ≡ length c.args.nv.now =
-    (let m : length (map value c.place_others.new.p) ≡ length c.place_others.new.p = simp length-map in
+    let p_long : length (map pos c.place_others.new.p) ≡ length c.args.nv.now =
+    (let m : length (map pos c.place_others.new.p) ≡ length c.place_others.new.p = simp length-map in
     let e = c.place_others.auto.p in omega (arith, m, e, l)) in
-    let q_long : length (map value c.place_others.new.p_inv) ≡ length c.args.nv.now =
-    (let m : length (map value c.place_others.new.p_inv) ≡ length c.place_others.new.p_inv = simp length-map in
+    let q_long : length (map pos c.place_others.new.p_inv) ≡ length c.args.nv.now =
+    (let m : length (map pos c.place_others.new.p_inv) ≡ length c.place_others.new.p_inv = simp length-map in
     let e = c.place_others.auto.p_inv in omega (arith, m, e, l)) in
-    rows_listed c.args.link.now c.args.nv.now c.args.starts.now c.args.end home elements b (map value c.place_others.new.p)
-    (map value c.place_others.new.p_inv) p_long q_long (c.place_others.ensures.placed home elements b)
+    rows_listed c.args.link.now c.args.nv.now c.args.starts.now c.args.end home elements b (map pos c.place_others.new.p)
+    (map pos c.place_others.new.p_inv) p_long q_long (c.place_others.ensures.placed home elements b)
 
 pub returns-clause-inverse : goal.returns-clause-inverse
 returns-clause-inverse g c =
-    let value = g.I.Number.value in let l = c.requires.lengths in let r = c.requires.blocks in
+    let l = c.requires.lengths in let r = c.requires.blocks in
     let b : AreBlocks c.args.link.now c.args.nv.now c.args.starts.now c.args.end r.0 r.1 =
     record { led = r.2; listed = r.3; begun = r.4; over = r.5 } in
-    let p_long : length (map value c.place_others.new.p) ≡ length c.args.nv.now =
-    (let m : length (map value c.place_others.new.p) ≡ length c.place_others.new.p = simp length-map in
+    let p_long : length (map pos c.place_others.new.p) ≡ length c.args.nv.now =
+    (let m : length (map pos c.place_others.new.p) ≡ length c.place_others.new.p = simp length-map in
     let e = c.place_others.auto.p in omega (arith, m, e, l)) in
-    let q_long : length (map value c.place_others.new.p_inv) ≡ length c.args.nv.now =
-    (let m : length (map value c.place_others.new.p_inv) ≡ length c.place_others.new.p_inv = simp length-map in
+    let q_long : length (map pos c.place_others.new.p_inv) ≡ length c.args.nv.now =
+    (let m : length (map pos c.place_others.new.p_inv) ≡ length c.place_others.new.p_inv = simp length-map in
     let e = c.place_others.auto.p_inv in omega (arith, m, e, l)) in
-    rows_inverse c.args.link.now c.args.nv.now c.args.starts.now c.args.end r.0 r.1 b (map value c.place_others.new.p)
-    (map value c.place_others.new.p_inv) p_long q_long (c.place_others.ensures.placed r.0 r.1 b)
+    rows_inverse c.args.link.now c.args.nv.now c.args.starts.now c.args.end r.0 r.1 b (map pos c.place_others.new.p)
+    (map pos c.place_others.new.p_inv) p_long q_long (c.place_others.ensures.placed r.0 r.1 b)
