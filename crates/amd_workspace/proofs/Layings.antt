@@ -169,16 +169,6 @@ module _ (g : Graph) (degrees : List ℕ) (pe : List ℤ) (next len : List ℕ) 
     | inr l ↦ (let a = (has_parts pe len j h).1 in let b = get_or_past len j 0 l in absurd (omega (arith, a, b)))
   ]
 
-  -- no list is there before the walk
-  pub lays_none : (most_word most_figure : ℕ) (iw : List ℤ) → AreRows g.size iw → start_of g g.size ≤ length iw → g.size ≤ most_word →
-      length iw ≤ most_figure → Lays g (λ a b. false) [] most_word most_figure next iw
-  lays_none most_word most_figure iw names fits rows places = record {
-    lists = lists_none g next (map place iw) (s.long ∙ counts.size) (let a = length-map iw place in omega (arith, a, fits)) first_at;
-    words = names;
-    rows = rows;
-    places = places;
-  }
-
   words_sum : (n : ℕ) → n ≤ g.size → live_words n pe len ≡ start_of g n
   unfolding sum_below start_of
   words_sum zero l = refl
@@ -223,16 +213,27 @@ module _ (g : Graph) (degrees : List ℕ) (pe : List ℤ) (next len : List ℕ) 
       room = room;
     }
 
-  module _ (arcs : List (ℕ × ℕ)) (most_word most_figure : ℕ) (ends : List ℕ) (iw : List ℤ)
-      (h : Lays g g.edge arcs most_word most_figure ends iw) where
-    pub walk_room : start_of g g.size ≤ length iw
-    walk_room = let a = h.lists.room in let b = length-map iw place in omega (arith, a, b)
+-- ---- the lists of a walk over all edges
 
-    -- the list of a row has the rows that its arcs lead to, in their order
-    pub laid_list : (i : ℕ) → i < g.size → list_in iw pe len i ≡ ends_of i arcs
-    laid_list i l =
-        let a = start_at i l in let c = count_at i l in let e = h.lists.ends i l in let b = start_later g i g.size l in let r = walk_room in
-        let m : get_or ends i 0 - start_of g i ≡ num len i = omega (arith, c, e) in
-        let fits : start_of g i + num len i ≤ length iw = omega (arith, b, c, r) in
-        ap (λ f. rows iw f (num len i)) a ∙ rows_slice iw (start_of g i) (num len i) fits
-        ∙ ap (λ k. take k (drop (start_of g i) (map place iw))) (sym m) ∙ h.lists.order i l
+-- no list is there before the walk
+pub lays_none : (g : Graph) (next : List ℕ) → length next ≡ g.size → ((i : ℕ) → i < g.size → get_or next i 0 ≡ start_of g i) →
+    (most_word most_figure : ℕ) (iw : List ℤ) → AreRows g.size iw → start_of g g.size ≤ length iw → g.size ≤ most_word →
+    length iw ≤ most_figure → Lays g (λ a b. false) [] most_word most_figure next iw
+lays_none g next long first most_word most_figure iw names fits rows places = record {
+  lists = lists_none g next (map place iw) long (let a = length-map iw place in omega (arith, a, fits)) first;
+  words = names;
+  rows = rows;
+  places = places;
+}
+
+-- afterwards the list of a row has the rows that its arcs lead to, in their order
+pub walked_list : (g : Graph) (degrees : List ℕ) → AreCounts g g.edge degrees → (arcs : List (ℕ × ℕ)) (most_word most_figure : ℕ)
+    (ends : List ℕ) (iw : List ℤ) → Lays g g.edge arcs most_word most_figure ends iw → (i : ℕ) → i < g.size →
+    rows iw (start_of g i) (num degrees i) ≡ ends_of i arcs
+walked_list g degrees counts arcs most_word most_figure ends iw h i l =
+    let c : num degrees i ≡ count_below g.size (g.edge i) = counts.each i l in
+    let e = h.lists.ends i l in let b = start_later g i g.size l in let a = h.lists.room in let r = length-map iw place in
+    let m : get_or ends i 0 - start_of g i ≡ num degrees i = omega (arith, c, e) in
+    let fits : start_of g i + num degrees i ≤ length iw = omega (arith, b, c, a, r) in
+    rows_slice iw (start_of g i) (num degrees i) fits
+    ∙ ap (λ k. take k (drop (start_of g i) (map place iw))) (sym m) ∙ h.lists.order i l

@@ -5,6 +5,8 @@ pub mod SymmetricLists
 pub mod SymmetricCounts
 pub mod Copied
 pub mod CopiedColumns
+pub mod LowerLists
+pub mod LowerWords
 pub mod Starts
 pub mod Begun
 pub mod AtStart

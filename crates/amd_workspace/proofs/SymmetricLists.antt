@@ -18,7 +18,7 @@ abbrev pub own : (ℕ → ℕ → Bool) → ℕ → ℕ → Bool
 own pair i x = not (eqb x i) && pair x i
 
 -- lists of one number more
-flat_push : {X : Type 0} (f : ℕ → List X) (n : ℕ) (p : ℕ → Bool) → flat_map f (list_below (suc n) p)
+pub flat_push : {X : Type 0} (f : ℕ → List X) (n : ℕ) (p : ℕ → Bool) → flat_map f (list_below (suc n) p)
     ≡ flat_map f (list_below n p) ++ cond (p n) (f n) []
 unfolding list_below
 flat_push f n p = flat_map-append f (list_below n p) (cond (p n) (n ∷ []) []) ∙
@@ -27,18 +27,18 @@ flat_push f n p = flat_map-append f (list_below n p) (cond (p n) (n ∷ []) []) 
       | inr h ↦ rw h refl
     ])
 
-flat_none : {X : Type 0} (f : ℕ → List X) (n : ℕ) (p : ℕ → Bool) → ((k : ℕ) → k < n → f k ≡ []) → flat_map f (list_below n p) ≡ []
+pub flat_none : {X : Type 0} (f : ℕ → List X) (n : ℕ) (p : ℕ → Bool) → ((k : ℕ) → k < n → f k ≡ []) → flat_map f (list_below n p) ≡ []
 unfolding list_below
 flat_none f zero p h = refl
 flat_none f (suc n) p h = flat_push f n p ∙ ap (λ ys. ys ++ cond (p n) (f n) []) (flat_none f n p (λ k l. h k (omega (arith, l))))
     ∙ elim (cases_Bool (p n)) [ inl e ↦ rw (e, h n (omega arith)) refl | inr e ↦ rw e refl ]
 
-flat_of_map : {X Y : Type 0} (f : X → List Y) (h : ℕ → List X) (xs : List ℕ) →
+pub flat_of_map : {X Y : Type 0} (f : X → List Y) (h : ℕ → List X) (xs : List ℕ) →
     flat_map f (flat_map h xs) ≡ flat_map (λ y. flat_map f (h y)) xs
 flat_of_map f h [] = refl
 flat_of_map f h (x ∷ xs) = flat_map-append f (h x) (flat_map h xs) ∙ ap (λ ys. flat_map f (h x) ++ ys) (flat_of_map f h xs)
 
-flat_same : {X : Type 0} (f h : ℕ → List X) (n : ℕ) (p : ℕ → Bool) → ((k : ℕ) → k < n → f k ≡ h k) →
+pub flat_same : {X : Type 0} (f h : ℕ → List X) (n : ℕ) (p : ℕ → Bool) → ((k : ℕ) → k < n → f k ≡ h k) →
     flat_map f (list_below n p) ≡ flat_map h (list_below n p)
 unfolding list_below
 flat_same f h zero p e = refl

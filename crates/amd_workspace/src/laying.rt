@@ -10,11 +10,14 @@ ghost use Rattle.amd_model.specs.Below.{sum_below};
 ghost use Rattle.amd_model.specs.Quotient.{starting_list};
 ghost use Rattle.amd_edges.specs.Visits.{AreCounts, start_of};
 ghost use Rattle.amd_places.specs.Layout.{list_in};
-ghost use Rattle.amd_places.specs.Words.{num};
+ghost use Rattle.amd_places.specs.Words.{num, rows};
+ghost use Rattle.amd_workspace.specs.Copying.{AreRows};
 ghost use Rattle.amd_workspace.specs.Laying.{IsLaidOut, Lays, Starts};
+ghost use Rattle.amd_workspace.specs.Lower.{list_start};
 
 use crate::copying::copy_symmetric;
 use crate::filling::words;
+use crate::lower::{has_long_lower, lower_lists};
 use amd_cells::{Figure, Signed, Unsigned, Word, figure_at, figure_of, put_figure, word_of};
 use amd_edges::walk::{Visitor, walk};
 use amd_places::words::put_row;
@@ -31,7 +34,12 @@ struct Words<S: Signed, U: Unsigned, A: Allocator> {
 }
 
 /// Writes a word behind the list of row `i`.
-fn append<S: Signed, U: Unsigned>(next: &mut [Figure<U>], iw: &mut [Word<S>], i: usize, j: usize)
+pub fn append<S: Signed, U: Unsigned>(
+    next: &mut [Figure<U>],
+    iw: &mut [Word<S>],
+    i: usize,
+    j: usize,
+)
     requires inside { (i < length next.old) × (num next.old i < length iw.old) }
     requires fits { (j ≤ S.MOST) × (length iw.old ≤ U.MOST) }
     ensures ends { next.new ≡ slice_set next.old i (num next.old i + 1) }
@@ -109,9 +117,55 @@ fn starts<S: Signed, U: Unsigned, A: Allocator>(
     total
 }
 
+/// Lays the lists of a pattern of `size` rows, one of any kind, in a workspace of `room` words. Those of a symmetric
+/// pattern are copied from its columns; those of any other one are written by a walk over the edges. Each number of
+/// `next` is where the list of its row starts, and `pointers` has room for a pointer of each column. The words behind
+/// the last list name rows.
+///
+/// # Errors
+///
+/// A refused request for memory.
+fn general_lists<I: PrimInt, S: Signed, U: Unsigned, A: Allocator>(
+    alloc: A,
+    size: usize,
+    a_p: &[I],
+    a_i: &[I],
+    degrees: &[usize],
+    room: usize,
+    next: Vec<Figure<U>, A>,
+    pointers: &mut Vec<usize, A>,
+) -> Result<Vec<Word<S>, A>, AllocError>
+    requires form { IsColumnForm (pos size) size (map I.value a_p.now) (map I.value a_i.now) }
+    requires sorted { IsSorted size (map I.value a_p.now) (map I.value a_i.now) }
+    requires some { 0 < size }
+    requires degrees { AreCounts (graph_of size (map I.value a_p.now) (map I.value a_i.now))
+        ((graph_of size (map I.value a_p.now) (map I.value a_i.now)).edge) degrees.now }
+    requires room { list_start size (map I.value a_p.now) (map I.value a_i.now) size < room }
+    requires fits { (size ≤ S.MOST) × (room ≤ U.MOST) }
+    requires long { length next.items ≡ size }
+    requires starts { (i : ℕ) → i < size →
+        num next.items i ≡ list_start size (map I.value a_p.now) (map I.value a_i.now) i }
+    requires empty { length pointers.old.items ≡ 0 }
+    requires wide { size ≤ vec_capacity pointers.old }
+    ensures long { IfOk result (λ v. length v.items ≡ room) }
+    ensures words { IfOk result (λ v. AreRows size v.items) }
+    ensures lists { IfOk result (λ v. (i : ℕ) → i < size →
+        rows v.items (list_start size (map I.value a_p.now) (map I.value a_i.now) i) (num degrees.now i) ≡
+        starting_list size (is_pair size (map I.value a_p.now) (map I.value a_i.now)) i) }
+{
+    // Each word names a row. It is not 0: a loop of stores is faster here than the `memset` that zeros would become.
+    let mut iw = words(alloc, room, (size - 1) as isize)?;
+    if copy_symmetric(size, a_p, a_i, degrees, &mut iw) {
+        return Ok(iw);
+    }
+    let mut list = Words { next, iw };
+    let _ = walk(size, a_p, a_i, pointers, &mut list);
+    Ok(list.iw)
+}
+
 /// Lays the lists of the neighbours of each of `size` rows, whose degrees are known, in a workspace of `room` words.
-/// Those of a symmetric pattern are copied from its columns; those of any other one are written by a walk over the
-/// edges. The words behind the last list name rows.
+/// Long ones of a pattern that has no entry above the diagonal are written row by row; for those of any other one see
+/// `general_lists`. The words behind the last list name rows.
 ///
 /// # Errors
 ///
@@ -144,17 +198,10 @@ pub fn lay<I: PrimInt, S: Signed, U: Unsigned, A: Allocator + Copy>(
     let mut next = Vec::with_capacity(alloc, size)?;
     let free = starts(&mut pe, &mut next, &mut len, degrees);
     let mut pointers = Vec::with_capacity(alloc, size)?;
-    // Each word names a row. It is not 0: a loop of stores is faster here than the `memset` that zeros would become.
-    let mut iw = words(alloc, room, (size - 1) as isize)?;
-    if copy_symmetric(size, a_p, a_i, degrees, &mut iw) {
-        return Ok(Laid { pe, len, iw, free });
-    }
-    let mut list = Words { next, iw };
-    let _ = walk(size, a_p, a_i, &mut pointers, &mut list);
-    Ok(Laid {
-        pe,
-        len,
-        iw: list.iw,
-        free,
-    })
+    let iw = if has_long_lower(size, a_p, a_i, free) {
+        lower_lists(alloc, size, a_p, a_i, degrees, room, &mut next)?
+    } else {
+        general_lists(alloc, size, a_p, a_i, degrees, room, next, &mut pointers)?
+    };
+    Ok(Laid { pe, len, iw, free })
 }

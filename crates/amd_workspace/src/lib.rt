@@ -6,4 +6,5 @@ pub mod copying;
 pub mod ending;
 pub mod filling;
 pub mod laying;
+pub mod lower;
 pub mod starting;

@@ -1,0 +1,555 @@
+-- The words of the lists of a pattern without an entry above the diagonal.
+use Rattle.std.proofs.Common.{◌≡◌, ◌≢◌, ◌<◌, ◌≤◌, ◌+◌, ◌-◌, inl, inr, ℕ, ℤ, zero, suc, Bool, true, false, List, [], ◌∷◌, ◌++◌, pos}
+use Rattle.std.proofs.Common.{arith, refl, ap, sym, ◌∙◌, subst, cond, ltb, ◌&&◌, length, get_or, set, take, drop, append_assoc}
+use Rattle.std.proofs.Common.{get_or-set_same, get_or-set_other, le_refl, map, length-drop, length-take-le, negsuc, unsigned_abs}
+use Rattle.std.specs.Prelude.{slice_range}
+use Rattle.std.proofs.lemmas.Bool.{and_parts, and_from, cases_Bool, cases_eq, cases_lt, lt-ltb, ltb-true, eq-eqb, ne_eqb}
+use Rattle.std.proofs.lemmas.Bool.{false_from_ne_true, not-true, not_from_false, false≢true}
+use Rattle.std.proofs.lemmas.List.{append-nil, length-append, length-set, get_or_append_left, get_or_push, at_drop_more}
+use Rattle.std.proofs.lemmas.List.{get_or-drop, take_more, take_all, get_or-map, get_or_past, get_or-replicate, length-replicate}
+use Rattle.std.proofs.lemmas.List.{get_or-append-add, get_or-append_right, length-map}
+use Rattle.std.specs.Cmp.{both_ways}
+use Rattle.std.specs.Prelude.{replicate}
+use Rattle.amd_views.proofs.Lists.Rising.{list_yes, list_no}
+use Rattle.amd_model.specs.Below.{list_below, count_below}
+use Rattle.amd_model.specs.Input.Columns.{IsColumnForm, IsSorted}
+use Rattle.amd_model.specs.Input.Pattern.{graph_of, is_pair}
+use Rattle.amd_model.specs.Quotient.{starting_list}
+use Rattle.amd_model.proofs.Counting.Below.{clash}
+use Rattle.amd_numbers.specs.Counts.{counts, is_entry}
+use Rattle.amd_edges.specs.Visits.{AreCounts}
+use Rattle.amd_edges.proofs.Forms.{IsSortedForm, same_pair, sorted_form}
+use Rattle.amd_edges.proofs.Listing.{start_later}
+use Rattle.amd_edges.proofs.Orders.{list_gap}
+use Rattle.amd_edges.proofs.Places.{entry_from, entry_gives}
+use Rattle.amd_edges.proofs.Reading.{IsReading, reading_next}
+use Rattle.amd_places.specs.Words.{num, is_place, place, word, rows}
+use Rattle.amd_places.proofs.RowLists.{rows_none, rows_more, rows_same, rows_length, rows_both}
+use Rattle.amd_workspace.specs.Copying.{is_other, AreRows}
+use Rattle.amd_workspace.specs.Lower.{IsLower, is_earlier, earlier_of, own_of, list_start, HoldsOwn, Spreads, earlier_below, HasColumns}
+use Rattle.amd_workspace.proofs.Copied.{others_more, others_end, row_small, same_other}
+use Rattle.amd_workspace.proofs.Layings.{row_word, words_next}
+use Rattle.amd_workspace.proofs.LowerLists.{IsNth, nth_below, nth_once, length_more, length_grows, lower_list, lower_count}
+use Rattle.amd_workspace.proofs.SymmetricCounts.{next_start}
+use Rattle.amd_workspace.proofs.SymmetricLists.{own}
+
+-- ---- a column below the diagonal is a stretch of the row indices
+
+module _ (n : ℕ) (ap' ai : List ℕ) (form : IsSortedForm n ap' ai) (i stop : ℕ) (i_in : i < n) (stop_is : stop ≡ get_or ap' (i + 1) 0) where
+  own_rest : (d m p : ℕ) → stop ≡ p + d → i < m → IsReading ai (get_or ap' i 0) stop n m p →
+      list_below n (own (is_entry n ap' ai) i) ≡ list_below m (own (is_entry n ap' ai) i) ++ take d (drop p ai)
+  own_rest zero m p e above so = others_end n ap' ai form i stop m p i_in stop_is so (omega (arith, e)) ∙ sym (append-nil _)
+  own_rest (suc d) m p e above so =
+      let inside : p < stop = omega (arith, e) in
+      let row = get_or ai p 0 in let least : m ≤ row = so.left p (omega arith) inside in
+      let small = row_small n ap' ai form i stop m p i_in stop_is so row refl inside in
+      let next = reading_next n ap' ai form i (get_or ap' i 0) stop n m p row i_in (le_refl (get_or ap' i 0)) stop_is so refl inside small
+      in
+      let more = others_more n ap' ai form i stop m p i_in stop_is so row refl inside (λ w. omega (arith, w, least, above)) in
+      let within = form.within i i_in in
+      own_rest d (row + 1) (p + 1) (omega (arith, e)) (omega (arith, least, above)) next
+      ∙ ap (λ xs. xs ++ take d (drop (p + 1) ai)) more
+      ∙ append_assoc (list_below m (own (is_entry n ap' ai) i)) (row ∷ []) (take d (drop (p + 1) ai))
+      ∙ ap (λ ys. list_below m (own (is_entry n ap' ai) i) ++ ys)
+      (sym (at_drop_more (take (suc d)) ai p 0 (omega (arith, inside, within, stop_is))))
+
+  module _ (lower : (a b : ℕ) → is_entry n ap' ai a b ≡ true → b ≤ a) where
+    own_none : list_below (i + 1) (own (is_entry n ap' ai) i) ≡ []
+    unfolding list_below
+    own_none = list_gap (own (is_entry n ap' ai) i) 0 (i + 1) (omega arith) (λ x a l. false_from_ne_true _ (λ e.
+        let p = and_parts _ _ e in let v = lower x i p.1 in clash {P = ⊥} (eq-eqb x i (omega (arith, v, l))) (not-true _ p.0)))
+
+    pub own_from : (p : ℕ) → IsReading ai (get_or ap' i 0) stop n (i + 1) p →
+        list_below n (own (is_entry n ap' ai) i) ≡ take (stop - p) (drop p ai)
+    own_from p so = let to = so.to in own_rest (stop - p) (i + 1) p (omega (arith, to)) (omega arith) so
+        ∙ ap (λ xs. xs ++ take (stop - p) (drop p ai)) own_none
+
+    -- the first row is below the diagonal, or on it, or there is none
+    module _ (first : ℕ) (first_is : first ≡ get_or ap' i 0) where
+      pub reading_none : first ≡ stop → IsReading ai (get_or ap' i 0) stop n (i + 1) first
+      reading_none e = record {
+        from = omega (arith, first_is);
+        to = omega (arith, e);
+        read = λ r x y. absurd (omega (arith, x, y, first_is));
+        left = λ r x y. absurd (omega (arith, x, y, e));
+        low = omega (arith, i_in);
+      }
+
+      module _ (inside : first < stop) where
+        later : (r : ℕ) → first < r → r < stop → get_or ai first 0 < get_or ai r 0
+        later r x y = form.ascend i first r i_in (omega (arith, first_is)) x (omega (arith, y, stop_is))
+
+        pub reading_on : get_or ai first 0 ≡ i → IsReading ai (get_or ap' i 0) stop n (i + 1) (first + 1)
+        reading_on e = record {
+          from = omega (arith, first_is);
+          to = omega (arith, inside);
+          read = λ r x y. (let w : r ≡ first = omega (arith, x, y, first_is) in let v = ap (λ z. get_or ai z 0) w in omega (arith, v, e));
+          left = λ r x y. (let w = later r (omega (arith, x)) y in omega (arith, w, e));
+          low = omega (arith, i_in);
+        }
+
+        pub reading_below : get_or ai first 0 ≢ i → IsReading ai (get_or ap' i 0) stop n (i + 1) first
+        reading_below ne = record {
+          from = omega (arith, first_is);
+          to = omega (arith, inside);
+          read = λ r x y. absurd (omega (arith, x, y, first_is));
+          left = λ r x y. (let low = lower (get_or ai first 0) i (entry_from ap' ai n (get_or ai first 0) i first i_in
+              (omega (arith, first_is)) (omega (arith, inside, stop_is)) refl) in elim (cases_eq first r) [
+                | inl e ↦ (let v = ap (λ z. get_or ai z 0) e in omega (arith, v, low, ne))
+                | inr other ↦ (let w = later r (omega (arith, x, other)) y in omega (arith, w, low))
+              ]);
+          low = omega (arith, i_in);
+        }
+
+-- the rows of a column are low where its first one is
+module _ (n : ℕ) (ap' ai : List ℤ) (form : IsColumnForm (pos n) n ap' ai) (j : ℕ) (j_in : j < n) where
+  pub none_low : get_or (counts ap') j 0 ≡ get_or (counts ap') (j + 1) 0 → (i : ℕ) → is_pair n ap' ai i j ≡ true → j ≤ i
+  none_low same i e = let r = entry_gives (counts ap') (counts ai) n i j (sym (same_pair n ap' ai form i j) ∙ e) in
+      let a = r.2 in let b = r.3 in absurd (omega (arith, a, b, same))
+
+  module _ (sorted : IsSorted n ap' ai) where
+    rise : IsSortedForm n (counts ap') (counts ai)
+    rise = sorted_form n ap' ai form sorted
+
+    -- the first place that is not the end is before it
+    pub first_before : (first stop : ℕ) → first ≡ get_or (counts ap') j 0 → stop ≡ get_or (counts ap') (j + 1) 0 → first ≢ stop →
+        first < stop
+    first_before first stop a b ne = let w = rise.rising j j_in in omega (arith, a, b, ne, w)
+
+    pub all_low : (first stop : ℕ) → first ≡ get_or (counts ap') j 0 → stop ≡ get_or (counts ap') (j + 1) 0 → first < stop →
+        j ≤ get_or (counts ai) first 0 → (i : ℕ) → is_pair n ap' ai i j ≡ true → j ≤ i
+    all_low first stop a b inside low i e =
+        let r = entry_gives (counts ap') (counts ai) n i j (sym (same_pair n ap' ai form i j) ∙ e) in
+        let x = r.2 in let y = r.3 in let z = r.4 in elim (cases_eq first r.0) [
+          | inl same ↦ (let w = ap (λ q. get_or (counts ai) q 0) same in omega (arith, w, z, low))
+          | inr ne ↦ (let w = rise.ascend j first r.0 j_in (omega (arith, a)) (omega (arith, x, a, ne)) y in omega (arith, w, z, low))
+        ]
+
+    pub low_first : (first stop : ℕ) → first ≡ get_or (counts ap') j 0 → stop ≡ get_or (counts ap') (j + 1) 0 → first < stop →
+        ((i : ℕ) → is_pair n ap' ai i j ≡ true → j ≤ i) → j ≤ get_or (counts ai) first 0
+    low_first first stop a b inside h = h (get_or (counts ai) first 0) (same_pair n ap' ai form (get_or (counts ai) first 0) j
+        ∙ entry_from (counts ap') (counts ai) n (get_or (counts ai) first 0) j first j_in (omega (arith, a))
+        (omega (arith, inside, b)) refl)
+
+    module _ (lower : IsLower n ap' ai) where
+      low_entry : (a b : ℕ) → is_entry n (counts ap') (counts ai) a b ≡ true → b ≤ a
+      low_entry a b e = lower a b (same_pair n ap' ai form a b ∙ e)
+
+      -- the own column is the stretch behind the diagonal
+      pub own_slice : (p : ℕ) → IsReading (counts ai) (get_or (counts ap') j 0) (get_or (counts ap') (j + 1) 0) n (j + 1) p →
+          own_of n ap' ai j ≡ slice_range (counts ai) p (get_or (counts ap') (j + 1) 0)
+      own_slice p so = ap (list_below n) (same_other n ap' ai form j)
+          ∙ own_from n (counts ap') (counts ai) rise j (get_or (counts ap') (j + 1) 0) j_in refl low_entry p so
+
+      module _ (first stop : ℕ) (first_is : first ≡ get_or (counts ap') j 0) (stop_is : stop ≡ get_or (counts ap') (j + 1) 0) where
+        pub slice_none : first ≡ stop → own_of n ap' ai j ≡ slice_range (counts ai) first (get_or (counts ap') (j + 1) 0)
+        slice_none e = own_slice first (reading_none n (counts ap') (counts ai) rise j (get_or (counts ap') (j + 1) 0) j_in refl low_entry
+            first first_is (e ∙ stop_is))
+
+        module _ (ne : first ≢ stop) where
+          inside : first < get_or (counts ap') (j + 1) 0
+          inside = let a = first_before first stop first_is stop_is ne in omega (arith, a, stop_is)
+
+          pub slice_on : get_or (counts ai) first 0 ≡ j →
+              own_of n ap' ai j ≡ slice_range (counts ai) (first + 1) (get_or (counts ap') (j + 1) 0)
+          slice_on e = own_slice (first + 1) (reading_on n (counts ap') (counts ai) rise j (get_or (counts ap') (j + 1) 0) j_in refl
+              low_entry first first_is inside e)
+
+          pub slice_below : get_or (counts ai) first 0 ≢ j →
+              own_of n ap' ai j ≡ slice_range (counts ai) first (get_or (counts ap') (j + 1) 0)
+          slice_below e = own_slice first (reading_below n (counts ap') (counts ai) rise j (get_or (counts ap') (j + 1) 0) j_in refl
+              low_entry first first_is inside e)
+
+      -- its length
+      pub slice_long : (p : ℕ) → own_of n ap' ai j ≡ slice_range (counts ai) p (get_or (counts ap') (j + 1) 0) →
+          length (own_of n ap' ai j) ≡ get_or (counts ap') (j + 1) 0 - p
+      slice_long p e = let within = rise.within j j_in in let size = length-drop p (counts ai) in
+          ap length e ∙ length-take-le (get_or (counts ap') (j + 1) 0 - p) (drop p (counts ai)) (omega (arith, within, size))
+
+module _ (n : ℕ) (ap' ai : List ℕ) (form : IsSortedForm n ap' ai) (j first stop p row : ℕ) (j_in : j < n) (from : get_or ap' j 0 ≤ first)
+    (low : first ≤ p) (inside : p < stop) (stop_is : stop ≡ get_or ap' (j + 1) 0) (is : row ≡ get_or ai p 0) where
+  pub column_row : row < n
+  column_row = let w = form.rows j p j_in (omega (arith, from, low)) (omega (arith, inside, stop_is)) in omega (arith, w, is)
+
+  -- one row more
+  pub stretch_push : map pos (take (p - first) (drop first ai)) ++ pos row ∷ [] ≡ map pos (take (p + 1 - first) (drop first ai))
+  stretch_push =
+      let d : p + 1 - first ≡ p - first + 1 = omega (arith, low) in let at : first + (p - first) ≡ p = omega (arith, low) in
+      let within = form.within j j_in in let size = length-drop first ai in
+      let long : p - first < length (drop first ai) = omega (arith, low, inside, stop_is, within, size) in
+      let last : get_or (drop first ai) (p - first) 0 ≡ row = get_or-drop first ai (p - first) 0 ∙ ap (λ k. get_or ai k 0) at ∙ sym is in
+      words_next (map pos (take (p - first) (drop first ai))) (take (p - first) (drop first ai)) row refl
+      ∙ ap (map pos) (ap (λ x. take (p - first) (drop first ai) ++ x ∷ []) (sym last) ∙ sym (take_more (drop first ai) (p - first) 0 long)
+      ∙ ap (λ k. take k (drop first ai)) (sym d))
+
+-- ---- the lists
+
+rows_nth : (iw : List ℤ) (from count k : ℕ) → k < count → get_or (rows iw from count) k 0 ≡ place (word iw (from + k))
+unfolding rows
+rows_nth iw from zero k l = absurd (omega (arith, l))
+rows_nth iw from (suc n) k l = let long = rows_length iw from n in elim (cases_lt k n) [
+  | inl a ↦ get_or_append_left (rows iw from n) (place (word iw (from + n)) ∷ []) 0 k (omega (arith, a, long)) ∙ rows_nth iw from n k a
+  | inr a ↦ (let e : n ≡ k = omega (arith, a, l) in get_or_push (rows iw from n) (place (word iw (from + n))) 0 k (long ∙ e)
+      ∙ ap (λ m. place (word iw (from + m))) e)
+]
+
+-- a word that is a row is no mark
+pub plain_word : (z : ℤ) → is_place z ≡ true → z ≡ pos (unsigned_abs z)
+unfolding is_place
+plain_word (pos k) e = refl
+plain_word (negsuc k) e = absurd (false≢true e)
+
+-- words that are rows
+replicate_rows : (n j count : ℕ) → j < n → AreRows n (replicate count (pos j))
+replicate_rows n j count j_in k = elim (cases_lt k count) [
+  | inl l ↦ row_word n _ j (get_or-replicate count k (pos j) (pos 0) l) j_in
+  | inr l ↦ row_word n _ 0 (get_or_past (replicate count (pos j)) k (pos 0)
+      (let size = length-replicate count (pos j) in omega (arith, size, l))) (omega (arith, j_in))
+]
+
+column_rows : (n : ℕ) (p : ℕ → Bool) → 0 < n → AreRows n (map pos (list_below n p))
+column_rows n p some k = elim (cases_lt k (length (list_below n p))) [
+  | inl l ↦ row_word n _ (get_or (list_below n p) k 0) (get_or-map pos (list_below n p) k 0 (pos 0) l) (nth_below n p k l).small
+  | inr l ↦ row_word n _ 0 (get_or_past (map pos (list_below n p)) k (pos 0)
+      (let size = length-map (list_below n p) pos in omega (arith, size, l))) some
+]
+
+-- rows that stand behind other words
+rows_behind_part : (xs : List ℤ) (ys : List ℕ) (count : ℕ) → count ≤ length ys → rows (xs ++ map pos ys) (length xs) count ≡ take count ys
+unfolding rows place
+rows_behind_part xs ys zero l = refl
+rows_behind_part xs ys (suc c) l =
+    let e : suc c ≡ c + 1 = omega arith in
+    let here : place (word (xs ++ map pos ys) (length xs + c)) ≡ get_or ys c 0 = ap place (get_or-append-add xs (map pos ys) c (pos 0)
+    ∙ get_or-map pos ys c 0 (pos 0) (omega (arith, l))) in
+    ap (λ zs. zs ++ place (word (xs ++ map pos ys) (length xs + c)) ∷ []) (rows_behind_part xs ys c (omega (arith, l)))
+    ∙ ap (λ z. take c ys ++ z ∷ []) here ∙ sym (take_more ys c 0 (omega (arith, l))) ∙ ap (λ k. take k ys) (sym e)
+
+rows_behind : (xs : List ℤ) (ys : List ℕ) → rows (xs ++ map pos ys) (length xs) (length ys) ≡ ys
+rows_behind xs ys = rows_behind_part xs ys (length ys) (omega arith) ∙ take_all (length ys) ys (omega arith)
+
+-- row j is written behind the earlier neighbours of the first k rows of its own column
+abbrev pub partly : ℕ → List ℤ → List ℤ → ℕ → ℕ → ℕ → List ℕ
+partly n ap' ai j k a = earlier_below n ap' ai j a
+    ++ cond (ltb (length (list_below a (is_other n ap' ai j))) k && is_other n ap' ai j a) (j ∷ []) []
+
+module _ (n : ℕ) (ap' ai : List ℤ) (lower : IsLower n ap' ai) where
+  pub degree_parts : (i : ℕ) → i < n → count_below n ((graph_of n ap' ai).edge i) ≡
+      length (earlier_of n ap' ai i) + length (own_of n ap' ai i)
+  unfolding graph_of is_other is_earlier
+  degree_parts i l = lower_count n (is_pair n ap' ai) lower i l
+
+  pub lower_starting : (i : ℕ) → i < n → starting_list n (is_pair n ap' ai) i ≡ earlier_of n ap' ai i ++ own_of n ap' ai i
+  unfolding is_other is_earlier
+  lower_starting i l = lower_list n (is_pair n ap' ai) lower i l
+
+  pub next_list : (i : ℕ) → i < n → list_start n ap' ai (i + 1) ≡
+      list_start n ap' ai i + length (earlier_of n ap' ai i) + length (own_of n ap' ai i)
+  next_list i l = let a = next_start n ap' ai i in let b = degree_parts i l in omega (arith, a, b)
+
+  pub later_list : (i j : ℕ) → i < j → j ≤ n → list_start n ap' ai i + length (earlier_of n ap' ai i) + length (own_of n ap' ai i)
+      ≤ list_start n ap' ai j
+  unfolding graph_of
+  later_list i j l m = let a = start_later (graph_of n ap' ai) i j l in let b = degree_parts i (omega (arith, l, m)) in omega (arith, a, b)
+
+  pub spreads_same : (early early' : ℕ → List ℕ) (next : List ℕ) (iw : List ℤ) → ((a : ℕ) → a < n → early' a ≡ early a) →
+      Spreads n ap' ai early next iw → Spreads n ap' ai early' next iw
+  spreads_same early early' next iw same h = record {
+    held = h.held;
+    long = h.long;
+    ends = λ i l. h.ends i l ∙ ap (λ xs. list_start n ap' ai i + length xs) (sym (same i l));
+    first = λ i l. subst (λ xs. rows iw (list_start n ap' ai i) (length xs) ≡ xs) (sym (same i l)) (h.first i l);
+  }
+
+  -- one earlier neighbour more
+  module _ (early early' : ℕ → List ℕ) (next : List ℕ) (iw : List ℤ) (i j : ℕ) (h : Spreads n ap' ai early next iw) (i_in : i < n)
+      (j_in : j < n) (fits : list_start n ap' ai n ≤ length iw) (few : length (early i) < length (earlier_of n ap' ai i))
+      (most : (a : ℕ) → a < n → length (early a) ≤ length (earlier_of n ap' ai a))
+      (here : early' i ≡ early i ++ j ∷ []) (there : (a : ℕ) → a < n → a ≢ i → early' a ≡ early a) where
+    v : ℕ
+    v = num next i
+
+    v_is : v ≡ list_start n ap' ai i + length (early i)
+    unfolding v
+    v_is = h.ends i i_in
+
+    pub v_inside : num next i < length iw
+    v_inside = let a = h.ends i i_in in let b = later_list i n i_in (omega arith) in omega (arith, a, b, few, fits)
+
+    new : List ℤ
+    new = set iw (num next i) (pos j)
+
+    still : (k : ℕ) → k ≢ num next i → word new k ≡ word iw k
+    unfolding new
+    still k ne = get_or-set_other iw (num next i) k (pos j) (pos 0) ne
+
+    now : word new (num next i) ≡ pos j
+    unfolding new
+    now = get_or-set_same iw (num next i) (pos j) (pos 0) v_inside
+
+    names : AreRows n new
+    names k = elim (cases_eq k (num next i)) [
+      | inl e ↦ row_word n _ j (ap (word new) e ∙ now) j_in
+      | inr ne ↦ rw (still k ne) (h.held.words k)
+    ]
+
+    own_kept : (a : ℕ) → a < n → rows new (list_start n ap' ai a + length (earlier_of n ap' ai a)) (length (own_of n ap' ai a))
+        ≡ own_of n ap' ai a
+    own_kept a l = rows_same iw new _ _ (length (own_of n ap' ai a)) (λ k x. still _ (λ w. let e = h.ends i i_in in elim (cases_lt a i) [
+      | inl y ↦ (let z = later_list a i y (omega (arith, i_in)) in omega (arith, z, w, e, x))
+      | inr y ↦ elim (cases_eq a i) [
+        | inl s ↦ (let f = ap (list_start n ap' ai) s in let g = ap (λ t. length (earlier_of n ap' ai t)) s in
+            omega (arith, w, e, f, g, few))
+        | inr ne ↦ (let z = later_list i a (omega (arith, y, ne)) (omega (arith, l)) in omega (arith, z, w, e, few))
+      ]
+    ])) ∙ h.held.own a l
+
+    first_kept : (a : ℕ) → a < n → a ≢ i → rows new (list_start n ap' ai a) (length (early a)) ≡ early a
+    first_kept a l ne = rows_same iw new _ _ (length (early a)) (λ k x. still _ (λ w. let e = h.ends i i_in in let t = most a l in
+        elim (cases_lt a i) [
+          | inl y ↦ (let z = later_list a i y (omega (arith, i_in)) in omega (arith, z, w, e, x, t))
+          | inr y ↦ (let z = later_list i a (omega (arith, y, ne)) (omega (arith, l)) in omega (arith, z, w, e, few))
+        ])) ∙ h.first a l
+
+    before_kept : rows new (list_start n ap' ai i) (length (early i)) ≡ early i
+    before_kept = rows_same iw new _ _ (length (early i)) (λ k x. still _ (λ w. let e = h.ends i i_in in omega (arith, e, w, x)))
+        ∙ h.first i i_in
+
+    long_here : length (early' i) ≡ length (early i) + 1
+    long_here = ap length here ∙ length-append (early i) (j ∷ [])
+
+    first_here : rows new (list_start n ap' ai i) (length (early' i)) ≡ early' i
+    unfolding place
+    first_here = ap (rows new (list_start n ap' ai i)) long_here ∙ rows_more new (list_start n ap' ai i) (length (early i))
+        ∙ ap (λ xs. xs ++ place (word new (list_start n ap' ai i + length (early i))) ∷ []) before_kept
+        ∙ ap (λ x. early i ++ x ∷ []) (ap (λ k. place (word new k)) (sym (h.ends i i_in)) ∙ ap place now) ∙ sym here
+
+    pub spreads_more : Spreads n ap' ai early' (set next i (num next i + 1)) (set iw (num next i) (pos j))
+    unfolding new
+    spreads_more = record {
+      held = record { words = names; own = own_kept };
+      long = length-set next i (num next i + 1) ∙ h.long;
+      ends = λ a l. elim (cases_eq a i) [
+        | inl e ↦ subst (λ x. num (set next i (num next i + 1)) x ≡ list_start n ap' ai x + length (early' x)) (sym e)
+            (get_or-set_same next i (num next i + 1) 0 (let s = h.long in omega (arith, s, i_in))
+            ∙ (let t = h.ends i i_in in omega (arith, t, long_here)))
+        | inr ne ↦ get_or-set_other next i a (num next i + 1) 0 ne ∙ h.ends a l
+            ∙ ap (λ xs. list_start n ap' ai a + length xs) (sym (there a l ne))
+      ];
+      first = λ a l. elim (cases_eq a i) [
+        | inl e ↦ subst (λ x. rows (set iw (num next i) (pos j)) (list_start n ap' ai x) (length (early' x)) ≡ early' x) (sym e) first_here
+        | inr ne ↦ subst (λ xs. rows (set iw (num next i) (pos j)) (list_start n ap' ai a) (length xs) ≡ xs) (sym (there a l ne))
+            (first_kept a l ne)
+      ];
+    }
+
+  -- ---- the rows of one column
+
+  module _ (j : ℕ) (j_in : j < n) where
+    q : ℕ → Bool
+    q = is_other n ap' ai j
+
+    other_early : (a : ℕ) → is_other n ap' ai j a ≡ true → is_earlier n ap' ai a j ≡ true
+    unfolding is_other is_earlier
+    other_early a e = let p = and_parts _ _ e in let v = lower a j p.1 in elim (cases_eq a j) [
+      | inl w ↦ clash (eq-eqb a j w) (not-true _ p.0)
+      | inr ne ↦ and_from _ _ (lt-ltb j a (omega (arith, v, ne))) p.1
+    ]
+
+    early_other : (a : ℕ) → is_earlier n ap' ai a j ≡ true → is_other n ap' ai j a ≡ true
+    unfolding is_other is_earlier
+    early_other a e = let p = and_parts _ _ e in let v = ltb-true j a p.0 in
+        and_from _ _ (not_from_false _ (ne_eqb a j (λ w. omega (arith, v, w)))) p.1
+
+    none_before : (x : ℕ) → ltb x 0 ≡ false
+    none_before x = false_from_ne_true (ltb x 0) (λ w. let v = ltb-true x 0 w in omega (arith, v))
+
+    pub partly_start : (a : ℕ) → partly n ap' ai j 0 a ≡ earlier_below n ap' ai j a
+    partly_start a = rw (none_before (length (list_below a (is_other n ap' ai j)))) (append-nil (earlier_below n ap' ai j a))
+
+    and_none : (b : Bool) → (b && false) ≡ false
+    and_none true = refl
+    and_none false = refl
+
+    -- a row that is not in the column
+    partly_none : (k a : ℕ) → is_other n ap' ai j a ≡ false → partly n ap' ai j k a ≡ earlier_below n ap' ai j a
+    partly_none k a e = rw (e, and_none (ltb (length (list_below a (is_other n ap' ai j))) k)) (append-nil (earlier_below n ap' ai j a))
+
+    pub partly_end : (k : ℕ) → length (own_of n ap' ai j) ≤ k → (a : ℕ) → a < n → earlier_below n ap' ai (j + 1) a ≡ partly n ap' ai j k a
+    partly_end k all a l = elim (cases_Bool (is_other n ap' ai j a)) [
+      | inl e ↦ (let w = length_grows n a (is_other n ap' ai j) l e in
+          rw (e, lt-ltb (length (list_below a (is_other n ap' ai j))) k (omega (arith, w, all)))
+          (list_yes (is_earlier n ap' ai a) j (other_early a e)))
+      | inr e ↦ list_no (is_earlier n ap' ai a) j (false_from_ne_true _ (λ w. clash (early_other a w) e)) ∙ sym (partly_none k a e)
+    ]
+
+    pub partly_most : (k a : ℕ) → a < n → length (partly n ap' ai j k a) ≤ length (earlier_of n ap' ai a)
+    partly_most k a l = elim (cases_Bool (is_other n ap' ai j a)) [
+      | inl e ↦ (let w = length_grows n j (is_earlier n ap' ai a) j_in (other_early a e) in
+          let one = at_most (ltb (length (list_below a (is_other n ap' ai j))) k && is_other n ap' ai j a) in
+          let long = length-append (earlier_below n ap' ai j a)
+          (cond (ltb (length (list_below a (is_other n ap' ai j))) k && is_other n ap' ai j a) (j ∷ []) []) in omega (arith, w, one, long))
+      | inr e ↦ (let w = length_more n j (is_earlier n ap' ai a) (omega (arith, j_in)) in let s = ap length (partly_none k a e) in
+          omega (arith, w, s))
+    ]
+      where
+        at_most : (b : Bool) → length (cond b (j ∷ []) []) ≤ 1
+        at_most true = omega arith
+        at_most false = omega arith
+
+    -- its own earlier neighbours are all there
+    pub early_all : earlier_of n ap' ai j ≡ earlier_below n ap' ai j j
+    unfolding is_earlier
+    early_all = list_gap (is_earlier n ap' ai j) j n (omega (arith, j_in)) (λ x low high. false_from_ne_true _ (λ e.
+        let v = ltb-true x j (and_parts _ _ e).0 in omega (arith, v, low)))
+
+    module _ (k i from : ℕ) (next : List ℕ) (iw : List ℤ) (fits : list_start n ap' ai n ≤ length iw)
+        (h : Spreads n ap' ai (partly n ap' ai j k) next iw) (k_in : k < length (own_of n ap' ai j))
+        (from_is : from ≡ list_start n ap' ai j + length (earlier_of n ap' ai j)) (is : word iw (from + k) ≡ pos i) where
+      row_is : i ≡ get_or (own_of n ap' ai j) k 0
+      unfolding place
+      row_is = sym (ap place is) ∙ ap (λ f. place (word iw (f + k))) from_is
+          ∙ sym (rows_nth iw (list_start n ap' ai j + length (earlier_of n ap' ai j)) (length (own_of n ap' ai j)) k k_in)
+          ∙ ap (λ xs. get_or xs k 0) (h.held.own j j_in)
+
+      nth : IsNth n (is_other n ap' ai j) k i
+      nth = subst (IsNth n (is_other n ap' ai j) k) (sym row_is) (nth_below n (is_other n ap' ai j) k k_in)
+
+      pub spread_row : i < n
+      spread_row = nth.small
+
+      not_yet : ltb (length (list_below i (is_other n ap' ai j))) k ≡ false
+      not_yet = false_from_ne_true _ (λ w. let v = ltb-true (length (list_below i (is_other n ap' ai j))) k w in let b = nth.before in
+          omega (arith, v, b))
+
+      now_done : ltb (length (list_below i (is_other n ap' ai j))) (k + 1) ≡ true
+      now_done = lt-ltb _ _ (let b = nth.before in omega (arith, b))
+
+      before_is : partly n ap' ai j k i ≡ earlier_below n ap' ai j i
+      before_is = rw not_yet (append-nil (earlier_below n ap' ai j i))
+
+      here_more : partly n ap' ai j (k + 1) i ≡ partly n ap' ai j k i ++ j ∷ []
+      here_more = rw (now_done, nth.passes, not_yet) (ap (λ xs. xs ++ j ∷ []) (sym (append-nil (earlier_below n ap' ai j i))))
+
+      there_same : (a : ℕ) → a < n → a ≢ i → partly n ap' ai j (k + 1) a ≡ partly n ap' ai j k a
+      there_same a l ne = elim (cases_Bool (is_other n ap' ai j a)) [
+        | inr e ↦ partly_none (k + 1) a e ∙ sym (partly_none k a e)
+        | inl e ↦ (let L = length (list_below a (is_other n ap' ai j)) in
+            let other : L ≢ k = (λ w. ne (nth_once a i (is_other n ap' ai j) e nth.passes (w ∙ sym nth.before))) in
+            ap (λ b. earlier_below n ap' ai j a ++ cond (b && is_other n ap' ai j a) (j ∷ []) [])
+            (both_ways (ltb L (k + 1)) (ltb L k)
+            (λ w. let v = ltb-true L (k + 1) w in lt-ltb L k (omega (arith, v, other)))
+            (λ w. let v = ltb-true L k w in lt-ltb L (k + 1) (omega (arith, v)))))
+      ]
+
+      few : length (partly n ap' ai j k i) < length (earlier_of n ap' ai i)
+      few = let w = length_grows n j (is_earlier n ap' ai i) j_in (other_early i nth.passes) in let s = ap length before_is in
+          omega (arith, w, s)
+
+      pub spread_inside : num next i < length iw
+      spread_inside = v_inside (partly n ap' ai j k) (partly n ap' ai j (k + 1)) next iw i j h spread_row j_in fits few (partly_most k)
+          here_more there_same
+
+      pub spread_step : Spreads n ap' ai (partly n ap' ai j (k + 1)) (set next i (num next i + 1)) (set iw (num next i) (pos j))
+      spread_step = spreads_more (partly n ap' ai j k) (partly n ap' ai j (k + 1)) next iw i j h spread_row j_in fits few (partly_most k)
+          here_more there_same
+
+  -- ---- all rows
+
+  pub spread_lists_are : (degrees : List ℕ) (next : List ℕ) (iw : List ℤ) →
+      AreCounts (graph_of n ap' ai) ((graph_of n ap' ai).edge) degrees →
+      Spreads n ap' ai (earlier_below n ap' ai n) next iw → (i : ℕ) → i < n →
+      rows iw (list_start n ap' ai i) (num degrees i) ≡ starting_list n (is_pair n ap' ai) i
+  unfolding graph_of
+  spread_lists_are degrees next iw counts h i l =
+      let e : num degrees i ≡ length (earlier_of n ap' ai i) + length (own_of n ap' ai i) = counts.each i l ∙ degree_parts i l in
+      ap (rows iw (list_start n ap' ai i)) e
+      ∙ rows_both iw (list_start n ap' ai i) (length (earlier_of n ap' ai i)) (length (own_of n ap' ai i))
+      ∙ ap (λ xs. xs ++ rows iw (list_start n ap' ai i + length (earlier_of n ap' ai i)) (length (own_of n ap' ai i))) (h.first i l)
+      ∙ ap (λ xs. earlier_of n ap' ai i ++ xs) (h.held.own i l) ∙ sym (lower_starting i l)
+
+  pub next_end : (degrees : List ℕ) → AreCounts (graph_of n ap' ai) ((graph_of n ap' ai).edge) degrees → (j end : ℕ) → j < n →
+      end ≡ list_start n ap' ai j → end + num degrees j ≡ list_start n ap' ai (j + 1)
+  unfolding graph_of
+  next_end degrees counts j end l e = let a = next_list j l in let b = counts.each j l in let d = degree_parts j l in
+      omega (arith, a, b, d, e)
+
+  pub degree_is : (degrees : List ℕ) → AreCounts (graph_of n ap' ai) ((graph_of n ap' ai).edge) degrees → (j : ℕ) → j < n →
+      num degrees j ≡ length (earlier_of n ap' ai j) + length (own_of n ap' ai j)
+  unfolding graph_of
+  degree_is degrees counts j l = counts.each j l ∙ degree_parts j l
+
+  pub list_room : (degrees : List ℕ) → AreCounts (graph_of n ap' ai) ((graph_of n ap' ai).edge) degrees → (j end : ℕ) → j < n →
+      end ≡ list_start n ap' ai j → end + num degrees j ≤ list_start n ap' ai n
+  list_room degrees counts j end l e =
+      let a = degree_is degrees counts j l in let b = later_list j n l (omega arith) in omega (arith, a, b, e)
+
+  -- ---- the columns, one after another
+
+  -- words behind the first ones
+  held_append : (m : ℕ) (xs ys : List ℤ) → m ≤ n → list_start n ap' ai m ≤ length xs → AreRows n ys → HoldsOwn n ap' ai m xs →
+      HoldsOwn n ap' ai m (xs ++ ys)
+  held_append m xs ys few inside names h = record {
+    words = λ k. elim (cases_lt k (length xs)) [
+      | inl l ↦ rw (get_or_append_left xs ys (pos 0) k l) (h.words k)
+      | inr l ↦ rw (get_or-append_right xs ys (length xs) k (pos 0) refl l) (names (k - length xs))
+    ];
+    own = λ i l. rows_same xs (xs ++ ys) _ _ (length (own_of n ap' ai i)) (λ k x. get_or_append_left xs ys (pos 0) _
+        (let w = later i m l few in omega (arith, w, x, inside))) ∙ h.own i l;
+  }
+    where
+      later : (i m : ℕ) → i < m → m ≤ n → list_start n ap' ai i + length (earlier_of n ap' ai i) + length (own_of n ap' ai i)
+          ≤ list_start n ap' ai m
+      later i m l k = later_list i m l k
+
+  pub held_filled : (m : ℕ) (xs : List ℤ) (j count : ℕ) → m ≤ n → list_start n ap' ai m ≤ length xs → j < n → HoldsOwn n ap' ai m xs →
+      HoldsOwn n ap' ai m (xs ++ replicate count (pos j))
+  held_filled m xs j count few inside j_in h = held_append m xs (replicate count (pos j)) few inside (replicate_rows n j count j_in) h
+
+  pub held_column : (j degree : ℕ) (xs : List ℤ) → j < n → degree ≡ length (earlier_of n ap' ai j) + length (own_of n ap' ai j) →
+      length xs ≡ list_start n ap' ai j → HoldsOwn n ap' ai j xs →
+      HoldsOwn n ap' ai (j + 1) ((xs ++ replicate (degree - length (own_of n ap' ai j)) (pos j)) ++ map pos (own_of n ap' ai j))
+  held_column j degree xs j_in parts long h =
+      let room = replicate (degree - length (own_of n ap' ai j)) (pos j) in
+      let size = length-append xs room in let filled = length-replicate (degree - length (own_of n ap' ai j)) (pos j) in
+      let a = held_filled j xs j (degree - length (own_of n ap' ai j)) (omega (arith, j_in)) (omega (arith, long)) j_in h in
+      let b = held_append j (xs ++ room) (map pos (own_of n ap' ai j)) (omega (arith, j_in)) (omega (arith, long, size))
+      (column_rows n (is_other n ap' ai j) (omega (arith, j_in))) a in
+      let at : list_start n ap' ai j + length (earlier_of n ap' ai j) ≡ length (xs ++ room) = omega (arith, size, filled, long, parts) in
+      record {
+        words = b.words;
+        own = λ i l. elim (cases_eq i j) [
+          | inr ne ↦ b.own i (omega (arith, l, ne))
+          | inl e ↦ subst (λ x. rows ((xs ++ room) ++ map pos (own_of n ap' ai j))
+              (list_start n ap' ai x + length (earlier_of n ap' ai x)) (length (own_of n ap' ai x)) ≡ own_of n ap' ai x) (sym e)
+              (ap (λ f. rows ((xs ++ room) ++ map pos (own_of n ap' ai j)) f (length (own_of n ap' ai j))) at
+              ∙ rows_behind (xs ++ room) (own_of n ap' ai j))
+        ];
+      }
+
+  pub held_none : (xs : List ℤ) → 0 < n → length xs ≡ 0 → HoldsOwn n ap' ai 0 xs
+  held_none xs some none = record {
+    words = λ k. row_word n _ 0 (get_or_past xs k (pos 0) (omega (arith, none))) some;
+    own = λ i l. absurd (omega (arith, l));
+  }
+
+  -- no earlier neighbour is written yet
+  pub has_columns : (degrees : List ℕ) (a b : ℕ) (next : List ℕ) (iw : List ℤ) →
+      AreCounts (graph_of n ap' ai) ((graph_of n ap' ai).edge) degrees →
+      list_start n ap' ai n ≤ length iw → n ≤ a → length iw ≤ b → length next ≡ n →
+      ((i : ℕ) → i < n → num next i ≡ list_start n ap' ai i) → HoldsOwn n ap' ai n iw →
+      HasColumns (record { n = n; ap = ap'; ai = ai }) degrees a b next iw
+  unfolding list_below
+  has_columns degrees a b next iw counts room small fits long starts held = record {
+    lower = lower;
+    counts = counts;
+    room = room;
+    rows = small;
+    places = fits;
+    before = record {
+      held = held;
+      long = long;
+      ends = λ i l. (let e = starts i l in omega (arith, e));
+      first = λ i l. rows_none iw (list_start n ap' ai i);
+    };
+  }

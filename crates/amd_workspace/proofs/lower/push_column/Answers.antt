@@ -1,0 +1,75 @@
+-- the goals of lower::push_column.
+use Rattle.std.proofs.Common.{◌≡◌, ◌+◌, ◌-◌, ◌<◌, ◌^◌, ◌++◌, ◌∷◌, [], arith, rules, map, take, drop, pos, ap, sym, ◌∙◌, subst}
+use Rattle.std.proofs.Common.{append_assoc, w64}
+use Rattle.std.proofs.lemmas.Int.{to_z_pos}
+use Rattle.std.proofs.lemmas.List.{length-map, append-nil}
+use Rattle.amd_numbers.specs.Counts.{counts}
+use Rattle.amd_edges.proofs.Forms.{pointer_fits, row_fits, place_in, sorted_form}
+use Rattle.amd_workspace.proofs.LowerWords.{column_row, stretch_push}
+use Rattle.amd_workspace.proofs.lower.push_column.Goals as goal
+
+pub count_at-stop-requires-clause-fits : goal.count_at-stop-requires-clause-fits
+count_at-stop-requires-clause-fits g c = pointer_fits c.args.size (map g.I.Number.value c.args.a_p.now)
+    (map g.I.Number.value c.args.a_i.now) c.requires.form (c.args.j + 1) (let l = c.requires.row in omega (arith, l))
+    (subst (λ x. x < 2 ^ 64) (sym (length-map c.args.a_i.now g.I.Number.value)) (omega (arith, c.well_formed)))
+
+pub places-init : goal.places-init
+places-init g c =
+    let first = c.args.first in let items = c.args.iw.now.items in let none : first - first ≡ 0 = omega arith in record {
+      from = omega arith;
+      to = (let a = c.requires.to in let b = c.count_at-stop.ensures.count in omega (arith, a, b));
+      capacity = omega arith;
+      items = sym (append-nil items)
+          ∙ ap (λ k. items ++ map pos (take k (drop first (counts (map g.I.Number.value c.args.a_i.now))))) (sym none);
+    }
+
+pub count_at-requires-clause-within : goal.count_at-requires-clause-within
+count_at-requires-clause-within g c = place_in g.I.Number.value c.args.a_i.now c.args.size (map g.I.Number.value c.args.a_p.now)
+    c.requires.form c.args.j c.places.place c.count_at-stop.result c.requires.row c.count_at-stop.ensures.count c.places-test.true
+
+pub count_at-requires-clause-fits : goal.count_at-requires-clause-fits
+count_at-requires-clause-fits g c = row_fits c.args.size (map g.I.Number.value c.args.a_p.now) (map g.I.Number.value c.args.a_i.now)
+    c.requires.form c.args.j c.places.place c.requires.row
+    (let t = c.places-test.true in let e = c.count_at-stop.ensures.count in omega (arith, t, e)) c.ranges.size.fits
+
+pub overflow_cast-count_at : goal.overflow_cast-count_at
+overflow_cast-count_at g c =
+    let ap' = map g.I.Number.value c.args.a_p.now in let ai = map g.I.Number.value c.args.a_i.now in
+    let small = column_row c.args.size (counts ap') (counts ai)
+    (sorted_form c.args.size ap' ai c.requires.form c.requires.sorted) c.args.j c.args.first c.count_at-stop.result c.places.place
+    c.count_at.result c.requires.row c.requires.from c.places.invariant.from c.places-test.true c.count_at-stop.ensures.count
+    c.count_at.ensures.count in
+    let fits = c.requires.fits in let n = g.met.S.Signed.narrow in
+    let low : c.count_at.result < 2 ^ 63 = omega (arith, small, fits, n) in search rules
+
+pub word_of-requires : goal.word_of-requires
+word_of-requires g c =
+    let ap' = map g.I.Number.value c.args.a_p.now in let ai = map g.I.Number.value c.args.a_i.now in
+    let small = column_row c.args.size (counts ap') (counts ai)
+    (sorted_form c.args.size ap' ai c.requires.form c.requires.sorted) c.args.j c.args.first c.count_at-stop.result c.places.place
+    c.count_at.result c.requires.row c.requires.from c.places.invariant.from c.places-test.true c.count_at-stop.ensures.count
+    c.count_at.ensures.count in
+    let fits = c.requires.fits in let n = g.met.S.Signed.narrow in
+    let low : c.count_at.result < 2 ^ 63 = omega (arith, small, fits, n) in
+    let is = ap lib.IntN.nat_abs (to_z_pos w64 c.count_at.result low) in omega (arith, is, small, fits)
+
+pub places-preserved : goal.places-preserved
+places-preserved g c =
+    let ap' = map g.I.Number.value c.args.a_p.now in let ai = map g.I.Number.value c.args.a_i.now in
+    let form = sorted_form c.args.size ap' ai c.requires.form c.requires.sorted in
+    let small = column_row c.args.size (counts ap') (counts ai) form c.args.j c.args.first c.count_at-stop.result c.places.place
+    c.count_at.result c.requires.row c.requires.from c.places.invariant.from c.places-test.true c.count_at-stop.ensures.count
+    c.count_at.ensures.count in
+    let fits = c.requires.fits in let n = g.met.S.Signed.narrow in
+    let low : c.count_at.result < 2 ^ 63 = omega (arith, small, fits, n) in
+    let i = c.places.invariant in let e = c.push_reserved.ensures in let old = c.args.iw.now.items in
+    let row = c.count_at.result in let t = c.places-test.true in
+    let part = map pos (take (c.places.place - c.args.first) (drop c.args.first (counts ai))) in
+    let pushed = stretch_push c.args.size (counts ap') (counts ai) form c.args.j c.args.first c.count_at-stop.result c.places.place
+    row c.requires.row c.requires.from i.from t c.count_at-stop.ensures.count c.count_at.ensures.count in record {
+      from = (let a = i.from in omega (arith, a));
+      to = omega (arith, t);
+      capacity = (let x = i.capacity in let y = e.capacity in omega (arith, x, y));
+      items = e.items ∙ ap (λ x. c.places.iw.items ++ x ∷ []) (c.word_of.ensures ∙ to_z_pos w64 row low)
+          ∙ ap (λ xs. xs ++ pos row ∷ []) i.items ∙ append_assoc old part (pos row ∷ []) ∙ ap (λ xs. old ++ xs) pushed;
+    }

@@ -1,0 +1,13 @@
+use Rattle.std.proofs.Common.{◌≡◌, ◌≤◌, ◌-◌, length}
+use Rattle.amd_workspace.specs.Lower.{Matrix, IsReady, Spreads}
+use Rattle.amd_workspace.proofs.LowerWords.{partly}
+use Rattle.amd_workspace.proofs.lower.spread.Given as goal
+
+abbrev pub invariant-words : goal.invariant-words
+invariant-words g l = record {
+  from : l.from ≤ l.place;
+  to : l.place ≤ l.end;
+  long : length l.iw ≡ length l.fn.iw;
+  spreads : (m : Matrix) → IsReady m l.j l.end g.S.Signed.MOST g.U.Unsigned.MOST l.fn.next l.fn.iw →
+      Spreads m.n m.ap m.ai (partly m.n m.ap m.ai l.j (l.place - l.from)) l.next l.iw;
+}

@@ -1,0 +1,263 @@
+// The lists of a pattern that has no entry above the diagonal. There the list of a row is its earlier neighbours,
+// rising, and then its column below the diagonal. Two passes write all lists, and neither searches for a place. The
+// first one writes the columns, each behind the room for the earlier neighbours of its row. The second one reads each
+// column back, and adds its row to the earlier neighbours of each row that it names. Source: Amestoy, Davis and Duff
+// 2004 (the forming of A + A'). Called by `laying`.
+
+ghost use Rattle.std.specs.Prelude.{◌≡◌, ◌<◌, ◌≤◌, ◌+◌, ◌-◌, ◌++◌, ℕ, true, map, length, pos, replicate, slice_index};
+ghost use Rattle.std.specs.Prelude.{slice_range, IfOk};
+ghost use Rattle.std.specs.Vec.{vec_capacity};
+ghost use Rattle.amd_model.specs.Input.Columns.{IsColumnForm, IsSorted};
+ghost use Rattle.amd_model.specs.Input.Pattern.{graph_of, is_pair};
+ghost use Rattle.amd_numbers.specs.Counts.{counts};
+ghost use Rattle.amd_edges.specs.Visits.{AreCounts};
+ghost use Rattle.amd_model.specs.Quotient.{starting_list};
+ghost use Rattle.amd_places.specs.Words.{num, rows};
+ghost use Rattle.amd_workspace.specs.Copying.{AreRows};
+ghost use Rattle.amd_workspace.specs.Lower.{IsLower, Matrix, list_start, own_of, earlier_below, HoldsOwn, Spreads};
+ghost use Rattle.amd_workspace.specs.Lower.{HasColumns, IsReady};
+
+use crate::laying::append;
+use amd_cells::{Figure, Signed, Unsigned, Word, figure_at, row_at, word_of};
+use amd_numbers::internal::count_at;
+use num_traits::PrimInt;
+use std::alloc::{AllocError, Allocator};
+
+/// Whether no row of column `j`, one of `size`, stands above the diagonal.
+fn is_low<I: PrimInt>(size: usize, a_p: &[I], a_i: &[I], j: usize) -> bool
+    requires form { IsColumnForm (pos size) size (map I.value a_p.now) (map I.value a_i.now) }
+    requires sorted { IsSorted size (map I.value a_p.now) (map I.value a_i.now) }
+    requires row { j < size }
+    ensures yes { result ≡ true → (i : ℕ) → is_pair size (map I.value a_p.now) (map I.value a_i.now) i j ≡ true →
+        j ≤ i }
+    ensures no { ((i : ℕ) → is_pair size (map I.value a_p.now) (map I.value a_i.now) i j ≡ true → j ≤ i) →
+        result ≡ true }
+{
+    let first = count_at(a_p, j);
+    if first == count_at(a_p, j + 1) {
+        return true;
+    }
+    count_at(a_i, first) >= j
+}
+
+/// Whether no row of any of `size` columns stands above the diagonal.
+pub fn is_lower<I: PrimInt>(size: usize, a_p: &[I], a_i: &[I]) -> bool
+    requires form { IsColumnForm (pos size) size (map I.value a_p.now) (map I.value a_i.now) }
+    requires sorted { IsSorted size (map I.value a_p.now) (map I.value a_i.now) }
+    ensures yes { result ≡ true → IsLower size (map I.value a_p.now) (map I.value a_i.now) }
+    ensures no { IsLower size (map I.value a_p.now) (map I.value a_i.now) → result ≡ true }
+{
+    'columns: for j in 0..size {
+        if !is_low(size, a_p, a_i, j) {
+            return false;
+        }
+    }
+    true
+}
+
+/// Whether the lists of `size` rows, which have `free` words together, are long, and those of such a pattern.
+pub fn has_long_lower<I: PrimInt>(size: usize, a_p: &[I], a_i: &[I], free: usize) -> bool
+    requires form { IsColumnForm (pos size) size (map I.value a_p.now) (map I.value a_i.now) }
+    requires sorted { IsSorted size (map I.value a_p.now) (map I.value a_i.now) }
+    ensures yes { result ≡ true → IsLower size (map I.value a_p.now) (map I.value a_i.now) }
+{
+    if free / 8 <= size {
+        return false;
+    }
+    is_lower(size, a_p, a_i)
+}
+
+/// Where the rows of column `j`, one of `size`, stand that are below the diagonal, where none is above it.
+fn own_first<I: PrimInt>(size: usize, a_p: &[I], a_i: &[I], j: usize) -> usize
+    requires form { IsColumnForm (pos size) size (map I.value a_p.now) (map I.value a_i.now) }
+    requires sorted { IsSorted size (map I.value a_p.now) (map I.value a_i.now) }
+    requires lower { IsLower size (map I.value a_p.now) (map I.value a_i.now) }
+    requires row { j < size }
+    ensures from { slice_index (counts (map I.value a_p.now)) j ≤ result }
+    ensures to { result ≤ slice_index (counts (map I.value a_p.now)) (j + 1) }
+    ensures rows { own_of size (map I.value a_p.now) (map I.value a_i.now) j ≡
+        slice_range (counts (map I.value a_i.now)) result (slice_index (counts (map I.value a_p.now)) (j + 1)) }
+{
+    let first = count_at(a_p, j);
+    if first == count_at(a_p, j + 1) {
+        return first;
+    }
+    if count_at(a_i, first) == j {
+        first + 1
+    } else {
+        first
+    }
+}
+
+/// Writes a row some times.
+fn push_rows<S: Signed, A: Allocator>(iw: &mut Vec<Word<S>, A>, row: usize, count: usize)
+    requires room { length iw.old.items + count ≤ vec_capacity iw.old }
+    requires small { row ≤ S.MOST }
+    ensures items { iw.new.items ≡ iw.old.items ++ replicate count (pos row) }
+    ensures capacity { vec_capacity iw.old ≤ vec_capacity iw.new }
+{
+    'words: for _ in 0..count {
+        iw.push_reserved(word_of(row as isize));
+    }
+}
+
+/// Writes the rows of column `j`, one of `size`, from a place on.
+fn push_column<I: PrimInt, S: Signed, A: Allocator>(
+    size: usize,
+    a_p: &[I],
+    a_i: &[I],
+    j: usize,
+    first: usize,
+    iw: &mut Vec<Word<S>, A>,
+)
+    requires form { IsColumnForm (pos size) size (map I.value a_p.now) (map I.value a_i.now) }
+    requires sorted { IsSorted size (map I.value a_p.now) (map I.value a_i.now) }
+    requires row { j < size }
+    requires from { slice_index (counts (map I.value a_p.now)) j ≤ first }
+    requires to { first ≤ slice_index (counts (map I.value a_p.now)) (j + 1) }
+    requires room { length iw.old.items + (slice_index (counts (map I.value a_p.now)) (j + 1) - first) ≤
+        vec_capacity iw.old }
+    requires fits { size ≤ S.MOST }
+    ensures items { iw.new.items ≡ iw.old.items ++ map pos (slice_range (counts (map I.value a_i.now)) first
+        (slice_index (counts (map I.value a_p.now)) (j + 1))) }
+    ensures capacity { vec_capacity iw.old ≤ vec_capacity iw.new }
+{
+    let stop = count_at(a_p, j + 1);
+    'places: for place in first..stop {
+        iw.push_reserved(word_of(count_at(a_i, place) as isize));
+    }
+}
+
+/// Writes the words of the list of row `j`, one of `size`: its column below the diagonal, behind one word for each
+/// earlier neighbour.
+fn push_list<I: PrimInt, S: Signed, A: Allocator>(
+    size: usize,
+    a_p: &[I],
+    a_i: &[I],
+    j: usize,
+    degree: usize,
+    iw: &mut Vec<Word<S>, A>,
+)
+    requires form { IsColumnForm (pos size) size (map I.value a_p.now) (map I.value a_i.now) }
+    requires sorted { IsSorted size (map I.value a_p.now) (map I.value a_i.now) }
+    requires lower { IsLower size (map I.value a_p.now) (map I.value a_i.now) }
+    requires row { j < size }
+    requires degree { length (own_of size (map I.value a_p.now) (map I.value a_i.now) j) ≤ degree }
+    requires room { length iw.old.items + degree ≤ vec_capacity iw.old }
+    requires fits { size ≤ S.MOST }
+    ensures items { iw.new.items ≡
+        (iw.old.items ++
+        replicate (degree - length (own_of size (map I.value a_p.now) (map I.value a_i.now) j)) (pos j)) ++
+        map pos (own_of size (map I.value a_p.now) (map I.value a_i.now) j) }
+    ensures capacity { vec_capacity iw.old ≤ vec_capacity iw.new }
+{
+    let first = own_first(size, a_p, a_i, j);
+    let own = count_at(a_p, j + 1) - first;
+    push_rows(iw, j, degree - own);
+    push_column(size, a_p, a_i, j, first, iw);
+}
+
+/// Writes the words of the lists of `size` rows, each column below the diagonal behind the room for the earlier
+/// neighbours of its row, and rows behind the last list, `room` words in all.
+fn push_lists<I: PrimInt, S: Signed, A: Allocator>(
+    size: usize,
+    a_p: &[I],
+    a_i: &[I],
+    degrees: &[usize],
+    room: usize,
+    iw: &mut Vec<Word<S>, A>,
+)
+    requires form { IsColumnForm (pos size) size (map I.value a_p.now) (map I.value a_i.now) }
+    requires sorted { IsSorted size (map I.value a_p.now) (map I.value a_i.now) }
+    requires lower { IsLower size (map I.value a_p.now) (map I.value a_i.now) }
+    requires some { 0 < size }
+    requires degrees { AreCounts (graph_of size (map I.value a_p.now) (map I.value a_i.now))
+        ((graph_of size (map I.value a_p.now) (map I.value a_i.now)).edge) degrees.now }
+    requires room { list_start size (map I.value a_p.now) (map I.value a_i.now) size ≤ room }
+    requires empty { length iw.old.items ≡ 0 }
+    requires capacity { room ≤ vec_capacity iw.old }
+    requires fits { size ≤ S.MOST }
+    ensures long { length iw.new.items ≡ room }
+    ensures own { HoldsOwn size (map I.value a_p.now) (map I.value a_i.now) size iw.new.items }
+{
+    let mut free = 0;
+    'rows: for j in 0..size {
+        let degree = degrees[j];
+        push_list(size, a_p, a_i, j, degree, iw);
+        free += degree;
+    }
+    push_rows(iw, 0, room - free);
+}
+
+/// Writes row `j` behind the earlier neighbours of each row that its own column names, which stands behind its earlier
+/// neighbours and ends before the word `end`.
+fn spread<S: Signed, U: Unsigned>(next: &mut [Figure<U>], iw: &mut [Word<S>], j: usize, end: usize)
+    requires ready { (m : Matrix) × IsReady m j end S.MOST U.MOST next.old iw.old }
+    ensures long { length iw.new ≡ length iw.old }
+    ensures after { (m : Matrix) → IsReady m j end S.MOST U.MOST next.old iw.old →
+        Spreads m.n m.ap m.ai (earlier_below m.n m.ap m.ai (j + 1)) next.new iw.new }
+{
+    let from = figure_at(next, j);
+    'words: for place in from..end {
+        let i = row_at(iw, place);
+        append(next, iw, i, j);
+    }
+}
+
+/// Writes the earlier neighbours of all rows, whose numbers of neighbours are `degrees`, before their own columns.
+fn spread_lists<S: Signed, U: Unsigned>(
+    next: &mut [Figure<U>],
+    iw: &mut [Word<S>],
+    degrees: &[usize],
+)
+    requires laid { (m : Matrix) × HasColumns m degrees.now S.MOST U.MOST next.old iw.old }
+    ensures long { length iw.new ≡ length iw.old }
+    ensures lists { (m : Matrix) → HasColumns m degrees.now S.MOST U.MOST next.old iw.old → AreRows m.n iw.new ×
+        ((i : ℕ) → i < m.n → rows iw.new (list_start m.n m.ap m.ai i) (num degrees.now i) ≡
+        starting_list m.n (is_pair m.n m.ap m.ai) i) }
+{
+    let mut end = 0;
+    'rows: for j in 0..degrees.len() {
+        end += degrees[j];
+        spread(next, iw, j, end);
+    }
+}
+
+/// Lays the lists of a pattern of `size` rows that has no entry above the diagonal in a workspace of `room` words. Each
+/// number of `next` is where the list of its row starts, and afterwards where its earlier neighbours end. The words
+/// behind the last list name rows.
+///
+/// # Errors
+///
+/// A refused request for memory.
+pub fn lower_lists<I: PrimInt, S: Signed, U: Unsigned, A: Allocator>(
+    alloc: A,
+    size: usize,
+    a_p: &[I],
+    a_i: &[I],
+    degrees: &[usize],
+    room: usize,
+    next: &mut [Figure<U>],
+) -> Result<Vec<Word<S>, A>, AllocError>
+    requires form { IsColumnForm (pos size) size (map I.value a_p.now) (map I.value a_i.now) }
+    requires sorted { IsSorted size (map I.value a_p.now) (map I.value a_i.now) }
+    requires lower { IsLower size (map I.value a_p.now) (map I.value a_i.now) }
+    requires some { 0 < size }
+    requires degrees { AreCounts (graph_of size (map I.value a_p.now) (map I.value a_i.now))
+        ((graph_of size (map I.value a_p.now) (map I.value a_i.now)).edge) degrees.now }
+    requires room { list_start size (map I.value a_p.now) (map I.value a_i.now) size ≤ room }
+    requires fits { (size ≤ S.MOST) × (room ≤ U.MOST) }
+    requires long { length next.old ≡ size }
+    requires starts { (i : ℕ) → i < size →
+        num next.old i ≡ list_start size (map I.value a_p.now) (map I.value a_i.now) i }
+    ensures long { IfOk result (λ v. length v.items ≡ room) }
+    ensures words { IfOk result (λ v. AreRows size v.items) }
+    ensures lists { IfOk result (λ v. (i : ℕ) → i < size →
+        rows v.items (list_start size (map I.value a_p.now) (map I.value a_i.now) i) (num degrees.now i) ≡
+        starting_list size (is_pair size (map I.value a_p.now) (map I.value a_i.now)) i) }
+{
+    let mut iw = Vec::with_capacity(alloc, room)?;
+    push_lists(size, a_p, a_i, degrees, room, &mut iw);
+    spread_lists(next, &mut iw, degrees);
+    Ok(iw)
+}
