@@ -6,6 +6,7 @@ pub mod SymmetricCounts
 pub mod Copied
 pub mod CopiedColumns
 pub mod LowerLists
+pub mod LowerColumns
 pub mod LowerWords
 pub mod Starts
 pub mod Begun

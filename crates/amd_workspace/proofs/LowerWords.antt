@@ -1,188 +1,30 @@
 -- The words of the lists of a pattern without an entry above the diagonal.
 use Rattle.std.proofs.Common.{◌≡◌, ◌≢◌, ◌<◌, ◌≤◌, ◌+◌, ◌-◌, inl, inr, ℕ, ℤ, zero, suc, Bool, true, false, List, [], ◌∷◌, ◌++◌, pos}
-use Rattle.std.proofs.Common.{arith, refl, ap, sym, ◌∙◌, subst, cond, ltb, ◌&&◌, length, get_or, set, take, drop, append_assoc}
-use Rattle.std.proofs.Common.{get_or-set_same, get_or-set_other, le_refl, map, length-drop, length-take-le, negsuc, unsigned_abs}
-use Rattle.std.specs.Prelude.{slice_range}
+use Rattle.std.proofs.Common.{arith, refl, ap, sym, ◌∙◌, subst, cond, ltb, ◌&&◌, length, get_or, set, take}
+use Rattle.std.proofs.Common.{get_or-set_same, get_or-set_other, map, negsuc, unsigned_abs}
 use Rattle.std.proofs.lemmas.Bool.{and_parts, and_from, cases_Bool, cases_eq, cases_lt, lt-ltb, ltb-true, eq-eqb, ne_eqb}
 use Rattle.std.proofs.lemmas.Bool.{false_from_ne_true, not-true, not_from_false, false≢true}
-use Rattle.std.proofs.lemmas.List.{append-nil, length-append, length-set, get_or_append_left, get_or_push, at_drop_more}
-use Rattle.std.proofs.lemmas.List.{get_or-drop, take_more, take_all, get_or-map, get_or_past, get_or-replicate, length-replicate}
+use Rattle.std.proofs.lemmas.List.{append-nil, length-append, length-set, get_or_append_left, get_or_push}
+use Rattle.std.proofs.lemmas.List.{take_more, take_all, get_or-map, get_or_past, get_or-replicate, length-replicate}
 use Rattle.std.proofs.lemmas.List.{get_or-append-add, get_or-append_right, length-map}
 use Rattle.std.specs.Cmp.{both_ways}
 use Rattle.std.specs.Prelude.{replicate}
 use Rattle.amd_views.proofs.Lists.Rising.{list_yes, list_no}
 use Rattle.amd_model.specs.Below.{list_below, count_below}
-use Rattle.amd_model.specs.Input.Columns.{IsColumnForm, IsSorted}
 use Rattle.amd_model.specs.Input.Pattern.{graph_of, is_pair}
 use Rattle.amd_model.specs.Quotient.{starting_list}
 use Rattle.amd_model.proofs.Counting.Below.{clash}
-use Rattle.amd_numbers.specs.Counts.{counts, is_entry}
+use Rattle.amd_numbers.specs.Counts.{counts}
 use Rattle.amd_edges.specs.Visits.{AreCounts}
-use Rattle.amd_edges.proofs.Forms.{IsSortedForm, same_pair, sorted_form}
 use Rattle.amd_edges.proofs.Listing.{start_later}
 use Rattle.amd_edges.proofs.Orders.{list_gap}
-use Rattle.amd_edges.proofs.Places.{entry_from, entry_gives}
-use Rattle.amd_edges.proofs.Reading.{IsReading, reading_next}
 use Rattle.amd_places.specs.Words.{num, is_place, place, word, rows}
 use Rattle.amd_places.proofs.RowLists.{rows_none, rows_more, rows_same, rows_length, rows_both}
 use Rattle.amd_workspace.specs.Copying.{is_other, AreRows}
 use Rattle.amd_workspace.specs.Lower.{IsLower, is_earlier, earlier_of, own_of, list_start, HoldsOwn, Spreads, earlier_below, HasColumns}
-use Rattle.amd_workspace.proofs.Copied.{others_more, others_end, row_small, same_other}
-use Rattle.amd_workspace.proofs.Layings.{row_word, words_next}
+use Rattle.amd_workspace.proofs.Layings.{row_word}
 use Rattle.amd_workspace.proofs.LowerLists.{IsNth, nth_below, nth_once, length_more, length_grows, lower_list, lower_count}
 use Rattle.amd_workspace.proofs.SymmetricCounts.{next_start}
-use Rattle.amd_workspace.proofs.SymmetricLists.{own}
-
--- ---- a column below the diagonal is a stretch of the row indices
-
-module _ (n : ℕ) (ap' ai : List ℕ) (form : IsSortedForm n ap' ai) (i stop : ℕ) (i_in : i < n) (stop_is : stop ≡ get_or ap' (i + 1) 0) where
-  own_rest : (d m p : ℕ) → stop ≡ p + d → i < m → IsReading ai (get_or ap' i 0) stop n m p →
-      list_below n (own (is_entry n ap' ai) i) ≡ list_below m (own (is_entry n ap' ai) i) ++ take d (drop p ai)
-  own_rest zero m p e above so = others_end n ap' ai form i stop m p i_in stop_is so (omega (arith, e)) ∙ sym (append-nil _)
-  own_rest (suc d) m p e above so =
-      let inside : p < stop = omega (arith, e) in
-      let row = get_or ai p 0 in let least : m ≤ row = so.left p (omega arith) inside in
-      let small = row_small n ap' ai form i stop m p i_in stop_is so row refl inside in
-      let next = reading_next n ap' ai form i (get_or ap' i 0) stop n m p row i_in (le_refl (get_or ap' i 0)) stop_is so refl inside small
-      in
-      let more = others_more n ap' ai form i stop m p i_in stop_is so row refl inside (λ w. omega (arith, w, least, above)) in
-      let within = form.within i i_in in
-      own_rest d (row + 1) (p + 1) (omega (arith, e)) (omega (arith, least, above)) next
-      ∙ ap (λ xs. xs ++ take d (drop (p + 1) ai)) more
-      ∙ append_assoc (list_below m (own (is_entry n ap' ai) i)) (row ∷ []) (take d (drop (p + 1) ai))
-      ∙ ap (λ ys. list_below m (own (is_entry n ap' ai) i) ++ ys)
-      (sym (at_drop_more (take (suc d)) ai p 0 (omega (arith, inside, within, stop_is))))
-
-  module _ (lower : (a b : ℕ) → is_entry n ap' ai a b ≡ true → b ≤ a) where
-    own_none : list_below (i + 1) (own (is_entry n ap' ai) i) ≡ []
-    unfolding list_below
-    own_none = list_gap (own (is_entry n ap' ai) i) 0 (i + 1) (omega arith) (λ x a l. false_from_ne_true _ (λ e.
-        let p = and_parts _ _ e in let v = lower x i p.1 in clash {P = ⊥} (eq-eqb x i (omega (arith, v, l))) (not-true _ p.0)))
-
-    pub own_from : (p : ℕ) → IsReading ai (get_or ap' i 0) stop n (i + 1) p →
-        list_below n (own (is_entry n ap' ai) i) ≡ take (stop - p) (drop p ai)
-    own_from p so = let to = so.to in own_rest (stop - p) (i + 1) p (omega (arith, to)) (omega arith) so
-        ∙ ap (λ xs. xs ++ take (stop - p) (drop p ai)) own_none
-
-    -- the first row is below the diagonal, or on it, or there is none
-    module _ (first : ℕ) (first_is : first ≡ get_or ap' i 0) where
-      pub reading_none : first ≡ stop → IsReading ai (get_or ap' i 0) stop n (i + 1) first
-      reading_none e = record {
-        from = omega (arith, first_is);
-        to = omega (arith, e);
-        read = λ r x y. absurd (omega (arith, x, y, first_is));
-        left = λ r x y. absurd (omega (arith, x, y, e));
-        low = omega (arith, i_in);
-      }
-
-      module _ (inside : first < stop) where
-        later : (r : ℕ) → first < r → r < stop → get_or ai first 0 < get_or ai r 0
-        later r x y = form.ascend i first r i_in (omega (arith, first_is)) x (omega (arith, y, stop_is))
-
-        pub reading_on : get_or ai first 0 ≡ i → IsReading ai (get_or ap' i 0) stop n (i + 1) (first + 1)
-        reading_on e = record {
-          from = omega (arith, first_is);
-          to = omega (arith, inside);
-          read = λ r x y. (let w : r ≡ first = omega (arith, x, y, first_is) in let v = ap (λ z. get_or ai z 0) w in omega (arith, v, e));
-          left = λ r x y. (let w = later r (omega (arith, x)) y in omega (arith, w, e));
-          low = omega (arith, i_in);
-        }
-
-        pub reading_below : get_or ai first 0 ≢ i → IsReading ai (get_or ap' i 0) stop n (i + 1) first
-        reading_below ne = record {
-          from = omega (arith, first_is);
-          to = omega (arith, inside);
-          read = λ r x y. absurd (omega (arith, x, y, first_is));
-          left = λ r x y. (let low = lower (get_or ai first 0) i (entry_from ap' ai n (get_or ai first 0) i first i_in
-              (omega (arith, first_is)) (omega (arith, inside, stop_is)) refl) in elim (cases_eq first r) [
-                | inl e ↦ (let v = ap (λ z. get_or ai z 0) e in omega (arith, v, low, ne))
-                | inr other ↦ (let w = later r (omega (arith, x, other)) y in omega (arith, w, low))
-              ]);
-          low = omega (arith, i_in);
-        }
-
--- the rows of a column are low where its first one is
-module _ (n : ℕ) (ap' ai : List ℤ) (form : IsColumnForm (pos n) n ap' ai) (j : ℕ) (j_in : j < n) where
-  pub none_low : get_or (counts ap') j 0 ≡ get_or (counts ap') (j + 1) 0 → (i : ℕ) → is_pair n ap' ai i j ≡ true → j ≤ i
-  none_low same i e = let r = entry_gives (counts ap') (counts ai) n i j (sym (same_pair n ap' ai form i j) ∙ e) in
-      let a = r.2 in let b = r.3 in absurd (omega (arith, a, b, same))
-
-  module _ (sorted : IsSorted n ap' ai) where
-    rise : IsSortedForm n (counts ap') (counts ai)
-    rise = sorted_form n ap' ai form sorted
-
-    -- the first place that is not the end is before it
-    pub first_before : (first stop : ℕ) → first ≡ get_or (counts ap') j 0 → stop ≡ get_or (counts ap') (j + 1) 0 → first ≢ stop →
-        first < stop
-    first_before first stop a b ne = let w = rise.rising j j_in in omega (arith, a, b, ne, w)
-
-    pub all_low : (first stop : ℕ) → first ≡ get_or (counts ap') j 0 → stop ≡ get_or (counts ap') (j + 1) 0 → first < stop →
-        j ≤ get_or (counts ai) first 0 → (i : ℕ) → is_pair n ap' ai i j ≡ true → j ≤ i
-    all_low first stop a b inside low i e =
-        let r = entry_gives (counts ap') (counts ai) n i j (sym (same_pair n ap' ai form i j) ∙ e) in
-        let x = r.2 in let y = r.3 in let z = r.4 in elim (cases_eq first r.0) [
-          | inl same ↦ (let w = ap (λ q. get_or (counts ai) q 0) same in omega (arith, w, z, low))
-          | inr ne ↦ (let w = rise.ascend j first r.0 j_in (omega (arith, a)) (omega (arith, x, a, ne)) y in omega (arith, w, z, low))
-        ]
-
-    pub low_first : (first stop : ℕ) → first ≡ get_or (counts ap') j 0 → stop ≡ get_or (counts ap') (j + 1) 0 → first < stop →
-        ((i : ℕ) → is_pair n ap' ai i j ≡ true → j ≤ i) → j ≤ get_or (counts ai) first 0
-    low_first first stop a b inside h = h (get_or (counts ai) first 0) (same_pair n ap' ai form (get_or (counts ai) first 0) j
-        ∙ entry_from (counts ap') (counts ai) n (get_or (counts ai) first 0) j first j_in (omega (arith, a))
-        (omega (arith, inside, b)) refl)
-
-    module _ (lower : IsLower n ap' ai) where
-      low_entry : (a b : ℕ) → is_entry n (counts ap') (counts ai) a b ≡ true → b ≤ a
-      low_entry a b e = lower a b (same_pair n ap' ai form a b ∙ e)
-
-      -- the own column is the stretch behind the diagonal
-      pub own_slice : (p : ℕ) → IsReading (counts ai) (get_or (counts ap') j 0) (get_or (counts ap') (j + 1) 0) n (j + 1) p →
-          own_of n ap' ai j ≡ slice_range (counts ai) p (get_or (counts ap') (j + 1) 0)
-      own_slice p so = ap (list_below n) (same_other n ap' ai form j)
-          ∙ own_from n (counts ap') (counts ai) rise j (get_or (counts ap') (j + 1) 0) j_in refl low_entry p so
-
-      module _ (first stop : ℕ) (first_is : first ≡ get_or (counts ap') j 0) (stop_is : stop ≡ get_or (counts ap') (j + 1) 0) where
-        pub slice_none : first ≡ stop → own_of n ap' ai j ≡ slice_range (counts ai) first (get_or (counts ap') (j + 1) 0)
-        slice_none e = own_slice first (reading_none n (counts ap') (counts ai) rise j (get_or (counts ap') (j + 1) 0) j_in refl low_entry
-            first first_is (e ∙ stop_is))
-
-        module _ (ne : first ≢ stop) where
-          inside : first < get_or (counts ap') (j + 1) 0
-          inside = let a = first_before first stop first_is stop_is ne in omega (arith, a, stop_is)
-
-          pub slice_on : get_or (counts ai) first 0 ≡ j →
-              own_of n ap' ai j ≡ slice_range (counts ai) (first + 1) (get_or (counts ap') (j + 1) 0)
-          slice_on e = own_slice (first + 1) (reading_on n (counts ap') (counts ai) rise j (get_or (counts ap') (j + 1) 0) j_in refl
-              low_entry first first_is inside e)
-
-          pub slice_below : get_or (counts ai) first 0 ≢ j →
-              own_of n ap' ai j ≡ slice_range (counts ai) first (get_or (counts ap') (j + 1) 0)
-          slice_below e = own_slice first (reading_below n (counts ap') (counts ai) rise j (get_or (counts ap') (j + 1) 0) j_in refl
-              low_entry first first_is inside e)
-
-      -- its length
-      pub slice_long : (p : ℕ) → own_of n ap' ai j ≡ slice_range (counts ai) p (get_or (counts ap') (j + 1) 0) →
-          length (own_of n ap' ai j) ≡ get_or (counts ap') (j + 1) 0 - p
-      slice_long p e = let within = rise.within j j_in in let size = length-drop p (counts ai) in
-          ap length e ∙ length-take-le (get_or (counts ap') (j + 1) 0 - p) (drop p (counts ai)) (omega (arith, within, size))
-
-module _ (n : ℕ) (ap' ai : List ℕ) (form : IsSortedForm n ap' ai) (j first stop p row : ℕ) (j_in : j < n) (from : get_or ap' j 0 ≤ first)
-    (low : first ≤ p) (inside : p < stop) (stop_is : stop ≡ get_or ap' (j + 1) 0) (is : row ≡ get_or ai p 0) where
-  pub column_row : row < n
-  column_row = let w = form.rows j p j_in (omega (arith, from, low)) (omega (arith, inside, stop_is)) in omega (arith, w, is)
-
-  -- one row more
-  pub stretch_push : map pos (take (p - first) (drop first ai)) ++ pos row ∷ [] ≡ map pos (take (p + 1 - first) (drop first ai))
-  stretch_push =
-      let d : p + 1 - first ≡ p - first + 1 = omega (arith, low) in let at : first + (p - first) ≡ p = omega (arith, low) in
-      let within = form.within j j_in in let size = length-drop first ai in
-      let long : p - first < length (drop first ai) = omega (arith, low, inside, stop_is, within, size) in
-      let last : get_or (drop first ai) (p - first) 0 ≡ row = get_or-drop first ai (p - first) 0 ∙ ap (λ k. get_or ai k 0) at ∙ sym is in
-      words_next (map pos (take (p - first) (drop first ai))) (take (p - first) (drop first ai)) row refl
-      ∙ ap (map pos) (ap (λ x. take (p - first) (drop first ai) ++ x ∷ []) (sym last) ∙ sym (take_more (drop first ai) (p - first) 0 long)
-      ∙ ap (λ k. take k (drop first ai)) (sym d))
-
--- ---- the lists
 
 rows_nth : (iw : List ℤ) (from count k : ℕ) → k < count → get_or (rows iw from count) k 0 ≡ place (word iw (from + k))
 unfolding rows

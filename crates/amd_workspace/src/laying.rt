@@ -1,6 +1,6 @@
 // The laying of a workspace: the lists of the neighbours of all rows, one after another from the first word on, each in
 // the order in which the walk over the edges meets those of its row. Source: Amestoy, Davis and Duff 2004 (the forming
-// of A + A'). Called by `amd_1` of the crate `amd_engine`.
+// of A + A'). `lay` is called by `amd_1` of the crate `amd_engine`, `append` by `lower` too.
 
 ghost use Rattle.std.specs.Prelude.{◌≡◌, ◌<◌, ◌≤◌, ◌+◌, ℕ, pos, map, length, slice_set, IfOk};
 ghost use Rattle.std.specs.Vec.{vec_capacity};
@@ -119,7 +119,7 @@ fn starts<S: Signed, U: Unsigned, A: Allocator>(
 
 /// Lays the lists of a pattern of `size` rows, one of any kind, in a workspace of `room` words. Those of a symmetric
 /// pattern are copied from its columns; those of any other one are written by a walk over the edges. Each number of
-/// `next` is where the list of its row starts, and `pointers` has room for a pointer of each column. The words behind
+/// `next` is where the list of its row starts, and `pointers` has room for a pointer of each column. The words after
 /// the last list name rows.
 ///
 /// # Errors
@@ -164,8 +164,8 @@ fn general_lists<I: PrimInt, S: Signed, U: Unsigned, A: Allocator>(
 }
 
 /// Lays the lists of the neighbours of each of `size` rows, whose degrees are known, in a workspace of `room` words.
-/// Long ones of a pattern that has no entry above the diagonal are written row by row; for those of any other one see
-/// `general_lists`. The words behind the last list name rows.
+/// Long ones of a pattern that has no entry above the diagonal are written row by row (`lower_lists`), all others by
+/// `general_lists`. The words after the last list name rows.
 ///
 /// # Errors
 ///

@@ -41,7 +41,7 @@ fn is_low<I: PrimInt>(size: usize, a_p: &[I], a_i: &[I], j: usize) -> bool
 }
 
 /// Whether no row of any of `size` columns stands above the diagonal.
-pub fn is_lower<I: PrimInt>(size: usize, a_p: &[I], a_i: &[I]) -> bool
+fn is_lower<I: PrimInt>(size: usize, a_p: &[I], a_i: &[I]) -> bool
     requires form { IsColumnForm (pos size) size (map I.value a_p.now) (map I.value a_i.now) }
     requires sorted { IsSorted size (map I.value a_p.now) (map I.value a_i.now) }
     ensures yes { result ≡ true → IsLower size (map I.value a_p.now) (map I.value a_i.now) }
@@ -55,7 +55,8 @@ pub fn is_lower<I: PrimInt>(size: usize, a_p: &[I], a_i: &[I]) -> bool
     true
 }
 
-/// Whether the lists of `size` rows, which have `free` words together, are long, and those of such a pattern.
+/// Whether no entry is above the diagonal, and the lists of the `size` rows, `free` words in all, have more than eight
+/// words each in the mean.
 pub fn has_long_lower<I: PrimInt>(size: usize, a_p: &[I], a_i: &[I], free: usize) -> bool
     requires form { IsColumnForm (pos size) size (map I.value a_p.now) (map I.value a_i.now) }
     requires sorted { IsSorted size (map I.value a_p.now) (map I.value a_i.now) }
@@ -67,7 +68,8 @@ pub fn has_long_lower<I: PrimInt>(size: usize, a_p: &[I], a_i: &[I], free: usize
     is_lower(size, a_p, a_i)
 }
 
-/// Where the rows of column `j`, one of `size`, stand that are below the diagonal, where none is above it.
+/// The place in `a_i` of the first row of column `j` below the diagonal, or the end of the column. No row is above the
+/// diagonal.
 fn own_first<I: PrimInt>(size: usize, a_p: &[I], a_i: &[I], j: usize) -> usize
     requires form { IsColumnForm (pos size) size (map I.value a_p.now) (map I.value a_i.now) }
     requires sorted { IsSorted size (map I.value a_p.now) (map I.value a_i.now) }
@@ -89,7 +91,7 @@ fn own_first<I: PrimInt>(size: usize, a_p: &[I], a_i: &[I], j: usize) -> usize
     }
 }
 
-/// Writes a row some times.
+/// Appends a row to the words, `count` times.
 fn push_rows<S: Signed, A: Allocator>(iw: &mut Vec<Word<S>, A>, row: usize, count: usize)
     requires room { length iw.old.items + count ≤ vec_capacity iw.old }
     requires small { row ≤ S.MOST }
@@ -101,7 +103,7 @@ fn push_rows<S: Signed, A: Allocator>(iw: &mut Vec<Word<S>, A>, row: usize, coun
     }
 }
 
-/// Writes the rows of column `j`, one of `size`, from a place on.
+/// Appends the rows of column `j`, one of `size`, from the place `first` of `a_i` on.
 fn push_column<I: PrimInt, S: Signed, A: Allocator>(
     size: usize,
     a_p: &[I],
@@ -128,8 +130,8 @@ fn push_column<I: PrimInt, S: Signed, A: Allocator>(
     }
 }
 
-/// Writes the words of the list of row `j`, one of `size`: its column below the diagonal, behind one word for each
-/// earlier neighbour.
+/// Appends the list of row `j`, one of `size`: its own number, once for each earlier neighbour, to hold their room, and
+/// then its column below the diagonal.
 fn push_list<I: PrimInt, S: Signed, A: Allocator>(
     size: usize,
     a_p: &[I],
@@ -157,8 +159,8 @@ fn push_list<I: PrimInt, S: Signed, A: Allocator>(
     push_column(size, a_p, a_i, j, first, iw);
 }
 
-/// Writes the words of the lists of `size` rows, each column below the diagonal behind the room for the earlier
-/// neighbours of its row, and rows behind the last list, `room` words in all.
+/// Appends the lists of `size` rows, each with the room for the earlier neighbours of its row before its column below
+/// the diagonal, and rows after the last list, `room` words in all.
 fn push_lists<I: PrimInt, S: Signed, A: Allocator>(
     size: usize,
     a_p: &[I],
@@ -186,11 +188,11 @@ fn push_lists<I: PrimInt, S: Signed, A: Allocator>(
         push_list(size, a_p, a_i, j, degree, iw);
         free += degree;
     }
-    push_rows(iw, 0, room - free);
+    push_rows(iw, size - 1, room - free);
 }
 
-/// Writes row `j` behind the earlier neighbours of each row that its own column names, which stands behind its earlier
-/// neighbours and ends before the word `end`.
+/// Writes row `j` after the earlier neighbours of each row of its own column below the diagonal. That column is in
+/// `iw`, after the earlier neighbours of row `j`, up to the word `end`.
 fn spread<S: Signed, U: Unsigned>(next: &mut [Figure<U>], iw: &mut [Word<S>], j: usize, end: usize)
     requires ready { (m : Matrix) × IsReady m j end S.MOST U.MOST next.old iw.old }
     ensures long { length iw.new ≡ length iw.old }
@@ -225,7 +227,7 @@ fn spread_lists<S: Signed, U: Unsigned>(
 
 /// Lays the lists of a pattern of `size` rows that has no entry above the diagonal in a workspace of `room` words. Each
 /// number of `next` is where the list of its row starts, and afterwards where its earlier neighbours end. The words
-/// behind the last list name rows.
+/// after the last list name rows.
 ///
 /// # Errors
 ///

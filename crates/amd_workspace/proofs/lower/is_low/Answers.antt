@@ -3,7 +3,7 @@ use Rattle.std.proofs.Common.{◌+◌, ◌<◌, ◌^◌, arith, map, sym, subst}
 use Rattle.std.proofs.lemmas.List.{length-map}
 use Rattle.std.proofs.lemmas.Bool.{leb-true, le-leb}
 use Rattle.amd_edges.proofs.Forms.{pointer_fits, row_fits, place_in}
-use Rattle.amd_workspace.proofs.LowerWords.{none_low, all_low, low_first, first_before}
+use Rattle.amd_workspace.proofs.LowerColumns.{none_low, all_low, low_first, first_before}
 use Rattle.amd_workspace.proofs.lower.is_low.Goals as goal
 
 pub count_at-first-requires-clause-fits : goal.count_at-first-requires-clause-fits

@@ -2,7 +2,7 @@
 use Rattle.std.proofs.Common.{◌+◌, ◌<◌, ◌^◌, ◌∙◌, arith, map, sym, subst}
 use Rattle.std.proofs.lemmas.List.{length-map}
 use Rattle.amd_edges.proofs.Forms.{pointer_fits, row_fits, place_in}
-use Rattle.amd_workspace.proofs.LowerWords.{first_before, slice_none, slice_on, slice_below}
+use Rattle.amd_workspace.proofs.LowerColumns.{first_before, slice_none, slice_on, slice_below}
 use Rattle.amd_workspace.proofs.lower.own_first.Goals as goal
 
 pub count_at-first-requires-clause-fits : goal.count_at-first-requires-clause-fits

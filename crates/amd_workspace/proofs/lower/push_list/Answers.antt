@@ -4,7 +4,7 @@ use Rattle.std.specs.Prelude.{replicate}
 use Rattle.std.proofs.lemmas.List.{length-map, length-append, length-replicate}
 use Rattle.amd_edges.proofs.Forms.{pointer_fits}
 use Rattle.amd_workspace.specs.Lower.{own_of}
-use Rattle.amd_workspace.proofs.LowerWords.{slice_long}
+use Rattle.amd_workspace.proofs.LowerColumns.{slice_long}
 use Rattle.amd_workspace.proofs.lower.push_list.Goals as goal
 
 pub count_at-requires-clause-fits : goal.count_at-requires-clause-fits

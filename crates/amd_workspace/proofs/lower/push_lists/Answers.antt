@@ -86,8 +86,8 @@ returns-clause-long g c =
     let e = free_end c.args.size (map g.I.Number.value c.args.a_p.now) (map g.I.Number.value c.args.a_i.now) c.rows.j c.rows.free
     c.rows.invariant.free (omega (arith, a, b)) in
     let long = c.rows.invariant.long in let count = c.args.room - c.rows.free in
-    let whole = ap length c.push_rows.ensures.items in let size = length-append c.rows.iw.items (replicate count (pos 0)) in
-    let d = length-replicate count (pos 0) in omega (arith, e, room, long, whole, size, d)
+    let whole = ap length c.push_rows.ensures.items in let size = length-append c.rows.iw.items (replicate count (pos (c.args.size - 1))) in
+    let d = length-replicate count (pos (c.args.size - 1)) in omega (arith, e, room, long, whole, size, d)
 
 pub returns-clause-own : goal.returns-clause-own
 returns-clause-own g c =
@@ -95,5 +95,5 @@ returns-clause-own g c =
     let a = c.rows.auto.j-end in let b = c.rows-test.false in let last : c.rows.j ≡ n = omega (arith, a, b) in
     let e = free_end n ap' ai c.rows.j c.rows.free c.rows.invariant.free last in let long = c.rows.invariant.long in
     subst (HoldsOwn n ap' ai n) (sym c.push_rows.ensures.items)
-    (held_filled n ap' ai c.requires.lower n c.rows.iw.items 0 (c.args.room - c.rows.free) (omega arith) (omega (arith, long, e))
-    c.requires.some (subst (λ m. HoldsOwn n ap' ai m c.rows.iw.items) last c.rows.invariant.held))
+    (held_filled n ap' ai c.requires.lower n c.rows.iw.items (n - 1) (c.args.room - c.rows.free) (omega arith) (omega (arith, long, e))
+    (let some = c.requires.some in omega (arith, some)) (subst (λ m. HoldsOwn n ap' ai m c.rows.iw.items) last c.rows.invariant.held))
