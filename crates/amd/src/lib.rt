@@ -1,6 +1,6 @@
 //! An approximate minimum degree ordering of sparse matrices.
 //!
-//! [`order`] takes the pattern of a square matrix by columns and answers a permutation of its rows, its inverse, and
+//! [`order`] takes the pattern of a square matrix by columns and returns a permutation of its rows, its inverse, and
 //! figures. [`order_holding`] does the same with rows that a caller wants last. [`control`] and [`info`] write what a
 //! caller chooses and what the ordering tells, as text.
 #![tactic(auto)]
@@ -27,7 +27,7 @@ use num_traits::PrimInt;
 use std::alloc::Allocator;
 
 /// The words of a workspace for lists of `nzaat` entries in all, with a fifth more and `n` words of elbow room, where
-/// they are at most the greatest `isize`.
+/// they are at most `isize::MAX`.
 fn workspace_words(nzaat: usize, n: usize) -> Option<usize>
     ensures { SomeIff result (nzaat + nzaat / 5 + n < 2 ^ 63) (nzaat + nzaat / 5 + n) }
 {
@@ -137,23 +137,28 @@ fn order_form<I: PrimInt, A: Allocator + Copy>(
     }
 }
 
-/// Orders the rows of the square matrix with `n` columns whose column `j` holds the rows `a_i[a_p[j]..a_p[j + 1]]`, by
-/// the pattern of `A + A'`, and answers the permutation, its inverse, and what is known of the matrix: row `p[k]`
-/// stands at place `k`, and `p_inv[p[k]]` is `k`.
+/// Orders the rows of a square matrix by the pattern of `A + A'`; returns the permutation, its inverse, and the record.
 ///
-/// The input is a *column form*: `n` is not negative, `a_p` has at least `n + 1` pointers, of which the first is 0; up
+/// The matrix has `n` columns, and column `j` holds the rows `a_i[a_p[j]..a_p[j + 1]]`. The permutation `p` and its
+/// inverse `p_inv` have `n` numbers each, in `0..n`: row `p[k]` is at place `k`, and `p_inv[p[k]]` is `k`. The record
+/// tells what is known of the matrix. Its status is `OkButJumbled` where some column is out of order or has a
+/// duplicate, else `OK`.
+///
+/// The input is a *column form*: `n` is not negative; `a_p` has at least `n + 1` pointers, of which the first is 0; up
 /// to `a_p[n]`, which is at most the length of `a_i`, they never descend; and the row indices before place `a_p[n]` lie
-/// in `0..n`. What stands behind is ignored. Columns may be out of order and have repeats. A sorted input is used as it
+/// in `0..n`. What follows is ignored. Columns may be out of order and have duplicates. A sorted input is used as it
 /// is, and a jumbled one is replaced by its sorted transpose.
 ///
-/// For `n = 0` two empty vectors and `Info::new(0)`, whatever the pointers are.
+/// For `n = 0` the result is two empty vectors and `Info::new(0)`, whatever the pointers are.
 ///
-/// Of `n_cmp_a` the contract says only that it is at most `n`; and not that `OutOfMemory` comes for no other cause.
+/// The contract bounds `n_cmp_a` by `n` and says no more of it. It cannot say that `OutOfMemory` has no other cause
+/// than those below.
 ///
 /// # Errors
 ///
-/// `Invalid` exactly where `n` is not 0 and the input is no column form; no memory is asked before. `OutOfMemory` where
-/// an allocation was refused, or the workspace would have more than the greatest `isize` of words.
+/// `Invalid` exactly where `n` is not 0 and the input is no column form; no memory is asked before. `OutOfMemory`, only
+/// for a column form with `n` not 0, where an allocation was refused, or the workspace would have more than
+/// `isize::MAX` words.
 ///
 /// Source: AMD user guide; Amestoy, Davis and Duff 1996 and 2004.
 pub fn order<I: PrimInt, A: Allocator + Copy>(
@@ -172,11 +177,14 @@ pub fn order<I: PrimInt, A: Allocator + Copy>(
     order_form(alloc, n, a_p, a_i, control, None)
 }
 
-/// Orders as [`order`] does, with the rows marked in `hold` held last beside the dense ones: they take no part in the
-/// elimination, stand last in rising order, and are counted in `n_dense`. A marked row may be empty. With nothing
-/// marked, and where each marked row is dense anyway, the answer is that of `order`.
+/// Orders as [`order`] does, with the rows marked in `hold` held last beside the dense ones.
 ///
-/// For `n = 0` two empty vectors and `Info::new(0)`, whatever the pointers and the marks are.
+/// `hold` has one mark for each of the `n` rows. The permutation and its inverse have `n` numbers each. The marked rows
+/// and the dense ones take no part in the elimination, come last, together in ascending order, and are counted in
+/// `n_dense`. A marked row may be empty. With nothing marked, and where each marked row is dense anyway, the result is
+/// that of `order`.
+///
+/// For `n = 0` the result is two empty vectors and `Info::new(0)`, whatever the pointers and the marks are.
 ///
 /// # Errors
 ///

@@ -10,7 +10,8 @@ use amd_symbolic::{Fault, columns};
 use num_traits::PrimInt;
 use std::alloc::Global;
 
-/// The number of an outcome: 0 where the columns were written.
+/// The number of an outcome: 0 where the columns were written, -1 for `OutOfMemory`, -2 for `NotColumnForm`, -3 for
+/// `NotPermutation` and -4 for `RoomTooSmall`.
 pub fn number_of_end(outcome: &Result<(), Fault>) -> i32
     ensures { result ≡ number_of_end outcome.now }
 {
@@ -37,7 +38,7 @@ fn have_column_places<I: PrimInt>(n: I, ptr: &[I], parent: &[I]) -> bool
 ///
 /// # Errors
 ///
-/// `OutOfMemory` where a request was refused, or a count is too great for the type.
+/// `OutOfMemory` where a request was refused, or a count is too large for the type.
 fn numbers_of<I: PrimInt>(alloc: Global, counts: &[usize]) -> Result<Vec<I, Global>, Fault>
     ensures numbers { IfOk result (λ v. map I.value v.items ≡ map pos counts.now) }
     ensures fault { IfErr result (λ e. e ≡ Fault.OutOfMemory) }
@@ -66,7 +67,7 @@ fn number_of_parent<I: PrimInt>(parent: Option<usize>) -> Option<I>
 ///
 /// # Errors
 ///
-/// `OutOfMemory` where a request was refused, or a number is too great for the type.
+/// `OutOfMemory` where a request was refused, or a number is too large for the type.
 fn parents_of<I: PrimInt>(alloc: Global, parents: &[Option<usize>]) -> Result<Vec<I, Global>, Fault>
     ensures numbers { IfOk result (λ v. map I.value v.items ≡ map parent_number parents.now) }
     ensures fault { IfErr result (λ e. e ≡ Fault.OutOfMemory) }
@@ -81,15 +82,19 @@ fn parents_of<I: PrimInt>(alloc: Global, parents: &[Option<usize>]) -> Result<Ve
     Ok(numbers)
 }
 
-/// Writes the columns of the factor of a matrix under the order `p`: where each column begins into `ptr`, which has `n
-/// + 1` places, the entries into `rows`, and the parents into `parent`, which has `n` places, with -1 for none. What
-/// stands in `rows` behind the entries stays.
+/// Writes the columns of the factor of a matrix under the order `p` into the caller's arrays.
+///
+/// The input is as that of `columns` of the crate `amd_symbolic`, with the length of `rows` as room. Where each column
+/// begins, and the end of the last one, is written into `ptr`, which has `n + 1` places; the entries are written into
+/// `rows`; and the parents into `parent`, which has `n` places, with -1 for none. What follows the entries in `rows`
+/// stays.
 ///
 /// # Errors
 ///
-/// Those of `columns` of the crate `amd_symbolic`, with the length of `rows` as room; all stays as it was.
-/// `NotColumnForm` also where `ptr` or `parent` has not that many places, and `OutOfMemory` also where a pointer is too
-/// great for the type.
+/// Those of `columns`; all stays as it was. `NotColumnForm` also where `ptr` or `parent` has not that many places, and
+/// `OutOfMemory` also where a number is too large for the type.
+///
+/// Source: Rose, Tarjan and Lueker 1976; Liu 1990; Davis 2005.
 pub fn columns_into<I: PrimInt>(
     alloc: Global,
     n: I,

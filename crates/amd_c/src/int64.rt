@@ -11,7 +11,18 @@ use crate::writing::order_into;
 use amd::valid::valid;
 use std::alloc::Global;
 
-/// Orders a matrix, as `order` of the crate `amd`.
+/// Orders a matrix, as `order` of the crate `amd`, and returns the number of the status.
+///
+/// The permutation is written into `p`, its inverse into `p_inv`, and what the ordering tells into `statistics`. `p`
+/// and `p_inv` have `n` places each. For `n = 0` only `statistics` is written. The number is 1 where some column is out
+/// of order or has a duplicate, else 0. See `include/rimopaku.h` for what a caller must uphold.
+///
+/// # Errors
+///
+/// A negative number; `p`, `p_inv` and `statistics` stay as they were. It is -2, `Invalid`, exactly where `p` or
+/// `p_inv` has not `n` places, or `n` is not 0 and the input is no column form; and -1, `OutOfMemory`, as `order` says.
+///
+/// Source: AMD user guide; Amestoy, Davis and Duff 1996 and 2004.
 #[unsafe(no_mangle)]
 pub extern "C" fn rimopaku_order_i64(
     alloc: Global,
@@ -31,7 +42,20 @@ pub extern "C" fn rimopaku_order_i64(
     number_of(&status)
 }
 
-/// Orders a matrix with rows that are held last, as `order_holding` of the crate `amd`.
+/// Orders a matrix with rows held last, as `order_holding` of the crate `amd`, and returns the number of the status.
+///
+/// `hold` has one mark for each of the `n` rows. The permutation is written into `p`, its inverse into `p_inv`, and
+/// what the ordering tells into `statistics`. `p` and `p_inv` have `n` places each. For `n = 0` only `statistics` is
+/// written. The number is 1 where some column is out of order or has a duplicate, else 0. See `include/rimopaku.h` for
+/// what a caller must uphold.
+///
+/// # Errors
+///
+/// A negative number; `p`, `p_inv` and `statistics` stay as they were. It is -2, `Invalid`, exactly where `p` or
+/// `p_inv` has not `n` places, or `n` is not 0 and either the input is no column form or `hold` has not `n` marks; and
+/// -1, `OutOfMemory`, as `order_holding` says.
+///
+/// Source: AMD user guide; Amestoy, Davis and Duff 1996 and 2004.
 #[unsafe(no_mangle)]
 pub extern "C" fn rimopaku_order_holding_i64(
     alloc: Global,
@@ -53,7 +77,13 @@ pub extern "C" fn rimopaku_order_holding_i64(
     number_of(&status)
 }
 
-/// The status of an input, as `valid` of the crate `amd`.
+/// The number of the status of an input with `n_row` rows and `n_col` columns, as `valid` of the crate `amd`.
+///
+/// It is -2, `Invalid`, where the input is no column form; else 1, `OkButJumbled`, where some column is out of order or
+/// has a duplicate; else 0, `OK`. Any numbers and lengths are allowed, and no memory is taken. See `include/rimopaku.h`
+/// for what a caller must uphold.
+///
+/// Source: AMD user guide.
 #[unsafe(no_mangle)]
 pub extern "C" fn rimopaku_valid_i64(n_row: i64, n_col: i64, a_p: &[i64], a_i: &[i64]) -> i32
     ensures { ClassifiesInput n_row n_col a_p.now a_i.now result }
@@ -61,7 +91,21 @@ pub extern "C" fn rimopaku_valid_i64(n_row: i64, n_col: i64, a_p: &[i64], a_i: &
     number_of(&valid(n_row, n_col, a_p, a_i))
 }
 
-/// Writes the columns of a factor, as `columns` of the crate `amd_symbolic` answers them.
+/// Writes the columns of a factor, as `columns` of the crate `amd_symbolic` returns them, and returns 0.
+///
+/// Where each column begins, and the end of the last one, is written into `ptr`, which has `n + 1` places; the entries
+/// are written into `rows`, whose length is the room; and the parents into `parent`, which has `n` places, with -1 for
+/// none. What follows the entries in `rows` stays. See `include/rimopaku.h` for what a caller must uphold.
+///
+/// # Errors
+///
+/// A negative number; the arrays stay as they were. It is -2, `NotColumnForm`, exactly where `ptr` or `parent` has not
+/// that many places, or `n` is not 0 and the input is no column form. It is -3, `NotPermutation`, where `p` does not
+/// list each number below `n`, once; -4, `RoomTooSmall`, where the factor has more entries than `rows` has places; and
+/// -1, `OutOfMemory`, where a request for memory was refused, or a number is too large for the type. The last may come
+/// in place of the two before it.
+///
+/// Source: Rose, Tarjan and Lueker 1976; Liu 1990; Davis 2005.
 #[unsafe(no_mangle)]
 pub extern "C" fn rimopaku_columns_i64(
     alloc: Global,

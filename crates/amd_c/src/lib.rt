@@ -2,7 +2,7 @@
 //! `amd_symbolic`, for `int32_t` ([`int32`]) and `int64_t` ([`int64`]).
 //!
 //! A slice crosses as a pointer and a length, and a record by its address. An ordering is written into the caller's
-//! arrays, and the answer is the number of a status. The header `include/rimopaku.h` says what a caller must uphold.
+//! arrays, and a call returns the number of a status. The header `include/rimopaku.h` says what a caller must uphold.
 #![tactic(auto)]
 
 mod factors;
@@ -16,7 +16,9 @@ ghost use Rattle.std.specs.Prelude.{◌≡◌, pos, true};
 use crate::records::Parameters;
 use amd::Control;
 
-/// Writes the parameters that a caller has who chooses nothing: 10 times the root of `n`, and aggressive absorption.
+/// Writes the default parameters: 10000 thousandths, aggressive absorption.
+///
+/// Source: AMD user guide.
 #[unsafe(no_mangle)]
 pub extern "C" fn rimopaku_defaults(parameters: &mut Parameters)
     ensures dense { parameters.new.dense ≡ pos 10000 }

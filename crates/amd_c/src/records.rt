@@ -10,32 +10,47 @@ use amd::{Info, Status};
 #[derive(Drop)]
 #[repr(C)]
 pub struct Parameters {
-    /// The dense row parameter in thousandths, as in `Control` of the crate `amd`.
+    /// The dense row parameter in thousandths, as in `Control` of the crate `amd`. Any number is allowed.
     pub dense: i32,
-    /// Whether absorption is aggressive.
+    /// Whether absorption is aggressive, as in `Control`.
     pub aggressive: bool,
 }
 
-/// What an ordering tells beside the permutations: the fields of `Info` of the crate `amd` but for the status, which is
-/// the answer.
+/// What an ordering tells beside the permutations: the fields of `Info` of the crate `amd` but for the status, which
+/// the call returns.
+///
+/// Source: AMD user guide.
 #[derive(Drop)]
 #[repr(C)]
 pub struct Statistics {
+    /// The number of rows and columns.
     pub n: usize,
+    /// The number of entries of the pattern, without duplicates.
     pub nz: usize,
+    /// Whether the pattern is its own transpose.
     pub symmetry: bool,
+    /// The number of entries on the diagonal.
     pub nz_diag: usize,
+    /// The entries of the pattern of `A + A'` off the diagonal.
     pub nz_a_plus_at: usize,
+    /// The number of rows held last: the dense ones, and those that a caller marks.
     pub n_dense: usize,
+    /// How often the workspace was compacted: at most `n` times.
     pub n_cmp_a: usize,
+    /// An upper bound on the entries of the factor `L` below the diagonal. It and the next three fields saturate: one
+    /// that is `usize::MAX` may be too small.
     pub lnz: usize,
+    /// An upper bound on the divisions of a factorization, equal to `lnz`.
     pub n_div: usize,
+    /// An upper bound on the multiply-subtract steps of a factorization `LDL'`.
     pub n_mult_subs_ldl: usize,
+    /// An upper bound on the multiply-subtract steps of a factorization `LU`.
     pub n_mult_subs_lu: usize,
+    /// An upper bound on the entries of a column of the factor `L`, with its diagonal: at most `n`.
     pub d_max: usize,
 }
 
-/// The statistics of a record.
+/// The statistics of a record: its fields but for the status.
 pub fn statistics_of(info: &Info) -> Statistics
     ensures { result ≡ statistics_of info.now }
 {
@@ -55,7 +70,9 @@ pub fn statistics_of(info: &Info) -> Statistics
     }
 }
 
-/// The number of a status.
+/// The number of a status: 0 for `OK`, 1 for `OkButJumbled`, -1 for `OutOfMemory` and -2 for `Invalid`.
+///
+/// Source: AMD user guide.
 pub fn number_of(status: &Status) -> i32
     ensures { result ≡ number_of status.now }
 {

@@ -44,11 +44,19 @@ fn order_marked<I: PrimInt>(
     }
 }
 
-/// Orders a matrix, writes the permutation into `p`, its inverse into `p_inv` and what the ordering tells into
-/// `statistics`, and answers the status. Each of the two arrays has `n` places. Where the status is an error, all stays
-/// as it was.
+/// Orders a matrix into the caller's arrays, with or without marks of rows to hold last, and returns the status.
 ///
-/// `Invalid` also where an array has not `n` places.
+/// The input is as that of `order` of the crate `amd`, and with marks as that of `order_holding`: `hold` then has one
+/// for each of the `n` rows. The permutation is written into `p`, its inverse into `p_inv`, and what the ordering tells
+/// into `statistics`. Each of the two arrays has `n` places. The status is `OkButJumbled` where some column is out of
+/// order or has a duplicate, else `OK`.
+///
+/// # Errors
+///
+/// A status that is an error; all stays as it was. `Invalid` exactly where `p` or `p_inv` has not `n` places, or
+/// `order`, with marks `order_holding`, returns it. `OutOfMemory` as they do.
+///
+/// Source: AMD user guide; Amestoy, Davis and Duff 1996 and 2004.
 pub fn order_into<I: PrimInt>(
     alloc: Global,
     n: I,

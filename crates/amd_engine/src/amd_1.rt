@@ -17,8 +17,10 @@ use amd_workspace::laying::{Laid, lay};
 use num_traits::PrimInt;
 use std::alloc::{AllocError, Allocator};
 
-/// Whether words of these widths hold all numbers of an elimination of `n` rows in `iwlen` words from the flag `flag`
-/// on.
+/// Whether words of these widths hold all numbers of an elimination of `n` rows in `iwlen` words from flag `flag` on.
+///
+/// They do where `n + 2` and `iwlen` are at most the maximum of each of the two widths, and `flag` is at most that of
+/// the one without a sign. `n` is below 2^63; any `iwlen` and `flag` are allowed.
 pub fn holds<S: Signed, U: Unsigned>(n: usize, iwlen: usize, flag: usize) -> bool
     requires { n < 2 ^ 63 }
     ensures { IsTrue result ↔ ((n + 2 ≤ S.MOST) × (n + 2 ≤ U.MOST) × (iwlen ≤ S.MOST) × (iwlen ≤ U.MOST) ×
@@ -27,13 +29,13 @@ pub fn holds<S: Signed, U: Unsigned>(n: usize, iwlen: usize, flag: usize) -> boo
     n + 2 <= S::MOST && n + 2 <= U::MOST && iwlen <= S::MOST && iwlen <= U::MOST && flag <= U::MOST
 }
 
-/// The greatest block, in words of 32 bits, whose return tells the allocator of glibc how much to keep: 32 MB, but for
+/// The largest block, in words of 32 bits, whose return tells the allocator of glibc how much to keep: 32 MB, but for
 /// its own head.
 const GREATEST_MEASURE: usize = 8_380_000;
 
 /// Asks for most of the memory that an ordering of `n` rows in `iwlen` words of 32 bits takes beside its input, and
-/// gives it back at once. An allocator may keep as much free memory as twice the greatest block that it was given back,
-/// and return the rest to the system, as that of glibc does. No list of an ordering is as great; so without this
+/// gives it back at once. An allocator may keep as much free memory as twice the largest block that it was given back,
+/// and return the rest to the system, as that of glibc does. No list of an ordering is as large; so without this
 /// request each ordering would take all its pages from the system anew.
 ///
 /// # Errors
@@ -96,11 +98,16 @@ fn order_in<I: PrimInt, S: Signed, U: Unsigned, A: Allocator + Copy>(
     Ok((p, p_inv))
 }
 
-/// As `amd_1`, with a first flag of 2 or more: the answer is the same with each. For tests.
+/// As `amd_1`, with a first flag of 2 or more: the result is the same with each. For tests.
+///
+/// The arguments and results have the shapes that `amd_1` says.
 ///
 /// # Errors
 ///
-/// `OutOfMemory` for a refused request.
+/// `OutOfMemory` where a request was refused, or neither width of word holds the numbers, which is so only where
+/// `n + 2` exceeds `isize::MAX`: no memory holds the degrees of so many rows.
+///
+/// Source: Amestoy, Davis and Duff 1996 and 2004.
 pub fn amd_1_from<I: PrimInt, A: Allocator + Copy>(
     alloc: A,
     flag: usize,
@@ -146,14 +153,23 @@ pub fn amd_1_from<I: PrimInt, A: Allocator + Copy>(
     Err(Status::OutOfMemory)
 }
 
-/// Orders the rows of a matrix with at least one row and sorted columns, whose rows have the degrees `len`, by
-/// elimination in a workspace of `iwlen` words, at least as many as the degrees add up to and one more for each row.
-/// The rows marked in `hold`, which has a mark for each row where it is given, are held last beside the dense ones.
-/// Writes of `info` the number of rows held last, the figures of the fronts, and how often the workspace was packed.
+/// Orders the rows of a matrix with sorted columns by elimination in a workspace of `iwlen` words.
+///
+/// The input is a column form with `n` rows and columns, at least one, each strictly ascending: `valid` tells `OK`.
+/// `len` has the degree of each of the `n` rows, and stays as it is. `iwlen` is at least the sum of the degrees plus
+/// `n`, and below 2^63. The rows marked in `hold`, which has one mark for each row where it is given, are held last
+/// beside the dense ones.
+///
+/// Returns the permutation `p` and its inverse `p_inv`, which have `n` numbers each: row `p[k]` is at place `k`, and
+/// `p_inv[p[k]]` is `k`. Writes of `info` the number of rows held last, the figures of the fronts, and how often the
+/// workspace was compacted, at most `n` times.
 ///
 /// # Errors
 ///
-/// `OutOfMemory` for a refused request. What `info` then holds is not said.
+/// `OutOfMemory` where a request was refused, or neither width of word holds the numbers, which is so only where
+/// `n + 2` exceeds `isize::MAX`: no memory holds the degrees of so many rows. What `info` then holds is not said.
+///
+/// Source: Amestoy, Davis and Duff 1996 and 2004.
 pub fn amd_1<I: PrimInt, A: Allocator + Copy>(
     alloc: A,
     n: I,

@@ -35,11 +35,15 @@ fn tell(told: &Told, info: &mut Info)
     told.figures.write_figures(info);
 }
 
-/// As `amd_2`, with a first flag of 2 or more: the answer is the same with each. For tests.
+/// As `amd_2`, with a first flag of 2 or more: the result is the same with each. `amd_1` calls it.
+///
+/// The arguments and results have the shapes that `amd_2` says, where `iwlen` is the length of `iw`.
 ///
 /// # Errors
 ///
-/// `OutOfMemory` for a refused request.
+/// `OutOfMemory` where a request was refused. What `info` then holds is not said.
+///
+/// Source: Amestoy, Davis and Duff 1996 and 2004.
 pub fn amd_2_from<I: PrimInt, S: Signed, U: Unsigned, A: Allocator + Copy>(
     alloc: A,
     flag: usize,
@@ -80,14 +84,23 @@ pub fn amd_2_from<I: PrimInt, S: Signed, U: Unsigned, A: Allocator + Copy>(
     Ok((counts.nv, lists.p_inv, lists.p, counts.e_len))
 }
 
-/// Eliminates the rows of a workspace of `iwlen` words in which the lists of the neighbours are laid: that of row `i`
-/// has `len[i]` words from `pe[i]` on, and no list has a word from `pfree` on. Answers the number of rows of the block
-/// of each element, the inverse of the permutation, the permutation, and the number of rows of the front of each
-/// element, and -1 for what is none.
+/// Eliminates the rows of a workspace in which the lists of the neighbours are laid, and lists them.
+///
+/// `pe` and `len` have `n` places, at least one, and `iw` has `iwlen` words. The list of row `i` has `len[i]` words
+/// from `pe[i]` on: its neighbours. The lists fill the first `pfree` words of `iw`, and `pfree + n <= iwlen`. Both
+/// widths of word hold `n + 2` and `iwlen`. `hold`, where it is given, has one mark for each of the `n` rows: those
+/// marked are held last beside the dense ones. What `pe`, `iw` and `len` hold afterwards is not said.
+///
+/// Returns four lists of `n` numbers: the number of rows of the block of each element, and 0 for what is none; the
+/// inverse of the permutation; the permutation; and the number of rows of the front of each element, and -1 for what is
+/// none. Writes of `info` the number of rows held last, the figures of the fronts, and how often the workspace was
+/// compacted, at most `n` times.
 ///
 /// # Errors
 ///
-/// `OutOfMemory` for a refused request.
+/// `OutOfMemory` where a request was refused. What `info` then holds is not said.
+///
+/// Source: Amestoy, Davis and Duff 1996 and 2004.
 pub fn amd_2<I: PrimInt, S: Signed, U: Unsigned, A: Allocator + Copy>(
     alloc: A,
     n: I,

@@ -32,8 +32,17 @@ fn push_numbers<I: PrimInt, U: Unsigned, A: Allocator>(
     }
 }
 
-/// Makes what rounds left into links and numbers of rows, and writes the listing and its inverse. The links are
-/// shortened, and those by bound are room; bounds and counters too, which hold the two answers until they are written.
+/// Makes what rounds left into links and numbers of rows, and writes the permutation and its inverse.
+///
+/// Shortens the links in `pe`, uses the lists by bound as scratch, builds the permutation and its inverse in `degree`
+/// and `w`, and pushes them into `p` and `p_inv`.
+///
+/// `pe` and each list of `counts` and `links` have `n` places, and hold what `run_fresh` left. `p` and `p_inv` are
+/// empty, with room for `n` numbers of a type that has each number below `n`; afterwards they have `n` numbers each.
+/// Both widths of word hold `n + 2`. For each element, `nv` then has the number of rows of its block, and `e_len` that
+/// of its front; for what is none, 0 and -1.
+///
+/// Source: Amestoy, Davis and Duff 2004.
 pub fn list_rows<I: PrimInt, S: Signed, U: Unsigned, A: Allocator>(
     pe: &mut [Word<S>],
     counts: &mut Counts<S, U, A>,

@@ -1,4 +1,4 @@
-// Fresh lists for an elimination in one workspace and for its answer: all memory that it takes beside the words of its
+// Fresh lists for an elimination in one workspace and for its result: all memory that it takes beside the words of its
 // lists is asked for here, before the first round. Called by `amd_2`.
 
 ghost use Rattle.std.specs.Prelude.{◌≡◌, ◌≤◌, ℕ, pos, replicate, length, IfOk};
@@ -10,7 +10,7 @@ use amd_workspace::filling::{figures, words};
 use num_traits::PrimInt;
 use std::alloc::{AllocError, Allocator};
 
-/// The numbers of each row.
+/// The numbers of each row: four lists with a place for each row.
 #[derive(Drop)]
 pub struct Counts<S: Signed, U: Unsigned, A: Allocator> {
     /// The number of rows of each class, and at the end that of each block.
@@ -23,25 +23,29 @@ pub struct Counts<S: Signed, U: Unsigned, A: Allocator> {
     pub w: Vec<Figure<U>, A>,
 }
 
-/// The lists by bound, and the buckets. After the rounds they are room for the listing.
+/// The lists by bound, and the buckets: four lists with a place for each row.
+///
+/// After the rounds they are room for the listing.
 #[derive(Drop)]
 pub struct Links<U: Unsigned, A: Allocator> {
-    /// The first class of each bound; there is none.
+    /// The first class of each bound. At first there is none.
     pub head: Vec<Figure<U>, A>,
-    /// The class behind each one.
+    /// The class after each one.
     pub next: Vec<Figure<U>, A>,
     /// The class before each one.
     pub last: Vec<Figure<U>, A>,
-    /// The first class of each bucket; there is none.
+    /// The first class of each bucket. At first there is none.
     pub hash: Vec<Figure<U>, A>,
 }
 
-/// The numbers of each of `n` rows. Each is `n`, which nothing relies on: a loop of stores is faster here than the
-/// `memset` that zeros would become.
+/// The numbers of each of `n` rows: four lists of `n` numbers.
+///
+/// Both widths hold `n`. Each number is `n`, which nothing relies on: a loop of stores is faster here than the `memset`
+/// that zeros would become.
 ///
 /// # Errors
 ///
-/// A refused request for memory.
+/// `AllocError` where a request for memory was refused.
 pub fn fresh_counts<S: Signed, U: Unsigned, A: Allocator + Copy>(
     alloc: A,
     n: usize,
@@ -58,11 +62,13 @@ pub fn fresh_counts<S: Signed, U: Unsigned, A: Allocator + Copy>(
     })
 }
 
-/// The lists by bound of `n` rows, and their buckets, with nothing in them.
+/// The lists by bound of `n` rows, and their buckets, with nothing in them: four lists of `n` numbers.
+///
+/// The width holds `n`. Each number of `head` and `hash` is `n`, which names no row.
 ///
 /// # Errors
 ///
-/// A refused request for memory.
+/// `AllocError` where a request for memory was refused.
 pub fn fresh_links<U: Unsigned, A: Allocator + Copy>(
     alloc: A,
     n: usize,
@@ -92,11 +98,13 @@ pub struct Lists<I: PrimInt, S: Signed, U: Unsigned, A: Allocator> {
     pub p_inv: Vec<I, A>,
 }
 
-/// The lists of an elimination of `n` rows.
+/// The lists of an elimination of `n` rows, as `fresh_counts` and `fresh_links` make them, and room for the result.
+///
+/// Both widths hold `n`. `p` and `p_inv` are empty, with room for `n` numbers each.
 ///
 /// # Errors
 ///
-/// A refused request for memory.
+/// `AllocError` where a request for memory was refused.
 pub fn fresh_lists<I: PrimInt, S: Signed, U: Unsigned, A: Allocator + Copy>(
     alloc: A,
     n: usize,

@@ -26,7 +26,7 @@ use std::alloc::Allocator;
 pub struct Told {
     /// The number of rows held last.
     pub n_dense: usize,
-    /// How often the lists were packed.
+    /// How often the workspace was compacted: at most once for each row.
     pub n_cmp_a: usize,
     /// The figures of the fronts.
     pub figures: Figures,
@@ -108,8 +108,19 @@ fn run_rounds<S: Signed, U: Unsigned>(
     }
 }
 
-/// Starts the elimination of a workspace that is laid, and eliminates until no row is live. The rows marked in `hold`
-/// and those of a degree above the threshold are held last.
+/// Starts the elimination of a workspace that is laid, and eliminates until no row is live.
+///
+/// `iw` is the workspace. The other lists have `n` places each, one for each row. The list of row `i` has `len[i]`
+/// words from `pe[i]` on: its neighbours. The lists fill the first `free` words, and `n` words or more follow them. In
+/// `head` and `hash` each number is `n` or more, so that it names no row; in `e_len`, `nv`, `degree`, `w`, `next` and
+/// `last` any numbers are allowed. Both widths of word hold `n + 2` and the length of `iw`. `flag`, the first one, is 2
+/// or more.
+///
+/// The rows marked in `hold`, which has one mark for each row where it is given, and those of a degree above
+/// `threshold` are held last. All lists keep their lengths. What the elimination left is in `pe`, `e_len`, `nv` and
+/// `degree`. The workspace was compacted at most `n` times.
+///
+/// Source: Amestoy, Davis and Duff 1996 and 2004.
 pub fn run<S: Signed, U: Unsigned>(
     iw: &mut [Word<S>],
     pe: &mut [Word<S>],
@@ -153,7 +164,12 @@ pub fn run<S: Signed, U: Unsigned>(
     )
 }
 
-/// As `run`, over fresh lists.
+/// As `run`, over fresh lists, which have `n` places each; `list_rows` can list what it leaves.
+///
+/// The lists in `counts` and `links` are as `fresh_counts` and `fresh_links` make them. `iw`, `pe`, `len`, `free`,
+/// `flag`, `hold` and the widths are as in `run`.
+///
+/// Source: Amestoy, Davis and Duff 1996 and 2004.
 pub fn run_fresh<S: Signed, U: Unsigned, A: Allocator>(
     iw: &mut [Word<S>],
     pe: &mut [Word<S>],

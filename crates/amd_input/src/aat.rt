@@ -59,13 +59,14 @@ fn total(numbers: &[usize]) -> usize
     sum
 }
 
-/// The sum of the degrees and the degree of each row of a matrix with `n` rows, by the pattern of `A + A'`; the figures
-/// of the pattern go to `info`, of which the other fields stay. The pattern is symmetric where there are as many arcs
-/// as entries off the diagonal.
+/// The sum of the degrees and the degree of each row, by the pattern of `A + A'`; writes the figures of the pattern.
 ///
-/// The input is a column form with `n` rows and columns, each of which strictly rises: `valid` tells `OK`. `a_p` has at
-/// least `n + 1` pointers, and `a_i` at least `a_p[n]` row indices; what stands behind is ignored. The list that is
-/// answered has `n` degrees.
+/// The input is a column form with `n` rows and columns, each of which is strictly ascending: `valid` tells `OK`. `a_p`
+/// has at least `n + 1` pointers, and `a_i` at least `a_p[n]` row indices; what follows is ignored. The list that is
+/// returned has `n` degrees, each below `n`.
+///
+/// The figures of the pattern are written into `n`, `nz`, `symmetry`, `nz_diag` and `nz_a_plus_at` of `info`, of which
+/// the other fields stay. The pattern is symmetric where there are as many arcs as entries off the diagonal.
 ///
 /// # Errors
 ///

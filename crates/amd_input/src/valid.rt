@@ -10,14 +10,14 @@ use amd_numbers::amd::Status;
 use amd_numbers::internal::{is_below, is_negative, to_count, value_at};
 use num_traits::PrimInt;
 
-/// Whether the rows at the places from `from` on, before `to`, strictly rise.
+/// Whether the rows at the places from `from` on, before `to`, are strictly ascending.
 fn rises<I: PrimInt>(a_i: &[I], from: usize, to: usize) -> bool
     requires some { from < to }
     requires within { to ≤ length a_i.now }
     ensures rise { result ≡ true → Rise (map I.value a_i.now) from to }
     ensures descend { result ≡ false → HaveDescent (map I.value a_i.now) from to }
 {
-    // All rows are read, even behind a descent: without an early end a processor compares several at once.
+    // All rows are read, even after a descent: without an early end a processor compares several at once.
     let mut rising = true;
     'rows: for k in from + 1..to {
         if !is_below(value_at(a_i, k - 1), value_at(a_i, k)) {
@@ -43,7 +43,7 @@ fn are_rows<I: PrimInt>(n_row: I, a_i: &[I], from: usize, to: usize) -> bool
     true
 }
 
-/// The status of the rows at the places from `from` on, before `to`: those of one column. Rows that rise lie in range
+/// The status of the rows at the places from `from` on, before `to`: those of one column. Ascending rows lie in range
 /// where the first and the last of them do.
 fn column_status<I: PrimInt>(n_row: I, a_i: &[I], from: usize, to: usize) -> Status
     requires ordered { from ≤ to }
@@ -67,13 +67,15 @@ fn column_status<I: PrimInt>(n_row: I, a_i: &[I], from: usize, to: usize) -> Sta
     }
 }
 
-/// The status of an input with `n_col` columns and rows in `0..n_row`: `Invalid` where it is no column form, else
-/// `OkButJumbled` where some column is out of order or has a repeat, else `OK`. For `n_col = 0` one pointer, 0, is
-/// needed. Any arguments are allowed, and no memory is taken.
+/// The status of an input with `n_col` columns and rows in `0..n_row`: whether it is a column form, and sorted.
+///
+/// It is `Invalid` where the input is no column form, else `OkButJumbled` where some column is out of order or has a
+/// duplicate, else `OK`; never `OutOfMemory`. For `n_col = 0` one pointer, 0, is needed. Any arguments are allowed, and
+/// no memory is taken.
 ///
 /// The input is a column form where `n_col` is not negative, `a_p` has at least `n_col + 1` pointers, of which the
 /// first is 0, up to `a_p[n_col]`, which is at most the length of `a_i`, they never descend, and the row indices before
-/// place `a_p[n_col]` lie in `0..n_row`.
+/// place `a_p[n_col]` lie in `0..n_row`. What follows is ignored.
 ///
 /// Source: AMD user guide.
 pub fn valid<I: PrimInt>(n_row: I, n_col: I, a_p: &[I], a_i: &[I]) -> Status

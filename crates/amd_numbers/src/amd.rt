@@ -8,6 +8,10 @@ ghost use Rattle.amd_numbers.specs.declared.amd.Status.TheVariants.{OutOfMemory}
 use std::alloc::{AllocError, AllocFailed};
 
 /// What a caller chooses.
+///
+/// The default is 10000 thousandths and aggressive absorption.
+///
+/// Source: AMD user guide.
 #[derive(Clone, Debug, Drop)]
 pub struct Control {
     /// The dense row parameter in thousandths: a row with more than `max(16, dense / 1000 * sqrt(n))` edges is dense.
@@ -29,16 +33,18 @@ impl Default for Control {
 }
 
 /// How a call went.
+///
+/// Source: AMD user guide.
 #[derive(PartialEq, Clone, Debug, Drop)]
 pub enum Status {
-    /// The input is a column form whose columns are strictly rising; in the record of `order`, also any input with
+    /// The input is a column form whose columns are strictly ascending; in the record of `order`, also any input with
     /// `n = 0`.
     OK,
     /// The input is no column form; `order` tells what that is.
     Invalid,
-    /// The input is a column form in which some column is out of order or has a repeat.
+    /// The input is a column form in which some column is out of order or has a duplicate.
     OkButJumbled,
-    /// Memory was refused, or the workspace would have more words than the greatest `isize`.
+    /// Memory was refused, or the workspace would have more than `isize::MAX` words.
     OutOfMemory,
 }
 
@@ -60,26 +66,28 @@ impl<T: Drop> From<AllocFailed<T>> for Status {
 }
 
 /// What the ordering tells beside the permutations.
+///
+/// Source: AMD user guide.
 #[derive(Clone, Debug, Drop)]
 pub struct Info {
     /// `OK` or `OkButJumbled`.
     pub status: Status,
     /// The number of rows and columns.
     pub n: usize,
-    /// The number of entries of the pattern, repeats dropped.
+    /// The number of entries of the pattern, without duplicates.
     pub nz: usize,
     /// Whether the pattern is its own transpose.
     pub symmetry: bool,
-    /// The number of entries on the diagonal.
+    /// The number of entries on the diagonal: at most `n`.
     pub nz_diag: usize,
     /// Twice the number of edges: the entries of the pattern of `A + A'` off the diagonal.
     pub nz_a_plus_at: usize,
-    /// The number of dense rows.
+    /// The number of rows held last: the dense ones, and those that a caller marks.
     pub n_dense: usize,
     /// How often the workspace was compacted: at most `n` times.
     pub n_cmp_a: usize,
-    /// An upper bound on the entries of the factor `L` below the diagonal. Where it is below the greatest `usize`,
-    /// room for so many entries is enough; this holds of the next three fields too.
+    /// An upper bound on the entries of the factor `L` below the diagonal: at most `n (n - 1) / 2`. It saturates at
+    /// `usize::MAX`: where it is below, room for so many entries is enough. This holds of the next three fields too.
     pub lnz: usize,
     /// An upper bound on the divisions of a factorization, equal to `lnz`.
     pub n_div: usize,
@@ -87,14 +95,15 @@ pub struct Info {
     pub n_mult_subs_ldl: usize,
     /// An upper bound on the multiply-subtract steps of a factorization `LU`.
     pub n_mult_subs_lu: usize,
-    /// The rows of the greatest front: an upper bound on the entries of a column of the factor `L`, with its
-    /// diagonal; 1 at least where there are rows.
+    /// The rows of the largest front: an upper bound on the entries of a column of the factor `L`, with its diagonal.
+    /// It is in `1..=n` where there are rows.
     pub d_max: usize,
 }
 
 impl Info {
-    /// The record of a matrix with `n` rows of which nothing is known yet: status `OK`, `symmetry` false, zeros
-    /// elsewhere.
+    /// The record of a matrix with `n` rows of which nothing is known yet.
+    ///
+    /// Any `n` is allowed. The status is `OK`, `symmetry` is false, and the other fields are 0.
     pub fn new(n: usize) -> Info
         ensures { result ≡ fresh_info n }
     {

@@ -7,7 +7,7 @@ ghost use Rattle.amd_model.specs.Input.Dense.{IsRawThreshold, IsThreshold};
 
 use crate::amd::Control;
 
-/// The greatest `d` with `(1000 d)^2 <= dense^2 n`.
+/// The largest `d` with `(1000 d)^2 <= dense^2 n`.
 fn dense_root(n: usize, dense: u32) -> usize
     ensures { IsRawThreshold n (pos dense) result }
 {
@@ -16,9 +16,13 @@ fn dense_root(n: usize, dense: u32) -> usize
     (square.isqrt() / 1000) as usize
 }
 
-/// The threshold of a matrix with `n` rows: a row with more edges is dense. For a parameter of `dense` thousandths it
-/// is `dense / 1000 * sqrt(n)`, cut to a whole number, and for a negative one `n - 2`; raised to 16, and afterwards
-/// cut to `n`.
+/// The threshold of a matrix with `n` rows: a row with more edges is dense.
+///
+/// For a parameter of `dense` thousandths it is `dense / 1000 * sqrt(n)`, rounded down to a whole number, and for a
+/// negative one `n - 2`, but 0 for `n < 2`; raised to 16 where it is less, and afterwards cut to `n`. Any `n` and any
+/// parameter are allowed.
+///
+/// Source: AMD user guide.
 pub fn dense_threshold(n: usize, control: &Control) -> usize
     ensures { IsThreshold n control.now.dense result }
 {

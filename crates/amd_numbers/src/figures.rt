@@ -1,4 +1,4 @@
-// The figures of a run while it goes on: what its fronts so far add up to, and the greatest of them. The rule is that
+// The figures of a run while it goes on: what its fronts so far add up to, and the largest of them. The rule is that
 // of the AMD user guide. For the engines: an engine adds each front as it makes it, and at the end writes the figures
 // into the record that the caller is handed.
 
@@ -8,8 +8,11 @@ ghost use Rattle.amd_model.specs.Figures.{cut, entries, front_sum, ldl_steps, lu
 use crate::amd::Info;
 use crate::internal::front_counts;
 
-/// What the fronts of a run add up to so far. A sum is exact up to the greatest `usize`, which stands for all that
-/// pass it.
+/// What the fronts of a run add up to so far.
+///
+/// A sum is exact up to `usize::MAX`, which stands for all that exceed it.
+///
+/// Source: AMD user guide.
 #[derive(Clone, Debug, Drop)]
 pub struct Figures {
     /// The entries below the diagonal in the columns of the fronts, as many as the divisions, and no fewer than those
@@ -19,12 +22,17 @@ pub struct Figures {
     pub n_mult_subs_ldl: usize,
     /// The multiply-subtract steps of a factorization `LU`.
     pub n_mult_subs_lu: usize,
-    /// The number of rows of the greatest front, 1 at least where there are rows.
+    /// The number of rows of the largest front, 1 at least where there are rows.
     pub d_max: usize,
 }
 
 impl Figures {
-    /// Adds a front with `f` rows in its block and `r` rows outside, where `f + r` is at most the greatest `usize`.
+    /// Adds a front with `f` rows in its block and `r` rows outside, where `f + r` is at most `usize::MAX`.
+    ///
+    /// Its shares, which `front_counts` gives, are added to the sums, which saturate at `usize::MAX`; `d_max` becomes
+    /// the maximum of itself and `f + r`.
+    ///
+    /// Source: AMD user guide.
     #[tactic(auto, using(crate::proofs::CutSums::add_cut))]
     pub fn add_front(&mut self, f: usize, r: usize)
         requires { f + r < 2 ^ 64 }
@@ -40,7 +48,11 @@ impl Figures {
         self.d_max = self.d_max.max(f + r);
     }
 
-    /// Writes the figures into a record, `lnz` as the number of divisions too. The other fields stay as they were.
+    /// Writes the figures into a record, `lnz` as the number of divisions too.
+    ///
+    /// The other fields of the record stay as they were. Any figures are allowed.
+    ///
+    /// Source: AMD user guide.
     pub fn write_figures(&self, info: &mut Info)
         ensures { info.new ≡ record info.old {
           lnz = self.now.lnz;

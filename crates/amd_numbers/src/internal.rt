@@ -16,7 +16,7 @@ ghost use Rattle.amd_numbers.specs.Links.{named};
 
 use num_traits::PrimInt;
 
-/// The number at a place.
+/// The number at a place, which is below the length of `numbers`.
 #[inline]
 pub fn value_at<I: PrimInt>(numbers: &[I], place: usize) -> I
     requires { place < length numbers.now }
@@ -25,7 +25,7 @@ pub fn value_at<I: PrimInt>(numbers: &[I], place: usize) -> I
     numbers[place]
 }
 
-/// The number as a count, where it is one.
+/// The number as a count, or `None` where it is negative or exceeds `usize::MAX`.
 #[inline]
 pub fn to_count<I: PrimInt>(number: I) -> Option<usize>
     ensures { ChecksUnsigned 64 (I.value number) result }
@@ -49,7 +49,7 @@ pub fn is_negative<I: PrimInt>(number: I) -> bool
     is_below(number, I::zero())
 }
 
-/// The number of the caller's type that a count is, where the type has it.
+/// The number of the caller's type that a count is, or `None` where the type does not have it.
 #[inline]
 pub fn from_count<I: PrimInt>(count: usize) -> Option<I>
     ensures { Checks I.value I.fits (pos count) result }
@@ -57,7 +57,7 @@ pub fn from_count<I: PrimInt>(count: usize) -> Option<I>
     num_traits::cast::<usize, I>(count)
 }
 
-/// The count that a number is, where it is known to be one.
+/// The count that a number is, where it is known to be one: the number is in `0..=usize::MAX`.
 #[inline]
 pub fn known_count<I: PrimInt>(number: I) -> usize
     requires { FitsUnsignedBits 64 (I.value number) }
@@ -74,6 +74,8 @@ pub fn known_count<I: PrimInt>(number: I) -> usize
 }
 
 /// The count at a place, where the number there is known to be one.
+///
+/// `place` is below the length of `numbers`, and the number there is in `0..=usize::MAX`.
 #[inline]
 pub fn count_at<I: PrimInt>(numbers: &[I], place: usize) -> usize
     requires within { place < length numbers.now }
@@ -84,7 +86,7 @@ pub fn count_at<I: PrimInt>(numbers: &[I], place: usize) -> usize
     known_count(value_at(numbers, place))
 }
 
-/// A figure, or the greatest count where the figure passes it.
+/// A figure, or the maximum count where the figure exceeds it.
 #[tactic(auto, unfolding(amd_model::specs::Figures::cut))]
 fn cut_to_count(figure: u128) -> usize
     ensures { result ≡ cut figure }
@@ -92,10 +94,10 @@ fn cut_to_count(figure: u128) -> usize
     figure.min(usize::MAX as u128) as usize
 }
 
-/// The greatest count of rows in the block of a small front, and of rows outside.
+/// The maximum count of rows in the block of a small front, and of rows outside.
 const SMALL_FRONT: usize = 1 << 20;
 
-/// The shares of a front with few rows: as `front_counts`, but each is exact, since no term passes the greatest count.
+/// The shares of a front with few rows: as `front_counts`, but each is exact, as no term exceeds the maximum count.
 fn small_front_counts(f: usize, r: usize) -> (usize, usize, usize)
     requires some { 0 < f }
     requires few { f ≤ 2 ^ 20 }
@@ -130,7 +132,7 @@ fn wide_front_counts(f: usize, r: usize) -> (usize, usize, usize)
     let border = rows * outside;
     let pairs = rows * last / 2;
     let lnz = border.saturating_add(pairs);
-    // A third of a product that saturates still passes the greatest count, and so does the half of such a sum.
+    // A third of a product that saturates still exceeds the maximum count, and so does the half of such a sum.
     let squares = pairs.saturating_mul(2 * rows - 1) / 3;
     let lu = border
         .saturating_mul(outside + last)
@@ -139,11 +141,14 @@ fn wide_front_counts(f: usize, r: usize) -> (usize, usize, usize)
     (cut_to_count(lnz), cut_to_count(ldl), cut_to_count(lu))
 }
 
-/// The shares of a front with `f` rows in its block and `r` rows outside: its entries below the diagonal, and its
-/// multiply-subtract steps in a factorization `LDL'` and in a factorization `LU`. They are the sums of `c`, of
-/// `c (c + 1) / 2` and of `c^2` over the columns, where `c` runs from `r` to `r + f - 1`. Any `f` and `r` are
-/// allowed, and each sum is exact up to the greatest count, which stands for all that pass it. Source: AMD user
-/// guide.
+/// The shares of a front in the figures, where `f` rows are in its block and `r` rows outside.
+///
+/// They are its entries below the diagonal, and its multiply-subtract steps in a factorization `LDL'` and in a
+/// factorization `LU`: the sums of `c`, of `c (c + 1) / 2` and of `c^2` over the columns, where `c` runs from `r` to
+/// `r + f - 1`. Any `f` and `r` are allowed, and each sum is exact up to `usize::MAX`, which stands for all that exceed
+/// it.
+///
+/// Source: AMD user guide.
 pub fn front_counts(f: usize, r: usize) -> (usize, usize, usize)
     ensures lnz { result.0 ≡ cut (front_sum entries f r) }
     ensures ldl { result.1 ≡ cut (front_sum ldl_steps f r) }
@@ -161,7 +166,11 @@ pub fn front_counts(f: usize, r: usize) -> (usize, usize, usize)
 /// No place: the end of a list of links, and what an element without a parent has as parent.
 pub const EMPTY: isize = -1;
 
-/// The mark of a number, and the number of a mark: -2 less the number. The greatest `isize` alone has none.
+/// The mark of a number, and the number of a mark: `-2 - i`.
+///
+/// `i` is below `isize::MAX`, which alone has no mark.
+///
+/// Source: Amestoy, Davis and Duff 2004 (`FLIP`).
 #[inline]
 pub fn flip(i: isize) -> isize
     requires { i <ℤ pos 9223372036854775807 }
@@ -170,7 +179,9 @@ pub fn flip(i: isize) -> isize
     -2 - i
 }
 
-/// The place that the link at a place names, if it names one.
+/// The place that the link at a place names, or `None` where the link is negative.
+///
+/// `place` is below the length of `links`. Any links are allowed.
 #[inline]
 pub fn link_at(links: &[isize], place: usize) -> Option<usize>
     requires { place < length links.now }
@@ -179,7 +190,9 @@ pub fn link_at(links: &[isize], place: usize) -> Option<usize>
     usize::try_from(links[place]).ok()
 }
 
-/// Makes the link at a place name another place.
+/// Makes the link at a place name another place, and leaves the other links as they are.
+///
+/// `place` is below the length of `links`, and `to` is below 2^63.
 #[inline]
 pub fn set_link(links: &mut [isize], place: usize, to: usize)
     requires within { place < length links.old }
@@ -189,7 +202,9 @@ pub fn set_link(links: &mut [isize], place: usize, to: usize)
     links[place] = to as isize;
 }
 
-/// Makes the link at a place the same as one of another list.
+/// Makes the link at a place the same as one of another list, and leaves the other links as they are.
+///
+/// `place` is below the length of `links`, and `other` is below that of `from`. Any link is copied, negative or not.
 #[inline]
 pub fn copy_link(links: &mut [isize], place: usize, from: &[isize], other: usize)
     requires within { place < length links.old }

@@ -57,9 +57,14 @@ fn places_of<I: PrimInt, A: Allocator>(
 
 /// The listing as a permutation of the caller's numbers, and its inverse.
 ///
+/// `rows` has `n` places and names each number below `n`, once. Both results have `n` numbers: the first has `rows[k]`
+/// at place `k`, and the second has `k` at place `rows[k]`.
+///
 /// # Errors
 ///
-/// `AllocError` for a refused request.
+/// `AllocError` where a request for memory was refused.
+///
+/// Source: Amestoy, Davis and Duff 2004.
 pub fn inverse_pair<I: PrimInt, A: Allocator + Copy>(
     alloc: A,
     n: I,

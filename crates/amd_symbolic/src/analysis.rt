@@ -10,7 +10,7 @@ use amd::{Control, Info, Status, order, order_holding};
 use num_traits::PrimInt;
 use std::alloc::Allocator;
 
-/// The factor under the order of an answer, with room for as many entries as its record tells.
+/// The factor under the order that an ordering gave, with room for as many entries as its record tells.
 fn reserved_columns<I: PrimInt, A: Allocator + Copy>(
     alloc: A,
     n: I,
@@ -50,16 +50,22 @@ fn fault_of(refusal: Status) -> Fault
     }
 }
 
-/// Orders as [`amd::order`] does, and answers the permutation `p`, its inverse, the record, and the factor under `p` as
-/// [`columns`] does with this order and `info.lnz` as room, which is never too small.
+/// Orders as [`amd::order`] does; returns the permutation `p`, its inverse, the record, and the factor under `p`.
 ///
-/// For `n = 0` two empty vectors, `Info::new(0)` and a factor of which `ptr` is `[0]`, whatever the pointers are.
+/// The input is a column form as that of [`amd::order`]. The permutation and its inverse have `n` numbers each. The
+/// factor is that of [`columns`] with this order and `info.lnz` as room, which is never too small: it has `n + 1`
+/// pointers, `ptr[n]` entries, at most `info.lnz`, and `n` parents.
+///
+/// For `n = 0` the result is two empty vectors, `Info::new(0)` and a factor of which `ptr` is `[0]`, whatever the
+/// pointers are.
 ///
 /// # Errors
 ///
 /// `NotColumnForm` exactly where `n` is not 0 and the input is no column form; no memory is asked before. `OutOfMemory`
-/// where an allocation was refused, the workspace would have more than the greatest `isize` of words, or `lnz` is the
-/// greatest `usize`. No other fault.
+/// where an allocation was refused, the workspace would have more than `isize::MAX` words, or `lnz` is `usize::MAX`. No
+/// other fault.
+///
+/// Source: AMD user guide; Amestoy, Davis and Duff 1996 and 2004; Rose, Tarjan and Lueker 1976; Liu 1990; Davis 2005.
 pub fn analyze<I: PrimInt, A: Allocator + Copy>(
     alloc: A,
     n: I,
@@ -83,13 +89,17 @@ pub fn analyze<I: PrimInt, A: Allocator + Copy>(
     Ok((p, p_inv, info, factor))
 }
 
-/// Orders as [`amd::order_holding`] does, with the rows marked in `hold` held last, and answers beside it the factor as
-/// [`analyze`] does.
+/// Orders as [`amd::order_holding`] does, with the rows marked in `hold` held last, and returns the factor too.
+///
+/// `hold` has one mark for each of the `n` rows. The results have the lengths that [`analyze`] gives them. For `n = 0`
+/// they are as there, whatever the pointers and the marks are.
 ///
 /// # Errors
 ///
-/// `NotColumnForm` exactly where `order_holding` answers `Invalid`: `n` is not 0 and the input is no column form, or
+/// `NotColumnForm` exactly where `order_holding` returns `Invalid`: `n` is not 0 and the input is no column form, or
 /// `hold` has not one mark for each of the `n` rows. `OutOfMemory` as `analyze`. No other fault.
+///
+/// Source: AMD user guide; Amestoy, Davis and Duff 1996 and 2004; Rose, Tarjan and Lueker 1976; Liu 1990; Davis 2005.
 pub fn analyze_holding<I: PrimInt, A: Allocator + Copy>(
     alloc: A,
     n: I,

@@ -22,29 +22,33 @@ use amd_numbers::internal::to_count;
 use num_traits::PrimInt;
 use std::alloc::{AllocError, AllocFailed, Allocator};
 
-/// The columns of a factor below its diagonal, one after another. A place is that of a row in the order.
+/// The columns of a factor below its diagonal, one after another.
+///
+/// A place is that of a row in the order, from 0 on. In the fields, `n` is the number of columns.
 #[derive(Drop)]
 pub struct Factor<A: Allocator> {
-    /// Where each column begins, and behind them the end of the last one: a number more than there are columns.
+    /// Where each column begins, and after them the end of the last one: `n + 1` pointers, ascending from 0. Two
+    /// neighbours are equal where a column is empty, and the last pointer is the length of `rows`.
     pub ptr: Vec<usize, A>,
-    /// The entries: those of column `k` are `rows[ptr[k]..ptr[k + 1]]`, which are places, rising.
+    /// The entries: those of column `k` are `rows[ptr[k]..ptr[k + 1]]`, which are places above `k` and below `n`, in
+    /// ascending order.
     pub rows: Vec<usize, A>,
-    /// The parent of each column in the elimination tree: its first entry, or `None` where it is empty.
+    /// The parent of each of the `n` columns in the elimination tree: its first entry, or `None` where it is empty.
     pub parent: Vec<Option<usize>, A>,
 }
 
 /// Why there is no factor.
 #[derive(PartialEq, Clone, Debug, Drop)]
 pub enum Fault {
-    /// The input is no column form; `amd::order` tells what that is. `analyze_holding` answers it also where there is
+    /// The input is no column form; `amd::order` tells what that is. `analyze_holding` returns it also where there is
     /// not one mark for each row.
     NotColumnForm,
     /// The order does not list each row, once.
     NotPermutation,
     /// The factor has more entries than the room that the caller allows.
     RoomTooSmall,
-    /// Memory was refused; `analyze` and `analyze_holding` answer it also where `amd::order` does, and where its bound
-    /// on the entries is the greatest `usize`.
+    /// Memory was refused; `analyze` and `analyze_holding` return it also where `amd::order` does, and where its bound
+    /// on the entries is `usize::MAX`.
     OutOfMemory,
 }
 
@@ -149,15 +153,17 @@ fn form_columns<I: PrimInt, A: Allocator + Copy>(
     }
 }
 
-/// The columns of the factor of the square matrix with `n` columns whose column `j` holds the rows `a_i[a_p[j]..a_p[j +
-/// 1]]`, by the pattern of `A + A'`, under the order `p`: row `p[k]` stands at place `k`. Column `k` has the entry `j`
-/// where `k < j`, and a path of edges leads from row `p[k]` to row `p[j]` through rows that stand before place `k`.
+/// The columns of the factor of a square matrix under an order of its rows, by the pattern of `A + A'`.
 ///
-/// The answer has exactly these entries. It has `n + 1` pointers, `ptr[n]` entries, at most `room`, and `n` parents.
+/// The matrix has `n` columns, and column `j` holds the rows `a_i[a_p[j]..a_p[j + 1]]`. The order is `p`: row `p[k]` is
+/// at place `k`. Column `k` of the factor has the entry `j` where `k < j`, and a path of edges leads from row `p[k]` to
+/// row `p[j]` through rows whose places are before `k`.
+///
+/// The result has exactly these entries. It has `n + 1` pointers, `ptr[n]` entries, at most `room`, and `n` parents.
 ///
 /// The input is a column form as that of [`amd::order`], and is taken as it is: columns may be out of order and have
-/// repeats. `p` is any permutation of the rows. For `n = 0` the pointers and row indices are not looked at, `p` must be
-/// empty, and `ptr` is `[0]`.
+/// duplicates. `p` is any permutation of the rows: `n` numbers. For `n = 0` the pointers and row indices are not looked
+/// at, `p` must be empty, and `ptr` is `[0]`.
 ///
 /// Memory is asked for `room` entries, whatever the factor needs, and all of it before the first entry is written. The
 /// steps are as many as there are rows, entries of the matrix, entries of the factor, and `room`.

@@ -1,5 +1,5 @@
 // Laws on the contracts of `columns`, `analyze` and `analyze_holding`, each the contract of a function with an empty
-// body. Called by: nobody.
+// body. Source: Liu 1986 and 1990. Called by: nobody.
 
 ghost use Rattle.amd_symbolic.specs.Laws.{FiguresReserve, ParentsTellTree, RowsTellSubtrees, ThereIsOneFactor};
 

@@ -4,7 +4,7 @@
 ghost use Rattle.std.specs.Prelude.{◌≡◌, ◌≤◌, ◌<◌, ◌+◌, ◌*◌, ◌/◌, ◌^◌, List, ℕ, length, max, slice_index};
 ghost use Rattle.amd_symbolic.specs.Needs.{IsNeed, IsSmall, TellSizes};
 
-/// What a factor needs.
+/// What a factor needs: exact sums over its columns, and the largest of them.
 #[derive(Clone, Copy)]
 pub struct Need {
     /// The entries below the diagonal.
@@ -13,11 +13,15 @@ pub struct Need {
     pub n_mult_subs_ldl: u128,
     /// The multiply-subtract steps of a factorization `LU`.
     pub n_mult_subs_lu: u128,
-    /// The entries of the largest column, that on the diagonal among them.
+    /// The entries of the largest column, with that on the diagonal; 0 where there are no columns.
     pub d_max: u128,
 }
 
-/// How many entries column `k` has, by where the columns begin and end.
+/// How many entries column `k` has, by where the columns begin and end: `ptr[k + 1] - ptr[k]`.
+///
+/// `k + 1 < ptr.len()`, and the two pointers are ascending: `ptr[k] <= ptr[k + 1]`.
+///
+/// Source: AMD user guide (compressed column form).
 pub fn column_size(ptr: &[usize], k: usize) -> usize
     requires within { k + 1 < length ptr.now }
     requires ascending { slice_index ptr.now k ≤ slice_index ptr.now (k + 1) }
@@ -46,6 +50,12 @@ fn with_column(need: Need, size: usize) -> Need
 }
 
 /// What a factor needs, by where its columns begin and end.
+///
+/// `ptr` is as that of a factor: it has a pointer more than there are columns, so it is not empty; it starts at 0; and
+/// it is ascending, with two equal neighbours where a column is empty. No sum is cut: `lnz` is the last pointer, and
+/// neither number of steps exceeds its square.
+///
+/// Source: AMD user guide (the figures of `Info`).
 pub fn need_of(ptr: &[usize]) -> Need
     requires { (columns : List (List ℕ)) × TellSizes columns ptr.now }
     ensures { (columns : List (List ℕ)) → TellSizes columns ptr.now → IsNeed columns result }
