@@ -7,7 +7,8 @@ ghost use Rattle.std.specs.Prelude.{sum_by, slice_set};
 ghost use Rattle.amd_model.specs.Quotient.{has, Once};
 ghost use Rattle.amd_places.specs.Words.{num, word, is_place, size_of, in_front, flip_of};
 ghost use Rattle.amd_places.specs.Renewal.{is_kept, is_outside, hashed, AreMet};
-ghost use Rattle.amd_places.specs.Layout.{elements_in, list_in, Layout, reached, IsPlaced, LosesOne, IsRenewable, RenewsOne};
+ghost use Rattle.amd_places.specs.Layout.{elements_in, list_in, Layout, reached, IsPlaced, LosesOne, IsRenewable};
+ghost use Rattle.amd_places.specs.Layout.{RenewsOne};
 ghost use Rattle.amd_places.specs.Fronts.{kept_in, near_in, RenewsOrEnds, RenewsFront};
 
 use crate::renewal::renew_list;
