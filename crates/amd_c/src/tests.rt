@@ -4,7 +4,9 @@
 use crate::int32::{
     rimopaku_columns_i32, rimopaku_order_holding_i32, rimopaku_order_i32, rimopaku_valid_i32,
 };
-use crate::int64::{rimopaku_order_holding_i64, rimopaku_order_i64, rimopaku_valid_i64};
+use crate::int64::{
+    rimopaku_columns_i64, rimopaku_order_holding_i64, rimopaku_order_i64, rimopaku_valid_i64,
+};
 use crate::records::{Parameters, Statistics, statistics_of};
 use crate::rimopaku_defaults;
 use amd::Info;
@@ -211,4 +213,102 @@ fn columns_of_a_cycle(rt: HostRuntime) {
         &mut parent,
     );
     assert!(rt; twice == -3 && rows == [1, 3, 2, 3, 3, -5]);
+}
+
+#[test]
+fn columns_that_are_refused(rt: HostRuntime) {
+    let a_p = [0, 2, 3, 4, 4];
+    let a_i = [1, 3, 2, 3];
+    let mut ptr = [-5; 5];
+    let mut rows = [-5; 6];
+    let mut parent = [-5; 4];
+    let order = [0, 1, 2, 3];
+    let few_pointers = rimopaku_columns_i32(
+        rt.alloc(),
+        4,
+        &a_p[..4],
+        &a_i,
+        &order,
+        &mut ptr,
+        &mut rows,
+        &mut parent,
+    );
+    let short = rimopaku_columns_i32(
+        rt.alloc(),
+        4,
+        &a_p,
+        &a_i,
+        &order,
+        &mut ptr[..4],
+        &mut rows,
+        &mut parent,
+    );
+    let few_parents = rimopaku_columns_i32(
+        rt.alloc(),
+        4,
+        &a_p,
+        &a_i,
+        &order,
+        &mut ptr,
+        &mut rows,
+        &mut parent[..3],
+    );
+    assert!(rt; few_pointers == -2 && short == -2 && few_parents == -2);
+    assert!(rt; ptr == [-5; 5] && rows == [-5; 6] && parent == [-5; 4]);
+}
+
+#[test]
+fn a_cycle_in_64_bits(rt: HostRuntime) {
+    let a_p = [0i64, 2, 3, 4, 4];
+    let a_i = [1i64, 3, 2, 3];
+    let hold = [true, false, false, false];
+    let mut p = [-5; 4];
+    let mut p_inv = [-5; 4];
+    let mut told = blank();
+    let number = rimopaku_order_holding_i64(
+        rt.alloc(),
+        4,
+        &a_p,
+        &a_i,
+        &defaults(),
+        &hold,
+        &mut p,
+        &mut p_inv,
+        &mut told,
+    );
+    assert!(rt; number == 0 && p == [3, 1, 2, 0] && p_inv == [3, 1, 2, 0] && told.lnz == 5);
+    let mut ptr = [-5; 5];
+    let mut rows = [-5; 5];
+    let mut parent = [-5; 4];
+    let written = rimopaku_columns_i64(
+        rt.alloc(),
+        4,
+        &a_p,
+        &a_i,
+        &p,
+        &mut ptr,
+        &mut rows,
+        &mut parent,
+    );
+    assert!(rt; written == 0 && ptr == [0, 2, 4, 5, 5]);
+    assert!(rt; rows == [2, 3, 2, 3, 3] && parent == [2, 2, 3, -1]);
+}
+
+#[test]
+fn no_rows(rt: HostRuntime) {
+    let mut told = blank();
+    let number = rimopaku_order_i32(
+        rt.alloc(),
+        0,
+        &[7],
+        &[],
+        &defaults(),
+        &mut [],
+        &mut [],
+        &mut told,
+    );
+    assert!(rt; number == 0 && !told.symmetry && numbers_of(&told) == [0; 11]);
+    let mut ptr = [-5i64];
+    let written = rimopaku_columns_i64(rt.alloc(), 0, &[7], &[], &[], &mut ptr, &mut [], &mut []);
+    assert!(rt; written == 0 && ptr == [0]);
 }

@@ -102,5 +102,6 @@ fn engines_agree(rt: HostRuntime) -> Result<(), Fail> {
         let (n, a_p, a_i) = drawn_with_hub(rt.alloc(), seed)?;
         compare(&rt, rt.alloc(), n, &a_p, &a_i, 0)?;
     }
-    Ok(())
+    let a_p = vec![in rt.alloc(); 0; 256]?;
+    compare(&rt, rt.alloc(), 255, &a_p, &[], 10000)
 }

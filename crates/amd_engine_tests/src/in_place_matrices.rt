@@ -23,7 +23,7 @@ pub struct Case<'a> {
 }
 
 /// Matrices with their answers.
-pub static MATRICES: [Case<'static>; 24] = [
+pub static MATRICES: [Case<'static>; 25] = [
     Case {
         what: "one row without entries",
         n: 1,
@@ -394,6 +394,23 @@ pub static MATRICES: [Case<'static>; 24] = [
             -1, -1, -1, -1, 5, 6, -1, 6, 4, 6, 6, -1, 5, 7, 5, 6, 4, 7, -1, 8, 5, -1, 4, 4,
         ],
         figures: [0, 97, 275, 453, 8],
+        packs: false,
+    },
+    Case {
+        what: "eleven rows with long lists and no entry above the diagonal, five pairs of them not joined",
+        n: 11,
+        a_p: &[0, 10, 18, 26, 33, 39, 43, 46, 49, 51, 52, 53],
+        a_i: &[
+            0, 1, 2, 3, 5, 6, 7, 8, 9, 10, 3, 4, 5, 6, 7, 8, 9, 10, 3, 4, 5, 6, 7, 8, 9, 10, 3, 4,
+            5, 6, 7, 8, 9, 5, 6, 7, 8, 9, 10, 6, 7, 8, 10, 8, 9, 10, 8, 9, 10, 9, 10, 10, 10,
+        ],
+        dense: 10000,
+        aggressive: true,
+        hold: None,
+        p: &[10, 0, 1, 2, 3, 4, 5, 6, 7, 8, 9],
+        blocks: &[0, 0, 0, 0, 0, 0, 0, 0, 0, 10, 1],
+        fronts: &[-1, -1, -1, -1, -1, -1, -1, -1, -1, 10, 10],
+        figures: [0, 54, 210, 366, 10],
         packs: false,
     },
 ];

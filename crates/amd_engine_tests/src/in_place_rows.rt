@@ -1,11 +1,11 @@
 // Worked matrices through the engine in place, from first flags with and without a reset of the counters, in words of
-// both widths, with no word to spare and with those of `order`; and through `amd_1` and `amd_2` by themselves, the
-// latter over lists that were laid. The answers were worked by hand, and come from the Rust crate `amd` and from a
-// plain program that follows the rules.
+// both widths, with no word to spare and with those of `order`; through the plain engine; and through `amd_1` and
+// `amd_2` by themselves, the latter over lists that were laid. The answers were worked by hand, and come from the Rust
+// crate `amd` and from a plain program that follows the rules.
 
 use crate::in_place_matrices::{Case, MATRICES};
 use crate::laid::{are_words, order_laid};
-use crate::sorted::{Sorted, first_flags, order_exactly, order_in_place};
+use crate::sorted::{Sorted, first_flags, order_exactly, order_in_place, order_plainly};
 use amd_cells::{Signed, Unsigned};
 use amd_numbers::amd::{Control, Info};
 use amd_testing::check;
@@ -24,15 +24,18 @@ fn are_figures(case: &Case, info: &Info) -> bool {
         info.n_mult_subs_lu,
         info.d_max,
     ];
-    figures == case.figures
-        && info.n_div == info.lnz
-        && info.n_cmp_a <= case.p.len()
-        && (!case.packs || info.n_cmp_a >= 1)
+    figures == case.figures && info.n_div == info.lnz
 }
 
-/// Whether an answer is that of a case.
-pub fn is_answer(case: &Case, p: &[i64], p_inv: &[i64], info: &Info) -> bool {
+/// Whether permutations and figures are those of a case.
+fn is_ordered(case: &Case, p: &[i64], p_inv: &[i64], info: &Info) -> bool {
     p == case.p && are_inverse(case.p.len(), p, p_inv) && are_figures(case, info)
+}
+
+/// Whether an answer of the engine in place is that of a case.
+pub fn is_answer(case: &Case, p: &[i64], p_inv: &[i64], info: &Info) -> bool {
+    let is_packed = info.n_cmp_a <= case.p.len() && (!case.packs || info.n_cmp_a >= 1);
+    is_packed && is_ordered(case, p, p_inv, info)
 }
 
 /// The matrix of a case.
@@ -67,6 +70,13 @@ fn check(rt: &impl Abort, alloc: Global, case: &Case, more: usize) {
         };
         assert!(rt; is_answer(case, &p, &p_inv, &info), "{what} from {flag} on");
     }
+}
+
+/// Asserts that the plain engine gives the answer of a case, and packs nothing.
+fn check_plainly(rt: &impl Abort, alloc: Global, case: &Case) {
+    let mut info = Info::new(0);
+    let (p, p_inv) = order_plainly(rt, alloc, &matrix_of(case), &control_of(case), &mut info);
+    check!(rt; info.n_cmp_a == 0 && is_ordered(case, &p, &p_inv, &info), case.what);
 }
 
 /// Asserts that `amd_1` gives the answer of a case, with no word to spare.
@@ -107,6 +117,7 @@ fn worked_matrices(rt: HostRuntime) {
 #[test]
 fn worked_matrices_through_each_call(rt: HostRuntime) {
     for case in &MATRICES {
+        check_plainly(&rt, rt.alloc(), case);
         check_amd_1(&rt, rt.alloc(), case);
         check_amd_2::<i32, u32>(&rt, rt.alloc(), case);
         check_amd_2::<isize, usize>(&rt, rt.alloc(), case);

@@ -33,7 +33,7 @@ struct Case<'a> {
 }
 
 /// Matrices with their workspaces, of which `order` takes as many words as here.
-static MATRICES: [Case<'static>; 4] = [
+static MATRICES: [Case<'static>; 5] = [
     Case {
         what: "a four-cycle",
         n: 4,
@@ -77,6 +77,25 @@ static MATRICES: [Case<'static>; 4] = [
         words: &[1, 0, 2, 1],
         starts: &[0, 1, 3],
         lengths: &[1, 2, 1],
+    },
+    Case {
+        what: "eleven rows with long lists and no entry above the diagonal, five pairs of them not joined",
+        n: 11,
+        a_p: &[0, 10, 18, 26, 33, 39, 43, 46, 49, 51, 52, 53],
+        a_i: &[
+            0, 1, 2, 3, 5, 6, 7, 8, 9, 10, 3, 4, 5, 6, 7, 8, 9, 10, 3, 4, 5, 6, 7, 8, 9, 10, 3, 4,
+            5, 6, 7, 8, 9, 5, 6, 7, 8, 9, 10, 6, 7, 8, 10, 8, 9, 10, 8, 9, 10, 9, 10, 10, 10,
+        ],
+        more: 20,
+        room: 131,
+        words: &[
+            1, 2, 3, 5, 6, 7, 8, 9, 10, 0, 3, 4, 5, 6, 7, 8, 9, 10, 0, 3, 4, 5, 6, 7, 8, 9, 10, 0,
+            1, 2, 4, 5, 6, 7, 8, 9, 1, 2, 3, 5, 6, 7, 8, 9, 10, 0, 1, 2, 3, 4, 6, 7, 8, 10, 0, 1,
+            2, 3, 4, 5, 8, 9, 10, 0, 1, 2, 3, 4, 5, 8, 9, 10, 0, 1, 2, 3, 4, 5, 6, 7, 9, 10, 0, 1,
+            2, 3, 4, 6, 7, 8, 10, 0, 1, 2, 4, 5, 6, 7, 8, 9,
+        ],
+        starts: &[0, 9, 18, 27, 36, 45, 54, 63, 72, 82, 91],
+        lengths: &[9, 9, 9, 9, 9, 9, 9, 9, 10, 9, 9],
     },
 ];
 

@@ -8,6 +8,7 @@ use crate::small_matrices::SMALL_MATRICES;
 use amd::{Control, Info, Status, order};
 use amd_demos::can_24::{JUMBLED_POINTERS, JUMBLED_ROWS, POINTERS, ROWS};
 use amd_testing::check;
+use amd_testing::inputs::cycle;
 use amd_testing::plain::are_inverse;
 use amd_testing::records::numbers_of;
 use std::alloc::{AllocError, Global};
@@ -15,7 +16,7 @@ use std::process::Abort;
 use std::test::Fail;
 
 /// An input and its answer. The figures are `nz`, `nz_diag`, `nz_a_plus_at`, `n_dense`, `lnz`, those of `LDL'` and of
-/// `LU`, and `d_max`; the divisions are as many as `lnz`, and there is no compaction.
+/// `LU`, and `d_max`; the divisions are as many as `lnz`, and the compactions at most as many as the rows.
 #[derive(Drop)]
 pub struct Case<'a> {
     pub what: &'a str,
@@ -174,5 +175,24 @@ fn can_24_and_its_jumbled_form(rt: HostRuntime) -> Result<(), Fail> {
         symmetric: false,
     };
     check(&rt, heap, &Control::default(), &jumbled)?;
+    Ok(())
+}
+
+/// How often `order` compacts its workspace for a cycle with `n` rows.
+fn compactions_of_cycle(rt: &impl Abort, alloc: Global, n: i64) -> Result<usize, AllocError> {
+    let (a_p, a_i) = cycle(alloc, n)?;
+    let Ok((_, _, info)) = order(alloc, n, &a_p, &a_i, &Control::default()) else {
+        panic!(rt; "no answer for a cycle");
+    };
+    Ok(info.n_cmp_a)
+}
+
+/// With as many words as `order` has, which are a fifth more than the lists take and one for each row, the lists of 13
+/// rows are never packed, and those of 14 rows are. With a word less those of 13 rows would be, and with a word more
+/// those of 14 rows would not.
+#[test]
+fn words_of_the_workspace(rt: HostRuntime) -> Result<(), Fail> {
+    check!(&rt; compactions_of_cycle(&rt, rt.alloc(), 13)? == 0);
+    check!(&rt; compactions_of_cycle(&rt, rt.alloc(), 14)? >= 1);
     Ok(())
 }

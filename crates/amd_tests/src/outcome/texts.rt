@@ -25,6 +25,17 @@ AMD: approximate minimum degree ordering
 
 ";
 
+/// The text for a parameter of 0, with aggressive absorption.
+const ZERO_TEXT: &str = "
+AMD: approximate minimum degree ordering
+    dense row parameter: 0
+    (rows with more than max (0 * sqrt(n), 16) entries are
+    considered \"dense\", and placed last in output permutation)
+    aggressive absorption:  yes
+    size of AMD integer: 8
+
+";
+
 /// The text for a negative parameter, without aggressive absorption.
 const NEGATIVE_TEXT: &str = "
 AMD: approximate minimum degree ordering
@@ -175,6 +186,7 @@ fn check_info(rt: &impl Abort, alloc: Global, record: &Info, text: &str) {
 #[test]
 fn whole_texts_of_control(rt: HostRuntime) {
     check_control(&rt, rt.alloc(), 10000, true, DEFAULT_TEXT);
+    check_control(&rt, rt.alloc(), 0, true, ZERO_TEXT);
     check_control(&rt, rt.alloc(), -500, false, NEGATIVE_TEXT);
 }
 
