@@ -1,7 +1,8 @@
 /* rimopaku.h: the approximate minimum degree ordering (AMD) of sparse matrices, for C99 and C++11.
  *
- * The functions are in libamd_c.a, which `rt lib` makes in crates/amd_c. docs/USING.md says how to build and link it. Each is a thin call of a
- * library whose contracts are proved. The proofs assume what the compiler cannot check, and what the caller must therefore uphold:
+ * The functions are in libamd_c.a, which `rt lib` makes in crates/amd_c; link it, and then liblibc_c.a of the kit. docs/USING.md says how.
+ * Each is a thin call of a library whose contracts are proved. The proofs assume what the compiler cannot check, and what the caller must
+ * therefore uphold:
  *
  *   - No pointer is NULL, even if its length is 0.
  *   - A pointer with a length LEN points to LEN numbers that may be read, and also written unless it is `const`.
@@ -10,15 +11,15 @@
  *   - A `bool` is 0 or 1.
  *   - malloc, realloc and free belong to one allocator, as in the C library. No function is called from a signal handler.
  *
- * Everything else is checked: the arrays and `n` may have any values. No call ends the program, and each block of memory that a call takes
- * is freed before it returns.
+ * Everything else is checked: the arrays and `n` may have any values. No call ends the program. Each block of memory that a call takes is
+ * freed before it returns; this is tested, and not proved.
  *
  * A matrix with n rows and n columns is passed in compressed sparse columns, called a column form: `a_p` has n + 1 numbers or more; the
- * first is 0; they never descend up to a_p[n]; a_p[n] is at most a_i_len; and column j has the rows a_i[a_p[j]] to a_i[a_p[j + 1] - 1], each
- * from 0 to n - 1. Columns may be unsorted and have duplicates. What follows in either array is ignored.
+ * first is 0; they never descend up to a_p[n]; a_p[n] is at most a_i_len; and column j has the rows a_i[a_p[j]] to a_i[a_p[j + 1] - 1],
+ * each from 0 to n - 1. Columns may be unsorted and have duplicates. What follows in either array is ignored.
  *
  * Beside SuiteSparse's AMD: the dense row parameter counts in thousandths, lengths are passed with the arrays, the inverse permutation is
- * returned too, and the counts are integers that saturate at SIZE_MAX. include/drop_in/amd.h has the calls of SuiteSparse's AMD themselves. */
+ * returned too, and the counts are integers that saturate at SIZE_MAX. include/drop_in/amd.h has the calls of SuiteSparse's AMD. */
 
 #ifndef RIMOPAKU_H
 #define RIMOPAKU_H
@@ -45,8 +46,8 @@ enum {
 /* What a caller chooses. rimopaku_defaults writes what most callers want: { 10000, true }. */
 struct rimopaku_parameters {
     /* In thousandths: 10000 stands for the 10.0 of SuiteSparse's AMD. A row with more than max(16, dense / 1000 * sqrt(n)) entries off the
-     * diagonal of A + A' is dense, and is placed last. Any number is allowed. If it is negative, only rows with n - 1 such entries are dense,
-     * and only for n >= 18. */
+     * diagonal of A + A' is dense, and is placed last. Any number is allowed. If it is negative, only rows with n - 1 such entries are
+     * dense, and only for n >= 18. */
     int32_t dense;
     /* Aggressive absorption: whether a new element also absorbs elements that lie inside it but do not contain the pivot. */
     bool aggressive;
@@ -93,8 +94,8 @@ int32_t rimopaku_order_holding_i64(int64_t n, const int64_t *a_p, size_t a_p_len
                                    const struct rimopaku_parameters *parameters, const bool *hold, size_t hold_len, int64_t *p,
                                    size_t p_len, int64_t *p_inv, size_t p_inv_len, struct rimopaku_statistics *statistics);
 
-/* Checks a matrix with n_row rows and n_col columns. Returns RIMOPAKU_INVALID exactly if it is not a column form, RIMOPAKU_OK exactly if it is
- * one whose columns are sorted and have no duplicates, else RIMOPAKU_OK_BUT_JUMBLED. Takes no memory. */
+/* Checks a matrix with n_row rows and n_col columns. Returns RIMOPAKU_INVALID exactly if it is not a column form, RIMOPAKU_OK exactly if it
+ * is one whose columns are sorted and have no duplicates, else RIMOPAKU_OK_BUT_JUMBLED. Takes no memory. */
 int32_t rimopaku_valid_i32(int32_t n_row, int32_t n_col, const int32_t *a_p, size_t a_p_len, const int32_t *a_i, size_t a_i_len);
 int32_t rimopaku_valid_i64(int64_t n_row, int64_t n_col, const int64_t *a_p, size_t a_p_len, const int64_t *a_i, size_t a_i_len);
 
@@ -104,16 +105,16 @@ enum {
     RIMOPAKU_ROOM_TOO_SMALL = -4   /* the factor has more than rows_len entries */
 };
 
-/* Writes the pattern of the factor L of the matrix in the order p: row p[k] is at place k. p is any permutation of the rows, such as one that
- * the calls above wrote; if p_len is not n, p is no permutation of them.
+/* Writes the pattern of the factor L of the matrix in the order p: row p[k] is at place k. p is any permutation of the rows, such as one
+ * that the calls above wrote; if p_len is not n, p is no permutation of them.
  *
  * Column k has the entries rows[ptr[k]] to rows[ptr[k + 1] - 1] below its diagonal: places, in ascending order. There are ptr[n] entries in
  * all; what follows them in rows is unchanged. parent[k] is the first entry of column k, its parent in the elimination tree, or -1 if the
  * column is empty. With p from rimopaku_order, rows_len = statistics.lnz is enough, unless lnz is SIZE_MAX.
  *
- * ptr_len must be n + 1 and parent_len n; otherwise the call returns RIMOPAKU_INVALID. It returns RIMOPAKU_OUT_OF_MEMORY also if the integer
- * type cannot count the entries. After an error the arrays are unchanged. The call takes memory for rows_len entries, whatever the factor
- * needs. */
+ * ptr_len must be n + 1 and parent_len n; otherwise the call returns RIMOPAKU_INVALID. It returns RIMOPAKU_OUT_OF_MEMORY also if the
+ * integer type cannot count the entries. After an error the arrays are unchanged. The call takes memory for rows_len entries, whatever the
+ * factor needs. */
 int32_t rimopaku_columns_i32(int32_t n, const int32_t *a_p, size_t a_p_len, const int32_t *a_i, size_t a_i_len, const int32_t *p,
                              size_t p_len, int32_t *ptr, size_t ptr_len, int32_t *rows, size_t rows_len, int32_t *parent,
                              size_t parent_len);

@@ -1,11 +1,11 @@
 /* amd.h: the calls of SuiteSparse's AMD over the library rimopaku, with the same names, arguments and numbers.
  *
- * A C or C++ program that includes "amd.h" is compiled with -I../rimopaku/include/drop_in and linked with libamd_c.a instead of SuiteSparse's
- * libamd, with no other change (docs/USING.md). The permutation and the status are the same. What differs:
+ * A C or C++ program that includes "amd.h" is compiled with -I../rimopaku/include/drop_in, and linked with libamd_c.a and liblibc_c.a
+ * instead of SuiteSparse's libamd, with no other change (docs/USING.md). The permutation and the status are the same. What differs:
  *
  *   - Control [AMD_DENSE] is rounded to thousandths, and limited to 2147483.647. NaN stands for the default.
- *   - Info [AMD_LNZ] to Info [AMD_NMULTSUBS_LU] saturate at 2^64, and a count above 2^53 is rounded to a double. SuiteSparse adds up doubles,
- *     so its last digits differ there.
+ *   - Info [AMD_LNZ] to Info [AMD_NMULTSUBS_LU] saturate at 2^64, and a count above 2^53 is rounded to a double. SuiteSparse adds up
+ *     doubles, so its last digits differ there.
  *   - Info [AMD_MEMORY] is what SuiteSparse's AMD would take for such a matrix, and not what this library takes.
  *   - Info [AMD_NCMPA] counts the compactions of this library's workspace.
  *   - amd_order takes a second array of n integers for the inverse permutation. If malloc refuses it, the call returns AMD_OUT_OF_MEMORY,
