@@ -5,7 +5,7 @@
 // 2004 (the forming of A + A'). Called by `laying`.
 
 ghost use Rattle.std.specs.Prelude.{◌≡◌, ◌<◌, ◌≤◌, ◌+◌, ◌-◌, ◌++◌, ℕ, true, map, length, pos, replicate, slice_index};
-ghost use Rattle.std.specs.Prelude.{slice_range, IfOk};
+ghost use Rattle.std.specs.Prelude.{slice_range, IfOk, ◌/◌};
 ghost use Rattle.std.specs.Vec.{vec_capacity};
 ghost use Rattle.amd_model.specs.Input.Columns.{IsColumnForm, IsSorted};
 ghost use Rattle.amd_model.specs.Input.Pattern.{graph_of, is_pair};
@@ -55,12 +55,14 @@ fn is_lower<I: PrimInt>(size: usize, a_p: &[I], a_i: &[I]) -> bool
     true
 }
 
-/// Whether no entry is above the diagonal, and the lists of the `size` rows, `free` words in all, have more than eight
-/// words each in the mean.
+/// Whether no entry is above the diagonal, and the lists of the `size` rows, `free` words in all, are long: at least
+/// `8 (size + 1)` words.
 pub fn has_long_lower<I: PrimInt>(size: usize, a_p: &[I], a_i: &[I], free: usize) -> bool
     requires form { IsColumnForm (pos size) size (map I.value a_p.now) (map I.value a_i.now) }
     requires sorted { IsSorted size (map I.value a_p.now) (map I.value a_i.now) }
     ensures yes { result ≡ true → IsLower size (map I.value a_p.now) (map I.value a_i.now) }
+    ensures long { result ≡ true → size < free / 8 }
+    ensures no { size < free / 8 → IsLower size (map I.value a_p.now) (map I.value a_i.now) → result ≡ true }
 {
     if free / 8 <= size {
         return false;
@@ -226,8 +228,8 @@ fn spread_lists<S: Signed, U: Unsigned>(
 }
 
 /// Lays the lists of a pattern of `size` rows that has no entry above the diagonal in a workspace of `room` words. Each
-/// number of `next` is where the list of its row starts, and afterwards where its earlier neighbours end. The words
-/// after the last list name rows.
+/// number of `next` is where the list of its row starts; what it is afterwards is not said. The words after the last
+/// list name rows.
 ///
 /// # Errors
 ///
