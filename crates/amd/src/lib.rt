@@ -188,8 +188,8 @@ pub fn order<I: PrimInt, A: Allocator + Copy>(
 ///
 /// # Errors
 ///
-/// `Invalid` exactly where `n` is not 0 and the input is no column form, or `hold` has not one mark for each of the `n`
-/// rows; no memory is asked before. `OutOfMemory` as `order`.
+/// `Invalid` exactly where `n` is not 0 and either the input is no column form or `hold` has not one mark for each of
+/// the `n` rows; no memory is asked before. `OutOfMemory` as `order`.
 ///
 /// Source: AMD user guide; Amestoy, Davis and Duff 1996 and 2004.
 pub fn order_holding<I: PrimInt, A: Allocator + Copy>(

@@ -33,10 +33,10 @@ pub fn holds<S: Signed, U: Unsigned>(n: usize, iwlen: usize, flag: usize) -> boo
 /// its own head.
 const GREATEST_MEASURE: usize = 8_380_000;
 
-/// Asks for most of the memory that an ordering of `n` rows in `iwlen` words of 32 bits takes beside its input, and
-/// gives it back at once. An allocator may keep as much free memory as twice the largest block that it was given back,
-/// and return the rest to the system, as that of glibc does. No list of an ordering is as large; so without this
-/// request each ordering would take all its pages from the system anew.
+/// Asks for most of the memory that an ordering of `n` rows in `iwlen` words of 32 bits takes beside its input, but for
+/// no more than 32 MB, and gives it back at once. An allocator may keep as much free memory as twice the largest block
+/// that it was given back, and return the rest to the system, as that of glibc does. Below that limit no list of an
+/// ordering is as large; so without this request each ordering would take all its pages from the system anew.
 ///
 /// # Errors
 ///

@@ -117,8 +117,8 @@ fn run_rounds<S: Signed, U: Unsigned>(
 /// or more.
 ///
 /// The rows marked in `hold`, which has one mark for each row where it is given, and those of a degree above
-/// `threshold` are held last. All lists keep their lengths. What the elimination left is in `pe`, `e_len`, `nv` and
-/// `degree`. The workspace was compacted at most `n` times.
+/// `threshold` are held last. All lists keep their lengths; the contract says so of all but `iw`, `len` and `w`. What
+/// the elimination left is in `pe`, `e_len`, `nv` and `degree`. The workspace was compacted at most `n` times.
 ///
 /// Source: Amestoy, Davis and Duff 1996 and 2004.
 pub fn run<S: Signed, U: Unsigned>(

@@ -86,8 +86,9 @@ pub struct Info {
     pub n_dense: usize,
     /// How often the workspace was compacted: at most `n` times.
     pub n_cmp_a: usize,
-    /// An upper bound on the entries of the factor `L` below the diagonal: at most `n (n - 1) / 2`. It saturates at
-    /// `usize::MAX`: where it is below, room for so many entries is enough. This holds of the next three fields too.
+    /// An upper bound on the entries of the factor `L` below the diagonal: at most `n (n - 1) / 2`. Where it is below
+    /// `usize::MAX`, room for so many entries is enough. It and the next three fields saturate: one that is
+    /// `usize::MAX` may be too small.
     pub lnz: usize,
     /// An upper bound on the divisions of a factorization, equal to `lnz`.
     pub n_div: usize,

@@ -96,8 +96,8 @@ pub fn analyze<I: PrimInt, A: Allocator + Copy>(
 ///
 /// # Errors
 ///
-/// `NotColumnForm` exactly where `order_holding` returns `Invalid`: `n` is not 0 and the input is no column form, or
-/// `hold` has not one mark for each of the `n` rows. `OutOfMemory` as `analyze`. No other fault.
+/// `NotColumnForm` exactly where `order_holding` returns `Invalid`: `n` is not 0 and either the input is no column form
+/// or `hold` has not one mark for each of the `n` rows. `OutOfMemory` as `analyze`. No other fault.
 ///
 /// Source: AMD user guide; Amestoy, Davis and Duff 1996 and 2004; Rose, Tarjan and Lueker 1976; Liu 1990; Davis 2005.
 pub fn analyze_holding<I: PrimInt, A: Allocator + Copy>(
