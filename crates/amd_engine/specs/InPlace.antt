@@ -107,10 +107,10 @@ pub record AreFresh (n : ℕ) (e_len nv : List ℤ) (degree w head next last has
   pub links : (length next ≡ n) × (length last ≡ n)
 
 -- what rounds left of n rows can be listed: made into links and numbers of rows, it tells the end of a run
-pub record AreOver (n : ℕ) (pe e_len nv : List ℤ) (degree w head next last hash : List ℕ) : Type 0 where
+pub record AreOver (n : ℕ) (pe e_len nv : List ℤ) (degree w head hash : List ℕ) : Type 0 where
   pub words : (length pe ≡ n) × (length e_len ≡ n) × (length nv ≡ n) × (length degree ≡ n)
   pub counters : length w ≡ n
-  pub links : (length head ≡ n) × (length next ≡ n) × (length last ≡ n) × (length hash ≡ n)
+  pub links : (length head ≡ n) × (length hash ≡ n)
   pub ends : (link f_size blocks : List ℤ) → EndsRows n pe e_len degree link f_size blocks → length link ≡ n →
       length f_size ≡ n → length blocks ≡ n → HasEnded link blocks f_size
 

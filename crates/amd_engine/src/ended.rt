@@ -34,7 +34,7 @@ fn push_numbers<I: PrimInt, U: Unsigned, A: Allocator>(
 
 /// Makes what rounds left into links and numbers of rows, and writes the permutation and its inverse.
 ///
-/// Shortens the links in `pe`, uses the lists by bound as scratch, builds the permutation and its inverse in `degree`
+/// Shortens the links in `pe`, uses `head` and `hash` as scratch, builds the permutation and its inverse in `degree`
 /// and `w`, and pushes them into `p` and `p_inv`.
 ///
 /// `pe` and each list of `counts` and `links` have `n` places, and hold what `run_fresh` left. `p` and `p_inv` are
@@ -51,8 +51,7 @@ pub fn list_rows<I: PrimInt, S: Signed, U: Unsigned, A: Allocator>(
     p_inv: &mut Vec<I, A>,
 )
     requires over { AreOver (length pe.old) pe.old counts.old.e_len.items counts.old.nv.items
-        counts.old.degree.items counts.old.w.items links.old.head.items links.old.next.items links.old.last.items
-        links.old.hash.items }
+        counts.old.degree.items counts.old.w.items links.old.head.items links.old.hash.items }
     requires empty { (length p.old.items ≡ 0) × (length p_inv.old.items ≡ 0) }
     requires room { (length pe.old ≤ vec_capacity p.old) × (length pe.old ≤ vec_capacity p_inv.old) }
     requires narrow { (length pe.old + 2 ≤ S.MOST) × (length pe.old + 2 ≤ U.MOST) }
@@ -66,8 +65,6 @@ pub fn list_rows<I: PrimInt, S: Signed, U: Unsigned, A: Allocator>(
         &counts.nv,
         &counts.e_len,
         &mut links.head,
-        &mut links.next,
-        &mut links.last,
         &mut links.hash,
         &mut counts.degree,
         &mut counts.w,

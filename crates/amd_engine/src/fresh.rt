@@ -25,7 +25,7 @@ pub struct Counts<S: Signed, U: Unsigned, A: Allocator> {
 
 /// The lists by bound, and the buckets: four lists with a place for each row.
 ///
-/// After the rounds they are room for the listing.
+/// After the rounds `head` and `hash` are room for the listing.
 #[derive(Drop)]
 pub struct Links<U: Unsigned, A: Allocator> {
     /// The first class of each bound. At first there is none.

@@ -195,8 +195,7 @@ pub fn run_fresh<S: Signed, U: Unsigned, A: Allocator>(
         result.n_dense result.figures pe.new counts.new.e_len.items counts.new.nv.items counts.new.degree.items }
     ensures packs { result.n_cmp_a ≤ length len.old }
     ensures over { AreOver (length len.old) pe.new counts.new.e_len.items counts.new.nv.items
-        counts.new.degree.items counts.new.w.items links.new.head.items links.new.next.items links.new.last.items
-        links.new.hash.items }
+        counts.new.degree.items counts.new.w.items links.new.head.items links.new.hash.items }
 {
     run(
         iw,

@@ -1,6 +1,6 @@
 // The listing at the end of an elimination, and its inverse: the assembly tree in postorder, of each block its other
 // rows rising and then its pivot row, and after all blocks the rows held last, rising. Source: Amestoy, Davis and Duff
-// 2004. Called by `amd_2` of the crate `amd_engine`.
+// 2004. Called by `ended` of the crate `amd_engine`.
 
 ghost use Rattle.std.specs.Prelude.{◌≡◌, ◌<◌, ◌≤◌, ◌+◌, ℕ, List, length, map, pos};
 ghost use Rattle.amd_numbers.specs.Permutations.{AreInverse};
@@ -12,29 +12,27 @@ use amd_cells::{Figure, Signed, Unsigned, Word};
 use amd_trees::postorder::postorder_in;
 
 /// Writes the listing of an elimination that has ended, and its inverse: `link` names for each row the row or parent to
-/// which it is linked, `nv` the number of rows of each block, and `f_size` that of each front. The four lists of
-/// figures are room, and links are shortened.
+/// which it is linked, `nv` the number of rows of each block, and `f_size` that of each front. `child` and `sibling`
+/// are room, and so are `p` and `p_inv` until the listing is written; what the four held goes. Links are shortened.
 pub fn listing<S: Signed, U: Unsigned>(
     link: &mut [Word<S>],
     nv: &[Word<S>],
     f_size: &[Word<S>],
     child: &mut [Figure<U>],
     sibling: &mut [Figure<U>],
-    order: &mut [Figure<U>],
-    stack: &mut [Figure<U>],
     p: &mut [Figure<U>],
     p_inv: &mut [Figure<U>],
 )
     requires ended { HasEnded link.old nv.now f_size.now }
     requires lengths { (length child.old ≡ length nv.now) × (length sibling.old ≡ length nv.now) ×
-        (length order.old ≡ length nv.now) × (length stack.old ≡ length nv.now) }
-    requires more_lengths { (length p.old ≡ length nv.now) × (length p_inv.old ≡ length nv.now) }
+        (length p.old ≡ length nv.now) × (length p_inv.old ≡ length nv.now) }
     requires narrow { (length nv.now + 2 ≤ S.MOST) × (length nv.now + 2 ≤ U.MOST) }
     ensures lists { (rows : List ℕ) × (map pos p.new ≡ map pos rows) × ListsEnded link.old nv.now f_size.now rows }
     ensures inverse { AreInverse (length nv.now) (map pos p.new) (map pos p_inv.new) }
 {
-    postorder_in(nv.len(), link, nv, f_size, child, sibling, order, stack);
-    let count = by_place(order, child);
+    // At first `p` has the place of each element, and `p_inv` is the stack of the postorder.
+    postorder_in(nv.len(), link, nv, f_size, child, sibling, p, p_inv);
+    let count = by_place(p, child);
     let end = block_starts(nv, child, count, sibling, p, p_inv);
     place_rows(link, nv, sibling, end, p, p_inv);
 }

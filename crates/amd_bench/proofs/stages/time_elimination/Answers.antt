@@ -13,10 +13,10 @@ fresh_same : (n m : ℕ) (e_len nv : List ℤ) (degree w head next last hash : L
 fresh_same n m e_len nv degree w head next last hash fresh a = subst (λ k. AreFresh k e_len nv degree w head next last hash) a fresh
 
 -- what rounds left, under other names
-over_same : (n m : ℕ) (pe pe1 e_len nv : List ℤ) (degree w head next last hash : List ℕ) →
-    AreOver n pe e_len nv degree w head next last hash → n ≡ m → pe ≡ pe1 → AreOver m pe1 e_len nv degree w head next last hash
-over_same n m pe pe1 e_len nv degree w head next last hash over a b = subst (λ k. AreOver k pe1 e_len nv degree w head next last hash) a
-    (subst (λ xs. AreOver n xs e_len nv degree w head next last hash) b over)
+over_same : (n m : ℕ) (pe pe1 e_len nv : List ℤ) (degree w head hash : List ℕ) →
+    AreOver n pe e_len nv degree w head hash → n ≡ m → pe ≡ pe1 → AreOver m pe1 e_len nv degree w head hash
+over_same n m pe pe1 e_len nv degree w head hash over a b = subst (λ k. AreOver k pe1 e_len nv degree w head hash) a
+    (subst (λ xs. AreOver n xs e_len nv degree w head hash) b over)
 
 pub lay-requires-clause-form : goal.lay-requires-clause-form
 lay-requires-clause-form g c = c.requires.form
@@ -98,8 +98,8 @@ list_rows-requires-clause-over g c =
     let counts = c.run_fresh.new.counts in
     let links = c.run_fresh.new.links in
     over_same (length c.deref_mut-3.result.now) (length c.deref_mut-4.result.now) c.run_fresh.new.pe c.deref_mut-4.result.now
-    counts.e_len.items counts.nv.items counts.degree.items counts.w.items links.head.items links.next.items links.last.items
-    links.hash.items over (sym rows) (sym left.0)
+    counts.e_len.items counts.nv.items counts.degree.items counts.w.items links.head.items links.hash.items over (sym rows)
+    (sym left.0)
 
 pub list_rows-requires-clause-empty : goal.list_rows-requires-clause-empty
 list_rows-requires-clause-empty g c = let some = c.in_ok-lists.ensures.rows in (some.0, some.1)

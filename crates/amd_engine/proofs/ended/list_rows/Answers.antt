@@ -42,21 +42,8 @@ listing-requires-clause-lengths g c =
     let more = c.requires.over.links in (
       ap length c.deref_mut-3.ensures.value ∙ more.0 ∙ sym rows,
       ap length c.deref_mut-4.ensures.value ∙ more.1 ∙ sym rows,
-      ap length c.deref_mut-5.ensures.value ∙ more.2 ∙ sym rows,
-      ap length c.deref_mut-6.ensures.value ∙ more.3 ∙ sym rows,
-    )
-
-pub listing-requires-clause-more_lengths : goal.listing-requires-clause-more_lengths
-listing-requires-clause-more_lengths g c =
-    let n : ℕ = length c.args.pe.now in
-    let words = c.requires.over.words in
-    let d : length c.deref.result.now ≡ n = ap length c.deref.ensures.value ∙ words.3 in
-    let ended = c.end_rows.ensures.lengths in
-    let counts = c.args.counts.now in
-    let nv = written c.end_rows.new.nv counts.nv.items counts.nv.len counts.nv.ok.0 words.2 (ended.2 ∙ d) c.deref-2.ensures.value in
-    let rows : length c.deref-2.result.now ≡ n = nv.1 in (
-      ap length c.deref_mut-7.ensures.value ∙ words.3 ∙ sym rows,
-      ap length c.deref_mut-8.ensures.value ∙ c.requires.over.counters ∙ sym rows,
+      ap length c.deref_mut-5.ensures.value ∙ words.3 ∙ sym rows,
+      ap length c.deref_mut-6.ensures.value ∙ c.requires.over.counters ∙ sym rows,
     )
 
 pub listing-requires-clause-narrow : goal.listing-requires-clause-narrow
@@ -80,7 +67,7 @@ push_numbers-requires g c =
     let nv = written c.end_rows.new.nv counts.nv.items counts.nv.len counts.nv.ok.0 words.2 (ended.2 ∙ d) c.deref-2.ensures.value in
     let rows : length c.deref-2.result.now ≡ n = nv.1 in
     let left = written c.listing.new.p counts.degree.items counts.degree.len counts.degree.ok.0 words.3
-    (c.listing.auto.p ∙ ap length c.deref_mut-7.ensures.value ∙ words.3) c.deref-4.ensures.value in
+    (c.listing.auto.p ∙ ap length c.deref_mut-5.ensures.value ∙ words.3) c.deref-4.ensures.value in
     let long = left.1 in let room = c.requires.room.0 in
     record {
       empty = c.requires.empty.0;
@@ -100,7 +87,7 @@ push_numbers-requires-2 g c =
     let nv = written c.end_rows.new.nv counts.nv.items counts.nv.len counts.nv.ok.0 words.2 (ended.2 ∙ d) c.deref-2.ensures.value in
     let rows : length c.deref-2.result.now ≡ n = nv.1 in
     let left = written c.listing.new.p_inv counts.w.items counts.w.len counts.w.ok.0 c.requires.over.counters
-    (c.listing.auto.p_inv ∙ ap length c.deref_mut-8.ensures.value ∙ c.requires.over.counters) c.deref-5.ensures.value in
+    (c.listing.auto.p_inv ∙ ap length c.deref_mut-6.ensures.value ∙ c.requires.over.counters) c.deref-5.ensures.value in
     let long = left.1 in let room = c.requires.room.1 in
     record {
       empty = c.requires.empty.1;
@@ -129,9 +116,9 @@ returns g c =
     let listed = c.listing.ensures.lists in
     let value = g.I.Number.value in
     let degree = written c.listing.new.p counts.degree.items counts.degree.len counts.degree.ok.0 words.3
-    (c.listing.auto.p ∙ ap length c.deref_mut-7.ensures.value ∙ words.3) c.deref-4.ensures.value in
+    (c.listing.auto.p ∙ ap length c.deref_mut-5.ensures.value ∙ words.3) c.deref-4.ensures.value in
     let w = written c.listing.new.p_inv counts.w.items counts.w.len counts.w.ok.0 c.requires.over.counters
-    (c.listing.auto.p_inv ∙ ap length c.deref_mut-8.ensures.value ∙ c.requires.over.counters) c.deref-5.ensures.value in
+    (c.listing.auto.p_inv ∙ ap length c.deref_mut-6.ensures.value ∙ c.requires.over.counters) c.deref-5.ensures.value in
     let p_is = c.push_numbers.ensures ∙ ap (map pos) degree.0 in
     let q_is = c.push_numbers-2.ensures ∙ ap (map pos) w.0 in
     rw (sym c.deref-3.ensures.value, sym c.deref-2.ensures.value) (record {

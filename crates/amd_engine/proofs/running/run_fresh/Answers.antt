@@ -70,19 +70,15 @@ returns-clause-over g c =
     (long.3 ∙ sym (counts.degree.ok.0 ∙ fresh.figures.0)) in
     let head_is = take_at c.run.new.head (drop (length c.run.new.head) links.head.items) links.head.len
     (more.0 ∙ sym (links.head.ok.0 ∙ ap length fresh.heads.0 ∙ none)) in
-    let next_is = take_at c.run.new.next (drop (length c.run.new.next) links.next.items) links.next.len
-    (more.1 ∙ sym (links.next.ok.0 ∙ fresh.links.0)) in
-    let last_is = take_at c.run.new.last (drop (length c.run.new.last) links.last.items) links.last.len
-    (more.2 ∙ sym (links.last.ok.0 ∙ fresh.links.1)) in
     let hash_is = take_at c.run.new.hash (drop (length c.run.new.hash) links.hash.items) links.hash.len
     (more.3 ∙ sym (links.hash.ok.0 ∙ ap length fresh.heads.1 ∙ none)) in
     let graph = c.requires.graph in
     let w_is = take_at c.run.new.w (drop (length c.run.new.w) counts.w.items) counts.w.len
     (c.run.auto.w ∙ ap length c.deref_mut-4.ensures.value ∙ sym counts.w.ok.0) in
-    rw (e_len_is, nv_is, degree_is, w_is, head_is, next_is, last_is, hash_is) (record {
+    rw (e_len_is, nv_is, degree_is, w_is, head_is, hash_is) (record {
       words = long;
       counters = c.run.auto.w ∙ ap length c.deref_mut-4.ensures.value ∙ fresh.figures.1;
-      links = more;
+      links = (more.0, more.3);
       ends = λ link f_size blocks ends link_long f_size_long blocks_long. is_over (option_copied c.args.hold) c.args.threshold
           c.args.control.now.aggressive c.args.iw.now c.args.pe.now c.args.len.now c.run.result.n_dense c.run.result.figures
           c.run.new.pe c.run.new.e_len c.run.new.nv c.run.new.degree c.run.ensures.runs link f_size blocks ends link_long
