@@ -1,1 +1,2 @@
--- No lemma is needed here.
+-- Lemmas on the cells of a workspace.
+pub mod SideLists

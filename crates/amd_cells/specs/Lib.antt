@@ -1,1 +1,2 @@
--- Words and figures say all in their own file: nothing stands here.
+-- What contracts see of the sides of rows. Words and figures have their models in `src/lib.rt`.
+pub mod Sides

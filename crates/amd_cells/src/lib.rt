@@ -1,8 +1,10 @@
 //! The cells of a workspace, each in one of two widths: words, which have a sign, and figures, which have none. A
-//! contract sees a word as an integer and a figure as a number, so that it reads the same in each width. Called by
-//! `amd_trees` and by each crate of the engine in place: `amd_places`, `amd_inplace`, `amd_listing`, `amd_workspace`,
-//! `amd_engine`.
+//! contract sees a word as an integer and a figure as a number, so that it reads the same in each width. The two
+//! sides of a row in its list stand together (`sides`). Called by `amd_trees` and by each crate of
+//! the engine in place: `amd_places`, `amd_inplace`, `amd_listing`, `amd_workspace`, `amd_engine`.
 #![tactic(auto)]
+
+pub mod sides;
 
 ghost use Rattle.std.specs.Prelude.{ℕ, ℤ, pos, ◌≡◌, ◌<◌, ◌≤◌, ◌+◌, ◌^◌, unsigned_abs, length, slice_index_or};
 ghost use Rattle.std.specs.Prelude.{slice_set};
@@ -204,6 +206,15 @@ pub fn figure_of<U: Unsigned>(number: usize) -> Figure<U>
     Figure {
         inner: U::of(number),
     }
+}
+
+/// The number of a figure.
+#[inline]
+pub fn number_of<U: Unsigned>(figure: &Figure<U>) -> usize
+    ensures is { result ≡ figure.now }
+    ensures small { result ≤ U.MOST }
+{
+    figure.inner.number()
 }
 
 /// The number at a place.

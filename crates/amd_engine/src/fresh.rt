@@ -3,10 +3,12 @@
 
 ghost use Rattle.std.specs.Prelude.{◌≡◌, ◌≤◌, ℕ, pos, replicate, length, IfOk};
 ghost use Rattle.std.specs.Vec.{vec_capacity};
+ghost use Rattle.amd_cells.specs.Sides.{nexts, lasts};
 ghost use Rattle.amd_engine.specs.InPlace.{AreFresh};
 
+use amd_cells::sides::Sides;
 use amd_cells::{Figure, Signed, Unsigned, Word};
-use amd_workspace::filling::{figures, words};
+use amd_workspace::filling::{figures, sides, words};
 use num_traits::PrimInt;
 use std::alloc::{AllocError, Allocator};
 
@@ -23,17 +25,15 @@ pub struct Counts<S: Signed, U: Unsigned, A: Allocator> {
     pub w: Vec<Figure<U>, A>,
 }
 
-/// The lists by bound, and the buckets: four lists with a place for each row.
+/// The lists by bound, and the buckets: three lists with a place for each row.
 ///
 /// After the rounds `head` and `hash` are room for the listing.
 #[derive(Drop)]
 pub struct Links<U: Unsigned, A: Allocator> {
     /// The first class of each bound. At first there is none.
     pub head: Vec<Figure<U>, A>,
-    /// The class after each one.
-    pub next: Vec<Figure<U>, A>,
-    /// The class before each one.
-    pub last: Vec<Figure<U>, A>,
+    /// The two sides of each class in its list: the class behind it and the one before it.
+    pub sides: Vec<Sides<U>, A>,
     /// The first class of each bucket. At first there is none.
     pub hash: Vec<Figure<U>, A>,
 }
@@ -62,7 +62,8 @@ pub fn fresh_counts<S: Signed, U: Unsigned, A: Allocator + Copy>(
     })
 }
 
-/// The lists by bound of `n` rows, and their buckets, with nothing in them: four lists of `n` numbers.
+/// The lists by bound of `n` rows, and their buckets, with nothing in them: `head` and `hash` have `n` numbers each,
+/// and `sides` has `n` pairs.
 ///
 /// The width holds `n`. Each number of `head` and `hash` is `n`, which names no row.
 ///
@@ -75,12 +76,11 @@ pub fn fresh_links<U: Unsigned, A: Allocator + Copy>(
 ) -> Result<Links<U, A>, AllocError>
     requires narrow { n ≤ U.MOST }
     ensures heads { IfOk result (λ l. (l.head.items ≡ replicate n n) × (l.hash.items ≡ replicate n n)) }
-    ensures links { IfOk result (λ l. (length l.next.items ≡ n) × (length l.last.items ≡ n)) }
+    ensures sides { IfOk result (λ l. (length (nexts l.sides.items) ≡ n) × (length (lasts l.sides.items) ≡ n)) }
 {
     Ok(Links {
         head: figures(alloc, n, n)?,
-        next: figures(alloc, n, n)?,
-        last: figures(alloc, n, n)?,
+        sides: sides(alloc, n, n)?,
         hash: figures(alloc, n, n)?,
     })
 }
@@ -111,7 +111,8 @@ pub fn fresh_lists<I: PrimInt, S: Signed, U: Unsigned, A: Allocator + Copy>(
 ) -> Result<Lists<I, S, U, A>, AllocError>
     requires narrow { (n ≤ S.MOST) × (n ≤ U.MOST) }
     ensures fresh { IfOk result (λ l. AreFresh n l.counts.e_len.items l.counts.nv.items l.counts.degree.items
-        l.counts.w.items l.links.head.items l.links.next.items l.links.last.items l.links.hash.items) }
+        l.counts.w.items l.links.head.items (nexts l.links.sides.items) (lasts l.links.sides.items)
+        l.links.hash.items) }
     ensures rows { IfOk result (λ l. (length l.p.items ≡ 0) × (length l.p_inv.items ≡ 0) × (n ≤ vec_capacity l.p) ×
         (n ≤ vec_capacity l.p_inv)) }
 {

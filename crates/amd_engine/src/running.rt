@@ -3,6 +3,7 @@
 
 ghost use Rattle.std.specs.Prelude.{◌≡◌, ◌≤◌, ◌+◌, ℕ, Bool, List, length};
 ghost use Rattle.std.specs.Option.{option_copied};
+ghost use Rattle.amd_cells.specs.Sides.{nexts, lasts};
 ghost use Rattle.amd_model.specs.Graph.{Graph};
 ghost use Rattle.amd_model.specs.Input.Held.{HasMarks};
 ghost use Rattle.amd_model.specs.State.{State};
@@ -13,6 +14,7 @@ ghost use Rattle.amd_engine.specs.InPlace.{AreEmpty, AreFresh, AreOver, EndsIn, 
 ghost use Rattle.amd_engine.specs.InPlace.{at_start, first_sums};
 
 use crate::fresh::{Counts, Links};
+use amd_cells::sides::Sides;
 use amd_cells::{Figure, Signed, Unsigned, Word};
 use amd_inplace::round::eliminate;
 use amd_inplace::work::Work;
@@ -56,8 +58,7 @@ fn run_rounds<S: Signed, U: Unsigned>(
     degree: &mut [Figure<U>],
     w: &mut [Figure<U>],
     head: &mut [Figure<U>],
-    next: &mut [Figure<U>],
-    last: &mut [Figure<U>],
+    sides: &mut [Sides<U>],
     hash: &mut [Figure<U>],
     free: usize,
     live: usize,
@@ -68,16 +69,16 @@ fn run_rounds<S: Signed, U: Unsigned>(
     requires words { (length iw.old ≤ S.MOST) × (length nv.old + 2 ≤ S.MOST) }
     requires figures { (length iw.old ≤ U.MOST) × (length nv.old + 2 ≤ U.MOST) }
     requires stands { (g : Graph) × (dense : ℕ → Bool) × (nzaat : ℕ) × (t : QuotientGraph) × (s : State) ×
-        Stands g dense nzaat (at_start iw.old pe.old e_len.old nv.old len.old degree.old w.old head.old next.old
-        last.old hash.old free live flag n_dense) t s }
+        Stands g dense nzaat (at_start iw.old pe.old e_len.old nv.old len.old degree.old w.old head.old
+        (nexts sides.old) (lasts sides.old) hash.old free live flag n_dense) t s }
     ensures ends { EndsIn control.now.aggressive (at_start iw.old pe.old e_len.old nv.old len.old degree.old w.old
-        head.old next.old last.old hash.old free live flag n_dense) pe.new e_len.new nv.new degree.new result.n_dense
-        result.figures }
+        head.old (nexts sides.old) (lasts sides.old) hash.old free live flag n_dense) pe.new e_len.new nv.new degree.new
+        result.n_dense result.figures }
     ensures packs { result.n_cmp_a ≤ length nv.old }
     ensures words { (length pe.new ≡ length pe.old) × (length e_len.new ≡ length e_len.old) ×
         (length nv.new ≡ length nv.old) × (length degree.new ≡ length degree.old) }
-    ensures links { (length head.new ≡ length head.old) × (length next.new ≡ length next.old) ×
-        (length last.new ≡ length last.old) × (length hash.new ≡ length hash.old) }
+    ensures links { (length head.new ≡ length head.old) × (length (nexts sides.new) ≡ length (nexts sides.old)) ×
+        (length (lasts sides.new) ≡ length (lasts sides.old)) × (length hash.new ≡ length hash.old) }
 {
     let mut work = Work {
         iw,
@@ -88,8 +89,7 @@ fn run_rounds<S: Signed, U: Unsigned>(
         degree,
         w,
         head,
-        next,
-        last,
+        sides,
         hash,
         free,
         live,
@@ -112,9 +112,9 @@ fn run_rounds<S: Signed, U: Unsigned>(
 ///
 /// `iw` is the workspace. The other lists have `n` places each, one for each row. The list of row `i` has `len[i]`
 /// words from `pe[i]` on: its neighbours. The lists fill the first `free` words, and `n` words or more follow them. In
-/// `head` and `hash` each number is `n` or more, so that it names no row; in `e_len`, `nv`, `degree`, `w`, `next` and
-/// `last` any numbers are allowed. Both widths of word hold `n + 2` and the length of `iw`. `flag`, the first one, is 2
-/// or more.
+/// `head` and `hash` each number is `n` or more, so that it names no row; in `e_len`, `nv`, `degree`, `w` and `sides`
+/// any numbers are allowed. Both widths of word hold `n + 2` and the length of `iw`. `flag`, the first one, is 2 or
+/// more.
 ///
 /// The rows marked in `hold`, which has one mark for each row where it is given, and those of a degree above
 /// `threshold` are held last. All lists keep their lengths; the contract says so of all but `iw`, `len` and `w`. What
@@ -130,8 +130,7 @@ pub fn run<S: Signed, U: Unsigned>(
     degree: &mut [Figure<U>],
     w: &mut [Figure<U>],
     head: &mut [Figure<U>],
-    next: &mut [Figure<U>],
-    last: &mut [Figure<U>],
+    sides: &mut [Sides<U>],
     hash: &mut [Figure<U>],
     free: usize,
     flag: usize,
@@ -139,7 +138,8 @@ pub fn run<S: Signed, U: Unsigned>(
     hold: Option<&[bool]>,
     threshold: usize,
 ) -> Told
-    requires empty { AreEmpty (length len.old) e_len.old nv.old degree.old w.old head.old next.old last.old hash.old }
+    requires empty { AreEmpty (length len.old) e_len.old nv.old degree.old w.old head.old (nexts sides.old)
+        (lasts sides.old) hash.old }
     requires narrow { (length iw.old ≤ S.MOST) × (length iw.old ≤ U.MOST) × (length len.old + 2 ≤ S.MOST) ×
         (length len.old + 2 ≤ U.MOST) }
     requires marks { HasMarks (option_copied hold) (length len.old) }
@@ -152,15 +152,12 @@ pub fn run<S: Signed, U: Unsigned>(
     ensures packs { result.n_cmp_a ≤ length len.old }
     ensures lengths { (length pe.new ≡ length len.old) × (length e_len.new ≡ length len.old) ×
         (length nv.new ≡ length len.old) × (length degree.new ≡ length len.old) }
-    ensures links { (length head.new ≡ length len.old) × (length next.new ≡ length len.old) ×
-        (length last.new ≡ length len.old) × (length hash.new ≡ length len.old) }
+    ensures links { (length head.new ≡ length len.old) × (length (nexts sides.new) ≡ length len.old) ×
+        (length (lasts sides.new) ≡ length len.old) × (length hash.new ≡ length len.old) }
 {
-    let (live, n_dense) = begin(
-        pe, e_len, nv, len, degree, w, head, next, last, hold, threshold,
-    );
+    let (live, n_dense) = begin(pe, e_len, nv, len, degree, w, head, sides, hold, threshold);
     run_rounds(
-        iw, pe, e_len, nv, len, degree, w, head, next, last, hash, free, live, flag, n_dense,
-        control,
+        iw, pe, e_len, nv, len, degree, w, head, sides, hash, free, live, flag, n_dense, control,
     )
 }
 
@@ -183,7 +180,8 @@ pub fn run_fresh<S: Signed, U: Unsigned, A: Allocator>(
     threshold: usize,
 ) -> Told
     requires fresh { AreFresh (length len.old) counts.old.e_len.items counts.old.nv.items counts.old.degree.items
-        counts.old.w.items links.old.head.items links.old.next.items links.old.last.items links.old.hash.items }
+        counts.old.w.items links.old.head.items (nexts links.old.sides.items) (lasts links.old.sides.items)
+        links.old.hash.items }
     requires narrow { (length iw.old ≤ S.MOST) × (length iw.old ≤ U.MOST) × (length len.old + 2 ≤ S.MOST) ×
         (length len.old + 2 ≤ U.MOST) }
     requires marks { HasMarks (option_copied hold) (length len.old) }
@@ -206,8 +204,7 @@ pub fn run_fresh<S: Signed, U: Unsigned, A: Allocator>(
         &mut counts.degree,
         &mut counts.w,
         &mut links.head,
-        &mut links.next,
-        &mut links.last,
+        &mut links.sides,
         &mut links.hash,
         free,
         flag,

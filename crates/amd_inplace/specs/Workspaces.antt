@@ -2,6 +2,7 @@
 use Rattle.std.specs.Prelude.{ℕ, ℤ, pos, negsuc, zero, suc, Bool, true, false, Option, None, Some, List, ◌≡◌, ◌-◌, ◌==◌}
 use Rattle.std.specs.Prelude.{cond}
 use Rattle.std.specs.Prelude.{length}
+use Rattle.amd_cells.specs.Sides.{nexts, lasts}
 use Rattle.amd_numbers.specs.declared.figures.Figures.{Figures}
 use Rattle.amd_views.specs.Views.{View}
 use Rattle.amd_places.specs.Words.{num, word, size_of}
@@ -41,8 +42,8 @@ workspace_of w = record {
   degree = w.degree.now;
   w = w.w.now;
   head = w.head.now;
-  next = w.next.now;
-  last = w.last.now;
+  next = nexts w.sides.now;
+  last = lasts w.sides.now;
   hash = w.hash.now;
   free = w.free;
   live = w.live;

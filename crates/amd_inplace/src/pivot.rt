@@ -48,7 +48,7 @@ pub fn pick<S: Signed, U: Unsigned>(work: &mut Work<'_, S, U>) -> usize
     ensures loans { KeepsLoans work.old work.new }
 {
     let least = work.least;
-    let (me, bound) = choose(work.head, work.next, work.last, least);
+    let (me, bound) = choose(work.head, work.sides, least);
     work.least = bound;
     me
 }

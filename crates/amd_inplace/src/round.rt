@@ -4,6 +4,7 @@
 // called through a function that is lent all of them for writing.
 
 ghost use Rattle.std.specs.Prelude.{◌≡◌, ◌<◌, ◌≤◌, ◌+◌, ◌^◌, ◌==◌, ℕ, Bool, List, true, length};
+ghost use Rattle.amd_cells.specs.Sides.{nexts, lasts};
 ghost use Rattle.amd_model.specs.Graph.{Graph};
 ghost use Rattle.amd_model.specs.State.{State};
 ghost use Rattle.amd_model.specs.Quotient.{QuotientGraph};
@@ -22,6 +23,7 @@ ghost use Rattle.amd_inplace.specs.Keeps.{Stands, IsRound, AreRounds, NoRowIsLiv
 
 use crate::pivot::{begin, pick};
 use crate::work::Work;
+use amd_cells::sides::Sides;
 use amd_cells::{Figure, Signed, Unsigned, Word, figure_at};
 use amd_numbers::amd::Control;
 use amd_places::closing::close;
@@ -57,8 +59,7 @@ pub fn turn_over<S: Signed, U: Unsigned>(
         work.degree,
         work.w,
         work.head,
-        work.next,
-        work.last,
+        work.sides,
         me,
         free,
         flag,
@@ -75,34 +76,34 @@ fn merge_list<S: Signed, U: Unsigned>(
     nv: &mut [Word<S>],
     w: &mut [Figure<U>],
     hash: &mut [Figure<U>],
-    next: &mut [Figure<U>],
-    last: &mut [Figure<U>],
+    sides: &mut [Sides<U>],
     me: usize,
     flag: usize,
 ) -> usize
-    requires lengths { LongToMerge (length next.old) pe.old e_len.old nv.old len.old w.old hash.old next.old last.old }
-    requires short { (length iw.old < 2 ^ 63) × (length next.old + 2 ≤ S.MOST) × (length next.old ≤ U.MOST) }
-    requires list { (me < length next.old) × (is_place (word pe.old me) ≡ true) }
-    requires front { IsList (length next.old) iw.old (start pe.old me) (num len.old me) }
-    requires few { num len.old me ≤ length next.old }
-    requires classes { AreRenewed (length next.old) iw.old pe.old e_len.old len.old nv.old w.old last.old
-        (classes nv.old (list_in iw.old pe.old len.old me)) }
+    requires lengths { LongToMerge (length (nexts sides.old)) pe.old e_len.old nv.old len.old w.old hash.old
+        (nexts sides.old) (lasts sides.old) }
+    requires short { (length iw.old < 2 ^ 63) × (length (nexts sides.old) + 2 ≤ S.MOST) ×
+        (length (nexts sides.old) ≤ U.MOST) }
+    requires list { (me < length (nexts sides.old)) × (is_place (word pe.old me) ≡ true) }
+    requires front { IsList (length (nexts sides.old)) iw.old (start pe.old me) (num len.old me) }
+    requires few { num len.old me ≤ length (nexts sides.old) }
+    requires classes { AreRenewed (length (nexts sides.old)) iw.old pe.old e_len.old len.old nv.old w.old
+        (lasts sides.old) (classes nv.old (list_in iw.old pe.old len.old me)) }
     requires under { (x : ℕ) → num w.old x < flag }
     requires room { flag + num len.old me ≤ U.MOST }
-    requires empty { (b : ℕ) → b < length next.old → length next.old ≤ num hash.old b }
-    ensures merges { MergesList (length next.old) iw.old (start pe.old me) (num len.old me) len.old last.old pe.old
-        e_len.old nv.old next.old pe.new e_len.new nv.new hash.new next.new }
-    ensures lengths { LongToMerge (length next.old) pe.new e_len.new nv.new len.new w.new hash.new next.new last.new }
+    requires empty { (b : ℕ) → b < length (nexts sides.old) → length (nexts sides.old) ≤ num hash.old b }
+    ensures merges { MergesList (length (nexts sides.old)) iw.old (start pe.old me) (num len.old me) len.old
+        (lasts sides.old) pe.old e_len.old nv.old (nexts sides.old) pe.new e_len.new nv.new hash.new (nexts sides.new) }
+    ensures lengths { LongToMerge (length (nexts sides.old)) pe.new e_len.new nv.new len.new w.new hash.new
+        (nexts sides.new) (lasts sides.new) }
     ensures flag { flag ≤ result }
     ensures under { (x : ℕ) → num w.new x < result }
     ensures zeros { (x : ℕ) → (num w.new x == 0) ≡ (num w.old x == 0) }
-    ensures same { (iw.new ≡ iw.old) × (len.new ≡ len.old) × (last.new ≡ last.old) }
+    ensures same { (iw.new ≡ iw.old) × (len.new ≡ len.old) × (lasts sides.new ≡ lasts sides.old) }
 {
     let from = named(pe, me);
     let count = figure_at(len, me);
-    merge_front(
-        iw, pe, e_len, len, nv, w, hash, next, last, from, count, flag,
-    )
+    merge_front(iw, pe, e_len, len, nv, w, hash, sides, from, count, flag)
 }
 
 /// Takes the rows of the block off those that are live, and merges the classes of the front of `me` that are alike. The
@@ -125,8 +126,7 @@ pub fn merge_alike<S: Signed, U: Unsigned>(
     let risen = work.flag + work.most;
     let flag = renew_flag(work.w, risen);
     work.flag = merge_list(
-        work.iw, work.pe, work.e_len, work.len, work.nv, work.w, work.hash, work.next, work.last,
-        me, flag,
+        work.iw, work.pe, work.e_len, work.len, work.nv, work.w, work.hash, work.sides, me, flag,
     );
 }
 
@@ -137,8 +137,7 @@ fn place_list<S: Signed, U: Unsigned>(
     nv: &mut [Word<S>],
     degree: &mut [Figure<U>],
     head: &mut [Figure<U>],
-    next: &mut [Figure<U>],
-    last: &mut [Figure<U>],
+    sides: &mut [Sides<U>],
     hash: &mut [Figure<U>],
     pe: &mut [Word<S>],
     len: &mut [Figure<U>],
@@ -147,32 +146,36 @@ fn place_list<S: Signed, U: Unsigned>(
     left: usize,
     least: usize,
 ) -> (usize, usize, usize)
-    requires lengths { LongToPlace (length next.old) nv.old degree.old head.old next.old last.old hash.old }
-    requires more_lengths { (length pe.old ≡ length next.old) × (length len.old ≡ length next.old) }
-    requires short { (length iw.old < 2 ^ 63) × (length next.old + 2 ≤ S.MOST) × (length next.old ≤ U.MOST) }
-    requires list { (me < length next.old) × (is_place (word pe.old me) ≡ true) }
-    requires front { IsList (length next.old) iw.old (start pe.old me) (num len.old me) }
-    requires classes { CanPlace (length next.old) border nv.old degree.old last.old (list_in iw.old pe.old len.old me) }
-    requires order { (border ≤ left) × (left ≤ length next.old) }
-    requires heads { AreHeads (length next.old) (num len.old me) (marked_in nv.old (list_in iw.old pe.old len.old me))
-        hash.old last.old }
-    requires linked { HasLists (length next.old) (list_in iw.old pe.old len.old me) head.old next.old last.old
-        degree.old }
+    requires lengths { LongToPlace (length (nexts sides.old)) nv.old degree.old head.old (nexts sides.old)
+        (lasts sides.old) hash.old }
+    requires more_lengths { (length pe.old ≡ length (nexts sides.old)) × (length len.old ≡ length (nexts sides.old)) }
+    requires short { (length iw.old < 2 ^ 63) × (length (nexts sides.old) + 2 ≤ S.MOST) ×
+        (length (nexts sides.old) ≤ U.MOST) }
+    requires list { (me < length (nexts sides.old)) × (is_place (word pe.old me) ≡ true) }
+    requires front { IsList (length (nexts sides.old)) iw.old (start pe.old me) (num len.old me) }
+    requires classes { CanPlace (length (nexts sides.old)) border nv.old degree.old (lasts sides.old)
+        (list_in iw.old pe.old len.old me) }
+    requires order { (border ≤ left) × (left ≤ length (nexts sides.old)) }
+    requires heads { AreHeads (length (nexts sides.old)) (num len.old me)
+        (marked_in nv.old (list_in iw.old pe.old len.old me)) hash.old (lasts sides.old) }
+    requires linked { HasLists (length (nexts sides.old)) (list_in iw.old pe.old len.old me) head.old (nexts sides.old)
+        (lasts sides.old) degree.old }
     ensures from { result.0 ≡ start pe.old me }
-    ensures filters { Filters (length next.old) (in_front nv.old) (λ j. 0) 0 iw.old result.0 (num len.old me) result.0
-        iw.new result.1 0 }
+    ensures filters { Filters (length (nexts sides.old)) (in_front nv.old) (λ j. 0) 0 iw.old result.0 (num len.old me)
+        result.0 iw.new result.1 0 }
     ensures restores { Restores (list_in iw.old pe.old len.old me) border left least nv.old degree.old nv.new degree.new
         result.2 }
-    ensures empty { (b : ℕ) → b < length next.old → length next.old ≤ num hash.new b }
-    ensures linked { PutsAll (length next.old) border left (list_in iw.old pe.old len.old me) nv.old head.old next.old
-        last.old degree.old head.new next.new last.new degree.new }
-    ensures lengths { LongToPlace (length next.old) nv.new degree.new head.new next.new last.new hash.new }
+    ensures empty { (b : ℕ) → b < length (nexts sides.old) → length (nexts sides.old) ≤ num hash.new b }
+    ensures linked { PutsAll (length (nexts sides.old)) border left (list_in iw.old pe.old len.old me) nv.old head.old
+        (nexts sides.old) (lasts sides.old) degree.old head.new (nexts sides.new) (lasts sides.new) degree.new }
+    ensures lengths { LongToPlace (length (nexts sides.old)) nv.new degree.new head.new (nexts sides.new)
+        (lasts sides.new) hash.new }
     ensures same { (pe.new ≡ pe.old) × (len.new ≡ len.old) }
 {
     let from = named(pe, me);
     let count = figure_at(len, me);
     let (end, least) = restore(
-        iw, nv, degree, head, next, last, hash, from, count, border, left, least,
+        iw, nv, degree, head, sides, hash, from, count, border, left, least,
     );
     (from, end, least)
 }
@@ -200,8 +203,7 @@ pub fn end_front<S: Signed, U: Unsigned>(
         work.nv,
         work.degree,
         work.head,
-        work.next,
-        work.last,
+        work.sides,
         work.hash,
         work.pe,
         work.len,

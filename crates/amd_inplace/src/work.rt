@@ -1,11 +1,13 @@
 // What an elimination in one workspace keeps between two rounds: borrowed slices, and some numbers. Source: Amestoy,
 // Davis and Duff 1996 and 2004 (the arrays of the quotient graph). Changed by `round`.
 
+use amd_cells::sides::Sides;
 use amd_cells::{Figure, Signed, Unsigned, Word};
 use amd_numbers::figures::Figures;
 
-/// The state of an elimination of a matrix with `n` rows. Each slice but `iw` has `n` numbers. Where a slice of figures
-/// names a row, `n` stands for no row. A mark is a number below zero: -1 names nothing, and `-k - 2` names `k`.
+/// The state of an elimination of a matrix with `n` rows. Each slice but `iw` has `n` places, with a number in each,
+/// and in `sides` two. Where a figure names a row, `n` stands for no row. A mark is a number below zero: -1 names
+/// nothing, and `-k - 2` names `k`.
 #[derive(Drop)]
 pub struct Work<'a, S: Signed, U: Unsigned> {
     /// All lists: that of a class names its elements and then its variables, that of an element its members.
@@ -27,10 +29,10 @@ pub struct Work<'a, S: Signed, U: Unsigned> {
     pub w: &'a mut [Figure<U>],
     /// The first class of each bound.
     pub head: &'a mut [Figure<U>],
-    /// The class behind each one in its list. In a round it links the classes of a bucket too.
-    pub next: &'a mut [Figure<U>],
-    /// The class before each one in its list. In a round a class of the front has its bucket here.
-    pub last: &'a mut [Figure<U>],
+    /// The two sides of each class in its list by bound: the class behind it and the one before it. In a round a class
+    /// in a bucket has the next one of the bucket behind it, and a class of the front has its key where the one before
+    /// it stood.
+    pub sides: &'a mut [Sides<U>],
     /// The first class of each bucket, in which classes alike are looked for. Between rounds there is none.
     pub hash: &'a mut [Figure<U>],
     /// No list has a word from here on.

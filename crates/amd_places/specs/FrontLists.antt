@@ -10,12 +10,12 @@ use Rattle.amd_places.specs.Restoring.{IsPlaceable, marked_in, bound_in, put_all
 abbrev pub IsList : ℕ → List ℤ → ℕ → ℕ → Type 0
 IsList n iw from count = (from + count ≤ length iw) × Names n iw from count × Once (rows iw from count)
 
--- the slices that merging uses have n items each
+-- the lists that merging uses have n items each
 abbrev pub LongToMerge : ℕ → List ℤ → List ℤ → List ℤ → List ℕ → List ℕ → List ℕ → List ℕ → List ℕ → Type 0
 LongToMerge n pe e_len nv len w hash next last = (length pe ≡ n) × (length e_len ≡ n) × (length nv ≡ n) ×
     (length len ≡ n) × (length w ≡ n) × (length hash ≡ n) × (length next ≡ n) × (length last ≡ n)
 
--- the slices that placing uses have n items each
+-- the lists that placing uses have n items each
 abbrev pub LongToPlace : ℕ → List ℤ → List ℕ → List ℕ → List ℕ → List ℕ → List ℕ → Type 0
 LongToPlace n nv degree head next last hash = (length nv ≡ n) × (length degree ≡ n) × (length head ≡ n) ×
     (length next ≡ n) × (length last ≡ n) × (length hash ≡ n)

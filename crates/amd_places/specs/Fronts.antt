@@ -17,13 +17,13 @@ near_in is_apart iw pe e_len len i = filter is_apart (variables_in iw pe e_len l
 abbrev pub is_done : (ℕ → Bool) → (ℕ → Bool) → List ℤ → List ℤ → List ℤ → List ℕ → ℕ → Bool
 is_done kept is_apart iw pe e_len len i = mass (kept_in kept iw pe e_len) (near_in is_apart iw pe e_len len) i
 
--- the bucket of a class, by what it keeps
+-- the key of a class, by what it keeps
 abbrev pub bucket_at : ℕ → (ℕ → Bool) → (ℕ → Bool) → List ℤ → List ℤ → List ℤ → List ℕ → ℕ → ℕ
 bucket_at n kept is_apart iw pe e_len len i = key_of n
     (kept_in kept iw pe e_len i ++ near_in is_apart iw pe e_len len i)
 
 -- the class i of a front: the lists are, with the words for elements in `counts`, as if it were only renewed. If it
--- keeps nothing it goes with the pivot and its rows are gone; else it has a lower bound and its bucket
+-- keeps nothing it goes with the pivot and its rows are gone; else it has a lower bound and its key
 pub record RenewsOrEnds (n me : ℕ) (kept is_apart : ℕ → Bool) (beyond : ℕ → ℕ) (i : ℕ)
     (iw pe e_len nv : List ℤ) (len degree last : List ℕ) (iw' pe' e_len' nv' : List ℤ) (len' degree' last' : List ℕ)
     (gone : ℕ) : Type 0 where

@@ -15,7 +15,7 @@ bound_in border left nv degree i = min (num degree i + (border - size_of nv i)) 
 abbrev pub put_all : (ℕ → ℕ) → List ℕ → (ℕ → List ℕ) → ℕ → List ℕ
 put_all bound xs lists = fold (λ before i b. cond (b == bound i) (i ∷ before b) (before b)) lists xs
 
--- a class that is left in a front: it has rows, no more than the border, an old bound, and its bucket
+-- a class that is left in a front: it has rows, no more than the border, an old bound, and its key
 pub record IsPlaceable (n border : ℕ) (nv : List ℤ) (degree last : List ℕ) (i : ℕ) : Type 0 where
   pub class : 0 < size_of nv i
   pub part : size_of nv i ≤ border

@@ -4,34 +4,31 @@
 // `amd_workspace`).
 
 ghost use Rattle.std.specs.Prelude.{◌≡◌, ◌<◌, ◌≤◌, ℕ, true, false, List, ◌∷◌, ◌==◌, cond, length, slice_set};
+ghost use Rattle.amd_cells.specs.Sides.{nexts, lasts};
 ghost use Rattle.amd_model.specs.Quotient.{has};
 ghost use Rattle.amd_places.specs.Words.{num};
 ghost use Rattle.amd_places.specs.Chains.{DegreeLists, Unlinks, Relinks, SomeFrom, Chooses, without};
 
+use amd_cells::sides::{Sides, last_at, next_at, put_last, put_next, row_count};
 use amd_cells::{Figure, Unsigned, figure_at, put_figure};
 
 /// Links what stands before and behind a row of the bound `d` to each other.
-fn unlink<U: Unsigned>(
-    head: &mut [Figure<U>],
-    next: &mut [Figure<U>],
-    last: &mut [Figure<U>],
-    i: usize,
-    d: usize,
-)
-    requires lengths { (length head.old ≡ length next.old) × (length last.old ≡ length next.old) }
-    requires row { (i < length next.old) × (d < length next.old) }
-    ensures unlinks { Unlinks (length next.old) i d head.old next.old last.old head.new next.new last.new }
-    ensures lengths { (length head.new ≡ length next.old) × (length next.new ≡ length next.old) ×
-        (length last.new ≡ length next.old) }
+fn unlink<U: Unsigned>(head: &mut [Figure<U>], sides: &mut [Sides<U>], i: usize, d: usize)
+    requires long { length head.old ≡ length (nexts sides.old) }
+    requires row { (i < length (nexts sides.old)) × (d < length (nexts sides.old)) }
+    ensures unlinks { Unlinks (length (nexts sides.old)) i d head.old (nexts sides.old) (lasts sides.old) head.new
+        (nexts sides.new) (lasts sides.new) }
+    ensures lengths { (length head.new ≡ length (nexts sides.old)) ×
+        (length (nexts sides.new) ≡ length (nexts sides.old)) × (length (lasts sides.new) ≡ length (nexts sides.old)) }
 {
-    let n = next.len();
-    let before = figure_at(last, i);
-    let after = figure_at(next, i);
+    let n = row_count(sides);
+    let before = last_at(sides, i);
+    let after = next_at(sides, i);
     if after < n {
-        put_figure(last, after, before);
+        put_last(sides, after, before);
     }
     if before < n {
-        put_figure(next, before, after);
+        put_next(sides, before, after);
     } else {
         put_figure(head, d, after);
     }
@@ -40,71 +37,65 @@ fn unlink<U: Unsigned>(
 /// Takes a row out of the list of its bound.
 pub fn take_out<U: Unsigned>(
     head: &mut [Figure<U>],
-    next: &mut [Figure<U>],
-    last: &mut [Figure<U>],
+    sides: &mut [Sides<U>],
     degree: &[Figure<U>],
     i: usize,
 )
-    requires lengths { (length head.old ≡ length next.old) × (length last.old ≡ length next.old) ×
-        (length degree.now ≡ length next.old) }
-    requires row { (i < length next.old) × (num degree.now i < length next.old) }
-    ensures lengths { (length head.new ≡ length next.old) × (length next.new ≡ length next.old) ×
-        (length last.new ≡ length next.old) }
+    requires lengths { (length head.old ≡ length (nexts sides.old)) × (length degree.now ≡ length (nexts sides.old)) }
+    requires row { (i < length (nexts sides.old)) × (num degree.now i < length (nexts sides.old)) }
+    ensures lengths { (length head.new ≡ length (nexts sides.old)) ×
+        (length (nexts sides.new) ≡ length (nexts sides.old)) × (length (lasts sides.new) ≡ length (nexts sides.old)) }
     ensures linked { (lists : ℕ → List ℕ) → has (lists (num degree.now i)) i ≡ true →
-        DegreeLists (length next.old) head.old next.old last.old degree.now lists →
-        DegreeLists (length next.old) head.new next.new last.new degree.now (λ d. without i (lists d)) }
+        DegreeLists (length (nexts sides.old)) head.old (nexts sides.old) (lasts sides.old) degree.now lists →
+        DegreeLists (length (nexts sides.old)) head.new (nexts sides.new) (lasts sides.new) degree.now
+        (λ d. without i (lists d)) }
 {
-    unlink(head, next, last, i, figure_at(degree, i));
+    unlink(head, sides, i, figure_at(degree, i));
 }
 
 /// Links a row in front of the first one of the bound `d`.
-fn link<U: Unsigned>(
-    head: &mut [Figure<U>],
-    next: &mut [Figure<U>],
-    last: &mut [Figure<U>],
-    i: usize,
-    d: usize,
-)
-    requires lengths { (length head.old ≡ length next.old) × (length last.old ≡ length next.old) }
-    requires short { length next.old ≤ U.MOST }
-    requires row { (i < length next.old) × (d < length next.old) }
-    ensures relinks { Relinks (length next.old) i d head.old next.old last.old head.new next.new last.new }
-    ensures lengths { (length head.new ≡ length next.old) × (length next.new ≡ length next.old) ×
-        (length last.new ≡ length next.old) }
+fn link<U: Unsigned>(head: &mut [Figure<U>], sides: &mut [Sides<U>], i: usize, d: usize)
+    requires long { length head.old ≡ length (nexts sides.old) }
+    requires short { length (nexts sides.old) ≤ U.MOST }
+    requires row { (i < length (nexts sides.old)) × (d < length (nexts sides.old)) }
+    ensures relinks { Relinks (length (nexts sides.old)) i d head.old (nexts sides.old) (lasts sides.old) head.new
+        (nexts sides.new) (lasts sides.new) }
+    ensures lengths { (length head.new ≡ length (nexts sides.old)) ×
+        (length (nexts sides.new) ≡ length (nexts sides.old)) × (length (lasts sides.new) ≡ length (nexts sides.old)) }
 {
-    let n = next.len();
+    let n = row_count(sides);
     let after = figure_at(head, d);
     if after < n {
-        put_figure(last, after, i);
+        put_last(sides, after, i);
     }
-    put_figure(next, i, after);
-    put_figure(last, i, n);
+    put_next(sides, i, after);
+    put_last(sides, i, n);
     put_figure(head, d, i);
 }
 
 /// Puts a row at the head of the list of a bound.
 pub fn put_head<U: Unsigned>(
     head: &mut [Figure<U>],
-    next: &mut [Figure<U>],
-    last: &mut [Figure<U>],
+    sides: &mut [Sides<U>],
     degree: &mut [Figure<U>],
     i: usize,
     d: usize,
 )
-    requires lengths { (length head.old ≡ length next.old) × (length last.old ≡ length next.old) ×
-        (length degree.old ≡ length next.old) }
-    requires short { length next.old ≤ U.MOST }
-    requires row { (i < length next.old) × (d < length next.old) }
-    ensures lengths { (length head.new ≡ length next.old) × (length next.new ≡ length next.old) ×
-        (length last.new ≡ length next.old) × (length degree.new ≡ length next.old) }
-    ensures linked { (lists : ℕ → List ℕ) → ((b : ℕ) → b < length next.old → has (lists b) i ≡ false) →
-        DegreeLists (length next.old) head.old next.old last.old degree.old lists →
-        DegreeLists (length next.old) head.new next.new last.new degree.new
+    requires lengths { (length head.old ≡ length (nexts sides.old)) × (length degree.old ≡ length (nexts sides.old)) }
+    requires short { length (nexts sides.old) ≤ U.MOST }
+    requires row { (i < length (nexts sides.old)) × (d < length (nexts sides.old)) }
+    ensures lengths { (length head.new ≡ length (nexts sides.old)) ×
+        (length (nexts sides.new) ≡ length (nexts sides.old)) × (length (lasts sides.new) ≡ length (nexts sides.old)) ×
+        (length degree.new ≡ length (nexts sides.old)) }
+    ensures linked { (lists : ℕ → List ℕ) → ((b : ℕ) → b < length (nexts sides.old) → has (lists b) i ≡ false) →
+        DegreeLists (length (nexts sides.old)) head.old (nexts sides.old) (lasts sides.old) degree.old lists →
+        DegreeLists (length (nexts sides.old)) head.new (nexts sides.new) (lasts sides.new) degree.new
         (λ b. cond (b == d) (i ∷ lists b) (lists b)) }
     ensures degrees { degree.new ≡ slice_set degree.old i d }
-    ensures lasts { (x : ℕ) → (x ≡ i → ⊥) → (x ≡ num head.old d → ⊥) → num last.new x ≡ num last.old x }
+    ensures lasts { (x : ℕ) → (x ≡ i → ⊥) → (x ≡ num head.old d → ⊥) → num (lasts sides.new) x ≡
+        num (lasts sides.old) x }
 {
-    link(head, next, last, i, d);
+    link(head, sides, i, d);
     put_figure(degree, i, d);
 }
 
@@ -128,24 +119,24 @@ fn least_bound<U: Unsigned>(head: &[Figure<U>], least: usize) -> usize
 /// `least` has a row. Answers the pivot and its bound.
 pub fn choose<U: Unsigned>(
     head: &mut [Figure<U>],
-    next: &mut [Figure<U>],
-    last: &mut [Figure<U>],
+    sides: &mut [Sides<U>],
     least: usize,
 ) -> (usize, usize)
-    requires lengths { (length head.old ≡ length next.old) × (length last.old ≡ length next.old) }
-    requires some { SomeFrom (length next.old) head.old least }
-    ensures lengths { (length head.new ≡ length next.old) × (length next.new ≡ length next.old) ×
-        (length last.new ≡ length next.old) }
-    ensures row { (result.0 < length next.old) × (result.1 < length next.old) }
+    requires long { length head.old ≡ length (nexts sides.old) }
+    requires some { SomeFrom (length (nexts sides.old)) head.old least }
+    ensures lengths { (length head.new ≡ length (nexts sides.old)) ×
+        (length (nexts sides.new) ≡ length (nexts sides.old)) × (length (lasts sides.new) ≡ length (nexts sides.old)) }
+    ensures row { (result.0 < length (nexts sides.old)) × (result.1 < length (nexts sides.old)) }
     ensures chosen { (degree : List ℕ) (lists : ℕ → List ℕ) →
-        DegreeLists (length next.old) head.old next.old last.old degree lists →
-        Chooses (length next.old) least lists result.0 result.1 }
+        DegreeLists (length (nexts sides.old)) head.old (nexts sides.old) (lasts sides.old) degree lists →
+        Chooses (length (nexts sides.old)) least lists result.0 result.1 }
     ensures linked { (degree : List ℕ) (lists : ℕ → List ℕ) →
-        DegreeLists (length next.old) head.old next.old last.old degree lists →
-        DegreeLists (length next.old) head.new next.new last.new degree (λ b. without result.0 (lists b)) }
+        DegreeLists (length (nexts sides.old)) head.old (nexts sides.old) (lasts sides.old) degree lists →
+        DegreeLists (length (nexts sides.old)) head.new (nexts sides.new) (lasts sides.new) degree
+        (λ b. without result.0 (lists b)) }
 {
     let bound = least_bound(head, least);
     let me = figure_at(head, bound);
-    unlink(head, next, last, me, bound);
+    unlink(head, sides, me, bound);
     (me, bound)
 }

@@ -5,6 +5,7 @@
 // `turning`, and the renewal of the flag by `round` of the crate `amd_inplace`.
 
 ghost use Rattle.std.specs.Prelude.{◌≡◌, ◌<◌, ◌≤◌, ◌+◌, ◌-◌, ◌^◌, ◌==◌, ◌&&◌, cond, ℕ, List, Bool, true, length};
+ghost use Rattle.amd_cells.specs.Sides.{nexts, lasts};
 ghost use Rattle.amd_model.specs.Quotient.{has, Once};
 ghost use Rattle.amd_places.specs.Words.{num, word, place, is_place, start, size_of, in_front, flip_of, rows, Names};
 ghost use Rattle.amd_places.specs.Chains.{DegreeLists, without};
@@ -15,6 +16,7 @@ ghost use Rattle.amd_places.specs.Tallies.{LeavesLists};
 
 use crate::chains::take_out;
 use crate::words::{named, put_flip, size_inside};
+use amd_cells::sides::Sides;
 use amd_cells::{Figure, Signed, Unsigned, Word, figure_at, put_figure};
 
 /// Takes the `more` rows of a class off the counter of the element `e`, which that class lists. There is no branch:
@@ -109,15 +111,14 @@ fn count_class<S: Signed, U: Unsigned>(
     degree: &[Figure<U>],
     w: &mut [Figure<U>],
     head: &mut [Figure<U>],
-    next: &mut [Figure<U>],
-    last: &mut [Figure<U>],
+    sides: &mut [Sides<U>],
     i: usize,
     flag: usize,
     me: usize,
     aggressive: bool,
 )
     requires lengths { HasBounds (length w.old) pe.old e_len.now nv.now degree.now }
-    requires more_lengths { HasLinks (length w.old) head.old next.old last.old }
+    requires more_lengths { HasLinks (length w.old) head.old (nexts sides.old) (lasts sides.old) }
     requires row { (i < length w.old) × (num degree.now i < length w.old) }
     requires small { me + 2 ≤ S.MOST }
     requires listed { IsListed (length w.old) iw.now pe.old e_len.now nv.now i }
@@ -131,12 +132,13 @@ fn count_class<S: Signed, U: Unsigned>(
         (settled aggressive flag (touched_in degree.now w.old flag (size_of nv.now i) e)) (num w.old e) }
     ensures starts { (e : ℕ) → word pe.new e ≡ cond (has (elements_of iw.now pe.old e_len.now i) e &&
         ends aggressive flag (touched_in degree.now w.old flag (size_of nv.now i) e)) (flip_of me) (word pe.old e) }
-    ensures lengths { KeepsLinks head.old next.old last.old head.new next.new last.new }
+    ensures lengths { KeepsLinks head.old (nexts sides.old) (lasts sides.old) head.new (nexts sides.new)
+        (lasts sides.new) }
     ensures linked { (lists : ℕ → List ℕ) → has (lists (num degree.now i)) i ≡ true →
-        DegreeLists (length w.old) head.old next.old last.old degree.now lists →
-        DegreeLists (length w.old) head.new next.new last.new degree.now (λ d. without i (lists d)) }
+        DegreeLists (length w.old) head.old (nexts sides.old) (lasts sides.old) degree.now lists →
+        DegreeLists (length w.old) head.new (nexts sides.new) (lasts sides.new) degree.now (λ d. without i (lists d)) }
 {
-    take_out(head, next, last, degree, i);
+    take_out(head, sides, degree, i);
     let first = named(pe, i);
     let n_elements = named(e_len, i);
     let more = size_inside(nv, i);
@@ -156,8 +158,7 @@ pub fn count_outside<S: Signed, U: Unsigned>(
     degree: &[Figure<U>],
     w: &mut [Figure<U>],
     head: &mut [Figure<U>],
-    next: &mut [Figure<U>],
-    last: &mut [Figure<U>],
+    sides: &mut [Sides<U>],
     from: usize,
     count: usize,
     flag: usize,
@@ -165,7 +166,7 @@ pub fn count_outside<S: Signed, U: Unsigned>(
     aggressive: bool,
 )
     requires lengths { HasBounds (length w.old) pe.old e_len.now nv.now degree.now }
-    requires more_lengths { HasLinks (length w.old) head.old next.old last.old }
+    requires more_lengths { HasLinks (length w.old) head.old (nexts sides.old) (lasts sides.old) }
     requires inside { from + count ≤ length iw.now }
     requires small { me + 2 ≤ S.MOST }
     requires front { NamesFront (length w.old) iw.now from count }
@@ -180,14 +181,15 @@ pub fn count_outside<S: Signed, U: Unsigned>(
         w.old w.new }
     ensures starts { EndsCounted aggressive flag me (rows iw.now from count) iw.now pe.old e_len.now nv.now degree.now
         w.old pe.new }
-    ensures lengths { KeepsLinks head.old next.old last.old head.new next.new last.new }
-    ensures linked { LeavesLists (length w.old) (rows iw.now from count) head.old next.old last.old degree.now head.new
-        next.new last.new degree.now }
+    ensures lengths { KeepsLinks head.old (nexts sides.old) (lasts sides.old) head.new (nexts sides.new)
+        (lasts sides.new) }
+    ensures linked { LeavesLists (length w.old) (rows iw.now from count) head.old (nexts sides.old) (lasts sides.old)
+        degree.now head.new (nexts sides.new) (lasts sides.new) degree.now }
 {
     for p in from..from + count {
         let i = named(iw, p);
         count_class(
-            iw, pe, e_len, nv, degree, w, head, next, last, i, flag, me, aggressive,
+            iw, pe, e_len, nv, degree, w, head, sides, i, flag, me, aggressive,
         );
     }
 }

@@ -4,6 +4,7 @@
 
 ghost use Rattle.std.specs.Prelude.{◌++◌, ◌≡◌, ◌<◌, ◌≤◌, ◌+◌, ◌-◌, ◌^◌, pos, negsuc, ℕ, true, false, length, min};
 ghost use Rattle.std.specs.Prelude.{sum_by, slice_set};
+ghost use Rattle.amd_cells.specs.Sides.{nexts, lasts};
 ghost use Rattle.amd_model.specs.Quotient.{has, Once};
 ghost use Rattle.amd_places.specs.Words.{num, word, is_place, size_of, in_front, flip_of};
 ghost use Rattle.amd_places.specs.Renewal.{is_kept, is_outside, hashed, AreMet};
@@ -13,6 +14,7 @@ ghost use Rattle.amd_places.specs.Fronts.{kept_in, near_in, RenewsOrEnds, Renews
 
 use crate::renewal::renew_list;
 use crate::words::{named, put_flip, put_row, size_inside};
+use amd_cells::sides::{Sides, put_last};
 use amd_cells::{Figure, Signed, Unsigned, Word, figure_at, put_figure, put_word};
 
 /// Renews the list of the class `i` in its place. Answers the number of its words, the number of rows that it reaches
@@ -96,8 +98,8 @@ fn retire<S: Signed>(
     gone
 }
 
-/// Renews the list, the bound and the bucket of a class of the front, or ends it if it keeps nothing but the new
-/// element. Answers the number of rows that go with the pivot.
+/// Renews the list, the bound and the key of a class of the front, or ends it if it keeps nothing but the new element.
+/// Answers the number of rows that go with the pivot.
 fn renew_or_retire<S: Signed, U: Unsigned>(
     iw: &mut [Word<S>],
     pe: &mut [Word<S>],
@@ -105,7 +107,7 @@ fn renew_or_retire<S: Signed, U: Unsigned>(
     nv: &mut [Word<S>],
     len: &mut [Figure<U>],
     degree: &mut [Figure<U>],
-    last: &mut [Figure<U>],
+    sides: &mut [Sides<U>],
     w: &[Figure<U>],
     i: usize,
     flag: usize,
@@ -113,7 +115,7 @@ fn renew_or_retire<S: Signed, U: Unsigned>(
 ) -> usize
     requires lengths { (length pe.old ≡ length w.now) × (length e_len.old ≡ length w.now) ×
         (length len.old ≡ length w.now) × (length nv.old ≡ length w.now) }
-    requires more_lengths { (length degree.old ≡ length w.now) × (length last.old ≡ length w.now) }
+    requires more_lengths { (length degree.old ≡ length w.now) × (length (lasts sides.old) ≡ length w.now) }
     requires short { length iw.old < 2 ^ 63 }
     requires narrow { (length iw.old ≤ S.MOST) × (length w.now ≤ U.MOST) }
     requires me { (me < length w.now) × (me + 2 ≤ S.MOST) }
@@ -122,24 +124,25 @@ fn renew_or_retire<S: Signed, U: Unsigned>(
     requires marked { in_front nv.old i ≡ true }
     requires met { AreMet flag w.now (elements_in iw.old pe.old e_len.old i) }
     ensures renews { RenewsOrEnds (length w.now) me (is_kept w.now) (is_outside nv.old) (λ e. num w.now e - flag) i
-        iw.old pe.old e_len.old nv.old len.old degree.old last.old iw.new pe.new e_len.new nv.new len.new degree.new
-        last.new result }
+        iw.old pe.old e_len.old nv.old len.old degree.old (lasts sides.old) iw.new pe.new e_len.new nv.new len.new
+        degree.new (lasts sides.new) result }
     ensures lengths { (length pe.new ≡ length pe.old) × (length e_len.new ≡ length e_len.old) ×
         (length nv.new ≡ length nv.old) × (length degree.new ≡ length degree.old) ×
-        (length last.new ≡ length last.old) }
+        (length (lasts sides.new) ≡ length (lasts sides.old)) }
+    ensures nexts { nexts sides.new ≡ nexts sides.old }
 {
     let (count, outside, hash) = renew_class(iw, e_len, len, pe, w, nv, i, flag, me);
     if count == 1 {
         return retire(pe, e_len, nv, i, me);
     }
     lower_bound(degree, i, outside);
-    put_figure(last, i, hash % w.len());
+    put_last(sides, i, hash % w.len());
     0
 }
 
 /// Renews the list of each class of the new element's list in its place, makes its bound no greater than the number of
-/// rows that it reaches outside the front, and leaves its bucket in `last`. A class that keeps nothing but the new
-/// element ends. Answers the number of rows of those that ended. All lists end before `free`.
+/// rows that it reaches outside the front, and leaves its key in `sides`, in place of the row before it. A class that
+/// keeps nothing but the new element ends. Answers the number of rows of those that ended. All lists end before `free`.
 pub fn renew_all<S: Signed, U: Unsigned>(
     iw: &mut [Word<S>],
     pe: &mut [Word<S>],
@@ -147,7 +150,7 @@ pub fn renew_all<S: Signed, U: Unsigned>(
     nv: &mut [Word<S>],
     len: &mut [Figure<U>],
     degree: &mut [Figure<U>],
-    last: &mut [Figure<U>],
+    sides: &mut [Sides<U>],
     w: &[Figure<U>],
     flag: usize,
     me: usize,
@@ -155,7 +158,7 @@ pub fn renew_all<S: Signed, U: Unsigned>(
 ) -> usize
     requires lengths { (length pe.old ≡ length w.now) × (length e_len.old ≡ length w.now) ×
         (length len.old ≡ length w.now) × (length nv.old ≡ length w.now) }
-    requires more_lengths { (length degree.old ≡ length w.now) × (length last.old ≡ length w.now) }
+    requires more_lengths { (length degree.old ≡ length w.now) × (length (lasts sides.old) ≡ length w.now) }
     requires short { length iw.old < 2 ^ 63 }
     requires narrow { (length iw.old ≤ S.MOST) × (length w.now ≤ U.MOST) }
     requires end { free ≤ length iw.old }
@@ -171,8 +174,9 @@ pub fn renew_all<S: Signed, U: Unsigned>(
         AreMet flag w.now (elements_in iw.old pe.old e_len.old i) }
     requires few { sum_by (size_of nv.old) (list_in iw.old pe.old len.old me) ≤ S.MOST }
     ensures renews { RenewsFront (length w.now) me (is_kept w.now) (is_outside nv.old) (λ e. num w.now e - flag)
-        (list_in iw.old pe.old len.old me) free iw.old pe.old e_len.old nv.old len.old degree.old last.old iw.new pe.new
-        e_len.new nv.new len.new degree.new last.new result }
+        (list_in iw.old pe.old len.old me) free iw.old pe.old e_len.old nv.old len.old degree.old (lasts sides.old)
+        iw.new pe.new e_len.new nv.new len.new degree.new (lasts sides.new) result }
+    ensures nexts { nexts sides.new ≡ nexts sides.old }
 {
     // There are rows, since `me` is one; said once here, it is not tested for each remainder by their number.
     if w.is_empty() {
@@ -183,7 +187,7 @@ pub fn renew_all<S: Signed, U: Unsigned>(
     let mut gone: usize = 0;
     for p in from..end {
         let i = named(iw, p);
-        gone += renew_or_retire(iw, pe, e_len, nv, len, degree, last, w, i, flag, me);
+        gone += renew_or_retire(iw, pe, e_len, nv, len, degree, sides, w, i, flag, me);
     }
     gone
 }

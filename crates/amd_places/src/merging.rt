@@ -5,6 +5,7 @@
 
 ghost use Rattle.std.specs.Prelude.{◌≡◌, ◌≢◌, ◌<◌, ◌≤◌, ◌+◌, ◌-◌, ◌^◌, ◌&&◌, ◌||◌, ◌==◌, not, cond, negsuc, nat_lt, ℕ};
 ghost use Rattle.std.specs.Prelude.{List, true, false, length, slice_set, ◌⊎◌};
+ghost use Rattle.amd_cells.specs.Sides.{nexts, lasts};
 ghost use Rattle.amd_model.specs.Quotient.{has, each};
 ghost use Rattle.amd_places.specs.Words.{num, word, place, is_place, flip_of, size_of, in_front, classes, rows, Names};
 ghost use Rattle.amd_views.specs.Rounds.{alike_in};
@@ -14,6 +15,7 @@ ghost use Rattle.amd_places.specs.Merging.{bucket, kept_of, near_of, words_of, I
 ghost use Rattle.amd_places.specs.Merging.{as_long, bucket_of, Settles, AreRenewed, IsReady};
 
 use crate::words::{named, put_flip};
+use amd_cells::sides::{Sides, last_at, next_at, put_next, row_count};
 use amd_cells::{Figure, Signed, Unsigned, Word, figure_at, put_figure, put_word, word_at};
 
 /// Marks the rows that `count` words name with the flag.
@@ -77,39 +79,37 @@ fn is_as_long<S: Signed, U: Unsigned>(
 }
 
 /// The bucket of a class of a front whose list has `count` words.
-pub fn bucket_at<U: Unsigned>(last: &[Figure<U>], i: usize, count: usize) -> usize
-    requires { i < length last.now }
-    ensures { result ≡ bucket_of count last.now i }
+pub fn bucket_at<U: Unsigned>(sides: &[Sides<U>], i: usize, count: usize) -> usize
+    requires { i < length (nexts sides.now) }
+    ensures { result ≡ bucket_of count (lasts sides.now) i }
 {
     let mask = if count < 256 { 1023 } else { usize::MAX };
-    figure_at(last, i) & mask
+    last_at(sides, i) & mask
 }
 
 /// Whether some class of a bucket has the key given and so many words and elements.
 fn any_as_long<S: Signed, U: Unsigned>(
     e_len: &[Word<S>],
     len: &[Figure<U>],
-    next: &[Figure<U>],
-    last: &[Figure<U>],
+    sides: &[Sides<U>],
     head: usize,
     key: usize,
     count: usize,
     few: usize,
 ) -> bool
-    requires lengths { (length e_len.now ≡ length next.now) × (length len.now ≡ length next.now) ×
-        (length last.now ≡ length next.now) }
-    requires chain { Chain (length next.now) next.now head (bucket next.now head) }
-    requires members { (j : ℕ) → has (bucket next.now head) j ≡ true → is_place (word e_len.now j) ≡ true }
-    ensures { result ≡ false → (j : ℕ) → has (bucket next.now head) j ≡ true →
-        (num last.now j == key && as_long e_len.now len.now count few j) ≡ false }
+    requires lengths { (length e_len.now ≡ length (nexts sides.now)) × (length len.now ≡ length (nexts sides.now)) }
+    requires chain { Chain (length (nexts sides.now)) (nexts sides.now) head (bucket (nexts sides.now) head) }
+    requires members { (j : ℕ) → has (bucket (nexts sides.now) head) j ≡ true → is_place (word e_len.now j) ≡ true }
+    ensures { result ≡ false → (j : ℕ) → has (bucket (nexts sides.now) head) j ≡ true →
+        (num (lasts sides.now) j == key && as_long e_len.now len.now count few j) ≡ false }
 {
-    let n = next.len();
+    let n = row_count(sides);
     let mut j = head;
     'members: while j < n {
-        if figure_at(last, j) == key && is_as_long(e_len, len, j, count, few) {
+        if last_at(sides, j) == key && is_as_long(e_len, len, j, count, few) {
             return true;
         }
-        j = figure_at(next, j);
+        j = next_at(sides, j);
     }
     false
 }
@@ -146,28 +146,28 @@ fn walk<S: Signed, U: Unsigned>(
     e_len: &[Word<S>],
     len: &[Figure<U>],
     w: &[Figure<U>],
-    next: &[Figure<U>],
+    sides: &[Sides<U>],
     head: usize,
     count: usize,
     few: usize,
     flag: usize,
 ) -> usize
     requires lengths { (length pe.now ≡ length w.now) × (length e_len.now ≡ length w.now) ×
-        (length len.now ≡ length w.now) × (length next.now ≡ length w.now) }
+        (length len.now ≡ length w.now) × (length (nexts sides.now) ≡ length w.now) }
     requires short { length iw.now < 2 ^ 63 }
-    requires chain { Chain (length next.now) next.now head (bucket next.now head) }
-    requires members { (j : ℕ) → has (bucket next.now head) j ≡ true →
+    requires chain { Chain (length (nexts sides.now)) (nexts sides.now) head (bucket (nexts sides.now) head) }
+    requires members { (j : ℕ) → has (bucket (nexts sides.now) head) j ≡ true →
         IsRenewed (length w.now) iw.now pe.now e_len.now len.now j }
-    ensures { Finds (length next.now) (looks iw.now pe.now e_len.now len.now w.now count few flag)
-        (bucket next.now head) result }
+    ensures { Finds (length (nexts sides.now)) (looks iw.now pe.now e_len.now len.now w.now count few flag)
+        (bucket (nexts sides.now) head) result }
 {
-    let n = next.len();
+    let n = row_count(sides);
     let mut j = head;
     'members: while j < n {
         if is_like(iw, pe, e_len, len, w, j, count, few, flag) {
             return j;
         }
-        j = figure_at(next, j);
+        j = next_at(sides, j);
     }
     n
 }
@@ -180,38 +180,39 @@ fn find<S: Signed, U: Unsigned>(
     e_len: &[Word<S>],
     len: &[Figure<U>],
     w: &mut [Figure<U>],
-    next: &[Figure<U>],
-    last: &[Figure<U>],
+    sides: &[Sides<U>],
     head: usize,
     i: usize,
     flag: usize,
 ) -> usize
     requires lengths { (length pe.now ≡ length w.old) × (length e_len.now ≡ length w.old) ×
-        (length len.now ≡ length w.old) × (length next.now ≡ length w.old) × (length last.now ≡ length w.old) }
+        (length len.now ≡ length w.old) × (length (nexts sides.now) ≡ length w.old) }
     requires short { length iw.now < 2 ^ 63 }
-    requires chain { Chain (length next.now) next.now head (bucket next.now head) }
+    requires chain { Chain (length (nexts sides.now)) (nexts sides.now) head (bucket (nexts sides.now) head) }
     requires here { IsRenewed (length w.old) iw.now pe.now e_len.now len.now i }
-    requires members { (j : ℕ) → has (bucket next.now head) j ≡ true →
+    requires members { (j : ℕ) → has (bucket (nexts sides.now) head) j ≡ true →
         IsRenewed (length w.old) iw.now pe.now e_len.now len.now j }
-    requires apart { (j : ℕ) → has (bucket next.now head) j ≡ true → AreApart iw.now pe.now e_len.now len.now i j }
-    requires keys { (j : ℕ) → has (bucket next.now head) j ≡ true → alike_in (kept_of iw.now pe.now e_len.now)
-        (near_of iw.now pe.now e_len.now len.now) i j ≡ true → num last.now j ≡ num last.now i }
+    requires apart { (j : ℕ) → has (bucket (nexts sides.now) head) j ≡ true →
+        AreApart iw.now pe.now e_len.now len.now i j }
+    requires keys { (j : ℕ) → has (bucket (nexts sides.now) head) j ≡ true →
+        alike_in (kept_of iw.now pe.now e_len.now) (near_of iw.now pe.now e_len.now len.now) i j ≡ true →
+        num (lasts sides.now) j ≡ num (lasts sides.now) i }
     requires under { (x : ℕ) → num w.old x < flag }
     requires fits { flag ≤ U.MOST }
-    ensures found { Finds (length next.now) (alike_in (kept_of iw.now pe.now e_len.now)
-        (near_of iw.now pe.now e_len.now len.now) i) (bucket next.now head) result }
+    ensures found { Finds (length (nexts sides.now)) (alike_in (kept_of iw.now pe.now e_len.now)
+        (near_of iw.now pe.now e_len.now len.now) i) (bucket (nexts sides.now) head) result }
     ensures long { length w.new ≡ length w.old }
     ensures marked { (w.new ≡ w.old) ⊎ ((x : ℕ) →
         num w.new x ≡ cond (has (words_of iw.now pe.now len.now i) x) flag (num w.old x)) }
 {
     let few = named(e_len, i);
     let count = figure_at(len, i);
-    if !any_as_long(e_len, len, next, last, head, figure_at(last, i), count, few) {
-        return next.len();
+    if !any_as_long(e_len, len, sides, head, last_at(sides, i), count, few) {
+        return row_count(sides);
     }
     let from = named(pe, i);
     spread(iw, w, from + 1, count - 1, flag);
-    walk(iw, pe, e_len, len, w, next, head, count, few, flag)
+    walk(iw, pe, e_len, len, w, sides, head, count, few, flag)
 }
 
 /// Adds the rows of a class of the front to those of another one, and leaves it none.
@@ -257,13 +258,14 @@ fn merge<S: Signed>(
 }
 
 /// Puts a class at the head of a bucket.
-fn push<U: Unsigned>(hash: &mut [Figure<U>], next: &mut [Figure<U>], i: usize, key: usize)
-    requires inside { (i < length next.old) × (key < length hash.old) }
-    requires short { length next.old ≤ U.MOST }
-    ensures links { next.new ≡ slice_set next.old i (num hash.old key) }
+fn push<U: Unsigned>(hash: &mut [Figure<U>], sides: &mut [Sides<U>], i: usize, key: usize)
+    requires inside { (i < length (nexts sides.old)) × (key < length hash.old) }
+    requires short { length (nexts sides.old) ≤ U.MOST }
+    ensures links { nexts sides.new ≡ slice_set (nexts sides.old) i (num hash.old key) }
+    ensures keys { lasts sides.new ≡ lasts sides.old }
     ensures heads { hash.new ≡ slice_set hash.old key i }
 {
-    put_figure(next, i, figure_at(hash, key));
+    put_next(sides, i, figure_at(hash, key));
     put_figure(hash, key, i);
 }
 
@@ -277,37 +279,41 @@ fn merge_one<S: Signed, U: Unsigned>(
     nv: &mut [Word<S>],
     w: &mut [Figure<U>],
     hash: &mut [Figure<U>],
-    next: &mut [Figure<U>],
-    last: &[Figure<U>],
+    sides: &mut [Sides<U>],
     count: usize,
     i: usize,
     flag: usize,
 ) -> usize
-    requires lengths { LongToMerge (length next.old) pe.old e_len.old nv.old len.now w.old hash.old next.old last.now }
-    requires short { (length iw.now < 2 ^ 63) × (length next.old + 2 ≤ S.MOST) × (length next.old ≤ U.MOST) }
-    requires ready { IsReady (length next.old) iw.now len.now last.now count i pe.old e_len.old nv.old w.old hash.old
-        next.old }
+    requires lengths { LongToMerge (length (nexts sides.old)) pe.old e_len.old nv.old len.now w.old hash.old
+        (nexts sides.old) (lasts sides.old) }
+    requires short { (length iw.now < 2 ^ 63) × (length (nexts sides.old) + 2 ≤ S.MOST) ×
+        (length (nexts sides.old) ≤ U.MOST) }
+    requires ready { IsReady (length (nexts sides.old)) iw.now len.now (lasts sides.old) count i pe.old e_len.old nv.old
+        w.old hash.old (nexts sides.old) }
     requires under { (x : ℕ) → num w.old x < flag }
     requires room { flag + 1 ≤ U.MOST }
     ensures settles { Settles (alike_in (kept_of iw.now pe.old e_len.old) (near_of iw.now pe.old e_len.old len.now))
-        (bucket next.old (num hash.old (bucket_of count last.now i))) i (bucket_of count last.now i) hash.old next.old
-        pe.old e_len.old nv.old hash.new next.new pe.new e_len.new nv.new }
-    ensures lengths { LongToMerge (length next.old) pe.new e_len.new nv.new len.now w.new hash.new next.new last.now }
+        (bucket (nexts sides.old) (num hash.old (bucket_of count (lasts sides.old) i))) i
+        (bucket_of count (lasts sides.old) i) hash.old (nexts sides.old) pe.old e_len.old nv.old hash.new
+        (nexts sides.new) pe.new e_len.new nv.new }
+    ensures lengths { LongToMerge (length (nexts sides.old)) pe.new e_len.new nv.new len.now w.new hash.new
+        (nexts sides.new) (lasts sides.new) }
+    ensures keys { lasts sides.new ≡ lasts sides.old }
     ensures flag { (flag ≤ result) × (result ≤ flag + 1) }
     ensures under { (x : ℕ) → num w.new x < result }
     ensures zeros { (x : ℕ) → (num w.new x == 0) ≡ (num w.old x == 0) }
 {
-    let key = bucket_at(last, i, count);
+    let key = bucket_at(sides, i, count);
     let head = figure_at(hash, key);
-    if head >= next.len() {
-        push(hash, next, i, key);
+    if head >= row_count(sides) {
+        push(hash, sides, i, key);
         return flag;
     }
-    let found = find(iw, pe, e_len, len, w, next, last, head, i, flag);
-    if found < next.len() {
+    let found = find(iw, pe, e_len, len, w, sides, head, i, flag);
+    if found < row_count(sides) {
         merge(pe, e_len, nv, i, found);
     } else {
-        push(hash, next, i, key);
+        push(hash, sides, i, key);
     }
     flag + 1
 }
@@ -322,7 +328,7 @@ fn is_class<S: Signed>(nv: &[Word<S>], i: usize) -> bool
 
 /// Merges the classes of a new element that keep the same elements and variables, from the last one of its list to the
 /// first: the last one represents the others, and the classes that are left are its representatives. The buckets are
-/// empty before; after it the head of each one that is not is a class that is left, with the key of the bucket. Where
+/// empty before; after it the head of each one that is not is a class that is left, which belongs into it. Where
 /// the list names one row at most, all stays as it is. Answers the next flag.
 pub fn merge_front<S: Signed, U: Unsigned>(
     iw: &[Word<S>],
@@ -332,24 +338,27 @@ pub fn merge_front<S: Signed, U: Unsigned>(
     nv: &mut [Word<S>],
     w: &mut [Figure<U>],
     hash: &mut [Figure<U>],
-    next: &mut [Figure<U>],
-    last: &[Figure<U>],
+    sides: &mut [Sides<U>],
     from: usize,
     count: usize,
     flag: usize,
 ) -> usize
-    requires lengths { LongToMerge (length next.old) pe.old e_len.old nv.old len.now w.old hash.old next.old last.now }
-    requires short { (length iw.now < 2 ^ 63) × (length next.old + 2 ≤ S.MOST) × (length next.old ≤ U.MOST) }
-    requires front { IsList (length next.old) iw.now from count }
-    requires few { count ≤ length next.old }
-    requires classes { AreRenewed (length next.old) iw.now pe.old e_len.old len.now nv.old w.old last.now
-        (classes nv.old (rows iw.now from count)) }
+    requires lengths { LongToMerge (length (nexts sides.old)) pe.old e_len.old nv.old len.now w.old hash.old
+        (nexts sides.old) (lasts sides.old) }
+    requires short { (length iw.now < 2 ^ 63) × (length (nexts sides.old) + 2 ≤ S.MOST) ×
+        (length (nexts sides.old) ≤ U.MOST) }
+    requires front { IsList (length (nexts sides.old)) iw.now from count }
+    requires few { count ≤ length (nexts sides.old) }
+    requires classes { AreRenewed (length (nexts sides.old)) iw.now pe.old e_len.old len.now nv.old w.old
+        (lasts sides.old) (classes nv.old (rows iw.now from count)) }
     requires under { (x : ℕ) → num w.old x < flag }
     requires room { flag + count ≤ U.MOST }
-    requires empty { (b : ℕ) → b < length next.old → length next.old ≤ num hash.old b }
-    ensures merges { MergesList (length next.old) iw.now from count len.now last.now pe.old e_len.old nv.old next.old
-        pe.new e_len.new nv.new hash.new next.new }
-    ensures lengths { LongToMerge (length next.old) pe.new e_len.new nv.new len.now w.new hash.new next.new last.now }
+    requires empty { (b : ℕ) → b < length (nexts sides.old) → length (nexts sides.old) ≤ num hash.old b }
+    ensures merges { MergesList (length (nexts sides.old)) iw.now from count len.now (lasts sides.old) pe.old e_len.old
+        nv.old (nexts sides.old) pe.new e_len.new nv.new hash.new (nexts sides.new) }
+    ensures lengths { LongToMerge (length (nexts sides.old)) pe.new e_len.new nv.new len.now w.new hash.new
+        (nexts sides.new) (lasts sides.new) }
+    ensures keys { lasts sides.new ≡ lasts sides.old }
     ensures flag { (flag ≤ result) × (result ≤ flag + count) }
     ensures under { (x : ℕ) → num w.new x < result }
     ensures zeros { (x : ℕ) → (num w.new x == 0) ≡ (num w.old x == 0) }
@@ -363,7 +372,7 @@ pub fn merge_front<S: Signed, U: Unsigned>(
         left -= 1;
         let i = named(iw, from + left);
         if is_class(nv, i) {
-            now = merge_one(iw, pe, e_len, len, nv, w, hash, next, last, count, i, now);
+            now = merge_one(iw, pe, e_len, len, nv, w, hash, sides, count, i, now);
         }
     }
     now

@@ -4,6 +4,7 @@
 
 ghost use Rattle.std.specs.Prelude.{◌≡◌, ◌<◌, ◌≤◌, ◌+◌, ◌-◌, ◌^◌, ◌==◌, ◌&&◌, ◌∷◌, not, min, cond, ℕ, List, true};
 ghost use Rattle.std.specs.Prelude.{false, length, nat_lt, slice_set};
+ghost use Rattle.amd_cells.specs.Sides.{nexts, lasts};
 ghost use Rattle.amd_model.specs.Quotient.{has};
 ghost use Rattle.amd_places.specs.Words.{num, size_of, in_front, rows};
 ghost use Rattle.amd_places.specs.Chains.{DegreeLists};
@@ -15,6 +16,7 @@ ghost use Rattle.amd_places.specs.Restoring.{marked_in, bound_in, IsPlaceable, R
 use crate::chains::put_head;
 use crate::merging::bucket_at;
 use crate::words::{is_marked, leave, named};
+use amd_cells::sides::Sides;
 use amd_cells::{Figure, Signed, Unsigned, Word, copy_word, figure_at, put_figure};
 
 /// The bound of a class of `size` rows, from the number of rows that it reaches outside the front, the rows of the
@@ -29,14 +31,14 @@ fn new_bound(reach: usize, size: usize, border: usize, left: usize) -> usize
 
 /// Empties the bucket of a class of a front whose list has `count` words. Where there is one at most, no bucket is
 /// used.
-fn empty_bucket<U: Unsigned>(hash: &mut [Figure<U>], last: &[Figure<U>], i: usize, count: usize)
-    requires class { (i < length last.now) × (num last.now i < length hash.old) }
+fn empty_bucket<U: Unsigned>(hash: &mut [Figure<U>], sides: &[Sides<U>], i: usize, count: usize)
+    requires class { (i < length (nexts sides.now)) × (num (lasts sides.now) i < length hash.old) }
     requires short { length hash.old ≤ U.MOST }
-    ensures { hash.new ≡ cond (nat_lt 1 count) (slice_set hash.old (bucket_of count last.now i) (length hash.old))
-        hash.old }
+    ensures { hash.new ≡ cond (nat_lt 1 count) (slice_set hash.old (bucket_of count (lasts sides.now) i)
+        (length hash.old)) hash.old }
 {
     if count > 1 {
-        put_figure(hash, bucket_at(last, i, count), hash.len());
+        put_figure(hash, bucket_at(sides, i, count), hash.len());
     }
 }
 
@@ -46,41 +48,40 @@ fn place_class<S: Signed, U: Unsigned>(
     nv: &mut [Word<S>],
     degree: &mut [Figure<U>],
     head: &mut [Figure<U>],
-    next: &mut [Figure<U>],
-    last: &mut [Figure<U>],
+    sides: &mut [Sides<U>],
     hash: &mut [Figure<U>],
     i: usize,
     border: usize,
     left: usize,
     count: usize,
 ) -> usize
-    requires lengths { (length nv.old ≡ length next.old) × (length degree.old ≡ length next.old) ×
-        (length head.old ≡ length next.old) × (length last.old ≡ length next.old) ×
-        (length hash.old ≡ length next.old) }
-    requires short { (length next.old + 2 ≤ S.MOST) × (length next.old ≤ U.MOST) }
-    requires row { i < length next.old }
+    requires lengths { (length nv.old ≡ length (nexts sides.old)) × (length degree.old ≡ length (nexts sides.old)) ×
+        (length head.old ≡ length (nexts sides.old)) × (length hash.old ≡ length (nexts sides.old)) }
+    requires short { (length (nexts sides.old) + 2 ≤ S.MOST) × (length (nexts sides.old) ≤ U.MOST) }
+    requires row { i < length (nexts sides.old) }
     requires marked { in_front nv.old i ≡ true }
-    requires class { IsPlaceable (length next.old) border nv.old degree.old last.old i }
-    requires order { (border ≤ left) × (left ≤ length next.old) }
-    ensures lengths { (length nv.new ≡ length next.old) × (length degree.new ≡ length next.old) ×
-        (length head.new ≡ length next.old) × (length next.new ≡ length next.old) ×
-        (length last.new ≡ length next.old) × (length hash.new ≡ length next.old) }
+    requires class { IsPlaceable (length (nexts sides.old)) border nv.old degree.old (lasts sides.old) i }
+    requires order { (border ≤ left) × (left ≤ length (nexts sides.old)) }
+    ensures lengths { (length nv.new ≡ length (nexts sides.old)) × (length degree.new ≡ length (nexts sides.old)) ×
+        (length head.new ≡ length (nexts sides.old)) × (length (nexts sides.new) ≡ length (nexts sides.old)) ×
+        (length (lasts sides.new) ≡ length (nexts sides.old)) × (length hash.new ≡ length (nexts sides.old)) }
     ensures sizes { (j : ℕ) → size_of nv.new j ≡ size_of nv.old j }
     ensures marks { (j : ℕ) → in_front nv.new j ≡ (in_front nv.old j && not (i == j)) }
     ensures bound { result ≡ bound_in border left nv.old degree.old i }
     ensures degrees { degree.new ≡ slice_set degree.old i result }
-    ensures emptied { hash.new ≡ cond (nat_lt 1 count)
-        (slice_set hash.old (bucket_of count last.old i) (length next.old)) hash.old }
-    ensures lasts { (x : ℕ) → (x ≡ i → ⊥) → (x ≡ num head.old result → ⊥) → num last.new x ≡ num last.old x }
-    ensures linked { (lists : ℕ → List ℕ) → ((b : ℕ) → b < length next.old → has (lists b) i ≡ false) →
-        DegreeLists (length next.old) head.old next.old last.old degree.old lists →
-        DegreeLists (length next.old) head.new next.new last.new degree.new
+    ensures emptied { hash.new ≡ cond (nat_lt 1 count) (slice_set hash.old (bucket_of count (lasts sides.old) i)
+        (length (nexts sides.old))) hash.old }
+    ensures lasts { (x : ℕ) → (x ≡ i → ⊥) → (x ≡ num head.old result → ⊥) → num (lasts sides.new) x ≡
+        num (lasts sides.old) x }
+    ensures linked { (lists : ℕ → List ℕ) → ((b : ℕ) → b < length (nexts sides.old) → has (lists b) i ≡ false) →
+        DegreeLists (length (nexts sides.old)) head.old (nexts sides.old) (lasts sides.old) degree.old lists →
+        DegreeLists (length (nexts sides.old)) head.new (nexts sides.new) (lasts sides.new) degree.new
         (λ b. cond (b == result) (i ∷ lists b) (lists b)) }
 {
     let size = leave(nv, i);
-    empty_bucket(hash, last, i, count);
+    empty_bucket(hash, sides, i, count);
     let bound = new_bound(figure_at(degree, i), size, border, left);
-    put_head(head, next, last, degree, i, bound);
+    put_head(head, sides, degree, i, bound);
     bound
 }
 
@@ -93,8 +94,7 @@ pub fn restore<S: Signed, U: Unsigned>(
     nv: &mut [Word<S>],
     degree: &mut [Figure<U>],
     head: &mut [Figure<U>],
-    next: &mut [Figure<U>],
-    last: &mut [Figure<U>],
+    sides: &mut [Sides<U>],
     hash: &mut [Figure<U>],
     from: usize,
     count: usize,
@@ -102,26 +102,33 @@ pub fn restore<S: Signed, U: Unsigned>(
     left: usize,
     least: usize,
 ) -> (usize, usize)
-    requires lengths { LongToPlace (length next.old) nv.old degree.old head.old next.old last.old hash.old }
-    requires short { (length iw.old < 2 ^ 63) × (length next.old + 2 ≤ S.MOST) × (length next.old ≤ U.MOST) }
-    requires front { IsList (length next.old) iw.old from count }
-    requires classes { CanPlace (length next.old) border nv.old degree.old last.old (rows iw.old from count) }
-    requires order { (border ≤ left) × (left ≤ length next.old) }
-    requires heads { AreHeads (length next.old) count (marked_in nv.old (rows iw.old from count)) hash.old last.old }
-    requires linked { HasLists (length next.old) (rows iw.old from count) head.old next.old last.old degree.old }
-    ensures filters { Filters (length next.old) (in_front nv.old) (λ j. 0) 0 iw.old from count from iw.new result.0 0 }
+    requires lengths { LongToPlace (length (nexts sides.old)) nv.old degree.old head.old (nexts sides.old)
+        (lasts sides.old) hash.old }
+    requires short { (length iw.old < 2 ^ 63) × (length (nexts sides.old) + 2 ≤ S.MOST) ×
+        (length (nexts sides.old) ≤ U.MOST) }
+    requires front { IsList (length (nexts sides.old)) iw.old from count }
+    requires classes { CanPlace (length (nexts sides.old)) border nv.old degree.old (lasts sides.old)
+        (rows iw.old from count) }
+    requires order { (border ≤ left) × (left ≤ length (nexts sides.old)) }
+    requires heads { AreHeads (length (nexts sides.old)) count (marked_in nv.old (rows iw.old from count)) hash.old
+        (lasts sides.old) }
+    requires linked { HasLists (length (nexts sides.old)) (rows iw.old from count) head.old (nexts sides.old)
+        (lasts sides.old) degree.old }
+    ensures filters { Filters (length (nexts sides.old)) (in_front nv.old) (λ j. 0) 0 iw.old from count from iw.new
+        result.0 0 }
     ensures placed { Restores (rows iw.old from count) border left least nv.old degree.old nv.new degree.new result.1 }
-    ensures empty { (b : ℕ) → b < length next.old → length next.old ≤ num hash.new b }
-    ensures linked { PutsAll (length next.old) border left (rows iw.old from count) nv.old head.old next.old last.old
-        degree.old head.new next.new last.new degree.new }
-    ensures lengths { LongToPlace (length next.old) nv.new degree.new head.new next.new last.new hash.new }
+    ensures empty { (b : ℕ) → b < length (nexts sides.old) → length (nexts sides.old) ≤ num hash.new b }
+    ensures linked { PutsAll (length (nexts sides.old)) border left (rows iw.old from count) nv.old head.old
+        (nexts sides.old) (lasts sides.old) degree.old head.new (nexts sides.new) (lasts sides.new) degree.new }
+    ensures lengths { LongToPlace (length (nexts sides.old)) nv.new degree.new head.new (nexts sides.new)
+        (lasts sides.new) hash.new }
 {
     let mut end = from;
     let mut low = least;
     for p in from..from + count {
         let i = named(iw, p);
         if is_marked(nv, i) {
-            let bound = place_class(nv, degree, head, next, last, hash, i, border, left, count);
+            let bound = place_class(nv, degree, head, sides, hash, i, border, left, count);
             low = low.min(bound);
             copy_word(iw, p, end);
             end += 1;

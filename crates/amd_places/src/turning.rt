@@ -3,6 +3,7 @@
 // 1996. Called by: a round.
 
 ghost use Rattle.std.specs.Prelude.{◌≡◌, ◌<◌, ◌≤◌, ◌+◌, ◌-◌, ◌^◌, ℕ, length, sum_by};
+ghost use Rattle.amd_cells.specs.Sides.{nexts, lasts};
 ghost use Rattle.amd_places.specs.Words.{num, size_of};
 ghost use Rattle.amd_places.specs.Layout.{list_in, Layout};
 ghost use Rattle.amd_places.specs.Turning.{TurnsFront};
@@ -13,10 +14,11 @@ ghost use Rattle.amd_places.specs.TurningLists.{IsFrontList, AreTurning};
 use crate::counts::count_outside;
 use crate::fronts::renew_all;
 use crate::words::named;
+use amd_cells::sides::Sides;
 use amd_cells::{Figure, Signed, Unsigned, Word, figure_at};
 
 /// Takes the classes of the front of the new element `me` out of the lists by bound, counts the rows of other elements
-/// outside the front, and renews the lists, bounds and buckets of the classes. With `aggressive` the elements without
+/// outside the front, and renews the lists, bounds and keys of the classes. With `aggressive` the elements without
 /// rows outside end, and a class that keeps nothing but the new element always ends. Answers the number of rows of the
 /// classes that ended. All lists end before `free`.
 pub fn turn<S: Signed, U: Unsigned>(
@@ -28,15 +30,14 @@ pub fn turn<S: Signed, U: Unsigned>(
     degree: &mut [Figure<U>],
     w: &mut [Figure<U>],
     head: &mut [Figure<U>],
-    next: &mut [Figure<U>],
-    last: &mut [Figure<U>],
+    sides: &mut [Sides<U>],
     me: usize,
     free: usize,
     flag: usize,
     aggressive: bool,
 ) -> usize
     requires lengths { HasBounds (length w.old) pe.old e_len.old nv.old degree.old × (length len.old ≡ length w.old) }
-    requires more_lengths { HasLinks (length w.old) head.old next.old last.old }
+    requires more_lengths { HasLinks (length w.old) head.old (nexts sides.old) (lasts sides.old) }
     requires narrow { (length iw.old < 2 ^ 63) × (length iw.old ≤ S.MOST) × (length w.old ≤ U.MOST) }
     requires end { free ≤ length iw.old }
     requires laid { Layout (length w.old) iw.old pe.old e_len.old len.old free }
@@ -48,18 +49,18 @@ pub fn turn<S: Signed, U: Unsigned>(
     requires fits { (e : ℕ) → e < length w.old → num degree.old e + flag ≤ U.MOST }
     requires part { IsPart iw.old pe.old e_len.old nv.old degree.old w.old (list_in iw.old pe.old len.old me) }
     ensures turns { TurnsFront aggressive (length w.old) me flag (list_in iw.old pe.old len.old me) free iw.old pe.old
-        e_len.old nv.old len.old degree.old w.old iw.new pe.new e_len.new nv.new len.new degree.new w.new last.new
-        result }
-    ensures linked { LeavesLists (length w.old) (list_in iw.old pe.old len.old me) head.old next.old last.old degree.old
-        head.new next.new last.new degree.new }
+        e_len.old nv.old len.old degree.old w.old iw.new pe.new e_len.new nv.new len.new degree.new w.new
+        (lasts sides.new) result }
+    ensures linked { LeavesLists (length w.old) (list_in iw.old pe.old len.old me) head.old (nexts sides.old)
+        (lasts sides.old) degree.old head.new (nexts sides.new) (lasts sides.new) degree.new }
     ensures lengths { (length w.new ≡ length w.old) × (length head.new ≡ length head.old) ×
-        (length next.new ≡ length next.old) }
-    ensures more_lengths { (length pe.new ≡ length w.old) × (length last.new ≡ length w.old) }
+        (length (nexts sides.new) ≡ length (nexts sides.old)) }
+    ensures more_lengths { (length pe.new ≡ length w.old) × (length (lasts sides.new) ≡ length w.old) }
 {
     let from = named(pe, me);
     let count = figure_at(len, me);
     count_outside(
-        iw, pe, e_len, nv, degree, w, head, next, last, from, count, flag, me, aggressive,
+        iw, pe, e_len, nv, degree, w, head, sides, from, count, flag, me, aggressive,
     );
-    renew_all(iw, pe, e_len, nv, len, degree, last, w, flag, me, free)
+    renew_all(iw, pe, e_len, nv, len, degree, sides, w, flag, me, free)
 }

@@ -2,6 +2,7 @@
 
 ghost use Rattle.std.specs.Prelude.{◌≡◌, ◌≤◌, ℕ, replicate, unsigned_abs, IfOk};
 
+use amd_cells::sides::{Sides, sides_of};
 use amd_cells::{Figure, Signed, Unsigned, Word, figure_of, word_of};
 use std::alloc::{AllocError, Allocator};
 
@@ -41,6 +42,26 @@ pub fn figures<U: Unsigned, A: Allocator>(
     let mut list = Vec::with_capacity(alloc, count)?;
     'figures: for _ in 0..count {
         list.push_reserved(figure_of(number));
+    }
+    Ok(list)
+}
+
+/// The sides of `count` rows, with `number` on each side.
+///
+/// # Errors
+///
+/// A refused request for memory.
+pub fn sides<U: Unsigned, A: Allocator>(
+    alloc: A,
+    count: usize,
+    number: usize,
+) -> Result<Vec<Sides<U>, A>, AllocError>
+    requires fits { number ≤ U.MOST }
+    ensures { IfOk result (λ v. v.items ≡ replicate count (number, number)) }
+{
+    let mut list = Vec::with_capacity(alloc, count)?;
+    'sides: for _ in 0..count {
+        list.push_reserved(sides_of(number, number));
     }
     Ok(list)
 }

@@ -5,6 +5,7 @@
 ghost use Rattle.std.specs.Prelude.{◌≡◌, ◌<◌, ◌≤◌, ◌+◌, ◌==◌, ◌||◌, ℕ, ℤ, pos, negsuc, true, false, List, ◌∷◌, cond};
 ghost use Rattle.std.specs.Prelude.{nat_lt, length, slice_set};
 ghost use Rattle.std.specs.Option.{option_copied};
+ghost use Rattle.amd_cells.specs.Sides.{nexts, lasts};
 ghost use Rattle.amd_model.specs.Below.{count_below};
 ghost use Rattle.amd_model.specs.Input.Held.{HasMarks, is_marked};
 ghost use Rattle.amd_model.specs.Quotient.{has};
@@ -14,6 +15,7 @@ ghost use Rattle.amd_places.specs.Lengths.{HasWords, HasLinks};
 ghost use Rattle.amd_workspace.specs.Starting.{BeginsRows, held_in};
 ghost use Rattle.amd_workspace.specs.Classes.{class_in, HasClasses};
 
+use amd_cells::sides::Sides;
 use amd_cells::{Figure, Signed, Unsigned, Word, figure_at, put_figure, put_word};
 use amd_numbers::held::is_held;
 use amd_places::chains::put_head;
@@ -59,30 +61,28 @@ fn place_row<S: Signed, U: Unsigned>(
     degree: &mut [Figure<U>],
     w: &mut [Figure<U>],
     head: &mut [Figure<U>],
-    next: &mut [Figure<U>],
-    last: &mut [Figure<U>],
+    sides: &mut [Sides<U>],
     i: usize,
     count: usize,
 )
     requires words { (i < length e_len.old) × (i < length nv.old) × (i < length w.old) }
-    requires lengths { (length head.old ≡ length next.old) × (length last.old ≡ length next.old) ×
-        (length degree.old ≡ length next.old) }
-    requires narrow { (1 ≤ S.MOST) × (length next.old ≤ U.MOST) }
-    requires row { (i < length next.old) × (count < length next.old) }
+    requires lengths { (length head.old ≡ length (nexts sides.old)) × (length degree.old ≡ length (nexts sides.old)) }
+    requires narrow { (1 ≤ S.MOST) × (length (nexts sides.old) ≤ U.MOST) }
+    requires row { (i < length (nexts sides.old)) × (count < length (nexts sides.old)) }
     ensures counts { e_len.new ≡ slice_set e_len.old i (pos 0) }
     ensures sizes { nv.new ≡ slice_set nv.old i (pos 1) }
     ensures bounds { degree.new ≡ slice_set degree.old i count }
     ensures counters { w.new ≡ slice_set w.old i 1 }
-    ensures lengths { HasLinks (length next.old) head.new next.new last.new }
-    ensures linked { (lists : ℕ → List ℕ) → ((b : ℕ) → b < length next.old → has (lists b) i ≡ false) →
-        DegreeLists (length next.old) head.old next.old last.old degree.old lists →
-        DegreeLists (length next.old) head.new next.new last.new degree.new
+    ensures lengths { HasLinks (length (nexts sides.old)) head.new (nexts sides.new) (lasts sides.new) }
+    ensures linked { (lists : ℕ → List ℕ) → ((b : ℕ) → b < length (nexts sides.old) → has (lists b) i ≡ false) →
+        DegreeLists (length (nexts sides.old)) head.old (nexts sides.old) (lasts sides.old) degree.old lists →
+        DegreeLists (length (nexts sides.old)) head.new (nexts sides.new) (lasts sides.new) degree.new
         (λ b. cond (b == count) (i ∷ lists b) (lists b)) }
 {
     put_word(e_len, i, 0);
     put_word(nv, i, 1);
     put_figure(w, i, 1);
-    put_head(head, next, last, degree, i, count);
+    put_head(head, sides, degree, i, count);
 }
 
 /// Whether a row of `count` neighbours is held last.
@@ -110,14 +110,13 @@ pub fn begin<S: Signed, U: Unsigned>(
     degree: &mut [Figure<U>],
     w: &mut [Figure<U>],
     head: &mut [Figure<U>],
-    next: &mut [Figure<U>],
-    last: &mut [Figure<U>],
+    sides: &mut [Sides<U>],
     hold: Option<&[bool]>,
     threshold: usize,
 ) -> (usize, usize)
     requires words { HasWords (length len.old) pe.old e_len.old nv.old }
     requires figures { (length degree.old ≡ length len.old) × (length w.old ≡ length len.old) }
-    requires links { HasLinks (length len.old) head.old next.old last.old }
+    requires links { HasLinks (length len.old) head.old (nexts sides.old) (lasts sides.old) }
     requires narrow { (length len.old + 2 ≤ S.MOST) × (length len.old ≤ U.MOST) }
     requires degrees { (i : ℕ) → i < length len.old → num len.old i < length len.old }
     requires heads { (b : ℕ) → b < length len.old → length len.old ≤ num head.old b }
@@ -125,8 +124,9 @@ pub fn begin<S: Signed, U: Unsigned>(
     ensures begins { BeginsRows (length len.old) (length len.old) (held_in (option_copied hold.entry) threshold len.old)
         (record { pe = pe.old; e_len = e_len.old; nv = nv.old; len = len.old; degree = degree.old; w = w.old })
         (record { pe = pe.new; e_len = e_len.new; nv = nv.new; len = len.new; degree = degree.new; w = w.new }) }
-    ensures lengths { HasLinks (length len.old) head.new next.new last.new }
-    ensures linked { HasClasses (option_copied hold.entry) threshold len.old head.new next.new last.new degree.new }
+    ensures lengths { HasLinks (length len.old) head.new (nexts sides.new) (lasts sides.new) }
+    ensures linked { HasClasses (option_copied hold.entry) threshold len.old head.new (nexts sides.new)
+        (lasts sides.new) degree.new }
     ensures live { result.0 ≡ count_below (length len.old) (class_in (option_copied hold.entry) threshold len.old) }
     ensures dense { result.1 ≡ count_below (length len.old) (held_in (option_copied hold.entry) threshold len.old) }
 {
@@ -140,7 +140,7 @@ pub fn begin<S: Signed, U: Unsigned>(
             put_aside(pe, e_len, nv, len, degree, w, i, held);
             n_dense += number_of(held);
         } else {
-            place_row(e_len, nv, degree, w, head, next, last, i, count);
+            place_row(e_len, nv, degree, w, head, sides, i, count);
             live += 1;
         }
     }

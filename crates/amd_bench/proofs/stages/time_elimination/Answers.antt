@@ -1,6 +1,7 @@
 use Rattle.std.proofs.Common.{arith, ℕ, ℤ, List, map, pos, length, ap, sym, subst, refl, ◌≡◌, ◌∙◌, ◌<◌}
 use Rattle.std.specs.Prelude.{◌≤ℤ◌}
 use Rattle.std.proofs.lemmas.Int.{ints}
+use Rattle.amd_cells.specs.Sides.{nexts, lasts}
 use Rattle.amd_model.specs.Quotient.{starting_list}
 use Rattle.amd_model.specs.Input.Pattern.{graph_of, is_pair}
 use Rattle.amd_engine.specs.InPlace.{AreFresh, AreOver}
@@ -47,7 +48,8 @@ run_fresh-requires-clause-fresh g c =
     let counts = c.in_ok-lists.lists.counts in
     let links = c.in_ok-lists.lists.links in
     fresh_same (length c.args.degrees.now) (length c.deref_mut-3.result.now) counts.e_len.items counts.nv.items counts.degree.items
-    counts.w.items links.head.items links.next.items links.last.items links.hash.items c.in_ok-lists.ensures.fresh (sym size)
+    counts.w.items links.head.items (nexts links.sides.items) (lasts links.sides.items) links.hash.items c.in_ok-lists.ensures.fresh
+    (sym size)
 
 pub run_fresh-requires-clause-narrow : goal.run_fresh-requires-clause-narrow
 run_fresh-requires-clause-narrow g c =

@@ -1,5 +1,6 @@
 use Rattle.std.proofs.Common.{arith, length, refl, ◌∙◌}
 use Rattle.std.specs.Option.{option_copied}
+use Rattle.amd_cells.specs.Sides.{nexts, lasts}
 use Rattle.amd_model.specs.Input.Held.{is_held_last}
 use Rattle.amd_model.specs.Quotient.{start_quotient}
 use Rattle.amd_model.proofs.States.RunsExist.{first_state}
@@ -49,8 +50,8 @@ run_rounds-requires-clause-stands g c =
       degree = a.degree.now;
       w = a.w.now;
     } in
-    let v : Workspace = at_start a.iw.now b.new.pe b.new.e_len b.new.nv b.new.len b.new.degree b.new.w b.new.head b.new.next b.new.last
-    a.hash.now a.free b.result.0 a.flag b.result.1 in
+    let v : Workspace = at_start a.iw.now b.new.pe b.new.e_len b.new.nv b.new.len b.new.degree b.new.w b.new.head
+    (nexts b.new.sides) (lasts b.new.sides) a.hash.now a.free b.result.0 a.flag b.result.1 in
     let fresh : IsFresh (length a.len.now) (held_in (option_copied a.hold) a.threshold a.len.now) a.len.now v = record {
       sized = (e.lengths.0, e.lengths.1, e.lengths.2, r.empty.links.3);
       linked = e.linked;
@@ -83,8 +84,8 @@ returns-clause-runs g c = λ gr lists lays.
       degree = a.degree.now;
       w = a.w.now;
     } in
-    let v : Workspace = at_start a.iw.now b.new.pe b.new.e_len b.new.nv b.new.len b.new.degree b.new.w b.new.head b.new.next b.new.last
-    a.hash.now a.free b.result.0 a.flag b.result.1 in
+    let v : Workspace = at_start a.iw.now b.new.pe b.new.e_len b.new.nv b.new.len b.new.degree b.new.w b.new.head
+    (nexts b.new.sides) (lasts b.new.sides) a.hash.now a.free b.result.0 a.flag b.result.1 in
     let fresh : IsFresh (length a.len.now) (held_in (option_copied a.hold) a.threshold a.len.now) a.len.now v = record {
       sized = (e.lengths.0, e.lengths.1, e.lengths.2, r.empty.links.3);
       linked = e.linked;

@@ -2,6 +2,7 @@ use Rattle.std.proofs.Common.{ℕ, length, ap, sym, drop, ◌≡◌, ◌∙◌}
 use Rattle.std.specs.Option.{option_copied}
 use Rattle.std.specs.Prelude.{replicate}
 use Rattle.std.proofs.lemmas.List.{length-replicate, take_at}
+use Rattle.amd_cells.specs.Sides.{nexts, lasts}
 use Rattle.amd_engine.proofs.EndingLaw.{is_over, no_heads}
 use Rattle.amd_engine.proofs.running.run_fresh.Goals as goal
 
@@ -14,12 +15,12 @@ run-requires-clause-empty g c =
       figures = (ap length c.deref_mut-3.ensures.value ∙ fresh.figures.0, ap length c.deref_mut-4.ensures.value ∙ fresh.figures.1);
       links = (
         ap length c.deref_mut-5.ensures.value ∙ ap length fresh.heads.0 ∙ none,
-        ap length c.deref_mut-6.ensures.value ∙ fresh.links.0,
-        ap length c.deref_mut-7.ensures.value ∙ fresh.links.1,
-        ap length c.deref_mut-8.ensures.value ∙ ap length fresh.heads.1 ∙ none,
+        ap (λ s. length (nexts s)) c.deref_mut-6.ensures.value ∙ fresh.links.0,
+        ap (λ s. length (lasts s)) c.deref_mut-6.ensures.value ∙ fresh.links.1,
+        ap length c.deref_mut-7.ensures.value ∙ ap length fresh.heads.1 ∙ none,
       );
-      heads = no_heads n c.deref_mut-5.result.now c.deref_mut-8.result.now (c.deref_mut-5.ensures.value ∙ fresh.heads.0)
-          (c.deref_mut-8.ensures.value ∙ fresh.heads.1);
+      heads = no_heads n c.deref_mut-5.result.now c.deref_mut-7.result.now (c.deref_mut-5.ensures.value ∙ fresh.heads.0)
+          (c.deref_mut-7.ensures.value ∙ fresh.heads.1);
     }
 
 pub run-requires-clause-narrow : goal.run-requires-clause-narrow

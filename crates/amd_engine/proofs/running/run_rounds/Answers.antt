@@ -1,4 +1,6 @@
 use Rattle.std.proofs.Common.{sym, subst, refl, arith}
+use Rattle.amd_cells.specs.Sides.{nexts, lasts}
+use Rattle.amd_cells.proofs.SideLists.{nexts_same, lasts_same}
 use Rattle.amd_numbers.specs.declared.figures.Figures.{Figures}
 use Rattle.amd_inplace.specs.Workspaces.{Workspace, workspace_of}
 use Rattle.amd_inplace.specs.Keeps.{AreRounds}
@@ -15,7 +17,7 @@ pub returns-clause-ends : goal.returns-clause-ends
 returns-clause-ends g c =
     let a = c.args in let e = c.eliminate.ensures in
     let before : Figures → Workspace = λ f. record (at_start a.iw.now a.pe.now a.e_len.now a.nv.now a.len.now a.degree.now a.w.now
-    a.head.now a.next.now a.last.now a.hash.now a.free a.live a.flag a.n_dense) { figures = f } in
+    a.head.now (nexts a.sides.now) (lasts a.sides.now) a.hash.now a.free a.live a.flag a.n_dense) { figures = f } in
     record {
       after = workspace_of c.eliminate.new.work;
       rounds = subst (λ f. AreRounds a.control.now.aggressive (before f) (workspace_of c.eliminate.new.work)) c.first_figures.ensures
@@ -36,4 +38,4 @@ pub returns-clause-words : goal.returns-clause-words
 returns-clause-words g c = (c.pe-1.given.1.0, c.e_len-1.given.1.0, c.nv-1.given.1.0, c.degree-1.given.1.0)
 
 pub returns-clause-links : goal.returns-clause-links
-returns-clause-links g c = (c.head-1.given.1.0, c.next-1.given.1.0, c.last-1.given.1.0, c.hash-1.given.1.0)
+returns-clause-links g c = (c.head-1.given.1.0, nexts_same _ _ c.sides-1.given.1.0, lasts_same _ _ c.sides-1.given.1.0, c.hash-1.given.1.0)

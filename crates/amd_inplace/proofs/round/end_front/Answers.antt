@@ -1,6 +1,7 @@
 use Rattle.std.proofs.Common.{ℕ, ℤ, List, true, ◌≡◌, ◌+◌, ◌-◌, refl, sym, ap, subst, ◌∙◌, arith, cond, length}
 use Rattle.std.proofs.Common.{get_or-set_same, length-set}
 use Rattle.std.proofs.lemmas.Bool.{cond-true, cond-false}
+use Rattle.amd_cells.specs.Sides.{nexts, lasts}
 use Rattle.amd_places.specs.Words.{num, start, in_front}
 use Rattle.amd_places.specs.Layout.{end_of, Layout}
 use Rattle.amd_places.specs.Chains.{DegreeLists}
@@ -58,15 +59,15 @@ returns g c =
         laid = subst (λ q. Layout n v.iw q e_len' len' c.if-is_built.free) (sym same_pe) laid;
         empty = λ b k. let a = s.next in let d = told.empty b (omega (arith, a, k)) in omega (arith, a, d);
         linked = λ lists none other h'.
-            subst (λ z. DegreeLists n v.head v.next v.last z
+            subst (λ z. DegreeLists n v.head (nexts v.sides) (lasts v.sides) z
             (put_all (bound_in border p.live nv p.degree.now) (marked_in nv front) lists)) (sym c.close.ensures.borders)
-            (other_degree n me border v.head v.next v.last v.degree
+            (other_degree n me border v.head (nexts v.sides) (lasts v.sides) v.degree
             (put_all (bound_in border p.live nv p.degree.now) (marked_in nv front) lists)
             (λ d k. not_placed me front nv (bound_in border p.live nv p.degree.now) lists d h.front.apart (none d k))
-            (subst (λ k. DegreeLists k v.head v.next v.last v.degree
+            (subst (λ k. DegreeLists k v.head (nexts v.sides) (lasts v.sides) v.degree
             (put_all (bound_in border p.live nv p.degree.now) (marked_in nv front) lists)) s.next
             (told.linked lists (λ b x k. other b x (let a = s.next in omega (arith, a, k)))
-            (subst (λ k. DegreeLists k p.head.now p.next.now p.last.now p.degree.now lists) (sym s.next) h'))));
+            (subst (λ k. DegreeLists k p.head.now (nexts p.sides.now) (lasts p.sides.now) p.degree.now lists) (sym s.next) h'))));
         lnz = c.add_front.ensures.lnz;
         ldl = c.add_front.ensures.ldl;
         lu = c.add_front.ensures.lu;

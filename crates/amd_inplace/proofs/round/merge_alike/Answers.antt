@@ -1,4 +1,5 @@
 use Rattle.std.proofs.Common.{refl, sym, ap, subst, ◌∙◌, arith, length}
+use Rattle.amd_cells.specs.Sides.{nexts, lasts}
 use Rattle.amd_places.specs.Words.{classes}
 use Rattle.amd_places.specs.Merging.{AreRenewed}
 use Rattle.amd_places.specs.Chains.{DegreeLists}
@@ -20,7 +21,7 @@ merge_list-work-requires-clause-few g c =
 pub merge_list-work-requires-clause-classes : goal.merge_list-work-requires-clause-classes
 merge_list-work-requires-clause-classes g c =
     let p = c.args.work.now in
-    subst (λ n. AreRenewed n p.iw.now p.pe.now p.e_len.now p.len.now p.nv.now c.renew_flag-flag.new.w p.last.now
+    subst (λ n. AreRenewed n p.iw.now p.pe.now p.e_len.now p.len.now p.nv.now c.renew_flag-flag.new.w (lasts p.sides.now)
     (classes p.nv.now (front_at (workspace_of p) c.args.me))) (sym c.requires.sized.next)
     (renewed_zeros c.renew_flag-flag.ensures.zeros c.requires.front.renewed)
 
@@ -39,10 +40,10 @@ returns g c =
         made = told.merges.made;
         heads = λ b k m. let n = s.next in told.merges.heads b (omega (arith, n, k)) (omega (arith, n, m));
         linked = λ lists other h.
-            subst (λ n. DegreeLists n p.head.now v.next v.last p.degree.now lists) s.next
-            (subst (λ l. DegreeLists (length p.next.now) p.head.now v.next l p.degree.now lists) (sym told.same.2)
+            subst (λ n. DegreeLists n p.head.now (nexts v.sides) (lasts v.sides) p.degree.now lists) s.next
+            (subst (λ l. DegreeLists (length (nexts p.sides.now)) p.head.now (nexts v.sides) l p.degree.now lists) (sym told.same.2)
             (told.merges.linked p.head.now p.degree.now lists (λ b x k m. other b x (let n = s.next in omega (arith, n, k)) m)
-            (subst (λ n. DegreeLists n p.head.now p.next.now p.last.now p.degree.now lists) (sym s.next) h)));
+            (subst (λ n. DegreeLists n p.head.now (nexts p.sides.now) (lasts p.sides.now) p.degree.now lists) (sym s.next) h)));
         under = told.under;
         two = (let a = told.flag in let b = c.renew_flag-flag.ensures.two in omega (arith, a, b));
         zeros = λ x. told.zeros x ∙ c.renew_flag-flag.ensures.zeros x;

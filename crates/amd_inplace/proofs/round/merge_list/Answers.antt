@@ -1,4 +1,5 @@
 use Rattle.std.proofs.Common.{ℕ, subst, arith, length}
+use Rattle.amd_cells.specs.Sides.{nexts, lasts}
 use Rattle.amd_places.specs.Words.{num, start}
 use Rattle.amd_places.specs.FrontLists.{MergesList}
 use Rattle.amd_inplace.proofs.round.merge_list.Goals as goal
@@ -22,11 +23,11 @@ merge_front-requires-clause-room g c =
 pub returns-clause-merges : goal.returns-clause-merges
 returns-clause-merges g c =
     let p = c.args in let v = c.merge_front.new in
-    let n : ℕ = length p.next.now in let from : ℕ = start p.pe.now p.me in let count : ℕ = num p.len.now p.me in
-    subst (λ k. MergesList n p.iw.now from k p.len.now p.last.now p.pe.now p.e_len.now p.nv.now p.next.now v.pe v.e_len v.nv v.hash
-    v.next) c.figure_at-count.ensures.is
-    (subst (λ s. MergesList n p.iw.now s c.figure_at-count.result p.len.now p.last.now p.pe.now p.e_len.now p.nv.now p.next.now v.pe
-    v.e_len v.nv v.hash v.next) c.named-from.ensures c.merge_front.ensures.merges)
+    let n : ℕ = length (nexts p.sides.now) in let from : ℕ = start p.pe.now p.me in let count : ℕ = num p.len.now p.me in
+    subst (λ k. MergesList n p.iw.now from k p.len.now (lasts p.sides.now) p.pe.now p.e_len.now p.nv.now (nexts p.sides.now) v.pe
+    v.e_len v.nv v.hash (nexts v.sides)) c.figure_at-count.ensures.is
+    (subst (λ s. MergesList n p.iw.now s c.figure_at-count.result p.len.now (lasts p.sides.now) p.pe.now p.e_len.now p.nv.now
+    (nexts p.sides.now) v.pe v.e_len v.nv v.hash (nexts v.sides)) c.named-from.ensures c.merge_front.ensures.merges)
 
 pub returns-clause-flag : goal.returns-clause-flag
 returns-clause-flag g c = c.merge_front.ensures.flag.0

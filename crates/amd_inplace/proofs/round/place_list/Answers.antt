@@ -1,4 +1,5 @@
-use Rattle.std.proofs.Common.{ℕ, ℤ, List, ◌≡◌, ap, subst, ◌∙◌, arith, length}
+use Rattle.std.proofs.Common.{ℕ, ℤ, List, ◌≡◌, ap, subst, ◌∙◌, length}
+use Rattle.amd_cells.specs.Sides.{nexts, lasts}
 use Rattle.amd_model.specs.Quotient.{has}
 use Rattle.amd_places.specs.Words.{start, in_front, rows}
 use Rattle.amd_places.specs.Layout.{list_in}
@@ -25,7 +26,7 @@ restore-end-requires-clause-linked g c =
 
 pub returns-clause-filters : goal.returns-clause-filters
 returns-clause-filters g c =
-    subst (λ k. Filters (length c.args.next.now) (in_front c.args.nv.now) (λ j. 0) 0 c.args.iw.now c.named-from.result k
+    subst (λ k. Filters (length (nexts c.args.sides.now)) (in_front c.args.nv.now) (λ j. 0) 0 c.args.iw.now c.named-from.result k
     c.named-from.result c.restore-end.new.iw c.restore-end.result.0 0) c.figure_at-count.ensures.is c.restore-end.ensures.filters
 
 pub returns-clause-restores : goal.returns-clause-restores
@@ -44,6 +45,6 @@ returns-clause-linked g c lists other h =
     ap (λ s. rows iw s c.figure_at-count.result) c.named-from.ensures
     ∙ ap (rows iw (start pe c.args.me)) c.figure_at-count.ensures.is in
     let v = c.restore-end.new in
-    subst (λ xs. DegreeLists (length c.args.next.now) v.head v.next v.last v.degree
+    subst (λ xs. DegreeLists (length (nexts c.args.sides.now)) v.head (nexts v.sides) (lasts v.sides) v.degree
     (put_all (bound_in c.args.border c.args.left c.args.nv.now c.args.degree.now) (marked_in c.args.nv.now xs) lists)) list
     (c.restore-end.ensures.linked lists (λ b x k m. ap (λ xs. has xs x) list ∙ other b x k m) h)

@@ -1,4 +1,5 @@
 use Rattle.std.proofs.Common.{ℕ, List, ◌≡◌, refl, sym, subst, ◌∙◌, arith, length, filter, not}
+use Rattle.amd_cells.specs.Sides.{nexts, lasts}
 use Rattle.amd_model.specs.Quotient.{has}
 use Rattle.amd_places.specs.Layout.{list_in}
 use Rattle.amd_places.specs.Turning.{IsTurning, TurnsFront}
@@ -20,7 +21,7 @@ returns g c =
     let front : List ℕ = list_in p.iw.now p.pe.now p.len.now c.args.me in
     let a = c.turn.ensures.lengths in let b = c.turn.ensures.more_lengths in let s = c.requires.sized in
     let turns : TurnsFront c.args.aggressive (length w) c.args.me c.renew_flag-flag.result front p.free p.iw.now p.pe.now p.e_len.now
-    p.nv.now p.len.now p.degree.now w v.iw v.pe v.e_len v.nv v.len v.degree v.w v.last c.turn.result = c.turn.ensures.turns in
+    p.nv.now p.len.now p.degree.now w v.iw v.pe v.e_len v.nv v.len v.degree v.w (lasts v.sides) c.turn.result = c.turn.ensures.turns in
     let l = turns.renewed.lengths in
     record {
       turns = record {
@@ -30,10 +31,11 @@ returns g c =
         two = c.renew_flag-flag.ensures.two;
         room = (let r = c.renew_flag-flag.ensures.room in let q = s.w in omega (arith, r, q));
         turns = subst (λ n. TurnsFront c.args.aggressive n c.args.me c.renew_flag-flag.result front p.free p.iw.now p.pe.now p.e_len.now
-            p.nv.now p.len.now p.degree.now w v.iw v.pe v.e_len v.nv v.len v.degree v.w v.last c.turn.result) long turns;
+            p.nv.now p.len.now p.degree.now w v.iw v.pe v.e_len v.nv v.len v.degree v.w (lasts v.sides) c.turn.result) long turns;
         linked = λ lists m h.
-            subst (λ n. DegreeLists n v.head v.next v.last v.degree (λ d. filter (λ j. not (has front j)) (lists d))) long
-            (c.turn.ensures.linked lists m (subst (λ n. DegreeLists n p.head.now p.next.now p.last.now p.degree.now lists) (sym long) h));
+            subst (λ n. DegreeLists n v.head (nexts v.sides) (lasts v.sides) v.degree (λ d. filter (λ j. not (has front j)) (lists d))) long
+            (c.turn.ensures.linked lists m
+            (subst (λ n. DegreeLists n p.head.now (nexts p.sides.now) (lasts p.sides.now) p.degree.now lists) (sym long) h));
         sized = record {
           pe = b.0 ∙ long;
           e_len = l.1 ∙ s.e_len;

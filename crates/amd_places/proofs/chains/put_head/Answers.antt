@@ -1,16 +1,17 @@
 use Rattle.std.proofs.Common.{arith, get_or-set_same, get_or-set_other}
 use Rattle.amd_places.proofs.ChainLists.{put_on}
 use Rattle.std.proofs.Common.{◌∙◌}
+use Rattle.amd_cells.proofs.SideLists.{both_long, lasts_same, nexts_same}
 use Rattle.amd_places.proofs.chains.put_head.Goals as goal
 
 pub returns-clause-linked : goal.returns-clause-linked
 returns-clause-linked g c lists none h = rw c.put_figure.ensures
     (put_on _ _ _ _ _ _ _ _ _ c.link.ensures.relinks c.args.degree.now _ lists c.requires.row.0 c.requires.row.1 none
-    (get_or-set_same c.args.degree.now c.args.i c.args.d 0 (let a = c.requires.row.0 in let b = c.requires.lengths.2 in
+    (get_or-set_same c.args.degree.now c.args.i c.args.d 0 (let a = c.requires.row.0 in let b = c.requires.lengths.1 in
     omega (arith, a, b))) (λ x ne. get_or-set_other c.args.degree.now c.args.i x c.args.d 0 ne) h)
 
-pub link-requires-clause-lengths : goal.link-requires-clause-lengths
-link-requires-clause-lengths g c = (c.requires.lengths.0, c.requires.lengths.1)
+pub link-requires-clause-long : goal.link-requires-clause-long
+link-requires-clause-long g c = c.requires.lengths.0
 
 pub link-requires-clause-short : goal.link-requires-clause-short
 link-requires-clause-short g c = c.requires.short
@@ -24,7 +25,7 @@ returns-clause-degrees g c = c.put_figure.ensures
 pub returns-clause-lengths : goal.returns-clause-lengths
 returns-clause-lengths g c = (
   c.link.auto.head ∙ c.requires.lengths.0,
-  c.link.auto.next,
-  c.link.auto.last ∙ c.requires.lengths.1,
-  c.put_figure.auto.figures ∙ c.requires.lengths.2,
+  nexts_same _ _ c.link.auto.sides,
+  lasts_same _ _ c.link.auto.sides ∙ both_long c.args.sides.now,
+  c.put_figure.auto.figures ∙ c.requires.lengths.1,
 )

@@ -1,4 +1,5 @@
 use Rattle.std.proofs.Common.{ℕ, List, true, refl, sym, ap, subst, ◌∙◌, ◌≡◌, ◌≤◌, ◌&&◌, arith, cond}
+use Rattle.amd_cells.specs.Sides.{nexts, lasts}
 use Rattle.amd_model.specs.Quotient.{has, Once}
 use Rattle.amd_places.specs.Words.{num, word, flip_of}
 use Rattle.amd_places.specs.Chains.{DegreeLists, without}
@@ -9,7 +10,7 @@ use Rattle.amd_places.proofs.counts.count_class.Goals as goal
 
 pub take_out-requires-clause-lengths : goal.take_out-requires-clause-lengths
 take_out-requires-clause-lengths g c = let l = c.requires.more_lengths in let n = sym l.1 in
-    (l.0 ∙ n, l.2 ∙ n, c.requires.lengths.3 ∙ n)
+    (l.0 ∙ n, c.requires.lengths.3 ∙ n)
 
 pub take_out-requires-clause-row : goal.take_out-requires-clause-row
 take_out-requires-clause-row g c = let r = c.requires.row in let a = r.0 in let b = r.1 in let n = c.requires.more_lengths.1 in
@@ -91,6 +92,7 @@ returns-clause-lengths g c = let l = c.requires.more_lengths in let t = c.take_o
 
 pub returns-clause-linked : goal.returns-clause-linked
 returns-clause-linked g c = subst (λ n. (lists : ℕ → List ℕ) → has (lists (num c.args.degree.now c.args.i)) c.args.i ≡ true →
-    DegreeLists n c.args.head.now c.args.next.now c.args.last.now c.args.degree.now lists →
-    DegreeLists n c.take_out.new.head c.take_out.new.next c.take_out.new.last c.args.degree.now (λ d. without c.args.i (lists d)))
+    DegreeLists n c.args.head.now (nexts c.args.sides.now) (lasts c.args.sides.now) c.args.degree.now lists →
+    DegreeLists n c.take_out.new.head (nexts c.take_out.new.sides) (lasts c.take_out.new.sides) c.args.degree.now
+    (λ d. without c.args.i (lists d)))
     c.requires.more_lengths.1 c.take_out.ensures.linked

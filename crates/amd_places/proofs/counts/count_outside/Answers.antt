@@ -2,6 +2,7 @@
 use Rattle.std.proofs.Common.{ℕ, ℤ, Bool, List, true, false, ◌≡◌, ◌<◌, ◌≤◌, ◌+◌, ◌-◌, ◌&&◌, not, refl, add-sub_of_le, le-add_right}
 use Rattle.std.proofs.Common.{sym, ap, subst, ◌∙◌, arith, cond, length, filter, lt_of_le_of_lt, lt_of_lt_of_le, le_of_eq}
 use Rattle.std.proofs.lemmas.Bool.{not_from_false}
+use Rattle.amd_cells.specs.Sides.{nexts, lasts}
 use Rattle.amd_model.specs.Quotient.{has}
 use Rattle.amd_model.proofs.Listings.Words.{filter_has}
 use Rattle.amd_places.specs.Words.{num, word, place, is_place, flip_of, size_of, rows}
@@ -105,15 +106,18 @@ loop-p-preserved g c =
           (λ e. c.count_class.ensures.starts e ∙ ap (λ xs. cond (has xs e && ends ag flag (top e)) (flip_of c.args.me)
           (word c.loop-p.pe e)) list));
       linked = λ lists member h. let left : ℕ → List ℕ = λ d. filter (λ j. not (has (rows iw from k) j)) (lists d) in
-          let before = subst (λ m. DegreeLists m c.loop-p.head c.loop-p.next c.loop-p.last c.args.degree.now left) (sym long)
+          let before = subst (λ m. DegreeLists m c.loop-p.head (nexts c.loop-p.sides) (lasts c.loop-p.sides) c.args.degree.now left)
+          (sym long)
           (was.linked lists member h) in
           let gone = c.count_class.ensures.linked left (filter_has (λ j. not (has (rows iw from k) j)) (lists (num c.args.degree.now i)) i
           (member i named) (not_from_false (has (rows iw from k) i) fresh)) before in
-          subst (λ m. DegreeLists (length c.args.w.now) c.count_class.new.head c.count_class.new.next c.count_class.new.last
+          subst (λ m. DegreeLists (length c.args.w.now) c.count_class.new.head (nexts c.count_class.new.sides)
+          (lasts c.count_class.new.sides)
           c.args.degree.now
           (λ d. filter (λ j. not (has (rows iw from m) j)) (lists d))) (sym next)
           (lists_same (length c.args.w.now) _ _ _ _ (λ d. without i (left d)) _ (λ d m. one_leaves iw from k i is (lists d))
-          (subst (λ m. DegreeLists m c.count_class.new.head c.count_class.new.next c.count_class.new.last c.args.degree.now
+          (subst (λ m. DegreeLists m c.count_class.new.head (nexts c.count_class.new.sides) (lasts c.count_class.new.sides)
+          c.args.degree.now
           (λ d. without i (left d))) long gone));
     }
 
@@ -140,5 +144,5 @@ returns-clause-linked g c lists member h =
     let t = c.loop-p-test.false in let after : c.args.from ≤ c.loop-p.p = c.loop-p.auto.p in
     let past : c.loop-p.p ≤ c.args.from + c.args.count = c.loop-p.auto.p-end (le-add_right _ _) in
     let all : c.loop-p.p - c.args.from ≡ c.args.count = all_passed _ _ _ after past t in
-    subst (λ m. DegreeLists (length c.args.w.now) c.loop-p.head c.loop-p.next c.loop-p.last c.args.degree.now
+    subst (λ m. DegreeLists (length c.args.w.now) c.loop-p.head (nexts c.loop-p.sides) (lasts c.loop-p.sides) c.args.degree.now
     (λ d. filter (λ j. not (has (rows c.args.iw.now c.args.from m) j)) (lists d))) all (c.loop-p.invariant.linked lists member h)

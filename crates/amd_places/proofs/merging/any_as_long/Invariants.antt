@@ -1,13 +1,14 @@
 use Rattle.std.proofs.Common.{◌&&◌, length}
 use Rattle.std.specs.Prelude.{◌==◌}
+use Rattle.amd_cells.specs.Sides.{nexts, lasts}
 use Rattle.amd_places.specs.Words.{num}
 use Rattle.amd_places.specs.Merging.{as_long, bucket}
 use Rattle.amd_places.proofs.BucketWalk.{Walks}
 use Rattle.amd_places.proofs.merging.any_as_long.Given as goal
 
 abbrev pub invariant-members : goal.invariant-members
-invariant-members g l = Walks (length l.next) l.next (λ j. num l.last j == l.key && as_long l.e_len l.len l.count l.few j)
-    (bucket l.next l.head) l.j
+invariant-members g l = Walks (length (nexts l.sides)) (nexts l.sides)
+    (λ j. num (lasts l.sides) j == l.key && as_long l.e_len l.len l.count l.few j) (bucket (nexts l.sides) l.head) l.j
 
 abbrev pub decreases-members : goal.decreases-members
-decreases-members g l = length (bucket l.next l.j)
+decreases-members g l = length (bucket (nexts l.sides) l.j)

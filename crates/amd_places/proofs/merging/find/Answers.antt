@@ -7,6 +7,7 @@ use Rattle.amd_places.proofs.RowLists.{names_at}
 use Rattle.amd_places.proofs.Likeness.{alike_counts, looks_alike}
 use Rattle.std.specs.Prelude.{◌==◌, ◌&&◌}
 use Rattle.std.proofs.lemmas.Bool.{cases_Bool, and_from, eq-eqb}
+use Rattle.amd_cells.specs.Sides.{nexts, lasts}
 use Rattle.amd_model.proofs.Counting.Below.{clash}
 use Rattle.amd_places.proofs.merging.find.Goals as goal
 
@@ -64,13 +65,13 @@ returns-clause-found g c =
     let marked : (x : ℕ) → num w x ≡ cond (has (words_of iw pe len i) x) flag (num c.args.w.now x) = λ x. c.spread.ensures.marked x
     ∙ ap (λ m. cond (has (rows iw (c.named-from.result + 1) (m - 1)) x) flag (num c.args.w.now x)) c.figure_at-count.ensures.is
     ∙ ap (λ s. cond (has (rows iw (s + 1) (num len i - 1)) x) flag (num c.args.w.now x)) first in
-    let is : (x : ℕ) → has (bucket c.args.next.now c.args.head) x ≡ true →
+    let is : (x : ℕ) → has (bucket (nexts c.args.sides.now) c.args.head) x ≡ true →
     looks iw pe e_len len w (num len i) c.named-few.result flag x ≡ alike_in (kept_of iw pe e_len) (near_of iw pe e_len len) i x
     = λ x h. ap (λ f. looks iw pe e_len len w (num len i) f flag x) few
     ∙ looks_alike (length c.args.w.now) iw pe e_len len i x c.requires.here (c.requires.members x h) w c.args.w.now flag
     (c.requires.apart x h) c.requires.under marked in
-    elim (subst (λ m. Finds (length c.args.next.now) (looks iw pe e_len len w m c.named-few.result flag)
-    (bucket c.args.next.now c.args.head) c.walk.result) c.figure_at-count.ensures.is c.walk.ensures) [
+    elim (subst (λ m. Finds (length (nexts c.args.sides.now)) (looks iw pe e_len len w m c.named-few.result flag)
+    (bucket (nexts c.args.sides.now) c.args.head) c.walk.result) c.figure_at-count.ensures.is c.walk.ensures) [
       | inl p ↦ inl (p.0, p.1, sym (is c.walk.result p.1) ∙ p.2)
       | inr p ↦ inr (p.0, λ x h. sym (is x h) ∙ p.1 x h)
     ]
@@ -82,7 +83,7 @@ returns-clause-marked g c = inr (λ x. c.spread.ensures.marked x ∙ ap (λ m.
     c.named-from.ensures)
 
 pub any_as_long-requires-clause-lengths : goal.any_as_long-requires-clause-lengths
-any_as_long-requires-clause-lengths g c = let l = c.requires.lengths in let n = sym l.3 in (l.1 ∙ n, l.2 ∙ n, l.4 ∙ n)
+any_as_long-requires-clause-lengths g c = let l = c.requires.lengths in let n = sym l.3 in (l.1 ∙ n, l.2 ∙ n)
 
 pub any_as_long-requires-clause-members : goal.any_as_long-requires-clause-members
 any_as_long-requires-clause-members g c j h = (c.requires.members j h).counts
@@ -90,7 +91,7 @@ any_as_long-requires-clause-members g c j h = (c.requires.members j h).counts
 -- a class that is not as long is not alike
 pub returns-then-not-any_as_long-clause-found : goal.returns-then-not-any_as_long-clause-found
 returns-then-not-any_as_long-clause-found g c = inr (
-  refl,
+  c.row_count.ensures,
   λ x h.
       let iw : List ℤ = c.args.iw.now in let pe : List ℤ = c.args.pe.now in let e_len : List ℤ = c.args.e_len.now in let len : List ℕ =
       c.args.len.now in let i : ℕ = c.args.i in
@@ -98,10 +99,10 @@ returns-then-not-any_as_long-clause-found g c = inr (
         | inr f ↦ f
         | inl t ↦
             let q = alike_counts (length c.args.w.now) iw pe e_len len i x c.requires.here (c.requires.members x h) t in
-            let key = c.requires.keys x h t ∙ sym c.figure_at.ensures.is in
-            clash (and_from (num c.args.last.now x == c.figure_at.result)
+            let key = c.requires.keys x h t ∙ sym c.last_at.ensures.is in
+            clash (and_from (num (lasts c.args.sides.now) x == c.last_at.result)
             (num len x == c.figure_at-count.result && place (word e_len x) == c.named-few.result)
-            (eq-eqb (num c.args.last.now x) c.figure_at.result key)
+            (eq-eqb (num (lasts c.args.sides.now) x) c.last_at.result key)
             (and_from (num len x == c.figure_at-count.result) (place (word e_len x) == c.named-few.result)
             (eq-eqb (num len x) c.figure_at-count.result (q.0 ∙ sym c.figure_at-count.ensures.is))
             (eq-eqb (place (word e_len x)) c.named-few.result (q.1 ∙ sym c.named-few.ensures))))

@@ -1,5 +1,5 @@
 use borrow.Author.Count.{falls_down}
-use Rattle.std.proofs.Common.{ℕ, List, refl, sym, subst, ◌∙◌, ◌+◌, ◌-◌, ◌≤◌, arith, length}
+use Rattle.std.proofs.Common.{ℕ, List, refl, sym, ap, subst, ◌∙◌, ◌+◌, ◌-◌, ◌≤◌, arith, length}
 use Rattle.amd_places.specs.Words.{num, classes, rows}
 use Rattle.amd_views.specs.Rounds.{alike_in}
 use Rattle.amd_places.specs.Merging.{MergesAll, kept_of, near_of, represents_in}
@@ -8,15 +8,18 @@ use Rattle.amd_places.proofs.MergeEnds.{made_is, made_from, still_linked}
 use Rattle.amd_places.proofs.MergeState.{Merging, merging_none, all_merged, all_heads}
 use Rattle.amd_places.proofs.MergeWalk.{premises, classes_few, classes_end, step_ready, step_room, step_skips, step_settles}
 use Rattle.std.proofs.Common.{le_refl, le-add_right}
+use Rattle.amd_cells.specs.Sides.{nexts, lasts}
 use Rattle.amd_places.proofs.WordCounts.{before_fits}
 use Rattle.amd_places.proofs.merging.merge_front.Goals as goal
 
 pub classes-init : goal.classes-init
 classes-init g c = let l = c.requires.lengths in record {
   within = omega arith;
-  merging = merging_none (length c.args.next.now) c.args.iw.now c.args.pe.now c.args.e_len.now c.args.len.now c.args.nv.now c.args.w.now
-      c.args.next.now c.args.last.now (classes c.args.nv.now (rows c.args.iw.now c.args.from c.args.count)) c.args.flag c.args.count
-      c.args.hash.now c.requires.empty c.requires.under (l.0, l.1, l.2, l.4, l.5, refl);
+  keys = refl;
+  merging = merging_none (length (nexts c.args.sides.now)) c.args.iw.now c.args.pe.now c.args.e_len.now c.args.len.now c.args.nv.now
+      c.args.w.now (nexts c.args.sides.now) (lasts c.args.sides.now)
+      (classes c.args.nv.now (rows c.args.iw.now c.args.from c.args.count)) c.args.flag c.args.count c.args.hash.now
+      c.requires.empty c.requires.under (l.0, l.1, l.2, l.4, l.5, refl);
 }
 
 pub named-i-requires-clause-inside : goal.named-i-requires-clause-inside
@@ -34,7 +37,16 @@ is_class-requires g c = let w = c.classes.invariant.within in let t = c.classes-
 
 pub merge_one-now-requires-clause-lengths : goal.merge_one-now-requires-clause-lengths
 merge_one-now-requires-clause-lengths g c = let o = c.classes.invariant.merging.long in let l = c.requires.lengths in
-    let n = sym o.5 in (o.0 ∙ n, o.1 ∙ n, o.2 ∙ n, l.3 ∙ n, o.3 ∙ n, o.4 ∙ n, refl, l.7 ∙ n)
+    let n = sym o.5 in (
+      o.0 ∙ n,
+      o.1 ∙ n,
+      o.2 ∙ n,
+      l.3 ∙ n,
+      o.3 ∙ n,
+      o.4 ∙ n,
+      refl,
+      ap length c.classes.invariant.keys ∙ l.7 ∙ n,
+    )
 
 pub merge_one-now-requires-clause-short : goal.merge_one-now-requires-clause-short
 merge_one-now-requires-clause-short g c = let s = c.requires.short.1 in let t = c.requires.short.2 in
@@ -44,40 +56,42 @@ pub merge_one-now-requires-clause-under : goal.merge_one-now-requires-clause-und
 merge_one-now-requires-clause-under g c = c.classes.invariant.merging.under
 
 pub merge_one-now-requires-clause-ready : goal.merge_one-now-requires-clause-ready
-merge_one-now-requires-clause-ready g c = let g = premises (length c.args.next.now)
-    c.args.iw.now c.args.pe.now c.args.e_len.now c.args.len.now c.args.nv.now c.args.w.now c.args.next.now c.args.last.now c.args.from
-    c.args.count c.args.flag c.requires.front.2 c.requires.few c.requires.classes in
-    step_ready _ _ _ _ _ _ _ _ _ _ _ _ g c.classes.left c.classes-test.true c.classes.invariant.within c.named-i.result c.named-i.ensures
-    _ _ _ _ _ _ _ c.classes.invariant.merging (sym c.is_class.ensures ∙ c.if-is_class.true)
+merge_one-now-requires-clause-ready g c = let g = premises (length (nexts c.args.sides.now))
+    c.args.iw.now c.args.pe.now c.args.e_len.now c.args.len.now c.args.nv.now c.args.w.now (nexts c.args.sides.now) (lasts c.args.sides.now)
+    c.args.from c.args.count c.args.flag c.requires.front.2 c.requires.few c.requires.classes in
+    rw c.classes.invariant.keys (step_ready _ _ _ _ _ _ _ _ _ _ _ _ g c.classes.left c.classes-test.true c.classes.invariant.within
+    c.named-i.result c.named-i.ensures _ _ _ _ _ _ _ c.classes.invariant.merging (sym c.is_class.ensures ∙ c.if-is_class.true))
 
 pub merge_one-now-requires-clause-room : goal.merge_one-now-requires-clause-room
-merge_one-now-requires-clause-room g c = let g = premises (length c.args.next.now)
-    c.args.iw.now c.args.pe.now c.args.e_len.now c.args.len.now c.args.nv.now c.args.w.now c.args.next.now c.args.last.now c.args.from
-    c.args.count c.args.flag c.requires.front.2 c.requires.few c.requires.classes in
+merge_one-now-requires-clause-room g c = let g = premises (length (nexts c.args.sides.now))
+    c.args.iw.now c.args.pe.now c.args.e_len.now c.args.len.now c.args.nv.now c.args.w.now (nexts c.args.sides.now) (lasts c.args.sides.now)
+    c.args.from c.args.count c.args.flag c.requires.front.2 c.requires.few c.requires.classes in
     let a : c.classes.now + 1 ≤ c.args.flag + c.args.count = step_room _ _ _ _ _ _ _ _ _ _ _ _ g c.classes.left c.classes-test.true
     c.classes.invariant.within c.named-i.result c.named-i.ensures _ _ _ _ _ _ _ c.classes.invariant.merging (sym c.is_class.ensures
     ∙ c.if-is_class.true) in
     let b = c.requires.room in omega (arith, a, b)
 
 pub classes-preserved-then-is_class : goal.classes-preserved-then-is_class
-classes-preserved-then-is_class g c = let g = premises (length c.args.next.now)
-    c.args.iw.now c.args.pe.now c.args.e_len.now c.args.len.now c.args.nv.now c.args.w.now c.args.next.now c.args.last.now c.args.from
-    c.args.count c.args.flag c.requires.front.2 c.requires.few c.requires.classes in
+classes-preserved-then-is_class g c = let g = premises (length (nexts c.args.sides.now))
+    c.args.iw.now c.args.pe.now c.args.e_len.now c.args.len.now c.args.nv.now c.args.w.now (nexts c.args.sides.now) (lasts c.args.sides.now)
+    c.args.from c.args.count c.args.flag c.requires.front.2 c.requires.few c.requires.classes in
     let t = c.classes.invariant.within in let d = c.merge_one-now.ensures in let l = d.lengths in
     let o = c.classes.invariant.merging.long in let m = o.5 in record {
       within = omega (arith, t);
+      keys = d.keys ∙ c.classes.invariant.keys;
       merging = step_settles _ _ _ _ _ _ _ _ _ _ _ _ g c.classes.left c.classes-test.true c.classes.invariant.within c.named-i.result
           c.named-i.ensures _ _ _ _ _ _ _ c.classes.invariant.merging (sym c.is_class.ensures ∙ c.if-is_class.true)
           _ _ _ _ _ _ _ (l.0 ∙ m ∙ sym o.0, l.1 ∙ m ∙ sym o.1, l.2 ∙ m ∙ sym o.2, l.4 ∙ m ∙ sym o.3)
-          (l.5 ∙ m ∙ sym o.4, l.6) d.flag d.under d.zeros d.settles;
+          (l.5 ∙ m ∙ sym o.4, l.6) d.flag d.under d.zeros (rw (sym c.classes.invariant.keys) d.settles);
     }
 
 pub classes-preserved : goal.classes-preserved
-classes-preserved g c = let g = premises (length c.args.next.now)
-    c.args.iw.now c.args.pe.now c.args.e_len.now c.args.len.now c.args.nv.now c.args.w.now c.args.next.now c.args.last.now c.args.from
-    c.args.count c.args.flag c.requires.front.2 c.requires.few c.requires.classes in
+classes-preserved g c = let g = premises (length (nexts c.args.sides.now))
+    c.args.iw.now c.args.pe.now c.args.e_len.now c.args.len.now c.args.nv.now c.args.w.now (nexts c.args.sides.now) (lasts c.args.sides.now)
+    c.args.from c.args.count c.args.flag c.requires.front.2 c.requires.few c.requires.classes in
     let t = c.classes.invariant.within in record {
       within = omega (arith, t);
+      keys = c.classes.invariant.keys;
       merging = step_skips _ _ _ _ _ _ _ _ _ _ _ _ g c.classes.left c.classes-test.true c.classes.invariant.within c.named-i.result
           c.named-i.ensures _ _ _ _ _ _ _ c.classes.invariant.merging (sym c.is_class.ensures ∙ c.if-is_class.false);
     }
@@ -86,8 +100,8 @@ pub returns-then-count-lt2-clause-merges : goal.returns-then-count-lt2-clause-me
 returns-then-count-lt2-clause-merges g c =
     let a = classes_few c.args.nv.now c.args.iw.now c.args.from c.args.count in let t = c.if-count-lt2.true in
     let merged = few_merged (alike_in (kept_of c.args.iw.now c.args.pe.now c.args.e_len.now)
-    (near_of c.args.iw.now c.args.pe.now c.args.e_len.now c.args.len.now)) c.args.pe.now c.args.e_len.now c.args.nv.now c.args.next.now
-    (classes c.args.nv.now (rows c.args.iw.now c.args.from c.args.count)) (omega (arith, a, t)) in record {
+    (near_of c.args.iw.now c.args.pe.now c.args.e_len.now c.args.len.now)) c.args.pe.now c.args.e_len.now c.args.nv.now
+    (nexts c.args.sides.now) (classes c.args.nv.now (rows c.args.iw.now c.args.from c.args.count)) (omega (arith, a, t)) in record {
       merged = merged;
       made = made_is (rows c.args.iw.now c.args.from c.args.count) _ _ _ _ _ _ _ _ _ merged;
       heads = λ b k m. absurd (let e = c.requires.empty b k in omega (arith, e, m));
@@ -97,15 +111,17 @@ returns-then-count-lt2-clause-merges g c =
 pub returns-clause-merges : goal.returns-clause-merges
 returns-clause-merges g c =
     let list : List ℕ = rows c.args.iw.now c.args.from c.args.count in
-    let state = subst (λ k. Merging (length c.args.next.now) c.args.iw.now c.args.pe.now c.args.e_len.now c.args.len.now c.args.nv.now
-    c.args.w.now c.args.next.now c.args.last.now (classes c.args.nv.now list) c.args.flag c.args.count
-    k c.classes.pe c.classes.e_len c.classes.nv c.classes.w c.classes.hash c.classes.next c.classes.now)
+    let state = subst (λ k. Merging (length (nexts c.args.sides.now)) c.args.iw.now c.args.pe.now c.args.e_len.now c.args.len.now
+    c.args.nv.now c.args.w.now (nexts c.args.sides.now) (lasts c.args.sides.now) (classes c.args.nv.now list) c.args.flag c.args.count
+    k c.classes.pe c.classes.e_len c.classes.nv c.classes.w c.classes.hash (nexts c.classes.sides) c.classes.now)
     (classes_end c.args.nv.now c.args.iw.now c.args.from c.classes.left c.classes-test.false) c.classes.invariant.merging in
     let merged : MergesAll (classes c.args.nv.now list)
     (represents_in c.args.iw.now c.args.pe.now c.args.e_len.now c.args.len.now (classes c.args.nv.now list))
-    c.args.pe.now c.args.e_len.now c.args.nv.now c.args.next.now c.classes.pe c.classes.e_len c.classes.nv c.classes.next = (
-    let g = premises (length c.args.next.now) c.args.iw.now c.args.pe.now c.args.e_len.now c.args.len.now c.args.nv.now c.args.w.now
-    c.args.next.now c.args.last.now c.args.from c.args.count c.args.flag c.requires.front.2 c.requires.few c.requires.classes in
+    c.args.pe.now c.args.e_len.now c.args.nv.now (nexts c.args.sides.now) c.classes.pe c.classes.e_len c.classes.nv
+    (nexts c.classes.sides) = (
+    let g = premises (length (nexts c.args.sides.now)) c.args.iw.now c.args.pe.now c.args.e_len.now c.args.len.now c.args.nv.now
+    c.args.w.now (nexts c.args.sides.now) (lasts c.args.sides.now) c.args.from c.args.count c.args.flag c.requires.front.2 c.requires.few
+    c.requires.classes in
     all_merged _ _ _ _ _ _ _ _ _ _ _ _ g.once _ _ _ _ _ _ _ state) in record {
       merged = merged;
       made = made_is list _ _ _ _ _ _ _ _ _ merged;
@@ -114,7 +130,7 @@ returns-clause-merges g c =
         made_from list _ _ _ _ _ _ _ _ _ merged (num c.classes.hash b) head.0 head.1,
         head.2,
       );
-      linked = λ head degree lists none h. still_linked list _ _ _ _ _ _ _ _ _ merged _ head c.args.last.now degree lists none h;
+      linked = λ head degree lists none h. still_linked list _ _ _ _ _ _ _ _ _ merged _ head (lasts c.args.sides.now) degree lists none h;
     }
 
 pub returns-clause-flag : goal.returns-clause-flag
@@ -123,7 +139,10 @@ returns-clause-flag g c = let f = c.classes.invariant.merging.flags in let a = f
 
 pub returns-clause-lengths : goal.returns-clause-lengths
 returns-clause-lengths g c = let o = c.classes.invariant.merging.long in let l = c.requires.lengths in
-    (o.0, o.1, o.2, l.3, o.3, o.4, o.5, l.7)
+    (o.0, o.1, o.2, l.3, o.3, o.4, o.5, ap length c.classes.invariant.keys ∙ l.7)
+
+pub returns-clause-keys : goal.returns-clause-keys
+returns-clause-keys g c = c.classes.invariant.keys
 
 pub returns-clause-under : goal.returns-clause-under
 returns-clause-under g c = c.classes.invariant.merging.under

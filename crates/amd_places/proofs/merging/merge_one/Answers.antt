@@ -7,17 +7,20 @@ use Rattle.amd_places.specs.Chains.{Chain}
 use Rattle.amd_places.specs.Merging.{bucket, bucket_of, words_of}
 use Rattle.amd_places.proofs.BucketWalk.{links_is}
 use Rattle.amd_places.proofs.WordMarks.{marked_below, marked_zero}
-use Rattle.std.proofs.Common.{le_refl, le-add_right, lt_of_le_of_lt, lt_irrefl, lt_of_lt_of_le, le_of_eq, ◌+◌}
+use Rattle.std.proofs.Common.{le_refl, le-add_right, lt_of_le_of_lt, lt_irrefl, lt_of_lt_of_le, le_trans, le_of_eq, ◌+◌, ◌≤◌}
+use Rattle.amd_cells.specs.Sides.{nexts, lasts}
+use Rattle.amd_cells.proofs.SideLists.{nexts_same, lasts_same}
 use Rattle.amd_places.specs.Words.{size_of, in_front}
-use Rattle.amd_places.proofs.merging.merge_one.Goals.{then-found-next, else-found-next}
+use Rattle.amd_places.proofs.merging.merge_one.Goals.{then-found-row_count, else-found-row_count}
 use Rattle.amd_places.proofs.merging.merge_one.Goals as goal
 
-pub returns-then-head-next-clause-settles : goal.returns-then-head-next-clause-settles
-returns-then-head-next-clause-settles g c =
-    let next = c.args.next.now in let head = num c.args.hash.now (bucket_of c.args.count c.args.last.now c.args.i) in
+pub returns-then-head-row_count-clause-settles : goal.returns-then-head-row_count-clause-settles
+returns-then-head-row_count-clause-settles g c =
+    let next = (nexts c.args.sides.now) in let head = num c.args.hash.now (bucket_of c.args.count (lasts c.args.sides.now) c.args.i) in
     let key_is = c.bucket_at-key.ensures in let head_is : c.figure_at-head.result ≡ head = c.figure_at-head.ensures.is
     ∙ ap (num c.args.hash.now) key_is in
-    let none : bucket next head ≡ [] = links_is _ next _ head [] (let b = c.if-head-next.true in omega (arith, b, head_is)) (omega arith) in
+    let end : length next ≤ head = let b = c.if-head-row_count.true in let r = c.row_count.ensures in omega (arith, b, r, head_is) in
+    let none : bucket next head ≡ [] = links_is _ next _ head [] end (omega arith) in
     inr (
       (λ x h. absurd (has_none x (sym (ap (λ xs. has xs x) none) ∙ h))),
       record {
@@ -46,16 +49,16 @@ push-requires-clause-inside g c =
 pub push-requires-clause-short : goal.push-requires-clause-short
 push-requires-clause-short g c = c.requires.short.2
 
-pub push-requires-else-found-next-clause-inside : goal.push-requires-else-found-next-clause-inside
-push-requires-else-found-next-clause-inside g c =
+pub push-requires-else-found-row_count-clause-inside : goal.push-requires-else-found-row_count-clause-inside
+push-requires-else-found-row_count-clause-inside g c =
     let e = c.bucket_at-key.ensures in let k = c.requires.ready.key in let n = c.requires.lengths.5 in
     (c.requires.ready.here.row, (omega (arith, e, k, n)))
 
-pub push-requires-else-found-next-clause-short : goal.push-requires-else-found-next-clause-short
-push-requires-else-found-next-clause-short g c = c.requires.short.2
+pub push-requires-else-found-row_count-clause-short : goal.push-requires-else-found-row_count-clause-short
+push-requires-else-found-row_count-clause-short g c = c.requires.short.2
 
 pub find-found-requires-clause-lengths : goal.find-found-requires-clause-lengths
-find-found-requires-clause-lengths g c = let l = c.requires.lengths in let w = sym l.4 in (l.0 ∙ w, l.1 ∙ w, l.3 ∙ w, w, l.7 ∙ w)
+find-found-requires-clause-lengths g c = let l = c.requires.lengths in let w = sym l.4 in (l.0 ∙ w, l.1 ∙ w, l.3 ∙ w, w)
 
 pub find-found-requires-clause-short : goal.find-found-requires-clause-short
 find-found-requires-clause-short g c = c.requires.short.0
@@ -71,7 +74,7 @@ merge-requires-clause-lengths g c = let l = c.requires.lengths in let n = sym l.
 
 pub merge-requires-clause-inside : goal.merge-requires-clause-inside
 merge-requires-clause-inside g c =
-    let a = c.requires.ready.here.row in let n = c.requires.lengths.2 in let f = c.if-found-next.true in
+    let a = c.requires.ready.here.row in let n = c.requires.lengths.2 in let f = c.if-found-row_count.true in
     ((omega (arith, a, n)), (omega (arith, f, n)))
 
 pub merge-requires-clause-short : goal.merge-requires-clause-short
@@ -82,7 +85,7 @@ find-found-requires-clause-here g c = rw c.requires.lengths.4 c.requires.ready.h
 
 pub find-found-requires-clause-chain : goal.find-found-requires-clause-chain
 find-found-requires-clause-chain g c =
-    let next = c.args.next.now in
+    let next = (nexts c.args.sides.now) in
     let head_is = c.figure_at-head.ensures.is ∙ ap (num c.args.hash.now) c.bucket_at-key.ensures in
     subst (λ k. Chain (length next) next k (bucket next k)) (sym head_is) c.requires.ready.chain
 
@@ -90,25 +93,25 @@ pub find-found-requires-clause-members : goal.find-found-requires-clause-members
 find-found-requires-clause-members g c j h =
     let head_is = c.figure_at-head.ensures.is ∙ ap (num c.args.hash.now) c.bucket_at-key.ensures in
     rw c.requires.lengths.4
-    (c.requires.ready.members j (subst (λ k. has (bucket c.args.next.now k) j ≡ true) head_is h)).renewed
+    (c.requires.ready.members j (subst (λ k. has (bucket (nexts c.args.sides.now) k) j ≡ true) head_is h)).renewed
 
 pub find-found-requires-clause-apart : goal.find-found-requires-clause-apart
 find-found-requires-clause-apart g c j h =
     let head_is = c.figure_at-head.ensures.is ∙ ap (num c.args.hash.now) c.bucket_at-key.ensures in
-    (c.requires.ready.members j (subst (λ k. has (bucket c.args.next.now k) j ≡ true) head_is h)).apart
+    (c.requires.ready.members j (subst (λ k. has (bucket (nexts c.args.sides.now) k) j ≡ true) head_is h)).apart
 
 pub find-found-requires-clause-keys : goal.find-found-requires-clause-keys
 find-found-requires-clause-keys g c j h alike =
     let head_is = c.figure_at-head.ensures.is ∙ ap (num c.args.hash.now) c.bucket_at-key.ensures in
-    c.requires.ready.keys j (subst (λ k. has (bucket c.args.next.now k) j ≡ true) head_is h) alike
+    c.requires.ready.keys j (subst (λ k. has (bucket (nexts c.args.sides.now) k) j ≡ true) head_is h) alike
 
 pub merge-requires-clause-other : goal.merge-requires-clause-other
 merge-requires-clause-other g c = elim c.find-found.ensures.found [
   | inl h ↦
       let head_is = c.figure_at-head.ensures.is ∙ ap (num c.args.hash.now) c.bucket_at-key.ensures in
       (c.requires.ready.members c.find-found.result
-      (subst (λ k. has (bucket c.args.next.now k) c.find-found.result ≡ true) head_is h.1)).other
-  | inr h ↦ let l = c.if-found-next.true in let e = h.0 in absurd (omega (arith, l, e))
+      (subst (λ k. has (bucket (nexts c.args.sides.now) k) c.find-found.result ≡ true) head_is h.1)).other
+  | inr h ↦ let l = c.if-found-row_count.true in let e = h.0 in absurd (omega (arith, l, e))
 ]
 
 pub merge-requires-clause-marked : goal.merge-requires-clause-marked
@@ -117,9 +120,9 @@ merge-requires-clause-marked g c = elim c.find-found.ensures.found [
       let head_is = c.figure_at-head.ensures.is ∙ ap (num c.args.hash.now) c.bucket_at-key.ensures in (
         c.requires.ready.marked,
         (c.requires.ready.members c.find-found.result
-            (subst (λ k. has (bucket c.args.next.now k) c.find-found.result ≡ true) head_is h.1)).marked,
+            (subst (λ k. has (bucket (nexts c.args.sides.now) k) c.find-found.result ≡ true) head_is h.1)).marked,
       )
-  | inr h ↦ let l = c.if-found-next.true in let e = h.0 in absurd (omega (arith, l, e))
+  | inr h ↦ let l = c.if-found-row_count.true in let e = h.0 in absurd (omega (arith, l, e))
 ]
 
 pub merge-requires-clause-small : goal.merge-requires-clause-small
@@ -127,15 +130,23 @@ merge-requires-clause-small g c = elim c.find-found.ensures.found [
   | inl h ↦
       let head_is = c.figure_at-head.ensures.is ∙ ap (num c.args.hash.now) c.bucket_at-key.ensures in
       let m = (c.requires.ready.members c.find-found.result
-      (subst (λ k. has (bucket c.args.next.now k) c.find-found.result ≡ true) head_is h.1)).small in
+      (subst (λ k. has (bucket (nexts c.args.sides.now) k) c.find-found.result ≡ true) head_is h.1)).small in
       let n = c.requires.short.1 in omega (arith, m, n)
-  | inr h ↦ let l = c.if-found-next.true in let e = h.0 in absurd (omega (arith, l, e))
+  | inr h ↦ let l = c.if-found-row_count.true in let e = h.0 in absurd (omega (arith, l, e))
 ]
 
 pub returns-clause-lengths : goal.returns-clause-lengths
 returns-clause-lengths g c =
-    let a = c.if-found-next.auto in let l = c.requires.lengths in
-    (a.pe ∙ l.0, a.e_len ∙ l.1, a.nv ∙ l.2, l.3, c.find-found.ensures.long ∙ l.4, a.hash ∙ l.5, a.next ∙ l.6, l.7)
+    let a = c.if-found-row_count.auto in let l = c.requires.lengths in (
+      a.pe ∙ l.0,
+      a.e_len ∙ l.1,
+      a.nv ∙ l.2,
+      l.3,
+      c.find-found.ensures.long ∙ l.4,
+      a.hash ∙ l.5,
+      nexts_same _ _ a.sides ∙ l.6,
+      lasts_same _ _ a.sides ∙ l.7,
+    )
 
 pub returns-clause-under : goal.returns-clause-under
 returns-clause-under g c x = elim c.find-found.ensures.marked [
@@ -156,29 +167,29 @@ returns-clause-zeros g c x = elim c.find-found.ensures.marked [
       (c.requires.ready.standing x) (c.requires.under x)
 ]
 
-pub returns-then-head-next-clause-lengths : goal.returns-then-head-next-clause-lengths
-returns-then-head-next-clause-lengths g c = let l = c.requires.lengths in
-    (l.0, l.1, l.2, l.3, l.4, c.push.auto.hash ∙ l.5, c.push.auto.next, l.7)
+pub returns-then-head-row_count-clause-lengths : goal.returns-then-head-row_count-clause-lengths
+returns-then-head-row_count-clause-lengths g c = let l = c.requires.lengths in
+    (l.0, l.1, l.2, l.3, l.4, c.push.auto.hash ∙ l.5, nexts_same _ _ c.push.auto.sides, lasts_same _ _ c.push.auto.sides ∙ l.7)
 
-pub returns-then-head-next-clause-flag : goal.returns-then-head-next-clause-flag
-returns-then-head-next-clause-flag g c = (le_refl c.args.flag, le-add_right c.args.flag 1)
+pub returns-then-head-row_count-clause-flag : goal.returns-then-head-row_count-clause-flag
+returns-then-head-row_count-clause-flag g c = (le_refl c.args.flag, le-add_right c.args.flag 1)
 
-pub returns-then-head-next-clause-under : goal.returns-then-head-next-clause-under
-returns-then-head-next-clause-under g c = c.requires.under
+pub returns-then-head-row_count-clause-under : goal.returns-then-head-row_count-clause-under
+returns-then-head-row_count-clause-under g c = c.requires.under
 
-pub returns-then-head-next-clause-zeros : goal.returns-then-head-next-clause-zeros
-returns-then-head-next-clause-zeros g c x = refl
+pub returns-then-head-row_count-clause-zeros : goal.returns-then-head-row_count-clause-zeros
+returns-then-head-row_count-clause-zeros g c x = refl
 
 pub returns-clause-flag : goal.returns-clause-flag
 returns-clause-flag g c = (le-add_right c.args.flag 1, le_refl (c.args.flag + 1))
 
 pub returns-clause-settles : goal.returns-clause-settles
 returns-clause-settles g c =
-    let next = c.args.next.now in let key_is = c.bucket_at-key.ensures in
-    let head_is : c.figure_at-head.result ≡ num c.args.hash.now (bucket_of c.args.count c.args.last.now c.args.i)
+    let next = (nexts c.args.sides.now) in let key_is = c.bucket_at-key.ensures in
+    let head_is : c.figure_at-head.result ≡ num c.args.hash.now (bucket_of c.args.count (lasts c.args.sides.now) c.args.i)
     = c.figure_at-head.ensures.is ∙ ap (num c.args.hash.now) key_is in
-    elim c.if-found-next.branch [
-      | then-found-next w ↦ elim c.find-found.ensures.found [
+    elim c.if-found-row_count.branch [
+      | then-found-row_count w ↦ elim c.find-found.ensures.found [
         | inl h ↦ inl (
           c.find-found.result,
           subst (λ k. has (bucket next k) c.find-found.result ≡ true) head_is h.1,
@@ -189,18 +200,19 @@ returns-clause-settles g c =
             sizes = λ x. ap (λ l. size_of l x) w.nv-is ∙ w.merge.ensures.sizes x;
             front = λ x. ap (λ l. in_front l x) w.nv-is ∙ w.merge.ensures.front x;
             heads = w.hash-is;
-            nexts = w.next-is;
+            nexts = ap nexts w.sides-is;
           },
         )
-        | inr h ↦ absurd (lt_irrefl _ (lt_of_lt_of_le w.if-found-next.true (le_of_eq (sym h.0))))
+        | inr h ↦ absurd (lt_irrefl _ (lt_of_lt_of_le w.if-found-row_count.true (le_of_eq (c.row_count-2.ensures ∙ sym h.0))))
       ]
-      | else-found-next w ↦ elim c.find-found.ensures.found [
-        | inl h ↦ absurd (lt_irrefl _ (lt_of_lt_of_le h.0 w.if-found-next.false))
+      | else-found-row_count w ↦ elim c.find-found.ensures.found [
+        | inl h ↦ absurd (lt_irrefl _ (lt_of_lt_of_le h.0 (le_trans (le_of_eq (sym c.row_count-2.ensures)) w.if-found-row_count.false)))
         | inr h ↦ inr (
           (λ x m. h.1 x (subst (λ k. has (bucket next k) x ≡ true) (sym head_is) m)),
           record {
-            heads = w.hash-is ∙ w.push-else-found-next.ensures.heads ∙ ap (λ k. set c.args.hash.now k c.args.i) key_is;
-            nexts = w.next-is ∙ w.push-else-found-next.ensures.links ∙ ap (λ k. set next c.args.i (num c.args.hash.now k)) key_is;
+            heads = w.hash-is ∙ w.push-else-found-row_count.ensures.heads ∙ ap (λ k. set c.args.hash.now k c.args.i) key_is;
+            nexts = ap nexts w.sides-is ∙ w.push-else-found-row_count.ensures.links
+                ∙ ap (λ k. set next c.args.i (num c.args.hash.now k)) key_is;
             links = w.pe-is;
             lists = w.e_len-is;
             sizes = w.nv-is;
@@ -211,3 +223,12 @@ returns-clause-settles g c =
 
 pub overflow_add-result : goal.overflow_add-result
 overflow_add-result g c = record { fits = lt_of_le_of_lt c.requires.room g.met.U.Unsigned.narrow }
+
+pub returns-then-head-row_count-clause-keys : goal.returns-then-head-row_count-clause-keys
+returns-then-head-row_count-clause-keys g c = c.push.ensures.keys
+
+pub returns-clause-keys : goal.returns-clause-keys
+returns-clause-keys g c = elim c.if-found-row_count.branch [
+  | then-found-row_count w ↦ ap lasts w.sides-is
+  | else-found-row_count w ↦ ap lasts w.sides-is ∙ w.push-else-found-row_count.ensures.keys
+]

@@ -2,6 +2,7 @@ use Rattle.std.proofs.Common.{ap, ◌∙◌, ◌+◌, ◌-◌, arith, cond, set}
 use Rattle.std.specs.Prelude.{min}
 use Rattle.amd_places.specs.Words.{num}
 use Rattle.std.specs.Prelude.{nat_lt}
+use Rattle.amd_cells.specs.Sides.{lasts}
 use Rattle.amd_places.specs.Merging.{bucket_of}
 use Rattle.amd_places.proofs.restoring.place_class.Goals as goal
 
@@ -13,17 +14,16 @@ leave-size-requires-clause-marked g c = c.requires.marked
 
 pub empty_bucket-requires-clause-class : goal.empty_bucket-requires-clause-class
 empty_bucket-requires-clause-class g c =
-    let r = c.requires.row in let l = c.requires.lengths.3 in let k = c.requires.class.key in let h = c.requires.lengths.4 in
-    (omega (arith, r, l), omega (arith, k, h))
+    let k = c.requires.class.key in let h = c.requires.lengths.3 in (c.requires.row, omega (arith, k, h))
 
 pub empty_bucket-requires-clause-short : goal.empty_bucket-requires-clause-short
-empty_bucket-requires-clause-short g c = let h = c.requires.lengths.4 in let s = c.requires.short.1 in omega (arith, h, s)
+empty_bucket-requires-clause-short g c = let h = c.requires.lengths.3 in let s = c.requires.short.1 in omega (arith, h, s)
 
 pub figure_at-requires : goal.figure_at-requires
 figure_at-requires g c = let r = c.requires.row in let n = c.requires.lengths.1 in omega (arith, r, n)
 
 pub put_head-requires-clause-lengths : goal.put_head-requires-clause-lengths
-put_head-requires-clause-lengths g c = let l = c.requires.lengths in (l.2, l.3, l.1)
+put_head-requires-clause-lengths g c = let l = c.requires.lengths in (l.2, l.1)
 
 pub put_head-requires-clause-short : goal.put_head-requires-clause-short
 put_head-requires-clause-short g c = c.requires.short.1
@@ -46,8 +46,9 @@ returns-clause-degrees g c = c.put_head.ensures.degrees
 
 pub returns-clause-emptied : goal.returns-clause-emptied
 returns-clause-emptied g c = c.empty_bucket.ensures
-    ∙ ap (λ m. cond (nat_lt 1 c.args.count) (set c.args.hash.now (bucket_of c.args.count c.args.last.now c.args.i) m) c.args.hash.now)
-    c.requires.lengths.4
+    ∙ ap (λ m. cond (nat_lt 1 c.args.count) (set c.args.hash.now (bucket_of c.args.count (lasts c.args.sides.now) c.args.i) m)
+    c.args.hash.now)
+    c.requires.lengths.3
 
 pub returns-clause-lasts : goal.returns-clause-lasts
 returns-clause-lasts g c = c.put_head.ensures.lasts

@@ -27,6 +27,7 @@ use Rattle.amd_places.proofs.FrontBack.{Emptying, emptying_none, emptying_skips,
 use Rattle.amd_places.proofs.FrontBack.{marked_none, marked_next, marked_skip}
 use Rattle.amd_places.proofs.FrontBack.{rows_other, rows_fresh, rows_small, put_none, put_more, put_gives, no_head}
 use Rattle.std.proofs.Common.{lt_of_le_of_lt, lt_of_lt_of_le, le_trans, lt_trans, le_of_eq, lit<, falls, add-sub_of_le}
+use Rattle.amd_cells.specs.Sides.{nexts, lasts}
 use Rattle.amd_places.proofs.WordCounts.{all_passed, next_place, none_passed, within_count}
 use Rattle.amd_places.proofs.restoring.restore.Goals as goal
 use Rattle.amd_places.proofs.restoring.restore.Goals.{then-is_marked, else-is_marked}
@@ -81,7 +82,7 @@ pub loop-p-init : goal.loop-p-init
 unfolding has
 loop-p-init g c =
     let iw : List ℤ = c.args.iw.now in let nv : List ℤ = c.args.nv.now in let from : ℕ = c.args.from in
-    let n : ℕ = length c.args.next.now in
+    let n : ℕ = length (nexts c.args.sides.now) in
     let e : from - from ≡ 0 = none_passed from in let none = marked_none nv iw from in record {
       lengths = c.requires.lengths;
       filters = subst (λ m. Filters n (in_front nv) (λ j. 0) 0 iw from m from iw from 0) (sym e)
@@ -92,8 +93,8 @@ loop-p-init g c =
         bounds = each_none iw from (num c.args.degree.now) _;
         least_is = sym (ap (fold (λ m i. min m (bound_in c.args.border c.args.left nv c.args.degree.now i)) c.args.least) none);
       };
-      lasts = λ x m f. refl;
-      empties = emptying_none n iw nv from c.args.count c.args.hash.now c.args.last.now;
+      lasts_kept = λ x m f. refl;
+      empties = emptying_none n iw nv from c.args.count c.args.hash.now (lasts c.args.sides.now);
       linked = λ lists out h. lists_same n _ _ _ _ lists _ (λ d l. put_none _ _ lists none d) h;
     }
 
@@ -126,12 +127,12 @@ place_class-bound-requires g c =
     let bound_same : num c.loop-p.degree i ≡ num degree i = was.restores.bounds i
     ∙ cond-false (has (rows iw from k) i) (cond (in_front nv i) (bound_in c.args.border c.args.left nv degree i) (num degree i))
     (num degree i) fresh in
-    let last_same : num c.loop-p.last i ≡ num c.args.last.now i = was.lasts i named fresh in
+    let last_same : num (lasts c.loop-p.sides) i ≡ num (lasts c.args.sides.now) i = was.lasts_kept i named fresh in
     let long = was.lengths in let next = long.3 in
     let here : in_front c.loop-p.nv i ≡ true = sym c.is_marked.ensures ∙ c.if-is_marked.true in
     let old = c.requires.classes i named (sym mark_same ∙ here) in let s = was.restores.sizes i in let order = c.requires.order in
     let short = c.requires.short in let n = sym next in record {
-      lengths = (long.0 ∙ n, long.1 ∙ n, long.2 ∙ n, long.4 ∙ n, long.5 ∙ n);
+      lengths = (long.0 ∙ n, long.1 ∙ n, long.2 ∙ n, long.5 ∙ n);
       short = (subst (λ q. q + 2 ≤ g.S.Signed.MOST) n short.1, le_trans (le_of_eq next) short.2);
       row = lt_of_le_of_lt (le_of_eq is) (lt_of_lt_of_le small (le_of_eq n));
       marked = here;
@@ -147,7 +148,7 @@ place_class-bound-requires g c =
 pub loop-p-preserved : goal.loop-p-preserved
 loop-p-preserved g c =
     let iw : List ℤ = c.args.iw.now in let nv : List ℤ = c.args.nv.now in let degree : List ℕ = c.args.degree.now in
-    let n : ℕ = length c.args.next.now in let from : ℕ = c.args.from in let p : ℕ = c.loop-p.p in let k : ℕ = p - from in
+    let n : ℕ = length (nexts c.args.sides.now) in let from : ℕ = c.args.from in let p : ℕ = c.loop-p.p in let k : ℕ = p - from in
     let after : from ≤ p = c.loop-p.auto.p in let t = c.loop-p-test.true in let at : p ≡ from + k = sym (add-sub_of_le after) in
     let l : k < c.args.count = within_count after t in let next : p + 1 - from ≡ k + 1 = next_place after in
     let was = c.loop-p.invariant in let h = was.filters in let word_k = c.requires.front.1 k l in
@@ -164,7 +165,7 @@ loop-p-preserved g c =
     ∙ ap (λ b. in_front nv i && not b) fresh ∙ and-true (in_front nv i) in
     let bound_same : num c.loop-p.degree i ≡ num degree i = was.restores.bounds i
     ∙ cond-false (has (rows iw from k) i) (cond (in_front nv i) (bound i) (num degree i)) (num degree i) fresh in
-    let last_same : num c.loop-p.last i ≡ num c.args.last.now i = was.lasts i named fresh in
+    let last_same : num (lasts c.loop-p.sides) i ≡ num (lasts c.args.sides.now) i = was.lasts_kept i named fresh in
     let size_same = was.restores.sizes in let long = was.lengths in
     let border : ℕ = c.args.border in let left : ℕ = c.args.left in let met : List ℕ = marked_in nv (rows iw from k) in
     let f : ℕ → ℕ → ℕ = λ m j. min m (bound j) in let order = c.requires.order in
@@ -185,18 +186,19 @@ loop-p-preserved g c =
             | inr u ↦ clash {P = ⊥} m (out d x s u)
           ]) in
           let hash_is : w.place_class-bound.new.hash
-          ≡ cond (nat_lt 1 c.args.count) (set c.loop-p.hash (bucket_of c.args.count c.args.last.now i) n) c.loop-p.hash = e.emptied
-          ∙ ap (λ m. cond (nat_lt 1 c.args.count) (set c.loop-p.hash m (length c.loop-p.next)) c.loop-p.hash)
-          (bucket_same c.args.count c.loop-p.last c.args.last.now i i last_same)
-          ∙ ap (λ m. cond (nat_lt 1 c.args.count) (set c.loop-p.hash (bucket_of c.args.count c.args.last.now i) m) c.loop-p.hash) long.3 in
+          ≡ cond (nat_lt 1 c.args.count) (set c.loop-p.hash (bucket_of c.args.count (lasts c.args.sides.now) i) n) c.loop-p.hash = e.emptied
+          ∙ ap (λ m. cond (nat_lt 1 c.args.count) (set c.loop-p.hash m (length (nexts c.loop-p.sides))) c.loop-p.hash)
+          (bucket_same c.args.count (lasts c.loop-p.sides) (lasts c.args.sides.now) i i last_same)
+          ∙ ap (λ m. cond (nat_lt 1 c.args.count) (set c.loop-p.hash (bucket_of c.args.count (lasts c.args.sides.now) i) m) c.loop-p.hash)
+          long.3 in
           let v = e.lengths in
           record {
             lengths = (
               ap length w.nv-is ∙ v.0 ∙ long.3,
               ap length w.degree-is ∙ v.1 ∙ long.3,
               ap length w.head-is ∙ v.2 ∙ long.3,
-              ap length w.next-is ∙ v.3 ∙ long.3,
-              ap length w.last-is ∙ v.4 ∙ long.3,
+              ap length (ap nexts w.sides-is) ∙ v.3 ∙ long.3,
+              ap length (ap lasts w.sides-is) ∙ v.4 ∙ long.3,
               ap length w.hash-is ∙ v.5 ∙ long.3,
             );
             filters = filters_as next (w.iw-is ∙ w.copy_word.ensures) w.end-is
@@ -218,26 +220,30 @@ loop-p-preserved g c =
               least_is = w.min-low.ensures ∙ ap (λ m. min m b) was.restores.least_is ∙ ap (min (fold f c.args.least met)) bound_is
                   ∙ sym (ap (fold f c.args.least) grown ∙ fold-append f c.args.least met (i ∷ []));
             };
-            lasts = λ x m g. let q = rows_fresh nv iw from k i is x (sym (ap (λ xs. has xs x) rows_next_is) ∙ g) in
+            lasts_kept = λ x m g. let q = rows_fresh nv iw from k i is x (sym (ap (λ xs. has xs x) rows_next_is) ∙ g) in
                 let given = c.requires.linked in
-                ap (λ l. num l x) w.last-is ∙ e.lasts x q.0 (no_head n c.loop-p.head c.loop-p.next c.loop-p.last c.loop-p.degree
+                ap (λ l. num l x) (ap lasts w.sides-is) ∙ e.lasts x q.0
+                (no_head n c.loop-p.head (nexts c.loop-p.sides) (lasts c.loop-p.sides) c.loop-p.degree
                 (put_all bound met given.0) b x
                 (was.linked given.0 given.2 given.1) tight (rows_small n iw from c.args.count c.requires.front.1 x m)
-                (out_met given.0 given.2 b x tight m q.1)) ∙ was.lasts x m q.1;
+                (out_met given.0 given.2 b x tight m q.1)) ∙ was.lasts_kept x m q.1;
             empties = emptying_as next (w.hash-is ∙ hash_is)
-                (emptying_clears n iw nv from c.args.count c.args.hash.now c.args.last.now c.requires.heads k i is
-                c.loop-p.hash was.empties (lt_of_le_of_lt (bucket_least c.args.count c.args.last.now i) old.key) long.5);
+                (emptying_clears n iw nv from c.args.count c.args.hash.now (lasts c.args.sides.now) c.requires.heads k i is
+                c.loop-p.hash was.empties (lt_of_le_of_lt (bucket_least c.args.count (lasts c.args.sides.now) i) old.key) long.5);
             linked = λ lists out g.
-                let before = subst (λ m. DegreeLists m c.loop-p.head c.loop-p.next c.loop-p.last c.loop-p.degree (put_all bound met lists))
+                let before = subst (λ m. DegreeLists m c.loop-p.head (nexts c.loop-p.sides) (lasts c.loop-p.sides) c.loop-p.degree
+                (put_all bound met lists))
                 (sym long.3) (was.linked lists out g) in
                 let put = e.linked (put_all bound met lists)
                 (λ d s. out_met lists out d i (lt_of_lt_of_le s (le_of_eq long.3)) named fresh) before in
-                linked_as (λ m. put_all bound (marked_in nv (rows iw from m)) lists) next w.head-is w.next-is w.last-is w.degree-is
+                linked_as (λ m. put_all bound (marked_in nv (rows iw from m)) lists) next w.head-is (ap nexts w.sides-is)
+                (ap lasts w.sides-is) w.degree-is
                 (lists_same n _ _ _ _ (λ d. cond (d == b) (i ∷ put_all bound met lists d) (put_all bound met lists d)) _
                 (λ d s. ap (λ m. cond (d == m) (i ∷ put_all bound met lists d) (put_all bound met lists d)) bound_is
                 ∙ put_more bound met i lists d
                 ∙ ap (λ xs. put_all bound xs lists d) (sym grown))
-                (subst (λ m. DegreeLists m w.place_class-bound.new.head w.place_class-bound.new.next w.place_class-bound.new.last
+                (subst (λ m. DegreeLists m w.place_class-bound.new.head (nexts w.place_class-bound.new.sides)
+                (lasts w.place_class-bound.new.sides)
                 w.place_class-bound.new.degree (λ d. cond (d == b) (i ∷ put_all bound met lists d)
                 (put_all bound met lists d))) long.3 put));
           }
@@ -250,8 +256,8 @@ loop-p-preserved g c =
               ap length w.nv-is ∙ long.0,
               ap length w.degree-is ∙ long.1,
               ap length w.head-is ∙ long.2,
-              ap length w.next-is ∙ long.3,
-              ap length w.last-is ∙ long.4,
+              ap length (ap nexts w.sides-is) ∙ long.3,
+              ap length (ap lasts w.sides-is) ∙ long.4,
               ap length w.hash-is ∙ long.5,
             );
             filters = filters_as next w.iw-is w.end-is (filters_no n (in_front nv) (λ j. 0) 0 iw from from h (ap (in_front nv) (sym is)
@@ -268,13 +274,15 @@ loop-p-preserved g c =
                   (λ q. q ∙ sym (cond-false (in_front nv i) (bound i) (num degree i) none)) (λ x ne. refl);
               least_is = was.restores.least_is ∙ sym (ap (fold f c.args.least) same_met);
             };
-            lasts = λ x m g. ap (λ l. num l x) w.last-is
-                ∙ was.lasts x m (rows_fresh nv iw from k i is x (sym (ap (λ xs. has xs x) rows_next_is) ∙ g)).1;
-            empties = emptying_as next w.hash-is (emptying_skips n iw nv from c.args.count c.args.hash.now c.args.last.now
+            lasts_kept = λ x m g. ap (λ l. num l x) (ap lasts w.sides-is)
+                ∙ was.lasts_kept x m (rows_fresh nv iw from k i is x (sym (ap (λ xs. has xs x) rows_next_is) ∙ g)).1;
+            empties = emptying_as next w.hash-is (emptying_skips n iw nv from c.args.count c.args.hash.now (lasts c.args.sides.now)
                 c.requires.heads k i is
                 c.loop-p.hash was.empties none);
-            linked = λ lists out g. linked_as (λ m. put_all bound (marked_in nv (rows iw from m)) lists) next w.head-is w.next-is
-                w.last-is w.degree-is (subst (λ xs. DegreeLists n c.loop-p.head c.loop-p.next c.loop-p.last c.loop-p.degree
+            linked = λ lists out g. linked_as (λ m. put_all bound (marked_in nv (rows iw from m)) lists) next w.head-is
+                (ap nexts w.sides-is)
+                (ap lasts w.sides-is) w.degree-is (subst (λ xs. DegreeLists n c.loop-p.head (nexts c.loop-p.sides) (lasts c.loop-p.sides)
+                c.loop-p.degree
                 (put_all bound xs lists))
                 (sym same_met) (was.linked lists out g));
           }
@@ -286,7 +294,8 @@ returns-clause-filters g c =
     let t = c.loop-p-test.false in let after : c.args.from ≤ c.loop-p.p = c.loop-p.auto.p in
     let past : c.loop-p.p ≤ c.args.from + c.args.count = c.loop-p.auto.p-end (le-add_right _ _) in
     let all : c.loop-p.p - c.args.from ≡ c.args.count = all_passed _ _ _ after past t in
-    subst (λ m. Filters (length c.args.next.now) (in_front c.args.nv.now) (λ j. 0) 0 c.args.iw.now c.args.from m c.args.from c.loop-p.iw
+    subst (λ m. Filters (length (nexts c.args.sides.now)) (in_front c.args.nv.now) (λ j. 0) 0 c.args.iw.now c.args.from m c.args.from
+    c.loop-p.iw
     c.loop-p.end 0) all c.loop-p.invariant.filters
 
 pub returns-clause-placed : goal.returns-clause-placed
@@ -302,8 +311,10 @@ returns-clause-empty g c =
     let t = c.loop-p-test.false in let after : c.args.from ≤ c.loop-p.p = c.loop-p.auto.p in
     let past : c.loop-p.p ≤ c.args.from + c.args.count = c.loop-p.auto.p-end (le-add_right _ _) in
     let all : c.loop-p.p - c.args.from ≡ c.args.count = all_passed _ _ _ after past t in
-    emptying_all (length c.args.next.now) c.args.iw.now c.args.nv.now c.args.from c.args.count c.args.hash.now c.args.last.now
-    c.requires.heads c.loop-p.hash (subst (λ m. Emptying (length c.args.next.now) c.args.iw.now c.args.from c.args.hash.now m c.loop-p.hash)
+    emptying_all (length (nexts c.args.sides.now)) c.args.iw.now c.args.nv.now c.args.from c.args.count c.args.hash.now
+    (lasts c.args.sides.now)
+    c.requires.heads c.loop-p.hash (subst (λ m. Emptying (length (nexts c.args.sides.now)) c.args.iw.now c.args.from c.args.hash.now m
+    c.loop-p.hash)
     all c.loop-p.invariant.empties)
 
 pub returns-clause-linked : goal.returns-clause-linked
@@ -311,7 +322,7 @@ returns-clause-linked g c lists out h =
     let t = c.loop-p-test.false in let after : c.args.from ≤ c.loop-p.p = c.loop-p.auto.p in
     let past : c.loop-p.p ≤ c.args.from + c.args.count = c.loop-p.auto.p-end (le-add_right _ _) in
     let all : c.loop-p.p - c.args.from ≡ c.args.count = all_passed _ _ _ after past t in
-    subst (λ m. DegreeLists (length c.args.next.now) c.loop-p.head c.loop-p.next c.loop-p.last c.loop-p.degree
+    subst (λ m. DegreeLists (length (nexts c.args.sides.now)) c.loop-p.head (nexts c.loop-p.sides) (lasts c.loop-p.sides) c.loop-p.degree
     (put_all (bound_in c.args.border c.args.left c.args.nv.now c.args.degree.now) (marked_in c.args.nv.now
     (rows c.args.iw.now c.args.from m)) lists))
     all (c.loop-p.invariant.linked lists out h)

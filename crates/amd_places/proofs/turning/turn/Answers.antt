@@ -9,6 +9,8 @@ use Rattle.amd_places.specs.Layout.{list_in, Layout}
 use Rattle.amd_places.specs.Fronts.{RenewsFront}
 use Rattle.amd_places.proofs.FrontTurns.{turn_listed, left_me, left_list, left_laid, left_renewable, left_met, others_linked}
 use Rattle.std.proofs.Common.{lt_of_lt_of_le, le_of_eq, le_trans}
+use Rattle.amd_cells.specs.Sides.{nexts, lasts}
+use Rattle.amd_cells.proofs.SideLists.{nexts_same, lasts_same}
 use Rattle.amd_places.proofs.turning.turn.Goals as goal
 
 pub count_outside-requires : goal.count_outside-requires
@@ -212,17 +214,17 @@ returns-clause-turns g c =
     let long = c.count_outside.ensures.long.0 in
     record {
       left = left;
-      links = c.count_outside.new.last;
+      links = (lasts c.count_outside.new.sides);
       counted = counted;
       ended = ended;
       renewed = subst (λ n. RenewsFront n me (is_kept c.count_outside.new.w) (is_outside c.args.nv.now)
           (λ e. num c.count_outside.new.w e - c.args.flag) (list_in iw pe len me) c.args.free iw left c.args.e_len.now c.args.nv.now len
-          c.args.degree.now c.count_outside.new.last c.renew_all.new.iw c.renew_all.new.pe c.renew_all.new.e_len c.renew_all.new.nv
-          c.renew_all.new.len c.renew_all.new.degree c.renew_all.new.last c.renew_all.result) long
+          c.args.degree.now (lasts c.count_outside.new.sides) c.renew_all.new.iw c.renew_all.new.pe c.renew_all.new.e_len c.renew_all.new.nv
+          c.renew_all.new.len c.renew_all.new.degree (lasts c.renew_all.new.sides) c.renew_all.result) long
           (subst (λ xs. RenewsFront (length c.count_outside.new.w) me (is_kept c.count_outside.new.w) (is_outside c.args.nv.now)
           (λ e. num c.count_outside.new.w e - c.args.flag) xs c.args.free iw left c.args.e_len.now c.args.nv.now len
-          c.args.degree.now c.count_outside.new.last c.renew_all.new.iw c.renew_all.new.pe c.renew_all.new.e_len c.renew_all.new.nv
-          c.renew_all.new.len c.renew_all.new.degree c.renew_all.new.last c.renew_all.result)
+          c.args.degree.now (lasts c.count_outside.new.sides) c.renew_all.new.iw c.renew_all.new.pe c.renew_all.new.e_len c.renew_all.new.nv
+          c.renew_all.new.len c.renew_all.new.degree (lasts c.renew_all.new.sides) c.renew_all.result)
           (left_list c.args.aggressive c.args.flag c.requires.laid c.requires.flag.0 c.requires.flag.1 c.requires.front left
           ended) c.renew_all.ensures.renews);
     }
@@ -246,20 +248,22 @@ returns-clause-linked g c lists member h =
     let same = left_list c.args.aggressive c.args.flag c.requires.laid c.requires.flag.0 c.requires.flag.1 c.requires.front left ended in
     let turned = subst (λ n. RenewsFront n me (is_kept c.count_outside.new.w) (is_outside c.args.nv.now)
     (λ e. num c.count_outside.new.w e - c.args.flag) (list_in iw left len me) c.args.free iw left c.args.e_len.now c.args.nv.now len
-    c.args.degree.now c.count_outside.new.last c.renew_all.new.iw c.renew_all.new.pe c.renew_all.new.e_len c.renew_all.new.nv
-    c.renew_all.new.len c.renew_all.new.degree c.renew_all.new.last c.renew_all.result) long c.renew_all.ensures.renews in
-    subst (λ xs. DegreeLists (length c.args.w.now) c.count_outside.new.head c.count_outside.new.next c.renew_all.new.last
+    c.args.degree.now (lasts c.count_outside.new.sides) c.renew_all.new.iw c.renew_all.new.pe c.renew_all.new.e_len c.renew_all.new.nv
+    c.renew_all.new.len c.renew_all.new.degree (lasts c.renew_all.new.sides) c.renew_all.result) long c.renew_all.ensures.renews in
+    rw c.renew_all.ensures.nexts
+    (subst (λ xs. DegreeLists (length c.args.w.now) c.count_outside.new.head (nexts c.count_outside.new.sides) (lasts c.renew_all.new.sides)
     c.renew_all.new.degree
     (λ d. filter (λ j. not (has xs j)) (lists d))) same
-    (others_linked c.count_outside.new.head c.count_outside.new.next lists turned
-    (subst (λ xs. DegreeLists (length c.args.w.now) c.count_outside.new.head c.count_outside.new.next c.count_outside.new.last
+    (others_linked c.count_outside.new.head (nexts c.count_outside.new.sides) lists turned
+    (subst (λ xs. DegreeLists (length c.args.w.now) c.count_outside.new.head (nexts c.count_outside.new.sides)
+    (lasts c.count_outside.new.sides)
     c.args.degree.now
-    (λ d. filter (λ j. not (has xs j)) (lists d))) (list ∙ sym same) out))
+    (λ d. filter (λ j. not (has xs j)) (lists d))) (list ∙ sym same) out)))
 
 pub returns-clause-more_lengths : goal.returns-clause-more_lengths
 returns-clause-more_lengths g c = (
   c.renew_all.auto.pe ∙ c.count_outside.auto.pe ∙ c.requires.lengths.0.0,
-  c.renew_all.auto.last ∙ c.count_outside.auto.last ∙ c.requires.more_lengths.2,
+  lasts_same _ _ c.renew_all.auto.sides ∙ lasts_same _ _ c.count_outside.auto.sides ∙ c.requires.more_lengths.2,
 )
 
 pub named-from-requires-clause-inside : goal.named-from-requires-clause-inside
@@ -278,7 +282,7 @@ renew_all-requires-clause-lengths g c =
 
 pub renew_all-requires-clause-more_lengths : goal.renew_all-requires-clause-more_lengths
 renew_all-requires-clause-more_lengths g c = let w = sym c.count_outside.ensures.long.0 in
-    (c.requires.lengths.0.3 ∙ w, c.count_outside.auto.last ∙ c.requires.more_lengths.2 ∙ w)
+    (c.requires.lengths.0.3 ∙ w, lasts_same _ _ c.count_outside.auto.sides ∙ c.requires.more_lengths.2 ∙ w)
 
 pub renew_all-requires-clause-short : goal.renew_all-requires-clause-short
 renew_all-requires-clause-short g c = c.requires.narrow.0
@@ -295,4 +299,8 @@ renew_all-requires-clause-me g c =
     (lt_of_lt_of_le c.requires.me.0 (le_of_eq (sym c.count_outside.ensures.long.0)), c.requires.me.1)
 
 pub returns-clause-lengths : goal.returns-clause-lengths
-returns-clause-lengths g c = (c.count_outside.ensures.long.0, c.count_outside.auto.head, c.count_outside.auto.next)
+returns-clause-lengths g c = (
+  c.count_outside.ensures.long.0,
+  c.count_outside.auto.head,
+  nexts_same _ _ (c.renew_all.auto.sides ∙ c.count_outside.auto.sides),
+)

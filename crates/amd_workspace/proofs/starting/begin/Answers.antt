@@ -4,6 +4,7 @@ use Rattle.std.proofs.Common.{negsuc, arith, length, reverse, set}
 use Rattle.std.specs.Prelude.{nat_lt, ◌==◌, not}
 use Rattle.std.specs.Option.{option_copied}
 use Rattle.std.proofs.lemmas.Bool.{cases_Bool, true≢false}
+use Rattle.amd_cells.specs.Sides.{nexts, lasts}
 use Rattle.amd_model.specs.Below.{count_below, sum_below}
 use Rattle.amd_model.specs.Input.Held.{is_marked}
 use Rattle.amd_model.proofs.Counting.Below.{count_most}
@@ -41,7 +42,8 @@ rows-init g c =
       }) (record { pe = a.0; e_len = a.1; nv = a.2; len = refl; degree = b.0; w = b.1 });
       rest = λ j l. record { pe = refl; e_len = refl; nv = refl; len = refl; degree = refl; w = refl };
       links = c.requires.links;
-      linked = linked_none n c.args.head.now c.args.next.now c.args.last.now c.args.degree.now held c.args.len.now c.requires.heads;
+      linked = linked_none n c.args.head.now (nexts c.args.sides.now) (lasts c.args.sides.now) c.args.degree.now held
+          c.args.len.now c.requires.heads;
       live = refl;
       dense = refl;
     }
@@ -51,7 +53,7 @@ place_row-requires-clause-row g c =
     let i : ℕ = c.rows.i in let here = c.rows-test.true in let links = c.rows.invariant.links in
     let count = c.figure_at-count.ensures.is ∙ (c.rows.invariant.rest i (omega arith)).len in
     let small = c.requires.degrees i here in
-    let long : length c.rows.next ≡ length c.args.len.now = links.1 in
+    let long : length (nexts c.rows.sides) ≡ length c.args.len.now = links.1 in
     (omega (arith, here, long), omega (arith, count, small, long))
 
 pub overflow_add-n_dense : goal.overflow_add-n_dense
@@ -128,9 +130,13 @@ rows-preserved g c =
           record {
             begins = equal_rows (i + 1) n held p (aside (held i) i q) r equal rows.0;
             rest = equal_rest (i + 1) p (aside (held i) i q) r equal rows.1;
-            links = (ap length w.head-is ∙ was.links.0, ap length w.next-is ∙ was.links.1, ap length w.last-is ∙ was.links.2);
-            linked = rw w.head-is (rw w.next-is (rw w.last-is (rw (w.degree-is ∙ wrote.bounds)
-                (linked_skip n i held len c.rows.head c.rows.next c.rows.last c.rows.degree was.linked none))));
+            links = (
+              ap length w.head-is ∙ was.links.0,
+              ap (λ s. length (nexts s)) w.sides-is ∙ was.links.1,
+              ap (λ s. length (lasts s)) w.sides-is ∙ was.links.2,
+            );
+            linked = rw w.head-is (rw w.sides-is (rw (w.degree-is ∙ wrote.bounds)
+                (linked_skip n i held len c.rows.head (nexts c.rows.sides) (lasts c.rows.sides) c.rows.degree was.linked none)));
             live = w.live-is ∙ count_no (is_class held len) i c.rows.live was.live none;
             dense = w.n_dense-is ∙ ap (λ m. c.rows.n_dense + m) added ∙ count_next held i c.rows.n_dense was.dense;
           })
@@ -150,21 +156,24 @@ rows-preserved g c =
             | inr f ↦ f
             | inl y ↦ absurd (true≢false (sym (ap (λ b. b || num len i == 0) y) ∙ sym value ∙ w.if-aside.false))
           ] in
-          let long : length c.rows.next ≡ n = was.links.1 in
+          let long : length (nexts c.rows.sides) ≡ n = was.links.1 in
           let new = w.place_row.new in
           record {
             begins = equal_rows (i + 1) n held p (placed i q) r equal rows.0;
             rest = equal_rest (i + 1) p (placed i q) r equal rows.1;
             links = (
               ap length w.head-is ∙ wrote.lengths.0 ∙ long,
-              ap length w.next-is ∙ wrote.lengths.1 ∙ long,
-              ap length w.last-is ∙ wrote.lengths.2 ∙ long,
+              ap (λ s. length (nexts s)) w.sides-is ∙ wrote.lengths.1 ∙ long,
+              ap (λ s. length (lasts s)) w.sides-is ∙ wrote.lengths.2 ∙ long,
             );
-            linked = rw w.head-is (rw w.next-is (rw w.last-is (rw w.degree-is
-                (subst (λ m. DegreeLists m new.head new.next new.last new.degree (λ b. reverse (classes_of held len (i + 1) b))) long
-                (linked_take (length c.rows.next) i held len c.rows.head c.rows.next c.rows.last c.rows.degree
-                (subst (λ m. DegreeLists m c.rows.head c.rows.next c.rows.last c.rows.degree (λ b. reverse (classes_of held len i b)))
-                (sym long) was.linked) new.head new.next new.last new.degree c.figure_at-count.result count one wrote.linked)))));
+            linked = rw w.head-is (rw w.sides-is (rw w.degree-is
+                (subst (λ m. DegreeLists m new.head (nexts new.sides) (lasts new.sides) new.degree
+                (λ b. reverse (classes_of held len (i + 1) b))) long
+                (linked_take (length (nexts c.rows.sides)) i held len c.rows.head (nexts c.rows.sides) (lasts c.rows.sides) c.rows.degree
+                (subst (λ m. DegreeLists m c.rows.head (nexts c.rows.sides) (lasts c.rows.sides) c.rows.degree
+                (λ b. reverse (classes_of held len i b)))
+                (sym long) was.linked) new.head (nexts new.sides) (lasts new.sides) new.degree c.figure_at-count.result count one
+                wrote.linked))));
             live = w.live-is ∙ count_yes (is_class held len) i c.rows.live was.live one;
             dense = w.n_dense-is ∙ count_no held i c.rows.n_dense was.dense free;
           })

@@ -1,5 +1,6 @@
 use Rattle.std.proofs.Common.{ℕ, Bool, ◌≡◌, ◌≤◌, length, reverse}
 use Rattle.std.specs.Option.{option_copied}
+use Rattle.amd_cells.specs.Sides.{nexts, lasts}
 use Rattle.amd_model.specs.Below.{count_below}
 use Rattle.amd_places.specs.Chains.{DegreeLists}
 use Rattle.amd_workspace.specs.Starting.{Rows, IsSame, BeginsRows, held_in, is_class, classes_of}
@@ -26,8 +27,8 @@ invariant-rows g l =
     } in record {
       begins : BeginsRows l.i n held p q;
       rest : (j : ℕ) → l.i ≤ j → IsSame j p q;
-      links : (length l.head ≡ n) × (length l.next ≡ n) × (length l.last ≡ n);
-      linked : DegreeLists n l.head l.next l.last l.degree (λ b. reverse (classes_of held l.fn.len l.i b));
+      links : (length l.head ≡ n) × (length (nexts l.sides) ≡ n) × (length (lasts l.sides) ≡ n);
+      linked : DegreeLists n l.head (nexts l.sides) (lasts l.sides) l.degree (λ b. reverse (classes_of held l.fn.len l.i b));
       live : l.live ≡ count_below l.i (is_class held l.fn.len);
       dense : l.n_dense ≡ count_below l.i held;
     }

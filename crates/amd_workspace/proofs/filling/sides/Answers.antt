@@ -1,0 +1,17 @@
+use Rattle.std.proofs.Common.{ℕ, ◌++◌, ◌∷◌, [], arith, ap, length, ◌∙◌}
+use Rattle.std.proofs.lemmas.List.{length-replicate, replicate_more}
+use Rattle.amd_workspace.proofs.filling.sides.Goals as goal
+
+pub push_reserved-requires : goal.push_reserved-requires
+push_reserved-requires g c =
+    let i = c.sides.invariant in let long = length-replicate {A = ℕ × ℕ} c.sides.counter (c.args.number, c.args.number) in
+    let same = ap length i.items in let room = i.room in let len = c.sides.list.ok.0 in
+    omega (arith, long, same, room, len)
+
+pub sides-preserved : goal.sides-preserved
+sides-preserved g c =
+    let i = c.sides.invariant in let e = c.push_reserved.ensures in record {
+      room = (let x = i.room in let y = e.capacity in omega (arith, x, y));
+      items = e.items ∙ ap (λ x. c.sides.list.items ++ x ∷ []) c.sides_of.ensures
+          ∙ ap (λ xs. xs ++ (c.args.number, c.args.number) ∷ []) i.items ∙ replicate_more c.sides.counter (c.args.number, c.args.number);
+    }
