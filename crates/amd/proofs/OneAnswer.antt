@@ -13,12 +13,12 @@ use Rattle.amd_model.specs.Input.Pattern.{graph_of, SamePattern}
 use Rattle.amd_model.specs.Input.Dense.{is_dense}
 use Rattle.amd_model.specs.Input.Held.{is_held_last}
 use Rattle.amd_model.proofs.Listings.OneOrdering.{one_ordering, figure_same, greatest_same}
-use Rattle.amd_numbers.specs.Permutations.{AreInverse}
-use Rattle.amd_numbers.specs.Statuses.{IsStatusOf}
-use Rattle.amd_numbers.specs.declared.amd.Info.{Info}
-use Rattle.amd_numbers.specs.declared.amd.Status.{Status}
-use Rattle.amd_numbers.specs.declared.amd.Status.TheVariants.{OK, Invalid, OkButJumbled, OutOfMemory}
-use Rattle.amd_plain.proofs.EnginesAgree.{inverse_one}
+use Rattle.amd_types.specs.Permutations.{AreInverse}
+use Rattle.amd_types.specs.Statuses.{IsStatusOf}
+use Rattle.amd_types.specs.declared.amd.Info.{Info}
+use Rattle.amd_types.specs.declared.amd.Status.{Status}
+use Rattle.amd_types.specs.declared.amd.Status.TheVariants.{OK, Invalid, OkButJumbled, OutOfMemory}
+use Rattle.amd_engine_law.proofs.EnginesAgree.{inverse_one}
 use Rattle.amd.specs.Answers.{OrdersMatrix, TellsFigures, IsOrdering, IsOrderingHolding, AreDense, AreOneAnswer, ordered_pairs}
 use Rattle.amd.proofs.SamePairs.{graph_same, pairs_same}
 use Rattle.amd.proofs.Orderings.{HoldTheSame, last_equal, dense_equal, wells_equal}

@@ -21,10 +21,10 @@ use Rattle.amd_model.specs.Listing.{ListsEachRow, IsPostorder}
 use Rattle.amd_model.proofs.Patterns.DegreeSums.{degrees_twice, pattern_graph}
 use Rattle.amd_model.proofs.Counting.Below.{count_same, sum_same}
 use Rattle.amd_model.specs.Input.Dense.{IsThreshold}
-use Rattle.amd_plain.proofs.EnginesAgree.{threshold_one}
-use Rattle.amd_plain.specs.Engine.{IsEngineAnswer, with_figures}
-use Rattle.amd_numbers.specs.declared.amd.Info.{Info}
-use Rattle.amd_numbers.specs.declared.amd.Status.{Status}
+use Rattle.amd_engine_law.proofs.EnginesAgree.{threshold_one}
+use Rattle.amd_engine_law.specs.Engine.{IsEngineAnswer, with_figures}
+use Rattle.amd_types.specs.declared.amd.Info.{Info}
+use Rattle.amd_types.specs.declared.amd.Status.{Status}
 use Rattle.amd.specs.Answers.{OrdersMatrix, TellsFigures, Reserves, FillsNothing, DenseStandLast, IsOrderingHolding, HaveEqualFigures}
 use Rattle.amd.specs.Answers.{ordered_pairs}
 use Rattle.amd_input.specs.Transposes.{IsCleanTranspose}

@@ -8,7 +8,7 @@ use Rattle.amd_model.specs.Graph.{edge_count}
 use Rattle.amd_model.specs.Input.Pattern.{holds_row, is_pair, graph_of, pair_count, diagonal_count, SamePattern, IsTranspose}
 use Rattle.amd_model.proofs.Counting.Below.{sum_same, count_same}
 use Rattle.amd_model.proofs.Counting.Pigeonhole.{sum_swap}
-use Rattle.amd_numbers.specs.declared.amd.Info.{Info}
+use Rattle.amd_types.specs.declared.amd.Info.{Info}
 use Rattle.amd_input.specs.PatternFigures.{HasPatternFigures}
 
 -- a pair names a row and a column below n

@@ -16,12 +16,12 @@ use Rattle.amd_model.specs.Quotient.{starting_list}
 use Rattle.amd_model.specs.Input.Pattern.{graph_of, is_pair}
 use Rattle.amd_model.specs.Input.Dense.{IsThreshold, is_dense}
 use Rattle.amd_model.specs.Input.Held.{HasMarks, is_held_last}
-use Rattle.amd_numbers.specs.Statuses.{IsStatusOf}
-use Rattle.amd_numbers.specs.Permutations.{AreInverse}
-use Rattle.amd_numbers.specs.Records.{fresh_info}
-use Rattle.amd_numbers.specs.declared.amd.Info.{Info}
-use Rattle.amd_numbers.specs.declared.amd.Status.{Status}
-use Rattle.amd_numbers.specs.declared.amd.Status.TheVariants.{OK, Invalid, OkButJumbled, OutOfMemory}
+use Rattle.amd_types.specs.Statuses.{IsStatusOf}
+use Rattle.amd_types.specs.Permutations.{AreInverse}
+use Rattle.amd_types.specs.Records.{fresh_info}
+use Rattle.amd_types.specs.declared.amd.Info.{Info}
+use Rattle.amd_types.specs.declared.amd.Status.{Status}
+use Rattle.amd_types.specs.declared.amd.Status.TheVariants.{OK, Invalid, OkButJumbled, OutOfMemory}
 use Rattle.amd_input.specs.PatternFigures.{HasPatternFigures}
 
 -- n_dense is the number of rows held last, and exactly these stand last in p, rising

@@ -3,7 +3,7 @@
 
 ghost use Rattle.std.specs.Prelude.{◌≡◌, ◌<◌, ℕ, ℤ, Bool, true, false, Option, Some, List, unsigned_abs};
 ghost use Rattle.std.specs.Prelude.{slice_index_or};
-ghost use Rattle.amd_numbers.specs.declared.amd.Info.{Info};
+ghost use Rattle.amd_types.specs.declared.amd.Info.{Info};
 ghost use Rattle.amd_model.specs.Input.Pattern.{SamePattern};
 ghost use Rattle.amd.specs.Answers.{AreOneAnswer, AreDense, IsOrdering, IsOrderingHolding, HaveEqualFigures};
 

@@ -12,7 +12,7 @@ ghost use Rattle.std.specs.Option.{SomeIff, option_copied};
 ghost use Rattle.amd_model.specs.Input.Columns.{IsInput, IsSortedInput};
 ghost use Rattle.amd_model.specs.Input.Held.{HasMarks};
 ghost use Rattle.amd_model.specs.Input.Pattern.{is_pair};
-ghost use Rattle.amd_numbers.specs.Statuses.{IsStatusOf};
+ghost use Rattle.amd_types.specs.Statuses.{IsStatusOf};
 ghost use Rattle.amd.specs.Answers.{IsOrdering, IsOrderingHolding, IsRefusal, IsRefusalHolding, OrdersMatrix};
 
 use amd_engine::amd_1::amd_1;
@@ -20,9 +20,9 @@ use amd_input::aat::aat;
 use amd_input::preprocess::preprocess;
 use amd_input::valid::valid;
 pub use amd_input::{aat, preprocess, valid};
-pub use amd_numbers::amd::{Control, Info, Status};
-use amd_numbers::internal::{known_count, to_count};
 pub use amd_texts::{control, info};
+pub use amd_types::amd::{Control, Info, Status};
+use amd_types::internal::{known_count, to_count};
 use num_traits::PrimInt;
 use std::alloc::Allocator;
 

@@ -2,10 +2,10 @@
 use Rattle.std.proofs.Common.{ℤ, List, zero, suc, pos, negsuc, ◌≡◌, map, Bool, refl, sym, ◌∙◌, ap, subst, to_z, of_z, w32}
 use Rattle.std.specs.Prelude.{Option}
 use Rattle.std.proofs.lemmas.List.{map-id}
-use Rattle.amd_numbers.specs.Statuses.{IsStatusOf}
-use Rattle.amd_numbers.specs.declared.amd.Info.{Info}
-use Rattle.amd_numbers.specs.declared.amd.Status.{Status}
-use Rattle.amd_numbers.specs.declared.amd.Status.TheVariants.{OK, Invalid, OkButJumbled, OutOfMemory}
+use Rattle.amd_types.specs.Statuses.{IsStatusOf}
+use Rattle.amd_types.specs.declared.amd.Info.{Info}
+use Rattle.amd_types.specs.declared.amd.Status.{Status}
+use Rattle.amd_types.specs.declared.amd.Status.TheVariants.{OK, Invalid, OkButJumbled, OutOfMemory}
 use Rattle.amd.specs.Answers.{IsOrderingHolding}
 use Rattle.amd_c.specs.declared.records.Parameters.{Parameters}
 use Rattle.amd_c.specs.declared.records.Statistics.{Statistics}

@@ -1,9 +1,9 @@
 -- What the calls leave in a caller's arrays and record, and which number they answer.
 use Rattle.std.specs.Prelude.{◌≡◌, ℤ, pos, Bool, Option, List, length}
-use Rattle.amd_numbers.specs.Statuses.{IsStatusOf}
-use Rattle.amd_numbers.specs.declared.amd.Info.{Info}
-use Rattle.amd_numbers.specs.declared.amd.Status.{Status}
-use Rattle.amd_numbers.specs.declared.amd.Status.TheVariants.{OK, Invalid, OkButJumbled, OutOfMemory}
+use Rattle.amd_types.specs.Statuses.{IsStatusOf}
+use Rattle.amd_types.specs.declared.amd.Info.{Info}
+use Rattle.amd_types.specs.declared.amd.Status.{Status}
+use Rattle.amd_types.specs.declared.amd.Status.TheVariants.{OK, Invalid, OkButJumbled, OutOfMemory}
 use Rattle.amd.specs.Answers.{IsOrderingHolding, IsRefusalHolding}
 use Rattle.amd_c.specs.declared.records.Parameters.{Parameters}
 use Rattle.amd_c.specs.declared.records.Statistics.{Statistics}

@@ -1,8 +1,8 @@
 -- The numbers of the statuses, and the statistics of a record.
 use Rattle.std.specs.Prelude.{ℤ, pos, negsuc}
-use Rattle.amd_numbers.specs.declared.amd.Info.{Info}
-use Rattle.amd_numbers.specs.declared.amd.Status.{Status}
-use Rattle.amd_numbers.specs.declared.amd.Status.TheVariants.{OK, Invalid, OkButJumbled, OutOfMemory}
+use Rattle.amd_types.specs.declared.amd.Info.{Info}
+use Rattle.amd_types.specs.declared.amd.Status.{Status}
+use Rattle.amd_types.specs.declared.amd.Status.TheVariants.{OK, Invalid, OkButJumbled, OutOfMemory}
 use Rattle.amd_c.specs.declared.records.Statistics.{Statistics}
 
 -- the number of a status: 0, 1, -1, -2

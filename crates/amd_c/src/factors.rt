@@ -5,8 +5,8 @@ ghost use Rattle.std.specs.Prelude.{◌≡◌, ◌↔◌, IfErr, IfOk, IsTrue, m
 ghost use Rattle.num_traits.specs.Laws.{Checks};
 ghost use Rattle.amd_c.specs.Columns.{HasColumnPlaces, LeavesColumns, arrays, number_of_end, parent_number};
 
-use amd_numbers::internal::{from_count, to_count};
 use amd_symbolic::{Fault, columns};
+use amd_types::internal::{from_count, to_count};
 use num_traits::PrimInt;
 use std::alloc::Global;
 

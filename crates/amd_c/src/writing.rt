@@ -8,7 +8,7 @@ ghost use Rattle.amd_c.specs.Calls.{HasPlaces, Leaves, memory};
 
 use crate::records::{Parameters, Statistics, statistics_of};
 use amd::{Control, Info, Status, order, order_holding};
-use amd_numbers::internal::to_count;
+use amd_types::internal::to_count;
 use num_traits::PrimInt;
 use std::alloc::Global;
 

@@ -1,7 +1,7 @@
 -- The texts on a factor.
 use Rattle.std.specs.Prelude.{ℕ, zero, suc, ◌+◌, List, [], ◌++◌, Option, Some, None, codes, decimal, slice_index}
 use Rattle.std.specs.Prelude.{slice_index_or}
-use Rattle.amd_numbers.specs.declared.amd.Info.{Info}
+use Rattle.amd_types.specs.declared.amd.Info.{Info}
 use Rattle.amd_texts.specs.Texts.{labelled}
 use Rattle.amd_symbolic.specs.Laws.{size_of}
 use Rattle.amd_symbolic.specs.declared.needs.Need.{Need}

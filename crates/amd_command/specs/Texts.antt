@@ -1,8 +1,8 @@
 -- The texts that the command writes.
 use Rattle.std.specs.Prelude.{◌+◌, ℕ, List, [], ◌∷◌, ◌++◌, codes, decimal}
-use Rattle.amd_numbers.specs.declared.amd.Info.{Info}
-use Rattle.amd_numbers.specs.declared.amd.Status.{Status}
-use Rattle.amd_numbers.specs.declared.amd.Status.TheVariants.{OK, Invalid, OkButJumbled, OutOfMemory}
+use Rattle.amd_types.specs.declared.amd.Info.{Info}
+use Rattle.amd_types.specs.declared.amd.Status.{Status}
+use Rattle.amd_types.specs.declared.amd.Status.TheVariants.{OK, Invalid, OkButJumbled, OutOfMemory}
 use Rattle.amd_texts.specs.Texts.{labelled}
 
 -- the number of each row in a line, from 1 on

@@ -1,7 +1,7 @@
 -- An ordering that was answered, under the names of the caller.
 use Rattle.std.proofs.Common.{◌≡◌, subst}
 use Rattle.std.specs.Prelude.{ℤ, pos, Bool, true, List}
-use Rattle.amd_numbers.specs.declared.amd.Info.{Info}
+use Rattle.amd_types.specs.declared.amd.Info.{Info}
 use Rattle.amd.specs.Answers.{IsOrdering}
 
 -- an ordering under what is the default, of a matrix and with permutations that may be named in two ways

@@ -7,7 +7,7 @@ use Rattle.std.specs.Io.KnownBytes.{Appends}
 use Rattle.std.proofs.lemmas.List.{nil_from_length}
 use Rattle.std.proofs.KnownBytes.{Appends-nil, Appends-trans}
 use Rattle.std.specs.Prelude.{codes}
-use Rattle.amd_numbers.specs.declared.amd.Info.{Info}
+use Rattle.amd_types.specs.declared.amd.Info.{Info}
 use Rattle.amd_demos.specs.Lines.{each, parted, failure_line, record_lines, permutation_lines}
 use Rattle.amd_demos.specs.Demos.{Grows, EndsInFailure, HasDemo, HasEnd, IsEnd, IsWanted, wanted_status}
 use Rattle.amd_demos.specs.declared.demo.Form.{Form}

@@ -4,7 +4,7 @@ use Rattle.std.proofs.Common.{take, append_assoc, append-nil}
 use Rattle.std.specs.Prelude.{Option, codes, decimal, slice_index, slice_index_or}
 use Rattle.std.specs.Io.KnownBytes.{Appends}
 use Rattle.std.proofs.KnownBytes.{Appends-trans}
-use Rattle.amd_numbers.specs.declared.amd.Info.{Info}
+use Rattle.amd_types.specs.declared.amd.Info.{Info}
 use Rattle.amd_symbolic.specs.Factors.{IsFactorOf}
 use Rattle.amd_symbolic.specs.Needs.{TellSizes}
 use Rattle.amd_symbolic.proofs.Sizes.{one-more, size-is, sizes-held}

@@ -1,9 +1,9 @@
 -- What the demos write.
 use Rattle.std.specs.Prelude.{◌≡◌, ℕ, ℤ, pos, true, List, [], ◌++◌, codes, Option}
 use Rattle.std.specs.Io.KnownBytes.{Appends}
-use Rattle.amd_numbers.specs.declared.amd.Info.{Info}
-use Rattle.amd_numbers.specs.declared.amd.Status.{Status}
-use Rattle.amd_numbers.specs.declared.amd.Status.TheVariants.{OK, OkButJumbled}
+use Rattle.amd_types.specs.declared.amd.Info.{Info}
+use Rattle.amd_types.specs.declared.amd.Status.{Status}
+use Rattle.amd_types.specs.declared.amd.Status.TheVariants.{OK, OkButJumbled}
 use Rattle.amd.specs.Answers.{IsOrdering}
 use Rattle.amd_texts.specs.Texts.{info_text}
 use Rattle.amd_demos.specs.Exact.{TellsExact}

@@ -11,7 +11,7 @@ use Rattle.amd_model.specs.Listing.{ListsEachRow}
 use Rattle.amd_model.proofs.Counting.Below.{count_same, count_none}
 use Rattle.amd_model.proofs.Counting.Pigeonhole.{count_all, permutation_below, permutation_once}
 use Rattle.amd_edges.proofs.Arcs.{count_more}
-use Rattle.amd_numbers.specs.Counts.{counts}
+use Rattle.amd_types.specs.Counts.{counts}
 use Rattle.amd_factor.specs.Earlier.{Permutes}
 use Rattle.amd_earlier.specs.Places.{ArePlaces}
 

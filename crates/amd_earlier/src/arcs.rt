@@ -3,11 +3,11 @@
 
 ghost use Rattle.std.specs.Prelude.{◌<◌, ◌+◌, ◌∷◌, [], ℕ, List, pos, map, length, slice_index};
 ghost use Rattle.amd_model.specs.Input.Columns.{IsColumnForm};
-ghost use Rattle.amd_numbers.specs.Counts.{counts};
+ghost use Rattle.amd_types.specs.Counts.{counts};
 ghost use Rattle.amd_earlier.specs.Arcs.{IsNext, arcs_before};
 ghost use Rattle.amd_earlier.specs.Places.{ArePlaces};
 
-use amd_numbers::internal::count_at;
+use amd_types::internal::count_at;
 use num_traits::PrimInt;
 
 /// What takes the arcs of an order of `n` rows, one at a time. What holds of it speaks of `n`, of all arcs that it is

@@ -3,10 +3,10 @@
 
 ghost use Rattle.std.specs.Prelude.{◌≡◌, ℕ, List, map, IfOk, MatchOption};
 ghost use Rattle.amd_factor.specs.Earlier.{Permutes};
-ghost use Rattle.amd_numbers.specs.Counts.{counts};
+ghost use Rattle.amd_types.specs.Counts.{counts};
 ghost use Rattle.amd_earlier.specs.Places.{ArePlaces};
 
-use amd_numbers::internal::{to_count, value_at};
+use amd_types::internal::{to_count, value_at};
 use num_traits::PrimInt;
 use std::alloc::{AllocError, Allocator};
 

@@ -16,7 +16,7 @@ use Rattle.amd_model.specs.Input.Columns.{at, IsRow, IsColumnForm, IsSorted}
 use Rattle.amd_model.specs.Input.Pattern.{holds_row, is_pair, graph_of, diagonal_count}
 use Rattle.amd_model.proofs.Counting.Below.{any_from, any_gives, count_same}
 use Rattle.amd_model.proofs.Patterns.Pointers.{pointer_in, small_fits}
-use Rattle.amd_numbers.specs.Counts.{counts, is_entry, is_edge, count_graph}
+use Rattle.amd_types.specs.Counts.{counts, is_entry, is_edge, count_graph}
 use Rattle.amd_edges.proofs.Places.{funext2, entry_from, entry_gives}
 
 -- a column form over counts in which any two rows of a column rise

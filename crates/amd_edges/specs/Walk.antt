@@ -5,7 +5,7 @@ use Rattle.std.specs.Prelude.{slice_index}
 use Rattle.amd_model.specs.Below.{list_below}
 use Rattle.amd_model.specs.Graph.{Graph}
 use Rattle.amd_model.specs.Quotient.{met_at}
-use Rattle.amd_numbers.specs.Counts.{counts, count_graph, is_before, is_entry}
+use Rattle.amd_types.specs.Counts.{counts, count_graph, is_before, is_entry}
 
 -- the upper entry (a, b) was read: it stands in a column before k, or in column k above row m
 unfoldable pub is_read : ℕ → ℕ → ℕ → ℕ → Bool

@@ -14,7 +14,7 @@ ghost use Rattle.amd_model.specs.Quotient.{met_below, met_edges};
 ghost use Rattle.amd_edges.specs.Visits.{IsNew, IsNewEdge, arcs_of, with_arc, with_edge};
 ghost use Rattle.amd_edges.specs.Walk.{IsScanOf, edges_before, entry_read, graph_read, met_read};
 
-use amd_numbers::internal::count_at;
+use amd_types::internal::count_at;
 use num_traits::PrimInt;
 use std::alloc::Allocator;
 

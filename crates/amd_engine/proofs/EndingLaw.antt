@@ -16,18 +16,18 @@ use Rattle.amd_model.specs.Input.Pattern.{graph_of, is_pair}
 use Rattle.amd_model.proofs.Patterns.DegreeSums.{pattern_graph}
 use Rattle.amd_model.proofs.Patterns.StartingLists.{starting_lists}
 use Rattle.amd_model.proofs.States.EndState.{IsEnd, at_the_end}
-use Rattle.amd_numbers.specs.Permutations.{AreInverse}
-use Rattle.amd_numbers.specs.declared.amd.Info.{Info}
-use Rattle.amd_numbers.specs.declared.figures.Figures.{Figures}
+use Rattle.amd_types.specs.Permutations.{AreInverse}
+use Rattle.amd_types.specs.declared.amd.Info.{Info}
+use Rattle.amd_types.specs.declared.figures.Figures.{Figures}
 use Rattle.amd_edges.specs.Visits.{AreCounts}
-use Rattle.amd_places.specs.Layout.{list_in}
-use Rattle.amd_places.specs.Words.{num}
+use Rattle.amd_lists.specs.Layout.{list_in}
+use Rattle.amd_words.specs.Words.{num}
 use Rattle.amd_listing.specs.Ended.{IsEnded, HasEnded, ListsEnded}
 use Rattle.amd_workspace.specs.Ending.{EndsRows}
 use Rattle.amd_workspace.specs.Laying.{IsLaidOut}
-use Rattle.amd_plain.specs.Engine.{TellsElements}
+use Rattle.amd_engine_law.specs.Engine.{TellsElements}
 use Rattle.amd_engine.specs.InPlace.{AnswersInPlace, EndsRounds, LaysGraph, RunsInPlace}
-use Rattle.amd_plain.proofs.EngineLaw.{told_by, run, answer_of}
+use Rattle.amd_engine_law.proofs.EngineLaw.{told_by, run, answer_of}
 use Rattle.amd_workspace.proofs.Ended.{ended}
 
 -- ---- one graph

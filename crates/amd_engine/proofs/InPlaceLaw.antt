@@ -10,18 +10,18 @@ use Rattle.amd_model.specs.Input.Dense.{is_dense}
 use Rattle.amd_model.specs.Input.Held.{is_marked, is_held_last}
 use Rattle.amd_model.specs.Ordering.{Follows}
 use Rattle.amd_model.proofs.States.RunsExist.{first_state, starts}
-use Rattle.amd_numbers.specs.declared.figures.Figures.{Figures}
-use Rattle.amd_places.specs.Words.{num}
-use Rattle.amd_places.specs.Chains.{DegreeLists}
-use Rattle.amd_inplace.specs.Workspaces.{Workspace}
-use Rattle.amd_inplace.specs.Laid.{IsSized, IsLaid}
-use Rattle.amd_inplace.specs.Keeps.{Stands}
+use Rattle.amd_types.specs.declared.figures.Figures.{Figures}
+use Rattle.amd_words.specs.Words.{num}
+use Rattle.amd_lists.specs.Chains.{DegreeLists}
+use Rattle.amd_rounds.specs.Workspaces.{Workspace}
+use Rattle.amd_rounds.specs.Laid.{IsSized, IsLaid}
+use Rattle.amd_rounds.specs.Keeps.{Stands}
 use Rattle.amd_workspace.specs.Laying.{IsLaidOut}
 use Rattle.amd_workspace.specs.Starting.{Rows, BeginsRows, held_in, is_class, classes_of}
 use Rattle.amd_workspace.proofs.Begun.{rows_of, begun_view, begun_laid}
 use Rattle.amd_workspace.proofs.AtStart.{stands_at_start}
 use Rattle.amd_engine.specs.InPlace.{EndsIn, EndsRounds, LaysGraph, first_sums}
-use Rattle.amd_plain.proofs.EngineLaw.{degree_small}
+use Rattle.amd_engine_law.proofs.EngineLaw.{degree_small}
 
 -- what the lists of a workspace say before its first round, beside its rows
 pub record IsFresh (n : ℕ) (held : ℕ → Bool) (degrees : List ℕ) (v : Workspace) : Type 0 where

@@ -5,16 +5,16 @@ use Rattle.amd_model.specs.State.{State}
 use Rattle.amd_model.specs.Run.{last_state}
 use Rattle.amd_model.specs.Figures.{front_sum, entries, ldl_steps, lu_steps, cut}
 use Rattle.amd_model.specs.Input.Held.{is_held_last}
-use Rattle.amd_numbers.specs.Permutations.{AreInverse}
-use Rattle.amd_numbers.specs.declared.amd.Info.{Info}
-use Rattle.amd_numbers.specs.declared.figures.Figures.{Figures}
-use Rattle.amd_places.specs.Words.{num}
-use Rattle.amd_places.specs.Layout.{list_in}
-use Rattle.amd_inplace.specs.Workspaces.{Workspace}
-use Rattle.amd_inplace.specs.Keeps.{Stands, AreRounds, NoRowIsLive}
+use Rattle.amd_types.specs.Permutations.{AreInverse}
+use Rattle.amd_types.specs.declared.amd.Info.{Info}
+use Rattle.amd_types.specs.declared.figures.Figures.{Figures}
+use Rattle.amd_words.specs.Words.{num}
+use Rattle.amd_lists.specs.Layout.{list_in}
+use Rattle.amd_rounds.specs.Workspaces.{Workspace}
+use Rattle.amd_rounds.specs.Keeps.{Stands, AreRounds, NoRowIsLive}
 use Rattle.amd_listing.specs.Ended.{HasEnded, ListsEnded}
 use Rattle.amd_workspace.specs.Ending.{EndsRows}
-use Rattle.amd_plain.specs.Engine.{AreNeighbours, IsAnswerOf, Reaches, TellsElements}
+use Rattle.amd_engine_law.specs.Engine.{AreNeighbours, IsAnswerOf, Reaches, TellsElements}
 
 -- the figures before the first round: the rows held last are a front
 abbrev pub first_sums : ℕ → Figures

@@ -8,11 +8,11 @@ ghost use Rattle.amd_model.specs.Input.Columns.{IsColumnForm, IsSorted};
 ghost use Rattle.amd_model.specs.Input.Held.{HasMarks};
 ghost use Rattle.amd_model.specs.Input.Pattern.{graph_of};
 ghost use Rattle.amd_edges.specs.Visits.{AreCounts, start_of};
-ghost use Rattle.amd_plain.specs.Engine.{IsEngineAnswer};
+ghost use Rattle.amd_engine_law.specs.Engine.{IsEngineAnswer};
 
 use crate::amd_2::amd_2_from;
-use amd_cells::{Signed, Unsigned, Word};
-use amd_numbers::amd::{Control, Info, Status};
+use amd_types::amd::{Control, Info, Status};
+use amd_words::{Signed, Unsigned, Word};
 use amd_workspace::laying::{Laid, lay};
 use num_traits::PrimInt;
 use std::alloc::{AllocError, Allocator};

@@ -12,9 +12,9 @@ ghost use Rattle.amd_engine.specs.InPlace.{AnswersInPlace, LaysGraph};
 use crate::ended::list_rows;
 use crate::fresh::fresh_lists;
 use crate::running::{Told, run_fresh};
-use amd_cells::{Figure, Signed, Unsigned, Word};
-use amd_numbers::amd::{Control, Info, Status};
-use amd_numbers::dense::dense_threshold;
+use amd_types::amd::{Control, Info, Status};
+use amd_types::dense::dense_threshold;
+use amd_words::{Cell, Signed, Unsigned, Word};
 use num_traits::PrimInt;
 use std::alloc::Allocator;
 
@@ -50,7 +50,7 @@ pub fn amd_2_from<I: PrimInt, S: Signed, U: Unsigned, A: Allocator + Copy>(
     n: I,
     pe: &mut [Word<S>],
     iw: &mut [Word<S>],
-    len: &mut [Figure<U>],
+    len: &mut [Cell<U>],
     pfree: usize,
     control: &Control,
     hold: Option<&[bool]>,
@@ -106,7 +106,7 @@ pub fn amd_2<I: PrimInt, S: Signed, U: Unsigned, A: Allocator + Copy>(
     n: I,
     pe: &mut [Word<S>],
     iw: &mut [Word<S>],
-    len: &mut [Figure<U>],
+    len: &mut [Cell<U>],
     iwlen: usize,
     pfree: usize,
     control: &Control,

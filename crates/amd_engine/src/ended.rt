@@ -3,29 +3,26 @@
 
 ghost use Rattle.std.specs.Prelude.{◌≡◌, ◌<◌, ◌≤◌, ◌+◌, ℕ, pos, map, length};
 ghost use Rattle.std.specs.Vec.{vec_capacity};
-ghost use Rattle.amd_places.specs.Words.{num};
+ghost use Rattle.amd_words.specs.Words.{num};
 ghost use Rattle.amd_engine.specs.InPlace.{AreListed, AreOver};
 
 use crate::fresh::{Counts, Links};
-use amd_cells::{Figure, Signed, Unsigned, Word, figure_at};
 use amd_listing::listing::listing;
-use amd_numbers::internal::from_count;
+use amd_types::internal::from_count;
+use amd_words::{Cell, Signed, Unsigned, Word, cell_at};
 use amd_workspace::ending::end_rows;
 use num_traits::PrimInt;
 use std::alloc::Allocator;
 
 /// Writes figures as numbers of the caller's type, into memory that is there.
-fn push_numbers<I: PrimInt, U: Unsigned, A: Allocator>(
-    figures: &[Figure<U>],
-    numbers: &mut Vec<I, A>,
-)
+fn push_numbers<I: PrimInt, U: Unsigned, A: Allocator>(figures: &[Cell<U>], numbers: &mut Vec<I, A>)
     requires empty { length numbers.old.items ≡ 0 }
     requires room { length figures.now ≤ vec_capacity numbers.old }
     requires fits { (k : ℕ) → k < length figures.now → I.fits (pos (num figures.now k)) }
     ensures { map I.value numbers.new.items ≡ map pos figures.now }
 {
     'figures: for k in 0..figures.len() {
-        let Some(number) = from_count(figure_at(figures, k)) else {
+        let Some(number) = from_count(cell_at(figures, k)) else {
             unreachable!()
         };
         numbers.push_reserved(number);

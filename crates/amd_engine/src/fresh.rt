@@ -3,11 +3,11 @@
 
 ghost use Rattle.std.specs.Prelude.{◌≡◌, ◌≤◌, ℕ, pos, replicate, length, IfOk};
 ghost use Rattle.std.specs.Vec.{vec_capacity};
-ghost use Rattle.amd_cells.specs.Sides.{nexts, lasts};
+ghost use Rattle.amd_words.specs.Sides.{nexts, lasts};
 ghost use Rattle.amd_engine.specs.InPlace.{AreFresh};
 
-use amd_cells::sides::Sides;
-use amd_cells::{Figure, Signed, Unsigned, Word};
+use amd_words::sides::Sides;
+use amd_words::{Cell, Signed, Unsigned, Word};
 use amd_workspace::filling::{figures, sides, words};
 use num_traits::PrimInt;
 use std::alloc::{AllocError, Allocator};
@@ -20,9 +20,9 @@ pub struct Counts<S: Signed, U: Unsigned, A: Allocator> {
     /// The number of elements of each class, and at the end the number of rows of each front.
     pub e_len: Vec<Word<S>, A>,
     /// The bound of each class.
-    pub degree: Vec<Figure<U>, A>,
+    pub degree: Vec<Cell<U>, A>,
     /// The counter of each row.
-    pub w: Vec<Figure<U>, A>,
+    pub w: Vec<Cell<U>, A>,
 }
 
 /// The lists by bound, and the buckets: three lists with a place for each row.
@@ -31,11 +31,11 @@ pub struct Counts<S: Signed, U: Unsigned, A: Allocator> {
 #[derive(Drop)]
 pub struct Links<U: Unsigned, A: Allocator> {
     /// The first class of each bound. At first there is none.
-    pub head: Vec<Figure<U>, A>,
+    pub head: Vec<Cell<U>, A>,
     /// The two sides of each class in its list: the class behind it and the one before it.
     pub sides: Vec<Sides<U>, A>,
     /// The first class of each bucket. At first there is none.
-    pub hash: Vec<Figure<U>, A>,
+    pub hash: Vec<Cell<U>, A>,
 }
 
 /// The numbers of each of `n` rows: four lists of `n` numbers.

@@ -10,6 +10,6 @@ pub mod ended;
 pub mod fresh;
 pub mod running;
 
-pub use amd_numbers::{amd, internal};
-pub use amd_plain::{laws, plain};
-pub use amd_trees::{post_tree, postorder};
+pub use amd_engine_law::laws;
+pub use amd_postorder::{post_tree, postorder};
+pub use amd_types::{amd, internal};

@@ -3,23 +3,23 @@
 
 ghost use Rattle.std.specs.Prelude.{◌≡◌, ◌≤◌, ◌+◌, ℕ, Bool, List, length};
 ghost use Rattle.std.specs.Option.{option_copied};
-ghost use Rattle.amd_cells.specs.Sides.{nexts, lasts};
+ghost use Rattle.amd_words.specs.Sides.{nexts, lasts};
 ghost use Rattle.amd_model.specs.Graph.{Graph};
 ghost use Rattle.amd_model.specs.Input.Held.{HasMarks};
 ghost use Rattle.amd_model.specs.State.{State};
 ghost use Rattle.amd_model.specs.Quotient.{QuotientGraph};
-ghost use Rattle.amd_inplace.specs.Keeps.{Stands};
+ghost use Rattle.amd_rounds.specs.Keeps.{Stands};
 ghost use Rattle.amd_workspace.specs.Laying.{IsLaidOut};
 ghost use Rattle.amd_engine.specs.InPlace.{AreEmpty, AreFresh, AreOver, EndsIn, LaysGraph, RunsInPlace};
 ghost use Rattle.amd_engine.specs.InPlace.{at_start, first_sums};
 
 use crate::fresh::{Counts, Links};
-use amd_cells::sides::Sides;
-use amd_cells::{Figure, Signed, Unsigned, Word};
-use amd_inplace::round::eliminate;
-use amd_inplace::work::Work;
-use amd_numbers::amd::Control;
-use amd_numbers::figures::Figures;
+use amd_rounds::round::eliminate;
+use amd_rounds::work::Work;
+use amd_types::amd::Control;
+use amd_types::figures::Figures;
+use amd_words::sides::Sides;
+use amd_words::{Cell, Signed, Unsigned, Word};
 use amd_workspace::starting::begin;
 use std::alloc::Allocator;
 
@@ -54,12 +54,12 @@ fn run_rounds<S: Signed, U: Unsigned>(
     pe: &mut [Word<S>],
     e_len: &mut [Word<S>],
     nv: &mut [Word<S>],
-    len: &mut [Figure<U>],
-    degree: &mut [Figure<U>],
-    w: &mut [Figure<U>],
-    head: &mut [Figure<U>],
+    len: &mut [Cell<U>],
+    degree: &mut [Cell<U>],
+    w: &mut [Cell<U>],
+    head: &mut [Cell<U>],
     sides: &mut [Sides<U>],
-    hash: &mut [Figure<U>],
+    hash: &mut [Cell<U>],
     free: usize,
     live: usize,
     flag: usize,
@@ -126,12 +126,12 @@ pub fn run<S: Signed, U: Unsigned>(
     pe: &mut [Word<S>],
     e_len: &mut [Word<S>],
     nv: &mut [Word<S>],
-    len: &mut [Figure<U>],
-    degree: &mut [Figure<U>],
-    w: &mut [Figure<U>],
-    head: &mut [Figure<U>],
+    len: &mut [Cell<U>],
+    degree: &mut [Cell<U>],
+    w: &mut [Cell<U>],
+    head: &mut [Cell<U>],
     sides: &mut [Sides<U>],
-    hash: &mut [Figure<U>],
+    hash: &mut [Cell<U>],
     free: usize,
     flag: usize,
     control: &Control,
@@ -170,7 +170,7 @@ pub fn run<S: Signed, U: Unsigned>(
 pub fn run_fresh<S: Signed, U: Unsigned, A: Allocator>(
     iw: &mut [Word<S>],
     pe: &mut [Word<S>],
-    len: &mut [Figure<U>],
+    len: &mut [Cell<U>],
     counts: &mut Counts<S, U, A>,
     links: &mut Links<U, A>,
     free: usize,

@@ -3,7 +3,7 @@ use Rattle.std.proofs.Common.{◌≡◌, ◌<◌, ◌⊎◌, inl, inr, ℕ, ℤ,
 use Rattle.std.specs.Prelude.{◌≤ℤ◌, nat_lt, int_lt, slice_index}
 use Rattle.std.proofs.lemmas.Bool.{and_parts, ltb-true}
 use Rattle.amd_model.specs.Input.Columns.{at}
-use Rattle.amd_trees.specs.Trees.{IsForest, is_element}
+use Rattle.amd_postorder.specs.Trees.{IsForest, is_element}
 
 -- an element has a size, and as parent an element of a higher rank or -1
 pub record IsPlaced (nn : ℕ) (parent nv f_size : List ℤ) (rank : List ℕ) (e : ℕ) : Type 0 where

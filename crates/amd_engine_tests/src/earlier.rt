@@ -4,10 +4,10 @@
 use amd_earlier::lists::{Lists, earlier_lists};
 use amd_earlier::places::places;
 use amd_input::valid::valid;
-use amd_numbers::amd::Status;
-use amd_numbers::internal::to_count;
 use amd_testing::check;
 use amd_testing::refusing::{Refusing, each_refused};
+use amd_types::amd::Status;
+use amd_types::internal::to_count;
 use std::alloc::{AllocError, Allocator, Global};
 use std::process::Abort;
 use std::test::Fail;

@@ -2,10 +2,10 @@
 // five rows.
 
 use crate::sorted::degrees_of;
-use amd_engine::plain::plain_1;
-use amd_numbers::amd::{Control, Info, Status};
+use amd_plain::plain::plain_1;
 use amd_testing::check;
 use amd_testing::refusing::{Refusing, each_refused};
+use amd_types::amd::{Control, Info, Status};
 use std::alloc::Global;
 use std::process::Abort;
 

@@ -2,10 +2,10 @@
 // and by an independent program.
 
 use amd_engine::internal::front_counts;
-use amd_numbers::amd::Info;
-use amd_numbers::figures::Figures;
 use amd_testing::check;
 use amd_testing::records::numbers_of;
+use amd_types::amd::Info;
+use amd_types::figures::Figures;
 
 /// A front, and its shares.
 #[derive(Drop)]

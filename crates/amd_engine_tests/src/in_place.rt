@@ -5,10 +5,10 @@
 use crate::sorted::{Sorted, first_flags, order_in_place, order_plainly};
 use amd_input::preprocess::preprocess;
 use amd_input::valid::valid;
-use amd_numbers::amd::{Control, Info, Status};
 use amd_testing::check;
 use amd_testing::inputs::{drawn, drawn_with_hub};
 use amd_testing::records::numbers_of;
+use amd_types::amd::{Control, Info, Status};
 use std::alloc::Global;
 use std::process::Abort;
 use std::test::Fail;

@@ -5,10 +5,10 @@
 use crate::in_place_matrices::{Case, MATRICES};
 use crate::in_place_rows::{control_of, is_answer, matrix_of};
 use crate::sorted::{order_in_place, unmarked};
-use amd_numbers::amd::{Control, Info, Status};
 use amd_testing::check;
 use amd_testing::inputs::path;
 use amd_testing::refusing::{Refusing, each_refused};
+use amd_types::amd::{Control, Info, Status};
 use std::alloc::Global;
 use std::process::Abort;
 use std::test::Fail;

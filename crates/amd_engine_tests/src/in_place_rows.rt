@@ -6,11 +6,11 @@
 use crate::in_place_matrices::{Case, MATRICES};
 use crate::laid::{are_words, order_laid};
 use crate::sorted::{Sorted, first_flags, order_exactly, order_in_place, order_plainly};
-use amd_cells::{Signed, Unsigned};
-use amd_numbers::amd::{Control, Info};
 use amd_testing::check;
 use amd_testing::inputs::complete;
 use amd_testing::plain::are_inverse;
+use amd_types::amd::{Control, Info};
+use amd_words::{Signed, Unsigned};
 use std::alloc::Global;
 use std::process::Abort;
 use std::test::Fail;

@@ -8,11 +8,11 @@ ghost use Rattle.amd_workspace.specs.Laying.{IsLaidOut};
 ghost use Rattle.amd_engine.specs.InPlace.{LaysGraph};
 
 use crate::sorted::{Sorted, check_marks, degrees_of};
-use amd_cells::{Figure, Signed, Unsigned, Word, figure_at, word_at};
 use amd_engine::amd_1::holds;
 use amd_engine::amd_2::amd_2;
-use amd_numbers::amd::{Control, Info};
-use amd_numbers::internal::flip;
+use amd_types::amd::{Control, Info};
+use amd_types::internal::flip;
+use amd_words::{Cell, Signed, Unsigned, Word, cell_at, word_at};
 use amd_workspace::laying::{Laid, lay};
 use std::alloc::Global;
 use std::process::Abort;
@@ -115,9 +115,9 @@ pub fn are_words<S: Signed>(words: &[Word<S>], wanted: &[isize]) -> bool {
 }
 
 /// Whether figures are these numbers.
-fn are_figures<U: Unsigned>(figures: &[Figure<U>], wanted: &[usize]) -> bool {
+fn are_figures<U: Unsigned>(figures: &[Cell<U>], wanted: &[usize]) -> bool {
     for (k, &number) in wanted.iter().enumerate() {
-        if k >= figures.len() || figure_at(figures, k) != number {
+        if k >= figures.len() || cell_at(figures, k) != number {
             return false;
         }
     }

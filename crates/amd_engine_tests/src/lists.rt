@@ -2,7 +2,7 @@
 
 use crate::sorted::degrees_of;
 use amd_edges::lists::starting_lists;
-use amd_numbers::amd::Info;
+use amd_types::amd::Info;
 use std::alloc::Global;
 use std::process::Abort;
 

@@ -3,8 +3,8 @@
 
 ghost use Rattle.std.specs.Prelude.{◌≤◌};
 
-use amd_cells::Unsigned;
-use amd_cells::sides::{Sides, last_at, next_at, put_last, put_next, row_count};
+use amd_words::Unsigned;
+use amd_words::sides::{Sides, last_at, next_at, put_last, put_next, row_count};
 use amd_workspace::filling::sides;
 use std::alloc::Global;
 use std::process::Abort;

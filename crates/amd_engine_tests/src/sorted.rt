@@ -10,10 +10,10 @@ ghost use Rattle.amd_model.specs.Input.Pattern.{graph_of};
 ghost use Rattle.amd_edges.specs.Visits.{AreCounts, start_of};
 
 use amd_engine::amd_1::{amd_1, amd_1_from};
-use amd_engine::plain::plain_1;
 use amd_input::aat::aat;
 use amd_input::valid::valid;
-use amd_numbers::amd::{Control, Info, Status};
+use amd_plain::plain::plain_1;
+use amd_types::amd::{Control, Info, Status};
 use num_traits::PrimInt;
 use std::alloc::{Allocator, Global};
 use std::process::Abort;

@@ -3,16 +3,16 @@
 
 ghost use Rattle.std.specs.Prelude.{◌≡◌, ◌≤ℤ◌, ◌<◌, ◌⊎◌, ℕ, IsTrue, true, length, pos, negsuc, slice_index};
 ghost use Rattle.amd_model.specs.Input.Columns.{at};
-ghost use Rattle.amd_trees.specs.Trees.{IsForest, is_element};
+ghost use Rattle.amd_postorder.specs.Trees.{IsForest, is_element};
 
-use amd_cells::{Figure, Signed, Unsigned, Word, word_of};
 use amd_engine::amd::Status;
 use amd_engine::internal::{EMPTY, link_at};
 use amd_engine::post_tree::post_tree;
 use amd_engine::postorder::{postorder, postorder_in};
+use amd_postorder::link::Link;
 use amd_testing::forests::{drawn_forest, listing_of};
 use amd_testing::refusing::{Refusing, each_refused};
-use amd_trees::link::Link;
+use amd_words::{Cell, Signed, Unsigned, Word, word_of};
 use amd_workspace::filling::figures;
 use std::alloc::{Allocator, Global};
 use std::process::Abort;
@@ -90,7 +90,7 @@ fn words_of<S: Signed>(rt: &impl Abort, alloc: Global, numbers: &[isize]) -> Vec
 }
 
 /// Figures of a workspace, whatever they hold.
-fn figures_of<U: Unsigned>(rt: &impl Abort, alloc: Global, count: usize) -> Vec<Figure<U>>
+fn figures_of<U: Unsigned>(rt: &impl Abort, alloc: Global, count: usize) -> Vec<Cell<U>>
     ensures { length result.items ≡ count }
 {
     let Ok(list) = figures(alloc, count, 0) else {
@@ -115,10 +115,10 @@ fn places_in<S: Signed, U: Unsigned>(
     let parents: Vec<Word<S>> = words_of(rt, alloc, parent);
     let counts: Vec<Word<S>> = words_of(rt, alloc, nv);
     let sizes: Vec<Word<S>> = words_of(rt, alloc, f_size);
-    let mut child: Vec<Figure<U>> = figures_of(rt, alloc, nn);
-    let mut sibling: Vec<Figure<U>> = figures_of(rt, alloc, nn);
-    let mut order: Vec<Figure<U>> = figures_of(rt, alloc, nn);
-    let mut stack: Vec<Figure<U>> = figures_of(rt, alloc, nn);
+    let mut child: Vec<Cell<U>> = figures_of(rt, alloc, nn);
+    let mut sibling: Vec<Cell<U>> = figures_of(rt, alloc, nn);
+    let mut order: Vec<Cell<U>> = figures_of(rt, alloc, nn);
+    let mut stack: Vec<Cell<U>> = figures_of(rt, alloc, nn);
     postorder_in(
         nn,
         &parents,

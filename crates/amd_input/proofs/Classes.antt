@@ -8,10 +8,10 @@ use Rattle.std.specs.Int.{FitsUnsignedBits}
 use Rattle.std.proofs.lemmas.Int.{ints}
 use Rattle.amd_model.specs.Input.Columns.{at, IsColumnForm, IsSorted, IsJumbled, IsInput}
 use Rattle.amd_model.proofs.Patterns.Pointers.{pointer_in, small_fits}
-use Rattle.amd_numbers.specs.Statuses.{IsStatusOf}
+use Rattle.amd_types.specs.Statuses.{IsStatusOf}
 use Rattle.amd_input.specs.Scans.{AreRows, Rise, HaveDescent, IsColumnClass}
-use Rattle.amd_numbers.specs.declared.amd.Status.{Status}
-use Rattle.amd_numbers.specs.declared.amd.Status.TheVariants.{OK, Invalid, OkButJumbled, OutOfMemory}
+use Rattle.amd_types.specs.declared.amd.Status.{Status}
+use Rattle.amd_types.specs.declared.amd.Status.TheVariants.{OK, Invalid, OkButJumbled, OutOfMemory}
 
 -- numbers that rise: none is below the first of them
 pub from_first : (ai : List ℤ) (a k d : ℕ) → a + d ≡ k → Rise ai a (k + 1) → at ai a ≤ℤ at ai k

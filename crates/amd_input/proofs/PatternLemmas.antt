@@ -8,8 +8,8 @@ use Rattle.amd_model.specs.Input.Columns.{IsColumnForm, IsSorted, IsInput, IsSor
 use Rattle.amd_model.specs.Input.Pattern.{graph_of, pair_count, diagonal_count}
 use Rattle.amd_model.proofs.Counting.Below.{sum_same}
 use Rattle.amd_model.proofs.Patterns.DegreeSums.{degrees_twice, pattern_graph}
-use Rattle.amd_numbers.specs.Counts.{counts}
-use Rattle.amd_numbers.specs.declared.amd.Info.{Info}
+use Rattle.amd_types.specs.Counts.{counts}
+use Rattle.amd_types.specs.declared.amd.Info.{Info}
 use Rattle.amd_edges.specs.Visits.{AreCounts}
 use Rattle.amd_input.specs.Degrees.{AreDegrees}
 use Rattle.amd_input.specs.PatternFigures.{HasPatternFigures}

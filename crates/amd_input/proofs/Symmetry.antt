@@ -11,7 +11,7 @@ use Rattle.amd_model.specs.Input.Pattern.{is_pair, graph_of, pair_count, diagona
 use Rattle.amd_model.proofs.Counting.Below.{sum_mono, sum_plus, sum_same, count_mono, count_or, count_same, count_none}
 use Rattle.amd_model.proofs.Counting.Pigeonhole.{sum_swap}
 use Rattle.amd_model.proofs.Patterns.StartingLists.{pair_small}
-use Rattle.amd_numbers.specs.Counts.{counts, is_before, is_entry}
+use Rattle.amd_types.specs.Counts.{counts, is_before, is_entry}
 use Rattle.amd_edges.proofs.Forms.{IsSortedForm, sorted_form, same_pair, pointer_is}
 use Rattle.amd_edges.proofs.Places.{before_none, before_more}
 use Rattle.amd_edges.proofs.Arcs.{count_more}

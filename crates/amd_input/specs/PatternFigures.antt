@@ -2,7 +2,7 @@
 use Rattle.std.specs.Prelude.{◌≡◌, ◌*◌, ◌↔◌, ℕ, ℤ, List, IsTrue}
 use Rattle.amd_model.specs.Graph.{edge_count}
 use Rattle.amd_model.specs.Input.Pattern.{graph_of, pair_count, diagonal_count, IsSymmetric}
-use Rattle.amd_numbers.specs.declared.amd.Info.{Info}
+use Rattle.amd_types.specs.declared.amd.Info.{Info}
 
 -- the figures of the pattern stand in the record
 pub record HasPatternFigures (n : ℕ) (ap ai : List ℤ) (info : Info) : Type 0 where

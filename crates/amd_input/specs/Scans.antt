@@ -1,8 +1,8 @@
 -- What a scan over one column finds.
 use Rattle.std.specs.Prelude.{◌+◌, ◌<◌, ◌≤◌, ◌≤ℤ◌, ◌<ℤ◌, ℕ, ℤ, List}
 use Rattle.amd_model.specs.Input.Columns.{at, IsRow}
-use Rattle.amd_numbers.specs.declared.amd.Status.{Status}
-use Rattle.amd_numbers.specs.declared.amd.Status.TheVariants.{OK, Invalid, OkButJumbled, OutOfMemory}
+use Rattle.amd_types.specs.declared.amd.Status.{Status}
+use Rattle.amd_types.specs.declared.amd.Status.TheVariants.{OK, Invalid, OkButJumbled, OutOfMemory}
 
 -- the places from a on, before b, hold rows of a matrix with m rows
 abbrev pub AreRows : ℤ → List ℤ → ℕ → ℕ → Type 0

@@ -8,11 +8,11 @@ ghost use Rattle.amd_model.specs.Input.Columns.{IsInput, IsSortedInput};
 ghost use Rattle.amd_edges.specs.Visits.{AreCounts};
 ghost use Rattle.amd_input.specs.Degrees.{AreDegrees};
 ghost use Rattle.amd_input.specs.PatternFigures.{HasPatternFigures};
-ghost use Rattle.amd_numbers.specs.declared.amd.Status.TheVariants.{OutOfMemory};
+ghost use Rattle.amd_types.specs.declared.amd.Status.TheVariants.{OutOfMemory};
 
 use amd_edges::walk::{Visitor, walk};
-use amd_numbers::amd::{Info, Status};
-use amd_numbers::internal::{count_at, known_count};
+use amd_types::amd::{Info, Status};
+use amd_types::internal::{count_at, known_count};
 use num_traits::PrimInt;
 use std::alloc::Allocator;
 

@@ -3,11 +3,11 @@
 // and by the crates of the command and of C.
 
 ghost use Rattle.std.specs.Prelude.{◌≡◌, ◌<◌, ◌≤◌, true, false, length, map};
-ghost use Rattle.amd_numbers.specs.Statuses.{IsStatusOf};
+ghost use Rattle.amd_types.specs.Statuses.{IsStatusOf};
 ghost use Rattle.amd_input.specs.Scans.{AreRows, HaveDescent, HaveNoRow, IsColumnClass, Rise};
 
-use amd_numbers::amd::Status;
-use amd_numbers::internal::{is_below, is_negative, to_count, value_at};
+use amd_types::amd::Status;
+use amd_types::internal::{is_below, is_negative, to_count, value_at};
 use num_traits::PrimInt;
 
 /// Whether the rows at the places from `from` on, before `to`, are strictly ascending.

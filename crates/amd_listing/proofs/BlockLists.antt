@@ -11,10 +11,10 @@ use Rattle.amd_model.proofs.Counting.Places.{has_place}
 use Rattle.amd_model.specs.Listing.{Tree, is_some_of, is_child, heaviest, heaviest_last, children, roots, ListsTrees, none, more}
 use Rattle.amd_model.specs.Listing.{assembly_tree, block_list, IsPostorder}
 use Rattle.amd_model.proofs.Listings.Words.{has_head, has_tail, has_cases, has_below}
-use Rattle.amd_views.proofs.Lists.Named.{flat_same}
-use Rattle.amd_views.proofs.Lists.Rising.{list_same}
-use Rattle.amd_trees.proofs.ForestListings.{IsRanked, child_node, roots_siblings, listed_from}
-use Rattle.amd_trees.specs.Trees.{IsPostorderOf}
+use Rattle.amd_round_laws.proofs.Lists.Named.{flat_same}
+use Rattle.amd_round_laws.proofs.Lists.Rising.{list_same}
+use Rattle.amd_postorder.proofs.ForestListings.{IsRanked, child_node, roots_siblings, listed_from}
+use Rattle.amd_postorder.specs.Trees.{IsPostorderOf}
 
 -- weights that agree on a list have the same heaviest one
 heaviest_same : (w u : ℕ → ℕ) (e : ℕ) (xs : List ℕ) → ((k : ℕ) → has (e ∷ xs) k ≡ true → w k ≡ u k) → heaviest w e xs ≡ heaviest u e xs

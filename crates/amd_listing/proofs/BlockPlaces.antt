@@ -20,9 +20,9 @@ use Rattle.amd_model.proofs.Counting.Places.{below_skip, below_take, place_of, l
 use Rattle.amd_model.proofs.Counting.Points.{count_drop}
 use Rattle.amd_model.proofs.Counting.Unions.{count_apart}
 use Rattle.amd_model.proofs.Listings.Words.{has_head, has_tail, has_left}
-use Rattle.amd_views.proofs.Lists.Named.{sum_named}
-use Rattle.amd_views.proofs.Lists.Pivots.{eq_flip}
-use Rattle.amd_places.specs.Words.{num, size_of}
+use Rattle.amd_round_laws.proofs.Lists.Named.{sum_named}
+use Rattle.amd_round_laws.proofs.Lists.Pivots.{eq_flip}
+use Rattle.amd_words.specs.Words.{num, size_of}
 use Rattle.amd_listing.specs.Blocks.{others_of, block_of, listing_of}
 use Rattle.amd_listing.specs.Placing.{AreBlocks}
 use Rattle.amd_listing.proofs.RowLinks.{sized_small, row_home}

@@ -12,7 +12,7 @@ use Rattle.amd_model.specs.State.{Home}
 use Rattle.amd_model.proofs.Counting.Below.{count_most}
 use Rattle.amd_model.proofs.Counting.Places.{has_place, place_of, places_differ}
 use Rattle.amd_model.proofs.Counting.Points.{pigeonhole}
-use Rattle.amd_places.specs.Words.{num, size_of, word}
+use Rattle.amd_words.specs.Words.{num, size_of, word}
 use Rattle.amd_listing.specs.Blocks.{AreElements, AreStarts, BeginWith}
 use Rattle.amd_listing.specs.Placing.{PivotsPlaced}
 use Rattle.amd_listing.proofs.RowLinks.{sized_small}

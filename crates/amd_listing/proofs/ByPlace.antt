@@ -13,10 +13,10 @@ use Rattle.amd_model.proofs.Counting.Below.{count_same, count_zero}
 use Rattle.amd_model.proofs.Counting.Lists.{both_below}
 use Rattle.amd_model.proofs.Counting.Places.{place_of}
 use Rattle.amd_model.proofs.Counting.Points.{pigeonhole, count_drop}
-use Rattle.amd_numbers.specs.Links.{named}
-use Rattle.amd_places.specs.Words.{num}
-use Rattle.amd_trees.specs.Trees.{IsPostorderOf}
-use Rattle.amd_trees.proofs.Links.{names_some}
+use Rattle.amd_types.specs.Links.{named}
+use Rattle.amd_words.specs.Words.{num}
+use Rattle.amd_postorder.specs.Trees.{IsPostorderOf}
+use Rattle.amd_postorder.proofs.Links.{names_some}
 use Rattle.amd_listing.specs.Blocks.{BeginWith}
 
 -- the numbers of the listing that lie below e stand at their places, and `count` is how many they are

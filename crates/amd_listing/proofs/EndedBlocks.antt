@@ -11,11 +11,11 @@ use Rattle.amd_model.specs.Laws.{is_last}
 use Rattle.amd_model.specs.Listing.{IsPostorder, assembly_tree, roots}
 use Rattle.amd_model.specs.Quotient.{has}
 use Rattle.amd_model.proofs.States.EndState.{IsEnd}
-use Rattle.amd_places.specs.Words.{rows_in}
-use Rattle.amd_places.proofs.Signs.{rows_of}
-use Rattle.amd_trees.specs.Trees.{IsPostorderOf, is_element, tree_of}
-use Rattle.amd_trees.proofs.ForestListings.{IsRanked, trees_distinct, roots_siblings}
-use Rattle.amd_trees.proofs.TreeNumbers.{ranked}
+use Rattle.amd_words.specs.Words.{rows_in}
+use Rattle.amd_words.proofs.Signs.{rows_of}
+use Rattle.amd_postorder.specs.Trees.{IsPostorderOf, is_element, tree_of}
+use Rattle.amd_postorder.proofs.ForestListings.{IsRanked, trees_distinct, roots_siblings}
+use Rattle.amd_postorder.proofs.TreeNumbers.{ranked}
 use Rattle.amd_listing.specs.Ended.{IsEnded}
 use Rattle.amd_listing.specs.Blocks.{AreElements, others_of, listing_of}
 use Rattle.amd_listing.proofs.BlockLists.{AreAlike, listing_node, listing_inside, blocks_listed}

@@ -11,9 +11,9 @@ use Rattle.amd_model.specs.Listing.{assembly_tree}
 use Rattle.amd_model.specs.Input.Columns.{at}
 use Rattle.amd_model.proofs.Counting.Below.{count_pos}
 use Rattle.amd_model.proofs.States.EndState.{IsEnd}
-use Rattle.amd_numbers.specs.Links.{named}
-use Rattle.amd_trees.specs.Trees.{IsForest, is_element, tree_of}
-use Rattle.amd_trees.proofs.Links.{names_some}
+use Rattle.amd_types.specs.Links.{named}
+use Rattle.amd_postorder.specs.Trees.{IsForest, is_element, tree_of}
+use Rattle.amd_postorder.proofs.Links.{names_some}
 use Rattle.amd_listing.specs.Ended.{IsEnded}
 use Rattle.amd_listing.proofs.BlockLists.{AreAlike}
 use Rattle.amd_listing.proofs.LinkSteps.{cases_link}

@@ -6,7 +6,7 @@ use Rattle.amd_model.specs.State.{State, live_at}
 use Rattle.amd_model.specs.Run.{last_state}
 use Rattle.amd_model.specs.Listing.{IsPostorder}
 use Rattle.amd_model.proofs.States.EndState.{IsEnd, at_the_end}
-use Rattle.amd_trees.specs.Trees.{IsForest, IsPostorderOf, tree_of}
+use Rattle.amd_postorder.specs.Trees.{IsForest, IsPostorderOf, tree_of}
 use Rattle.amd_listing.specs.Ended.{LinksAre, HasEnded}
 use Rattle.amd_listing.specs.Blocks.{AreElements, listing_of}
 use Rattle.amd_listing.proofs.EndedForest.{forest}

@@ -7,7 +7,7 @@ use Rattle.amd_model.specs.Below.{count_below}
 use Rattle.amd_model.proofs.Counting.Below.{count_mono}
 use Rattle.amd_model.proofs.Counting.Pigeonhole.{count_all}
 use Rattle.amd_model.proofs.Counting.Points.{count_drop}
-use Rattle.amd_views.specs.Keeps.{LinksEnd}
+use Rattle.amd_round_laws.specs.Keeps.{LinksEnd}
 
 -- one more than f of what a link names
 pub one_after : (ℕ → ℕ) → Option ℕ → ℕ

@@ -9,8 +9,8 @@ use Rattle.amd_model.specs.Below.{count_below, sum_below}
 use Rattle.amd_model.specs.Laws.{is_last}
 use Rattle.amd_model.specs.State.{Home, Last, Gone, block_at}
 use Rattle.amd_model.proofs.Counting.Below.{not_both}
-use Rattle.amd_views.proofs.Lists.Rising.{count_yes, count_no}
-use Rattle.amd_places.specs.Words.{num, size_of}
+use Rattle.amd_round_laws.proofs.Lists.Rising.{count_yes, count_no}
+use Rattle.amd_words.specs.Words.{num, size_of}
 use Rattle.amd_listing.specs.Blocks.{listing_of}
 use Rattle.amd_listing.specs.Placing.{AreBlocks, IsPlaced, PivotsPlaced}
 use Rattle.amd_listing.proofs.Placed.{placed_same, placed_here, placed_there}

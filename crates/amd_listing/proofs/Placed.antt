@@ -6,8 +6,8 @@ use Rattle.std.proofs.lemmas.Bool.{cases_order}
 use Rattle.amd_model.specs.Input.Columns.{at}
 use Rattle.amd_model.specs.Listing.{ListsEachRow}
 use Rattle.amd_model.proofs.Counting.Pigeonhole.{permutation_below, permutation_once}
-use Rattle.amd_numbers.specs.Permutations.{AreInverse}
-use Rattle.amd_numbers.proofs.Inverses.{inverse_from}
+use Rattle.amd_types.specs.Permutations.{AreInverse}
+use Rattle.amd_types.proofs.Inverses.{inverse_from}
 use Rattle.amd_listing.specs.Placing.{IsPlaced}
 
 pub placed_same : (listing : List ℕ) (p q p' q' : List ℤ) (v : ℕ) → p' ≡ p → q' ≡ q → IsPlaced listing p q v → IsPlaced listing p' q' v

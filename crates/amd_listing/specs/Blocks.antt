@@ -6,7 +6,7 @@ use Rattle.amd_model.specs.Below.{count_below, list_below}
 use Rattle.amd_model.specs.State.{Home, block_at}
 use Rattle.amd_model.specs.Laws.{is_last}
 use Rattle.amd_model.specs.Quotient.{has, Once}
-use Rattle.amd_places.specs.Words.{num, size_of}
+use Rattle.amd_words.specs.Words.{num, size_of}
 
 -- of n rows those of the block of e, rising, without its pivot row; and with it, behind them
 abbrev pub others_of : ℕ → (ℕ → Home) → ℕ → List ℕ

@@ -6,9 +6,9 @@ use Rattle.amd_model.specs.Graph.{Graph, IsGraph}
 use Rattle.amd_model.specs.State.{State, Home, Last, Gone, in_block, is_element}
 use Rattle.amd_model.specs.Run.{Run, last_state}
 use Rattle.amd_model.specs.Listing.{IsPostorder, weight}
-use Rattle.amd_numbers.specs.Links.{named}
-use Rattle.amd_places.specs.Words.{word, size_of}
-use Rattle.amd_views.specs.Keeps.{LinksLead}
+use Rattle.amd_types.specs.Links.{named}
+use Rattle.amd_words.specs.Words.{word, size_of}
+use Rattle.amd_round_laws.specs.Keeps.{LinksLead}
 
 -- the link of a row to the row with which it went; an element has its parent there, and is linked to no row
 abbrev pub row_link : List ℤ → List ℤ → ℕ → Option ℕ

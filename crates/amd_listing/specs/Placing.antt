@@ -2,7 +2,7 @@
 use Rattle.std.specs.Prelude.{ℕ, ℤ, pos, false, List, ◌≡◌, ◌<◌, ◌+◌, length, slice_index}
 use Rattle.amd_model.specs.Input.Columns.{at}
 use Rattle.amd_model.specs.State.{Home, live_at}
-use Rattle.amd_places.specs.Words.{num, size_of}
+use Rattle.amd_words.specs.Words.{num, size_of}
 use Rattle.amd_listing.specs.Blocks.{AreElements, AreStarts}
 use Rattle.amd_listing.specs.Ended.{LinksAre}
 

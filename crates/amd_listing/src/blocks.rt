@@ -4,18 +4,18 @@
 ghost use Rattle.std.specs.Prelude.{◌≡◌, ◌<◌, ◌≤◌, ℕ, List, length, map, slice_index, pos};
 ghost use Rattle.amd_model.specs.Listing.{Tree};
 ghost use Rattle.amd_model.specs.State.{Home};
-ghost use Rattle.amd_places.specs.Words.{word, size_of};
-ghost use Rattle.amd_trees.specs.Trees.{IsPostorderOf};
-ghost use Rattle.amd_trees.specs.FigureLinks.{figure_links};
+ghost use Rattle.amd_words.specs.Words.{word, size_of};
+ghost use Rattle.amd_postorder.specs.Trees.{IsPostorderOf};
+ghost use Rattle.amd_postorder.specs.FigureLinks.{figure_links};
 ghost use Rattle.amd_listing.specs.Blocks.{AreElements, AreStarts, BeginWith};
 ghost use Rattle.amd_listing.specs.Placing.{PivotsPlaced};
 
 use crate::rows::put_listed;
-use amd_cells::{Figure, Signed, Unsigned, Word, figure_at, put_figure, row_at};
-use amd_trees::link::Link;
+use amd_postorder::link::Link;
+use amd_words::{Cell, Signed, Unsigned, Word, cell_at, put_cell, row_at};
 
 /// Writes the element of each place of a listing, and answers how many there are.
-pub fn by_place<U: Unsigned>(order: &[Figure<U>], elements: &mut [Figure<U>]) -> usize
+pub fn by_place<U: Unsigned>(order: &[Cell<U>], elements: &mut [Cell<U>]) -> usize
     requires room { length elements.old ≡ length order.now }
     requires narrow { length order.now ≤ U.MOST }
     requires listed { (t : Tree) × (o : IsPostorderOf t (figure_links U.MOST order.now)) ×
@@ -27,7 +27,7 @@ pub fn by_place<U: Unsigned>(order: &[Figure<U>], elements: &mut [Figure<U>]) ->
     let mut count = 0;
     'elements: for e in 0..order.len() {
         if let Some(place) = Link::link_at(order, e) {
-            put_figure(elements, place, e);
+            put_cell(elements, place, e);
             count += 1;
         }
     }
@@ -38,11 +38,11 @@ pub fn by_place<U: Unsigned>(order: &[Figure<U>], elements: &mut [Figure<U>]) ->
 /// last place of its block, in the listing and its inverse. Answers where the last block ends.
 pub fn block_starts<S: Signed, U: Unsigned>(
     nv: &[Word<S>],
-    elements: &[Figure<U>],
+    elements: &[Cell<U>],
     count: usize,
-    starts: &mut [Figure<U>],
-    p: &mut [Figure<U>],
-    p_inv: &mut [Figure<U>],
+    starts: &mut [Cell<U>],
+    p: &mut [Cell<U>],
+    p_inv: &mut [Cell<U>],
 ) -> usize
     requires lengths { (length elements.now ≡ length nv.now) × (length starts.old ≡ length nv.now) }
     requires more_lengths { (length p.old ≡ length nv.now) × (length p_inv.old ≡ length nv.now) }
@@ -56,8 +56,8 @@ pub fn block_starts<S: Signed, U: Unsigned>(
 {
     let mut total = 0;
     'places: for k in 0..count {
-        let e = figure_at(elements, k);
-        put_figure(starts, e, total);
+        let e = cell_at(elements, k);
+        put_cell(starts, e, total);
         total += row_at(nv, e);
         put_listed(p, p_inv, e, total - 1);
     }

@@ -3,13 +3,13 @@
 // 2004. Called by `ended` of the crate `amd_engine`.
 
 ghost use Rattle.std.specs.Prelude.{◌≡◌, ◌<◌, ◌≤◌, ◌+◌, ℕ, List, length, map, pos};
-ghost use Rattle.amd_numbers.specs.Permutations.{AreInverse};
+ghost use Rattle.amd_types.specs.Permutations.{AreInverse};
 ghost use Rattle.amd_listing.specs.Ended.{HasEnded, ListsEnded};
 
 use crate::blocks::{block_starts, by_place};
 use crate::rows::place_rows;
-use amd_cells::{Figure, Signed, Unsigned, Word};
-use amd_trees::postorder::postorder_in;
+use amd_postorder::postorder::postorder_in;
+use amd_words::{Cell, Signed, Unsigned, Word};
 
 /// Writes the listing of an elimination that has ended, and its inverse: `link` names for each row the row or parent to
 /// which it is linked, `nv` the number of rows of each block, and `f_size` that of each front. `child` and `sibling`
@@ -18,10 +18,10 @@ pub fn listing<S: Signed, U: Unsigned>(
     link: &mut [Word<S>],
     nv: &[Word<S>],
     f_size: &[Word<S>],
-    child: &mut [Figure<U>],
-    sibling: &mut [Figure<U>],
-    p: &mut [Figure<U>],
-    p_inv: &mut [Figure<U>],
+    child: &mut [Cell<U>],
+    sibling: &mut [Cell<U>],
+    p: &mut [Cell<U>],
+    p_inv: &mut [Cell<U>],
 )
     requires ended { HasEnded link.old nv.now f_size.now }
     requires lengths { (length child.old ≡ length nv.now) × (length sibling.old ≡ length nv.now) ×

@@ -3,14 +3,14 @@
 
 ghost use Rattle.std.specs.Prelude.{◌≡◌, ◌<◌, ◌≤◌, ◌+◌, ℕ, List, true, false, length, map, pos, slice_set};
 ghost use Rattle.amd_model.specs.State.{Home, Gone, gone_at, live_at};
-ghost use Rattle.amd_numbers.specs.Permutations.{AreInverse};
-ghost use Rattle.amd_places.specs.Words.{num, in_front, size_of};
+ghost use Rattle.amd_types.specs.Permutations.{AreInverse};
+ghost use Rattle.amd_words.specs.Words.{num, in_front, size_of};
 ghost use Rattle.amd_listing.specs.Blocks.{AreElements, AreStarts, listing_of};
 ghost use Rattle.amd_listing.specs.Ended.{LinksAre};
 ghost use Rattle.amd_listing.specs.Placing.{AllPlaced, AreBlocks, PivotsPlaced};
 
-use amd_cells::{Figure, Signed, Unsigned, Word, figure_at, put_figure};
-use amd_places::words::{named, names_one, put_row, size_outside};
+use amd_words::words::{named, names_one, put_row, size_outside};
+use amd_words::{Cell, Signed, Unsigned, Word, cell_at, put_cell};
 
 /// The element to which the links from a row lead.
 fn root_of<S: Signed>(link: &[Word<S>], nv: &[Word<S>], v: usize) -> usize
@@ -64,26 +64,26 @@ fn element_of<S: Signed>(link: &mut [Word<S>], nv: &[Word<S>], v: usize) -> usiz
 }
 
 /// Takes the next place of the block of an element.
-fn take_place<U: Unsigned>(place: &mut [Figure<U>], e: usize) -> usize
+fn take_place<U: Unsigned>(place: &mut [Cell<U>], e: usize) -> usize
     requires inside { e < length place.old }
     requires fits { num place.old e + 1 ≤ U.MOST }
     ensures is { result ≡ num place.old e }
     ensures next { place.new ≡ slice_set place.old e (num place.old e + 1) }
 {
-    let k = figure_at(place, e);
-    put_figure(place, e, k + 1);
+    let k = cell_at(place, e);
+    put_cell(place, e, k + 1);
     k
 }
 
 /// Puts a row at a place of the listing.
-pub fn put_listed<U: Unsigned>(p: &mut [Figure<U>], p_inv: &mut [Figure<U>], v: usize, k: usize)
+pub fn put_listed<U: Unsigned>(p: &mut [Cell<U>], p_inv: &mut [Cell<U>], v: usize, k: usize)
     requires inside { (v < length p_inv.old) × (k < length p.old) }
     requires fits { (v ≤ U.MOST) × (k ≤ U.MOST) }
     ensures listed { map pos p.new ≡ slice_set (map pos p.old) k (pos v) }
     ensures inverse { map pos p_inv.new ≡ slice_set (map pos p_inv.old) v (pos k) }
 {
-    put_figure(p, k, v);
-    put_figure(p_inv, v, k);
+    put_cell(p, k, v);
+    put_cell(p_inv, v, k);
 }
 
 /// Puts the rows that are no element at their places, rising: each at the next place of its block, and those held last
@@ -91,10 +91,10 @@ pub fn put_listed<U: Unsigned>(p: &mut [Figure<U>], p_inv: &mut [Figure<U>], v: 
 fn place_others<S: Signed, U: Unsigned>(
     link: &mut [Word<S>],
     nv: &[Word<S>],
-    place: &mut [Figure<U>],
+    place: &mut [Cell<U>],
     end: usize,
-    p: &mut [Figure<U>],
-    p_inv: &mut [Figure<U>],
+    p: &mut [Cell<U>],
+    p_inv: &mut [Cell<U>],
 )
     requires lengths { (length p.old ≡ length nv.now) × (length p_inv.old ≡ length nv.now) }
     requires narrow { (length nv.now ≤ S.MOST) × (length nv.now ≤ U.MOST) }
@@ -125,10 +125,10 @@ fn place_others<S: Signed, U: Unsigned>(
 pub fn place_rows<S: Signed, U: Unsigned>(
     link: &mut [Word<S>],
     nv: &[Word<S>],
-    starts: &mut [Figure<U>],
+    starts: &mut [Cell<U>],
     end: usize,
-    p: &mut [Figure<U>],
-    p_inv: &mut [Figure<U>],
+    p: &mut [Cell<U>],
+    p_inv: &mut [Cell<U>],
 )
     requires lengths { (length link.old ≡ length nv.now) × (length starts.old ≡ length nv.now) ×
         (length p.old ≡ length nv.now) × (length p_inv.old ≡ length nv.now) }

@@ -12,12 +12,12 @@ use Rattle.amd_model.specs.Input.Columns.{at}
 use Rattle.amd_model.specs.Quotient.{QuotientGraph}
 use Rattle.amd_model.proofs.Counting.Below.{count_pos}
 use Rattle.amd_model.proofs.States.EndState.{IsEnd}
-use Rattle.amd_rounds.specs.Keeps.{Stands}
-use Rattle.amd_rounds.specs.declared.work.Work.{Work}
-use Rattle.amd_rounds.specs.Views.{num, some_at}
-use Rattle.amd_numbers.specs.Links.{named}
-use Rattle.amd_trees.specs.Trees.{IsForest, is_element, tree_of, link_of}
-use Rattle.amd_trees.proofs.ChildLinks.{named_link}
+use Rattle.amd_plain.specs.Keeps.{Stands}
+use Rattle.amd_plain.specs.declared.work.Work.{Work}
+use Rattle.amd_plain.specs.Views.{num, some_at}
+use Rattle.amd_types.specs.Links.{named}
+use Rattle.amd_postorder.specs.Trees.{IsForest, is_element, tree_of, link_of}
+use Rattle.amd_postorder.proofs.ChildLinks.{named_link}
 use Rattle.amd_listing.proofs.BlockLists.{AreAlike}
 use Rattle.amd_listing.proofs.LinkSteps.{cases_link}
 

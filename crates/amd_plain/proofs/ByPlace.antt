@@ -7,9 +7,9 @@ use Rattle.std.proofs.lemmas.List.{length-set, get_or-set_same, get_or-set_other
 use Rattle.std.proofs.lemmas.Bool.{cases_eq, cases_lt, lt-ltb}
 use Rattle.amd_model.specs.Input.Columns.{at}
 use Rattle.amd_model.specs.Listing.{Tree}
-use Rattle.amd_rounds.specs.Views.{some_at}
-use Rattle.amd_numbers.specs.Links.{named}
-use Rattle.amd_trees.specs.Trees.{IsByPlace, IsPostorderOf}
+use Rattle.amd_plain.specs.Views.{some_at}
+use Rattle.amd_types.specs.Links.{named}
+use Rattle.amd_postorder.specs.Trees.{IsByPlace, IsPostorderOf}
 use Rattle.amd_listing.proofs.ByPlace.{below_same, apart, listing_fits, found}
 
 module _ (n : ℕ) (listing : List ℕ) (places : List (Option ℕ)) (by : IsByPlace n listing places) where

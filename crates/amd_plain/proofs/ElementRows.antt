@@ -9,8 +9,8 @@ use Rattle.std.proofs.lemmas.Bool.{cases_eq, true≢false, ne_eqb, eq-eqb, and_f
 use Rattle.amd_model.specs.Below.{list_below}
 use Rattle.amd_model.specs.State.{Home, Gone, block_at, live_at}
 use Rattle.amd_model.proofs.Counting.Places.{below_skip, below_take, below_none}
-use Rattle.amd_rounds.specs.Views.{some_at, list_at}
-use Rattle.amd_rounds.specs.Keeps.{LinksLead}
+use Rattle.amd_plain.specs.Views.{some_at, list_at}
+use Rattle.amd_plain.specs.Keeps.{LinksLead}
 
 module _ (links : List (Option ℕ)) (home : ℕ → Home) (led : LinksLead links home) (over : (v : ℕ) → live_at (home v) ≡ false) where
   -- the root of a linked row is its pivot row

@@ -12,16 +12,16 @@ use Rattle.amd_model.specs.State.{State, Gone, block_at, live_at, in_block}
 use Rattle.amd_model.specs.Quotient.{QuotientGraph}
 use Rattle.amd_model.proofs.Counting.Below.{count_most, count_pos}
 use Rattle.amd_model.proofs.States.EndState.{IsEnd}
-use Rattle.amd_rounds.specs.Keeps.{Stands}
-use Rattle.amd_trees.specs.Trees.{IsForest, IsPostorderOf, link_of, tree_of}
-use Rattle.amd_rounds.specs.Views.{num, some_at}
-use Rattle.amd_rounds.specs.declared.work.Work.{Work}
+use Rattle.amd_plain.specs.Keeps.{Stands}
+use Rattle.amd_postorder.specs.Trees.{IsForest, IsPostorderOf, link_of, tree_of}
+use Rattle.amd_plain.specs.Views.{num, some_at}
+use Rattle.amd_plain.specs.declared.work.Work.{Work}
 use Rattle.amd_plain.proofs.BlockForest.{AreElements, forest, alike, stands_elements, last_block}
-use Rattle.amd_views.proofs.Lists.Rising.{list_same}
+use Rattle.amd_round_laws.proofs.Lists.Rising.{list_same}
 use Rattle.amd_listing.proofs.BlockLists.{AreAlike, blocks_listed, listing_inside}
-use Rattle.amd_trees.proofs.ForestListings.{IsRanked}
+use Rattle.amd_postorder.proofs.ForestListings.{IsRanked}
 use Rattle.amd_listing.proofs.LinkSteps.{cases_link}
-use Rattle.amd_trees.proofs.TreeNumbers.{ranked}
+use Rattle.amd_postorder.proofs.TreeNumbers.{ranked}
 
 -- what holds of an error that there is, holds of it if there is one
 pub if_err : {T E : Type 0} (r : Result T E) (Q : E → Type 0) → IsErrAnd r Q → IfErr r Q

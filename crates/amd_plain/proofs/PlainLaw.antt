@@ -18,16 +18,16 @@ use Rattle.amd_model.proofs.Patterns.DegreeSums.{pattern_graph}
 use Rattle.amd_model.proofs.States.RunsExist.{first_state, starts}
 use Rattle.amd_model.proofs.Patterns.StartingLists.{starting_lists}
 use Rattle.amd_model.proofs.States.Words.{edge_small}
-use Rattle.amd_rounds.specs.Views.{at, num, list_at, Below, ListsBelow}
+use Rattle.amd_plain.specs.Views.{at, num, list_at, Below, ListsBelow}
 use Rattle.amd_edges.specs.Visits.{AreCounts}
-use Rattle.amd_rounds.specs.Keeps.{Stands, AreRounds, NoRowIsLive}
-use Rattle.amd_rounds.specs.Starts.{StandsAtStart, EndsRun, ListsRun}
-use Rattle.amd_numbers.specs.Permutations.{AreInverse}
-use Rattle.amd_plain.specs.Engine.{IsEngineAnswer, Reaches}
-use Rattle.amd_plain.proofs.EngineLaw.{degree_small, told_by, run, promises, answer_of}
-use Rattle.amd_numbers.specs.declared.amd.Info.{Info}
-use Rattle.amd_rounds.specs.declared.work.Work.{Work}
-use Rattle.amd_views.proofs.Lists.Named.{below_from}
+use Rattle.amd_plain.specs.Keeps.{Stands, AreRounds, NoRowIsLive}
+use Rattle.amd_plain.specs.Starts.{StandsAtStart, EndsRun, ListsRun}
+use Rattle.amd_types.specs.Permutations.{AreInverse}
+use Rattle.amd_engine_law.specs.Engine.{IsEngineAnswer, Reaches}
+use Rattle.amd_engine_law.proofs.EngineLaw.{degree_small, told_by, run, promises, answer_of}
+use Rattle.amd_types.specs.declared.amd.Info.{Info}
+use Rattle.amd_plain.specs.declared.work.Work.{Work}
+use Rattle.amd_round_laws.proofs.Lists.Named.{below_from}
 
 -- ---- lists
 

@@ -5,8 +5,8 @@ use Rattle.std.proofs.Math.ListN.{set}
 use Rattle.std.proofs.lemmas.List.{length-set, get_or-set_same, get_or-set_other}
 use Rattle.std.proofs.lemmas.Bool.{cases_eq, true≢false}
 use Rattle.amd_model.specs.State.{Home}
-use Rattle.amd_rounds.specs.Views.{some_at}
-use Rattle.amd_rounds.specs.Keeps.{LinksLead}
+use Rattle.amd_plain.specs.Views.{some_at}
+use Rattle.amd_plain.specs.Keeps.{LinksLead}
 
 -- a row without a link, where as many have one as before
 pub none_as_before : (o p : Option ℕ) → is_none o ≡ is_none p → p ≡ None → o ≡ None

@@ -1,3 +1,9 @@
--- What an engine answers, and the record of the plain engine before its first round.
-pub mod Engine
+-- The record of the plain engine, what its rounds promise, and the record before the first round.
+pub mod Views
+pub mod Buckets
+pub mod Rounds
+pub mod Keeps
+pub mod Starts
+pub mod Groups
+pub mod Parts
 pub mod Plain

@@ -3,9 +3,9 @@ use Rattle.std.specs.Prelude.{ℕ, ℤ, Bool, Option, List, Vec, ◌≡◌, ◌<
 use Rattle.amd_model.specs.Input.Pattern.{is_pair}
 use Rattle.amd_model.specs.Input.Held.{is_marked}
 use Rattle.amd_model.specs.Quotient.{starting_list}
-use Rattle.amd_rounds.specs.Views.{at, num, list_at}
-use Rattle.amd_rounds.specs.Starts.{StandsAtStart}
-use Rattle.amd_rounds.specs.declared.work.Work.{Work}
+use Rattle.amd_plain.specs.Views.{at, num, list_at}
+use Rattle.amd_plain.specs.Starts.{StandsAtStart}
+use Rattle.amd_plain.specs.declared.work.Work.{Work}
 
 -- the record stands at the start of an elimination of a matrix: each row has its list of neighbours, and the marked rows
 -- and those of a degree above the threshold are held last

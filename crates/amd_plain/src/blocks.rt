@@ -9,16 +9,16 @@ ghost use Rattle.amd_model.specs.Below.{list_below};
 ghost use Rattle.amd_model.specs.Input.Columns.{at};
 ghost use Rattle.amd_model.specs.Listing.{Tree};
 ghost use Rattle.amd_model.specs.State.{Home, block_at, live_at};
-ghost use Rattle.amd_rounds.specs.Views.{list_at, num, some_at, Below};
-ghost use Rattle.amd_rounds.specs.Keeps.{LinksLead};
-ghost use Rattle.amd_rounds.specs.Starts.{EndsRun, ListsRun};
-ghost use Rattle.amd_trees.specs.Trees.{IsByPlace, IsPostorderOf, link_of};
+ghost use Rattle.amd_plain.specs.Views.{list_at, num, some_at, Below};
+ghost use Rattle.amd_plain.specs.Keeps.{LinksLead};
+ghost use Rattle.amd_plain.specs.Starts.{EndsRun, ListsRun};
+ghost use Rattle.amd_postorder.specs.Trees.{IsByPlace, IsPostorderOf, link_of};
 
-use amd_numbers::amd::Status;
-use amd_numbers::internal::{EMPTY, link_at};
-use amd_rounds::start::empty_lists;
-use amd_rounds::work::Work;
-use amd_trees::postorder::postorder;
+use crate::start::empty_lists;
+use crate::work::Work;
+use amd_postorder::postorder::postorder;
+use amd_types::amd::Status;
+use amd_types::internal::{EMPTY, link_at};
 use std::alloc::{AllocError, Allocator};
 
 /// The row without a link to which the links from a row lead.

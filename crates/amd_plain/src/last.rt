@@ -4,9 +4,9 @@
 ghost use Rattle.std.specs.Prelude.{◌≡◌, ◌<◌, ◌||◌, ℕ, nat_lt, length, IfOk};
 ghost use Rattle.std.specs.Option.{option_copied};
 ghost use Rattle.amd_model.specs.Input.Held.{HasMarks, is_marked};
-ghost use Rattle.amd_rounds.specs.Views.{at, num};
+ghost use Rattle.amd_plain.specs.Views.{at, num};
 
-use amd_numbers::held::is_held;
+use amd_types::held::is_held;
 use std::alloc::{AllocError, Allocator};
 
 /// A mark for each row that is held last: it is marked in `hold`, or its degree is above the threshold of dense rows.

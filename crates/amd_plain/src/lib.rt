@@ -1,9 +1,18 @@
-//! The plain engine: an elimination that has a vector for each list (`plain`, over `last` and `blocks`, and over the
-//! rounds of the crate `amd_rounds`). It is the second engine, and tests call it. Its specifications say what an engine
-//! answers, for both of them, and a law says that both give one answer. Called by `amd_engine`, which hands it on.
+//! The plain engine: an elimination that keeps the lists of the quotient graph in vectors, for each class its elements and its variables,
+//! for each element its members. The record (`work`), its start (`start`), the parts of a round (`marks`, `buckets`, `absorption`,
+//! `merging`, `bounds`), the rounds until no row is live (`rounds`), the rows held last (`last`), the listing (`blocks`), and the call
+//! (`plain`). It is the second engine, and returns what `amd_engine` returns: a law of `amd_engine_law` says so. Tests alone call it.
+//! An `Err` stands for a refused request. No contract says when it comes; what lists and records then hold is mostly left open.
 #![tactic(auto)]
 
+pub mod absorption;
 pub mod blocks;
+pub mod bounds;
+pub mod buckets;
 pub mod last;
-pub mod laws;
+pub mod marks;
+pub mod merging;
 pub mod plain;
+pub mod rounds;
+pub mod start;
+pub mod work;

@@ -1,7 +1,7 @@
 // The plain engine: an elimination that keeps the lists of the quotient graph (for each class its elements and its
 // variables, for each element its members), and one list of classes for each bound. It is the second engine: `order`
 // does not call it. Source: Amestoy, Davis and Duff 1996 and 2004. Called by tests alone. The rounds under `plain_1`
-// stand in the crate `amd_rounds` and are handed on here.
+// stand in the crate `amd_plain` and are handed on here.
 
 ghost use Rattle.std.specs.Prelude.{◌≡◌, ◌<◌, pos, map, length, IfOk, IfErr, OnOk};
 ghost use Rattle.std.specs.Option.{option_copied};
@@ -9,18 +9,18 @@ ghost use Rattle.amd_model.specs.Input.Columns.{IsColumnForm, IsSorted};
 ghost use Rattle.amd_model.specs.Input.Held.{HasMarks};
 ghost use Rattle.amd_model.specs.Input.Pattern.{graph_of};
 ghost use Rattle.amd_edges.specs.Visits.{AreCounts};
-ghost use Rattle.amd_plain.specs.Engine.{IsEngineAnswer};
+ghost use Rattle.amd_engine_law.specs.Engine.{IsEngineAnswer};
 ghost use Rattle.amd_plain.specs.Plain.{IsBegun};
 
 use crate::blocks::listing;
 use crate::last::rows_held_last;
+use crate::rounds::eliminate;
+use crate::start::start;
+use crate::work::Work;
 use amd_edges::lists::starting_lists;
-use amd_numbers::amd::{Control, Info, Status};
-use amd_numbers::dense::dense_threshold;
-use amd_numbers::permutations::inverse_pair;
-pub use amd_rounds::rounds::{eliminate, round};
-use amd_rounds::start::start;
-use amd_rounds::work::Work;
+use amd_types::amd::{Control, Info, Status};
+use amd_types::dense::dense_threshold;
+use amd_types::permutations::inverse_pair;
 use num_traits::PrimInt;
 use std::alloc::{AllocError, Allocator};
 

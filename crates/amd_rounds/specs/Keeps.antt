@@ -1,81 +1,51 @@
--- A work record keeps the lists of an elimination, and stands for a state of it.
-use Rattle.std.specs.Prelude.{ℕ, Bool, false, Option, List, [], ◌≡◌, ◌==◌, ◌||◌, length, filter}
+-- A workspace keeps the lists of an elimination, and stands for a state of it.
+use Rattle.std.specs.Prelude.{ℕ, Bool, false, List, ◌≡◌, ◌+◌, ◌==◌, ◌&&◌, not, cond, nat_lt, length, filter, reverse}
 use Rattle.amd_model.specs.Graph.{Graph}
-use Rattle.amd_model.specs.State.{State, Home, live}
+use Rattle.amd_model.specs.State.{State, live}
 use Rattle.amd_model.specs.Step.{StepAt}
 use Rattle.amd_model.specs.Run.{last_state}
 use Rattle.amd_model.specs.Ordering.{Follows}
-use Rattle.amd_model.specs.Quotient.{QuotientGraph, has, is_empty, pivot, next}
-use Rattle.amd_views.specs.Keeps as views
-use Rattle.amd_rounds.specs.Views.{at, some_at, list_at, view_of, ListsBelow, Clear}
-use Rattle.amd_rounds.specs.Buckets.{live_in, lasts}
-use Rattle.amd_rounds.specs.declared.work.Lists.{Lists}
-use Rattle.amd_rounds.specs.declared.work.Work.{Work}
-use Rattle.amd_rounds.specs.declared.work.Scratch.{Scratch}
+use Rattle.amd_model.specs.Quotient.{QuotientGraph, is_empty, pivot, gathered, next}
+use Rattle.amd_round_laws.specs.Keeps as views
+use Rattle.amd_lists.specs.Chains.{DegreeLists}
+use Rattle.amd_rounds.specs.Workspaces.{Workspace, view_of}
+use Rattle.amd_rounds.specs.Laid.{IsLaid}
 
--- the marks are clear and the groups are empty, and there is room for each row
-pub record IsIdle {A : Type 0} (n : ℕ) (s : Scratch A) : Type 0 where
-  pub rows : (length s.rows.items ≡ n) × Clear s.rows.items
-  pub elements : (length s.elements.items ≡ n) × Clear s.elements.items
-  pub groups : (length s.groups.items ≡ n) × ((b : ℕ) → list_at s.groups.items b ≡ [])
-  pub beyond : length s.beyond.items ≡ n
-  pub into : length s.into.items ≡ n
+-- the classes of each bound, the one that was placed last first
+abbrev pub by_bound : QuotientGraph → ℕ → List ℕ
+by_bound t b = reverse (filter (λ i. t.bound i == b) t.placed)
 
--- the same, but a pivot and the classes of its front are marked in the rows, and nothing else
-pub record IsMarked {A : Type 0} (n pivot : ℕ) (front : List ℕ) (s : Scratch A) : Type 0 where
-  pub rows : (length s.rows.items ≡ n) × ((j : ℕ) → at s.rows.items j ≡ (j == pivot || has front j))
-  pub elements : (length s.elements.items ≡ n) × Clear s.elements.items
-  pub groups : (length s.groups.items ≡ n) × ((b : ℕ) → list_at s.groups.items b ≡ [])
-  pub beyond : length s.beyond.items ≡ n
-  pub into : length s.into.items ≡ n
-
--- there is a list of each kind for each of n rows, and each names rows alone
-pub record AreSized {A : Type 0} (n : ℕ) (lists : Lists A) : Type 0 where
-  pub variables : ListsBelow n lists.variables.items
-  pub elements : ListsBelow n lists.elements.items
-  pub members : ListsBelow n lists.members.items
-
--- there is a place for each of n rows, and each list names rows alone
-pub record IsSized {A : Type 0} (n : ℕ) (w : Work A) : Type 0 where
-  pub variables : ListsBelow n w.lists.variables.items
-  pub elements : ListsBelow n w.lists.elements.items
-  pub members : ListsBelow n w.lists.members.items
-  pub placed : ListsBelow n w.placed.items
-  pub size : length w.size.items ≡ n
-  pub bound : length w.bound.items ≡ n
-  pub link : length w.link.items ≡ n
-  pub parent : length w.parent.items ≡ n
-  pub block : length w.block.items ≡ n
-  pub front : length w.front.items ≡ n
-  pub idle : IsIdle n w.scratch
-
--- following the links comes to an end, and leads to where the rows are
-abbrev pub LinksLead : List (Option ℕ) → (ℕ → Home) → Type 0
-LinksLead links home = views.LinksLead (length links) (some_at links) home
-
--- the record keeps the lists t, which stand for the sound state s of an elimination of the graph
-pub record Stands {A : Type 0} (g : Graph) (dense : ℕ → Bool) (w : Work A) (t : QuotientGraph) (s : State) : Type 0
+-- the workspace keeps the lists t, which stand for the sound state s of an elimination of the graph, in nzaat words at
+-- most
+pub record Stands (g : Graph) (dense : ℕ → Bool) (nzaat : ℕ) (p : Workspace) (t : QuotientGraph) (s : State) : Type 0
   where
-    pub view : views.Stands g dense (view_of w) t s
-    pub sized : IsSized g.size w
-    -- the classes of each bound, each at its last place
-    pub placed : (b : ℕ) → lasts (live_in w.size.items w.bound.items b (list_at w.placed.items b)) ≡ filter
-        (λ i. t.bound i == b) t.placed
+    pub view : views.Stands g dense (view_of p) t s
+    pub laid : IsLaid g.size nzaat p
+    pub linked : DegreeLists g.size p.head p.next p.last p.degree (by_bound t)
 
--- whatever lists and state the old record stands for, the new one stands for the lists of the next round, and for a
--- state that the step with the pivot of the rules leads to
-abbrev pub IsRound : {A : Type 0} → Bool → Work A → Work A → Type 0
-IsRound aggressive old new = (g : Graph) (dense : ℕ → Bool) (t : QuotientGraph) (s : State) → Stands g dense old t s →
+-- an element holds the pivot, and its front has more classes than there are words from the free end on
+abbrev pub is_packed : Workspace → QuotientGraph → ℕ → Bool
+is_packed p t c = not (is_empty (t.elements c)) && nat_lt (length p.iw) (p.free + length (gathered t c))
+
+-- whatever lists and state the old workspace stands for, the new one stands for the lists of the next round, and for a
+-- state that the step with the pivot of the rules leads to, with no more words; and the lists were packed exactly where
+-- they had to be
+abbrev pub IsRound : Bool → Workspace → Workspace → Type 0
+IsRound aggressive old new = (g : Graph) (dense : ℕ → Bool) (nzaat : ℕ) (t : QuotientGraph) (s : State) →
+    Stands g dense nzaat old t s →
     (is_empty t.placed ≡ false) × ((u : State) × StepAt g aggressive (pivot t.bound t.placed) s u
-    × Stands g dense new (next aggressive t) u)
+    × Stands g dense nzaat new (next aggressive t) u)
+    × (new.n_cmp_a ≡ old.n_cmp_a + cond (is_packed old t (pivot t.bound t.placed)) 1 0)
 
--- whatever lists and state the old record stands for, the new one stands for lists and a state some rounds later
-abbrev pub AreRounds : {A : Type 0} → Bool → Work A → Work A → Type 0
-AreRounds aggressive old new = (g : Graph) (dense : ℕ → Bool) (t : QuotientGraph) (s : State) → Stands g dense old t s →
+-- whatever lists and state the old workspace stands for, the new one stands for lists and a state some rounds later
+abbrev pub AreRounds : Bool → Workspace → Workspace → Type 0
+AreRounds aggressive old new = (g : Graph) (dense : ℕ → Bool) (nzaat : ℕ) (t : QuotientGraph) (s : State) →
+    Stands g dense nzaat old t s →
     (u : QuotientGraph) × ((states : List State) × Follows g aggressive t s states u ×
-    Stands g dense new u (last_state s states))
+    Stands g dense nzaat new u (last_state s states))
 
--- no row is live in any state that the record stands for
-abbrev pub NoRowIsLive : {A : Type 0} → Work A → Type 0
-NoRowIsLive w = (g : Graph) (dense : ℕ → Bool) (t : QuotientGraph) (s : State) → Stands g dense w t s → (v : ℕ) →
-    live s v ≡ false
+-- no row is live in any state that the workspace stands for
+abbrev pub NoRowIsLive : Workspace → Type 0
+NoRowIsLive p = (g : Graph) (dense : ℕ → Bool) (nzaat : ℕ) (t : QuotientGraph) (s : State) →
+    Stands g dense nzaat p t s →
+    (v : ℕ) → live s v ≡ false

@@ -1,8 +1,6 @@
--- What the rounds of an elimination promise. The model that they follow stands in the crate amd_model.
-pub mod Views
-pub mod Buckets
-pub mod Rounds
+-- What the rounds of an elimination in one workspace promise. The model that they follow stands in the crate amd_model.
+pub mod Workspaces
+pub mod Laid
 pub mod Keeps
-pub mod Starts
-pub mod Groups
 pub mod Parts
+pub mod Premises

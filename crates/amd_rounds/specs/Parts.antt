@@ -1,96 +1,153 @@
--- The three parts of a round of the plain engine, each between the record before and after it.
-use Rattle.std.specs.Prelude.{ℕ, Bool, true, Some, List, ◌∷◌, ◌++◌, ◌≡◌, ◌≤◌, ◌⊎◌, ◌==◌, ◌&&◌, ◌+◌, ◌-◌, not, cond, max}
+-- What the parts of a round do to a workspace, each between the workspace before and after it.
+use Rattle.std.specs.Prelude.{ℕ, Bool, true, false, List, ◌≡◌, ◌<◌, ◌≤◌, ◌+◌, ◌-◌, ◌==◌, ◌&&◌, not, cond, max, nat_lt}
 use Rattle.std.specs.Prelude.{length, filter}
-use Rattle.std.specs.Prelude.{flat_map, sum_by}
+use Rattle.std.specs.Prelude.{sum_by, slice_set}
 use Rattle.amd_model.specs.Figures.{cut, front_sum, entries, ldl_steps, lu_steps}
-use Rattle.amd_model.specs.Quotient.{has, last_that, turned}
-use Rattle.amd_rounds.specs.Views.{num, some_at, list_at, live_of}
-use Rattle.amd_rounds.specs.Buckets.{Chosen}
-use Rattle.amd_rounds.specs.Rounds.{firsts, mass, alike_in, Absorbed, new_bound}
-use Rattle.amd_rounds.specs.Keeps.{IsSized}
-use Rattle.amd_rounds.specs.declared.work.Work.{Work}
+use Rattle.amd_model.specs.Quotient.{has}
+use Rattle.amd_words.specs.Words.{num, word, place, start, size_of, in_front, classes, flip_of}
+use Rattle.amd_elements.specs.Element.{front_of}
+use Rattle.amd_lists.specs.Layout.{has_list, end_of, elements_in, list_in, Layout}
+use Rattle.amd_lists.specs.Chains.{DegreeLists, Chooses, without}
+use Rattle.amd_elements.specs.Beginning.{Begins}
+use Rattle.amd_fronts.specs.Turning.{TurnsFront}
+use Rattle.amd_merging.specs.Merging.{MergesAll, represents_in, bucket_of}
+use Rattle.amd_merging.specs.Restoring.{marked_in, bound_in, put_all, Restores}
+use Rattle.amd_merging.specs.Closing.{Closes}
+use Rattle.amd_rounds.specs.Workspaces.{Workspace}
+use Rattle.amd_rounds.specs.Laid.{IsSized}
 
--- what a part of a round leaves as it was: the sizes, bounds and links of rows, and the number of live rows
-pub record KeepsRows {A : Type 0} (w v : Work A) : Type 0 where
-  pub size : v.size ≡ w.size
-  pub bound : v.bound ≡ w.bound
-  pub link : v.link ≡ w.link
-  pub live : v.live ≡ w.live
+-- the lists by bound of a workspace are these
+abbrev pub Links : ℕ → Workspace → (ℕ → List ℕ) → Type 0
+Links n p lists = DegreeLists n p.head p.next p.last p.degree lists
 
--- a part of a round leaves the numbers of the elements, the number of dense rows and the figures as they were
-pub record KeepsElements {A : Type 0} (w v : Work A) : Type 0 where
-  pub block : v.block ≡ w.block
-  pub front : v.front ≡ w.front
-  pub n_dense : v.n_dense ≡ w.n_dense
-  pub figures : v.figures ≡ w.figures
+-- the list of the element me
+abbrev pub front_at : Workspace → ℕ → List ℕ
+front_at p me = list_in p.iw p.pe p.len me
 
--- the pivot c is taken out of its list, its front is gathered, and elements are absorbed
-pub record MakesElement {A : Type 0} (aggressive : Bool) (c : ℕ) (front : List ℕ) (w v : Work A) : Type 0 where
-  pub chosen : Chosen w.size.items w.bound.items w.placed.items v.placed.items w.least v.least c
-  pub front_is : front ≡ firsts (λ x. x == c) (flat_map (λ e. live_of w.size.items (list_at w.lists.members.items e))
-      (list_at w.lists.elements.items c) ++ live_of w.size.items (list_at w.lists.variables.items c))
-  pub absorbed : Absorbed aggressive c front w.size.items w.block.items w.front.items w.lists v.lists w.parent.items
-      v.parent.items
-      v.scratch.beyond.items
-  pub rows : KeepsRows w v
-  pub elements : KeepsElements w v
-  pub sized : IsSized (length w.size.items) v
+-- the pivot me was chosen and taken out of its list
+pub record Picks (n me : ℕ) (p v : Workspace) : Type 0 where
+  pub row : me < n
+  pub chosen : (lists : ℕ → List ℕ) → Links n p lists → Chooses n p.least lists me v.least
+  pub linked : (lists : ℕ → List ℕ) → Links n p lists → Links n v (λ b. without me (lists b))
+  pub sized : IsSized n v
+  pub same : v ≡ record p { head = v.head; next = v.next; last = v.last; least = v.least }
 
--- the pivot and what keeps nothing are eliminated, and classes alike become one
-pub record MergesClasses {A : Type 0} (c : ℕ) (front made : List ℕ) (border block : ℕ) (w v : Work A) : Type 0 where
-  pub rest : List ℕ
-  pub rest_is : rest ≡ filter (λ i. not (mass w.lists.elements.items w.lists.variables.items i)) front
-  pub border_is : border ≡ sum_by (num w.size.items) rest
-  pub block_is : block ≡ num w.size.items c + (sum_by (num w.size.items) front - border)
-  pub into_is : (i : ℕ) → has rest i ≡ true → num v.scratch.into.items i ≡ last_that
-      (alike_in w.lists.elements.items w.lists.variables.items i) i rest
-  pub made_is : made ≡ filter (λ i. num v.scratch.into.items i == i) rest
-  pub retired : List ℕ
-  pub retired_is : (x : ℕ) → num retired x ≡ cond (has front x && mass w.lists.elements.items w.lists.variables.items x)
-      0
-      (num w.size.items x)
-  pub joined : List ℕ
-  pub joined_is : (x : ℕ) → num joined x ≡ cond (has rest x)
-      (cond (num v.scratch.into.items x == x) (sum_by (num retired)
-      (filter (λ j. num v.scratch.into.items j == x) rest)) 0) (num retired x)
-  pub size_is : (x : ℕ) → num v.size.items x ≡ cond (x == c) 0 (num joined x)
-  pub link_is : (x : ℕ) → some_at v.link.items x ≡ cond (has rest x && not (num v.scratch.into.items x == x))
-      (Some (num v.scratch.into.items x))
-      (cond (has front x && mass w.lists.elements.items w.lists.variables.items x) (Some c) (some_at w.link.items x))
-  pub live_is : v.live ≡ w.live - block
-  pub lists : v.lists ≡ w.lists
-  pub bound : v.bound ≡ w.bound
-  pub placed : v.placed ≡ w.placed
-  pub least : v.least ≡ w.least
-  pub parent : v.parent ≡ w.parent
-  pub beyond : v.scratch.beyond ≡ w.scratch.beyond
-  pub elements : KeepsElements w v
-  pub sized : IsSized (length w.size.items) v
+-- the pivot me is an element, behind all lists if it listed elements, which it absorbs; `block` and `total` are its
+-- number of rows and that of its front
+pub record BeginsElement (n me block total : ℕ) (is_built : Bool) (p v : Workspace) : Type 0 where
+  pub front : List ℕ
+  pub front_is : front ≡ front_of p.iw p.nv p.pe p.len me (place (word p.e_len me))
+  pub begins : Begins n me (elements_in p.iw p.pe p.e_len me) front total p.iw p.nv p.pe p.e_len p.len v.iw v.nv v.pe
+      v.e_len v.len v.free
+  pub counters : (e : ℕ) → num v.w e ≡ cond (has (elements_in p.iw p.pe p.e_len me) e) 0 (num p.w e)
+  pub built_is : is_built ≡ nat_lt 0 (place (word p.e_len me))
+  pub before : is_built ≡ true → (j : ℕ) → (j ≡ me → ⊥) → has_list v.pe v.len j ≡ true →
+      end_of v.pe v.len j ≤ start v.pe me
+  pub total_is : total ≡ sum_by (size_of p.nv) front
+  pub block_is : block ≡ size_of p.nv me
+  pub end : v.free ≤ length v.iw
+  pub packed : v.n_cmp_a ≡ p.n_cmp_a + cond (is_built && nat_lt (length p.iw) (p.free + length front)) 1 0
+  pub sized : IsSized n v
+  pub same : v ≡ record p {
+    iw = v.iw;
+    nv = v.nv;
+    pe = v.pe;
+    e_len = v.e_len;
+    len = v.len;
+    w = v.w;
+    free = v.free;
+    n_cmp_a = v.n_cmp_a;
+  }
 
--- the classes of the new element c have their new bounds and lists, and are placed
-pub record RenewsClasses {A : Type 0} (c : ℕ) (made : List ℕ) (border block : ℕ) (w v : Work A) : Type 0 where
-  pub bound_is : (i : ℕ) → num v.bound.items i ≡ cond (has made i)
-      (new_bound border w.live w.lists w.scratch.beyond.items w.size.items w.bound.items i) (num w.bound.items i)
-  pub elements_is : (i : ℕ) → list_at v.lists.elements.items i ≡ cond (has made i)
-      (c ∷ turned (list_at w.lists.elements.items i))
-      (list_at w.lists.elements.items i)
-  pub variables_is : (i : ℕ) → list_at v.lists.variables.items i ≡ cond (has made i)
-      (turned (list_at w.lists.variables.items i))
-      (list_at w.lists.variables.items i)
-  pub members_is : (e : ℕ) → list_at v.lists.members.items e ≡ cond (e == c) made (list_at w.lists.members.items e)
-  pub placed_is : (b : ℕ) → list_at v.placed.items b ≡ list_at w.placed.items b ++ filter
-      (λ i. num v.bound.items i == b) made
-  pub least_is : (v.least ≤ w.least) × ((i : ℕ) → has made i ≡ true → v.least ≤ num v.bound.items i)
-  pub least_one : (v.least ≡ w.least) ⊎ ((i : ℕ) × (has made i ≡ true) × (v.least ≡ num v.bound.items i))
-  pub blocks : (e : ℕ) → num v.block.items e ≡ cond (e == c) block (num w.block.items e)
-  pub fronts : (e : ℕ) → num v.front.items e ≡ cond (e == c) (block + border) (num w.front.items e)
-  pub lnz : v.figures.lnz ≡ cut (w.figures.lnz + front_sum entries block (border + w.n_dense))
-  pub ldl : v.figures.n_mult_subs_ldl ≡ cut (w.figures.n_mult_subs_ldl + front_sum ldl_steps block (border + w.n_dense))
-  pub lu : v.figures.n_mult_subs_lu ≡ cut (w.figures.n_mult_subs_lu + front_sum lu_steps block (border + w.n_dense))
-  pub greatest : v.figures.d_max ≡ max w.figures.d_max (block + (border + w.n_dense))
-  pub size : v.size ≡ w.size
-  pub link : v.link ≡ w.link
-  pub live : v.live ≡ w.live
-  pub parent : v.parent ≡ w.parent
-  pub dense_rows : v.n_dense ≡ w.n_dense
-  pub sized : IsSized (length w.size.items) v
+-- the classes of the front of me were turned over to it, with counters that first may have been set anew; all counters
+-- come to at most most_figure
+pub record TurnsOver (aggressive : Bool) (n me gone most_figure : ℕ) (p v : Workspace) : Type 0 where
+  pub first : List ℕ
+  pub zeros : (e : ℕ) → (num first e == 0) ≡ (num p.w e == 0)
+  pub under : (e : ℕ) → num first e < v.flag
+  pub two : 2 ≤ v.flag
+  pub room : v.flag + n ≤ most_figure
+  pub turns : TurnsFront aggressive n me v.flag (front_at p me) p.free p.iw p.pe p.e_len p.nv p.len p.degree first v.iw
+      v.pe v.e_len v.nv
+      v.len v.degree v.w v.last gone
+  pub linked : (lists : ℕ → List ℕ) → ((i : ℕ) → has (front_at p me) i ≡ true → has (lists (num p.degree i)) i ≡ true) →
+      Links n p lists → Links n v (λ d. filter (λ j. not (has (front_at p me) j)) (lists d))
+  pub sized : IsSized n v
+  pub same : v ≡ record p {
+    iw = v.iw;
+    pe = v.pe;
+    e_len = v.e_len;
+    nv = v.nv;
+    len = v.len;
+    degree = v.degree;
+    w = v.w;
+    head = v.head;
+    next = v.next;
+    last = v.last;
+    flag = v.flag;
+  }
+
+-- the rows of the block are not live any more, and the classes of the front that are alike were merged
+pub record MergesFront (n me block border : ℕ) (p v : Workspace) : Type 0 where
+  pub merged : MergesAll (classes p.nv (front_at p me))
+      (represents_in p.iw p.pe p.e_len p.len (classes p.nv (front_at p me))) p.pe p.e_len
+      p.nv p.next v.pe v.e_len v.nv v.next
+  pub made : classes v.nv (front_at p me) ≡ filter
+      (λ i. represents_in p.iw p.pe p.e_len p.len (classes p.nv (front_at p me)) i == i) (classes p.nv (front_at p me))
+  pub heads : (b : ℕ) → b < n → num v.hash b < n → (1 < num p.len me) ×
+      (has (classes v.nv (front_at p me)) (num v.hash b) ≡ true)
+      × (bucket_of (num p.len me) p.last (num v.hash b) ≡ b)
+  pub linked : (lists : ℕ → List ℕ) → ((b x : ℕ) → b < n → has (lists b) x ≡ true →
+      has (classes p.nv (front_at p me)) x ≡ false) →
+      Links n p lists → Links n v lists
+  pub under : (x : ℕ) → num v.w x < v.flag
+  pub two : 2 ≤ v.flag
+  pub zeros : (x : ℕ) → (num v.w x == 0) ≡ (num p.w x == 0)
+  pub live_is : v.live ≡ p.live - block
+  pub most_is : v.most ≡ max p.most border
+  pub sized : IsSized n v
+  pub same : v ≡ record p {
+    pe = v.pe;
+    e_len = v.e_len;
+    nv = v.nv;
+    w = v.w;
+    hash = v.hash;
+    next = v.next;
+    flag = v.flag;
+    live = v.live;
+    most = v.most;
+  }
+
+-- the classes that are left of the front are placed by their new bounds, and the element me is closed
+pub record EndsFront (n me block border : ℕ) (is_built : Bool) (p v : Workspace) : Type 0 where
+  pub long : length v.iw ≡ length p.iw
+  pub bounds : List ℕ
+  pub restores : Restores (front_at p me) border p.live p.least p.nv p.degree v.nv bounds v.least
+  pub degrees : v.degree ≡ slice_set bounds me border
+  pub closes : Closes n me (in_front p.nv) p.iw p.pe p.e_len p.len v.iw v.e_len v.len p.free
+  pub counts : v.e_len ≡ slice_set p.e_len me (flip_of (block + border))
+  pub free_is : v.free ≡ cond is_built (end_of v.pe v.len me) p.free
+  pub laid : Layout n v.iw v.pe v.e_len v.len v.free
+  pub empty : (b : ℕ) → b < n → n ≤ num v.hash b
+  pub linked : (lists : ℕ → List ℕ) → ((b : ℕ) → b < n → has (lists b) me ≡ false) →
+      ((b x : ℕ) → b < n → has (lists b) x ≡ true → has (front_at p me) x ≡ false) → Links n p lists →
+      Links n v (put_all (bound_in border p.live p.nv p.degree) (marked_in p.nv (front_at p me)) lists)
+  pub lnz : v.figures.lnz ≡ cut (p.figures.lnz + front_sum entries block (border + p.n_dense))
+  pub ldl : v.figures.n_mult_subs_ldl ≡ cut (p.figures.n_mult_subs_ldl + front_sum ldl_steps block (border + p.n_dense))
+  pub lu : v.figures.n_mult_subs_lu ≡ cut (p.figures.n_mult_subs_lu + front_sum lu_steps block (border + p.n_dense))
+  pub greatest : v.figures.d_max ≡ max p.figures.d_max (block + (border + p.n_dense))
+  pub sized : IsSized n v
+  pub same : v ≡ record p {
+    iw = v.iw;
+    e_len = v.e_len;
+    nv = v.nv;
+    len = v.len;
+    degree = v.degree;
+    head = v.head;
+    next = v.next;
+    last = v.last;
+    hash = v.hash;
+    free = v.free;
+    least = v.least;
+    figures = v.figures;
+  }

@@ -1,68 +1,54 @@
-// What an elimination keeps between two rounds. Source: Amestoy, Davis and Duff 1996 (quotient graph). Filled by
-// `start`, changed by `rounds`.
+// What an elimination in one workspace keeps between two rounds: borrowed slices, and some numbers. Source: Amestoy,
+// Davis and Duff 1996 and 2004 (the arrays of the quotient graph). Changed by `round`.
 
-use amd_numbers::figures::Figures;
-use std::alloc::Allocator;
+use amd_types::figures::Figures;
+use amd_words::sides::Sides;
+use amd_words::{Cell, Signed, Unsigned, Word};
 
-/// The lists of the quotient graph: for each class its elements and its variables, for each element its members. Rows,
-/// classes and elements are numbers below the size of the matrix: a class is named by its representative, and an
-/// element by its pivot row.
+/// The state of an elimination of a matrix with `n` rows. Each slice but `iw` has `n` places, with a number in each,
+/// and in `sides` two. Where a figure names a row, `n` stands for no row. A mark is a number below zero: -1 names
+/// nothing, and `-k - 2` names `k`.
 #[derive(Drop)]
-pub struct Lists<A: Allocator> {
-    /// The direct neighbours of each class. What is a class no longer may stand among them.
-    pub variables: Vec<Vec<usize, A>, A>,
-    /// The standing elements that hold each class.
-    pub elements: Vec<Vec<usize, A>, A>,
-    /// The classes that each standing element holds. What is a class no longer may stand among them.
-    pub members: Vec<Vec<usize, A>, A>,
-}
-
-/// Room for a round: marks, which are clear between rounds, groups, which are empty then, and numbers that mean nothing
-/// then.
-#[derive(Drop)]
-pub struct Scratch<A: Allocator> {
-    /// Marks of classes, and of the pivot.
-    pub rows: Vec<bool, A>,
-    /// Marks of elements.
-    pub elements: Vec<bool, A>,
-    /// Groups of classes, in which those alike are looked for.
-    pub groups: Vec<Vec<usize, A>, A>,
-    /// For each element met in a round, the number of rows of its border in no class of the front.
-    pub beyond: Vec<usize, A>,
-    /// For each class of the front that is left, the class that represents it (itself, if it stays).
-    pub into: Vec<usize, A>,
-}
-
-/// The state of an elimination.
-#[derive(Drop)]
-pub struct Work<A: Allocator> {
-    /// What asks for memory.
-    pub alloc: A,
-    /// The lists of the quotient graph.
-    pub lists: Lists<A>,
-    /// The number of rows of each class, and 0 for what is no class.
-    pub size: Vec<usize, A>,
-    /// The bound of each class.
-    pub bound: Vec<usize, A>,
-    /// For each bound the classes of that bound in the order of placing, and others that are passed over.
-    pub placed: Vec<Vec<usize, A>, A>,
-    /// No class has a bound below it.
-    pub least: usize,
+pub struct Work<'a, S: Signed, U: Unsigned> {
+    /// All lists: that of a class names its elements and then its variables, that of an element its members.
+    pub iw: &'a mut [Word<S>],
+    /// Where the list of each row starts. An absorbed element has the mark of its parent here, and a row that was
+    /// merged or went with a pivot that of the row with which it goes.
+    pub pe: &'a mut [Word<S>],
+    /// The number of elements that a class lists. An element has the mark of the number of rows of its block and border
+    /// here, and a row that is neither has -1.
+    pub e_len: &'a mut [Word<S>],
+    /// The number of rows of each class, and 0 for what is no class. In a round it is negative for a class of the
+    /// front.
+    pub nv: &'a mut [Word<S>],
+    /// The number of words of each list.
+    pub len: &'a mut [Cell<U>],
+    /// The bound of each class, and the number of rows of the border of each element.
+    pub degree: &'a mut [Cell<U>],
+    /// A counter of each row, above 0 for a class and for a standing element.
+    pub w: &'a mut [Cell<U>],
+    /// The first class of each bound.
+    pub head: &'a mut [Cell<U>],
+    /// The two sides of each class in its list by bound: the class behind it and the one before it. In a round a class
+    /// in a bucket has the next one of the bucket behind it, and a class of the front has its key where the one before
+    /// it stood.
+    pub sides: &'a mut [Sides<U>],
+    /// The first class of each bucket, in which classes alike are looked for. Between rounds there is none.
+    pub hash: &'a mut [Cell<U>],
+    /// No list has a word from here on.
+    pub free: usize,
     /// The number of rows that are live.
     pub live: usize,
-    /// For a row that was merged the row of the class that it went into, and for one that was mass-eliminated the
-    /// pivot.
-    pub link: Vec<Option<usize>, A>,
-    /// The parent of each absorbed element.
-    pub parent: Vec<Option<usize>, A>,
-    /// The number of rows of the block of each element, and 0 for what is no element.
-    pub block: Vec<usize, A>,
-    /// The number of rows of the block and of the border of each element.
-    pub front: Vec<usize, A>,
-    /// The number of dense rows.
+    /// No class has a bound below it.
+    pub least: usize,
+    /// A number above each counter.
+    pub flag: usize,
+    /// The number of rows of the greatest border so far.
+    pub most: usize,
+    /// How often the lists were packed.
+    pub n_cmp_a: usize,
+    /// The number of rows held last.
     pub n_dense: usize,
     /// The figures of the fronts so far.
     pub figures: Figures,
-    /// Room for a round.
-    pub scratch: Scratch<A>,
 }

@@ -3,7 +3,7 @@ use Rattle.std.proofs.Common.{ℕ, ℤ, ◌≡◌, sym, ◌∙◌, subst, List}
 use Rattle.std.specs.Prelude.{unsigned_abs, Option}
 use Rattle.amd_model.specs.Factor.{IsFactor}
 use Rattle.amd_model.specs.Input.Pattern.{graph_of}
-use Rattle.amd_numbers.proofs.SignedCounts.{same_counts}
+use Rattle.amd_types.proofs.SignedCounts.{same_counts}
 use Rattle.amd_factor.specs.Columns.{HoldColumns}
 use Rattle.amd_factor.specs.Earlier.{Permutes}
 use Rattle.amd_factor.proofs.FactorOnce.{factor_once}

@@ -10,9 +10,9 @@ use Rattle.amd_model.specs.Input.Pattern.{graph_of}
 use Rattle.amd_factor.specs.Columns.{HoldFactor, PassesRoom}
 use Rattle.amd_factor.specs.Earlier.{Permutes}
 use Rattle.amd_factor.proofs.FactorOnce.{factor_once, needs_once}
-use Rattle.amd_numbers.specs.declared.amd.Info.{Info}
-use Rattle.amd_numbers.specs.declared.amd.Status.{Status}
-use Rattle.amd_numbers.specs.declared.amd.Status.TheVariants.{OK, Invalid, OkButJumbled, OutOfMemory}
+use Rattle.amd_types.specs.declared.amd.Info.{Info}
+use Rattle.amd_types.specs.declared.amd.Status.{Status}
+use Rattle.amd_types.specs.declared.amd.Status.TheVariants.{OK, Invalid, OkButJumbled, OutOfMemory}
 use Rattle.amd.specs.Answers.{IsInputHolding, IsOrderingHolding, IsRefusalHolding, OrdersMatrix}
 use Rattle.amd_symbolic.specs.Factors.{IsFactorOf, IsFaultHolding}
 use Rattle.amd_symbolic.specs.Laws.{FiguresBound, FiguresReserve, size_of}

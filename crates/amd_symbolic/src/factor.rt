@@ -9,7 +9,7 @@ ghost use Rattle.amd_model.specs.Input.Columns.{IsColumnForm};
 ghost use Rattle.amd_model.specs.Input.Pattern.{graph_of};
 ghost use Rattle.amd_factor.specs.Columns.{HoldFactor, PassesRoom};
 ghost use Rattle.amd_factor.specs.Earlier.{HasEarlier, Order};
-ghost use Rattle.amd_numbers.specs.Counts.{counts};
+ghost use Rattle.amd_types.specs.Counts.{counts};
 ghost use Rattle.amd_symbolic.specs.Factors.{IsFactorOf, IsFault};
 ghost use Rattle.amd_symbolic.specs.declared.factor.Fault.TheVariants.{OutOfMemory};
 
@@ -18,7 +18,7 @@ use amd::valid::valid;
 use amd_earlier::lists::earlier_lists;
 use amd_earlier::places::places;
 use amd_factor::fill::fill;
-use amd_numbers::internal::to_count;
+use amd_types::internal::to_count;
 use num_traits::PrimInt;
 use std::alloc::{AllocError, AllocFailed, Allocator};
 

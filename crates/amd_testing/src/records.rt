@@ -1,7 +1,7 @@
 // The record of an ordering as a list of its numbers, so that a test compares all of them at once. Called by tests
 // alone.
 
-use amd_numbers::amd::Info;
+use amd_types::amd::Info;
 
 /// The numbers of a record, in the order of its fields.
 pub fn numbers_of(info: &Info) -> [usize; 11] {

@@ -6,7 +6,7 @@ ghost use Rattle.std.specs.Io.KnownBytes.{Appends};
 ghost use Rattle.amd_texts.specs.Texts.{absorption_line, control_text, dense_lines, fraction, parameter_line};
 ghost use Rattle.amd_texts.specs.Texts.{thousandths, threshold_lines};
 
-use amd_numbers::amd::Control;
+use amd_types::amd::Control;
 use std::io;
 use std::io::Write;
 

@@ -8,7 +8,7 @@ ghost use Rattle.std.specs.Io.KnownBytes.{Appends};
 ghost use Rattle.amd_texts.specs.Texts.{factor_lines, info_text, labelled, matrix_lines, note_lines, status_word};
 ghost use Rattle.amd_texts.specs.Texts.{total_lines};
 
-use amd_numbers::amd::{Info, Status};
+use amd_types::amd::{Info, Status};
 use std::fmt::Display;
 use std::io;
 use std::io::Write;

@@ -6,16 +6,16 @@ use Rattle.amd_model.specs.Graph.{Graph, IsGraph, degree}
 use Rattle.amd_model.specs.State.{State, IsStart}
 use Rattle.amd_model.specs.Quotient.{start_quotient}
 use Rattle.amd_model.specs.QuotientLaws.{NamesNeighbours}
-use Rattle.amd_views.specs.Starts.{IsBegun}
-use Rattle.amd_views.proofs.Lists.Rising.{list_same, filter_below}
-use Rattle.amd_views.proofs.Starting.{class_test, view_at_start}
-use Rattle.amd_places.specs.Words.{num}
-use Rattle.amd_places.specs.Layout.{list_in}
-use Rattle.amd_places.specs.Chains.{DegreeLists}
-use Rattle.amd_places.proofs.Leaving.{lists_same}
-use Rattle.amd_inplace.specs.Workspaces.{Workspace, view_of}
-use Rattle.amd_inplace.specs.Laid.{IsLaid}
-use Rattle.amd_inplace.specs.Keeps.{Stands, by_bound}
+use Rattle.amd_round_laws.specs.Starts.{IsBegun}
+use Rattle.amd_round_laws.proofs.Lists.Rising.{list_same, filter_below}
+use Rattle.amd_round_laws.proofs.Starting.{class_test, view_at_start}
+use Rattle.amd_words.specs.Words.{num}
+use Rattle.amd_lists.specs.Layout.{list_in}
+use Rattle.amd_lists.specs.Chains.{DegreeLists}
+use Rattle.amd_lists.proofs.ChainLists.{lists_same}
+use Rattle.amd_rounds.specs.Workspaces.{Workspace, view_of}
+use Rattle.amd_rounds.specs.Laid.{IsLaid}
+use Rattle.amd_rounds.specs.Keeps.{Stands, by_bound}
 use Rattle.amd_workspace.specs.Starting.{Rows, is_class, classes_of}
 
 module _ (n nzaat : ℕ) (held : ℕ → Bool) (p : Rows) (v : Workspace)

@@ -10,12 +10,12 @@ use Rattle.amd_model.specs.Figures.{front_sum, entries, ldl_steps, lu_steps, cut
 use Rattle.amd_model.specs.Quotient.{has}
 use Rattle.amd_model.proofs.Counting.Below.{sum_mono, count_same, count_most}
 use Rattle.amd_model.proofs.Listings.Words.{has_none}
-use Rattle.amd_views.specs.Starts.{class_of, block_of, IsBegun}
-use Rattle.amd_places.specs.Words.{num, word, place, is_place, start, size_of, inside, rows_in, rows, flip_of}
-use Rattle.amd_places.specs.Layout.{has_list, end_of, elements_in, variables_in, list_in, Layout, live_words}
-use Rattle.amd_inplace.specs.Workspaces.{Workspace, owner_of, is_flip, is_over, flipped, view_of}
-use Rattle.amd_inplace.specs.Laid.{IsSized, IsLaid}
-use Rattle.amd_inplace.proofs.Standing.{flip_is, over_is, place_is}
+use Rattle.amd_round_laws.specs.Starts.{class_of, block_of, IsBegun}
+use Rattle.amd_words.specs.Words.{num, word, place, is_place, start, size_of, inside, rows_in, rows, flip_of}
+use Rattle.amd_lists.specs.Layout.{has_list, end_of, elements_in, variables_in, list_in, Layout, live_words}
+use Rattle.amd_rounds.specs.Workspaces.{Workspace, owner_of, is_flip, is_over, flipped, view_of}
+use Rattle.amd_rounds.specs.Laid.{IsSized, IsLaid}
+use Rattle.amd_rounds.proofs.Standing.{flip_is, over_is, place_is}
 use Rattle.amd_workspace.specs.Starting.{Rows, BeginsRows, is_class}
 
 -- what a workspace says of the rows

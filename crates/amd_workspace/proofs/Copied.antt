@@ -7,13 +7,13 @@ use Rattle.amd_model.specs.Below.{count_below, list_below}
 use Rattle.amd_model.specs.Input.Columns.{IsColumnForm}
 use Rattle.amd_model.proofs.Counting.Places.{length_below}
 use Rattle.amd_model.proofs.Counting.Below.{sum_stretch}
-use Rattle.amd_numbers.specs.Counts.{counts, is_entry}
+use Rattle.amd_types.specs.Counts.{counts, is_entry}
 use Rattle.amd_edges.proofs.Forms.{IsSortedForm, same_pair}
 use Rattle.amd_edges.proofs.Orders.{list_gap, list_next}
 use Rattle.amd_edges.proofs.Places.{funext2, entry_from, entry_gives}
 use Rattle.amd_edges.proofs.Reading.{IsReading}
-use Rattle.amd_places.specs.Words.{place, word, rows}
-use Rattle.amd_places.proofs.RowLists.{rows_none, rows_more, rows_same}
+use Rattle.amd_words.specs.Words.{place, word, rows}
+use Rattle.amd_words.proofs.RowLists.{rows_none, rows_more, rows_same}
 use Rattle.amd_workspace.specs.Copying.{is_other, AreRows, Copies}
 use Rattle.amd_workspace.proofs.Layings.{row_word}
 use Rattle.amd_workspace.proofs.SymmetricLists.{own}

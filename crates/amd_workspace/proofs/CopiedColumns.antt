@@ -6,8 +6,8 @@ use Rattle.amd_model.specs.Input.Pattern.{graph_of}
 use Rattle.amd_model.proofs.Counting.Places.{length_below}
 use Rattle.amd_edges.specs.Visits.{AreCounts, start_of}
 use Rattle.amd_edges.proofs.Listing.{start_later}
-use Rattle.amd_places.specs.Words.{num, rows}
-use Rattle.amd_places.proofs.RowLists.{rows_at, rows_same}
+use Rattle.amd_words.specs.Words.{num, rows}
+use Rattle.amd_words.proofs.RowLists.{rows_at, rows_same}
 use Rattle.amd_workspace.specs.Copying.{is_other, Copies}
 use Rattle.amd_workspace.proofs.SymmetricCounts.{next_start}
 

@@ -3,9 +3,9 @@ use Rattle.std.proofs.Common.{ℕ, ℤ, zero, suc, pos, negsuc, false, ◌≡◌
 use Rattle.std.proofs.Common.{arith, unsigned_abs}
 use Rattle.std.specs.Prelude.{int_lt}
 use Rattle.std.proofs.lemmas.Int.{ints}
-use Rattle.amd_places.specs.Words.{flip_of}
-use Rattle.amd_inplace.specs.Workspaces.{is_flip, flipped}
-use Rattle.amd_inplace.proofs.Standing.{flip_is}
+use Rattle.amd_words.specs.Words.{flip_of}
+use Rattle.amd_rounds.specs.Workspaces.{is_flip, flipped}
+use Rattle.amd_rounds.proofs.Standing.{flip_is}
 use Rattle.amd_workspace.specs.Ending.{named_word}
 
 -- a mark

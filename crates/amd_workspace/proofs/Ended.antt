@@ -10,14 +10,14 @@ use Rattle.amd_model.specs.Quotient.{QuotientGraph}
 use Rattle.amd_model.proofs.Counting.Below.{count_pos}
 use Rattle.amd_model.proofs.States.EndState.{IsEnd}
 use Rattle.amd_model.proofs.States.Words.{live_from, block_gives, block_from}
-use Rattle.amd_numbers.specs.Links.{named}
-use Rattle.amd_views.specs.Keeps.{LinksLead}
-use Rattle.amd_places.specs.Words.{num, word, is_place, rows_in, size_of}
-use Rattle.amd_places.proofs.Signs.{rows_of, is_place_of}
-use Rattle.amd_inplace.specs.Workspaces.{Workspace, view_of, owner_of, is_flip, is_over, flipped}
-use Rattle.amd_inplace.specs.Keeps.{Stands}
-use Rattle.amd_inplace.proofs.Standing.{over_is, flip_no_place, some_cond}
-use Rattle.amd_inplace.proofs.RoundFields.{class_word}
+use Rattle.amd_types.specs.Links.{named}
+use Rattle.amd_round_laws.specs.Keeps.{LinksLead}
+use Rattle.amd_words.specs.Words.{num, word, is_place, rows_in, size_of}
+use Rattle.amd_words.proofs.Signs.{rows_of, is_place_of}
+use Rattle.amd_rounds.specs.Workspaces.{Workspace, view_of, owner_of, is_flip, is_over, flipped}
+use Rattle.amd_rounds.specs.Keeps.{Stands}
+use Rattle.amd_rounds.proofs.Standing.{over_is, flip_no_place, some_cond}
+use Rattle.amd_rounds.proofs.RoundFields.{class_word}
 use Rattle.amd_listing.specs.Ended.{row_link, LinksAre, IsEnded}
 use Rattle.amd_workspace.specs.Ending.{named_word, EndsRows}
 

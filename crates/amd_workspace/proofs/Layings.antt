@@ -11,10 +11,10 @@ use Rattle.amd_model.specs.Graph.{Graph}
 use Rattle.amd_edges.specs.Visits.{IsNew, IsNewEdge, with_arc, with_edge, AreCounts, start_of, ends_of}
 use Rattle.amd_edges.proofs.Arcs.{ends_apart, written_again}
 use Rattle.amd_edges.proofs.Listing.{start_later, start_sums, lists_none, lists_more, place_in}
-use Rattle.amd_places.specs.Words.{num, is_place, place, word, start, rows}
-use Rattle.amd_places.specs.Layout.{has_list, end_of, list_in, live_words}
-use Rattle.amd_places.proofs.Frames.{has_parts, has_none}
-use Rattle.amd_places.proofs.RowLists.{rows_at, rows_none, rows_more}
+use Rattle.amd_words.specs.Words.{num, is_place, place, word, start, rows}
+use Rattle.amd_lists.specs.Layout.{has_list, end_of, list_in, live_words}
+use Rattle.amd_lists.proofs.Frames.{has_parts, has_none}
+use Rattle.amd_words.proofs.RowLists.{rows_at, rows_none, rows_more}
 use Rattle.amd_workspace.specs.Copying.{AreRows}
 use Rattle.amd_workspace.specs.Laying.{Lays, Starts, IsLaidOut}
 

@@ -11,7 +11,7 @@ use Rattle.amd_model.specs.Below.{list_below}
 use Rattle.amd_model.specs.Input.Columns.{IsColumnForm, IsSorted}
 use Rattle.amd_model.specs.Input.Pattern.{is_pair}
 use Rattle.amd_model.proofs.Counting.Below.{clash}
-use Rattle.amd_numbers.specs.Counts.{counts, is_entry}
+use Rattle.amd_types.specs.Counts.{counts, is_entry}
 use Rattle.amd_edges.proofs.Forms.{IsSortedForm, same_pair, sorted_form}
 use Rattle.amd_edges.proofs.Orders.{list_gap}
 use Rattle.amd_edges.proofs.Places.{entry_from, entry_gives}

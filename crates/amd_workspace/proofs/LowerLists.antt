@@ -13,7 +13,7 @@ use Rattle.amd_model.specs.Quotient.{was_read, met_below, met_at, met_edges, oth
 use Rattle.amd_model.proofs.Counting.Below.{none_any, clash, count_split, count_same}
 use Rattle.amd_model.proofs.Counting.Places.{length_below, below_skip, below_take}
 use Rattle.amd_edges.proofs.Orders.{unread, list_gap}
-use Rattle.amd_views.proofs.Lists.Rising.{list_same}
+use Rattle.amd_round_laws.proofs.Lists.Rising.{list_same}
 use Rattle.amd_workspace.proofs.Copied.{others_most}
 use Rattle.amd_workspace.proofs.SymmetricLists.{own, flat_push, flat_none, flat_of_map, flat_same}
 

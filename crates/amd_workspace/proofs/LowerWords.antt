@@ -9,17 +9,17 @@ use Rattle.std.proofs.lemmas.List.{take_more, take_all, get_or-map, get_or_past,
 use Rattle.std.proofs.lemmas.List.{get_or-append-add, get_or-append_right, length-map}
 use Rattle.std.specs.Cmp.{both_ways}
 use Rattle.std.specs.Prelude.{replicate}
-use Rattle.amd_views.proofs.Lists.Rising.{list_yes, list_no}
+use Rattle.amd_round_laws.proofs.Lists.Rising.{list_yes, list_no}
 use Rattle.amd_model.specs.Below.{list_below, count_below}
 use Rattle.amd_model.specs.Input.Pattern.{graph_of, is_pair}
 use Rattle.amd_model.specs.Quotient.{starting_list}
 use Rattle.amd_model.proofs.Counting.Below.{clash}
-use Rattle.amd_numbers.specs.Counts.{counts}
+use Rattle.amd_types.specs.Counts.{counts}
 use Rattle.amd_edges.specs.Visits.{AreCounts}
 use Rattle.amd_edges.proofs.Listing.{start_later}
 use Rattle.amd_edges.proofs.Orders.{list_gap}
-use Rattle.amd_places.specs.Words.{num, is_place, place, word, rows}
-use Rattle.amd_places.proofs.RowLists.{rows_none, rows_more, rows_same, rows_length, rows_both}
+use Rattle.amd_words.specs.Words.{num, is_place, place, word, rows}
+use Rattle.amd_words.proofs.RowLists.{rows_none, rows_more, rows_same, rows_length, rows_both}
 use Rattle.amd_workspace.specs.Copying.{is_other, AreRows}
 use Rattle.amd_workspace.specs.Lower.{IsLower, is_earlier, earlier_of, own_of, list_start, HoldsOwn, Spreads, earlier_below, HasColumns}
 use Rattle.amd_workspace.proofs.Layings.{row_word}

@@ -9,11 +9,11 @@ use Rattle.amd_model.specs.Quotient.{has}
 use Rattle.amd_model.proofs.Listings.Words.{has_none}
 use Rattle.amd_model.proofs.Counting.Below.{clash}
 use Rattle.amd_model.proofs.Quotient.Start.{has_below}
-use Rattle.amd_views.proofs.Lists.Rising.{list_yes, list_no, count_yes, count_no}
-use Rattle.amd_places.specs.Words.{num, word, flip_of}
-use Rattle.amd_places.specs.Chains.{DegreeLists}
-use Rattle.amd_places.proofs.Leaving.{lists_same}
-use Rattle.amd_inplace.proofs.ByBound.{has_reverse}
+use Rattle.amd_round_laws.proofs.Lists.Rising.{list_yes, list_no, count_yes, count_no}
+use Rattle.amd_words.specs.Words.{num, word, flip_of}
+use Rattle.amd_lists.specs.Chains.{DegreeLists}
+use Rattle.amd_lists.proofs.ChainLists.{lists_same}
+use Rattle.amd_rounds.proofs.ByBound.{has_reverse}
 use Rattle.amd_workspace.specs.Starting.{Rows, AreLong, IsSame, BeginsRow, BeginsRows, is_class, classes_of}
 
 -- ---- what is written at a row

@@ -11,7 +11,7 @@ use Rattle.amd_model.specs.Below.{list_below}
 use Rattle.amd_model.specs.Quotient.{was_read, met_below, met_at, met_edges, other_end, starting_list}
 use Rattle.amd_model.proofs.Counting.Below.{any_from, clash}
 use Rattle.amd_edges.proofs.Orders.{unread, list_gap}
-use Rattle.amd_views.proofs.Lists.Rising.{list_same}
+use Rattle.amd_round_laws.proofs.Lists.Rising.{list_same}
 
 -- another row that stands in the column
 abbrev pub own : (ℕ → ℕ → Bool) → ℕ → ℕ → Bool

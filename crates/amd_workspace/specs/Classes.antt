@@ -1,6 +1,6 @@
 -- The classes at the start of an elimination, which stand in the lists by bound.
 use Rattle.std.specs.Prelude.{ℕ, Bool, Option, List, length, reverse}
-use Rattle.amd_places.specs.Chains.{DegreeLists}
+use Rattle.amd_lists.specs.Chains.{DegreeLists}
 use Rattle.amd_workspace.specs.Starting.{held_in, is_class, classes_of}
 
 -- a row is a class at the start

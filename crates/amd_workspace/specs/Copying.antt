@@ -1,7 +1,7 @@
 -- The lists of a symmetric pattern, copied from its columns.
 use Rattle.std.specs.Prelude.{ℕ, ℤ, Bool, true, List, length, ◌≡◌, ◌<◌, ◌+◌, ◌&&◌, ◌==◌, not}
 use Rattle.amd_model.specs.Input.Pattern.{is_pair}
-use Rattle.amd_places.specs.Words.{is_place, place, word, rows}
+use Rattle.amd_words.specs.Words.{is_place, place, word, rows}
 
 -- row x stands in column i, and is another row
 unfoldable pub is_other : ℕ → List ℤ → List ℤ → ℕ → ℕ → Bool

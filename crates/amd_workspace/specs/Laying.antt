@@ -3,8 +3,8 @@ use Rattle.std.specs.Prelude.{ℕ, ℤ, Bool, true, pos, replicate, List, map, l
 use Rattle.amd_model.specs.Below.{sum_below}
 use Rattle.amd_model.specs.Graph.{Graph}
 use Rattle.amd_edges.specs.Visits.{AreLists}
-use Rattle.amd_places.specs.Words.{num, is_place, place, word}
-use Rattle.amd_places.specs.Layout.{Layout, live_words}
+use Rattle.amd_words.specs.Words.{num, is_place, place, word}
+use Rattle.amd_lists.specs.Layout.{Layout, live_words}
 
 -- the words so far: the lists of the arcs that were seen, where each word is a row, and both widths hold what comes
 pub record Lays (g : Graph) (seen : ℕ → ℕ → Bool) (arcs : List (ℕ × ℕ)) (most_word most_figure : ℕ) (next : List ℕ)

@@ -4,7 +4,7 @@ use Rattle.std.specs.Prelude.{ℕ, ℤ, Bool, true, List, length, ◌≡◌, ◌
 use Rattle.amd_model.specs.Below.{list_below}
 use Rattle.amd_model.specs.Input.Pattern.{graph_of, is_pair}
 use Rattle.amd_edges.specs.Visits.{AreCounts, start_of}
-use Rattle.amd_places.specs.Words.{num, rows}
+use Rattle.amd_words.specs.Words.{num, rows}
 use Rattle.amd_workspace.specs.Copying.{is_other, AreRows}
 
 -- the numbers of a matrix that a function is not given

@@ -3,7 +3,7 @@ use Rattle.std.specs.Prelude.{ℕ, ℤ, pos, negsuc, Bool, Option, List, ◌≡�
 use Rattle.std.specs.Prelude.{length}
 use Rattle.amd_model.specs.Below.{list_below}
 use Rattle.amd_model.specs.Input.Held.{is_marked}
-use Rattle.amd_places.specs.Words.{num, word, flip_of}
+use Rattle.amd_words.specs.Words.{num, word, flip_of}
 
 -- what the lists say of the rows: where the list of each row starts, its count of elements, its size, its length, its
 -- bound and its counter

@@ -9,12 +9,12 @@ ghost use Rattle.amd_model.specs.Input.Columns.{IsColumnForm, IsSorted};
 ghost use Rattle.amd_model.specs.Input.Pattern.{graph_of, is_pair, IsSymmetric};
 ghost use Rattle.amd_model.specs.Quotient.{starting_list};
 ghost use Rattle.amd_edges.specs.Visits.{AreCounts, start_of};
-ghost use Rattle.amd_places.specs.Words.{num, rows};
+ghost use Rattle.amd_words.specs.Words.{num, rows};
 ghost use Rattle.amd_workspace.specs.Copying.{is_other, AreRows, Copies};
 
-use amd_cells::{Signed, Word};
-use amd_numbers::internal::count_at;
-use amd_places::words::put_row;
+use amd_types::internal::count_at;
+use amd_words::words::put_row;
+use amd_words::{Signed, Word};
 use num_traits::PrimInt;
 
 /// Copies the rows of column `i`, one of `size`, but `i` itself, to the words from `free` on. Answers where they end.

@@ -5,12 +5,12 @@
 
 ghost use Rattle.std.specs.Prelude.{◌≡◌, ◌<◌, ◌≤◌, ◌-◌, ◌<ℤ◌, pos, negsuc, cond, nat_lt, length, slice_set};
 ghost use Rattle.std.specs.Prelude.{unsigned_abs};
-ghost use Rattle.amd_places.specs.Words.{num, word, is_place, flip_of};
-ghost use Rattle.amd_inplace.specs.Workspaces.{is_flip, flipped};
+ghost use Rattle.amd_words.specs.Words.{num, word, is_place, flip_of};
+ghost use Rattle.amd_rounds.specs.Workspaces.{is_flip, flipped};
 ghost use Rattle.amd_workspace.specs.Ending.{named_word, EndsRows};
 
-use amd_cells::{Figure, Signed, Unsigned, Word, figure_at, put_word, word_at};
-use amd_places::words::{names_one, put_row};
+use amd_words::words::{names_one, put_row};
+use amd_words::{Cell, Signed, Unsigned, Word, cell_at, put_word, word_at};
 
 /// The number that a mark names.
 fn number_in(mark: isize) -> usize
@@ -60,7 +60,7 @@ fn front_in<S: Signed>(e_len: &[Word<S>], i: usize) -> usize
 fn end_element<S: Signed, U: Unsigned>(
     e_len: &mut [Word<S>],
     nv: &mut [Word<S>],
-    degree: &[Figure<U>],
+    degree: &[Cell<U>],
     i: usize,
 )
     requires inside { (i < length e_len.old) × (i < length nv.old) × (i < length degree.now) }
@@ -71,7 +71,7 @@ fn end_element<S: Signed, U: Unsigned>(
         (cond (is_flip (word e_len.old i)) (flipped (word e_len.old i) - num degree.now i) 0)) }
 {
     let front = front_in(e_len, i);
-    let border = figure_at(degree, i);
+    let border = cell_at(degree, i);
     if front > border {
         put_row(e_len, i, front);
         put_row(nv, i, front - border);
@@ -86,7 +86,7 @@ pub fn end_rows<S: Signed, U: Unsigned>(
     pe: &mut [Word<S>],
     e_len: &mut [Word<S>],
     nv: &mut [Word<S>],
-    degree: &[Figure<U>],
+    degree: &[Cell<U>],
 )
     requires lengths { (length pe.old ≡ length degree.now) × (length e_len.old ≡ length degree.now) ×
         (length nv.old ≡ length degree.now) }

@@ -2,8 +2,8 @@
 
 ghost use Rattle.std.specs.Prelude.{◌≡◌, ◌≤◌, ℕ, replicate, unsigned_abs, IfOk};
 
-use amd_cells::sides::{Sides, sides_of};
-use amd_cells::{Figure, Signed, Unsigned, Word, figure_of, word_of};
+use amd_words::sides::{Sides, sides_of};
+use amd_words::{Cell, Signed, Unsigned, Word, cell_of, word_of};
 use std::alloc::{AllocError, Allocator};
 
 /// `count` words, each of them `number`.
@@ -35,13 +35,13 @@ pub fn figures<U: Unsigned, A: Allocator>(
     alloc: A,
     count: usize,
     number: usize,
-) -> Result<Vec<Figure<U>, A>, AllocError>
+) -> Result<Vec<Cell<U>, A>, AllocError>
     requires fits { number ≤ U.MOST }
     ensures { IfOk result (λ v. v.items ≡ replicate count number) }
 {
     let mut list = Vec::with_capacity(alloc, count)?;
     'figures: for _ in 0..count {
-        list.push_reserved(figure_of(number));
+        list.push_reserved(cell_of(number));
     }
     Ok(list)
 }

@@ -9,8 +9,8 @@ ghost use Rattle.amd_model.specs.Input.Pattern.{graph_of, is_pair};
 ghost use Rattle.amd_model.specs.Below.{sum_below};
 ghost use Rattle.amd_model.specs.Quotient.{starting_list};
 ghost use Rattle.amd_edges.specs.Visits.{AreCounts, start_of};
-ghost use Rattle.amd_places.specs.Layout.{list_in};
-ghost use Rattle.amd_places.specs.Words.{num, rows};
+ghost use Rattle.amd_lists.specs.Layout.{list_in};
+ghost use Rattle.amd_words.specs.Words.{num, rows};
 ghost use Rattle.amd_workspace.specs.Copying.{AreRows};
 ghost use Rattle.amd_workspace.specs.Laying.{IsLaidOut, Lays, Starts};
 ghost use Rattle.amd_workspace.specs.Lower.{list_start};
@@ -18,9 +18,9 @@ ghost use Rattle.amd_workspace.specs.Lower.{list_start};
 use crate::copying::copy_symmetric;
 use crate::filling::words;
 use crate::lower::{has_long_lower, lower_lists};
-use amd_cells::{Figure, Signed, Unsigned, Word, figure_at, figure_of, put_figure, word_of};
 use amd_edges::walk::{Visitor, walk};
-use amd_places::words::put_row;
+use amd_words::words::put_row;
+use amd_words::{Cell, Signed, Unsigned, Word, cell_at, cell_of, put_cell, word_of};
 use num_traits::PrimInt;
 use std::alloc::{AllocError, Allocator};
 
@@ -28,26 +28,21 @@ use std::alloc::{AllocError, Allocator};
 #[derive(Drop)]
 struct Words<S: Signed, U: Unsigned, A: Allocator> {
     /// The place behind the last word of the list of each row.
-    next: Vec<Figure<U>, A>,
+    next: Vec<Cell<U>, A>,
     /// The words.
     iw: Vec<Word<S>, A>,
 }
 
 /// Writes a word behind the list of row `i`.
-pub fn append<S: Signed, U: Unsigned>(
-    next: &mut [Figure<U>],
-    iw: &mut [Word<S>],
-    i: usize,
-    j: usize,
-)
+pub fn append<S: Signed, U: Unsigned>(next: &mut [Cell<U>], iw: &mut [Word<S>], i: usize, j: usize)
     requires inside { (i < length next.old) × (num next.old i < length iw.old) }
     requires fits { (j ≤ S.MOST) × (length iw.old ≤ U.MOST) }
     ensures ends { next.new ≡ slice_set next.old i (num next.old i + 1) }
     ensures words { iw.new ≡ slice_set iw.old (num next.old i) (pos j) }
 {
-    let place = figure_at(next, i);
+    let place = cell_at(next, i);
     put_row(iw, place, j);
-    put_figure(next, i, place + 1);
+    put_cell(next, i, place + 1);
 }
 
 impl<S: Signed, U: Unsigned, A: Allocator> Visitor for Words<S, U, A> {
@@ -64,7 +59,7 @@ impl<S: Signed, U: Unsigned, A: Allocator> Visitor for Words<S, U, A> {
     }
 
     fn begin(&self, j: usize) -> usize {
-        figure_at(&self.next, j)
+        cell_at(&self.next, j)
     }
 
     fn edge(&mut self, i: usize, j: usize, mark: usize) -> usize {
@@ -74,7 +69,7 @@ impl<S: Signed, U: Unsigned, A: Allocator> Visitor for Words<S, U, A> {
     }
 
     fn end(&mut self, j: usize, mark: usize) {
-        put_figure(&mut self.next, j, mark);
+        put_cell(&mut self.next, j, mark);
     }
 }
 
@@ -84,7 +79,7 @@ pub struct Laid<S: Signed, U: Unsigned, A: Allocator> {
     /// Where the list of each row starts.
     pub pe: Vec<Word<S>, A>,
     /// The number of its words.
-    pub len: Vec<Figure<U>, A>,
+    pub len: Vec<Cell<U>, A>,
     /// The words of all lists.
     pub iw: Vec<Word<S>, A>,
     /// No list has a word from here on.
@@ -95,8 +90,8 @@ pub struct Laid<S: Signed, U: Unsigned, A: Allocator> {
 /// the last one ends.
 fn starts<S: Signed, U: Unsigned, A: Allocator>(
     pe: &mut Vec<Word<S>, A>,
-    next: &mut Vec<Figure<U>, A>,
-    len: &mut Vec<Figure<U>, A>,
+    next: &mut Vec<Cell<U>, A>,
+    len: &mut Vec<Cell<U>, A>,
     degrees: &[usize],
 ) -> usize
     requires empty { (length pe.old.items ≡ 0) × (length next.old.items ≡ 0) × (length len.old.items ≡ 0) }
@@ -110,8 +105,8 @@ fn starts<S: Signed, U: Unsigned, A: Allocator>(
     let mut total = 0;
     'rows: for &degree in degrees {
         pe.push_reserved(word_of(total as isize));
-        next.push_reserved(figure_of(total));
-        len.push_reserved(figure_of(degree));
+        next.push_reserved(cell_of(total));
+        len.push_reserved(cell_of(degree));
         total += degree;
     }
     total
@@ -132,7 +127,7 @@ fn general_lists<I: PrimInt, S: Signed, U: Unsigned, A: Allocator>(
     a_i: &[I],
     degrees: &[usize],
     room: usize,
-    next: Vec<Figure<U>, A>,
+    next: Vec<Cell<U>, A>,
     pointers: &mut Vec<usize, A>,
 ) -> Result<Vec<Word<S>, A>, AllocError>
     requires form { IsColumnForm (pos size) size (map I.value a_p.now) (map I.value a_i.now) }

@@ -9,17 +9,17 @@ ghost use Rattle.std.specs.Prelude.{slice_range, IfOk, ◌/◌};
 ghost use Rattle.std.specs.Vec.{vec_capacity};
 ghost use Rattle.amd_model.specs.Input.Columns.{IsColumnForm, IsSorted};
 ghost use Rattle.amd_model.specs.Input.Pattern.{graph_of, is_pair};
-ghost use Rattle.amd_numbers.specs.Counts.{counts};
+ghost use Rattle.amd_types.specs.Counts.{counts};
 ghost use Rattle.amd_edges.specs.Visits.{AreCounts};
 ghost use Rattle.amd_model.specs.Quotient.{starting_list};
-ghost use Rattle.amd_places.specs.Words.{num, rows};
+ghost use Rattle.amd_words.specs.Words.{num, rows};
 ghost use Rattle.amd_workspace.specs.Copying.{AreRows};
 ghost use Rattle.amd_workspace.specs.Lower.{IsLower, Matrix, list_start, own_of, earlier_below, HoldsOwn, Spreads};
 ghost use Rattle.amd_workspace.specs.Lower.{HasColumns, IsReady};
 
 use crate::laying::append;
-use amd_cells::{Figure, Signed, Unsigned, Word, figure_at, row_at, word_of};
-use amd_numbers::internal::count_at;
+use amd_types::internal::count_at;
+use amd_words::{Cell, Signed, Unsigned, Word, cell_at, row_at, word_of};
 use num_traits::PrimInt;
 use std::alloc::{AllocError, Allocator};
 
@@ -195,13 +195,13 @@ fn push_lists<I: PrimInt, S: Signed, A: Allocator>(
 
 /// Writes row `j` after the earlier neighbours of each row of its own column below the diagonal. That column is in
 /// `iw`, after the earlier neighbours of row `j`, up to the word `end`.
-fn spread<S: Signed, U: Unsigned>(next: &mut [Figure<U>], iw: &mut [Word<S>], j: usize, end: usize)
+fn spread<S: Signed, U: Unsigned>(next: &mut [Cell<U>], iw: &mut [Word<S>], j: usize, end: usize)
     requires ready { (m : Matrix) × IsReady m j end S.MOST U.MOST next.old iw.old }
     ensures long { length iw.new ≡ length iw.old }
     ensures after { (m : Matrix) → IsReady m j end S.MOST U.MOST next.old iw.old →
         Spreads m.n m.ap m.ai (earlier_below m.n m.ap m.ai (j + 1)) next.new iw.new }
 {
-    let from = figure_at(next, j);
+    let from = cell_at(next, j);
     'words: for place in from..end {
         let i = row_at(iw, place);
         append(next, iw, i, j);
@@ -209,11 +209,7 @@ fn spread<S: Signed, U: Unsigned>(next: &mut [Figure<U>], iw: &mut [Word<S>], j:
 }
 
 /// Writes the earlier neighbours of all rows, whose numbers of neighbours are `degrees`, before their own columns.
-fn spread_lists<S: Signed, U: Unsigned>(
-    next: &mut [Figure<U>],
-    iw: &mut [Word<S>],
-    degrees: &[usize],
-)
+fn spread_lists<S: Signed, U: Unsigned>(next: &mut [Cell<U>], iw: &mut [Word<S>], degrees: &[usize])
     requires laid { (m : Matrix) × HasColumns m degrees.now S.MOST U.MOST next.old iw.old }
     ensures long { length iw.new ≡ length iw.old }
     ensures lists { (m : Matrix) → HasColumns m degrees.now S.MOST U.MOST next.old iw.old → AreRows m.n iw.new ×
@@ -241,7 +237,7 @@ pub fn lower_lists<I: PrimInt, S: Signed, U: Unsigned, A: Allocator>(
     a_i: &[I],
     degrees: &[usize],
     room: usize,
-    next: &mut [Figure<U>],
+    next: &mut [Cell<U>],
 ) -> Result<Vec<Word<S>, A>, AllocError>
     requires form { IsColumnForm (pos size) size (map I.value a_p.now) (map I.value a_i.now) }
     requires sorted { IsSorted size (map I.value a_p.now) (map I.value a_i.now) }

@@ -5,30 +5,30 @@
 ghost use Rattle.std.specs.Prelude.{◌≡◌, ◌<◌, ◌≤◌, ◌+◌, ◌==◌, ◌||◌, ℕ, ℤ, pos, negsuc, true, false, List, ◌∷◌, cond};
 ghost use Rattle.std.specs.Prelude.{nat_lt, length, slice_set};
 ghost use Rattle.std.specs.Option.{option_copied};
-ghost use Rattle.amd_cells.specs.Sides.{nexts, lasts};
+ghost use Rattle.amd_words.specs.Sides.{nexts, lasts};
 ghost use Rattle.amd_model.specs.Below.{count_below};
 ghost use Rattle.amd_model.specs.Input.Held.{HasMarks, is_marked};
 ghost use Rattle.amd_model.specs.Quotient.{has};
-ghost use Rattle.amd_places.specs.Words.{num, flip_of};
-ghost use Rattle.amd_places.specs.Chains.{DegreeLists};
-ghost use Rattle.amd_places.specs.Lengths.{HasWords, HasLinks};
+ghost use Rattle.amd_words.specs.Words.{num, flip_of};
+ghost use Rattle.amd_lists.specs.Chains.{DegreeLists};
+ghost use Rattle.amd_lists.specs.Lengths.{HasWords, HasLinks};
 ghost use Rattle.amd_workspace.specs.Starting.{BeginsRows, held_in};
 ghost use Rattle.amd_workspace.specs.Classes.{class_in, HasClasses};
 
-use amd_cells::sides::Sides;
-use amd_cells::{Figure, Signed, Unsigned, Word, figure_at, put_figure, put_word};
-use amd_numbers::held::is_held;
-use amd_places::chains::put_head;
-use amd_places::words::put_flip;
+use amd_lists::chains::put_head;
+use amd_types::held::is_held;
+use amd_words::sides::Sides;
+use amd_words::words::put_flip;
+use amd_words::{Cell, Signed, Unsigned, Word, cell_at, put_cell, put_word};
 
 /// Sets aside a row that is held last, or an empty one, which is an element by itself: it has no list.
 fn put_aside<S: Signed, U: Unsigned>(
     pe: &mut [Word<S>],
     e_len: &mut [Word<S>],
     nv: &mut [Word<S>],
-    len: &mut [Figure<U>],
-    degree: &mut [Figure<U>],
-    w: &mut [Figure<U>],
+    len: &mut [Cell<U>],
+    degree: &mut [Cell<U>],
+    w: &mut [Cell<U>],
     i: usize,
     held: bool,
 )
@@ -49,18 +49,18 @@ fn put_aside<S: Signed, U: Unsigned>(
         put_flip(e_len, i, 1);
     }
     put_word(nv, i, 0);
-    put_figure(len, i, 0);
-    put_figure(degree, i, 0);
-    put_figure(w, i, 0);
+    put_cell(len, i, 0);
+    put_cell(degree, i, 0);
+    put_cell(w, i, 0);
 }
 
 /// Makes a row a class by itself, and puts it at the head of the list of its degree.
 fn place_row<S: Signed, U: Unsigned>(
     e_len: &mut [Word<S>],
     nv: &mut [Word<S>],
-    degree: &mut [Figure<U>],
-    w: &mut [Figure<U>],
-    head: &mut [Figure<U>],
+    degree: &mut [Cell<U>],
+    w: &mut [Cell<U>],
+    head: &mut [Cell<U>],
     sides: &mut [Sides<U>],
     i: usize,
     count: usize,
@@ -81,7 +81,7 @@ fn place_row<S: Signed, U: Unsigned>(
 {
     put_word(e_len, i, 0);
     put_word(nv, i, 1);
-    put_figure(w, i, 1);
+    put_cell(w, i, 1);
     put_head(head, sides, degree, i, count);
 }
 
@@ -106,10 +106,10 @@ pub fn begin<S: Signed, U: Unsigned>(
     pe: &mut [Word<S>],
     e_len: &mut [Word<S>],
     nv: &mut [Word<S>],
-    len: &mut [Figure<U>],
-    degree: &mut [Figure<U>],
-    w: &mut [Figure<U>],
-    head: &mut [Figure<U>],
+    len: &mut [Cell<U>],
+    degree: &mut [Cell<U>],
+    w: &mut [Cell<U>],
+    head: &mut [Cell<U>],
     sides: &mut [Sides<U>],
     hold: Option<&[bool]>,
     threshold: usize,
@@ -133,7 +133,7 @@ pub fn begin<S: Signed, U: Unsigned>(
     let mut live: usize = 0;
     let mut n_dense: usize = 0;
     'rows: for i in 0..len.len() {
-        let count = figure_at(len, i);
+        let count = cell_at(len, i);
         let held = is_held_last(hold, i, count, threshold);
         let aside = held || count == 0;
         if aside {

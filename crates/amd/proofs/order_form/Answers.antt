@@ -5,10 +5,10 @@ use Rattle.std.specs.Int.{FitsUnsignedBits}
 use Rattle.std.proofs.lemmas.List.{length-map}
 use Rattle.amd_model.specs.Input.Columns.{IsInput}
 use Rattle.amd_model.specs.Input.Held.{HasMarks}
-use Rattle.amd_numbers.specs.Statuses.{IsStatusOf}
-use Rattle.amd_numbers.specs.declared.amd.Info.{Info}
-use Rattle.amd_numbers.specs.declared.amd.Status.{Status}
-use Rattle.amd_numbers.specs.declared.amd.Status.TheVariants.{OK, OkButJumbled, OutOfMemory}
+use Rattle.amd_types.specs.Statuses.{IsStatusOf}
+use Rattle.amd_types.specs.declared.amd.Info.{Info}
+use Rattle.amd_types.specs.declared.amd.Status.{Status}
+use Rattle.amd_types.specs.declared.amd.Status.TheVariants.{OK, OkButJumbled, OutOfMemory}
 use Rattle.amd.specs.Answers.{OrdersMatrix, IsInputHolding, IsOrderingHolding, IsRefusalHolding, ordered_pairs}
 use Rattle.amd_input.proofs.PatternLemmas.{input_fits}
 use Rattle.amd.proofs.order_form.Goals as goal

@@ -1,7 +1,7 @@
 use Rattle.std.proofs.Common.{ℕ, ℤ, Bool, List, map, subst}
 use Rattle.std.specs.Prelude.{unsigned_abs}
 use Rattle.std.specs.Option.{option_copied}
-use Rattle.amd_numbers.specs.declared.amd.Status.TheVariants.{OkButJumbled}
+use Rattle.amd_types.specs.declared.amd.Status.TheVariants.{OkButJumbled}
 use Rattle.amd_model.specs.Input.Pattern.{is_pair}
 use Rattle.amd.specs.Answers.{OrdersMatrix}
 use Rattle.amd.proofs.Orderings.{orders_turned}

@@ -5,8 +5,8 @@ use Rattle.std.specs.Prelude.{unsigned_abs}
 use Rattle.std.specs.Option.{option_copied}
 use Rattle.std.proofs.lemmas.List.{length-map}
 use Rattle.amd_model.specs.Input.Held.{HasMarks}
-use Rattle.amd_plain.specs.Engine.{IsEngineAnswer}
-use Rattle.amd_numbers.specs.declared.amd.Info.{Info}
+use Rattle.amd_engine_law.specs.Engine.{IsEngineAnswer}
+use Rattle.amd_types.specs.declared.amd.Info.{Info}
 use Rattle.amd.proofs.Orderings.{engine_orders}
 use Rattle.amd.proofs.Ready.{ready}
 use Rattle.amd_input.proofs.PatternLemmas.{input_fits}

@@ -1,7 +1,7 @@
 use Rattle.std.proofs.Common.{arith, ℕ, ℤ, List, map, pos, length, ap, sym, subst, refl, ◌≡◌, ◌∙◌, ◌<◌}
 use Rattle.std.specs.Prelude.{◌≤ℤ◌}
 use Rattle.std.proofs.lemmas.Int.{ints}
-use Rattle.amd_cells.specs.Sides.{nexts, lasts}
+use Rattle.amd_words.specs.Sides.{nexts, lasts}
 use Rattle.amd_model.specs.Quotient.{starting_list}
 use Rattle.amd_model.specs.Input.Pattern.{graph_of, is_pair}
 use Rattle.amd_engine.specs.InPlace.{AreFresh, AreOver}

@@ -1,6 +1,6 @@
 -- The places are those of the order that was handed in.
 use Rattle.std.proofs.Common.{pos, map}
-use Rattle.amd_numbers.specs.Counts.{counts}
+use Rattle.amd_types.specs.Counts.{counts}
 use Rattle.amd_command.proofs.picture.form_lists.Goals as goal
 
 pub earlier_lists-requires-clause-places : goal.earlier_lists-requires-clause-places

@@ -1,7 +1,7 @@
 -- The record, the permutations and the plot are written one after another, of the ordering that was given.
 use Rattle.std.proofs.Common.{rules, refl, sym, ◌∙◌}
 use denote.Enum.Bare.{same_true}
-use Rattle.amd_numbers.specs.contracts.amd.Status.{the_type}
+use Rattle.amd_types.specs.contracts.amd.Status.{the_type}
 use Rattle.amd_texts.proofs.Written.{Appends-then}
 use Rattle.amd_demos.proofs.Parts.{demo-ended, failure-after, failure-ended}
 use Rattle.amd_demos.proofs.demo.print_ordering.Goals as goal

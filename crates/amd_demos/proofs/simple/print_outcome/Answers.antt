@@ -3,7 +3,7 @@ use Rattle.std.proofs.Common.{rules, sym, ◌∙◌}
 use Rattle.std.proofs.lemmas.List.{map-id}
 use Rattle.std.proofs.Math.Facts.{to_z-of_z}
 use denote.Enum.Bare.{same_true}
-use Rattle.amd_numbers.specs.contracts.amd.Status.{the_type}
+use Rattle.amd_types.specs.contracts.amd.Status.{the_type}
 use Rattle.amd_demos.proofs.Orderings.{default-ordering}
 use Rattle.amd_demos.proofs.simple.print_outcome.Goals as goal
 

@@ -1,7 +1,7 @@
 use Rattle.std.proofs.Common.{◌≡◌, ◌+◌, ◌*◌, ◌<◌, ◌≤◌, ℕ, Fits, w64, map, length, get_or, arith, add-one}
 use Rattle.std.proofs.Math.Nat.{mul-le-mul_right}
 use Rattle.std.proofs.lemmas.List.{length-map}
-use Rattle.amd_numbers.specs.Counts.{counts}
+use Rattle.amd_types.specs.Counts.{counts}
 use Rattle.amd_edges.proofs.Forms.{pointer_fits, row_fits, place_within}
 use Rattle.amd_earlier.proofs.Entries.{far_first, far_last}
 use Rattle.amd_earlier.proofs.Steps.{pointers_rise, row_below, far_up, far_down, far_same, next_up, next_down}

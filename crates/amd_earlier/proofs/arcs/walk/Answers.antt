@@ -1,5 +1,5 @@
 use Rattle.std.proofs.Common.{map}
-use Rattle.amd_numbers.specs.Counts.{counts}
+use Rattle.amd_types.specs.Counts.{counts}
 use Rattle.amd_earlier.proofs.Entries.{before_none}
 use Rattle.amd_earlier.proofs.arcs.walk.Goals as goal
 

@@ -1,5 +1,5 @@
 use Rattle.std.proofs.Common.{map}
-use Rattle.amd_numbers.specs.Counts.{counts}
+use Rattle.amd_types.specs.Counts.{counts}
 use Rattle.amd_earlier.specs.Arcs.{arcs_before}
 use Rattle.amd_earlier.proofs.arcs.walk.Given as goal
 

@@ -2,7 +2,7 @@ use Rattle.std.proofs.Common.{◌≡◌, ◌≤◌, length, get_or, arith, rules
 use Rattle.std.specs.Vec.{vec_capacity}
 use Rattle.std.proofs.lemmas.Grind.{get_or_default_zero}
 use Rattle.std.proofs.lemmas.List.{length_push}
-use Rattle.amd_numbers.proofs.EmptyLists.{empty_more}
+use Rattle.amd_types.proofs.EmptyLists.{empty_more}
 use Rattle.amd_edges.proofs.RowLists.{rooms_more}
 use Rattle.amd_edges.proofs.lists.empty_lists.Goals as goal
 

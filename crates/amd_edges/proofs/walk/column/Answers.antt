@@ -3,7 +3,7 @@ use Rattle.std.proofs.Common.{get_or, arith, ap, sym, true, false, refl, ◌∙�
 use Rattle.std.proofs.Common.{le_refl, le_of_lt, le_trans, le_of_eq}
 use Rattle.std.proofs.lemmas.Bool.{eqb-true, eqb-false, true≢false, le-ltb}
 use Rattle.std.proofs.lemmas.List.{length-map}
-use Rattle.amd_numbers.specs.Counts.{counts, count_graph, is_entry}
+use Rattle.amd_types.specs.Counts.{counts, count_graph, is_entry}
 use Rattle.amd_edges.specs.Visits.{arcs_of, with_arc}
 use Rattle.amd_edges.specs.Walk.{IsScan, met}
 use Rattle.amd_edges.proofs.Forms.{pointer_fits, row_fits, place_in, sorted_form}

@@ -3,7 +3,7 @@ use Rattle.std.proofs.Common.{get_or, set, ap, sym, refl, ◌∙◌, subst, subs
 use Rattle.std.proofs.Common.{le_of_eq, lt_of_lt_of_le}
 use Rattle.std.proofs.lemmas.List.{length-map}
 use Rattle.std.proofs.lemmas.Grind.{get_or_default_zero}
-use Rattle.amd_numbers.specs.Counts.{counts, count_graph, is_entry}
+use Rattle.amd_types.specs.Counts.{counts, count_graph, is_entry}
 use Rattle.amd_edges.specs.Visits.{arcs_of}
 use Rattle.amd_edges.specs.Walk.{IsScan, met}
 use Rattle.amd_edges.proofs.Orders.{met_above, above_start, above_push, above_end}

@@ -2,7 +2,7 @@
 use Rattle.std.proofs.Common.{◌≡◌, ◌+◌, map, arith, ap, sym, refl, ◌∙◌, subst, subst₂, le_refl, lt_irrefl}
 use Rattle.amd_model.specs.Input.Pattern.{is_pair}
 use Rattle.amd_model.specs.Quotient.{met_edges}
-use Rattle.amd_numbers.specs.Counts.{counts, count_graph, is_entry}
+use Rattle.amd_types.specs.Counts.{counts, count_graph, is_entry}
 use Rattle.amd_edges.specs.Visits.{arcs_of}
 use Rattle.amd_edges.specs.Walk.{IsScan, met}
 use Rattle.amd_edges.proofs.Forms.{sorted_form, same_graph}

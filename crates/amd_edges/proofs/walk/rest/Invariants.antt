@@ -1,6 +1,6 @@
 -- The lower entries of the columns before `j` were read.
 use Rattle.std.proofs.Common.{◌≡◌, map}
-use Rattle.amd_numbers.specs.Counts.{counts, count_graph, is_entry}
+use Rattle.amd_types.specs.Counts.{counts, count_graph, is_entry}
 use Rattle.amd_edges.specs.Visits.{arcs_of}
 use Rattle.amd_edges.specs.Walk.{IsScan, met}
 use Rattle.amd_edges.proofs.Orders.{edges_after}

@@ -1,6 +1,6 @@
 use Rattle.std.proofs.Common.{◌≡◌, ◌+◌, ℕ, Bool, map, arith, sym, ◌∙◌, refl, ap, add-one, suc, cond}
 use Rattle.amd_model.specs.Below.{sum_below, count_below}
-use Rattle.amd_numbers.specs.Counts.{counts, is_entry}
+use Rattle.amd_types.specs.Counts.{counts, is_entry}
 use Rattle.amd_edges.proofs.Forms.{sorted_form, same_graph, same_diagonals}
 use Rattle.amd_edges.proofs.Ends.{start_met, start_scan, start_zeros}
 use Rattle.amd_edges.proofs.Orders.{start_edges}

@@ -3,7 +3,7 @@ use Rattle.std.specs.Option.{option_copied}
 use Rattle.amd_model.specs.Quotient.{starting_list}
 use Rattle.amd_model.specs.Input.Held.{HasMarks}
 use Rattle.amd_model.specs.Input.Pattern.{graph_of, is_pair}
-use Rattle.amd_plain.specs.Engine.{IsAnswerOf}
+use Rattle.amd_engine_law.specs.Engine.{IsAnswerOf}
 use Rattle.amd_engine.proofs.EndingLaw.{laid_same, lays_same, lays_pattern}
 use Rattle.amd_engine.proofs.amd_1.order_in.Goals as goal
 

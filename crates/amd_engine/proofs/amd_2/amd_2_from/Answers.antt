@@ -2,7 +2,7 @@ use Rattle.std.proofs.Common.{arith, ℕ, ℤ, List, pos, map, length, ◌≡◌
 use Rattle.std.specs.Prelude.{◌≤ℤ◌}
 use Rattle.std.proofs.lemmas.Int.{ints}
 use Rattle.std.specs.Option.{option_copied}
-use Rattle.amd_numbers.specs.Permutations.{AreInverse}
+use Rattle.amd_types.specs.Permutations.{AreInverse}
 use Rattle.amd_workspace.specs.Ending.{EndsRows}
 use Rattle.amd_engine.proofs.EndingLaw.{answers}
 use Rattle.amd_engine.proofs.amd_2.amd_2_from.Goals as goal

@@ -1,5 +1,5 @@
 use Rattle.std.proofs.Common.{arith, ℕ, map, pos, length, ap, refl, sym, ◌≡◌, ◌∙◌}
-use Rattle.amd_places.specs.Words.{num}
+use Rattle.amd_words.specs.Words.{num}
 use Rattle.amd_engine.proofs.EndingLaw.{ends_same, inverse_same, names_row, turned, written}
 use Rattle.amd_engine.proofs.ended.list_rows.Goals as goal
 

@@ -11,7 +11,7 @@ figures-init g c = record {
 
 pub unreachable-requires : goal.unreachable-requires
 unreachable-requires g c = c.in_default.ensures
-    (subst (λ x. g.I.Number.fits (pos x)) (sym c.figure_at.ensures.is) (c.requires.fits c.figures.k c.figures-test.true))
+    (subst (λ x. g.I.Number.fits (pos x)) (sym c.cell_at.ensures.is) (c.requires.fits c.figures.k c.figures-test.true))
 
 pub push_reserved-requires : goal.push_reserved-requires
 push_reserved-requires g c =
@@ -39,8 +39,8 @@ figures-preserved g c =
     record {
       room = (let x = i.room in let y = e.capacity in omega (arith, x, y));
       size = one_longer c.figures.numbers.items c.figures.k c.in-Some.number e.items i.size;
-      items = push_figure g.I.Number.value c.figures.numbers.items c.args.figures.now c.figures.k c.figure_at.result c.in-Some.number
-          e.items i.items c.in-Some.ensures.1 c.figure_at.ensures.is c.figures-test.true;
+      items = push_figure g.I.Number.value c.figures.numbers.items c.args.figures.now c.figures.k c.cell_at.result c.in-Some.number
+          e.items i.items c.in-Some.ensures.1 c.cell_at.ensures.is c.figures-test.true;
     }
 
 pub returns : goal.returns

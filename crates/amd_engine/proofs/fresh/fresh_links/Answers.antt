@@ -1,7 +1,7 @@
 use Rattle.std.proofs.Common.{ℕ, ap, ◌≡◌, ◌∙◌, length}
 use Rattle.std.specs.Prelude.{replicate}
 use Rattle.std.proofs.lemmas.List.{length-replicate}
-use Rattle.amd_cells.proofs.SideLists.{nexts_long, lasts_long}
+use Rattle.amd_words.proofs.SideLists.{nexts_long, lasts_long}
 use Rattle.amd_engine.proofs.fresh.fresh_links.Goals as goal
 
 pub returns-clause-sides : goal.returns-clause-sides

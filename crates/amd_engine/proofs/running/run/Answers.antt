@@ -1,10 +1,10 @@
 use Rattle.std.proofs.Common.{arith, length, refl, ◌∙◌}
 use Rattle.std.specs.Option.{option_copied}
-use Rattle.amd_cells.specs.Sides.{nexts, lasts}
+use Rattle.amd_words.specs.Sides.{nexts, lasts}
 use Rattle.amd_model.specs.Input.Held.{is_held_last}
 use Rattle.amd_model.specs.Quotient.{start_quotient}
 use Rattle.amd_model.proofs.States.RunsExist.{first_state}
-use Rattle.amd_inplace.specs.Workspaces.{Workspace}
+use Rattle.amd_rounds.specs.Workspaces.{Workspace}
 use Rattle.amd_workspace.specs.Starting.{Rows, held_in}
 use Rattle.amd_engine.specs.InPlace.{at_start}
 use Rattle.amd_engine.proofs.InPlaceLaw.{IsFresh, degrees_small, stands_first, ends_rounds}

@@ -2,7 +2,7 @@ use Rattle.std.proofs.Common.{ℕ, length, ap, sym, drop, ◌≡◌, ◌∙◌}
 use Rattle.std.specs.Option.{option_copied}
 use Rattle.std.specs.Prelude.{replicate}
 use Rattle.std.proofs.lemmas.List.{length-replicate, take_at}
-use Rattle.amd_cells.specs.Sides.{nexts, lasts}
+use Rattle.amd_words.specs.Sides.{nexts, lasts}
 use Rattle.amd_engine.proofs.EndingLaw.{is_over, no_heads}
 use Rattle.amd_engine.proofs.running.run_fresh.Goals as goal
 

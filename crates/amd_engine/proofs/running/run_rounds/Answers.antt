@@ -1,9 +1,9 @@
 use Rattle.std.proofs.Common.{sym, subst, refl, arith}
-use Rattle.amd_cells.specs.Sides.{nexts, lasts}
-use Rattle.amd_cells.proofs.SideLists.{nexts_same, lasts_same}
-use Rattle.amd_numbers.specs.declared.figures.Figures.{Figures}
-use Rattle.amd_inplace.specs.Workspaces.{Workspace, workspace_of}
-use Rattle.amd_inplace.specs.Keeps.{AreRounds}
+use Rattle.amd_words.specs.Sides.{nexts, lasts}
+use Rattle.amd_words.proofs.SideLists.{nexts_same, lasts_same}
+use Rattle.amd_types.specs.declared.figures.Figures.{Figures}
+use Rattle.amd_rounds.specs.Workspaces.{Workspace, workspace_of}
+use Rattle.amd_rounds.specs.Keeps.{AreRounds}
 use Rattle.amd_engine.specs.InPlace.{at_start}
 use Rattle.amd_engine.proofs.running.run_rounds.Goals as goal
 

@@ -4,7 +4,7 @@ use Rattle.std.specs.Prelude.{nat_lt}
 use Rattle.std.proofs.lemmas.Bool.{ltb-true}
 use Rattle.amd_model.specs.Quotient.{has, each, Once}
 use Rattle.amd_model.proofs.Quotient.Lists.{each_gives}
-use Rattle.amd_trees.specs.Trees.{none, more}
+use Rattle.amd_postorder.specs.Trees.{none, more}
 use Rattle.amd_engine_tests.proofs.trees.one_tree.Goals as goal
 
 -- the nodes are below 7

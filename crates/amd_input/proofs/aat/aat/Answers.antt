@@ -4,7 +4,7 @@ use Rattle.std.proofs.lemmas.List.{length-map}
 use Rattle.amd_model.specs.Below.{sum_below}
 use Rattle.amd_model.specs.Input.Columns.{at, IsColumnForm, IsSorted}
 use Rattle.amd_model.specs.Input.Pattern.{graph_of, diagonal_count}
-use Rattle.amd_numbers.specs.Counts.{counts}
+use Rattle.amd_types.specs.Counts.{counts}
 use Rattle.amd_edges.proofs.Forms.{pointer_fits}
 use Rattle.amd_edges.specs.Visits.{AreCounts}
 use Rattle.amd_input.proofs.Counting.{zeros_of, counts_none}

@@ -4,7 +4,7 @@ use Rattle.std.specs.Prelude.{slice_index, unsigned_abs}
 use Rattle.std.proofs.Math.ListN.{set}
 use Rattle.std.proofs.lemmas.List.{length-map}
 use Rattle.amd_model.specs.State.{Home}
-use Rattle.amd_places.specs.Words.{size_of}
+use Rattle.amd_words.specs.Words.{size_of}
 use Rattle.amd_listing.specs.Blocks.{AreElements, BeginWith}
 use Rattle.amd_listing.proofs.BlockStarts.{AreStarted, element_small, elements_fit, started_none, started_small, started_more}
 use Rattle.amd_listing.proofs.BlockStarts.{started_all, size_read, begun_at}
@@ -18,21 +18,21 @@ places-init g c = record {
   put = λ home es a b. pivots_none es c.args.nv.now (map pos c.args.p.now) (map pos c.args.p_inv.now);
 }
 
-pub figure_at-e-requires : goal.figure_at-e-requires
-figure_at-e-requires g c =
+pub cell_at-e-requires : goal.cell_at-e-requires
+cell_at-e-requires g c =
     let h = c.requires.blocks in let n : ℕ = length c.args.nv.now in
     let most = elements_fit n h.0 h.1 c.args.nv.now h.2 in let long = h.3.long in let room = c.requires.lengths.0 in
     let test = c.places-test.true in omega (arith, most, long, room, test)
 
-pub put_figure-requires-clause-inside : goal.put_figure-requires-clause-inside
-put_figure-requires-clause-inside g c =
+pub put_cell-requires-clause-inside : goal.put_cell-requires-clause-inside
+put_cell-requires-clause-inside g c =
     let h = c.requires.blocks in let n : ℕ = length c.args.nv.now in let long = h.3.long in let test = c.places-test.true in
-    let is = begun_at c.args.elements.now c.args.count h.1 h.3 c.places.k c.figure_at-e.result test c.figure_at-e.ensures.is in
+    let is = begun_at c.args.elements.now c.args.count h.1 h.3 c.places.k c.cell_at-e.result test c.cell_at-e.ensures.is in
     let small = element_small n h.0 h.1 c.args.nv.now h.2 c.places.k (omega (arith, long, test)) in
     let room = c.places.auto.starts in let rooms = c.requires.lengths.1 in omega (arith, is, small, room, rooms)
 
-pub put_figure-requires-clause-fits : goal.put_figure-requires-clause-fits
-put_figure-requires-clause-fits g c =
+pub put_cell-requires-clause-fits : goal.put_cell-requires-clause-fits
+put_cell-requires-clause-fits g c =
     let h = c.requires.blocks in let n : ℕ = length c.args.nv.now in let long = h.3.long in let test = c.places-test.true in
     let small = started_small n h.0 h.1 c.args.nv.now h.2 c.places.k c.places.starts c.places.total
     (c.places.invariant.started h.0 h.1 h.2 h.3) (omega (arith, long, test)) in
@@ -41,20 +41,20 @@ put_figure-requires-clause-fits g c =
 pub row_at-total-requires-clause-inside : goal.row_at-total-requires-clause-inside
 row_at-total-requires-clause-inside g c =
     let h = c.requires.blocks in let n : ℕ = length c.args.nv.now in let long = h.3.long in let test = c.places-test.true in
-    let is = begun_at c.args.elements.now c.args.count h.1 h.3 c.places.k c.figure_at-e.result test c.figure_at-e.ensures.is in
+    let is = begun_at c.args.elements.now c.args.count h.1 h.3 c.places.k c.cell_at-e.result test c.cell_at-e.ensures.is in
     let small = element_small n h.0 h.1 c.args.nv.now h.2 c.places.k (omega (arith, long, test)) in omega (arith, is, small)
 
 pub row_at-total-requires-clause-plain : goal.row_at-total-requires-clause-plain
 row_at-total-requires-clause-plain g c =
-    let q = c.requires.counts c.figure_at-e.result in q ∙ sym (ap (λ z. pos (unsigned_abs z)) q)
+    let q = c.requires.counts c.cell_at-e.result in q ∙ sym (ap (λ z. pos (unsigned_abs z)) q)
 
 pub overflow_add-total : goal.overflow_add-total
 overflow_add-total g c =
     let h = c.requires.blocks in let n : ℕ = length c.args.nv.now in let long = h.3.long in let test = c.places-test.true in
     let nv : List ℤ = c.args.nv.now in
-    let is = begun_at c.args.elements.now c.args.count h.1 h.3 c.places.k c.figure_at-e.result test c.figure_at-e.ensures.is in
-    let read = size_read nv c.figure_at-e.result (slice_index h.1 c.places.k) c.row_at-total.result is
-    (c.requires.counts c.figure_at-e.result) c.row_at-total.ensures in
+    let is = begun_at c.args.elements.now c.args.count h.1 h.3 c.places.k c.cell_at-e.result test c.cell_at-e.ensures.is in
+    let read = size_read nv c.cell_at-e.result (slice_index h.1 c.places.k) c.row_at-total.result is
+    (c.requires.counts c.cell_at-e.result) c.row_at-total.ensures in
     let small = started_small n h.0 h.1 nv h.2 c.places.k c.places.starts c.places.total (c.places.invariant.started h.0 h.1 h.2 h.3)
     (omega (arith, long, test)) in
     let narrow = c.requires.narrow in let most = g.met.U.Unsigned.narrow in omega (arith, small, narrow, most, read)
@@ -85,43 +85,43 @@ module _ (nv : List ℤ) (elements : List ℕ) (count : ℕ) (home : ℕ → Hom
 pub put_listed-requires-clause-inside : goal.put_listed-requires-clause-inside
 put_listed-requires-clause-inside g c =
     let h = c.requires.blocks in let nv : List ℤ = c.args.nv.now in let test = c.places-test.true in
-    let e_is = begun_at c.args.elements.now c.args.count h.1 h.3 c.places.k c.figure_at-e.result test c.figure_at-e.ensures.is in
-    let read = size_read nv c.figure_at-e.result (slice_index h.1 c.places.k) c.row_at-total.result e_is
-    (c.requires.counts c.figure_at-e.result) c.row_at-total.ensures in
+    let e_is = begun_at c.args.elements.now c.args.count h.1 h.3 c.places.k c.cell_at-e.result test c.cell_at-e.ensures.is in
+    let read = size_read nv c.cell_at-e.result (slice_index h.1 c.places.k) c.row_at-total.result e_is
+    (c.requires.counts c.cell_at-e.result) c.row_at-total.ensures in
     let s = c.places.invariant.started h.0 h.1 h.2 h.3 in let room = c.requires.more_lengths in
     let a = c.places.auto.p in let b = c.places.auto.p_inv in
     let fit = within nv c.args.elements.now c.args.count h.0 h.1 h.2 h.3 c.places.k c.places.starts c.places.total s test
-    c.figure_at-e.result c.row_at-total.result e_is read in
+    c.cell_at-e.result c.row_at-total.result e_is read in
     let more = some nv c.args.elements.now c.args.count h.0 h.1 h.2 h.3 c.places.k c.places.starts c.places.total s test
-    c.figure_at-e.result c.row_at-total.result e_is read in
+    c.cell_at-e.result c.row_at-total.result e_is read in
     let small = inside nv c.args.elements.now c.args.count h.0 h.1 h.2 h.3 c.places.k c.places.starts c.places.total s test
-    c.figure_at-e.result c.row_at-total.result e_is read in
+    c.cell_at-e.result c.row_at-total.result e_is read in
     (omega (arith, small, room, b), omega (arith, fit, more, room, a))
 
 pub put_listed-requires-clause-fits : goal.put_listed-requires-clause-fits
 put_listed-requires-clause-fits g c =
     let h = c.requires.blocks in let nv : List ℤ = c.args.nv.now in let test = c.places-test.true in
-    let e_is = begun_at c.args.elements.now c.args.count h.1 h.3 c.places.k c.figure_at-e.result test c.figure_at-e.ensures.is in
-    let read = size_read nv c.figure_at-e.result (slice_index h.1 c.places.k) c.row_at-total.result e_is
-    (c.requires.counts c.figure_at-e.result) c.row_at-total.ensures in
+    let e_is = begun_at c.args.elements.now c.args.count h.1 h.3 c.places.k c.cell_at-e.result test c.cell_at-e.ensures.is in
+    let read = size_read nv c.cell_at-e.result (slice_index h.1 c.places.k) c.row_at-total.result e_is
+    (c.requires.counts c.cell_at-e.result) c.row_at-total.ensures in
     let s = c.places.invariant.started h.0 h.1 h.2 h.3 in
     let fit = within nv c.args.elements.now c.args.count h.0 h.1 h.2 h.3 c.places.k c.places.starts c.places.total s test
-    c.figure_at-e.result c.row_at-total.result e_is read in
+    c.cell_at-e.result c.row_at-total.result e_is read in
     let more = some nv c.args.elements.now c.args.count h.0 h.1 h.2 h.3 c.places.k c.places.starts c.places.total s test
-    c.figure_at-e.result c.row_at-total.result e_is read in
+    c.cell_at-e.result c.row_at-total.result e_is read in
     let small = inside nv c.args.elements.now c.args.count h.0 h.1 h.2 h.3 c.places.k c.places.starts c.places.total s test
-    c.figure_at-e.result c.row_at-total.result e_is read in
+    c.cell_at-e.result c.row_at-total.result e_is read in
     let narrow = c.requires.narrow in (omega (arith, small, narrow), omega (arith, fit, more, narrow))
 
 pub overflow_sub-total : goal.overflow_sub-total
 overflow_sub-total g c =
     let h = c.requires.blocks in let nv : List ℤ = c.args.nv.now in let test = c.places-test.true in
-    let e_is = begun_at c.args.elements.now c.args.count h.1 h.3 c.places.k c.figure_at-e.result test c.figure_at-e.ensures.is in
-    let read = size_read nv c.figure_at-e.result (slice_index h.1 c.places.k) c.row_at-total.result e_is
-    (c.requires.counts c.figure_at-e.result) c.row_at-total.ensures in
+    let e_is = begun_at c.args.elements.now c.args.count h.1 h.3 c.places.k c.cell_at-e.result test c.cell_at-e.ensures.is in
+    let read = size_read nv c.cell_at-e.result (slice_index h.1 c.places.k) c.row_at-total.result e_is
+    (c.requires.counts c.cell_at-e.result) c.row_at-total.ensures in
     let s = c.places.invariant.started h.0 h.1 h.2 h.3 in
     let more = some nv c.args.elements.now c.args.count h.0 h.1 h.2 h.3 c.places.k c.places.starts c.places.total s test
-    c.figure_at-e.result c.row_at-total.result e_is read in omega (arith, more)
+    c.cell_at-e.result c.row_at-total.result e_is read in omega (arith, more)
 
 pub places-preserved : goal.places-preserved
 places-preserved g c =
@@ -132,28 +132,28 @@ places-preserved g c =
     omega (arith, a, m, rooms)) in
     let q_long : length q ≡ n = (let a = c.places.auto.p_inv in let m : length q ≡ length c.places.p_inv = simp length-map in
     omega (arith, a, m, rooms)) in
-    let room = c.put_figure.auto.figures ∙ c.places.invariant.room in
+    let room = c.put_cell.auto.figures ∙ c.places.invariant.room in
     record {
       room = room;
       started = λ home es a b. (
-          let long = b.long in let is = begun_at c.args.elements.now c.args.count es b c.places.k c.figure_at-e.result test
-          c.figure_at-e.ensures.is in
-          let read = size_read nv c.figure_at-e.result (slice_index es c.places.k) c.row_at-total.result is
-          (c.requires.counts c.figure_at-e.result) c.row_at-total.ensures in
-          let written : c.put_figure.new.figures ≡ set c.places.starts (slice_index es c.places.k) c.places.total =
-          c.put_figure.ensures ∙ ap (λ e. set c.places.starts e c.places.total) is in
+          let long = b.long in let is = begun_at c.args.elements.now c.args.count es b c.places.k c.cell_at-e.result test
+          c.cell_at-e.ensures.is in
+          let read = size_read nv c.cell_at-e.result (slice_index es c.places.k) c.row_at-total.result is
+          (c.requires.counts c.cell_at-e.result) c.row_at-total.ensures in
+          let written : c.put_cell.new.figures ≡ set c.places.starts (slice_index es c.places.k) c.places.total =
+          c.put_cell.ensures ∙ ap (λ e. set c.places.starts e c.places.total) is in
           subst (λ xs. AreStarted (c.places.k + 1) es nv xs (c.places.total + c.row_at-total.result)) (sym written)
           (subst (λ m. AreStarted (c.places.k + 1) es nv (set c.places.starts (slice_index es c.places.k) c.places.total)
           (c.places.total + m)) (sym read)
           (started_more n home es nv a c.places.k c.places.starts c.places.total (c.places.invariant.started home es a b)
           (omega (arith, long, test)) (c.places.invariant.room ∙ c.requires.lengths.1))));
       put = λ home es a b. (
-          let is = begun_at c.args.elements.now c.args.count es b c.places.k c.figure_at-e.result test c.figure_at-e.ensures.is in
-          let read = size_read nv c.figure_at-e.result (slice_index es c.places.k) c.row_at-total.result is
-          (c.requires.counts c.figure_at-e.result) c.row_at-total.ensures in
+          let is = begun_at c.args.elements.now c.args.count es b c.places.k c.cell_at-e.result test c.cell_at-e.ensures.is in
+          let read = size_read nv c.cell_at-e.result (slice_index es c.places.k) c.row_at-total.result is
+          (c.requires.counts c.cell_at-e.result) c.row_at-total.ensures in
           rw (c.put_listed.ensures.listed, c.put_listed.ensures.inverse)
           (one_more nv c.args.elements.now c.args.count home es a b c.places.k c.places.starts c.places.total
-          (c.places.invariant.started home es a b) test c.figure_at-e.result c.row_at-total.result is read p q p_long q_long
+          (c.places.invariant.started home es a b) test c.cell_at-e.result c.row_at-total.result is read p q p_long q_long
           (c.places.invariant.put home es a b)));
     }
 

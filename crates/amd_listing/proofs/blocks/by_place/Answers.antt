@@ -2,7 +2,7 @@
 use Rattle.std.proofs.Common.{◌≡◌, ◌<◌, ◌+◌, ℕ, List, refl, sym, ◌∙◌, subst, arith, length}
 use Rattle.std.proofs.Math.ListN.{set}
 use Rattle.std.proofs.lemmas.List.{length-map}
-use Rattle.amd_trees.specs.FigureLinks.{figure_link, figure_links}
+use Rattle.amd_postorder.specs.FigureLinks.{figure_link, figure_links}
 use Rattle.amd_listing.proofs.ByPlace.{AreSoFar, listing_fits, found, so_far_start, so_far_skip, so_far_take, so_far_end}
 use Rattle.amd_listing.proofs.blocks.by_place.Goals as goal
 use Rattle.amd_listing.proofs.blocks.by_place.Goals.{in-Some, in_default}
@@ -14,8 +14,8 @@ same_so_far e listing xs ys k m p q a = subst (λ zs. AreSoFar e listing zs m) (
 pub elements-init : goal.elements-init
 elements-init g c = record { room = refl; few = omega arith; so_far = λ t o inside. so_far_start o.listing c.args.elements.now }
 
-pub put_figure-requires-clause-inside : goal.put_figure-requires-clause-inside
-put_figure-requires-clause-inside g c =
+pub put_cell-requires-clause-inside : goal.put_cell-requires-clause-inside
+put_cell-requires-clause-inside g c =
     let most : ℕ = g.U.Unsigned.MOST in let order : List ℕ = c.args.order.now in
     let t = c.requires.listed.0 in let o = c.requires.listed.1 in let inside = c.requires.listed.2 in
     let room : length order ≡ t.size = sym (length-map order (figure_link most)) ∙ o.room in
@@ -42,7 +42,7 @@ elements-preserved g c =
             let f = found t (figure_links most order) o inside e w.in-Some.place small q in
             let fits = listing_fits t (figure_links most order) o inside in let x = f.0 in let same = i.room in
             same_so_far (e + 1) o.listing (set c.elements.elements w.in-Some.place e) c.match-link_at.elements (c.elements.count + 1)
-            c.match-link_at.count (w.elements-is ∙ w.put_figure.ensures) w.count-is
+            c.match-link_at.count (w.elements-is ∙ w.put_cell.ensures) w.count-is
             (so_far_take t (figure_links most order) o inside e w.in-Some.place c.elements.elements c.elements.count
             (i.so_far t o inside) (omega (arith, x, fits, size, same, rooms)) small q));
       }

@@ -1,10 +1,10 @@
 -- the goals of listing::listing: the elements that the postorder lists are those of each end that the lists may tell.
 use Rattle.std.proofs.Common.{ℤ, List, ◌∙◌, sym, subst, length}
 use Rattle.amd_model.specs.Listing.{IsPostorder}
-use Rattle.amd_trees.specs.Trees.{tree_of}
-use Rattle.amd_trees.specs.FigureLinks.{figure_links}
+use Rattle.amd_postorder.specs.Trees.{tree_of}
+use Rattle.amd_postorder.specs.FigureLinks.{figure_links}
 use Rattle.amd_listing.specs.Blocks.{listing_of}
-use Rattle.amd_numbers.proofs.SignedCounts.{same_counts}
+use Rattle.amd_types.proofs.SignedCounts.{same_counts}
 use Rattle.amd_listing.proofs.EndedListing.{last, forest_told, links_told, none_live, blocks_told}
 use Rattle.amd_listing.proofs.listing.listing.Goals as goal
 

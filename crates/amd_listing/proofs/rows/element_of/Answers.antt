@@ -1,5 +1,5 @@
 use Rattle.std.proofs.Common.{ℕ, ◌<◌, ◌∙◌, arith, length}
-use Rattle.amd_places.specs.Words.{size_of}
+use Rattle.amd_words.specs.Words.{size_of}
 use Rattle.amd_listing.proofs.RowLinks.{unmarked, gone_small, gone_place, gone_next, gone_on}
 use Rattle.amd_listing.proofs.rows.element_of.Goals as goal
 

@@ -2,7 +2,7 @@ use Rattle.std.proofs.Common.{ℕ, ℤ, List, pos, true, false, inl, ◌≡◌, 
 use Rattle.std.proofs.Math.ListN.{set}
 use Rattle.std.proofs.lemmas.List.{length-map}
 use Rattle.amd_model.specs.State.{Home, Last, gone_at}
-use Rattle.amd_places.specs.Words.{num, size_of, is_place, word, place}
+use Rattle.amd_words.specs.Words.{num, size_of, is_place, word, place}
 use Rattle.amd_listing.specs.Ended.{LinksAre}
 use Rattle.amd_listing.proofs.RowLinks.{unmarked, link_some, link_none, linked_gone}
 use Rattle.amd_listing.proofs.Passed.{passed_none, passed_same, passed_element, passed_last, passed_other, next_small}

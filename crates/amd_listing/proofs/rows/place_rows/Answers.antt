@@ -2,7 +2,7 @@
 use Rattle.std.proofs.Common.{ℕ, ℤ, List, pos, ◌≡◌, arith, length, map}
 use Rattle.std.proofs.lemmas.List.{length-map}
 use Rattle.amd_model.specs.State.{Home}
-use Rattle.amd_numbers.specs.Permutations.{AreInverse}
+use Rattle.amd_types.specs.Permutations.{AreInverse}
 use Rattle.amd_listing.specs.Blocks.{listing_of}
 use Rattle.amd_listing.specs.Placing.{AllPlaced, AreBlocks}
 use Rattle.amd_listing.proofs.Placed.{all_listed, all_inverse}

@@ -1,6 +1,6 @@
 use Rattle.std.proofs.Common.{true, ◌≡◌, ◌<◌, ◌∙◌, ap, sym, arith, length}
 use Rattle.amd_model.specs.State.{gone_at}
-use Rattle.amd_places.specs.Words.{size_of}
+use Rattle.amd_words.specs.Words.{size_of}
 use Rattle.amd_listing.specs.Ended.{row_link}
 use Rattle.amd_listing.proofs.LinkSteps.{fewer_steps}
 use Rattle.amd_listing.proofs.RowLinks.{unmarked, gone_small, gone_place, gone_next}

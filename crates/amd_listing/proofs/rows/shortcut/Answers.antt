@@ -1,5 +1,5 @@
 use Rattle.std.proofs.Common.{Some, ◌≡◌, ◌≢◌, ◌<◌, ◌∙◌, ap, refl, subst, sym, arith, length}
-use Rattle.amd_places.specs.Words.{size_of}
+use Rattle.amd_words.specs.Words.{size_of}
 use Rattle.amd_listing.specs.Ended.{row_link, LinksAre}
 use Rattle.amd_listing.proofs.LinkSteps.{fewer_steps}
 use Rattle.amd_listing.proofs.RowLinks.{unmarked, gone_small, gone_place, gone_next, gone_is, straight, other}

@@ -1,7 +1,7 @@
 use Rattle.std.proofs.Common.{ℕ, Bool, true, false, ◌≢◌, ◌≡◌, ◌&&◌, ap, ◌∙◌, is_none}
 use Rattle.std.specs.Prelude.{nat_eq}
 use Rattle.std.proofs.lemmas.Bool.{and_from, eq-eqb, ne_eqb}
-use Rattle.amd_rounds.specs.Views.{num, some_at}
+use Rattle.amd_plain.specs.Views.{num, some_at}
 use Rattle.amd_plain.proofs.ElementRows.{and_false, none_reads, last_none, last_skip, last_take}
 use Rattle.amd_plain.proofs.blocks.add_last.Goals as goal
 use Rattle.amd_plain.proofs.blocks.add_last.Goals.{then-is_none+then-block-v-eq0+in_ok-push, else-is_none}

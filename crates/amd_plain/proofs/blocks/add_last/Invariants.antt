@@ -1,7 +1,7 @@
 use Rattle.std.proofs.Common.{◌≡◌, ◌++◌, ◌&&◌, is_none}
 use Rattle.std.specs.Prelude.{nat_eq}
 use Rattle.amd_model.specs.Below.{list_below}
-use Rattle.amd_rounds.specs.Views.{num, some_at}
+use Rattle.amd_plain.specs.Views.{num, some_at}
 use Rattle.amd_plain.proofs.blocks.add_last.Given as goal
 
 abbrev pub invariant-rows : goal.invariant-rows

@@ -1,7 +1,7 @@
 use Rattle.std.proofs.Common.{ℕ, ◌<◌, length}
 use Rattle.std.specs.Prelude.{slice_index}
 use Rattle.amd_model.specs.Listing.{Tree}
-use Rattle.amd_trees.specs.Trees.{IsPostorderOf}
+use Rattle.amd_postorder.specs.Trees.{IsPostorderOf}
 use Rattle.amd_plain.proofs.ByPlace.{AreSoFar}
 use Rattle.amd_plain.proofs.blocks.by_place.Given as goal
 

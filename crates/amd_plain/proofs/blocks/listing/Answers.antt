@@ -5,10 +5,10 @@ use Rattle.amd_model.specs.Below.{list_below}
 use Rattle.amd_model.specs.State.{block_at}
 use Rattle.amd_model.specs.Run.{last_state}
 use Rattle.amd_model.proofs.States.EndState.{at_the_end}
-use Rattle.amd_numbers.specs.declared.amd.Status.TheVariants.{OutOfMemory}
-use Rattle.amd_rounds.specs.Views.{list_at, num, some_at}
-use Rattle.amd_rounds.specs.Starts.{ListsRun}
-use Rattle.amd_trees.specs.Trees.{IsByPlace, IsForest, IsPostorderOf, tree_of}
+use Rattle.amd_types.specs.declared.amd.Status.TheVariants.{OutOfMemory}
+use Rattle.amd_plain.specs.Views.{list_at, num, some_at}
+use Rattle.amd_plain.specs.Starts.{ListsRun}
+use Rattle.amd_postorder.specs.Trees.{IsByPlace, IsForest, IsPostorderOf, tree_of}
 use Rattle.amd_plain.proofs.ListingLaw.{if_err, if_same_err, same_last, none_live, parent_small, block_small, front_small, elements}
 use Rattle.amd_plain.proofs.ListingLaw.{forest_made, inside, listing_below, listed}
 use Rattle.amd_plain.proofs.blocks.listing.Goals as goal

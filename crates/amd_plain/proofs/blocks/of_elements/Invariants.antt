@@ -1,7 +1,7 @@
 use Rattle.std.proofs.Common.{ℕ, ◌≡◌, ◌<◌, length, cond, pos}
 use Rattle.std.specs.Prelude.{nat_lt}
 use Rattle.amd_model.specs.Input.Columns.{at}
-use Rattle.amd_rounds.specs.Views.{num}
+use Rattle.amd_plain.specs.Views.{num}
 use Rattle.amd_plain.proofs.blocks.of_elements.Given as goal
 
 abbrev pub invariant-elements : goal.invariant-elements

@@ -1,5 +1,5 @@
 use Rattle.std.proofs.Common.{◌≡◌, map, take}
-use Rattle.amd_trees.specs.Trees.{link_of}
+use Rattle.amd_postorder.specs.Trees.{link_of}
 use Rattle.amd_plain.proofs.blocks.parent_links.Given as goal
 
 abbrev pub invariant-elements : goal.invariant-elements

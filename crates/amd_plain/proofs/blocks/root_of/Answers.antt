@@ -1,6 +1,6 @@
 use Rattle.std.proofs.Common.{◌≡◌, ◌∙◌, sym, length, None, Some}
 use Rattle.std.proofs.lemmas.List.{get_or_read}
-use Rattle.amd_rounds.specs.Views.{some_at}
+use Rattle.amd_plain.specs.Views.{some_at}
 use Rattle.amd_listing.proofs.LinkSteps.{fewer_steps}
 use Rattle.amd_plain.proofs.blocks.root_of.Goals as goal
 

@@ -1,6 +1,6 @@
 use Rattle.std.proofs.Common.{◌≡◌, ◌++◌, ◌∷◌, [], take}
 use Rattle.std.specs.Prelude.{flat_map}
-use Rattle.amd_rounds.specs.Views.{list_at}
+use Rattle.amd_plain.specs.Views.{list_at}
 use Rattle.amd_plain.proofs.blocks.rows_in_order.Given as goal
 
 abbrev pub invariant-elements : goal.invariant-elements

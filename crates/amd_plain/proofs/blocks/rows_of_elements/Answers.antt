@@ -3,8 +3,8 @@ use Rattle.std.specs.Prelude.{◌==◌}
 use Rattle.std.proofs.lemmas.List.{get_or_read, get_or-map, length-set}
 use Rattle.amd_model.specs.State.{block_at}
 use Rattle.amd_model.proofs.Counting.Places.{below_none}
-use Rattle.amd_rounds.specs.Views.{some_at, list_at}
-use Rattle.amd_rounds.specs.Keeps.{LinksLead}
+use Rattle.amd_plain.specs.Views.{some_at, list_at}
+use Rattle.amd_plain.specs.Keeps.{LinksLead}
 use Rattle.amd_plain.proofs.RowLinks.{none_as_before}
 use Rattle.amd_plain.proofs.ElementRows.{rows_skip, rows_take, linked_to, unlinked}
 use Rattle.amd_plain.proofs.blocks.rows_of_elements.Goals as goal

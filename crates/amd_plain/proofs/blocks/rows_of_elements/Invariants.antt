@@ -1,8 +1,8 @@
 use Rattle.std.proofs.Common.{ℕ, false, ◌≡◌, ◌<◌, ◌==◌, ◌&&◌, not, length, is_none}
 use Rattle.amd_model.specs.Below.{list_below}
 use Rattle.amd_model.specs.State.{Home, block_at, live_at}
-use Rattle.amd_rounds.specs.Views.{list_at, some_at}
-use Rattle.amd_rounds.specs.Keeps.{LinksLead}
+use Rattle.amd_plain.specs.Views.{list_at, some_at}
+use Rattle.amd_plain.specs.Keeps.{LinksLead}
 use Rattle.amd_plain.proofs.blocks.rows_of_elements.Given as goal
 
 abbrev pub invariant-rows : goal.invariant-rows

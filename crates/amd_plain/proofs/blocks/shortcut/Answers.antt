@@ -1,6 +1,6 @@
 use Rattle.std.proofs.Common.{◌≡◌, ◌≢◌, ◌<◌, ◌∙◌, ap, sym, length, None, Some, arith}
 use Rattle.std.proofs.lemmas.List.{get_or_read, length-set}
-use Rattle.amd_rounds.specs.Views.{some_at}
+use Rattle.amd_plain.specs.Views.{some_at}
 use Rattle.amd_listing.proofs.LinkSteps.{fewer_steps}
 use Rattle.amd_plain.proofs.RowLinks.{led_straight, same_alone, other, none_as_before}
 use Rattle.amd_plain.proofs.blocks.shortcut.Goals as goal

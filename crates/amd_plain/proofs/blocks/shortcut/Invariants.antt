@@ -1,7 +1,7 @@
 use Rattle.std.proofs.Common.{ℕ, suc, ◌≡◌, ◌<◌, ◌≤◌, length, is_none}
 use Rattle.amd_model.specs.State.{Home}
-use Rattle.amd_rounds.specs.Views.{some_at}
-use Rattle.amd_rounds.specs.Keeps.{LinksLead}
+use Rattle.amd_plain.specs.Views.{some_at}
+use Rattle.amd_plain.specs.Keeps.{LinksLead}
 use Rattle.amd_listing.proofs.LinkSteps.{steps}
 use Rattle.amd_plain.proofs.blocks.shortcut.Given as goal
 

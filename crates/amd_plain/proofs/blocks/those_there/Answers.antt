@@ -1,5 +1,5 @@
 use Rattle.std.proofs.Common.{◌≡◌, ◌++◌, ◌∷◌, [], ap, sym, ◌∙◌, arith, length, None, Some}
-use Rattle.amd_rounds.specs.Views.{some_at}
+use Rattle.amd_plain.specs.Views.{some_at}
 use Rattle.amd_plain.proofs.ByPlace.{next_taken, none_taken, end_taken}
 use Rattle.amd_plain.proofs.blocks.those_there.Goals as goal
 use Rattle.amd_plain.proofs.blocks.those_there.Goals.{in-Some+in_ok-push, in_default}

@@ -1,5 +1,5 @@
 use Rattle.std.proofs.Common.{ℕ, List, ◌≡◌, take}
-use Rattle.amd_trees.specs.Trees.{IsByPlace}
+use Rattle.amd_postorder.specs.Trees.{IsByPlace}
 use Rattle.amd_plain.proofs.blocks.those_there.Given as goal
 
 abbrev pub invariant-places : goal.invariant-places

@@ -3,7 +3,7 @@ use Rattle.std.specs.Prelude.{nat_lt}
 use Rattle.std.specs.Option.{option_copied}
 use Rattle.std.specs.Vec.{vec_capacity}
 use Rattle.amd_model.specs.Input.Held.{is_marked}
-use Rattle.amd_rounds.specs.Views.{at, num}
+use Rattle.amd_plain.specs.Views.{at, num}
 use Rattle.amd_plain.proofs.last.rows_held_last.Given as goal
 
 abbrev pub invariant-rows : goal.invariant-rows

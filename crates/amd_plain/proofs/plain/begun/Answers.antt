@@ -1,5 +1,5 @@
 use Rattle.std.proofs.Common.{ℤ, List, map, ap, ◌∙◌}
-use Rattle.amd_rounds.specs.Views.{at}
+use Rattle.amd_plain.specs.Views.{at}
 use Rattle.amd_plain.proofs.PlainLaw.{degrees_range, rows_range}
 use Rattle.amd_plain.proofs.plain.begun.Goals as goal
 

@@ -1,7 +1,7 @@
 use Rattle.std.proofs.Common.{rules, ℤ, List, pos, map, length, ap, sym, subst, ◌∙◌}
 use Rattle.std.specs.Option.{option_copied}
 use Rattle.amd_model.specs.Listing.{ListsEachRow}
-use Rattle.amd_numbers.specs.Permutations.{AreInverse}
+use Rattle.amd_types.specs.Permutations.{AreInverse}
 use Rattle.amd_plain.proofs.PlainLaw.{stands_first, stands_last, order_length, order_each, answer}
 use Rattle.amd_plain.proofs.plain.plain_1.Goals as goal
 

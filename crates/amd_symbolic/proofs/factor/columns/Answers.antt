@@ -3,8 +3,8 @@ use Rattle.std.specs.Prelude.{IfOk, IfErr, ◌==◌, unsigned_abs}
 use Rattle.std.proofs.lemmas.List.{length-map}
 use Rattle.amd_model.specs.Input.Columns.{IsInput}
 use Rattle.amd_factor.specs.Earlier.{Permutes}
-use Rattle.amd_numbers.specs.Statuses.{IsStatusOf}
-use Rattle.amd_numbers.specs.declared.amd.Status.TheVariants.{Invalid}
+use Rattle.amd_types.specs.Statuses.{IsStatusOf}
+use Rattle.amd_types.specs.declared.amd.Status.TheVariants.{Invalid}
 use Rattle.amd_symbolic.specs.Factors.{IsFactorOf, IsFault}
 use Rattle.amd_symbolic.specs.declared.factor.Fault.TheVariants.{OutOfMemory}
 use Rattle.amd_symbolic.proofs.Faults.{memory_of, all_of, answer_of}

@@ -1,6 +1,6 @@
 use Rattle.std.proofs.Common.{map}
 use Rattle.amd_model.specs.Input.Pattern.{graph_of}
-use Rattle.amd_numbers.specs.Counts.{counts}
+use Rattle.amd_types.specs.Counts.{counts}
 use Rattle.amd_symbolic.proofs.factor.columns.Given as goal
 
 abbrev pub ghost-form_columns : goal.ghost-form_columns

@@ -1,6 +1,6 @@
 use Rattle.std.proofs.Common.{ℕ, ℤ, pos, ◌≡◌, List, map, rules}
 use Rattle.std.specs.Prelude.{IfErr}
-use Rattle.amd_numbers.specs.Counts.{counts}
+use Rattle.amd_types.specs.Counts.{counts}
 use Rattle.amd_symbolic.specs.declared.factor.Fault.TheVariants.{OutOfMemory}
 use Rattle.amd_symbolic.specs.Factors.{IsFault}
 use Rattle.amd_symbolic.proofs.Faults.{memory_of}

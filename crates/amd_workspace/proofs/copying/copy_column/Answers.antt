@@ -2,7 +2,7 @@
 use Rattle.std.proofs.Common.{◌≡◌, ◌+◌, ◌<◌, ◌≤◌, ◌^◌, ℕ, ℤ, List, arith, map, get_or, set, pos, ap, sym, ◌∙◌, subst, le_refl}
 use Rattle.std.proofs.lemmas.List.{length-map}
 use Rattle.amd_model.specs.Below.{list_below}
-use Rattle.amd_numbers.specs.Counts.{counts, is_entry}
+use Rattle.amd_types.specs.Counts.{counts, is_entry}
 use Rattle.amd_edges.proofs.Forms.{pointer_fits, row_fits, place_in, sorted_form}
 use Rattle.amd_edges.proofs.Reading.{reading_start, reading_next}
 use Rattle.amd_workspace.specs.Copying.{is_other, Copies}

@@ -1,6 +1,6 @@
 use Rattle.std.proofs.Common.{ℕ, map, get_or}
 use Rattle.amd_model.specs.Below.{list_below}
-use Rattle.amd_numbers.specs.Counts.{counts, is_entry}
+use Rattle.amd_types.specs.Counts.{counts, is_entry}
 use Rattle.amd_edges.proofs.Reading.{IsReading}
 use Rattle.amd_workspace.specs.Copying.{Copies}
 use Rattle.amd_workspace.proofs.SymmetricLists.{own}

@@ -1,6 +1,6 @@
 -- The goals of ending::end_element.
 use Rattle.std.proofs.Common.{pos, set, ap, arith, ◌∙◌}
-use Rattle.amd_places.specs.Words.{num, word}
+use Rattle.amd_words.specs.Words.{num, word}
 use Rattle.amd_workspace.proofs.EndWords.{block_told}
 use Rattle.amd_workspace.proofs.ending.end_element.Goals as goal
 
@@ -8,5 +8,5 @@ pub returns-then-front-border-clause-blocks : goal.returns-then-front-border-cla
 returns-then-front-border-clause-blocks g c =
     let less = c.if-front-border.true in
     c.put_row-then-front-border.ensures ∙ ap (λ m. set c.args.nv.now c.args.i (pos m))
-    (block_told (word c.args.e_len.now c.args.i) (num c.args.degree.now c.args.i) c.front_in-front.result c.figure_at-border.result
-    c.front_in-front.ensures.is c.figure_at-border.ensures.is (omega arith))
+    (block_told (word c.args.e_len.now c.args.i) (num c.args.degree.now c.args.i) c.front_in-front.result c.cell_at-border.result
+    c.front_in-front.ensures.is c.cell_at-border.ensures.is (omega arith))

@@ -1,5 +1,5 @@
 use Rattle.std.proofs.Common.{ℕ, ◌≡◌, ◌≤◌, length}
-use Rattle.amd_places.specs.Words.{word}
+use Rattle.amd_words.specs.Words.{word}
 use Rattle.amd_workspace.specs.Ending.{EndsRows}
 use Rattle.amd_workspace.proofs.ending.end_rows.Given as goal
 

@@ -2,8 +2,8 @@
 use Rattle.std.proofs.Common.{rules, ℤ, negsuc, false, ◌≡◌, ◌∙◌, ap, sym, w64, FitsSigned}
 use Rattle.std.specs.Prelude.{int_lt}
 use Rattle.std.proofs.lemmas.Int.{to_z-of_z}
-use Rattle.amd_places.specs.Words.{flip_of}
-use Rattle.amd_inplace.specs.Workspaces.{flipped}
+use Rattle.amd_words.specs.Words.{flip_of}
+use Rattle.amd_rounds.specs.Workspaces.{flipped}
 use Rattle.amd_workspace.proofs.EndWords.{mark_told, plain_told}
 use Rattle.amd_workspace.proofs.ending.front_in.Goals as goal
 

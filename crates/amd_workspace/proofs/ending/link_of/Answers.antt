@@ -2,7 +2,7 @@
 use Rattle.std.proofs.Common.{ℤ, pos, negsuc, ◌≡◌, ◌<◌, ◌^◌, ◌∙◌, ap, sym, arith, w64, to_z}
 use Rattle.std.specs.Prelude.{int_lt}
 use Rattle.std.proofs.lemmas.Int.{ints, to_z-of_z}
-use Rattle.amd_places.specs.Words.{flip_of}
+use Rattle.amd_words.specs.Words.{flip_of}
 use Rattle.amd_workspace.proofs.EndWords.{mark_named, plain_named}
 use Rattle.amd_workspace.proofs.ending.link_of.Goals as goal
 

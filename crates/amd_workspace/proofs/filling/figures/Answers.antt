@@ -12,6 +12,6 @@ pub figures-preserved : goal.figures-preserved
 figures-preserved g c =
     let i = c.figures.invariant in let e = c.push_reserved.ensures in record {
       room = (let x = i.room in let y = e.capacity in omega (arith, x, y));
-      items = e.items ∙ ap (λ x. c.figures.list.items ++ x ∷ []) c.figure_of.ensures ∙ ap (λ xs. xs ++ c.args.number ∷ []) i.items
+      items = e.items ∙ ap (λ x. c.figures.list.items ++ x ∷ []) c.cell_of.ensures ∙ ap (λ xs. xs ++ c.args.number ∷ []) i.items
           ∙ replicate_more c.figures.counter c.args.number;
     }

@@ -8,7 +8,7 @@ use Rattle.amd_model.specs.Input.Pattern.{graph_of, is_pair}
 use Rattle.amd_model.specs.Quotient.{met_edges}
 use Rattle.amd_edges.specs.Visits.{arcs_of}
 use Rattle.amd_edges.proofs.Orders.{ends_starting}
-use Rattle.amd_places.specs.Words.{num, rows}
+use Rattle.amd_words.specs.Words.{num, rows}
 use Rattle.amd_workspace.specs.Copying.{AreRows}
 use Rattle.amd_workspace.specs.Laying.{Lays}
 use Rattle.amd_workspace.specs.Lower.{list_start}

@@ -5,7 +5,7 @@ use Rattle.amd_workspace.specs.Laying.{IsLaidOut}
 use Rattle.amd_workspace.specs.Lower.{list_start}
 use Rattle.amd_model.specs.Quotient.{starting_list}
 use Rattle.amd_workspace.proofs.Layings.{total_is, laid_out, list_at, first_at}
-use Rattle.amd_places.specs.Words.{num, rows}
+use Rattle.amd_words.specs.Words.{num, rows}
 use Rattle.amd_workspace.proofs.laying.lay.Goals as goal
 use Rattle.amd_workspace.proofs.laying.lay.Goals.{then-has_long_lower+in_ok-iw, else-has_long_lower+in_ok-iw-2}
 

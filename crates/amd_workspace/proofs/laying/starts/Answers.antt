@@ -4,7 +4,7 @@ use Rattle.std.proofs.lemmas.Int.{to_z_pos}
 use Rattle.std.proofs.lemmas.List.{length_push, take_more, take_all, nil_from_length}
 use Rattle.amd_model.specs.Below.{sum_below}
 use Rattle.amd_model.proofs.Counting.Below.{sum_upto}
-use Rattle.amd_places.specs.Words.{num}
+use Rattle.amd_words.specs.Words.{num}
 use Rattle.amd_edges.proofs.Listing.{starts_more}
 use Rattle.amd_workspace.proofs.Layings.{sum_next, words_next}
 use Rattle.amd_workspace.proofs.laying.starts.Goals as goal
@@ -37,15 +37,15 @@ word_of-requires g c =
     let is = ap lib.IntN.nat_abs (to_z_pos w64 c.rows.total low) in
     omega (arith, is, s)
 
-pub figure_of-requires : goal.figure_of-requires
-figure_of-requires g c =
+pub cell_of-requires : goal.cell_of-requires
+cell_of-requires g c =
     let i = c.rows.invariant in
     let s = small (length c.args.degrees.now) c.rows.degree-index c.rows.total (num c.args.degrees.now) _ i.total c.rows-test.true
     c.requires.fits.1 in
     omega (arith, s)
 
-pub figure_of-requires-in-rows : goal.figure_of-requires-in-rows
-figure_of-requires-in-rows g c =
+pub cell_of-requires-in-rows : goal.cell_of-requires-in-rows
+cell_of-requires-in-rows g c =
     let i = c.rows.invariant in
     let s = small (length c.args.degrees.now) c.rows.degree-index c.rows.total (num c.args.degrees.now) _ i.total c.rows-test.true
     c.requires.fits.1 in
@@ -74,9 +74,9 @@ rows-preserved g c =
     let a = c.push_reserved.ensures in let b = c.push_reserved-in-rows.ensures in let d = c.push_reserved-in-rows-2.ensures in
     let s = small (length degrees) n c.rows.total (num degrees) _ i.total c.rows-test.true c.requires.fits.0 in
     let low : c.rows.total < 2 ^ 63 = (let w = g.met.S.Signed.narrow in omega (arith, s, w)) in
-    let next_is = b.items ∙ ap (λ x. c.rows.next.items ++ x ∷ []) c.figure_of.ensures in
+    let next_is = b.items ∙ ap (λ x. c.rows.next.items ++ x ∷ []) c.cell_of.ensures in
     let pe_is = a.items ∙ ap (λ x. c.rows.pe.items ++ x ∷ []) (c.word_of.ensures ∙ to_z_pos w64 c.rows.total low) in
-    let len_is = d.items ∙ ap (λ x. c.rows.len.items ++ x ∷ []) c.figure_of-in-rows.ensures in
+    let len_is = d.items ∙ ap (λ x. c.rows.len.items ++ x ∷ []) c.cell_of-in-rows.ensures in
     record {
       pe_room = (let x = i.pe_room in let y = a.capacity in omega (arith, x, y));
       next_room = (let x = i.next_room in let y = b.capacity in omega (arith, x, y));

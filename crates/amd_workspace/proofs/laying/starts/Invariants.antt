@@ -1,7 +1,7 @@
 use Rattle.std.proofs.Common.{◌≡◌, ◌<◌, ◌≤◌, ℕ, length, map, get_or, take, pos}
 use Rattle.std.specs.Vec.{vec_capacity}
 use Rattle.amd_model.specs.Below.{sum_below}
-use Rattle.amd_places.specs.Words.{num}
+use Rattle.amd_words.specs.Words.{num}
 use Rattle.amd_workspace.proofs.laying.starts.Given as goal
 
 abbrev pub invariant-rows : goal.invariant-rows

@@ -2,7 +2,7 @@
 use Rattle.std.proofs.Common.{◌≡◌, ◌<◌, ◌≤◌, ◌++◌, ℕ, ℤ, List, arith, refl, sym, subst, ap, ◌∙◌, length, map, take, drop}
 use Rattle.amd_model.specs.Input.Pattern.{graph_of}
 use Rattle.amd_edges.specs.Visits.{AreCounts}
-use Rattle.amd_places.specs.Words.{num, rows}
+use Rattle.amd_words.specs.Words.{num, rows}
 use Rattle.amd_workspace.specs.Copying.{AreRows}
 use Rattle.amd_workspace.specs.Lower.{IsLower, HasColumns, HoldsOwn, list_start}
 use Rattle.amd_workspace.proofs.Layings.{written}

@@ -1,6 +1,6 @@
 use Rattle.std.proofs.Common.{◌≡◌, ◌≤◌, ◌-◌, ◌++◌, map, pos, take, drop}
 use Rattle.std.specs.Vec.{vec_capacity}
-use Rattle.amd_numbers.specs.Counts.{counts}
+use Rattle.amd_types.specs.Counts.{counts}
 use Rattle.amd_workspace.proofs.lower.push_column.Given as goal
 
 abbrev pub invariant-places : goal.invariant-places

@@ -5,7 +5,7 @@ use Rattle.std.proofs.lemmas.List.{length-map, length-append, length-replicate}
 use Rattle.amd_model.specs.Below.{sum_below}
 use Rattle.amd_model.specs.Input.Pattern.{graph_of}
 use Rattle.amd_edges.specs.Visits.{start_of}
-use Rattle.amd_places.specs.Words.{num}
+use Rattle.amd_words.specs.Words.{num}
 use Rattle.amd_workspace.specs.Lower.{HoldsOwn, own_of, list_start}
 use Rattle.amd_workspace.proofs.LowerWords.{held_none, held_column, held_filled, degree_is, list_room, next_end}
 use Rattle.amd_workspace.proofs.lower.push_lists.Goals as goal

@@ -1,7 +1,7 @@
 -- the goals of lower::spread.
 use Rattle.std.proofs.Common.{◌≡◌, ◌+◌, ◌-◌, ◌<◌, ◌≤◌, ℕ, ℤ, List, arith, refl, sym, subst, ap, ◌∙◌, length, pos, set}
 use Rattle.std.proofs.lemmas.List.{length-set}
-use Rattle.amd_places.specs.Words.{num, word}
+use Rattle.amd_words.specs.Words.{num, word}
 use Rattle.amd_workspace.specs.Lower.{Matrix, IsLower, Spreads, list_start, earlier_of, own_of, earlier_below}
 use Rattle.amd_workspace.proofs.LowerWords.{partly, partly_start, partly_end, early_all, next_list, later_list, spreads_same}
 use Rattle.amd_workspace.proofs.LowerWords.{spread_row, spread_inside, spread_step, plain_word}
@@ -22,10 +22,10 @@ module _ (m : Matrix) (lower : IsLower m.n m.ap m.ai) (j from end : ℕ) (j_in :
 
 pub words-init : goal.words-init
 words-init g c =
-    let m = c.requires.ready.0 in let r = c.requires.ready.1 in let from = c.figure_at-from.result in
+    let m = c.requires.ready.0 in let r = c.requires.ready.1 in let from = c.cell_at-from.result in
     let none : from - from ≡ 0 = omega arith in record {
       from = omega arith;
-      to = (let e = own_to m r.lower c.args.j from c.args.end r.row c.args.next.now c.args.iw.now r.before c.figure_at-from.ensures.is
+      to = (let e = own_to m r.lower c.args.j from c.args.end r.row c.args.next.now c.args.iw.now r.before c.cell_at-from.ensures.is
           r.end in omega (arith, e));
       long = refl;
       spreads = λ m r. spreads_same m.n m.ap m.ai r.lower (earlier_below m.n m.ap m.ai c.args.j)
@@ -38,8 +38,8 @@ pub row_at-i-requires-clause-inside : goal.row_at-i-requires-clause-inside
 row_at-i-requires-clause-inside g c =
     let m = c.requires.ready.0 in let r = c.requires.ready.1 in let i = c.words.invariant in let long = i.long in
     let t = c.words-test.true in let room = r.room in
-    let e = own_in m r.lower c.args.j c.figure_at-from.result c.args.end r.row c.args.next.now c.args.iw.now r.before
-    c.figure_at-from.ensures.is r.end in omega (arith, e, long, t, room)
+    let e = own_in m r.lower c.args.j c.cell_at-from.result c.args.end r.row c.args.next.now c.args.iw.now r.before
+    c.cell_at-from.ensures.is r.end in omega (arith, e, long, t, room)
 
 pub row_at-i-requires-clause-plain : goal.row_at-i-requires-clause-plain
 row_at-i-requires-clause-plain g c = plain_word (word c.words.iw c.words.place)
@@ -53,9 +53,9 @@ module _ (iw : List ℤ) (from place row : ℕ) (low : from ≤ place) (is : wor
 pub append-requires-clause-inside : goal.append-requires-clause-inside
 append-requires-clause-inside g c =
     let m = c.requires.ready.0 in let r = c.requires.ready.1 in let v = c.words.invariant in let h = v.spreads m r in
-    let from = c.figure_at-from.result in let k = c.words.place - from in
-    let at = own_at m r.lower c.args.j from c.args.end r.row c.args.next.now c.args.iw.now r.before c.figure_at-from.ensures.is r.end in
-    let to = own_to m r.lower c.args.j from c.args.end r.row c.args.next.now c.args.iw.now r.before c.figure_at-from.ensures.is r.end in
+    let from = c.cell_at-from.result in let k = c.words.place - from in
+    let at = own_at m r.lower c.args.j from c.args.end r.row c.args.next.now c.args.iw.now r.before c.cell_at-from.ensures.is r.end in
+    let to = own_to m r.lower c.args.j from c.args.end r.row c.args.next.now c.args.iw.now r.before c.cell_at-from.ensures.is r.end in
     let t = c.words-test.true in let low = v.from in let long = v.long in let room = r.room in
     let is = read_at c.words.iw from c.words.place c.row_at-i.result low c.row_at-i.ensures in
     let k_in : k < length (own_of m.n m.ap m.ai c.args.j) = omega (arith, t, to, low) in
@@ -74,11 +74,11 @@ words-preserved g c =
       to = omega (arith, t);
       long = ap length c.append.ensures.words ∙ length-set c.words.iw place (pos c.args.j) ∙ v.long;
       spreads = λ m r.
-          let v = c.words.invariant in let h = v.spreads m r in let from = c.figure_at-from.result in let k = c.words.place - from in
+          let v = c.words.invariant in let h = v.spreads m r in let from = c.cell_at-from.result in let k = c.words.place - from in
           let at = own_at m r.lower c.args.j from c.args.end r.row c.args.next.now c.args.iw.now r.before
-          c.figure_at-from.ensures.is r.end in
+          c.cell_at-from.ensures.is r.end in
           let to = own_to m r.lower c.args.j from c.args.end r.row c.args.next.now c.args.iw.now r.before
-          c.figure_at-from.ensures.is r.end in
+          c.cell_at-from.ensures.is r.end in
           let t = c.words-test.true in let low = v.from in let long = v.long in let room = r.room in
           let is = read_at c.words.iw from c.words.place c.row_at-i.result low c.row_at-i.ensures in
           let k_in : k < length (own_of m.n m.ap m.ai c.args.j) = omega (arith, t, to, low) in
@@ -95,8 +95,8 @@ words-preserved g c =
 
 pub returns-clause-after : goal.returns-clause-after
 returns-clause-after g c = λ m r.
-    let v = c.words.invariant in let h = v.spreads m r in let from = c.figure_at-from.result in let k = c.words.place - from in
-    let to = own_to m r.lower c.args.j from c.args.end r.row c.args.next.now c.args.iw.now r.before c.figure_at-from.ensures.is r.end in
+    let v = c.words.invariant in let h = v.spreads m r in let from = c.cell_at-from.result in let k = c.words.place - from in
+    let to = own_to m r.lower c.args.j from c.args.end r.row c.args.next.now c.args.iw.now r.before c.cell_at-from.ensures.is r.end in
     let t = c.words-test.false in let low = v.from in
     let all : length (own_of m.n m.ap m.ai c.args.j) ≤ k = omega (arith, t, to, low) in
     spreads_same m.n m.ap m.ai r.lower (partly m.n m.ap m.ai c.args.j k) (earlier_below m.n m.ap m.ai (c.args.j + 1))

@@ -3,7 +3,7 @@ use Rattle.std.proofs.Common.{◌≡◌, ◌+◌, ◌<◌, ℕ, ℤ, List, arith
 use Rattle.amd_model.specs.Below.{sum_below}
 use Rattle.amd_model.specs.Input.Pattern.{graph_of}
 use Rattle.amd_edges.specs.Visits.{start_of}
-use Rattle.amd_places.specs.Words.{num}
+use Rattle.amd_words.specs.Words.{num}
 use Rattle.amd_workspace.specs.Lower.{Matrix, HasColumns, IsReady, Spreads, earlier_below, list_start}
 use Rattle.amd_workspace.proofs.LowerWords.{list_room, next_end, spread_lists_are}
 use Rattle.amd_workspace.proofs.lower.spread_lists.Goals as goal

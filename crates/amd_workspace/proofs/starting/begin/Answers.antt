@@ -4,14 +4,14 @@ use Rattle.std.proofs.Common.{negsuc, arith, length, reverse, set}
 use Rattle.std.specs.Prelude.{nat_lt, ◌==◌, not}
 use Rattle.std.specs.Option.{option_copied}
 use Rattle.std.proofs.lemmas.Bool.{cases_Bool, true≢false}
-use Rattle.amd_cells.specs.Sides.{nexts, lasts}
+use Rattle.amd_words.specs.Sides.{nexts, lasts}
 use Rattle.amd_model.specs.Below.{count_below, sum_below}
 use Rattle.amd_model.specs.Input.Held.{is_marked}
 use Rattle.amd_model.proofs.Counting.Below.{count_most}
-use Rattle.amd_views.proofs.Lists.Rising.{count_yes, count_no}
-use Rattle.amd_views.proofs.Starting.{class_test}
-use Rattle.amd_places.specs.Words.{num, flip_of}
-use Rattle.amd_places.specs.Chains.{DegreeLists}
+use Rattle.amd_round_laws.proofs.Lists.Rising.{count_yes, count_no}
+use Rattle.amd_round_laws.proofs.Starting.{class_test}
+use Rattle.amd_words.specs.Words.{num, flip_of}
+use Rattle.amd_lists.specs.Chains.{DegreeLists}
 use Rattle.amd_workspace.specs.Starting.{Rows, held_in, is_class, classes_of}
 use Rattle.amd_workspace.proofs.Starts.{aside, placed, AreEqual, equal_rows, equal_rest, none_begin, aside_rows, placed_rows, count_next}
 use Rattle.amd_workspace.proofs.Starts.{linked_none, linked_skip, linked_take}
@@ -51,7 +51,7 @@ rows-init g c =
 pub place_row-requires-clause-row : goal.place_row-requires-clause-row
 place_row-requires-clause-row g c =
     let i : ℕ = c.rows.i in let here = c.rows-test.true in let links = c.rows.invariant.links in
-    let count = c.figure_at-count.ensures.is ∙ (c.rows.invariant.rest i (omega arith)).len in
+    let count = c.cell_at-count.ensures.is ∙ (c.rows.invariant.rest i (omega arith)).len in
     let small = c.requires.degrees i here in
     let long : length (nexts c.rows.sides) ≡ length c.args.len.now = links.1 in
     (omega (arith, here, long), omega (arith, count, small, long))
@@ -103,16 +103,16 @@ rows-preserved g c =
     } in
     let was = c.rows.invariant in
     let here : i < n = c.rows-test.true in
-    let here_is : c.figure_at-count.result ≡ num c.rows.len i = c.figure_at-count.ensures.is in
-    let count : c.figure_at-count.result ≡ num len i = here_is ∙ (was.rest i (omega arith)).len in
+    let here_is : c.cell_at-count.result ≡ num c.rows.len i = c.cell_at-count.ensures.is in
+    let count : c.cell_at-count.result ≡ num len i = here_is ∙ (was.rest i (omega arith)).len in
     let marked : c.is_held_last-held.result ≡ held i = c.is_held_last-held.ensures
     ∙ ap (λ d. is_marked (option_copied c.args.hold) i || nat_lt c.args.threshold d) count in
-    let either : c.if-held.aside ≡ (c.is_held_last-held.result || c.figure_at-count.result == 0) = elim c.if-held.branch [
-      | then-held v ↦ v.aside-is ∙ v.if-held.true ∙ sym (ap (λ b. b || c.figure_at-count.result == 0) v.if-held.true)
-      | else-held v ↦ v.aside-is ∙ sym (ap (λ b. b || c.figure_at-count.result == 0) v.if-held.false)
+    let either : c.if-held.aside ≡ (c.is_held_last-held.result || c.cell_at-count.result == 0) = elim c.if-held.branch [
+      | then-held v ↦ v.aside-is ∙ v.if-held.true ∙ sym (ap (λ b. b || c.cell_at-count.result == 0) v.if-held.true)
+      | else-held v ↦ v.aside-is ∙ sym (ap (λ b. b || c.cell_at-count.result == 0) v.if-held.false)
     ] in
     let value : c.if-held.aside ≡ (held i || num len i == 0) = either
-    ∙ ap (λ b. b || c.figure_at-count.result == 0) marked ∙ ap (λ d. held i || d == 0) count in
+    ∙ ap (λ b. b || c.cell_at-count.result == 0) marked ∙ ap (λ d. held i || d == 0) count in
     elim c.if-aside.branch [
       | then-aside w ↦ (
           let none : is_class held len i ≡ false = class_test (held i) (num len i) ∙ ap not (sym value ∙ w.if-aside.true) in
@@ -172,7 +172,7 @@ rows-preserved g c =
                 (linked_take (length (nexts c.rows.sides)) i held len c.rows.head (nexts c.rows.sides) (lasts c.rows.sides) c.rows.degree
                 (subst (λ m. DegreeLists m c.rows.head (nexts c.rows.sides) (lasts c.rows.sides) c.rows.degree
                 (λ b. reverse (classes_of held len i b)))
-                (sym long) was.linked) new.head (nexts new.sides) (lasts new.sides) new.degree c.figure_at-count.result count one
+                (sym long) was.linked) new.head (nexts new.sides) (lasts new.sides) new.degree c.cell_at-count.result count one
                 wrote.linked))));
             live = w.live-is ∙ count_yes (is_class held len) i c.rows.live was.live one;
             dense = w.n_dense-is ∙ count_no held i c.rows.n_dense was.dense free;

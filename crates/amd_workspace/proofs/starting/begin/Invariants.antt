@@ -1,8 +1,8 @@
 use Rattle.std.proofs.Common.{ℕ, Bool, ◌≡◌, ◌≤◌, length, reverse}
 use Rattle.std.specs.Option.{option_copied}
-use Rattle.amd_cells.specs.Sides.{nexts, lasts}
+use Rattle.amd_words.specs.Sides.{nexts, lasts}
 use Rattle.amd_model.specs.Below.{count_below}
-use Rattle.amd_places.specs.Chains.{DegreeLists}
+use Rattle.amd_lists.specs.Chains.{DegreeLists}
 use Rattle.amd_workspace.specs.Starting.{Rows, IsSame, BeginsRows, held_in, is_class, classes_of}
 use Rattle.amd_workspace.proofs.starting.begin.Given as goal
 

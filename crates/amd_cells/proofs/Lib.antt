@@ -1,2 +1,0 @@
--- Lemmas on the cells of a workspace.
-pub mod SideLists

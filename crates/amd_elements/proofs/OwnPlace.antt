@@ -1,0 +1,148 @@
+-- A new element in the place of its pivot.
+use Rattle.std.proofs.Common.{ℕ, ℤ, true, false, List, [], ◌++◌, ◌≡◌, ◌<◌, ◌≤◌, ◌+◌, ◌-◌, ◌^◌, ◌||◌, ◌⊎◌, inl, inr, refl, sym, subst}
+use Rattle.std.proofs.Common.{ap, ◌∙◌, arith, length, sum_by, flat_map, set, length-set, get_or-set_same, get_or-set_other, pos}
+use Rattle.std.specs.Prelude.{nat_lt, ◌==◌}
+use Rattle.std.proofs.lemmas.Bool.{true≢false, cases_eq, cases_lt}
+use Rattle.amd_model.specs.Quotient.{has}
+use Rattle.amd_words.specs.Words.{num, is_place, place, flip_of, word, start, size_of, in_front, classes, rows}
+use Rattle.amd_round_laws.proofs.Lists.Named.{sum_named}
+use Rattle.amd_elements.specs.Element.{grown, Gathers, front_of, members_at, Builds}
+use Rattle.amd_lists.specs.Layout.{has_list, end_of, Layout}
+use Rattle.amd_elements.specs.Making.{Makes}
+use Rattle.amd_words.proofs.Signs.{mark_none}
+use Rattle.amd_words.proofs.RowLists.{rows_none, rows_length}
+use Rattle.amd_words.proofs.WordMarks.{rows_start}
+use Rattle.amd_elements.proofs.Gathering.{gathers_none}
+use Rattle.amd_elements.proofs.RoundWords.{adds_few, filter_few}
+use Rattle.amd_elements.proofs.Building.{all, classes_same, grown_all, builds_all}
+use Rattle.amd_lists.proofs.Frames.{has_parts, has_length, relaid, live_part}
+
+pub own_none : (iw nv : List ℤ) (from : ℕ) → Gathers iw nv from from [] iw nv from 0
+unfolding has
+own_none iw nv from = gathers_none iw nv from from 0 (omega arith) (λ k l. absurd (omega (arith, l))) (λ j h.
+    absurd (true≢false (sym h ∙ ap (λ l. has l j) (rows_start iw from)))) (sym (ap (sum_by (size_of nv)) (rows_start iw from)))
+
+-- the same gathering, under equal numbers
+pub gathers_at : {iw nv : List ℤ} {from count from' count' : ℕ} {iw' nv' : List ℤ} {end total : ℕ} → from ≡ from' → count ≡ count' →
+    Gathers iw nv from from (classes nv (rows iw from count)) iw' nv' end total →
+    Gathers iw nv from' from' (classes nv (rows iw from' count')) iw' nv' end total
+gathers_at {iw} {nv} {from} {count} {from'} {count'} {iw'} {nv'} {end} {total} f c h =
+    subst (λ s. Gathers iw nv s s (classes nv (rows iw s count')) iw' nv' end total) f
+    (subst (λ m. Gathers iw nv from from (classes nv (rows iw from m)) iw' nv' end total) c h)
+
+-- what is kept of some words ends no later than they do
+pub own_end : {iw nv : List ℤ} {from : ℕ} {iw' nv' : List ℤ} {end total : ℕ} (n : ℕ) →
+    Gathers iw nv from from (classes nv (rows iw from n)) iw' nv' end total → end ≤ from + n
+own_end {iw} {nv} {from} {iw'} {nv'} {end} {total} n h =
+    let a = ap length h.list in let b = rows_length iw' from (end - from) in let c =
+    adds_few (in_front nv) (rows iw from (from - from)) (classes nv (rows iw from n)) in let d = rows_length iw from (from - from) in
+    let e = filter_few (λ j. nat_lt 0 (size_of nv j)) (rows iw from n) in let f = rows_length iw from n in let g = h.grows in
+    omega (arith, a, b, c, d, e, f, g)
+
+-- ---- the list of the pivot
+
+module _ (iw nv nv1 pe : List ℤ) (len : List ℕ) (me : ℕ) (sizes : (i : ℕ) → size_of nv1 i ≡ size_of nv i) (front1 : (i : ℕ) →
+    in_front nv1 i ≡ (in_front nv i || me == i)) (clear : (j : ℕ) → in_front nv j ≡ false) where
+  own_all : classes nv1 (rows iw (start pe me) (num len me)) ≡ all iw nv nv1 pe len me 0 (start pe me) sizes front1 clear
+  own_all = let a : start pe me ≡ start pe me + 0 = omega arith in let b : num len me ≡ num len me - 0 = omega arith in
+      classes_same nv nv1 sizes (rows iw (start pe me) (num len me)) ∙ ap (λ s. classes nv (rows iw s (num len me))) a
+      ∙ ap (λ c. classes nv (rows iw (start pe me + 0) c)) b
+      ∙ ap (λ xs. flat_map (λ e. classes nv (members_at iw pe len e)) xs ++ classes nv (rows iw (start pe me + 0) (num len me - 0)))
+      (sym (rows_none iw (start pe me)))
+
+  pub own_few : sum_by (size_of nv) (front_of iw nv pe len me 0) + 2 < 2 ^ 63 →
+      sum_by (size_of nv1) (grown iw nv1 (start pe me) (start pe me) (classes nv1 (rows iw (start pe me) (num len me)))) < 2 ^ 63
+  own_few h = let a = ap (λ xs. sum_by (size_of nv1) (grown iw nv1 (start pe me) (start pe me) xs)) own_all in
+      let b = ap (sum_by (size_of nv1)) (grown_all iw nv nv1 pe len me 0 (start pe me) sizes front1 clear
+      (all iw nv nv1 pe len me 0 (start pe me) sizes front1 clear)) in
+      let d = sum_named (size_of nv1) (size_of nv) (front_of iw nv pe len me 0) (λ x q. sizes x) in omega (arith, a, b, d, h)
+
+  pub own_builds : {iw' nv' : List ℤ} {end total : ℕ} → length nv1 ≡ length nv →
+      Gathers iw nv1 (start pe me) (start pe me) (classes nv1 (rows iw (start pe me) (num len me))) iw' nv' end total →
+      Builds me (front_of iw nv pe len me 0) iw nv (start pe me) iw' nv' end total
+  own_builds {iw'} {nv'} {end} {total} wide h = builds_all iw nv nv1 pe len me 0 (start pe me) sizes front1 clear wide
+      (subst (λ xs. Gathers iw nv1 (start pe me) (start pe me) xs iw' nv' end total) own_all h)
+
+-- ---- what it leaves
+
+module _ {n me : ℕ} {iw nv pe e_len : List ℤ} {len : List ℕ} {free : ℕ} {front : List ℕ} {iw' nv' : List ℤ} {end total : ℕ}
+    (y : Layout n iw pe e_len len free) (wide : length nv ≡ n) (small_e : me < length e_len) (small_l : me < length len)
+    (own : has_list pe len me ≡ true) (b : Builds me front iw nv (start pe me) iw' nv' end total) (last : end ≤ end_of pe len me) where
+  abbrev e_len' : List ℤ
+  e_len' = set e_len me (flip_of total)
+
+  abbrev len' : List ℕ
+  len' = set len me (end - start pe me)
+
+  e_len_me : word e_len' me ≡ flip_of total
+  e_len_me = get_or-set_same e_len me (flip_of total) (pos 0) small_e
+
+  len_me : num len' me ≡ end - start pe me
+  len_me = get_or-set_same len me (end - start pe me) 0 small_l
+
+  e_len_else : (j : ℕ) → (j ≡ me → ⊥) → word e_len' j ≡ word e_len j
+  e_len_else j ne = get_or-set_other e_len me j (flip_of total) (pos 0) ne
+
+  len_else : (j : ℕ) → (j ≡ me → ⊥) → num len' j ≡ num len j
+  len_else j ne = get_or-set_other len me j (end - start pe me) 0 ne
+
+  part : (j : ℕ) → has_list pe len' j ≡ true → (has_list pe len j ≡ true) × (num len' j ≤ num len j)
+  part j h = elim (cases_eq j me) [
+    | inl q ↦ (
+      ap (has_list pe len) q ∙ own,
+      (let a = ap (num len') q in let c = ap (num len) q in let d = len_me in
+          omega (arith, a, c, d, last)),
+    )
+    | inr ne ↦ (sym (has_length pe len len' j (len_else j ne)) ∙ h, (let a = len_else j ne in omega (arith, a)))
+  ]
+
+  out : (k : ℕ) → (k < start pe me) ⊎ (end ≤ k) → word iw' k ≡ word iw k
+  out k o = elim o [ inl l ↦ b.below k l | inr l ↦ b.above k l ]
+
+  pub own_makes : Makes n me [] front total iw pe e_len len free iw' pe e_len' len' free
+  unfolding has
+  own_makes = record {
+    p_long = refl;
+    e_long = length-set e_len me (flip_of total);
+    l_long = length-set len me (end - start pe me);
+    starts = (has_parts pe len me own).0;
+    list = ap (rows iw' (start pe me)) len_me ∙ b.list;
+    rows_is = e_len_me;
+    parents = λ e h. absurd (true≢false (sym h));
+    places = λ j h ne. refl;
+    counts = e_len_else;
+    lengths = len_else;
+    ended = λ e h. absurd (true≢false (sym h));
+    listed = λ j h ne. has_length pe len len' j (len_else j ne);
+    same = λ j h ne k. (
+      e_len_else j ne,
+      len_else j ne,
+      λ t l.
+          out (start pe j + t) (elim (y.apart me j own k (λ q. ne (sym q)))
+          [ inl m ↦ inr (omega (arith, m, last)) | inr m ↦ inl (omega (arith, m, l)) ]),
+    );
+    before = λ j ne h. let a = y.within j (part j h).0 in let t = len_else j ne in omega (arith, a, t);
+    fewer = live_part n pe pe len len' part;
+    laid = relaid 0 y (omega arith) (λ j h. let p = part j h in inr (p.0, (omega arith), (let a = p.1 in omega (arith, a))))
+        (λ j h. elim (cases_eq j me) [
+          | inl q ↦ (let s : place (word e_len' j) ≡ 0 = ap (λ m. place (word e_len' m)) q ∙ ap place e_len_me ∙ mark_none total in
+              omega (arith, s))
+          | inr ne ↦ (let s = ap place (e_len_else j ne) in let t = len_else j ne in let u = y.parts j (part j h).0 in
+              omega (arith, s, t, u))
+        ])
+        (λ k l. elim (cases_lt k (start pe me)) [
+          | inl m ↦ subst (λ z. (is_place z ≡ true) × (place z < n)) (sym (out k (inl m))) (y.words k l)
+          | inr m ↦ elim (cases_lt k end) [
+            | inl m' ↦ (let at : start pe me + (k - start pe me) ≡ k = omega (arith, m) in
+                let a = b.names (k - start pe me) (omega (arith, m, m')) in
+                subst (λ p. (is_place (word iw' p) ≡ true) × (place (word iw' p) < n)) at (a.0, (let s = a.1 in omega (arith, s, wide))))
+            | inr m' ↦ subst (λ z. (is_place z ≡ true) × (place z < n)) (sym (out k (inr m'))) (y.words k l)
+          ]
+        ]);
+  }
+
+  -- the same of lists that are equal to these
+  pub own_makes_as : {e_len2 : List ℤ} {len2 : List ℕ} → e_len2 ≡ e_len' → len2 ≡ len' →
+      Makes n me [] front total iw pe e_len len free iw' pe e_len2 len2 free
+  own_makes_as {e_len2} {len2} e l = subst (λ q. Makes n me [] front total iw pe e_len len free iw' pe q len2 free) (sym e)
+      (subst (λ q. Makes n me [] front total iw pe e_len len free iw' pe e_len' q free) (sym l) own_makes)

@@ -1,0 +1,7 @@
+-- A new element, and the room for it.
+pub mod Element
+pub mod Making
+pub mod Room
+pub mod Compaction
+pub mod Beginning
+pub mod Pivots

@@ -1,0 +1,37 @@
+-- Whether the list of a new element fits behind the lists of a workspace: its classes are met one by one, each takes
+-- one place, and the marks that were set for this are taken off again.
+use Rattle.std.specs.Prelude.{ℕ, ℤ, true, false, List, ◌++◌, ◌≡◌, ◌≤◌, ◌-◌, ◌||◌, ◌&&◌, not, length, flat_map}
+use Rattle.amd_model.specs.Quotient.{has}
+use Rattle.amd_round_laws.specs.Rounds.{firsts}
+use Rattle.amd_words.specs.Words.{word, size_of, in_front}
+use Rattle.amd_lists.specs.Layout.{has_list, Layout, ReadsSame}
+use Rattle.amd_elements.specs.Element.{elements_at, variables_at, members_at}
+
+-- some classes were met: they are in the front now, and each that was not in the front before took one place
+pub record Meets (nv : List ℤ) (xs : List ℕ) (left : ℕ) (nv' : List ℤ) (left' : ℕ) : Type 0 where
+  pub wide : length nv' ≡ length nv
+  pub sizes : (j : ℕ) → size_of nv' j ≡ size_of nv j
+  pub front : (j : ℕ) → in_front nv' j ≡ (in_front nv j || has xs j)
+  pub left_is : left' ≡ left - length (firsts (in_front nv) xs)
+
+-- some rows are not in the front any more
+pub record Unmarks (nv : List ℤ) (xs : List ℕ) (nv' : List ℤ) : Type 0 where
+  pub wide : length nv' ≡ length nv
+  pub sizes : (j : ℕ) → size_of nv' j ≡ size_of nv j
+  pub front : (j : ℕ) → in_front nv' j ≡ (in_front nv j && not (has xs j))
+
+-- what the lists of a pivot's elements name, element after element, and then what the pivot's own list names as
+-- variables
+abbrev pub named_around : List ℤ → List ℤ → List ℕ → ℕ → ℕ → List ℕ
+named_around iw pe len pivot n_elements = flat_map (members_at iw pe len) (elements_at iw pe pivot n_elements)
+    ++ variables_at iw pe len pivot n_elements
+
+-- the lists of a workspace may have moved, with their free end, and each reads as before
+pub record Rooms (n : ℕ) (iw pe e_len : List ℤ) (len : List ℕ) (free : ℕ) (iw' pe' : List ℤ) (free' : ℕ) : Type 0 where
+  pub long : length iw' ≡ length iw
+  pub p_long : length pe' ≡ length pe
+  pub listed : (j : ℕ) → has_list pe' len j ≡ has_list pe len j
+  pub reads : (j : ℕ) → has_list pe len j ≡ true → ReadsSame iw pe e_len len iw' pe' e_len len j
+  pub others : (j : ℕ) → has_list pe len j ≡ false → word pe' j ≡ word pe j
+  pub laid : Layout n iw' pe' e_len len free'
+  pub lower : free' ≤ free

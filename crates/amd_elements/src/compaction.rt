@@ -1,0 +1,117 @@
+// Compaction: the lists of the workspace move down, so that no word lies between them. The first word of each list
+// makes room for a mark of its row, so that one pass over the words meets the lists in the order of their places.
+// Source: Amestoy, Davis and Duff 1996 (garbage collection). Called by `room`.
+
+ghost use Rattle.std.specs.Prelude.{◌≡◌, ◌≢◌, ◌<◌, ◌≤◌, ◌+◌, ◌^◌, pos, negsuc, true, false, length, slice_index_or};
+ghost use Rattle.std.specs.Prelude.{slice_set};
+ghost use Rattle.amd_words.specs.Words.{is_place, place, flip_of, word, start};
+ghost use Rattle.amd_lists.specs.Layout.{Layout};
+ghost use Rattle.amd_elements.specs.Compaction.{Spaced, Compacts, Moves, Packs};
+
+use amd_words::words::{flipped, named, names_one, put_flip, put_row};
+use amd_words::{Cell, Signed, Unsigned, Word, cell_at, copy_word, put_word, word_at};
+
+/// Puts the mark of row j in place of the first word of its list, and that word in place of its start.
+fn mark_row<S: Signed>(iw: &mut [Word<S>], pe: &mut [Word<S>], j: usize)
+    requires row { j < length pe.old }
+    requires small { j + 2 ≤ S.MOST }
+    requires is_one { is_place (word pe.old j) ≡ true }
+    requires inside { start pe.old j < length iw.old }
+    ensures words { iw.new ≡ slice_set iw.old (start pe.old j) (flip_of j) }
+    ensures starts { pe.new ≡ slice_set pe.old j (word iw.old (start pe.old j)) }
+{
+    let at = named(pe, j);
+    put_word(pe, j, word_at(iw, at));
+    put_flip(iw, at, j);
+}
+
+/// Moves words down.
+fn move_words<S: Signed>(iw: &mut [Word<S>], from: usize, to: usize, count: usize)
+    requires inside { from + count ≤ length iw.old }
+    requires down { to ≤ from }
+    ensures { Moves iw.old iw.new from to count }
+{
+    for k in 0..count {
+        copy_word(iw, from + k, to + k);
+    }
+}
+
+/// Moves the list of row j, whose first word is its start, from one place to another.
+fn move_list<S: Signed>(
+    iw: &mut [Word<S>],
+    pe: &mut [Word<S>],
+    j: usize,
+    from: usize,
+    to: usize,
+    count: usize,
+)
+    requires row { j < length pe.old }
+    requires some { 0 < count }
+    requires inside { from + count ≤ length iw.old }
+    requires down { to ≤ from }
+    requires small { to ≤ S.MOST }
+    ensures starts { pe.new ≡ slice_set pe.old j (pos to) }
+    ensures moves { Moves (slice_set iw.old from (word pe.old j)) iw.new from to count }
+{
+    put_word(iw, from, word_at(pe, j));
+    put_row(pe, j, to);
+    move_words(iw, from, to, count);
+}
+
+/// Moves the lists down so that no word lies between them, and answers the new free end.
+fn compact<S: Signed, U: Unsigned>(
+    iw: &mut [Word<S>],
+    pe: &mut [Word<S>],
+    len: &mut [Cell<U>],
+    free: usize,
+) -> usize
+    requires lengths { length pe.old ≡ length len.old }
+    requires small { length len.old + 2 ≤ S.MOST }
+    requires narrow { length iw.old ≤ S.MOST }
+    requires end { free ≤ length iw.old }
+    requires short { length iw.old < 2 ^ 63 }
+    requires layout { Spaced iw.old pe.old len.old free }
+    ensures compacts { Compacts iw.old pe.old len.old free iw.new pe.new result }
+    ensures same { len.new ≡ len.old }
+{
+    for j in 0..len.len() {
+        if cell_at(len, j) > 0 && names_one(pe, j) {
+            mark_row(iw, pe, j);
+        }
+    }
+    let mut src = 0;
+    let mut dst = 0;
+    while src < free {
+        if names_one(iw, src) {
+            src += 1;
+        } else {
+            let j = flipped(iw, src);
+            let count = cell_at(len, j);
+            move_list(iw, pe, j, src, dst, count);
+            src += count;
+            dst += count;
+        }
+    }
+    dst
+}
+
+/// Moves the lists down so that no word lies between them, and answers the new free end: how many words they have.
+#[cold]
+pub fn pack<S: Signed, U: Unsigned>(
+    iw: &mut [Word<S>],
+    pe: &mut [Word<S>],
+    len: &mut [Cell<U>],
+    e_len: &[Word<S>],
+    free: usize,
+) -> usize
+    requires lengths { (length pe.old ≡ length len.old) × (length e_len.now ≡ length len.old) }
+    requires small { length len.old + 2 ≤ S.MOST }
+    requires narrow { length iw.old ≤ S.MOST }
+    requires end { free ≤ length iw.old }
+    requires short { length iw.old < 2 ^ 63 }
+    requires laid { Layout (length len.old) iw.old pe.old e_len.now len.old free }
+    ensures packs { Packs (length len.old) iw.old pe.old e_len.now len.old free iw.new pe.new result }
+    ensures same { len.new ≡ len.old }
+{
+    compact(iw, pe, len, free)
+}

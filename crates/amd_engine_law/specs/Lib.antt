@@ -1,0 +1,2 @@
+-- What an engine returns.
+pub mod Engine

@@ -1,0 +1,99 @@
+use Rattle.std.proofs.Common.{ℕ, List, true, refl, sym, ap, subst, ◌∙◌, ◌≡◌, ◌≤◌, ◌&&◌, arith, cond}
+use Rattle.amd_words.specs.Sides.{nexts, lasts}
+use Rattle.amd_model.specs.Quotient.{has, Once}
+use Rattle.amd_words.specs.Words.{num, word, flip_of}
+use Rattle.amd_lists.specs.Chains.{DegreeLists, without}
+use Rattle.amd_fronts.specs.Counts.{settled, ends}
+use Rattle.amd_lists.specs.Layout.{elements_in}
+use Rattle.amd_fronts.specs.Tallies.{touched_in}
+use Rattle.amd_words.proofs.RowLists.{rows_at, names_at}
+use Rattle.amd_fronts.proofs.counts.count_class.Goals as goal
+
+pub take_out-requires-clause-lengths : goal.take_out-requires-clause-lengths
+take_out-requires-clause-lengths g c = let l = c.requires.more_lengths in let n = sym l.1 in
+    (l.0 ∙ n, c.requires.lengths.3 ∙ n)
+
+pub take_out-requires-clause-row : goal.take_out-requires-clause-row
+take_out-requires-clause-row g c = let r = c.requires.row in let a = r.0 in let b = r.1 in let n = c.requires.more_lengths.1 in
+    (omega (arith, a, n), omega (arith, b, n))
+
+pub named-first-requires-clause-inside : goal.named-first-requires-clause-inside
+named-first-requires-clause-inside g c = let a = c.requires.row.0 in let n = c.requires.lengths.0 in omega (arith, a, n)
+
+pub named-first-requires-clause-is_one : goal.named-first-requires-clause-is_one
+named-first-requires-clause-is_one g c = c.requires.listed.starts
+
+pub named-n_elements-requires-clause-inside : goal.named-n_elements-requires-clause-inside
+named-n_elements-requires-clause-inside g c = let a = c.requires.row.0 in let n = c.requires.lengths.1 in omega (arith, a, n)
+
+pub named-n_elements-requires-clause-is_one : goal.named-n_elements-requires-clause-is_one
+named-n_elements-requires-clause-is_one g c = c.requires.listed.counts
+
+pub size_inside-more-requires-clause-inside : goal.size_inside-more-requires-clause-inside
+size_inside-more-requires-clause-inside g c = let a = c.requires.row.0 in let n = c.requires.lengths.2 in omega (arith, a, n)
+
+pub size_inside-more-requires-clause-marked : goal.size_inside-more-requires-clause-marked
+size_inside-more-requires-clause-marked g c = c.requires.listed.inside
+
+pub touch_all-requires-clause-lengths : goal.touch_all-requires-clause-lengths
+touch_all-requires-clause-lengths g c = (c.requires.lengths.3, c.requires.lengths.0)
+
+pub touch_all-requires-clause-small : goal.touch_all-requires-clause-small
+touch_all-requires-clause-small g c = c.requires.small
+
+pub touch_all-requires-clause-inside : goal.touch_all-requires-clause-inside
+touch_all-requires-clause-inside g c = let f = c.named-first.ensures in let n = c.named-n_elements.ensures in
+    let w = c.requires.listed.within in omega (arith, f, n, w)
+
+pub touch_all-requires-clause-names : goal.touch_all-requires-clause-names
+touch_all-requires-clause-names g c = names_at c.args.iw.now refl (sym c.named-first.ensures) (sym c.named-n_elements.ensures)
+    c.requires.listed.names
+
+pub touch_all-requires-clause-once : goal.touch_all-requires-clause-once
+touch_all-requires-clause-once g c = subst Once (sym (rows_at c.args.iw.now c.named-first.ensures c.named-n_elements.ensures))
+    c.requires.listed.once
+
+pub touch_all-requires-clause-again : goal.touch_all-requires-clause-again
+touch_all-requires-clause-again g c e h l =
+    let at = rows_at c.args.iw.now c.named-first.ensures c.named-n_elements.ensures in
+    subst (λ m. m ≤ num c.args.w.now e) (sym c.size_inside-more.ensures) (c.requires.again e (sym (ap (λ xs. has xs e) at) ∙ h) l)
+
+pub touch_all-requires-clause-first : goal.touch_all-requires-clause-first
+touch_all-requires-clause-first g c e h l =
+    let at = rows_at c.args.iw.now c.named-first.ensures c.named-n_elements.ensures in
+    subst (λ m. m ≤ num c.args.degree.now e) (sym c.size_inside-more.ensures) (c.requires.first e (sym (ap (λ xs. has xs e) at) ∙ h) l)
+
+pub touch_all-requires-clause-fits : goal.touch_all-requires-clause-fits
+touch_all-requires-clause-fits g c = c.requires.fits
+
+pub returns-clause-long : goal.returns-clause-long
+returns-clause-long g c = c.touch_all.ensures.long
+
+pub returns-clause-counted : goal.returns-clause-counted
+returns-clause-counted g c e =
+    c.touch_all.ensures.counted e
+    ∙ ap (λ xs. cond (has xs e) (settled c.args.aggressive c.args.flag
+    (touched_in c.args.degree.now c.args.w.now c.args.flag c.size_inside-more.result e)) (num c.args.w.now e))
+    (rows_at c.args.iw.now c.named-first.ensures c.named-n_elements.ensures)
+    ∙ ap (λ m. cond (has (elements_in c.args.iw.now c.args.pe.now c.args.e_len.now c.args.i) e) (settled c.args.aggressive c.args.flag
+    (touched_in c.args.degree.now c.args.w.now c.args.flag m e)) (num c.args.w.now e)) c.size_inside-more.ensures
+
+pub returns-clause-starts : goal.returns-clause-starts
+returns-clause-starts g c e =
+    c.touch_all.ensures.starts e
+    ∙ ap (λ xs. cond (has xs e && ends c.args.aggressive c.args.flag
+    (touched_in c.args.degree.now c.args.w.now c.args.flag c.size_inside-more.result e)) (flip_of c.args.me) (word c.args.pe.now e))
+    (rows_at c.args.iw.now c.named-first.ensures c.named-n_elements.ensures)
+    ∙ ap (λ m. cond (has (elements_in c.args.iw.now c.args.pe.now c.args.e_len.now c.args.i) e && ends c.args.aggressive c.args.flag
+    (touched_in c.args.degree.now c.args.w.now c.args.flag m e)) (flip_of c.args.me) (word c.args.pe.now e)) c.size_inside-more.ensures
+
+pub returns-clause-lengths : goal.returns-clause-lengths
+returns-clause-lengths g c = let l = c.requires.more_lengths in let t = c.take_out.ensures.lengths in
+    (t.0 ∙ l.1 ∙ sym l.0, t.1, t.2 ∙ l.1 ∙ sym l.2)
+
+pub returns-clause-linked : goal.returns-clause-linked
+returns-clause-linked g c = subst (λ n. (lists : ℕ → List ℕ) → has (lists (num c.args.degree.now c.args.i)) c.args.i ≡ true →
+    DegreeLists n c.args.head.now (nexts c.args.sides.now) (lasts c.args.sides.now) c.args.degree.now lists →
+    DegreeLists n c.take_out.new.head (nexts c.take_out.new.sides) (lasts c.take_out.new.sides) c.args.degree.now
+    (λ d. without c.args.i (lists d)))
+    c.requires.more_lengths.1 c.take_out.ensures.linked

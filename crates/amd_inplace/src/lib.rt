@@ -1,7 +1,0 @@
-//! The rounds of an elimination that keeps all lists in one workspace, which the caller lends: they ask for no memory.
-//! A round joins the parts of `amd_places`; the contracts say which elimination the workspace stands for.
-#![tactic(auto)]
-
-pub mod pivot;
-pub mod round;
-pub mod work;

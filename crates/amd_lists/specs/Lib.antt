@@ -1,0 +1,5 @@
+-- Lists in one workspace, and lists by bound.
+pub mod Chains
+pub mod Renewal
+pub mod Layout
+pub mod Lengths

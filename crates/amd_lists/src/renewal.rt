@@ -1,0 +1,203 @@
+// The list of one class of a front is renewed in its place: the new element comes in front, and what the new element
+// absorbed or holds itself goes. Source: Amestoy, Davis and Duff 1996 (element absorption). Called by `fronts`.
+
+ghost use Rattle.std.specs.Prelude.{◌++◌, ◌≡◌, ◌<◌, ◌≤◌, ◌+◌, ◌-◌, ◌*◌, ◌^◌, pos, ℕ, cond, length, slice_set};
+ghost use Rattle.std.specs.Prelude.{filter, sum_by, true};
+ghost use Rattle.amd_model.specs.Figures.{cut};
+ghost use Rattle.amd_words.specs.Words.{num, word, place, is_place, size_of, in_front, rows, Names};
+ghost use Rattle.amd_lists.specs.Renewal.{is_kept, is_outside, hashed, AreMet, Filters, Renews};
+
+use amd_words::words::{is_open, named, put_row, size_outside};
+use amd_words::{Cell, Signed, Unsigned, Word, cell_at, copy_word};
+
+/// The number where a word is kept, and 0 where it is not.
+fn where_kept(kept: bool, number: usize) -> usize
+    ensures { result ≡ cond kept number 0 }
+{
+    if kept { number } else { 0 }
+}
+
+/// The sum of two numbers, at most the greatest `usize`. Where it is known to be exact nothing is tested.
+#[inline]
+fn add_up(total: usize, more: usize, is_exact: bool) -> usize
+    requires { is_exact ≡ true → total + more < 2 ^ 64 }
+    ensures { result ≡ cut (total + more) }
+{
+    if is_exact {
+        total + more
+    } else {
+        total.saturating_add(more)
+    }
+}
+
+/// Moves the standing ones among the elements that `count` words name to the front of these words. Answers where they
+/// end, the sum of what their counters have above `less`, at most the greatest `usize`, and the sum of the elements,
+/// which wraps. Each word is written behind those that are kept, and the next one over it if it is not kept: there is
+/// no branch, since which words are kept is hard to foresee. So of the word at which they end nothing is said, where it
+/// is one of these. Where it is `narrow`, no counter has more than 32 bits, so that the sum over them is exact.
+fn keep_words<S: Signed, U: Unsigned>(
+    iw: &mut [Word<S>],
+    w: &[Cell<U>],
+    from: usize,
+    count: usize,
+    less: usize,
+    narrow: bool,
+) -> (usize, usize, usize)
+    requires inside { from + count ≤ length iw.old }
+    requires short { length iw.old < 2 ^ 63 }
+    requires names { Names (length w.now) iw.old from count }
+    requires narrow { narrow ≡ true → (U.MOST < 2 ^ 32) × (count < 2 ^ 32) }
+    ensures filters { Filters (length w.now) (is_kept w.now) (λ e. num w.now e - less) 0 iw.old from count from
+        (slice_set iw.new result.0 (word iw.old result.0)) result.0 result.1 }
+    ensures behind { (k : ℕ) → from + count ≤ k → word iw.new k ≡ word iw.old k }
+    ensures hash { result.2 ≡ hashed 0 (filter (is_kept w.now) (rows iw.old from count)) }
+    ensures small { narrow ≡ true → result.1 ≤ 4294967295 * count }
+{
+    let mut end = from;
+    let mut outside: usize = 0;
+    let mut hash: usize = 0;
+    for p in from..from + count {
+        let e = named(iw, p);
+        let counter = cell_at(w, e);
+        let kept = counter > 0;
+        copy_word(iw, p, end);
+        outside = add_up(outside, counter.saturating_sub(less), narrow);
+        hash = hash.wrapping_add(where_kept(kept, e));
+        end += where_kept(kept, 1);
+    }
+    (end, outside, hash)
+}
+
+/// Moves the standing ones among the elements that `count` words name to the front of these words. Answers where they
+/// end, the number of their rows outside the front, at most the greatest `usize`, and their sum, which wraps. Of the
+/// word at which they end nothing is said, where it is one of these. Where it is `narrow`, no counter has more than 32
+/// bits: their sum is exact, so that the flag is taken off for all of them at once.
+fn keep_elements<S: Signed, U: Unsigned>(
+    iw: &mut [Word<S>],
+    w: &[Cell<U>],
+    from: usize,
+    count: usize,
+    flag: usize,
+    narrow: bool,
+) -> (usize, usize, usize)
+    requires inside { from + count ≤ length iw.old }
+    requires short { length iw.old < 2 ^ 63 }
+    requires names { Names (length w.now) iw.old from count }
+    requires narrow { narrow ≡ true → (U.MOST < 2 ^ 32) × (count < 2 ^ 32) }
+    requires met { AreMet flag w.now (rows iw.old from count) }
+    ensures filters { Filters (length w.now) (is_kept w.now) (λ e. num w.now e - flag) 0 iw.old from count from
+        (slice_set iw.new result.0 (word iw.old result.0)) result.0 result.1 }
+    ensures behind { (k : ℕ) → from + count ≤ k → word iw.new k ≡ word iw.old k }
+    ensures hash { result.2 ≡ hashed 0 (filter (is_kept w.now) (rows iw.old from count)) }
+    ensures small { narrow ≡ true → result.1 ≤ 4294967295 * count }
+{
+    let less = if narrow { 0 } else { flag };
+    let (end, total, hash) = keep_words(iw, w, from, count, less, narrow);
+    let outside = if narrow {
+        total - flag * (end - from)
+    } else {
+        total
+    };
+    (end, outside, hash)
+}
+
+/// Moves the classes outside the front among the variables that `count` words name to the words from `to` on. Answers
+/// where they end, the number of their rows on top of `first`, at most the greatest `usize`, and their sum on top of
+/// `sum`, which wraps. Where it is `narrow`, no size has more than 32 bits, so that the number of rows is exact.
+fn keep_variables<S: Signed>(
+    iw: &mut [Word<S>],
+    nv: &[Word<S>],
+    from: usize,
+    count: usize,
+    to: usize,
+    first: usize,
+    sum: usize,
+    narrow: bool,
+) -> (usize, usize, usize)
+    requires inside { from + count ≤ length iw.old }
+    requires down { to ≤ from }
+    requires short { length iw.old < 2 ^ 63 }
+    requires names { Names (length nv.now) iw.old from count }
+    requires narrow { narrow ≡ true → (S.MOST < 2 ^ 32) × (count < 2 ^ 32) × (first + 4294967295 * count < 2 ^ 64) }
+    ensures filters { Filters (length nv.now) (is_outside nv.now) (size_of nv.now) first iw.old from count to iw.new
+        result.0 result.1 }
+    ensures hash { result.2 ≡ hashed sum (filter (is_outside nv.now) (rows iw.old from count)) }
+{
+    let mut end = to;
+    let mut outside = first;
+    let mut hash = sum;
+    for p in from..from + count {
+        let j = named(iw, p);
+        if is_open(nv, j) {
+            let more = size_outside(nv, j);
+            copy_word(iw, p, end);
+            outside = add_up(outside, more, narrow);
+            hash = hash.wrapping_add(j);
+            end += 1;
+        }
+    }
+    (end, outside, hash)
+}
+
+/// Puts the new element in front of the kept elements, which stand from `from` to `middle`, and the kept variables,
+/// which stand from there to `end`: the first of each goes behind the others.
+fn put_first<S: Signed>(iw: &mut [Word<S>], from: usize, middle: usize, end: usize, me: usize)
+    requires order { (from ≤ middle) × (middle ≤ end) }
+    requires inside { end < length iw.old }
+    requires small { me ≤ S.MOST }
+    ensures { iw.new ≡ slice_set (slice_set (slice_set iw.old end (word iw.old middle)) middle
+        (word (slice_set iw.old end (word iw.old middle)) from)) from (pos me) }
+{
+    copy_word(iw, middle, end);
+    copy_word(iw, from, middle);
+    put_row(iw, from, me);
+}
+
+/// Renews the list of a class of the front in its place: the elements and variables that it keeps, with the new element
+/// in front. Answers how many of its words name elements, how many words it has, the number of rows that it reaches
+/// outside the front, at most the greatest `usize`, and the sum of what it keeps, which wraps; for a class that keeps
+/// nothing 1, 1, 0 and 0. Words and figures of at most 32 bits are narrow: no sum over a list passes a `usize` then, so
+/// that none is tested. Which way is taken is known for each width when the program is compiled.
+pub fn renew_list<S: Signed, U: Unsigned>(
+    iw: &mut [Word<S>],
+    w: &[Cell<U>],
+    nv: &[Word<S>],
+    from: usize,
+    n_elements: usize,
+    count: usize,
+    flag: usize,
+    me: usize,
+) -> (usize, usize, usize, usize)
+    requires lengths { length nv.now ≡ length w.now }
+    requires inside { from + count ≤ length iw.old }
+    requires short { length iw.old < 2 ^ 63 }
+    requires narrow { length iw.old ≤ S.MOST }
+    requires parts { n_elements ≤ count }
+    requires names { Names (length w.now) iw.old from count }
+    requires me { (me < length w.now) × (me ≤ S.MOST) }
+    requires room { length (filter (is_kept w.now) (rows iw.old from n_elements))
+        + length (filter (is_outside nv.now) (rows iw.old (from + n_elements) (count - n_elements))) < count }
+    requires met { AreMet flag w.now (rows iw.old from n_elements) }
+    ensures renews { Renews (length w.now) me (is_kept w.now) (is_outside nv.now) iw.old from n_elements count iw.new
+        result.0 result.1 }
+    ensures outside { result.2 ≡ cut (sum_by (λ e. num w.now e - flag)
+        (filter (is_kept w.now) (rows iw.old from n_elements))
+        + sum_by (size_of nv.now) (filter (is_outside nv.now) (rows iw.old (from + n_elements) (count - n_elements)))) }
+    ensures hash { result.3 ≡ hashed 0 (filter (is_kept w.now) (rows iw.old from n_elements) ++ filter
+        (is_outside nv.now) (rows iw.old (from + n_elements) (count - n_elements))) }
+{
+    let narrow = S::MOST <= u32::MAX as usize && U::MOST <= u32::MAX as usize;
+    let (middle, rows, sum) = keep_elements(iw, w, from, n_elements, flag, narrow);
+    let (end, outside, hash) = keep_variables(
+        iw,
+        nv,
+        from + n_elements,
+        count - n_elements,
+        middle,
+        rows,
+        sum,
+        narrow,
+    );
+    put_first(iw, from, middle, end, me);
+    (middle + 1 - from, end + 1 - from, outside, hash)
+}

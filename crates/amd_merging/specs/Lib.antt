@@ -1,0 +1,5 @@
+-- Classes merged, and the front at its end.
+pub mod Merging
+pub mod Restoring
+pub mod FrontLists
+pub mod Closing

@@ -1,0 +1,380 @@
+// Merging: classes of a new element that keep the same elements and the same variables become one, which the last of
+// them represents. The key of a class is the sum of what it lists, modulo the number of rows. Only classes of one
+// bucket are compared: a bucket is chosen by the lowest bits of a key, or by all of them in a large front. Source:
+// Amestoy, Davis and Duff 1996 (supervariables, found by a hash function). Called by: a round.
+
+ghost use Rattle.std.specs.Prelude.{◌≡◌, ◌≢◌, ◌<◌, ◌≤◌, ◌+◌, ◌-◌, ◌^◌, ◌&&◌, ◌||◌, ◌==◌, not, cond, negsuc, nat_lt, ℕ};
+ghost use Rattle.std.specs.Prelude.{List, true, false, length, slice_set, ◌⊎◌};
+ghost use Rattle.amd_words.specs.Sides.{nexts, lasts};
+ghost use Rattle.amd_model.specs.Quotient.{has, each};
+ghost use Rattle.amd_words.specs.Words.{num, word, place, is_place, flip_of, size_of, in_front, classes, rows, Names};
+ghost use Rattle.amd_round_laws.specs.Rounds.{alike_in};
+ghost use Rattle.amd_lists.specs.Chains.{Chain};
+ghost use Rattle.amd_merging.specs.FrontLists.{IsList, LongToMerge, MergesList};
+ghost use Rattle.amd_merging.specs.Merging.{bucket, kept_of, words_of, IsRenewed, AreApart, looks, Finds};
+ghost use Rattle.amd_lists.specs.Layout.{variables_in};
+ghost use Rattle.amd_merging.specs.Merging.{as_long, bucket_of, Settles, AreRenewed, IsReady};
+
+use amd_words::sides::{Sides, last_at, next_at, put_next, row_count};
+use amd_words::words::{named, put_flip};
+use amd_words::{Cell, Signed, Unsigned, Word, cell_at, put_cell, put_word, word_at};
+
+/// Marks the rows that `count` words name with the flag.
+fn spread<S: Signed, U: Unsigned>(
+    iw: &[Word<S>],
+    w: &mut [Cell<U>],
+    from: usize,
+    count: usize,
+    flag: usize,
+)
+    requires fits { flag ≤ U.MOST }
+    requires inside { from + count ≤ length iw.now }
+    requires names { Names (length w.old) iw.now from count }
+    ensures long { length w.new ≡ length w.old }
+    ensures marked { (x : ℕ) → num w.new x ≡ cond (has (rows iw.now from count) x) flag (num w.old x) }
+{
+    for q in from..from + count {
+        let x = named(iw, q);
+        put_cell(w, x, flag);
+    }
+}
+
+/// Whether each row that `count` words name is marked with the flag.
+fn all_marked<S: Signed, U: Unsigned>(
+    iw: &[Word<S>],
+    w: &[Cell<U>],
+    from: usize,
+    count: usize,
+    flag: usize,
+) -> bool
+    requires inside { from + count ≤ length iw.now }
+    requires names { Names (length w.now) iw.now from count }
+    ensures { result ≡ each (λ x. num w.now x == flag) (rows iw.now from count) }
+{
+    for q in from..from + count {
+        let x = named(iw, q);
+        let mark = cell_at(w, x);
+        if mark != flag {
+            return false;
+        }
+    }
+    true
+}
+
+/// Whether a class has so many words and elements.
+fn is_as_long<S: Signed, U: Unsigned>(
+    e_len: &[Word<S>],
+    len: &[Cell<U>],
+    j: usize,
+    count: usize,
+    few: usize,
+) -> bool
+    requires inside { (j < length e_len.now) × (j < length len.now) }
+    requires counts { is_place (word e_len.now j) ≡ true }
+    ensures { result ≡ as_long e_len.now len.now count few j }
+{
+    if cell_at(len, j) != count {
+        return false;
+    }
+    named(e_len, j) == few
+}
+
+/// The bucket of a class of a front whose list has `count` words.
+pub fn bucket_at<U: Unsigned>(sides: &[Sides<U>], i: usize, count: usize) -> usize
+    requires { i < length (nexts sides.now) }
+    ensures { result ≡ bucket_of count (lasts sides.now) i }
+{
+    let mask = if count < 256 { 1023 } else { usize::MAX };
+    last_at(sides, i) & mask
+}
+
+/// Whether some class of a bucket has the key given and so many words and elements.
+fn any_as_long<S: Signed, U: Unsigned>(
+    e_len: &[Word<S>],
+    len: &[Cell<U>],
+    sides: &[Sides<U>],
+    head: usize,
+    key: usize,
+    count: usize,
+    few: usize,
+) -> bool
+    requires lengths { (length e_len.now ≡ length (nexts sides.now)) × (length len.now ≡ length (nexts sides.now)) }
+    requires chain { Chain (length (nexts sides.now)) (nexts sides.now) head (bucket (nexts sides.now) head) }
+    requires members { (j : ℕ) → has (bucket (nexts sides.now) head) j ≡ true → is_place (word e_len.now j) ≡ true }
+    ensures { result ≡ false → (j : ℕ) → has (bucket (nexts sides.now) head) j ≡ true →
+        (num (lasts sides.now) j == key && as_long e_len.now len.now count few j) ≡ false }
+{
+    let n = row_count(sides);
+    let mut j = head;
+    'members: while j < n {
+        if last_at(sides, j) == key && is_as_long(e_len, len, j, count, few) {
+            return true;
+        }
+        j = next_at(sides, j);
+    }
+    false
+}
+
+/// Whether a class has so many words and elements, and each of its words is marked.
+fn is_like<S: Signed, U: Unsigned>(
+    iw: &[Word<S>],
+    pe: &[Word<S>],
+    e_len: &[Word<S>],
+    len: &[Cell<U>],
+    w: &[Cell<U>],
+    j: usize,
+    count: usize,
+    few: usize,
+    flag: usize,
+) -> bool
+    requires lengths { (length pe.now ≡ length w.now) × (length e_len.now ≡ length w.now) ×
+        (length len.now ≡ length w.now) }
+    requires short { length iw.now < 2 ^ 63 }
+    requires renewed { IsRenewed (length w.now) iw.now pe.now e_len.now len.now j }
+    ensures { result ≡ looks iw.now pe.now e_len.now len.now w.now count few flag j }
+{
+    if !is_as_long(e_len, len, j, count, few) {
+        return false;
+    }
+    let from = named(pe, j);
+    all_marked(iw, w, from + 1, count - 1, flag)
+}
+
+/// The first class of a bucket with so many words and elements whose words are all marked, or the number of rows.
+fn walk<S: Signed, U: Unsigned>(
+    iw: &[Word<S>],
+    pe: &[Word<S>],
+    e_len: &[Word<S>],
+    len: &[Cell<U>],
+    w: &[Cell<U>],
+    sides: &[Sides<U>],
+    head: usize,
+    count: usize,
+    few: usize,
+    flag: usize,
+) -> usize
+    requires lengths { (length pe.now ≡ length w.now) × (length e_len.now ≡ length w.now) ×
+        (length len.now ≡ length w.now) × (length (nexts sides.now) ≡ length w.now) }
+    requires short { length iw.now < 2 ^ 63 }
+    requires chain { Chain (length (nexts sides.now)) (nexts sides.now) head (bucket (nexts sides.now) head) }
+    requires members { (j : ℕ) → has (bucket (nexts sides.now) head) j ≡ true →
+        IsRenewed (length w.now) iw.now pe.now e_len.now len.now j }
+    ensures { Finds (length (nexts sides.now)) (looks iw.now pe.now e_len.now len.now w.now count few flag)
+        (bucket (nexts sides.now) head) result }
+{
+    let n = row_count(sides);
+    let mut j = head;
+    'members: while j < n {
+        if is_like(iw, pe, e_len, len, w, j, count, few, flag) {
+            return j;
+        }
+        j = next_at(sides, j);
+    }
+    n
+}
+
+/// The class of a bucket that keeps the same elements and variables as the class `i`, or the number of rows if there is
+/// none. The words of `i` are marked with the flag, if some class of the bucket has its key and as many.
+fn find<S: Signed, U: Unsigned>(
+    iw: &[Word<S>],
+    pe: &[Word<S>],
+    e_len: &[Word<S>],
+    len: &[Cell<U>],
+    w: &mut [Cell<U>],
+    sides: &[Sides<U>],
+    head: usize,
+    i: usize,
+    flag: usize,
+) -> usize
+    requires lengths { (length pe.now ≡ length w.old) × (length e_len.now ≡ length w.old) ×
+        (length len.now ≡ length w.old) × (length (nexts sides.now) ≡ length w.old) }
+    requires short { length iw.now < 2 ^ 63 }
+    requires chain { Chain (length (nexts sides.now)) (nexts sides.now) head (bucket (nexts sides.now) head) }
+    requires here { IsRenewed (length w.old) iw.now pe.now e_len.now len.now i }
+    requires members { (j : ℕ) → has (bucket (nexts sides.now) head) j ≡ true →
+        IsRenewed (length w.old) iw.now pe.now e_len.now len.now j }
+    requires apart { (j : ℕ) → has (bucket (nexts sides.now) head) j ≡ true →
+        AreApart iw.now pe.now e_len.now len.now i j }
+    requires keys { (j : ℕ) → has (bucket (nexts sides.now) head) j ≡ true →
+        alike_in (kept_of iw.now pe.now e_len.now) (variables_in iw.now pe.now e_len.now len.now) i j ≡ true →
+        num (lasts sides.now) j ≡ num (lasts sides.now) i }
+    requires under { (x : ℕ) → num w.old x < flag }
+    requires fits { flag ≤ U.MOST }
+    ensures found { Finds (length (nexts sides.now)) (alike_in (kept_of iw.now pe.now e_len.now)
+        (variables_in iw.now pe.now e_len.now len.now) i) (bucket (nexts sides.now) head) result }
+    ensures long { length w.new ≡ length w.old }
+    ensures marked { (w.new ≡ w.old) ⊎ ((x : ℕ) →
+        num w.new x ≡ cond (has (words_of iw.now pe.now len.now i) x) flag (num w.old x)) }
+{
+    let few = named(e_len, i);
+    let count = cell_at(len, i);
+    if !any_as_long(e_len, len, sides, head, last_at(sides, i), count, few) {
+        return row_count(sides);
+    }
+    let from = named(pe, i);
+    spread(iw, w, from + 1, count - 1, flag);
+    walk(iw, pe, e_len, len, w, sides, head, count, few, flag)
+}
+
+/// Adds the rows of a class of the front to those of another one, and leaves it none.
+fn add_inside<S: Signed>(nv: &mut [Word<S>], i: usize, j: usize)
+    requires inside { (i < length nv.old) × (j < length nv.old) }
+    requires other { j ≢ i }
+    requires marked { (in_front nv.old i ≡ true) × (in_front nv.old j ≡ true) }
+    requires small { size_of nv.old j + size_of nv.old i ≤ S.MOST }
+    ensures long { length nv.new ≡ length nv.old }
+    ensures sizes { (x : ℕ) → size_of nv.new x ≡ cond (x == i) 0
+        (cond (x == j) (size_of nv.old j + size_of nv.old i) (size_of nv.old x)) }
+    ensures front { (x : ℕ) → in_front nv.new x ≡ (in_front nv.old x && not (x == i)) }
+{
+    let sum = word_at(nv, j) + word_at(nv, i);
+    put_word(nv, j, sum);
+    put_word(nv, i, 0);
+}
+
+/// Merges a class of the front into another one: it has no rows and no list, and is linked to that one.
+fn merge<S: Signed>(
+    pe: &mut [Word<S>],
+    e_len: &mut [Word<S>],
+    nv: &mut [Word<S>],
+    i: usize,
+    j: usize,
+)
+    requires lengths { (length pe.old ≡ length nv.old) × (length e_len.old ≡ length nv.old) }
+    requires inside { (i < length nv.old) × (j < length nv.old) }
+    requires short { length nv.old + 2 ≤ S.MOST }
+    requires other { j ≢ i }
+    requires marked { (in_front nv.old i ≡ true) × (in_front nv.old j ≡ true) }
+    requires small { size_of nv.old j + size_of nv.old i ≤ S.MOST }
+    ensures links { pe.new ≡ slice_set pe.old i (flip_of j) }
+    ensures lists { e_len.new ≡ slice_set e_len.old i (negsuc 0) }
+    ensures long { length nv.new ≡ length nv.old }
+    ensures sizes { (x : ℕ) → size_of nv.new x ≡ cond (x == i) 0
+        (cond (x == j) (size_of nv.old j + size_of nv.old i) (size_of nv.old x)) }
+    ensures front { (x : ℕ) → in_front nv.new x ≡ (in_front nv.old x && not (x == i)) }
+{
+    add_inside(nv, i, j);
+    put_flip(pe, i, j);
+    put_word(e_len, i, -1);
+}
+
+/// Puts a class at the head of a bucket.
+fn push<U: Unsigned>(hash: &mut [Cell<U>], sides: &mut [Sides<U>], i: usize, key: usize)
+    requires inside { (i < length (nexts sides.old)) × (key < length hash.old) }
+    requires short { length (nexts sides.old) ≤ U.MOST }
+    ensures links { nexts sides.new ≡ slice_set (nexts sides.old) i (num hash.old key) }
+    ensures keys { lasts sides.new ≡ lasts sides.old }
+    ensures heads { hash.new ≡ slice_set hash.old key i }
+{
+    put_next(sides, i, cell_at(hash, key));
+    put_cell(hash, key, i);
+}
+
+/// Merges a class of the front into one of its bucket that keeps the same elements and variables, or, if there is none,
+/// puts it into the bucket. The list of the front has `count` words. Answers the next flag.
+fn merge_one<S: Signed, U: Unsigned>(
+    iw: &[Word<S>],
+    pe: &mut [Word<S>],
+    e_len: &mut [Word<S>],
+    len: &[Cell<U>],
+    nv: &mut [Word<S>],
+    w: &mut [Cell<U>],
+    hash: &mut [Cell<U>],
+    sides: &mut [Sides<U>],
+    count: usize,
+    i: usize,
+    flag: usize,
+) -> usize
+    requires lengths { LongToMerge (length (nexts sides.old)) pe.old e_len.old nv.old len.now w.old hash.old
+        (nexts sides.old) (lasts sides.old) }
+    requires short { (length iw.now < 2 ^ 63) × (length (nexts sides.old) + 2 ≤ S.MOST) ×
+        (length (nexts sides.old) ≤ U.MOST) }
+    requires ready { IsReady (length (nexts sides.old)) iw.now len.now (lasts sides.old) count i pe.old e_len.old nv.old
+        w.old hash.old (nexts sides.old) }
+    requires under { (x : ℕ) → num w.old x < flag }
+    requires room { flag + 1 ≤ U.MOST }
+    ensures settles { Settles (alike_in (kept_of iw.now pe.old e_len.old) (variables_in iw.now pe.old e_len.old len.now))
+        (bucket (nexts sides.old) (num hash.old (bucket_of count (lasts sides.old) i))) i
+        (bucket_of count (lasts sides.old) i) hash.old (nexts sides.old) pe.old e_len.old nv.old hash.new
+        (nexts sides.new) pe.new e_len.new nv.new }
+    ensures lengths { LongToMerge (length (nexts sides.old)) pe.new e_len.new nv.new len.now w.new hash.new
+        (nexts sides.new) (lasts sides.new) }
+    ensures keys { lasts sides.new ≡ lasts sides.old }
+    ensures flag { (flag ≤ result) × (result ≤ flag + 1) }
+    ensures under { (x : ℕ) → num w.new x < result }
+    ensures zeros { (x : ℕ) → (num w.new x == 0) ≡ (num w.old x == 0) }
+{
+    let key = bucket_at(sides, i, count);
+    let head = cell_at(hash, key);
+    if head >= row_count(sides) {
+        push(hash, sides, i, key);
+        return flag;
+    }
+    let found = find(iw, pe, e_len, len, w, sides, head, i, flag);
+    if found < row_count(sides) {
+        merge(pe, e_len, nv, i, found);
+    } else {
+        push(hash, sides, i, key);
+    }
+    flag + 1
+}
+
+/// Whether a row is a class.
+fn is_class<S: Signed>(nv: &[Word<S>], i: usize) -> bool
+    requires { i < length nv.now }
+    ensures { result ≡ nat_lt 0 (size_of nv.now i) }
+{
+    word_at(nv, i) != 0
+}
+
+/// Merges the classes of a new element that keep the same elements and variables, from the last one of its list to the
+/// first: the last one represents the others, and the classes that are left are its representatives. The buckets are
+/// empty before; after it the head of each one that is not is a class that is left, which belongs into it. Where
+/// the list names one row at most, all stays as it is. Answers the next flag.
+pub fn merge_front<S: Signed, U: Unsigned>(
+    iw: &[Word<S>],
+    pe: &mut [Word<S>],
+    e_len: &mut [Word<S>],
+    len: &[Cell<U>],
+    nv: &mut [Word<S>],
+    w: &mut [Cell<U>],
+    hash: &mut [Cell<U>],
+    sides: &mut [Sides<U>],
+    from: usize,
+    count: usize,
+    flag: usize,
+) -> usize
+    requires lengths { LongToMerge (length (nexts sides.old)) pe.old e_len.old nv.old len.now w.old hash.old
+        (nexts sides.old) (lasts sides.old) }
+    requires short { (length iw.now < 2 ^ 63) × (length (nexts sides.old) + 2 ≤ S.MOST) ×
+        (length (nexts sides.old) ≤ U.MOST) }
+    requires front { IsList (length (nexts sides.old)) iw.now from count }
+    requires few { count ≤ length (nexts sides.old) }
+    requires classes { AreRenewed (length (nexts sides.old)) iw.now pe.old e_len.old len.now nv.old w.old
+        (lasts sides.old) (classes nv.old (rows iw.now from count)) }
+    requires under { (x : ℕ) → num w.old x < flag }
+    requires room { flag + count ≤ U.MOST }
+    requires empty { (b : ℕ) → b < length (nexts sides.old) → length (nexts sides.old) ≤ num hash.old b }
+    ensures merges { MergesList (length (nexts sides.old)) iw.now from count len.now (lasts sides.old) pe.old e_len.old
+        nv.old (nexts sides.old) pe.new e_len.new nv.new hash.new (nexts sides.new) }
+    ensures lengths { LongToMerge (length (nexts sides.old)) pe.new e_len.new nv.new len.now w.new hash.new
+        (nexts sides.new) (lasts sides.new) }
+    ensures keys { lasts sides.new ≡ lasts sides.old }
+    ensures flag { (flag ≤ result) × (result ≤ flag + count) }
+    ensures under { (x : ℕ) → num w.new x < result }
+    ensures zeros { (x : ℕ) → (num w.new x == 0) ≡ (num w.old x == 0) }
+{
+    if count < 2 {
+        return flag;
+    }
+    let mut now = flag;
+    let mut left = count;
+    'classes: while left > 0 {
+        left -= 1;
+        let i = named(iw, from + left);
+        if is_class(nv, i) {
+            now = merge_one(iw, pe, e_len, len, nv, w, hash, sides, count, i, now);
+        }
+    }
+    now
+}

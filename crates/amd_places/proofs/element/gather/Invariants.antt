@@ -1,7 +1,0 @@
-use Rattle.std.proofs.Common.{◌-◌}
-use Rattle.amd_places.specs.Words.{classes, rows}
-use Rattle.amd_places.specs.Element.{Gathers}
-use Rattle.amd_places.proofs.element.gather.Given as goal
-
-abbrev pub invariant-loop-p : goal.invariant-loop-p
-invariant-loop-p g l = Gathers l.fn.iw l.fn.nv l.start l.free (classes l.fn.nv (rows l.fn.iw l.from (l.p - l.from))) l.iw l.nv l.end l.sum

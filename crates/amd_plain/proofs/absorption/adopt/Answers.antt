@@ -1,0 +1,30 @@
+use Rattle.std.proofs.Common.{ℕ, Option, Some, None, List, ◌≡◌, ◌<◌, ◌∙◌, ap, refl, arith, length, get_or, set, length-set}
+use Rattle.amd_plain.specs.Views.{at, some_at}
+use Rattle.amd_model.specs.Quotient.{has}
+use Rattle.amd_plain.proofs.Kept.{set_passing, set_none}
+use Rattle.amd_plain.proofs.absorption.adopt.Goals as goal
+use Rattle.amd_plain.proofs.absorption.adopt.Goals.{then-taken-e, else-taken-e}
+
+pub loop-e-init : goal.loop-e-init
+unfolding has
+loop-e-init g c = record { size = refl; adopted = λ e. refl }
+
+pub loop-e-preserved : goal.loop-e-preserved
+loop-e-preserved g c =
+    let k : ℕ = c.loop-e.e-index in let list : List ℕ = c.args.list.now in let here : k < length list = c.loop-e-test.true in
+    let was = c.loop-e.invariant in let now : List (Option ℕ) = c.loop-e.parent.items in
+    let small : get_or list k 0 < length now = (let a = c.requires.range k 0 here in let b = c.requires.length in let e = was.size in
+    omega (arith, a, b, e)) in
+    let written : Option ℕ = Some c.args.pivot in
+    elim c.if-taken-e.branch [
+      | then-taken-e w ↦ (let e : c.if-taken-e.parent.items ≡ set now (get_or list k 0) written = ap (λ v. v.items) w.parent-is in record {
+        size = rw e (length-set now (get_or list k 0) written ∙ was.size);
+        adopted = rw e (set_passing (λ e. written) (some_at c.args.parent.now.items) (at c.args.taken.now) list k now None written here
+            small w.if-taken-e.true refl was.adopted);
+      })
+      | else-taken-e w ↦ record {
+        size = ap (λ v. length v.items) w.parent-is ∙ was.size;
+        adopted = rw w.parent-is (set_none (λ e. written) (some_at c.args.parent.now.items) (at c.args.taken.now) list k (some_at now) here
+            w.if-taken-e.false was.adopted);
+      }
+    ]

@@ -1,0 +1,27 @@
+use Rattle.std.proofs.Common.{ℕ, List, ◌<◌, ◌-◌, ◌∙◌, refl, arith, length, get_or, length-set}
+use Rattle.amd_model.specs.Quotient.{has}
+use Rattle.amd_plain.specs.Views.{num}
+use Rattle.amd_plain.proofs.Kept.{set_next}
+use Rattle.amd_plain.proofs.Kept.{changed_all}
+use Rattle.amd_plain.proofs.absorption.count_borders.Goals as goal
+
+pub loop-e-init : goal.loop-e-init
+unfolding has
+loop-e-init g c = record { size = refl; counted = λ e. refl }
+
+pub loop-e-preserved : goal.loop-e-preserved
+loop-e-preserved g c =
+    let k : ℕ = c.loop-e.e-index in let list : List ℕ = c.args.touched.now in let now : List ℕ = c.loop-e.beyond.items in
+    let here : k < length list = c.loop-e-test.true in
+    let was = c.loop-e.invariant in let x : ℕ = get_or list k 0 in let r = c.requires.range k 0 here in
+    let small : x < length now = (let a = c.requires.lengths.1 in let s = was.size in omega (arith, r, a, s)) in
+    record {
+      size = length-set now x c.saturating_sub.result ∙ was.size;
+      counted = set_next (λ e. num c.args.whole.now e - num c.args.block.now e) (num c.args.beyond.now.items) list k now 0
+          c.saturating_sub.result here small c.saturating_sub.ensures was.counted;
+    }
+
+pub returns-clause-counted : goal.returns-clause-counted
+returns-clause-counted g c = changed_all c.args.touched.now c.loop-e.e-index c.loop-e-test.false
+    (λ e. num c.args.whole.now e - num c.args.block.now e) (num c.args.beyond.now.items) (num c.loop-e.beyond.items)
+    c.loop-e.invariant.counted

@@ -1,5 +1,0 @@
-use Rattle.amd_plain.proofs.EnginesAgree.{answers_one}
-use Rattle.amd_plain.proofs.laws.law_engines_agree.Goals as goal
-
-pub returns : goal.returns
-returns c = answers_one

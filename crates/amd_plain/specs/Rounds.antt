@@ -1,0 +1,39 @@
+-- What the parts of a round do to the lists of the plain engine, which are vectors: what they do to lists as functions
+-- stands in the crate amd_round_laws.
+use Rattle.std.specs.Prelude.{ℕ, Bool, false, Option, List, Vec, ◌≡◌}
+use Rattle.amd_model.specs.Quotient.{has}
+use Rattle.amd_round_laws.specs.Rounds as views
+pub use Rattle.amd_round_laws.specs.Rounds.{firsts, less}
+use Rattle.amd_plain.specs.Views.{num, some_at, list_at, lists_of}
+use Rattle.amd_plain.specs.declared.work.Lists.{Lists}
+
+-- the class i keeps neither an element nor a variable
+abbrev pub mass : {A : Type 0} → List (Vec ℕ A) → List (Vec ℕ A) → ℕ → Bool
+mass elements variables i = views.mass (list_at elements) (list_at variables) i
+
+-- two classes keep the same elements and the same variables
+abbrev pub alike_in : {A : Type 0} → List (Vec ℕ A) → List (Vec ℕ A) → ℕ → ℕ → Bool
+alike_in elements variables i j = views.alike_in (list_at elements) (list_at variables) i j
+
+-- the number of rows of the border of e (block and border less the block), less that of each class of a front that
+-- lists it
+abbrev pub rows_left : {A : Type 0} → List ℕ → List ℕ → List ℕ → List (Vec ℕ A) → List ℕ → ℕ → ℕ
+rows_left block whole size elements front e = views.rows_left (num block) (num whole) (num size) (list_at elements)
+    front e
+
+-- the lists after the new element of the pivot c has absorbed others: those of the classes of its front; the others
+-- stay
+pub record Absorbed {A : Type 0} (aggressive : Bool) (c : ℕ) (front size block whole : List ℕ) (old new : Lists A)
+    (before after : List (Option ℕ)) (beyond : List ℕ) : Type 0 where
+  pub classes : views.Absorbed aggressive c front (num size) (num block) (num whole) (lists_of old) (lists_of new)
+      (some_at before)
+      (some_at after) (num beyond)
+  pub elements : (i : ℕ) → has front i ≡ false → list_at new.elements.items i ≡ list_at old.elements.items i
+  pub variables : (i : ℕ) → has front i ≡ false → list_at new.variables.items i ≡ list_at old.variables.items i
+  pub members : new.members ≡ old.members
+
+-- the lesser of the old bound and the number of rows that the lists reach, plus the other border rows; at most the
+-- other live rows
+abbrev pub new_bound : {A : Type 0} → ℕ → ℕ → Lists A → List ℕ → List ℕ → List ℕ → ℕ → ℕ
+new_bound border live lists beyond size bound i =
+    views.new_bound border live (lists_of lists) (num beyond) (num size) (num bound) i

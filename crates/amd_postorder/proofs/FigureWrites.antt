@@ -1,0 +1,26 @@
+-- Links that are figures: what is read of them, and what they say when one of them is written.
+use Rattle.std.proofs.Common.{◌≡◌, ◌<◌, ◌∙◌, ℕ, ℤ, pos, negsuc, cond, List, length, ap, sym, arith}
+use Rattle.std.specs.Prelude.{slice_index_or, slice_set}
+use Rattle.std.proofs.lemmas.Bool.{lt-ltb, le-ltb}
+use Rattle.std.proofs.lemmas.List.{map-set, get_or-map}
+use Rattle.amd_model.specs.Input.Columns.{at}
+use Rattle.amd_postorder.specs.FigureLinks.{figure_link, figure_links}
+
+-- a figure below the greatest one is a link to the place of its number
+pub link_to : (most k : ℕ) → k < most → figure_link most k ≡ pos k
+link_to most k l = ap (λ b. cond b (pos k) (negsuc 0)) (lt-ltb k most l)
+
+-- the greatest one is none
+pub link_none : (most : ℕ) → figure_link most most ≡ negsuc 0
+link_none most = ap (λ b. cond b (pos most) (negsuc 0)) (le-ltb most most (omega arith))
+
+-- what the list says where a figure is written
+pub written : (most : ℕ) (figures new : List ℕ) (place k : ℕ) (says : ℤ) → new ≡ slice_set figures place k → figure_link most k ≡ says →
+    figure_links most new ≡ slice_set (figure_links most figures) place says
+written most figures new place k says q r = ap (figure_links most) q ∙ map-set (figure_link most) figures place k ∙
+    ap (slice_set (figure_links most figures) place) r
+
+-- what the list says at a place
+pub says_at : (most : ℕ) (figures : List ℕ) (place : ℕ) → place < length figures →
+    figure_link most (slice_index_or figures place 0) ≡ at (figure_links most figures) place
+says_at most figures place l = sym (get_or-map (figure_link most) figures place 0 (pos 0) l)

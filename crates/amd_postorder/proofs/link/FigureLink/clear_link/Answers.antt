@@ -1,0 +1,10 @@
+use Rattle.std.proofs.Common.{negsuc, ap, ◌∙◌}
+use Rattle.amd_postorder.specs.FigureLinks.{figure_link}
+use Rattle.amd_postorder.proofs.FigureWrites.{written, link_none}
+use Rattle.amd_postorder.proofs.link.FigureLink.clear_link.Goals as goal
+
+pub returns : goal.returns
+returns g c =
+    let most = g.U.Unsigned.MOST in
+    written most c.args.links.now c.put_cell.new.figures c.args.place c.MOST.result (negsuc 0) c.put_cell.ensures
+    (ap (figure_link most) c.MOST.ensures ∙ link_none most)

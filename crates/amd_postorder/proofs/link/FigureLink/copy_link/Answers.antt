@@ -1,0 +1,12 @@
+use Rattle.std.proofs.Common.{ap, ◌∙◌}
+use Rattle.amd_model.specs.Input.Columns.{at}
+use Rattle.amd_postorder.specs.FigureLinks.{figure_link, figure_links}
+use Rattle.amd_postorder.proofs.FigureWrites.{written, says_at}
+use Rattle.amd_postorder.proofs.link.FigureLink.copy_link.Goals as goal
+
+pub returns : goal.returns
+returns g c =
+    let most = g.U.Unsigned.MOST in
+    written most c.args.links.now c.put_cell.new.figures c.args.place c.cell_at.result
+    (at (figure_links most c.args.from.now) c.args.other) c.put_cell.ensures
+    (ap (figure_link most) c.cell_at.ensures.is ∙ says_at most c.args.from.now c.args.other c.requires.other_within)

@@ -1,7 +1,0 @@
-use Rattle.std.proofs.Common.{◌≡◌, not, take, filter}
-use Rattle.amd_rounds.specs.Rounds.{mass}
-use Rattle.amd_rounds.proofs.absorption.others_left.Given as goal
-
-abbrev pub invariant-loop-i : goal.invariant-loop-i
-invariant-loop-i g l = l.rest.items ≡ filter (λ i. not (mass l.lists.elements.items l.lists.variables.items i))
-    (take l.i-index l.front)

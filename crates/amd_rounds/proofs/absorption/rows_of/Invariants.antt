@@ -1,6 +1,0 @@
-use Rattle.std.proofs.Common.{◌≡◌, take, sum_by}
-use Rattle.amd_rounds.specs.Views.{num}
-use Rattle.amd_rounds.proofs.absorption.rows_of.Given as goal
-
-abbrev pub invariant-loop-i : goal.invariant-loop-i
-invariant-loop-i l = l.total ≡ sum_by (num l.size) (take l.i-index l.list)

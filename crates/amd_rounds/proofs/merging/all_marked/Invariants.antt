@@ -1,7 +1,0 @@
-use Rattle.std.proofs.Common.{◌≡◌, true, take}
-use Rattle.amd_model.specs.Quotient.{each}
-use Rattle.amd_rounds.specs.Views.{at}
-use Rattle.amd_rounds.proofs.merging.all_marked.Given as goal
-
-abbrev pub invariant-loop-j : goal.invariant-loop-j
-invariant-loop-j l = each (at l.marks) (take l.j-index l.list) ≡ true

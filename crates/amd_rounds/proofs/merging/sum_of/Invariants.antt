@@ -1,6 +1,0 @@
-use Rattle.std.proofs.Common.{◌≡◌, take}
-use Rattle.amd_rounds.specs.Groups.{wrapped_sum}
-use Rattle.amd_rounds.proofs.merging.sum_of.Given as goal
-
-abbrev pub invariant-loop-j : goal.invariant-loop-j
-invariant-loop-j l = l.total ≡ wrapped_sum (take l.j-index l.list)

@@ -1,0 +1,133 @@
+use Rattle.std.proofs.Common.{ℕ, ℤ, List, true, ◌≡◌, ◌+◌, ◌-◌, refl, sym, ap, subst, ◌∙◌, arith, cond, length}
+use Rattle.std.proofs.Common.{get_or-set_same, length-set}
+use Rattle.std.proofs.lemmas.Bool.{cond-true, cond-false}
+use Rattle.amd_words.specs.Sides.{nexts, lasts}
+use Rattle.amd_words.specs.Words.{num, start, in_front}
+use Rattle.amd_lists.specs.Layout.{end_of, Layout}
+use Rattle.amd_lists.specs.Chains.{DegreeLists}
+use Rattle.amd_merging.specs.Closing.{Closes}
+use Rattle.amd_lists.specs.Renewal.{Filters}
+use Rattle.amd_merging.specs.Restoring.{marked_in, bound_in, put_all}
+use Rattle.amd_rounds.specs.Parts.{front_at}
+use Rattle.amd_rounds.specs.Workspaces.{workspace_of}
+use Rattle.amd_rounds.proofs.Fronts.{other_degree, not_placed, ends_before}
+use Rattle.amd_rounds.proofs.round.end_front.Goals.{then-is_built, else-is_built}
+use Rattle.amd_rounds.proofs.round.end_front.Goals as goal
+
+pub returns : goal.returns
+returns g c =
+    let p = c.args.work.now in let v = c.place_list-from.new in let told = c.place_list-from.ensures in let s = c.requires.sized in
+    let n : ℕ = length p.nv.now in let me : ℕ = c.args.me in let iw : List ℤ = p.iw.now in let pe : List ℤ = p.pe.now in
+    let e_len : List ℤ = p.e_len.now in let len : List ℕ = p.len.now in let nv : List ℤ = p.nv.now in let free : ℕ = p.free in
+    let from : ℕ = c.place_list-from.result.0 in let end : ℕ = c.place_list-from.result.1 in
+    let border : ℕ = c.args.border in let h = c.requires.front in let front : List ℕ = front_at (workspace_of p) me in
+    let e_len' : List ℤ = c.close.new.e_len in let len' : List ℕ = c.close.new.len in
+    let same_len : v.len ≡ len = told.same.1 in let same_pe : v.pe ≡ pe = told.same.0 in
+    let filters : Filters n (in_front nv) (λ j. 0) 0 iw from (num v.len me) from v.iw end 0 =
+    subst (λ l. Filters n (in_front nv) (λ j. 0) 0 iw from (num l me) from v.iw end 0) (sym same_len)
+    (subst (λ k. Filters k (in_front nv) (λ j. 0) 0 iw from (num len me) from v.iw end 0) s.next told.filters) in
+    let closes : Closes n me (in_front nv) iw pe e_len len v.iw e_len' len' free =
+    subst (λ l. Closes n me (in_front nv) iw pe e_len l v.iw e_len' len' free) same_len
+    (c.close.ensures.closes n (in_front nv) (λ j. 0) 0 0 iw v.iw pe free (sym told.from) h.front.starts filters
+    (subst (λ l. Layout n iw pe e_len l free) (sym same_len) h.front.laid)) in
+    let count : num len' me ≡ end - from = ap (λ l. num l me) c.close.ensures.lengths ∙ get_or-set_same v.len me (end - from) 0
+    (let a = ap length same_len in let b = s.len in let d = h.front.row in omega (arith, a, b, d)) in
+    let ends : end_of pe len' me ≡ end = (let a = told.from in let b = filters.low in omega (arith, a, b, count)) in
+    let lowered : (c.args.is_built ≡ true) → Layout n v.iw pe e_len' len' end = λ built.
+    c.close.ensures.lowers n v.iw pe free (sym told.from)
+    (let a = closes.shorter in let b = h.front.within in omega (arith, a, b))
+    (λ j ne l. ends_before pe len len' from j (closes.lengths j ne)
+    (λ k. let a = h.before built j ne k in let b = told.from in omega (arith, a, b)) l) closes.laid in
+    let laid : Layout n v.iw pe e_len' len' c.if-is_built.free = elim c.if-is_built.branch [
+      | then-is_built w ↦ subst (Layout n v.iw pe e_len' len') (sym w.free-is) (lowered w.if-is_built.true)
+      | else-is_built w ↦ subst (Layout n v.iw pe e_len' len') (sym w.free-is) closes.laid
+    ] in
+    let free_is : c.if-is_built.free ≡ cond c.args.is_built (end_of pe len' me) free = elim c.if-is_built.branch [
+      | then-is_built w ↦ w.free-is ∙ sym ends ∙ sym (cond-true c.args.is_built (end_of pe len' me) free w.if-is_built.true)
+      | else-is_built w ↦ w.free-is ∙ sym (cond-false c.args.is_built (end_of pe len' me) free w.if-is_built.false)
+    ] in
+    let l = told.lengths in
+    record {
+      ends = record {
+        long = filters.long;
+        bounds = v.degree;
+        restores = told.restores;
+        degrees = c.close.ensures.borders;
+        closes = closes;
+        counts = c.close.ensures.counts;
+        free_is = free_is ∙ ap (λ q. cond c.args.is_built (end_of q len' me) free) (sym same_pe);
+        laid = subst (λ q. Layout n v.iw q e_len' len' c.if-is_built.free) (sym same_pe) laid;
+        empty = λ b k. let a = s.next in let d = told.empty b (omega (arith, a, k)) in omega (arith, a, d);
+        linked = λ lists none other h'.
+            subst (λ z. DegreeLists n v.head (nexts v.sides) (lasts v.sides) z
+            (put_all (bound_in border p.live nv p.degree.now) (marked_in nv front) lists)) (sym c.close.ensures.borders)
+            (other_degree n me border v.head (nexts v.sides) (lasts v.sides) v.degree
+            (put_all (bound_in border p.live nv p.degree.now) (marked_in nv front) lists)
+            (λ d k. not_placed me front nv (bound_in border p.live nv p.degree.now) lists d h.front.apart (none d k))
+            (subst (λ k. DegreeLists k v.head (nexts v.sides) (lasts v.sides) v.degree
+            (put_all (bound_in border p.live nv p.degree.now) (marked_in nv front) lists)) s.next
+            (told.linked lists (λ b x k. other b x (let a = s.next in omega (arith, a, k)))
+            (subst (λ k. DegreeLists k p.head.now (nexts p.sides.now) (lasts p.sides.now) p.degree.now lists) (sym s.next) h'))));
+        lnz = c.add_front.ensures.lnz;
+        ldl = c.add_front.ensures.ldl;
+        lu = c.add_front.ensures.lu;
+        greatest = c.add_front.ensures.d_max;
+        sized = record {
+          pe = ap length same_pe ∙ s.pe;
+          e_len = (let a = ap length c.close.ensures.counts in a ∙ length-set e_len me _ ∙ s.e_len);
+          nv = l.0 ∙ s.next;
+          len = ap length c.close.ensures.lengths ∙ length-set v.len me (end - from) ∙ ap length same_len ∙ s.len;
+          degree = ap length c.close.ensures.borders ∙ length-set v.degree me border ∙ l.1 ∙ s.next;
+          w = s.w;
+          head = l.2 ∙ s.next;
+          next = l.3 ∙ s.next;
+          last = l.4 ∙ s.next;
+          hash = l.5 ∙ s.next;
+        };
+        same = rw same_pe refl;
+      };
+      loans = (refl, refl, refl, refl);
+    }
+
+pub place_list-from-requires : goal.place_list-from-requires
+place_list-from-requires g c =
+    let s = c.requires.sized in let h = c.requires.front in let w = c.requires.wide in let f = h.front in let p = c.args.work.now in
+    rw s.next (record {
+      lengths = (refl, s.degree, s.head, refl, s.last, s.hash);
+      more_lengths = (s.pe, s.len);
+      short = (omega (arith, w.0, g.met.S.Signed.narrow), w.2, (let a = w.3 in omega (arith, a)));
+      list = (f.row, f.starts);
+      front = (
+        (let a = f.within in let b = f.end in omega (arith, a, b)),
+        (λ k l. f.laid.words (start p.pe.now c.args.me + k) (let a = f.within in omega (arith, a, l))),
+        f.once,
+      );
+      classes = h.classes;
+      order = (h.order.0, (let a = h.order.1 in omega (arith, a)));
+      heads = h.heads;
+      linked = h.linked;
+    })
+
+pub overflow_add-border : goal.overflow_add-border
+overflow_add-border g c = let a = c.requires.front.dense in omega (arith, a)
+
+pub add_front-requires : goal.add_front-requires
+add_front-requires g c = c.requires.front.dense
+
+pub close-requires : goal.close-requires
+close-requires g c =
+    let s = c.requires.sized in let h = c.requires.front in let told = c.place_list-from.ensures in let w = c.requires.wide in
+    let row = h.front.row in let low = told.filters.low in record {
+      row = (
+        (let a = s.e_len in omega (arith, a, row)),
+        (let a = ap length told.same.1 in let b = s.len in omega (arith, a, b, row)),
+        (let a = told.lengths.1 in let b = s.next in omega (arith, a, b, row)),
+      );
+      order = low;
+      few = (let a = h.order.0 in let b = h.order.1 in let d = w.2 in omega (arith, a, b, d));
+      fits = (
+        (let a = told.filters.high in let b = ap (λ l. num l c.args.me) told.same.1 in let d = h.front.within in let e = h.front.end in
+            let f = w.1 in omega (arith, a, b, d, e, f)),
+        (let a = h.order.0 in let b = h.order.1 in let d = w.3 in omega (arith, a, b, d)),
+      );
+    }

@@ -1,0 +1,47 @@
+-- What holds of a workspace between two rounds, beside what its record of lists stands for.
+use Rattle.std.specs.Prelude.{ℕ, true, false, ◌≡◌, ◌<◌, ◌≤◌, ◌+◌, length}
+use Rattle.amd_model.specs.Quotient.{has}
+use Rattle.amd_words.specs.Words.{num, word, is_place, size_of, in_front}
+use Rattle.amd_lists.specs.Layout.{has_list, elements_in, Layout, live_words}
+use Rattle.amd_rounds.specs.Workspaces.{Workspace}
+
+-- there is a place for each of n rows in each list of numbers
+pub record IsSized (n : ℕ) (p : Workspace) : Type 0 where
+  pub pe : length p.pe ≡ n
+  pub e_len : length p.e_len ≡ n
+  pub nv : length p.nv ≡ n
+  pub len : length p.len ≡ n
+  pub degree : length p.degree ≡ n
+  pub w : length p.w ≡ n
+  pub head : length p.head ≡ n
+  pub next : length p.next ≡ n
+  pub last : length p.last ≡ n
+  pub hash : length p.hash ≡ n
+
+-- words and figures are wide enough: the greatest ones are given
+abbrev pub IsNarrow : ℕ → ℕ → ℕ → Workspace → Type 0
+IsNarrow most_word most_figure n p = (length p.iw ≤ most_word) × (length p.iw ≤ most_figure) × (n + 2 ≤ most_word)
+    × (n + 2 ≤ most_figure)
+
+-- the lists of n rows have no more than nzaat words; each class and what it lists as elements have a list; counters are
+-- below the flag, and above 0 for what has a list; buckets are empty, and nothing is marked
+pub record IsLaid (n nzaat : ℕ) (p : Workspace) : Type 0 where
+  pub sized : IsSized n p
+  pub room : nzaat + n ≤ length p.iw
+  pub end : p.free ≤ length p.iw
+  pub laid : Layout n p.iw p.pe p.e_len p.len p.free
+  pub words : live_words n p.pe p.len ≤ nzaat
+  pub clear : (j : ℕ) → in_front p.nv j ≡ false
+  pub classes : (i : ℕ) → 0 < size_of p.nv i → (has_list p.pe p.len i ≡ true) × (is_place (word p.e_len i) ≡ true)
+  pub elements : (i e : ℕ) → 0 < size_of p.nv i → has (elements_in p.iw p.pe p.e_len i) e ≡ true →
+      has_list p.pe p.len e ≡ true
+  -- no row has a bound or a border above n, and no standing element a border above the greatest so far
+  pub degrees : (j : ℕ) → num p.degree j ≤ n
+  pub borders : (e : ℕ) → is_place (word p.e_len e) ≡ false → has_list p.pe p.len e ≡ true → num p.degree e ≤ p.most
+  pub most : p.most ≤ n
+  pub two : 2 ≤ p.flag
+  pub under : (j : ℕ) → num p.w j < p.flag
+  pub standing : (j : ℕ) → has_list p.pe p.len j ≡ true → 0 < num p.w j
+  pub empty : (b : ℕ) → b < n → n ≤ num p.hash b
+  -- at most one compaction for each row that is not live
+  pub packs : p.n_cmp_a + p.live ≤ n

@@ -1,0 +1,68 @@
+-- What the parts of a round ask of the workspace before them, beside its lengths and the widths of its words.
+use Rattle.std.specs.Prelude.{ℕ, Bool, true, false, List, ◌≡◌, ◌<◌, ◌≤◌, ◌+◌, ◌^◌, max, length, sum_by}
+use Rattle.amd_model.specs.Quotient.{has, Once}
+use Rattle.amd_words.specs.Words.{num, word, place, is_place, start, size_of, in_front, classes}
+use Rattle.amd_elements.specs.Element.{front_of}
+use Rattle.amd_lists.specs.Layout.{has_list, end_of, elements_in, Layout}
+use Rattle.amd_lists.specs.Layout.{met}
+use Rattle.amd_fronts.specs.Turning.{IsTurning}
+use Rattle.amd_merging.specs.Merging.{AreRenewed, bucket_of}
+use Rattle.amd_merging.specs.Restoring.{marked_in, IsPlaceable}
+use Rattle.amd_rounds.specs.Workspaces.{Workspace}
+use Rattle.amd_rounds.specs.Parts.{Links, front_at}
+
+-- a class can become an element: it lists no element twice, and not itself
+pub record CanBegin (n me : ℕ) (p : Workspace) : Type 0 where
+  pub row : me < n
+  pub class : 0 < size_of p.nv me
+  pub once : Once (elements_in p.iw p.pe p.e_len me)
+  pub apart : has (elements_in p.iw p.pe p.e_len me) me ≡ false
+  pub few : sum_by (size_of p.nv) (front_of p.iw p.nv p.pe p.len me (place (word p.e_len me))) ≤ n
+
+-- the list of the element me stands before the free end and names each row once, and not me
+pub record HasFront (n me : ℕ) (p : Workspace) : Type 0 where
+  pub row : me < n
+  pub laid : Layout n p.iw p.pe p.e_len p.len p.free
+  pub end : p.free ≤ length p.iw
+  pub starts : is_place (word p.pe me) ≡ true
+  pub within : end_of p.pe p.len me ≤ p.free
+  pub once : Once (front_at p me)
+  pub apart : has (front_at p me) me ≡ false
+
+-- the classes of the front of me can be turned over to it
+pub record CanTurn (n me : ℕ) (p : Workspace) : Type 0 where
+  pub front : HasFront n me p
+  pub classes : (i : ℕ) → has (front_at p me) i ≡ true →
+      IsTurning n me (front_at p me) p.iw p.pe p.e_len p.nv p.len p.degree p.w i
+  pub few : sum_by (size_of p.nv) (front_at p me) ≤ n
+  pub two : 2 ≤ p.flag
+  pub under : (e : ℕ) → num p.w e < p.flag
+  pub degrees : (e : ℕ) → num p.degree e ≤ n
+  pub part : (e : ℕ) → 0 < num p.w e → met p.iw p.pe p.e_len p.nv (front_at p me) e ≤ num p.degree e
+
+-- the classes that are left of the front of me can be merged, where counters are below the flag and the greatest border
+-- together
+pub record CanMerge (n me block border most_figure : ℕ) (p : Workspace) : Type 0 where
+  pub front : HasFront n me p
+  pub renewed : AreRenewed n p.iw p.pe p.e_len p.len p.nv p.w p.last (classes p.nv (front_at p me))
+  pub two : 2 ≤ p.flag
+  pub under : (x : ℕ) → num p.w x < p.flag + max p.most border
+  pub room : p.flag + n ≤ most_figure
+  pub most : (border ≤ n) × (p.most ≤ n)
+  pub live : block ≤ p.live
+  pub empty : (b : ℕ) → b < n → n ≤ num p.hash b
+
+-- the classes that are left of the front of me can be placed, and the element can be closed
+pub record CanEnd (n me block border : ℕ) (is_built : Bool) (p : Workspace) : Type 0 where
+  pub front : HasFront n me p
+  pub classes : (i : ℕ) → has (front_at p me) i ≡ true → in_front p.nv i ≡ true →
+      IsPlaceable n border p.nv p.degree p.last i
+  pub order : (border ≤ p.live) × (p.live + block ≤ n)
+  pub heads : (b : ℕ) → b < n → num p.hash b < n → (1 < num p.len me) ×
+      (has (marked_in p.nv (front_at p me)) (num p.hash b) ≡ true)
+      × (bucket_of (num p.len me) p.last (num p.hash b) ≡ b)
+  pub linked : (lists : ℕ → List ℕ) × Links n p lists
+      × ((b x : ℕ) → b < n → has (lists b) x ≡ true → has (front_at p me) x ≡ false)
+  pub dense : block + (border + p.n_dense) < 2 ^ 64
+  pub before : is_built ≡ true → (j : ℕ) → (j ≡ me → ⊥) → has_list p.pe p.len j ≡ true →
+      end_of p.pe p.len j ≤ start p.pe me

@@ -1,9 +1,0 @@
-use Rattle.std.proofs.Common.{pos}
-use Rattle.amd_trees.proofs.FigureWrites.{written, link_to}
-use Rattle.amd_trees.proofs.link.FigureLink.set_link.Goals as goal
-
-pub returns : goal.returns
-returns g c =
-    let most = g.U.Unsigned.MOST in
-    written most c.args.links.now c.put_figure.new.figures c.args.place c.args.to (pos c.args.to) c.put_figure.ensures
-    (link_to most c.args.to c.requires.fits)

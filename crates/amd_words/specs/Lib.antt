@@ -1,0 +1,3 @@
+-- What words say, and the two sides of a row in its list.
+pub mod Words
+pub mod Sides
