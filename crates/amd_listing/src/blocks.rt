@@ -6,7 +6,7 @@ ghost use Rattle.amd_model.specs.Listing.{Tree};
 ghost use Rattle.amd_model.specs.State.{Home};
 ghost use Rattle.amd_words.specs.Words.{word, size_of};
 ghost use Rattle.amd_postorder.specs.Trees.{IsPostorderOf};
-ghost use Rattle.amd_postorder.specs.FigureLinks.{figure_links};
+ghost use Rattle.amd_postorder.specs.CellLinks.{figure_links};
 ghost use Rattle.amd_listing.specs.Blocks.{AreElements, AreStarts, BeginWith};
 ghost use Rattle.amd_listing.specs.Placing.{PivotsPlaced};
 

@@ -1,4 +1,4 @@
-pub mod FigureWrites
+pub mod CellWrites
 pub mod Links
 pub mod ChildLinks
 pub mod ChildChains

@@ -5,7 +5,7 @@
 ghost use Rattle.std.specs.Prelude.{◌≡◌, ◌<◌, ℕ, ℤ, List, IfSome, length, negsuc, pos, slice_set};
 ghost use Rattle.amd_model.specs.Input.Columns.{at};
 ghost use Rattle.amd_types.specs.Links.{named};
-ghost use Rattle.amd_postorder.specs.FigureLinks.{figure_links};
+ghost use Rattle.amd_postorder.specs.CellLinks.{figure_links};
 
 use amd_types::internal;
 use amd_words::{Cell, Unsigned, cell_at, put_cell};
@@ -107,7 +107,7 @@ impl<U: Unsigned> Link for Cell<U> {
     }
 
     ghost use Rattle.std.proofs.lemmas.List.{length-map};
-    ghost use Rattle.amd_postorder.specs.FigureLinks.{figure_link};
+    ghost use Rattle.amd_postorder.specs.CellLinks.{figure_link};
 
     ghost read_room = { λ links. length-map links (figure_link U.MOST) };
 }

@@ -2,7 +2,7 @@
 use Rattle.std.proofs.Common.{◌≡◌, ◌<◌, ◌+◌, ℕ, List, refl, sym, ◌∙◌, subst, arith, length}
 use Rattle.std.proofs.Math.ListN.{set}
 use Rattle.std.proofs.lemmas.List.{length-map}
-use Rattle.amd_postorder.specs.FigureLinks.{figure_link, figure_links}
+use Rattle.amd_postorder.specs.CellLinks.{figure_link, figure_links}
 use Rattle.amd_listing.proofs.ByPlace.{AreSoFar, listing_fits, found, so_far_start, so_far_skip, so_far_take, so_far_end}
 use Rattle.amd_listing.proofs.blocks.by_place.Goals as goal
 use Rattle.amd_listing.proofs.blocks.by_place.Goals.{in-Some, in_default}

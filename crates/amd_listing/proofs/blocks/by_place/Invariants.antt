@@ -2,7 +2,7 @@ use Rattle.std.proofs.Common.{ℕ, ◌≡◌, ◌<◌, ◌≤◌, length}
 use Rattle.std.specs.Prelude.{slice_index}
 use Rattle.amd_model.specs.Listing.{Tree}
 use Rattle.amd_postorder.specs.Trees.{IsPostorderOf}
-use Rattle.amd_postorder.specs.FigureLinks.{figure_links}
+use Rattle.amd_postorder.specs.CellLinks.{figure_links}
 use Rattle.amd_listing.proofs.ByPlace.{AreSoFar}
 use Rattle.amd_listing.proofs.blocks.by_place.Given as goal
 

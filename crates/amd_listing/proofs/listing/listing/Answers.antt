@@ -2,7 +2,7 @@
 use Rattle.std.proofs.Common.{ℤ, List, ◌∙◌, sym, subst, length}
 use Rattle.amd_model.specs.Listing.{IsPostorder}
 use Rattle.amd_postorder.specs.Trees.{tree_of}
-use Rattle.amd_postorder.specs.FigureLinks.{figure_links}
+use Rattle.amd_postorder.specs.CellLinks.{figure_links}
 use Rattle.amd_listing.specs.Blocks.{listing_of}
 use Rattle.amd_types.proofs.SignedCounts.{same_counts}
 use Rattle.amd_listing.proofs.EndedListing.{last, forest_told, links_told, none_live, blocks_told}

@@ -1,8 +1,8 @@
 use Rattle.std.proofs.Common.{ap, ◌∙◌}
 use Rattle.amd_model.specs.Input.Columns.{at}
-use Rattle.amd_postorder.specs.FigureLinks.{figure_link, figure_links}
-use Rattle.amd_postorder.proofs.FigureWrites.{written, says_at}
-use Rattle.amd_postorder.proofs.link.FigureLink.copy_link.Goals as goal
+use Rattle.amd_postorder.specs.CellLinks.{figure_link, figure_links}
+use Rattle.amd_postorder.proofs.CellWrites.{written, says_at}
+use Rattle.amd_postorder.proofs.link.CellLink.copy_link.Goals as goal
 
 pub returns : goal.returns
 returns g c =

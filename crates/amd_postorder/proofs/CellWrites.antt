@@ -4,7 +4,7 @@ use Rattle.std.specs.Prelude.{slice_index_or, slice_set}
 use Rattle.std.proofs.lemmas.Bool.{lt-ltb, le-ltb}
 use Rattle.std.proofs.lemmas.List.{map-set, get_or-map}
 use Rattle.amd_model.specs.Input.Columns.{at}
-use Rattle.amd_postorder.specs.FigureLinks.{figure_link, figure_links}
+use Rattle.amd_postorder.specs.CellLinks.{figure_link, figure_links}
 
 -- a figure below the greatest one is a link to the place of its number
 pub link_to : (most k : ℕ) → k < most → figure_link most k ≡ pos k

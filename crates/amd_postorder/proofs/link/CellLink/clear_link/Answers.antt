@@ -1,7 +1,7 @@
 use Rattle.std.proofs.Common.{negsuc, ap, ◌∙◌}
-use Rattle.amd_postorder.specs.FigureLinks.{figure_link}
-use Rattle.amd_postorder.proofs.FigureWrites.{written, link_none}
-use Rattle.amd_postorder.proofs.link.FigureLink.clear_link.Goals as goal
+use Rattle.amd_postorder.specs.CellLinks.{figure_link}
+use Rattle.amd_postorder.proofs.CellWrites.{written, link_none}
+use Rattle.amd_postorder.proofs.link.CellLink.clear_link.Goals as goal
 
 pub returns : goal.returns
 returns g c =

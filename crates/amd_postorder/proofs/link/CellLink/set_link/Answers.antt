@@ -1,6 +1,6 @@
 use Rattle.std.proofs.Common.{pos}
-use Rattle.amd_postorder.proofs.FigureWrites.{written, link_to}
-use Rattle.amd_postorder.proofs.link.FigureLink.set_link.Goals as goal
+use Rattle.amd_postorder.proofs.CellWrites.{written, link_to}
+use Rattle.amd_postorder.proofs.link.CellLink.set_link.Goals as goal
 
 pub returns : goal.returns
 returns g c =
