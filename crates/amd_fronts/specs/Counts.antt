@@ -3,6 +3,7 @@
 use Rattle.std.specs.Prelude.{ℕ, ℤ, Bool, true, List, ◌≡◌, ◌<◌, ◌≤◌, ◌+◌, ◌-◌, ◌==◌, ◌&&◌, nat_le, cond, length, sum_by}
 use Rattle.amd_model.specs.Quotient.{has, Once}
 use Rattle.amd_words.specs.Words.{is_place, place, word, start, size_of, in_front, rows, Names}
+use Rattle.amd_lists.specs.Layout.{elements_in}
 
 -- the counter of an element when a class of `more` rows is met that it holds: `all` is the number of rows of its border
 abbrev pub touched : ℕ → ℕ → ℕ → ℕ → ℕ
