@@ -123,6 +123,115 @@ def both(columns):
         yield upper[j] + [j] + column
 
 
+def lower(n, edges):
+    """The lower triangle of a graph, from its edges in any order, each once or more."""
+    columns = [set() for _ in range(n)]
+    for a, b in edges:
+        if a != b:
+            columns[min(a, b)].add(max(a, b))
+    return map(sorted, columns)
+
+
+def drawn_order(n, seed):
+    """A drawn numbering of n vertices."""
+    draws, number = Draws(seed), list(range(n))
+    for i in range(n - 1, 0, -1):
+        j = draws.below(i + 1)
+        number[i], number[j] = number[j], number[i]
+    return number
+
+
+def renumbered(columns, seed):
+    """The same graph under a drawn numbering."""
+    columns = list(columns)
+    number = drawn_order(len(columns), seed)
+    return lower(len(columns), ((number[j], number[i]) for j, column in enumerate(columns) for i in column))
+
+
+def elements(sides, unknowns):
+    """Finite elements on a mesh of bricks or squares: each unknown of a node is joined to all those of its elements."""
+    nodes = 1
+    for side in sides:
+        nodes *= side
+    def near(v):
+        places = [()]
+        for side in reversed(sides):
+            v, x = divmod(v, side)
+            places = [(y, *place) for place in places for y in range(max(x - 1, 0), min(x + 2, side))]
+        for place in places:
+            w = 0
+            for side, x in zip(sides, place):
+                w = w * side + x
+            yield w
+    for v in range(nodes):
+        others = sorted(w for w in near(v) if w > v)
+        for k in range(unknowns):
+            first = v * unknowns + k
+            yield list(range(first + 1, (v + 1) * unknowns)) + [w * unknowns + m for w in others for m in range(unknowns)]
+
+
+def optimality(rows, constraints, count, seed):
+    """A KKT system of a quadratic program: the matrix of a grid, and constraints on drawn unknowns near each other."""
+    draws = Draws(seed)
+    side = int(rows ** 0.5)
+    n = side * side
+    edges = [(j, i) for j, column in enumerate(grid(side, side)) for i in column]
+    for c in range(constraints):
+        first = draws.below(n)
+        edges += [((first + draws.below(4 * side)) % n, n + c) for _ in range(count)]
+    return lower(n + constraints, edges)
+
+
+def road(k, seed):
+    """A network like that of roads: crossings on a grid, one street in four missing, each street with drawn bends."""
+    draws, n, edges = Draws(seed), k * k, []
+    for j, column in enumerate(grid(k, k)):
+        for i in column:
+            if draws.below(4):
+                last = j
+                for _ in range(draws.below(4)):
+                    edges.append((last, n))
+                    last, n = n, n + 1
+                edges.append((last, i))
+    number = drawn_order(n, seed + 1)
+    return lower(n, ((number[a], number[b]) for a, b in edges))
+
+
+def delaunay(n, seed):
+    """The triangulation of drawn points in a square; needs scipy."""
+    from scipy.spatial import Delaunay
+    draws = Draws(seed)
+    points = [(draws.below(2**31) / 2**31, draws.below(2**31) / 2**31) for _ in range(n)]
+    return lower(n, ((int(t[a]), int(t[b])) for t in Delaunay(points).simplices for a, b in ((0, 1), (0, 2), (1, 2))))
+
+
+def circuit(n, hubs, seed):
+    """A circuit: each node is joined to some near it, and one in nine to a hub (a supply, a clock). Not symmetric."""
+    draws = Draws(seed)
+    for v in range(n):
+        column = {v} | {min(max(v + draws.below(61) - 30, 0), n - 1) for _ in range(1 + draws.below(4))}
+        if draws.below(9) == 0:
+            column.add(n - 1 - draws.below(hubs))
+        yield sorted(column)
+
+
+def normal(rows, n, count, seed):
+    """Normal equations: the pattern of the product of a drawn matrix with its transpose; two entries of a row join their columns."""
+    draws, edges = Draws(seed), []
+    for _ in range(rows):
+        first = draws.below(n)
+        row = [first] + [(first + draws.below(200)) % n for _ in range(count - 1)]
+        edges += [(a, b) for k, a in enumerate(row) for b in row[:k]]
+    return lower(n, edges)
+
+
+def blocks(count, size):
+    """Block tridiagonal: full blocks, each joined to the next one."""
+    n = count * size
+    for v in range(n):
+        yield list(range(v + 1, min((v // size + 2) * size, n)))
+
+
 PLAIN = {
     "grid_1000x1000": lambda: grid(1000, 1000),
     "grid_300x300": lambda: grid(300, 300),
@@ -137,6 +246,19 @@ PLAIN = {
     "grid9_500x500": lambda: grid9(500),
     "clique_1500": lambda: band(1500, 1500),
 }
+KINDS = {
+    "bricks_24_3": lambda: elements((24, 24, 24), 3),
+    "bricks_24_3_drawn": lambda: renumbered(elements((24, 24, 24), 3), 21),
+    "bricks_16_6_drawn": lambda: renumbered(elements((16, 16, 16), 6), 22),
+    "shell_150x150_6": lambda: elements((150, 150), 6),
+    "shell_150x150_6_drawn": lambda: renumbered(elements((150, 150), 6), 23),
+    "optimality_60000": lambda: optimality(40000, 20000, 4, 24),
+    "road_200": lambda: road(200, 25),
+    "delaunay_100000": lambda: delaunay(100000, 26),
+    "circuit_100000": lambda: circuit(100000, 20, 27),
+    "normal_40000": lambda: normal(60000, 40000, 4, 28),
+    "blocks_1000x50": lambda: blocks(1000, 50),
+}
 JUMBLED = {f"{name}_jumbled": lambda name=name: jumbled(PLAIN[name](), 3) for name in ("grid_300x300", "random_20000", "power_50000")}
 BOTH = {f"{name}_both": lambda name=name: both(PLAIN[name]()) for name in (
     "grid_1000x1000", "grid_60x60x60", "band_100000", "arrow_100000", "grid9_500x500", "clique_1500")}
@@ -148,7 +270,7 @@ HOSTILE = {
 }
 GROWTH = {"x".join(map(str, ("growth_" + str(s[0]), *s[1:]))): lambda s=s: grid(*s) for s in (
     (71, 71), (224, 224), (708, 708), (2237, 2237), (15,) * 3, (33,) * 3, (70,) * 3, (150,) * 3)}
-ALL = {**PLAIN, **JUMBLED, **BOTH, **HOSTILE, **GROWTH}
+ALL = {**PLAIN, **KINDS, **JUMBLED, **BOTH, **HOSTILE, **GROWTH}
 
 
 def write(path, columns):
@@ -165,7 +287,10 @@ def write(path, columns):
 def main(folder, *names):
     os.makedirs(folder, exist_ok=True)
     for name in names or [it for it in ALL if it not in GROWTH]:
-        write(os.path.join(folder, name), ALL[name]())
+        try:
+            write(os.path.join(folder, name), ALL[name]())
+        except ImportError as missing:
+            print(f"{name}: skipped, {missing}")
 
 
 main(*sys.argv[1:])
