@@ -10,7 +10,7 @@ use std::alloc::Global;
 use std::rt::Runtime;
 use std::time::{Duration, Instant};
 
-/// What the calls answered, which is the same each time, and how long each took.
+/// What the calls returned, which is the same each time, and how long each took.
 #[derive(Drop)]
 pub struct Factored {
     pub factor: Factor<Global>,

@@ -28,7 +28,7 @@ use std::process::ExitCode;
 use std::rt::Runtime;
 use std::time::{Duration, Instant};
 
-/// What the calls answered, which is the same each time, and how long each took.
+/// What the calls returned, which is the same each time, and how long each took.
 #[derive(Drop)]
 struct Outcome<I: PrimInt> {
     p: Vec<I>,
@@ -84,7 +84,7 @@ fn print_times<R: Runtime>(rt: &R, mut times: Vec<Duration>) -> Result<()> {
     Ok(())
 }
 
-/// Prints what the calls of `order` answered, and their times.
+/// Prints what the calls of `order` returned, and their times.
 fn print_outcome<R: Runtime, I: PrimInt>(
     rt: &R,
     kind: &str,
@@ -104,7 +104,7 @@ fn print_outcome<R: Runtime, I: PrimInt>(
     print_times(rt, outcome.times)
 }
 
-/// Prints what the calls of `columns` or `analyze` answered, and their times.
+/// Prints what the calls of `columns` or `analyze` returned, and their times.
 fn print_factored<R: Runtime>(
     rt: &R,
     kind: &str,

@@ -82,7 +82,7 @@ impl Clock {
     }
 }
 
-/// What the calls answered, which is the same each time, and the stages of each call.
+/// What the calls returned, which is the same each time, and the stages of each call.
 #[derive(Drop)]
 pub struct Staged<I: PrimInt> {
     pub p: Vec<I>,

@@ -37,7 +37,7 @@ pub trait Visitor {
             IsNew g seen i j → holds g (with_arc seen i j) (arcs ++ (i, j) ∷ []) self.new }
         ensures kept { room self.new ≡ room self.old };
 
-    /// Begins a run of row `j`. Answers its mark.
+    /// Begins a run of row `j`. Returns its mark.
     fn begin(&self, j: usize) -> usize
         requires { (g : Graph) × (seen : ℕ → ℕ → Bool) × (arcs : List (ℕ × ℕ)) × holds g seen arcs self.now ×
             (j < g.size) }
@@ -45,7 +45,7 @@ pub trait Visitor {
             runs g seen arcs j result self.now };
 
     /// Takes both arcs of the edge of `i` and `j`, that from `i` before the other, in a run of row `j` with this mark.
-    /// Answers the next mark.
+    /// Returns the next mark.
     fn edge(&mut self, i: usize, j: usize, mark: usize) -> usize
         requires { (g : Graph) × (seen : ℕ → ℕ → Bool) × (arcs : List (ℕ × ℕ)) × runs g seen arcs j mark self.old ×
             IsNewEdge g seen i j }
@@ -170,7 +170,7 @@ fn rest<I: PrimInt, V: Visitor, A: Allocator>(
     }
 }
 
-/// Meets each edge of a sorted column form once, and answers the number of diagonal entries. The matrix has `size` rows
+/// Meets each edge of a sorted column form once, and returns the number of diagonal entries. The matrix has `size` rows
 /// and columns, and `next` is empty and has room for a pointer of each column. What `next` holds afterwards is not
 /// said.
 ///

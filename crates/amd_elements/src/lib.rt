@@ -1,6 +1,7 @@
-//! The element of a pivot: its rows gathered behind all lists (`element`, `making`) or in the place of the pivot's own list
-//! (`own_place`), the room for them (`room`), the compaction of the workspace where there is none (`compaction`), and these as one
-//! call for each way (`beginning`). Source: Amestoy, Davis and Duff 1996 and 2004. Called by `amd_rounds`.
+//! The element of a pivot: its rows gathered behind all lists (`element`, `making`) or in the place of the pivot's own
+//! list (`own_place`), the room for them (`room`), the compaction of the workspace where there is none (`compaction`),
+//! and these as one call for each way (`beginning`). Source: Amestoy, Davis and Duff 1996 and 2004. Called by
+//! `amd_rounds`.
 #![tactic(auto)]
 
 pub mod beginning;

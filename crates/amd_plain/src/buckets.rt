@@ -9,7 +9,8 @@ ghost use Rattle.amd_plain.specs.Buckets.{live_in, Popped, Chosen};
 
 use std::alloc::{AllocError, Allocator};
 
-/// Takes from the end of the list of a bound what is no class of that bound, and then the last class, if there is one.
+/// Takes from the end of the list of a bound the rows that are not classes of that bound, and then the last class, if
+/// there is one.
 fn last_placed<A: Allocator>(
     list: &mut Vec<usize, A>,
     least: usize,

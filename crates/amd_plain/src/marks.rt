@@ -54,7 +54,7 @@ fn add_unmarked<A: Allocator>(
     Ok(())
 }
 
-/// Adds each class of a list that is not marked, and marks it. What has no row is no class, and is passed over.
+/// Adds each class of a list that is not marked, and marks it. A row of size 0 is not a class, and is passed over.
 fn add_classes<A: Allocator>(
     marks: &mut Vec<bool, A>,
     out: &mut Vec<usize, A>,

@@ -1,7 +1,7 @@
 // The rounds of an elimination that keeps the lists of the quotient graph (for each class its elements and its
 // variables, for each element its members), and one list of classes for each bound. Source: Amestoy, Davis and Duff
 // 1996 and 2004. Called by `plain_1` of the crate `amd_plain`. The goals of the functions that call many parts are
-// answered by hand (`tactic(none)`): a search through all that the parts say takes minutes.
+// proved by hand (`tactic(none)`): a search through all that the parts say takes minutes.
 
 ghost use Rattle.std.specs.Prelude.{◌≡◌, ◌<◌, ◌≤◌, ◌+◌, ◌^◌, ℕ, Bool, true, length, sum_by, IfOk, OnOk};
 ghost use Rattle.amd_model.specs.Graph.{Graph};
@@ -22,7 +22,7 @@ use amd_types::amd::Control;
 use std::alloc::{AllocError, Allocator};
 
 /// Chooses a pivot and makes its element: it absorbs what it may, and the classes of its front keep what is left.
-/// Answers the pivot and the front.
+/// Returns the pivot and the front.
 #[tactic(none)]
 fn make_element<A: Allocator + Copy>(
     work: &mut Work<A>,
@@ -56,7 +56,7 @@ fn make_element<A: Allocator + Copy>(
     Ok((pivot, front))
 }
 
-/// Eliminates the pivot and the classes of its front that keep nothing, and merges others that are alike. Answers the
+/// Eliminates the pivot and the classes of its front that keep nothing, and merges others that are alike. Returns the
 /// classes that are left, and the numbers of rows of the border and of the block.
 #[tactic(none)]
 fn merge_classes<A: Allocator + Copy>(
@@ -125,8 +125,8 @@ fn renew_classes<A: Allocator + Copy>(
 }
 
 /// One round: chooses a pivot, makes its element, and gives the classes of the element their new lists, numbers of rows
-/// and bounds. A row must be live. The contract says what the record stands for; the rest (entries at what is no class
-/// or element, stale entries, how low `least` is) is left open.
+/// and bounds. A row must be live. The contract says what the record stands for; the rest (entries of rows that are
+/// neither class nor element, stale entries, how low `least` is) is left open.
 ///
 /// # Errors
 ///
@@ -144,8 +144,8 @@ pub fn round<A: Allocator + Copy>(work: &mut Work<A>, control: &Control) -> Resu
     renew_classes(work, pivot, made, border, block)
 }
 
-/// Rounds until no row is live. The contract says what the record stands for; the rest (entries at what is no class or
-/// element, stale entries, how low `least` is) is left open.
+/// Rounds until no row is live. The contract says what the record stands for; the rest (entries of rows that
+/// are neither class nor element, stale entries, how low `least` is) is left open.
 ///
 /// # Errors
 ///

@@ -138,8 +138,8 @@ fn scratch<A: Allocator + Copy>(alloc: A, n: usize) -> Result<Scratch<A>, AllocE
 
 /// The start of an elimination of a matrix whose rows have the neighbours `rows` and as many of them as `degrees` says;
 /// the rows marked in `last` are held last, empty ones too. The contract says what the record stands for; the rest
-/// (entries at what is no class or element, stale entries, how low `least` is) is left open. Of rows and degrees that
-/// no graph has it says nothing.
+/// (entries of rows that are neither class nor element, stale entries, how low `least` is) is left open. Rows and
+/// degrees that no graph has are not covered.
 ///
 /// # Errors
 ///

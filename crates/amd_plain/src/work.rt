@@ -40,7 +40,7 @@ pub struct Work<A: Allocator> {
     pub alloc: A,
     /// The lists of the quotient graph.
     pub lists: Lists<A>,
-    /// The number of rows of each class, and 0 for what is no class.
+    /// The number of rows of each class, and 0 for a row that is not a class.
     pub size: Vec<usize, A>,
     /// The bound of each class.
     pub bound: Vec<usize, A>,

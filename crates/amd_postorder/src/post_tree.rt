@@ -6,7 +6,7 @@ ghost use Rattle.amd_postorder.specs.Trees.{FitsTree, ListsTree, NumbersFrom, St
 
 use crate::link::Link;
 
-/// Numbers the nodes of the tree below `root` from `k` on in postorder, and answers the number after the last.
+/// Numbers the nodes of the tree below `root` from `k` on in postorder, and returns the number after the last.
 ///
 /// `child[i]` names the first child of node `i`, and `sibling[i]` the next one after it; a link that names none ends a
 /// list. `order[i]` becomes the number of node `i`. All nodes are places of `child` and `order`, and all but the root

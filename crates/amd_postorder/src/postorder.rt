@@ -192,7 +192,8 @@ pub fn postorder_in<N: Number, L: Link>(
     number_trees(nn, parent, nv, child, sibling, order, stack);
 }
 
-/// As [`postorder_in`], over lists of its own. Answers the places, and `EMPTY` for what is no element.
+/// As [`postorder_in`], over lists of its own. Returns the places, and `EMPTY` where there is no
+/// element.
 ///
 /// # Errors
 ///

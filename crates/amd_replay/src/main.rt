@@ -1,4 +1,4 @@
-//! Orders the cases of its standard input and writes the answers, one item a line:
+//! Orders the cases of its standard input and writes the results, one item a line:
 //!
 //!     CASE k
 //!     STATUS OK | OkButJumbled | Invalid
@@ -9,18 +9,17 @@
 //!
 //! Where the status is `Invalid` the three lines behind it are left out. The format of the input is that of
 //! `amd_cases`; with `HOLD` the marked rows are held last. A case with `PERM` and `ROOM` asks for the columns of the
-//! factor instead. Its answer has in place of the four lines between `CASE` and `END` these, where a parent that is
-//! none is -1:
+//! factor instead. Its result has these lines in place of the four between `CASE` and `END`, with -1 for no parent:
 //!
 //!     FAULT Ok | NotColumnForm | NotPermutation | RoomTooSmall
 //!     PTR ..
 //!     ROWS ..
 //!     PARENT ..
 //!
-//! Where there is a fault the three lists are empty. The items `T`, `AGG` and `HOLD` of such a case say nothing.
+//! Where there is a fault the three lists are empty. The items `T`, `AGG` and `HOLD` of such a case are not used.
 //!
 //! At a line that is at fault, at a case with `PERM` or `ROOM` alone, and at a negative room, the program names it on
-//! standard error and ends with status 1; the answers before it are written.
+//! standard error and ends with status 1; the results before it are written.
 #![tactic(auto)]
 
 use amd::{Control, Info, Status, order, order_holding};
@@ -169,7 +168,7 @@ fn columns_asked<A: Allocator>(case: &Case<A>) -> Result<Option<(&[i64], usize)>
     }
 }
 
-/// Answers a case.
+/// Writes the result of a case.
 fn answer<W: Write, A: Allocator + Copy>(alloc: A, case: &Case<A>, out: &mut W) -> Result<()> {
     let asked = columns_asked(case)?;
     let number = case.number;
@@ -182,7 +181,7 @@ fn answer<W: Write, A: Allocator + Copy>(alloc: A, case: &Case<A>, out: &mut W) 
     Ok(())
 }
 
-/// Answers each case of an input.
+/// Writes the result of each case of an input.
 fn replay<R: BufRead + Drop, W: Write, A: Allocator + Copy>(
     alloc: A,
     input: R,

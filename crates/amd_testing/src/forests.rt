@@ -90,7 +90,7 @@ pub fn drawn_forest<A: Allocator + Copy>(alloc: A, seed: u64) -> Result<Forest<A
     Ok(forest)
 }
 
-/// The elements with a given parent, rising; those of a parent that is none are the roots.
+/// The elements with a given parent, rising; those without a parent are the roots.
 fn rising<A: Allocator + Copy>(
     alloc: A,
     parent: isize,

@@ -179,7 +179,7 @@ fn push_drawn<A: Allocator>(
     Ok(())
 }
 
-/// A matrix drawn from a seed. Most of them are jumbled. The answer begins with the number of rows.
+/// A matrix drawn from a seed. Most of them are jumbled. The result begins with the number of rows.
 pub fn drawn<A: Allocator + Copy>(
     alloc: A,
     seed: u64,

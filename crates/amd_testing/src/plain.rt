@@ -4,7 +4,7 @@
 
 use std::alloc::{AllocError, AllocFailed, Allocator};
 
-/// The number at a place as a count. Where there is none, or it is negative, the answer is the greatest count.
+/// The number at a place as a count. Where there is none, or it is negative, this is the greatest count.
 pub fn count_at(numbers: &[i64], place: usize) -> usize {
     match numbers.get(place) {
         Some(&number) => usize::try_from(number).unwrap_or(usize::MAX),
@@ -208,7 +208,7 @@ pub fn dense_rows<A: Allocator>(
     Ok(dense)
 }
 
-/// How many of the answers are yes.
+/// How many of these are true.
 pub fn how_many(answers: &[bool]) -> usize {
     let mut count = 0usize;
     for &answer in answers {

@@ -87,9 +87,9 @@ unsafe impl<B: Allocator> Allocator for Refusing<B> {
 /// What a call did wrong while its requests were refused; each names the request.
 #[derive(Debug, PartialEq, Drop)]
 pub enum Slip {
-    /// The request was refused, and there was an answer.
+    /// The request was refused, and the call had a result.
     Answered(u64),
-    /// There was no answer, and no request was refused.
+    /// The call had no result, and no request was refused.
     Unanswered(u64),
     /// More or fewer blocks came back than were granted.
     Unbalanced(u64),
@@ -110,8 +110,8 @@ fn slip_of<B: Allocator>(heap: &Refusing<B>, answered: bool) -> Option<Slip> {
     }
 }
 
-/// Makes a call with each of its requests refused in turn, until a run meets no refusal, and answers how many were
-/// refused. The call says whether it had an answer, which it has dropped. There must be one exactly where no request
+/// Makes a call with each of its requests refused in turn, until a run meets no refusal, and returns how many were
+/// refused. The call says whether it had a result, which it has dropped. There must be one exactly where no request
 /// was refused, and after each run as many blocks must have come back as were granted.
 ///
 /// # Errors

@@ -20,7 +20,7 @@ pub enum Fault {
     Interrupted,
 }
 
-/// Takes the first byte, where there is one, and answers how many were taken.
+/// Takes the first byte, where there is one, and returns how many were taken.
 fn take_first(bytes: &mut Vec<u8>, buf: &[u8]) -> io::Result<usize>
     ensures { WritesAtMost result buf.now }
 {

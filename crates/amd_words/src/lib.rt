@@ -1,7 +1,7 @@
-//! The cells of a workspace, each in one of two widths: words, which have a sign, and figures, which have none. A
-//! contract sees a word as an integer and a figure as a number, so that it reads the same in each width. The two
-//! sides of a row in its list stand together (`sides`). Called by `amd_postorder` and by each crate of
-//! the engine in place: `amd_places`, `amd_rounds`, `amd_listing`, `amd_workspace`, `amd_engine`.
+//! The cells of a workspace, each in one of two widths: words, which have a sign, and other cells, which have none. A
+//! contract sees a word as an integer and another cell as a number, so that it reads the same in each width. The two
+//! sides of a row in its list stand together (`sides`). Called by `amd_postorder`, and by each crate of the engine in
+//! place from `amd_lists` to `amd_engine`.
 #![tactic(auto)]
 
 pub mod sides;
@@ -107,7 +107,7 @@ pub trait Unsigned: Copy + Drop {
     fn number(self) -> usize
         ensures { result ≡ value self };
 
-    /// The figure of a number.
+    /// The cell of a number.
     fn of(number: usize) -> Self
         requires { number ≤ MOST }
         ensures { value result ≡ number };
@@ -173,7 +173,7 @@ impl<S: Signed> Model for Word<S> {
     ghost invariant = { λ a. unsigned_abs (S.value a.inner) ≤ S.MOST };
 }
 
-/// A figure of a row: contracts see a number.
+/// A cell of a row: contracts see a number.
 #[derive(Drop)]
 pub struct Cell<U: Unsigned> {
     inner: U,
@@ -198,7 +198,7 @@ pub fn word_of<S: Signed>(number: isize) -> Word<S>
     }
 }
 
-/// The figure of a number.
+/// The cell of a number.
 #[inline]
 pub fn cell_of<U: Unsigned>(number: usize) -> Cell<U>
     requires { number ≤ U.MOST }
@@ -209,7 +209,7 @@ pub fn cell_of<U: Unsigned>(number: usize) -> Cell<U>
     }
 }
 
-/// The number of a figure.
+/// The number of a cell.
 #[inline]
 pub fn number_of<U: Unsigned>(figure: &Cell<U>) -> usize
     ensures is { result ≡ figure.now }

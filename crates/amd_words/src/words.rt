@@ -27,7 +27,7 @@ pub fn is_open<S: Signed>(nv: &[Word<S>], j: usize) -> bool
     word_at(nv, j) > 0
 }
 
-/// Puts a class into the front, and answers its number of rows.
+/// Puts a class into the front, and returns its number of rows.
 pub fn enter<S: Signed>(nv: &mut [Word<S>], j: usize) -> usize
     requires inside { j < length nv.old }
     requires class { 0 < size_of nv.old j }
@@ -42,7 +42,7 @@ pub fn enter<S: Signed>(nv: &mut [Word<S>], j: usize) -> usize
     rows as usize
 }
 
-/// Takes a class out of the front, and answers its number of rows.
+/// Takes a class out of the front, and returns its number of rows.
 pub fn leave<S: Signed>(nv: &mut [Word<S>], j: usize) -> usize
     requires inside { j < length nv.old }
     requires marked { in_front nv.old j ≡ true }
