@@ -252,8 +252,10 @@ pub fn try_order<I: PrimInt>(n: I, a_p: &[I], a_i: &[I], control: &Control) -> R
 /// [`Fault::OutOfMemory`] where memory is refused.
 ///
 /// ```
-/// use rimopaku_amd::{order_holding, Control}; // A path of four rows. The first one is wanted last. let (p, _, _) =
-/// order_holding(4, &[0, 1, 2, 3, 3], &[1, 2, 3], &Control::default(), &[true, false, false, false])?;
+/// use rimopaku_amd::{order_holding, Control};
+/// // A path of four rows. The first one is wanted last.
+/// let hold = [true, false, false, false];
+/// let (p, _, _) = order_holding(4, &[0, 1, 2, 3, 3], &[1, 2, 3], &Control::default(), &hold)?;
 /// assert_eq!(p[3], 0);
 /// # Ok::<(), rimopaku_amd::Fault>(())
 /// ```
