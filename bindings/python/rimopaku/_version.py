@@ -1,0 +1,3 @@
+"""The version of the package: that of the file VERSION of the repository."""
+
+__version__ = "1.0.0"
