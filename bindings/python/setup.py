@@ -1,4 +1,9 @@
-"""Tags the wheel: it holds a shared library for one platform, and no extension module for one Python."""
+"""Tags the wheel: it holds a shared library for one platform, and no extension module for one Python.
+
+RIMOPAKU_PLATFORM names the platform, where the one of this machine is not right for it.
+"""
+
+import os
 
 from setuptools import setup
 
@@ -14,7 +19,7 @@ class PlatformWheel(bdist_wheel):
         self.root_is_pure = False
 
     def get_tag(self):
-        return "py3", "none", super().get_tag()[2]
+        return "py3", "none", os.environ.get("RIMOPAKU_PLATFORM") or super().get_tag()[2]
 
 
 setup(cmdclass={"bdist_wheel": PlatformWheel})
