@@ -22,7 +22,7 @@ array([1, 1, 2, 1, 0], dtype=int32)
 from __future__ import annotations
 
 import math
-from typing import Any, NamedTuple, Optional, Tuple, Union
+from typing import TYPE_CHECKING, Any, Literal, NamedTuple, Optional, Tuple, Union, overload
 
 import numpy as np
 import scipy.sparse as sparse
@@ -30,13 +30,19 @@ import scipy.sparse as sparse
 from . import _library
 from ._version import __version__
 
+if TYPE_CHECKING:
+    import numpy.typing as npt
+
+    from ._library import Numbers
+
 __all__ = ["amd", "analyze", "counts", "spy", "Analysis", "Counts", "Info", "__version__"]
 
 
 class Info(NamedTuple):
     """What an ordering tells. L is the factor of the matrix in the new order.
 
-    lnz, n_div, n_mult_subs_ldl, n_mult_subs_lu and d_max are proved to be upper bounds for L, where they are below 2**64 - 1.
+    lnz, n_div, n_mult_subs_ldl, n_mult_subs_lu and d_max are proved to be upper bounds for L, where they are below
+    2**64 - 1.
     """
 
     #: Rows.
@@ -68,16 +74,19 @@ class Info(NamedTuple):
 
 
 class Analysis(NamedTuple):
-    """The pattern of a factor L below its diagonal, column by column. A place is that of a row in the order, from 0 on."""
+    """The pattern of a factor L below its diagonal, column by column.
+
+    A place is that of a row in the order, from 0 on.
+    """
 
     #: The order: row p[k] is at place k.
-    p: np.ndarray
+    p: Numbers
     #: The parent of each column in the elimination tree, the first entry of the column, or -1 where it is empty.
-    parent: np.ndarray
+    parent: Numbers
     #: Where each column begins, and the end of the last one.
-    indptr: np.ndarray
+    indptr: Numbers
     #: The entries of the columns: places, ascending in each column.
-    indices: np.ndarray
+    indices: Numbers
     #: What the ordering told, or None where p was given.
     info: Optional[Info]
 
@@ -97,11 +106,11 @@ class Counts(NamedTuple):
     """How many entries the columns of a factor L have below the diagonal."""
 
     #: The order: row p[k] is at place k.
-    p: np.ndarray
+    p: Numbers
     #: The parent of each column in the elimination tree, or -1.
-    parent: np.ndarray
+    parent: Numbers
     #: The entries of each column below the diagonal.
-    counts: np.ndarray
+    counts: Numbers
     #: What the ordering told, or None where p was given.
     info: Optional[Info]
 
@@ -112,7 +121,7 @@ class Counts(NamedTuple):
 
 
 def _columns(A: Any) -> _library.Columns:
-    """The pattern of a square matrix as column pointers and rows; those of A' serve as well, so CSR is not converted."""
+    """The pattern of a square matrix as column pointers and rows; those of A' serve too, so CSR is not converted."""
     if not sparse.issparse(A):
         A = sparse.csc_matrix(A)
     if len(A.shape) != 2 or A.shape[0] != A.shape[1]:
@@ -145,7 +154,7 @@ def _thousandths(dense: float, n: int) -> int:
     return min(above if is_above_nearer else below, 2**31 - 1)
 
 
-def _marks(hold: Any, n: int) -> Optional[np.ndarray]:
+def _marks(hold: Any, n: int) -> Optional[npt.NDArray[np.bool_]]:
     """One bool for each row."""
     if hold is None:
         return None
@@ -160,7 +169,7 @@ def _marks(hold: Any, n: int) -> Optional[np.ndarray]:
     return marks
 
 
-def _rows(given: np.ndarray, n: int, name: str) -> np.ndarray:
+def _rows(given: npt.NDArray[Any], n: int, name: str) -> npt.NDArray[Any]:
     """An array of row numbers."""
     if given.ndim != 1 or given.dtype.kind not in "iu":
         raise ValueError(f"{name} is no array of row numbers")
@@ -169,10 +178,23 @@ def _rows(given: np.ndarray, n: int, name: str) -> np.ndarray:
     return given
 
 
-def _ordering(matrix: _library.Columns, dense: float, aggressive: bool, hold: Any) -> Tuple[np.ndarray, Info]:
+def _ordering(matrix: _library.Columns, dense: float, aggressive: bool, hold: Any) -> Tuple[Numbers, Info]:
     parameters = _library.Parameters(_thousandths(dense, matrix.n), bool(aggressive))
     p, _, told, status = _library.order(matrix, parameters, _marks(hold, matrix.n))
-    return p, Info(*(getattr(told, name) for name in Info._fields[:-1]), jumbled=status == 1)
+    figures = {name: getattr(told, name) for name in Info._fields if name != "jumbled"}
+    return p, Info(**figures, jumbled=status == 1)
+
+
+@overload
+def amd(
+    A: Any, *, dense: float = ..., aggressive: bool = ..., hold: Any = ..., return_info: Literal[False] = ...
+) -> Numbers: ...
+
+
+@overload
+def amd(
+    A: Any, *, dense: float = ..., aggressive: bool = ..., hold: Any = ..., return_info: Literal[True]
+) -> Tuple[Numbers, Info]: ...
 
 
 def amd(
@@ -182,19 +204,19 @@ def amd(
     aggressive: bool = True,
     hold: Any = None,
     return_info: bool = False,
-) -> Union[np.ndarray, Tuple[np.ndarray, Info]]:
+) -> Union[Numbers, Tuple[Numbers, Info]]:
     """Returns the order in which the rows and columns of A are to be eliminated: factor ``A[p][:, p]``.
 
     Row p[k] comes at place k, as in ``scipy.sparse.csgraph.reverse_cuthill_mckee``.
 
     Parameters
     ----------
-    A : a square sparse matrix or array of scipy, or what ``csc_matrix`` takes. Only its pattern is read; an entry that is
-        stored as 0 is an entry. The arrays of CSC and CSR are read in place, in 32 or 64 bits; no other thread may write
-        them during the call. CSR is read as the columns of A', which have the same A + A'; where A is not symmetric, ties
-        may be broken otherwise than for CSC.
-    dense : a row with more than ``max(16, dense * sqrt(n))`` entries of A + A' is placed last. If it is negative, only full
-        rows are.
+    A : a square sparse matrix or array of scipy, or what ``csc_matrix`` takes. Only its pattern is read; an entry that
+        is stored as 0 is an entry. The arrays of CSC and CSR are read in place, in 32 or 64 bits; no other thread may
+        write them during the call. CSR is read as the columns of A', which have the same A + A'; where A is not
+        symmetric, ties may be broken otherwise than for CSC.
+    dense : a row with more than ``max(16, dense * sqrt(n))`` entries of A + A' is placed last. If it is negative, only
+        full rows are.
     aggressive : whether a new element also absorbs elements that lie inside it but do not contain the pivot.
     hold : rows to be placed last, as a mask of n bool or as row numbers.
     return_info : whether to return what the ordering tells as well.
@@ -224,12 +246,12 @@ def amd(
     return (p, info) if return_info else p
 
 
-def _given(p: Any, matrix: _library.Columns) -> np.ndarray:
+def _given(p: Any, matrix: _library.Columns) -> Numbers:
     """A caller's order in the numbers of the matrix."""
     return np.ascontiguousarray(_rows(np.asarray(p), matrix.n, "p"), matrix.a_p.dtype)
 
 
-def _factor(matrix: _library.Columns, p: np.ndarray, room: int) -> Tuple[np.ndarray, np.ndarray, np.ndarray]:
+def _factor(matrix: _library.Columns, p: Numbers, room: int) -> Tuple[Numbers, Numbers, Numbers]:
     """The factor in the order p, with room for so many entries, and then for more."""
     while True:
         if room > np.iinfo(np.int64).max:
@@ -247,8 +269,8 @@ def analyze(
 ) -> Analysis:
     """Returns the exact pattern of the Cholesky or LDL' factor of A + A' in the order p, and the elimination tree.
 
-    Without p the order is that of ``amd`` with the same keywords, and the result has its Info. The other arguments and the
-    errors are those of ``amd``; p is any permutation of the rows, or a ValueError is raised.
+    Without p the order is that of ``amd`` with the same keywords, and the result has its Info. The other arguments and
+    the errors are those of ``amd``; p is any permutation of the rows, or a ValueError is raised.
 
     >>> import numpy as np, scipy.sparse as sp
     >>> cycle = sp.csc_matrix([[1, 1, 0, 1], [1, 1, 1, 0], [0, 1, 1, 1], [1, 0, 1, 1]])

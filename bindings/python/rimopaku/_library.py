@@ -1,7 +1,7 @@
 """The calls of include/rimopaku.h by ctypes, over arrays of numpy. Called by the package.
 
-The shared library is the one that the environment variable RIMOPAKU_LIBRARY names, or that of the wheel, or the installed
-one. ctypes gives up the interpreter's lock during a call, so threads can order at the same time.
+The shared library is the one that the environment variable RIMOPAKU_LIBRARY names, or that of the wheel, or the
+installed one. ctypes gives up the interpreter's lock during a call, so threads can order at the same time.
 """
 
 from __future__ import annotations
@@ -10,9 +10,15 @@ import ctypes
 import os
 from ctypes import POINTER, c_bool, c_int32, c_int64, c_size_t, c_void_p
 from pathlib import Path
-from typing import Any, NamedTuple, NoReturn, Tuple
+from typing import TYPE_CHECKING, Any, List, NamedTuple, NoReturn, Tuple
 
 import numpy as np
+
+if TYPE_CHECKING:
+    import numpy.typing as npt
+
+    # Row numbers, places or counts, in 32 or 64 bits.
+    Numbers = npt.NDArray[np.signedinteger[Any]]
 
 #: The numbers of the statuses that are errors.
 OUT_OF_MEMORY, INVALID, NOT_PERMUTATION, ROOM_TOO_SMALL = -1, -2, -3, -4
@@ -51,7 +57,7 @@ def _load() -> ctypes.CDLL:
     named = os.environ.get("RIMOPAKU_LIBRARY")
     own = Path(__file__).with_name("librimopaku.so")
     library = ctypes.CDLL(named or (str(own) if own.exists() else "librimopaku.so.1"))
-    array = [c_void_p, c_size_t]
+    array: List[Any] = [c_void_p, c_size_t]
     for suffix, number in (("i32", c_int32), ("i64", c_int64)):
         arguments = {
             "order": [*array, *array, POINTER(Parameters), *array, *array, POINTER(Statistics)],
@@ -72,18 +78,18 @@ _NOTHING = ctypes.create_string_buffer(8)
 
 
 class Columns(NamedTuple):
-    """A matrix with n rows and columns in compressed sparse columns; both arrays have the same type, of 32 or 64 bits."""
+    """A matrix with n rows and columns in compressed sparse columns; both arrays have one type, of 32 or 64 bits."""
 
     n: int
-    a_p: np.ndarray
-    a_i: np.ndarray
+    a_p: Numbers
+    a_i: Numbers
 
     def widened(self) -> Columns:
         """The matrix in 64-bit numbers."""
         return Columns(self.n, self.a_p.astype(np.int64), self.a_i.astype(np.int64))
 
 
-def _array(array: np.ndarray) -> Tuple[Any, int]:
+def _array(array: npt.NDArray[Any]) -> Tuple[Any, int]:
     return (array.ctypes.data if array.size else ctypes.addressof(_NOTHING)), array.size
 
 
@@ -103,16 +109,16 @@ def fail(status: int) -> NoReturn:
 
 def _call(name: str, matrix: Columns, *arguments: Any) -> int:
     suffix = "i64" if matrix.a_p.dtype == np.int64 else "i32"
-    words = []
+    words: List[Any] = []
     for it in (matrix.a_p, matrix.a_i, *arguments):
         words += _array(it) if isinstance(it, np.ndarray) else [ctypes.byref(it)]
-    status = getattr(_LIBRARY, f"rimopaku_{name}_{suffix}")(matrix.n, *words)
+    status: int = getattr(_LIBRARY, f"rimopaku_{name}_{suffix}")(matrix.n, *words)
     if status < 0:
         fail(status)
     return status
 
 
-def order(matrix: Columns, parameters: Parameters, hold: Any) -> Tuple[np.ndarray, np.ndarray, Statistics, int]:
+def order(matrix: Columns, parameters: Parameters, hold: Any) -> Tuple[Numbers, Numbers, Statistics, int]:
     """The permutation, its inverse, the statistics and the status; `hold` is an array of bool, or None."""
     p, p_inv = np.empty(matrix.n, matrix.a_p.dtype), np.empty(matrix.n, matrix.a_p.dtype)
     statistics = Statistics()
@@ -123,7 +129,7 @@ def order(matrix: Columns, parameters: Parameters, hold: Any) -> Tuple[np.ndarra
     return p, p_inv, statistics, status
 
 
-def columns(matrix: Columns, p: np.ndarray, room: int) -> Tuple[np.ndarray, np.ndarray, np.ndarray]:
+def columns(matrix: Columns, p: Numbers, room: int) -> Tuple[Numbers, Numbers, Numbers]:
     """The pointers, rows and parents of the factor in the order p, if it has at most `room` entries.
 
     Raises RoomTooSmall if it has more.

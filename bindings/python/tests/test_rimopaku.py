@@ -119,7 +119,8 @@ class Orders(unittest.TestCase):
 
 class Choices(unittest.TestCase):
     def test_held_rows(self):
-        for hold in ([0, 3], np.array([3, 0], np.uint8), np.array([True, False, False, True, False]), [True, False, False, True, False]):
+        mask = [True, False, False, True, False]
+        for hold in ([0, 3], np.array([3, 0], np.uint8), np.array(mask), mask):
             p, info = amd(FIVE, hold=hold, return_info=True)
             self.assertEqual((p[3:].tolist(), info.n_dense), ([0, 3], 2))
         self.assertEqual(amd(FIVE, hold=[]).tolist(), FIVE_ORDERED)
@@ -128,7 +129,8 @@ class Choices(unittest.TestCase):
     def test_the_threshold_is_that_of_the_float(self):
         # The float product is just below 29, the degree of row 0.
         matrix = sp.csc_matrix((np.ones(29), np.arange(1, 30), [0] + [29] * 625), shape=(625, 625))
-        told = [amd(matrix, dense=dense, return_info=True)[1].n_dense for dense in (1.16, 1.161, 1.159, -1, 10, math.inf)]
+        choices = (1.16, 1.161, 1.159, -1, 10, math.inf)
+        told = [amd(matrix, dense=dense, return_info=True)[1].n_dense for dense in choices]
         self.assertEqual(told, [1, 0, 1, 0, 0, 0])
 
     def test_thousandths(self):
@@ -190,7 +192,8 @@ class Faults(unittest.TestCase):
             amd(FIVE, dense=math.nan)
 
     def test_orders(self):
-        for p in ([0, 1, 2, 3], [0, 1, 2, 3, 3], [0, 1, 2, 3, 5], [0, 1, 2, 3, -1], [0, 1, 2, 3, 2**32], [0.0] * 5, [[0]]):
+        faulty_ends = [[0, 1, 2, 3, end] for end in (3, 5, -1, 2**32)]
+        for p in ([0, 1, 2, 3], *faulty_ends, [0.0] * 5, [[0]]):
             with self.subTest(p=p), self.assertRaises(ValueError):
                 analyze(FIVE, p)
 
