@@ -1,6 +1,6 @@
 //! The exact pattern of a factor, and orderings with the factor under them. Called by users.
 
-use crate::numbers::{converted, filled, room, Matrix};
+use crate::numbers::{converted, filled, returned, room, Matrix};
 use crate::order::{order_matrix, Control, Fault, Info};
 use crate::raw::{Entries, Word};
 use alloc::vec;
@@ -49,10 +49,11 @@ pub struct Analysis<I> {
 }
 
 /// The factor in the caller's numbers.
-fn told<I: PrimInt, T: Word>(ptr: &[T], rows: &[T], parent: &[T]) -> Result<Factor<I>, Fault> {
+fn told<I: PrimInt, T: Word>(ptr: &[T], mut rows: Vec<T>, parent: &[T]) -> Result<Factor<I>, Fault> {
     let ptr = converted(ptr, 0)?;
-    let entries = ptr.last().map_or(0, |&end| end);
-    let rows = converted(&rows[..entries], I::zero())?;
+    rows.truncate(ptr.last().map_or(0, |&end| end));
+    rows.shrink_to_fit();
+    let rows = returned(rows)?;
     let mut parents = room(parent.len())?;
     // -1 is the parent of an empty column.
     parents.extend(parent.iter().map(|&place| if place < T::zero() { None } else { cast(place) }));
@@ -70,7 +71,7 @@ fn columns_in<I: PrimInt, T: Word>(matrix: Matrix<I>, p: &[I], most: usize) -> R
     match T::columns(copied.columns(), &order, output) {
         0 => {
             drop(copied);
-            told(&ptr, &rows, &parent)
+            told(&ptr, rows, &parent)
         }
         fault => Err(Fault::of(fault)),
     }

@@ -3,6 +3,7 @@
 use crate::order::Fault;
 use crate::raw::{Columns, Word};
 use alloc::vec::Vec;
+use core::mem::size_of;
 use num_traits::{cast, PrimInt};
 
 /// A vector with room for so many items.
@@ -28,6 +29,15 @@ pub(crate) fn converted<F: PrimInt, T: PrimInt>(from: &[F], none: T) -> Result<V
     let mut to = room(from.len())?;
     to.extend(from.iter().map(|&number| cast(number).unwrap_or(none)));
     Ok(to)
+}
+
+/// Numbers of the library as numbers of the caller, whose type has them.
+pub(crate) fn returned<T: Word, I: PrimInt>(numbers: Vec<T>) -> Result<Vec<I>, Fault> {
+    if size_of::<T>() == size_of::<I>() {
+        // The vector keeps its memory.
+        return Ok(numbers.into_iter().map(|number| cast(number).unwrap_or_else(I::zero)).collect());
+    }
+    converted(&numbers, I::zero())
 }
 
 /// A caller's matrix of which the arrays are long enough.

@@ -2,7 +2,7 @@
 //! `factor`.
 
 use crate::dense::thousandths;
-use crate::numbers::{converted, filled, Matrix};
+use crate::numbers::{filled, returned, Matrix};
 use crate::raw::{self, Parameters, Statistics, Word};
 use alloc::alloc::{handle_alloc_error, Layout};
 use alloc::vec::Vec;
@@ -181,7 +181,7 @@ fn order_in<I: PrimInt, T: Word>(
     drop(copied);
     let info = Info::of(&statistics, status);
     // The caller's type has `n`, so it has each row.
-    Ok((converted(&p, I::zero())?, converted(&p_inv, I::zero())?, info))
+    Ok((returned(p)?, returned(p_inv)?, info))
 }
 
 /// Orders a matrix, with rows held last where there are marks.
