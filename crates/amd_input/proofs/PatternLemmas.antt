@@ -14,7 +14,7 @@ use Rattle.amd_edges.specs.Visits.{AreCounts}
 use Rattle.amd_input.specs.Degrees.{AreDegrees}
 use Rattle.amd_input.specs.PatternFigures.{HasPatternFigures}
 use Rattle.amd_input.specs.Transposes.{IsCleanForm, IsCleanTranspose}
-use Rattle.amd_input.proofs.Symmetry.{pairs_counted, diagonal_part, arcs_most, symmetric_when, symmetric_only}
+use Rattle.amd_input.proofs.Symmetry.{pairs_counted, diagonal_part, symmetric_when, symmetric_only}
 
 -- the number of columns of an input is a count
 pub input_form : (z : ℤ) (ap' ai : List ℤ) → IsInput z z ap' ai → IsColumnForm (pos (unsigned_abs z)) (unsigned_abs z) ap' ai
@@ -67,16 +67,6 @@ module _ (n : ℕ) (ap' ai : List ℤ) where
           (λ h. test ∙ eq-eqb info.nz_a_plus_at (info.nz - info.nz_diag) (arcs ∙ symmetric_only n ap' ai h ∙ sym rest)),
         );
       }
-
-  -- where there are fewer than 2 ^ 63 entries, the sum of the degrees fits
-  pub sum_fits : IsColumnForm (pos n) n ap' ai → IsSorted n ap' ai → (numbers : List ℕ) (entries : ℕ) →
-      AreCounts (graph_of n ap' ai) ((graph_of n ap' ai).edge) numbers → entries ≡ get_or (counts ap') n 0 → entries < 2 ^ 63 →
-      sum_below (length numbers) (λ k. get_or numbers k 0) < 2 ^ 64
-  sum_fits form sorted numbers entries held places few =
-      let pairs = pairs_counted n ap' ai form sorted in
-      let sum = (degrees_are numbers _ held refl).sum in
-      let most = arcs_most n ap' ai in
-      omega (arith, sum, places, pairs, most, few)
 
   -- there are no more entries on the diagonal than entries
   pub diagonal_within : IsColumnForm (pos n) n ap' ai → IsSorted n ap' ai → (diagonals entries : ℕ) → diagonals ≡ diagonal_count n ap' ai →

@@ -2,7 +2,7 @@
 // and Duff 2004). Called by `order`, and by `facts` of the crate `amd_command`.
 
 ghost use Rattle.std.specs.Prelude.{◌≡◌, ◌<◌, ◌^◌, map, length, slice_index, slice_set, unsigned_abs, IfOk, IfErr};
-ghost use Rattle.std.specs.Prelude.{OnOk, OnErr};
+ghost use Rattle.std.specs.Prelude.{OnOk, OnErr, SomeIff};
 ghost use Rattle.amd_model.specs.Below.{sum_below};
 ghost use Rattle.amd_model.specs.Input.Columns.{IsInput, IsSortedInput};
 ghost use Rattle.amd_edges.specs.Visits.{AreCounts};
@@ -47,16 +47,16 @@ impl<A: Allocator> Visitor for Counts<A> {
     }
 }
 
-/// The sum of the numbers.
-fn total(numbers: &[usize]) -> usize
-    requires fits { sum_below (length numbers.now) (λ k. slice_index numbers.now k) < 2 ^ 64 }
-    ensures { result ≡ sum_below (length numbers.now) (λ k. slice_index numbers.now k) }
+/// The sum of the numbers, where it is at most the greatest `usize`.
+fn total(numbers: &[usize]) -> Option<usize>
+    ensures { SomeIff result (sum_below (length numbers.now) (λ k. slice_index numbers.now k) < 2 ^ 64)
+        (sum_below (length numbers.now) (λ k. slice_index numbers.now k)) }
 {
-    let mut sum = 0;
-    'numbers: for k in 0..numbers.len() {
-        sum += numbers[k];
+    let mut sum: usize = 0;
+    'numbers: for &number in numbers {
+        sum = sum.checked_add(number)?;
     }
-    sum
+    Some(sum)
 }
 
 /// The sum of the degrees and the degree of each row, by the pattern of `A + A'`; writes the figures of the pattern.
@@ -70,8 +70,8 @@ fn total(numbers: &[usize]) -> usize
 ///
 /// # Errors
 ///
-/// `OutOfMemory` where an allocation was refused, or there are 2^63 entries or more, so that the sum of the degrees may
-/// not fit; `info` is then as it was.
+/// `OutOfMemory` where an allocation was refused, or the sum of the degrees is above the greatest `usize`, which no
+/// input that fits into memory reaches; `info` is then as it was.
 ///
 /// Source: AMD user guide; Amestoy, Davis and Duff 2004.
 pub fn aat<I: PrimInt, A: Allocator + Copy>(
@@ -100,15 +100,13 @@ pub fn aat<I: PrimInt, A: Allocator + Copy>(
 {
     let size = known_count(n);
     let entries = count_at(a_p, size);
-    // There are at most two arcs for each entry, so that below their sum fits.
-    if entries >= 1 << 63 {
-        return Err(Status::OutOfMemory);
-    }
     let mut next = Vec::with_capacity(alloc, size)?;
     let degrees = vec![in alloc; 0; size]?;
     let mut counts = Counts { degrees };
     let diagonals = walk(size, a_p, a_i, &mut next, &mut counts);
-    let sum = total(&counts.degrees);
+    let Some(sum) = total(&counts.degrees) else {
+        return Err(Status::OutOfMemory);
+    };
     info.n = size;
     info.nz = entries;
     info.nz_diag = diagonals;

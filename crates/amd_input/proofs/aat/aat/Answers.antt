@@ -1,4 +1,4 @@
-use Rattle.std.proofs.Common.{◌≡◌, ◌<◌, ◌^◌, ℕ, ℤ, List, map, length, get_or, arith, refl, sym, subst, pos, unsigned_abs}
+use Rattle.std.proofs.Common.{◌≡◌, ◌<◌, ℕ, ℤ, List, map, length, get_or, arith, refl, sym, subst, pos, unsigned_abs}
 use Rattle.std.specs.Int.{FitsUnsignedBits}
 use Rattle.std.proofs.lemmas.List.{length-map}
 use Rattle.amd_model.specs.Below.{sum_below}
@@ -8,7 +8,7 @@ use Rattle.amd_types.specs.Counts.{counts}
 use Rattle.amd_edges.proofs.Forms.{pointer_fits}
 use Rattle.amd_edges.specs.Visits.{AreCounts}
 use Rattle.amd_input.proofs.Counting.{zeros_of, counts_none}
-use Rattle.amd_input.proofs.PatternLemmas.{input_form, input_sorted, input_fits, degrees_are, figures_are, sum_fits, diagonal_within}
+use Rattle.amd_input.proofs.PatternLemmas.{input_form, input_sorted, input_fits, degrees_are, figures_are, diagonal_within}
 use Rattle.amd_input.proofs.aat.aat.Goals as goal
 
 pub known_count-size-requires : goal.known_count-size-requires
@@ -47,20 +47,6 @@ count_at-entries-requires g c =
           (pointer_fits n ap' ai form n (omega arith) (simp length-map (omega arith)));
     }
 
-pub total-sum-requires : goal.total-sum-requires
-total-sum-requires g c =
-    let n : ℕ = unsigned_abs (g.I.Number.value c.args.n) in
-    let ap' : List ℤ = map g.I.Number.value c.args.a_p.now in let ai : List ℤ = map g.I.Number.value c.args.a_i.now in
-    let size = c.known_count-size.ensures in
-    let numbers : List ℕ = c.walk-diagonals.new.visitor.degrees.items in
-    let held = subst (λ k. AreCounts (graph_of k ap' ai) ((graph_of k ap' ai).edge) numbers) size c.walk-diagonals.ensures.held in
-    record {
-      fits = subst (λ l. sum_below (length l) (λ k. get_or l k 0) < 2 ^ 64) (sym c.deref.ensures.value)
-          (sum_fits n ap' ai (input_form (g.I.Number.value c.args.n) ap' ai c.requires.form)
-          (input_sorted (g.I.Number.value c.args.n) ap' ai c.requires.sorted) numbers c.count_at-entries.result held
-          (subst (λ k. c.count_at-entries.result ≡ get_or (counts ap') k 0) size c.count_at-entries.ensures.count) c.if-entries.false);
-    }
-
 pub overflow_sub-info : goal.overflow_sub-info
 overflow_sub-info g c =
     let n : ℕ = unsigned_abs (g.I.Number.value c.args.n) in
@@ -78,8 +64,8 @@ returns g c =
     let size = c.known_count-size.ensures in
     let numbers : List ℕ = c.walk-diagonals.new.visitor.degrees.items in
     let held = subst (λ k. AreCounts (graph_of k ap' ai) ((graph_of k ap' ai).edge) numbers) size c.walk-diagonals.ensures.held in
-    let degrees = degrees_are n ap' ai numbers c.total-sum.result held
-    (subst (λ l. c.total-sum.result ≡ sum_below (length l) (λ k. get_or l k 0)) c.deref.ensures.value c.total-sum.ensures) in
+    let degrees = degrees_are n ap' ai numbers c.in-Some.sum held
+    (subst (λ l. c.in-Some.sum ≡ sum_below (length l) (λ k. get_or l k 0)) c.deref.ensures.value c.in-Some.ensures.1) in
     record {
       degrees = degrees;
       figures = figures_are n ap' ai (input_form (g.I.Number.value c.args.n) ap' ai c.requires.form)
