@@ -17,7 +17,7 @@ use amd_cases::matrix::Matrix;
 use amd_engine::amd_1::holds;
 use amd_engine::ended::list_rows;
 use amd_engine::fresh::fresh_lists;
-use amd_engine::running::run_fresh;
+use amd_engine::running::run;
 use amd_types::dense::dense_threshold;
 use amd_types::internal::{known_count, to_count};
 use amd_words::{Signed, Unsigned};
@@ -127,13 +127,35 @@ fn time_elimination<R: Runtime + Alloc<A = Global>, I: PrimInt, S: Signed, U: Un
     let threshold = dense_threshold(size, &control);
     let mut lists = fresh_lists(rt.alloc(), size)?;
     clock.end(rt, "lists");
-    let (iw, pe, len) = (&mut laid.iw, &mut laid.pe, &mut laid.len);
-    let (counts, links) = (&mut lists.counts, &mut lists.links);
-    run_fresh(
-        iw, pe, len, counts, links, laid.free, 2, &control, None, threshold,
+    run(
+        &mut laid.iw,
+        &mut laid.pe,
+        &mut lists.e_len,
+        &mut lists.nv,
+        &mut laid.len,
+        &mut lists.degree,
+        &mut lists.w,
+        &mut lists.head,
+        &mut lists.sides,
+        &mut lists.hash,
+        laid.free,
+        2,
+        &control,
+        None,
+        threshold,
     );
     clock.end(rt, "rounds");
-    list_rows(pe, counts, links, &mut lists.p, &mut lists.p_inv);
+    list_rows(
+        &mut laid.pe,
+        &mut lists.e_len,
+        &mut lists.nv,
+        &mut lists.degree,
+        &mut lists.w,
+        &mut lists.head,
+        &mut lists.hash,
+        &mut lists.p,
+        &mut lists.p_inv,
+    );
     clock.end(rt, "listing");
     Ok(lists.p)
 }

@@ -1,9 +1,7 @@
 -- The end of the engine in place: the lists that are left tell the last state of a run, and their listing is an answer.
-use Rattle.std.proofs.Common.{ℕ, ℤ, pos, negsuc, Bool, List, Option, ◌≡◌, ◌≤◌, ◌<◌, ◌∙◌, ◌++◌, ap, sym, subst, inl, inr, arith, length, map}
-use Rattle.std.proofs.Common.{take, drop}
-use Rattle.std.specs.Prelude.{replicate}
+use Rattle.std.proofs.Common.{ℕ, ℤ, pos, negsuc, Bool, List, Option, ◌≡◌, ◌<◌, ◌∙◌, ap, sym, subst, inl, inr, arith, length, map}
 use Rattle.std.proofs.lemmas.Bool.{cases_Bool, cond-true, cond-false}
-use Rattle.std.proofs.lemmas.List.{get_or-map, get_or-replicate, length-map, take_at}
+use Rattle.std.proofs.lemmas.List.{get_or-map, length-map}
 use Rattle.amd_model.specs.Below.{count_below}
 use Rattle.amd_model.specs.Graph.{Graph, degree}
 use Rattle.amd_model.specs.State.{State, is_element, in_block}
@@ -145,13 +143,6 @@ pub lays_same : (g : Graph) (lists : ℕ → List ℕ) (iw iw1 pe pe1 : List ℤ
 lays_same g lists iw iw1 pe pe1 len len1 lays b d e = subst (λ xs. LaysGraph g lists xs pe1 len1) b
     (subst (λ xs. LaysGraph g lists iw xs len1) d (subst (λ xs. LaysGraph g lists iw pe xs) e lays))
 
--- a list that a call wrote, lent again, is what the call left
-pub written : {A : Type 0} {lent : List A} {n : ℕ} (new items : List A) (len : ℕ) → len ≡ length items → length items ≡ n → length new ≡ n →
-    lent ≡ take len (new ++ drop (length new) items) → (lent ≡ new) × (length lent ≡ n)
-written new items len is long same value =
-    let whole = value ∙ take_at new (drop (length new) items) len (same ∙ sym (is ∙ long)) in
-    (whole, ap length whole ∙ same)
-
 -- ---- the two answers
 
 -- of figures that list a permutation each names a row
@@ -178,14 +169,6 @@ inverse_same n m p q p' q' inverse size a b = subst (λ k. AreInverse k p' q') s
     (subst (λ xs. AreInverse n xs q') (sym a) (subst (λ xs. AreInverse n p xs) (sym b) inverse))
 
 -- ---- the start
-
--- of lists with nothing in them no entry names a row
-pub no_heads : (n : ℕ) (head hash : List ℕ) → head ≡ replicate n n → hash ≡ replicate n n → (b : ℕ) → b < n →
-    (n ≤ num head b) × (n ≤ num hash b)
-no_heads n head hash a c b l =
-    let x : num head b ≡ n = ap (λ xs. num xs b) a ∙ get_or-replicate n b n 0 l in
-    let y : num hash b ≡ n = ap (λ xs. num xs b) c ∙ get_or-replicate n b n 0 l in
-    (omega (arith, x), omega (arith, y))
 
 -- the lists of a matrix are laid
 pub lays_pattern : (n : ℕ) (ap' ai : List ℤ) (degrees len : List ℕ) (iw pe : List ℤ) →

@@ -50,8 +50,17 @@ fn ask_for_most<A: Allocator>(alloc: A, n: usize, iwlen: usize) -> Result<(), Al
     Ok(())
 }
 
-/// Lays the lists and eliminates, in words of these widths.
-fn order_in<I: PrimInt, S: Signed, U: Unsigned, A: Allocator + Copy>(
+/// As `amd_1`, in words of these widths, and with a first flag of 2 or more: the result is the same with each.
+///
+/// The arguments and results have the shapes that `amd_1` says. Both widths hold `n + 2` and `iwlen`. `amd_1` calls it
+/// with flag 2, and tests with others, in the width that `holds` tells.
+///
+/// # Errors
+///
+/// `OutOfMemory` where a request was refused. What `info` then holds is not said.
+///
+/// Source: Amestoy, Davis and Duff 1996 and 2004.
+pub fn order_in<I: PrimInt, S: Signed, U: Unsigned, A: Allocator + Copy>(
     alloc: A,
     flag: usize,
     n: I,
@@ -96,61 +105,6 @@ fn order_in<I: PrimInt, S: Signed, U: Unsigned, A: Allocator + Copy>(
         info,
     )?;
     Ok((p, p_inv))
-}
-
-/// As `amd_1`, with a first flag of 2 or more: the result is the same with each. For tests.
-///
-/// The arguments and results have the shapes that `amd_1` says.
-///
-/// # Errors
-///
-/// `OutOfMemory` where a request was refused, or neither width of word holds the numbers, which is so only where
-/// `n + 2` exceeds `isize::MAX`: no memory holds the degrees of so many rows.
-///
-/// Source: Amestoy, Davis and Duff 1996 and 2004.
-pub fn amd_1_from<I: PrimInt, A: Allocator + Copy>(
-    alloc: A,
-    flag: usize,
-    n: I,
-    a_p: &[I],
-    a_i: &[I],
-    len: &mut [usize],
-    iwlen: usize,
-    control: &Control,
-    hold: Option<&[bool]>,
-    info: &mut Info,
-) -> Result<(Vec<I, A>, Vec<I, A>), Status>
-    requires fits { I.fits (I.value n) }
-    requires size { I.value n ≡ pos (length len.old) }
-    requires some { 0 < length len.old }
-    requires form { IsColumnForm (pos (length len.old)) (length len.old) (map I.value a_p.now) (map I.value a_i.now) }
-    requires sorted { IsSorted (length len.old) (map I.value a_p.now) (map I.value a_i.now) }
-    requires degrees { AreCounts (graph_of (length len.old) (map I.value a_p.now) (map I.value a_i.now))
-        ((graph_of (length len.old) (map I.value a_p.now) (map I.value a_i.now)).edge) len.old }
-    requires room { (start_of (graph_of (length len.old) (map I.value a_p.now) (map I.value a_i.now)) (length len.old)
-        + length len.old ≤ iwlen) × (iwlen < 2 ^ 63) }
-    requires flag { 2 ≤ flag }
-    requires marks { HasMarks (option_copied hold) (length len.old) }
-    ensures orders { IfOk result (λ a. IsEngineAnswer (option_copied hold.entry) (length len.old) control.now.dense
-        control.now.aggressive (map I.value a_p.now) (map I.value a_i.now) (map I.value a.0.items)
-        (map I.value a.1.items) info.old info.new) }
-    ensures compactions { OnOk result (info.new.n_cmp_a ≤ length len.old) }
-    ensures refused { IfErr result (λ e. e ≡ Status.OutOfMemory) }
-    ensures degrees { len.new ≡ len.old }
-{
-    let size = len.len();
-    ask_for_most(alloc, size, iwlen)?;
-    if holds::<i32, u32>(size, iwlen, flag) {
-        return order_in::<I, i32, u32, A>(
-            alloc, flag, n, a_p, a_i, len, iwlen, control, hold, info,
-        );
-    }
-    if holds::<isize, usize>(size, iwlen, flag) {
-        return order_in::<I, isize, usize, A>(
-            alloc, flag, n, a_p, a_i, len, iwlen, control, hold, info,
-        );
-    }
-    Err(Status::OutOfMemory)
 }
 
 /// Orders the rows of a matrix with sorted columns by elimination in a workspace of `iwlen` words.
@@ -198,5 +152,15 @@ pub fn amd_1<I: PrimInt, A: Allocator + Copy>(
     ensures refused { IfErr result (λ e. e ≡ Status.OutOfMemory) }
     ensures degrees { len.new ≡ len.old }
 {
-    amd_1_from(alloc, 2, n, a_p, a_i, len, iwlen, control, hold, info)
+    let size = len.len();
+    ask_for_most(alloc, size, iwlen)?;
+    if holds::<i32, u32>(size, iwlen, 2) {
+        return order_in::<I, i32, u32, A>(alloc, 2, n, a_p, a_i, len, iwlen, control, hold, info);
+    }
+    if holds::<isize, usize>(size, iwlen, 2) {
+        return order_in::<I, isize, usize, A>(
+            alloc, 2, n, a_p, a_i, len, iwlen, control, hold, info,
+        );
+    }
+    Err(Status::OutOfMemory)
 }

@@ -11,7 +11,7 @@ ghost use Rattle.amd_engine.specs.InPlace.{AnswersInPlace, LaysGraph};
 
 use crate::ended::list_rows;
 use crate::fresh::fresh_lists;
-use crate::running::{Told, run_fresh};
+use crate::running::{Told, run};
 use amd_types::amd::{Control, Info, Status};
 use amd_types::dense::dense_threshold;
 use amd_words::{Cell, Signed, Unsigned, Word};
@@ -74,14 +74,36 @@ pub fn amd_2_from<I: PrimInt, S: Signed, U: Unsigned, A: Allocator + Copy>(
 {
     let threshold = dense_threshold(len.len(), control);
     let mut lists = fresh_lists(alloc, len.len())?;
-    let (counts, links) = (&mut lists.counts, &mut lists.links);
-    let told = run_fresh(
-        iw, pe, len, counts, links, pfree, flag, control, hold, threshold,
+    let told = run(
+        iw,
+        pe,
+        &mut lists.e_len,
+        &mut lists.nv,
+        len,
+        &mut lists.degree,
+        &mut lists.w,
+        &mut lists.head,
+        &mut lists.sides,
+        &mut lists.hash,
+        pfree,
+        flag,
+        control,
+        hold,
+        threshold,
     );
     tell(&told, info);
-    list_rows(pe, counts, links, &mut lists.p, &mut lists.p_inv);
-    let counts = lists.counts;
-    Ok((counts.nv, lists.p_inv, lists.p, counts.e_len))
+    list_rows(
+        pe,
+        &mut lists.e_len,
+        &mut lists.nv,
+        &mut lists.degree,
+        &mut lists.w,
+        &mut lists.head,
+        &mut lists.hash,
+        &mut lists.p,
+        &mut lists.p_inv,
+    );
+    Ok((lists.nv, lists.p_inv, lists.p, lists.e_len))
 }
 
 /// Eliminates the rows of a workspace in which the lists of the neighbours are laid, and lists them.

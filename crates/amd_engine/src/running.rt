@@ -1,19 +1,15 @@
 // The run of the engine in place: its start, and its rounds until no row is live. It asks for no memory. Source:
 // Amestoy, Davis and Duff 1996 and 2004. Called by `amd_2`.
 
-ghost use Rattle.std.specs.Prelude.{◌≡◌, ◌≤◌, ◌+◌, ℕ, Bool, List, length};
+ghost use Rattle.std.specs.Prelude.{◌≡◌, ◌≤◌, ◌+◌, ℕ, List, length};
 ghost use Rattle.std.specs.Option.{option_copied};
 ghost use Rattle.amd_words.specs.Sides.{nexts, lasts};
 ghost use Rattle.amd_model.specs.Graph.{Graph};
 ghost use Rattle.amd_model.specs.Input.Held.{HasMarks};
-ghost use Rattle.amd_model.specs.State.{State};
-ghost use Rattle.amd_model.specs.Quotient.{QuotientGraph};
-ghost use Rattle.amd_rounds.specs.Keeps.{Stands};
 ghost use Rattle.amd_workspace.specs.Laying.{IsLaidOut};
-ghost use Rattle.amd_engine.specs.InPlace.{AreEmpty, AreFresh, AreOver, EndsIn, LaysGraph, RunsInPlace};
-ghost use Rattle.amd_engine.specs.InPlace.{at_start, first_sums};
+ghost use Rattle.amd_engine.specs.InPlace.{AreEmpty, AreOver, LaysGraph, RunsInPlace};
+ghost use Rattle.amd_engine.specs.InPlace.{first_sums};
 
-use crate::fresh::{Counts, Links};
 use amd_rounds::round::eliminate;
 use amd_rounds::work::Work;
 use amd_types::amd::Control;
@@ -21,7 +17,6 @@ use amd_types::figures::Figures;
 use amd_words::sides::Sides;
 use amd_words::{Cell, Signed, Unsigned, Word};
 use amd_workspace::starting::begin;
-use std::alloc::Allocator;
 
 /// What a run tells at its end.
 #[derive(Drop)]
@@ -48,66 +43,6 @@ fn first_figures(n_dense: usize) -> Figures
     sums
 }
 
-/// Eliminates in a workspace that has begun, until no row is live.
-fn run_rounds<S: Signed, U: Unsigned>(
-    iw: &mut [Word<S>],
-    pe: &mut [Word<S>],
-    e_len: &mut [Word<S>],
-    nv: &mut [Word<S>],
-    len: &mut [Cell<U>],
-    degree: &mut [Cell<U>],
-    w: &mut [Cell<U>],
-    head: &mut [Cell<U>],
-    sides: &mut [Sides<U>],
-    hash: &mut [Cell<U>],
-    free: usize,
-    live: usize,
-    flag: usize,
-    n_dense: usize,
-    control: &Control,
-) -> Told
-    requires words { (length iw.old ≤ S.MOST) × (length nv.old + 2 ≤ S.MOST) }
-    requires figures { (length iw.old ≤ U.MOST) × (length nv.old + 2 ≤ U.MOST) }
-    requires stands { (g : Graph) × (dense : ℕ → Bool) × (nzaat : ℕ) × (t : QuotientGraph) × (s : State) ×
-        Stands g dense nzaat (at_start iw.old pe.old e_len.old nv.old len.old degree.old w.old head.old
-        (nexts sides.old) (lasts sides.old) hash.old free live flag n_dense) t s }
-    ensures ends { EndsIn control.now.aggressive (at_start iw.old pe.old e_len.old nv.old len.old degree.old w.old
-        head.old (nexts sides.old) (lasts sides.old) hash.old free live flag n_dense) pe.new e_len.new nv.new degree.new
-        result.n_dense result.figures }
-    ensures packs { result.n_cmp_a ≤ length nv.old }
-    ensures words { (length pe.new ≡ length pe.old) × (length e_len.new ≡ length e_len.old) ×
-        (length nv.new ≡ length nv.old) × (length degree.new ≡ length degree.old) }
-    ensures links { (length head.new ≡ length head.old) × (length (nexts sides.new) ≡ length (nexts sides.old)) ×
-        (length (lasts sides.new) ≡ length (lasts sides.old)) × (length hash.new ≡ length hash.old) }
-{
-    let mut work = Work {
-        iw,
-        pe,
-        e_len,
-        nv,
-        len,
-        degree,
-        w,
-        head,
-        sides,
-        hash,
-        free,
-        live,
-        least: 0,
-        flag,
-        most: 0,
-        n_cmp_a: 0,
-        n_dense,
-        figures: first_figures(n_dense),
-    };
-    eliminate(&mut work, control);
-    Told {
-        n_dense: work.n_dense,
-        n_cmp_a: work.n_cmp_a,
-        figures: work.figures,
-    }
-}
-
 /// Starts the elimination of a workspace that is laid, and eliminates until no row is live.
 ///
 /// `iw` is the workspace. The other lists have `n` places each, one for each row. The list of row `i` has `len[i]`
@@ -117,8 +52,9 @@ fn run_rounds<S: Signed, U: Unsigned>(
 /// more.
 ///
 /// The rows marked in `hold`, which has one mark for each row where it is given, and those of a degree above
-/// `threshold` are held last. All lists keep their lengths; the contract says so of all but `iw`, `len` and `w`. What
-/// the elimination left is in `pe`, `e_len`, `nv` and `degree`. The workspace was compacted at most `n` times.
+/// `threshold` are held last. All lists keep their lengths; the contract says so of all but `iw`, `len` and `sides`.
+/// What the elimination left is in `pe`, `e_len`, `nv` and `degree`, which `list_rows` can list. The workspace was
+/// compacted at most `n` times.
 ///
 /// Source: Amestoy, Davis and Duff 1996 and 2004.
 pub fn run<S: Signed, U: Unsigned>(
@@ -150,66 +86,33 @@ pub fn run<S: Signed, U: Unsigned>(
     ensures runs { RunsInPlace (option_copied hold.entry) threshold control.now.aggressive iw.old pe.old len.old
         result.n_dense result.figures pe.new e_len.new nv.new degree.new }
     ensures packs { result.n_cmp_a ≤ length len.old }
-    ensures lengths { (length pe.new ≡ length len.old) × (length e_len.new ≡ length len.old) ×
-        (length nv.new ≡ length len.old) × (length degree.new ≡ length len.old) }
-    ensures links { (length head.new ≡ length len.old) × (length (nexts sides.new) ≡ length len.old) ×
-        (length (lasts sides.new) ≡ length len.old) × (length hash.new ≡ length len.old) }
+    ensures over { AreOver (length len.old) pe.new e_len.new nv.new degree.new w.new head.new hash.new }
 {
     let (live, n_dense) = begin(pe, e_len, nv, len, degree, w, head, sides, hold, threshold);
-    run_rounds(
-        iw, pe, e_len, nv, len, degree, w, head, sides, hash, free, live, flag, n_dense, control,
-    )
-}
-
-/// As `run`, over fresh lists, which have `n` places each; `list_rows` can list what it leaves.
-///
-/// The lists in `counts` and `links` are as `fresh_counts` and `fresh_links` make them. `iw`, `pe`, `len`, `free`,
-/// `flag`, `hold` and the widths are as in `run`.
-///
-/// Source: Amestoy, Davis and Duff 1996 and 2004.
-pub fn run_fresh<S: Signed, U: Unsigned, A: Allocator>(
-    iw: &mut [Word<S>],
-    pe: &mut [Word<S>],
-    len: &mut [Cell<U>],
-    counts: &mut Counts<S, U, A>,
-    links: &mut Links<U, A>,
-    free: usize,
-    flag: usize,
-    control: &Control,
-    hold: Option<&[bool]>,
-    threshold: usize,
-) -> Told
-    requires fresh { AreFresh (length len.old) counts.old.e_len.items counts.old.nv.items counts.old.degree.items
-        counts.old.w.items links.old.head.items (nexts links.old.sides.items) (lasts links.old.sides.items)
-        links.old.hash.items }
-    requires narrow { (length iw.old ≤ S.MOST) × (length iw.old ≤ U.MOST) × (length len.old + 2 ≤ S.MOST) ×
-        (length len.old + 2 ≤ U.MOST) }
-    requires marks { HasMarks (option_copied hold) (length len.old) }
-    requires laid { IsLaidOut (length len.old) iw.old pe.old len.old free }
-    requires room { free + length len.old ≤ length iw.old }
-    requires flag { 2 ≤ flag }
-    requires graph { (g : Graph) × (lists : ℕ → List ℕ) × LaysGraph g lists iw.old pe.old len.old }
-    ensures runs { RunsInPlace (option_copied hold.entry) threshold control.now.aggressive iw.old pe.old len.old
-        result.n_dense result.figures pe.new counts.new.e_len.items counts.new.nv.items counts.new.degree.items }
-    ensures packs { result.n_cmp_a ≤ length len.old }
-    ensures over { AreOver (length len.old) pe.new counts.new.e_len.items counts.new.nv.items
-        counts.new.degree.items counts.new.w.items links.new.head.items links.new.hash.items }
-{
-    run(
+    let mut work = Work {
         iw,
         pe,
-        &mut counts.e_len,
-        &mut counts.nv,
+        e_len,
+        nv,
         len,
-        &mut counts.degree,
-        &mut counts.w,
-        &mut links.head,
-        &mut links.sides,
-        &mut links.hash,
+        degree,
+        w,
+        head,
+        sides,
+        hash,
         free,
+        live,
+        least: 0,
         flag,
-        control,
-        hold,
-        threshold,
-    )
+        most: 0,
+        n_cmp_a: 0,
+        n_dense,
+        figures: first_figures(n_dense),
+    };
+    eliminate(&mut work, control);
+    Told {
+        n_dense: work.n_dense,
+        n_cmp_a: work.n_cmp_a,
+        figures: work.figures,
+    }
 }

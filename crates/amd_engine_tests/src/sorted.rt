@@ -9,7 +9,7 @@ ghost use Rattle.amd_model.specs.Input.Held.{HasMarks};
 ghost use Rattle.amd_model.specs.Input.Pattern.{graph_of};
 ghost use Rattle.amd_edges.specs.Visits.{AreCounts, start_of};
 
-use amd_engine::amd_1::{amd_1, amd_1_from};
+use amd_engine::amd_1::{amd_1, holds, order_in};
 use amd_input::aat::aat;
 use amd_input::valid::valid;
 use amd_plain::plain::plain_1;
@@ -137,15 +137,30 @@ pub fn order_in_place<A: Allocator + Copy>(
 ) -> Result<(Vec<i64, A>, Vec<i64, A>), Status> {
     let (n, a_p, a_i) = (matrix.n, matrix.a_p, matrix.a_i);
     assert!(rt; flag >= 2);
-    let (mut degrees, room) = degrees_of(rt, alloc, n, a_p, a_i, more, info);
+    let (degrees, room) = degrees_of(rt, alloc, n, a_p, a_i, more, info);
     check_marks(rt, matrix.hold, degrees.len());
-    amd_1_from(
+    if holds::<i32, u32>(degrees.len(), room, flag) {
+        return order_in::<i64, i32, u32, A>(
+            heap,
+            flag,
+            n,
+            a_p,
+            a_i,
+            &degrees,
+            room,
+            control,
+            matrix.hold,
+            info,
+        );
+    }
+    assert!(rt; holds::<isize, usize>(degrees.len(), room, flag));
+    order_in::<i64, isize, usize, A>(
         heap,
         flag,
         n,
         a_p,
         a_i,
-        &mut degrees,
+        &degrees,
         room,
         control,
         matrix.hold,

@@ -1,19 +1,15 @@
-use Rattle.std.proofs.Common.{arith, ℕ, ℤ, List, pos, map, length, ◌≡◌, ◌<◌, ◌∙◌, subst}
+use Rattle.std.proofs.Common.{arith, ℕ, ℤ, List, pos, map, length, take, drop, refl, ap, sym, subst, ◌≡◌, ◌<◌, ◌++◌, ◌∙◌}
 use Rattle.std.specs.Prelude.{◌≤ℤ◌}
 use Rattle.std.proofs.lemmas.Int.{ints}
+use Rattle.std.proofs.lemmas.List.{take_at}
 use Rattle.std.specs.Option.{option_copied}
 use Rattle.amd_types.specs.Permutations.{AreInverse}
-use Rattle.amd_workspace.specs.Ending.{EndsRows}
-use Rattle.amd_engine.proofs.EndingLaw.{answers}
+use Rattle.amd_engine.proofs.EndingLaw.{answers, ends_same}
 use Rattle.amd_engine.proofs.amd_2.amd_2_from.Goals as goal
-
-pub fresh_lists-requires : goal.fresh_lists-requires
-fresh_lists-requires g c =
-    let n = c.requires.narrow in let s = n.2 in let u = n.3 in record { narrow = (omega (arith, s), omega (arith, u)) }
 
 pub list_rows-requires-clause-fits : goal.list_rows-requires-clause-fits
 list_rows-requires-clause-fits g c = λ k l.
-    let rows = c.run_fresh-told.ensures.over.words.0 in
+    let rows = c.run-told.ensures.over.words.0 in
     let small : k < length c.args.len.now = omega (arith, l, rows) in
     let size = c.requires.size in
     let low : pos 0 ≤ℤ pos k = omega (arith, ints) in
@@ -25,16 +21,34 @@ pub returns-clause-orders : goal.returns-clause-orders
 returns-clause-orders g c = λ graph lists lays.
     let n : ℕ = length c.args.len.now in
     let value = g.I.Number.value in
-    let told = c.run_fresh-told in
+    let l = c.in_ok-lists.lists in
+    let fresh = c.in_ok-lists.ensures.fresh in
+    let told = c.run-told in
+    let over = told.ensures.over in
     let listed = c.list_rows.ensures in
-    let rows : length told.new.pe ≡ n = told.ensures.over.words.0 in
-    let ends = subst (λ k. EndsRows k told.new.pe told.new.counts.e_len.items told.new.counts.degree.items listed.link
-    c.list_rows.new.counts.e_len.items c.list_rows.new.counts.nv.items) rows listed.ends in
-    let p : List ℤ = map value c.list_rows.new.p.items in let q : List ℤ = map value c.list_rows.new.p_inv.items in
+    let new = c.list_rows.new in
+    let rows : length told.new.pe ≡ n = over.words.0 in
+    let e_len_told = take_at told.new.e_len (drop (length told.new.e_len) l.e_len.items) l.e_len.len
+    (over.words.1 ∙ sym (l.e_len.ok.0 ∙ fresh.words.0)) in
+    let degree_told = take_at told.new.degree (drop (length told.new.degree) l.degree.items) l.degree.len
+    (over.words.3 ∙ sym (l.degree.ok.0 ∙ fresh.figures.0)) in
+    let e_len_is = take_at new.e_len
+    (drop (length new.e_len) (take l.e_len.len (told.new.e_len ++ drop (length told.new.e_len) l.e_len.items))) l.e_len.len
+    (listed.long.1 ∙ rows ∙ sym (l.e_len.ok.0 ∙ fresh.words.0)) in
+    let nv_is = take_at new.nv
+    (drop (length new.nv) (take l.nv.len (told.new.nv ++ drop (length told.new.nv) l.nv.items))) l.nv.len
+    (listed.long.2 ∙ rows ∙ sym (l.nv.ok.0 ∙ fresh.words.1)) in
+    let p_is = take_at new.p (drop (length new.p) l.p.items) l.p.len
+    (c.list_rows.auto.p ∙ ap length c.deref_mut-14.ensures.value ∙ sym l.p.ok.0) in
+    let q_is = take_at new.p_inv (drop (length new.p_inv) l.p_inv.items) l.p_inv.len
+    (c.list_rows.auto.p_inv ∙ ap length c.deref_mut-15.ensures.value ∙ sym l.p_inv.ok.0) in
+    let ends = ends_same (length told.new.pe) n told.new.pe c.deref_mut-8.result.now told.new.e_len c.deref_mut-10.result.now
+    told.new.degree listed.link new.e_len new.nv new.e_len new.nv listed.ends rows
+    (c.deref_mut-8.ensures.value ∙ e_len_told) (c.deref_mut-10.ensures.value ∙ degree_told) refl refl in
+    let p : List ℤ = map value new.p in let q : List ℤ = map value new.p_inv in
     let inverse = subst (λ k. AreInverse k p q) rows listed.inverse in
-    answers (option_copied c.args.hold) c.dense_threshold-threshold.result c.args.control.now.aggressive c.args.iw.now
-    c.args.pe.now c.args.len.now told.result.n_dense told.result.figures told.new.pe told.new.counts.e_len.items told.new.counts.nv.items
-    told.new.counts.degree.items told.ensures.runs listed.link c.list_rows.new.counts.e_len.items c.list_rows.new.counts.nv.items ends
-    (listed.long.0 ∙ rows) (listed.long.1 ∙ rows) (listed.long.2 ∙ rows) graph lists lays listed.rows listed.lists c.args.control.now.dense
-    c.requires.some c.dense_threshold-threshold.ensures p q listed.listed inverse told.result.n_cmp_a c.args.info.now
-    c.tell.new.info c.tell.ensures
+    rw (p_is, q_is, nv_is, e_len_is) (answers (option_copied c.args.hold) c.dense_threshold-threshold.result c.args.control.now.aggressive
+    c.args.iw.now c.args.pe.now c.args.len.now told.result.n_dense told.result.figures told.new.pe told.new.e_len told.new.nv
+    told.new.degree told.ensures.runs listed.link new.e_len new.nv ends (listed.long.0 ∙ rows) (listed.long.1 ∙ rows)
+    (listed.long.2 ∙ rows) graph lists lays listed.rows listed.lists c.args.control.now.dense c.requires.some
+    c.dense_threshold-threshold.ensures p q listed.listed inverse told.result.n_cmp_a c.args.info.now c.tell.new.info c.tell.ensures)

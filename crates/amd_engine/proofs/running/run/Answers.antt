@@ -1,46 +1,23 @@
-use Rattle.std.proofs.Common.{arith, length, refl, ◌∙◌}
+use Rattle.std.proofs.Common.{length, refl, sym, subst, ◌∙◌}
 use Rattle.std.specs.Option.{option_copied}
 use Rattle.amd_words.specs.Sides.{nexts, lasts}
 use Rattle.amd_model.specs.Input.Held.{is_held_last}
 use Rattle.amd_model.specs.Quotient.{start_quotient}
 use Rattle.amd_model.proofs.States.RunsExist.{first_state}
-use Rattle.amd_rounds.specs.Workspaces.{Workspace}
+use Rattle.amd_types.specs.declared.figures.Figures.{Figures}
+use Rattle.amd_rounds.specs.Workspaces.{Workspace, workspace_of}
+use Rattle.amd_rounds.specs.Keeps.{AreRounds}
 use Rattle.amd_workspace.specs.Starting.{Rows, held_in}
 use Rattle.amd_engine.specs.InPlace.{at_start}
 use Rattle.amd_engine.proofs.InPlaceLaw.{IsFresh, degrees_small, stands_first, ends_rounds}
+use Rattle.amd_engine.proofs.EndingLaw.{is_over}
 use Rattle.amd_engine.proofs.running.run.Goals as goal
-
-pub begin-live-requires-clause-words : goal.begin-live-requires-clause-words
-begin-live-requires-clause-words g c = let w = c.requires.empty.words in (c.requires.laid.starts_long, w.0, w.1)
-
-pub begin-live-requires-clause-figures : goal.begin-live-requires-clause-figures
-begin-live-requires-clause-figures g c = c.requires.empty.figures
-
-pub begin-live-requires-clause-links : goal.begin-live-requires-clause-links
-begin-live-requires-clause-links g c = let l = c.requires.empty.links in (l.0, l.1, l.2)
-
-pub begin-live-requires-clause-narrow : goal.begin-live-requires-clause-narrow
-begin-live-requires-clause-narrow g c = let w = c.requires.narrow in (w.2, omega (arith, w))
 
 pub begin-live-requires-clause-degrees : goal.begin-live-requires-clause-degrees
 begin-live-requires-clause-degrees g c = let w = c.requires.graph in degrees_small w.0 w.1 c.args.iw.now c.args.pe.now c.args.len.now w.2
 
-pub begin-live-requires-clause-heads : goal.begin-live-requires-clause-heads
-begin-live-requires-clause-heads g c = λ b l. (c.requires.empty.heads b l).0
-
-pub begin-live-requires-clause-marks : goal.begin-live-requires-clause-marks
-begin-live-requires-clause-marks g c = c.requires.marks
-
-pub run_rounds-requires-clause-words : goal.run_rounds-requires-clause-words
-run_rounds-requires-clause-words g c =
-    let w = c.requires.narrow in let l = c.begin-live.ensures.begins.long.nv in (w.0, omega (arith, w, l))
-
-pub run_rounds-requires-clause-figures : goal.run_rounds-requires-clause-figures
-run_rounds-requires-clause-figures g c =
-    let w = c.requires.narrow in let l = c.begin-live.ensures.begins.long.nv in (w.1, omega (arith, w, l))
-
-pub run_rounds-requires-clause-stands : goal.run_rounds-requires-clause-stands
-run_rounds-requires-clause-stands g c =
+pub eliminate-requires-clause-stands : goal.eliminate-requires-clause-stands
+eliminate-requires-clause-stands g c =
     let a = c.args in let r = c.requires in let b = c.begin-live in let e = b.ensures in let w = r.graph in
     let p : Rows = record {
       pe = a.pe.now;
@@ -64,7 +41,7 @@ run_rounds-requires-clause-stands g c =
       packs = refl;
       two = r.flag;
       room = r.room;
-    } in (
+    } in rw c.first_figures.ensures (
       w.0,
       is_held_last (option_copied a.hold) w.0 a.threshold,
       a.free,
@@ -99,17 +76,37 @@ returns-clause-runs g c = λ gr lists lays.
       two = r.flag;
       room = r.room;
     } in
-    ends_rounds (option_copied a.hold) a.threshold p v e.begins fresh r.laid gr lists lays a.control.now.aggressive c.run_rounds.new.pe
-    c.run_rounds.new.e_len c.run_rounds.new.nv c.run_rounds.new.degree c.run_rounds.result.n_dense c.run_rounds.result.figures
-    c.run_rounds.ensures.ends
+    let el = c.eliminate.ensures in
+    let before : Figures → Workspace = λ f. record v { figures = f } in
+    ends_rounds (option_copied a.hold) a.threshold p v e.begins fresh r.laid gr lists lays a.control.now.aggressive c.pe-2-1.given.0
+    c.e_len-2-1.given.0 c.nv-2-1.given.0 c.degree-2-1.given.0 c.eliminate.new.work.n_dense c.eliminate.new.work.figures
+    (record {
+      after = workspace_of c.eliminate.new.work;
+      rounds = subst (λ f. AreRounds a.control.now.aggressive (before f) (workspace_of c.eliminate.new.work)) c.first_figures.ensures
+          el.rounds;
+      over = el.end;
+      pe_is = sym (c.pe-2-1.given.1.1 (sym el.loans.0));
+      e_len_is = sym (c.e_len-2-1.given.1.1 (sym el.loans.1));
+      nv_is = sym (c.nv-2-1.given.1.1 (sym el.loans.2));
+      degree_is = sym (c.degree-2-1.given.1.1 (sym el.loans.3));
+      dense_is = refl;
+      figures_are = refl;
+    })
 
-pub returns-clause-packs : goal.returns-clause-packs
-returns-clause-packs g c = let p = c.run_rounds.ensures.packs in let l = c.begin-live.ensures.begins.long.nv in omega (arith, p, l)
-
-pub returns-clause-lengths : goal.returns-clause-lengths
-returns-clause-lengths g c = let w = c.run_rounds.ensures.words in let l = c.begin-live.ensures.begins.long in
-    (w.0 ∙ l.pe, w.1 ∙ l.e_len, w.2 ∙ l.nv, w.3 ∙ l.degree)
-
-pub returns-clause-links : goal.returns-clause-links
-returns-clause-links g c = let w = c.run_rounds.ensures.links in let l = c.begin-live.ensures.lengths in
-    (w.0 ∙ l.0, w.1 ∙ l.1, w.2 ∙ l.2, w.3 ∙ c.requires.empty.links.3)
+pub returns-clause-over : goal.returns-clause-over
+returns-clause-over g c =
+    let a = c.args in let w = c.requires.graph in let long = c.begin-live.ensures.begins.long in
+    let links = c.begin-live.ensures.lengths in record {
+      words = (
+        c.pe-2-1.given.1.0 ∙ long.pe,
+        c.e_len-2-1.given.1.0 ∙ long.e_len,
+        c.nv-2-1.given.1.0 ∙ long.nv,
+        c.degree-2-1.given.1.0 ∙ long.degree,
+      );
+      counters = c.w-2-1.given.1.0 ∙ long.w;
+      links = (c.head-2-1.given.1.0 ∙ links.0, c.hash-1.given.1.0 ∙ c.requires.empty.links.3);
+      ends = λ link f_size blocks ends link_long f_size_long blocks_long. is_over (option_copied a.hold) a.threshold
+          a.control.now.aggressive a.iw.now a.pe.now a.len.now c.eliminate.new.work.n_dense c.eliminate.new.work.figures
+          c.pe-2-1.given.0 c.e_len-2-1.given.0 c.nv-2-1.given.0 c.degree-2-1.given.0 (returns-clause-runs g c) link f_size blocks ends
+          link_long f_size_long blocks_long w.0 w.1 w.2;
+    }

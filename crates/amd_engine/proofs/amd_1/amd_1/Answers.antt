@@ -1,5 +1,5 @@
 use Rattle.std.proofs.Common.{arith, refl}
-use Rattle.amd_engine.proofs.amd_1.amd_1_from.Goals as goal
+use Rattle.amd_engine.proofs.amd_1.amd_1.Goals as goal
 
 pub holds-requires : goal.holds-requires
 holds-requires g c = let r = c.requires.room in let a = r.0 in let b = r.1 in omega (arith, a, b)
@@ -29,7 +29,7 @@ pub order_in-requires-clause-narrow : goal.order_in-requires-clause-narrow
 order_in-requires-clause-narrow g c = let a = c.holds.ensures.0 c.if-holds.true in (a.0, a.1, a.2, a.3)
 
 pub order_in-requires-clause-flag : goal.order_in-requires-clause-flag
-order_in-requires-clause-flag g c = c.requires.flag
+order_in-requires-clause-flag g c = omega arith
 
 pub order_in-requires-clause-marks : goal.order_in-requires-clause-marks
 order_in-requires-clause-marks g c = c.requires.marks
@@ -74,7 +74,7 @@ pub order_in-requires-then-holds-2-clause-narrow : goal.order_in-requires-then-h
 order_in-requires-then-holds-2-clause-narrow g c = let a = c.holds-2.ensures.0 c.if-holds-2.true in (a.0, a.1, a.2, a.3)
 
 pub order_in-requires-then-holds-2-clause-flag : goal.order_in-requires-then-holds-2-clause-flag
-order_in-requires-then-holds-2-clause-flag g c = c.requires.flag
+order_in-requires-then-holds-2-clause-flag g c = omega arith
 
 pub order_in-requires-then-holds-2-clause-marks : goal.order_in-requires-then-holds-2-clause-marks
 order_in-requires-then-holds-2-clause-marks g c = c.requires.marks
