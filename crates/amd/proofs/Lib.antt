@@ -1,4 +1,5 @@
 pub mod SamePairs
 pub mod Orderings
 pub mod OneAnswer
+pub mod OrderedColumns
 pub mod Ready

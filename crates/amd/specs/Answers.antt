@@ -127,6 +127,13 @@ IsRefusalHolding hold n ap ai OutOfMemory = (n ≢ pos 0) × IsInputHolding hold
 IsRefusalHolding hold n ap ai OK = ⊥
 IsRefusalHolding hold n ap ai OkButJumbled = ⊥
 
+-- with what an input of this status is refused, where it is: memory, unless it is no column form
+abbrev pub refusal_of : Status → Status
+refusal_of OK = OutOfMemory
+refusal_of Invalid = Invalid
+refusal_of OkButJumbled = OutOfMemory
+refusal_of OutOfMemory = OutOfMemory
+
 -- a refusal where no row is marked
 abbrev pub IsRefusal : ℤ → List ℤ → List ℤ → Status → Type 0
 IsRefusal n ap ai e = IsRefusalHolding None n ap ai e

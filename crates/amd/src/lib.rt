@@ -7,13 +7,14 @@
 
 pub mod laws;
 
-ghost use Rattle.std.specs.Prelude.{◌≡◌, ◌≢◌, pos, ◌+◌, ◌/◌, ◌^◌, ◌<◌, Some, map, unsigned_abs, IfOk, IfErr};
+ghost use Rattle.std.specs.Prelude.{◌≡◌, ◌≢◌, pos, ◌+◌, ◌/◌, ◌^◌, ◌<◌, None, Some, map, unsigned_abs, IfOk, IfErr};
+ghost use Rattle.std.specs.Prelude.{IsSomeAnd, MatchOption};
 ghost use Rattle.std.specs.Option.{SomeIff, option_copied};
-ghost use Rattle.amd_model.specs.Input.Columns.{IsInput, IsSortedInput};
+ghost use Rattle.amd_model.specs.Input.Columns.{IsInput};
 ghost use Rattle.amd_model.specs.Input.Held.{HasMarks};
-ghost use Rattle.amd_model.specs.Input.Pattern.{is_pair};
+ghost use Rattle.amd_input.specs.Transposes.{IsCleanTranspose};
 ghost use Rattle.amd_types.specs.Statuses.{IsStatusOf};
-ghost use Rattle.amd.specs.Answers.{IsOrdering, IsOrderingHolding, IsRefusal, IsRefusalHolding, OrdersMatrix};
+ghost use Rattle.amd.specs.Answers.{IsOrdering, IsOrderingHolding, IsRefusal, IsRefusalHolding, refusal_of};
 
 use amd_engine::amd_1::amd_1;
 use amd_input::aat::aat;
@@ -22,7 +23,7 @@ use amd_input::valid::valid;
 pub use amd_input::{aat, preprocess, valid};
 pub use amd_texts::{control, info};
 pub use amd_types::amd::{Control, Info, Status};
-use amd_types::internal::{known_count, to_count};
+use amd_types::internal::to_count;
 use num_traits::PrimInt;
 use std::alloc::Allocator;
 
@@ -33,63 +34,6 @@ fn workspace_words(nzaat: usize, n: usize) -> Option<usize>
 {
     let words = nzaat.checked_add(nzaat / 5)?.checked_add(n)?;
     if words < 1 << 63 { Some(words) } else { None }
-}
-
-/// Orders a matrix whose columns are sorted.
-fn order_sorted<I: PrimInt, A: Allocator + Copy>(
-    alloc: A,
-    n: I,
-    a_p: &[I],
-    a_i: &[I],
-    control: &Control,
-    hold: Option<&[bool]>,
-) -> Result<(Vec<I, A>, Vec<I, A>, Info), Status>
-    requires fits { I.fits (I.value n) }
-    requires some { I.value n ≢ pos 0 }
-    requires marks { HasMarks (option_copied hold) (unsigned_abs (I.value n)) }
-    requires form { IsInput (I.value n) (I.value n) (map I.value a_p.now) (map I.value a_i.now) }
-    requires sorted { IsSortedInput (I.value n) (map I.value a_p.now) (map I.value a_i.now) }
-    ensures orders { IfOk result (λ a. OrdersMatrix (option_copied hold.entry) (unsigned_abs (I.value n))
-        control.now.dense control.now.aggressive (is_pair (unsigned_abs (I.value n)) (map I.value a_p.now)
-        (map I.value a_i.now)) (map I.value a_p.now) (map I.value a_i.now) (map I.value a.0.items)
-        (map I.value a.1.items) a.2) }
-    ensures status { IfOk result (λ a. a.2.status ≡ Status.OK) }
-    ensures refused { IfErr result (λ e. e ≡ Status.OutOfMemory) }
-{
-    let count = known_count(n);
-    let mut info = Info::new(count);
-    let (nzaat, mut len) = aat(alloc, n, a_p, a_i, &mut info)?;
-    let Some(room) = workspace_words(nzaat, count) else {
-        return Err(Status::OutOfMemory);
-    };
-    let (p, p_inv) = amd_1(alloc, n, a_p, a_i, &mut len, room, control, hold, &mut info)?;
-    Ok((p, p_inv, info))
-}
-
-/// Orders a jumbled matrix, by its transpose with sorted columns, which has the same edges.
-fn order_jumbled<I: PrimInt, A: Allocator + Copy>(
-    alloc: A,
-    n: I,
-    a_p: &[I],
-    a_i: &[I],
-    control: &Control,
-    hold: Option<&[bool]>,
-) -> Result<(Vec<I, A>, Vec<I, A>, Info), Status>
-    requires fits { I.fits (I.value n) }
-    requires some { I.value n ≢ pos 0 }
-    requires marks { HasMarks (option_copied hold) (unsigned_abs (I.value n)) }
-    requires form { IsInput (I.value n) (I.value n) (map I.value a_p.now) (map I.value a_i.now) }
-    ensures orders { IfOk result (λ a. OrdersMatrix (option_copied hold.entry) (unsigned_abs (I.value n))
-        control.now.dense control.now.aggressive (λ i j. is_pair (unsigned_abs (I.value n)) (map I.value a_p.now)
-        (map I.value a_i.now) j i) (map I.value a_p.now) (map I.value a_i.now) (map I.value a.0.items)
-        (map I.value a.1.items) a.2) }
-    ensures status { IfOk result (λ a. a.2.status ≡ Status.OkButJumbled) }
-    ensures refused { IfErr result (λ e. e ≡ Status.OutOfMemory) }
-{
-    let (c_p, c_i) = preprocess(alloc, n, a_p, a_i)?;
-    let (p, p_inv, mut info) = order_sorted(alloc, n, &c_p, &c_i, control, hold)?;
-    info.status = Status::OkButJumbled;
-    Ok((p, p_inv, info))
 }
 
 /// The status of an input with marks of rows to hold last: that of the column form, but `Invalid` where there are marks
@@ -107,8 +51,55 @@ fn class_of<I: PrimInt>(n: I, count: usize, a_p: &[I], a_i: &[I], hold: Option<&
     }
 }
 
-/// Orders a matrix, with or without marks of rows to hold last.
-fn order_form<I: PrimInt, A: Allocator + Copy>(
+/// The transpose of a matrix with this status, by which it is ordered where it is jumbled; none where it is sorted.
+fn transpose_of<I: PrimInt, A: Allocator + Copy>(
+    alloc: A,
+    n: I,
+    a_p: &[I],
+    a_i: &[I],
+    status: &Status,
+) -> Result<Option<(Vec<I, A>, Vec<I, A>)>, Status>
+    requires fits { I.fits (I.value n) }
+    requires known { status.now ≢ Status.OutOfMemory }
+    requires form { status.now ≡ Status.OkButJumbled → IsInput (I.value n) (I.value n) (map I.value a_p.now)
+        (map I.value a_i.now) }
+    ensures sorted { status.now ≡ Status.OK → IfOk result (λ t. t ≡ None) }
+    ensures jumbled { status.now ≡ Status.OkButJumbled → IfOk result (λ t. IsSomeAnd t (λ c. IsCleanTranspose (I.value n)
+        (map I.value a_p.now) (map I.value a_i.now) (map I.value c.0.items) (map I.value c.1.items))) }
+    ensures valid { IfOk result (λ t. status.now ≢ Status.Invalid) }
+    ensures refused { IfErr result (λ e. e ≡ refusal_of status.now) }
+{
+    match status {
+        Status::OK => Ok(None),
+        Status::OkButJumbled => Ok(Some(preprocess(alloc, n, a_p, a_i)?)),
+        Status::Invalid => Err(Status::Invalid),
+        Status::OutOfMemory => unreachable!(),
+    }
+}
+
+/// The columns of the transpose where there is one, else those of the matrix.
+fn columns_of<'a, I: PrimInt, A: Allocator>(
+    transpose: &'a Option<(Vec<I, A>, Vec<I, A>)>,
+    a_p: &'a [I],
+    a_i: &'a [I],
+) -> (&'a [I], &'a [I])
+    ensures { MatchOption transpose.now ((result.0.now ≡ a_p.now) × (result.1.now ≡ a_i.now))
+        (λ c. (result.0.now ≡ c.0.items) × (result.1.now ≡ c.1.items)) }
+{
+    match transpose {
+        Some((c_p, c_i)) => (c_p, c_i),
+        None => (a_p, a_i),
+    }
+}
+
+/// Orders as [`order`] does, and where there are marks as [`order_holding`] does; both of them call it.
+///
+/// # Errors
+///
+/// Those of `order`, and with marks those of `order_holding`.
+///
+/// Source: AMD user guide; Amestoy, Davis and Duff 1996 and 2004.
+pub fn order_marked<I: PrimInt, A: Allocator + Copy>(
     alloc: A,
     n: I,
     a_p: &[I],
@@ -116,6 +107,7 @@ fn order_form<I: PrimInt, A: Allocator + Copy>(
     control: &Control,
     hold: Option<&[bool]>,
 ) -> Result<(Vec<I, A>, Vec<I, A>, Info), Status>
+    // A number of a primitive type is always in range.
     requires fits { I.fits (I.value n) }
     ensures ordering { IfOk result (λ a. IsOrderingHolding (option_copied hold.entry) (I.value n) control.now.dense
         control.now.aggressive (map I.value a_p.now) (map I.value a_i.now) (map I.value a.0.items)
@@ -129,12 +121,17 @@ fn order_form<I: PrimInt, A: Allocator + Copy>(
     if count == 0 {
         return Ok((Vec::new(alloc), Vec::new(alloc), Info::new(0)));
     }
-    match class_of(n, count, a_p, a_i, hold) {
-        Status::OK => order_sorted(alloc, n, a_p, a_i, control, hold),
-        Status::OkButJumbled => order_jumbled(alloc, n, a_p, a_i, control, hold),
-        Status::Invalid => Err(Status::Invalid),
-        Status::OutOfMemory => unreachable!(),
-    }
+    let status = class_of(n, count, a_p, a_i, hold);
+    let transpose = transpose_of(alloc, n, a_p, a_i, &status)?;
+    let (c_p, c_i) = columns_of(&transpose, a_p, a_i);
+    let mut info = Info::new(count);
+    let (nzaat, mut len) = aat(alloc, n, c_p, c_i, &mut info)?;
+    let Some(room) = workspace_words(nzaat, count) else {
+        return Err(Status::OutOfMemory);
+    };
+    let (p, p_inv) = amd_1(alloc, n, c_p, c_i, &mut len, room, control, hold, &mut info)?;
+    info.status = status;
+    Ok((p, p_inv, info))
 }
 
 /// Orders the rows of a square matrix by the pattern of `A + A'`; returns the permutation, its inverse, and the record.
@@ -158,7 +155,8 @@ fn order_form<I: PrimInt, A: Allocator + Copy>(
 ///
 /// `Invalid` exactly where `n` is not 0 and the input is no column form; no memory is asked before. `OutOfMemory`, only
 /// for a column form with `n` not 0, where an allocation was refused, or the workspace would have more than
-/// `isize::MAX` words.
+/// `isize::MAX` words. Two parts have one more refusal each, which no input of a primitive type reaches: `preprocess`
+/// where the type lacks a pointer of the transpose, and `amd_1` where `n + 2` exceeds `isize::MAX`.
 ///
 /// Source: AMD user guide; Amestoy, Davis and Duff 1996 and 2004.
 pub fn order<I: PrimInt, A: Allocator + Copy>(
@@ -174,7 +172,7 @@ pub fn order<I: PrimInt, A: Allocator + Copy>(
         (map I.value a_p.now) (map I.value a_i.now) (map I.value a.0.items) (map I.value a.1.items) a.2) }
     ensures refusal { IfErr result (λ e. IsRefusal (I.value n) (map I.value a_p.now) (map I.value a_i.now) e) }
 {
-    order_form(alloc, n, a_p, a_i, control, None)
+    order_marked(alloc, n, a_p, a_i, control, None)
 }
 
 /// Orders as [`order`] does, with the rows marked in `hold` held last beside the dense ones.
@@ -208,5 +206,5 @@ pub fn order_holding<I: PrimInt, A: Allocator + Copy>(
     ensures refusal { IfErr result (λ e. IsRefusalHolding (Some hold.now) (I.value n) (map I.value a_p.now)
         (map I.value a_i.now) e) }
 {
-    order_form(alloc, n, a_p, a_i, control, Some(hold))
+    order_marked(alloc, n, a_p, a_i, control, Some(hold))
 }

@@ -1,0 +1,129 @@
+-- The columns by which an input is ordered: its own where it is sorted, else those of its transpose. What an ordering by these
+-- columns is of the input, and with what an input is refused.
+use Rattle.std.proofs.Common.{ℕ, ℤ, List, Bool, pos, negsuc, ◌≡◌, ◌≢◌, refl, sym, ap, subst}
+use Rattle.std.specs.Prelude.{unsigned_abs, Option, None, Some, IsSomeAnd, MatchOption}
+use Rattle.amd_model.specs.Input.Columns.{IsInput, IsSortedInput}
+use Rattle.amd_model.specs.Input.Held.{HasMarks}
+use Rattle.amd_model.specs.Input.Pattern.{is_pair}
+use Rattle.amd_input.specs.Transposes.{IsCleanTranspose}
+use Rattle.amd_types.specs.Statuses.{IsStatusOf}
+use Rattle.amd_types.specs.declared.amd.Info.{Info}
+use Rattle.amd_types.specs.declared.amd.Status.{Status}
+use Rattle.amd_types.specs.declared.amd.Status.TheVariants.{OK, Invalid, OkButJumbled, OutOfMemory}
+use Rattle.amd.specs.Answers.{OrdersMatrix, IsInputHolding, IsOrderingHolding, IsRefusalHolding, ordered_pairs, refusal_of}
+use Rattle.amd.proofs.Orderings.{orders_turned}
+
+-- the columns by which an input of this status is ordered
+abbrev pub AreOrdered : Status → ℤ → List ℤ → List ℤ → List ℤ → List ℤ → Type 0
+AreOrdered OK z a_p a_i c_p c_i = (c_p ≡ a_p) × (c_i ≡ a_i)
+AreOrdered Invalid z a_p a_i c_p c_i = ⊥
+AreOrdered OkButJumbled z a_p a_i c_p c_i = IsCleanTranspose z a_p a_i c_p c_i
+AreOrdered OutOfMemory z a_p a_i c_p c_i = ⊥
+
+-- what is known of an input once it has a status
+pub record HasStatus (hold : Option (List Bool)) (z : ℤ) (a_p a_i : List ℤ) (status : Status) : Type 0 where
+  pub some : z ≢ pos 0
+  pub marks : status ≢ Invalid → HasMarks hold (unsigned_abs z)
+  pub is : HasMarks hold (unsigned_abs z) → IsStatusOf z z a_p a_i status
+
+-- what an input with marks has
+input_holding : (hold : Option (List Bool)) (z : ℤ) (a_p a_i : List ℤ) → IsInput z z a_p a_i → HasMarks hold (unsigned_abs z) →
+    IsInputHolding hold z a_p a_i
+input_holding None z a_p a_i form marks = form
+input_holding (Some xs) z a_p a_i form marks = (form, marks)
+
+pub holding_form : (hold : Option (List Bool)) (z : ℤ) (a_p a_i : List ℤ) → IsInputHolding hold z a_p a_i → IsInput z z a_p a_i
+holding_form None z a_p a_i input = input
+holding_form (Some xs) z a_p a_i input = input.0
+
+holding_marks : (hold : Option (List Bool)) (z : ℤ) (a_p a_i : List ℤ) → IsInputHolding hold z a_p a_i → HasMarks hold (unsigned_abs z)
+holding_marks None z a_p a_i input = tt
+holding_marks (Some xs) z a_p a_i input = input.1
+
+-- no input has the status of refused memory
+pub not_memory : (hold : Option (List Bool)) (z : ℤ) (a_p a_i : List ℤ) (status : Status) → HasStatus hold z a_p a_i status →
+    status ≢ OutOfMemory
+not_memory hold z a_p a_i OK h = λ e. cc
+not_memory hold z a_p a_i Invalid h = λ e. cc
+not_memory hold z a_p a_i OkButJumbled h = λ e. cc
+not_memory hold z a_p a_i OutOfMemory h = λ e. h.is (h.marks (λ i. cc))
+
+-- an input that is valid is a column form
+pub valid_form : (hold : Option (List Bool)) (z : ℤ) (a_p a_i : List ℤ) (status : Status) → HasStatus hold z a_p a_i status →
+    status ≢ Invalid → IsInput z z a_p a_i
+valid_form hold z a_p a_i OK h valid = (h.is (h.marks valid)).0
+valid_form hold z a_p a_i Invalid h valid = absurd (valid refl)
+valid_form hold z a_p a_i OkButJumbled h valid = (h.is (h.marks valid)).0
+valid_form hold z a_p a_i OutOfMemory h valid = absurd (h.is (h.marks valid))
+
+-- an input that is refused is refused with that of its status
+pub refused : (hold : Option (List Bool)) (z : ℤ) (a_p a_i : List ℤ) (status e : Status) → HasStatus hold z a_p a_i status →
+    e ≡ refusal_of status → IsRefusalHolding hold z a_p a_i e
+refused hold z a_p a_i OK e h is = let marks = h.marks (λ i. cc) in
+    subst (IsRefusalHolding hold z a_p a_i) (sym is) (h.some, input_holding hold z a_p a_i (h.is marks).0 marks)
+refused hold z a_p a_i Invalid e h is = subst (IsRefusalHolding hold z a_p a_i) (sym is)
+    (h.some, (λ input. h.is (holding_marks hold z a_p a_i input) (holding_form hold z a_p a_i input)))
+refused hold z a_p a_i OkButJumbled e h is = let marks = h.marks (λ i. cc) in
+    subst (IsRefusalHolding hold z a_p a_i) (sym is) (h.some, input_holding hold z a_p a_i (h.is marks).0 marks)
+refused hold z a_p a_i OutOfMemory e h is = absurd (h.is (h.marks (λ i. cc)))
+
+-- what two facts of an option give
+matched : {T : Type 0} (t : Option T) (P Q : T → Type 0) (N R : Type 0) → IsSomeAnd t P → MatchOption t N Q →
+    ((c : T) → P c → Q c → R) → R
+matched None P Q N R p q both = absurd p
+matched (Some c) P Q N R p q both = both c p q
+
+-- the columns of the transpose where there is one, else those of the input
+pub are_ordered : {T : Type 0} (status : Status) (t : Option T) (z : ℤ) (a_p a_i c_p c_i : List ℤ) (Clean Same : T → Type 0)
+    (Own : Type 0) → status ≢ Invalid → status ≢ OutOfMemory → (status ≡ OK → t ≡ None) → (status ≡ OkButJumbled → IsSomeAnd t Clean) →
+    MatchOption t Own Same → (Own → (c_p ≡ a_p) × (c_i ≡ a_i)) →
+    ((c : T) → Clean c → Same c → IsCleanTranspose z a_p a_i c_p c_i) → AreOrdered status z a_p a_i c_p c_i
+are_ordered OK t z a_p a_i c_p c_i Clean Same Own valid known sorted jumbled taken own turned =
+    own (subst (λ o. MatchOption o Own Same) (sorted refl) taken)
+are_ordered Invalid t z a_p a_i c_p c_i Clean Same Own valid known sorted jumbled taken own turned = absurd (valid refl)
+are_ordered OkButJumbled t z a_p a_i c_p c_i Clean Same Own valid known sorted jumbled taken own turned =
+    matched t Clean Same Own (IsCleanTranspose z a_p a_i c_p c_i) (jumbled refl) taken turned
+are_ordered OutOfMemory t z a_p a_i c_p c_i Clean Same Own valid known sorted jumbled taken own turned = absurd (known refl)
+
+clean_form : (z : ℤ) (a_p a_i c_p c_i : List ℤ) → IsCleanTranspose z a_p a_i c_p c_i → IsInput z z c_p c_i × IsSortedInput z c_p c_i
+clean_form (pos k) a_p a_i c_p c_i clean = (clean.form, clean.sorted)
+clean_form (negsuc k) a_p a_i c_p c_i clean = absurd clean
+
+-- they are a column form with sorted columns
+pub ordered_form : (hold : Option (List Bool)) (z : ℤ) (a_p a_i c_p c_i : List ℤ) (status : Status) → HasStatus hold z a_p a_i status →
+    AreOrdered status z a_p a_i c_p c_i → IsInput z z c_p c_i × IsSortedInput z c_p c_i
+ordered_form hold z a_p a_i c_p c_i OK h same =
+    subst (λ xs. IsInput z z xs c_i × IsSortedInput z xs c_i) (sym same.0)
+    (subst (λ xs. IsInput z z a_p xs × IsSortedInput z a_p xs) (sym same.1) (h.is (h.marks (λ i. cc))))
+ordered_form hold z a_p a_i c_p c_i Invalid h same = absurd same
+ordered_form hold z a_p a_i c_p c_i OkButJumbled h clean = clean_form z a_p a_i c_p c_i clean
+ordered_form hold z a_p a_i c_p c_i OutOfMemory h same = absurd same
+
+-- an ordering by them is one of the input
+orders : (hold : Option (List Bool)) (z t : ℤ) (aggressive : Bool) (a_p a_i c_p c_i p q : List ℤ) (info : Info) (status : Status) →
+    AreOrdered status z a_p a_i c_p c_i → info.status ≡ OK →
+    OrdersMatrix hold (unsigned_abs z) t aggressive (is_pair (unsigned_abs z) c_p c_i) c_p c_i p q info →
+    OrdersMatrix hold (unsigned_abs z) t aggressive (ordered_pairs status (unsigned_abs z) a_p a_i) a_p a_i p q
+    (record info { status = status })
+orders hold z t aggressive a_p a_i c_p c_i p q info OK same told o =
+    let n : ℕ = unsigned_abs z in
+    let here = subst (λ xs. OrdersMatrix hold n t aggressive (is_pair n xs a_i) xs a_i p q info) same.0
+        (subst (λ xs. OrdersMatrix hold n t aggressive (is_pair n c_p xs) c_p xs p q info) same.1 o) in
+    subst (OrdersMatrix hold n t aggressive (is_pair n a_p a_i) a_p a_i p q) (ap (λ s. record info { status = s }) told) here
+orders hold z t aggressive a_p a_i c_p c_i p q info Invalid same told o = absurd same
+orders hold z t aggressive a_p a_i c_p c_i p q info OkButJumbled clean told o =
+    orders_turned hold z t aggressive a_p a_i c_p c_i p q info OkButJumbled clean o
+orders hold z t aggressive a_p a_i c_p c_i p q info OutOfMemory same told o = absurd same
+
+pub ordering : (hold : Option (List Bool)) (z t : ℤ) (aggressive : Bool) (a_p a_i c_p c_i p q : List ℤ) (info : Info) (status : Status) →
+    HasStatus hold z a_p a_i status → status ≢ Invalid → AreOrdered status z a_p a_i c_p c_i → info.status ≡ OK →
+    OrdersMatrix hold (unsigned_abs z) t aggressive (is_pair (unsigned_abs z) c_p c_i) c_p c_i p q info →
+    IsOrderingHolding hold z t aggressive a_p a_i p q (record info { status = status })
+ordering hold z t aggressive a_p a_i c_p c_i p q info status h valid columns told o =
+    let marks = h.marks valid in record {
+      nothing = λ e. absurd (h.some e);
+      form = λ _. valid_form hold z a_p a_i status h valid;
+      marks = λ _. marks;
+      status = λ _. h.is marks;
+      orders = λ _. orders hold z t aggressive a_p a_i c_p c_i p q info status columns told o;
+    }
