@@ -1,5 +1,5 @@
--- The columns by which an input is ordered: its own where it is sorted, else those of its transpose. What an ordering by these
--- columns is of the input, and with what an input is refused.
+-- The columns by which an input is ordered: its own where it is sorted, else those of its transpose. An ordering by these columns
+-- is one of the input.
 use Rattle.std.proofs.Common.{ℕ, ℤ, List, Bool, pos, negsuc, ◌≡◌, ◌≢◌, refl, sym, ap, subst}
 use Rattle.std.specs.Prelude.{unsigned_abs, Option, None, Some, IsSomeAnd, MatchOption}
 use Rattle.amd_model.specs.Input.Columns.{IsInput, IsSortedInput}
@@ -10,7 +10,7 @@ use Rattle.amd_types.specs.Statuses.{IsStatusOf}
 use Rattle.amd_types.specs.declared.amd.Info.{Info}
 use Rattle.amd_types.specs.declared.amd.Status.{Status}
 use Rattle.amd_types.specs.declared.amd.Status.TheVariants.{OK, Invalid, OkButJumbled, OutOfMemory}
-use Rattle.amd.specs.Answers.{OrdersMatrix, IsInputHolding, IsOrderingHolding, IsRefusalHolding, ordered_pairs, refusal_of}
+use Rattle.amd.specs.Answers.{OrdersMatrix, IsOrderingHolding, ordered_pairs}
 use Rattle.amd.proofs.Orderings.{orders_turned}
 
 -- the columns by which an input of this status is ordered
@@ -26,22 +26,8 @@ pub record HasStatus (hold : Option (List Bool)) (z : ℤ) (a_p a_i : List ℤ) 
   pub marks : status ≢ Invalid → HasMarks hold (unsigned_abs z)
   pub is : HasMarks hold (unsigned_abs z) → IsStatusOf z z a_p a_i status
 
--- what an input with marks has
-input_holding : (hold : Option (List Bool)) (z : ℤ) (a_p a_i : List ℤ) → IsInput z z a_p a_i → HasMarks hold (unsigned_abs z) →
-    IsInputHolding hold z a_p a_i
-input_holding None z a_p a_i form marks = form
-input_holding (Some xs) z a_p a_i form marks = (form, marks)
-
-pub holding_form : (hold : Option (List Bool)) (z : ℤ) (a_p a_i : List ℤ) → IsInputHolding hold z a_p a_i → IsInput z z a_p a_i
-holding_form None z a_p a_i input = input
-holding_form (Some xs) z a_p a_i input = input.0
-
-holding_marks : (hold : Option (List Bool)) (z : ℤ) (a_p a_i : List ℤ) → IsInputHolding hold z a_p a_i → HasMarks hold (unsigned_abs z)
-holding_marks None z a_p a_i input = tt
-holding_marks (Some xs) z a_p a_i input = input.1
-
 -- no input has the status of refused memory
-pub not_memory : (hold : Option (List Bool)) (z : ℤ) (a_p a_i : List ℤ) (status : Status) → HasStatus hold z a_p a_i status →
+not_memory : (hold : Option (List Bool)) (z : ℤ) (a_p a_i : List ℤ) (status : Status) → HasStatus hold z a_p a_i status →
     status ≢ OutOfMemory
 not_memory hold z a_p a_i OK h = λ e. cc
 not_memory hold z a_p a_i Invalid h = λ e. cc
@@ -56,17 +42,6 @@ valid_form hold z a_p a_i Invalid h valid = absurd (valid refl)
 valid_form hold z a_p a_i OkButJumbled h valid = (h.is (h.marks valid)).0
 valid_form hold z a_p a_i OutOfMemory h valid = absurd (h.is (h.marks valid))
 
--- an input that is refused is refused with that of its status
-pub refused : (hold : Option (List Bool)) (z : ℤ) (a_p a_i : List ℤ) (status e : Status) → HasStatus hold z a_p a_i status →
-    e ≡ refusal_of status → IsRefusalHolding hold z a_p a_i e
-refused hold z a_p a_i OK e h is = let marks = h.marks (λ i. cc) in
-    subst (IsRefusalHolding hold z a_p a_i) (sym is) (h.some, input_holding hold z a_p a_i (h.is marks).0 marks)
-refused hold z a_p a_i Invalid e h is = subst (IsRefusalHolding hold z a_p a_i) (sym is)
-    (h.some, (λ input. h.is (holding_marks hold z a_p a_i input) (holding_form hold z a_p a_i input)))
-refused hold z a_p a_i OkButJumbled e h is = let marks = h.marks (λ i. cc) in
-    subst (IsRefusalHolding hold z a_p a_i) (sym is) (h.some, input_holding hold z a_p a_i (h.is marks).0 marks)
-refused hold z a_p a_i OutOfMemory e h is = absurd (h.is (h.marks (λ i. cc)))
-
 -- what two facts of an option give
 matched : {T : Type 0} (t : Option T) (P Q : T → Type 0) (N R : Type 0) → IsSomeAnd t P → MatchOption t N Q →
     ((c : T) → P c → Q c → R) → R
@@ -74,7 +49,7 @@ matched None P Q N R p q both = absurd p
 matched (Some c) P Q N R p q both = both c p q
 
 -- the columns of the transpose where there is one, else those of the input
-pub are_ordered : {T : Type 0} (status : Status) (t : Option T) (z : ℤ) (a_p a_i c_p c_i : List ℤ) (Clean Same : T → Type 0)
+are_ordered : {T : Type 0} (status : Status) (t : Option T) (z : ℤ) (a_p a_i c_p c_i : List ℤ) (Clean Same : T → Type 0)
     (Own : Type 0) → status ≢ Invalid → status ≢ OutOfMemory → (status ≡ OK → t ≡ None) → (status ≡ OkButJumbled → IsSomeAnd t Clean) →
     MatchOption t Own Same → (Own → (c_p ≡ a_p) × (c_i ≡ a_i)) →
     ((c : T) → Clean c → Same c → IsCleanTranspose z a_p a_i c_p c_i) → AreOrdered status z a_p a_i c_p c_i
@@ -84,6 +59,46 @@ are_ordered Invalid t z a_p a_i c_p c_i Clean Same Own valid known sorted jumble
 are_ordered OkButJumbled t z a_p a_i c_p c_i Clean Same Own valid known sorted jumbled taken own turned =
     matched t Clean Same Own (IsCleanTranspose z a_p a_i c_p c_i) (jumbled refl) taken turned
 are_ordered OutOfMemory t z a_p a_i c_p c_i Clean Same Own valid known sorted jumbled taken own turned = absurd (known refl)
+
+-- what is known once a status was found and the columns were taken by it
+pub record IsTaken (hold : Option (List Bool)) (z : ℤ) (a_p a_i c_p c_i : List ℤ) (status : Status) : Type 0 where
+  pub has : HasStatus hold z a_p a_i status
+  pub valid : status ≢ Invalid
+  pub columns : AreOrdered status z a_p a_i c_p c_i
+
+-- a number that is a count other than 0 is not 0
+not_nothing : (count : ℕ) (z : ℤ) → pos count ≡ z → count ≢ 0 → z ≢ pos 0
+not_nothing count z is some e = let zero : count ≡ 0 = cc in some zero
+
+-- marks for a count are marks for the number
+marks_for : (hold : Option (List Bool)) (count : ℕ) (z : ℤ) → pos count ≡ z → HasMarks hold count → HasMarks hold (unsigned_abs z)
+marks_for hold count z is marks = subst (λ m. HasMarks hold (unsigned_abs m)) is marks
+
+marks_back : (hold : Option (List Bool)) (count : ℕ) (z : ℤ) → pos count ≡ z → HasMarks hold (unsigned_abs z) → HasMarks hold count
+marks_back hold count z is marks = subst (λ m. HasMarks hold (unsigned_abs m)) (sym is) marks
+
+pub taken : {T : Type 0} (hold : Option (List Bool)) (count : ℕ) (z : ℤ) (a_p a_i c_p c_i : List ℤ) (status : Status) → pos count ≡ z →
+    count ≢ 0 → (status ≢ Invalid → HasMarks hold count) → (HasMarks hold count → IsStatusOf z z a_p a_i status) →
+    (t : Option T) (Clean Same : T → Type 0) (Own : Type 0) → status ≢ Invalid → (status ≡ OK → t ≡ None) →
+    (status ≡ OkButJumbled → IsSomeAnd t Clean) → MatchOption t Own Same → (Own → (c_p ≡ a_p) × (c_i ≡ a_i)) →
+    ((c : T) → Clean c → Same c → IsCleanTranspose z a_p a_i c_p c_i) → IsTaken hold z a_p a_i c_p c_i status
+taken hold count z a_p a_i c_p c_i status is some marks status_is t Clean Same Own valid sorted jumbled from own turned =
+    let has : HasStatus hold z a_p a_i status = record {
+      some = not_nothing count z is some;
+      marks = λ v. marks_for hold count z is (marks v);
+      is = λ m. status_is (marks_back hold count z is m);
+    } in record {
+      has = has;
+      valid = valid;
+      columns = are_ordered status t z a_p a_i c_p c_i Clean Same Own valid (not_memory hold z a_p a_i status has) sorted jumbled from own
+          turned;
+    }
+
+-- the transpose under other names
+pub clean_same : (z : ℤ) (a_p a_i b_p b_i c_p c_i : List ℤ) → IsCleanTranspose z a_p a_i b_p b_i → c_p ≡ b_p → c_i ≡ b_i →
+    IsCleanTranspose z a_p a_i c_p c_i
+clean_same z a_p a_i b_p b_i c_p c_i clean x y = subst (λ xs. IsCleanTranspose z a_p a_i xs c_i) (sym x)
+    (subst (λ xs. IsCleanTranspose z a_p a_i b_p xs) (sym y) clean)
 
 clean_form : (z : ℤ) (a_p a_i c_p c_i : List ℤ) → IsCleanTranspose z a_p a_i c_p c_i → IsInput z z c_p c_i × IsSortedInput z c_p c_i
 clean_form (pos k) a_p a_i c_p c_i clean = (clean.form, clean.sorted)
@@ -108,7 +123,7 @@ orders : (hold : Option (List Bool)) (z t : ℤ) (aggressive : Bool) (a_p a_i c_
 orders hold z t aggressive a_p a_i c_p c_i p q info OK same told o =
     let n : ℕ = unsigned_abs z in
     let here = subst (λ xs. OrdersMatrix hold n t aggressive (is_pair n xs a_i) xs a_i p q info) same.0
-        (subst (λ xs. OrdersMatrix hold n t aggressive (is_pair n c_p xs) c_p xs p q info) same.1 o) in
+    (subst (λ xs. OrdersMatrix hold n t aggressive (is_pair n c_p xs) c_p xs p q info) same.1 o) in
     subst (OrdersMatrix hold n t aggressive (is_pair n a_p a_i) a_p a_i p q) (ap (λ s. record info { status = s }) told) here
 orders hold z t aggressive a_p a_i c_p c_i p q info Invalid same told o = absurd same
 orders hold z t aggressive a_p a_i c_p c_i p q info OkButJumbled clean told o =
