@@ -15,8 +15,8 @@ use Rattle.amd_model.proofs.Quotient.Lists.{add_old, add_fresh, has_append}
 use Rattle.amd_round_laws.proofs.Lists.Added.{adds_marks}
 use Rattle.amd_words.specs.Words.{is_place, place, word, size_of, in_front, classes, rows, Names}
 use Rattle.amd_elements.specs.Element.{grown, Gathers}
-use Rattle.amd_words.proofs.RowLists.{rows_more, rows_same, rows_both, rows_length}
 use Rattle.amd_words.proofs.Classes.{classes_split}
+use Rattle.amd_words.proofs.RowLists.{rows_more, rows_same, rows_both, rows_length}
 
 add_none : (n : ℕ) → n + 0 ≡ n
 add_none n = omega arith

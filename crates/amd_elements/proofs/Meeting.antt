@@ -18,8 +18,8 @@ use Rattle.amd_round_laws.proofs.Fronts.Gathered.{firsts_gives}
 use Rattle.amd_words.specs.Words.{num, place, word, start, size_of, in_front, classes, rows, rows_in, inside}
 use Rattle.amd_elements.specs.Element.{elements_at, variables_at, members_at, front_of, ListsLaid}
 use Rattle.amd_elements.specs.Room.{Meets, Unmarks, named_around}
-use Rattle.amd_words.proofs.RowLists.{rows_more}
 use Rattle.amd_words.proofs.WordMarks.{both_not}
+use Rattle.amd_words.proofs.RowLists.{rows_more}
 use Rattle.amd_elements.proofs.Building.{classes_same, flat_next, pivot_marked}
 
 -- ---- what is added to two lists, where the same is skipped or listed

@@ -1,7 +1,9 @@
 -- Rows in doubly linked lists, one for each bound. The number of rows stands for no row.
-use Rattle.std.specs.Prelude.{ℕ, true, List, [], ◌∷◌, ◌≡◌, ◌<◌, ◌≤◌, ◌==◌, not, filter}
+use Rattle.std.specs.Prelude.{ℕ, true, false, List, [], ◌∷◌, ◌≡◌, ◌<◌, ◌≤◌, ◌==◌, not, cond, filter, length, slice_set}
 use Rattle.amd_model.specs.Quotient.{has, Once}
+use Rattle.amd_words.specs.Sides.{nexts, lasts}
 use Rattle.amd_words.specs.Words.{num}
+use Rattle.amd_lists.specs.Lengths.{row_count, HasSides}
 
 -- the links from x on lead through the rows of a list, and then to no row
 abbrev pub Chain : ℕ → List ℕ → ℕ → List ℕ → Type 0
@@ -55,3 +57,75 @@ pub record Chooses (n least : ℕ) (lists : ℕ → List ℕ) (pivot bound : ℕ
   pub row : pivot < n
   pub first : (rest : List ℕ) × (lists bound ≡ pivot ∷ rest)
   pub below : (b : ℕ) → least ≤ b → b < bound → lists b ≡ []
+
+-- lists by bound of n rows, linked through their sides
+abbrev pub Linked : ℕ → List ℕ → List (ℕ × ℕ) → List ℕ → (ℕ → List ℕ) → Type 0
+Linked n head sides degree lists = DegreeLists n head (nexts sides) (lasts sides) degree lists
+
+-- a row and a bound, where there is a head for each row
+pub record IsLinkable (i d : ℕ) (head : List ℕ) (sides : List (ℕ × ℕ)) : Type 0 where
+  pub long : length head ≡ row_count sides
+  pub row : (i < row_count sides) × (d < row_count sides)
+
+-- a row of the bound d has left its list
+pub record UnlinksRow (i d : ℕ) (head : List ℕ) (sides : List (ℕ × ℕ)) (head' : List ℕ) (sides' : List (ℕ × ℕ)) : Type 0
+  where
+    pub unlinks : Unlinks (row_count sides) i d head (nexts sides) (lasts sides) head' (nexts sides') (lasts sides')
+    pub lengths : HasSides (row_count sides) head' sides'
+
+-- so they are, and each row can stand beside another one: figures go up to most_figure
+pub record CanLink (most_figure i d : ℕ) (head : List ℕ) (sides : List (ℕ × ℕ)) : Type 0 where
+  pub long : length head ≡ row_count sides
+  pub short : row_count sides ≤ most_figure
+  pub row : (i < row_count sides) × (d < row_count sides)
+
+-- a row stands at the head of the list of the bound d
+pub record RelinksRow (i d : ℕ) (head : List ℕ) (sides : List (ℕ × ℕ)) (head' : List ℕ) (sides' : List (ℕ × ℕ)) : Type 0
+  where
+    pub relinks : Relinks (row_count sides) i d head (nexts sides) (lasts sides) head' (nexts sides') (lasts sides')
+    pub lengths : HasSides (row_count sides) head' sides'
+
+-- a row with a bound, where there is a head and a bound for each row
+pub record IsBounded (i : ℕ) (head degree : List ℕ) (sides : List (ℕ × ℕ)) : Type 0 where
+  pub lengths : (length head ≡ row_count sides) × (length degree ≡ row_count sides)
+  pub row : (i < row_count sides) × (num degree i < row_count sides)
+
+-- a row was taken out of the list of its bound
+pub record TakesOut (i : ℕ) (degree head : List ℕ) (sides : List (ℕ × ℕ)) (head' : List ℕ) (sides' : List (ℕ × ℕ))
+    : Type 0 where
+  pub lengths : HasSides (row_count sides) head' sides'
+  pub linked : (lists : ℕ → List ℕ) → has (lists (num degree i)) i ≡ true → Linked (row_count sides) head sides degree lists →
+      Linked (row_count sides) head' sides' degree (λ d. without i (lists d))
+
+-- a row can be put into the list of the bound d, where there is a head and a bound for each row
+pub record CanPutHead (most_figure i d : ℕ) (head degree : List ℕ) (sides : List (ℕ × ℕ)) : Type 0 where
+  pub lengths : (length head ≡ row_count sides) × (length degree ≡ row_count sides)
+  pub short : row_count sides ≤ most_figure
+  pub row : (i < row_count sides) × (d < row_count sides)
+
+-- a row of no list has the bound d now, and stands at the head of its list
+pub record PutsHead (i d : ℕ) (head : List ℕ) (sides : List (ℕ × ℕ)) (degree head' : List ℕ) (sides' : List (ℕ × ℕ))
+    (degree' : List ℕ) : Type 0 where
+  pub lengths : HasSides (row_count sides) head' sides'
+  pub linked : (lists : ℕ → List ℕ) → ((b : ℕ) → b < row_count sides → has (lists b) i ≡ false) →
+      Linked (row_count sides) head sides degree lists →
+      Linked (row_count sides) head' sides' degree' (λ b. cond (b == d) (i ∷ lists b) (lists b))
+  pub degrees : degree' ≡ slice_set degree i d
+  pub others : (x : ℕ) → (x ≡ i → ⊥) → (x ≡ num head d → ⊥) → num (lasts sides') x ≡ num (lasts sides) x
+
+-- the least bound, from `least` on, that has a row
+pub record IsLeastBound (head : List ℕ) (least bound : ℕ) : Type 0 where
+  pub from : least ≤ bound
+  pub inside : bound < length head
+  pub found : num head bound < length head
+  pub below : (b : ℕ) → least ≤ b → b < bound → length head ≤ num head b
+
+-- a pivot of the bound given was chosen among the bounds from `least` on, and taken out of its list
+pub record ChoosesRow (least : ℕ) (head : List ℕ) (sides : List (ℕ × ℕ)) (head' : List ℕ) (sides' : List (ℕ × ℕ))
+    (pivot bound : ℕ) : Type 0 where
+  pub lengths : HasSides (row_count sides) head' sides'
+  pub row : (pivot < row_count sides) × (bound < row_count sides)
+  pub chosen : (degree : List ℕ) (lists : ℕ → List ℕ) → Linked (row_count sides) head sides degree lists →
+      Chooses (row_count sides) least lists pivot bound
+  pub linked : (degree : List ℕ) (lists : ℕ → List ℕ) → Linked (row_count sides) head sides degree lists →
+      Linked (row_count sides) head' sides' degree (λ b. without pivot (lists b))

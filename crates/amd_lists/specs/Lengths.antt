@@ -1,6 +1,11 @@
 -- There is a place for each of n rows in each of some slices: where lists start, counts of elements, sizes, bounds, and
 -- the links of the lists by bound.
 use Rattle.std.specs.Prelude.{ℕ, ℤ, List, ◌≡◌, length}
+use Rattle.amd_words.specs.Sides.{nexts, lasts}
+
+-- for how many rows there are sides
+abbrev pub row_count : List (ℕ × ℕ) → ℕ
+row_count sides = length (nexts sides)
 
 abbrev pub HasWords : ℕ → List ℤ → List ℤ → List ℤ → Type 0
 HasWords n pe e_len nv = (length pe ≡ n) × (length e_len ≡ n) × (length nv ≡ n)
@@ -10,6 +15,10 @@ HasBounds n pe e_len nv degree = (length pe ≡ n) × (length e_len ≡ n) × (l
 
 abbrev pub HasLinks : ℕ → List ℕ → List ℕ → List ℕ → Type 0
 HasLinks n head next last = (length head ≡ n) × (length next ≡ n) × (length last ≡ n)
+
+-- so do the heads of lists by bound, and the sides of rows in them
+abbrev pub HasSides : ℕ → List ℕ → List (ℕ × ℕ) → Type 0
+HasSides n head sides = HasLinks n head (nexts sides) (lasts sides)
 
 -- where lists start, counts of elements, lengths and counters
 abbrev pub HasCounters : ℕ → List ℤ → List ℤ → List ℕ → List ℕ → Type 0

@@ -3,3 +3,4 @@ pub mod Chains
 pub mod Renewal
 pub mod Layout
 pub mod Lengths
+pub mod Spans

@@ -3,23 +3,18 @@
 // in which a class gets or loses its bound, and by the start of an elimination (`starting` of the crate
 // `amd_workspace`).
 
-ghost use Rattle.std.specs.Prelude.{◌≡◌, ◌<◌, ◌≤◌, ℕ, true, false, List, ◌∷◌, ◌==◌, cond, length, slice_set};
-ghost use Rattle.amd_words.specs.Sides.{nexts, lasts};
-ghost use Rattle.amd_model.specs.Quotient.{has};
-ghost use Rattle.amd_words.specs.Words.{num};
-ghost use Rattle.amd_lists.specs.Chains.{DegreeLists, Unlinks, Relinks, SomeFrom, Chooses, without};
+ghost use Rattle.std.specs.Prelude.{◌≡◌, length};
+ghost use Rattle.amd_lists.specs.Lengths.{row_count};
+ghost use Rattle.amd_lists.specs.Chains.{IsLinkable, UnlinksRow, IsBounded, TakesOut, CanLink, RelinksRow};
+ghost use Rattle.amd_lists.specs.Chains.{CanPutHead, PutsHead, SomeFrom, IsLeastBound, ChoosesRow};
 
 use amd_words::sides::{Sides, last_at, next_at, put_last, put_next, row_count};
 use amd_words::{Cell, Unsigned, cell_at, put_cell};
 
 /// Links what stands before and behind a row of the bound `d` to each other.
 fn unlink<U: Unsigned>(head: &mut [Cell<U>], sides: &mut [Sides<U>], i: usize, d: usize)
-    requires long { length head.old ≡ length (nexts sides.old) }
-    requires row { (i < length (nexts sides.old)) × (d < length (nexts sides.old)) }
-    ensures unlinks { Unlinks (length (nexts sides.old)) i d head.old (nexts sides.old) (lasts sides.old) head.new
-        (nexts sides.new) (lasts sides.new) }
-    ensures lengths { (length head.new ≡ length (nexts sides.old)) ×
-        (length (nexts sides.new) ≡ length (nexts sides.old)) × (length (lasts sides.new) ≡ length (nexts sides.old)) }
+    requires { IsLinkable i d head.old sides.old }
+    ensures { UnlinksRow i d head.old sides.old head.new sides.new }
 {
     let n = row_count(sides);
     let before = last_at(sides, i);
@@ -41,27 +36,16 @@ pub fn take_out<U: Unsigned>(
     degree: &[Cell<U>],
     i: usize,
 )
-    requires lengths { (length head.old ≡ length (nexts sides.old)) × (length degree.now ≡ length (nexts sides.old)) }
-    requires row { (i < length (nexts sides.old)) × (num degree.now i < length (nexts sides.old)) }
-    ensures lengths { (length head.new ≡ length (nexts sides.old)) ×
-        (length (nexts sides.new) ≡ length (nexts sides.old)) × (length (lasts sides.new) ≡ length (nexts sides.old)) }
-    ensures linked { (lists : ℕ → List ℕ) → has (lists (num degree.now i)) i ≡ true →
-        DegreeLists (length (nexts sides.old)) head.old (nexts sides.old) (lasts sides.old) degree.now lists →
-        DegreeLists (length (nexts sides.old)) head.new (nexts sides.new) (lasts sides.new) degree.now
-        (λ d. without i (lists d)) }
+    requires { IsBounded i head.old degree.now sides.old }
+    ensures { TakesOut i degree.now head.old sides.old head.new sides.new }
 {
     unlink(head, sides, i, cell_at(degree, i));
 }
 
 /// Links a row in front of the first one of the bound `d`.
 fn link<U: Unsigned>(head: &mut [Cell<U>], sides: &mut [Sides<U>], i: usize, d: usize)
-    requires long { length head.old ≡ length (nexts sides.old) }
-    requires short { length (nexts sides.old) ≤ U.MOST }
-    requires row { (i < length (nexts sides.old)) × (d < length (nexts sides.old)) }
-    ensures relinks { Relinks (length (nexts sides.old)) i d head.old (nexts sides.old) (lasts sides.old) head.new
-        (nexts sides.new) (lasts sides.new) }
-    ensures lengths { (length head.new ≡ length (nexts sides.old)) ×
-        (length (nexts sides.new) ≡ length (nexts sides.old)) × (length (lasts sides.new) ≡ length (nexts sides.old)) }
+    requires { CanLink U.MOST i d head.old sides.old }
+    ensures { RelinksRow i d head.old sides.old head.new sides.new }
 {
     let n = row_count(sides);
     let after = cell_at(head, d);
@@ -81,19 +65,8 @@ pub fn put_head<U: Unsigned>(
     i: usize,
     d: usize,
 )
-    requires lengths { (length head.old ≡ length (nexts sides.old)) × (length degree.old ≡ length (nexts sides.old)) }
-    requires short { length (nexts sides.old) ≤ U.MOST }
-    requires row { (i < length (nexts sides.old)) × (d < length (nexts sides.old)) }
-    ensures lengths { (length head.new ≡ length (nexts sides.old)) ×
-        (length (nexts sides.new) ≡ length (nexts sides.old)) × (length (lasts sides.new) ≡ length (nexts sides.old)) ×
-        (length degree.new ≡ length (nexts sides.old)) }
-    ensures linked { (lists : ℕ → List ℕ) → ((b : ℕ) → b < length (nexts sides.old) → has (lists b) i ≡ false) →
-        DegreeLists (length (nexts sides.old)) head.old (nexts sides.old) (lasts sides.old) degree.old lists →
-        DegreeLists (length (nexts sides.old)) head.new (nexts sides.new) (lasts sides.new) degree.new
-        (λ b. cond (b == d) (i ∷ lists b) (lists b)) }
-    ensures degrees { degree.new ≡ slice_set degree.old i d }
-    ensures lasts { (x : ℕ) → (x ≡ i → ⊥) → (x ≡ num head.old d → ⊥) → num (lasts sides.new) x ≡
-        num (lasts sides.old) x }
+    requires { CanPutHead U.MOST i d head.old degree.old sides.old }
+    ensures { PutsHead i d head.old sides.old degree.old head.new sides.new degree.new }
 {
     link(head, sides, i, d);
     put_cell(degree, i, d);
@@ -102,10 +75,7 @@ pub fn put_head<U: Unsigned>(
 /// The least bound, from `least` on, that has a row.
 fn least_bound<U: Unsigned>(head: &[Cell<U>], least: usize) -> usize
     requires some { SomeFrom (length head.now) head.now least }
-    ensures from { least ≤ result }
-    ensures inside { result < length head.now }
-    ensures found { num head.now result < length head.now }
-    ensures below { (b : ℕ) → least ≤ b → b < result → length head.now ≤ num head.now b }
+    ensures { IsLeastBound head.now least result }
 {
     let n = head.len();
     let mut bound = least;
@@ -122,18 +92,9 @@ pub fn choose<U: Unsigned>(
     sides: &mut [Sides<U>],
     least: usize,
 ) -> (usize, usize)
-    requires long { length head.old ≡ length (nexts sides.old) }
-    requires some { SomeFrom (length (nexts sides.old)) head.old least }
-    ensures lengths { (length head.new ≡ length (nexts sides.old)) ×
-        (length (nexts sides.new) ≡ length (nexts sides.old)) × (length (lasts sides.new) ≡ length (nexts sides.old)) }
-    ensures row { (result.0 < length (nexts sides.old)) × (result.1 < length (nexts sides.old)) }
-    ensures chosen { (degree : List ℕ) (lists : ℕ → List ℕ) →
-        DegreeLists (length (nexts sides.old)) head.old (nexts sides.old) (lasts sides.old) degree lists →
-        Chooses (length (nexts sides.old)) least lists result.0 result.1 }
-    ensures linked { (degree : List ℕ) (lists : ℕ → List ℕ) →
-        DegreeLists (length (nexts sides.old)) head.old (nexts sides.old) (lasts sides.old) degree lists →
-        DegreeLists (length (nexts sides.old)) head.new (nexts sides.new) (lasts sides.new) degree
-        (λ b. without result.0 (lists b)) }
+    requires long { length head.old ≡ row_count sides.old }
+    requires some { SomeFrom (row_count sides.old) head.old least }
+    ensures { ChoosesRow least head.old sides.old head.new sides.new result.0 result.1 }
 {
     let bound = least_bound(head, least);
     let me = cell_at(head, bound);

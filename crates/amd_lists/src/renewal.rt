@@ -1,11 +1,11 @@
 // The list of one class of a front is renewed in its place: the new element comes in front, and what the new element
 // absorbed or holds itself goes. Source: Amestoy, Davis and Duff 1996 (element absorption). Called by `fronts`.
 
-ghost use Rattle.std.specs.Prelude.{◌++◌, ◌≡◌, ◌<◌, ◌≤◌, ◌+◌, ◌-◌, ◌*◌, ◌^◌, pos, ℕ, cond, length, slice_set};
-ghost use Rattle.std.specs.Prelude.{filter, sum_by, true};
+ghost use Rattle.std.specs.Prelude.{◌≡◌, ◌<◌, ◌≤◌, ◌+◌, ◌*◌, ◌^◌, pos, cond, length, slice_set, true};
 ghost use Rattle.amd_model.specs.Figures.{cut};
-ghost use Rattle.amd_words.specs.Words.{num, word, place, is_place, size_of, in_front, rows, Names};
-ghost use Rattle.amd_lists.specs.Renewal.{is_kept, is_outside, hashed, AreMet, Filters, Renews};
+ghost use Rattle.amd_words.specs.Words.{word, rows};
+ghost use Rattle.amd_lists.specs.Spans.{IsSpan};
+ghost use Rattle.amd_lists.specs.Renewal.{AreMet, IsExact, KeepsWords, KeepsVariables, CanRenew, RenewsList};
 
 use amd_words::words::{is_open, named, put_row, size_outside};
 use amd_words::{Cell, Signed, Unsigned, Word, cell_at, copy_word};
@@ -43,15 +43,9 @@ fn keep_words<S: Signed, U: Unsigned>(
     less: usize,
     narrow: bool,
 ) -> (usize, usize, usize)
-    requires inside { from + count ≤ length iw.old }
-    requires short { length iw.old < 2 ^ 63 }
-    requires names { Names (length w.now) iw.old from count }
-    requires narrow { narrow ≡ true → (U.MOST < 2 ^ 32) × (count < 2 ^ 32) }
-    ensures filters { Filters (length w.now) (is_kept w.now) (λ e. num w.now e - less) 0 iw.old from count from
-        (slice_set iw.new result.0 (word iw.old result.0)) result.0 result.1 }
-    ensures behind { (k : ℕ) → from + count ≤ k → word iw.new k ≡ word iw.old k }
-    ensures hash { result.2 ≡ hashed 0 (filter (is_kept w.now) (rows iw.old from count)) }
-    ensures small { narrow ≡ true → result.1 ≤ 4294967295 * count }
+    requires span { IsSpan (length w.now) iw.old from count }
+    requires narrow { narrow ≡ true → IsExact U.MOST count }
+    ensures { KeepsWords narrow less w.now iw.old from count iw.new result.0 result.1 result.2 }
 {
     let mut end = from;
     let mut outside: usize = 0;
@@ -80,16 +74,10 @@ fn keep_elements<S: Signed, U: Unsigned>(
     flag: usize,
     narrow: bool,
 ) -> (usize, usize, usize)
-    requires inside { from + count ≤ length iw.old }
-    requires short { length iw.old < 2 ^ 63 }
-    requires names { Names (length w.now) iw.old from count }
-    requires narrow { narrow ≡ true → (U.MOST < 2 ^ 32) × (count < 2 ^ 32) }
+    requires span { IsSpan (length w.now) iw.old from count }
+    requires narrow { narrow ≡ true → IsExact U.MOST count }
     requires met { AreMet flag w.now (rows iw.old from count) }
-    ensures filters { Filters (length w.now) (is_kept w.now) (λ e. num w.now e - flag) 0 iw.old from count from
-        (slice_set iw.new result.0 (word iw.old result.0)) result.0 result.1 }
-    ensures behind { (k : ℕ) → from + count ≤ k → word iw.new k ≡ word iw.old k }
-    ensures hash { result.2 ≡ hashed 0 (filter (is_kept w.now) (rows iw.old from count)) }
-    ensures small { narrow ≡ true → result.1 ≤ 4294967295 * count }
+    ensures { KeepsWords narrow flag w.now iw.old from count iw.new result.0 result.1 result.2 }
 {
     let less = if narrow { 0 } else { flag };
     let (end, total, hash) = keep_words(iw, w, from, count, less, narrow);
@@ -114,14 +102,10 @@ fn keep_variables<S: Signed>(
     sum: usize,
     narrow: bool,
 ) -> (usize, usize, usize)
-    requires inside { from + count ≤ length iw.old }
+    requires span { IsSpan (length nv.now) iw.old from count }
     requires down { to ≤ from }
-    requires short { length iw.old < 2 ^ 63 }
-    requires names { Names (length nv.now) iw.old from count }
-    requires narrow { narrow ≡ true → (S.MOST < 2 ^ 32) × (count < 2 ^ 32) × (first + 4294967295 * count < 2 ^ 64) }
-    ensures filters { Filters (length nv.now) (is_outside nv.now) (size_of nv.now) first iw.old from count to iw.new
-        result.0 result.1 }
-    ensures hash { result.2 ≡ hashed sum (filter (is_outside nv.now) (rows iw.old from count)) }
+    requires narrow { narrow ≡ true → IsExact S.MOST count × (first + 4294967295 * count < 2 ^ 64) }
+    ensures { KeepsVariables nv.now first sum iw.old from count to iw.new result.0 result.1 result.2 }
 {
     let mut end = to;
     let mut outside = first;
@@ -168,23 +152,8 @@ pub fn renew_list<S: Signed, U: Unsigned>(
     flag: usize,
     me: usize,
 ) -> (usize, usize, usize, usize)
-    requires lengths { length nv.now ≡ length w.now }
-    requires inside { from + count ≤ length iw.old }
-    requires short { length iw.old < 2 ^ 63 }
-    requires narrow { length iw.old ≤ S.MOST }
-    requires parts { n_elements ≤ count }
-    requires names { Names (length w.now) iw.old from count }
-    requires me { (me < length w.now) × (me ≤ S.MOST) }
-    requires room { length (filter (is_kept w.now) (rows iw.old from n_elements))
-        + length (filter (is_outside nv.now) (rows iw.old (from + n_elements) (count - n_elements))) < count }
-    requires met { AreMet flag w.now (rows iw.old from n_elements) }
-    ensures renews { Renews (length w.now) me (is_kept w.now) (is_outside nv.now) iw.old from n_elements count iw.new
-        result.0 result.1 }
-    ensures outside { result.2 ≡ cut (sum_by (λ e. num w.now e - flag)
-        (filter (is_kept w.now) (rows iw.old from n_elements))
-        + sum_by (size_of nv.now) (filter (is_outside nv.now) (rows iw.old (from + n_elements) (count - n_elements)))) }
-    ensures hash { result.3 ≡ hashed 0 (filter (is_kept w.now) (rows iw.old from n_elements) ++ filter
-        (is_outside nv.now) (rows iw.old (from + n_elements) (count - n_elements))) }
+    requires { CanRenew S.MOST flag me w.now nv.now iw.old from n_elements count }
+    ensures { RenewsList flag me w.now nv.now iw.old from n_elements count iw.new result.0 result.1 result.2 result.3 }
 {
     let narrow = S::MOST <= u32::MAX as usize && U::MOST <= u32::MAX as usize;
     let (middle, rows, sum) = keep_elements(iw, w, from, n_elements, flag, narrow);

@@ -4,9 +4,9 @@ use Rattle.std.specs.Prelude.{◌==◌, ◌&&◌, ◌⊎◌}
 use Rattle.std.specs.Prelude.{bit_and, negsuc, not, nat_lt, cond, length, sum_by, filter, slice_set}
 use Rattle.amd_model.specs.Quotient.{has, each, Once, last_that}
 use Rattle.amd_words.specs.Words.{num, is_place, place, word, start, size_of, in_front, flip_of, rows, Names}
-use Rattle.amd_lists.specs.Chains.{Chain}
 use Rattle.amd_lists.specs.Layout.{variables_in}
 use Rattle.amd_lists.specs.Renewal.{key_of}
+use Rattle.amd_lists.specs.Chains.{Chain}
 use Rattle.amd_round_laws.specs.Rounds.{alike_in}
 
 -- the rows to which the links from x on lead, as many as the fuel at most

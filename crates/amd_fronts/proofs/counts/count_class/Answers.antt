@@ -9,13 +9,13 @@ use Rattle.amd_fronts.specs.Tallies.{touched_in}
 use Rattle.amd_words.proofs.RowLists.{rows_at, names_at}
 use Rattle.amd_fronts.proofs.counts.count_class.Goals as goal
 
-pub take_out-requires-clause-lengths : goal.take_out-requires-clause-lengths
-take_out-requires-clause-lengths g c = let l = c.requires.more_lengths in let n = sym l.1 in
-    (l.0 ∙ n, c.requires.lengths.3 ∙ n)
-
-pub take_out-requires-clause-row : goal.take_out-requires-clause-row
-take_out-requires-clause-row g c = let r = c.requires.row in let a = r.0 in let b = r.1 in let n = c.requires.more_lengths.1 in
-    (omega (arith, a, n), omega (arith, b, n))
+pub take_out-requires : goal.take_out-requires
+take_out-requires g c = record {
+  lengths = (let l = c.requires.more_lengths in let n = sym l.1 in
+    (l.0 ∙ n, c.requires.lengths.3 ∙ n));
+  row = (let r = c.requires.row in let a = r.0 in let b = r.1 in let n = c.requires.more_lengths.1 in
+    (omega (arith, a, n), omega (arith, b, n)));
+}
 
 pub named-first-requires-clause-inside : goal.named-first-requires-clause-inside
 named-first-requires-clause-inside g c = let a = c.requires.row.0 in let n = c.requires.lengths.0 in omega (arith, a, n)

@@ -28,40 +28,24 @@ named-n_elements-requires-clause-is_one g c = c.requires.placed.counts
 pub cell_at-requires : goal.cell_at-requires
 cell_at-requires g c = let a = c.requires.placed.row in let n = c.requires.lengths.2 in omega (arith, a, n)
 
-pub renew_list-few-requires-clause-lengths : goal.renew_list-few-requires-clause-lengths
-renew_list-few-requires-clause-lengths g c = c.requires.lengths.3
-
-pub renew_list-few-requires-clause-inside : goal.renew_list-few-requires-clause-inside
-renew_list-few-requires-clause-inside g c = let f = c.named-from.ensures in let k = c.cell_at.ensures.is in
-    let w = c.requires.placed.within in omega (arith, f, k, w)
-
-pub renew_list-few-requires-clause-short : goal.renew_list-few-requires-clause-short
-renew_list-few-requires-clause-short g c = c.requires.short
-
-pub renew_list-few-requires-clause-parts : goal.renew_list-few-requires-clause-parts
-renew_list-few-requires-clause-parts g c = let m = c.named-n_elements.ensures in let k = c.cell_at.ensures.is in
-    let p = c.requires.placed.parts in omega (arith, m, k, p)
-
-pub renew_list-few-requires-clause-names : goal.renew_list-few-requires-clause-names
-renew_list-few-requires-clause-names g c = names_at c.args.iw.now refl (sym c.named-from.ensures) (sym c.cell_at.ensures.is)
-    c.requires.placed.names
-
-pub renew_list-few-requires-clause-me : goal.renew_list-few-requires-clause-me
-renew_list-few-requires-clause-me g c = c.requires.me
-
-pub renew_list-few-requires-clause-room : goal.renew_list-few-requires-clause-room
-renew_list-few-requires-clause-room g c =
-    let f = c.named-from.ensures in let m = c.named-n_elements.ensures in let k = c.cell_at.ensures.is in
+pub renew_list-few-requires : goal.renew_list-few-requires
+renew_list-few-requires g c = record {
+  lengths = (c.requires.lengths.3);
+  inside = (let f = c.named-from.ensures in let k = c.cell_at.ensures.is in
+    let w = c.requires.placed.within in omega (arith, f, k, w));
+  narrow = (c.requires.narrow);
+  parts = (let m = c.named-n_elements.ensures in let k = c.cell_at.ensures.is in
+    let p = c.requires.placed.parts in omega (arith, m, k, p));
+  names = (names_at c.args.iw.now refl (sym c.named-from.ensures) (sym c.cell_at.ensures.is)
+    c.requires.placed.names);
+  row = (c.requires.me);
+  room = (let f = c.named-from.ensures in let m = c.named-n_elements.ensures in let k = c.cell_at.ensures.is in
     let a = ap (λ xs. length (filter (is_kept c.args.w.now) xs)) (rows_at c.args.iw.now f m) in
     let b = ap (λ xs. length (filter (is_outside c.args.nv.now) xs)) (behind c.args.iw.now f m k) in
-    let r = c.requires.loses in omega (arith, a, b, k, r)
-
-pub renew_list-few-requires-clause-narrow : goal.renew_list-few-requires-clause-narrow
-renew_list-few-requires-clause-narrow g c = c.requires.narrow
-
-pub renew_list-few-requires-clause-met : goal.renew_list-few-requires-clause-met
-renew_list-few-requires-clause-met g c e h = let f = c.named-from.ensures in let m = c.named-n_elements.ensures in
-    c.requires.met e (sym (ap (λ xs. has xs e) (rows_at c.args.iw.now f m)) ∙ h)
+    let r = c.requires.loses in omega (arith, a, b, k, r));
+  met = (λ e h. let f = c.named-from.ensures in let m = c.named-n_elements.ensures in
+    c.requires.met e (sym (ap (λ xs. has xs e) (rows_at c.args.iw.now f m)) ∙ h));
+}
 
 pub put_row-requires-clause-inside : goal.put_row-requires-clause-inside
 put_row-requires-clause-inside g c = let a = c.requires.placed.row in let n = c.requires.lengths.1 in omega (arith, a, n)
@@ -115,7 +99,7 @@ returns-clause-outside g c =
 pub returns-clause-hash : goal.returns-clause-hash
 returns-clause-hash g c =
     let f = c.named-from.ensures in let m = c.named-n_elements.ensures in let k = c.cell_at.ensures.is in
-    c.renew_list-few.ensures.hash
+    c.renew_list-few.ensures.hash_is
     ∙ ap (λ xs. hashed 0 (filter (is_kept c.args.w.now) xs ++ filter (is_outside c.args.nv.now) (rows c.args.iw.now
     (c.named-from.result + c.named-n_elements.result) (c.cell_at.result - c.named-n_elements.result)))) (rows_at c.args.iw.now f m)
     ∙ ap (λ xs. hashed 0 (filter (is_kept c.args.w.now) (elements_in c.args.iw.now c.args.pe.now c.args.e_len.now c.args.i)

@@ -1,3 +1,4 @@
+use Rattle.std.proofs.Common.{rules}
 use Rattle.std.proofs.Common.{◌≤◌, ◌+◌, inl, inr, ap, arith}
 use Rattle.std.proofs.lemmas.Bool.{cases_eq}
 use Rattle.amd_words.specs.Words.{num}
@@ -25,5 +26,10 @@ bounds-preserved g c =
       ];
     }
 
-pub returns-clause-found : goal.returns-clause-found
-returns-clause-found g c = let t = c.bounds-test.false in let is = c.cell_at.ensures.is in omega (arith, t, is)
+pub returns : goal.returns
+returns g c = record {
+  from = search rules;
+  inside = search rules;
+  found = (let t = c.bounds-test.false in let is = c.cell_at.ensures.is in omega (arith, t, is));
+  below = search rules;
+}

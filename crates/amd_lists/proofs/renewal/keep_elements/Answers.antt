@@ -1,3 +1,4 @@
+use Rattle.std.proofs.Common.{rules}
 use Rattle.std.proofs.Common.{◌≡◌, ◌∙◌, sym}
 use Rattle.std.proofs.lemmas.Bool.{true≢false}
 use Rattle.amd_lists.proofs.PlainSums.{off_fits, off_under, off_filters}
@@ -22,11 +23,16 @@ overflow_sub-outside-then-narrow-2 g c = let n = c.if-narrow-2.true in
     let end = c.keep_words-end.ensures in
     off_under c.args.flag none end.filters (end.small n) (c.requires.narrow n).1 c.requires.met
 
-pub returns-then-narrow-2-clause-filters : goal.returns-then-narrow-2-clause-filters
-returns-then-narrow-2-clause-filters g c = let n = c.if-narrow-2.true in
-    let none : c.if-narrow.less ≡ 0 = elim c.if-narrow.branch [
-      | then-narrow w ↦ w.less-is
-      | else-narrow w ↦ absurd (true≢false (sym n ∙ w.if-narrow.false))
-    ] in
-    let end = c.keep_words-end.ensures in
-    off_filters c.args.flag none end.filters (end.small n) (c.requires.narrow n).1 c.requires.met
+pub returns-then-narrow-2 : goal.returns-then-narrow-2
+returns-then-narrow-2 g c = record {
+  filters = (let n = c.if-narrow-2.true in
+      let none : c.if-narrow.less ≡ 0 = elim c.if-narrow.branch [
+        | then-narrow w ↦ w.less-is
+        | else-narrow w ↦ absurd (true≢false (sym n ∙ w.if-narrow.false))
+      ] in
+      let end = c.keep_words-end.ensures in
+      off_filters c.args.flag none end.filters (end.small n) (c.requires.narrow n).1 c.requires.met);
+  behind = search rules;
+  hash_is = search rules;
+  small = search rules;
+}

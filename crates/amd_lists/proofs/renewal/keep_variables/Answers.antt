@@ -25,7 +25,7 @@ named-j-requires-clause-is_one g c =
     let iw : List ℤ = c.args.iw.now in let from : ℕ = c.args.from in let p : ℕ = c.loop-p.p in let k : ℕ = p - from in
     let after : from ≤ p = c.loop-p.auto.p in let t = c.loop-p-test.true in
     let at : p ≡ from + k = sym (add-sub_of_le after) in let l : k < c.args.count = within_count after t in
-    let h = c.loop-p.invariant.filters in let word_k = c.requires.names k l in let high = h.high in let down = c.requires.down in
+    let h = c.loop-p.invariant.filters in let word_k = c.requires.span.names k l in let high = h.high in let down = c.requires.down in
     let same : word c.loop-p.iw p ≡ word iw p = h.above p (omega (arith, high, at, down)) in
     let is_one : is_place (word iw p) ≡ true = ap (λ m. is_place (word iw m)) at ∙ word_k.0 in
     ap is_place same ∙ is_one
@@ -35,7 +35,7 @@ is_open-requires g c =
     let iw : List ℤ = c.args.iw.now in let from : ℕ = c.args.from in let p : ℕ = c.loop-p.p in let k : ℕ = p - from in
     let after : from ≤ p = c.loop-p.auto.p in let t = c.loop-p-test.true in
     let at : p ≡ from + k = sym (add-sub_of_le after) in let l : k < c.args.count = within_count after t in
-    let h = c.loop-p.invariant.filters in let word_k = c.requires.names k l in let high = h.high in let down = c.requires.down in
+    let h = c.loop-p.invariant.filters in let word_k = c.requires.span.names k l in let high = h.high in let down = c.requires.down in
     let same : word c.loop-p.iw p ≡ word iw p = h.above p (omega (arith, high, at, down)) in
     let small : place (word iw p) < length c.args.nv.now = (let a = ap (λ m. place (word iw m)) at in let b = word_k.1 in
     omega (arith, a, b)) in
@@ -47,7 +47,7 @@ size_outside-more-requires-clause-inside g c =
     let iw : List ℤ = c.args.iw.now in let from : ℕ = c.args.from in let p : ℕ = c.loop-p.p in let k : ℕ = p - from in
     let after : from ≤ p = c.loop-p.auto.p in let t = c.loop-p-test.true in
     let at : p ≡ from + k = sym (add-sub_of_le after) in let l : k < c.args.count = within_count after t in
-    let h = c.loop-p.invariant.filters in let word_k = c.requires.names k l in let high = h.high in let down = c.requires.down in
+    let h = c.loop-p.invariant.filters in let word_k = c.requires.span.names k l in let high = h.high in let down = c.requires.down in
     let same : word c.loop-p.iw p ≡ word iw p = h.above p (omega (arith, high, at, down)) in
     let small : place (word iw p) < length c.args.nv.now = (let a = ap (λ m. place (word iw m)) at in let b = word_k.1 in
     omega (arith, a, b)) in
@@ -57,8 +57,8 @@ size_outside-more-requires-clause-inside g c =
 pub add_up-outside-requires : goal.add_up-outside-requires
 add_up-outside-requires g c n = first_fits c.args.first c.loop-p.outside c.size_outside-more.result (c.loop-p.p - c.args.from)
     (c.loop-p.invariant.small n)
-    (lt_of_le_of_lt (le_of_eq c.size_outside-more.ensures) (lt_of_le_of_lt c.is_open.ensures.small (c.requires.narrow n).0))
-    c.args.count (within_count c.loop-p.auto.p c.loop-p-test.true) (c.requires.narrow n).2
+    (lt_of_le_of_lt (le_of_eq c.size_outside-more.ensures) (lt_of_le_of_lt c.is_open.ensures.small (c.requires.narrow n).0.0))
+    c.args.count (within_count c.loop-p.auto.p c.loop-p-test.true) (c.requires.narrow n).1
 
 later_bound : (first sum k : ℕ) → sum ≤ first + 4294967295 * k → sum ≤ first + 4294967295 * (k + 1)
 later_bound first sum k so_far = omega (arith, so_far)
@@ -69,7 +69,7 @@ loop-p-preserved g c =
     let after : from ≤ p = c.loop-p.auto.p in let t = c.loop-p-test.true in
     let at : p ≡ from + k = sym (add-sub_of_le after) in let l : k < c.args.count = within_count after t in
     let next : p + 1 - from ≡ k + 1 = next_place after in
-    let h = c.loop-p.invariant.filters in let word_k = c.requires.names k l in let high = h.high in let down = c.requires.down in
+    let h = c.loop-p.invariant.filters in let word_k = c.requires.span.names k l in let high = h.high in let down = c.requires.down in
     let same : word c.loop-p.iw p ≡ word iw p = h.above p (omega (arith, high, at, down)) in
     let is_one : is_place (word iw p) ≡ true = ap (λ m. is_place (word iw m)) at ∙ word_k.0 in
     let small : place (word iw p) < length c.args.nv.now = (let a = ap (λ m. place (word iw m)) at in let b = word_k.1 in
@@ -80,7 +80,7 @@ loop-p-preserved g c =
       | then-is_open w ↦ rw (w.iw-is, w.end-is, w.outside-is, w.hash-is, w.copy_word.ensures, next) record {
         filters =
             (filters_yes (length c.args.nv.now) (is_outside c.args.nv.now) (size_of c.args.nv.now)
-            c.args.first iw from c.args.to h p w.add_up-outside.result at down (let a = c.requires.inside in
+            c.args.first iw from c.args.to h p w.add_up-outside.result at down (let a = c.requires.span.inside in
             omega (arith, a, at, l)) is_one small
             (ap (is_outside nv) (sym there) ∙ sym c.is_open.ensures.is ∙ w.if-is_open.true)
             (w.add_up-outside.ensures ∙ ap (λ m. cut (c.loop-p.outside + m)) (w.size_outside-more.ensures
@@ -88,7 +88,7 @@ loop-p-preserved g c =
         hash = hashed_yes (is_outside c.args.nv.now) c.args.sum iw from k c.loop-p.hash c.loop-p.invariant.hash c.named-j.result there
             (ap (is_outside nv) (sym there) ∙ sym c.is_open.ensures.is ∙ w.if-is_open.true);
         small = λ n. first_grows c.args.first c.loop-p.outside w.size_outside-more.result k (c.loop-p.invariant.small n)
-            (lt_of_le_of_lt (le_of_eq w.size_outside-more.ensures) (lt_of_le_of_lt c.is_open.ensures.small (c.requires.narrow n).0))
+            (lt_of_le_of_lt (le_of_eq w.size_outside-more.ensures) (lt_of_le_of_lt c.is_open.ensures.small (c.requires.narrow n).0.0))
             w.add_up-outside.result w.add_up-outside.ensures;
       }
       | else-is_open w ↦ rw (w.iw-is, w.end-is, w.outside-is, w.hash-is, next) record {
@@ -101,15 +101,15 @@ loop-p-preserved g c =
       }
     ]
 
-pub returns-clause-hash : goal.returns-clause-hash
-returns-clause-hash g c = let t = c.loop-p-test.false in let after : c.args.from ≤ c.loop-p.p = c.loop-p.auto.p in
-    let past : c.loop-p.p ≤ c.args.from + c.args.count = c.loop-p.auto.p-end (le-add_right _ _) in
-    let all : c.loop-p.p - c.args.from ≡ c.args.count = all_passed _ _ _ after past t in
-    c.loop-p.invariant.hash ∙ ap (λ m. hashed c.args.sum (filter (is_outside c.args.nv.now) (rows c.args.iw.now c.args.from m))) all
-
-pub returns-clause-filters : goal.returns-clause-filters
-returns-clause-filters g c = let t = c.loop-p-test.false in let after : c.args.from ≤ c.loop-p.p = c.loop-p.auto.p in
-    let past : c.loop-p.p ≤ c.args.from + c.args.count = c.loop-p.auto.p-end (le-add_right _ _) in
-    let all : c.loop-p.p - c.args.from ≡ c.args.count = all_passed _ _ _ after past t in
-    subst (λ m. Filters (length c.args.nv.now) (is_outside c.args.nv.now) (size_of c.args.nv.now) c.args.first c.args.iw.now c.args.from m
-    c.args.to c.loop-p.iw c.loop-p.end c.loop-p.outside) all c.loop-p.invariant.filters
+pub returns : goal.returns
+returns g c = record {
+  filters = (let t = c.loop-p-test.false in let after : c.args.from ≤ c.loop-p.p = c.loop-p.auto.p in
+      let past : c.loop-p.p ≤ c.args.from + c.args.count = c.loop-p.auto.p-end (le-add_right _ _) in
+      let all : c.loop-p.p - c.args.from ≡ c.args.count = all_passed _ _ _ after past t in
+      subst (λ m. Filters (length c.args.nv.now) (is_outside c.args.nv.now) (size_of c.args.nv.now) c.args.first c.args.iw.now c.args.from m
+      c.args.to c.loop-p.iw c.loop-p.end c.loop-p.outside) all c.loop-p.invariant.filters);
+  hash_is = (let t = c.loop-p-test.false in let after : c.args.from ≤ c.loop-p.p = c.loop-p.auto.p in
+      let past : c.loop-p.p ≤ c.args.from + c.args.count = c.loop-p.auto.p-end (le-add_right _ _) in
+      let all : c.loop-p.p - c.args.from ≡ c.args.count = all_passed _ _ _ after past t in
+      c.loop-p.invariant.hash ∙ ap (λ m. hashed c.args.sum (filter (is_outside c.args.nv.now) (rows c.args.iw.now c.args.from m))) all);
+}

@@ -31,7 +31,7 @@ named-e-requires-clause-is_one g c =
     let iw : List ℤ = c.args.iw.now in let from : ℕ = c.args.from in let p : ℕ = c.loop-p.p in let k : ℕ = p - from in
     let after : from ≤ p = c.loop-p.auto.p in let t = c.loop-p-test.true in
     let at : p ≡ from + k = sym (add-sub_of_le after) in let l : k < c.args.count = within_count after t in
-    let word_k = c.requires.names k l in let same : word c.loop-p.iw p ≡ word iw p = c.loop-p.invariant.behind p (le_refl p) in
+    let word_k = c.requires.span.names k l in let same : word c.loop-p.iw p ≡ word iw p = c.loop-p.invariant.behind p (le_refl p) in
     let is_one : is_place (word iw p) ≡ true = ap (λ m. is_place (word iw m)) at ∙ word_k.0 in
     ap is_place same ∙ is_one
 
@@ -40,7 +40,7 @@ cell_at-counter-requires g c =
     let iw : List ℤ = c.args.iw.now in let from : ℕ = c.args.from in let p : ℕ = c.loop-p.p in let k : ℕ = p - from in
     let after : from ≤ p = c.loop-p.auto.p in let t = c.loop-p-test.true in
     let at : p ≡ from + k = sym (add-sub_of_le after) in let l : k < c.args.count = within_count after t in
-    let word_k = c.requires.names k l in let same : word c.loop-p.iw p ≡ word iw p = c.loop-p.invariant.behind p (le_refl p) in
+    let word_k = c.requires.span.names k l in let same : word c.loop-p.iw p ≡ word iw p = c.loop-p.invariant.behind p (le_refl p) in
     let small : place (word iw p) < length c.args.w.now = lt_of_le_of_lt (le_of_eq (ap (λ m. place (word iw m)) at)) word_k.1 in
     let row : c.named-e.result ≡ place (word iw p) = c.named-e.ensures ∙ ap place same in
     lt_of_le_of_lt (le_of_eq row) small
@@ -58,7 +58,7 @@ loop-p-preserved g c =
     let after : from ≤ p = c.loop-p.auto.p in let t = c.loop-p-test.true in
     let at : p ≡ from + k = sym (add-sub_of_le after) in let l : k < c.args.count = within_count after t in
     let next : p + 1 - from ≡ k + 1 = next_place after in
-    let word_k = c.requires.names k l in let same : word c.loop-p.iw p ≡ word iw p = c.loop-p.invariant.behind p (le_refl p) in
+    let word_k = c.requires.span.names k l in let same : word c.loop-p.iw p ≡ word iw p = c.loop-p.invariant.behind p (le_refl p) in
     let is_one : is_place (word iw p) ≡ true = ap (λ m. is_place (word iw m)) at ∙ word_k.0 in
     let small : place (word iw p) < length c.args.w.now = lt_of_le_of_lt (le_of_eq (ap (λ m. place (word iw m)) at)) word_k.1 in
     let row : c.named-e.result ≡ place (word iw p) = c.named-e.ensures ∙ ap place same in
@@ -97,7 +97,7 @@ loop-p-preserved g c =
           ∙ ap (λ b. cond b c.named-e.result 0) goes in
           rw (c.copy_word.ensures, ends, adds, next) record {
             filters = open_yes (length w0) kept share 0 iw from from c.loop-p.iw h p at (le_refl from) behind
-                c.add_up-outside.result (let a = c.requires.inside in omega (arith, a, at, l)) is_one small
+                c.add_up-outside.result (let a = c.requires.span.inside in omega (arith, a, at, l)) is_one small
                 (pass_is ∙ goes) (total ∙ ap (λ m. cut (c.loop-p.outside + (m - c.args.less))) counter_is);
             behind = open_behind (length w0) kept share 0 iw from from c.loop-p.iw h p at (le_refl from) behind;
             hash = hashed_yes kept 0 iw from k c.loop-p.hash c.loop-p.invariant.hash c.named-e.result there (pass_is ∙ goes);
@@ -105,35 +105,28 @@ loop-p-preserved g c =
           })
     ]
 
-pub returns-clause-hash : goal.returns-clause-hash
-returns-clause-hash g c = let t = c.loop-p-test.false in let after : c.args.from ≤ c.loop-p.p = c.loop-p.auto.p in
-    let past : c.loop-p.p ≤ c.args.from + c.args.count = c.loop-p.auto.p-end (le-add_right _ _) in
-    let all : c.loop-p.p - c.args.from ≡ c.args.count = all_passed _ _ _ after past t in
-    c.loop-p.invariant.hash ∙ ap (λ m. hashed 0 (filter (is_kept c.args.w.now) (rows c.args.iw.now c.args.from m))) all
-
-pub returns-clause-filters : goal.returns-clause-filters
-returns-clause-filters g c = let t = c.loop-p-test.false in let after : c.args.from ≤ c.loop-p.p = c.loop-p.auto.p in
-    let past : c.loop-p.p ≤ c.args.from + c.args.count = c.loop-p.auto.p-end (le-add_right _ _) in
-    let all : c.loop-p.p - c.args.from ≡ c.args.count = all_passed _ _ _ after past t in
-    subst (λ m. Filters (length c.args.w.now) (is_kept c.args.w.now) (λ e. num c.args.w.now e - c.args.less) 0 c.args.iw.now c.args.from m
-    c.args.from (set c.loop-p.iw c.loop-p.end (word c.args.iw.now c.loop-p.end)) c.loop-p.end c.loop-p.outside)
-    all c.loop-p.invariant.filters
-
-pub overflow_add-p-end : goal.overflow_add-p-end
-overflow_add-p-end g c = record { fits = lt_of_le_of_lt c.requires.inside (lt_trans c.requires.short (lit< tt)) }
+pub returns : goal.returns
+returns g c = record {
+  filters = (let t = c.loop-p-test.false in let after : c.args.from ≤ c.loop-p.p = c.loop-p.auto.p in
+      let past : c.loop-p.p ≤ c.args.from + c.args.count = c.loop-p.auto.p-end (le-add_right _ _) in
+      let all : c.loop-p.p - c.args.from ≡ c.args.count = all_passed _ _ _ after past t in
+      subst (λ m. Filters (length c.args.w.now) (is_kept c.args.w.now) (λ e. num c.args.w.now e - c.args.less) 0 c.args.iw.now c.args.from m
+      c.args.from (set c.loop-p.iw c.loop-p.end (word c.args.iw.now c.loop-p.end)) c.loop-p.end c.loop-p.outside)
+      all c.loop-p.invariant.filters);
+  behind = (λ k l. c.loop-p.invariant.behind k (le_trans (c.loop-p.auto.p-end (le-add_right _ _)) l));
+  hash_is = (let t = c.loop-p-test.false in let after : c.args.from ≤ c.loop-p.p = c.loop-p.auto.p in
+      let past : c.loop-p.p ≤ c.args.from + c.args.count = c.loop-p.auto.p-end (le-add_right _ _) in
+      let all : c.loop-p.p - c.args.from ≡ c.args.count = all_passed _ _ _ after past t in
+      c.loop-p.invariant.hash ∙ ap (λ m. hashed 0 (filter (is_kept c.args.w.now) (rows c.args.iw.now c.args.from m))) all);
+  small = (λ n. let past : c.loop-p.p ≤ c.args.from + c.args.count = c.loop-p.auto.p-end (le-add_right _ _) in
+      let all : c.loop-p.p - c.args.from ≡ c.args.count = all_passed _ _ _ c.loop-p.auto.p past c.loop-p-test.false in
+      subst (λ m. c.loop-p.outside ≤ 4294967295 * m) all (c.loop-p.invariant.small n));
+}
 
 pub named-e-requires-clause-inside : goal.named-e-requires-clause-inside
 named-e-requires-clause-inside g c = lt_of_lt_of_le c.loop-p-test.true
-    (le_trans c.requires.inside (le_of_eq (sym c.loop-p.invariant.filters.long
+    (le_trans c.requires.span.inside (le_of_eq (sym c.loop-p.invariant.filters.long
     ∙ length-set c.loop-p.iw c.loop-p.end (word c.args.iw.now c.loop-p.end))))
-
-pub returns-clause-behind : goal.returns-clause-behind
-returns-clause-behind g c k l = c.loop-p.invariant.behind k (le_trans (c.loop-p.auto.p-end (le-add_right _ _)) l)
 
 pub loop-p-smaller : goal.loop-p-smaller
 loop-p-smaller g c = falls (c.args.from + c.args.count) c.loop-p.p c.loop-p-test.true
-
-pub returns-clause-small : goal.returns-clause-small
-returns-clause-small g c n = let past : c.loop-p.p ≤ c.args.from + c.args.count = c.loop-p.auto.p-end (le-add_right _ _) in
-    let all : c.loop-p.p - c.args.from ≡ c.args.count = all_passed _ _ _ c.loop-p.auto.p past c.loop-p-test.false in
-    subst (λ m. c.loop-p.outside ≤ 4294967295 * m) all (c.loop-p.invariant.small n)

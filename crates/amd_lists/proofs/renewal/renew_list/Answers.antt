@@ -8,11 +8,15 @@ use Rattle.std.proofs.Common.{lt_of_lt_of_le, lt_of_le_of_lt, le_trans, lt_trans
 use Rattle.amd_words.proofs.WordCounts.{rest_within}
 use Rattle.amd_lists.proofs.renewal.renew_list.Goals as goal
 
-pub keep_variables-end-requires-clause-names : goal.keep_variables-end-requires-clause-names
-keep_variables-end-requires-clause-names g c = subst (λ m. Names m c.keep_elements-middle.new.iw (c.args.from + c.args.n_elements)
-    (c.args.count - c.args.n_elements)) (sym c.requires.lengths)
-    (names_after (length c.args.w.now) c.args.iw.now c.keep_elements-middle.new.iw c.args.from c.args.n_elements c.args.count
-    c.keep_elements-middle.ensures.behind c.requires.names)
+pub keep_variables-end-requires-clause-span : goal.keep_variables-end-requires-clause-span
+keep_variables-end-requires-clause-span g c = record {
+  inside = (rest_within c.args.from c.args.n_elements c.args.count (length c.keep_elements-middle.new.iw) c.requires.parts
+      (le_trans c.requires.inside (le_of_eq (sym c.keep_elements-middle.ensures.filters.long ∙ length-set _ _ _))));
+  names = (subst (λ m. Names m c.keep_elements-middle.new.iw (c.args.from + c.args.n_elements)
+      (c.args.count - c.args.n_elements)) (sym c.requires.lengths)
+      (names_after (length c.args.w.now) c.args.iw.now c.keep_elements-middle.new.iw c.args.from c.args.n_elements c.args.count
+      c.keep_elements-middle.ensures.behind c.requires.names));
+}
 
 pub put_first-requires-clause-inside : goal.put_first-requires-clause-inside
 put_first-requires-clause-inside g c =
@@ -25,76 +29,53 @@ put_first-requires-clause-inside g c =
     c.args.iw.now c.keep_elements-middle.new.iw c.keep_variables-end.new.iw c.args.from c.args.n_elements c.args.count
     c.keep_elements-middle.result.0 c.keep_elements-middle.result.1 c.keep_variables-end.result.0 c.keep_variables-end.result.1
     c.args.me c.keep_elements-middle.ensures.filters c.keep_elements-middle.ensures.behind g
-    c.requires.parts c.requires.me.0 c.requires.inside c.requires.room
+    c.requires.parts c.requires.row.0 c.requires.inside c.requires.room
 
-pub returns-clause-renews : goal.returns-clause-renews
-returns-clause-renews g c =
-    let g = subst (λ m. Filters m (is_outside c.args.nv.now) (size_of c.args.nv.now)
-    c.keep_elements-middle.result.1 c.keep_elements-middle.new.iw (c.args.from + c.args.n_elements) (c.args.count - c.args.n_elements)
-    c.keep_elements-middle.result.0 c.keep_variables-end.new.iw c.keep_variables-end.result.0 c.keep_variables-end.result.1)
-    c.requires.lengths c.keep_variables-end.ensures.filters in
-    rw c.put_first.ensures (renews (length c.args.w.now) (is_kept c.args.w.now) (is_outside c.args.nv.now) (λ e.
-    num c.args.w.now e - c.args.flag) (size_of c.args.nv.now)
-    c.args.iw.now c.keep_elements-middle.new.iw c.keep_variables-end.new.iw c.args.from c.args.n_elements c.args.count
-    c.keep_elements-middle.result.0 c.keep_elements-middle.result.1 c.keep_variables-end.result.0 c.keep_variables-end.result.1
-    c.args.me c.keep_elements-middle.ensures.filters c.keep_elements-middle.ensures.behind g
-    c.requires.parts c.requires.me.0 c.requires.inside c.requires.room)
+pub returns : goal.returns
+returns g c = record {
+  renews = (let g = subst (λ m. Filters m (is_outside c.args.nv.now) (size_of c.args.nv.now)
+      c.keep_elements-middle.result.1 c.keep_elements-middle.new.iw (c.args.from + c.args.n_elements) (c.args.count - c.args.n_elements)
+      c.keep_elements-middle.result.0 c.keep_variables-end.new.iw c.keep_variables-end.result.0 c.keep_variables-end.result.1)
+      c.requires.lengths c.keep_variables-end.ensures.filters in
+      rw c.put_first.ensures (renews (length c.args.w.now) (is_kept c.args.w.now) (is_outside c.args.nv.now) (λ e.
+      num c.args.w.now e - c.args.flag) (size_of c.args.nv.now)
+      c.args.iw.now c.keep_elements-middle.new.iw c.keep_variables-end.new.iw c.args.from c.args.n_elements c.args.count
+      c.keep_elements-middle.result.0 c.keep_elements-middle.result.1 c.keep_variables-end.result.0 c.keep_variables-end.result.1
+      c.args.me c.keep_elements-middle.ensures.filters c.keep_elements-middle.ensures.behind g
+      c.requires.parts c.requires.row.0 c.requires.inside c.requires.room));
+  outside = (let g = subst (λ m. Filters m (is_outside c.args.nv.now) (size_of c.args.nv.now)
+      c.keep_elements-middle.result.1 c.keep_elements-middle.new.iw (c.args.from + c.args.n_elements) (c.args.count - c.args.n_elements)
+      c.keep_elements-middle.result.0 c.keep_variables-end.new.iw c.keep_variables-end.result.0 c.keep_variables-end.result.1)
+      c.requires.lengths c.keep_variables-end.ensures.filters in
+      renew_outside (length c.args.w.now) (is_kept c.args.w.now) (is_outside c.args.nv.now) (λ e.
+      num c.args.w.now e - c.args.flag) (size_of c.args.nv.now)
+      c.args.iw.now c.keep_elements-middle.new.iw c.keep_variables-end.new.iw c.args.from c.args.n_elements c.args.count
+      c.keep_elements-middle.result.0 c.keep_elements-middle.result.1 c.keep_variables-end.result.0 c.keep_variables-end.result.1
+      c.args.me c.keep_elements-middle.ensures.filters c.keep_elements-middle.ensures.behind g
+      c.requires.parts c.requires.row.0 c.requires.inside c.requires.room);
+  hash_is = (let ks : List ℕ = filter (is_kept c.args.w.now) (rows c.args.iw.now c.args.from c.args.n_elements) in
+      let from : ℕ = c.args.from + c.args.n_elements in let count : ℕ = c.args.count - c.args.n_elements in
+      let same : rows c.keep_elements-middle.new.iw from count ≡ rows c.args.iw.now from count = rows_same c.args.iw.now
+      c.keep_elements-middle.new.iw from from count (λ k l. c.keep_elements-middle.ensures.behind (from + k) (omega arith)) in
+      c.keep_variables-end.ensures.hash_is ∙ ap (λ xs. hashed c.keep_elements-middle.result.2 (filter (is_outside c.args.nv.now) xs)) same
+      ∙ ap (λ h. hashed h (filter (is_outside c.args.nv.now) (rows c.args.iw.now from count))) c.keep_elements-middle.ensures.hash_is
+      ∙ hashed_both ks (filter (is_outside c.args.nv.now) (rows c.args.iw.now from count)));
+}
 
-pub returns-clause-outside : goal.returns-clause-outside
-returns-clause-outside g c =
-    let g = subst (λ m. Filters m (is_outside c.args.nv.now) (size_of c.args.nv.now)
-    c.keep_elements-middle.result.1 c.keep_elements-middle.new.iw (c.args.from + c.args.n_elements) (c.args.count - c.args.n_elements)
-    c.keep_elements-middle.result.0 c.keep_variables-end.new.iw c.keep_variables-end.result.0 c.keep_variables-end.result.1)
-    c.requires.lengths c.keep_variables-end.ensures.filters in
-    renew_outside (length c.args.w.now) (is_kept c.args.w.now) (is_outside c.args.nv.now) (λ e.
-    num c.args.w.now e - c.args.flag) (size_of c.args.nv.now)
-    c.args.iw.now c.keep_elements-middle.new.iw c.keep_variables-end.new.iw c.args.from c.args.n_elements c.args.count
-    c.keep_elements-middle.result.0 c.keep_elements-middle.result.1 c.keep_variables-end.result.0 c.keep_variables-end.result.1
-    c.args.me c.keep_elements-middle.ensures.filters c.keep_elements-middle.ensures.behind g
-    c.requires.parts c.requires.me.0 c.requires.inside c.requires.room
-
-pub returns-clause-hash : goal.returns-clause-hash
-returns-clause-hash g c =
-    let ks : List ℕ = filter (is_kept c.args.w.now) (rows c.args.iw.now c.args.from c.args.n_elements) in
-    let from : ℕ = c.args.from + c.args.n_elements in let count : ℕ = c.args.count - c.args.n_elements in
-    let same : rows c.keep_elements-middle.new.iw from count ≡ rows c.args.iw.now from count = rows_same c.args.iw.now
-    c.keep_elements-middle.new.iw from from count (λ k l. c.keep_elements-middle.ensures.behind (from + k) (omega arith)) in
-    c.keep_variables-end.ensures.hash ∙ ap (λ xs. hashed c.keep_elements-middle.result.2 (filter (is_outside c.args.nv.now) xs)) same
-    ∙ ap (λ h. hashed h (filter (is_outside c.args.nv.now) (rows c.args.iw.now from count))) c.keep_elements-middle.ensures.hash
-    ∙ hashed_both ks (filter (is_outside c.args.nv.now) (rows c.args.iw.now from count))
-
-pub keep_elements-middle-requires-clause-inside : goal.keep_elements-middle-requires-clause-inside
-keep_elements-middle-requires-clause-inside g c = le_trans (add-le-add (le_refl c.args.from) c.requires.parts) c.requires.inside
-
-pub keep_elements-middle-requires-clause-short : goal.keep_elements-middle-requires-clause-short
-keep_elements-middle-requires-clause-short g c = c.requires.short
-
-pub keep_elements-middle-requires-clause-names : goal.keep_elements-middle-requires-clause-names
-keep_elements-middle-requires-clause-names g c k l = c.requires.names k (lt_of_lt_of_le l c.requires.parts)
-
-pub overflow_add-from : goal.overflow_add-from
-overflow_add-from g c = record {
-  fits = lt_of_le_of_lt (le_trans (add-le-add (le_refl c.args.from) c.requires.parts) c.requires.inside)
-      (lt_trans c.requires.short (lit< tt));
+pub keep_elements-middle-requires-clause-span : goal.keep_elements-middle-requires-clause-span
+keep_elements-middle-requires-clause-span g c = record {
+  inside = (le_trans (add-le-add (le_refl c.args.from) c.requires.parts) c.requires.inside);
+  names = (λ k l. c.requires.names k (lt_of_lt_of_le l c.requires.parts));
 }
 
 pub overflow_sub-count : goal.overflow_sub-count
 overflow_sub-count g c = c.requires.parts
 
-pub keep_variables-end-requires-clause-inside : goal.keep_variables-end-requires-clause-inside
-keep_variables-end-requires-clause-inside g c =
-    rest_within c.args.from c.args.n_elements c.args.count (length c.keep_elements-middle.new.iw) c.requires.parts
-    (le_trans c.requires.inside (le_of_eq (sym c.keep_elements-middle.ensures.filters.long ∙ length-set _ _ _)))
-
 pub keep_variables-end-requires-clause-down : goal.keep_variables-end-requires-clause-down
 keep_variables-end-requires-clause-down g c = c.keep_elements-middle.ensures.filters.high
-
-pub keep_variables-end-requires-clause-short : goal.keep_variables-end-requires-clause-short
-keep_variables-end-requires-clause-short g c =
-    subst (λ n. n < 2 ^ 63) (sym c.keep_elements-middle.ensures.filters.long ∙ length-set _ _ _) c.requires.short
 
 pub put_first-requires-clause-order : goal.put_first-requires-clause-order
 put_first-requires-clause-order g c = (c.keep_elements-middle.ensures.filters.low, c.keep_variables-end.ensures.filters.low)
 
 pub put_first-requires-clause-small : goal.put_first-requires-clause-small
-put_first-requires-clause-small g c = c.requires.me.1
+put_first-requires-clause-small g c = c.requires.row.1

@@ -1,3 +1,4 @@
+use Rattle.std.proofs.Common.{rules}
 use Rattle.std.proofs.Common.{ap, ◌∙◌, ◌+◌, ◌-◌, arith, cond, set}
 use Rattle.std.specs.Prelude.{min}
 use Rattle.amd_words.specs.Words.{num}
@@ -22,11 +23,12 @@ empty_bucket-requires-clause-short g c = let h = c.requires.lengths.3 in let s =
 pub cell_at-requires : goal.cell_at-requires
 cell_at-requires g c = let r = c.requires.row in let n = c.requires.lengths.1 in omega (arith, r, n)
 
-pub put_head-requires-clause-lengths : goal.put_head-requires-clause-lengths
-put_head-requires-clause-lengths g c = let l = c.requires.lengths in (l.2, l.1)
-
-pub put_head-requires-clause-short : goal.put_head-requires-clause-short
-put_head-requires-clause-short g c = c.requires.short.1
+pub put_head-requires : goal.put_head-requires
+put_head-requires g c = record {
+  lengths = (let l = c.requires.lengths in (l.2, l.1));
+  short = (c.requires.short.1);
+  row = search rules;
+}
 
 pub returns-clause-sizes : goal.returns-clause-sizes
 returns-clause-sizes g c = c.leave-size.ensures.sizes
@@ -51,7 +53,7 @@ returns-clause-emptied g c = c.empty_bucket.ensures
     c.requires.lengths.3
 
 pub returns-clause-lasts : goal.returns-clause-lasts
-returns-clause-lasts g c = c.put_head.ensures.lasts
+returns-clause-lasts g c = c.put_head.ensures.others
 
 pub returns-clause-linked : goal.returns-clause-linked
 returns-clause-linked g c = c.put_head.ensures.linked
