@@ -5,3 +5,5 @@ pub mod Room
 pub mod Compaction
 pub mod Beginning
 pub mod Pivots
+pub mod Premises
+pub mod Effects

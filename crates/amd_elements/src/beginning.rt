@@ -3,15 +3,10 @@
 // and the elements that it lists end. Source: Amestoy, Davis and Duff 1996 (element formation and absorption). Called
 // by: a round.
 
-ghost use Rattle.std.specs.Prelude.{◌≡◌, ◌<◌, ◌≤◌, ◌+◌, ◌^◌, ◌==◌, ◌&&◌, not, cond, pos, ℕ, [], true, false, length};
-ghost use Rattle.std.specs.Prelude.{nat_lt, sum_by};
-ghost use Rattle.amd_model.specs.Quotient.{has};
-ghost use Rattle.amd_words.specs.Words.{num, word, is_place, size_of, in_front};
-ghost use Rattle.amd_elements.specs.Element.{front_of};
-ghost use Rattle.amd_lists.specs.Layout.{has_list, elements_in, Layout, live_words};
-ghost use Rattle.amd_elements.specs.Beginning.{Begins};
-ghost use Rattle.amd_lists.specs.Lengths.{HasCounters};
-ghost use Rattle.amd_elements.specs.Pivots.{built_front, HasElements, IsBehind};
+ghost use Rattle.std.specs.Prelude.{◌<◌, ◌≡◌, length, true};
+ghost use Rattle.amd_words.specs.Words.{in_front, size_of};
+ghost use Rattle.amd_elements.specs.Effects.{BeginsBuilt, BeginsOwn, TakesPivot};
+ghost use Rattle.amd_elements.specs.Premises.{CanBeginBuilt, CanBeginOwn};
 
 use crate::making::make_element;
 use crate::own_place::make_own;
@@ -37,9 +32,7 @@ fn take_pivot<S: Signed>(nv: &mut [Word<S>], me: usize) -> usize
     requires inside { me < length nv.old }
     requires marked { in_front nv.old me ≡ true }
     ensures rows { result ≡ size_of nv.old me }
-    ensures long { length nv.new ≡ length nv.old }
-    ensures sizes { (j : ℕ) → size_of nv.new j ≡ cond (j == me) 0 (size_of nv.old j) }
-    ensures front { (j : ℕ) → in_front nv.new j ≡ (in_front nv.old j && not (j == me)) }
+    ensures takes { TakesPivot me nv.old nv.new }
 {
     let rows = size_inside(nv, me);
     put_row(nv, me, 0);
@@ -53,25 +46,12 @@ pub fn begin_own<S: Signed, U: Unsigned>(
     nv: &mut [Word<S>],
     e_len: &mut [Word<S>],
     len: &mut [Cell<U>],
-    pe: &[Word<S>],
+    pe: &mut [Word<S>],
     me: usize,
     free: usize,
 ) -> Begun
-    requires lengths { (length pe.now ≡ length nv.old) × (length e_len.old ≡ length nv.old) ×
-        (length len.old ≡ length nv.old) }
-    requires short { length iw.old < 2 ^ 63 }
-    requires end { free ≤ length iw.old }
-    requires laid { Layout (length nv.old) iw.old pe.now e_len.old len.old free }
-    requires pivot { (me < length nv.old) × (0 < size_of nv.old me) }
-    requires listed { has_list pe.now len.old me ≡ true }
-    requires count { word e_len.old me ≡ pos 0 }
-    requires clear { (j : ℕ) → in_front nv.old j ≡ false }
-    requires few { sum_by (size_of nv.old) (front_of iw.old nv.old pe.now len.old me 0) + 2 ≤ S.MOST }
-    ensures begins { Begins (length nv.old) me [] (front_of iw.old nv.old pe.now len.old me 0) result.total iw.old
-        nv.old pe.now e_len.old len.old iw.new nv.new pe.now e_len.new len.new result.free }
-    ensures total { result.total ≡ sum_by (size_of nv.old) (front_of iw.old nv.old pe.now len.old me 0) }
-    ensures block { result.block ≡ size_of nv.old me }
-    ensures stays { (result.free ≡ free) × (result.packed ≡ false) }
+    requires { CanBeginOwn S.MOST me iw.old nv.old pe.old e_len.old len.old free }
+    ensures { BeginsOwn me iw.old nv.old pe.old e_len.old len.old free iw.new nv.new pe.new e_len.new len.new result }
 {
     let (_, total) = make_own(iw, nv, e_len, len, pe, me, free);
     let block = take_pivot(nv, me);
@@ -96,29 +76,9 @@ pub fn begin_built<S: Signed, U: Unsigned>(
     me: usize,
     free: usize,
 ) -> Begun
-    requires lengths { HasCounters (length nv.old) pe.old e_len.old len.old w.old }
-    requires short { (length iw.old < 2 ^ 63) × (length nv.old + 2 ≤ S.MOST) }
-    requires narrow { (length iw.old ≤ S.MOST) × (length iw.old ≤ U.MOST) }
-    requires end { free ≤ length iw.old }
-    requires laid { Layout (length nv.old) iw.old pe.old e_len.old len.old free }
-    requires room { live_words (length nv.old) pe.old len.old + length nv.old ≤ length iw.old }
-    requires pivot { (me < length nv.old) × (0 < size_of nv.old me) }
-    requires listed { has_list pe.old len.old me ≡ true }
-    requires count { is_place (word e_len.old me) ≡ true }
-    requires elements { HasElements iw.old pe.old e_len.old len.old me }
-    requires clear { (j : ℕ) → in_front nv.old j ≡ false }
-    requires few { sum_by (size_of nv.old) (built_front iw.old nv.old pe.old e_len.old len.old me) + 2 ≤ S.MOST }
-    ensures begins { Begins (length nv.old) me (elements_in iw.old pe.old e_len.old me)
-        (built_front iw.old nv.old pe.old e_len.old len.old me) result.total iw.old nv.old pe.old e_len.old len.old
-        iw.new nv.new pe.new e_len.new len.new result.free }
-    ensures counters { (e : ℕ) → num w.new e ≡ cond (has (elements_in iw.old pe.old e_len.old me) e) 0 (num w.old e) }
-    ensures long { length w.new ≡ length w.old }
-    ensures before { IsBehind pe.new len.new me }
-    ensures end { result.free ≤ length iw.new }
-    ensures total { result.total ≡ sum_by (size_of nv.old) (built_front iw.old nv.old pe.old e_len.old len.old me) }
-    ensures block { result.block ≡ size_of nv.old me }
-    ensures packed { result.packed ≡ nat_lt (length iw.old)
-        (free + length (built_front iw.old nv.old pe.old e_len.old len.old me)) }
+    requires { CanBeginBuilt S.MOST U.MOST me iw.old nv.old pe.old e_len.old len.old w.old free }
+    ensures { BeginsBuilt me iw.old nv.old pe.old e_len.old len.old w.old free iw.new nv.new pe.new e_len.new len.new
+        w.new result }
 {
     let (from, packed) = make_room(iw, nv, pe, len, e_len, me, free);
     let (end, total) = make_element(iw, nv, pe, e_len, len, w, me, from);

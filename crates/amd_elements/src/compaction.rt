@@ -2,21 +2,17 @@
 // makes room for a mark of its row, so that one pass over the words meets the lists in the order of their places.
 // Source: Amestoy, Davis and Duff 1996 (garbage collection). Called by `room`.
 
-ghost use Rattle.std.specs.Prelude.{◌≡◌, ◌≢◌, ◌<◌, ◌≤◌, ◌+◌, ◌^◌, pos, negsuc, true, false, length, slice_index_or};
-ghost use Rattle.std.specs.Prelude.{slice_set};
-ghost use Rattle.amd_words.specs.Words.{is_place, place, flip_of, word, start};
-ghost use Rattle.amd_lists.specs.Layout.{Layout};
-ghost use Rattle.amd_elements.specs.Compaction.{Spaced, Compacts, Moves, Packs};
+ghost use Rattle.std.specs.Prelude.{◌+◌, ◌≡◌, ◌≤◌, pos, length, slice_set};
+ghost use Rattle.amd_words.specs.Words.{flip_of, start, word};
+ghost use Rattle.amd_elements.specs.Compaction.{Compacts, Moves};
+ghost use Rattle.amd_elements.specs.Premises.{CanCompact, CanMark, CanMove};
 
 use amd_words::words::{flipped, named, names_one, put_flip, put_row};
 use amd_words::{Cell, Signed, Unsigned, Word, cell_at, copy_word, put_word, word_at};
 
 /// Puts the mark of row j in place of the first word of its list, and that word in place of its start.
 fn mark_row<S: Signed>(iw: &mut [Word<S>], pe: &mut [Word<S>], j: usize)
-    requires row { j < length pe.old }
-    requires small { j + 2 ≤ S.MOST }
-    requires is_one { is_place (word pe.old j) ≡ true }
-    requires inside { start pe.old j < length iw.old }
+    requires { CanMark S.MOST j iw.old pe.old }
     ensures words { iw.new ≡ slice_set iw.old (start pe.old j) (flip_of j) }
     ensures starts { pe.new ≡ slice_set pe.old j (word iw.old (start pe.old j)) }
 {
@@ -45,11 +41,7 @@ fn move_list<S: Signed>(
     to: usize,
     count: usize,
 )
-    requires row { j < length pe.old }
-    requires some { 0 < count }
-    requires inside { from + count ≤ length iw.old }
-    requires down { to ≤ from }
-    requires small { to ≤ S.MOST }
+    requires { CanMove S.MOST j iw.old pe.old from to count }
     ensures starts { pe.new ≡ slice_set pe.old j (pos to) }
     ensures moves { Moves (slice_set iw.old from (word pe.old j)) iw.new from to count }
 {
@@ -58,19 +50,15 @@ fn move_list<S: Signed>(
     move_words(iw, from, to, count);
 }
 
-/// Moves the lists down so that no word lies between them, and answers the new free end.
-fn compact<S: Signed, U: Unsigned>(
+/// Moves the lists down so that no word lies between them. Returns the new free end: how many words they have.
+#[cold]
+pub fn compact<S: Signed, U: Unsigned>(
     iw: &mut [Word<S>],
     pe: &mut [Word<S>],
     len: &mut [Cell<U>],
     free: usize,
 ) -> usize
-    requires lengths { length pe.old ≡ length len.old }
-    requires small { length len.old + 2 ≤ S.MOST }
-    requires narrow { length iw.old ≤ S.MOST }
-    requires end { free ≤ length iw.old }
-    requires short { length iw.old < 2 ^ 63 }
-    requires layout { Spaced iw.old pe.old len.old free }
+    requires { CanCompact S.MOST iw.old pe.old len.old free }
     ensures compacts { Compacts iw.old pe.old len.old free iw.new pe.new result }
     ensures same { len.new ≡ len.old }
 {
@@ -93,25 +81,4 @@ fn compact<S: Signed, U: Unsigned>(
         }
     }
     dst
-}
-
-/// Moves the lists down so that no word lies between them, and answers the new free end: how many words they have.
-#[cold]
-pub fn pack<S: Signed, U: Unsigned>(
-    iw: &mut [Word<S>],
-    pe: &mut [Word<S>],
-    len: &mut [Cell<U>],
-    e_len: &[Word<S>],
-    free: usize,
-) -> usize
-    requires lengths { (length pe.old ≡ length len.old) × (length e_len.now ≡ length len.old) }
-    requires small { length len.old + 2 ≤ S.MOST }
-    requires narrow { length iw.old ≤ S.MOST }
-    requires end { free ≤ length iw.old }
-    requires short { length iw.old < 2 ^ 63 }
-    requires laid { Layout (length len.old) iw.old pe.old e_len.now len.old free }
-    ensures packs { Packs (length len.old) iw.old pe.old e_len.now len.old free iw.new pe.new result }
-    ensures same { len.new ≡ len.old }
-{
-    compact(iw, pe, len, free)
 }

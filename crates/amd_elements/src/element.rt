@@ -2,11 +2,9 @@
 // that the pivot lists. All other lists stay as they are. Source: Amestoy, Davis and Duff 1996 (element formation).
 // Called by `making`.
 
-ghost use Rattle.std.specs.Prelude.{◌≡◌, ◌<◌, ◌≤◌, ◌+◌, ◌-◌, ◌^◌, ◌||◌, ◌&&◌, ◌==◌, not, ℕ, true, false, length};
-ghost use Rattle.std.specs.Prelude.{sum_by};
-ghost use Rattle.amd_model.specs.Quotient.{has};
-ghost use Rattle.amd_words.specs.Words.{num, word, size_of, in_front, classes, rows, Names};
-ghost use Rattle.amd_elements.specs.Element.{grown, Gathers, front_of, ListsLaid, Builds};
+ghost use Rattle.amd_words.specs.Words.{classes, rows};
+ghost use Rattle.amd_elements.specs.Element.{Builds, Gathers, front_of};
+ghost use Rattle.amd_elements.specs.Premises.{CanBuild, CanGather};
 
 use amd_words::words::{enter, is_open, named};
 use amd_words::{Cell, Signed, Unsigned, Word, cell_at, copy_word};
@@ -22,18 +20,7 @@ pub fn gather<S: Signed>(
     free: usize,
     total: usize,
 ) -> (usize, usize)
-    requires source { from + count ≤ start }
-    requires order { start ≤ free }
-    requires short { length iw.old < 2 ^ 63 }
-    requires end { free ≤ length iw.old }
-    requires names { Names (length nv.old) iw.old from count }
-    requires made { Names (length nv.old) iw.old start (free - start) }
-    requires known { (j : ℕ) → has (rows iw.old start (free - start)) j ≡ true → in_front nv.old j ≡ true }
-    requires total { total ≡ sum_by (size_of nv.old) (rows iw.old start (free - start)) }
-    requires fits { start + length (grown iw.old nv.old start free (classes nv.old (rows iw.old from count))) ≤ length
-        iw.old }
-    requires few { sum_by (size_of nv.old) (grown iw.old nv.old start free
-        (classes nv.old (rows iw.old from count))) < 2 ^ 63 }
+    requires { CanGather iw.old nv.old from count start free total }
     ensures { Gathers iw.old nv.old start free (classes nv.old (rows iw.old from count)) iw.new nv.new result.0
         result.1 }
 {
@@ -62,15 +49,7 @@ pub fn build<S: Signed, U: Unsigned>(
     n_elements: usize,
     free: usize,
 ) -> (usize, usize)
-    requires short { length iw.old < 2 ^ 63 }
-    requires end { free ≤ length iw.old }
-    requires lengths { (length pe.now ≡ length nv.old) × (length len.now ≡ length nv.old) }
-    requires pivot { (pivot < length nv.old) × (0 < size_of nv.old pivot) }
-    requires elements { n_elements ≤ num len.now pivot }
-    requires laid { ListsLaid iw.old pe.now len.now (length nv.old) free pivot n_elements }
-    requires clear { (j : ℕ) → in_front nv.old j ≡ false }
-    requires fits { free + length (front_of iw.old nv.old pe.now len.now pivot n_elements) ≤ length iw.old }
-    requires few { sum_by (size_of nv.old) (front_of iw.old nv.old pe.now len.now pivot n_elements) < 2 ^ 63 }
+    requires { CanBuild pivot n_elements iw.old nv.old pe.now len.now free }
     ensures { Builds pivot (front_of iw.old nv.old pe.now len.now pivot n_elements) iw.old nv.old free iw.new nv.new
         result.0 result.1 }
 {

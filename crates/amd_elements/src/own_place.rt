@@ -1,11 +1,12 @@
 // The list of a new element whose pivot lists no element: it is made in the place of the pivot's list, so it needs no
 // room. Source: Amestoy, Davis and Duff 1996 (element formation in place). Called by `beginning`.
 
-ghost use Rattle.std.specs.Prelude.{◌≡◌, ◌<◌, ◌≤◌, ◌+◌, ◌-◌, ◌^◌, pos, ℕ, [], true, false, length, sum_by};
-ghost use Rattle.amd_words.specs.Words.{num, word, start, size_of, in_front, classes, rows, Names};
-ghost use Rattle.amd_elements.specs.Element.{grown, Gathers, front_of, Builds};
-ghost use Rattle.amd_lists.specs.Layout.{has_list, Layout};
+ghost use Rattle.std.specs.Prelude.{[], ◌<◌, ◌^◌, length, sum_by};
+ghost use Rattle.amd_words.specs.Words.{classes, rows, size_of, start};
+ghost use Rattle.amd_lists.specs.Spans.{IsSpan};
+ghost use Rattle.amd_elements.specs.Element.{Builds, Gathers, front_of, grown};
 ghost use Rattle.amd_elements.specs.Making.{Makes};
+ghost use Rattle.amd_elements.specs.Premises.{CanBeginOwn};
 
 use amd_words::words::{enter, is_open, named, put_flip};
 use amd_words::{Cell, Signed, Unsigned, Word, cell_at, copy_word, put_cell};
@@ -18,9 +19,7 @@ pub fn gather_own<S: Signed>(
     from: usize,
     count: usize,
 ) -> (usize, usize)
-    requires short { length iw.old < 2 ^ 63 }
-    requires inside { from + count ≤ length iw.old }
-    requires names { Names (length nv.old) iw.old from count }
+    requires span { IsSpan (length nv.old) iw.old from count }
     requires few { sum_by (size_of nv.old) (grown iw.old nv.old from from (classes nv.old (rows iw.old from count))) < 2
         ^ 63 }
     ensures { Gathers iw.old nv.old from from (classes nv.old (rows iw.old from count)) iw.new nv.new result.0
@@ -50,16 +49,7 @@ pub fn make_own<S: Signed, U: Unsigned>(
     me: usize,
     free: usize,
 ) -> (usize, usize)
-    requires lengths { (length pe.now ≡ length nv.old) × (length e_len.old ≡ length nv.old) ×
-        (length len.old ≡ length nv.old) }
-    requires short { length iw.old < 2 ^ 63 }
-    requires end { free ≤ length iw.old }
-    requires laid { Layout (length nv.old) iw.old pe.now e_len.old len.old free }
-    requires pivot { (me < length nv.old) × (0 < size_of nv.old me) }
-    requires listed { has_list pe.now len.old me ≡ true }
-    requires count { word e_len.old me ≡ pos 0 }
-    requires clear { (j : ℕ) → in_front nv.old j ≡ false }
-    requires few { sum_by (size_of nv.old) (front_of iw.old nv.old pe.now len.old me 0) + 2 ≤ S.MOST }
+    requires { CanBeginOwn S.MOST me iw.old nv.old pe.now e_len.old len.old free }
     ensures builds { Builds me (front_of iw.old nv.old pe.now len.old me 0) iw.old nv.old (start pe.now me) iw.new
         nv.new result.0 result.1 }
     ensures makes { Makes (length nv.old) me [] (front_of iw.old nv.old pe.now len.old me 0) result.1 iw.old pe.now

@@ -3,15 +3,15 @@
 // not fit. Counts go down from the room that there is, so no sum is formed. Source: Amestoy, Davis and Duff 1996
 // (garbage collection). Called by `beginning`.
 
-ghost use Rattle.std.specs.Prelude.{◌≡◌, ◌<◌, ◌≤◌, ◌+◌, ◌-◌, ◌^◌, ◌||◌, ◌&&◌, ◌==◌, ◌∷◌, [], not, ℕ, true, false};
-ghost use Rattle.std.specs.Prelude.{length, sum_by, nat_le, nat_lt};
-ghost use Rattle.amd_model.specs.Quotient.{has};
-ghost use Rattle.amd_words.specs.Words.{num, word, place, is_place, size_of, in_front, classes, rows, Names};
-ghost use Rattle.amd_elements.specs.Element.{elements_at, front_of, ListsLaid};
-ghost use Rattle.amd_lists.specs.Layout.{has_list, elements_in, Layout, live_words};
-ghost use Rattle.amd_elements.specs.Room.{Meets, Unmarks, Rooms, named_around};
+ghost use Rattle.std.specs.Prelude.{[], ◌+◌, ◌-◌, ◌<◌, ◌^◌, ◌∷◌, ◌≡◌, ◌≤◌, length, true, nat_le, sum_by};
+ghost use Rattle.amd_words.specs.Words.{classes, in_front, num, rows};
+ghost use Rattle.amd_lists.specs.Spans.{IsSpan};
+ghost use Rattle.amd_elements.specs.Effects.{MakesRoom, MeetsFront};
+ghost use Rattle.amd_elements.specs.Element.{ListsLaid, elements_at, front_of};
+ghost use Rattle.amd_elements.specs.Premises.{CanMakeRoom, HasLists, IsAround};
+ghost use Rattle.amd_elements.specs.Room.{Meets, Unmarks, named_around};
 
-use crate::compaction::pack;
+use crate::compaction::compact;
 use amd_words::words::{enter, is_marked, is_open, leave, named};
 use amd_words::{Cell, Signed, Unsigned, Word, cell_at};
 
@@ -36,8 +36,7 @@ fn meet_all<S: Signed>(
     count: usize,
     left: usize,
 ) -> usize
-    requires inside { from + count ≤ length iw.now }
-    requires names { Names (length nv.old) iw.now from count }
+    requires { IsSpan (length nv.old) iw.now from count }
     ensures { Meets nv.old (classes nv.old (rows iw.now from count)) left nv.new result }
 {
     let mut now = left;
@@ -60,16 +59,8 @@ fn meet_front<S: Signed, U: Unsigned>(
     n_elements: usize,
     left: usize,
 ) -> usize
-    requires lengths { (length pe.now ≡ length nv.old) × (length len.now ≡ length nv.old) }
-    requires pivot { (pivot < length nv.old) × (0 < size_of nv.old pivot) }
-    requires elements { n_elements ≤ num len.now pivot }
-    requires laid { ListsLaid iw.now pe.now len.now (length nv.old) (length iw.now) pivot n_elements }
-    requires clear { (j : ℕ) → in_front nv.old j ≡ false }
-    ensures wide { length nv.new ≡ length nv.old }
-    ensures sizes { (j : ℕ) → size_of nv.new j ≡ size_of nv.old j }
-    ensures front { (j : ℕ) → in_front nv.new j ≡ (j == pivot ||
-        has (front_of iw.now nv.old pe.now len.now pivot n_elements) j) }
-    ensures left { result ≡ left - length (front_of iw.now nv.old pe.now len.now pivot n_elements) }
+    requires { IsAround pivot n_elements iw.now nv.old pe.now len.now (length iw.now) }
+    ensures { MeetsFront pivot n_elements iw.now nv.old pe.now len.now left nv.new result }
 {
     enter(nv, pivot);
     let from = named(pe, pivot);
@@ -95,8 +86,7 @@ fn unmark<S: Signed>(nv: &mut [Word<S>], j: usize)
 
 /// Takes the rows that `count` words name out of the front.
 fn unmark_all<S: Signed>(iw: &[Word<S>], nv: &mut [Word<S>], from: usize, count: usize)
-    requires inside { from + count ≤ length iw.now }
-    requires names { Names (length nv.old) iw.now from count }
+    requires { IsSpan (length nv.old) iw.now from count }
     ensures { Unmarks nv.old (rows iw.now from count) nv.new }
 {
     for p in from..from + count {
@@ -115,10 +105,8 @@ fn unmark_front<S: Signed, U: Unsigned>(
     pivot: usize,
     n_elements: usize,
 )
-    requires lengths { (length pe.now ≡ length nv.old) × (length len.now ≡ length nv.old) }
+    requires lists { HasLists pivot n_elements iw.now nv.old pe.now len.now (length iw.now) }
     requires pivot { (pivot < length nv.old) × (in_front nv.old pivot ≡ true) }
-    requires elements { n_elements ≤ num len.now pivot }
-    requires laid { ListsLaid iw.now pe.now len.now (length nv.old) (length iw.now) pivot n_elements }
     ensures { Unmarks nv.old (pivot ∷ named_around iw.now pe.now len.now pivot n_elements) nv.new }
 {
     leave(nv, pivot);
@@ -168,13 +156,8 @@ pub fn fits<S: Signed, U: Unsigned>(
     n_elements: usize,
     free: usize,
 ) -> bool
-    requires short { length iw.now < 2 ^ 63 }
-    requires end { free ≤ length iw.now }
-    requires lengths { (length pe.now ≡ length nv.old) × (length len.now ≡ length nv.old) }
-    requires pivot { (pivot < length nv.old) × (0 < size_of nv.old pivot) }
-    requires elements { n_elements ≤ num len.now pivot }
-    requires laid { ListsLaid iw.now pe.now len.now (length nv.old) free pivot n_elements }
-    requires clear { (j : ℕ) → in_front nv.old j ≡ false }
+    requires end { (free ≤ length iw.now) × (length iw.now < 2 ^ 63) }
+    requires around { IsAround pivot n_elements iw.now nv.old pe.now len.now free }
     ensures fits { result ≡ nat_le (free + length (front_of iw.now nv.old pe.now len.now pivot n_elements))
         (length iw.now) }
     ensures same { nv.new ≡ nv.old }
@@ -200,33 +183,13 @@ pub fn make_room<S: Signed, U: Unsigned>(
     me: usize,
     free: usize,
 ) -> (usize, bool)
-    requires lengths { (length pe.old ≡ length nv.old) × (length e_len.now ≡ length nv.old) ×
-        (length len.old ≡ length nv.old) }
-    requires small { length nv.old + 2 ≤ S.MOST }
-    requires narrow { length iw.old ≤ S.MOST }
-    requires short { length iw.old < 2 ^ 63 }
-    requires end { free ≤ length iw.old }
-    requires laid { Layout (length nv.old) iw.old pe.old e_len.now len.old free }
-    requires room { live_words (length nv.old) pe.old len.old + length nv.old ≤ length iw.old }
-    requires pivot { (me < length nv.old) × (0 < size_of nv.old me) }
-    requires listed { has_list pe.old len.old me ≡ true }
-    requires count { is_place (word e_len.now me) ≡ true }
-    requires elements { (e : ℕ) → has (elements_in iw.old pe.old e_len.now me) e ≡ true →
-        has_list pe.old len.old e ≡ true }
-    requires clear { (j : ℕ) → in_front nv.old j ≡ false }
-    ensures rooms { Rooms (length nv.old) iw.old pe.old e_len.now len.old free iw.new pe.new result.0 }
-    ensures fits { result.0 + length (front_of iw.old nv.old pe.old len.old me (place (word e_len.now me))) ≤ length
-        iw.old }
-    ensures moved { result.1 ≡ nat_lt (length iw.old)
-        (free + length (front_of iw.old nv.old pe.old len.old me (place (word e_len.now me)))) }
-    ensures packed { result.1 ≡ true → result.0 ≡ live_words (length nv.old) pe.old len.old }
-    ensures stays { result.1 ≡ false → result.0 ≡ free }
-    ensures same { (nv.new ≡ nv.old) × (len.new ≡ len.old) }
+    requires { CanMakeRoom S.MOST me iw.old nv.old pe.old e_len.now len.old free }
+    ensures { MakesRoom me iw.old nv.old pe.old e_len.now len.old free iw.new nv.new pe.new len.new result.0 result.1 }
 {
     let n_elements = named(e_len, me);
     if fits(iw, nv, pe, len, me, n_elements, free) {
         return (free, false);
     }
-    let end = pack(iw, pe, len, e_len, free);
+    let end = compact(iw, pe, len, free);
     (end, true)
 }

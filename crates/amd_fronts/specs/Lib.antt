@@ -4,3 +4,5 @@ pub mod Tallies
 pub mod Fronts
 pub mod Turning
 pub mod TurningLists
+pub mod Premises
+pub mod Effects

@@ -4,16 +4,12 @@
 // outside ends. Source: Amestoy, Davis and Duff 1996 (approximate external degree, aggressive absorption). Called by
 // `turning`, and the renewal of the flag by `round` of the crate `amd_rounds`.
 
-ghost use Rattle.std.specs.Prelude.{◌≡◌, ◌<◌, ◌≤◌, ◌+◌, ◌-◌, ◌^◌, ◌==◌, ◌&&◌, cond, ℕ, List, Bool, true, length};
-ghost use Rattle.amd_words.specs.Sides.{nexts, lasts};
-ghost use Rattle.amd_model.specs.Quotient.{has, Once};
-ghost use Rattle.amd_words.specs.Words.{num, word, place, is_place, start, size_of, in_front, flip_of, rows, Names};
-ghost use Rattle.amd_lists.specs.Chains.{DegreeLists, without};
-ghost use Rattle.amd_fronts.specs.Counts.{settled, ends, IsListed};
+ghost use Rattle.std.specs.Prelude.{ℕ, ◌+◌, ◌<◌, ◌==◌, ◌≡◌, ◌≤◌, cond, length};
+ghost use Rattle.amd_words.specs.Words.{num, rows, size_of};
 ghost use Rattle.amd_lists.specs.Layout.{elements_in};
-ghost use Rattle.amd_lists.specs.Lengths.{HasBounds, HasLinks, KeepsLinks};
-ghost use Rattle.amd_fronts.specs.Tallies.{touched_in, NamesFront, IsCounted, IsPart, CountsFront, EndsCounted};
-ghost use Rattle.amd_fronts.specs.Tallies.{LeavesLists};
+ghost use Rattle.amd_fronts.specs.Effects.{CountsClass, CountsOutside, RenewsFlag, TouchesAll, TouchesOrEnds};
+ghost use Rattle.amd_fronts.specs.Premises.{CanCountClass, CanCountFront, CanRenewFlag, CanTouch, CanTouchAll};
+ghost use Rattle.amd_fronts.specs.Tallies.{touched_in};
 
 use amd_lists::chains::take_out;
 use amd_words::sides::Sides;
@@ -23,10 +19,7 @@ use amd_words::{Cell, Signed, Unsigned, Word, cell_at, put_cell};
 /// Takes the `more` rows of a class off the counter of the element `e`, which that class lists. There is no branch:
 /// whether the element was met before in this round is hard to foresee, and a wrong guess costs more than a read.
 fn touch<U: Unsigned>(w: &mut [Cell<U>], degree: &[Cell<U>], e: usize, more: usize, flag: usize)
-    requires inside { (e < length w.old) × (e < length degree.now) }
-    requires again { flag ≤ num w.old e → more ≤ num w.old e }
-    requires first { 0 < num w.old e → more ≤ num degree.now e }
-    requires fits { num degree.now e + flag ≤ U.MOST }
+    requires { CanTouch U.MOST degree.now w.old e more flag }
     ensures long { length w.new ≡ length w.old }
     ensures counted { (x : ℕ) → num w.new x ≡ cond (x == e) (touched_in degree.now w.old flag more e) (num w.old x) }
 {
@@ -49,16 +42,9 @@ fn touch_or_end<S: Signed, U: Unsigned>(
     me: usize,
     aggressive: bool,
 )
-    requires inside { (e < length w.old) × (e < length degree.now) × (e < length pe.old) }
-    requires small { me + 2 ≤ S.MOST }
-    requires again { flag ≤ num w.old e → more ≤ num w.old e }
-    requires first { 0 < num w.old e → more ≤ num degree.now e }
-    requires fits { num degree.now e + flag ≤ U.MOST }
-    ensures long { (length w.new ≡ length w.old) × (length pe.new ≡ length pe.old) }
-    ensures counted { (x : ℕ) → num w.new x ≡ cond (x == e)
-        (settled aggressive flag (touched_in degree.now w.old flag more e)) (num w.old x) }
-    ensures starts { (x : ℕ) → word pe.new x ≡ cond
-        (x == e && ends aggressive flag (touched_in degree.now w.old flag more e)) (flip_of me) (word pe.old x) }
+    requires touch { CanTouch U.MOST degree.now w.old e more flag }
+    requires end { (e < length pe.old) × (me + 2 ≤ S.MOST) }
+    ensures { TouchesOrEnds aggressive flag more e me degree.now pe.old w.old pe.new w.new }
 {
     touch(w, degree, e, more, flag);
     let left = cell_at(w, e);
@@ -82,19 +68,8 @@ fn touch_all<S: Signed, U: Unsigned>(
     me: usize,
     aggressive: bool,
 )
-    requires lengths { (length degree.now ≡ length w.old) × (length pe.old ≡ length w.old) }
-    requires small { me + 2 ≤ S.MOST }
-    requires inside { from + count ≤ length iw.now }
-    requires names { Names (length w.old) iw.now from count }
-    requires once { Once (rows iw.now from count) }
-    requires again { (e : ℕ) → has (rows iw.now from count) e ≡ true → flag ≤ num w.old e → more ≤ num w.old e }
-    requires first { (e : ℕ) → has (rows iw.now from count) e ≡ true → 0 < num w.old e → more ≤ num degree.now e }
-    requires fits { (e : ℕ) → e < length w.old → num degree.now e + flag ≤ U.MOST }
-    ensures long { (length w.new ≡ length w.old) × (length pe.new ≡ length pe.old) }
-    ensures counted { (e : ℕ) → num w.new e ≡ cond (has (rows iw.now from count) e)
-        (settled aggressive flag (touched_in degree.now w.old flag more e)) (num w.old e) }
-    ensures starts { (e : ℕ) → word pe.new e ≡ cond (has (rows iw.now from count) e &&
-        ends aggressive flag (touched_in degree.now w.old flag more e)) (flip_of me) (word pe.old e) }
+    requires { CanTouchAll S.MOST U.MOST me iw.now pe.old degree.now w.old from count more flag }
+    ensures { TouchesAll aggressive flag more me (rows iw.now from count) degree.now pe.old w.old pe.new w.new }
 {
     for q in from..from + count {
         let e = named(iw, q);
@@ -118,26 +93,9 @@ fn count_class<S: Signed, U: Unsigned>(
     me: usize,
     aggressive: bool,
 )
-    requires lengths { HasBounds (length w.old) pe.old e_len.now nv.now degree.now }
-    requires more_lengths { HasLinks (length w.old) head.old (nexts sides.old) (lasts sides.old) }
-    requires row { (i < length w.old) × (num degree.now i < length w.old) }
-    requires small { me + 2 ≤ S.MOST }
-    requires listed { IsListed (length w.old) iw.now pe.old e_len.now nv.now i }
-    requires again { (e : ℕ) → has (elements_in iw.now pe.old e_len.now i) e ≡ true → flag ≤ num w.old e →
-        size_of nv.now i ≤ num w.old e }
-    requires first { (e : ℕ) → has (elements_in iw.now pe.old e_len.now i) e ≡ true → 0 < num w.old e →
-        size_of nv.now i ≤ num degree.now e }
-    requires fits { (e : ℕ) → e < length w.old → num degree.now e + flag ≤ U.MOST }
-    ensures long { (length w.new ≡ length w.old) × (length pe.new ≡ length pe.old) }
-    ensures counted { (e : ℕ) → num w.new e ≡ cond (has (elements_in iw.now pe.old e_len.now i) e)
-        (settled aggressive flag (touched_in degree.now w.old flag (size_of nv.now i) e)) (num w.old e) }
-    ensures starts { (e : ℕ) → word pe.new e ≡ cond (has (elements_in iw.now pe.old e_len.now i) e &&
-        ends aggressive flag (touched_in degree.now w.old flag (size_of nv.now i) e)) (flip_of me) (word pe.old e) }
-    ensures lengths { KeepsLinks head.old (nexts sides.old) (lasts sides.old) head.new (nexts sides.new)
-        (lasts sides.new) }
-    ensures linked { (lists : ℕ → List ℕ) → has (lists (num degree.now i)) i ≡ true →
-        DegreeLists (length w.old) head.old (nexts sides.old) (lasts sides.old) degree.now lists →
-        DegreeLists (length w.old) head.new (nexts sides.new) (lasts sides.new) degree.now (λ d. without i (lists d)) }
+    requires { CanCountClass S.MOST U.MOST me iw.now pe.old e_len.now nv.now degree.now w.old head.old sides.old i flag }
+    ensures { CountsClass aggressive flag (size_of nv.now i) me i (elements_in iw.now pe.old e_len.now i) degree.now
+        pe.old w.old head.old sides.old pe.new w.new head.new sides.new }
 {
     take_out(head, sides, degree, i);
     let first = named(pe, i);
@@ -166,26 +124,10 @@ pub fn count_outside<S: Signed, U: Unsigned>(
     me: usize,
     aggressive: bool,
 )
-    requires lengths { HasBounds (length w.old) pe.old e_len.now nv.now degree.now }
-    requires more_lengths { HasLinks (length w.old) head.old (nexts sides.old) (lasts sides.old) }
-    requires inside { from + count ≤ length iw.now }
-    requires small { me + 2 ≤ S.MOST }
-    requires front { NamesFront (length w.old) iw.now from count }
-    requires classes { (i : ℕ) → has (rows iw.now from count) i ≡ true →
-        IsCounted (length w.old) (rows iw.now from count) iw.now pe.old e_len.now nv.now degree.now i }
-    requires flag { 2 ≤ flag }
-    requires under { (e : ℕ) → num w.old e < flag }
-    requires fits { (e : ℕ) → e < length w.old → num degree.now e + flag ≤ U.MOST }
-    requires part { IsPart iw.now pe.old e_len.now nv.now degree.now w.old (rows iw.now from count) }
-    ensures long { (length w.new ≡ length w.old) × (length pe.new ≡ length pe.old) }
-    ensures counted { CountsFront aggressive flag (rows iw.now from count) iw.now pe.old e_len.now nv.now degree.now
-        w.old w.new }
-    ensures starts { EndsCounted aggressive flag me (rows iw.now from count) iw.now pe.old e_len.now nv.now degree.now
-        w.old pe.new }
-    ensures lengths { KeepsLinks head.old (nexts sides.old) (lasts sides.old) head.new (nexts sides.new)
-        (lasts sides.new) }
-    ensures linked { LeavesLists (length w.old) (rows iw.now from count) head.old (nexts sides.old) (lasts sides.old)
-        degree.now head.new (nexts sides.new) (lasts sides.new) degree.now }
+    requires { CanCountFront S.MOST U.MOST me iw.now pe.old e_len.now nv.now degree.now w.old head.old sides.old from
+        count flag }
+    ensures { CountsOutside aggressive flag me (rows iw.now from count) iw.now pe.old e_len.now nv.now degree.now w.old
+        head.old sides.old pe.new w.new head.new sides.new }
 {
     for p in from..from + count {
         let i = named(iw, p);
@@ -212,14 +154,8 @@ fn clear<U: Unsigned>(w: &mut [Cell<U>])
 /// The flag for what comes next: the one given, if there is room for a count above it, or else 2 in new numbers.
 /// Numbers under the flag stay under it, and 0 stays 0 alone.
 pub fn renew_flag<U: Unsigned>(w: &mut [Cell<U>], flag: usize) -> usize
-    requires short { length w.old + 2 ≤ U.MOST }
-    requires two { 2 ≤ flag }
-    requires under { (e : ℕ) → num w.old e < flag }
-    ensures long { length w.new ≡ length w.old }
-    ensures two { 2 ≤ result }
-    ensures under { (e : ℕ) → num w.new e < result }
-    ensures zeros { (e : ℕ) → (num w.new e == 0) ≡ (num w.old e == 0) }
-    ensures room { result + length w.old ≤ U.MOST }
+    requires { CanRenewFlag U.MOST flag w.old }
+    ensures { RenewsFlag U.MOST w.old w.new result }
 {
     if flag <= U::MOST - w.len() {
         return flag;

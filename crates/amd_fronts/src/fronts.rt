@@ -2,15 +2,11 @@
 // the new element ends: it goes with the pivot. Source: Amestoy, Davis and Duff 1996 (approximate external degree,
 // element absorption, mass elimination). Called by `turning`.
 
-ghost use Rattle.std.specs.Prelude.{◌++◌, ◌≡◌, ◌<◌, ◌≤◌, ◌+◌, ◌-◌, ◌^◌, pos, negsuc, ℕ, true, false, length, min};
-ghost use Rattle.std.specs.Prelude.{sum_by, slice_set};
-ghost use Rattle.amd_words.specs.Sides.{nexts, lasts};
-ghost use Rattle.amd_model.specs.Quotient.{has, Once};
-ghost use Rattle.amd_words.specs.Words.{num, word, is_place, size_of, in_front, flip_of};
-ghost use Rattle.amd_lists.specs.Renewal.{is_kept, is_outside, hashed, AreMet};
-ghost use Rattle.amd_lists.specs.Layout.{elements_in, list_in, Layout, reached, IsPlaced, LosesOne, IsRenewable};
-ghost use Rattle.amd_lists.specs.Layout.{RenewsOne};
-ghost use Rattle.amd_fronts.specs.Fronts.{kept_in, near_in, RenewsOrEnds, RenewsFront};
+ghost use Rattle.std.specs.Prelude.{ℕ, ◌<◌, ◌≡◌, length, min};
+ghost use Rattle.amd_words.specs.Sides.{lasts};
+ghost use Rattle.amd_words.specs.Words.{num};
+ghost use Rattle.amd_fronts.specs.Effects.{RenewsAllClasses, RenewsClass, RenewsOrRetires, Retires};
+ghost use Rattle.amd_fronts.specs.Premises.{CanRenewAll, CanRenewClass, CanRenewOrRetire, CanRetire};
 
 use amd_lists::renewal::renew_list;
 use amd_words::sides::{Sides, put_last};
@@ -30,21 +26,9 @@ fn renew_class<S: Signed, U: Unsigned>(
     flag: usize,
     me: usize,
 ) -> (usize, usize, usize)
-    requires lengths { (length pe.now ≡ length w.now) × (length e_len.old ≡ length w.now) ×
-        (length len.old ≡ length w.now) × (length nv.now ≡ length w.now) }
-    requires short { length iw.old < 2 ^ 63 }
-    requires narrow { length iw.old ≤ S.MOST }
-    requires me { (me < length w.now) × (me ≤ S.MOST) }
-    requires placed { IsPlaced (length w.now) iw.old pe.now e_len.old len.old i }
-    requires loses { LosesOne (is_kept w.now) (is_outside nv.now) iw.old pe.now e_len.old len.old i }
-    requires met { AreMet flag w.now (elements_in iw.old pe.now e_len.old i) }
-    ensures renews { RenewsOne (length w.now) me (is_kept w.now) (is_outside nv.now) i iw.old pe.now e_len.old len.old
-        iw.new e_len.new len.new }
-    ensures count { result.0 ≡ num len.new i }
-    ensures outside { result.1 ≡ reached (λ e. num w.now e - flag) (size_of nv.now) (is_kept w.now) (is_outside nv.now)
-        iw.old pe.now e_len.old len.old i }
-    ensures hash { result.2 ≡ hashed 0 (kept_in (is_kept w.now) iw.old pe.now e_len.old i ++ near_in (is_outside nv.now)
-        iw.old pe.now e_len.old len.old i) }
+    requires { CanRenewClass S.MOST flag me i iw.old pe.now e_len.old nv.now len.old w.now }
+    ensures { RenewsClass flag me i iw.old pe.now e_len.old nv.now len.old w.now iw.new e_len.new len.new result.0
+        result.1 result.2 }
 {
     let from = named(pe, i);
     let n_elements = named(e_len, i);
@@ -83,13 +67,8 @@ fn retire<S: Signed>(
     i: usize,
     me: usize,
 ) -> usize
-    requires inside { (i < length pe.old) × (i < length e_len.old) × (i < length nv.old) }
-    requires small { me + 2 ≤ S.MOST }
-    requires marked { in_front nv.old i ≡ true }
-    ensures starts { pe.new ≡ slice_set pe.old i (flip_of me) }
-    ensures lists { e_len.new ≡ slice_set e_len.old i (negsuc 0) }
-    ensures rows { nv.new ≡ slice_set nv.old i (pos 0) }
-    ensures gone { result ≡ size_of nv.old i }
+    requires { CanRetire S.MOST i me pe.old e_len.old nv.old }
+    ensures { Retires i me pe.old e_len.old nv.old pe.new e_len.new nv.new result }
 {
     let gone = size_inside(nv, i);
     put_flip(pe, i, me);
@@ -113,23 +92,10 @@ fn renew_or_retire<S: Signed, U: Unsigned>(
     flag: usize,
     me: usize,
 ) -> usize
-    requires lengths { (length pe.old ≡ length w.now) × (length e_len.old ≡ length w.now) ×
-        (length len.old ≡ length w.now) × (length nv.old ≡ length w.now) }
-    requires more_lengths { (length degree.old ≡ length w.now) × (length (lasts sides.old) ≡ length w.now) }
-    requires short { length iw.old < 2 ^ 63 }
-    requires narrow { (length iw.old ≤ S.MOST) × (length w.now ≤ U.MOST) }
-    requires me { (me < length w.now) × (me + 2 ≤ S.MOST) }
-    requires placed { IsPlaced (length w.now) iw.old pe.old e_len.old len.old i }
-    requires loses { LosesOne (is_kept w.now) (is_outside nv.old) iw.old pe.old e_len.old len.old i }
-    requires marked { in_front nv.old i ≡ true }
-    requires met { AreMet flag w.now (elements_in iw.old pe.old e_len.old i) }
-    ensures renews { RenewsOrEnds (length w.now) me (is_kept w.now) (is_outside nv.old) (λ e. num w.now e - flag) i
-        iw.old pe.old e_len.old nv.old len.old degree.old (lasts sides.old) iw.new pe.new e_len.new nv.new len.new
-        degree.new (lasts sides.new) result }
-    ensures lengths { (length pe.new ≡ length pe.old) × (length e_len.new ≡ length e_len.old) ×
-        (length nv.new ≡ length nv.old) × (length degree.new ≡ length degree.old) ×
-        (length (lasts sides.new) ≡ length (lasts sides.old)) }
-    ensures nexts { nexts sides.new ≡ nexts sides.old }
+    requires { CanRenewOrRetire S.MOST U.MOST flag me i iw.old pe.old e_len.old nv.old len.old degree.old w.now
+        (lasts sides.old) }
+    ensures { RenewsOrRetires flag me i w.now iw.old pe.old e_len.old nv.old len.old degree.old sides.old iw.new pe.new
+        e_len.new nv.new len.new degree.new sides.new result }
 {
     let (count, outside, hash) = renew_class(iw, e_len, len, pe, w, nv, i, flag, me);
     if count == 1 {
@@ -156,27 +122,10 @@ pub fn renew_all<S: Signed, U: Unsigned>(
     me: usize,
     free: usize,
 ) -> usize
-    requires lengths { (length pe.old ≡ length w.now) × (length e_len.old ≡ length w.now) ×
-        (length len.old ≡ length w.now) × (length nv.old ≡ length w.now) }
-    requires more_lengths { (length degree.old ≡ length w.now) × (length (lasts sides.old) ≡ length w.now) }
-    requires short { length iw.old < 2 ^ 63 }
-    requires narrow { (length iw.old ≤ S.MOST) × (length w.now ≤ U.MOST) }
-    requires end { free ≤ length iw.old }
-    requires laid { Layout (length w.now) iw.old pe.old e_len.old len.old free }
-    requires me { (me < length w.now) × (me + 2 ≤ S.MOST) }
-    requires list { is_place (word pe.old me) ≡ true }
-    requires apart { has (list_in iw.old pe.old len.old me) me ≡ false }
-    requires once { Once (list_in iw.old pe.old len.old me) }
-    requires front { (i : ℕ) → has (list_in iw.old pe.old len.old me) i ≡ true →
-        IsRenewable (is_kept w.now) (is_outside nv.old) iw.old pe.old e_len.old len.old i }
-    requires marked { (i : ℕ) → has (list_in iw.old pe.old len.old me) i ≡ true → in_front nv.old i ≡ true }
-    requires met { (i : ℕ) → has (list_in iw.old pe.old len.old me) i ≡ true →
-        AreMet flag w.now (elements_in iw.old pe.old e_len.old i) }
-    requires few { sum_by (size_of nv.old) (list_in iw.old pe.old len.old me) ≤ S.MOST }
-    ensures renews { RenewsFront (length w.now) me (is_kept w.now) (is_outside nv.old) (λ e. num w.now e - flag)
-        (list_in iw.old pe.old len.old me) free iw.old pe.old e_len.old nv.old len.old degree.old (lasts sides.old)
-        iw.new pe.new e_len.new nv.new len.new degree.new (lasts sides.new) result }
-    ensures nexts { nexts sides.new ≡ nexts sides.old }
+    requires { CanRenewAll S.MOST U.MOST flag me free iw.old pe.old e_len.old nv.old len.old degree.old w.now
+        (lasts sides.old) }
+    ensures { RenewsAllClasses flag me w.now free iw.old pe.old e_len.old nv.old len.old degree.old sides.old iw.new
+        pe.new e_len.new nv.new len.new degree.new sides.new result }
 {
     // There are rows, since `me` is one; said once here, it is not tested for each remainder by their number.
     if w.is_empty() {

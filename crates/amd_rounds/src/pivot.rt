@@ -2,19 +2,16 @@
 // lists. Source: Amestoy, Davis and Duff 1996 (element formation). Called by `round`. A part that only reads some
 // slices is called through a function that is lent all of them for writing.
 
-ghost use Rattle.std.specs.Prelude.{◌≡◌, ◌<◌, ◌≤◌, ◌+◌, ◌^◌, pos, ℕ, [], true, false, length, sum_by};
-ghost use Rattle.amd_words.specs.Words.{word, place, is_place, size_of, in_front};
-ghost use Rattle.amd_elements.specs.Element.{front_of};
-ghost use Rattle.amd_lists.specs.Layout.{has_list, Layout};
+ghost use Rattle.std.specs.Prelude.{ℕ, ◌<◌, ◌≡◌, pos, length, true};
+ghost use Rattle.amd_words.specs.Words.{is_place, place, word};
 ghost use Rattle.amd_lists.specs.Chains.{SomeFrom};
-ghost use Rattle.amd_elements.specs.Beginning.{Begins};
-ghost use Rattle.amd_rounds.specs.Workspaces.{workspace_of, KeepsLoans};
-ghost use Rattle.amd_rounds.specs.Laid.{IsSized, IsNarrow, IsLaid};
-ghost use Rattle.amd_rounds.specs.Parts.{Picks, BeginsElement};
+ghost use Rattle.amd_rounds.specs.Laid.{IsLaid, IsNarrow, IsSized};
+ghost use Rattle.amd_rounds.specs.Parts.{BeginsElement, Picks};
 ghost use Rattle.amd_rounds.specs.Premises.{CanBegin};
+ghost use Rattle.amd_rounds.specs.Workspaces.{KeepsLoans, workspace_of};
 
 use crate::work::Work;
-use amd_elements::beginning::{Begun, begin_built, begin_own};
+use amd_elements::beginning::{begin_built, begin_own};
 use amd_lists::chains::choose;
 use amd_words::words::named;
 use amd_words::{Cell, Signed, Unsigned, Word};
@@ -53,36 +50,6 @@ pub fn pick<S: Signed, U: Unsigned>(work: &mut Work<'_, S, U>) -> usize
     me
 }
 
-/// As `begin_own`, with each slice lent for writing.
-fn begin_own_lent<S: Signed, U: Unsigned>(
-    iw: &mut [Word<S>],
-    nv: &mut [Word<S>],
-    e_len: &mut [Word<S>],
-    len: &mut [Cell<U>],
-    pe: &mut [Word<S>],
-    me: usize,
-    free: usize,
-) -> Begun
-    requires lengths { (length pe.old ≡ length nv.old) × (length e_len.old ≡ length nv.old) ×
-        (length len.old ≡ length nv.old) }
-    requires short { length iw.old < 2 ^ 63 }
-    requires end { free ≤ length iw.old }
-    requires laid { Layout (length nv.old) iw.old pe.old e_len.old len.old free }
-    requires pivot { (me < length nv.old) × (0 < size_of nv.old me) }
-    requires listed { has_list pe.old len.old me ≡ true }
-    requires count { word e_len.old me ≡ pos 0 }
-    requires clear { (j : ℕ) → in_front nv.old j ≡ false }
-    requires few { sum_by (size_of nv.old) (front_of iw.old nv.old pe.old len.old me 0) + 2 ≤ S.MOST }
-    ensures begins { Begins (length nv.old) me [] (front_of iw.old nv.old pe.old len.old me 0) result.total iw.old
-        nv.old pe.old e_len.old len.old iw.new nv.new pe.new e_len.new len.new result.free }
-    ensures total { result.total ≡ sum_by (size_of nv.old) (front_of iw.old nv.old pe.old len.old me 0) }
-    ensures block { result.block ≡ size_of nv.old me }
-    ensures stays { (result.free ≡ free) × (result.packed ≡ false) }
-    ensures same { pe.new ≡ pe.old }
-{
-    begin_own(iw, nv, e_len, len, pe, me, free)
-}
-
 /// Makes the pivot `me`, which lists no element, an element in the place of its list.
 fn begin_in_place<S: Signed, U: Unsigned>(work: &mut Work<'_, S, U>, me: usize) -> Element
     requires wide { IsNarrow S.MOST U.MOST (length work.old.nv.now) (workspace_of work.old) }
@@ -94,7 +61,7 @@ fn begin_in_place<S: Signed, U: Unsigned>(work: &mut Work<'_, S, U>, me: usize) 
     ensures loans { KeepsLoans work.old work.new }
 {
     let free = work.free;
-    let begun = begin_own_lent(work.iw, work.nv, work.e_len, work.len, work.pe, me, free);
+    let begun = begin_own(work.iw, work.nv, work.e_len, work.len, work.pe, me, free);
     Element {
         block: begun.block,
         total: begun.total,

@@ -36,221 +36,128 @@ made_as {me} {iw1} {nv} {nv1} pe1 {e_len} {len} {len1} {front} {absorbed} m {fro
     (subst (λ y. Makes (length y) me (elements_in iw1 pe1 e_len me) (front_of iw1 y pe1 len1 me m) total iw1 pe1 e_len len1 from iw2 pe2
     e_len2 len2 end) a h)))
 
-pub make_room-from-requires-clause-lengths : goal.make_room-from-requires-clause-lengths
-make_room-from-requires-clause-lengths g c =
-    (c.requires.lengths.0, c.requires.lengths.1, c.requires.lengths.2)
+pub make_room-from-requires : goal.make_room-from-requires
+make_room-from-requires g c = record {
+  pivot = c.requires.pivot;
+  wide = c.requires.wide;
+  room = c.requires.room;
+  count = c.requires.count;
+  elements = c.requires.elements.listed;
+}
 
-pub make_room-from-requires-clause-small : goal.make_room-from-requires-clause-small
-make_room-from-requires-clause-small g c =
-    c.requires.short.1
-
-pub make_room-from-requires-clause-narrow : goal.make_room-from-requires-clause-narrow
-make_room-from-requires-clause-narrow g c =
-    c.requires.narrow.0
-
-pub make_room-from-requires-clause-short : goal.make_room-from-requires-clause-short
-make_room-from-requires-clause-short g c =
-    c.requires.short.0
-
-pub make_room-from-requires-clause-end : goal.make_room-from-requires-clause-end
-make_room-from-requires-clause-end g c =
-    c.requires.end
-
-pub make_room-from-requires-clause-laid : goal.make_room-from-requires-clause-laid
-make_room-from-requires-clause-laid g c =
-    c.requires.laid
-
-pub make_room-from-requires-clause-room : goal.make_room-from-requires-clause-room
-make_room-from-requires-clause-room g c =
-    c.requires.room
-
-pub make_room-from-requires-clause-pivot : goal.make_room-from-requires-clause-pivot
-make_room-from-requires-clause-pivot g c =
-    c.requires.pivot
-
-pub make_room-from-requires-clause-listed : goal.make_room-from-requires-clause-listed
-make_room-from-requires-clause-listed g c =
-    c.requires.listed
-
-pub make_room-from-requires-clause-count : goal.make_room-from-requires-clause-count
-make_room-from-requires-clause-count g c =
-    c.requires.count
-
-pub make_room-from-requires-clause-elements : goal.make_room-from-requires-clause-elements
-make_room-from-requires-clause-elements g c =
-    c.requires.elements.listed
-
-pub make_room-from-requires-clause-clear : goal.make_room-from-requires-clause-clear
-make_room-from-requires-clause-clear g c =
-    c.requires.clear
-
-pub make_element-end-requires-clause-lengths : goal.make_element-end-requires-clause-lengths
-make_element-end-requires-clause-lengths g c =
-    let p = c.make_room-from.ensures.rooms.p_long in let n = ap length c.make_room-from.ensures.same.0 in
-    let k = ap length c.make_room-from.ensures.same.1 in let l = c.requires.lengths in let a = l.0 in let b = l.1 in let d = l.2 in
-    let e = l.3 in let w = sym n in (p ∙ a ∙ w, b ∙ w, k ∙ d ∙ w, e ∙ w)
-
-pub make_element-end-requires-clause-short : goal.make_element-end-requires-clause-short
-make_element-end-requires-clause-short g c =
-    let l = c.make_room-from.ensures.rooms.long in let a = ap length c.make_room-from.ensures.same.0 in
-    let s = c.requires.short.0 in let t = c.requires.short.1 in ((omega (arith, l, s)), (omega (arith, t, a)))
-
-pub make_element-end-requires-clause-narrow : goal.make_element-end-requires-clause-narrow
-make_element-end-requires-clause-narrow g c =
-    let l = c.make_room-from.ensures.rooms.long in let s = c.requires.narrow.0 in let t = c.requires.narrow.1 in
-    ((omega (arith, l, s)), (omega (arith, l, t)))
-
-pub make_element-end-requires-clause-end : goal.make_element-end-requires-clause-end
-make_element-end-requires-clause-end g c =
-    let l = c.make_room-from.ensures.rooms.long in let w = c.make_room-from.ensures.rooms.lower in let s = c.requires.end in
-    omega (arith, l, s, w)
-
-pub make_element-end-requires-clause-laid : goal.make_element-end-requires-clause-laid
-make_element-end-requires-clause-laid g c =
-    subst (λ z. Layout z c.make_room-from.new.iw c.make_room-from.new.pe c.args.e_len.now c.make_room-from.new.len
-    c.make_room-from.result.0) (sym (ap length c.make_room-from.ensures.same.0))
-    (subst (λ z. Layout (length c.args.nv.now) c.make_room-from.new.iw c.make_room-from.new.pe c.args.e_len.now z
-    c.make_room-from.result.0) (sym c.make_room-from.ensures.same.1) c.make_room-from.ensures.rooms.laid)
-
-pub make_element-end-requires-clause-pivot : goal.make_element-end-requires-clause-pivot
-make_element-end-requires-clause-pivot g c =
-    subst (λ z. (c.args.me < length z) × (0 < size_of z c.args.me)) (sym c.make_room-from.ensures.same.0) c.requires.pivot
-
-pub make_element-end-requires-clause-listed : goal.make_element-end-requires-clause-listed
-make_element-end-requires-clause-listed g c =
-    ap (λ z. has_list c.make_room-from.new.pe z c.args.me) c.make_room-from.ensures.same.1
-    ∙ c.make_room-from.ensures.rooms.listed c.args.me ∙ c.requires.listed
-
-pub make_element-end-requires-clause-count : goal.make_element-end-requires-clause-count
-make_element-end-requires-clause-count g c =
-    c.requires.count
-
-pub make_element-end-requires-clause-elements : goal.make_element-end-requires-clause-elements
-make_element-end-requires-clause-elements g c =
-    λ e h. ap (λ z. has_list c.make_room-from.new.pe z e) c.make_room-from.ensures.same.1
-    ∙ rooms_known c.requires.laid c.make_room-from.ensures.rooms c.args.me c.requires.listed c.requires.elements.listed e h
-
-pub make_element-end-requires-clause-apart : goal.make_element-end-requires-clause-apart
-make_element-end-requires-clause-apart g c =
-    ap (λ xs. has xs c.args.me) (rooms_elements c.requires.laid c.make_room-from.ensures.rooms c.args.me c.requires.listed
-    c.requires.elements.listed) ∙ c.requires.elements.apart
-
-pub make_element-end-requires-clause-once : goal.make_element-end-requires-clause-once
-make_element-end-requires-clause-once g c =
-    subst Once (sym (rooms_elements c.requires.laid c.make_room-from.ensures.rooms c.args.me c.requires.listed
-    c.requires.elements.listed)) c.requires.elements.once
-
-pub make_element-end-requires-clause-clear : goal.make_element-end-requires-clause-clear
-make_element-end-requires-clause-clear g c =
-    λ j. ap (λ z. in_front z j) c.make_room-from.ensures.same.0 ∙ c.requires.clear j
-
-pub make_element-end-requires-clause-fits : goal.make_element-end-requires-clause-fits
-make_element-end-requires-clause-fits g c =
-    let iw : List ℤ = c.args.iw.now in let nv : List ℤ = c.args.nv.now in let pe : List ℤ = c.args.pe.now in
-    let len : List ℕ = c.args.len.now in let e_len : List ℤ = c.args.e_len.now in let me : ℕ = c.args.me in
-    let iw1 : List ℤ = c.make_room-from.new.iw in let pe1 : List ℤ = c.make_room-from.new.pe in
-    let rooms : Rooms (length nv) iw pe e_len len c.args.free iw1 pe1 c.make_room-from.result.0 = c.make_room-from.ensures.rooms in
-    let same_nv : c.make_room-from.new.nv ≡ nv = c.make_room-from.ensures.same.0 in
-    let same_len : c.make_room-from.new.len ≡ len = c.make_room-from.ensures.same.1 in
-    let front_is = rooms_front c.requires.laid rooms me c.requires.listed c.requires.elements.listed nv in
-    rw (same_nv, same_len) (le_trans (add-le-add (le_refl c.make_room-from.result.0) (le_of_eq (ap length front_is)))
-    (le_trans c.make_room-from.ensures.fits (le_of_eq (sym rooms.long))))
-
-pub make_element-end-requires-clause-few : goal.make_element-end-requires-clause-few
-make_element-end-requires-clause-few g c =
-    let iw : List ℤ = c.args.iw.now in let nv : List ℤ = c.args.nv.now in let pe : List ℤ = c.args.pe.now in
-    let len : List ℕ = c.args.len.now in let e_len : List ℤ = c.args.e_len.now in let me : ℕ = c.args.me in
-    let iw1 : List ℤ = c.make_room-from.new.iw in let pe1 : List ℤ = c.make_room-from.new.pe in
-    let rooms : Rooms (length nv) iw pe e_len len c.args.free iw1 pe1 c.make_room-from.result.0 = c.make_room-from.ensures.rooms in
-    let same_nv : c.make_room-from.new.nv ≡ nv = c.make_room-from.ensures.same.0 in
-    let same_len : c.make_room-from.new.len ≡ len = c.make_room-from.ensures.same.1 in
-    let front_is = rooms_front c.requires.laid rooms me c.requires.listed c.requires.elements.listed nv in
-    rw (same_nv, same_len) (le_trans (add-le-add (le_of_eq (ap (sum_by (size_of nv)) front_is)) (le_refl 2)) c.requires.few)
+pub make_element-end-requires : goal.make_element-end-requires
+make_element-end-requires g c = record {
+  pivot = record {
+    lengths = (let p = c.make_room-from.ensures.rooms.p_long in let n = ap length c.make_room-from.ensures.same.0 in
+        let k = ap length c.make_room-from.ensures.same.1 in let l = c.requires.pivot.lengths in let w = sym n in
+        (p ∙ l.0 ∙ w, l.1 ∙ w, k ∙ l.2 ∙ w));
+    end = (let l = c.make_room-from.ensures.rooms.long in let w = c.make_room-from.ensures.rooms.lower in let s = c.requires.pivot.end in
+        omega (arith, l, s, w));
+    laid = (subst (λ z. Layout z c.make_room-from.new.iw c.make_room-from.new.pe c.args.e_len.now c.make_room-from.new.len
+        c.make_room-from.result.0) (sym (ap length c.make_room-from.ensures.same.0))
+        (subst (λ z. Layout (length c.args.nv.now) c.make_room-from.new.iw c.make_room-from.new.pe c.args.e_len.now z
+        c.make_room-from.result.0) (sym c.make_room-from.ensures.same.1) c.make_room-from.ensures.rooms.laid));
+    row = (subst (λ z. (c.args.me < length z) × (0 < size_of z c.args.me)) (sym c.make_room-from.ensures.same.0) c.requires.pivot.row);
+    listed = (ap (λ z. has_list c.make_room-from.new.pe z c.args.me) c.make_room-from.ensures.same.1
+        ∙ c.make_room-from.ensures.rooms.listed c.args.me ∙ c.requires.pivot.listed);
+    clear = (λ j. ap (λ z. in_front z j) c.make_room-from.ensures.same.0 ∙ c.requires.pivot.clear j);
+  };
+  counters = c.requires.counters ∙ sym (ap length c.make_room-from.ensures.same.0);
+  wide = (let l = c.make_room-from.ensures.rooms.long in let a = ap length c.make_room-from.ensures.same.0 in
+      let s = c.requires.wide.0 in let t = c.requires.wide.1 in ((omega (arith, s, a)), (omega (arith, t, l))));
+  figures = (let l = c.make_room-from.ensures.rooms.long in let t = c.requires.figures in omega (arith, l, t));
+  count = (c.requires.count);
+  elements = record {
+    listed = (λ e h. ap (λ z. has_list c.make_room-from.new.pe z e) c.make_room-from.ensures.same.1
+        ∙ rooms_known c.requires.pivot.laid c.make_room-from.ensures.rooms c.args.me c.requires.pivot.listed c.requires.elements.listed e h);
+    apart = (ap (λ xs. has xs c.args.me) (rooms_elements c.requires.pivot.laid c.make_room-from.ensures.rooms c.args.me c.requires.pivot.listed
+        c.requires.elements.listed) ∙ c.requires.elements.apart);
+    once = (subst Once (sym (rooms_elements c.requires.pivot.laid c.make_room-from.ensures.rooms c.args.me c.requires.pivot.listed
+        c.requires.elements.listed)) c.requires.elements.once);
+  };
+  fits = (let iw : List ℤ = c.args.iw.now in let nv : List ℤ = c.args.nv.now in let pe : List ℤ = c.args.pe.now in
+      let len : List ℕ = c.args.len.now in let e_len : List ℤ = c.args.e_len.now in let me : ℕ = c.args.me in
+      let iw1 : List ℤ = c.make_room-from.new.iw in let pe1 : List ℤ = c.make_room-from.new.pe in
+      let rooms : Rooms (length nv) iw pe e_len len c.args.free iw1 pe1 c.make_room-from.result.0 = c.make_room-from.ensures.rooms in
+      let same_nv : c.make_room-from.new.nv ≡ nv = c.make_room-from.ensures.same.0 in
+      let same_len : c.make_room-from.new.len ≡ len = c.make_room-from.ensures.same.1 in
+      let front_is = rooms_front c.requires.pivot.laid rooms me c.requires.pivot.listed c.requires.elements.listed nv in
+      rw (same_nv, same_len) (le_trans (add-le-add (le_refl c.make_room-from.result.0) (le_of_eq (ap length front_is)))
+      (le_trans c.make_room-from.ensures.fits (le_of_eq (sym rooms.long)))));
+  few = (let iw : List ℤ = c.args.iw.now in let nv : List ℤ = c.args.nv.now in let pe : List ℤ = c.args.pe.now in
+      let len : List ℕ = c.args.len.now in let e_len : List ℤ = c.args.e_len.now in let me : ℕ = c.args.me in
+      let iw1 : List ℤ = c.make_room-from.new.iw in let pe1 : List ℤ = c.make_room-from.new.pe in
+      let rooms : Rooms (length nv) iw pe e_len len c.args.free iw1 pe1 c.make_room-from.result.0 = c.make_room-from.ensures.rooms in
+      let same_nv : c.make_room-from.new.nv ≡ nv = c.make_room-from.ensures.same.0 in
+      let same_len : c.make_room-from.new.len ≡ len = c.make_room-from.ensures.same.1 in
+      let front_is = rooms_front c.requires.pivot.laid rooms me c.requires.pivot.listed c.requires.elements.listed nv in
+      rw (same_nv, same_len) (le_trans (add-le-add (le_of_eq (ap (sum_by (size_of nv)) front_is)) (le_refl 2)) c.requires.few));
+}
 
 pub take_pivot-block-requires-clause-inside : goal.take_pivot-block-requires-clause-inside
 take_pivot-block-requires-clause-inside g c =
-    let a = c.requires.pivot.0 in let w = c.make_element-end.ensures.builds.wide in let n = ap length c.make_room-from.ensures.same.0 in
+    let a = c.requires.pivot.row.0 in let w = c.make_element-end.ensures.builds.wide in let n = ap length c.make_room-from.ensures.same.0 in
     omega (arith, a, w, n)
 
 pub take_pivot-block-requires-clause-marked : goal.take_pivot-block-requires-clause-marked
 take_pivot-block-requires-clause-marked g c =
     c.make_element-end.ensures.builds.front_is c.args.me ∙ or_left (c.args.me == c.args.me) _ (eq-eqb c.args.me c.args.me refl)
 
-pub returns-clause-begins : goal.returns-clause-begins
-returns-clause-begins g c =
-    let iw : List ℤ = c.args.iw.now in let nv : List ℤ = c.args.nv.now in let pe : List ℤ = c.args.pe.now in
-    let len : List ℕ = c.args.len.now in let e_len : List ℤ = c.args.e_len.now in let me : ℕ = c.args.me in
-    let m : ℕ = place (word e_len me) in let iw1 : List ℤ = c.make_room-from.new.iw in let pe1 : List ℤ = c.make_room-from.new.pe in
-    let rooms : Rooms (length nv) iw pe e_len len c.args.free iw1 pe1 c.make_room-from.result.0 = c.make_room-from.ensures.rooms in
-    let same_nv : c.make_room-from.new.nv ≡ nv = c.make_room-from.ensures.same.0 in
-    let same_len : c.make_room-from.new.len ≡ len = c.make_room-from.ensures.same.1 in
-    let es = rooms_elements c.requires.laid rooms me c.requires.listed c.requires.elements.listed in
-    let front_is = rooms_front c.requires.laid rooms me c.requires.listed c.requires.elements.listed nv in
-    let from : ℕ = c.make_room-from.result.0 in let end : ℕ = c.make_element-end.result.0 in
-    let total : ℕ = c.make_element-end.result.1 in let iw2 : List ℤ = c.make_element-end.new.iw in
-    let nv2 : List ℤ = c.make_element-end.new.nv in let front : List ℕ = front_of iw nv pe len me m in
-    let b : Builds me front iw1 nv from iw2 nv2 end total =
-    built_as pe1 m same_nv same_len front_is c.make_element-end.ensures.builds in
-    let pe2 : List ℤ = c.make_element-end.new.pe in let e_len2 : List ℤ = c.make_element-end.new.e_len in
-    let len2 : List ℕ = c.make_element-end.new.len in let absorbed : List ℕ = elements_in iw pe e_len me in
-    let z : Makes (length nv) me absorbed front total iw1 pe1 e_len len from iw2 pe2 e_len2 len2 end =
-    made_as pe1 m same_nv same_len front_is es c.make_element-end.ensures.makes in
-    begins rooms me refl b z c.make_element-end.ensures.start (front_apart iw nv pe len me m) c.take_pivot-block.ensures.long
-    c.take_pivot-block.ensures.sizes c.take_pivot-block.ensures.front
-    (built_inside iw2 pe2 len2 me z.list b.list c.make_element-end.ensures.start b.grows)
-
-pub returns-clause-counters : goal.returns-clause-counters
-returns-clause-counters g c =
-    λ e. c.make_element-end.ensures.counters e ∙ ap (λ xs. cond (has xs e) 0 (num c.args.w.now e))
-    (rooms_elements c.requires.laid c.make_room-from.ensures.rooms c.args.me c.requires.listed c.requires.elements.listed)
-
-pub returns-clause-long : goal.returns-clause-long
-returns-clause-long g c =
-    c.make_element-end.ensures.long
-
-pub returns-clause-before : goal.returns-clause-before
-returns-clause-before g c =
-    λ j ne h. let a = c.make_element-end.ensures.makes.before j ne h in let s = c.make_element-end.ensures.start in omega (arith, a, s)
-
-pub returns-clause-end : goal.returns-clause-end
-returns-clause-end g c =
-    let iw : List ℤ = c.args.iw.now in let nv : List ℤ = c.args.nv.now in let pe : List ℤ = c.args.pe.now in
-    let len : List ℕ = c.args.len.now in let e_len : List ℤ = c.args.e_len.now in let me : ℕ = c.args.me in
-    let m : ℕ = place (word e_len me) in let iw1 : List ℤ = c.make_room-from.new.iw in let pe1 : List ℤ = c.make_room-from.new.pe in
-    let rooms : Rooms (length nv) iw pe e_len len c.args.free iw1 pe1 c.make_room-from.result.0 = c.make_room-from.ensures.rooms in
-    let same_nv : c.make_room-from.new.nv ≡ nv = c.make_room-from.ensures.same.0 in
-    let same_len : c.make_room-from.new.len ≡ len = c.make_room-from.ensures.same.1 in
-    let front_is = rooms_front c.requires.laid rooms me c.requires.listed c.requires.elements.listed nv in
-    let from : ℕ = c.make_room-from.result.0 in let end : ℕ = c.make_element-end.result.0 in
-    let total : ℕ = c.make_element-end.result.1 in let iw2 : List ℤ = c.make_element-end.new.iw in
-    let nv2 : List ℤ = c.make_element-end.new.nv in let front : List ℕ = front_of iw nv pe len me m in
-    let b : Builds me front iw1 nv from iw2 nv2 end total =
-    built_as pe1 m same_nv same_len front_is c.make_element-end.ensures.builds in
-    let l = rooms.long in let m = b.long in let fits = c.make_room-from.ensures.fits in let n = rows_length iw2 from (end - from) in
-    let at = ap length b.list in
-    let w = b.grows in omega (arith, l, m, fits, n, at, w)
-
-pub returns-clause-total : goal.returns-clause-total
-returns-clause-total g c =
-    let iw : List ℤ = c.args.iw.now in let nv : List ℤ = c.args.nv.now in let pe : List ℤ = c.args.pe.now in
-    let len : List ℕ = c.args.len.now in let e_len : List ℤ = c.args.e_len.now in let me : ℕ = c.args.me in
-    let m : ℕ = place (word e_len me) in let iw1 : List ℤ = c.make_room-from.new.iw in let pe1 : List ℤ = c.make_room-from.new.pe in
-    let rooms : Rooms (length nv) iw pe e_len len c.args.free iw1 pe1 c.make_room-from.result.0 = c.make_room-from.ensures.rooms in
-    let same_nv : c.make_room-from.new.nv ≡ nv = c.make_room-from.ensures.same.0 in
-    let same_len : c.make_room-from.new.len ≡ len = c.make_room-from.ensures.same.1 in
-    let front_is = rooms_front c.requires.laid rooms me c.requires.listed c.requires.elements.listed nv in
-    let from : ℕ = c.make_room-from.result.0 in let end : ℕ = c.make_element-end.result.0 in
-    let total : ℕ = c.make_element-end.result.1 in let iw2 : List ℤ = c.make_element-end.new.iw in
-    let nv2 : List ℤ = c.make_element-end.new.nv in let front : List ℕ = front_of iw nv pe len me m in
-    let b : Builds me front iw1 nv from iw2 nv2 end total =
-    built_as pe1 m same_nv same_len front_is c.make_element-end.ensures.builds in
-    b.total_is
-
-pub returns-clause-block : goal.returns-clause-block
-returns-clause-block g c =
-    c.take_pivot-block.ensures.rows ∙ c.make_element-end.ensures.builds.sizes c.args.me
-    ∙ ap (λ z. size_of z c.args.me) c.make_room-from.ensures.same.0
-
-pub returns-clause-packed : goal.returns-clause-packed
-returns-clause-packed g c =
-    c.make_room-from.ensures.moved
+pub returns : goal.returns
+returns g c = record {
+  begins = (let iw : List ℤ = c.args.iw.now in let nv : List ℤ = c.args.nv.now in let pe : List ℤ = c.args.pe.now in
+      let len : List ℕ = c.args.len.now in let e_len : List ℤ = c.args.e_len.now in let me : ℕ = c.args.me in
+      let m : ℕ = place (word e_len me) in let iw1 : List ℤ = c.make_room-from.new.iw in let pe1 : List ℤ = c.make_room-from.new.pe in
+      let rooms : Rooms (length nv) iw pe e_len len c.args.free iw1 pe1 c.make_room-from.result.0 = c.make_room-from.ensures.rooms in
+      let same_nv : c.make_room-from.new.nv ≡ nv = c.make_room-from.ensures.same.0 in
+      let same_len : c.make_room-from.new.len ≡ len = c.make_room-from.ensures.same.1 in
+      let es = rooms_elements c.requires.pivot.laid rooms me c.requires.pivot.listed c.requires.elements.listed in
+      let front_is = rooms_front c.requires.pivot.laid rooms me c.requires.pivot.listed c.requires.elements.listed nv in
+      let from : ℕ = c.make_room-from.result.0 in let end : ℕ = c.make_element-end.result.0 in
+      let total : ℕ = c.make_element-end.result.1 in let iw2 : List ℤ = c.make_element-end.new.iw in
+      let nv2 : List ℤ = c.make_element-end.new.nv in let front : List ℕ = front_of iw nv pe len me m in
+      let b : Builds me front iw1 nv from iw2 nv2 end total =
+      built_as pe1 m same_nv same_len front_is c.make_element-end.ensures.builds in
+      let pe2 : List ℤ = c.make_element-end.new.pe in let e_len2 : List ℤ = c.make_element-end.new.e_len in
+      let len2 : List ℕ = c.make_element-end.new.len in let absorbed : List ℕ = elements_in iw pe e_len me in
+      let z : Makes (length nv) me absorbed front total iw1 pe1 e_len len from iw2 pe2 e_len2 len2 end =
+      made_as pe1 m same_nv same_len front_is es c.make_element-end.ensures.makes in
+      begins rooms me refl b z c.make_element-end.ensures.start_is (front_apart iw nv pe len me m) c.take_pivot-block.ensures.takes.long
+      c.take_pivot-block.ensures.takes.sizes c.take_pivot-block.ensures.takes.front
+      (built_inside iw2 pe2 len2 me z.list b.list c.make_element-end.ensures.start_is b.grows));
+  counters = (λ e. c.make_element-end.ensures.counters e ∙ ap (λ xs. cond (has xs e) 0 (num c.args.w.now e))
+      (rooms_elements c.requires.pivot.laid c.make_room-from.ensures.rooms c.args.me c.requires.pivot.listed c.requires.elements.listed));
+  long = (c.make_element-end.ensures.long);
+  before = (λ j ne h. let a = c.make_element-end.ensures.makes.before j ne h in let s = c.make_element-end.ensures.start_is in omega (arith, a, s));
+  end = (let iw : List ℤ = c.args.iw.now in let nv : List ℤ = c.args.nv.now in let pe : List ℤ = c.args.pe.now in
+      let len : List ℕ = c.args.len.now in let e_len : List ℤ = c.args.e_len.now in let me : ℕ = c.args.me in
+      let m : ℕ = place (word e_len me) in let iw1 : List ℤ = c.make_room-from.new.iw in let pe1 : List ℤ = c.make_room-from.new.pe in
+      let rooms : Rooms (length nv) iw pe e_len len c.args.free iw1 pe1 c.make_room-from.result.0 = c.make_room-from.ensures.rooms in
+      let same_nv : c.make_room-from.new.nv ≡ nv = c.make_room-from.ensures.same.0 in
+      let same_len : c.make_room-from.new.len ≡ len = c.make_room-from.ensures.same.1 in
+      let front_is = rooms_front c.requires.pivot.laid rooms me c.requires.pivot.listed c.requires.elements.listed nv in
+      let from : ℕ = c.make_room-from.result.0 in let end : ℕ = c.make_element-end.result.0 in
+      let total : ℕ = c.make_element-end.result.1 in let iw2 : List ℤ = c.make_element-end.new.iw in
+      let nv2 : List ℤ = c.make_element-end.new.nv in let front : List ℕ = front_of iw nv pe len me m in
+      let b : Builds me front iw1 nv from iw2 nv2 end total =
+      built_as pe1 m same_nv same_len front_is c.make_element-end.ensures.builds in
+      let l = rooms.long in let m = b.long in let fits = c.make_room-from.ensures.fits in let n = rows_length iw2 from (end - from) in
+      let at = ap length b.list in
+      let w = b.grows in omega (arith, l, m, fits, n, at, w));
+  total = (let iw : List ℤ = c.args.iw.now in let nv : List ℤ = c.args.nv.now in let pe : List ℤ = c.args.pe.now in
+      let len : List ℕ = c.args.len.now in let e_len : List ℤ = c.args.e_len.now in let me : ℕ = c.args.me in
+      let m : ℕ = place (word e_len me) in let iw1 : List ℤ = c.make_room-from.new.iw in let pe1 : List ℤ = c.make_room-from.new.pe in
+      let rooms : Rooms (length nv) iw pe e_len len c.args.free iw1 pe1 c.make_room-from.result.0 = c.make_room-from.ensures.rooms in
+      let same_nv : c.make_room-from.new.nv ≡ nv = c.make_room-from.ensures.same.0 in
+      let same_len : c.make_room-from.new.len ≡ len = c.make_room-from.ensures.same.1 in
+      let front_is = rooms_front c.requires.pivot.laid rooms me c.requires.pivot.listed c.requires.elements.listed nv in
+      let from : ℕ = c.make_room-from.result.0 in let end : ℕ = c.make_element-end.result.0 in
+      let total : ℕ = c.make_element-end.result.1 in let iw2 : List ℤ = c.make_element-end.new.iw in
+      let nv2 : List ℤ = c.make_element-end.new.nv in let front : List ℕ = front_of iw nv pe len me m in
+      let b : Builds me front iw1 nv from iw2 nv2 end total =
+      built_as pe1 m same_nv same_len front_is c.make_element-end.ensures.builds in
+      b.total_is);
+  block = (c.take_pivot-block.ensures.rows ∙ c.make_element-end.ensures.builds.sizes c.args.me
+      ∙ ap (λ z. size_of z c.args.me) c.make_room-from.ensures.same.0);
+  packed = (c.make_room-from.ensures.moved);
+}

@@ -1,3 +1,4 @@
+use Rattle.std.proofs.Common.{rules}
 -- The proof of compaction::compact.
 use Rattle.std.proofs.Common.{◌≡◌, length, arith, sym, ◌∙◌, subst, set}
 use Rattle.amd_words.specs.Words.{start, word}
@@ -11,10 +12,15 @@ use Rattle.amd_elements.proofs.compaction.compact.Goals.{then-cell_at-gt0+then-n
 use Rattle.amd_elements.proofs.compaction.compact.Goals.{else-cell_at-gt0-via-then-cell_at-gt0+else-names_one}
 use Rattle.amd_elements.proofs.compaction.compact.Goals.{else-cell_at-gt0-via-else-cell_at-gt0}
 
-pub mark_row-requires-clause-inside : goal.mark_row-requires-clause-inside
-mark_row-requires-clause-inside g c = (start_inside c.requires.layout c.requires.end c.loop-j.invariant
-    (let b = c.if-cell_at-gt0.true in let e = c.cell_at.ensures.is in omega (arith, b, e)) (sym c.names_one.ensures
-    ∙ c.if-names_one.true)).2
+pub mark_row-requires : goal.mark_row-requires
+mark_row-requires g c = record {
+  row = search rules;
+  small = search rules;
+  is_one = search rules;
+  inside = ((start_inside c.requires.layout c.requires.end c.loop-j.invariant
+      (let b = c.if-cell_at-gt0.true in let e = c.cell_at.ensures.is in omega (arith, b, e)) (sym c.names_one.ensures
+      ∙ c.if-names_one.true)).2);
+}
 
 pub loop-j-preserved : goal.loop-j-preserved
 loop-j-preserved g c = let h = c.loop-j.invariant in let same = h.later c.loop-j.j (omega arith) in elim c.if-cell_at-gt0.branch [
@@ -55,15 +61,21 @@ pub cell_at-count-requires : goal.cell_at-count-requires
 cell_at-count-requires g c = (row_of c.requires.layout c.loop-src-test.true (sym c.names_one-in-loop-src.ensures
     ∙ c.if-names_one-2.false) c.loop-src.invariant c.flipped-j.result c.flipped-j.ensures).2
 
-pub move_list-requires-clause-row : goal.move_list-requires-clause-row
-move_list-requires-clause-row g c = let a = (row_of c.requires.layout c.loop-src-test.true (sym c.names_one-in-loop-src.ensures
-    ∙ c.if-names_one-2.false) c.loop-src.invariant c.flipped-j.result c.flipped-j.ensures).2 in let b = c.loop-src.invariant.rows in
-    omega (arith, a, b, c.requires.lengths)
-
-pub move_list-requires-clause-some : goal.move_list-requires-clause-some
-move_list-requires-clause-some g c = let a = (row_of c.requires.layout c.loop-src-test.true (sym c.names_one-in-loop-src.ensures
-    ∙ c.if-names_one-2.false) c.loop-src.invariant c.flipped-j.result c.flipped-j.ensures).4 in let e = c.cell_at-count.ensures.is in
-    omega (arith, a, e)
+pub move_list-requires : goal.move_list-requires
+move_list-requires g c = record {
+  row = (let a = (row_of c.requires.layout c.loop-src-test.true (sym c.names_one-in-loop-src.ensures
+      ∙ c.if-names_one-2.false) c.loop-src.invariant c.flipped-j.result c.flipped-j.ensures).2 in let b = c.loop-src.invariant.rows in
+      omega (arith, a, b, c.requires.lengths));
+  some = (let a = (row_of c.requires.layout c.loop-src-test.true (sym c.names_one-in-loop-src.ensures
+      ∙ c.if-names_one-2.false) c.loop-src.invariant c.flipped-j.result c.flipped-j.ensures).4 in let e = c.cell_at-count.ensures.is in
+      omega (arith, a, e));
+  inside = (let a = (row_of c.requires.layout c.loop-src-test.true (sym c.names_one-in-loop-src.ensures
+      ∙ c.if-names_one-2.false) c.loop-src.invariant c.flipped-j.result c.flipped-j.ensures).3 in let e = c.cell_at-count.ensures.is in
+      let h = c.loop-src.invariant.long in let w = c.loop-src.invariant.low in let b = c.requires.end in let d = c.requires.wide.1 in let z = g.met.S.Signed.narrow in
+      omega (arith, a, e, h, w, b, d, z));
+  down = search rules;
+  small = search rules;
+}
 
 pub loop-src-smaller : goal.loop-src-smaller
 loop-src-smaller g c = let a = (row_of c.requires.layout c.loop-src-test.true (sym c.names_one-in-loop-src.ensures
@@ -81,20 +93,14 @@ loop-src-preserved g c = let a = row_of c.requires.layout c.loop-src-test.true (
 pub returns-clause-compacts : goal.returns-clause-compacts
 returns-clause-compacts g c = swept_all c.requires.layout c.loop-src-test.false c.loop-src.invariant
 
-pub move_list-requires-clause-inside : goal.move_list-requires-clause-inside
-move_list-requires-clause-inside g c = let a = (row_of c.requires.layout c.loop-src-test.true (sym c.names_one-in-loop-src.ensures
-    ∙ c.if-names_one-2.false) c.loop-src.invariant c.flipped-j.result c.flipped-j.ensures).3 in let e = c.cell_at-count.ensures.is in
-    let h = c.loop-src.invariant.long in let w = c.loop-src.invariant.low in let b = c.requires.end in let d = c.requires.short in
-    omega (arith, a, e, h, w, b, d)
-
 pub overflow_add-src-else-names_one-2 : goal.overflow_add-src-else-names_one-2
 overflow_add-src-else-names_one-2 g c = let a = (row_of c.requires.layout c.loop-src-test.true (sym c.names_one-in-loop-src.ensures
     ∙ c.if-names_one-2.false) c.loop-src.invariant c.flipped-j.result c.flipped-j.ensures).3 in let e = c.cell_at-count.ensures.is in
-    let h = c.loop-src.invariant.long in let w = c.loop-src.invariant.low in let b = c.requires.end in let d = c.requires.short in
-    omega (arith, a, e, h, w, b, d)
+    let h = c.loop-src.invariant.long in let w = c.loop-src.invariant.low in let b = c.requires.end in let d = c.requires.wide.1 in let z = g.met.S.Signed.narrow in
+    omega (arith, a, e, h, w, b, d, z)
 
 pub overflow_add-dst : goal.overflow_add-dst
 overflow_add-dst g c = let a = (row_of c.requires.layout c.loop-src-test.true (sym c.names_one-in-loop-src.ensures
     ∙ c.if-names_one-2.false) c.loop-src.invariant c.flipped-j.result c.flipped-j.ensures).3 in let e = c.cell_at-count.ensures.is in
-    let h = c.loop-src.invariant.long in let w = c.loop-src.invariant.low in let b = c.requires.end in let d = c.requires.short in
-    omega (arith, a, e, h, w, b, d)
+    let h = c.loop-src.invariant.long in let w = c.loop-src.invariant.low in let b = c.requires.end in let d = c.requires.wide.1 in let z = g.met.S.Signed.narrow in
+    omega (arith, a, e, h, w, b, d, z)

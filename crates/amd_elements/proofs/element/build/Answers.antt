@@ -17,7 +17,7 @@ loop-p-init g c = let e : c.named-from.result - c.named-from.result ≡ 0 = none
     (flat_map (λ e. classes c.args.nv.now (members_at c.args.iw.now c.args.pe.now c.args.len.now e)) xs)
     c.args.iw.now c.enter.new.nv c.args.free 0) (sym none)
     (builds_none c.args.iw.now c.args.nv.now c.enter.new.nv c.args.pe.now c.args.len.now c.args.pivot c.args.n_elements c.args.free
-    c.enter.ensures.sizes c.enter.ensures.front c.requires.clear)
+    c.enter.ensures.sizes c.enter.ensures.front c.requires.around.clear)
 
 pub named-e-requires-clause-is_one : goal.named-e-requires-clause-is_one
 named-e-requires-clause-is_one g c =
@@ -33,8 +33,8 @@ named-e-requires-clause-is_one g c =
     = subst (λ s. Gathers iw nv1 free free (flat_map f (rows iw s k)) c.loop-p.iw c.loop-p.nv c.loop-p.end c.loop-p.sum)
     is c.loop-p.invariant in
     let word_k = pivot_word c.args.iw.now c.args.nv.now c.enter.new.nv c.args.pe.now c.args.len.now c.args.pivot c.args.n_elements
-    c.args.free c.enter.ensures.sizes c.enter.ensures.front c.requires.clear (length c.args.nv.now)
-    refl c.enter.ensures.long c.requires.elements c.requires.laid c.requires.fits c.requires.few k l in
+    c.args.free c.enter.ensures.sizes c.enter.ensures.front c.requires.around.clear (length c.args.nv.now)
+    refl c.enter.ensures.long c.requires.around.lists.elements c.requires.around.lists.laid c.requires.fits c.requires.few k l in
     let same : word c.loop-p.iw p ≡ word iw (start pe pivot + k) = h.below p (let b = word_k.2 in omega (arith, b, there))
     ∙ ap (word iw) (sym there) in
     ap is_place same ∙ word_k.0
@@ -53,13 +53,13 @@ named-first-requires-clause-inside g c =
     = subst (λ s. Gathers iw nv1 free free (flat_map f (rows iw s k)) c.loop-p.iw c.loop-p.nv c.loop-p.end c.loop-p.sum)
     is c.loop-p.invariant in
     let word_k = pivot_word c.args.iw.now c.args.nv.now c.enter.new.nv c.args.pe.now c.args.len.now c.args.pivot c.args.n_elements
-    c.args.free c.enter.ensures.sizes c.enter.ensures.front c.requires.clear (length c.args.nv.now)
-    refl c.enter.ensures.long c.requires.elements c.requires.laid c.requires.fits c.requires.few k l in
+    c.args.free c.enter.ensures.sizes c.enter.ensures.front c.requires.around.clear (length c.args.nv.now)
+    refl c.enter.ensures.long c.requires.around.lists.elements c.requires.around.lists.laid c.requires.fits c.requires.few k l in
     let e : ℕ = place (word iw (start pe pivot + k)) in
     let same : word c.loop-p.iw p ≡ word iw (start pe pivot + k) = h.below p (let b = word_k.2 in omega (arith, b, there))
     ∙ ap (word iw) (sym there) in
     let row : c.named-e.result ≡ e = c.named-e.ensures ∙ ap place same in
-    let s = word_k.1 in let q = c.requires.lengths.0 in omega (arith, row, s, q)
+    let s = word_k.1 in let q = c.requires.around.lists.lengths.0 in omega (arith, row, s, q)
 
 pub named-first-requires-clause-is_one : goal.named-first-requires-clause-is_one
 named-first-requires-clause-is_one g c =
@@ -75,12 +75,12 @@ named-first-requires-clause-is_one g c =
     = subst (λ s. Gathers iw nv1 free free (flat_map f (rows iw s k)) c.loop-p.iw c.loop-p.nv c.loop-p.end c.loop-p.sum)
     is c.loop-p.invariant in
     let word_k = pivot_word c.args.iw.now c.args.nv.now c.enter.new.nv c.args.pe.now c.args.len.now c.args.pivot c.args.n_elements
-    c.args.free c.enter.ensures.sizes c.enter.ensures.front c.requires.clear (length c.args.nv.now)
-    refl c.enter.ensures.long c.requires.elements c.requires.laid c.requires.fits c.requires.few k l in
+    c.args.free c.enter.ensures.sizes c.enter.ensures.front c.requires.around.clear (length c.args.nv.now)
+    refl c.enter.ensures.long c.requires.around.lists.elements c.requires.around.lists.laid c.requires.fits c.requires.few k l in
     let e : ℕ = place (word iw (start pe pivot + k)) in let laid =
     element_laid c.args.iw.now c.args.nv.now c.enter.new.nv c.args.pe.now c.args.len.now c.args.pivot c.args.n_elements c.args.free
-    c.enter.ensures.sizes c.enter.ensures.front c.requires.clear (length c.args.nv.now)
-    refl c.enter.ensures.long c.requires.elements c.requires.laid c.requires.fits c.requires.few k l in
+    c.enter.ensures.sizes c.enter.ensures.front c.requires.around.clear (length c.args.nv.now)
+    refl c.enter.ensures.long c.requires.around.lists.elements c.requires.around.lists.laid c.requires.fits c.requires.few k l in
     let same : word c.loop-p.iw p ≡ word iw (start pe pivot + k) = h.below p (let b = word_k.2 in omega (arith, b, there))
     ∙ ap (word iw) (sym there) in
     let row : c.named-e.result ≡ e = c.named-e.ensures ∙ ap place same in
@@ -100,13 +100,13 @@ cell_at-requires g c =
     = subst (λ s. Gathers iw nv1 free free (flat_map f (rows iw s k)) c.loop-p.iw c.loop-p.nv c.loop-p.end c.loop-p.sum)
     is c.loop-p.invariant in
     let word_k = pivot_word c.args.iw.now c.args.nv.now c.enter.new.nv c.args.pe.now c.args.len.now c.args.pivot c.args.n_elements
-    c.args.free c.enter.ensures.sizes c.enter.ensures.front c.requires.clear (length c.args.nv.now)
-    refl c.enter.ensures.long c.requires.elements c.requires.laid c.requires.fits c.requires.few k l in
+    c.args.free c.enter.ensures.sizes c.enter.ensures.front c.requires.around.clear (length c.args.nv.now)
+    refl c.enter.ensures.long c.requires.around.lists.elements c.requires.around.lists.laid c.requires.fits c.requires.few k l in
     let e : ℕ = place (word iw (start pe pivot + k)) in
     let same : word c.loop-p.iw p ≡ word iw (start pe pivot + k) = h.below p (let b = word_k.2 in omega (arith, b, there))
     ∙ ap (word iw) (sym there) in
     let row : c.named-e.result ≡ e = c.named-e.ensures ∙ ap place same in
-    let s = word_k.1 in let q = c.requires.lengths.1 in omega (arith, row, s, q)
+    let s = word_k.1 in let q = c.requires.around.lists.lengths.1 in omega (arith, row, s, q)
 
 pub gather-requires : goal.gather-requires
 gather-requires g c =
@@ -122,12 +122,12 @@ gather-requires g c =
     = subst (λ s. Gathers iw nv1 free free (flat_map f (rows iw s k)) c.loop-p.iw c.loop-p.nv c.loop-p.end c.loop-p.sum)
     is c.loop-p.invariant in
     let word_k = pivot_word c.args.iw.now c.args.nv.now c.enter.new.nv c.args.pe.now c.args.len.now c.args.pivot c.args.n_elements
-    c.args.free c.enter.ensures.sizes c.enter.ensures.front c.requires.clear (length c.args.nv.now)
-    refl c.enter.ensures.long c.requires.elements c.requires.laid c.requires.fits c.requires.few k l in
+    c.args.free c.enter.ensures.sizes c.enter.ensures.front c.requires.around.clear (length c.args.nv.now)
+    refl c.enter.ensures.long c.requires.around.lists.elements c.requires.around.lists.laid c.requires.fits c.requires.few k l in
     let e : ℕ = place (word iw (start pe pivot + k)) in let laid =
     element_laid c.args.iw.now c.args.nv.now c.enter.new.nv c.args.pe.now c.args.len.now c.args.pivot c.args.n_elements c.args.free
-    c.enter.ensures.sizes c.enter.ensures.front c.requires.clear (length c.args.nv.now)
-    refl c.enter.ensures.long c.requires.elements c.requires.laid c.requires.fits c.requires.few k l in
+    c.enter.ensures.sizes c.enter.ensures.front c.requires.around.clear (length c.args.nv.now)
+    refl c.enter.ensures.long c.requires.around.lists.elements c.requires.around.lists.laid c.requires.fits c.requires.few k l in
     let same : word c.loop-p.iw p ≡ word iw (start pe pivot + k) = h.below p (let b = word_k.2 in omega (arith, b, there))
     ∙ ap (word iw) (sym there) in
     let row : c.named-e.result ≡ e = c.named-e.ensures ∙ ap place same in
@@ -140,29 +140,28 @@ gather-requires g c =
     record {
       source = before;
       order = h.grows;
-      short = (let a = c.requires.short in let b = h.long in omega (arith, a, b));
       end = turn_end c.args.iw.now c.args.nv.now c.enter.new.nv c.args.pe.now c.args.len.now c.args.pivot c.args.n_elements c.args.free
-          c.enter.ensures.sizes c.enter.ensures.front c.requires.clear (length c.args.nv.now)
-          refl c.enter.ensures.long c.requires.elements c.requires.laid c.requires.fits c.requires.few h c.named-first.result
+          c.enter.ensures.sizes c.enter.ensures.front c.requires.around.clear (length c.args.nv.now)
+          refl c.enter.ensures.long c.requires.around.lists.elements c.requires.around.lists.laid c.requires.fits c.requires.few h c.named-first.result
           c.cell_at.result before (f e) zs ys (split_element c.args.iw.now c.args.nv.now c.enter.new.nv c.args.pe.now c.args.len.now
-          c.args.pivot c.args.n_elements c.args.free c.enter.ensures.sizes c.enter.ensures.front c.requires.clear k l);
+          c.args.pivot c.args.n_elements c.args.free c.enter.ensures.sizes c.enter.ensures.front c.requires.around.clear k l);
       names = still_names c.args.iw.now c.args.nv.now c.enter.new.nv c.args.pe.now c.args.len.now c.args.pivot c.args.n_elements
-          c.args.free c.enter.ensures.sizes c.enter.ensures.front c.requires.clear h c.named-first.result c.cell_at.result before
+          c.args.free c.enter.ensures.sizes c.enter.ensures.front c.requires.around.clear h c.named-first.result c.cell_at.result before
           (length nv) (h.wide ∙ c.enter.ensures.long) (subst (λ s.
           Names (length nv) iw s c.cell_at.result) (sym first) (subst (λ n. Names (length nv) iw (start pe e) n) (sym count) laid.2));
       made = subst (λ n. Names n c.loop-p.iw free (c.loop-p.end - free)) (sym h.wide) h.names;
       known = gathers_known h;
-      total = gathers_total h;
+      total_is = gathers_total h;
       fits = turn_fits c.args.iw.now c.args.nv.now c.enter.new.nv c.args.pe.now c.args.len.now c.args.pivot c.args.n_elements c.args.free
-          c.enter.ensures.sizes c.enter.ensures.front c.requires.clear (length c.args.nv.now)
-          refl c.enter.ensures.long c.requires.elements c.requires.laid c.requires.fits c.requires.few h c.named-first.result
+          c.enter.ensures.sizes c.enter.ensures.front c.requires.around.clear (length c.args.nv.now)
+          refl c.enter.ensures.long c.requires.around.lists.elements c.requires.around.lists.laid c.requires.fits c.requires.few h c.named-first.result
           c.cell_at.result before (f e) zs ys (split_element c.args.iw.now c.args.nv.now c.enter.new.nv c.args.pe.now c.args.len.now
-          c.args.pivot c.args.n_elements c.args.free c.enter.ensures.sizes c.enter.ensures.front c.requires.clear k l);
+          c.args.pivot c.args.n_elements c.args.free c.enter.ensures.sizes c.enter.ensures.front c.requires.around.clear k l);
       few = turn_few c.args.iw.now c.args.nv.now c.enter.new.nv c.args.pe.now c.args.len.now c.args.pivot c.args.n_elements c.args.free
-          c.enter.ensures.sizes c.enter.ensures.front c.requires.clear (length c.args.nv.now)
-          refl c.enter.ensures.long c.requires.elements c.requires.laid c.requires.fits c.requires.few h c.named-first.result
+          c.enter.ensures.sizes c.enter.ensures.front c.requires.around.clear (length c.args.nv.now)
+          refl c.enter.ensures.long c.requires.around.lists.elements c.requires.around.lists.laid c.requires.fits c.requires.few h c.named-first.result
           c.cell_at.result before (f e) zs ys (split_element c.args.iw.now c.args.nv.now c.enter.new.nv c.args.pe.now c.args.len.now
-          c.args.pivot c.args.n_elements c.args.free c.enter.ensures.sizes c.enter.ensures.front c.requires.clear k l);
+          c.args.pivot c.args.n_elements c.args.free c.enter.ensures.sizes c.enter.ensures.front c.requires.around.clear k l);
     }
 
 pub loop-p-preserved : goal.loop-p-preserved
@@ -180,12 +179,12 @@ loop-p-preserved g c =
     = subst (λ s. Gathers iw nv1 free free (flat_map f (rows iw s k)) c.loop-p.iw c.loop-p.nv c.loop-p.end c.loop-p.sum)
     is c.loop-p.invariant in
     let word_k = pivot_word c.args.iw.now c.args.nv.now c.enter.new.nv c.args.pe.now c.args.len.now c.args.pivot c.args.n_elements
-    c.args.free c.enter.ensures.sizes c.enter.ensures.front c.requires.clear (length c.args.nv.now)
-    refl c.enter.ensures.long c.requires.elements c.requires.laid c.requires.fits c.requires.few k l in
+    c.args.free c.enter.ensures.sizes c.enter.ensures.front c.requires.around.clear (length c.args.nv.now)
+    refl c.enter.ensures.long c.requires.around.lists.elements c.requires.around.lists.laid c.requires.fits c.requires.few k l in
     let e : ℕ = place (word iw (start pe pivot + k)) in let laid =
     element_laid c.args.iw.now c.args.nv.now c.enter.new.nv c.args.pe.now c.args.len.now c.args.pivot c.args.n_elements c.args.free
-    c.enter.ensures.sizes c.enter.ensures.front c.requires.clear (length c.args.nv.now)
-    refl c.enter.ensures.long c.requires.elements c.requires.laid c.requires.fits c.requires.few k l in
+    c.enter.ensures.sizes c.enter.ensures.front c.requires.around.clear (length c.args.nv.now)
+    refl c.enter.ensures.long c.requires.around.lists.elements c.requires.around.lists.laid c.requires.fits c.requires.few k l in
     let same : word c.loop-p.iw p ≡ word iw (start pe pivot + k) = h.below p (let b = word_k.2 in omega (arith, b, there))
     ∙ ap (word iw) (sym there) in
     let row : c.named-e.result ≡ e = c.named-e.ensures ∙ ap place same in
@@ -196,14 +195,14 @@ loop-p-preserved g c =
     sym (ap (λ s. classes nv (rows iw s c.cell_at.result)) first ∙ ap (λ n. classes nv (rows iw (start pe e) n)) count) in
     let zs : List ℕ = flat_map f (rows iw (start pe pivot + (k + 1)) (m - (k + 1))) ++ classes nv (variables_at iw pe len pivot m) in
     let done = turn_done c.args.iw.now c.args.nv.now c.enter.new.nv c.args.pe.now c.args.len.now c.args.pivot c.args.n_elements
-    c.args.free c.enter.ensures.sizes c.enter.ensures.front c.requires.clear (length c.args.nv.now)
-    refl c.enter.ensures.long c.requires.elements c.requires.laid c.requires.fits c.requires.few h c.named-first.result
+    c.args.free c.enter.ensures.sizes c.enter.ensures.front c.requires.around.clear (length c.args.nv.now)
+    refl c.enter.ensures.long c.requires.around.lists.elements c.requires.around.lists.laid c.requires.fits c.requires.few h c.named-first.result
     c.cell_at.result before (f e) zs ys (split_element c.args.iw.now c.args.nv.now c.enter.new.nv c.args.pe.now c.args.len.now
-    c.args.pivot c.args.n_elements c.args.free c.enter.ensures.sizes c.enter.ensures.front c.requires.clear k l) c.gather.ensures in
+    c.args.pivot c.args.n_elements c.args.free c.enter.ensures.sizes c.enter.ensures.front c.requires.around.clear k l) c.gather.ensures in
     let more : flat_map f (rows iw from (p + 1 - from)) ≡ flat_map f (rows iw (start pe pivot) k) ++ f e =
     ap (λ s. flat_map f (rows iw s (p + 1 - from))) is ∙ ap (λ n. flat_map f (rows iw (start pe pivot) n)) next
     ∙ next_element c.args.iw.now c.args.nv.now c.enter.new.nv c.args.pe.now c.args.len.now c.args.pivot c.args.n_elements c.args.free
-    c.enter.ensures.sizes c.enter.ensures.front c.requires.clear k in
+    c.enter.ensures.sizes c.enter.ensures.front c.requires.around.clear k in
     subst (λ xs. Gathers iw nv1 free free xs c.gather.new.iw c.gather.new.nv c.gather.result.0 c.gather.result.1) (sym more) done
 
 pub gather-requires-2 : goal.gather-requires-2
@@ -221,7 +220,7 @@ gather-requires-2 g c =
     all_k
     (subst (λ s. Gathers iw nv1 free free (flat_map f (rows iw s (p - from))) c.loop-p.iw c.loop-p.nv c.loop-p.end c.loop-p.sum)
     is c.loop-p.invariant) in
-    let laid = c.requires.laid.0 in let within = c.requires.elements in
+    let laid = c.requires.around.lists.laid.0 in let within = c.requires.around.lists.elements in
     let all_words : c.cell_at-2.result ≡ num len pivot = c.cell_at-2.ensures.is in
     let before : from + m + (c.cell_at-2.result - m) ≤ free = (let b = laid.1 in omega (arith, b, is, within, all_words)) in
     let ys : classes nv (variables_at iw pe len pivot m) ≡ classes nv (rows iw (from + m) (c.cell_at-2.result - m)) =
@@ -230,34 +229,33 @@ gather-requires-2 g c =
     record {
       source = before;
       order = h.grows;
-      short = (let a = c.requires.short in let b = h.long in omega (arith, a, b));
       end = turn_end c.args.iw.now c.args.nv.now c.enter.new.nv c.args.pe.now c.args.len.now c.args.pivot c.args.n_elements c.args.free
-          c.enter.ensures.sizes c.enter.ensures.front c.requires.clear (length c.args.nv.now)
-          refl c.enter.ensures.long c.requires.elements c.requires.laid c.requires.fits c.requires.few h (from + m)
+          c.enter.ensures.sizes c.enter.ensures.front c.requires.around.clear (length c.args.nv.now)
+          refl c.enter.ensures.long c.requires.around.lists.elements c.requires.around.lists.laid c.requires.fits c.requires.few h (from + m)
           (c.cell_at-2.result - m) before (classes nv (variables_at iw pe len pivot m)) [] ys
           (split_variables c.args.iw.now c.args.nv.now c.enter.new.nv c.args.pe.now c.args.len.now c.args.pivot c.args.n_elements
-          c.args.free c.enter.ensures.sizes c.enter.ensures.front c.requires.clear);
+          c.args.free c.enter.ensures.sizes c.enter.ensures.front c.requires.around.clear);
       names = still_names c.args.iw.now c.args.nv.now c.enter.new.nv c.args.pe.now c.args.len.now c.args.pivot c.args.n_elements
-          c.args.free c.enter.ensures.sizes c.enter.ensures.front c.requires.clear h (from + m) (c.cell_at-2.result - m) before
+          c.args.free c.enter.ensures.sizes c.enter.ensures.front c.requires.around.clear h (from + m) (c.cell_at-2.result - m) before
           (length nv) (h.wide ∙ c.enter.ensures.long)
           (λ k l. let w = laid.2 (m + k) (omega (arith, l, within, all_words)) in
           let e : from + m + k ≡ start pe pivot + (m + k) = omega (arith, is) in
           subst (λ q. (is_place (word iw q) ≡ true) × (place (word iw q) < length nv)) (sym e) w);
       made = subst (λ n. Names n c.loop-p.iw free (c.loop-p.end - free)) (sym h.wide) h.names;
       known = gathers_known h;
-      total = gathers_total h;
+      total_is = gathers_total h;
       fits = turn_fits c.args.iw.now c.args.nv.now c.enter.new.nv c.args.pe.now c.args.len.now c.args.pivot c.args.n_elements c.args.free
-          c.enter.ensures.sizes c.enter.ensures.front c.requires.clear (length c.args.nv.now)
-          refl c.enter.ensures.long c.requires.elements c.requires.laid c.requires.fits c.requires.few h (from + m)
+          c.enter.ensures.sizes c.enter.ensures.front c.requires.around.clear (length c.args.nv.now)
+          refl c.enter.ensures.long c.requires.around.lists.elements c.requires.around.lists.laid c.requires.fits c.requires.few h (from + m)
           (c.cell_at-2.result - m) before (classes nv (variables_at iw pe len pivot m)) [] ys
           (split_variables c.args.iw.now c.args.nv.now c.enter.new.nv c.args.pe.now c.args.len.now c.args.pivot c.args.n_elements
-          c.args.free c.enter.ensures.sizes c.enter.ensures.front c.requires.clear);
+          c.args.free c.enter.ensures.sizes c.enter.ensures.front c.requires.around.clear);
       few = turn_few c.args.iw.now c.args.nv.now c.enter.new.nv c.args.pe.now c.args.len.now c.args.pivot c.args.n_elements c.args.free
-          c.enter.ensures.sizes c.enter.ensures.front c.requires.clear (length c.args.nv.now)
-          refl c.enter.ensures.long c.requires.elements c.requires.laid c.requires.fits c.requires.few h (from + m)
+          c.enter.ensures.sizes c.enter.ensures.front c.requires.around.clear (length c.args.nv.now)
+          refl c.enter.ensures.long c.requires.around.lists.elements c.requires.around.lists.laid c.requires.fits c.requires.few h (from + m)
           (c.cell_at-2.result - m) before (classes nv (variables_at iw pe len pivot m)) [] ys
           (split_variables c.args.iw.now c.args.nv.now c.enter.new.nv c.args.pe.now c.args.len.now c.args.pivot c.args.n_elements
-          c.args.free c.enter.ensures.sizes c.enter.ensures.front c.requires.clear);
+          c.args.free c.enter.ensures.sizes c.enter.ensures.front c.requires.around.clear);
     }
 
 pub returns : goal.returns
@@ -275,58 +273,46 @@ returns g c =
     all_k
     (subst (λ s. Gathers iw nv1 free free (flat_map f (rows iw s (p - from))) c.loop-p.iw c.loop-p.nv c.loop-p.end c.loop-p.sum)
     is c.loop-p.invariant) in
-    let laid = c.requires.laid.0 in let within = c.requires.elements in
+    let laid = c.requires.around.lists.laid.0 in let within = c.requires.around.lists.elements in
     let all_words : c.cell_at-2.result ≡ num len pivot = c.cell_at-2.ensures.is in
     let before : from + m + (c.cell_at-2.result - m) ≤ free = (let b = laid.1 in omega (arith, b, is, within, all_words)) in
     let ys : classes nv (variables_at iw pe len pivot m) ≡ classes nv (rows iw (from + m) (c.cell_at-2.result - m)) =
     sym (ap (λ q. classes nv (rows iw (from + m) (q - m))) all_words
     ∙ ap (λ s. classes nv (rows iw (s + m) (num len pivot - m))) is) in
     builds_all c.args.iw.now c.args.nv.now c.enter.new.nv c.args.pe.now c.args.len.now c.args.pivot c.args.n_elements c.args.free
-    c.enter.ensures.sizes c.enter.ensures.front c.requires.clear c.enter.ensures.long
+    c.enter.ensures.sizes c.enter.ensures.front c.requires.around.clear c.enter.ensures.long
     (turn_done c.args.iw.now c.args.nv.now c.enter.new.nv c.args.pe.now c.args.len.now c.args.pivot c.args.n_elements c.args.free
-    c.enter.ensures.sizes c.enter.ensures.front c.requires.clear (length c.args.nv.now)
-    refl c.enter.ensures.long c.requires.elements c.requires.laid c.requires.fits c.requires.few h (from + m)
+    c.enter.ensures.sizes c.enter.ensures.front c.requires.around.clear (length c.args.nv.now)
+    refl c.enter.ensures.long c.requires.around.lists.elements c.requires.around.lists.laid c.requires.fits c.requires.few h (from + m)
     (c.cell_at-2.result - m) before (classes nv (variables_at iw pe len pivot m)) [] ys
     (split_variables c.args.iw.now c.args.nv.now c.enter.new.nv c.args.pe.now c.args.len.now c.args.pivot c.args.n_elements
-    c.args.free c.enter.ensures.sizes c.enter.ensures.front c.requires.clear) c.gather-2.ensures)
+    c.args.free c.enter.ensures.sizes c.enter.ensures.front c.requires.around.clear) c.gather-2.ensures)
 
 pub enter-requires-clause-inside : goal.enter-requires-clause-inside
-enter-requires-clause-inside g c = c.requires.pivot.0
+enter-requires-clause-inside g c = c.requires.around.pivot.0
 
 pub enter-requires-clause-class : goal.enter-requires-clause-class
-enter-requires-clause-class g c = c.requires.pivot.1
+enter-requires-clause-class g c = c.requires.around.pivot.1
 
 pub enter-requires-clause-fresh : goal.enter-requires-clause-fresh
-enter-requires-clause-fresh g c = c.requires.clear c.args.pivot
+enter-requires-clause-fresh g c = c.requires.around.clear c.args.pivot
 
 pub named-from-requires-clause-inside : goal.named-from-requires-clause-inside
-named-from-requires-clause-inside g c = lt_of_lt_of_le c.requires.pivot.0 (le_of_eq (sym c.requires.lengths.0))
+named-from-requires-clause-inside g c = lt_of_lt_of_le c.requires.around.pivot.0 (le_of_eq (sym c.requires.around.lists.lengths.0))
 
 pub named-from-requires-clause-is_one : goal.named-from-requires-clause-is_one
-named-from-requires-clause-is_one g c = c.requires.laid.0.0
-
-pub overflow_add-p-end : goal.overflow_add-p-end
-overflow_add-p-end g c = record {
-  fits = lt_of_le_of_lt (le_trans (add-le-add (le_of_eq c.named-from.ensures) c.requires.elements)
-      (le_trans c.requires.laid.0.1 c.requires.end)) (lt_trans c.requires.short (lit< tt));
-}
+named-from-requires-clause-is_one g c = c.requires.around.lists.laid.0.0
 
 pub named-e-requires-clause-inside : goal.named-e-requires-clause-inside
 named-e-requires-clause-inside g c = lt_of_lt_of_le c.loop-p-test.true
-    (le_trans (add-le-add (le_of_eq c.named-from.ensures) c.requires.elements)
-    (le_trans c.requires.laid.0.1 (le_trans c.requires.end (le_of_eq (sym c.loop-p.invariant.long)))))
+    (le_trans (add-le-add (le_of_eq c.named-from.ensures) c.requires.around.lists.elements)
+    (le_trans c.requires.around.lists.laid.0.1 (le_trans c.requires.end (le_of_eq (sym c.loop-p.invariant.long)))))
 
 pub loop-p-smaller : goal.loop-p-smaller
 loop-p-smaller g c = falls (c.named-from.result + c.args.n_elements) c.loop-p.p c.loop-p-test.true
 
-pub overflow_add-from : goal.overflow_add-from
-overflow_add-from g c = record {
-  fits = lt_of_le_of_lt (le_trans (add-le-add (le_of_eq c.named-from.ensures) c.requires.elements)
-      (le_trans c.requires.laid.0.1 c.requires.end)) (lt_trans c.requires.short (lit< tt));
-}
-
 pub cell_at-requires-2 : goal.cell_at-requires-2
-cell_at-requires-2 g c = lt_of_lt_of_le c.requires.pivot.0 (le_of_eq (sym c.requires.lengths.1))
+cell_at-requires-2 g c = lt_of_lt_of_le c.requires.around.pivot.0 (le_of_eq (sym c.requires.around.lists.lengths.1))
 
 pub overflow_sub-cell_at : goal.overflow_sub-cell_at
-overflow_sub-cell_at g c = le_trans c.requires.elements (le_of_eq (sym c.cell_at-2.ensures.is))
+overflow_sub-cell_at g c = le_trans c.requires.around.lists.elements (le_of_eq (sym c.cell_at-2.ensures.is))

@@ -20,7 +20,7 @@ loop-p-init g c = let e : c.args.from - c.args.from ≡ 0 = none_passed c.args.f
     ap (λ n. classes c.args.nv.now (rows c.args.iw.now c.args.from n)) e
     ∙ ap (classes c.args.nv.now) (rows_none c.args.iw.now c.args.from) in
     rw none (gathers_none c.args.iw.now c.args.nv.now c.args.start c.args.free c.args.total c.requires.order c.requires.made
-    c.requires.known c.requires.total)
+    c.requires.known c.requires.total_is)
 
 -- the word at the place stands as it was
 module _ (iw iw' : List ℤ) (from count start free p n : ℕ) (e : from + n
@@ -84,19 +84,6 @@ overflow_add-sum g c =
     ∙ c.loop-p.invariant.sizes c.named-row.result ∙ ap (size_of c.args.nv.now) r in
     let fits : c.loop-p.sum + c.enter-sum.result < 2 ^ 64 = omega (arith, a, f, rows_is) in search (rules, fits)
 
-pub overflow_add-end : goal.overflow_add-end
-overflow_add-end g c =
-    let from : ℕ = c.args.from in let p : ℕ = c.loop-p.p in let n : ℕ = p - from in let after : from ≤ p = c.loop-p.auto.p in let t =
-    c.loop-p-test.true in
-    let e : from + n ≡ p = add-sub_of_le after in let l : n < c.args.count = within_count after t in
-    let r : c.named-row.result ≡ place (word c.args.iw.now (from + n)) = c.named-row.ensures
-    ∙ ap place (stands_at c.args.iw.now c.loop-p.iw from c.args.count c.args.start c.args.free p n e l c.requires.source
-    c.requires.order c.loop-p.invariant.below) in
-    let room = room_here c.args.iw.now c.args.nv.now c.loop-p.iw c.loop-p.nv from c.args.count c.args.start c.args.free c.loop-p.end
-    c.loop-p.sum n c.named-row.result c.loop-p.invariant l r (sym c.is_open.ensures.is ∙ c.if-is_open.true) in
-    let a = room.0 in let f = c.requires.fits in let long = c.loop-p.invariant.long in let b = c.requires.short in
-    let fits : c.loop-p.end + 1 < 2 ^ 64 = omega (arith, a, f, long, b) in search (rules, fits)
-
 pub loop-p-preserved : goal.loop-p-preserved
 loop-p-preserved g c =
     let from : ℕ = c.args.from in let p : ℕ = c.loop-p.p in let n : ℕ = p - from in let after : from ≤ p = c.loop-p.auto.p in let t =
@@ -137,11 +124,6 @@ loop-p-preserved g c =
           ]))
     ]
 
-pub overflow_add-p-end : goal.overflow_add-p-end
-overflow_add-p-end g c = record {
-  fits = lt_of_le_of_lt (le_trans c.requires.source (le_trans c.requires.order c.requires.end)) (lt_trans c.requires.short (lit< tt));
-}
-
 pub named-row-requires-clause-inside : goal.named-row-requires-clause-inside
 named-row-requires-clause-inside g c = lt_of_lt_of_le c.loop-p-test.true
     (le_trans c.requires.source (le_trans c.requires.order (le_trans c.requires.end (le_of_eq (sym c.loop-p.invariant.long)))))
@@ -167,3 +149,16 @@ returns g c =
     (classes c.args.nv.now (rows c.args.iw.now from m)) c.loop-p.iw c.loop-p.nv c.loop-p.end c.loop-p.sum)
     (all_passed c.loop-p.p from c.args.count c.loop-p.auto.p (c.loop-p.auto.p-end (le-add_right from c.args.count)) c.loop-p-test.false)
     c.loop-p.invariant
+
+pub overflow_add-end : goal.overflow_add-end
+overflow_add-end g c =
+    let from : ℕ = c.args.from in let p : ℕ = c.loop-p.p in let n : ℕ = p - from in let after : from ≤ p = c.loop-p.auto.p in let t =
+    c.loop-p-test.true in
+    let e : from + n ≡ p = add-sub_of_le after in let l : n < c.args.count = within_count after t in
+    let r : c.named-row.result ≡ place (word c.args.iw.now (from + n)) = c.named-row.ensures
+    ∙ ap place (stands_at c.args.iw.now c.loop-p.iw from c.args.count c.args.start c.args.free p n e l c.requires.source
+    c.requires.order c.loop-p.invariant.below) in
+    let room = room_here c.args.iw.now c.args.nv.now c.loop-p.iw c.loop-p.nv from c.args.count c.args.start c.args.free c.loop-p.end
+    c.loop-p.sum n c.named-row.result c.loop-p.invariant l r (sym c.is_open.ensures.is ∙ c.if-is_open.true) in
+    let a = room.0 in let f = c.requires.fits in let long = c.loop-p.invariant.long in
+    let fits : c.loop-p.end + 1 < 2 ^ 64 = omega (arith, a, f, long) in search (rules, fits)

@@ -85,19 +85,15 @@ put_cell-requires-clause-fits g c = zero-le
 pub loop-p-smaller : goal.loop-p-smaller
 loop-p-smaller g c = falls (c.args.from + c.args.count) c.loop-p.p c.loop-p-test.true
 
-pub returns-clause-lengths : goal.returns-clause-lengths
-returns-clause-lengths g c = (c.loop-p.invariant.p_long, c.loop-p.invariant.w_long)
-
-pub returns-clause-starts : goal.returns-clause-starts
-returns-clause-starts g c e =
-    let from : ℕ = c.args.from in
-    c.loop-p.invariant.starts e
-    ∙ ap (λ m. cond (has (rows c.args.iw.now from m) e) (flip_of c.args.me) (word c.args.pe.now e))
-    (all_passed c.loop-p.p from c.args.count c.loop-p.auto.p (c.loop-p.auto.p-end (le-add_right from c.args.count)) c.loop-p-test.false)
-
-pub returns-clause-counters : goal.returns-clause-counters
-returns-clause-counters g c e =
-    let from : ℕ = c.args.from in
-    c.loop-p.invariant.counters e
-    ∙ ap (λ m. cond (has (rows c.args.iw.now from m) e) 0 (num c.args.w.now e))
-    (all_passed c.loop-p.p from c.args.count c.loop-p.auto.p (c.loop-p.auto.p-end (le-add_right from c.args.count)) c.loop-p-test.false)
+pub returns : goal.returns
+returns g c = record {
+  lengths = ((c.loop-p.invariant.p_long, c.loop-p.invariant.w_long));
+  starts = (λ e. let from : ℕ = c.args.from in
+      c.loop-p.invariant.starts e
+      ∙ ap (λ m. cond (has (rows c.args.iw.now from m) e) (flip_of c.args.me) (word c.args.pe.now e))
+      (all_passed c.loop-p.p from c.args.count c.loop-p.auto.p (c.loop-p.auto.p-end (le-add_right from c.args.count)) c.loop-p-test.false));
+  counters = (λ e. let from : ℕ = c.args.from in
+      c.loop-p.invariant.counters e
+      ∙ ap (λ m. cond (has (rows c.args.iw.now from m) e) 0 (num c.args.w.now e))
+      (all_passed c.loop-p.p from c.args.count c.loop-p.auto.p (c.loop-p.auto.p-end (le-add_right from c.args.count)) c.loop-p-test.false));
+}

@@ -30,11 +30,11 @@ module _ (iw nv iw' nv' : List ℤ) (from end total p n : ℕ) (e : from + n
   stands_at = h.above p (let a = own_end n h in omega (arith, e, a)) ∙ ap (word iw) (sym e)
 
 pub named-row-requires-clause-inside : goal.named-row-requires-clause-inside
-named-row-requires-clause-inside g c = let t = c.loop-p-test.true in let i = c.requires.inside in let l = c.loop-p.invariant.long in
+named-row-requires-clause-inside g c = let t = c.loop-p-test.true in let i = c.requires.span.inside in let l = c.loop-p.invariant.long in
     omega (arith, t, i, l)
 
 pub copy_word-requires-clause-from : goal.copy_word-requires-clause-from
-copy_word-requires-clause-from g c = let t = c.loop-p-test.true in let i = c.requires.inside in let l = c.loop-p.invariant.long in
+copy_word-requires-clause-from g c = let t = c.loop-p-test.true in let i = c.requires.span.inside in let l = c.loop-p.invariant.long in
     omega (arith, t, i, l)
 
 pub named-row-requires-clause-is_one : goal.named-row-requires-clause-is_one
@@ -43,7 +43,7 @@ named-row-requires-clause-is_one g c =
     c.loop-p-test.true in
     let e : from + n ≡ p = add-sub_of_le after in let l : n < c.args.count = within_count after t in
     ap is_place (stands_at c.args.iw.now c.args.nv.now c.loop-p.iw c.loop-p.nv from c.loop-p.end c.loop-p.sum p n e c.loop-p.invariant)
-    ∙ (c.requires.names n l).0
+    ∙ (c.requires.span.names n l).0
 
 pub is_open-requires : goal.is_open-requires
 is_open-requires g c =
@@ -53,7 +53,7 @@ is_open-requires g c =
     let r : c.named-row.result ≡ place (word c.args.iw.now (from + n)) = c.named-row.ensures
     ∙ ap place (stands_at c.args.iw.now c.args.nv.now c.loop-p.iw c.loop-p.nv from c.loop-p.end c.loop-p.sum p n e c.loop-p.invariant)
     in
-    let s = (c.requires.names n l).1 in let wide = c.loop-p.invariant.wide in omega (arith, r, s, wide)
+    let s = (c.requires.span.names n l).1 in let wide = c.loop-p.invariant.wide in omega (arith, r, s, wide)
 
 pub enter-sum-requires-clause-inside : goal.enter-sum-requires-clause-inside
 enter-sum-requires-clause-inside g c =
@@ -63,14 +63,14 @@ enter-sum-requires-clause-inside g c =
     let r : c.named-row.result ≡ place (word c.args.iw.now (from + n)) = c.named-row.ensures
     ∙ ap place (stands_at c.args.iw.now c.args.nv.now c.loop-p.iw c.loop-p.nv from c.loop-p.end c.loop-p.sum p n e c.loop-p.invariant)
     in
-    let s = (c.requires.names n l).1 in let wide = c.loop-p.invariant.wide in omega (arith, r, s, wide)
+    let s = (c.requires.span.names n l).1 in let wide = c.loop-p.invariant.wide in omega (arith, r, s, wide)
 
 pub copy_word-requires-clause-to : goal.copy_word-requires-clause-to
 copy_word-requires-clause-to g c =
     let from : ℕ = c.args.from in let p : ℕ = c.loop-p.p in let n : ℕ = p - from in let after : from ≤ p = c.loop-p.auto.p in let t =
     c.loop-p-test.true in
     let l : n < c.args.count = within_count after t in
-    let a = own_end n c.loop-p.invariant in let f = c.requires.inside in let long = c.loop-p.invariant.long in omega (arith, a, f, long, l)
+    let a = own_end n c.loop-p.invariant in let f = c.requires.span.inside in let long = c.loop-p.invariant.long in omega (arith, a, f, long, l)
 
 pub overflow_add-sum : goal.overflow_add-sum
 overflow_add-sum g c =
@@ -87,14 +87,6 @@ overflow_add-sum g c =
     ∙ c.loop-p.invariant.sizes c.named-row.result ∙ ap (size_of c.args.nv.now) r in
     let fits : c.loop-p.sum + c.enter-sum.result < 2 ^ 64 = omega (arith, a, f, rows_is) in search (rules, fits)
 
-pub overflow_add-end : goal.overflow_add-end
-overflow_add-end g c =
-    let from : ℕ = c.args.from in let p : ℕ = c.loop-p.p in let n : ℕ = p - from in let after : from ≤ p = c.loop-p.auto.p in let t =
-    c.loop-p-test.true in
-    let l : n < c.args.count = within_count after t in
-    let a = own_end n c.loop-p.invariant in let f = c.requires.inside in let b = c.requires.short in
-    let fits : c.loop-p.end + 1 < 2 ^ 64 = omega (arith, a, f, b, l) in search (rules, fits)
-
 pub loop-p-preserved : goal.loop-p-preserved
 loop-p-preserved g c =
     let from : ℕ = c.args.from in let p : ℕ = c.loop-p.p in let n : ℕ = p - from in let after : from ≤ p = c.loop-p.auto.p in let t =
@@ -105,18 +97,18 @@ loop-p-preserved g c =
     let stands = stands_at iw nv c.loop-p.iw c.loop-p.nv from c.loop-p.end c.loop-p.sum p n e h in
     let y : ℕ = place (word iw (from + n)) in
     let r : c.named-row.result ≡ y = c.named-row.ensures ∙ ap place stands in
-    let small : y < length nv = (c.requires.names n l).1 in
+    let small : y < length nv = (c.requires.span.names n l).1 in
     elim c.if-is_open.branch [
       | then-is_open w ↦ (let opened : (nat_lt 0 (size_of c.loop-p.nv c.named-row.result)
           && not (in_front c.loop-p.nv c.named-row.result)) ≡ true = sym c.is_open.ensures.is ∙ w.if-is_open.true in
-          let room = own_end n h in let f = c.requires.inside in
+          let room = own_end n h in let f = c.requires.span.inside in
           let class = class_here iw nv c.loop-p.iw c.loop-p.nv from c.args.count c.args.from c.args.from c.loop-p.end c.loop-p.sum n
           c.named-row.result h l r opened in
           let fresh = open_here iw nv c.loop-p.iw c.loop-p.nv from c.args.count c.args.from c.args.from c.loop-p.end c.loop-p.sum n
           c.named-row.result h l r opened in
           rw (w.iw-is, w.nv-is, w.end-is, w.sum-is, w.copy_word.ensures, e', classes_yes nv iw from n class)
           (gathers_new h y p w.enter-sum.new.nv _ (h.above p (omega (arith, room, e))) (ap (λ k. is_place (word iw k)) (sym e)
-          ∙ (c.requires.names n l).0) (ap (λ k. place (word iw k)) (sym e)) small fresh (omega (arith, room, f, l))
+          ∙ (c.requires.span.names n l).0) (ap (λ k. place (word iw k)) (sym e)) small fresh (omega (arith, room, f, l))
           w.enter-sum.ensures.long w.enter-sum.ensures.sizes (λ j. w.enter-sum.ensures.front j
           ∙ ap (λ x. in_front c.loop-p.nv j || x == j) r) (ap (λ m. c.loop-p.sum + m) (w.enter-sum.ensures.rows
           ∙ ap (size_of c.loop-p.nv) r))))
@@ -132,9 +124,6 @@ loop-p-preserved g c =
             | inr q ↦ rw (classes_no nv iw from n q) h
           ]))
     ]
-
-pub overflow_add-p-end : goal.overflow_add-p-end
-overflow_add-p-end g c = record { fits = lt_of_le_of_lt c.requires.inside (lt_trans c.requires.short (lit< tt)) }
 
 pub enter-sum-requires-clause-class : goal.enter-sum-requires-clause-class
 enter-sum-requires-clause-class g c = ltb-true 0 (size_of c.loop-p.nv c.named-row.result)
@@ -153,3 +142,11 @@ returns g c =
     (classes c.args.nv.now (rows c.args.iw.now from m)) c.loop-p.iw c.loop-p.nv c.loop-p.end c.loop-p.sum)
     (all_passed c.loop-p.p from c.args.count c.loop-p.auto.p (c.loop-p.auto.p-end (le-add_right from c.args.count)) c.loop-p-test.false)
     c.loop-p.invariant
+
+pub overflow_add-end : goal.overflow_add-end
+overflow_add-end g c =
+    let from : ℕ = c.args.from in let p : ℕ = c.loop-p.p in let n : ℕ = p - from in let after : from ≤ p = c.loop-p.auto.p in let t =
+    c.loop-p-test.true in
+    let l : n < c.args.count = within_count after t in
+    let a = own_end n c.loop-p.invariant in let f = c.requires.span.inside in
+    let fits : c.loop-p.end + 1 < 2 ^ 64 = omega (arith, a, f, l) in search (rules, fits)

@@ -12,9 +12,9 @@ use Rattle.amd_fronts.proofs.counts.count_class.Goals as goal
 pub take_out-requires : goal.take_out-requires
 take_out-requires g c = record {
   lengths = (let l = c.requires.more_lengths in let n = sym l.1 in
-    (l.0 ∙ n, c.requires.lengths.3 ∙ n));
+      (l.0 ∙ n, c.requires.lengths.3 ∙ n));
   row = (let r = c.requires.row in let a = r.0 in let b = r.1 in let n = c.requires.more_lengths.1 in
-    (omega (arith, a, n), omega (arith, b, n)));
+      (omega (arith, a, n), omega (arith, b, n)));
 }
 
 pub named-first-requires-clause-inside : goal.named-first-requires-clause-inside
@@ -35,65 +35,43 @@ size_inside-more-requires-clause-inside g c = let a = c.requires.row.0 in let n 
 pub size_inside-more-requires-clause-marked : goal.size_inside-more-requires-clause-marked
 size_inside-more-requires-clause-marked g c = c.requires.listed.inside
 
-pub touch_all-requires-clause-lengths : goal.touch_all-requires-clause-lengths
-touch_all-requires-clause-lengths g c = (c.requires.lengths.3, c.requires.lengths.0)
+pub touch_all-requires : goal.touch_all-requires
+touch_all-requires g c = record {
+  lengths = ((c.requires.lengths.3, c.requires.lengths.0));
+  small = (c.requires.small);
+  inside = (let f = c.named-first.ensures in let n = c.named-n_elements.ensures in
+      let w = c.requires.listed.within in omega (arith, f, n, w));
+  names = (names_at c.args.iw.now refl (sym c.named-first.ensures) (sym c.named-n_elements.ensures)
+      c.requires.listed.names);
+  once = (subst Once (sym (rows_at c.args.iw.now c.named-first.ensures c.named-n_elements.ensures))
+      c.requires.listed.once);
+  again = (λ e h l. let at = rows_at c.args.iw.now c.named-first.ensures c.named-n_elements.ensures in
+      subst (λ m. m ≤ num c.args.w.now e) (sym c.size_inside-more.ensures) (c.requires.again e (sym (ap (λ xs. has xs e) at) ∙ h) l));
+  first = (λ e h l. let at = rows_at c.args.iw.now c.named-first.ensures c.named-n_elements.ensures in
+      subst (λ m. m ≤ num c.args.degree.now e) (sym c.size_inside-more.ensures) (c.requires.first e (sym (ap (λ xs. has xs e) at) ∙ h) l));
+  fits = (c.requires.fits);
+}
 
-pub touch_all-requires-clause-small : goal.touch_all-requires-clause-small
-touch_all-requires-clause-small g c = c.requires.small
-
-pub touch_all-requires-clause-inside : goal.touch_all-requires-clause-inside
-touch_all-requires-clause-inside g c = let f = c.named-first.ensures in let n = c.named-n_elements.ensures in
-    let w = c.requires.listed.within in omega (arith, f, n, w)
-
-pub touch_all-requires-clause-names : goal.touch_all-requires-clause-names
-touch_all-requires-clause-names g c = names_at c.args.iw.now refl (sym c.named-first.ensures) (sym c.named-n_elements.ensures)
-    c.requires.listed.names
-
-pub touch_all-requires-clause-once : goal.touch_all-requires-clause-once
-touch_all-requires-clause-once g c = subst Once (sym (rows_at c.args.iw.now c.named-first.ensures c.named-n_elements.ensures))
-    c.requires.listed.once
-
-pub touch_all-requires-clause-again : goal.touch_all-requires-clause-again
-touch_all-requires-clause-again g c e h l =
-    let at = rows_at c.args.iw.now c.named-first.ensures c.named-n_elements.ensures in
-    subst (λ m. m ≤ num c.args.w.now e) (sym c.size_inside-more.ensures) (c.requires.again e (sym (ap (λ xs. has xs e) at) ∙ h) l)
-
-pub touch_all-requires-clause-first : goal.touch_all-requires-clause-first
-touch_all-requires-clause-first g c e h l =
-    let at = rows_at c.args.iw.now c.named-first.ensures c.named-n_elements.ensures in
-    subst (λ m. m ≤ num c.args.degree.now e) (sym c.size_inside-more.ensures) (c.requires.first e (sym (ap (λ xs. has xs e) at) ∙ h) l)
-
-pub touch_all-requires-clause-fits : goal.touch_all-requires-clause-fits
-touch_all-requires-clause-fits g c = c.requires.fits
-
-pub returns-clause-long : goal.returns-clause-long
-returns-clause-long g c = c.touch_all.ensures.long
-
-pub returns-clause-counted : goal.returns-clause-counted
-returns-clause-counted g c e =
-    c.touch_all.ensures.counted e
-    ∙ ap (λ xs. cond (has xs e) (settled c.args.aggressive c.args.flag
-    (touched_in c.args.degree.now c.args.w.now c.args.flag c.size_inside-more.result e)) (num c.args.w.now e))
-    (rows_at c.args.iw.now c.named-first.ensures c.named-n_elements.ensures)
-    ∙ ap (λ m. cond (has (elements_in c.args.iw.now c.args.pe.now c.args.e_len.now c.args.i) e) (settled c.args.aggressive c.args.flag
-    (touched_in c.args.degree.now c.args.w.now c.args.flag m e)) (num c.args.w.now e)) c.size_inside-more.ensures
-
-pub returns-clause-starts : goal.returns-clause-starts
-returns-clause-starts g c e =
-    c.touch_all.ensures.starts e
-    ∙ ap (λ xs. cond (has xs e && ends c.args.aggressive c.args.flag
-    (touched_in c.args.degree.now c.args.w.now c.args.flag c.size_inside-more.result e)) (flip_of c.args.me) (word c.args.pe.now e))
-    (rows_at c.args.iw.now c.named-first.ensures c.named-n_elements.ensures)
-    ∙ ap (λ m. cond (has (elements_in c.args.iw.now c.args.pe.now c.args.e_len.now c.args.i) e && ends c.args.aggressive c.args.flag
-    (touched_in c.args.degree.now c.args.w.now c.args.flag m e)) (flip_of c.args.me) (word c.args.pe.now e)) c.size_inside-more.ensures
-
-pub returns-clause-lengths : goal.returns-clause-lengths
-returns-clause-lengths g c = let l = c.requires.more_lengths in let t = c.take_out.ensures.lengths in
-    (t.0 ∙ l.1 ∙ sym l.0, t.1, t.2 ∙ l.1 ∙ sym l.2)
-
-pub returns-clause-linked : goal.returns-clause-linked
-returns-clause-linked g c = subst (λ n. (lists : ℕ → List ℕ) → has (lists (num c.args.degree.now c.args.i)) c.args.i ≡ true →
-    DegreeLists n c.args.head.now (nexts c.args.sides.now) (lasts c.args.sides.now) c.args.degree.now lists →
-    DegreeLists n c.take_out.new.head (nexts c.take_out.new.sides) (lasts c.take_out.new.sides) c.args.degree.now
-    (λ d. without c.args.i (lists d)))
-    c.requires.more_lengths.1 c.take_out.ensures.linked
+pub returns : goal.returns
+returns g c = record {
+  long = (c.touch_all.ensures.long);
+  counted = (λ e. c.touch_all.ensures.counted e
+      ∙ ap (λ xs. cond (has xs e) (settled c.args.aggressive c.args.flag
+      (touched_in c.args.degree.now c.args.w.now c.args.flag c.size_inside-more.result e)) (num c.args.w.now e))
+      (rows_at c.args.iw.now c.named-first.ensures c.named-n_elements.ensures)
+      ∙ ap (λ m. cond (has (elements_in c.args.iw.now c.args.pe.now c.args.e_len.now c.args.i) e) (settled c.args.aggressive c.args.flag
+      (touched_in c.args.degree.now c.args.w.now c.args.flag m e)) (num c.args.w.now e)) c.size_inside-more.ensures);
+  starts = (λ e. c.touch_all.ensures.starts e
+      ∙ ap (λ xs. cond (has xs e && ends c.args.aggressive c.args.flag
+      (touched_in c.args.degree.now c.args.w.now c.args.flag c.size_inside-more.result e)) (flip_of c.args.me) (word c.args.pe.now e))
+      (rows_at c.args.iw.now c.named-first.ensures c.named-n_elements.ensures)
+      ∙ ap (λ m. cond (has (elements_in c.args.iw.now c.args.pe.now c.args.e_len.now c.args.i) e && ends c.args.aggressive c.args.flag
+      (touched_in c.args.degree.now c.args.w.now c.args.flag m e)) (flip_of c.args.me) (word c.args.pe.now e)) c.size_inside-more.ensures);
+  lengths = (let l = c.requires.more_lengths in let t = c.take_out.ensures.lengths in
+      (t.0 ∙ l.1 ∙ sym l.0, t.1, t.2 ∙ l.1 ∙ sym l.2));
+  linked = (subst (λ n. (lists : ℕ → List ℕ) → has (lists (num c.args.degree.now c.args.i)) c.args.i ≡ true →
+      DegreeLists n c.args.head.now (nexts c.args.sides.now) (lasts c.args.sides.now) c.args.degree.now lists →
+      DegreeLists n c.take_out.new.head (nexts c.take_out.new.sides) (lasts c.take_out.new.sides) c.args.degree.now
+      (λ d. without c.args.i (lists d)))
+      c.requires.more_lengths.1 c.take_out.ensures.linked);
+}

@@ -1,3 +1,4 @@
+use Rattle.std.proofs.Common.{rules}
 -- The goals of counts::count_outside.
 use Rattle.std.proofs.Common.{ℕ, ℤ, Bool, List, true, false, ◌≡◌, ◌<◌, ◌≤◌, ◌+◌, ◌-◌, ◌&&◌, not, refl, add-sub_of_le, le-add_right}
 use Rattle.std.proofs.Common.{sym, ap, subst, ◌∙◌, arith, cond, length, filter, lt_of_le_of_lt, lt_of_lt_of_le, le_of_eq}
@@ -28,10 +29,10 @@ loop-p-init g c =
       p_long = refl;
       lengths = (refl, refl, refl);
       counted = λ e. counted_none c.args.aggressive c.args.flag (num c.args.w.now e) (num c.args.degree.now e)
-          (met iw c.args.pe.now c.args.e_len.now c.args.nv.now (rows iw from (from - from)) e) c.requires.flag (c.requires.under e)
+          (met iw c.args.pe.now c.args.e_len.now c.args.nv.now (rows iw from (from - from)) e) c.requires.two (c.requires.under e)
           (none e);
       starts = λ e. starts_none c.args.aggressive c.args.flag (num c.args.w.now e) (num c.args.degree.now e)
-          (met iw c.args.pe.now c.args.e_len.now c.args.nv.now (rows iw from (from - from)) e) c.requires.flag (c.requires.under e) (none e)
+          (met iw c.args.pe.now c.args.e_len.now c.args.nv.now (rows iw from (from - from)) e) c.requires.two (c.requires.under e) (none e)
           (flip_of c.args.me) (word c.args.pe.now e);
       linked = λ lists member h. lists_same _ _ _ _ _ lists _ (λ d l. all_left iw from (lists d)) h;
     }
@@ -54,7 +55,7 @@ count_class-requires g c =
     let class = c.requires.classes i named in let listed = class.listed in
     let ag : Bool = c.args.aggressive in let flag : ℕ = c.args.flag in
     let same : word c.loop-p.pe i ≡ word pe i = start_stays iw pe e_len nv ag flag c.args.me c.args.degree.now c.args.w.now c.loop-p.pe from
-    c.args.count k (omega (arith, l)) c.requires.flag c.requires.under was.starts i (λ j h. (c.requires.classes j h).apart i named) in
+    c.args.count k (omega (arith, l)) c.requires.two c.requires.under was.starts i (λ j h. (c.requires.classes j h).apart i named) in
     let list : elements_in iw c.loop-p.pe e_len i ≡ elements_in iw pe e_len i = ap (λ z. rows iw (place z) (place (word e_len i))) same in
     let row : i < length c.args.w.now = lt_of_le_of_lt (le_of_eq is) (c.requires.front.0 k l).1 in let long = was.long in
     let w = sym long in let p_long = was.p_long in let a = c.requires.lengths in let b = c.requires.more_lengths in let d = was.lengths in
@@ -66,9 +67,9 @@ count_class-requires g c =
       listed = subst (λ m. IsListed m iw c.loop-p.pe e_len nv i) (sym long) (listed_same
           (length c.args.w.now) iw pe c.loop-p.pe e_len nv i same listed);
       again = λ e h b. count_again iw pe e_len nv ag c.args.degree.now c.args.w.now c.loop-p.w c.loop-p.w from c.args.count k flag l
-          c.requires.flag c.requires.under c.requires.part was.counted i is listed.class e (ap (λ xs. has xs e) (sym list) ∙ h) b;
+          c.requires.two c.requires.under c.requires.part was.counted i is listed.class e (ap (λ xs. has xs e) (sym list) ∙ h) b;
       first = λ e h b. count_first iw pe e_len nv ag c.args.degree.now c.args.w.now c.loop-p.w c.loop-p.w from c.args.count k flag l
-          c.requires.flag c.requires.under c.requires.part was.counted i is listed.class e (ap (λ xs. has xs e) (sym list) ∙ h) b;
+          c.requires.two c.requires.under c.requires.part was.counted i is listed.class e (ap (λ xs. has xs e) (sym list) ∙ h) b;
       fits = λ e m. c.requires.fits e (lt_of_lt_of_le m (le_of_eq long));
     }
 
@@ -85,7 +86,7 @@ loop-p-preserved g c =
     let class = c.requires.classes i named in let listed = class.listed in
     let ag : Bool = c.args.aggressive in let flag : ℕ = c.args.flag in
     let same : word c.loop-p.pe i ≡ word pe i = start_stays iw pe e_len nv ag flag c.args.me c.args.degree.now c.args.w.now c.loop-p.pe from
-    c.args.count k (omega (arith, l)) c.requires.flag c.requires.under was.starts i (λ j h. (c.requires.classes j h).apart i named) in
+    c.args.count k (omega (arith, l)) c.requires.two c.requires.under was.starts i (λ j h. (c.requires.classes j h).apart i named) in
     let list : elements_in iw c.loop-p.pe e_len i ≡ elements_in iw pe e_len i = ap (λ z. rows iw (place z) (place (word e_len i))) same in
     let top : ℕ → ℕ = λ e. touched flag (num c.args.degree.now e) (size_of nv i) (num c.loop-p.w e) in
     let fresh : has (rows iw from k) i ≡ false = ap (has (rows iw from k)) is ∙ fresh_word iw from c.args.count k l c.requires.front.1 in
@@ -98,13 +99,13 @@ loop-p-preserved g c =
           (num c.args.degree.now e)
           (met iw pe e_len nv (rows iw from m) e))) (sym next)
           (count_next iw pe e_len nv ag c.args.degree.now c.args.w.now c.loop-p.w c.count_class.new.w from c.args.count k flag l
-          c.requires.flag c.requires.under c.requires.part was.counted i is listed.class
+          c.requires.two c.requires.under c.requires.part was.counted i is listed.class
           (λ e. c.count_class.ensures.counted e ∙ ap (λ xs. cond (has xs e) (settled ag flag (top e)) (num c.loop-p.w e)) list));
       starts = subst (λ m. (e : ℕ) → word c.count_class.new.pe e ≡ cond (ends ag flag (counter flag (num c.args.w.now e)
           (num c.args.degree.now e)
           (met iw pe e_len nv (rows iw from m) e))) (flip_of c.args.me) (word pe e)) (sym next)
           (start_next iw pe e_len nv ag c.args.degree.now c.args.w.now c.loop-p.w c.count_class.new.w from c.args.count k flag l
-          c.requires.flag c.requires.under c.requires.part was.counted i is listed.class
+          c.requires.two c.requires.under c.requires.part was.counted i is listed.class
           c.args.me c.loop-p.pe c.count_class.new.pe was.starts
           (λ e. c.count_class.ensures.starts e ∙ ap (λ xs. cond (has xs e && ends ag flag (top e)) (flip_of c.args.me)
           (word c.loop-p.pe e)) list));
@@ -124,28 +125,25 @@ loop-p-preserved g c =
           (λ d. without i (left d))) long gone));
     }
 
-pub returns-clause-counted : goal.returns-clause-counted
-returns-clause-counted g c =
-    let t = c.loop-p-test.false in let after : c.args.from ≤ c.loop-p.p = c.loop-p.auto.p in
-    let past : c.loop-p.p ≤ c.args.from + c.args.count = c.loop-p.auto.p-end (le-add_right _ _) in
-    let all : c.loop-p.p - c.args.from ≡ c.args.count = all_passed _ _ _ after past t in
-    subst (λ m. (e : ℕ) → num c.loop-p.w e ≡ settled c.args.aggressive c.args.flag (counter c.args.flag (num c.args.w.now e)
-    (num c.args.degree.now e) (met c.args.iw.now c.args.pe.now c.args.e_len.now c.args.nv.now
-    (rows c.args.iw.now c.args.from m) e))) all c.loop-p.invariant.counted
-
-pub returns-clause-starts : goal.returns-clause-starts
-returns-clause-starts g c =
-    let t = c.loop-p-test.false in let after : c.args.from ≤ c.loop-p.p = c.loop-p.auto.p in
-    let past : c.loop-p.p ≤ c.args.from + c.args.count = c.loop-p.auto.p-end (le-add_right _ _) in
-    let all : c.loop-p.p - c.args.from ≡ c.args.count = all_passed _ _ _ after past t in
-    subst (λ m. (e : ℕ) → word c.loop-p.pe e ≡ cond (ends c.args.aggressive c.args.flag (counter c.args.flag (num c.args.w.now e)
-    (num c.args.degree.now e) (met c.args.iw.now c.args.pe.now c.args.e_len.now c.args.nv.now
-    (rows c.args.iw.now c.args.from m) e))) (flip_of c.args.me) (word c.args.pe.now e)) all c.loop-p.invariant.starts
-
-pub returns-clause-linked : goal.returns-clause-linked
-returns-clause-linked g c lists member h =
-    let t = c.loop-p-test.false in let after : c.args.from ≤ c.loop-p.p = c.loop-p.auto.p in
-    let past : c.loop-p.p ≤ c.args.from + c.args.count = c.loop-p.auto.p-end (le-add_right _ _) in
-    let all : c.loop-p.p - c.args.from ≡ c.args.count = all_passed _ _ _ after past t in
-    subst (λ m. DegreeLists (length c.args.w.now) c.loop-p.head (nexts c.loop-p.sides) (lasts c.loop-p.sides) c.args.degree.now
-    (λ d. filter (λ j. not (has (rows c.args.iw.now c.args.from m) j)) (lists d))) all (c.loop-p.invariant.linked lists member h)
+pub returns : goal.returns
+returns g c = record {
+  long = search rules;
+  counted = (let t = c.loop-p-test.false in let after : c.args.from ≤ c.loop-p.p = c.loop-p.auto.p in
+      let past : c.loop-p.p ≤ c.args.from + c.args.count = c.loop-p.auto.p-end (le-add_right _ _) in
+      let all : c.loop-p.p - c.args.from ≡ c.args.count = all_passed _ _ _ after past t in
+      subst (λ m. (e : ℕ) → num c.loop-p.w e ≡ settled c.args.aggressive c.args.flag (counter c.args.flag (num c.args.w.now e)
+      (num c.args.degree.now e) (met c.args.iw.now c.args.pe.now c.args.e_len.now c.args.nv.now
+      (rows c.args.iw.now c.args.from m) e))) all c.loop-p.invariant.counted);
+  starts = (let t = c.loop-p-test.false in let after : c.args.from ≤ c.loop-p.p = c.loop-p.auto.p in
+      let past : c.loop-p.p ≤ c.args.from + c.args.count = c.loop-p.auto.p-end (le-add_right _ _) in
+      let all : c.loop-p.p - c.args.from ≡ c.args.count = all_passed _ _ _ after past t in
+      subst (λ m. (e : ℕ) → word c.loop-p.pe e ≡ cond (ends c.args.aggressive c.args.flag (counter c.args.flag (num c.args.w.now e)
+      (num c.args.degree.now e) (met c.args.iw.now c.args.pe.now c.args.e_len.now c.args.nv.now
+      (rows c.args.iw.now c.args.from m) e))) (flip_of c.args.me) (word c.args.pe.now e)) all c.loop-p.invariant.starts);
+  lengths = search rules;
+  linked = (λ lists member h. let t = c.loop-p-test.false in let after : c.args.from ≤ c.loop-p.p = c.loop-p.auto.p in
+      let past : c.loop-p.p ≤ c.args.from + c.args.count = c.loop-p.auto.p-end (le-add_right _ _) in
+      let all : c.loop-p.p - c.args.from ≡ c.args.count = all_passed _ _ _ after past t in
+      subst (λ m. DegreeLists (length c.args.w.now) c.loop-p.head (nexts c.loop-p.sides) (lasts c.loop-p.sides) c.args.degree.now
+      (λ d. filter (λ j. not (has (rows c.args.iw.now c.args.from m) j)) (lists d))) all (c.loop-p.invariant.linked lists member h));
+}

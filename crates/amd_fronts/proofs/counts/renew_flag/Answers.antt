@@ -4,24 +4,6 @@ use Rattle.std.specs.Prelude.{◌==◌}
 use Rattle.amd_words.specs.Words.{num}
 use Rattle.amd_fronts.proofs.counts.renew_flag.Goals as goal
 
-pub returns-then-flag-MOST-clause-long : goal.returns-then-flag-MOST-clause-long
-returns-then-flag-MOST-clause-long g c = refl
-
-pub returns-then-flag-MOST-clause-two : goal.returns-then-flag-MOST-clause-two
-returns-then-flag-MOST-clause-two g c = c.requires.two
-
-pub returns-then-flag-MOST-clause-under : goal.returns-then-flag-MOST-clause-under
-returns-then-flag-MOST-clause-under g c = c.requires.under
-
-pub returns-then-flag-MOST-clause-zeros : goal.returns-then-flag-MOST-clause-zeros
-returns-then-flag-MOST-clause-zeros g c e = refl
-
-pub returns-clause-long : goal.returns-clause-long
-returns-clause-long g c = c.clear.ensures.long
-
-pub returns-clause-two : goal.returns-clause-two
-returns-clause-two g c = le_refl 2
-
 -- a count that is cleared is 0 or 1, and 0 where it was
 cleared_small : (b : Bool) → cond b 0 1 < 2
 cleared_small true = lit< tt
@@ -34,21 +16,27 @@ cleared_zero false = refl
 room_there : (flag n all most : ℕ) → flag ≤ all - n → all ≡ most → n + 2 ≤ most → flag + n ≤ most
 room_there flag n all most there is short = omega arith
 
-pub returns-then-flag-MOST-clause-room : goal.returns-then-flag-MOST-clause-room
-returns-then-flag-MOST-clause-room g c = room_there c.args.flag (length c.args.w.now) c.MOST.result g.U.Unsigned.MOST
-    c.if-flag-MOST.true c.MOST.ensures c.requires.short
-
 most_some : (n most : ℕ) → n + 2 ≤ most → 1 ≤ most
 most_some n most short = omega arith
 
 pub clear-requires : goal.clear-requires
 clear-requires g c = record { some = most_some (length c.args.w.now) g.U.Unsigned.MOST c.requires.short }
 
-pub returns-clause-under : goal.returns-clause-under
-returns-clause-under g c e = subst (λ v. v < 2) (sym (c.clear.ensures.cleared e)) (cleared_small (num c.args.w.now e == 0))
+pub returns-then-flag-MOST : goal.returns-then-flag-MOST
+returns-then-flag-MOST g c = record {
+  long = (refl);
+  two = (c.requires.two);
+  under = (c.requires.under);
+  zeros = (λ e. refl);
+  room = (room_there c.args.flag (length c.args.w.now) c.MOST.result g.U.Unsigned.MOST
+      c.if-flag-MOST.true c.MOST.ensures c.requires.short);
+}
 
-pub returns-clause-zeros : goal.returns-clause-zeros
-returns-clause-zeros g c e = ap (λ v. v == 0) (c.clear.ensures.cleared e) ∙ cleared_zero (num c.args.w.now e == 0)
-
-pub returns-clause-room : goal.returns-clause-room
-returns-clause-room g c = le_trans (le_of_eq (add_comm 2 (length c.args.w.now))) c.requires.short
+pub returns : goal.returns
+returns g c = record {
+  long = (c.clear.ensures.long);
+  two = (le_refl 2);
+  under = (λ e. subst (λ v. v < 2) (sym (c.clear.ensures.cleared e)) (cleared_small (num c.args.w.now e == 0)));
+  zeros = (λ e. ap (λ v. v == 0) (c.clear.ensures.cleared e) ∙ cleared_zero (num c.args.w.now e == 0));
+  room = (le_trans (le_of_eq (add_comm 2 (length c.args.w.now))) c.requires.short);
+}

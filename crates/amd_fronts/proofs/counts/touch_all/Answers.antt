@@ -1,3 +1,4 @@
+use Rattle.std.proofs.Common.{rules}
 -- The goals of counts::touch_all.
 use Rattle.std.proofs.Common.{ℕ, ℤ, Bool, List, true, false, ◌≡◌, ◌<◌, ◌≤◌, ◌+◌, ◌-◌, refl, sym, ap, subst, ◌∙◌, cond, length}
 use Rattle.std.specs.Prelude.{◌==◌}
@@ -44,15 +45,13 @@ touch_or_end-requires g c =
     let small : e < length c.args.w.now = lt_of_le_of_lt (le_of_eq is) (c.requires.names k l).1 in
     let named : has (rows iw from c.args.count) e ≡ true = ap (has (rows iw from c.args.count)) is ∙ rows_has iw from c.args.count k l in
     let long = was.long in let p_long = was.p_long in let d = c.requires.lengths.0 in let p = c.requires.lengths.1 in record {
-      inside = (
-        lt_of_lt_of_le small (le_of_eq (sym long)),
-        lt_of_lt_of_le small (le_of_eq (sym d)),
-        lt_of_lt_of_le small (le_of_eq (sym (p_long ∙ p))),
-      );
-      small = c.requires.small;
-      again = λ h. le_trans (c.requires.again e named (le_trans h (le_of_eq same))) (le_of_eq (sym same));
-      first = λ h. c.requires.first e named (lt_of_lt_of_le h (le_of_eq same));
-      fits = c.requires.fits e small;
+      touch = record {
+        inside = (lt_of_lt_of_le small (le_of_eq (sym long)), lt_of_lt_of_le small (le_of_eq (sym d)));
+        again = λ h. le_trans (c.requires.again e named (le_trans h (le_of_eq same))) (le_of_eq (sym same));
+        first = λ h. c.requires.first e named (lt_of_lt_of_le h (le_of_eq same));
+        fits = c.requires.fits e small;
+      };
+      end = (lt_of_lt_of_le small (le_of_eq (sym (p_long ∙ p))), c.requires.small);
     }
 
 pub loop-q-preserved : goal.loop-q-preserved
@@ -96,22 +95,21 @@ loop-q-preserved g c =
           (word c.loop-q.pe x) (ne_eqb x e ne)));
     }
 
-pub returns-clause-counted : goal.returns-clause-counted
-returns-clause-counted g c =
-    let t = c.loop-q-test.false in let after : c.args.from ≤ c.loop-q.q = c.loop-q.auto.q in
-    let past : c.loop-q.q ≤ c.args.from + c.args.count = c.loop-q.auto.q-end (le-add_right _ _) in
-    let all : c.loop-q.q - c.args.from ≡ c.args.count = all_passed _ _ _ after past t in
-    subst (λ m. (e : ℕ) → num c.loop-q.w e ≡ cond (has (rows c.args.iw.now c.args.from m) e)
-    (settled c.args.aggressive c.args.flag (touched c.args.flag (num c.args.degree.now e) c.args.more (num c.args.w.now e)))
-    (num c.args.w.now e)) all c.loop-q.invariant.counted
-
-pub returns-clause-starts : goal.returns-clause-starts
-returns-clause-starts g c e =
-    let t = c.loop-q-test.false in let after : c.args.from ≤ c.loop-q.q = c.loop-q.auto.q in
-    let past : c.loop-q.q ≤ c.args.from + c.args.count = c.loop-q.auto.q-end (le-add_right _ _) in
-    let all : c.loop-q.q - c.args.from ≡ c.args.count = all_passed _ _ _ after past t in
-    let last : ℕ → Bool = λ x. ends c.args.aggressive c.args.flag (touched c.args.flag (num c.args.degree.now x) c.args.more
-    (num c.args.w.now x)) in
-    subst (λ m. word c.loop-q.pe e ≡ cond (has (rows c.args.iw.now c.args.from m) e)
-    (cond (last e) (flip_of c.args.me) (word c.args.pe.now e)) (word c.args.pe.now e)) all (c.loop-q.invariant.starts e)
-    ∙ sym (cond_both (has (rows c.args.iw.now c.args.from c.args.count) e) (last e) (flip_of c.args.me) (word c.args.pe.now e))
+pub returns : goal.returns
+returns g c = record {
+  long = search rules;
+  counted = (let t = c.loop-q-test.false in let after : c.args.from ≤ c.loop-q.q = c.loop-q.auto.q in
+      let past : c.loop-q.q ≤ c.args.from + c.args.count = c.loop-q.auto.q-end (le-add_right _ _) in
+      let all : c.loop-q.q - c.args.from ≡ c.args.count = all_passed _ _ _ after past t in
+      subst (λ m. (e : ℕ) → num c.loop-q.w e ≡ cond (has (rows c.args.iw.now c.args.from m) e)
+      (settled c.args.aggressive c.args.flag (touched c.args.flag (num c.args.degree.now e) c.args.more (num c.args.w.now e)))
+      (num c.args.w.now e)) all c.loop-q.invariant.counted);
+  starts = (λ e. let t = c.loop-q-test.false in let after : c.args.from ≤ c.loop-q.q = c.loop-q.auto.q in
+      let past : c.loop-q.q ≤ c.args.from + c.args.count = c.loop-q.auto.q-end (le-add_right _ _) in
+      let all : c.loop-q.q - c.args.from ≡ c.args.count = all_passed _ _ _ after past t in
+      let last : ℕ → Bool = λ x. ends c.args.aggressive c.args.flag (touched c.args.flag (num c.args.degree.now x) c.args.more
+      (num c.args.w.now x)) in
+      subst (λ m. word c.loop-q.pe e ≡ cond (has (rows c.args.iw.now c.args.from m) e)
+      (cond (last e) (flip_of c.args.me) (word c.args.pe.now e)) (word c.args.pe.now e)) all (c.loop-q.invariant.starts e)
+      ∙ sym (cond_both (has (rows c.args.iw.now c.args.from c.args.count) e) (last e) (flip_of c.args.me) (word c.args.pe.now e)));
+}

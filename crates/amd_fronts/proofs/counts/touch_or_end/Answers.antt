@@ -8,98 +8,86 @@ use Rattle.amd_words.proofs.EachRow.{cond_both, cond_same}
 use Rattle.std.proofs.Common.{lt_of_lt_of_le, le_of_eq, zero-le}
 use Rattle.amd_fronts.proofs.counts.touch_or_end.Goals as goal
 
-pub returns-then-left-flag-clause-counted : goal.returns-then-left-flag-clause-counted
-returns-then-left-flag-clause-counted g c x =
-    let e : ℕ = c.args.e in let flag : ℕ = c.args.flag in let w1 : List ℕ = c.touch.new.w in let w : List ℕ = c.args.w.now in
-    let top : ℕ = touched flag (num c.args.degree.now e) c.args.more (num w e) in
-    let here : (e == e) ≡ true = eq-eqb e e refl in
-    let top_is : top ≡ flag = sym (cond-true (e == e) top (num w e) here) ∙ sym (c.touch.ensures.counted e)
-    ∙ sym c.cell_at-left.ensures.is ∙ c.if-left-flag.true in
-    let over : ends c.args.aggressive flag top ≡ true = ap (λ b. b && top == flag) c.if-aggressive.true ∙ eq-eqb top flag top_is in
-    let small : e < length w1 = (let i = c.requires.inside.0 in let l = c.touch.ensures.long in omega (arith, i, l)) in
-    elim (cases_eq x e) [
-      | inl q ↦ rw q (ap (λ ws. num ws e) c.put_cell.ensures ∙ get_or-set_same w1 e 0 0 small
-          ∙ sym (cond-true (e == e) (settled c.args.aggressive flag top) (num w e) here
-          ∙ cond-true (ends c.args.aggressive flag top) 0 top over))
-      | inr ne ↦ ap (λ ws. num ws x) c.put_cell.ensures ∙ get_or-set_other w1 e x 0 0 ne ∙ c.touch.ensures.counted x
-          ∙ cond-false (x == e) top (num w x) (ne_eqb x e ne)
-          ∙ sym (cond-false (x == e) (settled c.args.aggressive flag top) (num w x) (ne_eqb x e ne))
-    ]
+pub returns-then-left-flag : goal.returns-then-left-flag
+returns-then-left-flag g c = record {
+  long = ((c.put_cell.auto.figures ∙ c.touch.ensures.long, c.put_flip.auto.words));
+  counted = (λ x. let e : ℕ = c.args.e in let flag : ℕ = c.args.flag in let w1 : List ℕ = c.touch.new.w in let w : List ℕ = c.args.w.now in
+      let top : ℕ = touched flag (num c.args.degree.now e) c.args.more (num w e) in
+      let here : (e == e) ≡ true = eq-eqb e e refl in
+      let top_is : top ≡ flag = sym (cond-true (e == e) top (num w e) here) ∙ sym (c.touch.ensures.counted e)
+      ∙ sym c.cell_at-left.ensures.is ∙ c.if-left-flag.true in
+      let over : ends c.args.aggressive flag top ≡ true = ap (λ b. b && top == flag) c.if-aggressive.true ∙ eq-eqb top flag top_is in
+      let small : e < length w1 = (let i = c.requires.touch.inside.0 in let l = c.touch.ensures.long in omega (arith, i, l)) in
+      elim (cases_eq x e) [
+        | inl q ↦ rw q (ap (λ ws. num ws e) c.put_cell.ensures ∙ get_or-set_same w1 e 0 0 small
+            ∙ sym (cond-true (e == e) (settled c.args.aggressive flag top) (num w e) here
+            ∙ cond-true (ends c.args.aggressive flag top) 0 top over))
+        | inr ne ↦ ap (λ ws. num ws x) c.put_cell.ensures ∙ get_or-set_other w1 e x 0 0 ne ∙ c.touch.ensures.counted x
+            ∙ cond-false (x == e) top (num w x) (ne_eqb x e ne)
+            ∙ sym (cond-false (x == e) (settled c.args.aggressive flag top) (num w x) (ne_eqb x e ne))
+      ]);
+  starts = (λ x. let e : ℕ = c.args.e in let flag : ℕ = c.args.flag in let w : List ℕ = c.args.w.now in let pe : List ℤ = c.args.pe.now in
+      let top : ℕ = touched flag (num c.args.degree.now e) c.args.more (num w e) in
+      let here : (e == e) ≡ true = eq-eqb e e refl in
+      let top_is : top ≡ flag = sym (cond-true (e == e) top (num w e) here) ∙ sym (c.touch.ensures.counted e)
+      ∙ sym c.cell_at-left.ensures.is ∙ c.if-left-flag.true in
+      let over : ends c.args.aggressive flag top ≡ true = ap (λ b. b && top == flag) c.if-aggressive.true ∙ eq-eqb top flag top_is in
+      let flipped : ℤ = flip_of c.args.me in
+      elim (cases_eq x e) [
+        | inl q ↦ rw q (ap (λ ws. word ws e) c.put_flip.ensures ∙ get_or-set_same pe e flipped (pos 0) c.requires.end.0
+            ∙ sym (cond_both (e == e) (ends c.args.aggressive flag top) flipped (word pe e)
+            ∙ cond-true (e == e) (cond (ends c.args.aggressive flag top) flipped (word pe e)) (word pe e) here
+            ∙ cond-true (ends c.args.aggressive flag top) flipped (word pe e) over))
+        | inr ne ↦ ap (λ ws. word ws x) c.put_flip.ensures ∙ get_or-set_other pe e x flipped (pos 0) ne
+            ∙ sym (cond_both (x == e) (ends c.args.aggressive flag top) flipped (word pe x)
+            ∙ cond-false (x == e) (cond (ends c.args.aggressive flag top) flipped (word pe x)) (word pe x) (ne_eqb x e ne))
+      ]);
+}
 
-pub returns-then-left-flag-clause-starts : goal.returns-then-left-flag-clause-starts
-returns-then-left-flag-clause-starts g c x =
-    let e : ℕ = c.args.e in let flag : ℕ = c.args.flag in let w : List ℕ = c.args.w.now in let pe : List ℤ = c.args.pe.now in
-    let top : ℕ = touched flag (num c.args.degree.now e) c.args.more (num w e) in
-    let here : (e == e) ≡ true = eq-eqb e e refl in
-    let top_is : top ≡ flag = sym (cond-true (e == e) top (num w e) here) ∙ sym (c.touch.ensures.counted e)
-    ∙ sym c.cell_at-left.ensures.is ∙ c.if-left-flag.true in
-    let over : ends c.args.aggressive flag top ≡ true = ap (λ b. b && top == flag) c.if-aggressive.true ∙ eq-eqb top flag top_is in
-    let flipped : ℤ = flip_of c.args.me in
-    elim (cases_eq x e) [
-      | inl q ↦ rw q (ap (λ ws. word ws e) c.put_flip.ensures ∙ get_or-set_same pe e flipped (pos 0) c.requires.inside.2
-          ∙ sym (cond_both (e == e) (ends c.args.aggressive flag top) flipped (word pe e)
-          ∙ cond-true (e == e) (cond (ends c.args.aggressive flag top) flipped (word pe e)) (word pe e) here
-          ∙ cond-true (ends c.args.aggressive flag top) flipped (word pe e) over))
-      | inr ne ↦ ap (λ ws. word ws x) c.put_flip.ensures ∙ get_or-set_other pe e x flipped (pos 0) ne
-          ∙ sym (cond_both (x == e) (ends c.args.aggressive flag top) flipped (word pe x)
-          ∙ cond-false (x == e) (cond (ends c.args.aggressive flag top) flipped (word pe x)) (word pe x) (ne_eqb x e ne))
-    ]
+pub returns-else-aggressive : goal.returns-else-aggressive
+returns-else-aggressive g c = record {
+  long = ((c.touch.ensures.long, refl));
+  counted = (λ x. let e : ℕ = c.args.e in let flag : ℕ = c.args.flag in let w : List ℕ = c.args.w.now in
+      let top : ℕ = touched flag (num c.args.degree.now e) c.args.more (num w e) in
+      let left_is : c.cell_at-left.result ≡ top = c.cell_at-left.ensures.is ∙ c.touch.ensures.counted e
+      ∙ cond-true (e == e) top (num w e) (eq-eqb e e refl) in
+      let stays : ends c.args.aggressive flag top ≡ false = elim c.else-aggressive.either [
+        | inl h ↦ ap (λ b. b && top == flag) h.0 ∙ ne_eqb top flag (λ q. h.1 (left_is ∙ q))
+        | inr h ↦ ap (λ b. b && top == flag) h
+      ] in
+      c.touch.ensures.counted x
+      ∙ ap (λ v. cond (x == e) v (num w x)) (sym (cond-false (ends c.args.aggressive flag top) 0 top stays)));
+  starts = (λ x. let e : ℕ = c.args.e in let flag : ℕ = c.args.flag in let w : List ℕ = c.args.w.now in let pe : List ℤ = c.args.pe.now in
+      let top : ℕ = touched flag (num c.args.degree.now e) c.args.more (num w e) in
+      let left_is : c.cell_at-left.result ≡ top = c.cell_at-left.ensures.is ∙ c.touch.ensures.counted e
+      ∙ cond-true (e == e) top (num w e) (eq-eqb e e refl) in
+      let stays : ends c.args.aggressive flag top ≡ false = elim c.else-aggressive.either [
+        | inl h ↦ ap (λ b. b && top == flag) h.0 ∙ ne_eqb top flag (λ q. h.1 (left_is ∙ q))
+        | inr h ↦ ap (λ b. b && top == flag) h
+      ] in
+      sym (cond_both (x == e) (ends c.args.aggressive flag top) (flip_of c.args.me) (word pe x)
+      ∙ ap (λ b. cond (x == e) (cond b (flip_of c.args.me) (word pe x)) (word pe x)) stays ∙ cond_same (x == e) (word pe x)));
+}
 
-pub returns-else-aggressive-clause-counted : goal.returns-else-aggressive-clause-counted
-returns-else-aggressive-clause-counted g c x =
-    let e : ℕ = c.args.e in let flag : ℕ = c.args.flag in let w : List ℕ = c.args.w.now in
-    let top : ℕ = touched flag (num c.args.degree.now e) c.args.more (num w e) in
-    let left_is : c.cell_at-left.result ≡ top = c.cell_at-left.ensures.is ∙ c.touch.ensures.counted e
-    ∙ cond-true (e == e) top (num w e) (eq-eqb e e refl) in
-    let stays : ends c.args.aggressive flag top ≡ false = elim c.else-aggressive.either [
-      | inl h ↦ ap (λ b. b && top == flag) h.0 ∙ ne_eqb top flag (λ q. h.1 (left_is ∙ q))
-      | inr h ↦ ap (λ b. b && top == flag) h
-    ] in
-    c.touch.ensures.counted x
-    ∙ ap (λ v. cond (x == e) v (num w x)) (sym (cond-false (ends c.args.aggressive flag top) 0 top stays))
-
-pub returns-else-aggressive-clause-starts : goal.returns-else-aggressive-clause-starts
-returns-else-aggressive-clause-starts g c x =
-    let e : ℕ = c.args.e in let flag : ℕ = c.args.flag in let w : List ℕ = c.args.w.now in let pe : List ℤ = c.args.pe.now in
-    let top : ℕ = touched flag (num c.args.degree.now e) c.args.more (num w e) in
-    let left_is : c.cell_at-left.result ≡ top = c.cell_at-left.ensures.is ∙ c.touch.ensures.counted e
-    ∙ cond-true (e == e) top (num w e) (eq-eqb e e refl) in
-    let stays : ends c.args.aggressive flag top ≡ false = elim c.else-aggressive.either [
-      | inl h ↦ ap (λ b. b && top == flag) h.0 ∙ ne_eqb top flag (λ q. h.1 (left_is ∙ q))
-      | inr h ↦ ap (λ b. b && top == flag) h
-    ] in
-    sym (cond_both (x == e) (ends c.args.aggressive flag top) (flip_of c.args.me) (word pe x)
-    ∙ ap (λ b. cond (x == e) (cond b (flip_of c.args.me) (word pe x)) (word pe x)) stays ∙ cond_same (x == e) (word pe x))
-
-pub touch-requires-clause-inside : goal.touch-requires-clause-inside
-touch-requires-clause-inside g c = (c.requires.inside.0, c.requires.inside.1)
-
-pub touch-requires-clause-again : goal.touch-requires-clause-again
-touch-requires-clause-again g c = c.requires.again
-
-pub touch-requires-clause-first : goal.touch-requires-clause-first
-touch-requires-clause-first g c = c.requires.first
-
-pub touch-requires-clause-fits : goal.touch-requires-clause-fits
-touch-requires-clause-fits g c = c.requires.fits
+pub touch-requires : goal.touch-requires
+touch-requires g c = record {
+  inside = ((c.requires.touch.inside.0, c.requires.touch.inside.1));
+  again = (c.requires.touch.again);
+  first = (c.requires.touch.first);
+  fits = (c.requires.touch.fits);
+}
 
 pub cell_at-left-requires : goal.cell_at-left-requires
-cell_at-left-requires g c = lt_of_lt_of_le c.requires.inside.0 (le_of_eq (sym c.touch.ensures.long))
+cell_at-left-requires g c = lt_of_lt_of_le c.requires.touch.inside.0 (le_of_eq (sym c.touch.ensures.long))
 
 pub put_flip-requires-clause-inside : goal.put_flip-requires-clause-inside
-put_flip-requires-clause-inside g c = c.requires.inside.2
+put_flip-requires-clause-inside g c = c.requires.end.0
 
 pub put_flip-requires-clause-small : goal.put_flip-requires-clause-small
-put_flip-requires-clause-small g c = c.requires.small
+put_flip-requires-clause-small g c = c.requires.end.1
 
 pub put_cell-requires-clause-inside : goal.put_cell-requires-clause-inside
-put_cell-requires-clause-inside g c = lt_of_lt_of_le c.requires.inside.0 (le_of_eq (sym c.touch.ensures.long))
+put_cell-requires-clause-inside g c = lt_of_lt_of_le c.requires.touch.inside.0 (le_of_eq (sym c.touch.ensures.long))
 
 pub put_cell-requires-clause-fits : goal.put_cell-requires-clause-fits
 put_cell-requires-clause-fits g c = zero-le
-
-pub returns-then-left-flag-clause-long : goal.returns-then-left-flag-clause-long
-returns-then-left-flag-clause-long g c = (c.put_cell.auto.figures ∙ c.touch.ensures.long, c.put_flip.auto.words)
-
-pub returns-else-aggressive-clause-long : goal.returns-else-aggressive-clause-long
-returns-else-aggressive-clause-long g c = (c.touch.ensures.long, refl)

@@ -1,3 +1,4 @@
+use Rattle.std.proofs.Common.{rules}
 -- The goals of fronts::renew_all.
 use Rattle.std.proofs.Common.{ℕ, ℤ, List, ◌≡◌, ◌<◌, ◌≤◌, ◌+◌, ◌-◌, inl, inr, refl, sym, ap, subst, ◌∙◌, arith, length}
 use Rattle.std.proofs.lemmas.Bool.{cases_eq}
@@ -19,7 +20,7 @@ overflow_add-end g c = let is = c.named-from.ensures in let count = c.cell_at.en
       | inl q ↦ omega (arith, q, count)
       | inr ne ↦ (let a = c.requires.laid.within c.args.me (has_from c.args.pe.now c.args.len.now c.args.me c.requires.list (omega
           (arith, ne))) in
-          let b = c.requires.end in let d = c.requires.short in omega (arith, a, b, d, is, count))
+          let b = c.requires.end in let d = c.requires.narrow.0 in let z = g.met.S.Signed.narrow in omega (arith, a, b, d, z, is, count))
     ]
 
 pub loop-p-init : goal.loop-p-init
@@ -75,82 +76,78 @@ named-i-requires-clause-is_one g c =
     ∙ ap is_place (front_word c.requires.laid c.requires.list c.requires.apart c.requires.once k l h.renewed)
     ∙ (front_row c.requires.laid c.requires.list c.requires.apart c.requires.once k l h.renewed).0
 
-pub renew_or_retire-gone-requires-clause-placed : goal.renew_or_retire-gone-requires-clause-placed
-renew_or_retire-gone-requires-clause-placed g c =
-    let iw : List ℤ = c.args.iw.now in let pe : List ℤ = c.args.pe.now in let len : List ℕ = c.args.len.now in let me : ℕ = c.args.me in
-    let from : ℕ = c.named-from.result in let is : from ≡ start pe me = c.named-from.ensures in let p : ℕ = c.loop-p.p in
-    let k : ℕ = p - from in
-    let after : from ≤ p = c.loop-p.auto.p in let t = c.loop-p-test.true in let count = c.cell_at.ensures.is in
-    let at : start pe me + k ≡ p = ap (λ s. s + k) (sym is) ∙ add-sub_of_le after in
-    let l : k < num len me = lt_of_lt_of_le (within_count after t) (le_of_eq count) in
-    let h : RenewsFront (length c.args.w.now) me (is_kept c.args.w.now) (is_outside c.args.nv.now) (λ e. num c.args.w.now e - c.args.flag)
-    (rows iw (start pe me) k) c.args.free iw pe c.args.e_len.now c.args.nv.now len c.args.degree.now (lasts c.args.sides.now)
-    c.loop-p.iw c.loop-p.pe c.loop-p.e_len c.loop-p.nv c.loop-p.len c.loop-p.degree (lasts c.loop-p.sides) c.loop-p.gone
-    = subst (λ s. RenewsFront (length c.args.w.now) me (is_kept c.args.w.now) (is_outside c.args.nv.now)
-    (λ e. num c.args.w.now e - c.args.flag)
-    (rows iw s k) c.args.free iw pe c.args.e_len.now c.args.nv.now len c.args.degree.now (lasts c.args.sides.now)
-    c.loop-p.iw c.loop-p.pe c.loop-p.e_len c.loop-p.nv c.loop-p.len c.loop-p.degree (lasts c.loop-p.sides) c.loop-p.gone) is
-    c.loop-p.invariant.renews in
-    front_placed c.requires.laid c.requires.list c.requires.apart c.requires.once c.requires.front c.requires.marked k l h c.named-i.result
-    (c.named-i.ensures ∙ ap (λ q. place (word c.loop-p.iw q)) (sym at)) c.requires.end
-
-pub renew_or_retire-gone-requires-clause-loses : goal.renew_or_retire-gone-requires-clause-loses
-renew_or_retire-gone-requires-clause-loses g c =
-    let iw : List ℤ = c.args.iw.now in let pe : List ℤ = c.args.pe.now in let len : List ℕ = c.args.len.now in let me : ℕ = c.args.me in
-    let from : ℕ = c.named-from.result in let is : from ≡ start pe me = c.named-from.ensures in let p : ℕ = c.loop-p.p in
-    let k : ℕ = p - from in
-    let after : from ≤ p = c.loop-p.auto.p in let t = c.loop-p-test.true in let count = c.cell_at.ensures.is in
-    let at : start pe me + k ≡ p = ap (λ s. s + k) (sym is) ∙ add-sub_of_le after in
-    let l : k < num len me = lt_of_lt_of_le (within_count after t) (le_of_eq count) in
-    let h : RenewsFront (length c.args.w.now) me (is_kept c.args.w.now) (is_outside c.args.nv.now) (λ e. num c.args.w.now e - c.args.flag)
-    (rows iw (start pe me) k) c.args.free iw pe c.args.e_len.now c.args.nv.now len c.args.degree.now (lasts c.args.sides.now)
-    c.loop-p.iw c.loop-p.pe c.loop-p.e_len c.loop-p.nv c.loop-p.len c.loop-p.degree (lasts c.loop-p.sides) c.loop-p.gone
-    = subst (λ s. RenewsFront (length c.args.w.now) me (is_kept c.args.w.now) (is_outside c.args.nv.now)
-    (λ e. num c.args.w.now e - c.args.flag)
-    (rows iw s k) c.args.free iw pe c.args.e_len.now c.args.nv.now len c.args.degree.now (lasts c.args.sides.now)
-    c.loop-p.iw c.loop-p.pe c.loop-p.e_len c.loop-p.nv c.loop-p.len c.loop-p.degree (lasts c.loop-p.sides) c.loop-p.gone) is
-    c.loop-p.invariant.renews in
-    front_loses c.requires.laid c.requires.list c.requires.apart c.requires.once c.requires.front c.requires.marked k l h c.named-i.result
-    (c.named-i.ensures ∙ ap (λ q. place (word c.loop-p.iw q)) (sym at))
-
-pub renew_or_retire-gone-requires-clause-marked : goal.renew_or_retire-gone-requires-clause-marked
-renew_or_retire-gone-requires-clause-marked g c =
-    let iw : List ℤ = c.args.iw.now in let pe : List ℤ = c.args.pe.now in let len : List ℕ = c.args.len.now in let me : ℕ = c.args.me in
-    let from : ℕ = c.named-from.result in let is : from ≡ start pe me = c.named-from.ensures in let p : ℕ = c.loop-p.p in
-    let k : ℕ = p - from in
-    let after : from ≤ p = c.loop-p.auto.p in let t = c.loop-p-test.true in let count = c.cell_at.ensures.is in
-    let at : start pe me + k ≡ p = ap (λ s. s + k) (sym is) ∙ add-sub_of_le after in
-    let l : k < num len me = lt_of_lt_of_le (within_count after t) (le_of_eq count) in
-    let h : RenewsFront (length c.args.w.now) me (is_kept c.args.w.now) (is_outside c.args.nv.now) (λ e. num c.args.w.now e - c.args.flag)
-    (rows iw (start pe me) k) c.args.free iw pe c.args.e_len.now c.args.nv.now len c.args.degree.now (lasts c.args.sides.now)
-    c.loop-p.iw c.loop-p.pe c.loop-p.e_len c.loop-p.nv c.loop-p.len c.loop-p.degree (lasts c.loop-p.sides) c.loop-p.gone
-    = subst (λ s. RenewsFront (length c.args.w.now) me (is_kept c.args.w.now) (is_outside c.args.nv.now)
-    (λ e. num c.args.w.now e - c.args.flag)
-    (rows iw s k) c.args.free iw pe c.args.e_len.now c.args.nv.now len c.args.degree.now (lasts c.args.sides.now)
-    c.loop-p.iw c.loop-p.pe c.loop-p.e_len c.loop-p.nv c.loop-p.len c.loop-p.degree (lasts c.loop-p.sides) c.loop-p.gone) is
-    c.loop-p.invariant.renews in
-    front_marked c.requires.laid c.requires.list c.requires.apart c.requires.once c.requires.front c.requires.marked k l h c.named-i.result
-    (c.named-i.ensures ∙ ap (λ q. place (word c.loop-p.iw q)) (sym at))
-
-pub renew_or_retire-gone-requires-clause-met : goal.renew_or_retire-gone-requires-clause-met
-renew_or_retire-gone-requires-clause-met g c =
-    let iw : List ℤ = c.args.iw.now in let pe : List ℤ = c.args.pe.now in let len : List ℕ = c.args.len.now in let me : ℕ = c.args.me in
-    let from : ℕ = c.named-from.result in let is : from ≡ start pe me = c.named-from.ensures in let p : ℕ = c.loop-p.p in
-    let k : ℕ = p - from in
-    let after : from ≤ p = c.loop-p.auto.p in let t = c.loop-p-test.true in let count = c.cell_at.ensures.is in
-    let at : start pe me + k ≡ p = ap (λ s. s + k) (sym is) ∙ add-sub_of_le after in
-    let l : k < num len me = lt_of_lt_of_le (within_count after t) (le_of_eq count) in
-    let h : RenewsFront (length c.args.w.now) me (is_kept c.args.w.now) (is_outside c.args.nv.now) (λ e. num c.args.w.now e - c.args.flag)
-    (rows iw (start pe me) k) c.args.free iw pe c.args.e_len.now c.args.nv.now len c.args.degree.now (lasts c.args.sides.now)
-    c.loop-p.iw c.loop-p.pe c.loop-p.e_len c.loop-p.nv c.loop-p.len c.loop-p.degree (lasts c.loop-p.sides) c.loop-p.gone
-    = subst (λ s. RenewsFront (length c.args.w.now) me (is_kept c.args.w.now) (is_outside c.args.nv.now)
-    (λ e. num c.args.w.now e - c.args.flag)
-    (rows iw s k) c.args.free iw pe c.args.e_len.now c.args.nv.now len c.args.degree.now (lasts c.args.sides.now)
-    c.loop-p.iw c.loop-p.pe c.loop-p.e_len c.loop-p.nv c.loop-p.len c.loop-p.degree (lasts c.loop-p.sides) c.loop-p.gone) is
-    c.loop-p.invariant.renews in
-    front_met c.requires.laid c.requires.list c.requires.apart c.requires.once c.requires.front c.requires.marked k l h c.named-i.result
-    (c.named-i.ensures ∙ ap (λ q. place (word c.loop-p.iw q)) (sym at))
-    c.args.flag c.args.w.now c.requires.met
+pub renew_or_retire-gone-requires : goal.renew_or_retire-gone-requires
+renew_or_retire-gone-requires g c = record {
+  lengths = search rules;
+  more_lengths = search rules;
+  narrow = search rules;
+  row = (c.requires.row);
+  placed = (let iw : List ℤ = c.args.iw.now in let pe : List ℤ = c.args.pe.now in let len : List ℕ = c.args.len.now in let me : ℕ = c.args.me in
+      let from : ℕ = c.named-from.result in let is : from ≡ start pe me = c.named-from.ensures in let p : ℕ = c.loop-p.p in
+      let k : ℕ = p - from in
+      let after : from ≤ p = c.loop-p.auto.p in let t = c.loop-p-test.true in let count = c.cell_at.ensures.is in
+      let at : start pe me + k ≡ p = ap (λ s. s + k) (sym is) ∙ add-sub_of_le after in
+      let l : k < num len me = lt_of_lt_of_le (within_count after t) (le_of_eq count) in
+      let h : RenewsFront (length c.args.w.now) me (is_kept c.args.w.now) (is_outside c.args.nv.now) (λ e. num c.args.w.now e - c.args.flag)
+      (rows iw (start pe me) k) c.args.free iw pe c.args.e_len.now c.args.nv.now len c.args.degree.now (lasts c.args.sides.now)
+      c.loop-p.iw c.loop-p.pe c.loop-p.e_len c.loop-p.nv c.loop-p.len c.loop-p.degree (lasts c.loop-p.sides) c.loop-p.gone
+      = subst (λ s. RenewsFront (length c.args.w.now) me (is_kept c.args.w.now) (is_outside c.args.nv.now)
+      (λ e. num c.args.w.now e - c.args.flag)
+      (rows iw s k) c.args.free iw pe c.args.e_len.now c.args.nv.now len c.args.degree.now (lasts c.args.sides.now)
+      c.loop-p.iw c.loop-p.pe c.loop-p.e_len c.loop-p.nv c.loop-p.len c.loop-p.degree (lasts c.loop-p.sides) c.loop-p.gone) is
+      c.loop-p.invariant.renews in
+      front_placed c.requires.laid c.requires.list c.requires.apart c.requires.once c.requires.front c.requires.marked k l h c.named-i.result
+      (c.named-i.ensures ∙ ap (λ q. place (word c.loop-p.iw q)) (sym at)) c.requires.end);
+  loses = (let iw : List ℤ = c.args.iw.now in let pe : List ℤ = c.args.pe.now in let len : List ℕ = c.args.len.now in let me : ℕ = c.args.me in
+      let from : ℕ = c.named-from.result in let is : from ≡ start pe me = c.named-from.ensures in let p : ℕ = c.loop-p.p in
+      let k : ℕ = p - from in
+      let after : from ≤ p = c.loop-p.auto.p in let t = c.loop-p-test.true in let count = c.cell_at.ensures.is in
+      let at : start pe me + k ≡ p = ap (λ s. s + k) (sym is) ∙ add-sub_of_le after in
+      let l : k < num len me = lt_of_lt_of_le (within_count after t) (le_of_eq count) in
+      let h : RenewsFront (length c.args.w.now) me (is_kept c.args.w.now) (is_outside c.args.nv.now) (λ e. num c.args.w.now e - c.args.flag)
+      (rows iw (start pe me) k) c.args.free iw pe c.args.e_len.now c.args.nv.now len c.args.degree.now (lasts c.args.sides.now)
+      c.loop-p.iw c.loop-p.pe c.loop-p.e_len c.loop-p.nv c.loop-p.len c.loop-p.degree (lasts c.loop-p.sides) c.loop-p.gone
+      = subst (λ s. RenewsFront (length c.args.w.now) me (is_kept c.args.w.now) (is_outside c.args.nv.now)
+      (λ e. num c.args.w.now e - c.args.flag)
+      (rows iw s k) c.args.free iw pe c.args.e_len.now c.args.nv.now len c.args.degree.now (lasts c.args.sides.now)
+      c.loop-p.iw c.loop-p.pe c.loop-p.e_len c.loop-p.nv c.loop-p.len c.loop-p.degree (lasts c.loop-p.sides) c.loop-p.gone) is
+      c.loop-p.invariant.renews in
+      front_loses c.requires.laid c.requires.list c.requires.apart c.requires.once c.requires.front c.requires.marked k l h c.named-i.result
+      (c.named-i.ensures ∙ ap (λ q. place (word c.loop-p.iw q)) (sym at)));
+  marked = (let iw : List ℤ = c.args.iw.now in let pe : List ℤ = c.args.pe.now in let len : List ℕ = c.args.len.now in let me : ℕ = c.args.me in
+      let from : ℕ = c.named-from.result in let is : from ≡ start pe me = c.named-from.ensures in let p : ℕ = c.loop-p.p in
+      let k : ℕ = p - from in
+      let after : from ≤ p = c.loop-p.auto.p in let t = c.loop-p-test.true in let count = c.cell_at.ensures.is in
+      let at : start pe me + k ≡ p = ap (λ s. s + k) (sym is) ∙ add-sub_of_le after in
+      let l : k < num len me = lt_of_lt_of_le (within_count after t) (le_of_eq count) in
+      let h : RenewsFront (length c.args.w.now) me (is_kept c.args.w.now) (is_outside c.args.nv.now) (λ e. num c.args.w.now e - c.args.flag)
+      (rows iw (start pe me) k) c.args.free iw pe c.args.e_len.now c.args.nv.now len c.args.degree.now (lasts c.args.sides.now)
+      c.loop-p.iw c.loop-p.pe c.loop-p.e_len c.loop-p.nv c.loop-p.len c.loop-p.degree (lasts c.loop-p.sides) c.loop-p.gone
+      = subst (λ s. RenewsFront (length c.args.w.now) me (is_kept c.args.w.now) (is_outside c.args.nv.now)
+      (λ e. num c.args.w.now e - c.args.flag)
+      (rows iw s k) c.args.free iw pe c.args.e_len.now c.args.nv.now len c.args.degree.now (lasts c.args.sides.now)
+      c.loop-p.iw c.loop-p.pe c.loop-p.e_len c.loop-p.nv c.loop-p.len c.loop-p.degree (lasts c.loop-p.sides) c.loop-p.gone) is
+      c.loop-p.invariant.renews in
+      front_marked c.requires.laid c.requires.list c.requires.apart c.requires.once c.requires.front c.requires.marked k l h c.named-i.result
+      (c.named-i.ensures ∙ ap (λ q. place (word c.loop-p.iw q)) (sym at)));
+  met = (let iw : List ℤ = c.args.iw.now in let pe : List ℤ = c.args.pe.now in let len : List ℕ = c.args.len.now in let me : ℕ = c.args.me in
+      let from : ℕ = c.named-from.result in let is : from ≡ start pe me = c.named-from.ensures in let p : ℕ = c.loop-p.p in
+      let k : ℕ = p - from in
+      let after : from ≤ p = c.loop-p.auto.p in let t = c.loop-p-test.true in let count = c.cell_at.ensures.is in
+      let at : start pe me + k ≡ p = ap (λ s. s + k) (sym is) ∙ add-sub_of_le after in
+      let l : k < num len me = lt_of_lt_of_le (within_count after t) (le_of_eq count) in
+      let h : RenewsFront (length c.args.w.now) me (is_kept c.args.w.now) (is_outside c.args.nv.now) (λ e. num c.args.w.now e - c.args.flag)
+      (rows iw (start pe me) k) c.args.free iw pe c.args.e_len.now c.args.nv.now len c.args.degree.now (lasts c.args.sides.now)
+      c.loop-p.iw c.loop-p.pe c.loop-p.e_len c.loop-p.nv c.loop-p.len c.loop-p.degree (lasts c.loop-p.sides) c.loop-p.gone
+      = subst (λ s. RenewsFront (length c.args.w.now) me (is_kept c.args.w.now) (is_outside c.args.nv.now)
+      (λ e. num c.args.w.now e - c.args.flag)
+      (rows iw s k) c.args.free iw pe c.args.e_len.now c.args.nv.now len c.args.degree.now (lasts c.args.sides.now)
+      c.loop-p.iw c.loop-p.pe c.loop-p.e_len c.loop-p.nv c.loop-p.len c.loop-p.degree (lasts c.loop-p.sides) c.loop-p.gone) is
+      c.loop-p.invariant.renews in
+      front_met c.requires.laid c.requires.list c.requires.apart c.requires.once c.requires.front c.requires.marked k l h c.named-i.result
+      (c.named-i.ensures ∙ ap (λ q. place (word c.loop-p.iw q)) (sym at))
+      c.args.flag c.args.w.now c.requires.met);
+}
 
 pub loop-p-preserved : goal.loop-p-preserved
 loop-p-preserved g c =
@@ -182,7 +179,7 @@ loop-p-preserved g c =
           c.named-i.result
           (c.named-i.ensures ∙ ap (λ q. place (word c.loop-p.iw q)) (sym at))
           c.renew_or_retire-gone.ensures.renews c.requires.lengths.1 c.renew_or_retire-gone.ensures.lengths);
-      nexts_kept = c.renew_or_retire-gone.ensures.nexts ∙ c.loop-p.invariant.nexts_kept;
+      nexts_kept = c.renew_or_retire-gone.ensures.links ∙ c.loop-p.invariant.nexts_kept;
     }
 
 pub overflow_add-gone : goal.overflow_add-gone
@@ -221,17 +218,14 @@ returns g c =
           xs c.args.free iw pe c.args.e_len.now c.args.nv.now len c.args.degree.now (lasts c.args.sides.now)
           c.loop-p.iw c.loop-p.pe c.loop-p.e_len c.loop-p.nv c.loop-p.len c.loop-p.degree (lasts c.loop-p.sides) c.loop-p.gone) all
           c.loop-p.invariant.renews;
-      nexts = c.loop-p.invariant.nexts_kept;
+      links = c.loop-p.invariant.nexts_kept;
     }
 
 pub named-from-requires-clause-inside : goal.named-from-requires-clause-inside
-named-from-requires-clause-inside g c = lt_of_lt_of_le c.requires.me.0 (le_of_eq (sym c.requires.lengths.0))
+named-from-requires-clause-inside g c = lt_of_lt_of_le c.requires.row.0 (le_of_eq (sym c.requires.lengths.0))
 
 pub named-from-requires-clause-is_one : goal.named-from-requires-clause-is_one
 named-from-requires-clause-is_one g c = c.requires.list
 
 pub cell_at-requires : goal.cell_at-requires
-cell_at-requires g c = lt_of_lt_of_le c.requires.me.0 (le_of_eq (sym c.requires.lengths.2))
-
-pub renew_or_retire-gone-requires-clause-me : goal.renew_or_retire-gone-requires-clause-me
-renew_or_retire-gone-requires-clause-me g c = c.requires.me
+cell_at-requires g c = lt_of_lt_of_le c.requires.row.0 (le_of_eq (sym c.requires.lengths.2))

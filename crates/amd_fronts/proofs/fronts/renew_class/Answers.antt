@@ -32,19 +32,19 @@ pub renew_list-few-requires : goal.renew_list-few-requires
 renew_list-few-requires g c = record {
   lengths = (c.requires.lengths.3);
   inside = (let f = c.named-from.ensures in let k = c.cell_at.ensures.is in
-    let w = c.requires.placed.within in omega (arith, f, k, w));
+      let w = c.requires.placed.within in omega (arith, f, k, w));
   narrow = (c.requires.narrow);
   parts = (let m = c.named-n_elements.ensures in let k = c.cell_at.ensures.is in
-    let p = c.requires.placed.parts in omega (arith, m, k, p));
+      let p = c.requires.placed.parts in omega (arith, m, k, p));
   names = (names_at c.args.iw.now refl (sym c.named-from.ensures) (sym c.cell_at.ensures.is)
-    c.requires.placed.names);
-  row = (c.requires.me);
+      c.requires.placed.names);
+  row = (c.requires.row);
   room = (let f = c.named-from.ensures in let m = c.named-n_elements.ensures in let k = c.cell_at.ensures.is in
-    let a = ap (λ xs. length (filter (is_kept c.args.w.now) xs)) (rows_at c.args.iw.now f m) in
-    let b = ap (λ xs. length (filter (is_outside c.args.nv.now) xs)) (behind c.args.iw.now f m k) in
-    let r = c.requires.loses in omega (arith, a, b, k, r));
+      let a = ap (λ xs. length (filter (is_kept c.args.w.now) xs)) (rows_at c.args.iw.now f m) in
+      let b = ap (λ xs. length (filter (is_outside c.args.nv.now) xs)) (behind c.args.iw.now f m k) in
+      let r = c.requires.loses in omega (arith, a, b, k, r));
   met = (λ e h. let f = c.named-from.ensures in let m = c.named-n_elements.ensures in
-    c.requires.met e (sym (ap (λ xs. has xs e) (rows_at c.args.iw.now f m)) ∙ h));
+      c.requires.met e (sym (ap (λ xs. has xs e) (rows_at c.args.iw.now f m)) ∙ h));
 }
 
 pub put_row-requires-clause-inside : goal.put_row-requires-clause-inside
@@ -61,46 +61,39 @@ pub put_cell-requires-clause-fits : goal.put_cell-requires-clause-fits
 put_cell-requires-clause-fits g c = let s = c.renew_list-few.ensures.renews.shorter.1 in let k = c.cell_at.ensures.small in
     omega (arith, s, k)
 
-pub returns-clause-renews : goal.returns-clause-renews
-returns-clause-renews g c =
-    let n : ℕ = length c.args.w.now in
-    let r = subst (λ q. Renews n c.args.me (is_kept c.args.w.now) (is_outside c.args.nv.now)
-    c.args.iw.now c.named-from.result c.named-n_elements.result q c.renew_list-few.new.iw c.renew_list-few.result.0
-    c.renew_list-few.result.1) c.cell_at.ensures.is c.renew_list-few.ensures.renews in
-    let s = subst (λ f. Renews n c.args.me (is_kept c.args.w.now) (is_outside c.args.nv.now)
-    c.args.iw.now f c.named-n_elements.result (num c.args.len.now c.args.i)
-    c.renew_list-few.new.iw c.renew_list-few.result.0 c.renew_list-few.result.1) c.named-from.ensures r in
-    let t = subst (λ m. Renews n c.args.me (is_kept c.args.w.now) (is_outside c.args.nv.now) c.args.iw.now
-    (start c.args.pe.now c.args.i) m (num c.args.len.now c.args.i)
-    c.renew_list-few.new.iw c.renew_list-few.result.0 c.renew_list-few.result.1) c.named-n_elements.ensures s in
-    let small = c.requires.placed.row in let e = c.requires.lengths.1 in let l = c.requires.lengths.2 in
-    one_from_as c.renew_list-few.result.0 c.renew_list-few.result.1 c.put_row.ensures c.put_cell.ensures
-    (one_from n c.args.me (is_kept c.args.w.now) (is_outside c.args.nv.now)
-    c.args.i c.renew_list-few.result.0 c.renew_list-few.result.1 c.args.iw.now c.args.pe.now c.args.e_len.now c.args.len.now
-    c.renew_list-few.new.iw (omega (arith, small, e)) (omega (arith, small, l)) t)
-
-pub returns-clause-count : goal.returns-clause-count
-returns-clause-count g c = let a = c.requires.placed.row in let n = c.requires.lengths.2 in
-    sym (ap (λ l. num l c.args.i) c.put_cell.ensures
-    ∙ get_or-set_same c.args.len.now c.args.i c.renew_list-few.result.1 0 (omega (arith, a, n)))
-
-pub returns-clause-outside : goal.returns-clause-outside
-returns-clause-outside g c =
-    let f = c.named-from.ensures in let m = c.named-n_elements.ensures in let k = c.cell_at.ensures.is in
-    c.renew_list-few.ensures.outside
-    ∙ ap (λ xs. cut (sum_by (λ e. num c.args.w.now e - c.args.flag) (filter (is_kept c.args.w.now) xs)
-    + sum_by (size_of c.args.nv.now) (filter (is_outside c.args.nv.now) (rows c.args.iw.now
-    (c.named-from.result + c.named-n_elements.result) (c.cell_at.result - c.named-n_elements.result)))))
-    (rows_at c.args.iw.now f m)
-    ∙ ap (λ xs. cut (sum_by (λ e. num c.args.w.now e - c.args.flag) (filter (is_kept c.args.w.now)
-    (elements_in c.args.iw.now c.args.pe.now c.args.e_len.now c.args.i))
-    + sum_by (size_of c.args.nv.now) (filter (is_outside c.args.nv.now) xs))) (behind c.args.iw.now f m k)
-
-pub returns-clause-hash : goal.returns-clause-hash
-returns-clause-hash g c =
-    let f = c.named-from.ensures in let m = c.named-n_elements.ensures in let k = c.cell_at.ensures.is in
-    c.renew_list-few.ensures.hash_is
-    ∙ ap (λ xs. hashed 0 (filter (is_kept c.args.w.now) xs ++ filter (is_outside c.args.nv.now) (rows c.args.iw.now
-    (c.named-from.result + c.named-n_elements.result) (c.cell_at.result - c.named-n_elements.result)))) (rows_at c.args.iw.now f m)
-    ∙ ap (λ xs. hashed 0 (filter (is_kept c.args.w.now) (elements_in c.args.iw.now c.args.pe.now c.args.e_len.now c.args.i)
-    ++ filter (is_outside c.args.nv.now) xs)) (behind c.args.iw.now f m k)
+pub returns : goal.returns
+returns g c = record {
+  renews = (let n : ℕ = length c.args.w.now in
+      let r = subst (λ q. Renews n c.args.me (is_kept c.args.w.now) (is_outside c.args.nv.now)
+      c.args.iw.now c.named-from.result c.named-n_elements.result q c.renew_list-few.new.iw c.renew_list-few.result.0
+      c.renew_list-few.result.1) c.cell_at.ensures.is c.renew_list-few.ensures.renews in
+      let s = subst (λ f. Renews n c.args.me (is_kept c.args.w.now) (is_outside c.args.nv.now)
+      c.args.iw.now f c.named-n_elements.result (num c.args.len.now c.args.i)
+      c.renew_list-few.new.iw c.renew_list-few.result.0 c.renew_list-few.result.1) c.named-from.ensures r in
+      let t = subst (λ m. Renews n c.args.me (is_kept c.args.w.now) (is_outside c.args.nv.now) c.args.iw.now
+      (start c.args.pe.now c.args.i) m (num c.args.len.now c.args.i)
+      c.renew_list-few.new.iw c.renew_list-few.result.0 c.renew_list-few.result.1) c.named-n_elements.ensures s in
+      let small = c.requires.placed.row in let e = c.requires.lengths.1 in let l = c.requires.lengths.2 in
+      one_from_as c.renew_list-few.result.0 c.renew_list-few.result.1 c.put_row.ensures c.put_cell.ensures
+      (one_from n c.args.me (is_kept c.args.w.now) (is_outside c.args.nv.now)
+      c.args.i c.renew_list-few.result.0 c.renew_list-few.result.1 c.args.iw.now c.args.pe.now c.args.e_len.now c.args.len.now
+      c.renew_list-few.new.iw (omega (arith, small, e)) (omega (arith, small, l)) t));
+  count_is = (let a = c.requires.placed.row in let n = c.requires.lengths.2 in
+      sym (ap (λ l. num l c.args.i) c.put_cell.ensures
+      ∙ get_or-set_same c.args.len.now c.args.i c.renew_list-few.result.1 0 (omega (arith, a, n))));
+  outside = (let f = c.named-from.ensures in let m = c.named-n_elements.ensures in let k = c.cell_at.ensures.is in
+      c.renew_list-few.ensures.outside
+      ∙ ap (λ xs. cut (sum_by (λ e. num c.args.w.now e - c.args.flag) (filter (is_kept c.args.w.now) xs)
+      + sum_by (size_of c.args.nv.now) (filter (is_outside c.args.nv.now) (rows c.args.iw.now
+      (c.named-from.result + c.named-n_elements.result) (c.cell_at.result - c.named-n_elements.result)))))
+      (rows_at c.args.iw.now f m)
+      ∙ ap (λ xs. cut (sum_by (λ e. num c.args.w.now e - c.args.flag) (filter (is_kept c.args.w.now)
+      (elements_in c.args.iw.now c.args.pe.now c.args.e_len.now c.args.i))
+      + sum_by (size_of c.args.nv.now) (filter (is_outside c.args.nv.now) xs))) (behind c.args.iw.now f m k));
+  hash_is = (let f = c.named-from.ensures in let m = c.named-n_elements.ensures in let k = c.cell_at.ensures.is in
+      c.renew_list-few.ensures.hash_is
+      ∙ ap (λ xs. hashed 0 (filter (is_kept c.args.w.now) xs ++ filter (is_outside c.args.nv.now) (rows c.args.iw.now
+      (c.named-from.result + c.named-n_elements.result) (c.cell_at.result - c.named-n_elements.result)))) (rows_at c.args.iw.now f m)
+      ∙ ap (λ xs. hashed 0 (filter (is_kept c.args.w.now) (elements_in c.args.iw.now c.args.pe.now c.args.e_len.now c.args.i)
+      ++ filter (is_outside c.args.nv.now) xs)) (behind c.args.iw.now f m k));
+}

@@ -1,3 +1,4 @@
+use Rattle.std.proofs.Common.{rules}
 -- The goals of fronts::renew_or_retire.
 use Rattle.std.proofs.Common.{◌-◌, sym, ◌∙◌, arith}
 use Rattle.amd_words.specs.Words.{num}
@@ -7,52 +8,48 @@ use Rattle.amd_words.specs.Sides.{lasts}
 use Rattle.amd_words.proofs.SideLists.{both_long}
 use Rattle.amd_fronts.proofs.fronts.renew_or_retire.Goals as goal
 
-pub returns-then-count-eq1-clause-renews : goal.returns-then-count-eq1-clause-renews
-returns-then-count-eq1-clause-renews g c =
-    let row = c.requires.placed.row in let a = c.requires.lengths in let r = c.renew_class-count.ensures in let e = r.renews.e_long in
-    rw (c.retire.ensures.starts, c.retire.ensures.lists, c.retire.ensures.rows)
-    (one_ends r.renews (λ e. num c.args.w.now e - c.args.flag) c.args.nv.now c.args.degree.now (lasts c.args.sides.now) c.retire.result
-    (sym r.count ∙ c.if-count-eq1.true) (omega (arith, row, a)) (omega (arith, row, a, e)) (omega (arith, row, a)) c.retire.ensures.gone)
+pub returns-then-count-eq1 : goal.returns-then-count-eq1
+returns-then-count-eq1 g c = record {
+  renews = (let row = c.requires.placed.row in let a = c.requires.lengths in let r = c.renew_class-count.ensures in let e = r.renews.e_long in
+      rw (c.retire.ensures.starts, c.retire.ensures.lists, c.retire.ensures.sizes)
+      (one_ends r.renews (λ e. num c.args.w.now e - c.args.flag) c.args.nv.now c.args.degree.now (lasts c.args.sides.now) c.retire.result
+      (sym r.count_is ∙ c.if-count-eq1.true) (omega (arith, row, a)) (omega (arith, row, a, e)) (omega (arith, row, a)) c.retire.ensures.gone_is));
+  lengths = search rules;
+  links = search rules;
+}
 
-pub returns-clause-renews : goal.returns-clause-renews
-returns-clause-renews g c =
-    let row = c.requires.placed.row in let b = c.requires.more_lengths in let r = c.renew_class-count.ensures in
-    rw c.put_last.ensures.lasts
-    (one_stays r.renews (λ e. num c.args.w.now e - c.args.flag) c.args.nv.now c.args.degree.now c.lower_bound.new.degree
-    (lasts c.args.sides.now)
-    c.renew_class-count.result.1 c.renew_class-count.result.2 (λ e. c.if-count-eq1.false (r.count ∙ e)) (omega (arith, row, b)) r.outside
-    c.lower_bound.ensures.bound c.lower_bound.ensures.others r.hash)
+pub returns : goal.returns
+returns g c = record {
+  renews = (let row = c.requires.placed.row in let b = c.requires.more_lengths in let r = c.renew_class-count.ensures in
+      rw c.put_last.ensures.lasts
+      (one_stays r.renews (λ e. num c.args.w.now e - c.args.flag) c.args.nv.now c.args.degree.now c.lower_bound.new.degree
+      (lasts c.args.sides.now)
+      c.renew_class-count.result.1 c.renew_class-count.result.2 (λ e. c.if-count-eq1.false (r.count_is ∙ e)) (omega (arith, row, b)) r.outside
+      c.lower_bound.ensures.bound c.lower_bound.ensures.others r.hash_is));
+  lengths = search rules;
+  links = search rules;
+}
 
-pub renew_class-count-requires-clause-lengths : goal.renew_class-count-requires-clause-lengths
-renew_class-count-requires-clause-lengths g c = c.requires.lengths
+pub renew_class-count-requires : goal.renew_class-count-requires
+renew_class-count-requires g c = record {
+  lengths = (c.requires.lengths);
+  narrow = (c.requires.narrow.0);
+  row = ((c.requires.row.0, le_trans (le-add_right c.args.me 2) c.requires.row.1));
+  placed = (c.requires.placed);
+  loses = (c.requires.loses);
+  met = (c.requires.met);
+}
 
-pub renew_class-count-requires-clause-short : goal.renew_class-count-requires-clause-short
-renew_class-count-requires-clause-short g c = c.requires.short
-
-pub renew_class-count-requires-clause-narrow : goal.renew_class-count-requires-clause-narrow
-renew_class-count-requires-clause-narrow g c = c.requires.narrow.0
-
-pub renew_class-count-requires-clause-me : goal.renew_class-count-requires-clause-me
-renew_class-count-requires-clause-me g c = (c.requires.me.0, le_trans (le-add_right c.args.me 2) c.requires.me.1)
-
-pub renew_class-count-requires-clause-placed : goal.renew_class-count-requires-clause-placed
-renew_class-count-requires-clause-placed g c = c.requires.placed
-
-pub renew_class-count-requires-clause-loses : goal.renew_class-count-requires-clause-loses
-renew_class-count-requires-clause-loses g c = c.requires.loses
-
-pub retire-requires-clause-inside : goal.retire-requires-clause-inside
-retire-requires-clause-inside g c = let row = c.requires.placed.row in let l = c.requires.lengths in (
-  lt_of_lt_of_le row (le_of_eq (sym l.0)),
-  lt_of_lt_of_le row (le_of_eq (sym (c.renew_class-count.auto.e_len ∙ l.1))),
-  lt_of_lt_of_le row (le_of_eq (sym l.3)),
-)
-
-pub retire-requires-clause-small : goal.retire-requires-clause-small
-retire-requires-clause-small g c = c.requires.me.1
-
-pub retire-requires-clause-marked : goal.retire-requires-clause-marked
-retire-requires-clause-marked g c = c.requires.marked
+pub retire-requires : goal.retire-requires
+retire-requires g c = record {
+  inside = (let row = c.requires.placed.row in let l = c.requires.lengths in (
+    lt_of_lt_of_le row (le_of_eq (sym l.0)),
+    lt_of_lt_of_le row (le_of_eq (sym (c.renew_class-count.auto.e_len ∙ l.1))),
+    lt_of_lt_of_le row (le_of_eq (sym l.3)),
+  ));
+  small = (c.requires.row.1);
+  marked = (c.requires.marked);
+}
 
 pub put_last-requires-clause-inside : goal.put_last-requires-clause-inside
 put_last-requires-clause-inside g c = lt_of_lt_of_le c.requires.placed.row
@@ -62,6 +59,3 @@ pub lower_bound-requires : goal.lower_bound-requires
 lower_bound-requires g c = record {
   inside = lt_of_lt_of_le c.requires.placed.row (le_of_eq (sym c.requires.more_lengths.0));
 }
-
-pub renew_class-count-requires-clause-met : goal.renew_class-count-requires-clause-met
-renew_class-count-requires-clause-met g c = c.requires.met

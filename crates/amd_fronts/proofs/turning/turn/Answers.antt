@@ -29,7 +29,7 @@ count_outside-requires g c =
       lengths = a.0;
       more_lengths = b;
       inside = (let e = c.requires.list.within in let f = c.requires.end in omega (arith, e, f, from, count));
-      small = c.requires.me.1;
+      small = c.requires.row.1;
       front = (
         λ k l. let e = c.requires.list.within in
             subst (λ s. (is_place (word iw (s + k)) ≡ true) × (place (word iw (s + k)) < length c.args.w.now)) (sym from)
@@ -41,267 +41,225 @@ count_outside-requires g c =
         apart = λ e k. class.apart e (has_front e k);
         bound = class.bound;
       };
-      flag = c.requires.flag.0;
-      under = c.requires.flag.1;
+      two = c.requires.two.0;
+      under = c.requires.two.1;
       fits = c.requires.fits;
       part = λ e s. let r = c.requires.part e s in let q = ap (λ xs. met iw pe c.args.e_len.now c.args.nv.now xs e) list in
           omega (arith, r, q);
     }
 
-pub renew_all-requires-clause-laid : goal.renew_all-requires-clause-laid
-renew_all-requires-clause-laid g c =
-    let me : ℕ = c.args.me in let iw : List ℤ = c.args.iw.now in let pe : List ℤ = c.args.pe.now in let len : List ℕ = c.args.len.now in
-    let from : c.named-from.result ≡ start pe me = c.named-from.ensures in let count = c.cell_at-count.ensures.is in
-    let list : rows iw c.named-from.result c.cell_at-count.result ≡ list_in iw pe len me = ap
-    (λ s. rows iw s c.cell_at-count.result) from
-    ∙ ap (rows iw (start pe me)) count in
-    let left : List ℤ = c.count_outside.new.pe in
-    let seen : ℕ → ℕ → ℕ = λ m e. counter c.args.flag (num c.args.w.now e) (num c.args.degree.now e) m in
-    let ended : (e : ℕ) → word left e ≡ cond (ends c.args.aggressive c.args.flag (seen (met iw pe c.args.e_len.now c.args.nv.now
-    (list_in iw pe len me) e) e))
-    (flip_of me) (word pe e) = λ e. c.count_outside.ensures.starts e
-    ∙ ap (λ xs. cond (ends c.args.aggressive c.args.flag (seen (met iw pe c.args.e_len.now c.args.nv.now xs e) e)) (flip_of me)
-    (word pe e)) list in
-    let long = c.count_outside.ensures.long.0 in
-    subst (λ n. Layout n iw left c.args.e_len.now len c.args.free) (sym long)
-    (left_laid c.args.aggressive c.args.flag c.requires.laid c.requires.flag.0 c.requires.flag.1 c.requires.front left ended)
+pub renew_all-requires : goal.renew_all-requires
+renew_all-requires g c = record {
+  lengths = (let l = c.requires.lengths in let w = sym c.count_outside.ensures.long.0 in
+      (c.count_outside.auto.pe ∙ l.0.0 ∙ w, l.0.1 ∙ w, l.1 ∙ w, l.0.2 ∙ w));
+  more_lengths = (let w = sym c.count_outside.ensures.long.0 in
+      (c.requires.lengths.0.3 ∙ w, lasts_same _ _ c.count_outside.auto.sides ∙ c.requires.more_lengths.2 ∙ w));
+  narrow = ((c.requires.narrow.0, le_trans (le_of_eq c.count_outside.ensures.long.0) c.requires.narrow.1));
+  end = (c.requires.end);
+  laid = (let me : ℕ = c.args.me in let iw : List ℤ = c.args.iw.now in let pe : List ℤ = c.args.pe.now in let len : List ℕ = c.args.len.now in
+      let from : c.named-from.result ≡ start pe me = c.named-from.ensures in let count = c.cell_at-count.ensures.is in
+      let list : rows iw c.named-from.result c.cell_at-count.result ≡ list_in iw pe len me = ap
+      (λ s. rows iw s c.cell_at-count.result) from
+      ∙ ap (rows iw (start pe me)) count in
+      let left : List ℤ = c.count_outside.new.pe in
+      let seen : ℕ → ℕ → ℕ = λ m e. counter c.args.flag (num c.args.w.now e) (num c.args.degree.now e) m in
+      let ended : (e : ℕ) → word left e ≡ cond (ends c.args.aggressive c.args.flag (seen (met iw pe c.args.e_len.now c.args.nv.now
+      (list_in iw pe len me) e) e))
+      (flip_of me) (word pe e) = λ e. c.count_outside.ensures.starts e
+      ∙ ap (λ xs. cond (ends c.args.aggressive c.args.flag (seen (met iw pe c.args.e_len.now c.args.nv.now xs e) e)) (flip_of me)
+      (word pe e)) list in
+      let long = c.count_outside.ensures.long.0 in
+      subst (λ n. Layout n iw left c.args.e_len.now len c.args.free) (sym long)
+      (left_laid c.args.aggressive c.args.flag c.requires.laid c.requires.two.0 c.requires.two.1 c.requires.front left ended));
+  row = ((lt_of_lt_of_le c.requires.row.0 (le_of_eq (sym c.count_outside.ensures.long.0)), c.requires.row.1));
+  list = (let me : ℕ = c.args.me in let iw : List ℤ = c.args.iw.now in let pe : List ℤ = c.args.pe.now in let len : List ℕ = c.args.len.now in
+      let from : c.named-from.result ≡ start pe me = c.named-from.ensures in let count = c.cell_at-count.ensures.is in
+      let list : rows iw c.named-from.result c.cell_at-count.result ≡ list_in iw pe len me = ap
+      (λ s. rows iw s c.cell_at-count.result) from
+      ∙ ap (rows iw (start pe me)) count in
+      let left : List ℤ = c.count_outside.new.pe in
+      let seen : ℕ → ℕ → ℕ = λ m e. counter c.args.flag (num c.args.w.now e) (num c.args.degree.now e) m in
+      let ended : (e : ℕ) → word left e ≡ cond (ends c.args.aggressive c.args.flag (seen (met iw pe c.args.e_len.now c.args.nv.now
+      (list_in iw pe len me) e) e))
+      (flip_of me) (word pe e) = λ e. c.count_outside.ensures.starts e
+      ∙ ap (λ xs. cond (ends c.args.aggressive c.args.flag (seen (met iw pe c.args.e_len.now c.args.nv.now xs e) e)) (flip_of me)
+      (word pe e)) list in
+      ap is_place (left_me c.args.aggressive c.args.flag c.requires.laid c.requires.two.0 c.requires.two.1 c.requires.front left ended)
+      ∙ c.requires.list.starts);
+  apart = (let me : ℕ = c.args.me in let iw : List ℤ = c.args.iw.now in let pe : List ℤ = c.args.pe.now in let len : List ℕ = c.args.len.now in
+      let from : c.named-from.result ≡ start pe me = c.named-from.ensures in let count = c.cell_at-count.ensures.is in
+      let list : rows iw c.named-from.result c.cell_at-count.result ≡ list_in iw pe len me = ap
+      (λ s. rows iw s c.cell_at-count.result) from
+      ∙ ap (rows iw (start pe me)) count in
+      let left : List ℤ = c.count_outside.new.pe in
+      let seen : ℕ → ℕ → ℕ = λ m e. counter c.args.flag (num c.args.w.now e) (num c.args.degree.now e) m in
+      let ended : (e : ℕ) → word left e ≡ cond (ends c.args.aggressive c.args.flag (seen (met iw pe c.args.e_len.now c.args.nv.now
+      (list_in iw pe len me) e) e))
+      (flip_of me) (word pe e) = λ e. c.count_outside.ensures.starts e
+      ∙ ap (λ xs. cond (ends c.args.aggressive c.args.flag (seen (met iw pe c.args.e_len.now c.args.nv.now xs e) e)) (flip_of me)
+      (word pe e)) list in
+      ap (λ xs. has xs me) (left_list c.args.aggressive c.args.flag c.requires.laid c.requires.two.0 c.requires.two.1
+      c.requires.front left ended) ∙ c.requires.list.apart);
+  once = (let me : ℕ = c.args.me in let iw : List ℤ = c.args.iw.now in let pe : List ℤ = c.args.pe.now in let len : List ℕ = c.args.len.now in
+      let from : c.named-from.result ≡ start pe me = c.named-from.ensures in let count = c.cell_at-count.ensures.is in
+      let list : rows iw c.named-from.result c.cell_at-count.result ≡ list_in iw pe len me = ap
+      (λ s. rows iw s c.cell_at-count.result) from
+      ∙ ap (rows iw (start pe me)) count in
+      let left : List ℤ = c.count_outside.new.pe in
+      let seen : ℕ → ℕ → ℕ = λ m e. counter c.args.flag (num c.args.w.now e) (num c.args.degree.now e) m in
+      let ended : (e : ℕ) → word left e ≡ cond (ends c.args.aggressive c.args.flag (seen (met iw pe c.args.e_len.now c.args.nv.now
+      (list_in iw pe len me) e) e))
+      (flip_of me) (word pe e) = λ e. c.count_outside.ensures.starts e
+      ∙ ap (λ xs. cond (ends c.args.aggressive c.args.flag (seen (met iw pe c.args.e_len.now c.args.nv.now xs e) e)) (flip_of me)
+      (word pe e)) list in
+      subst Once (sym (left_list c.args.aggressive c.args.flag c.requires.laid c.requires.two.0 c.requires.two.1 c.requires.front
+      left ended)) c.requires.list.once);
+  front = (let me : ℕ = c.args.me in let iw : List ℤ = c.args.iw.now in let pe : List ℤ = c.args.pe.now in let len : List ℕ = c.args.len.now in
+      let from : c.named-from.result ≡ start pe me = c.named-from.ensures in let count = c.cell_at-count.ensures.is in
+      let list : rows iw c.named-from.result c.cell_at-count.result ≡ list_in iw pe len me = ap
+      (λ s. rows iw s c.cell_at-count.result) from
+      ∙ ap (rows iw (start pe me)) count in
+      let left : List ℤ = c.count_outside.new.pe in
+      let seen : ℕ → ℕ → ℕ = λ m e. counter c.args.flag (num c.args.w.now e) (num c.args.degree.now e) m in
+      let ended : (e : ℕ) → word left e ≡ cond (ends c.args.aggressive c.args.flag (seen (met iw pe c.args.e_len.now c.args.nv.now
+      (list_in iw pe len me) e) e))
+      (flip_of me) (word pe e) = λ e. c.count_outside.ensures.starts e
+      ∙ ap (λ xs. cond (ends c.args.aggressive c.args.flag (seen (met iw pe c.args.e_len.now c.args.nv.now xs e) e)) (flip_of me)
+      (word pe e)) list in
+      let counted : (e : ℕ) → num c.count_outside.new.w e
+      ≡ settled c.args.aggressive c.args.flag (seen (met iw pe c.args.e_len.now c.args.nv.now (list_in iw pe len me) e) e) = λ e.
+      c.count_outside.ensures.counted e
+      ∙ ap (λ xs. settled c.args.aggressive c.args.flag (seen (met iw pe c.args.e_len.now c.args.nv.now xs e) e)) list in
+      left_renewable c.args.aggressive c.args.flag c.requires.laid c.requires.two.0 c.requires.two.1 c.requires.front left ended
+      c.count_outside.new.w counted);
+  marked = (λ i h. let me : ℕ = c.args.me in let iw : List ℤ = c.args.iw.now in let pe : List ℤ = c.args.pe.now in let len : List ℕ = c.args.len.now in
+      let from : c.named-from.result ≡ start pe me = c.named-from.ensures in let count = c.cell_at-count.ensures.is in
+      let list : rows iw c.named-from.result c.cell_at-count.result ≡ list_in iw pe len me = ap
+      (λ s. rows iw s c.cell_at-count.result) from
+      ∙ ap (rows iw (start pe me)) count in
+      let left : List ℤ = c.count_outside.new.pe in
+      let seen : ℕ → ℕ → ℕ = λ m e. counter c.args.flag (num c.args.w.now e) (num c.args.degree.now e) m in
+      let ended : (e : ℕ) → word left e ≡ cond (ends c.args.aggressive c.args.flag (seen (met iw pe c.args.e_len.now c.args.nv.now
+      (list_in iw pe len me) e) e))
+      (flip_of me) (word pe e) = λ e. c.count_outside.ensures.starts e
+      ∙ ap (λ xs. cond (ends c.args.aggressive c.args.flag (seen (met iw pe c.args.e_len.now c.args.nv.now xs e) e)) (flip_of me)
+      (word pe e)) list in
+      (c.requires.front i (sym (ap (λ xs. has xs i)
+      (left_list c.args.aggressive c.args.flag c.requires.laid c.requires.two.0 c.requires.two.1 c.requires.front left ended)) ∙ h)).marked);
+  met = (let me : ℕ = c.args.me in let iw : List ℤ = c.args.iw.now in let pe : List ℤ = c.args.pe.now in let len : List ℕ = c.args.len.now in
+      let from : c.named-from.result ≡ start pe me = c.named-from.ensures in let count = c.cell_at-count.ensures.is in
+      let list : rows iw c.named-from.result c.cell_at-count.result ≡ list_in iw pe len me = ap
+      (λ s. rows iw s c.cell_at-count.result) from
+      ∙ ap (rows iw (start pe me)) count in
+      let left : List ℤ = c.count_outside.new.pe in
+      let seen : ℕ → ℕ → ℕ = λ m e. counter c.args.flag (num c.args.w.now e) (num c.args.degree.now e) m in
+      let ended : (e : ℕ) → word left e ≡ cond (ends c.args.aggressive c.args.flag (seen (met iw pe c.args.e_len.now c.args.nv.now
+      (list_in iw pe len me) e) e))
+      (flip_of me) (word pe e) = λ e. c.count_outside.ensures.starts e
+      ∙ ap (λ xs. cond (ends c.args.aggressive c.args.flag (seen (met iw pe c.args.e_len.now c.args.nv.now xs e) e)) (flip_of me)
+      (word pe e)) list in
+      let counted : (e : ℕ) → num c.count_outside.new.w e
+      ≡ settled c.args.aggressive c.args.flag (seen (met iw pe c.args.e_len.now c.args.nv.now (list_in iw pe len me) e) e) = λ e.
+      c.count_outside.ensures.counted e
+      ∙ ap (λ xs. settled c.args.aggressive c.args.flag (seen (met iw pe c.args.e_len.now c.args.nv.now xs e) e)) list in
+      left_met c.args.aggressive c.args.flag c.requires.laid c.requires.two.0 c.requires.two.1 c.requires.front left ended
+      c.count_outside.new.w counted c.requires.part);
+  few = (let me : ℕ = c.args.me in let iw : List ℤ = c.args.iw.now in let pe : List ℤ = c.args.pe.now in let len : List ℕ = c.args.len.now in
+      let from : c.named-from.result ≡ start pe me = c.named-from.ensures in let count = c.cell_at-count.ensures.is in
+      let list : rows iw c.named-from.result c.cell_at-count.result ≡ list_in iw pe len me = ap
+      (λ s. rows iw s c.cell_at-count.result) from
+      ∙ ap (rows iw (start pe me)) count in
+      let left : List ℤ = c.count_outside.new.pe in
+      let seen : ℕ → ℕ → ℕ = λ m e. counter c.args.flag (num c.args.w.now e) (num c.args.degree.now e) m in
+      let ended : (e : ℕ) → word left e ≡ cond (ends c.args.aggressive c.args.flag (seen (met iw pe c.args.e_len.now c.args.nv.now
+      (list_in iw pe len me) e) e))
+      (flip_of me) (word pe e) = λ e. c.count_outside.ensures.starts e
+      ∙ ap (λ xs. cond (ends c.args.aggressive c.args.flag (seen (met iw pe c.args.e_len.now c.args.nv.now xs e) e)) (flip_of me)
+      (word pe e)) list in
+      let a = ap (sum_by (size_of c.args.nv.now))
+      (left_list c.args.aggressive c.args.flag c.requires.laid c.requires.two.0 c.requires.two.1 c.requires.front left ended) in
+      let b = c.requires.few in omega (arith, a, b));
+}
 
-pub renew_all-requires-clause-list : goal.renew_all-requires-clause-list
-renew_all-requires-clause-list g c =
-    let me : ℕ = c.args.me in let iw : List ℤ = c.args.iw.now in let pe : List ℤ = c.args.pe.now in let len : List ℕ = c.args.len.now in
-    let from : c.named-from.result ≡ start pe me = c.named-from.ensures in let count = c.cell_at-count.ensures.is in
-    let list : rows iw c.named-from.result c.cell_at-count.result ≡ list_in iw pe len me = ap
-    (λ s. rows iw s c.cell_at-count.result) from
-    ∙ ap (rows iw (start pe me)) count in
-    let left : List ℤ = c.count_outside.new.pe in
-    let seen : ℕ → ℕ → ℕ = λ m e. counter c.args.flag (num c.args.w.now e) (num c.args.degree.now e) m in
-    let ended : (e : ℕ) → word left e ≡ cond (ends c.args.aggressive c.args.flag (seen (met iw pe c.args.e_len.now c.args.nv.now
-    (list_in iw pe len me) e) e))
-    (flip_of me) (word pe e) = λ e. c.count_outside.ensures.starts e
-    ∙ ap (λ xs. cond (ends c.args.aggressive c.args.flag (seen (met iw pe c.args.e_len.now c.args.nv.now xs e) e)) (flip_of me)
-    (word pe e)) list in
-    ap is_place (left_me c.args.aggressive c.args.flag c.requires.laid c.requires.flag.0 c.requires.flag.1 c.requires.front left ended)
-    ∙ c.requires.list.starts
-
-pub renew_all-requires-clause-apart : goal.renew_all-requires-clause-apart
-renew_all-requires-clause-apart g c =
-    let me : ℕ = c.args.me in let iw : List ℤ = c.args.iw.now in let pe : List ℤ = c.args.pe.now in let len : List ℕ = c.args.len.now in
-    let from : c.named-from.result ≡ start pe me = c.named-from.ensures in let count = c.cell_at-count.ensures.is in
-    let list : rows iw c.named-from.result c.cell_at-count.result ≡ list_in iw pe len me = ap
-    (λ s. rows iw s c.cell_at-count.result) from
-    ∙ ap (rows iw (start pe me)) count in
-    let left : List ℤ = c.count_outside.new.pe in
-    let seen : ℕ → ℕ → ℕ = λ m e. counter c.args.flag (num c.args.w.now e) (num c.args.degree.now e) m in
-    let ended : (e : ℕ) → word left e ≡ cond (ends c.args.aggressive c.args.flag (seen (met iw pe c.args.e_len.now c.args.nv.now
-    (list_in iw pe len me) e) e))
-    (flip_of me) (word pe e) = λ e. c.count_outside.ensures.starts e
-    ∙ ap (λ xs. cond (ends c.args.aggressive c.args.flag (seen (met iw pe c.args.e_len.now c.args.nv.now xs e) e)) (flip_of me)
-    (word pe e)) list in
-    ap (λ xs. has xs me) (left_list c.args.aggressive c.args.flag c.requires.laid c.requires.flag.0 c.requires.flag.1
-    c.requires.front left ended) ∙ c.requires.list.apart
-
-pub renew_all-requires-clause-once : goal.renew_all-requires-clause-once
-renew_all-requires-clause-once g c =
-    let me : ℕ = c.args.me in let iw : List ℤ = c.args.iw.now in let pe : List ℤ = c.args.pe.now in let len : List ℕ = c.args.len.now in
-    let from : c.named-from.result ≡ start pe me = c.named-from.ensures in let count = c.cell_at-count.ensures.is in
-    let list : rows iw c.named-from.result c.cell_at-count.result ≡ list_in iw pe len me = ap
-    (λ s. rows iw s c.cell_at-count.result) from
-    ∙ ap (rows iw (start pe me)) count in
-    let left : List ℤ = c.count_outside.new.pe in
-    let seen : ℕ → ℕ → ℕ = λ m e. counter c.args.flag (num c.args.w.now e) (num c.args.degree.now e) m in
-    let ended : (e : ℕ) → word left e ≡ cond (ends c.args.aggressive c.args.flag (seen (met iw pe c.args.e_len.now c.args.nv.now
-    (list_in iw pe len me) e) e))
-    (flip_of me) (word pe e) = λ e. c.count_outside.ensures.starts e
-    ∙ ap (λ xs. cond (ends c.args.aggressive c.args.flag (seen (met iw pe c.args.e_len.now c.args.nv.now xs e) e)) (flip_of me)
-    (word pe e)) list in
-    subst Once (sym (left_list c.args.aggressive c.args.flag c.requires.laid c.requires.flag.0 c.requires.flag.1 c.requires.front
-    left ended)) c.requires.list.once
-
-pub renew_all-requires-clause-front : goal.renew_all-requires-clause-front
-renew_all-requires-clause-front g c =
-    let me : ℕ = c.args.me in let iw : List ℤ = c.args.iw.now in let pe : List ℤ = c.args.pe.now in let len : List ℕ = c.args.len.now in
-    let from : c.named-from.result ≡ start pe me = c.named-from.ensures in let count = c.cell_at-count.ensures.is in
-    let list : rows iw c.named-from.result c.cell_at-count.result ≡ list_in iw pe len me = ap
-    (λ s. rows iw s c.cell_at-count.result) from
-    ∙ ap (rows iw (start pe me)) count in
-    let left : List ℤ = c.count_outside.new.pe in
-    let seen : ℕ → ℕ → ℕ = λ m e. counter c.args.flag (num c.args.w.now e) (num c.args.degree.now e) m in
-    let ended : (e : ℕ) → word left e ≡ cond (ends c.args.aggressive c.args.flag (seen (met iw pe c.args.e_len.now c.args.nv.now
-    (list_in iw pe len me) e) e))
-    (flip_of me) (word pe e) = λ e. c.count_outside.ensures.starts e
-    ∙ ap (λ xs. cond (ends c.args.aggressive c.args.flag (seen (met iw pe c.args.e_len.now c.args.nv.now xs e) e)) (flip_of me)
-    (word pe e)) list in
-    let counted : (e : ℕ) → num c.count_outside.new.w e
-    ≡ settled c.args.aggressive c.args.flag (seen (met iw pe c.args.e_len.now c.args.nv.now (list_in iw pe len me) e) e) = λ e.
-    c.count_outside.ensures.counted e
-    ∙ ap (λ xs. settled c.args.aggressive c.args.flag (seen (met iw pe c.args.e_len.now c.args.nv.now xs e) e)) list in
-    left_renewable c.args.aggressive c.args.flag c.requires.laid c.requires.flag.0 c.requires.flag.1 c.requires.front left ended
-    c.count_outside.new.w counted
-
-pub renew_all-requires-clause-met : goal.renew_all-requires-clause-met
-renew_all-requires-clause-met g c =
-    let me : ℕ = c.args.me in let iw : List ℤ = c.args.iw.now in let pe : List ℤ = c.args.pe.now in let len : List ℕ = c.args.len.now in
-    let from : c.named-from.result ≡ start pe me = c.named-from.ensures in let count = c.cell_at-count.ensures.is in
-    let list : rows iw c.named-from.result c.cell_at-count.result ≡ list_in iw pe len me = ap
-    (λ s. rows iw s c.cell_at-count.result) from
-    ∙ ap (rows iw (start pe me)) count in
-    let left : List ℤ = c.count_outside.new.pe in
-    let seen : ℕ → ℕ → ℕ = λ m e. counter c.args.flag (num c.args.w.now e) (num c.args.degree.now e) m in
-    let ended : (e : ℕ) → word left e ≡ cond (ends c.args.aggressive c.args.flag (seen (met iw pe c.args.e_len.now c.args.nv.now
-    (list_in iw pe len me) e) e))
-    (flip_of me) (word pe e) = λ e. c.count_outside.ensures.starts e
-    ∙ ap (λ xs. cond (ends c.args.aggressive c.args.flag (seen (met iw pe c.args.e_len.now c.args.nv.now xs e) e)) (flip_of me)
-    (word pe e)) list in
-    let counted : (e : ℕ) → num c.count_outside.new.w e
-    ≡ settled c.args.aggressive c.args.flag (seen (met iw pe c.args.e_len.now c.args.nv.now (list_in iw pe len me) e) e) = λ e.
-    c.count_outside.ensures.counted e
-    ∙ ap (λ xs. settled c.args.aggressive c.args.flag (seen (met iw pe c.args.e_len.now c.args.nv.now xs e) e)) list in
-    left_met c.args.aggressive c.args.flag c.requires.laid c.requires.flag.0 c.requires.flag.1 c.requires.front left ended
-    c.count_outside.new.w counted c.requires.part
-
-pub renew_all-requires-clause-marked : goal.renew_all-requires-clause-marked
-renew_all-requires-clause-marked g c i h =
-    let me : ℕ = c.args.me in let iw : List ℤ = c.args.iw.now in let pe : List ℤ = c.args.pe.now in let len : List ℕ = c.args.len.now in
-    let from : c.named-from.result ≡ start pe me = c.named-from.ensures in let count = c.cell_at-count.ensures.is in
-    let list : rows iw c.named-from.result c.cell_at-count.result ≡ list_in iw pe len me = ap
-    (λ s. rows iw s c.cell_at-count.result) from
-    ∙ ap (rows iw (start pe me)) count in
-    let left : List ℤ = c.count_outside.new.pe in
-    let seen : ℕ → ℕ → ℕ = λ m e. counter c.args.flag (num c.args.w.now e) (num c.args.degree.now e) m in
-    let ended : (e : ℕ) → word left e ≡ cond (ends c.args.aggressive c.args.flag (seen (met iw pe c.args.e_len.now c.args.nv.now
-    (list_in iw pe len me) e) e))
-    (flip_of me) (word pe e) = λ e. c.count_outside.ensures.starts e
-    ∙ ap (λ xs. cond (ends c.args.aggressive c.args.flag (seen (met iw pe c.args.e_len.now c.args.nv.now xs e) e)) (flip_of me)
-    (word pe e)) list in
-    (c.requires.front i (sym (ap (λ xs. has xs i)
-    (left_list c.args.aggressive c.args.flag c.requires.laid c.requires.flag.0 c.requires.flag.1 c.requires.front left ended)) ∙ h)).marked
-
-pub renew_all-requires-clause-few : goal.renew_all-requires-clause-few
-renew_all-requires-clause-few g c =
-    let me : ℕ = c.args.me in let iw : List ℤ = c.args.iw.now in let pe : List ℤ = c.args.pe.now in let len : List ℕ = c.args.len.now in
-    let from : c.named-from.result ≡ start pe me = c.named-from.ensures in let count = c.cell_at-count.ensures.is in
-    let list : rows iw c.named-from.result c.cell_at-count.result ≡ list_in iw pe len me = ap
-    (λ s. rows iw s c.cell_at-count.result) from
-    ∙ ap (rows iw (start pe me)) count in
-    let left : List ℤ = c.count_outside.new.pe in
-    let seen : ℕ → ℕ → ℕ = λ m e. counter c.args.flag (num c.args.w.now e) (num c.args.degree.now e) m in
-    let ended : (e : ℕ) → word left e ≡ cond (ends c.args.aggressive c.args.flag (seen (met iw pe c.args.e_len.now c.args.nv.now
-    (list_in iw pe len me) e) e))
-    (flip_of me) (word pe e) = λ e. c.count_outside.ensures.starts e
-    ∙ ap (λ xs. cond (ends c.args.aggressive c.args.flag (seen (met iw pe c.args.e_len.now c.args.nv.now xs e) e)) (flip_of me)
-    (word pe e)) list in
-    let a = ap (sum_by (size_of c.args.nv.now))
-    (left_list c.args.aggressive c.args.flag c.requires.laid c.requires.flag.0 c.requires.flag.1 c.requires.front left ended) in
-    let b = c.requires.few in omega (arith, a, b)
-
-pub returns-clause-turns : goal.returns-clause-turns
-returns-clause-turns g c =
-    let me : ℕ = c.args.me in let iw : List ℤ = c.args.iw.now in let pe : List ℤ = c.args.pe.now in let len : List ℕ = c.args.len.now in
-    let from : c.named-from.result ≡ start pe me = c.named-from.ensures in let count = c.cell_at-count.ensures.is in
-    let list : rows iw c.named-from.result c.cell_at-count.result ≡ list_in iw pe len me = ap
-    (λ s. rows iw s c.cell_at-count.result) from
-    ∙ ap (rows iw (start pe me)) count in
-    let left : List ℤ = c.count_outside.new.pe in
-    let seen : ℕ → ℕ → ℕ = λ m e. counter c.args.flag (num c.args.w.now e) (num c.args.degree.now e) m in
-    let ended : (e : ℕ) → word left e ≡ cond (ends c.args.aggressive c.args.flag (seen (met iw pe c.args.e_len.now c.args.nv.now
-    (list_in iw pe len me) e) e))
-    (flip_of me) (word pe e) = λ e. c.count_outside.ensures.starts e
-    ∙ ap (λ xs. cond (ends c.args.aggressive c.args.flag (seen (met iw pe c.args.e_len.now c.args.nv.now xs e) e)) (flip_of me)
-    (word pe e)) list in
-    let counted : (e : ℕ) → num c.count_outside.new.w e
-    ≡ settled c.args.aggressive c.args.flag (seen (met iw pe c.args.e_len.now c.args.nv.now (list_in iw pe len me) e) e) = λ e.
-    c.count_outside.ensures.counted e
-    ∙ ap (λ xs. settled c.args.aggressive c.args.flag (seen (met iw pe c.args.e_len.now c.args.nv.now xs e) e)) list in
-    let long = c.count_outside.ensures.long.0 in
-    record {
-      left = left;
-      links = (lasts c.count_outside.new.sides);
-      counted = counted;
-      ended = ended;
-      renewed = subst (λ n. RenewsFront n me (is_kept c.count_outside.new.w) (is_outside c.args.nv.now)
-          (λ e. num c.count_outside.new.w e - c.args.flag) (list_in iw pe len me) c.args.free iw left c.args.e_len.now c.args.nv.now len
-          c.args.degree.now (lasts c.count_outside.new.sides) c.renew_all.new.iw c.renew_all.new.pe c.renew_all.new.e_len c.renew_all.new.nv
-          c.renew_all.new.len c.renew_all.new.degree (lasts c.renew_all.new.sides) c.renew_all.result) long
-          (subst (λ xs. RenewsFront (length c.count_outside.new.w) me (is_kept c.count_outside.new.w) (is_outside c.args.nv.now)
-          (λ e. num c.count_outside.new.w e - c.args.flag) xs c.args.free iw left c.args.e_len.now c.args.nv.now len
-          c.args.degree.now (lasts c.count_outside.new.sides) c.renew_all.new.iw c.renew_all.new.pe c.renew_all.new.e_len c.renew_all.new.nv
-          c.renew_all.new.len c.renew_all.new.degree (lasts c.renew_all.new.sides) c.renew_all.result)
-          (left_list c.args.aggressive c.args.flag c.requires.laid c.requires.flag.0 c.requires.flag.1 c.requires.front left
-          ended) c.renew_all.ensures.renews);
-    }
-
-pub returns-clause-linked : goal.returns-clause-linked
-returns-clause-linked g c lists member h =
-    let me : ℕ = c.args.me in let iw : List ℤ = c.args.iw.now in let pe : List ℤ = c.args.pe.now in let len : List ℕ = c.args.len.now in
-    let from : c.named-from.result ≡ start pe me = c.named-from.ensures in let count = c.cell_at-count.ensures.is in
-    let list : rows iw c.named-from.result c.cell_at-count.result ≡ list_in iw pe len me = ap
-    (λ s. rows iw s c.cell_at-count.result) from
-    ∙ ap (rows iw (start pe me)) count in
-    let left : List ℤ = c.count_outside.new.pe in
-    let seen : ℕ → ℕ → ℕ = λ m e. counter c.args.flag (num c.args.w.now e) (num c.args.degree.now e) m in
-    let ended : (e : ℕ) → word left e ≡ cond (ends c.args.aggressive c.args.flag (seen (met iw pe c.args.e_len.now c.args.nv.now
-    (list_in iw pe len me) e) e))
-    (flip_of me) (word pe e) = λ e. c.count_outside.ensures.starts e
-    ∙ ap (λ xs. cond (ends c.args.aggressive c.args.flag (seen (met iw pe c.args.e_len.now c.args.nv.now xs e) e)) (flip_of me)
-    (word pe e)) list in
-    let long = c.count_outside.ensures.long.0 in
-    let out = c.count_outside.ensures.linked lists (λ i m. member i (sym (ap (λ xs. has xs i) list) ∙ m)) h in
-    let same = left_list c.args.aggressive c.args.flag c.requires.laid c.requires.flag.0 c.requires.flag.1 c.requires.front left ended in
-    let turned = subst (λ n. RenewsFront n me (is_kept c.count_outside.new.w) (is_outside c.args.nv.now)
-    (λ e. num c.count_outside.new.w e - c.args.flag) (list_in iw left len me) c.args.free iw left c.args.e_len.now c.args.nv.now len
-    c.args.degree.now (lasts c.count_outside.new.sides) c.renew_all.new.iw c.renew_all.new.pe c.renew_all.new.e_len c.renew_all.new.nv
-    c.renew_all.new.len c.renew_all.new.degree (lasts c.renew_all.new.sides) c.renew_all.result) long c.renew_all.ensures.renews in
-    rw c.renew_all.ensures.nexts
-    (subst (λ xs. DegreeLists (length c.args.w.now) c.count_outside.new.head (nexts c.count_outside.new.sides) (lasts c.renew_all.new.sides)
-    c.renew_all.new.degree
-    (λ d. filter (λ j. not (has xs j)) (lists d))) same
-    (others_linked c.count_outside.new.head (nexts c.count_outside.new.sides) lists turned
-    (subst (λ xs. DegreeLists (length c.args.w.now) c.count_outside.new.head (nexts c.count_outside.new.sides)
-    (lasts c.count_outside.new.sides)
-    c.args.degree.now
-    (λ d. filter (λ j. not (has xs j)) (lists d))) (list ∙ sym same) out)))
-
-pub returns-clause-more_lengths : goal.returns-clause-more_lengths
-returns-clause-more_lengths g c = (
-  c.renew_all.auto.pe ∙ c.count_outside.auto.pe ∙ c.requires.lengths.0.0,
-  lasts_same _ _ c.renew_all.auto.sides ∙ lasts_same _ _ c.count_outside.auto.sides ∙ c.requires.more_lengths.2,
-)
+pub returns : goal.returns
+returns g c = record {
+  turns = (let me : ℕ = c.args.me in let iw : List ℤ = c.args.iw.now in let pe : List ℤ = c.args.pe.now in let len : List ℕ = c.args.len.now in
+      let from : c.named-from.result ≡ start pe me = c.named-from.ensures in let count = c.cell_at-count.ensures.is in
+      let list : rows iw c.named-from.result c.cell_at-count.result ≡ list_in iw pe len me = ap
+      (λ s. rows iw s c.cell_at-count.result) from
+      ∙ ap (rows iw (start pe me)) count in
+      let left : List ℤ = c.count_outside.new.pe in
+      let seen : ℕ → ℕ → ℕ = λ m e. counter c.args.flag (num c.args.w.now e) (num c.args.degree.now e) m in
+      let ended : (e : ℕ) → word left e ≡ cond (ends c.args.aggressive c.args.flag (seen (met iw pe c.args.e_len.now c.args.nv.now
+      (list_in iw pe len me) e) e))
+      (flip_of me) (word pe e) = λ e. c.count_outside.ensures.starts e
+      ∙ ap (λ xs. cond (ends c.args.aggressive c.args.flag (seen (met iw pe c.args.e_len.now c.args.nv.now xs e) e)) (flip_of me)
+      (word pe e)) list in
+      let counted : (e : ℕ) → num c.count_outside.new.w e
+      ≡ settled c.args.aggressive c.args.flag (seen (met iw pe c.args.e_len.now c.args.nv.now (list_in iw pe len me) e) e) = λ e.
+      c.count_outside.ensures.counted e
+      ∙ ap (λ xs. settled c.args.aggressive c.args.flag (seen (met iw pe c.args.e_len.now c.args.nv.now xs e) e)) list in
+      let long = c.count_outside.ensures.long.0 in
+      record {
+        left = left;
+        links = (lasts c.count_outside.new.sides);
+        counted = counted;
+        ended = ended;
+        renewed = subst (λ n. RenewsFront n me (is_kept c.count_outside.new.w) (is_outside c.args.nv.now)
+            (λ e. num c.count_outside.new.w e - c.args.flag) (list_in iw pe len me) c.args.free iw left c.args.e_len.now c.args.nv.now len
+            c.args.degree.now (lasts c.count_outside.new.sides) c.renew_all.new.iw c.renew_all.new.pe c.renew_all.new.e_len c.renew_all.new.nv
+            c.renew_all.new.len c.renew_all.new.degree (lasts c.renew_all.new.sides) c.renew_all.result) long
+            (subst (λ xs. RenewsFront (length c.count_outside.new.w) me (is_kept c.count_outside.new.w) (is_outside c.args.nv.now)
+            (λ e. num c.count_outside.new.w e - c.args.flag) xs c.args.free iw left c.args.e_len.now c.args.nv.now len
+            c.args.degree.now (lasts c.count_outside.new.sides) c.renew_all.new.iw c.renew_all.new.pe c.renew_all.new.e_len c.renew_all.new.nv
+            c.renew_all.new.len c.renew_all.new.degree (lasts c.renew_all.new.sides) c.renew_all.result)
+            (left_list c.args.aggressive c.args.flag c.requires.laid c.requires.two.0 c.requires.two.1 c.requires.front left
+            ended) c.renew_all.ensures.renews);
+      });
+  linked = (λ lists member h. let me : ℕ = c.args.me in let iw : List ℤ = c.args.iw.now in let pe : List ℤ = c.args.pe.now in let len : List ℕ = c.args.len.now in
+      let from : c.named-from.result ≡ start pe me = c.named-from.ensures in let count = c.cell_at-count.ensures.is in
+      let list : rows iw c.named-from.result c.cell_at-count.result ≡ list_in iw pe len me = ap
+      (λ s. rows iw s c.cell_at-count.result) from
+      ∙ ap (rows iw (start pe me)) count in
+      let left : List ℤ = c.count_outside.new.pe in
+      let seen : ℕ → ℕ → ℕ = λ m e. counter c.args.flag (num c.args.w.now e) (num c.args.degree.now e) m in
+      let ended : (e : ℕ) → word left e ≡ cond (ends c.args.aggressive c.args.flag (seen (met iw pe c.args.e_len.now c.args.nv.now
+      (list_in iw pe len me) e) e))
+      (flip_of me) (word pe e) = λ e. c.count_outside.ensures.starts e
+      ∙ ap (λ xs. cond (ends c.args.aggressive c.args.flag (seen (met iw pe c.args.e_len.now c.args.nv.now xs e) e)) (flip_of me)
+      (word pe e)) list in
+      let long = c.count_outside.ensures.long.0 in
+      let out = c.count_outside.ensures.linked lists (λ i m. member i (sym (ap (λ xs. has xs i) list) ∙ m)) h in
+      let same = left_list c.args.aggressive c.args.flag c.requires.laid c.requires.two.0 c.requires.two.1 c.requires.front left ended in
+      let turned = subst (λ n. RenewsFront n me (is_kept c.count_outside.new.w) (is_outside c.args.nv.now)
+      (λ e. num c.count_outside.new.w e - c.args.flag) (list_in iw left len me) c.args.free iw left c.args.e_len.now c.args.nv.now len
+      c.args.degree.now (lasts c.count_outside.new.sides) c.renew_all.new.iw c.renew_all.new.pe c.renew_all.new.e_len c.renew_all.new.nv
+      c.renew_all.new.len c.renew_all.new.degree (lasts c.renew_all.new.sides) c.renew_all.result) long c.renew_all.ensures.renews in
+      rw c.renew_all.ensures.links
+      (subst (λ xs. DegreeLists (length c.args.w.now) c.count_outside.new.head (nexts c.count_outside.new.sides) (lasts c.renew_all.new.sides)
+      c.renew_all.new.degree
+      (λ d. filter (λ j. not (has xs j)) (lists d))) same
+      (others_linked c.count_outside.new.head (nexts c.count_outside.new.sides) lists turned
+      (subst (λ xs. DegreeLists (length c.args.w.now) c.count_outside.new.head (nexts c.count_outside.new.sides)
+      (lasts c.count_outside.new.sides)
+      c.args.degree.now
+      (λ d. filter (λ j. not (has xs j)) (lists d))) (list ∙ sym same) out))));
+  lengths = ((
+    c.count_outside.ensures.long.0,
+    c.count_outside.auto.head,
+    nexts_same _ _ (c.renew_all.auto.sides ∙ c.count_outside.auto.sides),
+  ));
+  more_lengths = ((
+    c.renew_all.auto.pe ∙ c.count_outside.auto.pe ∙ c.requires.lengths.0.0,
+    lasts_same _ _ c.renew_all.auto.sides ∙ lasts_same _ _ c.count_outside.auto.sides ∙ c.requires.more_lengths.2,
+  ));
+}
 
 pub named-from-requires-clause-inside : goal.named-from-requires-clause-inside
-named-from-requires-clause-inside g c = lt_of_lt_of_le c.requires.me.0 (le_of_eq (sym c.requires.lengths.0.0))
+named-from-requires-clause-inside g c = lt_of_lt_of_le c.requires.row.0 (le_of_eq (sym c.requires.lengths.0.0))
 
 pub named-from-requires-clause-is_one : goal.named-from-requires-clause-is_one
 named-from-requires-clause-is_one g c = c.requires.list.starts
 
 pub cell_at-count-requires : goal.cell_at-count-requires
-cell_at-count-requires g c = lt_of_lt_of_le c.requires.me.0 (le_of_eq (sym c.requires.lengths.1))
-
-pub renew_all-requires-clause-lengths : goal.renew_all-requires-clause-lengths
-renew_all-requires-clause-lengths g c =
-    let l = c.requires.lengths in let w = sym c.count_outside.ensures.long.0 in
-    (c.count_outside.auto.pe ∙ l.0.0 ∙ w, l.0.1 ∙ w, l.1 ∙ w, l.0.2 ∙ w)
-
-pub renew_all-requires-clause-more_lengths : goal.renew_all-requires-clause-more_lengths
-renew_all-requires-clause-more_lengths g c = let w = sym c.count_outside.ensures.long.0 in
-    (c.requires.lengths.0.3 ∙ w, lasts_same _ _ c.count_outside.auto.sides ∙ c.requires.more_lengths.2 ∙ w)
-
-pub renew_all-requires-clause-short : goal.renew_all-requires-clause-short
-renew_all-requires-clause-short g c = c.requires.narrow.0
-
-pub renew_all-requires-clause-narrow : goal.renew_all-requires-clause-narrow
-renew_all-requires-clause-narrow g c =
-    (c.requires.narrow.1, le_trans (le_of_eq c.count_outside.ensures.long.0) c.requires.narrow.2)
-
-pub renew_all-requires-clause-end : goal.renew_all-requires-clause-end
-renew_all-requires-clause-end g c = c.requires.end
-
-pub renew_all-requires-clause-me : goal.renew_all-requires-clause-me
-renew_all-requires-clause-me g c =
-    (lt_of_lt_of_le c.requires.me.0 (le_of_eq (sym c.count_outside.ensures.long.0)), c.requires.me.1)
-
-pub returns-clause-lengths : goal.returns-clause-lengths
-returns-clause-lengths g c = (
-  c.count_outside.ensures.long.0,
-  c.count_outside.auto.head,
-  nexts_same _ _ (c.renew_all.auto.sides ∙ c.count_outside.auto.sides),
-)
+cell_at-count-requires g c = lt_of_lt_of_le c.requires.row.0 (le_of_eq (sym c.requires.lengths.1))

@@ -7,20 +7,31 @@ use Rattle.amd_lists.specs.Layout.{elements_in}
 use Rattle.amd_elements.specs.Beginning.{Begins}
 use Rattle.amd_rounds.proofs.pivot.begin_in_place.Goals as goal
 
-pub begin_own_lent-begun-requires-clause-few : goal.begin_own_lent-begun-requires-clause-few
+pub begin_own-begun-requires : goal.begin_own-begun-requires
 unfolding place rows has
-begin_own_lent-begun-requires-clause-few g c =
-    let p = c.args.work.now in
+begin_own-begun-requires g c =
+    let p = c.args.work.now in let laid = c.requires.laid.1 in let s = laid.sized in
     let zero : place (word p.e_len.now c.args.me) ≡ 0 = ap place c.requires.count in
     let few = c.requires.pivot.few in let wide = c.requires.wide in
     let same = ap (λ m. sum_by (size_of p.nv.now) (front_of p.iw.now p.nv.now p.pe.now p.len.now c.args.me m)) zero in
-    omega (arith, few, wide, same)
+    record {
+      pivot = record {
+        lengths = (s.pe, s.e_len, s.len);
+        end = laid.end;
+        laid = laid.laid;
+        row = (c.requires.pivot.row, c.requires.pivot.class);
+        listed = (laid.classes c.args.me c.requires.pivot.class).0;
+        clear = laid.clear;
+      };
+      count = c.requires.count;
+      few = omega (arith, few, wide, same);
+    }
 
 pub returns : goal.returns
 unfolding place rows has
 returns g c =
-    let p = c.args.work.now in let me : ℕ = c.args.me in let v = c.begin_own_lent-begun.new in
-    let told = c.begin_own_lent-begun.ensures in let s = c.requires.laid.1.sized in
+    let p = c.args.work.now in let me : ℕ = c.args.me in let v = c.begin_own-begun.new in
+    let told = c.begin_own-begun.ensures in let s = c.requires.laid.1.sized in
     let zero : place (word p.e_len.now me) ≡ 0 = ap place c.requires.count in
     let front : List ℕ = front_of p.iw.now p.nv.now p.pe.now p.len.now me 0 in
     let none : [] ≡ elements_in p.iw.now p.pe.now p.e_len.now me = sym (ap (rows p.iw.now (start p.pe.now me)) zero) in
@@ -29,9 +40,9 @@ returns g c =
       begins = record {
         front = front;
         front_is = sym (ap (front_of p.iw.now p.nv.now p.pe.now p.len.now me) zero);
-        begins = subst (λ xs. Begins (length p.nv.now) me xs front c.begin_own_lent-begun.result.total p.iw.now p.nv.now p.pe.now
+        begins = subst (λ xs. Begins (length p.nv.now) me xs front c.begin_own-begun.result.total p.iw.now p.nv.now p.pe.now
             p.e_len.now p.len.now v.iw v.nv v.pe v.e_len v.len p.free) none
-            (subst (λ f. Begins (length p.nv.now) me [] front c.begin_own_lent-begun.result.total p.iw.now p.nv.now p.pe.now
+            (subst (λ f. Begins (length p.nv.now) me [] front c.begin_own-begun.result.total p.iw.now p.nv.now p.pe.now
             p.e_len.now p.len.now v.iw v.nv v.pe v.e_len v.len f) told.stays.0 begins);
         counters = λ e. ap (λ xs. cond (has xs e) 0 (num p.w.now e)) none;
         built_is = sym (ap (nat_lt 0) zero);

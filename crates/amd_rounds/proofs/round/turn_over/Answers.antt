@@ -1,18 +1,35 @@
 use Rattle.std.proofs.Common.{ℕ, List, ◌≡◌, refl, sym, subst, ◌∙◌, arith, length, filter, not}
 use Rattle.amd_words.specs.Sides.{nexts, lasts}
 use Rattle.amd_model.specs.Quotient.{has}
-use Rattle.amd_lists.specs.Layout.{list_in}
+use Rattle.std.proofs.Common.{rules}
+use Rattle.amd_lists.specs.Layout.{list_in, Layout}
 use Rattle.amd_fronts.specs.Turning.{IsTurning, TurnsFront}
 use Rattle.amd_lists.specs.Chains.{DegreeLists}
 use Rattle.amd_rounds.proofs.Begun.{turning_zeros}
 use Rattle.amd_rounds.proofs.round.turn_over.Goals as goal
 
-pub turn-requires-clause-front : goal.turn-requires-clause-front
-turn-requires-clause-front g c i h =
-    let p = c.args.work.now in
-    subst (λ n. IsTurning n c.args.me (list_in p.iw.now p.pe.now p.len.now c.args.me) p.iw.now p.pe.now p.e_len.now p.nv.now p.len.now
-    p.degree.now c.renew_flag-flag.new.w i) (sym (c.renew_flag-flag.ensures.long ∙ c.requires.sized.w))
-    (turning_zeros c.renew_flag-flag.ensures.zeros (c.requires.front.classes i h))
+pub turn-requires : goal.turn-requires
+turn-requires g c =
+    let p = c.args.work.now in let s = c.requires.sized in let h = c.requires.front in let f = h.front in
+    let wide = c.requires.wide in let flag = c.renew_flag-flag.ensures in
+    let long : length c.renew_flag-flag.new.w ≡ length p.nv.now = flag.long ∙ s.w in
+    let w : length p.nv.now ≡ length c.renew_flag-flag.new.w = sym long in
+    record {
+      lengths = ((s.pe ∙ w, s.e_len ∙ w, w, s.degree ∙ w), s.len ∙ w);
+      more_lengths = (s.head ∙ w, s.next ∙ w, s.last ∙ w);
+      narrow = (wide.0, (let a = wide.3 in omega (arith, a, long)));
+      end = f.end;
+      laid = subst (λ n. Layout n p.iw.now p.pe.now p.e_len.now p.len.now p.free) w f.laid;
+      row = (let a = f.row in let b = wide.2 in ((omega (arith, a, long)), (omega (arith, a, b))));
+      list = record { starts = f.starts; within = f.within; apart = f.apart; once = f.once };
+      front = λ i m. subst (λ n. IsTurning n c.args.me (list_in p.iw.now p.pe.now p.len.now c.args.me) p.iw.now p.pe.now
+          p.e_len.now p.nv.now p.len.now p.degree.now c.renew_flag-flag.new.w i) w
+          (turning_zeros flag.zeros (h.classes i m));
+      few = (let a = h.few in let b = wide.2 in omega (arith, a, b));
+      two = (flag.two, flag.under);
+      fits = λ e m. let a = h.degrees e in let r = flag.room in let b = s.w in omega (arith, a, r, b);
+      part = search rules;
+    }
 
 pub returns : goal.returns
 returns g c =

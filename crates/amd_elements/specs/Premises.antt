@@ -1,0 +1,125 @@
+-- What the parts of making an element ask of a workspace. The greatest word and the greatest figure are given where
+-- something is to be written.
+use Rattle.std.specs.Prelude.{ℕ, ℤ, pos, true, false, List, ◌≡◌, ◌<◌, ◌≤◌, ◌+◌, ◌-◌, ◌^◌, length, sum_by}
+use Rattle.amd_model.specs.Quotient.{has}
+use Rattle.amd_words.specs.Words.{num, word, place, is_place, start, size_of, in_front, classes, rows, Names}
+use Rattle.amd_lists.specs.Lengths.{AreWide}
+use Rattle.amd_lists.specs.Layout.{has_list, elements_in, Layout, live_words}
+use Rattle.amd_elements.specs.Element.{grown, front_of, ListsLaid}
+use Rattle.amd_elements.specs.Compaction.{Spaced}
+use Rattle.amd_elements.specs.Pivots.{built_front, HasElements}
+
+-- the list of the class me is one of those laid in the workspace, and no class is marked
+pub record IsPivot (me : ℕ) (iw nv pe e_len : List ℤ) (len : List ℕ) (free : ℕ) : Type 0 where
+  pub lengths : (length pe ≡ length nv) × (length e_len ≡ length nv) × (length len ≡ length nv)
+  pub end : free ≤ length iw
+  pub laid : Layout (length nv) iw pe e_len len free
+  pub row : (me < length nv) × (0 < size_of nv me)
+  pub listed : has_list pe len me ≡ true
+  pub clear : (j : ℕ) → in_front nv j ≡ false
+
+-- a pivot that lists no element, whose front is small enough for a mark
+pub record CanBeginOwn (most_word me : ℕ) (iw nv pe e_len : List ℤ) (len : List ℕ) (free : ℕ) : Type 0 where
+  pub pivot : IsPivot me iw nv pe e_len len free
+  pub count : word e_len me ≡ pos 0
+  pub few : sum_by (size_of nv) (front_of iw nv pe len me 0) + 2 ≤ most_word
+
+-- a pivot that may list elements, in a workspace that has room for all live words and n others
+pub record CanMakeRoom (most_word me : ℕ) (iw nv pe e_len : List ℤ) (len : List ℕ) (free : ℕ) : Type 0 where
+  pub pivot : IsPivot me iw nv pe e_len len free
+  pub wide : AreWide most_word (length nv) iw
+  pub room : live_words (length nv) pe len + length nv ≤ length iw
+  pub count : is_place (word e_len me) ≡ true
+  pub elements : (e : ℕ) → has (elements_in iw pe e_len me) e ≡ true → has_list pe len e ≡ true
+
+-- a pivot that lists elements, whose new element has room behind all lists
+pub record CanMakeElement (most_word most_figure me : ℕ) (iw nv pe e_len : List ℤ) (len w : List ℕ) (free : ℕ) : Type 0
+  where
+    pub pivot : IsPivot me iw nv pe e_len len free
+    pub counters : length w ≡ length nv
+    pub wide : AreWide most_word (length nv) iw
+    pub figures : length iw ≤ most_figure
+    pub count : is_place (word e_len me) ≡ true
+    pub elements : HasElements iw pe e_len len me
+    pub fits : free + length (built_front iw nv pe e_len len me) ≤ length iw
+    pub few : sum_by (size_of nv) (built_front iw nv pe e_len len me) + 2 ≤ most_word
+
+-- so it is, or will be once the lists are packed
+pub record CanBeginBuilt (most_word most_figure me : ℕ) (iw nv pe e_len : List ℤ) (len w : List ℕ) (free : ℕ) : Type 0
+  where
+    pub pivot : IsPivot me iw nv pe e_len len free
+    pub counters : length w ≡ length nv
+    pub wide : AreWide most_word (length nv) iw
+    pub figures : length iw ≤ most_figure
+    pub room : live_words (length nv) pe len + length nv ≤ length iw
+    pub count : is_place (word e_len me) ≡ true
+    pub elements : HasElements iw pe e_len len me
+    pub few : sum_by (size_of nv) (built_front iw nv pe e_len len me) + 2 ≤ most_word
+
+-- the lists around the class me, which lists n_elements elements, stand before `free`
+pub record HasLists (me n_elements : ℕ) (iw nv pe : List ℤ) (len : List ℕ) (free : ℕ) : Type 0 where
+  pub lengths : (length pe ≡ length nv) × (length len ≡ length nv)
+  pub elements : n_elements ≤ num len me
+  pub laid : ListsLaid iw pe len (length nv) free me n_elements
+
+-- so they do, and no class is marked
+pub record IsAround (me n_elements : ℕ) (iw nv pe : List ℤ) (len : List ℕ) (free : ℕ) : Type 0 where
+  pub lists : HasLists me n_elements iw nv pe len free
+  pub pivot : (me < length nv) × (0 < size_of nv me)
+  pub clear : (j : ℕ) → in_front nv j ≡ false
+
+-- and there is room for the list of the new element from `free` on
+pub record CanBuild (me n_elements : ℕ) (iw nv pe : List ℤ) (len : List ℕ) (free : ℕ) : Type 0 where
+  pub around : IsAround me n_elements iw nv pe len free
+  pub end : free ≤ length iw
+  pub fits : free + length (front_of iw nv pe len me n_elements) ≤ length iw
+  pub few : sum_by (size_of nv) (front_of iw nv pe len me n_elements) < 2 ^ 63
+
+-- count words stand before the list that is gathered from `start` to `free`; its rows are those of the front so far, and
+-- there is room for what is added to them
+pub record CanGather (iw nv : List ℤ) (from count start free total : ℕ) : Type 0 where
+  pub source : from + count ≤ start
+  pub order : start ≤ free
+  pub end : free ≤ length iw
+  pub names : Names (length nv) iw from count
+  pub made : Names (length nv) iw start (free - start)
+  pub known : (j : ℕ) → has (rows iw start (free - start)) j ≡ true → in_front nv j ≡ true
+  pub total_is : total ≡ sum_by (size_of nv) (rows iw start (free - start))
+  pub fits : start + length (grown iw nv start free (classes nv (rows iw from count))) ≤ length iw
+  pub few : sum_by (size_of nv) (grown iw nv start free (classes nv (rows iw from count))) < 2 ^ 63
+
+-- count words name elements, which the row me can absorb
+pub record CanAbsorb (most_word me : ℕ) (iw pe : List ℤ) (w : List ℕ) (from count : ℕ) : Type 0 where
+  pub inside : from + count ≤ length iw
+  pub lengths : length w ≡ length pe
+  pub names : Names (length pe) iw from count
+  pub small : me + 2 ≤ most_word
+
+-- the words from one place to another can be the list of the row me, with so many rows
+pub record CanSettle (most_word most_figure me from end total : ℕ) (pe e_len : List ℤ) (len : List ℕ) : Type 0 where
+  pub row : (me < length pe) × (me < length e_len) × (me < length len)
+  pub order : (from ≤ end) × (from ≤ most_word)
+  pub few : total + 2 ≤ most_word
+  pub fits : end - from ≤ most_figure
+
+-- the list of the row j can lend its first word to a mark
+pub record CanMark (most_word j : ℕ) (iw pe : List ℤ) : Type 0 where
+  pub row : j < length pe
+  pub small : j + 2 ≤ most_word
+  pub is_one : is_place (word pe j) ≡ true
+  pub inside : start pe j < length iw
+
+-- the list of the row j can move down
+pub record CanMove (most_word j : ℕ) (iw pe : List ℤ) (from to count : ℕ) : Type 0 where
+  pub row : j < length pe
+  pub some : 0 < count
+  pub inside : from + count ≤ length iw
+  pub down : to ≤ from
+  pub small : to ≤ most_word
+
+-- all lists can move down
+pub record CanCompact (most_word : ℕ) (iw pe : List ℤ) (len : List ℕ) (free : ℕ) : Type 0 where
+  pub lengths : length pe ≡ length len
+  pub wide : AreWide most_word (length len) iw
+  pub end : free ≤ length iw
+  pub layout : Spaced iw pe len free
