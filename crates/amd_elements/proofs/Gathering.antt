@@ -1,6 +1,6 @@
 -- A list that grows behind the others: steps, and what they come to.
 use Rattle.amd_model.proofs.Counting.Below.{clash}
-use Rattle.std.proofs.Common.{ℕ, ℤ, Bool, true, false, List, [], ◌∷◌, ◌++◌, ◌≡◌, ◌<◌, ◌≤◌, ◌+◌, ◌-◌, ◌&&◌, ◌||◌, not, cond, inl, inr, refl}
+use Rattle.std.proofs.Common.{ℕ, ℤ, Bool, true, false, List, [], ◌∷◌, ◌++◌, ◌≡◌, ◌<◌, ◌≤◌, ◌+◌, ◌-◌, ◌&&◌, ◌||◌, not, inl, inr, refl}
 use Rattle.std.proofs.Common.{sym}
 use Rattle.std.proofs.Common.{subst, ap, ◌∙◌, arith, append_assoc, length, fold, sum_by, pos, set, length-set, get_or-set_same}
 use Rattle.std.proofs.Common.{get_or-set_other, append-nil}
@@ -9,14 +9,13 @@ use Rattle.std.proofs.Math.Bool.{or_assoc, or-false}
 use Rattle.std.proofs.lemmas.Bool.{cases_Bool, cases_eq, ne_eqb, and_parts, not-true, or_left, or_right, or_cases, or_from, or_parts}
 use Rattle.std.proofs.lemmas.List.{length-append}
 use Rattle.std.proofs.lemmas.List.Sums.{fold-append, fold_push, sum_by-append, sum_by-cons}
-use Rattle.std.proofs.lemmas.List.Elements.{filter-append}
 use Rattle.amd_model.specs.Quotient.{has, add_new}
 use Rattle.amd_model.proofs.Quotient.Lists.{add_old, add_fresh, has_append}
 use Rattle.amd_round_laws.proofs.Lists.Added.{adds_marks}
 use Rattle.amd_words.specs.Words.{is_place, place, word, size_of, in_front, classes, rows, Names}
 use Rattle.amd_elements.specs.Element.{grown, Gathers}
 use Rattle.amd_words.proofs.Classes.{classes_split}
-use Rattle.amd_words.proofs.RowLists.{rows_more, rows_same, rows_both, rows_length}
+use Rattle.amd_words.proofs.RowLists.{rows_more, rows_same, rows_length}
 
 add_none : (n : ℕ) → n + 0 ≡ n
 add_none n = omega arith

@@ -2,7 +2,7 @@
 -- something is to be written.
 use Rattle.std.specs.Prelude.{ℕ, ℤ, pos, true, false, List, ◌≡◌, ◌<◌, ◌≤◌, ◌+◌, ◌-◌, ◌^◌, length, sum_by}
 use Rattle.amd_model.specs.Quotient.{has}
-use Rattle.amd_words.specs.Words.{num, word, place, is_place, start, size_of, in_front, classes, rows, Names}
+use Rattle.amd_words.specs.Words.{num, word, is_place, start, size_of, in_front, classes, rows, Names}
 use Rattle.amd_lists.specs.Lengths.{AreWide}
 use Rattle.amd_lists.specs.Layout.{has_list, elements_in, Layout, live_words}
 use Rattle.amd_elements.specs.Element.{grown, front_of, ListsLaid}

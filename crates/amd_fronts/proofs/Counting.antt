@@ -1,13 +1,11 @@
 -- Counters: a class that is met, and the classes of a front.
-use Rattle.amd_model.proofs.Counting.Below.{clash}
-use Rattle.std.proofs.Common.{ℕ, ℤ, Bool, true, false, List, [], ◌∷◌, ◌++◌, ◌≡◌, ◌<◌, ◌≤◌, ◌+◌, ◌-◌}
+use Rattle.std.proofs.Common.{ℕ, ℤ, Bool, true, false, List, [], ◌∷◌, ◌≡◌, ◌<◌, ◌≤◌, ◌+◌, ◌-◌}
 use Rattle.std.proofs.Common.{◌&&◌, cond, inl, inr, refl, sym, ap, ◌∙◌}
-use Rattle.std.proofs.Common.{arith, append_assoc, sum_by}
+use Rattle.std.proofs.Common.{arith, sum_by}
 use Rattle.std.specs.Prelude.{◌==◌}
-use Rattle.std.proofs.lemmas.Bool.{cases_Bool, eq-eqb, ne_eqb, cond-true, cond-false, or_parts, or_from, and_right}
+use Rattle.std.proofs.lemmas.Bool.{cases_Bool, ne_eqb, cond-true, cond-false, and_right}
 use Rattle.std.proofs.lemmas.List.Sums.{sum_by-append, sum_by-cons}
-use Rattle.amd_model.specs.Quotient.{has, Once}
-use Rattle.amd_model.proofs.Quotient.Lists.{has_append}
+use Rattle.amd_model.specs.Quotient.{has}
 use Rattle.amd_model.proofs.Listings.Words.{has_head, has_tail}
 use Rattle.amd_words.specs.Words.{num, word, place, rows, size_of, flip_of}
 use Rattle.amd_fronts.specs.Counts.{touched, ends, settled, counter}

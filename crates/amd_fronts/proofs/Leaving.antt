@@ -1,12 +1,12 @@
 -- The classes of a front leave the lists by bound, one after another.
-use Rattle.std.proofs.Common.{ℕ, ℤ, Bool, true, false, List, ◌≡◌, ◌<◌, ◌≤◌, ◌+◌, ◌-◌, ◌||◌, ◌&&◌, not, inl}
+use Rattle.std.proofs.Common.{ℕ, ℤ, Bool, true, false, List, ◌≡◌, ◌≤◌, ◌+◌, ◌-◌, ◌||◌, ◌&&◌, not, inl}
 use Rattle.std.proofs.Common.{inr, refl, sym, subst, ap, ◌∙◌, filter, length}
 use Rattle.std.specs.Prelude.{◌==◌}
 use Rattle.std.proofs.lemmas.Bool.{cases_eq, eq-eqb, ne_eqb, not_from_false}
 use Rattle.amd_model.specs.Quotient.{has, Once}
 use Rattle.amd_round_laws.proofs.Lists.Named.{filter_named, filter_all, filter_both}
-use Rattle.amd_words.specs.Words.{num, word, place, is_place, rows, Names}
-use Rattle.amd_lists.specs.Chains.{Chain, Back, DegreeLists, without}
+use Rattle.amd_words.specs.Words.{word, place, is_place, rows, Names}
+use Rattle.amd_lists.specs.Chains.{without}
 use Rattle.amd_fronts.specs.Counts.{IsListed}
 use Rattle.amd_words.proofs.WordMarks.{rows_start, rows_next}
 

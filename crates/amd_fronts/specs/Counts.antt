@@ -1,8 +1,8 @@
 -- The rows of elements outside a front, counted in one list of numbers with a flag: 0 stands for what is no standing
 -- element, and before a count each number is below the flag.
-use Rattle.std.specs.Prelude.{ℕ, ℤ, Bool, true, List, ◌≡◌, ◌<◌, ◌≤◌, ◌+◌, ◌-◌, ◌==◌, ◌&&◌, nat_le, cond, length, sum_by}
-use Rattle.amd_model.specs.Quotient.{has, Once}
-use Rattle.amd_words.specs.Words.{is_place, place, word, start, size_of, in_front, rows, Names}
+use Rattle.std.specs.Prelude.{ℕ, ℤ, Bool, true, List, ◌≡◌, ◌<◌, ◌≤◌, ◌+◌, ◌-◌, ◌==◌, ◌&&◌, nat_le, cond, length}
+use Rattle.amd_model.specs.Quotient.{Once}
+use Rattle.amd_words.specs.Words.{is_place, place, word, start, size_of, in_front, Names}
 use Rattle.amd_lists.specs.Layout.{elements_in}
 
 -- the counter of an element when a class of `more` rows is met that it holds: `all` is the number of rows of its border

@@ -6,7 +6,7 @@ use Rattle.amd_words.specs.Sides.{nexts, lasts}
 use Rattle.amd_words.specs.Words.{num, word, flip_of, size_of}
 use Rattle.amd_lists.specs.Lengths.{KeepsLinks}
 use Rattle.amd_lists.specs.Chains.{Linked, without}
-use Rattle.amd_lists.specs.Layout.{elements_in, list_in, reached, RenewsOne}
+use Rattle.amd_lists.specs.Layout.{list_in, reached, RenewsOne}
 use Rattle.amd_lists.specs.Renewal.{is_kept, is_outside, hashed}
 use Rattle.amd_fronts.specs.Counts.{ends, settled}
 use Rattle.amd_fronts.specs.Tallies.{touched_in, CountsFront, EndsCounted, LeavesLists}

@@ -3,3 +3,5 @@ pub mod Merging
 pub mod Restoring
 pub mod FrontLists
 pub mod Closing
+pub mod Premises
+pub mod Effects

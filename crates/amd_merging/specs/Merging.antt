@@ -1,5 +1,5 @@
 -- Classes of a front that keep the same lists, found through buckets and merged in their places.
-use Rattle.std.specs.Prelude.{ℕ, ℤ, zero, suc, Bool, true, false, List, [], ◌∷◌, ◌≡◌, ◌<◌, ◌≤◌, ◌+◌, ◌-◌, ◌%◌, ◌^◌}
+use Rattle.std.specs.Prelude.{ℕ, ℤ, zero, suc, Bool, true, false, List, [], ◌∷◌, ◌≡◌, ◌<◌, ◌≤◌, ◌+◌, ◌-◌, ◌^◌}
 use Rattle.std.specs.Prelude.{◌==◌, ◌&&◌, ◌⊎◌}
 use Rattle.std.specs.Prelude.{bit_and, negsuc, not, nat_lt, cond, length, sum_by, filter, slice_set}
 use Rattle.amd_model.specs.Quotient.{has, each, Once, last_that}

@@ -3,17 +3,18 @@
 // bucket are compared: a bucket is chosen by the lowest bits of a key, or by all of them in a large front. Source:
 // Amestoy, Davis and Duff 1996 (supervariables, found by a hash function). Called by: a round.
 
-ghost use Rattle.std.specs.Prelude.{◌≡◌, ◌≢◌, ◌<◌, ◌≤◌, ◌+◌, ◌-◌, ◌^◌, ◌&&◌, ◌||◌, ◌==◌, not, cond, negsuc, nat_lt, ℕ};
-ghost use Rattle.std.specs.Prelude.{List, true, false, length, slice_set, ◌⊎◌};
-ghost use Rattle.amd_words.specs.Sides.{nexts, lasts};
-ghost use Rattle.amd_model.specs.Quotient.{has, each};
-ghost use Rattle.amd_words.specs.Words.{num, word, place, is_place, flip_of, size_of, in_front, classes, rows, Names};
-ghost use Rattle.amd_round_laws.specs.Rounds.{alike_in};
+ghost use Rattle.std.specs.Prelude.{ℕ, ◌&&◌, ◌<◌, ◌==◌, ◌≡◌, ◌≤◌, negsuc, cond, length, slice_set, true, false};
+ghost use Rattle.std.specs.Prelude.{nat_lt};
+ghost use Rattle.amd_model.specs.Quotient.{each, has};
+ghost use Rattle.amd_words.specs.Sides.{lasts, nexts};
+ghost use Rattle.amd_words.specs.Words.{flip_of, is_place, num, rows, size_of, word};
 ghost use Rattle.amd_lists.specs.Chains.{Chain};
-ghost use Rattle.amd_merging.specs.FrontLists.{IsList, LongToMerge, MergesList};
-ghost use Rattle.amd_merging.specs.Merging.{bucket, kept_of, words_of, IsRenewed, AreApart, looks, Finds};
-ghost use Rattle.amd_lists.specs.Layout.{variables_in};
-ghost use Rattle.amd_merging.specs.Merging.{as_long, bucket_of, Settles, AreRenewed, IsReady};
+ghost use Rattle.amd_lists.specs.Lengths.{row_count};
+ghost use Rattle.amd_lists.specs.Spans.{IsSpan};
+ghost use Rattle.amd_merging.specs.Effects.{AddsInside, FindsAlike, MergesClasses, MergesOne};
+ghost use Rattle.amd_merging.specs.Merging.{Finds, IsRenewed, as_long, bucket, bucket_of, looks};
+ghost use Rattle.amd_merging.specs.Premises.{CanAdd, CanFind, CanMergeFront, CanMergeInto, CanMergeOne, CanPush};
+ghost use Rattle.amd_merging.specs.Premises.{CanWalk};
 
 use amd_words::sides::{Sides, last_at, next_at, put_next, row_count};
 use amd_words::words::{named, put_flip};
@@ -28,8 +29,7 @@ fn spread<S: Signed, U: Unsigned>(
     flag: usize,
 )
     requires fits { flag ≤ U.MOST }
-    requires inside { from + count ≤ length iw.now }
-    requires names { Names (length w.old) iw.now from count }
+    requires span { IsSpan (length w.old) iw.now from count }
     ensures long { length w.new ≡ length w.old }
     ensures marked { (x : ℕ) → num w.new x ≡ cond (has (rows iw.now from count) x) flag (num w.old x) }
 {
@@ -47,8 +47,7 @@ fn all_marked<S: Signed, U: Unsigned>(
     count: usize,
     flag: usize,
 ) -> bool
-    requires inside { from + count ≤ length iw.now }
-    requires names { Names (length w.now) iw.now from count }
+    requires { IsSpan (length w.now) iw.now from count }
     ensures { result ≡ each (λ x. num w.now x == flag) (rows iw.now from count) }
 {
     for q in from..from + count {
@@ -98,8 +97,8 @@ fn any_as_long<S: Signed, U: Unsigned>(
     count: usize,
     few: usize,
 ) -> bool
-    requires lengths { (length e_len.now ≡ length (nexts sides.now)) × (length len.now ≡ length (nexts sides.now)) }
-    requires chain { Chain (length (nexts sides.now)) (nexts sides.now) head (bucket (nexts sides.now) head) }
+    requires lengths { (length e_len.now ≡ row_count sides.now) × (length len.now ≡ row_count sides.now) }
+    requires chain { Chain (row_count sides.now) (nexts sides.now) head (bucket (nexts sides.now) head) }
     requires members { (j : ℕ) → has (bucket (nexts sides.now) head) j ≡ true → is_place (word e_len.now j) ≡ true }
     ensures { result ≡ false → (j : ℕ) → has (bucket (nexts sides.now) head) j ≡ true →
         (num (lasts sides.now) j == key && as_long e_len.now len.now count few j) ≡ false }
@@ -129,7 +128,6 @@ fn is_like<S: Signed, U: Unsigned>(
 ) -> bool
     requires lengths { (length pe.now ≡ length w.now) × (length e_len.now ≡ length w.now) ×
         (length len.now ≡ length w.now) }
-    requires short { length iw.now < 2 ^ 63 }
     requires renewed { IsRenewed (length w.now) iw.now pe.now e_len.now len.now j }
     ensures { result ≡ looks iw.now pe.now e_len.now len.now w.now count few flag j }
 {
@@ -153,13 +151,8 @@ fn walk<S: Signed, U: Unsigned>(
     few: usize,
     flag: usize,
 ) -> usize
-    requires lengths { (length pe.now ≡ length w.now) × (length e_len.now ≡ length w.now) ×
-        (length len.now ≡ length w.now) × (length (nexts sides.now) ≡ length w.now) }
-    requires short { length iw.now < 2 ^ 63 }
-    requires chain { Chain (length (nexts sides.now)) (nexts sides.now) head (bucket (nexts sides.now) head) }
-    requires members { (j : ℕ) → has (bucket (nexts sides.now) head) j ≡ true →
-        IsRenewed (length w.now) iw.now pe.now e_len.now len.now j }
-    ensures { Finds (length (nexts sides.now)) (looks iw.now pe.now e_len.now len.now w.now count few flag)
+    requires { CanWalk iw.now pe.now e_len.now len.now w.now sides.now head }
+    ensures { Finds (row_count sides.now) (looks iw.now pe.now e_len.now len.now w.now count few flag)
         (bucket (nexts sides.now) head) result }
 {
     let n = row_count(sides);
@@ -186,25 +179,8 @@ fn find<S: Signed, U: Unsigned>(
     i: usize,
     flag: usize,
 ) -> usize
-    requires lengths { (length pe.now ≡ length w.old) × (length e_len.now ≡ length w.old) ×
-        (length len.now ≡ length w.old) × (length (nexts sides.now) ≡ length w.old) }
-    requires short { length iw.now < 2 ^ 63 }
-    requires chain { Chain (length (nexts sides.now)) (nexts sides.now) head (bucket (nexts sides.now) head) }
-    requires here { IsRenewed (length w.old) iw.now pe.now e_len.now len.now i }
-    requires members { (j : ℕ) → has (bucket (nexts sides.now) head) j ≡ true →
-        IsRenewed (length w.old) iw.now pe.now e_len.now len.now j }
-    requires apart { (j : ℕ) → has (bucket (nexts sides.now) head) j ≡ true →
-        AreApart iw.now pe.now e_len.now len.now i j }
-    requires keys { (j : ℕ) → has (bucket (nexts sides.now) head) j ≡ true →
-        alike_in (kept_of iw.now pe.now e_len.now) (variables_in iw.now pe.now e_len.now len.now) i j ≡ true →
-        num (lasts sides.now) j ≡ num (lasts sides.now) i }
-    requires under { (x : ℕ) → num w.old x < flag }
-    requires fits { flag ≤ U.MOST }
-    ensures found { Finds (length (nexts sides.now)) (alike_in (kept_of iw.now pe.now e_len.now)
-        (variables_in iw.now pe.now e_len.now len.now) i) (bucket (nexts sides.now) head) result }
-    ensures long { length w.new ≡ length w.old }
-    ensures marked { (w.new ≡ w.old) ⊎ ((x : ℕ) →
-        num w.new x ≡ cond (has (words_of iw.now pe.now len.now i) x) flag (num w.old x)) }
+    requires { CanFind U.MOST flag i iw.now pe.now e_len.now len.now w.old sides.now head }
+    ensures { FindsAlike flag i head iw.now pe.now e_len.now len.now w.old sides.now w.new result }
 {
     let few = named(e_len, i);
     let count = cell_at(len, i);
@@ -218,14 +194,8 @@ fn find<S: Signed, U: Unsigned>(
 
 /// Adds the rows of a class of the front to those of another one, and leaves it none.
 fn add_inside<S: Signed>(nv: &mut [Word<S>], i: usize, j: usize)
-    requires inside { (i < length nv.old) × (j < length nv.old) }
-    requires other { j ≢ i }
-    requires marked { (in_front nv.old i ≡ true) × (in_front nv.old j ≡ true) }
-    requires small { size_of nv.old j + size_of nv.old i ≤ S.MOST }
-    ensures long { length nv.new ≡ length nv.old }
-    ensures sizes { (x : ℕ) → size_of nv.new x ≡ cond (x == i) 0
-        (cond (x == j) (size_of nv.old j + size_of nv.old i) (size_of nv.old x)) }
-    ensures front { (x : ℕ) → in_front nv.new x ≡ (in_front nv.old x && not (x == i)) }
+    requires { CanAdd S.MOST i j nv.old }
+    ensures { AddsInside i j nv.old nv.new }
 {
     let sum = word_at(nv, j) + word_at(nv, i);
     put_word(nv, j, sum);
@@ -240,18 +210,10 @@ fn merge<S: Signed>(
     i: usize,
     j: usize,
 )
-    requires lengths { (length pe.old ≡ length nv.old) × (length e_len.old ≡ length nv.old) }
-    requires inside { (i < length nv.old) × (j < length nv.old) }
-    requires short { length nv.old + 2 ≤ S.MOST }
-    requires other { j ≢ i }
-    requires marked { (in_front nv.old i ≡ true) × (in_front nv.old j ≡ true) }
-    requires small { size_of nv.old j + size_of nv.old i ≤ S.MOST }
+    requires { CanMergeInto S.MOST i j pe.old e_len.old nv.old }
     ensures links { pe.new ≡ slice_set pe.old i (flip_of j) }
     ensures lists { e_len.new ≡ slice_set e_len.old i (negsuc 0) }
-    ensures long { length nv.new ≡ length nv.old }
-    ensures sizes { (x : ℕ) → size_of nv.new x ≡ cond (x == i) 0
-        (cond (x == j) (size_of nv.old j + size_of nv.old i) (size_of nv.old x)) }
-    ensures front { (x : ℕ) → in_front nv.new x ≡ (in_front nv.old x && not (x == i)) }
+    ensures adds { AddsInside i j nv.old nv.new }
 {
     add_inside(nv, i, j);
     put_flip(pe, i, j);
@@ -260,8 +222,7 @@ fn merge<S: Signed>(
 
 /// Puts a class at the head of a bucket.
 fn push<U: Unsigned>(hash: &mut [Cell<U>], sides: &mut [Sides<U>], i: usize, key: usize)
-    requires inside { (i < length (nexts sides.old)) × (key < length hash.old) }
-    requires short { length (nexts sides.old) ≤ U.MOST }
+    requires { CanPush U.MOST i key hash.old sides.old }
     ensures links { nexts sides.new ≡ slice_set (nexts sides.old) i (num hash.old key) }
     ensures keys { lasts sides.new ≡ lasts sides.old }
     ensures heads { hash.new ≡ slice_set hash.old key i }
@@ -285,24 +246,9 @@ fn merge_one<S: Signed, U: Unsigned>(
     i: usize,
     flag: usize,
 ) -> usize
-    requires lengths { LongToMerge (length (nexts sides.old)) pe.old e_len.old nv.old len.now w.old hash.old
-        (nexts sides.old) (lasts sides.old) }
-    requires short { (length iw.now < 2 ^ 63) × (length (nexts sides.old) + 2 ≤ S.MOST) ×
-        (length (nexts sides.old) ≤ U.MOST) }
-    requires ready { IsReady (length (nexts sides.old)) iw.now len.now (lasts sides.old) count i pe.old e_len.old nv.old
-        w.old hash.old (nexts sides.old) }
-    requires under { (x : ℕ) → num w.old x < flag }
-    requires room { flag + 1 ≤ U.MOST }
-    ensures settles { Settles (alike_in (kept_of iw.now pe.old e_len.old) (variables_in iw.now pe.old e_len.old len.now))
-        (bucket (nexts sides.old) (num hash.old (bucket_of count (lasts sides.old) i))) i
-        (bucket_of count (lasts sides.old) i) hash.old (nexts sides.old) pe.old e_len.old nv.old hash.new
-        (nexts sides.new) pe.new e_len.new nv.new }
-    ensures lengths { LongToMerge (length (nexts sides.old)) pe.new e_len.new nv.new len.now w.new hash.new
-        (nexts sides.new) (lasts sides.new) }
-    ensures keys { lasts sides.new ≡ lasts sides.old }
-    ensures flag { (flag ≤ result) × (result ≤ flag + 1) }
-    ensures under { (x : ℕ) → num w.new x < result }
-    ensures zeros { (x : ℕ) → (num w.new x == 0) ≡ (num w.old x == 0) }
+    requires { CanMergeOne S.MOST U.MOST count i flag iw.now pe.old e_len.old nv.old len.now w.old hash.old sides.old }
+    ensures { MergesOne count i flag iw.now pe.old e_len.old nv.old len.now w.old hash.old sides.old pe.new e_len.new
+        nv.new w.new hash.new sides.new result }
 {
     let key = bucket_at(sides, i, count);
     let head = cell_at(hash, key);
@@ -344,25 +290,10 @@ pub fn merge_front<S: Signed, U: Unsigned>(
     count: usize,
     flag: usize,
 ) -> usize
-    requires lengths { LongToMerge (length (nexts sides.old)) pe.old e_len.old nv.old len.now w.old hash.old
-        (nexts sides.old) (lasts sides.old) }
-    requires short { (length iw.now < 2 ^ 63) × (length (nexts sides.old) + 2 ≤ S.MOST) ×
-        (length (nexts sides.old) ≤ U.MOST) }
-    requires front { IsList (length (nexts sides.old)) iw.now from count }
-    requires few { count ≤ length (nexts sides.old) }
-    requires classes { AreRenewed (length (nexts sides.old)) iw.now pe.old e_len.old len.now nv.old w.old
-        (lasts sides.old) (classes nv.old (rows iw.now from count)) }
-    requires under { (x : ℕ) → num w.old x < flag }
-    requires room { flag + count ≤ U.MOST }
-    requires empty { (b : ℕ) → b < length (nexts sides.old) → length (nexts sides.old) ≤ num hash.old b }
-    ensures merges { MergesList (length (nexts sides.old)) iw.now from count len.now (lasts sides.old) pe.old e_len.old
-        nv.old (nexts sides.old) pe.new e_len.new nv.new hash.new (nexts sides.new) }
-    ensures lengths { LongToMerge (length (nexts sides.old)) pe.new e_len.new nv.new len.now w.new hash.new
-        (nexts sides.new) (lasts sides.new) }
-    ensures keys { lasts sides.new ≡ lasts sides.old }
-    ensures flag { (flag ≤ result) × (result ≤ flag + count) }
-    ensures under { (x : ℕ) → num w.new x < result }
-    ensures zeros { (x : ℕ) → (num w.new x == 0) ≡ (num w.old x == 0) }
+    requires { CanMergeFront S.MOST U.MOST from count flag iw.now pe.old e_len.old nv.old len.now w.old hash.old
+        sides.old }
+    ensures { MergesClasses from count flag iw.now pe.old e_len.old nv.old len.now w.old sides.old pe.new e_len.new nv.new
+        w.new hash.new sides.new result }
 {
     if count < 2 {
         return flag;

@@ -3,23 +3,19 @@
 // Davis and Duff 1996 and 2004. Called by `running` of the crate `amd_engine`. A part that only reads some slices is
 // called through a function that is lent all of them for writing.
 
-ghost use Rattle.std.specs.Prelude.{◌≡◌, ◌<◌, ◌≤◌, ◌+◌, ◌^◌, ◌==◌, ℕ, Bool, List, true, length};
-ghost use Rattle.amd_words.specs.Sides.{nexts, lasts};
+ghost use Rattle.std.specs.Prelude.{ℕ, ◌<◌, ◌≡◌, ◌≤◌, length, true, Bool};
 ghost use Rattle.amd_model.specs.Graph.{Graph};
-ghost use Rattle.amd_model.specs.State.{State};
 ghost use Rattle.amd_model.specs.Quotient.{QuotientGraph};
-ghost use Rattle.amd_words.specs.Words.{num, word, is_place, start, in_front, classes};
-ghost use Rattle.amd_lists.specs.Layout.{list_in};
-ghost use Rattle.amd_merging.specs.FrontLists.{IsList, LongToMerge, LongToPlace, AreHeads, MergesList};
-ghost use Rattle.amd_merging.specs.FrontLists.{CanPlace, HasLists, PutsAll};
-ghost use Rattle.amd_merging.specs.Merging.{AreRenewed};
-ghost use Rattle.amd_merging.specs.Restoring.{marked_in, Restores};
-ghost use Rattle.amd_lists.specs.Renewal.{Filters};
-ghost use Rattle.amd_rounds.specs.Workspaces.{workspace_of, KeepsLoans};
-ghost use Rattle.amd_rounds.specs.Laid.{IsSized, IsNarrow};
-ghost use Rattle.amd_rounds.specs.Parts.{TurnsOver, MergesFront, EndsFront};
-ghost use Rattle.amd_rounds.specs.Premises.{CanTurn, CanMerge, CanEnd};
-ghost use Rattle.amd_rounds.specs.Keeps.{Stands, IsRound, AreRounds, NoRowIsLive};
+ghost use Rattle.amd_model.specs.State.{State};
+ghost use Rattle.amd_words.specs.Words.{is_place, num, start, word};
+ghost use Rattle.amd_lists.specs.Lengths.{row_count};
+ghost use Rattle.amd_merging.specs.Effects.{MergesClasses, RestoresFront};
+ghost use Rattle.amd_merging.specs.Premises.{CanMergeFront, CanRestore};
+ghost use Rattle.amd_rounds.specs.Keeps.{AreRounds, IsRound, NoRowIsLive, Stands};
+ghost use Rattle.amd_rounds.specs.Laid.{IsNarrow, IsSized};
+ghost use Rattle.amd_rounds.specs.Parts.{EndsFront, MergesFront, TurnsOver};
+ghost use Rattle.amd_rounds.specs.Premises.{CanEnd, CanMerge, CanTurn};
+ghost use Rattle.amd_rounds.specs.Workspaces.{KeepsLoans, workspace_of};
 
 use crate::pivot::{begin, pick};
 use crate::work::Work;
@@ -80,26 +76,12 @@ fn merge_list<S: Signed, U: Unsigned>(
     me: usize,
     flag: usize,
 ) -> usize
-    requires lengths { LongToMerge (length (nexts sides.old)) pe.old e_len.old nv.old len.old w.old hash.old
-        (nexts sides.old) (lasts sides.old) }
-    requires short { (length iw.old < 2 ^ 63) × (length (nexts sides.old) + 2 ≤ S.MOST) ×
-        (length (nexts sides.old) ≤ U.MOST) }
-    requires list { (me < length (nexts sides.old)) × (is_place (word pe.old me) ≡ true) }
-    requires front { IsList (length (nexts sides.old)) iw.old (start pe.old me) (num len.old me) }
-    requires few { num len.old me ≤ length (nexts sides.old) }
-    requires classes { AreRenewed (length (nexts sides.old)) iw.old pe.old e_len.old len.old nv.old w.old
-        (lasts sides.old) (classes nv.old (list_in iw.old pe.old len.old me)) }
-    requires under { (x : ℕ) → num w.old x < flag }
-    requires room { flag + num len.old me ≤ U.MOST }
-    requires empty { (b : ℕ) → b < length (nexts sides.old) → length (nexts sides.old) ≤ num hash.old b }
-    ensures merges { MergesList (length (nexts sides.old)) iw.old (start pe.old me) (num len.old me) len.old
-        (lasts sides.old) pe.old e_len.old nv.old (nexts sides.old) pe.new e_len.new nv.new hash.new (nexts sides.new) }
-    ensures lengths { LongToMerge (length (nexts sides.old)) pe.new e_len.new nv.new len.new w.new hash.new
-        (nexts sides.new) (lasts sides.new) }
-    ensures flag { flag ≤ result }
-    ensures under { (x : ℕ) → num w.new x < result }
-    ensures zeros { (x : ℕ) → (num w.new x == 0) ≡ (num w.old x == 0) }
-    ensures same { (iw.new ≡ iw.old) × (len.new ≡ len.old) × (lasts sides.new ≡ lasts sides.old) }
+    requires list { (me < row_count sides.old) × (is_place (word pe.old me) ≡ true) }
+    requires front { CanMergeFront S.MOST U.MOST (start pe.old me) (num len.old me) flag iw.old pe.old e_len.old nv.old
+        len.old w.old hash.old sides.old }
+    ensures merges { MergesClasses (start pe.old me) (num len.old me) flag iw.old pe.old e_len.old nv.old len.old w.old
+        sides.old pe.new e_len.new nv.new w.new hash.new sides.new result }
+    ensures same { (iw.new ≡ iw.old) × (len.new ≡ len.old) }
 {
     let from = named(pe, me);
     let count = cell_at(len, me);
@@ -146,30 +128,13 @@ fn place_list<S: Signed, U: Unsigned>(
     left: usize,
     least: usize,
 ) -> (usize, usize, usize)
-    requires lengths { LongToPlace (length (nexts sides.old)) nv.old degree.old head.old (nexts sides.old)
-        (lasts sides.old) hash.old }
-    requires more_lengths { (length pe.old ≡ length (nexts sides.old)) × (length len.old ≡ length (nexts sides.old)) }
-    requires short { (length iw.old < 2 ^ 63) × (length (nexts sides.old) + 2 ≤ S.MOST) ×
-        (length (nexts sides.old) ≤ U.MOST) }
-    requires list { (me < length (nexts sides.old)) × (is_place (word pe.old me) ≡ true) }
-    requires front { IsList (length (nexts sides.old)) iw.old (start pe.old me) (num len.old me) }
-    requires classes { CanPlace (length (nexts sides.old)) border nv.old degree.old (lasts sides.old)
-        (list_in iw.old pe.old len.old me) }
-    requires order { (border ≤ left) × (left ≤ length (nexts sides.old)) }
-    requires heads { AreHeads (length (nexts sides.old)) (num len.old me)
-        (marked_in nv.old (list_in iw.old pe.old len.old me)) hash.old (lasts sides.old) }
-    requires linked { HasLists (length (nexts sides.old)) (list_in iw.old pe.old len.old me) head.old (nexts sides.old)
-        (lasts sides.old) degree.old }
+    requires lengths { (length pe.old ≡ row_count sides.old) × (length len.old ≡ row_count sides.old) }
+    requires list { (me < row_count sides.old) × (is_place (word pe.old me) ≡ true) }
+    requires front { CanRestore S.MOST U.MOST border left (start pe.old me) (num len.old me) iw.old nv.old degree.old
+        head.old hash.old sides.old }
     ensures from { result.0 ≡ start pe.old me }
-    ensures filters { Filters (length (nexts sides.old)) (in_front nv.old) (λ j. 0) 0 iw.old result.0 (num len.old me)
-        result.0 iw.new result.1 0 }
-    ensures restores { Restores (list_in iw.old pe.old len.old me) border left least nv.old degree.old nv.new degree.new
-        result.2 }
-    ensures empty { (b : ℕ) → b < length (nexts sides.old) → length (nexts sides.old) ≤ num hash.new b }
-    ensures linked { PutsAll (length (nexts sides.old)) border left (list_in iw.old pe.old len.old me) nv.old head.old
-        (nexts sides.old) (lasts sides.old) degree.old head.new (nexts sides.new) (lasts sides.new) degree.new }
-    ensures lengths { LongToPlace (length (nexts sides.old)) nv.new degree.new head.new (nexts sides.new)
-        (lasts sides.new) hash.new }
+    ensures restores { RestoresFront border left least (start pe.old me) (num len.old me) iw.old nv.old degree.old
+        head.old sides.old iw.new nv.new degree.new head.new hash.new sides.new result.1 result.2 }
     ensures same { (pe.new ≡ pe.old) × (len.new ≡ len.old) }
 {
     let from = named(pe, me);

@@ -4,7 +4,7 @@ use Rattle.amd_elements.specs.Element.{Gathers, members_at, elements_at, variabl
 use Rattle.amd_words.proofs.RowLists.{rows_none}
 use Rattle.amd_elements.proofs.Building.{gathers_known, gathers_total, builds_none, next_element, split_element, split_variables}
 use Rattle.amd_elements.proofs.Building.{still_names, pivot_word, element_laid, turn_end, turn_fits, turn_few, turn_done, builds_all}
-use Rattle.std.proofs.Common.{lt_of_lt_of_le, lt_of_le_of_lt, le_trans, lt_trans, le_of_eq, lit<, add-le-add, falls}
+use Rattle.std.proofs.Common.{lt_of_lt_of_le, le_trans, le_of_eq, add-le-add, falls}
 use Rattle.std.proofs.Common.{add-sub_of_le, le-add_right}
 use Rattle.amd_words.proofs.WordCounts.{all_passed, next_place, none_passed, within_count}
 use Rattle.amd_elements.proofs.element.build.Goals as goal

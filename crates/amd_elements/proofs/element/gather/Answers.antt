@@ -7,7 +7,7 @@ use Rattle.amd_words.specs.Words.{word, place, is_place, size_of, in_front, clas
 use Rattle.amd_words.proofs.RowLists.{rows_none}
 use Rattle.amd_elements.proofs.Gathering.{gathers_none, gathers_old, gathers_new, class_here, open_here, room_here}
 use Rattle.amd_words.proofs.Classes.{classes_yes, classes_no}
-use Rattle.std.proofs.Common.{lt_of_lt_of_le, lt_of_le_of_lt, le_trans, lt_trans, le_of_eq, lit<, le-add_right, falls, subst}
+use Rattle.std.proofs.Common.{lt_of_lt_of_le, le_trans, le_of_eq, le-add_right, falls, subst}
 use Rattle.std.proofs.lemmas.Bool.{ltb-true, and_parts, not-true}
 use Rattle.amd_words.proofs.WordCounts.{all_passed, next_place, none_passed, within_count}
 use Rattle.amd_elements.specs.Element.{Gathers}

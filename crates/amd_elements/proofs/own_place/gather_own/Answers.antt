@@ -10,7 +10,7 @@ use Rattle.amd_words.proofs.RowLists.{rows_none}
 use Rattle.amd_elements.proofs.Gathering.{gathers_old, gathers_new, class_here, open_here, room_here}
 use Rattle.amd_words.proofs.Classes.{classes_yes, classes_no}
 use Rattle.amd_elements.proofs.OwnPlace.{own_none, own_end}
-use Rattle.std.proofs.Common.{lt_of_le_of_lt, lt_trans, lit<, le-add_right, falls, subst}
+use Rattle.std.proofs.Common.{le-add_right, falls, subst}
 use Rattle.std.proofs.lemmas.Bool.{ltb-true, and_parts, not-true}
 use Rattle.amd_words.proofs.WordCounts.{all_passed, next_place, none_passed, within_count}
 use Rattle.amd_elements.proofs.own_place.gather_own.Goals as goal

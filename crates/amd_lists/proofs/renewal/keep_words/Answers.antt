@@ -8,7 +8,7 @@ use Rattle.amd_words.specs.Words.{num, word, place, is_place, rows}
 use Rattle.amd_round_laws.proofs.Lists.Cuts.{cut_more}
 use Rattle.amd_lists.specs.Renewal.{is_kept, hashed, Filters}
 use Rattle.amd_lists.proofs.Filtering.{filters_none, open_no, open_yes, open_behind, hashed_none, hashed_no, hashed_yes}
-use Rattle.std.proofs.Common.{lt_of_le_of_lt, lt_of_lt_of_le, le_trans, lt_trans, le_of_eq, lit<, falls}
+use Rattle.std.proofs.Common.{lt_of_le_of_lt, lt_of_lt_of_le, le_trans, le_of_eq, falls}
 use Rattle.amd_lists.proofs.PlainSums.{less_fits, sum_fits, sum_grows}
 use Rattle.amd_words.proofs.WordCounts.{all_passed, next_place, none_passed, within_count}
 use Rattle.amd_lists.proofs.renewal.keep_words.Goals as goal

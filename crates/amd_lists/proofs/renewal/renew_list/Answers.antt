@@ -4,7 +4,7 @@ use Rattle.amd_lists.specs.Renewal.{is_kept, is_outside, hashed, Filters}
 use Rattle.amd_lists.proofs.Renewing.{names_after, renew_fit, renews, renew_outside}
 use Rattle.amd_words.proofs.RowLists.{rows_same}
 use Rattle.amd_lists.proofs.Filtering.{hashed_both}
-use Rattle.std.proofs.Common.{lt_of_lt_of_le, lt_of_le_of_lt, le_trans, lt_trans, le_refl, le_of_eq, lit<, add-le-add, ◌<◌, ◌^◌}
+use Rattle.std.proofs.Common.{lt_of_lt_of_le, le_trans, le_refl, le_of_eq, add-le-add}
 use Rattle.amd_words.proofs.WordCounts.{rest_within}
 use Rattle.amd_lists.proofs.renewal.renew_list.Goals as goal
 

@@ -1,3 +1,4 @@
+use Rattle.std.proofs.Common.{rules}
 use Rattle.std.proofs.Common.{ℕ, ℤ, List, ◌≡◌, inl, inr, true, cond, refl, arith, sym, ap, ◌∙◌, ◌+◌, ◌-◌, length, subst}
 use Rattle.amd_model.specs.Quotient.{has}
 use Rattle.amd_words.specs.Words.{num, word, place, start, rows}
@@ -13,100 +14,95 @@ use Rattle.amd_model.proofs.Counting.Below.{clash}
 use Rattle.amd_merging.proofs.merging.find.Goals as goal
 
 pub named-from-requires-clause-inside : goal.named-from-requires-clause-inside
-named-from-requires-clause-inside g c = let a = c.requires.here.row in let n = c.requires.lengths.0 in omega (arith, a, n)
+named-from-requires-clause-inside g c = let a = c.requires.here.row in let n = c.requires.walk.lengths.0 in omega (arith, a, n)
 
 pub named-from-requires-clause-is_one : goal.named-from-requires-clause-is_one
 named-from-requires-clause-is_one g c = c.requires.here.starts
 
 pub named-few-requires-clause-inside : goal.named-few-requires-clause-inside
-named-few-requires-clause-inside g c = let a = c.requires.here.row in let n = c.requires.lengths.1 in omega (arith, a, n)
+named-few-requires-clause-inside g c = let a = c.requires.here.row in let n = c.requires.walk.lengths.1 in omega (arith, a, n)
 
 pub named-few-requires-clause-is_one : goal.named-few-requires-clause-is_one
 named-few-requires-clause-is_one g c = c.requires.here.counts
 
 pub cell_at-count-requires : goal.cell_at-count-requires
-cell_at-count-requires g c = let a = c.requires.here.row in let n = c.requires.lengths.2 in omega (arith, a, n)
+cell_at-count-requires g c = let a = c.requires.here.row in let n = c.requires.walk.lengths.2 in omega (arith, a, n)
 
 pub spread-requires-clause-fits : goal.spread-requires-clause-fits
 spread-requires-clause-fits g c = c.requires.fits
 
-pub spread-requires-clause-inside : goal.spread-requires-clause-inside
-spread-requires-clause-inside g c =
-    let f = c.named-from.ensures in let n = c.cell_at-count.ensures.is in let h = c.requires.here in
-    let a = h.some in let b = h.parts in let w = h.within in omega (arith, f, n, a, b, w)
+pub spread-requires-clause-span : goal.spread-requires-clause-span
+spread-requires-clause-span g c = record {
+  inside = (let f = c.named-from.ensures in let n = c.cell_at-count.ensures.is in let h = c.requires.here in
+      let a = h.some in let b = h.parts in let w = h.within in omega (arith, f, n, a, b, w));
+  names = (names_at c.args.iw.now refl (ap (λ s. s + 1) (sym c.named-from.ensures))
+      (ap (λ m. m - 1) (sym c.cell_at-count.ensures.is)) c.requires.here.names);
+}
 
-pub spread-requires-clause-names : goal.spread-requires-clause-names
-spread-requires-clause-names g c = names_at c.args.iw.now refl (ap (λ s. s + 1) (sym c.named-from.ensures))
-    (ap (λ m. m - 1) (sym c.cell_at-count.ensures.is)) c.requires.here.names
+pub walk-requires : goal.walk-requires
+walk-requires g c = record {
+  lengths = (let l = c.requires.walk.lengths in let w = sym c.spread.ensures.long in
+      (l.0 ∙ w, l.1 ∙ w, l.2 ∙ w, l.3 ∙ w));
+  chain = (c.requires.walk.chain);
+  members = (λ j h. subst (λ n. IsRenewed n c.args.iw.now c.args.pe.now c.args.e_len.now c.args.len.now j)
+      (sym c.spread.ensures.long) (c.requires.walk.members j h));
+}
 
-pub walk-requires-clause-lengths : goal.walk-requires-clause-lengths
-walk-requires-clause-lengths g c = let l = c.requires.lengths in let w = sym c.spread.ensures.long in
-    (l.0 ∙ w, l.1 ∙ w, l.2 ∙ w, l.3 ∙ w)
-
-pub walk-requires-clause-short : goal.walk-requires-clause-short
-walk-requires-clause-short g c = c.requires.short
-
-pub walk-requires-clause-chain : goal.walk-requires-clause-chain
-walk-requires-clause-chain g c = c.requires.chain
-
-pub walk-requires-clause-members : goal.walk-requires-clause-members
-walk-requires-clause-members g c j h = subst (λ n. IsRenewed n c.args.iw.now c.args.pe.now c.args.e_len.now c.args.len.now j)
-    (sym c.spread.ensures.long) (c.requires.members j h)
-
-pub returns-clause-long : goal.returns-clause-long
-returns-clause-long g c = c.spread.ensures.long
-
-pub returns-clause-found : goal.returns-clause-found
-returns-clause-found g c =
-    let iw : List ℤ = c.args.iw.now in let pe : List ℤ = c.args.pe.now in let e_len : List ℤ = c.args.e_len.now in let len : List ℕ =
-    c.args.len.now in let i : ℕ = c.args.i in
-    let w : List ℕ = c.spread.new.w in let flag : ℕ = c.args.flag in
-    let first : c.named-from.result ≡ start pe i = c.named-from.ensures in
-    let few : c.named-few.result ≡ place (word e_len i) = c.named-few.ensures in
-    let marked : (x : ℕ) → num w x ≡ cond (has (words_of iw pe len i) x) flag (num c.args.w.now x) = λ x. c.spread.ensures.marked x
-    ∙ ap (λ m. cond (has (rows iw (c.named-from.result + 1) (m - 1)) x) flag (num c.args.w.now x)) c.cell_at-count.ensures.is
-    ∙ ap (λ s. cond (has (rows iw (s + 1) (num len i - 1)) x) flag (num c.args.w.now x)) first in
-    let is : (x : ℕ) → has (bucket (nexts c.args.sides.now) c.args.head) x ≡ true →
-    looks iw pe e_len len w (num len i) c.named-few.result flag x ≡ alike_in (kept_of iw pe e_len) (variables_in iw pe e_len len) i x
-    = λ x h. ap (λ f. looks iw pe e_len len w (num len i) f flag x) few
-    ∙ looks_alike (length c.args.w.now) iw pe e_len len i x c.requires.here (c.requires.members x h) w c.args.w.now flag
-    (c.requires.apart x h) c.requires.under marked in
-    elim (subst (λ m. Finds (length (nexts c.args.sides.now)) (looks iw pe e_len len w m c.named-few.result flag)
-    (bucket (nexts c.args.sides.now) c.args.head) c.walk.result) c.cell_at-count.ensures.is c.walk.ensures) [
-      | inl p ↦ inl (p.0, p.1, sym (is c.walk.result p.1) ∙ p.2)
-      | inr p ↦ inr (p.0, λ x h. sym (is x h) ∙ p.1 x h)
-    ]
-
-pub returns-clause-marked : goal.returns-clause-marked
-returns-clause-marked g c = inr (λ x. c.spread.ensures.marked x ∙ ap (λ m.
-    cond (has (rows c.args.iw.now (c.named-from.result + 1) (m - 1)) x) c.args.flag (num c.args.w.now x)) c.cell_at-count.ensures.is
-    ∙ ap (λ s. cond (has (rows c.args.iw.now (s + 1) (num c.args.len.now c.args.i - 1)) x) c.args.flag (num c.args.w.now x))
-    c.named-from.ensures)
+pub returns : goal.returns
+returns g c = record {
+  found = (let iw : List ℤ = c.args.iw.now in let pe : List ℤ = c.args.pe.now in let e_len : List ℤ = c.args.e_len.now in let len : List ℕ =
+      c.args.len.now in let i : ℕ = c.args.i in
+      let w : List ℕ = c.spread.new.w in let flag : ℕ = c.args.flag in
+      let first : c.named-from.result ≡ start pe i = c.named-from.ensures in
+      let few : c.named-few.result ≡ place (word e_len i) = c.named-few.ensures in
+      let marked : (x : ℕ) → num w x ≡ cond (has (words_of iw pe len i) x) flag (num c.args.w.now x) = λ x. c.spread.ensures.marked x
+      ∙ ap (λ m. cond (has (rows iw (c.named-from.result + 1) (m - 1)) x) flag (num c.args.w.now x)) c.cell_at-count.ensures.is
+      ∙ ap (λ s. cond (has (rows iw (s + 1) (num len i - 1)) x) flag (num c.args.w.now x)) first in
+      let is : (x : ℕ) → has (bucket (nexts c.args.sides.now) c.args.head) x ≡ true →
+      looks iw pe e_len len w (num len i) c.named-few.result flag x ≡ alike_in (kept_of iw pe e_len) (variables_in iw pe e_len len) i x
+      = λ x h. ap (λ f. looks iw pe e_len len w (num len i) f flag x) few
+      ∙ looks_alike (length c.args.w.now) iw pe e_len len i x c.requires.here (c.requires.walk.members x h) w c.args.w.now flag
+      (c.requires.apart x h) c.requires.under marked in
+      elim (subst (λ m. Finds (length (nexts c.args.sides.now)) (looks iw pe e_len len w m c.named-few.result flag)
+      (bucket (nexts c.args.sides.now) c.args.head) c.walk.result) c.cell_at-count.ensures.is c.walk.ensures) [
+        | inl p ↦ inl (p.0, p.1, sym (is c.walk.result p.1) ∙ p.2)
+        | inr p ↦ inr (p.0, λ x h. sym (is x h) ∙ p.1 x h)
+      ]);
+  long = (c.spread.ensures.long);
+  marked = (inr (λ x. c.spread.ensures.marked x ∙ ap (λ m.
+      cond (has (rows c.args.iw.now (c.named-from.result + 1) (m - 1)) x) c.args.flag (num c.args.w.now x)) c.cell_at-count.ensures.is
+      ∙ ap (λ s. cond (has (rows c.args.iw.now (s + 1) (num c.args.len.now c.args.i - 1)) x) c.args.flag (num c.args.w.now x))
+      c.named-from.ensures));
+}
 
 pub any_as_long-requires-clause-lengths : goal.any_as_long-requires-clause-lengths
-any_as_long-requires-clause-lengths g c = let l = c.requires.lengths in let n = sym l.3 in (l.1 ∙ n, l.2 ∙ n)
+any_as_long-requires-clause-lengths g c = let l = c.requires.walk.lengths in let n = sym l.3 in (l.1 ∙ n, l.2 ∙ n)
 
 pub any_as_long-requires-clause-members : goal.any_as_long-requires-clause-members
-any_as_long-requires-clause-members g c j h = (c.requires.members j h).counts
+any_as_long-requires-clause-members g c j h = (c.requires.walk.members j h).counts
 
 -- a class that is not as long is not alike
-pub returns-then-not-any_as_long-clause-found : goal.returns-then-not-any_as_long-clause-found
-returns-then-not-any_as_long-clause-found g c = inr (
-  c.row_count.ensures,
-  λ x h.
-      let iw : List ℤ = c.args.iw.now in let pe : List ℤ = c.args.pe.now in let e_len : List ℤ = c.args.e_len.now in let len : List ℕ =
-      c.args.len.now in let i : ℕ = c.args.i in
-      elim (cases_Bool (alike_in (kept_of iw pe e_len) (variables_in iw pe e_len len) i x)) [
-        | inr f ↦ f
-        | inl t ↦
-            let q = alike_counts (length c.args.w.now) iw pe e_len len i x c.requires.here (c.requires.members x h) t in
-            let key = c.requires.keys x h t ∙ sym c.last_at.ensures.is in
-            clash (and_from (num (lasts c.args.sides.now) x == c.last_at.result)
-            (num len x == c.cell_at-count.result && place (word e_len x) == c.named-few.result)
-            (eq-eqb (num (lasts c.args.sides.now) x) c.last_at.result key)
-            (and_from (num len x == c.cell_at-count.result) (place (word e_len x) == c.named-few.result)
-            (eq-eqb (num len x) c.cell_at-count.result (q.0 ∙ sym c.cell_at-count.ensures.is))
-            (eq-eqb (place (word e_len x)) c.named-few.result (q.1 ∙ sym c.named-few.ensures))))
-            (c.any_as_long.ensures c.if-not-any_as_long.true x h)
-      ],
-)
+pub returns-then-not-any_as_long : goal.returns-then-not-any_as_long
+returns-then-not-any_as_long g c = record {
+  found = (inr (
+    c.row_count.ensures,
+    λ x h.
+        let iw : List ℤ = c.args.iw.now in let pe : List ℤ = c.args.pe.now in let e_len : List ℤ = c.args.e_len.now in let len : List ℕ =
+        c.args.len.now in let i : ℕ = c.args.i in
+        elim (cases_Bool (alike_in (kept_of iw pe e_len) (variables_in iw pe e_len len) i x)) [
+          | inr f ↦ f
+          | inl t ↦
+              let q = alike_counts (length c.args.w.now) iw pe e_len len i x c.requires.here (c.requires.walk.members x h) t in
+              let key = c.requires.keys x h t ∙ sym c.last_at.ensures.is in
+              clash (and_from (num (lasts c.args.sides.now) x == c.last_at.result)
+              (num len x == c.cell_at-count.result && place (word e_len x) == c.named-few.result)
+              (eq-eqb (num (lasts c.args.sides.now) x) c.last_at.result key)
+              (and_from (num len x == c.cell_at-count.result) (place (word e_len x) == c.named-few.result)
+              (eq-eqb (num len x) c.cell_at-count.result (q.0 ∙ sym c.cell_at-count.ensures.is))
+              (eq-eqb (place (word e_len x)) c.named-few.result (q.1 ∙ sym c.named-few.ensures))))
+              (c.any_as_long.ensures c.if-not-any_as_long.true x h)
+        ],
+  ));
+  long = search rules;
+  marked = search rules;
+}

@@ -1,3 +1,4 @@
+use Rattle.std.proofs.Common.{rules}
 use borrow.Author.Count.{falls_down}
 use Rattle.std.proofs.Common.{ℕ, List, refl, sym, ap, subst, ◌∙◌, ◌+◌, ◌-◌, ◌≤◌, arith, length}
 use Rattle.amd_words.specs.Words.{num, classes, rows}
@@ -10,7 +11,6 @@ use Rattle.amd_merging.proofs.MergeState.{Merging, merging_none, all_merged, all
 use Rattle.amd_merging.proofs.MergeWalk.{premises, classes_few, classes_end, step_ready, step_room, step_skips, step_settles}
 use Rattle.std.proofs.Common.{le_refl, le-add_right}
 use Rattle.amd_words.specs.Sides.{nexts, lasts}
-use Rattle.amd_words.proofs.WordCounts.{before_fits}
 use Rattle.amd_merging.proofs.merging.merge_front.Goals as goal
 
 pub classes-init : goal.classes-init
@@ -36,46 +36,40 @@ is_class-requires g c = let w = c.classes.invariant.within in let t = c.classes-
     let s = (c.requires.front.1 (c.classes.left - 1) (omega (arith, w, t))).1 in let e = c.named-i.ensures in
     let l = c.classes.invariant.merging.long.2 in omega (arith, s, e, l)
 
-pub merge_one-now-requires-clause-lengths : goal.merge_one-now-requires-clause-lengths
-merge_one-now-requires-clause-lengths g c = let o = c.classes.invariant.merging.long in let l = c.requires.lengths in
-    let n = sym o.5 in (
-      o.0 ∙ n,
-      o.1 ∙ n,
-      o.2 ∙ n,
-      l.3 ∙ n,
-      o.3 ∙ n,
-      o.4 ∙ n,
-      refl,
-      ap length c.classes.invariant.keys ∙ l.7 ∙ n,
-    )
-
-pub merge_one-now-requires-clause-short : goal.merge_one-now-requires-clause-short
-merge_one-now-requires-clause-short g c = let s = c.requires.short.1 in let t = c.requires.short.2 in
-    let n = c.classes.invariant.merging.long.5 in (c.requires.short.0, (omega (arith, s, n)), (omega (arith, t, n)))
-
-pub merge_one-now-requires-clause-under : goal.merge_one-now-requires-clause-under
-merge_one-now-requires-clause-under g c = c.classes.invariant.merging.under
-
-pub merge_one-now-requires-clause-ready : goal.merge_one-now-requires-clause-ready
-merge_one-now-requires-clause-ready g c = let g = premises (length (nexts c.args.sides.now))
-    c.args.iw.now c.args.pe.now c.args.e_len.now c.args.len.now c.args.nv.now c.args.w.now (nexts c.args.sides.now) (lasts c.args.sides.now)
-    c.args.from c.args.count c.args.flag c.requires.front.2 c.requires.few c.requires.classes in
-    rw c.classes.invariant.keys (step_ready _ _ _ _ _ _ _ _ _ _ _ _ g c.classes.left c.classes-test.true c.classes.invariant.within
-    c.named-i.result c.named-i.ensures _ _ _ _ _ _ _ c.classes.invariant.merging (sym c.is_class.ensures ∙ c.if-is_class.true))
-
-pub merge_one-now-requires-clause-room : goal.merge_one-now-requires-clause-room
-merge_one-now-requires-clause-room g c = let g = premises (length (nexts c.args.sides.now))
-    c.args.iw.now c.args.pe.now c.args.e_len.now c.args.len.now c.args.nv.now c.args.w.now (nexts c.args.sides.now) (lasts c.args.sides.now)
-    c.args.from c.args.count c.args.flag c.requires.front.2 c.requires.few c.requires.classes in
-    let a : c.classes.now + 1 ≤ c.args.flag + c.args.count = step_room _ _ _ _ _ _ _ _ _ _ _ _ g c.classes.left c.classes-test.true
-    c.classes.invariant.within c.named-i.result c.named-i.ensures _ _ _ _ _ _ _ c.classes.invariant.merging (sym c.is_class.ensures
-    ∙ c.if-is_class.true) in
-    let b = c.requires.room in omega (arith, a, b)
+pub merge_one-now-requires : goal.merge_one-now-requires
+merge_one-now-requires g c = record {
+  lengths = (let o = c.classes.invariant.merging.long in let l = c.requires.lengths in
+      let n = sym o.5 in (
+        o.0 ∙ n,
+        o.1 ∙ n,
+        o.2 ∙ n,
+        l.3 ∙ n,
+        o.3 ∙ n,
+        o.4 ∙ n,
+        refl,
+        ap length c.classes.invariant.keys ∙ l.7 ∙ n,
+      ));
+  short = (let s = c.requires.short.0 in let t = c.requires.short.1 in
+      let n = c.classes.invariant.merging.long.5 in ((omega (arith, s, n)), (omega (arith, t, n))));
+  ready = (let g = premises (length (nexts c.args.sides.now))
+      c.args.iw.now c.args.pe.now c.args.e_len.now c.args.len.now c.args.nv.now c.args.w.now (nexts c.args.sides.now) (lasts c.args.sides.now)
+      c.args.from c.args.count c.args.flag c.requires.front.2 c.requires.few c.requires.classes_are in
+      rw c.classes.invariant.keys (step_ready _ _ _ _ _ _ _ _ _ _ _ _ g c.classes.left c.classes-test.true c.classes.invariant.within
+      c.named-i.result c.named-i.ensures _ _ _ _ _ _ _ c.classes.invariant.merging (sym c.is_class.ensures ∙ c.if-is_class.true)));
+  under = (c.classes.invariant.merging.under);
+  room = (let g = premises (length (nexts c.args.sides.now))
+      c.args.iw.now c.args.pe.now c.args.e_len.now c.args.len.now c.args.nv.now c.args.w.now (nexts c.args.sides.now) (lasts c.args.sides.now)
+      c.args.from c.args.count c.args.flag c.requires.front.2 c.requires.few c.requires.classes_are in
+      let a : c.classes.now + 1 ≤ c.args.flag + c.args.count = step_room _ _ _ _ _ _ _ _ _ _ _ _ g c.classes.left c.classes-test.true
+      c.classes.invariant.within c.named-i.result c.named-i.ensures _ _ _ _ _ _ _ c.classes.invariant.merging (sym c.is_class.ensures
+      ∙ c.if-is_class.true) in
+      let b = c.requires.room in omega (arith, a, b));
+}
 
 pub classes-preserved-then-is_class : goal.classes-preserved-then-is_class
 classes-preserved-then-is_class g c = let g = premises (length (nexts c.args.sides.now))
     c.args.iw.now c.args.pe.now c.args.e_len.now c.args.len.now c.args.nv.now c.args.w.now (nexts c.args.sides.now) (lasts c.args.sides.now)
-    c.args.from c.args.count c.args.flag c.requires.front.2 c.requires.few c.requires.classes in
+    c.args.from c.args.count c.args.flag c.requires.front.2 c.requires.few c.requires.classes_are in
     let t = c.classes.invariant.within in let d = c.merge_one-now.ensures in let l = d.lengths in
     let o = c.classes.invariant.merging.long in let m = o.5 in record {
       within = omega (arith, t);
@@ -83,13 +77,13 @@ classes-preserved-then-is_class g c = let g = premises (length (nexts c.args.sid
       merging = step_settles _ _ _ _ _ _ _ _ _ _ _ _ g c.classes.left c.classes-test.true c.classes.invariant.within c.named-i.result
           c.named-i.ensures _ _ _ _ _ _ _ c.classes.invariant.merging (sym c.is_class.ensures ∙ c.if-is_class.true)
           _ _ _ _ _ _ _ (l.0 ∙ m ∙ sym o.0, l.1 ∙ m ∙ sym o.1, l.2 ∙ m ∙ sym o.2, l.4 ∙ m ∙ sym o.3)
-          (l.5 ∙ m ∙ sym o.4, l.6) d.flag d.under d.zeros (rw (sym c.classes.invariant.keys) d.settles);
+          (l.5 ∙ m ∙ sym o.4, l.6) d.rises d.under d.zeros (rw (sym c.classes.invariant.keys) d.settles);
     }
 
 pub classes-preserved : goal.classes-preserved
 classes-preserved g c = let g = premises (length (nexts c.args.sides.now))
     c.args.iw.now c.args.pe.now c.args.e_len.now c.args.len.now c.args.nv.now c.args.w.now (nexts c.args.sides.now) (lasts c.args.sides.now)
-    c.args.from c.args.count c.args.flag c.requires.front.2 c.requires.few c.requires.classes in
+    c.args.from c.args.count c.args.flag c.requires.front.2 c.requires.few c.requires.classes_are in
     let t = c.classes.invariant.within in record {
       within = omega (arith, t);
       keys = c.classes.invariant.keys;
@@ -97,80 +91,59 @@ classes-preserved g c = let g = premises (length (nexts c.args.sides.now))
           c.named-i.ensures _ _ _ _ _ _ _ c.classes.invariant.merging (sym c.is_class.ensures ∙ c.if-is_class.false);
     }
 
-pub returns-then-count-lt2-clause-merges : goal.returns-then-count-lt2-clause-merges
-returns-then-count-lt2-clause-merges g c =
-    let a = classes_few c.args.nv.now c.args.iw.now c.args.from c.args.count in let t = c.if-count-lt2.true in
-    let merged = few_merged (alike_in (kept_of c.args.iw.now c.args.pe.now c.args.e_len.now)
-    (variables_in c.args.iw.now c.args.pe.now c.args.e_len.now c.args.len.now)) c.args.pe.now c.args.e_len.now c.args.nv.now
-    (nexts c.args.sides.now) (classes c.args.nv.now (rows c.args.iw.now c.args.from c.args.count)) (omega (arith, a, t)) in record {
-      merged = merged;
-      made = made_is (rows c.args.iw.now c.args.from c.args.count) _ _ _ _ _ _ _ _ _ merged;
-      heads = λ b k m. absurd (let e = c.requires.empty b k in omega (arith, e, m));
-      linked = λ head degree lists none h. h;
-    }
+pub returns : goal.returns
+returns g c = record {
+  merges = (let list : List ℕ = rows c.args.iw.now c.args.from c.args.count in
+      let state = subst (λ k. Merging (length (nexts c.args.sides.now)) c.args.iw.now c.args.pe.now c.args.e_len.now c.args.len.now
+      c.args.nv.now c.args.w.now (nexts c.args.sides.now) (lasts c.args.sides.now) (classes c.args.nv.now list) c.args.flag c.args.count
+      k c.classes.pe c.classes.e_len c.classes.nv c.classes.w c.classes.hash (nexts c.classes.sides) c.classes.now)
+      (classes_end c.args.nv.now c.args.iw.now c.args.from c.classes.left c.classes-test.false) c.classes.invariant.merging in
+      let merged : MergesAll (classes c.args.nv.now list)
+      (represents_in c.args.iw.now c.args.pe.now c.args.e_len.now c.args.len.now (classes c.args.nv.now list))
+      c.args.pe.now c.args.e_len.now c.args.nv.now (nexts c.args.sides.now) c.classes.pe c.classes.e_len c.classes.nv
+      (nexts c.classes.sides) = (
+      let g = premises (length (nexts c.args.sides.now)) c.args.iw.now c.args.pe.now c.args.e_len.now c.args.len.now c.args.nv.now
+      c.args.w.now (nexts c.args.sides.now) (lasts c.args.sides.now) c.args.from c.args.count c.args.flag c.requires.front.2 c.requires.few
+      c.requires.classes_are in
+      all_merged _ _ _ _ _ _ _ _ _ _ _ _ g.once _ _ _ _ _ _ _ state) in record {
+        merged = merged;
+        made = made_is list _ _ _ _ _ _ _ _ _ merged;
+        heads = λ b small full. let head = all_heads _ _ _ _ _ _ _ _ _ _ _ _ _ _ _ _ _ _ _ state b small full in (
+          (let f = c.if-count-lt2.false in omega (arith, f)),
+          made_from list _ _ _ _ _ _ _ _ _ merged (num c.classes.hash b) head.0 head.1,
+          head.2,
+        );
+        linked = λ head degree lists none h. still_linked list _ _ _ _ _ _ _ _ _ merged _ head (lasts c.args.sides.now) degree lists none h;
+      });
+  lengths = (let o = c.classes.invariant.merging.long in let l = c.requires.lengths in
+      (o.0, o.1, o.2, l.3, o.3, o.4, o.5, ap length c.classes.invariant.keys ∙ l.7));
+  keys = (c.classes.invariant.keys);
+  rises = (let f = c.classes.invariant.merging.flags in let a = f.0 in let b = f.1 in let d =
+      classes_few c.args.nv.now c.args.iw.now c.args.from c.args.count in (a, omega (arith, b, d)));
+  under = (c.classes.invariant.merging.under);
+  zeros = (c.classes.invariant.merging.zeros);
+}
 
-pub returns-clause-merges : goal.returns-clause-merges
-returns-clause-merges g c =
-    let list : List ℕ = rows c.args.iw.now c.args.from c.args.count in
-    let state = subst (λ k. Merging (length (nexts c.args.sides.now)) c.args.iw.now c.args.pe.now c.args.e_len.now c.args.len.now
-    c.args.nv.now c.args.w.now (nexts c.args.sides.now) (lasts c.args.sides.now) (classes c.args.nv.now list) c.args.flag c.args.count
-    k c.classes.pe c.classes.e_len c.classes.nv c.classes.w c.classes.hash (nexts c.classes.sides) c.classes.now)
-    (classes_end c.args.nv.now c.args.iw.now c.args.from c.classes.left c.classes-test.false) c.classes.invariant.merging in
-    let merged : MergesAll (classes c.args.nv.now list)
-    (represents_in c.args.iw.now c.args.pe.now c.args.e_len.now c.args.len.now (classes c.args.nv.now list))
-    c.args.pe.now c.args.e_len.now c.args.nv.now (nexts c.args.sides.now) c.classes.pe c.classes.e_len c.classes.nv
-    (nexts c.classes.sides) = (
-    let g = premises (length (nexts c.args.sides.now)) c.args.iw.now c.args.pe.now c.args.e_len.now c.args.len.now c.args.nv.now
-    c.args.w.now (nexts c.args.sides.now) (lasts c.args.sides.now) c.args.from c.args.count c.args.flag c.requires.front.2 c.requires.few
-    c.requires.classes in
-    all_merged _ _ _ _ _ _ _ _ _ _ _ _ g.once _ _ _ _ _ _ _ state) in record {
-      merged = merged;
-      made = made_is list _ _ _ _ _ _ _ _ _ merged;
-      heads = λ b small full. let head = all_heads _ _ _ _ _ _ _ _ _ _ _ _ _ _ _ _ _ _ _ state b small full in (
-        (let f = c.if-count-lt2.false in omega (arith, f)),
-        made_from list _ _ _ _ _ _ _ _ _ merged (num c.classes.hash b) head.0 head.1,
-        head.2,
-      );
-      linked = λ head degree lists none h. still_linked list _ _ _ _ _ _ _ _ _ merged _ head (lasts c.args.sides.now) degree lists none h;
-    }
-
-pub returns-clause-flag : goal.returns-clause-flag
-returns-clause-flag g c = let f = c.classes.invariant.merging.flags in let a = f.0 in let b = f.1 in let d =
-    classes_few c.args.nv.now c.args.iw.now c.args.from c.args.count in (a, omega (arith, b, d))
-
-pub returns-clause-lengths : goal.returns-clause-lengths
-returns-clause-lengths g c = let o = c.classes.invariant.merging.long in let l = c.requires.lengths in
-    (o.0, o.1, o.2, l.3, o.3, o.4, o.5, ap length c.classes.invariant.keys ∙ l.7)
-
-pub returns-clause-keys : goal.returns-clause-keys
-returns-clause-keys g c = c.classes.invariant.keys
-
-pub returns-clause-under : goal.returns-clause-under
-returns-clause-under g c = c.classes.invariant.merging.under
-
-pub returns-clause-zeros : goal.returns-clause-zeros
-returns-clause-zeros g c = c.classes.invariant.merging.zeros
-
-pub returns-then-count-lt2-clause-lengths : goal.returns-then-count-lt2-clause-lengths
-returns-then-count-lt2-clause-lengths g c = c.requires.lengths
-
-pub returns-then-count-lt2-clause-flag : goal.returns-then-count-lt2-clause-flag
-returns-then-count-lt2-clause-flag g c = (le_refl c.args.flag, le-add_right c.args.flag c.args.count)
-
-pub returns-then-count-lt2-clause-under : goal.returns-then-count-lt2-clause-under
-returns-then-count-lt2-clause-under g c = c.requires.under
-
-pub returns-then-count-lt2-clause-zeros : goal.returns-then-count-lt2-clause-zeros
-returns-then-count-lt2-clause-zeros g c x = refl
+pub returns-then-count-lt2 : goal.returns-then-count-lt2
+returns-then-count-lt2 g c = record {
+  merges = (let a = classes_few c.args.nv.now c.args.iw.now c.args.from c.args.count in let t = c.if-count-lt2.true in
+      let merged = few_merged (alike_in (kept_of c.args.iw.now c.args.pe.now c.args.e_len.now)
+      (variables_in c.args.iw.now c.args.pe.now c.args.e_len.now c.args.len.now)) c.args.pe.now c.args.e_len.now c.args.nv.now
+      (nexts c.args.sides.now) (classes c.args.nv.now (rows c.args.iw.now c.args.from c.args.count)) (omega (arith, a, t)) in record {
+        merged = merged;
+        made = made_is (rows c.args.iw.now c.args.from c.args.count) _ _ _ _ _ _ _ _ _ merged;
+        heads = λ b k m. absurd (let e = c.requires.empty b k in omega (arith, e, m));
+        linked = λ head degree lists none h. h;
+      });
+  lengths = (c.requires.lengths);
+  keys = search rules;
+  rises = ((le_refl c.args.flag, le-add_right c.args.flag c.args.count));
+  under = (c.requires.under);
+  zeros = (λ x. refl);
+}
 
 pub overflow_sub-left : goal.overflow_sub-left
 overflow_sub-left g c = c.classes-test.true
-
-pub overflow_add-from : goal.overflow_add-from
-overflow_add-from g c = record {
-  fits = before_fits c.args.from c.classes.left c.args.count (length c.args.iw.now) c.classes.invariant.within c.requires.front.0
-      c.requires.short.0;
-}
 
 pub classes-smaller-then-is_class : goal.classes-smaller-then-is_class
 classes-smaller-then-is_class g c = falls_down c.classes.left c.classes-test.true

@@ -13,7 +13,7 @@ named-x-requires-clause-is_one g c =
     let from : ℕ = c.args.from in let q : ℕ = c.loop-q.q in let k : ℕ = q - from in let after : from ≤ q = c.loop-q.auto.q in let t =
     c.loop-q-test.true in
     let at : from + k ≡ q = add-sub_of_le after in let l : k < c.args.count = within_count after t in
-    ap (λ m. is_place (word c.args.iw.now m)) (sym at) ∙ (c.requires.names k l).0
+    ap (λ m. is_place (word c.args.iw.now m)) (sym at) ∙ (c.requires.span.names k l).0
 
 pub put_cell-requires-clause-inside : goal.put_cell-requires-clause-inside
 put_cell-requires-clause-inside g c =
@@ -21,7 +21,7 @@ put_cell-requires-clause-inside g c =
     let after : from ≤ q = c.loop-q.auto.q in let t = c.loop-q-test.true in
     let at : from + k ≡ q = add-sub_of_le after in let l : k < c.args.count = within_count after t in
     let is : c.named-x.result ≡ place (word iw (from + k)) = c.named-x.ensures ∙ ap (λ m. place (word iw m)) (sym at) in
-    let b = (c.requires.names k l).1 in let long = c.loop-q.invariant.long in omega (arith, b, is, long)
+    let b = (c.requires.span.names k l).1 in let long = c.loop-q.invariant.long in omega (arith, b, is, long)
 
 pub loop-q-preserved : goal.loop-q-preserved
 loop-q-preserved g c =
@@ -30,7 +30,7 @@ loop-q-preserved g c =
     let at : from + k ≡ q = add-sub_of_le after in let l : k < c.args.count = within_count after t in
     let next : q + 1 - from ≡ k + 1 = next_place after in
     let is : c.named-x.result ≡ place (word iw (from + k)) = c.named-x.ensures ∙ ap (λ m. place (word iw m)) (sym at) in
-    let b = (c.requires.names k l).1 in let long = c.loop-q.invariant.long in let small : c.named-x.result < length c.loop-q.w =
+    let b = (c.requires.span.names k l).1 in let long = c.loop-q.invariant.long in let small : c.named-x.result < length c.loop-q.w =
     omega (arith, b, is, long) in
     record {
       long = ap length c.put_cell.ensures ∙ length-set c.loop-q.w c.named-x.result c.args.flag ∙ long;

@@ -30,30 +30,20 @@ put_head-requires g c = record {
   row = search rules;
 }
 
-pub returns-clause-sizes : goal.returns-clause-sizes
-returns-clause-sizes g c = c.leave-size.ensures.sizes
-
-pub returns-clause-marks : goal.returns-clause-marks
-returns-clause-marks g c = c.leave-size.ensures.front
-
-pub returns-clause-bound : goal.returns-clause-bound
-returns-clause-bound g c =
-    let size = c.leave-size.result in
-    c.new_bound-bound.ensures
-    ∙ ap (λ m. min (m + (c.args.border - size)) (c.args.left - size)) c.cell_at.ensures.is
-    ∙ ap (λ s. min (num c.args.degree.now c.args.i + (c.args.border - s)) (c.args.left - s)) c.leave-size.ensures.rows
-
-pub returns-clause-degrees : goal.returns-clause-degrees
-returns-clause-degrees g c = c.put_head.ensures.degrees
-
-pub returns-clause-emptied : goal.returns-clause-emptied
-returns-clause-emptied g c = c.empty_bucket.ensures
-    ∙ ap (λ m. cond (nat_lt 1 c.args.count) (set c.args.hash.now (bucket_of c.args.count (lasts c.args.sides.now) c.args.i) m)
-    c.args.hash.now)
-    c.requires.lengths.3
-
-pub returns-clause-lasts : goal.returns-clause-lasts
-returns-clause-lasts g c = c.put_head.ensures.others
-
-pub returns-clause-linked : goal.returns-clause-linked
-returns-clause-linked g c = c.put_head.ensures.linked
+pub returns : goal.returns
+returns g c = record {
+  lengths = search rules;
+  sizes = (c.leave-size.ensures.sizes);
+  marks = (c.leave-size.ensures.front);
+  bound_is = (let size = c.leave-size.result in
+      c.new_bound-bound.ensures
+      ∙ ap (λ m. min (m + (c.args.border - size)) (c.args.left - size)) c.cell_at.ensures.is
+      ∙ ap (λ s. min (num c.args.degree.now c.args.i + (c.args.border - s)) (c.args.left - s)) c.leave-size.ensures.rows);
+  degrees = (c.put_head.ensures.degrees);
+  emptied = (c.empty_bucket.ensures
+      ∙ ap (λ m. cond (nat_lt 1 c.args.count) (set c.args.hash.now (bucket_of c.args.count (lasts c.args.sides.now) c.args.i) m)
+      c.args.hash.now)
+      c.requires.lengths.3);
+  others = (c.put_head.ensures.others);
+  linked = (c.put_head.ensures.linked);
+}

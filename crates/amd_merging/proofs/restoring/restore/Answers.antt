@@ -26,7 +26,7 @@ use Rattle.amd_words.proofs.WordMarks.{both_not}
 use Rattle.amd_merging.proofs.FrontBack.{Emptying, emptying_none, emptying_skips, emptying_clears, emptying_all}
 use Rattle.amd_merging.proofs.FrontBack.{marked_none, marked_next, marked_skip}
 use Rattle.amd_merging.proofs.FrontBack.{rows_other, rows_fresh, rows_small, put_none, put_more, put_gives, no_head}
-use Rattle.std.proofs.Common.{lt_of_le_of_lt, lt_of_lt_of_le, le_trans, lt_trans, le_of_eq, lit<, falls, add-sub_of_le}
+use Rattle.std.proofs.Common.{lt_of_le_of_lt, lt_of_lt_of_le, le_trans, le_of_eq, falls, add-sub_of_le}
 use Rattle.amd_words.specs.Sides.{nexts, lasts}
 use Rattle.amd_words.proofs.WordCounts.{all_passed, next_place, none_passed, within_count}
 use Rattle.amd_merging.proofs.restoring.restore.Goals as goal
@@ -130,10 +130,10 @@ place_class-bound-requires g c =
     let last_same : num (lasts c.loop-p.sides) i ≡ num (lasts c.args.sides.now) i = was.lasts_kept i named fresh in
     let long = was.lengths in let next = long.3 in
     let here : in_front c.loop-p.nv i ≡ true = sym c.is_marked.ensures ∙ c.if-is_marked.true in
-    let old = c.requires.classes i named (sym mark_same ∙ here) in let s = was.restores.sizes i in let order = c.requires.order in
+    let old = c.requires.classes_are i named (sym mark_same ∙ here) in let s = was.restores.sizes i in let order = c.requires.order in
     let short = c.requires.short in let n = sym next in record {
       lengths = (long.0 ∙ n, long.1 ∙ n, long.2 ∙ n, long.5 ∙ n);
-      short = (subst (λ q. q + 2 ≤ g.S.Signed.MOST) n short.1, le_trans (le_of_eq next) short.2);
+      short = (subst (λ q. q + 2 ≤ g.S.Signed.MOST) n short.0, le_trans (le_of_eq next) short.1);
       row = lt_of_le_of_lt (le_of_eq is) (lt_of_lt_of_le small (le_of_eq n));
       marked = here;
       class = record {
@@ -172,8 +172,8 @@ loop-p-preserved g c =
     elim c.if-is_marked.branch [
       | then-is_marked w ↦ (
           let here : in_front nv i ≡ true = sym mark_same ∙ sym c.is_marked.ensures ∙ w.if-is_marked.true in
-          let e = w.place_class-bound.ensures in let b : ℕ = w.place_class-bound.result in let old = c.requires.classes i named here in
-          let bound_is : b ≡ bound i = e.bound
+          let e = w.place_class-bound.ensures in let b : ℕ = w.place_class-bound.result in let old = c.requires.classes_are i named here in
+          let bound_is : b ≡ bound i = e.bound_is
           ∙ ap (λ m. min (num c.loop-p.degree i + (border - m)) (left - m)) (size_same i)
           ∙ ap (λ m. min (m + (border - size_of nv i)) (left - size_of nv i)) bound_same in
           let tight : b < n = (let a = old.class in omega (arith, bound_is, a, order)) in
@@ -222,7 +222,7 @@ loop-p-preserved g c =
             };
             lasts_kept = λ x m g. let q = rows_fresh nv iw from k i is x (sym (ap (λ xs. has xs x) rows_next_is) ∙ g) in
                 let given = c.requires.linked in
-                ap (λ l. num l x) (ap lasts w.sides-is) ∙ e.lasts x q.0
+                ap (λ l. num l x) (ap lasts w.sides-is) ∙ e.others x q.0
                 (no_head n c.loop-p.head (nexts c.loop-p.sides) (lasts c.loop-p.sides) c.loop-p.degree
                 (put_all bound met given.0) b x
                 (was.linked given.0 given.2 given.1) tight (rows_small n iw from c.args.count c.requires.front.1 x m)
@@ -289,47 +289,6 @@ loop-p-preserved g c =
           )
     ]
 
-pub returns-clause-filters : goal.returns-clause-filters
-returns-clause-filters g c =
-    let t = c.loop-p-test.false in let after : c.args.from ≤ c.loop-p.p = c.loop-p.auto.p in
-    let past : c.loop-p.p ≤ c.args.from + c.args.count = c.loop-p.auto.p-end (le-add_right _ _) in
-    let all : c.loop-p.p - c.args.from ≡ c.args.count = all_passed _ _ _ after past t in
-    subst (λ m. Filters (length (nexts c.args.sides.now)) (in_front c.args.nv.now) (λ j. 0) 0 c.args.iw.now c.args.from m c.args.from
-    c.loop-p.iw
-    c.loop-p.end 0) all c.loop-p.invariant.filters
-
-pub returns-clause-placed : goal.returns-clause-placed
-returns-clause-placed g c =
-    let t = c.loop-p-test.false in let after : c.args.from ≤ c.loop-p.p = c.loop-p.auto.p in
-    let past : c.loop-p.p ≤ c.args.from + c.args.count = c.loop-p.auto.p-end (le-add_right _ _) in
-    let all : c.loop-p.p - c.args.from ≡ c.args.count = all_passed _ _ _ after past t in
-    subst (λ m. Restores (rows c.args.iw.now c.args.from m) c.args.border c.args.left c.args.least c.args.nv.now c.args.degree.now
-    c.loop-p.nv c.loop-p.degree c.loop-p.low) all c.loop-p.invariant.restores
-
-pub returns-clause-empty : goal.returns-clause-empty
-returns-clause-empty g c =
-    let t = c.loop-p-test.false in let after : c.args.from ≤ c.loop-p.p = c.loop-p.auto.p in
-    let past : c.loop-p.p ≤ c.args.from + c.args.count = c.loop-p.auto.p-end (le-add_right _ _) in
-    let all : c.loop-p.p - c.args.from ≡ c.args.count = all_passed _ _ _ after past t in
-    emptying_all (length (nexts c.args.sides.now)) c.args.iw.now c.args.nv.now c.args.from c.args.count c.args.hash.now
-    (lasts c.args.sides.now)
-    c.requires.heads c.loop-p.hash (subst (λ m. Emptying (length (nexts c.args.sides.now)) c.args.iw.now c.args.from c.args.hash.now m
-    c.loop-p.hash)
-    all c.loop-p.invariant.empties)
-
-pub returns-clause-linked : goal.returns-clause-linked
-returns-clause-linked g c lists out h =
-    let t = c.loop-p-test.false in let after : c.args.from ≤ c.loop-p.p = c.loop-p.auto.p in
-    let past : c.loop-p.p ≤ c.args.from + c.args.count = c.loop-p.auto.p-end (le-add_right _ _) in
-    let all : c.loop-p.p - c.args.from ≡ c.args.count = all_passed _ _ _ after past t in
-    subst (λ m. DegreeLists (length (nexts c.args.sides.now)) c.loop-p.head (nexts c.loop-p.sides) (lasts c.loop-p.sides) c.loop-p.degree
-    (put_all (bound_in c.args.border c.args.left c.args.nv.now c.args.degree.now) (marked_in c.args.nv.now
-    (rows c.args.iw.now c.args.from m)) lists))
-    all (c.loop-p.invariant.linked lists out h)
-
-pub overflow_add-p-end : goal.overflow_add-p-end
-overflow_add-p-end g c = record { fits = lt_of_le_of_lt c.requires.front.0 (lt_trans c.requires.short.0 (lit< tt)) }
-
 pub named-i-requires-clause-inside : goal.named-i-requires-clause-inside
 named-i-requires-clause-inside g c = lt_of_lt_of_le c.loop-p-test.true
     (le_trans c.requires.front.0 (le_of_eq (sym c.loop-p.invariant.filters.long)))
@@ -346,5 +305,33 @@ copy_word-requires-clause-to g c =
 pub loop-p-smaller : goal.loop-p-smaller
 loop-p-smaller g c = falls (c.args.from + c.args.count) c.loop-p.p c.loop-p-test.true
 
-pub returns-clause-lengths : goal.returns-clause-lengths
-returns-clause-lengths g c = c.loop-p.invariant.lengths
+pub returns : goal.returns
+returns g c = record {
+  filters = (let t = c.loop-p-test.false in let after : c.args.from ≤ c.loop-p.p = c.loop-p.auto.p in
+      let past : c.loop-p.p ≤ c.args.from + c.args.count = c.loop-p.auto.p-end (le-add_right _ _) in
+      let all : c.loop-p.p - c.args.from ≡ c.args.count = all_passed _ _ _ after past t in
+      subst (λ m. Filters (length (nexts c.args.sides.now)) (in_front c.args.nv.now) (λ j. 0) 0 c.args.iw.now c.args.from m c.args.from
+      c.loop-p.iw
+      c.loop-p.end 0) all c.loop-p.invariant.filters);
+  placed = (let t = c.loop-p-test.false in let after : c.args.from ≤ c.loop-p.p = c.loop-p.auto.p in
+      let past : c.loop-p.p ≤ c.args.from + c.args.count = c.loop-p.auto.p-end (le-add_right _ _) in
+      let all : c.loop-p.p - c.args.from ≡ c.args.count = all_passed _ _ _ after past t in
+      subst (λ m. Restores (rows c.args.iw.now c.args.from m) c.args.border c.args.left c.args.least c.args.nv.now c.args.degree.now
+      c.loop-p.nv c.loop-p.degree c.loop-p.low) all c.loop-p.invariant.restores);
+  empty = (let t = c.loop-p-test.false in let after : c.args.from ≤ c.loop-p.p = c.loop-p.auto.p in
+      let past : c.loop-p.p ≤ c.args.from + c.args.count = c.loop-p.auto.p-end (le-add_right _ _) in
+      let all : c.loop-p.p - c.args.from ≡ c.args.count = all_passed _ _ _ after past t in
+      emptying_all (length (nexts c.args.sides.now)) c.args.iw.now c.args.nv.now c.args.from c.args.count c.args.hash.now
+      (lasts c.args.sides.now)
+      c.requires.heads c.loop-p.hash (subst (λ m. Emptying (length (nexts c.args.sides.now)) c.args.iw.now c.args.from c.args.hash.now m
+      c.loop-p.hash)
+      all c.loop-p.invariant.empties));
+  linked = (λ lists out h. let t = c.loop-p-test.false in let after : c.args.from ≤ c.loop-p.p = c.loop-p.auto.p in
+      let past : c.loop-p.p ≤ c.args.from + c.args.count = c.loop-p.auto.p-end (le-add_right _ _) in
+      let all : c.loop-p.p - c.args.from ≡ c.args.count = all_passed _ _ _ after past t in
+      subst (λ m. DegreeLists (length (nexts c.args.sides.now)) c.loop-p.head (nexts c.loop-p.sides) (lasts c.loop-p.sides) c.loop-p.degree
+      (put_all (bound_in c.args.border c.args.left c.args.nv.now c.args.degree.now) (marked_in c.args.nv.now
+      (rows c.args.iw.now c.args.from m)) lists))
+      all (c.loop-p.invariant.linked lists out h));
+  lengths = (c.loop-p.invariant.lengths);
+}

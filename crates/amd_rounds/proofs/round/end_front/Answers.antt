@@ -7,7 +7,7 @@ use Rattle.amd_lists.specs.Layout.{end_of, Layout}
 use Rattle.amd_lists.specs.Chains.{DegreeLists}
 use Rattle.amd_merging.specs.Closing.{Closes}
 use Rattle.amd_lists.specs.Renewal.{Filters}
-use Rattle.amd_merging.specs.Restoring.{marked_in, bound_in, put_all}
+use Rattle.amd_merging.specs.Restoring.{marked_in, bound_in, put_all, IsPlaceable}
 use Rattle.amd_rounds.specs.Parts.{front_at}
 use Rattle.amd_rounds.specs.Workspaces.{workspace_of}
 use Rattle.amd_rounds.proofs.Fronts.{other_degree, not_placed, ends_before}
@@ -16,28 +16,31 @@ use Rattle.amd_rounds.proofs.round.end_front.Goals as goal
 
 pub returns : goal.returns
 returns g c =
-    let p = c.args.work.now in let v = c.place_list-from.new in let told = c.place_list-from.ensures in let s = c.requires.sized in
+    let p = c.args.work.now in let v = c.place_list-from.new in let told = c.place_list-from.ensures.restores in let s = c.requires.sized in
+    let from_is = c.place_list-from.ensures.from in let same = c.place_list-from.ensures.same in
     let n : ℕ = length p.nv.now in let me : ℕ = c.args.me in let iw : List ℤ = p.iw.now in let pe : List ℤ = p.pe.now in
     let e_len : List ℤ = p.e_len.now in let len : List ℕ = p.len.now in let nv : List ℤ = p.nv.now in let free : ℕ = p.free in
     let from : ℕ = c.place_list-from.result.0 in let end : ℕ = c.place_list-from.result.1 in
     let border : ℕ = c.args.border in let h = c.requires.front in let front : List ℕ = front_at (workspace_of p) me in
     let e_len' : List ℤ = c.close.new.e_len in let len' : List ℕ = c.close.new.len in
-    let same_len : v.len ≡ len = told.same.1 in let same_pe : v.pe ≡ pe = told.same.0 in
+    let same_len : v.len ≡ len = same.1 in let same_pe : v.pe ≡ pe = same.0 in
     let filters : Filters n (in_front nv) (λ j. 0) 0 iw from (num v.len me) from v.iw end 0 =
     subst (λ l. Filters n (in_front nv) (λ j. 0) 0 iw from (num l me) from v.iw end 0) (sym same_len)
-    (subst (λ k. Filters k (in_front nv) (λ j. 0) 0 iw from (num len me) from v.iw end 0) s.next told.filters) in
+    (subst (λ k. Filters k (in_front nv) (λ j. 0) 0 iw from (num len me) from v.iw end 0) s.next
+    (subst (λ f. Filters (length (nexts p.sides.now)) (in_front nv) (λ j. 0) 0 iw f (num len me) f v.iw end 0) (sym from_is)
+    told.filters)) in
     let closes : Closes n me (in_front nv) iw pe e_len len v.iw e_len' len' free =
     subst (λ l. Closes n me (in_front nv) iw pe e_len l v.iw e_len' len' free) same_len
-    (c.close.ensures.closes n (in_front nv) (λ j. 0) 0 0 iw v.iw pe free (sym told.from) h.front.starts filters
+    (c.close.ensures.closes n (in_front nv) (λ j. 0) 0 0 iw v.iw pe free (sym from_is) h.front.starts filters
     (subst (λ l. Layout n iw pe e_len l free) (sym same_len) h.front.laid)) in
     let count : num len' me ≡ end - from = ap (λ l. num l me) c.close.ensures.lengths ∙ get_or-set_same v.len me (end - from) 0
     (let a = ap length same_len in let b = s.len in let d = h.front.row in omega (arith, a, b, d)) in
-    let ends : end_of pe len' me ≡ end = (let a = told.from in let b = filters.low in omega (arith, a, b, count)) in
+    let ends : end_of pe len' me ≡ end = (let a = from_is in let b = filters.low in omega (arith, a, b, count)) in
     let lowered : (c.args.is_built ≡ true) → Layout n v.iw pe e_len' len' end = λ built.
-    c.close.ensures.lowers n v.iw pe free (sym told.from)
+    c.close.ensures.lowers n v.iw pe free (sym from_is)
     (let a = closes.shorter in let b = h.front.within in omega (arith, a, b))
     (λ j ne l. ends_before pe len len' from j (closes.lengths j ne)
-    (λ k. let a = h.before built j ne k in let b = told.from in omega (arith, a, b)) l) closes.laid in
+    (λ k. let a = h.before built j ne k in let b = from_is in omega (arith, a, b)) l) closes.laid in
     let laid : Layout n v.iw pe e_len' len' c.if-is_built.free = elim c.if-is_built.branch [
       | then-is_built w ↦ subst (Layout n v.iw pe e_len' len') (sym w.free-is) (lowered w.if-is_built.true)
       | else-is_built w ↦ subst (Layout n v.iw pe e_len' len') (sym w.free-is) closes.laid
@@ -51,7 +54,7 @@ returns g c =
       ends = record {
         long = filters.long;
         bounds = v.degree;
-        restores = told.restores;
+        restores = told.placed;
         degrees = c.close.ensures.borders;
         closes = closes;
         counts = c.close.ensures.counts;
@@ -92,21 +95,28 @@ returns g c =
 pub place_list-from-requires : goal.place_list-from-requires
 place_list-from-requires g c =
     let s = c.requires.sized in let h = c.requires.front in let w = c.requires.wide in let f = h.front in let p = c.args.work.now in
-    rw s.next (record {
-      lengths = (refl, s.degree, s.head, refl, s.last, s.hash);
-      more_lengths = (s.pe, s.len);
-      short = (omega (arith, w.0, g.met.S.Signed.narrow), w.2, (let a = w.3 in omega (arith, a)));
-      list = (f.row, f.starts);
-      front = (
-        (let a = f.within in let b = f.end in omega (arith, a, b)),
-        (λ k l. f.laid.words (start p.pe.now c.args.me + k) (let a = f.within in omega (arith, a, l))),
-        f.once,
-      );
-      classes = h.classes;
-      order = (h.order.0, (let a = h.order.1 in omega (arith, a)));
-      heads = h.heads;
-      linked = h.linked;
-    })
+    let n = sym s.next in let k = s.next in let q = f.within in record {
+      lengths = (s.pe ∙ n, s.len ∙ n);
+      list = ((let a = f.row in omega (arith, a, k)), f.starts);
+      front = record {
+        lengths = (s.nv ∙ n, s.degree ∙ n, s.head ∙ n, refl, s.last ∙ n, s.hash ∙ n);
+        short = (let a = w.2 in let b = w.3 in ((omega (arith, a, k)), (omega (arith, b, k))));
+        front = (
+          (let b = f.end in omega (arith, q, b)),
+          rw s.next (λ m l. f.laid.words (start p.pe.now c.args.me + m) (omega (arith, q, l))),
+          f.once,
+        );
+        classes_are = λ i a b. subst (λ z. IsPlaceable z c.args.border p.nv.now p.degree.now (lasts p.sides.now) i) n
+            (h.classes i a b);
+        order = (h.order.0, (let a = h.order.1 in omega (arith, a, k)));
+        heads = λ b x y. h.heads b (omega (arith, x, k)) (omega (arith, y, k));
+        linked = (
+          h.linked.0,
+          subst (λ z. DegreeLists z p.head.now (nexts p.sides.now) (lasts p.sides.now) p.degree.now h.linked.0) n h.linked.1,
+          λ b x l. h.linked.2 b x (omega (arith, l, k)),
+        );
+      };
+    }
 
 pub overflow_add-border : goal.overflow_add-border
 overflow_add-border g c = let a = c.requires.front.dense in omega (arith, a)
@@ -116,18 +126,18 @@ add_front-requires g c = c.requires.front.dense
 
 pub close-requires : goal.close-requires
 close-requires g c =
-    let s = c.requires.sized in let h = c.requires.front in let told = c.place_list-from.ensures in let w = c.requires.wide in
-    let row = h.front.row in let low = told.filters.low in record {
+    let s = c.requires.sized in let h = c.requires.front in let told = c.place_list-from.ensures.restores in let same = c.place_list-from.ensures.same in let w = c.requires.wide in
+    let row = h.front.row in let low = told.filters.low in let from_is = c.place_list-from.ensures.from in record {
       row = (
         (let a = s.e_len in omega (arith, a, row)),
-        (let a = ap length told.same.1 in let b = s.len in omega (arith, a, b, row)),
+        (let a = ap length same.1 in let b = s.len in omega (arith, a, b, row)),
         (let a = told.lengths.1 in let b = s.next in omega (arith, a, b, row)),
       );
-      order = low;
+      order = (omega (arith, low, from_is));
       few = (let a = h.order.0 in let b = h.order.1 in let d = w.2 in omega (arith, a, b, d));
       fits = (
-        (let a = told.filters.high in let b = ap (λ l. num l c.args.me) told.same.1 in let d = h.front.within in let e = h.front.end in
-            let f = w.1 in omega (arith, a, b, d, e, f)),
+        (let a = told.filters.high in let b = ap (λ l. num l c.args.me) same.1 in let d = h.front.within in let e = h.front.end in
+            let f = w.1 in omega (arith, a, b, d, e, f, from_is)),
         (let a = h.order.0 in let b = h.order.1 in let d = w.3 in omega (arith, a, b, d)),
       );
     }

@@ -1,6 +1,7 @@
 use Rattle.std.proofs.Common.{refl, sym, ap, subst, ◌∙◌, arith, length}
 use Rattle.amd_words.specs.Sides.{nexts, lasts}
-use Rattle.amd_words.specs.Words.{classes}
+use Rattle.std.proofs.Common.{◌+◌}
+use Rattle.amd_words.specs.Words.{classes, start}
 use Rattle.amd_merging.specs.Merging.{AreRenewed}
 use Rattle.amd_lists.specs.Chains.{DegreeLists}
 use Rattle.amd_rounds.specs.Parts.{front_at}
@@ -9,30 +10,33 @@ use Rattle.amd_rounds.proofs.Fronts.{front_count}
 use Rattle.amd_rounds.proofs.Renewed.{renewed_zeros}
 use Rattle.amd_rounds.proofs.round.merge_alike.Goals as goal
 
-pub merge_list-work-requires-clause-lengths : goal.merge_list-work-requires-clause-lengths
-merge_list-work-requires-clause-lengths g c =
-    let s = c.requires.sized in let n = sym s.next in
-    (s.pe ∙ n, s.e_len ∙ n, s.nv ∙ n, s.len ∙ n, c.renew_flag-flag.ensures.long ∙ s.w ∙ n, s.hash ∙ n, refl, s.last ∙ n)
+pub merge_list-work-requires-clause-list : goal.merge_list-work-requires-clause-list
+merge_list-work-requires-clause-list g c =
+    let f = c.requires.front.front in let a = f.row in let n = c.requires.sized.next in ((omega (arith, a, n)), f.starts)
 
-pub merge_list-work-requires-clause-few : goal.merge_list-work-requires-clause-few
-merge_list-work-requires-clause-few g c =
-    let a = front_count c.requires.front.front in let s = c.requires.sized.next in omega (arith, a, s)
-
-pub merge_list-work-requires-clause-classes : goal.merge_list-work-requires-clause-classes
-merge_list-work-requires-clause-classes g c =
-    let p = c.args.work.now in
-    subst (λ n. AreRenewed n p.iw.now p.pe.now p.e_len.now p.len.now p.nv.now c.renew_flag-flag.new.w (lasts p.sides.now)
-    (classes p.nv.now (front_at (workspace_of p) c.args.me))) (sym c.requires.sized.next)
-    (renewed_zeros c.renew_flag-flag.ensures.zeros c.requires.front.renewed)
-
-pub merge_list-work-requires-clause-room : goal.merge_list-work-requires-clause-room
-merge_list-work-requires-clause-room g c =
-    let a = front_count c.requires.front.front in let s = c.requires.sized.w in let r = c.renew_flag-flag.ensures.room in
-    omega (arith, a, s, r)
+pub merge_list-work-requires-clause-front : goal.merge_list-work-requires-clause-front
+merge_list-work-requires-clause-front g c =
+    let p = c.args.work.now in let s = c.requires.sized in let n = sym s.next in let h = c.requires.front in let f = h.front in
+    let flag = c.renew_flag-flag.ensures in let w = c.requires.wide in let a = front_count f in let k = s.next in record {
+      lengths = (s.pe ∙ n, s.e_len ∙ n, s.nv ∙ n, s.len ∙ n, flag.long ∙ s.w ∙ n, s.hash ∙ n, refl, s.last ∙ n);
+      short = (let x = w.2 in let y = w.3 in ((omega (arith, x, k)), (omega (arith, y, k))));
+      front = (
+        (let x = f.within in let y = f.end in omega (arith, x, y)),
+        rw s.next (λ m l. f.laid.words (start p.pe.now c.args.me + m) (let x = f.within in omega (arith, x, l))),
+        f.once,
+      );
+      few = omega (arith, a, k);
+      classes_are = subst (λ n. AreRenewed n p.iw.now p.pe.now p.e_len.now p.len.now p.nv.now c.renew_flag-flag.new.w
+          (lasts p.sides.now) (classes p.nv.now (front_at (workspace_of p) c.args.me))) n
+          (renewed_zeros flag.zeros h.renewed);
+      under = flag.under;
+      room = (let x = s.w in let r = flag.room in omega (arith, a, x, r));
+      empty = λ b l. let e = h.empty b (omega (arith, l, k)) in omega (arith, e, k);
+    }
 
 pub returns : goal.returns
 returns g c =
-    let p = c.args.work.now in let v = c.merge_list-work.new in let told = c.merge_list-work.ensures in let s = c.requires.sized in
+    let p = c.args.work.now in let v = c.merge_list-work.new in let told = c.merge_list-work.ensures.merges in let same = c.merge_list-work.ensures.same in let s = c.requires.sized in
     let l = told.lengths in
     record {
       merges = record {
@@ -41,11 +45,11 @@ returns g c =
         heads = λ b k m. let n = s.next in told.merges.heads b (omega (arith, n, k)) (omega (arith, n, m));
         linked = λ lists other h.
             subst (λ n. DegreeLists n p.head.now (nexts v.sides) (lasts v.sides) p.degree.now lists) s.next
-            (subst (λ l. DegreeLists (length (nexts p.sides.now)) p.head.now (nexts v.sides) l p.degree.now lists) (sym told.same.2)
+            (subst (λ l. DegreeLists (length (nexts p.sides.now)) p.head.now (nexts v.sides) l p.degree.now lists) (sym told.keys)
             (told.merges.linked p.head.now p.degree.now lists (λ b x k m. other b x (let n = s.next in omega (arith, n, k)) m)
             (subst (λ n. DegreeLists n p.head.now (nexts p.sides.now) (lasts p.sides.now) p.degree.now lists) (sym s.next) h)));
         under = told.under;
-        two = (let a = told.flag in let b = c.renew_flag-flag.ensures.two in omega (arith, a, b));
+        two = (let a = told.rises.0 in let b = c.renew_flag-flag.ensures.two in omega (arith, a, b));
         zeros = λ x. told.zeros x ∙ c.renew_flag-flag.ensures.zeros x;
         live_is = refl;
         most_is = c.max-work.ensures;
@@ -53,15 +57,15 @@ returns g c =
           pe = l.0 ∙ s.next;
           e_len = l.1 ∙ s.next;
           nv = l.2 ∙ s.next;
-          len = ap length told.same.1 ∙ s.len;
+          len = ap length same.1 ∙ s.len;
           degree = s.degree;
           w = l.4 ∙ s.next;
           head = s.head;
           next = l.6 ∙ s.next;
-          last = ap length told.same.2 ∙ s.last;
+          last = ap length told.keys ∙ s.last;
           hash = l.5 ∙ s.next;
         };
-        same = rw (told.same.0, told.same.1, told.same.2) refl;
+        same = rw (same.0, same.1, told.keys) refl;
       };
       loans = (refl, refl, refl, refl);
     }
