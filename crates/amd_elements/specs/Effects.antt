@@ -1,5 +1,6 @@
 -- What the parts of making an element leave behind, each between what it found and what it left.
-use Rattle.std.specs.Prelude.{ℕ, ℤ, Bool, true, false, [], List, ◌≡◌, ◌≤◌, ◌+◌, ◌-◌, ◌||◌, ◌&&◌, ◌==◌, not, cond, nat_lt}
+use Rattle.std.specs.Prelude.{ℕ, ℤ, Bool, true, false, [], List, ◌≡◌, ◌≤◌, ◌+◌, ◌-◌, ◌||◌, ◌&&◌, ◌==◌, not, cond}
+use Rattle.std.specs.Prelude.{nat_lt}
 use Rattle.std.specs.Prelude.{length, sum_by}
 use Rattle.amd_model.specs.Quotient.{has}
 use Rattle.amd_words.specs.Words.{num, word, start, size_of, in_front, flip_of, rows}

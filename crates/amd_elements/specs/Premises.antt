@@ -1,4 +1,4 @@
--- What the parts of making an element ask of a workspace. The greatest word and the greatest figure are given where
+-- What the parts of making an element ask of a workspace. The greatest word and the greatest cell are given where
 -- something is to be written.
 use Rattle.std.specs.Prelude.{ℕ, ℤ, pos, true, false, List, ◌≡◌, ◌<◌, ◌≤◌, ◌+◌, ◌-◌, ◌^◌, length, sum_by}
 use Rattle.amd_model.specs.Quotient.{has}
@@ -33,24 +33,24 @@ pub record CanMakeRoom (most_word me : ℕ) (iw nv pe e_len : List ℤ) (len : L
   pub elements : (e : ℕ) → has (elements_in iw pe e_len me) e ≡ true → has_list pe len e ≡ true
 
 -- a pivot that lists elements, whose new element has room behind all lists
-pub record CanMakeElement (most_word most_figure me : ℕ) (iw nv pe e_len : List ℤ) (len w : List ℕ) (free : ℕ) : Type 0
+pub record CanMakeElement (most_word most_cell me : ℕ) (iw nv pe e_len : List ℤ) (len w : List ℕ) (free : ℕ) : Type 0
   where
     pub pivot : IsPivot me iw nv pe e_len len free
     pub counters : length w ≡ length nv
     pub wide : AreWide most_word (length nv) iw
-    pub figures : length iw ≤ most_figure
+    pub cells : length iw ≤ most_cell
     pub count : is_place (word e_len me) ≡ true
     pub elements : HasElements iw pe e_len len me
     pub fits : free + length (built_front iw nv pe e_len len me) ≤ length iw
     pub few : sum_by (size_of nv) (built_front iw nv pe e_len len me) + 2 ≤ most_word
 
 -- so it is, or will be once the lists are packed
-pub record CanBeginBuilt (most_word most_figure me : ℕ) (iw nv pe e_len : List ℤ) (len w : List ℕ) (free : ℕ) : Type 0
+pub record CanBeginBuilt (most_word most_cell me : ℕ) (iw nv pe e_len : List ℤ) (len w : List ℕ) (free : ℕ) : Type 0
   where
     pub pivot : IsPivot me iw nv pe e_len len free
     pub counters : length w ≡ length nv
     pub wide : AreWide most_word (length nv) iw
-    pub figures : length iw ≤ most_figure
+    pub cells : length iw ≤ most_cell
     pub room : live_words (length nv) pe len + length nv ≤ length iw
     pub count : is_place (word e_len me) ≡ true
     pub elements : HasElements iw pe e_len len me
@@ -75,7 +75,8 @@ pub record CanBuild (me n_elements : ℕ) (iw nv pe : List ℤ) (len : List ℕ)
   pub fits : free + length (front_of iw nv pe len me n_elements) ≤ length iw
   pub few : sum_by (size_of nv) (front_of iw nv pe len me n_elements) < 2 ^ 63
 
--- count words stand before the list that is gathered from `start` to `free`; its rows are those of the front so far, and
+-- count words stand before the list that is gathered from `start` to `free`; its rows are those of the front so far,
+-- and
 -- there is room for what is added to them
 pub record CanGather (iw nv : List ℤ) (from count start free total : ℕ) : Type 0 where
   pub source : from + count ≤ start
@@ -96,11 +97,11 @@ pub record CanAbsorb (most_word me : ℕ) (iw pe : List ℤ) (w : List ℕ) (fro
   pub small : me + 2 ≤ most_word
 
 -- the words from one place to another can be the list of the row me, with so many rows
-pub record CanSettle (most_word most_figure me from end total : ℕ) (pe e_len : List ℤ) (len : List ℕ) : Type 0 where
+pub record CanSettle (most_word most_cell me from end total : ℕ) (pe e_len : List ℤ) (len : List ℕ) : Type 0 where
   pub row : (me < length pe) × (me < length e_len) × (me < length len)
   pub order : (from ≤ end) × (from ≤ most_word)
   pub few : total + 2 ≤ most_word
-  pub fits : end - from ≤ most_figure
+  pub fits : end - from ≤ most_cell
 
 -- the list of the row j can lend its first word to a mark
 pub record CanMark (most_word j : ℕ) (iw pe : List ℤ) : Type 0 where

@@ -14,7 +14,7 @@ use crate::room::make_room;
 use amd_words::words::{put_row, size_inside};
 use amd_words::{Cell, Signed, Unsigned, Word};
 
-/// What the beginning of an element answers.
+/// What the beginning of an element returns.
 #[derive(Drop)]
 pub struct Begun {
     /// No list has a word from here on.
@@ -27,7 +27,7 @@ pub struct Begun {
     pub packed: bool,
 }
 
-/// Takes the pivot out of the front, and leaves it no rows. Answers how many it had.
+/// Takes the pivot out of the front, and leaves it no rows. Returns how many it had.
 fn take_pivot<S: Signed>(nv: &mut [Word<S>], me: usize) -> usize
     requires inside { me < length nv.old }
     requires marked { in_front nv.old me ≡ true }

@@ -10,7 +10,7 @@ use amd_words::words::{enter, is_open, named};
 use amd_words::{Cell, Signed, Unsigned, Word, cell_at, copy_word};
 
 /// Appends the classes among some words that are not in the front yet to the list that stands from `start` to `free`,
-/// and puts them into the front. Answers the new end, and the number of rows of the list.
+/// and puts them into the front. Returns the new end, and the number of rows of the list.
 pub fn gather<S: Signed>(
     iw: &mut [Word<S>],
     nv: &mut [Word<S>],
@@ -39,7 +39,7 @@ pub fn gather<S: Signed>(
 
 /// Builds the list of the pivot's new element behind the lists: the classes of the pivot's elements, element after
 /// element, and then those of its variables, each at its first occurrence and without the pivot. They and the pivot are
-/// in the front then. Answers the new end, and the number of rows of the front.
+/// in the front then. Returns the new end, and the number of rows of the front.
 pub fn build<S: Signed, U: Unsigned>(
     iw: &mut [Word<S>],
     nv: &mut [Word<S>],

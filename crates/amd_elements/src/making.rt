@@ -50,7 +50,7 @@ fn settle<S: Signed, U: Unsigned>(
 }
 
 /// Makes the pivot `me` an element, whose list is built behind all lists, and ends the elements that it absorbs.
-/// Answers the new free end, and the number of rows of its list.
+/// Returns the new free end, and the number of rows of its list.
 pub fn make_element<S: Signed, U: Unsigned>(
     iw: &mut [Word<S>],
     nv: &mut [Word<S>],

@@ -12,7 +12,7 @@ use amd_words::words::{enter, is_open, named, put_flip};
 use amd_words::{Cell, Signed, Unsigned, Word, cell_at, copy_word, put_cell};
 
 /// Keeps, in their place, the classes among some words that are not in the front yet, each at its first occurrence, and
-/// puts them into the front. Answers where they end, and their number of rows.
+/// puts them into the front. Returns where they end, and their number of rows.
 pub fn gather_own<S: Signed>(
     iw: &mut [Word<S>],
     nv: &mut [Word<S>],
@@ -38,7 +38,7 @@ pub fn gather_own<S: Signed>(
     (end, sum)
 }
 
-/// Makes the pivot `me`, which lists no element, an element in its own place: the classes that it lists. Answers where
+/// Makes the pivot `me`, which lists no element, an element in its own place: the classes that it lists. Returns where
 /// the list ends, and its number of rows.
 pub fn make_own<S: Signed, U: Unsigned>(
     iw: &mut [Word<S>],

@@ -15,7 +15,7 @@ use crate::compaction::compact;
 use amd_words::words::{enter, is_marked, is_open, leave, named};
 use amd_words::{Cell, Signed, Unsigned, Word, cell_at};
 
-/// A row is met: a class that was not met before is put into the front, and takes one of `left` places. Answers how
+/// A row is met: a class that was not met before is put into the front, and takes one of `left` places. Returns how
 /// many are left.
 fn meet<S: Signed>(nv: &mut [Word<S>], j: usize, left: usize) -> usize
     requires { j < length nv.old }
@@ -28,7 +28,7 @@ fn meet<S: Signed>(nv: &mut [Word<S>], j: usize, left: usize) -> usize
     left
 }
 
-/// The rows that `count` words name are met. Answers how many places are left.
+/// The rows that `count` words name are met. Returns how many places are left.
 fn meet_all<S: Signed>(
     iw: &[Word<S>],
     nv: &mut [Word<S>],
@@ -47,7 +47,7 @@ fn meet_all<S: Signed>(
     now
 }
 
-/// Puts the pivot and the classes of its new element into the front. Each of these takes one of `left` places. Answers
+/// Puts the pivot and the classes of its new element into the front. Each of these takes one of `left` places. Returns
 /// how many are left.
 #[cold]
 fn meet_front<S: Signed, U: Unsigned>(
@@ -172,7 +172,7 @@ pub fn fits<S: Signed, U: Unsigned>(
 }
 
 /// Makes room behind all lists for the list of the pivot's new element: if it does not fit there, the lists are packed.
-/// Answers the new free end, and whether the lists were packed.
+/// Returns the new free end, and whether the lists were packed.
 #[tactic(none)]
 pub fn make_room<S: Signed, U: Unsigned>(
     iw: &mut [Word<S>],

@@ -1,5 +1,6 @@
 -- What the parts of turning a front over to its element leave behind, each between what it found and what it left.
-use Rattle.std.specs.Prelude.{ℕ, ℤ, pos, negsuc, Bool, true, List, ◌≡◌, ◌<◌, ◌≤◌, ◌+◌, ◌-◌, ◌==◌, ◌&&◌, ◌++◌, cond, length}
+use Rattle.std.specs.Prelude.{ℕ, ℤ, pos, negsuc, Bool, true, List, ◌≡◌, ◌<◌, ◌≤◌, ◌+◌, ◌-◌, ◌==◌, ◌&&◌, ◌++◌, cond}
+use Rattle.std.specs.Prelude.{length}
 use Rattle.std.specs.Prelude.{slice_set}
 use Rattle.amd_model.specs.Quotient.{has}
 use Rattle.amd_words.specs.Sides.{nexts, lasts}
@@ -18,14 +19,16 @@ pub record TouchesOrEnds (aggressive : Bool) (flag more e me : ℕ) (degree : Li
     (pe' : List ℤ) (w' : List ℕ) : Type 0 where
   pub long : (length w' ≡ length w) × (length pe' ≡ length pe)
   pub counted : (x : ℕ) → num w' x ≡ cond (x == e) (settled aggressive flag (touched_in degree w flag more e)) (num w x)
-  pub starts : (x : ℕ) → word pe' x ≡ cond (x == e && ends aggressive flag (touched_in degree w flag more e)) (flip_of me)
+  pub starts : (x : ℕ) → word pe' x ≡ cond (x == e && ends aggressive flag (touched_in degree w flag more e)) (flip_of
+      me)
       (word pe x)
 
 -- so have those of the elements xs
 pub record TouchesAll (aggressive : Bool) (flag more me : ℕ) (xs degree : List ℕ) (pe : List ℤ) (w : List ℕ)
     (pe' : List ℤ) (w' : List ℕ) : Type 0 where
   pub long : (length w' ≡ length w) × (length pe' ≡ length pe)
-  pub counted : (e : ℕ) → num w' e ≡ cond (has xs e) (settled aggressive flag (touched_in degree w flag more e)) (num w e)
+  pub counted : (e : ℕ) → num w' e ≡ cond (has xs e) (settled aggressive flag (touched_in degree w flag more e)) (num w
+      e)
   pub starts : (e : ℕ) → word pe' e ≡ cond (has xs e && ends aggressive flag (touched_in degree w flag more e))
       (flip_of me) (word pe e)
 
@@ -33,7 +36,8 @@ pub record TouchesAll (aggressive : Bool) (flag more me : ℕ) (xs degree : List
 pub record CountsClass (aggressive : Bool) (flag more me i : ℕ) (xs degree : List ℕ) (pe : List ℤ) (w head : List ℕ)
     (sides : List (ℕ × ℕ)) (pe' : List ℤ) (w' head' : List ℕ) (sides' : List (ℕ × ℕ)) : Type 0 where
   pub long : (length w' ≡ length w) × (length pe' ≡ length pe)
-  pub counted : (e : ℕ) → num w' e ≡ cond (has xs e) (settled aggressive flag (touched_in degree w flag more e)) (num w e)
+  pub counted : (e : ℕ) → num w' e ≡ cond (has xs e) (settled aggressive flag (touched_in degree w flag more e)) (num w
+      e)
   pub starts : (e : ℕ) → word pe' e ≡ cond (has xs e && ends aggressive flag (touched_in degree w flag more e))
       (flip_of me) (word pe e)
   pub lengths : KeepsLinks head (nexts sides) (lasts sides) head' (nexts sides') (lasts sides')
@@ -48,16 +52,17 @@ pub record CountsOutside (aggressive : Bool) (flag me : ℕ) (front : List ℕ) 
     pub counted : CountsFront aggressive flag front iw pe e_len nv degree w w'
     pub starts : EndsCounted aggressive flag me front iw pe e_len nv degree w pe'
     pub lengths : KeepsLinks head (nexts sides) (lasts sides) head' (nexts sides') (lasts sides')
-    pub linked : LeavesLists (length w) front head (nexts sides) (lasts sides) degree head' (nexts sides') (lasts sides')
+    pub linked : LeavesLists (length w) front head (nexts sides) (lasts sides) degree head' (nexts sides') (lasts
+        sides')
         degree
 
 -- counters are below the flag, there is room for a count above it, and what was 0 alone is 0
-pub record RenewsFlag (most_figure : ℕ) (w w' : List ℕ) (flag : ℕ) : Type 0 where
+pub record RenewsFlag (most_cell : ℕ) (w w' : List ℕ) (flag : ℕ) : Type 0 where
   pub long : length w' ≡ length w
   pub two : 2 ≤ flag
   pub under : (e : ℕ) → num w' e < flag
   pub zeros : (e : ℕ) → (num w' e == 0) ≡ (num w e == 0)
-  pub room : flag + length w ≤ most_figure
+  pub room : flag + length w ≤ most_cell
 
 -- the list of the class i was renewed, and has count words; it reaches so many rows outside the front, and hash is the
 -- sum of what it keeps, as a word wraps it
@@ -89,7 +94,8 @@ pub record RenewsOrRetires (flag me i : ℕ) (w : List ℕ) (iw pe e_len nv : Li
 pub record RenewsAllClasses (flag me : ℕ) (w : List ℕ) (free : ℕ) (iw pe e_len nv : List ℤ) (len degree : List ℕ)
     (sides : List (ℕ × ℕ)) (iw' pe' e_len' nv' : List ℤ) (len' degree' : List ℕ) (sides' : List (ℕ × ℕ)) (gone : ℕ)
     : Type 0 where
-  pub renews : RenewsFront (length w) me (is_kept w) (is_outside nv) (λ e. num w e - flag) (list_in iw pe len me) free iw
+  pub renews : RenewsFront (length w) me (is_kept w) (is_outside nv) (λ e. num w e - flag) (list_in iw pe len me) free
+      iw
       pe e_len nv len degree (lasts sides) iw' pe' e_len' nv' len' degree' (lasts sides') gone
   pub links : nexts sides' ≡ nexts sides
 
@@ -99,7 +105,8 @@ pub record Turns (aggressive : Bool) (flag me free : ℕ) (iw pe e_len nv : List
     (gone : ℕ) : Type 0 where
   pub turns : TurnsFront aggressive (length w) me flag (list_in iw pe len me) free iw pe e_len nv len degree w iw' pe'
       e_len' nv' len' degree' w' (lasts sides') gone
-  pub linked : LeavesLists (length w) (list_in iw pe len me) head (nexts sides) (lasts sides) degree head' (nexts sides')
+  pub linked : LeavesLists (length w) (list_in iw pe len me) head (nexts sides) (lasts sides) degree head' (nexts
+      sides')
       (lasts sides') degree'
   pub lengths : (length w' ≡ length w) × (length head' ≡ length head) × (length (nexts sides') ≡ length (nexts sides))
   pub more_lengths : (length pe' ≡ length w) × (length (lasts sides') ≡ length w)

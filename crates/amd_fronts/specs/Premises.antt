@@ -1,4 +1,4 @@
--- What the parts of turning a front over to its element ask of a workspace. The greatest word and the greatest figure
+-- What the parts of turning a front over to its element ask of a workspace. The greatest word and the greatest cell
 -- are given where something is to be written.
 use Rattle.std.specs.Prelude.{ℕ, ℤ, true, false, List, ◌≡◌, ◌<◌, ◌≤◌, ◌+◌, length, sum_by}
 use Rattle.amd_model.specs.Quotient.{has, Once}
@@ -11,14 +11,14 @@ use Rattle.amd_fronts.specs.Tallies.{NamesFront, IsCounted, IsPart}
 use Rattle.amd_fronts.specs.TurningLists.{IsFrontList, AreTurning}
 
 -- the counter of the element e can lose the `more` rows of a class: it has as many, now or once it starts anew
-pub record CanTouch (most_figure : ℕ) (degree w : List ℕ) (e more flag : ℕ) : Type 0 where
+pub record CanTouch (most_cell : ℕ) (degree w : List ℕ) (e more flag : ℕ) : Type 0 where
   pub inside : (e < length w) × (e < length degree)
   pub again : flag ≤ num w e → more ≤ num w e
   pub first : 0 < num w e → more ≤ num degree e
-  pub fits : num degree e + flag ≤ most_figure
+  pub fits : num degree e + flag ≤ most_cell
 
 -- so can that of each element that count words name, which may end in the row me
-pub record CanTouchAll (most_word most_figure me : ℕ) (iw pe : List ℤ) (degree w : List ℕ) (from count more flag : ℕ)
+pub record CanTouchAll (most_word most_cell me : ℕ) (iw pe : List ℤ) (degree w : List ℕ) (from count more flag : ℕ)
     : Type 0 where
   pub lengths : (length degree ≡ length w) × (length pe ≡ length w)
   pub small : me + 2 ≤ most_word
@@ -27,10 +27,10 @@ pub record CanTouchAll (most_word most_figure me : ℕ) (iw pe : List ℤ) (degr
   pub once : Once (rows iw from count)
   pub again : (e : ℕ) → has (rows iw from count) e ≡ true → flag ≤ num w e → more ≤ num w e
   pub first : (e : ℕ) → has (rows iw from count) e ≡ true → 0 < num w e → more ≤ num degree e
-  pub fits : (e : ℕ) → e < length w → num degree e + flag ≤ most_figure
+  pub fits : (e : ℕ) → e < length w → num degree e + flag ≤ most_cell
 
 -- the class i, which stands in the list of its bound, can be counted
-pub record CanCountClass (most_word most_figure me : ℕ) (iw pe e_len nv : List ℤ) (degree w head : List ℕ)
+pub record CanCountClass (most_word most_cell me : ℕ) (iw pe e_len nv : List ℤ) (degree w head : List ℕ)
     (sides : List (ℕ × ℕ)) (i flag : ℕ) : Type 0 where
   pub lengths : HasBounds (length w) pe e_len nv degree
   pub more_lengths : HasSides (length w) head sides
@@ -39,10 +39,10 @@ pub record CanCountClass (most_word most_figure me : ℕ) (iw pe e_len nv : List
   pub listed : IsListed (length w) iw pe e_len nv i
   pub again : (e : ℕ) → has (elements_in iw pe e_len i) e ≡ true → flag ≤ num w e → size_of nv i ≤ num w e
   pub first : (e : ℕ) → has (elements_in iw pe e_len i) e ≡ true → 0 < num w e → size_of nv i ≤ num degree e
-  pub fits : (e : ℕ) → e < length w → num degree e + flag ≤ most_figure
+  pub fits : (e : ℕ) → e < length w → num degree e + flag ≤ most_cell
 
 -- so can each class of a front, whose list stands in count words, while counters are below the flag
-pub record CanCountFront (most_word most_figure me : ℕ) (iw pe e_len nv : List ℤ) (degree w head : List ℕ)
+pub record CanCountFront (most_word most_cell me : ℕ) (iw pe e_len nv : List ℤ) (degree w head : List ℕ)
     (sides : List (ℕ × ℕ)) (from count flag : ℕ) : Type 0 where
   pub lengths : HasBounds (length w) pe e_len nv degree
   pub more_lengths : HasSides (length w) head sides
@@ -53,12 +53,12 @@ pub record CanCountFront (most_word most_figure me : ℕ) (iw pe e_len nv : List
       IsCounted (length w) (rows iw from count) iw pe e_len nv degree i
   pub two : 2 ≤ flag
   pub under : (e : ℕ) → num w e < flag
-  pub fits : (e : ℕ) → e < length w → num degree e + flag ≤ most_figure
+  pub fits : (e : ℕ) → e < length w → num degree e + flag ≤ most_cell
   pub part : IsPart iw pe e_len nv degree w (rows iw from count)
 
 -- counters are below a flag, and there may be room for a count above it
-pub record CanRenewFlag (most_figure flag : ℕ) (w : List ℕ) : Type 0 where
-  pub short : length w + 2 ≤ most_figure
+pub record CanRenewFlag (most_cell flag : ℕ) (w : List ℕ) : Type 0 where
+  pub short : length w + 2 ≤ most_cell
   pub two : 2 ≤ flag
   pub under : (e : ℕ) → num w e < flag
 
@@ -78,11 +78,11 @@ pub record CanRetire (most_word i me : ℕ) (pe e_len nv : List ℤ) : Type 0 wh
   pub marked : in_front nv i ≡ true
 
 -- it can be renewed, or end
-pub record CanRenewOrRetire (most_word most_figure flag me i : ℕ) (iw pe e_len nv : List ℤ) (len degree w : List ℕ)
+pub record CanRenewOrRetire (most_word most_cell flag me i : ℕ) (iw pe e_len nv : List ℤ) (len degree w : List ℕ)
     (last : List ℕ) : Type 0 where
   pub lengths : HasLists (length w) pe e_len len nv
   pub more_lengths : (length degree ≡ length w) × (length last ≡ length w)
-  pub narrow : (length iw ≤ most_word) × (length w ≤ most_figure)
+  pub narrow : (length iw ≤ most_word) × (length w ≤ most_cell)
   pub row : (me < length w) × (me + 2 ≤ most_word)
   pub placed : IsPlaced (length w) iw pe e_len len i
   pub loses : LosesOne (is_kept w) (is_outside nv) iw pe e_len len i
@@ -90,11 +90,11 @@ pub record CanRenewOrRetire (most_word most_figure flag me i : ℕ) (iw pe e_len
   pub met : AreMet flag w (elements_in iw pe e_len i)
 
 -- so can each class of the front of the new element me
-pub record CanRenewAll (most_word most_figure flag me free : ℕ) (iw pe e_len nv : List ℤ) (len degree w : List ℕ)
+pub record CanRenewAll (most_word most_cell flag me free : ℕ) (iw pe e_len nv : List ℤ) (len degree w : List ℕ)
     (last : List ℕ) : Type 0 where
   pub lengths : HasLists (length w) pe e_len len nv
   pub more_lengths : (length degree ≡ length w) × (length last ≡ length w)
-  pub narrow : (length iw ≤ most_word) × (length w ≤ most_figure)
+  pub narrow : (length iw ≤ most_word) × (length w ≤ most_cell)
   pub end : free ≤ length iw
   pub laid : Layout (length w) iw pe e_len len free
   pub row : (me < length w) × (me + 2 ≤ most_word)
@@ -108,11 +108,11 @@ pub record CanRenewAll (most_word most_figure flag me free : ℕ) (iw pe e_len n
   pub few : sum_by (size_of nv) (list_in iw pe len me) ≤ most_word
 
 -- the front of the new element me can be turned over to it
-pub record CanTurnFront (most_word most_figure flag me free : ℕ) (iw pe e_len nv : List ℤ) (len degree w head : List ℕ)
+pub record CanTurnFront (most_word most_cell flag me free : ℕ) (iw pe e_len nv : List ℤ) (len degree w head : List ℕ)
     (sides : List (ℕ × ℕ)) : Type 0 where
   pub lengths : HasBounds (length w) pe e_len nv degree × (length len ≡ length w)
   pub more_lengths : HasSides (length w) head sides
-  pub narrow : (length iw ≤ most_word) × (length w ≤ most_figure)
+  pub narrow : (length iw ≤ most_word) × (length w ≤ most_cell)
   pub end : free ≤ length iw
   pub laid : Layout (length w) iw pe e_len len free
   pub row : (me < length w) × (me + 2 ≤ most_word)
@@ -120,5 +120,5 @@ pub record CanTurnFront (most_word most_figure flag me free : ℕ) (iw pe e_len 
   pub front : AreTurning (length w) me iw pe e_len nv len degree w
   pub few : sum_by (size_of nv) (list_in iw pe len me) ≤ most_word
   pub two : (2 ≤ flag) × ((e : ℕ) → num w e < flag)
-  pub fits : (e : ℕ) → e < length w → num degree e + flag ≤ most_figure
+  pub fits : (e : ℕ) → e < length w → num degree e + flag ≤ most_cell
   pub part : IsPart iw pe e_len nv degree w (list_in iw pe len me)

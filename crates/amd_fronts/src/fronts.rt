@@ -13,7 +13,7 @@ use amd_words::sides::{Sides, put_last};
 use amd_words::words::{named, put_flip, put_row, size_inside};
 use amd_words::{Cell, Signed, Unsigned, Word, cell_at, put_cell, put_word};
 
-/// Renews the list of the class `i` in its place. Answers the number of its words, the number of rows that it reaches
+/// Renews the list of the class `i` in its place. Returns the number of its words, the number of rows that it reaches
 /// outside the front, at most the greatest `usize`, and the sum of what it keeps, which wraps.
 fn renew_class<S: Signed, U: Unsigned>(
     iw: &mut [Word<S>],
@@ -59,7 +59,7 @@ fn lower_bound<U: Unsigned>(degree: &mut [Cell<U>], i: usize, outside: usize)
     }
 }
 
-/// Ends a class of the front, whose rows go with the pivot `me`. Answers the number of its rows.
+/// Ends a class of the front, whose rows go with the pivot `me`. Returns the number of its rows.
 fn retire<S: Signed>(
     pe: &mut [Word<S>],
     e_len: &mut [Word<S>],
@@ -78,7 +78,7 @@ fn retire<S: Signed>(
 }
 
 /// Renews the list, the bound and the key of a class of the front, or ends it if it keeps nothing but the new element.
-/// Answers the number of rows that go with the pivot.
+/// Returns the number of rows that go with the pivot.
 fn renew_or_retire<S: Signed, U: Unsigned>(
     iw: &mut [Word<S>],
     pe: &mut [Word<S>],
@@ -108,7 +108,7 @@ fn renew_or_retire<S: Signed, U: Unsigned>(
 
 /// Renews the list of each class of the new element's list in its place, makes its bound no greater than the number of
 /// rows that it reaches outside the front, and leaves its key in `sides`, in place of the row before it. A class that
-/// keeps nothing but the new element ends. Answers the number of rows of those that ended. All lists end before `free`.
+/// keeps nothing but the new element ends. Returns the number of rows of those that ended. All lists end before `free`.
 pub fn renew_all<S: Signed, U: Unsigned>(
     iw: &mut [Word<S>],
     pe: &mut [Word<S>],

@@ -13,7 +13,7 @@ use amd_words::{Cell, Signed, Unsigned, Word, cell_at};
 
 /// Takes the classes of the front of the new element `me` out of the lists by bound, counts the rows of other elements
 /// outside the front, and renews the lists, bounds and keys of the classes. With `aggressive` the elements without
-/// rows outside end, and a class that keeps nothing but the new element always ends. Answers the number of rows of the
+/// rows outside end, and a class that keeps nothing but the new element always ends. Returns the number of rows of the
 /// classes that ended. All lists end before `free`.
 pub fn turn<S: Signed, U: Unsigned>(
     iw: &mut [Word<S>],

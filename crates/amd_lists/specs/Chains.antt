@@ -73,10 +73,10 @@ pub record UnlinksRow (i d : ℕ) (head : List ℕ) (sides : List (ℕ × ℕ)) 
     pub unlinks : Unlinks (row_count sides) i d head (nexts sides) (lasts sides) head' (nexts sides') (lasts sides')
     pub lengths : HasSides (row_count sides) head' sides'
 
--- so they are, and each row can stand beside another one: figures go up to most_figure
-pub record CanLink (most_figure i d : ℕ) (head : List ℕ) (sides : List (ℕ × ℕ)) : Type 0 where
+-- so they are, and each row can stand beside another one: cells go up to most_cell
+pub record CanLink (most_cell i d : ℕ) (head : List ℕ) (sides : List (ℕ × ℕ)) : Type 0 where
   pub long : length head ≡ row_count sides
-  pub short : row_count sides ≤ most_figure
+  pub short : row_count sides ≤ most_cell
   pub row : (i < row_count sides) × (d < row_count sides)
 
 -- a row stands at the head of the list of the bound d
@@ -94,13 +94,14 @@ pub record IsBounded (i : ℕ) (head degree : List ℕ) (sides : List (ℕ × �
 pub record TakesOut (i : ℕ) (degree head : List ℕ) (sides : List (ℕ × ℕ)) (head' : List ℕ) (sides' : List (ℕ × ℕ))
     : Type 0 where
   pub lengths : HasSides (row_count sides) head' sides'
-  pub linked : (lists : ℕ → List ℕ) → has (lists (num degree i)) i ≡ true → Linked (row_count sides) head sides degree lists →
+  pub linked : (lists : ℕ → List ℕ) → has (lists (num degree i)) i ≡ true →
+      Linked (row_count sides) head sides degree lists →
       Linked (row_count sides) head' sides' degree (λ d. without i (lists d))
 
 -- a row can be put into the list of the bound d, where there is a head and a bound for each row
-pub record CanPutHead (most_figure i d : ℕ) (head degree : List ℕ) (sides : List (ℕ × ℕ)) : Type 0 where
+pub record CanPutHead (most_cell i d : ℕ) (head degree : List ℕ) (sides : List (ℕ × ℕ)) : Type 0 where
   pub lengths : (length head ≡ row_count sides) × (length degree ≡ row_count sides)
-  pub short : row_count sides ≤ most_figure
+  pub short : row_count sides ≤ most_cell
   pub row : (i < row_count sides) × (d < row_count sides)
 
 -- a row of no list has the bound d now, and stands at the head of its list

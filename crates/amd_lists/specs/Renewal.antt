@@ -1,5 +1,6 @@
 -- The list of a class of a front, edited in its place.
-use Rattle.std.specs.Prelude.{ℕ, ℤ, Bool, true, List, ◌∷◌, ◌++◌, ◌≡◌, ◌<◌, ◌≤◌, ◌+◌, ◌-◌, ◌*◌, ◌%◌, ◌^◌, ◌&&◌, ◌⊎◌, not, nat_lt}
+use Rattle.std.specs.Prelude.{ℕ, ℤ, Bool, true, List, ◌∷◌, ◌++◌, ◌≡◌, ◌<◌, ◌≤◌, ◌+◌, ◌-◌, ◌*◌, ◌%◌, ◌^◌, ◌&&◌, ◌⊎◌, not}
+use Rattle.std.specs.Prelude.{nat_lt}
 use Rattle.std.specs.Prelude.{length, filter, sum_by, slice_set}
 use Rattle.amd_model.specs.Figures.{cut}
 use Rattle.amd_model.specs.Quotient.{has, turned}
@@ -56,7 +57,8 @@ pub record Renews (n me : ℕ) (kept : ℕ → Bool) (is_apart : ℕ →
 abbrev pub IsExact : ℕ → ℕ → Type 0
 IsExact most count = (most < 2 ^ 32) × (count < 2 ^ 32)
 
--- of count words, which name elements, those of standing ones stand from `from` to `end` now; sum is what their counters
+-- of count words, which name elements, those of standing ones stand from `from` to `end` now; sum is what their
+-- counters
 -- have above `less`, cut, and hash is their sum, as a word wraps it. The word at which they end is left open
 pub record KeepsWords (narrow : Bool) (less : ℕ) (w : List ℕ) (iw : List ℤ) (from count : ℕ) (iw' : List ℤ)
     (end sum hash : ℕ) : Type 0 where
@@ -92,7 +94,8 @@ pub record CanRenew (most_word flag me : ℕ) (w : List ℕ) (nv iw : List ℤ) 
   pub room : length (kept_words w iw from n_elements) + length (near_words nv iw from n_elements count) < count
   pub met : AreMet flag w (rows iw from n_elements)
 
--- the list of a class was renewed; it reaches so many rows outside the front, cut, and hash is the sum of what it keeps,
+-- the list of a class was renewed; it reaches so many rows outside the front, cut, and hash is the sum of what it
+-- keeps,
 -- as a word wraps it
 pub record RenewsList (flag me : ℕ) (w : List ℕ) (nv iw : List ℤ) (from n_elements count : ℕ) (iw' : List ℤ)
     (few len reach hash : ℕ) : Type 0 where

@@ -86,7 +86,7 @@ fn least_bound<U: Unsigned>(head: &[Cell<U>], least: usize) -> usize
 }
 
 /// Chooses the pivot, the first row of the least bound that has one, and takes it out of its list. No bound below
-/// `least` has a row. Answers the pivot and its bound.
+/// `least` has a row. Returns the pivot and its bound.
 pub fn choose<U: Unsigned>(
     head: &mut [Cell<U>],
     sides: &mut [Sides<U>],

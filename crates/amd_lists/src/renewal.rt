@@ -30,7 +30,7 @@ fn add_up(total: usize, more: usize, is_exact: bool) -> usize
     }
 }
 
-/// Moves the standing ones among the elements that `count` words name to the front of these words. Answers where they
+/// Moves the standing ones among the elements that `count` words name to the front of these words. Returns where they
 /// end, the sum of what their counters have above `less`, at most the greatest `usize`, and the sum of the elements,
 /// which wraps. Each word is written behind those that are kept, and the next one over it if it is not kept: there is
 /// no branch, since which words are kept is hard to foresee. So of the word at which they end nothing is said, where it
@@ -62,7 +62,7 @@ fn keep_words<S: Signed, U: Unsigned>(
     (end, outside, hash)
 }
 
-/// Moves the standing ones among the elements that `count` words name to the front of these words. Answers where they
+/// Moves the standing ones among the elements that `count` words name to the front of these words. Returns where they
 /// end, the number of their rows outside the front, at most the greatest `usize`, and their sum, which wraps. Of the
 /// word at which they end nothing is said, where it is one of these. Where it is `narrow`, no counter has more than 32
 /// bits: their sum is exact, so that the flag is taken off for all of them at once.
@@ -89,7 +89,7 @@ fn keep_elements<S: Signed, U: Unsigned>(
     (end, outside, hash)
 }
 
-/// Moves the classes outside the front among the variables that `count` words name to the words from `to` on. Answers
+/// Moves the classes outside the front among the variables that `count` words name to the words from `to` on. Returns
 /// where they end, the number of their rows on top of `first`, at most the greatest `usize`, and their sum on top of
 /// `sum`, which wraps. Where it is `narrow`, no size has more than 32 bits, so that the number of rows is exact.
 fn keep_variables<S: Signed>(
@@ -138,9 +138,9 @@ fn put_first<S: Signed>(iw: &mut [Word<S>], from: usize, middle: usize, end: usi
 }
 
 /// Renews the list of a class of the front in its place: the elements and variables that it keeps, with the new element
-/// in front. Answers how many of its words name elements, how many words it has, the number of rows that it reaches
+/// in front. Returns how many of its words name elements, how many words it has, the number of rows that it reaches
 /// outside the front, at most the greatest `usize`, and the sum of what it keeps, which wraps; for a class that keeps
-/// nothing 1, 1, 0 and 0. Words and figures of at most 32 bits are narrow: no sum over a list passes a `usize` then, so
+/// nothing 1, 1, 0 and 0. Words and cells of at most 32 bits are narrow: no sum over a list passes a `usize` then, so
 /// that none is tested. Which way is taken is known for each width when the program is compiled.
 pub fn renew_list<S: Signed, U: Unsigned>(
     iw: &mut [Word<S>],

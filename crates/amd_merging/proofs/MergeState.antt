@@ -48,7 +48,8 @@ module _ (n : ℕ) (iw pe0 e_len0 : List ℤ) (len : List ℕ) (nv0 : List ℤ) 
 
   abbrev pub IsFound : ℕ → (ℕ → ℕ) → (ℕ → List ℕ) → Type 0
   IsFound k now buckets = Found like (alike_self (kept_of iw pe0 e_len0) (variables_in iw pe0 e_len0 len))
-      (alike_flip (kept_of iw pe0 e_len0) (variables_in iw pe0 e_len0 len)) (alike_through (kept_of iw pe0 e_len0) (variables_in iw pe0 e_len0 len))
+      (alike_flip (kept_of iw pe0 e_len0) (variables_in iw pe0 e_len0 len)) (alike_through (kept_of iw pe0 e_len0) (variables_in iw pe0
+      e_len0 len))
       rest (bucket_of count last) k now buckets
 
   -- the classes behind the first k were gone through

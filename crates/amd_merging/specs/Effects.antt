@@ -29,7 +29,8 @@ pub record AddsInside (i j : ℕ) (nv nv' : List ℤ) : Type 0 where
   pub sizes : (x : ℕ) → size_of nv' x ≡ cond (x == i) 0 (cond (x == j) (size_of nv j + size_of nv i) (size_of nv x))
   pub front : (x : ℕ) → in_front nv' x ≡ (in_front nv x && not (x == i))
 
--- the class i was merged into one of its bucket that is alike, or put into it; counters stay below the flag, which rises
+-- the class i was merged into one of its bucket that is alike, or put into it; counters stay below the flag, which
+-- rises
 -- by 1 at most, and those that are 0 stay 0
 pub record MergesOne (count i flag : ℕ) (iw pe e_len nv : List ℤ) (len w hash : List ℕ) (sides : List (ℕ × ℕ))
     (pe' e_len' nv' : List ℤ) (w' hash' : List ℕ) (sides' : List (ℕ × ℕ)) (flag' : ℕ) : Type 0 where
@@ -45,7 +46,8 @@ pub record MergesOne (count i flag : ℕ) (iw pe e_len nv : List ℤ) (len w has
 -- so was each class of a front, whose list stands in count words
 pub record MergesClasses (from count flag : ℕ) (iw pe e_len nv : List ℤ) (len w : List ℕ) (sides : List (ℕ × ℕ))
     (pe' e_len' nv' : List ℤ) (w' hash' : List ℕ) (sides' : List (ℕ × ℕ)) (flag' : ℕ) : Type 0 where
-  pub merges : MergesList (row_count sides) iw from count len (lasts sides) pe e_len nv (nexts sides) pe' e_len' nv' hash'
+  pub merges : MergesList (row_count sides) iw from count len (lasts sides) pe e_len nv (nexts sides) pe' e_len' nv'
+      hash'
       (nexts sides')
   pub lengths : LongToMerge (row_count sides) pe' e_len' nv' len w' hash' (nexts sides') (lasts sides')
   pub keys : lasts sides' ≡ lasts sides
@@ -76,7 +78,8 @@ pub record RestoresFront (border left least from count : ℕ) (iw nv : List ℤ)
   pub filters : Filters (row_count sides) (in_front nv) (λ j. 0) 0 iw from count from iw' end 0
   pub placed : Restores (rows iw from count) border left least nv degree nv' degree' least'
   pub empty : (b : ℕ) → b < row_count sides → row_count sides ≤ num hash' b
-  pub linked : PutsAll (row_count sides) border left (rows iw from count) nv head (nexts sides) (lasts sides) degree head'
+  pub linked : PutsAll (row_count sides) border left (rows iw from count) nv head (nexts sides) (lasts sides) degree
+      head'
       (nexts sides') (lasts sides') degree'
   pub lengths : LongToPlace (row_count sides) nv' degree' head' (nexts sides') (lasts sides') hash'
 

@@ -56,7 +56,8 @@ abbrev pub Finds : ℕ → (ℕ → Bool) → List ℕ → ℕ → Type 0
 Finds n p members r = ((r < n) × (has members r ≡ true) × (p r ≡ true)) ⊎
     ((r ≡ n) × ((x : ℕ) → has members x ≡ true → p x ≡ false))
 
--- the bits of a key that choose a bucket: the lowest ten for a front whose list has few words, so that the buckets in use
+-- the bits of a key that choose a bucket: the lowest ten for a front whose list has few words, so that the buckets in
+-- use
 -- stand close together, and all bits for another one
 abbrev pub mask_of : ℕ → ℕ
 mask_of count = cond (nat_lt count 256) 1023 (2 ^ 64 - 1)
@@ -128,7 +129,8 @@ pub record AreRenewed (n : ℕ) (iw pe e_len : List ℤ) (len : List ℕ) (nv : 
 
 -- the representative of a class: the last one alike
 abbrev pub represents_in : List ℤ → List ℤ → List ℤ → List ℕ → List ℕ → ℕ → ℕ
-represents_in iw pe e_len len rest x = last_that (alike_in (kept_of iw pe e_len) (variables_in iw pe e_len len) x) x rest
+represents_in iw pe e_len len rest x = last_that (alike_in (kept_of iw pe e_len) (variables_in iw pe e_len len) x) x
+    rest
 
 -- each class of a list was merged into its representative: that one has the rows of all, and the others end; other
 -- links stay

@@ -232,7 +232,7 @@ fn push<U: Unsigned>(hash: &mut [Cell<U>], sides: &mut [Sides<U>], i: usize, key
 }
 
 /// Merges a class of the front into one of its bucket that keeps the same elements and variables, or, if there is none,
-/// puts it into the bucket. The list of the front has `count` words. Answers the next flag.
+/// puts it into the bucket. The list of the front has `count` words. Returns the next flag.
 fn merge_one<S: Signed, U: Unsigned>(
     iw: &[Word<S>],
     pe: &mut [Word<S>],
@@ -276,7 +276,7 @@ fn is_class<S: Signed>(nv: &[Word<S>], i: usize) -> bool
 /// Merges the classes of a new element that keep the same elements and variables, from the last one of its list to the
 /// first: the last one represents the others, and the classes that are left are its representatives. The buckets are
 /// empty before; after it the head of each one that is not is a class that is left, which belongs into it. Where
-/// the list names one row at most, all stays as it is. Answers the next flag.
+/// the list names one row at most, all stays as it is. Returns the next flag.
 pub fn merge_front<S: Signed, U: Unsigned>(
     iw: &[Word<S>],
     pe: &mut [Word<S>],

@@ -40,7 +40,7 @@ fn empty_bucket<U: Unsigned>(hash: &mut [Cell<U>], sides: &[Sides<U>], i: usize,
 }
 
 /// Takes the mark off a class of a front whose list has `count` words, empties its bucket if buckets are used, and puts
-/// it at the head of the list of its new bound. Answers that bound.
+/// it at the head of the list of its new bound. Returns that bound.
 fn place_class<S: Signed, U: Unsigned>(
     nv: &mut [Word<S>],
     degree: &mut [Cell<U>],
@@ -66,7 +66,7 @@ fn place_class<S: Signed, U: Unsigned>(
 /// Restores the classes that are left of a front, whose list stands in `count` words from `from` on: each is marked no
 /// more, has its bound in the lists by bound, and its bucket is empty, which it is before where the list names one row
 /// at most. The classes are kept in these words, in their order. `border` is their number of rows, and `left` that of
-/// all rows that are left. Answers where the classes end, and the least of `least` and their bounds.
+/// all rows that are left. Returns where the classes end, and the least of `least` and their bounds.
 pub fn restore<S: Signed, U: Unsigned>(
     iw: &mut [Word<S>],
     nv: &mut [Word<S>],

@@ -29,7 +29,7 @@ use amd_words::sides::Sides;
 use amd_words::words::named;
 use amd_words::{Cell, Signed, Unsigned, Word, cell_at};
 
-/// Turns the classes of the front of the new element `me` over to it. Answers the number of rows of those that ended.
+/// Turns the classes of the front of the new element `me` over to it. Returns the number of rows of those that ended.
 pub fn turn_over<S: Signed, U: Unsigned>(
     work: &mut Work<'_, S, U>,
     me: usize,
@@ -63,7 +63,7 @@ pub fn turn_over<S: Signed, U: Unsigned>(
     )
 }
 
-/// Merges the classes of the front of `me` that are alike. Answers a flag above the counters.
+/// Merges the classes of the front of `me` that are alike. Returns a flag above the counters.
 fn merge_list<S: Signed, U: Unsigned>(
     iw: &mut [Word<S>],
     pe: &mut [Word<S>],
@@ -112,7 +112,7 @@ pub fn merge_alike<S: Signed, U: Unsigned>(
     );
 }
 
-/// Places the classes that are left of the front of `me` by their new bounds. Answers where its list starts, where what
+/// Places the classes that are left of the front of `me` by their new bounds. Returns where its list starts, where what
 /// is left of it ends, and a number below all bounds.
 fn place_list<S: Signed, U: Unsigned>(
     iw: &mut [Word<S>],

@@ -65,12 +65,14 @@ make_element-end-requires g c = record {
   counters = c.requires.counters ∙ sym (ap length c.make_room-from.ensures.same.0);
   wide = (let l = c.make_room-from.ensures.rooms.long in let a = ap length c.make_room-from.ensures.same.0 in
       let s = c.requires.wide.0 in let t = c.requires.wide.1 in ((omega (arith, s, a)), (omega (arith, t, l))));
-  figures = (let l = c.make_room-from.ensures.rooms.long in let t = c.requires.figures in omega (arith, l, t));
+  cells = (let l = c.make_room-from.ensures.rooms.long in let t = c.requires.cells in omega (arith, l, t));
   count = (c.requires.count);
   elements = record {
     listed = (λ e h. ap (λ z. has_list c.make_room-from.new.pe z e) c.make_room-from.ensures.same.1
-        ∙ rooms_known c.requires.pivot.laid c.make_room-from.ensures.rooms c.args.me c.requires.pivot.listed c.requires.elements.listed e h);
-    apart = (ap (λ xs. has xs c.args.me) (rooms_elements c.requires.pivot.laid c.make_room-from.ensures.rooms c.args.me c.requires.pivot.listed
+        ∙ rooms_known c.requires.pivot.laid c.make_room-from.ensures.rooms c.args.me c.requires.pivot.listed c.requires.elements.listed e
+        h);
+    apart = (ap (λ xs. has xs c.args.me) (rooms_elements c.requires.pivot.laid c.make_room-from.ensures.rooms c.args.me
+        c.requires.pivot.listed
         c.requires.elements.listed) ∙ c.requires.elements.apart);
     once = (subst Once (sym (rooms_elements c.requires.pivot.laid c.make_room-from.ensures.rooms c.args.me c.requires.pivot.listed
         c.requires.elements.listed)) c.requires.elements.once);
@@ -128,7 +130,8 @@ returns g c = record {
   counters = (λ e. c.make_element-end.ensures.counters e ∙ ap (λ xs. cond (has xs e) 0 (num c.args.w.now e))
       (rooms_elements c.requires.pivot.laid c.make_room-from.ensures.rooms c.args.me c.requires.pivot.listed c.requires.elements.listed));
   long = (c.make_element-end.ensures.long);
-  before = (λ j ne h. let a = c.make_element-end.ensures.makes.before j ne h in let s = c.make_element-end.ensures.start_is in omega (arith, a, s));
+  before = (λ j ne h. let a = c.make_element-end.ensures.makes.before j ne h in let s = c.make_element-end.ensures.start_is in
+      omega (arith, a, s));
   end = (let iw : List ℤ = c.args.iw.now in let nv : List ℤ = c.args.nv.now in let pe : List ℤ = c.args.pe.now in
       let len : List ℕ = c.args.len.now in let e_len : List ℤ = c.args.e_len.now in let me : ℕ = c.args.me in
       let m : ℕ = place (word e_len me) in let iw1 : List ℤ = c.make_room-from.new.iw in let pe1 : List ℤ = c.make_room-from.new.pe in

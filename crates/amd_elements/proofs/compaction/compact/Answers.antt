@@ -71,7 +71,8 @@ move_list-requires g c = record {
       omega (arith, a, e));
   inside = (let a = (row_of c.requires.layout c.loop-src-test.true (sym c.names_one-in-loop-src.ensures
       ∙ c.if-names_one-2.false) c.loop-src.invariant c.flipped-j.result c.flipped-j.ensures).3 in let e = c.cell_at-count.ensures.is in
-      let h = c.loop-src.invariant.long in let w = c.loop-src.invariant.low in let b = c.requires.end in let d = c.requires.wide.1 in let z = g.met.S.Signed.narrow in
+      let h = c.loop-src.invariant.long in let w = c.loop-src.invariant.low in let b = c.requires.end in let d = c.requires.wide.1 in
+      let z = g.met.S.Signed.narrow in
       omega (arith, a, e, h, w, b, d, z));
   down = search rules;
   small = search rules;
@@ -96,11 +97,13 @@ returns-clause-compacts g c = swept_all c.requires.layout c.loop-src-test.false 
 pub overflow_add-src-else-names_one-2 : goal.overflow_add-src-else-names_one-2
 overflow_add-src-else-names_one-2 g c = let a = (row_of c.requires.layout c.loop-src-test.true (sym c.names_one-in-loop-src.ensures
     ∙ c.if-names_one-2.false) c.loop-src.invariant c.flipped-j.result c.flipped-j.ensures).3 in let e = c.cell_at-count.ensures.is in
-    let h = c.loop-src.invariant.long in let w = c.loop-src.invariant.low in let b = c.requires.end in let d = c.requires.wide.1 in let z = g.met.S.Signed.narrow in
+    let h = c.loop-src.invariant.long in let w = c.loop-src.invariant.low in let b = c.requires.end in let d = c.requires.wide.1 in
+    let z = g.met.S.Signed.narrow in
     omega (arith, a, e, h, w, b, d, z)
 
 pub overflow_add-dst : goal.overflow_add-dst
 overflow_add-dst g c = let a = (row_of c.requires.layout c.loop-src-test.true (sym c.names_one-in-loop-src.ensures
     ∙ c.if-names_one-2.false) c.loop-src.invariant c.flipped-j.result c.flipped-j.ensures).3 in let e = c.cell_at-count.ensures.is in
-    let h = c.loop-src.invariant.long in let w = c.loop-src.invariant.low in let b = c.requires.end in let d = c.requires.wide.1 in let z = g.met.S.Signed.narrow in
+    let h = c.loop-src.invariant.long in let w = c.loop-src.invariant.low in let b = c.requires.end in let d = c.requires.wide.1 in
+    let z = g.met.S.Signed.narrow in
     omega (arith, a, e, h, w, b, d, z)

@@ -142,7 +142,8 @@ gather-requires g c =
       order = h.grows;
       end = turn_end c.args.iw.now c.args.nv.now c.enter.new.nv c.args.pe.now c.args.len.now c.args.pivot c.args.n_elements c.args.free
           c.enter.ensures.sizes c.enter.ensures.front c.requires.around.clear (length c.args.nv.now)
-          refl c.enter.ensures.long c.requires.around.lists.elements c.requires.around.lists.laid c.requires.fits c.requires.few h c.named-first.result
+          refl c.enter.ensures.long c.requires.around.lists.elements c.requires.around.lists.laid c.requires.fits c.requires.few h
+          c.named-first.result
           c.cell_at.result before (f e) zs ys (split_element c.args.iw.now c.args.nv.now c.enter.new.nv c.args.pe.now c.args.len.now
           c.args.pivot c.args.n_elements c.args.free c.enter.ensures.sizes c.enter.ensures.front c.requires.around.clear k l);
       names = still_names c.args.iw.now c.args.nv.now c.enter.new.nv c.args.pe.now c.args.len.now c.args.pivot c.args.n_elements
@@ -154,12 +155,14 @@ gather-requires g c =
       total_is = gathers_total h;
       fits = turn_fits c.args.iw.now c.args.nv.now c.enter.new.nv c.args.pe.now c.args.len.now c.args.pivot c.args.n_elements c.args.free
           c.enter.ensures.sizes c.enter.ensures.front c.requires.around.clear (length c.args.nv.now)
-          refl c.enter.ensures.long c.requires.around.lists.elements c.requires.around.lists.laid c.requires.fits c.requires.few h c.named-first.result
+          refl c.enter.ensures.long c.requires.around.lists.elements c.requires.around.lists.laid c.requires.fits c.requires.few h
+          c.named-first.result
           c.cell_at.result before (f e) zs ys (split_element c.args.iw.now c.args.nv.now c.enter.new.nv c.args.pe.now c.args.len.now
           c.args.pivot c.args.n_elements c.args.free c.enter.ensures.sizes c.enter.ensures.front c.requires.around.clear k l);
       few = turn_few c.args.iw.now c.args.nv.now c.enter.new.nv c.args.pe.now c.args.len.now c.args.pivot c.args.n_elements c.args.free
           c.enter.ensures.sizes c.enter.ensures.front c.requires.around.clear (length c.args.nv.now)
-          refl c.enter.ensures.long c.requires.around.lists.elements c.requires.around.lists.laid c.requires.fits c.requires.few h c.named-first.result
+          refl c.enter.ensures.long c.requires.around.lists.elements c.requires.around.lists.laid c.requires.fits c.requires.few h
+          c.named-first.result
           c.cell_at.result before (f e) zs ys (split_element c.args.iw.now c.args.nv.now c.enter.new.nv c.args.pe.now c.args.len.now
           c.args.pivot c.args.n_elements c.args.free c.enter.ensures.sizes c.enter.ensures.front c.requires.around.clear k l);
     }
@@ -196,7 +199,8 @@ loop-p-preserved g c =
     let zs : List ℕ = flat_map f (rows iw (start pe pivot + (k + 1)) (m - (k + 1))) ++ classes nv (variables_at iw pe len pivot m) in
     let done = turn_done c.args.iw.now c.args.nv.now c.enter.new.nv c.args.pe.now c.args.len.now c.args.pivot c.args.n_elements
     c.args.free c.enter.ensures.sizes c.enter.ensures.front c.requires.around.clear (length c.args.nv.now)
-    refl c.enter.ensures.long c.requires.around.lists.elements c.requires.around.lists.laid c.requires.fits c.requires.few h c.named-first.result
+    refl c.enter.ensures.long c.requires.around.lists.elements c.requires.around.lists.laid c.requires.fits c.requires.few h
+    c.named-first.result
     c.cell_at.result before (f e) zs ys (split_element c.args.iw.now c.args.nv.now c.enter.new.nv c.args.pe.now c.args.len.now
     c.args.pivot c.args.n_elements c.args.free c.enter.ensures.sizes c.enter.ensures.front c.requires.around.clear k l) c.gather.ensures in
     let more : flat_map f (rows iw from (p + 1 - from)) ≡ flat_map f (rows iw (start pe pivot) k) ++ f e =
@@ -231,7 +235,8 @@ gather-requires-2 g c =
       order = h.grows;
       end = turn_end c.args.iw.now c.args.nv.now c.enter.new.nv c.args.pe.now c.args.len.now c.args.pivot c.args.n_elements c.args.free
           c.enter.ensures.sizes c.enter.ensures.front c.requires.around.clear (length c.args.nv.now)
-          refl c.enter.ensures.long c.requires.around.lists.elements c.requires.around.lists.laid c.requires.fits c.requires.few h (from + m)
+          refl c.enter.ensures.long c.requires.around.lists.elements c.requires.around.lists.laid c.requires.fits c.requires.few h (from +
+          m)
           (c.cell_at-2.result - m) before (classes nv (variables_at iw pe len pivot m)) [] ys
           (split_variables c.args.iw.now c.args.nv.now c.enter.new.nv c.args.pe.now c.args.len.now c.args.pivot c.args.n_elements
           c.args.free c.enter.ensures.sizes c.enter.ensures.front c.requires.around.clear);
@@ -246,13 +251,15 @@ gather-requires-2 g c =
       total_is = gathers_total h;
       fits = turn_fits c.args.iw.now c.args.nv.now c.enter.new.nv c.args.pe.now c.args.len.now c.args.pivot c.args.n_elements c.args.free
           c.enter.ensures.sizes c.enter.ensures.front c.requires.around.clear (length c.args.nv.now)
-          refl c.enter.ensures.long c.requires.around.lists.elements c.requires.around.lists.laid c.requires.fits c.requires.few h (from + m)
+          refl c.enter.ensures.long c.requires.around.lists.elements c.requires.around.lists.laid c.requires.fits c.requires.few h (from +
+          m)
           (c.cell_at-2.result - m) before (classes nv (variables_at iw pe len pivot m)) [] ys
           (split_variables c.args.iw.now c.args.nv.now c.enter.new.nv c.args.pe.now c.args.len.now c.args.pivot c.args.n_elements
           c.args.free c.enter.ensures.sizes c.enter.ensures.front c.requires.around.clear);
       few = turn_few c.args.iw.now c.args.nv.now c.enter.new.nv c.args.pe.now c.args.len.now c.args.pivot c.args.n_elements c.args.free
           c.enter.ensures.sizes c.enter.ensures.front c.requires.around.clear (length c.args.nv.now)
-          refl c.enter.ensures.long c.requires.around.lists.elements c.requires.around.lists.laid c.requires.fits c.requires.few h (from + m)
+          refl c.enter.ensures.long c.requires.around.lists.elements c.requires.around.lists.laid c.requires.fits c.requires.few h (from +
+          m)
           (c.cell_at-2.result - m) before (classes nv (variables_at iw pe len pivot m)) [] ys
           (split_variables c.args.iw.now c.args.nv.now c.enter.new.nv c.args.pe.now c.args.len.now c.args.pivot c.args.n_elements
           c.args.free c.enter.ensures.sizes c.enter.ensures.front c.requires.around.clear);

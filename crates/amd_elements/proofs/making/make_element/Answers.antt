@@ -20,9 +20,11 @@ build-end-requires g c = record {
   around = record {
     lists = record {
       lengths = ((c.requires.pivot.lengths.0, c.requires.pivot.lengths.2));
-      elements = (let m = c.named-n_elements.ensures in let p = c.requires.pivot.laid.parts c.args.me c.requires.pivot.listed in omega (arith, m, p));
+      elements = (let m = c.named-n_elements.ensures in let p = c.requires.pivot.laid.parts c.args.me c.requires.pivot.listed in
+          omega (arith, m, p));
       laid = (subst (λ m. ListsLaid c.args.iw.now c.args.pe.now c.args.len.now (length c.args.nv.now)
-          c.args.free c.args.me m) (sym c.named-n_elements.ensures) (lists_laid c.requires.pivot.laid c.args.me c.requires.pivot.listed c.requires.elements.listed));
+          c.args.free c.args.me m) (sym c.named-n_elements.ensures) (lists_laid c.requires.pivot.laid c.args.me c.requires.pivot.listed
+          c.requires.elements.listed));
     };
     pivot = (c.requires.pivot.row);
     clear = (c.requires.pivot.clear);
@@ -33,13 +35,16 @@ build-end-requires g c = record {
   few = (let front : ℕ → List ℕ = front_of c.args.iw.now c.args.nv.now c.args.pe.now c.args.len.now c.args.me in
       let few : sum_by (size_of c.args.nv.now) (front c.named-n_elements.result) + 2 ≤ g.S.Signed.MOST =
       subst (λ m. sum_by (size_of c.args.nv.now) (front m) + 2 ≤ g.S.Signed.MOST) (sym c.named-n_elements.ensures) c.requires.few in
-      lt_of_le_of_lt (le_trans (le-add_right (sum_by (size_of c.args.nv.now) (front c.named-n_elements.result)) 2) few) g.met.S.Signed.narrow);
+      lt_of_le_of_lt (le_trans (le-add_right (sum_by (size_of c.args.nv.now) (front c.named-n_elements.result)) 2) few)
+      g.met.S.Signed.narrow);
 }
 
 pub absorb_own-requires : goal.absorb_own-requires
 absorb_own-requires g c = record {
-  inside = (let f = c.named-from.ensures in let m = c.named-n_elements.ensures in let w = c.requires.pivot.laid.within c.args.me c.requires.pivot.listed in
-      let p = c.requires.pivot.laid.parts c.args.me c.requires.pivot.listed in let e = c.requires.pivot.end in let l = c.build-end.ensures.long in
+  inside = (let f = c.named-from.ensures in let m = c.named-n_elements.ensures in
+      let w = c.requires.pivot.laid.within c.args.me c.requires.pivot.listed in
+      let p = c.requires.pivot.laid.parts c.args.me c.requires.pivot.listed in let e = c.requires.pivot.end in
+      let l = c.build-end.ensures.long in
       omega (arith, f, m, w, p, e, l));
   lengths = (c.requires.counters ∙ sym c.requires.pivot.lengths.0);
   names = (names_at c.build-end.new.iw (sym c.requires.pivot.lengths.0) (sym c.named-from.ensures)
@@ -67,7 +72,8 @@ returns g c = record {
       let small = c.requires.pivot.row.0 in let long = c.requires.pivot.lengths in let grown = c.absorb_own.ensures.lengths.0 in
       let p = long.0 in let e = long.1 in let l = long.2 in
       makes_as c.absorb_own.new.pe c.requires.pivot.laid refl (omega (arith, small, p, grown)) (omega (arith, small, e))
-      (omega (arith, small, l)) small c.requires.pivot.listed c.requires.elements.listed c.requires.elements.apart c.requires.elements.once b
+      (omega (arith, small, l)) small c.requires.pivot.listed c.requires.elements.listed c.requires.elements.apart c.requires.elements.once
+      b
       (λ x. c.absorb_own.ensures.starts x ∙ ap (λ xs. cond (has xs x) (flip_of me) (word pe x)) same) grown
       c.settle.ensures.starts c.settle.ensures.counts c.settle.ensures.lengths);
   counters = (λ e. c.absorb_own.ensures.counters e ∙ ap (λ xs. cond (has xs e) 0 (num c.args.w.now e))
@@ -91,10 +97,11 @@ settle-requires g c = record {
       (subst (λ m. sum_by (size_of c.args.nv.now)
       (front_of c.args.iw.now c.args.nv.now c.args.pe.now c.args.len.now c.args.me m) + 2 ≤ g.S.Signed.MOST)
       (sym c.named-n_elements.ensures) c.requires.few));
-  fits = (let l = ap length c.build-end.ensures.list in let k = rows_length c.build-end.new.iw c.args.free (c.build-end.result.0 - c.args.free) in
+  fits = (let l = ap length c.build-end.ensures.list in
+      let k = rows_length c.build-end.new.iw c.args.free (c.build-end.result.0 - c.args.free) in
       let f = subst (λ m. c.args.free + length (front_of c.args.iw.now c.args.nv.now c.args.pe.now c.args.len.now c.args.me m)
       ≤ length c.args.iw.now) (sym c.named-n_elements.ensures) c.requires.fits in
-      let w = c.requires.figures in omega (arith, l, k, f, w));
+      let w = c.requires.cells in omega (arith, l, k, f, w));
 }
 
 pub named-from-requires-clause-inside : goal.named-from-requires-clause-inside

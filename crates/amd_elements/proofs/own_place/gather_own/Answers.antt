@@ -70,7 +70,8 @@ copy_word-requires-clause-to g c =
     let from : ℕ = c.args.from in let p : ℕ = c.loop-p.p in let n : ℕ = p - from in let after : from ≤ p = c.loop-p.auto.p in let t =
     c.loop-p-test.true in
     let l : n < c.args.count = within_count after t in
-    let a = own_end n c.loop-p.invariant in let f = c.requires.span.inside in let long = c.loop-p.invariant.long in omega (arith, a, f, long, l)
+    let a = own_end n c.loop-p.invariant in let f = c.requires.span.inside in let long = c.loop-p.invariant.long in
+    omega (arith, a, f, long, l)
 
 pub overflow_add-sum : goal.overflow_add-sum
 overflow_add-sum g c =

@@ -27,7 +27,8 @@ enter-requires-clause-fresh g c = c.requires.pivot.clear c.args.me
 
 pub gather_own-end-requires-clause-span : goal.gather_own-end-requires-clause-span
 gather_own-end-requires-clause-span g c = record {
-  inside = (let f = c.named-from.ensures in let n = c.cell_at-count.ensures.is in let w = c.requires.pivot.laid.within c.args.me c.requires.pivot.listed in
+  inside = (let f = c.named-from.ensures in let n = c.cell_at-count.ensures.is in
+      let w = c.requires.pivot.laid.within c.args.me c.requires.pivot.listed in
       let e = c.requires.pivot.end in omega (arith, f, n, w, e));
   names = (names_at c.args.iw.now (sym c.enter.ensures.long) (sym c.named-from.ensures)
       (sym c.cell_at-count.ensures.is) (list_laid c.requires.pivot.laid c.args.me c.requires.pivot.listed).2);

@@ -26,7 +26,8 @@ pub fits-requires-clause-around : goal.fits-requires-clause-around
 fits-requires-clause-around g c = record {
   lists = record {
     lengths = ((c.requires.pivot.lengths.0, c.requires.pivot.lengths.2));
-    elements = (let a = c.requires.pivot.laid.parts c.args.me c.requires.pivot.listed in let is = c.named-n_elements.ensures in omega (arith, a, is));
+    elements = (let a = c.requires.pivot.laid.parts c.args.me c.requires.pivot.listed in let is = c.named-n_elements.ensures in
+        omega (arith, a, is));
     laid = (subst (λ m. ListsLaid c.args.iw.now c.args.pe.now c.args.len.now (length c.args.nv.now) c.args.free c.args.me m)
         (sym c.named-n_elements.ensures) (lists_laid c.requires.pivot.laid c.args.me c.requires.pivot.listed c.requires.elements));
   };
@@ -73,15 +74,19 @@ returns g c = record {
   rooms = (let iw : List ℤ = c.args.iw.now in let nv : List ℤ = c.args.nv.now in let pe : List ℤ = c.args.pe.now in
       let len : List ℕ = c.args.len.now in let e_len : List ℤ = c.args.e_len.now in
       let packed : Packs (length nv) iw pe e_len len c.args.free c.compact-end.new.iw c.compact-end.new.pe c.compact-end.result =
-      subst (λ n. Packs n iw pe e_len len c.args.free c.compact-end.new.iw c.compact-end.new.pe c.compact-end.result) c.requires.pivot.lengths.2
-      (packs (subst (λ n. Layout n iw pe e_len len c.args.free) (sym c.requires.pivot.lengths.2) c.requires.pivot.laid) c.compact-end.ensures.compacts) in
+      subst (λ n. Packs n iw pe e_len len c.args.free c.compact-end.new.iw c.compact-end.new.pe c.compact-end.result)
+      c.requires.pivot.lengths.2
+      (packs (subst (λ n. Layout n iw pe e_len len c.args.free) (sym c.requires.pivot.lengths.2) c.requires.pivot.laid)
+      c.compact-end.ensures.compacts) in
       rooms_packed packed);
   fits = (let iw : List ℤ = c.args.iw.now in let nv : List ℤ = c.args.nv.now in let pe : List ℤ = c.args.pe.now in
       let len : List ℕ = c.args.len.now in let e_len : List ℤ = c.args.e_len.now in let me : ℕ = c.args.me in
       let m : ℕ = place (word e_len me) in
       let packed : Packs (length nv) iw pe e_len len c.args.free c.compact-end.new.iw c.compact-end.new.pe c.compact-end.result =
-      subst (λ n. Packs n iw pe e_len len c.args.free c.compact-end.new.iw c.compact-end.new.pe c.compact-end.result) c.requires.pivot.lengths.2
-      (packs (subst (λ n. Layout n iw pe e_len len c.args.free) (sym c.requires.pivot.lengths.2) c.requires.pivot.laid) c.compact-end.ensures.compacts) in
+      subst (λ n. Packs n iw pe e_len len c.args.free c.compact-end.new.iw c.compact-end.new.pe c.compact-end.result)
+      c.requires.pivot.lengths.2
+      (packs (subst (λ n. Layout n iw pe e_len len c.args.free) (sym c.requires.pivot.lengths.2) c.requires.pivot.laid)
+      c.compact-end.ensures.compacts) in
       let few = front_few (length nv) iw nv pe len c.args.free me m (c.requires.pivot.laid.parts me c.requires.pivot.listed)
       (lists_laid c.requires.pivot.laid me c.requires.pivot.listed c.requires.elements) in
       let count = packed.count in let room = c.requires.room in omega (arith, few, count, room));
@@ -97,8 +102,10 @@ returns g c = record {
   packed = (let iw : List ℤ = c.args.iw.now in let nv : List ℤ = c.args.nv.now in let pe : List ℤ = c.args.pe.now in
       let len : List ℕ = c.args.len.now in let e_len : List ℤ = c.args.e_len.now in
       let packed : Packs (length nv) iw pe e_len len c.args.free c.compact-end.new.iw c.compact-end.new.pe c.compact-end.result =
-      subst (λ n. Packs n iw pe e_len len c.args.free c.compact-end.new.iw c.compact-end.new.pe c.compact-end.result) c.requires.pivot.lengths.2
-      (packs (subst (λ n. Layout n iw pe e_len len c.args.free) (sym c.requires.pivot.lengths.2) c.requires.pivot.laid) c.compact-end.ensures.compacts) in
+      subst (λ n. Packs n iw pe e_len len c.args.free c.compact-end.new.iw c.compact-end.new.pe c.compact-end.result)
+      c.requires.pivot.lengths.2
+      (packs (subst (λ n. Layout n iw pe e_len len c.args.free) (sym c.requires.pivot.lengths.2) c.requires.pivot.laid)
+      c.compact-end.ensures.compacts) in
       λ h. packed.count);
   stays = (λ h. absurd (true≢false h));
   same = ((c.fits.ensures.same, c.compact-end.ensures.same));

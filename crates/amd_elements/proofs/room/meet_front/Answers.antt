@@ -142,7 +142,8 @@ returns g c = record {
       let len : List ℕ = c.args.len.now in let pivot : ℕ = c.args.pivot in let m : ℕ = c.args.n_elements in
       let from : ℕ = c.named-from.result in let is : from ≡ start pe pivot = c.named-from.ensures in let t = c.loop-p-test.false in
       let after : from ≤ c.loop-p.p = c.loop-p.auto.p in let past : c.loop-p.p ≤ from + m = c.loop-p.auto.p-end (le-add_right _ _) in
-      let all : c.loop-p.p - from ≡ m = all_passed _ _ _ after past t in let place_is : from + m ≡ start pe pivot + m = ap (λ s. s + m) is in
+      let all : c.loop-p.p - from ≡ m = all_passed _ _ _ after past t in
+      let place_is : from + m ≡ start pe pivot + m = ap (λ s. s + m) is in
       let read = c.cell_at-2.ensures.is in let count_is : c.cell_at-2.result - m ≡ num len pivot - m = ap (λ q. q - m) read in
       let f : (ℕ → List ℕ) = λ e. classes nv (members_at iw pe len e) in let nv1 : List ℤ = c.enter.new.nv in
       let was : Meets nv1 (flat_map f (elements_at iw pe pivot m)) c.args.left c.loop-p.nv c.loop-p.now =
@@ -157,7 +158,8 @@ returns g c = record {
       let len : List ℕ = c.args.len.now in let pivot : ℕ = c.args.pivot in let m : ℕ = c.args.n_elements in
       let from : ℕ = c.named-from.result in let is : from ≡ start pe pivot = c.named-from.ensures in let t = c.loop-p-test.false in
       let after : from ≤ c.loop-p.p = c.loop-p.auto.p in let past : c.loop-p.p ≤ from + m = c.loop-p.auto.p-end (le-add_right _ _) in
-      let all : c.loop-p.p - from ≡ m = all_passed _ _ _ after past t in let place_is : from + m ≡ start pe pivot + m = ap (λ s. s + m) is in
+      let all : c.loop-p.p - from ≡ m = all_passed _ _ _ after past t in
+      let place_is : from + m ≡ start pe pivot + m = ap (λ s. s + m) is in
       let read = c.cell_at-2.ensures.is in let count_is : c.cell_at-2.result - m ≡ num len pivot - m = ap (λ q. q - m) read in
       let f : (ℕ → List ℕ) = λ e. classes nv (members_at iw pe len e) in let nv1 : List ℤ = c.enter.new.nv in
       let was : Meets nv1 (flat_map f (elements_at iw pe pivot m)) c.args.left c.loop-p.nv c.loop-p.now =
@@ -172,7 +174,8 @@ returns g c = record {
       let len : List ℕ = c.args.len.now in let pivot : ℕ = c.args.pivot in let m : ℕ = c.args.n_elements in
       let from : ℕ = c.named-from.result in let is : from ≡ start pe pivot = c.named-from.ensures in let t = c.loop-p-test.false in
       let after : from ≤ c.loop-p.p = c.loop-p.auto.p in let past : c.loop-p.p ≤ from + m = c.loop-p.auto.p-end (le-add_right _ _) in
-      let all : c.loop-p.p - from ≡ m = all_passed _ _ _ after past t in let place_is : from + m ≡ start pe pivot + m = ap (λ s. s + m) is in
+      let all : c.loop-p.p - from ≡ m = all_passed _ _ _ after past t in
+      let place_is : from + m ≡ start pe pivot + m = ap (λ s. s + m) is in
       let read = c.cell_at-2.ensures.is in let count_is : c.cell_at-2.result - m ≡ num len pivot - m = ap (λ q. q - m) read in
       let f : (ℕ → List ℕ) = λ e. classes nv (members_at iw pe len e) in let nv1 : List ℤ = c.enter.new.nv in
       let was : Meets nv1 (flat_map f (elements_at iw pe pivot m)) c.args.left c.loop-p.nv c.loop-p.now =

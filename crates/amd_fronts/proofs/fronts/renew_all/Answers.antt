@@ -82,7 +82,8 @@ renew_or_retire-gone-requires g c = record {
   more_lengths = search rules;
   narrow = search rules;
   row = (c.requires.row);
-  placed = (let iw : List ℤ = c.args.iw.now in let pe : List ℤ = c.args.pe.now in let len : List ℕ = c.args.len.now in let me : ℕ = c.args.me in
+  placed = (let iw : List ℤ = c.args.iw.now in let pe : List ℤ = c.args.pe.now in let len : List ℕ = c.args.len.now in
+      let me : ℕ = c.args.me in
       let from : ℕ = c.named-from.result in let is : from ≡ start pe me = c.named-from.ensures in let p : ℕ = c.loop-p.p in
       let k : ℕ = p - from in
       let after : from ≤ p = c.loop-p.auto.p in let t = c.loop-p-test.true in let count = c.cell_at.ensures.is in
@@ -96,9 +97,11 @@ renew_or_retire-gone-requires g c = record {
       (rows iw s k) c.args.free iw pe c.args.e_len.now c.args.nv.now len c.args.degree.now (lasts c.args.sides.now)
       c.loop-p.iw c.loop-p.pe c.loop-p.e_len c.loop-p.nv c.loop-p.len c.loop-p.degree (lasts c.loop-p.sides) c.loop-p.gone) is
       c.loop-p.invariant.renews in
-      front_placed c.requires.laid c.requires.list c.requires.apart c.requires.once c.requires.front c.requires.marked k l h c.named-i.result
+      front_placed c.requires.laid c.requires.list c.requires.apart c.requires.once c.requires.front c.requires.marked k l h
+      c.named-i.result
       (c.named-i.ensures ∙ ap (λ q. place (word c.loop-p.iw q)) (sym at)) c.requires.end);
-  loses = (let iw : List ℤ = c.args.iw.now in let pe : List ℤ = c.args.pe.now in let len : List ℕ = c.args.len.now in let me : ℕ = c.args.me in
+  loses = (let iw : List ℤ = c.args.iw.now in let pe : List ℤ = c.args.pe.now in let len : List ℕ = c.args.len.now in
+      let me : ℕ = c.args.me in
       let from : ℕ = c.named-from.result in let is : from ≡ start pe me = c.named-from.ensures in let p : ℕ = c.loop-p.p in
       let k : ℕ = p - from in
       let after : from ≤ p = c.loop-p.auto.p in let t = c.loop-p-test.true in let count = c.cell_at.ensures.is in
@@ -114,7 +117,8 @@ renew_or_retire-gone-requires g c = record {
       c.loop-p.invariant.renews in
       front_loses c.requires.laid c.requires.list c.requires.apart c.requires.once c.requires.front c.requires.marked k l h c.named-i.result
       (c.named-i.ensures ∙ ap (λ q. place (word c.loop-p.iw q)) (sym at)));
-  marked = (let iw : List ℤ = c.args.iw.now in let pe : List ℤ = c.args.pe.now in let len : List ℕ = c.args.len.now in let me : ℕ = c.args.me in
+  marked = (let iw : List ℤ = c.args.iw.now in let pe : List ℤ = c.args.pe.now in let len : List ℕ = c.args.len.now in
+      let me : ℕ = c.args.me in
       let from : ℕ = c.named-from.result in let is : from ≡ start pe me = c.named-from.ensures in let p : ℕ = c.loop-p.p in
       let k : ℕ = p - from in
       let after : from ≤ p = c.loop-p.auto.p in let t = c.loop-p-test.true in let count = c.cell_at.ensures.is in
@@ -128,9 +132,11 @@ renew_or_retire-gone-requires g c = record {
       (rows iw s k) c.args.free iw pe c.args.e_len.now c.args.nv.now len c.args.degree.now (lasts c.args.sides.now)
       c.loop-p.iw c.loop-p.pe c.loop-p.e_len c.loop-p.nv c.loop-p.len c.loop-p.degree (lasts c.loop-p.sides) c.loop-p.gone) is
       c.loop-p.invariant.renews in
-      front_marked c.requires.laid c.requires.list c.requires.apart c.requires.once c.requires.front c.requires.marked k l h c.named-i.result
+      front_marked c.requires.laid c.requires.list c.requires.apart c.requires.once c.requires.front c.requires.marked k l h
+      c.named-i.result
       (c.named-i.ensures ∙ ap (λ q. place (word c.loop-p.iw q)) (sym at)));
-  met = (let iw : List ℤ = c.args.iw.now in let pe : List ℤ = c.args.pe.now in let len : List ℕ = c.args.len.now in let me : ℕ = c.args.me in
+  met = (let iw : List ℤ = c.args.iw.now in let pe : List ℤ = c.args.pe.now in let len : List ℕ = c.args.len.now in
+      let me : ℕ = c.args.me in
       let from : ℕ = c.named-from.result in let is : from ≡ start pe me = c.named-from.ensures in let p : ℕ = c.loop-p.p in
       let k : ℕ = p - from in
       let after : from ≤ p = c.loop-p.auto.p in let t = c.loop-p-test.true in let count = c.cell_at.ensures.is in

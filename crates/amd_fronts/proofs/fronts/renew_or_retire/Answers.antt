@@ -10,10 +10,12 @@ use Rattle.amd_fronts.proofs.fronts.renew_or_retire.Goals as goal
 
 pub returns-then-count-eq1 : goal.returns-then-count-eq1
 returns-then-count-eq1 g c = record {
-  renews = (let row = c.requires.placed.row in let a = c.requires.lengths in let r = c.renew_class-count.ensures in let e = r.renews.e_long in
+  renews = (let row = c.requires.placed.row in let a = c.requires.lengths in let r = c.renew_class-count.ensures in
+      let e = r.renews.e_long in
       rw (c.retire.ensures.starts, c.retire.ensures.lists, c.retire.ensures.sizes)
       (one_ends r.renews (λ e. num c.args.w.now e - c.args.flag) c.args.nv.now c.args.degree.now (lasts c.args.sides.now) c.retire.result
-      (sym r.count_is ∙ c.if-count-eq1.true) (omega (arith, row, a)) (omega (arith, row, a, e)) (omega (arith, row, a)) c.retire.ensures.gone_is));
+      (sym r.count_is ∙ c.if-count-eq1.true) (omega (arith, row, a)) (omega (arith, row, a, e)) (omega (arith, row, a))
+      c.retire.ensures.gone_is));
   lengths = search rules;
   links = search rules;
 }
@@ -24,7 +26,8 @@ returns g c = record {
       rw c.put_last.ensures.lasts
       (one_stays r.renews (λ e. num c.args.w.now e - c.args.flag) c.args.nv.now c.args.degree.now c.lower_bound.new.degree
       (lasts c.args.sides.now)
-      c.renew_class-count.result.1 c.renew_class-count.result.2 (λ e. c.if-count-eq1.false (r.count_is ∙ e)) (omega (arith, row, b)) r.outside
+      c.renew_class-count.result.1 c.renew_class-count.result.2 (λ e. c.if-count-eq1.false (r.count_is
+      ∙ e)) (omega (arith, row, b)) r.outside
       c.lower_bound.ensures.bound c.lower_bound.ensures.others r.hash_is));
   lengths = search rules;
   links = search rules;

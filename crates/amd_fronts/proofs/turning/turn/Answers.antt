@@ -56,7 +56,8 @@ renew_all-requires g c = record {
       (c.requires.lengths.0.3 ∙ w, lasts_same _ _ c.count_outside.auto.sides ∙ c.requires.more_lengths.2 ∙ w));
   narrow = ((c.requires.narrow.0, le_trans (le_of_eq c.count_outside.ensures.long.0) c.requires.narrow.1));
   end = (c.requires.end);
-  laid = (let me : ℕ = c.args.me in let iw : List ℤ = c.args.iw.now in let pe : List ℤ = c.args.pe.now in let len : List ℕ = c.args.len.now in
+  laid = (let me : ℕ = c.args.me in let iw : List ℤ = c.args.iw.now in let pe : List ℤ = c.args.pe.now in
+      let len : List ℕ = c.args.len.now in
       let from : c.named-from.result ≡ start pe me = c.named-from.ensures in let count = c.cell_at-count.ensures.is in
       let list : rows iw c.named-from.result c.cell_at-count.result ≡ list_in iw pe len me = ap
       (λ s. rows iw s c.cell_at-count.result) from
@@ -72,7 +73,8 @@ renew_all-requires g c = record {
       subst (λ n. Layout n iw left c.args.e_len.now len c.args.free) (sym long)
       (left_laid c.args.aggressive c.args.flag c.requires.laid c.requires.two.0 c.requires.two.1 c.requires.front left ended));
   row = ((lt_of_lt_of_le c.requires.row.0 (le_of_eq (sym c.count_outside.ensures.long.0)), c.requires.row.1));
-  list = (let me : ℕ = c.args.me in let iw : List ℤ = c.args.iw.now in let pe : List ℤ = c.args.pe.now in let len : List ℕ = c.args.len.now in
+  list = (let me : ℕ = c.args.me in let iw : List ℤ = c.args.iw.now in let pe : List ℤ = c.args.pe.now in
+      let len : List ℕ = c.args.len.now in
       let from : c.named-from.result ≡ start pe me = c.named-from.ensures in let count = c.cell_at-count.ensures.is in
       let list : rows iw c.named-from.result c.cell_at-count.result ≡ list_in iw pe len me = ap
       (λ s. rows iw s c.cell_at-count.result) from
@@ -86,7 +88,8 @@ renew_all-requires g c = record {
       (word pe e)) list in
       ap is_place (left_me c.args.aggressive c.args.flag c.requires.laid c.requires.two.0 c.requires.two.1 c.requires.front left ended)
       ∙ c.requires.list.starts);
-  apart = (let me : ℕ = c.args.me in let iw : List ℤ = c.args.iw.now in let pe : List ℤ = c.args.pe.now in let len : List ℕ = c.args.len.now in
+  apart = (let me : ℕ = c.args.me in let iw : List ℤ = c.args.iw.now in let pe : List ℤ = c.args.pe.now in
+      let len : List ℕ = c.args.len.now in
       let from : c.named-from.result ≡ start pe me = c.named-from.ensures in let count = c.cell_at-count.ensures.is in
       let list : rows iw c.named-from.result c.cell_at-count.result ≡ list_in iw pe len me = ap
       (λ s. rows iw s c.cell_at-count.result) from
@@ -100,7 +103,8 @@ renew_all-requires g c = record {
       (word pe e)) list in
       ap (λ xs. has xs me) (left_list c.args.aggressive c.args.flag c.requires.laid c.requires.two.0 c.requires.two.1
       c.requires.front left ended) ∙ c.requires.list.apart);
-  once = (let me : ℕ = c.args.me in let iw : List ℤ = c.args.iw.now in let pe : List ℤ = c.args.pe.now in let len : List ℕ = c.args.len.now in
+  once = (let me : ℕ = c.args.me in let iw : List ℤ = c.args.iw.now in let pe : List ℤ = c.args.pe.now in
+      let len : List ℕ = c.args.len.now in
       let from : c.named-from.result ≡ start pe me = c.named-from.ensures in let count = c.cell_at-count.ensures.is in
       let list : rows iw c.named-from.result c.cell_at-count.result ≡ list_in iw pe len me = ap
       (λ s. rows iw s c.cell_at-count.result) from
@@ -114,7 +118,8 @@ renew_all-requires g c = record {
       (word pe e)) list in
       subst Once (sym (left_list c.args.aggressive c.args.flag c.requires.laid c.requires.two.0 c.requires.two.1 c.requires.front
       left ended)) c.requires.list.once);
-  front = (let me : ℕ = c.args.me in let iw : List ℤ = c.args.iw.now in let pe : List ℤ = c.args.pe.now in let len : List ℕ = c.args.len.now in
+  front = (let me : ℕ = c.args.me in let iw : List ℤ = c.args.iw.now in let pe : List ℤ = c.args.pe.now in
+      let len : List ℕ = c.args.len.now in
       let from : c.named-from.result ≡ start pe me = c.named-from.ensures in let count = c.cell_at-count.ensures.is in
       let list : rows iw c.named-from.result c.cell_at-count.result ≡ list_in iw pe len me = ap
       (λ s. rows iw s c.cell_at-count.result) from
@@ -132,7 +137,8 @@ renew_all-requires g c = record {
       ∙ ap (λ xs. settled c.args.aggressive c.args.flag (seen (met iw pe c.args.e_len.now c.args.nv.now xs e) e)) list in
       left_renewable c.args.aggressive c.args.flag c.requires.laid c.requires.two.0 c.requires.two.1 c.requires.front left ended
       c.count_outside.new.w counted);
-  marked = (λ i h. let me : ℕ = c.args.me in let iw : List ℤ = c.args.iw.now in let pe : List ℤ = c.args.pe.now in let len : List ℕ = c.args.len.now in
+  marked = (λ i h. let me : ℕ = c.args.me in let iw : List ℤ = c.args.iw.now in let pe : List ℤ = c.args.pe.now in
+      let len : List ℕ = c.args.len.now in
       let from : c.named-from.result ≡ start pe me = c.named-from.ensures in let count = c.cell_at-count.ensures.is in
       let list : rows iw c.named-from.result c.cell_at-count.result ≡ list_in iw pe len me = ap
       (λ s. rows iw s c.cell_at-count.result) from
@@ -145,8 +151,10 @@ renew_all-requires g c = record {
       ∙ ap (λ xs. cond (ends c.args.aggressive c.args.flag (seen (met iw pe c.args.e_len.now c.args.nv.now xs e) e)) (flip_of me)
       (word pe e)) list in
       (c.requires.front i (sym (ap (λ xs. has xs i)
-      (left_list c.args.aggressive c.args.flag c.requires.laid c.requires.two.0 c.requires.two.1 c.requires.front left ended)) ∙ h)).marked);
-  met = (let me : ℕ = c.args.me in let iw : List ℤ = c.args.iw.now in let pe : List ℤ = c.args.pe.now in let len : List ℕ = c.args.len.now in
+      (left_list c.args.aggressive c.args.flag c.requires.laid c.requires.two.0 c.requires.two.1 c.requires.front left ended))
+      ∙ h)).marked);
+  met = (let me : ℕ = c.args.me in let iw : List ℤ = c.args.iw.now in let pe : List ℤ = c.args.pe.now in
+      let len : List ℕ = c.args.len.now in
       let from : c.named-from.result ≡ start pe me = c.named-from.ensures in let count = c.cell_at-count.ensures.is in
       let list : rows iw c.named-from.result c.cell_at-count.result ≡ list_in iw pe len me = ap
       (λ s. rows iw s c.cell_at-count.result) from
@@ -164,7 +172,8 @@ renew_all-requires g c = record {
       ∙ ap (λ xs. settled c.args.aggressive c.args.flag (seen (met iw pe c.args.e_len.now c.args.nv.now xs e) e)) list in
       left_met c.args.aggressive c.args.flag c.requires.laid c.requires.two.0 c.requires.two.1 c.requires.front left ended
       c.count_outside.new.w counted c.requires.part);
-  few = (let me : ℕ = c.args.me in let iw : List ℤ = c.args.iw.now in let pe : List ℤ = c.args.pe.now in let len : List ℕ = c.args.len.now in
+  few = (let me : ℕ = c.args.me in let iw : List ℤ = c.args.iw.now in let pe : List ℤ = c.args.pe.now in
+      let len : List ℕ = c.args.len.now in
       let from : c.named-from.result ≡ start pe me = c.named-from.ensures in let count = c.cell_at-count.ensures.is in
       let list : rows iw c.named-from.result c.cell_at-count.result ≡ list_in iw pe len me = ap
       (λ s. rows iw s c.cell_at-count.result) from
@@ -183,7 +192,8 @@ renew_all-requires g c = record {
 
 pub returns : goal.returns
 returns g c = record {
-  turns = (let me : ℕ = c.args.me in let iw : List ℤ = c.args.iw.now in let pe : List ℤ = c.args.pe.now in let len : List ℕ = c.args.len.now in
+  turns = (let me : ℕ = c.args.me in let iw : List ℤ = c.args.iw.now in let pe : List ℤ = c.args.pe.now in
+      let len : List ℕ = c.args.len.now in
       let from : c.named-from.result ≡ start pe me = c.named-from.ensures in let count = c.cell_at-count.ensures.is in
       let list : rows iw c.named-from.result c.cell_at-count.result ≡ list_in iw pe len me = ap
       (λ s. rows iw s c.cell_at-count.result) from
@@ -207,16 +217,19 @@ returns g c = record {
         ended = ended;
         renewed = subst (λ n. RenewsFront n me (is_kept c.count_outside.new.w) (is_outside c.args.nv.now)
             (λ e. num c.count_outside.new.w e - c.args.flag) (list_in iw pe len me) c.args.free iw left c.args.e_len.now c.args.nv.now len
-            c.args.degree.now (lasts c.count_outside.new.sides) c.renew_all.new.iw c.renew_all.new.pe c.renew_all.new.e_len c.renew_all.new.nv
+            c.args.degree.now (lasts c.count_outside.new.sides) c.renew_all.new.iw c.renew_all.new.pe c.renew_all.new.e_len
+            c.renew_all.new.nv
             c.renew_all.new.len c.renew_all.new.degree (lasts c.renew_all.new.sides) c.renew_all.result) long
             (subst (λ xs. RenewsFront (length c.count_outside.new.w) me (is_kept c.count_outside.new.w) (is_outside c.args.nv.now)
             (λ e. num c.count_outside.new.w e - c.args.flag) xs c.args.free iw left c.args.e_len.now c.args.nv.now len
-            c.args.degree.now (lasts c.count_outside.new.sides) c.renew_all.new.iw c.renew_all.new.pe c.renew_all.new.e_len c.renew_all.new.nv
+            c.args.degree.now (lasts c.count_outside.new.sides) c.renew_all.new.iw c.renew_all.new.pe c.renew_all.new.e_len
+            c.renew_all.new.nv
             c.renew_all.new.len c.renew_all.new.degree (lasts c.renew_all.new.sides) c.renew_all.result)
             (left_list c.args.aggressive c.args.flag c.requires.laid c.requires.two.0 c.requires.two.1 c.requires.front left
             ended) c.renew_all.ensures.renews);
       });
-  linked = (λ lists member h. let me : ℕ = c.args.me in let iw : List ℤ = c.args.iw.now in let pe : List ℤ = c.args.pe.now in let len : List ℕ = c.args.len.now in
+  linked = (λ lists member h. let me : ℕ = c.args.me in let iw : List ℤ = c.args.iw.now in let pe : List ℤ = c.args.pe.now in
+      let len : List ℕ = c.args.len.now in
       let from : c.named-from.result ≡ start pe me = c.named-from.ensures in let count = c.cell_at-count.ensures.is in
       let list : rows iw c.named-from.result c.cell_at-count.result ≡ list_in iw pe len me = ap
       (λ s. rows iw s c.cell_at-count.result) from
@@ -236,7 +249,8 @@ returns g c = record {
       c.args.degree.now (lasts c.count_outside.new.sides) c.renew_all.new.iw c.renew_all.new.pe c.renew_all.new.e_len c.renew_all.new.nv
       c.renew_all.new.len c.renew_all.new.degree (lasts c.renew_all.new.sides) c.renew_all.result) long c.renew_all.ensures.renews in
       rw c.renew_all.ensures.links
-      (subst (λ xs. DegreeLists (length c.args.w.now) c.count_outside.new.head (nexts c.count_outside.new.sides) (lasts c.renew_all.new.sides)
+      (subst (λ xs. DegreeLists (length c.args.w.now) c.count_outside.new.head (nexts c.count_outside.new.sides) (lasts
+      c.renew_all.new.sides)
       c.renew_all.new.degree
       (λ d. filter (λ j. not (has xs j)) (lists d))) same
       (others_linked c.count_outside.new.head (nexts c.count_outside.new.sides) lists turned

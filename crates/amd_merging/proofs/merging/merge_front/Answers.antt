@@ -52,13 +52,15 @@ merge_one-now-requires g c = record {
   short = (let s = c.requires.short.0 in let t = c.requires.short.1 in
       let n = c.classes.invariant.merging.long.5 in ((omega (arith, s, n)), (omega (arith, t, n))));
   ready = (let g = premises (length (nexts c.args.sides.now))
-      c.args.iw.now c.args.pe.now c.args.e_len.now c.args.len.now c.args.nv.now c.args.w.now (nexts c.args.sides.now) (lasts c.args.sides.now)
+      c.args.iw.now c.args.pe.now c.args.e_len.now c.args.len.now c.args.nv.now c.args.w.now (nexts c.args.sides.now) (lasts
+      c.args.sides.now)
       c.args.from c.args.count c.args.flag c.requires.front.2 c.requires.few c.requires.classes_are in
       rw c.classes.invariant.keys (step_ready _ _ _ _ _ _ _ _ _ _ _ _ g c.classes.left c.classes-test.true c.classes.invariant.within
       c.named-i.result c.named-i.ensures _ _ _ _ _ _ _ c.classes.invariant.merging (sym c.is_class.ensures ∙ c.if-is_class.true)));
   under = (c.classes.invariant.merging.under);
   room = (let g = premises (length (nexts c.args.sides.now))
-      c.args.iw.now c.args.pe.now c.args.e_len.now c.args.len.now c.args.nv.now c.args.w.now (nexts c.args.sides.now) (lasts c.args.sides.now)
+      c.args.iw.now c.args.pe.now c.args.e_len.now c.args.len.now c.args.nv.now c.args.w.now (nexts c.args.sides.now) (lasts
+      c.args.sides.now)
       c.args.from c.args.count c.args.flag c.requires.front.2 c.requires.few c.requires.classes_are in
       let a : c.classes.now + 1 ≤ c.args.flag + c.args.count = step_room _ _ _ _ _ _ _ _ _ _ _ _ g c.classes.left c.classes-test.true
       c.classes.invariant.within c.named-i.result c.named-i.ensures _ _ _ _ _ _ _ c.classes.invariant.merging (sym c.is_class.ensures

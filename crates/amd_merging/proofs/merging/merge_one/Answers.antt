@@ -94,7 +94,8 @@ overflow_add-result g c = record { fits = lt_of_le_of_lt c.requires.room g.met.U
 
 pub returns-then-head-row_count : goal.returns-then-head-row_count
 returns-then-head-row_count g c = record {
-  settles = (let next = (nexts c.args.sides.now) in let head = num c.args.hash.now (bucket_of c.args.count (lasts c.args.sides.now) c.args.i) in
+  settles = (let next = (nexts c.args.sides.now) in
+      let head = num c.args.hash.now (bucket_of c.args.count (lasts c.args.sides.now) c.args.i) in
       let key_is = c.bucket_at-key.ensures in let head_is : c.cell_at-head.result ≡ head = c.cell_at-head.ensures.is
       ∙ ap (num c.args.hash.now) key_is in
       let end : length next ≤ head = let b = c.if-head-row_count.true in let r = c.row_count.ensures in omega (arith, b, r, head_is) in

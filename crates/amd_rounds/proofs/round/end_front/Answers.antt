@@ -126,7 +126,8 @@ add_front-requires g c = c.requires.front.dense
 
 pub close-requires : goal.close-requires
 close-requires g c =
-    let s = c.requires.sized in let h = c.requires.front in let told = c.place_list-from.ensures.restores in let same = c.place_list-from.ensures.same in let w = c.requires.wide in
+    let s = c.requires.sized in let h = c.requires.front in let told = c.place_list-from.ensures.restores in
+    let same = c.place_list-from.ensures.same in let w = c.requires.wide in
     let row = h.front.row in let low = told.filters.low in let from_is = c.place_list-from.ensures.from in record {
       row = (
         (let a = s.e_len in omega (arith, a, row)),

@@ -36,7 +36,8 @@ merge_list-work-requires-clause-front g c =
 
 pub returns : goal.returns
 returns g c =
-    let p = c.args.work.now in let v = c.merge_list-work.new in let told = c.merge_list-work.ensures.merges in let same = c.merge_list-work.ensures.same in let s = c.requires.sized in
+    let p = c.args.work.now in let v = c.merge_list-work.new in let told = c.merge_list-work.ensures.merges in
+    let same = c.merge_list-work.ensures.same in let s = c.requires.sized in
     let l = told.lengths in
     record {
       merges = record {
