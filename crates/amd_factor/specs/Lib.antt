@@ -1,5 +1,7 @@
 -- The factor under an order of the rows, its elimination tree, and the lists that it is made from.
 pub mod Columns
+pub mod Merging
+pub mod Gathering
 pub mod Climbs
 pub mod Earlier
 pub mod Trees

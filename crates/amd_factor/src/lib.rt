@@ -6,7 +6,9 @@ ghost use Rattle.amd_factor.specs.Trees.{ColumnsByChildren, RowsAreSubtrees};
 pub mod climb;
 pub mod counts;
 pub mod entries;
-pub mod fill;
+pub mod gathering;
+pub mod links;
+pub mod merge;
 
 /// A place is an entry of exactly those columns that lie in its subtree of the elimination tree.
 pub fn law_rows_are_subtrees()
