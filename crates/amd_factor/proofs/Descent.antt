@@ -116,3 +116,8 @@ module _ (o : Order) (k parent : ℕ) (link : List (Option ℕ)) (is : IsParent 
           | inr ne ↦ subst (IsLastChild o q m) (sym (rest m (λ x. omega (arith, x, l, above)) ne)) (h.previous m q (omega (arith, l, ne)) p)
         ];
       }
+
+-- the last child of a column
+pub last_of : (o : Order) (place k : ℕ) (link : List (Option ℕ)) → LinkChildren o place link → place ≡ k → place < length o.rows →
+    IsLastChild o place place (slice_index_or link k None)
+last_of o place k link h is l = subst (λ x. IsLastChild o place place (slice_index_or link x None)) is (h.last place (omega arith) l)

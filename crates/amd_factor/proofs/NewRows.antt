@@ -11,7 +11,7 @@ use Rattle.std.proofs.lemmas.List.Sums.{sum_by-append, count_by_more_yes, sum_by
 use Rattle.amd_model.specs.Below.{count_below, sum_below}
 use Rattle.amd_model.proofs.Counting.Below.{sum_at, count_most}
 use Rattle.amd_factor.specs.Trees.{Entry}
-use Rattle.amd_factor.specs.Gathering.{Column, EntryOf, Marks, MarksBefore, Inherits, Completes}
+use Rattle.amd_factor.specs.Gathering.{Column, EntryOf, Marks, Inherits, Completes}
 
 -- what stands in no place of a list is counted nowhere in it
 count_absent : (xs : List ℕ) (v : ℕ) → ((k : ℕ) → k < length xs → slice_index xs k ≢ v) → count_by (λ x. x == v) xs ≡ 0

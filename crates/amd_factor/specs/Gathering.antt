@@ -4,6 +4,7 @@ use Rattle.std.specs.Prelude.{slice_index, slice_index_or, slice_range, count_by
 use Rattle.std.specs.List.Sorted.{IsStrictlyIncreasing}
 use Rattle.amd_model.specs.Below.{count_below}
 use Rattle.amd_model.specs.Factor.{IsColumn}
+use Rattle.amd_factor.specs.Columns.{first_of}
 use Rattle.amd_factor.specs.Earlier.{Order}
 use Rattle.amd_factor.specs.Trees.{Entry, IsParent}
 
@@ -40,7 +41,7 @@ pub record Marks (c : Column) (stamp : ℕ) (fresh mark : List ℕ) : Type 0 whe
   pub few : length fresh ≤ count_below (length c.order.rows) (λ j. slice_index mark j == stamp)
 
 -- before place k the marks tell the entries of a column, behind its own place
-pub record MarksBefore (o : Order) (k : ℕ) (column : Option ℕ) (stamp : ℕ) (mark : List ℕ) : Type 0 where
+pub record MarksTell (o : Order) (k : ℕ) (column : Option ℕ) (stamp : ℕ) (mark : List ℕ) : Type 0 where
   pub room : length mark ≡ length o.rows
   pub recent : stamp ≤ k
   pub low : (j : ℕ) → j < length o.rows → slice_index mark j ≤ k
@@ -74,3 +75,17 @@ pub record LinkChildren (o : Order) (k : ℕ) (link : List (Option ℕ)) : Type 
   pub last : (q : ℕ) → k ≤ q → q < length o.rows → IsLastChild o q k (slice_index_or link q None)
   pub previous : (m q : ℕ) → m < k → IsParent o.graph o.rows m q →
       IsLastChild o q m (slice_index_or link m None)
+
+-- the parents of the columns before place k are their first entries
+pub record TellFirst (o : Order) (k : ℕ) (ptr rows : List ℕ) (parent : List (Option ℕ)) : Type 0 where
+  pub room : length parent ≡ length o.rows
+  pub each : (m : ℕ) → m < k → slice_index_or parent m None ≡ first_of
+      (slice_range rows (slice_index ptr m) (slice_index ptr (m + 1)))
+
+-- what the columns before place k left: they stand, are linked, and the marks tell one of them
+pub record Filled (o : Order) (k : ℕ) (ptr rows : List ℕ) (parent link : List (Option ℕ)) (column : Option ℕ)
+    (stamp : ℕ) (mark : List ℕ) : Type 0 where
+  pub columns : HoldBefore o k ptr rows
+  pub parents : TellFirst o k ptr rows parent
+  pub links : LinkChildren o k link
+  pub marks : MarksTell o k column stamp mark

@@ -4,5 +4,6 @@ pub mod Merging
 pub mod Gathering
 pub mod Climbs
 pub mod Earlier
+pub mod Later
 pub mod Trees
 pub mod Walks

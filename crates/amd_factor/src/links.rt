@@ -3,18 +3,14 @@
 
 ghost use Rattle.std.specs.Prelude.{ℕ, ◌≡◌, ◌<◌, ◌≤◌, ◌+◌, ◌-◌, true, length, slice_index, MatchOption};
 ghost use Rattle.amd_factor.specs.Earlier.{Order};
-ghost use Rattle.amd_factor.specs.Gathering.{Column, IsChild, IsLastChild, LinkChildren};
+ghost use Rattle.amd_factor.specs.Gathering.{Column, IsChild, LinkChildren};
 ghost use Rattle.amd_factor.specs.Trees.{IsParent};
 
-/// A child that has the most entries; none where there is no child. `last` is the last child.
-pub fn greatest_child(
-    last: Option<usize>,
-    link: &[Option<usize>],
-    ptr: &[usize],
-) -> Option<usize>
+/// A child of column `k` that has the most entries; none where there is no child.
+pub fn greatest_child(k: usize, link: &[Option<usize>], ptr: &[usize]) -> Option<usize>
     ghost c: { Column }
-    requires place { c.place < length c.order.rows }
-    requires last { IsLastChild c.order c.place c.place last }
+    requires place { c.place ≡ k }
+    requires inside { c.place < length c.order.rows }
     requires links { LinkChildren c.order c.place link.now }
     requires pointers { length ptr.now ≡ length c.order.rows + 1 }
     requires ascending { (m : ℕ) → m < c.place → slice_index ptr.now m ≤ slice_index ptr.now (m + 1) }
@@ -23,7 +19,7 @@ pub fn greatest_child(
         slice_index ptr.now (m + 1) - slice_index ptr.now m ≤ slice_index ptr.now (child + 1)
         - slice_index ptr.now child) }
 {
-    let Some(mut greatest) = last else {
+    let Some(mut greatest) = link[k] else {
         return None;
     };
     let mut next = link[greatest];
@@ -36,15 +32,15 @@ pub fn greatest_child(
     Some(greatest)
 }
 
-/// Whether there is one child and no other. `last` is the last child.
-pub fn is_only_child(last: Option<usize>, link: &[Option<usize>]) -> bool
+/// Whether column `k` has one child and no other.
+pub fn has_only_child(k: usize, link: &[Option<usize>]) -> bool
     ghost c: { Column }
-    requires place { c.place < length c.order.rows }
-    requires last { IsLastChild c.order c.place c.place last }
+    requires place { c.place ≡ k }
+    requires inside { c.place < length c.order.rows }
     requires links { LinkChildren c.order c.place link.now }
     ensures only { result ≡ true → (m n : ℕ) → IsChild c m → IsChild c n → m ≡ n }
 {
-    match last {
+    match link[k] {
         Some(child) => link[child].is_none(),
         None => false,
     }
