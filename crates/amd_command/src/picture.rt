@@ -82,7 +82,7 @@ fn mark_rows<A: Allocator>(
     'rows: for j in 0..p.len() {
         let begin = lists.starts.get(j).copied().unwrap_or(0);
         let end = lists.starts.get(j.saturating_add(1)).copied().unwrap_or(0);
-        if let Some(earlier) = lists.earlier.get(begin..end) {
+        if let Some(earlier) = lists.neighbours.get(begin..end) {
             mark_row(j, earlier, p, last, picture);
         }
     }

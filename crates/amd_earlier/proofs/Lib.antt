@@ -5,3 +5,4 @@ pub mod Counting
 pub mod Filling
 pub mod Neighbours
 pub mod Inverse
+pub mod Later

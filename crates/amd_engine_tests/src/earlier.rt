@@ -91,10 +91,10 @@ fn are_lists<A: Allocator>(case: &Case, lists: &mut Lists<A>) -> bool {
     for (k, want) in case.lists.iter().enumerate() {
         let begin = end;
         end = end.saturating_add(want.len());
-        if lists.starts.get(k) != Some(&begin) || lists.earlier.len() < end || end < begin {
+        if lists.starts.get(k) != Some(&begin) || lists.neighbours.len() < end || end < begin {
             return false;
         }
-        let list = &mut lists.earlier[begin..end];
+        let list = &mut lists.neighbours[begin..end];
         list.sort_unstable();
         if &*list != *want {
             return false;
@@ -102,7 +102,7 @@ fn are_lists<A: Allocator>(case: &Case, lists: &mut Lists<A>) -> bool {
     }
     lists.starts.len() == case.lists.len().saturating_add(1)
         && lists.starts.last() == Some(&end)
-        && lists.earlier.len() == end
+        && lists.neighbours.len() == end
 }
 
 /// Asserts that the lists are those of a case.

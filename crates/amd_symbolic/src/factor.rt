@@ -1,4 +1,4 @@
-// The columns of a factor under an order that a caller hands in: the input is tested, the lists of earlier neighbours
+// The columns of a factor under an order that a caller hands in: the input is tested, the lists of later neighbours
 // are made, all memory is taken, and then the columns are written without any. Source: the path theorem of sparse
 // factorization (Rose, Tarjan and Lueker 1976); Liu 1990. Called by `analysis`, by users, by the demos and by the crate
 // `amd_c`.
@@ -8,14 +8,15 @@ ghost use Rattle.amd_model.specs.Graph.{IsGraph};
 ghost use Rattle.amd_model.specs.Input.Columns.{IsColumnForm};
 ghost use Rattle.amd_model.specs.Input.Pattern.{graph_of};
 ghost use Rattle.amd_factor.specs.Columns.{HoldFactor, PassesRoom};
-ghost use Rattle.amd_factor.specs.Earlier.{HasEarlier, Order};
+ghost use Rattle.amd_factor.specs.Earlier.{Order};
+ghost use Rattle.amd_factor.specs.Later.{HasLater};
 ghost use Rattle.amd_types.specs.Counts.{counts};
 ghost use Rattle.amd_symbolic.specs.Factors.{IsFactorOf, IsFault};
 ghost use Rattle.amd_symbolic.specs.declared.factor.Fault.TheVariants.{OutOfMemory};
 
 use amd::Status;
 use amd::valid::valid;
-use amd_earlier::lists::earlier_lists;
+use amd_earlier::lists::later_lists;
 use amd_earlier::places::places;
 use amd_factor::fill::fill;
 use amd_types::internal::to_count;
@@ -84,7 +85,7 @@ fn empty_factor<A: Allocator + Copy>(alloc: A) -> Result<Factor<A>, Fault>
     })
 }
 
-/// Takes all memory, for at most `room` entries, and writes the factor that the lists of earlier neighbours give; none,
+/// Takes all memory, for at most `room` entries, and writes the factor that the lists of later neighbours give; none,
 /// exactly where it has more entries.
 ///
 /// # Errors
@@ -93,12 +94,12 @@ fn empty_factor<A: Allocator + Copy>(alloc: A) -> Result<Factor<A>, Fault>
 fn written_factor<A: Allocator + Copy>(
     alloc: A,
     starts: &[usize],
-    earlier: &[usize],
+    later: &[usize],
     room: usize,
 ) -> Result<Option<Factor<A>>, AllocError>
     ghost o: { Order }
     requires laws { IsGraph o.graph }
-    requires earlier { HasEarlier o starts.now earlier.now }
+    requires later { HasLater o starts.now later.now }
     ensures factor { IfOk result (λ r. MatchOption r (PassesRoom o.graph o.rows room)
         (λ f. HoldFactor o.graph o.rows f.ptr.items f.rows.items f.parent.items)) }
     ensures room { IfOk result (λ r. MatchOption r (Unit {0}) (λ f. length f.rows.items ≤ room)) }
@@ -108,15 +109,17 @@ fn written_factor<A: Allocator + Copy>(
     let mut rows = vec![in alloc; 0; room]?;
     let mut parent = vec![in alloc; None; columns]?;
     let mut mark = vec![in alloc; 0; columns]?;
-    let mut next = vec![in alloc; 0; columns]?;
+    let mut link = vec![in alloc; None; columns]?;
+    let mut fresh = vec![in alloc; 0; columns]?;
     let Some(total) = fill(
         starts,
-        earlier,
+        later,
         &mut ptr,
         &mut rows,
         &mut parent,
         &mut mark,
-        &mut next,
+        &mut link,
+        &mut fresh,
     ) else {
         return Ok(None);
     };
@@ -146,8 +149,8 @@ fn form_columns<I: PrimInt, A: Allocator + Copy>(
     let Some(places) = places(alloc, size, p)? else {
         return Err(Fault::NotPermutation);
     };
-    let lists = earlier_lists(alloc, size, a_p, a_i, &places)?;
-    match written_factor(alloc, &lists.starts, &lists.earlier, room)? {
+    let lists = later_lists(alloc, size, a_p, a_i, &places)?;
+    match written_factor(alloc, &lists.starts, &lists.neighbours, room)? {
         Some(factor) => Ok(factor),
         None => Err(Fault::RoomTooSmall),
     }

@@ -13,8 +13,9 @@ fill-requires g c =
     let ptr : length c.deref_mut.result.now ≡ length c.args.starts.now = search rules in
     let parent : length c.deref_mut-3.result.now ≡ length c.args.starts.now - 1 = search rules in
     let mark : length c.deref_mut-4.result.now ≡ length c.args.starts.now - 1 = search rules in
-    let next : length c.deref_mut-5.result.now ≡ length c.args.starts.now - 1 = search rules in
-    (c.requires.1.0, (h, (ptr ∙ h.room, (parent ∙ columns, (mark ∙ columns, next ∙ columns)))))
+    let link : length c.deref_mut-5.result.now ≡ length c.args.starts.now - 1 = search rules in
+    let fresh : length c.deref_mut-6.result.now ≡ length c.args.starts.now - 1 = search rules in
+    (c.requires.1.0, (h, (ptr ∙ h.room, (parent ∙ columns, (mark ∙ columns, (link ∙ columns, fresh ∙ columns))))))
 
 pub returns-in_default-clause-factor : goal.returns-in_default-clause-factor
 returns-in_default-clause-factor g c =
