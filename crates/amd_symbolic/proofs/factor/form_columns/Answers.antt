@@ -4,7 +4,7 @@ use Rattle.amd_types.specs.Counts.{counts}
 use Rattle.amd_symbolic.specs.declared.factor.Fault.TheVariants.{OutOfMemory}
 use Rattle.amd_symbolic.specs.Factors.{IsFault}
 use Rattle.amd_symbolic.proofs.Faults.{memory_of}
-use Rattle.amd_symbolic.proofs.Forms.{laws, earlier_of, factor_of, too_many}
+use Rattle.amd_symbolic.proofs.Forms.{laws, later_of, factor_of, too_many}
 use Rattle.amd_symbolic.proofs.factor.form_columns.Goals as goal
 
 pub returns-in_err-places-clause-fault : goal.returns-in_err-places-clause-fault
@@ -17,11 +17,11 @@ returns-in_err-places-clause-fault g c =
 pub returns-in_default-clause-fault : goal.returns-in_default-clause-fault
 returns-in_default-clause-fault g c = ((λ _. c.requires.1.1.1.0), rw c.in_default.is at c.in_ok-places.ensures.none)
 
-pub earlier_lists-requires-clause-form : goal.earlier_lists-requires-clause-form
-earlier_lists-requires-clause-form g c = c.requires.1.1.1.0
+pub later_lists-requires-clause-form : goal.later_lists-requires-clause-form
+later_lists-requires-clause-form g c = c.requires.1.1.1.0
 
-pub earlier_lists-requires-clause-places : goal.earlier_lists-requires-clause-places
-earlier_lists-requires-clause-places g c =
+pub later_lists-requires-clause-places : goal.later_lists-requires-clause-places
+later_lists-requires-clause-places g c =
     (counts (map g.I.Number.value c.args.p.now), rw c.deref.ensures.value (rw c.in-Some.is at c.in_ok-places.ensures.places))
 
 pub returns-in_err-lists-clause-fault : goal.returns-in_err-lists-clause-fault
@@ -39,7 +39,7 @@ written_factor-requires g c κs within =
       within,
       (
         laws c.args.size a_p a_i p g.o c.requires.1.1.1.1.0 c.requires.1.1.1.1.1,
-        earlier_of c.args.size a_p a_i p g.o c.requires.1.1.1.1.0 c.requires.1.1.1.1.1 c.deref-2.result.now c.deref-3.result.now
+        later_of c.args.size a_p a_i p g.o c.requires.1.1.1.1.0 c.requires.1.1.1.1.1 c.deref-2.result.now c.deref-3.result.now
             (rw (c.deref-2.ensures.value, c.deref-3.ensures.value)
             (c.in_ok-lists.ensures (counts p) (rw c.deref.ensures.value (rw c.in-Some.is at c.in_ok-places.ensures.places)))),
       ),
