@@ -1,0 +1,14 @@
+use Rattle.std.proofs.Common.{ℕ, ◌<◌}
+use Rattle.std.specs.Prelude.{slice_index}
+use Rattle.amd_factor.specs.Climbs.{IsMet, Meets, CountSeen, rows_seen}
+use Rattle.amd_counts.proofs.climbing.count_row.Given as goal
+
+abbrev pub ghost-count_climb : goal.ghost-count_climb
+ghost-count_climb g a = g.o
+
+abbrev pub invariant-earlier : goal.invariant-earlier
+invariant-earlier g l = record {
+  meets : Meets g.o l.j l.j l.parent l.mark;
+  met : (s : ℕ) → s < l.i-index → IsMet l.mark l.j (slice_index l.earlier s);
+  counts : CountSeen g.o (rows_seen l.mark l.j) l.counts;
+}

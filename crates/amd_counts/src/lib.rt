@@ -1,0 +1,4 @@
+//! How many entries each column of a factor has, and the elimination tree, without the columns.
+#![tactic(auto)]
+
+pub mod climbing;
