@@ -1,1 +1,6 @@
 pub mod Sizing
+pub mod Ranking
+pub mod Nesting
+pub mod Linking
+pub mod Events
+pub mod Lists

@@ -1,2 +1,4 @@
--- The numbers of entries of the columns of a factor.
+-- The numbers of entries of the columns of a factor, and the postorder of a forest.
 pub mod Sizes
+pub mod Ranks
+pub mod Meetings

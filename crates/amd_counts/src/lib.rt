@@ -2,3 +2,5 @@
 #![tactic(auto)]
 
 pub mod climbing;
+pub mod meeting;
+pub mod ranks;
