@@ -4,3 +4,5 @@ pub mod Nesting
 pub mod Linking
 pub mod Events
 pub mod Lists
+pub mod Onto
+pub mod Rounds

@@ -1,6 +1,6 @@
 -- The arcs of an order of the rows, place by place in postorder, and where those of a row meet. Source: Gilbert, Ng and
 -- Peyton 1994.
-use Rattle.std.specs.Prelude.{ℕ, Bool, true, ◌≡◌, ◌≢◌, ◌<◌, ◌≤◌, ◌↔◌, ◌+◌, ◌-◌, ◌⊎◌, List, Contains, length, slice_index}
+use Rattle.std.specs.Prelude.{ℕ, Bool, true, ◌≡◌, ◌≢◌, ◌<◌, ◌≤◌, ◌↔◌, ◌+◌, ◌-◌, ◌⊎◌, List, Contains, length, slice_index, slice_range}
 use Rattle.amd_model.specs.Below.{count_below, sum_below}
 use Rattle.amd_factor.specs.Earlier.{Order}
 use Rattle.amd_counts.specs.Ranks.{Above, GoesUp, Measured, Ranked}
@@ -86,3 +86,17 @@ AreLater s j later = (m : ℕ) → Contains later m ↔ ((m < length s.up) × Ar
 abbrev pub TakenSome : Scene → ℕ → ℕ → List ℕ → ℕ → ℕ → ℕ → Type 0
 TakenSome s t j later u x y = Arc s x y × ((slice_index s.rank x < t) ⊎
     ((x ≡ j) × (w : ℕ) × (w < u) × (y ≡ length s.up - 1 - slice_index later w)))
+
+-- the lists of the later neighbours of all places: that of place j is the one at the place that has as many behind it as
+-- j has before it
+pub record HasLater (s : Scene) (starts later : List ℕ) : Type 0 where
+  pub room : length starts ≡ length s.up + 1
+  pub ascending : (m : ℕ) → m < length s.up → slice_index starts m ≤ slice_index starts (m + 1)
+  pub within : (m : ℕ) → m < length s.up → slice_index starts (m + 1) ≤ length later
+  pub each : (j : ℕ) → j < length s.up → AreLater s j (slice_range later (slice_index starts (length s.up - 1 - j))
+      (slice_index starts (length s.up - j)))
+
+-- order holds the places by their ranks
+pub record IsByRank (s : Scene) (order : List ℕ) : Type 0 where
+  pub room : length order ≡ length s.up
+  pub each : (t : ℕ) → t < length s.up → (slice_index order t < length s.up) × (slice_index s.rank (slice_index order t) ≡ t)

@@ -1,6 +1,6 @@
 // The counts by what rows meet: each arc adds 1 to the column that it leads from and to all over it, and takes 1 from
 // the column where it meets the arc before it of the same row. Source: Gilbert, Ng and Peyton 1994. Called by
-// `counting`.
+// `sweep`.
 
 ghost use Rattle.std.specs.Prelude.{ℕ, List, ◌≡◌, ◌<◌, ◌≤◌, ◌+◌, ◌^◌, length, slice_index};
 ghost use Rattle.amd_counts.specs.Meetings.{AreLater, IsLowest, IsScene, Links, Met, Scene, Taken, sum_to};
@@ -24,7 +24,7 @@ fn find(start: usize, link: &mut [usize]) -> usize
 }
 
 /// Takes the arcs from place `j`, which lead to the places of `later`, each counted from the last place on.
-fn take_arcs(
+pub fn take_arcs(
     j: usize,
     later: &[usize],
     rank: &[usize],

@@ -5,3 +5,5 @@ pub mod Once
 pub mod Reserved
 pub mod Tree
 pub mod Sizes
+pub mod CountNeeds
+pub mod CountForms

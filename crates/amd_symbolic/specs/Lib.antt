@@ -1,4 +1,5 @@
--- What the columns of a factor in vectors are, the faults, the laws of the two, and what a factor needs.
+-- What the columns of a factor in vectors are, the faults, the laws of the two, what a factor needs, and its counts.
 pub mod Factors
 pub mod Laws
 pub mod Needs
+pub mod Counted

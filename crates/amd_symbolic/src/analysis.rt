@@ -40,7 +40,7 @@ fn reserved_columns<I: PrimInt, A: Allocator + Copy>(
 }
 
 /// The fault that a refusal of an ordering is.
-fn fault_of(refusal: Status) -> Fault
+pub(crate) fn fault_of(refusal: Status) -> Fault
     ensures form { refusal ≡ Status.Invalid → result ≡ Fault.NotColumnForm }
     ensures memory { refusal ≢ Status.Invalid → result ≡ Fault.OutOfMemory }
 {

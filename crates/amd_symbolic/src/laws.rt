@@ -1,6 +1,7 @@
-// Laws on the contracts of `columns`, `analyze` and `analyze_holding`, each the contract of a function with an empty
+// Laws on the contracts of `columns`, `counts`, `analyze` and their kin, each the contract of a function with an empty
 // body. Source: Liu 1986 and 1990. Called by: nobody.
 
+ghost use Rattle.amd_symbolic.specs.Counted.{CountsReserve, CountsTellFactor, FiguresBoundNeeds};
 ghost use Rattle.amd_symbolic.specs.Laws.{FiguresReserve, ParentsTellTree, RowsTellSubtrees, ThereIsOneFactor};
 
 /// The parent of a column is its parent in the elimination tree, the first entry of the column. A column has none
@@ -25,4 +26,19 @@ pub fn law_one_factor()
 /// a column with its diagonal has at most `d_max` entries.
 pub fn law_figures_reserve()
     ensures { FiguresReserve }
+{}
+
+/// The counts are a room for `columns`: with the sum of the sizes, or more, it never finds the room too small.
+pub fn law_counts_reserve()
+    ensures { CountsReserve }
+{}
+
+/// The counts are those of the columns: each size is the number of entries of its column, and the parents are the same.
+pub fn law_counts_tell_factor()
+    ensures { CountsTellFactor }
+{}
+
+/// The record of an ordering bounds what the factor under its order needs, each figure where it was not cut.
+pub fn law_figures_bound_needs()
+    ensures { FiguresBoundNeeds }
 {}

@@ -1,0 +1,46 @@
+use Rattle.std.proofs.Common.{ℤ, pos, ◌≡◌, List, map, rules}
+use Rattle.std.specs.Prelude.{IfErr}
+use Rattle.amd_types.specs.Counts.{counts}
+use Rattle.amd_symbolic.specs.declared.factor.Fault.TheVariants.{OutOfMemory}
+use Rattle.amd_symbolic.specs.Counted.{IsCountsFault}
+use Rattle.amd_symbolic.proofs.Faults.{memory_of}
+use Rattle.amd_symbolic.proofs.Forms.{laws, earlier_of}
+use Rattle.amd_symbolic.proofs.counting.form_counts.Goals as goal
+
+pub returns-in_err-places-clause-fault : goal.returns-in_err-places-clause-fault
+returns-in_err-places-clause-fault g c =
+    let memory : IfErr c.from_residual.result (λ e. e ≡ OutOfMemory) = search rules in
+    memory_of c.from_residual.result (IsCountsFault (pos c.args.size) (map g.I.Number.value c.args.a_p.now)
+    (map g.I.Number.value c.args.a_i.now) (map g.I.Number.value c.args.p.now)) memory
+    (λ _. c.requires.1.1.1.0)
+
+pub returns-in_default-clause-fault : goal.returns-in_default-clause-fault
+returns-in_default-clause-fault g c = ((λ _. c.requires.1.1.1.0), rw c.in_default.is at c.in_ok-places.ensures.none)
+
+pub earlier_lists-requires-clause-form : goal.earlier_lists-requires-clause-form
+earlier_lists-requires-clause-form g c = c.requires.1.1.1.0
+
+pub earlier_lists-requires-clause-places : goal.earlier_lists-requires-clause-places
+earlier_lists-requires-clause-places g c =
+    (counts (map g.I.Number.value c.args.p.now), rw c.deref.ensures.value (rw c.in-Some.is at c.in_ok-places.ensures.places))
+
+pub returns-in_err-lists-clause-fault : goal.returns-in_err-lists-clause-fault
+returns-in_err-lists-clause-fault g c =
+    let memory : IfErr c.from_residual-in_err-lists.result (λ e. e ≡ OutOfMemory) = search rules in
+    memory_of c.from_residual-in_err-lists.result (IsCountsFault (pos c.args.size) (map g.I.Number.value c.args.a_p.now)
+    (map g.I.Number.value c.args.a_i.now) (map g.I.Number.value c.args.p.now)) memory
+    (λ _. c.requires.1.1.1.0)
+
+pub written_counts-requires : goal.written_counts-requires
+written_counts-requires g c κs within =
+    let a_p : List ℤ = map g.I.Number.value c.args.a_p.now in
+    let a_i : List ℤ = map g.I.Number.value c.args.a_i.now in
+    let p : List ℤ = map g.I.Number.value c.args.p.now in (
+      within,
+      (
+        laws c.args.size a_p a_i p g.o c.requires.1.1.1.1.0 c.requires.1.1.1.1.1,
+        earlier_of c.args.size a_p a_i p g.o c.requires.1.1.1.1.0 c.requires.1.1.1.1.1 c.deref-2.result.now c.deref-3.result.now
+            (rw (c.deref-2.ensures.value, c.deref-3.ensures.value)
+            (c.in_ok-lists.ensures (counts p) (rw c.deref.ensures.value (rw c.in-Some.is at c.in_ok-places.ensures.places)))),
+      ),
+    )

@@ -1,0 +1,5 @@
+use Rattle.amd_symbolic.proofs.CountForms.{counts_reserve}
+use Rattle.amd_symbolic.proofs.laws.law_counts_reserve.Goals as goal
+
+pub returns : goal.returns
+returns c = counts_reserve

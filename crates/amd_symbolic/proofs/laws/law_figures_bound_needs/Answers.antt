@@ -1,0 +1,5 @@
+use Rattle.amd_symbolic.proofs.CountForms.{figures_bound_needs}
+use Rattle.amd_symbolic.proofs.laws.law_figures_bound_needs.Goals as goal
+
+pub returns : goal.returns
+returns c = figures_bound_needs

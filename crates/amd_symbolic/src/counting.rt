@@ -1,0 +1,158 @@
+// How many entries each column of a factor has, and what the factor needs, without its columns: the input is tested and
+// the lists of earlier neighbours are made as for `columns`, and the crate `amd_counts` counts. Source: Liu 1986 and
+// 1990; AMD user guide (the figures of `Info`). Called by users, by the command and by the crate `amd_c`.
+
+ghost use Rattle.std.specs.Prelude.{◌≡◌, pos, map, List, ℤ, Bool, IfOk, IfErr};
+ghost use Rattle.amd_model.specs.Input.Columns.{IsColumnForm};
+ghost use Rattle.amd_model.specs.Input.Pattern.{graph_of};
+ghost use Rattle.amd_factor.specs.Earlier.{Order};
+ghost use Rattle.amd_types.specs.Counts.{counts as counts_of};
+ghost use Rattle.amd.specs.Answers.{IsOrdering};
+ghost use Rattle.amd_symbolic.specs.Counted.{IsCountsFault, IsCountsOf};
+ghost use Rattle.amd_symbolic.specs.Factors.{IsAnalysisFault};
+
+use crate::analysis::fault_of;
+use crate::column_sizes::{Counts, empty_counts, written_counts};
+use crate::factor::Fault;
+use amd::valid::valid;
+use amd::{Control, Info, Status, order};
+use amd_earlier::lists::earlier_lists;
+use amd_earlier::places::places;
+use amd_types::internal::to_count;
+use num_traits::PrimInt;
+use std::alloc::Allocator;
+
+/// The counts of a column form with `size` rows and columns.
+fn form_counts<I: PrimInt, A: Allocator + Copy>(
+    alloc: A,
+    size: usize,
+    a_p: &[I],
+    a_i: &[I],
+    p: &[I],
+) -> Result<Counts<A>, Fault>
+    ghost o: { Order }
+    requires form { IsColumnForm (pos size) size (map I.value a_p.now) (map I.value a_i.now) }
+    requires graph { o.graph ≡ graph_of size (map I.value a_p.now) (map I.value a_i.now) }
+    requires rows { o.rows ≡ counts_of (map I.value p.now) }
+    ensures counts { IfOk result (λ c. IsCountsOf (pos size) (map I.value a_p.now) (map I.value a_i.now)
+        (map I.value p.now) c.sizes.items c.parent.items c.need) }
+    ensures fault { IfErr result (λ e. IsCountsFault (pos size) (map I.value a_p.now) (map I.value a_i.now)
+        (map I.value p.now) e) }
+{
+    let Some(places) = places(alloc, size, p)? else {
+        return Err(Fault::NotPermutation);
+    };
+    let lists = earlier_lists(alloc, size, a_p, a_i, &places)?;
+    Ok(written_counts(alloc, &lists.starts, &lists.earlier)?)
+}
+
+/// How many entries each column of the factor of a square matrix has under an order of its rows, by the pattern of
+/// `A + A'`; the parents, and what the factor needs.
+///
+/// The columns are those of [`crate::columns`], and so are the input and the order. The result has `n` sizes and `n`
+/// parents; the sum of the sizes is the room that `columns` needs. For `n = 0` the pointers and row indices are not
+/// looked at, and `p` must be empty.
+///
+/// No entry is written: beside the lists of neighbours, a few numbers a row are taken, all of them before the first
+/// count.
+///
+/// # Errors
+///
+/// The first of these:
+///
+/// * `NotColumnForm` exactly where `n` is not 0 and the input is no column form; no memory is asked before.
+/// * `NotPermutation` where `p` does not list each number below `n`, once.
+///
+/// `OutOfMemory` where an allocation was refused. It may come in place of the second. No other fault.
+///
+/// Source: Rose, Tarjan and Lueker 1976; Liu 1986 and 1990.
+pub fn counts<I: PrimInt, A: Allocator + Copy>(
+    alloc: A,
+    n: I,
+    a_p: &[I],
+    a_i: &[I],
+    p: &[I],
+) -> Result<Counts<A>, Fault>
+    // A number of a primitive type is always in range.
+    requires fits { I.fits (I.value n) }
+    ensures counts { IfOk result (λ c. IsCountsOf (I.value n) (map I.value a_p.now) (map I.value a_i.now)
+        (map I.value p.now) c.sizes.items c.parent.items c.need) }
+    ensures fault { IfErr result (λ e. IsCountsFault (I.value n) (map I.value a_p.now) (map I.value a_i.now)
+        (map I.value p.now) e) }
+{
+    let Some(size) = to_count(n) else {
+        return Err(Fault::NotColumnForm);
+    };
+    if size == 0 {
+        return if p.is_empty() {
+            Ok(empty_counts(alloc))
+        } else {
+            Err(Fault::NotPermutation)
+        };
+    }
+    if valid(n, n, a_p, a_i) == Status::Invalid {
+        return Err(Fault::NotColumnForm);
+    }
+    form_counts(alloc, size, a_p, a_i, p)
+}
+
+/// The counts under the order that an ordering gave.
+fn ordered_counts<I: PrimInt, A: Allocator + Copy>(
+    alloc: A,
+    n: I,
+    a_p: &[I],
+    a_i: &[I],
+    p: &[I],
+    info: &Info,
+) -> Result<Counts<A>, Fault>
+    requires fits { I.fits (I.value n) }
+    requires ordering { (t : ℤ) × (aggressive : Bool) × (q : List ℤ) ×
+        IsOrdering (I.value n) t aggressive (map I.value a_p.now) (map I.value a_i.now) (map I.value p.now) q info.now }
+    ensures counts { IfOk result (λ c. IsCountsOf (I.value n) (map I.value a_p.now) (map I.value a_i.now)
+        (map I.value p.now) c.sizes.items c.parent.items c.need) }
+    ensures fault { IfErr result (λ e. e ≡ Fault.OutOfMemory) }
+{
+    match counts(alloc, n, a_p, a_i, p) {
+        Ok(counted) => Ok(counted),
+        Err(Fault::OutOfMemory) => Err(Fault::OutOfMemory),
+        Err(Fault::NotColumnForm) => unreachable!(),
+        Err(Fault::NotPermutation) => unreachable!(),
+        Err(Fault::RoomTooSmall) => unreachable!(),
+    }
+}
+
+/// Orders as [`amd::order`] does; returns the permutation `p`, its inverse, the record, and the counts under `p`.
+///
+/// The input is a column form as that of [`amd::order`]. The permutation and its inverse have `n` numbers each. The
+/// counts are those of [`counts`] with this order: what the exact factor needs stands beside the bounds of the record.
+///
+/// For `n = 0` the result is two empty vectors, `Info::new(0)` and counts of no column, whatever the pointers are.
+///
+/// # Errors
+///
+/// `NotColumnForm` exactly where `n` is not 0 and the input is no column form; no memory is asked before. `OutOfMemory`
+/// where an allocation was refused, or the workspace would have more than `isize::MAX` words. No other fault.
+///
+/// Source: AMD user guide; Amestoy, Davis and Duff 1996 and 2004; Rose, Tarjan and Lueker 1976; Liu 1986 and 1990.
+pub fn analyze_counts<I: PrimInt, A: Allocator + Copy>(
+    alloc: A,
+    n: I,
+    a_p: &[I],
+    a_i: &[I],
+    control: &Control,
+) -> Result<(Vec<I, A>, Vec<I, A>, Info, Counts<A>), Fault>
+    // A number of a primitive type is always in range.
+    requires fits { I.fits (I.value n) }
+    ensures ordering { IfOk result (λ a. IsOrdering (I.value n) control.now.dense control.now.aggressive
+        (map I.value a_p.now) (map I.value a_i.now) (map I.value a.0.items) (map I.value a.1.items) a.2) }
+    ensures counts { IfOk result (λ a. IsCountsOf (I.value n) (map I.value a_p.now) (map I.value a_i.now)
+        (map I.value a.0.items) a.3.sizes.items a.3.parent.items a.3.need) }
+    ensures fault { IfErr result (λ e. IsAnalysisFault (I.value n) (map I.value a_p.now) (map I.value a_i.now) e) }
+{
+    let (p, p_inv, info) = match order(alloc, n, a_p, a_i, control) {
+        Ok(answer) => answer,
+        Err(refusal) => return Err(fault_of(refusal)),
+    };
+    let counted = ordered_counts(alloc, n, a_p, a_i, &p, &info)?;
+    Ok((p, p_inv, info, counted))
+}
