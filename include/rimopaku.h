@@ -19,7 +19,7 @@
  * each from 0 to n - 1. Columns may be unsorted and have duplicates. What follows in either array is ignored.
  *
  * Beside SuiteSparse's AMD: the dense row parameter counts in thousandths, lengths are passed with the arrays, the inverse permutation is
- * returned too, and the counts are integers that saturate at SIZE_MAX. include/drop_in/amd.h has the calls of SuiteSparse's AMD. */
+ * returned too, and the counts are integers that saturate at SIZE_MAX. The header amd.h has the calls of SuiteSparse's AMD. */
 
 #ifndef RIMOPAKU_H
 #define RIMOPAKU_H
@@ -99,10 +99,10 @@ int32_t rimopaku_order_holding_i64(int64_t n, const int64_t *a_p, size_t a_p_len
 int32_t rimopaku_valid_i32(int32_t n_row, int32_t n_col, const int32_t *a_p, size_t a_p_len, const int32_t *a_i, size_t a_i_len);
 int32_t rimopaku_valid_i64(int64_t n_row, int64_t n_col, const int64_t *a_p, size_t a_p_len, const int64_t *a_i, size_t a_i_len);
 
-/* What rimopaku_columns_i32 and rimopaku_columns_i64 return besides 0, RIMOPAKU_OUT_OF_MEMORY and RIMOPAKU_INVALID. */
+/* What rimopaku_columns and rimopaku_preprocess return besides 0, RIMOPAKU_OUT_OF_MEMORY and RIMOPAKU_INVALID. */
 enum {
     RIMOPAKU_NOT_PERMUTATION = -3, /* p does not list each row exactly once */
-    RIMOPAKU_ROOM_TOO_SMALL = -4   /* the factor has more than rows_len entries */
+    RIMOPAKU_ROOM_TOO_SMALL = -4   /* there are more entries than the array for them has places */
 };
 
 /* Writes the pattern of the factor L of the matrix in the order p: row p[k] is at place k. p is any permutation of the rows, such as one
@@ -121,6 +121,40 @@ int32_t rimopaku_columns_i32(int32_t n, const int32_t *a_p, size_t a_p_len, cons
 int32_t rimopaku_columns_i64(int64_t n, const int64_t *a_p, size_t a_p_len, const int64_t *a_i, size_t a_i_len, const int64_t *p,
                              size_t p_len, int64_t *ptr, size_t ptr_len, int64_t *rows, size_t rows_len, int64_t *parent,
                              size_t parent_len);
+
+/* Writes the degrees of the rows by the pattern of A + A', without its diagonal: degrees[i] is the number of its entries in row i. The
+ * columns of the matrix must be sorted and have no duplicates. Of *statistics the fields n, nz, symmetry, nz_diag and nz_a_plus_at tell the
+ * pattern, and the others are 0.
+ *
+ * degrees_len must be n. Returns RIMOPAKU_OK, or RIMOPAKU_INVALID exactly if degrees_len is not n or rimopaku_valid(n, n, ..) would not
+ * return RIMOPAKU_OK. After an error degrees and *statistics are unchanged. */
+int32_t rimopaku_aat_i32(int32_t n, const int32_t *a_p, size_t a_p_len, const int32_t *a_i, size_t a_i_len, int32_t *degrees,
+                         size_t degrees_len, struct rimopaku_statistics *statistics);
+int32_t rimopaku_aat_i64(int64_t n, const int64_t *a_p, size_t a_p_len, const int64_t *a_i, size_t a_i_len, int64_t *degrees,
+                         size_t degrees_len, struct rimopaku_statistics *statistics);
+
+/* Writes the row form of a matrix, which is the column form of its transpose: row i has the columns indices[pointers[i]] to
+ * indices[pointers[i + 1] - 1], in ascending order and without duplicates. The columns of the matrix may be unsorted and have duplicates.
+ *
+ * pointers_len must be n + 1; otherwise, and if the input is not a column form, the call returns RIMOPAKU_INVALID. indices has room for the
+ * entries of the pattern, of which there are at most a_p[n]; if it is too small, the call returns RIMOPAKU_ROOM_TOO_SMALL. What follows the
+ * entries in indices is unchanged, and after an error both arrays are. */
+int32_t rimopaku_preprocess_i32(int32_t n, const int32_t *a_p, size_t a_p_len, const int32_t *a_i, size_t a_i_len, int32_t *pointers,
+                                size_t pointers_len, int32_t *indices, size_t indices_len);
+int32_t rimopaku_preprocess_i64(int64_t n, const int64_t *a_p, size_t a_p_len, const int64_t *a_i, size_t a_i_len, int64_t *pointers,
+                                size_t pointers_len, int64_t *indices, size_t indices_len);
+
+/* Writes the postorder of an assembly tree. Place e holds an element if nv[e] > 0; then parent[e] is the element above it, or -1 if there
+ * is none, and f_size[e] is the size of its front. order[e] becomes its number in the postorder, and -1 if e holds no element. The elements
+ * with the same parent come in ascending order, except that the last one of those with the largest front comes last. The roots come in
+ * ascending order.
+ *
+ * Each length must be n. Returns RIMOPAKU_OK; or RIMOPAKU_INVALID exactly if a length is not n, or the lists are no forest: an element has a
+ * negative front, or a parent that is neither -1 nor an element, or is above itself. After an error order is unchanged. */
+int32_t rimopaku_postorder_i32(int32_t n, const int32_t *parent, size_t parent_len, const int32_t *nv, size_t nv_len,
+                               const int32_t *f_size, size_t f_size_len, int32_t *order, size_t order_len);
+int32_t rimopaku_postorder_i64(int64_t n, const int64_t *parent, size_t parent_len, const int64_t *nv, size_t nv_len,
+                               const int64_t *f_size, size_t f_size_len, int64_t *order, size_t order_len);
 
 #ifdef __cplusplus
 }

@@ -1,9 +1,12 @@
-/* amd.h: the calls of SuiteSparse's AMD over the library rimopaku, with the same names, arguments and numbers.
+/* amd.h: the calls of SuiteSparse's AMD over the library rimopaku, with the same names, arguments and numbers, as SuiteSparse 5 and 7
+ * have them, for C99 and C++11.
  *
- * A C or C++ program that includes "amd.h" is compiled with -I../rimopaku/include/drop_in, and linked with libamd_c.a and liblibc_c.a
- * instead of SuiteSparse's libamd, with no other change (docs/USING.md). The permutation and the status are the same. What differs:
+ * A C or C++ program that includes "amd.h" is compiled with the folder of this file first in the include path, and linked with libamd_c.a
+ * and liblibc_c.a instead of SuiteSparse's libamd, with no other change. The permutation and the status are the same. What differs:
  *
- *   - Control [AMD_DENSE] is rounded to thousandths, and limited to 2147483.647. NaN stands for the default.
+ *   - Control [AMD_DENSE]: up to n = 1,000,000 a row is dense exactly where it is in SuiteSparse's AMD. Above, the parameter is rounded to
+ *     thousandths, and one that is no whole number of them moves the number of entries above which a row is dense by at most
+ *     sqrt (n) / 2000 + 1. NaN stands for the default; SuiteSparse does not say what it does then.
  *   - Info [AMD_LNZ] to Info [AMD_NMULTSUBS_LU] saturate at 2^64, and a count above 2^53 is rounded to a double. SuiteSparse adds up
  *     doubles, so its last digits differ there.
  *   - Info [AMD_MEMORY] is what SuiteSparse's AMD would take for such a matrix, and not what this library takes.
@@ -11,27 +14,63 @@
  *   - amd_order takes a second array of n integers for the inverse permutation. If malloc refuses it, the call returns AMD_OUT_OF_MEMORY,
  *     even if the matrix is not valid.
  *   - The first line that amd_control and amd_info print names this library.
- *   - There is no amd_2, amd_l2, amd_malloc or amd_printf, and SuiteSparse_config is not used: memory comes from malloc, and text goes to
- *     standard output.
+ *   - There is no amd_malloc or amd_printf, and SuiteSparse_config is not used: memory comes from malloc, and text goes to standard output.
  *
  * What a caller must uphold, as with SuiteSparse: each pointer that is not NULL points to as many numbers as the comment at its function
  * says, and P overlaps neither Ap nor Ai. That Ai has Ap [n] numbers cannot be checked. A NULL Ap, Ai or P and a negative n are
  * AMD_INVALID, a NULL Control stands for the defaults, and a NULL Info is allowed.
  *
- * The functions are `static inline`. For programs and libraries that were compiled with SuiteSparse's own amd.h, compile one C file that
- * defines RIMOPAKU_AMD_LINKAGE as nothing and then includes this header; it has the functions as symbols. */
+ * Macros that may be defined before the header is read:
+ *
+ *   - RIMOPAKU_SUITESPARSE: 5 or 7, the version of SuiteSparse whose header this one stands for. Without it 5. With 7, amd_l_order and
+ *     amd_l_valid return an int, and AMD_VERSION is that of AMD 3.
+ *   - RIMOPAKU_AMD_SYMBOLS: the header only declares its functions, and the program is linked with libamd.so or libamd.a of this
+ *     repository (bindings/c). Without it they are `static inline`, except amd_2 and amd_l2, which only that library has.
+ *
+ * A program that reads klu.h or another header of SuiteSparse which reads SuiteSparse's own amd.h has its declarations already: leave out
+ * this header, and link with libamd of this repository, whose symbols are those that SuiteSparse's header declares. */
 
-#ifndef AMD_H
+#ifndef RIMOPAKU_AMD_H
+#define RIMOPAKU_AMD_H
+
+/* The guard of SuiteSparse's header. It is defined below too, so that SuiteSparse's header is left out where it comes second. */
+#ifdef AMD_H
+#error "SuiteSparse's amd.h was read before rimopaku's: leave out this one and link with rimopaku's libamd, or include this one first"
+#endif
 #define AMD_H
 
 #include <inttypes.h>
 #include <stdio.h>
 #include <stdlib.h>
+#if defined __SSE2__
+#include <emmintrin.h>
+#elif defined __aarch64__
+#include <arm_neon.h>
+#else
+#include <math.h>
+#endif
 
+/* rimopaku.h stands beside this header, or one folder above it. */
+#if defined __has_include
+#if __has_include("rimopaku.h")
+#include "rimopaku.h"
+#else
 #include "../rimopaku.h"
+#endif
+#else
+#include "../rimopaku.h"
+#endif
+
+#ifndef RIMOPAKU_SUITESPARSE
+#define RIMOPAKU_SUITESPARSE 5
+#endif
 
 #ifndef RIMOPAKU_AMD_LINKAGE
+#ifdef RIMOPAKU_AMD_SYMBOLS
+#define RIMOPAKU_AMD_LINKAGE
+#else
 #define RIMOPAKU_AMD_LINKAGE static inline
+#endif
 #endif
 
 #ifndef SuiteSparse_long
@@ -73,36 +112,126 @@
 #define AMD_OK_BUT_JUMBLED RIMOPAKU_OK_BUT_JUMBLED
 
 /* The version of AMD whose calls these are. */
+#if RIMOPAKU_SUITESPARSE >= 7
+#ifndef SUITESPARSE_VER_CODE
+#define SUITESPARSE_VER_CODE(main,sub) ((main) * 1000 + (sub))
+#endif
+#ifndef SUITESPARSE__VERCODE
+#define SUITESPARSE__VERCODE(main,sub,patch) (((main)*1000ULL + (sub))*1000ULL + (patch))
+#endif
+#define AMD_DATE "June 20, 2024"
+#define AMD_MAIN_VERSION 3
+#define AMD_SUB_VERSION 3
+#define AMD_SUBSUB_VERSION 3
+#define AMD_VERSION_CODE(main, sub) SUITESPARSE_VER_CODE(main, sub)
+#define AMD__VERSION SUITESPARSE__VERCODE(3,3,3)
+/* What the long calls return. */
+typedef int rimopaku_amd_long_status;
+#else
 #define AMD_DATE "May 4, 2016"
-#define AMD_VERSION_CODE(main, sub) ((main) * 1000 + (sub))
 #define AMD_MAIN_VERSION 2
 #define AMD_SUB_VERSION 4
 #define AMD_SUBSUB_VERSION 6
+#define AMD_VERSION_CODE(main, sub) ((main) * 1000 + (sub))
+typedef SuiteSparse_long rimopaku_amd_long_status;
+#endif
 #define AMD_VERSION AMD_VERSION_CODE(AMD_MAIN_VERSION, AMD_SUB_VERSION)
 
 #ifdef __cplusplus
 extern "C" {
 #endif
 
-/* The dense row parameter in thousandths. */
-static inline int32_t rimopaku_amd_thousandths(double dense)
+/* Orders a matrix. Ap has n + 1 integers, Ai has Ap [n], P gets n, Control has AMD_CONTROL doubles and Info gets AMD_INFO. */
+RIMOPAKU_AMD_LINKAGE int amd_order(int32_t n, const int32_t Ap[], const int32_t Ai[], int32_t P[], double Control[], double Info[]);
+RIMOPAKU_AMD_LINKAGE rimopaku_amd_long_status amd_l_order(SuiteSparse_long n, const SuiteSparse_long Ap[], const SuiteSparse_long Ai[],
+                                                          SuiteSparse_long P[], double Control[], double Info[]);
+
+/* Orders the rows of a symmetric pattern that is given as lists, and is without its diagonal: list i has the rows Iw [Pe [i]] to
+ * Iw [Pe [i] + Len [i] - 1], and each pair of rows stands in both lists. Last gets the permutation, and Next its inverse. Of Info the
+ * places AMD_NDENSE, AMD_NCMPA to AMD_DMAX are written, and AMD_STATUS where it is not AMD_OK.
+ *
+ * As in SuiteSparse's AMD the call has no status. Where malloc refuses memory, or the lists are none, Last and Next get the identity, and
+ * Info [AMD_STATUS] is AMD_OUT_OF_MEMORY or AMD_INVALID. Where each list is sorted, the permutation is that of SuiteSparse's AMD; else it
+ * is another one of the same kind. Pe, Iw, Len, Nv, Head, Elen, Degree and W stay as they are: SuiteSparse's AMD leaves its tree in Pe, Nv
+ * and Elen. */
+void amd_2(int32_t n, int32_t Pe[], int32_t Iw[], int32_t Len[], int32_t iwlen, int32_t pfree, int32_t Nv[], int32_t Next[],
+           int32_t Last[], int32_t Head[], int32_t Elen[], int32_t Degree[], int32_t W[], double Control[], double Info[]);
+void amd_l2(SuiteSparse_long n, SuiteSparse_long Pe[], SuiteSparse_long Iw[], SuiteSparse_long Len[], SuiteSparse_long iwlen,
+            SuiteSparse_long pfree, SuiteSparse_long Nv[], SuiteSparse_long Next[], SuiteSparse_long Last[], SuiteSparse_long Head[],
+            SuiteSparse_long Elen[], SuiteSparse_long Degree[], SuiteSparse_long W[], double Control[], double Info[]);
+
+/* Checks a matrix: AMD_OK, AMD_OK_BUT_JUMBLED or AMD_INVALID. Ap has n_col + 1 integers, and Ai has Ap [n_col]. */
+RIMOPAKU_AMD_LINKAGE int amd_valid(int32_t n_row, int32_t n_col, const int32_t Ap[], const int32_t Ai[]);
+RIMOPAKU_AMD_LINKAGE rimopaku_amd_long_status amd_l_valid(SuiteSparse_long n_row, SuiteSparse_long n_col, const SuiteSparse_long Ap[],
+                                                          const SuiteSparse_long Ai[]);
+
+/* Writes the defaults into Control. */
+RIMOPAKU_AMD_LINKAGE void amd_defaults(double Control[]);
+RIMOPAKU_AMD_LINKAGE void amd_l_defaults(double Control[]);
+
+/* Prints Control, or the defaults. */
+RIMOPAKU_AMD_LINKAGE void amd_control(double Control[]);
+RIMOPAKU_AMD_LINKAGE void amd_l_control(double Control[]);
+
+/* Prints Info. */
+RIMOPAKU_AMD_LINKAGE void amd_info(double Info[]);
+RIMOPAKU_AMD_LINKAGE void amd_l_info(double Info[]);
+
+/* Writes the version of AMD whose calls these are. */
+RIMOPAKU_AMD_LINKAGE void amd_version(int version[3]);
+
+#ifndef RIMOPAKU_AMD_SYMBOLS
+
+/* The square root, rounded as IEEE 754 says, without a library to link where the processor has an instruction for it. */
+static inline double rimopaku_amd_root(double square)
 {
+#if defined __SSE2__
+    return _mm_cvtsd_f64(_mm_sqrt_sd(_mm_set_sd(square), _mm_set_sd(square)));
+#elif defined __aarch64__
+    return vget_lane_f64(vsqrt_f64(vdup_n_f64(square)), 0);
+#else
+    return sqrt(square);
+#endif
+}
+
+/* The rows up to which a dense row parameter has a thousandth with its very threshold: up to there one more thousandth moves the threshold
+ * by one row at most. */
+#define RIMOPAKU_AMD_EXACT_ROWS 1000000
+
+/* The dense row parameter in thousandths, for n rows: the least number of them with the threshold of SuiteSparse's AMD, which is
+ * dense * sqrt (n) rounded down, as far as there is one. */
+static inline int32_t rimopaku_amd_thousandths(double dense, int64_t n)
+{
+    double root, rows;
+    uint64_t size, goal, t;
+
     if (dense != dense)
         return 10000;
     if (dense < 0)
         return -1;
-    if (dense >= 2147483.647)
-        return INT32_MAX;
-    return (int32_t)(dense * 1000 + 0.5);
+    if (n < 1 || n > RIMOPAKU_AMD_EXACT_ROWS)
+        return dense >= 2147483.647 ? INT32_MAX : (int32_t)(dense * 1000 + 0.5);
+    root = rimopaku_amd_root((double)n);
+    rows = dense * root;
+    if (rows > (double)n)
+        rows = (double)n;
+    size = (uint64_t)n;
+    goal = (uint64_t)rows * 1000;
+    t = (uint64_t)((double)goal / root);
+    while (t > 0 && t * t * size >= goal * goal)
+        t--;
+    while (t * t * size < goal * goal)
+        t++;
+    return (int32_t)t;
 }
 
-/* The parameters in Control. */
-static inline struct rimopaku_parameters rimopaku_amd_parameters(const double Control[])
+/* The parameters in Control, for n rows. */
+static inline struct rimopaku_parameters rimopaku_amd_parameters(const double Control[], int64_t n)
 {
     struct rimopaku_parameters parameters;
     rimopaku_defaults(&parameters);
     if (Control != NULL) {
-        parameters.dense = rimopaku_amd_thousandths(Control[AMD_DENSE]);
+        parameters.dense = rimopaku_amd_thousandths(Control[AMD_DENSE], n);
         parameters.aggressive = Control[AMD_AGGRESSIVE] != 0;
     }
     return parameters;
@@ -157,12 +286,11 @@ static inline double rimopaku_amd_integers(const struct rimopaku_statistics *tol
     return lists + 9 * (double)told->n + (status == AMD_OK_BUT_JUMBLED ? copy : 0);
 }
 
-/* Orders a matrix. Ap has n + 1 integers, Ai has Ap [n], P gets n, Control has AMD_CONTROL doubles and Info gets AMD_INFO. */
-RIMOPAKU_AMD_LINKAGE int amd_order(int n, const int Ap[], const int Ai[], int P[], double Control[], double Info[])
+RIMOPAKU_AMD_LINKAGE int amd_order(int32_t n, const int32_t Ap[], const int32_t Ai[], int32_t P[], double Control[], double Info[])
 {
-    struct rimopaku_parameters parameters = rimopaku_amd_parameters(Control);
+    struct rimopaku_parameters parameters = rimopaku_amd_parameters(Control, n);
     struct rimopaku_statistics told;
-    int *inverse;
+    int32_t *inverse;
     int32_t status;
 
     rimopaku_amd_begin(Info, n);
@@ -174,21 +302,20 @@ RIMOPAKU_AMD_LINKAGE int amd_order(int n, const int Ap[], const int Ai[], int P[
         Info[AMD_NZ] = Ap[n];
     if (Ap[n] < 0)
         return rimopaku_amd_end(Info, AMD_INVALID);
-    inverse = (int *)malloc((size_t)n * sizeof(int));
+    inverse = (int32_t *)malloc((size_t)n * sizeof(int32_t));
     if (inverse == NULL)
         return rimopaku_amd_end(Info, AMD_OUT_OF_MEMORY);
     status = rimopaku_order_i32(n, Ap, (size_t)n + 1, Ai, (size_t)Ap[n], &parameters, P, (size_t)n, inverse, (size_t)n, &told);
     free(inverse);
     if (status >= 0)
-        rimopaku_amd_tell(Info, &told, rimopaku_amd_integers(&told, status, Ap[n]), sizeof(int));
+        rimopaku_amd_tell(Info, &told, rimopaku_amd_integers(&told, status, Ap[n]), sizeof(int32_t));
     return rimopaku_amd_end(Info, status);
 }
 
-/* Orders a matrix with 64-bit integers. */
-RIMOPAKU_AMD_LINKAGE SuiteSparse_long amd_l_order(SuiteSparse_long n, const SuiteSparse_long Ap[], const SuiteSparse_long Ai[],
-                                                  SuiteSparse_long P[], double Control[], double Info[])
+RIMOPAKU_AMD_LINKAGE rimopaku_amd_long_status amd_l_order(SuiteSparse_long n, const SuiteSparse_long Ap[], const SuiteSparse_long Ai[],
+                                                          SuiteSparse_long P[], double Control[], double Info[])
 {
-    struct rimopaku_parameters parameters = rimopaku_amd_parameters(Control);
+    struct rimopaku_parameters parameters = rimopaku_amd_parameters(Control, n);
     struct rimopaku_statistics told;
     SuiteSparse_long *inverse;
     int32_t status;
@@ -214,24 +341,21 @@ RIMOPAKU_AMD_LINKAGE SuiteSparse_long amd_l_order(SuiteSparse_long n, const Suit
     return rimopaku_amd_end(Info, status);
 }
 
-/* Checks a matrix: AMD_OK, AMD_OK_BUT_JUMBLED or AMD_INVALID. Ap has n_col + 1 integers, and Ai has Ap [n_col]. */
-RIMOPAKU_AMD_LINKAGE int amd_valid(int n_row, int n_col, const int Ap[], const int Ai[])
+RIMOPAKU_AMD_LINKAGE int amd_valid(int32_t n_row, int32_t n_col, const int32_t Ap[], const int32_t Ai[])
 {
     if (Ap == NULL || Ai == NULL || n_row < 0 || n_col < 0 || Ap[n_col] < 0)
         return AMD_INVALID;
     return rimopaku_valid_i32(n_row, n_col, Ap, (size_t)n_col + 1, Ai, (size_t)Ap[n_col]);
 }
 
-/* Checks a matrix with 64-bit integers. */
-RIMOPAKU_AMD_LINKAGE SuiteSparse_long amd_l_valid(SuiteSparse_long n_row, SuiteSparse_long n_col, const SuiteSparse_long Ap[],
-                                                  const SuiteSparse_long Ai[])
+RIMOPAKU_AMD_LINKAGE rimopaku_amd_long_status amd_l_valid(SuiteSparse_long n_row, SuiteSparse_long n_col, const SuiteSparse_long Ap[],
+                                                          const SuiteSparse_long Ai[])
 {
     if (Ap == NULL || Ai == NULL || n_row < 0 || n_col < 0 || Ap[n_col] < 0)
         return AMD_INVALID;
     return rimopaku_valid_i64(n_row, n_col, Ap, (size_t)n_col + 1, Ai, (size_t)Ap[n_col]);
 }
 
-/* Writes the defaults into Control. */
 RIMOPAKU_AMD_LINKAGE void amd_defaults(double Control[])
 {
     int i;
@@ -282,7 +406,6 @@ static inline void rimopaku_amd_print(const char *label, double number)
         printf("    %-52s%.20g\n", label, number);
 }
 
-/* Prints Info. */
 RIMOPAKU_AMD_LINKAGE void amd_info(double Info[])
 {
     double n, divisions, ldl, lu;
@@ -330,6 +453,15 @@ RIMOPAKU_AMD_LINKAGE void amd_l_info(double Info[])
 {
     amd_info(Info);
 }
+
+RIMOPAKU_AMD_LINKAGE void amd_version(int version[3])
+{
+    version[0] = AMD_MAIN_VERSION;
+    version[1] = AMD_SUB_VERSION;
+    version[2] = AMD_SUBSUB_VERSION;
+}
+
+#endif
 
 #ifdef __cplusplus
 }

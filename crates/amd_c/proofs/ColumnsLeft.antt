@@ -15,7 +15,7 @@ parents_are n a_p a_i p ptr rows parent f =
     ap length f.holds.holds.parents ∙ length-map f.holds.columns _ ∙ f.holds.factor.places ∙ f.permutes.each.places
 
 -- the number of an outcome has 32 bits
-number_comes_back : (outcome : Result (Unit {0}) Fault) → to_z w32 (of_z w32 (number_of_end outcome)) ≡ number_of_end outcome
+pub number_comes_back : (outcome : Result (Unit {0}) Fault) → to_z w32 (of_z w32 (number_of_end outcome)) ≡ number_of_end outcome
 number_comes_back (Ok _) = refl
 number_comes_back (Err OutOfMemory) = refl
 number_comes_back (Err NotColumnForm) = refl

@@ -2,3 +2,5 @@
 pub mod Leaving
 -- What the columns of a factor leave, and the same in the numbers of C.
 pub mod ColumnsLeft
+-- What the degrees and the row form leave, and the same in the numbers of C.
+pub mod PatternsLeft

@@ -4,3 +4,5 @@ pub mod Numbers
 pub mod Calls
 -- What the calls for the columns of a factor leave there.
 pub mod Columns
+-- What the calls for the degrees and for the row form leave there.
+pub mod Patterns

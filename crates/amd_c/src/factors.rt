@@ -39,7 +39,7 @@ fn have_column_places<I: PrimInt>(n: I, ptr: &[I], parent: &[I]) -> bool
 /// # Errors
 ///
 /// `OutOfMemory` where a request was refused, or a count is too large for the type.
-fn numbers_of<I: PrimInt>(alloc: Global, counts: &[usize]) -> Result<Vec<I, Global>, Fault>
+pub fn numbers_of<I: PrimInt>(alloc: Global, counts: &[usize]) -> Result<Vec<I, Global>, Fault>
     ensures numbers { IfOk result (λ v. map I.value v.items ≡ map pos counts.now) }
     ensures fault { IfErr result (λ e. e ≡ Fault.OutOfMemory) }
 {

@@ -4,8 +4,10 @@
 ghost use Rattle.std.specs.Prelude.{None, Some};
 ghost use Rattle.amd_c.specs.Calls.{ClassifiesInput, OrdersInto, memory};
 ghost use Rattle.amd_c.specs.Columns.{ColumnsInto, arrays};
+ghost use Rattle.amd_c.specs.Patterns.{DegreesInto, RowFormInto, counted, row_arrays};
 
 use crate::factors::{columns_into, number_of_end};
+use crate::patterns::{degrees_into, row_form_into};
 use crate::records::{Parameters, Statistics, number_of};
 use crate::writing::order_into;
 use amd::valid::valid;
@@ -122,5 +124,62 @@ pub extern "C" fn rimopaku_columns_i64(
         (arrays ptr.new rows.new parent.new) result }
 {
     let outcome = columns_into(alloc, n, a_p, a_i, p, ptr, rows, parent);
+    number_of_end(&outcome)
+}
+
+/// Writes the degrees of the rows of a matrix by the pattern of `A + A'`, as `aat` of the crate `amd`, and returns 0.
+///
+/// Each column of the input is sorted and has no duplicates. The degrees are written into `degrees`, which has `n`
+/// places. Of `statistics` the fields `n`, `nz`, `symmetry`, `nz_diag` and `nz_a_plus_at` tell the pattern, and the
+/// others are 0. See `include/rimopaku.h` for what a caller must uphold.
+///
+/// # Errors
+///
+/// A negative number; `degrees` and `statistics` stay as they were. It is -2, `NotColumnForm`, exactly where `degrees`
+/// has not `n` places, or the input is no column form with sorted columns; and -1, `OutOfMemory`, as `aat` says.
+///
+/// Source: AMD user guide; Amestoy, Davis and Duff 2004.
+#[unsafe(no_mangle)]
+pub extern "C" fn rimopaku_aat_i64(
+    alloc: Global,
+    n: i64,
+    a_p: &[i64],
+    a_i: &[i64],
+    degrees: &mut [i64],
+    statistics: &mut Statistics,
+) -> i32
+    ensures { DegreesInto n a_p.now a_i.now (counted degrees.old statistics.old)
+        (counted degrees.new statistics.new) result }
+{
+    let outcome = degrees_into(alloc, n, a_p, a_i, degrees, statistics);
+    number_of_end(&outcome)
+}
+
+/// Writes the row form of a matrix, as `preprocess` of the crate `amd` returns it, and returns 0.
+///
+/// It is the column form of the transpose, with sorted columns and no duplicates. Where each row begins, and the end of
+/// the last one, is written into `pointers`, which has `n + 1` places; and the columns of each row into `indices`. What
+/// follows them in `indices` stays. See `include/rimopaku.h` for what a caller must uphold.
+///
+/// # Errors
+///
+/// A negative number; the arrays stay as they were. It is -2, `NotColumnForm`, exactly where `pointers` has not `n + 1`
+/// places, or the input is no column form; -4, `RoomTooSmall`, only where `indices` has fewer places than the pattern
+/// has entries; and -1, `OutOfMemory`, as `preprocess` says.
+///
+/// Source: AMD user guide.
+#[unsafe(no_mangle)]
+pub extern "C" fn rimopaku_preprocess_i64(
+    alloc: Global,
+    n: i64,
+    a_p: &[i64],
+    a_i: &[i64],
+    pointers: &mut [i64],
+    indices: &mut [i64],
+) -> i32
+    ensures { RowFormInto n a_p.now a_i.now (row_arrays pointers.old indices.old)
+        (row_arrays pointers.new indices.new) result }
+{
+    let outcome = row_form_into(alloc, n, a_p, a_i, pointers, indices);
     number_of_end(&outcome)
 }

@@ -1,0 +1,59 @@
+/* amd.c: SuiteSparse's AMD as symbols, over the library rimopaku: for programs and libraries that were compiled with SuiteSparse's amd.h,
+ * among them CHOLMOD, UMFPACK and KLU. bindings/c/build makes libamd.so and libamd.a of it.
+ *
+ * amd_order, amd_valid, amd_defaults, amd_control, amd_info and amd_version come from include/drop_in/amd.h. Here are amd_2, amd_1 and what
+ * UMFPACK calls besides, in both widths. What they compute is computed by the proved calls of rimopaku.h; this file turns their arguments
+ * round. amd_post_tree alone walks the caller's links itself: they come without a length, so that nothing could test them. */
+
+#define RIMOPAKU_AMD_LINKAGE
+#include "amd.h"
+
+#include <stdbool.h>
+#include <string.h>
+
+#define EMPTY (-1)
+
+/* Of Info, what amd_2 and amd_1 write: what is known once the rows are eliminated. */
+static void tell_elimination(double Info[], const struct rimopaku_statistics *told)
+{
+    if (Info == NULL)
+        return;
+    Info[AMD_NDENSE] = (double)told->n_dense;
+    Info[AMD_NCMPA] = (double)told->n_cmp_a;
+    Info[AMD_LNZ] = (double)told->lnz;
+    Info[AMD_NDIV] = (double)told->n_div;
+    Info[AMD_NMULTSUBS_LDL] = (double)told->n_mult_subs_ldl;
+    Info[AMD_NMULTSUBS_LU] = (double)told->n_mult_subs_lu;
+    Info[AMD_DMAX] = (double)told->d_max;
+}
+
+/* Of Info, what amd_aat writes: the pattern of n rows. The other places become EMPTY, as in SuiteSparse's AMD. */
+static void tell_pattern(double Info[], double n, const struct rimopaku_statistics *told)
+{
+    size_t off_diagonal = told->nz - told->nz_diag;
+    size_t mirrored = 2 * off_diagonal - told->nz_a_plus_at;
+
+    if (Info == NULL)
+        return;
+    rimopaku_amd_begin(Info, n);
+    Info[AMD_NZ] = (double)told->nz;
+    Info[AMD_SYMMETRY] = off_diagonal == 0 ? 1 : (double)mirrored / (double)off_diagonal;
+    Info[AMD_NZDIAG] = (double)told->nz_diag;
+    Info[AMD_NZ_A_PLUS_AT] = (double)told->nz_a_plus_at;
+}
+
+#define INT int32_t
+#define CALL(name) rimopaku_##name##_i32
+#define NAME(name) amd_##name
+#define SHORT_NAME(name) amd_##name
+#include "amd_width.h"
+#undef INT
+#undef CALL
+#undef NAME
+#undef SHORT_NAME
+
+#define INT SuiteSparse_long
+#define CALL(name) rimopaku_##name##_i64
+#define NAME(name) amd_l_##name
+#define SHORT_NAME(name) amd_l##name
+#include "amd_width.h"
