@@ -5,6 +5,8 @@
  * UMFPACK calls besides, in both widths. What they compute is computed by the proved calls of rimopaku.h; this file turns their arguments
  * round. amd_post_tree alone walks the caller's links itself: they come without a length, so that nothing could test them. */
 
+/* A status of 64 bits is right for callers of both versions: those of SuiteSparse 7 read its lower half. */
+#define RIMOPAKU_AMD_LONG_STATUS int64_t
 #define RIMOPAKU_AMD_LINKAGE
 #include "amd.h"
 

@@ -111,6 +111,15 @@
 #define AMD_INVALID RIMOPAKU_INVALID
 #define AMD_OK_BUT_JUMBLED RIMOPAKU_OK_BUT_JUMBLED
 
+/* What the calls for long integers return. */
+#ifndef RIMOPAKU_AMD_LONG_STATUS
+#if RIMOPAKU_SUITESPARSE >= 7
+#define RIMOPAKU_AMD_LONG_STATUS int
+#else
+#define RIMOPAKU_AMD_LONG_STATUS SuiteSparse_long
+#endif
+#endif
+
 /* The version of AMD whose calls these are. */
 #if RIMOPAKU_SUITESPARSE >= 7
 #ifndef SUITESPARSE_VER_CODE
@@ -125,15 +134,12 @@
 #define AMD_SUBSUB_VERSION 3
 #define AMD_VERSION_CODE(main, sub) SUITESPARSE_VER_CODE(main, sub)
 #define AMD__VERSION SUITESPARSE__VERCODE(3,3,3)
-/* What the long calls return. */
-typedef int rimopaku_amd_long_status;
 #else
 #define AMD_DATE "May 4, 2016"
 #define AMD_MAIN_VERSION 2
 #define AMD_SUB_VERSION 4
 #define AMD_SUBSUB_VERSION 6
 #define AMD_VERSION_CODE(main, sub) ((main) * 1000 + (sub))
-typedef SuiteSparse_long rimopaku_amd_long_status;
 #endif
 #define AMD_VERSION AMD_VERSION_CODE(AMD_MAIN_VERSION, AMD_SUB_VERSION)
 
@@ -143,7 +149,7 @@ extern "C" {
 
 /* Orders a matrix. Ap has n + 1 integers, Ai has Ap [n], P gets n, Control has AMD_CONTROL doubles and Info gets AMD_INFO. */
 RIMOPAKU_AMD_LINKAGE int amd_order(int32_t n, const int32_t Ap[], const int32_t Ai[], int32_t P[], double Control[], double Info[]);
-RIMOPAKU_AMD_LINKAGE rimopaku_amd_long_status amd_l_order(SuiteSparse_long n, const SuiteSparse_long Ap[], const SuiteSparse_long Ai[],
+RIMOPAKU_AMD_LINKAGE RIMOPAKU_AMD_LONG_STATUS amd_l_order(SuiteSparse_long n, const SuiteSparse_long Ap[], const SuiteSparse_long Ai[],
                                                           SuiteSparse_long P[], double Control[], double Info[]);
 
 /* Orders the rows of a symmetric pattern that is given as lists, and is without its diagonal: list i has the rows Iw [Pe [i]] to
@@ -162,7 +168,7 @@ void amd_l2(SuiteSparse_long n, SuiteSparse_long Pe[], SuiteSparse_long Iw[], Su
 
 /* Checks a matrix: AMD_OK, AMD_OK_BUT_JUMBLED or AMD_INVALID. Ap has n_col + 1 integers, and Ai has Ap [n_col]. */
 RIMOPAKU_AMD_LINKAGE int amd_valid(int32_t n_row, int32_t n_col, const int32_t Ap[], const int32_t Ai[]);
-RIMOPAKU_AMD_LINKAGE rimopaku_amd_long_status amd_l_valid(SuiteSparse_long n_row, SuiteSparse_long n_col, const SuiteSparse_long Ap[],
+RIMOPAKU_AMD_LINKAGE RIMOPAKU_AMD_LONG_STATUS amd_l_valid(SuiteSparse_long n_row, SuiteSparse_long n_col, const SuiteSparse_long Ap[],
                                                           const SuiteSparse_long Ai[]);
 
 /* Writes the defaults into Control. */
@@ -177,8 +183,10 @@ RIMOPAKU_AMD_LINKAGE void amd_l_control(double Control[]);
 RIMOPAKU_AMD_LINKAGE void amd_info(double Info[]);
 RIMOPAKU_AMD_LINKAGE void amd_l_info(double Info[]);
 
+#if RIMOPAKU_SUITESPARSE >= 7
 /* Writes the version of AMD whose calls these are. */
 RIMOPAKU_AMD_LINKAGE void amd_version(int version[3]);
+#endif
 
 #ifndef RIMOPAKU_AMD_SYMBOLS
 
@@ -312,7 +320,7 @@ RIMOPAKU_AMD_LINKAGE int amd_order(int32_t n, const int32_t Ap[], const int32_t 
     return rimopaku_amd_end(Info, status);
 }
 
-RIMOPAKU_AMD_LINKAGE rimopaku_amd_long_status amd_l_order(SuiteSparse_long n, const SuiteSparse_long Ap[], const SuiteSparse_long Ai[],
+RIMOPAKU_AMD_LINKAGE RIMOPAKU_AMD_LONG_STATUS amd_l_order(SuiteSparse_long n, const SuiteSparse_long Ap[], const SuiteSparse_long Ai[],
                                                           SuiteSparse_long P[], double Control[], double Info[])
 {
     struct rimopaku_parameters parameters = rimopaku_amd_parameters(Control, n);
@@ -348,7 +356,7 @@ RIMOPAKU_AMD_LINKAGE int amd_valid(int32_t n_row, int32_t n_col, const int32_t A
     return rimopaku_valid_i32(n_row, n_col, Ap, (size_t)n_col + 1, Ai, (size_t)Ap[n_col]);
 }
 
-RIMOPAKU_AMD_LINKAGE rimopaku_amd_long_status amd_l_valid(SuiteSparse_long n_row, SuiteSparse_long n_col, const SuiteSparse_long Ap[],
+RIMOPAKU_AMD_LINKAGE RIMOPAKU_AMD_LONG_STATUS amd_l_valid(SuiteSparse_long n_row, SuiteSparse_long n_col, const SuiteSparse_long Ap[],
                                                           const SuiteSparse_long Ai[])
 {
     if (Ap == NULL || Ai == NULL || n_row < 0 || n_col < 0 || Ap[n_col] < 0)
@@ -454,12 +462,14 @@ RIMOPAKU_AMD_LINKAGE void amd_l_info(double Info[])
     amd_info(Info);
 }
 
+#if RIMOPAKU_SUITESPARSE >= 7
 RIMOPAKU_AMD_LINKAGE void amd_version(int version[3])
 {
     version[0] = AMD_MAIN_VERSION;
     version[1] = AMD_SUB_VERSION;
     version[2] = AMD_SUBSUB_VERSION;
 }
+#endif
 
 #endif
 

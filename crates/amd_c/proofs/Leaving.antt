@@ -56,7 +56,7 @@ number_comes_back OkButJumbled = refl
 number_comes_back OutOfMemory = refl
 number_comes_back Invalid = refl
 
-answer_is : (status : Status) (number : ℤ) → number ≡ number_of status → to_z w32 (of_z w32 number) ≡ number_of status
+pub answer_is : (status : Status) (number : ℤ) → number ≡ number_of status → to_z w32 (of_z w32 number) ≡ number_of status
 answer_is status number is = ap (λ x. to_z w32 (of_z w32 x)) is ∙ number_comes_back status
 
 -- the values of a list of integers of C

@@ -4,3 +4,7 @@ pub mod Leaving
 pub mod ColumnsLeft
 -- What the degrees and the row form leave, and the same in the numbers of C.
 pub mod PatternsLeft
+-- The walk of the test of a forest, and the marks and ranks that it leaves.
+pub mod WalksUp
+-- What the postorder leaves, and the same in the numbers of C.
+pub mod ForestsLeft

@@ -6,3 +6,5 @@ pub mod Calls
 pub mod Columns
 -- What the calls for the degrees and for the row form leave there.
 pub mod Patterns
+-- What the calls for the postorder of a forest leave there.
+pub mod Forests

@@ -4,9 +4,11 @@
 ghost use Rattle.std.specs.Prelude.{None, Some};
 ghost use Rattle.amd_c.specs.Calls.{ClassifiesInput, OrdersInto, memory};
 ghost use Rattle.amd_c.specs.Columns.{ColumnsInto, arrays};
+ghost use Rattle.amd_c.specs.Forests.{PostorderInto};
 ghost use Rattle.amd_c.specs.Patterns.{DegreesInto, RowFormInto, counted, row_arrays};
 
 use crate::factors::{columns_into, number_of_end};
+use crate::forests::postorder_into;
 use crate::patterns::{degrees_into, row_form_into};
 use crate::records::{Parameters, Statistics, number_of};
 use crate::writing::order_into;
@@ -182,4 +184,32 @@ pub extern "C" fn rimopaku_preprocess_i64(
 {
     let outcome = row_form_into(alloc, n, a_p, a_i, pointers, indices);
     number_of_end(&outcome)
+}
+
+/// Writes the postorder of an assembly tree, as `postorder` of the crate `amd_postorder`, and returns the number of the
+/// status.
+///
+/// Place `e` holds an element where `nv[e]` is above 0; `parent[e]` is then an element or -1, and `f_size[e]` is not
+/// negative. All arrays have `n` places. The number of each element is written into `order`, and -1 for what is no
+/// element. See `include/rimopaku.h` for what a caller must uphold.
+///
+/// # Errors
+///
+/// A negative number; `order` stays as it was. It is -2, `Invalid`, exactly where an array has not `n` places, or the
+/// lists are no forest; and -1, `OutOfMemory`, where a request for memory was refused.
+///
+/// Source: Amestoy, Davis and Duff 2004.
+#[unsafe(no_mangle)]
+pub extern "C" fn rimopaku_postorder_i64(
+    alloc: Global,
+    n: i64,
+    parent: &[i64],
+    nv: &[i64],
+    f_size: &[i64],
+    order: &mut [i64],
+) -> i32
+    ensures { PostorderInto n parent.now nv.now f_size.now order.old order.new result }
+{
+    let status = postorder_into(alloc, n, parent, nv, f_size, order);
+    number_of(&status)
 }

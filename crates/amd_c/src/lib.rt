@@ -6,6 +6,7 @@
 #![tactic(auto)]
 
 mod factors;
+mod forests;
 pub mod int32;
 pub mod int64;
 mod patterns;
