@@ -28,6 +28,7 @@ fn kinds_of_files(rt: HostRuntime) -> Result<(), Fail> {
     let two = "% a note\n\n3 3 3\n1 1 0.5\n 3\t1 -2e3\n2 3 7\n";
     let bare = "3 3 3\n1 1\n3 1\n%\n2 3";
     let pairs = "3 3 3\n1 1 0 1\n3 1 1 0\n2 3 0.5 0.5\n\n% end\n";
+    let jumbled = "3 3 5\n2 3\n3 1\n1 1\n3 1\n2 3\n";
     let general = "[0, 2, 2, 3] [0, 2, 1]";
     let mirrored = "[0, 2, 3, 5] [0, 2, 2, 0, 1]";
     for (kind, rest, wanted) in [
@@ -35,10 +36,12 @@ fn kinds_of_files(rt: HostRuntime) -> Result<(), Fail> {
         ("integer general", two, general),
         ("complex general", pairs, general),
         ("pattern general", bare, general),
+        ("pattern general", jumbled, general),
         ("real symmetric", two, mirrored),
         ("integer skew-symmetric", two, mirrored),
         ("complex hermitian", pairs, mirrored),
         ("pattern symmetric", bare, mirrored),
+        ("pattern symmetric", jumbled, mirrored),
         ("pattern general", "0 0 0\n", "[0] []"),
     ] {
         let file = file_of(rt.alloc(), kind, rest)?;

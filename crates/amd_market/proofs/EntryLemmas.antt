@@ -40,25 +40,29 @@ entries-more field n [] (d ∷ es) l e h k = elim h [ ]
 entries-more field n (m ∷ ls) [] l e h k = elim h [ ]
 entries-more field n (m ∷ ls) (d ∷ es) l e h k = (h.0, entries-more field n ls es l e h.1 k)
 
-all-one : (n : ℕ) (p : ℕ × ℕ) → p.1 < n → All {X = ℕ × ℕ} (λ q. q.1 < n) (p ∷ [])
+-- both places of a pair lie among n rows
+abbrev pub Inside : ℕ → ℕ × ℕ → Type 0
+Inside n p = (p.0 < n) × (p.1 < n)
+
+all-one : (n : ℕ) (p : ℕ × ℕ) → Inside n p → All {X = ℕ × ℕ} (Inside n) (p ∷ [])
 all-one n p h zero d k = h
 all-one n p h (suc i) d k = absurd (omega arith)
 
--- the pairs of an entry lie in the columns
-pairs-inside : (n : ℕ) (s : Symmetry) (e : ℕ × ℕ) → e.0 < n → e.1 < n → All {X = ℕ × ℕ} (λ p. p.1 < n) (pairs_of s e)
+-- the pairs of an entry lie in the matrix
+pairs-inside : (n : ℕ) (s : Symmetry) (e : ℕ × ℕ) → e.0 < n → e.1 < n → All {X = ℕ × ℕ} (Inside n) (pairs_of s e)
 pairs-inside n s e h k = at (is_mirrored s && not (e.0 == e.1))
   where
-    at : (b : Bool) → All {X = ℕ × ℕ} (λ p. p.1 < n) (cond b ((e.0, e.1) ∷ ((e.1, e.0) ∷ [])) ((e.0, e.1) ∷ []))
-    at true = All-append {X = ℕ × ℕ} (λ p. p.1 < n) ((e.0, e.1) ∷ []) ((e.1, e.0) ∷ []) (all-one n (e.0, e.1) k) (all-one n (e.1, e.0) h)
-    at false = all-one n (e.0, e.1) k
+    at : (b : Bool) → All {X = ℕ × ℕ} (Inside n) (cond b ((e.0, e.1) ∷ ((e.1, e.0) ∷ [])) ((e.0, e.1) ∷ []))
+    at true = All-append {X = ℕ × ℕ} (Inside n) ((e.0, e.1) ∷ []) ((e.1, e.0) ∷ []) (all-one n (e.0, e.1) (h, k)) (all-one n (e.1, e.0) (k, h))
+    at false = all-one n (e.0, e.1) (h, k)
 
--- the pairs of all entries lie in the columns
+-- the pairs of all entries lie in the matrix
 pub all-inside : (field : Field) (n : ℕ) (s : Symmetry) (ls : List (List ℕ)) (es : List (ℕ × ℕ)) → SpellsEntries field n ls es
-    → All {X = ℕ × ℕ} (λ p. p.1 < n) (flat_map (pairs_of s) es)
+    → All {X = ℕ × ℕ} (Inside n) (flat_map (pairs_of s) es)
 all-inside field n s [] [] h = λ k d x. absurd (omega arith)
 all-inside field n s [] (e ∷ es) h = elim h [ ]
 all-inside field n s (l ∷ ls) [] h = elim h [ ]
-all-inside field n s (l ∷ ls) (e ∷ es) h = All-append {X = ℕ × ℕ} (λ p. p.1 < n) (pairs_of s e) (flat_map (pairs_of s) es)
+all-inside field n s (l ∷ ls) (e ∷ es) h = All-append {X = ℕ × ℕ} (Inside n) (pairs_of s e) (flat_map (pairs_of s) es)
     (pairs-inside n s e h.0.row.0 h.0.column.0) (all-inside field n s ls es h.1)
 
 -- what stands behind the first two words

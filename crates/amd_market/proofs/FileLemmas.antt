@@ -11,7 +11,7 @@ use Rattle.amd_market.specs.Lines.{TakesLines, TakesTelling, TakesNotes, FailsAt
 use Rattle.amd_market.specs.Columns.{HoldsPairs}
 use Rattle.amd_market.specs.Files.{TakesEntries, SpellsMatrix, NamesLine}
 use Rattle.amd_market.proofs.LineLemmas.{takes-append, takes-none, telling-both}
-use Rattle.amd_market.proofs.EntryLemmas.{entries-more, all-inside}
+use Rattle.amd_market.proofs.EntryLemmas.{Inside, entries-more, all-inside}
 use Rattle.amd_market.specs.declared.headers.Header.{Header}
 use Rattle.amd_market.specs.declared.lines.LineReader.{LineReader}
 use Rattle.amd_market.specs.declared.faults.ReadError.{ReadError}
@@ -49,11 +49,11 @@ entries-next remaining a b c header n k ps qs line e h t one more = record {
       ap (λ z. flat_map (pairs_of header.symmetry) h.entries ++ z) (append-nil (pairs_of header.symmetry e)));
 }
 
--- the pairs that were read lie in the columns
+-- the pairs that were read lie in the matrix
 pub pairs-inside : {R Z : Type 0} (remaining : R → Option (List ℕ)) (a b : LineReader R Z) (header : Header) (n k : ℕ) (ps : List (ℕ × ℕ))
-    → TakesEntries remaining a b header n k ps → All {X = ℕ × ℕ} (λ p. p.1 < n) ps
+    → TakesEntries remaining a b header n k ps → All {X = ℕ × ℕ} (Inside n) ps
 pairs-inside remaining a b header n k ps h =
-    let P : List (ℕ × ℕ) → Type 0 = λ z. All {X = ℕ × ℕ} (λ p. p.1 < n) z in
+    let P : List (ℕ × ℕ) → Type 0 = λ z. All {X = ℕ × ℕ} (Inside n) z in
     subst P (sym h.pairs_are) (all-inside header.field n header.symmetry (telling h.lines) h.entries h.spells)
 
 -- all parts of a file

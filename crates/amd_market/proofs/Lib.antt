@@ -1,4 +1,5 @@
 pub mod LineLemmas
 pub mod EntryLemmas
-pub mod ColumnLemmas
 pub mod FileLemmas
+pub mod WrittenLists
+pub mod ColumnLemmas

@@ -149,7 +149,7 @@ pub fn read_matrix<R: BufRead + Drop, A: Allocator + Copy>(
     let size = take_size(&mut lines)?;
     let pairs = take_pairs(alloc, &mut lines, header, size)?;
     take_end(&mut lines)?;
-    match columns_of(alloc, size.rows, &pairs) {
+    match columns_of(alloc, size.rows, pairs) {
         Ok((a_p, a_i)) => Ok(Matrix {
             n: size.rows,
             a_p,

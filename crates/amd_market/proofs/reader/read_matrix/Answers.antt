@@ -32,7 +32,7 @@ returns-in_err-take_end-clause-line g c =
     (fails-behind _ _ _ third.lines _ third.takes c.in_err-take_end.ensures.fails))))
 
 pub columns_of-requires : goal.columns_of-requires
-columns_of-requires g c = rw c.deref.ensures.value (pairs-inside _ _ _ _ _ _ _ c.in_ok-pairs.ensures.takes)
+columns_of-requires g c = pairs-inside _ _ _ _ _ _ _ c.in_ok-pairs.ensures.takes
 
 pub returns-in-Ok-clause-spells : goal.returns-in-Ok-clause-spells
 returns-in-Ok-clause-spells g c =
@@ -40,7 +40,7 @@ returns-in-Ok-clause-spells g c =
     let second = c.in_ok-size.ensures.takes in
     file-whole _ c.new-lines.result _ _ _ _ _ first.0 second.0 _ _ _ _ _ _ c.new-lines.ensures.source first.1 first.2 second.1 second.2
     second.3
-    c.in_ok-pairs.ensures.takes c.in_ok-take_end.ensures.takes (rw c.deref.ensures.value at c.in-Ok.ensures)
+    c.in_ok-pairs.ensures.takes c.in_ok-take_end.ensures.takes c.in-Ok.ensures
 
 pub returns-clause-line : goal.returns-clause-line
 returns-clause-line g c =
