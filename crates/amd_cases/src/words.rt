@@ -36,8 +36,5 @@ pub fn first_word(line: &[u8]) -> Option<(&[u8], &[u8])>
 pub fn number_of(word: &[u8]) -> Option<i64>
     ensures { MatchOption result ((z : ℤ) → SpellsNumber word.now z → ⊥) (SpellsNumber word.now) }
 {
-    let Ok(text) = str::from_utf8(word) else {
-        return None;
-    };
-    text.parse::<i64>().ok()
+    fast_float::parse_i64(word).ok()
 }

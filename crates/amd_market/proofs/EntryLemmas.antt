@@ -5,7 +5,7 @@ use Rattle.std.specs.Prelude.{All, flat_map, ◌==◌, ◌&&◌, not}
 use Rattle.std.proofs.lemmas.List.Elements.{All-append}
 use Rattle.amd_cases.specs.Words.{words, SpellsNumber}
 use Rattle.amd_market.specs.Headers.{value_words, pairs_of, is_mirrored}
-use Rattle.amd_market.specs.Entries.{SpellsSize, SpellsIndex, SpellsEntry, SpellsEntries}
+use Rattle.amd_market.specs.Entries.{SpellsSize, SpellsIndex, SpellsEntry, SpellsEntries, AreValues}
 use Rattle.amd_market.specs.declared.headers.Field.{Field}
 use Rattle.amd_market.specs.declared.headers.Symmetry.{Symmetry}
 
@@ -24,13 +24,13 @@ size-words line f s t are r c e h =
 -- the words of a line that was taken apart spell the numbers of any entry that it spells
 pub entry-words : (field : Field) (n : ℕ) (line f s : List ℕ) (a b : List (List ℕ)) → words line ≡ f ∷ a → a ≡ s ∷ b → (e : ℕ × ℕ) →
     SpellsEntry field n line e
-    → SpellsIndex f n e.0 × (SpellsIndex s n e.1 × (length b ≡ value_words field))
+    → SpellsIndex f n e.0 × (SpellsIndex s n e.1 × AreValues (value_words field) b)
 entry-words field n line f s a b hf hs e h =
     let all : h.first ∷ (h.second ∷ h.behind) ≡ f ∷ (s ∷ b) = sym h.parts ∙ hf ∙ ap (λ z. f ∷ z) hs in
     let one : h.first ≡ f = cc in
     let two : h.second ≡ s = cc in
     let rest : h.behind ≡ b = cc in
-    (subst (λ w. SpellsIndex w n e.0) one h.row, (subst (λ w. SpellsIndex w n e.1) two h.column, ap length (sym rest) ∙ h.value))
+    (subst (λ w. SpellsIndex w n e.0) one h.row, (subst (λ w. SpellsIndex w n e.1) two h.column, subst (AreValues (value_words field)) rest h.value))
 
 -- one entry more
 pub entries-more : (field : Field) (n : ℕ) (ls : List (List ℕ)) (es : List (ℕ × ℕ)) (l : List ℕ) (e : ℕ × ℕ) → SpellsEntries field n ls es

@@ -1,13 +1,13 @@
 -- The parts of a file, read one after another.
 use Rattle.std.proofs.Common.{◌≡◌, ◌+◌, ℕ, Option, Some, None, List, [], ◌∷◌, ◌++◌, length, length-append, refl, sym, ap, ◌∙◌, subst}
 use Rattle.std.proofs.Common.{append-nil, arith}
-use Rattle.std.specs.Prelude.{IfSome, flat_map, All, ◌<◌, ◌≤◌}
+use Rattle.std.specs.Prelude.{IfSome, flat_map, All}
 use Rattle.std.proofs.lemmas.Grind.{flat_map-append}
 use Rattle.amd_market.specs.Headers.{SpellsHeader, pairs_of}
-use Rattle.amd_market.specs.Entries.{SpellsSize, SpellsEntry, SpellsEntries, most_rows}
+use Rattle.amd_market.specs.Entries.{SpellsSize, SpellsEntry, SpellsEntries}
 use Rattle.amd_cases.specs.Reading.{BeginsWith, line_number}
 use Rattle.amd_cases.proofs.ReadingLemmas.{end-append}
-use Rattle.amd_market.specs.Lines.{TakesLines, TakesTelling, TakesNotes, FailsAt, telling, named_line}
+use Rattle.amd_market.specs.Lines.{TakesLines, TakesTelling, TakesNotes, FailsAt, telling, named_line, rest_of}
 use Rattle.amd_market.specs.Columns.{HoldsPairs}
 use Rattle.amd_market.specs.Files.{TakesEntries, SpellsMatrix, NamesLine}
 use Rattle.amd_market.proofs.LineLemmas.{takes-append, takes-none, telling-both}
@@ -59,16 +59,16 @@ pairs-inside remaining a b header n k ps h =
 -- all parts of a file
 pub file-whole : {R Z : Type 0} (remaining : R → Option (List ℕ)) (a b c d e : LineReader R Z) (input : R) (line size_line : List ℕ)
     (header : Header) (n k : ℕ)
-    (ps : List (ℕ × ℕ)) (ap' ai : List ℕ) → a.input ≡ input → TakesLines remaining a b (line ∷ []) → SpellsHeader line header →
+    (ps : List (ℕ × ℕ)) (ap' ai : List ℕ) → rest_of remaining a ≡ remaining input → TakesLines remaining a b (line ∷ []) → SpellsHeader line header →
     TakesTelling remaining b c size_line
-    → SpellsSize size_line n n k → n ≤ most_rows k → TakesEntries remaining c d header n k ps → TakesNotes remaining d e →
+    → SpellsSize size_line n n k → TakesEntries remaining c d header n k ps → TakesNotes remaining d e →
     HoldsPairs n ps ap' ai
     → IfSome (remaining input) (λ bytes. SpellsMatrix bytes n ap' ai)
-file-whole remaining a b c d e input line size_line header n k ps ap' ai same first head second size few third end columns =
+file-whole remaining a b c d e input line size_line header n k ps ap' ai same first head second size third end columns =
     let all = takes-append remaining a b d (line ∷ []) (second.lines ++ third.lines) first
     (takes-append remaining b c d second.lines third.lines second.takes third.takes) in
     let whole = takes-append remaining a d e ((line ∷ []) ++ (second.lines ++ third.lines)) end.lines all end.takes in
-    rw (← same) (known (remaining a.input) (remaining d.input) (remaining e.input) all.took whole.took end.end)
+    rw (← same) (known (rest_of remaining a) (rest_of remaining d) (rest_of remaining e) all.took whole.took end.end)
   where
     others : List (List ℕ)
     others = (second.lines ++ third.lines) ++ end.lines
@@ -90,7 +90,6 @@ file-whole remaining a b c d e input line size_line header n k ps ap' ai same fi
       parts = tell;
       entries = third.entries;
       has_size = subst (SpellsSize size_line n n) (sym third.counted) size;
-      few_rows = subst (λ z. n ≤ most_rows z) (sym third.counted) few;
       has_entries = third.spells;
       columns = subst (λ z. HoldsPairs n z ap' ai) third.pairs_are columns;
     }
@@ -104,10 +103,10 @@ file-whole remaining a b c d e input line size_line header n k ps ap' ai same fi
         (end-append ((line ∷ []) ++ (second.lines ++ third.lines)) (Some bytes) mid last h z) w)
 
 -- an error of a reader that began at the start of a text
-pub names-line : {R Z : Type 0} (remaining : R → Option (List ℕ)) (a : LineReader R Z) (input : R) (e : ReadError) → a.input ≡ input →
+pub names-line : {R Z : Type 0} (remaining : R → Option (List ℕ)) (a : LineReader R Z) (input : R) (e : ReadError) → rest_of remaining a ≡ remaining input →
     a.lines ≡ 0
     → FailsAt remaining a e → IfSome (remaining input) (λ bytes. NamesLine bytes e)
-names-line remaining a input e same none h = rw (← same) (known (remaining a.input) h.took)
+names-line remaining a input e same none h = rw (← same) (known (rest_of remaining a) h.took)
   where
     known : (first : Option (List ℕ)) → IfSome first (λ bytes. BeginsWith h.lines bytes h.rest) → IfSome first (λ bytes. NamesLine bytes e)
     known None k = tt

@@ -2,4 +2,5 @@ pub mod LineLemmas
 pub mod EntryLemmas
 pub mod FileLemmas
 pub mod WrittenLists
+pub mod BlockLemmas
 pub mod ColumnLemmas

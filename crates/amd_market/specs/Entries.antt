@@ -1,5 +1,7 @@
 -- The line of the size, and the lines of the entries.
-use Rattle.std.specs.Prelude.{◌≡◌, ◌≤◌, ◌<◌, ◌+◌, ◌*◌, max, ℕ, pos, List, [], ◌∷◌, length}
+use Rattle.std.specs.Prelude.{◌≡◌, ◌<◌, ◌+◌, ℕ, pos, true, List, [], ◌∷◌, length}
+use Rattle.std.specs.List.{list_all}
+use Rattle.std.specs.Float.Parse.{is_float_text}
 use Rattle.amd_cases.specs.Words.{words, SpellsNumber}
 use Rattle.amd_market.specs.Headers.{value_words}
 use Rattle.amd_market.specs.declared.headers.Field.{Field}
@@ -18,8 +20,13 @@ pub record SpellsSize (line : List ℕ) (rows columns entries : ℕ) : Type 0 wh
 abbrev pub SpellsIndex : List ℕ → ℕ → ℕ → Type 0
 SpellsIndex word n i = (i < n) × SpellsNumber word (pos (i + 1))
 
--- the line is an entry of a matrix with n rows and columns: the numbers of its row and its column, and as many words as
--- its field has
+-- the words are so many numbers
+pub record AreValues (count : ℕ) (ws : List (List ℕ)) : Type 0 where
+  pub counted : length ws ≡ count
+  pub numbers : list_all is_float_text ws ≡ true
+
+-- the line is an entry of a matrix with n rows and columns: the numbers of its row and its column, and the numbers of a
+-- value of its field
 pub record SpellsEntry (field : Field) (n : ℕ) (line : List ℕ) (e : ℕ × ℕ) : Type 0 where
   pub first : List ℕ
   pub second : List ℕ
@@ -27,7 +34,7 @@ pub record SpellsEntry (field : Field) (n : ℕ) (line : List ℕ) (e : ℕ × �
   pub parts : words line ≡ first ∷ (second ∷ behind)
   pub row : SpellsIndex first n (e.0)
   pub column : SpellsIndex second n (e.1)
-  pub value : length behind ≡ value_words field
+  pub value : AreValues (value_words field) behind
 
 -- the lines are the entries, one by one
 abbrev pub SpellsEntries : Field → ℕ → List (List ℕ) → List (ℕ × ℕ) → Type 0
@@ -35,7 +42,3 @@ SpellsEntries field n [] [] = Unit {0}
 SpellsEntries field n (l ∷ ls) (e ∷ es) = SpellsEntry field n l e × SpellsEntries field n ls es
 SpellsEntries field n [] (e ∷ es) = ⊥
 SpellsEntries field n (l ∷ ls) [] = ⊥
-
--- the most rows that a matrix with so many entries may have
-abbrev pub most_rows : ℕ → ℕ
-most_rows entries = max 1048576 (16 * entries)

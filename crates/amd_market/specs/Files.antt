@@ -1,7 +1,7 @@
 -- The text of a file, and the matrix that it spells.
-use Rattle.std.specs.Prelude.{◌≡◌, ◌≤◌, ℕ, Some, List, [], ◌∷◌, length, flat_map, Option}
+use Rattle.std.specs.Prelude.{◌≡◌, ℕ, Some, List, [], ◌∷◌, length, flat_map, Option}
 use Rattle.amd_market.specs.Headers.{SpellsHeader, pairs_of}
-use Rattle.amd_market.specs.Entries.{SpellsSize, SpellsEntries, most_rows}
+use Rattle.amd_market.specs.Entries.{SpellsSize, SpellsEntries}
 use Rattle.amd_cases.specs.Reading.{BeginsWith, line_number}
 use Rattle.amd_market.specs.Lines.{TakesLines, telling, named_line}
 use Rattle.amd_market.specs.Columns.{HoldsPairs}
@@ -21,7 +21,7 @@ pub record TakesEntries {R Z : Type 0} (remaining : R → Option (List ℕ)) (ol
   pub pairs_are : pairs ≡ flat_map (pairs_of header.symmetry) entries
 
 -- the text is a header, the line of the size and the lines of the entries, with notes between them; the column form
--- with n columns is that of the pairs that the entries stand for, in their order
+-- with n columns, sorted and without repeats, is that of exactly the pairs that the entries stand for
 pub record SpellsMatrix (bytes : List ℕ) (n : ℕ) (ap ai : List ℕ) : Type 0 where
   pub first : List ℕ
   pub others : List (List ℕ)
@@ -33,7 +33,6 @@ pub record SpellsMatrix (bytes : List ℕ) (n : ℕ) (ap ai : List ℕ) : Type 0
   pub parts : telling others ≡ size_line ∷ entry_lines
   pub entries : List (ℕ × ℕ)
   pub has_size : SpellsSize size_line n n (length entries)
-  pub few_rows : n ≤ most_rows (length entries)
   pub has_entries : SpellsEntries header.field n entry_lines entries
   pub columns : HoldsPairs n (flat_map (pairs_of header.symmetry) entries) ap ai
 

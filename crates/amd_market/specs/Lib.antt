@@ -1,6 +1,7 @@
 -- What the lines of a Matrix Market file spell.
 pub mod Headers
 pub mod Entries
+pub mod Blocks
 pub mod Lines
 pub mod Columns
 pub mod Files

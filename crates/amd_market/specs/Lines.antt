@@ -1,9 +1,12 @@
 -- The lines of a text, and what a reader takes off its input, where the bytes of that are known.
 use Rattle.std.specs.Prelude.{◌≡◌, ◌==◌, not, ℕ, Bool, true, false, Option, Some, IfSome, List, [], ◌∷◌, filter}
-use Rattle.std.specs.Prelude.{slice_index}
+use Rattle.std.specs.Prelude.{slice_index, ◌<◌, ◌≤◌, length, take, drop}
+use Rattle.std.specs.Io.BufRead.{take_through, drop_through}
 use Rattle.std.specs.Prelude.{if◌then◌else◌}
+use Rattle.std.specs.Io.KnownBytes.{prepend_known}
 use Rattle.amd_cases.specs.Words.{words}
 use Rattle.amd_cases.specs.Reading.{BeginsWith, TookLine, line_number, one_line_more}
+use Rattle.amd_market.specs.Blocks.{held_of, passed_of}
 use Rattle.amd_market.specs.declared.lines.LineReader.{LineReader}
 use Rattle.amd_market.specs.declared.faults.ReadError.{ReadError}
 use Rattle.amd_market.specs.declared.faults.ReadError.TheVariants.{Line, Input}
@@ -21,9 +24,9 @@ tells line = not (is_note (words line))
 abbrev pub telling : List (List ℕ) → List (List ℕ)
 telling ls = filter tells ls
 
--- the input of a reader
-abbrev pub source_of : {R Z : Type 0} → LineReader R Z → R
-source_of r = r.input
+-- the bytes that a reader has before it: those that its block holds, and then those of its input
+abbrev pub rest_of : {R Z : Type 0} → (R → Option (List ℕ)) → LineReader R Z → Option (List ℕ)
+rest_of remaining r = prepend_known (held_of r.block) (remaining r.input)
 
 -- the number of lines read
 abbrev pub lines_read : {R Z : Type 0} → LineReader R Z → ℕ
@@ -31,19 +34,32 @@ lines_read r = r.lines
 
 -- the line that was read last
 abbrev pub line_of : {R Z : Type 0} → LineReader R Z → List ℕ
-line_of r = r.line.items
+line_of r = passed_of r.block
+
+-- so many of the bytes that the block holds are the next line
+pub record EndsLine {R Z : Type 0} (remaining : R → Option (List ℕ)) (old : LineReader R Z) (count : ℕ) : Type 0 where
+  pub within : count ≤ length (held_of old.block)
+  pub some : 0 < count
+  pub line : IfSome (rest_of remaining old) (λ bytes. take_through 10 bytes ≡ take count (held_of old.block))
+  pub rest : IfSome (rest_of remaining old) (λ bytes.
+      prepend_known (drop count (held_of old.block)) (remaining old.input) ≡ Some (drop_through 10 bytes))
+
+-- no line was read, and the bytes before the reader are the same
+pub record KeepsRest {R Z : Type 0} (remaining : R → Option (List ℕ)) (old new : LineReader R Z) : Type 0 where
+  pub counted : new.lines ≡ old.lines
+  pub kept : IfSome (rest_of remaining old) (λ bytes. rest_of remaining new ≡ Some bytes)
 
 -- the next line was read and counted, or there was none
 pub record TakesLine {R Z : Type 0} (remaining : R → Option (List ℕ)) (old new : LineReader R Z) (some : Bool) : Type 0
   where
     pub counted : new.lines ≡ (if some then one_line_more old.lines else old.lines)
-    pub took : IfSome (remaining old.input) (λ bytes. TookLine bytes new.line.items (remaining new.input) some)
+    pub took : IfSome (rest_of remaining old) (λ bytes. TookLine bytes (line_of new) (rest_of remaining new) some)
 
 -- these lines were read and counted
 pub record TakesLines {R Z : Type 0} (remaining : R → Option (List ℕ)) (old new : LineReader R Z)
     (ls : List (List ℕ)) : Type 0 where
   pub counted : new.lines ≡ line_number old.lines ls
-  pub took : IfSome (remaining old.input) (λ bytes. BeginsWith ls bytes (remaining new.input))
+  pub took : IfSome (rest_of remaining old) (λ bytes. BeginsWith ls bytes (rest_of remaining new))
 
 -- lines were read, of which the last alone says something
 pub record TakesTelling {R Z : Type 0} (remaining : R → Option (List ℕ)) (old new : LineReader R Z)
@@ -57,11 +73,11 @@ pub record TakesNotes {R Z : Type 0} (remaining : R → Option (List ℕ)) (old 
   pub lines : List (List ℕ)
   pub takes : TakesLines remaining old new lines
   pub tells : telling lines ≡ []
-  pub end : IfSome (remaining old.input) (λ bytes. remaining new.input ≡ Some [])
+  pub end : IfSome (rest_of remaining old) (λ bytes. rest_of remaining new ≡ Some [])
 
 -- the next line that says something was read, or there was none
 abbrev pub TakesNext : {R Z : Type 0} → (R → Option (List ℕ)) → LineReader R Z → LineReader R Z → Bool → Type 0
-TakesNext remaining old new true = TakesTelling remaining old new new.line.items
+TakesNext remaining old new true = TakesTelling remaining old new (line_of new)
 TakesNext remaining old new false = TakesNotes remaining old new
 
 -- the number of the line that an error names
@@ -75,4 +91,4 @@ pub record FailsAt {R Z : Type 0} (remaining : R → Option (List ℕ)) (old : L
     pub lines : List (List ℕ)
     pub rest : Option (List ℕ)
     pub named : named_line e ≡ line_number old.lines lines
-    pub took : IfSome (remaining old.input) (λ bytes. BeginsWith lines bytes rest)
+    pub took : IfSome (rest_of remaining old) (λ bytes. BeginsWith lines bytes rest)

@@ -1,10 +1,9 @@
 // The line of the size, and the lines of the entries. Called by `reader`, and by `held` of the crate `amd_command`.
 
-ghost use Rattle.std.specs.Prelude.{◌≡◌, ◌≢◌, ◌≤◌, ◌<◌, ◌+◌, ◌∷◌, [], ℕ, List, pos, length};
-ghost use Rattle.std.specs.Prelude.{IsTrue, ◌↔◌, MatchOption, MatchResult};
+ghost use Rattle.std.specs.Prelude.{◌≡◌, ◌≢◌, ◌∷◌, [], ℕ, List, pos, IsTrue, ◌↔◌, MatchOption, MatchResult};
+ghost use Rattle.std.specs.Float.Parse.{is_float_text};
 ghost use Rattle.amd_cases.specs.Words.{words, SpellsNumber};
-ghost use Rattle.amd_market.specs.Entries.{SpellsSize, SpellsIndex, SpellsEntry, most_rows};
-ghost use Rattle.amd_market.specs.declared.faults.Fault.TheVariants as fault;
+ghost use Rattle.amd_market.specs.Entries.{SpellsSize, SpellsIndex, SpellsEntry, AreValues};
 
 use crate::faults::Fault;
 use crate::headers::Field;
@@ -21,12 +20,6 @@ pub struct Size {
     pub entries: usize,
 }
 
-/// The rows that a matrix may have however few entries it has.
-const ROWS: usize = 1 << 20;
-
-/// The rows that a matrix may have for each entry.
-const ROWS_PER_ENTRY: usize = 16;
-
 /// The number of things that a word spells.
 fn count_of(word: &[u8]) -> Option<usize>
     ensures { MatchOption result ((k : ℕ) → SpellsNumber word.now (pos k) → ⊥) (λ k. SpellsNumber word.now (pos k)) }
@@ -42,15 +35,27 @@ pub fn index_of(word: &[u8], n: usize) -> Option<usize>
     if place < n { Some(place) } else { None }
 }
 
-/// Whether a text has so many words.
-fn has_words(text: &[u8], count: usize) -> bool
-    ensures { IsTrue result ↔ (length (words text.now) ≡ count) }
+/// Whether a word is a number.
+fn is_number(word: &[u8]) -> bool
+    ensures { result ≡ is_float_text word.now }
+{
+    fast_float::parse::<f64, &[u8]>(word).is_ok()
+}
+
+/// Whether a text is so many numbers.
+fn has_values(text: &[u8], count: usize) -> bool
+    ensures { IsTrue result ↔ AreValues count (words text.now) }
 {
     let mut left = text;
     'words: for _done in 0..count {
         match first_word(left) {
             None => return false,
-            Some((_, rest)) => left = rest,
+            Some((word, rest)) => {
+                if !is_number(word) {
+                    return false;
+                }
+                left = rest;
+            }
         }
     }
     first_word(left).is_none()
@@ -84,52 +89,76 @@ fn spelled_size(line: &[u8]) -> Option<Size>
     })
 }
 
-/// Whether a matrix with so many entries has too many rows.
-fn has_too_many_rows(rows: usize, entries: usize) -> bool
-    ensures { IsTrue result ↔ (most_rows entries < rows) }
-{
-    rows > entries.saturating_mul(ROWS_PER_ENTRY).max(ROWS)
-}
-
-/// The size that a line spells: `Size` where it spells none, `NotSquare` where it is not square, and `Rows` where there
-/// are too many rows for the entries.
+/// The size that a line spells: `Size` where it spells none, and `NotSquare` where it is not square.
 pub fn size_of(line: &[u8]) -> Result<Size, Fault>
-    ensures { MatchResult result (λ s. (s.columns ≡ s.rows) × SpellsSize line.now s.rows s.rows s.entries ×
-        (s.rows ≤ most_rows s.entries))
-        (λ e. (r k : ℕ) → r ≤ most_rows k → SpellsSize line.now r r k → ⊥) }
+    ensures { MatchResult result (λ s. (s.columns ≡ s.rows) × SpellsSize line.now s.rows s.rows s.entries)
+        (λ _. (r k : ℕ) → SpellsSize line.now r r k → ⊥) }
 {
     let Some(size) = spelled_size(line) else {
         return Err(Fault::Size);
     };
     if size.rows != size.columns {
-        return Err(Fault::NotSquare);
-    }
-    if has_too_many_rows(size.rows, size.entries) {
-        return Err(Fault::Rows);
+        return Err(Fault::NotSquare {
+            rows: size.rows,
+            columns: size.columns,
+        });
     }
     Ok(size)
 }
 
-/// The entry that a line spells.
-fn spelled_entry(line: &[u8], field: Field, n: usize) -> Option<(usize, usize)>
-    ensures { MatchOption result ((e : ℕ × ℕ) → SpellsEntry field n line.now e → ⊥)
-        (λ p. SpellsEntry field n line.now (p.0, p.1)) }
-{
-    let (first, rest) = first_word(line)?;
-    let (second, rest) = first_word(rest)?;
-    let row = index_of(first, n)?;
-    let column = index_of(second, n)?;
-    if has_words(rest, field.words()) {
-        Some((row, column))
-    } else {
-        None
+/// What is wrong with the word of a row, of so many.
+pub fn row_fault(word: &[u8], rows: usize) -> Fault {
+    match number_of(word) {
+        Some(number) => Fault::Row { number, rows },
+        None => Fault::Entry,
     }
 }
 
-/// The row and the column, from 0 on, of the entry that a line spells; `Entry` where it spells none.
+/// What is wrong with the word of a column, of so many.
+fn column_fault(word: &[u8], columns: usize) -> Fault {
+    match number_of(word) {
+        Some(number) => Fault::Column { number, columns },
+        None => Fault::Entry,
+    }
+}
+
+/// What is wrong with a text that is not so many numbers.
+fn value_fault(text: &[u8], count: usize) -> Fault {
+    let mut left = text;
+    'words: for _done in 0..count {
+        match first_word(left) {
+            None => return Fault::NoValue,
+            Some((_, rest)) => left = rest,
+        }
+    }
+    if first_word(left).is_some() {
+        Fault::Words
+    } else {
+        Fault::Value
+    }
+}
+
+/// The row and the column, from 0 on, of the entry that a line spells. The contract does not say which fault comes
+/// where it spells none.
 pub fn entry_of(line: &[u8], field: Field, n: usize) -> Result<(usize, usize), Fault>
     ensures { MatchResult result (λ p. SpellsEntry field n line.now (p.0, p.1))
-        (λ f. (f ≡ fault.Entry) × ((e : ℕ × ℕ) → SpellsEntry field n line.now e → ⊥)) }
+        (λ _. (e : ℕ × ℕ) → SpellsEntry field n line.now e → ⊥) }
 {
-    spelled_entry(line, field, n).ok_or(Fault::Entry)
+    let Some((first, rest)) = first_word(line) else {
+        return Err(Fault::Entry);
+    };
+    let Some((second, rest)) = first_word(rest) else {
+        return Err(Fault::Entry);
+    };
+    let Some(row) = index_of(first, n) else {
+        return Err(row_fault(first, n));
+    };
+    let Some(column) = index_of(second, n) else {
+        return Err(column_fault(second, n));
+    };
+    if has_values(rest, field.words()) {
+        Ok((row, column))
+    } else {
+        Err(value_fault(rest, field.words()))
+    }
 }

@@ -1,19 +1,19 @@
 // The matrix that a file holds. Called by programs that order matrices.
 // The parts of the file are read one after another: the header, the size, the entries, and what stands behind them.
 
-ghost use Rattle.std.specs.Prelude.{◌≡◌, ◌≤◌, ◌++◌, ◌∷◌, [], ℕ, List, All, IfOk, IfErr, IfSome, OnOk};
+ghost use Rattle.std.specs.Prelude.{◌≡◌, ◌++◌, ◌∷◌, [], ℕ, List, All, IfOk, IfErr, IfSome, OnOk};
 ghost use Rattle.amd_market.specs.Headers.{SpellsHeader, pairs_of};
-ghost use Rattle.amd_market.specs.Entries.{SpellsSize, SpellsEntry, most_rows};
+ghost use Rattle.amd_market.specs.Entries.{SpellsSize, SpellsEntry};
 ghost use Rattle.amd_market.specs.Lines.{TakesLines, TakesTelling, TakesNotes, FailsAt};
 ghost use Rattle.amd_market.specs.Files.{TakesEntries, SpellsMatrix, NamesLine};
 
 use crate::columns::columns_of;
 use crate::entries::{Size, entry_of, size_of};
 use crate::faults::{Fault, ReadError};
-use crate::headers::{Field, Header, Symmetry, header_of};
+use crate::headers::{Header, Symmetry, header_of};
 use crate::lines::LineReader;
 use std::alloc::{AllocError, Allocator};
-use std::io::BufRead;
+use std::io::Read;
 
 /// The pattern of a square matrix in column form.
 #[derive(Drop)]
@@ -27,7 +27,7 @@ pub struct Matrix<A: Allocator> {
 }
 
 /// Reads the header.
-fn take_header<R: BufRead + Drop, A: Allocator>(
+fn take_header<R: Read + Drop, A: Allocator>(
     lines: &mut LineReader<R, A>,
 ) -> Result<Header, ReadError>
     ensures takes { IfOk result (λ h. (line : List ℕ) × TakesLines R.remaining lines.old lines.new (line ∷ []) ×
@@ -35,7 +35,7 @@ fn take_header<R: BufRead + Drop, A: Allocator>(
     ensures fails { IfErr result (FailsAt R.remaining lines.old) }
 {
     if !lines.take_line()? {
-        return Err(lines.at_line(Fault::Header));
+        return Err(lines.at_line(Fault::Empty));
     }
     match header_of(lines.line()) {
         Ok(header) => Ok(header),
@@ -44,11 +44,9 @@ fn take_header<R: BufRead + Drop, A: Allocator>(
 }
 
 /// Reads the size.
-fn take_size<R: BufRead + Drop, A: Allocator>(
-    lines: &mut LineReader<R, A>,
-) -> Result<Size, ReadError>
+fn take_size<R: Read + Drop, A: Allocator>(lines: &mut LineReader<R, A>) -> Result<Size, ReadError>
     ensures takes { IfOk result (λ s. (line : List ℕ) × TakesTelling R.remaining lines.old lines.new line ×
-        SpellsSize line s.rows s.rows s.entries × (s.rows ≤ most_rows s.entries)) }
+        SpellsSize line s.rows s.rows s.entries) }
     ensures fails { IfErr result (FailsAt R.remaining lines.old) }
 {
     if !lines.take_telling()? {
@@ -61,19 +59,23 @@ fn take_size<R: BufRead + Drop, A: Allocator>(
 }
 
 /// Reads the next entry of a matrix with `n` rows and columns.
-fn take_entry<R: BufRead + Drop, A: Allocator>(
+fn take_entry<R: Read + Drop, A: Allocator>(
     lines: &mut LineReader<R, A>,
-    field: Field,
-    n: usize,
+    header: Header,
+    size: Size,
+    done: usize,
 ) -> Result<(usize, usize), ReadError>
     ensures takes { IfOk result (λ e. (line : List ℕ) × TakesTelling R.remaining lines.old lines.new line ×
-        SpellsEntry field n line e) }
+        SpellsEntry header.field size.rows line e) }
     ensures fails { IfErr result (FailsAt R.remaining lines.old) }
 {
     if !lines.take_telling()? {
-        return Err(lines.at_line(Fault::Missing));
+        return Err(lines.at_line(Fault::Missing {
+            found: done,
+            told: size.entries,
+        }));
     }
-    match entry_of(lines.line(), field, n) {
+    match entry_of(lines.line(), header.field, size.rows) {
         Ok(entry) => Ok(entry),
         Err(fault) => Err(lines.at_line(fault)),
     }
@@ -96,7 +98,7 @@ fn add_pairs<A: Allocator>(
 }
 
 /// Reads the entries, and answers the pairs that they stand for.
-fn take_pairs<R: BufRead + Drop, A: Allocator + Copy>(
+fn take_pairs<R: Read + Drop, A: Allocator + Copy>(
     alloc: A,
     lines: &mut LineReader<R, A>,
     header: Header,
@@ -107,8 +109,8 @@ fn take_pairs<R: BufRead + Drop, A: Allocator + Copy>(
     ensures fails { IfErr result (FailsAt R.remaining lines.old) }
 {
     let mut pairs = Vec::new(alloc);
-    'entries: for _done in 0..size.entries {
-        let entry = take_entry(lines, header.field, size.rows)?;
+    'entries: for done in 0..size.entries {
+        let entry = take_entry(lines, header, size, done)?;
         let Ok(()) = add_pairs(&mut pairs, header.symmetry, entry) else {
             return Err(lines.at_line(Fault::OutOfMemory));
         };
@@ -117,26 +119,29 @@ fn take_pairs<R: BufRead + Drop, A: Allocator + Copy>(
 }
 
 /// Reads what stands behind the entries, where nothing may stand but notes.
-fn take_end<R: BufRead + Drop, A: Allocator>(lines: &mut LineReader<R, A>) -> Result<(), ReadError>
+fn take_end<R: Read + Drop, A: Allocator>(
+    lines: &mut LineReader<R, A>,
+    told: usize,
+) -> Result<(), ReadError>
     ensures takes { OnOk result (TakesNotes R.remaining lines.old lines.new) }
     ensures fails { IfErr result (FailsAt R.remaining lines.old) }
 {
     if lines.take_telling()? {
-        return Err(lines.at_line(Fault::More));
+        return Err(lines.at_line(Fault::More { told }));
     }
     Ok(())
 }
 
 /// Reads the matrix that a text in the coordinate format of the Matrix Market spells, up to the end of the input.
 ///
-/// Each column lists its rows in the order of the entries; a pair that the text spells twice stands there twice. Memory
-/// is asked for as entries are read, and for the columns when all of them were.
+/// The rows of each column rise, and a pair that the text spells more than once stands there once. Memory is asked for
+/// as entries are read, and for the columns when all of them were.
 ///
 /// # Errors
 ///
 /// `Line` for a line at fault, an input that ends too early, or refused memory; `Input` where the input cannot be read.
 /// Each names the line that was read last.
-pub fn read_matrix<R: BufRead + Drop, A: Allocator + Copy>(
+pub fn read_matrix<R: Read + Drop, A: Allocator + Copy>(
     alloc: A,
     input: R,
 ) -> Result<Matrix<A>, ReadError>
@@ -148,7 +153,7 @@ pub fn read_matrix<R: BufRead + Drop, A: Allocator + Copy>(
     let header = take_header(&mut lines)?;
     let size = take_size(&mut lines)?;
     let pairs = take_pairs(alloc, &mut lines, header, size)?;
-    take_end(&mut lines)?;
+    take_end(&mut lines, size.entries)?;
     match columns_of(alloc, size.rows, pairs) {
         Ok((a_p, a_i)) => Ok(Matrix {
             n: size.rows,

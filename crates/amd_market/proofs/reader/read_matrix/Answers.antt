@@ -39,7 +39,6 @@ returns-in-Ok-clause-spells g c =
     let first = c.in_ok-header.ensures.takes in
     let second = c.in_ok-size.ensures.takes in
     file-whole _ c.new-lines.result _ _ _ _ _ first.0 second.0 _ _ _ _ _ _ c.new-lines.ensures.source first.1 first.2 second.1 second.2
-    second.3
     c.in_ok-pairs.ensures.takes c.in_ok-take_end.ensures.takes c.in-Ok.ensures
 
 pub returns-clause-line : goal.returns-clause-line

@@ -1,6 +1,6 @@
 -- The first line is the header, or it is at fault.
 use Rattle.std.proofs.Common.{◌∷◌, [], ap}
-use Rattle.amd_market.specs.Lines.{named_line}
+use Rattle.amd_market.specs.Lines.{named_line, line_of}
 use Rattle.amd_market.proofs.LineLemmas.{takes-one, takes-end, fails-here}
 use Rattle.amd_market.proofs.reader.take_header.Goals as goal
 
@@ -11,5 +11,5 @@ returns-then-not-branch-clause-fails g c =
 
 pub returns-in-Err-clause-fails : goal.returns-in-Err-clause-fails
 returns-in-Err-clause-fails g c =
-    fails-here _ _ _ (c.take_line.new.self.line.items ∷ []) _
+    fails-here _ _ _ (line_of c.take_line.new.self ∷ []) _
     (takes-one _ _ _ (rw c.if-not-branch.false at c.in_ok-take_line.ensures.takes)) (ap named_line c.at_line-in-Err.ensures)

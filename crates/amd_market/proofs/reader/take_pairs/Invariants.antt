@@ -3,4 +3,4 @@ use Rattle.amd_market.specs.Files.{TakesEntries}
 use Rattle.amd_market.proofs.reader.take_pairs.Given as goal
 
 abbrev pub invariant-entries : goal.invariant-entries
-invariant-entries g l = TakesEntries g.R.Read.remaining l.fn.lines l.lines l.fn.header l.fn.size.rows l._done l.pairs.items
+invariant-entries g l = TakesEntries g.R.Read.remaining l.fn.lines l.lines l.fn.header l.fn.size.rows l.done l.pairs.items

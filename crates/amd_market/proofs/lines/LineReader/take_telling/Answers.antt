@@ -2,7 +2,7 @@
 use Rattle.std.proofs.Common.{◌≡◌, true, false, [], ◌∷◌, ◌++◌, refl, ap, rules}
 use Rattle.std.proofs.lemmas.Result.{err_from_is_err_and}
 use Rattle.amd_cases.specs.Words.{words}
-use Rattle.amd_market.specs.Lines.{named_line, is_note}
+use Rattle.amd_market.specs.Lines.{named_line, is_note, line_of}
 use Rattle.amd_market.proofs.LineLemmas.{takes-none, takes-one, takes-append, takes-end, fails-here, fails-behind}
 use Rattle.amd_market.proofs.LineLemmas.{telling-none, telling-both, notes-end, notes-telling}
 use Rattle.amd_market.proofs.lines.LineReader.take_telling.Goals as goal
@@ -24,13 +24,13 @@ returns-then-not-branch-clause-takes g c =
 pub returns-then-not-is_note-clause-takes : goal.returns-then-not-is_note-clause-takes
 returns-then-not-is_note-clause-takes g c =
     let inv = c.lines.invariant in
-    let says : is_note (words c.take_line.new.self.line.items) ≡ false = search rules in
+    let says : is_note (words (line_of c.take_line.new.self)) ≡ false = search rules in
     notes-telling _ _ _ _ inv.0 inv.1 inv.2 (rw c.if-not-branch.false at c.in_ok-take_line.ensures.takes) says
 
 pub lines-preserved : goal.lines-preserved
 lines-preserved g c =
     let inv = c.lines.invariant in
-    let line = c.take_line.new.self.line.items in
+    let line = (line_of c.take_line.new.self) in
     let one = takes-one _ _ _ (rw c.if-not-branch.false at c.in_ok-take_line.ensures.takes) in
     let note : is_note (words line) ≡ true = search rules in
     let tells = telling-both inv.0 (line ∷ []) [] [] inv.2 (telling-none line note) in
