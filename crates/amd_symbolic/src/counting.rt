@@ -43,7 +43,7 @@ fn form_counts<I: PrimInt, A: Allocator + Copy>(
         return Err(Fault::NotPermutation);
     };
     let lists = earlier_lists(alloc, size, a_p, a_i, &places)?;
-    Ok(written_counts(alloc, &lists.starts, &lists.earlier)?)
+    Ok(written_counts(alloc, &lists.starts, &lists.neighbours)?)
 }
 
 /// How many entries each column of the factor of a square matrix has under an order of its rows, by the pattern of
