@@ -1,9 +1,9 @@
 -- A column by its children: what lies in the subtree of a row lies there by an edge, or stands over a child that does.
-use Rattle.std.proofs.Common.{ℕ, true, ◌≡◌, ◌<◌, ◌⊎◌, inl, inr, refl, ap, subst, arith, List, length}
+use Rattle.std.proofs.Common.{ℕ, true, ◌≡◌, ◌<◌, ◌⊎◌, inl, inr, refl, subst, arith, List, length}
 use Rattle.std.specs.Prelude.{slice_index}
 use Rattle.amd_model.specs.Graph.{Graph, IsGraph}
 use Rattle.amd_model.specs.Reach.{direct}
-use Rattle.amd_factor.specs.Trees.{Entry, IsParent, Over, itself, up, InSubtree, ColumnsByChildren}
+use Rattle.amd_factor.specs.Trees.{Entry, IsParent, Over, itself, up, ColumnsByChildren}
 use Rattle.amd_factor.proofs.TreePaths.{entry_in_subtree, subtree_entry}
 
 module _ (g : Graph) (p : List ℕ) where

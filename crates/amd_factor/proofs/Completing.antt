@@ -1,10 +1,10 @@
 -- The rows that are new in a column complete it: what it takes over, its later neighbours and its other children.
-use Rattle.std.proofs.Common.{ℕ, true, ◌≡◌, ◌<◌, ◌≤◌, ◌+◌, ◌⊎◌, inl, inr, refl, sym, ap, subst, arith, List, [], length}
+use Rattle.std.proofs.Common.{ℕ, ◌≡◌, ◌<◌, ◌+◌, inl, inr, sym, ap, subst, arith, List, [], length}
 use Rattle.std.specs.Prelude.{slice_index, Contains, Option, None, Some, MatchOption}
 use Rattle.std.specs.Option.{unwrap_or}
 use Rattle.amd_model.specs.Graph.{IsGraph}
 use Rattle.amd_factor.specs.Later.{AreLater}
-use Rattle.amd_factor.specs.Trees.{Entry, IsParent}
+use Rattle.amd_factor.specs.Trees.{Entry}
 use Rattle.amd_factor.specs.Gathering.{Column, EntryOf, IsChild, Inherits, Marks, MarksTell, Completes}
 use Rattle.amd_factor.proofs.Children.{entry_by_child, entry_by_edge, entry_from}
 

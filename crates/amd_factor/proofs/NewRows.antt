@@ -1,17 +1,16 @@
 -- The rows that are new in a column: one more of them, and all of them, sorted.
-use Rattle.std.proofs.Common.{ℕ, zero, suc, Bool, true, false, ◌≡◌, ◌≢◌, ◌<◌, ◌≤◌, ◌+◌, ◌-◌, ◌==◌, ◌⊎◌, inl, inr, refl, sym, ◌∙◌, ap, subst}
-use Rattle.std.proofs.Common.{arith, cond, List, [], ◌∷◌, ◌++◌, length, set, take, drop}
-use Rattle.std.specs.Prelude.{slice_index, slice_index_or, count_by, Contains}
+use Rattle.std.proofs.Common.{ℕ, suc, Bool, false, ◌≡◌, ◌≢◌, ◌<◌, ◌≤◌, ◌+◌, ◌==◌, ◌⊎◌, inl, inr, refl, sym, ◌∙◌, ap, subst}
+use Rattle.std.proofs.Common.{arith, cond, List, [], ◌∷◌, ◌++◌, length, set, take}
+use Rattle.std.specs.Prelude.{slice_index, count_by, Contains}
 use Rattle.std.specs.List.Sorted.{IsStrictlyIncreasing, IsPermutation, IsNonDecreasing}
-use Rattle.std.proofs.lemmas.Bool.{cases_eq, cases_lt, eq-eqb, ne_eqb}
+use Rattle.std.proofs.lemmas.Bool.{cases_eq, eq-eqb, ne_eqb}
 use Rattle.std.proofs.lemmas.List.{length-set, get_or-set_same, get_or-set_other, get_or_default, length-append, take_more_set}
 use Rattle.std.proofs.lemmas.List.Elements.{Contains-push, Contains-push_cases, Contains-append_left, Contains-get_or}
 use Rattle.std.proofs.lemmas.List.Sorted.{Contains-permutation, IsPermutation-sym, sum_by-IsPermutation}
 use Rattle.std.proofs.lemmas.List.Sums.{sum_by-append, count_by_more_yes, sum_by-take-le}
-use Rattle.amd_model.specs.Below.{count_below, sum_below}
+use Rattle.amd_model.specs.Below.{count_below}
 use Rattle.amd_model.proofs.Counting.Below.{sum_at, count_most}
-use Rattle.amd_factor.specs.Trees.{Entry}
-use Rattle.amd_factor.specs.Gathering.{Column, EntryOf, Marks, Inherits, Completes}
+use Rattle.amd_factor.specs.Gathering.{Column, EntryOf, Marks, Completes}
 
 -- what stands in no place of a list is counted nowhere in it
 count_absent : (xs : List ℕ) (v : ℕ) → ((k : ℕ) → k < length xs → slice_index xs k ≢ v) → count_by (λ x. x == v) xs ≡ 0

@@ -1,7 +1,7 @@
 -- Columns that stand one behind the other: one more of them, all of them, and one for which there is no room.
-use Rattle.std.proofs.Common.{ℕ, zero, suc, ◌≡◌, ◌≢◌, ◌<◌, ◌≤◌, ◌+◌, ◌-◌, inl, inr, refl, sym, ◌∙◌, ap, subst, arith, List, [], ◌∷◌}
+use Rattle.std.proofs.Common.{ℕ, zero, suc, ◌≡◌, ◌≢◌, ◌<◌, ◌≤◌, ◌+◌, inl, inr, refl, sym, ◌∙◌, ap, subst, arith, List, [], ◌∷◌}
 use Rattle.std.proofs.Common.{length, map, set, take}
-use Rattle.std.specs.Prelude.{slice_index, slice_index_or, slice_range, slice_get, Contains, Option, None, Some}
+use Rattle.std.specs.Prelude.{slice_index, slice_index_or, slice_range, slice_get, Option, None, Some}
 use Rattle.std.specs.List.Sorted.{IsStrictlyIncreasing}
 use Rattle.std.proofs.lemmas.Bool.{cases_eq}
 use Rattle.std.proofs.lemmas.List.{length-set, get_or-set_same, get_or-set_other, get_or_default, get_or-map, length-map, length-take-le, same_lists}
@@ -16,9 +16,9 @@ use Rattle.amd_model.proofs.Listings.ReachTest.{columns, factor_of}
 use Rattle.amd_model.proofs.Listings.Words.{has_head, has_cases}
 use Rattle.amd_factor.specs.Columns.{first_of, HoldFactor, PassesRoom}
 use Rattle.amd_factor.specs.Earlier.{Order}
-use Rattle.amd_factor.specs.Trees.{Entry, IsParent}
+use Rattle.amd_factor.specs.Trees.{IsParent}
 use Rattle.amd_factor.specs.Merging.{merged}
-use Rattle.amd_factor.specs.Gathering.{Column, EntryOf, Completes, HoldBefore, TellFirst}
+use Rattle.amd_factor.specs.Gathering.{Column, Completes, HoldBefore, TellFirst}
 use Rattle.amd_factor.proofs.FactorOnce.{column_once, first_least}
 use Rattle.amd_factor.proofs.Merging.{merged_is}
 use Rattle.amd_factor.proofs.Ranks.{sum_places}

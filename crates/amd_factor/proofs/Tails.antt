@@ -1,13 +1,12 @@
 -- What a column hands on: the entries of a child behind its first one. And parts of a list.
-use Rattle.std.proofs.Common.{ℕ, zero, suc, ◌≡◌, ◌≢◌, ◌<◌, ◌≤◌, ◌+◌, ◌-◌, ◌⊎◌, inl, inr, refl, sym, ◌∙◌, ap, subst, arith, List, [], ◌∷◌}
-use Rattle.std.proofs.Common.{◌++◌, length, take, drop, true, false}
-use Rattle.std.specs.Prelude.{slice_index, slice_index_or, slice_range, Contains, Option, None, Some, ◌↔◌}
+use Rattle.std.proofs.Common.{ℕ, suc, ◌≡◌, ◌<◌, ◌≤◌, ◌+◌, ◌-◌, ◌⊎◌, inl, inr, refl, sym, ◌∙◌, ap, subst, arith, List, [], ◌∷◌}
+use Rattle.std.proofs.Common.{◌++◌, length, take, drop}
+use Rattle.std.specs.Prelude.{slice_index, slice_range, Contains, Option, None, Some, ◌↔◌}
 use Rattle.std.specs.List.Sorted.{IsStrictlyIncreasing}
-use Rattle.std.proofs.lemmas.Bool.{cases_Bool, cases_eq}
+use Rattle.std.proofs.lemmas.Bool.{cases_Bool}
 use Rattle.std.proofs.lemmas.List.{drop_more, drop_at, take_at, take-take}
 use Rattle.std.proofs.lemmas.List.Edits.{length-between}
 use Rattle.std.proofs.lemmas.Slice.{between_is}
-use Rattle.amd_model.specs.Graph.{Graph}
 use Rattle.amd_model.specs.Quotient.{has}
 use Rattle.amd_model.specs.Factor.{IsColumn}
 use Rattle.amd_model.proofs.Counting.Below.{clash}

@@ -4,7 +4,7 @@ use Rattle.std.specs.Prelude.{ℕ, ◌≡◌, ◌≢◌, ◌<◌, ◌≤◌, ◌
 use Rattle.std.specs.Prelude.{slice_index, slice_index_or}
 use Rattle.amd_model.specs.Below.{count_below}
 use Rattle.amd_factor.specs.Earlier.{Order}
-use Rattle.amd_factor.specs.Trees.{Entry, IsParent, InSubtree}
+use Rattle.amd_factor.specs.Trees.{IsParent, InSubtree}
 use Rattle.amd_factor.specs.Walks.{TellsParent, CountsEntry}
 
 -- row j has met column m
@@ -39,17 +39,3 @@ rows_seen mark j k = cond (slice_index mark k == (j + 1)) (j + 1) j
 pub record CountSeen (o : Order) (seen : ℕ → ℕ) (counts : List ℕ) : Type 0 where
   pub room : length counts ≡ length o.rows
   pub each : (k : ℕ) → k < length o.rows → CountsEntry o (seen k) k (slice_index counts k)
-
--- an order of the rows of a graph, and where the column of each place begins
-pub record Layout : Type 0 where
-  pub order : Order
-  pub begins : List ℕ
-
--- the entries of each column in as many rows as it has seen stand from its beginning on, and next says where the one
--- behind them goes
-pub record WriteSeen (l : Layout) (seen : ℕ → ℕ) (next rows : List ℕ) : Type 0 where
-  pub room : length next ≡ length l.order.rows
-  pub next_is : (k c : ℕ) → k < length l.order.rows → CountsEntry l.order (seen k) k c →
-      slice_index next k ≡ slice_index l.begins k + c
-  pub entries : (k m c : ℕ) → m < seen k → Entry l.order.graph l.order.rows k m → CountsEntry l.order m k c →
-      slice_index rows (slice_index l.begins k + c) ≡ m

@@ -1,5 +1,5 @@
 -- What a pass over the rows reads and writes. Source: Liu 1986, 1990; Davis 2005 (LDL).
-use Rattle.std.specs.Prelude.{ℕ, Bool, true, ◌≡◌, ◌<◌, ◌≤◌, ◌↔◌, ◌+◌, List, Option, None, Some, length, slice_index}
+use Rattle.std.specs.Prelude.{ℕ, Bool, true, ◌≡◌, ◌<◌, ◌≤◌, ◌↔◌, List, Option, None, Some, length, slice_index}
 use Rattle.std.specs.Prelude.{slice_index_or}
 use Rattle.amd_model.specs.Below.{count_below, sum_below}
 use Rattle.amd_factor.specs.Earlier.{Order}
@@ -41,16 +41,3 @@ TotalOf o total = (f : ℕ → ℕ) → ((k : ℕ) → k < length o.rows → Cou
 abbrev pub MoreThan : Order → ℕ → Type 0
 MoreThan o room = (f : ℕ → ℕ) → ((k : ℕ) → k < length o.rows → CountsEntry o (length o.rows) k (f k)) →
     room < sum_below (length o.rows) f
-
--- column k begins behind the entries of those before it, and there is room for all
-pub record BeginColumns (o : Order) (begins : List ℕ) (room : ℕ) : Type 0 where
-  pub count : ℕ → ℕ
-  pub counts : (k : ℕ) → k < length o.rows → CountsEntry o (length o.rows) k (count k)
-  pub begins_room : length begins ≡ length o.rows
-  pub at : (k : ℕ) → k < length o.rows → slice_index begins k ≡ sum_below k count
-  pub fits : sum_below (length o.rows) count ≤ room
-
--- each entry before place j stands in its column, behind the entries before it
-abbrev pub HoldEntries : Order → ℕ → List ℕ → List ℕ → Type 0
-HoldEntries o j begins rows = (k m c : ℕ) → m < j → Entry o.graph o.rows k m → CountsEntry o m k c →
-    slice_index rows (slice_index begins k + c) ≡ m

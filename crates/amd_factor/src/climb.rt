@@ -1,5 +1,5 @@
 // The climb of a row up the elimination tree: from an earlier neighbour on, to a column that the row has met. Source:
-// Liu 1986 and 1990. Called by `counts` and `entries`, where each column on the way gets what the pass is for.
+// Liu 1986 and 1990. Called where the entries of columns are counted by climbs.
 
 ghost use Rattle.std.specs.Prelude.{ℕ, ◌≡◌, ◌≢◌, ◌<◌, ◌+◌, length, slice_index};
 ghost use Rattle.amd_model.specs.Graph.{IsGraph};

@@ -5,15 +5,15 @@
 ghost use Rattle.std.specs.Prelude.{ℕ, List, ◌≡◌, ◌<◌, ◌≤◌, ◌+◌, ◌-◌, [], true, Some, length, slice_index, slice_range, take};
 ghost use Rattle.std.specs.Prelude.{MatchOption};
 ghost use Rattle.std.specs.List.Sorted.{IsStrictlyIncreasing};
-ghost use Rattle.amd_model.specs.Graph.{IsGraph};
-ghost use Rattle.amd_factor.specs.Earlier.{Order};
-ghost use Rattle.amd_factor.specs.Later.{AreLater};
-ghost use Rattle.amd_factor.specs.Trees.{Entry};
-ghost use Rattle.amd_factor.specs.Merging.{merged};
-ghost use Rattle.amd_factor.specs.Gathering.{Column, Completes, HoldBefore, Inherits, IsChild, LinkChildren};
-ghost use Rattle.amd_factor.specs.Gathering.{Filled, Marks, MarksTell, TellFirst};
 ghost use Rattle.amd_model.specs.Factor.{IsColumn};
+ghost use Rattle.amd_model.specs.Graph.{IsGraph};
 ghost use Rattle.amd_factor.specs.Columns.{PassesRoom};
+ghost use Rattle.amd_factor.specs.Earlier.{Order};
+ghost use Rattle.amd_factor.specs.Gathering.{Column, Completes, Filled, HoldBefore, Inherits, IsChild, LinkChildren};
+ghost use Rattle.amd_factor.specs.Gathering.{Marks, MarksTell, TellFirst};
+ghost use Rattle.amd_factor.specs.Later.{AreLater};
+ghost use Rattle.amd_factor.specs.Merging.{merged};
+ghost use Rattle.amd_factor.specs.Trees.{Entry};
 
 use crate::gathering::{gather, mark_rows};
 use crate::links::{greatest_child, has_only_child, link_child};
@@ -247,17 +247,7 @@ pub fn add_column(
     let base = greatest_child(k, link, ptr);
     let (from, to) = inherited(k, base, ptr);
     let (count, now) = new_rows(
-        k,
-        base,
-        from,
-        to,
-        neighbours,
-        marked,
-        link,
-        ptr,
-        rows,
-        mark,
-        fresh,
+        k, base, from, to, neighbours, marked, link, ptr, rows, mark, fresh,
     );
     let Some(end) = write_column(ptr[k], from, to, &fresh[..count], rows) else {
         return None;

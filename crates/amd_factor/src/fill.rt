@@ -49,9 +49,8 @@ pub fn fill(
     };
     'columns: for k in 0..parent.len() {
         let neighbours = &later[starts[k]..starts[k + 1]];
-        let Some(now) = add_column(
-            k, neighbours, marked, ptr, rows, parent, mark, link, fresh,
-        ) else {
+        let Some(now) = add_column(k, neighbours, marked, ptr, rows, parent, mark, link, fresh)
+        else {
             return None;
         };
         marked = now;

@@ -4,8 +4,6 @@
 ghost use Rattle.amd_factor.specs.Trees.{ColumnsByChildren, RowsAreSubtrees};
 
 pub mod climb;
-pub mod counts;
-pub mod entries;
 pub mod columns;
 pub mod fill;
 pub mod gathering;

@@ -1,11 +1,8 @@
-use Rattle.std.proofs.Common.{ℕ, List, ◌≡◌, ◌<◌, ◌+◌, ◌-◌, ◌∙◌, ap, sym, subst, arith, length, take}
-use Rattle.std.specs.Prelude.{slice_index, slice_range}
+use Rattle.std.proofs.Common.{sym, subst, arith, length, take}
+use Rattle.std.specs.Prelude.{slice_range}
 use Rattle.std.proofs.lemmas.List.Edits.{length-between}
 use Rattle.amd_model.specs.Factor.{IsColumn}
 use Rattle.amd_factor.specs.Merging.{merged}
-use Rattle.amd_factor.specs.Earlier.{Order}
-use Rattle.amd_factor.specs.Gathering.{Completes, HoldBefore, TellFirst}
-use Rattle.std.specs.List.Sorted.{IsStrictlyIncreasing}
 use Rattle.amd_factor.proofs.Merging.{merged_is}
 use Rattle.amd_factor.proofs.Standing.{merged_column, passes_room, hold_same, tell_same}
 use Rattle.amd_factor.proofs.columns.add_column.Goals as goal
@@ -40,8 +37,7 @@ close_column-requires g c =
     let w = c.in-Some.ensures in
     let end = w.none in
     let at = end.0 in let fits = end.1 in
-    let size = c.write_column.auto.rows in
-    (
+    let size = c.write_column.auto.rows in (
       r.0,
       (
         r.1.0,

@@ -1,14 +1,13 @@
-use Rattle.std.proofs.Common.{◌≡◌, ◌+◌, ◌∙◌, sym, refl, arith}
+use Rattle.std.proofs.Common.{◌∙◌, sym}
 use Rattle.std.specs.Prelude.{slice_index, slice_range}
-use Rattle.amd_factor.proofs.Descent.{links_skip, links_more}
+use Rattle.amd_factor.proofs.Descent.{links_skip}
 use Rattle.amd_factor.proofs.Standing.{hold_next, tell_first_next, first_get, first_parent, no_parent}
 use Rattle.amd_factor.proofs.columns.close_column.Goals as goal
 
 pub link_child-requires : goal.link_child-requires
 link_child-requires g c =
     let r = c.requires in
-    let part = slice_range c.args.rows.now (slice_index c.args.ptr.now c.args.k) c.args.end in
-    (
+    let part = slice_range c.args.rows.now (slice_index c.args.ptr.now c.args.k) c.args.end in (
       first_parent g.o c.args.k c.in-Some.q part r.1.1.1.1.1.1.1
           (sym (first_get part) ∙ sym c.first.ensures.value ∙ sym c.copied-first.ensures ∙ c.in-Some.is),
       r.1.1.1.1.0,

@@ -1,10 +1,10 @@
-use Rattle.std.proofs.Common.{ℕ, ◌≡◌, ◌<◌, ◌+◌, ◌⊎◌, inl, inr, subst, sym, ◌∙◌, arith, length}
-use Rattle.std.specs.Prelude.{slice_index, slice_index_or, Contains, None, Some}
+use Rattle.std.proofs.Common.{ℕ, ◌≡◌, ◌⊎◌, inl, inr, subst, ◌∙◌, arith}
+use Rattle.std.specs.Prelude.{slice_index_or, None}
 use Rattle.std.proofs.lemmas.Bool.{cases_eq}
 use Rattle.amd_factor.specs.Trees.{Entry}
 use Rattle.amd_factor.specs.Gathering.{IsChild, IsLastChild}
 use Rattle.amd_factor.proofs.Children.{entry_by_child}
-use Rattle.amd_factor.proofs.Descent.{IsAhead, LeadsTo, ahead, ahead_past, leads, fewer}
+use Rattle.amd_factor.proofs.Descent.{IsAhead, LeadsTo, ahead_past, leads}
 use Rattle.amd_factor.proofs.columns.gather_children.Goals as goal
 use Rattle.amd_factor.proofs.columns.gather_children.Goals.{then-child-base, else-child-base}
 
@@ -28,8 +28,7 @@ pub gather-count-requires : goal.gather-count-requires
 gather-count-requires g c =
     let i = c.children.invariant in let r = c.requires in
     let is : IsChild g.c c.in-Some.child = subst (LeadsTo g.c.order g.c.place) c.in-Some.is i.leads in
-    let has = (c.inherited-from.ensures.inherits c.args.rows.now r.1.1.1.1.0).1 in
-    (
+    let has = (c.inherited-from.ensures.inherits c.args.rows.now r.1.1.1.1.0).1 in (
       (λ j h. let e = (has j).0 h in
           entry_by_child g.c.order.graph g.c.order.rows r.0 g.c.place j e.0 e.1.1 c.in-Some.child is e.1),
       (c.children.auto.fresh ∙ r.1.1.1.1.1.1.0, (i.count, i.marks)),
@@ -53,30 +52,30 @@ children-preserved g c =
     (λ m j q x. subst (λ y. Entry g.c.order.graph g.c.order.rows y j) q x) in
     elim c.if-child-base.branch [
       | then-child-base w ↦ (let e = w.gather-count.ensures in rw (w.mark-is, w.fresh-is, w.count-is) (record {
-          count = e.count;
-          leads = leads';
-          marks = e.marks;
-          kept = λ j old. e.kept j (i.kept j old);
-          done = λ m j p behind entry. elim (i.done m j p behind entry) [
-            | inl x ↦ elim (past m p x) [
-              | inl q ↦ inr (e.all j (((w.inherited-from.ensures.inherits c.args.rows.now r.1.1.1.1.0).1 j).1 (behind, at m j q entry)))
-              | inr a ↦ inl a
-            ]
-            | inr x ↦ inr (e.kept j x)
-          ];
-        }))
+        count = e.count;
+        leads = leads';
+        marks = e.marks;
+        kept = λ j old. e.kept j (i.kept j old);
+        done = λ m j p behind entry. elim (i.done m j p behind entry) [
+          | inl x ↦ elim (past m p x) [
+            | inl q ↦ inr (e.all j (((w.inherited-from.ensures.inherits c.args.rows.now r.1.1.1.1.0).1 j).1 (behind, at m j q entry)))
+            | inr a ↦ inl a
+          ]
+          | inr x ↦ inr (e.kept j x)
+        ];
+      }))
       | else-child-base w ↦ rw (w.mark-is, w.fresh-is, w.count-is) (record {
-          count = i.count;
-          leads = leads';
-          marks = i.marks;
-          kept = i.kept;
-          done = λ m j p behind entry. elim (i.done m j p behind entry) [
-            | inl x ↦ elim (past m p x) [
-              | inl q ↦ inr (i.kept j (r.1.1.1.1.1.0 (subst (λ y. IsChild g.c y) w.if-child-base.false is) j behind
-                  (subst (λ y. Entry g.c.order.graph g.c.order.rows y j) w.if-child-base.false (at m j q entry))))
-              | inr a ↦ inl a
-            ]
-            | inr x ↦ inr x
-          ];
-        })
+        count = i.count;
+        leads = leads';
+        marks = i.marks;
+        kept = i.kept;
+        done = λ m j p behind entry. elim (i.done m j p behind entry) [
+          | inl x ↦ elim (past m p x) [
+            | inl q ↦ inr (i.kept j (r.1.1.1.1.1.0 (subst (λ y. IsChild g.c y) w.if-child-base.false is) j behind
+                (subst (λ y. Entry g.c.order.graph g.c.order.rows y j) w.if-child-base.false (at m j q entry))))
+            | inr a ↦ inl a
+          ]
+          | inr x ↦ inr x
+        ];
+      })
     ]

@@ -1,6 +1,4 @@
-use Rattle.std.proofs.Common.{◌≡◌, ◌+◌, [], arith}
-use Rattle.std.specs.Prelude.{MatchOption}
-use Rattle.amd_factor.specs.Gathering.{IsChild}
+use Rattle.std.proofs.Common.{◌+◌, arith}
 use Rattle.amd_factor.proofs.Tails.{tail_begins, tail_ends, tail_rises, tail_has}
 use Rattle.amd_factor.proofs.columns.inherited.Goals as goal
 

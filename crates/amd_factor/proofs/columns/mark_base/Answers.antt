@@ -1,5 +1,5 @@
-use Rattle.std.proofs.Common.{ℕ, ◌≡◌, ◌<◌, ◌+◌, [], subst, sym, arith, length}
-use Rattle.std.specs.Prelude.{slice_index, Contains}
+use Rattle.std.proofs.Common.{◌+◌, [], subst, sym, arith}
+use Rattle.std.specs.Prelude.{Contains}
 use Rattle.amd_factor.specs.Gathering.{Marks}
 use Rattle.amd_factor.proofs.Tails.{inherited_behind, marks_begin}
 use Rattle.amd_factor.proofs.columns.mark_base.Goals as goal

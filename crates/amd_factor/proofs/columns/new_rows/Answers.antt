@@ -1,5 +1,4 @@
-use Rattle.std.proofs.Common.{ℕ, ◌≡◌, ◌<◌, ◌+◌, inl, inr, sym, ◌∙◌, ap, subst, arith, length, take, refl}
-use Rattle.std.specs.Prelude.{slice_index, Contains}
+use Rattle.std.proofs.Common.{◌≡◌, sym, ◌∙◌, subst, length, take}
 use Rattle.std.proofs.lemmas.Bool.{eqb-true}
 use Rattle.std.proofs.lemmas.List.{length-take-le, take_at}
 use Rattle.std.proofs.lemmas.List.Sorted.{IsNonDecreasingBy-from_sort}
@@ -22,14 +21,13 @@ gather_children-count-requires g c =
 
 pub gather-count-requires : goal.gather-count-requires
 gather-count-requires g c =
-    let r = c.requires in let e = c.gather_children-count.ensures in
-    (
+    let r = c.requires in let e = c.gather_children-count.ensures in (
       neighbour_gives g.c r.0 c.args.neighbours.now r.1.1.1.1.1.1.1.1.1.1.0,
       (c.gather_children-count.auto.fresh ∙ r.1.1.1.1.1.1.1.1.1.1.1.1, (e.count, e.marks)),
     )
 
 pub returns-clause-completes : goal.returns-clause-completes
-returns-clause-completes g c = 
+returns-clause-completes g c =
     let r = c.requires in let e = c.gather_children-count.ensures in let n = c.gather-count.ensures in
     let s = c.sort_unstable.ensures in let ys = c.sort_unstable.new.self in
     let long : length ys ≡ c.gather-count.result = s.len ∙ length-take-le c.gather-count.result c.gather-count.new.fresh n.count in

@@ -1,4 +1,4 @@
-use Rattle.std.proofs.Common.{◌≡◌, ◌+◌, ◌-◌, ◌∙◌, ap, subst, sym, arith, length, take}
+use Rattle.std.proofs.Common.{◌≡◌, ◌+◌, ◌-◌, ◌∙◌, ap, arith, length}
 use Rattle.std.specs.Prelude.{slice_range}
 use Rattle.amd_factor.specs.Merging.{merged}
 use Rattle.std.proofs.lemmas.List.Edits.{length-between}

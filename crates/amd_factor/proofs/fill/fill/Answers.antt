@@ -1,4 +1,4 @@
-use Rattle.std.proofs.Common.{ℕ, ◌≡◌, ◌+◌, ◌≤◌, ◌∙◌, ap, sym, subst, arith, length, take}
+use Rattle.std.proofs.Common.{◌≡◌, ◌∙◌, ap, sym, subst, arith, length, take}
 use Rattle.std.specs.Prelude.{slice_index}
 use Rattle.amd_factor.specs.Columns.{HoldFactor}
 use Rattle.amd_factor.specs.Gathering.{HoldBefore, TellFirst}

@@ -1,4 +1,3 @@
-use Rattle.std.proofs.Common.{◌≡◌, length}
 use Rattle.amd_factor.specs.Gathering.{Filled}
 use Rattle.amd_factor.proofs.fill.fill.Given as goal
 

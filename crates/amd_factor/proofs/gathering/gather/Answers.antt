@@ -1,4 +1,4 @@
-use Rattle.std.proofs.Common.{ℕ, ◌≡◌, ◌≢◌, ◌<◌, ◌+◌, inl, inr, ap, subst, sym, ◌∙◌, arith, length, set, take}
+use Rattle.std.proofs.Common.{ℕ, ◌≡◌, ◌<◌, inl, inr, ap, subst, ◌∙◌, arith, length, set, take}
 use Rattle.std.specs.Prelude.{slice_index}
 use Rattle.std.proofs.lemmas.Bool.{cases_eq}
 use Rattle.std.proofs.lemmas.List.{get_or-set_same, get_or-set_other, length-take-le, length-set}
@@ -66,14 +66,14 @@ rows-preserved g c =
             kept = λ j old. keep j (i.kept j old);
           }))
       | else-mark-row w ↦ rw (w.mark-is, w.fresh-is, w.listed-is) (record {
-          listed = i.listed;
-          marks = i.marks;
-          all = λ k lk. elim (cases_eq k c.rows.row-index) [
-            | inl q ↦ ap (λ x. slice_index c.rows.mark (slice_index c.args.rows.now x)) q ∙ w.if-mark-row.false
-            | inr ne ↦ i.all k (omega (arith, lk, ne))
-          ];
-          kept = i.kept;
-        })
+        listed = i.listed;
+        marks = i.marks;
+        all = λ k lk. elim (cases_eq k c.rows.row-index) [
+          | inl q ↦ ap (λ x. slice_index c.rows.mark (slice_index c.args.rows.now x)) q ∙ w.if-mark-row.false
+          | inr ne ↦ i.all k (omega (arith, lk, ne))
+        ];
+        kept = i.kept;
+      })
     ]
 
 pub returns-clause-all : goal.returns-clause-all

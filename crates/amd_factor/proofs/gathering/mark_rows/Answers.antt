@@ -1,4 +1,4 @@
-use Rattle.std.proofs.Common.{ℕ, ◌≡◌, ◌<◌, ◌+◌, inl, inr, ap, subst, sym, ◌∙◌, arith, length, set}
+use Rattle.std.proofs.Common.{◌≡◌, ◌<◌, inl, inr, ap, subst, sym, ◌∙◌, arith, length, set}
 use Rattle.std.specs.Prelude.{slice_index, Contains}
 use Rattle.std.proofs.lemmas.Bool.{cases_eq}
 use Rattle.std.proofs.lemmas.List.{get_or-set_same, get_or-set_other}

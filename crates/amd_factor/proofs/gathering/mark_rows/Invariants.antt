@@ -1,4 +1,4 @@
-use Rattle.std.proofs.Common.{ℕ, ◌≡◌, ◌≢◌, ◌<◌, length}
+use Rattle.std.proofs.Common.{ℕ, ◌≡◌, ◌≢◌, ◌<◌}
 use Rattle.std.specs.Prelude.{slice_index}
 use Rattle.amd_factor.proofs.gathering.mark_rows.Given as goal
 

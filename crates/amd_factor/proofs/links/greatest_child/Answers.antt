@@ -1,8 +1,8 @@
-use Rattle.std.proofs.Common.{◌≡◌, ◌<◌, ◌≤◌, ◌+◌, ◌-◌, ◌⊎◌, ℕ, inl, inr, subst, sym, arith}
-use Rattle.std.specs.Prelude.{slice_index, slice_index_or, None, Some}
+use Rattle.std.proofs.Common.{◌≤◌, ◌+◌, ◌-◌, ◌⊎◌, ℕ, inl, inr, subst, sym, arith}
+use Rattle.std.specs.Prelude.{slice_index, slice_index_or, None}
 use Rattle.std.proofs.lemmas.Bool.{cases_eq}
 use Rattle.amd_factor.specs.Gathering.{IsChild, IsLastChild}
-use Rattle.amd_factor.proofs.Descent.{IsAhead, LeadsTo, ahead, ahead_past, leads, fewer}
+use Rattle.amd_factor.proofs.Descent.{IsAhead, LeadsTo, ahead_past, leads}
 use Rattle.amd_factor.proofs.links.greatest_child.Goals as goal
 use Rattle.amd_factor.proofs.links.greatest_child.Goals.{then-ptr-greatest, else-ptr-greatest}
 
@@ -15,7 +15,7 @@ children-preserved g c =
     let previous : IsLastChild g.c.order g.c.place child (slice_index_or c.args.link.now child None) =
     c.requires.1.1.0.previous child g.c.place is.entry.0 is in
     let far : (greatest : ℕ) → size child ≤ size greatest → size c.children.greatest ≤ size greatest → (m : ℕ) → IsChild g.c m →
-        IsAhead (slice_index_or c.args.link.now child None) m ⊎ (size m ≤ size greatest) =
+    IsAhead (slice_index_or c.args.link.now child None) m ⊎ (size m ≤ size greatest) =
     (λ greatest a b m p. elim (i.greatest m p) [
       | inl x ↦ elim (cases_eq m child) [
         | inl q ↦ inr (subst (λ y. size y ≤ size greatest) (sym q) a)
@@ -26,13 +26,13 @@ children-preserved g c =
     ]) in
     elim c.if-ptr-greatest.branch [
       | then-ptr-greatest w ↦ (let t = w.if-ptr-greatest.true in rw w.greatest-is (record {
-          child = is;
-          leads = leads g.c.order g.c.place child (slice_index_or c.args.link.now child None) previous;
-          greatest = far child (omega arith) (omega (arith, t));
-        }))
+        child = is;
+        leads = leads g.c.order g.c.place child (slice_index_or c.args.link.now child None) previous;
+        greatest = far child (omega arith) (omega (arith, t));
+      }))
       | else-ptr-greatest w ↦ (let t = w.if-ptr-greatest.false in rw w.greatest-is (record {
-          child = i.child;
-          leads = leads g.c.order g.c.place child (slice_index_or c.args.link.now child None) previous;
-          greatest = far c.children.greatest t (omega arith);
-        }))
+        child = i.child;
+        leads = leads g.c.order g.c.place child (slice_index_or c.args.link.now child None) previous;
+        greatest = far c.children.greatest t (omega arith);
+      }))
     ]
