@@ -84,6 +84,40 @@ static int32_t columns_64(struct answer *to)
                                 to->wide + ROWS + 1 + ROOM, ROWS);
 }
 
+static int32_t aat_32(struct answer *to)
+{
+    return rimopaku_aat_i32(ROWS, a_p_32, ROWS + 1, a_i_32, 14, to->narrow, ROWS, &to->statistics);
+}
+
+static int32_t aat_64(struct answer *to)
+{
+    return rimopaku_aat_i64(ROWS, a_p_64, ROWS + 1, a_i_64, 14, to->wide, ROWS, &to->statistics);
+}
+
+static int32_t preprocess_32(struct answer *to)
+{
+    return rimopaku_preprocess_i32(ROWS, a_p_32, ROWS + 1, a_i_32, 14, to->narrow, ROWS + 1, to->narrow + ROWS + 1, 14);
+}
+
+static int32_t preprocess_64(struct answer *to)
+{
+    return rimopaku_preprocess_i64(ROWS, a_p_64, ROWS + 1, a_i_64, 14, to->wide, ROWS + 1, to->wide + ROWS + 1, 14);
+}
+
+/* A forest: 4 above 3 and 1, 3 above 0; place 2 holds no element. */
+static const int32_t parent_32[] = {3, 4, -1, 4, -1}, nv_32[] = {1, 1, 0, 1, 2}, f_size_32[] = {2, 5, 0, 3, 2};
+static const int64_t parent_64[] = {3, 4, -1, 4, -1}, nv_64[] = {1, 1, 0, 1, 2}, f_size_64[] = {2, 5, 0, 3, 2};
+
+static int32_t postorder_32(struct answer *to)
+{
+    return rimopaku_postorder_i32(ROWS, parent_32, ROWS, nv_32, ROWS, f_size_32, ROWS, to->narrow, ROWS);
+}
+
+static int32_t postorder_64(struct answer *to)
+{
+    return rimopaku_postorder_i64(ROWS, parent_64, ROWS, nv_64, ROWS, f_size_64, ROWS, to->wide, ROWS);
+}
+
 /* Fills everything that a call may write. */
 static void untouch(struct answer *answer)
 {
@@ -126,5 +160,11 @@ int main(void)
     refuse_each("order with a row held, 64 bits", order_holding_64);
     refuse_each("columns, 32 bits", columns_32);
     refuse_each("columns, 64 bits", columns_64);
+    refuse_each("aat, 32 bits", aat_32);
+    refuse_each("aat, 64 bits", aat_64);
+    refuse_each("preprocess, 32 bits", preprocess_32);
+    refuse_each("preprocess, 64 bits", preprocess_64);
+    refuse_each("postorder, 32 bits", postorder_32);
+    refuse_each("postorder, 64 bits", postorder_64);
     return 0;
 }

@@ -209,8 +209,8 @@ static void try_lists(double *control, int shuffled, int gaps)
     int differs;
 
     for (INT j = 0; j < n; j++) {
-        if (gaps)
-            next += (INT)draw(3);
+        for (INT gap = gaps ? (INT)draw(3) : 0; gap > 0; gap--)
+            lists[0][next++] = 0;
         begins[0][j] = next;
         for (INT i = 0; i < n; i++)
             if (i != j && (entry[j * n + i] || entry[i * n + j]))

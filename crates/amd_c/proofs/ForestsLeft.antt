@@ -1,7 +1,7 @@
 -- What the test of a forest finds, what the postorder leaves in a caller's array, and the same for the integers of C, whose values are
 -- themselves.
-use Rattle.std.proofs.Common.{◌≡◌, ◌<◌, ◌≤ℤ◌, ◌⊎◌, ◌↔◌, inl, inr, ℕ, ℤ, pos, negsuc, Bool, true, false, cond, List, length, IsTrue, refl, ap, sym, ◌∙◌, subst}
-use Rattle.std.proofs.Common.{to_z, of_z, w32, map}
+use Rattle.std.proofs.Common.{◌≡◌, ◌<◌, ◌↔◌, inl, inr, ℕ, ℤ, pos, negsuc, Bool, true, false, cond, List, length, IsTrue, refl, ap, sym, ◌∙◌, subst}
+use Rattle.std.proofs.Common.{to_z, of_z, w32}
 use Rattle.std.specs.Prelude.{Option, None, Some, Result, Ok, Err, MatchResult, unsigned_abs, nat_lt, int_lt}
 use Rattle.std.proofs.lemmas.Bool.{and_parts, false≢true, ltb-true}
 use Rattle.std.proofs.lemmas.List.{map-id}
@@ -9,7 +9,7 @@ use Rattle.amd_model.specs.Input.Columns.{at}
 use Rattle.amd_postorder.specs.Trees.{IsForest, is_element}
 use Rattle.amd_types.specs.Links.{named}
 use Rattle.amd_types.specs.declared.amd.Status.{Status}
-use Rattle.amd_c.specs.Forests.{IsSound, AreParents, StaysInside, HasNoCycle, LeavesPostorder, PostorderInto, above_at, parent_in}
+use Rattle.amd_c.specs.Forests.{IsSound, AreParents, StaysInside, HasNoCycle, LeavesPostorder, PostorderInto, above_at}
 use Rattle.amd_c.specs.Numbers.{number_of}
 use Rattle.amd_c.proofs.Leaving.{values, answer_is}
 use Rattle.amd_c.proofs.WalksUp.{some_is, some_none, above_within}
@@ -32,44 +32,44 @@ element_inside nn nv e h = ltb-true e nn (and_parts (nat_lt e nn) (int_lt (pos 0
 module _ (parent nv f_size : List ℤ) (nv_room : length nv ≡ length parent) (f_size_room : length f_size ≡ length parent)
     (above : List (Option ℕ)) (are : AreParents parent nv above)
   where
-  -- an element has as parent what stands above it
-  parent_is : (e p : ℕ) → above_at above e ≡ Some p → (is_element (length parent) nv e ≡ true) × (at parent e ≡ pos p)
-  parent_is e p is =
-      let inside : e < length parent = subst (λ k. e < k) are.room (above_within above e p is) in
-      let both = picked (is_element (length parent) nv e) (named (at parent e)) p (sym (are.each e inside) ∙ is) in
-      (both.0, named_is (at parent e) p both.1)
+    -- an element has as parent what stands above it
+    parent_is : (e p : ℕ) → above_at above e ≡ Some p → (is_element (length parent) nv e ≡ true) × (at parent e ≡ pos p)
+    parent_is e p is =
+        let inside : e < length parent = subst (λ k. e < k) are.room (above_within above e p is) in
+        let both = picked (is_element (length parent) nv e) (named (at parent e)) p (sym (are.each e inside) ∙ is) in
+        (both.0, named_is (at parent e) p both.1)
 
-  -- where each place is sound, each parent is a place
-  pub stays_inside : ((e : ℕ) → e < length parent → IsSound parent nv f_size e) → StaysInside above
-  stays_inside sound e p is =
-      let q = parent_is e p is in
-      let inside = element_inside (length parent) nv e q.0 in
-      elim ((sound e inside q.0).1) [
-        | inl n ↦ (let clash : negsuc 0 ≡ pos p = sym n ∙ q.1 in absurd (cc))
-        | inr t ↦ (let same : t.0 ≡ p = ap unsigned_abs (sym t.1 ∙ q.1) in
-            subst (λ k. p < k) (sym are.room) (subst (λ k. k < length parent) same (element_inside (length parent) nv t.0 t.2)))
-      ]
+    -- where each place is sound, each parent is a place
+    pub stays_inside : ((e : ℕ) → e < length parent → IsSound parent nv f_size e) → StaysInside above
+    stays_inside sound e p is =
+        let q = parent_is e p is in
+        let inside = element_inside (length parent) nv e q.0 in
+        elim ((sound e inside q.0).1) [
+          | inl n ↦ (let clash : negsuc 0 ≡ pos p = sym n ∙ q.1 in absurd (cc))
+          | inr t ↦ (let same : t.0 ≡ p = ap unsigned_abs (sym t.1 ∙ q.1) in
+              subst (λ k. p < k) (sym are.room) (subst (λ k. k < length parent) same (element_inside (length parent) nv t.0 t.2)))
+        ]
 
-  -- sound places without a cycle are a forest
-  pub forest_from : ((e : ℕ) → e < length parent → IsSound parent nv f_size e) → HasNoCycle above →
-      IsForest (length parent) parent nv f_size
-  forest_from sound f = record {
-    parent_room = refl;
-    nv_room = nv_room;
-    f_size_room = f_size_room;
-    sizes = λ e h. (sound e (element_inside (length parent) nv e h) h).0;
-    parents = λ e h. (sound e (element_inside (length parent) nv e h) h).1;
-    rank = f.rank;
-    rises = λ e p h is. f.rises e p (are.each e (element_inside (length parent) nv e h)
-        ∙ picks (is_element (length parent) nv e) (named (at parent e)) p h (ap named is));
-  }
+    -- sound places without a cycle are a forest
+    pub forest_from : ((e : ℕ) → e < length parent → IsSound parent nv f_size e) → HasNoCycle above →
+        IsForest (length parent) parent nv f_size
+    forest_from sound f = record {
+      parent_room = refl;
+      nv_room = nv_room;
+      f_size_room = f_size_room;
+      sizes = λ e h. (sound e (element_inside (length parent) nv e h) h).0;
+      parents = λ e h. (sound e (element_inside (length parent) nv e h) h).1;
+      rank = f.rank;
+      rises = λ e p h is. f.rises e p (are.each e (element_inside (length parent) nv e h)
+          ∙ picks (is_element (length parent) nv e) (named (at parent e)) p h (ap named is));
+    }
 
-  -- and a forest has no cycle
-  pub forest_rises : IsForest (length parent) parent nv f_size → HasNoCycle above
-  forest_rises f = record {
-    rank = f.rank;
-    rises = λ e p is. (let q = parent_is e p is in f.rises e p q.0 q.1);
-  }
+    -- and a forest has no cycle
+    pub forest_rises : IsForest (length parent) parent nv f_size → HasNoCycle above
+    forest_rises f = record {
+      rank = f.rank;
+      rises = λ e p is. (let q = parent_is e p is in f.rises e p q.0 q.1);
+    }
 
 -- each place of a forest is sound
 pub forest_sound : (parent nv f_size : List ℤ) → IsForest (length parent) parent nv f_size → (e : ℕ) → e < length parent →

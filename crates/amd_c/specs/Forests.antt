@@ -1,6 +1,6 @@
 -- What the calls for the postorder of a forest leave in a caller's array, and which number they answer; and what their
 -- test of the forest looks at.
-use Rattle.std.specs.Prelude.{◌≡◌, ◌≢◌, ◌<◌, ◌≤ℤ◌, ◌⊎◌, ℕ, ℤ, pos, negsuc, Bool, true, false, Option, None, Some, List, cond}
+use Rattle.std.specs.Prelude.{◌≡◌, ◌≢◌, ◌<◌, ◌≤ℤ◌, ◌⊎◌, ℕ, ℤ, pos, negsuc, true, Option, None, Some, List, cond}
 use Rattle.std.specs.Prelude.{length, slice_index, slice_index_or, unsigned_abs}
 use Rattle.amd_model.specs.Input.Columns.{at}
 use Rattle.amd_postorder.specs.Trees.{IsForest, IsPostorderOf, is_element, tree_of}

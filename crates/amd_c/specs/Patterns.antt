@@ -1,6 +1,6 @@
 -- What the calls for the degrees and for the row form of a matrix leave in a caller's arrays, and which number they
 -- answer.
-use Rattle.std.specs.Prelude.{◌≡◌, ◌≢◌, ◌+◌, ◌<◌, ◌++◌, ℕ, ℤ, pos, List, Result, Ok, Err, drop, length, map}
+use Rattle.std.specs.Prelude.{◌≡◌, ◌+◌, ◌<◌, ◌++◌, ℕ, ℤ, pos, List, Result, Ok, Err, drop, length, map}
 use Rattle.std.specs.Prelude.{unsigned_abs}
 use Rattle.amd_model.specs.Input.Columns.{IsInput, IsSortedInput}
 use Rattle.amd_input.specs.Degrees.{AreDegrees}

@@ -122,7 +122,11 @@ fn parent_of(e: usize, parent: &[isize], nv: &[isize]) -> Option<usize>
 /// # Errors
 ///
 /// `OutOfMemory` where a request was refused.
-fn parents_of(alloc: Global, parent: &[isize], nv: &[isize]) -> Result<Vec<Option<usize>, Global>, Status>
+fn parents_of(
+    alloc: Global,
+    parent: &[isize],
+    nv: &[isize],
+) -> Result<Vec<Option<usize>, Global>, Status>
     requires nv { length nv.now ≡ length parent.now }
     ensures parents { IfOk result (λ v. AreParents parent.now nv.now v.items) }
     ensures refused { IfErr result (λ e. e ≡ Status.OutOfMemory) }
@@ -181,7 +185,12 @@ fn has_no_cycle(alloc: Global, above: &[Option<usize>]) -> Result<bool, Status>
 /// # Errors
 ///
 /// `OutOfMemory` where a request was refused.
-fn is_forest(alloc: Global, parent: &[isize], nv: &[isize], f_size: &[isize]) -> Result<bool, Status>
+fn is_forest(
+    alloc: Global,
+    parent: &[isize],
+    nv: &[isize],
+    f_size: &[isize],
+) -> Result<bool, Status>
     requires nv { length nv.now ≡ length parent.now }
     requires f_size { length f_size.now ≡ length parent.now }
     requires room { length parent.now < 2 ^ 63 }

@@ -2,10 +2,12 @@
 // is that of the AMD user guide.
 
 use crate::int32::{
-    rimopaku_columns_i32, rimopaku_order_holding_i32, rimopaku_order_i32, rimopaku_valid_i32,
+    rimopaku_aat_i32, rimopaku_columns_i32, rimopaku_order_holding_i32, rimopaku_order_i32,
+    rimopaku_postorder_i32, rimopaku_preprocess_i32, rimopaku_valid_i32,
 };
 use crate::int64::{
-    rimopaku_columns_i64, rimopaku_order_holding_i64, rimopaku_order_i64, rimopaku_valid_i64,
+    rimopaku_aat_i64, rimopaku_columns_i64, rimopaku_order_holding_i64, rimopaku_order_i64,
+    rimopaku_postorder_i64, rimopaku_preprocess_i64, rimopaku_valid_i64,
 };
 use crate::records::{Parameters, Statistics, statistics_of};
 use crate::rimopaku_defaults;
@@ -311,4 +313,72 @@ fn no_rows(rt: HostRuntime) {
     let mut ptr = [-5i64];
     let written = rimopaku_columns_i64(rt.alloc(), 0, &[7], &[], &[], &mut ptr, &mut [], &mut []);
     assert!(rt; written == 0 && ptr == [0]);
+}
+
+#[test]
+fn degrees_and_rows(rt: HostRuntime) {
+    let a_p = [0, 2, 6, 10, 12, 14];
+    let a_i = [0, 1, 0, 1, 2, 4, 1, 2, 3, 4, 2, 3, 1, 4];
+    let mut degrees = [-5; 5];
+    let mut told = blank();
+    let number = rimopaku_aat_i32(rt.alloc(), 5, &a_p, &a_i, &mut degrees, &mut told);
+    assert!(rt; number == 0 && degrees == [1, 3, 3, 1, 2] && !told.symmetry);
+    assert!(rt; numbers_of(&told) == [5, 14, 5, 10, 0, 0, 0, 0, 0, 0, 0]);
+    let mut pointers = [-5; 6];
+    let mut indices = [-5; 15];
+    let written = rimopaku_preprocess_i32(rt.alloc(), 5, &a_p, &a_i, &mut pointers, &mut indices);
+    assert!(rt; written == 0 && pointers == [0, 2, 6, 9, 11, 14]);
+    assert!(rt; indices == [0, 1, 0, 1, 2, 4, 1, 2, 3, 2, 3, 1, 2, 4, -5]);
+}
+
+#[test]
+fn a_jumbled_matrix_has_rows_and_no_degrees(rt: HostRuntime) {
+    let a_p = [0i64, 3, 3, 4];
+    let a_i = [2i64, 0, 2, 1, -5, 77];
+    let mut degrees = [-5; 3];
+    let mut told = blank();
+    let number = rimopaku_aat_i64(rt.alloc(), 3, &a_p, &a_i, &mut degrees, &mut told);
+    assert!(rt; number == -2 && degrees == [-5; 3] && told.n == 77);
+    let mut pointers = [-5; 4];
+    let mut indices = [-5; 3];
+    let small = rimopaku_preprocess_i64(
+        rt.alloc(),
+        3,
+        &a_p,
+        &a_i,
+        &mut pointers,
+        &mut indices[..2],
+    );
+    assert!(rt; small == -4 && pointers == [-5; 4] && indices == [-5; 3]);
+    let written = rimopaku_preprocess_i64(rt.alloc(), 3, &a_p, &a_i, &mut pointers, &mut indices);
+    assert!(rt; written == 0 && pointers == [0, 1, 2, 3] && indices == [0, 2, 0]);
+}
+
+#[test]
+fn a_forest(rt: HostRuntime) {
+    let parent = [3, 4, -1, 4, -1];
+    let nv = [1, 1, 0, 1, 2];
+    let f_size = [2, 5, 0, 3, 2];
+    let mut order = [-5; 5];
+    let number = rimopaku_postorder_i32(rt.alloc(), 5, &parent, &nv, &f_size, &mut order);
+    assert!(rt; number == 0 && order == [0, 2, -1, 1, 3]);
+    let mut places = [-5i64; 2];
+    let above = [-1i64, 0];
+    let rows = [1i64, 1];
+    let wide = rimopaku_postorder_i64(rt.alloc(), 2, &above, &rows, &rows, &mut places);
+    assert!(rt; wide == 0 && places == [1, 0]);
+}
+
+#[test]
+fn lists_that_are_no_forest(rt: HostRuntime) {
+    let ones = [1, 1, 1];
+    let mut order = [-5; 3];
+    let circle = rimopaku_postorder_i32(rt.alloc(), 3, &[1, 0, -1], &ones, &ones, &mut order);
+    let itself = rimopaku_postorder_i32(rt.alloc(), 3, &[-1, -1, 2], &ones, &ones, &mut order);
+    let beyond = rimopaku_postorder_i32(rt.alloc(), 3, &[3, -1, -1], &ones, &ones, &mut order);
+    let below = rimopaku_postorder_i32(rt.alloc(), 3, &[-2, -1, -1], &ones, &ones, &mut order);
+    let none = rimopaku_postorder_i32(rt.alloc(), 3, &[1, -1, -1], &[1, 0, 1], &ones, &mut order);
+    let size = rimopaku_postorder_i32(rt.alloc(), 3, &[1, -1, -1], &ones, &[1, -1, 1], &mut order);
+    let short = rimopaku_postorder_i32(rt.alloc(), 3, &[1, -1], &ones, &ones, &mut order);
+    assert!(rt; [circle, itself, beyond, below, none, size, short] == [-2; 7] && order == [-5; 3]);
 }

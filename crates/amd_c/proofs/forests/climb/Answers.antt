@@ -1,5 +1,5 @@
 -- A climb ends at a place without one above it, at the mark of an earlier walk, or at a mark of its own.
-use Rattle.std.proofs.Common.{◌≡◌, inl, inr, not, ap, arith, get_or}
+use Rattle.std.proofs.Common.{inl, inr, not, ap, arith, get_or}
 use Rattle.std.proofs.lemmas.Bool.{cases_eq, ne_eqb}
 use Rattle.amd_c.proofs.WalksUp.{climb_more, climb_tops, climb_meets, climb_turns, fewer_unmarked, other_of}
 use Rattle.amd_c.proofs.forests.climb.Goals as goal

@@ -1,5 +1,5 @@
 -- With no mark there is nothing to rise, and with all marks everything rises.
-use Rattle.std.proofs.Common.{◌≡◌, ◌<◌, arith, length, refl}
+use Rattle.std.proofs.Common.{arith, length, refl}
 use Rattle.amd_input.proofs.Counting.{zeros_of}
 use Rattle.amd_c.proofs.WalksUp.{above_within}
 use Rattle.amd_c.proofs.forests.has_no_cycle.Goals as goal
@@ -19,9 +19,11 @@ places-init c =
 
 pub returns : goal.returns
 returns c =
-    let i = c.places.invariant in
-    (λ _. record {
-      rank = i.rise.rank;
-      rises = λ e p is. (i.rise.rises e p (i.done e (let l = above_within c.args.above.now e p is in let t = c.places-test.false in
-          omega (arith, l, t))) is).1;
-    }, λ _. refl)
+    let i = c.places.invariant in (
+      λ _. record {
+        rank = i.rise.rank;
+        rises = λ e p is. (i.rise.rises e p (i.done e (let l = above_within c.args.above.now e p is in let t = c.places-test.false in
+            omega (arith, l, t))) is).1;
+      },
+      λ _. refl,
+    )

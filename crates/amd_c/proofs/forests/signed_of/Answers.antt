@@ -1,5 +1,5 @@
 -- The numbers so far are the values so far.
-use Rattle.std.proofs.Common.{◌≡◌, ◌<◌, ◌++◌, ◌∷◌, [], map, pos, take, length, arith, sym, ◌∙◌, ap, rules, SFits, w64}
+use Rattle.std.proofs.Common.{◌<◌, ◌++◌, ◌∷◌, [], map, pos, take, length, arith, sym, ◌∙◌, ap, rules, SFits, w64}
 use Rattle.std.proofs.lemmas.Int.{to_z-of_z}
 use Rattle.std.proofs.lemmas.List.{length-map, take_more}
 use Rattle.amd_c.proofs.forests.signed_of.Goals as goal
