@@ -93,7 +93,8 @@ fn count_class<S: Signed, U: Unsigned>(
     me: usize,
     aggressive: bool,
 )
-    requires { CanCountClass S.MOST U.MOST me iw.now pe.old e_len.now nv.now degree.now w.old head.old sides.old i flag }
+    requires { CanCountClass S.MOST U.MOST me iw.now pe.old e_len.now nv.now degree.now w.old head.old sides.old i
+        flag }
     ensures { CountsClass aggressive flag (size_of nv.now i) me i (elements_in iw.now pe.old e_len.now i) degree.now
         pe.old w.old head.old sides.old pe.new w.new head.new sides.new }
 {

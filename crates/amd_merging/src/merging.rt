@@ -292,8 +292,8 @@ pub fn merge_front<S: Signed, U: Unsigned>(
 ) -> usize
     requires { CanMergeFront S.MOST U.MOST from count flag iw.now pe.old e_len.old nv.old len.now w.old hash.old
         sides.old }
-    ensures { MergesClasses from count flag iw.now pe.old e_len.old nv.old len.now w.old sides.old pe.new e_len.new nv.new
-        w.new hash.new sides.new result }
+    ensures { MergesClasses from count flag iw.now pe.old e_len.old nv.old len.now w.old sides.old pe.new e_len.new
+        nv.new w.new hash.new sides.new result }
 {
     if count < 2 {
         return flag;
