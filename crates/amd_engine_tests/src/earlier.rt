@@ -1,7 +1,7 @@
-// The place of each row in an order, and the lists of the earlier neighbours of each place: of matrices with repeats,
-// out of order and without mirrors, with orders that are none, and with refused memory. The lists were worked by hand.
+// The place of each row in an order, and the lists of the earlier and of the later neighbours of each place: of
+// matrices with repeats, out of order and without mirrors, with orders that are none, and with refused memory. The lists were worked by hand.
 
-use amd_earlier::lists::{Lists, earlier_lists};
+use amd_earlier::lists::{Lists, earlier_lists, later_lists};
 use amd_earlier::places::places;
 use amd_input::valid::valid;
 use amd_testing::check;
@@ -12,8 +12,8 @@ use std::alloc::{AllocError, Allocator, Global};
 use std::process::Abort;
 use std::test::Fail;
 
-/// A matrix, an order of its rows, and the list of each place, rising, in which a place stands once for each entry that
-/// joins the two.
+/// A matrix, an order of its rows, and the lists of each place, rising, in which a place stands once for each entry that
+/// joins the two: those of the earlier places, and those of the later ones.
 #[derive(Drop)]
 struct Case<'a> {
     what: &'a str,
@@ -21,7 +21,8 @@ struct Case<'a> {
     a_p: &'a [i64],
     a_i: &'a [i64],
     p: &'a [i64],
-    lists: &'a [&'a [usize]],
+    earlier: &'a [&'a [usize]],
+    later: &'a [&'a [usize]],
 }
 
 /// Matrices with their lists.
@@ -32,7 +33,8 @@ static MATRICES: [Case<'static>; 5] = [
         a_p: &[0, 2, 3, 4, 4],
         a_i: &[1, 3, 2, 3],
         p: &[3, 0, 1, 2],
-        lists: &[&[], &[0], &[1], &[0, 2]],
+        earlier: &[&[], &[0], &[1], &[0, 2]],
+        later: &[&[1, 3], &[2], &[3], &[]],
     },
     Case {
         what: "the five-row matrix of the demo, one entry without its mirror",
@@ -40,7 +42,8 @@ static MATRICES: [Case<'static>; 5] = [
         a_p: &[0, 2, 6, 10, 12, 14],
         a_i: &[0, 1, 0, 1, 2, 4, 1, 2, 3, 4, 2, 3, 1, 4],
         p: &[0, 3, 2, 4, 1],
-        lists: &[&[], &[], &[1, 1], &[2], &[0, 0, 2, 2, 3, 3]],
+        earlier: &[&[], &[], &[1, 1], &[2], &[0, 0, 2, 2, 3, 3]],
+        later: &[&[4, 4], &[2, 2], &[3, 4, 4], &[4, 4], &[]],
     },
     Case {
         what: "repeats above the diagonal",
@@ -48,7 +51,8 @@ static MATRICES: [Case<'static>; 5] = [
         a_p: &[0, 0, 3],
         a_i: &[0, 1, 0],
         p: &[1, 0],
-        lists: &[&[], &[0, 0]],
+        earlier: &[&[], &[0, 0]],
+        later: &[&[1, 1], &[]],
     },
     Case {
         what: "a column that is out of order",
@@ -56,7 +60,8 @@ static MATRICES: [Case<'static>; 5] = [
         a_p: &[0, 3, 3, 3],
         a_i: &[2, 0, 1],
         p: &[1, 2, 0],
-        lists: &[&[], &[], &[0, 1]],
+        earlier: &[&[], &[], &[0, 1]],
+        later: &[&[2], &[2], &[]],
     },
     Case {
         what: "one row, and numbers behind the end",
@@ -64,16 +69,17 @@ static MATRICES: [Case<'static>; 5] = [
         a_p: &[0, 1, 7],
         a_i: &[0, 9],
         p: &[0],
-        lists: &[&[]],
+        earlier: &[&[]],
+        later: &[&[]],
     },
 ];
 
-/// The lists of a case, where memory suffices.
+/// The lists of the earlier and of the later places of a case, where memory suffices.
 fn lists_of<A: Allocator + Copy>(
     rt: &impl Abort,
     alloc: A,
     case: &Case,
-) -> Result<Lists<A>, AllocError> {
+) -> Result<(Lists<A>, Lists<A>), AllocError> {
     let (n, a_p, a_i) = (case.n, case.a_p, case.a_i);
     let Some(size) = to_count(n) else {
         panic!(rt; "a negative number of rows");
@@ -82,13 +88,15 @@ fn lists_of<A: Allocator + Copy>(
     let Some(places) = places(alloc, size, case.p)? else {
         panic!(rt; "no order: {}", case.what);
     };
-    earlier_lists(alloc, size, a_p, a_i, &places)
+    let earlier = earlier_lists(alloc, size, a_p, a_i, &places)?;
+    let later = later_lists(alloc, size, a_p, a_i, &places)?;
+    Ok((earlier, later))
 }
 
-/// Whether the lists are those of a case. They are sorted to see it.
-fn are_lists<A: Allocator>(case: &Case, lists: &mut Lists<A>) -> bool {
+/// Whether the lists are these. They are sorted to see it.
+fn are_lists<A: Allocator>(wanted: &[&[usize]], lists: &mut Lists<A>) -> bool {
     let mut end = 0usize;
-    for (k, want) in case.lists.iter().enumerate() {
+    for (k, want) in wanted.iter().enumerate() {
         let begin = end;
         end = end.saturating_add(want.len());
         if lists.starts.get(k) != Some(&begin) || lists.neighbours.len() < end || end < begin {
@@ -100,18 +108,20 @@ fn are_lists<A: Allocator>(case: &Case, lists: &mut Lists<A>) -> bool {
             return false;
         }
     }
-    lists.starts.len() == case.lists.len().saturating_add(1)
+    lists.starts.len() == wanted.len().saturating_add(1)
         && lists.starts.last() == Some(&end)
         && lists.neighbours.len() == end
 }
 
 /// Asserts that the lists are those of a case.
-fn check<A: Allocator>(rt: &impl Abort, case: &Case, lists: &mut Lists<A>) {
-    check!(rt; are_lists(case, lists), case.what);
+fn check<A: Allocator>(rt: &impl Abort, case: &Case, lists: &mut (Lists<A>, Lists<A>)) {
+    let (earlier, later) = lists;
+    check!(rt; are_lists(case.earlier, earlier), case.what);
+    check!(rt; are_lists(case.later, later), case.what);
 }
 
 #[test]
-fn lists_of_earlier_neighbours(rt: HostRuntime) -> Result<(), Fail> {
+fn lists_of_neighbours(rt: HostRuntime) -> Result<(), Fail> {
     for case in &MATRICES {
         let mut lists = lists_of(&rt, rt.alloc(), case)?;
         check(&rt, case, &mut lists);
@@ -134,7 +144,7 @@ fn makes(rt: &impl Abort, heap: &Refusing<Global>, case: &Case) -> bool {
 fn each_request_of_the_lists(rt: HostRuntime) {
     for case in &MATRICES {
         match each_refused(rt.alloc(), |heap| makes(&rt, heap, case)) {
-            Ok(refusals) => check!(&rt; 2 <= refusals, case.what),
+            Ok(refusals) => check!(&rt; 3 <= refusals, case.what),
             Err(slip) => panic!(rt; "{}: {slip:?}", case.what),
         }
     }

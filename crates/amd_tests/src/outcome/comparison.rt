@@ -155,6 +155,7 @@ fn cycles(rt: HostRuntime) -> Result<(), Fail> {
     Ok(())
 }
 
+/// Under the rows as they stand the first of each two is eliminated from its centre.
 #[test]
 fn stars(rt: HostRuntime) -> Result<(), Fail> {
     for n in 2..=20 {
