@@ -7,7 +7,7 @@ ghost use Rattle.amd_factor.specs.Columns.{HoldFactor, PassesRoom};
 ghost use Rattle.amd_factor.specs.Earlier.{Order};
 ghost use Rattle.amd_factor.specs.Later.{HasLater};
 
-use crate::columns::{Marked, add_column};
+use crate::column::{Marked, add_column};
 
 /// Writes the columns of the factor of a graph under an order of its rows, and returns the number of their entries;
 /// none, exactly where there are more entries than `rows` has places.

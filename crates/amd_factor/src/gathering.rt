@@ -1,4 +1,4 @@
-// The rows that are new in a column, each found once by its mark. Called by `columns`.
+// The rows that are new in a column, each found once by its mark. Called by `column`.
 
 ghost use Rattle.std.specs.Prelude.{ℕ, List, ◌≡◌, ◌<◌, ◌≤◌, ◌+◌, Contains, length, slice_index, take};
 ghost use Rattle.amd_factor.specs.Gathering.{Column, EntryOf, Marks};

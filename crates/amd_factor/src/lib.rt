@@ -4,7 +4,7 @@
 ghost use Rattle.amd_factor.specs.Trees.{ColumnsByChildren, RowsAreSubtrees};
 
 pub mod climb;
-pub mod columns;
+pub mod column;
 pub mod fill;
 pub mod gathering;
 pub mod links;

@@ -1,6 +1,6 @@
 use Rattle.std.proofs.Common.{◌+◌, arith}
 use Rattle.amd_factor.proofs.Tails.{tail_begins, tail_ends, tail_rises, tail_has}
-use Rattle.amd_factor.proofs.columns.inherited.Goals as goal
+use Rattle.amd_factor.proofs.column.inherited.Goals as goal
 
 pub overflow_add-result : goal.overflow_add-result
 overflow_add-result g c =

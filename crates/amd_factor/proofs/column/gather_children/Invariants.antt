@@ -3,7 +3,7 @@ use Rattle.std.specs.Prelude.{slice_index}
 use Rattle.amd_factor.specs.Trees.{Entry}
 use Rattle.amd_factor.specs.Gathering.{IsChild, Marks}
 use Rattle.amd_factor.proofs.Descent.{IsAhead, LeadsTo, steps_left}
-use Rattle.amd_factor.proofs.columns.gather_children.Given as goal
+use Rattle.amd_factor.proofs.column.gather_children.Given as goal
 
 abbrev pub ghost-gather : goal.ghost-gather
 ghost-gather g a = g.c

@@ -5,8 +5,8 @@ use Rattle.amd_factor.specs.Trees.{Entry}
 use Rattle.amd_factor.specs.Gathering.{IsChild, IsLastChild}
 use Rattle.amd_factor.proofs.Children.{entry_by_child}
 use Rattle.amd_factor.proofs.Descent.{IsAhead, LeadsTo, ahead_past, leads}
-use Rattle.amd_factor.proofs.columns.gather_children.Goals as goal
-use Rattle.amd_factor.proofs.columns.gather_children.Goals.{then-child-base, else-child-base}
+use Rattle.amd_factor.proofs.column.gather_children.Goals as goal
+use Rattle.amd_factor.proofs.column.gather_children.Goals.{then-child-base, else-child-base}
 
 pub inherited-from-requires : goal.inherited-from-requires
 inherited-from-requires g c =

@@ -1,6 +1,6 @@
 use Rattle.std.specs.Prelude.{slice_range}
 use Rattle.std.proofs.Common.{[]}
-use Rattle.amd_factor.proofs.columns.add_column.Given as goal
+use Rattle.amd_factor.proofs.column.add_column.Given as goal
 
 abbrev pub ghost-greatest_child : goal.ghost-greatest_child
 ghost-greatest_child g a = record { order = g.o; place = a.k; inherited = [] }

@@ -2,7 +2,7 @@ use Rattle.std.proofs.Common.{◌+◌, [], subst, sym, arith}
 use Rattle.std.specs.Prelude.{Contains}
 use Rattle.amd_factor.specs.Gathering.{Marks}
 use Rattle.amd_factor.proofs.Tails.{inherited_behind, marks_begin}
-use Rattle.amd_factor.proofs.columns.mark_base.Goals as goal
+use Rattle.amd_factor.proofs.column.mark_base.Goals as goal
 
 pub mark_rows-requires : goal.mark_rows-requires
 mark_rows-requires g c = record {

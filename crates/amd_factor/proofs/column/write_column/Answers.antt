@@ -4,7 +4,7 @@ use Rattle.amd_factor.specs.Merging.{merged}
 use Rattle.std.proofs.lemmas.List.Edits.{length-between}
 use Rattle.amd_factor.proofs.Merging.{merged_is}
 use Rattle.amd_factor.proofs.Tails.{range_middle, range_take}
-use Rattle.amd_factor.proofs.columns.write_column.Goals as goal
+use Rattle.amd_factor.proofs.column.write_column.Goals as goal
 
 pub returns-clause-column : goal.returns-clause-column
 returns-clause-column c =

@@ -5,7 +5,7 @@ use Rattle.amd_model.specs.Factor.{IsColumn}
 use Rattle.amd_factor.specs.Merging.{merged}
 use Rattle.amd_factor.proofs.Merging.{merged_is}
 use Rattle.amd_factor.proofs.Standing.{merged_column, passes_room, hold_same, tell_same}
-use Rattle.amd_factor.proofs.columns.add_column.Goals as goal
+use Rattle.amd_factor.proofs.column.add_column.Goals as goal
 
 pub returns-in_default : goal.returns-in_default
 returns-in_default g c =

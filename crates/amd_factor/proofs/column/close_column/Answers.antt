@@ -2,7 +2,7 @@ use Rattle.std.proofs.Common.{◌∙◌, sym}
 use Rattle.std.specs.Prelude.{slice_index, slice_range}
 use Rattle.amd_factor.proofs.Descent.{links_skip}
 use Rattle.amd_factor.proofs.Standing.{hold_next, tell_first_next, first_get, first_parent, no_parent}
-use Rattle.amd_factor.proofs.columns.close_column.Goals as goal
+use Rattle.amd_factor.proofs.column.close_column.Goals as goal
 
 pub link_child-requires : goal.link_child-requires
 link_child-requires g c =

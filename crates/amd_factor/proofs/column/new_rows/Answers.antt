@@ -5,7 +5,7 @@ use Rattle.std.proofs.lemmas.List.Sorted.{IsNonDecreasingBy-from_sort}
 use Rattle.amd_factor.specs.Gathering.{Completes}
 use Rattle.amd_factor.proofs.Completing.{all_marked, base_marked, completes_alone, inherited_gives, neighbour_gives, tell_next}
 use Rattle.amd_factor.proofs.NewRows.{completes}
-use Rattle.amd_factor.proofs.columns.new_rows.Goals as goal
+use Rattle.amd_factor.proofs.column.new_rows.Goals as goal
 
 pub returns-then-not-tells-clause-completes : goal.returns-then-not-tells-clause-completes
 returns-then-not-tells-clause-completes g c =

@@ -1,4 +1,4 @@
-use Rattle.amd_factor.proofs.columns.new_rows.Given as goal
+use Rattle.amd_factor.proofs.column.new_rows.Given as goal
 
 abbrev pub ghost-has_only_child : goal.ghost-has_only_child
 ghost-has_only_child g a = g.c
