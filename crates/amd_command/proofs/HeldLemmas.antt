@@ -7,7 +7,7 @@ use Rattle.std.proofs.lemmas.List.{length-replicate, length-set, get_or-set_same
 use Rattle.std.proofs.lemmas.List.Elements.{Contains-append_left, Contains-append_right, Contains-append_cases}
 use Rattle.amd_cases.specs.Reading.{BeginsWith}
 use Rattle.amd_cases.proofs.ReadingLemmas.{end-append}
-use Rattle.amd_market.specs.Lines.{TakesLines, TakesTelling, TakesNotes, telling}
+use Rattle.amd_market.specs.Lines.{TakesLines, TakesTelling, TakesNotes, telling, rest_of}
 use Rattle.amd_market.proofs.LineLemmas.{takes-append, takes-none, telling-both}
 use Rattle.amd_market.specs.declared.lines.LineReader.{LineReader}
 use Rattle.amd_command.specs.Held.{SpellsRow, SpellsRows, AreMarks, MarksRows}
@@ -100,11 +100,11 @@ held-next remaining a b c n marks line row h t one = record {
 
 -- all lines were read
 pub held-whole : {R Z : Type 0} (remaining : R → Option (List ℕ)) (a b c : LineReader R Z) (input : R) (n : ℕ) (marks : List Bool) →
-    a.input ≡ input
+    rest_of remaining a ≡ remaining input
     → HeldSoFar remaining a b n marks → TakesNotes remaining b c → IfSome (remaining input) (λ bytes. MarksRows bytes n marks)
 held-whole remaining a b c input n marks same h end =
     let whole = takes-append remaining a b c h.lines end.lines h.takes end.takes in
-    rw (← same) (known (remaining a.input) (remaining b.input) (remaining c.input) h.takes.took whole.took end.end)
+    rw (← same) (known (rest_of remaining a) (rest_of remaining b) (rest_of remaining c) h.takes.took whole.took end.end)
   where
     made : (bytes : List ℕ) → BeginsWith (h.lines ++ end.lines) bytes (Some []) → MarksRows bytes n marks
     made bytes k = record {

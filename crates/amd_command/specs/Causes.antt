@@ -5,19 +5,31 @@ use Rattle.amd_market.specs.declared.faults.Fault.TheVariants as fault
 use Rattle.amd_market.specs.declared.faults.ReadError.{ReadError}
 use Rattle.amd_market.specs.declared.faults.ReadError.TheVariants.{Line, Input}
 use Rattle.amd_command.specs.declared.causes.Cause.{Cause}
-use Rattle.amd_command.specs.declared.causes.Cause.TheVariants.{Dense, Open, Text, Form, Memory, Write, Picture}
+use Rattle.amd_command.specs.declared.causes.Cause.TheVariants.{Dense, Open, Twice, Text, Form, Memory, Write, Picture}
 
 -- the exit status after a fault of a line: 1 where memory was refused, else 2
 abbrev pub fault_status : Fault → ℕ
 fault_status fault.OutOfMemory = 1
-fault_status fault.Header = 2
+fault_status fault.Empty = 2
+fault_status fault.Gzip = 2
+fault_status fault.Banner = 2
+fault_status fault.Object = 2
+fault_status fault.Dense = 2
+fault_status fault.Format = 2
+fault_status fault.Field = 2
+fault_status fault.Symmetry = 2
 fault_status fault.Size = 2
-fault_status fault.NotSquare = 2
-fault_status fault.Rows = 2
+fault_status (fault.NotSquare rows columns) = 2
 fault_status fault.Entry = 2
-fault_status fault.Row = 2
-fault_status fault.Missing = 2
-fault_status fault.More = 2
+fault_status (fault.Row number rows) = 2
+fault_status (fault.Column number columns) = 2
+fault_status fault.NoValue = 2
+fault_status fault.Words = 2
+fault_status fault.Value = 2
+fault_status fault.Held = 2
+fault_status (fault.Missing found told) = 2
+fault_status (fault.More told) = 2
+fault_status fault.Long = 2
 fault_status fault.Lines = 2
 
 -- the exit status after a text that was not read
@@ -30,6 +42,7 @@ read_status (Input line e) = 2
 abbrev pub exit_status : Cause → ℕ
 exit_status Dense = 2
 exit_status (Open e) = 2
+exit_status Twice = 2
 exit_status (Text e) = read_status e
 exit_status Form = 2
 exit_status Memory = 1

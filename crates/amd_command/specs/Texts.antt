@@ -23,8 +23,8 @@ matrix_figures i =
     labelled (codes "rows") (decimal i.n)
     ++ labelled (codes "entries") (decimal i.nz)
     ++ labelled (codes "status") (status_word i.status)
-    ++ labelled (codes "dense rows, held last") (decimal i.n_dense)
-    ++ labelled (codes "garbage collections") (decimal i.n_cmp_a)
+    ++ labelled (codes "rows placed last (dense or held)") (decimal i.n_dense)
+    ++ labelled (codes "workspace compactions") (decimal i.n_cmp_a)
 
 -- the lines on the factor
 abbrev pub factor_figures : Info → List ℕ

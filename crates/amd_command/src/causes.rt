@@ -19,6 +19,9 @@ pub enum Cause {
     /// A file could not be opened.
     #[error("cannot be opened: {0}")]
     Open(io::Error),
+    /// An output is a file that the run reads, or writes besides.
+    #[error("is named twice: an output must be a file of its own")]
+    Twice,
     /// A text is wrong, or could not be read.
     #[error("{0}")]
     Text(ReadError),
@@ -43,13 +46,25 @@ impl Cause {
         ensures { result ≡ exit_status self.now }
     {
         match self {
-            Cause::Dense | Cause::Open(_) | Cause::Form => 2,
+            Cause::Dense | Cause::Open(_) | Cause::Twice | Cause::Form => 2,
             Cause::Text(ReadError::Line { fault, .. }) => {
-                if *fault == Fault::OutOfMemory { 1 } else { 2 }
+                if matches!(fault, Fault::OutOfMemory) {
+                    1
+                } else {
+                    2
+                }
             }
             Cause::Text(ReadError::Input { .. }) => 2,
             Cause::Memory | Cause::Write(_) => 1,
             Cause::Picture(_) => 3,
+        }
+    }
+
+    /// Whether the run ends without a message: what reads its output has gone.
+    pub fn is_quiet(&self) -> bool {
+        match self {
+            Cause::Write(error) => error.kind() == io::ErrorKind::BrokenPipe,
+            _ => false,
         }
     }
 
@@ -62,7 +77,7 @@ impl Cause {
                 Cause::Picture(error)
             }
             Cause::Memory => Cause::Picture(io::Error::from(io::ErrorKind::OutOfMemory)),
-            Cause::Dense | Cause::Text(_) | Cause::Form => {
+            Cause::Dense | Cause::Twice | Cause::Text(_) | Cause::Form => {
                 Cause::Picture(io::Error::from(io::ErrorKind::InvalidInput))
             }
         }

@@ -33,8 +33,8 @@ pub fn write_matrix_figures<W: Write>(info: &Info, out: &mut W) -> io::Result<()
     write_labelled("rows", &info.n, out)?;
     write_labelled("entries", &info.nz, out)?;
     write_labelled("status", &status, out)?;
-    write_labelled("dense rows, held last", &info.n_dense, out)?;
-    write_labelled("garbage collections", &info.n_cmp_a, out)?;
+    write_labelled("rows placed last (dense or held)", &info.n_dense, out)?;
+    write_labelled("workspace compactions", &info.n_cmp_a, out)?;
     Ok(())
 }
 

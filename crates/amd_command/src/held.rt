@@ -7,11 +7,11 @@ ghost use Rattle.amd_market.specs.Files.{NamesLine};
 ghost use Rattle.amd_command.specs.Held.{SpellsRow, MarksRows};
 
 use amd_cases::words::first_word;
-use amd_market::entries::index_of;
+use amd_market::entries::{index_of, row_fault};
 use amd_market::faults::{Fault, ReadError};
 use amd_market::lines::LineReader;
 use std::alloc::Allocator;
-use std::io::BufRead;
+use std::io::Read;
 
 /// The row of `n`, from 0 on, whose number stands alone in a line.
 fn row_of(line: &[u8], n: usize) -> Option<usize>
@@ -24,13 +24,21 @@ fn row_of(line: &[u8], n: usize) -> Option<usize>
     index_of(word, n)
 }
 
+/// What is wrong with a line that is no row of `n`.
+fn held_fault(line: &[u8], n: usize) -> Fault {
+    match first_word(line) {
+        Some((word, rest)) if first_word(rest).is_none() => row_fault(word, n),
+        _ => Fault::Held,
+    }
+}
+
 /// The marks of `n` rows: those that a text lists are marked.
 ///
 /// # Errors
 ///
 /// `Line` for a line at fault or refused memory; `Input` where the input cannot be read. Each names the line that was
 /// read last.
-pub fn read_held<R: BufRead + Drop, A: Allocator + Copy>(
+pub fn read_held<R: Read + Drop, A: Allocator + Copy>(
     alloc: A,
     n: usize,
     input: R,
@@ -48,7 +56,7 @@ pub fn read_held<R: BufRead + Drop, A: Allocator + Copy>(
             return Ok(marks);
         }
         let Some(row) = row_of(lines.line(), n) else {
-            return Err(lines.at_line(Fault::Row));
+            return Err(lines.at_line(held_fault(lines.line(), n)));
         };
         marks[row] = true;
     }

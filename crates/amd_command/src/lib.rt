@@ -3,8 +3,8 @@
 //! its arguments.
 //!
 //! What is read, ordered and written stands in functions over readers and writers, with contracts. What is tested
-//! alone: the words of the command line (`request`), the files that are opened and the messages (`program`), and the
-//! picture (`picture`, `grids`).
+//! alone: the words of the command line (`request`), the files that are opened and written and the messages (`program`,
+//! `places`), and the picture (`picture`, `grids`).
 #![tactic(auto)]
 
 pub mod analysis;
@@ -15,6 +15,7 @@ pub mod grids;
 pub mod held;
 pub mod ordering;
 pub mod picture;
+pub mod places;
 pub mod program;
 pub mod progress;
 pub mod request;

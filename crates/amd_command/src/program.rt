@@ -10,6 +10,7 @@ use crate::figures::write_figures;
 use crate::held::read_held;
 use crate::ordering::order_matrix;
 use crate::picture::write_picture;
+use crate::places::{name_one_file, put_file};
 use crate::progress::Progress;
 use crate::request::{Options, Request, request_of};
 use crate::rows::write_rows;
@@ -19,7 +20,7 @@ use clap::Error;
 use clap::error::ErrorKind;
 use std::alloc::Global;
 use std::fs::OpenFile;
-use std::io::{BufReader, Write};
+use std::io::Write;
 use std::rt::Runtime;
 use std::{fs, io};
 use thiserror::Error;
@@ -78,13 +79,13 @@ fn open_file<R: Runtime + AllocGlobal>(
     rt: &R,
     progress: &Progress,
     path: &str,
-) -> Result<BufReader<R::File>, Cause> {
+) -> Result<R::File, Cause> {
     let file = fs::open(rt, path).map_err(Cause::Open)?;
     let size = file.metadata().map_err(Cause::Open)?.len();
     let megabytes = size >> 20;
     let stage = format_args!("rimopaku: reading {path}, {megabytes} MiB");
     progress.tell(rt, size >= LONG_FILE, stage);
-    Ok(BufReader::new(rt.alloc(), file)?)
+    Ok(file)
 }
 
 /// Reads the matrix of a file, or of standard input for `-`.
@@ -94,8 +95,7 @@ fn read_file<R: Runtime + AllocGlobal>(
     path: &str,
 ) -> Result<Matrix<Global>, Cause> {
     if path == "-" {
-        let input = BufReader::new(rt.alloc(), rt.reader())?;
-        return read_matrix(rt.alloc(), input).map_err(Cause::Text);
+        return read_matrix(rt.alloc(), rt.reader()).map_err(Cause::Text);
     }
     let input = open_file(rt, progress, path)?;
     read_matrix(rt.alloc(), input).map_err(Cause::Text)
@@ -148,24 +148,20 @@ fn analysis_texts(alloc: Global, task: &Task) -> Result<Texts, Cause> {
     Ok(Texts { lines, figures })
 }
 
-/// Writes a text to a file.
-fn put_file<R: Runtime>(rt: &R, path: &str, text: &[u8]) -> Result<(), Cause> {
-    let mut out = fs::create(rt, path)?;
-    out.write_all(text)?;
-    out.flush()?;
-    Ok(())
-}
-
 /// Writes a text to a file, or to standard output where none is named.
-fn put_text<R: Runtime>(rt: &R, path: Option<&str>, text: &[u8]) -> Result<(), Cause> {
+fn put_text<R: Runtime + AllocGlobal>(
+    rt: &R,
+    path: Option<&str>,
+    text: &[u8],
+) -> Result<(), Cause> {
     match path {
         Some(path) => put_file(rt, path, text),
         None => Ok(io::writer(rt).write_all(text)?),
     }
 }
 
-/// Writes the texts on a file to where they belong. No memory is asked for here.
-fn put_texts<'a, R: Runtime>(
+/// Writes the texts on a file to where they belong. No memory is asked for once a byte is written.
+fn put_texts<'a, R: Runtime + AllocGlobal>(
     rt: &R,
     options: &Options<'a>,
     texts: Texts,
@@ -226,12 +222,40 @@ fn read_hold<'a, R: Runtime + AllocGlobal>(
     }
 }
 
+/// Refuses an output that is a file that the run reads or writes besides.
+fn check_output<'a, R: Runtime>(
+    rt: &R,
+    output: Option<&'a str>,
+    others: &[Option<&str>],
+) -> Result<(), Complaint<'a>> {
+    let Some(path) = output else {
+        return Ok(());
+    };
+    'others: for other in others {
+        if let Some(other) = *other {
+            if name_one_file(rt, path, other) {
+                return about(path, Err(Cause::Twice));
+            }
+        }
+    }
+    Ok(())
+}
+
+/// Refuses outputs that are one file with another output or an input.
+fn check_outputs<'a, R: Runtime>(rt: &R, options: &Options<'a>) -> Result<(), Complaint<'a>> {
+    let inputs = [Some(options.file), options.hold];
+    check_output(rt, options.out, &inputs)?;
+    check_output(rt, options.picture, &inputs)?;
+    check_output(rt, options.picture, &[options.out])
+}
+
 /// Reads what is to be ordered, and says so where it is large.
 fn read_task<'a, R: Runtime + AllocGlobal>(
     rt: &R,
     options: &Options<'a>,
 ) -> Result<Task, Complaint<'a>> {
     let control = control_of(options)?;
+    check_outputs(rt, options)?;
     let progress = Progress::begin(rt);
     let matrix = about(options.file, read_file(rt, &progress, options.file))?;
     let hold = read_hold(rt, &progress, options, matrix.n)?;
@@ -309,7 +333,8 @@ fn exit_status_of(error: &Error) -> u8 {
 
 /// Runs a command line, the first word of which is the name of the program, and answers the exit status: 0 where all
 /// was done, 1 where memory was refused or an output failed, 2 where an argument or an input is wrong, and 3 where the
-/// picture could not be drawn or written, but all else is. A message on standard error tells why it is not 0. With a
+/// picture could not be drawn or written, but all else is. A message on standard error tells why it is not 0, but for
+/// an output whose reader has gone. With a
 /// status of 2, and where memory was refused with a status of 1, no output is written; lines on standard error that
 /// tell of a long file or a large matrix may stand before the message.
 pub fn run<R: Runtime + AllocGlobal>(rt: &R, words: &[String]) -> u8 {
@@ -318,7 +343,9 @@ pub fn run<R: Runtime + AllocGlobal>(rt: &R, words: &[String]) -> u8 {
             Ok(()) => 0,
             Err(complaint) => {
                 let status = complaint.cause.exit_status();
-                let _ = rt.eprintln(complaint);
+                if !complaint.cause.is_quiet() {
+                    let _ = rt.eprintln(complaint);
+                }
                 status
             }
         },

@@ -5,6 +5,9 @@ use amd::Control;
 use clap::{Arg, ArgAction, ArgMatches, Command, Error};
 use std::alloc::{AllocError, Global};
 
+/// The version of the project.
+const VERSION: &str = "1.0.0";
+
 /// The words of a subcommand. Those that it does not know are as where they are not given.
 #[derive(Clone, Copy)]
 pub struct Options<'a> {
@@ -135,7 +138,7 @@ fn with_subcommand<'a>(
 /// The whole command.
 fn whole_command<'a>(alloc: Global) -> Result<Command<'a>, AllocError> {
     let command = Command::new(alloc, "rimopaku")
-        .version("0.1.0")
+        .version(VERSION)
         .about("Approximate minimum degree orderings of sparse matrices")
         .subcommand_required(true)
         .arg_required_else_help(true);

@@ -34,8 +34,8 @@ static ORDER: [usize; 20] = [
 const FIGURES: &str = "    rows                                                20
     entries                                             18
     status                                              OK
-    dense rows, held last                               1
-    garbage collections                                 0
+    rows placed last (dense or held)                    1
+    workspace compactions                               0
     entries of L below the diagonal, at most            20
     divisions, at most                                  20
     multiply-subtracts for LDL', at most                21
@@ -44,8 +44,8 @@ const FIGURES: &str = "    rows                                                2
     rows                                                20
     entries                                             18
     status                                              OK
-    dense rows, held last                               1
-    garbage collections                                 0
+    rows placed last (dense or held)                    1
+    workspace compactions                               0
     entries of L below the diagonal                     18, at most 20
     divisions                                           18, at most 20
     multiply-subtracts for LDL'                         18, at most 21

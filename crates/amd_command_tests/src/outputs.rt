@@ -63,8 +63,8 @@ const FIVE_COLUMNS: &str = "1 2 1\n4 3 1\n3 5 2\n5 2 1\n2 0 0\n";
 const FIVE_FIGURES: &str = "    rows                                                5
     entries                                             14
     status                                              OK
-    dense rows, held last                               0
-    garbage collections                                 0
+    rows placed last (dense or held)                    0
+    workspace compactions                               0
     entries of L below the diagonal                     5, at most 5
     divisions                                           5, at most 5
     multiply-subtracts for LDL'                         6, at most 6

@@ -1,0 +1,63 @@
+// The files that outputs go to. An output is written beside its place first and takes the place once it is whole, so that
+// nothing half written stands there; and it is no file that the run reads or writes besides. Called by `program`. Files
+// are tested alone: no contract can speak of them.
+
+use crate::causes::Cause;
+use std::fs;
+use std::io::{ErrorKind, Write};
+use std::os::unix::fs::MetadataExt;
+use std::rt::{Files, Runtime};
+
+/// The device and the number of the regular file that a path names, if it names one.
+fn number_of<R: Files>(rt: &R, path: &str) -> Option<(u64, u64)> {
+    let found = fs::metadata(rt, path).ok()?;
+    if found.is_file() {
+        Some((found.dev(), found.ino()))
+    } else {
+        None
+    }
+}
+
+/// Whether a path names a regular file, or nothing yet. A device or a pipe may be written to more than once.
+fn is_plain<R: Files>(rt: &R, path: &str) -> bool {
+    match fs::symlink_metadata(rt, path) {
+        Ok(found) => found.is_file(),
+        Err(error) => error.kind() == ErrorKind::NotFound,
+    }
+}
+
+/// Whether two paths name one file that is no device.
+pub fn name_one_file<R: Files>(rt: &R, first: &str, second: &str) -> bool {
+    match (number_of(rt, first), number_of(rt, second)) {
+        (Some(one), Some(other)) => one == other,
+        _ => first == second && is_plain(rt, first),
+    }
+}
+
+/// Writes a text to the file that a path names.
+fn write_through<R: Files>(rt: &R, path: &str, text: &[u8]) -> Result<(), Cause> {
+    let mut out = fs::create(rt, path)?;
+    out.write_all(text)?;
+    out.flush()?;
+    Ok(())
+}
+
+/// Writes a text beside a place, and moves it there.
+fn write_beside<R: Files>(rt: &R, beside: &str, path: &str, text: &[u8]) -> Result<(), Cause> {
+    write_through(rt, beside, text)?;
+    fs::rename(rt, beside, path)?;
+    Ok(())
+}
+
+/// Writes a text to a file, which has it whole or stays as it was. What is no regular file is written to as it is.
+pub fn put_file<R: Runtime + AllocGlobal>(rt: &R, path: &str, text: &[u8]) -> Result<(), Cause> {
+    if !is_plain(rt, path) {
+        return write_through(rt, path, text);
+    }
+    let beside = format!(in rt.alloc(); "{path}.rimopaku-part")?;
+    let outcome = write_beside(rt, beside.as_str(), path, text);
+    if outcome.is_err() {
+        let _ = fs::remove_file(rt, beside.as_str());
+    }
+    outcome
+}
