@@ -1,8 +1,8 @@
 /* rimopaku.h: the approximate minimum degree ordering (AMD) of sparse matrices, for C99 and C++11.
  *
- * The functions are in libamd_c.a, which `rt lib` makes in crates/amd_c; link it, and then liblibc_c.a of the kit. docs/USING.md says how.
- * Each is a thin call of a library whose contracts are proved. The proofs assume what the compiler cannot check, and what the caller must
- * therefore uphold:
+ * The functions are in librimopaku.a and librimopaku.so.1, which bindings/c/build makes of the proved archive libamd_c.a and liblibc_c.a of
+ * the kit; docs/USING.md says how. Each is a thin call of a library whose contracts are proved. The proofs assume what the compiler cannot
+ * check, and what the caller must therefore uphold:
  *
  *   - No pointer is NULL, even if its length is 0.
  *   - A pointer with a length LEN points to LEN numbers that may be read, and also written unless it is `const`.
@@ -149,8 +149,8 @@ int32_t rimopaku_preprocess_i64(int64_t n, const int64_t *a_p, size_t a_p_len, c
  * with the same parent come in ascending order, except that the last one of those with the largest front comes last. The roots come in
  * ascending order.
  *
- * Each length must be n. Returns RIMOPAKU_OK; or RIMOPAKU_INVALID exactly if a length is not n, or the lists are no forest: an element has a
- * negative front, or a parent that is neither -1 nor an element, or is above itself. After an error order is unchanged. */
+ * Each length must be n. Returns RIMOPAKU_OK; or RIMOPAKU_INVALID exactly if a length is not n, or the lists are no forest: an element has
+ * a negative front, or a parent that is neither -1 nor an element, or is above itself. After an error order is unchanged. */
 int32_t rimopaku_postorder_i32(int32_t n, const int32_t *parent, size_t parent_len, const int32_t *nv, size_t nv_len,
                                const int32_t *f_size, size_t f_size_len, int32_t *order, size_t order_len);
 int32_t rimopaku_postorder_i64(int64_t n, const int64_t *parent, size_t parent_len, const int64_t *nv, size_t nv_len,

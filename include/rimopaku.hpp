@@ -1,8 +1,8 @@
 /* rimopaku.hpp: the library rimopaku for C++11 and later, over the calls of rimopaku.h.
  *
  * Arrays are passed as views: a std::vector, a std::array, a std::span or whatever else has data() and size(), or a pointer and a length.
- * Results are std::vectors. The integers have 32 or 64 bits and a sign. What rimopaku.h says of each call holds here too; what is wrong with
- * an input is thrown as a Rimopaku::Error, and refused memory as std::bad_alloc. The calls are proved, and this header is tested.
+ * Results are std::vectors. The integers have 32 or 64 bits and a sign. What rimopaku.h says of each call holds here too; what is wrong
+ * with an input is thrown as a Rimopaku::Error, and refused memory as std::bad_alloc. The calls are proved, and this header is tested.
  *
  * rimopaku_eigen.hpp has an ordering for the solvers of Eigen. */
 
@@ -105,85 +105,83 @@ template <std::size_t size> struct Calls;
 
 template <> struct Calls<4> {
     typedef std::int32_t Integer;
-    static std::int32_t order(Integer n, View<Integer> a_p, View<Integer> a_i, const rimopaku_parameters &parameters, std::vector<Integer> &p,
-                              std::vector<Integer> &p_inv, rimopaku_statistics &statistics)
+    typedef std::vector<Integer> List;
+    typedef View<Integer> Numbers;
+    static std::int32_t order(Integer n, Numbers a_p, Numbers a_i, const rimopaku_parameters &parameters, List &p, List &p_inv,
+                              rimopaku_statistics &statistics)
     {
-        return rimopaku_order_i32(n, a_p.data(), a_p.size(), a_i.data(), a_i.size(), &parameters, p.data(), p.size() - 1, p_inv.data(),
-                                  p_inv.size() - 1, &statistics);
+        return rimopaku_order_i32(n, a_p.data(), a_p.size(), a_i.data(), a_i.size(), &parameters, p.data(), p.size() - 1,
+                                  p_inv.data(), p_inv.size() - 1, &statistics);
     }
-    static std::int32_t order_holding(Integer n, View<Integer> a_p, View<Integer> a_i, const rimopaku_parameters &parameters,
-                                      View<bool> hold, std::vector<Integer> &p, std::vector<Integer> &p_inv,
-                                      rimopaku_statistics &statistics)
+    static std::int32_t order_holding(Integer n, Numbers a_p, Numbers a_i, const rimopaku_parameters &parameters, View<bool> hold,
+                                      List &p, List &p_inv, rimopaku_statistics &statistics)
     {
-        return rimopaku_order_holding_i32(n, a_p.data(), a_p.size(), a_i.data(), a_i.size(), &parameters, hold.data(), hold.size(), p.data(),
-                                          p.size() - 1, p_inv.data(), p_inv.size() - 1, &statistics);
+        return rimopaku_order_holding_i32(n, a_p.data(), a_p.size(), a_i.data(), a_i.size(), &parameters, hold.data(), hold.size(),
+                                          p.data(), p.size() - 1, p_inv.data(), p_inv.size() - 1, &statistics);
     }
-    static std::int32_t valid(Integer n_row, Integer n_col, View<Integer> a_p, View<Integer> a_i)
+    static std::int32_t valid(Integer n_row, Integer n_col, Numbers a_p, Numbers a_i)
     {
         return rimopaku_valid_i32(n_row, n_col, a_p.data(), a_p.size(), a_i.data(), a_i.size());
     }
-    static std::int32_t columns(Integer n, View<Integer> a_p, View<Integer> a_i, View<Integer> p, std::vector<Integer> &ptr,
-                                std::vector<Integer> &rows, std::vector<Integer> &parent)
+    static std::int32_t columns(Integer n, Numbers a_p, Numbers a_i, Numbers p, List &ptr, List &rows, List &parent)
     {
-        return rimopaku_columns_i32(n, a_p.data(), a_p.size(), a_i.data(), a_i.size(), p.data(), p.size(), ptr.data(), ptr.size(), rows.data(),
-                                    rows.size() - 1, parent.data(), parent.size() - 1);
+        return rimopaku_columns_i32(n, a_p.data(), a_p.size(), a_i.data(), a_i.size(), p.data(), p.size(), ptr.data(), ptr.size(),
+                                    rows.data(), rows.size() - 1, parent.data(), parent.size() - 1);
     }
-    static std::int32_t aat(Integer n, View<Integer> a_p, View<Integer> a_i, std::vector<Integer> &degrees, rimopaku_statistics &statistics)
+    static std::int32_t aat(Integer n, Numbers a_p, Numbers a_i, List &degrees, rimopaku_statistics &statistics)
     {
         return rimopaku_aat_i32(n, a_p.data(), a_p.size(), a_i.data(), a_i.size(), degrees.data(), degrees.size() - 1, &statistics);
     }
-    static std::int32_t preprocess(Integer n, View<Integer> a_p, View<Integer> a_i, std::vector<Integer> &pointers,
-                                   std::vector<Integer> &indices)
+    static std::int32_t preprocess(Integer n, Numbers a_p, Numbers a_i, List &pointers, List &indices)
     {
-        return rimopaku_preprocess_i32(n, a_p.data(), a_p.size(), a_i.data(), a_i.size(), pointers.data(), pointers.size(), indices.data(),
-                                       indices.size() - 1);
+        return rimopaku_preprocess_i32(n, a_p.data(), a_p.size(), a_i.data(), a_i.size(), pointers.data(), pointers.size(),
+                                       indices.data(), indices.size() - 1);
     }
-    static std::int32_t postorder(Integer n, View<Integer> parent, View<Integer> nv, View<Integer> f_size, std::vector<Integer> &order)
+    static std::int32_t postorder(Integer n, Numbers parent, Numbers nv, Numbers f_size, List &order)
     {
-        return rimopaku_postorder_i32(n, parent.data(), parent.size(), nv.data(), nv.size(), f_size.data(), f_size.size(), order.data(),
-                                      order.size() - 1);
+        return rimopaku_postorder_i32(n, parent.data(), parent.size(), nv.data(), nv.size(), f_size.data(), f_size.size(),
+                                      order.data(), order.size() - 1);
     }
 };
 
 template <> struct Calls<8> {
     typedef std::int64_t Integer;
-    static std::int32_t order(Integer n, View<Integer> a_p, View<Integer> a_i, const rimopaku_parameters &parameters, std::vector<Integer> &p,
-                              std::vector<Integer> &p_inv, rimopaku_statistics &statistics)
+    typedef std::vector<Integer> List;
+    typedef View<Integer> Numbers;
+    static std::int32_t order(Integer n, Numbers a_p, Numbers a_i, const rimopaku_parameters &parameters, List &p, List &p_inv,
+                              rimopaku_statistics &statistics)
     {
-        return rimopaku_order_i64(n, a_p.data(), a_p.size(), a_i.data(), a_i.size(), &parameters, p.data(), p.size() - 1, p_inv.data(),
-                                  p_inv.size() - 1, &statistics);
+        return rimopaku_order_i64(n, a_p.data(), a_p.size(), a_i.data(), a_i.size(), &parameters, p.data(), p.size() - 1,
+                                  p_inv.data(), p_inv.size() - 1, &statistics);
     }
-    static std::int32_t order_holding(Integer n, View<Integer> a_p, View<Integer> a_i, const rimopaku_parameters &parameters,
-                                      View<bool> hold, std::vector<Integer> &p, std::vector<Integer> &p_inv,
-                                      rimopaku_statistics &statistics)
+    static std::int32_t order_holding(Integer n, Numbers a_p, Numbers a_i, const rimopaku_parameters &parameters, View<bool> hold,
+                                      List &p, List &p_inv, rimopaku_statistics &statistics)
     {
-        return rimopaku_order_holding_i64(n, a_p.data(), a_p.size(), a_i.data(), a_i.size(), &parameters, hold.data(), hold.size(), p.data(),
-                                          p.size() - 1, p_inv.data(), p_inv.size() - 1, &statistics);
+        return rimopaku_order_holding_i64(n, a_p.data(), a_p.size(), a_i.data(), a_i.size(), &parameters, hold.data(), hold.size(),
+                                          p.data(), p.size() - 1, p_inv.data(), p_inv.size() - 1, &statistics);
     }
-    static std::int32_t valid(Integer n_row, Integer n_col, View<Integer> a_p, View<Integer> a_i)
+    static std::int32_t valid(Integer n_row, Integer n_col, Numbers a_p, Numbers a_i)
     {
         return rimopaku_valid_i64(n_row, n_col, a_p.data(), a_p.size(), a_i.data(), a_i.size());
     }
-    static std::int32_t columns(Integer n, View<Integer> a_p, View<Integer> a_i, View<Integer> p, std::vector<Integer> &ptr,
-                                std::vector<Integer> &rows, std::vector<Integer> &parent)
+    static std::int32_t columns(Integer n, Numbers a_p, Numbers a_i, Numbers p, List &ptr, List &rows, List &parent)
     {
-        return rimopaku_columns_i64(n, a_p.data(), a_p.size(), a_i.data(), a_i.size(), p.data(), p.size(), ptr.data(), ptr.size(), rows.data(),
-                                    rows.size() - 1, parent.data(), parent.size() - 1);
+        return rimopaku_columns_i64(n, a_p.data(), a_p.size(), a_i.data(), a_i.size(), p.data(), p.size(), ptr.data(), ptr.size(),
+                                    rows.data(), rows.size() - 1, parent.data(), parent.size() - 1);
     }
-    static std::int32_t aat(Integer n, View<Integer> a_p, View<Integer> a_i, std::vector<Integer> &degrees, rimopaku_statistics &statistics)
+    static std::int32_t aat(Integer n, Numbers a_p, Numbers a_i, List &degrees, rimopaku_statistics &statistics)
     {
         return rimopaku_aat_i64(n, a_p.data(), a_p.size(), a_i.data(), a_i.size(), degrees.data(), degrees.size() - 1, &statistics);
     }
-    static std::int32_t preprocess(Integer n, View<Integer> a_p, View<Integer> a_i, std::vector<Integer> &pointers,
-                                   std::vector<Integer> &indices)
+    static std::int32_t preprocess(Integer n, Numbers a_p, Numbers a_i, List &pointers, List &indices)
     {
-        return rimopaku_preprocess_i64(n, a_p.data(), a_p.size(), a_i.data(), a_i.size(), pointers.data(), pointers.size(), indices.data(),
-                                       indices.size() - 1);
+        return rimopaku_preprocess_i64(n, a_p.data(), a_p.size(), a_i.data(), a_i.size(), pointers.data(), pointers.size(),
+                                       indices.data(), indices.size() - 1);
     }
-    static std::int32_t postorder(Integer n, View<Integer> parent, View<Integer> nv, View<Integer> f_size, std::vector<Integer> &order)
+    static std::int32_t postorder(Integer n, Numbers parent, Numbers nv, Numbers f_size, List &order)
     {
-        return rimopaku_postorder_i64(n, parent.data(), parent.size(), nv.data(), nv.size(), f_size.data(), f_size.size(), order.data(),
-                                      order.size() - 1);
+        return rimopaku_postorder_i64(n, parent.data(), parent.size(), nv.data(), nv.size(), f_size.data(), f_size.size(),
+                                      order.data(), order.size() - 1);
     }
 };
 

@@ -20,6 +20,7 @@ static void tell_elimination(double Info[], const struct rimopaku_statistics *to
 {
     if (Info == NULL)
         return;
+    Info[AMD_STATUS] = AMD_OK;
     Info[AMD_NDENSE] = (double)told->n_dense;
     Info[AMD_NCMPA] = (double)told->n_cmp_a;
     Info[AMD_LNZ] = (double)told->lnz;

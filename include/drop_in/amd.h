@@ -1,8 +1,9 @@
 /* amd.h: the calls of SuiteSparse's AMD over the library rimopaku, with the same names, arguments and numbers, as SuiteSparse 5 and 7
  * have them, for C99 and C++11.
  *
- * A C or C++ program that includes "amd.h" is compiled with the folder of this file first in the include path, and linked with libamd_c.a
- * and liblibc_c.a instead of SuiteSparse's libamd, with no other change. The permutation and the status are the same. What differs:
+ * A C or C++ program that includes "amd.h" is compiled with the folder of this file first in the include path, and linked with librimopaku,
+ * or with libamd_c.a and liblibc_c.a, instead of SuiteSparse's libamd, with no other change. The permutation and the status are the same.
+ * What differs:
  *
  *   - Control [AMD_DENSE]: up to n = 1,000,000 a row is dense exactly where it is in SuiteSparse's AMD. Above, the parameter is rounded to
  *     thousandths, and one that is no whole number of them moves the number of entries above which a row is dense by at most
@@ -154,7 +155,7 @@ RIMOPAKU_AMD_LINKAGE RIMOPAKU_AMD_LONG_STATUS amd_l_order(SuiteSparse_long n, co
 
 /* Orders the rows of a symmetric pattern that is given as lists, and is without its diagonal: list i has the rows Iw [Pe [i]] to
  * Iw [Pe [i] + Len [i] - 1], and each pair of rows stands in both lists. Last gets the permutation, and Next its inverse. Of Info the
- * places AMD_NDENSE, AMD_NCMPA to AMD_DMAX are written, and AMD_STATUS where it is not AMD_OK.
+ * places AMD_STATUS, AMD_NDENSE, and AMD_NCMPA to AMD_DMAX are written.
  *
  * As in SuiteSparse's AMD the call has no status. Where malloc refuses memory, or the lists are none, Last and Next get the identity, and
  * Info [AMD_STATUS] is AMD_OUT_OF_MEMORY or AMD_INVALID. Where each list is sorted, the permutation is that of SuiteSparse's AMD; else it
