@@ -39,7 +39,7 @@ fn take_pivot<S: Signed>(nv: &mut [Word<S>], me: usize) -> usize
     rows
 }
 
-/// Begins the element of a pivot that lists no element, in the place of its list.
+/// Begins the element of a pivot that lists no element, in the place of its list. `pe` is only read.
 #[tactic(none)]
 pub fn begin_own<S: Signed, U: Unsigned>(
     iw: &mut [Word<S>],

@@ -276,12 +276,12 @@ fn is_class<S: Signed>(nv: &[Word<S>], i: usize) -> bool
 /// Merges the classes of a new element that keep the same elements and variables, from the last one of its list to the
 /// first: the last one represents the others, and the classes that are left are its representatives. The buckets are
 /// empty before; after it the head of each one that is not is a class that is left, which belongs into it. Where
-/// the list names one row at most, all stays as it is. Returns the next flag.
+/// the list names one row at most, all stays as it is. `iw` and `len` are only read. Returns the next flag.
 pub fn merge_front<S: Signed, U: Unsigned>(
-    iw: &[Word<S>],
+    iw: &mut [Word<S>],
     pe: &mut [Word<S>],
     e_len: &mut [Word<S>],
-    len: &[Cell<U>],
+    len: &mut [Cell<U>],
     nv: &mut [Word<S>],
     w: &mut [Cell<U>],
     hash: &mut [Cell<U>],
@@ -290,10 +290,11 @@ pub fn merge_front<S: Signed, U: Unsigned>(
     count: usize,
     flag: usize,
 ) -> usize
-    requires { CanMergeFront S.MOST U.MOST from count flag iw.now pe.old e_len.old nv.old len.now w.old hash.old
+    requires { CanMergeFront S.MOST U.MOST from count flag iw.old pe.old e_len.old nv.old len.old w.old hash.old
         sides.old }
-    ensures { MergesClasses from count flag iw.now pe.old e_len.old nv.old len.now w.old sides.old pe.new e_len.new
+    ensures merges { MergesClasses from count flag iw.old pe.old e_len.old nv.old len.old w.old sides.old pe.new e_len.new
         nv.new w.new hash.new sides.new result }
+    ensures same { (iw.new ≡ iw.old) × (len.new ≡ len.old) }
 {
     if count < 2 {
         return flag;

@@ -1,16 +1,13 @@
 // The rounds of an elimination in one workspace. A round chooses a pivot and makes its element (`pivot`), turns the
 // classes of its front over to it, merges those that are alike, and places what is left by new bounds. Source: Amestoy,
-// Davis and Duff 1996 and 2004. Called by `running` of the crate `amd_engine`. A part that only reads some slices is
-// called through a function that is lent all of them for writing.
+// Davis and Duff 1996 and 2004. Called by `running` of the crate `amd_engine`. A slice in a field of `Work` is lent for
+// writing also where a part only reads it, since it cannot be lent again for reading from there.
 
 ghost use Rattle.std.specs.Prelude.{ℕ, ◌<◌, ◌≡◌, ◌≤◌, length, true, Bool};
 ghost use Rattle.amd_model.specs.Graph.{Graph};
 ghost use Rattle.amd_model.specs.Quotient.{QuotientGraph};
 ghost use Rattle.amd_model.specs.State.{State};
 ghost use Rattle.amd_words.specs.Words.{is_place, num, start, word};
-ghost use Rattle.amd_lists.specs.Lengths.{row_count};
-ghost use Rattle.amd_merging.specs.Effects.{MergesClasses, RestoresFront};
-ghost use Rattle.amd_merging.specs.Premises.{CanMergeFront, CanRestore};
 ghost use Rattle.amd_rounds.specs.Keeps.{AreRounds, IsRound, NoRowIsLive, Stands};
 ghost use Rattle.amd_rounds.specs.Laid.{IsNarrow, IsSized};
 ghost use Rattle.amd_rounds.specs.Parts.{EndsFront, MergesFront, TurnsOver};
@@ -25,7 +22,6 @@ use amd_merging::closing::close;
 use amd_merging::merging::merge_front;
 use amd_merging::restoring::restore;
 use amd_types::amd::Control;
-use amd_words::sides::Sides;
 use amd_words::words::named;
 use amd_words::{Cell, Signed, Unsigned, Word, cell_at};
 
@@ -63,29 +59,18 @@ pub fn turn_over<S: Signed, U: Unsigned>(
     )
 }
 
-/// Merges the classes of the front of `me` that are alike. Returns a flag above the counters.
-fn merge_list<S: Signed, U: Unsigned>(
-    iw: &mut [Word<S>],
+/// Where the list of a row starts, and how many words it has, with both slices lent for writing.
+fn list_lent<S: Signed, U: Unsigned>(
     pe: &mut [Word<S>],
-    e_len: &mut [Word<S>],
     len: &mut [Cell<U>],
-    nv: &mut [Word<S>],
-    w: &mut [Cell<U>],
-    hash: &mut [Cell<U>],
-    sides: &mut [Sides<U>],
     me: usize,
-    flag: usize,
-) -> usize
-    requires list { (me < row_count sides.old) × (is_place (word pe.old me) ≡ true) }
-    requires front { CanMergeFront S.MOST U.MOST (start pe.old me) (num len.old me) flag iw.old pe.old e_len.old nv.old
-        len.old w.old hash.old sides.old }
-    ensures merges { MergesClasses (start pe.old me) (num len.old me) flag iw.old pe.old e_len.old nv.old len.old w.old
-        sides.old pe.new e_len.new nv.new w.new hash.new sides.new result }
-    ensures same { (iw.new ≡ iw.old) × (len.new ≡ len.old) }
+) -> (usize, usize)
+    requires inside { (me < length pe.old) × (me < length len.old) }
+    requires place { is_place (word pe.old me) ≡ true }
+    ensures list { (result.0 ≡ start pe.old me) × (result.1 ≡ num len.old me) }
+    ensures same { (pe.new ≡ pe.old) × (len.new ≡ len.old) }
 {
-    let from = named(pe, me);
-    let count = cell_at(len, me);
-    merge_front(iw, pe, e_len, len, nv, w, hash, sides, from, count, flag)
+    (named(pe, me), cell_at(len, me))
 }
 
 /// Takes the rows of the block off those that are live, and merges the classes of the front of `me` that are alike. The
@@ -107,42 +92,11 @@ pub fn merge_alike<S: Signed, U: Unsigned>(
     work.most = work.most.max(border);
     let risen = work.flag + work.most;
     let flag = renew_flag(work.w, risen);
-    work.flag = merge_list(
-        work.iw, work.pe, work.e_len, work.len, work.nv, work.w, work.hash, work.sides, me, flag,
+    let (from, count) = list_lent(work.pe, work.len, me);
+    work.flag = merge_front(
+        work.iw, work.pe, work.e_len, work.len, work.nv, work.w, work.hash, work.sides, from,
+        count, flag,
     );
-}
-
-/// Places the classes that are left of the front of `me` by their new bounds. Returns where its list starts, where what
-/// is left of it ends, and a number below all bounds.
-fn place_list<S: Signed, U: Unsigned>(
-    iw: &mut [Word<S>],
-    nv: &mut [Word<S>],
-    degree: &mut [Cell<U>],
-    head: &mut [Cell<U>],
-    sides: &mut [Sides<U>],
-    hash: &mut [Cell<U>],
-    pe: &mut [Word<S>],
-    len: &mut [Cell<U>],
-    me: usize,
-    border: usize,
-    left: usize,
-    least: usize,
-) -> (usize, usize, usize)
-    requires lengths { (length pe.old ≡ row_count sides.old) × (length len.old ≡ row_count sides.old) }
-    requires list { (me < row_count sides.old) × (is_place (word pe.old me) ≡ true) }
-    requires front { CanRestore S.MOST U.MOST border left (start pe.old me) (num len.old me) iw.old nv.old degree.old
-        head.old hash.old sides.old }
-    ensures from { result.0 ≡ start pe.old me }
-    ensures restores { RestoresFront border left least (start pe.old me) (num len.old me) iw.old nv.old degree.old
-        head.old sides.old iw.new nv.new degree.new head.new hash.new sides.new result.1 result.2 }
-    ensures same { (pe.new ≡ pe.old) × (len.new ≡ len.old) }
-{
-    let from = named(pe, me);
-    let count = cell_at(len, me);
-    let (end, least) = restore(
-        iw, nv, degree, head, sides, hash, from, count, border, left, least,
-    );
-    (from, end, least)
 }
 
 /// Places the classes that are left of the front of `me` by their new bounds, closes the element, and adds its front to
@@ -163,16 +117,16 @@ pub fn end_front<S: Signed, U: Unsigned>(
 {
     let left = work.live;
     let low = work.least;
-    let (from, end, least) = place_list(
+    let (from, count) = list_lent(work.pe, work.len, me);
+    let (end, least) = restore(
         work.iw,
         work.nv,
         work.degree,
         work.head,
         work.sides,
         work.hash,
-        work.pe,
-        work.len,
-        me,
+        from,
+        count,
         border,
         left,
         low,
@@ -192,6 +146,7 @@ pub fn end_front<S: Signed, U: Unsigned>(
     work.free = free;
     work.figures.add_front(block, border + work.n_dense);
 }
+
 /// One round: chooses a pivot, makes its element, and gives the classes of the element their new lists, numbers of rows
 /// and bounds. A row must be live. The contract says what the workspace stands for, that its lists have no more words
 /// than before the first round, and when they are packed; what stands in words of no list, and in the places of rows

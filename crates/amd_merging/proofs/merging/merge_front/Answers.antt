@@ -93,8 +93,8 @@ classes-preserved g c = let g = premises (length (nexts c.args.sides.now))
           c.named-i.ensures _ _ _ _ _ _ _ c.classes.invariant.merging (sym c.is_class.ensures ∙ c.if-is_class.false);
     }
 
-pub returns : goal.returns
-returns g c = record {
+pub returns-clause-merges : goal.returns-clause-merges
+returns-clause-merges g c = record {
   merges = (let list : List ℕ = rows c.args.iw.now c.args.from c.args.count in
       let state = subst (λ k. Merging (length (nexts c.args.sides.now)) c.args.iw.now c.args.pe.now c.args.e_len.now c.args.len.now
       c.args.nv.now c.args.w.now (nexts c.args.sides.now) (lasts c.args.sides.now) (classes c.args.nv.now list) c.args.flag c.args.count
@@ -126,8 +126,8 @@ returns g c = record {
   zeros = (c.classes.invariant.merging.zeros);
 }
 
-pub returns-then-count-lt2 : goal.returns-then-count-lt2
-returns-then-count-lt2 g c = record {
+pub returns-then-count-lt2-clause-merges : goal.returns-then-count-lt2-clause-merges
+returns-then-count-lt2-clause-merges g c = record {
   merges = (let a = classes_few c.args.nv.now c.args.iw.now c.args.from c.args.count in let t = c.if-count-lt2.true in
       let merged = few_merged (alike_in (kept_of c.args.iw.now c.args.pe.now c.args.e_len.now)
       (variables_in c.args.iw.now c.args.pe.now c.args.e_len.now c.args.len.now)) c.args.pe.now c.args.e_len.now c.args.nv.now

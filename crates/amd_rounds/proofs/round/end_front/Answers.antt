@@ -6,6 +6,8 @@ use Rattle.amd_words.specs.Words.{num, start, in_front}
 use Rattle.amd_lists.specs.Layout.{end_of, Layout}
 use Rattle.amd_lists.specs.Chains.{DegreeLists}
 use Rattle.amd_merging.specs.Closing.{Closes}
+use Rattle.amd_merging.specs.Premises.{CanRestore}
+use Rattle.amd_merging.specs.Effects.{RestoresFront}
 use Rattle.amd_lists.specs.Renewal.{Filters}
 use Rattle.amd_merging.specs.Restoring.{marked_in, bound_in, put_all, IsPlaceable}
 use Rattle.amd_rounds.specs.Parts.{front_at}
@@ -16,15 +18,19 @@ use Rattle.amd_rounds.proofs.round.end_front.Goals as goal
 
 pub returns : goal.returns
 returns g c =
-    let p = c.args.work.now in let v = c.place_list-from.new in let told = c.place_list-from.ensures.restores in let s = c.requires.sized in
-    let from_is = c.place_list-from.ensures.from in let same = c.place_list-from.ensures.same in
+    let p = c.args.work.now in let v = c.restore-end.new in let at = c.list_lent-from.ensures.list in let s = c.requires.sized in
+    let from_is = at.0 in let same = c.list_lent-from.ensures.same in
+    let told : RestoresFront c.args.border p.live p.least (start p.pe.now c.args.me) (num p.len.now c.args.me) p.iw.now p.nv.now
+    p.degree.now p.head.now p.sides.now v.iw v.nv v.degree v.head v.hash v.sides c.restore-end.result.0 c.restore-end.result.1
+    = rw (at.0, at.1) at c.restore-end.ensures in
     let n : ℕ = length p.nv.now in let me : ℕ = c.args.me in let iw : List ℤ = p.iw.now in let pe : List ℤ = p.pe.now in
     let e_len : List ℤ = p.e_len.now in let len : List ℕ = p.len.now in let nv : List ℤ = p.nv.now in let free : ℕ = p.free in
-    let from : ℕ = c.place_list-from.result.0 in let end : ℕ = c.place_list-from.result.1 in
+    let from : ℕ = c.list_lent-from.result.0 in let end : ℕ = c.restore-end.result.0 in
     let border : ℕ = c.args.border in let h = c.requires.front in let front : List ℕ = front_at (workspace_of p) me in
     let e_len' : List ℤ = c.close.new.e_len in let len' : List ℕ = c.close.new.len in
-    let same_len : v.len ≡ len = same.1 in let same_pe : v.pe ≡ pe = same.0 in
-    let filters : Filters n (in_front nv) (λ j. 0) 0 iw from (num v.len me) from v.iw end 0 =
+    let mid_len : List ℕ = c.list_lent-from.new.len in let mid_pe : List ℤ = c.list_lent-from.new.pe in
+    let same_len : mid_len ≡ len = same.1 in let same_pe : mid_pe ≡ pe = same.0 in
+    let filters : Filters n (in_front nv) (λ j. 0) 0 iw from (num mid_len me) from v.iw end 0 =
     subst (λ l. Filters n (in_front nv) (λ j. 0) 0 iw from (num l me) from v.iw end 0) (sym same_len)
     (subst (λ k. Filters k (in_front nv) (λ j. 0) 0 iw from (num len me) from v.iw end 0) s.next
     (subst (λ f. Filters (length (nexts p.sides.now)) (in_front nv) (λ j. 0) 0 iw f (num len me) f v.iw end 0) (sym from_is)
@@ -33,7 +39,7 @@ returns g c =
     subst (λ l. Closes n me (in_front nv) iw pe e_len l v.iw e_len' len' free) same_len
     (c.close.ensures.closes n (in_front nv) (λ j. 0) 0 0 iw v.iw pe free (sym from_is) h.front.starts filters
     (subst (λ l. Layout n iw pe e_len l free) (sym same_len) h.front.laid)) in
-    let count : num len' me ≡ end - from = ap (λ l. num l me) c.close.ensures.lengths ∙ get_or-set_same v.len me (end - from) 0
+    let count : num len' me ≡ end - from = ap (λ l. num l me) c.close.ensures.lengths ∙ get_or-set_same mid_len me (end - from) 0
     (let a = ap length same_len in let b = s.len in let d = h.front.row in omega (arith, a, b, d)) in
     let ends : end_of pe len' me ≡ end = (let a = from_is in let b = filters.low in omega (arith, a, b, count)) in
     let lowered : (c.args.is_built ≡ true) → Layout n v.iw pe e_len' len' end = λ built.
@@ -79,7 +85,7 @@ returns g c =
           pe = ap length same_pe ∙ s.pe;
           e_len = (let a = ap length c.close.ensures.counts in a ∙ length-set e_len me _ ∙ s.e_len);
           nv = l.0 ∙ s.next;
-          len = ap length c.close.ensures.lengths ∙ length-set v.len me (end - from) ∙ ap length same_len ∙ s.len;
+          len = ap length c.close.ensures.lengths ∙ length-set mid_len me (end - from) ∙ ap length same_len ∙ s.len;
           degree = ap length c.close.ensures.borders ∙ length-set v.degree me border ∙ l.1 ∙ s.next;
           w = s.w;
           head = l.2 ∙ s.next;
@@ -92,31 +98,35 @@ returns g c =
       loans = (refl, refl, refl, refl);
     }
 
-pub place_list-from-requires : goal.place_list-from-requires
-place_list-from-requires g c =
+pub list_lent-from-requires : goal.list_lent-from-requires
+list_lent-from-requires g c = let f = c.requires.front.front in let a = f.row in let s = c.requires.sized in let x = s.pe in
+    let y = s.len in record { inside = ((omega (arith, a, x)), (omega (arith, a, y))); place = f.starts }
+
+pub restore-end-requires : goal.restore-end-requires
+restore-end-requires g c =
     let s = c.requires.sized in let h = c.requires.front in let w = c.requires.wide in let f = h.front in let p = c.args.work.now in
-    let n = sym s.next in let k = s.next in let q = f.within in record {
-      lengths = (s.pe ∙ n, s.len ∙ n);
-      list = ((let a = f.row in omega (arith, a, k)), f.starts);
-      front = record {
-        lengths = (s.nv ∙ n, s.degree ∙ n, s.head ∙ n, refl, s.last ∙ n, s.hash ∙ n);
-        short = (let a = w.2 in let b = w.3 in ((omega (arith, a, k)), (omega (arith, b, k))));
-        front = (
-          (let b = f.end in omega (arith, q, b)),
-          rw s.next (λ m l. f.laid.words (start p.pe.now c.args.me + m) (omega (arith, q, l))),
-          f.once,
-        );
-        classes_are = λ i a b. subst (λ z. IsPlaceable z c.args.border p.nv.now p.degree.now (lasts p.sides.now) i) n
-            (h.classes i a b);
-        order = (h.order.0, (let a = h.order.1 in omega (arith, a, k)));
-        heads = λ b x y. h.heads b (omega (arith, x, k)) (omega (arith, y, k));
-        linked = (
-          h.linked.0,
-          subst (λ z. DegreeLists z p.head.now (nexts p.sides.now) (lasts p.sides.now) p.degree.now h.linked.0) n h.linked.1,
-          λ b x l. h.linked.2 b x (omega (arith, l, k)),
-        );
-      };
-    }
+    let n = sym s.next in let k = s.next in let q = f.within in let at = c.list_lent-from.ensures.list in
+    let ready : CanRestore g.S.Signed.MOST g.U.Unsigned.MOST c.args.border p.live (start p.pe.now c.args.me)
+    (num p.len.now c.args.me) p.iw.now p.nv.now p.degree.now p.head.now p.hash.now p.sides.now
+    = record {
+      lengths = (s.nv ∙ n, s.degree ∙ n, s.head ∙ n, refl, s.last ∙ n, s.hash ∙ n);
+      short = (let a = w.2 in let b = w.3 in ((omega (arith, a, k)), (omega (arith, b, k))));
+      front = (
+        (let b = f.end in omega (arith, q, b)),
+        rw s.next (λ m l. f.laid.words (start p.pe.now c.args.me + m) (omega (arith, q, l))),
+        f.once,
+      );
+      classes_are = λ i a b. subst (λ z. IsPlaceable z c.args.border p.nv.now p.degree.now (lasts p.sides.now) i) n
+          (h.classes i a b);
+      order = (h.order.0, (let a = h.order.1 in omega (arith, a, k)));
+      heads = λ b x y. h.heads b (omega (arith, x, k)) (omega (arith, y, k));
+      linked = (
+        h.linked.0,
+        subst (λ z. DegreeLists z p.head.now (nexts p.sides.now) (lasts p.sides.now) p.degree.now h.linked.0) n h.linked.1,
+        λ b x l. h.linked.2 b x (omega (arith, l, k)),
+      );
+    } in
+    rw (at.0, at.1) ready
 
 pub overflow_add-border : goal.overflow_add-border
 overflow_add-border g c = let a = c.requires.front.dense in omega (arith, a)
@@ -126,9 +136,13 @@ add_front-requires g c = c.requires.front.dense
 
 pub close-requires : goal.close-requires
 close-requires g c =
-    let s = c.requires.sized in let h = c.requires.front in let told = c.place_list-from.ensures.restores in
-    let same = c.place_list-from.ensures.same in let w = c.requires.wide in
-    let row = h.front.row in let low = told.filters.low in let from_is = c.place_list-from.ensures.from in record {
+    let s = c.requires.sized in let h = c.requires.front in let at = c.list_lent-from.ensures.list in
+    let same = c.list_lent-from.ensures.same in
+    let p = c.args.work.now in let v = c.restore-end.new in
+    let told : RestoresFront c.args.border p.live p.least (start p.pe.now c.args.me) (num p.len.now c.args.me) p.iw.now p.nv.now
+    p.degree.now p.head.now p.sides.now v.iw v.nv v.degree v.head v.hash v.sides c.restore-end.result.0 c.restore-end.result.1
+    = rw (at.0, at.1) at c.restore-end.ensures in let w = c.requires.wide in
+    let row = h.front.row in let low = told.filters.low in let from_is = at.0 in record {
       row = (
         (let a = s.e_len in omega (arith, a, row)),
         (let a = ap length same.1 in let b = s.len in omega (arith, a, b, row)),

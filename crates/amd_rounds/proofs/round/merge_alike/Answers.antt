@@ -1,7 +1,9 @@
-use Rattle.std.proofs.Common.{refl, sym, ap, subst, ◌∙◌, arith, length}
+use Rattle.std.proofs.Common.{◌≡◌, refl, sym, ap, subst, ◌∙◌, arith, length}
 use Rattle.amd_words.specs.Sides.{nexts, lasts}
 use Rattle.std.proofs.Common.{◌+◌}
-use Rattle.amd_words.specs.Words.{classes, start}
+use Rattle.amd_words.specs.Words.{classes, num, start}
+use Rattle.amd_merging.specs.Premises.{CanMergeFront}
+use Rattle.amd_merging.specs.Effects.{MergesClasses}
 use Rattle.amd_merging.specs.Merging.{AreRenewed}
 use Rattle.amd_lists.specs.Chains.{DegreeLists}
 use Rattle.amd_rounds.specs.Parts.{front_at}
@@ -10,14 +12,18 @@ use Rattle.amd_rounds.proofs.Fronts.{front_count}
 use Rattle.amd_rounds.proofs.Renewed.{renewed_zeros}
 use Rattle.amd_rounds.proofs.round.merge_alike.Goals as goal
 
-pub merge_list-work-requires-clause-list : goal.merge_list-work-requires-clause-list
-merge_list-work-requires-clause-list g c =
-    let f = c.requires.front.front in let a = f.row in let n = c.requires.sized.next in ((omega (arith, a, n)), f.starts)
+pub list_lent-from-requires : goal.list_lent-from-requires
+list_lent-from-requires g c = let f = c.requires.front.front in let a = f.row in let s = c.requires.sized in let x = s.pe in
+    let y = s.len in record { inside = ((omega (arith, a, x)), (omega (arith, a, y))); place = f.starts }
 
-pub merge_list-work-requires-clause-front : goal.merge_list-work-requires-clause-front
-merge_list-work-requires-clause-front g c =
+pub merge_front-work-requires : goal.merge_front-work-requires
+merge_front-work-requires g c =
     let p = c.args.work.now in let s = c.requires.sized in let n = sym s.next in let h = c.requires.front in let f = h.front in
-    let flag = c.renew_flag-flag.ensures in let w = c.requires.wide in let a = front_count f in let k = s.next in record {
+    let flag = c.renew_flag-flag.ensures in let w = c.requires.wide in let a = front_count f in let k = s.next in
+    let at = c.list_lent-from.ensures.list in let same = c.list_lent-from.ensures.same in
+    let ready : CanMergeFront g.S.Signed.MOST g.U.Unsigned.MOST (start p.pe.now c.args.me) (num p.len.now c.args.me)
+    c.renew_flag-flag.result p.iw.now p.pe.now p.e_len.now p.nv.now p.len.now c.renew_flag-flag.new.w p.hash.now p.sides.now
+    = record {
       lengths = (s.pe ∙ n, s.e_len ∙ n, s.nv ∙ n, s.len ∙ n, flag.long ∙ s.w ∙ n, s.hash ∙ n, refl, s.last ∙ n);
       short = (let x = w.2 in let y = w.3 in ((omega (arith, x, k)), (omega (arith, y, k))));
       front = (
@@ -32,12 +38,17 @@ merge_list-work-requires-clause-front g c =
       under = flag.under;
       room = (let x = s.w in let r = flag.room in omega (arith, a, x, r));
       empty = λ b l. let e = h.empty b (omega (arith, l, k)) in omega (arith, e, k);
-    }
+    } in
+    rw (at.0, at.1, same.0, same.1) ready
 
 pub returns : goal.returns
 returns g c =
-    let p = c.args.work.now in let v = c.merge_list-work.new in let told = c.merge_list-work.ensures.merges in
-    let same = c.merge_list-work.ensures.same in let s = c.requires.sized in
+    let p = c.args.work.now in let v = c.merge_front-work.new in let at = c.list_lent-from.ensures.list in
+    let was = c.list_lent-from.ensures.same in let kept = c.merge_front-work.ensures.same in
+    let told : MergesClasses (start p.pe.now c.args.me) (num p.len.now c.args.me) c.renew_flag-flag.result p.iw.now p.pe.now
+    p.e_len.now p.nv.now p.len.now c.renew_flag-flag.new.w p.sides.now v.pe v.e_len v.nv v.w v.hash v.sides c.merge_front-work.result
+    = rw (at.0, at.1, was.0, was.1) at c.merge_front-work.ensures.merges in
+    let same : (v.iw ≡ p.iw.now) × (v.len ≡ p.len.now) = (kept.0, kept.1 ∙ was.1) in let s = c.requires.sized in
     let l = told.lengths in
     record {
       merges = record {
