@@ -1,12 +1,12 @@
 -- One arc more: what it adds and what its meeting takes.
-use Rattle.std.proofs.Common.{ℕ, zero, suc, Bool, true, false, ◌≡◌, ◌≢◌, ◌<◌, ◌≤◌, ◌+◌, ◌-◌, ◌==◌, ◌⊎◌, cond, inl, inr, refl, sym, ◌∙◌}
+use Rattle.std.proofs.Common.{ℕ, Bool, true, false, ◌≡◌, ◌≢◌, ◌<◌, ◌≤◌, ◌+◌, ◌==◌, ◌⊎◌, cond, inl, inr, refl, sym, ◌∙◌}
 use Rattle.std.proofs.Common.{ap, subst, arith, List, length, set}
 use Rattle.std.specs.Prelude.{slice_index}
-use Rattle.std.proofs.lemmas.Bool.{cases_eq, cases_lt, cases_Bool, eq-eqb, eqb-true, ne_eqb}
+use Rattle.std.proofs.lemmas.Bool.{cases_eq, cases_lt, cases_Bool, eq-eqb, ne_eqb}
 use Rattle.std.proofs.lemmas.List.{length-set, get_or-set_same, get_or-set_other}
-use Rattle.amd_model.specs.Below.{count_below, sum_below}
-use Rattle.amd_model.proofs.Counting.Below.{clash, sum_at, sum_same}
-use Rattle.amd_counts.specs.Ranks.{Above, itself}
+use Rattle.amd_model.specs.Below.{count_below}
+use Rattle.amd_model.proofs.Counting.Below.{sum_at, sum_same}
+use Rattle.amd_counts.specs.Ranks.{Above}
 use Rattle.amd_counts.specs.Meetings.{Arc, Balance, IsLowest, IsScene, Marks, Met, Scene, sum_to, low_of}
 use Rattle.amd_counts.proofs.Nesting.{above-linear, above-most, above-trans, nest, size-fits, size-positive, rank-low, within}
 

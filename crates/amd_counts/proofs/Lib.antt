@@ -6,3 +6,4 @@ pub mod Events
 pub mod Lists
 pub mod Onto
 pub mod Rounds
+pub mod Telling

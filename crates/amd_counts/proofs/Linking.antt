@@ -1,10 +1,10 @@
 -- Links to places over each place, drawn up, and one link more.
-use Rattle.std.proofs.Common.{ℕ, ◌≡◌, ◌≢◌, ◌<◌, ◌≤◌, ◌+◌, inl, inr, refl, sym, ◌∙◌, ap, subst, arith, List, length, set}
+use Rattle.std.proofs.Common.{ℕ, ◌≡◌, ◌≢◌, ◌<◌, ◌≤◌, ◌+◌, inl, inr, sym, ◌∙◌, ap, subst, arith, List, length, set}
 use Rattle.std.specs.Prelude.{slice_index}
 use Rattle.std.proofs.lemmas.Bool.{cases_eq}
 use Rattle.std.proofs.lemmas.List.{length-set, get_or-set_same, get_or-set_other}
 use Rattle.amd_counts.specs.Ranks.{Above, itself, step}
-use Rattle.amd_counts.specs.Meetings.{IsLowest, IsScene, Links, Scene}
+use Rattle.amd_counts.specs.Meetings.{IsScene, Links, Scene}
 use Rattle.amd_counts.proofs.Nesting.{above-trans, above-up, rank-once, rank-low}
 
 module _ (s : Scene) (t : ℕ) (link : List ℕ) (l : Links s t link) (x : ℕ) (most : x ≤ length s.up) where

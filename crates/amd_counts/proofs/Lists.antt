@@ -4,7 +4,7 @@ use Rattle.std.specs.Prelude.{slice_index}
 use Rattle.std.proofs.lemmas.Bool.{cases_eq, cases_lt}
 use Rattle.std.proofs.lemmas.List.Elements.{Contains-get_or}
 use Rattle.amd_model.proofs.Counting.Places.{contains_has, place_of}
-use Rattle.amd_counts.specs.Meetings.{AreLater, Arc, IsLowest, IsScene, Marks, Met, Scene, Taken, TakenSome, sum_to}
+use Rattle.amd_counts.specs.Meetings.{AreLater, Arc, IsLowest, IsScene, Met, Scene, Taken, TakenSome, sum_to}
 use Rattle.amd_counts.proofs.Events.{bump, bump-over, met-first, met-another, meeting-low}
 use Rattle.amd_counts.proofs.Nesting.{rank-low, rank-once}
 use Rattle.amd_model.proofs.Counting.Below.{term_le_sum}

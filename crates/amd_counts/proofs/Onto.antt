@@ -1,5 +1,5 @@
 -- Each number below the number of places is a rank.
-use Rattle.std.proofs.Common.{ℕ, zero, suc, ◌≡◌, ◌≢◌, ◌<◌, ◌≤◌, ◌+◌, ◌-◌, inl, inr, refl, sym, ◌∙◌, ap, subst, arith, List, length, set}
+use Rattle.std.proofs.Common.{ℕ, zero, suc, ◌≡◌, ◌<◌, ◌≤◌, ◌+◌, ◌-◌, inl, inr, sym, ◌∙◌, ap, subst, arith, List, length, set}
 use Rattle.std.specs.Prelude.{slice_index}
 use Rattle.std.proofs.lemmas.Bool.{cases_eq, cases_lt}
 use Rattle.std.proofs.lemmas.List.{length-set, get_or-set_same, get_or-set_other}
@@ -38,18 +38,21 @@ module _ (up size rank : List ℕ) (goes : GoesUp up) (measured : Measured up si
         let s = under-same up size q c c-up in
         let rises = subst (λ p. c < p) c-up (goes.rises c c-low) in
         onto-by fuel c t (omega (arith, rises, f)) (omega (arith, c-low)) (omega (arith, at, s, after, low, high, ne))
-            (omega (arith, at, s, before, low, high, ne)))
+        (omega (arith, at, s, before, low, high, ne)))
   ]
 
   pub onto : slice_index size (length up) ≡ length up + 1 → (t : ℕ) → t < length up → (x : ℕ) × (x < length up) × (slice_index rank x ≡ t)
   onto all t l =
       let top = ranked.top in
       let r = onto-by (length up + 1) (length up) t (omega arith) (omega arith) (omega (arith, top, all)) (omega (arith, top, l)) in
-      let x = r.0 in let most = r.1 in let is = r.2 in
-      (x, elim (cases_eq x (length up)) [
-        | inl e ↦ absurd (let a = ap (slice_index rank) e in omega (arith, a, top, is, l))
-        | inr ne ↦ omega (arith, most, ne)
-      ], is)
+      let x = r.0 in let most = r.1 in let is = r.2 in (
+        x,
+        elim (cases_eq x (length up)) [
+          | inl e ↦ absurd (let a = ap (slice_index rank) e in omega (arith, a, top, is, l))
+          | inr ne ↦ omega (arith, most, ne)
+        ],
+        is,
+      )
 
 -- the first k places stand at their ranks
 pub record Placed (s : Scene) (k : ℕ) (order : List ℕ) : Type 0 where

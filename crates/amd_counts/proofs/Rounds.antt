@@ -1,12 +1,14 @@
 -- The arcs of all places, in the order of their ranks.
-use Rattle.std.proofs.Common.{ℕ, zero, suc, Bool, true, false, ◌≡◌, ◌≢◌, ◌<◌, ◌≤◌, ◌+◌, ◌-◌, cond, inl, inr, refl, sym, ◌∙◌, ap, subst}
+use Rattle.std.proofs.Common.{ℕ, zero, suc, true, false, ◌≡◌, ◌≢◌, ◌<◌, ◌≤◌, ◌+◌, ◌-◌, cond, inl, inr, sym, ◌∙◌, ap, subst}
 use Rattle.std.proofs.Common.{arith, List, length}
-use Rattle.std.specs.Prelude.{slice_index, nat_lt, replicate}
-use Rattle.std.proofs.lemmas.Bool.{cases_eq, cases_lt, lt-ltb, le-ltb}
+use Rattle.std.specs.Prelude.{slice_index, slice_range, nat_lt, replicate}
+use Rattle.std.proofs.lemmas.List.Edits.{length-between}
+use Rattle.std.proofs.lemmas.Bool.{cases_lt, lt-ltb, le-ltb}
 use Rattle.std.proofs.lemmas.List.{get_or-replicate, length-replicate}
-use Rattle.amd_model.specs.Below.{count_below, sum_below}
-use Rattle.amd_model.proofs.Counting.Below.{count_none, sum_at, sum_same, sum_zero, term_le_sum}
-use Rattle.amd_counts.specs.Meetings.{HasLater, IsByRank, IsScene, Met, Scene, Taken, sum_to}
+use Rattle.amd_model.specs.Below.{sum_below}
+use Rattle.amd_model.proofs.Counting.Below.{count_none, sum_at, sum_same, sum_zero}
+use Rattle.amd_counts.specs.Meetings.{HasLater, IsScene, Met, Scene, Taken, sum_before, sum_to}
+use Rattle.amd_counts.proofs.Ranking.{sum-none}
 use Rattle.amd_counts.proofs.Nesting.{rank-once}
 
 -- the length of the list of place j
@@ -50,6 +52,16 @@ module _ (s : Scene) (scene : IsScene s) (starts later : List ℕ) (has : HasLat
       sum-nothing : (n : ℕ) (f : ℕ → ℕ) → n ≤ 0 → sum_below n f ≡ 0
       sum-nothing n f l = sum_zero n f (λ k h. absurd (omega (arith, h, l)))
 
+  pub list-long : (j : ℕ) → j < length s.up → (up' : List ℕ) → up' ≡ s.up → length (slice_range later
+      (slice_index starts (length up' - 1 - j)) (slice_index starts (length up' - j))) ≡ list_length s starts j
+  list-long j l up' e =
+      subst (λ v. length (slice_range later (slice_index starts (length v - 1 - j)) (slice_index starts (length v - j))) ≡ list_length s starts j)
+      (sym e)
+      (length-between later (slice_index starts (length s.up - 1 - j)) (slice_index starts (length s.up - j))
+      (let a = has.within (length s.up - 1 - j) (omega (arith, l)) in
+      let b : slice_index starts (length s.up - 1 - j + 1) ≡ slice_index starts (length s.up - j) =
+      ap (slice_index starts) (let q : length s.up - 1 - j + 1 ≡ length s.up - j = omega (arith, l) in q) in omega (arith, a, b)))
+
   module _ (t j : ℕ) (low : j < length s.up) (here : slice_index s.rank j ≡ t) where
     at-j : cond (nat_lt (slice_index s.rank j) t) 0 (list_length s starts j) ≡ list_length s starts j
     at-j = ap (λ b. cond b 0 (list_length s starts j)) (le-ltb (slice_index s.rank j) t (omega (arith, here)))
@@ -76,7 +88,7 @@ module _ (s : Scene) (scene : IsScene s) (starts later : List ℕ) (has : HasLat
 zeros-at : (xs : List ℕ) (n : ℕ) → xs ≡ replicate n 0 → (k : ℕ) → k < n → slice_index xs k ≡ 0
 zeros-at xs n e k l = ap (λ ys. slice_index ys k) e ∙ get_or-replicate n k 0 0 l
 
-zeros-sum : (xs : List ℕ) (n : ℕ) → xs ≡ replicate n 0 → (m : ℕ) → m ≤ n → sum_to xs m ≡ 0
+pub zeros-sum : (xs : List ℕ) (n : ℕ) → xs ≡ replicate n 0 → (m : ℕ) → m ≤ n → sum_to xs m ≡ 0
 zeros-sum xs n e m l = sum_zero m (λ r. slice_index xs r) (λ k h. zeros-at xs n e k (omega (arith, h, l)))
 
 -- before the first arc
@@ -109,3 +121,10 @@ met-none s scene last plus minus n room low l p m = record {
   where
     clash-false : false ≡ true → ⊥
     clash-false e = cc
+
+-- the sums up to each rank, and those below a rank
+pub sums-before : (sums numbers : List ℕ) → ((k : ℕ) → k < length numbers → slice_index sums k ≡ sum_to numbers (k + 1)) → (m : ℕ) →
+    m ≤ length numbers → sum_before sums m ≡ sum_to numbers m
+sums-before sums numbers each zero l = sym (sum-none (λ k. slice_index numbers k))
+sums-before sums numbers each (suc m) l =
+    each m (omega (arith, l)) ∙ ap (sum_to numbers) (let e : m + 1 ≡ suc m = omega arith in e)

@@ -1,6 +1,6 @@
 -- The arcs of an order of the rows, place by place in postorder, and where those of a row meet. Source: Gilbert, Ng and
 -- Peyton 1994.
-use Rattle.std.specs.Prelude.{ℕ, Bool, true, ◌≡◌, ◌≢◌, ◌<◌, ◌≤◌, ◌↔◌, ◌+◌, ◌-◌, ◌⊎◌, List, Contains, length, slice_index, slice_range}
+use Rattle.std.specs.Prelude.{ℕ, zero, suc, Bool, true, ◌≡◌, ◌≢◌, ◌<◌, ◌≤◌, ◌↔◌, ◌+◌, ◌-◌, ◌⊎◌, List, Contains, length, slice_index, slice_range}
 use Rattle.amd_model.specs.Below.{count_below, sum_below}
 use Rattle.amd_factor.specs.Earlier.{Order}
 use Rattle.amd_counts.specs.Ranks.{Above, GoesUp, Measured, Ranked}
@@ -53,6 +53,11 @@ pub record Marks (s : Scene) (seen : ℕ → ℕ → Type 0) (k a : ℕ) : Type 
 -- the sum of the numbers at the ranks below m
 abbrev pub sum_to : List ℕ → ℕ → ℕ
 sum_to xs m = sum_below m (λ r. slice_index xs r)
+
+-- the sum of the numbers at the ranks below m, by the sums up to each rank
+abbrev pub sum_before : List ℕ → ℕ → ℕ
+sum_before sums zero = 0
+sum_before sums (suc m) = slice_index sums m
 
 -- the first rank of the subtree of place k
 abbrev pub low_of : Scene → ℕ → ℕ

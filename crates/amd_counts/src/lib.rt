@@ -4,3 +4,4 @@
 pub mod climbing;
 pub mod meeting;
 pub mod ranks;
+pub mod sweep;

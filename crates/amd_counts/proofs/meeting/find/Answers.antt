@@ -1,4 +1,3 @@
-use Rattle.std.proofs.Common.{arith, ◌≡◌, ◌<◌, ◌≤◌, length}
 use Rattle.amd_counts.specs.Ranks.{itself}
 use Rattle.amd_counts.proofs.Linking.{two, two-keeps, drawn}
 use Rattle.amd_counts.proofs.Nesting.{above-trans}

@@ -1,4 +1,4 @@
-use Rattle.std.proofs.Common.{◌≡◌, ◌+◌, ◌-◌, ◌<◌, ◌≤◌, ◌∙◌, sym, subst, length, arith, rules, ap}
+use Rattle.std.proofs.Common.{◌-◌, sym, subst, length, arith}
 use Rattle.std.specs.Prelude.{slice_index}
 use Rattle.amd_counts.specs.Meetings.{IsLowest, Links}
 use Rattle.amd_counts.proofs.Lists.{item, taken-none, taken-all, After, first-arc, next-arc, plus-more, minus-low, minus-more, sum-more}

@@ -1,4 +1,4 @@
-use Rattle.std.proofs.Common.{ℕ, ◌≡◌, ◌+◌, length}
+use Rattle.std.proofs.Common.{◌≡◌, ◌+◌, length}
 use Rattle.amd_counts.specs.Meetings.{Links, Met, TakenSome, sum_to}
 use Rattle.amd_counts.proofs.meeting.take_arcs.Given as goal
 

@@ -1,6 +1,4 @@
-use Rattle.std.proofs.Common.{◌≡◌, ◌+◌, ◌<◌, ◌≤◌, ℕ, length, arith, rules}
-use Rattle.std.specs.Prelude.{slice_index}
-use Rattle.std.proofs.lemmas.List.{get_or-replicate, length-replicate}
+use Rattle.std.proofs.Common.{arith, rules}
 use Rattle.amd_counts.proofs.Ranking.{ones-at, measure-none, measure-fits, measure-next, measure-all, measure-top}
 use Rattle.amd_counts.proofs.ranks.measure.Goals as goal
 

@@ -1,4 +1,4 @@
-use Rattle.std.proofs.Common.{◌≡◌, ◌+◌, ◌-◌, ◌<◌, ◌≤◌, ℕ, length, arith, sym, subst}
+use Rattle.std.proofs.Common.{◌≡◌, ◌+◌, ◌-◌, arith, subst}
 use Rattle.amd_counts.proofs.Ranking.{Ranking, rank-none, next-most, positive, rank-next, rank-all}
 use Rattle.amd_counts.proofs.ranks.rank_places.Goals as goal
 
