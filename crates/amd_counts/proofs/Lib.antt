@@ -7,3 +7,5 @@ pub mod Lists
 pub mod Onto
 pub mod Rounds
 pub mod Telling
+pub mod Ancestry
+pub mod Assembling

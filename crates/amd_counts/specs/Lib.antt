@@ -2,3 +2,5 @@
 pub mod Sizes
 pub mod Ranks
 pub mod Meetings
+pub mod Ancestors
+pub mod Mirrors

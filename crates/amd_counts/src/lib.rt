@@ -2,6 +2,8 @@
 #![tactic(auto)]
 
 pub mod climbing;
+pub mod counting;
 pub mod meeting;
 pub mod ranks;
 pub mod sweep;
+pub mod tree;

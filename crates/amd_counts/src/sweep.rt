@@ -113,3 +113,38 @@ pub fn tell_counts(
         counts[k] = added - taken;
     }
 }
+
+/// Writes how many entries each column has, by the later neighbours of all places and the elimination tree.
+///
+/// `order`, `link`, `last`, `plus` and `minus` are for the work alone.
+pub fn sweep(
+    starts: &[usize],
+    later: &[usize],
+    up: &[usize],
+    size: &[usize],
+    rank: &[usize],
+    order: &mut [usize],
+    link: &mut [usize],
+    last: &mut [usize],
+    plus: &mut [usize],
+    minus: &mut [usize],
+    counts: &mut [usize],
+)
+    ghost s: { Scene }
+    requires scene { IsScene s }
+    requires later { HasLater s starts.now later.now }
+    requires ups { up.now ≡ s.up }
+    requires sizes { size.now ≡ s.size }
+    requires ranks { rank.now ≡ s.rank }
+    requires order { length order.old ≡ length s.up }
+    requires link { length link.old ≡ length s.up + 1 }
+    requires last { length last.old ≡ length s.up }
+    requires plus { length plus.old ≡ length s.up + 1 }
+    requires minus { length minus.old ≡ length s.up + 1 }
+    requires counts { length counts.old ≡ length s.up }
+    ensures { (k : ℕ) → k < length s.up → Marks s (Taken s (length s.up)) k (slice_index counts.new k) }
+{
+    place_by_rank(rank, order);
+    meet_arcs(starts, later, up, rank, order, link, last, plus, minus);
+    tell_counts(size, rank, plus, minus, counts);
+}
