@@ -15,7 +15,7 @@ array([0, 3, 2, 4, 1], dtype=int32)
 >>> analysis = analyze(A)
 >>> analysis.nnz, analysis.info.lnz
 (5, 5)
->>> counts(A).counts
+>>> counts(A).sizes
 array([1, 1, 2, 1, 0], dtype=int32)
 """
 
@@ -35,7 +35,7 @@ if TYPE_CHECKING:
 
     from ._library import Numbers
 
-__all__ = ["amd", "analyze", "counts", "spy", "Analysis", "Counts", "Info", "__version__"]
+__all__ = ["amd", "analyze", "counts", "spy", "Analysis", "Counts", "Info", "Need", "__version__"]
 
 
 class Info(NamedTuple):
@@ -102,6 +102,19 @@ class Analysis(NamedTuple):
         return sparse.csc_matrix(below + sparse.identity(n, bool, "csc"))
 
 
+class Need(NamedTuple):
+    """What a factor needs: exact sums over its columns, and the largest of them."""
+
+    #: The entries below the diagonal, and so the divisions.
+    lnz: int
+    #: The multiply-subtract steps of a factorization LDL'.
+    n_mult_subs_ldl: int
+    #: The multiply-subtract steps of a factorization LU without pivoting.
+    n_mult_subs_lu: int
+    #: The entries of the largest column, with that on the diagonal; 0 where there are no columns.
+    d_max: int
+
+
 class Counts(NamedTuple):
     """How many entries the columns of a factor L have below the diagonal."""
 
@@ -110,14 +123,21 @@ class Counts(NamedTuple):
     #: The parent of each column in the elimination tree, or -1.
     parent: Numbers
     #: The entries of each column below the diagonal.
-    counts: Numbers
+    sizes: Numbers
     #: What the ordering told, or None where p was given.
     info: Optional[Info]
 
     @property
     def nnz(self) -> int:
         """How many entries L has below its diagonal."""
-        return int(self.counts.sum(dtype=np.int64))
+        return int(self.sizes.sum(dtype=np.int64))
+
+    @property
+    def need(self) -> Need:
+        """What the factor needs."""
+        sizes = self.sizes.tolist()
+        squares = sum(it * it for it in sizes)
+        return Need(sum(sizes), (squares + sum(sizes)) // 2, squares, max(sizes) + 1 if sizes else 0)
 
 
 def _columns(A: Any) -> _library.Columns:
@@ -299,12 +319,15 @@ def counts(
 ) -> Counts:
     """Returns how many entries each column of the factor has below its diagonal, and the elimination tree.
 
-    The arguments and errors are those of ``analyze``.
+    The arguments and errors are those of ``analyze``. It takes the memory of the factor.
 
     >>> import scipy.sparse as sp
     >>> cycle = sp.csc_matrix([[1, 1, 0, 1], [1, 1, 1, 0], [0, 1, 1, 1], [1, 0, 1, 1]])
-    >>> counts(cycle, p=[0, 1, 2, 3]).counts
+    >>> told = counts(cycle, p=[0, 1, 2, 3])
+    >>> told.sizes
     array([2, 2, 1, 0], dtype=int32)
+    >>> told.need
+    Need(lnz=5, n_mult_subs_ldl=7, n_mult_subs_lu=9, d_max=3)
     """
     analysis = analyze(A, p, dense=dense, aggressive=aggressive, hold=hold)
     return Counts(analysis.p, analysis.parent, np.diff(analysis.indptr), analysis.info)

@@ -100,6 +100,7 @@ class Orders(unittest.TestCase):
         p, info = amd(sp.csc_matrix((0, 0)), return_info=True)
         self.assertEqual((len(p), info.n, info.lnz), (0, 0, 0))
         self.assertEqual(analyze(sp.csc_matrix((0, 0))).indptr.tolist(), [0])
+        self.assertEqual(counts(sp.csc_matrix((0, 0))).need, (0, 0, 0, 0))
 
     def test_the_input_stays(self):
         A = drawn(80, 0.05, 2)
@@ -157,7 +158,7 @@ class Factors(unittest.TestCase):
                     parents = [int(np.argmax(below[:, k])) if below[:, k].any() else -1 for k in range(n)]
                     self.assertEqual(analysis.parent.tolist(), parents)
                     told = counts(A, p)
-                    self.assertEqual(told.counts.tolist(), below.sum(axis=0).tolist())
+                    self.assertEqual(told.sizes.tolist(), below.sum(axis=0).tolist())
                     self.assertEqual((told.parent.tolist(), told.nnz), (parents, analysis.nnz))
                     if p is None:
                         self.assertLessEqual(analysis.nnz, analysis.info.lnz)

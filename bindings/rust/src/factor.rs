@@ -48,6 +48,43 @@ pub struct Analysis<I> {
     pub factor: Factor<I>,
 }
 
+/// How many entries the columns of a factor have below its diagonal, and what the factor needs.
+#[derive(Debug, Clone, PartialEq, Eq)]
+pub struct Counts<I> {
+    /// The entries of each column.
+    pub sizes: Vec<usize>,
+    /// The parent of each column in the elimination tree, or `None` where the column is empty.
+    pub parent: Vec<Option<I>>,
+    /// What the factor needs.
+    pub need: Need,
+}
+
+/// What a factor needs: exact sums over its columns, and the largest of them.
+#[derive(Debug, Clone, Copy, PartialEq, Eq, Default)]
+pub struct Need {
+    /// The entries below the diagonal, and so the divisions.
+    pub lnz: u128,
+    /// The multiply-subtract steps of a factorization `LDL'`.
+    pub n_mult_subs_ldl: u128,
+    /// The multiply-subtract steps of a factorization `LU` without pivoting.
+    pub n_mult_subs_lu: u128,
+    /// The entries of the largest column, with that on the diagonal; 0 where there are no columns.
+    pub d_max: u128,
+}
+
+impl Need {
+    /// What a factor with one column more needs.
+    fn with_column(self, size: usize) -> Need {
+        let size = size as u128;
+        Need {
+            lnz: self.lnz + size,
+            n_mult_subs_ldl: self.n_mult_subs_ldl + size * (size + 1) / 2,
+            n_mult_subs_lu: self.n_mult_subs_lu + size * size,
+            d_max: self.d_max.max(size + 1),
+        }
+    }
+}
+
 /// The factor in the caller's numbers.
 fn told<I: PrimInt, T: Word>(ptr: &[T], mut rows: Vec<T>, parent: &[T]) -> Result<Factor<I>, Fault> {
     let ptr = converted(ptr, 0)?;
@@ -130,6 +167,29 @@ pub fn columns<I: PrimInt>(n: I, a_p: &[I], a_i: &[I], p: &[I]) -> Result<Factor
             answer => return answer,
         }
     }
+}
+
+/// Returns how many entries each column of the factor in the order `p` has, and what the factor needs. It takes the
+/// memory of the factor.
+///
+/// # Errors
+///
+/// As [`columns`].
+///
+/// ```
+/// // A path of three rows in its own order.
+/// let counts = rimopaku_amd::counts(3, &[0, 1, 2, 2], &[1, 2], &[0, 1, 2])?;
+/// assert_eq!(counts.sizes, [1, 1, 0]);
+/// assert_eq!((counts.need.lnz, counts.need.d_max), (2, 2));
+/// # Ok::<(), rimopaku_amd::Fault>(())
+/// ```
+pub fn counts<I: PrimInt>(n: I, a_p: &[I], a_i: &[I], p: &[I]) -> Result<Counts<I>, Fault> {
+    let Factor { ptr, rows, parent } = columns(n, a_p, a_i, p)?;
+    drop(rows);
+    let mut sizes = room(parent.len())?;
+    sizes.extend(ptr.windows(2).map(|ends| ends[1] - ends[0]));
+    let need = sizes.iter().fold(Need::default(), |need, &size| need.with_column(size));
+    Ok(Counts { sizes, parent, need })
 }
 
 /// Orders a matrix, with rows held last where there are marks, and returns the factor too.

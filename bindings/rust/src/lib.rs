@@ -11,7 +11,8 @@
 //!
 //! - [`try_order`] returns an error where memory is refused, in place of ending the program;
 //! - [`order_holding`] places rows that the caller marks last;
-//! - [`columns`] returns the exact pattern of the factor in any order of the rows, with the elimination tree;
+//! - [`columns`] returns the exact pattern of the factor in any order of the rows, with the elimination tree, and
+//!   [`counts`] how many entries its columns have and what it needs;
 //! - [`analyze`] does both, an ordering and the factor under it.
 //!
 //! ```
@@ -46,7 +47,7 @@ mod order;
 mod raw;
 mod text;
 
-pub use factor::{analyze, analyze_holding, columns, columns_within, Analysis, Factor};
+pub use factor::{analyze, analyze_holding, columns, columns_within, counts, Analysis, Counts, Factor, Need};
 pub use order::{order, order_holding, try_order, Control, Fault, Info, Ordering, Status};
 #[cfg(feature = "std")]
 pub use text::{control, info};

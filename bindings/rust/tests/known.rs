@@ -2,7 +2,8 @@
 
 use num_traits::{cast, NumAssignOps, PrimInt};
 use rimopaku_amd::{
-    analyze, analyze_holding, columns, columns_within, order, order_holding, try_order, Control, Fault, Info, Status,
+    analyze, analyze_holding, columns, columns_within, counts, order, order_holding, try_order, Control, Fault, Info,
+    Status,
 };
 use std::fmt::{Debug, Display};
 
@@ -128,6 +129,11 @@ fn a_factor() {
     assert_eq!(factor.rows, [1, 3, 2, 3, 3]);
     assert_eq!(factor.parent, [Some(1), Some(2), Some(3), None]);
     assert_eq!((factor.column(1), factor.nnz()), (&[2, 3][..], 5));
+    // Columns of 2, 2, 1 and 0 entries: 3 + 3 + 1 steps of LDL', 4 + 4 + 1 of LU.
+    let told = counts(4_i32, &a_p, &a_i, &[0, 1, 2, 3]).expect("counts");
+    assert_eq!((told.sizes, told.parent), (vec![2, 2, 1, 0], factor.parent.clone()));
+    let need = [told.need.lnz, told.need.n_mult_subs_ldl, told.need.n_mult_subs_lu, told.need.d_max];
+    assert_eq!(need, [5, 7, 9, 3]);
     assert_eq!(columns_within(4, &a_p, &a_i, &[0, 1, 2, 3], 4).err(), Some(Fault::RoomTooSmall));
     assert_eq!(columns_within(4, &a_p, &a_i, &[0, 1, 2, 3], 5).expect("a factor"), factor);
 }
