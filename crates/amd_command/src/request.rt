@@ -5,8 +5,8 @@ use amd::Control;
 use clap::{Arg, ArgAction, ArgMatches, Command, Error};
 use std::alloc::{AllocError, Global};
 
-/// The version of the project.
-const VERSION: &str = "1.0.0";
+/// The version of the project, and of the kit that it is proved with.
+const VERSION: &str = "1.0.0 (rattle-kit-13b logic dac8208d650f15bf)";
 
 /// The words of a subcommand. Those that it does not know are as where they are not given.
 #[derive(Clone, Copy)]

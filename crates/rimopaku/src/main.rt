@@ -9,7 +9,8 @@
 //! `--out`, the number of a row a line. `analyze` writes there a line for each column of the factor, in the order of
 //! the elimination: three numbers with a space between them, which are the row of the column, the row of its parent in
 //! the elimination tree, or 0 where it has none, and how many entries the column has below the diagonal. Rows count
-//! from 1. Figures and messages go to standard error.
+//! from 1. Figures and messages go to standard error. An output is written beside its place and moved there once it is
+//! whole; one that is also an input, or another output, is refused.
 //!
 //! The exit status is 0 where all was done, 1 where memory was refused or an output failed, 2 where an argument or an
 //! input is wrong, and 3 where the picture could not be drawn or written, but all else is. With a status of 2, and
