@@ -60,7 +60,7 @@ impl Desk<'_> {
     /// Shows bytes on standard output.
     fn show(&self, bytes: &[u8]) -> io::Result<()> {
         if self.broken {
-            return Err(io::Error::from(ErrorKind::BrokenPipe));
+            return Err(io::Error::from(ErrorKind::WriteZero));
         }
         keep(&self.pages.shown, bytes)
     }

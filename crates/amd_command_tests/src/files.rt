@@ -50,50 +50,97 @@ fn kinds_of_files(rt: HostRuntime) -> Result<(), Fail> {
     Ok(())
 }
 
-/// What is wrong with a line that is no entry.
-const ENTRY: &str = "no row and column in range with the value that the header tells";
-
 /// What is wrong with a line that is no size.
-const SIZE: &str = "no numbers of rows, columns and entries";
+const SIZE: &str = "here must stand the numbers of rows, columns and entries";
+
+/// What is wrong with a line that is no entry.
+const ENTRY: &str = "here must stand the numbers of a row and a column";
+
+/// What is wrong with a last word that is no symmetry.
+const SYMMETRY: &str =
+    "the last word is none of general, symmetric, skew-symmetric, hermitian, or not the fifth";
 
 /// A kind, what stands behind the header, and the line at fault and what is wrong with it.
-const FAULTS: [(&str, &str, u64, &str); 12] = [
+const FAULTS: [(&str, &str, u64, &str); 20] = [
+    ("real", "", 1, SYMMETRY),
+    ("real general more", "", 1, SYMMETRY),
+    ("real banded", "", 1, SYMMETRY),
     (
-        "real",
+        "float general",
         "",
         1,
-        "no line '%%MatrixMarket matrix coordinate', a field and a symmetry",
+        "the fourth word is none of real, double, integer, unsigned-integer, complex, pattern",
     ),
     ("real general", "", 1, SIZE),
     ("real general", "2 2\n", 2, SIZE),
+    ("real general", "2 2 -1\n", 2, SIZE),
     (
         "real general",
         "%\n2 3 0\n",
         3,
-        "a matrix that is not square",
+        "the matrix is not square: 2 rows, 3 columns",
     ),
     (
         "real general",
-        "1048577 1048577 1\n",
-        2,
-        "too many rows for so few entries",
+        "2 2 1\n3 1 1\n",
+        3,
+        "the row is out of range: 3, of rows 1 to 2",
     ),
-    ("real general", "2 2 1\n3 1 1\n", 3, ENTRY),
-    ("real general", "2 2 1\n0 1 1\n", 3, ENTRY),
-    ("real general", "2 2 1\n1 1\n", 3, ENTRY),
-    ("complex general", "2 2 1\n1 1 1\n", 3, ENTRY),
+    (
+        "real general",
+        "2 2 1\n0 1 1\n",
+        3,
+        "the row is out of range: 0, of rows 1 to 2",
+    ),
+    (
+        "real general",
+        "2 2 1\n\n1 -7 1\n",
+        4,
+        "the column is out of range: -7, of columns 1 to 2",
+    ),
+    (
+        "real general",
+        "2 2 1\n1 1\n",
+        3,
+        "the value is missing that the header tells of",
+    ),
+    (
+        "complex general",
+        "2 2 1\n1 1 1\n",
+        3,
+        "the value is missing that the header tells of",
+    ),
+    (
+        "pattern general",
+        "2 2 1\n1 1 1\n",
+        3,
+        "more words than the header tells of",
+    ),
+    (
+        "real general",
+        "2 2 1\n1 1 abc\n",
+        3,
+        "the value is no number",
+    ),
+    (
+        "complex general",
+        "2 2 1\n1 1 1 i\n",
+        3,
+        "the value is no number",
+    ),
     ("pattern general", "2 2 1\n1 x\n", 3, ENTRY),
+    ("pattern general", "2 2 1\n1\n", 3, ENTRY),
     (
         "pattern general",
         "2 2 2\n1 1\n",
         3,
-        "fewer entries than the size tells",
+        "the file ends too early: 1 entries of 2",
     ),
     (
         "pattern general",
         "2 2 1\n1 1\n%\n2 2\n",
         5,
-        "more entries than the size tells",
+        "more entries than the size tells: 1",
     ),
 ];
 
@@ -110,14 +157,99 @@ fn files_at_fault(rt: HostRuntime) -> Result<(), Fail> {
     Ok(())
 }
 
+/// Files whose first line is at fault, and what is told of them.
+const NO_HEADERS: [(&[u8], &str); 7] = [
+    (b"", "the file is empty"),
+    (
+        b"\x1f\x8b\x08\x00",
+        "line 1: the file is compressed: use zcat FILE | rimopaku order -",
+    ),
+    (
+        b"3 3 3\n",
+        "line 1: this is no Matrix Market file: its first line must begin with %%MatrixMarket",
+    ),
+    (
+        b"\n%%MatrixMarket matrix coordinate real general\n",
+        "line 1: this is no Matrix Market file: its first line must begin with %%MatrixMarket",
+    ),
+    (
+        b"%%MatrixMarket vector coordinate real general\n",
+        "line 1: the second word of the first line is not matrix",
+    ),
+    (
+        b"%%MatrixMarket matrix array real general\n",
+        "line 1: the matrix is dense (array), and only a sparse one (coordinate) is read",
+    ),
+    (
+        b"%%MatrixMarket matrix table real general\n",
+        "line 1: the third word of the first line is not coordinate",
+    ),
+];
+
+#[test]
+fn files_without_a_header(rt: HostRuntime) -> Result<(), Fail> {
+    for (file, wanted) in NO_HEADERS {
+        let shown = match read_matrix(rt.alloc(), file) {
+            Ok(_) => String::new(rt.alloc()),
+            Err(error) => format!(in rt.alloc(); "{error}")?,
+        };
+        assert!(&rt; shown.as_str() == wanted, "{wanted}");
+    }
+    Ok(())
+}
+
+/// First lines in letters of any case, behind a byte-order mark, and with line ends of two bytes.
+#[test]
+fn headers_of_any_case(rt: HostRuntime) -> Result<(), Fail> {
+    for file in [
+        "%%MATRIXMARKET MATRIX COORDINATE REAL GENERAL\n2 2 2\n2 1 1\n1 2 -.5e-3\n",
+        "%%MatrixMarket matrix coordinate Double Skew-Symmetric\n2 2 1\n2 1 1\n",
+        "\u{feff}%%MatrixMarket matrix coordinate unsigned-integer general\r\n2 2 2\r\n2 1 1\r\n1 2 3\r\n",
+        "%%MatrixMarket matrix coordinate complex Hermitian\n% note\n\n2 2 1\n\t2 1 nan inf",
+    ] {
+        let shown = told(rt.alloc(), file)?;
+        assert!(&rt; shown.as_str() == "[0, 1, 2] [1, 0]", "{file}");
+    }
+    Ok(())
+}
+
+/// A line may have 65,536 bytes with its line feed, and no more; a longer one is not read whole.
+#[test]
+fn long_lines(rt: HostRuntime) -> Result<(), Fail> {
+    let alloc = rt.alloc();
+    for (spaces, wanted) in [
+        (65533usize, "[0, 1, 1] [1]"),
+        (65534, "line 3: the line has more than 65536 bytes"),
+        (1 << 20, "line 3: the line has more than 65536 bytes"),
+    ] {
+        let mut file = String::from_str(
+            alloc,
+            "%%MatrixMarket matrix coordinate pattern general\n2 2 1\n2",
+        )?;
+        for _ in 0..spaces {
+            file.push_str(" ")?;
+        }
+        file.push_str("1\n")?;
+        let shown = told(alloc, &file)?;
+        assert!(&rt; shown.as_str() == wanted, "{spaces}");
+    }
+    Ok(())
+}
+
 #[test]
 fn rows_to_hold(rt: HostRuntime) -> Result<(), Fail> {
     for (text, wanted) in [
         ("", "[false, false, false]"),
         ("% last\n3\n\n 1 \n3", "[true, false, true]"),
-        ("2\n4\n", "line 2: no number of a row alone"),
-        ("0\n", "line 1: no number of a row alone"),
-        ("1 2\n", "line 1: no number of a row alone"),
+        (
+            "2\n4\n",
+            "line 2: the row is out of range: 4, of rows 1 to 3",
+        ),
+        ("0\n", "line 1: the row is out of range: 0, of rows 1 to 3"),
+        (
+            "1 2\n",
+            "line 1: here must stand the number of a row, alone",
+        ),
     ] {
         let shown = match read_held(rt.alloc(), 3, text.as_bytes()) {
             Ok(marks) => {

@@ -7,6 +7,8 @@ use amd_command::causes::Cause;
 use amd_command::program::run;
 use std::alloc::{AllocError, Global};
 use std::cell::RefCell;
+use std::io;
+use std::io::ErrorKind;
 use std::process::Abort;
 use std::test::Fail;
 
@@ -79,7 +81,7 @@ fn run_at_desk(
 type Refused = (&'static [&'static str], &'static str, u8, &'static str);
 
 /// Words and files at fault: status 2. Outputs that cannot be opened: status 1.
-const REFUSED: [Refused; 15] = [
+const REFUSED: [Refused; 18] = [
     (&[], "", 2, "Usage: rimopaku"),
     (&["sort", "-"], PATH, 2, "sort"),
     (&["order"], PATH, 2, "FILE"),
@@ -90,30 +92,30 @@ const REFUSED: [Refused; 15] = [
         2,
         "rimopaku: --dense: the dense row parameter is no",
     ),
-    (&["info", "-"], "", 2, "rimopaku: -: line 0: "),
+    (&["info", "-"], "", 2, "rimopaku: -: the file is empty\n"),
     (
         &["info", "-"],
         BAD,
         2,
-        "rimopaku: -: line 3: no row and column in range",
+        "rimopaku: -: line 3: the row is out of range: 3, of rows 1 to 2",
     ),
     (
         &["order", "-"],
         BAD,
         2,
-        "rimopaku: -: line 3: no row and column in range",
+        "rimopaku: -: line 3: the row is out of range: 3, of rows 1 to 2",
     ),
     (
         &["order", "-", "--picture", NOWHERE],
         BAD,
         2,
-        "rimopaku: -: line 3: no row and column in range",
+        "rimopaku: -: line 3: the row is out of range: 3, of rows 1 to 2",
     ),
     (
         &["analyze", "-"],
         BAD,
         2,
-        "rimopaku: -: line 3: no row and column in range",
+        "rimopaku: -: line 3: the row is out of range: 3, of rows 1 to 2",
     ),
     (
         &["order", NOWHERE],
@@ -122,6 +124,38 @@ const REFUSED: [Refused; 15] = [
         "rimopaku: /no/such/folder/file: cannot be opened: ",
     ),
     (&["info", "/"], "", 2, "rimopaku: /: "),
+    (
+        &["order", "/etc/hostname", "--out", "/etc/hostname"],
+        "",
+        2,
+        "rimopaku: /etc/hostname: is named twice: an output must be a file of its own\n",
+    ),
+    (
+        &[
+            "order",
+            "-",
+            "--hold",
+            "/etc/hostname",
+            "--picture",
+            "/etc/../etc/hostname",
+        ],
+        PATH,
+        2,
+        "rimopaku: /etc/../etc/hostname: is named twice: an output must be a file of its own\n",
+    ),
+    (
+        &[
+            "order",
+            "-",
+            "--out",
+            "/tmp/no-such-file",
+            "--picture",
+            "/tmp/no-such-file",
+        ],
+        PATH,
+        2,
+        "rimopaku: /tmp/no-such-file: is named twice: an output must be a file of its own\n",
+    ),
     (
         &["order", "-", "--hold", NOWHERE],
         PATH,
@@ -213,6 +247,8 @@ fn a_picture_that_fails(rt: HostRuntime) -> Result<(), Fail> {
             .contains("rimopaku: /dev/full: the picture cannot be written: ")
     );
     let alloc = rt.alloc();
+    assert!(&rt; Cause::Write(io::Error::from(ErrorKind::BrokenPipe)).is_quiet());
+    assert!(&rt; !Cause::Write(io::Error::from(ErrorKind::WriteZero)).is_quiet());
     let told = format!(in alloc; "{}", Cause::Memory.at_picture())?;
     assert!(&rt; told.as_str() == "the picture cannot be written: out of memory");
     Ok(())
