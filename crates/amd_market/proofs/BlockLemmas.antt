@@ -1,5 +1,6 @@
 -- Bytes that were read behind others, and the first line of bytes of which the front is held.
-use Rattle.std.proofs.Common.{◌≡◌, ◌≢◌, ◌+◌, ◌-◌, ◌<◌, ◌≤◌, ℕ, zero, suc, Bool, true, false, Option, Some, None, List, [], ◌∷◌, ◌++◌, length, get_or, take, drop}
+use Rattle.std.proofs.Common.{◌≡◌, ◌≢◌, ◌+◌, ◌-◌, ◌<◌, ◌≤◌, ℕ, zero, suc, Bool, true, false, Option, Some, None, List, [], ◌∷◌, ◌++◌}
+use Rattle.std.proofs.Common.{length, get_or, take, drop}
 use Rattle.std.proofs.Common.{arith, refl, ap, sym, ◌∙◌, subst, eqb, add-one, append_assoc, append-nil, length-drop, length-take-le}
 use Rattle.std.proofs.Math.Seq.{take-add, take-append_seam}
 use Rattle.std.proofs.lemmas.List.{take_all}
@@ -32,7 +33,8 @@ line-held (x ∷ xs) more (suc k) h before here =
     rw (other, e) (ap (λ z. x ∷ z) rest.0, rest.1)
 
 -- bytes without a line feed are one line
-pub line-last : (held : List ℕ) → ((j : ℕ) → j < length held → get_or held j 0 ≢ 10) → (take_through 10 held ≡ held) × (drop_through 10 held ≡ [])
+pub line-last : (held : List ℕ) → ((j : ℕ) → j < length held → get_or held j 0 ≢ 10) → (take_through 10 held ≡ held)
+    × (drop_through 10 held ≡ [])
 line-last [] none = (refl, refl)
 line-last (x ∷ xs) none =
     let rest = line-last xs (λ j l. none (suc j) (omega arith)) in

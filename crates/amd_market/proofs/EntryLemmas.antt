@@ -29,8 +29,10 @@ entry-words field n line f s a b hf hs e h =
     let all : h.first ∷ (h.second ∷ h.behind) ≡ f ∷ (s ∷ b) = sym h.parts ∙ hf ∙ ap (λ z. f ∷ z) hs in
     let one : h.first ≡ f = cc in
     let two : h.second ≡ s = cc in
-    let rest : h.behind ≡ b = cc in
-    (subst (λ w. SpellsIndex w n e.0) one h.row, (subst (λ w. SpellsIndex w n e.1) two h.column, subst (AreValues (value_words field)) rest h.value))
+    let rest : h.behind ≡ b = cc in (
+      subst (λ w. SpellsIndex w n e.0) one h.row,
+      (subst (λ w. SpellsIndex w n e.1) two h.column, subst (AreValues (value_words field)) rest h.value),
+    )
 
 -- one entry more
 pub entries-more : (field : Field) (n : ℕ) (ls : List (List ℕ)) (es : List (ℕ × ℕ)) (l : List ℕ) (e : ℕ × ℕ) → SpellsEntries field n ls es
@@ -53,7 +55,8 @@ pairs-inside : (n : ℕ) (s : Symmetry) (e : ℕ × ℕ) → e.0 < n → e.1 < n
 pairs-inside n s e h k = at (is_mirrored s && not (e.0 == e.1))
   where
     at : (b : Bool) → All {X = ℕ × ℕ} (Inside n) (cond b ((e.0, e.1) ∷ ((e.1, e.0) ∷ [])) ((e.0, e.1) ∷ []))
-    at true = All-append {X = ℕ × ℕ} (Inside n) ((e.0, e.1) ∷ []) ((e.1, e.0) ∷ []) (all-one n (e.0, e.1) (h, k)) (all-one n (e.1, e.0) (k, h))
+    at true = All-append {X = ℕ × ℕ} (Inside n) ((e.0, e.1) ∷ []) ((e.1, e.0) ∷ []) (all-one n (e.0, e.1) (h, k))
+        (all-one n (e.1, e.0) (k, h))
     at false = all-one n (e.0, e.1) (h, k)
 
 -- the pairs of all entries lie in the matrix

@@ -59,7 +59,8 @@ pairs-inside remaining a b header n k ps h =
 -- all parts of a file
 pub file-whole : {R Z : Type 0} (remaining : R → Option (List ℕ)) (a b c d e : LineReader R Z) (input : R) (line size_line : List ℕ)
     (header : Header) (n k : ℕ)
-    (ps : List (ℕ × ℕ)) (ap' ai : List ℕ) → rest_of remaining a ≡ remaining input → TakesLines remaining a b (line ∷ []) → SpellsHeader line header →
+    (ps : List (ℕ × ℕ)) (ap' ai : List ℕ) → rest_of remaining a ≡ remaining input → TakesLines remaining a b (line ∷ []) →
+    SpellsHeader line header →
     TakesTelling remaining b c size_line
     → SpellsSize size_line n n k → TakesEntries remaining c d header n k ps → TakesNotes remaining d e →
     HoldsPairs n ps ap' ai
@@ -103,7 +104,8 @@ file-whole remaining a b c d e input line size_line header n k ps ap' ai same fi
         (end-append ((line ∷ []) ++ (second.lines ++ third.lines)) (Some bytes) mid last h z) w)
 
 -- an error of a reader that began at the start of a text
-pub names-line : {R Z : Type 0} (remaining : R → Option (List ℕ)) (a : LineReader R Z) (input : R) (e : ReadError) → rest_of remaining a ≡ remaining input →
+pub names-line : {R Z : Type 0} (remaining : R → Option (List ℕ)) (a : LineReader R Z) (input : R) (e : ReadError) → rest_of remaining a
+    ≡ remaining input →
     a.lines ≡ 0
     → FailsAt remaining a e → IfSome (remaining input) (λ bytes. NamesLine bytes e)
 names-line remaining a input e same none h = rw (← same) (known (rest_of remaining a) h.took)

@@ -1,5 +1,6 @@
 -- Lines that were read one after another.
-use Rattle.std.proofs.Common.{◌≡◌, ◌≢◌, ◌+◌, ◌<◌, ◌≤◌, ℕ, Bool, true, false, Option, Some, None, List, [], ◌∷◌, ◌++◌, cond, not, refl, sym, ap, ◌∙◌, subst}
+use Rattle.std.proofs.Common.{◌≡◌, ◌≢◌, ◌+◌, ◌<◌, ◌≤◌, ℕ, Bool, true, false, Option, Some, None, List, [], ◌∷◌, ◌++◌, cond, not, refl, sym}
+use Rattle.std.proofs.Common.{ap, ◌∙◌, subst}
 use Rattle.std.proofs.Common.{append-nil, append_assoc, arith, length, length-append, get_or, take, drop, zero, suc}
 use Rattle.std.proofs.lemmas.Bool.{eq-eqb, eqb-true}
 use Rattle.std.specs.Prelude.{filter, All, IfSome}
@@ -110,7 +111,8 @@ behind_line None = None
 behind_line (Some bytes) = Some (drop_through 10 bytes)
 
 -- an error that names the next line
-pub fails-next : {R Z : Type 0} (remaining : R → Option (List ℕ)) (a : LineReader R Z) (e : ReadError) → named_line e ≡ one_line_more a.lines
+pub fails-next : {R Z : Type 0} (remaining : R → Option (List ℕ)) (a : LineReader R Z) (e : ReadError) → named_line e
+    ≡ one_line_more a.lines
     → IfSome (rest_of remaining a) (λ bytes. 0 < length bytes) → FailsAt remaining a e
 fails-next remaining a e named some = record {
   lines = next_line (rest_of remaining a) ∷ [];
@@ -119,7 +121,8 @@ fails-next remaining a e named some = record {
   took = known (rest_of remaining a) some;
 }
   where
-    known : (o : Option (List ℕ)) → IfSome o (λ bytes. 0 < length bytes) → IfSome o (λ bytes. BeginsWith (next_line o ∷ []) bytes (behind_line o))
+    known : (o : Option (List ℕ)) → IfSome o (λ bytes. 0 < length bytes) →
+        IfSome o (λ bytes. BeginsWith (next_line o ∷ []) bytes (behind_line o))
     known None h = tt
     known (Some bytes) h = (h, refl, refl)
 
@@ -134,20 +137,23 @@ pub passed-line : {R Z : Type 0} (remaining : R → Option (List ℕ)) (a b : Li
     b.input ≡ a.input → TakesLine remaining a b true
 passed-line remaining a b count h counted line held input = record {
   counted = counted;
-  took = known (rest_of remaining a) (held-some (held_of a.block) (remaining a.input) (let w = h.within in let s = h.some in omega (arith, w, s))) h.line h.rest;
+  took = known (rest_of remaining a)
+      (held-some (held_of a.block) (remaining a.input) (let w = h.within in let s = h.some in omega (arith, w, s))) h.line h.rest;
 }
   where
     after : rest_of remaining b ≡ prepend_known (drop count (held_of a.block)) (remaining a.input)
     after = ap (λ z. prepend_known z (remaining b.input)) held ∙ ap (λ i. prepend_known (drop count (held_of a.block)) (remaining i)) input
 
-    known : (o : Option (List ℕ)) → IfSome o (λ bytes. 0 < length bytes) → IfSome o (λ bytes. take_through 10 bytes ≡ take count (held_of a.block)) →
+    known : (o : Option (List ℕ)) → IfSome o (λ bytes. 0 < length bytes) →
+        IfSome o (λ bytes. take_through 10 bytes ≡ take count (held_of a.block)) →
         IfSome o (λ bytes. prepend_known (drop count (held_of a.block)) (remaining a.input) ≡ Some (drop_through 10 bytes)) →
         IfSome o (λ bytes. TookLine bytes (line_of b) (rest_of remaining b) true)
     known None s l r = tt
     known (Some bytes) s l r = (s, line ∙ sym l, after ∙ r)
 
 -- the next line ends at the first line feed that is held
-pub ends-here : {R Z : Type 0} (remaining : R → Option (List ℕ)) (a : LineReader R Z) (k : ℕ) → NoneBefore (Passes (is_byte 10) (held_of a.block)) 0 (length (held_of a.block)) k →
+pub ends-here : {R Z : Type 0} (remaining : R → Option (List ℕ)) (a : LineReader R Z) (k : ℕ) →
+    NoneBefore (Passes (is_byte 10) (held_of a.block)) 0 (length (held_of a.block)) k →
     Passes (is_byte 10) (held_of a.block) k → EndsLine remaining a (k + 1)
 ends-here remaining a k none here = record {
   within = (let h = none.high in omega (arith, h));
@@ -156,8 +162,10 @@ ends-here remaining a k none here = record {
   rest = (parts (remaining a.input)).1;
 }
   where
-    parts : (known : Option (List ℕ)) → IfSome (prepend_known (held_of a.block) known) (λ bytes. take_through 10 bytes ≡ take (k + 1) (held_of a.block))
-        × IfSome (prepend_known (held_of a.block) known) (λ bytes. prepend_known (drop (k + 1) (held_of a.block)) known ≡ Some (drop_through 10 bytes))
+    parts : (known : Option (List ℕ)) →
+        IfSome (prepend_known (held_of a.block) known) (λ bytes. take_through 10 bytes ≡ take (k + 1) (held_of a.block))
+        × IfSome (prepend_known (held_of a.block) known) (λ bytes. prepend_known (drop (k + 1) (held_of a.block)) known
+        ≡ Some (drop_through 10 bytes))
     parts None = (tt, tt)
     parts (Some xs) =
         let both = line-held (held_of a.block) xs k none.high (λ j l e. none.before j (omega arith) l (eq-eqb _ _ e)) (eqb-true _ _ here) in
@@ -173,8 +181,10 @@ ends-all remaining a k size some none end = record {
   rest = (parts (remaining a.input) end).1;
 }
   where
-    parts : (known : Option (List ℕ)) → IsAtEnd known → IfSome (prepend_known (held_of a.block) known) (λ bytes. take_through 10 bytes ≡ take k (held_of a.block))
-        × IfSome (prepend_known (held_of a.block) known) (λ bytes. prepend_known (drop k (held_of a.block)) known ≡ Some (drop_through 10 bytes))
+    parts : (known : Option (List ℕ)) → IsAtEnd known →
+        IfSome (prepend_known (held_of a.block) known) (λ bytes. take_through 10 bytes ≡ take k (held_of a.block))
+        × IfSome (prepend_known (held_of a.block) known) (λ bytes. prepend_known (drop k (held_of a.block)) known
+        ≡ Some (drop_through 10 bytes))
     parts None h = (tt, tt)
     parts (Some xs) h =
         let both = line-last (held_of a.block) (λ j l. none j 0 l) in
@@ -184,14 +194,16 @@ ends-all remaining a k size some none end = record {
         )
 
 -- nothing is left
-pub none-left : {R Z : Type 0} (remaining : R → Option (List ℕ)) (a : LineReader R Z) → length (held_of a.block) ≡ 0 → IsAtEnd (remaining a.input) → TakesLine remaining a a false
+pub none-left : {R Z : Type 0} (remaining : R → Option (List ℕ)) (a : LineReader R Z) → length (held_of a.block) ≡ 0 →
+    IsAtEnd (remaining a.input) → TakesLine remaining a a false
 none-left remaining a none end = record { counted = refl; took = known (remaining a.input) end }
   where
     empty : (xs : List ℕ) → length xs ≡ 0 → xs ≡ []
     empty [] h = refl
     empty (x ∷ xs) h = absurd (omega arith)
 
-    known : (o : Option (List ℕ)) → IsAtEnd o → IfSome (prepend_known (held_of a.block) o) (λ bytes. TookLine bytes (line_of a) (prepend_known (held_of a.block) o) false)
+    known : (o : Option (List ℕ)) → IsAtEnd o →
+        IfSome (prepend_known (held_of a.block) o) (λ bytes. TookLine bytes (line_of a) (prepend_known (held_of a.block) o) false)
     known None h = tt
     known (Some xs) h =
         let all : held_of a.block ++ xs ≡ [] = ap (λ z. z ++ xs) (empty (held_of a.block) none) ∙ h in
@@ -231,19 +243,23 @@ same-then : (P : List ℕ → Type 0) (first mid : Option (List ℕ)) → IfSome
 same-then P None mid h k = tt
 same-then P (Some bytes) mid h k = subst (λ o. IfSome o P) h k
 
-pub keeps-append : {R Z : Type 0} (remaining : R → Option (List ℕ)) (a b c : LineReader R Z) → KeepsRest remaining a b → KeepsRest remaining b c → KeepsRest remaining a c
+pub keeps-append : {R Z : Type 0} (remaining : R → Option (List ℕ)) (a b c : LineReader R Z) → KeepsRest remaining a b →
+    KeepsRest remaining b c → KeepsRest remaining a c
 keeps-append remaining a b c h k = record {
   counted = k.counted ∙ h.counted;
   kept = same-then (λ bytes. rest_of remaining c ≡ Some bytes) (rest_of remaining a) (rest_of remaining b) h.kept k.kept;
 }
 
-pub keeps-takes : {R Z : Type 0} (remaining : R → Option (List ℕ)) (a b c : LineReader R Z) (some : Bool) → KeepsRest remaining a b → TakesLine remaining b c some → TakesLine remaining a c some
+pub keeps-takes : {R Z : Type 0} (remaining : R → Option (List ℕ)) (a b c : LineReader R Z) (some : Bool) → KeepsRest remaining a b →
+    TakesLine remaining b c some → TakesLine remaining a c some
 keeps-takes remaining a b c some h k = record {
   counted = k.counted ∙ ap (λ n. cond some (one_line_more n) n) h.counted;
-  took = same-then (λ bytes. TookLine bytes (line_of c) (rest_of remaining c) some) (rest_of remaining a) (rest_of remaining b) h.kept k.took;
+  took = same-then (λ bytes. TookLine bytes (line_of c) (rest_of remaining c) some) (rest_of remaining a)
+      (rest_of remaining b) h.kept k.took;
 }
 
-pub keeps-fails : {R Z : Type 0} (remaining : R → Option (List ℕ)) (a b : LineReader R Z) (e : ReadError) → KeepsRest remaining a b → FailsAt remaining b e → FailsAt remaining a e
+pub keeps-fails : {R Z : Type 0} (remaining : R → Option (List ℕ)) (a b : LineReader R Z) (e : ReadError) → KeepsRest remaining a b →
+    FailsAt remaining b e → FailsAt remaining a e
 keeps-fails remaining a b e h k = record {
   lines = k.lines;
   rest = k.rest;
@@ -252,7 +268,8 @@ keeps-fails remaining a b e h k = record {
 }
 
 -- no line was read
-pub fails-still : {R Z : Type 0} (remaining : R → Option (List ℕ)) (a : LineReader R Z) (e : ReadError) → named_line e ≡ a.lines → FailsAt remaining a e
+pub fails-still : {R Z : Type 0} (remaining : R → Option (List ℕ)) (a : LineReader R Z) (e : ReadError) → named_line e ≡ a.lines →
+    FailsAt remaining a e
 fails-still remaining a e n = fails-here remaining a a [] e (takes-none remaining a) n
 
 -- a search that found nothing

@@ -6,5 +6,6 @@ use Rattle.amd_market.proofs.lines.LineReader.pass_last.Goals as goal
 
 pub pass_line-requires : goal.pass_line-requires
 pass_line-requires g c =
-    ends-all g.R.Read.remaining c.args.self.now (length c.held-count.result.now) (ap length c.held-count.ensures) (omega arith) c.requires.none
+    ends-all g.R.Read.remaining c.args.self.now (length c.held-count.result.now) (ap length c.held-count.ensures)
+    (omega arith) c.requires.none
     c.requires.input
