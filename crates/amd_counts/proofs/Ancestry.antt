@@ -222,7 +222,8 @@ module _ (o : Order) (laws : IsGraph o.graph) (i : ℕ) (n : i < length o.rows) 
         tells = record {
           room = length-set parent k (Some i) ∙ c.tells.room;
           each = λ m l. elim (cases_eq m k) [
-            | inl same ↦ subst (λ v. TellsParent o i v (slice_index_or parent' v None)) (sym same) (subst (TellsParent o i k) (sym parent-k) is-parent)
+            | inl same ↦ subst (λ v. TellsParent o i v (slice_index_or parent' v None)) (sym same) (subst (TellsParent o i k)
+                (sym parent-k) is-parent)
             | inr other ↦ subst (TellsParent o i m) (sym (parent-other m other)) (c.tells.each m l)
           ];
         };
@@ -275,7 +276,8 @@ module _ (o : Order) (laws : IsGraph o.graph) (i : ℕ) (n : i < length o.rows) 
   ]
 
   -- after the climbs of row i its entries have parents
-  pub parents-told : (parent : List (Option ℕ)) (ancestor : List ℕ) (earlier : List ℕ) → AreEarlier o i earlier → Climbing o i i parent ancestor →
+  pub parents-told : (parent : List (Option ℕ)) (ancestor : List ℕ) (earlier : List ℕ) → AreEarlier o i earlier →
+      Climbing o i i parent ancestor →
       ((s : ℕ) → s < length earlier → IsDone o i parent (slice_index earlier s)) → TellParents o (i + 1) parent
   parents-told parent ancestor earlier are c done =
       record { room = c.tells.room; each = λ m l. tell m (slice_index_or parent m None) refl (c.tells.each m l) }

@@ -82,7 +82,8 @@ module _ (o : Order) (laws : IsGraph o.graph) (parent : List (Option ℕ)) (up :
 
     later-is : (starts later : List ℕ) → HasEarlier (mirror o) starts later → (j : ℕ) → j < length up →
         (list : List ℕ) → ((m : ℕ) → Contains list m ↔ ((m < length up - 1 - j) ×
-        (o.graph.edge (slice_index (reverse o.rows) m) (slice_index (reverse o.rows) (length up - 1 - j)) ≡ true))) → AreLater scene-of j list
+        (o.graph.edge (slice_index (reverse o.rows) m) (slice_index (reverse o.rows) (length up - 1 - j)) ≡ true))) →
+        AreLater scene-of j list
     later-is starts later h j l list are m =
         let e = places in
         let at-j : slice_index (reverse o.rows) (length up - 1 - j) ≡ slice_index o.rows j = mirrored (length up - 1 - j) j
@@ -115,15 +116,18 @@ module _ (o : Order) (laws : IsGraph o.graph) (parent : List (Option ℕ)) (up :
           room = (let a = h.room in omega (arith, a, r, e));
           ascending = λ m l. h.ascending m (omega (arith, l, r, e));
           within = λ m l. h.within m (omega (arith, l, r, e));
-          each = λ j l. later-is starts later h j l _ (subst (λ v. (m : ℕ) → Contains (slice_range later (slice_index starts (length up - 1 - j))
+          each = λ j l. later-is starts later h j l _ (subst (λ v. (m : ℕ) → Contains (slice_range later (slice_index starts
+              (length up - 1 - j))
               (slice_index starts v)) m ↔ ((m < length up - 1 - j) × (o.graph.edge (slice_index (reverse o.rows) m)
-              (slice_index (reverse o.rows) (length up - 1 - j)) ≡ true))) (let q : length up - 1 - j + 1 ≡ length up - j = omega (arith, l) in q)
+              (slice_index (reverse o.rows) (length up - 1 - j)) ≡ true))) (let q : length up - 1 - j + 1 ≡ length up - j = omega
+              (arith, l) in q)
               (h.each (length up - 1 - j) (omega (arith, l, r, e))));
         }
 
     -- the marks of a column are its entries
     pub sizes-held : (counts : List ℕ) → length counts ≡ length o.rows →
-        ((k : ℕ) → k < length up → Marks scene-of (Taken scene-of (length up)) k (slice_index counts k)) → HoldSizes o.graph o.rows counts parent
+        ((k : ℕ) → k < length up → Marks scene-of (Taken scene-of (length up)) k (slice_index counts k)) →
+        HoldSizes o.graph o.rows counts parent
     sizes-held counts room marks = hold_sizes o laws counts parent (record {
       room = room;
       each = λ k l. (

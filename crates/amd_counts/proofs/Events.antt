@@ -16,7 +16,8 @@ bump xs r = set xs r (slice_index xs r + 1)
 
 pub bump-over : (xs : List ℕ) (r m : ℕ) → r < length xs → r < m → sum_to (bump xs r) m ≡ sum_to xs m + 1
 bump-over xs r m l low =
-    let a = sum_at m (λ k. slice_index (bump xs r) k) (λ k. slice_index xs k) r low (λ k h ne. get_or-set_other xs r k (slice_index xs r + 1) 0 ne) in
+    let a = sum_at m (λ k. slice_index (bump xs r) k) (λ k. slice_index xs k) r low (λ k h ne. get_or-set_other xs r k
+    (slice_index xs r + 1) 0 ne) in
     let b = get_or-set_same xs r (slice_index xs r + 1) 0 l in omega (arith, a, b)
 
 pub bump-under : (xs : List ℕ) (r m : ℕ) → m ≤ r → sum_to (bump xs r) m ≡ sum_to xs m
@@ -64,7 +65,8 @@ module _ (s : Scene) (scene : IsScene s) where
   in-above x k l m low high =
       let one = size-positive s.up scene.goes s.size s.rank scene.measured scene.ranked k (omega (arith, m)) in
       let f = size-fits s.up scene.goes s.size s.rank scene.measured scene.ranked scene.all k (omega (arith, m)) in
-      within s.up scene.goes s.size s.rank scene.measured scene.ranked x k (omega (arith, m)) l (omega (arith, high)) (omega (arith, low, f))
+      within s.up scene.goes s.size s.rank scene.measured scene.ranked x k (omega (arith, m)) l (omega (arith, high)) (omega
+      (arith, low, f))
 
   pub out-above : (x k : ℕ) → x < n → k < n → (Above s.up x k → ⊥) → (ranked-of x < low_of s k) ⊎ (ranked-of k + 1 ≤ ranked-of x)
   out-above x k l m not = elim (cases_lt (ranked-of x) (low_of s k)) [
@@ -130,7 +132,8 @@ module _ (s : Scene) (scene : IsScene s) where
       (split : (x y : ℕ) → seen' x y → seen x y ⊎ ((x ≡ j) × (y ≡ i))) where
     -- the arc changes no mark of column k
     pub marks-same : (k a : ℕ) → Marks s seen k a → ((test : ℕ → Bool) →
-        ((x y : ℕ) → y < n → k < y → Above s.up x k → seen x y → test y ≡ true) → k < i → Above s.up j k → test i ≡ true) → Marks s seen' k a
+        ((x y : ℕ) → y < n → k < y → Above s.up x k → seen x y → test y ≡ true) → k < i → Above s.up j k → test i ≡ true) →
+        Marks s seen' k a
     marks-same k a m at-i = record {
       test = m.test;
       marked = λ y l h. (let r = m.marked y l h in (r.0, r.1, r.2, keep r.1 y r.3));
@@ -260,7 +263,8 @@ module _ (s : Scene) (scene : IsScene s) where
           ]
 
       -- one arc more was taken
-      pub met-next : q < n → ((k : ℕ) → k < n → (a : ℕ) × Marks s seen' k a × Balance s (bump plus (ranked-of j)) (bump minus (ranked-of q)) k a) →
+      pub met-next : q < n → ((k : ℕ) → k < n → (a : ℕ) × Marks s seen' k a × Balance s (bump plus (ranked-of j)) (bump minus
+          (ranked-of q)) k a) →
           Met s seen' (set last i j) (bump plus (ranked-of j)) (bump minus (ranked-of q))
       met-next low-q columns = record {
         last_room = length-set last i j ∙ met.last_room;
@@ -286,7 +290,8 @@ module _ (s : Scene) (scene : IsScene s) where
                 (r.1 x (elim (split x y h) [ inl old ↦ old | inr both ↦ absurd (other both.1) ])),
           ))
         ];
-        spent = (let p = bump-over plus (ranked-of j) (n + 1) plus-in plus-low in let m = bump-over minus (ranked-of q) (n + 1) minus-in minus-low in
+        spent = (let p = bump-over plus (ranked-of j) (n + 1) plus-in plus-low in let m = bump-over minus (ranked-of q)
+            (n + 1) minus-in minus-low in
             let e = met.spent in omega (arith, p, m, e));
         columns = columns;
       }

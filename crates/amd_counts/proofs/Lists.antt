@@ -85,7 +85,8 @@ module _ (s : Scene) (scene : IsScene s) (t j : ℕ) (later : List ℕ) (low : j
               let same : x ≡ j = rank-once s.up scene.goes s.size s.rank scene.measured scene.ranked x j low-x low
               (let l = h.1 in omega (arith, l, not, here)) in
               let back : y ≡ length s.up - 1 - (length s.up - 1 - y) = (let b = arc.most in omega (arith, b)) in
-              let arc-j : Arc s j (length s.up - 1 - (length s.up - 1 - y)) = subst (λ v. Arc s j v) back (subst (λ v. Arc s v y) same arc) in
+              let arc-j : Arc s j (length s.up - 1 - (length s.up - 1 - y)) = subst (λ v. Arc s j v) back (subst (λ v. Arc s v y) same arc)
+              in
               let at = place_of later (length s.up - 1 - y) (contains_has later (length s.up - 1 - y)
               ((are (length s.up - 1 - y)).1 ((let b = arc.most in omega (arith, b)), arc-j))) in
               inr (same, at.0, (let l = at.1 in omega (arith, l, long)), back ∙ ap (λ v. length s.up - 1 - v) (sym (at.2 0))))
@@ -119,7 +120,8 @@ module _ (s : Scene) (scene : IsScene s) (t j : ℕ) (later : List ℕ) (low : j
 
     pub first-arc : (m : ℕ) (r : List ℕ) → m ≡ length s.up → r ≡ s.rank → slice_index last (m - 1 - slice_index later u) ≡ m →
         q ≡ m - 1 - slice_index later u → After m r
-    first-arc m r e f = subst (λ v. slice_index last (m - 1 - slice_index later u) ≡ m → q ≡ m - 1 - slice_index later u → After m v) (sym f)
+    first-arc m r e f = subst (λ v. slice_index last (m - 1 - slice_index later u) ≡ m → q ≡ m - 1 - slice_index later u → After m v)
+        (sym f)
         (subst (λ v. slice_index last (v - 1 - slice_index later u) ≡ v → q ≡ v - 1 - slice_index later u → After v s.rank) (sym e) first)
 
     pub next-arc : (m : ℕ) (r : List ℕ) → m ≡ length s.up → r ≡ s.rank → slice_index last (m - 1 - slice_index later u) ≢ m →
@@ -142,7 +144,8 @@ module _ (s : Scene) (scene : IsScene s) (t j : ℕ) (later : List ℕ) (low : j
         let b : slice_index r q ≡ slice_index s.rank q = ap (λ v. slice_index v q) e in
         let room = met.minus_room in omega (arith, a, b, room)
 
-    pub minus-more : (r : List ℕ) → r ≡ s.rank → q < length s.up → slice_index minus (slice_index r q) + 1 ≤ sum_to plus (length s.up + 1) + 1
+    pub minus-more : (r : List ℕ) → r ≡ s.rank → q < length s.up → slice_index minus (slice_index r q) + 1 ≤ sum_to plus
+        (length s.up + 1) + 1
     minus-more r e m =
         let a = minus-low r e m in let room = met.minus_room in
         let c = term_le_sum (length s.up + 1) (λ k. slice_index minus k) (slice_index r q) (omega (arith, a, room)) in

@@ -31,7 +31,8 @@ module _ (up : List ℕ) (goes : GoesUp up) where
   above-top-by : (fuel x : ℕ) → length up - x ≤ fuel → x ≤ length up → Above up x (length up)
   above-top-by zero x f l = subst (λ y. Above up y (length up)) (let e : length up ≡ x = omega (arith, f, l) in e) itself
   above-top-by (suc fuel) x f l = elim (cases_lt x (length up)) [
-    | inl low ↦ (let h = goes.rises x low in let m = goes.most x low in step low (above-top-by fuel (slice_index up x) (omega (arith, f, h)) m))
+    | inl low ↦ (let h = goes.rises x low in let m = goes.most x low in step low (above-top-by fuel (slice_index up x) (omega
+        (arith, f, h)) m))
     | inr high ↦ subst (λ y. Above up y (length up)) (let e : length up ≡ x = omega (arith, high, l) in e) itself
   ]
 
@@ -58,7 +59,8 @@ module _ (up : List ℕ) (goes : GoesUp up) where
         + slice_index size (slice_index up k)
     size-low k l = let a = ranked.each k l in let b = under-same up size (slice_index up k) k refl in omega (arith, a, b)
 
-    apart : (c d : ℕ) → c < d → d < length up → slice_index up c ≡ slice_index up d → slice_index rank c + slice_index size d ≤ slice_index rank d
+    apart : (c d : ℕ) → c < d → d < length up → slice_index up c ≡ slice_index up d →
+        slice_index rank c + slice_index size d ≤ slice_index rank d
     apart c d l m e =
         let a = subst (λ p. slice_index rank c + 1 + slice_index size p ≡ slice_index rank p + 1 + under up size p (c + 1)) e
         (ranked.each c (omega (arith, l, m))) in
@@ -108,7 +110,8 @@ module _ (up : List ℕ) (goes : GoesUp up) where
         omega (arith, a, b0, t)
 
     -- a subtree is no larger than its rank tells
-    pub size-fits : (all : slice_index size (length up) ≡ length up + 1) → (x : ℕ) → x ≤ length up → slice_index size x ≤ slice_index rank x + 1
+    pub size-fits : (all : slice_index size (length up) ≡ length up + 1) → (x : ℕ) → x ≤ length up →
+        slice_index size x ≤ slice_index rank x + 1
     size-fits all x l = let b = nest (above-top x l) in let b1 = b.1 in let t = ranked.top in omega (arith, b1, t, all)
 
     -- places of one rank are one

@@ -280,7 +280,8 @@ module _ (up size next rank : List ℕ) (k : ℕ) (goes : GoesUp up) (measured :
   }
 
   pub rank-next : Ranking up size
-      (set (set next (slice_index up k) (slice_index next (slice_index up k) - slice_index size k)) k (slice_index next (slice_index up k) - 1))
+      (set (set next (slice_index up k) (slice_index next (slice_index up k) - slice_index size k)) k (slice_index next
+      (slice_index up k) - 1))
       (set rank k (slice_index next (slice_index up k) - 1)) k
   rank-next = ranking
 

@@ -55,7 +55,8 @@ module _ (s : Scene) (scene : IsScene s) (starts later : List ℕ) (has : HasLat
   pub list-long : (j : ℕ) → j < length s.up → (up' : List ℕ) → up' ≡ s.up → length (slice_range later
       (slice_index starts (length up' - 1 - j)) (slice_index starts (length up' - j))) ≡ list_length s starts j
   list-long j l up' e =
-      subst (λ v. length (slice_range later (slice_index starts (length v - 1 - j)) (slice_index starts (length v - j))) ≡ list_length s starts j)
+      subst (λ v. length (slice_range later (slice_index starts (length v - 1 - j)) (slice_index starts (length v - j)))
+      ≡ list_length s starts j)
       (sym e)
       (length-between later (slice_index starts (length s.up - 1 - j)) (slice_index starts (length s.up - j))
       (let a = has.within (length s.up - 1 - j) (omega (arith, l)) in
@@ -115,7 +116,8 @@ met-none s scene last plus minus n room low l p m = record {
         let a = zeros-sum plus n p (slice_index s.rank k + 1) (omega (arith, room, r)) in
         let b = zeros-sum minus n m (slice_index s.rank k + 1) (omega (arith, room, r)) in
         let c = zeros-sum plus n p (slice_index s.rank k + 1 - slice_index s.size k) (omega (arith, room, r)) in
-        let d = zeros-sum minus n m (slice_index s.rank k + 1 - slice_index s.size k) (omega (arith, room, r)) in omega (arith, a, b, c, d)),
+        let d = zeros-sum minus n m (slice_index s.rank k + 1 - slice_index s.size k) (omega (arith, room, r)) in omega
+        (arith, a, b, c, d)),
   );
 }
   where

@@ -37,7 +37,8 @@ module _ (s : Scene) (scene : IsScene s) (size' rank' : List ℕ) (sizes : size'
       (plus-each : (m : ℕ) → m < length plus → slice_index plus' m ≡ sum_to plus (m + 1))
       (minus-each : (m : ℕ) → m < length minus → slice_index minus' m ≡ sum_to minus (m + 1)) (added taken : ℕ)
       (added-is : added + sum_before plus' (slice_index rank' k + 1 - slice_index size' k) ≡ slice_index plus' (slice_index rank' k))
-      (taken-is : taken + sum_before minus' (slice_index rank' k + 1 - slice_index size' k) ≡ slice_index minus' (slice_index rank' k)) where
+      (taken-is : taken + sum_before minus' (slice_index rank' k + 1 - slice_index size' k) ≡ slice_index minus'
+      (slice_index rank' k)) where
     pub added-more : added ≡ taken + (met.columns k low).0
     added-more =
         let a = high-is plus plus' met.plus_room plus-same plus-each in let b = low-is plus plus' met.plus_room plus-same plus-each in
@@ -46,5 +47,6 @@ module _ (s : Scene) (scene : IsScene s) (size' rank' : List ℕ) (sizes : size'
         let e = (met.columns k low).2 in omega (arith, a, b, c, d, e, added-is, taken-is)
 
     pub counted : Marks s (Taken s (length s.up)) k (added - taken)
-    counted = subst (Marks s (Taken s (length s.up)) k) (let a = added-more in let e : (met.columns k low).0 ≡ added - taken = omega (arith, a)
+    counted = subst (Marks s (Taken s (length s.up)) k) (let a = added-more in let e : (met.columns k low).0 ≡ added - taken = omega
+        (arith, a)
         in e) (met.columns k low).1

@@ -8,8 +8,8 @@ use Rattle.amd_factor.specs.Walks.{TellParents}
 abbrev pub IsDone : Order → ℕ → List (Option ℕ) → ℕ → Type 0
 IsDone o i parent m = (r : ℕ) → r < i → Over o.graph o.rows m r → slice_index_or parent r None ≢ None
 
--- row i climbs, and has come to place k; k is i where no climb is under way: each link leads to a place over its own, and
--- where it leads to its own there is no parent; what is linked to row i has all parents before i, or stands below k
+-- row i climbs, and has come to place k; k is i where no climb is under way: each link leads to a place over its own,
+-- and where it leads to its own there is no parent; what is linked to row i has all parents before i, or stands below k
 pub record Climbing (o : Order) (i k : ℕ) (parent : List (Option ℕ)) (ancestor : List ℕ) : Type 0 where
   pub tells : TellParents o i parent
   pub room : length ancestor ≡ length o.rows
@@ -17,7 +17,8 @@ pub record Climbing (o : Order) (i k : ℕ) (parent : List (Option ℕ)) (ancest
   pub fresh : (m : ℕ) → i ≤ m → slice_index_or parent m None ≡ None
   pub within : k ≤ i
   pub pending : k ≢ i → InSubtree o.graph o.rows i k
-  pub links : (m : ℕ) → m < i → (slice_index ancestor m ≡ m) ⊎ ((m < slice_index ancestor m) × (slice_index ancestor m ≤ i) ×
+  pub links : (m : ℕ) → m < i → (slice_index ancestor m ≡ m) ⊎ ((m < slice_index ancestor m) ×
+      (slice_index ancestor m ≤ i) ×
       Over o.graph o.rows m (slice_index ancestor m))
   pub roots : (m : ℕ) → m < i → slice_index ancestor m ≡ m → slice_index_or parent m None ≡ None
   pub marked : (m : ℕ) → m < i → slice_index ancestor m ≡ i → (r : ℕ) → r < i → Over o.graph o.rows m r →
@@ -28,6 +29,7 @@ pub record Ready (o : Order) (i : ℕ) (parent : List (Option ℕ)) (ancestor : 
   pub tells : TellParents o i parent
   pub room : length ancestor ≡ length o.rows
   pub fresh : (m : ℕ) → i ≤ m → slice_index_or parent m None ≡ None
-  pub links : (m : ℕ) → m < i → (slice_index ancestor m ≡ m) ⊎ ((m < slice_index ancestor m) × (slice_index ancestor m < i) ×
+  pub links : (m : ℕ) → m < i → (slice_index ancestor m ≡ m) ⊎ ((m < slice_index ancestor m) ×
+      (slice_index ancestor m < i) ×
       Over o.graph o.rows m (slice_index ancestor m))
   pub roots : (m : ℕ) → m < i → slice_index ancestor m ≡ m → slice_index_or parent m None ≡ None

@@ -1,6 +1,7 @@
 -- The arcs of an order of the rows, place by place in postorder, and where those of a row meet. Source: Gilbert, Ng and
 -- Peyton 1994.
-use Rattle.std.specs.Prelude.{ℕ, zero, suc, Bool, true, ◌≡◌, ◌≢◌, ◌<◌, ◌≤◌, ◌↔◌, ◌+◌, ◌-◌, ◌⊎◌, List, Contains, length, slice_index, slice_range}
+use Rattle.std.specs.Prelude.{ℕ, zero, suc, Bool, true, ◌≡◌, ◌≢◌, ◌<◌, ◌≤◌, ◌↔◌, ◌+◌, ◌-◌, ◌⊎◌, List, Contains, length}
+use Rattle.std.specs.Prelude.{slice_index, slice_range}
 use Rattle.amd_model.specs.Below.{count_below, sum_below}
 use Rattle.amd_factor.specs.Earlier.{Order}
 use Rattle.amd_counts.specs.Ranks.{Above, GoesUp, Measured, Ranked}
@@ -31,9 +32,11 @@ pub record IsScene (s : Scene) : Type 0 where
 -- none that was not linked
 pub record Links (s : Scene) (t : ℕ) (link : List ℕ) : Type 0 where
   pub room : length link ≡ length s.up + 1
-  pub up : (x : ℕ) → x ≤ length s.up → (x ≤ slice_index link x) × (slice_index link x ≤ length s.up) × Above s.up x (slice_index link x)
+  pub up : (x : ℕ) → x ≤ length s.up → (x ≤ slice_index link x) × (slice_index link x ≤ length s.up) × Above s.up x
+      (slice_index link x)
   pub high : (x : ℕ) → x ≤ length s.up → slice_index link x ≡ x → t ≤ slice_index s.rank x
-  pub keeps : (x q : ℕ) → x ≤ length s.up → q ≤ length s.up → Above s.up x q → t ≤ slice_index s.rank q → Above s.up (slice_index link x) q
+  pub keeps : (x q : ℕ) → x ≤ length s.up → q ≤ length s.up → Above s.up x q → t ≤ slice_index s.rank q → Above s.up
+      (slice_index link x) q
 
 -- q is the lowest place over x, or x, whose rank is not below t
 pub record IsLowest (s : Scene) (t x q : ℕ) : Type 0 where
@@ -65,10 +68,12 @@ low_of s k = slice_index s.rank k + 1 - slice_index s.size k
 
 -- in the subtree of place k the sum of plus is that of minus and a
 abbrev pub Balance : Scene → List ℕ → List ℕ → ℕ → ℕ → Type 0
-Balance s plus minus k a = sum_to plus (slice_index s.rank k + 1) + sum_to minus (low_of s k) ≡ sum_to minus (slice_index s.rank k + 1)
+Balance s plus minus k a = sum_to plus (slice_index s.rank k + 1) + sum_to minus (low_of s k) ≡ sum_to minus
+    (slice_index s.rank k + 1)
     + sum_to plus (low_of s k) + a
 
--- what is known when some arcs were taken: the last one to each place, and at each rank what was added and what was taken
+-- what is known when some arcs were taken: the last one to each place, and at each rank what was added and what was
+-- taken
 pub record Met (s : Scene) (seen : ℕ → ℕ → Type 0) (last plus minus : List ℕ) : Type 0 where
   pub last_room : length last ≡ length s.up
   pub plus_room : length plus ≡ length s.up + 1
@@ -92,8 +97,8 @@ abbrev pub TakenSome : Scene → ℕ → ℕ → List ℕ → ℕ → ℕ → �
 TakenSome s t j later u x y = Arc s x y × ((slice_index s.rank x < t) ⊎
     ((x ≡ j) × (w : ℕ) × (w < u) × (y ≡ length s.up - 1 - slice_index later w)))
 
--- the lists of the later neighbours of all places: that of place j is the one at the place that has as many behind it as
--- j has before it
+-- the lists of the later neighbours of all places: that of place j is the one at the place that has as many behind it
+-- as j has before it
 pub record HasLater (s : Scene) (starts later : List ℕ) : Type 0 where
   pub room : length starts ≡ length s.up + 1
   pub ascending : (m : ℕ) → m < length s.up → slice_index starts m ≤ slice_index starts (m + 1)
@@ -104,4 +109,5 @@ pub record HasLater (s : Scene) (starts later : List ℕ) : Type 0 where
 -- order holds the places by their ranks
 pub record IsByRank (s : Scene) (order : List ℕ) : Type 0 where
   pub room : length order ≡ length s.up
-  pub each : (t : ℕ) → t < length s.up → (slice_index order t < length s.up) × (slice_index s.rank (slice_index order t) ≡ t)
+  pub each : (t : ℕ) → t < length s.up → (slice_index order t < length s.up) × (slice_index s.rank
+      (slice_index order t) ≡ t)

@@ -1,6 +1,7 @@
--- Forests whose parents stand behind their children, the sizes of the subtrees, and ranks in postorder. A place that has
--- no parent goes up to the number of places, which stands over all.
-use Rattle.std.specs.Prelude.{ℕ, ◌≡◌, ◌<◌, ◌≤◌, ◌+◌, ◌==◌, cond, List, Option, None, length, slice_index, slice_index_or}
+-- Forests whose parents stand behind their children, the sizes of the subtrees, and ranks in postorder. A place that
+-- has no parent goes up to the number of places, which stands over all.
+use Rattle.std.specs.Prelude.{ℕ, ◌≡◌, ◌<◌, ◌≤◌, ◌+◌, ◌==◌, cond, List, Option, None, length, slice_index}
+use Rattle.std.specs.Prelude.{slice_index_or}
 use Rattle.std.specs.Prelude.{unwrap_or}
 use Rattle.amd_model.specs.Below.{sum_below}
 

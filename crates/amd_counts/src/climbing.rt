@@ -1,6 +1,6 @@
-// How many entries each column has, and the parents, by climbs up the elimination tree: each row climbs from its earlier
-// neighbours to columns that it has met, and nothing is written but counts and marks. Source: Liu 1986, 1990. Called by
-// `counts` of the crate `amd_symbolic`.
+// How many entries each column has, and the parents, by climbs up the elimination tree: each row climbs from its
+// earlier neighbours to columns that it has met, and nothing is written but counts and marks. Source: Liu 1986, 1990.
+// Called by `counts` of the crate `amd_symbolic`.
 
 ghost use Rattle.std.specs.Prelude.{ℕ, ◌≡◌, ◌<◌, ◌+◌, true, length, slice_index};
 ghost use Rattle.amd_model.specs.Graph.{IsGraph};

@@ -1,6 +1,6 @@
 // How many entries each column of a factor has, and the parents, in nearly linear time: the elimination tree, its ranks
-// in postorder, and a sweep over all arcs. Source: Liu 1986; Gilbert, Ng and Peyton 1994. Called by whoever has the lists
-// of earlier and of later neighbours and the memory.
+// in postorder, and a sweep over all arcs. Source: Liu 1986; Gilbert, Ng and Peyton 1994. Called by whoever has the
+// lists of earlier and of later neighbours and the memory.
 
 ghost use Rattle.std.specs.Prelude.{◌≡◌, ◌+◌, length};
 ghost use Rattle.amd_model.specs.Graph.{IsGraph};
@@ -16,8 +16,8 @@ use crate::tree::elimination_tree;
 ///
 /// `earlier[starts[j]..starts[j + 1]]` names the places before `j` whose rows an edge joins with that at place `j`, and
 /// `later` and `later_starts` are the same of the order from its end, where place `n - 1 - j` stands for `j`. `parent`
-/// and `counts` have `n` places each, for `n` rows. All others are for the work alone: `order`, `up` and `last` have `n`
-/// places, and `size`, `link`, `rank`, `plus` and `minus` have `n + 1`.
+/// and `counts` have `n` places each, for `n` rows. All others are for the work alone: `order`, `up` and `last` have
+/// `n` places, and `size`, `link`, `rank`, `plus` and `minus` have `n + 1`.
 ///
 /// No memory is asked for. The steps are as many as there are neighbours and rows, times at most the logarithm of the
 /// number of rows.

@@ -34,7 +34,8 @@ pub record TellCounts (g : Graph) (p sizes : List ℕ) (parent : List (Option �
 
 -- and so of a matrix with n rows under the order p, which lists each row once; where n is not 0 the matrix is a column
 -- form
-pub record IsCountsOf (n : ℤ) (ap ai p : List ℤ) (sizes : List ℕ) (parent : List (Option ℕ)) (need : Need) : Type 0 where
+pub record IsCountsOf (n : ℤ) (ap ai p : List ℤ) (sizes : List ℕ) (parent : List (Option ℕ))
+    (need : Need) : Type 0 where
   pub form : n ≢ pos 0 → IsInput n n ap ai
   pub order : List ℕ
   pub permutes : Permutes (unsigned_abs n) p order

@@ -1,5 +1,5 @@
-// What is counted of the columns of a factor: the number of entries of each, the parents, and the figures of the AMD user
-// guide, summed over the columns. Source: Liu 1986 and 1990; AMD user guide (the figures of `Info`). Called by
+// What is counted of the columns of a factor: the number of entries of each, the parents, and the figures of the AMD
+// user guide, summed over the columns. Source: Liu 1986 and 1990; AMD user guide (the figures of `Info`). Called by
 // `counting`.
 
 ghost use Rattle.std.specs.Prelude.{◌≡◌, ◌+◌, ◌*◌, ◌/◌, [], length, map, max, List, ℕ, IfOk};

@@ -6,6 +6,7 @@
 // the others have the same form, with sums worked by hand.
 
 mod comparison;
+mod counts;
 mod demo_texts;
 mod demos;
 mod jumbled_texts;

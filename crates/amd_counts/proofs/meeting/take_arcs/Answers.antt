@@ -99,7 +99,8 @@ overflow_add-minus g c =
           c.requires.1.0 w.if-before-n.false (subst (λ v. IsLowest g.at.0 g.at.1 (slice_index c.arcs.last (length c.args.last.now - 1
           - slice_index c.args.later.now c.arcs.mirrored-index)) v) (sym w.meeting-is) w.find-meeting.ensures.lowest)
     ] in
-    let m = minus-more g.at.0 c.requires.0 g.at.1 c.args.j c.args.later.now c.requires.1.1.0 q.0 q.1.0 c.arcs.mirrored-index c.arcs-test.true
+    let m = minus-more g.at.0 c.requires.0 g.at.1 c.args.j c.args.later.now c.requires.1.1.0 q.0 q.1.0 c.arcs.mirrored-index
+    c.arcs-test.true
     c.arcs.last c.arcs.plus c.arcs.minus met c.if-before-n.meeting c.args.rank.now c.requires.1.0 after.0 in
     let sum = c.arcs.invariant.sum in let enough = q.1.1.1.1 in let t = c.arcs-test.true in omega (arith, m, sum, enough, t)
 
@@ -125,7 +126,8 @@ arcs-preserved g c =
         | else-before-n w ↦ subst (Links g.at.0 g.at.1) (sym w.link-is) w.find-meeting.ensures.links
       ];
       met = after.1;
-      sum = (let m = sum-more g.at.0 c.requires.0 g.at.1 c.args.j c.args.later.now c.requires.1.1.0 q.0 q.1.0 c.arcs.mirrored-index c.arcs-test.true
+      sum = (let m = sum-more g.at.0 c.requires.0 g.at.1 c.args.j c.args.later.now c.requires.1.1.0 q.0 q.1.0 c.arcs.mirrored-index
+          c.arcs-test.true
           c.arcs.last c.arcs.plus c.arcs.minus met c.if-before-n.meeting c.args.rank.now c.requires.1.0 in
           let sum = c.arcs.invariant.sum in omega (arith, m, sum));
     }

@@ -44,7 +44,8 @@ overflow_sub-counts g c =
     let room = c.requires.1.1.1.1.1 in let t = c.columns-test.true in
     let low : c.columns.k < length g.s.up = omega (arith, room, t) in
     let a = added-more g.s c.requires.0 c.args.size.now c.args.rank.now c.requires.1.0 c.requires.1.1.0 c.columns.k low c.requires.1.1.1.0.0
-    c.args.plus.now c.args.minus.now c.add_up.new.numbers c.add_up-2.new.numbers m c.add_up.auto.numbers c.add_up-2.auto.numbers c.add_up.ensures
+    c.args.plus.now c.args.minus.now c.add_up.new.numbers c.add_up-2.new.numbers m c.add_up.auto.numbers c.add_up-2.auto.numbers
+    c.add_up.ensures
     c.add_up-2.ensures c.sum_over-added.result c.sum_over-taken.result c.sum_over-added.ensures c.sum_over-taken.ensures in omega (arith, a)
 
 pub columns-preserved : goal.columns-preserved
@@ -59,7 +60,8 @@ columns-preserved g c =
       | inl e ↦ subst (λ v. Marks g.s (Taken g.s (length g.s.up)) v (slice_index (set c.columns.counts c.columns.k new) v)) (sym e)
           (subst (Marks g.s (Taken g.s (length g.s.up)) c.columns.k) (sym here)
           (counted g.s c.requires.0 c.args.size.now c.args.rank.now c.requires.1.0 c.requires.1.1.0 c.columns.k low c.requires.1.1.1.0.0
-          c.args.plus.now c.args.minus.now c.add_up.new.numbers c.add_up-2.new.numbers m c.add_up.auto.numbers c.add_up-2.auto.numbers c.add_up.ensures
+          c.args.plus.now c.args.minus.now c.add_up.new.numbers c.add_up-2.new.numbers m c.add_up.auto.numbers c.add_up-2.auto.numbers
+          c.add_up.ensures
           c.add_up-2.ensures c.sum_over-added.result c.sum_over-taken.result c.sum_over-added.ensures c.sum_over-taken.ensures))
       | inr ne ↦ subst (Marks g.s (Taken g.s (length g.s.up)) k) (sym (get_or-set_other c.columns.counts c.columns.k k new 0 ne))
           (c.columns.invariant k (omega (arith, l, ne)))

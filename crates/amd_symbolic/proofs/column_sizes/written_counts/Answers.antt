@@ -21,5 +21,6 @@ returns g c =
     rw (take_at c.count_columns.new.counts _ _ sizes, take_at c.count_columns.new.parent _ _ parent)
     (record {
       holds = c.count_columns.ensures;
-      needs = c.need_of_sizes-need.ensures _ (c.deref.ensures.value ∙ take_at c.count_columns.new.counts _ _ sizes ∙ c.count_columns.ensures.sizes_are);
+      needs = c.need_of_sizes-need.ensures _ (c.deref.ensures.value ∙ take_at c.count_columns.new.counts _ _ sizes ∙
+          c.count_columns.ensures.sizes_are);
     })
