@@ -1,13 +1,12 @@
 // Writes an ordering into a caller's arrays: the body of the exported functions, for any integer type. The arrays and
 // the record are written last, so they stay as they were where there is no ordering. Called by the exported functions.
 
-ghost use Rattle.std.specs.Prelude.{◌↔◌, IfErr, IfOk, IsTrue, map};
+ghost use Rattle.std.specs.Prelude.{◌↔◌, IsTrue, map};
 ghost use Rattle.std.specs.Option.{option_copied};
-ghost use Rattle.amd.specs.Answers.{IsOrderingHolding, IsRefusalHolding};
 ghost use Rattle.amd_c.specs.Calls.{HasPlaces, Leaves, memory};
 
 use crate::records::{Parameters, Statistics, statistics_of};
-use amd::{Control, Info, Status, order, order_holding};
+use amd::{Control, Status, order_marked};
 use amd_types::internal::to_count;
 use num_traits::PrimInt;
 use std::alloc::Global;
@@ -19,28 +18,6 @@ fn have_places<I: PrimInt>(n: I, p: &[I], p_inv: &[I]) -> bool
     match to_count(n) {
         Some(count) => p.len() == count && p_inv.len() == count,
         None => false,
-    }
-}
-
-/// Orders a matrix, with or without marks of rows to hold last.
-fn order_marked<I: PrimInt>(
-    alloc: Global,
-    n: I,
-    a_p: &[I],
-    a_i: &[I],
-    control: &Control,
-    hold: Option<&[bool]>,
-) -> Result<(Vec<I, Global>, Vec<I, Global>, Info), Status>
-    requires fits { I.fits (I.value n) }
-    ensures ordering { IfOk result (λ a. IsOrderingHolding (option_copied hold.entry) (I.value n)
-        control.now.dense control.now.aggressive (map I.value a_p.now) (map I.value a_i.now)
-        (map I.value a.0.items) (map I.value a.1.items) a.2) }
-    ensures refusal { IfErr result (λ e. IsRefusalHolding (option_copied hold.entry) (I.value n)
-        (map I.value a_p.now) (map I.value a_i.now) e) }
-{
-    match hold {
-        Some(marks) => order_holding(alloc, n, a_p, a_i, control, marks),
-        None => order(alloc, n, a_p, a_i, control),
     }
 }
 

@@ -4,7 +4,7 @@ ghost use Rattle.std.specs.Prelude.{ℤ, List, pos, map, IfOk, IfErr};
 ghost use Rattle.std.specs.Option.{option_copied};
 ghost use Rattle.amd.specs.Answers.{IsOrderingHolding, IsRefusalHolding};
 
-use amd::{Control, Info, Status, order, order_holding};
+use amd::{Control, Info, Status, order_marked};
 use amd_market::reader::Matrix;
 use std::alloc::Allocator;
 
@@ -26,15 +26,6 @@ pub fn order_matrix<A: Allocator + Copy>(
     ensures refusal { IfErr result (λ e. IsRefusalHolding (option_copied hold.entry) (pos matrix.now.n)
         (map pos matrix.now.a_p.items) (map pos matrix.now.a_i.items) e) }
 {
-    match hold {
-        Some(marks) => {
-            let answer = order_holding(alloc, matrix.n, &matrix.a_p, &matrix.a_i, control, marks);
-            let (p, _, info) = answer?;
-            Ok((p, info))
-        }
-        None => {
-            let (p, _, info) = order(alloc, matrix.n, &matrix.a_p, &matrix.a_i, control)?;
-            Ok((p, info))
-        }
-    }
+    let (p, _, info) = order_marked(alloc, matrix.n, &matrix.a_p, &matrix.a_i, control, hold)?;
+    Ok((p, info))
 }
