@@ -27,4 +27,6 @@ mod small_matrices;
 #[cfg(test)]
 mod statuses;
 #[cfg(test)]
+mod wide_numbers;
+#[cfg(test)]
 mod worked;

@@ -64,12 +64,28 @@ fn orders_holding_none(
     is_answer(rt, case, answer)
 }
 
+/// Asserts that so many requests were refused, and that no run did wrong.
+fn check_requests(rt: &impl Abort, what: &str, refusals: Result<u64, Slip>, wanted: u64) {
+    match refusals {
+        Ok(count) => assert!(rt; count == wanted, "{what}: {count} requests"),
+        Err(slip) => panic!(rt; "{what}: {slip:?}"),
+    }
+}
+
+/// The number of requests of `order`: two lists for the degrees; a block that is given back at once; five lists to lay
+/// the neighbours, the words of the workspace among them; and nine lists for the rounds and the result. A jumbled
+/// matrix takes five more for its transpose.
+fn requests_of(case: &Case) -> u64 {
+    if case.jumbled { 22 } else { 17 }
+}
+
 /// Orders with each request refused in turn, and again with marks that hold no row.
 fn check_order(rt: &impl Abort, alloc: Global, control: &Control, case: &Case) {
+    let wanted = requests_of(case);
     let refusals = each_refused(alloc, |heap| orders(rt, heap, control, case));
-    check_refusals(rt, case.what, refusals);
+    check_requests(rt, case.what, refusals, wanted);
     let holding = each_refused(alloc, |heap| orders_holding_none(rt, heap, control, case));
-    check_refusals(rt, case.what, holding);
+    check_requests(rt, case.what, holding, wanted);
 }
 
 /// The inputs are shared references, so no run can change them.

@@ -119,9 +119,18 @@ static U16: [End<'static, u16>; 1] = [end!(u16::MAX)];
 
 static U32: [End<'static, u32>; 1] = [end!(u32::MAX)];
 
-static U64: [End<'static, u64>; 1] = [end!(u64::MAX)];
+// The least numbers without a signed counterpart of 64 bits stand beside them, and those of `u128` whose last 64 bits
+// are a row and a pointer.
 
-static U128: [End<'static, u128>; 1] = [end!(u128::MAX)];
+static U64: [End<'static, u64>; 3] = [end!(u64::MAX), end!(1 << 63), end!((1 << 63) + 1)];
+
+static U128: [End<'static, u128>; 5] = [
+    end!(u128::MAX),
+    end!(1 << 127),
+    end!(1 << 64),
+    end!((1 << 64) + 1),
+    end!((1 << 63) + 1),
+];
 
 static USIZE: [End<'static, usize>; 1] = [end!(usize::MAX)];
 
