@@ -3,11 +3,14 @@
 // its rounds (`rounds`), and the listing of what they left (`listing`). Words are as wide as those of `order`. Called
 // by `main`.
 
-ghost use Rattle.std.specs.Prelude.{◌≡◌, ◌≢◌, ◌<◌, ◌≤◌, ◌+◌, ◌/◌, ◌^◌, pos, map, length};
+ghost use Rattle.std.specs.Prelude.{◌≡◌, ◌≢◌, ◌<◌, ◌≤◌, ◌+◌, ◌/◌, ◌^◌, ℕ, List, pos, map, length};
 ghost use Rattle.std.specs.Option.{SomeIff};
+ghost use Rattle.amd_model.specs.Graph.{Graph};
 ghost use Rattle.amd_model.specs.Input.Columns.{IsColumnForm, IsInput, IsSorted, IsSortedInput};
 ghost use Rattle.amd_model.specs.Input.Pattern.{graph_of};
 ghost use Rattle.amd_edges.specs.Visits.{AreCounts, start_of};
+ghost use Rattle.amd_workspace.specs.Laying.{IsLaidOut};
+ghost use Rattle.amd_engine.specs.InPlace.{LaysGraph};
 
 use amd::aat::aat;
 use amd::preprocess::preprocess;
@@ -20,7 +23,7 @@ use amd_engine::fresh::fresh_lists;
 use amd_engine::running::run;
 use amd_types::dense::dense_threshold;
 use amd_types::internal::{known_count, to_count};
-use amd_words::{Signed, Unsigned};
+use amd_words::{Cell, Signed, Unsigned, Word};
 use amd_workspace::laying::{Laid, lay};
 use anyhow::{Context, Result, bail};
 use num_traits::PrimInt;
@@ -97,6 +100,61 @@ fn workspace_words(nzaat: usize, n: usize) -> Option<usize>
     if words < 1 << 63 { Some(words) } else { None }
 }
 
+/// Eliminates in lists that are laid, and lists the rows.
+fn time_rounds<R: Runtime + Alloc<A = Global>, I: PrimInt, S: Signed, U: Unsigned>(
+    rt: &R,
+    clock: &mut Clock,
+    n: I,
+    pe: &mut [Word<S>],
+    iw: &mut [Word<S>],
+    len: &mut [Cell<U>],
+    free: usize,
+) -> Result<Vec<I>>
+    requires fits { I.fits (I.value n) }
+    requires size { I.value n ≡ pos (length len.old) }
+    requires laid { IsLaidOut (length len.old) iw.old pe.old len.old free }
+    requires graph { (g : Graph) × (lists : ℕ → List ℕ) × LaysGraph g lists iw.old pe.old len.old }
+    requires room { free + length len.old ≤ length iw.old }
+    requires narrow { (length iw.old ≤ S.MOST) × (length iw.old ≤ U.MOST) × (length len.old + 2 ≤ S.MOST) ×
+        (length len.old + 2 ≤ U.MOST) }
+{
+    let control = Control::default();
+    let threshold = dense_threshold(len.len(), &control);
+    let mut lists = fresh_lists(rt.alloc(), len.len())?;
+    clock.end(rt, "lists");
+    run(
+        iw,
+        pe,
+        &mut lists.e_len,
+        &mut lists.nv,
+        len,
+        &mut lists.degree,
+        &mut lists.w,
+        &mut lists.head,
+        &mut lists.sides,
+        &mut lists.hash,
+        free,
+        2,
+        &control,
+        None,
+        threshold,
+    );
+    clock.end(rt, "rounds");
+    list_rows(
+        pe,
+        &mut lists.e_len,
+        &mut lists.nv,
+        &mut lists.degree,
+        &mut lists.w,
+        &mut lists.head,
+        &mut lists.hash,
+        &mut lists.p,
+        &mut lists.p_inv,
+    );
+    clock.end(rt, "listing");
+    Ok(lists.p)
+}
+
 /// Lays the lists of rows of known degrees, eliminates and lists, in words of these widths.
 fn time_elimination<R: Runtime + Alloc<A = Global>, I: PrimInt, S: Signed, U: Unsigned>(
     rt: &R,
@@ -120,44 +178,18 @@ fn time_elimination<R: Runtime + Alloc<A = Global>, I: PrimInt, S: Signed, U: Un
     requires narrow { (length degrees.now + 2 ≤ S.MOST) × (length degrees.now + 2 ≤ U.MOST) × (room ≤ S.MOST) ×
         (room ≤ U.MOST) }
 {
-    let control = Control::default();
     let size = degrees.len();
     let mut laid: Laid<S, U, Global> = lay(rt.alloc(), size, a_p, a_i, degrees, room)?;
     clock.end(rt, "lay");
-    let threshold = dense_threshold(size, &control);
-    let mut lists = fresh_lists(rt.alloc(), size)?;
-    clock.end(rt, "lists");
-    run(
+    time_rounds(
+        rt,
+        clock,
+        n,
+        &mut laid.pe,
         &mut laid.iw,
-        &mut laid.pe,
-        &mut lists.e_len,
-        &mut lists.nv,
         &mut laid.len,
-        &mut lists.degree,
-        &mut lists.w,
-        &mut lists.head,
-        &mut lists.sides,
-        &mut lists.hash,
         laid.free,
-        2,
-        &control,
-        None,
-        threshold,
-    );
-    clock.end(rt, "rounds");
-    list_rows(
-        &mut laid.pe,
-        &mut lists.e_len,
-        &mut lists.nv,
-        &mut lists.degree,
-        &mut lists.w,
-        &mut lists.head,
-        &mut lists.hash,
-        &mut lists.p,
-        &mut lists.p_inv,
-    );
-    clock.end(rt, "listing");
-    Ok(lists.p)
+    )
 }
 
 /// Orders a matrix whose columns are sorted.
