@@ -1,7 +1,7 @@
 -- What the parts of `counts` owe each other, and what its counts tell of the columns.
 use Rattle.std.proofs.Common.{ℕ, ℤ, zero, suc, pos, negsuc, Bool, ◌≡◌, ◌<◌, ◌≤◌, refl, sym, ◌∙◌, ap, subst, arith, List, [], ◌∷◌}
 use Rattle.std.proofs.Common.{length, map}
-use Rattle.std.specs.Prelude.{slice_index_or, sum, unsigned_abs, Option}
+use Rattle.std.specs.Prelude.{slice_index_or, sum, unsigned_abs, Option, reverse}
 use Rattle.amd_model.specs.Factor.{IsFactor, needed, needed_front}
 use Rattle.amd_model.specs.Figures.{entries}
 use Rattle.amd_model.specs.Graph.{Graph}
@@ -9,7 +9,8 @@ use Rattle.amd_model.specs.Input.Columns.{IsColumnForm}
 use Rattle.amd_model.specs.Input.Pattern.{graph_of}
 use Rattle.amd_counts.specs.Sizes.{HoldSizes}
 use Rattle.amd_factor.specs.Columns.{first_of}
-use Rattle.amd_factor.specs.Earlier.{Order, Permutes}
+use Rattle.amd_counts.specs.Mirrors.{mirror}
+use Rattle.amd_factor.specs.Earlier.{HasEarlier, Order, Permutes}
 use Rattle.amd_factor.proofs.FactorOnce.{factor_once, needs_once}
 use Rattle.amd_types.specs.Counts.{counts}
 use Rattle.amd_types.specs.declared.amd.Info.{Info}
@@ -30,6 +31,12 @@ module _ (n : ℕ) (ap' ai p : List ℤ) (o : Order) (graph : o.graph ≡ graph_
     permutes = permutes;
     tells = subst (λ g. TellCounts g (counts p) sizes parent need) graph (subst (λ r. TellCounts o.graph r sizes parent need) rows h);
   }
+
+  pub mirror_of : (starts later : List ℕ) → HasEarlier (record { graph = graph_of n ap' ai; rows = reverse (counts p) }) starts later →
+      HasEarlier (mirror o) starts later
+  mirror_of starts later h =
+      subst (λ g. HasEarlier (record { graph = g; rows = reverse o.rows }) starts later) (sym graph)
+      (subst (λ r. HasEarlier (record { graph = graph_of n ap' ai; rows = reverse r }) starts later) (sym rows) h)
 
 -- a matrix without rows has no column to count
 pub no_counts : (ap' ai p : List ℤ) (sizes : List ℕ) (parent : List (Option ℕ)) (need : Need) → p ≡ [] → sizes ≡ [] → parent ≡ [] →

@@ -7,3 +7,4 @@ pub mod Tree
 pub mod Sizes
 pub mod CountNeeds
 pub mod CountForms
+pub mod MirrorLemmas

@@ -4,11 +4,12 @@
 
 ghost use Rattle.std.specs.Prelude.{◌≡◌, ◌+◌, ◌*◌, ◌/◌, [], length, map, max, List, ℕ, IfOk};
 ghost use Rattle.amd_model.specs.Graph.{IsGraph};
+ghost use Rattle.amd_counts.specs.Mirrors.{mirror};
 ghost use Rattle.amd_factor.specs.Earlier.{HasEarlier, Order};
 ghost use Rattle.amd_symbolic.specs.Counted.{IsCutNeed, TellCounts, wide_cut};
 
 use crate::needs::Need;
-use amd_counts::climbing::count_columns;
+use amd_counts::counting::count_by_meetings;
 use std::alloc::{AllocError, Allocator};
 
 /// How many entries the columns of a factor have below its diagonal, and what the factor needs.
@@ -75,7 +76,8 @@ pub fn empty_counts<A: Allocator + Copy>(alloc: A) -> Counts<A>
     }
 }
 
-/// Takes all memory, and counts by the lists of earlier neighbours.
+/// Takes all memory, and counts by the lists of earlier and of later neighbours, the latter those of the order from its
+/// end.
 ///
 /// # Errors
 ///
@@ -84,17 +86,42 @@ pub fn written_counts<A: Allocator + Copy>(
     alloc: A,
     starts: &[usize],
     earlier: &[usize],
+    later_starts: &[usize],
+    later: &[usize],
 ) -> Result<Counts<A>, AllocError>
     ghost o: { Order }
     requires laws { IsGraph o.graph }
     requires earlier { HasEarlier o starts.now earlier.now }
+    requires later { HasEarlier (mirror o) later_starts.now later.now }
     ensures { IfOk result (λ c. TellCounts o.graph o.rows c.sizes.items c.parent.items c.need) }
 {
     let columns = starts.len() - 1;
     let mut sizes = vec![in alloc; 0; columns]?;
     let mut parent = vec![in alloc; None; columns]?;
-    let mut mark = vec![in alloc; 0; columns]?;
-    count_columns(starts, earlier, &mut parent, &mut mark, &mut sizes);
+    let mut order = vec![in alloc; 0; columns]?;
+    let mut up = vec![in alloc; 0; columns]?;
+    let mut last = vec![in alloc; 0; columns]?;
+    let mut subtree = vec![in alloc; 0; starts.len()]?;
+    let mut link = vec![in alloc; 0; starts.len()]?;
+    let mut rank = vec![in alloc; 0; starts.len()]?;
+    let mut plus = vec![in alloc; 0; starts.len()]?;
+    let mut minus = vec![in alloc; 0; starts.len()]?;
+    count_by_meetings(
+        starts,
+        earlier,
+        later_starts,
+        later,
+        &mut parent,
+        &mut sizes,
+        &mut order,
+        &mut up,
+        &mut last,
+        &mut subtree,
+        &mut link,
+        &mut rank,
+        &mut plus,
+        &mut minus,
+    );
     let need = need_of_sizes(&sizes);
     Ok(Counts {
         sizes,

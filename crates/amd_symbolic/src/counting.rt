@@ -1,6 +1,6 @@
-// How many entries each column of a factor has, and what the factor needs, without its columns: the input is tested and
-// the lists of earlier neighbours are made as for `columns`, and the crate `amd_counts` counts. Source: Liu 1986 and
-// 1990; AMD user guide (the figures of `Info`). Called by users, by the command and by the crate `amd_c`.
+// How many entries each column of a factor has, and what the factor needs, without its columns: the input is tested as
+// for `columns`, the lists of earlier and of later neighbours are made, and the crate `amd_counts` counts. Source: Liu
+// 1986; Gilbert, Ng and Peyton 1994; AMD user guide (the figures of `Info`). Called by users, by the command and by the crate `amd_c`.
 
 ghost use Rattle.std.specs.Prelude.{◌≡◌, pos, map, List, ℤ, Bool, IfOk, IfErr};
 ghost use Rattle.amd_model.specs.Input.Columns.{IsColumnForm};
@@ -14,6 +14,7 @@ ghost use Rattle.amd_symbolic.specs.Factors.{IsAnalysisFault};
 use crate::analysis::fault_of;
 use crate::column_sizes::{Counts, empty_counts, written_counts};
 use crate::factor::Fault;
+use crate::mirroring::mirror_places;
 use amd::valid::valid;
 use amd::{Control, Info, Status, order};
 use amd_earlier::lists::earlier_lists;
@@ -39,11 +40,19 @@ fn form_counts<I: PrimInt, A: Allocator + Copy>(
     ensures fault { IfErr result (λ e. IsCountsFault (pos size) (map I.value a_p.now) (map I.value a_i.now)
         (map I.value p.now) e) }
 {
-    let Some(places) = places(alloc, size, p)? else {
+    let Some(mut places) = places(alloc, size, p)? else {
         return Err(Fault::NotPermutation);
     };
-    let lists = earlier_lists(alloc, size, a_p, a_i, &places)?;
-    Ok(written_counts(alloc, &lists.starts, &lists.neighbours)?)
+    let before = earlier_lists(alloc, size, a_p, a_i, &places)?;
+    mirror_places(&mut places);
+    let behind = earlier_lists(alloc, size, a_p, a_i, &places)?;
+    Ok(written_counts(
+        alloc,
+        &before.starts,
+        &before.neighbours,
+        &behind.starts,
+        &behind.neighbours,
+    )?)
 }
 
 /// How many entries each column of the factor of a square matrix has under an order of its rows, by the pattern of
@@ -54,7 +63,8 @@ fn form_counts<I: PrimInt, A: Allocator + Copy>(
 /// looked at, and `p` must be empty.
 ///
 /// No entry is written: beside the lists of neighbours, a few numbers a row are taken, all of them before the first
-/// count.
+/// count. The steps are as many as there are rows and entries of the matrix, times at most the logarithm of the number
+/// of rows.
 ///
 /// # Errors
 ///
@@ -65,7 +75,7 @@ fn form_counts<I: PrimInt, A: Allocator + Copy>(
 ///
 /// `OutOfMemory` where an allocation was refused. It may come in place of the second. No other fault.
 ///
-/// Source: Rose, Tarjan and Lueker 1976; Liu 1986 and 1990.
+/// Source: Rose, Tarjan and Lueker 1976; Liu 1986; Gilbert, Ng and Peyton 1994.
 pub fn counts<I: PrimInt, A: Allocator + Copy>(
     alloc: A,
     n: I,
@@ -133,7 +143,8 @@ fn ordered_counts<I: PrimInt, A: Allocator + Copy>(
 /// `NotColumnForm` exactly where `n` is not 0 and the input is no column form; no memory is asked before. `OutOfMemory`
 /// where an allocation was refused, or the workspace would have more than `isize::MAX` words. No other fault.
 ///
-/// Source: AMD user guide; Amestoy, Davis and Duff 1996 and 2004; Rose, Tarjan and Lueker 1976; Liu 1986 and 1990.
+/// Source: AMD user guide; Amestoy, Davis and Duff 1996 and 2004; Rose, Tarjan and Lueker 1976; Liu 1986;
+/// Gilbert, Ng and Peyton 1994.
 pub fn analyze_counts<I: PrimInt, A: Allocator + Copy>(
     alloc: A,
     n: I,

@@ -12,6 +12,7 @@ pub mod column_sizes;
 pub mod counting;
 pub mod factor;
 pub mod laws;
+pub mod mirroring;
 pub mod needs;
 
 pub use analysis::{analyze, analyze_holding};
