@@ -9,7 +9,7 @@ use Rattle.amd_model.specs.Input.Columns.{IsColumnForm, IsInput}
 use Rattle.amd_model.specs.Input.Pattern.{graph_of}
 use Rattle.amd_model.proofs.Patterns.DegreeSums.{pattern_graph}
 use Rattle.amd_factor.specs.Columns.{HoldFactor, PassesRoom}
-use Rattle.amd_factor.specs.Earlier.{Order, Permutes}
+use Rattle.amd_factor.specs.Earlier.{HasEarlier, Order, Permutes}
 use Rattle.amd_factor.specs.Later.{HasLater}
 use Rattle.amd_types.specs.Counts.{counts}
 use Rattle.amd_types.specs.Statuses.{IsStatusOf}
@@ -21,6 +21,12 @@ use Rattle.amd_symbolic.specs.declared.factor.Fault.TheVariants.{RoomTooSmall}
 module _ (n : ℕ) (ap' ai p : List ℤ) (o : Order) (graph : o.graph ≡ graph_of n ap' ai) (rows : o.rows ≡ counts p) where
   pub laws : IsGraph o.graph
   laws = subst IsGraph (sym graph) (pattern_graph n ap' ai)
+
+  pub earlier_of : (starts earlier : List ℕ) → HasEarlier (record { graph = graph_of n ap' ai; rows = counts p }) starts earlier →
+      HasEarlier o starts earlier
+  earlier_of starts earlier h =
+      subst (λ g. HasEarlier (record { graph = g; rows = o.rows }) starts earlier) (sym graph)
+      (subst (λ r. HasEarlier (record { graph = graph_of n ap' ai; rows = r }) starts earlier) (sym rows) h)
 
   pub later_of : (starts later : List ℕ) → HasLater (record { graph = graph_of n ap' ai; rows = counts p }) starts later →
       HasLater o starts later
