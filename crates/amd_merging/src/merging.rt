@@ -292,8 +292,8 @@ pub fn merge_front<S: Signed, U: Unsigned>(
 ) -> usize
     requires { CanMergeFront S.MOST U.MOST from count flag iw.old pe.old e_len.old nv.old len.old w.old hash.old
         sides.old }
-    ensures merges { MergesClasses from count flag iw.old pe.old e_len.old nv.old len.old w.old sides.old pe.new e_len.new
-        nv.new w.new hash.new sides.new result }
+    ensures merges { MergesClasses from count flag iw.old pe.old e_len.old nv.old len.old w.old sides.old pe.new
+        e_len.new nv.new w.new hash.new sides.new result }
     ensures same { (iw.new ≡ iw.old) × (len.new ≡ len.old) }
 {
     if count < 2 {
