@@ -4,6 +4,8 @@ pub mod Numbers
 pub mod Calls
 -- What the calls for the columns of a factor leave there.
 pub mod Columns
+-- What the calls for the counts of those columns leave there.
+pub mod Counting
 -- What the calls for the degrees and for the row form leave there.
 pub mod Patterns
 -- What the calls for the postorder of a forest leave there.

@@ -68,7 +68,10 @@ fn number_of_parent<I: PrimInt>(parent: Option<usize>) -> Option<I>
 /// # Errors
 ///
 /// `OutOfMemory` where a request was refused, or a number is too large for the type.
-fn parents_of<I: PrimInt>(alloc: Global, parents: &[Option<usize>]) -> Result<Vec<I, Global>, Fault>
+pub fn parents_of<I: PrimInt>(
+    alloc: Global,
+    parents: &[Option<usize>],
+) -> Result<Vec<I, Global>, Fault>
     ensures numbers { IfOk result (λ v. map I.value v.items ≡ map parent_number parents.now) }
     ensures fault { IfErr result (λ e. e ≡ Fault.OutOfMemory) }
 {

@@ -4,13 +4,15 @@
 ghost use Rattle.std.specs.Prelude.{None, Some};
 ghost use Rattle.amd_c.specs.Calls.{ClassifiesInput, OrdersInto, memory};
 ghost use Rattle.amd_c.specs.Columns.{ColumnsInto, arrays};
+ghost use Rattle.amd_c.specs.Counting.{CountsInto, tallies};
 ghost use Rattle.amd_c.specs.Forests.{PostorderInto};
 ghost use Rattle.amd_c.specs.Patterns.{DegreesInto, RowFormInto, counted, row_arrays};
 
+use crate::counting::counts_into;
 use crate::factors::{columns_into, number_of_end};
 use crate::forests::postorder_into;
 use crate::patterns::{degrees_into, row_form_into};
-use crate::records::{Parameters, Statistics, number_of};
+use crate::records::{Needs, Parameters, Statistics, number_of};
 use crate::writing::order_into;
 use amd::valid::valid;
 use std::alloc::Global;
@@ -126,6 +128,40 @@ pub extern "C" fn rimopaku_columns_i32(
         (arrays ptr.new rows.new parent.new) result }
 {
     let outcome = columns_into(alloc, n, a_p, a_i, p, ptr, rows, parent);
+    number_of_end(&outcome)
+}
+
+/// Writes how many entries each column of a factor has, as `counts` of the crate `amd_symbolic` returns it, and returns
+/// 0.
+///
+/// The number of entries of each column is written into `sizes`, and the parents into `parent`, with -1 for none. Each
+/// of the two has `n` places. What the factor needs is written into `needs`; its figures saturate. No entry is written,
+/// and the memory that is taken does not grow with the factor. See `include/rimopaku.h` for what a caller must uphold.
+///
+/// # Errors
+///
+/// A negative number; `sizes`, `parent` and `needs` stay as they were. It is -2, `NotColumnForm`, exactly where `sizes`
+/// or `parent` has not `n` places, or `n` is not 0 and the input is no column form. It is -3, `NotPermutation`, where
+/// `p` does not list each number below `n`, once; and -1, `OutOfMemory`, where a request for memory was refused, which
+/// may come in place of the one before it.
+///
+/// Source: Rose, Tarjan and Lueker 1976; Liu 1986; Gilbert, Ng and Peyton 1994.
+#[unsafe(no_mangle)]
+pub extern "C" fn rimopaku_counts_i32(
+    alloc: Global,
+    n: i32,
+    a_p: &[i32],
+    a_i: &[i32],
+    p: &[i32],
+    sizes: &mut [i32],
+    parent: &mut [i32],
+    needs: &mut Needs,
+) -> i32
+    ensures { CountsInto n a_p.now a_i.now p.now
+        (tallies sizes.old parent.old needs.old)
+        (tallies sizes.new parent.new needs.new) result }
+{
+    let outcome = counts_into(alloc, n, a_p, a_i, p, sizes, parent, needs);
     number_of_end(&outcome)
 }
 

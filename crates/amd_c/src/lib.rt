@@ -1,10 +1,11 @@
 //! The library as C calls it: `order`, `order_holding`, `valid`, `aat` and `preprocess` of the crate `amd`, and
-//! `columns` of the crate `amd_symbolic`, for `int32_t` ([`int32`]) and `int64_t` ([`int64`]).
+//! `columns` and `counts` of the crate `amd_symbolic`, for `int32_t` ([`int32`]) and `int64_t` ([`int64`]).
 //!
 //! A slice crosses as a pointer and a length, and a record by its address. An ordering is written into the caller's
 //! arrays, and a call returns the number of a status. The header `include/rimopaku.h` says what a caller must uphold.
 #![tactic(auto)]
 
+mod counting;
 mod factors;
 mod forests;
 pub mod int32;

@@ -50,6 +50,23 @@ pub struct Statistics {
     pub d_max: usize,
 }
 
+/// What a factor needs: sums over its columns, and the largest of them. They saturate: one that is `usize::MAX` may be
+/// too small.
+///
+/// Source: AMD user guide (the figures of `Info`).
+#[derive(Drop)]
+#[repr(C)]
+pub struct Needs {
+    /// The entries below the diagonal, and so the divisions of a factorization.
+    pub lnz: usize,
+    /// The multiply-subtract steps of a factorization `LDL'`.
+    pub n_mult_subs_ldl: usize,
+    /// The multiply-subtract steps of a factorization `LU`.
+    pub n_mult_subs_lu: usize,
+    /// The entries of the largest column, with that on the diagonal; 0 where there are no columns.
+    pub d_max: usize,
+}
+
 /// The statistics of a record: its fields but for the status.
 pub fn statistics_of(info: &Info) -> Statistics
     ensures { result ≡ statistics_of info.now }

@@ -2,14 +2,14 @@
 // is that of the AMD user guide.
 
 use crate::int32::{
-    rimopaku_aat_i32, rimopaku_columns_i32, rimopaku_order_holding_i32, rimopaku_order_i32,
-    rimopaku_postorder_i32, rimopaku_preprocess_i32, rimopaku_valid_i32,
+    rimopaku_aat_i32, rimopaku_columns_i32, rimopaku_counts_i32, rimopaku_order_holding_i32,
+    rimopaku_order_i32, rimopaku_postorder_i32, rimopaku_preprocess_i32, rimopaku_valid_i32,
 };
 use crate::int64::{
-    rimopaku_aat_i64, rimopaku_columns_i64, rimopaku_order_holding_i64, rimopaku_order_i64,
-    rimopaku_postorder_i64, rimopaku_preprocess_i64, rimopaku_valid_i64,
+    rimopaku_aat_i64, rimopaku_columns_i64, rimopaku_counts_i64, rimopaku_order_holding_i64,
+    rimopaku_order_i64, rimopaku_postorder_i64, rimopaku_preprocess_i64, rimopaku_valid_i64,
 };
-use crate::records::{Parameters, Statistics, statistics_of};
+use crate::records::{Needs, Parameters, Statistics, statistics_of};
 use crate::rimopaku_defaults;
 use amd::Info;
 
@@ -43,6 +43,26 @@ fn numbers_of(told: &Statistics) -> [usize; 11] {
 /// A record in which no call has written.
 fn blank() -> Statistics {
     statistics_of(&Info::new(77))
+}
+
+/// Needs in which no call has written.
+fn no_needs() -> Needs {
+    Needs {
+        lnz: 77,
+        n_mult_subs_ldl: 77,
+        n_mult_subs_lu: 77,
+        d_max: 77,
+    }
+}
+
+/// The needs, in the order of the fields.
+fn figures_of(needs: &Needs) -> [usize; 4] {
+    [
+        needs.lnz,
+        needs.n_mult_subs_ldl,
+        needs.n_mult_subs_lu,
+        needs.d_max,
+    ]
 }
 
 #[test]
@@ -260,6 +280,101 @@ fn columns_that_are_refused(rt: HostRuntime) {
 }
 
 #[test]
+fn counts_of_five_rows(rt: HostRuntime) {
+    let a_p = [0, 2, 6, 10, 12, 14];
+    let a_i = [0, 1, 0, 1, 2, 4, 1, 2, 3, 4, 2, 3, 1, 4];
+    let mut sizes = [-5; 5];
+    let mut parent = [-5; 5];
+    let mut needs = no_needs();
+    let number = rimopaku_counts_i32(
+        rt.alloc(),
+        5,
+        &a_p,
+        &a_i,
+        &[0, 3, 2, 4, 1],
+        &mut sizes,
+        &mut parent,
+        &mut needs,
+    );
+    assert!(rt; number == 0 && sizes == [1, 1, 2, 1, 0] && parent == [4, 2, 3, 4, -1]);
+    assert!(rt; figures_of(&needs) == [5, 6, 7, 3]);
+}
+
+#[test]
+fn counts_of_a_cycle_in_64_bits(rt: HostRuntime) {
+    let a_p = [0i64, 2, 3, 4, 4];
+    let a_i = [1i64, 3, 2, 3];
+    let mut sizes = [-5; 4];
+    let mut parent = [-5; 4];
+    let mut needs = no_needs();
+    let twice = rimopaku_counts_i64(
+        rt.alloc(),
+        4,
+        &a_p,
+        &a_i,
+        &[0, 0, 2, 3],
+        &mut sizes,
+        &mut parent,
+        &mut needs,
+    );
+    assert!(rt; twice == -3 && sizes == [-5; 4] && parent == [-5; 4] && needs.lnz == 77);
+    let number = rimopaku_counts_i64(
+        rt.alloc(),
+        4,
+        &a_p,
+        &a_i,
+        &[0, 1, 2, 3],
+        &mut sizes,
+        &mut parent,
+        &mut needs,
+    );
+    assert!(rt; number == 0 && sizes == [2, 2, 1, 0] && parent == [1, 2, 3, -1]);
+    assert!(rt; figures_of(&needs) == [5, 7, 9, 3]);
+}
+
+#[test]
+fn counts_that_are_refused(rt: HostRuntime) {
+    let a_p = [0, 2, 3, 4, 4];
+    let a_i = [1, 3, 2, 3];
+    let mut sizes = [-5; 4];
+    let mut parent = [-5; 4];
+    let mut needs = no_needs();
+    let order = [0, 1, 2, 3];
+    let few_pointers = rimopaku_counts_i32(
+        rt.alloc(),
+        4,
+        &a_p[..4],
+        &a_i,
+        &order,
+        &mut sizes,
+        &mut parent,
+        &mut needs,
+    );
+    let few_sizes = rimopaku_counts_i32(
+        rt.alloc(),
+        4,
+        &a_p,
+        &a_i,
+        &order,
+        &mut sizes[..3],
+        &mut parent,
+        &mut needs,
+    );
+    let few_parents = rimopaku_counts_i32(
+        rt.alloc(),
+        4,
+        &a_p,
+        &a_i,
+        &order,
+        &mut sizes,
+        &mut parent[..3],
+        &mut needs,
+    );
+    assert!(rt; few_pointers == -2 && few_sizes == -2 && few_parents == -2);
+    assert!(rt; sizes == [-5; 4] && parent == [-5; 4] && figures_of(&needs) == [77; 4]);
+}
+
+#[test]
 fn a_cycle_in_64_bits(rt: HostRuntime) {
     let a_p = [0i64, 2, 3, 4, 4];
     let a_i = [1i64, 3, 2, 3];
@@ -313,6 +428,9 @@ fn no_rows(rt: HostRuntime) {
     let mut ptr = [-5i64];
     let written = rimopaku_columns_i64(rt.alloc(), 0, &[7], &[], &[], &mut ptr, &mut [], &mut []);
     assert!(rt; written == 0 && ptr == [0]);
+    let mut needs = no_needs();
+    let counted = rimopaku_counts_i32(rt.alloc(), 0, &[7], &[], &[], &mut [], &mut [], &mut needs);
+    assert!(rt; counted == 0 && figures_of(&needs) == [0; 4]);
 }
 
 #[test]

@@ -12,7 +12,7 @@ use num_traits::PrimInt;
 use std::alloc::Global;
 
 /// Whether each of two arrays has `n` places.
-fn have_places<I: PrimInt>(n: I, p: &[I], p_inv: &[I]) -> bool
+pub fn have_places<I: PrimInt>(n: I, p: &[I], p_inv: &[I]) -> bool
     ensures { IsTrue result ↔ HasPlaces (I.value n) (map I.value p.now) (map I.value p_inv.now) }
 {
     match to_count(n) {
