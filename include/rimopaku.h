@@ -99,7 +99,7 @@ int32_t rimopaku_order_holding_i64(int64_t n, const int64_t *a_p, size_t a_p_len
 int32_t rimopaku_valid_i32(int32_t n_row, int32_t n_col, const int32_t *a_p, size_t a_p_len, const int32_t *a_i, size_t a_i_len);
 int32_t rimopaku_valid_i64(int64_t n_row, int64_t n_col, const int64_t *a_p, size_t a_p_len, const int64_t *a_i, size_t a_i_len);
 
-/* What rimopaku_columns and rimopaku_preprocess return besides 0, RIMOPAKU_OUT_OF_MEMORY and RIMOPAKU_INVALID. */
+/* What rimopaku_columns, rimopaku_counts and rimopaku_preprocess return besides 0, RIMOPAKU_OUT_OF_MEMORY and RIMOPAKU_INVALID. */
 enum {
     RIMOPAKU_NOT_PERMUTATION = -3, /* p does not list each row exactly once */
     RIMOPAKU_ROOM_TOO_SMALL = -4   /* there are more entries than the array for them has places */
@@ -121,6 +121,27 @@ int32_t rimopaku_columns_i32(int32_t n, const int32_t *a_p, size_t a_p_len, cons
 int32_t rimopaku_columns_i64(int64_t n, const int64_t *a_p, size_t a_p_len, const int64_t *a_i, size_t a_i_len, const int64_t *p,
                              size_t p_len, int64_t *ptr, size_t ptr_len, int64_t *rows, size_t rows_len, int64_t *parent,
                              size_t parent_len);
+
+/* What the factor L needs: sums over its columns. They saturate: one that would exceed SIZE_MAX is SIZE_MAX. */
+struct rimopaku_needs {
+    size_t lnz;             /* entries of L below the diagonal, and so the divisions */
+    size_t n_mult_subs_ldl; /* multiply-subtract steps of a factorization LDL' */
+    size_t n_mult_subs_lu;  /* multiply-subtract steps of a factorization LU without pivoting */
+    size_t d_max;           /* entries of the longest column of L, with its diagonal; 0 for n = 0 */
+};
+
+/* Counts the entries of the factor that rimopaku_columns writes, without writing them: sizes[k] is the number of entries of column k, and
+ * parent[k] is what rimopaku_columns writes there. The entries are needs->lnz in all, and that is enough room for rimopaku_columns, unless
+ * it is SIZE_MAX. The memory that the call takes does not grow with the factor.
+ *
+ * sizes_len and parent_len must be n; otherwise the call returns RIMOPAKU_INVALID. If p is no permutation of the rows it returns
+ * RIMOPAKU_NOT_PERMUTATION. It never returns RIMOPAKU_ROOM_TOO_SMALL. After an error sizes, parent and *needs are unchanged. */
+int32_t rimopaku_counts_i32(int32_t n, const int32_t *a_p, size_t a_p_len, const int32_t *a_i, size_t a_i_len, const int32_t *p,
+                            size_t p_len, int32_t *sizes, size_t sizes_len, int32_t *parent, size_t parent_len,
+                            struct rimopaku_needs *needs);
+int32_t rimopaku_counts_i64(int64_t n, const int64_t *a_p, size_t a_p_len, const int64_t *a_i, size_t a_i_len, const int64_t *p,
+                            size_t p_len, int64_t *sizes, size_t sizes_len, int64_t *parent, size_t parent_len,
+                            struct rimopaku_needs *needs);
 
 /* Writes the degrees of the rows by the pattern of A + A', without its diagonal: degrees[i] is the number of its entries in row i. The
  * columns of the matrix must be sorted and have no duplicates. Of *statistics the fields n, nz, symmetry, nz_diag and nz_a_plus_at tell the

@@ -87,6 +87,12 @@ template <typename Integer> struct Factor {
     std::vector<Integer> ptr, rows, parent;
 };
 
+/* How many entries the columns of a factor have below its diagonal, the parents, -1 for none, and what the factor needs. */
+template <typename Integer> struct Counts {
+    std::vector<Integer> sizes, parent;
+    rimopaku_needs needs;
+};
+
 /* The degrees of the rows by the pattern of A + A', and the statistics of the pattern. */
 template <typename Integer> struct Degrees {
     std::vector<Integer> degrees;
@@ -128,6 +134,11 @@ template <> struct Calls<4> {
         return rimopaku_columns_i32(n, a_p.data(), a_p.size(), a_i.data(), a_i.size(), p.data(), p.size(), ptr.data(), ptr.size(),
                                     rows.data(), rows.size() - 1, parent.data(), parent.size() - 1);
     }
+    static std::int32_t counts(Integer n, Numbers a_p, Numbers a_i, Numbers p, List &sizes, List &parent, rimopaku_needs &needs)
+    {
+        return rimopaku_counts_i32(n, a_p.data(), a_p.size(), a_i.data(), a_i.size(), p.data(), p.size(), sizes.data(), sizes.size() - 1,
+                                   parent.data(), parent.size() - 1, &needs);
+    }
     static std::int32_t aat(Integer n, Numbers a_p, Numbers a_i, List &degrees, rimopaku_statistics &statistics)
     {
         return rimopaku_aat_i32(n, a_p.data(), a_p.size(), a_i.data(), a_i.size(), degrees.data(), degrees.size() - 1, &statistics);
@@ -168,6 +179,11 @@ template <> struct Calls<8> {
     {
         return rimopaku_columns_i64(n, a_p.data(), a_p.size(), a_i.data(), a_i.size(), p.data(), p.size(), ptr.data(), ptr.size(),
                                     rows.data(), rows.size() - 1, parent.data(), parent.size() - 1);
+    }
+    static std::int32_t counts(Integer n, Numbers a_p, Numbers a_i, Numbers p, List &sizes, List &parent, rimopaku_needs &needs)
+    {
+        return rimopaku_counts_i64(n, a_p.data(), a_p.size(), a_i.data(), a_i.size(), p.data(), p.size(), sizes.data(), sizes.size() - 1,
+                                   parent.data(), parent.size() - 1, &needs);
     }
     static std::int32_t aat(Integer n, Numbers a_p, Numbers a_i, List &degrees, rimopaku_statistics &statistics)
     {
@@ -283,6 +299,20 @@ Factor<Integer> columns(Integer n, View<Integer> a_p, View<Integer> a_i, View<In
     detail::checked(As::Call::columns(static_cast<Number>(n), As::view(a_p), As::view(a_i), As::view(p), ptr, rows, parent));
     result.ptr = detail::cut<Integer>(ptr, size + 1);
     result.rows = detail::cut<Integer>(rows, static_cast<std::size_t>(ptr[size]));
+    result.parent = detail::cut<Integer>(parent, size);
+    return result;
+}
+
+/* The counts of that factor, without its entries. */
+template <typename Integer> Counts<Integer> counts(Integer n, View<Integer> a_p, View<Integer> a_i, View<Integer> p)
+{
+    typedef detail::As<Integer> As;
+    typedef typename As::Number Number;
+    std::size_t size = detail::count(n);
+    std::vector<Number> sizes = detail::room<Number>(size), parent = detail::room<Number>(size);
+    Counts<Integer> result;
+    detail::checked(As::Call::counts(static_cast<Number>(n), As::view(a_p), As::view(a_i), As::view(p), sizes, parent, result.needs));
+    result.sizes = detail::cut<Integer>(sizes, size);
     result.parent = detail::cut<Integer>(parent, size);
     return result;
 }

@@ -1,4 +1,5 @@
-/* The columns of the factors of two matrices under given orders, once with int32_t and once with int64_t, and a room that is too small. */
+/* The columns of the factors of two matrices under given orders, and their counts, once with int32_t and once with int64_t; and a room that
+ * is too small. */
 #include <stdio.h>
 
 #include "rimopaku.h"
@@ -12,12 +13,18 @@ static void print(const char *name, const int64_t *numbers, size_t len)
     printf("\n");
 }
 
+static void print_needs(struct rimopaku_needs needs)
+{
+    printf("NEEDS %zu %zu %zu %zu\n", needs.lnz, needs.n_mult_subs_ldl, needs.n_mult_subs_lu, needs.d_max);
+}
+
 static void six_rows(void)
 {
     const int32_t a_p[] = {0, 1, 3, 6, 9, 14, 20}, p[] = {1, 4, 3, 5, 0, 2};
     const int32_t a_i[] = {0, 0, 1, 0, 1, 2, 0, 1, 2, 0, 1, 2, 3, 4, 0, 1, 2, 3, 4, 5};
-    int32_t ptr[7], rows[15], parent[6];
+    int32_t ptr[7], rows[15], parent[6], sizes[6];
     int64_t wide[15];
+    struct rimopaku_needs needs;
     int k;
 
     printf("status %d\n", (int)rimopaku_columns_i32(6, a_p, 7, a_i, 20, p, 6, ptr, 7, rows, 15, parent, 6));
@@ -30,19 +37,32 @@ static void six_rows(void)
     for (k = 0; k < 6; k++)
         wide[k] = parent[k];
     print("PARENT", wide, 6);
+    printf("counts, status %d\n", (int)rimopaku_counts_i32(6, a_p, 7, a_i, 20, p, 6, sizes, 6, parent, 6, &needs));
+    for (k = 0; k < 6; k++)
+        wide[k] = sizes[k];
+    print("SIZES", wide, 6);
+    for (k = 0; k < 6; k++)
+        wide[k] = parent[k];
+    print("PARENT", wide, 6);
+    print_needs(needs);
 }
 
 static void nine_rows(size_t room)
 {
     const int64_t a_p[] = {0, 1, 4, 7, 10, 12, 15, 17, 20, 22}, p[] = {6, 1, 0, 7, 2, 4, 5, 8, 3};
     const int64_t a_i[] = {1, 0, 1, 2, 1, 2, 3, 2, 3, 4, 3, 5, 4, 5, 6, 5, 7, 6, 7, 8, 7, 8};
-    int64_t ptr[10] = {-9, -9, -9, -9, -9, -9, -9, -9, -9, -9}, rows[14] = {-9}, parent[9] = {-9};
+    int64_t ptr[10] = {-9, -9, -9, -9, -9, -9, -9, -9, -9, -9}, rows[14] = {-9}, parent[9] = {-9}, sizes[9], up[9];
+    struct rimopaku_needs needs;
 
     rows[13] = -7;
     printf("room %zu, status %d\n", room, (int)rimopaku_columns_i64(9, a_p, 10, a_i, 22, p, 9, ptr, 10, rows, room, parent, 9));
     print("PTR", ptr, 10);
     print("ROWS", rows, 14);
     print("PARENT", parent, 9);
+    printf("counts, status %d\n", (int)rimopaku_counts_i64(9, a_p, 10, a_i, 22, p, 9, sizes, 9, up, 9, &needs));
+    print("SIZES", sizes, 9);
+    print("PARENT", up, 9);
+    print_needs(needs);
 }
 
 int main(void)

@@ -42,6 +42,7 @@ struct answer {
     int32_t narrow[ROWS + ROWS + ROWS + 1 + ROOM];
     int64_t wide[ROWS + ROWS + ROWS + 1 + ROOM];
     struct rimopaku_statistics statistics;
+    struct rimopaku_needs needs;
 };
 
 static const int32_t a_p_32[] = {0, 2, 6, 10, 12, 14}, a_i_32[] = {0, 1, 0, 1, 2, 4, 1, 2, 3, 4, 2, 3, 1, 4}, p_32[] = {0, 3, 2, 4, 1};
@@ -82,6 +83,16 @@ static int32_t columns_64(struct answer *to)
 {
     return rimopaku_columns_i64(ROWS, a_p_64, ROWS + 1, a_i_64, 14, p_64, ROWS, to->wide, ROWS + 1, to->wide + ROWS + 1, ROOM,
                                 to->wide + ROWS + 1 + ROOM, ROWS);
+}
+
+static int32_t counts_32(struct answer *to)
+{
+    return rimopaku_counts_i32(ROWS, a_p_32, ROWS + 1, a_i_32, 14, p_32, ROWS, to->narrow, ROWS, to->narrow + ROWS, ROWS, &to->needs);
+}
+
+static int32_t counts_64(struct answer *to)
+{
+    return rimopaku_counts_i64(ROWS, a_p_64, ROWS + 1, a_i_64, 14, p_64, ROWS, to->wide, ROWS, to->wide + ROWS, ROWS, &to->needs);
 }
 
 static int32_t aat_32(struct answer *to)
@@ -125,7 +136,7 @@ static void untouch(struct answer *answer)
     memset(answer, 0, sizeof *answer);
     for (k = 0; k < sizeof answer->narrow / sizeof *answer->narrow; k++)
         answer->narrow[k] = answer->wide[k] = UNTOUCHED;
-    answer->statistics.lnz = 77;
+    answer->statistics.lnz = answer->needs.lnz = 77;
 }
 
 /* Refuses each request of a call in turn, and tells what went wrong, or how the last call ended. */
@@ -160,6 +171,8 @@ int main(void)
     refuse_each("order with a row held, 64 bits", order_holding_64);
     refuse_each("columns, 32 bits", columns_32);
     refuse_each("columns, 64 bits", columns_64);
+    refuse_each("counts, 32 bits", counts_32);
+    refuse_each("counts, 64 bits", counts_64);
     refuse_each("aat, 32 bits", aat_32);
     refuse_each("aat, 64 bits", aat_64);
     refuse_each("preprocess, 32 bits", preprocess_32);
