@@ -2,7 +2,7 @@
 
 use crate::numbers::{converted, filled, returned, room, Matrix};
 use crate::order::{order_matrix, Control, Fault, Info};
-use crate::raw::{Entries, Word};
+use crate::raw::{Entries, Needs, Tallies, Word};
 use alloc::vec;
 use alloc::vec::Vec;
 use num_traits::{cast, PrimInt};
@@ -85,16 +85,20 @@ impl Need {
     }
 }
 
+/// The parents in the caller's numbers. -1 is the parent of an empty column.
+fn parents_of<I: PrimInt, T: Word>(parent: &[T]) -> Result<Vec<Option<I>>, Fault> {
+    let mut parents = room(parent.len())?;
+    parents.extend(parent.iter().map(|&place| if place < T::zero() { None } else { cast(place) }));
+    Ok(parents)
+}
+
 /// The factor in the caller's numbers.
 fn told<I: PrimInt, T: Word>(ptr: &[T], mut rows: Vec<T>, parent: &[T]) -> Result<Factor<I>, Fault> {
     let ptr = converted(ptr, 0)?;
     rows.truncate(ptr.last().map_or(0, |&end| end));
     rows.shrink_to_fit();
     let rows = returned(rows)?;
-    let mut parents = room(parent.len())?;
-    // -1 is the parent of an empty column.
-    parents.extend(parent.iter().map(|&place| if place < T::zero() { None } else { cast(place) }));
-    Ok(Factor { ptr, rows, parent: parents })
+    Ok(Factor { ptr, rows, parent: parents_of(parent)? })
 }
 
 /// The factor, in numbers of the library.
@@ -169,8 +173,40 @@ pub fn columns<I: PrimInt>(n: I, a_p: &[I], a_i: &[I], p: &[I]) -> Result<Factor
     }
 }
 
-/// Returns how many entries each column of the factor in the order `p` has, and what the factor needs. It takes the
-/// memory of the factor.
+/// What a factor needs: the figures that a call wrote, or exact sums where one of those saturates.
+fn need_of(needs: &Needs, sizes: &[usize]) -> Need {
+    if [needs.lnz, needs.n_mult_subs_ldl, needs.n_mult_subs_lu].contains(&usize::MAX) {
+        return sizes.iter().fold(Need::default(), |need, &size| need.with_column(size));
+    }
+    Need {
+        lnz: needs.lnz as u128,
+        n_mult_subs_ldl: needs.n_mult_subs_ldl as u128,
+        n_mult_subs_lu: needs.n_mult_subs_lu as u128,
+        d_max: needs.d_max as u128,
+    }
+}
+
+/// The counts, in numbers of the library.
+fn counts_in<I: PrimInt, T: Word>(matrix: Matrix<I>, p: &[I]) -> Result<Counts<I>, Fault> {
+    let copied = matrix.copied::<T>()?;
+    let order = converted(p, T::NONE)?;
+    let mut sizes = filled(T::zero(), matrix.size)?;
+    let mut parent = filled(T::zero(), matrix.size)?;
+    let mut needs = Needs::default();
+    let output = Tallies { sizes: &mut sizes, parent: &mut parent, needs: &mut needs };
+    match T::counts(copied.columns(), &order, output) {
+        0 => {
+            drop(copied);
+            let sizes = converted(&sizes, 0)?;
+            let need = need_of(&needs, &sizes);
+            Ok(Counts { sizes, parent: parents_of(&parent)?, need })
+        }
+        fault => Err(Fault::of(fault)),
+    }
+}
+
+/// Returns how many entries each column of the factor in the order `p` has, and what the factor needs. No entry is
+/// written: the call takes memory for the matrix and its rows, whatever the factor needs.
 ///
 /// # Errors
 ///
@@ -184,12 +220,12 @@ pub fn columns<I: PrimInt>(n: I, a_p: &[I], a_i: &[I], p: &[I]) -> Result<Factor
 /// # Ok::<(), rimopaku_amd::Fault>(())
 /// ```
 pub fn counts<I: PrimInt>(n: I, a_p: &[I], a_i: &[I], p: &[I]) -> Result<Counts<I>, Fault> {
-    let Factor { ptr, rows, parent } = columns(n, a_p, a_i, p)?;
-    drop(rows);
-    let mut sizes = room(parent.len())?;
-    sizes.extend(ptr.windows(2).map(|ends| ends[1] - ends[0]));
-    let need = sizes.iter().fold(Need::default(), |need, &size| need.with_column(size));
-    Ok(Counts { sizes, parent, need })
+    let matrix = Matrix::new(n, a_p, a_i)?;
+    if matrix.is_narrow(0) {
+        counts_in::<I, i32>(matrix, p)
+    } else {
+        counts_in::<I, i64>(matrix, p)
+    }
 }
 
 /// Orders a matrix, with rows held last where there are marks, and returns the factor too.
@@ -242,15 +278,25 @@ pub fn analyze_holding<I: PrimInt>(
 
 #[cfg(test)]
 mod tests {
-    use super::{columns_in, Matrix};
+    use super::{columns_in, counts_in, need_of, Matrix, Need};
+    use crate::raw::Needs;
 
     #[test]
     fn both_widths_give_the_same() {
         let matrix = Matrix::new(4_u8, &[0, 2, 3, 4, 4], &[1, 3, 2, 3]).expect("long enough");
         for p in [[0, 1, 2, 3], [2, 0, 3, 1], [0, 0, 1, 2]] {
+            assert_eq!(counts_in::<u8, i32>(matrix, &p), counts_in::<u8, i64>(matrix, &p));
             for most in [4, 5] {
                 assert_eq!(columns_in::<u8, i32>(matrix, &p, most), columns_in::<u8, i64>(matrix, &p, most));
             }
         }
+    }
+
+    /// Columns of 2, 2, 1 and 0 entries, beside figures that saturate.
+    #[test]
+    fn needs_beyond_a_word_are_summed() {
+        let needs = Needs { lnz: 5, n_mult_subs_ldl: 7, n_mult_subs_lu: usize::MAX, d_max: 3 };
+        let exact = Need { lnz: 5, n_mult_subs_ldl: 7, n_mult_subs_lu: 9, d_max: 3 };
+        assert_eq!(need_of(&needs, &[2, 2, 1, 0]), exact);
     }
 }

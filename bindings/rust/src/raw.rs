@@ -32,6 +32,16 @@ pub(crate) struct Statistics {
     pub d_max: usize,
 }
 
+/// `struct rimopaku_needs`.
+#[repr(C)]
+#[derive(Default)]
+pub(crate) struct Needs {
+    pub lnz: usize,
+    pub n_mult_subs_ldl: usize,
+    pub n_mult_subs_lu: usize,
+    pub d_max: usize,
+}
+
 /// A type of numbers that the library has calls for.
 pub(crate) trait Word: PrimInt {
     /// A number that no column form has, in place of one that the type does not have.
@@ -42,6 +52,9 @@ pub(crate) trait Word: PrimInt {
 
     /// Calls `rimopaku_columns`, and returns the status.
     fn columns(input: Columns<Self>, p: &[Self], output: Entries<Self>) -> i32;
+
+    /// Calls `rimopaku_counts`, and returns the status.
+    fn counts(input: Columns<Self>, p: &[Self], output: Tallies<Self>) -> i32;
 }
 
 /// A matrix in compressed sparse columns.
@@ -66,8 +79,15 @@ pub(crate) struct Entries<'a, T> {
     pub parent: &'a mut [T],
 }
 
+/// Where the counts of a factor are written.
+pub(crate) struct Tallies<'a, T> {
+    pub sizes: &'a mut [T],
+    pub parent: &'a mut [T],
+    pub needs: &'a mut Needs,
+}
+
 macro_rules! word {
-    ($word:ty, $order:ident, $order_holding:ident, $columns:ident) => {
+    ($word:ty, $order:ident, $order_holding:ident, $columns:ident, $counts:ident) => {
         extern "C" {
             fn $order(
                 n: $word,
@@ -111,6 +131,20 @@ macro_rules! word {
                 rows_len: usize,
                 parent: *mut $word,
                 parent_len: usize,
+            ) -> i32;
+            fn $counts(
+                n: $word,
+                a_p: *const $word,
+                a_p_len: usize,
+                a_i: *const $word,
+                a_i_len: usize,
+                p: *const $word,
+                p_len: usize,
+                sizes: *mut $word,
+                sizes_len: usize,
+                parent: *mut $word,
+                parent_len: usize,
+                needs: *mut Needs,
             ) -> i32;
         }
 
@@ -183,9 +217,31 @@ macro_rules! word {
                     )
                 }
             }
+
+            fn counts(input: Columns<$word>, p: &[$word], output: Tallies<$word>) -> i32 {
+                let Columns { n, a_p, a_i } = input;
+                let Tallies { sizes, parent, needs } = output;
+                // SAFETY: as in `order`.
+                unsafe {
+                    $counts(
+                        n,
+                        a_p.as_ptr(),
+                        a_p.len(),
+                        a_i.as_ptr(),
+                        a_i.len(),
+                        p.as_ptr(),
+                        p.len(),
+                        sizes.as_mut_ptr(),
+                        sizes.len(),
+                        parent.as_mut_ptr(),
+                        parent.len(),
+                        needs,
+                    )
+                }
+            }
         }
     };
 }
 
-word!(i32, rimopaku_order_i32, rimopaku_order_holding_i32, rimopaku_columns_i32);
-word!(i64, rimopaku_order_i64, rimopaku_order_holding_i64, rimopaku_columns_i64);
+word!(i32, rimopaku_order_i32, rimopaku_order_holding_i32, rimopaku_columns_i32, rimopaku_counts_i32);
+word!(i64, rimopaku_order_i64, rimopaku_order_holding_i64, rimopaku_columns_i64, rimopaku_counts_i64);

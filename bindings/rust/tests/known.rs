@@ -134,6 +134,8 @@ fn a_factor() {
     assert_eq!((told.sizes, told.parent), (vec![2, 2, 1, 0], factor.parent.clone()));
     let need = [told.need.lnz, told.need.n_mult_subs_ldl, told.need.n_mult_subs_lu, told.need.d_max];
     assert_eq!(need, [5, 7, 9, 3]);
+    assert_eq!(counts(4, &a_p, &a_i, &[0, 0, 2, 3]).err(), Some(Fault::NotPermutation));
+    assert_eq!(counts(4, &a_p[1..], &a_i, &[0, 1, 2, 3]).err(), Some(Fault::Invalid));
     assert_eq!(columns_within(4, &a_p, &a_i, &[0, 1, 2, 3], 4).err(), Some(Fault::RoomTooSmall));
     assert_eq!(columns_within(4, &a_p, &a_i, &[0, 1, 2, 3], 5).expect("a factor"), factor);
 }
