@@ -266,9 +266,13 @@ def amd(
     return (p, info) if return_info else p
 
 
-def _given(p: Any, matrix: _library.Columns) -> Numbers:
-    """A caller's order in the numbers of the matrix."""
-    return np.ascontiguousarray(_rows(np.asarray(p), matrix.n, "p"), matrix.a_p.dtype)
+def _chosen(
+    matrix: _library.Columns, p: Any, dense: float, aggressive: bool, hold: Any
+) -> Tuple[Numbers, Optional[Info]]:
+    """A caller's order in the numbers of the matrix; without one that of `amd`, and its Info."""
+    if p is None:
+        return _ordering(matrix, dense, aggressive, hold)
+    return np.ascontiguousarray(_rows(np.asarray(p), matrix.n, "p"), matrix.a_p.dtype), None
 
 
 def _factor(matrix: _library.Columns, p: Numbers, room: int) -> Tuple[Numbers, Numbers, Numbers]:
@@ -304,12 +308,8 @@ def analyze(
            [1, 1, 1, 1]])
     """
     matrix = _columns(A)
-    if p is None:
-        order, info = _ordering(matrix, dense, aggressive, hold)
-        room = info.lnz
-    else:
-        order, info = _given(p, matrix), None
-        room = max(len(matrix.a_i), 16)
+    order, info = _chosen(matrix, p, dense, aggressive, hold)
+    room = info.lnz if info is not None else max(len(matrix.a_i), 16)
     ptr, rows, parent = _factor(matrix, order, room)
     return Analysis(order, parent, ptr, rows, info)
 
@@ -319,7 +319,7 @@ def counts(
 ) -> Counts:
     """Returns how many entries each column of the factor has below its diagonal, and the elimination tree.
 
-    The arguments and errors are those of ``analyze``. It takes the memory of the factor.
+    The arguments and errors are those of ``analyze``. No entry is written, and it takes little memory.
 
     >>> import scipy.sparse as sp
     >>> cycle = sp.csc_matrix([[1, 1, 0, 1], [1, 1, 1, 0], [0, 1, 1, 1], [1, 0, 1, 1]])
@@ -329,8 +329,10 @@ def counts(
     >>> told.need
     Need(lnz=5, n_mult_subs_ldl=7, n_mult_subs_lu=9, d_max=3)
     """
-    analysis = analyze(A, p, dense=dense, aggressive=aggressive, hold=hold)
-    return Counts(analysis.p, analysis.parent, np.diff(analysis.indptr), analysis.info)
+    matrix = _columns(A)
+    order, info = _chosen(matrix, p, dense, aggressive, hold)
+    sizes, parent = _library.counts(matrix, order)
+    return Counts(order, parent, sizes, info)
 
 
 def spy(A: Any, p: Any = None, *, axes: Any = None, markersize: Optional[float] = None, **choice: Any) -> Any:

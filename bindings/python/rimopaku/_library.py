@@ -49,6 +49,12 @@ class Statistics(ctypes.Structure):
     ]
 
 
+class Needs(ctypes.Structure):
+    """struct rimopaku_needs."""
+
+    _fields_ = [("lnz", c_size_t), ("n_mult_subs_ldl", c_size_t), ("n_mult_subs_lu", c_size_t), ("d_max", c_size_t)]
+
+
 class RoomTooSmall(Exception):
     """The factor has more entries than there is room for."""
 
@@ -63,6 +69,7 @@ def _load() -> ctypes.CDLL:
             "order": [*array, *array, POINTER(Parameters), *array, *array, POINTER(Statistics)],
             "order_holding": [*array, *array, POINTER(Parameters), *array, *array, *array, POINTER(Statistics)],
             "columns": [*array, *array, *array, *array, *array, *array],
+            "counts": [*array, *array, *array, *array, *array, POINTER(Needs)],
         }
         for name, types in arguments.items():
             function = getattr(library, f"rimopaku_{name}_{suffix}")
@@ -138,3 +145,11 @@ def columns(matrix: Columns, p: Numbers, room: int) -> Tuple[Numbers, Numbers, N
     ptr, rows, parent = np.empty(matrix.n + 1, kind), np.empty(room, kind), np.empty(matrix.n, kind)
     _call("columns", matrix, p, ptr, rows, parent)
     return ptr, rows[: ptr[-1]].copy(), parent
+
+
+def counts(matrix: Columns, p: Numbers) -> Tuple[Numbers, Numbers]:
+    """The numbers of entries of the columns of that factor, and their parents; no entry is written."""
+    kind = matrix.a_p.dtype
+    sizes, parent = np.empty(matrix.n, kind), np.empty(matrix.n, kind)
+    _call("counts", matrix, p, sizes, parent, Needs())
+    return sizes, parent

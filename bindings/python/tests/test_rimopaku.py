@@ -166,6 +166,7 @@ class Factors(unittest.TestCase):
     def test_a_full_factor(self):
         star = sp.csc_matrix((np.ones(99), np.arange(1, 100), [0] + [99] * 100), shape=(100, 100))
         self.assertEqual(analyze(star, p=range(100)).nnz, 99 * 50)
+        self.assertEqual(counts(star, p=range(100)).nnz, 99 * 50)
 
 
 class Faults(unittest.TestCase):
