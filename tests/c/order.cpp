@@ -29,6 +29,11 @@ template <typename Integer> void five_rows()
     const auto factor = Rimopaku::columns<Integer>(5, a_p, a_i, found.p, found.statistics.lnz);
     print("ptr", factor.ptr);
     print("parent", factor.parent);
+    const auto counts = Rimopaku::counts<Integer>(5, a_p, a_i, found.p);
+    print("sizes", counts.sizes);
+    print("parent", counts.parent);
+    std::cout << "needs " << counts.needs.lnz << ' ' << counts.needs.n_mult_subs_ldl << ' ' << counts.needs.n_mult_subs_lu << ' '
+              << counts.needs.d_max << '\n';
     const auto degrees = Rimopaku::degrees<Integer>(5, a_p, a_i);
     print("degrees", degrees.degrees);
     const auto rows = Rimopaku::row_form<Integer>(5, a_p, a_i);
@@ -76,6 +81,7 @@ int main()
     thrown("negative", [&] { Rimopaku::order<int>(-1, a_p, a_i); });
     thrown("no pointers", [&] { Rimopaku::order<int>(3, none, a_i); });
     thrown("no order", [&] { Rimopaku::columns<int>(3, a_p, a_i, ones, 9); });
+    thrown("no order to count", [&] { Rimopaku::counts<int>(3, a_p, a_i, ones); });
     thrown("no room", [&] { Rimopaku::columns<int>(3, a_p, a_i, std::vector<int>{0, 1, 2}, 1); });
     thrown("a cycle", [&] { Rimopaku::postorder<int>(3, cycle, ones, ones); });
     return 0;
