@@ -95,3 +95,24 @@ parts-off p xs text w r i k end h at_text at_end at_k at_w at_r =
       rw (at_r, at_text, length-drop, length-drop)
           (omega (arith, here.0, some, len)),
     )
+
+-- the first part of a list whose first element does not pass begins with that element
+head-of : (p : ℕ → Bool) (x : ℕ) (xs : List ℕ) → p x ≡ false →
+    parts p (x ∷ xs) ≡ (x ∷ take (position_or_len p xs) xs) ∷ parts p (drop (position_or_len p (x ∷ xs)) (x ∷ xs))
+head-of p x xs e =
+    let some : 0 < position_or_len p (x ∷ xs) = rw e (omega arith) in
+    let same : take (position_or_len p (x ∷ xs)) (x ∷ xs) ≡ x ∷ take (position_or_len p xs) xs = rw (e, one-plus) refl in
+    parts-take p (x ∷ xs) some ∙ ap (λ w. w ∷ parts p (drop (position_or_len p (x ∷ xs)) (x ∷ xs))) same
+
+-- the first part with a byte begins with the first element that does not pass
+pub parts-head : (p : ℕ → Bool) (xs : List ℕ) (i : ℕ) → position (λ x. not (p x)) xs ≡ Some i →
+    (w : List ℕ) × (others : List (List ℕ)) × (parts p xs ≡ (get_or xs i 0 ∷ w) ∷ others)
+parts-head p xs i h =
+    let here = position-Some (λ x. not (p x)) xs i 0 h in
+    let begin : parts p (drop i xs) ≡ parts p xs = subst (λ n. parts p (drop n xs) ≡ parts p xs) (place-is _ xs i h) (parts-skip p xs) in
+    let x = get_or xs i 0 in
+    let text = drop (suc i) xs in (
+      take (position_or_len p text) text,
+      parts p (drop (position_or_len p (x ∷ text)) (x ∷ text)),
+      sym begin ∙ ap (parts p) (drop-cons xs i 0 here.0) ∙ head-of p x text (not-true _ here.1),
+    )

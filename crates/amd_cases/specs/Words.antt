@@ -13,6 +13,10 @@ has_bytes part = nat_lt 0 (length part)
 abbrev pub words : List ℕ → List (List ℕ)
 words line = filter has_bytes (slice_split is_ascii_whitespace line)
 
+-- there is a word, and this is the first byte of the first one
+abbrev pub BeginsWithByte : ℕ → List (List ℕ) → Type 0
+BeginsWithByte b ws = (w : List ℕ) × (others : List (List ℕ)) × (ws ≡ (b ∷ w) ∷ others)
+
 -- a word is a sign or none and then decimal digits, of which the number is z, and 64 bits hold it
 pub record SpellsNumber (word : List ℕ) (z : ℤ) : Type 0 where
   pub numeral : IsNumeral 10 (without_leading_sign word)

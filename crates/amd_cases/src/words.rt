@@ -5,7 +5,7 @@
 ghost use Rattle.std.specs.Prelude.{◌≡◌, ◌<◌, ◌∷◌, ℤ, [], length, not, IfSome, MatchOption};
 ghost use Rattle.std.specs.List.{position};
 ghost use Rattle.std.specs.Char.{is_ascii_whitespace};
-ghost use Rattle.amd_cases.specs.Words.{words, SpellsNumber};
+ghost use Rattle.amd_cases.specs.Words.{words, BeginsWithByte, SpellsNumber};
 
 /// Where the first byte stands that is no white space.
 fn word_start(line: &[u8]) -> Option<usize>
@@ -30,6 +30,14 @@ pub fn first_word(line: &[u8]) -> Option<(&[u8], &[u8])>
     let (_, text) = line.split_at(word_start(line)?);
     let end = word_end(text).unwrap_or(text.len());
     Some(text.split_at(end))
+}
+
+/// The first byte of the first word of a line; `None` where the line has no word.
+pub fn first_letter(line: &[u8]) -> Option<u8>
+    ensures { MatchOption result (words line.now ≡ []) (λ b. BeginsWithByte b (words line.now)) }
+{
+    let place = word_start(line)?;
+    Some(line[place])
 }
 
 /// The number that a word spells, where it spells one that fits.

@@ -14,7 +14,7 @@ ghost use Rattle.amd_market.specs.declared.faults.ReadError.TheVariants as error
 
 use crate::blocks::Block;
 use crate::faults::{Fault, ReadError};
-use amd_cases::words::first_word;
+use amd_cases::words::first_letter;
 use memchr::memchr;
 use std::alloc::Allocator;
 use std::io;
@@ -27,9 +27,9 @@ pub const LONGEST_LINE: usize = 1 << 16;
 fn is_note(line: &[u8]) -> bool
     ensures { result ≡ is_note (words line.now) }
 {
-    match first_word(line) {
+    match first_letter(line) {
         None => true,
-        Some((word, _)) => word.first() == Some(&b'%'),
+        Some(byte) => byte == b'%',
     }
 }
 
