@@ -4,4 +4,5 @@ pub mod Entries
 pub mod Blocks
 pub mod Lines
 pub mod Columns
+pub mod Faults
 pub mod Files

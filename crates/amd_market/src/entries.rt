@@ -1,9 +1,10 @@
 // The line of the size, and the lines of the entries. Called by `reader`, and by `held` of the crate `amd_command`.
 
-ghost use Rattle.std.specs.Prelude.{◌≡◌, ◌≢◌, ◌∷◌, [], ℕ, List, pos, IsTrue, ◌↔◌, MatchOption, MatchResult};
+ghost use Rattle.std.specs.Prelude.{◌≡◌, ◌≢◌, ◌∷◌, [], ℕ, List, pos, IsTrue, ◌↔◌, IfErr, MatchOption, MatchResult};
 ghost use Rattle.std.specs.Float.Parse.{is_float_text};
 ghost use Rattle.amd_cases.specs.Words.{words, SpellsNumber};
 ghost use Rattle.amd_market.specs.Entries.{SpellsSize, SpellsIndex, SpellsEntry, AreValues};
+ghost use Rattle.amd_market.specs.Faults.{HasSizeFault, HasRowFault, HasColumnFault, HasValueFault, HasEntryFault};
 
 use crate::faults::Fault;
 use crate::headers::Field;
@@ -91,8 +92,9 @@ fn spelled_size(line: &[u8]) -> Option<Size>
 
 /// The size that a line spells: `Size` where it spells none, and `NotSquare` where it is not square.
 pub fn size_of(line: &[u8]) -> Result<Size, Fault>
-    ensures { MatchResult result (λ s. (s.columns ≡ s.rows) × SpellsSize line.now s.rows s.rows s.entries)
+    ensures size { MatchResult result (λ s. (s.columns ≡ s.rows) × SpellsSize line.now s.rows s.rows s.entries)
         (λ _. (r k : ℕ) → SpellsSize line.now r r k → ⊥) }
+    ensures fault { IfErr result (λ f. HasSizeFault f line.now) }
 {
     let Some(size) = spelled_size(line) else {
         return Err(Fault::Size);
@@ -107,7 +109,9 @@ pub fn size_of(line: &[u8]) -> Result<Size, Fault>
 }
 
 /// What is wrong with the word of a row, of so many.
-pub fn row_fault(word: &[u8], rows: usize) -> Fault {
+pub fn row_fault(word: &[u8], rows: usize) -> Fault
+    ensures { HasRowFault result word.now rows }
+{
     match number_of(word) {
         Some(number) => Fault::Row { number, rows },
         None => Fault::Entry,
@@ -115,7 +119,9 @@ pub fn row_fault(word: &[u8], rows: usize) -> Fault {
 }
 
 /// What is wrong with the word of a column, of so many.
-fn column_fault(word: &[u8], columns: usize) -> Fault {
+fn column_fault(word: &[u8], columns: usize) -> Fault
+    ensures { HasColumnFault result word.now columns }
+{
     match number_of(word) {
         Some(number) => Fault::Column { number, columns },
         None => Fault::Entry,
@@ -123,7 +129,9 @@ fn column_fault(word: &[u8], columns: usize) -> Fault {
 }
 
 /// What is wrong with a text that is not so many numbers.
-fn value_fault(text: &[u8], count: usize) -> Fault {
+fn value_fault(text: &[u8], count: usize) -> Fault
+    ensures { HasValueFault result count (words text.now) }
+{
     let mut left = text;
     'words: for _done in 0..count {
         match first_word(left) {
@@ -138,11 +146,11 @@ fn value_fault(text: &[u8], count: usize) -> Fault {
     }
 }
 
-/// The row and the column, from 0 on, of the entry that a line spells. The contract does not say which fault comes
-/// where it spells none.
+/// The row and the column, from 0 on, of the entry that a line spells, or what is wrong with the line.
 pub fn entry_of(line: &[u8], field: Field, n: usize) -> Result<(usize, usize), Fault>
-    ensures { MatchResult result (λ p. SpellsEntry field n line.now (p.0, p.1))
+    ensures entry { MatchResult result (λ p. SpellsEntry field n line.now (p.0, p.1))
         (λ _. (e : ℕ × ℕ) → SpellsEntry field n line.now e → ⊥) }
+    ensures fault { IfErr result (λ f. HasEntryFault field n f line.now) }
 {
     let Some((first, rest)) = first_word(line) else {
         return Err(Fault::Entry);
