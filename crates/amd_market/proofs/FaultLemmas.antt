@@ -1,59 +1,101 @@
--- Which fault the line of an entry has.
-use Rattle.std.proofs.Common.{◌≡◌, ◌<◌, ◌+◌, ℕ, ℤ, Bool, true, false, List, [], ◌∷◌, length, drop, refl, sym, ap, ◌∙◌, subst, arith}
-use Rattle.std.specs.List.{list_all}
-use Rattle.std.specs.Float.Parse.{is_float_text}
-use Rattle.amd_cases.specs.Words.{words, SpellsNumber}
-use Rattle.amd_market.specs.Headers.{value_words}
-use Rattle.amd_market.specs.Entries.{SpellsIndex, AreValues}
-use Rattle.amd_market.specs.Faults.{HasRowFault, HasColumnFault, HasValueFault, HasEntryFault}
-use Rattle.amd_market.specs.declared.headers.Field.{Field}
+-- What the error of a reader says of the lines that it read.
+use Rattle.std.proofs.Common.{◌≡◌, ◌+◌, ℕ, List, [], ◌∷◌, ◌++◌, sym, ap, ◌∙◌, subst}
+use Rattle.std.proofs.Common.{Option, Some, None, append-nil, append_assoc}
+use Rattle.std.specs.Prelude.{IfSome}
+use Rattle.amd_cases.specs.Reading.{BeginsWith, line_number}
+use Rattle.amd_cases.proofs.ReadingLemmas.{known-append, number-append}
+use Rattle.amd_market.specs.Lines.{TakesLines, TakesTelling, TakesNotes, FailsAt, named_line, rest_of}
+use Rattle.amd_market.specs.Faults.{IsBehind, last, end, reading, IsUnread, Blames}
+use Rattle.amd_market.specs.Files.{FailsFor, NamesFault}
+use Rattle.amd_market.specs.declared.lines.LineReader.{LineReader}
+use Rattle.amd_market.specs.declared.faults.ReadError.{ReadError}
+use Rattle.amd_market.specs.declared.faults.ReadError.TheVariants as error
 use Rattle.amd_market.specs.declared.faults.Fault.{Fault}
 use Rattle.amd_market.specs.declared.faults.Fault.TheVariants as fault
 
--- a line with fewer than two words
-pub no-words : (field : Field) (n : ℕ) (line : List ℕ) → words line ≡ [] → HasEntryFault field n fault.Entry line
-no-words field n line h = λ first second behind a b same p q. let e : [] ≡ first ∷ (second ∷ behind) = sym h ∙ same in cc
+-- a fault behind more lines
+behind-more : (f : Fault) (is js : List (List ℕ)) (rest : Option (List ℕ)) → IsBehind f js rest → IsBehind f (is ++ js) rest
+behind-more f is js rest (last before line e h) =
+    last (is ++ before) line (ap (λ z. is ++ z) e ∙ sym (append_assoc is before (line ∷ []))) h
+behind-more f is js rest (end h r) = end h r
+behind-more f is js rest (reading h) = reading h
 
-pub one-word : (field : Field) (n : ℕ) (line first : List ℕ) (rest : List (List ℕ)) → words line ≡ first ∷ rest → rest ≡ [] →
-    HasEntryFault field n fault.Entry line
-one-word field n line first rest h none = λ one two behind a b same p q.
-    let e : first ∷ [] ≡ one ∷ (two ∷ behind) = ap (λ z. first ∷ z) (sym none) ∙ sym h ∙ same in cc
+blames-more : (e : ReadError) (is js : List (List ℕ)) (rest : Option (List ℕ)) → Blames e js rest → Blames e (is ++ js) rest
+blames-more (error.Line n f) is js rest h = behind-more f is js rest h
+blames-more (error.Input n x) is js rest h = tt
 
--- a first word that is no row
-pub no-row : (field : Field) (n : ℕ) (f : Fault) (line first : List ℕ) (behind : List (List ℕ)) → words line ≡ first ∷ behind →
-    HasRowFault f first n → ((i : ℕ) → SpellsIndex first n i → ⊥) → HasEntryFault field n f line
-no-row field n (fault.Row number rows) line first behind h k none = (k.0, (first, (behind, (h, (k.1, none)))))
-no-row field n fault.Entry line first behind h k none = λ one two others a b same p q.
-    let e : one ∷ (two ∷ others) ≡ first ∷ behind = sym same ∙ h in
-    let here : one ≡ first = cc in
-    k a (subst (λ w. SpellsNumber w a) here p)
-no-row field n f line first behind h k none = absurd k
+blames-unread : (e : ReadError) (ls : List (List ℕ)) (rest : Option (List ℕ)) → IsUnread e → Blames e ls rest
+blames-unread (error.Line n f) ls rest h = reading h
+blames-unread (error.Input n x) ls rest h = tt
 
--- a second word that is no column
-pub no-column : (field : Field) (n : ℕ) (f : Fault) (line first second : List ℕ) (rest behind : List (List ℕ)) →
-    words line ≡ first ∷ rest → rest ≡ second ∷ behind → HasColumnFault f second n → ((i : ℕ) → SpellsIndex second n i → ⊥) →
-    HasEntryFault field n f line
-no-column field n (fault.Column number columns) line first second rest behind h g k none =
-    (k.0, (first, (second, (behind, (h ∙ ap (λ z. first ∷ z) g, (k.1, none))))))
-no-column field n fault.Entry line first second rest behind h g k none = λ one two others a b same p q.
-    let e : one ∷ (two ∷ others) ≡ first ∷ (second ∷ behind) = sym same ∙ h ∙ ap (λ z. first ∷ z) g in
-    let here : two ≡ second = cc in
-    k b (subst (λ w. SpellsNumber w b) here q)
-no-column field n f line first second rest behind h g k none = absurd k
+-- an error that no text spells
+pub for-unread : {R Z : Type 0} (remaining : R → Option (List ℕ)) (a : LineReader R Z) (e : ReadError) → FailsAt remaining a e →
+    IsUnread e → FailsFor remaining a e
+for-unread remaining a e h u = record {
+  lines = h.lines;
+  rest = h.rest;
+  named = h.named;
+  took = h.took;
+  cause = blames-unread e h.lines h.rest u;
+}
 
--- words that are no value
-pub no-value : (field : Field) (n : ℕ) (f : Fault) (line first second : List ℕ) (rest behind : List (List ℕ)) →
-    words line ≡ first ∷ rest → rest ≡ second ∷ behind → HasValueFault f (value_words field) behind →
-    (AreValues (value_words field) behind → ⊥) → HasEntryFault field n f line
-no-value field n f line first second rest behind h g = at f (h ∙ ap (λ z. first ∷ z) g)
+-- a fault of the lines that were read
+pub for-here : {R Z : Type 0} (remaining : R → Option (List ℕ)) (a b : LineReader R Z) (is : List (List ℕ)) (e : ReadError) (f : Fault) →
+    TakesLines remaining a b is → e ≡ error.Line b.lines f → IsBehind f is (rest_of remaining b) → FailsFor remaining a e
+for-here remaining a b is e f h same k = record {
+  lines = is;
+  rest = rest_of remaining b;
+  named = ap named_line same ∙ h.counted;
+  took = h.took;
+  cause = subst (λ z. Blames z is (rest_of remaining b)) (sym same) k;
+}
+
+-- a fault of the line that says something
+pub for-telling : {R Z : Type 0} (remaining : R → Option (List ℕ)) (a b : LineReader R Z) (line : List ℕ) (e : ReadError) (f : Fault) →
+    TakesTelling remaining a b line → e ≡ error.Line b.lines f → IsBehind f (line ∷ []) (rest_of remaining b) → FailsFor remaining a e
+for-telling remaining a b line e f h same k = for-here remaining a b h.lines e f h.takes same
+    (subst (λ ls. IsBehind f ls (rest_of remaining b)) (sym h.parts) (behind-more f h.before (line ∷ []) (rest_of remaining b) k))
+
+at-end : (ls : List (List ℕ)) (first rest : Option (List ℕ)) → IfSome first (λ bytes. BeginsWith ls bytes rest) →
+    IfSome first (λ bytes. rest ≡ Some []) → IfSome first (λ bytes. BeginsWith ls bytes (Some []))
+at-end ls None rest h k = tt
+at-end ls (Some bytes) rest h k = subst (BeginsWith ls bytes) k h
+
+-- a fault of a text that ends
+pub for-notes : {R Z : Type 0} (remaining : R → Option (List ℕ)) (a b : LineReader R Z) (e : ReadError) (f : Fault) →
+    TakesNotes remaining a b → e ≡ error.Line b.lines f → IsBehind f [] (Some []) → FailsFor remaining a e
+for-notes remaining a b e f h same k = record {
+  lines = h.lines;
+  rest = Some [];
+  named = ap named_line same ∙ h.takes.counted;
+  took = at-end h.lines (rest_of remaining a) (rest_of remaining b) h.takes.took h.end;
+  cause = subst (λ z. Blames z h.lines (Some [])) (sym same)
+      (subst (λ ls. IsBehind f ls (Some [])) (append-nil h.lines) (behind-more f h.lines [] (Some []) k));
+}
+
+-- an error behind lines that were read
+pub for-behind : {R Z : Type 0} (remaining : R → Option (List ℕ)) (a b : LineReader R Z) (is : List (List ℕ)) (e : ReadError) →
+    TakesLines remaining a b is → FailsFor remaining b e → FailsFor remaining a e
+for-behind remaining a b is e h k = record {
+  lines = is ++ k.lines;
+  rest = k.rest;
+  named = k.named ∙ ap (λ n. line_number n k.lines) h.counted ∙ sym (number-append a.lines is k.lines);
+  took = known-append is k.lines _ _ k.rest h.took k.took;
+  cause = blames-more e is k.lines k.rest k.cause;
+}
+
+-- an error of a reader that began at the start of a text
+pub names-fault : {R Z : Type 0} (remaining : R → Option (List ℕ)) (a : LineReader R Z) (input : R) (e : ReadError) →
+    rest_of remaining a ≡ remaining input → a.lines ≡ 0 → FailsFor remaining a e →
+    IfSome (remaining input) (λ bytes. NamesFault bytes e)
+names-fault remaining a input e same none h = rw (← same) (known (rest_of remaining a) h.took)
   where
-    at : (f : Fault) → words line ≡ first ∷ (second ∷ behind) → HasValueFault f (value_words field) behind →
-        (AreValues (value_words field) behind → ⊥) → HasEntryFault field n f line
-    at fault.NoValue e k none = rw e (omega (arith, k))
-    at fault.Words e k none = rw e (omega (arith, k))
-    at fault.Value e k none = rw e (omega (arith, k), wrong (list_all is_float_text behind) refl)
-      where
-        wrong : (b : Bool) → list_all is_float_text behind ≡ b → list_all is_float_text behind ≡ false
-        wrong true t = absurd (none (record { counted = k; numbers = t }))
-        wrong false t = t
-    at f e k none = absurd k
+    known : (first : Option (List ℕ)) → IfSome first (λ bytes. BeginsWith h.lines bytes h.rest) → IfSome first (λ bytes. NamesFault bytes e)
+    known None k = tt
+    known (Some bytes) k = record {
+      lines = h.lines;
+      rest = h.rest;
+      named = h.named ∙ ap (λ n. line_number n h.lines) none;
+      begins = k;
+      cause = h.cause;
+    }

@@ -1,9 +1,9 @@
 -- Lines that were read one after another.
-use Rattle.std.proofs.Common.{◌≡◌, ◌≢◌, ◌+◌, ◌<◌, ◌≤◌, ℕ, Bool, true, false, Option, Some, None, List, [], ◌∷◌, ◌++◌, cond, not, refl, sym}
+use Rattle.std.proofs.Common.{◌≡◌, ◌≢◌, ◌+◌, ◌<◌, ℕ, Bool, true, false, Option, Some, None, List, [], ◌∷◌, ◌++◌, cond, refl, sym}
 use Rattle.std.proofs.Common.{ap, ◌∙◌, subst}
 use Rattle.std.proofs.Common.{append-nil, append_assoc, arith, length, length-append, get_or, take, drop, zero, suc}
 use Rattle.std.proofs.lemmas.Bool.{eq-eqb, eqb-true}
-use Rattle.std.specs.Prelude.{filter, All, IfSome}
+use Rattle.std.specs.Prelude.{All, IfSome}
 use Rattle.std.specs.Io.BufRead.{take_through, drop_through}
 use Rattle.std.specs.Io.KnownBytes.{Keeps, Consumes, IsAtEnd, prepend_known}
 use Rattle.std.proofs.lemmas.List.{take_all, drop_all}
@@ -75,6 +75,9 @@ notes-telling remaining a b c is h tell k says = record {
   lines = is ++ line_of c ∷ [];
   takes = takes-append remaining a b c is (line_of c ∷ []) h (takes-one remaining b c k);
   tells = telling-both is (line_of c ∷ []) [] (line_of c ∷ []) tell (telling-one (line_of c) says);
+  before = is;
+  parts = refl;
+  says = says;
 }
 
 -- the error names the line that was read last

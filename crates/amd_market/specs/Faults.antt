@@ -1,13 +1,17 @@
 -- Which fault a line has.
-use Rattle.std.specs.Prelude.{◌≡◌, ◌≢◌, ◌<◌, ◌+◌, ℕ, ℤ, false, List, ◌∷◌, length, drop}
+use Rattle.std.specs.Prelude.{◌≡◌, ◌≢◌, ◌<◌, ◌+◌, ℕ, ℤ, false, List, [], ◌∷◌, ◌++◌, Option, Some, length, drop}
 use Rattle.std.specs.List.{list_all}
 use Rattle.std.specs.Float.Parse.{is_float_text}
 use Rattle.amd_cases.specs.Words.{words, SpellsNumber}
-use Rattle.amd_market.specs.Headers.{value_words}
+use Rattle.amd_market.specs.Headers.{value_words, SpellsHeader}
 use Rattle.amd_market.specs.Entries.{SpellsSize, SpellsIndex}
+use Rattle.amd_market.specs.Lines.{is_note}
 use Rattle.amd_market.specs.declared.headers.Field.{Field}
+use Rattle.amd_market.specs.declared.headers.Header.{Header}
 use Rattle.amd_market.specs.declared.faults.Fault.{Fault}
 use Rattle.amd_market.specs.declared.faults.Fault.TheVariants as fault
+use Rattle.amd_market.specs.declared.faults.ReadError.{ReadError}
+use Rattle.amd_market.specs.declared.faults.ReadError.TheVariants.{Line, Input}
 
 -- the fault of a line where the size must stand: it is not three numbers, or those of a matrix that is not square
 abbrev pub HasSizeFault : Fault → List ℕ → Type 0
@@ -49,3 +53,60 @@ HasEntryFault field n fault.Words line = 2 + value_words field < length (words l
 HasEntryFault field n fault.Value line = (length (words line) ≡ 2 + value_words field) ×
     (list_all is_float_text (drop 2 (words line)) ≡ false)
 HasEntryFault field n f line = ⊥
+
+-- the faults of a first line
+abbrev pub IsHeaderFault : Fault → Type 0
+IsHeaderFault fault.Gzip = Unit {0}
+IsHeaderFault fault.Banner = Unit {0}
+IsHeaderFault fault.Object = Unit {0}
+IsHeaderFault fault.Dense = Unit {0}
+IsHeaderFault fault.Format = Unit {0}
+IsHeaderFault fault.Field = Unit {0}
+IsHeaderFault fault.Symmetry = Unit {0}
+IsHeaderFault f = ⊥
+
+-- the fault of a first line that is no header
+abbrev pub HasHeaderFault : Fault → List ℕ → Type 0
+HasHeaderFault f line = IsHeaderFault f × ((h : Header) → SpellsHeader line h → ⊥)
+
+-- the fault of a line that is read where none may stand but notes
+abbrev pub HasMoreFault : Fault → List ℕ → Type 0
+HasMoreFault (fault.More told) line = is_note (words line) ≡ false
+HasMoreFault f line = ⊥
+
+-- what is wrong with a line: it is no header, no size, no entry for some field and number of rows, or one too many
+pub data LineHas (f : Fault) (line : List ℕ) : Type 0 where
+  in_header : HasHeaderFault f line → LineHas f line
+  in_size : HasSizeFault f line → LineHas f line
+  in_entry : (field : Field) → (n : ℕ) → HasEntryFault field n f line → LineHas f line
+  in_more : HasMoreFault f line → LineHas f line
+
+-- the faults of an input that ends too early
+abbrev pub EndHas : Fault → Type 0
+EndHas fault.Empty = Unit {0}
+EndHas fault.Size = Unit {0}
+EndHas (fault.Missing found told) = Unit {0}
+EndHas f = ⊥
+
+-- the faults that no text spells: there is no room for a line, for what was read, or for the count of lines
+abbrev pub IsOfReading : Fault → Type 0
+IsOfReading fault.Long = Unit {0}
+IsOfReading fault.Lines = Unit {0}
+IsOfReading fault.OutOfMemory = Unit {0}
+IsOfReading f = ⊥
+
+-- a fault that was told behind these lines: the last of them has it, or the text ends behind them, or it is one of reading
+pub data IsBehind (f : Fault) (lines : List (List ℕ)) (rest : Option (List ℕ)) : Type 0 where
+  last : (before : List (List ℕ)) → (line : List ℕ) → lines ≡ before ++ line ∷ [] → LineHas f line → IsBehind f lines rest
+  end : EndHas f → rest ≡ Some [] → IsBehind f lines rest
+  reading : IsOfReading f → IsBehind f lines rest
+
+-- an error of reading
+abbrev pub IsUnread : ReadError → Type 0
+IsUnread (Line n f) = IsOfReading f
+IsUnread (Input n error) = Unit {0}
+
+-- the same of an error; of an input that could not be read it says nothing
+abbrev pub Blames : ReadError → List (List ℕ) → Option (List ℕ) → Type 0
+Blames (Line n f) lines rest = IsBehind f lines rest
+Blames (Input n error) lines rest = Unit {0}

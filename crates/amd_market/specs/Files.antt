@@ -1,9 +1,10 @@
 -- The text of a file, and the matrix that it spells.
-use Rattle.std.specs.Prelude.{◌≡◌, ℕ, Some, List, [], ◌∷◌, length, flat_map, Option}
+use Rattle.std.specs.Prelude.{◌≡◌, ℕ, Some, IfSome, List, [], ◌∷◌, length, flat_map, Option}
 use Rattle.amd_market.specs.Headers.{SpellsHeader, pairs_of}
 use Rattle.amd_market.specs.Entries.{SpellsSize, SpellsEntries}
 use Rattle.amd_cases.specs.Reading.{BeginsWith, line_number}
-use Rattle.amd_market.specs.Lines.{TakesLines, telling, named_line}
+use Rattle.amd_market.specs.Lines.{TakesLines, telling, named_line, rest_of}
+use Rattle.amd_market.specs.Faults.{Blames}
 use Rattle.amd_market.specs.Columns.{HoldsPairs}
 use Rattle.amd_market.specs.declared.headers.Header.{Header}
 use Rattle.amd_market.specs.declared.lines.LineReader.{LineReader}
@@ -43,3 +44,21 @@ pub record NamesLine (bytes : List ℕ) (e : ReadError) : Type 0 where
   pub rest : Option (List ℕ)
   pub named : named_line e ≡ line_number 0 lines
   pub begins : BeginsWith lines bytes rest
+
+-- some lines were read, the error names the last of them, and what it says is true of them
+pub record FailsFor {R Z : Type 0} (remaining : R → Option (List ℕ)) (old : LineReader R Z) (e : ReadError) : Type 0
+  where
+    pub lines : List (List ℕ)
+    pub rest : Option (List ℕ)
+    pub named : named_line e ≡ line_number old.lines lines
+    pub took : IfSome (rest_of remaining old) (λ bytes. BeginsWith lines bytes rest)
+    pub cause : Blames e lines rest
+
+-- the text begins with some lines, the error names the last of them by its number, from 1 on, and what it says is true
+-- of that line, or of a text that ends there; 0 where there are none
+pub record NamesFault (bytes : List ℕ) (e : ReadError) : Type 0 where
+  pub lines : List (List ℕ)
+  pub rest : Option (List ℕ)
+  pub named : named_line e ≡ line_number 0 lines
+  pub begins : BeginsWith lines bytes rest
+  pub cause : Blames e lines rest

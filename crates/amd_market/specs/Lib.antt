@@ -3,6 +3,6 @@ pub mod Headers
 pub mod Entries
 pub mod Blocks
 pub mod Lines
-pub mod Columns
 pub mod Faults
+pub mod Columns
 pub mod Files

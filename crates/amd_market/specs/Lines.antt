@@ -1,5 +1,5 @@
 -- The lines of a text, and what a reader takes off its input, where the bytes of that are known.
-use Rattle.std.specs.Prelude.{◌≡◌, ◌==◌, not, ℕ, Bool, true, false, Option, Some, IfSome, List, [], ◌∷◌, filter}
+use Rattle.std.specs.Prelude.{◌≡◌, ◌==◌, not, ℕ, Bool, true, false, Option, Some, IfSome, List, [], ◌∷◌, ◌++◌, filter}
 use Rattle.std.specs.Prelude.{slice_index, ◌<◌, ◌≤◌, length, take, drop}
 use Rattle.std.specs.Io.BufRead.{take_through, drop_through}
 use Rattle.std.specs.Prelude.{if◌then◌else◌}
@@ -67,6 +67,9 @@ pub record TakesTelling {R Z : Type 0} (remaining : R → Option (List ℕ)) (ol
   pub lines : List (List ℕ)
   pub takes : TakesLines remaining old new lines
   pub tells : telling lines ≡ line ∷ []
+  pub before : List (List ℕ)
+  pub parts : lines ≡ before ++ line ∷ []
+  pub says : is_note (words line) ≡ false
 
 -- all lines that were left were read, and none of them says anything
 pub record TakesNotes {R Z : Type 0} (remaining : R → Option (List ℕ)) (old new : LineReader R Z) : Type 0 where

@@ -1,10 +1,11 @@
 // The first line of a file, and what it says of the entries. Called by `reader`. Source: the Matrix Market exchange
 // formats.
 
-ghost use Rattle.std.specs.Prelude.{◌≡◌, ◌≢◌, ◌∷◌, [], List, ℕ, map, MatchOption, MatchResult};
+ghost use Rattle.std.specs.Prelude.{◌≡◌, ◌≢◌, ◌∷◌, [], List, ℕ, map, IfErr, MatchOption, MatchResult};
 ghost use Rattle.std.specs.Char.{to_ascii_lowercase};
 ghost use Rattle.amd_cases.specs.Words.{words};
 ghost use Rattle.amd_market.specs.Headers.{field_text, symmetry_text, value_words, is_mirrored, SpellsHeader};
+ghost use Rattle.amd_market.specs.Faults.{IsHeaderFault};
 ghost use Rattle.amd_market.specs.Headers.{lowered, without_mark};
 
 use crate::faults::Fault;
@@ -164,7 +165,8 @@ fn without_mark(line: &[u8]) -> &[u8]
 
 /// The field and the symmetry that a text spells.
 fn kind_of(text: &[u8]) -> Result<Header, Fault>
-    ensures { MatchResult result
+    ensures fault { IfErr result IsHeaderFault }
+    ensures kind { MatchResult result
         (λ h. lowered (words text.now) ≡ lowered (field_text h.field ∷ (symmetry_text h.symmetry ∷ [])))
         (λ _. (h : Header) → lowered (words text.now) ≢ lowered (field_text h.field ∷ (symmetry_text h.symmetry ∷ []))) }
 {
@@ -187,7 +189,9 @@ fn kind_of(text: &[u8]) -> Result<Header, Fault>
 }
 
 /// What is wrong with a first line that lacks the banner.
-fn banner_fault(line: &[u8]) -> Fault {
+fn banner_fault(line: &[u8]) -> Fault
+    ensures { IsHeaderFault result }
+{
     if line.len() >= 2 && line[0] == 0x1f && line[1] == 0x8b {
         Fault::Gzip
     } else {
@@ -196,7 +200,9 @@ fn banner_fault(line: &[u8]) -> Fault {
 }
 
 /// What is wrong with a header whose format, at the beginning of a text, is not that of sparse matrices.
-fn format_fault(text: &[u8]) -> Fault {
+fn format_fault(text: &[u8]) -> Fault
+    ensures { IsHeaderFault result }
+{
     if behind(text, b"array").is_some() {
         Fault::Dense
     } else {
@@ -204,9 +210,10 @@ fn format_fault(text: &[u8]) -> Fault {
     }
 }
 
-/// The header that the first line of a file spells. The contract does not say which fault comes where it spells none.
+/// The header that the first line of a file spells, or what is wrong with the line.
 pub fn header_of(line: &[u8]) -> Result<Header, Fault>
-    ensures { MatchResult result (SpellsHeader line.now) (λ _. (h : Header) → SpellsHeader line.now h → ⊥) }
+    ensures fault { IfErr result IsHeaderFault }
+    ensures header { MatchResult result (SpellsHeader line.now) (λ _. (h : Header) → SpellsHeader line.now h → ⊥) }
 {
     let Some(text) = behind(without_mark(line), b"%%MatrixMarket") else {
         return Err(banner_fault(line));

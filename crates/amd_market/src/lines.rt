@@ -10,6 +10,7 @@ ghost use Rattle.amd_cases.specs.Reading.{one_line_more};
 ghost use Rattle.amd_market.specs.Blocks.{held_of};
 ghost use Rattle.amd_market.specs.Lines.{TakesLine, TakesNext, FailsAt, is_note, lines_read, line_of, rest_of};
 ghost use Rattle.amd_market.specs.Lines.{EndsLine, named_line};
+ghost use Rattle.amd_market.specs.Faults.{IsUnread};
 ghost use Rattle.amd_market.specs.declared.faults.ReadError.TheVariants as error;
 
 use crate::blocks::Block;
@@ -73,7 +74,8 @@ impl<R: Read + Drop, A: Allocator> LineReader<R, A> {
 
     /// The error of a read that failed behind the line that was read last.
     fn at_input(&self, error: io::Error) -> ReadError
-        ensures { named_line result ≡ lines_read self.now }
+        ensures named { named_line result ≡ lines_read self.now }
+        ensures unread { IsUnread result }
     {
         if error.kind() == ErrorKind::OutOfMemory {
             self.at_line(Fault::OutOfMemory)
@@ -87,7 +89,8 @@ impl<R: Read + Drop, A: Allocator> LineReader<R, A> {
 
     /// Counts the next line, and the fault that it is too long.
     fn at_long_line(&self) -> ReadError
-        ensures { named_line result ≡ one_line_more (lines_read self.now) }
+        ensures named { named_line result ≡ one_line_more (lines_read self.now) }
+        ensures unread { IsUnread result }
     {
         ReadError::Line {
             line: self.lines.saturating_add(1),
@@ -100,6 +103,7 @@ impl<R: Read + Drop, A: Allocator> LineReader<R, A> {
         requires { EndsLine R.remaining self.old count }
         ensures takes { IfOk result (TakesLine R.remaining self.old self.new) }
         ensures fails { IfErr result (FailsAt R.remaining self.old) }
+        ensures unread { IfErr result IsUnread }
     {
         if count > LONGEST_LINE {
             return Err(self.at_long_line());
@@ -115,6 +119,7 @@ impl<R: Read + Drop, A: Allocator> LineReader<R, A> {
         requires none { All (λ b. b ≢ 10) (held_of self.old.block) }
         ensures takes { IfOk result (TakesLine R.remaining self.old self.new) }
         ensures fails { IfErr result (FailsAt R.remaining self.old) }
+        ensures unread { IfErr result IsUnread }
     {
         let count = self.block.held().len();
         if count == 0 {
@@ -127,6 +132,7 @@ impl<R: Read + Drop, A: Allocator> LineReader<R, A> {
     pub fn take_line(&mut self) -> Result<bool, ReadError>
         ensures takes { IfOk result (TakesLine R.remaining self.old self.new) }
         ensures fails { IfErr result (FailsAt R.remaining self.old) }
+        ensures unread { IfErr result IsUnread }
     {
         'chunks: for _ in 0..u64::MAX {
             if let Some(place) = memchr(b'\n', self.block.held()) {
@@ -149,6 +155,7 @@ impl<R: Read + Drop, A: Allocator> LineReader<R, A> {
     pub fn take_telling(&mut self) -> Result<bool, ReadError>
         ensures takes { IfOk result (TakesNext R.remaining self.old self.new) }
         ensures fails { IfErr result (FailsAt R.remaining self.old) }
+        ensures unread { IfErr result IsUnread }
     {
         'lines: for _ in 0..u64::MAX {
             if !self.take_line()? {

@@ -4,8 +4,8 @@
 ghost use Rattle.std.specs.Prelude.{◌≡◌, ◌++◌, ◌∷◌, [], ℕ, List, All, IfOk, IfErr, IfSome, OnOk};
 ghost use Rattle.amd_market.specs.Headers.{SpellsHeader, pairs_of};
 ghost use Rattle.amd_market.specs.Entries.{SpellsSize, SpellsEntry};
-ghost use Rattle.amd_market.specs.Lines.{TakesLines, TakesTelling, TakesNotes, FailsAt};
-ghost use Rattle.amd_market.specs.Files.{TakesEntries, SpellsMatrix, NamesLine};
+ghost use Rattle.amd_market.specs.Lines.{TakesLines, TakesTelling, TakesNotes};
+ghost use Rattle.amd_market.specs.Files.{TakesEntries, FailsFor, SpellsMatrix, NamesFault};
 
 use crate::columns::columns_of;
 use crate::entries::{Size, entry_of, size_of};
@@ -32,7 +32,7 @@ fn take_header<R: Read + Drop, A: Allocator>(
 ) -> Result<Header, ReadError>
     ensures takes { IfOk result (λ h. (line : List ℕ) × TakesLines R.remaining lines.old lines.new (line ∷ []) ×
         SpellsHeader line h) }
-    ensures fails { IfErr result (FailsAt R.remaining lines.old) }
+    ensures fails { IfErr result (FailsFor R.remaining lines.old) }
 {
     if !lines.take_line()? {
         return Err(lines.at_line(Fault::Empty));
@@ -47,7 +47,7 @@ fn take_header<R: Read + Drop, A: Allocator>(
 fn take_size<R: Read + Drop, A: Allocator>(lines: &mut LineReader<R, A>) -> Result<Size, ReadError>
     ensures takes { IfOk result (λ s. (line : List ℕ) × TakesTelling R.remaining lines.old lines.new line ×
         SpellsSize line s.rows s.rows s.entries) }
-    ensures fails { IfErr result (FailsAt R.remaining lines.old) }
+    ensures fails { IfErr result (FailsFor R.remaining lines.old) }
 {
     if !lines.take_telling()? {
         return Err(lines.at_line(Fault::Size));
@@ -67,7 +67,7 @@ fn take_entry<R: Read + Drop, A: Allocator>(
 ) -> Result<(usize, usize), ReadError>
     ensures takes { IfOk result (λ e. (line : List ℕ) × TakesTelling R.remaining lines.old lines.new line ×
         SpellsEntry header.field size.rows line e) }
-    ensures fails { IfErr result (FailsAt R.remaining lines.old) }
+    ensures fails { IfErr result (FailsFor R.remaining lines.old) }
 {
     if !lines.take_telling()? {
         return Err(lines.at_line(Fault::Missing {
@@ -106,7 +106,7 @@ fn take_pairs<R: Read + Drop, A: Allocator + Copy>(
 ) -> Result<Vec<(usize, usize), A>, ReadError>
     ensures takes { IfOk result (λ v. TakesEntries R.remaining lines.old lines.new header size.rows size.entries
         v.items) }
-    ensures fails { IfErr result (FailsAt R.remaining lines.old) }
+    ensures fails { IfErr result (FailsFor R.remaining lines.old) }
 {
     let mut pairs = Vec::new(alloc);
     'entries: for done in 0..size.entries {
@@ -124,7 +124,7 @@ fn take_end<R: Read + Drop, A: Allocator>(
     told: usize,
 ) -> Result<(), ReadError>
     ensures takes { OnOk result (TakesNotes R.remaining lines.old lines.new) }
-    ensures fails { IfErr result (FailsAt R.remaining lines.old) }
+    ensures fails { IfErr result (FailsFor R.remaining lines.old) }
 {
     if lines.take_telling()? {
         return Err(lines.at_line(Fault::More { told }));
@@ -147,7 +147,7 @@ pub fn read_matrix<R: Read + Drop, A: Allocator + Copy>(
 ) -> Result<Matrix<A>, ReadError>
     ensures spells { IfOk result (λ m. IfSome (R.remaining input)
         (λ bytes. SpellsMatrix bytes m.n m.a_p.items m.a_i.items)) }
-    ensures line { IfErr result (λ e. IfSome (R.remaining input) (λ bytes. NamesLine bytes e)) }
+    ensures line { IfErr result (λ e. IfSome (R.remaining input) (λ bytes. NamesFault bytes e)) }
 {
     let mut lines = LineReader::new(alloc, input);
     let header = take_header(&mut lines)?;

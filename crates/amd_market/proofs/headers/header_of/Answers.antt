@@ -4,11 +4,11 @@ use Rattle.amd_market.specs.Headers.{lowered, without_mark}
 use Rattle.amd_market.proofs.EntryLemmas.{second-rest}
 use Rattle.amd_market.proofs.headers.header_of.Goals as goal
 
-pub returns-in_default : goal.returns-in_default
-returns-in_default c = let none = rw c.without_mark.ensures at c.in_default.ensures in λ h e. none _ e
+pub returns-in_default-clause-header : goal.returns-in_default-clause-header
+returns-in_default-clause-header c = let none = rw c.without_mark.ensures at c.in_default.ensures in λ h e. none _ e
 
-pub returns-in_default-behind-2 : goal.returns-in_default-behind-2
-returns-in_default-behind-2 c =
+pub returns-in_default-behind-2-clause-header : goal.returns-in_default-behind-2-clause-header
+returns-in_default-behind-2-clause-header c =
     let first = rw c.without_mark.ensures at c.in-Some.ensures in
     λ h e. c.in_default-behind-2.ensures _
     (second-rest (lowered (words (without_mark c.args.line.now))) _ _ _ _ _ _ _ first c.in-Some-behind.ensures e)

@@ -1,25 +1,25 @@
 -- The parts of the file were read one after another; an error of a part names its line behind those of the parts before.
-use Rattle.std.proofs.Common.{◌≡◌, ◌∷◌, [], ap}
+use Rattle.std.proofs.Common.{◌∷◌, []}
 use Rattle.std.proofs.lemmas.Result.{err_from_is_err_and}
-use Rattle.amd_market.specs.Lines.{named_line}
-use Rattle.amd_market.proofs.LineLemmas.{fails-behind, fails-notes}
-use Rattle.amd_market.proofs.FileLemmas.{file-whole, names-line, pairs-inside}
+use Rattle.amd_market.specs.Faults.{reading}
+use Rattle.amd_market.proofs.FaultLemmas.{for-behind, for-notes, names-fault}
+use Rattle.amd_market.proofs.FileLemmas.{file-whole, pairs-inside}
 use Rattle.amd_market.proofs.reader.read_matrix.Goals as goal
 
 pub returns-in_err-size-clause-line : goal.returns-in_err-size-clause-line
 returns-in_err-size-clause-line g c =
     let first = c.in_ok-header.ensures.takes in
     let p = err_from_is_err_and c.from_residual-in_err-size.result c.from_residual-in_err-size.ensures.1 in
-    rw (p.1, p.2) (names-line _ c.new-lines.result _ _ c.new-lines.ensures.source c.new-lines.ensures.lines
-    (fails-behind _ _ _ (first.0 ∷ []) _ first.1 c.in_err-size.ensures.fails))
+    rw (p.1, p.2) (names-fault _ c.new-lines.result _ _ c.new-lines.ensures.source c.new-lines.ensures.lines
+    (for-behind _ _ _ (first.0 ∷ []) _ first.1 c.in_err-size.ensures.fails))
 
 pub returns-in_err-pairs-clause-line : goal.returns-in_err-pairs-clause-line
 returns-in_err-pairs-clause-line g c =
     let first = c.in_ok-header.ensures.takes in
     let second = c.in_ok-size.ensures.takes.1 in
     let p = err_from_is_err_and c.from_residual-in_err-pairs.result c.from_residual-in_err-pairs.ensures.1 in
-    rw (p.1, p.2) (names-line _ c.new-lines.result _ _ c.new-lines.ensures.source c.new-lines.ensures.lines
-    (fails-behind _ _ _ (first.0 ∷ []) _ first.1 (fails-behind _ _ _ second.lines _ second.takes c.in_err-pairs.ensures.fails)))
+    rw (p.1, p.2) (names-fault _ c.new-lines.result _ _ c.new-lines.ensures.source c.new-lines.ensures.lines
+    (for-behind _ _ _ (first.0 ∷ []) _ first.1 (for-behind _ _ _ second.lines _ second.takes c.in_err-pairs.ensures.fails)))
 
 pub returns-in_err-take_end-clause-line : goal.returns-in_err-take_end-clause-line
 returns-in_err-take_end-clause-line g c =
@@ -27,9 +27,9 @@ returns-in_err-take_end-clause-line g c =
     let second = c.in_ok-size.ensures.takes.1 in
     let third = c.in_ok-pairs.ensures.takes in
     let p = err_from_is_err_and c.from_residual-in_err-take_end.result c.from_residual-in_err-take_end.ensures.1 in
-    rw (p.1, p.2) (names-line _ c.new-lines.result _ _ c.new-lines.ensures.source c.new-lines.ensures.lines
-    (fails-behind _ _ _ (first.0 ∷ []) _ first.1 (fails-behind _ _ _ second.lines _ second.takes
-    (fails-behind _ _ _ third.lines _ third.takes c.in_err-take_end.ensures.fails))))
+    rw (p.1, p.2) (names-fault _ c.new-lines.result _ _ c.new-lines.ensures.source c.new-lines.ensures.lines
+    (for-behind _ _ _ (first.0 ∷ []) _ first.1 (for-behind _ _ _ second.lines _ second.takes
+    (for-behind _ _ _ third.lines _ third.takes c.in_err-take_end.ensures.fails))))
 
 pub columns_of-requires : goal.columns_of-requires
 columns_of-requires g c = pairs-inside _ _ _ _ _ _ _ c.in_ok-pairs.ensures.takes
@@ -46,6 +46,6 @@ returns-clause-line g c =
     let first = c.in_ok-header.ensures.takes in
     let second = c.in_ok-size.ensures.takes.1 in
     let third = c.in_ok-pairs.ensures.takes in
-    names-line _ c.new-lines.result _ _ c.new-lines.ensures.source c.new-lines.ensures.lines
-    (fails-behind _ _ _ (first.0 ∷ []) _ first.1 (fails-behind _ _ _ second.lines _ second.takes
-    (fails-behind _ _ _ third.lines _ third.takes (fails-notes _ _ _ _ c.in_ok-take_end.ensures.takes (ap named_line c.at_line.ensures)))))
+    names-fault _ c.new-lines.result _ _ c.new-lines.ensures.source c.new-lines.ensures.lines
+    (for-behind _ _ _ (first.0 ∷ []) _ first.1 (for-behind _ _ _ second.lines _ second.takes
+    (for-behind _ _ _ third.lines _ third.takes (for-notes _ _ _ _ _ c.in_ok-take_end.ensures.takes c.at_line.ensures (reading tt)))))

@@ -1,15 +1,23 @@
 -- The first line is the header, or it is at fault.
-use Rattle.std.proofs.Common.{◌∷◌, [], ap}
-use Rattle.amd_market.specs.Lines.{named_line, line_of}
-use Rattle.amd_market.proofs.LineLemmas.{takes-one, takes-end, fails-here}
+use Rattle.std.proofs.Common.{◌∷◌, [], refl}
+use Rattle.std.proofs.lemmas.Result.{err_from_is_err_and}
+use Rattle.amd_market.specs.Lines.{line_of}
+use Rattle.amd_market.specs.Faults.{last, end, in_header}
+use Rattle.amd_market.proofs.LineLemmas.{takes-one, takes-end}
+use Rattle.amd_market.proofs.FaultLemmas.{for-unread, for-here, for-notes}
 use Rattle.amd_market.proofs.reader.take_header.Goals as goal
+
+pub returns-in_err-take_line-clause-fails : goal.returns-in_err-take_line-clause-fails
+returns-in_err-take_line-clause-fails g c =
+    let p = err_from_is_err_and c.from_residual.result c.from_residual.ensures.1 in
+    rw (p.1, p.2) (for-unread _ _ _ c.in_err-take_line.ensures.fails c.in_err-take_line.ensures.unread)
 
 pub returns-then-not-branch-clause-fails : goal.returns-then-not-branch-clause-fails
 returns-then-not-branch-clause-fails g c =
-    let none = takes-end _ _ _ (rw c.if-not-branch.true at c.in_ok-take_line.ensures.takes) in
-    fails-here _ _ _ none.lines _ none.takes (ap named_line c.at_line.ensures)
+    for-notes _ _ _ _ _ (takes-end _ _ _ (rw c.if-not-branch.true at c.in_ok-take_line.ensures.takes)) c.at_line.ensures (end tt refl)
 
 pub returns-in-Err-clause-fails : goal.returns-in-Err-clause-fails
 returns-in-Err-clause-fails g c =
-    fails-here _ _ _ (line_of c.take_line.new.self ∷ []) _
-    (takes-one _ _ _ (rw c.if-not-branch.false at c.in_ok-take_line.ensures.takes)) (ap named_line c.at_line-in-Err.ensures)
+    let line = line_of c.take_line.new.self in
+    for-here _ _ _ (line ∷ []) _ _ (takes-one _ _ _ (rw c.if-not-branch.false at c.in_ok-take_line.ensures.takes)) c.at_line-in-Err.ensures
+    (last [] line refl (in_header (c.in-Err.ensures.fault, (rw c.line.ensures at c.in-Err.ensures.header))))

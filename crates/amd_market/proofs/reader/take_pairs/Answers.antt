@@ -1,8 +1,7 @@
 -- Each turn reads one entry more.
-use Rattle.std.proofs.Common.{ap}
 use Rattle.std.proofs.lemmas.Result.{err_from_is_err_and}
-use Rattle.amd_market.specs.Lines.{named_line}
-use Rattle.amd_market.proofs.LineLemmas.{fails-behind, fails-telling}
+use Rattle.amd_market.specs.Faults.{reading}
+use Rattle.amd_market.proofs.FaultLemmas.{for-behind, for-telling}
 use Rattle.amd_market.proofs.FileLemmas.{entries-none, entries-next}
 use Rattle.amd_market.proofs.reader.take_pairs.Goals as goal
 
@@ -13,13 +12,13 @@ pub returns-in_err-entry-clause-fails : goal.returns-in_err-entry-clause-fails
 returns-in_err-entry-clause-fails g c =
     let inv = c.entries.invariant in
     let p = err_from_is_err_and c.from_residual.result c.from_residual.ensures.1 in
-    rw (p.1, p.2) (fails-behind _ _ _ inv.lines _ inv.takes c.in_err-entry.ensures.fails)
+    rw (p.1, p.2) (for-behind _ _ _ inv.lines _ inv.takes c.in_err-entry.ensures.fails)
 
 pub returns-in_default-clause-fails : goal.returns-in_default-clause-fails
 returns-in_default-clause-fails g c =
     let inv = c.entries.invariant in
     let read = c.in_ok-entry.ensures.takes in
-    fails-behind _ _ _ inv.lines _ inv.takes (fails-telling _ _ _ read.0 _ read.1 (ap named_line c.at_line.ensures))
+    for-behind _ _ _ inv.lines _ inv.takes (for-telling _ _ _ read.0 _ _ read.1 c.at_line.ensures (reading tt))
 
 pub entries-preserved : goal.entries-preserved
 entries-preserved g c =

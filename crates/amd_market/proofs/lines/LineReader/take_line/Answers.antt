@@ -1,5 +1,5 @@
 -- No line is passed but the next one, and an error names it, or the one before.
-use Rattle.std.proofs.Common.{◌<◌, length, arith, ap, ◌∙◌}
+use Rattle.std.proofs.Common.{length, arith, ap, ◌∙◌}
 use Rattle.amd_market.specs.Blocks.{held_of}
 use Rattle.amd_market.specs.Lines.{named_line}
 use Rattle.amd_market.proofs.LineLemmas.{ends-here, fails-next, held-some, keeps-fails, fails-still, none-behind, no-feed}
@@ -15,7 +15,7 @@ returns-then-held-gt-LONGEST_LINE-clause-fails g c =
     let held = held_of c.chunks.self.block in
     let same = ap length c.held-in-chunks.ensures in
     keeps-fails g.R.Read.remaining c.args.self.now c.chunks.self c.at_long_line.result c.chunks.invariant
-    (fails-next g.R.Read.remaining c.chunks.self c.at_long_line.result c.at_long_line.ensures
+    (fails-next g.R.Read.remaining c.chunks.self c.at_long_line.result c.at_long_line.ensures.named
     (held-some held (g.R.Read.remaining c.chunks.self.input) (omega (arith, same))))
 
 pub pass_last-requires-clause-none : goal.pass_last-requires-clause-none
@@ -27,7 +27,7 @@ pass_last-requires-clause-none g c =
 
 pub returns-in-Err-2-clause-fails : goal.returns-in-Err-2-clause-fails
 returns-in-Err-2-clause-fails g c = fails-still g.R.Read.remaining c.args.self.now c.at_input.result
-    (c.at_input.ensures ∙ c.chunks.invariant.counted)
+    (c.at_input.ensures.named ∙ c.chunks.invariant.counted)
 
 pub returns-clause-fails : goal.returns-clause-fails
 returns-clause-fails g c = fails-still g.R.Read.remaining c.args.self.now c.at_line.result
