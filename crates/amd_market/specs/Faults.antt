@@ -38,8 +38,8 @@ HasValueFault fault.Words count ws = count < length ws
 HasValueFault fault.Value count ws = length ws ≡ count
 HasValueFault f count ws = ⊥
 
--- the fault of a line where an entry of a matrix with n rows and columns must stand: its first word is no row, its second
--- one no column, there are not two numbers, or the words behind them are no value of the field
+-- the fault of a line where an entry of a matrix with n rows and columns must stand: its first word is no row, its
+-- second one no column, there are not two numbers, or the words behind them are no value of the field
 abbrev pub HasEntryFault : Field → ℕ → Fault → List ℕ → Type 0
 HasEntryFault field n (fault.Row number rows) line = (rows ≡ n) × ((first : List ℕ) × ((behind : List (List ℕ)) ×
     ((words line ≡ first ∷ behind) × (SpellsNumber first number × ((i : ℕ) → SpellsIndex first n i → ⊥)))))
@@ -95,9 +95,11 @@ IsOfReading fault.Lines = Unit {0}
 IsOfReading fault.OutOfMemory = Unit {0}
 IsOfReading f = ⊥
 
--- a fault that was told behind these lines: the last of them has it, or the text ends behind them, or it is one of reading
+-- a fault that was told behind these lines: the last of them has it, or the text ends behind them, or it is one of
+-- reading
 pub data IsBehind (f : Fault) (lines : List (List ℕ)) (rest : Option (List ℕ)) : Type 0 where
-  last : (before : List (List ℕ)) → (line : List ℕ) → lines ≡ before ++ line ∷ [] → LineHas f line → IsBehind f lines rest
+  last : (before : List (List ℕ)) → (line : List ℕ) → lines ≡ before ++ line ∷ [] → LineHas f line →
+      IsBehind f lines rest
   end : EndHas f → rest ≡ Some [] → IsBehind f lines rest
   reading : IsOfReading f → IsBehind f lines rest
 

@@ -115,7 +115,8 @@ impl<A: Allocator> Block<A> {
 
     /// Reads more bytes, and returns how many: none at the end of the input.
     pub(crate) fn fill<R: Read>(&mut self, input: &mut R) -> io::Result<usize>
-        ensures ok { IfOk result (λ n. (more : List ℕ) × (length more ≡ n) × (held_of self.new ≡ held_of self.old ++ more) ×
+        ensures ok { IfOk result (λ n. (more : List ℕ) × (length more ≡ n) ×
+            (held_of self.new ≡ held_of self.old ++ more) ×
             Consumes (R.remaining input.old) (R.remaining input.new) more) }
         ensures end { IfOk result (λ n. n ≡ 0 → IsAtEnd (R.remaining input.new)) }
         ensures err { OnErr result ((held_of self.new ≡ held_of self.old) ×

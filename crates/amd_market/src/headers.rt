@@ -141,7 +141,8 @@ fn symmetry_of(word: &[u8]) -> Option<Symmetry>
 
 /// What stands behind the first word of a text, where it is this word, in letters of any case.
 fn behind<'a>(text: &'a [u8], word: &[u8]) -> Option<&'a [u8]>
-    ensures { MatchOption result ((ws : List (List ℕ)) → lowered (words text.now) ≢ map to_ascii_lowercase word.now ∷ ws)
+    ensures { MatchOption result
+        ((ws : List (List ℕ)) → lowered (words text.now) ≢ map to_ascii_lowercase word.now ∷ ws)
         (λ rest. lowered (words text.now) ≡ map to_ascii_lowercase word.now ∷ lowered (words rest.now)) }
 {
     let (first, rest) = first_word(text)?;
@@ -168,7 +169,8 @@ fn kind_of(text: &[u8]) -> Result<Header, Fault>
     ensures fault { IfErr result IsHeaderFault }
     ensures kind { MatchResult result
         (λ h. lowered (words text.now) ≡ lowered (field_text h.field ∷ (symmetry_text h.symmetry ∷ [])))
-        (λ _. (h : Header) → lowered (words text.now) ≢ lowered (field_text h.field ∷ (symmetry_text h.symmetry ∷ []))) }
+        (λ _. (h : Header) →
+        lowered (words text.now) ≢ lowered (field_text h.field ∷ (symmetry_text h.symmetry ∷ []))) }
 {
     let Some((first, rest)) = first_word(text) else {
         return Err(Fault::Field);

@@ -140,7 +140,7 @@ fn take_end<R: Read + Drop, A: Allocator>(
 /// # Errors
 ///
 /// `Line` for a line at fault, an input that ends too early, or refused memory; `Input` where the input cannot be read.
-/// Each names the line that was read last.
+/// Each names the line that was read last; a fault is one that this line has, or that of a text that ends behind it.
 pub fn read_matrix<R: Read + Drop, A: Allocator + Copy>(
     alloc: A,
     input: R,
