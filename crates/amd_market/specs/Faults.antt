@@ -1,9 +1,10 @@
 -- Which fault a line has.
-use Rattle.std.specs.Prelude.{◌≡◌, ◌≢◌, ◌<◌, ◌+◌, ℕ, ℤ, false, List, [], ◌∷◌, ◌++◌, Option, Some, length, drop}
+use Rattle.std.specs.Prelude.{◌≡◌, ◌≢◌, ◌<◌, ◌+◌, ℕ, ℤ, false, List, [], ◌∷◌, ◌++◌, Option, Some, length, drop, map, codes, slice_index}
 use Rattle.std.specs.List.{list_all}
+use Rattle.std.specs.Char.{to_ascii_lowercase}
 use Rattle.std.specs.Float.Parse.{is_float_text}
 use Rattle.amd_cases.specs.Words.{words, SpellsNumber}
-use Rattle.amd_market.specs.Headers.{value_words, SpellsHeader}
+use Rattle.amd_market.specs.Headers.{value_words, SpellsHeader, field_text}
 use Rattle.amd_market.specs.Entries.{SpellsSize, SpellsIndex}
 use Rattle.amd_market.specs.Lines.{is_note}
 use Rattle.amd_market.specs.declared.headers.Field.{Field}
@@ -64,6 +65,28 @@ IsHeaderFault fault.Format = Unit {0}
 IsHeaderFault fault.Field = Unit {0}
 IsHeaderFault fault.Symmetry = Unit {0}
 IsHeaderFault f = ⊥
+
+-- a word, but for the case of its letters
+abbrev pub low : List ℕ → List ℕ
+low w = map to_ascii_lowercase w
+
+-- which words behind the format are wrong: the first is no field, or it is one, and what stands behind it is wrong
+abbrev pub HasKindFault : Fault → List (List ℕ) → Type 0
+HasKindFault fault.Field ws = (f : Field) → (vs : List (List ℕ)) → ws ≢ low (field_text f) ∷ vs
+HasKindFault fault.Symmetry ws = (f : Field) × ((vs : List (List ℕ)) × (ws ≡ low (field_text f) ∷ vs))
+HasKindFault f ws = ⊥
+
+-- a first line that lacks the banner: it begins as gzip writes, or not
+abbrev pub HasBannerFault : Fault → List ℕ → Type 0
+HasBannerFault fault.Gzip line = (slice_index line 0 ≡ 31) × (slice_index line 1 ≡ 139)
+HasBannerFault fault.Banner line = Unit {0}
+HasBannerFault f line = ⊥
+
+-- a format that is not that of sparse matrices: it is that of dense ones, or not
+abbrev pub HasFormatFault : Fault → List (List ℕ) → Type 0
+HasFormatFault fault.Dense ws = (vs : List (List ℕ)) × (ws ≡ low (codes "array") ∷ vs)
+HasFormatFault fault.Format ws = (vs : List (List ℕ)) → ws ≢ low (codes "array") ∷ vs
+HasFormatFault f ws = ⊥
 
 -- the fault of a first line that is no header
 abbrev pub HasHeaderFault : Fault → List ℕ → Type 0
