@@ -4,7 +4,7 @@ use Rattle.std.specs.List.{list_all}
 use Rattle.std.specs.Char.{to_ascii_lowercase}
 use Rattle.std.specs.Float.Parse.{is_float_text}
 use Rattle.amd_cases.specs.Words.{words, SpellsNumber}
-use Rattle.amd_market.specs.Headers.{value_words, SpellsHeader, field_text}
+use Rattle.amd_market.specs.Headers.{value_words, SpellsHeader, lowered, without_mark, field_text}
 use Rattle.amd_market.specs.Entries.{SpellsSize, SpellsIndex}
 use Rattle.amd_market.specs.Lines.{is_note}
 use Rattle.amd_market.specs.declared.headers.Field.{Field}
@@ -87,6 +87,35 @@ abbrev pub HasFormatFault : Fault → List (List ℕ) → Type 0
 HasFormatFault fault.Dense ws = (vs : List (List ℕ)) × (ws ≡ low (codes "array") ∷ vs)
 HasFormatFault fault.Format ws = (vs : List (List ℕ)) → ws ≢ low (codes "array") ∷ vs
 HasFormatFault f ws = ⊥
+
+-- the words of a first line, but for the case of their letters, and the three that it must begin with
+abbrev pub header_words : List ℕ → List (List ℕ)
+header_words line = lowered (words (without_mark line))
+
+abbrev pub banner_word : List ℕ
+banner_word = low (codes "%%MatrixMarket")
+
+abbrev pub object_word : List ℕ
+object_word = low (codes "matrix")
+
+abbrev pub format_word : List ℕ
+format_word = low (codes "coordinate")
+
+-- which word of a first line is wrong, where those before it are right
+abbrev pub HasWordFault : Fault → List ℕ → Type 0
+HasWordFault fault.Gzip line = (slice_index line 0 ≡ 31) × (slice_index line 1 ≡ 139)
+HasWordFault fault.Banner line = (vs : List (List ℕ)) → header_words line ≢ banner_word ∷ vs
+HasWordFault fault.Object line = (ws : List (List ℕ)) × ((header_words line ≡ banner_word ∷ ws) ×
+    ((vs : List (List ℕ)) → ws ≢ object_word ∷ vs))
+HasWordFault fault.Dense line = (ws : List (List ℕ)) × ((header_words line ≡ banner_word ∷ (object_word ∷ ws)) ×
+    HasFormatFault fault.Dense ws)
+HasWordFault fault.Format line = (ws : List (List ℕ)) × ((header_words line ≡ banner_word ∷ (object_word ∷ ws)) ×
+    (((vs : List (List ℕ)) → ws ≢ format_word ∷ vs) × HasFormatFault fault.Format ws))
+HasWordFault fault.Field line = (ws : List (List ℕ)) × ((header_words line ≡ banner_word ∷ (object_word ∷ (format_word ∷ ws)))
+    × HasKindFault fault.Field ws)
+HasWordFault fault.Symmetry line = (ws : List (List ℕ)) ×
+    ((header_words line ≡ banner_word ∷ (object_word ∷ (format_word ∷ ws))) × HasKindFault fault.Symmetry ws)
+HasWordFault f line = ⊥
 
 -- the fault of a first line that is no header
 abbrev pub HasHeaderFault : Fault → List ℕ → Type 0

@@ -5,7 +5,7 @@ ghost use Rattle.std.specs.Prelude.{◌≡◌, ◌≢◌, ◌∷◌, [], List, �
 ghost use Rattle.std.specs.Char.{to_ascii_lowercase};
 ghost use Rattle.amd_cases.specs.Words.{words};
 ghost use Rattle.amd_market.specs.Headers.{field_text, symmetry_text, value_words, is_mirrored, SpellsHeader};
-ghost use Rattle.amd_market.specs.Faults.{IsHeaderFault, HasBannerFault, HasFormatFault, HasKindFault};
+ghost use Rattle.amd_market.specs.Faults.{IsHeaderFault, HasBannerFault, HasFormatFault, HasKindFault, HasWordFault};
 ghost use Rattle.amd_market.specs.Headers.{lowered, without_mark};
 
 use crate::faults::Fault;
@@ -218,6 +218,7 @@ fn format_fault(text: &[u8]) -> Fault
 /// The header that the first line of a file spells, or what is wrong with the line.
 pub fn header_of(line: &[u8]) -> Result<Header, Fault>
     ensures fault { IfErr result IsHeaderFault }
+    ensures cause { IfErr result (λ f. HasWordFault f line.now) }
     ensures header { MatchResult result (SpellsHeader line.now) (λ _. (h : Header) → SpellsHeader line.now h → ⊥) }
 {
     let Some(text) = behind(without_mark(line), b"%%MatrixMarket") else {

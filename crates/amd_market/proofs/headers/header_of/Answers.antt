@@ -2,6 +2,7 @@
 use Rattle.amd_cases.specs.Words.{words}
 use Rattle.amd_market.specs.Headers.{lowered, without_mark}
 use Rattle.amd_market.proofs.EntryLemmas.{second-rest}
+use Rattle.amd_market.proofs.FaultLemmas.{no-banner, no-format, kind-fails}
 use Rattle.amd_market.proofs.headers.header_of.Goals as goal
 
 pub returns-in_default-clause-header : goal.returns-in_default-clause-header
@@ -12,3 +13,23 @@ returns-in_default-behind-2-clause-header c =
     let first = rw c.without_mark.ensures at c.in-Some.ensures in
     λ h e. c.in_default-behind-2.ensures _
     (second-rest (lowered (words (without_mark c.args.line.now))) _ _ _ _ _ _ _ first c.in-Some-behind.ensures e)
+
+pub returns-in_default-clause-cause : goal.returns-in_default-clause-cause
+returns-in_default-clause-cause c = no-banner c.banner_fault.result c.args.line.now c.banner_fault.ensures.cause
+    (rw c.without_mark.ensures at c.in_default.ensures)
+
+pub returns-in_default-behind-clause-cause : goal.returns-in_default-behind-clause-cause
+returns-in_default-behind-clause-cause c =
+    let first = rw c.without_mark.ensures at c.in-Some.ensures in
+    (_, (first, c.in_default-behind.ensures))
+
+pub returns-in_default-behind-2-clause-cause : goal.returns-in_default-behind-2-clause-cause
+returns-in_default-behind-2-clause-cause c =
+    let first = rw c.without_mark.ensures at c.in-Some.ensures in
+    no-format c.format_fault.result c.args.line.now _ _ first c.in-Some-behind.ensures c.format_fault.ensures.cause
+    c.in_default-behind-2.ensures
+
+pub returns-clause-cause : goal.returns-clause-cause
+returns-clause-cause c =
+    let first = rw c.without_mark.ensures at c.in-Some.ensures in
+    kind-fails c.kind_of.result c.args.line.now _ _ _ first c.in-Some-behind.ensures c.in-Some-behind-2.ensures c.kind_of.ensures.cause
