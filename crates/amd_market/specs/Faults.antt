@@ -55,17 +55,6 @@ HasEntryFault field n fault.Value line = (length (words line) ≡ 2 + value_word
     (list_all is_float_text (drop 2 (words line)) ≡ false)
 HasEntryFault field n f line = ⊥
 
--- the faults of a first line
-abbrev pub IsHeaderFault : Fault → Type 0
-IsHeaderFault fault.Gzip = Unit {0}
-IsHeaderFault fault.Banner = Unit {0}
-IsHeaderFault fault.Object = Unit {0}
-IsHeaderFault fault.Dense = Unit {0}
-IsHeaderFault fault.Format = Unit {0}
-IsHeaderFault fault.Field = Unit {0}
-IsHeaderFault fault.Symmetry = Unit {0}
-IsHeaderFault f = ⊥
-
 -- a word, but for the case of its letters
 abbrev pub low : List ℕ → List ℕ
 low w = map to_ascii_lowercase w
@@ -119,7 +108,7 @@ HasWordFault f line = ⊥
 
 -- the fault of a first line that is no header
 abbrev pub HasHeaderFault : Fault → List ℕ → Type 0
-HasHeaderFault f line = IsHeaderFault f × ((h : Header) → SpellsHeader line h → ⊥)
+HasHeaderFault f line = HasWordFault f line × ((h : Header) → SpellsHeader line h → ⊥)
 
 -- the fault of a line that is read where none may stand but notes
 abbrev pub HasMoreFault : Fault → List ℕ → Type 0

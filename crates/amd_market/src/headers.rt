@@ -5,7 +5,7 @@ ghost use Rattle.std.specs.Prelude.{◌≡◌, ◌≢◌, ◌∷◌, [], List, �
 ghost use Rattle.std.specs.Char.{to_ascii_lowercase};
 ghost use Rattle.amd_cases.specs.Words.{words};
 ghost use Rattle.amd_market.specs.Headers.{field_text, symmetry_text, value_words, is_mirrored, SpellsHeader};
-ghost use Rattle.amd_market.specs.Faults.{IsHeaderFault, HasBannerFault, HasFormatFault, HasKindFault, HasWordFault};
+ghost use Rattle.amd_market.specs.Faults.{HasBannerFault, HasFormatFault, HasKindFault, HasWordFault};
 ghost use Rattle.amd_market.specs.Headers.{lowered, without_mark};
 
 use crate::faults::Fault;
@@ -166,8 +166,7 @@ fn without_mark(line: &[u8]) -> &[u8]
 
 /// The field and the symmetry that a text spells.
 fn kind_of(text: &[u8]) -> Result<Header, Fault>
-    ensures fault { IfErr result IsHeaderFault }
-    ensures cause { IfErr result (λ f. HasKindFault f (lowered (words text.now))) }
+    ensures fault { IfErr result (λ f. HasKindFault f (lowered (words text.now))) }
     ensures kind { MatchResult result
         (λ h. lowered (words text.now) ≡ lowered (field_text h.field ∷ (symmetry_text h.symmetry ∷ [])))
         (λ _. (h : Header) →
@@ -193,8 +192,7 @@ fn kind_of(text: &[u8]) -> Result<Header, Fault>
 
 /// What is wrong with a first line that lacks the banner.
 fn banner_fault(line: &[u8]) -> Fault
-    ensures fault { IsHeaderFault result }
-    ensures cause { HasBannerFault result line.now }
+    ensures { HasBannerFault result line.now }
 {
     if line.len() >= 2 && line[0] == 0x1f && line[1] == 0x8b {
         Fault::Gzip
@@ -205,8 +203,7 @@ fn banner_fault(line: &[u8]) -> Fault
 
 /// What is wrong with a header whose format, at the beginning of a text, is not that of sparse matrices.
 fn format_fault(text: &[u8]) -> Fault
-    ensures fault { IsHeaderFault result }
-    ensures cause { HasFormatFault result (lowered (words text.now)) }
+    ensures { HasFormatFault result (lowered (words text.now)) }
 {
     if behind(text, b"array").is_some() {
         Fault::Dense
@@ -217,8 +214,7 @@ fn format_fault(text: &[u8]) -> Fault
 
 /// The header that the first line of a file spells, or what is wrong with the line.
 pub fn header_of(line: &[u8]) -> Result<Header, Fault>
-    ensures fault { IfErr result IsHeaderFault }
-    ensures cause { IfErr result (λ f. HasWordFault f line.now) }
+    ensures fault { IfErr result (λ f. HasWordFault f line.now) }
     ensures header { MatchResult result (SpellsHeader line.now) (λ _. (h : Header) → SpellsHeader line.now h → ⊥) }
 {
     let Some(text) = behind(without_mark(line), b"%%MatrixMarket") else {

@@ -14,22 +14,22 @@ returns-in_default-behind-2-clause-header c =
     λ h e. c.in_default-behind-2.ensures _
     (second-rest (lowered (words (without_mark c.args.line.now))) _ _ _ _ _ _ _ first c.in-Some-behind.ensures e)
 
-pub returns-in_default-clause-cause : goal.returns-in_default-clause-cause
-returns-in_default-clause-cause c = no-banner c.banner_fault.result c.args.line.now c.banner_fault.ensures.cause
+pub returns-in_default-clause-fault : goal.returns-in_default-clause-fault
+returns-in_default-clause-fault c = no-banner c.banner_fault.result c.args.line.now c.banner_fault.ensures
     (rw c.without_mark.ensures at c.in_default.ensures)
 
-pub returns-in_default-behind-clause-cause : goal.returns-in_default-behind-clause-cause
-returns-in_default-behind-clause-cause c =
+pub returns-in_default-behind-clause-fault : goal.returns-in_default-behind-clause-fault
+returns-in_default-behind-clause-fault c =
     let first = rw c.without_mark.ensures at c.in-Some.ensures in
     (_, (first, c.in_default-behind.ensures))
 
-pub returns-in_default-behind-2-clause-cause : goal.returns-in_default-behind-2-clause-cause
-returns-in_default-behind-2-clause-cause c =
+pub returns-in_default-behind-2-clause-fault : goal.returns-in_default-behind-2-clause-fault
+returns-in_default-behind-2-clause-fault c =
     let first = rw c.without_mark.ensures at c.in-Some.ensures in
-    no-format c.format_fault.result c.args.line.now _ _ first c.in-Some-behind.ensures c.format_fault.ensures.cause
+    no-format c.format_fault.result c.args.line.now _ _ first c.in-Some-behind.ensures c.format_fault.ensures
     c.in_default-behind-2.ensures
 
-pub returns-clause-cause : goal.returns-clause-cause
-returns-clause-cause c =
+pub returns-clause-fault : goal.returns-clause-fault
+returns-clause-fault c =
     let first = rw c.without_mark.ensures at c.in-Some.ensures in
-    kind-fails c.kind_of.result c.args.line.now _ _ _ first c.in-Some-behind.ensures c.in-Some-behind-2.ensures c.kind_of.ensures.cause
+    kind-fails c.kind_of.result c.args.line.now _ _ _ first c.in-Some-behind.ensures c.in-Some-behind-2.ensures c.kind_of.ensures.fault

@@ -4,8 +4,8 @@ use Rattle.amd_cases.specs.Words.{words}
 use Rattle.amd_market.specs.Headers.{lowered}
 use Rattle.amd_market.proofs.headers.kind_of.Goals as goal
 
-pub returns-in_default-symmetry_of-clause-cause : goal.returns-in_default-symmetry_of-clause-cause
-returns-in_default-symmetry_of-clause-cause c = (
+pub returns-in_default-symmetry_of-clause-fault : goal.returns-in_default-symmetry_of-clause-fault
+returns-in_default-symmetry_of-clause-fault c = (
   c.in-Some-field_of.field,
   (
     lowered (words c.in-Some.rest.now),
@@ -13,8 +13,8 @@ returns-in_default-symmetry_of-clause-cause c = (
   ),
 )
 
-pub returns-then-is_some-clause-cause : goal.returns-then-is_some-clause-cause
-returns-then-is_some-clause-cause c = (
+pub returns-then-is_some-clause-fault : goal.returns-then-is_some-clause-fault
+returns-then-is_some-clause-fault c = (
   c.in-Some-field_of.field,
   (
     lowered (words c.in-Some.rest.now),

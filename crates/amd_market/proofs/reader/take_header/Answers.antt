@@ -20,4 +20,4 @@ pub returns-in-Err-clause-fails : goal.returns-in-Err-clause-fails
 returns-in-Err-clause-fails g c =
     let line = line_of c.take_line.new.self in
     for-here _ _ _ (line ∷ []) _ _ (takes-one _ _ _ (rw c.if-not-branch.false at c.in_ok-take_line.ensures.takes)) c.at_line-in-Err.ensures
-    (last [] line refl (in_header (c.in-Err.ensures.fault, (rw c.line.ensures at c.in-Err.ensures.header))))
+    (last [] line refl (in_header ((rw c.line.ensures at c.in-Err.ensures.fault), (rw c.line.ensures at c.in-Err.ensures.header))))
