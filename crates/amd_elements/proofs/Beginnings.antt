@@ -80,6 +80,36 @@ module _ {n : ℕ} {iw nv pe e_len : List ℤ} {len : List ℕ} {free : ℕ} {iw
       laid = m.laid;
     }
 
+-- what begins once the lists have moved begins over the lists as they were
+pub begins_moved : {n me : ℕ} {absorbed front : List ℕ} {total : ℕ} {iw nv pe e_len : List ℤ} {len : List ℕ} {free : ℕ} {iw1 pe1 : List ℤ}
+    {free1 : ℕ} {iw2 nv2 pe2 e_len2 : List ℤ} {len2 : List ℕ} {free2 : ℕ} → Rooms n iw pe e_len len free iw1 pe1 free1 →
+    Begins n me absorbed front total iw1 nv pe1 e_len len iw2 nv2 pe2 e_len2 len2 free2 →
+    Begins n me absorbed front total iw nv pe e_len len iw2 nv2 pe2 e_len2 len2 free2
+begins_moved {n} {pe = pe} {len = len} {pe1 = pe1} r m = record {
+  long = m.long ∙ r.long;
+  wide = m.wide;
+  p_long = m.p_long ∙ r.p_long;
+  e_long = m.e_long;
+  l_long = m.l_long;
+  starts = m.starts;
+  list = m.list;
+  names = m.names;
+  inside = m.inside;
+  rows_is = m.rows_is;
+  sizes = m.sizes;
+  marks = m.marks;
+  parents = m.parents;
+  ended = m.ended;
+  counts = m.counts;
+  lengths = m.lengths;
+  listed = λ j no ne. m.listed j no ne ∙ r.listed j;
+  others = λ j no ne h. m.others j no ne (r.listed j ∙ h) ∙ r.others j h;
+  same = λ j no ne h. let a = r.reads j h in let d = m.same j no ne (r.listed j ∙ h) in
+      (d.0, d.1, λ k l. d.2 k l ∙ a.2 k l);
+  fewer = let a = m.fewer in let d = live_part n pe pe1 len len (λ j h. (sym (r.listed j) ∙ h, (omega arith))) in omega (arith, a, d);
+  laid = m.laid;
+}
+
 -- a list in its old place ends where it ended, or before
 pub own_inside : {n : ℕ} {iw pe e_len : List ℤ} {len : List ℕ} {free : ℕ} {iw' e_len' : List ℤ} {len' : List ℕ} (me : ℕ) →
     Layout n iw pe e_len len free → Layout n iw' pe e_len' len' free → has_list pe len me ≡ true → end_of pe len' me ≤ free

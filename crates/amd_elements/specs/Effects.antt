@@ -1,13 +1,11 @@
 -- What the parts of making an element leave behind, each between what it found and what it left.
-use Rattle.std.specs.Prelude.{ℕ, ℤ, Bool, true, false, [], List, ◌≡◌, ◌≤◌, ◌+◌, ◌-◌, ◌||◌, ◌&&◌, ◌==◌, not, cond}
-use Rattle.std.specs.Prelude.{nat_lt}
+use Rattle.std.specs.Prelude.{ℕ, ℤ, [], List, ◌≡◌, ◌≤◌, ◌-◌, ◌||◌, ◌&&◌, ◌==◌, not, cond}
 use Rattle.std.specs.Prelude.{length, sum_by}
 use Rattle.amd_model.specs.Quotient.{has}
 use Rattle.amd_words.specs.Words.{num, word, start, size_of, in_front, flip_of, rows}
-use Rattle.amd_lists.specs.Layout.{elements_in, live_words}
+use Rattle.amd_lists.specs.Layout.{elements_in}
 use Rattle.amd_elements.specs.Element.{front_of, Builds}
 use Rattle.amd_elements.specs.Making.{Makes}
-use Rattle.amd_elements.specs.Room.{Rooms}
 use Rattle.amd_elements.specs.Beginning.{Begins}
 use Rattle.amd_elements.specs.Pivots.{built_front, IsBehind}
 use Rattle.amd_elements.specs.declared.beginning.Begun.{Begun}
@@ -25,11 +23,10 @@ pub record BeginsOwn (me : ℕ) (iw nv pe e_len : List ℤ) (len : List ℕ) (fr
       len' begun.free
   pub total : begun.total ≡ sum_by (size_of nv) (front_of iw nv pe len me 0)
   pub block : begun.block ≡ size_of nv me
-  pub stays : (begun.free ≡ free) × (begun.packed ≡ false)
+  pub stays : begun.free ≡ free
   pub same : pe' ≡ pe
 
--- the pivot me is an element behind all lists, which were packed if there was no room, and the elements that it listed
--- have ended
+-- the pivot me is an element behind all lists, and the elements that it listed have ended
 pub record BeginsBuilt (me : ℕ) (iw nv pe e_len : List ℤ) (len w : List ℕ) (free : ℕ) (iw' nv' pe' e_len' : List ℤ)
     (len' w' : List ℕ) (begun : Begun) : Type 0 where
   pub begins : Begins (length nv) me (elements_in iw pe e_len me) (built_front iw nv pe e_len len me) begun.total iw nv
@@ -40,7 +37,6 @@ pub record BeginsBuilt (me : ℕ) (iw nv pe e_len : List ℤ) (len w : List ℕ)
   pub end : begun.free ≤ length iw'
   pub total : begun.total ≡ sum_by (size_of nv) (built_front iw nv pe e_len len me)
   pub block : begun.block ≡ size_of nv me
-  pub packed : begun.packed ≡ nat_lt (length iw) (free + length (built_front iw nv pe e_len len me))
 
 -- the list of the new element me stands from `free` to `end`, with so many rows, and the elements that it absorbs have
 -- ended
@@ -52,16 +48,6 @@ pub record MakesElement (me : ℕ) (iw nv pe e_len : List ℤ) (len w : List ℕ
   pub counters : (e : ℕ) → num w' e ≡ cond (has (elements_in iw pe e_len me) e) 0 (num w e)
   pub start_is : start pe' me ≡ free
   pub long : length w' ≡ length w
-
--- there is room for the new element of the pivot me from free' on; the lists were packed if there was none before
-pub record MakesRoom (me : ℕ) (iw nv pe e_len : List ℤ) (len : List ℕ) (free : ℕ) (iw' nv' pe' : List ℤ) (len' : List ℕ)
-    (free' : ℕ) (is_packed : Bool) : Type 0 where
-  pub rooms : Rooms (length nv) iw pe e_len len free iw' pe' free'
-  pub fits : free' + length (built_front iw nv pe e_len len me) ≤ length iw
-  pub moved : is_packed ≡ nat_lt (length iw) (free + length (built_front iw nv pe e_len len me))
-  pub packed : is_packed ≡ true → free' ≡ live_words (length nv) pe len
-  pub stays : is_packed ≡ false → free' ≡ free
-  pub same : (nv' ≡ nv) × (len' ≡ len)
 
 -- the elements that count words name have ended in the row me
 pub record Absorbs (me : ℕ) (iw : List ℤ) (from count : ℕ) (pe : List ℤ) (w : List ℕ) (pe' : List ℤ) (w' : List ℕ)

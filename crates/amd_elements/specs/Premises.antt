@@ -4,7 +4,7 @@ use Rattle.std.specs.Prelude.{ℕ, ℤ, pos, true, false, List, ◌≡◌, ◌<�
 use Rattle.amd_model.specs.Quotient.{has}
 use Rattle.amd_words.specs.Words.{num, word, is_place, start, size_of, in_front, classes, rows, Names}
 use Rattle.amd_lists.specs.Lengths.{AreWide}
-use Rattle.amd_lists.specs.Layout.{has_list, elements_in, Layout, live_words}
+use Rattle.amd_lists.specs.Layout.{has_list, elements_in, Layout}
 use Rattle.amd_elements.specs.Element.{grown, front_of, ListsLaid}
 use Rattle.amd_elements.specs.Compaction.{Spaced}
 use Rattle.amd_elements.specs.Pivots.{built_front, HasElements}
@@ -24,11 +24,10 @@ pub record CanBeginOwn (most_word me : ℕ) (iw nv pe e_len : List ℤ) (len : L
   pub count : word e_len me ≡ pos 0
   pub few : sum_by (size_of nv) (front_of iw nv pe len me 0) + 2 ≤ most_word
 
--- a pivot that may list elements, in a workspace that has room for all live words and n others
-pub record CanMakeRoom (most_word me : ℕ) (iw nv pe e_len : List ℤ) (len : List ℕ) (free : ℕ) : Type 0 where
+-- a pivot that may list elements, whose new element may have room behind all lists
+pub record CanFit (most_word me : ℕ) (iw nv pe e_len : List ℤ) (len : List ℕ) (free : ℕ) : Type 0 where
   pub pivot : IsPivot me iw nv pe e_len len free
   pub wide : AreWide most_word (length nv) iw
-  pub room : live_words (length nv) pe len + length nv ≤ length iw
   pub count : is_place (word e_len me) ≡ true
   pub elements : (e : ℕ) → has (elements_in iw pe e_len me) e ≡ true → has_list pe len e ≡ true
 
@@ -42,18 +41,6 @@ pub record CanMakeElement (most_word most_cell me : ℕ) (iw nv pe e_len : List 
     pub count : is_place (word e_len me) ≡ true
     pub elements : HasElements iw pe e_len len me
     pub fits : free + length (built_front iw nv pe e_len len me) ≤ length iw
-    pub few : sum_by (size_of nv) (built_front iw nv pe e_len len me) + 2 ≤ most_word
-
--- so it is, or will be once the lists are packed
-pub record CanBeginBuilt (most_word most_cell me : ℕ) (iw nv pe e_len : List ℤ) (len w : List ℕ) (free : ℕ) : Type 0
-  where
-    pub pivot : IsPivot me iw nv pe e_len len free
-    pub counters : length w ≡ length nv
-    pub wide : AreWide most_word (length nv) iw
-    pub cells : length iw ≤ most_cell
-    pub room : live_words (length nv) pe len + length nv ≤ length iw
-    pub count : is_place (word e_len me) ≡ true
-    pub elements : HasElements iw pe e_len len me
     pub few : sum_by (size_of nv) (built_front iw nv pe e_len len me) + 2 ≤ most_word
 
 -- the lists around the class me, which lists n_elements elements, stand before `free`

@@ -1,16 +1,15 @@
 // The beginning of an element: the pivot becomes an element whose list names its front, and leaves the front itself. A
-// pivot that lists no element becomes one in the place of its own list; for another one room is made behind all lists,
+// pivot that lists no element becomes one in the place of its own list; that of another one is built behind all lists,
 // and the elements that it lists end. Source: Amestoy, Davis and Duff 1996 (element formation and absorption). Called
 // by: a round.
 
 ghost use Rattle.std.specs.Prelude.{◌<◌, ◌≡◌, length, true};
 ghost use Rattle.amd_words.specs.Words.{in_front, size_of};
 ghost use Rattle.amd_elements.specs.Effects.{BeginsBuilt, BeginsOwn, TakesPivot};
-ghost use Rattle.amd_elements.specs.Premises.{CanBeginBuilt, CanBeginOwn};
+ghost use Rattle.amd_elements.specs.Premises.{CanBeginOwn, CanMakeElement};
 
 use crate::making::make_element;
 use crate::own_place::make_own;
-use crate::room::make_room;
 use amd_words::words::{put_row, size_inside};
 use amd_words::{Cell, Signed, Unsigned, Word};
 
@@ -23,8 +22,6 @@ pub struct Begun {
     pub block: usize,
     /// The number of rows of the front.
     pub total: usize,
-    /// Whether the lists were packed.
-    pub packed: bool,
 }
 
 /// Takes the pivot out of the front, and leaves it no rows. Returns how many it had.
@@ -55,16 +52,11 @@ pub fn begin_own<S: Signed, U: Unsigned>(
 {
     let (_, total) = make_own(iw, nv, e_len, len, pe, me, free);
     let block = take_pivot(nv, me);
-    Begun {
-        free,
-        block,
-        total,
-        packed: false,
-    }
+    Begun { free, block, total }
 }
 
-/// Begins the element of a pivot that lists elements, behind all lists, which are packed if there is no room. The
-/// elements that it lists end.
+/// Begins the element of a pivot that lists elements, behind all lists, where there is room for it. The elements that
+/// it lists end.
 #[tactic(none)]
 pub fn begin_built<S: Signed, U: Unsigned>(
     iw: &mut [Word<S>],
@@ -76,17 +68,15 @@ pub fn begin_built<S: Signed, U: Unsigned>(
     me: usize,
     free: usize,
 ) -> Begun
-    requires { CanBeginBuilt S.MOST U.MOST me iw.old nv.old pe.old e_len.old len.old w.old free }
+    requires { CanMakeElement S.MOST U.MOST me iw.old nv.old pe.old e_len.old len.old w.old free }
     ensures { BeginsBuilt me iw.old nv.old pe.old e_len.old len.old w.old free iw.new nv.new pe.new e_len.new len.new
         w.new result }
 {
-    let (from, packed) = make_room(iw, nv, pe, len, e_len, me, free);
-    let (end, total) = make_element(iw, nv, pe, e_len, len, w, me, from);
+    let (end, total) = make_element(iw, nv, pe, e_len, len, w, me, free);
     let block = take_pivot(nv, me);
     Begun {
         free: end,
         block,
         total,
-        packed,
     }
 }

@@ -1,17 +1,17 @@
-// Whether the list of a new element fits behind all lists, and the compaction of the workspace where it does not. The
+// Whether the list of a new element fits behind all lists, so that the workspace needs no compaction before it. The
 // lengths of the lists around the pivot are tried first; the classes of the new element are counted only where these do
 // not fit. Counts go down from the room that there is, so no sum is formed. Source: Amestoy, Davis and Duff 1996
-// (garbage collection). Called by `beginning`.
+// (garbage collection). Called by a round.
 
 ghost use Rattle.std.specs.Prelude.{[], ◌+◌, ◌-◌, ◌<◌, ◌^◌, ◌∷◌, ◌≡◌, ◌≤◌, length, true, nat_le, sum_by};
 ghost use Rattle.amd_words.specs.Words.{classes, in_front, num, rows};
 ghost use Rattle.amd_lists.specs.Spans.{IsSpan};
-ghost use Rattle.amd_elements.specs.Effects.{MakesRoom, MeetsFront};
+ghost use Rattle.amd_elements.specs.Effects.{MeetsFront};
 ghost use Rattle.amd_elements.specs.Element.{ListsLaid, elements_at, front_of};
-ghost use Rattle.amd_elements.specs.Premises.{CanMakeRoom, HasLists, IsAround};
+ghost use Rattle.amd_elements.specs.Premises.{CanFit, HasLists, IsAround};
+ghost use Rattle.amd_elements.specs.Pivots.{built_front};
 ghost use Rattle.amd_elements.specs.Room.{Meets, Unmarks, named_around};
 
-use crate::compaction::compact;
 use amd_words::words::{enter, is_marked, is_open, leave, named};
 use amd_words::{Cell, Signed, Unsigned, Word, cell_at};
 
@@ -171,25 +171,22 @@ pub fn fits<S: Signed, U: Unsigned>(
     left > 0
 }
 
-/// Makes room behind all lists for the list of the pivot's new element: if it does not fit there, the lists are packed.
-/// Returns the new free end, and whether the lists were packed.
-#[tactic(none)]
-pub fn make_room<S: Signed, U: Unsigned>(
+/// Whether the list of the new element of the pivot `me` fits behind `free`. All that is lent is only read.
+pub fn has_room<S: Signed, U: Unsigned>(
     iw: &mut [Word<S>],
     nv: &mut [Word<S>],
     pe: &mut [Word<S>],
+    e_len: &mut [Word<S>],
     len: &mut [Cell<U>],
-    e_len: &[Word<S>],
     me: usize,
     free: usize,
-) -> (usize, bool)
-    requires { CanMakeRoom S.MOST me iw.old nv.old pe.old e_len.now len.old free }
-    ensures { MakesRoom me iw.old nv.old pe.old e_len.now len.old free iw.new nv.new pe.new len.new result.0 result.1 }
+) -> bool
+    requires { CanFit S.MOST me iw.old nv.old pe.old e_len.old len.old free }
+    ensures fits { result ≡ nat_le (free + length (built_front iw.old nv.old pe.old e_len.old len.old me))
+        (length iw.old) }
+    ensures same { (iw.new ≡ iw.old) × (nv.new ≡ nv.old) × (pe.new ≡ pe.old) × (e_len.new ≡ e_len.old) ×
+        (len.new ≡ len.old) }
 {
     let n_elements = named(e_len, me);
-    if fits(iw, nv, pe, len, me, n_elements, free) {
-        return (free, false);
-    }
-    let end = compact(iw, pe, len, free);
-    (end, true)
+    fits(iw, nv, pe, len, me, n_elements, free)
 }

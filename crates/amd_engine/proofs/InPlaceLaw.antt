@@ -18,7 +18,7 @@ use Rattle.amd_rounds.specs.Laid.{IsSized, IsLaid}
 use Rattle.amd_rounds.specs.Keeps.{Stands}
 use Rattle.amd_workspace.specs.Laying.{IsLaidOut}
 use Rattle.amd_workspace.specs.Starting.{Rows, BeginsRows, held_in, is_class, classes_of}
-use Rattle.amd_workspace.proofs.Begun.{rows_of, begun_view, begun_laid}
+use Rattle.amd_workspace.proofs.Begun.{rows_of, begun_view, begun_laid, listed_row}
 use Rattle.amd_workspace.proofs.AtStart.{stands_at_start}
 use Rattle.amd_engine.specs.InPlace.{EndsIn, EndsRounds, LaysGraph, first_sums}
 use Rattle.amd_engine_law.proofs.EngineLaw.{degree_small}
@@ -92,7 +92,9 @@ module _ (hold : Option (List Bool)) (threshold : ℕ) (p : Rows) (v : Workspace
       let view = begun_view (length p.len) held p v begins fresh.least fresh.live fresh.dense (ap (λ (f : Figures). f.lnz) fresh.sums)
       (ap (λ (f : Figures). f.n_mult_subs_ldl) fresh.sums) (ap (λ (f : Figures). f.n_mult_subs_lu) fresh.sums)
       (ap (λ (f : Figures). f.d_max) fresh.sums) in
-      stands_at_start (length p.len) v.free held p v view is_laid fresh.linked (degrees_small g lists v.iw p.pe p.len lays) g dense lists
+      stands_at_start (length p.len) v.free held p v view is_laid fresh.linked
+      (λ i h. let k = listed_row (length p.len) held p v begins i h in (k.0.class, k.1))
+      (degrees_small g lists v.iw p.pe p.len lays) g dense lists
       (first_state g dense)
       lays.neighbours.graph size_is lays.neighbours.counts held_is lays.laid lays.neighbours.names (starts g dense)
 

@@ -56,13 +56,22 @@ pub record CountsOutside (aggressive : Bool) (flag me : ℕ) (front : List ℕ) 
         sides')
         degree
 
--- counters are below the flag, there is room for a count above it, and what was 0 alone is 0
-pub record RenewsFlag (most_cell : ℕ) (w w' : List ℕ) (flag : ℕ) : Type 0 where
+-- below the greatest cell less the count of counters the flag stays, and so do the counters; from there on it is 2, and
+-- each counter is 1 that is not 0
+abbrev pub KeepsOrResets : ℕ → ℕ → List ℕ → List ℕ → ℕ → Type 0
+KeepsOrResets most_cell flag w w' flag' =
+    (flag + length w < most_cell → (flag' ≡ flag) × (w' ≡ w)) ×
+    (most_cell ≤ flag + length w → (flag' ≡ 2) × ((e : ℕ) → num w' e ≡ cond (num w e == 0) 0 1))
+
+-- so do the flag and the counters; then these are below it, there is room for a count above it, and what was 0 alone
+-- is 0
+pub record RenewsFlag (most_cell flag : ℕ) (w w' : List ℕ) (flag' : ℕ) : Type 0 where
+  pub renewed : KeepsOrResets most_cell flag w w' flag'
   pub long : length w' ≡ length w
-  pub two : 2 ≤ flag
-  pub under : (e : ℕ) → num w' e < flag
+  pub two : 2 ≤ flag'
+  pub under : (e : ℕ) → num w' e < flag'
   pub zeros : (e : ℕ) → (num w' e == 0) ≡ (num w e == 0)
-  pub room : flag + length w ≤ most_cell
+  pub room : flag' + length w ≤ most_cell
 
 -- the list of the class i was renewed, and has count words; it reaches so many rows outside the front, and hash is the
 -- sum of what it keeps, as a word wraps it

@@ -152,13 +152,13 @@ fn clear<U: Unsigned>(w: &mut [Cell<U>])
     }
 }
 
-/// The flag for what comes next: the one given, if there is room for a count above it, or else 2 in new numbers.
-/// Numbers under the flag stay under it, and 0 stays 0 alone.
+/// The flag for what comes next. Below the greatest number less the count of rows it is the one given, and the numbers
+/// stay. Else it is 2, and each number that is not 0 is 1.
 pub fn renew_flag<U: Unsigned>(w: &mut [Cell<U>], flag: usize) -> usize
     requires { CanRenewFlag U.MOST flag w.old }
-    ensures { RenewsFlag U.MOST w.old w.new result }
+    ensures { RenewsFlag U.MOST flag w.old w.new result }
 {
-    if flag <= U::MOST - w.len() {
+    if flag < U::MOST - w.len() {
         return flag;
     }
     clear(w);

@@ -12,16 +12,22 @@ use Rattle.amd_lists.specs.Lengths.{row_count}
 use Rattle.amd_lists.specs.Renewal.{Filters}
 use Rattle.amd_merging.specs.Closing.{Closes}
 use Rattle.amd_merging.specs.FrontLists.{LongToMerge, LongToPlace, MergesList, PutsAll}
-use Rattle.amd_merging.specs.Merging.{bucket, bucket_of, kept_of, words_of, Finds, Settles}
+use Rattle.amd_merging.specs.Merging.{bucket, bucket_of, kept_of, words_of, is_near, Finds, HasNone, HasSome, Settles}
 use Rattle.amd_merging.specs.Restoring.{bound_in, Restores}
 
--- a class alike to i was looked for in a bucket, after the words of i were marked with the flag or before
+-- where some member of a bucket is near a class, the words of that class are marked with the flag, which rises by 1;
+-- else counters and flag stay
+abbrev pub Spreads : (ℕ → Bool) → List ℕ → List ℕ → ℕ → List ℕ → List ℕ → ℕ → Type 0
+Spreads near members words flag w w' flag' = (HasNone near members × (flag' ≡ flag) × (w' ≡ w))
+    ⊎ (HasSome near members × (flag' ≡ flag + 1) × ((x : ℕ) → num w' x ≡ cond (has words x) flag (num w x)))
+
+-- a class alike to i was looked for in a bucket, after the words of i were marked with the flag
 pub record FindsAlike (flag i head : ℕ) (iw pe e_len : List ℤ) (len w : List ℕ) (sides : List (ℕ × ℕ)) (w' : List ℕ)
     (found_at : ℕ) : Type 0 where
   pub found : Finds (row_count sides) (alike_in (kept_of iw pe e_len) (variables_in iw pe e_len len) i)
       (bucket (nexts sides) head) found_at
   pub long : length w' ≡ length w
-  pub marked : (w' ≡ w) ⊎ ((x : ℕ) → num w' x ≡ cond (has (words_of iw pe len i) x) flag (num w x))
+  pub marked : (x : ℕ) → num w' x ≡ cond (has (words_of iw pe len i) x) flag (num w x)
 
 -- the rows of the class i of the front are those of j now
 pub record AddsInside (i j : ℕ) (nv nv' : List ℤ) : Type 0 where
@@ -30,8 +36,7 @@ pub record AddsInside (i j : ℕ) (nv nv' : List ℤ) : Type 0 where
   pub front : (x : ℕ) → in_front nv' x ≡ (in_front nv x && not (x == i))
 
 -- the class i was merged into one of its bucket that is alike, or put into it; counters stay below the flag, which
--- rises
--- by 1 at most, and those that are 0 stay 0
+-- rises by 1 where the list of i was spread and else stays, and those that are 0 stay 0
 pub record MergesOne (count i flag : ℕ) (iw pe e_len nv : List ℤ) (len w hash : List ℕ) (sides : List (ℕ × ℕ))
     (pe' e_len' nv' : List ℤ) (w' hash' : List ℕ) (sides' : List (ℕ × ℕ)) (flag' : ℕ) : Type 0 where
   pub settles : Settles (alike_in (kept_of iw pe e_len) (variables_in iw pe e_len len))
@@ -39,6 +44,8 @@ pub record MergesOne (count i flag : ℕ) (iw pe e_len nv : List ℤ) (len w has
       (nexts sides) pe e_len nv hash' (nexts sides') pe' e_len' nv'
   pub lengths : LongToMerge (row_count sides) pe' e_len' nv' len w' hash' (nexts sides') (lasts sides')
   pub keys : lasts sides' ≡ lasts sides
+  pub spreads : Spreads (is_near e_len len (lasts sides) i)
+      (bucket (nexts sides) (num hash (bucket_of count (lasts sides) i))) (words_of iw pe len i) flag w w' flag'
   pub rises : (flag ≤ flag') × (flag' ≤ flag + 1)
   pub under : (x : ℕ) → num w' x < flag'
   pub zeros : (x : ℕ) → (num w' x == 0) ≡ (num w x == 0)

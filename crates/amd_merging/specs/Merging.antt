@@ -51,6 +51,18 @@ abbrev pub looks : List ℤ → List ℤ → List ℤ → List ℕ → List ℕ 
 looks iw pe e_len len w count few flag j = as_long e_len len count few j
     && each (λ x. num w x == flag) (words_of iw pe len j)
 
+-- the class j of a bucket is near the class i, so that their lists are compared: it has its key, and as many words and
+-- elements
+abbrev pub is_near : List ℤ → List ℕ → List ℕ → ℕ → ℕ → Bool
+is_near e_len len last i j = num last j == num last i && as_long e_len len (num len i) (place (word e_len i)) j
+
+-- some row passes, and none does
+abbrev pub HasSome : (ℕ → Bool) → List ℕ → Type 0
+HasSome p members = (x : ℕ) × (has members x ≡ true) × (p x ≡ true)
+
+abbrev pub HasNone : (ℕ → Bool) → List ℕ → Type 0
+HasNone p members = (x : ℕ) → has members x ≡ true → p x ≡ false
+
 -- what a search among some rows below n finds: one that passes, or n if none does
 abbrev pub Finds : ℕ → (ℕ → Bool) → List ℕ → ℕ → Type 0
 Finds n p members r = ((r < n) × (has members r ≡ true) × (p r ≡ true)) ⊎

@@ -4,7 +4,7 @@ use Rattle.std.specs.Prelude.{ℕ, ℤ, true, List, ◌≡◌, ◌≢◌, ◌<�
 use Rattle.amd_model.specs.Quotient.{has}
 use Rattle.amd_round_laws.specs.Rounds.{alike_in}
 use Rattle.amd_words.specs.Sides.{nexts, lasts}
-use Rattle.amd_words.specs.Words.{num, size_of, in_front, classes, rows}
+use Rattle.amd_words.specs.Words.{num, word, is_place, size_of, in_front, classes, rows}
 use Rattle.amd_lists.specs.Chains.{Chain}
 use Rattle.amd_lists.specs.Layout.{variables_in}
 use Rattle.amd_lists.specs.Lengths.{row_count}
@@ -15,6 +15,13 @@ use Rattle.amd_merging.specs.Restoring.{marked_in, IsPlaceable}
 -- rows are small enough for marks and for cells
 abbrev pub AreSmall : ℕ → ℕ → ℕ → Type 0
 AreSmall most_word most_cell n = (n + 2 ≤ most_word) × (n ≤ most_cell)
+
+-- the links from head on lead through classes, which can be asked how many words and elements they have, and so can i
+pub record CanCompare (i : ℕ) (e_len : List ℤ) (len : List ℕ) (sides : List (ℕ × ℕ)) (head : ℕ) : Type 0 where
+  pub lengths : (length e_len ≡ row_count sides) × (length len ≡ row_count sides)
+  pub chain : Chain (row_count sides) (nexts sides) head (bucket (nexts sides) head)
+  pub members : (j : ℕ) → has (bucket (nexts sides) head) j ≡ true → is_place (word e_len j) ≡ true
+  pub here : (i < row_count sides) × (is_place (word e_len i) ≡ true)
 
 -- the links from head on lead through classes whose lists were renewed
 pub record CanWalk (iw pe e_len : List ℤ) (len w : List ℕ) (sides : List (ℕ × ℕ)) (head : ℕ) : Type 0 where

@@ -12,9 +12,10 @@ ghost use Rattle.amd_lists.specs.Chains.{Chain};
 ghost use Rattle.amd_lists.specs.Lengths.{row_count};
 ghost use Rattle.amd_lists.specs.Spans.{IsSpan};
 ghost use Rattle.amd_merging.specs.Effects.{AddsInside, FindsAlike, MergesClasses, MergesOne};
-ghost use Rattle.amd_merging.specs.Merging.{Finds, IsRenewed, as_long, bucket, bucket_of, looks};
-ghost use Rattle.amd_merging.specs.Premises.{CanAdd, CanFind, CanMergeFront, CanMergeInto, CanMergeOne, CanPush};
-ghost use Rattle.amd_merging.specs.Premises.{CanWalk};
+ghost use Rattle.amd_merging.specs.Merging.{Finds, HasNone, HasSome, IsRenewed, as_long, bucket, bucket_of};
+ghost use Rattle.amd_merging.specs.Merging.{is_near, looks};
+ghost use Rattle.amd_merging.specs.Premises.{CanAdd, CanCompare, CanFind, CanMergeFront, CanMergeInto, CanMergeOne};
+ghost use Rattle.amd_merging.specs.Premises.{CanPush, CanWalk};
 
 use amd_words::sides::{Sides, last_at, next_at, put_next, row_count};
 use amd_words::words::{named, put_flip};
@@ -100,8 +101,10 @@ fn any_as_long<S: Signed, U: Unsigned>(
     requires lengths { (length e_len.now ≡ row_count sides.now) × (length len.now ≡ row_count sides.now) }
     requires chain { Chain (row_count sides.now) (nexts sides.now) head (bucket (nexts sides.now) head) }
     requires members { (j : ℕ) → has (bucket (nexts sides.now) head) j ≡ true → is_place (word e_len.now j) ≡ true }
-    ensures { result ≡ false → (j : ℕ) → has (bucket (nexts sides.now) head) j ≡ true →
-        (num (lasts sides.now) j == key && as_long e_len.now len.now count few j) ≡ false }
+    ensures some { result ≡ true → HasSome (λ j. num (lasts sides.now) j == key &&
+        as_long e_len.now len.now count few j) (bucket (nexts sides.now) head) }
+    ensures none { result ≡ false → HasNone (λ j. num (lasts sides.now) j == key &&
+        as_long e_len.now len.now count few j) (bucket (nexts sides.now) head) }
 {
     let n = row_count(sides);
     let mut j = head;
@@ -112,6 +115,30 @@ fn any_as_long<S: Signed, U: Unsigned>(
         j = next_at(sides, j);
     }
     false
+}
+
+/// Whether the list of the class `i` is to be compared with that of some class of a bucket: one that has its key, and
+/// as many words and elements.
+fn is_compared<S: Signed, U: Unsigned>(
+    e_len: &[Word<S>],
+    len: &[Cell<U>],
+    sides: &[Sides<U>],
+    head: usize,
+    i: usize,
+) -> bool
+    requires { CanCompare i e_len.now len.now sides.now head }
+    ensures some { result ≡ true → HasSome (is_near e_len.now len.now (lasts sides.now) i)
+        (bucket (nexts sides.now) head) }
+    ensures none { result ≡ false → HasNone (is_near e_len.now len.now (lasts sides.now) i)
+        (bucket (nexts sides.now) head) }
+{
+    if head >= row_count(sides) {
+        return false;
+    }
+    let key = last_at(sides, i);
+    let count = cell_at(len, i);
+    let few = named(e_len, i);
+    any_as_long(e_len, len, sides, head, key, count, few)
 }
 
 /// Whether a class has so many words and elements, and each of its words is marked.
@@ -167,7 +194,7 @@ fn walk<S: Signed, U: Unsigned>(
 }
 
 /// The class of a bucket that keeps the same elements and variables as the class `i`, or the number of rows if there is
-/// none. The words of `i` are marked with the flag, if some class of the bucket has its key and as many.
+/// none. The words of `i` are marked with the flag.
 fn find<S: Signed, U: Unsigned>(
     iw: &[Word<S>],
     pe: &[Word<S>],
@@ -184,9 +211,6 @@ fn find<S: Signed, U: Unsigned>(
 {
     let few = named(e_len, i);
     let count = cell_at(len, i);
-    if !any_as_long(e_len, len, sides, head, last_at(sides, i), count, few) {
-        return row_count(sides);
-    }
     let from = named(pe, i);
     spread(iw, w, from + 1, count - 1, flag);
     walk(iw, pe, e_len, len, w, sides, head, count, few, flag)
@@ -232,7 +256,8 @@ fn push<U: Unsigned>(hash: &mut [Cell<U>], sides: &mut [Sides<U>], i: usize, key
 }
 
 /// Merges a class of the front into one of its bucket that keeps the same elements and variables, or, if there is none,
-/// puts it into the bucket. The list of the front has `count` words. Returns the next flag.
+/// puts it into the bucket. The list of the front has `count` words. Returns the next flag, which rises by 1 only where
+/// the list of `i` was spread for comparison.
 fn merge_one<S: Signed, U: Unsigned>(
     iw: &[Word<S>],
     pe: &mut [Word<S>],
@@ -252,7 +277,7 @@ fn merge_one<S: Signed, U: Unsigned>(
 {
     let key = bucket_at(sides, i, count);
     let head = cell_at(hash, key);
-    if head >= row_count(sides) {
+    if !is_compared(e_len, len, sides, head, i) {
         push(hash, sides, i, key);
         return flag;
     }

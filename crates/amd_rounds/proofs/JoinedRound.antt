@@ -14,6 +14,7 @@ use Rattle.amd_rounds.proofs.Relinked.{is_pivot}
 use Rattle.amd_rounds.proofs.RoundNumbers.{packed_is}
 use Rattle.amd_rounds.proofs.RoundLaw.{view_next, linked_next}
 use Rattle.amd_rounds.proofs.LaidElements.{laid_after}
+use Rattle.amd_rounds.proofs.Held.{held_after}
 
 module _ {g : Graph} {dense : ℕ → Bool} {nzaat : ℕ} {aggressive : Bool} {p : Workspace} {t : QuotientGraph} {s : State}
     (r : HalfRound g dense nzaat aggressive p t s) (p4 : Workspace)
@@ -27,7 +28,12 @@ module _ {g : Graph} {dense : ℕ → Bool} {nzaat : ℕ} {aggressive : Bool} {p
     (
       done.1.0,
       done.1.1,
-      record { view = done.1.2; laid = laid_after r p4 merges v ended small; linked = linked_next r p4 merges v ended small },
+      record {
+        view = done.1.2;
+        laid = laid_after r p4 merges v ended small;
+        linked = linked_next r p4 merges v ended small;
+        held = held_after r p4 merges v ended done.1.0 done.1.1 done.1.2;
+      },
     ),
     subst (λ c. v.n_cmp_a ≡ p.n_cmp_a + cond (is_packed p t c) 1 0) (is_pivot r p4 merges) (packed_is r p4 merges v ended),
   )

@@ -25,5 +25,8 @@ pub mod RoundFields
 pub mod RoundLaw
 pub mod LaidAfter
 pub mod LaidElements
+pub mod Held
+pub mod Compacted
+pub mod Rooms
 pub mod Openings
 pub mod JoinedRound

@@ -1,13 +1,15 @@
 -- A workspace keeps the lists of an elimination, and stands for a state of it.
-use Rattle.std.specs.Prelude.{ℕ, Bool, false, List, ◌≡◌, ◌+◌, ◌==◌, ◌&&◌, not, cond, nat_lt, length, filter, reverse}
+use Rattle.std.specs.Prelude.{ℕ, Bool, true, false, List, ◌≡◌, ◌⊎◌, ◌+◌, ◌==◌, ◌&&◌, not, cond, nat_lt}
+use Rattle.std.specs.Prelude.{length, filter, reverse}
 use Rattle.amd_model.specs.Graph.{Graph}
-use Rattle.amd_model.specs.State.{State, live}
+use Rattle.amd_model.specs.State.{State, live, is_class, stands}
 use Rattle.amd_model.specs.Step.{StepAt}
 use Rattle.amd_model.specs.Run.{last_state}
 use Rattle.amd_model.specs.Ordering.{Follows}
 use Rattle.amd_model.specs.Quotient.{QuotientGraph, is_empty, pivot, gathered, next}
 use Rattle.amd_round_laws.specs.Keeps as views
 use Rattle.amd_lists.specs.Chains.{DegreeLists}
+use Rattle.amd_lists.specs.Layout.{has_list}
 use Rattle.amd_rounds.specs.Workspaces.{Workspace, view_of}
 use Rattle.amd_rounds.specs.Laid.{IsLaid}
 
@@ -22,6 +24,8 @@ pub record Stands (g : Graph) (dense : ℕ → Bool) (nzaat : ℕ) (p : Workspac
     pub view : views.Stands g dense (view_of p) t s
     pub laid : IsLaid g.size nzaat p
     pub linked : DegreeLists g.size p.head p.next p.last p.degree (by_bound t)
+    -- what has a list is a class, or an element that stands and so has a border
+    pub held : (j : ℕ) → has_list p.pe p.len j ≡ true → (is_class s j ≡ true) ⊎ (stands g s j ≡ true)
 
 -- an element holds the pivot, and its front has more classes than there are words from the free end on
 abbrev pub is_packed : Workspace → QuotientGraph → ℕ → Bool

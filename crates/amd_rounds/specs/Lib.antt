@@ -2,5 +2,6 @@
 pub mod Workspaces
 pub mod Laid
 pub mod Keeps
+pub mod Compacting
 pub mod Parts
 pub mod Premises

@@ -6,9 +6,12 @@ use Rattle.amd_model.specs.Figures.{cut, front_sum, entries, ldl_steps, lu_steps
 use Rattle.amd_model.specs.Quotient.{has}
 use Rattle.amd_words.specs.Words.{num, word, place, start, size_of, in_front, classes, flip_of}
 use Rattle.amd_elements.specs.Element.{front_of}
+use Rattle.amd_elements.specs.Pivots.{built_front}
+use Rattle.amd_elements.specs.Room.{Rooms}
 use Rattle.amd_lists.specs.Layout.{has_list, end_of, elements_in, list_in, Layout}
 use Rattle.amd_lists.specs.Chains.{DegreeLists, Chooses, without}
 use Rattle.amd_elements.specs.Beginning.{Begins}
+use Rattle.amd_fronts.specs.Effects.{KeepsOrResets}
 use Rattle.amd_fronts.specs.Turning.{TurnsFront}
 use Rattle.amd_merging.specs.Merging.{MergesAll, represents_in, bucket_of}
 use Rattle.amd_merging.specs.Restoring.{marked_in, bound_in, put_all, Restores}
@@ -31,6 +34,15 @@ pub record Picks (n me : ℕ) (p v : Workspace) : Type 0 where
   pub linked : (lists : ℕ → List ℕ) → Links n p lists → Links n v (λ b. without me (lists b))
   pub sized : IsSized n v
   pub same : v ≡ record p { head = v.head; next = v.next; last = v.last; least = v.least }
+
+-- there is room behind all lists for the new element of the pivot me: the lists were packed, and this was counted, if
+-- there was none
+pub record MakesRoom (n me : ℕ) (p v : Workspace) : Type 0 where
+  pub rooms : Rooms n p.iw p.pe p.e_len p.len p.free v.iw v.pe v.free
+  pub fits : v.free + length (built_front p.iw p.nv p.pe p.e_len p.len me) ≤ length p.iw
+  pub packed : v.n_cmp_a ≡ p.n_cmp_a
+      + cond (nat_lt (length p.iw) (p.free + length (built_front p.iw p.nv p.pe p.e_len p.len me))) 1 0
+  pub same : v ≡ record p { iw = v.iw; pe = v.pe; free = v.free; n_cmp_a = v.n_cmp_a }
 
 -- the pivot me is an element, behind all lists if it listed elements, which it absorbs; `block` and `total` are its
 -- number of rows and that of its front
@@ -63,6 +75,7 @@ pub record BeginsElement (n me block total : ℕ) (is_built : Bool) (p v : Works
 -- come to at most most_figure
 pub record TurnsOver (aggressive : Bool) (n me gone most_figure : ℕ) (p v : Workspace) : Type 0 where
   pub first : List ℕ
+  pub renewed : KeepsOrResets most_figure p.flag p.w first v.flag
   pub zeros : (e : ℕ) → (num first e == 0) ≡ (num p.w e == 0)
   pub under : (e : ℕ) → num first e < v.flag
   pub two : 2 ≤ v.flag
@@ -86,6 +99,14 @@ pub record TurnsOver (aggressive : Bool) (n me gone most_figure : ℕ) (p v : Wo
     last = v.last;
     flag = v.flag;
   }
+
+-- the flag rose by the greatest border so far and was renewed, and then rose by 1 for each list that was spread: for no
+-- more of them than the list of the element me has words
+pub record RaisesFlag (me border most_figure : ℕ) (p v : Workspace) : Type 0 where
+  pub first : List ℕ
+  pub flag : ℕ
+  pub renewed : KeepsOrResets most_figure (p.flag + max p.most border) p.w first flag
+  pub rises : (flag ≤ v.flag) × (v.flag ≤ flag + num p.len me)
 
 -- the rows of the block are not live any more, and the classes of the front that are alike were merged
 pub record MergesFront (n me block border : ℕ) (p v : Workspace) : Type 0 where

@@ -3,6 +3,7 @@
 //! workspace stands for. Called by `amd_workspace` and `amd_engine`.
 #![tactic(auto)]
 
+pub mod compaction;
 pub mod pivot;
 pub mod round;
 pub mod work;

@@ -6,12 +6,14 @@ ghost use Rattle.std.specs.Prelude.{ℕ, ◌<◌, ◌≡◌, pos, length, true};
 ghost use Rattle.amd_words.specs.Words.{is_place, place, word};
 ghost use Rattle.amd_lists.specs.Chains.{SomeFrom};
 ghost use Rattle.amd_rounds.specs.Laid.{IsLaid, IsNarrow, IsSized};
-ghost use Rattle.amd_rounds.specs.Parts.{BeginsElement, Picks};
+ghost use Rattle.amd_rounds.specs.Parts.{BeginsElement, MakesRoom, Picks};
 ghost use Rattle.amd_rounds.specs.Premises.{CanBegin};
 ghost use Rattle.amd_rounds.specs.Workspaces.{KeepsLoans, workspace_of};
 
+use crate::compaction::compact;
 use crate::work::Work;
 use amd_elements::beginning::{begin_built, begin_own};
+use amd_elements::room::has_room;
 use amd_lists::chains::choose;
 use amd_words::words::named;
 use amd_words::{Cell, Signed, Unsigned, Word};
@@ -69,6 +71,24 @@ fn begin_in_place<S: Signed, U: Unsigned>(work: &mut Work<'_, S, U>, me: usize) 
     }
 }
 
+/// Makes room behind all lists for the new element of the pivot `me`: where it would pass the end, the lists are
+/// packed.
+fn make_room<S: Signed, U: Unsigned>(work: &mut Work<'_, S, U>, me: usize)
+    requires wide { IsNarrow S.MOST U.MOST (length work.old.nv.now) (workspace_of work.old) }
+    requires laid { (nzaat : ℕ) × IsLaid (length work.old.nv.now) nzaat (workspace_of work.old) }
+    requires pivot { CanBegin (length work.old.nv.now) me (workspace_of work.old) }
+    requires left { 0 < work.old.live }
+    ensures rooms { MakesRoom (length work.old.nv.now) me (workspace_of work.old) (workspace_of work.new) }
+    ensures loans { KeepsLoans work.old work.new }
+{
+    let free = work.free;
+    if has_room(work.iw, work.nv, work.pe, work.e_len, work.len, me, free) {
+        return;
+    }
+    compact(work);
+    work.n_cmp_a += 1;
+}
+
 /// Makes the pivot `me`, which lists elements, an element behind all lists, which are packed first if there is no room.
 fn begin_behind<S: Signed, U: Unsigned>(work: &mut Work<'_, S, U>, me: usize) -> Element
     requires wide { IsNarrow S.MOST U.MOST (length work.old.nv.now) (workspace_of work.old) }
@@ -80,12 +100,12 @@ fn begin_behind<S: Signed, U: Unsigned>(work: &mut Work<'_, S, U>, me: usize) ->
         (workspace_of work.old) (workspace_of work.new) }
     ensures loans { KeepsLoans work.old work.new }
 {
+    make_room(work, me);
     let free = work.free;
     let begun = begin_built(
         work.iw, work.nv, work.pe, work.e_len, work.len, work.w, me, free,
     );
     work.free = begun.free;
-    work.n_cmp_a += usize::from(begun.packed);
     Element {
         block: begun.block,
         total: begun.total,

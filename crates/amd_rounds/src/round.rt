@@ -10,7 +10,7 @@ ghost use Rattle.amd_model.specs.State.{State};
 ghost use Rattle.amd_words.specs.Words.{is_place, num, start, word};
 ghost use Rattle.amd_rounds.specs.Keeps.{AreRounds, IsRound, NoRowIsLive, Stands};
 ghost use Rattle.amd_rounds.specs.Laid.{IsNarrow, IsSized};
-ghost use Rattle.amd_rounds.specs.Parts.{EndsFront, MergesFront, TurnsOver};
+ghost use Rattle.amd_rounds.specs.Parts.{EndsFront, MergesFront, RaisesFlag, TurnsOver};
 ghost use Rattle.amd_rounds.specs.Premises.{CanEnd, CanMerge, CanTurn};
 ghost use Rattle.amd_rounds.specs.Workspaces.{KeepsLoans, workspace_of};
 
@@ -86,6 +86,7 @@ pub fn merge_alike<S: Signed, U: Unsigned>(
     requires front { CanMerge (length work.old.nv.now) me block border U.MOST (workspace_of work.old) }
     ensures merges { MergesFront (length work.old.nv.now) me block border (workspace_of work.old)
         (workspace_of work.new) }
+    ensures flag { RaisesFlag me border U.MOST (workspace_of work.old) (workspace_of work.new) }
     ensures loans { KeepsLoans work.old work.new }
 {
     work.live -= block;

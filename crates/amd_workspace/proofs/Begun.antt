@@ -30,7 +30,7 @@ rows_of v = record {
 }
 
 -- a row that is a class
-record IsClass (held : ℕ → Bool) (p : Rows) (v : Workspace) (i : ℕ) : Type 0 where
+pub record IsClass (held : ℕ → Bool) (p : Rows) (v : Workspace) (i : ℕ) : Type 0 where
   pub class : is_class held p.len i ≡ true
   pub starts : word v.pe i ≡ word p.pe i
   pub counts : word v.e_len i ≡ pos 0
@@ -255,7 +255,7 @@ module _ (n : ℕ) (held : ℕ → Bool) (p : Rows) (v : Workspace) (begins : Be
   list_parts i h = let k = and_parts (is_place (word v.pe i)) (nat_lt 0 (num v.len i)) h in (k.0, ltb-true 0 (num v.len i) k.1)
 
   -- what has a list is a class
-  listed_row : (i : ℕ) → has_list v.pe v.len i ≡ true → IsClass held p v i × (i < n)
+  pub listed_row : (i : ℕ) → has_list v.pe v.len i ≡ true → IsClass held p v i × (i < n)
   listed_row i h = let some = (list_parts i h).1 in elim (kind i) [
     | inl k ↦ k
     | inr (inl k) ↦ absurd (let e = k.0.length_is in omega (arith, e, some))

@@ -1,18 +1,21 @@
-use Rattle.std.proofs.Common.{ℕ, ℤ, List, ◌≡◌, ◌<◌, ◌-◌, refl, sym, ap, subst, ◌∙◌, le_trans, add-le-add, le_refl, le_of_eq}
+use Rattle.std.proofs.Common.{ℕ, ℤ, List, ◌≡◌, ◌-◌, refl, ap, subst, ◌∙◌}
 use Rattle.std.proofs.Common.{arith, cond, length}
-use Rattle.std.specs.Prelude.{◌==◌, sum_by}
+use Rattle.std.specs.Prelude.{◌==◌}
 use Rattle.std.proofs.lemmas.Bool.{eq-eqb, or_left}
-use Rattle.amd_model.specs.Quotient.{has, Once}
-use Rattle.amd_words.specs.Words.{num, word, place, size_of, in_front}
+use Rattle.amd_model.specs.Quotient.{has}
+use Rattle.amd_words.specs.Words.{num, word, place, size_of}
 use Rattle.amd_elements.specs.Element.{front_of, Builds}
-use Rattle.amd_lists.specs.Layout.{has_list, elements_in, Layout}
+use Rattle.amd_lists.specs.Layout.{elements_in}
 use Rattle.amd_elements.specs.Making.{Makes}
 use Rattle.amd_elements.specs.Room.{Rooms}
-use Rattle.amd_elements.proofs.MakingRoom.{rooms_elements, rooms_known, rooms_front}
+use Rattle.amd_elements.proofs.MakingRoom.{rooms_stay, rooms_elements, rooms_front}
 use Rattle.amd_elements.proofs.Touching.{front_apart}
 use Rattle.amd_words.proofs.RowLists.{rows_length}
 use Rattle.amd_elements.proofs.Beginnings.{begins, built_inside}
 use Rattle.amd_elements.proofs.beginning.begin_built.Goals as goal
+
+itself : {A : Type 0} (x : A) → x ≡ x
+itself x = refl
 
 -- what was built and made, of values that are equal to others
 built_as : {me : ℕ} {iw1 nv nv1 : List ℤ} (pe1 : List ℤ) {len len1 front : List ℕ} (m : ℕ) {from : ℕ} {iw2 nv2 : List ℤ} {end total : ℕ} →
@@ -36,69 +39,12 @@ made_as {me} {iw1} {nv} {nv1} pe1 {e_len} {len} {len1} {front} {absorbed} m {fro
     (subst (λ y. Makes (length y) me (elements_in iw1 pe1 e_len me) (front_of iw1 y pe1 len1 me m) total iw1 pe1 e_len len1 from iw2 pe2
     e_len2 len2 end) a h)))
 
-pub make_room-from-requires : goal.make_room-from-requires
-make_room-from-requires g c = record {
-  pivot = c.requires.pivot;
-  wide = c.requires.wide;
-  room = c.requires.room;
-  count = c.requires.count;
-  elements = c.requires.elements.listed;
-}
-
 pub make_element-end-requires : goal.make_element-end-requires
-make_element-end-requires g c = record {
-  pivot = record {
-    lengths = (let p = c.make_room-from.ensures.rooms.p_long in let n = ap length c.make_room-from.ensures.same.0 in
-        let k = ap length c.make_room-from.ensures.same.1 in let l = c.requires.pivot.lengths in let w = sym n in
-        (p ∙ l.0 ∙ w, l.1 ∙ w, k ∙ l.2 ∙ w));
-    end = (let l = c.make_room-from.ensures.rooms.long in let w = c.make_room-from.ensures.rooms.lower in let s = c.requires.pivot.end in
-        omega (arith, l, s, w));
-    laid = (subst (λ z. Layout z c.make_room-from.new.iw c.make_room-from.new.pe c.args.e_len.now c.make_room-from.new.len
-        c.make_room-from.result.0) (sym (ap length c.make_room-from.ensures.same.0))
-        (subst (λ z. Layout (length c.args.nv.now) c.make_room-from.new.iw c.make_room-from.new.pe c.args.e_len.now z
-        c.make_room-from.result.0) (sym c.make_room-from.ensures.same.1) c.make_room-from.ensures.rooms.laid));
-    row = (subst (λ z. (c.args.me < length z) × (0 < size_of z c.args.me)) (sym c.make_room-from.ensures.same.0) c.requires.pivot.row);
-    listed = (ap (λ z. has_list c.make_room-from.new.pe z c.args.me) c.make_room-from.ensures.same.1
-        ∙ c.make_room-from.ensures.rooms.listed c.args.me ∙ c.requires.pivot.listed);
-    clear = (λ j. ap (λ z. in_front z j) c.make_room-from.ensures.same.0 ∙ c.requires.pivot.clear j);
-  };
-  counters = c.requires.counters ∙ sym (ap length c.make_room-from.ensures.same.0);
-  wide = (let l = c.make_room-from.ensures.rooms.long in let a = ap length c.make_room-from.ensures.same.0 in
-      let s = c.requires.wide.0 in let t = c.requires.wide.1 in ((omega (arith, s, a)), (omega (arith, t, l))));
-  cells = (let l = c.make_room-from.ensures.rooms.long in let t = c.requires.cells in omega (arith, l, t));
-  count = (c.requires.count);
-  elements = record {
-    listed = (λ e h. ap (λ z. has_list c.make_room-from.new.pe z e) c.make_room-from.ensures.same.1
-        ∙ rooms_known c.requires.pivot.laid c.make_room-from.ensures.rooms c.args.me c.requires.pivot.listed c.requires.elements.listed e
-        h);
-    apart = (ap (λ xs. has xs c.args.me) (rooms_elements c.requires.pivot.laid c.make_room-from.ensures.rooms c.args.me
-        c.requires.pivot.listed
-        c.requires.elements.listed) ∙ c.requires.elements.apart);
-    once = (subst Once (sym (rooms_elements c.requires.pivot.laid c.make_room-from.ensures.rooms c.args.me c.requires.pivot.listed
-        c.requires.elements.listed)) c.requires.elements.once);
-  };
-  fits = (let iw : List ℤ = c.args.iw.now in let nv : List ℤ = c.args.nv.now in let pe : List ℤ = c.args.pe.now in
-      let len : List ℕ = c.args.len.now in let e_len : List ℤ = c.args.e_len.now in let me : ℕ = c.args.me in
-      let iw1 : List ℤ = c.make_room-from.new.iw in let pe1 : List ℤ = c.make_room-from.new.pe in
-      let rooms : Rooms (length nv) iw pe e_len len c.args.free iw1 pe1 c.make_room-from.result.0 = c.make_room-from.ensures.rooms in
-      let same_nv : c.make_room-from.new.nv ≡ nv = c.make_room-from.ensures.same.0 in
-      let same_len : c.make_room-from.new.len ≡ len = c.make_room-from.ensures.same.1 in
-      let front_is = rooms_front c.requires.pivot.laid rooms me c.requires.pivot.listed c.requires.elements.listed nv in
-      rw (same_nv, same_len) (le_trans (add-le-add (le_refl c.make_room-from.result.0) (le_of_eq (ap length front_is)))
-      (le_trans c.make_room-from.ensures.fits (le_of_eq (sym rooms.long)))));
-  few = (let iw : List ℤ = c.args.iw.now in let nv : List ℤ = c.args.nv.now in let pe : List ℤ = c.args.pe.now in
-      let len : List ℕ = c.args.len.now in let e_len : List ℤ = c.args.e_len.now in let me : ℕ = c.args.me in
-      let iw1 : List ℤ = c.make_room-from.new.iw in let pe1 : List ℤ = c.make_room-from.new.pe in
-      let rooms : Rooms (length nv) iw pe e_len len c.args.free iw1 pe1 c.make_room-from.result.0 = c.make_room-from.ensures.rooms in
-      let same_nv : c.make_room-from.new.nv ≡ nv = c.make_room-from.ensures.same.0 in
-      let same_len : c.make_room-from.new.len ≡ len = c.make_room-from.ensures.same.1 in
-      let front_is = rooms_front c.requires.pivot.laid rooms me c.requires.pivot.listed c.requires.elements.listed nv in
-      rw (same_nv, same_len) (le_trans (add-le-add (le_of_eq (ap (sum_by (size_of nv)) front_is)) (le_refl 2)) c.requires.few));
-}
+make_element-end-requires g c = c.requires
 
 pub take_pivot-block-requires-clause-inside : goal.take_pivot-block-requires-clause-inside
 take_pivot-block-requires-clause-inside g c =
-    let a = c.requires.pivot.row.0 in let w = c.make_element-end.ensures.builds.wide in let n = ap length c.make_room-from.ensures.same.0 in
+    let a = c.requires.pivot.row.0 in let w = c.make_element-end.ensures.builds.wide in let n = ap length (itself c.args.nv.now) in
     omega (arith, a, w, n)
 
 pub take_pivot-block-requires-clause-marked : goal.take_pivot-block-requires-clause-marked
@@ -109,13 +55,13 @@ pub returns : goal.returns
 returns g c = record {
   begins = (let iw : List ℤ = c.args.iw.now in let nv : List ℤ = c.args.nv.now in let pe : List ℤ = c.args.pe.now in
       let len : List ℕ = c.args.len.now in let e_len : List ℤ = c.args.e_len.now in let me : ℕ = c.args.me in
-      let m : ℕ = place (word e_len me) in let iw1 : List ℤ = c.make_room-from.new.iw in let pe1 : List ℤ = c.make_room-from.new.pe in
-      let rooms : Rooms (length nv) iw pe e_len len c.args.free iw1 pe1 c.make_room-from.result.0 = c.make_room-from.ensures.rooms in
-      let same_nv : c.make_room-from.new.nv ≡ nv = c.make_room-from.ensures.same.0 in
-      let same_len : c.make_room-from.new.len ≡ len = c.make_room-from.ensures.same.1 in
+      let m : ℕ = place (word e_len me) in let iw1 : List ℤ = c.args.iw.now in let pe1 : List ℤ = c.args.pe.now in
+      let rooms : Rooms (length nv) iw pe e_len len c.args.free iw1 pe1 c.args.free = (rooms_stay c.requires.pivot.laid) in
+      let same_nv : c.args.nv.now ≡ nv = (itself c.args.nv.now) in
+      let same_len : c.args.len.now ≡ len = (itself c.args.len.now) in
       let es = rooms_elements c.requires.pivot.laid rooms me c.requires.pivot.listed c.requires.elements.listed in
       let front_is = rooms_front c.requires.pivot.laid rooms me c.requires.pivot.listed c.requires.elements.listed nv in
-      let from : ℕ = c.make_room-from.result.0 in let end : ℕ = c.make_element-end.result.0 in
+      let from : ℕ = c.args.free in let end : ℕ = c.make_element-end.result.0 in
       let total : ℕ = c.make_element-end.result.1 in let iw2 : List ℤ = c.make_element-end.new.iw in
       let nv2 : List ℤ = c.make_element-end.new.nv in let front : List ℕ = front_of iw nv pe len me m in
       let b : Builds me front iw1 nv from iw2 nv2 end total =
@@ -128,39 +74,39 @@ returns g c = record {
       c.take_pivot-block.ensures.takes.sizes c.take_pivot-block.ensures.takes.front
       (built_inside iw2 pe2 len2 me z.list b.list c.make_element-end.ensures.start_is b.grows));
   counters = (λ e. c.make_element-end.ensures.counters e ∙ ap (λ xs. cond (has xs e) 0 (num c.args.w.now e))
-      (rooms_elements c.requires.pivot.laid c.make_room-from.ensures.rooms c.args.me c.requires.pivot.listed c.requires.elements.listed));
+      (rooms_elements c.requires.pivot.laid (rooms_stay c.requires.pivot.laid) c.args.me c.requires.pivot.listed
+      c.requires.elements.listed));
   long = (c.make_element-end.ensures.long);
   before = (λ j ne h. let a = c.make_element-end.ensures.makes.before j ne h in let s = c.make_element-end.ensures.start_is in
       omega (arith, a, s));
   end = (let iw : List ℤ = c.args.iw.now in let nv : List ℤ = c.args.nv.now in let pe : List ℤ = c.args.pe.now in
       let len : List ℕ = c.args.len.now in let e_len : List ℤ = c.args.e_len.now in let me : ℕ = c.args.me in
-      let m : ℕ = place (word e_len me) in let iw1 : List ℤ = c.make_room-from.new.iw in let pe1 : List ℤ = c.make_room-from.new.pe in
-      let rooms : Rooms (length nv) iw pe e_len len c.args.free iw1 pe1 c.make_room-from.result.0 = c.make_room-from.ensures.rooms in
-      let same_nv : c.make_room-from.new.nv ≡ nv = c.make_room-from.ensures.same.0 in
-      let same_len : c.make_room-from.new.len ≡ len = c.make_room-from.ensures.same.1 in
+      let m : ℕ = place (word e_len me) in let iw1 : List ℤ = c.args.iw.now in let pe1 : List ℤ = c.args.pe.now in
+      let rooms : Rooms (length nv) iw pe e_len len c.args.free iw1 pe1 c.args.free = (rooms_stay c.requires.pivot.laid) in
+      let same_nv : c.args.nv.now ≡ nv = (itself c.args.nv.now) in
+      let same_len : c.args.len.now ≡ len = (itself c.args.len.now) in
       let front_is = rooms_front c.requires.pivot.laid rooms me c.requires.pivot.listed c.requires.elements.listed nv in
-      let from : ℕ = c.make_room-from.result.0 in let end : ℕ = c.make_element-end.result.0 in
+      let from : ℕ = c.args.free in let end : ℕ = c.make_element-end.result.0 in
       let total : ℕ = c.make_element-end.result.1 in let iw2 : List ℤ = c.make_element-end.new.iw in
       let nv2 : List ℤ = c.make_element-end.new.nv in let front : List ℕ = front_of iw nv pe len me m in
       let b : Builds me front iw1 nv from iw2 nv2 end total =
       built_as pe1 m same_nv same_len front_is c.make_element-end.ensures.builds in
-      let l = rooms.long in let m = b.long in let fits = c.make_room-from.ensures.fits in let n = rows_length iw2 from (end - from) in
+      let l = rooms.long in let m = b.long in let fits = c.requires.fits in let n = rows_length iw2 from (end - from) in
       let at = ap length b.list in
       let w = b.grows in omega (arith, l, m, fits, n, at, w));
   total = (let iw : List ℤ = c.args.iw.now in let nv : List ℤ = c.args.nv.now in let pe : List ℤ = c.args.pe.now in
       let len : List ℕ = c.args.len.now in let e_len : List ℤ = c.args.e_len.now in let me : ℕ = c.args.me in
-      let m : ℕ = place (word e_len me) in let iw1 : List ℤ = c.make_room-from.new.iw in let pe1 : List ℤ = c.make_room-from.new.pe in
-      let rooms : Rooms (length nv) iw pe e_len len c.args.free iw1 pe1 c.make_room-from.result.0 = c.make_room-from.ensures.rooms in
-      let same_nv : c.make_room-from.new.nv ≡ nv = c.make_room-from.ensures.same.0 in
-      let same_len : c.make_room-from.new.len ≡ len = c.make_room-from.ensures.same.1 in
+      let m : ℕ = place (word e_len me) in let iw1 : List ℤ = c.args.iw.now in let pe1 : List ℤ = c.args.pe.now in
+      let rooms : Rooms (length nv) iw pe e_len len c.args.free iw1 pe1 c.args.free = (rooms_stay c.requires.pivot.laid) in
+      let same_nv : c.args.nv.now ≡ nv = (itself c.args.nv.now) in
+      let same_len : c.args.len.now ≡ len = (itself c.args.len.now) in
       let front_is = rooms_front c.requires.pivot.laid rooms me c.requires.pivot.listed c.requires.elements.listed nv in
-      let from : ℕ = c.make_room-from.result.0 in let end : ℕ = c.make_element-end.result.0 in
+      let from : ℕ = c.args.free in let end : ℕ = c.make_element-end.result.0 in
       let total : ℕ = c.make_element-end.result.1 in let iw2 : List ℤ = c.make_element-end.new.iw in
       let nv2 : List ℤ = c.make_element-end.new.nv in let front : List ℕ = front_of iw nv pe len me m in
       let b : Builds me front iw1 nv from iw2 nv2 end total =
       built_as pe1 m same_nv same_len front_is c.make_element-end.ensures.builds in
       b.total_is);
   block = (c.take_pivot-block.ensures.rows ∙ c.make_element-end.ensures.builds.sizes c.args.me
-      ∙ ap (λ z. size_of z c.args.me) c.make_room-from.ensures.same.0);
-  packed = (c.make_room-from.ensures.moved);
+      ∙ ap (λ z. size_of z c.args.me) (itself c.args.nv.now));
 }

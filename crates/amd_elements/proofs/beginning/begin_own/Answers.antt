@@ -25,6 +25,6 @@ returns g c = record {
       (own_inside c.args.me c.requires.pivot.laid c.make_own-total.ensures.makes.laid c.requires.pivot.listed));
   total = (c.make_own-total.ensures.builds.total_is);
   block = (c.take_pivot-block.ensures.rows ∙ c.make_own-total.ensures.builds.sizes c.args.me);
-  stays = ((refl, refl));
+  stays = refl;
   same = refl;
 }

@@ -1,6 +1,6 @@
 use Rattle.std.proofs.Common.{ℕ, Bool, false, ◌≡◌, ◌<◌, ◌≤◌, ◌&&◌, sym, subst, ◌∙◌, inl, inr, lt_irrefl}
 use Rattle.std.specs.Prelude.{◌==◌}
-use Rattle.std.proofs.lemmas.Bool.{and_left, and_right, ne_eqb}
+use Rattle.std.proofs.lemmas.Bool.{and_from, and_left, and_right, eq-eqb, ne_eqb}
 use Rattle.amd_words.specs.Sides.{lasts}
 use Rattle.amd_words.specs.Words.{num}
 use Rattle.amd_merging.specs.Merging.{as_long}
@@ -34,8 +34,18 @@ members-smaller g c =
     let inside = subst (λ n. c.members.j < n) c.row_count-n.ensures c.members-test.true in
     rw c.next_at-j.ensures.is (walk_less _ _ _ _ _ c.members.invariant inside)
 
-pub returns : goal.returns
-returns g c none j h =
+pub returns-then-is_as_long-clause-some : goal.returns-then-is_as_long-clause-some
+returns-then-is_as_long-clause-some g c on =
+    let inside = subst (λ n. c.members.j < n) c.row_count-n.ensures c.members-test.true in let j : ℕ = c.members.j in (
+      j,
+      walk_at _ _ _ _ _ c.members.invariant inside,
+      and_from (num (lasts c.args.sides.now) j == c.args.key) (as_long c.args.e_len.now c.args.len.now c.args.count c.args.few j)
+          (eq-eqb (num (lasts c.args.sides.now) j) c.args.key (sym c.last_at.ensures.is ∙ c.if-last_at-key.true))
+          (sym c.is_as_long.ensures ∙ c.if-is_as_long.true),
+    )
+
+pub returns-clause-none : goal.returns-clause-none
+returns-clause-none g c none j h =
     let outside = subst (λ n. n ≤ c.members.j) c.row_count-n.ensures c.members-test.false in
     elim (walk_end _ _ _ _ _ c.members.invariant outside) [
       | inl f ↦ absurd (lt_irrefl _ f.0)

@@ -1,4 +1,3 @@
-use Rattle.std.proofs.Common.{rules}
 use Rattle.std.proofs.Common.{ℕ, ℤ, List, ◌≡◌, inl, inr, true, cond, refl, arith, sym, ap, ◌∙◌, ◌+◌, ◌-◌, length, subst}
 use Rattle.amd_model.specs.Quotient.{has}
 use Rattle.amd_words.specs.Words.{num, word, place, start, rows}
@@ -6,11 +5,8 @@ use Rattle.amd_round_laws.specs.Rounds.{alike_in}
 use Rattle.amd_merging.specs.Merging.{Finds, IsRenewed, bucket, looks, kept_of, words_of}
 use Rattle.amd_lists.specs.Layout.{variables_in}
 use Rattle.amd_words.proofs.RowLists.{names_at}
-use Rattle.amd_merging.proofs.Likeness.{alike_counts, looks_alike}
-use Rattle.std.specs.Prelude.{◌==◌, ◌&&◌}
-use Rattle.std.proofs.lemmas.Bool.{cases_Bool, and_from, eq-eqb}
-use Rattle.amd_words.specs.Sides.{nexts, lasts}
-use Rattle.amd_model.proofs.Counting.Below.{clash}
+use Rattle.amd_merging.proofs.Likeness.{looks_alike}
+use Rattle.amd_words.specs.Sides.{nexts}
 use Rattle.amd_merging.proofs.merging.find.Goals as goal
 
 pub named-from-requires-clause-inside : goal.named-from-requires-clause-inside
@@ -69,40 +65,8 @@ returns g c = record {
         | inr p ↦ inr (p.0, λ x h. sym (is x h) ∙ p.1 x h)
       ]);
   long = (c.spread.ensures.long);
-  marked = (inr (λ x. c.spread.ensures.marked x ∙ ap (λ m.
+  marked = (λ x. c.spread.ensures.marked x ∙ ap (λ m.
       cond (has (rows c.args.iw.now (c.named-from.result + 1) (m - 1)) x) c.args.flag (num c.args.w.now x)) c.cell_at-count.ensures.is
       ∙ ap (λ s. cond (has (rows c.args.iw.now (s + 1) (num c.args.len.now c.args.i - 1)) x) c.args.flag (num c.args.w.now x))
-      c.named-from.ensures));
-}
-
-pub any_as_long-requires-clause-lengths : goal.any_as_long-requires-clause-lengths
-any_as_long-requires-clause-lengths g c = let l = c.requires.walk.lengths in let n = sym l.3 in (l.1 ∙ n, l.2 ∙ n)
-
-pub any_as_long-requires-clause-members : goal.any_as_long-requires-clause-members
-any_as_long-requires-clause-members g c j h = (c.requires.walk.members j h).counts
-
--- a class that is not as long is not alike
-pub returns-then-not-any_as_long : goal.returns-then-not-any_as_long
-returns-then-not-any_as_long g c = record {
-  found = (inr (
-    c.row_count.ensures,
-    λ x h.
-        let iw : List ℤ = c.args.iw.now in let pe : List ℤ = c.args.pe.now in let e_len : List ℤ = c.args.e_len.now in let len : List ℕ =
-        c.args.len.now in let i : ℕ = c.args.i in
-        elim (cases_Bool (alike_in (kept_of iw pe e_len) (variables_in iw pe e_len len) i x)) [
-          | inr f ↦ f
-          | inl t ↦
-              let q = alike_counts (length c.args.w.now) iw pe e_len len i x c.requires.here (c.requires.walk.members x h) t in
-              let key = c.requires.keys x h t ∙ sym c.last_at.ensures.is in
-              clash (and_from (num (lasts c.args.sides.now) x == c.last_at.result)
-              (num len x == c.cell_at-count.result && place (word e_len x) == c.named-few.result)
-              (eq-eqb (num (lasts c.args.sides.now) x) c.last_at.result key)
-              (and_from (num len x == c.cell_at-count.result) (place (word e_len x) == c.named-few.result)
-              (eq-eqb (num len x) c.cell_at-count.result (q.0 ∙ sym c.cell_at-count.ensures.is))
-              (eq-eqb (place (word e_len x)) c.named-few.result (q.1 ∙ sym c.named-few.ensures))))
-              (c.any_as_long.ensures c.if-not-any_as_long.true x h)
-        ],
-  ));
-  long = search rules;
-  marked = search rules;
+      c.named-from.ensures);
 }

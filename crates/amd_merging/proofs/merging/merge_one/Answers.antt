@@ -1,13 +1,16 @@
-use Rattle.std.proofs.Common.{true, ◌≡◌, [], inl, inr, refl, sym, ap, subst, ◌∙◌, arith, length, set}
-use Rattle.std.specs.Prelude.{◌==◌}
+use Rattle.std.proofs.Common.{ℕ, ℤ, List, true, ◌≡◌, inl, inr, refl, sym, ap, subst, ◌∙◌, arith, length, set}
+use Rattle.std.specs.Prelude.{◌==◌, ◌&&◌}
+use Rattle.std.proofs.lemmas.Bool.{cases_Bool, and_from, eq-eqb}
 use Rattle.amd_model.specs.Quotient.{has}
-use Rattle.amd_model.proofs.Listings.Words.{has_none}
-use Rattle.amd_words.specs.Words.{num}
+use Rattle.amd_model.proofs.Counting.Below.{clash}
+use Rattle.amd_round_laws.specs.Rounds.{alike_in}
+use Rattle.amd_words.specs.Words.{num, place, word}
+use Rattle.amd_lists.specs.Layout.{variables_in}
 use Rattle.amd_lists.specs.Chains.{Chain}
-use Rattle.amd_merging.specs.Merging.{bucket, bucket_of, words_of}
-use Rattle.amd_merging.proofs.BucketWalk.{links_is}
+use Rattle.amd_merging.specs.Merging.{bucket, bucket_of, kept_of, words_of, is_near, HasSome, HasNone}
+use Rattle.amd_merging.proofs.Likeness.{alike_counts}
 use Rattle.amd_words.proofs.WordMarks.{marked_below, marked_zero}
-use Rattle.std.proofs.Common.{le_refl, le-add_right, lt_of_le_of_lt, lt_irrefl, lt_of_lt_of_le, le_trans, le_of_eq, ◌+◌, ◌≤◌}
+use Rattle.std.proofs.Common.{le_refl, le-add_right, lt_of_le_of_lt, lt_irrefl, lt_of_lt_of_le, le_trans, le_of_eq, ◌+◌}
 use Rattle.amd_words.specs.Sides.{nexts, lasts}
 use Rattle.amd_words.proofs.SideLists.{nexts_same, lasts_same}
 use Rattle.amd_words.specs.Words.{size_of, in_front}
@@ -92,16 +95,40 @@ merge-requires g c = record {
 pub overflow_add-result : goal.overflow_add-result
 overflow_add-result g c = record { fits = lt_of_le_of_lt c.requires.room g.met.U.Unsigned.narrow }
 
-pub returns-then-head-row_count : goal.returns-then-head-row_count
-returns-then-head-row_count g c = record {
-  settles = (let next = (nexts c.args.sides.now) in
-      let head = num c.args.hash.now (bucket_of c.args.count (lasts c.args.sides.now) c.args.i) in
-      let key_is = c.bucket_at-key.ensures in let head_is : c.cell_at-head.result ≡ head = c.cell_at-head.ensures.is
-      ∙ ap (num c.args.hash.now) key_is in
-      let end : length next ≤ head = let b = c.if-head-row_count.true in let r = c.row_count.ensures in omega (arith, b, r, head_is) in
-      let none : bucket next head ≡ [] = links_is _ next _ head [] end (omega arith) in
-      inr (
-        (λ x h. absurd (has_none x (sym (ap (λ xs. has xs x) none) ∙ h))),
+pub is_compared-requires : goal.is_compared-requires
+is_compared-requires g c =
+    let head_is = c.cell_at-head.ensures.is ∙ ap (num c.args.hash.now) c.bucket_at-key.ensures in
+    let next = nexts c.args.sides.now in record {
+      lengths = (let l = c.requires.lengths in (l.1, l.3));
+      chain = subst (λ k. Chain (length next) next k (bucket next k)) (sym head_is) c.requires.ready.chain;
+      members = λ j h.
+          (c.requires.ready.members j (subst (λ k. has (bucket next k) j ≡ true) head_is h)).renewed.counts;
+      here = (c.requires.ready.here.row, c.requires.ready.here.counts);
+    }
+
+-- a class that is not near is not alike
+pub returns-then-not-is_compared : goal.returns-then-not-is_compared
+returns-then-not-is_compared g c =
+    let next = nexts c.args.sides.now in let last = lasts c.args.sides.now in let i : ℕ = c.args.i in
+    let iw : List ℤ = c.args.iw.now in let pe : List ℤ = c.args.pe.now in let e_len : List ℤ = c.args.e_len.now in
+    let len : List ℕ = c.args.len.now in let head = num c.args.hash.now (bucket_of c.args.count last i) in
+    let key_is = c.bucket_at-key.ensures in
+    let head_is : c.cell_at-head.result ≡ head = c.cell_at-head.ensures.is ∙ ap (num c.args.hash.now) key_is in
+    let none : HasNone (is_near e_len len last i) (bucket next head) =
+    subst (λ k. HasNone (is_near e_len len last i) (bucket next k)) head_is
+    (c.is_compared.ensures.none c.if-not-is_compared.true) in record {
+      settles = inr (
+        λ x h. elim (cases_Bool (alike_in (kept_of iw pe e_len) (variables_in iw pe e_len len) i x)) [
+          | inr f ↦ f
+          | inl t ↦
+              let q = alike_counts (length next) iw pe e_len len i x c.requires.ready.here (c.requires.ready.members x h).renewed t in
+              clash (and_from (num last x == num last i) (num len x == num len i && place (word e_len x) == place (word e_len i))
+              (eq-eqb (num last x) (num last i) (c.requires.ready.keys x h t))
+              (and_from (num len x == num len i) (place (word e_len x) == place (word e_len i))
+              (eq-eqb (num len x) (num len i) q.0)
+              (eq-eqb (place (word e_len x)) (place (word e_len i)) q.1)))
+              (none x h)
+        ],
         record {
           heads = c.push.ensures.heads
               ∙ ap (λ k. set c.args.hash.now k c.args.i) key_is;
@@ -111,14 +138,15 @@ returns-then-head-row_count g c = record {
           lists = refl;
           sizes = refl;
         },
-      ));
-  lengths = (let l = c.requires.lengths in
-      (l.0, l.1, l.2, l.3, l.4, c.push.auto.hash ∙ l.5, nexts_same _ _ c.push.auto.sides, lasts_same _ _ c.push.auto.sides ∙ l.7));
-  keys = (c.push.ensures.keys);
-  rises = ((le_refl c.args.flag, le-add_right c.args.flag 1));
-  under = (c.requires.under);
-  zeros = (λ x. refl);
-}
+      );
+      lengths = (let l = c.requires.lengths in
+          (l.0, l.1, l.2, l.3, l.4, c.push.auto.hash ∙ l.5, nexts_same _ _ c.push.auto.sides, lasts_same _ _ c.push.auto.sides ∙ l.7));
+      keys = c.push.ensures.keys;
+      spreads = inl (none, refl, refl);
+      rises = (le_refl c.args.flag, le-add_right c.args.flag 1);
+      under = c.requires.under;
+      zeros = λ x. refl;
+    }
 
 pub returns : goal.returns
 returns g c = record {
@@ -140,10 +168,10 @@ returns g c = record {
               nexts = ap nexts w.sides-is;
             },
           )
-          | inr h ↦ absurd (lt_irrefl _ (lt_of_lt_of_le w.if-found-row_count.true (le_of_eq (c.row_count-2.ensures ∙ sym h.0))))
+          | inr h ↦ absurd (lt_irrefl _ (lt_of_lt_of_le w.if-found-row_count.true (le_of_eq (c.row_count.ensures ∙ sym h.0))))
         ]
         | else-found-row_count w ↦ elim c.find-found.ensures.found [
-          | inl h ↦ absurd (lt_irrefl _ (lt_of_lt_of_le h.0 (le_trans (le_of_eq (sym c.row_count-2.ensures)) w.if-found-row_count.false)))
+          | inl h ↦ absurd (lt_irrefl _ (lt_of_lt_of_le h.0 (le_trans (le_of_eq (sym c.row_count.ensures)) w.if-found-row_count.false)))
           | inr h ↦ inr (
             (λ x m. h.1 x (subst (λ k. has (bucket next k) x ≡ true) (sym head_is) m)),
             record {
@@ -172,19 +200,20 @@ returns g c = record {
     | else-found-row_count w ↦ ap lasts w.sides-is ∙ w.push-else-found-row_count.ensures.keys
   ]);
   rises = ((le-add_right c.args.flag 1, le_refl (c.args.flag + 1)));
-  under = (λ x. elim c.find-found.ensures.marked [
-    | inl same ↦ let u = c.requires.under x in let e = ap (λ w. num w x) same in omega (arith, u, e)
-    | inr marks ↦
-        let m = marks x in
-        let b = marked_below (has (words_of c.args.iw.now c.args.pe.now c.args.len.now c.args.i) x) c.args.flag (num c.args.w.now x)
-        (c.requires.under x) in
-        omega (arith, m, b)
-  ]);
-  zeros = (λ x. elim c.find-found.ensures.marked [
-    | inl same ↦ ap (λ w. num w x == 0) same
-    | inr marks ↦
-        ap (λ k. k == 0) (marks x)
-        ∙ marked_zero (has (words_of c.args.iw.now c.args.pe.now c.args.len.now c.args.i) x) c.args.flag (num c.args.w.now x)
-        (c.requires.ready.standing x) (c.requires.under x)
-  ]);
+  spreads = (let head_is = c.cell_at-head.ensures.is ∙ ap (num c.args.hash.now) c.bucket_at-key.ensures in
+      inr (
+        subst (λ k. HasSome (is_near c.args.e_len.now c.args.len.now (lasts c.args.sides.now) c.args.i)
+            (bucket (nexts c.args.sides.now) k)) head_is (c.is_compared.ensures.some c.if-not-is_compared.false),
+        refl,
+        c.find-found.ensures.marked,
+      ));
+  under = (λ x.
+      let m = c.find-found.ensures.marked x in
+      let b = marked_below (has (words_of c.args.iw.now c.args.pe.now c.args.len.now c.args.i) x) c.args.flag (num c.args.w.now x)
+      (c.requires.under x) in
+      omega (arith, m, b));
+  zeros = (λ x.
+      ap (λ k. k == 0) (c.find-found.ensures.marked x)
+      ∙ marked_zero (has (words_of c.args.iw.now c.args.pe.now c.args.len.now c.args.i) x) c.args.flag (num c.args.w.now x)
+      (c.requires.ready.standing x) (c.requires.under x));
 }

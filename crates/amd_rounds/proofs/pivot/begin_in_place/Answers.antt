@@ -43,7 +43,7 @@ returns g c =
         begins = subst (λ xs. Begins (length p.nv.now) me xs front c.begin_own-begun.result.total p.iw.now p.nv.now p.pe.now
             p.e_len.now p.len.now v.iw v.nv v.pe v.e_len v.len p.free) none
             (subst (λ f. Begins (length p.nv.now) me [] front c.begin_own-begun.result.total p.iw.now p.nv.now p.pe.now
-            p.e_len.now p.len.now v.iw v.nv v.pe v.e_len v.len f) told.stays.0 begins);
+            p.e_len.now p.len.now v.iw v.nv v.pe v.e_len v.len f) told.stays begins);
         counters = λ e. ap (λ xs. cond (has xs e) 0 (num p.w.now e)) none;
         built_is = sym (ap (nat_lt 0) zero);
         before = λ e. absurd (true≢false (sym e));

@@ -5,6 +5,7 @@ use Rattle.amd_words.specs.Words.{classes, num, start}
 use Rattle.amd_merging.specs.Premises.{CanMergeFront}
 use Rattle.amd_merging.specs.Effects.{MergesClasses}
 use Rattle.amd_merging.specs.Merging.{AreRenewed}
+use Rattle.amd_fronts.specs.Effects.{KeepsOrResets}
 use Rattle.amd_lists.specs.Chains.{DegreeLists}
 use Rattle.amd_rounds.specs.Parts.{front_at}
 use Rattle.amd_rounds.specs.Workspaces.{workspace_of}
@@ -78,6 +79,13 @@ returns g c =
           hash = l.5 ∙ s.next;
         };
         same = rw (same.0, same.1, told.keys) refl;
+      };
+      flag = record {
+        first = c.renew_flag-flag.new.w;
+        flag = c.renew_flag-flag.result;
+        renewed = subst (λ m. KeepsOrResets g.U.Unsigned.MOST (p.flag + m) p.w.now c.renew_flag-flag.new.w c.renew_flag-flag.result)
+            c.max-work.ensures c.renew_flag-flag.ensures.renewed;
+        rises = told.rises;
       };
       loans = (refl, refl, refl, refl);
     }

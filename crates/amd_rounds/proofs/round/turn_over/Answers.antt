@@ -43,6 +43,7 @@ returns g c =
     record {
       turns = record {
         first = w;
+        renewed = c.renew_flag-flag.ensures.renewed;
         zeros = c.renew_flag-flag.ensures.zeros;
         under = c.renew_flag-flag.ensures.under;
         two = c.renew_flag-flag.ensures.two;

@@ -1,0 +1,126 @@
+-- Room for a new element in a workspace: where its lists were packed, what is asked of the element that is built, and what that leaves.
+use Rattle.std.proofs.Common.{ℕ, ℤ, true, false, List, ◌≡◌, ◌<◌, ◌+◌, refl, sym, ap, ◌∙◌, subst, arith, cond, length, sum_by}
+use Rattle.std.specs.Prelude.{nat_le, nat_lt}
+use Rattle.std.proofs.lemmas.Bool.{lt-ltb}
+use Rattle.amd_model.specs.Quotient.{has, Once}
+use Rattle.amd_words.specs.Words.{num, word, place, size_of}
+use Rattle.amd_lists.specs.Layout.{has_list, elements_in, Layout}
+use Rattle.amd_elements.specs.Beginning.{Begins}
+use Rattle.amd_elements.specs.Compaction.{Compacts, Packs}
+use Rattle.amd_elements.specs.Effects.{BeginsBuilt}
+use Rattle.amd_elements.specs.Pivots.{built_front}
+use Rattle.amd_elements.specs.Premises.{CanMakeElement}
+use Rattle.amd_elements.specs.declared.beginning.Begun.{Begun}
+use Rattle.amd_elements.proofs.Beginnings.{begins_moved}
+use Rattle.amd_elements.proofs.MakingRoom.{rooms_packed, rooms_elements, rooms_known, rooms_front, front_few}
+use Rattle.amd_elements.proofs.Moves.{packs}
+use Rattle.amd_elements.proofs.Settling.{lists_laid}
+use Rattle.amd_rounds.specs.Workspaces.{Workspace}
+use Rattle.amd_rounds.specs.Laid.{IsLaid, IsNarrow}
+use Rattle.amd_rounds.specs.Parts.{BeginsElement, MakesRoom}
+use Rattle.amd_rounds.specs.Premises.{CanBegin}
+
+module _ {nzaat me : ℕ} {p : Workspace} (laid : IsLaid (length p.nv) nzaat p) (pivot : CanBegin (length p.nv) me p) where
+  abbrev front : List ℕ
+  front = built_front p.iw p.nv p.pe p.e_len p.len me
+
+  listed : has_list p.pe p.len me ≡ true
+  listed = (laid.classes me pivot.class).0
+
+  known : (e : ℕ) → has (elements_in p.iw p.pe p.e_len me) e ≡ true → has_list p.pe p.len e ≡ true
+  known e h = laid.elements me e pivot.class h
+
+  -- the lists were packed
+  pub room_packed : (v : Workspace) → Compacts p.iw p.pe p.len p.free v.iw v.pe v.free →
+      v ≡ record p { iw = v.iw; pe = v.pe; free = v.free } → nat_le (p.free + length front) (length p.iw) ≡ false →
+      MakesRoom (length p.nv) me p (record v { n_cmp_a = v.n_cmp_a + 1 })
+  room_packed v moved same none =
+      let packed : Packs (length p.nv) p.iw p.pe p.e_len p.len p.free v.iw v.pe v.free =
+      subst (λ n. Packs n p.iw p.pe p.e_len p.len p.free v.iw v.pe v.free) laid.sized.len
+      (packs (subst (λ n. Layout n p.iw p.pe p.e_len p.len p.free) (sym laid.sized.len) laid.laid) moved) in record {
+        rooms = rooms_packed packed;
+        fits = (let few = front_few (length p.nv) p.iw p.nv p.pe p.len p.free me (place (word p.e_len me)) (laid.laid.parts me listed)
+            (lists_laid laid.laid me listed known) in
+            let count = packed.count in let words = laid.words in let room = laid.room in omega (arith, few, count, words, room));
+        packed = (let over : length p.iw < p.free + length front = grind (arith, none) in
+            let is : nat_lt (length p.iw) (p.free + length front) ≡ true = lt-ltb (length p.iw) (p.free + length front) over in
+            let stays : v.n_cmp_a ≡ p.n_cmp_a = ap (λ (q : Workspace). q.n_cmp_a) same in
+            ap (λ m. m + 1) stays ∙ sym (ap (λ b. p.n_cmp_a + cond b 1 0) is));
+        same = ap (λ (q : Workspace). record q { n_cmp_a = v.n_cmp_a + 1 }) same;
+      }
+
+  module _ {v : Workspace} (made : MakesRoom (length p.nv) me p v) where
+    elements_is : elements_in v.iw v.pe p.e_len me ≡ elements_in p.iw p.pe p.e_len me
+    elements_is = rooms_elements laid.laid made.rooms me listed known
+
+    front_is : built_front v.iw p.nv v.pe p.e_len p.len me ≡ front
+    front_is = rooms_front laid.laid made.rooms me listed known p.nv
+
+    -- the element can be built
+    pub can_make : (most_word most_cell : ℕ) → IsNarrow most_word most_cell (length p.nv) p →
+        CanMakeElement most_word most_cell me v.iw v.nv v.pe v.e_len v.len v.w v.free
+    can_make most_word most_cell wide = subst
+        (λ (q : Workspace). CanMakeElement most_word most_cell me q.iw q.nv q.pe q.e_len q.len q.w q.free)
+        (sym made.same) (record {
+          pivot = record {
+            lengths = (made.rooms.p_long ∙ laid.sized.pe, laid.sized.e_len, laid.sized.len);
+            end = (let a = made.rooms.lower in let b = laid.end in let c = made.rooms.long in omega (arith, a, b, c));
+            laid = made.rooms.laid;
+            row = (pivot.row, pivot.class);
+            listed = made.rooms.listed me ∙ listed;
+            clear = laid.clear;
+          };
+          counters = laid.sized.w;
+          wide = (wide.2, (let a = wide.0 in let c = made.rooms.long in omega (arith, a, c)));
+          cells = (let a = wide.1 in let c = made.rooms.long in omega (arith, a, c));
+          count = (laid.classes me pivot.class).1;
+          elements = record {
+            listed = rooms_known laid.laid made.rooms me listed known;
+            apart = ap (λ xs. has xs me) elements_is ∙ pivot.apart;
+            once = subst Once (sym elements_is) pivot.once;
+          };
+          fits = (let a = made.fits in let b = ap length front_is in let c = made.rooms.long in omega (arith, a, b, c));
+          few = (let a = pivot.few in let b = ap (sum_by (size_of p.nv)) front_is in let c = wide.2 in omega (arith, a, b, c));
+        })
+
+    module _ {iw nv pe e_len : List ℤ} {len w : List ℕ} {begun : Begun} (count : 0 < place (word p.e_len me))
+        (built : BeginsBuilt me v.iw v.nv v.pe v.e_len v.len v.w v.free iw nv pe e_len len w begun) where
+      told : BeginsBuilt me v.iw p.nv v.pe p.e_len p.len p.w v.free iw nv pe e_len len w begun
+      told = subst (λ (q : Workspace). BeginsBuilt me q.iw q.nv q.pe q.e_len q.len q.w q.free iw nv pe e_len len w begun) made.same built
+
+      begins : Begins (length p.nv) me (elements_in p.iw p.pe p.e_len me) front begun.total p.iw p.nv p.pe p.e_len p.len iw nv pe e_len len
+          begun.free
+      begins = begins_moved made.rooms
+          (subst (λ xs. Begins (length p.nv) me xs front begun.total v.iw p.nv v.pe p.e_len p.len iw nv pe e_len len begun.free) elements_is
+          (subst (λ xs. Begins (length p.nv) me (elements_in v.iw v.pe p.e_len me) xs begun.total v.iw p.nv v.pe p.e_len p.len iw nv pe
+          e_len len begun.free) front_is told.begins))
+
+      -- and it is begun over the lists as they were
+      pub begun_behind : BeginsElement (length p.nv) me begun.block begun.total true p
+          (record v { iw = iw; nv = nv; pe = pe; e_len = e_len; len = len; w = w; free = begun.free })
+      begun_behind = let s = laid.sized in record {
+        front = front;
+        front_is = refl;
+        begins = begins;
+        counters = λ e. told.counters e ∙ ap (λ xs. cond (has xs e) 0 (num p.w e)) elements_is;
+        built_is = sym (lt-ltb 0 (place (word p.e_len me)) count);
+        before = λ y j ne h. told.before j ne h;
+        total_is = told.total ∙ ap (sum_by (size_of p.nv)) front_is;
+        block_is = told.block;
+        end = told.end;
+        packed = made.packed;
+        sized = record {
+          pe = begins.p_long ∙ s.pe;
+          e_len = begins.e_long ∙ s.e_len;
+          nv = begins.wide;
+          len = begins.l_long ∙ s.len;
+          degree = ap (λ (q : Workspace). length q.degree) made.same ∙ s.degree;
+          w = told.long ∙ s.w;
+          head = ap (λ (q : Workspace). length q.head) made.same ∙ s.head;
+          next = ap (λ (q : Workspace). length q.next) made.same ∙ s.next;
+          last = ap (λ (q : Workspace). length q.last) made.same ∙ s.last;
+          hash = ap (λ (q : Workspace). length q.hash) made.same ∙ s.hash;
+        };
+        same = ap (λ (q : Workspace). record q { iw = iw; nv = nv; pe = pe; e_len = e_len; len = len; w = w; free = begun.free })
+            made.same;
+      }

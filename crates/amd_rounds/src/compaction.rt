@@ -1,0 +1,33 @@
+// Compaction of a workspace: its live lists move down, so that the words behind them are free. Source: Amestoy, Davis
+// and Duff 1996 (garbage collection). Called by `pivot`, where a new element would pass the end.
+
+ghost use Rattle.std.specs.Prelude.{ℕ, ◌≡◌, length};
+ghost use Rattle.amd_elements.specs.Compaction.{Compacts};
+ghost use Rattle.amd_rounds.specs.Compacting.{IsCompacted};
+ghost use Rattle.amd_rounds.specs.Laid.{IsLaid, IsNarrow};
+ghost use Rattle.amd_rounds.specs.Workspaces.{KeepsLoans, workspace_of};
+
+use crate::work::Work;
+use amd_elements::compaction::compact as pack;
+use amd_words::{Signed, Unsigned};
+
+/// Packs the lists of the workspace: what it stands for stays, and the words before the free end are exactly those of
+/// the lists of the classes and of the standing elements.
+#[cold]
+pub fn compact<S: Signed, U: Unsigned>(work: &mut Work<'_, S, U>)
+    requires wide { IsNarrow S.MOST U.MOST (length work.old.nv.now) (workspace_of work.old) }
+    requires laid { (nzaat : ℕ) × IsLaid (length work.old.nv.now) nzaat (workspace_of work.old) }
+    ensures compacts { IsCompacted (workspace_of work.old) (workspace_of work.new) }
+    ensures moves { Compacts work.old.iw.now work.old.pe.now work.old.len.now work.old.free work.new.iw.now
+        work.new.pe.now work.new.free }
+    ensures same { workspace_of work.new ≡ record (workspace_of work.old) {
+      iw = work.new.iw.now;
+      pe = work.new.pe.now;
+      free = work.new.free;
+    } }
+    ensures loans { KeepsLoans work.old work.new }
+{
+    let free = work.free;
+    let end = pack(work.iw, work.pe, work.len, free);
+    work.free = end;
+}
