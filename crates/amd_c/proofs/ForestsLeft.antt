@@ -1,15 +1,37 @@
 -- What the test of a forest finds, what the postorder leaves in a caller's array, and the same for the integers of C, whose values are
 -- themselves.
-use Rattle.std.proofs.Common.{◌≡◌, ◌<◌, ◌↔◌, inl, inr, ℕ, ℤ, pos, negsuc, Bool, true, false, cond, List, length, IsTrue, refl, ap, sym, ◌∙◌, subst}
+use Rattle.std.proofs.Common.{
+  ◌≡◌,
+  ◌<◌,
+  ◌↔◌,
+  inl,
+  inr,
+  ℕ,
+  ℤ,
+  pos,
+  negsuc,
+  Bool,
+  true,
+  false,
+  cond,
+  List,
+  length,
+  IsTrue,
+  refl,
+  ap,
+  sym,
+  ◌∙◌,
+  subst,
+}
 use Rattle.std.proofs.Common.{to_z, of_z, w32}
 use Rattle.std.specs.Prelude.{Option, None, Some, Result, Ok, Err, MatchResult, unsigned_abs, nat_lt, int_lt}
 use Rattle.std.proofs.lemmas.Bool.{and_parts, false≢true, ltb-true}
 use Rattle.std.proofs.lemmas.List.{map-id}
 use Rattle.amd_model.specs.Input.Columns.{at}
-use Rattle.amd_postorder.specs.Trees.{IsForest, is_element}
+use Rattle.amd_postorder.specs.Trees.{IsElementForest, is_tree_element}
 use Rattle.amd_types.specs.Links.{named}
 use Rattle.amd_types.specs.declared.amd.Status.{Status}
-use Rattle.amd_c.specs.Forests.{IsSound, AreParents, StaysInside, HasNoCycle, LeavesPostorder, PostorderInto, above_at}
+use Rattle.amd_c.specs.Forests.{IsSoundForest, AreParents, StaysInside, HasNoCycle, LeavesPostorder, PostorderInto, above_at}
 use Rattle.amd_c.specs.Numbers.{number_of}
 use Rattle.amd_c.proofs.Leaving.{values, answer_is}
 use Rattle.amd_c.proofs.WalksUp.{some_is, some_none, above_within}
@@ -26,21 +48,21 @@ picks : (b : Bool) (o : Option ℕ) (p : ℕ) → b ≡ true → o ≡ Some p �
 picks true o p t e = e
 picks false o p t e = absurd (false≢true t)
 
-element_inside : (nn : ℕ) (nv : List ℤ) (e : ℕ) → is_element nn nv e ≡ true → e < nn
+element_inside : (nn : ℕ) (nv : List ℤ) (e : ℕ) → is_tree_element nn nv e ≡ true → e < nn
 element_inside nn nv e h = ltb-true e nn (and_parts (nat_lt e nn) (int_lt (pos 0) (at nv e)) h).0
 
 module _ (parent nv f_size : List ℤ) (nv_room : length nv ≡ length parent) (f_size_room : length f_size ≡ length parent)
     (above : List (Option ℕ)) (are : AreParents parent nv above)
   where
     -- an element has as parent what stands above it
-    parent_is : (e p : ℕ) → above_at above e ≡ Some p → (is_element (length parent) nv e ≡ true) × (at parent e ≡ pos p)
+    parent_is : (e p : ℕ) → above_at above e ≡ Some p → (is_tree_element (length parent) nv e ≡ true) × (at parent e ≡ pos p)
     parent_is e p is =
         let inside : e < length parent = subst (λ k. e < k) are.room (above_within above e p is) in
-        let both = picked (is_element (length parent) nv e) (named (at parent e)) p (sym (are.each e inside) ∙ is) in
+        let both = picked (is_tree_element (length parent) nv e) (named (at parent e)) p (sym (are.each e inside) ∙ is) in
         (both.0, named_is (at parent e) p both.1)
 
     -- where each place is sound, each parent is a place
-    pub stays_inside : ((e : ℕ) → e < length parent → IsSound parent nv f_size e) → StaysInside above
+    pub stays_inside : ((e : ℕ) → e < length parent → IsSoundForest parent nv f_size e) → StaysInside above
     stays_inside sound e p is =
         let q = parent_is e p is in
         let inside = element_inside (length parent) nv e q.0 in
@@ -51,8 +73,8 @@ module _ (parent nv f_size : List ℤ) (nv_room : length nv ≡ length parent) (
         ]
 
     -- sound places without a cycle are a forest
-    pub forest_from : ((e : ℕ) → e < length parent → IsSound parent nv f_size e) → HasNoCycle above →
-        IsForest (length parent) parent nv f_size
+    pub forest_from : ((e : ℕ) → e < length parent → IsSoundForest parent nv f_size e) → HasNoCycle above →
+        IsElementForest (length parent) parent nv f_size
     forest_from sound f = record {
       parent_room = refl;
       nv_room = nv_room;
@@ -61,19 +83,19 @@ module _ (parent nv f_size : List ℤ) (nv_room : length nv ≡ length parent) (
       parents = λ e h. (sound e (element_inside (length parent) nv e h) h).1;
       rank = f.rank;
       rises = λ e p h is. f.rises e p (are.each e (element_inside (length parent) nv e h)
-          ∙ picks (is_element (length parent) nv e) (named (at parent e)) p h (ap named is));
+          ∙ picks (is_tree_element (length parent) nv e) (named (at parent e)) p h (ap named is));
     }
 
     -- and a forest has no cycle
-    pub forest_rises : IsForest (length parent) parent nv f_size → HasNoCycle above
+    pub forest_rises : IsElementForest (length parent) parent nv f_size → HasNoCycle above
     forest_rises f = record {
       rank = f.rank;
       rises = λ e p is. (let q = parent_is e p is in f.rises e p q.0 q.1);
     }
 
 -- each place of a forest is sound
-pub forest_sound : (parent nv f_size : List ℤ) → IsForest (length parent) parent nv f_size → (e : ℕ) → e < length parent →
-    IsSound parent nv f_size e
+pub forest_sound : (parent nv f_size : List ℤ) → IsElementForest (length parent) parent nv f_size → (e : ℕ) → e < length parent →
+    IsSoundForest parent nv f_size e
 forest_sound parent nv f_size f e inside h = (f.sizes e h, f.parents e h)
 
 -- a test that tells one of two equal things tells the other

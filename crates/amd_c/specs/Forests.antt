@@ -3,7 +3,7 @@
 use Rattle.std.specs.Prelude.{◌≡◌, ◌≢◌, ◌<◌, ◌≤ℤ◌, ◌⊎◌, ℕ, ℤ, pos, negsuc, true, Option, None, Some, List, cond}
 use Rattle.std.specs.Prelude.{length, slice_index, slice_index_or, unsigned_abs}
 use Rattle.amd_model.specs.Input.Columns.{at}
-use Rattle.amd_postorder.specs.Trees.{IsForest, IsPostorderOf, is_element, tree_of}
+use Rattle.amd_postorder.specs.Trees.{IsElementForest, IsPostorderOf, is_tree_element, tree_of}
 use Rattle.amd_types.specs.Links.{named}
 use Rattle.amd_types.specs.declared.amd.Status.{Status}
 use Rattle.amd_types.specs.declared.amd.Status.TheVariants.{OK, Invalid, OkButJumbled, OutOfMemory}
@@ -12,10 +12,10 @@ use Rattle.amd_c.specs.Numbers.{number_of}
 -- ---- the test
 
 -- if place e holds an element, it has a size, and as parent an element or -1
-abbrev pub IsSound : List ℤ → List ℤ → List ℤ → ℕ → Type 0
-IsSound parent nv f_size e = is_element (length parent) nv e ≡ true →
+abbrev pub IsSoundForest : List ℤ → List ℤ → List ℤ → ℕ → Type 0
+IsSoundForest parent nv f_size e = is_tree_element (length parent) nv e ≡ true →
     (pos 0 ≤ℤ at f_size e) × ((at parent e ≡ negsuc 0) ⊎
-    ((p : ℕ) × (at parent e ≡ pos p) × (is_element (length parent) nv p ≡ true)))
+    ((p : ℕ) × (at parent e ≡ pos p) × (is_tree_element (length parent) nv p ≡ true)))
 
 -- the place above place e, if there is one
 abbrev pub above_at : List (Option ℕ) → ℕ → Option ℕ
@@ -23,7 +23,7 @@ above_at above e = slice_index_or above e None
 
 -- the parent of the element at place e, if there are both
 abbrev pub parent_in : List ℤ → List ℤ → ℕ → Option ℕ
-parent_in parent nv e = cond (is_element (length parent) nv e) (named (at parent e)) None
+parent_in parent nv e = cond (is_tree_element (length parent) nv e) (named (at parent e)) None
 
 -- the place above each place is that of its parent
 pub record AreParents (parent nv : List ℤ) (above : List (Option ℕ)) : Type 0 where
@@ -58,9 +58,9 @@ HasForestPlaces n parent nv f_size order = (n ≡ pos (length parent)) × (n ≡
 -- where an array has not n places, or the lists are no forest
 abbrev pub LeavesPostorder : ℤ → List ℤ → List ℤ → List ℤ → List ℤ → List ℤ → Status → Type 0
 LeavesPostorder n parent nv f_size old new OK =
-    IsForest (unsigned_abs n) parent nv f_size × IsPostorderOf (tree_of (unsigned_abs n) parent nv f_size) new
+    IsElementForest (unsigned_abs n) parent nv f_size × IsPostorderOf (tree_of (unsigned_abs n) parent nv f_size) new
 LeavesPostorder n parent nv f_size old new Invalid =
-    (HasForestPlaces n parent nv f_size old → ¬ (IsForest (unsigned_abs n) parent nv f_size)) × (new ≡ old)
+    (HasForestPlaces n parent nv f_size old → ¬ (IsElementForest (unsigned_abs n) parent nv f_size)) × (new ≡ old)
 LeavesPostorder n parent nv f_size old new OutOfMemory = HasForestPlaces n parent nv f_size old × (new ≡ old)
 LeavesPostorder n parent nv f_size old new OkButJumbled = ⊥
 

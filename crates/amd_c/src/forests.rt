@@ -6,8 +6,8 @@
 ghost use Rattle.std.specs.Prelude.{◌≡◌, ◌≢◌, ◌+◌, ◌<◌, ◌^◌, ◌↔◌, ◌⊎◌, ℕ, IsTrue, IfOk, IfErr, IfSome, MatchResult};
 ghost use Rattle.std.specs.Prelude.{length, map, slice_index, true};
 ghost use Rattle.amd_model.specs.Input.Columns.{at};
-ghost use Rattle.amd_postorder.specs.Trees.{IsForest, IsPostorderOf, tree_of};
-ghost use Rattle.amd_c.specs.Forests.{AreParents, HasForestPlaces, HasNoCycle, IsSound, LeavesPostorder, MarksRise};
+ghost use Rattle.amd_postorder.specs.Trees.{IsElementForest, IsPostorderOf, tree_of};
+ghost use Rattle.amd_c.specs.Forests.{AreParents, HasForestPlaces, HasNoCycle, IsSoundForest, LeavesPostorder, MarksRise};
 ghost use Rattle.amd_c.specs.Forests.{StaysInside, parent_in};
 
 use crate::patterns::has_row_places;
@@ -76,7 +76,7 @@ fn is_sound(e: usize, parent: &[isize], nv: &[isize], f_size: &[isize]) -> bool
     requires place { e < length parent.now }
     requires nv { length nv.now ≡ length parent.now }
     requires f_size { length f_size.now ≡ length parent.now }
-    ensures { IsTrue result ↔ IsSound parent.now nv.now f_size.now e }
+    ensures { IsTrue result ↔ IsSoundForest parent.now nv.now f_size.now e }
 {
     if nv[e] <= 0 {
         return true;
@@ -94,7 +94,7 @@ fn is_sound(e: usize, parent: &[isize], nv: &[isize], f_size: &[isize]) -> bool
 fn are_sound(parent: &[isize], nv: &[isize], f_size: &[isize]) -> bool
     requires nv { length nv.now ≡ length parent.now }
     requires f_size { length f_size.now ≡ length parent.now }
-    ensures { IsTrue result ↔ ((e : ℕ) → e < length parent.now → IsSound parent.now nv.now f_size.now e) }
+    ensures { IsTrue result ↔ ((e : ℕ) → e < length parent.now → IsSoundForest parent.now nv.now f_size.now e) }
 {
     'places: for e in 0..parent.len() {
         if !is_sound(e, parent, nv, f_size) {
@@ -194,7 +194,7 @@ fn is_forest(
     requires nv { length nv.now ≡ length parent.now }
     requires f_size { length f_size.now ≡ length parent.now }
     requires room { length parent.now < 2 ^ 63 }
-    ensures { MatchResult result (λ b. IsTrue b ↔ IsForest (length parent.now) parent.now nv.now f_size.now)
+    ensures { MatchResult result (λ b. IsTrue b ↔ IsElementForest (length parent.now) parent.now nv.now f_size.now)
         (λ e. e ≡ Status.OutOfMemory) }
 {
     if !are_sound(parent, nv, f_size) {
@@ -218,12 +218,12 @@ fn postorder_of<I: PrimInt>(
 ) -> Result<Vec<I, Global>, Status>
     requires nv { length nv.now ≡ length parent.now }
     requires f_size { length f_size.now ≡ length parent.now }
-    ensures forest { IfOk result (λ v. IsForest (length parent.now) (map I.value parent.now) (map I.value nv.now)
+    ensures forest { IfOk result (λ v. IsElementForest (length parent.now) (map I.value parent.now) (map I.value nv.now)
         (map I.value f_size.now)) }
     ensures postorder { IfOk result (λ v. IsPostorderOf (tree_of (length parent.now) (map I.value parent.now)
         (map I.value nv.now) (map I.value f_size.now)) (map I.value v.items)) }
     ensures refused { IfErr result (λ e. (e ≡ Status.OutOfMemory) ⊎ ((e ≡ Status.Invalid) ×
-        ¬ (IsForest (length parent.now) (map I.value parent.now) (map I.value nv.now) (map I.value f_size.now)))) }
+        ¬ (IsElementForest (length parent.now) (map I.value parent.now) (map I.value nv.now) (map I.value f_size.now)))) }
 {
     let above = signed_of(alloc, parent)?;
     let rows = signed_of(alloc, nv)?;

@@ -3,7 +3,7 @@ use Rattle.std.proofs.Common.{◌≡◌, ℤ, Option, Some, None, List, [], ◌�
 use Rattle.std.specs.Prelude.{option_to_list, unwrap_or}
 use Rattle.std.specs.List.{flat_map}
 use Rattle.std.proofs.lemmas.Grind.{flat_map-append}
-use Rattle.amd_cases.specs.Items.{IsInside, size_of, dense_of, aggressive_of, pointers_of, rows_of, hold_of, permutation_of, room_of}
+use Rattle.amd_cases.specs.Items.{IsInside, sizes_told, dense_of, aggressive_of, pointers_of, rows_of, hold_of, permutation_of, room_of}
 use Rattle.amd_cases.specs.Items.{list_items}
 use Rattle.amd_cases.specs.Drafts.{Adds, Finishes}
 use Rattle.amd_cases.specs.Spelling.{AllInside, IsOrElse, SpellsCase}
@@ -16,7 +16,7 @@ use Rattle.amd_cases.specs.declared.cases.Case.{Case}
 pub record Gathers {Z : Type 0} (number : ℤ) (body : List (Item Z)) (d : Draft Z) : Type 0 where
   pub numbered : d.number ≡ number
   pub inside : AllInside body
-  pub size : flat_map size_of body ≡ option_to_list d.n
+  pub size : flat_map sizes_told body ≡ option_to_list d.n
   pub dense : flat_map dense_of body ≡ option_to_list d.dense
   pub aggressive : flat_map aggressive_of body ≡ option_to_list d.aggressive
   pub pointers : flat_map pointers_of body ≡ list_items d.a_p
@@ -69,7 +69,7 @@ pub gathers-more : {Z : Type 0} (number : ℤ) (body : List (Item Z)) (old new :
 gathers-more number body old new i h k = record {
   numbered = k.number ∙ h.numbered;
   inside = inside-more body i h.inside k.inside;
-  size = told-more size_of body i _ _ h.size k.size;
+  size = told-more sizes_told body i _ _ h.size k.size;
   dense = told-more dense_of body i _ _ h.dense k.dense;
   aggressive = told-more aggressive_of body i _ _ h.aggressive k.aggressive;
   pointers = told-more pointers_of body i _ _ h.pointers k.pointers;

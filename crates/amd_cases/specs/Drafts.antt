@@ -1,7 +1,7 @@
 -- A case of which some items were read.
 use Rattle.std.specs.Prelude.{◌≡◌, ℕ, ◌+◌, pos, Bool, true, ◌&&◌, Option, None, Some, ◌++◌, is_some, unwrap_or}
 use Rattle.std.specs.Prelude.{option_to_list}
-use Rattle.amd_cases.specs.Items.{size_of, dense_of, aggressive_of, pointers_of, rows_of, hold_of, permutation_of}
+use Rattle.amd_cases.specs.Items.{sizes_told, dense_of, aggressive_of, pointers_of, rows_of, hold_of, permutation_of}
 use Rattle.amd_cases.specs.Items.{room_of, list_items}
 use Rattle.amd_cases.specs.Items.{IsInside}
 use Rattle.amd_cases.specs.declared.items.Item.{Item}
@@ -12,7 +12,7 @@ use Rattle.amd_cases.specs.declared.cases.Case.{Case}
 pub record Adds {Z : Type 0} (old new : Draft Z) (item : Item Z) : Type 0 where
   pub inside : IsInside item
   pub number : new.number ≡ old.number
-  pub size : option_to_list new.n ≡ option_to_list old.n ++ size_of item
+  pub size : option_to_list new.n ≡ option_to_list old.n ++ sizes_told item
   pub dense : option_to_list new.dense ≡ option_to_list old.dense ++ dense_of item
   pub aggressive : option_to_list new.aggressive ≡ option_to_list old.aggressive ++ aggressive_of item
   pub pointers : list_items new.a_p ≡ list_items old.a_p ++ pointers_of item

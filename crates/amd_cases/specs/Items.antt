@@ -75,9 +75,9 @@ pub record SpellsItem {Z : Type 0} (line : List ℕ) (item : Item Z) : Type 0 wh
   pub fits : FitsItem item
 
 -- the number of rows and columns that an item tells, if any
-abbrev pub size_of : {Z : Type 0} → Item Z → List ℤ
-size_of (Size n) = n ∷ []
-size_of _ = []
+abbrev pub sizes_told : {Z : Type 0} → Item Z → List ℤ
+sizes_told (Size n) = n ∷ []
+sizes_told _ = []
 
 -- the dense row parameter that an item tells, if any
 abbrev pub dense_of : {Z : Type 0} → Item Z → List ℤ

@@ -1,7 +1,7 @@
 -- The items that spell a case.
 use Rattle.std.specs.Prelude.{◌≡◌, pos, true, List, [], ◌∷◌, ◌++◌, option_to_list}
 use Rattle.std.specs.List.{flat_map}
-use Rattle.amd_cases.specs.Items.{IsInside, size_of, dense_of, aggressive_of, pointers_of, rows_of, hold_of}
+use Rattle.amd_cases.specs.Items.{IsInside, sizes_told, dense_of, aggressive_of, pointers_of, rows_of, hold_of}
 use Rattle.amd_cases.specs.Items.{permutation_of, room_of}
 use Rattle.amd_cases.specs.Items.{list_items}
 use Rattle.amd_cases.specs.declared.items.Item.{Item}
@@ -25,7 +25,7 @@ pub record SpellsCase {Z : Type 0} (items : List (Item Z)) (case : Case Z) : Typ
   pub body : List (Item Z)
   pub framed : items ≡ item.Case case.number ∷ (body ++ item.End ∷ [])
   pub inside : AllInside body
-  pub size : flat_map size_of body ≡ case.n ∷ []
+  pub size : flat_map sizes_told body ≡ case.n ∷ []
   pub dense : IsOrElse (flat_map dense_of body) (pos 10000) case.dense
   pub aggressive : IsOrElse (flat_map aggressive_of body) true case.aggressive
   pub pointers : flat_map pointers_of body ≡ case.a_p.items ∷ []

@@ -8,7 +8,7 @@ use Rattle.std.proofs.lemmas.List.{nil_from_length}
 use Rattle.std.proofs.KnownBytes.{Appends-nil, Appends-trans}
 use Rattle.std.specs.Prelude.{codes}
 use Rattle.amd_types.specs.declared.amd.Info.{Info}
-use Rattle.amd_demos.specs.Lines.{each, parted, failure_line, record_lines, permutation_lines}
+use Rattle.amd_demos.specs.Lines.{each_of, parted, failure_line, record_lines, permutation_lines}
 use Rattle.amd_demos.specs.Demos.{Grows, EndsInFailure, HasDemo, HasEnd, IsEnd, IsWanted, wanted_status}
 use Rattle.amd_demos.specs.declared.demo.Form.{Form}
 
@@ -18,7 +18,7 @@ parted-none xs a h = subst (λ z. Appends a a (parted z)) (sym (nil_from_length 
 
 -- a first number, and the others
 pub parted-some : (xs rest : List ℤ) (x y : ℤ) (a b c : Option (List ℕ)) → xs ≡ y ∷ rest → x ≡ y → Appends a b (signed_decimal x)
-    → Appends b c (each (codes ", ") rest) → Appends a c (parted xs)
+    → Appends b c (each_of (codes ", ") rest) → Appends a c (parted xs)
 parted-some xs rest x y a b c split same first others =
     let named = split ∙ ap (λ z. z ∷ rest) (sym same) in
     subst (λ z. Appends a c (parted z)) (sym named) (Appends-trans a b c _ _ first others)

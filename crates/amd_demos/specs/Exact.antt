@@ -8,26 +8,26 @@ use Rattle.amd_factor.specs.Earlier.{Permutes}
 use Rattle.amd_types.specs.declared.amd.Info.{Info}
 
 -- how many entries each column has, with a space in front of each number
-abbrev pub counts : List (List ℕ) → List ℕ
-counts [] = []
-counts (column ∷ rest) = (codes " " ++ decimal (length column)) ++ counts rest
+abbrev pub column_counts : List (List ℕ) → List ℕ
+column_counts [] = []
+column_counts (column ∷ rest) = (codes " " ++ decimal (length column)) ++ column_counts rest
 
 -- the line of a figure: what the factor needs, and the bound
-abbrev pub beside_line : List ℕ → ℕ → ℕ → List ℕ
-beside_line name exact bound = name ++ codes ": exact " ++ decimal exact ++ codes ", bound " ++ decimal bound ++ codes
+abbrev pub exact_line : List ℕ → ℕ → ℕ → List ℕ
+exact_line name exact bound = name ++ codes ": exact " ++ decimal exact ++ codes ", bound " ++ decimal bound ++ codes
     "\n"
 
 -- the lines of the figures of a factor with these columns, and of a record
 abbrev pub figure_lines : List (List ℕ) → Info → List ℕ
 figure_lines columns info =
-    beside_line (codes "nonzeros in L (excluding diagonal)") (needed entries columns) info.lnz
-    ++ beside_line (codes "multiply-subtract operations for LDL'") (needed ldl_steps columns) info.n_mult_subs_ldl
-    ++ beside_line (codes "multiply-subtract operations for LU") (needed lu_steps columns) info.n_mult_subs_lu
-    ++ beside_line (codes "max nz. in any column of L (incl. diagonal)") (needed_front columns) info.d_max
+    exact_line (codes "nonzeros in L (excluding diagonal)") (needed entries columns) info.lnz
+    ++ exact_line (codes "multiply-subtract operations for LDL'") (needed ldl_steps columns) info.n_mult_subs_ldl
+    ++ exact_line (codes "multiply-subtract operations for LU") (needed lu_steps columns) info.n_mult_subs_lu
+    ++ exact_line (codes "max nz. in any column of L (incl. diagonal)") (needed_front columns) info.d_max
 
 -- the lines of the columns, and of the figures
 abbrev pub exact_lines : List (List ℕ) → Info → List ℕ
-exact_lines columns info = (codes "\nExact column counts of the factor:\n" ++ (counts columns ++ codes "\n")) ++
+exact_lines columns info = (codes "\nExact column column_counts of the factor:\n" ++ (column_counts columns ++ codes "\n")) ++
     figure_lines columns info
 
 -- a text tells the factor of a matrix with n rows under the order p, beside the bounds in a record

@@ -11,14 +11,14 @@ abbrev pub failure_line : List ℕ
 failure_line = codes "AMD failed\n"
 
 -- the numbers, each with a text in front of it
-abbrev pub each : List ℕ → List ℤ → List ℕ
-each before [] = []
-each before (x ∷ xs) = (before ++ signed_decimal x) ++ each before xs
+abbrev pub each_of : List ℕ → List ℤ → List ℕ
+each_of before [] = []
+each_of before (x ∷ xs) = (before ++ signed_decimal x) ++ each_of before xs
 
 -- the numbers, parted by commas
 abbrev pub parted : List ℤ → List ℕ
 parted [] = []
-parted (x ∷ xs) = signed_decimal x ++ each (codes ", ") xs
+parted (x ∷ xs) = signed_decimal x ++ each_of (codes ", ") xs
 
 -- the line of a name and a list in brackets
 abbrev pub list_line : List ℕ → List ℤ → List ℕ
@@ -26,7 +26,7 @@ list_line name xs = ((name ++ codes " = [") ++ parted xs) ++ codes "]\n"
 
 -- the lines of a title and a vector, and an empty line
 abbrev pub vector_lines : List ℕ → List ℤ → List ℕ
-vector_lines title xs = ((title ++ codes "\n") ++ each (codes " ") xs) ++ codes "\n\n"
+vector_lines title xs = ((title ++ codes "\n") ++ each_of (codes " ") xs) ++ codes "\n\n"
 
 -- the name of a status
 abbrev pub status_name : Status → List ℕ

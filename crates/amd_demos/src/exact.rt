@@ -3,7 +3,7 @@
 
 ghost use Rattle.std.specs.Prelude.{◌≡◌, ℕ, List, ◌++◌, codes, true, false, IfOk, OnOk};
 ghost use Rattle.std.specs.Io.KnownBytes.{Appends};
-ghost use Rattle.amd_demos.specs.Exact.{beside_line, counts, exact_lines, figure_lines, HasExact};
+ghost use Rattle.amd_demos.specs.Exact.{exact_line, column_counts, exact_lines, figure_lines, HasExact};
 ghost use Rattle.amd_demos.specs.Lines.{failure_line};
 ghost use Rattle.amd_symbolic.specs.Needs.{IsNeed, TellSizes};
 
@@ -20,7 +20,7 @@ use std::io::Write;
 fn write_counts<W: Write>(ptr: &[usize], out: &mut W) -> io::Result<()>
     requires { (columns : List (List ℕ)) × TellSizes columns ptr.now }
     ensures { OnOk result ((columns : List (List ℕ)) → TellSizes columns ptr.now →
-        Appends (W.contents out.old) (W.contents out.new) (counts columns ++ codes "\n")) }
+        Appends (W.contents out.old) (W.contents out.new) (column_counts columns ++ codes "\n")) }
 {
     'columns: for k in 0..ptr.len() - 1 {
         let size = column_size(ptr, k);
@@ -32,7 +32,7 @@ fn write_counts<W: Write>(ptr: &[usize], out: &mut W) -> io::Result<()>
 
 /// Writes a line of a figure: what the factor needs, and the bound.
 fn write_beside<W: Write>(name: &str, exact: u128, bound: usize, out: &mut W) -> io::Result<()>
-    ensures { OnOk result (Appends (W.contents out.old) (W.contents out.new) (beside_line name.now exact bound)) }
+    ensures { OnOk result (Appends (W.contents out.old) (W.contents out.new) (exact_line name.now exact bound)) }
 {
     writeln!(out, "{name}: exact {exact}, bound {bound}")
 }

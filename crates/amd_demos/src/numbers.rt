@@ -2,14 +2,14 @@
 
 ghost use Rattle.std.specs.Prelude.{OnOk};
 ghost use Rattle.std.specs.Io.KnownBytes.{Appends};
-ghost use Rattle.amd_demos.specs.Lines.{each, list_line, parted, vector_lines};
+ghost use Rattle.amd_demos.specs.Lines.{each_of, list_line, parted, vector_lines};
 
 use std::io;
 use std::io::Write;
 
 /// Writes each number, with `before` in front of it.
 pub fn write_each<W: Write>(before: &str, numbers: &[i32], out: &mut W) -> io::Result<()>
-    ensures { OnOk result (Appends (W.contents out.old) (W.contents out.new) (each before.now numbers.now)) }
+    ensures { OnOk result (Appends (W.contents out.old) (W.contents out.new) (each_of before.now numbers.now)) }
 {
     for &number in numbers {
         write!(out, "{before}{number}")?;

@@ -5,7 +5,7 @@ use Rattle.std.specs.Prelude.{◌==◌}
 use Rattle.std.proofs.lemmas.Bool.{cases_eq, eq-eqb, cond-true, cond-false, ne_eqb}
 use Rattle.std.proofs.Math.Bool.{and-true, and-false}
 use Rattle.amd_model.specs.Quotient.{has}
-use Rattle.amd_words.specs.Words.{num, start, rows, rows_in, inside, size_of, in_front, Names}
+use Rattle.amd_words.specs.Words.{num, start, rows, rows_in, is_negative, size_of, in_front, Names}
 use Rattle.amd_elements.specs.Element.{Builds}
 use Rattle.amd_lists.specs.Layout.{has_list, end_of, Layout}
 use Rattle.amd_elements.specs.Making.{Makes}
@@ -25,11 +25,11 @@ module _ (nv : List ℤ) (me : ℕ) (small : me < length nv) where
   ]
 
   pub emptied_front : (j : ℕ) → in_front (set nv me (pos 0)) j ≡ (in_front nv j && not (j == me))
-  unfolding inside
+  unfolding is_negative
   emptied_front j = elim (cases_eq j me) [
-    | inl q ↦ rw q (ap inside (get_or-set_same nv me (pos 0) (pos 0) small)
+    | inl q ↦ rw q (ap is_negative (get_or-set_same nv me (pos 0) (pos 0) small)
         ∙ sym (ap (λ b. in_front nv me && not b) (eq-eqb me me refl) ∙ and-false (in_front nv me)))
-    | inr ne ↦ ap inside (get_or-set_other nv me j (pos 0) (pos 0) ne)
+    | inr ne ↦ ap is_negative (get_or-set_other nv me j (pos 0) (pos 0) ne)
         ∙ sym (ap (λ b. in_front nv j && not b) (ne_eqb j me ne) ∙ and-true (in_front nv j))
   ]
 
@@ -54,7 +54,7 @@ module _ {n : ℕ} {iw nv pe e_len : List ℤ} {len : List ℕ} {free : ℕ} {iw
       (sizes : (j : ℕ) → size_of nv3 j ≡ cond (j == me) 0 (size_of nv2 j))
       (marks : (j : ℕ) → in_front nv3 j ≡ (in_front nv2 j && not (j == me))) where
     pub begins : (end_of pe2 len2 me ≤ free2) → Begins n me absorbed front total iw nv pe e_len len iw2 nv3 pe2 e_len2 len2 free2
-    begins inside = record {
+    begins is_negative = record {
       long = b.long ∙ r.long;
       wide = long ∙ b.wide;
       p_long = m.p_long ∙ r.p_long;
@@ -64,7 +64,7 @@ module _ {n : ℕ} {iw nv pe e_len : List ℤ} {len : List ℕ} {free : ℕ} {iw
       list = m.list;
       names = subst (λ s. Names n iw2 s (num len2 me)) (sym at) (subst (Names n iw2 from) (sym count_is)
           (subst (λ k. Names k iw2 from (end - from)) wide b.names));
-      inside = inside;
+      is_negative = is_negative;
       rows_is = m.rows_is;
       sizes = λ j. sizes j ∙ ap (cond (j == me) 0) (b.sizes j);
       marks = λ j. marks j ∙ ap (λ x. x && not (j == me)) (b.front_is j) ∙ left_front j me front apart;
@@ -94,7 +94,7 @@ begins_moved {n} {pe = pe} {len = len} {pe1 = pe1} r m = record {
   starts = m.starts;
   list = m.list;
   names = m.names;
-  inside = m.inside;
+  is_negative = m.inside;
   rows_is = m.rows_is;
   sizes = m.sizes;
   marks = m.marks;

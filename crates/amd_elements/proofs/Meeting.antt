@@ -15,7 +15,7 @@ use Rattle.amd_model.proofs.Listings.Words.{has_filter as filter_gives}
 use Rattle.amd_round_laws.specs.Rounds.{firsts}
 use Rattle.amd_round_laws.proofs.Lists.Added.{same_adds, adds_marks}
 use Rattle.amd_round_laws.proofs.Fronts.Gathered.{firsts_gives}
-use Rattle.amd_words.specs.Words.{num, place, word, start, size_of, in_front, classes, rows, rows_in, inside}
+use Rattle.amd_words.specs.Words.{num, place, word, start, size_of, in_front, classes, rows, rows_in, is_negative}
 use Rattle.amd_elements.specs.Element.{elements_at, variables_at, members_at, front_of, ListsLaid}
 use Rattle.amd_elements.specs.Room.{Meets, Unmarks, named_around}
 use Rattle.amd_words.proofs.WordMarks.{both_not}
@@ -160,8 +160,8 @@ unmarks_more iw from k {nv} {nv1} {nv2} x h is g =
 
 -- ---- lists with the same sizes and marks are the same
 
-same_word : (y z : ℤ) → rows_in y ≡ rows_in z → inside y ≡ inside z → y ≡ z
-unfolding rows_in inside
+same_word : (y z : ℤ) → rows_in y ≡ rows_in z → is_negative y ≡ is_negative z → y ≡ z
+unfolding rows_in is_negative
 same_word (pos n) (pos m) s f = ap pos s
 same_word (pos n) (negsuc m) s f = absurd (true≢false (sym f))
 same_word (negsuc n) (pos m) s f = absurd (true≢false f)

@@ -9,7 +9,7 @@ use Rattle.amd_model.proofs.Counting.Below.{clash}
 use Rattle.amd_model.proofs.Quotient.Lists.{filter_yes, filter_no, firsts, once_firsts}
 use Rattle.amd_round_laws.proofs.Lists.Named.{sum_named}
 use Rattle.amd_words.specs.Words.{num, place, word, start, size_of, in_front, classes}
-use Rattle.amd_lists.specs.Layout.{elements_in, met}
+use Rattle.amd_lists.specs.Layout.{elements_in, rows_met}
 use Rattle.amd_elements.specs.Element.{front_of, members_at, elements_at, variables_at}
 use Rattle.amd_lists.specs.Renewal.{is_kept, is_outside}
 use Rattle.amd_lists.specs.Layout.{variables_in, Layout, ReadsSame, LosesOne}
@@ -90,7 +90,7 @@ module _ {n me total : ℕ} {absorbed front : List ℕ} {iw nv pe e_len : List �
       ]
 
   -- as many rows of each element are met
-  pub begun_met : (e : ℕ) → met iw' pe' e_len' nv' front e ≡ met iw pe e_len nv front e
+  pub begun_met : (e : ℕ) → rows_met iw' pe' e_len' nv' front e ≡ rows_met iw pe e_len nv front e
   begun_met e =
       sum_named (λ i. cond (has (elements_in iw' pe' e_len' i) e) (size_of nv' i) 0)
       (λ i. cond (has (elements_in iw pe e_len i) e) (size_of nv i) 0) front

@@ -44,14 +44,14 @@ pub record CanMakeElement (most_word most_cell me : ℕ) (iw nv pe e_len : List 
     pub few : sum_by (size_of nv) (built_front iw nv pe e_len len me) + 2 ≤ most_word
 
 -- the lists around the class me, which lists n_elements elements, stand before `free`
-pub record HasLists (me n_elements : ℕ) (iw nv pe : List ℤ) (len : List ℕ) (free : ℕ) : Type 0 where
+pub record HasListsAround (me n_elements : ℕ) (iw nv pe : List ℤ) (len : List ℕ) (free : ℕ) : Type 0 where
   pub lengths : (length pe ≡ length nv) × (length len ≡ length nv)
   pub elements : n_elements ≤ num len me
   pub laid : ListsLaid iw pe len (length nv) free me n_elements
 
 -- so they do, and no class is marked
 pub record IsAround (me n_elements : ℕ) (iw nv pe : List ℤ) (len : List ℕ) (free : ℕ) : Type 0 where
-  pub lists : HasLists me n_elements iw nv pe len free
+  pub lists : HasListsAround me n_elements iw nv pe len free
   pub pivot : (me < length nv) × (0 < size_of nv me)
   pub clear : (j : ℕ) → in_front nv j ≡ false
 

@@ -8,7 +8,7 @@ ghost use Rattle.amd_words.specs.Words.{classes, in_front, num, rows};
 ghost use Rattle.amd_lists.specs.Spans.{IsSpan};
 ghost use Rattle.amd_elements.specs.Effects.{MeetsFront};
 ghost use Rattle.amd_elements.specs.Element.{ListsLaid, elements_at, front_of};
-ghost use Rattle.amd_elements.specs.Premises.{CanFit, HasLists, IsAround};
+ghost use Rattle.amd_elements.specs.Premises.{CanFit, HasListsAround, IsAround};
 ghost use Rattle.amd_elements.specs.Pivots.{built_front};
 ghost use Rattle.amd_elements.specs.Room.{Meets, Unmarks, named_around};
 
@@ -105,7 +105,7 @@ fn unmark_front<S: Signed, U: Unsigned>(
     pivot: usize,
     n_elements: usize,
 )
-    requires lists { HasLists pivot n_elements iw.now nv.old pe.now len.now (length iw.now) }
+    requires lists { HasListsAround pivot n_elements iw.now nv.old pe.now len.now (length iw.now) }
     requires pivot { (pivot < length nv.old) × (in_front nv.old pivot ≡ true) }
     ensures { Unmarks nv.old (pivot ∷ named_around iw.now pe.now len.now pivot n_elements) nv.new }
 {

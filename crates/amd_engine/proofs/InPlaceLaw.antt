@@ -17,7 +17,7 @@ use Rattle.amd_rounds.specs.Workspaces.{Workspace}
 use Rattle.amd_rounds.specs.Laid.{IsSized, IsLaid}
 use Rattle.amd_rounds.specs.Keeps.{Stands}
 use Rattle.amd_workspace.specs.Laying.{IsLaidOut}
-use Rattle.amd_workspace.specs.Starting.{Rows, BeginsRows, held_in, is_class, classes_of}
+use Rattle.amd_workspace.specs.Starting.{Rows, BeginsRows, held_in, begins_class, classes_of}
 use Rattle.amd_workspace.proofs.Begun.{rows_of, begun_view, begun_laid, listed_row}
 use Rattle.amd_workspace.proofs.AtStart.{stands_at_start}
 use Rattle.amd_engine.specs.InPlace.{EndsIn, EndsRounds, LaysGraph, first_sums}
@@ -28,7 +28,7 @@ pub record IsFresh (n : ℕ) (held : ℕ → Bool) (degrees : List ℕ) (v : Wor
   pub sized : (length v.head ≡ n) × (length v.next ≡ n) × (length v.last ≡ n) × (length v.hash ≡ n)
   pub linked : DegreeLists n v.head v.next v.last v.degree (λ b. reverse (classes_of held degrees n b))
   pub empty : (b : ℕ) → b < n → n ≤ num v.hash b
-  pub live : v.live ≡ count_below n (is_class held degrees)
+  pub live : v.live ≡ count_below n (begins_class held degrees)
   pub dense : v.n_dense ≡ count_below n held
   pub sums : v.figures ≡ first_sums v.n_dense
   pub least : v.least ≡ 0

@@ -26,9 +26,9 @@ first_sums n_dense = record {
 }
 
 -- the workspace before the first round
-abbrev pub at_start : List ℤ → List ℤ → List ℤ → List ℤ → List ℕ → List ℕ → List ℕ → List ℕ → List ℕ → List ℕ → List ℕ →
+abbrev pub starting_workspace : List ℤ → List ℤ → List ℤ → List ℤ → List ℕ → List ℕ → List ℕ → List ℕ → List ℕ → List ℕ → List ℕ →
     ℕ → ℕ → ℕ → ℕ → Workspace
-at_start iw pe e_len nv len degree w head next last hash free live flag n_dense = record {
+starting_workspace iw pe e_len nv len degree w head next last hash free live flag n_dense = record {
   iw = iw;
   pe = pe;
   e_len = e_len;

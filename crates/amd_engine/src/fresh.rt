@@ -7,7 +7,7 @@ ghost use Rattle.amd_engine.specs.InPlace.{AreFresh};
 
 use amd_words::sides::Sides;
 use amd_words::{Cell, Signed, Unsigned, Word};
-use amd_workspace::filling::{figures, sides, words};
+use amd_workspace::filling::{cells, sides, words};
 use num_traits::PrimInt;
 use std::alloc::{AllocError, Allocator};
 
@@ -69,11 +69,11 @@ pub fn fresh_lists<I: PrimInt, S: Signed, U: Unsigned, A: Allocator + Copy>(
     Ok(Lists {
         nv: words(alloc, n, n as isize)?,
         e_len: words(alloc, n, n as isize)?,
-        degree: figures(alloc, n, n)?,
-        w: figures(alloc, n, n)?,
-        head: figures(alloc, n, n)?,
+        degree: cells(alloc, n, n)?,
+        w: cells(alloc, n, n)?,
+        head: cells(alloc, n, n)?,
         sides: sides(alloc, n, n)?,
-        hash: figures(alloc, n, n)?,
+        hash: cells(alloc, n, n)?,
         p: room_for(alloc, n)?,
         p_inv: room_for(alloc, n)?,
     })

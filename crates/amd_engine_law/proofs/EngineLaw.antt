@@ -17,7 +17,7 @@ use Rattle.amd_model.proofs.Listings.Orderings.{follows_steps, orderings_promise
 use Rattle.amd_types.specs.Permutations.{AreInverse}
 use Rattle.amd_types.specs.declared.amd.Info.{Info}
 use Rattle.amd_types.specs.declared.figures.Figures.{Figures}
-use Rattle.amd_engine_law.specs.Engine.{IsAnswerOf, Reaches, TellsFigures, with_figures}
+use Rattle.amd_engine_law.specs.Engine.{IsAnswerOf, Reaches, TellsSums, with_figures}
 
 -- a row has no edge to itself
 module _ (g : Graph) (laws : IsGraph g) where
@@ -45,7 +45,7 @@ told_by n_dense figures compactions old = record old {
   d_max = figures.d_max;
 }
 
-pub figures_told : (g : Graph) (dense : ℕ → Bool) (s : State) (n_dense : ℕ) (figures : Figures) → TellsFigures g dense s n_dense figures →
+pub figures_told : (g : Graph) (dense : ℕ → Bool) (s : State) (n_dense : ℕ) (figures : Figures) → TellsSums g dense s n_dense figures →
     (compactions : ℕ) (old : Info) → told_by n_dense figures compactions old ≡ with_figures g dense s compactions old
 figures_told g dense s n_dense figures k compactions old = rw (k.dense_rows, k.lnz, k.ldl, k.lu, k.greatest) refl
 

@@ -67,7 +67,7 @@ pub record AreNeighbours (g : Graph) (lists : ℕ → List ℕ) (degrees : List 
   pub names : (i : ℕ) → i < g.size → NamesNeighbours g i (lists i)
 
 -- the number of rows held last, and the figures of a run that ended in the state s
-pub record TellsFigures (g : Graph) (dense : ℕ → Bool) (s : State) (n_dense : ℕ) (figures : Figures) : Type 0 where
+pub record TellsSums (g : Graph) (dense : ℕ → Bool) (s : State) (n_dense : ℕ) (figures : Figures) : Type 0 where
   pub dense_rows : n_dense ≡ count_below g.size dense
   pub lnz : figures.lnz ≡ cut (figure entries g dense s)
   pub ldl : figures.n_mult_subs_ldl ≡ cut (figure ldl_steps g dense s)
@@ -84,7 +84,7 @@ pub record Reaches (g : Graph) (dense : ℕ → Bool) (aggressive : Bool) (lists
   pub states : List State
   pub follows : Follows g aggressive (start_quotient g dense lists) first states end
   pub over : (v : ℕ) → live (last_state first states) v ≡ false
-  pub tells : TellsFigures g dense (last_state first states) n_dense figures
+  pub tells : TellsSums g dense (last_state first states) n_dense figures
 
 -- of each element the number of rows of its block and that of its front, and 0 and -1 for what is none
 pub record TellsElements (g : Graph) (s : State) (nv e_len : List ℤ) : Type 0 where

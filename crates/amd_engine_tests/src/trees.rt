@@ -3,7 +3,7 @@
 
 ghost use Rattle.std.specs.Prelude.{◌≡◌, ◌≤ℤ◌, ◌<◌, ◌⊎◌, ℕ, IsTrue, true, length, pos, negsuc, slice_index};
 ghost use Rattle.amd_model.specs.Input.Columns.{at};
-ghost use Rattle.amd_postorder.specs.Trees.{IsForest, is_element};
+ghost use Rattle.amd_postorder.specs.Trees.{IsElementForest, is_tree_element};
 
 use amd_engine::amd::Status;
 use amd_engine::internal::{EMPTY, link_at};
@@ -13,7 +13,7 @@ use amd_postorder::link::Link;
 use amd_testing::forests::{drawn_forest, listing_of};
 use amd_testing::refusing::{Refusing, each_refused};
 use amd_words::{Cell, Signed, Unsigned, Word, word_of};
-use amd_workspace::filling::figures;
+use amd_workspace::filling::cells;
 use std::alloc::{Allocator, Global};
 use std::process::Abort;
 use std::test::Fail;
@@ -27,7 +27,7 @@ fn is_placed(e: usize, parent: &[isize], nv: &[isize], f_size: &[isize], rank: &
     requires rank_room { length rank.now ≡ length parent.now }
     ensures size { IsTrue result → pos 0 ≤ℤ at f_size.now e }
     ensures parent { IsTrue result → (at parent.now e ≡ negsuc 0) ⊎
-        ((p : ℕ) × (at parent.now e ≡ pos p) × (is_element (length parent.now) nv.now p ≡ true) ×
+        ((p : ℕ) × (at parent.now e ≡ pos p) × (is_tree_element (length parent.now) nv.now p ≡ true) ×
         (slice_index rank.now e < slice_index rank.now p)) }
 {
     if f_size[e] < 0 {
@@ -41,7 +41,7 @@ fn is_placed(e: usize, parent: &[isize], nv: &[isize], f_size: &[isize], rank: &
 
 /// Whether ranks show that the elements with their parents are a forest.
 fn is_forest(parent: &[isize], nv: &[isize], f_size: &[isize], rank: &[usize]) -> bool
-    ensures { IsTrue result → IsForest (length parent.now) parent.now nv.now f_size.now }
+    ensures { IsTrue result → IsElementForest (length parent.now) parent.now nv.now f_size.now }
 {
     let nn = parent.len();
     if nv.len() != nn || f_size.len() != nn || rank.len() != nn {
@@ -90,11 +90,11 @@ fn words_of<S: Signed>(rt: &impl Abort, alloc: Global, numbers: &[isize]) -> Vec
 }
 
 /// Figures of a workspace, whatever they hold.
-fn figures_of<U: Unsigned>(rt: &impl Abort, alloc: Global, count: usize) -> Vec<Cell<U>>
+fn cells_of<U: Unsigned>(rt: &impl Abort, alloc: Global, count: usize) -> Vec<Cell<U>>
     ensures { length result.items ≡ count }
 {
-    let Ok(list) = figures(alloc, count, 0) else {
-        panic!(rt; "no figures");
+    let Ok(list) = cells(alloc, count, 0) else {
+        panic!(rt; "no cells");
     };
     list
 }
@@ -115,10 +115,10 @@ fn places_in<S: Signed, U: Unsigned>(
     let parents: Vec<Word<S>> = words_of(rt, alloc, parent);
     let counts: Vec<Word<S>> = words_of(rt, alloc, nv);
     let sizes: Vec<Word<S>> = words_of(rt, alloc, f_size);
-    let mut child: Vec<Cell<U>> = figures_of(rt, alloc, nn);
-    let mut sibling: Vec<Cell<U>> = figures_of(rt, alloc, nn);
-    let mut order: Vec<Cell<U>> = figures_of(rt, alloc, nn);
-    let mut stack: Vec<Cell<U>> = figures_of(rt, alloc, nn);
+    let mut child: Vec<Cell<U>> = cells_of(rt, alloc, nn);
+    let mut sibling: Vec<Cell<U>> = cells_of(rt, alloc, nn);
+    let mut order: Vec<Cell<U>> = cells_of(rt, alloc, nn);
+    let mut stack: Vec<Cell<U>> = cells_of(rt, alloc, nn);
     postorder_in(
         nn,
         &parents,

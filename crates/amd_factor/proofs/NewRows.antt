@@ -100,7 +100,8 @@ module _ (c : Column) (stamp : ℕ) (fresh mark : List ℕ) (m : Marks c stamp f
       ];
       once = λ j. (let s = sum_by-append (λ x. cond (x == j) 1 0) fresh (row ∷ []) in let o = m.once j in
           elim (cases_eq row j) [
-            | inl q ↦ (let z = count_absent fresh j (λ k l e. not_yet (inr (subst (λ x. Contains fresh x) (e ∙ sym q) (Contains-get_or fresh k 0 l)))) in
+            | inl q ↦ (let z = count_absent fresh j (λ k l e. not_yet (inr (subst (λ x. Contains fresh x) (e ∙ sym q)
+                (Contains-get_or fresh k 0 l)))) in
                 let one : count_by (λ x. x == j) (row ∷ []) ≡ 1 = rw (eq-eqb row j q) refl in omega (arith, s, z, one))
             | inr ne ↦ (let none : count_by (λ x. x == j) (row ∷ []) ≡ 0 = rw (ne_eqb row j ne) refl in omega (arith, s, none, o))
           ]);

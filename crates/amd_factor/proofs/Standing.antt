@@ -4,7 +4,16 @@ use Rattle.std.proofs.Common.{length, map, set, take}
 use Rattle.std.specs.Prelude.{slice_index, slice_index_or, slice_range, slice_get, Option, None, Some}
 use Rattle.std.specs.List.Sorted.{IsStrictlyIncreasing}
 use Rattle.std.proofs.lemmas.Bool.{cases_eq}
-use Rattle.std.proofs.lemmas.List.{length-set, get_or-set_same, get_or-set_other, get_or_default, get_or-map, length-map, length-take-le, same_lists}
+use Rattle.std.proofs.lemmas.List.{
+  length-set,
+  get_or-set_same,
+  get_or-set_other,
+  get_or_default,
+  get_or-map,
+  length-map,
+  length-take-le,
+  same_lists,
+}
 use Rattle.std.proofs.lemmas.List.Edits.{length-between}
 use Rattle.amd_model.specs.Below.{sum_below}
 use Rattle.amd_model.specs.Factor.{IsColumn, IsFactor, needed}

@@ -9,7 +9,7 @@ use Rattle.amd_model.specs.Quotient.{has}
 use Rattle.amd_model.proofs.Listings.Words.{has_head, has_tail}
 use Rattle.amd_words.specs.Words.{num, word, place, rows, size_of, flip_of}
 use Rattle.amd_fronts.specs.Counts.{touched, ends, settled, counter}
-use Rattle.amd_lists.specs.Layout.{elements_in, met}
+use Rattle.amd_lists.specs.Layout.{elements_in, rows_met}
 use Rattle.amd_words.proofs.RowLists.{rows_more, rows_both, rows_part}
 
 -- ---- the counter of one element
@@ -73,20 +73,22 @@ starts_none aggressive flag x all seen two under none a b = rw none (sym (cond-f
 -- ---- the classes of a front
 
 module _ (iw pe e_len nv : List ℤ) where
-  pub met_more : (from k e : ℕ) → met iw pe e_len nv (rows iw from (k + 1)) e ≡ met iw pe e_len nv (rows iw from k) e
+  pub met_more : (from k e : ℕ) → rows_met iw pe e_len nv (rows iw from (k + 1)) e ≡ rows_met iw pe e_len nv (rows iw from k) e
       + cond (has (elements_in iw pe e_len (place (word iw (from + k)))) e) (size_of nv (place (word iw (from + k)))) 0
   met_more from k e = let f : (ℕ → ℕ) = λ i. cond (has (elements_in iw pe e_len i) e) (size_of nv i) 0 in let y : ℕ =
       place (word iw (from + k)) in
       let a = ap (sum_by f) (rows_more iw from k) in let b = sum_by-append f (rows iw from k) (y ∷ []) in let c = sum_by-cons f y [] in
       let none : sum_by f [] ≡ 0 = refl in omega (arith, a, b, c, none)
 
-  pub met_part : (from k count e : ℕ) → k ≤ count → met iw pe e_len nv (rows iw from k) e ≤ met iw pe e_len nv (rows iw from count) e
+  pub met_part : (from k count e : ℕ) → k ≤ count → rows_met iw pe e_len nv (rows iw from k)
+      e ≤ rows_met iw pe e_len nv (rows iw from count) e
   met_part from k count e l = let f : (ℕ → ℕ) = λ i. cond (has (elements_in iw pe e_len i) e) (size_of nv i) 0 in
       let n : count ≡ k + (count - k) = omega (arith, l) in
       let a = ap (λ m. sum_by f (rows iw from m)) n in let b = ap (sum_by f) (rows_both iw from k (count - k)) in let c =
       sum_by-append f (rows iw from k) (rows iw (from + k) (count - k)) in omega (arith, a, b, c)
 
-  met_zero : (xs : List ℕ) (e : ℕ) → ((i : ℕ) → has xs i ≡ true → has (elements_in iw pe e_len i) e ≡ false) → met iw pe e_len nv xs e ≡ 0
+  met_zero : (xs : List ℕ) (e : ℕ) → ((i : ℕ) → has xs i ≡ true → has (elements_in iw pe e_len i) e ≡ false) →
+      rows_met iw pe e_len nv xs e ≡ 0
   met_zero [] e none = refl
   met_zero (x ∷ xs) e none = let f : (ℕ → ℕ) = λ i. cond (has (elements_in iw pe e_len i) e) (size_of nv i) 0 in
       let a = sum_by-cons f x xs in
@@ -94,15 +96,15 @@ module _ (iw pe e_len nv : List ℤ) where
       let c = met_zero xs e (λ i h. none i (has_tail i x xs h)) in omega (arith, a, b, c)
 
   module _ (aggressive : Bool) (degree w0 w w' : List ℕ) (from count k flag : ℕ) (l : k < count) (two : 2 ≤ flag)
-      (under : (e : ℕ) → num w0 e < flag) (part : (e : ℕ) → 0 < num w0 e → met iw pe e_len nv (rows iw from count) e ≤ num degree e)
+      (under : (e : ℕ) → num w0 e < flag) (part : (e : ℕ) → 0 < num w0 e → rows_met iw pe e_len nv (rows iw from count) e ≤ num degree e)
       (before : (e : ℕ) → num w e
-      ≡ settled aggressive flag (counter flag (num w0 e) (num degree e) (met iw pe e_len nv (rows iw from k) e)))
+      ≡ settled aggressive flag (counter flag (num w0 e) (num degree e) (rows_met iw pe e_len nv (rows iw from k) e)))
       (i : ℕ) (is : i ≡ place (word iw (from + k))) (class : 0 < size_of nv i) where
     abbrev seen : ℕ → ℕ
-    seen e = met iw pe e_len nv (rows iw from k) e
+    seen e = rows_met iw pe e_len nv (rows iw from k) e
 
     abbrev seen' : ℕ → ℕ
-    seen' e = met iw pe e_len nv (rows iw from (k + 1)) e
+    seen' e = rows_met iw pe e_len nv (rows iw from (k + 1)) e
 
     abbrev lists : ℕ → Bool
     lists e = has (elements_in iw pe e_len i) e
@@ -164,10 +166,10 @@ module _ (iw pe e_len nv : List ℤ) where
   -- a class that no class of the front lists as an element keeps its start
   pub start_stays : (aggressive : Bool) (flag me : ℕ) (degree w0 : List ℕ) (pe1 : List ℤ) (from count k : ℕ) → k ≤ count → 2 ≤ flag →
       ((e : ℕ) → num w0 e < flag) → ((e : ℕ) → word pe1 e ≡ cond (ends aggressive flag (counter flag (num w0 e) (num degree e)
-      (met iw pe e_len nv (rows iw from k) e))) (flip_of me) (word pe e)) →
+      (rows_met iw pe e_len nv (rows iw from k) e))) (flip_of me) (word pe e)) →
       (j : ℕ) → ((i : ℕ) → has (rows iw from count) i ≡ true → has (elements_in iw pe e_len i) j ≡ false) → word pe1 j ≡ word pe j
   start_stays aggressive flag me degree w0 pe1 from count k l two under was j none =
-      let zero : met iw pe e_len nv (rows iw from k) j ≡ 0 = met_zero (rows iw from k) j (λ i h. none i
+      let zero : rows_met iw pe e_len nv (rows iw from k) j ≡ 0 = met_zero (rows iw from k) j (λ i h. none i
       (rows_part iw from k count i l h)) in
       was j ∙ cond-false _ (flip_of me) (word pe j) (ap (λ m. ends aggressive flag (counter flag (num w0 j) (num degree j) m)) zero
       ∙ ends_none aggressive flag (num w0 j) (num degree j) two (under j))

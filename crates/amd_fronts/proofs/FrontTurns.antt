@@ -10,7 +10,7 @@ use Rattle.amd_round_laws.proofs.Lists.Named.{named_sum}
 use Rattle.amd_words.specs.Words.{num, word, place, is_place, start, size_of, flip_of, rows}
 use Rattle.amd_lists.specs.Chains.{DegreeLists}
 use Rattle.amd_fronts.specs.Counts.{counter, ends, settled, IsListed}
-use Rattle.amd_lists.specs.Layout.{elements_in, met}
+use Rattle.amd_lists.specs.Layout.{elements_in, rows_met}
 use Rattle.amd_fronts.specs.Tallies.{IsPart}
 use Rattle.amd_lists.specs.Renewal.{is_kept, is_outside, AreMet}
 use Rattle.amd_lists.specs.Layout.{list_in, Layout, IsRenewable}
@@ -63,7 +63,7 @@ module _ {n me : ℕ} {iw pe e_len nv : List ℤ} {len degree w : List ℕ} {fre
     (y : Layout n iw pe e_len len free) (two : 2 ≤ flag) (under : (e : ℕ) → num w e < flag)
     (can : (i : ℕ) → has (list_in iw pe len me) i ≡ true → IsTurning n me (list_in iw pe len me) iw pe e_len nv len degree w i)
     (left : List ℤ) (ended : (e : ℕ) → word left e ≡ cond (ends aggressive flag (counter flag (num w e) (num degree e)
-    (met iw pe e_len nv (list_in iw pe len me) e))) (flip_of me) (word pe e)) where
+    (rows_met iw pe e_len nv (list_in iw pe len me) e))) (flip_of me) (word pe e)) where
   pub left_me : word left me ≡ word pe me
   left_me = start_stays iw pe e_len nv aggressive flag me degree w left (start pe me) (num len me) (num len me)
       (omega arith) two under ended me
@@ -80,26 +80,26 @@ module _ {n me : ℕ} {iw pe e_len nv : List ℤ} {len degree w : List ℕ} {fre
   pub left_laid : Layout n iw left e_len len free
   unfolding is_place
   left_laid = dropped y left (λ j. elim (cases_Bool (ends aggressive flag (counter flag (num w j) (num degree j)
-      (met iw pe e_len nv (list_in iw pe len me) j)))) [
+      (rows_met iw pe e_len nv (list_in iw pe len me) j)))) [
         | inl t ↦ inr (ap is_place (ended j ∙ cond-true _ (flip_of me) (word pe j) t))
         | inr f ↦ inl (ended j ∙ cond-false _ (flip_of me) (word pe j) f)
       ])
 
   pub left_renewable : (w1 : List ℕ) → ((e : ℕ) → num w1 e ≡ settled aggressive flag (counter flag (num w e) (num degree e)
-      (met iw pe e_len nv (list_in iw pe len me) e))) → (i : ℕ) → has (list_in iw left len me) i ≡ true →
+      (rows_met iw pe e_len nv (list_in iw pe len me) e))) → (i : ℕ) → has (list_in iw left len me) i ≡ true →
       IsRenewable (is_kept w1) (is_outside nv) iw left e_len len i
   left_renewable w1 counted i h =
       let m : has (list_in iw pe len me) i ≡ true = sym (ap (λ xs. has xs i) left_list) ∙ h in let t = can i m in let s = left_front i m in
       let p = has_parts pe len i t.listed in
       let less = filter_fewer (is_kept w1) (is_kept w) (elements_in iw pe e_len i) (λ e k. lt-ltb 0 (num w e)
-      (stood aggressive flag (num w e) (num degree e) (met iw pe e_len nv (list_in iw pe len me) e)
+      (stood aggressive flag (num w e) (num degree e) (rows_met iw pe e_len nv (list_in iw pe len me) e)
       (let a = ltb-true 0 (num w1 e) k in let b = counted e in omega (arith, a, b)))) in
       let es = ap (λ z. length (filter (is_kept w1) (rows iw (place z) (place (word e_len i))))) s in
       let vs = ap (λ z. length (filter (is_outside nv) (rows iw (place z + place (word e_len i)) (num len i - place (word e_len i))))) s in
       let r = t.loses in (has_from left len i (ap is_place s ∙ p.0) p.1, t.counts, omega (arith, less, es, vs, r))
 
   pub left_met : (w1 : List ℕ) → ((e : ℕ) → num w1 e ≡ settled aggressive flag (counter flag (num w e) (num degree e)
-      (met iw pe e_len nv (list_in iw pe len me) e))) → IsPart iw pe e_len nv degree w (list_in iw pe len me) →
+      (rows_met iw pe e_len nv (list_in iw pe len me) e))) → IsPart iw pe e_len nv degree w (list_in iw pe len me) →
       (i : ℕ) → has (list_in iw left len me) i ≡ true → AreMet flag w1 (elements_in iw left e_len i)
   left_met w1 counted part i h e named kept =
       let m : has (list_in iw pe len me) i ≡ true = sym (ap (λ xs. has xs i) left_list) ∙ h in let t = can i m in let s = left_front i m in
@@ -108,7 +108,7 @@ module _ {n me : ℕ} {iw pe e_len nv : List ℤ} {len degree w : List ℕ} {fre
       let all = named_sum share (list_in iw pe len me) i m in
       let own = cond-true (has (elements_in iw pe e_len i) e) (size_of nv i) 0 lists in
       let class = t.class in let count = counted e in let stands = ltb-true 0 (num w1 e) kept in
-      let flagged = met_stands flag (num w e) (num degree e) (met iw pe e_len nv (list_in iw pe len me) e)
+      let flagged = met_stands flag (num w e) (num degree e) (rows_met iw pe e_len nv (list_in iw pe len me) e)
       (omega (arith, all, own, class)) (part e) aggressive (omega (arith, count, stands)) in
       omega (arith, flagged, count)
 

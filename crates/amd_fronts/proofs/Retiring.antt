@@ -13,7 +13,7 @@ use Rattle.amd_model.specs.Figures.{cut}
 use Rattle.amd_model.specs.Quotient.{has, turned, is_empty, Once}
 use Rattle.amd_model.proofs.Listings.Words.{has_filter as filter_gives}
 use Rattle.amd_round_laws.proofs.Lists.Named.{filter_named, sum_named, sum_part}
-use Rattle.amd_words.specs.Words.{num, word, place, is_place, start, size_of, in_front, rows_in, inside, flip_of, rows, Names}
+use Rattle.amd_words.specs.Words.{num, word, place, is_place, start, size_of, in_front, rows_in, is_negative, flip_of, rows, Names}
 use Rattle.amd_lists.specs.Renewal.{is_outside, hashed, AreMet, Renews}
 use Rattle.amd_lists.specs.Layout.{elements_in, variables_in, list_in, Layout, IsPlaced, LosesOne, reached, IsRenewable, RenewsOne}
 use Rattle.amd_lists.specs.Renewal.{key_of}
@@ -188,10 +188,10 @@ module _ {n me : ℕ} {kept : ℕ → Bool} {beyond : ℕ → ℕ} {iw pe e_len 
   ]
 
   outside_same : (j : ℕ) → is_outside nv1 j ≡ is_outside nv j
-  unfolding rows_in inside
+  unfolding rows_in is_negative
   outside_same j = elim (row_cases j) [
-    | inl e ↦ ap (λ z. nat_lt 0 (rows_in z) && not (inside z)) e
-    | inr p ↦ ap (λ z. nat_lt 0 (rows_in z) && not (inside z)) p.0
+    | inl e ↦ ap (λ z. nat_lt 0 (rows_in z) && not (is_negative z)) e
+    | inr p ↦ ap (λ z. nat_lt 0 (rows_in z) && not (is_negative z)) p.0
         ∙ sym (and_right (nat_lt 0 (size_of nv j)) (not (in_front nv j)) (ap not p.1))
   ]
 
@@ -247,7 +247,7 @@ module _ {n me : ℕ} {kept : ℕ → Bool} {beyond : ℕ → ℕ} {iw pe e_len 
   front_met flag w met = subst (λ xs. AreMet flag w xs) (sym own_elements) (met i known)
 
   pub front_marked : in_front nv1 i ≡ true
-  front_marked = ap inside row_same ∙ marked i known
+  front_marked = ap is_negative row_same ∙ marked i known
 
   gone_next : sum_by (size_of nv) (filter over (rows iw (start pe me) (k + 1)))
       ≡ sum_by (size_of nv) (filter over front) + cond (over i) (size_of nv i) 0

@@ -1,7 +1,7 @@
 -- The classes of a front, gone through in order: each is renewed, or ends if it keeps nothing but the new element.
 use Rattle.std.specs.Prelude.{ℕ, ℤ, pos, negsuc, Bool, List, ◌++◌, ◌≡◌, ◌&&◌, cond, min, length, filter, sum_by}
 use Rattle.amd_model.specs.Quotient.{has}
-use Rattle.amd_round_laws.specs.Rounds.{mass}
+use Rattle.amd_round_laws.specs.Rounds.{keeps_nothing}
 use Rattle.amd_words.specs.Words.{num, word, flip_of, size_of}
 use Rattle.amd_lists.specs.Layout.{elements_in, variables_in, reached, RenewsOne, RenewsAll}
 use Rattle.amd_lists.specs.Renewal.{key_of}
@@ -15,7 +15,7 @@ near_in is_apart iw pe e_len len i = filter is_apart (variables_in iw pe e_len l
 
 -- the class keeps nothing but the new element
 abbrev pub is_done : (ℕ → Bool) → (ℕ → Bool) → List ℤ → List ℤ → List ℤ → List ℕ → ℕ → Bool
-is_done kept is_apart iw pe e_len len i = mass (kept_in kept iw pe e_len) (near_in is_apart iw pe e_len len) i
+is_done kept is_apart iw pe e_len len i = keeps_nothing (kept_in kept iw pe e_len) (near_in is_apart iw pe e_len len) i
 
 -- the key of a class, by what it keeps
 abbrev pub bucket_at : ℕ → (ℕ → Bool) → (ℕ → Bool) → List ℤ → List ℤ → List ℤ → List ℕ → ℕ → ℕ

@@ -4,7 +4,7 @@ use Rattle.amd_model.specs.Quotient.{has, Once}
 use Rattle.amd_words.specs.Words.{num, word, flip_of, rows, Names}
 use Rattle.amd_lists.specs.Chains.{DegreeLists}
 use Rattle.amd_fronts.specs.Counts.{touched, counter, ends, settled, IsListed}
-use Rattle.amd_lists.specs.Layout.{elements_in, met}
+use Rattle.amd_lists.specs.Layout.{elements_in, rows_met}
 
 -- the counter of the element e once a class of `more` rows is met
 abbrev pub touched_in : List ℕ → List ℕ → ℕ → ℕ → ℕ → ℕ
@@ -22,17 +22,17 @@ pub record IsCounted (n : ℕ) (front : List ℕ) (iw pe e_len nv : List ℤ) (d
 
 -- the rows of an element that are in a front are among those of its border
 abbrev pub IsPart : List ℤ → List ℤ → List ℤ → List ℤ → List ℕ → List ℕ → List ℕ → Type 0
-IsPart iw pe e_len nv degree w front = (e : ℕ) → 0 < num w e → met iw pe e_len nv front e ≤ num degree e
+IsPart iw pe e_len nv degree w front = (e : ℕ) → 0 < num w e → rows_met iw pe e_len nv front e ≤ num degree e
 
 -- the counters are those of the rows outside a front
 abbrev pub CountsFront : Bool → ℕ → List ℕ → List ℤ → List ℤ → List ℤ → List ℤ → List ℕ → List ℕ → List ℕ → Type 0
 CountsFront aggressive flag front iw pe e_len nv degree w w' = (e : ℕ) → num w' e ≡ settled aggressive flag
-    (counter flag (num w e) (num degree e) (met iw pe e_len nv front e))
+    (counter flag (num w e) (num degree e) (rows_met iw pe e_len nv front e))
 
 -- the elements of which no row is outside a front have ended: the pivot me absorbed them
 abbrev pub EndsCounted : Bool → ℕ → ℕ → List ℕ → List ℤ → List ℤ → List ℤ → List ℤ → List ℕ → List ℕ → List ℤ → Type 0
 EndsCounted aggressive flag me front iw pe e_len nv degree w pe' = (e : ℕ) → word pe' e ≡ cond (ends aggressive flag
-    (counter flag (num w e) (num degree e) (met iw pe e_len nv front e))) (flip_of me) (word pe e)
+    (counter flag (num w e) (num degree e) (rows_met iw pe e_len nv front e))) (flip_of me) (word pe e)
 
 -- the classes of a front, each of which stands in the list of its bound, have left the lists by bound
 abbrev pub LeavesLists : ℕ → List ℕ → List ℕ → List ℕ → List ℕ → List ℕ → List ℕ → List ℕ → List ℕ → List ℕ → Type 0

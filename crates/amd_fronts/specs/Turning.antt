@@ -3,7 +3,7 @@ use Rattle.std.specs.Prelude.{ℕ, ℤ, Bool, true, false, List, ◌≡◌, ◌<
 use Rattle.amd_model.specs.Quotient.{has, Once}
 use Rattle.amd_words.specs.Words.{num, word, is_place, flip_of, size_of, in_front}
 use Rattle.amd_fronts.specs.Counts.{counter, ends, settled}
-use Rattle.amd_lists.specs.Layout.{elements_in, met}
+use Rattle.amd_lists.specs.Layout.{elements_in, rows_met}
 use Rattle.amd_lists.specs.Renewal.{is_kept, is_outside}
 use Rattle.amd_lists.specs.Layout.{has_list, LosesOne}
 use Rattle.amd_fronts.specs.Fronts.{RenewsFront}
@@ -30,9 +30,9 @@ pub record TurnsFront (aggressive : Bool) (n me flag : ℕ) (front : List ℕ) (
   pub left : List ℤ
   pub links : List ℕ
   pub counted : (e : ℕ) → num w' e
-      ≡ settled aggressive flag (counter flag (num w e) (num degree e) (met iw pe e_len nv front e))
+      ≡ settled aggressive flag (counter flag (num w e) (num degree e) (rows_met iw pe e_len nv front e))
   pub ended : (e : ℕ) → word left e
-      ≡ cond (ends aggressive flag (counter flag (num w e) (num degree e) (met iw pe e_len nv front e))) (flip_of me)
+      ≡ cond (ends aggressive flag (counter flag (num w e) (num degree e) (rows_met iw pe e_len nv front e))) (flip_of me)
       (word pe e)
   pub renewed : RenewsFront n me (is_kept w') (is_outside nv) (λ e. num w' e - flag) front free iw left e_len nv len
       degree links

@@ -9,7 +9,7 @@ use Rattle.std.proofs.lemmas.Int.{ints}
 use Rattle.amd_model.specs.Input.Columns.{at, IsColumnForm, IsSorted, IsJumbled, IsInput}
 use Rattle.amd_model.proofs.Patterns.Pointers.{pointer_in, small_fits}
 use Rattle.amd_types.specs.Statuses.{IsStatusOf}
-use Rattle.amd_input.specs.Scans.{AreRows, Rise, HaveDescent, IsColumnClass}
+use Rattle.amd_input.specs.Scans.{AreRowNumbers, Rise, HaveDescent, IsColumnClass}
 use Rattle.amd_types.specs.declared.amd.Status.{Status}
 use Rattle.amd_types.specs.declared.amd.Status.TheVariants.{OK, Invalid, OkButJumbled, OutOfMemory}
 
@@ -36,7 +36,8 @@ not_below (pos n) h = omega (arith, ints)
 not_below (negsuc n) h = absurd (h (omega (arith, ints)))
 
 -- one more row
-pub rows_more : (m : ℤ) (ai : List ℤ) (a k : ℕ) → AreRows m ai a k → (at ai k <ℤ pos 0 → ⊥) → at ai k <ℤ m → AreRows m ai a (k + 1)
+pub rows_more : (m : ℤ) (ai : List ℤ) (a k : ℕ) → AreRowNumbers m ai a k → (at ai k <ℤ pos 0 → ⊥) → at ai k <ℤ m →
+    AreRowNumbers m ai a (k + 1)
 rows_more m ai a k rows first last i low high = elim (dec_lt i k) [
   | yes x ↦ rows i low x
   | no x ↦ (let e : k ≡ i = omega (arith, high, x) in
@@ -44,7 +45,7 @@ rows_more m ai a k rows first last i low high = elim (dec_lt i k) [
 ]
 
 -- rows that rise lie in range where the first and the last of them do
-pub rising_rows : (m : ℤ) (ai : List ℤ) (a b : ℕ) → a < b → Rise ai a b → pos 0 ≤ℤ at ai a → at ai (b - 1) <ℤ m → AreRows m ai a b
+pub rising_rows : (m : ℤ) (ai : List ℤ) (a b : ℕ) → a < b → Rise ai a b → pos 0 ≤ℤ at ai a → at ai (b - 1) <ℤ m → AreRowNumbers m ai a b
 rising_rows m ai a b some up first last k low high =
     let above = from_first ai a k (k - a) (omega arith) (λ i from below. up i from (omega arith)) in
     let under = from_first ai k (b - 1) (b - 1 - k) (omega arith) (λ i from below. up i (omega arith) (omega arith)) in
@@ -116,7 +117,7 @@ module _ (m : ℤ) (ap ai : List ℤ) where
       never (form.rows q (omega (arith, ints)))
 
   pub form_more : (j from to : ℕ) → IsColumnForm m j ap ai → at ap j ≡ pos from → at ap (j + 1) ≡ pos to → from ≤ to → to ≤ length ai →
-      j + 1 < length ap → AreRows m ai from to → IsColumnForm m (j + 1) ap ai
+      j + 1 < length ap → AreRowNumbers m ai from to → IsColumnForm m (j + 1) ap ai
   form_more j from to f a b up within room rows = record {
     enough = room;
     first = f.first;

@@ -5,8 +5,8 @@ use Rattle.amd_types.specs.declared.amd.Status.{Status}
 use Rattle.amd_types.specs.declared.amd.Status.TheVariants.{OK, Invalid, OkButJumbled, OutOfMemory}
 
 -- the places from a on, before b, hold rows of a matrix with m rows
-abbrev pub AreRows : ℤ → List ℤ → ℕ → ℕ → Type 0
-AreRows m ai a b = (k : ℕ) → a ≤ k → k < b → IsRow m (at ai k)
+abbrev pub AreRowNumbers : ℤ → List ℤ → ℕ → ℕ → Type 0
+AreRowNumbers m ai a b = (k : ℕ) → a ≤ k → k < b → IsRow m (at ai k)
 
 -- the numbers at these places are strictly rising
 abbrev pub Rise : List ℤ → ℕ → ℕ → Type 0
@@ -22,7 +22,7 @@ HaveNoRow m ai a b = (k : ℕ) × (a ≤ k) × (k < b) × (¬ (IsRow m (at ai k)
 
 -- what a status says of the rows at the places from a on, before b
 abbrev pub IsColumnClass : ℤ → List ℤ → ℕ → ℕ → Status → Type 0
-IsColumnClass m ai a b OK = AreRows m ai a b × Rise ai a b
+IsColumnClass m ai a b OK = AreRowNumbers m ai a b × Rise ai a b
 IsColumnClass m ai a b Invalid = HaveNoRow m ai a b
-IsColumnClass m ai a b OkButJumbled = AreRows m ai a b × HaveDescent ai a b
+IsColumnClass m ai a b OkButJumbled = AreRowNumbers m ai a b × HaveDescent ai a b
 IsColumnClass m ai a b OutOfMemory = ⊥

@@ -4,7 +4,7 @@
 
 ghost use Rattle.std.specs.Prelude.{◌≡◌, ◌<◌, ◌≤◌, true, false, length, map};
 ghost use Rattle.amd_types.specs.Statuses.{IsStatusOf};
-ghost use Rattle.amd_input.specs.Scans.{AreRows, HaveDescent, HaveNoRow, IsColumnClass, Rise};
+ghost use Rattle.amd_input.specs.Scans.{AreRowNumbers, HaveDescent, HaveNoRow, IsColumnClass, Rise};
 
 use amd_types::amd::Status;
 use amd_types::internal::{is_below, is_negative, to_count, value_at};
@@ -31,7 +31,7 @@ fn rises<I: PrimInt>(a_i: &[I], from: usize, to: usize) -> bool
 fn are_rows<I: PrimInt>(n_row: I, a_i: &[I], from: usize, to: usize) -> bool
     requires ordered { from ≤ to }
     requires within { to ≤ length a_i.now }
-    ensures are { result ≡ true → AreRows (I.value n_row) (map I.value a_i.now) from to }
+    ensures are { result ≡ true → AreRowNumbers (I.value n_row) (map I.value a_i.now) from to }
     ensures are_not { result ≡ false → HaveNoRow (I.value n_row) (map I.value a_i.now) from to }
 {
     'rows: for k in from..to {

@@ -13,7 +13,7 @@ use Rattle.amd_model.specs.Quotient.{has}
 use Rattle.amd_model.proofs.States.EndState.{IsEnd}
 use Rattle.amd_words.specs.Words.{rows_in}
 use Rattle.amd_words.proofs.Signs.{rows_of}
-use Rattle.amd_postorder.specs.Trees.{IsPostorderOf, is_element, tree_of}
+use Rattle.amd_postorder.specs.Trees.{IsPostorderOf, is_tree_element, tree_of}
 use Rattle.amd_postorder.proofs.ForestListings.{IsRanked, trees_distinct, roots_siblings}
 use Rattle.amd_postorder.proofs.TreeNumbers.{ranked}
 use Rattle.amd_listing.specs.Ended.{IsEnded}
@@ -46,8 +46,8 @@ module _ (g : Graph) (dense : ℕ → Bool) (s : State) (end : IsEnd g dense s) 
     pub inside : (k : ℕ) → k < length o.listing → slice_index o.listing k < g.size
     inside k l = listing_inside g dense s (tree_of g.size link nv f_size) pairs rooted order o k l
 
-    node_listed : (e : ℕ) → has o.listing e ≡ is_element g.size nv e
-    node_listed e = both_ways (has o.listing e) (is_element g.size nv e)
+    node_listed : (e : ℕ) → has o.listing e ≡ is_tree_element g.size nv e
+    node_listed e = both_ways (has o.listing e) (is_tree_element g.size nv e)
         (listing_node g dense s (tree_of g.size link nv f_size) pairs rooted order o e)
         (λ h. o.each e (element_small g dense s end link nv f_size ended e h) h)
 

@@ -12,7 +12,7 @@ use Rattle.amd_model.specs.Input.Columns.{at}
 use Rattle.amd_model.proofs.Counting.Below.{count_pos}
 use Rattle.amd_model.proofs.States.EndState.{IsEnd}
 use Rattle.amd_types.specs.Links.{named}
-use Rattle.amd_postorder.specs.Trees.{IsForest, is_element, tree_of}
+use Rattle.amd_postorder.specs.Trees.{IsElementForest, is_tree_element, tree_of}
 use Rattle.amd_postorder.proofs.Links.{names_some}
 use Rattle.amd_listing.specs.Ended.{IsEnded}
 use Rattle.amd_listing.proofs.BlockLists.{AreAlike}
@@ -20,21 +20,21 @@ use Rattle.amd_listing.proofs.LinkSteps.{cases_link}
 
 module _ (g : Graph) (dense : ℕ → Bool) (s : State) (end : IsEnd g dense s) (link nv f_size : List ℤ)
     (ended : IsEnded g s link nv f_size) where
-  pub element_alike : (e : ℕ) → e < g.size → is_element g.size nv e ≡ block_at e (s.home e)
+  pub element_alike : (e : ℕ) → e < g.size → is_tree_element g.size nv e ≡ block_at e (s.home e)
   element_alike e small = ap (λ b. b && int_lt (pos 0) (at nv e)) (lt-ltb e g.size small) ∙ elim (cases_Bool (block_at e (s.home e))) [
     | inl y ↦ ap (int_lt (pos 0)) (ended.blocks e y) ∙
         lt-ltb 0 (count_below g.size (λ v. block_at e (s.home v))) (count_pos g.size (λ v. block_at e (s.home v)) e small y) ∙ sym y
     | inr y ↦ ap (int_lt (pos 0)) (ended.no_element e y) ∙ sym y
   ]
 
-  pub element_small : (e : ℕ) → is_element g.size nv e ≡ true → e < g.size
+  pub element_small : (e : ℕ) → is_tree_element g.size nv e ≡ true → e < g.size
   element_small e h = ltb-true e g.size (and_parts (nat_lt e g.size) (int_lt (pos 0) (at nv e)) h).0
 
   -- what the numbers call an element is one of the state
-  pub element_is : (e : ℕ) → is_element g.size nv e ≡ true → block_at e (s.home e) ≡ true
+  pub element_is : (e : ℕ) → is_tree_element g.size nv e ≡ true → block_at e (s.home e) ≡ true
   element_is e h = sym (element_alike e (element_small e h)) ∙ h
 
-  pub forest : IsForest g.size link nv f_size
+  pub forest : IsElementForest g.size link nv f_size
   unfolding block_at
   forest = record {
     parent_room = ended.links.link_long;

@@ -6,7 +6,7 @@ use Rattle.amd_model.specs.State.{State, live_at}
 use Rattle.amd_model.specs.Run.{last_state}
 use Rattle.amd_model.specs.Listing.{IsPostorder}
 use Rattle.amd_model.proofs.States.EndState.{IsEnd, at_the_end}
-use Rattle.amd_postorder.specs.Trees.{IsForest, IsPostorderOf, tree_of}
+use Rattle.amd_postorder.specs.Trees.{IsElementForest, IsPostorderOf, tree_of}
 use Rattle.amd_listing.specs.Ended.{LinksAre, HasEnded}
 use Rattle.amd_listing.specs.Blocks.{AreElements, listing_of}
 use Rattle.amd_listing.proofs.EndedForest.{forest}
@@ -25,8 +25,8 @@ module _ (link nv f_size : List ℤ) (r : HasEnded link nv f_size) where
   is_end : IsEnd r.graph r.dense last
   is_end = at_the_end r.graph r.dense r.aggressive r.first r.states r.laws r.run
 
-  pub forest_told : IsForest (length nv) link nv f_size
-  forest_told = subst (λ n. IsForest n link nv f_size) (sym r.ended.links.nv_long)
+  pub forest_told : IsElementForest (length nv) link nv f_size
+  forest_told = subst (λ n. IsElementForest n link nv f_size) (sym r.ended.links.nv_long)
       (forest r.graph r.dense last is_end link nv f_size r.ended)
 
   pub links_told : LinksAre (length nv) link nv last.home

@@ -12,7 +12,7 @@ use Rattle.amd_model.proofs.Counting.Below.{not_both}
 use Rattle.amd_round_laws.proofs.Lists.Rising.{count_yes, count_no}
 use Rattle.amd_words.specs.Words.{num, size_of}
 use Rattle.amd_listing.specs.Blocks.{listing_of}
-use Rattle.amd_listing.specs.Placing.{AreBlocks, IsPlaced, PivotsPlaced}
+use Rattle.amd_listing.specs.Placing.{AreBlocks, IsListedAt, PivotsPlaced}
 use Rattle.amd_listing.proofs.Placed.{placed_same, placed_here, placed_there}
 use Rattle.amd_listing.proofs.BlockPlaces.{other_of, other_listed, last_listed, listing_long, pivot_at}
 
@@ -22,7 +22,7 @@ pub record Passed (nv : List ℤ) (starts : List ℕ) (end : ℕ) (home : ℕ �
     : Type 0 where
   pub places : (e : ℕ) → 0 < size_of nv e → num place e ≡ num starts e + count_below v (other_of home e)
   pub next_is : next ≡ end + count_below v (λ w. is_last (home w))
-  pub placed : (w : ℕ) → w < length nv → (w < v) ⊎ (0 < size_of nv w) → IsPlaced (listing_of (length nv) home elements) p q w
+  pub placed : (w : ℕ) → w < length nv → (w < v) ⊎ (0 < size_of nv w) → IsListedAt (listing_of (length nv) home elements) p q w
 
 pub passed_same : (nv : List ℤ) (starts : List ℕ) (end : ℕ) (home : ℕ → Home) (elements place place' : List ℕ) (next next' : ℕ)
     (p p' q q' : List ℤ) (v : ℕ) → place' ≡ place → next' ≡ next → p' ≡ p → q' ≡ q →
@@ -93,9 +93,9 @@ module _ (link nv : List ℤ) (starts : List ℕ) (end : ℕ) (home : ℕ → Ho
     put_there : (k : ℕ) → slice_index (listing_of (length nv) home elements) k ≡ v → k < length (listing_of (length nv) home elements) →
         v < length nv → length p ≡ length nv → length q ≡ length nv →
         (w : ℕ) → w < length nv → (w < v + 1) ⊎ (0 < size_of nv w) →
-        IsPlaced (listing_of (length nv) home elements) (set p k (pos v)) (set q v (pos k)) w
+        IsListedAt (listing_of (length nv) home elements) (set p k (pos v)) (set q v (pos k)) w
     put_there k is less small p_long q_long w l put = elim (cases_eq w v) [
-      | inl same ↦ subst (λ r. IsPlaced (listing_of (length nv) home elements) (set p k (pos v)) (set q v (pos k)) r) (sym same)
+      | inl same ↦ subst (λ r. IsListedAt (listing_of (length nv) home elements) (set p k (pos v)) (set q v (pos k)) r) (sym same)
           (placed_here (listing_of (length nv) home elements) p q v k is less
           (let a = listing_long link nv starts end home elements b in omega (arith, less, a, p_long)) (omega (arith, small, q_long)))
       | inr ne ↦ placed_there (listing_of (length nv) home elements) p q v k is w ne

@@ -8,18 +8,18 @@ use Rattle.amd_model.specs.Listing.{ListsEachRow}
 use Rattle.amd_model.proofs.Counting.Pigeonhole.{permutation_below, permutation_once}
 use Rattle.amd_types.specs.Permutations.{AreInverse}
 use Rattle.amd_types.proofs.Inverses.{inverse_from}
-use Rattle.amd_listing.specs.Placing.{IsPlaced}
+use Rattle.amd_listing.specs.Placing.{IsListedAt}
 
-pub placed_same : (listing : List ℕ) (p q p' q' : List ℤ) (v : ℕ) → p' ≡ p → q' ≡ q → IsPlaced listing p q v → IsPlaced listing p' q' v
+pub placed_same : (listing : List ℕ) (p q p' q' : List ℤ) (v : ℕ) → p' ≡ p → q' ≡ q → IsListedAt listing p q v → IsListedAt listing p' q' v
 placed_same listing p q p' q' v e f h = (h.0, h.1, h.2, ap (λ z. at z h.0) e ∙ h.3, ap (λ z. at z v) f ∙ h.4)
 
 module _ (listing : List ℕ) (p q : List ℤ) (v k : ℕ) (is : slice_index listing k ≡ v) where
   -- the row that is put there
-  pub placed_here : k < length listing → k < length p → v < length q → IsPlaced listing (set p k (pos v)) (set q v (pos k)) v
+  pub placed_here : k < length listing → k < length p → v < length q → IsListedAt listing (set p k (pos v)) (set q v (pos k)) v
   placed_here l small row = (k, l, is, get_or-set_same p k (pos v) (pos 0) small, get_or-set_same q v (pos k) (pos 0) row)
 
   -- another row stays
-  pub placed_there : (w : ℕ) → w ≢ v → IsPlaced listing p q w → IsPlaced listing (set p k (pos v)) (set q v (pos k)) w
+  pub placed_there : (w : ℕ) → w ≢ v → IsListedAt listing p q w → IsListedAt listing (set p k (pos v)) (set q v (pos k)) w
   placed_there w ne h = (
     h.0,
     h.1,
@@ -29,7 +29,7 @@ module _ (listing : List ℕ) (p q : List ℤ) (v k : ℕ) (is : slice_index lis
   )
 
 module _ (n : ℕ) (listing : List ℕ) (each : ListsEachRow n listing) (p q : List ℤ) (p_long : length p ≡ n) (q_long : length q ≡ n)
-    (placed : (v : ℕ) → v < n → IsPlaced listing p q v) where
+    (placed : (v : ℕ) → v < n → IsListedAt listing p q v) where
   -- a row stands at one place alone
   one_place : (j k : ℕ) → j < n → k < n → slice_index listing j ≡ slice_index listing k → j ≡ k
   one_place j k l m e = elim (cases_order j k) [

@@ -7,7 +7,7 @@ use Rattle.std.proofs.lemmas.List.{length-set, get_or-set_same, get_or-set_other
 use Rattle.std.proofs.lemmas.Bool.{cases_eq, cases_lt, true≢false, lt-ltb}
 use Rattle.amd_model.specs.State.{Home, Last, Gone, gone_at}
 use Rattle.amd_types.specs.Links.{named}
-use Rattle.amd_words.specs.Words.{word, size_of, rows_in, is_place, place, in_front, inside}
+use Rattle.amd_words.specs.Words.{word, size_of, rows_in, is_place, place, in_front, is_negative}
 use Rattle.amd_round_laws.specs.Keeps.{LinksLead}
 use Rattle.amd_listing.specs.Ended.{row_link, LinksAre}
 use Rattle.amd_listing.proofs.LinkSteps.{cases_link}
@@ -83,8 +83,8 @@ gone_is q = ap gone_at q
 
 module _ (n : ℕ) (link nv : List ℤ) (home : ℕ → Home) (are : LinksAre n link nv home) where
   pub unmarked : (v : ℕ) → in_front nv v ≡ false
-  unfolding inside
-  unmarked v = ap inside (are.counts v)
+  unfolding is_negative
+  unmarked v = ap is_negative (are.counts v)
 
   -- an eliminated row that is no element is linked
   pub gone_linked : (v : ℕ) → gone_at (home v) ≡ true → size_of nv v ≡ 0 → (u : ℕ) × (row_link link nv v ≡ Some u)

@@ -7,13 +7,13 @@ use Rattle.amd_listing.specs.Blocks.{AreElements, AreStarts}
 use Rattle.amd_listing.specs.Ended.{LinksAre}
 
 -- the listing has a row at some place; there p names the row, and q names the place at the row
-abbrev pub IsPlaced : List ℕ → List ℤ → List ℤ → ℕ → Type 0
-IsPlaced listing p q v = (k : ℕ) × (k < length listing) × (slice_index listing k ≡ v) × (at p k ≡ pos v) ×
+abbrev pub IsListedAt : List ℕ → List ℤ → List ℤ → ℕ → Type 0
+IsListedAt listing p q v = (k : ℕ) × (k < length listing) × (slice_index listing k ≡ v) × (at p k ≡ pos v) ×
     (at q v ≡ pos k)
 
 -- each row below n is placed
 abbrev pub AllPlaced : ℕ → List ℕ → List ℤ → List ℤ → Type 0
-AllPlaced n listing p q = (v : ℕ) → v < n → IsPlaced listing p q v
+AllPlaced n listing p q = (v : ℕ) → v < n → IsListedAt listing p q v
 
 -- each element is at the last place of its block: there p names it, and q names the place at it
 abbrev pub PivotsPlaced : List ℤ → List ℕ → List ℤ → List ℤ → Type 0

@@ -27,8 +27,8 @@ abbrev pub list_in : List ℤ → List ℤ → List ℕ → ℕ → List ℕ
 list_in iw pe len j = rows iw (start pe j) (num len j)
 
 -- how many rows of the element e are in the classes of a front
-abbrev pub met : List ℤ → List ℤ → List ℤ → List ℤ → List ℕ → ℕ → ℕ
-met iw pe e_len nv front e = sum_by (λ i. cond (has (elements_in iw pe e_len i) e) (size_of nv i) 0) front
+abbrev pub rows_met : List ℤ → List ℤ → List ℤ → List ℤ → List ℕ → ℕ → ℕ
+rows_met iw pe e_len nv front e = sum_by (λ i. cond (has (elements_in iw pe e_len i) e) (size_of nv i) 0) front
 
 -- lists end before the free end, no two share a word, the words for elements are among those of the list, and each word
 -- before the free end names a row below n

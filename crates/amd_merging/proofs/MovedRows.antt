@@ -5,7 +5,7 @@ use Rattle.std.specs.Prelude.{◌==◌}
 use Rattle.std.proofs.Math.Bool.{and-true}
 use Rattle.std.proofs.lemmas.List.{length-set}
 use Rattle.std.proofs.lemmas.Bool.{cases_eq, eq-eqb, ne_eqb, cond-true, cond-false, and_right, not_from_true, not_from_false}
-use Rattle.amd_words.specs.Words.{rows_in, inside, word, size_of, in_front}
+use Rattle.amd_words.specs.Words.{rows_in, is_negative, word, size_of, in_front}
 
 module _ (nv : List ℤ) (i j a b : ℕ) (small_i : i < length nv) (small_j : j < length nv) (is_j : word nv j ≡ negsuc a) (is_i : word nv i
     ≡ negsuc b) (other : j ≡ i → ⊥) where
@@ -42,11 +42,12 @@ module _ (nv : List ℤ) (i j a b : ℕ) (small_i : i < length nv) (small_j : j 
   ]
 
   pub moved_front : (x : ℕ) → in_front (set (set nv j (negsuc (a + b + 1))) i (pos 0)) x ≡ (in_front nv x && not (x == i))
-  unfolding inside
+  unfolding is_negative
   moved_front x = elim (cases_eq x i) [
-    | inl q ↦ ap (in_front two) q ∙ ap inside here ∙ sym (and_right (in_front nv x) (not (x == i)) (not_from_true (x == i) (eq-eqb x i q)))
+    | inl q ↦ ap (in_front two) q ∙ ap is_negative here ∙ sym (and_right (in_front nv x) (not (x == i)) (not_from_true (x == i)
+        (eq-eqb x i q)))
     | inr ne ↦ elim (cases_eq x j) [
-      | inl q ↦ ap (in_front two) q ∙ ap inside there ∙ sym (ap (in_front nv) q ∙ ap inside is_j)
-      | inr m ↦ ap inside (else_where x ne m)
+      | inl q ↦ ap (in_front two) q ∙ ap is_negative there ∙ sym (ap (in_front nv) q ∙ ap is_negative is_j)
+      | inr m ↦ ap is_negative (else_where x ne m)
     ] ∙ sym (ap (λ z. in_front nv x && z) (not_from_false (x == i) (ne_eqb x i ne)) ∙ and-true (in_front nv x))
   ]

@@ -48,8 +48,8 @@ CanPlace n border nv degree last xs = (i : ℕ) → has xs i ≡ true → in_fro
     IsPlaceable n border nv degree last i
 
 -- there are lists by bound, outside the given rows
-abbrev pub HasLists : ℕ → List ℕ → List ℕ → List ℕ → List ℕ → List ℕ → Type 0
-HasLists n xs head next last degree = (lists : ℕ → List ℕ) × DegreeLists n head next last degree lists ×
+abbrev pub HasListsByBound : ℕ → List ℕ → List ℕ → List ℕ → List ℕ → List ℕ → Type 0
+HasListsByBound n xs head next last degree = (lists : ℕ → List ℕ) × DegreeLists n head next last degree lists ×
     AreOutside n lists xs
 
 -- the marked rows of a list are put at the heads of the lists of their bounds

@@ -8,7 +8,7 @@ use Rattle.amd_words.specs.Words.{num, word, is_place, size_of, in_front, classe
 use Rattle.amd_lists.specs.Chains.{Chain}
 use Rattle.amd_lists.specs.Layout.{variables_in}
 use Rattle.amd_lists.specs.Lengths.{row_count}
-use Rattle.amd_merging.specs.FrontLists.{IsList, LongToMerge, LongToPlace, AreHeads, CanPlace, HasLists}
+use Rattle.amd_merging.specs.FrontLists.{IsList, LongToMerge, LongToPlace, AreHeads, CanPlace, HasListsByBound}
 use Rattle.amd_merging.specs.Merging.{bucket, kept_of, IsRenewed, AreApart, AreRenewed, IsReady}
 use Rattle.amd_merging.specs.Restoring.{marked_in, IsPlaceable}
 
@@ -101,7 +101,7 @@ pub record CanRestore (most_word most_cell border left from count : ℕ) (iw nv 
   pub classes_are : CanPlace (row_count sides) border nv degree (lasts sides) (rows iw from count)
   pub order : (border ≤ left) × (left ≤ row_count sides)
   pub heads : AreHeads (row_count sides) count (marked_in nv (rows iw from count)) hash (lasts sides)
-  pub linked : HasLists (row_count sides) (rows iw from count) head (nexts sides) (lasts sides) degree
+  pub linked : HasListsByBound (row_count sides) (rows iw from count) head (nexts sides) (lasts sides) degree
 
 -- the list of the element me can be closed from one place to another, with the rows of its block and its border
 pub record CanClose (most_word most_cell me from end block border : ℕ) (e_len : List ℤ) (len degree : List ℕ) : Type 0

@@ -5,7 +5,7 @@ use Rattle.std.proofs.lemmas.Bool.{cases_lt}
 use Rattle.std.proofs.lemmas.List.{length-replicate, get_or-replicate, get_or_past}
 use Rattle.amd_model.specs.Below.{count_below, list_below}
 use Rattle.amd_model.specs.Figures.{front_sum, entries, ldl_steps, lu_steps, cut}
-use Rattle.amd_round_laws.specs.Starts.{class_of, block_of}
+use Rattle.amd_round_laws.specs.Starts.{class_of, starting_block}
 use Rattle.amd_plain.specs.Views.{num, some_at, list_at, ListsBelow}
 use Rattle.amd_plain.specs.Keeps.{IsIdle}
 use Rattle.amd_plain.specs.declared.work.Work.{Work}
@@ -32,8 +32,8 @@ pub record Begun {A : Type 0} (rows : List (Vec ℕ A)) (degrees : List ℕ) (la
   pub live : w.live ≡ count_below (length w.size.items) (λ i. nat_lt 0 (num w.size.items i))
   pub link : w.link.items ≡ nothing (length degrees)
   pub parent : w.parent.items ≡ nothing (length degrees)
-  pub block : Rows (length degrees) w.block.items (λ i. block_of (last i) (num degrees i))
-  pub front : Rows (length degrees) w.front.items (λ i. block_of (last i) (num degrees i))
+  pub block : Rows (length degrees) w.block.items (λ i. starting_block (last i) (num degrees i))
+  pub front : Rows (length degrees) w.front.items (λ i. starting_block (last i) (num degrees i))
   pub n_dense : w.n_dense ≡ count_below (length degrees) last
   pub lnz : w.figures.lnz ≡ cut (0 + front_sum entries w.n_dense 0)
   pub ldl : w.figures.n_mult_subs_ldl ≡ cut (0 + front_sum ldl_steps w.n_dense 0)

@@ -12,11 +12,11 @@ use Rattle.amd_model.specs.Input.Columns.{at}
 use Rattle.amd_model.specs.Quotient.{QuotientGraph}
 use Rattle.amd_model.proofs.Counting.Below.{count_pos}
 use Rattle.amd_model.proofs.States.EndState.{IsEnd}
-use Rattle.amd_plain.specs.Keeps.{Stands}
+use Rattle.amd_plain.specs.Keeps.{PlainStands}
 use Rattle.amd_plain.specs.declared.work.Work.{Work}
 use Rattle.amd_plain.specs.Views.{num, some_at}
 use Rattle.amd_types.specs.Links.{named}
-use Rattle.amd_postorder.specs.Trees.{IsForest, is_element, tree_of, link_of}
+use Rattle.amd_postorder.specs.Trees.{IsElementForest, is_tree_element, tree_of, link_of}
 use Rattle.amd_postorder.proofs.ChildLinks.{named_link}
 use Rattle.amd_listing.proofs.BlockLists.{AreAlike}
 use Rattle.amd_listing.proofs.LinkSteps.{cases_link}
@@ -48,7 +48,7 @@ module _ (g : Graph) (dense : ℕ → Bool) (s : State) (end : IsEnd g dense s) 
           zero_is : (k : ℕ) → nat_lt 0 k ≡ false → 0 ≡ k
           zero_is k h = omega (arith, Rattle.std.proofs.lemmas.Bool.ltb-false 0 k h)
 
-  element_alike : (e : ℕ) → e < g.size → is_element g.size nv e ≡ block_at e (s.home e)
+  element_alike : (e : ℕ) → e < g.size → is_tree_element g.size nv e ≡ block_at e (s.home e)
   element_alike e small =
       ap (λ b. b && int_lt (pos 0) (at nv e)) (lt-ltb e g.size small) ∙ ap (int_lt (pos 0)) (size_of_block e small)
       ∙ elim (cases_Bool (block_at e (s.home e))) [
@@ -56,7 +56,7 @@ module _ (g : Graph) (dense : ℕ → Bool) (s : State) (end : IsEnd g dense s) 
         | inr y ↦ ap (λ k. nat_lt 0 k) (a.no_block e y) ∙ sym y
       ]
 
-  element_small : (e : ℕ) → is_element g.size nv e ≡ true → e < g.size
+  element_small : (e : ℕ) → is_tree_element g.size nv e ≡ true → e < g.size
   element_small e h = ltb-true e g.size (and_parts (nat_lt e g.size) (int_lt (pos 0) (at nv e)) h).0
 
   link_at : (e : ℕ) → e < g.size → at links e ≡ link_of (s.parent e)
@@ -66,7 +66,7 @@ module _ (g : Graph) (dense : ℕ → Bool) (s : State) (end : IsEnd g dense s) 
   parent_at : (e : ℕ) → e < g.size → named (at links e) ≡ s.parent e
   parent_at e small = ap named (link_at e small) ∙ named_link (s.parent e)
 
-  pub forest : IsForest g.size links nv f_size
+  pub forest : IsElementForest g.size links nv f_size
   unfolding block_at
   forest = record {
     parent_room = a.rooms.3;
@@ -101,7 +101,7 @@ unfolding block_at
 last_block e = refl
 
 -- what a record stands for at the end of a run, copied into signed numbers
-pub stands_elements : {A : Type 0} (g : Graph) (dense : ℕ → Bool) (w : Work A) (t : QuotientGraph) (s : State) → Stands g dense w t s →
+pub stands_elements : {A : Type 0} (g : Graph) (dense : ℕ → Bool) (w : Work A) (t : QuotientGraph) (s : State) → PlainStands g dense w t s →
     IsEnd g dense s → (links nv f_size : List ℤ) →
     links ≡ map link_of w.parent.items → length nv ≡ g.size → length f_size ≡ g.size → length links ≡ g.size →
     ((e : ℕ) → e < g.size → at nv e ≡ pos (cond (nat_lt 0 (num w.block.items e)) (num w.block.items e) 0)) →

@@ -10,9 +10,9 @@ use Rattle.amd_model.specs.Below.{list_below}
 use Rattle.amd_model.specs.State.{Home, Gone, block_at, live_at}
 use Rattle.amd_model.proofs.Counting.Places.{below_skip, below_take, below_none}
 use Rattle.amd_plain.specs.Views.{some_at, list_at}
-use Rattle.amd_plain.specs.Keeps.{LinksLead}
+use Rattle.amd_plain.specs.Keeps.{PlainLinksLead}
 
-module _ (links : List (Option ℕ)) (home : ℕ → Home) (led : LinksLead links home) (over : (v : ℕ) → live_at (home v) ≡ false) where
+module _ (links : List (Option ℕ)) (home : ℕ → Home) (led : PlainLinksLead links home) (over : (v : ℕ) → live_at (home v) ≡ false) where
   -- the root of a linked row is its pivot row
   pub root_gone : (v e u : ℕ) → some_at links v ≡ Some u → some_at links e ≡ None → home v ≡ home e → home v ≡ Gone e
   unfolding live_at
@@ -56,7 +56,8 @@ put_other rows e f new ne = ap (λ xs. get_or xs f []) (map-set (λ w. w.items) 
     get_or-set_other (map (λ w. w.items) rows) e f new.items [] ne
 
 -- one row more: a linked one is put into the list of its pivot row, and the others are passed over
-module _ (links : List (Option ℕ)) (home : ℕ → Home) (led : LinksLead links home) (over : (v : ℕ) → live_at (home v) ≡ false) (v : ℕ) where
+module _ (links : List (Option ℕ)) (home : ℕ → Home) (led : PlainLinksLead links home) (over : (v : ℕ) →
+    live_at (home v) ≡ false) (v : ℕ) where
   pub rows_skip : some_at links v ≡ None → (e : ℕ) → list_below (v + 1) (λ w. block_at e (home w) && not (w == e)) ≡ list_below v
       (λ w. block_at e (home w) && not (w == e))
   rows_skip end e = rw add-one (below_skip v (λ w. block_at e (home w) && not (w == e)) (alone_skip links home led over v e end))

@@ -5,7 +5,7 @@ use Rattle.std.proofs.lemmas.Bool.{eq-eqb}
 use Rattle.amd_model.specs.Quotient.{has, Once}
 use Rattle.amd_model.proofs.Quotient.Lists.{flat_gives, once_firsts}
 use Rattle.amd_model.proofs.Listings.Words.{has_filter as filter_gives, has_append as append_gives, has_right, has_head}
-use Rattle.amd_plain.specs.Views.{num, list_at, live_of, Below, ListsBelow}
+use Rattle.amd_plain.specs.Views.{num, list_at, plain_live, Below, ListsBelow}
 use Rattle.amd_plain.specs.Buckets.{Popped}
 use Rattle.amd_plain.specs.Rounds.{firsts}
 use Rattle.amd_round_laws.proofs.Lists.Named.{below_from, below_gives}
@@ -21,23 +21,24 @@ pivot_below n size bound least lists new c below popped = below_gives n (list_at
 
 -- the list of a new element, as it is gathered
 module _ {A : Type 0} (size : List ℕ) (members elements variables : List (Vec ℕ A)) (c : ℕ) (front : List ℕ)
-    (is : front ≡ firsts (λ x. x == c) (flat_map (λ e. live_of size (list_at members e)) (list_at elements c) ++ live_of size
+    (is : front ≡ firsts (λ x. x == c) (flat_map (λ e. plain_live size (list_at members e)) (list_at elements c) ++ plain_live size
     (list_at variables c))) where
   -- what is gathered
   abbrev front_all : List ℕ
-  front_all = flat_map (λ e. live_of size (list_at members e)) (list_at elements c) ++ live_of size (list_at variables c)
+  front_all = flat_map (λ e. plain_live size (list_at members e)) (list_at elements c) ++ plain_live size (list_at variables c)
 
   pub front_below : (n : ℕ) → ListsBelow n members → ListsBelow n variables → Below n front
   front_below n in_members in_variables = below_from n front (λ x h.
       let named = firsts_gives (λ x. x == c) front_all front is x h in
-      elim (append_gives x (flat_map (λ e. live_of size (list_at members e)) (list_at elements c)) (live_of size (list_at variables c))
+      elim (append_gives x (flat_map (λ e. plain_live size (list_at members e)) (list_at elements c))
+      (plain_live size (list_at variables c))
       named.0) [
-        | inl k ↦ (let from = flat_gives (λ e. live_of size (list_at members e)) (list_at elements c) x k in
+        | inl k ↦ (let from = flat_gives (λ e. plain_live size (list_at members e)) (list_at elements c) x k in
             small members in_members from.0 x from.2)
         | inr k ↦ small variables in_variables c x k
       ])
     where
-      small : (lists : List (Vec ℕ A)) → ListsBelow n lists → (e x : ℕ) → has (live_of size (list_at lists e)) x ≡ true → x < n
+      small : (lists : List (Vec ℕ A)) → ListsBelow n lists → (e x : ℕ) → has (plain_live size (list_at lists e)) x ≡ true → x < n
       small lists below e x h = below_gives n (list_at lists e) (list_below n lists below e) x
           (filter_gives (λ j. nat_lt 0 (num size j)) (list_at lists e) x h).0
 

@@ -5,7 +5,7 @@ use Rattle.std.specs.Prelude.{Vec, flat_map, ◌==◌}
 use Rattle.std.proofs.lemmas.Bool.{true≢false, false≢true, cases_eq, ne_eqb}
 use Rattle.amd_model.specs.Quotient.{has}
 use Rattle.amd_model.proofs.Quotient.Lists.{flat_gives}
-use Rattle.amd_plain.specs.Views.{at, list_at, Below, ListsBelow, Clear}
+use Rattle.amd_plain.specs.Views.{mark_at, list_at, Below, ListsBelow, Clear}
 use Rattle.amd_plain.specs.Rounds.{firsts}
 use Rattle.amd_round_laws.proofs.Lists.Named.{below_from, below_gives}
 use Rattle.amd_round_laws.proofs.Fronts.Gathered.{firsts_gives}
@@ -53,7 +53,7 @@ cleared_is false false stays = refl
 
 -- the marks of a pivot and of a list are clear when both are cleared
 pub pivot_cleared : (marks : List Bool) (c : ℕ) (front : List ℕ) → c < length marks →
-    ((j : ℕ) → at marks j ≡ ((j == c || has front j) && not (has front j))) → Clear (set marks c false)
+    ((j : ℕ) → mark_at marks j ≡ ((j == c || has front j) && not (has front j))) → Clear (set marks c false)
 pivot_cleared marks c front small was j = elim (cases_eq j c) [
   | inl q ↦ rw q (get_or-set_same marks c false false small)
   | inr ne ↦ get_or-set_other marks c j false false ne ∙ was j ∙ gone (j == c) (has front j) (ne_eqb j c ne)

@@ -12,8 +12,8 @@ use Rattle.amd_model.specs.State.{State, Gone, block_at, live_at, in_block}
 use Rattle.amd_model.specs.Quotient.{QuotientGraph}
 use Rattle.amd_model.proofs.Counting.Below.{count_most, count_pos}
 use Rattle.amd_model.proofs.States.EndState.{IsEnd}
-use Rattle.amd_plain.specs.Keeps.{Stands}
-use Rattle.amd_postorder.specs.Trees.{IsForest, IsPostorderOf, link_of, tree_of}
+use Rattle.amd_plain.specs.Keeps.{PlainStands}
+use Rattle.amd_postorder.specs.Trees.{IsElementForest, IsPostorderOf, link_of, tree_of}
 use Rattle.amd_plain.specs.Views.{num, some_at}
 use Rattle.amd_plain.specs.declared.work.Work.{Work}
 use Rattle.amd_plain.proofs.BlockForest.{AreElements, forest, alike, stands_elements, last_block}
@@ -53,7 +53,7 @@ own_block : (e : ℕ) → block_at e (Gone e) ≡ true
 unfolding block_at
 own_block e = eq-eqb e e refl
 
-module _ {A : Type 0} (g : Graph) (dense : ℕ → Bool) (w : Work A) (t : QuotientGraph) (s : State) (st : Stands g dense w t s)
+module _ {A : Type 0} (g : Graph) (dense : ℕ → Bool) (w : Work A) (t : QuotientGraph) (s : State) (st : PlainStands g dense w t s)
     (end : IsEnd g dense s) where
   pub none_live : (v : ℕ) → live_at (t.home v) ≡ false
   none_live v = ap live_at (st.view.fits.home v) ∙ end.over v
@@ -114,7 +114,7 @@ module _ {A : Type 0} (g : Graph) (dense : ℕ → Bool) (w : Work A) (t : Quoti
       (λ e small. fronts.each e (here e small))
 
   module _ (links nv f_size : List ℤ) (a : AreElements g s w.parent.items w.block.items w.front.items links nv f_size) where
-    pub forest_made : IsForest g.size links nv f_size
+    pub forest_made : IsElementForest g.size links nv f_size
     forest_made = forest g dense s end w.parent.items w.block.items w.front.items links nv f_size a
 
     alike_made : AreAlike (tree_of g.size links nv f_size) (assembly_tree g s)

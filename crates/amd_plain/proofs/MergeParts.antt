@@ -8,7 +8,7 @@ use Rattle.amd_model.specs.Quotient.{has, Once, last_that}
 use Rattle.amd_model.proofs.Quotient.Lists.{once_filter}
 use Rattle.amd_model.proofs.Listings.Words.{has_filter as filter_gives}
 use Rattle.amd_plain.specs.Views.{num, list_at, Below}
-use Rattle.amd_plain.specs.Rounds.{alike_in}
+use Rattle.amd_plain.specs.Rounds.{plain_alike}
 use Rattle.amd_plain.specs.Groups.{wrapped_sum, group_in}
 use Rattle.amd_round_laws.proofs.Lists.Named.{sum_part}
 use Rattle.amd_round_laws.proofs.Lists.Same.{same_sum}
@@ -45,7 +45,7 @@ rows_same names rest to size e f = ap (λ l. sum_by (num l) names) f ∙ ap (sum
 
 -- classes alike are in one group
 pub alike_grouped : {A : Type 0} (elements variables : List (Vec ℕ A)) (i j : ℕ) → Once (list_at elements i) × Once (list_at variables i) →
-    Once (list_at elements j) × Once (list_at variables j) → alike_in elements variables i j ≡ true →
+    Once (list_at elements j) × Once (list_at variables j) → plain_alike elements variables i j ≡ true →
     group_in elements variables i ≡ group_in elements variables j
 alike_grouped elements variables i j o p h = let k = alike_gives (list_at elements) (list_at variables) i j h in
     let e = same_sum (λ x. x) (list_at elements i) (list_at elements j) o.0 p.0 k.0 k.1 in
@@ -55,17 +55,17 @@ alike_grouped elements variables i j o p h = let k = alike_gives (list_at elemen
 
 -- the representative of a class of a list is in the list, and represents itself
 pub into_settled : {A : Type 0} (elements variables : List (Vec ℕ A)) (rest : List ℕ) (into : ℕ → ℕ) →
-    ((i : ℕ) → has rest i ≡ true → into i ≡ last_that (alike_in elements variables i) i rest) →
+    ((i : ℕ) → has rest i ≡ true → into i ≡ last_that (plain_alike elements variables i) i rest) →
     (i : ℕ) → has rest i ≡ true → (has rest (into i) ≡ true) × (into (into i) ≡ into i)
 into_settled elements variables rest into f i h =
-    let r : ℕ → ℕ = rep (alike_in elements variables) (alike_self (list_at elements) (list_at variables))
+    let r : ℕ → ℕ = rep (plain_alike elements variables) (alike_self (list_at elements) (list_at variables))
     (alike_flip (list_at elements) (list_at variables)) (alike_through (list_at elements) (list_at variables)) rest in
     let e : into i ≡ r i = f i h in
-    let here : has rest (into i) ≡ true = ap (has rest) e ∙ rep_in (alike_in elements variables)
+    let here : has rest (into i) ≡ true = ap (has rest) e ∙ rep_in (plain_alike elements variables)
     (alike_self (list_at elements) (list_at variables)) (alike_flip (list_at elements) (list_at variables))
     (alike_through (list_at elements) (list_at variables)) rest i h in (
       here,
-      f (into i) here ∙ ap r e ∙ rep_rep (alike_in elements variables) (alike_self (list_at elements) (list_at variables))
+      f (into i) here ∙ ap r e ∙ rep_rep (plain_alike elements variables) (alike_self (list_at elements) (list_at variables))
           (alike_flip (list_at elements) (list_at variables)) (alike_through (list_at elements) (list_at variables)) rest i h ∙ sym e,
     )
 

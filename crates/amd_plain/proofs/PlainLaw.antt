@@ -18,9 +18,9 @@ use Rattle.amd_model.proofs.Patterns.DegreeSums.{pattern_graph}
 use Rattle.amd_model.proofs.States.RunsExist.{first_state, starts}
 use Rattle.amd_model.proofs.Patterns.StartingLists.{starting_lists}
 use Rattle.amd_model.proofs.States.Words.{edge_small}
-use Rattle.amd_plain.specs.Views.{at, num, list_at, Below, ListsBelow}
+use Rattle.amd_plain.specs.Views.{mark_at, num, list_at, Below, ListsBelow}
 use Rattle.amd_edges.specs.Visits.{AreCounts}
-use Rattle.amd_plain.specs.Keeps.{Stands, AreRounds, NoRowIsLive}
+use Rattle.amd_plain.specs.Keeps.{PlainStands, ArePlainRounds, NoPlainRowIsLive}
 use Rattle.amd_plain.specs.Starts.{StandsAtStart, EndsRun, ListsRun}
 use Rattle.amd_types.specs.Permutations.{AreInverse}
 use Rattle.amd_engine_law.specs.Engine.{IsEngineAnswer, Reaches}
@@ -71,18 +71,18 @@ module _ {A : Type 0} (g : Graph) (laws : IsGraph g) (dense last : ℕ → Bool)
   abbrev tie : QuotientGraph
   tie = start_quotient g dense lists
 
-  started : Stands g dense old tie first
+  started : PlainStands g dense old tie first
   unfolding degree
   started = begun g dense lists first laws (sym counts.size) counts.each held listed (λ i h. names i) (starts g dense)
 
-  module _ (w : Work A) (rounds : AreRounds aggressive old w) (over : NoRowIsLive w) where
+  module _ (w : Work A) (rounds : ArePlainRounds aggressive old w) (over : NoPlainRowIsLive w) where
     abbrev states : List State
     states = (rounds g dense tie first started).1.0
 
     abbrev end : QuotientGraph
     end = (rounds g dense tie first started).0
 
-    at_end : Stands g dense w end (last_state first states)
+    at_end : PlainStands g dense w end (last_state first states)
     at_end = (rounds g dense tie first started).1.2
 
     reaches : Reaches g dense aggressive lists first w.n_dense w.figures
@@ -154,38 +154,41 @@ module _ {A : Type 0} (ap' ai : List ℤ) (len : List ℕ) (counts : AreCounts (
 
   -- the marks are those of the rows held last
   module _ (hold : Option (List Bool)) (threshold : ℕ) (marks : List Bool)
-      (marked : (i : ℕ) → i < length len → at marks i ≡ (is_marked hold i || nat_lt threshold (num len i))) (old : Work A)
-      (begun : StandsAtStart rows len (at marks) old) where
+      (marked : (i : ℕ) → i < length len → mark_at marks i ≡ (is_marked hold i || nat_lt threshold (num len i))) (old : Work A)
+      (begun : StandsAtStart rows len (mark_at marks) old) where
     abbrev dense : ℕ → Bool
     dense = is_held_last hold (graph_of (length len) ap' ai) threshold
 
-    held : (i : ℕ) → i < (graph_of (length len) ap' ai).size → at marks i ≡ is_held_last hold (graph_of (length len) ap' ai) threshold i
+    held : (i : ℕ) → i < (graph_of (length len) ap' ai).size → mark_at marks i ≡ is_held_last hold (graph_of (length len) ap' ai)
+        threshold i
     unfolding graph_of is_dense degree
     held i l = marked i l ∙ ap (λ d. is_marked hold i || nat_lt threshold d) (counts.each i l)
 
     -- what the rounds ask of the record
-    pub stands_first : (g : Graph) × (dense : ℕ → Bool) × (t : QuotientGraph) × (s : State) × Stands g dense old t s
+    pub stands_first : (g : Graph) × (dense : ℕ → Bool) × (t : QuotientGraph) × (s : State) × PlainStands g dense old t s
     stands_first = (
       graph,
       dense,
       start_quotient graph dense lists,
       first_state graph dense,
-      started graph is_graph dense (at marks) true lists
+      started graph is_graph dense (mark_at marks) true lists
           names rows len counts held listed_all old begun,
     )
 
-    module _ (aggressive : Bool) (w : Work A) (rounds : AreRounds aggressive old w) (over : NoRowIsLive w) where
+    module _ (aggressive : Bool) (w : Work A) (rounds : ArePlainRounds aggressive old w) (over : NoPlainRowIsLive w) where
       -- what the listing asks of it
       pub stands_last : EndsRun w
-      stands_last = ended graph is_graph dense (at marks) aggressive lists names rows len counts held listed_all old begun w rounds over
+      stands_last = ended graph is_graph dense (mark_at marks) aggressive lists names rows len counts held listed_all old begun w rounds
+          over
 
       abbrev here : Reaches graph dense aggressive lists (first_state graph dense) w.n_dense w.figures
-      here = reaches graph is_graph dense (at marks) aggressive lists names rows len counts held listed_all old begun w rounds over
+      here = reaches graph is_graph dense (mark_at marks) aggressive lists names rows len counts held listed_all old begun w rounds over
 
       module _ (order : List ℕ) (lists_run : ListsRun w order) where
         listed_here : IsPostorder graph dense (last_state (first_state graph dense) here.states) order
         unfolding reaches
-        listed_here = listed_run graph is_graph dense (at marks) aggressive lists names rows len counts held listed_all old begun w rounds
+        listed_here = listed_run graph is_graph dense (mark_at marks)
+            aggressive lists names rows len counts held listed_all old begun w rounds
             over order lists_run
 
         kept : Promises graph dense (first_state graph dense) here.states order

@@ -15,11 +15,11 @@ use Rattle.amd_model.proofs.Listings.Words.{has_filter as filter_gives, has_righ
 use Rattle.amd_model.proofs.Counting.Below.{clash}
 use Rattle.amd_round_laws.specs.Views.{View}
 use Rattle.amd_round_laws.specs.Rounds as views
-use Rattle.amd_plain.specs.Views.{num, some_at, list_at, Below, lists_of, view_of}
-use Rattle.amd_plain.specs.Buckets.{live_in, lasts}
-use Rattle.amd_plain.specs.Rounds.{mass, new_bound}
-use Rattle.amd_plain.specs.Keeps.{IsSized, Stands, IsRound}
-use Rattle.amd_plain.specs.Parts.{MakesElement, MergesClasses, RenewsClasses}
+use Rattle.amd_plain.specs.Views.{num, some_at, list_at, Below, lists_of, plain_view}
+use Rattle.amd_plain.specs.Buckets.{live_in, last_buckets}
+use Rattle.amd_plain.specs.Rounds.{plain_mass, plain_bound}
+use Rattle.amd_plain.specs.Keeps.{IsPlainSized, PlainStands, IsPlainRound}
+use Rattle.amd_plain.specs.Parts.{MakesPlainElement, MergesPlainClasses, RenewsClasses}
 use Rattle.amd_plain.specs.declared.work.Work.{Work}
 use Rattle.amd_round_laws.proofs.Rounding.{Rounding}
 use Rattle.amd_round_laws.proofs.Round.Fronts.{live_left, live_less, border_is as border_law}
@@ -33,13 +33,13 @@ use Rattle.amd_plain.proofs.FrontLists.{pivot_below, front_below, front_once}
 use Rattle.amd_plain.proofs.BucketsLaw.{has_lasts, popped_live, chosen_pivot, least_low, bucket_step}
 
 module _ {A : Type 0} (g : Graph) (dense : ℕ → Bool) (aggressive : Bool) (w : Work A) (t : QuotientGraph) (s : State)
-    (st : Stands g dense w t s)
+    (st : PlainStands g dense w t s)
   where
     abbrev old : View
-    old = view_of w
+    old = plain_view w
 
     -- ---- the element of the pivot
-    module _ (w1 : Work A) (c : ℕ) (front : List ℕ) (m : MakesElement aggressive c front w w1) where
+    module _ (w1 : Work A) (c : ℕ) (front : List ℕ) (m : MakesPlainElement aggressive c front w w1) where
       chosen_named : has (live_in w.size.items w.bound.items w1.least (list_at w.placed.items w1.least)) c ≡ true
       unfolding has
       chosen_named = let left : List ℕ = live_in w.size.items w.bound.items w1.least (list_at w1.placed.items w1.least) in
@@ -80,8 +80,8 @@ module _ {A : Type 0} (g : Graph) (dense : ℕ → Bool) (aggressive : Bool) (w 
       rows_same = ap (λ v. length v.items) m.rows.size ∙ st.sized.size
 
       -- what the merging asks of the record
-      pub merge_sized : IsSized (length w1.size.items) w1
-      merge_sized = subst (λ n. IsSized n w1) (sym (ap (λ v. length v.items) m.rows.size)) m.sized
+      pub merge_sized : IsPlainSized (length w1.size.items) w1
+      merge_sized = subst (λ n. IsPlainSized n w1) (sym (ap (λ v. length v.items) m.rows.size)) m.sized
 
       pub merge_pivot : c < length w1.size.items
       merge_pivot = let a = pivot_below g.size w.size.items w.bound.items w1.least w.placed.items (list_at w1.placed.items w1.least) c
@@ -106,7 +106,7 @@ module _ {A : Type 0} (g : Graph) (dense : ℕ → Bool) (aggressive : Bool) (w 
           finding.rows_live g dense aggressive old t s st.view c placed least front m.front_is in omega (arith, a, b, e, k)
 
       -- ---- the classes that are left of its front
-      module _ (w2 : Work A) (made : List ℕ) (border block : ℕ) (k : MergesClasses c front made border block w1 w2) where
+      module _ (w2 : Work A) (made : List ℕ) (border block : ℕ) (k : MergesPlainClasses c front made border block w1 w2) where
         abbrev L : List ℕ
         L = gathered t c
 
@@ -117,7 +117,7 @@ module _ {A : Type 0} (g : Graph) (dense : ℕ → Bool) (aggressive : Bool) (w 
         into i = num w2.scratch.into.items i
 
         abbrev none_kept : ℕ → Bool
-        none_kept i = mass w1.lists.elements.items w1.lists.variables.items i
+        none_kept i = plain_mass w1.lists.elements.items w1.lists.variables.items i
 
         made_front : (i : ℕ) → has made i ≡ true → has front i ≡ true
         made_front = finding.made_front g dense aggressive old t s st.view c placed least front m.front_is (lists_of w1.lists)
@@ -155,8 +155,8 @@ module _ {A : Type 0} (g : Graph) (dense : ℕ → Bool) (aggressive : Bool) (w 
         live_few = finding.live_few g dense aggressive old t s st.view c placed least front m.front_is
 
         -- what the renewal asks of the record
-        pub renew_sized : IsSized (length w2.size.items) w2
-        renew_sized = subst (λ n. IsSized n w2) (sym k.sized.size) k.sized
+        pub renew_sized : IsPlainSized (length w2.size.items) w2
+        renew_sized = subst (λ n. IsPlainSized n w2) (sym k.sized.size) k.sized
 
         pub renew_pivot : c < length w2.size.items
         renew_pivot = let a = merge_pivot in let b = k.sized.size in omega (arith, a, b)
@@ -200,7 +200,7 @@ module _ {A : Type 0} (g : Graph) (dense : ℕ → Bool) (aggressive : Bool) (w 
         -- ---- the whole round
         module _ (v : Work A) (n : RenewsClasses c made border block w2 v) where
           abbrev new : View
-          new = view_of v
+          new = plain_view v
 
           parent_same : v.parent ≡ w1.parent
           parent_same = n.parent ∙ k.parent
@@ -215,17 +215,17 @@ module _ {A : Type 0} (g : Graph) (dense : ℕ → Bool) (aggressive : Bool) (w 
           figures_same = k.elements.figures ∙ m.elements.figures
 
           bounds : (i : ℕ) → num v.bound.items i ≡ cond (has made i)
-              (new_bound border v.live w1.lists w1.scratch.beyond.items v.size.items w.bound.items i) (num w.bound.items i)
+              (plain_bound border v.live w1.lists w1.scratch.beyond.items v.size.items w.bound.items i) (num w.bound.items i)
           bounds i = n.bound_is i
-              ∙ ap (λ l. cond (has made i) (new_bound border l w2.lists w2.scratch.beyond.items w2.size.items w2.bound.items i)
+              ∙ ap (λ l. cond (has made i) (plain_bound border l w2.lists w2.scratch.beyond.items w2.size.items w2.bound.items i)
               (num w2.bound.items i)) (sym n.live)
-              ∙ ap (λ l. cond (has made i) (new_bound border v.live l w2.scratch.beyond.items w2.size.items w2.bound.items i)
+              ∙ ap (λ l. cond (has made i) (plain_bound border v.live l w2.scratch.beyond.items w2.size.items w2.bound.items i)
               (num w2.bound.items i)) k.lists
-              ∙ ap (λ l. cond (has made i) (new_bound border v.live w1.lists l.items w2.size.items w2.bound.items i)
+              ∙ ap (λ l. cond (has made i) (plain_bound border v.live w1.lists l.items w2.size.items w2.bound.items i)
               (num w2.bound.items i)) k.beyond
-              ∙ ap (λ l. cond (has made i) (new_bound border v.live w1.lists w1.scratch.beyond.items l.items w2.bound.items i)
+              ∙ ap (λ l. cond (has made i) (plain_bound border v.live w1.lists w1.scratch.beyond.items l.items w2.bound.items i)
               (num w2.bound.items i)) (sym n.size)
-              ∙ ap (λ l. cond (has made i) (new_bound border v.live w1.lists w1.scratch.beyond.items v.size.items l.items i)
+              ∙ ap (λ l. cond (has made i) (plain_bound border v.live w1.lists w1.scratch.beyond.items v.size.items l.items i)
               (num l.items i)) bound_same
 
           -- what is not in the front is not placed anew
@@ -249,10 +249,10 @@ module _ {A : Type 0} (g : Graph) (dense : ℕ → Bool) (aggressive : Bool) (w 
           placed_are : (b : ℕ) → list_at v.placed.items b ≡ list_at w1.placed.items b ++ filter (λ i. num v.bound.items i == b) made
           placed_are b = n.placed_is b ∙ ap (λ l. list_at l.items b ++ filter (λ i. num v.bound.items i == b) made) k.placed
 
-          sized_after : IsSized g.size v
-          sized_after = subst (λ x. IsSized x v) (k.sized.size ∙ rows_same) n.sized
+          sized_after : IsPlainSized g.size v
+          sized_after = subst (λ x. IsPlainSized x v) (k.sized.size ∙ rows_same) n.sized
 
-          pub rounding : Rounding aggressive (view_of w) (view_of v)
+          pub rounding : Rounding aggressive (plain_view w) (plain_view v)
           rounding = record {
             c = c;
             front = front;
@@ -305,7 +305,7 @@ module _ {A : Type 0} (g : Graph) (dense : ℕ → Bool) (aggressive : Bool) (w 
             rows = sized_after.link ∙ sym st.sized.link;
           }
 
-          turn : Turn g dense aggressive (view_of w) (view_of v) t s
+          turn : Turn g dense aggressive (plain_view w) (plain_view v) t s
           unfolding rounding
           turn = record {
             before = st.view;
@@ -341,7 +341,7 @@ module _ {A : Type 0} (g : Graph) (dense : ℕ → Bool) (aggressive : Bool) (w 
           ]
 
           -- the lists of the bounds stand for the next order of placing
-          buckets : g.size < 2 ^ 64 → (b : ℕ) → lasts (live_in v.size.items v.bound.items b (list_at v.placed.items b))
+          buckets : g.size < 2 ^ 64 → (b : ℕ) → last_buckets (live_in v.size.items v.bound.items b (list_at v.placed.items b))
               ≡ filter (λ i. (round aggressive t c L).bound i == b) (round aggressive t c L).placed
           unfolding round rounding turn
           buckets few = bucket_step w.size.items w.bound.items w.placed.items w1.placed.items w.least w1.least c t.placed t.bound m.chosen
@@ -357,7 +357,7 @@ module _ {A : Type 0} (g : Graph) (dense : ℕ → Bool) (aggressive : Bool) (w 
               (let a = fewer in let b = live_few in omega (arith, a, b)) i h))
 
           pub round_done : length w.size.items < 2 ^ 63 → (is_empty t.placed ≡ false)
-              × ((u : State) × StepAt g aggressive (pivot t.bound t.placed) s u × Stands g dense v (next aggressive t) u)
+              × ((u : State) × StepAt g aggressive (pivot t.bound t.placed) s u × PlainStands g dense v (next aggressive t) u)
           unfolding rounding turn
           round_done few =
               let small : g.size < 2 ^ 64 = (let z = st.sized.size in omega (arith, z, few)) in
@@ -369,7 +369,7 @@ module _ {A : Type 0} (g : Graph) (dense : ℕ → Bool) (aggressive : Bool) (w 
                   record {
                     view = done.1.2;
                     sized = sized_after;
-                    placed = subst (λ u. (b : ℕ) → lasts (live_in v.size.items v.bound.items b (list_at v.placed.items b))
+                    placed = subst (λ u. (b : ℕ) → last_buckets (live_in v.size.items v.bound.items b (list_at v.placed.items b))
                         ≡ filter (λ i. u.bound i == b) u.placed)
                         (as_next turn) (buckets small);
                   },
@@ -379,7 +379,8 @@ module _ {A : Type 0} (g : Graph) (dense : ℕ → Bool) (aggressive : Bool) (w 
 -- the parts make a round
 pub is_round : {A : Type 0} (aggressive : Bool) (w w1 w2 v : Work A) (c border block : ℕ) (front made : List ℕ) →
     length w.size.items < 2 ^ 63 →
-    MakesElement aggressive c front w w1 → MergesClasses c front made border block w1 w2 → RenewsClasses c made border block w2 v →
-    IsRound aggressive w v
+    MakesPlainElement aggressive c front w w1 → MergesPlainClasses c front made border block w1 w2 →
+    RenewsClasses c made border block w2 v →
+    IsPlainRound aggressive w v
 is_round aggressive w w1 w2 v c border block front made few m k n g dense t s st =
     round_done g dense aggressive w t s st w1 c front m w2 made border block k v n few

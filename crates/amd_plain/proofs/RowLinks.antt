@@ -6,7 +6,7 @@ use Rattle.std.proofs.lemmas.List.{length-set, get_or-set_same, get_or-set_other
 use Rattle.std.proofs.lemmas.Bool.{cases_eq, true≢false}
 use Rattle.amd_model.specs.State.{Home}
 use Rattle.amd_plain.specs.Views.{some_at}
-use Rattle.amd_plain.specs.Keeps.{LinksLead}
+use Rattle.amd_plain.specs.Keeps.{PlainLinksLead}
 
 -- a row without a link, where as many have one as before
 pub none_as_before : (o p : Option ℕ) → is_none o ≡ is_none p → p ≡ None → o ≡ None
@@ -49,7 +49,7 @@ module _ (links : List (Option ℕ)) (row next root : ℕ) (small : row < length
   ]
 
   -- a row linked straight to its root is led as before
-  pub led_straight : (home : ℕ → Home) → LinksLead links home → home row ≡ home root → LinksLead (set links row (Some root)) home
+  pub led_straight : (home : ℕ → Home) → PlainLinksLead links home → home row ≡ home root → PlainLinksLead (set links row (Some root)) home
   unfolding new_links
   led_straight home led q = record {
     linked = λ v u h. elim (cases_eq v row) [

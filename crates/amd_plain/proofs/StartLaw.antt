@@ -14,9 +14,9 @@ use Rattle.amd_model.proofs.Quotient.Start.{once_below}
 use Rattle.amd_round_laws.specs.Starts.{IsBegun}
 use Rattle.amd_round_laws.proofs.Lists.Rising.{list_same, filter_below}
 use Rattle.amd_round_laws.proofs.Starting as starting
-use Rattle.amd_plain.specs.Views.{num, some_at, list_at, view_of, Below, ListsBelow}
-use Rattle.amd_plain.specs.Buckets.{live_in, lasts}
-use Rattle.amd_plain.specs.Keeps.{IsSized, Stands}
+use Rattle.amd_plain.specs.Views.{num, some_at, list_at, plain_view, Below, ListsBelow}
+use Rattle.amd_plain.specs.Buckets.{live_in, last_buckets}
+use Rattle.amd_plain.specs.Keeps.{IsPlainSized, PlainStands}
 use Rattle.amd_plain.specs.Starts.{StandsAtStart}
 use Rattle.amd_plain.specs.declared.work.Work.{Work}
 use Rattle.amd_plain.proofs.ListPlaces.{empty_below}
@@ -43,7 +43,7 @@ module _ {A : Type 0} (rows : List (Vec ℕ A)) (degrees : List ℕ) (last : ℕ
   some_one false h = absurd (omega (arith, h))
 
   -- what each row says
-  row_begun : IsBegun (length degrees) (list_at rows) (num degrees) last (view_of w)
+  row_begun : IsBegun (length degrees) (list_at rows) (num degrees) last (plain_view w)
   row_begun = record {
     rows_are = ap length begun.link ∙ length-replicate (length degrees) None;
     size = begun.size.each;
@@ -76,22 +76,23 @@ module _ {A : Type 0} (rows : List (Vec ℕ A)) (degrees : List ℕ) (last : ℕ
 
   -- the laws of the start, of the view of this record
   light : (i : ℕ) → nat_lt 0 (num w.size.items i) ≡ has classes i
-  light = starting.light (length degrees) (list_at rows) (num degrees) last (view_of w) row_begun small_rows g dense lists s laws size_is
+  light = starting.light (length degrees) (list_at rows) (num degrees) last (plain_view w) row_begun small_rows g dense lists s laws size_is
       degree_is last_is list_is names start
 
   class_in : (i : ℕ) → i < g.size → has classes i ≡ is_class_row i
-  class_in = starting.class_in (length degrees) (list_at rows) (num degrees) last (view_of w) row_begun small_rows g dense lists s laws
+  class_in = starting.class_in (length degrees) (list_at rows) (num degrees) last (plain_view w) row_begun small_rows g dense lists s laws
       size_is degree_is last_is list_is names start
 
   bound_at : (i : ℕ) → i < g.size → num w.bound.items i ≡ degree g i
   bound_at i l = ap (λ xs. num xs i) begun.bound ∙ degree_is i l
 
   -- the classes of a bound stand in its list, rising
-  placed_kept : (b : ℕ) → lasts (live_in w.size.items w.bound.items b (list_at w.placed.items b)) ≡ filter (λ i. degree g i == b) classes
+  placed_kept : (b : ℕ) → last_buckets (live_in w.size.items w.bound.items b (list_at w.placed.items b)) ≡ filter (λ i. degree g i == b)
+      classes
   placed_kept b =
       let p : ℕ → Bool = λ i. nat_lt 0 (num w.size.items i) && num degrees i == b in
       let q : ℕ → Bool = λ i. nat_lt 0 (num w.size.items i) && num w.bound.items i == b in
-      ap (λ xs. lasts (filter q xs)) (begun.placed b) ∙ ap lasts (filter_below (length degrees) p q)
+      ap (λ xs. last_buckets (filter q xs)) (begun.placed b) ∙ ap last_buckets (filter_below (length degrees) p q)
       ∙ lasts_once (list_below (length degrees) (λ i. p i && q i)) (once_below (length degrees) (λ i. p i && q i))
       ∙ ap (λ n. list_below n (λ i. p i && q i)) (sym size_is)
       ∙ list_same g.size (λ i. p i && q i) (λ i. is_class_row i && degree g i == b) (λ i l. same_row i l)
@@ -105,8 +106,8 @@ module _ {A : Type 0} (rows : List (Vec ℕ A)) (degrees : List ℕ) (last : ℕ
           ∙ ap (λ d. (is_class_row i && degree g i == b) && (is_class_row i && d == b)) (bound_at i l)
           ∙ and_self (is_class_row i && degree g i == b)
 
-  sized : IsSized g.size w
-  sized = subst (λ n. IsSized n w) (sym size_is) (record {
+  sized : IsPlainSized g.size w
+  sized = subst (λ n. IsPlainSized n w) (sym size_is) (record {
     variables = subst (ListsBelow (length degrees)) (sym begun.variables) rows_in;
     elements = empty_below (length degrees) w.lists.elements.items begun.elements.0 begun.elements.1;
     members = empty_below (length degrees) w.lists.members.items begun.members.0 begun.members.1;
@@ -120,10 +121,11 @@ module _ {A : Type 0} (rows : List (Vec ℕ A)) (degrees : List ℕ) (last : ℕ
     idle = begun.idle;
   })
 
-  stands_start : Stands g dense w (start_quotient g dense lists) s
+  stands_start : PlainStands g dense w (start_quotient g dense lists) s
   unfolding start_quotient
   stands_start = record {
-    view = starting.view_at_start (length degrees) (list_at rows) (num degrees) last (view_of w) row_begun small_rows g dense lists s laws
+    view = starting.view_at_start (length degrees) (list_at rows) (num degrees) last (plain_view w)
+        row_begun small_rows g dense lists s laws
         size_is degree_is last_is list_is names start;
     sized = sized;
     placed = placed_kept;

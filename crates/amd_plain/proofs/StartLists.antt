@@ -8,7 +8,7 @@ use Rattle.std.proofs.lemmas.List.{get_or_push}
 use Rattle.std.proofs.lemmas.List.Elements.{All-push}
 use Rattle.amd_model.specs.Below.{list_below}
 use Rattle.amd_round_laws.proofs.Lists.Rising.{list_yes, list_no}
-use Rattle.amd_plain.specs.Views.{at, num, list_at, Below, ListsBelow, Clear}
+use Rattle.amd_plain.specs.Views.{mark_at, num, list_at, Below, ListsBelow, Clear}
 use Rattle.amd_types.proofs.EmptyLists.{empty_more}
 use Rattle.amd_plain.proofs.ListPlaces.{list_read, list_set_same, list_set_other, lists_set}
 
@@ -37,7 +37,7 @@ same_length n x xs h = ap length h ∙ length-replicate n x
 pub marks_clear : (n : ℕ) (marks : List Bool) → marks ≡ replicate n false → (length marks ≡ n) × Clear marks
 marks_clear n marks h = (
   same_length n false marks h,
-  λ j. ap (λ xs. at xs j) h ∙ elim (cases_lt j n) [
+  λ j. ap (λ xs. mark_at xs j) h ∙ elim (cases_lt j n) [
     | inl l ↦ get_or-replicate n j false false l
     | inr l ↦ get_or_past (replicate n false) j false (let e = length-replicate n false in omega (arith, e, l))
   ],

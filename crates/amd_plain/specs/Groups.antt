@@ -4,7 +4,7 @@ use Rattle.std.specs.Prelude.{◌⊎◌, cond, length}
 use Rattle.std.specs.Prelude.{sum_by}
 use Rattle.amd_model.specs.Quotient.{has}
 use Rattle.amd_plain.specs.Views.{list_at, ListsBelow, Clear}
-use Rattle.amd_plain.specs.Rounds.{alike_in}
+use Rattle.amd_plain.specs.Rounds.{plain_alike}
 use Rattle.amd_plain.specs.declared.work.Scratch.{Scratch}
 
 -- the sum of a list, modulo 2^64
@@ -18,8 +18,8 @@ group_in elements variables i = ((wrapped_sum (list_at elements i) + wrapped_sum
 
 -- what a search in a list finds: None if no class there is alike to i, else one that is
 abbrev pub FoundIn : {A : Type 0} → List (Vec ℕ A) → List (Vec ℕ A) → ℕ → List ℕ → Option ℕ → Type 0
-FoundIn elements variables i group None = (r : ℕ) → has group r ≡ true → alike_in elements variables i r ≡ false
-FoundIn elements variables i group (Some r) = (has group r ≡ true) × (alike_in elements variables i r ≡ true)
+FoundIn elements variables i group None = (r : ℕ) → has group r ≡ true → plain_alike elements variables i r ≡ false
+FoundIn elements variables i group (Some r) = (has group r ≡ true) × (plain_alike elements variables i r ≡ true)
 
 -- each group names classes of the list alone, each in its group
 abbrev pub AreGrouped : {A : Type 0} → List (Vec ℕ A) → List (Vec ℕ A) → List ℕ → (ℕ → List ℕ) → Type 0
@@ -27,7 +27,7 @@ AreGrouped elements variables rest groups = (b r : ℕ) → has (groups b) r ≡
     (group_in elements variables r ≡ b)
 
 -- the marks are clear, the groups name rows alone, and there is room for each row
-pub record IsReady {A : Type 0} (n : ℕ) (s : Scratch A) : Type 0 where
+pub record IsClearScratch {A : Type 0} (n : ℕ) (s : Scratch A) : Type 0 where
   pub rows : (length s.rows.items ≡ n) × Clear s.rows.items
   pub elements : (length s.elements.items ≡ n) × Clear s.elements.items
   pub groups : ListsBelow n s.groups.items
@@ -38,8 +38,8 @@ pub record IsReady {A : Type 0} (n : ℕ) (s : Scratch A) : Type 0 where
 -- in the group
 abbrev pub Looked : {A : Type 0} → List (Vec ℕ A) → List (Vec ℕ A) → ℕ → (ℕ → List ℕ) → (ℕ → List ℕ) → ℕ → Type 0
 Looked elements variables i before after r =
-    ((has (before (group_in elements variables i)) r ≡ true) × (alike_in elements variables i r ≡ true) ×
+    ((has (before (group_in elements variables i)) r ≡ true) × (plain_alike elements variables i r ≡ true) ×
     ((b : ℕ) → after b ≡ before b))
-    ⊎ (((x : ℕ) → has (before (group_in elements variables i)) x ≡ true → alike_in elements variables i x ≡ false) ×
+    ⊎ (((x : ℕ) → has (before (group_in elements variables i)) x ≡ true → plain_alike elements variables i x ≡ false) ×
     (r ≡ i)
     × ((b : ℕ) → after b ≡ cond (b == group_in elements variables i) (before b ++ i ∷ []) (before b)))

@@ -7,8 +7,8 @@ use Rattle.amd_model.specs.Run.{last_state}
 use Rattle.amd_model.specs.Ordering.{Follows}
 use Rattle.amd_model.specs.Quotient.{QuotientGraph, has, is_empty, pivot, next}
 use Rattle.amd_round_laws.specs.Keeps as views
-use Rattle.amd_plain.specs.Views.{at, some_at, list_at, view_of, ListsBelow, Clear}
-use Rattle.amd_plain.specs.Buckets.{live_in, lasts}
+use Rattle.amd_plain.specs.Views.{mark_at, some_at, list_at, plain_view, ListsBelow, Clear}
+use Rattle.amd_plain.specs.Buckets.{live_in, last_buckets}
 use Rattle.amd_plain.specs.declared.work.Lists.{Lists}
 use Rattle.amd_plain.specs.declared.work.Work.{Work}
 use Rattle.amd_plain.specs.declared.work.Scratch.{Scratch}
@@ -23,7 +23,7 @@ pub record IsIdle {A : Type 0} (n : ℕ) (s : Scratch A) : Type 0 where
 
 -- the same, but a pivot and the classes of its front are marked in the rows, and nothing else
 pub record IsMarked {A : Type 0} (n pivot : ℕ) (front : List ℕ) (s : Scratch A) : Type 0 where
-  pub rows : (length s.rows.items ≡ n) × ((j : ℕ) → at s.rows.items j ≡ (j == pivot || has front j))
+  pub rows : (length s.rows.items ≡ n) × ((j : ℕ) → mark_at s.rows.items j ≡ (j == pivot || has front j))
   pub elements : (length s.elements.items ≡ n) × Clear s.elements.items
   pub groups : (length s.groups.items ≡ n) × ((b : ℕ) → list_at s.groups.items b ≡ [])
   pub beyond : length s.beyond.items ≡ n
@@ -36,7 +36,7 @@ pub record AreSized {A : Type 0} (n : ℕ) (lists : Lists A) : Type 0 where
   pub members : ListsBelow n lists.members.items
 
 -- there is a place for each of n rows, and each list names rows alone
-pub record IsSized {A : Type 0} (n : ℕ) (w : Work A) : Type 0 where
+pub record IsPlainSized {A : Type 0} (n : ℕ) (w : Work A) : Type 0 where
   pub variables : ListsBelow n w.lists.variables.items
   pub elements : ListsBelow n w.lists.elements.items
   pub members : ListsBelow n w.lists.members.items
@@ -50,32 +50,32 @@ pub record IsSized {A : Type 0} (n : ℕ) (w : Work A) : Type 0 where
   pub idle : IsIdle n w.scratch
 
 -- following the links comes to an end, and leads to where the rows are
-abbrev pub LinksLead : List (Option ℕ) → (ℕ → Home) → Type 0
-LinksLead links home = views.LinksLead (length links) (some_at links) home
+abbrev pub PlainLinksLead : List (Option ℕ) → (ℕ → Home) → Type 0
+PlainLinksLead links home = views.LinksLead (length links) (some_at links) home
 
 -- the record keeps the lists t, which stand for the sound state s of an elimination of the graph
-pub record Stands {A : Type 0} (g : Graph) (dense : ℕ → Bool) (w : Work A) (t : QuotientGraph) (s : State) : Type 0
+pub record PlainStands {A : Type 0} (g : Graph) (dense : ℕ → Bool) (w : Work A) (t : QuotientGraph) (s : State) : Type 0
   where
-    pub view : views.Stands g dense (view_of w) t s
-    pub sized : IsSized g.size w
+    pub view : views.ViewStands g dense (plain_view w) t s
+    pub sized : IsPlainSized g.size w
     -- the classes of each bound, each at its last place
-    pub placed : (b : ℕ) → lasts (live_in w.size.items w.bound.items b (list_at w.placed.items b)) ≡ filter
+    pub placed : (b : ℕ) → last_buckets (live_in w.size.items w.bound.items b (list_at w.placed.items b)) ≡ filter
         (λ i. t.bound i == b) t.placed
 
 -- whatever lists and state the old record stands for, the new one stands for the lists of the next round, and for a
 -- state that the step with the pivot of the rules leads to
-abbrev pub IsRound : {A : Type 0} → Bool → Work A → Work A → Type 0
-IsRound aggressive old new = (g : Graph) (dense : ℕ → Bool) (t : QuotientGraph) (s : State) → Stands g dense old t s →
+abbrev pub IsPlainRound : {A : Type 0} → Bool → Work A → Work A → Type 0
+IsPlainRound aggressive old new = (g : Graph) (dense : ℕ → Bool) (t : QuotientGraph) (s : State) → PlainStands g dense old t s →
     (is_empty t.placed ≡ false) × ((u : State) × StepAt g aggressive (pivot t.bound t.placed) s u
-    × Stands g dense new (next aggressive t) u)
+    × PlainStands g dense new (next aggressive t) u)
 
 -- whatever lists and state the old record stands for, the new one stands for lists and a state some rounds later
-abbrev pub AreRounds : {A : Type 0} → Bool → Work A → Work A → Type 0
-AreRounds aggressive old new = (g : Graph) (dense : ℕ → Bool) (t : QuotientGraph) (s : State) → Stands g dense old t s →
+abbrev pub ArePlainRounds : {A : Type 0} → Bool → Work A → Work A → Type 0
+ArePlainRounds aggressive old new = (g : Graph) (dense : ℕ → Bool) (t : QuotientGraph) (s : State) → PlainStands g dense old t s →
     (u : QuotientGraph) × ((states : List State) × Follows g aggressive t s states u ×
-    Stands g dense new u (last_state s states))
+    PlainStands g dense new u (last_state s states))
 
 -- no row is live in any state that the record stands for
-abbrev pub NoRowIsLive : {A : Type 0} → Work A → Type 0
-NoRowIsLive w = (g : Graph) (dense : ℕ → Bool) (t : QuotientGraph) (s : State) → Stands g dense w t s → (v : ℕ) →
+abbrev pub NoPlainRowIsLive : {A : Type 0} → Work A → Type 0
+NoPlainRowIsLive w = (g : Graph) (dense : ℕ → Bool) (t : QuotientGraph) (s : State) → PlainStands g dense w t s → (v : ℕ) →
     live s v ≡ false

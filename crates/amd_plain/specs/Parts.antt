@@ -4,10 +4,10 @@ use Rattle.std.specs.Prelude.{length, filter}
 use Rattle.std.specs.Prelude.{flat_map, sum_by}
 use Rattle.amd_model.specs.Figures.{cut, front_sum, entries, ldl_steps, lu_steps}
 use Rattle.amd_model.specs.Quotient.{has, last_that, turned}
-use Rattle.amd_plain.specs.Views.{num, some_at, list_at, live_of}
+use Rattle.amd_plain.specs.Views.{num, some_at, list_at, plain_live}
 use Rattle.amd_plain.specs.Buckets.{Chosen}
-use Rattle.amd_plain.specs.Rounds.{firsts, mass, alike_in, Absorbed, new_bound}
-use Rattle.amd_plain.specs.Keeps.{IsSized}
+use Rattle.amd_plain.specs.Rounds.{firsts, plain_mass, plain_alike, Absorbed, plain_bound}
+use Rattle.amd_plain.specs.Keeps.{IsPlainSized}
 use Rattle.amd_plain.specs.declared.work.Work.{Work}
 
 -- what a part of a round leaves as it was: the sizes, bounds and links of rows, and the number of live rows
@@ -25,28 +25,28 @@ pub record KeepsElements {A : Type 0} (w v : Work A) : Type 0 where
   pub figures : v.figures ≡ w.figures
 
 -- the pivot c is taken out of its list, its front is gathered, and elements are absorbed
-pub record MakesElement {A : Type 0} (aggressive : Bool) (c : ℕ) (front : List ℕ) (w v : Work A) : Type 0 where
+pub record MakesPlainElement {A : Type 0} (aggressive : Bool) (c : ℕ) (front : List ℕ) (w v : Work A) : Type 0 where
   pub chosen : Chosen w.size.items w.bound.items w.placed.items v.placed.items w.least v.least c
-  pub front_is : front ≡ firsts (λ x. x == c) (flat_map (λ e. live_of w.size.items (list_at w.lists.members.items e))
-      (list_at w.lists.elements.items c) ++ live_of w.size.items (list_at w.lists.variables.items c))
+  pub front_is : front ≡ firsts (λ x. x == c) (flat_map (λ e. plain_live w.size.items (list_at w.lists.members.items e))
+      (list_at w.lists.elements.items c) ++ plain_live w.size.items (list_at w.lists.variables.items c))
   pub absorbed : Absorbed aggressive c front w.size.items w.block.items w.front.items w.lists v.lists w.parent.items
       v.parent.items
       v.scratch.beyond.items
   pub rows : KeepsRows w v
   pub elements : KeepsElements w v
-  pub sized : IsSized (length w.size.items) v
+  pub sized : IsPlainSized (length w.size.items) v
 
 -- the pivot and what keeps nothing are eliminated, and classes alike become one
-pub record MergesClasses {A : Type 0} (c : ℕ) (front made : List ℕ) (border block : ℕ) (w v : Work A) : Type 0 where
+pub record MergesPlainClasses {A : Type 0} (c : ℕ) (front made : List ℕ) (border block : ℕ) (w v : Work A) : Type 0 where
   pub rest : List ℕ
-  pub rest_is : rest ≡ filter (λ i. not (mass w.lists.elements.items w.lists.variables.items i)) front
+  pub rest_is : rest ≡ filter (λ i. not (plain_mass w.lists.elements.items w.lists.variables.items i)) front
   pub border_is : border ≡ sum_by (num w.size.items) rest
   pub block_is : block ≡ num w.size.items c + (sum_by (num w.size.items) front - border)
   pub into_is : (i : ℕ) → has rest i ≡ true → num v.scratch.into.items i ≡ last_that
-      (alike_in w.lists.elements.items w.lists.variables.items i) i rest
+      (plain_alike w.lists.elements.items w.lists.variables.items i) i rest
   pub made_is : made ≡ filter (λ i. num v.scratch.into.items i == i) rest
   pub retired : List ℕ
-  pub retired_is : (x : ℕ) → num retired x ≡ cond (has front x && mass w.lists.elements.items w.lists.variables.items x)
+  pub retired_is : (x : ℕ) → num retired x ≡ cond (has front x && plain_mass w.lists.elements.items w.lists.variables.items x)
       0
       (num w.size.items x)
   pub joined : List ℕ
@@ -56,7 +56,7 @@ pub record MergesClasses {A : Type 0} (c : ℕ) (front made : List ℕ) (border 
   pub size_is : (x : ℕ) → num v.size.items x ≡ cond (x == c) 0 (num joined x)
   pub link_is : (x : ℕ) → some_at v.link.items x ≡ cond (has rest x && not (num v.scratch.into.items x == x))
       (Some (num v.scratch.into.items x))
-      (cond (has front x && mass w.lists.elements.items w.lists.variables.items x) (Some c) (some_at w.link.items x))
+      (cond (has front x && plain_mass w.lists.elements.items w.lists.variables.items x) (Some c) (some_at w.link.items x))
   pub live_is : v.live ≡ w.live - block
   pub lists : v.lists ≡ w.lists
   pub bound : v.bound ≡ w.bound
@@ -65,12 +65,12 @@ pub record MergesClasses {A : Type 0} (c : ℕ) (front made : List ℕ) (border 
   pub parent : v.parent ≡ w.parent
   pub beyond : v.scratch.beyond ≡ w.scratch.beyond
   pub elements : KeepsElements w v
-  pub sized : IsSized (length w.size.items) v
+  pub sized : IsPlainSized (length w.size.items) v
 
 -- the classes of the new element c have their new bounds and lists, and are placed
 pub record RenewsClasses {A : Type 0} (c : ℕ) (made : List ℕ) (border block : ℕ) (w v : Work A) : Type 0 where
   pub bound_is : (i : ℕ) → num v.bound.items i ≡ cond (has made i)
-      (new_bound border w.live w.lists w.scratch.beyond.items w.size.items w.bound.items i) (num w.bound.items i)
+      (plain_bound border w.live w.lists w.scratch.beyond.items w.size.items w.bound.items i) (num w.bound.items i)
   pub elements_is : (i : ℕ) → list_at v.lists.elements.items i ≡ cond (has made i)
       (c ∷ turned (list_at w.lists.elements.items i))
       (list_at w.lists.elements.items i)
@@ -93,4 +93,4 @@ pub record RenewsClasses {A : Type 0} (c : ℕ) (made : List ℕ) (border block 
   pub live : v.live ≡ w.live
   pub parent : v.parent ≡ w.parent
   pub dense_rows : v.n_dense ≡ w.n_dense
-  pub sized : IsSized (length w.size.items) v
+  pub sized : IsPlainSized (length w.size.items) v

@@ -3,7 +3,7 @@ use Rattle.std.specs.Prelude.{ℕ, ℤ, Bool, Option, List, Vec, ◌≡◌, ◌<
 use Rattle.amd_model.specs.Input.Pattern.{is_pair}
 use Rattle.amd_model.specs.Input.Held.{is_marked}
 use Rattle.amd_model.specs.Quotient.{starting_list}
-use Rattle.amd_plain.specs.Views.{at, num, list_at}
+use Rattle.amd_plain.specs.Views.{mark_at, num, list_at}
 use Rattle.amd_plain.specs.Starts.{StandsAtStart}
 use Rattle.amd_plain.specs.declared.work.Work.{Work}
 
@@ -15,5 +15,5 @@ pub record IsBegun {A : Type 0} (ap ai : List ℤ) (len : List ℕ) (hold : Opti
   pub size : length rows ≡ length len
   pub lists : (i : ℕ) → i < length len → list_at rows i ≡ starting_list (length len) (is_pair (length len) ap ai) i
   pub marks : List Bool
-  pub marked : (i : ℕ) → i < length len → at marks i ≡ (is_marked hold i || nat_lt threshold (num len i))
-  pub begins : StandsAtStart rows len (at marks) w
+  pub marked : (i : ℕ) → i < length len → mark_at marks i ≡ (is_marked hold i || nat_lt threshold (num len i))
+  pub begins : StandsAtStart rows len (mark_at marks) w

@@ -8,17 +8,17 @@ use Rattle.amd_plain.specs.Views.{num, some_at, list_at, lists_of}
 use Rattle.amd_plain.specs.declared.work.Lists.{Lists}
 
 -- the class i keeps neither an element nor a variable
-abbrev pub mass : {A : Type 0} → List (Vec ℕ A) → List (Vec ℕ A) → ℕ → Bool
-mass elements variables i = views.mass (list_at elements) (list_at variables) i
+abbrev pub plain_mass : {A : Type 0} → List (Vec ℕ A) → List (Vec ℕ A) → ℕ → Bool
+plain_mass elements variables i = views.keeps_nothing (list_at elements) (list_at variables) i
 
 -- two classes keep the same elements and the same variables
-abbrev pub alike_in : {A : Type 0} → List (Vec ℕ A) → List (Vec ℕ A) → ℕ → ℕ → Bool
-alike_in elements variables i j = views.alike_in (list_at elements) (list_at variables) i j
+abbrev pub plain_alike : {A : Type 0} → List (Vec ℕ A) → List (Vec ℕ A) → ℕ → ℕ → Bool
+plain_alike elements variables i j = views.alike_in (list_at elements) (list_at variables) i j
 
 -- the number of rows of the border of e (block and border less the block), less that of each class of a front that
 -- lists it
-abbrev pub rows_left : {A : Type 0} → List ℕ → List ℕ → List ℕ → List (Vec ℕ A) → List ℕ → ℕ → ℕ
-rows_left block whole size elements front e = views.rows_left (num block) (num whole) (num size) (list_at elements)
+abbrev pub plain_rows_left : {A : Type 0} → List ℕ → List ℕ → List ℕ → List (Vec ℕ A) → List ℕ → ℕ → ℕ
+plain_rows_left block whole size elements front e = views.rows_left (num block) (num whole) (num size) (list_at elements)
     front e
 
 -- the lists after the new element of the pivot c has absorbed others: those of the classes of its front; the others
@@ -34,6 +34,6 @@ pub record Absorbed {A : Type 0} (aggressive : Bool) (c : ℕ) (front size block
 
 -- the lesser of the old bound and the number of rows that the lists reach, plus the other border rows; at most the
 -- other live rows
-abbrev pub new_bound : {A : Type 0} → ℕ → ℕ → Lists A → List ℕ → List ℕ → List ℕ → ℕ → ℕ
-new_bound border live lists beyond size bound i =
-    views.new_bound border live (lists_of lists) (num beyond) (num size) (num bound) i
+abbrev pub plain_bound : {A : Type 0} → ℕ → ℕ → Lists A → List ℕ → List ℕ → List ℕ → ℕ → ℕ
+plain_bound border live lists beyond size bound i =
+    views.bound_by_lists border live (lists_of lists) (num beyond) (num size) (num bound) i

@@ -7,7 +7,7 @@ use Rattle.amd_model.specs.Listing.{IsPostorder}
 use Rattle.amd_model.specs.Quotient.{QuotientGraph, start_quotient}
 use Rattle.amd_model.specs.QuotientLaws.{NamesNeighbours}
 use Rattle.amd_plain.specs.Views.{num, list_at}
-use Rattle.amd_plain.specs.Keeps.{Stands}
+use Rattle.amd_plain.specs.Keeps.{PlainStands}
 use Rattle.amd_plain.specs.declared.work.Work.{Work}
 
 -- of each graph with these degrees and these lists of neighbours the record stands for the start in which exactly the
@@ -18,7 +18,7 @@ StandsAtStart rows degrees last w = (g : Graph) (dense : ℕ → Bool) (lists : 
     ((i : ℕ) → i < g.size → num degrees i ≡ degree g i) → ((i : ℕ) → i < g.size → last i ≡ dense i) →
     ((i : ℕ) → i < g.size → list_at rows i ≡ lists i) →
     ((i : ℕ) → i < g.size → NamesNeighbours g i (lists i)) → IsStart g dense s →
-    Stands g dense w (start_quotient g dense lists) s
+    PlainStands g dense w (start_quotient g dense lists) s
 
 -- a run at whose end the record stands: its graph, the rows held last, its states, and the lists of the last of them
 pub record EndsRun {A : Type 0} (w : Work A) : Type 0 where
@@ -30,11 +30,11 @@ pub record EndsRun {A : Type 0} (w : Work A) : Type 0 where
   pub lists : QuotientGraph
   pub laws : IsGraph graph
   pub run : Run graph dense aggressive first states
-  pub stands : Stands graph dense w lists (last_state first states)
+  pub stands : PlainStands graph dense w lists (last_state first states)
 
 -- whatever run the record stands at the end of, p lists its assembly tree in postorder, and then the dense rows
 abbrev pub ListsRun : {A : Type 0} → Work A → List ℕ → Type 0
 ListsRun w p = (g : Graph) (dense : ℕ → Bool) (aggressive : Bool) (first : State) (states : List State)
     (t : QuotientGraph) →
-    Run g dense aggressive first states → Stands g dense w t (last_state first states) →
+    Run g dense aggressive first states → PlainStands g dense w t (last_state first states) →
     IsPostorder g dense (last_state first states) p

@@ -6,8 +6,8 @@
 ghost use Rattle.std.specs.Prelude.{◌≡◌, ◌<◌, ◌^◌, ◌&&◌, ◌-◌, not, cond, nat_eq, nat_lt, ℕ, Some, true};
 ghost use Rattle.std.specs.Prelude.{false, filter, length, sum_by, OnOk, IfOk};
 ghost use Rattle.amd_model.specs.Quotient.{has, Once};
-ghost use Rattle.amd_plain.specs.Views.{num, at, some_at, list_at, Below, ListsBelow};
-ghost use Rattle.amd_plain.specs.Rounds.{mass, less, rows_left, Absorbed};
+ghost use Rattle.amd_plain.specs.Views.{num, mark_at, some_at, list_at, Below, ListsBelow};
+ghost use Rattle.amd_plain.specs.Rounds.{plain_mass, less, plain_rows_left, Absorbed};
 ghost use Rattle.amd_plain.specs.Keeps.{AreSized, IsIdle, IsMarked};
 
 use crate::marks::{clear_all, touched_by};
@@ -63,7 +63,7 @@ fn count_beyond<A: Allocator>(
     requires front { Below (length size.now) front.now }
     ensures size { length beyond.new.items ≡ length beyond.old.items }
     ensures counted { (e : ℕ) → has touched.now e ≡ true →
-        num beyond.new.items e ≡ rows_left block.now whole.now size.now elements.now.items front.now e }
+        num beyond.new.items e ≡ plain_rows_left block.now whole.now size.now elements.now.items front.now e }
 {
     count_borders(touched, block, whole, beyond);
     for i in front {
@@ -82,7 +82,7 @@ fn spare<A: Allocator>(
     requires length { length beyond.now ≡ length taken.old.items }
     requires range { Below (length beyond.now) touched.now }
     ensures size { length taken.new.items ≡ length taken.old.items }
-    ensures spared { (e : ℕ) → at taken.new.items e ≡ (at taken.old.items e &&
+    ensures spared { (e : ℕ) → mark_at taken.new.items e ≡ (mark_at taken.old.items e &&
         not (has touched.now e && not (aggressive && nat_eq (num beyond.now e) 0))) }
 {
     for e in touched {
@@ -102,7 +102,7 @@ fn adopt<A: Allocator>(
     requires length { length parent.old.items ≡ length taken.now }
     requires range { Below (length taken.now) list.now }
     ensures size { length parent.new.items ≡ length parent.old.items }
-    ensures adopted { (e : ℕ) → some_at parent.new.items e ≡ cond (has list.now e && at taken.now e) (Some pivot)
+    ensures adopted { (e : ℕ) → some_at parent.new.items e ≡ cond (has list.now e && mark_at taken.now e) (Some pivot)
         (some_at parent.old.items e) }
 {
     for e in list {
@@ -114,7 +114,7 @@ fn adopt<A: Allocator>(
 
 /// Whether a number is marked.
 fn is_marked(marks: &[bool], j: usize) -> bool
-    ensures { result ≡ at marks.now j }
+    ensures { result ≡ mark_at marks.now j }
 {
     match marks.get(j) {
         Some(mark) => *mark,
@@ -124,7 +124,7 @@ fn is_marked(marks: &[bool], j: usize) -> bool
 
 /// Whether a number names a class that is not marked.
 fn is_outside(size: &[usize], marks: &[bool], j: usize) -> bool
-    ensures { result ≡ (nat_lt 0 (num size.now j) && not (at marks.now j)) }
+    ensures { result ≡ (nat_lt 0 (num size.now j) && not (mark_at marks.now j)) }
 {
     match size.get(j) {
         Some(rows) => *rows > 0 && !is_marked(marks, j),
@@ -134,14 +134,14 @@ fn is_outside(size: &[usize], marks: &[bool], j: usize) -> bool
 
 /// Leaves in a list the elements that are not absorbed.
 fn keep_elements<A: Allocator>(taken: &[bool], list: &mut Vec<usize, A>)
-    ensures { list.new.items ≡ filter (λ e. not (at taken.now e)) list.old.items }
+    ensures { list.new.items ≡ filter (λ e. not (mark_at taken.now e)) list.old.items }
 {
     list.retain(|e| !is_marked(taken, *e));
 }
 
 /// Leaves in a list the classes that are not marked.
 fn keep_variables<A: Allocator>(size: &[usize], marks: &[bool], list: &mut Vec<usize, A>)
-    ensures { list.new.items ≡ filter (λ j. nat_lt 0 (num size.now j) && not (at marks.now j)) list.old.items }
+    ensures { list.new.items ≡ filter (λ j. nat_lt 0 (num size.now j) && not (mark_at marks.now j)) list.old.items }
 {
     list.retain(|j| is_outside(size, marks, *j));
 }
@@ -161,9 +161,9 @@ fn shorten<A: Allocator>(
     requires range { Below (length size.now) front.now }
     requires once { Once front.now }
     ensures kept_elements { (i : ℕ) → list_at lists.new.elements.items i ≡ cond (has front.now i)
-        (filter (λ e. not (at taken.now e)) (list_at lists.old.elements.items i)) (list_at lists.old.elements.items i) }
+        (filter (λ e. not (mark_at taken.now e)) (list_at lists.old.elements.items i)) (list_at lists.old.elements.items i) }
     ensures kept_variables { (i : ℕ) → list_at lists.new.variables.items i ≡ cond (has front.now i)
-        (filter (λ j. nat_lt 0 (num size.now j) && not (at marks.now j)) (list_at lists.old.variables.items i))
+        (filter (λ j. nat_lt 0 (num size.now j) && not (mark_at marks.now j)) (list_at lists.old.variables.items i))
         (list_at lists.old.variables.items i) }
     ensures members { lists.new.members ≡ lists.old.members }
     ensures elements { ListsBelow (length size.now) lists.new.elements.items }
@@ -231,7 +231,7 @@ pub fn absorb<A: Allocator + Copy>(
 fn keeps_nothing<A: Allocator>(lists: &Lists<A>, i: usize) -> bool
     requires elements { i < length lists.now.elements.items }
     requires variables { i < length lists.now.variables.items }
-    ensures { result ≡ mass lists.now.elements.items lists.now.variables.items i }
+    ensures { result ≡ plain_mass lists.now.elements.items lists.now.variables.items i }
 {
     lists.elements[i].is_empty() && lists.variables[i].is_empty()
 }
@@ -245,7 +245,7 @@ pub fn others_left<A: Allocator + Copy>(
     requires elements { Below (length lists.now.elements.items) front.now }
     requires variables { Below (length lists.now.variables.items) front.now }
     ensures { IfOk result (λ rest. rest.items ≡ filter
-        (λ i. not (mass lists.now.elements.items lists.now.variables.items i)) front.now) }
+        (λ i. not (plain_mass lists.now.elements.items lists.now.variables.items i)) front.now) }
 {
     let mut rest = Vec::with_capacity(alloc, front.len())?;
     for i in front {
@@ -268,9 +268,9 @@ pub fn retire<A: Allocator>(
         (length lists.now.variables.items ≡ length size.old.items) × (length link.old.items ≡ length size.old.items) }
     requires range { Below (length size.old.items) front.now }
     ensures sizes { (x : ℕ) → num size.new.items x ≡ cond
-        (has front.now x && mass lists.now.elements.items lists.now.variables.items x) 0 (num size.old.items x) }
+        (has front.now x && plain_mass lists.now.elements.items lists.now.variables.items x) 0 (num size.old.items x) }
     ensures links { (x : ℕ) → some_at link.new.items x ≡ cond
-        (has front.now x && mass lists.now.elements.items lists.now.variables.items x) (Some pivot)
+        (has front.now x && plain_mass lists.now.elements.items lists.now.variables.items x) (Some pivot)
         (some_at link.old.items x) }
     ensures lengths { (length size.new.items ≡ length size.old.items) ×
         (length link.new.items ≡ length link.old.items) }

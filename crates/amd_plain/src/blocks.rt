@@ -10,7 +10,7 @@ ghost use Rattle.amd_model.specs.Input.Columns.{at};
 ghost use Rattle.amd_model.specs.Listing.{Tree};
 ghost use Rattle.amd_model.specs.State.{Home, block_at, live_at};
 ghost use Rattle.amd_plain.specs.Views.{list_at, num, some_at, Below};
-ghost use Rattle.amd_plain.specs.Keeps.{LinksLead};
+ghost use Rattle.amd_plain.specs.Keeps.{PlainLinksLead};
 ghost use Rattle.amd_plain.specs.Starts.{EndsRun, ListsRun};
 ghost use Rattle.amd_postorder.specs.Trees.{IsByPlace, IsPostorderOf, link_of};
 
@@ -23,11 +23,11 @@ use std::alloc::{AllocError, Allocator};
 
 /// The row without a link to which the links from a row lead.
 fn root_of<A: Allocator>(link: &Vec<Option<usize>, A>, v: usize) -> usize
-    requires led { (home : ℕ → Home) × LinksLead link.now.items home }
+    requires led { (home : ℕ → Home) × PlainLinksLead link.now.items home }
     requires within { v < length link.now.items }
     ensures within { result < length link.now.items }
     ensures end { some_at link.now.items result ≡ None }
-    ensures home { (home : ℕ → Home) → LinksLead link.now.items home → home v ≡ home result }
+    ensures home { (home : ℕ → Home) → PlainLinksLead link.now.items home → home v ≡ home result }
 {
     let mut row = v;
     'links: while let Some(next) = link[row] {
@@ -38,12 +38,12 @@ fn root_of<A: Allocator>(link: &Vec<Option<usize>, A>, v: usize) -> usize
 
 /// Links a row and those on the way from it to their root straight to the root.
 fn shortcut<A: Allocator>(link: &mut Vec<Option<usize>, A>, v: usize, root: usize)
-    requires led { (home : ℕ → Home) × LinksLead link.old.items home }
+    requires led { (home : ℕ → Home) × PlainLinksLead link.old.items home }
     requires within { (v < length link.old.items) × (root < length link.old.items) }
     requires end { some_at link.old.items root ≡ None }
-    requires home { (home : ℕ → Home) → LinksLead link.old.items home → home v ≡ home root }
+    requires home { (home : ℕ → Home) → PlainLinksLead link.old.items home → home v ≡ home root }
     ensures size { length link.new.items ≡ length link.old.items }
-    ensures led { (home : ℕ → Home) → LinksLead link.old.items home → LinksLead link.new.items home }
+    ensures led { (home : ℕ → Home) → PlainLinksLead link.old.items home → PlainLinksLead link.new.items home }
     ensures alone { (u : ℕ) → is_none (some_at link.new.items u) ≡ is_none (some_at link.old.items u) }
 {
     let mut row = v;
@@ -55,13 +55,13 @@ fn shortcut<A: Allocator>(link: &mut Vec<Option<usize>, A>, v: usize, root: usiz
 
 /// The row without a link to which the links from a row lead, which are shortened.
 fn element_of<A: Allocator>(link: &mut Vec<Option<usize>, A>, v: usize) -> usize
-    requires led { (home : ℕ → Home) × LinksLead link.old.items home }
+    requires led { (home : ℕ → Home) × PlainLinksLead link.old.items home }
     requires within { v < length link.old.items }
     ensures within { result < length link.old.items }
     ensures end { some_at link.new.items result ≡ None }
-    ensures home { (home : ℕ → Home) → LinksLead link.old.items home → home v ≡ home result }
+    ensures home { (home : ℕ → Home) → PlainLinksLead link.old.items home → home v ≡ home result }
     ensures size { length link.new.items ≡ length link.old.items }
-    ensures led { (home : ℕ → Home) → LinksLead link.old.items home → LinksLead link.new.items home }
+    ensures led { (home : ℕ → Home) → PlainLinksLead link.old.items home → PlainLinksLead link.new.items home }
     ensures alone { (u : ℕ) → is_none (some_at link.new.items u) ≡ is_none (some_at link.old.items u) }
 {
     let root = root_of(link, v);
@@ -74,9 +74,9 @@ fn rows_of_elements<A: Allocator + Copy>(
     alloc: A,
     link: &mut Vec<Option<usize>, A>,
 ) -> Result<Vec<Vec<usize, A>, A>, AllocError>
-    requires led { (home : ℕ → Home) × LinksLead link.old.items home × ((v : ℕ) → live_at (home v) ≡ false) }
+    requires led { (home : ℕ → Home) × PlainLinksLead link.old.items home × ((v : ℕ) → live_at (home v) ≡ false) }
     ensures size { IfOk result (λ rows. length rows.items ≡ length link.old.items) }
-    ensures rows { IfOk result (λ rows. (home : ℕ → Home) → LinksLead link.old.items home →
+    ensures rows { IfOk result (λ rows. (home : ℕ → Home) → PlainLinksLead link.old.items home →
         ((v : ℕ) → live_at (home v) ≡ false) → (e : ℕ) → e < length link.old.items →
         list_at rows.items e ≡ list_below (length link.old.items) (λ v. block_at e (home v) && not (v == e))) }
     ensures links { length link.new.items ≡ length link.old.items }

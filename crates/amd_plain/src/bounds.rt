@@ -5,7 +5,7 @@ ghost use Rattle.std.specs.Prelude.{◌≡◌, ◌<◌, ◌^◌, ◌≤◌, ◌+
 ghost use Rattle.amd_model.specs.Figures.{cut};
 ghost use Rattle.amd_model.specs.Quotient.{has, turned, Once};
 ghost use Rattle.amd_plain.specs.Views.{num, list_at, Below, ListsBelow};
-ghost use Rattle.amd_plain.specs.Rounds.{new_bound};
+ghost use Rattle.amd_plain.specs.Rounds.{plain_bound};
 
 use crate::work::Lists;
 use std::alloc::{AllocError, Allocator};
@@ -40,7 +40,7 @@ pub fn renew_bounds<A: Allocator>(
     requires sizes { (i : ℕ) → has made.now i ≡ true → (num size.now i ≤ border) × (num size.now i ≤ live) }
     requires fits { (i : ℕ) → has made.now i ≡ true → num bound.old.items i + border < 2 ^ 64 }
     ensures bounds { (i : ℕ) → num bound.new.items i ≡ cond (has made.now i)
-        (new_bound border live lists.now beyond.now size.now bound.old.items i) (num bound.old.items i) }
+        (plain_bound border live lists.now beyond.now size.now bound.old.items i) (num bound.old.items i) }
     ensures length { length bound.new.items ≡ length bound.old.items }
 {
     for i in made {

@@ -4,7 +4,7 @@
 ghost use Rattle.std.specs.Prelude.{◌≡◌, ◌<◌, ◌||◌, ℕ, nat_lt, length, IfOk};
 ghost use Rattle.std.specs.Option.{option_copied};
 ghost use Rattle.amd_model.specs.Input.Held.{HasMarks, is_marked};
-ghost use Rattle.amd_plain.specs.Views.{at, num};
+ghost use Rattle.amd_plain.specs.Views.{mark_at, num};
 
 use amd_types::held::is_held;
 use std::alloc::{AllocError, Allocator};
@@ -23,7 +23,7 @@ pub fn rows_held_last<A: Allocator + Copy>(
     requires marks { HasMarks (option_copied hold) (length degrees.now) }
     ensures size { IfOk result (λ v. length v.items ≡ length degrees.now) }
     ensures rows { IfOk result (λ v. (i : ℕ) → i < length degrees.now →
-        at v.items i ≡ (is_marked (option_copied hold.entry) i || nat_lt threshold (num degrees.now i))) }
+        mark_at v.items i ≡ (is_marked (option_copied hold.entry) i || nat_lt threshold (num degrees.now i))) }
 {
     let mut last = Vec::with_capacity(alloc, degrees.len())?;
     'rows: for i in 0..degrees.len() {

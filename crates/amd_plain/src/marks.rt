@@ -5,7 +5,7 @@
 ghost use Rattle.std.specs.Prelude.{◌≡◌, ◌<◌, ◌||◌, ◌&&◌, ◌==◌, ◌++◌, not, ℕ, true, false, fold, flat_map, length};
 ghost use Rattle.std.specs.Prelude.{OnOk, IfOk};
 ghost use Rattle.amd_model.specs.Quotient.{add_new, has};
-ghost use Rattle.amd_plain.specs.Views.{at, live_of, list_at, Below, ListsBelow, Clear};
+ghost use Rattle.amd_plain.specs.Views.{mark_at, plain_live, list_at, Below, ListsBelow, Clear};
 ghost use Rattle.amd_plain.specs.Rounds.{firsts};
 
 use crate::work::Lists;
@@ -15,7 +15,7 @@ use std::alloc::{AllocError, Allocator};
 pub fn mark_all<A: Allocator>(marks: &mut Vec<bool, A>, list: &[usize])
     requires range { Below (length marks.old.items) list.now }
     ensures size { length marks.new.items ≡ length marks.old.items }
-    ensures marked { (j : ℕ) → at marks.new.items j ≡ (at marks.old.items j || has list.now j) }
+    ensures marked { (j : ℕ) → mark_at marks.new.items j ≡ (mark_at marks.old.items j || has list.now j) }
 {
     for j in list {
         marks[*j] = true;
@@ -26,7 +26,7 @@ pub fn mark_all<A: Allocator>(marks: &mut Vec<bool, A>, list: &[usize])
 pub fn clear_all<A: Allocator>(marks: &mut Vec<bool, A>, list: &[usize])
     requires range { Below (length marks.old.items) list.now }
     ensures size { length marks.new.items ≡ length marks.old.items }
-    ensures cleared { (j : ℕ) → at marks.new.items j ≡ (at marks.old.items j && not (has list.now j)) }
+    ensures cleared { (j : ℕ) → mark_at marks.new.items j ≡ (mark_at marks.old.items j && not (has list.now j)) }
 {
     for j in list {
         marks[*j] = false;
@@ -40,10 +40,10 @@ fn add_unmarked<A: Allocator>(
     list: &[usize],
 ) -> Result<(), AllocError>
     requires range { Below (length marks.old.items) list.now }
-    requires known { (j : ℕ) → has out.old.items j ≡ true → at marks.old.items j ≡ true }
+    requires known { (j : ℕ) → has out.old.items j ≡ true → mark_at marks.old.items j ≡ true }
     ensures size { length marks.new.items ≡ length marks.old.items }
-    ensures list { OnOk result (out.new.items ≡ fold (add_new (at marks.old.items)) out.old.items list.now) }
-    ensures marked { OnOk result ((j : ℕ) → at marks.new.items j ≡ (at marks.old.items j || has list.now j)) }
+    ensures list { OnOk result (out.new.items ≡ fold (add_new (mark_at marks.old.items)) out.old.items list.now) }
+    ensures marked { OnOk result ((j : ℕ) → mark_at marks.new.items j ≡ (mark_at marks.old.items j || has list.now j)) }
 {
     for j in list {
         if !marks[*j] {
@@ -63,12 +63,12 @@ fn add_classes<A: Allocator>(
 ) -> Result<(), AllocError>
     requires lengths { length size.now ≡ length marks.old.items }
     requires range { Below (length marks.old.items) list.now }
-    requires known { (j : ℕ) → has out.old.items j ≡ true → at marks.old.items j ≡ true }
+    requires known { (j : ℕ) → has out.old.items j ≡ true → mark_at marks.old.items j ≡ true }
     ensures size { length marks.new.items ≡ length marks.old.items }
-    ensures list { OnOk result (out.new.items ≡ fold (add_new (at marks.old.items)) out.old.items
-        (live_of size.now list.now)) }
-    ensures marked { OnOk result ((j : ℕ) → at marks.new.items
-        j ≡ (at marks.old.items j || has (live_of size.now list.now) j)) }
+    ensures list { OnOk result (out.new.items ≡ fold (add_new (mark_at marks.old.items)) out.old.items
+        (plain_live size.now list.now)) }
+    ensures marked { OnOk result ((j : ℕ) → mark_at marks.new.items
+        j ≡ (mark_at marks.old.items j || has (plain_live size.now list.now) j)) }
 {
     for j in list {
         if size[*j] > 0 && !marks[*j] {
@@ -96,9 +96,9 @@ pub fn front_of<A: Allocator + Copy>(
     requires clear { Clear marks.old.items }
     ensures size { length marks.new.items ≡ length marks.old.items }
     ensures list { IfOk result (λ front. front.items ≡ firsts (λ x. x == pivot)
-        (flat_map (λ e. live_of size.now (list_at lists.now.members.items e)) (list_at lists.now.elements.items pivot)
-        ++ live_of size.now (list_at lists.now.variables.items pivot))) }
-    ensures marked { IfOk result (λ front. (j : ℕ) → at marks.new.items j ≡ (j == pivot || has front.items j)) }
+        (flat_map (λ e. plain_live size.now (list_at lists.now.members.items e)) (list_at lists.now.elements.items pivot)
+        ++ plain_live size.now (list_at lists.now.variables.items pivot))) }
+    ensures marked { IfOk result (λ front. (j : ℕ) → mark_at marks.new.items j ≡ (j == pivot || has front.items j)) }
 {
     let mut front = Vec::new(alloc);
     marks[pivot] = true;
@@ -126,7 +126,7 @@ pub fn touched_by<A: Allocator + Copy>(
     ensures list { IfOk result (λ out. out.items ≡ firsts (has (list_at elements.now.items pivot))
         (flat_map (list_at elements.now.items) front.now)) }
     ensures marked { IfOk result (λ out. (j : ℕ) →
-        at marks.new.items j ≡ (has (list_at elements.now.items pivot) j || has out.items j)) }
+        mark_at marks.new.items j ≡ (has (list_at elements.now.items pivot) j || has out.items j)) }
 {
     let mut out = Vec::new(alloc);
     mark_all(marks, &elements[pivot]);

@@ -7,10 +7,10 @@
 ghost use Rattle.std.specs.Prelude.{[], ◌≡◌, ◌≢◌, ◌<◌, ◌^◌, ◌&&◌, ◌==◌, not, cond, ℕ, Some, true, filter, length};
 ghost use Rattle.std.specs.Prelude.{sum_by, OnOk, IfOk};
 ghost use Rattle.amd_model.specs.Quotient.{has, each, Once, last_that};
-ghost use Rattle.amd_plain.specs.Views.{num, at, some_at, list_at, Below, ListsBelow, Clear};
-ghost use Rattle.amd_plain.specs.Rounds.{alike_in};
+ghost use Rattle.amd_plain.specs.Views.{num, mark_at, some_at, list_at, Below, ListsBelow, Clear};
+ghost use Rattle.amd_plain.specs.Rounds.{plain_alike};
 ghost use Rattle.amd_plain.specs.Keeps.{IsIdle};
-ghost use Rattle.amd_plain.specs.Groups.{wrapped_sum, group_in, FoundIn, AreGrouped, IsReady, Looked};
+ghost use Rattle.amd_plain.specs.Groups.{wrapped_sum, group_in, FoundIn, AreGrouped, IsClearScratch, Looked};
 
 use crate::marks::{clear_all, mark_all};
 use crate::work::{Lists, Scratch};
@@ -30,7 +30,7 @@ fn sum_of(list: &[usize]) -> usize
 /// Whether each number of a list is marked.
 fn all_marked(list: &[usize], marks: &[bool]) -> bool
     requires range { Below (length marks.now) list.now }
-    ensures { result ≡ each (at marks.now) list.now }
+    ensures { result ≡ each (mark_at marks.now) list.now }
 {
     for j in list {
         if !marks[*j] {
@@ -53,7 +53,7 @@ fn group_of<A: Allocator>(i: usize, lists: &Lists<A>) -> usize
 fn same_list(list: &[usize], other: &[usize], marks: &[bool]) -> bool
     requires range { Below (length marks.now) list.now }
     requires once { Once list.now × Once other.now }
-    requires marked { (j : ℕ) → at marks.now j ≡ has other.now j }
+    requires marked { (j : ℕ) → mark_at marks.now j ≡ has other.now j }
     ensures { result ≡ (each (has other.now) list.now && each (has list.now) other.now) }
 {
     list.len() == other.len() && all_marked(list, marks)
@@ -75,9 +75,9 @@ fn first_alike<A: Allocator>(
     requires group_once { (r : ℕ) → has group.now r ≡ true → Once (list_at lists.now.elements.items r) ×
         Once (list_at lists.now.variables.items r) }
     requires elements { (length elements.now ≡ length lists.now.elements.items) ×
-        ((j : ℕ) → at elements.now j ≡ has (list_at lists.now.elements.items i) j) }
+        ((j : ℕ) → mark_at elements.now j ≡ has (list_at lists.now.elements.items i) j) }
     requires rows { (length rows.now ≡ length lists.now.elements.items) ×
-        ((j : ℕ) → at rows.now j ≡ has (list_at lists.now.variables.items i) j) }
+        ((j : ℕ) → mark_at rows.now j ≡ has (list_at lists.now.variables.items i) j) }
     ensures { FoundIn lists.now.elements.items lists.now.variables.items i group.now result }
 {
     for r in group {
@@ -133,13 +133,13 @@ fn represent<A: Allocator>(
     requires elements { ListsBelow (length lists.now.elements.items) lists.now.elements.items }
     requires variables { ListsBelow (length lists.now.elements.items) lists.now.variables.items }
     requires once { Once (list_at lists.now.elements.items i) × Once (list_at lists.now.variables.items i) }
-    requires ready { IsReady (length lists.now.elements.items) scratch.old }
+    requires ready { IsClearScratch (length lists.now.elements.items) scratch.old }
     requires group_once { (b : ℕ) (r : ℕ) → has (list_at scratch.old.groups.items b) r ≡ true →
         Once (list_at lists.now.elements.items r) × Once (list_at lists.now.variables.items r) }
     ensures looked { OnOk result (Looked lists.now.elements.items lists.now.variables.items i
         (list_at scratch.old.groups.items) (list_at scratch.new.groups.items) (num scratch.new.into.items i)) }
     ensures others { OnOk result ((x : ℕ) → x ≢ i → num scratch.new.into.items x ≡ num scratch.old.into.items x) }
-    ensures ready { OnOk result (IsReady (length lists.now.elements.items) scratch.new) }
+    ensures ready { OnOk result (IsClearScratch (length lists.now.elements.items) scratch.new) }
     ensures beyond { OnOk result (scratch.new.beyond ≡ scratch.old.beyond) }
 {
     let group = group_of(i, lists);
@@ -174,11 +174,11 @@ fn represent_all<A: Allocator>(
     requires lists_once { (i : ℕ) → has rest.now i ≡ true → Once (list_at lists.now.elements.items i) ×
         Once (list_at lists.now.variables.items i) }
     ensures into { OnOk result ((i : ℕ) → has rest.now i ≡ true →
-        num scratch.new.into.items i ≡ last_that (alike_in lists.now.elements.items lists.now.variables.items i) i
+        num scratch.new.into.items i ≡ last_that (plain_alike lists.now.elements.items lists.now.variables.items i) i
         rest.now) }
     ensures grouped { OnOk result (AreGrouped lists.now.elements.items lists.now.variables.items rest.now
         (list_at scratch.new.groups.items)) }
-    ensures ready { OnOk result (IsReady (length lists.now.elements.items) scratch.new) }
+    ensures ready { OnOk result (IsClearScratch (length lists.now.elements.items) scratch.new) }
     ensures beyond { OnOk result (scratch.new.beyond ≡ scratch.old.beyond) }
 {
     let mut left = rest.len();
@@ -220,7 +220,7 @@ pub fn representatives<A: Allocator>(
     requires lists_once { (i : ℕ) → has rest.now i ≡ true → Once (list_at lists.now.elements.items i) ×
         Once (list_at lists.now.variables.items i) }
     ensures into { OnOk result ((i : ℕ) → has rest.now i ≡ true →
-        num scratch.new.into.items i ≡ last_that (alike_in lists.now.elements.items lists.now.variables.items i) i
+        num scratch.new.into.items i ≡ last_that (plain_alike lists.now.elements.items lists.now.variables.items i) i
         rest.now) }
     ensures idle { OnOk result (IsIdle (length lists.now.elements.items) scratch.new) }
     ensures beyond { OnOk result (scratch.new.beyond ≡ scratch.old.beyond) }

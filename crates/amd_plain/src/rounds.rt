@@ -9,8 +9,8 @@ ghost use Rattle.amd_model.specs.State.{State};
 ghost use Rattle.amd_model.specs.Quotient.{QuotientGraph, has, Once};
 ghost use Rattle.amd_plain.specs.Views.{num, list_at, Below};
 ghost use Rattle.amd_plain.specs.Buckets.{live_in};
-ghost use Rattle.amd_plain.specs.Parts.{MakesElement, MergesClasses, RenewsClasses};
-ghost use Rattle.amd_plain.specs.Keeps.{IsSized, Stands, IsRound, AreRounds, NoRowIsLive};
+ghost use Rattle.amd_plain.specs.Parts.{MakesPlainElement, MergesPlainClasses, RenewsClasses};
+ghost use Rattle.amd_plain.specs.Keeps.{IsPlainSized, PlainStands, IsPlainRound, ArePlainRounds, NoPlainRowIsLive};
 
 use crate::absorption::{absorb, others_left, retire, rows_of};
 use crate::bounds::{renew_bounds, renew_lists};
@@ -28,10 +28,10 @@ fn make_element<A: Allocator + Copy>(
     work: &mut Work<A>,
     aggressive: bool,
 ) -> Result<(usize, Vec<usize, A>), AllocError>
-    requires sized { IsSized (length work.old.size.items) work.old }
+    requires sized { IsPlainSized (length work.old.size.items) work.old }
     requires some { (b : ℕ) × (i : ℕ) × (work.old.least ≤ b) ×
         (has (live_in work.old.size.items work.old.bound.items b (list_at work.old.placed.items b)) i ≡ true) }
-    ensures makes { IfOk result (λ r. MakesElement aggressive r.0 r.1.items work.old work.new) }
+    ensures makes { IfOk result (λ r. MakesPlainElement aggressive r.0 r.1.items work.old work.new) }
 {
     let pivot = choose(&mut work.placed, &mut work.least, &work.size, &work.bound);
     let front = front_of(
@@ -64,14 +64,14 @@ fn merge_classes<A: Allocator + Copy>(
     pivot: usize,
     front: &[usize],
 ) -> Result<(Vec<usize, A>, usize, usize), AllocError>
-    requires sized { IsSized (length work.old.size.items) work.old }
+    requires sized { IsPlainSized (length work.old.size.items) work.old }
     requires pivot { pivot < length work.old.size.items }
     requires range { Below (length work.old.size.items) front.now }
     requires once { Once front.now }
     requires lists_once { (i : ℕ) → has front.now i ≡ true → Once (list_at work.old.lists.elements.items i) ×
         Once (list_at work.old.lists.variables.items i) }
     requires live { num work.old.size.items pivot + sum_by (num work.old.size.items) front.now ≤ work.old.live }
-    ensures merges { IfOk result (λ r. MergesClasses pivot front.now r.0.items r.1 r.2 work.old work.new) }
+    ensures merges { IfOk result (λ r. MergesPlainClasses pivot front.now r.0.items r.1 r.2 work.old work.new) }
 {
     let live = work.live;
     let rest = others_left(work.alloc, front, &work.lists)?;
@@ -94,7 +94,7 @@ fn renew_classes<A: Allocator + Copy>(
     border: usize,
     block: usize,
 ) -> Result<(), AllocError>
-    requires sized { IsSized (length work.old.size.items) work.old }
+    requires sized { IsPlainSized (length work.old.size.items) work.old }
     requires pivot { pivot < length work.old.size.items }
     requires range { Below (length work.old.size.items) made.items }
     requires once { Once made.items }
@@ -134,9 +134,9 @@ fn renew_classes<A: Allocator + Copy>(
 #[tactic(none)]
 pub fn round<A: Allocator + Copy>(work: &mut Work<A>, control: &Control) -> Result<(), AllocError>
     requires stands { (g : Graph) × (dense : ℕ → Bool) × (t : QuotientGraph) × (s : State) ×
-        Stands g dense work.old t s }
+        PlainStands g dense work.old t s }
     requires left { 0 < work.old.live }
-    ensures round { OnOk result (IsRound control.now.aggressive work.old work.new) }
+    ensures round { OnOk result (IsPlainRound control.now.aggressive work.old work.new) }
     ensures fewer { OnOk result (work.new.live < work.old.live) }
 {
     let (pivot, front) = make_element(work, control.aggressive)?;
@@ -155,9 +155,9 @@ pub fn eliminate<A: Allocator + Copy>(
     control: &Control,
 ) -> Result<(), AllocError>
     requires stands { (g : Graph) × (dense : ℕ → Bool) × (t : QuotientGraph) × (s : State) ×
-        Stands g dense work.old t s }
-    ensures rounds { OnOk result (AreRounds control.now.aggressive work.old work.new) }
-    ensures end { OnOk result (NoRowIsLive work.new) }
+        PlainStands g dense work.old t s }
+    ensures rounds { OnOk result (ArePlainRounds control.now.aggressive work.old work.new) }
+    ensures end { OnOk result (NoPlainRowIsLive work.new) }
 {
     'rounds: while work.live > 0 {
         round(work, control)?;

@@ -4,7 +4,7 @@
 
 ghost use Rattle.std.specs.Prelude.{◌≡◌, ◌==◌, ◌&&◌, ◌<◌, ℕ, [], not, cond, nat_eq, nat_lt, length, IfOk};
 ghost use Rattle.amd_model.specs.Below.{count_below, list_below};
-ghost use Rattle.amd_plain.specs.Views.{at, num, list_at, Below, ListsBelow};
+ghost use Rattle.amd_plain.specs.Views.{mark_at, num, list_at, Below, ListsBelow};
 ghost use Rattle.amd_plain.specs.Keeps.{IsIdle};
 ghost use Rattle.amd_plain.specs.Starts.{StandsAtStart};
 
@@ -42,7 +42,7 @@ fn first_sizes<A: Allocator + Copy>(
     requires lengths { length last.now ≡ length degrees.now }
     ensures size { IfOk result (λ v. length v.items ≡ length degrees.now) }
     ensures numbers { IfOk result (λ v. (i : ℕ) → i < length degrees.now →
-        num v.items i ≡ cond (nat_lt 0 (num degrees.now i) && not (at last.now i)) 1 0) }
+        num v.items i ≡ cond (nat_lt 0 (num degrees.now i) && not (mark_at last.now i)) 1 0) }
 {
     let mut sizes = Vec::with_capacity(alloc, degrees.len())?;
     'rows: for i in 0..degrees.len() {
@@ -67,7 +67,7 @@ fn first_blocks<A: Allocator + Copy>(
     requires lengths { length last.now ≡ length degrees.now }
     ensures size { IfOk result (λ v. length v.items ≡ length degrees.now) }
     ensures numbers { IfOk result (λ v. (i : ℕ) → i < length degrees.now →
-        num v.items i ≡ cond (nat_eq (num degrees.now i) 0 && not (at last.now i)) 1 0) }
+        num v.items i ≡ cond (nat_eq (num degrees.now i) 0 && not (mark_at last.now i)) 1 0) }
 {
     let mut blocks = Vec::with_capacity(alloc, degrees.len())?;
     'rows: for i in 0..degrees.len() {
@@ -99,7 +99,7 @@ fn first_placed<A: Allocator + Copy>(
 
 /// How many rows are marked.
 fn count_marks(marks: &[bool]) -> usize
-    ensures { result ≡ count_below (length marks.now) (at marks.now) }
+    ensures { result ≡ count_below (length marks.now) (mark_at marks.now) }
 {
     let mut count = 0;
     for mark in marks {
@@ -153,7 +153,7 @@ pub fn start<A: Allocator + Copy>(
     requires rows { ListsBelow (length degrees.now) rows.items }
     requires degrees { Below (length degrees.now) degrees.now }
     requires marks { length last.now ≡ length degrees.now }
-    ensures { IfOk result (λ w. StandsAtStart rows.items degrees.now (at last.now) w) }
+    ensures { IfOk result (λ w. StandsAtStart rows.items degrees.now (mark_at last.now) w) }
 {
     let n = degrees.len();
     let size = first_sizes(alloc, degrees, last)?;

@@ -13,7 +13,7 @@ use Rattle.amd_model.specs.Quotient.{has}
 use Rattle.amd_model.proofs.Listings.Words.{has_below, heaviest_in}
 use Rattle.amd_model.proofs.Counting.Places.{below_skip, below_take, below_none}
 use Rattle.amd_types.specs.Links.{named}
-use Rattle.amd_postorder.specs.Trees.{is_element, tree_of, IsForest, link_of, heaviest_of, heavier, AreUnlinked, AreHeaviest}
+use Rattle.amd_postorder.specs.Trees.{is_tree_element, tree_of, IsElementForest, link_of, heaviest_of, heavier, AreUnlinked, AreHeaviest}
 use Rattle.amd_postorder.proofs.Links.{names_some}
 
 -- ---- the heaviest of a list
@@ -41,47 +41,47 @@ named_link (Some e) = refl
 
 -- ---- the parent of a place
 
-module _ (nn : ℕ) (parent nv f_size : List ℤ) (forest : IsForest nn parent nv f_size) where
+module _ (nn : ℕ) (parent nv f_size : List ℤ) (forest : IsElementForest nn parent nv f_size) where
   child_test : (e j : ℕ) → is_child (tree_of nn parent nv f_size) e j ≡ is_some_of e
-      (cond (is_element (length nv) nv j) (named (at parent j)) None)
+      (cond (is_tree_element (length nv) nv j) (named (at parent j)) None)
   unfolding is_child is_some_of
-  child_test e j = go (is_element nn nv j) (named (at parent j)) ∙
-      ap (λ n. is_some_of e (cond (is_element n nv j) (named (at parent j)) None)) (sym forest.nv_room)
+  child_test e j = go (is_tree_element nn nv j) (named (at parent j)) ∙
+      ap (λ n. is_some_of e (cond (is_tree_element n nv j) (named (at parent j)) None)) (sym forest.nv_room)
     where
       go : (b : Bool) (o : Option ℕ) → (b && is_some_of e o) ≡ is_some_of e (cond b o None)
       go true o = refl
       go false o = refl
 
   -- a place without a parent is no child
-  pub no_child : (j : ℕ) → None ≡ cond (is_element (length nv) nv j) (named (at parent j)) None → (e : ℕ) →
+  pub no_child : (j : ℕ) → None ≡ cond (is_tree_element (length nv) nv j) (named (at parent j)) None → (e : ℕ) →
       is_child (tree_of nn parent nv f_size) e j ≡ false
   unfolding is_some_of
   no_child j q e = child_test e j ∙ ap (is_some_of e) (sym q)
 
   -- a place is a child of its parent
-  pub its_child : (j p : ℕ) → Some p ≡ cond (is_element (length nv) nv j) (named (at parent j)) None →
+  pub its_child : (j p : ℕ) → Some p ≡ cond (is_tree_element (length nv) nv j) (named (at parent j)) None →
       is_child (tree_of nn parent nv f_size) p j ≡ true
   unfolding is_some_of
   its_child j p q = child_test p j ∙ ap (is_some_of p) (sym q) ∙ eq-eqb p p refl
 
   -- and of no other place
-  pub other_child : (j p : ℕ) → Some p ≡ cond (is_element (length nv) nv j) (named (at parent j)) None → (e : ℕ) → e ≢ p →
+  pub other_child : (j p : ℕ) → Some p ≡ cond (is_tree_element (length nv) nv j) (named (at parent j)) None → (e : ℕ) → e ≢ p →
       is_child (tree_of nn parent nv f_size) e j ≡ false
   unfolding is_some_of
   other_child j p q e ne = child_test e j ∙ ap (is_some_of e) (sym q) ∙ ne_eqb p e (λ s. ne (sym s))
 
   -- a child is an element, and so is its parent
-  pub child_gives : (e j : ℕ) → is_child (tree_of nn parent nv f_size) e j ≡ true → (is_element nn nv j ≡ true) × (at parent j ≡ pos e)
-      × (is_element nn nv e ≡ true)
+  pub child_gives : (e j : ℕ) → is_child (tree_of nn parent nv f_size) e j ≡ true → (is_tree_element nn nv j ≡ true) × (at parent j ≡ pos e)
+      × (is_tree_element nn nv e ≡ true)
   unfolding is_child is_some_of
   child_gives e j h =
-      let r = and_parts (is_element nn nv j) (is_some_of e (named (at parent j))) h in
+      let r = and_parts (is_tree_element nn nv j) (is_some_of e (named (at parent j))) h in
       let link : at parent j ≡ pos e = names_some (at parent j) e (sym (some (named (at parent j)) r.1)) in (
         r.0,
         link,
         elim (forest.parents j r.0) [
           | inl q ↦ absurd (let b : negsuc 0 ≡ pos e = sym q ∙ link in cc)
-          | inr q ↦ subst (λ m. is_element nn nv m ≡ true) (let b : pos q.0 ≡ pos e = sym q.1 ∙ link in let s : q.0 ≡ e = cc in s) q.2
+          | inr q ↦ subst (λ m. is_tree_element nn nv m ≡ true) (let b : pos q.0 ≡ pos e = sym q.1 ∙ link in let s : q.0 ≡ e = cc in s) q.2
         ],
       )
     where
@@ -89,12 +89,12 @@ module _ (nn : ℕ) (parent nv f_size : List ℤ) (forest : IsForest nn parent n
       some None q = absurd (false≢true q)
       some (Some x) q = ap Some (eqb-true x e q)
 
-  pub element_small : (e : ℕ) → is_element nn nv e ≡ true → e < nn
+  pub element_small : (e : ℕ) → is_tree_element nn nv e ≡ true → e < nn
   element_small e h = Rattle.std.proofs.lemmas.Bool.ltb-true e nn
       (and_parts (Rattle.std.specs.Prelude.nat_lt e nn) (Rattle.std.specs.Prelude.int_lt (pos 0) (at nv e)) h).0
 
   -- and so a parent is a place
-  pub parent_small : (j p : ℕ) → Some p ≡ cond (is_element (length nv) nv j) (named (at parent j)) None → p < nn
+  pub parent_small : (j p : ℕ) → Some p ≡ cond (is_tree_element (length nv) nv j) (named (at parent j)) None → p < nn
   parent_small j p q = element_small p (child_gives p j (its_child j p q)).2
 
   -- ---- the heaviest child of each place
@@ -121,7 +121,7 @@ module _ (nn : ℕ) (parent nv f_size : List ℤ) (forest : IsForest nn parent n
 
   -- a place that is no child
   pub heaviest_skip : (j : ℕ) (links : List ℤ) → AreHeaviest (tree_of nn parent nv f_size) j links →
-      None ≡ cond (is_element (length nv) nv j) (named (at parent j)) None →
+      None ≡ cond (is_tree_element (length nv) nv j) (named (at parent j)) None →
       AreHeaviest (tree_of nn parent nv f_size) (suc j) links
   heaviest_skip j links a q = let t = tree_of nn parent nv f_size in record {
     room = a.room;
@@ -130,7 +130,7 @@ module _ (nn : ℕ) (parent nv f_size : List ℤ) (forest : IsForest nn parent n
 
   -- a place that is one
   pub heaviest_take : (j p : ℕ) (links : List ℤ) → AreHeaviest (tree_of nn parent nv f_size) j links →
-      Some p ≡ cond (is_element (length nv) nv j) (named (at parent j)) None → p < nn →
+      Some p ≡ cond (is_tree_element (length nv) nv j) (named (at parent j)) None → p < nn →
       AreHeaviest (tree_of nn parent nv f_size) (suc j)
       (set links p (pos (heavier (λ e. unsigned_abs (at f_size e)) (named (at links p)) j)))
   heaviest_take j p links a q small =

@@ -12,21 +12,41 @@ use Rattle.amd_model.proofs.Listings.Words.{has_head, has_left, has_right}
 use Rattle.amd_model.proofs.Counting.Places.{has_place, places_differ, below_skip, below_take, below_none}
 use Rattle.amd_model.proofs.Counting.Points.{pigeonhole}
 use Rattle.amd_model.proofs.Quotient.Lists.{has_append as append_names}
-use Rattle.amd_postorder.specs.Trees.{is_element, tree_of, IsForest, IsChain, ListsLinks, none, more, ListsTree, FitsTree, NumbersFrom}
+use Rattle.amd_postorder.specs.Trees.{
+  is_tree_element,
+  tree_of,
+  IsElementForest,
+  IsChain,
+  ListsLinks,
+  none,
+  more,
+  ListsTree,
+  FitsTree,
+  NumbersFrom,
+}
 use Rattle.amd_postorder.specs.Trees.{StaysOutside, AreLinked, AreUnlinked, IsPostorderOf}
 use Rattle.amd_postorder.proofs.Links.{once_parts, once_back, links_kept, names_some}
 use Rattle.amd_postorder.proofs.ChildLinks.{element_small}
-use Rattle.amd_postorder.proofs.ForestListings.{IsRanked, AreSiblings, head_node, tail_siblings, children_siblings, roots_below, roots_siblings}
+use Rattle.amd_postorder.proofs.ForestListings.{
+  IsRanked,
+  AreSiblings,
+  head_node,
+  tail_siblings,
+  children_siblings,
+  roots_below,
+  roots_siblings,
+}
 use Rattle.amd_postorder.proofs.ForestListings.{trees_append, listed_from, trees_distinct, tree_listed, each_node}
 
 -- the tree of the elements is ranked
-pub ranked : (nn : ℕ) (parent nv f_size : List ℤ) → IsForest nn parent nv f_size → IsRanked (tree_of nn parent nv f_size)
+pub ranked : (nn : ℕ) (parent nv f_size : List ℤ) → IsElementForest nn parent nv f_size → IsRanked (tree_of nn parent nv f_size)
 ranked nn parent nv f_size forest = record {
   one = λ e. refl;
   small = λ e n. element_small nn parent nv f_size forest e n;
   over = λ e p n q. (elim (forest.parents e n) [
     | inl none' ↦ absurd (let b : negsuc 0 ≡ pos p = sym none' ∙ names_some (at parent e) p (sym q) in cc)
-    | inr some' ↦ subst (λ m. is_element nn nv m ≡ true) (let b : pos some'.0 ≡ pos p = sym some'.1 ∙ names_some (at parent e) p (sym q) in
+    | inr some' ↦ subst (λ m. is_tree_element nn nv m ≡ true) (let b : pos some'.0 ≡ pos p = sym some'.1 ∙ names_some (at parent e)
+        p (sym q) in
         let s : some'.0 ≡ p = cc in s) some'.2
   ]);
   rank = forest.rank;

@@ -12,14 +12,14 @@ use Rattle.amd_types.specs.Links.{named}
 -- ---- the tree of the elements
 
 -- place e holds an element: its number of rows is above 0
-abbrev pub is_element : ℕ → List ℤ → ℕ → Bool
-is_element nn nv e = nat_lt e nn && int_lt (pos 0) (at nv e)
+abbrev pub is_tree_element : ℕ → List ℤ → ℕ → Bool
+is_tree_element nn nv e = nat_lt e nn && int_lt (pos 0) (at nv e)
 
 -- the elements with their parents, weighed by their sizes
 abbrev pub tree_of : ℕ → List ℤ → List ℤ → List ℤ → Tree
 tree_of nn parent nv f_size = record {
   size = nn;
-  is_node = is_element nn nv;
+  is_node = is_tree_element nn nv;
   parent = λ e. named (at parent e);
   weight =
       λ e. unsigned_abs (at f_size e);
@@ -28,15 +28,15 @@ tree_of nn parent nv f_size = record {
 
 -- each element has a size, and as parent an element or -1; a rank that rises from each element to its parent leaves no
 -- cycle
-pub record IsForest (nn : ℕ) (parent nv f_size : List ℤ) : Type 0 where
+pub record IsElementForest (nn : ℕ) (parent nv f_size : List ℤ) : Type 0 where
   pub parent_room : length parent ≡ nn
   pub nv_room : length nv ≡ nn
   pub f_size_room : length f_size ≡ nn
-  pub sizes : (e : ℕ) → is_element nn nv e ≡ true → pos 0 ≤ℤ at f_size e
-  pub parents : (e : ℕ) → is_element nn nv e ≡ true → (at parent e ≡ negsuc 0)
-      ⊎ ((p : ℕ) × (at parent e ≡ pos p) × (is_element nn nv p ≡ true))
+  pub sizes : (e : ℕ) → is_tree_element nn nv e ≡ true → pos 0 ≤ℤ at f_size e
+  pub parents : (e : ℕ) → is_tree_element nn nv e ≡ true → (at parent e ≡ negsuc 0)
+      ⊎ ((p : ℕ) × (at parent e ≡ pos p) × (is_tree_element nn nv p ≡ true))
   pub rank : ℕ → ℕ
-  pub rises : (e p : ℕ) → is_element nn nv e ≡ true → at parent e ≡ pos p → rank e < rank p
+  pub rises : (e p : ℕ) → is_tree_element nn nv e ≡ true → at parent e ≡ pos p → rank e < rank p
 
 -- order holds for each node of a tree its place in the listing in postorder, and -1 for what is no node
 pub record IsPostorderOf (t : Tree) (order : List ℤ) : Type 0 where

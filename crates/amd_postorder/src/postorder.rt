@@ -6,8 +6,8 @@ ghost use Rattle.std.specs.Prelude.{◌≡◌, ◌^◌, ◌<◌, ◌≤◌, ◌�
 ghost use Rattle.std.specs.Prelude.{is_none, length, pos, unsigned_abs};
 ghost use Rattle.amd_model.specs.Input.Columns.{at};
 ghost use Rattle.amd_types.specs.Links.{named};
-ghost use Rattle.amd_postorder.specs.Trees.{AreHeaviest, AreLinked, AreUnlinked, IsForest, IsPostorderOf};
-ghost use Rattle.amd_postorder.specs.Trees.{heavier as heavier_node, is_element, tree_of};
+ghost use Rattle.amd_postorder.specs.Trees.{AreHeaviest, AreLinked, AreUnlinked, IsElementForest, IsPostorderOf};
+ghost use Rattle.amd_postorder.specs.Trees.{heavier as heavier_node, is_tree_element, tree_of};
 
 use crate::link::Link;
 use crate::number::Number;
@@ -20,7 +20,7 @@ use std::alloc::Allocator;
 fn parent_of<N: Number>(j: usize, parent: &[N], nv: &[N]) -> Option<usize>
     requires in_parent { j < length parent.now }
     requires in_nv { j < length nv.now }
-    ensures { result ≡ cond (is_element (length (N.read nv.now)) (N.read nv.now) j) (named (at (N.read parent.now) j))
+    ensures { result ≡ cond (is_tree_element (length (N.read nv.now)) (N.read nv.now) j) (named (at (N.read parent.now) j))
         None }
 {
     if N::number_at(nv, j) > 0 {
@@ -34,7 +34,7 @@ fn parent_of<N: Number>(j: usize, parent: &[N], nv: &[N]) -> Option<usize>
 fn is_root<N: Number>(j: usize, parent: &[N], nv: &[N]) -> bool
     requires in_parent { j < length parent.now }
     requires in_nv { j < length nv.now }
-    ensures { result ≡ (is_element (length (N.read nv.now)) (N.read nv.now) j &&
+    ensures { result ≡ (is_tree_element (length (N.read nv.now)) (N.read nv.now) j &&
         is_none (named (at (N.read parent.now) j))) }
 {
     N::number_at(nv, j) > 0 && N::number_at(parent, j) < 0
@@ -73,7 +73,7 @@ fn link_heaviest<N: Number, L: Link>(
     heaviest: &mut [L],
     child: &mut [L],
 )
-    requires forest { IsForest nn (N.read parent.now) (N.read nv.now) (N.read f_size.now) }
+    requires forest { IsElementForest nn (N.read parent.now) (N.read nv.now) (N.read f_size.now) }
     requires numbers { nn ≤ L.reach }
     requires unlinked { AreUnlinked nn (L.read heaviest.old) }
     requires child { AreUnlinked nn (L.read child.old) }
@@ -101,12 +101,12 @@ fn link_children<N: Number, L: Link>(
     child: &mut [L],
     sibling: &mut [L],
 )
-    requires heaviest { (f_size : List ℤ) × IsForest nn (N.read parent.now) (N.read nv.now) f_size ×
+    requires heaviest { (f_size : List ℤ) × IsElementForest nn (N.read parent.now) (N.read nv.now) f_size ×
         AreHeaviest (tree_of nn (N.read parent.now) (N.read nv.now) f_size) nn (L.read heaviest.now) ×
         AreHeaviest (tree_of nn (N.read parent.now) (N.read nv.now) f_size) nn (L.read child.old) }
     requires numbers { nn ≤ L.reach }
     requires sibling { AreUnlinked nn (L.read sibling.old) }
-    ensures { (f_size : List ℤ) → IsForest nn (N.read parent.now) (N.read nv.now) f_size →
+    ensures { (f_size : List ℤ) → IsElementForest nn (N.read parent.now) (N.read nv.now) f_size →
         AreHeaviest (tree_of nn (N.read parent.now) (N.read nv.now) f_size) nn (L.read heaviest.now) →
         AreHeaviest (tree_of nn (N.read parent.now) (N.read nv.now) f_size) nn (L.read child.old) →
         AreLinked (tree_of nn (N.read parent.now) (N.read nv.now) f_size) (L.read child.new) (L.read sibling.new) }
@@ -133,12 +133,12 @@ fn number_trees<N: Number, L: Link>(
     order: &mut [L],
     stack: &mut [L],
 )
-    requires linked { (f_size : List ℤ) × IsForest nn (N.read parent.now) (N.read nv.now) f_size ×
+    requires linked { (f_size : List ℤ) × IsElementForest nn (N.read parent.now) (N.read nv.now) f_size ×
         AreLinked (tree_of nn (N.read parent.now) (N.read nv.now) f_size) (L.read child.old) (L.read sibling.now) }
     requires numbers { nn ≤ L.reach }
     requires order { AreUnlinked nn (L.read order.old) }
     requires stack { length stack.old ≡ nn }
-    ensures { (f_size : List ℤ) → IsForest nn (N.read parent.now) (N.read nv.now) f_size →
+    ensures { (f_size : List ℤ) → IsElementForest nn (N.read parent.now) (N.read nv.now) f_size →
         AreLinked (tree_of nn (N.read parent.now) (N.read nv.now) f_size) (L.read child.old) (L.read sibling.now) →
         IsPostorderOf (tree_of nn (N.read parent.now) (N.read nv.now) f_size) (L.read order.new) }
 {
@@ -169,7 +169,7 @@ pub fn postorder_in<N: Number, L: Link>(
     order: &mut [L],
     stack: &mut [L],
 )
-    requires forest { IsForest nn (N.read parent.now) (N.read nv.now) (N.read f_size.now) }
+    requires forest { IsElementForest nn (N.read parent.now) (N.read nv.now) (N.read f_size.now) }
     requires numbers { nn ≤ L.reach }
     requires child { length child.old ≡ nn }
     requires sibling { length sibling.old ≡ nn }
@@ -205,7 +205,7 @@ pub fn postorder<A: Allocator + Copy>(
     nv: &[isize],
     f_size: &[isize],
 ) -> Result<Vec<isize, A>, Status>
-    requires forest { IsForest nn parent.now nv.now f_size.now }
+    requires forest { IsElementForest nn parent.now nv.now f_size.now }
     requires numbers { nn < 2 ^ 63 }
     ensures { MatchResult result (λ v. IsPostorderOf (tree_of nn parent.now nv.now f_size.now) v.items)
         (λ s. s ≡ Status.OutOfMemory) }

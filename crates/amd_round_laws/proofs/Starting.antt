@@ -20,8 +20,8 @@ use Rattle.amd_model.proofs.States.SoundStart.{is_last, is_empty, is_live, begin
 use Rattle.amd_model.proofs.Quotient.Start.{has_below, once_below, start_fits}
 use Rattle.amd_model.proofs.Quotient.Sums.{sum_one, sum_over}
 use Rattle.amd_round_laws.specs.Views.{View, live_of}
-use Rattle.amd_round_laws.specs.Keeps.{Keeps, KeepsFronts, LinksLead, Stands}
-use Rattle.amd_round_laws.specs.Starts.{class_of, block_of, IsBegun}
+use Rattle.amd_round_laws.specs.Keeps.{Keeps, KeepsFronts, LinksLead, ViewStands}
+use Rattle.amd_round_laws.specs.Starts.{class_of, starting_block, IsBegun}
 use Rattle.amd_round_laws.proofs.Lists.Named.{filter_named}
 
 -- ---- numbers and tests
@@ -219,13 +219,13 @@ module _ (n : ℕ) (rows : ℕ → List ℕ) (degrees : ℕ → ℕ) (last : ℕ
   weight_one e y = let a = block_one e y in let b = border_none e in omega (arith, a, b)
 
   -- the number of rows of the block of a row
-  block_at : (e : ℕ) → e < g.size → w.block e ≡ block_of (dense e) (degree g e)
-  block_at e l = begun.block e (within e l) ∙ ap (λ b. block_of b (degrees e)) (last_is e l) ∙
-      ap (block_of (dense e)) (degree_is e l)
+  block_at : (e : ℕ) → e < g.size → w.block e ≡ starting_block (dense e) (degree g e)
+  block_at e l = begun.block e (within e l) ∙ ap (λ b. starting_block b (degrees e)) (last_is e l) ∙
+      ap (starting_block (dense e)) (degree_is e l)
 
   block_empty : (e : ℕ) → is_element s e ≡ true → w.block e ≡ 1
   block_empty e y = let r = empty_row e y in
-      block_at e r.0 ∙ ap (block_of (dense e)) r.1 ∙ ap (λ b. block_of b 0) (not_held e y)
+      block_at e r.0 ∙ ap (starting_block (dense e)) r.1 ∙ ap (λ b. starting_block b 0) (not_held e y)
 
   front_empty : (e : ℕ) → is_element s e ≡ true → w.front e ≡ 1
   front_empty e y = begun.front e (let k = block_empty e y in omega (arith, k))
@@ -234,7 +234,7 @@ module _ (n : ℕ) (rows : ℕ → List ℕ) (degrees : ℕ → ℕ) (last : ℕ
   block_none e h = elim (cases_lt e g.size) [
     | inr l ↦ (begun.no_row e (omega (arith, l, size_is))).1
     | inl l ↦ block_at e l ∙ elim (cases_Bool (dense e)) [
-      | inl d ↦ ap (λ b. block_of b (degree g e)) d ∙ ap one_if (and-false (nat_eq (degree g e) 0))
+      | inl d ↦ ap (λ b. starting_block b (degree g e)) d ∙ ap one_if (and-false (nat_eq (degree g e) 0))
       | inr d ↦ ap one_if (ap (λ b. b && not (dense e)) (ne_eqb (degree g e) 0 (λ z. let k = row_element e l d z in cc)))
     ]
   ]
@@ -302,7 +302,7 @@ module _ (n : ℕ) (rows : ℕ → List ℕ) (degrees : ℕ → ℕ) (last : ℕ
       ]
 
   -- the record stands for the start
-  pub view_at_start : Stands g dense w (start_quotient g dense lists) s
+  pub view_at_start : ViewStands g dense w (start_quotient g dense lists) s
   unfolding start_quotient list_below
   view_at_start = record {
     graph = laws;

@@ -54,7 +54,7 @@ pub record KeepsFronts (g : Graph) (dense : ℕ → Bool) (w : View) (s : State)
   pub greatest : w.figures.d_max ≡ greatest_front g dense s
 
 -- the record keeps the lists t, which stand for the sound state s of an elimination of the graph
-pub record Stands (g : Graph) (dense : ℕ → Bool) (w : View) (t : QuotientGraph) (s : State) : Type 0 where
+pub record ViewStands (g : Graph) (dense : ℕ → Bool) (w : View) (t : QuotientGraph) (s : State) : Type 0 where
   pub graph : IsGraph g
   pub sound : IsSound g s
   pub fits : Fits g t s

@@ -11,8 +11,8 @@ abbrev pub firsts : (ℕ → Bool) → List ℕ → List ℕ
 firsts skip xs = fold (add_new skip) [] xs
 
 -- the class i keeps neither an element nor a variable
-abbrev pub mass : (ℕ → List ℕ) → (ℕ → List ℕ) → ℕ → Bool
-mass elements variables i = is_empty (elements i) && is_empty (variables i)
+abbrev pub keeps_nothing : (ℕ → List ℕ) → (ℕ → List ℕ) → ℕ → Bool
+keeps_nothing elements variables i = is_empty (elements i) && is_empty (variables i)
 
 -- two classes keep the same elements and the same variables
 abbrev pub alike_in : (ℕ → List ℕ) → (ℕ → List ℕ) → ℕ → ℕ → Bool
@@ -54,6 +54,6 @@ pub record IsApart (size : ℕ → ℕ) (c : ℕ) (front : List ℕ) (i : ℕ) :
 
 -- the lesser of the old bound and the number of rows that the lists reach, plus the other border rows; at most the
 -- other live rows
-abbrev pub new_bound : ℕ → ℕ → ClassLists → (ℕ → ℕ) → (ℕ → ℕ) → (ℕ → ℕ) → ℕ → ℕ
-new_bound border live lists beyond size bound i = min (min (bound i)
+abbrev pub bound_by_lists : ℕ → ℕ → ClassLists → (ℕ → ℕ) → (ℕ → ℕ) → (ℕ → ℕ) → ℕ → ℕ
+bound_by_lists border live lists beyond size bound i = min (min (bound i)
     (cut (sum_by beyond (lists.elements i) + sum_by size (lists.variables i))) + (border - size i)) (live - size i)

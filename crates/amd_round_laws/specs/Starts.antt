@@ -8,8 +8,8 @@ use Rattle.amd_round_laws.specs.Views.{View}
 abbrev pub class_of : Bool → ℕ → ℕ
 class_of last d = cond (nat_lt 0 d && not last) 1 0
 
-abbrev pub block_of : Bool → ℕ → ℕ
-block_of last d = cond (nat_eq d 0 && not last) 1 0
+abbrev pub starting_block : Bool → ℕ → ℕ
+starting_block last d = cond (nat_eq d 0 && not last) 1 0
 
 -- of n rows each one that is neither held last nor empty is a class by itself, with its neighbours and its degree, and
 -- each other empty one an element by itself
@@ -24,7 +24,7 @@ pub record IsBegun (n : ℕ) (rows : ℕ → List ℕ) (degrees : ℕ → ℕ) (
   pub live : w.live ≡ count_below n (λ i. nat_lt 0 (w.size i))
   pub link : (i : ℕ) → w.link i ≡ None
   pub parent : (e : ℕ) → w.parent e ≡ None
-  pub block : (e : ℕ) → e < n → w.block e ≡ block_of (last e) (degrees e)
+  pub block : (e : ℕ) → e < n → w.block e ≡ starting_block (last e) (degrees e)
   pub front : (e : ℕ) → 0 < w.block e → w.front e ≡ 1
   pub n_dense : w.n_dense ≡ count_below n last
   pub lnz : w.figures.lnz ≡ cut (0 + front_sum entries w.n_dense 0)

@@ -16,7 +16,7 @@ use Rattle.amd_round_laws.specs.Rounds.{firsts}
 use Rattle.amd_round_laws.proofs.Lists.Named.{named_sum}
 use Rattle.amd_words.specs.Words.{num, word, size_of}
 use Rattle.amd_fronts.specs.Counts.{counter, ends}
-use Rattle.amd_lists.specs.Layout.{met}
+use Rattle.amd_lists.specs.Layout.{rows_met}
 use Rattle.amd_lists.specs.Layout.{elements_in}
 use Rattle.amd_lists.specs.Renewal.{is_kept, is_outside}
 use Rattle.amd_fronts.proofs.Counting.{ends_none}
@@ -46,7 +46,7 @@ module _ {g : Graph} {dense : ℕ → Bool} {nzaat : ℕ} {aggressive : Bool} {p
   own e = has (elements_in p.iw p.pe p.e_len r.c) e
 
   abbrev seen_here : ℕ → ℕ
-  seen_here e = met r.p2.iw r.p2.pe r.p2.e_len r.p2.nv (front r) e
+  seen_here e = rows_met r.p2.iw r.p2.pe r.p2.e_len r.p2.nv (front r) e
 
   touched_is : (e : ℕ) → has touched e ≡ (has (flat_map (elements_in p.iw p.pe p.e_len) (front r)) e && not (own e))
   unfolding has

@@ -8,7 +8,7 @@ use Rattle.amd_model.specs.State.{State}
 use Rattle.amd_model.specs.Quotient.{QuotientGraph, has, Once}
 use Rattle.amd_round_laws.proofs.Lists.Named.{filter_named, sum_named}
 use Rattle.amd_words.specs.Words.{num, word, place, is_place, size_of}
-use Rattle.amd_lists.specs.Layout.{met}
+use Rattle.amd_lists.specs.Layout.{rows_met}
 use Rattle.amd_elements.specs.Element.{front_of}
 use Rattle.amd_lists.specs.Layout.{elements_in, ReadsSame}
 use Rattle.amd_elements.specs.Making.{IsTouched}
@@ -160,7 +160,7 @@ module _ (g : Graph) (dense : ℕ → Bool) (nzaat : ℕ) (p : Workspace) (t : Q
     two = let a = st.laid.two in let f = flag_stays in omega (arith, a, f);
     under = front_under;
     degrees = λ e. let a = st.laid.degrees e in let d = ap (λ l. num l e) bounds_stay in omega (arith, a, d);
-    part = λ e l. let a = ap (λ xs. met p2.iw p2.pe p2.e_len p2.nv xs e) front_is in
+    part = λ e l. let a = ap (λ xs. rows_met p2.iw p2.pe p2.e_len p2.nv xs e) front_is in
         let m = begun_met p.w p2.w st.laid.laid begins_front counters_are apart touched e in
         let few = standing.met_few g dense nzaat p t s st front (front_once p.iw p.nv p.pe p.len c (place (word p.e_len c))) front_placed
         e in let d = ap (λ k. num k e) bounds_stay in omega (arith, a, m, few, d);

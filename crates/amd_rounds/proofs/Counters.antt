@@ -7,7 +7,7 @@ use Rattle.amd_model.specs.State.{State}
 use Rattle.amd_model.specs.Quotient.{QuotientGraph, has, Once}
 use Rattle.amd_model.proofs.Counting.Below.{clash}
 use Rattle.amd_words.specs.Words.{num, word, place, size_of}
-use Rattle.amd_lists.specs.Layout.{met}
+use Rattle.amd_lists.specs.Layout.{rows_met}
 use Rattle.amd_lists.specs.Layout.{elements_in}
 use Rattle.amd_fronts.proofs.Counting.{counted_none}
 use Rattle.amd_elements.proofs.Touching.{front_once}
@@ -24,17 +24,17 @@ module _ {g : Graph} {dense : ℕ → Bool} {nzaat : ℕ} {aggressive : Bool} {p
 
   -- the rows of an element that are met, over the lists before the round
   abbrev seen : ℕ → ℕ
-  seen e = met p.iw p.pe p.e_len p.nv (front r) e
+  seen e = rows_met p.iw p.pe p.e_len p.nv (front r) e
 
   abbrev seen_here : ℕ → ℕ
-  seen_here e = met r.p2.iw r.p2.pe r.p2.e_len r.p2.nv (front r) e
+  seen_here e = rows_met r.p2.iw r.p2.pe r.p2.e_len r.p2.nv (front r) e
 
-  pub seen_few : (e : ℕ) → met r.p2.iw r.p2.pe r.p2.e_len r.p2.nv (front r) e ≤ num p.degree e
+  pub seen_few : (e : ℕ) → rows_met r.p2.iw r.p2.pe r.p2.e_len r.p2.nv (front r) e ≤ num p.degree e
   seen_few e = let a = standing.met_few g dense nzaat p t s r.st (front r) once_front (front_placed r) e in
       let b = met_begun r e in omega (arith, a, b)
 
   -- an element of which rows are met is listed by a class of the front
-  pub seen_listed : (e : ℕ) → 0 < met r.p2.iw r.p2.pe r.p2.e_len r.p2.nv (front r) e →
+  pub seen_listed : (e : ℕ) → 0 < rows_met r.p2.iw r.p2.pe r.p2.e_len r.p2.nv (front r) e →
       (i : ℕ) × (has (front r) i ≡ true) × (has (elements_in p.iw p.pe p.e_len i) e ≡ true)
   seen_listed e l = let b = met_begun r e in
       elim (standing.some_term (λ i. cond (has (elements_in p.iw p.pe p.e_len i) e) (size_of p.nv i) 0) (front r)) [
@@ -47,7 +47,7 @@ module _ {g : Graph} {dense : ℕ → Bool} {nzaat : ℕ} {aggressive : Bool} {p
       listed false m l = absurd (omega (arith, l))
 
   -- no class is listed
-  pub seen_none : (j : ℕ) → has t.placed j ≡ true → met r.p2.iw r.p2.pe r.p2.e_len r.p2.nv (front r) j ≡ 0
+  pub seen_none : (j : ℕ) → has t.placed j ≡ true → rows_met r.p2.iw r.p2.pe r.p2.e_len r.p2.nv (front r) j ≡ 0
   seen_none j k = elim (cases_eq (seen_here j) 0) [
     | inl z ↦ z
     | inr nz ↦ (let q = seen_listed j (omega (arith, nz)) in
@@ -57,7 +57,7 @@ module _ {g : Graph} {dense : ℕ → Bool} {nzaat : ℕ} {aggressive : Bool} {p
   pub counters_under : (most : ℕ) → p.most ≤ most → (e : ℕ) → num r.p3.w e < r.p3.flag + most
   counters_under most high e = let a = counted r e in
       let b = settled_under aggressive r.p3.flag (num r.turns.first e) (num p.degree e) (seen_here e) most r.turns.two (r.turns.under e)
-      (λ some met. let q = seen_listed e met in
+      (λ some rows_met. let q = seen_listed e rows_met in
       let d = (standing.element_flip g dense nzaat p t s r.st q.0 e (front_placed r q.0 q.1) q.2).3 in
       (seen_few e, omega (arith, d, high))) in omega (arith, a, b)
 

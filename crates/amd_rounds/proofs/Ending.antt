@@ -17,7 +17,7 @@ use Rattle.amd_merging.specs.Restoring.{marked_in, IsPlaceable}
 use Rattle.amd_lists.proofs.Frames.{has_parts, has_from, dropped}
 use Rattle.amd_rounds.specs.Workspaces.{Workspace}
 use Rattle.amd_rounds.specs.Keeps.{by_bound}
-use Rattle.amd_rounds.specs.Parts.{Links, MergesFront, front_at}
+use Rattle.amd_rounds.specs.Parts.{LinksByBound, MergesFront, front_at}
 use Rattle.amd_rounds.specs.Premises.{HasFront, CanEnd}
 use Rattle.amd_rounds.proofs.ByBound.{bound_names}
 use Rattle.amd_rounds.proofs.Renewed.{recounted}
@@ -122,15 +122,15 @@ module _ {g : Graph} {dense : ℕ → Bool} {nzaat : ℕ} {aggressive : Bool} {p
       (ap (λ d. has (by_bound t d) i) bound ∙ bound_names t i placed)
       (not_from_false (i == r.c) (ne_eqb i r.c (λ e. clash {P = ⊥} f (ap (has (front r)) e ∙ front_other r))))
 
-  linked_begun : Links g.size r.p2 (λ d. without r.c (by_bound t d))
-  linked_begun = subst (λ (w : Workspace). Links g.size w (λ d. without r.c (by_bound t d))) (sym r.begins.same)
+  linked_begun : LinksByBound g.size r.p2 (λ d. without r.c (by_bound t d))
+  linked_begun = subst (λ (w : Workspace). LinksByBound g.size w (λ d. without r.c (by_bound t d))) (sym r.begins.same)
       (r.picks.linked (by_bound t) r.st.linked)
 
   outside : (d x : ℕ) → has (lists d) x ≡ true → has (front r) x ≡ false
   outside d x h = ap (λ l. has l x) (sym (front_begun r)) ∙ not-true (has (front_at r.p2 r.c) x)
       (filter_gives (λ j. not (has (front_at r.p2 r.c) j)) (without r.c (by_bound t d)) x h).1
 
-  pub still_linked : Links g.size p4 lists
+  pub still_linked : LinksByBound g.size p4 lists
   still_linked = merges.linked lists (λ d x l h. not_rest r p4 merges x (outside d x h))
       (r.turns.linked (λ d. without r.c (by_bound t d)) named linked_begun)
 

@@ -12,7 +12,7 @@ use Rattle.amd_round_laws.proofs.Fronts.Absorbed.{front_found}
 use Rattle.amd_round_laws.proofs.Lists.Taken.{taken_off}
 use Rattle.amd_words.specs.Words.{size_of}
 use Rattle.amd_fronts.specs.Counts.{counter}
-use Rattle.amd_lists.specs.Layout.{elements_in, met}
+use Rattle.amd_lists.specs.Layout.{elements_in, rows_met}
 use Rattle.amd_elements.specs.Element.{front_of, members_at, elements_at, variables_at}
 
 pub front_gathered : (g : Graph) (s : State) (t : QuotientGraph) → Fits g t s → (v : View) → Keeps v t →
@@ -31,13 +31,13 @@ front_gathered g s t fits v keeps iw nv pe len c m class size members elements v
 
 -- what a counter is above the flag is what the rules of a view say is left of the element
 pub beyond_is : (flag x all seen : ℕ) → 0 < x → 0 < seen → counter flag x all seen - flag ≡ all - seen
-beyond_is flag x all seen some met = grind arith
+beyond_is flag x all seen some rows_met = grind arith
 
 pub counted_left : (iw pe e_len nv : List ℤ) (block whole : ℕ → ℕ) (front : List ℕ) (flag x all e : ℕ) → whole e - block e ≡ all →
     ((i : ℕ) → has front i ≡ true → Once (elements_in iw pe e_len i)) →
-    0 < x → 0 < met iw pe e_len nv front e → counter flag x all (met iw pe e_len nv front e) - flag
+    0 < x → 0 < rows_met iw pe e_len nv front e → counter flag x all (rows_met iw pe e_len nv front e) - flag
     ≡ rows_left block whole (size_of nv) (elements_in iw pe e_len) front e
 counted_left iw pe e_len nv block whole front flag x all e border once some seen =
-    beyond_is flag x all (met iw pe e_len nv front e) some seen
+    beyond_is flag x all (rows_met iw pe e_len nv front e) some seen
     ∙ sym (taken_off e (size_of nv) (elements_in iw pe e_len) (whole e - block e) front once
-    ∙ ap (λ m. m - met iw pe e_len nv front e) border)
+    ∙ ap (λ m. m - rows_met iw pe e_len nv front e) border)

@@ -7,7 +7,7 @@ use Rattle.amd_model.specs.Quotient.{QuotientGraph, has}
 use Rattle.amd_round_laws.specs.Views.{ClassLists}
 use Rattle.amd_words.specs.Words.{num, word, place, size_of, flip_of}
 use Rattle.amd_fronts.specs.Counts.{counter, settled, ends}
-use Rattle.amd_lists.specs.Layout.{met}
+use Rattle.amd_lists.specs.Layout.{rows_met}
 use Rattle.amd_elements.specs.Element.{front_of}
 use Rattle.amd_lists.specs.Layout.{elements_in, variables_in}
 use Rattle.amd_lists.specs.Chains.{Chooses}
@@ -39,9 +39,9 @@ pub record HalfRound (g : Graph) (dense : ℕ → Bool) (nzaat : ℕ) (aggressiv
   pub p2 : Workspace
   pub begins : BeginsElement g.size c block total is_built p1 p2
   pub gone : ℕ
-  pub most_figure : ℕ
+  pub most_cell : ℕ
   pub p3 : Workspace
-  pub turns : TurnsOver aggressive g.size c gone most_figure p2 p3
+  pub turns : TurnsOver aggressive g.size c gone most_cell p2 p3
 
 module _ {g : Graph} {dense : ℕ → Bool} {nzaat : ℕ} {aggressive : Bool} {p : Workspace} {t : QuotientGraph} {s : State}
     (r : HalfRound g dense nzaat aggressive p t s) where
@@ -60,11 +60,11 @@ module _ {g : Graph} {dense : ℕ → Bool} {nzaat : ℕ} {aggressive : Bool} {p
 
   -- the counter of e once the front is met, and whether e ended by aggressive absorption
   abbrev pub count_of : ℕ → ℕ
-  count_of e = counter r.p3.flag (num r.turns.first e) (num p.degree e) (met r.p2.iw r.p2.pe r.p2.e_len r.p2.nv r.begins.front e)
+  count_of e = counter r.p3.flag (num r.turns.first e) (num p.degree e) (rows_met r.p2.iw r.p2.pe r.p2.e_len r.p2.nv r.begins.front e)
 
   abbrev pub ends_by : ℕ → Bool
   ends_by e = ends aggressive r.p3.flag (counter r.p3.flag (num r.turns.first e) (num p.degree e)
-      (met r.p2.iw r.p2.pe r.p2.e_len r.p2.nv r.begins.front e))
+      (rows_met r.p2.iw r.p2.pe r.p2.e_len r.p2.nv r.begins.front e))
 
   -- ---- the pivot
 
@@ -144,7 +144,7 @@ module _ {g : Graph} {dense : ℕ → Bool} {nzaat : ℕ} {aggressive : Bool} {p
       variables_in r.p2.iw r.p2.pe r.p2.e_len r.p2.len i ≡ variables_in p.iw p.pe p.e_len p.len i
   variables_begun = begun_variables p.w r.p2.w r.st.laid.laid begins_here counters_here front_other touched
 
-  pub met_begun : (e : ℕ) → met r.p2.iw r.p2.pe r.p2.e_len r.p2.nv front e ≡ met p.iw p.pe p.e_len p.nv front e
+  pub met_begun : (e : ℕ) → rows_met r.p2.iw r.p2.pe r.p2.e_len r.p2.nv front e ≡ rows_met p.iw p.pe p.e_len p.nv front e
   met_begun = begun_met p.w r.p2.w r.st.laid.laid begins_here counters_here front_other touched
 
   pub rows_begun : (i : ℕ) → has front i ≡ true → size_of r.p2.nv i ≡ size_of p.nv i
@@ -159,12 +159,12 @@ module _ {g : Graph} {dense : ℕ → Bool} {nzaat : ℕ} {aggressive : Bool} {p
   -- ---- the counters, and where the lists start once elements ended
 
   count_same : (e : ℕ) → counter r.p3.flag (num r.turns.first e) (num r.p2.degree e)
-      (met r.p2.iw r.p2.pe r.p2.e_len r.p2.nv (front_at r.p2 r.c) e) ≡ count_of e
+      (rows_met r.p2.iw r.p2.pe r.p2.e_len r.p2.nv (front_at r.p2 r.c) e) ≡ count_of e
   count_same e =
       ap (λ (d : List ℕ). counter r.p3.flag (num r.turns.first e) (num d e)
-      (met r.p2.iw r.p2.pe r.p2.e_len r.p2.nv (front_at r.p2 r.c) e)) degree_stays
+      (rows_met r.p2.iw r.p2.pe r.p2.e_len r.p2.nv (front_at r.p2 r.c) e)) degree_stays
       ∙ ap (λ m. counter r.p3.flag (num r.turns.first e) (num p.degree e) m)
-      (ap (λ l. met r.p2.iw r.p2.pe r.p2.e_len r.p2.nv l e) front_begun)
+      (ap (λ l. rows_met r.p2.iw r.p2.pe r.p2.e_len r.p2.nv l e) front_begun)
 
   pub counted : (e : ℕ) → num r.p3.w e ≡ settled aggressive r.p3.flag (count_of e)
   counted e = r.turns.turns.counted e ∙ ap (settled aggressive r.p3.flag) (count_same e)

@@ -54,7 +54,7 @@ module _ {g : Graph} {dense : ℕ → Bool} {nzaat : ℕ} {aggressive : Bool} {p
       omega (arith, some, size, part)
 
   module _ (u : State) (step : StepAt g aggressive (pivot t.bound t.placed) s u)
-      (stand : views.Stands g dense (view_of v) (next aggressive t) u) where
+      (stand : views.ViewStands g dense (view_of v) (next aggressive t) u) where
     placed_after : (i : ℕ) → 0 < size_of v.nv i → has (next aggressive t).placed i ≡ true
     placed_after i l = elim (cases_Bool (has (next aggressive t).placed i)) [
       | inl h ↦ h

@@ -39,9 +39,9 @@ module _ {g : Graph} {dense : ℕ → Bool} {nzaat : ℕ} {aggressive : Bool} {p
   )
 
 -- the parts make a round
-pub is_round : {aggressive is_built : Bool} {c block total gone most_figure : ℕ} {p p1 p2 p3 p4 v : Workspace} → length p.nv < 2 ^ 63 →
+pub is_round : {aggressive is_built : Bool} {c block total gone most_cell : ℕ} {p p1 p2 p3 p4 v : Workspace} → length p.nv < 2 ^ 63 →
     Picks (length p.nv) c p p1 → BeginsElement (length p1.nv) c block total is_built p1 p2 →
-    TurnsOver aggressive (length p2.nv) c gone most_figure p2 p3 →
+    TurnsOver aggressive (length p2.nv) c gone most_cell p2 p3 →
     MergesFront (length p3.nv) c (block + gone) (total - gone) p3 p4 →
     EndsFront (length p4.nv) c (block + gone) (total - gone) is_built p4 v → IsRound aggressive p v
 unfolding half

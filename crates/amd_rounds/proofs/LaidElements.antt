@@ -55,7 +55,7 @@ module _ {g : Graph} {dense : ℕ → Bool} {nzaat : ℕ} {aggressive : Bool} {p
       (let a = some_length (made r p4 merges) i h in let b = ap length (members_now r p4 merges v ended) in
       let e = rows_length v.iw (start v.pe r.c) (num v.len r.c) in omega (arith, a, b, e))
 
-  module _ (u : State) (stand : views.Stands g dense (view_of v) (next aggressive t) u) where
+  module _ (u : State) (stand : views.ViewStands g dense (view_of v) (next aggressive t) u) where
     none_some : (k : ℕ) → (let none : Option ℕ = None in none ≡ Some k) → ⊥
     none_some k e = absurd (cc)
 

@@ -13,7 +13,7 @@ use Rattle.amd_model.proofs.Listings.Words.{has_append as append_gives, has_filt
 use Rattle.amd_model.proofs.Quotient.Lists.{has_turned, once_filter}
 use Rattle.amd_round_laws.proofs.Lists.Named.{sum_named}
 use Rattle.amd_round_laws.proofs.Round.Finding as finding
-use Rattle.amd_words.specs.Words.{num, word, place, is_place, start, size_of, in_front, inside, classes, flip_of}
+use Rattle.amd_words.specs.Words.{num, word, place, is_place, start, size_of, in_front, is_negative, classes, flip_of}
 use Rattle.amd_lists.specs.Layout.{has_list, end_of, elements_in, variables_in, Layout}
 use Rattle.amd_lists.specs.Renewal.{is_kept, is_outside}
 use Rattle.amd_fronts.specs.Fronts.{is_done, bucket_at, near_in}
@@ -146,7 +146,7 @@ module _ {g : Graph} {dense : ℕ → Bool} {nzaat : ℕ} {aggressive : Bool} {p
         ∙ sym (ap (key_of g.size) (kept_after r i h).2 ∙ key_turned g.size ks vs)
 
     class_marked : in_front r.p3.nv i ≡ true
-    class_marked = ap inside (word_after r i (rest_parts r i h).0
+    class_marked = ap is_negative (word_after r i (rest_parts r i h).0
         ∙ cond-false (ended_in r i) (pos 0) (word r.p2.nv i) (rest_parts r i h).1) ∙ (begins_here r).marks i ∙ (rest_parts r i h).0
 
     class_standing : (x : ℕ) → has (words_of r.p3.iw r.p3.pe r.p3.len i) x ≡ true → 0 < num r.p3.w x
@@ -183,7 +183,7 @@ module _ {g : Graph} {dense : ℕ → Bool} {nzaat : ℕ} {aggressive : Bool} {p
   rows_live = let a = finding.rows_live g dense aggressive (view_of p) t s r.st.view r.c (pivot_placed r) (pivot_least r) (front r)
       (front_here r) in let b = block_here r in let c = total_here r in omega (arith, a, b, c)
 
-  pub can_merge : CanMerge g.size r.c (r.block + r.gone) (r.total - r.gone) r.most_figure r.p3
+  pub can_merge : CanMerge g.size r.c (r.block + r.gone) (r.total - r.gone) r.most_cell r.p3
   can_merge = record {
     front = front_turned;
     renewed = record {

@@ -13,7 +13,7 @@ use Rattle.amd_model.proofs.Listings.Words.{filter_has, has_none, has_cases}
 use Rattle.amd_model.proofs.Quotient.Lists.{has_turned}
 use Rattle.amd_round_laws.proofs.Lists.Named.{filter_named}
 use Rattle.amd_round_laws.specs.Rounds.{alike_in}
-use Rattle.amd_words.specs.Words.{num, word, place, size_of, in_front, rows_in, inside, classes, rows}
+use Rattle.amd_words.specs.Words.{num, word, place, size_of, in_front, rows_in, is_negative, classes, rows}
 use Rattle.amd_merging.specs.Merging.{kept_of, represents_in}
 use Rattle.amd_lists.specs.Layout.{variables_in}
 use Rattle.amd_merging.specs.Restoring.{marked_in}
@@ -26,8 +26,8 @@ use Rattle.amd_rounds.proofs.Turned.{front_after, kept_after}
 use Rattle.amd_rounds.proofs.Mergeable.{can_merge}
 
 -- a marked word has rows
-inside_rows : (z : ℤ) → inside z ≡ true → nat_lt 0 (rows_in z) ≡ true
-unfolding inside rows_in
+inside_rows : (z : ℤ) → is_negative z ≡ true → nat_lt 0 (rows_in z) ≡ true
+unfolding is_negative rows_in
 inside_rows (pos k) h = cc
 inside_rows (negsuc k) h = lt-ltb 0 (suc k) (omega arith)
 

@@ -37,5 +37,5 @@ module _ {g : Graph} {dense : ℕ → Bool} {nzaat : ℕ} {aggressive : Bool} {p
   }
 
   pub view_after : g.size < 2 ^ 63 → (is_empty t.placed ≡ false) × ((u : State) × StepAt g aggressive (pivot t.bound t.placed) s u
-      × views.Stands g dense (view_of v) (next aggressive t) u)
+      × views.ViewStands g dense (view_of v) (next aggressive t) u)
   view_after small = one_round turn (omega (arith, small))

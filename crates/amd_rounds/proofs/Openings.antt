@@ -24,9 +24,9 @@ pub begins_of : {n m c block total : ℕ} {is_built : Bool} {p v : Workspace} �
     BeginsElement m c block total is_built p v
 begins_of {n} {m} {c} {block} {total} {is_built} {p} {v} e h = subst (λ k. BeginsElement k c block total is_built p v) e h
 
-pub turns_of : {n m c gone most_figure : ℕ} {aggressive : Bool} {p v : Workspace} → n ≡ m →
-    TurnsOver aggressive n c gone most_figure p v → TurnsOver aggressive m c gone most_figure p v
-turns_of {n} {m} {c} {gone} {most_figure} {aggressive} {p} {v} e h = subst (λ k. TurnsOver aggressive k c gone most_figure p v) e h
+pub turns_of : {n m c gone most_cell : ℕ} {aggressive : Bool} {p v : Workspace} → n ≡ m →
+    TurnsOver aggressive n c gone most_cell p v → TurnsOver aggressive m c gone most_cell p v
+turns_of {n} {m} {c} {gone} {most_cell} {aggressive} {p} {v} e h = subst (λ k. TurnsOver aggressive k c gone most_cell p v) e h
 
 pub merges_of : {n m c block border : ℕ} {p v : Workspace} → n ≡ m → MergesFront n c block border p v → MergesFront m c block border p v
 merges_of {n} {m} {c} {block} {border} {p} {v} e h = subst (λ k. MergesFront k c block border p v) e h
@@ -59,10 +59,10 @@ module _ {g : Graph} {dense : ℕ → Bool} {nzaat : ℕ} {p : Workspace} {t : Q
         })
 
     -- what the first three parts of a round did, as one thing
-    unfoldable pub half : {aggressive is_built : Bool} {c block total gone most_figure : ℕ} {p1 p2 p3 : Workspace} →
+    unfoldable pub half : {aggressive is_built : Bool} {c block total gone most_cell : ℕ} {p1 p2 p3 : Workspace} →
         Picks (length p.nv) c p p1 → BeginsElement (length p1.nv) c block total is_built p1 p2 →
-        TurnsOver aggressive (length p2.nv) c gone most_figure p2 p3 → HalfRound g dense nzaat aggressive p t s
-    half {aggressive} {is_built} {c} {block} {total} {gone} {most_figure} {p1} {p2} {p3} picks begins turns =
+        TurnsOver aggressive (length p2.nv) c gone most_cell p2 p3 → HalfRound g dense nzaat aggressive p t s
+    half {aggressive} {is_built} {c} {block} {total} {gone} {most_cell} {p1} {p2} {p3} picks begins turns =
         let size = st.laid.sized.nv in record {
           st = st;
           c = c;
@@ -74,7 +74,7 @@ module _ {g : Graph} {dense : ℕ → Bool} {nzaat : ℕ} {p : Workspace} {t : Q
           p2 = p2;
           begins = begins_of (picks.sized.nv ∙ size) begins;
           gone = gone;
-          most_figure = most_figure;
+          most_cell = most_cell;
           p3 = p3;
           turns = turns_of (begins.sized.nv ∙ picks.sized.nv ∙ size) turns;
         }

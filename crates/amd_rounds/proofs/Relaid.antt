@@ -11,7 +11,7 @@ use Rattle.amd_model.specs.State.{State}
 use Rattle.amd_model.specs.Quotient.{QuotientGraph, has}
 use Rattle.amd_model.proofs.Counting.Below.{clash}
 use Rattle.amd_model.proofs.Listings.Words.{filter_has, has_filter as filter_gives}
-use Rattle.amd_words.specs.Words.{num, word, place, is_place, start, size_of, in_front as marked_at, rows_in, inside, flip_of}
+use Rattle.amd_words.specs.Words.{num, word, place, is_place, start, size_of, in_front as marked_at, rows_in, is_negative, flip_of}
 use Rattle.amd_fronts.specs.Counts.{counter, ends}
 use Rattle.amd_lists.specs.Layout.{has_list, end_of, elements_in, variables_in, ReadsSame, live_words}
 use Rattle.amd_fronts.proofs.Counting.{ends_none}
@@ -117,7 +117,7 @@ module _ {g : Graph} {dense : ℕ → Bool} {nzaat : ℕ} {aggressive : Bool} {p
           ∙ ap (λ b. marked_at p4.nv j && not b) h ∙ and-false (marked_at p4.nv j)
       | inr out ↦ (
           let none : marked_at p4.nv j ≡ false = merges.merged.front j ∙ cond-false (merged j) false (marked_at r.p3.nv j) (alone j out)
-          ∙ ap inside (row_half j out) ∙ (begins_here r).marks j ∙ out in
+          ∙ ap is_negative (row_half j out) ∙ (begins_here r).marks j ∙ out in
           ended.restores.marks j ∙ ap (λ b. b && not (has (front_at p4 r.c) j)) none)
     ]
 

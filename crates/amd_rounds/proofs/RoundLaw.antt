@@ -14,7 +14,7 @@ use Rattle.amd_model.proofs.Counting.Below.{clash}
 use Rattle.amd_model.proofs.Listings.Words.{has_filter as filter_gives}
 use Rattle.amd_types.specs.declared.figures.Figures.{Figures}
 use Rattle.amd_round_laws.specs.Keeps as views
-use Rattle.amd_round_laws.specs.Rounds.{Absorbed, new_bound}
+use Rattle.amd_round_laws.specs.Rounds.{Absorbed, bound_by_lists}
 use Rattle.amd_round_laws.proofs.Lists.Named.{sum_named}
 use Rattle.amd_round_laws.proofs.Rounding.{Rounding}
 use Rattle.amd_words.specs.Words.{num, word, place, start, size_of, in_front, flip_of, rows}
@@ -185,7 +185,7 @@ module _ {g : Graph} {dense : ℕ → Bool} {nzaat : ℕ} {aggressive : Bool} {p
         ∙ ap (λ m. min (num p.degree i) (cut (sum_by beyond ((kept_lists r).elements i) + m)))
         (sum_named (size_of r.p2.nv) (size_of v.nv) ((kept_lists r).variables i) share_stays)
 
-    bound_now : num v.degree i ≡ new_bound (r.total - r.gone) v.live (kept_lists r) beyond (size_of v.nv) (num p.degree) i
+    bound_now : num v.degree i ≡ bound_by_lists (r.total - r.gone) v.live (kept_lists r) beyond (size_of v.nv) (num p.degree) i
     bound_now = degree_made
         ∙ ap (λ m. min (num p4.degree i + ((r.total - r.gone) - m)) (p4.live - m)) (sym (ended.restores.sizes i))
         ∙ ap (λ m. min (num p4.degree i + ((r.total - r.gone) - size_of v.nv i)) (m - size_of v.nv i))
@@ -299,7 +299,7 @@ module _ {g : Graph} {dense : ℕ → Bool} {nzaat : ℕ} {aggressive : Bool} {p
   least_is = refl
 
   pub view_next : g.size < 2 ^ 63 → (is_empty t.placed ≡ false) × ((u : State) × StepAt g aggressive (pivot t.bound t.placed) s u
-      × views.Stands g dense (view_of v) (next aggressive t) u)
+      × views.ViewStands g dense (view_of v) (next aggressive t) u)
   view_next = next_view.view_after r p4 merges v rounding pivot_is least_is
 
   pub linked_next : g.size < 2 ^ 63 → DegreeLists g.size v.head v.next v.last v.degree (by_bound (next aggressive t))

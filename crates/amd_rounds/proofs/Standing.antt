@@ -22,7 +22,7 @@ use Rattle.amd_round_laws.specs.Views.{live_of}
 use Rattle.amd_round_laws.proofs.Fronts.Gathered.{placed_rows, firsts_gives, gathered_once, gathered_live, gathered_placed}
 use Rattle.amd_round_laws.proofs.Lists.Named.{filter_named, filter_both, sum_named}
 use Rattle.amd_words.specs.Words.{num, word, place, is_place, size_of, flip_of}
-use Rattle.amd_lists.specs.Layout.{met}
+use Rattle.amd_lists.specs.Layout.{rows_met}
 use Rattle.amd_elements.specs.Element.{front_of}
 use Rattle.amd_lists.specs.Layout.{elements_in, variables_in}
 use Rattle.amd_elements.specs.Making.{IsTouched}
@@ -164,7 +164,7 @@ module _ (g : Graph) (dense : ℕ → Bool) (nzaat : ℕ) (p : Workspace) (t : Q
 
     -- what is met of an element in some classes is what the rules say
     met_is : (xs : List ℕ) → ((i : ℕ) → has xs i ≡ true → has t.placed i ≡ true) → (e : ℕ) →
-        met p.iw p.pe p.e_len p.nv xs e ≡ sum_by (λ i. cond (has (t.elements i) e) (t.size i) 0) xs
+        rows_met p.iw p.pe p.e_len p.nv xs e ≡ sum_by (λ i. cond (has (t.elements i) e) (t.size i) 0) xs
     met_is xs placed e =
         sum_named (λ i. cond (has (elements_in p.iw p.pe p.e_len i) e) (size_of p.nv i) 0)
         (λ i. cond (has (t.elements i) e) (t.size i) 0) xs
@@ -173,11 +173,11 @@ module _ (g : Graph) (dense : ℕ → Bool) (nzaat : ℕ) (p : Workspace) (t : Q
 
     -- no more rows of an element are met in some classes than its border has
     pub met_few : (xs : List ℕ) → Once xs → ((i : ℕ) → has xs i ≡ true → has t.placed i ≡ true) → (e : ℕ) →
-        met p.iw p.pe p.e_len p.nv xs e ≤ num p.degree e
+        rows_met p.iw p.pe p.e_len p.nv xs e ≤ num p.degree e
     met_few xs once placed e =
         let seen : ℕ → ℕ = λ i. cond (has (elements_in p.iw p.pe p.e_len i) e) (size_of p.nv i) 0 in
         elim (some_term seen xs) [
-          | inl none ↦ (let z : met p.iw p.pe p.e_len p.nv xs e ≡ 0 = none in omega (arith, z))
+          | inl none ↦ (let z : rows_met p.iw p.pe p.e_len p.nv xs e ≡ 0 = none in omega (arith, z))
           | inr r ↦ (
               let listed = some_cond (has (elements_in p.iw p.pe p.e_len r.0) e) (size_of p.nv r.0) r.2 in
               let standing = listed_stands r.0 e (placed r.0 r.1) listed in

@@ -21,7 +21,7 @@ by_bound t b = reverse (filter (λ i. t.bound i == b) t.placed)
 -- most
 pub record Stands (g : Graph) (dense : ℕ → Bool) (nzaat : ℕ) (p : Workspace) (t : QuotientGraph) (s : State) : Type 0
   where
-    pub view : views.Stands g dense (view_of p) t s
+    pub view : views.ViewStands g dense (view_of p) t s
     pub laid : IsLaid g.size nzaat p
     pub linked : DegreeLists g.size p.head p.next p.last p.degree (by_bound t)
     -- what has a list is a class, or an element that stands and so has a border

@@ -20,8 +20,8 @@ pub record IsSized (n : ℕ) (p : Workspace) : Type 0 where
 
 -- words and figures are wide enough: the greatest ones are given
 abbrev pub IsNarrow : ℕ → ℕ → ℕ → Workspace → Type 0
-IsNarrow most_word most_figure n p = (length p.iw ≤ most_word) × (length p.iw ≤ most_figure) × (n + 2 ≤ most_word)
-    × (n + 2 ≤ most_figure)
+IsNarrow most_word most_cell n p = (length p.iw ≤ most_word) × (length p.iw ≤ most_cell) × (n + 2 ≤ most_word)
+    × (n + 2 ≤ most_cell)
 
 -- the lists of n rows have no more than nzaat words; each class and what it lists as elements have a list; counters are
 -- below the flag, and above 0 for what has a list; buckets are empty, and nothing is marked

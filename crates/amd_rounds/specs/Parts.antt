@@ -20,8 +20,8 @@ use Rattle.amd_rounds.specs.Workspaces.{Workspace}
 use Rattle.amd_rounds.specs.Laid.{IsSized}
 
 -- the lists by bound of a workspace are these
-abbrev pub Links : ℕ → Workspace → (ℕ → List ℕ) → Type 0
-Links n p lists = DegreeLists n p.head p.next p.last p.degree lists
+abbrev pub LinksByBound : ℕ → Workspace → (ℕ → List ℕ) → Type 0
+LinksByBound n p lists = DegreeLists n p.head p.next p.last p.degree lists
 
 -- the list of the element me
 abbrev pub front_at : Workspace → ℕ → List ℕ
@@ -30,8 +30,8 @@ front_at p me = list_in p.iw p.pe p.len me
 -- the pivot me was chosen and taken out of its list
 pub record Picks (n me : ℕ) (p v : Workspace) : Type 0 where
   pub row : me < n
-  pub chosen : (lists : ℕ → List ℕ) → Links n p lists → Chooses n p.least lists me v.least
-  pub linked : (lists : ℕ → List ℕ) → Links n p lists → Links n v (λ b. without me (lists b))
+  pub chosen : (lists : ℕ → List ℕ) → LinksByBound n p lists → Chooses n p.least lists me v.least
+  pub linked : (lists : ℕ → List ℕ) → LinksByBound n p lists → LinksByBound n v (λ b. without me (lists b))
   pub sized : IsSized n v
   pub same : v ≡ record p { head = v.head; next = v.next; last = v.last; least = v.least }
 
@@ -72,19 +72,19 @@ pub record BeginsElement (n me block total : ℕ) (is_built : Bool) (p v : Works
   }
 
 -- the classes of the front of me were turned over to it, with counters that first may have been set anew; all counters
--- come to at most most_figure
-pub record TurnsOver (aggressive : Bool) (n me gone most_figure : ℕ) (p v : Workspace) : Type 0 where
+-- come to at most most_cell
+pub record TurnsOver (aggressive : Bool) (n me gone most_cell : ℕ) (p v : Workspace) : Type 0 where
   pub first : List ℕ
-  pub renewed : KeepsOrResets most_figure p.flag p.w first v.flag
+  pub renewed : KeepsOrResets most_cell p.flag p.w first v.flag
   pub zeros : (e : ℕ) → (num first e == 0) ≡ (num p.w e == 0)
   pub under : (e : ℕ) → num first e < v.flag
   pub two : 2 ≤ v.flag
-  pub room : v.flag + n ≤ most_figure
+  pub room : v.flag + n ≤ most_cell
   pub turns : TurnsFront aggressive n me v.flag (front_at p me) p.free p.iw p.pe p.e_len p.nv p.len p.degree first v.iw
       v.pe v.e_len v.nv
       v.len v.degree v.w v.last gone
   pub linked : (lists : ℕ → List ℕ) → ((i : ℕ) → has (front_at p me) i ≡ true → has (lists (num p.degree i)) i ≡ true) →
-      Links n p lists → Links n v (λ d. filter (λ j. not (has (front_at p me) j)) (lists d))
+      LinksByBound n p lists → LinksByBound n v (λ d. filter (λ j. not (has (front_at p me) j)) (lists d))
   pub sized : IsSized n v
   pub same : v ≡ record p {
     iw = v.iw;
@@ -102,10 +102,10 @@ pub record TurnsOver (aggressive : Bool) (n me gone most_figure : ℕ) (p v : Wo
 
 -- the flag rose by the greatest border so far and was renewed, and then rose by 1 for each list that was spread: for no
 -- more of them than the list of the element me has words
-pub record RaisesFlag (me border most_figure : ℕ) (p v : Workspace) : Type 0 where
+pub record RaisesFlag (me border most_cell : ℕ) (p v : Workspace) : Type 0 where
   pub first : List ℕ
   pub flag : ℕ
-  pub renewed : KeepsOrResets most_figure (p.flag + max p.most border) p.w first flag
+  pub renewed : KeepsOrResets most_cell (p.flag + max p.most border) p.w first flag
   pub rises : (flag ≤ v.flag) × (v.flag ≤ flag + num p.len me)
 
 -- the rows of the block are not live any more, and the classes of the front that are alike were merged
@@ -120,7 +120,7 @@ pub record MergesFront (n me block border : ℕ) (p v : Workspace) : Type 0 wher
       × (bucket_of (num p.len me) p.last (num v.hash b) ≡ b)
   pub linked : (lists : ℕ → List ℕ) → ((b x : ℕ) → b < n → has (lists b) x ≡ true →
       has (classes p.nv (front_at p me)) x ≡ false) →
-      Links n p lists → Links n v lists
+      LinksByBound n p lists → LinksByBound n v lists
   pub under : (x : ℕ) → num v.w x < v.flag
   pub two : 2 ≤ v.flag
   pub zeros : (x : ℕ) → (num v.w x == 0) ≡ (num p.w x == 0)
@@ -151,8 +151,8 @@ pub record EndsFront (n me block border : ℕ) (is_built : Bool) (p v : Workspac
   pub laid : Layout n v.iw v.pe v.e_len v.len v.free
   pub empty : (b : ℕ) → b < n → n ≤ num v.hash b
   pub linked : (lists : ℕ → List ℕ) → ((b : ℕ) → b < n → has (lists b) me ≡ false) →
-      ((b x : ℕ) → b < n → has (lists b) x ≡ true → has (front_at p me) x ≡ false) → Links n p lists →
-      Links n v (put_all (bound_in border p.live p.nv p.degree) (marked_in p.nv (front_at p me)) lists)
+      ((b x : ℕ) → b < n → has (lists b) x ≡ true → has (front_at p me) x ≡ false) → LinksByBound n p lists →
+      LinksByBound n v (put_all (bound_in border p.live p.nv p.degree) (marked_in p.nv (front_at p me)) lists)
   pub lnz : v.figures.lnz ≡ cut (p.figures.lnz + front_sum entries block (border + p.n_dense))
   pub ldl : v.figures.n_mult_subs_ldl ≡ cut (p.figures.n_mult_subs_ldl + front_sum ldl_steps block (border + p.n_dense))
   pub lu : v.figures.n_mult_subs_lu ≡ cut (p.figures.n_mult_subs_lu + front_sum lu_steps block (border + p.n_dense))

@@ -4,12 +4,12 @@ use Rattle.amd_model.specs.Quotient.{has, Once}
 use Rattle.amd_words.specs.Words.{num, word, place, is_place, start, size_of, in_front, classes}
 use Rattle.amd_elements.specs.Element.{front_of}
 use Rattle.amd_lists.specs.Layout.{has_list, end_of, elements_in, Layout}
-use Rattle.amd_lists.specs.Layout.{met}
+use Rattle.amd_lists.specs.Layout.{rows_met}
 use Rattle.amd_fronts.specs.Turning.{IsTurning}
 use Rattle.amd_merging.specs.Merging.{AreRenewed, bucket_of}
 use Rattle.amd_merging.specs.Restoring.{marked_in, IsPlaceable}
 use Rattle.amd_rounds.specs.Workspaces.{Workspace}
-use Rattle.amd_rounds.specs.Parts.{Links, front_at}
+use Rattle.amd_rounds.specs.Parts.{LinksByBound, front_at}
 
 -- a class can become an element: it lists no element twice, and not itself
 pub record CanBegin (n me : ℕ) (p : Workspace) : Type 0 where
@@ -38,16 +38,16 @@ pub record CanTurn (n me : ℕ) (p : Workspace) : Type 0 where
   pub two : 2 ≤ p.flag
   pub under : (e : ℕ) → num p.w e < p.flag
   pub degrees : (e : ℕ) → num p.degree e ≤ n
-  pub part : (e : ℕ) → 0 < num p.w e → met p.iw p.pe p.e_len p.nv (front_at p me) e ≤ num p.degree e
+  pub part : (e : ℕ) → 0 < num p.w e → rows_met p.iw p.pe p.e_len p.nv (front_at p me) e ≤ num p.degree e
 
 -- the classes that are left of the front of me can be merged, where counters are below the flag and the greatest border
 -- together
-pub record CanMerge (n me block border most_figure : ℕ) (p : Workspace) : Type 0 where
+pub record CanMerge (n me block border most_cell : ℕ) (p : Workspace) : Type 0 where
   pub front : HasFront n me p
   pub renewed : AreRenewed n p.iw p.pe p.e_len p.len p.nv p.w p.last (classes p.nv (front_at p me))
   pub two : 2 ≤ p.flag
   pub under : (x : ℕ) → num p.w x < p.flag + max p.most border
-  pub room : p.flag + n ≤ most_figure
+  pub room : p.flag + n ≤ most_cell
   pub most : (border ≤ n) × (p.most ≤ n)
   pub live : block ≤ p.live
   pub empty : (b : ℕ) → b < n → n ≤ num p.hash b
@@ -61,7 +61,7 @@ pub record CanEnd (n me block border : ℕ) (is_built : Bool) (p : Workspace) : 
   pub heads : (b : ℕ) → b < n → num p.hash b < n → (1 < num p.len me) ×
       (has (marked_in p.nv (front_at p me)) (num p.hash b) ≡ true)
       × (bucket_of (num p.len me) p.last (num p.hash b) ≡ b)
-  pub linked : (lists : ℕ → List ℕ) × Links n p lists
+  pub linked : (lists : ℕ → List ℕ) × LinksByBound n p lists
       × ((b x : ℕ) → b < n → has (lists b) x ≡ true → has (front_at p me) x ≡ false)
   pub dense : block + (border + p.n_dense) < 2 ^ 64
   pub before : is_built ≡ true → (j : ℕ) → (j ≡ me → ⊥) → has_list p.pe p.len j ≡ true →

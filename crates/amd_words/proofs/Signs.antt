@@ -5,7 +5,7 @@ use Rattle.std.specs.Prelude.{nat_lt, ◌==◌}
 use Rattle.std.proofs.Math.Bool.{and-true, and-false, or-false, or-true}
 use Rattle.std.proofs.lemmas.Int.{ints}
 use Rattle.std.proofs.lemmas.Bool.{true≢false, cases_eq, le-ltb, eq-eqb, ne_eqb}
-use Rattle.amd_words.specs.Words.{is_place, place, rows_in, inside, word, size_of, in_front, flip_of}
+use Rattle.amd_words.specs.Words.{is_place, place, rows_in, is_negative, word, size_of, in_front, flip_of}
 
 pub place_is : (z : ℤ) → is_place z ≡ true → z ≡ pos (place z)
 unfolding is_place place
@@ -23,20 +23,20 @@ abs_rows (pos n) = refl
 abs_rows (negsuc n) = refl
 
 -- a number below 0
-pub mark_test : (z : ℤ) → lib.Signed.lt_z z (pos 0) ≡ inside z
-unfolding inside
+pub mark_test : (z : ℤ) → lib.Signed.lt_z z (pos 0) ≡ is_negative z
+unfolding is_negative
 mark_test (pos n) = le-ltb n 0 (omega arith)
 mark_test (negsuc n) = refl
 
 -- a number above 0
-pub open_test : (z : ℤ) → lib.Signed.lt_z (pos 0) z ≡ (nat_lt 0 (rows_in z) && not (inside z))
-unfolding rows_in inside
+pub open_test : (z : ℤ) → lib.Signed.lt_z (pos 0) z ≡ (nat_lt 0 (rows_in z) && not (is_negative z))
+unfolding rows_in is_negative
 open_test (pos zero) = refl
 open_test (pos (suc n)) = sym (and-true (nat_lt 0 (suc n)))
 open_test (negsuc n) = sym (and-false (nat_lt 0 (suc n)))
 
-pub open_is : (z : ℤ) → 0 < rows_in z → inside z ≡ false → (n : ℕ) × (z ≡ pos (suc n)) × (rows_in z ≡ suc n)
-unfolding rows_in inside
+pub open_is : (z : ℤ) → 0 < rows_in z → is_negative z ≡ false → (n : ℕ) × (z ≡ pos (suc n)) × (rows_in z ≡ suc n)
+unfolding rows_in is_negative
 open_is (pos zero) h o = absurd (omega (arith, h))
 open_is (pos (suc n)) h o = (n, refl, refl)
 open_is (negsuc n) h o = absurd (true≢false o)
@@ -54,10 +54,10 @@ module _ (nv : List ℤ) (j n : ℕ) (small : j < length nv) (is : word nv j ≡
   ]
 
   pub turned_front : (i : ℕ) → in_front (set nv j (negsuc n)) i ≡ (in_front nv i || j == i)
-  unfolding inside
+  unfolding is_negative
   turned_front i = elim (cases_eq i j) [
-    | inl q ↦ rw q (ap inside turned_here ∙ sym (ap (λ b. in_front nv j || b) (eq-eqb j j refl) ∙ or-true (in_front nv j)))
-    | inr ne ↦ ap inside (get_or-set_other nv j i (negsuc n) (pos 0) ne)
+    | inl q ↦ rw q (ap is_negative turned_here ∙ sym (ap (λ b. in_front nv j || b) (eq-eqb j j refl) ∙ or-true (in_front nv j)))
+    | inr ne ↦ ap is_negative (get_or-set_other nv j i (negsuc n) (pos 0) ne)
         ∙ sym (ap (λ b. in_front nv i || b) (ne_eqb j i (λ e. ne (sym e))) ∙ or-false (in_front nv i))
   ]
 
@@ -74,22 +74,22 @@ module _ (nv : List ℤ) (j n : ℕ) (small : j < length nv) (is : word nv j ≡
   ]
 
   pub back_front : (i : ℕ) → in_front (set nv j (pos (suc n))) i ≡ (in_front nv i && not (j == i))
-  unfolding inside
+  unfolding is_negative
   back_front i = elim (cases_eq i j) [
-    | inl q ↦ rw q (ap inside back_here ∙ sym (ap (λ b. in_front nv j && not b) (eq-eqb j j refl) ∙ and-false (in_front nv j)))
-    | inr ne ↦ ap inside (get_or-set_other nv j i (pos (suc n)) (pos 0) ne)
+    | inl q ↦ rw q (ap is_negative back_here ∙ sym (ap (λ b. in_front nv j && not b) (eq-eqb j j refl) ∙ and-false (in_front nv j)))
+    | inr ne ↦ ap is_negative (get_or-set_other nv j i (pos (suc n)) (pos 0) ne)
         ∙ sym (ap (λ b. in_front nv i && not b) (ne_eqb j i (λ e. ne (sym e))) ∙ and-true (in_front nv i))
   ]
 
 -- a number that is marked
-pub inside_is : (z : ℤ) → inside z ≡ true → (n : ℕ) × (z ≡ negsuc n) × (rows_in z ≡ suc n)
-unfolding inside rows_in
+pub inside_is : (z : ℤ) → is_negative z ≡ true → (n : ℕ) × (z ≡ negsuc n) × (rows_in z ≡ suc n)
+unfolding is_negative rows_in
 inside_is (pos n) h = absurd (true≢false (sym h))
 inside_is (negsuc n) h = (n, refl, refl)
 
 -- a number that is not marked
-pub fresh_is : (z : ℤ) → inside z ≡ false → z ≡ pos (rows_in z)
-unfolding inside rows_in
+pub fresh_is : (z : ℤ) → is_negative z ≡ false → z ≡ pos (rows_in z)
+unfolding is_negative rows_in
 fresh_is (pos n) h = refl
 fresh_is (negsuc n) h = absurd (true≢false h)
 

@@ -17,9 +17,9 @@ unfoldable pub rows_in : ℤ → ℕ
 rows_in (pos n) = n
 rows_in (negsuc n) = suc n
 
-unfoldable pub inside : ℤ → Bool
-inside (pos n) = false
-inside (negsuc n) = true
+unfoldable pub is_negative : ℤ → Bool
+is_negative (pos n) = false
+is_negative (negsuc n) = true
 
 -- the mark that names a parent or an owner
 abbrev pub flip_of : ℕ → ℤ
@@ -43,7 +43,7 @@ size_of nv j = rows_in (word nv j)
 
 -- the class is in the front of the pivot
 abbrev pub in_front : List ℤ → ℕ → Bool
-in_front nv j = inside (word nv j)
+in_front nv j = is_negative (word nv j)
 
 -- the classes of a list: what has no row is none
 abbrev pub classes : List ℤ → List ℕ → List ℕ

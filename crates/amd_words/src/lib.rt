@@ -211,11 +211,11 @@ pub fn cell_of<U: Unsigned>(number: usize) -> Cell<U>
 
 /// The number of a cell.
 #[inline]
-pub fn number_of<U: Unsigned>(figure: &Cell<U>) -> usize
-    ensures is { result ≡ figure.now }
+pub fn number_of<U: Unsigned>(cell: &Cell<U>) -> usize
+    ensures is { result ≡ cell.now }
     ensures small { result ≤ U.MOST }
 {
-    figure.inner.number()
+    cell.inner.number()
 }
 
 /// The number at a place.
@@ -266,22 +266,22 @@ pub fn copy_word<S: Signed>(words: &mut [Word<S>], from: usize, to: usize)
 
 /// The number at a place.
 #[inline]
-pub fn cell_at<U: Unsigned>(figures: &[Cell<U>], k: usize) -> usize
-    requires { k < length figures.now }
-    ensures is { result ≡ slice_index_or figures.now k 0 }
+pub fn cell_at<U: Unsigned>(cells: &[Cell<U>], k: usize) -> usize
+    requires { k < length cells.now }
+    ensures is { result ≡ slice_index_or cells.now k 0 }
     ensures small { result ≤ U.MOST }
 {
-    let figure = &figures[k];
-    figure.inner.number()
+    let cell = &cells[k];
+    cell.inner.number()
 }
 
 /// Writes a number at a place.
 #[inline]
-pub fn put_cell<U: Unsigned>(figures: &mut [Cell<U>], k: usize, number: usize)
-    requires inside { k < length figures.old }
+pub fn put_cell<U: Unsigned>(cells: &mut [Cell<U>], k: usize, number: usize)
+    requires inside { k < length cells.old }
     requires fits { number ≤ U.MOST }
-    ensures { figures.new ≡ slice_set figures.old k number }
+    ensures { cells.new ≡ slice_set cells.old k number }
 {
-    let figure = &mut figures[k];
-    figure.inner = U::of(number);
+    let cell = &mut cells[k];
+    cell.inner = U::of(number);
 }

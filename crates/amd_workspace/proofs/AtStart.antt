@@ -18,12 +18,12 @@ use Rattle.amd_lists.proofs.ChainLists.{lists_same}
 use Rattle.amd_rounds.specs.Workspaces.{Workspace, view_of}
 use Rattle.amd_rounds.specs.Laid.{IsLaid}
 use Rattle.amd_rounds.specs.Keeps.{Stands, by_bound}
-use Rattle.amd_workspace.specs.Starting.{Rows, is_class, classes_of}
+use Rattle.amd_workspace.specs.Starting.{Rows, begins_class, classes_of}
 
 module _ (n nzaat : ℕ) (held : ℕ → Bool) (p : Rows) (v : Workspace)
     (begun : IsBegun n (list_in v.iw p.pe p.len) (num p.len) held (view_of v)) (laid : IsLaid n nzaat v)
     (linked : DegreeLists n v.head v.next v.last v.degree (λ b. reverse (classes_of held p.len n b)))
-    (listed : (i : ℕ) → has_list v.pe v.len i ≡ true → (is_class held p.len i ≡ true) × (i < n))
+    (listed : (i : ℕ) → has_list v.pe v.len i ≡ true → (begins_class held p.len i ≡ true) × (i < n))
     (small : (i : ℕ) → i < n → num p.len i < n)
     (g : Graph) (dense : ℕ → Bool) (lists : ℕ → List ℕ) (s : State) (laws : IsGraph g) (size_is : g.size ≡ n)
     (degree_is : (i : ℕ) → i < g.size → num p.len i ≡ degree g i) (held_is : (i : ℕ) → i < g.size → held i ≡ dense i)
@@ -32,15 +32,15 @@ module _ (n nzaat : ℕ) (held : ℕ → Bool) (p : Rows) (v : Workspace)
   abbrev is_row : ℕ → Bool
   is_row i = not (dense i || degree g i == 0)
 
-  row : (b i : ℕ) → i < g.size → (is_class held p.len i && num p.len i == b) ≡ (is_row i && degree g i == b)
+  row : (b i : ℕ) → i < g.size → (begins_class held p.len i && num p.len i == b) ≡ (is_row i && degree g i == b)
   row b i l = ap (λ c. c && num p.len i == b) (class_test (held i) (num p.len i))
       ∙ ap (λ h. not (h || num p.len i == 0) && num p.len i == b) (held_is i l)
       ∙ ap (λ d. not (dense i || d == 0) && d == b) (degree_is i l)
 
   bound_list : (b : ℕ) → reverse (classes_of held p.len n b) ≡ by_bound (start_quotient g dense lists) b
   unfolding start_quotient
-  bound_list b = ap reverse (ap (λ m. list_below m (λ i. is_class held p.len i && num p.len i == b)) (sym size_is)
-      ∙ list_same g.size (λ i. is_class held p.len i && num p.len i == b) (λ i. is_row i && degree g i == b) (row b)
+  bound_list b = ap reverse (ap (λ m. list_below m (λ i. begins_class held p.len i && num p.len i == b)) (sym size_is)
+      ∙ list_same g.size (λ i. begins_class held p.len i && num p.len i == b) (λ i. is_row i && degree g i == b) (row b)
       ∙ sym (filter_below g.size is_row (λ i. degree g i == b)))
 
   -- what has a list is a class of the start

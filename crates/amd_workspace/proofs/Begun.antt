@@ -10,13 +10,13 @@ use Rattle.amd_model.specs.Figures.{front_sum, entries, ldl_steps, lu_steps, cut
 use Rattle.amd_model.specs.Quotient.{has}
 use Rattle.amd_model.proofs.Counting.Below.{sum_mono, count_same, count_most}
 use Rattle.amd_model.proofs.Listings.Words.{has_none}
-use Rattle.amd_round_laws.specs.Starts.{class_of, block_of, IsBegun}
-use Rattle.amd_words.specs.Words.{num, word, place, is_place, start, size_of, inside, rows_in, rows, flip_of}
+use Rattle.amd_round_laws.specs.Starts.{class_of, starting_block, IsBegun}
+use Rattle.amd_words.specs.Words.{num, word, place, is_place, start, size_of, is_negative, rows_in, rows, flip_of}
 use Rattle.amd_lists.specs.Layout.{has_list, end_of, elements_in, variables_in, list_in, Layout, live_words}
 use Rattle.amd_rounds.specs.Workspaces.{Workspace, owner_of, is_flip, is_over, flipped, view_of}
 use Rattle.amd_rounds.specs.Laid.{IsSized, IsLaid}
 use Rattle.amd_rounds.proofs.Standing.{flip_is, over_is, place_is}
-use Rattle.amd_workspace.specs.Starting.{Rows, BeginsRows, is_class}
+use Rattle.amd_workspace.specs.Starting.{Rows, BeginsRows, begins_class}
 
 -- what a workspace says of the rows
 abbrev pub rows_of : Workspace → Rows
@@ -31,7 +31,7 @@ rows_of v = record {
 
 -- a row that is a class
 pub record IsClass (held : ℕ → Bool) (p : Rows) (v : Workspace) (i : ℕ) : Type 0 where
-  pub class : is_class held p.len i ≡ true
+  pub class : begins_class held p.len i ≡ true
   pub starts : word v.pe i ≡ word p.pe i
   pub counts : word v.e_len i ≡ pos 0
   pub size : word v.nv i ≡ pos 1
@@ -41,7 +41,7 @@ pub record IsClass (held : ℕ → Bool) (p : Rows) (v : Workspace) (i : ℕ) : 
 
 -- a row that is none
 record IsAside (held : ℕ → Bool) (p : Rows) (v : Workspace) (i : ℕ) : Type 0 where
-  pub class : is_class held p.len i ≡ false
+  pub class : begins_class held p.len i ≡ false
   pub starts : word v.pe i ≡ negsuc 0
   pub counts : word v.e_len i ≡ cond (held i) (negsuc 0) (flip_of 1)
   pub size : word v.nv i ≡ pos 0
@@ -59,7 +59,7 @@ record IsPast (v : Workspace) (i : ℕ) : Type 0 where
   pub counter : num v.w i ≡ 0
 
 module _ (n : ℕ) (held : ℕ → Bool) (p : Rows) (v : Workspace) (begins : BeginsRows n n held p (rows_of v)) where
-  class_row : (i : ℕ) → i < n → is_class held p.len i ≡ true → IsClass held p v i
+  class_row : (i : ℕ) → i < n → begins_class held p.len i ≡ true → IsClass held p v i
   class_row i l y =
       let row = begins.rows i l in record {
         class = y;
@@ -71,7 +71,7 @@ module _ (n : ℕ) (held : ℕ → Bool) (p : Rows) (v : Workspace) (begins : Be
         counter = row.counters ∙ ap (λ b. cond b 1 0) y;
       }
 
-  aside_row : (i : ℕ) → i < n → is_class held p.len i ≡ false → IsAside held p v i
+  aside_row : (i : ℕ) → i < n → begins_class held p.len i ≡ false → IsAside held p v i
   aside_row i l y =
       let row = begins.rows i l in record {
         class = y;
@@ -97,7 +97,7 @@ module _ (n : ℕ) (held : ℕ → Bool) (p : Rows) (v : Workspace) (begins : Be
   kind : (i : ℕ) → (IsClass held p v i × (i < n)) ⊎ (IsAside held p v i × (i < n)) ⊎ IsPast v i
   kind i = elim (cases_lt i n) [
     | inr l ↦ inr (inr (past_row i l))
-    | inl l ↦ elim (cases_Bool (is_class held p.len i)) [
+    | inl l ↦ elim (cases_Bool (begins_class held p.len i)) [
       | inl y ↦ inl (class_row i l y, l)
       | inr y ↦ inr (inl (aside_row i l y, l))
     ]
@@ -107,9 +107,9 @@ module _ (n : ℕ) (held : ℕ → Bool) (p : Rows) (v : Workspace) (begins : Be
   unfolding rows_in
   size_one z k e = ap rows_in e
 
-  not_inside : (z : ℤ) (k : ℕ) → z ≡ pos k → inside z ≡ false
-  unfolding inside
-  not_inside z k e = ap inside e
+  not_inside : (z : ℤ) (k : ℕ) → z ≡ pos k → is_negative z ≡ false
+  unfolding is_negative
+  not_inside z k e = ap is_negative e
 
   pub place_zero : (place (pos 0) ≡ 0) × (is_place (pos 0) ≡ true) × (is_place (negsuc 0) ≡ false) × (owner_of (negsuc 0) ≡ None)
   unfolding place is_place owner_of
@@ -185,21 +185,21 @@ module _ (n : ℕ) (held : ℕ → Bool) (p : Rows) (v : Workspace) (begins : Be
       no_block e (over_is (word v.e_len e) is).0
 
   -- a row that is no class and not held has no neighbour
-  empty_row : (e : ℕ) → is_class held p.len e ≡ false → held e ≡ false → num p.len e ≡ 0
+  empty_row : (e : ℕ) → begins_class held p.len e ≡ false → held e ≡ false → num p.len e ≡ 0
   empty_row e h f = elim (cases_eq (num p.len e) 0) [
     | inl z ↦ z
     | inr z ↦ absurd (true≢false (sym (ap (λ b. b && not (held e)) (lt-ltb 0 (num p.len e) (omega (arith, z))) ∙ ap not f) ∙ h))
   ]
 
-  block_is : (e : ℕ) → e < n → block_at e ≡ block_of (held e) (num p.len e)
-  block_is e l = elim (cases_Bool (is_class held p.len e)) [
+  block_is : (e : ℕ) → e < n → block_at e ≡ starting_block (held e) (num p.len e)
+  block_is e l = elim (cases_Bool (begins_class held p.len e)) [
     | inl y ↦ (let k = class_row e l y in let some = ltb-true 0 (num p.len e) (and_parts (nat_lt 0 (num p.len e)) (not (held e)) y).0 in
         no_block e (plain (word v.e_len e) k.counts).1
         ∙ sym (ap (λ b. cond (b && not (held e)) 1 0) (ne_eqb (num p.len e) 0 (λ z. omega (arith, z, some)))))
     | inr y ↦ (let k = aside_row e l y in elim (cases_Bool (held e)) [
-      | inl h ↦ mark_none e k h ∙ sym (ap (λ b. block_of b (num p.len e)) h
+      | inl h ↦ mark_none e k h ∙ sym (ap (λ b. starting_block b (num p.len e)) h
           ∙ ap (λ b. cond b 1 0) (and-false (nat_eq (num p.len e) 0)))
-      | inr f ↦ (mark_one e k f).1 ∙ sym (ap (λ b. block_of b (num p.len e)) f
+      | inr f ↦ (mark_one e k f).1 ∙ sym (ap (λ b. starting_block b (num p.len e)) f
           ∙ ap (λ b. cond (b && true) 1 0) (eq-eqb (num p.len e) 0 (empty_row e y f)))
     ])
   ]
@@ -215,14 +215,14 @@ module _ (n : ℕ) (held : ℕ → Bool) (p : Rows) (v : Workspace) (begins : Be
   ]
 
   size_is : (i : ℕ) → i < n → size_of v.nv i ≡ class_of (held i) (num p.len i)
-  size_is i l = size_one (word v.nv i) (cond (is_class held p.len i) 1 0) (begins.rows i l).sizes
+  size_is i l = size_one (word v.nv i) (cond (begins_class held p.len i) 1 0) (begins.rows i l).sizes
 
   light : (b : Bool) → nat_lt 0 (cond b 1 0) ≡ b
   light true = lt-ltb 0 1 (omega arith)
   light false = le-ltb 0 0 (omega arith)
 
   -- the view is that of the start
-  pub begun_view : v.least ≡ 0 → v.live ≡ count_below n (is_class held p.len) → v.n_dense ≡ count_below n held →
+  pub begun_view : v.least ≡ 0 → v.live ≡ count_below n (begins_class held p.len) → v.n_dense ≡ count_below n held →
       v.figures.lnz ≡ cut (0 + front_sum entries v.n_dense 0) → v.figures.n_mult_subs_ldl ≡ cut (0 + front_sum ldl_steps v.n_dense 0) →
       v.figures.n_mult_subs_lu ≡ cut (0 + front_sum lu_steps v.n_dense 0) → v.figures.d_max ≡ max 1 (v.n_dense + 0) →
       IsBegun n (list_in v.iw p.pe p.len) (num p.len) held (view_of v)
@@ -235,8 +235,8 @@ module _ (n : ℕ) (held : ℕ → Bool) (p : Rows) (v : Workspace) (begins : Be
     elements = λ i h. no_elements i (sized_row i h).0.counts;
     bound = λ i h. (sized_row i h).0.bound;
     least = least;
-    live = live ∙ sym (count_same n (λ i. nat_lt 0 (size_of v.nv i)) (is_class held p.len) (λ i l. ap (nat_lt 0) (size_is i l)
-        ∙ light (is_class held p.len i)));
+    live = live ∙ sym (count_same n (λ i. nat_lt 0 (size_of v.nv i)) (begins_class held p.len) (λ i l. ap (nat_lt 0) (size_is i l)
+        ∙ light (begins_class held p.len i)));
     link = λ i. (no_link i).0;
     parent = λ e. (no_link e).1;
     block = block_is;
@@ -304,7 +304,7 @@ module _ (n : ℕ) (held : ℕ → Bool) (p : Rows) (v : Workspace) (begins : Be
     -- the workspace is laid out for a round
     pub begun_laid : (nzaat : ℕ) → IsSized n v → nzaat + n ≤ length v.iw → v.free ≤ length v.iw → live_words n p.pe p.len ≤ nzaat →
         ((i : ℕ) → i < n → is_place (word p.pe i) ≡ true) → ((i : ℕ) → i < n → num p.len i < n) → v.most ≡ 0 → 2 ≤ v.flag →
-        ((b : ℕ) → b < n → n ≤ num v.hash b) → v.n_cmp_a ≡ 0 → v.live ≡ count_below n (is_class held p.len) → IsLaid n nzaat v
+        ((b : ℕ) → b < n → n ≤ num v.hash b) → v.n_cmp_a ≡ 0 → v.live ≡ count_below n (begins_class held p.len) → IsLaid n nzaat v
     begun_laid nzaat sized room end few starts small most two empty packs live = record {
       sized = sized;
       room = room;
@@ -334,5 +334,5 @@ module _ (n : ℕ) (held : ℕ → Bool) (p : Rows) (v : Workspace) (begins : Be
       ];
       standing = λ j h. let e = (listed_row j h).0.counter in omega (arith, e);
       empty = empty;
-      packs = (let m = count_most n (is_class held p.len) in omega (arith, packs, live, m));
+      packs = (let m = count_most n (begins_class held p.len) in omega (arith, packs, live, m));
     }

@@ -14,7 +14,7 @@ use Rattle.amd_edges.proofs.Places.{funext2, entry_from, entry_gives}
 use Rattle.amd_edges.proofs.Reading.{IsReading}
 use Rattle.amd_words.specs.Words.{place, word, rows}
 use Rattle.amd_words.proofs.RowLists.{rows_none, rows_more, rows_same}
-use Rattle.amd_workspace.specs.Copying.{is_other, AreRows, Copies}
+use Rattle.amd_workspace.specs.Copying.{is_other, HoldRows, Copies}
 use Rattle.amd_workspace.proofs.Layings.{row_word}
 use Rattle.amd_workspace.proofs.SymmetricLists.{own}
 
@@ -51,7 +51,7 @@ module _ (n from : ℕ) (xs : List ℕ) (old iw : List ℤ) (end : ℕ) (c : Cop
   same_before : (k : ℕ) → k < from → word (set iw end (pos j)) k ≡ word old k
   same_before k l = still k (let e = c.ends in λ w. omega (arith, e, l, w)) ∙ c.before k l
 
-  all_rows : AreRows n old → AreRows n (set iw end (pos j))
+  all_rows : HoldRows n old → HoldRows n (set iw end (pos j))
   all_rows h k = elim (cases_eq k end) [
     | inl e ↦ row_word n _ j (ap (word (set iw end (pos j))) e ∙ here) small
     | inr ne ↦ rw (still k ne) (c.words h k)

@@ -15,7 +15,7 @@ use Rattle.amd_words.specs.Words.{num, is_place, place, word, start, rows}
 use Rattle.amd_lists.specs.Layout.{has_list, end_of, list_in, live_words}
 use Rattle.amd_lists.proofs.Frames.{has_parts, has_none}
 use Rattle.amd_words.proofs.RowLists.{rows_at, rows_none, rows_more}
-use Rattle.amd_workspace.specs.Copying.{AreRows}
+use Rattle.amd_workspace.specs.Copying.{HoldRows}
 use Rattle.amd_workspace.specs.Laying.{Lays, Starts, IsLaidOut}
 
 -- ---- words as rows
@@ -63,7 +63,7 @@ unfolding is_place place
 row_word n x j e l = rw e (refl, l)
 
 -- words that are all the number of one row name rows
-pub same_are_rows : (n room row : ℕ) → row < n → AreRows n (replicate room (pos row))
+pub same_are_rows : (n room row : ℕ) → row < n → HoldRows n (replicate room (pos row))
 same_are_rows n room row small k = elim (cases_lt k room) [
   | inl l ↦ row_word n _ row (get_or-replicate room k (pos row) (pos 0) l) small
   | inr l ↦ row_word n _ 0 (get_or_past (replicate room (pos row)) k (pos 0)
@@ -72,13 +72,13 @@ same_are_rows n room row small k = elim (cases_lt k room) [
 
 -- ---- the walk
 
-module _ (g : Graph) (seen : ℕ → ℕ → Bool) (arcs : List (ℕ × ℕ)) (i j : ℕ) (new : IsNew g seen i j) (most_word most_figure : ℕ)
-    (next : List ℕ) (iw : List ℤ) (h : Lays g seen arcs most_word most_figure next iw) where
+module _ (g : Graph) (seen : ℕ → ℕ → Bool) (arcs : List (ℕ × ℕ)) (i j : ℕ) (new : IsNew g seen i j) (most_word most_cell : ℕ)
+    (next : List ℕ) (iw : List ℤ) (h : Lays g seen arcs most_word most_cell next iw) where
   pub lay_in : get_or next i 0 < length iw
   lay_in = let a = place_in g seen arcs i j new next (map place iw) h.lists in let b = length-map iw place in omega (arith, a, b)
 
   pub lays_more : (value : ℕ) → value ≡ get_or next i 0 →
-      Lays g (with_arc seen i j) (arcs ++ (i, j) ∷ []) most_word most_figure (set next i (value + 1)) (set iw value (pos j))
+      Lays g (with_arc seen i j) (arcs ++ (i, j) ∷ []) most_word most_cell (set next i (value + 1)) (set iw value (pos j))
   lays_more value is = record {
     lists = rw (place_set iw value j) (lists_more g seen arcs i j new next (map place iw) h.lists value is);
     words = λ k. elim (cases_eq k value) [
@@ -91,8 +91,8 @@ module _ (g : Graph) (seen : ℕ → ℕ → Bool) (arcs : List (ℕ × ℕ)) (i
 
 -- the words in a run of row j, whose list ends at the mark: both arcs of one edge more
 module _ (g : Graph) (seen : ℕ → ℕ → Bool) (arcs : List (ℕ × ℕ)) (i j mark : ℕ) (new : IsNewEdge g seen i j)
-    (most_word most_figure : ℕ) (next : List ℕ) (iw : List ℤ)
-    (h : Lays g seen arcs most_word most_figure (set next j mark) iw) where
+    (most_word most_cell : ℕ) (next : List ℕ) (iw : List ℤ)
+    (h : Lays g seen arcs most_word most_cell (set next j mark) iw) where
   ne : i ≢ j
   ne = ends_apart g seen i j new
 
@@ -103,28 +103,28 @@ module _ (g : Graph) (seen : ℕ → ℕ → Bool) (arcs : List (ℕ × ℕ)) (i
   other_end = get_or-set_other next j i mark 0 ne
 
   pub other_in : get_or next i 0 < length iw
-  other_in = let a = lay_in g seen arcs i j new.there most_word most_figure (set next j mark) iw h in let b = other_end in
+  other_in = let a = lay_in g seen arcs i j new.there most_word most_cell (set next j mark) iw h in let b = other_end in
       omega (arith, a, b)
 
   module _ (value : ℕ) (is : value ≡ get_or next i 0) where
-    there : Lays g (with_arc seen i j) (arcs ++ (i, j) ∷ []) most_word most_figure (set (set next j mark) i (value + 1))
+    there : Lays g (with_arc seen i j) (arcs ++ (i, j) ∷ []) most_word most_cell (set (set next j mark) i (value + 1))
         (set iw value (pos j))
-    there = lays_more g seen arcs i j new.there most_word most_figure (set next j mark) iw h value (is ∙ sym other_end)
+    there = lays_more g seen arcs i j new.there most_word most_cell (set next j mark) iw h value (is ∙ sym other_end)
 
     own_end : mark ≡ get_or (set (set next j mark) i (value + 1)) j 0
     own_end = sym (get_or-set_other (set next j mark) i j (value + 1) 0 (λ e. ne (sym e))
         ∙ get_or-set_same next j mark 0 (let a = run_long in let b = new.there.j_row in omega (arith, a, b)))
 
     pub own_in : mark < length iw
-    own_in = let a = lay_in g (with_arc seen i j) (arcs ++ (i, j) ∷ []) j i new.back most_word most_figure
+    own_in = let a = lay_in g (with_arc seen i j) (arcs ++ (i, j) ∷ []) j i new.back most_word most_cell
         (set (set next j mark) i (value + 1)) (set iw value (pos j)) there in
         let b = own_end in let c = length-set iw value (pos j) in omega (arith, a, b, c)
 
-    pub run_more : Lays g (with_edge seen i j) ((arcs ++ (i, j) ∷ []) ++ (j, i) ∷ []) most_word most_figure
+    pub run_more : Lays g (with_edge seen i j) ((arcs ++ (i, j) ∷ []) ++ (j, i) ∷ []) most_word most_cell
         (set (set next i (value + 1)) j (mark + 1)) (set (set iw value (pos j)) mark (pos i))
-    run_more = subst (λ ends. Lays g (with_edge seen i j) ((arcs ++ (i, j) ∷ []) ++ (j, i) ∷ []) most_word most_figure ends
+    run_more = subst (λ ends. Lays g (with_edge seen i j) ((arcs ++ (i, j) ∷ []) ++ (j, i) ∷ []) most_word most_cell ends
         (set (set iw value (pos j)) mark (pos i))) (written_again next i j mark (value + 1) (mark + 1) ne)
-        (lays_more g (with_arc seen i j) (arcs ++ (i, j) ∷ []) j i new.back most_word most_figure
+        (lays_more g (with_arc seen i j) (arcs ++ (i, j) ∷ []) j i new.back most_word most_cell
         (set (set next j mark) i (value + 1)) (set iw value (pos j)) there mark own_end)
 
 -- ---- the starts
@@ -184,7 +184,7 @@ module _ (g : Graph) (degrees : List ℕ) (pe : List ℤ) (next len : List ℕ) 
   pub list_at : (iw : List ℤ) (xs : List ℕ) (i : ℕ) → i < g.size → rows iw (start_of g i) (num degrees i) ≡ xs → list_in iw pe len i ≡ xs
   list_at iw xs i l e = rows_at iw (start_at i l) (ap (λ ys. num ys i) s.counts) ∙ e
 
-  module _ (iw : List ℤ) (names : AreRows g.size iw) (room : start_of g g.size ≤ length iw) where
+  module _ (iw : List ℤ) (names : HoldRows g.size iw) (room : start_of g g.size ≤ length iw) where
     within : (j : ℕ) → has_list pe len j ≡ true → end_of pe len j ≤ start_of g g.size
     within j k = let l = in_rows j k in let a = start_at j l in let c = count_at j l in let b = start_later g j g.size l in
         omega (arith, a, b, c)
@@ -217,9 +217,9 @@ module _ (g : Graph) (degrees : List ℕ) (pe : List ℤ) (next len : List ℕ) 
 
 -- no list is there before the walk
 pub lays_none : (g : Graph) (next : List ℕ) → length next ≡ g.size → ((i : ℕ) → i < g.size → get_or next i 0 ≡ start_of g i) →
-    (most_word most_figure : ℕ) (iw : List ℤ) → AreRows g.size iw → start_of g g.size ≤ length iw → g.size ≤ most_word →
-    length iw ≤ most_figure → Lays g (λ a b. false) [] most_word most_figure next iw
-lays_none g next long first most_word most_figure iw names fits rows places = record {
+    (most_word most_cell : ℕ) (iw : List ℤ) → HoldRows g.size iw → start_of g g.size ≤ length iw → g.size ≤ most_word →
+    length iw ≤ most_cell → Lays g (λ a b. false) [] most_word most_cell next iw
+lays_none g next long first most_word most_cell iw names fits rows places = record {
   lists = lists_none g next (map place iw) long (let a = length-map iw place in omega (arith, a, fits)) first;
   words = names;
   rows = rows;
@@ -227,10 +227,10 @@ lays_none g next long first most_word most_figure iw names fits rows places = re
 }
 
 -- afterwards the list of a row has the rows that its arcs lead to, in their order
-pub walked_list : (g : Graph) (degrees : List ℕ) → AreCounts g g.edge degrees → (arcs : List (ℕ × ℕ)) (most_word most_figure : ℕ)
-    (ends : List ℕ) (iw : List ℤ) → Lays g g.edge arcs most_word most_figure ends iw → (i : ℕ) → i < g.size →
+pub walked_list : (g : Graph) (degrees : List ℕ) → AreCounts g g.edge degrees → (arcs : List (ℕ × ℕ)) (most_word most_cell : ℕ)
+    (ends : List ℕ) (iw : List ℤ) → Lays g g.edge arcs most_word most_cell ends iw → (i : ℕ) → i < g.size →
     rows iw (start_of g i) (num degrees i) ≡ ends_of i arcs
-walked_list g degrees counts arcs most_word most_figure ends iw h i l =
+walked_list g degrees counts arcs most_word most_cell ends iw h i l =
     let c : num degrees i ≡ count_below g.size (g.edge i) = counts.each i l in
     let e = h.lists.ends i l in let b = start_later g i g.size l in let a = h.lists.room in let r = length-map iw place in
     let m : get_or ends i 0 - start_of g i ≡ num degrees i = omega (arith, c, e) in

@@ -20,8 +20,18 @@ use Rattle.amd_edges.proofs.Listing.{start_later}
 use Rattle.amd_edges.proofs.Orders.{list_gap}
 use Rattle.amd_words.specs.Words.{num, is_place, place, word, rows}
 use Rattle.amd_words.proofs.RowLists.{rows_none, rows_more, rows_same, rows_length, rows_both}
-use Rattle.amd_workspace.specs.Copying.{is_other, AreRows}
-use Rattle.amd_workspace.specs.Lower.{IsLower, is_earlier, earlier_of, own_of, list_start, HoldsOwn, Spreads, earlier_below, HasColumns}
+use Rattle.amd_workspace.specs.Copying.{is_other, HoldRows}
+use Rattle.amd_workspace.specs.Lower.{
+  IsLower,
+  is_earlier,
+  earlier_of,
+  own_of,
+  own_start,
+  HoldsOwn,
+  SpreadsColumns,
+  earlier_below,
+  HasColumns,
+}
 use Rattle.amd_workspace.proofs.Layings.{row_word}
 use Rattle.amd_workspace.proofs.LowerLists.{IsNth, nth_below, nth_once, length_more, length_grows, lower_list, lower_count}
 use Rattle.amd_workspace.proofs.SymmetricCounts.{next_start}
@@ -42,14 +52,14 @@ plain_word (pos k) e = refl
 plain_word (negsuc k) e = absurd (false≢true e)
 
 -- words that are rows
-replicate_rows : (n j count : ℕ) → j < n → AreRows n (replicate count (pos j))
+replicate_rows : (n j count : ℕ) → j < n → HoldRows n (replicate count (pos j))
 replicate_rows n j count j_in k = elim (cases_lt k count) [
   | inl l ↦ row_word n _ j (get_or-replicate count k (pos j) (pos 0) l) j_in
   | inr l ↦ row_word n _ 0 (get_or_past (replicate count (pos j)) k (pos 0)
       (let size = length-replicate count (pos j) in omega (arith, size, l))) (omega (arith, j_in))
 ]
 
-column_rows : (n : ℕ) (p : ℕ → Bool) → 0 < n → AreRows n (map pos (list_below n p))
+column_rows : (n : ℕ) (p : ℕ → Bool) → 0 < n → HoldRows n (map pos (list_below n p))
 column_rows n p some k = elim (cases_lt k (length (list_below n p))) [
   | inl l ↦ row_word n _ (get_or (list_below n p) k 0) (get_or-map pos (list_below n p) k 0 (pos 0) l) (nth_below n p k l).small
   | inr l ↦ row_word n _ 0 (get_or_past (map pos (list_below n p)) k (pos 0)
@@ -85,33 +95,33 @@ module _ (n : ℕ) (ap' ai : List ℤ) (lower : IsLower n ap' ai) where
   unfolding is_other is_earlier
   lower_starting i l = lower_list n (is_pair n ap' ai) lower i l
 
-  pub next_list : (i : ℕ) → i < n → list_start n ap' ai (i + 1) ≡
-      list_start n ap' ai i + length (earlier_of n ap' ai i) + length (own_of n ap' ai i)
+  pub next_list : (i : ℕ) → i < n → own_start n ap' ai (i + 1) ≡
+      own_start n ap' ai i + length (earlier_of n ap' ai i) + length (own_of n ap' ai i)
   next_list i l = let a = next_start n ap' ai i in let b = degree_parts i l in omega (arith, a, b)
 
-  pub later_list : (i j : ℕ) → i < j → j ≤ n → list_start n ap' ai i + length (earlier_of n ap' ai i) + length (own_of n ap' ai i)
-      ≤ list_start n ap' ai j
+  pub later_list : (i j : ℕ) → i < j → j ≤ n → own_start n ap' ai i + length (earlier_of n ap' ai i) + length (own_of n ap' ai i)
+      ≤ own_start n ap' ai j
   unfolding graph_of
   later_list i j l m = let a = start_later (graph_of n ap' ai) i j l in let b = degree_parts i (omega (arith, l, m)) in omega (arith, a, b)
 
   pub spreads_same : (early early' : ℕ → List ℕ) (next : List ℕ) (iw : List ℤ) → ((a : ℕ) → a < n → early' a ≡ early a) →
-      Spreads n ap' ai early next iw → Spreads n ap' ai early' next iw
+      SpreadsColumns n ap' ai early next iw → SpreadsColumns n ap' ai early' next iw
   spreads_same early early' next iw same h = record {
     held = h.held;
     long = h.long;
-    ends = λ i l. h.ends i l ∙ ap (λ xs. list_start n ap' ai i + length xs) (sym (same i l));
-    first = λ i l. subst (λ xs. rows iw (list_start n ap' ai i) (length xs) ≡ xs) (sym (same i l)) (h.first i l);
+    ends = λ i l. h.ends i l ∙ ap (λ xs. own_start n ap' ai i + length xs) (sym (same i l));
+    first = λ i l. subst (λ xs. rows iw (own_start n ap' ai i) (length xs) ≡ xs) (sym (same i l)) (h.first i l);
   }
 
   -- one earlier neighbour more
-  module _ (early early' : ℕ → List ℕ) (next : List ℕ) (iw : List ℤ) (i j : ℕ) (h : Spreads n ap' ai early next iw) (i_in : i < n)
-      (j_in : j < n) (fits : list_start n ap' ai n ≤ length iw) (few : length (early i) < length (earlier_of n ap' ai i))
+  module _ (early early' : ℕ → List ℕ) (next : List ℕ) (iw : List ℤ) (i j : ℕ) (h : SpreadsColumns n ap' ai early next iw) (i_in : i < n)
+      (j_in : j < n) (fits : own_start n ap' ai n ≤ length iw) (few : length (early i) < length (earlier_of n ap' ai i))
       (most : (a : ℕ) → a < n → length (early a) ≤ length (earlier_of n ap' ai a))
       (here : early' i ≡ early i ++ j ∷ []) (there : (a : ℕ) → a < n → a ≢ i → early' a ≡ early a) where
     v : ℕ
     v = num next i
 
-    v_is : v ≡ list_start n ap' ai i + length (early i)
+    v_is : v ≡ own_start n ap' ai i + length (early i)
     unfolding v
     v_is = h.ends i i_in
 
@@ -129,58 +139,58 @@ module _ (n : ℕ) (ap' ai : List ℤ) (lower : IsLower n ap' ai) where
     unfolding new
     now = get_or-set_same iw (num next i) (pos j) (pos 0) v_inside
 
-    names : AreRows n new
+    names : HoldRows n new
     names k = elim (cases_eq k (num next i)) [
       | inl e ↦ row_word n _ j (ap (word new) e ∙ now) j_in
       | inr ne ↦ rw (still k ne) (h.held.words k)
     ]
 
-    own_kept : (a : ℕ) → a < n → rows new (list_start n ap' ai a + length (earlier_of n ap' ai a)) (length (own_of n ap' ai a))
+    own_kept : (a : ℕ) → a < n → rows new (own_start n ap' ai a + length (earlier_of n ap' ai a)) (length (own_of n ap' ai a))
         ≡ own_of n ap' ai a
     own_kept a l = rows_same iw new _ _ (length (own_of n ap' ai a)) (λ k x. still _ (λ w. let e = h.ends i i_in in elim (cases_lt a i) [
       | inl y ↦ (let z = later_list a i y (omega (arith, i_in)) in omega (arith, z, w, e, x))
       | inr y ↦ elim (cases_eq a i) [
-        | inl s ↦ (let f = ap (list_start n ap' ai) s in let g = ap (λ t. length (earlier_of n ap' ai t)) s in
+        | inl s ↦ (let f = ap (own_start n ap' ai) s in let g = ap (λ t. length (earlier_of n ap' ai t)) s in
             omega (arith, w, e, f, g, few))
         | inr ne ↦ (let z = later_list i a (omega (arith, y, ne)) (omega (arith, l)) in omega (arith, z, w, e, few))
       ]
     ])) ∙ h.held.own a l
 
-    first_kept : (a : ℕ) → a < n → a ≢ i → rows new (list_start n ap' ai a) (length (early a)) ≡ early a
+    first_kept : (a : ℕ) → a < n → a ≢ i → rows new (own_start n ap' ai a) (length (early a)) ≡ early a
     first_kept a l ne = rows_same iw new _ _ (length (early a)) (λ k x. still _ (λ w. let e = h.ends i i_in in let t = most a l in
         elim (cases_lt a i) [
           | inl y ↦ (let z = later_list a i y (omega (arith, i_in)) in omega (arith, z, w, e, x, t))
           | inr y ↦ (let z = later_list i a (omega (arith, y, ne)) (omega (arith, l)) in omega (arith, z, w, e, few))
         ])) ∙ h.first a l
 
-    before_kept : rows new (list_start n ap' ai i) (length (early i)) ≡ early i
+    before_kept : rows new (own_start n ap' ai i) (length (early i)) ≡ early i
     before_kept = rows_same iw new _ _ (length (early i)) (λ k x. still _ (λ w. let e = h.ends i i_in in omega (arith, e, w, x)))
         ∙ h.first i i_in
 
     long_here : length (early' i) ≡ length (early i) + 1
     long_here = ap length here ∙ length-append (early i) (j ∷ [])
 
-    first_here : rows new (list_start n ap' ai i) (length (early' i)) ≡ early' i
+    first_here : rows new (own_start n ap' ai i) (length (early' i)) ≡ early' i
     unfolding place
-    first_here = ap (rows new (list_start n ap' ai i)) long_here ∙ rows_more new (list_start n ap' ai i) (length (early i))
-        ∙ ap (λ xs. xs ++ place (word new (list_start n ap' ai i + length (early i))) ∷ []) before_kept
+    first_here = ap (rows new (own_start n ap' ai i)) long_here ∙ rows_more new (own_start n ap' ai i) (length (early i))
+        ∙ ap (λ xs. xs ++ place (word new (own_start n ap' ai i + length (early i))) ∷ []) before_kept
         ∙ ap (λ x. early i ++ x ∷ []) (ap (λ k. place (word new k)) (sym (h.ends i i_in)) ∙ ap place now) ∙ sym here
 
-    pub spreads_more : Spreads n ap' ai early' (set next i (num next i + 1)) (set iw (num next i) (pos j))
+    pub spreads_more : SpreadsColumns n ap' ai early' (set next i (num next i + 1)) (set iw (num next i) (pos j))
     unfolding new
     spreads_more = record {
       held = record { words = names; own = own_kept };
       long = length-set next i (num next i + 1) ∙ h.long;
       ends = λ a l. elim (cases_eq a i) [
-        | inl e ↦ subst (λ x. num (set next i (num next i + 1)) x ≡ list_start n ap' ai x + length (early' x)) (sym e)
+        | inl e ↦ subst (λ x. num (set next i (num next i + 1)) x ≡ own_start n ap' ai x + length (early' x)) (sym e)
             (get_or-set_same next i (num next i + 1) 0 (let s = h.long in omega (arith, s, i_in))
             ∙ (let t = h.ends i i_in in omega (arith, t, long_here)))
         | inr ne ↦ get_or-set_other next i a (num next i + 1) 0 ne ∙ h.ends a l
-            ∙ ap (λ xs. list_start n ap' ai a + length xs) (sym (there a l ne))
+            ∙ ap (λ xs. own_start n ap' ai a + length xs) (sym (there a l ne))
       ];
       first = λ a l. elim (cases_eq a i) [
-        | inl e ↦ subst (λ x. rows (set iw (num next i) (pos j)) (list_start n ap' ai x) (length (early' x)) ≡ early' x) (sym e) first_here
-        | inr ne ↦ subst (λ xs. rows (set iw (num next i) (pos j)) (list_start n ap' ai a) (length xs) ≡ xs) (sym (there a l ne))
+        | inl e ↦ subst (λ x. rows (set iw (num next i) (pos j)) (own_start n ap' ai x) (length (early' x)) ≡ early' x) (sym e) first_here
+        | inr ne ↦ subst (λ xs. rows (set iw (num next i) (pos j)) (own_start n ap' ai a) (length xs) ≡ xs) (sym (there a l ne))
             (first_kept a l ne)
       ];
     }
@@ -245,13 +255,13 @@ module _ (n : ℕ) (ap' ai : List ℤ) (lower : IsLower n ap' ai) where
     early_all = list_gap (is_earlier n ap' ai j) j n (omega (arith, j_in)) (λ x low high. false_from_ne_true _ (λ e.
         let v = ltb-true x j (and_parts _ _ e).0 in omega (arith, v, low)))
 
-    module _ (k i from : ℕ) (next : List ℕ) (iw : List ℤ) (fits : list_start n ap' ai n ≤ length iw)
-        (h : Spreads n ap' ai (partly n ap' ai j k) next iw) (k_in : k < length (own_of n ap' ai j))
-        (from_is : from ≡ list_start n ap' ai j + length (earlier_of n ap' ai j)) (is : word iw (from + k) ≡ pos i) where
+    module _ (k i from : ℕ) (next : List ℕ) (iw : List ℤ) (fits : own_start n ap' ai n ≤ length iw)
+        (h : SpreadsColumns n ap' ai (partly n ap' ai j k) next iw) (k_in : k < length (own_of n ap' ai j))
+        (from_is : from ≡ own_start n ap' ai j + length (earlier_of n ap' ai j)) (is : word iw (from + k) ≡ pos i) where
       row_is : i ≡ get_or (own_of n ap' ai j) k 0
       unfolding place
       row_is = sym (ap place is) ∙ ap (λ f. place (word iw (f + k))) from_is
-          ∙ sym (rows_nth iw (list_start n ap' ai j + length (earlier_of n ap' ai j)) (length (own_of n ap' ai j)) k k_in)
+          ∙ sym (rows_nth iw (own_start n ap' ai j + length (earlier_of n ap' ai j)) (length (own_of n ap' ai j)) k k_in)
           ∙ ap (λ xs. get_or xs k 0) (h.held.own j j_in)
 
       nth : IsNth n (is_other n ap' ai j) k i
@@ -292,7 +302,7 @@ module _ (n : ℕ) (ap' ai : List ℤ) (lower : IsLower n ap' ai) where
       spread_inside = v_inside (partly n ap' ai j k) (partly n ap' ai j (k + 1)) next iw i j h spread_row j_in fits few (partly_most k)
           here_more there_same
 
-      pub spread_step : Spreads n ap' ai (partly n ap' ai j (k + 1)) (set next i (num next i + 1)) (set iw (num next i) (pos j))
+      pub spread_step : SpreadsColumns n ap' ai (partly n ap' ai j (k + 1)) (set next i (num next i + 1)) (set iw (num next i) (pos j))
       spread_step = spreads_more (partly n ap' ai j k) (partly n ap' ai j (k + 1)) next iw i j h spread_row j_in fits few (partly_most k)
           here_more there_same
 
@@ -300,18 +310,18 @@ module _ (n : ℕ) (ap' ai : List ℤ) (lower : IsLower n ap' ai) where
 
   pub spread_lists_are : (degrees : List ℕ) (next : List ℕ) (iw : List ℤ) →
       AreCounts (graph_of n ap' ai) ((graph_of n ap' ai).edge) degrees →
-      Spreads n ap' ai (earlier_below n ap' ai n) next iw → (i : ℕ) → i < n →
-      rows iw (list_start n ap' ai i) (num degrees i) ≡ starting_list n (is_pair n ap' ai) i
+      SpreadsColumns n ap' ai (earlier_below n ap' ai n) next iw → (i : ℕ) → i < n →
+      rows iw (own_start n ap' ai i) (num degrees i) ≡ starting_list n (is_pair n ap' ai) i
   unfolding graph_of
   spread_lists_are degrees next iw counts h i l =
       let e : num degrees i ≡ length (earlier_of n ap' ai i) + length (own_of n ap' ai i) = counts.each i l ∙ degree_parts i l in
-      ap (rows iw (list_start n ap' ai i)) e
-      ∙ rows_both iw (list_start n ap' ai i) (length (earlier_of n ap' ai i)) (length (own_of n ap' ai i))
-      ∙ ap (λ xs. xs ++ rows iw (list_start n ap' ai i + length (earlier_of n ap' ai i)) (length (own_of n ap' ai i))) (h.first i l)
+      ap (rows iw (own_start n ap' ai i)) e
+      ∙ rows_both iw (own_start n ap' ai i) (length (earlier_of n ap' ai i)) (length (own_of n ap' ai i))
+      ∙ ap (λ xs. xs ++ rows iw (own_start n ap' ai i + length (earlier_of n ap' ai i)) (length (own_of n ap' ai i))) (h.first i l)
       ∙ ap (λ xs. earlier_of n ap' ai i ++ xs) (h.held.own i l) ∙ sym (lower_starting i l)
 
   pub next_end : (degrees : List ℕ) → AreCounts (graph_of n ap' ai) ((graph_of n ap' ai).edge) degrees → (j end : ℕ) → j < n →
-      end ≡ list_start n ap' ai j → end + num degrees j ≡ list_start n ap' ai (j + 1)
+      end ≡ own_start n ap' ai j → end + num degrees j ≡ own_start n ap' ai (j + 1)
   unfolding graph_of
   next_end degrees counts j end l e = let a = next_list j l in let b = counts.each j l in let d = degree_parts j l in
       omega (arith, a, b, d, e)
@@ -322,14 +332,14 @@ module _ (n : ℕ) (ap' ai : List ℤ) (lower : IsLower n ap' ai) where
   degree_is degrees counts j l = counts.each j l ∙ degree_parts j l
 
   pub list_room : (degrees : List ℕ) → AreCounts (graph_of n ap' ai) ((graph_of n ap' ai).edge) degrees → (j end : ℕ) → j < n →
-      end ≡ list_start n ap' ai j → end + num degrees j ≤ list_start n ap' ai n
+      end ≡ own_start n ap' ai j → end + num degrees j ≤ own_start n ap' ai n
   list_room degrees counts j end l e =
       let a = degree_is degrees counts j l in let b = later_list j n l (omega arith) in omega (arith, a, b, e)
 
   -- ---- the columns, one after another
 
   -- words behind the first ones
-  held_append : (m : ℕ) (xs ys : List ℤ) → m ≤ n → list_start n ap' ai m ≤ length xs → AreRows n ys → HoldsOwn n ap' ai m xs →
+  held_append : (m : ℕ) (xs ys : List ℤ) → m ≤ n → own_start n ap' ai m ≤ length xs → HoldRows n ys → HoldsOwn n ap' ai m xs →
       HoldsOwn n ap' ai m (xs ++ ys)
   held_append m xs ys few inside names h = record {
     words = λ k. elim (cases_lt k (length xs)) [
@@ -340,16 +350,16 @@ module _ (n : ℕ) (ap' ai : List ℤ) (lower : IsLower n ap' ai) where
         (let w = later i m l few in omega (arith, w, x, inside))) ∙ h.own i l;
   }
     where
-      later : (i m : ℕ) → i < m → m ≤ n → list_start n ap' ai i + length (earlier_of n ap' ai i) + length (own_of n ap' ai i)
-          ≤ list_start n ap' ai m
+      later : (i m : ℕ) → i < m → m ≤ n → own_start n ap' ai i + length (earlier_of n ap' ai i) + length (own_of n ap' ai i)
+          ≤ own_start n ap' ai m
       later i m l k = later_list i m l k
 
-  pub held_filled : (m : ℕ) (xs : List ℤ) (j count : ℕ) → m ≤ n → list_start n ap' ai m ≤ length xs → j < n → HoldsOwn n ap' ai m xs →
+  pub held_filled : (m : ℕ) (xs : List ℤ) (j count : ℕ) → m ≤ n → own_start n ap' ai m ≤ length xs → j < n → HoldsOwn n ap' ai m xs →
       HoldsOwn n ap' ai m (xs ++ replicate count (pos j))
   held_filled m xs j count few inside j_in h = held_append m xs (replicate count (pos j)) few inside (replicate_rows n j count j_in) h
 
   pub held_column : (j degree : ℕ) (xs : List ℤ) → j < n → degree ≡ length (earlier_of n ap' ai j) + length (own_of n ap' ai j) →
-      length xs ≡ list_start n ap' ai j → HoldsOwn n ap' ai j xs →
+      length xs ≡ own_start n ap' ai j → HoldsOwn n ap' ai j xs →
       HoldsOwn n ap' ai (j + 1) ((xs ++ replicate (degree - length (own_of n ap' ai j)) (pos j)) ++ map pos (own_of n ap' ai j))
   held_column j degree xs j_in parts long h =
       let room = replicate (degree - length (own_of n ap' ai j)) (pos j) in
@@ -357,13 +367,13 @@ module _ (n : ℕ) (ap' ai : List ℤ) (lower : IsLower n ap' ai) where
       let a = held_filled j xs j (degree - length (own_of n ap' ai j)) (omega (arith, j_in)) (omega (arith, long)) j_in h in
       let b = held_append j (xs ++ room) (map pos (own_of n ap' ai j)) (omega (arith, j_in)) (omega (arith, long, size))
       (column_rows n (is_other n ap' ai j) (omega (arith, j_in))) a in
-      let at : list_start n ap' ai j + length (earlier_of n ap' ai j) ≡ length (xs ++ room) = omega (arith, size, filled, long, parts) in
+      let at : own_start n ap' ai j + length (earlier_of n ap' ai j) ≡ length (xs ++ room) = omega (arith, size, filled, long, parts) in
       record {
         words = b.words;
         own = λ i l. elim (cases_eq i j) [
           | inr ne ↦ b.own i (omega (arith, l, ne))
           | inl e ↦ subst (λ x. rows ((xs ++ room) ++ map pos (own_of n ap' ai j))
-              (list_start n ap' ai x + length (earlier_of n ap' ai x)) (length (own_of n ap' ai x)) ≡ own_of n ap' ai x) (sym e)
+              (own_start n ap' ai x + length (earlier_of n ap' ai x)) (length (own_of n ap' ai x)) ≡ own_of n ap' ai x) (sym e)
               (ap (λ f. rows ((xs ++ room) ++ map pos (own_of n ap' ai j)) f (length (own_of n ap' ai j))) at
               ∙ rows_behind (xs ++ room) (own_of n ap' ai j))
         ];
@@ -378,8 +388,8 @@ module _ (n : ℕ) (ap' ai : List ℤ) (lower : IsLower n ap' ai) where
   -- no earlier neighbour is written yet
   pub has_columns : (degrees : List ℕ) (a b : ℕ) (next : List ℕ) (iw : List ℤ) →
       AreCounts (graph_of n ap' ai) ((graph_of n ap' ai).edge) degrees →
-      list_start n ap' ai n ≤ length iw → n ≤ a → length iw ≤ b → length next ≡ n →
-      ((i : ℕ) → i < n → num next i ≡ list_start n ap' ai i) → HoldsOwn n ap' ai n iw →
+      own_start n ap' ai n ≤ length iw → n ≤ a → length iw ≤ b → length next ≡ n →
+      ((i : ℕ) → i < n → num next i ≡ own_start n ap' ai i) → HoldsOwn n ap' ai n iw →
       HasColumns (record { n = n; ap = ap'; ai = ai }) degrees a b next iw
   unfolding list_below
   has_columns degrees a b next iw counts room small fits long starts held = record {
@@ -392,6 +402,6 @@ module _ (n : ℕ) (ap' ai : List ℤ) (lower : IsLower n ap' ai) where
       held = held;
       long = long;
       ends = λ i l. (let e = starts i l in omega (arith, e));
-      first = λ i l. rows_none iw (list_start n ap' ai i);
+      first = λ i l. rows_none iw (own_start n ap' ai i);
     };
   }

@@ -14,7 +14,7 @@ use Rattle.amd_words.specs.Words.{num, word, flip_of}
 use Rattle.amd_lists.specs.Chains.{DegreeLists}
 use Rattle.amd_lists.proofs.ChainLists.{lists_same}
 use Rattle.amd_rounds.proofs.ByBound.{has_reverse}
-use Rattle.amd_workspace.specs.Starting.{Rows, AreLong, IsSame, BeginsRow, BeginsRows, is_class, classes_of}
+use Rattle.amd_workspace.specs.Starting.{Rows, AreLong, IsSame, BeginsRow, BeginsRows, begins_class, classes_of}
 
 -- ---- what is written at a row
 
@@ -50,7 +50,8 @@ same_then j p q r a b = record {
 }
 
 -- what is said of a row stays where its words stay
-begins_then : (is_class held : Bool) (j : ℕ) (p q r : Rows) → BeginsRow is_class held j p q → IsSame j q r → BeginsRow is_class held j p r
+begins_then : (begins_class held : Bool) (j : ℕ) (p q r : Rows) → BeginsRow begins_class held j p q → IsSame j q r →
+    BeginsRow begins_class held j p r
 begins_then c held j p q r a b = record {
   starts = b.pe ∙ a.starts;
   counts = b.e_len ∙ a.counts;
@@ -104,20 +105,20 @@ placed_long i n q a = record {
 module _ (i n : ℕ) (held : ℕ → Bool) (p q : Rows) (was : BeginsRows i n held p q) (rest : (j : ℕ) → i ≤ j → IsSame j p q) (inside : i < n)
   where
     -- one row more begins
-    more : (r : Rows) → AreLong n r → BeginsRow (is_class held p.len i) (held i) i p r → ((j : ℕ) → (j ≡ i → ⊥) → IsSame j q r) →
+    more : (r : Rows) → AreLong n r → BeginsRow (begins_class held p.len i) (held i) i p r → ((j : ℕ) → (j ≡ i → ⊥) → IsSame j q r) →
         BeginsRows (i + 1) n held p r
     more r long here other = record { long = long; rows = each }
       where
-        each : (j : ℕ) → j < i + 1 → BeginsRow (is_class held p.len j) (held j) j p r
+        each : (j : ℕ) → j < i + 1 → BeginsRow (begins_class held p.len j) (held j) j p r
         each j l = elim (cases_eq j i) [
           | inl e ↦ rw e here
-          | inr ne ↦ begins_then (is_class held p.len j) (held j) j p q r (was.rows j (omega (arith, l, ne))) (other j ne)
+          | inr ne ↦ begins_then (begins_class held p.len j) (held j) j p q r (was.rows j (omega (arith, l, ne))) (other j ne)
         ]
 
     rest_more : (r : Rows) → ((j : ℕ) → (j ≡ i → ⊥) → IsSame j q r) → (j : ℕ) → i + 1 ≤ j → IsSame j p r
     rest_more r other j l = same_then j p q r (rest j (omega (arith, l))) (other j (λ e. omega (arith, l, e)))
 
-    pub aside_rows : is_class held p.len i ≡ false →
+    pub aside_rows : begins_class held p.len i ≡ false →
         BeginsRows (i + 1) n held p (aside (held i) i q) × ((j : ℕ) → i + 1 ≤ j → IsSame j p (aside (held i) i q))
     aside_rows none = (
       more (aside (held i) i q) (aside_long (held i) i n q was.long) (rw none (record {
@@ -132,7 +133,7 @@ module _ (i n : ℕ) (held : ℕ → Bool) (p q : Rows) (was : BeginsRows i n he
       rest_more (aside (held i) i q) (λ j ne. aside_other (held i) i j q ne),
     )
 
-    pub placed_rows : is_class held p.len i ≡ true →
+    pub placed_rows : begins_class held p.len i ≡ true →
         BeginsRows (i + 1) n held p (placed i q) × ((j : ℕ) → i + 1 ≤ j → IsSame j p (placed i q))
     placed_rows one = (
       more (placed i q) (placed_long i n q was.long) (rw one (record {
@@ -176,7 +177,7 @@ equal_rows i n held p q r e was = record {
     degree = ap length e.degree ∙ was.long.degree;
     w = ap length e.w ∙ was.long.w;
   };
-  rows = λ j l. begins_then (is_class held p.len j) (held j) j p q r (was.rows j l) (equal_same q r e j);
+  rows = λ j l. begins_then (begins_class held p.len j) (held j) j p q r (was.rows j l) (equal_same q r e j);
 }
 
 pub equal_rest : (i : ℕ) (p q r : Rows) → AreEqual q r → ((j : ℕ) → i ≤ j → IsSame j p q) → (j : ℕ) → i ≤ j → IsSame j p r
@@ -218,7 +219,7 @@ linked_aside n i d head next last degree lists out h = record {
 
 module _ (held : ℕ → Bool) (len : List ℕ) (i : ℕ) where
   abbrev of_bound : ℕ → ℕ → Bool
-  of_bound b j = is_class held len j && num len j == b
+  of_bound b j = begins_class held len j && num len j == b
 
   -- the classes before a row do not name it
   pub classes_before : (b : ℕ) → has (reverse (classes_of held len i b)) i ≡ false
@@ -226,11 +227,11 @@ module _ (held : ℕ → Bool) (len : List ℕ) (i : ℕ) where
       ∙ ap (λ c. c && of_bound b i) (le-ltb i i (omega arith))
 
   -- what is no class is in no list
-  pub classes_skip : is_class held len i ≡ false → (b : ℕ) → reverse (classes_of held len i b) ≡ reverse (classes_of held len (i + 1) b)
+  pub classes_skip : begins_class held len i ≡ false → (b : ℕ) → reverse (classes_of held len i b) ≡ reverse (classes_of held len (i + 1) b)
   classes_skip none b = ap reverse (sym (list_no (of_bound b) i (ap (λ c. c && num len i == b) none)))
 
   -- a class comes to the head of the list of its degree
-  pub classes_take : is_class held len i ≡ true → (b : ℕ) →
+  pub classes_take : begins_class held len i ≡ true → (b : ℕ) →
       cond (b == num len i) (i ∷ reverse (classes_of held len i b)) (reverse (classes_of held len i b))
       ≡ reverse (classes_of held len (i + 1) b)
   classes_take one b = elim (cases_eq b (num len i)) [
@@ -246,13 +247,13 @@ module _ (held : ℕ → Bool) (len : List ℕ) (i : ℕ) where
 -- the lists by bound once a row was set aside, and once one was put at a head
 module _ (n i : ℕ) (held : ℕ → Bool) (len head next last degree : List ℕ)
     (was : DegreeLists n head next last degree (λ b. reverse (classes_of held len i b))) where
-  pub linked_skip : is_class held len i ≡ false →
+  pub linked_skip : begins_class held len i ≡ false →
       DegreeLists n head next last (set degree i 0) (λ b. reverse (classes_of held len (i + 1) b))
   linked_skip none = lists_same n head next last (set degree i 0) (λ b. reverse (classes_of held len i b))
       (λ b. reverse (classes_of held len (i + 1) b)) (λ b l. classes_skip held len i none b)
       (linked_aside n i 0 head next last degree (λ b. reverse (classes_of held len i b)) (λ b l. classes_before held len i b) was)
 
-  pub linked_take : (head' next' last' degree' : List ℕ) (d : ℕ) → d ≡ num len i → is_class held len i ≡ true →
+  pub linked_take : (head' next' last' degree' : List ℕ) (d : ℕ) → d ≡ num len i → begins_class held len i ≡ true →
       ((lists : ℕ → List ℕ) → ((b : ℕ) → b < n → has (lists b) i ≡ false) → DegreeLists n head next last degree lists →
       DegreeLists n head' next' last' degree' (λ b. cond (b == d) (i ∷ lists b) (lists b))) →
       DegreeLists n head' next' last' degree' (λ b. reverse (classes_of held len (i + 1) b))

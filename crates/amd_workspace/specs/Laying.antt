@@ -7,12 +7,12 @@ use Rattle.amd_words.specs.Words.{num, is_place, place, word}
 use Rattle.amd_lists.specs.Layout.{Layout, live_words}
 
 -- the words so far: the lists of the arcs that were seen, where each word is a row, and both widths hold what comes
-pub record Lays (g : Graph) (seen : ℕ → ℕ → Bool) (arcs : List (ℕ × ℕ)) (most_word most_figure : ℕ) (next : List ℕ)
+pub record Lays (g : Graph) (seen : ℕ → ℕ → Bool) (arcs : List (ℕ × ℕ)) (most_word most_cell : ℕ) (next : List ℕ)
     (iw : List ℤ) : Type 0 where
   pub lists : AreLists g seen arcs next (map place iw)
   pub words : (k : ℕ) → (is_place (word iw k) ≡ true) × (place (word iw k) < g.size)
   pub rows : g.size ≤ most_word
-  pub places : length iw ≤ most_figure
+  pub places : length iw ≤ most_cell
 
 -- where the list of each row starts, as a word and as a figure, and its length
 pub record Starts (degrees : List ℕ) (pe : List ℤ) (next len : List ℕ) : Type 0 where

@@ -5,7 +5,7 @@ use Rattle.amd_model.specs.Below.{list_below}
 use Rattle.amd_model.specs.Input.Pattern.{graph_of, is_pair}
 use Rattle.amd_edges.specs.Visits.{AreCounts, start_of}
 use Rattle.amd_words.specs.Words.{num, rows}
-use Rattle.amd_workspace.specs.Copying.{is_other, AreRows}
+use Rattle.amd_workspace.specs.Copying.{is_other, HoldRows}
 
 -- the numbers of a matrix that a function is not given
 pub record Matrix : Type 0 where
@@ -29,41 +29,41 @@ abbrev pub own_of : ℕ → List ℤ → List ℤ → ℕ → List ℕ
 own_of n ap ai i = list_below n (is_other n ap ai i)
 
 -- where the list of row i starts
-abbrev pub list_start : ℕ → List ℤ → List ℤ → ℕ → ℕ
-list_start n ap ai i = start_of (graph_of n ap ai) i
+abbrev pub own_start : ℕ → List ℤ → List ℤ → ℕ → ℕ
+own_start n ap ai i = start_of (graph_of n ap ai) i
 
 -- each word is a row, and in the lists of the first m rows the own column stands behind the room for earlier neighbours
 pub record HoldsOwn (n : ℕ) (ap ai : List ℤ) (m : ℕ) (iw : List ℤ) : Type 0 where
-  pub words : AreRows n iw
-  pub own : (i : ℕ) → i < m → rows iw (list_start n ap ai i + length (earlier_of n ap ai i)) (length (own_of n ap ai i))
+  pub words : HoldRows n iw
+  pub own : (i : ℕ) → i < m → rows iw (own_start n ap ai i + length (earlier_of n ap ai i)) (length (own_of n ap ai i))
       ≡ own_of n ap ai i
 
 -- and in each list the first earlier neighbours are written, and next is behind them
-pub record Spreads (n : ℕ) (ap ai : List ℤ) (early : ℕ → List ℕ) (next : List ℕ) (iw : List ℤ) : Type 0 where
+pub record SpreadsColumns (n : ℕ) (ap ai : List ℤ) (early : ℕ → List ℕ) (next : List ℕ) (iw : List ℤ) : Type 0 where
   pub held : HoldsOwn n ap ai n iw
   pub long : length next ≡ n
-  pub ends : (i : ℕ) → i < n → num next i ≡ list_start n ap ai i + length (early i)
-  pub first : (i : ℕ) → i < n → rows iw (list_start n ap ai i) (length (early i)) ≡ early i
+  pub ends : (i : ℕ) → i < n → num next i ≡ own_start n ap ai i + length (early i)
+  pub first : (i : ℕ) → i < n → rows iw (own_start n ap ai i) (length (early i)) ≡ early i
 
 -- the earlier neighbours before row j
 abbrev pub earlier_below : ℕ → List ℤ → List ℤ → ℕ → ℕ → List ℕ
 earlier_below n ap ai j i = list_below j (is_earlier n ap ai i)
 
 -- row j comes next, whose list ends before the word stop, and both widths hold what comes
-pub record IsReady (m : Matrix) (j stop most_word most_figure : ℕ) (next : List ℕ) (iw : List ℤ) : Type 0 where
+pub record IsReadyForColumn (m : Matrix) (j stop most_word most_cell : ℕ) (next : List ℕ) (iw : List ℤ) : Type 0 where
   pub lower : IsLower m.n m.ap m.ai
   pub row : j < m.n
-  pub end : stop ≡ list_start m.n m.ap m.ai (j + 1)
-  pub room : list_start m.n m.ap m.ai m.n ≤ length iw
+  pub end : stop ≡ own_start m.n m.ap m.ai (j + 1)
+  pub room : own_start m.n m.ap m.ai m.n ≤ length iw
   pub rows : m.n ≤ most_word
-  pub places : length iw ≤ most_figure
-  pub before : Spreads m.n m.ap m.ai (earlier_below m.n m.ap m.ai j) next iw
+  pub places : length iw ≤ most_cell
+  pub before : SpreadsColumns m.n m.ap m.ai (earlier_below m.n m.ap m.ai j) next iw
 
 -- the own columns of all rows are written, and no earlier neighbour yet
-pub record HasColumns (m : Matrix) (degrees : List ℕ) (most_word most_figure : ℕ) (next : List ℕ) (iw : List ℤ) : Type 0 where
+pub record HasColumns (m : Matrix) (degrees : List ℕ) (most_word most_cell : ℕ) (next : List ℕ) (iw : List ℤ) : Type 0 where
   pub lower : IsLower m.n m.ap m.ai
   pub counts : AreCounts (graph_of m.n m.ap m.ai) ((graph_of m.n m.ap m.ai).edge) degrees
-  pub room : list_start m.n m.ap m.ai m.n ≤ length iw
+  pub room : own_start m.n m.ap m.ai m.n ≤ length iw
   pub rows : m.n ≤ most_word
-  pub places : length iw ≤ most_figure
-  pub before : Spreads m.n m.ap m.ai (earlier_below m.n m.ap m.ai 0) next iw
+  pub places : length iw ≤ most_cell
+  pub before : SpreadsColumns m.n m.ap m.ai (earlier_below m.n m.ap m.ai 0) next iw

@@ -38,24 +38,24 @@ abbrev pub held_in : Option (List Bool) → ℕ → List ℕ → ℕ → Bool
 held_in marks threshold len i = is_marked marks i || nat_lt threshold (num len i)
 
 -- a row is a class if it is neither held last nor empty
-abbrev pub is_class : (ℕ → Bool) → List ℕ → ℕ → Bool
-is_class held len i = nat_lt 0 (num len i) && not (held i)
+abbrev pub begins_class : (ℕ → Bool) → List ℕ → ℕ → Bool
+begins_class held len i = nat_lt 0 (num len i) && not (held i)
 
 -- the classes below i of the bound b, rising
 abbrev pub classes_of : (ℕ → Bool) → List ℕ → ℕ → ℕ → List ℕ
-classes_of held len i b = list_below i (λ j. is_class held len j && num len j == b)
+classes_of held len i b = list_below i (λ j. begins_class held len j && num len j == b)
 
 -- a class keeps its list, lists no element, has one row, its degree as its bound and a counter above 0; another row has
 -- no list, and is an element of one row if it is not held last
-pub record BeginsRow (is_class held : Bool) (i : ℕ) (p q : Rows) : Type 0 where
-  pub starts : word q.pe i ≡ cond is_class (word p.pe i) (negsuc 0)
-  pub counts : word q.e_len i ≡ cond is_class (pos 0) (cond held (negsuc 0) (flip_of 1))
-  pub sizes : word q.nv i ≡ pos (cond is_class 1 0)
-  pub lengths : num q.len i ≡ cond is_class (num p.len i) 0
-  pub bounds : num q.degree i ≡ cond is_class (num p.len i) 0
-  pub counters : num q.w i ≡ cond is_class 1 0
+pub record BeginsRow (begins_class held : Bool) (i : ℕ) (p q : Rows) : Type 0 where
+  pub starts : word q.pe i ≡ cond begins_class (word p.pe i) (negsuc 0)
+  pub counts : word q.e_len i ≡ cond begins_class (pos 0) (cond held (negsuc 0) (flip_of 1))
+  pub sizes : word q.nv i ≡ pos (cond begins_class 1 0)
+  pub lengths : num q.len i ≡ cond begins_class (num p.len i) 0
+  pub bounds : num q.degree i ≡ cond begins_class (num p.len i) 0
+  pub counters : num q.w i ≡ cond begins_class 1 0
 
 -- each row below i begins
 pub record BeginsRows (i n : ℕ) (held : ℕ → Bool) (p q : Rows) : Type 0 where
   pub long : AreLong n q
-  pub rows : (j : ℕ) → j < i → BeginsRow (is_class held p.len j) (held j) j p q
+  pub rows : (j : ℕ) → j < i → BeginsRow (begins_class held p.len j) (held j) j p q

@@ -10,7 +10,7 @@ ghost use Rattle.amd_model.specs.Input.Pattern.{graph_of, is_pair, IsSymmetric};
 ghost use Rattle.amd_model.specs.Quotient.{starting_list};
 ghost use Rattle.amd_edges.specs.Visits.{AreCounts, start_of};
 ghost use Rattle.amd_words.specs.Words.{num, rows};
-ghost use Rattle.amd_workspace.specs.Copying.{is_other, AreRows, Copies};
+ghost use Rattle.amd_workspace.specs.Copying.{is_other, HoldRows, Copies};
 
 use amd_types::internal::count_at;
 use amd_words::words::put_row;
@@ -65,7 +65,7 @@ pub fn copy_symmetric<I: PrimInt, S: Signed>(
     requires room { start_of (graph_of size (map I.value a_p.now) (map I.value a_i.now)) size < length iw.old }
     requires fits { size ≤ S.MOST }
     ensures long { length iw.new ≡ length iw.old }
-    ensures words { AreRows size iw.old → AreRows size iw.new }
+    ensures words { HoldRows size iw.old → HoldRows size iw.new }
     ensures symmetric { (result ≡ true → IsSymmetric size (map I.value a_p.now) (map I.value a_i.now)) ×
         (IsSymmetric size (map I.value a_p.now) (map I.value a_i.now) → result ≡ true) }
     ensures lists { result ≡ true → (i : ℕ) → i < size →

@@ -26,12 +26,12 @@ pub fn words<S: Signed, A: Allocator>(
     Ok(list)
 }
 
-/// `count` figures, each of them `number`.
+/// `count` cells, each of them `number`.
 ///
 /// # Errors
 ///
 /// A refused request for memory.
-pub fn figures<U: Unsigned, A: Allocator>(
+pub fn cells<U: Unsigned, A: Allocator>(
     alloc: A,
     count: usize,
     number: usize,
@@ -40,7 +40,7 @@ pub fn figures<U: Unsigned, A: Allocator>(
     ensures { IfOk result (λ v. v.items ≡ replicate count number) }
 {
     let mut list = Vec::with_capacity(alloc, count)?;
-    'figures: for _ in 0..count {
+    'cells: for _ in 0..count {
         list.push_reserved(cell_of(number));
     }
     Ok(list)

@@ -11,9 +11,9 @@ ghost use Rattle.amd_model.specs.Quotient.{starting_list};
 ghost use Rattle.amd_edges.specs.Visits.{AreCounts, start_of};
 ghost use Rattle.amd_lists.specs.Layout.{list_in};
 ghost use Rattle.amd_words.specs.Words.{num, rows};
-ghost use Rattle.amd_workspace.specs.Copying.{AreRows};
+ghost use Rattle.amd_workspace.specs.Copying.{HoldRows};
 ghost use Rattle.amd_workspace.specs.Laying.{IsLaidOut, Lays, Starts};
-ghost use Rattle.amd_workspace.specs.Lower.{list_start};
+ghost use Rattle.amd_workspace.specs.Lower.{own_start};
 
 use crate::copying::copy_symmetric;
 use crate::filling::words;
@@ -135,17 +135,17 @@ fn general_lists<I: PrimInt, S: Signed, U: Unsigned, A: Allocator>(
     requires some { 0 < size }
     requires degrees { AreCounts (graph_of size (map I.value a_p.now) (map I.value a_i.now))
         ((graph_of size (map I.value a_p.now) (map I.value a_i.now)).edge) degrees.now }
-    requires room { list_start size (map I.value a_p.now) (map I.value a_i.now) size < room }
+    requires room { own_start size (map I.value a_p.now) (map I.value a_i.now) size < room }
     requires fits { (size ≤ S.MOST) × (room ≤ U.MOST) }
     requires long { length next.items ≡ size }
     requires starts { (i : ℕ) → i < size →
-        num next.items i ≡ list_start size (map I.value a_p.now) (map I.value a_i.now) i }
+        num next.items i ≡ own_start size (map I.value a_p.now) (map I.value a_i.now) i }
     requires empty { length pointers.old.items ≡ 0 }
     requires wide { size ≤ vec_capacity pointers.old }
     ensures long { IfOk result (λ v. length v.items ≡ room) }
-    ensures words { IfOk result (λ v. AreRows size v.items) }
+    ensures words { IfOk result (λ v. HoldRows size v.items) }
     ensures lists { IfOk result (λ v. (i : ℕ) → i < size →
-        rows v.items (list_start size (map I.value a_p.now) (map I.value a_i.now) i) (num degrees.now i) ≡
+        rows v.items (own_start size (map I.value a_p.now) (map I.value a_i.now) i) (num degrees.now i) ≡
         starting_list size (is_pair size (map I.value a_p.now) (map I.value a_i.now)) i) }
 {
     // Each word names a row. It is not 0: a loop of stores is faster here than the `memset` that zeros would become.

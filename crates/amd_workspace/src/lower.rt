@@ -13,9 +13,9 @@ ghost use Rattle.amd_types.specs.Counts.{counts};
 ghost use Rattle.amd_edges.specs.Visits.{AreCounts};
 ghost use Rattle.amd_model.specs.Quotient.{starting_list};
 ghost use Rattle.amd_words.specs.Words.{num, rows};
-ghost use Rattle.amd_workspace.specs.Copying.{AreRows};
-ghost use Rattle.amd_workspace.specs.Lower.{IsLower, Matrix, list_start, own_of, earlier_below, HoldsOwn, Spreads};
-ghost use Rattle.amd_workspace.specs.Lower.{HasColumns, IsReady};
+ghost use Rattle.amd_workspace.specs.Copying.{HoldRows};
+ghost use Rattle.amd_workspace.specs.Lower.{IsLower, Matrix, own_start, own_of, earlier_below, HoldsOwn, SpreadsColumns};
+ghost use Rattle.amd_workspace.specs.Lower.{HasColumns, IsReadyForColumn};
 
 use crate::laying::append;
 use amd_types::internal::count_at;
@@ -177,7 +177,7 @@ fn push_lists<I: PrimInt, S: Signed, A: Allocator>(
     requires some { 0 < size }
     requires degrees { AreCounts (graph_of size (map I.value a_p.now) (map I.value a_i.now))
         ((graph_of size (map I.value a_p.now) (map I.value a_i.now)).edge) degrees.now }
-    requires room { list_start size (map I.value a_p.now) (map I.value a_i.now) size ≤ room }
+    requires room { own_start size (map I.value a_p.now) (map I.value a_i.now) size ≤ room }
     requires empty { length iw.old.items ≡ 0 }
     requires capacity { room ≤ vec_capacity iw.old }
     requires fits { size ≤ S.MOST }
@@ -196,10 +196,10 @@ fn push_lists<I: PrimInt, S: Signed, A: Allocator>(
 /// Writes row `j` after the earlier neighbours of each row of its own column below the diagonal. That column is in
 /// `iw`, after the earlier neighbours of row `j`, up to the word `end`.
 fn spread<S: Signed, U: Unsigned>(next: &mut [Cell<U>], iw: &mut [Word<S>], j: usize, end: usize)
-    requires ready { (m : Matrix) × IsReady m j end S.MOST U.MOST next.old iw.old }
+    requires ready { (m : Matrix) × IsReadyForColumn m j end S.MOST U.MOST next.old iw.old }
     ensures long { length iw.new ≡ length iw.old }
-    ensures after { (m : Matrix) → IsReady m j end S.MOST U.MOST next.old iw.old →
-        Spreads m.n m.ap m.ai (earlier_below m.n m.ap m.ai (j + 1)) next.new iw.new }
+    ensures after { (m : Matrix) → IsReadyForColumn m j end S.MOST U.MOST next.old iw.old →
+        SpreadsColumns m.n m.ap m.ai (earlier_below m.n m.ap m.ai (j + 1)) next.new iw.new }
 {
     let from = cell_at(next, j);
     'words: for place in from..end {
@@ -212,8 +212,8 @@ fn spread<S: Signed, U: Unsigned>(next: &mut [Cell<U>], iw: &mut [Word<S>], j: u
 fn spread_lists<S: Signed, U: Unsigned>(next: &mut [Cell<U>], iw: &mut [Word<S>], degrees: &[usize])
     requires laid { (m : Matrix) × HasColumns m degrees.now S.MOST U.MOST next.old iw.old }
     ensures long { length iw.new ≡ length iw.old }
-    ensures lists { (m : Matrix) → HasColumns m degrees.now S.MOST U.MOST next.old iw.old → AreRows m.n iw.new ×
-        ((i : ℕ) → i < m.n → rows iw.new (list_start m.n m.ap m.ai i) (num degrees.now i) ≡
+    ensures lists { (m : Matrix) → HasColumns m degrees.now S.MOST U.MOST next.old iw.old → HoldRows m.n iw.new ×
+        ((i : ℕ) → i < m.n → rows iw.new (own_start m.n m.ap m.ai i) (num degrees.now i) ≡
         starting_list m.n (is_pair m.n m.ap m.ai) i) }
 {
     let mut end = 0;
@@ -245,15 +245,15 @@ pub fn lower_lists<I: PrimInt, S: Signed, U: Unsigned, A: Allocator>(
     requires some { 0 < size }
     requires degrees { AreCounts (graph_of size (map I.value a_p.now) (map I.value a_i.now))
         ((graph_of size (map I.value a_p.now) (map I.value a_i.now)).edge) degrees.now }
-    requires room { list_start size (map I.value a_p.now) (map I.value a_i.now) size ≤ room }
+    requires room { own_start size (map I.value a_p.now) (map I.value a_i.now) size ≤ room }
     requires fits { (size ≤ S.MOST) × (room ≤ U.MOST) }
     requires long { length next.old ≡ size }
     requires starts { (i : ℕ) → i < size →
-        num next.old i ≡ list_start size (map I.value a_p.now) (map I.value a_i.now) i }
+        num next.old i ≡ own_start size (map I.value a_p.now) (map I.value a_i.now) i }
     ensures long { IfOk result (λ v. length v.items ≡ room) }
-    ensures words { IfOk result (λ v. AreRows size v.items) }
+    ensures words { IfOk result (λ v. HoldRows size v.items) }
     ensures lists { IfOk result (λ v. (i : ℕ) → i < size →
-        rows v.items (list_start size (map I.value a_p.now) (map I.value a_i.now) i) (num degrees.now i) ≡
+        rows v.items (own_start size (map I.value a_p.now) (map I.value a_i.now) i) (num degrees.now i) ≡
         starting_list size (is_pair size (map I.value a_p.now) (map I.value a_i.now)) i) }
 {
     let mut iw = Vec::with_capacity(alloc, room)?;

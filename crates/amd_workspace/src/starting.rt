@@ -33,7 +33,7 @@ fn put_aside<S: Signed, U: Unsigned>(
     held: bool,
 )
     requires words { (i < length pe.old) × (i < length e_len.old) × (i < length nv.old) }
-    requires figures { (i < length len.old) × (i < length degree.old) × (i < length w.old) }
+    requires cells { (i < length len.old) × (i < length degree.old) × (i < length w.old) }
     requires narrow { 3 ≤ S.MOST }
     ensures starts { pe.new ≡ slice_set pe.old i (negsuc 0) }
     ensures counts { e_len.new ≡ slice_set e_len.old i (cond held (negsuc 0) (flip_of 1)) }
@@ -115,7 +115,7 @@ pub fn begin<S: Signed, U: Unsigned>(
     threshold: usize,
 ) -> (usize, usize)
     requires words { HasWords (length len.old) pe.old e_len.old nv.old }
-    requires figures { (length degree.old ≡ length len.old) × (length w.old ≡ length len.old) }
+    requires cells { (length degree.old ≡ length len.old) × (length w.old ≡ length len.old) }
     requires links { HasLinks (length len.old) head.old (nexts sides.old) (lasts sides.old) }
     requires narrow { (length len.old + 2 ≤ S.MOST) × (length len.old ≤ U.MOST) }
     requires degrees { (i : ℕ) → i < length len.old → num len.old i < length len.old }

@@ -9,7 +9,7 @@ use Rattle.amd_model.specs.Quotient.{mass as mass_listed, border_of}
 use Rattle.amd_model.specs.Quotient.{alike, represents, made, Once}
 use Rattle.amd_model.proofs.Quotient.Lists.{once_filter, last_same'}
 use Rattle.amd_model.proofs.Listings.Words.{has_filter as filter_gives}
-use Rattle.amd_round_laws.specs.Rounds.{mass as mass_viewed, alike_in}
+use Rattle.amd_round_laws.specs.Rounds.{keeps_nothing as mass_viewed, alike_in}
 use Rattle.amd_round_laws.proofs.Lists.Named.{filter_named}
 use Rattle.amd_round_laws.proofs.Merging.Representatives.{alike_self, alike_flip, alike_through, rep_in, rep_rep}
 use Rattle.amd_round_laws.proofs.Fronts.Gathered.{gathered_once, gathered_live}

@@ -8,7 +8,7 @@ use Rattle.amd_model.specs.Figures.{cut}
 use Rattle.amd_model.specs.State.{State}
 use Rattle.amd_model.specs.Quotient.{QuotientGraph, has, gathered, kept_elements, kept_variables, border_of}
 use Rattle.amd_model.specs.Quotient.{made, new_size, outside, left, new_bound, round}
-use Rattle.amd_round_laws.specs.Keeps.{Stands}
+use Rattle.amd_round_laws.specs.Keeps.{ViewStands}
 use Rattle.amd_round_laws.specs.Views.{View}
 use Rattle.amd_round_laws.proofs.Lists.Named.{sum_named}
 use Rattle.amd_round_laws.proofs.Rounding.{Rounding}
@@ -24,7 +24,7 @@ min_cut a x l = omega (arith, l)
 module _ {g : Graph} {dense : ℕ → Bool} {aggressive : Bool} {w v : View} {t : QuotientGraph} {s : State}
     (turn : Turn g dense aggressive w v t s)
   where
-    abbrev st : Stands g dense w t s
+    abbrev st : ViewStands g dense w t s
     st = turn.before
 
     abbrev r : Rounding aggressive w v

@@ -5,12 +5,12 @@ use Rattle.amd_model.specs.Graph.{Graph}
 use Rattle.amd_model.specs.State.{State, live}
 use Rattle.amd_model.specs.Quotient.{QuotientGraph, has}
 use Rattle.amd_model.proofs.States.Words.{class_from, live_gives}
-use Rattle.amd_round_laws.specs.Keeps.{Stands}
+use Rattle.amd_round_laws.specs.Keeps.{ViewStands}
 use Rattle.amd_round_laws.specs.Views.{View}
 use Rattle.amd_round_laws.proofs.Fronts.Gathered.{placed_rows}
 use Rattle.amd_round_laws.proofs.Lists.Named.{named_sum}
 
-module _ (g : Graph) (dense : ℕ → Bool) (w : View) (t : QuotientGraph) (s : State) (st : Stands g dense w t s) where
+module _ (g : Graph) (dense : ℕ → Bool) (w : View) (t : QuotientGraph) (s : State) (st : ViewStands g dense w t s) where
   -- no class is left
   none_placed : w.live ≡ 0 → (i : ℕ) → has t.placed i ≡ true → ⊥
   none_placed z i h =

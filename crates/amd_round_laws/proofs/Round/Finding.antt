@@ -16,8 +16,8 @@ use Rattle.amd_model.proofs.States.Words.{block_from, stands_gives}
 use Rattle.amd_model.proofs.Listings.Words.{filter_has, has_filter as filter_gives}
 use Rattle.amd_model.proofs.Quotient.Round.Rows.{front_small, placed_small}
 use Rattle.amd_round_laws.specs.Views.{ClassLists, View, live_of}
-use Rattle.amd_round_laws.specs.Rounds.{firsts, mass, alike_in, Absorbed}
-use Rattle.amd_round_laws.specs.Keeps.{Stands}
+use Rattle.amd_round_laws.specs.Rounds.{firsts, keeps_nothing, alike_in, Absorbed}
+use Rattle.amd_round_laws.specs.Keeps.{ViewStands}
 use Rattle.amd_round_laws.proofs.Lists.Named.{filter_named, sum_named, named_sum, sum_part}
 use Rattle.amd_round_laws.proofs.Fronts.Gathered.{gathered_other, gathered_placed, placed_rows}
 use Rattle.amd_round_laws.proofs.Fronts.Absorbed as absorption
@@ -26,7 +26,7 @@ use Rattle.amd_round_laws.proofs.Rounding.{Rounding}
 use Rattle.amd_round_laws.proofs.Round.Turn.{Found, round_of}
 
 -- a class of least bound, and the list that is gathered of the record
-module _ (g : Graph) (dense : ℕ → Bool) (aggressive : Bool) (w : View) (t : QuotientGraph) (s : State) (st : Stands g dense w t s)
+module _ (g : Graph) (dense : ℕ → Bool) (aggressive : Bool) (w : View) (t : QuotientGraph) (s : State) (st : ViewStands g dense w t s)
     (c : ℕ) (placed : has t.placed c ≡ true) (least : (d : ℕ) → has t.placed d ≡ true → t.bound c ≤ t.bound d) (front : List ℕ)
     (first : front ≡ firsts (λ x. x == c) (flat_map (λ e. live_of w.size (w.members e)) (w.lists.elements c)
     ++ live_of w.size (w.lists.variables c))) where
@@ -90,7 +90,7 @@ module _ (g : Graph) (dense : ℕ → Bool) (aggressive : Bool) (w : View) (t : 
 
     -- the classes that are left, and those that represent others
     module _ (left made : List ℕ) (into : ℕ → ℕ)
-        (left_is : left ≡ filter (λ i. not (mass kept.elements kept.variables i)) front)
+        (left_is : left ≡ filter (λ i. not (keeps_nothing kept.elements kept.variables i)) front)
         (into_is : (i : ℕ) → has left i ≡ true → into i ≡ last_that (alike_in kept.elements kept.variables i) i left)
         (made_is : made ≡ filter (λ i. into i == i) left) where
       abbrev R : List ℕ
@@ -100,7 +100,7 @@ module _ (g : Graph) (dense : ℕ → Bool) (aggressive : Bool) (w : View) (t : 
       M = made_of aggressive t c (gathered t c)
 
       abbrev none_kept : ℕ → Bool
-      none_kept i = mass kept.elements kept.variables i
+      none_kept i = keeps_nothing kept.elements kept.variables i
 
       left_parts : (i : ℕ) → has left i ≡ true → (has front i ≡ true) × (none_kept i ≡ false)
       left_parts i h = let p = filter_gives (λ i. not (none_kept i)) front i (ap (λ l. has l i) (sym left_is) ∙ h) in
@@ -139,7 +139,7 @@ module _ (g : Graph) (dense : ℕ → Bool) (aggressive : Bool) (w : View) (t : 
       module _ (border block live : ℕ) (border_is : border ≡ sum_by w.size left)
           (block_is : block ≡ w.size c + (sum_by w.size front - border))
           (live_is : live ≡ w.live - block) (retired joined sizes : ℕ → ℕ)
-          (retired_is : (x : ℕ) → retired x ≡ cond (has front x && mass kept.elements kept.variables x) 0 (w.size x))
+          (retired_is : (x : ℕ) → retired x ≡ cond (has front x && keeps_nothing kept.elements kept.variables x) 0 (w.size x))
           (joined_is : (x : ℕ) → joined x ≡ cond (has left x) (cond (into x == x) (sum_by retired (filter (λ j. into j == x) left)) 0)
           (retired x))
           (size_is : (x : ℕ) → sizes x ≡ cond (x == c) 0 (joined x)) where
@@ -181,7 +181,7 @@ module _ (g : Graph) (dense : ℕ → Bool) (aggressive : Bool) (w : View) (t : 
             let q = count_most g.size dense in omega (arith, x, y, b, e, q)
 
 -- what was found in a round, and is in its record, is what the rules say
-module _ (g : Graph) (dense : ℕ → Bool) (aggressive : Bool) (w v : View) (t : QuotientGraph) (s : State) (st : Stands g dense w t s)
+module _ (g : Graph) (dense : ℕ → Bool) (aggressive : Bool) (w v : View) (t : QuotientGraph) (s : State) (st : ViewStands g dense w t s)
     (r : Rounding aggressive w v) (placed : has t.placed r.c ≡ true) (lowest : r.least ≡ t.bound r.c)
     (is_pivot : r.c ≡ pivot t.bound t.placed)
     (least : (d : ℕ) → has t.placed d ≡ true → t.bound r.c ≤ t.bound d) where

@@ -21,7 +21,7 @@ use Rattle.amd_model.proofs.States.StepFronts.{element_stays, block_count_stays,
 use Rattle.amd_model.proofs.States.StepFronts.{figure_new}
 use Rattle.amd_model.proofs.States.StepFronts.{greatest_new}
 use Rattle.amd_model.proofs.States.StepFronts.{no_parent as parent_free}
-use Rattle.amd_round_laws.specs.Keeps.{KeepsFronts, LinksLead, Stands}
+use Rattle.amd_round_laws.specs.Keeps.{KeepsFronts, LinksLead, ViewStands}
 use Rattle.amd_round_laws.specs.Views.{View}
 use Rattle.amd_types.proofs.CutSums.{cut_add}
 use Rattle.amd_round_laws.proofs.Lists.Named.{sum_named}
@@ -55,7 +55,7 @@ module _ (n : ℕ) (links : ℕ → Option ℕ) (home : ℕ → Home) (lead : Li
   pub gone_named : (x e : ℕ) → home x ≡ Gone e → home e ≡ Gone e
   gone_named x e h = gone_within lead.top x e (omega arith) h
 
-module _ (g : Graph) (dense : ℕ → Bool) (aggressive : Bool) (w v : View) (t : QuotientGraph) (s : State) (st : Stands g dense w t s)
+module _ (g : Graph) (dense : ℕ → Bool) (aggressive : Bool) (w v : View) (t : QuotientGraph) (s : State) (st : ViewStands g dense w t s)
     (r : Rounding aggressive w v)
     (this : RoundAt g aggressive t s r.c) (front_is : r.front ≡ gathered t r.c)
     (rest_is : r.rest ≡ border_of aggressive t r.c (gathered t r.c)) where

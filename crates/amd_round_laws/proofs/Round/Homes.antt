@@ -10,7 +10,7 @@ use Rattle.amd_model.specs.State.{State, Home, Last, Live, Gone}
 use Rattle.amd_model.specs.Quotient.{QuotientGraph, has, gathered, mass, border_of}
 use Rattle.amd_model.specs.Quotient.{represents, made, new_home, round}
 use Rattle.amd_model.proofs.Quotient.Sums.{home_cases}
-use Rattle.amd_round_laws.specs.Keeps.{Stands}
+use Rattle.amd_round_laws.specs.Keeps.{ViewStands}
 use Rattle.amd_round_laws.specs.Views.{View}
 use Rattle.amd_round_laws.proofs.Rounding.{Rounding}
 use Rattle.amd_round_laws.proofs.Round.Turn.{Found, Turn, class_of, front_placed, in_left, lists_after, made_front, made_rest, not_c}
@@ -19,7 +19,7 @@ use Rattle.amd_round_laws.proofs.Round.Turn.{outside_rest, rest_front, rest_keep
 module _ {g : Graph} {dense : ℕ → Bool} {aggressive : Bool} {w v : View} {t : QuotientGraph} {s : State}
     (turn : Turn g dense aggressive w v t s)
   where
-    abbrev st : Stands g dense w t s
+    abbrev st : ViewStands g dense w t s
     st = turn.before
 
     abbrev r : Rounding aggressive w v

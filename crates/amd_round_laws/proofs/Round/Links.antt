@@ -9,8 +9,8 @@ use Rattle.amd_model.specs.State.{State, Last, Live, Gone}
 use Rattle.amd_model.specs.Quotient.{QuotientGraph, has, gathered, mass as mass_listed, border_of}
 use Rattle.amd_model.specs.Quotient.{represents}
 use Rattle.amd_model.proofs.Counting.Below.{clash}
-use Rattle.amd_round_laws.specs.Rounds.{mass as mass_viewed}
-use Rattle.amd_round_laws.specs.Keeps.{LinksLead, Stands}
+use Rattle.amd_round_laws.specs.Rounds.{keeps_nothing as mass_viewed}
+use Rattle.amd_round_laws.specs.Keeps.{LinksLead, ViewStands}
 use Rattle.amd_round_laws.specs.Views.{View}
 use Rattle.amd_round_laws.proofs.Rounding.{Rounding}
 use Rattle.amd_round_laws.proofs.Round.Turn.{Found, Turn, front_placed, in_front, in_left, in_rest, lists_after, made_front, none_kept}
@@ -21,7 +21,7 @@ use Rattle.amd_round_laws.proofs.Round.Homes.{rest_home, was_gone, was_last, was
 module _ {g : Graph} {dense : ℕ → Bool} {aggressive : Bool} {w v : View} {t : QuotientGraph} {s : State}
     (turn : Turn g dense aggressive w v t s)
   where
-    abbrev st : Stands g dense w t s
+    abbrev st : ViewStands g dense w t s
     st = turn.before
 
     abbrev r : Rounding aggressive w v

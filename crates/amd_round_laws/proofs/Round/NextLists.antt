@@ -14,7 +14,7 @@ use Rattle.amd_model.proofs.Listings.Words.{has_filter as filter_gives}
 use Rattle.amd_model.proofs.Counting.Below.{clash}
 use Rattle.amd_round_laws.specs.Views.{live_of}
 use Rattle.amd_round_laws.specs.Rounds.{IsApart}
-use Rattle.amd_round_laws.specs.Keeps.{Stands}
+use Rattle.amd_round_laws.specs.Keeps.{ViewStands}
 use Rattle.amd_round_laws.specs.Views.{View}
 use Rattle.amd_round_laws.proofs.Lists.Named.{filter_all, not_empty}
 use Rattle.amd_round_laws.proofs.Rounding.{Rounding}
@@ -29,7 +29,7 @@ had_some xs p h = let x = some_of (filter p xs) h in not_empty xs x.0 (filter_gi
 module _ {g : Graph} {dense : ℕ → Bool} {aggressive : Bool} {w v : View} {t : QuotientGraph} {s : State}
     (turn : Turn g dense aggressive w v t s)
   where
-    abbrev st : Stands g dense w t s
+    abbrev st : ViewStands g dense w t s
     st = turn.before
 
     abbrev r : Rounding aggressive w v

@@ -7,7 +7,7 @@ use Rattle.amd_model.specs.State.{State}
 use Rattle.amd_model.specs.Step.{StepAt}
 use Rattle.amd_model.specs.Quotient.{QuotientGraph, is_empty, pivot, gathered, border_of}
 use Rattle.amd_model.specs.Quotient.{left, round, next}
-use Rattle.amd_round_laws.specs.Keeps.{Stands}
+use Rattle.amd_round_laws.specs.Keeps.{ViewStands}
 use Rattle.amd_round_laws.specs.Views.{View}
 use Rattle.amd_model.proofs.Quotient.Round.Rows.{placed_small}
 use Rattle.amd_round_laws.proofs.Round.Fronts.{border_is as border_rows, live_left as live_after, live_less, live_is as live_sum}
@@ -24,7 +24,7 @@ use Rattle.amd_round_laws.proofs.Round.Bounds.{bound_kept, least_kept, small_kep
 module _ {g : Graph} {dense : ℕ → Bool} {aggressive : Bool} {w v : View} {t : QuotientGraph} {s : State}
     (turn : Turn g dense aggressive w v t s)
   where
-    abbrev st : Stands g dense w t s
+    abbrev st : ViewStands g dense w t s
     st = turn.before
 
     abbrev r : Rounding aggressive w v
@@ -51,7 +51,7 @@ module _ {g : Graph} {dense : ℕ → Bool} {aggressive : Bool} {w v : View} {t 
       live_fits = let a = live_less g dense aggressive w v t s st r (model turn) f.front_is f.rest_is in let b = st.keeps.live in
           let k = placed_small st.sound st.fits in omega (arith, a, b, k)
 
-      pub stands_after : Stands g dense v new_lists new_state
+      pub stands_after : ViewStands g dense v new_lists new_state
       stands_after = record {
         graph = st.graph;
         sound = new_sound turn;
@@ -82,13 +82,13 @@ module _ {g : Graph} {dense : ℕ → Bool} {aggressive : Bool} {w v : View} {t 
     -- the record is one round further
     pub one_round : g.size < 2 ^ 64 →
         (is_empty t.placed ≡ false) × ((u : State) × StepAt g aggressive (pivot t.bound t.placed) s u
-        × Stands g dense v (next aggressive t) u)
+        × ViewStands g dense v (next aggressive t) u)
     one_round few = (
       some_placed,
       (
         new_state,
         subst (λ c. StepAt g aggressive c s new_state) f.pivot_is (step turn),
-        subst (λ u. Stands g dense v u new_state) as_next (stands_after few),
+        subst (λ u. ViewStands g dense v u new_state) as_next (stands_after few),
       ),
     )
       where

@@ -11,7 +11,7 @@ use Rattle.amd_model.specs.Quotient.{QuotientGraph, gathered, absorbed as absorb
 use Rattle.amd_model.specs.Quotient.{round}
 use Rattle.amd_model.proofs.States.Words.{live_from, holds_gives, stands_gives}
 use Rattle.amd_model.proofs.Quotient.Round.Front.{absorbed_is}
-use Rattle.amd_round_laws.specs.Keeps.{Stands}
+use Rattle.amd_round_laws.specs.Keeps.{ViewStands}
 use Rattle.amd_round_laws.specs.Views.{View}
 use Rattle.amd_round_laws.proofs.Rounding.{Rounding}
 use Rattle.amd_round_laws.proofs.Round.Turn.{Found, Turn, class_of, lists_after, model}
@@ -19,7 +19,7 @@ use Rattle.amd_round_laws.proofs.Round.Turn.{Found, Turn, class_of, lists_after,
 module _ {g : Graph} {dense : ℕ → Bool} {aggressive : Bool} {w v : View} {t : QuotientGraph} {s : State}
     (turn : Turn g dense aggressive w v t s)
   where
-    abbrev st : Stands g dense w t s
+    abbrev st : ViewStands g dense w t s
     st = turn.before
 
     abbrev r : Rounding aggressive w v

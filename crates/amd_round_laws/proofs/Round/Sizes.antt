@@ -14,20 +14,31 @@ use Rattle.amd_model.proofs.Quotient.Lists.{has_append, has_filter}
 use Rattle.amd_model.proofs.Listings.Words.{has_filter as filter_gives, has_right}
 use Rattle.amd_model.proofs.Counting.Below.{clash}
 use Rattle.amd_round_laws.specs.Views.{live_of}
-use Rattle.amd_round_laws.specs.Rounds.{mass as mass_viewed}
-use Rattle.amd_round_laws.specs.Keeps.{Stands}
+use Rattle.amd_round_laws.specs.Rounds.{keeps_nothing as mass_viewed}
+use Rattle.amd_round_laws.specs.Keeps.{ViewStands}
 use Rattle.amd_round_laws.specs.Views.{View}
 use Rattle.amd_round_laws.proofs.Lists.Named.{filter_named, sum_named, filter_both}
 use Rattle.amd_round_laws.proofs.Rounding.{Rounding}
 use Rattle.amd_round_laws.proofs.Fronts.Gathered.{placed_rows}
-use Rattle.amd_round_laws.proofs.Round.Turn.{Found, Turn, front_placed, in_front, in_left, in_rest, lists_after, made_front, made_rest, new_fits}
+use Rattle.amd_round_laws.proofs.Round.Turn.{
+  Found,
+  Turn,
+  front_placed,
+  in_front,
+  in_left,
+  in_rest,
+  lists_after,
+  made_front,
+  made_rest,
+  new_fits,
+}
 use Rattle.amd_round_laws.proofs.Round.Turn.{new_sound, none_kept, not_c, outside_rest, rest_front, rest_keeps, rest_made}
 use Rattle.amd_round_laws.proofs.Round.Turn.{state_after}
 
 module _ {g : Graph} {dense : ℕ → Bool} {aggressive : Bool} {w v : View} {t : QuotientGraph} {s : State}
     (turn : Turn g dense aggressive w v t s)
   where
-    abbrev st : Stands g dense w t s
+    abbrev st : ViewStands g dense w t s
     st = turn.before
 
     abbrev r : Rounding aggressive w v

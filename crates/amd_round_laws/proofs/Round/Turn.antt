@@ -20,14 +20,14 @@ use Rattle.amd_model.proofs.Quotient.Round.Front.{front_class}
 use Rattle.amd_model.proofs.Quotient.Round.After.{state_after as after, step_after}
 use Rattle.amd_model.proofs.Quotient.Round.IsStep.{fits_after}
 use Rattle.amd_model.proofs.Counting.Below.{clash}
-use Rattle.amd_round_laws.specs.Rounds.{mass as mass_viewed}
-use Rattle.amd_round_laws.specs.Keeps.{Stands}
+use Rattle.amd_round_laws.specs.Rounds.{keeps_nothing as mass_viewed}
+use Rattle.amd_round_laws.specs.Keeps.{ViewStands}
 use Rattle.amd_round_laws.specs.Views.{View}
 use Rattle.amd_round_laws.proofs.Rounding.{Rounding}
 use Rattle.amd_round_laws.proofs.Fronts.Gathered.{gathered_other}
 
 -- what is placed with a least bound can be the pivot of a round
-pub round_of : {g : Graph} {dense : ℕ → Bool} (aggressive : Bool) {w : View} {t : QuotientGraph} {s : State} → Stands g dense w t s →
+pub round_of : {g : Graph} {dense : ℕ → Bool} (aggressive : Bool) {w : View} {t : QuotientGraph} {s : State} → ViewStands g dense w t s →
     (c : ℕ) → has t.placed c ≡ true → ((d : ℕ) → has t.placed d ≡ true → t.bound c ≤ t.bound d) → RoundAt g aggressive t s c
 round_of aggressive {t = t} {s = s} st c placed least =
     let class : is_class s c ≡ true = sym (st.fits.placed c) ∙ placed in
@@ -63,14 +63,14 @@ pub record Found (aggressive : Bool) (w v : View) (t : QuotientGraph) (r : Round
 
 -- a round: the record before stands for lists and a state, and what was found and written is what the rules say
 pub record Turn (g : Graph) (dense : ℕ → Bool) (aggressive : Bool) (w v : View) (t : QuotientGraph) (s : State) : Type 0 where
-  pub before : Stands g dense w t s
+  pub before : ViewStands g dense w t s
   pub wrote : Rounding aggressive w v
   pub found : Found aggressive w v t wrote
 
 module _ {g : Graph} {dense : ℕ → Bool} {aggressive : Bool} {w v : View} {t : QuotientGraph} {s : State}
     (turn : Turn g dense aggressive w v t s)
   where
-    abbrev st : Stands g dense w t s
+    abbrev st : ViewStands g dense w t s
     st = turn.before
 
     abbrev r : Rounding aggressive w v

@@ -8,7 +8,8 @@ pub numbers-preserved : goal.numbers-preserved
 numbers-preserved g c =
     let value = g.I.Number.value in
     let numbers = map value c.args.numbers.now in
-    let inside : c.numbers.k < length numbers = (let t = c.numbers-test.true in let m = length-map c.args.numbers.now value in omega (arith, t, m)) in
+    let inside : c.numbers.k < length numbers = (let t = c.numbers-test.true in let m = length-map c.args.numbers.now value in
+    omega (arith, t, m)) in
     let fits : SFits w64 c.in-Some.number = search rules in
     let number = to_z-of_z w64 c.in-Some.number fits in
     c.in_ok-push.ensures.items

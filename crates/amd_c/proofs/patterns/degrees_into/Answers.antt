@@ -11,4 +11,5 @@ copy_from_slice-requires g c =
     let places = c.if-not-has_row_places.ensures.0 refl in
     let size : unsigned_abs (value c.args.n) ≡ length c.args.degrees.now = ap unsigned_abs places ∙ length-map c.args.degrees.now value in
     let numbers = same_length value pos c.in_ok-numbers.numbers.items c.deref.result.now c.in_ok-numbers.ensures.numbers in
-    sym size ∙ sym c.in-Ok.ensures.degrees.size ∙ sym (ap length c.deref.ensures.value) ∙ sym numbers ∙ sym (ap length c.deref-2.ensures.value)
+    sym size ∙ sym c.in-Ok.ensures.degrees.size ∙ sym (ap length c.deref.ensures.value)
+    ∙ sym numbers ∙ sym (ap length c.deref-2.ensures.value)

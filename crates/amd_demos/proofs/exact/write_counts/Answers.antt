@@ -2,7 +2,7 @@
 use Rattle.std.proofs.Common.{arith, subst}
 use Rattle.std.specs.Io.KnownBytes.{Appends}
 use Rattle.amd_texts.proofs.Written.{Appends-then}
-use Rattle.amd_demos.specs.Exact.{counts}
+use Rattle.amd_demos.specs.Exact.{column_counts}
 use Rattle.amd_symbolic.proofs.Sizes.{all-columns, sizes-ascend}
 use Rattle.amd_demos.proofs.Sizes.{counts-next}
 use Rattle.amd_demos.proofs.exact.write_counts.Goals as goal
@@ -17,6 +17,6 @@ columns-preserved g c = λ columns h.
 
 pub returns : goal.returns
 returns g c = λ columns h.
-    let whole = subst (λ z. Appends (g.W.Write.contents c.args.out.now) (g.W.Write.contents c.columns.out) (counts z))
+    let whole = subst (λ z. Appends (g.W.Write.contents c.args.out.now) (g.W.Write.contents c.columns.out) (column_counts z))
     (all-columns columns c.args.ptr.now h _ (omega arith)) (c.columns.invariant columns h) in
     Appends-then _ _ _ _ _ whole c.in_ok-write_all.ensures.bytes

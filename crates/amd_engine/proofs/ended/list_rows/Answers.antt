@@ -31,7 +31,8 @@ returns g c =
     let listed = c.listing.ensures.lists in
     record {
       link = c.end_rows.new.pe;
-      ends = subst (λ k. EndsRows k c.args.pe.now c.args.e_len.now c.args.degree.now c.end_rows.new.pe c.end_rows.new.e_len c.end_rows.new.nv)
+      ends = subst (λ k. EndsRows k c.args.pe.now c.args.e_len.now c.args.degree.now c.end_rows.new.pe c.end_rows.new.e_len
+          c.end_rows.new.nv)
           d c.end_rows.ensures.ends;
       long = (ended.0 ∙ d, ended.1 ∙ d, rows);
       rows = listed.0;

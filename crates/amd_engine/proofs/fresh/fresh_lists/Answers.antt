@@ -34,7 +34,7 @@ returns-clause-fresh g c =
     let two : length (replicate {A = ℕ × ℕ} n (n, n)) ≡ n = length-replicate {A = ℕ × ℕ} n (n, n) in
     let sides = c.in_ok-sides.ensures in record {
       words = (ap length c.in_ok-words-2.ensures ∙ length-replicate n _, ap length c.in_ok-words.ensures ∙ length-replicate n _);
-      figures = (ap length c.in_ok-figures.ensures ∙ none, ap length c.in_ok-figures-2.ensures ∙ none);
-      heads = (c.in_ok-figures-3.ensures, c.in_ok-figures-4.ensures);
+      figures = (ap length c.in_ok-cells.ensures ∙ none, ap length c.in_ok-cells-2.ensures ∙ none);
+      heads = (c.in_ok-cells-3.ensures, c.in_ok-cells-4.ensures);
       links = (nexts_long _ ∙ ap length sides ∙ two, lasts_long _ ∙ ap length sides ∙ two);
     }

@@ -8,7 +8,7 @@ use Rattle.amd_types.specs.declared.figures.Figures.{Figures}
 use Rattle.amd_rounds.specs.Workspaces.{Workspace, workspace_of}
 use Rattle.amd_rounds.specs.Keeps.{AreRounds}
 use Rattle.amd_workspace.specs.Starting.{Rows, held_in}
-use Rattle.amd_engine.specs.InPlace.{at_start}
+use Rattle.amd_engine.specs.InPlace.{starting_workspace}
 use Rattle.amd_engine.proofs.InPlaceLaw.{IsFresh, degrees_small, stands_first, ends_rounds}
 use Rattle.amd_engine.proofs.EndingLaw.{is_over}
 use Rattle.amd_engine.proofs.running.run.Goals as goal
@@ -27,7 +27,7 @@ eliminate-requires-clause-stands g c =
       degree = a.degree.now;
       w = a.w.now;
     } in
-    let v : Workspace = at_start a.iw.now b.new.pe b.new.e_len b.new.nv b.new.len b.new.degree b.new.w b.new.head
+    let v : Workspace = starting_workspace a.iw.now b.new.pe b.new.e_len b.new.nv b.new.len b.new.degree b.new.w b.new.head
     (nexts b.new.sides) (lasts b.new.sides) a.hash.now a.free b.result.0 a.flag b.result.1 in
     let fresh : IsFresh (length a.len.now) (held_in (option_copied a.hold) a.threshold a.len.now) a.len.now v = record {
       sized = (e.lengths.0, e.lengths.1, e.lengths.2, r.empty.links.3);
@@ -61,7 +61,7 @@ returns-clause-runs g c = λ gr lists lays.
       degree = a.degree.now;
       w = a.w.now;
     } in
-    let v : Workspace = at_start a.iw.now b.new.pe b.new.e_len b.new.nv b.new.len b.new.degree b.new.w b.new.head
+    let v : Workspace = starting_workspace a.iw.now b.new.pe b.new.e_len b.new.nv b.new.len b.new.degree b.new.w b.new.head
     (nexts b.new.sides) (lasts b.new.sides) a.hash.now a.free b.result.0 a.flag b.result.1 in
     let fresh : IsFresh (length a.len.now) (held_in (option_copied a.hold) a.threshold a.len.now) a.len.now v = record {
       sized = (e.lengths.0, e.lengths.1, e.lengths.2, r.empty.links.3);

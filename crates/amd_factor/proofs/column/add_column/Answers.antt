@@ -20,7 +20,8 @@ returns-in_default g c =
     let long = length-between c.args.rows.now from to (omega (arith, before, within)) in
     let size = (merged_is part fresh).long in
     record {
-      filled = passes_room g.o r.0 c.args.k c.args.ptr.now c.args.rows.now filled.columns (let l = r.1.0 in omega (arith, l)) (merged part fresh)
+      filled = passes_room g.o r.0 c.args.k c.args.ptr.now c.args.rows.now filled.columns (let l = r.1.0 in
+          omega (arith, l)) (merged part fresh)
           (length c.args.rows.now) r.1.0
           (merged_column (record { order = g.o; place = c.args.k; inherited = part }) fresh (e.rising c.args.rows.now filled.columns)
           c.new_rows-count.ensures.completes)

@@ -16,8 +16,26 @@ returns-then-not-tells-clause-completes g c =
 
 pub gather_children-count-requires : goal.gather_children-count-requires
 gather_children-count-requires g c =
-    let r = c.requires in let m = c.mark_base-stamp.ensures in let u = c.unwrap_or.ensures in
-    (r.0, (r.1.0, (r.1.1.0, (r.1.1.1.0, (r.1.1.1.1.0, (base_marked g.c c.args.base r.1.1.1.1.1.1.1.1.1.0 c.args.k c.unwrap_or.result c.mark_base-stamp.result _ _ r.1.0 u m, (r.1.1.1.1.1.1.1.1.1.1.1.1, m)))))))
+    let r = c.requires in let m = c.mark_base-stamp.ensures in let u = c.unwrap_or.ensures in (
+      r.0,
+      (
+        r.1.0,
+        (
+          r.1.1.0,
+          (
+            r.1.1.1.0,
+            (
+              r.1.1.1.1.0,
+              (
+                base_marked g.c c.args.base r.1.1.1.1.1.1.1.1.1.0 c.args.k c.unwrap_or.result
+                    c.mark_base-stamp.result _ _ r.1.0 u m,
+                (r.1.1.1.1.1.1.1.1.1.1.1.1, m),
+              ),
+            ),
+          ),
+        ),
+      ),
+    )
 
 pub gather-count-requires : goal.gather-count-requires
 gather-count-requires g c =

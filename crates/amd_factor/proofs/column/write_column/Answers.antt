@@ -16,5 +16,6 @@ returns-clause-column c =
     ap length c.merge.ensures ∙ (merged_is (slice_range done c.args.from c.args.to) c.args.fresh.now).long ∙
     ap (λ n. n + length c.args.fresh.now) (length-between done c.args.from c.args.to
     (let f = c.split_at_mut-done.ensures.front_len in let b = c.requires.behind in omega (arith, f, b))) in
-    range_middle done c.merge.new.out _ c.args.begin (c.args.to - c.args.from + length c.args.fresh.now) c.split_at_mut-done.ensures.front_len size
+    range_middle done c.merge.new.out _ c.args.begin (c.args.to - c.args.from + length c.args.fresh.now)
+    c.split_at_mut-done.ensures.front_len size
     ∙ c.merge.ensures ∙ ap (λ xs. merged xs c.args.fresh.now) part

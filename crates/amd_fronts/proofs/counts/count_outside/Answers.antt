@@ -9,7 +9,7 @@ use Rattle.amd_model.proofs.Listings.Words.{filter_has}
 use Rattle.amd_words.specs.Words.{num, word, place, is_place, flip_of, size_of, rows}
 use Rattle.amd_lists.specs.Chains.{DegreeLists, without}
 use Rattle.amd_fronts.specs.Counts.{touched, counter, ends, settled, IsListed}
-use Rattle.amd_lists.specs.Layout.{elements_in, met}
+use Rattle.amd_lists.specs.Layout.{elements_in, rows_met}
 use Rattle.amd_words.proofs.RowLists.{rows_has}
 use Rattle.amd_words.proofs.WordMarks.{rows_start}
 use Rattle.amd_words.proofs.RowLists.{fresh_word}
@@ -22,17 +22,18 @@ use Rattle.amd_fronts.proofs.counts.count_outside.Goals as goal
 pub loop-p-init : goal.loop-p-init
 loop-p-init g c =
     let iw : List ℤ = c.args.iw.now in let from : ℕ = c.args.from in
-    let none : (e : ℕ) → met iw c.args.pe.now c.args.e_len.now c.args.nv.now (rows iw from (from - from)) e ≡ 0 = λ e.
-    ap (λ xs. met iw c.args.pe.now c.args.e_len.now c.args.nv.now xs e) (rows_start iw from) in
+    let none : (e : ℕ) → rows_met iw c.args.pe.now c.args.e_len.now c.args.nv.now (rows iw from (from - from)) e ≡ 0 = λ e.
+    ap (λ xs. rows_met iw c.args.pe.now c.args.e_len.now c.args.nv.now xs e) (rows_start iw from) in
     record {
       long = refl;
       p_long = refl;
       lengths = (refl, refl, refl);
       counted = λ e. counted_none c.args.aggressive c.args.flag (num c.args.w.now e) (num c.args.degree.now e)
-          (met iw c.args.pe.now c.args.e_len.now c.args.nv.now (rows iw from (from - from)) e) c.requires.two (c.requires.under e)
+          (rows_met iw c.args.pe.now c.args.e_len.now c.args.nv.now (rows iw from (from - from)) e) c.requires.two (c.requires.under e)
           (none e);
       starts = λ e. starts_none c.args.aggressive c.args.flag (num c.args.w.now e) (num c.args.degree.now e)
-          (met iw c.args.pe.now c.args.e_len.now c.args.nv.now (rows iw from (from - from)) e) c.requires.two (c.requires.under e) (none e)
+          (rows_met iw c.args.pe.now c.args.e_len.now c.args.nv.now (rows iw from (from - from)) e) c.requires.two (c.requires.under e)
+          (none e)
           (flip_of c.args.me) (word c.args.pe.now e);
       linked = λ lists member h. lists_same _ _ _ _ _ lists _ (λ d l. all_left iw from (lists d)) h;
     }
@@ -97,13 +98,13 @@ loop-p-preserved g c =
       lengths = (f.0 ∙ d.0, f.1 ∙ d.1, f.2 ∙ d.2);
       counted = subst (λ m. (e : ℕ) → num c.count_class.new.w e ≡ settled ag flag (counter flag (num c.args.w.now e)
           (num c.args.degree.now e)
-          (met iw pe e_len nv (rows iw from m) e))) (sym next)
+          (rows_met iw pe e_len nv (rows iw from m) e))) (sym next)
           (count_next iw pe e_len nv ag c.args.degree.now c.args.w.now c.loop-p.w c.count_class.new.w from c.args.count k flag l
           c.requires.two c.requires.under c.requires.part was.counted i is listed.class
           (λ e. c.count_class.ensures.counted e ∙ ap (λ xs. cond (has xs e) (settled ag flag (top e)) (num c.loop-p.w e)) list));
       starts = subst (λ m. (e : ℕ) → word c.count_class.new.pe e ≡ cond (ends ag flag (counter flag (num c.args.w.now e)
           (num c.args.degree.now e)
-          (met iw pe e_len nv (rows iw from m) e))) (flip_of c.args.me) (word pe e)) (sym next)
+          (rows_met iw pe e_len nv (rows iw from m) e))) (flip_of c.args.me) (word pe e)) (sym next)
           (start_next iw pe e_len nv ag c.args.degree.now c.args.w.now c.loop-p.w c.count_class.new.w from c.args.count k flag l
           c.requires.two c.requires.under c.requires.part was.counted i is listed.class
           c.args.me c.loop-p.pe c.count_class.new.pe was.starts
@@ -132,13 +133,13 @@ returns g c = record {
       let past : c.loop-p.p ≤ c.args.from + c.args.count = c.loop-p.auto.p-end (le-add_right _ _) in
       let all : c.loop-p.p - c.args.from ≡ c.args.count = all_passed _ _ _ after past t in
       subst (λ m. (e : ℕ) → num c.loop-p.w e ≡ settled c.args.aggressive c.args.flag (counter c.args.flag (num c.args.w.now e)
-      (num c.args.degree.now e) (met c.args.iw.now c.args.pe.now c.args.e_len.now c.args.nv.now
+      (num c.args.degree.now e) (rows_met c.args.iw.now c.args.pe.now c.args.e_len.now c.args.nv.now
       (rows c.args.iw.now c.args.from m) e))) all c.loop-p.invariant.counted);
   starts = (let t = c.loop-p-test.false in let after : c.args.from ≤ c.loop-p.p = c.loop-p.auto.p in
       let past : c.loop-p.p ≤ c.args.from + c.args.count = c.loop-p.auto.p-end (le-add_right _ _) in
       let all : c.loop-p.p - c.args.from ≡ c.args.count = all_passed _ _ _ after past t in
       subst (λ m. (e : ℕ) → word c.loop-p.pe e ≡ cond (ends c.args.aggressive c.args.flag (counter c.args.flag (num c.args.w.now e)
-      (num c.args.degree.now e) (met c.args.iw.now c.args.pe.now c.args.e_len.now c.args.nv.now
+      (num c.args.degree.now e) (rows_met c.args.iw.now c.args.pe.now c.args.e_len.now c.args.nv.now
       (rows c.args.iw.now c.args.from m) e))) (flip_of c.args.me) (word c.args.pe.now e)) all c.loop-p.invariant.starts);
   lengths = search rules;
   linked = (λ lists member h. let t = c.loop-p-test.false in let after : c.args.from ≤ c.loop-p.p = c.loop-p.auto.p in

@@ -62,4 +62,4 @@ returns-clause-counted g c x =
     (left_is c.args.flag all c.args.more v c.if-before-flag.base c.if-before-eq0.taken base taken)
 
 pub returns-clause-long : goal.returns-clause-long
-returns-clause-long g c = c.put_cell.auto.figures
+returns-clause-long g c = c.put_cell.auto.cells

@@ -10,7 +10,7 @@ use Rattle.amd_fronts.proofs.counts.touch_or_end.Goals as goal
 
 pub returns-then-left-flag : goal.returns-then-left-flag
 returns-then-left-flag g c = record {
-  long = ((c.put_cell.auto.figures ∙ c.touch.ensures.long, c.put_flip.auto.words));
+  long = ((c.put_cell.auto.cells ∙ c.touch.ensures.long, c.put_flip.auto.words));
   counted = (λ x. let e : ℕ = c.args.e in let flag : ℕ = c.args.flag in let w1 : List ℕ = c.touch.new.w in let w : List ℕ = c.args.w.now in
       let top : ℕ = touched flag (num c.args.degree.now e) c.args.more (num w e) in
       let here : (e == e) ≡ true = eq-eqb e e refl in

@@ -4,7 +4,7 @@ use Rattle.amd_model.specs.Quotient.{has, Once}
 use Rattle.amd_words.specs.Words.{num, word, place, is_place, start, size_of, flip_of, rows}
 use Rattle.amd_lists.specs.Chains.{DegreeLists}
 use Rattle.amd_fronts.specs.Counts.{counter, ends, settled}
-use Rattle.amd_lists.specs.Layout.{met}
+use Rattle.amd_lists.specs.Layout.{rows_met}
 use Rattle.amd_lists.specs.Renewal.{is_kept, is_outside}
 use Rattle.amd_lists.specs.Layout.{list_in, Layout}
 use Rattle.amd_fronts.specs.Fronts.{RenewsFront}
@@ -44,7 +44,7 @@ count_outside-requires g c =
       two = c.requires.two.0;
       under = c.requires.two.1;
       fits = c.requires.fits;
-      part = λ e s. let r = c.requires.part e s in let q = ap (λ xs. met iw pe c.args.e_len.now c.args.nv.now xs e) list in
+      part = λ e s. let r = c.requires.part e s in let q = ap (λ xs. rows_met iw pe c.args.e_len.now c.args.nv.now xs e) list in
           omega (arith, r, q);
     }
 
@@ -64,10 +64,10 @@ renew_all-requires g c = record {
       ∙ ap (rows iw (start pe me)) count in
       let left : List ℤ = c.count_outside.new.pe in
       let seen : ℕ → ℕ → ℕ = λ m e. counter c.args.flag (num c.args.w.now e) (num c.args.degree.now e) m in
-      let ended : (e : ℕ) → word left e ≡ cond (ends c.args.aggressive c.args.flag (seen (met iw pe c.args.e_len.now c.args.nv.now
+      let ended : (e : ℕ) → word left e ≡ cond (ends c.args.aggressive c.args.flag (seen (rows_met iw pe c.args.e_len.now c.args.nv.now
       (list_in iw pe len me) e) e))
       (flip_of me) (word pe e) = λ e. c.count_outside.ensures.starts e
-      ∙ ap (λ xs. cond (ends c.args.aggressive c.args.flag (seen (met iw pe c.args.e_len.now c.args.nv.now xs e) e)) (flip_of me)
+      ∙ ap (λ xs. cond (ends c.args.aggressive c.args.flag (seen (rows_met iw pe c.args.e_len.now c.args.nv.now xs e) e)) (flip_of me)
       (word pe e)) list in
       let long = c.count_outside.ensures.long.0 in
       subst (λ n. Layout n iw left c.args.e_len.now len c.args.free) (sym long)
@@ -81,10 +81,10 @@ renew_all-requires g c = record {
       ∙ ap (rows iw (start pe me)) count in
       let left : List ℤ = c.count_outside.new.pe in
       let seen : ℕ → ℕ → ℕ = λ m e. counter c.args.flag (num c.args.w.now e) (num c.args.degree.now e) m in
-      let ended : (e : ℕ) → word left e ≡ cond (ends c.args.aggressive c.args.flag (seen (met iw pe c.args.e_len.now c.args.nv.now
+      let ended : (e : ℕ) → word left e ≡ cond (ends c.args.aggressive c.args.flag (seen (rows_met iw pe c.args.e_len.now c.args.nv.now
       (list_in iw pe len me) e) e))
       (flip_of me) (word pe e) = λ e. c.count_outside.ensures.starts e
-      ∙ ap (λ xs. cond (ends c.args.aggressive c.args.flag (seen (met iw pe c.args.e_len.now c.args.nv.now xs e) e)) (flip_of me)
+      ∙ ap (λ xs. cond (ends c.args.aggressive c.args.flag (seen (rows_met iw pe c.args.e_len.now c.args.nv.now xs e) e)) (flip_of me)
       (word pe e)) list in
       ap is_place (left_me c.args.aggressive c.args.flag c.requires.laid c.requires.two.0 c.requires.two.1 c.requires.front left ended)
       ∙ c.requires.list.starts);
@@ -96,10 +96,10 @@ renew_all-requires g c = record {
       ∙ ap (rows iw (start pe me)) count in
       let left : List ℤ = c.count_outside.new.pe in
       let seen : ℕ → ℕ → ℕ = λ m e. counter c.args.flag (num c.args.w.now e) (num c.args.degree.now e) m in
-      let ended : (e : ℕ) → word left e ≡ cond (ends c.args.aggressive c.args.flag (seen (met iw pe c.args.e_len.now c.args.nv.now
+      let ended : (e : ℕ) → word left e ≡ cond (ends c.args.aggressive c.args.flag (seen (rows_met iw pe c.args.e_len.now c.args.nv.now
       (list_in iw pe len me) e) e))
       (flip_of me) (word pe e) = λ e. c.count_outside.ensures.starts e
-      ∙ ap (λ xs. cond (ends c.args.aggressive c.args.flag (seen (met iw pe c.args.e_len.now c.args.nv.now xs e) e)) (flip_of me)
+      ∙ ap (λ xs. cond (ends c.args.aggressive c.args.flag (seen (rows_met iw pe c.args.e_len.now c.args.nv.now xs e) e)) (flip_of me)
       (word pe e)) list in
       ap (λ xs. has xs me) (left_list c.args.aggressive c.args.flag c.requires.laid c.requires.two.0 c.requires.two.1
       c.requires.front left ended) ∙ c.requires.list.apart);
@@ -111,10 +111,10 @@ renew_all-requires g c = record {
       ∙ ap (rows iw (start pe me)) count in
       let left : List ℤ = c.count_outside.new.pe in
       let seen : ℕ → ℕ → ℕ = λ m e. counter c.args.flag (num c.args.w.now e) (num c.args.degree.now e) m in
-      let ended : (e : ℕ) → word left e ≡ cond (ends c.args.aggressive c.args.flag (seen (met iw pe c.args.e_len.now c.args.nv.now
+      let ended : (e : ℕ) → word left e ≡ cond (ends c.args.aggressive c.args.flag (seen (rows_met iw pe c.args.e_len.now c.args.nv.now
       (list_in iw pe len me) e) e))
       (flip_of me) (word pe e) = λ e. c.count_outside.ensures.starts e
-      ∙ ap (λ xs. cond (ends c.args.aggressive c.args.flag (seen (met iw pe c.args.e_len.now c.args.nv.now xs e) e)) (flip_of me)
+      ∙ ap (λ xs. cond (ends c.args.aggressive c.args.flag (seen (rows_met iw pe c.args.e_len.now c.args.nv.now xs e) e)) (flip_of me)
       (word pe e)) list in
       subst Once (sym (left_list c.args.aggressive c.args.flag c.requires.laid c.requires.two.0 c.requires.two.1 c.requires.front
       left ended)) c.requires.list.once);
@@ -126,15 +126,15 @@ renew_all-requires g c = record {
       ∙ ap (rows iw (start pe me)) count in
       let left : List ℤ = c.count_outside.new.pe in
       let seen : ℕ → ℕ → ℕ = λ m e. counter c.args.flag (num c.args.w.now e) (num c.args.degree.now e) m in
-      let ended : (e : ℕ) → word left e ≡ cond (ends c.args.aggressive c.args.flag (seen (met iw pe c.args.e_len.now c.args.nv.now
+      let ended : (e : ℕ) → word left e ≡ cond (ends c.args.aggressive c.args.flag (seen (rows_met iw pe c.args.e_len.now c.args.nv.now
       (list_in iw pe len me) e) e))
       (flip_of me) (word pe e) = λ e. c.count_outside.ensures.starts e
-      ∙ ap (λ xs. cond (ends c.args.aggressive c.args.flag (seen (met iw pe c.args.e_len.now c.args.nv.now xs e) e)) (flip_of me)
+      ∙ ap (λ xs. cond (ends c.args.aggressive c.args.flag (seen (rows_met iw pe c.args.e_len.now c.args.nv.now xs e) e)) (flip_of me)
       (word pe e)) list in
       let counted : (e : ℕ) → num c.count_outside.new.w e
-      ≡ settled c.args.aggressive c.args.flag (seen (met iw pe c.args.e_len.now c.args.nv.now (list_in iw pe len me) e) e) = λ e.
+      ≡ settled c.args.aggressive c.args.flag (seen (rows_met iw pe c.args.e_len.now c.args.nv.now (list_in iw pe len me) e) e) = λ e.
       c.count_outside.ensures.counted e
-      ∙ ap (λ xs. settled c.args.aggressive c.args.flag (seen (met iw pe c.args.e_len.now c.args.nv.now xs e) e)) list in
+      ∙ ap (λ xs. settled c.args.aggressive c.args.flag (seen (rows_met iw pe c.args.e_len.now c.args.nv.now xs e) e)) list in
       left_renewable c.args.aggressive c.args.flag c.requires.laid c.requires.two.0 c.requires.two.1 c.requires.front left ended
       c.count_outside.new.w counted);
   marked = (λ i h. let me : ℕ = c.args.me in let iw : List ℤ = c.args.iw.now in let pe : List ℤ = c.args.pe.now in
@@ -145,15 +145,15 @@ renew_all-requires g c = record {
       ∙ ap (rows iw (start pe me)) count in
       let left : List ℤ = c.count_outside.new.pe in
       let seen : ℕ → ℕ → ℕ = λ m e. counter c.args.flag (num c.args.w.now e) (num c.args.degree.now e) m in
-      let ended : (e : ℕ) → word left e ≡ cond (ends c.args.aggressive c.args.flag (seen (met iw pe c.args.e_len.now c.args.nv.now
+      let ended : (e : ℕ) → word left e ≡ cond (ends c.args.aggressive c.args.flag (seen (rows_met iw pe c.args.e_len.now c.args.nv.now
       (list_in iw pe len me) e) e))
       (flip_of me) (word pe e) = λ e. c.count_outside.ensures.starts e
-      ∙ ap (λ xs. cond (ends c.args.aggressive c.args.flag (seen (met iw pe c.args.e_len.now c.args.nv.now xs e) e)) (flip_of me)
+      ∙ ap (λ xs. cond (ends c.args.aggressive c.args.flag (seen (rows_met iw pe c.args.e_len.now c.args.nv.now xs e) e)) (flip_of me)
       (word pe e)) list in
       (c.requires.front i (sym (ap (λ xs. has xs i)
       (left_list c.args.aggressive c.args.flag c.requires.laid c.requires.two.0 c.requires.two.1 c.requires.front left ended))
       ∙ h)).marked);
-  met = (let me : ℕ = c.args.me in let iw : List ℤ = c.args.iw.now in let pe : List ℤ = c.args.pe.now in
+  rows_met = (let me : ℕ = c.args.me in let iw : List ℤ = c.args.iw.now in let pe : List ℤ = c.args.pe.now in
       let len : List ℕ = c.args.len.now in
       let from : c.named-from.result ≡ start pe me = c.named-from.ensures in let count = c.cell_at-count.ensures.is in
       let list : rows iw c.named-from.result c.cell_at-count.result ≡ list_in iw pe len me = ap
@@ -161,15 +161,15 @@ renew_all-requires g c = record {
       ∙ ap (rows iw (start pe me)) count in
       let left : List ℤ = c.count_outside.new.pe in
       let seen : ℕ → ℕ → ℕ = λ m e. counter c.args.flag (num c.args.w.now e) (num c.args.degree.now e) m in
-      let ended : (e : ℕ) → word left e ≡ cond (ends c.args.aggressive c.args.flag (seen (met iw pe c.args.e_len.now c.args.nv.now
+      let ended : (e : ℕ) → word left e ≡ cond (ends c.args.aggressive c.args.flag (seen (rows_met iw pe c.args.e_len.now c.args.nv.now
       (list_in iw pe len me) e) e))
       (flip_of me) (word pe e) = λ e. c.count_outside.ensures.starts e
-      ∙ ap (λ xs. cond (ends c.args.aggressive c.args.flag (seen (met iw pe c.args.e_len.now c.args.nv.now xs e) e)) (flip_of me)
+      ∙ ap (λ xs. cond (ends c.args.aggressive c.args.flag (seen (rows_met iw pe c.args.e_len.now c.args.nv.now xs e) e)) (flip_of me)
       (word pe e)) list in
       let counted : (e : ℕ) → num c.count_outside.new.w e
-      ≡ settled c.args.aggressive c.args.flag (seen (met iw pe c.args.e_len.now c.args.nv.now (list_in iw pe len me) e) e) = λ e.
+      ≡ settled c.args.aggressive c.args.flag (seen (rows_met iw pe c.args.e_len.now c.args.nv.now (list_in iw pe len me) e) e) = λ e.
       c.count_outside.ensures.counted e
-      ∙ ap (λ xs. settled c.args.aggressive c.args.flag (seen (met iw pe c.args.e_len.now c.args.nv.now xs e) e)) list in
+      ∙ ap (λ xs. settled c.args.aggressive c.args.flag (seen (rows_met iw pe c.args.e_len.now c.args.nv.now xs e) e)) list in
       left_met c.args.aggressive c.args.flag c.requires.laid c.requires.two.0 c.requires.two.1 c.requires.front left ended
       c.count_outside.new.w counted c.requires.part);
   few = (let me : ℕ = c.args.me in let iw : List ℤ = c.args.iw.now in let pe : List ℤ = c.args.pe.now in
@@ -180,10 +180,10 @@ renew_all-requires g c = record {
       ∙ ap (rows iw (start pe me)) count in
       let left : List ℤ = c.count_outside.new.pe in
       let seen : ℕ → ℕ → ℕ = λ m e. counter c.args.flag (num c.args.w.now e) (num c.args.degree.now e) m in
-      let ended : (e : ℕ) → word left e ≡ cond (ends c.args.aggressive c.args.flag (seen (met iw pe c.args.e_len.now c.args.nv.now
+      let ended : (e : ℕ) → word left e ≡ cond (ends c.args.aggressive c.args.flag (seen (rows_met iw pe c.args.e_len.now c.args.nv.now
       (list_in iw pe len me) e) e))
       (flip_of me) (word pe e) = λ e. c.count_outside.ensures.starts e
-      ∙ ap (λ xs. cond (ends c.args.aggressive c.args.flag (seen (met iw pe c.args.e_len.now c.args.nv.now xs e) e)) (flip_of me)
+      ∙ ap (λ xs. cond (ends c.args.aggressive c.args.flag (seen (rows_met iw pe c.args.e_len.now c.args.nv.now xs e) e)) (flip_of me)
       (word pe e)) list in
       let a = ap (sum_by (size_of c.args.nv.now))
       (left_list c.args.aggressive c.args.flag c.requires.laid c.requires.two.0 c.requires.two.1 c.requires.front left ended) in
@@ -200,15 +200,15 @@ returns g c = record {
       ∙ ap (rows iw (start pe me)) count in
       let left : List ℤ = c.count_outside.new.pe in
       let seen : ℕ → ℕ → ℕ = λ m e. counter c.args.flag (num c.args.w.now e) (num c.args.degree.now e) m in
-      let ended : (e : ℕ) → word left e ≡ cond (ends c.args.aggressive c.args.flag (seen (met iw pe c.args.e_len.now c.args.nv.now
+      let ended : (e : ℕ) → word left e ≡ cond (ends c.args.aggressive c.args.flag (seen (rows_met iw pe c.args.e_len.now c.args.nv.now
       (list_in iw pe len me) e) e))
       (flip_of me) (word pe e) = λ e. c.count_outside.ensures.starts e
-      ∙ ap (λ xs. cond (ends c.args.aggressive c.args.flag (seen (met iw pe c.args.e_len.now c.args.nv.now xs e) e)) (flip_of me)
+      ∙ ap (λ xs. cond (ends c.args.aggressive c.args.flag (seen (rows_met iw pe c.args.e_len.now c.args.nv.now xs e) e)) (flip_of me)
       (word pe e)) list in
       let counted : (e : ℕ) → num c.count_outside.new.w e
-      ≡ settled c.args.aggressive c.args.flag (seen (met iw pe c.args.e_len.now c.args.nv.now (list_in iw pe len me) e) e) = λ e.
+      ≡ settled c.args.aggressive c.args.flag (seen (rows_met iw pe c.args.e_len.now c.args.nv.now (list_in iw pe len me) e) e) = λ e.
       c.count_outside.ensures.counted e
-      ∙ ap (λ xs. settled c.args.aggressive c.args.flag (seen (met iw pe c.args.e_len.now c.args.nv.now xs e) e)) list in
+      ∙ ap (λ xs. settled c.args.aggressive c.args.flag (seen (rows_met iw pe c.args.e_len.now c.args.nv.now xs e) e)) list in
       let long = c.count_outside.ensures.long.0 in
       record {
         left = left;
@@ -236,10 +236,10 @@ returns g c = record {
       ∙ ap (rows iw (start pe me)) count in
       let left : List ℤ = c.count_outside.new.pe in
       let seen : ℕ → ℕ → ℕ = λ m e. counter c.args.flag (num c.args.w.now e) (num c.args.degree.now e) m in
-      let ended : (e : ℕ) → word left e ≡ cond (ends c.args.aggressive c.args.flag (seen (met iw pe c.args.e_len.now c.args.nv.now
+      let ended : (e : ℕ) → word left e ≡ cond (ends c.args.aggressive c.args.flag (seen (rows_met iw pe c.args.e_len.now c.args.nv.now
       (list_in iw pe len me) e) e))
       (flip_of me) (word pe e) = λ e. c.count_outside.ensures.starts e
-      ∙ ap (λ xs. cond (ends c.args.aggressive c.args.flag (seen (met iw pe c.args.e_len.now c.args.nv.now xs e) e)) (flip_of me)
+      ∙ ap (λ xs. cond (ends c.args.aggressive c.args.flag (seen (rows_met iw pe c.args.e_len.now c.args.nv.now xs e) e)) (flip_of me)
       (word pe e)) list in
       let long = c.count_outside.ensures.long.0 in
       let out = c.count_outside.ensures.linked lists (λ i m. member i (sym (ap (λ xs. has xs i) list) ∙ m)) h in

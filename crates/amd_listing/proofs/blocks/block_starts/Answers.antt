@@ -132,7 +132,7 @@ places-preserved g c =
     omega (arith, a, m, rooms)) in
     let q_long : length q ≡ n = (let a = c.places.auto.p_inv in let m : length q ≡ length c.places.p_inv = simp length-map in
     omega (arith, a, m, rooms)) in
-    let room = c.put_cell.auto.figures ∙ c.places.invariant.room in
+    let room = c.put_cell.auto.cells ∙ c.places.invariant.room in
     record {
       room = room;
       started = λ home es a b. (

@@ -44,7 +44,7 @@ returns g c = record {
             ap (λ l. num l d) c.put_cell.ensures ∙ get_or-set_same head d i 0 (omega (arith, bound, h)));
       });
   lengths = (let same = c.put_last-2.auto.sides ∙ c.put_next.auto.sides ∙ c.if-after-n.auto.sides in (
-    c.put_cell.auto.figures ∙ c.requires.long,
+    c.put_cell.auto.cells ∙ c.requires.long,
     nexts_same _ _ same,
     lasts_same _ _ same ∙ both_long c.args.sides.now,
   ));

@@ -73,7 +73,7 @@ returns-else-before-n g c = record {
         head_is = λ none. ap (λ l. num l d) put ∙ get_or-set_same head d after 0 (omega (arith, bound, wide)) ∙ at;
       });
   lengths = (let same = c.if-after-n.auto.sides in (
-    c.put_cell.auto.figures ∙ c.requires.long,
+    c.put_cell.auto.cells ∙ c.requires.long,
     nexts_same _ _ same,
     lasts_same _ _ same ∙ both_long c.args.sides.now,
   ));

@@ -2,7 +2,7 @@ use Rattle.std.proofs.Common.{ℕ, Bool, false, Some, List, ◌≡◌, ◌<◌, 
 use Rattle.std.proofs.Common.{length, length-set, filter, flat_map}
 use Rattle.std.proofs.lemmas.Bool.{cond-true, cond-false}
 use Rattle.amd_model.specs.Quotient.{has}
-use Rattle.amd_plain.specs.Views.{num, at, some_at, list_at, ListsBelow}
+use Rattle.amd_plain.specs.Views.{num, mark_at, some_at, list_at, ListsBelow}
 use Rattle.amd_plain.specs.Rounds.{firsts}
 use Rattle.amd_plain.proofs.ListPlaces.{list_read}
 use Rattle.amd_round_laws.proofs.Lists.Named.{filter_named}
@@ -61,22 +61,27 @@ returns g c =
     let gathered = firsts_gives (has own) (flat_map (list_at elements) front) touched touched_is in
     let whole : ℕ → Bool = λ e. c.args.aggressive && nat_eq (num beyond e) 0 in
     let first : c.deref-4.result.now ≡ own = c.deref-4.ensures.value ∙ sym (list_read elements p c.index.result.now row c.index.ensures) in
-    let rows_marked : (j : ℕ) → at c.deref-8.result.now j ≡ inside j = λ j. ap (λ l. at l j) c.deref-8.ensures.value ∙ r.marked.rows.1 j in
-    let taken_is : (e : ℕ) → at taken e ≡ (has own e || (has touched e && whole e)) = λ e.
+    let rows_marked : (j : ℕ) → mark_at c.deref-8.result.now j ≡ inside j = λ j. ap (λ l. mark_at l j)
+    c.deref-8.ensures.value ∙ r.marked.rows.1 j in
+    let taken_is : (e : ℕ) → mark_at taken e ≡ (has own e || (has touched e && whole e)) = λ e.
     c.spare.ensures.spared e
-    ∙ ap (λ l. at marked e && not (has l e && not (c.args.aggressive && nat_eq (num c.deref-3.result.now e) 0))) c.deref-2.ensures.value
-    ∙ ap (λ l. at marked e && not (has touched e && not (c.args.aggressive && nat_eq (num l e) 0))) c.deref-3.ensures.value
+    ∙ ap (λ l. mark_at marked e && not (has l e && not (c.args.aggressive && nat_eq (num c.deref-3.result.now e) 0)))
+    c.deref-2.ensures.value
+    ∙ ap (λ l. mark_at marked e && not (has touched e && not (c.args.aggressive && nat_eq (num l e) 0))) c.deref-3.ensures.value
     ∙ ap (λ b. b && not (has touched e && not (whole e))) (c.in_ok-touched.ensures.marked e) ∙
     spared_is (has own e) (has touched e) (whole e) (λ h. (gathered e h).1) in
-    let parents : (e : ℕ) → some_at c.adopt-2.new.parent.items e ≡ cond (at taken e) (Some p) (some_at c.args.parent.now.items e) = λ e.
-    adopted_is (has own e) (has touched e) (at taken e) (Some p) (some_at c.args.parent.now.items e) (some_at c.adopt.new.parent.items e)
+    let parents : (e : ℕ) → some_at c.adopt-2.new.parent.items e ≡ cond (mark_at taken e) (Some p) (some_at c.args.parent.now.items e)
+    = λ e.
+    adopted_is (has own e) (has touched e) (mark_at taken e) (Some p) (some_at c.args.parent.now.items e)
+    (some_at c.adopt.new.parent.items e)
     (some_at c.adopt-2.new.parent.items e)
     (λ h. in_either (has own e) (has touched e) (whole e) (sym (taken_is e) ∙ h))
-    (c.adopt.ensures.adopted e ∙ ap (λ l. cond (has l e && at c.deref-5.result.now e) (Some p) (some_at c.args.parent.now.items e)) first
-    ∙ ap (λ l. cond (has own e && at l e) (Some p) (some_at c.args.parent.now.items e)) c.deref-5.ensures.value)
-    (c.adopt-2.ensures.adopted e ∙ ap (λ l. cond (has l e && at c.deref-7.result.now e) (Some p) (some_at c.adopt.new.parent.items e))
+    (c.adopt.ensures.adopted e ∙ ap (λ l. cond (has l e && mark_at c.deref-5.result.now e) (Some p) (some_at c.args.parent.now.items e))
+    first
+    ∙ ap (λ l. cond (has own e && mark_at l e) (Some p) (some_at c.args.parent.now.items e)) c.deref-5.ensures.value)
+    (c.adopt-2.ensures.adopted e ∙ ap (λ l. cond (has l e && mark_at c.deref-7.result.now e) (Some p) (some_at c.adopt.new.parent.items e))
     c.deref-6.ensures.value
-    ∙ ap (λ l. cond (has touched e && at l e) (Some p) (some_at c.adopt.new.parent.items e)) c.deref-7.ensures.value) in
+    ∙ ap (λ l. cond (has touched e && mark_at l e) (Some p) (some_at c.adopt.new.parent.items e)) c.deref-7.ensures.value) in
     let after = c.shorten.new.lists.elements.items in
     let room : p < length after = lt_of_lt_of_le r.pivot.0 (le_of_eq (sym c.shorten.ensures.elements.0)) in
     let second : c.deref-10.result.now ≡ own = c.deref-10.ensures.value ∙
@@ -84,9 +89,9 @@ returns g c =
     cond-false _ _ _ r.pivot.1 in
     let marks : List Bool = c.clear_all-3.new.marks.items in
     let long : length marks ≡ length size = c.clear_all-3.ensures.size ∙ r.marked.rows.0 in
-    let clear : (j : ℕ) → at c.clear_all-2.new.marks.items j ≡ false = λ j.
-    c.clear_all-2.ensures.cleared j ∙ ap (λ l. at c.clear_all.new.marks.items j && not (has l j)) c.deref-11.ensures.value
-    ∙ ap (λ b. b && not (has touched j)) (c.clear_all.ensures.cleared j ∙ ap (λ l. at taken j && not (has l j)) second ∙
+    let clear : (j : ℕ) → mark_at c.clear_all-2.new.marks.items j ≡ false = λ j.
+    c.clear_all-2.ensures.cleared j ∙ ap (λ l. mark_at c.clear_all.new.marks.items j && not (has l j)) c.deref-11.ensures.value
+    ∙ ap (λ b. b && not (has touched j)) (c.clear_all.ensures.cleared j ∙ ap (λ l. mark_at taken j && not (has l j)) second ∙
     ap (λ b. b && not (has own j)) (taken_is j))
     ∙ cleared_is (has own j) (has touched j) (whole j) in
     record {
@@ -95,13 +100,14 @@ returns g c =
           touched = touched;
           touched_is = touched_is;
           counted = λ e h. c.count_beyond.ensures.counted e (ap (λ l. has l e) c.deref.ensures.value ∙ h);
-          taken = at taken;
+          taken = mark_at taken;
           taken_is = taken_is;
           parents = parents;
           elements = λ i h. c.shorten.ensures.kept_elements i ∙ cond-true (has front i) _ _ h
-              ∙ ap (λ l. filter (λ e. not (at l e)) (list_at elements i)) c.deref-9.ensures.value;
+              ∙ ap (λ l. filter (λ e. not (mark_at l e)) (list_at elements i)) c.deref-9.ensures.value;
           variables = λ i h. c.shorten.ensures.kept_variables i ∙ cond-true (has front i) _ _ h
-              ∙ filter_named (λ j. nat_lt 0 (num size j) && not (at c.deref-8.result.now j)) (λ j. nat_lt 0 (num size j) && not (inside j))
+              ∙ filter_named (λ j. nat_lt 0 (num size j) && not (mark_at c.deref-8.result.now j)) (λ j. nat_lt 0 (num size j)
+              && not (inside j))
               (list_at variables i) (λ j h. ap (λ b. nat_lt 0 (num size j) && not b) (rows_marked j));
         };
         elements = λ i h. c.shorten.ensures.kept_elements i ∙ cond-false (has front i) _ _ h;

@@ -1,5 +1,5 @@
 use Rattle.std.proofs.Common.{ℕ, Option, Some, None, List, ◌≡◌, ◌<◌, ◌∙◌, ap, refl, arith, length, get_or, set, length-set}
-use Rattle.amd_plain.specs.Views.{at, some_at}
+use Rattle.amd_plain.specs.Views.{mark_at, some_at}
 use Rattle.amd_model.specs.Quotient.{has}
 use Rattle.amd_plain.proofs.Kept.{set_passing, set_none}
 use Rattle.amd_plain.proofs.absorption.adopt.Goals as goal
@@ -19,12 +19,13 @@ loop-e-preserved g c =
     elim c.if-taken-e.branch [
       | then-taken-e w ↦ (let e : c.if-taken-e.parent.items ≡ set now (get_or list k 0) written = ap (λ v. v.items) w.parent-is in record {
         size = rw e (length-set now (get_or list k 0) written ∙ was.size);
-        adopted = rw e (set_passing (λ e. written) (some_at c.args.parent.now.items) (at c.args.taken.now) list k now None written here
+        adopted = rw e (set_passing (λ e. written) (some_at c.args.parent.now.items) (mark_at c.args.taken.now) list k now None written here
             small w.if-taken-e.true refl was.adopted);
       })
       | else-taken-e w ↦ record {
         size = ap (λ v. length v.items) w.parent-is ∙ was.size;
-        adopted = rw w.parent-is (set_none (λ e. written) (some_at c.args.parent.now.items) (at c.args.taken.now) list k (some_at now) here
+        adopted = rw w.parent-is (set_none (λ e. written) (some_at c.args.parent.now.items) (mark_at c.args.taken.now)
+            list k (some_at now) here
             w.if-taken-e.false was.adopted);
       }
     ]

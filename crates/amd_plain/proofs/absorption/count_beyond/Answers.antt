@@ -3,7 +3,7 @@ use Rattle.std.proofs.lemmas.Bool.{cond-true}
 use Rattle.std.proofs.lemmas.List.{take_all}
 use Rattle.amd_model.specs.Quotient.{has}
 use Rattle.amd_plain.specs.Views.{num, list_at, Below}
-use Rattle.amd_plain.specs.Rounds.{less, rows_left}
+use Rattle.amd_plain.specs.Rounds.{less, plain_rows_left}
 use Rattle.amd_plain.proofs.ListPlaces.{list_read, list_below}
 use Rattle.amd_round_laws.proofs.Lists.Taken.{left_next}
 use Rattle.amd_plain.proofs.absorption.count_beyond.Goals as goal
@@ -25,7 +25,7 @@ loop-i-preserved g c =
     record {
       size = c.take_off.ensures.size ∙ was.size;
       counted = λ e h. c.take_off.ensures.taken e ∙ ap (λ m. less e (num size x) m c.deref.result.now) (was.counted e h)
-          ∙ ap (less e (num size x) (rows_left c.args.block.now c.args.whole.now size elements (take k front) e)) list
+          ∙ ap (less e (num size x) (plain_rows_left c.args.block.now c.args.whole.now size elements (take k front) e)) list
           ∙ sym (left_next (num c.args.block.now) (num c.args.whole.now) (num size) (list_at elements) front e k here);
     }
 
@@ -41,7 +41,7 @@ take_off-requires g c =
 
 pub returns-clause-counted : goal.returns-clause-counted
 returns-clause-counted g c = λ e h. c.loop-i.invariant.counted e h
-    ∙ ap (λ xs. rows_left c.args.block.now c.args.whole.now c.args.size.now c.args.elements.now.items xs e)
+    ∙ ap (λ xs. plain_rows_left c.args.block.now c.args.whole.now c.args.size.now c.args.elements.now.items xs e)
     (take_all c.loop-i.i-index c.args.front.now c.loop-i-test.false)
 
 pub bounds-size-i : goal.bounds-size-i

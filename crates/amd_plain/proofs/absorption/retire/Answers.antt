@@ -1,6 +1,6 @@
 use Rattle.std.proofs.Common.{ℕ, Bool, Option, Some, None, List, ◌≡◌, ◌<◌, ◌∙◌, ap, refl, sym, arith, length, get_or, set, length-set}
 use Rattle.amd_plain.specs.Views.{num, some_at}
-use Rattle.amd_plain.specs.Rounds.{mass}
+use Rattle.amd_plain.specs.Rounds.{plain_mass}
 use Rattle.amd_model.specs.Quotient.{has}
 use Rattle.amd_plain.proofs.Kept.{set_passing, set_none}
 use Rattle.std.proofs.Common.{◌&&◌, cond}
@@ -19,7 +19,7 @@ loop-i-preserved g c =
     let size : List ℕ = c.loop-i.size.items in let link : List (Option ℕ) = c.loop-i.link.items in
     let small : x < length size = (let a = was.size in omega (arith, range, a)) in
     let room : x < length link = (let a = was.link in let b = c.requires.lengths in omega (arith, range, a, b)) in
-    let none : ℕ → Bool = mass c.args.lists.now.elements.items c.args.lists.now.variables.items in
+    let none : ℕ → Bool = plain_mass c.args.lists.now.elements.items c.args.lists.now.variables.items in
     let written : Option ℕ = Some c.args.pivot in
     elim c.if-keeps_nothing.branch [
       | then-keeps_nothing w ↦ (
@@ -45,10 +45,11 @@ loop-i-preserved g c =
 
 pub returns-clause-sizes : goal.returns-clause-sizes
 returns-clause-sizes g c x = c.loop-i.invariant.sizes x
-    ∙ ap (λ xs. cond (has xs x && mass c.args.lists.now.elements.items c.args.lists.now.variables.items x) 0 (num c.args.size.now.items x))
+    ∙ ap (λ xs. cond (has xs x && plain_mass c.args.lists.now.elements.items c.args.lists.now.variables.items x)
+    0 (num c.args.size.now.items x))
     (take_all c.loop-i.i-index c.args.front.now c.loop-i-test.false)
 
 pub returns-clause-links : goal.returns-clause-links
 returns-clause-links g c x = c.loop-i.invariant.links x
-    ∙ ap (λ xs. cond (has xs x && mass c.args.lists.now.elements.items c.args.lists.now.variables.items x) (Some c.args.pivot)
+    ∙ ap (λ xs. cond (has xs x && plain_mass c.args.lists.now.elements.items c.args.lists.now.variables.items x) (Some c.args.pivot)
     (some_at c.args.link.now.items x)) (take_all c.loop-i.i-index c.args.front.now c.loop-i-test.false)

@@ -1,5 +1,5 @@
 use Rattle.std.proofs.Common.{ℕ, Bool, List, ◌<◌, refl, arith, length, get_or, not, ◌&&◌, nat_lt}
-use Rattle.amd_plain.specs.Views.{num, at}
+use Rattle.amd_plain.specs.Views.{num, mark_at}
 use Rattle.amd_model.specs.Quotient.{has}
 use Rattle.amd_plain.proofs.Kept.{keep_next, below_next}
 use Rattle.std.proofs.Common.{filter}
@@ -25,8 +25,8 @@ loop-i-preserved g c =
     let elements = c.loop-i.lists.elements.items in let variables = c.loop-i.lists.variables.items in
     let small : x < length elements = (let a = was.elements.0 in omega (arith, range, a)) in
     let room : x < length variables = (let a = was.variables.0 in omega (arith, range, a)) in
-    let left : ℕ → Bool = λ e. not (at c.args.taken.now e) in
-    let outer : ℕ → Bool = λ j. nat_lt 0 (num c.args.size.now j) && not (at c.args.marks.now j) in
+    let left : ℕ → Bool = λ e. not (mark_at c.args.taken.now e) in
+    let outer : ℕ → Bool = λ j. nat_lt 0 (num c.args.size.now j) && not (mark_at c.args.marks.now j) in
     record {
       kept_elements = keep_next left c.args.lists.now.elements.items elements front k c.index_mut.result.now c.keep_elements.new.list here
           c.requires.once small c.index_mut.ensures.value c.keep_elements.ensures was.kept_elements;
@@ -42,12 +42,12 @@ loop-i-preserved g c =
 
 pub returns-clause-kept_variables : goal.returns-clause-kept_variables
 returns-clause-kept_variables g c = changed_all c.args.front.now c.loop-i.i-index c.loop-i-test.false
-    (λ i. filter (λ j. nat_lt 0 (num c.args.size.now j) && not (at c.args.marks.now j)) (list_at c.args.lists.now.variables.items i))
+    (λ i. filter (λ j. nat_lt 0 (num c.args.size.now j) && not (mark_at c.args.marks.now j)) (list_at c.args.lists.now.variables.items i))
     (list_at c.args.lists.now.variables.items) (list_at c.loop-i.lists.variables.items) c.loop-i.invariant.kept_variables
 
 pub returns-clause-kept_elements : goal.returns-clause-kept_elements
 returns-clause-kept_elements g c = changed_all c.args.front.now c.loop-i.i-index c.loop-i-test.false
-    (λ i. filter (λ e. not (at c.args.taken.now e)) (list_at c.args.lists.now.elements.items i))
+    (λ i. filter (λ e. not (mark_at c.args.taken.now e)) (list_at c.args.lists.now.elements.items i))
     (list_at c.args.lists.now.elements.items) (list_at c.loop-i.lists.elements.items) c.loop-i.invariant.kept_elements
 
 pub returns-clause-variables : goal.returns-clause-variables

@@ -1,6 +1,6 @@
 use Rattle.std.proofs.Common.{ℕ, Bool, false, List, ◌≡◌, ◌<◌, ◌∙◌, ap, refl, sym, arith, length, get_or, set, length-set, not, ◌&&◌, nat_eq}
 use Rattle.std.proofs.lemmas.Bool.{and_left, not_from_false, not_from_true}
-use Rattle.amd_plain.specs.Views.{at, num}
+use Rattle.amd_plain.specs.Views.{mark_at, num}
 use Rattle.amd_model.specs.Quotient.{has}
 use Rattle.amd_plain.proofs.Kept.{set_passing, set_none}
 use Rattle.std.proofs.Common.{true, cond}
@@ -29,12 +29,12 @@ loop-e-preserved g c =
       | then-not-beyond-e w ↦ (let e : c.if-not-beyond-e.taken.items ≡ set now (get_or list k 0) false = ap (λ v. v.items) w.taken-is in
           record {
             size = rw e (length-set now (get_or list k 0) false ∙ was.size);
-            spared = rw e (set_passing (λ e. false) (at c.args.taken.now.items) (λ e. not (whole e)) list k now false false here small
+            spared = rw e (set_passing (λ e. false) (mark_at c.args.taken.now.items) (λ e. not (whole e)) list k now false false here small
                 (not_from_false (whole (get_or list k 0)) (value ∙ w.if-not-beyond-e.true)) refl was.spared);
           })
       | else-not-beyond-e w ↦ record {
         size = ap (λ v. length v.items) w.taken-is ∙ was.size;
-        spared = rw w.taken-is (set_none (λ e. false) (at c.args.taken.now.items) (λ e. not (whole e)) list k (at now) here
+        spared = rw w.taken-is (set_none (λ e. false) (mark_at c.args.taken.now.items) (λ e. not (whole e)) list k (mark_at now) here
             (not_from_true (whole (get_or list k 0)) (value ∙ w.if-not-beyond-e.false)) was.spared);
       }
     ]
@@ -46,6 +46,6 @@ cleared_where false was = sym (and-true was)
 
 pub returns-clause-spared : goal.returns-clause-spared
 returns-clause-spared g c e = let kept : Bool = not (c.args.aggressive && nat_eq (num c.args.beyond.now e) 0) in
-    c.loop-e.invariant.spared e ∙ ap (λ xs. cond (has xs e && kept) false (at c.args.taken.now.items e))
+    c.loop-e.invariant.spared e ∙ ap (λ xs. cond (has xs e && kept) false (mark_at c.args.taken.now.items e))
     (take_all c.loop-e.e-index c.args.touched.now c.loop-e-test.false)
-    ∙ cleared_where (has c.args.touched.now e && kept) (at c.args.taken.now.items e)
+    ∙ cleared_where (has c.args.touched.now e && kept) (mark_at c.args.taken.now.items e)

@@ -8,7 +8,7 @@ use Rattle.amd_model.proofs.States.EndState.{at_the_end}
 use Rattle.amd_types.specs.declared.amd.Status.TheVariants.{OutOfMemory}
 use Rattle.amd_plain.specs.Views.{list_at, num, some_at}
 use Rattle.amd_plain.specs.Starts.{ListsRun}
-use Rattle.amd_postorder.specs.Trees.{IsByPlace, IsForest, IsPostorderOf, tree_of}
+use Rattle.amd_postorder.specs.Trees.{IsByPlace, IsElementForest, IsPostorderOf, tree_of}
 use Rattle.amd_plain.proofs.ListingLaw.{if_err, if_same_err, same_last, none_live, parent_small, block_small, front_small, elements}
 use Rattle.amd_plain.proofs.ListingLaw.{forest_made, inside, listing_below, listed}
 use Rattle.amd_plain.proofs.blocks.listing.Goals as goal
@@ -121,7 +121,7 @@ postorder-requires-clause-forest g c =
     (record { room = c.in_ok-nv.ensures.size; each = c.in_ok-nv.ensures.numbers })
     (record { room = c.in_ok-f_size.ensures.size; each = c.in_ok-f_size.ensures.numbers })) in
     let size : c.len.result ≡ gr.size = c.len.ensures ∙ w.size.ok.0 ∙ st.sized.size in
-    subst (λ n. IsForest n links nv f_size) (sym size) (forest_made gr dense w t s st end links nv f_size a)
+    subst (λ n. IsElementForest n links nv f_size) (sym size) (forest_made gr dense w t s st end links nv f_size a)
 
 -- src/blocks.rt:228:18
 pub postorder-requires-clause-numbers : goal.postorder-requires-clause-numbers

@@ -4,7 +4,7 @@ use Rattle.std.proofs.lemmas.List.{get_or_read, get_or-map, length-set}
 use Rattle.amd_model.specs.State.{block_at}
 use Rattle.amd_model.proofs.Counting.Places.{below_none}
 use Rattle.amd_plain.specs.Views.{some_at, list_at}
-use Rattle.amd_plain.specs.Keeps.{LinksLead}
+use Rattle.amd_plain.specs.Keeps.{PlainLinksLead}
 use Rattle.amd_plain.proofs.RowLinks.{none_as_before}
 use Rattle.amd_plain.proofs.ElementRows.{rows_skip, rows_take, linked_to, unlinked}
 use Rattle.amd_plain.proofs.blocks.rows_of_elements.Goals as goal
@@ -41,7 +41,7 @@ rows-preserved g c =
             size = ap (λ l. length l.items) w.link-is ∙ made.size ∙ i.size;
             room = ap (λ r. length r.items) w.rows-is ∙ length-set rows e new ∙ i.room;
             alone = λ u. ap (λ l. is_none (some_at l.items u)) w.link-is ∙ made.alone u ∙ i.alone u;
-            led = λ home led. subst (λ l. LinksLead l.items home) (sym w.link-is) (made.led home (i.led home led));
+            led = λ home led. subst (λ l. PlainLinksLead l.items home) (sym w.link-is) (made.led home (i.led home led));
             rows = λ home led over f l. ap (λ r. list_at r.items f) w.rows-is
                 ∙ rows_take links home (i.led home led) over v rows e on.0 new within (read ∙ on.1) end (made.home home (i.led home led)) is
                 f (i.rows home led over f l);
@@ -52,7 +52,7 @@ rows-preserved g c =
             size = ap (λ l. length l.items) w.link-is ∙ i.size;
             room = ap (λ r. length r.items) w.rows-is ∙ i.room;
             alone = λ u. ap (λ l. is_none (some_at l.items u)) w.link-is ∙ i.alone u;
-            led = λ home led. subst (λ l. LinksLead l.items home) (sym w.link-is) (i.led home led);
+            led = λ home led. subst (λ l. PlainLinksLead l.items home) (sym w.link-is) (i.led home led);
             rows = λ home led over f l. ap (λ r. list_at r.items f) w.rows-is ∙ i.rows home led over f l ∙
                 sym (rows_skip links home (i.led home led) over v off f);
           })

@@ -5,7 +5,7 @@ use Rattle.std.proofs.lemmas.List.{length-set, get_or-set_same, get_or-set_other
 use Rattle.amd_model.specs.Figures.{cut}
 use Rattle.amd_model.specs.Quotient.{has}
 use Rattle.amd_plain.specs.Views.{num, list_at}
-use Rattle.amd_plain.specs.Rounds.{new_bound}
+use Rattle.amd_plain.specs.Rounds.{plain_bound}
 use Rattle.amd_round_laws.proofs.Lists.Cuts.{cut_more}
 use Rattle.amd_plain.proofs.Kept.{changed_more, changed_none, unchanged}
 use Rattle.amd_round_laws.proofs.Lists.Named.{has_at}
@@ -17,7 +17,7 @@ use Rattle.amd_plain.proofs.bounds.renew_bounds.Goals as goal
 
 pub loop-i-init : goal.loop-i-init
 loop-i-init g c = record {
-  bounds = changed_none c.args.made.now (new_bound c.args.border c.args.live c.args.lists.now c.args.beyond.now c.args.size.now
+  bounds = changed_none c.args.made.now (plain_bound c.args.border c.args.live c.args.lists.now c.args.beyond.now c.args.size.now
       c.args.bound.now.items) (num c.args.bound.now.items);
   room = Rattle.std.proofs.Common.refl;
 }
@@ -32,7 +32,7 @@ overflow_add-near g c =
     let i : ℕ = get_or made k 0 in
     let named : has made i ≡ true = has_at made k 0 c.loop-i-test.true in
     let old = c.args.bound.now.items in
-    let new = new_bound c.args.border c.args.live c.args.lists.now c.args.beyond.now c.args.size.now old in
+    let new = plain_bound c.args.border c.args.live c.args.lists.now c.args.beyond.now c.args.size.now old in
     let room = c.loop-i.invariant.room in
     let small = c.requires.range k 0 c.loop-i-test.true in
     let lengths = c.requires.lengths.1 in
@@ -57,7 +57,7 @@ loop-i-preserved g c =
     let lists = c.args.lists.now in
     let old = c.args.bound.now.items in
     let now = c.loop-i.bound.items in
-    let new = new_bound c.args.border c.args.live lists beyond size old in
+    let new = plain_bound c.args.border c.args.live lists beyond size old in
     let room = c.loop-i.invariant.room in
     let small = c.requires.range k 0 c.loop-i-test.true in
     let lengths = c.requires.lengths.1 in
@@ -101,7 +101,7 @@ bounds-size-i-in-loop-i g c = c.requires.range c.loop-i.i-index 0 c.loop-i-test.
 
 pub returns-clause-bounds : goal.returns-clause-bounds
 returns-clause-bounds g c = changed_all c.args.made.now c.loop-i.i-index c.loop-i-test.false
-    (new_bound c.args.border c.args.live c.args.lists.now c.args.beyond.now c.args.size.now c.args.bound.now.items)
+    (plain_bound c.args.border c.args.live c.args.lists.now c.args.beyond.now c.args.size.now c.args.bound.now.items)
     (num c.args.bound.now.items) (num c.loop-i.bound.items) c.loop-i.invariant.bounds
 
 pub sum_at-requires : goal.sum_at-requires

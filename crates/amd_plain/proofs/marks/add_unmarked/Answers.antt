@@ -2,7 +2,7 @@ use Rattle.std.proofs.Common.{ℕ, List, Bool, true, false, [], ◌∷◌, ◌++
 use Rattle.std.proofs.Common.{length-set, get_or, drop, lt_of_lt_of_le, le_of_eq}
 use Rattle.std.proofs.lemmas.List.{at_drop_more, at_drop_all, get_or_read}
 use Rattle.amd_model.specs.Quotient.{has, add_new}
-use Rattle.amd_plain.specs.Views.{at}
+use Rattle.amd_plain.specs.Views.{mark_at}
 use Rattle.amd_plain.proofs.MarkLists.{marks_next, marks_end, marks_old, marked_passed, unmarked_added, known_added}
 use Rattle.amd_plain.proofs.marks.add_unmarked.Goals as goal
 use Rattle.amd_plain.proofs.marks.add_unmarked.Goals.{then-not-index+in_ok-push, else-not-index}
@@ -20,11 +20,11 @@ loop-j-preserved g c =
     let size = was.size in
     let small : row < length marks = lt_of_lt_of_le (c.requires.range i 0 here) (le_of_eq (sym size)) in
     let read = get_or_read marks row _ small c.index.ensures false in
-    let list_now = sym (at_drop_more (λ xs. fold (add_new (at marks)) out xs) list i 0 here) ∙ was.list in
-    let marked_now = λ (j : ℕ). sym (at_drop_more (λ xs. at marks j || has xs j) list i 0 here) ∙ was.marked j in
+    let list_now = sym (at_drop_more (λ xs. fold (add_new (mark_at marks)) out xs) list i 0 here) ∙ was.list in
+    let marked_now = λ (j : ℕ). sym (at_drop_more (λ xs. mark_at marks j || has xs j) list i 0 here) ∙ was.marked j in
     elim c.if-not-index.branch [
       | then-not-index+in_ok-push w ↦ (
-          let fresh : at marks row ≡ false = sym read ∙ w.if-not-index.true in
+          let fresh : mark_at marks row ≡ false = sym read ∙ w.if-not-index.true in
           let items : c.if-not-index.out.items ≡ out ++ row ∷ [] = ap (λ v. v.items) w.out-is ∙ w.in_ok-push.ensures.items in
           let set_now : c.if-not-index.marks.items ≡ set marks row true = ap (λ v. v.items) w.marks-is in
           rw (set_now, items) record {
@@ -34,7 +34,7 @@ loop-j-preserved g c =
             marked = λ j. marks_next marks row j rest small ∙ marked_now j;
           })
       | else-not-index w ↦ (
-          let old : at marks row ≡ true = sym read ∙ w.if-not-index.false in
+          let old : mark_at marks row ≡ true = sym read ∙ w.if-not-index.false in
           rw (w.marks-is, w.out-is) record {
             size = size;
             known = was.known;
@@ -45,7 +45,7 @@ loop-j-preserved g c =
 
 pub returns-clause-marked : goal.returns-clause-marked
 returns-clause-marked g c j =
-    sym (at_drop_all (λ xs. at c.loop-j.marks.items j || has xs j) c.args.list.now c.loop-j.j-index c.loop-j-test.false ∙
+    sym (at_drop_all (λ xs. mark_at c.loop-j.marks.items j || has xs j) c.args.list.now c.loop-j.j-index c.loop-j-test.false ∙
     marks_end c.loop-j.marks.items j) ∙ c.loop-j.invariant.marked j
 
 pub returns-in_err-push-clause-size : goal.returns-in_err-push-clause-size
@@ -54,5 +54,5 @@ returns-in_err-push-clause-size g c =
 
 pub returns-clause-list : goal.returns-clause-list
 returns-clause-list g c =
-    sym (at_drop_all (λ xs. fold (add_new (at c.loop-j.marks.items)) c.loop-j.out.items xs) c.args.list.now
+    sym (at_drop_all (λ xs. fold (add_new (mark_at c.loop-j.marks.items)) c.loop-j.out.items xs) c.args.list.now
     c.loop-j.j-index c.loop-j-test.false) ∙ c.loop-j.invariant.list

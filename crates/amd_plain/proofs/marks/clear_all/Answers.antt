@@ -1,7 +1,7 @@
 use Rattle.std.proofs.Common.{ℕ, List, false, ◌<◌, ◌+◌, ◌∙◌, sym, length, length-set, get_or, drop, ◌&&◌, not}
 use Rattle.std.proofs.lemmas.List.{at_drop_more, at_drop_all}
 use Rattle.amd_model.specs.Quotient.{has}
-use Rattle.amd_plain.specs.Views.{at}
+use Rattle.amd_plain.specs.Views.{mark_at}
 use Rattle.amd_plain.proofs.MarkLists.{clears_next, clears_end}
 use Rattle.std.proofs.Common.{lt_of_lt_of_le, le_of_eq}
 use Rattle.amd_plain.proofs.marks.clear_all.Goals as goal
@@ -17,10 +17,10 @@ loop-j-preserved g c =
     record {
       size = length-set marks (get_or list i 0) false ∙ size;
       cleared = λ j. clears_next marks (get_or list i 0) j (drop (i + 1) list) small ∙
-          sym (at_drop_more (λ xs. at c.loop-j.marks.items j && not (has xs j)) list i 0 here) ∙ c.loop-j.invariant.cleared j;
+          sym (at_drop_more (λ xs. mark_at c.loop-j.marks.items j && not (has xs j)) list i 0 here) ∙ c.loop-j.invariant.cleared j;
     }
 
 pub returns-clause-cleared : goal.returns-clause-cleared
 returns-clause-cleared g c j =
-    sym (at_drop_all (λ xs. at c.loop-j.marks.items j && not (has xs j)) c.args.list.now c.loop-j.j-index c.loop-j-test.false ∙
+    sym (at_drop_all (λ xs. mark_at c.loop-j.marks.items j && not (has xs j)) c.args.list.now c.loop-j.j-index c.loop-j-test.false ∙
     clears_end c.loop-j.marks.items j) ∙ c.loop-j.invariant.cleared j

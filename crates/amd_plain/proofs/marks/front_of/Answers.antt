@@ -4,7 +4,7 @@ use Rattle.std.specs.Prelude.{◌==◌}
 use Rattle.std.proofs.lemmas.List.{at_drop_more, at_drop_all}
 use Rattle.std.proofs.lemmas.List.Sums.{fold-append}
 use Rattle.amd_model.specs.Quotient.{has, add_new}
-use Rattle.amd_plain.specs.Views.{at, list_at, live_of}
+use Rattle.amd_plain.specs.Views.{mark_at, list_at, plain_live}
 use Rattle.amd_plain.proofs.ListPlaces.{list_read, list_below}
 use Rattle.amd_plain.proofs.MarkLists.{marks_one, gathered_list, gathered_marks, gathered_next}
 use Rattle.std.proofs.Common.{lt_of_lt_of_le, le_of_eq, refl}
@@ -18,7 +18,7 @@ elements-init g c =
     let pivot : ℕ = c.args.pivot in
     let lists = c.args.lists.now in
     let skip = λ (x : ℕ). x == pivot in
-    let f = λ (e : ℕ). live_of c.args.size.now (list_at lists.members.items e) in
+    let f = λ (e : ℕ). plain_live c.args.size.now (list_at lists.members.items e) in
     let empty = c.new-front.ensures.items in
     let small : pivot < length marks = omega (arith, c.requires.pivot, c.requires.size) in
     record {
@@ -33,7 +33,7 @@ elements-preserved g c =
     let pivot : ℕ = c.args.pivot in
     let sizes : List ℕ = c.args.size.now in
     let skip = λ (x : ℕ). x == pivot in
-    let f = λ (e : ℕ). live_of sizes (list_at lists.members.items e) in
+    let f = λ (e : ℕ). plain_live sizes (list_at lists.members.items e) in
     let i : ℕ = c.elements.e-index in
     let out : List ℕ = c.elements.front.items in
     let grown : List ℕ = c.add_classes.new.out.items in
@@ -53,15 +53,16 @@ elements-preserved g c =
     let list : list_at lists.members.items e ≡ c.deref.result.now
     = ap (list_at lists.members.items) (sym same) ∙ list_read lists.members.items e_now c.index-in-elements.result.now small_now
     c.index-in-elements.ensures ∙ sym c.deref.ensures.value in
-    let grows : grown ≡ fold (add_new (at c.elements.marks.items)) out (f e) = c.in_ok-add_classes.ensures.list ∙
-    ap (λ xs. fold (add_new (at c.elements.marks.items)) out (live_of sizes xs)) (sym list) in
+    let grows : grown ≡ fold (add_new (mark_at c.elements.marks.items)) out (f e) = c.in_ok-add_classes.ensures.list ∙
+    ap (λ xs. fold (add_new (mark_at c.elements.marks.items)) out (plain_live sizes xs)) (sym list) in
     record {
       size = c.in_ok-add_classes.ensures.size ∙ was.size;
       list = gathered_next skip f out grown (drop (i + 1) elements) e
           (gathered_list skip c.elements.marks.items out grown (f e) was.marked grows)
           ∙ sym (at_drop_more (λ es. fold (add_new skip) out (flat_map f es)) elements i 0 here) ∙ was.list;
       marked = gathered_marks skip c.elements.marks.items out grown (f e) was.marked grows c.add_classes.new.marks.items
-          (λ j. c.in_ok-add_classes.ensures.marked j ∙ ap (λ xs. at c.elements.marks.items j || has (live_of sizes xs) j) (sym list));
+          (λ j. c.in_ok-add_classes.ensures.marked j ∙ ap (λ xs. mark_at c.elements.marks.items j || has (plain_live sizes xs) j)
+          (sym list));
     }
 
 pub returns-clause-list : goal.returns-clause-list
@@ -70,7 +71,7 @@ returns-clause-list g c =
     let pivot : ℕ = c.args.pivot in
     let sizes : List ℕ = c.args.size.now in
     let skip = λ (x : ℕ). x == pivot in
-    let f = λ (e : ℕ). live_of sizes (list_at lists.members.items e) in
+    let f = λ (e : ℕ). plain_live sizes (list_at lists.members.items e) in
     let i : ℕ = c.elements.e-index in
     let out : List ℕ = c.elements.front.items in
     let was = c.elements.invariant in
@@ -85,11 +86,12 @@ returns-clause-list g c =
     let past : length elements ≤ i = (let t = c.elements-test.false in let l = ap length those in omega (arith, t, l)) in
     let found : out ≡ fold (add_new skip) [] (flat_map f elements) =
     sym (at_drop_all (λ es. fold (add_new skip) out (flat_map f es)) elements i past) ∙ was.list in
-    let grows = c.in_ok-add_classes-2.ensures.list ∙ ap (λ xs. fold (add_new (at c.elements.marks.items)) out (live_of sizes xs)) (sym list)
+    let grows = c.in_ok-add_classes-2.ensures.list ∙ ap (λ xs. fold (add_new (mark_at c.elements.marks.items)) out (plain_live sizes xs))
+    (sym list)
     in
-    gathered_list skip c.elements.marks.items out c.add_classes-2.new.out.items (live_of sizes variables) was.marked grows
-    ∙ ap (λ o. fold (add_new skip) o (live_of sizes variables)) found ∙
-    sym (fold-append (add_new skip) [] (flat_map f elements) (live_of sizes variables))
+    gathered_list skip c.elements.marks.items out c.add_classes-2.new.out.items (plain_live sizes variables) was.marked grows
+    ∙ ap (λ o. fold (add_new skip) o (plain_live sizes variables)) found ∙
+    sym (fold-append (add_new skip) [] (flat_map f elements) (plain_live sizes variables))
 
 pub returns-clause-marked : goal.returns-clause-marked
 returns-clause-marked g c =

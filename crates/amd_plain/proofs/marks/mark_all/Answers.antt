@@ -1,7 +1,7 @@
 use Rattle.std.proofs.Common.{ℕ, List, true, ◌<◌, ◌+◌, ◌∙◌, sym, length, length-set, get_or, drop, ◌||◌, lt_of_lt_of_le, le_of_eq}
 use Rattle.std.proofs.lemmas.List.{at_drop_more, at_drop_all}
 use Rattle.amd_model.specs.Quotient.{has}
-use Rattle.amd_plain.specs.Views.{at}
+use Rattle.amd_plain.specs.Views.{mark_at}
 use Rattle.amd_plain.proofs.MarkLists.{marks_next, marks_end}
 use Rattle.amd_plain.proofs.marks.mark_all.Goals as goal
 
@@ -16,10 +16,10 @@ loop-j-preserved g c =
     record {
       size = length-set marks (get_or list i 0) true ∙ size;
       marked = λ j. marks_next marks (get_or list i 0) j (drop (i + 1) list) small ∙
-          sym (at_drop_more (λ xs. at c.loop-j.marks.items j || has xs j) list i 0 here) ∙ c.loop-j.invariant.marked j;
+          sym (at_drop_more (λ xs. mark_at c.loop-j.marks.items j || has xs j) list i 0 here) ∙ c.loop-j.invariant.marked j;
     }
 
 pub returns-clause-marked : goal.returns-clause-marked
 returns-clause-marked g c j =
-    sym (at_drop_all (λ xs. at c.loop-j.marks.items j || has xs j) c.args.list.now c.loop-j.j-index c.loop-j-test.false ∙
+    sym (at_drop_all (λ xs. mark_at c.loop-j.marks.items j || has xs j) c.args.list.now c.loop-j.j-index c.loop-j-test.false ∙
     marks_end c.loop-j.marks.items j) ∙ c.loop-j.invariant.marked j

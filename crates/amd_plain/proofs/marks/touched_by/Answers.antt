@@ -1,7 +1,7 @@
 use Rattle.std.proofs.Common.{ℕ, List, fold, flat_map, ◌≡◌, ◌<◌, ◌+◌, ◌∙◌, ◌||◌, sym, ap, length, get_or, drop}
 use Rattle.std.proofs.lemmas.List.{at_drop_more}
 use Rattle.amd_model.specs.Quotient.{has, add_new}
-use Rattle.amd_plain.specs.Views.{at, list_at}
+use Rattle.amd_plain.specs.Views.{mark_at, list_at}
 use Rattle.amd_plain.proofs.ListPlaces.{list_read}
 use Rattle.amd_plain.proofs.MarkLists.{marks_list, gathered_list, gathered_marks, gathered_next}
 use Rattle.std.proofs.Common.{lt_of_lt_of_le, le_of_eq, refl}
@@ -22,7 +22,7 @@ front-init g c =
       size = c.mark_all.ensures.size;
       list = ap (λ o. fold (add_new (has own)) o (flat_map (list_at lists) c.args.front.now)) c.new-out.ensures.items;
       marked = marks_list c.mark_all.new.marks.items own c.new-out.result.items marks c.requires.clear c.new-out.ensures.items
-          (λ j. c.mark_all.ensures.marked j ∙ ap (λ xs. at marks j || has xs j) (sym those));
+          (λ j. c.mark_all.ensures.marked j ∙ ap (λ xs. mark_at marks j || has xs j) (sym those));
     }
 
 pub front-preserved : goal.front-preserved
@@ -40,15 +40,15 @@ front-preserved g c =
     let small : e < length lists = lt_of_lt_of_le (c.requires.range i 0 here) (le_of_eq (sym c.requires.elements.0)) in
     let list : list_at lists e ≡ c.deref-in-front.result.now =
     list_read lists e c.index-in-front.result.now small c.index-in-front.ensures ∙ sym c.deref-in-front.ensures.value in
-    let grows : grown ≡ fold (add_new (at c.front.marks.items)) out (list_at lists e) = c.in_ok-add_unmarked.ensures.list ∙
-    ap (fold (add_new (at c.front.marks.items)) out) (sym list) in
+    let grows : grown ≡ fold (add_new (mark_at c.front.marks.items)) out (list_at lists e) = c.in_ok-add_unmarked.ensures.list ∙
+    ap (fold (add_new (mark_at c.front.marks.items)) out) (sym list) in
     record {
       size = c.in_ok-add_unmarked.ensures.size ∙ was.size;
       list = gathered_next skip (list_at lists) out grown (drop (i + 1) front) e
           (gathered_list skip c.front.marks.items out grown (list_at lists e) was.marked grows)
           ∙ sym (at_drop_more (λ es. fold (add_new skip) out (flat_map (list_at lists) es)) front i 0 here) ∙ was.list;
       marked = gathered_marks skip c.front.marks.items out grown (list_at lists e) was.marked grows c.add_unmarked.new.marks.items
-          (λ j. c.in_ok-add_unmarked.ensures.marked j ∙ ap (λ xs. at c.front.marks.items j || has xs j) (sym list));
+          (λ j. c.in_ok-add_unmarked.ensures.marked j ∙ ap (λ xs. mark_at c.front.marks.items j || has xs j) (sym list));
     }
 
 pub add_unmarked-requires-clause-range : goal.add_unmarked-requires-clause-range

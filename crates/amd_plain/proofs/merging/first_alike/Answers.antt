@@ -3,7 +3,7 @@ use Rattle.std.proofs.lemmas.Bool.{and_from, and_left, and_right, false≢true}
 use Rattle.std.proofs.Math.Bool.{and_assoc}
 use Rattle.amd_model.specs.Quotient.{has, each, Once}
 use Rattle.amd_plain.specs.Views.{list_at}
-use Rattle.amd_plain.specs.Rounds.{alike_in}
+use Rattle.amd_plain.specs.Rounds.{plain_alike}
 use Rattle.amd_round_laws.proofs.Lists.Named.{has_at, more_gives}
 use Rattle.amd_plain.proofs.ListPlaces.{list_deref}
 use Rattle.std.proofs.Common.{length, lt_of_lt_of_le, le_of_eq}
@@ -18,7 +18,8 @@ abbrev same : List ℕ → List ℕ → Bool
 same xs ys = each (has ys) xs && each (has xs) ys
 
 two_alike : {A : Type 0} (elements variables : List (Vec ℕ A)) (i r : ℕ) →
-    alike_in elements variables i r ≡ (same (list_at elements r) (list_at elements i) && same (list_at variables r) (list_at variables i))
+    plain_alike elements variables i r ≡ (same (list_at elements r) (list_at elements i) && same (list_at variables r)
+    (list_at variables i))
 two_alike elements variables i r = and_assoc (same (list_at elements r) (list_at elements i))
     (each (has (list_at variables i)) (list_at variables r)) (each (has (list_at variables r)) (list_at variables i))
 
@@ -91,7 +92,7 @@ loop-r-preserved g c =
     let small = c.requires.range k 0 c.loop-r-test.true in
     let er = list_deref es r c.index.result.now _ small c.index.ensures c.deref.ensures.value in
     let ei = list_deref es i c.index-in-loop-r.result.now _ row c.index-in-loop-r.ensures c.deref-in-loop-r.ensures.value in
-    let unlike : alike_in es vs i r ≡ false = two_alike es vs i r ∙ elim c.else-same_list.branch [
+    let unlike : plain_alike es vs i r ≡ false = two_alike es vs i r ∙ elim c.else-same_list.branch [
       | else-same_list-via-then-same_list+else-same_list-2 w ↦ (
           let vr = list_deref vs r w.index-then-same_list.result.now _
           (lt_of_lt_of_le small (le_of_eq (sym size))) w.index-then-same_list.ensures
@@ -106,7 +107,7 @@ loop-r-preserved g c =
     ] in
     λ x h. elim (more_gives group k 0 x c.loop-r-test.true h) [
       | inl q ↦ c.loop-r.invariant x q
-      | inr q ↦ ap (alike_in es vs i) q ∙ unlike
+      | inr q ↦ ap (plain_alike es vs i) q ∙ unlike
     ]
 
 pub same_list-requires-clause-marked : goal.same_list-requires-clause-marked

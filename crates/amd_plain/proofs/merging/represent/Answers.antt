@@ -9,7 +9,7 @@ use Rattle.amd_plain.proofs.ListPlaces.{list_deref, list_set_same, list_set_othe
 use Rattle.std.proofs.lemmas.List.Elements.{All-push}
 use Rattle.std.proofs.Common.{true, get_or-set_other, lt_of_lt_of_le, le_of_eq, refl}
 use Rattle.amd_plain.specs.Views.{num}
-use Rattle.amd_plain.specs.Rounds.{alike_in}
+use Rattle.amd_plain.specs.Rounds.{plain_alike}
 use Rattle.amd_plain.proofs.ReadLists.{read_below}
 use Rattle.amd_plain.proofs.merging.represent.Goals as goal
 
@@ -85,7 +85,7 @@ returns-in-Some-clause-looked g c =
     inl (
       subst (λ m. has (list_at groups (group_in es vs i)) m ≡ true) (sym same)
           (ap (λ xs. has xs r) (sym read) ∙ c.in-Some.ensures.found.0),
-      subst (λ m. alike_in es vs i m ≡ true) (sym same) c.in-Some.ensures.found.1,
+      subst (λ m. plain_alike es vs i m ≡ true) (sym same) c.in-Some.ensures.found.1,
       λ b. refl,
     )
 

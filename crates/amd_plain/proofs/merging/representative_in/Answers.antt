@@ -3,7 +3,7 @@ use Rattle.std.proofs.lemmas.Bool.{eqb-true, false≢true}
 use Rattle.std.proofs.lemmas.List.{nil_from_length}
 use Rattle.amd_model.specs.Quotient.{has}
 use Rattle.std.proofs.Common.{◌||◌, length, lt_of_lt_of_le, le_of_eq}
-use Rattle.amd_plain.specs.Views.{at}
+use Rattle.amd_plain.specs.Views.{mark_at}
 use Rattle.amd_plain.proofs.ListPlaces.{list_deref}
 use Rattle.amd_plain.proofs.ReadLists.{read_below, cleared_own}
 use Rattle.amd_plain.proofs.merging.representative_in.Goals as goal
@@ -17,7 +17,7 @@ returns-then-is_empty-clause-found g c = λ r h.
 pub first_alike-found-requires-clause-elements : goal.first_alike-found-requires-clause-elements
 first_alike-found-requires-clause-elements g c = (
   ap length c.deref-3.ensures.value ∙ c.mark_all.ensures.size ∙ c.requires.elements.0,
-  λ j. ap (λ l. at l j) c.deref-3.ensures.value ∙ c.mark_all.ensures.marked j
+  λ j. ap (λ l. mark_at l j) c.deref-3.ensures.value ∙ c.mark_all.ensures.marked j
       ∙ ap (λ b. b || has c.deref.result.now j) (c.requires.elements.1 j)
       ∙ ap (λ xs. has xs j) (list_deref c.args.lists.now.elements.items c.args.i c.index.result.now _ c.requires.row c.index.ensures
       c.deref.ensures.value),
@@ -26,7 +26,7 @@ first_alike-found-requires-clause-elements g c = (
 pub first_alike-found-requires-clause-rows : goal.first_alike-found-requires-clause-rows
 first_alike-found-requires-clause-rows g c = (
   ap length c.deref-4.ensures.value ∙ c.mark_all-2.ensures.size ∙ c.requires.rows.0,
-  λ j. ap (λ l. at l j) c.deref-4.ensures.value ∙ c.mark_all-2.ensures.marked j
+  λ j. ap (λ l. mark_at l j) c.deref-4.ensures.value ∙ c.mark_all-2.ensures.marked j
       ∙ ap (λ b. b || has c.deref-2.result.now j) (c.requires.rows.1 j)
       ∙ ap (λ xs. has xs j) (list_deref c.args.lists.now.variables.items c.args.i c.index-2.result.now _
       (lt_of_lt_of_le c.requires.row (le_of_eq (sym c.requires.lists_variables.0))) c.index-2.ensures c.deref-2.ensures.value),
@@ -88,7 +88,7 @@ index-requires-4 g c = lt_of_lt_of_le c.requires.row
 pub returns-clause-elements : goal.returns-clause-elements
 returns-clause-elements g c = (
   c.clear_all.ensures.size ∙ c.mark_all.ensures.size ∙ c.requires.elements.0,
-  λ j. cleared_own j (at c.args.elements.now.items j) (at c.mark_all.new.marks.items j) (at c.clear_all.new.marks.items j)
+  λ j. cleared_own j (mark_at c.args.elements.now.items j) (mark_at c.mark_all.new.marks.items j) (mark_at c.clear_all.new.marks.items j)
       c.deref.result.now c.deref-5.result.now (c.requires.elements.1 j) (c.mark_all.ensures.marked j) (c.clear_all.ensures.cleared j)
       (list_deref c.args.lists.now.elements.items c.args.i c.index.result.now _ c.requires.row c.index.ensures c.deref.ensures.value
       ∙ sym (list_deref c.args.lists.now.elements.items c.args.i c.index-3.result.now _ c.requires.row c.index-3.ensures

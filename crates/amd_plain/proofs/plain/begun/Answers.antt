@@ -1,5 +1,5 @@
 use Rattle.std.proofs.Common.{ℤ, List, map, ap, ◌∙◌}
-use Rattle.amd_plain.specs.Views.{at}
+use Rattle.amd_plain.specs.Views.{mark_at}
 use Rattle.amd_plain.proofs.PlainLaw.{degrees_range, rows_range}
 use Rattle.amd_plain.proofs.plain.begun.Goals as goal
 
@@ -28,6 +28,6 @@ returns g c = record {
   size = c.in_ok-rows.ensures.size;
   lists = c.in_ok-rows.ensures.lists;
   marks = c.deref.result.now;
-  marked = λ i l. ap (λ xs. at xs i) c.deref.ensures.value ∙ c.in_ok-last.ensures.rows i l;
+  marked = λ i l. ap (λ xs. mark_at xs i) c.deref.ensures.value ∙ c.in_ok-last.ensures.rows i l;
   begins = c.in_ok-work.ensures;
 }

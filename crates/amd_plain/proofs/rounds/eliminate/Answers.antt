@@ -3,8 +3,8 @@ use Rattle.amd_model.specs.Run.{last_state}
 use Rattle.amd_model.specs.Quotient.{next}
 use Rattle.amd_model.specs.Ordering.{none}
 use Rattle.amd_model.proofs.Listings.Orderings.{follows_more}
-use Rattle.amd_plain.specs.Keeps.{Stands}
-use Rattle.amd_plain.specs.Views.{view_of}
+use Rattle.amd_plain.specs.Keeps.{PlainStands}
+use Rattle.amd_plain.specs.Views.{plain_view}
 use Rattle.amd_round_laws.proofs.Round.Ended.{no_row_is_live}
 use Rattle.amd_plain.proofs.rounds.eliminate.Goals as goal
 
@@ -25,8 +25,15 @@ rounds-preserved g c =
       rounds = λ gr dense t s st.
           let a = c.rounds.invariant.rounds gr dense t s st in
           let b = step gr dense a.0 (last_state s a.1.0) a.1.2 in
-          let m = follows_more gr aggressive t a.0 s a.1.0 b.1.0 a.1.1 b.0 b.1.1 b.1.2.view.fits in
-          (next aggressive a.0, (a.1.0 ++ b.1.0 ∷ [], m.0, subst (Stands gr dense c.round.new.work (next aggressive a.0)) (sym m.1) b.1.2));
+          let m = follows_more gr aggressive t a.0 s a.1.0 b.1.0 a.1.1 b.0 b.1.1 b.1.2.view.fits in (
+            next aggressive a.0,
+            (
+              a.1.0 ++ b.1.0 ∷ [],
+              m.0,
+              subst (PlainStands gr dense c.round.new.work (next aggressive a.0)) (sym m.1)
+                  b.1.2,
+            ),
+          );
       stands =
           let w = c.rounds.invariant.stands in
           let b = step w.0 w.1 w.2 w.3 w.4 in
@@ -37,5 +44,5 @@ pub returns-clause-rounds : goal.returns-clause-rounds
 returns-clause-rounds g c = c.rounds.invariant.rounds
 
 pub returns-clause-end : goal.returns-clause-end
-returns-clause-end g c = λ gr dense t s st. no_row_is_live gr dense (view_of c.rounds.work) t s st.view
+returns-clause-end g c = λ gr dense t s st. no_row_is_live gr dense (plain_view c.rounds.work) t s st.view
     (let e = c.rounds-test.false in omega (arith, e))

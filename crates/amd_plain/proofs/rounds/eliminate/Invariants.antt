@@ -1,4 +1,4 @@
-use Rattle.amd_plain.specs.Keeps.{AreRounds, Stands}
+use Rattle.amd_plain.specs.Keeps.{ArePlainRounds, PlainStands}
 use Rattle.amd_model.specs.Graph.{Graph}
 use Rattle.amd_model.specs.State.{State}
 use Rattle.amd_model.specs.Quotient.{QuotientGraph}
@@ -7,8 +7,8 @@ use Rattle.amd_plain.proofs.rounds.eliminate.Given as goal
 
 abbrev pub invariant-rounds : goal.invariant-rounds
 invariant-rounds g l = record {
-  rounds : AreRounds l.control.aggressive l.fn.work l.work;
-  stands : (gr : Graph) × (dense : ℕ → Bool) × (t : QuotientGraph) × (s : State) × Stands gr dense l.work t s;
+  rounds : ArePlainRounds l.control.aggressive l.fn.work l.work;
+  stands : (gr : Graph) × (dense : ℕ → Bool) × (t : QuotientGraph) × (s : State) × PlainStands gr dense l.work t s;
 }
 
 abbrev pub decreases-rounds : goal.decreases-rounds

@@ -1,6 +1,6 @@
 use Rattle.std.proofs.Common.{rules, ℕ, List, ◌≡◌, ◌<◌, ◌∙◌, ap, length, refl, subst}
 use Rattle.std.specs.Prelude.{flat_map, ◌++◌, ◌==◌}
-use Rattle.amd_plain.specs.Views.{list_at, live_of, ListsBelow}
+use Rattle.amd_plain.specs.Views.{list_at, plain_live, ListsBelow}
 use Rattle.amd_plain.specs.Buckets.{Chosen}
 use Rattle.amd_plain.specs.Rounds.{firsts, Absorbed}
 use Rattle.amd_plain.specs.Keeps.{IsIdle}
@@ -11,7 +11,8 @@ use Rattle.amd_plain.proofs.rounds.make_element.Goals as goal
 -- the list of the element of a pivot
 abbrev gathered : {A : Type 0} → List ℕ → Lists A → ℕ → List ℕ
 gathered size lists c =
-    firsts (λ x. x == c) (flat_map (λ e. live_of size (list_at lists.members.items e)) (list_at lists.elements.items c) ++ live_of size
+    firsts (λ x. x == c) (flat_map (λ e. plain_live size (list_at lists.members.items e)) (list_at lists.elements.items c)
+    ++ plain_live size
     (list_at lists.variables.items c))
 
 pub choose-pivot-requires-clause-lengths : goal.choose-pivot-requires-clause-lengths

@@ -4,7 +4,7 @@ use Rattle.std.proofs.lemmas.Grind.{get_or_default_zero}
 use Rattle.std.proofs.lemmas.Result.{IfOk-from_err}
 use Rattle.amd_model.specs.Quotient.{has, last_that}
 use Rattle.amd_plain.specs.Views.{num, some_at, ListsBelow}
-use Rattle.amd_plain.specs.Rounds.{mass, alike_in}
+use Rattle.amd_plain.specs.Rounds.{plain_mass, plain_alike}
 use Rattle.amd_plain.specs.Keeps.{IsIdle}
 use Rattle.amd_plain.proofs.ListPlaces.{put_at}
 use Rattle.amd_plain.proofs.MergeParts.{part_below, part_once, part_named, part_rows, part_left, into_settled, rows_same, rows_joined}
@@ -123,7 +123,7 @@ join-requires-clause-fits g c =
     let same = ap (sum_by (num c.retire.new.size.items)) c.deref-5.ensures.value in
     let part : sum_by (num c.retire.new.size.items) c.in_ok-rest.rest.items ≤ sum_by (num c.args.work.now.size.items) c.args.front.now =
     part_left _ c.args.front.now _ c.in_ok-rest.ensures (num c.args.work.now.size.items) (num c.retire.new.size.items)
-    (λ x. has c.args.front.now x && mass c.args.work.now.lists.elements.items c.args.work.now.lists.variables.items x)
+    (λ x. has c.args.front.now x && plain_mass c.args.work.now.lists.elements.items c.args.work.now.lists.variables.items x)
     c.retire.ensures.sizes in
     let live = c.requires.live in
     let word : c.args.work.now.live < 2 ^ 64 = omega arith in
@@ -173,7 +173,7 @@ returns g c =
         block_is = ap (λ m. m + (c.rows_of.result - c.rows_of-border.result)) own ∙
             ap (λ m. num size p + (m - c.rows_of-border.result)) whole;
         into_is = λ i h. c.in_ok-representatives.ensures.into i (ap (λ l. has l i) c.deref-4.ensures.value ∙ h) ∙
-            ap (last_that (alike_in c.args.work.now.lists.elements.items c.args.work.now.lists.variables.items i) i)
+            ap (last_that (plain_alike c.args.work.now.lists.elements.items c.args.work.now.lists.variables.items i) i)
             c.deref-4.ensures.value;
         made_is = c.in_ok-made.ensures ∙ ap (λ l. filter (λ i. num l i == i) c.deref-7.result.now) c.deref-8.ensures.value ∙
             ap (filter (λ i. num into i == i)) c.deref-7.ensures.value;

@@ -1,7 +1,7 @@
 use Rattle.std.proofs.Common.{ℕ, List, ◌≡◌, ◌<◌, ◌+◌, ◌∙◌, arith, ap, sym, subst, length}
 use Rattle.std.specs.Prelude.{cond, not, nat_eq, ◌&&◌}
 use Rattle.std.proofs.lemmas.List.{length_push}
-use Rattle.amd_plain.specs.Views.{at, num}
+use Rattle.amd_plain.specs.Views.{mark_at, num}
 use Rattle.amd_plain.proofs.StartLists.{numbers_push}
 use Rattle.amd_plain.proofs.start.first_blocks.Goals as goal
 
@@ -10,7 +10,7 @@ rows-preserved g c =
     let was = c.rows.invariant in
     let e = c.push_reserved.ensures in
     let xs : List ℕ = c.rows.blocks.items in let x : ℕ = c.block_size.result in
-    let number : ℕ → ℕ = λ a. cond (nat_eq (num c.args.degrees.now a) 0 && not (at c.args.last.now a)) 1 0 in
+    let number : ℕ → ℕ = λ a. cond (nat_eq (num c.args.degrees.now a) 0 && not (mark_at c.args.last.now a)) 1 0 in
     record {
       room = (let a = was.room in let b = e.capacity in omega (arith, a, b));
       size = ap length e.items ∙ length_push xs x ∙ ap (λ m. m + 1) was.size;

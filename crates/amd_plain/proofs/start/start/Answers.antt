@@ -1,7 +1,7 @@
 use Rattle.std.proofs.Common.{ℕ, ◌∙◌, ap, length, refl, Option, ◌≡◌}
 use Rattle.std.specs.Prelude.{nat_lt, ◌==◌, ◌&&◌}
 use Rattle.amd_model.specs.Below.{count_below, list_below}
-use Rattle.amd_plain.specs.Views.{at, num}
+use Rattle.amd_plain.specs.Views.{mark_at, num}
 use Rattle.amd_model.proofs.Counting.Below.{only_none}
 use Rattle.amd_plain.proofs.StartLaw.{stands_at_start}
 use Rattle.std.proofs.Common.{None, Some}
@@ -11,7 +11,7 @@ pub returns : goal.returns
 returns g c =
     let degrees = c.args.degrees.now in
     let n : ℕ = length degrees in
-    stands_at_start c.args.rows.items degrees (at c.args.last.now) _ (record {
+    stands_at_start c.args.rows.items degrees (mark_at c.args.last.now) _ (record {
       variables = refl;
       elements = c.in_ok-empty_lists.ensures;
       members = c.in_ok-empty_lists-2.ensures;
@@ -26,7 +26,7 @@ returns g c =
       parent = c.in_ok-vec-2.ensures.items_if_clones_equal (only_none _ (λ x h. h));
       block = record { size = c.in_ok-first_blocks.ensures.size; each = c.in_ok-first_blocks.ensures.numbers };
       front = record { size = c.in_ok-first_blocks-2.ensures.size; each = c.in_ok-first_blocks-2.ensures.numbers };
-      n_dense = c.count_marks-n_dense.ensures ∙ ap (λ n. count_below n (at c.args.last.now)) c.requires.marks;
+      n_dense = c.count_marks-n_dense.ensures ∙ ap (λ n. count_below n (mark_at c.args.last.now)) c.requires.marks;
       lnz = c.add_front.ensures.lnz;
       ldl = c.add_front.ensures.ldl;
       lu = c.add_front.ensures.lu;

@@ -1,7 +1,7 @@
 use Rattle.std.proofs.Common.{◌≡◌, ◌&&◌, true, false, sym, ap, ◌∙◌, subst, arith, add-one, is_none}
 use Rattle.amd_model.specs.Input.Columns.{at}
 use Rattle.amd_types.specs.Links.{named}
-use Rattle.amd_postorder.specs.Trees.{is_element, tree_of}
+use Rattle.amd_postorder.specs.Trees.{is_tree_element, tree_of}
 use Rattle.amd_postorder.proofs.TreeNumbers.{AreNumbered, ranked, numbers_start, numbers_skip, numbers_take, numbers_end, fits}
 use Rattle.amd_postorder.proofs.postorder.number_trees.Goals as goal
 
@@ -27,8 +27,9 @@ pub roots-preserved-then-not-is_root : goal.roots-preserved-then-not-is_root
 roots-preserved-then-not-is_root g c = λ f_size forest linked.
     let links = g.L.Link.read in
     let nv = g.N.Number.read c.args.nv.now in let parent = g.N.Number.read c.args.parent.now in let j = c.roots.j in
-    let off : (is_element c.args.nn nv j && is_none (named (at parent j))) ≡ false =
-    ap (λ n. is_element n nv j && is_none (named (at parent j))) (sym forest.nv_room) ∙ sym c.is_root.ensures ∙ c.if-not-is_root.true in
+    let off : (is_tree_element c.args.nn nv j && is_none (named (at parent j))) ≡ false =
+    ap (λ n. is_tree_element n nv j && is_none (named (at parent j))) (sym forest.nv_room)
+    ∙ sym c.is_root.ensures ∙ c.if-not-is_root.true in
     rw add-one (numbers_skip (tree_of c.args.nn parent nv f_size) j (links c.args.child.now) (links c.roots.child) (links c.roots.order)
     c.roots.next (c.roots.invariant f_size forest linked) off)
 
@@ -37,8 +38,9 @@ post_tree-next-requires-clause-fits g c =
     let links = g.L.Link.read in let same = g.met.L.Link.read_room in
     let f_size = c.requires.linked.0 in let forest = c.requires.linked.1 in let linked = c.requires.linked.2 in
     let nv = g.N.Number.read c.args.nv.now in let parent = g.N.Number.read c.args.parent.now in let j = c.roots.j in
-    let root : (is_element c.args.nn nv j && is_none (named (at parent j))) ≡ true =
-    ap (λ n. is_element n nv j && is_none (named (at parent j))) (sym forest.nv_room) ∙ sym c.is_root.ensures ∙ c.if-not-is_root.false in
+    let root : (is_tree_element c.args.nn nv j && is_none (named (at parent j))) ≡ true =
+    ap (λ n. is_tree_element n nv j && is_none (named (at parent j))) (sym forest.nv_room)
+    ∙ sym c.is_root.ensures ∙ c.if-not-is_root.false in
     fits (tree_of c.args.nn parent nv f_size) (ranked c.args.nn parent nv f_size forest) (links c.args.child.now)
     (links c.args.sibling.now) linked j root (links c.roots.child) (links c.roots.order) c.roots.next
     (c.roots.invariant f_size forest linked) (links c.roots.stack)
@@ -50,8 +52,9 @@ pub roots-preserved : goal.roots-preserved
 roots-preserved g c = λ f_size forest linked.
     let links = g.L.Link.read in
     let nv = g.N.Number.read c.args.nv.now in let parent = g.N.Number.read c.args.parent.now in let j = c.roots.j in
-    let root : (is_element c.args.nn nv j && is_none (named (at parent j))) ≡ true =
-    ap (λ n. is_element n nv j && is_none (named (at parent j))) (sym forest.nv_room) ∙ sym c.is_root.ensures ∙ c.if-not-is_root.false in
+    let root : (is_tree_element c.args.nn nv j && is_none (named (at parent j))) ≡ true =
+    ap (λ n. is_tree_element n nv j && is_none (named (at parent j))) (sym forest.nv_room)
+    ∙ sym c.is_root.ensures ∙ c.if-not-is_root.false in
     let e = c.post_tree-next.ensures in
     rw add-one (numbers_take (tree_of c.args.nn parent nv f_size) (ranked c.args.nn parent nv f_size forest) (links c.args.child.now)
     (links c.args.sibling.now) linked j root (links c.roots.child) (links c.roots.order) c.roots.next

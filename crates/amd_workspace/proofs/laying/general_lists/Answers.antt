@@ -9,9 +9,9 @@ use Rattle.amd_model.specs.Quotient.{met_edges}
 use Rattle.amd_edges.specs.Visits.{arcs_of}
 use Rattle.amd_edges.proofs.Orders.{ends_starting}
 use Rattle.amd_words.specs.Words.{num, rows}
-use Rattle.amd_workspace.specs.Copying.{AreRows}
+use Rattle.amd_workspace.specs.Copying.{HoldRows}
 use Rattle.amd_workspace.specs.Laying.{Lays}
-use Rattle.amd_workspace.specs.Lower.{list_start}
+use Rattle.amd_workspace.specs.Lower.{own_start}
 use Rattle.amd_workspace.proofs.Layings.{lays_none, walked_list, written, same_are_rows}
 use Rattle.amd_workspace.proofs.laying.general_lists.Goals as goal
 
@@ -27,15 +27,15 @@ words-requires g c =
 -- the words after the copying: as many as before, and each names a row
 module _ (size room : ℕ) (some : 0 < size) (items old new : List ℤ) (count : ℕ) (value : old ≡ items)
     (same : items ≡ replicate room (pos (size - 1))) (counted : length items ≡ count) (kept : length new ≡ length old)
-    (words : AreRows size old → AreRows size new) where
+    (words : HoldRows size old → HoldRows size new) where
   copied_back : take count (new ++ drop (length new) items) ≡ new
   copied_back = written new new (drop (length new) items) count refl (kept ∙ ap length value ∙ counted)
 
   copied_long : length new ≡ room
   copied_long = kept ∙ ap length (value ∙ same) ∙ length-replicate room (pos (size - 1))
 
-  copied_rows : AreRows size new
-  copied_rows = words (subst (AreRows size) (sym (value ∙ same)) (same_are_rows size room (size - 1) (omega (arith, some))))
+  copied_rows : HoldRows size new
+  copied_rows = words (subst (HoldRows size) (sym (value ∙ same)) (same_are_rows size room (size - 1) (omega (arith, some))))
 
 pub returns-then-copy_symmetric-clause-long : goal.returns-then-copy_symmetric-clause-long
 returns-then-copy_symmetric-clause-long g c =
@@ -55,7 +55,7 @@ returns-then-copy_symmetric-clause-words g c =
     same (let b = iw.ok.0 in omega (arith, b)) c.copy_symmetric.ensures.long c.copy_symmetric.ensures.words in
     let names = copied_rows c.args.size c.args.room r.some iw.items c.deref_mut.result.now new iw.len c.deref_mut.ensures.value
     same (let b = iw.ok.0 in omega (arith, b)) c.copy_symmetric.ensures.long c.copy_symmetric.ensures.words in
-    subst (AreRows c.args.size) (sym back) names
+    subst (HoldRows c.args.size) (sym back) names
 
 pub returns-then-copy_symmetric-clause-lists : goal.returns-then-copy_symmetric-clause-lists
 returns-then-copy_symmetric-clause-lists g c = λ i l.
@@ -64,7 +64,7 @@ returns-then-copy_symmetric-clause-lists g c = λ i l.
     let same = c.in_ok-iw.ensures ∙ ap (replicate c.args.room) (last_row c.args.size r.some r.fits.0 g.met.S.Signed.narrow) in
     let back = copied_back c.args.size c.args.room r.some iw.items c.deref_mut.result.now new iw.len c.deref_mut.ensures.value
     same (let b = iw.ok.0 in omega (arith, b)) c.copy_symmetric.ensures.long c.copy_symmetric.ensures.words in
-    ap (λ xs. rows xs (list_start c.args.size ap' ai i) (num c.args.degrees.now i)) back
+    ap (λ xs. rows xs (own_start c.args.size ap' ai i) (num c.args.degrees.now i)) back
     ∙ c.copy_symmetric.ensures.lists c.if-copy_symmetric.true i l
 
 pub walk-requires-clause-held : goal.walk-requires-clause-held

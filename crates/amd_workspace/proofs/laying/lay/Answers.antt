@@ -1,8 +1,8 @@
 use Rattle.std.proofs.Common.{ℕ, ◌≡◌, map, length, arith, sym, ap, subst, ◌∙◌}
 use Rattle.amd_model.specs.Input.Pattern.{graph_of, is_pair}
-use Rattle.amd_workspace.specs.Copying.{AreRows}
+use Rattle.amd_workspace.specs.Copying.{HoldRows}
 use Rattle.amd_workspace.specs.Laying.{IsLaidOut}
-use Rattle.amd_workspace.specs.Lower.{list_start}
+use Rattle.amd_workspace.specs.Lower.{own_start}
 use Rattle.amd_model.specs.Quotient.{starting_list}
 use Rattle.amd_workspace.proofs.Layings.{total_is, laid_out, list_at, first_at}
 use Rattle.amd_words.specs.Words.{num, rows}
@@ -56,9 +56,9 @@ returns-clause-laid g c =
       | then-has_long_lower+in_ok-iw w ↦ ap (λ v. length v.items) w.iw-is ∙ w.in_ok-iw.ensures.long
       | else-has_long_lower+in_ok-iw-2 w ↦ ap (λ v. length v.items) w.iw-is ∙ w.in_ok-iw-2.ensures.long
     ] in
-    let names : AreRows c.args.size iw = elim c.if-has_long_lower.branch [
-      | then-has_long_lower+in_ok-iw w ↦ subst (λ v. AreRows c.args.size v.items) (sym w.iw-is) w.in_ok-iw.ensures.words
-      | else-has_long_lower+in_ok-iw-2 w ↦ subst (λ v. AreRows c.args.size v.items) (sym w.iw-is) w.in_ok-iw-2.ensures.words
+    let names : HoldRows c.args.size iw = elim c.if-has_long_lower.branch [
+      | then-has_long_lower+in_ok-iw w ↦ subst (λ v. HoldRows c.args.size v.items) (sym w.iw-is) w.in_ok-iw.ensures.words
+      | else-has_long_lower+in_ok-iw-2 w ↦ subst (λ v. HoldRows c.args.size v.items) (sym w.iw-is) w.in_ok-iw-2.ensures.words
     ] in
     let out = laid_out graph c.args.degrees.now s.pe.items s.next.items s.len.items r.degrees c.starts-free.ensures.starts iw names
     (let a = r.room in omega (arith, a, long)) in
@@ -81,7 +81,7 @@ returns-clause-lists g c = λ i l.
     let ap' = map g.I.Number.value c.args.a_p.now in let ai = map g.I.Number.value c.args.a_i.now in
     let graph = graph_of c.args.size ap' ai in
     let s = c.starts-free.new in
-    let start = list_start c.args.size ap' ai i in let count = num c.args.degrees.now i in
+    let start = own_start c.args.size ap' ai i in let count = num c.args.degrees.now i in
     let list : rows c.if-has_long_lower.iw.items start count ≡ starting_list c.args.size (is_pair c.args.size ap' ai) i =
     elim c.if-has_long_lower.branch [
       | then-has_long_lower+in_ok-iw w ↦ ap (λ v. rows v.items start count) w.iw-is ∙ w.in_ok-iw.ensures.lists i l

@@ -3,16 +3,16 @@ use Rattle.std.proofs.Common.{◌≡◌, ◌<◌, ◌≤◌, ◌++◌, ℕ, ℤ,
 use Rattle.amd_model.specs.Input.Pattern.{graph_of}
 use Rattle.amd_edges.specs.Visits.{AreCounts}
 use Rattle.amd_words.specs.Words.{num, rows}
-use Rattle.amd_workspace.specs.Copying.{AreRows}
-use Rattle.amd_workspace.specs.Lower.{IsLower, HasColumns, HoldsOwn, list_start}
+use Rattle.amd_workspace.specs.Copying.{HoldRows}
+use Rattle.amd_workspace.specs.Lower.{IsLower, HasColumns, HoldsOwn, own_start}
 use Rattle.amd_workspace.proofs.Layings.{written}
 use Rattle.amd_workspace.proofs.LowerWords.{has_columns}
 use Rattle.amd_workspace.proofs.lower.lower_lists.Goals as goal
 
 -- the words after the first pass, lent as a slice
 module _ (n : ℕ) (ap' ai : List ℤ) (lower : IsLower n ap' ai) (degrees : List ℕ) (a b room : ℕ) (next : List ℕ) (items lent : List ℤ)
-    (counts : AreCounts (graph_of n ap' ai) ((graph_of n ap' ai).edge) degrees) (enough : list_start n ap' ai n ≤ room) (small : n ≤ a)
-    (fits : room ≤ b) (next_long : length next ≡ n) (starts : (i : ℕ) → i < n → num next i ≡ list_start n ap' ai i)
+    (counts : AreCounts (graph_of n ap' ai) ((graph_of n ap' ai).edge) degrees) (enough : own_start n ap' ai n ≤ room) (small : n ≤ a)
+    (fits : room ≤ b) (next_long : length next ≡ n) (starts : (i : ℕ) → i < n → num next i ≡ own_start n ap' ai i)
     (long : length items ≡ room) (held : HoldsOwn n ap' ai n items) (value : lent ≡ items) where
   columns : HasColumns (record { n = n; ap = ap'; ai = ai }) degrees a b next lent
   columns = subst (HasColumns (record { n = n; ap = ap'; ai = ai }) degrees a b next) (sym value)
@@ -55,7 +55,7 @@ returns-clause-words g c = let r = c.requires in let p = c.push_lists in
     p.new.iw.items c.deref_mut.result.now r.degrees
     r.room r.fits.0 r.fits.1 r.long r.starts p.ensures.long p.ensures.own c.deref_mut.ensures.value c.spread_lists.new.iw p.new.iw.len
     (let b = p.new.iw.ok.0 in omega (arith, b)) c.spread_lists.ensures.long in
-    subst (AreRows c.args.size) (sym same) (c.spread_lists.ensures.lists (record { n = c.args.size; ap = ap'; ai = ai }) so).0
+    subst (HoldRows c.args.size) (sym same) (c.spread_lists.ensures.lists (record { n = c.args.size; ap = ap'; ai = ai }) so).0
 
 pub returns-clause-lists : goal.returns-clause-lists
 returns-clause-lists g c = λ i l. let r = c.requires in let p = c.push_lists in
@@ -67,5 +67,5 @@ returns-clause-lists g c = λ i l. let r = c.requires in let p = c.push_lists in
     p.new.iw.items c.deref_mut.result.now r.degrees
     r.room r.fits.0 r.fits.1 r.long r.starts p.ensures.long p.ensures.own c.deref_mut.ensures.value c.spread_lists.new.iw p.new.iw.len
     (let b = p.new.iw.ok.0 in omega (arith, b)) c.spread_lists.ensures.long in
-    ap (λ xs. rows xs (list_start c.args.size ap' ai i) (num c.args.degrees.now i)) same
+    ap (λ xs. rows xs (own_start c.args.size ap' ai i) (num c.args.degrees.now i)) same
     ∙ (c.spread_lists.ensures.lists (record { n = c.args.size; ap = ap'; ai = ai }) so).1 i l

@@ -6,7 +6,7 @@ use Rattle.amd_model.specs.Below.{sum_below}
 use Rattle.amd_model.specs.Input.Pattern.{graph_of}
 use Rattle.amd_edges.specs.Visits.{start_of}
 use Rattle.amd_words.specs.Words.{num}
-use Rattle.amd_workspace.specs.Lower.{HoldsOwn, own_of, list_start}
+use Rattle.amd_workspace.specs.Lower.{HoldsOwn, own_of, own_start}
 use Rattle.amd_workspace.proofs.LowerWords.{held_none, held_column, held_filled, degree_is, list_room, next_end}
 use Rattle.amd_workspace.proofs.lower.push_lists.Goals as goal
 
@@ -63,9 +63,9 @@ rows-preserved g c =
     }
 
 -- after the last row
-module _ (n : ℕ) (ap' ai : List ℤ) (j free : ℕ) (is : free ≡ list_start n ap' ai j) (last : j ≡ n) where
-  free_end : free ≡ list_start n ap' ai n
-  free_end = is ∙ ap (list_start n ap' ai) last
+module _ (n : ℕ) (ap' ai : List ℤ) (j free : ℕ) (is : free ≡ own_start n ap' ai j) (last : j ≡ n) where
+  free_end : free ≡ own_start n ap' ai n
+  free_end = is ∙ ap (own_start n ap' ai) last
 
 pub overflow_sub-room : goal.overflow_sub-room
 overflow_sub-room g c =

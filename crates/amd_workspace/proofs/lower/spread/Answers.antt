@@ -2,22 +2,22 @@
 use Rattle.std.proofs.Common.{◌≡◌, ◌+◌, ◌-◌, ◌<◌, ◌≤◌, ℕ, ℤ, List, arith, refl, sym, subst, ap, ◌∙◌, length, pos, set}
 use Rattle.std.proofs.lemmas.List.{length-set}
 use Rattle.amd_words.specs.Words.{num, word}
-use Rattle.amd_workspace.specs.Lower.{Matrix, IsLower, Spreads, list_start, earlier_of, own_of, earlier_below}
+use Rattle.amd_workspace.specs.Lower.{Matrix, IsLower, SpreadsColumns, own_start, earlier_of, own_of, earlier_below}
 use Rattle.amd_workspace.proofs.LowerWords.{partly, partly_start, partly_end, early_all, next_list, later_list, spreads_same}
 use Rattle.amd_workspace.proofs.LowerWords.{spread_row, spread_inside, spread_step, plain_word}
 use Rattle.amd_workspace.proofs.lower.spread.Goals as goal
 
 -- where the own column of the row starts and ends
 module _ (m : Matrix) (lower : IsLower m.n m.ap m.ai) (j from end : ℕ) (j_in : j < m.n) (next : List ℕ) (iw : List ℤ)
-    (before : Spreads m.n m.ap m.ai (earlier_below m.n m.ap m.ai j) next iw) (from_is : from ≡ num next j)
-    (end_is : end ≡ list_start m.n m.ap m.ai (j + 1)) where
-  own_at : from ≡ list_start m.n m.ap m.ai j + length (earlier_of m.n m.ap m.ai j)
+    (before : SpreadsColumns m.n m.ap m.ai (earlier_below m.n m.ap m.ai j) next iw) (from_is : from ≡ num next j)
+    (end_is : end ≡ own_start m.n m.ap m.ai (j + 1)) where
+  own_at : from ≡ own_start m.n m.ap m.ai j + length (earlier_of m.n m.ap m.ai j)
   own_at = let e = before.ends j j_in in let s = ap length (early_all m.n m.ap m.ai lower j j_in) in omega (arith, e, s, from_is)
 
   own_to : end ≡ from + length (own_of m.n m.ap m.ai j)
   own_to = let a = own_at in let b = next_list m.n m.ap m.ai lower j j_in in omega (arith, a, b, end_is)
 
-  own_in : end ≤ list_start m.n m.ap m.ai m.n
+  own_in : end ≤ own_start m.n m.ap m.ai m.n
   own_in = let a = own_at in let b = own_to in let c = later_list m.n m.ap m.ai lower j m.n j_in (omega arith) in omega (arith, a, b, c)
 
 pub words-init : goal.words-init
@@ -59,7 +59,7 @@ append-requires-clause-inside g c =
     let t = c.words-test.true in let low = v.from in let long = v.long in let room = r.room in
     let is = read_at c.words.iw from c.words.place c.row_at-i.result low c.row_at-i.ensures in
     let k_in : k < length (own_of m.n m.ap m.ai c.args.j) = omega (arith, t, to, low) in
-    let fits : list_start m.n m.ap m.ai m.n ≤ length c.words.iw = omega (arith, room, long) in
+    let fits : own_start m.n m.ap m.ai m.n ≤ length c.words.iw = omega (arith, room, long) in
     let row = spread_row m.n m.ap m.ai r.lower c.args.j r.row k c.row_at-i.result from c.words.next c.words.iw fits h k_in at
     is in
     let inside = spread_inside m.n m.ap m.ai r.lower c.args.j r.row k c.row_at-i.result from c.words.next c.words.iw fits h
@@ -82,12 +82,12 @@ words-preserved g c =
           let t = c.words-test.true in let low = v.from in let long = v.long in let room = r.room in
           let is = read_at c.words.iw from c.words.place c.row_at-i.result low c.row_at-i.ensures in
           let k_in : k < length (own_of m.n m.ap m.ai c.args.j) = omega (arith, t, to, low) in
-          let fits : list_start m.n m.ap m.ai m.n ≤ length c.words.iw = omega (arith, room, long) in
+          let fits : own_start m.n m.ap m.ai m.n ≤ length c.words.iw = omega (arith, room, long) in
           let step = spread_step m.n m.ap m.ai r.lower c.args.j r.row k c.row_at-i.result from c.words.next c.words.iw fits h k_in
           at is in
           let more : k + 1 ≡ c.words.place + 1 - from = omega (arith, low) in
           let i = c.row_at-i.result in let place = num c.words.next i in
-          let P : ℕ → List ℕ → List ℤ → Type 0 = λ k next iw. Spreads m.n m.ap m.ai (partly m.n m.ap m.ai c.args.j k) next iw in
+          let P : ℕ → List ℕ → List ℤ → Type 0 = λ k next iw. SpreadsColumns m.n m.ap m.ai (partly m.n m.ap m.ai c.args.j k) next iw in
           subst (λ k. P k c.append.new.next c.append.new.iw) more
           (subst (λ xs. P (k + 1) xs c.append.new.iw) (sym c.append.ensures.ends)
           (subst (λ ys. P (k + 1) (set c.words.next i (place + 1)) ys) (sym c.append.ensures.words) step));

@@ -4,7 +4,7 @@ use Rattle.amd_model.specs.Below.{sum_below}
 use Rattle.amd_model.specs.Input.Pattern.{graph_of}
 use Rattle.amd_edges.specs.Visits.{start_of}
 use Rattle.amd_words.specs.Words.{num}
-use Rattle.amd_workspace.specs.Lower.{Matrix, HasColumns, IsReady, Spreads, earlier_below, list_start}
+use Rattle.amd_workspace.specs.Lower.{Matrix, HasColumns, IsReadyForColumn, SpreadsColumns, earlier_below, own_start}
 use Rattle.amd_workspace.proofs.LowerWords.{list_room, next_end, spread_lists_are}
 use Rattle.amd_workspace.proofs.lower.spread_lists.Goals as goal
 
@@ -26,9 +26,9 @@ overflow_add-end g c =
 
 -- the next row is ready
 module _ (m : Matrix) (degrees : List ℕ) (a b : ℕ) (next : List ℕ) (iw : List ℤ) (h : HasColumns m degrees a b next iw) (j end : ℕ)
-    (l : j < length degrees) (is : end ≡ list_start m.n m.ap m.ai j) (next' : List ℕ) (iw' : List ℤ) (long : length iw' ≡ length iw)
-    (so : Spreads m.n m.ap m.ai (earlier_below m.n m.ap m.ai j) next' iw') where
-  ready : IsReady m j (end + num degrees j) a b next' iw'
+    (l : j < length degrees) (is : end ≡ own_start m.n m.ap m.ai j) (next' : List ℕ) (iw' : List ℤ) (long : length iw' ≡ length iw)
+    (so : SpreadsColumns m.n m.ap m.ai (earlier_below m.n m.ap m.ai j) next' iw') where
+  ready : IsReadyForColumn m j (end + num degrees j) a b next' iw'
   ready = let size = rows_long m degrees a b next iw h in let room = h.room in let places = h.places in record {
     lower = h.lower;
     row = omega (arith, size, l);
@@ -62,6 +62,6 @@ pub returns-clause-lists : goal.returns-clause-lists
 returns-clause-lists g c = λ m h.
     let size = rows_long m c.args.degrees.now _ _ c.args.next.now c.args.iw.now h in
     let a = c.rows.auto.j-end in let b = c.rows-test.false in let last : c.rows.j ≡ m.n = omega (arith, a, b, size) in
-    let so = subst (λ j. Spreads m.n m.ap m.ai (earlier_below m.n m.ap m.ai j) c.rows.next c.rows.iw) last
+    let so = subst (λ j. SpreadsColumns m.n m.ap m.ai (earlier_below m.n m.ap m.ai j) c.rows.next c.rows.iw) last
     (c.rows.invariant.spreads m h) in
     (so.held.words, spread_lists_are m.n m.ap m.ai h.lower c.args.degrees.now c.rows.next c.rows.iw h.counts so)

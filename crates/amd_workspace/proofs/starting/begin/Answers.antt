@@ -12,7 +12,7 @@ use Rattle.amd_round_laws.proofs.Lists.Rising.{count_yes, count_no}
 use Rattle.amd_round_laws.proofs.Starting.{class_test}
 use Rattle.amd_words.specs.Words.{num, flip_of}
 use Rattle.amd_lists.specs.Chains.{DegreeLists}
-use Rattle.amd_workspace.specs.Starting.{Rows, held_in, is_class, classes_of}
+use Rattle.amd_workspace.specs.Starting.{Rows, held_in, begins_class, classes_of}
 use Rattle.amd_workspace.proofs.Starts.{aside, placed, AreEqual, equal_rows, equal_rest, none_begin, aside_rows, placed_rows, count_next}
 use Rattle.amd_workspace.proofs.Starts.{linked_none, linked_skip, linked_take}
 use Rattle.amd_workspace.proofs.starting.begin.Goals as goal
@@ -30,7 +30,7 @@ unfolding count_below sum_below
 rows-init g c =
     let n : ℕ = length c.args.len.now in
     let held : ℕ → Bool = held_in (option_copied c.args.hold) c.args.threshold c.args.len.now in
-    let a = c.requires.words in let b = c.requires.figures in
+    let a = c.requires.words in let b = c.requires.cells in
     record {
       begins = none_begin n held (record {
         pe = c.args.pe.now;
@@ -71,7 +71,7 @@ overflow_add-live g c =
     let here = c.rows-test.true in let is = c.rows.invariant.live in let narrow = c.requires.narrow.1 in
     let top = g.met.U.Unsigned.narrow in
     let held : ℕ → Bool = held_in (option_copied c.args.hold) c.args.threshold c.args.len.now in
-    let most = count_most c.rows.i (is_class held c.args.len.now) in omega (arith, here, is, narrow, top, most)
+    let most = count_most c.rows.i (begins_class held c.args.len.now) in omega (arith, here, is, narrow, top, most)
 
 pub rows-preserved : goal.rows-preserved
 rows-preserved g c =
@@ -115,7 +115,7 @@ rows-preserved g c =
     ∙ ap (λ b. b || c.cell_at-count.result == 0) marked ∙ ap (λ d. held i || d == 0) count in
     elim c.if-aside.branch [
       | then-aside w ↦ (
-          let none : is_class held len i ≡ false = class_test (held i) (num len i) ∙ ap not (sym value ∙ w.if-aside.true) in
+          let none : begins_class held len i ≡ false = class_test (held i) (num len i) ∙ ap not (sym value ∙ w.if-aside.true) in
           let rows = aside_rows i n held p q was.begins was.rest here none in
           let wrote = w.put_aside.ensures in
           let equal : AreEqual (aside (held i) i q) r = record {
@@ -137,11 +137,11 @@ rows-preserved g c =
             );
             linked = rw w.head-is (rw w.sides-is (rw (w.degree-is ∙ wrote.bounds)
                 (linked_skip n i held len c.rows.head (nexts c.rows.sides) (lasts c.rows.sides) c.rows.degree was.linked none)));
-            live = w.live-is ∙ count_no (is_class held len) i c.rows.live was.live none;
+            live = w.live-is ∙ count_no (begins_class held len) i c.rows.live was.live none;
             dense = w.n_dense-is ∙ ap (λ m. c.rows.n_dense + m) added ∙ count_next held i c.rows.n_dense was.dense;
           })
       | else-aside w ↦ (
-          let one : is_class held len i ≡ true = class_test (held i) (num len i) ∙ ap not (sym value ∙ w.if-aside.false) in
+          let one : begins_class held len i ≡ true = class_test (held i) (num len i) ∙ ap not (sym value ∙ w.if-aside.false) in
           let rows = placed_rows i n held p q was.begins was.rest here one in
           let wrote = w.place_row.ensures in
           let equal : AreEqual (placed i q) r = record {
@@ -174,7 +174,7 @@ rows-preserved g c =
                 (λ b. reverse (classes_of held len i b)))
                 (sym long) was.linked) new.head (nexts new.sides) (lasts new.sides) new.degree c.cell_at-count.result count one
                 wrote.linked))));
-            live = w.live-is ∙ count_yes (is_class held len) i c.rows.live was.live one;
+            live = w.live-is ∙ count_yes (begins_class held len) i c.rows.live was.live one;
             dense = w.n_dense-is ∙ count_no held i c.rows.n_dense was.dense free;
           })
     ]

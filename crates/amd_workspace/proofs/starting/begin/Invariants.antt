@@ -3,7 +3,7 @@ use Rattle.std.specs.Option.{option_copied}
 use Rattle.amd_words.specs.Sides.{nexts, lasts}
 use Rattle.amd_model.specs.Below.{count_below}
 use Rattle.amd_lists.specs.Chains.{DegreeLists}
-use Rattle.amd_workspace.specs.Starting.{Rows, IsSame, BeginsRows, held_in, is_class, classes_of}
+use Rattle.amd_workspace.specs.Starting.{Rows, IsSame, BeginsRows, held_in, begins_class, classes_of}
 use Rattle.amd_workspace.proofs.starting.begin.Given as goal
 
 abbrev pub invariant-rows : goal.invariant-rows
@@ -29,6 +29,6 @@ invariant-rows g l =
       rest : (j : ℕ) → l.i ≤ j → IsSame j p q;
       links : (length l.head ≡ n) × (length (nexts l.sides) ≡ n) × (length (lasts l.sides) ≡ n);
       linked : DegreeLists n l.head (nexts l.sides) (lasts l.sides) l.degree (λ b. reverse (classes_of held l.fn.len l.i b));
-      live : l.live ≡ count_below l.i (is_class held l.fn.len);
+      live : l.live ≡ count_below l.i (begins_class held l.fn.len);
       dense : l.n_dense ≡ count_below l.i held;
     }
