@@ -178,9 +178,6 @@ module _ (up size next rank : List ℕ) (k : ℕ) (goes : GoesUp up) (measured :
   pub over-behind : (k < over) × (over ≤ length up)
   over-behind = (goes.rises k here, goes.most k here)
 
-  pub over-room : slice_index up k < length up + 1
-  over-room = let a = goes.most k here in omega (arith, a)
-
   -- there is room for the subtree
   next-is : slice_index next over + slice_index size over ≡ slice_index rank over + 1 + (slice_index size k + under up size over k)
   next-is = let a = over-behind in r.nexts over (let b = a.0 in omega (arith, b)) a.1 ∙

@@ -1,7 +1,6 @@
 //! How many entries each column of a factor has, and the elimination tree, without the columns.
 #![tactic(auto)]
 
-pub mod climbing;
 pub mod counting;
 pub mod meeting;
 pub mod ranks;

@@ -18,11 +18,6 @@ module _ (c : Column) (laws : IsGraph c.order.graph) where
   inherited_gives None h j x = absurd (let l = x.1 in omega (arith, h, l))
   inherited_gives (Some child) h j x = let r = (h.1 j).0 x in child_gives child j h.0 r.0 r.1
 
-  -- what the base has is taken over
-  pub base_taken : (base : Option ℕ) → Inherits c base → (m j : ℕ) → base ≡ Some m → c.place < j →
-      Entry c.order.graph c.order.rows m j → Contains c.inherited j
-  base_taken base h m j is behind e = let g = subst (Inherits c) is h in (g.1 j).1 (behind, e)
-
   -- a neighbour
   pub neighbour_gives : (neighbours : List ℕ) → AreLater c.order c.place neighbours → (j : ℕ) → Contains neighbours j → EntryOf c j
   neighbour_gives neighbours are j x = let r = (are j).0 x in entry_by_edge c.order.graph c.order.rows laws c.place j r.0 r.1 r.2

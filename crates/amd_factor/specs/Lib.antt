@@ -2,7 +2,6 @@
 pub mod Columns
 pub mod Merging
 pub mod Gathering
-pub mod Climbs
 pub mod Earlier
 pub mod Later
 pub mod Trees

@@ -1,7 +1,7 @@
 -- What a pass over the rows reads and writes. Source: Liu 1986, 1990; Davis 2005 (LDL).
-use Rattle.std.specs.Prelude.{ℕ, Bool, true, ◌≡◌, ◌<◌, ◌≤◌, ◌↔◌, List, Option, None, Some, length, slice_index}
+use Rattle.std.specs.Prelude.{ℕ, Bool, true, ◌≡◌, ◌<◌, ◌↔◌, List, Option, None, Some, length, slice_index}
 use Rattle.std.specs.Prelude.{slice_index_or}
-use Rattle.amd_model.specs.Below.{count_below, sum_below}
+use Rattle.amd_model.specs.Below.{count_below}
 use Rattle.amd_factor.specs.Earlier.{Order}
 use Rattle.amd_factor.specs.Trees.{Entry, IsParent}
 
@@ -16,11 +16,6 @@ pub record TellParents (o : Order) (j : ℕ) (parent : List (Option ℕ)) : Type
   pub room : length parent ≡ length o.rows
   pub each : (k : ℕ) → k < length o.rows → TellsParent o j k (slice_index_or parent k None)
 
--- no place has the mark of place j, or of a later one
-pub record MarksBefore (o : Order) (j : ℕ) (mark : List ℕ) : Type 0 where
-  pub room : length mark ≡ length o.rows
-  pub each : (k : ℕ) → k < length o.rows → slice_index mark k ≤ j
-
 -- the column of place k has that many entries before place j
 pub record CountsEntry (o : Order) (j k count : ℕ) : Type 0 where
   pub test : ℕ → Bool
@@ -31,13 +26,3 @@ pub record CountsEntry (o : Order) (j k count : ℕ) : Type 0 where
 pub record CountEntries (o : Order) (j : ℕ) (counts : List ℕ) : Type 0 where
   pub room : length counts ≡ length o.rows
   pub each : (k : ℕ) → k < length o.rows → CountsEntry o j k (slice_index counts k)
-
--- there are that many entries in all
-abbrev pub TotalOf : Order → ℕ → Type 0
-TotalOf o total = (f : ℕ → ℕ) → ((k : ℕ) → k < length o.rows → CountsEntry o (length o.rows) k (f k)) →
-    sum_below (length o.rows) f ≡ total
-
--- there are more entries than that in all
-abbrev pub MoreThan : Order → ℕ → Type 0
-MoreThan o room = (f : ℕ → ℕ) → ((k : ℕ) → k < length o.rows → CountsEntry o (length o.rows) k (f k)) →
-    room < sum_below (length o.rows) f

@@ -3,7 +3,6 @@
 
 ghost use Rattle.amd_factor.specs.Trees.{ColumnsByChildren, RowsAreSubtrees};
 
-pub mod climb;
 pub mod column;
 pub mod fill;
 pub mod gathering;

@@ -5,7 +5,6 @@ use Rattle.std.specs.Prelude.{slice_index_or, sum, unsigned_abs, Option, reverse
 use Rattle.amd_model.specs.Factor.{IsFactor, needed, needed_front}
 use Rattle.amd_model.specs.Figures.{entries}
 use Rattle.amd_model.specs.Graph.{Graph}
-use Rattle.amd_model.specs.Input.Columns.{IsColumnForm}
 use Rattle.amd_model.specs.Input.Pattern.{graph_of}
 use Rattle.amd_counts.specs.Sizes.{HoldSizes}
 use Rattle.amd_factor.specs.Columns.{first_of}
@@ -23,15 +22,6 @@ use Rattle.amd_symbolic.proofs.Once.{order_once}
 use Rattle.amd_symbolic.proofs.Vectors as vectors
 
 module _ (n : ℕ) (ap' ai p : List ℤ) (o : Order) (graph : o.graph ≡ graph_of n ap' ai) (rows : o.rows ≡ counts p) where
-  pub counts_from : IsColumnForm (pos n) n ap' ai → Permutes n p (counts p) → (sizes : List ℕ) (parent : List (Option ℕ)) (need : Need) →
-      TellCounts o.graph o.rows sizes parent need → IsCountsOf (pos n) ap' ai p sizes parent need
-  counts_from form permutes sizes parent need h = record {
-    form = λ _. form;
-    order = counts p;
-    permutes = permutes;
-    tells = subst (λ g. TellCounts g (counts p) sizes parent need) graph (subst (λ r. TellCounts o.graph r sizes parent need) rows h);
-  }
-
   pub mirror_of : (starts later : List ℕ) → HasEarlier (record { graph = graph_of n ap' ai; rows = reverse (counts p) }) starts later →
       HasEarlier (mirror o) starts later
   mirror_of starts later h =
