@@ -6,11 +6,11 @@ use Rattle.amd_model.specs.Factor.{IsFactor, needed, needed_front}
 use Rattle.amd_model.specs.Figures.{entries}
 use Rattle.amd_model.specs.Graph.{Graph}
 use Rattle.amd_model.specs.Input.Pattern.{graph_of}
-use Rattle.amd_counts.specs.Sizes.{HoldSizes}
-use Rattle.amd_factor.specs.Columns.{first_of}
-use Rattle.amd_counts.specs.Mirrors.{mirror}
-use Rattle.amd_factor.specs.Earlier.{HasEarlier, Order, Permutes}
-use Rattle.amd_factor.proofs.FactorOnce.{factor_once, needs_once}
+use Rattle.amd_symbolic.specs.Sizes.{HoldSizes}
+use Rattle.amd_symbolic.specs.Columns.{first_of}
+use Rattle.amd_symbolic.specs.Mirrors.{mirror}
+use Rattle.amd_symbolic.specs.Earlier.{HasEarlier, Order, Permutes}
+use Rattle.amd_symbolic.proofs.FactorOnce.{factor_once, needs_once}
 use Rattle.amd_types.specs.Counts.{counts}
 use Rattle.amd_types.specs.declared.amd.Info.{Info}
 use Rattle.amd.specs.Answers.{OrdersMatrix}

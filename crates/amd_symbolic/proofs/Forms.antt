@@ -8,9 +8,9 @@ use Rattle.amd_model.specs.Graph.{Graph, IsGraph}
 use Rattle.amd_model.specs.Input.Columns.{IsColumnForm, IsInput}
 use Rattle.amd_model.specs.Input.Pattern.{graph_of}
 use Rattle.amd_model.proofs.Patterns.DegreeSums.{pattern_graph}
-use Rattle.amd_factor.specs.Columns.{HoldFactor, PassesRoom}
-use Rattle.amd_factor.specs.Earlier.{HasEarlier, Order, Permutes}
-use Rattle.amd_factor.specs.Later.{HasLater}
+use Rattle.amd_symbolic.specs.Columns.{HoldFactor, PassesRoom}
+use Rattle.amd_symbolic.specs.Earlier.{HasEarlier, Order, Permutes}
+use Rattle.amd_symbolic.specs.Later.{HasLater}
 use Rattle.amd_types.specs.Counts.{counts}
 use Rattle.amd_types.specs.Statuses.{IsStatusOf}
 use Rattle.amd_types.specs.declared.amd.Status.{Status}

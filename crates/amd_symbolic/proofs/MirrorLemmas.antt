@@ -6,7 +6,7 @@ use Rattle.std.proofs.lemmas.List.Elements.{Contains-get_or}
 use Rattle.amd_model.specs.Listing.{ListsEachRow}
 use Rattle.amd_model.proofs.Counting.Places.{contains_has, place_of}
 use Rattle.amd_model.proofs.Counting.Pigeonhole.{permutation_below}
-use Rattle.amd_earlier.specs.Places.{ArePlaces}
+use Rattle.amd_symbolic.specs.Places.{ArePlaces}
 
 module _ (n : ℕ) (rows places : List ℕ) (a : ArePlaces n rows places) where
   at-row : (v : ℕ) → v < n → (k : ℕ) × (k < n) × (slice_index rows k ≡ v)

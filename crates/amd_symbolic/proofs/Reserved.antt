@@ -7,9 +7,9 @@ use Rattle.amd_model.specs.Factor.{IsFactor, needed, needed_front}
 use Rattle.amd_model.specs.Figures.{entries, cut, ldl_steps, lu_steps}
 use Rattle.amd_model.specs.Input.Columns.{IsInput}
 use Rattle.amd_model.specs.Input.Pattern.{graph_of}
-use Rattle.amd_factor.specs.Columns.{HoldFactor, PassesRoom}
-use Rattle.amd_factor.specs.Earlier.{Permutes}
-use Rattle.amd_factor.proofs.FactorOnce.{factor_once, needs_once}
+use Rattle.amd_symbolic.specs.Columns.{HoldFactor, PassesRoom}
+use Rattle.amd_symbolic.specs.Earlier.{Permutes}
+use Rattle.amd_symbolic.proofs.FactorOnce.{factor_once, needs_once}
 use Rattle.amd_types.specs.declared.amd.Info.{Info}
 use Rattle.amd_types.specs.declared.amd.Status.{Status}
 use Rattle.amd_types.specs.declared.amd.Status.TheVariants.{OK, Invalid, OkButJumbled, OutOfMemory}

@@ -7,7 +7,7 @@ use Rattle.std.proofs.lemmas.List.{take_more}
 use Rattle.std.proofs.lemmas.List.Sums.{sum_by_more}
 use Rattle.amd_model.specs.Factor.{needed, needed_front}
 use Rattle.amd_model.specs.Figures.{entries, ldl_steps, lu_steps}
-use Rattle.amd_factor.specs.Columns.{HoldColumns}
+use Rattle.amd_symbolic.specs.Columns.{HoldColumns}
 use Rattle.amd_symbolic.specs.Needs.{IsNeed, TellSizes}
 use Rattle.amd_symbolic.specs.declared.needs.Need.{Need}
 

@@ -7,10 +7,10 @@ use Rattle.amd_model.specs.Input.Pattern.{graph_of}
 use Rattle.amd_model.proofs.Patterns.DegreeSums.{pattern_graph}
 use Rattle.amd_model.proofs.Listings.Words.{has_head, has_cases}
 use Rattle.amd_model.proofs.Counting.Places.{contains_has, has_contains}
-use Rattle.amd_factor.specs.Columns.{first_of, HoldFactor}
-use Rattle.amd_factor.specs.Trees.{IsParent, InSubtree}
-use Rattle.amd_factor.proofs.FactorOnce.{first_least}
-use Rattle.amd_factor.proofs.TreePaths.{rows_are_subtrees}
+use Rattle.amd_symbolic.specs.Columns.{first_of, HoldFactor}
+use Rattle.amd_symbolic.specs.Trees.{IsParent, InSubtree}
+use Rattle.amd_symbolic.proofs.FactorOnce.{first_least}
+use Rattle.amd_symbolic.proofs.TreePaths.{rows_are_subtrees}
 use Rattle.amd_symbolic.specs.Laws.{ParentsTellTree, RowsTellSubtrees, TellsTree, column_of}
 use Rattle.amd_symbolic.proofs.Once.{order_once}
 use Rattle.amd_symbolic.proofs.Vectors.{first_at, parent_at}

@@ -9,8 +9,8 @@ use Rattle.std.proofs.lemmas.List.Edits.{get_or-between}
 use Rattle.amd_model.specs.Below.{sum_below}
 use Rattle.amd_model.specs.Factor.{needed, needed_front}
 use Rattle.amd_model.proofs.Counting.Below.{sum_same}
-use Rattle.amd_factor.specs.Columns.{first_of, HoldColumns}
-use Rattle.amd_factor.proofs.Ranks.{sum_places}
+use Rattle.amd_symbolic.specs.Columns.{first_of, HoldColumns}
+use Rattle.amd_symbolic.proofs.Ranks.{sum_places}
 use Rattle.amd_symbolic.specs.Laws.{size_of}
 
 -- the places before b are those before a, and the stretch between

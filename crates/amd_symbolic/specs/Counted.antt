@@ -5,8 +5,8 @@ use Rattle.amd_model.specs.Figures.{entries, ldl_steps, lu_steps}
 use Rattle.amd_model.specs.Graph.{Graph}
 use Rattle.amd_model.specs.Input.Columns.{IsInput}
 use Rattle.amd_model.specs.Input.Pattern.{graph_of}
-use Rattle.amd_counts.specs.Sizes.{HoldSizes}
-use Rattle.amd_factor.specs.Earlier.{Permutes}
+use Rattle.amd_symbolic.specs.Sizes.{HoldSizes}
+use Rattle.amd_symbolic.specs.Earlier.{Permutes}
 use Rattle.amd_types.specs.declared.amd.Info.{Info}
 use Rattle.amd.specs.Answers.{IsOrderingHolding}
 use Rattle.amd_symbolic.specs.declared.factor.Fault.{Fault}

@@ -6,8 +6,8 @@ use Rattle.amd_model.specs.Below.{sum_below}
 use Rattle.amd_model.specs.Figures.{ldl_steps, lu_steps}
 use Rattle.amd_model.specs.Graph.{Graph}
 use Rattle.amd_model.specs.Input.Pattern.{graph_of}
-use Rattle.amd_factor.specs.Earlier.{Permutes}
-use Rattle.amd_factor.specs.Trees.{IsParent, InSubtree}
+use Rattle.amd_symbolic.specs.Earlier.{Permutes}
+use Rattle.amd_symbolic.specs.Trees.{IsParent, InSubtree}
 use Rattle.amd_types.specs.declared.amd.Info.{Info}
 use Rattle.amd.specs.Answers.{IsOrderingHolding}
 use Rattle.amd_symbolic.specs.Factors.{IsFactorOf}

@@ -3,3 +3,17 @@ pub mod Factors
 pub mod Laws
 pub mod Needs
 pub mod Counted
+pub mod Columns
+pub mod Earlier
+pub mod Gathering
+pub mod Later
+pub mod Merging
+pub mod Trees
+pub mod Walks
+pub mod Arcs
+pub mod Places
+pub mod Ancestors
+pub mod Meetings
+pub mod Mirrors
+pub mod Ranks
+pub mod Sizes

@@ -4,12 +4,12 @@
 
 ghost use Rattle.std.specs.Prelude.{◌≡◌, ◌+◌, ◌*◌, ◌/◌, [], length, map, max, List, ℕ, IfOk};
 ghost use Rattle.amd_model.specs.Graph.{IsGraph};
-ghost use Rattle.amd_counts.specs.Mirrors.{mirror};
-ghost use Rattle.amd_factor.specs.Earlier.{HasEarlier, Order};
+ghost use Rattle.amd_symbolic.specs.Mirrors.{mirror};
+ghost use Rattle.amd_symbolic.specs.Earlier.{HasEarlier, Order};
 ghost use Rattle.amd_symbolic.specs.Counted.{IsCutNeed, TellCounts, wide_cut};
 
+use crate::count_counting::count_by_meetings;
 use crate::needs::Need;
-use amd_counts::counting::count_by_meetings;
 use std::alloc::{AllocError, Allocator};
 
 /// How many entries the columns of a factor have below its diagonal, and what the factor needs.

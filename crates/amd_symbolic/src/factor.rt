@@ -7,18 +7,18 @@ ghost use Rattle.std.specs.Prelude.{◌≡◌, ◌≤◌, ◌∷◌, [], pos, le
 ghost use Rattle.amd_model.specs.Graph.{IsGraph};
 ghost use Rattle.amd_model.specs.Input.Columns.{IsColumnForm};
 ghost use Rattle.amd_model.specs.Input.Pattern.{graph_of};
-ghost use Rattle.amd_factor.specs.Columns.{HoldFactor, PassesRoom};
-ghost use Rattle.amd_factor.specs.Earlier.{Order};
-ghost use Rattle.amd_factor.specs.Later.{HasLater};
+ghost use Rattle.amd_symbolic.specs.Columns.{HoldFactor, PassesRoom};
+ghost use Rattle.amd_symbolic.specs.Earlier.{Order};
+ghost use Rattle.amd_symbolic.specs.Later.{HasLater};
 ghost use Rattle.amd_types.specs.Counts.{counts};
 ghost use Rattle.amd_symbolic.specs.Factors.{IsFactorOf, IsFault};
 ghost use Rattle.amd_symbolic.specs.declared.factor.Fault.TheVariants.{OutOfMemory};
 
+use crate::fill::fill;
+use crate::lists::later_lists;
+use crate::places::places;
 use amd::Status;
 use amd::valid::valid;
-use amd_earlier::lists::later_lists;
-use amd_earlier::places::places;
-use amd_factor::fill::fill;
 use amd_types::internal::to_count;
 use num_traits::PrimInt;
 use std::alloc::{AllocError, AllocFailed, Allocator};

@@ -2,7 +2,7 @@
 // Called by `counting`.
 
 ghost use Rattle.std.specs.Prelude.{ℕ, List, length, reverse};
-ghost use Rattle.amd_earlier.specs.Places.{ArePlaces};
+ghost use Rattle.amd_symbolic.specs.Places.{ArePlaces};
 
 /// Changes the place of each row to that in the order from its end.
 pub fn mirror_places(places: &mut [usize])

@@ -2,7 +2,7 @@ use Rattle.std.proofs.Common.{ℤ, List, pos, ◌≡◌, ◌≢◌, [], map, len
 use Rattle.std.specs.Prelude.{IfOk, IfErr, ◌==◌, unsigned_abs}
 use Rattle.std.proofs.lemmas.List.{length-map}
 use Rattle.amd_model.specs.Input.Columns.{IsInput}
-use Rattle.amd_factor.specs.Earlier.{Permutes}
+use Rattle.amd_symbolic.specs.Earlier.{Permutes}
 use Rattle.amd_types.specs.Statuses.{IsStatusOf}
 use Rattle.amd_types.specs.declared.amd.Status.TheVariants.{Invalid}
 use Rattle.amd_symbolic.specs.Counted.{IsCountsOf, IsCountsFault}

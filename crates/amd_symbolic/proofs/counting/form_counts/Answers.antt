@@ -1,7 +1,7 @@
 use Rattle.std.proofs.Common.{ℤ, pos, ◌≡◌, ◌∙◌, List, ap, length, map, rules, subst, sym}
 use Rattle.std.proofs.lemmas.List.{take_at}
 use Rattle.std.specs.Prelude.{IfErr, reverse}
-use Rattle.amd_earlier.specs.Places.{ArePlaces}
+use Rattle.amd_symbolic.specs.Places.{ArePlaces}
 use Rattle.amd_types.specs.Counts.{counts}
 use Rattle.amd_symbolic.specs.declared.factor.Fault.TheVariants.{OutOfMemory}
 use Rattle.amd_symbolic.specs.Counted.{IsCountsFault}

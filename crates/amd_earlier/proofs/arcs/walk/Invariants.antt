@@ -1,9 +1,0 @@
-use Rattle.std.proofs.Common.{map}
-use Rattle.amd_types.specs.Counts.{counts}
-use Rattle.amd_earlier.specs.Arcs.{arcs_before}
-use Rattle.amd_earlier.proofs.arcs.walk.Given as goal
-
-abbrev pub invariant-columns : goal.invariant-columns
-invariant-columns g l =
-    g.V.Visitor.holds l.fn.size (arcs_before l.places (counts (map g.I.Number.value l.a_p)) (counts (map g.I.Number.value l.a_i)) l.fn.size)
-    (arcs_before l.places (counts (map g.I.Number.value l.a_p)) (counts (map g.I.Number.value l.a_i)) l.j) l.visitor

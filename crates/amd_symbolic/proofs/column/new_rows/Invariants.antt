@@ -1,0 +1,13 @@
+use Rattle.amd_symbolic.proofs.column.new_rows.Given as goal
+
+abbrev pub ghost-has_only_child : goal.ghost-has_only_child
+ghost-has_only_child g a = g.c
+
+abbrev pub ghost-mark_base : goal.ghost-mark_base
+ghost-mark_base g a = g.c
+
+abbrev pub ghost-gather_children : goal.ghost-gather_children
+ghost-gather_children g a = g.c
+
+abbrev pub ghost-gather : goal.ghost-gather
+ghost-gather g a = g.c

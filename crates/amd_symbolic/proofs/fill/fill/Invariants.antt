@@ -1,0 +1,10 @@
+use Rattle.amd_symbolic.specs.Gathering.{Filled}
+use Rattle.amd_symbolic.proofs.fill.fill.Given as goal
+
+abbrev pub ghost-add_column : goal.ghost-add_column
+ghost-add_column g a = g.o
+
+abbrev pub invariant-columns : goal.invariant-columns
+invariant-columns g l = record {
+  filled : Filled g.o l.k l.ptr l.rows l.parent l.link l.marked.column l.marked.stamp l.mark;
+}

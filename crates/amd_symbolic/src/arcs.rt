@@ -1,0 +1,76 @@
+// The arcs of a matrix under an order of its rows: each entry off the diagonal gives one, from the later one of its two
+// places to the earlier one. A walk over the entries hands them to a visitor, one at a time. Called by `lists`.
+
+ghost use Rattle.std.specs.Prelude.{◌<◌, ◌+◌, ◌∷◌, [], ℕ, List, pos, map, length, slice_index};
+ghost use Rattle.amd_model.specs.Input.Columns.{IsColumnForm};
+ghost use Rattle.amd_types.specs.Counts.{counts};
+ghost use Rattle.amd_symbolic.specs.Arcs.{IsNext, arcs_before};
+ghost use Rattle.amd_symbolic.specs.Places.{ArePlaces};
+
+use amd_types::internal::count_at;
+use num_traits::PrimInt;
+
+/// What takes the arcs of an order of `n` rows, one at a time. What holds of it speaks of `n`, of all arcs that it is
+/// to take, and of those that it took, the last one first.
+pub trait Visitor {
+    ghost holds: { ℕ → List (ℕ × ℕ) → List (ℕ × ℕ) → Self → Type 0 };
+
+    /// Takes the arc from the place `later` to the place `earlier`.
+    fn arc(&mut self, later: usize, earlier: usize)
+        requires { (n : ℕ) × (all : List (ℕ × ℕ)) × (arcs : List (ℕ × ℕ)) × holds n all arcs self.old ×
+            IsNext n all arcs later earlier }
+        ensures { (n : ℕ) (all : List (ℕ × ℕ)) (arcs : List (ℕ × ℕ)) → holds n all arcs self.old →
+            IsNext n all arcs later earlier → holds n all ((later, earlier) ∷ arcs) self.new };
+}
+
+/// Hands on the arcs of the entries of a column, one of `size`.
+fn column<I: PrimInt, V: Visitor>(
+    size: usize,
+    column: usize,
+    a_p: &[I],
+    a_i: &[I],
+    places: &[usize],
+    visitor: &mut V,
+)
+    requires form { IsColumnForm (pos size) size (map I.value a_p.now) (map I.value a_i.now) }
+    requires places { (rows : List ℕ) × ArePlaces size rows places.now }
+    requires column_in { column < size }
+    requires held { V.holds size (arcs_before places.now (counts (map I.value a_p.now)) (counts (map I.value a_i.now))
+        size) (arcs_before places.now (counts (map I.value a_p.now)) (counts (map I.value a_i.now)) column)
+        visitor.old }
+    ensures held { V.holds size (arcs_before places.now (counts (map I.value a_p.now)) (counts (map I.value a_i.now))
+        size) (arcs_before places.now (counts (map I.value a_p.now)) (counts (map I.value a_i.now)) (column + 1))
+        visitor.new }
+{
+    let here = places[column];
+    let end = count_at(a_p, column + 1);
+    'entries: for entry in count_at(a_p, column)..end {
+        let there = places[count_at(a_i, entry)];
+        if there < here {
+            visitor.arc(here, there);
+        } else if here < there {
+            visitor.arc(there, here);
+        }
+    }
+}
+
+/// Hands on the arcs of all entries of a matrix with `size` rows and columns, column by column. The matrix may have
+/// columns out of order and repeats; each repeat gives its arc again. `places` holds the place of each row.
+pub fn walk<I: PrimInt, V: Visitor>(
+    size: usize,
+    a_p: &[I],
+    a_i: &[I],
+    places: &[usize],
+    visitor: &mut V,
+)
+    requires form { IsColumnForm (pos size) size (map I.value a_p.now) (map I.value a_i.now) }
+    requires places { (rows : List ℕ) × ArePlaces size rows places.now }
+    requires held { V.holds size (arcs_before places.now (counts (map I.value a_p.now)) (counts (map I.value a_i.now))
+        size) [] visitor.old }
+    ensures held { V.holds size (arcs_before places.now (counts (map I.value a_p.now)) (counts (map I.value a_i.now))
+        size) (arcs_before places.now (counts (map I.value a_p.now)) (counts (map I.value a_i.now)) size) visitor.new }
+{
+    'columns: for j in 0..size {
+        column(size, j, a_p, a_i, places, visitor);
+    }
+}

@@ -1,0 +1,60 @@
+// The counts by what rows meet: each arc adds 1 to the column that it leads from and to all over it, and takes 1 from
+// the column where it meets the arc before it of the same row. Source: Gilbert, Ng and Peyton 1994. Called by
+// `sweep`.
+
+ghost use Rattle.std.specs.Prelude.{ℕ, List, ◌≡◌, ◌<◌, ◌≤◌, ◌+◌, ◌^◌, length, slice_index};
+ghost use Rattle.amd_symbolic.specs.Meetings.{AreLater, IsLowest, IsScene, Links, Met, Scene, Taken, sum_to};
+
+/// The lowest place over `start`, or `start`, that is not linked yet. Links on the way are drawn up.
+fn find(start: usize, link: &mut [usize]) -> usize
+    ghost at: { Scene × ℕ }
+    requires scene { IsScene at.0 }
+    requires place { start ≤ length at.0.up }
+    requires links { Links at.0 at.1 link.old }
+    ensures links { Links at.0 at.1 link.new }
+    ensures lowest { IsLowest at.0 at.1 start result }
+{
+    let mut x = start;
+    'up: while link[x] != x {
+        let over = link[link[x]];
+        link[x] = over;
+        x = over;
+    }
+    x
+}
+
+/// Takes the arcs from place `j`, which lead to the places of `later`, each counted from the last place on.
+pub fn take_arcs(
+    j: usize,
+    later: &[usize],
+    rank: &[usize],
+    link: &mut [usize],
+    last: &mut [usize],
+    plus: &mut [usize],
+    minus: &mut [usize],
+)
+    ghost at: { Scene × ℕ }
+    requires scene { IsScene at.0 }
+    requires ranks { rank.now ≡ at.0.rank }
+    requires place { j < length at.0.up }
+    requires here { slice_index at.0.rank j ≡ at.1 }
+    requires later { AreLater at.0 j later.now }
+    requires links { Links at.0 at.1 link.old }
+    requires met { Met at.0 (Taken at.0 at.1) last.old plus.old minus.old }
+    requires room { sum_to plus.old (length at.0.up + 1) + length later.now < 2 ^ 64 }
+    ensures links { Links at.0 at.1 link.new }
+    ensures met { Met at.0 (Taken at.0 (at.1 + 1)) last.new plus.new minus.new }
+    ensures sum { sum_to plus.new (length at.0.up + 1) ≡ sum_to plus.old (length at.0.up + 1) + length later.now }
+{
+    let n = last.len();
+    let here = rank[j];
+    'arcs: for &mirrored in later {
+        let i = n - 1 - mirrored;
+        let before = last[i];
+        let meeting = if before == n { i } else { find(before, link) };
+        let there = rank[meeting];
+        plus[here] += 1;
+        minus[there] += 1;
+        last[i] = j;
+    }
+}
