@@ -54,7 +54,7 @@ module _ {n : ℕ} {iw nv pe e_len : List ℤ} {len : List ℕ} {free : ℕ} {iw
       (sizes : (j : ℕ) → size_of nv3 j ≡ cond (j == me) 0 (size_of nv2 j))
       (marks : (j : ℕ) → in_front nv3 j ≡ (in_front nv2 j && not (j == me))) where
     pub begins : (end_of pe2 len2 me ≤ free2) → Begins n me absorbed front total iw nv pe e_len len iw2 nv3 pe2 e_len2 len2 free2
-    begins is_negative = record {
+    begins inside = record {
       long = b.long ∙ r.long;
       wide = long ∙ b.wide;
       p_long = m.p_long ∙ r.p_long;
@@ -64,7 +64,7 @@ module _ {n : ℕ} {iw nv pe e_len : List ℤ} {len : List ℕ} {free : ℕ} {iw
       list = m.list;
       names = subst (λ s. Names n iw2 s (num len2 me)) (sym at) (subst (Names n iw2 from) (sym count_is)
           (subst (λ k. Names k iw2 from (end - from)) wide b.names));
-      is_negative = is_negative;
+      inside = inside;
       rows_is = m.rows_is;
       sizes = λ j. sizes j ∙ ap (cond (j == me) 0) (b.sizes j);
       marks = λ j. marks j ∙ ap (λ x. x && not (j == me)) (b.front_is j) ∙ left_front j me front apart;
@@ -94,7 +94,7 @@ begins_moved {n} {pe = pe} {len = len} {pe1 = pe1} r m = record {
   starts = m.starts;
   list = m.list;
   names = m.names;
-  is_negative = m.inside;
+  inside = m.inside;
   rows_is = m.rows_is;
   sizes = m.sizes;
   marks = m.marks;

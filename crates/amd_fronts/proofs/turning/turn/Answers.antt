@@ -153,7 +153,7 @@ renew_all-requires g c = record {
       (c.requires.front i (sym (ap (λ xs. has xs i)
       (left_list c.args.aggressive c.args.flag c.requires.laid c.requires.two.0 c.requires.two.1 c.requires.front left ended))
       ∙ h)).marked);
-  rows_met = (let me : ℕ = c.args.me in let iw : List ℤ = c.args.iw.now in let pe : List ℤ = c.args.pe.now in
+  met = (let me : ℕ = c.args.me in let iw : List ℤ = c.args.iw.now in let pe : List ℤ = c.args.pe.now in
       let len : List ℕ = c.args.len.now in
       let from : c.named-from.result ≡ start pe me = c.named-from.ensures in let count = c.cell_at-count.ensures.is in
       let list : rows iw c.named-from.result c.cell_at-count.result ≡ list_in iw pe len me = ap

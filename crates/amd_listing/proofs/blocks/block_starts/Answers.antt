@@ -140,7 +140,7 @@ places-preserved g c =
           c.cell_at-e.ensures.is in
           let read = size_read nv c.cell_at-e.result (slice_index es c.places.k) c.row_at-total.result is
           (c.requires.counts c.cell_at-e.result) c.row_at-total.ensures in
-          let written : c.put_cell.new.figures ≡ set c.places.starts (slice_index es c.places.k) c.places.total =
+          let written : c.put_cell.new.cells ≡ set c.places.starts (slice_index es c.places.k) c.places.total =
           c.put_cell.ensures ∙ ap (λ e. set c.places.starts e c.places.total) is in
           subst (λ xs. AreStarted (c.places.k + 1) es nv xs (c.places.total + c.row_at-total.result)) (sym written)
           (subst (λ m. AreStarted (c.places.k + 1) es nv (set c.places.starts (slice_index es c.places.k) c.places.total)

@@ -7,6 +7,6 @@ use Rattle.amd_postorder.proofs.link.CellLink.copy_link.Goals as goal
 pub returns : goal.returns
 returns g c =
     let most = g.U.Unsigned.MOST in
-    written most c.args.links.now c.put_cell.new.figures c.args.place c.cell_at.result
+    written most c.args.links.now c.put_cell.new.cells c.args.place c.cell_at.result
     (at (figure_links most c.args.from.now) c.args.other) c.put_cell.ensures
     (ap (figure_link most) c.cell_at.ensures.is ∙ says_at most c.args.from.now c.args.other c.requires.other_within)
