@@ -159,8 +159,10 @@ impl Unsigned for u32 {
     ghost narrow = { Prim.search rules };
 }
 
-/// A word of a workspace: contracts see an integer.
+/// A word of a workspace: contracts see an integer. It lies in memory as its number does, so that `amd_views` can lend
+/// a slice of numbers as one of words.
 #[derive(Drop)]
+#[repr(transparent)]
 pub struct Word<S: Signed> {
     inner: S,
 }
@@ -173,8 +175,9 @@ impl<S: Signed> Model for Word<S> {
     ghost invariant = { λ a. unsigned_abs (S.value a.inner) ≤ S.MOST };
 }
 
-/// A cell of a row: contracts see a number.
+/// A cell of a row: contracts see a number. It lies in memory as its number does.
 #[derive(Drop)]
+#[repr(transparent)]
 pub struct Cell<U: Unsigned> {
     inner: U,
 }
