@@ -1,0 +1,5 @@
+-- How numbers in memory become words, and back.
+pub mod Rows
+pub mod Places
+pub mod Lending
+pub mod Raised

@@ -1,0 +1,2 @@
+-- What numbers are as words.
+pub mod Views
