@@ -1,6 +1,7 @@
 -- How far the rows of a column were read.
 use Rattle.std.proofs.Common.{◌≡◌, ◌+◌, ◌<◌, ◌≤◌, inl, inr, ℕ, List, get_or, arith, le_trans, le_of_eq, le_of_lt, lt_of_lt_of_le}
 use Rattle.std.proofs.lemmas.Bool.{cases_lt}
+use Rattle.amd_edges.specs.Walk.{IsScan}
 use Rattle.amd_edges.proofs.Forms.{IsSortedForm}
 
 -- the rows at the places from the start up to p are below m, which is at most k, and those from p to the end are not
@@ -58,3 +59,9 @@ reading_next n ap' ai form c start end k m p i c_in low end_is so is inside belo
       omega (arith, is, w));
   low = omega (arith, below);
 }
+
+-- a row at or behind the pointer of its column is below the size
+pub row_in : {n : ℕ} {ap' ai t : List ℕ} {k m j q row : ℕ} → IsSortedForm n ap' ai → IsScan n ap' ai t k m → j < n → j < k →
+    get_or t j 0 ≤ q → q < get_or ap' (j + 1) 0 → row ≡ get_or ai q 0 → row < n
+row_in {j} {q} form scan j_in before from inside same =
+    (let w = form.rows j q j_in (le_trans (scan.start j before j_in) from) inside in omega (arith, w, same))

@@ -146,6 +146,40 @@ fn column<I: PrimInt, V: Visitor, A: Allocator>(
     diagonal
 }
 
+/// Reads the lower entries of column `j`, one of `size`, that were not read yet. They are all that is left of it, so no
+/// row is compared.
+fn column_rest<I: PrimInt, V: Visitor, A: Allocator>(
+    size: usize,
+    j: usize,
+    a_p: &[I],
+    a_i: &[I],
+    next: &mut Vec<usize, A>,
+    visitor: &mut V,
+)
+    requires form { IsColumnForm (pos size) size (map I.value a_p.now) (map I.value a_i.now) }
+    requires sorted { IsSorted size (map I.value a_p.now) (map I.value a_i.now) }
+    requires row { j < size }
+    requires scan { IsScanOf size (map I.value a_p.now) (map I.value a_i.now) next.old.items size j }
+    requires held { (arcs : List (ℕ × ℕ)) × V.holds (graph_read size (map I.value a_p.now) (map I.value a_i.now))
+        (met_read size (map I.value a_p.now) (map I.value a_i.now) next.old.items size (j + 1)) arcs visitor.old }
+    ensures scan { IsScanOf size (map I.value a_p.now) (map I.value a_i.now) next.new.items size (j + 1) }
+    ensures held { (arcs : List (ℕ × ℕ)) → V.holds (graph_read size (map I.value a_p.now) (map I.value a_i.now))
+        (met_read size (map I.value a_p.now) (map I.value a_i.now) next.old.items size (j + 1)) arcs visitor.old →
+        V.holds (graph_read size (map I.value a_p.now) (map I.value a_i.now))
+        (met_read size (map I.value a_p.now) (map I.value a_i.now) next.new.items size (j + 1))
+        (arcs ++ arcs_of (met_below (entry_read size (map I.value a_p.now) (map I.value a_i.now)) size j)) visitor.new }
+    ensures kept { V.room visitor.new ≡ V.room visitor.old }
+{
+    let end = count_at(a_p, j + 1);
+    let first = next[j];
+    let mut mark = visitor.begin(j);
+    'rows: for place in first..end {
+        mark = visitor.edge(count_at(a_i, place), j, mark);
+    }
+    visitor.end(j, mark);
+    next[j] = end;
+}
+
 /// Reads the lower entries of each of the `size` columns that were not read yet.
 fn rest<I: PrimInt, V: Visitor, A: Allocator>(
     size: usize,
@@ -166,7 +200,7 @@ fn rest<I: PrimInt, V: Visitor, A: Allocator>(
     ensures kept { V.room visitor.new ≡ V.room visitor.old }
 {
     'columns: for j in 0..size {
-        lower(size, j, size, a_p, a_i, next, visitor);
+        column_rest(size, j, a_p, a_i, next, visitor);
     }
 }
 

@@ -1,5 +1,5 @@
 -- Once the last column was read, every edge was met.
-use Rattle.std.proofs.Common.{◌≡◌, ◌+◌, map, arith, ap, sym, refl, ◌∙◌, subst, subst₂, le_refl, lt_irrefl}
+use Rattle.std.proofs.Common.{◌≡◌, ◌+◌, map, arith, ap, sym, refl, ◌∙◌, subst, subst₂}
 use Rattle.amd_model.specs.Input.Pattern.{is_pair}
 use Rattle.amd_model.specs.Quotient.{met_edges}
 use Rattle.amd_types.specs.Counts.{counts, count_graph, is_entry}
@@ -10,26 +10,20 @@ use Rattle.amd_edges.proofs.Ends.{rest_met, done_met}
 use Rattle.amd_edges.proofs.Orders.{edges_after, after_start, after_next, after_end, same_edges}
 use Rattle.amd_edges.proofs.walk.rest.Goals as goal
 
-pub lower-requires-clause-form : goal.lower-requires-clause-form
-lower-requires-clause-form g c = c.requires.form
+pub column_rest-requires-clause-form : goal.column_rest-requires-clause-form
+column_rest-requires-clause-form g c = c.requires.form
 
-pub lower-requires-clause-sorted : goal.lower-requires-clause-sorted
-lower-requires-clause-sorted g c = c.requires.sorted
+pub column_rest-requires-clause-sorted : goal.column_rest-requires-clause-sorted
+column_rest-requires-clause-sorted g c = c.requires.sorted
 
-pub lower-requires-clause-before : goal.lower-requires-clause-before
-lower-requires-clause-before g c = c.columns-test.true
+pub column_rest-requires-clause-row : goal.column_rest-requires-clause-row
+column_rest-requires-clause-row g c = c.columns-test.true
 
-pub lower-requires-clause-k_in : goal.lower-requires-clause-k_in
-lower-requires-clause-k_in g c = le_refl c.args.size
+pub column_rest-requires-clause-scan : goal.column_rest-requires-clause-scan
+column_rest-requires-clause-scan g c = c.columns.invariant.scan
 
-pub lower-requires-clause-mirror : goal.lower-requires-clause-mirror
-lower-requires-clause-mirror g c = λ x. absurd (lt_irrefl c.args.size x)
-
-pub lower-requires-clause-scan : goal.lower-requires-clause-scan
-lower-requires-clause-scan g c = c.columns.invariant.scan
-
-pub lower-requires-clause-held : goal.lower-requires-clause-held
-lower-requires-clause-held g c =
+pub column_rest-requires-clause-held : goal.column_rest-requires-clause-held
+column_rest-requires-clause-held g c =
     let n = c.args.size in let j = c.columns.j in let t = c.columns.next.items in
     let ap' = counts (map g.I.Number.value c.args.a_p.now) in let ai = counts (map g.I.Number.value c.args.a_i.now) in
     let form = sorted_form n (map g.I.Number.value c.args.a_p.now) (map g.I.Number.value c.args.a_i.now) c.requires.form
@@ -59,11 +53,11 @@ columns-preserved g c =
     c.requires.sorted in
     let arcs = arcs_of (edges_after (is_entry n ap' ai) n j) in
     record {
-      kept = c.lower.ensures.kept ∙ c.columns.invariant.kept;
-      scan = c.lower.ensures.scan;
-      held = subst (λ l. g.V.Visitor.holds (count_graph n ap' ai) (met n ap' ai c.lower.new.next.items n (j + 1)) l c.lower.new.visitor)
+      kept = c.column_rest.ensures.kept ∙ c.columns.invariant.kept;
+      scan = c.column_rest.ensures.scan;
+      held = subst (λ l. g.V.Visitor.holds (count_graph n ap' ai) (met n ap' ai c.column_rest.new.next.items n (j + 1)) l c.column_rest.new.visitor)
           (after_next (is_entry n ap' ai) n j)
-          (c.lower.ensures.held arcs (subst (λ s. g.V.Visitor.holds (count_graph n ap' ai) s arcs c.columns.visitor)
+          (c.column_rest.ensures.held arcs (subst (λ s. g.V.Visitor.holds (count_graph n ap' ai) s arcs c.columns.visitor)
           (sym (rest_met n ap' ai form t j)) c.columns.invariant.held));
     }
 
