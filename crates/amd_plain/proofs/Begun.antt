@@ -8,7 +8,7 @@ use Rattle.amd_model.specs.Figures.{front_sum, entries, ldl_steps, lu_steps, cut
 use Rattle.amd_round_laws.specs.Starts.{class_of, starting_block}
 use Rattle.amd_plain.specs.Views.{num, some_at, list_at, ListsBelow}
 use Rattle.amd_plain.specs.Keeps.{IsIdle}
-use Rattle.amd_plain.specs.declared.work.Work.{Work}
+use Rattle.amd_plain.specs.declared.work.PlainWork.{PlainWork}
 
 -- a number for each of n rows
 pub record Rows (n : ℕ) (numbers : List ℕ) (f : ℕ → ℕ) : Type 0 where
@@ -20,7 +20,7 @@ abbrev pub nothing : ℕ → List (Option ℕ)
 nothing n = replicate n None
 
 -- what the start fills in
-pub record Begun {A : Type 0} (rows : List (Vec ℕ A)) (degrees : List ℕ) (last : ℕ → Bool) (w : Work A) : Type 0 where
+pub record Begun {A : Type 0} (rows : List (Vec ℕ A)) (degrees : List ℕ) (last : ℕ → Bool) (w : PlainWork A) : Type 0 where
   pub variables : w.lists.variables.items ≡ rows
   pub elements : (length w.lists.elements.items ≡ length degrees) × ((i : ℕ) → list_at w.lists.elements.items i ≡ [])
   pub members : (length w.lists.members.items ≡ length degrees) × ((i : ℕ) → list_at w.lists.members.items i ≡ [])

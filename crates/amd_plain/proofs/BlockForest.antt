@@ -13,7 +13,7 @@ use Rattle.amd_model.specs.Quotient.{QuotientGraph}
 use Rattle.amd_model.proofs.Counting.Below.{count_pos}
 use Rattle.amd_model.proofs.States.EndState.{IsEnd}
 use Rattle.amd_plain.specs.Keeps.{PlainStands}
-use Rattle.amd_plain.specs.declared.work.Work.{Work}
+use Rattle.amd_plain.specs.declared.work.PlainWork.{PlainWork}
 use Rattle.amd_plain.specs.Views.{num, some_at}
 use Rattle.amd_types.specs.Links.{named}
 use Rattle.amd_postorder.specs.Trees.{IsElementForest, is_tree_element, tree_of, link_of}
@@ -101,7 +101,8 @@ unfolding block_at
 last_block e = refl
 
 -- what a record stands for at the end of a run, copied into signed numbers
-pub stands_elements : {A : Type 0} (g : Graph) (dense : ℕ → Bool) (w : Work A) (t : QuotientGraph) (s : State) → PlainStands g dense w t s →
+pub stands_elements : {A : Type 0} (g : Graph) (dense : ℕ → Bool) (w : PlainWork A) (t : QuotientGraph) (s : State) →
+    PlainStands g dense w t s →
     IsEnd g dense s → (links nv f_size : List ℤ) →
     links ≡ map link_of w.parent.items → length nv ≡ g.size → length f_size ≡ g.size → length links ≡ g.size →
     ((e : ℕ) → e < g.size → at nv e ≡ pos (cond (nat_lt 0 (num w.block.items e)) (num w.block.items e) 0)) →

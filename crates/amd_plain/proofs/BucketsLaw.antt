@@ -17,7 +17,7 @@ use Rattle.amd_model.proofs.Counting.Below.{clash}
 use Rattle.amd_plain.specs.Views.{num, list_at}
 use Rattle.amd_plain.specs.Buckets.{live_in, last_buckets, Popped, Chosen}
 use Rattle.amd_plain.specs.Keeps.{PlainStands}
-use Rattle.amd_plain.specs.declared.work.Work.{Work}
+use Rattle.amd_plain.specs.declared.work.PlainWork.{PlainWork}
 use Rattle.amd_round_laws.proofs.Lists.Named.{filter_named, filter_both, none_sum}
 use Rattle.amd_round_laws.proofs.Lists.Pivots.{eq_flip, filters_on, choose_pivot}
 
@@ -251,7 +251,7 @@ module _ {A : Type 0} (size bound : List ℕ) (old mid : List (Vec ℕ A)) (befo
         ]
 
 -- a class stands in the list of its bound, if a row is live
-pub some_class : {A : Type 0} (g : Graph) (dense : ℕ → Bool) (w : Work A) (t : QuotientGraph) (s : State) → PlainStands g dense w t s →
+pub some_class : {A : Type 0} (g : Graph) (dense : ℕ → Bool) (w : PlainWork A) (t : QuotientGraph) (s : State) → PlainStands g dense w t s →
     0 < w.live →
     (b : ℕ) × (i : ℕ) × (w.least ≤ b) × (has (live_in w.size.items w.bound.items b (list_at w.placed.items b)) i ≡ true)
 some_class g dense w t s st l =

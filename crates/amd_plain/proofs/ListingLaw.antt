@@ -15,7 +15,7 @@ use Rattle.amd_model.proofs.States.EndState.{IsEnd}
 use Rattle.amd_plain.specs.Keeps.{PlainStands}
 use Rattle.amd_postorder.specs.Trees.{IsElementForest, IsPostorderOf, link_of, tree_of}
 use Rattle.amd_plain.specs.Views.{num, some_at}
-use Rattle.amd_plain.specs.declared.work.Work.{Work}
+use Rattle.amd_plain.specs.declared.work.PlainWork.{PlainWork}
 use Rattle.amd_plain.proofs.BlockForest.{AreElements, forest, alike, stands_elements, last_block}
 use Rattle.amd_round_laws.proofs.Lists.Rising.{list_same}
 use Rattle.amd_listing.proofs.BlockLists.{AreAlike, blocks_listed, listing_inside}
@@ -53,7 +53,7 @@ own_block : (e : ℕ) → block_at e (Gone e) ≡ true
 unfolding block_at
 own_block e = eq-eqb e e refl
 
-module _ {A : Type 0} (g : Graph) (dense : ℕ → Bool) (w : Work A) (t : QuotientGraph) (s : State) (st : PlainStands g dense w t s)
+module _ {A : Type 0} (g : Graph) (dense : ℕ → Bool) (w : PlainWork A) (t : QuotientGraph) (s : State) (st : PlainStands g dense w t s)
     (end : IsEnd g dense s) where
   pub none_live : (v : ℕ) → live_at (t.home v) ≡ false
   none_live v = ap live_at (st.view.fits.home v) ∙ end.over v

@@ -26,7 +26,7 @@ use Rattle.amd_types.specs.Permutations.{AreInverse}
 use Rattle.amd_engine_law.specs.Engine.{IsEngineAnswer, Reaches}
 use Rattle.amd_engine_law.proofs.EngineLaw.{degree_small, told_by, run, promises, answer_of}
 use Rattle.amd_types.specs.declared.amd.Info.{Info}
-use Rattle.amd_plain.specs.declared.work.Work.{Work}
+use Rattle.amd_plain.specs.declared.work.PlainWork.{PlainWork}
 use Rattle.amd_round_laws.proofs.Lists.Named.{below_from}
 
 -- ---- lists
@@ -64,7 +64,7 @@ module _ (g : Graph) (laws : IsGraph g) where
 module _ {A : Type 0} (g : Graph) (laws : IsGraph g) (dense last : ℕ → Bool) (aggressive : Bool) (lists : ℕ → List ℕ)
     (names : (i : ℕ) → NamesNeighbours g i (lists i))
     (rows : List (Vec ℕ A)) (len : List ℕ) (counts : AreCounts g g.edge len) (held : (i : ℕ) → i < g.size → last i ≡ dense i)
-    (listed : (i : ℕ) → i < g.size → list_at rows i ≡ lists i) (old : Work A) (begun : StandsAtStart rows len last old) where
+    (listed : (i : ℕ) → i < g.size → list_at rows i ≡ lists i) (old : PlainWork A) (begun : StandsAtStart rows len last old) where
   abbrev first : State
   first = first_state g dense
 
@@ -75,7 +75,7 @@ module _ {A : Type 0} (g : Graph) (laws : IsGraph g) (dense last : ℕ → Bool)
   unfolding degree
   started = begun g dense lists first laws (sym counts.size) counts.each held listed (λ i h. names i) (starts g dense)
 
-  module _ (w : Work A) (rounds : ArePlainRounds aggressive old w) (over : NoPlainRowIsLive w) where
+  module _ (w : PlainWork A) (rounds : ArePlainRounds aggressive old w) (over : NoPlainRowIsLive w) where
     abbrev states : List State
     states = (rounds g dense tie first started).1.0
 
@@ -154,7 +154,7 @@ module _ {A : Type 0} (ap' ai : List ℤ) (len : List ℕ) (counts : AreCounts (
 
   -- the marks are those of the rows held last
   module _ (hold : Option (List Bool)) (threshold : ℕ) (marks : List Bool)
-      (marked : (i : ℕ) → i < length len → mark_at marks i ≡ (is_marked hold i || nat_lt threshold (num len i))) (old : Work A)
+      (marked : (i : ℕ) → i < length len → mark_at marks i ≡ (is_marked hold i || nat_lt threshold (num len i))) (old : PlainWork A)
       (begun : StandsAtStart rows len (mark_at marks) old) where
     abbrev dense : ℕ → Bool
     dense = is_held_last hold (graph_of (length len) ap' ai) threshold
@@ -175,7 +175,7 @@ module _ {A : Type 0} (ap' ai : List ℤ) (len : List ℕ) (counts : AreCounts (
           names rows len counts held listed_all old begun,
     )
 
-    module _ (aggressive : Bool) (w : Work A) (rounds : ArePlainRounds aggressive old w) (over : NoPlainRowIsLive w) where
+    module _ (aggressive : Bool) (w : PlainWork A) (rounds : ArePlainRounds aggressive old w) (over : NoPlainRowIsLive w) where
       -- what the listing asks of it
       pub stands_last : EndsRun w
       stands_last = ended graph is_graph dense (mark_at marks) aggressive lists names rows len counts held listed_all old begun w rounds

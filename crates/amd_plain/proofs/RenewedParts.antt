@@ -6,14 +6,14 @@ use Rattle.amd_model.specs.Figures.{cut}
 use Rattle.amd_model.specs.Quotient.{has}
 use Rattle.amd_plain.specs.Views.{num, list_at}
 use Rattle.amd_plain.specs.Rounds.{plain_bound}
-use Rattle.amd_plain.specs.declared.work.Lists.{Lists}
+use Rattle.amd_plain.specs.declared.work.PlainLists.{PlainLists}
 
 -- a bound that keeps to the other live rows is below the number of rows
 pub bound_small : (near live size n : ℕ) → 0 < size → size ≤ live → live ≤ n → min near (live - size) < n
 bound_small near live size n some within most = omega (arith, some, within, most)
 
 -- the new bounds, for lists that are equal to those that were handed over
-module _ {A : Type 0} (border live : ℕ) (lists : Lists A) (made given beyond counts size sizes bound after : List ℕ)
+module _ {A : Type 0} (border live : ℕ) (lists : PlainLists A) (made given beyond counts size sizes bound after : List ℕ)
     (is_made : given ≡ made) (is_beyond : counts ≡ beyond) (is_size : sizes ≡ size)
     (is_after : (i : ℕ) → num after i ≡ cond (has given i) (plain_bound border live lists counts sizes bound i) (num bound i)) (i : ℕ) where
   pub renewed : num after i ≡ cond (has made i) (plain_bound border live lists beyond size bound i) (num bound i)

@@ -20,7 +20,7 @@ use Rattle.amd_plain.specs.Buckets.{live_in, last_buckets}
 use Rattle.amd_plain.specs.Rounds.{plain_mass, plain_bound}
 use Rattle.amd_plain.specs.Keeps.{IsPlainSized, PlainStands, IsPlainRound}
 use Rattle.amd_plain.specs.Parts.{MakesPlainElement, MergesPlainClasses, RenewsClasses}
-use Rattle.amd_plain.specs.declared.work.Work.{Work}
+use Rattle.amd_plain.specs.declared.work.PlainWork.{PlainWork}
 use Rattle.amd_round_laws.proofs.Rounding.{Rounding}
 use Rattle.amd_round_laws.proofs.Round.Fronts.{live_left, live_less, border_is as border_law}
 use Rattle.amd_round_laws.proofs.Round.Turn.{Turn, round_of}
@@ -32,14 +32,14 @@ use Rattle.amd_round_laws.proofs.Merging.Made.{made_once}
 use Rattle.amd_plain.proofs.FrontLists.{pivot_below, front_below, front_once}
 use Rattle.amd_plain.proofs.BucketsLaw.{has_lasts, popped_live, chosen_pivot, least_low, bucket_step}
 
-module _ {A : Type 0} (g : Graph) (dense : ℕ → Bool) (aggressive : Bool) (w : Work A) (t : QuotientGraph) (s : State)
+module _ {A : Type 0} (g : Graph) (dense : ℕ → Bool) (aggressive : Bool) (w : PlainWork A) (t : QuotientGraph) (s : State)
     (st : PlainStands g dense w t s)
   where
     abbrev old : View
     old = plain_view w
 
     -- ---- the element of the pivot
-    module _ (w1 : Work A) (c : ℕ) (front : List ℕ) (m : MakesPlainElement aggressive c front w w1) where
+    module _ (w1 : PlainWork A) (c : ℕ) (front : List ℕ) (m : MakesPlainElement aggressive c front w w1) where
       chosen_named : has (live_in w.size.items w.bound.items w1.least (list_at w.placed.items w1.least)) c ≡ true
       unfolding has
       chosen_named = let left : List ℕ = live_in w.size.items w.bound.items w1.least (list_at w1.placed.items w1.least) in
@@ -106,7 +106,7 @@ module _ {A : Type 0} (g : Graph) (dense : ℕ → Bool) (aggressive : Bool) (w 
           finding.rows_live g dense aggressive old t s st.view c placed least front m.front_is in omega (arith, a, b, e, k)
 
       -- ---- the classes that are left of its front
-      module _ (w2 : Work A) (made : List ℕ) (border block : ℕ) (k : MergesPlainClasses c front made border block w1 w2) where
+      module _ (w2 : PlainWork A) (made : List ℕ) (border block : ℕ) (k : MergesPlainClasses c front made border block w1 w2) where
         abbrev L : List ℕ
         L = gathered t c
 
@@ -198,7 +198,7 @@ module _ {A : Type 0} (g : Graph) (dense : ℕ → Bool) (aggressive : Bool) (w 
             omega (arith, few, a, e, z)
 
         -- ---- the whole round
-        module _ (v : Work A) (n : RenewsClasses c made border block w2 v) where
+        module _ (v : PlainWork A) (n : RenewsClasses c made border block w2 v) where
           abbrev new : View
           new = plain_view v
 
@@ -377,7 +377,7 @@ module _ {A : Type 0} (g : Graph) (dense : ℕ → Bool) (aggressive : Bool) (w 
               )
 
 -- the parts make a round
-pub is_round : {A : Type 0} (aggressive : Bool) (w w1 w2 v : Work A) (c border block : ℕ) (front made : List ℕ) →
+pub is_round : {A : Type 0} (aggressive : Bool) (w w1 w2 v : PlainWork A) (c border block : ℕ) (front made : List ℕ) →
     length w.size.items < 2 ^ 63 →
     MakesPlainElement aggressive c front w w1 → MergesPlainClasses c front made border block w1 w2 →
     RenewsClasses c made border block w2 v →

@@ -18,12 +18,12 @@ use Rattle.amd_plain.specs.Views.{num, some_at, list_at, plain_view, Below, List
 use Rattle.amd_plain.specs.Buckets.{live_in, last_buckets}
 use Rattle.amd_plain.specs.Keeps.{IsPlainSized, PlainStands}
 use Rattle.amd_plain.specs.Starts.{StandsAtStart}
-use Rattle.amd_plain.specs.declared.work.Work.{Work}
+use Rattle.amd_plain.specs.declared.work.PlainWork.{PlainWork}
 use Rattle.amd_plain.proofs.ListPlaces.{empty_below}
 use Rattle.amd_plain.proofs.BucketsLaw.{lasts_once}
 use Rattle.amd_plain.proofs.Begun.{Begun, none_at, past}
 
-module _ {A : Type 0} (rows : List (Vec ℕ A)) (degrees : List ℕ) (last : ℕ → Bool) (w : Work A) (begun : Begun rows degrees last w)
+module _ {A : Type 0} (rows : List (Vec ℕ A)) (degrees : List ℕ) (last : ℕ → Bool) (w : PlainWork A) (begun : Begun rows degrees last w)
     (rows_in : ListsBelow (length degrees) rows) (small : Below (length degrees) degrees)
     (g : Graph) (dense : ℕ → Bool) (lists : ℕ → List ℕ) (s : State) (laws : IsGraph g) (size_is : g.size ≡ length degrees)
     (degree_is : (i : ℕ) → i < g.size → num degrees i ≡ degree g i) (last_is : (i : ℕ) → i < g.size → last i ≡ dense i)
@@ -131,7 +131,8 @@ module _ {A : Type 0} (rows : List (Vec ℕ A)) (degrees : List ℕ) (last : ℕ
     placed = placed_kept;
   }
 
-pub stands_at_start : {A : Type 0} (rows : List (Vec ℕ A)) (degrees : List ℕ) (last : ℕ → Bool) (w : Work A) → Begun rows degrees last w →
+pub stands_at_start : {A : Type 0} (rows : List (Vec ℕ A)) (degrees : List ℕ) (last : ℕ → Bool) (w : PlainWork A) →
+    Begun rows degrees last w →
     ListsBelow (length degrees) rows → Below (length degrees) degrees → StandsAtStart rows degrees last w
 stands_at_start rows degrees last w begun rows_in small g dense lists s laws size_is degree_is last_is list_is names start =
     stands_start rows degrees last w begun rows_in small g dense lists s laws size_is degree_is last_is list_is names start

@@ -9,8 +9,8 @@ use Rattle.amd_model.specs.Quotient.{QuotientGraph, has, is_empty, pivot, next}
 use Rattle.amd_round_laws.specs.Keeps as views
 use Rattle.amd_plain.specs.Views.{mark_at, some_at, list_at, plain_view, ListsBelow, Clear}
 use Rattle.amd_plain.specs.Buckets.{live_in, last_buckets}
-use Rattle.amd_plain.specs.declared.work.Lists.{Lists}
-use Rattle.amd_plain.specs.declared.work.Work.{Work}
+use Rattle.amd_plain.specs.declared.work.PlainLists.{PlainLists}
+use Rattle.amd_plain.specs.declared.work.PlainWork.{PlainWork}
 use Rattle.amd_plain.specs.declared.work.Scratch.{Scratch}
 
 -- the marks are clear and the groups are empty, and there is room for each row
@@ -30,13 +30,13 @@ pub record IsMarked {A : Type 0} (n pivot : ℕ) (front : List ℕ) (s : Scratch
   pub into : length s.into.items ≡ n
 
 -- there is a list of each kind for each of n rows, and each names rows alone
-pub record AreSized {A : Type 0} (n : ℕ) (lists : Lists A) : Type 0 where
+pub record AreSized {A : Type 0} (n : ℕ) (lists : PlainLists A) : Type 0 where
   pub variables : ListsBelow n lists.variables.items
   pub elements : ListsBelow n lists.elements.items
   pub members : ListsBelow n lists.members.items
 
 -- there is a place for each of n rows, and each list names rows alone
-pub record IsPlainSized {A : Type 0} (n : ℕ) (w : Work A) : Type 0 where
+pub record IsPlainSized {A : Type 0} (n : ℕ) (w : PlainWork A) : Type 0 where
   pub variables : ListsBelow n w.lists.variables.items
   pub elements : ListsBelow n w.lists.elements.items
   pub members : ListsBelow n w.lists.members.items
@@ -54,7 +54,7 @@ abbrev pub PlainLinksLead : List (Option ℕ) → (ℕ → Home) → Type 0
 PlainLinksLead links home = views.LinksLead (length links) (some_at links) home
 
 -- the record keeps the lists t, which stand for the sound state s of an elimination of the graph
-pub record PlainStands {A : Type 0} (g : Graph) (dense : ℕ → Bool) (w : Work A) (t : QuotientGraph) (s : State) : Type 0
+pub record PlainStands {A : Type 0} (g : Graph) (dense : ℕ → Bool) (w : PlainWork A) (t : QuotientGraph) (s : State) : Type 0
   where
     pub view : views.ViewStands g dense (plain_view w) t s
     pub sized : IsPlainSized g.size w
@@ -64,18 +64,18 @@ pub record PlainStands {A : Type 0} (g : Graph) (dense : ℕ → Bool) (w : Work
 
 -- whatever lists and state the old record stands for, the new one stands for the lists of the next round, and for a
 -- state that the step with the pivot of the rules leads to
-abbrev pub IsPlainRound : {A : Type 0} → Bool → Work A → Work A → Type 0
+abbrev pub IsPlainRound : {A : Type 0} → Bool → PlainWork A → PlainWork A → Type 0
 IsPlainRound aggressive old new = (g : Graph) (dense : ℕ → Bool) (t : QuotientGraph) (s : State) → PlainStands g dense old t s →
     (is_empty t.placed ≡ false) × ((u : State) × StepAt g aggressive (pivot t.bound t.placed) s u
     × PlainStands g dense new (next aggressive t) u)
 
 -- whatever lists and state the old record stands for, the new one stands for lists and a state some rounds later
-abbrev pub ArePlainRounds : {A : Type 0} → Bool → Work A → Work A → Type 0
+abbrev pub ArePlainRounds : {A : Type 0} → Bool → PlainWork A → PlainWork A → Type 0
 ArePlainRounds aggressive old new = (g : Graph) (dense : ℕ → Bool) (t : QuotientGraph) (s : State) → PlainStands g dense old t s →
     (u : QuotientGraph) × ((states : List State) × Follows g aggressive t s states u ×
     PlainStands g dense new u (last_state s states))
 
 -- no row is live in any state that the record stands for
-abbrev pub NoPlainRowIsLive : {A : Type 0} → Work A → Type 0
+abbrev pub NoPlainRowIsLive : {A : Type 0} → PlainWork A → Type 0
 NoPlainRowIsLive w = (g : Graph) (dense : ℕ → Bool) (t : QuotientGraph) (s : State) → PlainStands g dense w t s → (v : ℕ) →
     live s v ≡ false

@@ -6,30 +6,30 @@ use Rattle.amd_model.specs.Figures.{cut, front_sum, entries, ldl_steps, lu_steps
 use Rattle.amd_model.specs.Quotient.{has, last_that, turned}
 use Rattle.amd_plain.specs.Views.{num, some_at, list_at, plain_live}
 use Rattle.amd_plain.specs.Buckets.{Chosen}
-use Rattle.amd_plain.specs.Rounds.{firsts, plain_mass, plain_alike, Absorbed, plain_bound}
+use Rattle.amd_plain.specs.Rounds.{firsts, plain_mass, plain_alike, PlainAbsorbed, plain_bound}
 use Rattle.amd_plain.specs.Keeps.{IsPlainSized}
-use Rattle.amd_plain.specs.declared.work.Work.{Work}
+use Rattle.amd_plain.specs.declared.work.PlainWork.{PlainWork}
 
 -- what a part of a round leaves as it was: the sizes, bounds and links of rows, and the number of live rows
-pub record KeepsRows {A : Type 0} (w v : Work A) : Type 0 where
+pub record KeepsRows {A : Type 0} (w v : PlainWork A) : Type 0 where
   pub size : v.size ≡ w.size
   pub bound : v.bound ≡ w.bound
   pub link : v.link ≡ w.link
   pub live : v.live ≡ w.live
 
 -- a part of a round leaves the numbers of the elements, the number of dense rows and the figures as they were
-pub record KeepsElements {A : Type 0} (w v : Work A) : Type 0 where
+pub record KeepsElements {A : Type 0} (w v : PlainWork A) : Type 0 where
   pub block : v.block ≡ w.block
   pub front : v.front ≡ w.front
   pub n_dense : v.n_dense ≡ w.n_dense
   pub figures : v.figures ≡ w.figures
 
 -- the pivot c is taken out of its list, its front is gathered, and elements are absorbed
-pub record MakesPlainElement {A : Type 0} (aggressive : Bool) (c : ℕ) (front : List ℕ) (w v : Work A) : Type 0 where
+pub record MakesPlainElement {A : Type 0} (aggressive : Bool) (c : ℕ) (front : List ℕ) (w v : PlainWork A) : Type 0 where
   pub chosen : Chosen w.size.items w.bound.items w.placed.items v.placed.items w.least v.least c
   pub front_is : front ≡ firsts (λ x. x == c) (flat_map (λ e. plain_live w.size.items (list_at w.lists.members.items e))
       (list_at w.lists.elements.items c) ++ plain_live w.size.items (list_at w.lists.variables.items c))
-  pub absorbed : Absorbed aggressive c front w.size.items w.block.items w.front.items w.lists v.lists w.parent.items
+  pub absorbed : PlainAbsorbed aggressive c front w.size.items w.block.items w.front.items w.lists v.lists w.parent.items
       v.parent.items
       v.scratch.beyond.items
   pub rows : KeepsRows w v
@@ -37,7 +37,7 @@ pub record MakesPlainElement {A : Type 0} (aggressive : Bool) (c : ℕ) (front :
   pub sized : IsPlainSized (length w.size.items) v
 
 -- the pivot and what keeps nothing are eliminated, and classes alike become one
-pub record MergesPlainClasses {A : Type 0} (c : ℕ) (front made : List ℕ) (border block : ℕ) (w v : Work A) : Type 0 where
+pub record MergesPlainClasses {A : Type 0} (c : ℕ) (front made : List ℕ) (border block : ℕ) (w v : PlainWork A) : Type 0 where
   pub rest : List ℕ
   pub rest_is : rest ≡ filter (λ i. not (plain_mass w.lists.elements.items w.lists.variables.items i)) front
   pub border_is : border ≡ sum_by (num w.size.items) rest
@@ -68,7 +68,7 @@ pub record MergesPlainClasses {A : Type 0} (c : ℕ) (front made : List ℕ) (bo
   pub sized : IsPlainSized (length w.size.items) v
 
 -- the classes of the new element c have their new bounds and lists, and are placed
-pub record RenewsClasses {A : Type 0} (c : ℕ) (made : List ℕ) (border block : ℕ) (w v : Work A) : Type 0 where
+pub record RenewsClasses {A : Type 0} (c : ℕ) (made : List ℕ) (border block : ℕ) (w v : PlainWork A) : Type 0 where
   pub bound_is : (i : ℕ) → num v.bound.items i ≡ cond (has made i)
       (plain_bound border w.live w.lists w.scratch.beyond.items w.size.items w.bound.items i) (num w.bound.items i)
   pub elements_is : (i : ℕ) → list_at v.lists.elements.items i ≡ cond (has made i)

@@ -5,7 +5,7 @@ use Rattle.amd_model.specs.Quotient.{has}
 use Rattle.amd_round_laws.specs.Rounds as views
 pub use Rattle.amd_round_laws.specs.Rounds.{firsts, less}
 use Rattle.amd_plain.specs.Views.{num, some_at, list_at, lists_of}
-use Rattle.amd_plain.specs.declared.work.Lists.{Lists}
+use Rattle.amd_plain.specs.declared.work.PlainLists.{PlainLists}
 
 -- the class i keeps neither an element nor a variable
 abbrev pub plain_mass : {A : Type 0} → List (Vec ℕ A) → List (Vec ℕ A) → ℕ → Bool
@@ -23,7 +23,7 @@ plain_rows_left block whole size elements front e = views.rows_left (num block) 
 
 -- the lists after the new element of the pivot c has absorbed others: those of the classes of its front; the others
 -- stay
-pub record Absorbed {A : Type 0} (aggressive : Bool) (c : ℕ) (front size block whole : List ℕ) (old new : Lists A)
+pub record PlainAbsorbed {A : Type 0} (aggressive : Bool) (c : ℕ) (front size block whole : List ℕ) (old new : PlainLists A)
     (before after : List (Option ℕ)) (beyond : List ℕ) : Type 0 where
   pub classes : views.Absorbed aggressive c front (num size) (num block) (num whole) (lists_of old) (lists_of new)
       (some_at before)
@@ -34,6 +34,6 @@ pub record Absorbed {A : Type 0} (aggressive : Bool) (c : ℕ) (front size block
 
 -- the lesser of the old bound and the number of rows that the lists reach, plus the other border rows; at most the
 -- other live rows
-abbrev pub plain_bound : {A : Type 0} → ℕ → ℕ → Lists A → List ℕ → List ℕ → List ℕ → ℕ → ℕ
+abbrev pub plain_bound : {A : Type 0} → ℕ → ℕ → PlainLists A → List ℕ → List ℕ → List ℕ → ℕ → ℕ
 plain_bound border live lists beyond size bound i =
     views.bound_by_lists border live (lists_of lists) (num beyond) (num size) (num bound) i

@@ -4,8 +4,8 @@ use Rattle.amd_round_laws.specs.Views as views
 use Rattle.amd_round_laws.specs.Views.{ClassLists, View}
 pub use Rattle.amd_round_laws.specs.Views.{Below}
 pub use Rattle.amd_words.specs.Words.{num}
-use Rattle.amd_plain.specs.declared.work.Lists.{Lists}
-use Rattle.amd_plain.specs.declared.work.Work.{Work}
+use Rattle.amd_plain.specs.declared.work.PlainLists.{PlainLists}
+use Rattle.amd_plain.specs.declared.work.PlainWork.{PlainWork}
 
 -- the mark at a place: nothing past the end is marked
 abbrev pub mark_at : List Bool → ℕ → Bool
@@ -32,11 +32,11 @@ abbrev pub Clear : List Bool → Type 0
 Clear marks = (j : ℕ) → mark_at marks j ≡ false
 
 -- the lists of the classes
-abbrev pub lists_of : {A : Type 0} → Lists A → ClassLists
+abbrev pub lists_of : {A : Type 0} → PlainLists A → ClassLists
 lists_of lists = record { variables = list_at lists.variables.items; elements = list_at lists.elements.items }
 
 -- the record of the plain engine
-abbrev pub plain_view : {A : Type 0} → Work A → View
+abbrev pub plain_view : {A : Type 0} → PlainWork A → View
 plain_view w = record {
   rows = length w.link.items;
   lists = lists_of w.lists;

@@ -7,11 +7,11 @@ ghost use Rattle.std.specs.Prelude.{◌≡◌, ◌<◌, ◌^◌, ◌&&◌, ◌-�
 ghost use Rattle.std.specs.Prelude.{false, filter, length, sum_by, OnOk, IfOk};
 ghost use Rattle.amd_model.specs.Quotient.{has, Once};
 ghost use Rattle.amd_plain.specs.Views.{num, mark_at, some_at, list_at, Below, ListsBelow};
-ghost use Rattle.amd_plain.specs.Rounds.{plain_mass, less, plain_rows_left, Absorbed};
+ghost use Rattle.amd_plain.specs.Rounds.{plain_mass, less, plain_rows_left, PlainAbsorbed};
 ghost use Rattle.amd_plain.specs.Keeps.{AreSized, IsIdle, IsMarked};
 
 use crate::marks::{clear_all, touched_by};
-use crate::work::{Lists, Scratch};
+use crate::work::{PlainLists, Scratch};
 use std::alloc::{AllocError, Allocator};
 
 /// Writes, for each element of a list, the number of rows of its border: that of block and border less that of its
@@ -153,7 +153,7 @@ fn shorten<A: Allocator>(
     size: &[usize],
     marks: &[bool],
     taken: &[bool],
-    lists: &mut Lists<A>,
+    lists: &mut PlainLists<A>,
 )
     requires lengths { (length marks.now ≡ length size.now) × (length taken.now ≡ length size.now) }
     requires elements { ListsBelow (length size.now) lists.old.elements.items }
@@ -161,7 +161,8 @@ fn shorten<A: Allocator>(
     requires range { Below (length size.now) front.now }
     requires once { Once front.now }
     ensures kept_elements { (i : ℕ) → list_at lists.new.elements.items i ≡ cond (has front.now i)
-        (filter (λ e. not (mark_at taken.now e)) (list_at lists.old.elements.items i)) (list_at lists.old.elements.items i) }
+        (filter (λ e. not (mark_at taken.now e)) (list_at lists.old.elements.items i))
+        (list_at lists.old.elements.items i) }
     ensures kept_variables { (i : ℕ) → list_at lists.new.variables.items i ≡ cond (has front.now i)
         (filter (λ j. nat_lt 0 (num size.now j) && not (mark_at marks.now j)) (list_at lists.old.variables.items i))
         (list_at lists.old.variables.items i) }
@@ -189,7 +190,7 @@ pub fn absorb<A: Allocator + Copy>(
     size: &[usize],
     block: &[usize],
     whole: &[usize],
-    lists: &mut Lists<A>,
+    lists: &mut PlainLists<A>,
     parent: &mut Vec<Option<usize>, A>,
     scratch: &mut Scratch<A>,
 ) -> Result<(), AllocError>
@@ -200,8 +201,8 @@ pub fn absorb<A: Allocator + Copy>(
     requires once { Once front.now }
     requires parent { length parent.old.items ≡ length size.now }
     requires marked { IsMarked (length size.now) pivot front.now scratch.old }
-    ensures absorbed { OnOk result (Absorbed aggressive pivot front.now size.now block.now whole.now lists.old lists.new
-        parent.old.items parent.new.items scratch.new.beyond.items) }
+    ensures absorbed { OnOk result (PlainAbsorbed aggressive pivot front.now size.now block.now whole.now lists.old
+        lists.new parent.old.items parent.new.items scratch.new.beyond.items) }
     ensures lists { OnOk result (AreSized (length size.now) lists.new) }
     ensures parent { OnOk result (length parent.new.items ≡ length size.now) }
     ensures idle { OnOk result (IsIdle (length size.now) scratch.new) }
@@ -228,7 +229,7 @@ pub fn absorb<A: Allocator + Copy>(
 }
 
 /// Whether a class keeps neither an element nor a variable.
-fn keeps_nothing<A: Allocator>(lists: &Lists<A>, i: usize) -> bool
+fn keeps_nothing<A: Allocator>(lists: &PlainLists<A>, i: usize) -> bool
     requires elements { i < length lists.now.elements.items }
     requires variables { i < length lists.now.variables.items }
     ensures { result ≡ plain_mass lists.now.elements.items lists.now.variables.items i }
@@ -240,7 +241,7 @@ fn keeps_nothing<A: Allocator>(lists: &Lists<A>, i: usize) -> bool
 pub fn others_left<A: Allocator + Copy>(
     alloc: A,
     front: &[usize],
-    lists: &Lists<A>,
+    lists: &PlainLists<A>,
 ) -> Result<Vec<usize, A>, AllocError>
     requires elements { Below (length lists.now.elements.items) front.now }
     requires variables { Below (length lists.now.variables.items) front.now }
@@ -260,7 +261,7 @@ pub fn others_left<A: Allocator + Copy>(
 pub fn retire<A: Allocator>(
     pivot: usize,
     front: &[usize],
-    lists: &Lists<A>,
+    lists: &PlainLists<A>,
     size: &mut Vec<usize, A>,
     link: &mut Vec<Option<usize>, A>,
 )

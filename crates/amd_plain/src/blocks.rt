@@ -15,7 +15,7 @@ ghost use Rattle.amd_plain.specs.Starts.{EndsRun, ListsRun};
 ghost use Rattle.amd_postorder.specs.Trees.{IsByPlace, IsPostorderOf, link_of};
 
 use crate::start::empty_lists;
-use crate::work::Work;
+use crate::work::PlainWork;
 use amd_postorder::postorder::postorder;
 use amd_types::amd::Status;
 use amd_types::internal::{EMPTY, link_at};
@@ -214,7 +214,7 @@ fn add_last<A: Allocator>(
 /// # Errors
 ///
 /// `OutOfMemory` for a refused request.
-pub fn listing<A: Allocator + Copy>(work: &mut Work<A>) -> Result<Vec<usize, A>, Status>
+pub fn listing<A: Allocator + Copy>(work: &mut PlainWork<A>) -> Result<Vec<usize, A>, Status>
     requires ended { EndsRun work.old }
     ensures lists { IfOk result (λ p. ListsRun work.old p.items) }
     ensures refused { IfErr result (λ e. e ≡ Status.OutOfMemory) }

@@ -7,7 +7,7 @@ ghost use Rattle.amd_model.specs.Quotient.{has, turned, Once};
 ghost use Rattle.amd_plain.specs.Views.{num, list_at, Below, ListsBelow};
 ghost use Rattle.amd_plain.specs.Rounds.{plain_bound};
 
-use crate::work::Lists;
+use crate::work::PlainLists;
 use std::alloc::{AllocError, Allocator};
 
 /// The sum of the numbers at the places of a list, on top of a first number; at most the greatest `usize`.
@@ -27,7 +27,7 @@ pub fn renew_bounds<A: Allocator>(
     made: &[usize],
     border: usize,
     live: usize,
-    lists: &Lists<A>,
+    lists: &PlainLists<A>,
     beyond: &[usize],
     size: &[usize],
     bound: &mut Vec<usize, A>,
@@ -68,7 +68,7 @@ fn turn<A: Allocator>(list: &mut Vec<usize, A>)
 pub fn renew_lists<A: Allocator>(
     pivot: usize,
     made: &[usize],
-    lists: &mut Lists<A>,
+    lists: &mut PlainLists<A>,
 ) -> Result<(), AllocError>
     requires lengths { length lists.old.variables.items ≡ length lists.old.elements.items }
     requires pivot { pivot < length lists.old.elements.items }

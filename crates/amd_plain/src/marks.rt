@@ -8,7 +8,7 @@ ghost use Rattle.amd_model.specs.Quotient.{add_new, has};
 ghost use Rattle.amd_plain.specs.Views.{mark_at, plain_live, list_at, Below, ListsBelow, Clear};
 ghost use Rattle.amd_plain.specs.Rounds.{firsts};
 
-use crate::work::Lists;
+use crate::work::PlainLists;
 use std::alloc::{AllocError, Allocator};
 
 /// Marks each number of a list.
@@ -84,7 +84,7 @@ fn add_classes<A: Allocator>(
 pub fn front_of<A: Allocator + Copy>(
     alloc: A,
     pivot: usize,
-    lists: &Lists<A>,
+    lists: &PlainLists<A>,
     size: &[usize],
     marks: &mut Vec<bool, A>,
 ) -> Result<Vec<usize, A>, AllocError>
@@ -96,7 +96,8 @@ pub fn front_of<A: Allocator + Copy>(
     requires clear { Clear marks.old.items }
     ensures size { length marks.new.items ≡ length marks.old.items }
     ensures list { IfOk result (λ front. front.items ≡ firsts (λ x. x == pivot)
-        (flat_map (λ e. plain_live size.now (list_at lists.now.members.items e)) (list_at lists.now.elements.items pivot)
+        (flat_map (λ e. plain_live size.now (list_at lists.now.members.items e))
+        (list_at lists.now.elements.items pivot)
         ++ plain_live size.now (list_at lists.now.variables.items pivot))) }
     ensures marked { IfOk result (λ front. (j : ℕ) → mark_at marks.new.items j ≡ (j == pivot || has front.items j)) }
 {

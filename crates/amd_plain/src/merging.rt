@@ -13,7 +13,7 @@ ghost use Rattle.amd_plain.specs.Keeps.{IsIdle};
 ghost use Rattle.amd_plain.specs.Groups.{wrapped_sum, group_in, FoundIn, AreGrouped, IsClearScratch, Looked};
 
 use crate::marks::{clear_all, mark_all};
-use crate::work::{Lists, Scratch};
+use crate::work::{PlainLists, Scratch};
 use std::alloc::{AllocError, Allocator};
 
 /// The sum of a list, modulo 2^64.
@@ -41,7 +41,7 @@ fn all_marked(list: &[usize], marks: &[bool]) -> bool
 }
 
 /// The group in which a class is looked for, one of as many as there are rows.
-fn group_of<A: Allocator>(i: usize, lists: &Lists<A>) -> usize
+fn group_of<A: Allocator>(i: usize, lists: &PlainLists<A>) -> usize
     requires row { (i < length lists.now.elements.items) × (i < length lists.now.variables.items) }
     ensures group { result ≡ group_in lists.now.elements.items lists.now.variables.items i }
     ensures range { result < length lists.now.elements.items }
@@ -63,7 +63,7 @@ fn same_list(list: &[usize], other: &[usize], marks: &[bool]) -> bool
 fn first_alike<A: Allocator>(
     i: usize,
     group: &[usize],
-    lists: &Lists<A>,
+    lists: &PlainLists<A>,
     elements: &[bool],
     rows: &[bool],
 ) -> Option<usize>
@@ -95,7 +95,7 @@ fn first_alike<A: Allocator>(
 fn representative_in<A: Allocator>(
     i: usize,
     group: &[usize],
-    lists: &Lists<A>,
+    lists: &PlainLists<A>,
     elements: &mut Vec<bool, A>,
     rows: &mut Vec<bool, A>,
 ) -> Option<usize>
@@ -126,7 +126,7 @@ fn representative_in<A: Allocator>(
 /// Finds the representative of a class: a class alike that was met before, or itself, and then others may find it.
 fn represent<A: Allocator>(
     i: usize,
-    lists: &Lists<A>,
+    lists: &PlainLists<A>,
     scratch: &mut Scratch<A>,
 ) -> Result<(), AllocError>
     requires row { i < length lists.now.elements.items }
@@ -163,7 +163,7 @@ fn represent<A: Allocator>(
 /// Finds the representative of each class of a list, from the last to the first.
 fn represent_all<A: Allocator>(
     rest: &[usize],
-    lists: &Lists<A>,
+    lists: &PlainLists<A>,
     scratch: &mut Scratch<A>,
 ) -> Result<(), AllocError>
     requires idle { IsIdle (length lists.now.elements.items) scratch.old }
@@ -190,7 +190,7 @@ fn represent_all<A: Allocator>(
 }
 
 /// Empties the groups of the classes of a list, which hold no others.
-fn empty_groups<A: Allocator>(rest: &[usize], lists: &Lists<A>, groups: &mut Vec<Vec<usize, A>, A>)
+fn empty_groups<A: Allocator>(rest: &[usize], lists: &PlainLists<A>, groups: &mut Vec<Vec<usize, A>, A>)
     requires variables { length lists.now.variables.items ≡ length lists.now.elements.items }
     requires range { Below (length lists.now.elements.items) rest.now }
     requires groups { length groups.old.items ≡ length lists.now.elements.items }
@@ -209,7 +209,7 @@ fn empty_groups<A: Allocator>(rest: &[usize], lists: &Lists<A>, groups: &mut Vec
 /// variables. Other places of `into` are left open.
 pub fn representatives<A: Allocator>(
     rest: &[usize],
-    lists: &Lists<A>,
+    lists: &PlainLists<A>,
     scratch: &mut Scratch<A>,
 ) -> Result<(), AllocError>
     requires idle { IsIdle (length lists.now.elements.items) scratch.old }

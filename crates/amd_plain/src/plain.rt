@@ -9,13 +9,13 @@ ghost use Rattle.amd_model.specs.Input.Held.{HasMarks};
 ghost use Rattle.amd_model.specs.Input.Pattern.{graph_of};
 ghost use Rattle.amd_edges.specs.Visits.{AreCounts};
 ghost use Rattle.amd_engine_law.specs.Engine.{IsEngineAnswer};
-ghost use Rattle.amd_plain.specs.Plain.{IsBegun};
+ghost use Rattle.amd_plain.specs.Plain.{IsPlainBegun};
 
 use crate::blocks::listing;
 use crate::last::rows_held_last;
 use crate::rounds::eliminate;
 use crate::start::start;
-use crate::work::Work;
+use crate::work::PlainWork;
 use amd_edges::lists::starting_lists;
 use amd_types::amd::{Control, Info, Status};
 use amd_types::dense::dense_threshold;
@@ -32,14 +32,14 @@ fn begun<I: PrimInt, A: Allocator + Copy>(
     len: &[usize],
     threshold: usize,
     hold: Option<&[bool]>,
-) -> Result<Work<A>, AllocError>
+) -> Result<PlainWork<A>, AllocError>
     requires form { IsColumnForm (pos (length len.now)) (length len.now) (map I.value a_p.now) (map I.value a_i.now) }
     requires sorted { IsSorted (length len.now) (map I.value a_p.now) (map I.value a_i.now) }
     requires degrees { AreCounts (graph_of (length len.now) (map I.value a_p.now) (map I.value a_i.now))
         ((graph_of (length len.now) (map I.value a_p.now) (map I.value a_i.now)).edge) len.now }
     requires marks { HasMarks (option_copied hold) (length len.now) }
-    ensures { IfOk result (λ w. IsBegun (map I.value a_p.now) (map I.value a_i.now) len.now (option_copied hold.entry)
-        threshold w) }
+    ensures { IfOk result (λ w. IsPlainBegun (map I.value a_p.now) (map I.value a_i.now) len.now
+        (option_copied hold.entry) threshold w) }
 {
     let rows = starting_lists(alloc, len.len(), a_p, a_i, len)?;
     let last = rows_held_last(alloc, len, threshold, hold)?;

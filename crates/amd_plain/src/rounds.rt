@@ -17,7 +17,7 @@ use crate::bounds::{renew_bounds, renew_lists};
 use crate::buckets::{choose, place_all};
 use crate::marks::front_of;
 use crate::merging::{join, made_of, representatives};
-use crate::work::Work;
+use crate::work::PlainWork;
 use amd_types::amd::Control;
 use std::alloc::{AllocError, Allocator};
 
@@ -25,7 +25,7 @@ use std::alloc::{AllocError, Allocator};
 /// Returns the pivot and the front.
 #[tactic(none)]
 fn make_element<A: Allocator + Copy>(
-    work: &mut Work<A>,
+    work: &mut PlainWork<A>,
     aggressive: bool,
 ) -> Result<(usize, Vec<usize, A>), AllocError>
     requires sized { IsPlainSized (length work.old.size.items) work.old }
@@ -60,7 +60,7 @@ fn make_element<A: Allocator + Copy>(
 /// classes that are left, and the numbers of rows of the border and of the block.
 #[tactic(none)]
 fn merge_classes<A: Allocator + Copy>(
-    work: &mut Work<A>,
+    work: &mut PlainWork<A>,
     pivot: usize,
     front: &[usize],
 ) -> Result<(Vec<usize, A>, usize, usize), AllocError>
@@ -88,7 +88,7 @@ fn merge_classes<A: Allocator + Copy>(
 
 /// Gives the classes of the new element their new bounds and lists, places them, and keeps the numbers of the element.
 fn renew_classes<A: Allocator + Copy>(
-    work: &mut Work<A>,
+    work: &mut PlainWork<A>,
     pivot: usize,
     made: Vec<usize, A>,
     border: usize,
@@ -132,7 +132,10 @@ fn renew_classes<A: Allocator + Copy>(
 ///
 /// `AllocError` for a refused request. What the record then holds is not said.
 #[tactic(none)]
-pub fn round<A: Allocator + Copy>(work: &mut Work<A>, control: &Control) -> Result<(), AllocError>
+pub fn round<A: Allocator + Copy>(
+    work: &mut PlainWork<A>,
+    control: &Control,
+) -> Result<(), AllocError>
     requires stands { (g : Graph) × (dense : ℕ → Bool) × (t : QuotientGraph) × (s : State) ×
         PlainStands g dense work.old t s }
     requires left { 0 < work.old.live }
@@ -151,7 +154,7 @@ pub fn round<A: Allocator + Copy>(work: &mut Work<A>, control: &Control) -> Resu
 ///
 /// `AllocError` for a refused request. What the record then holds is not said.
 pub fn eliminate<A: Allocator + Copy>(
-    work: &mut Work<A>,
+    work: &mut PlainWork<A>,
     control: &Control,
 ) -> Result<(), AllocError>
     requires stands { (g : Graph) × (dense : ℕ → Bool) × (t : QuotientGraph) × (s : State) ×

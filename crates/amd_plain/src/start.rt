@@ -8,7 +8,7 @@ ghost use Rattle.amd_plain.specs.Views.{mark_at, num, list_at, Below, ListsBelow
 ghost use Rattle.amd_plain.specs.Keeps.{IsIdle};
 ghost use Rattle.amd_plain.specs.Starts.{StandsAtStart};
 
-use crate::work::{Lists, Scratch, Work};
+use crate::work::{PlainLists, PlainWork, Scratch};
 use amd_types::figures::Figures;
 use std::alloc::{AllocError, Allocator};
 
@@ -149,7 +149,7 @@ pub fn start<A: Allocator + Copy>(
     rows: Vec<Vec<usize, A>, A>,
     degrees: &[usize],
     last: &[bool],
-) -> Result<Work<A>, AllocError>
+) -> Result<PlainWork<A>, AllocError>
     requires rows { ListsBelow (length degrees.now) rows.items }
     requires degrees { Below (length degrees.now) degrees.now }
     requires marks { length last.now ≡ length degrees.now }
@@ -166,9 +166,9 @@ pub fn start<A: Allocator + Copy>(
         d_max: 1,
     };
     figures.add_front(n_dense, 0);
-    Ok(Work {
+    Ok(PlainWork {
         alloc,
-        lists: Lists {
+        lists: PlainLists {
             variables: rows,
             elements: empty_lists(alloc, n)?,
             members: empty_lists(alloc, n)?,

@@ -8,7 +8,7 @@ use std::alloc::Allocator;
 /// classes and elements are numbers below the size of the matrix: a class is named by its representative, and an
 /// element by its pivot row.
 #[derive(Drop)]
-pub struct Lists<A: Allocator> {
+pub struct PlainLists<A: Allocator> {
     /// The direct neighbours of each class. What is a class no longer may stand among them.
     pub variables: Vec<Vec<usize, A>, A>,
     /// The standing elements that hold each class.
@@ -35,11 +35,11 @@ pub struct Scratch<A: Allocator> {
 
 /// The state of an elimination.
 #[derive(Drop)]
-pub struct Work<A: Allocator> {
+pub struct PlainWork<A: Allocator> {
     /// What asks for memory.
     pub alloc: A,
     /// The lists of the quotient graph.
-    pub lists: Lists<A>,
+    pub lists: PlainLists<A>,
     /// The number of rows of each class, and 0 for a row that is not a class.
     pub size: Vec<usize, A>,
     /// The bound of each class.
