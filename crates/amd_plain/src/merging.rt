@@ -160,37 +160,12 @@ fn represent<A: Allocator>(
     Ok(())
 }
 
-/// Finds the representative of each class of a list, from the last to the first.
-fn represent_all<A: Allocator>(
+/// Empties the groups of the classes of a list, which hold no others.
+fn empty_groups<A: Allocator>(
     rest: &[usize],
     lists: &PlainLists<A>,
-    scratch: &mut Scratch<A>,
-) -> Result<(), AllocError>
-    requires idle { IsIdle (length lists.now.elements.items) scratch.old }
-    requires elements { ListsBelow (length lists.now.elements.items) lists.now.elements.items }
-    requires variables { ListsBelow (length lists.now.elements.items) lists.now.variables.items }
-    requires range { Below (length lists.now.elements.items) rest.now }
-    requires once { Once rest.now }
-    requires lists_once { (i : ℕ) → has rest.now i ≡ true → Once (list_at lists.now.elements.items i) ×
-        Once (list_at lists.now.variables.items i) }
-    ensures into { OnOk result ((i : ℕ) → has rest.now i ≡ true →
-        num scratch.new.into.items i ≡ last_that (plain_alike lists.now.elements.items lists.now.variables.items i) i
-        rest.now) }
-    ensures grouped { OnOk result (AreGrouped lists.now.elements.items lists.now.variables.items rest.now
-        (list_at scratch.new.groups.items)) }
-    ensures ready { OnOk result (IsClearScratch (length lists.now.elements.items) scratch.new) }
-    ensures beyond { OnOk result (scratch.new.beyond ≡ scratch.old.beyond) }
-{
-    let mut left = rest.len();
-    'classes: while left > 0 {
-        left -= 1;
-        represent(rest[left], lists, scratch)?;
-    }
-    Ok(())
-}
-
-/// Empties the groups of the classes of a list, which hold no others.
-fn empty_groups<A: Allocator>(rest: &[usize], lists: &PlainLists<A>, groups: &mut Vec<Vec<usize, A>, A>)
+    groups: &mut Vec<Vec<usize, A>, A>,
+)
     requires variables { length lists.now.variables.items ≡ length lists.now.elements.items }
     requires range { Below (length lists.now.elements.items) rest.now }
     requires groups { length groups.old.items ≡ length lists.now.elements.items }
@@ -206,7 +181,7 @@ fn empty_groups<A: Allocator>(rest: &[usize], lists: &PlainLists<A>, groups: &mu
 }
 
 /// Finds the representative of each class of a list: the last one of the list that keeps the same elements and
-/// variables. Other places of `into` are left open.
+/// variables. The list is gone through from its end. Other places of `into` are left open.
 pub fn representatives<A: Allocator>(
     rest: &[usize],
     lists: &PlainLists<A>,
@@ -225,7 +200,11 @@ pub fn representatives<A: Allocator>(
     ensures idle { OnOk result (IsIdle (length lists.now.elements.items) scratch.new) }
     ensures beyond { OnOk result (scratch.new.beyond ≡ scratch.old.beyond) }
 {
-    represent_all(rest, lists, scratch)?;
+    let mut left = rest.len();
+    'classes: while left > 0 {
+        left -= 1;
+        represent(rest[left], lists, scratch)?;
+    }
     empty_groups(rest, lists, &mut scratch.groups);
     Ok(())
 }

@@ -3,7 +3,7 @@ use Rattle.amd_plain.specs.Views.{num, list_at}
 use Rattle.amd_plain.specs.Rounds.{plain_alike}
 use Rattle.amd_plain.specs.Groups.{group_in, IsClearScratch}
 use Rattle.amd_round_laws.proofs.Merging.Representatives.{Found, alike_self, alike_flip, alike_through}
-use Rattle.amd_plain.proofs.merging.represent_all.Given as goal
+use Rattle.amd_plain.proofs.merging.representatives.Given as goal
 
 abbrev pub invariant-classes : goal.invariant-classes
 invariant-classes g l = record {
