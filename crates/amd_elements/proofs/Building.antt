@@ -1,21 +1,24 @@
 -- The list of a new element, gathered from the lists of its pivot and of the pivot's elements.
-use Rattle.std.proofs.Common.{ℕ, ℤ, Bool, true, false, List, [], ◌∷◌, ◌++◌, ◌≡◌, ◌<◌, ◌≤◌, ◌+◌, ◌-◌, ◌||◌, inl, inr, refl, sym, subst}
-use Rattle.std.proofs.Common.{ap, ◌∙◌, arith, append_assoc, append-nil, length, fold, flat_map, sum_by, ◌^◌}
+use Rattle.std.proofs.Common.{ℕ, ℤ, Bool, true, false, List, [], ◌++◌, ◌≡◌, ◌<◌, ◌≤◌, ◌+◌, ◌-◌, ◌||◌, inl, inr, refl, sym, subst}
+use Rattle.std.proofs.Common.{ap, ◌∙◌, arith, length, fold, flat_map, sum_by, ◌^◌}
 use Rattle.std.specs.Prelude.{nat_lt, ◌==◌}
 use Rattle.std.proofs.Math.Bool.{or_assoc, or-false}
 use Rattle.std.proofs.lemmas.Bool.{true≢false, cases_eq, eq-eqb, ne_eqb, or_left, or_right, or_cases}
 use Rattle.std.proofs.lemmas.List.Sums.{fold-append}
-use Rattle.std.proofs.lemmas.List.Concat.{flat_map-append}
 use Rattle.amd_model.specs.Quotient.{has, add_new}
 use Rattle.amd_model.proofs.Quotient.Lists.{has_append}
-use Rattle.amd_words.specs.Words.{num, is_place, place, word, start, size_of, in_front, classes, rows, Names}
+use Rattle.amd_words.specs.Words.{size_of, in_front, classes, rows, Names}
 use Rattle.amd_round_laws.specs.Rounds.{firsts}
 use Rattle.amd_round_laws.proofs.Lists.Named.{sum_named, filter_named}
 use Rattle.amd_round_laws.proofs.Lists.Added.{same_adds, adds_marks}
-use Rattle.amd_elements.specs.Element.{grown, Gathers, elements_at, variables_at, members_at, front_of, IsListLaid, ListsLaid, Builds}
-use Rattle.amd_words.proofs.RowLists.{rows_more, rows_same, rows_both, rows_length, rows_has}
+use Rattle.amd_lists.specs.Spans.{IsSpan}
+use Rattle.amd_elements.specs.Element.{grown, Gathers, IsGathering, elements_at, variables_at, members_at, front_of, Builds}
+use Rattle.amd_elements.specs.Premises.{CanGather}
+use Rattle.amd_elements.specs.Room.{named_around}
+use Rattle.amd_words.proofs.RowLists.{rows_length}
 use Rattle.amd_words.proofs.WordMarks.{rows_start}
-use Rattle.amd_elements.proofs.Gathering.{gathers_none, adds_part, adds_part_sum}
+use Rattle.amd_elements.proofs.ListsAround.{classes_append, classes_around}
+use Rattle.amd_elements.proofs.Gathering.{gathers_empty, adds_part, adds_part_sum}
 
 -- ---- one list after another
 
@@ -91,30 +94,42 @@ module _ {iw nv : List ℤ} {start free : ℕ} {xs : List ℕ} {iw' nv' : List �
       let l1 = ap length h.list in let l2 = rows_length iw' start (end - start) in
       ((omega (arith, a, b, c)), (omega (arith, d, e, f, g)), (omega (arith, l1, l2, b, c, c')))
 
--- ---- the lists of a pivot
+-- ---- one list more
 
--- the lists of the rows that words name, one after another
-pub flat_next : (f : ℕ → List ℕ) (iw : List ℤ) (from k : ℕ) →
-    flat_map f (rows iw from (k + 1)) ≡ flat_map f (rows iw from k) ++ f (place (word iw (from + k)))
-flat_next f iw from k = ap (flat_map f) (rows_more iw from k)
-    ∙ flat_map-append f (rows iw from k) (place (word iw (from + k)) ∷ [])
-    ∙ ap (λ l. flat_map f (rows iw from k) ++ l) (append-nil (f (place (word iw (from + k)))))
+module _ {free : ℕ} {all taken : List ℕ} {iw nv iw1 nv1 : List ℤ} {end total : ℕ}
+    (h : IsGathering free all taken iw nv iw1 nv1 end total) (from count : ℕ) where
+  those : classes nv1 (rows iw1 from count) ≡ classes nv (rows iw1 from count)
+  those = classes_same nv nv1 h.gathers.sizes (rows iw1 from count)
 
-module _ (iw pe : List ℤ) (len : List ℕ) (n free pivot m : ℕ) (within : m ≤ num len pivot) (laid : ListsLaid iw pe len n free pivot m) where
-  -- the words of the pivot
-  pub own_word : (k : ℕ) → k < m → (is_place (word iw (start pe pivot + k)) ≡ true) × (place (word iw (start pe pivot + k)) < n)
-      × (start pe pivot + k < free)
-  own_word k l = let a = laid.0.2 k (omega (arith, l, within)) in (a.0, a.1, (let b = laid.0.1 in omega (arith, b, l, within)))
+  pub gathers_list : {iw2 nv2 : List ℤ} {last sum : ℕ} → Gathers iw1 nv1 free end (classes nv1 (rows iw1 from count)) iw2 nv2 last sum →
+      IsGathering free all (taken ++ rows iw1 from count) iw nv iw2 nv2 last sum
+  gathers_list {iw2} {nv2} {last} {sum} g = record {
+    gathers = subst (λ xs. Gathers iw nv free free xs iw2 nv2 last sum) (sym (classes_append nv taken (rows iw1 from count)))
+        (gathers_then h.gathers (subst (λ xs. Gathers iw1 nv1 free end xs iw2 nv2 last sum) those g));
+    fits = h.fits;
+    few = h.few;
+  }
 
-  pub own_element : (k : ℕ) → k < m → IsListLaid iw pe len n free (place (word iw (start pe pivot + k)))
-  own_element k l = laid.1 (place (word iw (start pe pivot + k))) (rows_has iw (start pe pivot) m k l)
+  pub can_gather : (rest : List ℕ) → all ≡ (taken ++ rows iw1 from count) ++ rest → IsSpan (length nv1) iw1 from count →
+      from + count ≤ free → CanGather iw1 nv1 from count free end total
+  can_gather rest split span before =
+      let bounds = gathers_fits h.gathers (classes nv all) (classes nv (rows iw1 from count)) (classes nv rest)
+      (ap (classes nv) split ∙ classes_append nv (taken ++ rows iw1 from count) rest
+      ∙ ap (λ xs. xs ++ classes nv rest) (classes_append nv taken (rows iw1 from count))) in
+      record {
+        span = span;
+        apart = inl before;
+        order = h.gathers.grows;
+        made = subst (λ n. Names n iw1 free (end - free)) (sym h.gathers.wide) h.gathers.names;
+        known = gathers_known h.gathers;
+        total_is = gathers_total h.gathers;
+        fits = (let a = ap (λ l. length (grown iw1 nv1 free end l)) those in let b = bounds.0 in let l = h.gathers.long in let f = h.fits in
+            omega (arith, a, b, l, f));
+        few = (let a = ap (λ l. sum_by (size_of nv1) (grown iw1 nv1 free end l)) those in let b = bounds.1 in let f = h.few in
+            omega (arith, a, b, f));
+      }
 
-  pub own_variables : (start pe pivot + m + (num len pivot - m) ≤ free) × Names n iw (start pe pivot + m) (num len pivot - m)
-  own_variables = (
-    (let b = laid.0.1 in omega (arith, b, within)),
-    λ k l. let at : start pe pivot + (m + k) ≡ (start pe pivot + m) + k = omega arith in
-        subst (λ p. (is_place (word iw p) ≡ true) × (place (word iw p) < n)) at (laid.0.2 (m + k) (omega (arith, l, within))),
-  )
+-- ---- the list of a new element
 
 module _ (iw nv nv1 pe : List ℤ) (len : List ℕ) (pivot m free : ℕ) (sizes : (i : ℕ) → size_of nv1 i ≡ size_of nv i)
     (front1 : (i : ℕ) → in_front nv1 i ≡ (in_front nv i || pivot == i)) (clear : (j : ℕ) → in_front nv j ≡ false) where
@@ -139,83 +154,21 @@ module _ (iw nv nv1 pe : List ℤ) (len : List ℕ) (pivot m free : ℕ) (sizes 
   grown_all xs = ap (λ o. fold (add_new (in_front nv1)) o xs) (rows_start iw free)
       ∙ same_adds (in_front nv1) (λ x. x == pivot) [] xs (λ x. ap (λ b. b || has [] x) (pivot_marked x))
 
-  pub builds_none : Gathers iw nv1 free free [] iw nv1 free 0
-  unfolding has
-  builds_none = gathers_none iw nv1 free free 0 (omega arith) (λ k l. absurd (omega (arith, l))) (λ j h.
-      absurd (true≢false (sym h ∙ ap (λ l. has l j) (rows_start iw free)))) (sym (ap (sum_by (size_of nv1)) (rows_start iw free)))
+  pub around_all : classes nv1 (named_around iw pe len pivot m) ≡ all
+  around_all = classes_same nv nv1 sizes (named_around iw pe len pivot m) ∙ classes_around iw nv pe len pivot m
 
-  -- the next element of the pivot
-  pub next_element : (k : ℕ) → flat_map f (rows iw (start pe pivot) (k + 1))
-      ≡ flat_map f (rows iw (start pe pivot) k) ++ f (place (word iw (start pe pivot + k)))
-  next_element k = flat_next f iw (start pe pivot) k
-
-  pub split_element : (k : ℕ) → k < m → all ≡ (flat_map f (rows iw (start pe pivot) k) ++ f (place (word iw (start pe pivot + k))))
-      ++ (flat_map f (rows iw (start pe pivot + (k + 1)) (m - (k + 1))) ++ vs)
-  split_element k l = let e : m ≡ (k + 1) + (m - (k + 1)) = omega (arith, l) in
-      ap (λ c. flat_map f (rows iw (start pe pivot) c) ++ vs) e
-      ∙ ap (λ xs. flat_map f xs ++ vs) (rows_both iw (start pe pivot) (k + 1) (m - (k + 1)))
-      ∙ ap (λ xs. xs ++ vs) (flat_map-append f (rows iw (start pe pivot) (k + 1)) (rows iw (start pe pivot + (k + 1)) (m - (k + 1))))
-      ∙ append_assoc (flat_map f (rows iw (start pe pivot) (k + 1))) (flat_map f (rows iw (start pe pivot + (k + 1)) (m - (k + 1)))) vs
-      ∙ ap (λ xs. xs ++ (flat_map f (rows iw (start pe pivot + (k + 1)) (m - (k + 1))) ++ vs)) (next_element k)
-
-  pub split_variables : all ≡ (flat_map f (elements_at iw pe pivot m) ++ vs) ++ []
-  split_variables = sym (append-nil all)
-
-  -- a list that lies before free stands as it was
-  module _ {xs : List ℕ} {iw' nv' : List ℤ} {end total : ℕ} (h : Gathers iw nv1 free free xs iw' nv' end total) (from count : ℕ)
-      (before : from + count ≤ free) where
-    pub still : rows iw' from count ≡ rows iw from count
-    still = rows_same iw iw' from from count (λ k l. h.below (from + k) (omega (arith, l, before)))
-
-    pub still_classes : classes nv' (rows iw' from count) ≡ classes nv (rows iw from count)
-    still_classes = ap (classes nv') still ∙ classes_same nv nv' (λ j. h.sizes j ∙ sizes j) (rows iw from count)
-
-    pub still_names : (n : ℕ) → length nv' ≡ n → Names n iw from count → Names (length nv') iw' from count
-    still_names n wide names k l = let w = h.below (from + k) (omega (arith, l, before)) in let b = names k l in
-        (ap is_place w ∙ b.0, (let e = ap place w in let s = b.1 in omega (arith, e, s, wide)))
-
-  -- ---- the element at the place k of the pivot's list
-  module _ (n : ℕ) (wide0 : length nv ≡ n) (wide : length nv1 ≡ n) (within : m ≤ num len pivot) (laid : ListsLaid iw pe len n free pivot m)
-      (short : free + length (front_of iw nv pe len pivot m) ≤ length iw)
-      (few : sum_by (size_of nv) (front_of iw nv pe len pivot m) < 2 ^ 63) where
-    -- the words of the pivot
-    pub pivot_word : (k : ℕ) → k < m → (is_place (word iw (start pe pivot + k)) ≡ true) × (place (word iw (start pe pivot + k)) < n)
-        × (start pe pivot + k < free)
-    pivot_word = own_word iw pe len n free pivot m within laid
-
-    pub element_laid : (k : ℕ) → k < m → IsListLaid iw pe len n free (place (word iw (start pe pivot + k)))
-    element_laid = own_element iw pe len n free pivot m within laid
-
-    -- what was gathered before the list of a row, and what comes with it
-    module _ {xs : List ℕ} {iw' nv' : List ℤ} {end total : ℕ} (h : Gathers iw nv1 free free xs iw' nv' end total) (from count : ℕ)
-        (before : from + count ≤ free) (ys zs : List ℕ)
-        (is : ys ≡ classes nv (rows iw from count)) (split : all ≡ (xs ++ ys) ++ zs) where
-      abbrev those : List ℕ
-      those = classes nv' (rows iw' from count)
-
-      those_are : those ≡ ys
-      those_are = still_classes h from count before ∙ sym is
-
-      abbrev bounds : (free + length (grown iw' nv' free end ys) ≤ free + length (grown iw nv1 free free all))
-          × (sum_by (size_of nv') (grown iw' nv' free end ys) ≤ sum_by (size_of nv1) (grown iw nv1 free free all))
-          × (end ≤ free + length (grown iw nv1 free free all))
-      bounds = gathers_fits h all ys zs split
-
-      pub turn_end : end ≤ length iw'
-      turn_end = let b = bounds.2 in let e = ap length (grown_all all) in let long = h.long in omega (arith, b, e, short, long)
-
-      pub turn_fits : free + length (grown iw' nv' free end those) ≤ length iw'
-      turn_fits = let a = ap (λ l. length (grown iw' nv' free end l)) those_are in let b = bounds.0 in let e =
-          ap length (grown_all all) in let long = h.long in omega (arith, a, b, e, short, long)
-
-      pub turn_few : sum_by (size_of nv') (grown iw' nv' free end those) < 2 ^ 63
-      turn_few = let a = ap (λ l. sum_by (size_of nv') (grown iw' nv' free end l)) those_are in let b = bounds.1 in let e =
-          ap (sum_by (size_of nv1)) (grown_all all) in
-          let d = sum_named (size_of nv1) (size_of nv) (firsts (λ x. x == pivot) all) (λ x q. sizes x) in omega (arith, a, b, e, d, few)
-
-      pub turn_done : {after marked : List ℤ} {last sum : ℕ} → Gathers iw' nv' free end those after marked last sum →
-          Gathers iw nv1 free free (xs ++ ys) after marked last sum
-      turn_done {after} {marked} {last} {sum} g = gathers_then h (subst (λ l. Gathers iw' nv' free end l after marked last sum) those_are g)
+  -- it is begun, and there is room for it
+  pub builds_none : free + length (front_of iw nv pe len pivot m) ≤ length iw → sum_by (size_of nv) (front_of iw nv pe len pivot m) < 2 ^ 63 →
+      IsGathering free (named_around iw pe len pivot m) [] iw nv1 iw nv1 free 0
+  builds_none short few = record {
+    gathers = gathers_empty iw nv1 free;
+    fits = (let a = ap length whole in omega (arith, a, short));
+    few = (let a = ap (sum_by (size_of nv1)) whole in
+        let d = sum_named (size_of nv1) (size_of nv) (front_of iw nv pe len pivot m) (λ x q. sizes x) in omega (arith, a, d, few));
+  }
+    where
+      whole : grown iw nv1 free free (classes nv1 (named_around iw pe len pivot m)) ≡ front_of iw nv pe len pivot m
+      whole = grown_all (classes nv1 (named_around iw pe len pivot m)) ∙ ap (firsts (λ x. x == pivot)) around_all
 
   -- the whole
   pub builds_all : {iw' nv' : List ℤ} {end total : ℕ} → length nv1 ≡ length nv → Gathers iw nv1 free free all iw' nv' end total →
@@ -235,3 +188,9 @@ module _ (iw nv nv1 pe : List ℤ) (len : List ℕ) (pivot m free : ℕ) (sizes 
     total_is = h.total_is ∙ sum_named (size_of nv1) (size_of nv) (rows iw' free (end - free)) (λ x q. sizes x)
         ∙ ap (sum_by (size_of nv)) (h.list ∙ grown_all all);
   }
+
+  pub builds_visited : {iw' nv' : List ℤ} {end total : ℕ} → length nv1 ≡ length nv →
+      IsGathering free (named_around iw pe len pivot m) (named_around iw pe len pivot m) iw nv1 iw' nv' end total →
+      Builds pivot (front_of iw nv pe len pivot m) iw nv free iw' nv' end total
+  builds_visited {iw'} {nv'} {end} {total} wide h =
+      builds_all wide (subst (λ xs. Gathers iw nv1 free free xs iw' nv' end total) around_all h.gathers)

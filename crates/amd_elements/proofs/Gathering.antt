@@ -1,12 +1,13 @@
 -- A list that grows behind the others: steps, and what they come to.
 use Rattle.amd_model.proofs.Counting.Below.{clash}
 use Rattle.std.proofs.Common.{ℕ, ℤ, Bool, true, false, List, [], ◌∷◌, ◌++◌, ◌≡◌, ◌<◌, ◌≤◌, ◌+◌, ◌-◌, ◌&&◌, ◌||◌, not, inl, inr, refl}
-use Rattle.std.proofs.Common.{sym}
+use Rattle.std.proofs.Common.{sym, ◌^◌, add-sub_of_le}
 use Rattle.std.proofs.Common.{subst, ap, ◌∙◌, arith, append_assoc, length, fold, sum_by, pos, set, length-set, get_or-set_same}
 use Rattle.std.proofs.Common.{get_or-set_other, append-nil}
 use Rattle.std.specs.Prelude.{nat_lt, ◌==◌}
 use Rattle.std.proofs.Math.Bool.{or_assoc, or-false}
 use Rattle.std.proofs.lemmas.Bool.{cases_Bool, cases_eq, ne_eqb, and_parts, not-true, or_left, or_right, or_cases, or_from, or_parts}
+use Rattle.std.proofs.lemmas.Bool.{and_from, not_from_false, ltb-true, true≢false}
 use Rattle.std.proofs.lemmas.List.{length-append}
 use Rattle.std.proofs.lemmas.List.Sums.{fold-append, fold_push, sum_by-append, sum_by-cons}
 use Rattle.amd_model.specs.Quotient.{has, add_new}
@@ -14,8 +15,12 @@ use Rattle.amd_model.proofs.Quotient.Lists.{add_old, add_fresh, has_append}
 use Rattle.amd_round_laws.proofs.Lists.Added.{adds_marks}
 use Rattle.amd_words.specs.Words.{is_place, place, word, size_of, in_front, classes, rows, Names}
 use Rattle.amd_elements.specs.Element.{grown, Gathers}
-use Rattle.amd_words.proofs.Classes.{classes_split}
+use Rattle.amd_elements.specs.Premises.{CanGather}
+use Rattle.amd_words.proofs.Classes.{classes_yes, classes_no, classes_split}
 use Rattle.amd_words.proofs.RowLists.{rows_more, rows_same, rows_length}
+use Rattle.amd_words.proofs.WordCounts.{within_count, next_place}
+use Rattle.amd_words.proofs.WordMarks.{rows_start}
+use Rattle.amd_elements.proofs.RoundWords.{adds_few, filter_few}
 
 add_none : (n : ℕ) → n + 0 ≡ n
 add_none n = omega arith
@@ -83,6 +88,12 @@ gathers_none iw nv start free total order names known total_is = record {
   known = known;
   total_is = total_is;
 }
+
+-- a list that is not begun
+pub gathers_empty : (iw nv : List ℤ) (free : ℕ) → Gathers iw nv free free [] iw nv free 0
+unfolding has
+gathers_empty iw nv free = gathers_none iw nv free free 0 (omega arith) (λ k l. absurd (omega (arith, l))) (λ j h.
+    absurd (true≢false (sym h ∙ ap (λ l. has l j) (rows_start iw free)))) (sym (ap (sum_by (size_of nv)) (rows_start iw free)))
 
 -- what is met again changes nothing
 met_again : (nv : List ℤ) (xs : List ℕ) (y : ℕ) → (in_front nv y || has xs y) ≡ true → (j : ℕ) →
@@ -181,20 +192,100 @@ module _ {iw nv : List ℤ} {start free : ℕ} {xs : List ℕ} {iw' nv' : List �
       let e : sum_by (size_of nv) (y ∷ []) ≡ size_of nv y = sum_by-cons (size_of nv) y [] ∙ add_none (size_of nv y) in
       ((omega (arith, order, grows, l1, l2, l3, l4, l5, l6)), (omega (arith, s1, s3, s4, s5, s6, e, total_is)))
 
--- the next of some words names a class that was not taken: it has room
-module _ (iw nv iw' nv' : List ℤ) (from count start free end sum n row : ℕ)
-    (h : Gathers iw nv start free (classes nv (rows iw from n)) iw' nv' end sum) (l : n < count)
-    (is : row ≡ place (word iw (from + n))) (opened : (nat_lt 0 (size_of nv' row) && not (in_front nv' row)) ≡ true) where
-  abbrev parts : (nat_lt 0 (size_of nv' row) ≡ true) × (not (in_front nv' row) ≡ true)
-  parts = and_parts (nat_lt 0 (size_of nv' row)) (not (in_front nv' row)) opened
+-- what is added to a list is no more than what was gone through
+pub grown_short : (iw nv : List ℤ) (start free from n : ℕ) →
+    length (grown iw nv start free (classes nv (rows iw from n))) ≤ (free - start) + n
+grown_short iw nv start free from n =
+    let a = adds_few (in_front nv) (rows iw start (free - start)) (classes nv (rows iw from n)) in
+    let b = rows_length iw start (free - start) in let c = filter_few (λ j. nat_lt 0 (size_of nv j)) (rows iw from n) in
+    let d = rows_length iw from n in omega (arith, a, b, c, d)
 
-  pub class_here : nat_lt 0 (size_of nv (place (word iw (from + n)))) ≡ true
-  class_here = ap (nat_lt 0) (sym (h.sizes (place (word iw (from + n))))) ∙ ap (λ j. nat_lt 0 (size_of nv' j)) (sym is) ∙ parts.0
+pub gathers_end : {iw nv : List ℤ} {start free : ℕ} {iw' nv' : List ℤ} {end total : ℕ} (from n : ℕ) →
+    Gathers iw nv start free (classes nv (rows iw from n)) iw' nv' end total → end ≤ free + n
+gathers_end {iw} {nv} {start} {free} {iw'} {nv'} {end} {total} from n h =
+    let a = ap length h.list in let b = rows_length iw' start (end - start) in let c = grown_short iw nv start free from n in
+    let g = h.grows in let o = h.order in omega (arith, a, b, c, g, o)
 
-  pub open_here : in_front nv' (place (word iw (from + n))) ≡ false
-  open_here = ap (in_front nv') (sym is) ∙ not-true (in_front nv' row) parts.1
+-- the word at the place p, the next of count words from a place on
+module _ {iw nv : List ℤ} {from count start free total : ℕ} {iw' nv' : List ℤ} {end sum : ℕ} (p : ℕ)
+    (can : CanGather iw nv from count start free total)
+    (h : Gathers iw nv start free (classes nv (rows iw from (p - from))) iw' nv' end sum) (after : from ≤ p) (there : p < from + count) where
+  -- it stands as it was
+  unchanged : word iw' p ≡ word iw p
+  unchanged = elim can.apart [
+    | inl b ↦ h.below p (let o = can.order in omega (arith, b, o, there))
+    | inr b ↦ h.above p (let a = gathers_end from (p - from) h in omega (arith, a, b, after))
+  ]
 
-  pub room_here : (end < start + length (grown iw nv start free (classes nv (rows iw from count))))
-      × (sum + size_of nv (place (word iw (from + n))) ≤ sum_by (size_of nv) (grown iw nv start free (classes nv (rows iw from count))))
-  room_here = gathers_room h (place (word iw (from + n))) (classes nv (rows iw from count))
-      (classes nv (rows iw (from + (n + 1)) (count - (n + 1)))) (classes_split nv iw from n count l class_here) open_here
+  word_is : word iw' p ≡ word iw (from + (p - from))
+  word_is = unchanged ∙ ap (word iw) (sym (add-sub_of_le after))
+
+  pub word_inside : p < length iw'
+  word_inside = let i = can.span.inside in let l = h.long in omega (arith, i, l, there)
+
+  pub word_one : is_place (word iw' p) ≡ true
+  word_one = ap is_place word_is ∙ (can.span.names (p - from) (within_count after there)).0
+
+  module _ (row : ℕ) (named : row ≡ place (word iw' p)) where
+    abbrev y : ℕ
+    y = place (word iw (from + (p - from)))
+
+    row_is : row ≡ y
+    row_is = named ∙ ap place word_is
+
+    pub row_inside : row < length nv'
+    row_inside = let s = (can.span.names (p - from) (within_count after there)).1 in let w = h.wide in omega (arith, row_is, s, w)
+
+    -- what is no class, or is in the front, changes nothing
+    pub row_passed : (nat_lt 0 (size_of nv' row) && not (in_front nv' row)) ≡ false →
+        Gathers iw nv start free (classes nv (rows iw from (p + 1 - from))) iw' nv' end sum
+    row_passed shut = subst (λ m. Gathers iw nv start free (classes nv (rows iw from m)) iw' nv' end sum) (sym (next_place after))
+        (elim (cases_Bool (nat_lt 0 (size_of nv y))) [
+          | inr q ↦ subst (λ xs. Gathers iw nv start free xs iw' nv' end sum) (sym (classes_no nv iw from (p - from) q)) h
+          | inl q ↦ subst (λ xs. Gathers iw nv start free xs iw' nv' end sum) (sym (classes_yes nv iw from (p - from) q))
+              (gathers_old h y (elim (cases_Bool (in_front nv' y)) [
+                | inl b ↦ b
+                | inr b ↦ clash (and_from (nat_lt 0 (size_of nv' y)) (not (in_front nv' y)) (ap (nat_lt 0) (h.sizes y) ∙ q)
+                    (not_from_false (in_front nv' y) b))
+                    (ap (λ x. nat_lt 0 (size_of nv' x) && not (in_front nv' x)) (sym row_is) ∙ shut)
+              ]))
+        ])
+
+    -- a class outside the front is appended
+    module _ (opened : (nat_lt 0 (size_of nv' row) && not (in_front nv' row)) ≡ true) where
+      parts : (nat_lt 0 (size_of nv' row) ≡ true) × (not (in_front nv' row) ≡ true)
+      parts = and_parts (nat_lt 0 (size_of nv' row)) (not (in_front nv' row)) opened
+
+      class : nat_lt 0 (size_of nv y) ≡ true
+      class = ap (nat_lt 0) (sym (h.sizes y)) ∙ ap (λ j. nat_lt 0 (size_of nv' j)) (sym row_is) ∙ parts.0
+
+      pub row_class : 0 < size_of nv' row
+      row_class = ltb-true 0 (size_of nv' row) parts.0
+
+      pub row_fresh : in_front nv' row ≡ false
+      row_fresh = not-true (in_front nv' row) parts.1
+
+      room : (end < start + length (grown iw nv start free (classes nv (rows iw from count))))
+          × (sum + size_of nv y ≤ sum_by (size_of nv) (grown iw nv start free (classes nv (rows iw from count))))
+      room = gathers_room h y (classes nv (rows iw from count))
+          (classes nv (rows iw (from + ((p - from) + 1)) (count - ((p - from) + 1))))
+          (classes_split nv iw from (p - from) count (within_count after there) class) (ap (in_front nv') (sym row_is) ∙ row_fresh)
+
+      pub end_inside : end < length iw'
+      end_inside = let a = room.0 in let f = can.fits in let l = h.long in omega (arith, a, f, l)
+
+      pub sum_fits : (size : ℕ) → size ≡ size_of nv' row → sum + size < 2 ^ 64
+      sum_fits size is = let a = room.1 in let f = can.few in let s = h.sizes row in let e = ap (size_of nv) row_is in
+          omega (arith, a, f, is, s, e)
+
+      pub row_taken : (nv2 : List ℤ) (size : ℕ) → length nv2 ≡ length nv' → ((j : ℕ) → size_of nv2 j ≡ size_of nv' j) →
+          ((j : ℕ) → in_front nv2 j ≡ (in_front nv' j || row == j)) → size ≡ size_of nv' row →
+          Gathers iw nv start free (classes nv (rows iw from (p + 1 - from))) (set iw' end (word iw' p)) nv2 (end + 1) (sum + size)
+      row_taken nv2 size wide sizes front is =
+          subst (λ xs. Gathers iw nv start free xs (set iw' end (word iw' p)) nv2 (end + 1) (sum + size))
+          (sym (ap (λ m. classes nv (rows iw from m)) (next_place after) ∙ classes_yes nv iw from (p - from) class))
+          (gathers_new h y p nv2 (sum + size) unchanged (ap is_place (sym unchanged) ∙ word_one)
+          (ap place (sym unchanged) ∙ sym named ∙ row_is) (can.span.names (p - from) (within_count after there)).1
+          (ap (in_front nv') (sym row_is) ∙ row_fresh) (let a = end_inside in let l = h.long in omega (arith, a, l))
+          wide sizes (λ j. front j ∙ ap (λ x. in_front nv' j || x == j) row_is)
+          (ap (λ m. sum + m) (is ∙ ap (size_of nv') row_is)))

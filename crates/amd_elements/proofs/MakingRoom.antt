@@ -19,7 +19,7 @@ use Rattle.amd_elements.specs.Room.{Rooms, named_around}
 use Rattle.amd_lists.proofs.Frames.{reads_list, reads_elements, reads_variables}
 use Rattle.amd_elements.proofs.Settling.{names_below}
 use Rattle.amd_elements.proofs.Touching.{front_once}
-use Rattle.amd_elements.proofs.Building.{own_variables}
+use Rattle.amd_elements.proofs.ListsAround.{own_variables}
 use Rattle.amd_elements.proofs.Meeting.{front_named}
 
 pub rooms_stay : {n : ℕ} {iw pe e_len : List ℤ} {len : List ℕ} {free : ℕ} → Layout n iw pe e_len len free →

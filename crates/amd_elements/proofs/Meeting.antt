@@ -1,26 +1,27 @@
 -- The classes of a new element are met one by one, and unmarked again.
 use Rattle.amd_model.proofs.Counting.Below.{clash}
-use Rattle.std.proofs.Common.{ℕ, ℤ, Bool, true, false, List, [], ◌∷◌, ◌++◌, ◌≡◌, ◌≤◌, ◌+◌, ◌-◌, ◌&&◌, ◌||◌, not, inl, inr, refl, sym}
-use Rattle.std.proofs.Common.{subst, ap, ◌∙◌, arith, length, fold, flat_map, sum_by, pos, negsuc}
+use Rattle.std.proofs.Common.{ℕ, ℤ, Bool, true, false, List, [], ◌∷◌, ◌++◌, ◌≡◌, ◌+◌, ◌-◌, ◌&&◌, ◌||◌, not, inl, inr, refl, sym}
+use Rattle.std.proofs.Common.{subst, ap, ◌∙◌, arith, length, fold, flat_map, pos, negsuc}
 use Rattle.std.specs.Prelude.{nat_lt, ◌==◌}
 use Rattle.std.proofs.Math.Bool.{or_assoc, or-false, and-true, and-false}
 use Rattle.std.proofs.lemmas.Bool.{true≢false, cases_Bool, cases_eq, eq-eqb, ne_eqb, or_left, or_right, or_cases, eqb-true}
 use Rattle.std.proofs.lemmas.Bool.{and_parts, not-true}
 use Rattle.std.proofs.lemmas.List.{length-append, ext_get_or}
 use Rattle.std.proofs.lemmas.List.Elements.{filter-append}
-use Rattle.std.proofs.lemmas.List.Sums.{fold-append, sum_by-append, sum_by-cons}
+use Rattle.std.proofs.lemmas.List.Sums.{fold-append}
 use Rattle.amd_model.specs.Quotient.{has, add_new}
 use Rattle.amd_model.proofs.Quotient.Lists.{has_append, add_old, add_fresh, filter_yes, filter_no, flat_gives, flat_from}
 use Rattle.amd_model.proofs.Listings.Words.{has_filter as filter_gives}
 use Rattle.amd_round_laws.specs.Rounds.{firsts}
 use Rattle.amd_round_laws.proofs.Lists.Added.{same_adds, adds_marks}
 use Rattle.amd_round_laws.proofs.Fronts.Gathered.{firsts_gives}
-use Rattle.amd_words.specs.Words.{num, place, word, start, size_of, in_front, classes, rows, rows_in, is_negative}
-use Rattle.amd_elements.specs.Element.{elements_at, variables_at, members_at, front_of, ListsLaid}
-use Rattle.amd_elements.specs.Room.{Meets, Unmarks, named_around}
+use Rattle.amd_words.specs.Words.{place, word, size_of, in_front, classes, rows, rows_in, is_negative}
+use Rattle.amd_elements.specs.Element.{elements_at, variables_at, members_at, front_of}
+use Rattle.amd_elements.specs.Room.{Meets, Unmarks, IsMeeting, IsRemainder, named_around}
 use Rattle.amd_words.proofs.WordMarks.{both_not}
 use Rattle.amd_words.proofs.RowLists.{rows_more}
-use Rattle.amd_elements.proofs.Building.{classes_same, flat_next, pivot_marked}
+use Rattle.amd_elements.proofs.ListsAround.{classes_append, classes_around}
+use Rattle.amd_elements.proofs.Building.{classes_same, pivot_marked}
 
 -- ---- what is added to two lists, where the same is skipped or listed
 
@@ -171,57 +172,51 @@ pub same_sizes : (nv nv' : List ℤ) → length nv' ≡ length nv → ((j : ℕ)
     ((j : ℕ) → in_front nv' j ≡ in_front nv j) → nv' ≡ nv
 same_sizes nv nv' wide sizes front = ext_get_or (pos 0) nv' nv wide (λ k l. same_word (word nv' k) (word nv k) (sizes k) (front k))
 
+-- ---- the visitors take one list more
+
+module _ {taken : List ℕ} {iw nv : List ℤ} {left : ℕ} {iw1 nv1 : List ℤ} {left1 : ℕ} (ys : List ℕ) where
+  pub meeting_more : {nv2 : List ℤ} {left2 : ℕ} → IsMeeting taken iw nv left iw1 nv1 left1 →
+      Meets nv1 (classes nv1 ys) left1 nv2 left2 → IsMeeting (taken ++ ys) iw nv left iw1 nv2 left2
+  meeting_more {nv2} {left2} h k = record {
+    meets = subst (λ xs. Meets nv xs left nv2 left2) (sym (classes_append nv taken ys))
+        (meets_then h.meets (subst (λ xs. Meets nv1 xs left1 nv2 left2) (classes_same nv nv1 h.meets.sizes ys) k));
+    same = h.same;
+  }
+
+  pub remainder_more : {count left2 : ℕ} → IsRemainder taken iw nv left iw1 nv1 left1 → length ys ≡ count → left2 ≡ left1 - count →
+      IsRemainder (taken ++ ys) iw nv left iw1 nv1 left2
+  remainder_more h long is = record {
+    left_is = (let a = length-append taken ys in let b = h.left_is in omega (arith, a, b, long, is));
+    same = h.same;
+  }
+
 -- ---- the lists around a pivot
 
-module _ (iw nv nv1 pe : List ℤ) (len : List ℕ) (pivot m : ℕ) (sizes : (i : ℕ) → size_of nv1 i ≡ size_of nv i) where
-  abbrev f : ℕ → List ℕ
-  f e = classes nv (members_at iw pe len e)
-
-  abbrev own : List ℕ
-  own = classes nv (variables_at iw pe len pivot m)
-
+module _ (iw nv nv1 pe : List ℤ) (len : List ℕ) (pivot m : ℕ) (sizes : (i : ℕ) → size_of nv1 i ≡ size_of nv i)
+    (front1 : (i : ℕ) → in_front nv1 i ≡ (in_front nv i || pivot == i)) (clear : (j : ℕ) → in_front nv j ≡ false)
+    {left : ℕ} {nv2 : List ℤ} {left2 : ℕ} (h : Meets nv1 (classes nv1 (named_around iw pe len pivot m)) left nv2 left2) where
   abbrev all : List ℕ
-  all = flat_map f (elements_at iw pe pivot m) ++ own
+  all = classes nv (named_around iw pe len pivot m)
 
-  -- the list of a row, after some others
-  meets_list : {xs : List ℕ} {left : ℕ} {nv2 : List ℤ} {left2 : ℕ} {nv3 : List ℤ} {left3 : ℕ} (from count : ℕ) →
-      Meets nv1 xs left nv2 left2 → Meets nv2 (classes nv2 (rows iw from count)) left2 nv3 left3 →
-      Meets nv1 (xs ++ classes nv (rows iw from count)) left nv3 left3
-  meets_list {xs} {left} {nv2} {left2} {nv3} {left3} from count h g = meets_then h (subst (λ l. Meets nv2 l left2 nv3 left3)
-      (classes_same nv nv2 (λ j. h.sizes j ∙ sizes j) (rows iw from count)) g)
+  front_is : firsts (λ x. x == pivot) all ≡ front_of iw nv pe len pivot m
+  front_is = ap (firsts (λ x. x == pivot)) (classes_around iw nv pe len pivot m)
 
-  pub meets_element : {left : ℕ} {nv2 : List ℤ} {left2 : ℕ} {nv3 : List ℤ} {left3 : ℕ} (k from count : ℕ) →
-      from ≡ start pe (place (word iw (start pe pivot + k))) → count ≡ num len (place (word iw (start pe pivot + k))) →
-      Meets nv1 (flat_map f (rows iw (start pe pivot) k)) left nv2 left2 →
-      Meets nv2 (classes nv2 (rows iw from count)) left2 nv3 left3 →
-      Meets nv1 (flat_map f (rows iw (start pe pivot) (k + 1))) left nv3 left3
-  meets_element {left} {nv2} {left2} {nv3} {left3} k from count is long h g = subst (λ xs. Meets nv1 xs left nv3 left3)
-      (ap (λ xs. flat_map f (rows iw (start pe pivot) k) ++ classes nv xs) (ap (λ s. rows iw s count) is
-      ∙ ap (rows iw (start pe (place (word iw (start pe pivot + k))))) long) ∙ sym (flat_next f iw (start pe pivot) k))
-      (meets_list from count h g)
+  whole : Meets nv1 all left nv2 left2
+  whole = subst (λ xs. Meets nv1 xs left nv2 left2) (classes_same nv nv1 sizes (named_around iw pe len pivot m)) h
 
-  module _ (front1 : (i : ℕ) → in_front nv1 i ≡ (in_front nv i || pivot == i)) (clear : (j : ℕ) → in_front nv j ≡ false)
-      {left : ℕ} {nv2 : List ℤ} {left2 : ℕ} {nv3 : List ℤ} {left3 : ℕ}
-      (h : Meets nv1 (flat_map f (elements_at iw pe pivot m)) left nv2 left2)
-      (g : Meets nv2 (classes nv2 (variables_at iw pe len pivot m)) left2 nv3 left3) where
-    whole : Meets nv1 all left nv3 left3
-    whole = meets_list (start pe pivot + m) (num len pivot - m) h g
+  alone : (j : ℕ) → in_front nv1 j ≡ (j == pivot)
+  alone = pivot_marked iw nv nv1 pe len pivot m 0 sizes front1 clear
 
-    alone : (j : ℕ) → in_front nv1 j ≡ (j == pivot)
-    alone = pivot_marked iw nv nv1 pe len pivot m 0 sizes front1 clear
+  pub meets_front_is : (j : ℕ) → in_front nv2 j ≡ (j == pivot || has (front_of iw nv pe len pivot m) j)
+  unfolding has
+  meets_front_is j = whole.front j ∙ ap (λ b. b || has all j) (alone j)
+      ∙ sym (ap (λ xs. j == pivot || has xs j) (sym front_is)
+      ∙ adds_marks (λ x. x == pivot) [] all j ∙ ap (λ b. b || has all j) (or-false (j == pivot)))
 
-    pub meets_front_sizes : (j : ℕ) → size_of nv3 j ≡ size_of nv j
-    meets_front_sizes j = whole.sizes j ∙ sizes j
-
-    pub meets_front_is : (j : ℕ) → in_front nv3 j ≡ (j == pivot || has (front_of iw nv pe len pivot m) j)
-    unfolding has
-    meets_front_is j = whole.front j ∙ ap (λ b. b || has all j) (alone j)
-        ∙ sym (adds_marks (λ x. x == pivot) [] all j ∙ ap (λ b. b || has all j) (or-false (j == pivot)))
-
-    pub meets_front_left : left3 ≡ left - length (front_of iw nv pe len pivot m)
-    unfolding has
-    meets_front_left = whole.left_is ∙ ap (λ xs. left - length xs)
-        (same_adds (in_front nv1) (λ x. x == pivot) [] all (λ x. ap (λ b. b || has [] x) (alone x)))
+  pub meets_front_left : left2 ≡ left - length (front_of iw nv pe len pivot m)
+  unfolding has
+  meets_front_left = whole.left_is ∙ ap (λ xs. left - length xs)
+      (same_adds (in_front nv1) (λ x. x == pivot) [] all (λ x. ap (λ b. b || has [] x) (alone x)) ∙ front_is)
 
 -- each class of a front is named around its pivot
 pub front_named : (iw nv pe : List ℤ) (len : List ℕ) (pivot m j : ℕ) → has (front_of iw nv pe len pivot m) j ≡ true →
@@ -259,16 +254,3 @@ unmarked iw nv pe len pivot m nv1 nv2 clear wide sizes front h = same_sizes nv n
           ] in ap (λ b. (j == pivot || has (front_of iw nv pe len pivot m) j) && not b) met
           ∙ and-false (j == pivot || has (front_of iw nv pe len pivot m) j))
     ]
-
-pub laid_within : (iw pe : List ℤ) (len : List ℕ) (n free top pivot m : ℕ) → free ≤ top → ListsLaid iw pe len n free pivot m →
-    ListsLaid iw pe len n top pivot m
-laid_within iw pe len n free top pivot m l h = (
-  (h.0.0, (let a = h.0.1 in omega (arith, a, l)), h.0.2),
-  λ e k. let b = h.1 e k in (b.0, (let a = b.1 in omega (arith, a, l)), b.2),
-)
-
--- the words of one more list
-pub words_next : (len : List ℕ) (iw : List ℤ) (from k : ℕ) →
-    sum_by (num len) (rows iw from (k + 1)) ≡ sum_by (num len) (rows iw from k) + num len (place (word iw (from + k)))
-words_next len iw from k = let x : ℕ = place (word iw (from + k)) in let a = ap (sum_by (num len)) (rows_more iw from k) in
-    let b = sum_by-append (num len) (rows iw from k) (x ∷ []) in let c = sum_by-cons (num len) x [] in omega (arith, a, b, c)

@@ -1,7 +1,7 @@
 -- A new element in the place of its pivot.
 use Rattle.std.proofs.Common.{ℕ, ℤ, true, false, List, [], ◌++◌, ◌≡◌, ◌<◌, ◌≤◌, ◌+◌, ◌-◌, ◌^◌, ◌||◌, ◌⊎◌, inl, inr, refl, sym, subst}
 use Rattle.std.proofs.Common.{ap, ◌∙◌, arith, length, sum_by, flat_map, set, length-set, get_or-set_same, get_or-set_other, pos}
-use Rattle.std.specs.Prelude.{nat_lt, ◌==◌}
+use Rattle.std.specs.Prelude.{◌==◌}
 use Rattle.std.proofs.lemmas.Bool.{true≢false, cases_eq, cases_lt}
 use Rattle.amd_model.specs.Quotient.{has}
 use Rattle.amd_words.specs.Words.{num, is_place, place, flip_of, word, start, size_of, in_front, classes, rows}
@@ -10,17 +10,12 @@ use Rattle.amd_elements.specs.Element.{grown, Gathers, front_of, members_at, Bui
 use Rattle.amd_lists.specs.Layout.{has_list, end_of, Layout}
 use Rattle.amd_elements.specs.Making.{Makes}
 use Rattle.amd_words.proofs.Signs.{mark_none}
-use Rattle.amd_words.proofs.RowLists.{rows_none, rows_length}
-use Rattle.amd_words.proofs.WordMarks.{rows_start}
-use Rattle.amd_elements.proofs.Gathering.{gathers_none}
-use Rattle.amd_elements.proofs.RoundWords.{adds_few, filter_few}
+use Rattle.amd_words.proofs.RowLists.{rows_none}
+use Rattle.amd_lists.specs.Spans.{IsSpan}
+use Rattle.amd_elements.specs.Premises.{CanGather}
+use Rattle.amd_elements.proofs.Gathering.{gathers_empty, grown_short}
 use Rattle.amd_elements.proofs.Building.{all, classes_same, grown_all, builds_all}
 use Rattle.amd_lists.proofs.Frames.{has_parts, has_length, relaid, live_part}
-
-pub own_none : (iw nv : List ℤ) (from : ℕ) → Gathers iw nv from from [] iw nv from 0
-unfolding has
-own_none iw nv from = gathers_none iw nv from from 0 (omega arith) (λ k l. absurd (omega (arith, l))) (λ j h.
-    absurd (true≢false (sym h ∙ ap (λ l. has l j) (rows_start iw from)))) (sym (ap (sum_by (size_of nv)) (rows_start iw from)))
 
 -- the same gathering, under equal numbers
 pub gathers_at : {iw nv : List ℤ} {from count from' count' : ℕ} {iw' nv' : List ℤ} {end total : ℕ} → from ≡ from' → count ≡ count' →
@@ -30,14 +25,19 @@ gathers_at {iw} {nv} {from} {count} {from'} {count'} {iw'} {nv'} {end} {total} f
     subst (λ s. Gathers iw nv s s (classes nv (rows iw s count')) iw' nv' end total) f
     (subst (λ m. Gathers iw nv from from (classes nv (rows iw from m)) iw' nv' end total) c h)
 
--- what is kept of some words ends no later than they do
-pub own_end : {iw nv : List ℤ} {from : ℕ} {iw' nv' : List ℤ} {end total : ℕ} (n : ℕ) →
-    Gathers iw nv from from (classes nv (rows iw from n)) iw' nv' end total → end ≤ from + n
-own_end {iw} {nv} {from} {iw'} {nv'} {end} {total} n h =
-    let a = ap length h.list in let b = rows_length iw' from (end - from) in let c =
-    adds_few (in_front nv) (rows iw from (from - from)) (classes nv (rows iw from n)) in let d = rows_length iw from (from - from) in
-    let e = filter_few (λ j. nat_lt 0 (size_of nv j)) (rows iw from n) in let f = rows_length iw from n in let g = h.grows in
-    omega (arith, a, b, c, d, e, f, g)
+-- some words can be gone through in their own place
+pub own_gather : {iw nv : List ℤ} {from count : ℕ} → IsSpan (length nv) iw from count →
+    sum_by (size_of nv) (grown iw nv from from (classes nv (rows iw from count))) < 2 ^ 63 → CanGather iw nv from count from from 0
+own_gather {iw} {nv} {from} {count} span few = record {
+  span = span;
+  apart = inr (omega arith);
+  order = omega arith;
+  made = λ k l. absurd (omega (arith, l));
+  known = λ j h. (gathers_empty iw nv from).known j h;
+  total_is = (gathers_empty iw nv from).total_is;
+  fits = (let a = grown_short iw nv from from from count in let i = span.inside in omega (arith, a, i));
+  few = few;
+}
 
 -- ---- the list of the pivot
 

@@ -1,7 +1,8 @@
 -- The words of the lists of a round: the new element has no more than its pivot and the elements that it absorbs leave.
 use Rattle.std.proofs.Common.{ℕ, ℤ, Bool, List, [], ◌∷◌, ◌++◌, ◌≡◌, ◌<◌, ◌≤◌, ◌+◌, ◌-◌, ◌||◌, inl, inr, sym, ap, arith}
+use Rattle.std.proofs.Common.{le_of_eq}
 use Rattle.std.proofs.Common.{cond, length, fold, filter, flat_map, sum_by}
-use Rattle.std.specs.Prelude.{◌==◌}
+use Rattle.std.specs.Prelude.{◌==◌, nat_lt}
 use Rattle.std.proofs.lemmas.Bool.{cases_Bool, cases_eq, eq-eqb, ne_eqb}
 use Rattle.std.proofs.lemmas.List.{length-append}
 use Rattle.std.proofs.lemmas.List.Sums.{sum_by-cons}
@@ -10,8 +11,11 @@ use Rattle.amd_model.specs.Quotient.{has, add_new}
 use Rattle.amd_model.proofs.Counting.Below.{sum_mono, sum_plus}
 use Rattle.amd_model.proofs.Quotient.Sums.{sum_one}
 use Rattle.amd_model.proofs.Quotient.Lists.{add_old, add_fresh, filter_yes, filter_no}
-use Rattle.amd_words.specs.Words.{num, classes, rows}
+use Rattle.amd_words.specs.Words.{num, start, size_of, classes}
+use Rattle.amd_round_laws.specs.Rounds.{firsts}
 use Rattle.amd_elements.specs.Element.{front_of, members_at, elements_at, variables_at}
+use Rattle.amd_elements.specs.Room.{named_around}
+use Rattle.amd_elements.proofs.ListsAround.{classes_around}
 use Rattle.amd_words.proofs.RowLists.{rows_length}
 
 pub adds_few : (skip : ℕ → Bool) (out xs : List ℕ) → length (fold (add_new skip) out xs) ≤ length out + length xs
@@ -36,22 +40,23 @@ flat_few f h [] few = omega arith
 flat_few f h (x ∷ xs) few = let a = length-append (f x) (flat_map f xs) in let b = flat_few f h xs few in let c = few x in let d =
     sum_by-cons h x xs in omega (arith, a, b, c, d)
 
+-- the list of the new element is no longer than those around its pivot
+pub front_short : (iw nv pe : List ℤ) (len : List ℕ) (pivot m : ℕ) →
+    length (front_of iw nv pe len pivot m) ≤ length (named_around iw pe len pivot m)
+front_short iw nv pe len pivot m =
+    let a = adds_few (λ x. x == pivot) [] (classes nv (named_around iw pe len pivot m)) in
+    let b = filter_few (λ j. nat_lt 0 (size_of nv j)) (named_around iw pe len pivot m) in
+    let c = ap (λ xs. length (firsts (λ x. x == pivot) xs)) (classes_around iw nv pe len pivot m) in omega (arith, a, b, c)
+
 -- the words of the new element
-pub front_words : (iw nv pe : List ℤ) (len : List ℕ) (pivot n_elements : ℕ) →
-    length (front_of iw nv pe len pivot n_elements) ≤ sum_by (num len) (elements_at iw pe pivot n_elements) + (num len pivot - n_elements)
-front_words iw nv pe len pivot n_elements =
-    let each : List ℕ = flat_map (λ e. classes nv (members_at iw pe len e)) (elements_at iw pe pivot n_elements) in let own : List ℕ =
-    classes nv (variables_at iw pe len pivot n_elements) in
-    let a = adds_few (λ x. x == pivot) [] (each ++ own) in let b = length-append each own in
-    let c = flat_few (λ e. classes nv (members_at iw pe len e)) (num len) (elements_at iw pe pivot n_elements) (λ e.
-    let k = filter_few (λ j. lib_pos nv j) (members_at iw pe len e) in let l =
-    rows_length iw (Rattle.amd_words.specs.Words.start pe e) (num len e) in omega (arith, k, l)) in
-    let d = filter_few (λ j. lib_pos nv j) (variables_at iw pe len pivot n_elements) in let e =
-    rows_length iw (Rattle.amd_words.specs.Words.start pe pivot + n_elements) (num len pivot - n_elements) in
-    omega (arith, a, b, c, d, e)
-  where
-    lib_pos : List ℤ → ℕ → Bool
-    lib_pos nv j = Rattle.std.specs.Prelude.nat_lt 0 (Rattle.amd_words.specs.Words.size_of nv j)
+pub front_words : (iw nv pe : List ℤ) (len : List ℕ) (pivot m : ℕ) →
+    length (front_of iw nv pe len pivot m) ≤ sum_by (num len) (elements_at iw pe pivot m) + (num len pivot - m)
+front_words iw nv pe len pivot m =
+    let a = front_short iw nv pe len pivot m in
+    let b = length-append (flat_map (members_at iw pe len) (elements_at iw pe pivot m)) (variables_at iw pe len pivot m) in
+    let c = flat_few (members_at iw pe len) (num len) (elements_at iw pe pivot m)
+    (λ e. le_of_eq (rows_length iw (start pe e) (num len e))) in
+    let d = rows_length iw (start pe pivot + m) (num len pivot - m) in omega (arith, a, b, c, d)
 
 -- ---- the words of all lists
 

@@ -1,11 +1,10 @@
 -- What the parts of making an element leave behind, each between what it found and what it left.
-use Rattle.std.specs.Prelude.{ℕ, ℤ, [], List, ◌≡◌, ◌≤◌, ◌-◌, ◌||◌, ◌&&◌, ◌==◌, not, cond}
+use Rattle.std.specs.Prelude.{ℕ, ℤ, [], List, ◌≡◌, ◌≤◌, ◌&&◌, ◌==◌, not, cond}
 use Rattle.std.specs.Prelude.{length, sum_by}
 use Rattle.amd_model.specs.Quotient.{has}
-use Rattle.amd_words.specs.Words.{num, word, start, size_of, in_front, flip_of, rows}
+use Rattle.amd_words.specs.Words.{num, word, size_of, in_front, flip_of, rows}
 use Rattle.amd_lists.specs.Layout.{elements_in}
-use Rattle.amd_elements.specs.Element.{front_of, Builds}
-use Rattle.amd_elements.specs.Making.{Makes}
+use Rattle.amd_elements.specs.Element.{front_of}
 use Rattle.amd_elements.specs.Beginning.{Begins}
 use Rattle.amd_elements.specs.Pivots.{built_front, IsBehind}
 use Rattle.amd_elements.specs.declared.beginning.Begun.{Begun}
@@ -38,28 +37,9 @@ pub record BeginsBuilt (me : ℕ) (iw nv pe e_len : List ℤ) (len w : List ℕ)
   pub total : begun.total ≡ sum_by (size_of nv) (built_front iw nv pe e_len len me)
   pub block : begun.block ≡ size_of nv me
 
--- the list of the new element me stands from `free` to `end`, with so many rows, and the elements that it absorbs have
--- ended
-pub record MakesElement (me : ℕ) (iw nv pe e_len : List ℤ) (len w : List ℕ) (free : ℕ) (iw' nv' pe' e_len' : List ℤ)
-    (len' w' : List ℕ) (end total : ℕ) : Type 0 where
-  pub builds : Builds me (built_front iw nv pe e_len len me) iw nv free iw' nv' end total
-  pub makes : Makes (length nv) me (elements_in iw pe e_len me) (built_front iw nv pe e_len len me) total iw pe e_len
-      len free iw' pe' e_len' len' end
-  pub counters : (e : ℕ) → num w' e ≡ cond (has (elements_in iw pe e_len me) e) 0 (num w e)
-  pub start_is : start pe' me ≡ free
-  pub long : length w' ≡ length w
-
 -- the elements that count words name have ended in the row me
 pub record Absorbs (me : ℕ) (iw : List ℤ) (from count : ℕ) (pe : List ℤ) (w : List ℕ) (pe' : List ℤ) (w' : List ℕ)
     : Type 0 where
   pub lengths : (length pe' ≡ length pe) × (length w' ≡ length w)
   pub starts : (e : ℕ) → word pe' e ≡ cond (has (rows iw from count) e) (flip_of me) (word pe e)
   pub counters : (e : ℕ) → num w' e ≡ cond (has (rows iw from count) e) 0 (num w e)
-
--- the class me and those of its new element are in the front, and each of these took one of `left` places
-pub record MeetsFront (me n_elements : ℕ) (iw nv pe : List ℤ) (len : List ℕ) (left : ℕ) (nv' : List ℤ) (left' : ℕ)
-    : Type 0 where
-  pub wide : length nv' ≡ length nv
-  pub sizes : (j : ℕ) → size_of nv' j ≡ size_of nv j
-  pub front : (j : ℕ) → in_front nv' j ≡ (j == me || has (front_of iw nv pe len me n_elements) j)
-  pub left_is : left' ≡ left - length (front_of iw nv pe len me n_elements)

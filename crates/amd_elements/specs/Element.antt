@@ -1,5 +1,5 @@
 -- A new element that is built behind the lists of a workspace.
-use Rattle.std.specs.Prelude.{ℕ, ℤ, true, List, ◌++◌, ◌≡◌, ◌<◌, ◌≤◌, ◌+◌, ◌-◌, ◌||◌, ◌==◌, length, fold, flat_map}
+use Rattle.std.specs.Prelude.{ℕ, ℤ, true, List, ◌++◌, ◌≡◌, ◌<◌, ◌≤◌, ◌+◌, ◌-◌, ◌^◌, ◌||◌, ◌==◌, length, fold, flat_map}
 use Rattle.std.specs.Prelude.{sum_by}
 use Rattle.amd_model.specs.Quotient.{has, add_new}
 use Rattle.amd_words.specs.Words.{is_place, word, start, size_of, in_front, classes, rows, Names, num}
@@ -25,6 +25,13 @@ pub record Gathers (iw nv : List ℤ) (start free : ℕ) (xs : List ℕ) (iw' nv
   pub front : (j : ℕ) → in_front nv' j ≡ (in_front nv j || has xs j)
   pub known : (j : ℕ) → has (rows iw start (free - start)) j ≡ true → in_front nv j ≡ true
   pub total_is : total ≡ sum_by (size_of nv) (rows iw' start (free' - start))
+
+-- the list that begins at free is gathered so far, with so many rows; there is room for what all rows come to, and for
+-- their number
+pub record IsGathering (free : ℕ) (all taken : List ℕ) (iw nv iw' nv' : List ℤ) (free' total : ℕ) : Type 0 where
+  pub gathers : Gathers iw nv free free (classes nv taken) iw' nv' free' total
+  pub fits : free + length (grown iw nv free free (classes nv all)) ≤ length iw
+  pub few : sum_by (size_of nv) (grown iw nv free free (classes nv all)) < 2 ^ 63
 
 -- the elements and the variables of a row whose list stands in the workspace, elements first, and the members of an
 -- element

@@ -1,9 +1,10 @@
 -- What the parts of making an element ask of a workspace. The greatest word and the greatest cell are given where
 -- something is to be written.
-use Rattle.std.specs.Prelude.{ℕ, ℤ, pos, true, false, List, ◌≡◌, ◌<◌, ◌≤◌, ◌+◌, ◌-◌, ◌^◌, length, sum_by}
+use Rattle.std.specs.Prelude.{ℕ, ℤ, pos, true, false, List, ◌≡◌, ◌<◌, ◌≤◌, ◌+◌, ◌-◌, ◌^◌, ◌⊎◌, length, sum_by}
 use Rattle.amd_model.specs.Quotient.{has}
 use Rattle.amd_words.specs.Words.{num, word, is_place, start, size_of, in_front, classes, rows, Names}
 use Rattle.amd_lists.specs.Lengths.{AreWide}
+use Rattle.amd_lists.specs.Spans.{IsSpan}
 use Rattle.amd_lists.specs.Layout.{has_list, elements_in, Layout}
 use Rattle.amd_elements.specs.Element.{grown, front_of, ListsLaid}
 use Rattle.amd_elements.specs.Compaction.{Spaced}
@@ -62,14 +63,12 @@ pub record CanBuild (me n_elements : ℕ) (iw nv pe : List ℤ) (len : List ℕ)
   pub fits : free + length (front_of iw nv pe len me n_elements) ≤ length iw
   pub few : sum_by (size_of nv) (front_of iw nv pe len me n_elements) < 2 ^ 63
 
--- count words stand before the list that is gathered from `start` to `free`; its rows are those of the front so far,
--- and
--- there is room for what is added to them
+-- count words stand before the list that is gathered from `start` to `free`, or behind it; its rows are those of the
+-- front so far, and there is room for what is added to them
 pub record CanGather (iw nv : List ℤ) (from count start free total : ℕ) : Type 0 where
-  pub source : from + count ≤ start
+  pub span : IsSpan (length nv) iw from count
+  pub apart : (from + count ≤ start) ⊎ (free ≤ from)
   pub order : start ≤ free
-  pub end : free ≤ length iw
-  pub names : Names (length nv) iw from count
   pub made : Names (length nv) iw start (free - start)
   pub known : (j : ℕ) → has (rows iw start (free - start)) j ≡ true → in_front nv j ≡ true
   pub total_is : total ≡ sum_by (size_of nv) (rows iw start (free - start))

@@ -3,7 +3,7 @@
 use Rattle.std.specs.Prelude.{ℕ, ℤ, true, false, List, ◌++◌, ◌≡◌, ◌≤◌, ◌-◌, ◌||◌, ◌&&◌, not, length, flat_map}
 use Rattle.amd_model.specs.Quotient.{has}
 use Rattle.amd_round_laws.specs.Rounds.{firsts}
-use Rattle.amd_words.specs.Words.{word, size_of, in_front}
+use Rattle.amd_words.specs.Words.{word, size_of, in_front, classes}
 use Rattle.amd_lists.specs.Layout.{has_list, Layout, ReadsSame}
 use Rattle.amd_elements.specs.Element.{elements_at, variables_at, members_at}
 
@@ -19,6 +19,20 @@ pub record Unmarks (nv : List ℤ) (xs : List ℕ) (nv' : List ℤ) : Type 0 whe
   pub wide : length nv' ≡ length nv
   pub sizes : (j : ℕ) → size_of nv' j ≡ size_of nv j
   pub front : (j : ℕ) → in_front nv' j ≡ (in_front nv j && not (has xs j))
+
+-- what visitors of lists hold after some rows: their classes were met, the rows were unmarked, and they were taken off
+-- a number; no word changes
+pub record IsMeeting (taken : List ℕ) (iw nv : List ℤ) (left : ℕ) (iw' nv' : List ℤ) (left' : ℕ) : Type 0 where
+  pub meets : Meets nv (classes nv taken) left nv' left'
+  pub same : iw' ≡ iw
+
+pub record IsUnmarking (taken : List ℕ) (iw nv iw' nv' : List ℤ) : Type 0 where
+  pub unmarks : Unmarks nv taken nv'
+  pub same : iw' ≡ iw
+
+pub record IsRemainder (taken : List ℕ) (iw nv : List ℤ) (left : ℕ) (iw' nv' : List ℤ) (left' : ℕ) : Type 0 where
+  pub left_is : left' ≡ left - length taken
+  pub same : (iw' ≡ iw) × (nv' ≡ nv)
 
 -- what the lists of a pivot's elements name, element after element, and then what the pivot's own list names as
 -- variables

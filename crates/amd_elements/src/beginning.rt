@@ -8,9 +8,10 @@ ghost use Rattle.amd_words.specs.Words.{in_front, size_of};
 ghost use Rattle.amd_elements.specs.Effects.{BeginsBuilt, BeginsOwn, TakesPivot};
 ghost use Rattle.amd_elements.specs.Premises.{CanBeginOwn, CanMakeElement};
 
-use crate::making::make_element;
+use crate::element::build;
+use crate::making::{absorb_own, settle};
 use crate::own_place::make_own;
-use amd_words::words::{put_row, size_inside};
+use amd_words::words::{named, put_row, size_inside};
 use amd_words::{Cell, Signed, Unsigned, Word};
 
 /// What the beginning of an element returns.
@@ -72,7 +73,11 @@ pub fn begin_built<S: Signed, U: Unsigned>(
     ensures { BeginsBuilt me iw.old nv.old pe.old e_len.old len.old w.old free iw.new nv.new pe.new e_len.new len.new
         w.new result }
 {
-    let (end, total) = make_element(iw, nv, pe, e_len, len, w, me, free);
+    let from = named(pe, me);
+    let n_elements = named(e_len, me);
+    let (end, total) = build(iw, nv, pe, len, me, n_elements, free);
+    absorb_own(iw, pe, w, from, n_elements, me);
+    settle(pe, e_len, len, me, free, end, total);
     let block = take_pivot(nv, me);
     Begun {
         free: end,

@@ -1,16 +1,18 @@
 // The list of a new element, built at the free end of the workspace from the lists of its pivot and of the elements
 // that the pivot lists. All other lists stay as they are. Source: Amestoy, Davis and Duff 1996 (element formation).
-// Called by `making`.
+// Called by `making`, and `gather` by `own_place`.
 
 ghost use Rattle.amd_words.specs.Words.{classes, rows};
-ghost use Rattle.amd_elements.specs.Element.{Builds, Gathers, front_of};
+ghost use Rattle.amd_elements.specs.Element.{Builds, Gathers, IsGathering, front_of};
 ghost use Rattle.amd_elements.specs.Premises.{CanBuild, CanGather};
 
+use crate::around::{ListVisitor, visit_around};
 use amd_words::words::{enter, is_open, named};
-use amd_words::{Cell, Signed, Unsigned, Word, cell_at, copy_word};
+use amd_words::{Cell, Signed, Unsigned, Word, copy_word};
 
 /// Appends the classes among some words that are not in the front yet to the list that stands from `start` to `free`,
-/// and puts them into the front. Returns the new end, and the number of rows of the list.
+/// and puts them into the front. Returns the new end, and the number of rows of the list. The words stand before the
+/// list, or from `free` on: then the list may grow over those that were read.
 pub fn gather<S: Signed>(
     iw: &mut [Word<S>],
     nv: &mut [Word<S>],
@@ -37,6 +39,31 @@ pub fn gather<S: Signed>(
     (end, sum)
 }
 
+/// A list that is gathered behind all others.
+#[derive(Drop)]
+struct Gathering {
+    /// Where it ends.
+    end: usize,
+    /// Its number of rows.
+    total: usize,
+}
+
+impl ListVisitor for Gathering {
+    ghost holds = { λ free all taken words sizes first iw nv g. IsGathering free all taken words sizes iw nv g.end
+        g.total };
+
+    fn take<S: Signed>(
+        &mut self,
+        iw: &mut [Word<S>],
+        nv: &mut [Word<S>],
+        from: usize,
+        count: usize,
+        free: usize,
+    ) {
+        (self.end, self.total) = gather(iw, nv, from, count, free, self.end, self.total);
+    }
+}
+
 /// Builds the list of the pivot's new element behind the lists: the classes of the pivot's elements, element after
 /// element, and then those of its variables, each at its first occurrence and without the pivot. They and the pivot are
 /// in the front then. Returns the new end, and the number of rows of the front.
@@ -54,21 +81,10 @@ pub fn build<S: Signed, U: Unsigned>(
         result.0 result.1 }
 {
     enter(nv, pivot);
-    let from = named(pe, pivot);
-    let mut end = free;
-    let mut sum = 0;
-    for p in from..from + n_elements {
-        let e = named(iw, p);
-        let first = named(pe, e);
-        (end, sum) = gather(iw, nv, first, cell_at(len, e), free, end, sum);
-    }
-    gather(
-        iw,
-        nv,
-        from + n_elements,
-        cell_at(len, pivot) - n_elements,
-        free,
-        end,
-        sum,
-    )
+    let mut list = Gathering {
+        end: free,
+        total: 0,
+    };
+    visit_around(&mut list, iw, nv, pe, len, pivot, n_elements, free);
+    (list.end, list.total)
 }

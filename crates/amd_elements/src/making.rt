@@ -1,17 +1,16 @@
-// A pivot becomes an element: its list is built behind all lists, and the elements that it lists end in it.
+// A pivot that was built behind all lists: its list is written down, and the elements that it lists end in it.
 // Source: Amestoy, Davis and Duff 1996 (element formation and absorption). Called by `beginning`.
 
 ghost use Rattle.std.specs.Prelude.{◌-◌, ◌≡◌, pos, slice_set};
 ghost use Rattle.amd_words.specs.Words.{flip_of};
-ghost use Rattle.amd_elements.specs.Effects.{Absorbs, MakesElement};
-ghost use Rattle.amd_elements.specs.Premises.{CanAbsorb, CanMakeElement, CanSettle};
+ghost use Rattle.amd_elements.specs.Effects.{Absorbs};
+ghost use Rattle.amd_elements.specs.Premises.{CanAbsorb, CanSettle};
 
-use crate::element::build;
 use amd_words::words::{named, put_flip, put_row};
 use amd_words::{Cell, Signed, Unsigned, Word, put_cell};
 
 /// Ends the elements that some words name: `me` absorbs them.
-fn absorb_own<S: Signed, U: Unsigned>(
+pub fn absorb_own<S: Signed, U: Unsigned>(
     iw: &[Word<S>],
     pe: &mut [Word<S>],
     w: &mut [Cell<U>],
@@ -30,7 +29,7 @@ fn absorb_own<S: Signed, U: Unsigned>(
 }
 
 /// Makes the words from `from` to `end` the list of the new element `me`, which has `total` rows.
-fn settle<S: Signed, U: Unsigned>(
+pub fn settle<S: Signed, U: Unsigned>(
     pe: &mut [Word<S>],
     e_len: &mut [Word<S>],
     len: &mut [Cell<U>],
@@ -47,28 +46,4 @@ fn settle<S: Signed, U: Unsigned>(
     put_row(pe, me, from);
     put_flip(e_len, me, total);
     put_cell(len, me, end - from);
-}
-
-/// Makes the pivot `me` an element, whose list is built behind all lists, and ends the elements that it absorbs.
-/// Returns the new free end, and the number of rows of its list.
-pub fn make_element<S: Signed, U: Unsigned>(
-    iw: &mut [Word<S>],
-    nv: &mut [Word<S>],
-    pe: &mut [Word<S>],
-    e_len: &mut [Word<S>],
-    len: &mut [Cell<U>],
-    w: &mut [Cell<U>],
-    me: usize,
-    free: usize,
-) -> (usize, usize)
-    requires { CanMakeElement S.MOST U.MOST me iw.old nv.old pe.old e_len.old len.old w.old free }
-    ensures { MakesElement me iw.old nv.old pe.old e_len.old len.old w.old free iw.new nv.new pe.new e_len.new len.new
-        w.new result.0 result.1 }
-{
-    let from = named(pe, me);
-    let n_elements = named(e_len, me);
-    let (end, total) = build(iw, nv, pe, len, me, n_elements, free);
-    absorb_own(iw, pe, w, from, n_elements, me);
-    settle(pe, e_len, len, me, free, end, total);
-    (end, total)
 }

@@ -3,17 +3,17 @@
 // not fit. Counts go down from the room that there is, so no sum is formed. Source: Amestoy, Davis and Duff 1996
 // (garbage collection). Called by a round.
 
-ghost use Rattle.std.specs.Prelude.{[], ◌+◌, ◌-◌, ◌<◌, ◌^◌, ◌∷◌, ◌≡◌, ◌≤◌, length, true, nat_le, sum_by};
-ghost use Rattle.amd_words.specs.Words.{classes, in_front, num, rows};
+ghost use Rattle.std.specs.Prelude.{[], ◌+◌, ◌-◌, ◌<◌, ◌^◌, ◌∷◌, ◌≡◌, ◌≤◌, length, nat_le};
+ghost use Rattle.amd_words.specs.Words.{classes, rows};
 ghost use Rattle.amd_lists.specs.Spans.{IsSpan};
-ghost use Rattle.amd_elements.specs.Effects.{MeetsFront};
-ghost use Rattle.amd_elements.specs.Element.{ListsLaid, elements_at, front_of};
-ghost use Rattle.amd_elements.specs.Premises.{CanFit, HasListsAround, IsAround};
+ghost use Rattle.amd_elements.specs.Element.{front_of};
+ghost use Rattle.amd_elements.specs.Premises.{CanFit, IsAround};
 ghost use Rattle.amd_elements.specs.Pivots.{built_front};
-ghost use Rattle.amd_elements.specs.Room.{Meets, Unmarks, named_around};
+ghost use Rattle.amd_elements.specs.Room.{IsMeeting, IsRemainder, IsUnmarking, Meets, Unmarks};
 
+use crate::around::{ListVisitor, visit_around};
 use amd_words::words::{enter, is_marked, is_open, leave, named};
-use amd_words::{Cell, Signed, Unsigned, Word, cell_at};
+use amd_words::{Cell, Signed, Unsigned, Word};
 
 /// A row is met: a class that was not met before is put into the front, and takes one of `left` places. Returns how
 /// many are left.
@@ -47,31 +47,25 @@ fn meet_all<S: Signed>(
     now
 }
 
-/// Puts the pivot and the classes of its new element into the front. Each of these takes one of `left` places. Returns
-/// how many are left.
-#[cold]
-fn meet_front<S: Signed, U: Unsigned>(
-    iw: &[Word<S>],
-    nv: &mut [Word<S>],
-    pe: &[Word<S>],
-    len: &[Cell<U>],
-    pivot: usize,
-    n_elements: usize,
+/// The places that are left after the classes of some lists were met.
+#[derive(Drop)]
+struct Meeting {
     left: usize,
-) -> usize
-    requires { IsAround pivot n_elements iw.now nv.old pe.now len.now (length iw.now) }
-    ensures { MeetsFront pivot n_elements iw.now nv.old pe.now len.now left nv.new result }
-{
-    enter(nv, pivot);
-    let from = named(pe, pivot);
-    let mut now = left;
-    for p in from..from + n_elements {
-        let e = named(iw, p);
-        let first = named(pe, e);
-        now = meet_all(iw, nv, first, cell_at(len, e), now);
+}
+
+impl ListVisitor for Meeting {
+    ghost holds = { λ end all taken words sizes first iw nv m. IsMeeting taken words sizes first.left iw nv m.left };
+
+    fn take<S: Signed>(
+        &mut self,
+        iw: &mut [Word<S>],
+        nv: &mut [Word<S>],
+        from: usize,
+        count: usize,
+        end: usize,
+    ) {
+        self.left = meet_all(iw, nv, from, count, self.left);
     }
-    let rest = cell_at(len, pivot) - n_elements;
-    meet_all(iw, nv, from + n_elements, rest, now)
 }
 
 /// Takes a row out of the front, if it is a class of the front.
@@ -95,60 +89,75 @@ fn unmark_all<S: Signed>(iw: &[Word<S>], nv: &mut [Word<S>], from: usize, count:
     }
 }
 
-/// Takes the pivot and the classes of its new element out of the front.
+/// What takes the rows of lists out of the front.
+#[derive(Drop)]
+struct Unmarking {}
+
+impl ListVisitor for Unmarking {
+    ghost holds = { λ end all taken words sizes first iw nv u. IsUnmarking taken words sizes iw nv };
+
+    fn take<S: Signed>(
+        &mut self,
+        iw: &mut [Word<S>],
+        nv: &mut [Word<S>],
+        from: usize,
+        count: usize,
+        end: usize,
+    ) {
+        unmark_all(iw, nv, from, count);
+    }
+}
+
+/// What is left of some words when those of lists are taken off.
+#[derive(Drop)]
+struct Remainder {
+    left: usize,
+}
+
+impl ListVisitor for Remainder {
+    ghost holds = { λ end all taken words sizes first iw nv r. IsRemainder taken words sizes first.left iw nv r.left };
+
+    fn take<S: Signed>(
+        &mut self,
+        iw: &mut [Word<S>],
+        nv: &mut [Word<S>],
+        from: usize,
+        count: usize,
+        end: usize,
+    ) {
+        self.left = self.left.saturating_sub(count);
+    }
+}
+
+/// What is left of `room` words when those of the list of the pivot's new element are taken off. The classes of that
+/// list are in the front meanwhile; all that is lent is as before then.
 #[cold]
-fn unmark_front<S: Signed, U: Unsigned>(
-    iw: &[Word<S>],
+fn room_beyond_front<S: Signed, U: Unsigned>(
+    iw: &mut [Word<S>],
     nv: &mut [Word<S>],
     pe: &[Word<S>],
     len: &[Cell<U>],
     pivot: usize,
     n_elements: usize,
-)
-    requires lists { HasListsAround pivot n_elements iw.now nv.old pe.now len.now (length iw.now) }
-    requires pivot { (pivot < length nv.old) × (in_front nv.old pivot ≡ true) }
-    ensures { Unmarks nv.old (pivot ∷ named_around iw.now pe.now len.now pivot n_elements) nv.new }
-{
-    leave(nv, pivot);
-    let from = named(pe, pivot);
-    for p in from..from + n_elements {
-        let e = named(iw, p);
-        let first = named(pe, e);
-        unmark_all(iw, nv, first, cell_at(len, e));
-    }
-    let rest = cell_at(len, pivot) - n_elements;
-    unmark_all(iw, nv, from + n_elements, rest);
-}
-
-/// What is left of `room` words when the words around the pivot are taken off: those of the lists of its elements, and
-/// those of its own list that name variables.
-fn room_beyond_lists<S: Signed, U: Unsigned>(
-    iw: &[Word<S>],
-    pe: &[Word<S>],
-    len: &[Cell<U>],
-    pivot: usize,
-    n_elements: usize,
+    free: usize,
     room: usize,
 ) -> usize
-    requires lengths { length pe.now ≡ length len.now }
-    requires pivot { pivot < length len.now }
-    requires elements { n_elements ≤ num len.now pivot }
-    requires laid { ListsLaid iw.now pe.now len.now (length len.now) (length iw.now) pivot n_elements }
-    ensures { result ≡ room - (sum_by (num len.now) (elements_at iw.now pe.now pivot n_elements)
-        + (num len.now pivot - n_elements)) }
+    requires end { free ≤ length iw.old }
+    requires around { IsAround pivot n_elements iw.old nv.old pe.now len.now free }
+    ensures room { result ≡ room - length (front_of iw.old nv.old pe.now len.now pivot n_elements) }
+    ensures same { (iw.new ≡ iw.old) × (nv.new ≡ nv.old) }
 {
-    let from = named(pe, pivot);
-    let mut left = room;
-    for p in from..from + n_elements {
-        let e = named(iw, p);
-        left = left.saturating_sub(cell_at(len, e));
-    }
-    left.saturating_sub(cell_at(len, pivot) - n_elements)
+    enter(nv, pivot);
+    let mut met = Meeting { left: room };
+    visit_around(&mut met, iw, nv, pe, len, pivot, n_elements, free);
+    leave(nv, pivot);
+    visit_around(&mut Unmarking {}, iw, nv, pe, len, pivot, n_elements, free);
+    met.left
 }
 
-/// Whether the list of the pivot's new element fits behind `free`.
-pub fn fits<S: Signed, U: Unsigned>(
-    iw: &[Word<S>],
+/// Whether the list of the pivot's new element fits behind `free`. All that is lent is only read, or as before.
+fn fits<S: Signed, U: Unsigned>(
+    iw: &mut [Word<S>],
     nv: &mut [Word<S>],
     pe: &[Word<S>],
     len: &[Cell<U>],
@@ -156,19 +165,16 @@ pub fn fits<S: Signed, U: Unsigned>(
     n_elements: usize,
     free: usize,
 ) -> bool
-    requires end { (free ≤ length iw.now) × (length iw.now < 2 ^ 63) }
-    requires around { IsAround pivot n_elements iw.now nv.old pe.now len.now free }
-    ensures fits { result ≡ nat_le (free + length (front_of iw.now nv.old pe.now len.now pivot n_elements))
-        (length iw.now) }
-    ensures same { nv.new ≡ nv.old }
+    requires end { (free ≤ length iw.old) × (length iw.old < 2 ^ 63) }
+    requires around { IsAround pivot n_elements iw.old nv.old pe.now len.now free }
+    ensures fits { result ≡ nat_le (free + length (front_of iw.old nv.old pe.now len.now pivot n_elements))
+        (length iw.old) }
+    ensures same { (iw.new ≡ iw.old) × (nv.new ≡ nv.old) }
 {
     let room = iw.len() - free + 1;
-    if room_beyond_lists(iw, pe, len, pivot, n_elements, room) > 0 {
-        return true;
-    }
-    let left = meet_front(iw, nv, pe, len, pivot, n_elements, room);
-    unmark_front(iw, nv, pe, len, pivot, n_elements);
-    left > 0
+    let mut words = Remainder { left: room };
+    visit_around(&mut words, iw, nv, pe, len, pivot, n_elements, free);
+    words.left > 0 || room_beyond_front(iw, nv, pe, len, pivot, n_elements, free, room) > 0
 }
 
 /// Whether the list of the new element of the pivot `me` fits behind `free`. All that is lent is only read.

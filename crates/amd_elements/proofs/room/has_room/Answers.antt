@@ -33,4 +33,4 @@ returns-clause-fits g c = c.fits.ensures.fits
     (length c.args.iw.now)) c.named-n_elements.ensures
 
 pub returns-clause-same : goal.returns-clause-same
-returns-clause-same g c = (refl, c.fits.ensures.same, refl, refl, refl)
+returns-clause-same g c = (c.fits.ensures.same.0, c.fits.ensures.same.1, refl, refl, refl)
