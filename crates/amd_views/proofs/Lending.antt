@@ -1,7 +1,33 @@
 -- A slice of numbers is lent as one of structs: each number is stored again, where a struct then lies. A walk of the code that
 -- both functions have, whatever their types are called.
-use Rattle.std.proofs.Common.{◌≡◌, refl, sym, ap, ◌∙◌, ℕ, zero, ◌+◌, ◌*◌, ◌^◌, ◌<◌, List, [], ◌∷◌, ◌++◌, length, arith, w64, MutBor,
-    lit<, ltb→lt, nltb→le, length-append, append_assoc, append-nil, lt-suc_self}
+use Rattle.std.proofs.Common.{
+  ◌≡◌,
+  refl,
+  sym,
+  ap,
+  ◌∙◌,
+  ℕ,
+  zero,
+  ◌+◌,
+  ◌*◌,
+  ◌^◌,
+  ◌<◌,
+  List,
+  [],
+  ◌∷◌,
+  ◌++◌,
+  length,
+  arith,
+  w64,
+  MutBor,
+  lit<,
+  ltb→lt,
+  nltb→le,
+  length-append,
+  append_assoc,
+  append-nil,
+  lt-suc_self,
+}
 use mathlib.Core.WellFounded.InvImage
 use lib.WfN.{lt-wf_rel}
 use seplogic.Ra.Ura.{Ura}
@@ -9,19 +35,136 @@ use base.Fraction.{full_share}
 use base.Stored.{coded_list}
 use base.Logic.{SProp, ent, sep, emp, id⊢, mono∗}
 use base.Fml.{Fml, Lft, GName, Share, ftrue, fat, flft, fobs, fauth, fbor, fobor, froom}
-use mir.Syntax.{Sym, Lifetime, Ty, tcons, tnil, ty_int, ty_ptr, ty_bool, ty_struct, ty_ref, ty_named, mut, named, erased, Fn, Local,
-    local, value_local, Body, seq, assign, cond, skip, exit, block, loop, return, place, Place, field, deref, Opd, copy, int, rv_opd,
-        op2, mul, add, lt, offset, unsigned, addr_of, aggregate}
+use mir.Syntax.{
+  Sym,
+  Lifetime,
+  Ty,
+  tcons,
+  tnil,
+  ty_int,
+  ty_ptr,
+  ty_bool,
+  ty_struct,
+  ty_ref,
+  ty_named,
+  mut,
+  named,
+  erased,
+  Fn,
+  Local,
+  local,
+  value_local,
+  Body,
+  seq,
+  assign,
+  cond,
+  skip,
+  exit,
+  block,
+  loop,
+  return,
+  place,
+  Place,
+  field,
+  deref,
+  Opd,
+  copy,
+  int,
+  rv_opd,
+  op2,
+  mul,
+  add,
+  lt,
+  offset,
+  unsigned,
+  addr_of,
+  aggregate,
+}
 use mir.Val.{Val, vint, vptr}
 use prog.Wp.{Env, Out, Wp, WpFn, Tables, at_return, after_seq, after_block, after_turn}
 use types.Logic.{Logic, sem}
-use types.Kit.{Item, Sq, any_q, runs, ‵, raw, ◌⊛◌, some, later, at_ret, ◌$◌, ◌∵◌, !, qed, by, move, keep, drop, use1, use2, split,
-    split3, join, pick, rewrite, fsplit, fsplit3, fjoin, feq_i, feq_l, group, await, done}
+use types.Kit.{
+  Item,
+  Sq,
+  any_q,
+  runs,
+  ‵,
+  raw,
+  ◌⊛◌,
+  some,
+  later,
+  at_ret,
+  ◌$◌,
+  ◌∵◌,
+  !,
+  qed,
+  by,
+  move,
+  keep,
+  drop,
+  use1,
+  use2,
+  split,
+  split3,
+  join,
+  pick,
+  rewrite,
+  fsplit,
+  fsplit3,
+  fjoin,
+  feq_i,
+  feq_l,
+  group,
+  await,
+  done,
+}
 use types.Part.{whole, sub, agg}
-use types.Run.{stop, look, load, lit, bin, of_opd, init, assigns_last, first, blocks, skips, jumps, branches, exec, returns, enter,
-    forget, loops, again, Below, fld, hop, from, addr, and_then, no_more, well_typed}
-use types.ByLocal.{alloc_all, pass_all, free_all, look_at, look_in_at, get, get_in, through, sets, sets_last, env, holding, forget_but,
-    take_at, give_at}
+use types.Run.{
+  stop,
+  look,
+  load,
+  lit,
+  bin,
+  of_opd,
+  init,
+  assigns_last,
+  first,
+  blocks,
+  skips,
+  jumps,
+  branches,
+  exec,
+  returns,
+  enter,
+  forget,
+  loops,
+  again,
+  Below,
+  fld,
+  hop,
+  from,
+  addr,
+  and_then,
+  no_more,
+  well_typed,
+}
+use types.ByLocal.{
+  alloc_all,
+  pass_all,
+  free_all,
+  look_at,
+  look_in_at,
+  get,
+  get_in,
+  through,
+  sets,
+  sets_last,
+  env,
+  holding,
+  forget_but,
+  take_at,
+  give_at,
+}
 use types.SemTy.{SemTy, cells, Arr, Body as Borrowed}
 use types.Mut.{open_ref}
 use types.Follow.{takes_part}
@@ -50,7 +193,7 @@ module _ (ν : Sym) where
   locals = local (slice_ty (named 0) struct_named) value_local ∷ local (slice_ty (named 0) (ty_int w64)) value_local ∷ local (ty_int w64)
       value_local
       ∷ local ty_ptr value_local ∷ local (ty_int w64) value_local ∷ local ty_ptr value_local ∷ local (ty_int w64)
-          value_local ∷ local ty_bool value_local
+      value_local ∷ local ty_bool value_local
       ∷ local (ty_int w64) value_local ∷ local (slice_ty erased struct_named) value_local ∷ local ty_ptr value_local ∷ []
 
 abbrev whole_of : ℕ → Opd
@@ -164,22 +307,22 @@ module _ {M : Type 1} {𝓤 : Ura M} (𝓛 : Logic 𝓤) {X : Type 0} (ν : Sym)
         one_turn (ys, [], e, fit) =
             sets ! (bin ! (get ! refl) (get ! refl) tt) refl (tt, tt) $ first ! $ branches ! (get ! refl)
             (λ less. let h = ltb→lt (length ys) (length xs) less in let long = length-append ys [] in let all = ap length e in
-                absurd (omega (arith, h, long, all)))
+            absurd (omega (arith, h, long, all)))
             (λ over. jumps ! $ exec ! 𝓣.C 𝓣.Λ En makes (at_ret En Post) $
             first ! $ blocks ! $ sets ! (of_opd ! (get ! refl)) refl (tt, tt) $
             sets_last ! (agg ! (and_then ! (get ! refl) (and_then ! (get ! refl) (no_more !))))
-                refl (tt, (tt, (record { fits = rm.0 }, tt))) $
+            refl (tt, (tt, (record { fits = rm.0 }, tt))) $
             exec ! 𝓣.C 𝓣.Λ En hands_on (at_ret En Post) $
             sets ! (of_opd ! (get ! refl)) refl (tt, (tt, (record { fits = rm.0 }, tt))) $
             rewrite ! 0 (λ (ws : List X). ‵ (cells (mem S) ws b o)) (sym (append-nil ys) ∙ e) refl $
             feq_i ! ℕ (length xs) (length xs) refl $ fjoin ! $ move ! (1 ∷ []) $ drop ! $ move ! (1 ∷ []) $ split3 ! $ nothing ! $
             move ! (1 ∷ 2 ∷ 3 ∷ 4 ∷ 0 ∷ []) $ group ! 5 $
             use1 𝓛 (later (some (λ (δ : GName). ‵ (fobs δ ((coded_list S.coded).code xs)) ⊛ ‵ (fbor κ (Borrowed (Arr (mem S) (length xs))
-                b o δ)) ⊛ ‵ (flft κ q) ⊛ ‵ (Follows δ))))
+            b o δ)) ⊛ ‵ (flft κ q) ⊛ ‵ (Follows δ))))
             (takes_part 𝓛 Numbers (Arr (mem S) (length xs)) (λ ws. ws) κ q b o b o γ (emp 𝓤) put_back ((coded_list N.coded).code xs)
-                ((coded_list N.coded).code xs) xs) $ await ! tt $ pick ! (λ δ. split3 ! $
+            ((coded_list N.coded).code xs) xs) $ await ! tt $ pick ! (λ δ. split3 ! $
             use2 𝓛 (‵ ((MutSlice (named 0) κ S).own_val (lent δ) (slice_val (b, o) (length xs) ∷ []))) (slice_of 𝓛 S (named 0)
-                κ b o δ xs rm) $
+            κ b o δ xs rm) $
             returns ! (look_at ! 0 refl) $ free_all ! refl $ join ! $ by ! (ends δ)))
         one_turn (ys, x ∷ zs, e, fit) =
             let i : ℕ = length ys in let p : ℕ = i * 8 + o in
@@ -210,7 +353,7 @@ module _ {M : Type 1} {𝓤 : Ura M} (𝓛 : Logic 𝓤) {X : Type 0} (ν : Sym)
             rewrite ! 0 (λ (k : ℕ). ‵ (fat full_share (ty_int w64) (l 4) zero (vint w64 k))) (sym long) refl $ give_at ! 4 $
             again ! Nearer Now (ys, x ∷ zs, e, fit) (ys ++ x ∷ [], zs, append_assoc ys (x ∷ []) zs ∙ e, fit.1) (lt-suc_self (length zs))))
             (λ over. let ge = nltb→le (length ys) (length xs) over in let long = length-append ys (x ∷ zs) in let all = ap length e in
-                absurd (omega (arith, ge, long, all)))
+            absurd (omega (arith, ge, long, all)))
 
       start : o ≡ 0 * 8 + o
       start = omega arith
@@ -234,4 +377,4 @@ module _ {M : Type 1} {𝓤 : Ura M} (𝓛 : Logic 𝓤) {X : Type 0} (ν : Sym)
           rewrite ! 0 (λ (k : ℕ). ‵ (cells (mem N) xs b k)) start refl $
           move ! (1 ∷ 2 ∷ 3 ∷ []) $ group ! 3 $ move ! (1 ∷ 0 ∷ []) $ nothing ! $
           first ! $ blocks ! $ loops ! 𝓣 Nearer (InvImage.wf (λ (t : Turned). length t.1) lt-wf_rel.wf) (Now l) (one_turn l)
-              ([], xs, refl, fit))
+          ([], xs, refl, fit))

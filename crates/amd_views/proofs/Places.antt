@@ -59,20 +59,20 @@ module _ {M : Type 1} {𝓤 : Ura M} (𝓛 : Logic 𝓤) (b o : ℕ) where
     struct_in a ok = let z : X = inner a in
         qed 𝓛 (‵ (part_at (number r) full_share z b o) ∷ raw Left ∷ []) ∵
         rewrite ! 0 (λ (k : ℕ). ‵ (part_at (number r) full_share z b k)) (sym (add-zero o)) refl $ nothing ! $ move ! (1 ∷ 0 ∷ [])
-            $ fjoin ! $
+        $ fjoin ! $
         use2 𝓛 (‵ (fex (List Val) (λ us. fsep (cell_raw full_share (struct_ty ∷ []) us b o) ((Plain r).own_val (z, tt) us))))
         (left_Struct 𝓛 full_share [] (field r ∷ []) (z, tt) b o) $ fpick ! (λ vs. fsplit ! $ move ! (1 ∷ [])
-            $ nothing ! $ move ! (1 ∷ 0 ∷ []) $ fjoin ! $
+        $ nothing ! $ move ! (1 ∷ 0 ∷ []) $ fjoin ! $
         fpack ! ((x : A) × ((inner x ≡ z) × holds x)) (λ x. fsep ((Plain r).own_val (inner x.0, tt) vs) ftrue) (a, (refl, ok)) $
         move ! (1 ∷ 0 ∷ []) $ fjoin ! $ fpack ! (List Val) (λ us. fsep (cell_raw full_share (struct_ty ∷ []) us b o) (Own z us))
-            vs $ done !)
+        vs $ done !)
 
   -- room for a number is room for the struct, whose field it is
   pub room_left : ent 𝓤 (H.room number_ty b o) (sep 𝓤 (H.room number_ty b o) Left)
   room_left = qed 𝓛 (‵ (froom number_ty b o) ∷ []) ∵
       use1 𝓛 (‵ (froom struct_ty b o) ⊛ raw (wand 𝓤 (H.room struct_ty b o) (H.room number_ty b o)))
-          (𝓛.laws.room_as number_ty struct_ty b o refl tt) $ split ! $
+      (𝓛.laws.room_as number_ty struct_ty b o refl tt) $ split ! $
       move ! (1 ∷ []) $ drop ! $
       use1 𝓛 (‵ (fsep (froom number_ty b (o + zero)) ftrue) ⊛ raw Left) (𝓛.laws.room_apart [] field_tys b o (refl, refl))
-          $ split ! $ fsplit ! $
+      $ split ! $ fsplit ! $
       rewrite ! 0 (λ (k : ℕ). ‵ (froom number_ty b k)) (add-zero o) refl $ keep ! (0 ∷ 2 ∷ []) $ done !

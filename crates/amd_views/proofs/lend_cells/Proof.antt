@@ -66,7 +66,7 @@ module _ {M : Type 1} {𝓤 : Ura M} (𝓛 : Logic 𝓤) where
     struct_in = λ x b o fit. qed 𝓛 (‵ (fat full_share (ty_int w64) b o (vint w64 x)) ∷ raw (Left 𝓛 b o) ∷ []) ∵ well_typed ! (λ good.
         use1 𝓛 (‵ (part_at usize full_share x b o)) (uint_in 𝓛 full_share w64 x b o) $ let small : x < 2 ^ 64 = good.1.fits in
         join ! $ by ! (struct_in 𝓛 b o (row_of usize) lones (Inside ℕ) (λ a. a.inner) (λ a. a.inner ≤ 18446744073709551615)
-            (record { inner = x }) (omega (arith, small))));
+        (record { inner = x }) (omega (arith, small))));
     struct_out = λ x b o. struct_out 𝓛 b o (row_of usize) lones (Inside ℕ) (λ a. a.inner) (λ a. a.inner ≤ 18446744073709551615) x;
   }
 
@@ -89,10 +89,10 @@ module _ {M : Type 1} {𝓤 : Ura M} (𝓛 : Logic 𝓤) where
     walks rm = walk 𝓛 ν (row_of usize) (row_of Cells) (λ x. x) (λ x. Unit {0}) turns 𝓣 κ q b o γ xs Post rm (λ δ.
         let given : MutBor (List ℕ) = record { ref_ptr = (b, o); ghost_name = δ; now = xs } in
         qed 𝓛 ((‵ ((MutSlice (named 0) κ Cells).own_val given (slice_val (b, o) (length xs) ∷ [])) ⊛ ‵ (flft κ q)
-            ⊛ ‵ (follows (Array usize 0) (Array Cells 0) γ δ (λ ws. ws))) ∷ []) ∵ split3 ! $
+        ⊛ ‵ (follows (Array usize 0) (Array Cells 0) γ δ (λ ws. ws))) ∷ []) ∵ split3 ! $
         suffices ! _ (ends_at 𝓛 F.ended stayed clauses bound (slice_val (b, o) (length xs)) given (tt, tt) (tt, tt)) $
         nothing ! $ nothing ! $ fjoin ! $ join ! $ nothing ! $ move ! (2 ∷ 0 ∷ []) $ join ! $ join ! $ frame ! $ says ! refl $ done !)
-            (any xs)
+        (any xs)
 
 pub lend_cells_spec : {M : Type 1} → stated.statement M
 unfolding tables_of
@@ -103,5 +103,5 @@ lend_cells_spec 𝓤 𝓛 𝓜 𝓡 wired =
     (walk_Meets 𝓛 F.ended stayed (Goes-spent_slice 𝓛 1 (0 ∷ []) tt (plain (λ _. usize)), tt) c run (WpFn-mono 𝓤 𝓛.H 𝓛.laws 𝓣 code.function)
     (walked 𝓛 F.ended stayed c run (λ κs. (mut_slice_vals, tt)) (λ κs. (mut_slice_Tells (named 0) κs.0 usize, tt))
     (λ κs qs bounds a g are. qed 𝓛 (raw (on_entry 𝓛 F.signature κs qs a (mut_slice_vals a.0, tt)) ∷ ‵ ftrue ∷ []) ∵ move ! (1 ∷ [])
-        $ drop ! $
+    $ drop ! $
     by ! (walks 𝓛 𝓜.mem 𝓡.returns 𝓣 κs.0 qs.0 a.0.ref_ptr.0 a.0.ref_ptr.1 a.0.ghost_name a.0.now are.0.0.1))))

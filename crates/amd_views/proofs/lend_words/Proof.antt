@@ -66,7 +66,7 @@ module _ {M : Type 1} {𝓤 : Ura M} (𝓛 : Logic 𝓤) where
     struct_in = λ x b o fit. qed 𝓛 (‵ (fat full_share (ty_int w64) b o (vint w64 (of_z w64 x))) ∷ raw (Left 𝓛 b o) ∷ []) ∵
         use1 𝓛 (‵ (part_at isize full_share x b o)) (sint_in 𝓛 full_share w64 x b o (fits_width x fit)) $
         join ! $ by ! (struct_in 𝓛 b o (row_of isize) lones (Inside ℤ) (λ a. a.inner) (λ a. nat_abs a.inner ≤ 9223372036854775807)
-            (record { inner = x }) fit);
+        (record { inner = x }) fit);
     struct_out = λ x b o. struct_out 𝓛 b o (row_of isize) lones (Inside ℤ) (λ a. a.inner) (λ a. nat_abs a.inner ≤ 9223372036854775807) x;
   }
 
@@ -90,7 +90,7 @@ module _ {M : Type 1} {𝓤 : Ura M} (𝓛 : Logic 𝓤) where
         turns 𝓣 κ q b o γ xs Post rm (λ δ.
         let given : MutBor (List ℤ) = record { ref_ptr = (b, o); ghost_name = δ; now = xs } in
         qed 𝓛 ((‵ ((MutSlice (named 0) κ Words).own_val given (slice_val (b, o) (length xs) ∷ [])) ⊛ ‵ (flft κ q)
-            ⊛ ‵ (follows (Array isize 0) (Array Words 0) γ δ (λ ws. ws))) ∷ []) ∵ split3 ! $
+        ⊛ ‵ (follows (Array isize 0) (Array Words 0) γ δ (λ ws. ws))) ∷ []) ∵ split3 ! $
         suffices ! _ (ends_at 𝓛 F.ended stayed clauses bound (slice_val (b, o) (length xs)) given (tt, tt) (tt, tt)) $
         nothing ! $ nothing ! $ fjoin ! $ join ! $ nothing ! $ move ! (2 ∷ 0 ∷ []) $ join ! $ join ! $ frame ! $ says ! refl $ done !) fit
 

@@ -23,5 +23,9 @@ loop-i-preserved c =
     })
 
 pub returns-clause-fits : goal.returns-clause-fits
-returns-clause-fits c = each_from _ c.loop-i.numbers (pos 0) (λ k l. c.loop-i.invariant.fit k (omega (arith, l, c.loop-i.auto.numbers,
-    c.loop-i-test.false)))
+returns-clause-fits c = each_from _ c.loop-i.numbers (pos 0) (λ k l. c.loop-i.invariant.fit k (omega (
+  arith,
+  l,
+  c.loop-i.auto.numbers,
+  c.loop-i-test.false,
+)))
