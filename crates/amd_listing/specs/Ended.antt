@@ -24,6 +24,11 @@ pub record LinksAre (n : ℕ) (link nv : List ℤ) (home : ℕ → Home) : Type 
   pub others : (v : ℕ) → size_of nv v ≡ 0 → row_link link nv v ≡ None → home v ≡ Last
   pub leads : LinksLead n (row_link link nv) home
 
+-- links were shortened: they lead each row where they led it, and an element has the parent that it had
+pub record Shortens (nv link link' : List ℤ) : Type 0 where
+  pub led : (home : ℕ → Home) → LinksAre (length nv) link nv home → LinksAre (length nv) link' nv home
+  pub parents : (e : ℕ) → 0 < size_of nv e → word link' e ≡ word link e
+
 -- the lists tell the state at the end of a run: where each row went, and of each element its parent and the numbers of
 -- rows of its block and of its front
 pub record IsEnded (g : Graph) (s : State) (link nv f_size : List ℤ) : Type 0 where

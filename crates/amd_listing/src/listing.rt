@@ -4,7 +4,7 @@
 
 ghost use Rattle.std.specs.Prelude.{◌≡◌, ◌<◌, ◌≤◌, ◌+◌, ℕ, List, length, map, pos};
 ghost use Rattle.amd_types.specs.Permutations.{AreInverse};
-ghost use Rattle.amd_listing.specs.Ended.{HasEnded, ListsEnded};
+ghost use Rattle.amd_listing.specs.Ended.{HasEnded, ListsEnded, Shortens};
 
 use crate::blocks::{block_starts, by_place};
 use crate::rows::place_rows;
@@ -13,7 +13,8 @@ use amd_words::{Cell, Signed, Unsigned, Word};
 
 /// Writes the listing of an elimination that has ended, and its inverse: `link` names for each row the row or parent to
 /// which it is linked, `nv` the number of rows of each block, and `f_size` that of each front. `child` and `sibling`
-/// are room, and so are `p` and `p_inv` until the listing is written; what the four held goes. Links are shortened.
+/// are room, and so are `p` and `p_inv` until the listing is written; what the four held goes. Links are shortened; an
+/// element keeps its parent.
 pub fn listing<S: Signed, U: Unsigned>(
     link: &mut [Word<S>],
     nv: &[Word<S>],
@@ -29,6 +30,7 @@ pub fn listing<S: Signed, U: Unsigned>(
     requires narrow { (length nv.now + 2 ≤ S.MOST) × (length nv.now + 2 ≤ U.MOST) }
     ensures lists { (rows : List ℕ) × (map pos p.new ≡ map pos rows) × ListsEnded link.old nv.now f_size.now rows }
     ensures inverse { AreInverse (length nv.now) (map pos p.new) (map pos p_inv.new) }
+    ensures shortens { Shortens nv.now link.old link.new }
 {
     // At first `p` has the place of each element, and `p_inv` is the stack of the postorder.
     postorder_in(nv.len(), link, nv, f_size, child, sibling, p, p_inv);

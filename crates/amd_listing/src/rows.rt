@@ -6,7 +6,7 @@ ghost use Rattle.amd_model.specs.State.{Home, Gone, gone_at, live_at};
 ghost use Rattle.amd_types.specs.Permutations.{AreInverse};
 ghost use Rattle.amd_words.specs.Words.{num, in_front, size_of};
 ghost use Rattle.amd_listing.specs.Blocks.{AreElements, AreStarts, listing_of};
-ghost use Rattle.amd_listing.specs.Ended.{LinksAre};
+ghost use Rattle.amd_listing.specs.Ended.{LinksAre, Shortens};
 ghost use Rattle.amd_listing.specs.Placing.{AllPlaced, AreBlocks, PivotsPlaced};
 
 use amd_words::words::{named, names_one, put_row, size_outside};
@@ -32,8 +32,7 @@ fn shortcut<S: Signed>(link: &mut [Word<S>], nv: &[Word<S>], v: usize, root: usi
     requires root { (root < length nv.now) × (0 < size_of nv.now root) }
     requires home { (home : ℕ → Home) → LinksAre (length nv.now) link.old nv.now home → home v ≡ Gone root }
     requires narrow { length nv.now ≤ S.MOST }
-    ensures { (home : ℕ → Home) → LinksAre (length nv.now) link.old nv.now home →
-        LinksAre (length nv.now) link.new nv.now home }
+    ensures { Shortens nv.now link.old link.new }
 {
     let mut row = v;
     'links: while size_outside(nv, row) == 0 {
@@ -51,8 +50,7 @@ fn element_of<S: Signed>(link: &mut [Word<S>], nv: &[Word<S>], v: usize) -> usiz
     ensures within { result < length nv.now }
     ensures rows { 0 < size_of nv.now result }
     ensures home { (home : ℕ → Home) → LinksAre (length nv.now) link.old nv.now home → home v ≡ Gone result }
-    ensures led { (home : ℕ → Home) → LinksAre (length nv.now) link.old nv.now home →
-        LinksAre (length nv.now) link.new nv.now home }
+    ensures shortens { Shortens nv.now link.old link.new }
 {
     let next = named(link, v);
     if size_outside(nv, next) != 0 {
@@ -103,6 +101,7 @@ fn place_others<S: Signed, U: Unsigned>(
     ensures placed { (home : ℕ → Home) (elements : List ℕ) → AreBlocks link.old nv.now place.old end home elements →
         AllPlaced (length nv.now) (listing_of (length nv.now) home elements) (map pos p.new)
         (map pos p_inv.new) }
+    ensures shortens { Shortens nv.now link.old link.new }
 {
     let mut next = end;
     'rows: for v in 0..nv.len() {
@@ -121,7 +120,7 @@ fn place_others<S: Signed, U: Unsigned>(
 
 /// Writes the listing of the blocks of the elements and its inverse: of each block, which starts where `starts` says,
 /// the other rows rising before its pivot row, which is there, and from `end` on the rows held last, rising. Links are
-/// shortened; what `starts` then holds is not said.
+/// shortened, so that an element keeps its parent; what `starts` then holds is not said.
 pub fn place_rows<S: Signed, U: Unsigned>(
     link: &mut [Word<S>],
     nv: &[Word<S>],
@@ -141,6 +140,7 @@ pub fn place_rows<S: Signed, U: Unsigned>(
         AreElements (length nv.now) home elements nv.now → AreStarts (length nv.now) elements nv.now starts.old end →
         ((v : ℕ) → live_at (home v) ≡ false) → map pos p.new ≡ map pos (listing_of (length nv.now) home elements) }
     ensures inverse { AreInverse (length nv.now) (map pos p.new) (map pos p_inv.new) }
+    ensures shortens { Shortens nv.now link.old link.new }
 {
     place_others(link, nv, starts, end, p, p_inv);
 }

@@ -1,13 +1,13 @@
 use Rattle.std.proofs.Common.{ℕ, List, length, map, pos}
 use Rattle.amd_model.specs.State.{Home}
-use Rattle.amd_listing.specs.Ended.{LinksAre}
+use Rattle.amd_listing.specs.Ended.{Shortens}
 use Rattle.amd_listing.specs.Placing.{AreBlocks}
 use Rattle.amd_listing.proofs.Passed.{Passed}
 use Rattle.amd_listing.proofs.rows.place_others.Given as goal
 
 abbrev pub invariant-rows : goal.invariant-rows
 invariant-rows g l = record {
-  led : (home : ℕ → Home) → LinksAre (length l.nv) l.fn.link l.nv home → LinksAre (length l.nv) l.link l.nv home;
+  shortens : Shortens l.nv l.fn.link l.link;
   passed : (home : ℕ → Home) (elements : List ℕ) → AreBlocks l.fn.link l.nv l.fn.place l.end home elements →
       Passed l.nv l.fn.place l.end home elements l.place l.next (map pos l.p) (map pos l.p_inv) l.v;
 }

@@ -1,12 +1,14 @@
 use Rattle.std.proofs.Common.{Some, ◌≡◌, ◌≢◌, ◌<◌, ◌∙◌, ap, refl, subst, sym, arith, length}
-use Rattle.amd_words.specs.Words.{size_of}
+use Rattle.std.proofs.Common.{pos}
+use Rattle.std.proofs.lemmas.List.{get_or-set_other}
+use Rattle.amd_words.specs.Words.{word, size_of}
 use Rattle.amd_listing.specs.Ended.{row_link, LinksAre}
 use Rattle.amd_listing.proofs.LinkSteps.{fewer_steps}
 use Rattle.amd_listing.proofs.RowLinks.{unmarked, gone_small, gone_place, gone_next, gone_is, straight, other}
 use Rattle.amd_listing.proofs.rows.shortcut.Goals as goal
 
 pub links-init : goal.links-init
-links-init g c = record { home = c.requires.home; led = λ home are. are; ahead = λ home are r l. refl }
+links-init g c = record { home = c.requires.home; led = λ home are. are; parents = λ e some. refl; ahead = λ home are r l. refl }
 
 pub size_outside-requires-clause-inside : goal.size_outside-requires-clause-inside
 size_outside-requires-clause-inside g c =
@@ -63,6 +65,9 @@ links-preserved g c =
       led = λ home are. subst (λ l. LinksAre (length nv) l nv home) (sym c.put_row.ensures)
           (straight (length nv) link nv row next root small none on c.requires.root.0 c.requires.root.1 home (i.led home are)
           (i.home home are));
+      parents = λ e some. ap (λ l. word l e) c.put_row.ensures
+          ∙ get_or-set_other link row e (pos root) (pos 0) (λ q. let s = ap (size_of nv) q in omega (arith, some, s, none))
+          ∙ i.parents e some;
       ahead = λ home are r h.
           let rise = (are.leads.end.rise row next was).0 in
           let apart : r ≢ row = λ e. (let s = ap are.leads.rank e in omega (arith, h, rise, s)) in
@@ -72,4 +77,4 @@ links-preserved g c =
     }
 
 pub returns : goal.returns
-returns g c = c.links.invariant.led
+returns g c = record { led = c.links.invariant.led; parents = c.links.invariant.parents }
