@@ -5,13 +5,13 @@ use Rattle.std.proofs.lemmas.Bool.{cases_eq}
 use Rattle.amd_words.specs.Words.{num, word, place, is_place, start, rows}
 use Rattle.amd_lists.specs.Renewal.{is_kept, is_outside}
 use Rattle.amd_fronts.specs.Fronts.{RenewsFront}
-use Rattle.amd_words.proofs.WordMarks.{rows_start}
+use Rattle.amd_words.proofs.RowLists.{rows_none}
 use Rattle.amd_lists.proofs.Frames.{has_from}
 use Rattle.amd_fronts.proofs.RenewedFronts.{front_word, front_inside, front_row}
 use Rattle.amd_fronts.proofs.Retiring.{front_none, front_placed, front_loses, front_marked, front_met, front_room, front_more}
-use Rattle.std.proofs.Common.{lt_of_lt_of_le, le_of_eq, add-sub_of_le, le-add_right}
+use Rattle.std.proofs.Common.{lt_of_lt_of_le, le_of_eq, le-add_right}
 use Rattle.amd_words.specs.Sides.{lasts}
-use Rattle.amd_words.proofs.WordCounts.{next_place, within_count}
+use Rattle.amd_words.proofs.WordCounts.{next_place, none_passed}
 use Rattle.amd_fronts.proofs.fronts.renew_all.Goals as goal
 
 pub overflow_add-end : goal.overflow_add-end
@@ -23,6 +23,16 @@ overflow_add-end g c = let is = c.named-from.ensures in let count = c.cell_at.en
           let b = c.requires.end in let d = c.requires.narrow.0 in let z = g.met.S.Signed.narrow in omega (arith, a, b, d, z, is, count))
     ]
 
+-- the place p of the list, counted from its start
+place_at : {from s p : ℕ} → from ≡ s → from ≤ p → s + (p - from) ≡ p
+place_at is after = omega (arith, is, after)
+
+within_list : {from count p n : ℕ} → from ≤ p → p < from + count → count ≡ n → p - from < n
+within_list after there is = omega (arith, after, there, is)
+
+row_at : (iw : List ℤ) {from s p i : ℕ} → from ≡ s → from ≤ p → i ≡ place (word iw p) → i ≡ place (word iw (s + (p - from)))
+row_at iw is after i_is = i_is ∙ ap (λ q. place (word iw q)) (sym (place_at is after))
+
 pub loop-p-init : goal.loop-p-init
 loop-p-init g c =
     let iw : List ℤ = c.args.iw.now in let pe : List ℤ = c.args.pe.now in let len : List ℕ = c.args.len.now in let me : ℕ = c.args.me in
@@ -30,7 +40,8 @@ loop-p-init g c =
       renews = subst (λ xs. RenewsFront (length c.args.w.now) me (is_kept c.args.w.now) (is_outside c.args.nv.now)
           (λ e. num c.args.w.now e - c.args.flag)
           xs c.args.free iw pe c.args.e_len.now c.args.nv.now len c.args.degree.now (lasts c.args.sides.now)
-          iw pe c.args.e_len.now c.args.nv.now len c.args.degree.now (lasts c.args.sides.now) 0) (sym (rows_start iw c.named-from.result))
+          iw pe c.args.e_len.now c.args.nv.now len c.args.degree.now (lasts c.args.sides.now) 0)
+          (sym (ap (rows iw (start pe me)) (none_passed c.named-from.result) ∙ rows_none iw (start pe me)))
           (front_none (length c.args.w.now) me (is_kept c.args.w.now) (is_outside c.args.nv.now)
           (λ e. num c.args.w.now e - c.args.flag) c.args.free
           iw pe c.args.e_len.now c.args.nv.now len c.args.degree.now (lasts c.args.sides.now) c.requires.laid);
@@ -39,191 +50,71 @@ loop-p-init g c =
 
 pub named-i-requires-clause-inside : goal.named-i-requires-clause-inside
 named-i-requires-clause-inside g c =
-    let iw : List ℤ = c.args.iw.now in let pe : List ℤ = c.args.pe.now in let len : List ℕ = c.args.len.now in let me : ℕ = c.args.me in
-    let from : ℕ = c.named-from.result in let is : from ≡ start pe me = c.named-from.ensures in let p : ℕ = c.loop-p.p in
-    let k : ℕ = p - from in
-    let after : from ≤ p = c.loop-p.auto.p in let t = c.loop-p-test.true in let count = c.cell_at.ensures.is in
-    let at : start pe me + k ≡ p = ap (λ s. s + k) (sym is) ∙ add-sub_of_le after in
-    let l : k < num len me = lt_of_lt_of_le (within_count after t) (le_of_eq count) in
-    let h : RenewsFront (length c.args.w.now) me (is_kept c.args.w.now) (is_outside c.args.nv.now) (λ e. num c.args.w.now e - c.args.flag)
-    (rows iw (start pe me) k) c.args.free iw pe c.args.e_len.now c.args.nv.now len c.args.degree.now (lasts c.args.sides.now)
-    c.loop-p.iw c.loop-p.pe c.loop-p.e_len c.loop-p.nv c.loop-p.len c.loop-p.degree (lasts c.loop-p.sides) c.loop-p.gone
-    = subst (λ s. RenewsFront (length c.args.w.now) me (is_kept c.args.w.now) (is_outside c.args.nv.now)
-    (λ e. num c.args.w.now e - c.args.flag)
-    (rows iw s k) c.args.free iw pe c.args.e_len.now c.args.nv.now len c.args.degree.now (lasts c.args.sides.now)
-    c.loop-p.iw c.loop-p.pe c.loop-p.e_len c.loop-p.nv c.loop-p.len c.loop-p.degree (lasts c.loop-p.sides) c.loop-p.gone) is
-    c.loop-p.invariant.renews in
-    let a = front_inside c.requires.laid c.requires.list c.requires.apart c.requires.once k l h.renewed in
-    let b = c.requires.end in let d = h.renewed.long in omega (arith, a, b, d, at)
+    let at = place_at c.named-from.ensures c.loop-p.auto.p in
+    let a = front_inside c.requires.laid c.requires.list c.requires.apart c.requires.once (c.loop-p.p - c.named-from.result) (within_list
+    c.loop-p.auto.p c.loop-p-test.true c.cell_at.ensures.is) c.loop-p.invariant.renews.renewed in
+    let b = c.requires.end in let d = c.loop-p.invariant.renews.renewed.long in omega (arith, a, b, d, at)
 
 pub named-i-requires-clause-is_one : goal.named-i-requires-clause-is_one
-named-i-requires-clause-is_one g c =
-    let iw : List ℤ = c.args.iw.now in let pe : List ℤ = c.args.pe.now in let len : List ℕ = c.args.len.now in let me : ℕ = c.args.me in
-    let from : ℕ = c.named-from.result in let is : from ≡ start pe me = c.named-from.ensures in let p : ℕ = c.loop-p.p in
-    let k : ℕ = p - from in
-    let after : from ≤ p = c.loop-p.auto.p in let t = c.loop-p-test.true in let count = c.cell_at.ensures.is in
-    let at : start pe me + k ≡ p = ap (λ s. s + k) (sym is) ∙ add-sub_of_le after in
-    let l : k < num len me = lt_of_lt_of_le (within_count after t) (le_of_eq count) in
-    let h : RenewsFront (length c.args.w.now) me (is_kept c.args.w.now) (is_outside c.args.nv.now) (λ e. num c.args.w.now e - c.args.flag)
-    (rows iw (start pe me) k) c.args.free iw pe c.args.e_len.now c.args.nv.now len c.args.degree.now (lasts c.args.sides.now)
-    c.loop-p.iw c.loop-p.pe c.loop-p.e_len c.loop-p.nv c.loop-p.len c.loop-p.degree (lasts c.loop-p.sides) c.loop-p.gone
-    = subst (λ s. RenewsFront (length c.args.w.now) me (is_kept c.args.w.now) (is_outside c.args.nv.now)
-    (λ e. num c.args.w.now e - c.args.flag)
-    (rows iw s k) c.args.free iw pe c.args.e_len.now c.args.nv.now len c.args.degree.now (lasts c.args.sides.now)
-    c.loop-p.iw c.loop-p.pe c.loop-p.e_len c.loop-p.nv c.loop-p.len c.loop-p.degree (lasts c.loop-p.sides) c.loop-p.gone) is
-    c.loop-p.invariant.renews in
-    ap (λ q. is_place (word c.loop-p.iw q)) (sym at)
-    ∙ ap is_place (front_word c.requires.laid c.requires.list c.requires.apart c.requires.once k l h.renewed)
-    ∙ (front_row c.requires.laid c.requires.list c.requires.apart c.requires.once k l h.renewed).0
+named-i-requires-clause-is_one g c = ap (λ q. is_place (word c.loop-p.iw q)) (sym (place_at c.named-from.ensures c.loop-p.auto.p))
+    ∙ ap is_place (front_word c.requires.laid c.requires.list c.requires.apart c.requires.once (c.loop-p.p - c.named-from.result)
+    (within_list c.loop-p.auto.p c.loop-p-test.true c.cell_at.ensures.is) c.loop-p.invariant.renews.renewed)
+    ∙ (front_row c.requires.laid c.requires.list c.requires.apart c.requires.once (c.loop-p.p - c.named-from.result) (within_list
+    c.loop-p.auto.p c.loop-p-test.true c.cell_at.ensures.is) c.loop-p.invariant.renews.renewed).0
 
 pub renew_or_retire-gone-requires : goal.renew_or_retire-gone-requires
 renew_or_retire-gone-requires g c = record {
   lengths = search rules;
   more_lengths = search rules;
   narrow = search rules;
-  row = (c.requires.row);
-  placed = (let iw : List ℤ = c.args.iw.now in let pe : List ℤ = c.args.pe.now in let len : List ℕ = c.args.len.now in
-      let me : ℕ = c.args.me in
-      let from : ℕ = c.named-from.result in let is : from ≡ start pe me = c.named-from.ensures in let p : ℕ = c.loop-p.p in
-      let k : ℕ = p - from in
-      let after : from ≤ p = c.loop-p.auto.p in let t = c.loop-p-test.true in let count = c.cell_at.ensures.is in
-      let at : start pe me + k ≡ p = ap (λ s. s + k) (sym is) ∙ add-sub_of_le after in
-      let l : k < num len me = lt_of_lt_of_le (within_count after t) (le_of_eq count) in
-      let h : RenewsFront (length c.args.w.now) me (is_kept c.args.w.now) (is_outside c.args.nv.now) (λ e. num c.args.w.now e - c.args.flag)
-      (rows iw (start pe me) k) c.args.free iw pe c.args.e_len.now c.args.nv.now len c.args.degree.now (lasts c.args.sides.now)
-      c.loop-p.iw c.loop-p.pe c.loop-p.e_len c.loop-p.nv c.loop-p.len c.loop-p.degree (lasts c.loop-p.sides) c.loop-p.gone
-      = subst (λ s. RenewsFront (length c.args.w.now) me (is_kept c.args.w.now) (is_outside c.args.nv.now)
-      (λ e. num c.args.w.now e - c.args.flag)
-      (rows iw s k) c.args.free iw pe c.args.e_len.now c.args.nv.now len c.args.degree.now (lasts c.args.sides.now)
-      c.loop-p.iw c.loop-p.pe c.loop-p.e_len c.loop-p.nv c.loop-p.len c.loop-p.degree (lasts c.loop-p.sides) c.loop-p.gone) is
-      c.loop-p.invariant.renews in
-      front_placed c.requires.laid c.requires.list c.requires.apart c.requires.once c.requires.front c.requires.marked k l h
-      c.named-i.result
-      (c.named-i.ensures ∙ ap (λ q. place (word c.loop-p.iw q)) (sym at)) c.requires.end);
-  loses = (let iw : List ℤ = c.args.iw.now in let pe : List ℤ = c.args.pe.now in let len : List ℕ = c.args.len.now in
-      let me : ℕ = c.args.me in
-      let from : ℕ = c.named-from.result in let is : from ≡ start pe me = c.named-from.ensures in let p : ℕ = c.loop-p.p in
-      let k : ℕ = p - from in
-      let after : from ≤ p = c.loop-p.auto.p in let t = c.loop-p-test.true in let count = c.cell_at.ensures.is in
-      let at : start pe me + k ≡ p = ap (λ s. s + k) (sym is) ∙ add-sub_of_le after in
-      let l : k < num len me = lt_of_lt_of_le (within_count after t) (le_of_eq count) in
-      let h : RenewsFront (length c.args.w.now) me (is_kept c.args.w.now) (is_outside c.args.nv.now) (λ e. num c.args.w.now e - c.args.flag)
-      (rows iw (start pe me) k) c.args.free iw pe c.args.e_len.now c.args.nv.now len c.args.degree.now (lasts c.args.sides.now)
-      c.loop-p.iw c.loop-p.pe c.loop-p.e_len c.loop-p.nv c.loop-p.len c.loop-p.degree (lasts c.loop-p.sides) c.loop-p.gone
-      = subst (λ s. RenewsFront (length c.args.w.now) me (is_kept c.args.w.now) (is_outside c.args.nv.now)
-      (λ e. num c.args.w.now e - c.args.flag)
-      (rows iw s k) c.args.free iw pe c.args.e_len.now c.args.nv.now len c.args.degree.now (lasts c.args.sides.now)
-      c.loop-p.iw c.loop-p.pe c.loop-p.e_len c.loop-p.nv c.loop-p.len c.loop-p.degree (lasts c.loop-p.sides) c.loop-p.gone) is
-      c.loop-p.invariant.renews in
-      front_loses c.requires.laid c.requires.list c.requires.apart c.requires.once c.requires.front c.requires.marked k l h c.named-i.result
-      (c.named-i.ensures ∙ ap (λ q. place (word c.loop-p.iw q)) (sym at)));
-  marked = (let iw : List ℤ = c.args.iw.now in let pe : List ℤ = c.args.pe.now in let len : List ℕ = c.args.len.now in
-      let me : ℕ = c.args.me in
-      let from : ℕ = c.named-from.result in let is : from ≡ start pe me = c.named-from.ensures in let p : ℕ = c.loop-p.p in
-      let k : ℕ = p - from in
-      let after : from ≤ p = c.loop-p.auto.p in let t = c.loop-p-test.true in let count = c.cell_at.ensures.is in
-      let at : start pe me + k ≡ p = ap (λ s. s + k) (sym is) ∙ add-sub_of_le after in
-      let l : k < num len me = lt_of_lt_of_le (within_count after t) (le_of_eq count) in
-      let h : RenewsFront (length c.args.w.now) me (is_kept c.args.w.now) (is_outside c.args.nv.now) (λ e. num c.args.w.now e - c.args.flag)
-      (rows iw (start pe me) k) c.args.free iw pe c.args.e_len.now c.args.nv.now len c.args.degree.now (lasts c.args.sides.now)
-      c.loop-p.iw c.loop-p.pe c.loop-p.e_len c.loop-p.nv c.loop-p.len c.loop-p.degree (lasts c.loop-p.sides) c.loop-p.gone
-      = subst (λ s. RenewsFront (length c.args.w.now) me (is_kept c.args.w.now) (is_outside c.args.nv.now)
-      (λ e. num c.args.w.now e - c.args.flag)
-      (rows iw s k) c.args.free iw pe c.args.e_len.now c.args.nv.now len c.args.degree.now (lasts c.args.sides.now)
-      c.loop-p.iw c.loop-p.pe c.loop-p.e_len c.loop-p.nv c.loop-p.len c.loop-p.degree (lasts c.loop-p.sides) c.loop-p.gone) is
-      c.loop-p.invariant.renews in
-      front_marked c.requires.laid c.requires.list c.requires.apart c.requires.once c.requires.front c.requires.marked k l h
-      c.named-i.result
-      (c.named-i.ensures ∙ ap (λ q. place (word c.loop-p.iw q)) (sym at)));
-  met = (let iw : List ℤ = c.args.iw.now in let pe : List ℤ = c.args.pe.now in let len : List ℕ = c.args.len.now in
-      let me : ℕ = c.args.me in
-      let from : ℕ = c.named-from.result in let is : from ≡ start pe me = c.named-from.ensures in let p : ℕ = c.loop-p.p in
-      let k : ℕ = p - from in
-      let after : from ≤ p = c.loop-p.auto.p in let t = c.loop-p-test.true in let count = c.cell_at.ensures.is in
-      let at : start pe me + k ≡ p = ap (λ s. s + k) (sym is) ∙ add-sub_of_le after in
-      let l : k < num len me = lt_of_lt_of_le (within_count after t) (le_of_eq count) in
-      let h : RenewsFront (length c.args.w.now) me (is_kept c.args.w.now) (is_outside c.args.nv.now) (λ e. num c.args.w.now e - c.args.flag)
-      (rows iw (start pe me) k) c.args.free iw pe c.args.e_len.now c.args.nv.now len c.args.degree.now (lasts c.args.sides.now)
-      c.loop-p.iw c.loop-p.pe c.loop-p.e_len c.loop-p.nv c.loop-p.len c.loop-p.degree (lasts c.loop-p.sides) c.loop-p.gone
-      = subst (λ s. RenewsFront (length c.args.w.now) me (is_kept c.args.w.now) (is_outside c.args.nv.now)
-      (λ e. num c.args.w.now e - c.args.flag)
-      (rows iw s k) c.args.free iw pe c.args.e_len.now c.args.nv.now len c.args.degree.now (lasts c.args.sides.now)
-      c.loop-p.iw c.loop-p.pe c.loop-p.e_len c.loop-p.nv c.loop-p.len c.loop-p.degree (lasts c.loop-p.sides) c.loop-p.gone) is
-      c.loop-p.invariant.renews in
-      front_met c.requires.laid c.requires.list c.requires.apart c.requires.once c.requires.front c.requires.marked k l h c.named-i.result
-      (c.named-i.ensures ∙ ap (λ q. place (word c.loop-p.iw q)) (sym at))
-      c.args.flag c.args.w.now c.requires.met);
+  row = c.requires.row;
+  placed = front_placed c.requires.laid c.requires.list c.requires.apart c.requires.once c.requires.front c.requires.marked (c.loop-p.p -
+      c.named-from.result) (within_list c.loop-p.auto.p c.loop-p-test.true c.cell_at.ensures.is) c.loop-p.invariant.renews c.named-i.result
+      (row_at c.loop-p.iw c.named-from.ensures c.loop-p.auto.p c.named-i.ensures) c.requires.end;
+  loses = front_loses c.requires.laid c.requires.list c.requires.apart c.requires.once c.requires.front c.requires.marked (c.loop-p.p -
+      c.named-from.result) (within_list c.loop-p.auto.p c.loop-p-test.true c.cell_at.ensures.is) c.loop-p.invariant.renews c.named-i.result
+      (row_at c.loop-p.iw c.named-from.ensures c.loop-p.auto.p c.named-i.ensures);
+  marked = front_marked c.requires.laid c.requires.list c.requires.apart c.requires.once c.requires.front c.requires.marked (c.loop-p.p -
+      c.named-from.result) (within_list c.loop-p.auto.p c.loop-p-test.true c.cell_at.ensures.is) c.loop-p.invariant.renews c.named-i.result
+      (row_at c.loop-p.iw c.named-from.ensures c.loop-p.auto.p c.named-i.ensures);
+  met = front_met c.requires.laid c.requires.list c.requires.apart c.requires.once c.requires.front c.requires.marked (c.loop-p.p -
+      c.named-from.result) (within_list c.loop-p.auto.p c.loop-p-test.true c.cell_at.ensures.is) c.loop-p.invariant.renews c.named-i.result
+      (row_at c.loop-p.iw c.named-from.ensures c.loop-p.auto.p c.named-i.ensures) c.args.flag c.args.w.now c.requires.met;
 }
 
 pub loop-p-preserved : goal.loop-p-preserved
-loop-p-preserved g c =
-    let iw : List ℤ = c.args.iw.now in let pe : List ℤ = c.args.pe.now in let len : List ℕ = c.args.len.now in let me : ℕ = c.args.me in
-    let from : ℕ = c.named-from.result in let is : from ≡ start pe me = c.named-from.ensures in let p : ℕ = c.loop-p.p in
-    let k : ℕ = p - from in
-    let after : from ≤ p = c.loop-p.auto.p in let t = c.loop-p-test.true in let count = c.cell_at.ensures.is in
-    let at : start pe me + k ≡ p = ap (λ s. s + k) (sym is) ∙ add-sub_of_le after in
-    let l : k < num len me = lt_of_lt_of_le (within_count after t) (le_of_eq count) in
-    let next : p + 1 - from ≡ k + 1 = next_place after in
-    let h : RenewsFront (length c.args.w.now) me (is_kept c.args.w.now) (is_outside c.args.nv.now) (λ e. num c.args.w.now e - c.args.flag)
-    (rows iw (start pe me) k) c.args.free iw pe c.args.e_len.now c.args.nv.now len c.args.degree.now (lasts c.args.sides.now)
-    c.loop-p.iw c.loop-p.pe c.loop-p.e_len c.loop-p.nv c.loop-p.len c.loop-p.degree (lasts c.loop-p.sides) c.loop-p.gone
-    = subst (λ s. RenewsFront (length c.args.w.now) me (is_kept c.args.w.now) (is_outside c.args.nv.now)
-    (λ e. num c.args.w.now e - c.args.flag)
-    (rows iw s k) c.args.free iw pe c.args.e_len.now c.args.nv.now len c.args.degree.now (lasts c.args.sides.now)
-    c.loop-p.iw c.loop-p.pe c.loop-p.e_len c.loop-p.nv c.loop-p.len c.loop-p.degree (lasts c.loop-p.sides) c.loop-p.gone) is
-    c.loop-p.invariant.renews in
-    let there : rows iw (start pe me) (k + 1) ≡ rows iw from (p + 1 - from) = ap (λ s. rows iw s (k + 1)) (sym is)
-    ∙ ap (rows iw from) (sym next) in
-    record {
-      renews = subst (λ xs. RenewsFront (length c.args.w.now) me (is_kept c.args.w.now) (is_outside c.args.nv.now)
-          (λ e. num c.args.w.now e - c.args.flag)
-          xs c.args.free iw pe c.args.e_len.now c.args.nv.now len c.args.degree.now (lasts c.args.sides.now)
-          c.renew_or_retire-gone.new.iw c.renew_or_retire-gone.new.pe c.renew_or_retire-gone.new.e_len c.renew_or_retire-gone.new.nv
-          c.renew_or_retire-gone.new.len
-          c.renew_or_retire-gone.new.degree (lasts c.renew_or_retire-gone.new.sides) (c.loop-p.gone + c.renew_or_retire-gone.result)) there
-          (front_more c.requires.laid c.requires.list c.requires.apart c.requires.once c.requires.front c.requires.marked k l h
-          c.named-i.result
-          (c.named-i.ensures ∙ ap (λ q. place (word c.loop-p.iw q)) (sym at))
-          c.renew_or_retire-gone.ensures.renews c.requires.lengths.1 c.renew_or_retire-gone.ensures.lengths);
-      nexts_kept = c.renew_or_retire-gone.ensures.links ∙ c.loop-p.invariant.nexts_kept;
-    }
+loop-p-preserved g c = record {
+  renews = subst (λ k. RenewsFront (length c.args.w.now) c.args.me (is_kept c.args.w.now) (is_outside c.args.nv.now)
+      (λ e. num c.args.w.now e - c.args.flag) (rows c.args.iw.now (start c.args.pe.now c.args.me) k) c.args.free c.args.iw.now c.args.pe.now
+      c.args.e_len.now c.args.nv.now c.args.len.now c.args.degree.now (lasts c.args.sides.now) c.renew_or_retire-gone.new.iw
+      c.renew_or_retire-gone.new.pe c.renew_or_retire-gone.new.e_len c.renew_or_retire-gone.new.nv c.renew_or_retire-gone.new.len
+      c.renew_or_retire-gone.new.degree (lasts c.renew_or_retire-gone.new.sides) (c.loop-p.gone + c.renew_or_retire-gone.result))
+      (sym (next_place c.loop-p.auto.p))
+      (front_more c.requires.laid c.requires.list c.requires.apart c.requires.once c.requires.front c.requires.marked (c.loop-p.p -
+      c.named-from.result) (within_list c.loop-p.auto.p c.loop-p-test.true c.cell_at.ensures.is) c.loop-p.invariant.renews c.named-i.result
+      (row_at c.loop-p.iw c.named-from.ensures c.loop-p.auto.p c.named-i.ensures)
+      c.renew_or_retire-gone.ensures.renews c.requires.lengths.1 c.renew_or_retire-gone.ensures.lengths);
+  nexts_kept = c.renew_or_retire-gone.ensures.links ∙ c.loop-p.invariant.nexts_kept;
+}
 
 pub overflow_add-gone : goal.overflow_add-gone
 overflow_add-gone g c =
-    let iw : List ℤ = c.args.iw.now in let pe : List ℤ = c.args.pe.now in let len : List ℕ = c.args.len.now in let me : ℕ = c.args.me in
-    let from : ℕ = c.named-from.result in let is : from ≡ start pe me = c.named-from.ensures in let p : ℕ = c.loop-p.p in
-    let k : ℕ = p - from in
-    let after : from ≤ p = c.loop-p.auto.p in let t = c.loop-p-test.true in let count = c.cell_at.ensures.is in
-    let at : start pe me + k ≡ p = ap (λ s. s + k) (sym is) ∙ add-sub_of_le after in
-    let l : k < num len me = lt_of_lt_of_le (within_count after t) (le_of_eq count) in
-    let h : RenewsFront (length c.args.w.now) me (is_kept c.args.w.now) (is_outside c.args.nv.now) (λ e. num c.args.w.now e - c.args.flag)
-    (rows iw (start pe me) k) c.args.free iw pe c.args.e_len.now c.args.nv.now len c.args.degree.now (lasts c.args.sides.now)
-    c.loop-p.iw c.loop-p.pe c.loop-p.e_len c.loop-p.nv c.loop-p.len c.loop-p.degree (lasts c.loop-p.sides) c.loop-p.gone
-    = subst (λ s. RenewsFront (length c.args.w.now) me (is_kept c.args.w.now) (is_outside c.args.nv.now)
-    (λ e. num c.args.w.now e - c.args.flag)
-    (rows iw s k) c.args.free iw pe c.args.e_len.now c.args.nv.now len c.args.degree.now (lasts c.args.sides.now)
-    c.loop-p.iw c.loop-p.pe c.loop-p.e_len c.loop-p.nv c.loop-p.len c.loop-p.degree (lasts c.loop-p.sides) c.loop-p.gone) is
-    c.loop-p.invariant.renews in
-    let a = front_room c.requires.laid c.requires.list c.requires.apart c.requires.once c.requires.front c.requires.marked k l
-    h c.named-i.result
-    (c.named-i.ensures ∙ ap (λ q. place (word c.loop-p.iw q)) (sym at))
+    let a = front_room c.requires.laid c.requires.list c.requires.apart c.requires.once c.requires.front c.requires.marked (c.loop-p.p -
+    c.named-from.result) (within_list c.loop-p.auto.p c.loop-p-test.true c.cell_at.ensures.is) c.loop-p.invariant.renews c.named-i.result
+    (row_at c.loop-p.iw c.named-from.ensures c.loop-p.auto.p c.named-i.ensures)
     c.renew_or_retire-gone.ensures.renews c.requires.lengths.1 c.renew_or_retire-gone.ensures.lengths in let b = c.requires.few in
     let d = g.met.S.Signed.narrow in omega (arith, a, b, d)
 
 pub returns : goal.returns
 returns g c =
-    let iw : List ℤ = c.args.iw.now in let pe : List ℤ = c.args.pe.now in let len : List ℕ = c.args.len.now in let me : ℕ = c.args.me in
-    let from : ℕ = c.named-from.result in let is : from ≡ start pe me = c.named-from.ensures in let p : ℕ = c.loop-p.p in
-    let t = c.loop-p-test.false in let after : from ≤ p = c.loop-p.auto.p in let count = c.cell_at.ensures.is in
-    let past : p ≤ from + c.cell_at.result = c.loop-p.auto.p-end (le-add_right _ _) in
-    let all : rows iw from (p - from) ≡ rows iw (start pe me) (num len me) = ap (rows iw from) (omega (arith, t, after, past, count))
-    ∙ ap (λ s. rows iw s (num len me)) is in
+    let t = c.loop-p-test.false in let after : c.named-from.result ≤ c.loop-p.p = c.loop-p.auto.p in let count = c.cell_at.ensures.is in
+    let past : c.loop-p.p ≤ c.named-from.result + c.cell_at.result = c.loop-p.auto.p-end (le-add_right _ _) in
     record {
-      renews = subst (λ xs. RenewsFront (length c.args.w.now) me (is_kept c.args.w.now) (is_outside c.args.nv.now)
-          (λ e. num c.args.w.now e - c.args.flag)
-          xs c.args.free iw pe c.args.e_len.now c.args.nv.now len c.args.degree.now (lasts c.args.sides.now)
-          c.loop-p.iw c.loop-p.pe c.loop-p.e_len c.loop-p.nv c.loop-p.len c.loop-p.degree (lasts c.loop-p.sides) c.loop-p.gone) all
-          c.loop-p.invariant.renews;
+      renews = subst (λ k. RenewsFront (length c.args.w.now) c.args.me (is_kept c.args.w.now) (is_outside c.args.nv.now)
+          (λ e. num c.args.w.now e - c.args.flag) (rows c.args.iw.now (start c.args.pe.now c.args.me) k) c.args.free c.args.iw.now
+          c.args.pe.now c.args.e_len.now c.args.nv.now c.args.len.now c.args.degree.now (lasts c.args.sides.now)
+          c.loop-p.iw c.loop-p.pe c.loop-p.e_len c.loop-p.nv c.loop-p.len c.loop-p.degree (lasts c.loop-p.sides) c.loop-p.gone)
+          (omega (arith, t, after, past, count)) c.loop-p.invariant.renews;
       links = c.loop-p.invariant.nexts_kept;
     }
 

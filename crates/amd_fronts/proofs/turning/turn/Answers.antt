@@ -12,15 +12,15 @@ use Rattle.amd_fronts.proofs.FrontTurns.{turn_listed, left_me, left_list, left_l
 use Rattle.std.proofs.Common.{lt_of_lt_of_le, le_of_eq, le_trans}
 use Rattle.amd_words.specs.Sides.{nexts, lasts}
 use Rattle.amd_words.proofs.SideLists.{nexts_same, lasts_same}
+use Rattle.amd_words.proofs.RowLists.{rows_at}
 use Rattle.amd_fronts.proofs.turning.turn.Goals as goal
 
 pub count_outside-requires : goal.count_outside-requires
 count_outside-requires g c =
     let me : ℕ = c.args.me in let iw : List ℤ = c.args.iw.now in let pe : List ℤ = c.args.pe.now in let len : List ℕ = c.args.len.now in
     let from : c.named-from.result ≡ start pe me = c.named-from.ensures in let count = c.cell_at-count.ensures.is in
-    let list : rows iw c.named-from.result c.cell_at-count.result ≡ list_in iw pe len me = ap
-    (λ s. rows iw s c.cell_at-count.result) from
-    ∙ ap (rows iw (start pe me)) count in
+    let list : rows iw c.named-from.result c.cell_at-count.result ≡ list_in iw pe len me
+    = rows_at iw c.named-from.ensures c.cell_at-count.ensures.is in
     let a = c.requires.lengths in let b = c.requires.more_lengths in
     let has_front : (i : ℕ) → has (rows iw c.named-from.result c.cell_at-count.result) i ≡ true →
     has (list_in iw pe len me) i ≡ true = λ i h.
@@ -49,225 +49,91 @@ count_outside-requires g c =
     }
 
 pub renew_all-requires : goal.renew_all-requires
-renew_all-requires g c = record {
-  lengths = (let l = c.requires.lengths in let w = sym c.count_outside.ensures.long.0 in
-      (c.count_outside.auto.pe ∙ l.0.0 ∙ w, l.0.1 ∙ w, l.1 ∙ w, l.0.2 ∙ w));
-  more_lengths = (let w = sym c.count_outside.ensures.long.0 in
-      (c.requires.lengths.0.3 ∙ w, lasts_same _ _ c.count_outside.auto.sides ∙ c.requires.more_lengths.2 ∙ w));
-  narrow = ((c.requires.narrow.0, le_trans (le_of_eq c.count_outside.ensures.long.0) c.requires.narrow.1));
-  end = (c.requires.end);
-  laid = (let me : ℕ = c.args.me in let iw : List ℤ = c.args.iw.now in let pe : List ℤ = c.args.pe.now in
-      let len : List ℕ = c.args.len.now in
-      let from : c.named-from.result ≡ start pe me = c.named-from.ensures in let count = c.cell_at-count.ensures.is in
-      let list : rows iw c.named-from.result c.cell_at-count.result ≡ list_in iw pe len me = ap
-      (λ s. rows iw s c.cell_at-count.result) from
-      ∙ ap (rows iw (start pe me)) count in
-      let left : List ℤ = c.count_outside.new.pe in
-      let seen : ℕ → ℕ → ℕ = λ m e. counter c.args.flag (num c.args.w.now e) (num c.args.degree.now e) m in
-      let ended : (e : ℕ) → word left e ≡ cond (ends c.args.aggressive c.args.flag (seen (rows_met iw pe c.args.e_len.now c.args.nv.now
-      (list_in iw pe len me) e) e))
-      (flip_of me) (word pe e) = λ e. c.count_outside.ensures.starts e
-      ∙ ap (λ xs. cond (ends c.args.aggressive c.args.flag (seen (rows_met iw pe c.args.e_len.now c.args.nv.now xs e) e)) (flip_of me)
-      (word pe e)) list in
-      let long = c.count_outside.ensures.long.0 in
-      subst (λ n. Layout n iw left c.args.e_len.now len c.args.free) (sym long)
-      (left_laid c.args.aggressive c.args.flag c.requires.laid c.requires.two.0 c.requires.two.1 c.requires.front left ended));
-  row = ((lt_of_lt_of_le c.requires.row.0 (le_of_eq (sym c.count_outside.ensures.long.0)), c.requires.row.1));
-  list = (let me : ℕ = c.args.me in let iw : List ℤ = c.args.iw.now in let pe : List ℤ = c.args.pe.now in
-      let len : List ℕ = c.args.len.now in
-      let from : c.named-from.result ≡ start pe me = c.named-from.ensures in let count = c.cell_at-count.ensures.is in
-      let list : rows iw c.named-from.result c.cell_at-count.result ≡ list_in iw pe len me = ap
-      (λ s. rows iw s c.cell_at-count.result) from
-      ∙ ap (rows iw (start pe me)) count in
-      let left : List ℤ = c.count_outside.new.pe in
-      let seen : ℕ → ℕ → ℕ = λ m e. counter c.args.flag (num c.args.w.now e) (num c.args.degree.now e) m in
-      let ended : (e : ℕ) → word left e ≡ cond (ends c.args.aggressive c.args.flag (seen (rows_met iw pe c.args.e_len.now c.args.nv.now
-      (list_in iw pe len me) e) e))
-      (flip_of me) (word pe e) = λ e. c.count_outside.ensures.starts e
-      ∙ ap (λ xs. cond (ends c.args.aggressive c.args.flag (seen (rows_met iw pe c.args.e_len.now c.args.nv.now xs e) e)) (flip_of me)
-      (word pe e)) list in
-      ap is_place (left_me c.args.aggressive c.args.flag c.requires.laid c.requires.two.0 c.requires.two.1 c.requires.front left ended)
-      ∙ c.requires.list.starts);
-  apart = (let me : ℕ = c.args.me in let iw : List ℤ = c.args.iw.now in let pe : List ℤ = c.args.pe.now in
-      let len : List ℕ = c.args.len.now in
-      let from : c.named-from.result ≡ start pe me = c.named-from.ensures in let count = c.cell_at-count.ensures.is in
-      let list : rows iw c.named-from.result c.cell_at-count.result ≡ list_in iw pe len me = ap
-      (λ s. rows iw s c.cell_at-count.result) from
-      ∙ ap (rows iw (start pe me)) count in
-      let left : List ℤ = c.count_outside.new.pe in
-      let seen : ℕ → ℕ → ℕ = λ m e. counter c.args.flag (num c.args.w.now e) (num c.args.degree.now e) m in
-      let ended : (e : ℕ) → word left e ≡ cond (ends c.args.aggressive c.args.flag (seen (rows_met iw pe c.args.e_len.now c.args.nv.now
-      (list_in iw pe len me) e) e))
-      (flip_of me) (word pe e) = λ e. c.count_outside.ensures.starts e
-      ∙ ap (λ xs. cond (ends c.args.aggressive c.args.flag (seen (rows_met iw pe c.args.e_len.now c.args.nv.now xs e) e)) (flip_of me)
-      (word pe e)) list in
-      ap (λ xs. has xs me) (left_list c.args.aggressive c.args.flag c.requires.laid c.requires.two.0 c.requires.two.1
-      c.requires.front left ended) ∙ c.requires.list.apart);
-  once = (let me : ℕ = c.args.me in let iw : List ℤ = c.args.iw.now in let pe : List ℤ = c.args.pe.now in
-      let len : List ℕ = c.args.len.now in
-      let from : c.named-from.result ≡ start pe me = c.named-from.ensures in let count = c.cell_at-count.ensures.is in
-      let list : rows iw c.named-from.result c.cell_at-count.result ≡ list_in iw pe len me = ap
-      (λ s. rows iw s c.cell_at-count.result) from
-      ∙ ap (rows iw (start pe me)) count in
-      let left : List ℤ = c.count_outside.new.pe in
-      let seen : ℕ → ℕ → ℕ = λ m e. counter c.args.flag (num c.args.w.now e) (num c.args.degree.now e) m in
-      let ended : (e : ℕ) → word left e ≡ cond (ends c.args.aggressive c.args.flag (seen (rows_met iw pe c.args.e_len.now c.args.nv.now
-      (list_in iw pe len me) e) e))
-      (flip_of me) (word pe e) = λ e. c.count_outside.ensures.starts e
-      ∙ ap (λ xs. cond (ends c.args.aggressive c.args.flag (seen (rows_met iw pe c.args.e_len.now c.args.nv.now xs e) e)) (flip_of me)
-      (word pe e)) list in
-      subst Once (sym (left_list c.args.aggressive c.args.flag c.requires.laid c.requires.two.0 c.requires.two.1 c.requires.front
-      left ended)) c.requires.list.once);
-  front = (let me : ℕ = c.args.me in let iw : List ℤ = c.args.iw.now in let pe : List ℤ = c.args.pe.now in
-      let len : List ℕ = c.args.len.now in
-      let from : c.named-from.result ≡ start pe me = c.named-from.ensures in let count = c.cell_at-count.ensures.is in
-      let list : rows iw c.named-from.result c.cell_at-count.result ≡ list_in iw pe len me = ap
-      (λ s. rows iw s c.cell_at-count.result) from
-      ∙ ap (rows iw (start pe me)) count in
-      let left : List ℤ = c.count_outside.new.pe in
-      let seen : ℕ → ℕ → ℕ = λ m e. counter c.args.flag (num c.args.w.now e) (num c.args.degree.now e) m in
-      let ended : (e : ℕ) → word left e ≡ cond (ends c.args.aggressive c.args.flag (seen (rows_met iw pe c.args.e_len.now c.args.nv.now
-      (list_in iw pe len me) e) e))
-      (flip_of me) (word pe e) = λ e. c.count_outside.ensures.starts e
-      ∙ ap (λ xs. cond (ends c.args.aggressive c.args.flag (seen (rows_met iw pe c.args.e_len.now c.args.nv.now xs e) e)) (flip_of me)
-      (word pe e)) list in
-      let counted : (e : ℕ) → num c.count_outside.new.w e
-      ≡ settled c.args.aggressive c.args.flag (seen (rows_met iw pe c.args.e_len.now c.args.nv.now (list_in iw pe len me) e) e) = λ e.
-      c.count_outside.ensures.counted e
-      ∙ ap (λ xs. settled c.args.aggressive c.args.flag (seen (rows_met iw pe c.args.e_len.now c.args.nv.now xs e) e)) list in
-      left_renewable c.args.aggressive c.args.flag c.requires.laid c.requires.two.0 c.requires.two.1 c.requires.front left ended
-      c.count_outside.new.w counted);
-  marked = (λ i h. let me : ℕ = c.args.me in let iw : List ℤ = c.args.iw.now in let pe : List ℤ = c.args.pe.now in
-      let len : List ℕ = c.args.len.now in
-      let from : c.named-from.result ≡ start pe me = c.named-from.ensures in let count = c.cell_at-count.ensures.is in
-      let list : rows iw c.named-from.result c.cell_at-count.result ≡ list_in iw pe len me = ap
-      (λ s. rows iw s c.cell_at-count.result) from
-      ∙ ap (rows iw (start pe me)) count in
-      let left : List ℤ = c.count_outside.new.pe in
-      let seen : ℕ → ℕ → ℕ = λ m e. counter c.args.flag (num c.args.w.now e) (num c.args.degree.now e) m in
-      let ended : (e : ℕ) → word left e ≡ cond (ends c.args.aggressive c.args.flag (seen (rows_met iw pe c.args.e_len.now c.args.nv.now
-      (list_in iw pe len me) e) e))
-      (flip_of me) (word pe e) = λ e. c.count_outside.ensures.starts e
-      ∙ ap (λ xs. cond (ends c.args.aggressive c.args.flag (seen (rows_met iw pe c.args.e_len.now c.args.nv.now xs e) e)) (flip_of me)
-      (word pe e)) list in
-      (c.requires.front i (sym (ap (λ xs. has xs i)
-      (left_list c.args.aggressive c.args.flag c.requires.laid c.requires.two.0 c.requires.two.1 c.requires.front left ended))
-      ∙ h)).marked);
-  met = (let me : ℕ = c.args.me in let iw : List ℤ = c.args.iw.now in let pe : List ℤ = c.args.pe.now in
-      let len : List ℕ = c.args.len.now in
-      let from : c.named-from.result ≡ start pe me = c.named-from.ensures in let count = c.cell_at-count.ensures.is in
-      let list : rows iw c.named-from.result c.cell_at-count.result ≡ list_in iw pe len me = ap
-      (λ s. rows iw s c.cell_at-count.result) from
-      ∙ ap (rows iw (start pe me)) count in
-      let left : List ℤ = c.count_outside.new.pe in
-      let seen : ℕ → ℕ → ℕ = λ m e. counter c.args.flag (num c.args.w.now e) (num c.args.degree.now e) m in
-      let ended : (e : ℕ) → word left e ≡ cond (ends c.args.aggressive c.args.flag (seen (rows_met iw pe c.args.e_len.now c.args.nv.now
-      (list_in iw pe len me) e) e))
-      (flip_of me) (word pe e) = λ e. c.count_outside.ensures.starts e
-      ∙ ap (λ xs. cond (ends c.args.aggressive c.args.flag (seen (rows_met iw pe c.args.e_len.now c.args.nv.now xs e) e)) (flip_of me)
-      (word pe e)) list in
-      let counted : (e : ℕ) → num c.count_outside.new.w e
-      ≡ settled c.args.aggressive c.args.flag (seen (rows_met iw pe c.args.e_len.now c.args.nv.now (list_in iw pe len me) e) e) = λ e.
-      c.count_outside.ensures.counted e
-      ∙ ap (λ xs. settled c.args.aggressive c.args.flag (seen (rows_met iw pe c.args.e_len.now c.args.nv.now xs e) e)) list in
-      left_met c.args.aggressive c.args.flag c.requires.laid c.requires.two.0 c.requires.two.1 c.requires.front left ended
-      c.count_outside.new.w counted c.requires.part);
-  few = (let me : ℕ = c.args.me in let iw : List ℤ = c.args.iw.now in let pe : List ℤ = c.args.pe.now in
-      let len : List ℕ = c.args.len.now in
-      let from : c.named-from.result ≡ start pe me = c.named-from.ensures in let count = c.cell_at-count.ensures.is in
-      let list : rows iw c.named-from.result c.cell_at-count.result ≡ list_in iw pe len me = ap
-      (λ s. rows iw s c.cell_at-count.result) from
-      ∙ ap (rows iw (start pe me)) count in
-      let left : List ℤ = c.count_outside.new.pe in
-      let seen : ℕ → ℕ → ℕ = λ m e. counter c.args.flag (num c.args.w.now e) (num c.args.degree.now e) m in
-      let ended : (e : ℕ) → word left e ≡ cond (ends c.args.aggressive c.args.flag (seen (rows_met iw pe c.args.e_len.now c.args.nv.now
-      (list_in iw pe len me) e) e))
-      (flip_of me) (word pe e) = λ e. c.count_outside.ensures.starts e
-      ∙ ap (λ xs. cond (ends c.args.aggressive c.args.flag (seen (rows_met iw pe c.args.e_len.now c.args.nv.now xs e) e)) (flip_of me)
-      (word pe e)) list in
-      let a = ap (sum_by (size_of c.args.nv.now))
-      (left_list c.args.aggressive c.args.flag c.requires.laid c.requires.two.0 c.requires.two.1 c.requires.front left ended) in
-      let b = c.requires.few in omega (arith, a, b));
-}
+renew_all-requires g c =
+    let me : ℕ = c.args.me in let iw : List ℤ = c.args.iw.now in let pe : List ℤ = c.args.pe.now in let len : List ℕ = c.args.len.now in
+    let left : List ℤ = c.count_outside.new.pe in
+    let met : List ℕ → ℕ → ℕ = λ xs e. counter c.args.flag (num c.args.w.now e) (num c.args.degree.now e)
+    (rows_met iw pe c.args.e_len.now c.args.nv.now xs e) in
+    let list : rows iw c.named-from.result c.cell_at-count.result ≡ list_in iw pe len me
+    = rows_at iw c.named-from.ensures c.cell_at-count.ensures.is in
+    let ended = subst (λ xs. (e : ℕ) → word left e ≡ cond (ends c.args.aggressive c.args.flag (met xs e)) (flip_of me) (word pe e)) list
+    c.count_outside.ensures.starts in
+    let counted = subst (λ xs. (e : ℕ) → num c.count_outside.new.w e ≡ settled c.args.aggressive c.args.flag (met xs e)) list
+    c.count_outside.ensures.counted in
+    let same = left_list c.args.aggressive c.args.flag c.requires.laid c.requires.two.0 c.requires.two.1 c.requires.front left ended in
+    let long = c.count_outside.ensures.long.0 in
+    record {
+      lengths = (let l = c.requires.lengths in let w = sym long in (c.count_outside.auto.pe ∙ l.0.0 ∙ w, l.0.1 ∙ w, l.1 ∙ w, l.0.2 ∙ w));
+      more_lengths = (let w = sym long in
+          (c.requires.lengths.0.3 ∙ w, lasts_same _ _ c.count_outside.auto.sides ∙ c.requires.more_lengths.2 ∙ w));
+      narrow = (c.requires.narrow.0, le_trans (le_of_eq long) c.requires.narrow.1);
+      end = c.requires.end;
+      laid = subst (λ n. Layout n iw left c.args.e_len.now len c.args.free) (sym long)
+          (left_laid c.args.aggressive c.args.flag c.requires.laid c.requires.two.0 c.requires.two.1 c.requires.front left ended);
+      row = (lt_of_lt_of_le c.requires.row.0 (le_of_eq (sym long)), c.requires.row.1);
+      list = ap is_place (left_me c.args.aggressive c.args.flag c.requires.laid c.requires.two.0 c.requires.two.1 c.requires.front left
+          ended) ∙ c.requires.list.starts;
+      apart = ap (λ xs. has xs me) same ∙ c.requires.list.apart;
+      once = subst Once (sym same) c.requires.list.once;
+      front = left_renewable c.args.aggressive c.args.flag c.requires.laid c.requires.two.0 c.requires.two.1 c.requires.front left ended
+          c.count_outside.new.w counted;
+      marked = λ i h. (c.requires.front i (sym (ap (λ xs. has xs i) same) ∙ h)).marked;
+      met = left_met c.args.aggressive c.args.flag c.requires.laid c.requires.two.0 c.requires.two.1 c.requires.front left ended
+          c.count_outside.new.w counted c.requires.part;
+      few = (let a = ap (sum_by (size_of c.args.nv.now)) same in let b = c.requires.few in omega (arith, a, b));
+    }
 
 pub returns : goal.returns
-returns g c = record {
-  turns = (let me : ℕ = c.args.me in let iw : List ℤ = c.args.iw.now in let pe : List ℤ = c.args.pe.now in
-      let len : List ℕ = c.args.len.now in
-      let from : c.named-from.result ≡ start pe me = c.named-from.ensures in let count = c.cell_at-count.ensures.is in
-      let list : rows iw c.named-from.result c.cell_at-count.result ≡ list_in iw pe len me = ap
-      (λ s. rows iw s c.cell_at-count.result) from
-      ∙ ap (rows iw (start pe me)) count in
-      let left : List ℤ = c.count_outside.new.pe in
-      let seen : ℕ → ℕ → ℕ = λ m e. counter c.args.flag (num c.args.w.now e) (num c.args.degree.now e) m in
-      let ended : (e : ℕ) → word left e ≡ cond (ends c.args.aggressive c.args.flag (seen (rows_met iw pe c.args.e_len.now c.args.nv.now
-      (list_in iw pe len me) e) e))
-      (flip_of me) (word pe e) = λ e. c.count_outside.ensures.starts e
-      ∙ ap (λ xs. cond (ends c.args.aggressive c.args.flag (seen (rows_met iw pe c.args.e_len.now c.args.nv.now xs e) e)) (flip_of me)
-      (word pe e)) list in
-      let counted : (e : ℕ) → num c.count_outside.new.w e
-      ≡ settled c.args.aggressive c.args.flag (seen (rows_met iw pe c.args.e_len.now c.args.nv.now (list_in iw pe len me) e) e) = λ e.
-      c.count_outside.ensures.counted e
-      ∙ ap (λ xs. settled c.args.aggressive c.args.flag (seen (rows_met iw pe c.args.e_len.now c.args.nv.now xs e) e)) list in
-      let long = c.count_outside.ensures.long.0 in
-      record {
+returns g c =
+    let me : ℕ = c.args.me in let iw : List ℤ = c.args.iw.now in let pe : List ℤ = c.args.pe.now in let len : List ℕ = c.args.len.now in
+    let left : List ℤ = c.count_outside.new.pe in
+    let met : List ℕ → ℕ → ℕ = λ xs e. counter c.args.flag (num c.args.w.now e) (num c.args.degree.now e)
+    (rows_met iw pe c.args.e_len.now c.args.nv.now xs e) in
+    let list : rows iw c.named-from.result c.cell_at-count.result ≡ list_in iw pe len me
+    = rows_at iw c.named-from.ensures c.cell_at-count.ensures.is in
+    let ended = subst (λ xs. (e : ℕ) → word left e ≡ cond (ends c.args.aggressive c.args.flag (met xs e)) (flip_of me) (word pe e)) list
+    c.count_outside.ensures.starts in
+    let counted = subst (λ xs. (e : ℕ) → num c.count_outside.new.w e ≡ settled c.args.aggressive c.args.flag (met xs e)) list
+    c.count_outside.ensures.counted in
+    let same = left_list c.args.aggressive c.args.flag c.requires.laid c.requires.two.0 c.requires.two.1 c.requires.front left ended in
+    let turned : RenewsFront (length c.args.w.now) me (is_kept c.count_outside.new.w) (is_outside c.args.nv.now)
+    (λ e. num c.count_outside.new.w e - c.args.flag) (list_in iw left len me) c.args.free iw left c.args.e_len.now c.args.nv.now len
+    c.args.degree.now (lasts c.count_outside.new.sides) c.renew_all.new.iw c.renew_all.new.pe c.renew_all.new.e_len c.renew_all.new.nv
+    c.renew_all.new.len c.renew_all.new.degree (lasts c.renew_all.new.sides) c.renew_all.result
+    = subst (λ n. RenewsFront n me (is_kept c.count_outside.new.w) (is_outside c.args.nv.now)
+    (λ e. num c.count_outside.new.w e - c.args.flag) (list_in iw left len me) c.args.free iw left c.args.e_len.now c.args.nv.now len
+    c.args.degree.now (lasts c.count_outside.new.sides) c.renew_all.new.iw c.renew_all.new.pe c.renew_all.new.e_len c.renew_all.new.nv
+    c.renew_all.new.len c.renew_all.new.degree (lasts c.renew_all.new.sides) c.renew_all.result) c.count_outside.ensures.long.0
+    c.renew_all.ensures.renews in
+    record {
+      turns = record {
         left = left;
-        links = (lasts c.count_outside.new.sides);
+        links = lasts c.count_outside.new.sides;
         counted = counted;
         ended = ended;
-        renewed = subst (λ n. RenewsFront n me (is_kept c.count_outside.new.w) (is_outside c.args.nv.now)
-            (λ e. num c.count_outside.new.w e - c.args.flag) (list_in iw pe len me) c.args.free iw left c.args.e_len.now c.args.nv.now len
-            c.args.degree.now (lasts c.count_outside.new.sides) c.renew_all.new.iw c.renew_all.new.pe c.renew_all.new.e_len
-            c.renew_all.new.nv
-            c.renew_all.new.len c.renew_all.new.degree (lasts c.renew_all.new.sides) c.renew_all.result) long
-            (subst (λ xs. RenewsFront (length c.count_outside.new.w) me (is_kept c.count_outside.new.w) (is_outside c.args.nv.now)
+        renewed = subst (λ xs. RenewsFront (length c.args.w.now) me (is_kept c.count_outside.new.w) (is_outside c.args.nv.now)
             (λ e. num c.count_outside.new.w e - c.args.flag) xs c.args.free iw left c.args.e_len.now c.args.nv.now len
             c.args.degree.now (lasts c.count_outside.new.sides) c.renew_all.new.iw c.renew_all.new.pe c.renew_all.new.e_len
-            c.renew_all.new.nv
-            c.renew_all.new.len c.renew_all.new.degree (lasts c.renew_all.new.sides) c.renew_all.result)
-            (left_list c.args.aggressive c.args.flag c.requires.laid c.requires.two.0 c.requires.two.1 c.requires.front left
-            ended) c.renew_all.ensures.renews);
-      });
-  linked = (λ lists member h. let me : ℕ = c.args.me in let iw : List ℤ = c.args.iw.now in let pe : List ℤ = c.args.pe.now in
-      let len : List ℕ = c.args.len.now in
-      let from : c.named-from.result ≡ start pe me = c.named-from.ensures in let count = c.cell_at-count.ensures.is in
-      let list : rows iw c.named-from.result c.cell_at-count.result ≡ list_in iw pe len me = ap
-      (λ s. rows iw s c.cell_at-count.result) from
-      ∙ ap (rows iw (start pe me)) count in
-      let left : List ℤ = c.count_outside.new.pe in
-      let seen : ℕ → ℕ → ℕ = λ m e. counter c.args.flag (num c.args.w.now e) (num c.args.degree.now e) m in
-      let ended : (e : ℕ) → word left e ≡ cond (ends c.args.aggressive c.args.flag (seen (rows_met iw pe c.args.e_len.now c.args.nv.now
-      (list_in iw pe len me) e) e))
-      (flip_of me) (word pe e) = λ e. c.count_outside.ensures.starts e
-      ∙ ap (λ xs. cond (ends c.args.aggressive c.args.flag (seen (rows_met iw pe c.args.e_len.now c.args.nv.now xs e) e)) (flip_of me)
-      (word pe e)) list in
-      let long = c.count_outside.ensures.long.0 in
-      let out = c.count_outside.ensures.linked lists (λ i m. member i (sym (ap (λ xs. has xs i) list) ∙ m)) h in
-      let same = left_list c.args.aggressive c.args.flag c.requires.laid c.requires.two.0 c.requires.two.1 c.requires.front left ended in
-      let turned = subst (λ n. RenewsFront n me (is_kept c.count_outside.new.w) (is_outside c.args.nv.now)
-      (λ e. num c.count_outside.new.w e - c.args.flag) (list_in iw left len me) c.args.free iw left c.args.e_len.now c.args.nv.now len
-      c.args.degree.now (lasts c.count_outside.new.sides) c.renew_all.new.iw c.renew_all.new.pe c.renew_all.new.e_len c.renew_all.new.nv
-      c.renew_all.new.len c.renew_all.new.degree (lasts c.renew_all.new.sides) c.renew_all.result) long c.renew_all.ensures.renews in
-      rw c.renew_all.ensures.links
-      (subst (λ xs. DegreeLists (length c.args.w.now) c.count_outside.new.head (nexts c.count_outside.new.sides) (lasts
-      c.renew_all.new.sides)
-      c.renew_all.new.degree
-      (λ d. filter (λ j. not (has xs j)) (lists d))) same
-      (others_linked c.count_outside.new.head (nexts c.count_outside.new.sides) lists turned
-      (subst (λ xs. DegreeLists (length c.args.w.now) c.count_outside.new.head (nexts c.count_outside.new.sides)
-      (lasts c.count_outside.new.sides)
-      c.args.degree.now
-      (λ d. filter (λ j. not (has xs j)) (lists d))) (list ∙ sym same) out))));
-  lengths = ((
-    c.count_outside.ensures.long.0,
-    c.count_outside.auto.head,
-    nexts_same _ _ (c.renew_all.auto.sides ∙ c.count_outside.auto.sides),
-  ));
-  more_lengths = ((
-    c.renew_all.auto.pe ∙ c.count_outside.auto.pe ∙ c.requires.lengths.0.0,
-    lasts_same _ _ c.renew_all.auto.sides ∙ lasts_same _ _ c.count_outside.auto.sides ∙ c.requires.more_lengths.2,
-  ));
-}
+            c.renew_all.new.nv c.renew_all.new.len c.renew_all.new.degree (lasts c.renew_all.new.sides) c.renew_all.result) same turned;
+      };
+      linked = λ lists member h.
+          let out = c.count_outside.ensures.linked lists (λ i m. member i (sym (ap (λ xs. has xs i) list) ∙ m)) h in
+          rw c.renew_all.ensures.links
+          (subst (λ xs. DegreeLists (length c.args.w.now) c.count_outside.new.head (nexts c.count_outside.new.sides)
+          (lasts c.renew_all.new.sides) c.renew_all.new.degree (λ d. filter (λ j. not (has xs j)) (lists d))) same
+          (others_linked c.count_outside.new.head (nexts c.count_outside.new.sides) lists turned
+          (subst (λ xs. DegreeLists (length c.args.w.now) c.count_outside.new.head (nexts c.count_outside.new.sides)
+          (lasts c.count_outside.new.sides) c.args.degree.now (λ d. filter (λ j. not (has xs j)) (lists d))) (list ∙ sym same) out)));
+      lengths = (
+        c.count_outside.ensures.long.0,
+        c.count_outside.auto.head,
+        nexts_same _ _ (c.renew_all.auto.sides ∙ c.count_outside.auto.sides),
+      );
+      more_lengths = (
+        c.renew_all.auto.pe ∙ c.count_outside.auto.pe ∙ c.requires.lengths.0.0,
+        lasts_same _ _ c.renew_all.auto.sides ∙ lasts_same _ _ c.count_outside.auto.sides ∙ c.requires.more_lengths.2,
+      );
+    }
 
 pub named-from-requires-clause-inside : goal.named-from-requires-clause-inside
 named-from-requires-clause-inside g c = lt_of_lt_of_le c.requires.row.0 (le_of_eq (sym c.requires.lengths.0.0))
