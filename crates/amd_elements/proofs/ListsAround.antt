@@ -1,13 +1,12 @@
 -- The lists around a pivot, one after another: where they stand, and what they name together.
 use Rattle.std.proofs.Common.{ℕ, ℤ, true, List, [], ◌∷◌, ◌++◌, ◌≡◌, ◌<◌, ◌≤◌, ◌+◌, ◌-◌, refl, sym, ap, subst, ◌∙◌, arith, length, flat_map}
-use Rattle.std.proofs.Common.{append_assoc, append-nil, add-sub_of_le}
+use Rattle.std.proofs.Common.{append_assoc, append-nil}
 use Rattle.std.specs.Prelude.{nat_lt}
 use Rattle.std.proofs.lemmas.List.Elements.{filter-append}
 use Rattle.std.proofs.lemmas.List.Concat.{flat_map-append}
 use Rattle.amd_words.specs.Words.{num, is_place, place, word, start, size_of, classes, rows, Names}
 use Rattle.amd_elements.specs.Element.{elements_at, variables_at, members_at, IsListLaid, ListsLaid}
 use Rattle.amd_elements.specs.Room.{named_around}
-use Rattle.amd_lists.specs.Spans.{IsSpan}
 use Rattle.amd_elements.specs.Premises.{HasListsAround}
 use Rattle.amd_words.proofs.RowLists.{rows_more, rows_same, rows_both, rows_has, rows_at, names_at}
 use Rattle.amd_words.proofs.WordCounts.{within_count, next_place}
@@ -18,22 +17,6 @@ pub flat_next : (f : ℕ → List ℕ) (iw : List ℤ) (from k : ℕ) →
 flat_next f iw from k = ap (flat_map f) (rows_more iw from k)
     ∙ flat_map-append f (rows iw from k) (place (word iw (from + k)) ∷ [])
     ∙ ap (λ l. flat_map f (rows iw from k) ++ l) (append-nil (f (place (word iw (from + k)))))
-
--- the word at the place p of a span
-module _ {n : ℕ} {iw : List ℤ} {from count : ℕ} (span : IsSpan n iw from count) {p : ℕ} (after : from ≤ p) (there : p < from + count) where
-  named_at : (is_place (word iw p) ≡ true) × (place (word iw p) < n)
-  named_at = subst (λ q. (is_place (word iw q) ≡ true) × (place (word iw q) < n)) (add-sub_of_le after)
-      (span.names (p - from) (within_count after there))
-
-  pub span_one : is_place (word iw p) ≡ true
-  span_one = named_at.0
-
-  pub span_row : {row n' : ℕ} → row ≡ place (word iw p) → n' ≡ n → row < n'
-  span_row is wide = let a = named_at.1 in omega (arith, a, is, wide)
-
--- and the rows up to it and with it
-pub word_from : (iw : List ℤ) {from p row : ℕ} → from ≤ p → row ≡ place (word iw p) → row ≡ place (word iw (from + (p - from)))
-word_from iw after is = is ∙ ap (λ q. place (word iw q)) (sym (add-sub_of_le after))
 
 -- the classes of several lists are those of each
 pub classes_append : (nv : List ℤ) (xs ys : List ℕ) → classes nv (xs ++ ys) ≡ classes nv xs ++ classes nv ys

@@ -77,9 +77,8 @@ pub record CanGather (iw nv : List ℤ) (from count start free total : ℕ) : Ty
 
 -- count words name elements, which the row me can absorb
 pub record CanAbsorb (most_word me : ℕ) (iw pe : List ℤ) (w : List ℕ) (from count : ℕ) : Type 0 where
-  pub inside : from + count ≤ length iw
+  pub span : IsSpan (length pe) iw from count
   pub lengths : length w ≡ length pe
-  pub names : Names (length pe) iw from count
   pub small : me + 2 ≤ most_word
 
 -- the words from one place to another can be the list of the row me, with so many rows

@@ -1,13 +1,12 @@
 -- A workspace whose lists were packed stands for what it stood for, and holds its live lists alone.
-use Rattle.std.proofs.Common.{ℕ, ℤ, Bool, true, false, None, List, [], ◌∷◌, ◌≡◌, ◌≤◌, inl, inr, refl, sym, ap, ◌∙◌, subst}
+use Rattle.std.proofs.Common.{ℕ, ℤ, Bool, true, None, List, ◌≡◌, ◌≤◌, inl, inr, sym, ap, ◌∙◌, subst}
 use Rattle.std.proofs.Common.{arith, cond, length, le_refl}
 use Rattle.std.proofs.lemmas.Bool.{cases_Bool, or_cases, or_left, or_right, true≢false, false_from_ne_true}
 use Rattle.amd_model.specs.Below.{sum_below}
 use Rattle.amd_model.specs.Graph.{Graph}
 use Rattle.amd_model.specs.State.{State, is_class, stands}
-use Rattle.amd_model.specs.Quotient.{QuotientGraph, has, is_empty}
+use Rattle.amd_model.specs.Quotient.{QuotientGraph, has}
 use Rattle.amd_model.proofs.Counting.Below.{any_gives}
-use Rattle.amd_model.proofs.Listings.Words.{has_head}
 use Rattle.amd_model.proofs.States.Words.{class_from, live_gives, stands_gives, holds_gives, holds_from}
 use Rattle.amd_round_laws.specs.Keeps as views
 use Rattle.amd_round_laws.specs.Views.{live_of}
@@ -16,16 +15,12 @@ use Rattle.amd_lists.specs.Layout.{has_list, elements_in, variables_in, Layout}
 use Rattle.amd_lists.proofs.Frames.{has_parts, reads_list, reads_elements, reads_variables, live_part}
 use Rattle.amd_elements.specs.Compaction.{Compacts, Packs}
 use Rattle.amd_elements.proofs.Moves.{packs}
+use Rattle.amd_model.proofs.Quotient.Lists.{some_of}
 use Rattle.amd_rounds.specs.Workspaces.{Workspace, owner_of, is_flip, is_over, view_of}
 use Rattle.amd_rounds.specs.Laid.{IsLaid}
 use Rattle.amd_rounds.specs.Keeps.{Stands}
 use Rattle.amd_rounds.specs.Compacting.{is_live_list, Compacted}
 use Rattle.amd_rounds.proofs.Standing as standing
-
-some_member : (xs : List ℕ) → is_empty xs ≡ false → (x : ℕ) × (has xs x ≡ true)
-unfolding is_empty
-some_member [] n = absurd (true≢false n)
-some_member (x ∷ xs) n = (x, has_head x x xs refl)
 
 module _ {g : Graph} {dense : ℕ → Bool} {nzaat : ℕ} {p : Workspace} {t : QuotientGraph} {s : State}
     (st : Stands g dense nzaat p t s) where
@@ -99,7 +94,7 @@ module _ {g : Graph} {dense : ℕ → Bool} {nzaat : ℕ} {p : Workspace} {t : Q
       small = k.small;
       variables = λ i h. ap (live_of (size_of p.nv)) (variables_same i (class_list i h)) ∙ k.variables i h;
       elements = λ i h. elements_same i (class_list i h) ∙ k.elements i h;
-      members = λ e n. let m = some_member (t.members e) n in
+      members = λ e n. let m = some_of (t.members e) n in
           let stood = (holds_gives g s e m.0 (sym (st.view.fits.members e m.0) ∙ m.1)).standing in
           ap (live_of (size_of p.nv)) (reads_list p.iw p.pe p.e_len p.len iw pe p.e_len p.len e (packed.reads e (standing_list e stood)))
           ∙ k.members e n;

@@ -46,15 +46,17 @@ build-end-requires g c = record {
 
 pub absorb_own-requires : goal.absorb_own-requires
 absorb_own-requires g c = record {
-  inside = (let f = c.named-from.ensures in let m = c.named-n_elements.ensures in
-      let w = c.requires.pivot.laid.within c.args.me c.requires.pivot.listed in
-      let p = c.requires.pivot.laid.parts c.args.me c.requires.pivot.listed in let e = c.requires.pivot.end in
-      let l = c.build-end.ensures.long in
-      omega (arith, f, m, w, p, e, l));
+  span = record {
+    inside = (let f = c.named-from.ensures in let m = c.named-n_elements.ensures in
+        let w = c.requires.pivot.laid.within c.args.me c.requires.pivot.listed in
+        let p = c.requires.pivot.laid.parts c.args.me c.requires.pivot.listed in let e = c.requires.pivot.end in
+        let l = c.build-end.ensures.long in
+        omega (arith, f, m, w, p, e, l));
+    names = (names_at c.build-end.new.iw (sym c.requires.pivot.lengths.0) (sym c.named-from.ensures)
+        (sym c.named-n_elements.ensures)
+        (own_names c.requires.pivot.laid c.args.me c.requires.pivot.listed c.requires.elements.listed c.build-end.ensures));
+  };
   lengths = (c.requires.counters ∙ sym c.requires.pivot.lengths.0);
-  names = (names_at c.build-end.new.iw (sym c.requires.pivot.lengths.0) (sym c.named-from.ensures)
-      (sym c.named-n_elements.ensures)
-      (own_names c.requires.pivot.laid c.args.me c.requires.pivot.listed c.requires.elements.listed c.build-end.ensures));
   small = (le_trans (add-le-add (le_of_lt c.requires.pivot.row.0) (le_refl 2)) c.requires.wide.0);
 }
 

@@ -1,10 +1,11 @@
 use Rattle.std.proofs.Common.{ℕ, ℤ, List, ◌≡◌, ◌<◌, ◌≤◌, ◌+◌, ◌-◌, sym, ap, subst, ◌∙◌, arith, refl, length, cond, set, length-set}
-use Rattle.std.proofs.Common.{get_or-set_same, get_or-set_other, pos, add-sub_of_le}
+use Rattle.std.proofs.Common.{get_or-set_same, get_or-set_other, pos}
 use Rattle.amd_model.specs.Quotient.{has}
-use Rattle.amd_words.specs.Words.{num, word, place, is_place, rows, flip_of}
+use Rattle.amd_words.specs.Words.{num, word, place, rows, flip_of}
 use Rattle.amd_elements.proofs.Settling.{write_none, write_next}
 use Rattle.std.proofs.Common.{lt_of_lt_of_le, le-add_right, zero-le, falls}
-use Rattle.amd_words.proofs.WordCounts.{all_passed, next_place, none_passed, within_count}
+use Rattle.amd_words.proofs.WordCounts.{all_passed, next_place, none_passed}
+use Rattle.amd_lists.proofs.Spans.{span_one, span_row, word_from}
 use Rattle.amd_elements.proofs.making.absorb_own.Goals as goal
 
 pub loop-p-init : goal.loop-p-init
@@ -18,46 +19,24 @@ loop-p-init g c = let z : 0 ≡ c.args.from - c.args.from = sym (none_passed c.a
 }
 
 pub named-e-requires-clause-is_one : goal.named-e-requires-clause-is_one
-named-e-requires-clause-is_one g c =
-    let iw : List ℤ = c.args.iw.now in let from : ℕ = c.args.from in let p : ℕ = c.loop-p.p in let k : ℕ = p - from in
-    let after : from ≤ p = c.loop-p.auto.p in let t = c.loop-p-test.true in
-    let at : from + k ≡ p = add-sub_of_le after in let l : k < c.args.count = within_count after t in
-    ap (λ m. is_place (word iw m)) (sym at) ∙ (c.requires.names k l).0
+named-e-requires-clause-is_one g c = span_one c.requires.span c.loop-p.auto.p c.loop-p-test.true
 
 pub put_flip-requires-clause-inside : goal.put_flip-requires-clause-inside
-put_flip-requires-clause-inside g c =
-    let iw : List ℤ = c.args.iw.now in let from : ℕ = c.args.from in let p : ℕ = c.loop-p.p in let k : ℕ = p - from in
-    let after : from ≤ p = c.loop-p.auto.p in let t = c.loop-p-test.true in
-    let at : from + k ≡ p = add-sub_of_le after in let l : k < c.args.count = within_count after t in
-    let was = c.loop-p.invariant in
-    let is : c.named-e.result ≡ place (word iw (from + k)) = c.named-e.ensures ∙ ap (λ m. place (word iw m)) (sym at) in
-    let small : c.named-e.result < length c.args.pe.now = (let b = (c.requires.names k l).1 in omega (arith, b, is)) in
-    let in_pe : c.named-e.result < length c.loop-p.pe = (let a = was.p_long in omega (arith, a, small)) in
-    in_pe
+put_flip-requires-clause-inside g c = span_row c.requires.span c.loop-p.auto.p c.loop-p-test.true c.named-e.ensures
+    c.loop-p.invariant.p_long
 
 pub put_cell-requires-clause-inside : goal.put_cell-requires-clause-inside
-put_cell-requires-clause-inside g c =
-    let iw : List ℤ = c.args.iw.now in let from : ℕ = c.args.from in let p : ℕ = c.loop-p.p in let k : ℕ = p - from in
-    let after : from ≤ p = c.loop-p.auto.p in let t = c.loop-p-test.true in
-    let at : from + k ≡ p = add-sub_of_le after in let l : k < c.args.count = within_count after t in
-    let was = c.loop-p.invariant in
-    let is : c.named-e.result ≡ place (word iw (from + k)) = c.named-e.ensures ∙ ap (λ m. place (word iw m)) (sym at) in
-    let small : c.named-e.result < length c.args.pe.now = (let b = (c.requires.names k l).1 in omega (arith, b, is)) in
-    let in_w : c.named-e.result < length c.loop-p.w = (let a = was.w_long in let b = c.requires.lengths in
-    omega (arith, a, b, small)) in
-    in_w
+put_cell-requires-clause-inside g c = span_row c.requires.span c.loop-p.auto.p c.loop-p-test.true c.named-e.ensures
+    (c.loop-p.invariant.w_long ∙ c.requires.lengths)
 
 pub loop-p-preserved : goal.loop-p-preserved
 loop-p-preserved g c =
-    let iw : List ℤ = c.args.iw.now in let from : ℕ = c.args.from in let p : ℕ = c.loop-p.p in let k : ℕ = p - from in
-    let after : from ≤ p = c.loop-p.auto.p in let t = c.loop-p-test.true in
-    let at : from + k ≡ p = add-sub_of_le after in let l : k < c.args.count = within_count after t in
-    let next : p + 1 - from ≡ k + 1 = next_place after in let was = c.loop-p.invariant in
-    let is : c.named-e.result ≡ place (word iw (from + k)) = c.named-e.ensures ∙ ap (λ m. place (word iw m)) (sym at) in
-    let small : c.named-e.result < length c.args.pe.now = (let b = (c.requires.names k l).1 in omega (arith, b, is)) in
-    let in_pe : c.named-e.result < length c.loop-p.pe = (let a = was.p_long in omega (arith, a, small)) in
-    let in_w : c.named-e.result < length c.loop-p.w = (let a = was.w_long in let b = c.requires.lengths in
-    omega (arith, a, b, small)) in
+    let iw : List ℤ = c.args.iw.now in let from : ℕ = c.args.from in let k : ℕ = c.loop-p.p - from in
+    let after : from ≤ c.loop-p.p = c.loop-p.auto.p in let t = c.loop-p-test.true in let was = c.loop-p.invariant in
+    let next : c.loop-p.p + 1 - from ≡ k + 1 = next_place after in
+    let is : c.named-e.result ≡ place (word iw (from + k)) = word_from iw after c.named-e.ensures in
+    let in_pe : c.named-e.result < length c.loop-p.pe = span_row c.requires.span after t c.named-e.ensures was.p_long in
+    let in_w : c.named-e.result < length c.loop-p.w = span_row c.requires.span after t c.named-e.ensures (was.w_long ∙ c.requires.lengths) in
     let y : ℕ = c.named-e.result in record {
       p_long = (let a = ap length c.put_flip.ensures in let b = length-set c.loop-p.pe y (flip_of c.args.me) in let d = was.p_long in
           omega (arith, a, b, d));
@@ -74,7 +53,7 @@ loop-p-preserved g c =
     }
 
 pub named-e-requires-clause-inside : goal.named-e-requires-clause-inside
-named-e-requires-clause-inside g c = lt_of_lt_of_le c.loop-p-test.true c.requires.inside
+named-e-requires-clause-inside g c = lt_of_lt_of_le c.loop-p-test.true c.requires.span.inside
 
 pub put_flip-requires-clause-small : goal.put_flip-requires-clause-small
 put_flip-requires-clause-small g c = c.requires.small

@@ -2,7 +2,7 @@ use Rattle.std.proofs.Common.{◌≡◌, ◌≤◌, ◌+◌, ◌-◌, sym, ap, s
 use Rattle.amd_words.specs.Words.{rows}
 use Rattle.amd_elements.specs.Room.{Unmarks}
 use Rattle.amd_words.proofs.RowLists.{rows_none}
-use Rattle.amd_elements.proofs.ListsAround.{span_one, span_row, word_from}
+use Rattle.amd_lists.proofs.Spans.{span_one, span_row, word_from}
 use Rattle.amd_elements.proofs.Meeting.{unmarks_none, unmarks_more}
 use Rattle.amd_words.proofs.WordCounts.{all_passed, next_place, none_passed}
 use Rattle.amd_elements.proofs.room.unmark_all.Goals as goal

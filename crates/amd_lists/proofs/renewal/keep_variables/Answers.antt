@@ -1,4 +1,4 @@
-use Rattle.std.proofs.Common.{ℕ, ℤ, List, true, ◌≡◌, ◌<◌, ◌≤◌, ◌+◌, ◌-◌, sym, ap, subst, ◌∙◌, arith, length, add-sub_of_le, le-add_right}
+use Rattle.std.proofs.Common.{ℕ, ℤ, List, true, ◌≡◌, ◌<◌, ◌≤◌, ◌+◌, ◌-◌, refl, sym, ap, subst, ◌∙◌, arith, length, add-sub_of_le, le-add_right}
 use Rattle.std.proofs.Common.{◌*◌, le_of_eq, lt_of_le_of_lt}
 use Rattle.std.specs.Prelude.{filter}
 use Rattle.amd_model.specs.Figures.{cut}
@@ -6,6 +6,7 @@ use Rattle.amd_words.specs.Words.{word, place, is_place, size_of, rows}
 use Rattle.amd_lists.specs.Renewal.{is_outside, hashed, Filters}
 use Rattle.amd_lists.proofs.Filtering.{filters_none, filters_no, filters_yes, hashed_none, hashed_no, hashed_yes}
 use Rattle.amd_lists.proofs.PlainSums.{first_fits, first_grows}
+use Rattle.amd_lists.proofs.Spans.{span_one, span_row}
 use Rattle.amd_words.proofs.WordCounts.{all_passed, next_place, none_passed, within_count}
 use Rattle.amd_lists.proofs.renewal.keep_variables.Goals as goal
 use Rattle.amd_lists.proofs.renewal.keep_variables.Goals.{then-is_open, else-is_open}
@@ -20,39 +21,23 @@ loop-p-init g c = let e : c.args.from - c.args.from ≡ 0 = none_passed c.args.f
   small = λ n. le-add_right _ _;
 }
 
+-- what was kept ends before the place p, whose word stands as it was
+ends_before : {from p to end : ℕ} → from ≤ p → to ≤ from → end ≤ to + (p - from) → end ≤ p
+ends_before after down high = omega (arith, after, down, high)
+
 pub named-j-requires-clause-is_one : goal.named-j-requires-clause-is_one
-named-j-requires-clause-is_one g c =
-    let iw : List ℤ = c.args.iw.now in let from : ℕ = c.args.from in let p : ℕ = c.loop-p.p in let k : ℕ = p - from in
-    let after : from ≤ p = c.loop-p.auto.p in let t = c.loop-p-test.true in
-    let at : p ≡ from + k = sym (add-sub_of_le after) in let l : k < c.args.count = within_count after t in
-    let h = c.loop-p.invariant.filters in let word_k = c.requires.span.names k l in let high = h.high in let down = c.requires.down in
-    let same : word c.loop-p.iw p ≡ word iw p = h.above p (omega (arith, high, at, down)) in
-    let is_one : is_place (word iw p) ≡ true = ap (λ m. is_place (word iw m)) at ∙ word_k.0 in
-    ap is_place same ∙ is_one
+named-j-requires-clause-is_one g c = let h = c.loop-p.invariant.filters in
+    ap is_place (h.above c.loop-p.p (ends_before c.loop-p.auto.p c.requires.down h.high))
+    ∙ span_one c.requires.span c.loop-p.auto.p c.loop-p-test.true
 
 pub is_open-requires : goal.is_open-requires
-is_open-requires g c =
-    let iw : List ℤ = c.args.iw.now in let from : ℕ = c.args.from in let p : ℕ = c.loop-p.p in let k : ℕ = p - from in
-    let after : from ≤ p = c.loop-p.auto.p in let t = c.loop-p-test.true in
-    let at : p ≡ from + k = sym (add-sub_of_le after) in let l : k < c.args.count = within_count after t in
-    let h = c.loop-p.invariant.filters in let word_k = c.requires.span.names k l in let high = h.high in let down = c.requires.down in
-    let same : word c.loop-p.iw p ≡ word iw p = h.above p (omega (arith, high, at, down)) in
-    let small : place (word iw p) < length c.args.nv.now = (let a = ap (λ m. place (word iw m)) at in let b = word_k.1 in
-    omega (arith, a, b)) in
-    let row : c.named-j.result ≡ place (word iw p) = c.named-j.ensures ∙ ap place same in
-    omega (arith, row, small)
+is_open-requires g c = let h = c.loop-p.invariant.filters in span_row c.requires.span c.loop-p.auto.p c.loop-p-test.true
+    (c.named-j.ensures ∙ ap place (h.above c.loop-p.p (ends_before c.loop-p.auto.p c.requires.down h.high))) refl
 
 pub size_outside-more-requires-clause-inside : goal.size_outside-more-requires-clause-inside
-size_outside-more-requires-clause-inside g c =
-    let iw : List ℤ = c.args.iw.now in let from : ℕ = c.args.from in let p : ℕ = c.loop-p.p in let k : ℕ = p - from in
-    let after : from ≤ p = c.loop-p.auto.p in let t = c.loop-p-test.true in
-    let at : p ≡ from + k = sym (add-sub_of_le after) in let l : k < c.args.count = within_count after t in
-    let h = c.loop-p.invariant.filters in let word_k = c.requires.span.names k l in let high = h.high in let down = c.requires.down in
-    let same : word c.loop-p.iw p ≡ word iw p = h.above p (omega (arith, high, at, down)) in
-    let small : place (word iw p) < length c.args.nv.now = (let a = ap (λ m. place (word iw m)) at in let b = word_k.1 in
-    omega (arith, a, b)) in
-    let row : c.named-j.result ≡ place (word iw p) = c.named-j.ensures ∙ ap place same in
-    omega (arith, row, small)
+size_outside-more-requires-clause-inside g c = let h = c.loop-p.invariant.filters in
+    span_row c.requires.span c.loop-p.auto.p c.loop-p-test.true
+    (c.named-j.ensures ∙ ap place (h.above c.loop-p.p (ends_before c.loop-p.auto.p c.requires.down h.high))) refl
 
 pub add_up-outside-requires : goal.add_up-outside-requires
 add_up-outside-requires g c n = first_fits c.args.first c.loop-p.outside c.size_outside-more.result (c.loop-p.p - c.args.from)
@@ -69,11 +54,10 @@ loop-p-preserved g c =
     let after : from ≤ p = c.loop-p.auto.p in let t = c.loop-p-test.true in
     let at : p ≡ from + k = sym (add-sub_of_le after) in let l : k < c.args.count = within_count after t in
     let next : p + 1 - from ≡ k + 1 = next_place after in
-    let h = c.loop-p.invariant.filters in let word_k = c.requires.span.names k l in let high = h.high in let down = c.requires.down in
-    let same : word c.loop-p.iw p ≡ word iw p = h.above p (omega (arith, high, at, down)) in
-    let is_one : is_place (word iw p) ≡ true = ap (λ m. is_place (word iw m)) at ∙ word_k.0 in
-    let small : place (word iw p) < length c.args.nv.now = (let a = ap (λ m. place (word iw m)) at in let b = word_k.1 in
-    omega (arith, a, b)) in
+    let h = c.loop-p.invariant.filters in let down = c.requires.down in
+    let same : word c.loop-p.iw p ≡ word iw p = h.above p (ends_before after down h.high) in
+    let is_one : is_place (word iw p) ≡ true = span_one c.requires.span after t in
+    let small : place (word iw p) < length c.args.nv.now = span_row c.requires.span after t refl refl in
     let row : c.named-j.result ≡ place (word iw p) = c.named-j.ensures ∙ ap place same in
     let nv : List ℤ = c.args.nv.now in let there : c.named-j.result ≡ place (word iw (from + k)) = row ∙ ap (λ m. place (word iw m)) at in
     elim c.if-is_open.branch [

@@ -8,8 +8,9 @@ use Rattle.amd_words.specs.Words.{num, word, place, is_place, rows}
 use Rattle.amd_round_laws.proofs.Lists.Cuts.{cut_more}
 use Rattle.amd_lists.specs.Renewal.{is_kept, hashed, Filters}
 use Rattle.amd_lists.proofs.Filtering.{filters_none, open_no, open_yes, open_behind, hashed_none, hashed_no, hashed_yes}
-use Rattle.std.proofs.Common.{lt_of_le_of_lt, lt_of_lt_of_le, le_trans, le_of_eq, falls}
+use Rattle.std.proofs.Common.{lt_of_lt_of_le, le_trans, le_of_eq, falls}
 use Rattle.amd_lists.proofs.PlainSums.{less_fits, sum_fits, sum_grows}
+use Rattle.amd_lists.proofs.Spans.{span_one, span_row}
 use Rattle.amd_words.proofs.WordCounts.{all_passed, next_place, none_passed, within_count}
 use Rattle.amd_lists.proofs.renewal.keep_words.Goals as goal
 
@@ -27,23 +28,12 @@ loop-p-init g c = let e : c.args.from - c.args.from ≡ 0 = none_passed c.args.f
 }
 
 pub named-e-requires-clause-is_one : goal.named-e-requires-clause-is_one
-named-e-requires-clause-is_one g c =
-    let iw : List ℤ = c.args.iw.now in let from : ℕ = c.args.from in let p : ℕ = c.loop-p.p in let k : ℕ = p - from in
-    let after : from ≤ p = c.loop-p.auto.p in let t = c.loop-p-test.true in
-    let at : p ≡ from + k = sym (add-sub_of_le after) in let l : k < c.args.count = within_count after t in
-    let word_k = c.requires.span.names k l in let same : word c.loop-p.iw p ≡ word iw p = c.loop-p.invariant.behind p (le_refl p) in
-    let is_one : is_place (word iw p) ≡ true = ap (λ m. is_place (word iw m)) at ∙ word_k.0 in
-    ap is_place same ∙ is_one
+named-e-requires-clause-is_one g c = ap is_place (c.loop-p.invariant.behind c.loop-p.p (le_refl c.loop-p.p))
+    ∙ span_one c.requires.span c.loop-p.auto.p c.loop-p-test.true
 
 pub cell_at-counter-requires : goal.cell_at-counter-requires
-cell_at-counter-requires g c =
-    let iw : List ℤ = c.args.iw.now in let from : ℕ = c.args.from in let p : ℕ = c.loop-p.p in let k : ℕ = p - from in
-    let after : from ≤ p = c.loop-p.auto.p in let t = c.loop-p-test.true in
-    let at : p ≡ from + k = sym (add-sub_of_le after) in let l : k < c.args.count = within_count after t in
-    let word_k = c.requires.span.names k l in let same : word c.loop-p.iw p ≡ word iw p = c.loop-p.invariant.behind p (le_refl p) in
-    let small : place (word iw p) < length c.args.w.now = lt_of_le_of_lt (le_of_eq (ap (λ m. place (word iw m)) at)) word_k.1 in
-    let row : c.named-e.result ≡ place (word iw p) = c.named-e.ensures ∙ ap place same in
-    lt_of_le_of_lt (le_of_eq row) small
+cell_at-counter-requires g c = span_row c.requires.span c.loop-p.auto.p c.loop-p-test.true
+    (c.named-e.ensures ∙ ap place (c.loop-p.invariant.behind c.loop-p.p (le_refl c.loop-p.p))) refl
 
 pub add_up-outside-requires : goal.add_up-outside-requires
 add_up-outside-requires g c n = let x : ℕ = c.cell_at-counter.result in let k : ℕ = c.loop-p.p - c.args.from in
@@ -58,9 +48,9 @@ loop-p-preserved g c =
     let after : from ≤ p = c.loop-p.auto.p in let t = c.loop-p-test.true in
     let at : p ≡ from + k = sym (add-sub_of_le after) in let l : k < c.args.count = within_count after t in
     let next : p + 1 - from ≡ k + 1 = next_place after in
-    let word_k = c.requires.span.names k l in let same : word c.loop-p.iw p ≡ word iw p = c.loop-p.invariant.behind p (le_refl p) in
-    let is_one : is_place (word iw p) ≡ true = ap (λ m. is_place (word iw m)) at ∙ word_k.0 in
-    let small : place (word iw p) < length c.args.w.now = lt_of_le_of_lt (le_of_eq (ap (λ m. place (word iw m)) at)) word_k.1 in
+    let same : word c.loop-p.iw p ≡ word iw p = c.loop-p.invariant.behind p (le_refl p) in
+    let is_one : is_place (word iw p) ≡ true = span_one c.requires.span after t in
+    let small : place (word iw p) < length c.args.w.now = span_row c.requires.span after t refl refl in
     let row : c.named-e.result ≡ place (word iw p) = c.named-e.ensures ∙ ap place same in
     let w0 : List ℕ = c.args.w.now in let there : c.named-e.result ≡ place (word iw (from + k)) = row ∙ ap (λ m. place (word iw m)) at in
     let read : c.cell_at-counter.result ≡ num w0 c.named-e.result = c.cell_at-counter.ensures.is in
