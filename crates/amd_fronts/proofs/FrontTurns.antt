@@ -1,7 +1,7 @@
 -- A front turned over to its new element: what stands between the count of the rows outside it and the renewal of its lists.
 use Rattle.amd_model.proofs.Counting.Below.{clash}
 use Rattle.std.proofs.Common.{ℕ, ℤ, Bool, true, false, List, [], ◌∷◌, ◌≡◌, ◌<◌, ◌≤◌, ◌+◌, ◌-◌, not, inl, inr, refl, sym, ap}
-use Rattle.std.proofs.Common.{◌∙◌, arith, cond, length, filter}
+use Rattle.std.proofs.Common.{◌∙◌, arith, cond, length, filter, subst}
 use Rattle.std.proofs.lemmas.Bool.{cases_Bool, cases_eq, cond-true, cond-false, ltb-true, lt-ltb, not_from_true, false_from_ne_true}
 use Rattle.amd_model.specs.Quotient.{has}
 use Rattle.amd_model.proofs.Quotient.Lists.{filter_yes, filter_no}
@@ -14,10 +14,12 @@ use Rattle.amd_lists.specs.Layout.{elements_in, rows_met}
 use Rattle.amd_fronts.specs.Tallies.{IsPart}
 use Rattle.amd_lists.specs.Renewal.{is_kept, is_outside, AreMet}
 use Rattle.amd_lists.specs.Layout.{list_in, Layout, IsRenewable}
+use Rattle.amd_fronts.specs.Effects.{CountsOutside}
 use Rattle.amd_fronts.specs.Fronts.{RenewsFront}
 use Rattle.amd_fronts.specs.Turning.{IsTurning}
 use Rattle.amd_lists.proofs.Frames.{has_parts, has_from, dropped}
 use Rattle.amd_fronts.proofs.Counting.{start_stays, met_stands}
+use Rattle.amd_words.proofs.RowLists.{rows_at}
 use Rattle.amd_lists.proofs.ChainLists.{back_same}
 
 -- a class of the front as the count reads it
@@ -46,6 +48,14 @@ filter_fewer p q (x ∷ xs) less = let h = filter_fewer p q xs less in elim (cas
     | inr g ↦ (let b = ap length (filter_no q x xs g) in omega (arith, a, b, h))
   ])
 ]
+
+-- what was counted over some words that are the list of a row
+pub counts_list : {aggressive : Bool} {flag me from count : ℕ} {iw pe e_len nv : List ℤ} {degree w head : List ℕ} {sides : List (ℕ × ℕ)}
+    {pe' : List ℤ} {w' head' : List ℕ} {sides' : List (ℕ × ℕ)} (len : List ℕ) → from ≡ start pe me → count ≡ num len me →
+    CountsOutside aggressive flag me (rows iw from count) iw pe e_len nv degree w head sides pe' w' head' sides' →
+    CountsOutside aggressive flag me (list_in iw pe len me) iw pe e_len nv degree w head sides pe' w' head' sides'
+counts_list {aggressive} {flag} {me} {from} {count} {iw} {pe} {e_len} {nv} {degree} {w} {head} {sides} {pe'} {w'} {head'} {sides'} len f c =
+    subst (λ xs. CountsOutside aggressive flag me xs iw pe e_len nv degree w head sides pe' w' head' sides') (rows_at iw f c)
 
 -- what stands after the count stood before it
 stood : (aggressive : Bool) (flag x all seen : ℕ) → 0 < settled aggressive flag (counter flag x all seen) → 0 < x
