@@ -1,2 +1,3 @@
 pub mod InPlaceLaw
+pub mod RaisedLists
 pub mod EndingLaw

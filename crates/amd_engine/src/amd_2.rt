@@ -2,21 +2,24 @@
 // for before the first round. Source: Amestoy, Davis and Duff 1996 and 2004. Called by `amd_1`, which is handed
 // `amd_2_from`; `amd_2` by tests.
 
-ghost use Rattle.std.specs.Prelude.{◌≡◌, ◌<◌, ◌≤◌, ◌+◌, ◌^◌, ℕ, pos, List, map, length, IfOk, IfErr, OnOk};
+ghost use Rattle.std.specs.Prelude.{◌≡◌, ◌<◌, ◌≤◌, ◌+◌, ℕ, pos, true, List, None, map, length, IfOk, IfErr, OnOk};
 ghost use Rattle.std.specs.Option.{option_copied};
 ghost use Rattle.amd_model.specs.Graph.{Graph};
 ghost use Rattle.amd_model.specs.Input.Held.{HasMarks};
+ghost use Rattle.amd_words.specs.Words.{is_place, word};
 ghost use Rattle.amd_workspace.specs.Laying.{IsLaidOut};
 ghost use Rattle.amd_engine.specs.InPlace.{AnswersInPlace, LaysGraph};
 
 use crate::ended::list_rows;
-use crate::fresh::fresh_lists;
+use crate::fresh::{fresh_lists, room_for};
 use crate::running::{Told, run};
 use amd_types::amd::{Control, Info, Status};
 use amd_types::dense::dense_threshold;
-use amd_words::{Cell, Signed, Unsigned, Word};
+use amd_types::internal::from_count;
+use amd_views::{lend_cells, lend_words, raise};
+use amd_words::{Cell, Signed, Unsigned, Word, row_at, word_at};
 use num_traits::PrimInt;
-use std::alloc::Allocator;
+use std::alloc::{AllocError, Allocator};
 
 /// Writes what a run tells.
 fn tell(told: &Told, info: &mut Info)
@@ -35,9 +38,12 @@ fn tell(told: &Told, info: &mut Info)
     told.figures.write_figures(info);
 }
 
-/// As `amd_2`, with a first flag of 2 or more: the result is the same with each. `amd_1` calls it.
+/// As `amd_2`, in words of a width, with marks, and with a first flag of 2 or more: the result is the same with each.
+/// `amd_1` calls it, and `amd_2`.
 ///
-/// The arguments and results have the shapes that `amd_2` says, where `iwlen` is the length of `iw`.
+/// The arguments and results have the shapes that `amd_2` says, where `iwlen` is the length of `iw`. Both widths of word
+/// hold `n + 2` and `iwlen`. `hold`, where it is given, has one mark for each of the `n` rows: those marked are held
+/// last beside the dense ones.
 ///
 /// # Errors
 ///
@@ -106,12 +112,47 @@ pub fn amd_2_from<I: PrimInt, S: Signed, U: Unsigned, A: Allocator + Copy>(
     Ok((lists.nv, lists.p_inv, lists.p, lists.e_len))
 }
 
+/// Room for `count` numbers of 64 bits.
+///
+/// # Errors
+///
+/// `AllocError` where the request for memory was refused.
+fn numbers_for<A: Allocator>(alloc: A, count: usize) -> Result<Vec<isize, A>, AllocError>
+    ensures { IfOk result (λ v. length v.items ≡ count) }
+{
+    vec![in alloc; 0; count]
+}
+
+/// Writes the numbers of words.
+fn write_words(words: &[Word<isize>], numbers: &mut [isize])
+    requires room { length numbers.old ≡ length words.now }
+    ensures { numbers.new ≡ words.now }
+{
+    'words: for k in 0..words.len() {
+        numbers[k] = word_at(words, k);
+    }
+}
+
+/// Writes counts of rows as numbers of the caller's type.
+fn write_counts<I: PrimInt>(words: &[Word<isize>], numbers: &mut [I])
+    requires room { length numbers.old ≡ length words.now }
+    requires counts { (k : ℕ) → k < length words.now → is_place (word words.now k) ≡ true }
+    requires fits { (k : ℕ) → k < length words.now → I.fits (word words.now k) }
+    ensures { map I.value numbers.new ≡ words.now }
+{
+    'words: for k in 0..words.len() {
+        let Some(number) = from_count(row_at(words, k)) else {
+            unreachable!()
+        };
+        numbers[k] = number;
+    }
+}
+
 /// Eliminates the rows of a workspace in which the lists of the neighbours are laid, and lists them.
 ///
 /// `pe` and `len` have `n` places, at least one, and `iw` has `iwlen` words. The list of row `i` has `len[i]` words
-/// from `pe[i]` on: its neighbours. The lists fill the first `pfree` words of `iw`, and `pfree + n <= iwlen`. Both
-/// widths of word hold `n + 2` and `iwlen`. `hold`, where it is given, has one mark for each of the `n` rows: those
-/// marked are held last beside the dense ones. What `pe`, `iw` and `len` hold afterwards is not said.
+/// from `pe[i]` on: its neighbours. The lists fill the first `pfree` words of `iw`, and `pfree + n <= iwlen`; behind
+/// them any numbers are allowed. What `pe`, `iw` and `len` hold afterwards is not said.
 ///
 /// Returns four lists of `n` numbers: the number of rows of the block of each element, and 0 for what is none; the
 /// inverse of the permutation; the permutation; and the number of rows of the front of each element, and -1 for what is
@@ -123,18 +164,17 @@ pub fn amd_2_from<I: PrimInt, S: Signed, U: Unsigned, A: Allocator + Copy>(
 /// `OutOfMemory` where a request was refused. What `info` then holds is not said.
 ///
 /// Source: Amestoy, Davis and Duff 1996 and 2004.
-pub fn amd_2<I: PrimInt, S: Signed, U: Unsigned, A: Allocator + Copy>(
+pub fn amd_2<I: PrimInt, A: Allocator + Copy>(
     alloc: A,
     n: I,
-    pe: &mut [Word<S>],
-    iw: &mut [Word<S>],
-    len: &mut [Cell<U>],
+    pe: &mut [isize],
+    iw: &mut [isize],
+    len: &mut [usize],
     iwlen: usize,
     pfree: usize,
     control: &Control,
-    hold: Option<&[bool]>,
     info: &mut Info,
-) -> Result<(Vec<Word<S>, A>, Vec<I, A>, Vec<I, A>, Vec<Word<S>, A>), Status>
+) -> Result<(Vec<I, A>, Vec<I, A>, Vec<I, A>, Vec<isize, A>), Status>
     requires fits { I.fits (I.value n) }
     requires size { I.value n ≡ pos (length len.old) }
     requires some { 0 < length len.old }
@@ -142,14 +182,30 @@ pub fn amd_2<I: PrimInt, S: Signed, U: Unsigned, A: Allocator + Copy>(
     requires laid { IsLaidOut (length len.old) iw.old pe.old len.old pfree }
     requires graph { (g : Graph) × (lists : ℕ → List ℕ) × LaysGraph g lists iw.old pe.old len.old }
     requires room { pfree + length len.old ≤ iwlen }
-    requires narrow { (iwlen ≤ S.MOST) × (iwlen ≤ U.MOST) × (length len.old + 2 ≤ S.MOST) ×
-        (length len.old + 2 ≤ U.MOST) }
-    requires marks { HasMarks (option_copied hold) (length len.old) }
     ensures orders { IfOk result (λ a. (g : Graph) (lists : ℕ → List ℕ) → LaysGraph g lists iw.old pe.old len.old →
-        AnswersInPlace g lists (option_copied hold.entry) (length len.old) control.now.dense control.now.aggressive
-        (map I.value a.2.items) (map I.value a.1.items) a.0.items a.3.items info.old info.new) }
+        AnswersInPlace g lists None (length len.old) control.now.dense control.now.aggressive
+        (map I.value a.2.items) (map I.value a.1.items) (map I.value a.0.items) a.3.items info.old info.new) }
     ensures compactions { OnOk result (info.new.n_cmp_a ≤ length len.old) }
     ensures refused { IfErr result (λ e. e ≡ Status.OutOfMemory) }
 {
-    amd_2_from(alloc, 2, n, pe, iw, len, pfree, control, hold, info)
+    let size = len.len();
+    let mut nv = room_for(alloc, size)?;
+    let mut e_len = numbers_for(alloc, size)?;
+    raise(pe);
+    raise(iw);
+    let (blocks, p_inv, p, fronts) = amd_2_from(
+        alloc,
+        2,
+        n,
+        lend_words(pe),
+        lend_words(iw),
+        lend_cells(len),
+        pfree,
+        control,
+        None,
+        info,
+    )?;
+    write_counts(&blocks, &mut nv);
+    write_words(&fronts, &mut e_len);
+    Ok((nv, p_inv, p, e_len))
 }

@@ -42,7 +42,7 @@ pub struct Lists<I: PrimInt, S: Signed, U: Unsigned, A: Allocator> {
 /// # Errors
 ///
 /// `AllocError` where the request for memory was refused.
-fn room_for<I: PrimInt, A: Allocator>(alloc: A, count: usize) -> Result<Vec<I, A>, AllocError>
+pub fn room_for<I: PrimInt, A: Allocator>(alloc: A, count: usize) -> Result<Vec<I, A>, AllocError>
     ensures { IfOk result (λ v. length v.items ≡ count) }
 {
     vec![in alloc; I::zero(); count]
