@@ -99,6 +99,10 @@ pub same_other : (n : ℕ) (ap' ai : List ℤ) → IsColumnForm (pos n) n ap' ai
 unfolding is_other
 same_other n ap' ai form i = ap (λ pair. own pair i) (funext2 _ _ (same_pair n ap' ai form))
 
+-- a row is not its own neighbour
+pub others_past : (pair : ℕ → ℕ → Bool) (i : ℕ) → list_below (i + 1) (own pair i) ≡ list_below i (own pair i)
+others_past pair i = list_gap (own pair i) i (i + 1) (omega arith) (λ x low high. rw (eq-eqb x i (omega (arith, low, high))) refl)
+
 -- there is room for one more
 pub end_inside : (n : ℕ) (ap' ai : List ℤ) → IsColumnForm (pos n) n ap' ai → (i m from : ℕ) (old iw : List ℤ) (end : ℕ) → m ≤ n →
     from + count_below n (is_other n ap' ai i) < length old →
@@ -118,15 +122,19 @@ module _ (n : ℕ) (ap' ai : List ℕ) (form : IsSortedForm n ap' ai) (i stop m 
         | inr l ↦ (let w = left r.0 l (omega (arith, to, stop_is)) in omega (arith, w, is, high))
       ])
 
+  -- nor a row of column i but i itself
+  pub others_gap : (b : ℕ) → m ≤ b → ((r : ℕ) → p ≤ r → r < stop → b ≤ get_or ai r 0) →
+      list_below b (own (is_entry n ap' ai) i) ≡ list_below m (own (is_entry n ap' ai) i)
+  others_gap b low left = list_gap (own (is_entry n ap' ai) i) m b low (none_left b left)
+
   pub others_end : stop ≤ p → list_below n (own (is_entry n ap' ai) i) ≡ list_below m (own (is_entry n ap' ai) i)
-  others_end past = list_gap (own (is_entry n ap' ai) i) m n so.low
-      (none_left n (λ r a b. absurd (omega (arith, a, b, past))))
+  others_end past = others_gap n so.low (λ r a b. absurd (omega (arith, a, b, past)))
 
   module _ (row : ℕ) (is : row ≡ get_or ai p 0) (inside : p < stop) where
     least : m ≤ row
     least = let w = so.left p (omega arith) inside in omega (arith, w, is)
 
-    left_of : (r : ℕ) → p ≤ r → r < stop → row ≤ get_or ai r 0
+    pub left_of : (r : ℕ) → p ≤ r → r < stop → row ≤ get_or ai r 0
     left_of r a b = elim (cases_eq p r) [
       | inl e ↦ (let w = ap (λ z. get_or ai z 0) e in omega (arith, w, is))
       | inr ne ↦ (let f = so.from in let w = form.ascend i p r i_in f (omega (arith, a, ne)) (omega (arith, b, stop_is)) in omega
@@ -147,3 +155,17 @@ module _ (n : ℕ) (ap' ai : List ℕ) (form : IsSortedForm n ap' ai) (i stop m 
           | inl s ↦ rw (eq-eqb x i s) refl
           | inr ne ↦ none_left row left_of x low (omega (arith, high, ne, e))
         ])
+
+-- the rows before the diagonal, where those from the place on are not
+pub copied_before : (n : ℕ) (ap' ai : List ℤ) → IsColumnForm (pos n) n ap' ai → IsSortedForm n (counts ap') (counts ai) →
+    (i m stop p free : ℕ) (old iw : List ℤ) (end : ℕ) → i < n → stop ≡ get_or (counts ap') (i + 1) 0 →
+    IsReading (counts ai) (get_or (counts ap') i 0) stop n m p →
+    Copies n free (list_below m (own (is_entry n (counts ap') (counts ai)) i)) old iw end → m ≤ i →
+    end + get_or (counts ap') i 0 ≡ free + p → ((r : ℕ) → p ≤ r → r < stop → i ≤ get_or (counts ai) r 0) →
+    Copies n free (list_below i (is_other n ap' ai i)) old iw (free + (p - get_or (counts ap') i 0))
+copied_before n ap' ai form sorted i m stop p free old iw end i_in ends so copied low is left =
+    let from = so.from in
+    let same : end ≡ free + (p - get_or (counts ap') i 0) = omega (arith, from, is) in
+    let all : list_below i (is_other n ap' ai i) ≡ list_below m (own (is_entry n (counts ap') (counts ai)) i)
+    = ap (list_below i) (same_other n ap' ai form i) ∙ others_gap n (counts ap') (counts ai) sorted i stop m p i_in ends so i low left in
+    subst (λ e. Copies n free (list_below i (is_other n ap' ai i)) old iw e) same (subst (λ xs. Copies n free xs old iw end) (sym all) copied)

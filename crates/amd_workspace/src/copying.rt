@@ -3,11 +3,12 @@
 // degrees say whether a pattern is symmetric: it is where no row has more neighbours than its column says. Source:
 // Amestoy, Davis and Duff 2004 (the forming of A + A'). Called by `laying`.
 
-ghost use Rattle.std.specs.Prelude.{◌≡◌, ◌<◌, ◌≤◌, ◌+◌, ℕ, true, map, length, pos};
+ghost use Rattle.std.specs.Prelude.{◌≡◌, ◌<◌, ◌≤◌, ◌+◌, ◌-◌, ℕ, ℤ, List, true, map, length, pos, slice_index};
 ghost use Rattle.amd_model.specs.Below.{count_below, list_below};
 ghost use Rattle.amd_model.specs.Input.Columns.{IsColumnForm, IsSorted};
 ghost use Rattle.amd_model.specs.Input.Pattern.{graph_of, is_pair, IsSymmetric};
 ghost use Rattle.amd_model.specs.Quotient.{starting_list};
+ghost use Rattle.amd_types.specs.Counts.{counts};
 ghost use Rattle.amd_edges.specs.Visits.{AreCounts, start_of};
 ghost use Rattle.amd_words.specs.Words.{num, rows};
 ghost use Rattle.amd_workspace.specs.Copying.{is_other, HoldRows, Copies};
@@ -17,8 +18,81 @@ use amd_words::words::put_row;
 use amd_words::{Signed, Word};
 use num_traits::PrimInt;
 
-/// Copies the rows of column `i`, one of `size`, but `i` itself, to the words from `free` on. Answers where they end.
-/// A diagonal entry is written too, and the next row over it.
+/// Copies the rows of column `i`, one of `size`, that are before `i`, to the words from `free` on. Returns the place in
+/// `a_i` of the first row of that column that is not, or the end of the column.
+fn copy_before<I: PrimInt, S: Signed>(
+    size: usize,
+    i: usize,
+    a_p: &[I],
+    a_i: &[I],
+    iw: &mut [Word<S>],
+    free: usize,
+) -> usize
+    requires form { IsColumnForm (pos size) size (map I.value a_p.now) (map I.value a_i.now) }
+    requires sorted { IsSorted size (map I.value a_p.now) (map I.value a_i.now) }
+    requires row { i < size }
+    requires room { free + count_below size (is_other size (map I.value a_p.now) (map I.value a_i.now) i) <
+        length iw.old }
+    requires fits { size ≤ S.MOST }
+    ensures from { slice_index (counts (map I.value a_p.now)) i ≤ result }
+    ensures to { result ≤ slice_index (counts (map I.value a_p.now)) (i + 1) }
+    ensures before { (r : ℕ) → slice_index (counts (map I.value a_p.now)) i ≤ r → r < result →
+        slice_index (counts (map I.value a_i.now)) r < i }
+    ensures behind { (r : ℕ) → result ≤ r → r < slice_index (counts (map I.value a_p.now)) (i + 1) →
+        i ≤ slice_index (counts (map I.value a_i.now)) r }
+    ensures copies { Copies size free (list_below i (is_other size (map I.value a_p.now) (map I.value a_i.now) i))
+        iw.old iw.new (free + (result - slice_index (counts (map I.value a_p.now)) i)) }
+{
+    let stop = count_at(a_p, i + 1);
+    let mut place = count_at(a_p, i);
+    let mut end = free;
+    'rows: while place < stop && count_at(a_i, place) < i {
+        put_row(iw, end, count_at(a_i, place));
+        end += 1;
+        place += 1;
+    }
+    place
+}
+
+/// Copies the rows of column `i`, one of `size`, that are behind `i`, which are those at the places from `first` on, to
+/// the words from `free` on, where those before `i` end. Returns where they end.
+fn copy_behind<I: PrimInt, S: Signed>(
+    size: usize,
+    i: usize,
+    a_p: &[I],
+    a_i: &[I],
+    first: usize,
+    iw: &mut [Word<S>],
+    free: usize,
+) -> usize
+    requires form { IsColumnForm (pos size) size (map I.value a_p.now) (map I.value a_i.now) }
+    requires sorted { IsSorted size (map I.value a_p.now) (map I.value a_i.now) }
+    requires row { i < size }
+    requires from { slice_index (counts (map I.value a_p.now)) i ≤ first }
+    requires to { first ≤ slice_index (counts (map I.value a_p.now)) (i + 1) }
+    requires before { (r : ℕ) → slice_index (counts (map I.value a_p.now)) i ≤ r → r < first →
+        slice_index (counts (map I.value a_i.now)) r ≤ i }
+    requires behind { (r : ℕ) → first ≤ r → r < slice_index (counts (map I.value a_p.now)) (i + 1) →
+        i < slice_index (counts (map I.value a_i.now)) r }
+    requires copied { (from : ℕ) × (old : List ℤ) ×
+        Copies size from (list_below i (is_other size (map I.value a_p.now) (map I.value a_i.now) i)) old iw.old free ×
+        (from + count_below size (is_other size (map I.value a_p.now) (map I.value a_i.now) i) < length old) }
+    requires fits { size ≤ S.MOST }
+    ensures copies { (from : ℕ) (old : List ℤ) →
+        Copies size from (list_below i (is_other size (map I.value a_p.now) (map I.value a_i.now) i)) old iw.old free →
+        Copies size from (list_below size (is_other size (map I.value a_p.now) (map I.value a_i.now) i)) old iw.new
+        result }
+{
+    let stop = count_at(a_p, i + 1);
+    let mut end = free;
+    'rows: for place in first..stop {
+        put_row(iw, end, count_at(a_i, place));
+        end += 1;
+    }
+    end
+}
+
+/// Copies the rows of column `i`, one of `size`, but `i` itself, to the words from `free` on. Returns where they end.
 fn copy_column<I: PrimInt, S: Signed>(
     size: usize,
     i: usize,
@@ -36,17 +110,14 @@ fn copy_column<I: PrimInt, S: Signed>(
     ensures copies { Copies size free
         (list_below size (is_other size (map I.value a_p.now) (map I.value a_i.now) i)) iw.old iw.new result }
 {
-    let first = count_at(a_p, i);
+    let place = copy_before(size, i, a_p, a_i, iw, free);
+    let end = free + (place - count_at(a_p, i));
     let stop = count_at(a_p, i + 1);
-    let mut end = free;
-    'rows: for place in first..stop {
-        let row = count_at(a_i, place);
-        put_row(iw, end, row);
-        if row != i {
-            end += 1;
-        }
+    let mut first = place;
+    if place < stop && count_at(a_i, place) == i {
+        first += 1;
     }
-    end
+    copy_behind(size, i, a_p, a_i, first, iw, end)
 }
 
 /// Copies the columns of a symmetric pattern of `size` rows to the words, one after another, each without its diagonal

@@ -1,19 +1,20 @@
--- the goals of copying::copy_column.
-use Rattle.std.proofs.Common.{◌≡◌, ◌+◌, ◌<◌, ◌≤◌, ◌^◌, ℕ, ℤ, List, arith, map, get_or, set, pos, ap, sym, ◌∙◌, subst, le_refl}
+-- The rows before the diagonal, and then those behind it.
+use Rattle.std.proofs.Common.{◌+◌, ◌-◌, ◌<◌, ◌^◌, inl, inr, arith, map, get_or, ap, sym, subst, le_refl}
+use Rattle.std.proofs.lemmas.Bool.{cases_eq}
 use Rattle.std.proofs.lemmas.List.{length-map}
 use Rattle.amd_model.specs.Below.{list_below}
-use Rattle.amd_types.specs.Counts.{counts, is_entry}
+use Rattle.amd_types.specs.Counts.{counts}
 use Rattle.amd_edges.proofs.Forms.{pointer_fits, row_fits, place_in, sorted_form}
-use Rattle.amd_edges.proofs.Reading.{reading_start, reading_next}
+use Rattle.amd_edges.proofs.Reading.{before_end}
 use Rattle.amd_workspace.specs.Copying.{is_other, Copies}
-use Rattle.amd_workspace.proofs.SymmetricLists.{own}
-use Rattle.amd_workspace.proofs.Copied.{copied_none, copied_over, copied_more, end_inside, others_more, others_same, others_end}
-use Rattle.amd_workspace.proofs.Copied.{same_other, row_small}
+use Rattle.amd_workspace.proofs.Copied.{others_most}
 use Rattle.amd_workspace.proofs.copying.copy_column.Goals as goal
-use Rattle.amd_workspace.proofs.copying.copy_column.Goals.{then-row-i, else-row-i}
+use Rattle.amd_workspace.proofs.copying.copy_column.Goals.{then-place-stop+then-count_at-i, else-place-stop}
+use Rattle.amd_workspace.proofs.copying.copy_column.Goals.{else-place-stop-via-then-place-stop+else-count_at-i}
+use Rattle.amd_workspace.proofs.copying.copy_column.Goals.{else-place-stop-via-else-place-stop}
 
-pub count_at-first-requires-clause-fits : goal.count_at-first-requires-clause-fits
-count_at-first-requires-clause-fits g c = pointer_fits c.args.size (map g.I.Number.value c.args.a_p.now)
+pub count_at-requires-clause-fits : goal.count_at-requires-clause-fits
+count_at-requires-clause-fits g c = pointer_fits c.args.size (map g.I.Number.value c.args.a_p.now)
     (map g.I.Number.value c.args.a_i.now) c.requires.form c.args.i (let l = c.requires.row in omega (arith, l))
     (subst (λ x. x < 2 ^ 64) (sym (length-map c.args.a_i.now g.I.Number.value)) (omega (arith, c.well_formed)))
 
@@ -22,89 +23,57 @@ count_at-stop-requires-clause-fits g c = pointer_fits c.args.size (map g.I.Numbe
     (map g.I.Number.value c.args.a_i.now) c.requires.form (c.args.i + 1) (let l = c.requires.row in omega (arith, l))
     (subst (λ x. x < 2 ^ 64) (sym (length-map c.args.a_i.now g.I.Number.value)) (omega (arith, c.well_formed)))
 
-pub rows-init : goal.rows-init
-rows-init g c =
-    let ap' = map g.I.Number.value c.args.a_p.now in let ai = map g.I.Number.value c.args.a_i.now in let i = c.args.i in
-    let form = sorted_form c.args.size ap' ai c.requires.form c.requires.sorted in
-    let a = c.count_at-first.ensures.count in let b = c.count_at-stop.ensures.count in let rising = form.rising i c.requires.row in (
-      0,
-      record {
-        place = reading_start (counts ai) (get_or (counts ap') i 0) c.count_at-stop.result c.args.size c.count_at-first.result a
-            (omega (arith, b, rising));
-        copied = copied_none c.args.size c.args.free (own (is_entry c.args.size (counts ap') (counts ai)) i) c.args.iw.now;
-      },
-    )
-
-pub count_at-row-requires-clause-within : goal.count_at-row-requires-clause-within
-count_at-row-requires-clause-within g c = place_in g.I.Number.value c.args.a_i.now c.args.size (map g.I.Number.value c.args.a_p.now)
-    c.requires.form c.args.i c.rows.place c.count_at-stop.result c.requires.row c.count_at-stop.ensures.count c.rows-test.true
-
-pub count_at-row-requires-clause-fits : goal.count_at-row-requires-clause-fits
-count_at-row-requires-clause-fits g c = row_fits c.args.size (map g.I.Number.value c.args.a_p.now) (map g.I.Number.value c.args.a_i.now)
-    c.requires.form c.args.i c.rows.place c.requires.row
-    (let t = c.rows-test.true in let e = c.count_at-stop.ensures.count in omega (arith, t, e)) c.ranges.size.fits
-
-pub put_row-requires-clause-inside : goal.put_row-requires-clause-inside
-put_row-requires-clause-inside g c = end_inside c.args.size (map g.I.Number.value c.args.a_p.now) (map g.I.Number.value c.args.a_i.now)
-    c.requires.form c.args.i c.rows.invariant.0 c.args.free c.args.iw.now c.rows.iw c.rows.end c.rows.invariant.1.place.low
-    c.requires.room c.rows.invariant.1.copied
-
-pub put_row-requires-clause-small : goal.put_row-requires-clause-small
-put_row-requires-clause-small g c =
-    let ap' = map g.I.Number.value c.args.a_p.now in let ai = map g.I.Number.value c.args.a_i.now in
-    let form = sorted_form c.args.size ap' ai c.requires.form c.requires.sorted in
-    let small = row_small c.args.size (counts ap') (counts ai) form c.args.i c.count_at-stop.result c.rows.invariant.0 c.rows.place
-    c.requires.row c.count_at-stop.ensures.count c.rows.invariant.1.place c.count_at-row.result c.count_at-row.ensures.count
-    c.rows-test.true in
-    let fits = c.requires.fits in omega (arith, small, fits)
-
 pub overflow_add-end : goal.overflow_add-end
 overflow_add-end g c =
-    let inside = end_inside c.args.size (map g.I.Number.value c.args.a_p.now) (map g.I.Number.value c.args.a_i.now)
-    c.requires.form c.args.i c.rows.invariant.0 c.args.free c.args.iw.now c.rows.iw c.rows.end c.rows.invariant.1.place.low
-    c.requires.room c.rows.invariant.1.copied in let long = c.rows.invariant.1.copied.long in omega (arith, inside, long, c.well_formed)
+    let other = is_other c.args.size (map g.I.Number.value c.args.a_p.now) (map g.I.Number.value c.args.a_i.now) c.args.i in
+    let row = c.requires.row in let most = others_most c.args.size c.args.i other (omega (arith, row)) in
+    let ends = c.copy_before-place.ensures.copies.ends in let room = c.requires.room in let is = c.count_at.ensures.count in
+    omega (arith, most, ends, room, is, c.well_formed)
 
-pub rows-preserved : goal.rows-preserved
-rows-preserved g c =
+pub count_at-requires-then-place-stop-clause-within : goal.count_at-requires-then-place-stop-clause-within
+count_at-requires-then-place-stop-clause-within g c = place_in g.I.Number.value c.args.a_i.now c.args.size
+    (map g.I.Number.value c.args.a_p.now) c.requires.form c.args.i c.copy_before-place.result c.count_at-stop.result c.requires.row
+    c.count_at-stop.ensures.count c.if-place-stop.true
+
+pub count_at-requires-then-place-stop-clause-fits : goal.count_at-requires-then-place-stop-clause-fits
+count_at-requires-then-place-stop-clause-fits g c = row_fits c.args.size (map g.I.Number.value c.args.a_p.now)
+    (map g.I.Number.value c.args.a_i.now) c.requires.form c.args.i c.copy_before-place.result c.requires.row
+    (before_end c.count_at-stop.ensures.count c.if-place-stop.true) c.ranges.size.fits
+
+pub copy_behind-requires-clause-behind : goal.copy_behind-requires-clause-behind
+copy_behind-requires-clause-behind g c = λ r past inside.
     let ap' = map g.I.Number.value c.args.a_p.now in let ai = map g.I.Number.value c.args.a_i.now in
     let form = sorted_form c.args.size ap' ai c.requires.form c.requires.sorted in
-    let n = c.args.size in let i = c.args.i in let m = c.rows.invariant.0 in let v = c.rows.invariant.1 in
-    let row = c.count_at-row.result in let is = c.count_at-row.ensures.count in let stop = c.count_at-stop.ensures.count in
-    let p = own (is_entry n (counts ap') (counts ai)) i in
-    let small = row_small n (counts ap') (counts ai) form i c.count_at-stop.result m c.rows.place c.requires.row stop v.place row is
-    c.rows-test.true in
-    let inside = end_inside n ap' ai c.requires.form i m c.args.free c.args.iw.now c.rows.iw c.rows.end v.place.low c.requires.room
-    v.copied in
-    let P : List ℕ → List ℤ → ℕ → Type 0 = λ xs iw end. Copies n c.args.free xs c.args.iw.now iw end in (
-      row + 1,
-      record {
-        place = reading_next n (counts ap') (counts ai) form i (get_or (counts ap') i 0) c.count_at-stop.result n m c.rows.place row
-            c.requires.row (le_refl (get_or (counts ap') i 0)) stop v.place is c.rows-test.true small;
-        copied = elim c.if-row-i.branch [
-          | then-row-i w ↦ subst (P (list_below (row + 1) p) c.put_row.new.words) (sym w.end-is)
-              (subst (λ iw. P (list_below (row + 1) p) iw (c.rows.end + 1)) (sym c.put_row.ensures)
-              (subst (λ xs. P xs (set c.rows.iw c.rows.end (pos row)) (c.rows.end + 1))
-              (sym (others_more n (counts ap') (counts ai) form i c.count_at-stop.result m c.rows.place c.requires.row stop v.place row is
-              c.rows-test.true w.if-row-i.true))
-              (copied_more n c.args.free (list_below m p) c.args.iw.now c.rows.iw c.rows.end v.copied row inside small)))
-          | else-row-i w ↦ subst (P (list_below (row + 1) p) c.put_row.new.words) (sym w.end-is)
-              (subst (λ iw. P (list_below (row + 1) p) iw c.rows.end) (sym c.put_row.ensures)
-              (subst (λ xs. P xs (set c.rows.iw c.rows.end (pos row)) c.rows.end)
-              (sym (others_same n (counts ap') (counts ai) form i c.count_at-stop.result m c.rows.place c.requires.row stop v.place row is
-              c.rows-test.true w.if-row-i.false))
-              (copied_over n c.args.free (list_below m p) c.args.iw.now c.rows.iw c.rows.end v.copied row inside small)))
-        ];
-      },
-    )
+    let i = c.args.i in let q = c.copy_before-place.result in let v = c.copy_before-place.ensures in
+    let next : q < r → get_or (counts ai) q 0 < get_or (counts ai) r 0 = λ before.
+    form.ascend i q r c.requires.row v.from before inside in
+    elim c.if-place-stop.branch [
+      | then-place-stop+then-count_at-i w ↦ (
+          let first = w.first-is in let more = next (omega (arith, first, past)) in
+          let here = w.if-count_at-i.true in let row = w.count_at-then-place-stop.ensures.count in
+          omega (arith, more, here, row))
+      | else-place-stop w ↦ (
+          let first = w.first-is in let least = v.behind r (omega (arith, first, past)) inside in
+          elim (cases_eq q r) [
+            | inl same ↦ elim w.else-place-stop.branch [
+              | else-place-stop-via-then-place-stop+else-count_at-i u ↦ (
+                  let other = u.if-count_at-i.false in let row = u.count_at-then-place-stop.ensures.count in
+                  let here = ap (λ x. get_or (counts ai) x 0) same in
+                  omega (arith, other, row, here, least))
+              | else-place-stop-via-else-place-stop u ↦ absurd (let out = u.if-place-stop.false in
+                  let ends = c.count_at-stop.ensures.count in omega (arith, out, ends, same, inside))
+            ]
+            | inr ne ↦ (
+                let least = v.behind q (le_refl q) (omega (arith, first, past, inside)) in
+                let more = next (omega (arith, ne, first, past)) in omega (arith, least, more))
+          ])
+    ]
 
 pub returns : goal.returns
 returns g c =
-    let ap' = map g.I.Number.value c.args.a_p.now in let ai = map g.I.Number.value c.args.a_i.now in
-    let form = sorted_form c.args.size ap' ai c.requires.form c.requires.sorted in
-    let n = c.args.size in let i = c.args.i in let m = c.rows.invariant.0 in let v = c.rows.invariant.1 in
-    let p = own (is_entry n (counts ap') (counts ai)) i in
-    let past : c.count_at-stop.result ≤ c.rows.place = (let t = c.rows-test.false in omega (arith, t)) in
-    let all : list_below n (is_other n ap' ai i) ≡ list_below m p = ap (list_below n) (same_other n ap' ai c.requires.form i)
-    ∙ others_end n (counts ap') (counts ai) form i c.count_at-stop.result m c.rows.place c.requires.row c.count_at-stop.ensures.count
-    v.place past in
-    record { copies = subst (λ xs. Copies n c.args.free xs c.args.iw.now c.rows.iw c.rows.end) (sym all) v.copied }
+    let other = is_other c.args.size (map g.I.Number.value c.args.a_p.now) (map g.I.Number.value c.args.a_i.now) c.args.i in
+    record {
+      copies = c.copy_behind.ensures.copies c.args.free c.args.iw.now
+          (subst (λ x. Copies c.args.size c.args.free (list_below c.args.i other) c.args.iw.now c.copy_before-place.new.iw
+          (c.args.free + (c.copy_before-place.result - x))) (sym c.count_at.ensures.count) c.copy_before-place.ensures.copies);
+    }

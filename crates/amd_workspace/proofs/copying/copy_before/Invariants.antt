@@ -1,10 +1,10 @@
-use Rattle.std.proofs.Common.{ℕ, map, get_or}
+use Rattle.std.proofs.Common.{◌≡◌, ◌+◌, ◌-◌, ◌≤◌, ℕ, map, get_or}
 use Rattle.amd_model.specs.Below.{list_below}
 use Rattle.amd_types.specs.Counts.{counts, is_entry}
 use Rattle.amd_edges.proofs.Reading.{IsReading}
 use Rattle.amd_workspace.specs.Copying.{Copies}
 use Rattle.amd_workspace.proofs.SymmetricLists.{own}
-use Rattle.amd_workspace.proofs.copying.copy_column.Given as goal
+use Rattle.amd_workspace.proofs.copying.copy_before.Given as goal
 
 abbrev pub invariant-rows : goal.invariant-rows
 invariant-rows g l = (m : ℕ) × record {
@@ -12,4 +12,9 @@ invariant-rows g l = (m : ℕ) × record {
   copied : Copies l.size l.free
       (list_below m (own (is_entry l.size (counts (map g.I.Number.value l.a_p)) (counts (map g.I.Number.value l.a_i))) l.i)) l.fn.iw l.iw
       l.end;
+  low : m ≤ l.i;
+  end : l.end + get_or (counts (map g.I.Number.value l.a_p)) l.i 0 ≡ l.free + l.place;
 }
+
+abbrev pub decreases-rows : goal.decreases-rows
+decreases-rows g l = l.stop - l.place
