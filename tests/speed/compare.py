@@ -3,8 +3,9 @@
 
     compare.py ROUNDS CALLS [--load FILE.so] NAME=PROGRAM:TYPE.. -- MATRIX..
 
-Each program is called as PROGRAM MATRIX TYPE CALLS, and prints a line with words such as min_ns=TIME and phash=HASH. All programs must
-tell the same figures and the same hash for a matrix, or it is said. With --load, of process.c, the times are those of the processor, and
+Each program is called as PROGRAM MATRIX TYPE CALLS, and prints a line with words such as min_ns=TIME and phash=HASH. All programs that
+tell a figure or that hash of a matrix must tell the same, or it is said. The drivers of peers/, which peers/build makes of what is
+installed, are such programs. With --load, of process.c, the times are those of the processor, and
 the table has the greatest memory of a call too, in megabytes, and the requests for it."""
 import os
 import re
@@ -29,15 +30,16 @@ def main():
     tells = ["ms", "MB", "requests"] if load else ["ms"]
     print("matrix", *(f"{name}.{it}" for name in names for it in tells), sep="\t", flush=True)
     for matrix in arguments[cut + 1:]:
-        least, told, more = {}, set(), {}
+        least, told, more = {}, {}, {}
         for _ in range(rounds):
             for name, program, kind in programs:
                 said = words(program, kind, matrix, calls, load)
-                told.add(tuple(said.get(it) for it in ("lnz", "ldl", "lu", "dmax", "ndense", "phash")))
+                for it in ("lnz", "ldl", "lu", "dmax", "ndense", "phash"):
+                    told.setdefault(it, set()).update([said[it]] if it in said else [])
                 least[name] = min(least.get(name, 1 << 62), int(said["min_ns"]))
                 more[name] = [f"{int(said.get('peak', 0)) / 1e6:.2f}", said.get("requests")] if load else []
         cells = [it for name in names for it in (f"{least[name] / 1e6:.2f}", *more[name])]
-        print(os.path.basename(matrix), *cells, *["ANSWERS DIFFER"] * (len(told) > 1), sep="\t", flush=True)
+        print(os.path.basename(matrix), *cells, *["ANSWERS DIFFER"] * any(len(it) > 1 for it in told.values()), sep="\t", flush=True)
 
 
 main()
