@@ -3,7 +3,7 @@ use Rattle.std.specs.Prelude.{ℕ, zero, suc, ◌+◌, List, [], ◌++◌, Optio
 use Rattle.std.specs.Prelude.{slice_index_or}
 use Rattle.amd_types.specs.declared.amd.Info.{Info}
 use Rattle.amd_texts.specs.Texts.{labelled}
-use Rattle.amd_symbolic.specs.Laws.{size_of}
+use Rattle.amd_symbolic.specs.Laws.{column_size}
 use Rattle.amd_symbolic.specs.declared.needs.Need.{Need}
 use Rattle.amd_command.specs.Texts.{matrix_figures}
 
@@ -16,7 +16,7 @@ parent_number p (Some j) = slice_index p j + 1
 abbrev pub column_line : List ℕ → List ℕ → List (Option ℕ) → ℕ → List ℕ
 column_line p ptr parent k =
     decimal (slice_index p k + 1) ++ codes " " ++ decimal (parent_number p (slice_index_or parent k None))
-    ++ codes " " ++ decimal (size_of ptr k) ++ codes "\n"
+    ++ codes " " ++ decimal (column_size ptr k) ++ codes "\n"
 
 -- the lines of the first k columns
 abbrev pub column_lines : List ℕ → List ℕ → List (Option ℕ) → ℕ → List ℕ

@@ -9,7 +9,7 @@ ghost use Rattle.std.specs.Io.KnownBytes.{Appends};
 ghost use Rattle.std.specs.Option.{option_copied};
 ghost use Rattle.amd.specs.Answers.{IsOrderingHolding};
 ghost use Rattle.amd_symbolic.specs.Factors.{IsFactorOf, IsFaultHolding};
-ghost use Rattle.amd_symbolic.specs.Laws.{size_of};
+ghost use Rattle.amd_symbolic.specs.Laws.{column_size};
 ghost use Rattle.amd_symbolic.specs.Needs.{IsNeed, TellSizes};
 ghost use Rattle.amd_command.specs.Analyses.{beside_line, comparison_text, column_lines, need_figures, parent_number};
 
@@ -111,7 +111,7 @@ fn parent_at(parents: &[Option<usize>], k: usize) -> Option<usize>
 /// How many entries column `k` has, by where the columns begin and end.
 fn size_at(ptr: &[usize], k: usize) -> usize
     requires { k + 1 < 2 ^ 64 }
-    ensures { result ≡ size_of ptr.now k }
+    ensures { result ≡ column_size ptr.now k }
 {
     let begin = ptr.get(k).copied().unwrap_or(0);
     let end = ptr.get(k + 1).copied().unwrap_or(0);

@@ -11,7 +11,7 @@ use crate::causes::Cause;
 use crate::grids::{Grid, LEVELS, SIDE};
 use amd::Status;
 use amd::valid::valid;
-use amd_symbolic::lists::{Lists, earlier_lists};
+use amd_symbolic::neighbours::{Lists, earlier_lists};
 use amd_symbolic::places::places;
 use amd_market::reader::Matrix;
 use amd_symbolic::{Factor, columns};

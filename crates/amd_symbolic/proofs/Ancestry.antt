@@ -1,41 +1,18 @@
 -- Climbs by links to ancestors.
-use Rattle.std.proofs.Common.{ℕ, zero, suc, Bool, true, false, ◌≡◌, ◌≢◌, ◌<◌, ◌≤◌, ◌+◌, ◌-◌, ◌⊎◌, ◌||◌, inl, inr, refl, sym, ◌∙◌, ap, subst}
+use Rattle.std.proofs.Common.{ℕ, zero, suc, true, ◌≡◌, ◌≢◌, ◌<◌, ◌≤◌, ◌+◌, ◌-◌, ◌⊎◌, inl, inr, refl, sym, ◌∙◌, ap, subst}
 use Rattle.std.proofs.Common.{arith, List, length, set}
 use Rattle.std.specs.Prelude.{slice_index, slice_index_or, Option, None, Some, slice_set, replicate}
-use Rattle.std.proofs.lemmas.Bool.{cases_eq, cases_lt, cases_Bool}
+use Rattle.std.proofs.lemmas.Bool.{cases_eq, cases_lt}
 use Rattle.std.proofs.lemmas.List.{length-set, get_or-set_same, get_or-set_other}
 use Rattle.std.proofs.lemmas.List.Elements.{Contains-get_or}
-use Rattle.amd_model.specs.Below.{any_below}
 use Rattle.amd_model.specs.Graph.{Graph, IsGraph}
-use Rattle.amd_model.proofs.Counting.Below.{any_from, any_none, clash}
 use Rattle.amd_model.proofs.Counting.Places.{contains_has, place_of}
-use Rattle.amd_model.proofs.Listings.ReachTest.{in_column, in_column_exact}
-use Rattle.amd_symbolic.specs.Earlier.{AreEarlier, Order}
+use Rattle.amd_symbolic.specs.Neighbours.{AreEarlier}
+use Rattle.amd_symbolic.specs.Orders.{Order}
 use Rattle.amd_symbolic.specs.Trees.{Entry, IsParent, Over, itself, up}
 use Rattle.amd_symbolic.specs.Walks.{TellParents, TellsParent}
-use Rattle.amd_symbolic.proofs.TreePaths.{entry_in_subtree, over_most, subtree_entry}
+use Rattle.amd_symbolic.proofs.TreePaths.{entry_in_subtree, over_most, parent_of, subtree_entry}
 use Rattle.amd_symbolic.specs.Ancestors.{Climbing, IsDone, Ready}
-
--- the least number that passes
-least-below : (n : ℕ) (t : ℕ → Bool) → any_below n t ≡ true → (q : ℕ) × (q < n) × (t q ≡ true) × ((j : ℕ) → t j ≡ true → q ≤ j)
-unfolding any_below
-least-below zero t h = absurd (clash h refl)
-least-below (suc n) t h = elim (cases_Bool (any_below n t)) [
-  | inl some ↦ (let r = least-below n t some in (r.0, (let l = r.1 in omega (arith, l)), r.2, r.3))
-  | inr none ↦ (
-    n,
-    omega arith,
-    here (t n) h none refl,
-    λ j tj. elim (cases_lt j n) [
-      | inl l ↦ clash tj (any_none n t none j l)
-      | inr l ↦ l
-    ],
-  )
-]
-  where
-    here : (b : Bool) → (b || any_below n t) ≡ true → any_below n t ≡ false → t n ≡ b → t n ≡ true
-    here true h none q = q
-    here false h none q = clash h none
 
 some-none : (q : ℕ) → Some q ≡ None → ⊥
 some-none q e = cc
@@ -48,21 +25,6 @@ parents-same : (g : Graph) (p : List ℕ) (k q r : ℕ) → IsParent g p k q →
 parents-same g p k q r a b = let x = a.first r b.entry in let y = b.first q a.entry in omega (arith, x, y)
 
 module _ (g : Graph) (p : List ℕ) (laws : IsGraph g) where
-  -- a place with an entry has a parent
-  pub parent-of : (i m : ℕ) → Entry g p i m → (q : ℕ) × (q ≤ m) × IsParent g p i q
-  parent-of i m e =
-      let t : ℕ → Bool = in_column g p i in
-      let r = least-below (suc m) t (any_from (suc m) t m (omega arith) ((in_column_exact g p laws i m).1 (e.0, e.2))) in
-      let x = (in_column_exact g p laws i r.0).0 r.2 in
-      let most : r.0 ≤ m = (let n = r.1 in omega (arith, n)) in (
-        r.0,
-        most,
-        record {
-          entry = (x.0, (let n = e.1 in omega (arith, n, most)), x.1);
-          first = λ j d. r.3 j ((in_column_exact g p laws i j).1 (d.0, d.2));
-        },
-      )
-
   -- two that stand over one stand over each other
   pub over-linear : {x y z : ℕ} → Over g p x y → Over g p x z → y ≤ z → Over g p y z
   over-linear itself b l = b
@@ -74,7 +36,7 @@ module _ (g : Graph) (p : List ℕ) (laws : IsGraph g) where
   entry-over-by : (fuel k i : ℕ) → i - k ≤ fuel → Entry g p k i → Over g p k i
   entry-over-by zero k i f e = absurd (let a = e.0 in omega (arith, a, f))
   entry-over-by (suc fuel) k i f e =
-      let q = parent-of k i e in
+      let q = parent_of g p laws k i e in
       elim (cases_eq q.0 i) [
         | inl same ↦ subst (λ v. Over g p k v) same (up q.2 itself)
         | inr ne ↦ (let s = entry_in_subtree g p laws k i e in

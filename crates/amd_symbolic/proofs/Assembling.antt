@@ -1,18 +1,16 @@
 -- The tree that parents tell, the arcs in it, and the columns whose entries the marks are.
-use Rattle.std.proofs.Common.{ℕ, true, ◌≡◌, ◌≢◌, ◌<◌, ◌≤◌, ◌+◌, ◌-◌, refl, sym, ◌∙◌, ap, subst, arith, List, length}
-use Rattle.std.specs.Prelude.{slice_index, slice_index_or, slice_range, Option, None, Some, unwrap_or, reverse, Contains, ◌↔◌}
-use Rattle.std.proofs.lemmas.List.{get_or-reverse, length-reverse}
+use Rattle.std.proofs.Common.{ℕ, ◌≡◌, ◌≢◌, ◌<◌, ◌≤◌, ◌+◌, refl, sym, ◌∙◌, ap, subst, arith, List, length}
+use Rattle.std.specs.Prelude.{slice_index, slice_index_or, Option, None, Some, unwrap_or}
 use Rattle.amd_model.specs.Below.{count_below}
 use Rattle.amd_model.specs.Graph.{IsGraph}
-use Rattle.amd_symbolic.specs.Earlier.{HasEarlier, Order}
+use Rattle.amd_symbolic.specs.Orders.{Order}
 use Rattle.amd_symbolic.specs.Trees.{Entry, InSubtree, IsParent, Over}
 use Rattle.amd_symbolic.specs.Trees as trees
 use Rattle.amd_symbolic.specs.Walks.{TellParents, TellsParent}
 use Rattle.amd_symbolic.proofs.TreePaths.{entry_in_subtree, subtree_entry}
 use Rattle.amd_symbolic.specs.Ranks.{Above, GoesToParents, GoesUp, Measured, Ranked}
 use Rattle.amd_symbolic.specs.Ranks as ranks
-use Rattle.amd_symbolic.specs.Meetings.{AreLater, HasLater, IsScene, Marks, Scene, Taken}
-use Rattle.amd_symbolic.specs.Mirrors.{mirror}
+use Rattle.amd_symbolic.specs.Meetings.{CountsTargets, IsScene, Scene, Taken}
 use Rattle.amd_symbolic.specs.Sizes.{HoldSizes}
 use Rattle.amd_symbolic.proofs.Ancestry.{entry-over}
 use Rattle.amd_symbolic.proofs.Nesting.{above-most, rank-low}
@@ -80,53 +78,9 @@ module _ (o : Order) (laws : IsGraph o.graph) (parent : List (Option ℕ)) (up :
           (let m = a.most in let e = places in omega (arith, m, e)) (j, a.later, a.edge, trees.itself)));
     }
 
-    later-is : (starts later : List ℕ) → HasEarlier (mirror o) starts later → (j : ℕ) → j < length up →
-        (list : List ℕ) → ((m : ℕ) → Contains list m ↔ ((m < length up - 1 - j) ×
-        (o.graph.edge (slice_index (reverse o.rows) m) (slice_index (reverse o.rows) (length up - 1 - j)) ≡ true))) →
-        AreLater scene-of j list
-    later-is starts later h j l list are m =
-        let e = places in
-        let at-j : slice_index (reverse o.rows) (length up - 1 - j) ≡ slice_index o.rows j = mirrored (length up - 1 - j) j
-        (omega (arith, l, e)) in (
-          (λ c. let r = (are m).0 c in let low = r.0 in (
-            omega (arith, low, l),
-            record {
-              later = omega (arith, low, l);
-              most = omega (arith, low, l);
-              edge = laws.symmetric (slice_index o.rows j) (slice_index o.rows (length up - 1 - m)) ∙
-                  ap (λ v. o.graph.edge v (slice_index o.rows j)) (sym (mirrored m (length up - 1 - m) (omega (arith, low, l, e)))) ∙
-                  ap (o.graph.edge (slice_index (reverse o.rows) m)) (sym at-j) ∙ r.1;
-            },
-          )),
-          (λ a. let low = a.0 in let late = a.1.later in (are m).1 (
-            omega (arith, low, late),
-            ap (o.graph.edge (slice_index (reverse o.rows) m)) at-j ∙
-                ap (λ v. o.graph.edge v (slice_index o.rows j)) (mirrored m (length up - 1 - m) (omega (arith, low, e))) ∙
-                laws.symmetric (slice_index o.rows (length up - 1 - m)) (slice_index o.rows j) ∙ a.1.edge,
-          )),
-        )
-      where
-        mirrored : (x y : ℕ) → x + y + 1 ≡ length o.rows → slice_index (reverse o.rows) x ≡ slice_index o.rows y
-        mirrored x y e = get_or-reverse o.rows x 0 (omega (arith, e)) ∙
-            ap (slice_index o.rows) (let q : length o.rows - 1 - x ≡ y = omega (arith, e) in q)
-
-    pub has-later : (starts later : List ℕ) → HasEarlier (mirror o) starts later → HasLater scene-of starts later
-    has-later starts later h =
-        let e = places in let r = length-reverse o.rows in record {
-          room = (let a = h.room in omega (arith, a, r, e));
-          ascending = λ m l. h.ascending m (omega (arith, l, r, e));
-          within = λ m l. h.within m (omega (arith, l, r, e));
-          each = λ j l. later-is starts later h j l _ (subst (λ v. (m : ℕ) → Contains (slice_range later (slice_index starts
-              (length up - 1 - j))
-              (slice_index starts v)) m ↔ ((m < length up - 1 - j) × (o.graph.edge (slice_index (reverse o.rows) m)
-              (slice_index (reverse o.rows) (length up - 1 - j)) ≡ true))) (let q : length up - 1 - j + 1 ≡ length up - j = omega
-              (arith, l) in q)
-              (h.each (length up - 1 - j) (omega (arith, l, r, e))));
-        }
-
-    -- the marks of a column are its entries
+    -- the targets of the arcs from a subtree are the entries of its column
     pub sizes-held : (counts : List ℕ) → length counts ≡ length o.rows →
-        ((k : ℕ) → k < length up → Marks scene-of (Taken scene-of (length up)) k (slice_index counts k)) →
+        ((k : ℕ) → k < length up → CountsTargets scene-of (Taken scene-of (length up)) k (slice_index counts k)) →
         HoldSizes o.graph o.rows counts parent
     sizes-held counts room marks = hold_sizes o laws counts parent (record {
       room = room;

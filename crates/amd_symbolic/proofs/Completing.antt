@@ -3,10 +3,10 @@ use Rattle.std.proofs.Common.{ℕ, ◌≡◌, ◌<◌, ◌+◌, inl, inr, sym, a
 use Rattle.std.specs.Prelude.{slice_index, Contains, Option, None, Some, MatchOption}
 use Rattle.std.specs.Option.{unwrap_or}
 use Rattle.amd_model.specs.Graph.{IsGraph}
-use Rattle.amd_symbolic.specs.Later.{AreLater}
+use Rattle.amd_symbolic.specs.Neighbours.{AreLater}
 use Rattle.amd_symbolic.specs.Trees.{Entry}
 use Rattle.amd_symbolic.specs.Gathering.{Column, EntryOf, IsChild, Inherits, Marks, MarksTell, Completes}
-use Rattle.amd_symbolic.proofs.Children.{entry_by_child, entry_by_edge, entry_from}
+use Rattle.amd_symbolic.proofs.ByChildren.{entry_by_child, entry_by_edge, entry_from}
 
 module _ (c : Column) (laws : IsGraph c.order.graph) where
   -- what a child has behind the place of the column

@@ -1,24 +1,18 @@
 -- What columns need, by their sizes, one column after another.
-use Rattle.std.proofs.Common.{ℕ, ◌≡◌, ◌<◌, ◌≤◌, ◌+◌, ◌*◌, ◌/◌, ◌++◌, refl, sym, ◌∙◌, ap, arith, max, length, map, take, take_all}
-use Rattle.std.proofs.Common.{List, [], ◌∷◌}
+use Rattle.std.proofs.Common.{ℕ, ◌≡◌, ◌<◌, ◌≤◌, ◌+◌, ◌*◌, ◌/◌, refl, sym, ◌∙◌, ap, arith, max, length, map, take, take_all}
+use Rattle.std.proofs.Common.{List, []}
 use Rattle.std.specs.Prelude.{slice_index, slice_index_or, sum}
-use Rattle.std.proofs.Math.Nat.{max_comm}
 use Rattle.std.proofs.lemmas.List.{take_more, get_or-map, length-map}
 use Rattle.std.proofs.lemmas.List.Sums.{sum_by_more, sum-map}
 use Rattle.amd_model.specs.Factor.{needed, needed_front}
 use Rattle.amd_model.specs.Figures.{entries, ldl_steps, lu_steps}
 use Rattle.amd_symbolic.specs.Counted.{IsCutNeed, wide_cut}
 use Rattle.amd_symbolic.specs.declared.needs.Need.{Need}
+use Rattle.amd_symbolic.proofs.ColumnSizes.{front-more}
 
 -- a sum of a cut one
 cut-next : (a b x y : ℕ) → b ≡ wide_cut a → y ≡ wide_cut (b + x) → y ≡ wide_cut (a + x)
 cut-next a b x y is next = omega (arith, is, next)
-
--- the longest of columns and of one more
-front-more : (xs : List (List ℕ)) (x : List ℕ) → needed_front (xs ++ x ∷ []) ≡ max (needed_front xs) (length x + 1)
-unfolding needed_front
-front-more [] x = max_comm (length x + 1) 0
-front-more (y ∷ xs) x = ap (max (length y + 1)) (front-more xs x) ∙ omega arith
 
 -- all entries are as many as the sizes say
 pub entries-sum : (columns : List (List ℕ)) → needed entries columns ≡ sum (map length columns)

@@ -2,7 +2,7 @@
 use Rattle.std.proofs.Common.{ℕ, suc, ◌≢◌, ◌<◌, ◌≤◌, ◌+◌, inl, inr, subst, arith, List}
 use Rattle.std.specs.Prelude.{slice_index_or, Option, None, Some}
 use Rattle.std.proofs.lemmas.Bool.{cases_eq, cases_lt}
-use Rattle.amd_symbolic.specs.Earlier.{Order}
+use Rattle.amd_symbolic.specs.Orders.{Order}
 use Rattle.amd_symbolic.specs.Trees.{IsParent}
 use Rattle.amd_symbolic.specs.Gathering.{IsLastChild, LinkChildren}
 

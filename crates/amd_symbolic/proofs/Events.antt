@@ -7,7 +7,7 @@ use Rattle.std.proofs.lemmas.List.{length-set, get_or-set_same, get_or-set_other
 use Rattle.amd_model.specs.Below.{count_below}
 use Rattle.amd_model.proofs.Counting.Below.{sum_at, sum_same}
 use Rattle.amd_symbolic.specs.Ranks.{Above}
-use Rattle.amd_symbolic.specs.Meetings.{Arc, Balance, IsLowest, IsScene, Marks, Met, Scene, sum_to, low_of}
+use Rattle.amd_symbolic.specs.Meetings.{Arc, Balance, IsLowest, IsScene, CountsTargets, Met, Scene, sum_to, low_of}
 use Rattle.amd_symbolic.proofs.Nesting.{above-linear, above-most, above-trans, nest, size-fits, size-positive, rank-low, within}
 
 -- a list with 1 more at a rank
@@ -131,10 +131,10 @@ module _ (s : Scene) (scene : IsScene s) where
       (keep : (x y : ℕ) → seen x y → seen' x y) (new : seen' j i)
       (split : (x y : ℕ) → seen' x y → seen x y ⊎ ((x ≡ j) × (y ≡ i))) where
     -- the arc changes no mark of column k
-    pub marks-same : (k a : ℕ) → Marks s seen k a → ((test : ℕ → Bool) →
+    pub targets-same : (k a : ℕ) → CountsTargets s seen k a → ((test : ℕ → Bool) →
         ((x y : ℕ) → y < n → k < y → Above s.up x k → seen x y → test y ≡ true) → k < i → Above s.up j k → test i ≡ true) →
-        Marks s seen' k a
-    marks-same k a m at-i = record {
+        CountsTargets s seen' k a
+    targets-same k a m at-i = record {
       test = m.test;
       marked = λ y l h. (let r = m.marked y l h in (r.0, r.1, r.2, keep r.1 y r.3));
       marks = λ y x l after up h. elim (split x y h) [
@@ -146,8 +146,8 @@ module _ (s : Scene) (scene : IsScene s) where
     }
 
     -- the arc marks place i
-    pub marks-more : (k a : ℕ) → (m : Marks s seen k a) → k < i → Above s.up j k → (m.test i ≡ true → ⊥) → Marks s seen' k (a + 1)
-    marks-more k a m after up no-mark =
+    pub targets-more : (k a : ℕ) → (m : CountsTargets s seen k a) → k < i → Above s.up j k → (m.test i ≡ true → ⊥) → CountsTargets s seen' k (a + 1)
+    targets-more k a m after up no-mark =
         let before : m.test i ≡ false = elim (cases_Bool (m.test i)) [ inl yes' ↦ absurd (no-mark yes') | inr no' ↦ no' ] in
         let at : cond (i == i) true (m.test i) ≡ true = ap (λ b. cond b true (m.test i)) (eq-eqb i i refl) in
         let other : (y : ℕ) → y ≢ i → cond (y == i) true (m.test y) ≡ m.test y =
@@ -177,7 +177,7 @@ module _ (s : Scene) (scene : IsScene s) where
 
       -- column k after the first arc to place i
       first : was ≡ n → q ≡ i → (k : ℕ) → k < n →
-          (a : ℕ) × Marks s seen' k a × Balance s (bump plus (ranked-of j)) (bump minus (ranked-of q)) k a
+          (a : ℕ) × CountsTargets s seen' k a × Balance s (bump plus (ranked-of j)) (bump minus (ranked-of q)) k a
       first none is k low-k =
           let c = met.columns k low-k in
           let low-q : q < n = (let m = arc.most in omega (arith, m, is)) in
@@ -185,20 +185,20 @@ module _ (s : Scene) (scene : IsScene s) where
           elim (test-above j k low-j low-k) [
             | inr out ↦ (
               c.0,
-              marks-same k c.0 c.1 (λ test all after up. absurd (out up)),
+              targets-same k c.0 c.1 (λ test all after up. absurd (out up)),
               both-out plus minus met.plus_room met.minus_room j q k c.0 low-j low-q low-k c.2 out
                   (λ h. out (above-trans s.up up-jq h)),
             )
             | inl in' ↦ elim (cases_lt k i) [
               | inl after ↦ (
                 c.0 + 1,
-                marks-more k c.0 c.1 after in' (λ h. let r = c.1.marked i arc.most h in met.none i arc.most none r.1 r.3),
+                targets-more k c.0 c.1 after in' (λ h. let r = c.1.marked i arc.most h in met.none i arc.most none r.1 r.3),
                 one-in plus minus met.plus_room met.minus_room j q k c.0 low-j low-q low-k c.2 in'
                     (λ h. let r = above-most s.up scene.goes h in omega (arith, r, is, after)),
               )
               | inr not ↦ (
                 c.0,
-                marks-same k c.0 c.1 (λ test all after up. absurd (omega (arith, after, not))),
+                targets-same k c.0 c.1 (λ test all after up. absurd (omega (arith, after, not))),
                 both-in plus minus met.plus_room met.minus_room j q k c.0 low-j low-q low-k c.2 in'
                     (subst (λ z. Above s.up z k) (sym is) (above-linear s.up scene.goes up-ji in' not)),
               )
@@ -207,7 +207,7 @@ module _ (s : Scene) (scene : IsScene s) where
 
       -- and after another one
       next : was ≢ n → IsLowest s t was q → (k : ℕ) → k < n →
-          (a : ℕ) × Marks s seen' k a × Balance s (bump plus (ranked-of j)) (bump minus (ranked-of q)) k a
+          (a : ℕ) × CountsTargets s seen' k a × Balance s (bump plus (ranked-of j)) (bump minus (ranked-of q)) k a
       next some l k low-k =
           let c = met.columns k low-k in
           let f = met.some i arc.most some in
@@ -230,26 +230,26 @@ module _ (s : Scene) (scene : IsScene s) where
           elim (test-above j k low-j low-k) [
             | inr out ↦ (
               c.0,
-              marks-same k c.0 c.1 (λ test all after up. absurd (out up)),
+              targets-same k c.0 c.1 (λ test all after up. absurd (out up)),
               both-out plus minus met.plus_room met.minus_room j q k c.0 low-j low-q low-k c.2 out
                   (λ h. out (above-trans s.up up-jq h)),
             )
             | inl in' ↦ elim (cases_lt k i) [
               | inr not ↦ (
                 c.0,
-                marks-same k c.0 c.1 (λ test all after up. absurd (omega (arith, after, not))),
+                targets-same k c.0 c.1 (λ test all after up. absurd (omega (arith, after, not))),
                 both-in plus minus met.plus_room met.minus_room j q k c.0 low-j low-q low-k c.2 in'
                     (to-k in' (above-trans s.up was-i (above-linear s.up scene.goes up-ji in' not))),
               )
               | inl after ↦ elim (test-above was k low-was low-k) [
                 | inl there ↦ (
                   c.0,
-                  marks-same k c.0 c.1 (λ test all after' up. all was i arc.most after' there f.0),
+                  targets-same k c.0 c.1 (λ test all after' up. all was i arc.most after' there f.0),
                   both-in plus minus met.plus_room met.minus_room j q k c.0 low-j low-q low-k c.2 in' (to-k in' there),
                 )
                 | inr not-there ↦ (
                   c.0 + 1,
-                  marks-more k c.0 c.1 after in' (λ h.
+                  targets-more k c.0 c.1 after in' (λ h.
                       let r = c.1.marked i arc.most h in let old = f.1 r.1 r.3 in
                       let x-arc = arcs r.1 i r.3 in
                       let x = above-in (let a = x-arc.later in let b = x-arc.most in omega (arith, a, b)) r.2 in let x0 = x.0 in
@@ -263,7 +263,7 @@ module _ (s : Scene) (scene : IsScene s) where
           ]
 
       -- one arc more was taken
-      pub met-next : q < n → ((k : ℕ) → k < n → (a : ℕ) × Marks s seen' k a × Balance s (bump plus (ranked-of j)) (bump minus
+      pub met-next : q < n → ((k : ℕ) → k < n → (a : ℕ) × CountsTargets s seen' k a × Balance s (bump plus (ranked-of j)) (bump minus
           (ranked-of q)) k a) →
           Met s seen' (set last i j) (bump plus (ranked-of j)) (bump minus (ranked-of q))
       met-next low-q columns = record {

@@ -12,7 +12,7 @@ use Rattle.amd_model.proofs.Counting.Below.{count_same, count_none}
 use Rattle.amd_model.proofs.Counting.Pigeonhole.{count_all, permutation_below, permutation_once}
 use Rattle.amd_edges.proofs.Arcs.{count_more}
 use Rattle.amd_types.specs.Counts.{counts}
-use Rattle.amd_symbolic.specs.Earlier.{Permutes}
+use Rattle.amd_symbolic.specs.Orders.{Permutes}
 use Rattle.amd_symbolic.specs.Places.{ArePlaces}
 
 -- of n rows, those at the first k places of p have their places, and the others have none

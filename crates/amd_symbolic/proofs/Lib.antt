@@ -1,41 +1,47 @@
-pub mod Faults
-pub mod Forms
-pub mod Vectors
-pub mod Once
-pub mod Reserved
-pub mod Tree
-pub mod Sizes
-pub mod CountNeeds
-pub mod CountForms
-pub mod MirrorLemmas
-pub mod Children
-pub mod Clearing
-pub mod Completing
-pub mod Counting
-pub mod Descent
-pub mod FactorOnce
-pub mod Merging
-pub mod NewRows
-pub mod Ranks
-pub mod Standing
-pub mod Tails
+-- The proofs of the exact factor, by what they speak of. The answers for a function stand in the folder of its module.
+
+-- The tree, and columns by children: from paths to subtrees, and back.
 pub mod TreePaths
-pub mod ListCounting
+pub mod ByChildren
+pub mod FactorOnce
+pub mod Once
+-- The lists of neighbours: places, arcs, and where the lists start.
+pub mod Inverse
 pub mod Ends
 pub mod Entries
-pub mod Filling
-pub mod Inverse
-pub mod Later
-pub mod Neighbours
 pub mod Steps
+pub mod ListStarts
+pub mod Filling
+pub mod NeighbourLists
+pub mod LaterArcs
+-- The columns: children, new rows, merging, and columns that stand one behind the other.
+pub mod Descent
+pub mod Tails
+pub mod NewRows
+pub mod Completing
+pub mod Merging
+pub mod Standing
+pub mod ColumnParts
+-- The counts: the tree by links, ranks, meetings, and from counted entries to columns.
+pub mod Clearing
 pub mod Ancestry
-pub mod Assembling
-pub mod Events
-pub mod Linking
-pub mod Lists
+pub mod PlaceSums
+pub mod Ranking
 pub mod Nesting
 pub mod Onto
-pub mod Ranking
+pub mod Linking
+pub mod Events
+pub mod PlaceArcs
 pub mod Rounds
-pub mod Sizing
 pub mod Telling
+pub mod EntryTests
+pub mod Sizing
+pub mod Assembling
+pub mod CountParts
+-- What a factor needs, and the laws.
+pub mod ColumnSizes
+pub mod CountNeeds
+pub mod Vectors
+pub mod TreeLaws
+pub mod Reserved
+pub mod Faults

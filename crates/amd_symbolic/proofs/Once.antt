@@ -1,13 +1,12 @@
 -- An order names its rows once, and so a factor.
 use Rattle.std.proofs.Common.{ℕ, ℤ, ◌≡◌, sym, ◌∙◌, subst, List}
-use Rattle.std.specs.Prelude.{unsigned_abs, Option}
+use Rattle.std.specs.Prelude.{unsigned_abs}
 use Rattle.amd_model.specs.Factor.{IsFactor}
 use Rattle.amd_model.specs.Input.Pattern.{graph_of}
 use Rattle.amd_types.proofs.SignedCounts.{same_counts}
 use Rattle.amd_symbolic.specs.Columns.{HoldColumns}
-use Rattle.amd_symbolic.specs.Earlier.{Permutes}
+use Rattle.amd_symbolic.specs.Orders.{Permutes}
 use Rattle.amd_symbolic.proofs.FactorOnce.{factor_once}
-use Rattle.amd_symbolic.specs.Factors.{IsFactorOf}
 use Rattle.amd_symbolic.specs.Laws.{ThereIsOneFactor}
 use Rattle.amd_symbolic.proofs.Vectors.{vectors_once}
 

@@ -1,21 +1,20 @@
 -- After an ordering a factor is refused for want of memory alone, and the record of the ordering bounds it.
-use Rattle.std.proofs.Common.{ℕ, ℤ, zero, suc, pos, negsuc, Bool, ◌≡◌, ◌≢◌, ◌<◌, ◌≤◌, ◌+◌, refl, sym, ◌∙◌, ap, subst, arith, List, [], ◌∷◌}
-use Rattle.std.proofs.Common.{length, map}
+use Rattle.std.proofs.Common.{ℕ, ℤ, zero, suc, pos, negsuc, Bool, ◌≡◌, ◌≢◌, ◌<◌, refl, sym, ◌∙◌, ap, subst, arith, List, [], ◌∷◌}
+use Rattle.std.proofs.Common.{length}
 use Rattle.std.specs.Prelude.{unsigned_abs, slice_index, Option, None, Some}
 use Rattle.amd_model.specs.Below.{sum_below}
 use Rattle.amd_model.specs.Factor.{IsFactor, needed, needed_front}
 use Rattle.amd_model.specs.Figures.{entries, cut, ldl_steps, lu_steps}
-use Rattle.amd_model.specs.Input.Columns.{IsInput}
 use Rattle.amd_model.specs.Input.Pattern.{graph_of}
 use Rattle.amd_symbolic.specs.Columns.{HoldFactor, PassesRoom}
-use Rattle.amd_symbolic.specs.Earlier.{Permutes}
+use Rattle.amd_symbolic.specs.Orders.{Permutes}
 use Rattle.amd_symbolic.proofs.FactorOnce.{factor_once, needs_once}
 use Rattle.amd_types.specs.declared.amd.Info.{Info}
 use Rattle.amd_types.specs.declared.amd.Status.{Status}
 use Rattle.amd_types.specs.declared.amd.Status.TheVariants.{OK, Invalid, OkButJumbled, OutOfMemory}
 use Rattle.amd.specs.Answers.{IsInputHolding, IsOrderingHolding, IsRefusalHolding, OrdersMatrix}
-use Rattle.amd_symbolic.specs.Factors.{IsFactorOf, IsFaultHolding}
-use Rattle.amd_symbolic.specs.Laws.{FiguresBound, FiguresReserve, size_of}
+use Rattle.amd_symbolic.specs.Factors.{IsFaultHolding}
+use Rattle.amd_symbolic.specs.Laws.{FiguresBound, FiguresReserve, column_size}
 use Rattle.amd_symbolic.specs.declared.factor.Fault.{Fault}
 use Rattle.amd_symbolic.specs.declared.factor.Fault.TheVariants as fault
 use Rattle.amd_symbolic.proofs.Once.{order_once}
@@ -77,9 +76,9 @@ module _ (hold : Option (List Bool)) (t : ℤ) (aggressive : Bool) (ap' ai p q :
       let all : needed entries m.reserves.columns ≡ length rows =
       ap (needed entries) (sym once) ∙ needed_is f.columns ptr rows parent f.holds entries ∙
       sym (pointer_is f.columns ptr rows parent f.holds (length f.columns) (omega arith)) ∙ f.holds.total in
-      let sum : (share : ℕ → ℕ) → needed share m.reserves.columns ≡ sum_below n (λ k. share (size_of ptr k)) =
+      let sum : (share : ℕ → ℕ) → needed share m.reserves.columns ≡ sum_below n (λ k. share (column_size ptr k)) =
       λ share. ap (needed share) (sym once) ∙ needed_is f.columns ptr rows parent f.holds share ∙
-      ap (λ x. sum_below x (λ k. share (size_of ptr k))) places in
+      ap (λ x. sum_below x (λ k. share (column_size ptr k))) places in
       record {
         lnz = λ l. (let r = m.reserves.lnz l in omega (arith, r, all));
         divisions = λ l. (let r = m.reserves.divisions l in omega (arith, r, all));

@@ -7,72 +7,60 @@ use Rattle.std.proofs.lemmas.Bool.{cases_lt, lt-ltb, le-ltb}
 use Rattle.std.proofs.lemmas.List.{get_or-replicate, length-replicate}
 use Rattle.amd_model.specs.Below.{sum_below}
 use Rattle.amd_model.proofs.Counting.Below.{count_none, sum_at, sum_same, sum_zero}
-use Rattle.amd_symbolic.specs.Meetings.{HasLater, IsScene, Met, Scene, Taken, sum_before, sum_to}
+use Rattle.amd_symbolic.specs.Meetings.{IsScene, Met, Scene, Taken, sum_before, sum_to}
+use Rattle.amd_symbolic.specs.Neighbours.{HasLater}
 use Rattle.amd_symbolic.proofs.Ranking.{sum-none}
 use Rattle.amd_symbolic.proofs.Nesting.{rank-once}
 
 -- the length of the list of place j
-abbrev pub list_length : Scene → List ℕ → ℕ → ℕ
-list_length s starts j = slice_index starts (length s.up - j) - slice_index starts (length s.up - 1 - j)
+abbrev pub list_length : List ℕ → ℕ → ℕ
+list_length starts j = slice_index starts (j + 1) - slice_index starts j
 
 -- the lengths of the lists of the places whose ranks are not below t
 abbrev pub remaining : Scene → List ℕ → ℕ → ℕ
-remaining s starts t = sum_below (length s.up) (λ j. cond (nat_lt (slice_index s.rank j) t) 0 (list_length s starts j))
+remaining s starts t = sum_below (length s.up) (λ j. cond (nat_lt (slice_index s.rank j) t) 0 (list_length starts j))
 
-module _ (s : Scene) (scene : IsScene s) (starts later : List ℕ) (has : HasLater s starts later) where
-  lists-sum : (m : ℕ) → m ≤ length s.up → sum_below m (list_length s starts) + slice_index starts (length s.up - m) ≡
-      slice_index starts (length s.up)
+module _ (s : Scene) (scene : IsScene s) (starts later : List ℕ) (has : HasLater s.order starts later) where
+  lists-sum : (m : ℕ) → m ≤ length s.up → sum_below m (list_length starts) + slice_index starts 0 ≡ slice_index starts m
   unfolding sum_below
-  lists-sum zero l = let a = ap (slice_index starts) (let e : length s.up - 0 ≡ length s.up = omega arith in e) in omega (arith, a)
+  lists-sum zero l = omega arith
   lists-sum (suc m) l =
-      let r = lists-sum m (omega (arith, l)) in
-      let up' : length s.up - m ≡ length s.up - 1 - m + 1 = omega (arith, l) in
-      let a = has.ascending (length s.up - 1 - m) (omega (arith, l)) in
-      let b : slice_index starts (length s.up - m) ≡ slice_index starts (length s.up - 1 - m + 1) = ap (slice_index starts) up' in
-      let c : slice_index starts (length s.up - suc m) ≡ slice_index starts (length s.up - 1 - m) =
-      ap (slice_index starts) (let e : length s.up - suc m ≡ length s.up - 1 - m = omega (arith, l) in e) in
-      omega (arith, r, a, b, c)
+      let r = lists-sum m (omega (arith, l)) in let places = scene.places in
+      let a = has.ascending m (omega (arith, l, places)) in
+      let b : slice_index starts (m + 1) ≡ slice_index starts (suc m) = ap (slice_index starts) (let e : m + 1 ≡ suc m = omega arith in e) in
+      omega (arith, r, a, b)
 
-  last-start : 0 < length s.up → slice_index starts (length s.up) ≤ length later
-  last-start l =
-      let a = has.within (length s.up - 1) (omega (arith, l)) in
-      let b : slice_index starts (length s.up - 1 + 1) ≡ slice_index starts (length s.up) =
-      ap (slice_index starts) (let e : length s.up - 1 + 1 ≡ length s.up = omega (arith, l) in e) in omega (arith, a, b)
+  last-start : (m : ℕ) → m + 1 ≡ length s.up → slice_index starts (length s.up) ≤ length later
+  last-start m e = let places = scene.places in subst (λ v. slice_index starts v ≤ length later) e (has.within m (omega (arith, e, places)))
 
   pub remaining-first : remaining s starts 0 ≤ length later
   remaining-first =
-      let e = sum_same (length s.up) (λ j. cond (nat_lt (slice_index s.rank j) 0) 0 (list_length s starts j)) (list_length s starts)
-      (λ j l. ap (λ b. cond b 0 (list_length s starts j)) (le-ltb (slice_index s.rank j) 0 (omega arith))) in
+      let e = sum_same (length s.up) (λ j. cond (nat_lt (slice_index s.rank j) 0) 0 (list_length starts j)) (list_length starts)
+      (λ j l. ap (λ b. cond b 0 (list_length starts j)) (le-ltb (slice_index s.rank j) 0 (omega arith))) in
       let a = lists-sum (length s.up) (omega arith) in
       elim (cases_lt 0 (length s.up)) [
-        | inl l ↦ (let b = last-start l in omega (arith, e, a, b))
+        | inl l ↦ (let b = last-start (length s.up - 1) (omega (arith, l)) in omega (arith, e, a, b))
         | inr none ↦ (let z : remaining s starts 0 ≡ 0 = sum-nothing (length s.up) _ none in omega (arith, z))
       ]
     where
       sum-nothing : (n : ℕ) (f : ℕ → ℕ) → n ≤ 0 → sum_below n f ≡ 0
       sum-nothing n f l = sum_zero n f (λ k h. absurd (omega (arith, h, l)))
 
-  pub list-long : (j : ℕ) → j < length s.up → (up' : List ℕ) → up' ≡ s.up → length (slice_range later
-      (slice_index starts (length up' - 1 - j)) (slice_index starts (length up' - j))) ≡ list_length s starts j
-  list-long j l up' e =
-      subst (λ v. length (slice_range later (slice_index starts (length v - 1 - j)) (slice_index starts (length v - j)))
-      ≡ list_length s starts j)
-      (sym e)
-      (length-between later (slice_index starts (length s.up - 1 - j)) (slice_index starts (length s.up - j))
-      (let a = has.within (length s.up - 1 - j) (omega (arith, l)) in
-      let b : slice_index starts (length s.up - 1 - j + 1) ≡ slice_index starts (length s.up - j) =
-      ap (slice_index starts) (let q : length s.up - 1 - j + 1 ≡ length s.up - j = omega (arith, l) in q) in omega (arith, a, b)))
+  pub list-long : (j : ℕ) → j < length s.up → length (slice_range later (slice_index starts j) (slice_index starts (j + 1))) ≡
+      list_length starts j
+  list-long j l = length-between later (slice_index starts j) (slice_index starts (j + 1))
+      (let places = scene.places in has.within j (omega (arith, l, places)))
 
   module _ (t j : ℕ) (low : j < length s.up) (here : slice_index s.rank j ≡ t) where
-    at-j : cond (nat_lt (slice_index s.rank j) t) 0 (list_length s starts j) ≡ list_length s starts j
-    at-j = ap (λ b. cond b 0 (list_length s starts j)) (le-ltb (slice_index s.rank j) t (omega (arith, here)))
+    at-j : cond (nat_lt (slice_index s.rank j) t) 0 (list_length starts j) ≡ list_length starts j
+    at-j = ap (λ b. cond b 0 (list_length starts j)) (le-ltb (slice_index s.rank j) t (omega (arith, here)))
 
-    at-j' : cond (nat_lt (slice_index s.rank j) (t + 1)) 0 (list_length s starts j) ≡ 0
-    at-j' = ap (λ b. cond b 0 (list_length s starts j)) (lt-ltb (slice_index s.rank j) (t + 1) (omega (arith, here)))
+    at-j' : cond (nat_lt (slice_index s.rank j) (t + 1)) 0 (list_length starts j) ≡ 0
+    at-j' = ap (λ b. cond b 0 (list_length starts j)) (lt-ltb (slice_index s.rank j) (t + 1) (omega (arith, here)))
 
-    elsewhere : (x : ℕ) → x < length s.up → x ≢ j → cond (nat_lt (slice_index s.rank x) (t + 1)) 0 (list_length s starts x) ≡
-        cond (nat_lt (slice_index s.rank x) t) 0 (list_length s starts x)
-    elsewhere x l ne = ap (λ b. cond b 0 (list_length s starts x)) (elim (cases_lt (slice_index s.rank x) t) [
+    elsewhere : (x : ℕ) → x < length s.up → x ≢ j → cond (nat_lt (slice_index s.rank x) (t + 1)) 0 (list_length starts x) ≡
+        cond (nat_lt (slice_index s.rank x) t) 0 (list_length starts x)
+    elsewhere x l ne = ap (λ b. cond b 0 (list_length starts x)) (elim (cases_lt (slice_index s.rank x) t) [
       | inl before ↦ lt-ltb (slice_index s.rank x) (t + 1) (omega (arith, before)) ∙ sym (lt-ltb (slice_index s.rank x) t before)
       | inr after ↦ le-ltb (slice_index s.rank x) (t + 1)
           (let no-same : slice_index s.rank x ≢ t =
@@ -80,10 +68,10 @@ module _ (s : Scene) (scene : IsScene s) (starts later : List ℕ) (has : HasLat
           omega (arith, after, no-same)) ∙ sym (le-ltb (slice_index s.rank x) t after)
     ])
 
-    pub remaining-next : remaining s starts (t + 1) + list_length s starts j ≡ remaining s starts t
+    pub remaining-next : remaining s starts (t + 1) + list_length starts j ≡ remaining s starts t
     remaining-next =
-        let e = sum_at (length s.up) (λ x. cond (nat_lt (slice_index s.rank x) (t + 1)) 0 (list_length s starts x))
-        (λ x. cond (nat_lt (slice_index s.rank x) t) 0 (list_length s starts x)) j low elsewhere in
+        let e = sum_at (length s.up) (λ x. cond (nat_lt (slice_index s.rank x) (t + 1)) 0 (list_length starts x))
+        (λ x. cond (nat_lt (slice_index s.rank x) t) 0 (list_length starts x)) j low elsewhere in
         let a = at-j in let b = at-j' in omega (arith, e, a, b)
 
 zeros-at : (xs : List ℕ) (n : ℕ) → xs ≡ replicate n 0 → (k : ℕ) → k < n → slice_index xs k ≡ 0

@@ -9,9 +9,9 @@ use Rattle.amd_model.proofs.Listings.Words.{has_below, below_has, has_head, has_
 use Rattle.amd_model.proofs.Counting.Places.{below_increasing, length_below, contains_has, has_contains}
 use Rattle.amd_model.proofs.Listings.ReachTest.{columns, factor_of}
 use Rattle.amd_symbolic.specs.Columns.{first_of}
-use Rattle.amd_symbolic.specs.Earlier.{Order}
+use Rattle.amd_symbolic.specs.Orders.{Order}
 use Rattle.amd_symbolic.specs.Walks.{TellsParent, TellParents, CountEntries}
-use Rattle.amd_symbolic.proofs.Counting.{test, test_entry, entry_test, counted_is}
+use Rattle.amd_symbolic.proofs.EntryTests.{test, test_entry, entry_test, counted_is}
 use Rattle.amd_symbolic.proofs.FactorOnce.{rising_same, first_least}
 use Rattle.amd_symbolic.specs.Sizes.{HoldSizes}
 

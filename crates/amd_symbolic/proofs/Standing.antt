@@ -24,13 +24,13 @@ use Rattle.amd_model.proofs.Counting.Places.{contains_has, has_contains}
 use Rattle.amd_model.proofs.Listings.ReachTest.{columns, factor_of}
 use Rattle.amd_model.proofs.Listings.Words.{has_head, has_cases}
 use Rattle.amd_symbolic.specs.Columns.{first_of, HoldFactor, PassesRoom}
-use Rattle.amd_symbolic.specs.Earlier.{Order}
+use Rattle.amd_symbolic.specs.Orders.{Order}
 use Rattle.amd_symbolic.specs.Trees.{IsParent}
 use Rattle.amd_symbolic.specs.Merging.{merged}
 use Rattle.amd_symbolic.specs.Gathering.{Column, Completes, HoldBefore, TellFirst}
 use Rattle.amd_symbolic.proofs.FactorOnce.{column_once, first_least}
 use Rattle.amd_symbolic.proofs.Merging.{merged_is}
-use Rattle.amd_symbolic.proofs.Ranks.{sum_places}
+use Rattle.amd_symbolic.proofs.PlaceSums.{sum_places}
 use Rattle.amd_symbolic.proofs.Tails.{range_same, range_take}
 
 -- what a column takes over and what is new in it, merged

@@ -12,7 +12,7 @@ use Rattle.amd_model.specs.Factor.{IsColumn}
 use Rattle.amd_model.proofs.Counting.Below.{clash}
 use Rattle.amd_model.proofs.Counting.Places.{contains_has, has_contains}
 use Rattle.amd_model.proofs.Listings.Words.{has_head, has_tail, has_cases}
-use Rattle.amd_symbolic.specs.Earlier.{Order}
+use Rattle.amd_symbolic.specs.Orders.{Order}
 use Rattle.amd_symbolic.specs.Trees.{Entry, IsParent}
 use Rattle.amd_symbolic.specs.Gathering.{Column, HoldBefore, Inherits, Marks, MarksTell}
 use Rattle.amd_symbolic.proofs.FactorOnce.{first_least, tail_up}

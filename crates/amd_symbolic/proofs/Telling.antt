@@ -1,7 +1,7 @@
 -- The counts by the sums up to each rank.
 use Rattle.std.proofs.Common.{ℕ, ◌≡◌, ◌<◌, ◌≤◌, ◌+◌, ◌-◌, sym, ◌∙◌, ap, subst, arith, List, length}
 use Rattle.std.specs.Prelude.{slice_index}
-use Rattle.amd_symbolic.specs.Meetings.{IsScene, Marks, Met, Scene, Taken, low_of, sum_before, sum_to}
+use Rattle.amd_symbolic.specs.Meetings.{IsScene, CountsTargets, Met, Scene, Taken, low_of, sum_before, sum_to}
 use Rattle.amd_symbolic.proofs.Nesting.{rank-low}
 use Rattle.amd_symbolic.proofs.Ranking.{sum-more}
 use Rattle.amd_symbolic.proofs.Rounds.{sums-before}
@@ -46,7 +46,7 @@ module _ (s : Scene) (scene : IsScene s) (size' rank' : List ℕ) (sizes : size'
         let d = low-is minus minus' met.minus_room minus-same minus-each in
         let e = (met.columns k low).2 in omega (arith, a, b, c, d, e, added-is, taken-is)
 
-    pub counted : Marks s (Taken s (length s.up)) k (added - taken)
-    counted = subst (Marks s (Taken s (length s.up)) k) (let a = added-more in let e : (met.columns k low).0 ≡ added - taken = omega
+    pub counted : CountsTargets s (Taken s (length s.up)) k (added - taken)
+    counted = subst (CountsTargets s (Taken s (length s.up)) k) (let a = added-more in let e : (met.columns k low).0 ≡ added - taken = omega
         (arith, a)
         in e) (met.columns k low).1

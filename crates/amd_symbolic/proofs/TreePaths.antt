@@ -107,7 +107,7 @@ module _ (g : Graph) (p : List ℕ) where
 
   module _ (laws : IsGraph g) where
     -- a place with an entry has a parent
-    parent_of : (i m : ℕ) → Entry g p i m → (q : ℕ) × (q ≤ m) × IsParent g p i q
+    pub parent_of : (i m : ℕ) → Entry g p i m → (q : ℕ) × (q ≤ m) × IsParent g p i q
     parent_of i m e =
         let t : ℕ → Bool = in_column g p i in
         let r = least_below (suc m) t (any_from (suc m) t m (omega arith) ((in_column_exact g p laws i m).1 (e.0, e.2))) in

@@ -1,7 +1,7 @@
 -- What vectors that hold columns tell: the columns fix them, and sums over the columns are sums over the pointers.
-use Rattle.std.proofs.Common.{ℕ, zero, suc, ◌≡◌, ◌<◌, ◌≤◌, ◌+◌, ◌-◌, refl, sym, ◌∙◌, ap, subst, arith, List, [], ◌∷◌, ◌++◌, length, map}
+use Rattle.std.proofs.Common.{ℕ, zero, suc, ◌≡◌, ◌<◌, ◌≤◌, ◌+◌, ◌-◌, refl, sym, ◌∙◌, ap, arith, List, [], ◌∷◌, ◌++◌, length}
 use Rattle.std.proofs.Common.{take, drop}
-use Rattle.std.specs.Prelude.{slice_index, slice_index_or, slice_range, Option, None, Some, max}
+use Rattle.std.specs.Prelude.{slice_index, slice_index_or, slice_range, Option, None}
 use Rattle.std.proofs.Math.Nat.{le-max_left, le-max_right}
 use Rattle.std.proofs.Math.Seq.{take-length}
 use Rattle.std.proofs.lemmas.List.{ext_get_or, get_or-map, take-append-drop, take-take, drop-take}
@@ -10,8 +10,8 @@ use Rattle.amd_model.specs.Below.{sum_below}
 use Rattle.amd_model.specs.Factor.{needed, needed_front}
 use Rattle.amd_model.proofs.Counting.Below.{sum_same}
 use Rattle.amd_symbolic.specs.Columns.{first_of, HoldColumns}
-use Rattle.amd_symbolic.proofs.Ranks.{sum_places}
-use Rattle.amd_symbolic.specs.Laws.{size_of}
+use Rattle.amd_symbolic.proofs.PlaceSums.{sum_places}
+use Rattle.amd_symbolic.specs.Laws.{column_size}
 
 -- the places before b are those before a, and the stretch between
 next_stretch : (xs : List ℕ) (a b : ℕ) → a ≤ b → take b xs ≡ take a xs ++ slice_range xs a b
@@ -31,17 +31,17 @@ front_most (c ∷ cs) (suc k) d l = let r = front_most cs k d (omega (arith, l))
 
 module _ (columns : List (List ℕ)) (ptr rows : List ℕ) (parent : List (Option ℕ)) (h : HoldColumns columns ptr rows parent) where
   -- the number of entries of a column
-  pub size_is : (k : ℕ) (d : List ℕ) → k < length columns → size_of ptr k ≡ length (slice_index_or columns k d)
+  pub size_is : (k : ℕ) (d : List ℕ) → k < length columns → column_size ptr k ≡ length (slice_index_or columns k d)
   size_is k d l = let e = h.ends k d l in omega (arith, e)
 
   -- what all columns need, by the pointers
-  pub needed_is : (share : ℕ → ℕ) → needed share columns ≡ sum_below (length columns) (λ k. share (size_of ptr k))
+  pub needed_is : (share : ℕ → ℕ) → needed share columns ≡ sum_below (length columns) (λ k. share (column_size ptr k))
   needed_is share = sum_places (λ c. share (length c)) columns []
-      ∙ sum_same (length columns) (λ k. share (length (slice_index_or columns k []))) (λ k. share (size_of ptr k))
+      ∙ sum_same (length columns) (λ k. share (length (slice_index_or columns k []))) (λ k. share (column_size ptr k))
       (λ k l. ap share (sym (size_is k [] l)))
 
   -- the pointers are sums
-  pub pointer_is : (k : ℕ) → k ≤ length columns → slice_index ptr k ≡ sum_below k (λ m. size_of ptr m)
+  pub pointer_is : (k : ℕ) → k ≤ length columns → slice_index ptr k ≡ sum_below k (λ m. column_size ptr m)
   unfolding sum_below
   pointer_is zero l = h.first
   pointer_is (suc k) l =

@@ -1,6 +1,6 @@
 -- Links to ancestors in the elimination tree, while a row climbs by them. Source: Liu 1986.
 use Rattle.std.specs.Prelude.{ℕ, ◌≡◌, ◌≢◌, ◌<◌, ◌≤◌, ◌⊎◌, List, Option, None, length, slice_index, slice_index_or}
-use Rattle.amd_symbolic.specs.Earlier.{Order}
+use Rattle.amd_symbolic.specs.Orders.{Order}
 use Rattle.amd_symbolic.specs.Trees.{InSubtree, Over}
 use Rattle.amd_symbolic.specs.Walks.{TellParents}
 

@@ -6,7 +6,7 @@ use Rattle.amd_model.specs.Graph.{Graph}
 use Rattle.amd_model.specs.Input.Columns.{IsInput}
 use Rattle.amd_model.specs.Input.Pattern.{graph_of}
 use Rattle.amd_symbolic.specs.Sizes.{HoldSizes}
-use Rattle.amd_symbolic.specs.Earlier.{Permutes}
+use Rattle.amd_symbolic.specs.Orders.{Permutes}
 use Rattle.amd_types.specs.declared.amd.Info.{Info}
 use Rattle.amd.specs.Answers.{IsOrderingHolding}
 use Rattle.amd_symbolic.specs.declared.factor.Fault.{Fault}
@@ -14,7 +14,7 @@ use Rattle.amd_symbolic.specs.declared.factor.Fault.TheVariants.{NotColumnForm, 
 use Rattle.amd_symbolic.specs.declared.factor.Fault.TheVariants.{OutOfMemory}
 use Rattle.amd_symbolic.specs.declared.needs.Need.{Need}
 use Rattle.amd_symbolic.specs.Factors.{IsFactorOf, IsFault}
-use Rattle.amd_symbolic.specs.Laws.{size_of}
+use Rattle.amd_symbolic.specs.Laws.{column_size}
 
 -- what a field of 128 bits holds of a figure: the lesser of it and the greatest such number
 abbrev pub wide_cut : ℕ → ℕ
@@ -61,7 +61,7 @@ abbrev pub CountsTellFactor : Type 0
 CountsTellFactor =
     (n : ℤ) (ap ai p : List ℤ) (sizes ptr rows : List ℕ) (parent other : List (Option ℕ)) (need : Need) →
     IsCountsOf n ap ai p sizes parent need → IsFactorOf n ap ai p ptr rows other →
-    (parent ≡ other) × ((k : ℕ) → k < unsigned_abs n → slice_index sizes k ≡ size_of ptr k)
+    (parent ≡ other) × ((k : ℕ) → k < unsigned_abs n → slice_index sizes k ≡ column_size ptr k)
 
 -- no need is more than the figure of a record, where that was not cut
 pub record NeedsWithin (need : Need) (info : Info) : Type 0 where

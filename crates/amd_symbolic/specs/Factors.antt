@@ -3,7 +3,7 @@ use Rattle.std.specs.Prelude.{ℕ, ℤ, pos, ◌≢◌, Bool, List, Option, None
 use Rattle.amd_model.specs.Input.Columns.{IsInput}
 use Rattle.amd_model.specs.Input.Pattern.{graph_of}
 use Rattle.amd_symbolic.specs.Columns.{HoldFactor, PassesRoom}
-use Rattle.amd_symbolic.specs.Earlier.{Permutes}
+use Rattle.amd_symbolic.specs.Orders.{Permutes}
 use Rattle.amd.specs.Answers.{IsInputHolding}
 use Rattle.amd_symbolic.specs.declared.factor.Fault.{Fault}
 use Rattle.amd_symbolic.specs.declared.factor.Fault.TheVariants.{NotColumnForm, NotPermutation, RoomTooSmall}

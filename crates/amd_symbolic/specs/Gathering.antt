@@ -5,7 +5,7 @@ use Rattle.std.specs.List.Sorted.{IsStrictlyIncreasing}
 use Rattle.amd_model.specs.Below.{count_below}
 use Rattle.amd_model.specs.Factor.{IsColumn}
 use Rattle.amd_symbolic.specs.Columns.{first_of}
-use Rattle.amd_symbolic.specs.Earlier.{Order}
+use Rattle.amd_symbolic.specs.Orders.{Order}
 use Rattle.amd_symbolic.specs.Trees.{Entry, IsParent}
 
 -- a place in an order, and what its column takes over

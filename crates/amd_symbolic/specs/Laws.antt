@@ -6,15 +6,15 @@ use Rattle.amd_model.specs.Below.{sum_below}
 use Rattle.amd_model.specs.Figures.{ldl_steps, lu_steps}
 use Rattle.amd_model.specs.Graph.{Graph}
 use Rattle.amd_model.specs.Input.Pattern.{graph_of}
-use Rattle.amd_symbolic.specs.Earlier.{Permutes}
+use Rattle.amd_symbolic.specs.Orders.{Permutes}
 use Rattle.amd_symbolic.specs.Trees.{IsParent, InSubtree}
 use Rattle.amd_types.specs.declared.amd.Info.{Info}
 use Rattle.amd.specs.Answers.{IsOrderingHolding}
 use Rattle.amd_symbolic.specs.Factors.{IsFactorOf}
 
 -- the number of entries of column k
-abbrev pub size_of : List ℕ → ℕ → ℕ
-size_of ptr k = slice_index ptr (k + 1) - slice_index ptr k
+abbrev pub column_size : List ℕ → ℕ → ℕ
+column_size ptr k = slice_index ptr (k + 1) - slice_index ptr k
 
 -- the entries of column k
 abbrev pub column_of : List ℕ → List ℕ → ℕ → List ℕ
@@ -55,10 +55,10 @@ pub record FiguresBound (n : ℕ) (ptr rows : List ℕ) (info : Info) : Type 0 w
   pub lnz : info.lnz < 18446744073709551615 → length rows ≤ info.lnz
   pub divisions : info.n_div < 18446744073709551615 → length rows ≤ info.n_div
   pub ldl : info.n_mult_subs_ldl < 18446744073709551615 →
-      sum_below n (λ k. ldl_steps (size_of ptr k)) ≤ info.n_mult_subs_ldl
+      sum_below n (λ k. ldl_steps (column_size ptr k)) ≤ info.n_mult_subs_ldl
   pub lu : info.n_mult_subs_lu < 18446744073709551615 →
-      sum_below n (λ k. lu_steps (size_of ptr k)) ≤ info.n_mult_subs_lu
-  pub greatest : (k : ℕ) → k < n → size_of ptr k + 1 ≤ info.d_max
+      sum_below n (λ k. lu_steps (column_size ptr k)) ≤ info.n_mult_subs_lu
+  pub greatest : (k : ℕ) → k < n → column_size ptr k + 1 ≤ info.d_max
 
 -- the record of an ordering bounds the factor under its order
 abbrev pub FiguresReserve : Type 0

@@ -1,19 +1,24 @@
--- What the columns of a factor in vectors are, the faults, the laws of the two, what a factor needs, and its counts.
+-- The exact factor of a matrix under an order of its rows: what it is, its laws, what its columns are made from, and how
+-- their entries are counted.
+
+-- The answers, the faults, the laws.
 pub mod Factors
-pub mod Laws
-pub mod Needs
 pub mod Counted
-pub mod Columns
-pub mod Earlier
-pub mod Gathering
-pub mod Later
-pub mod Merging
-pub mod Trees
-pub mod Walks
-pub mod Arcs
+pub mod Needs
+pub mod Laws
+-- Orders of the rows, neighbours, columns in vectors, the elimination tree.
+pub mod Orders
 pub mod Places
-pub mod Ancestors
-pub mod Meetings
-pub mod Mirrors
-pub mod Ranks
+pub mod Arcs
+pub mod Neighbours
+pub mod Columns
 pub mod Sizes
+pub mod Trees
+-- The columns, made by children.
+pub mod Gathering
+pub mod Merging
+-- The counts, by the tree and the meetings of arcs.
+pub mod Walks
+pub mod Ancestors
+pub mod Ranks
+pub mod Meetings

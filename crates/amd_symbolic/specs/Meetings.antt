@@ -1,9 +1,8 @@
 -- The arcs of an order of the rows, place by place in postorder, and where those of a row meet. Source: Gilbert, Ng and
 -- Peyton 1994.
-use Rattle.std.specs.Prelude.{ℕ, zero, suc, Bool, true, ◌≡◌, ◌≢◌, ◌<◌, ◌≤◌, ◌↔◌, ◌+◌, ◌-◌, ◌⊎◌, List, Contains, length}
-use Rattle.std.specs.Prelude.{slice_index, slice_range}
+use Rattle.std.specs.Prelude.{ℕ, zero, suc, Bool, true, ◌≡◌, ◌≢◌, ◌<◌, ◌≤◌, ◌+◌, ◌-◌, ◌⊎◌, List, length, slice_index}
 use Rattle.amd_model.specs.Below.{count_below, sum_below}
-use Rattle.amd_symbolic.specs.Earlier.{Order}
+use Rattle.amd_symbolic.specs.Orders.{Order}
 use Rattle.amd_symbolic.specs.Ranks.{Above, GoesUp, Measured, Ranked}
 
 -- an order of rows, and its elimination tree: where each place goes up to, the sizes of the subtrees, and the ranks
@@ -45,9 +44,8 @@ pub record IsLowest (s : Scene) (t x q : ℕ) : Type 0 where
   pub high : t ≤ slice_index s.rank q
   pub lowest : (r : ℕ) → r ≤ length s.up → Above s.up x r → t ≤ slice_index s.rank r → Above s.up q r
 
--- a arcs from the subtree of place k lead behind it, where those that lead to one place count once; of the arcs, those
--- that were taken
-pub record Marks (s : Scene) (seen : ℕ → ℕ → Type 0) (k a : ℕ) : Type 0 where
+-- the arcs from the subtree of place k that were taken lead to a places behind it
+pub record CountsTargets (s : Scene) (seen : ℕ → ℕ → Type 0) (k a : ℕ) : Type 0 where
   pub test : ℕ → Bool
   pub marked : (i : ℕ) → i < length s.up → test i ≡ true → (k < i) × (j : ℕ) × Above s.up j k × seen j i
   pub marks : (i j : ℕ) → i < length s.up → k < i → Above s.up j k → seen j i → test i ≡ true
@@ -82,29 +80,16 @@ pub record Met (s : Scene) (seen : ℕ → ℕ → Type 0) (last plus minus : Li
   pub some : (i : ℕ) → i < length s.up → slice_index last i ≢ length s.up → seen (slice_index last i) i ×
       ((j : ℕ) → seen j i → slice_index s.rank j ≤ slice_index s.rank (slice_index last i))
   pub spent : sum_to minus (length s.up + 1) ≡ sum_to plus (length s.up + 1)
-  pub columns : (k : ℕ) → k < length s.up → (a : ℕ) × Marks s seen k a × Balance s plus minus k a
+  pub columns : (k : ℕ) → k < length s.up → (a : ℕ) × CountsTargets s seen k a × Balance s plus minus k a
 
 -- the arcs from places of ranks below t
 abbrev pub Taken : Scene → ℕ → ℕ → ℕ → Type 0
 Taken s t j i = Arc s j i × (slice_index s.rank j < t)
 
--- the list names the places behind j whose rows an edge joins with that of place j, counted from the last place on
-abbrev pub AreLater : Scene → ℕ → List ℕ → Type 0
-AreLater s j later = (m : ℕ) → Contains later m ↔ ((m < length s.up) × Arc s j (length s.up - 1 - m))
-
 -- the arcs from places of ranks below t, and the first u of the list of place j
 abbrev pub TakenSome : Scene → ℕ → ℕ → List ℕ → ℕ → ℕ → ℕ → Type 0
 TakenSome s t j later u x y = Arc s x y × ((slice_index s.rank x < t) ⊎
-    ((x ≡ j) × (w : ℕ) × (w < u) × (y ≡ length s.up - 1 - slice_index later w)))
-
--- the lists of the later neighbours of all places: that of place j is the one at the place that has as many behind it
--- as j has before it
-pub record HasLater (s : Scene) (starts later : List ℕ) : Type 0 where
-  pub room : length starts ≡ length s.up + 1
-  pub ascending : (m : ℕ) → m < length s.up → slice_index starts m ≤ slice_index starts (m + 1)
-  pub within : (m : ℕ) → m < length s.up → slice_index starts (m + 1) ≤ length later
-  pub each : (j : ℕ) → j < length s.up → AreLater s j (slice_range later (slice_index starts (length s.up - 1 - j))
-      (slice_index starts (length s.up - j)))
+    ((x ≡ j) × (w : ℕ) × (w < u) × (y ≡ slice_index later w)))
 
 -- order holds the places by their ranks
 pub record IsByRank (s : Scene) (order : List ℕ) : Type 0 where

@@ -2,7 +2,7 @@
 use Rattle.std.specs.Prelude.{ℕ, Bool, true, ◌≡◌, ◌<◌, ◌↔◌, List, Option, None, Some, length, slice_index}
 use Rattle.std.specs.Prelude.{slice_index_or}
 use Rattle.amd_model.specs.Below.{count_below}
-use Rattle.amd_symbolic.specs.Earlier.{Order}
+use Rattle.amd_symbolic.specs.Orders.{Order}
 use Rattle.amd_symbolic.specs.Trees.{Entry, IsParent}
 
 -- what the rows before place j tell of the parent of place k: it has no entry before j, or this parent, which may lie

@@ -8,15 +8,15 @@ ghost use Rattle.std.specs.List.Sorted.{IsStrictlyIncreasing};
 ghost use Rattle.amd_model.specs.Factor.{IsColumn};
 ghost use Rattle.amd_model.specs.Graph.{IsGraph};
 ghost use Rattle.amd_symbolic.specs.Columns.{PassesRoom};
-ghost use Rattle.amd_symbolic.specs.Earlier.{Order};
+ghost use Rattle.amd_symbolic.specs.Orders.{Order};
 ghost use Rattle.amd_symbolic.specs.Gathering.{Column, Completes, Filled, HoldBefore, Inherits, IsChild, LinkChildren};
 ghost use Rattle.amd_symbolic.specs.Gathering.{Marks, MarksTell, TellFirst};
-ghost use Rattle.amd_symbolic.specs.Later.{AreLater};
+ghost use Rattle.amd_symbolic.specs.Neighbours.{AreLater};
 ghost use Rattle.amd_symbolic.specs.Merging.{merged};
 ghost use Rattle.amd_symbolic.specs.Trees.{Entry};
 
+use crate::children::{greatest_child, has_only_child, link_child};
 use crate::gathering::{gather, mark_rows};
-use crate::links::{greatest_child, has_only_child, link_child};
 use crate::merge::merge;
 
 /// A column, if there is one, and the mark of its entries: those of the rows behind it that have the mark.

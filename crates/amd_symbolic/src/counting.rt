@@ -1,25 +1,23 @@
 // How many entries each column of a factor has, and what the factor needs, without its columns: the input is tested as
-// for `columns`, the lists of earlier and of later neighbours are made, and the crate `amd_counts` counts. Source: Liu
-// 1986; Gilbert, Ng and Peyton 1994; AMD user guide (the figures of `Info`). Called by users, by the command and by the
-// crate `amd_c`.
+// for `columns`, the lists of earlier and of later neighbours are made, and `counted` counts. Source: Liu 1986; Gilbert,
+// Ng and Peyton 1994; AMD user guide (the figures of `Info`). Called by users, by the command and by the crate `amd_c`.
 
-ghost use Rattle.std.specs.Prelude.{◌≡◌, pos, map, List, ℤ, Bool, IfOk, IfErr};
+ghost use Rattle.std.specs.Prelude.{◌≡◌, pos, map, List, ℤ, Bool, Option, Some, IfOk, IfErr};
 ghost use Rattle.amd_model.specs.Input.Columns.{IsColumnForm};
 ghost use Rattle.amd_model.specs.Input.Pattern.{graph_of};
-ghost use Rattle.amd_symbolic.specs.Earlier.{Order};
+ghost use Rattle.amd_symbolic.specs.Orders.{Order};
 ghost use Rattle.amd_types.specs.Counts.{counts as counts_of};
-ghost use Rattle.amd.specs.Answers.{IsOrdering};
+ghost use Rattle.amd.specs.Answers.{IsOrdering, IsOrderingHolding};
 ghost use Rattle.amd_symbolic.specs.Counted.{IsCountsFault, IsCountsOf};
-ghost use Rattle.amd_symbolic.specs.Factors.{IsAnalysisFault};
+ghost use Rattle.amd_symbolic.specs.Factors.{IsAnalysisFault, IsFaultHolding};
 
 use crate::analysis::fault_of;
-use crate::column_sizes::{Counts, empty_counts, written_counts};
+use crate::counted::{Counts, empty_counts, written_counts};
 use crate::factor::Fault;
-use crate::lists::earlier_lists;
-use crate::mirroring::mirror_places;
+use crate::neighbours::{earlier_lists, later_lists};
 use crate::places::places;
 use amd::valid::valid;
-use amd::{Control, Info, Status, order};
+use amd::{Control, Info, Status, order, order_holding};
 use amd_types::internal::to_count;
 use num_traits::PrimInt;
 use std::alloc::Allocator;
@@ -41,12 +39,11 @@ fn form_counts<I: PrimInt, A: Allocator + Copy>(
     ensures fault { IfErr result (λ e. IsCountsFault (pos size) (map I.value a_p.now) (map I.value a_i.now)
         (map I.value p.now) e) }
 {
-    let Some(mut places) = places(alloc, size, p)? else {
+    let Some(places) = places(alloc, size, p)? else {
         return Err(Fault::NotPermutation);
     };
     let before = earlier_lists(alloc, size, a_p, a_i, &places)?;
-    mirror_places(&mut places);
-    let behind = earlier_lists(alloc, size, a_p, a_i, &places)?;
+    let behind = later_lists(alloc, size, a_p, a_i, &places)?;
     Ok(written_counts(
         alloc,
         &before.starts,
@@ -117,8 +114,9 @@ fn ordered_counts<I: PrimInt, A: Allocator + Copy>(
     info: &Info,
 ) -> Result<Counts<A>, Fault>
     requires fits { I.fits (I.value n) }
-    requires ordering { (t : ℤ) × (aggressive : Bool) × (q : List ℤ) ×
-        IsOrdering (I.value n) t aggressive (map I.value a_p.now) (map I.value a_i.now) (map I.value p.now) q info.now }
+    requires ordering { (hold : Option (List Bool)) × (t : ℤ) × (aggressive : Bool) × (q : List ℤ) ×
+        IsOrderingHolding hold (I.value n) t aggressive (map I.value a_p.now) (map I.value a_i.now) (map I.value p.now)
+        q info.now }
     ensures counts { IfOk result (λ c. IsCountsOf (I.value n) (map I.value a_p.now) (map I.value a_i.now)
         (map I.value p.now) c.sizes.items c.parent.items c.need) }
     ensures fault { IfErr result (λ e. e ≡ Fault.OutOfMemory) }
@@ -162,6 +160,44 @@ pub fn analyze_counts<I: PrimInt, A: Allocator + Copy>(
     ensures fault { IfErr result (λ e. IsAnalysisFault (I.value n) (map I.value a_p.now) (map I.value a_i.now) e) }
 {
     let (p, p_inv, info) = match order(alloc, n, a_p, a_i, control) {
+        Ok(answer) => answer,
+        Err(refusal) => return Err(fault_of(refusal)),
+    };
+    let counted = ordered_counts(alloc, n, a_p, a_i, &p, &info)?;
+    Ok((p, p_inv, info, counted))
+}
+
+/// Orders as [`amd::order_holding`] does, with the rows marked in `hold` held last, and returns the counts too.
+///
+/// `hold` has one mark for each of the `n` rows. The results have the lengths that [`analyze_counts`] gives them. For
+/// `n = 0` they are as there, whatever the pointers and the marks are.
+///
+/// # Errors
+///
+/// `NotColumnForm` exactly where `order_holding` returns `Invalid`: `n` is not 0 and either the input is no column form
+/// or `hold` has not one mark for each of the `n` rows. `OutOfMemory` as `analyze_counts`. No other fault.
+///
+/// Source: AMD user guide; Amestoy, Davis and Duff 1996 and 2004; Rose, Tarjan and Lueker 1976; Liu 1986;
+/// Gilbert, Ng and Peyton 1994.
+pub fn analyze_counts_holding<I: PrimInt, A: Allocator + Copy>(
+    alloc: A,
+    n: I,
+    a_p: &[I],
+    a_i: &[I],
+    control: &Control,
+    hold: &[bool],
+) -> Result<(Vec<I, A>, Vec<I, A>, Info, Counts<A>), Fault>
+    // A number of a primitive type is always in range.
+    requires fits { I.fits (I.value n) }
+    ensures ordering { IfOk result (λ a. IsOrderingHolding (Some hold.now) (I.value n) control.now.dense
+        control.now.aggressive (map I.value a_p.now) (map I.value a_i.now) (map I.value a.0.items)
+        (map I.value a.1.items) a.2) }
+    ensures counts { IfOk result (λ a. IsCountsOf (I.value n) (map I.value a_p.now) (map I.value a_i.now)
+        (map I.value a.0.items) a.3.sizes.items a.3.parent.items a.3.need) }
+    ensures fault { IfErr result (λ e. IsFaultHolding (Some hold.now) (I.value n) (map I.value a_p.now)
+        (map I.value a_i.now) e) }
+{
+    let (p, p_inv, info) = match order_holding(alloc, n, a_p, a_i, control, hold) {
         Ok(answer) => answer,
         Err(refusal) => return Err(fault_of(refusal)),
     };

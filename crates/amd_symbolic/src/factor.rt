@@ -8,14 +8,14 @@ ghost use Rattle.amd_model.specs.Graph.{IsGraph};
 ghost use Rattle.amd_model.specs.Input.Columns.{IsColumnForm};
 ghost use Rattle.amd_model.specs.Input.Pattern.{graph_of};
 ghost use Rattle.amd_symbolic.specs.Columns.{HoldFactor, PassesRoom};
-ghost use Rattle.amd_symbolic.specs.Earlier.{Order};
-ghost use Rattle.amd_symbolic.specs.Later.{HasLater};
+ghost use Rattle.amd_symbolic.specs.Orders.{Order};
+ghost use Rattle.amd_symbolic.specs.Neighbours.{HasLater};
 ghost use Rattle.amd_types.specs.Counts.{counts};
 ghost use Rattle.amd_symbolic.specs.Factors.{IsFactorOf, IsFault};
 ghost use Rattle.amd_symbolic.specs.declared.factor.Fault.TheVariants.{OutOfMemory};
 
 use crate::fill::fill;
-use crate::lists::later_lists;
+use crate::neighbours::later_lists;
 use crate::places::places;
 use amd::Status;
 use amd::valid::valid;

@@ -4,8 +4,8 @@
 ghost use Rattle.std.specs.Prelude.{◌≡◌, ◌≤◌, ◌+◌, length, take, MatchOption};
 ghost use Rattle.amd_model.specs.Graph.{IsGraph};
 ghost use Rattle.amd_symbolic.specs.Columns.{HoldFactor, PassesRoom};
-ghost use Rattle.amd_symbolic.specs.Earlier.{Order};
-ghost use Rattle.amd_symbolic.specs.Later.{HasLater};
+ghost use Rattle.amd_symbolic.specs.Orders.{Order};
+ghost use Rattle.amd_symbolic.specs.Neighbours.{HasLater};
 
 use crate::column::{Marked, add_column};
 

@@ -1,8 +1,20 @@
-// Laws on the contracts of `columns`, `counts`, `analyze` and their kin, each the contract of a function with an empty
-// body. Source: Liu 1986 and 1990. Called by: nobody.
+// Laws of the factor as paths define it, and on the contracts of `columns`, `counts`, `analyze` and their kin, each the
+// contract of a function with an empty body. Source: Liu 1986 and 1990. Called by: nobody.
 
 ghost use Rattle.amd_symbolic.specs.Counted.{CountsReserve, CountsTellFactor, FiguresBoundNeeds};
 ghost use Rattle.amd_symbolic.specs.Laws.{FiguresReserve, ParentsTellTree, RowsTellSubtrees, ThereIsOneFactor};
+ghost use Rattle.amd_symbolic.specs.Trees.{ColumnsByChildren, RowsAreSubtrees};
+
+/// A place is an entry of exactly those columns that lie in its subtree of the elimination tree.
+pub fn law_rows_are_subtrees()
+    ensures { RowsAreSubtrees }
+{}
+
+/// A place is an entry of the column of an earlier place exactly where an edge joins their rows, or where it is an
+/// entry of the column of a child.
+pub fn law_columns_by_children()
+    ensures { ColumnsByChildren }
+{}
 
 /// The parent of a column is its parent in the elimination tree, the first entry of the column. A column has none
 /// exactly where it is empty.

@@ -3,45 +3,43 @@
 //!
 //! [`columns`] takes the pattern of a square matrix by columns and any order of its rows. [`analyze`] takes the order
 //! from [`amd::order`] and the room from its record, and [`analyze_holding`] does the same with rows that a caller
-//! wants last. [`counts`] counts the entries of the columns without writing them, and [`analyze_counts`] does so under
-//! the order from [`amd::order`]. [`needs::need_of`] sums what a factor needs.
+//! wants last. [`counts`] counts the entries of the columns without writing them; [`analyze_counts`] does so under the
+//! order from [`amd::order`], and [`analyze_counts_holding`] with rows held last. [`needs::need_of`] sums what a factor needs.
+//!
+//! The modules, each over those before it:
+//!
+//! | Modules | What they do |
+//! |---|---|
+//! | `places`, `arcs`, `neighbours` | The place of each row in an order; the lists of the earlier and of the later neighbours of each place |
+//! | `children`, `gathering`, `merge`, `column`, `fill` | The columns in slices, each from those of its children |
+//! | `factor` | [`columns`]: the input is tested, the lists are made, memory is taken, and `fill` writes |
+//! | `tree`, `ranks`, `meeting`, `sweep`, `sizes` | How many entries the columns have, in slices: the elimination tree, its postorder, and a sweep over all arcs |
+//! | `needs`, `counted`, `counting` | What a factor needs; [`counts`], [`analyze_counts`] and [`analyze_counts_holding`] |
+//! | `analysis` | [`analyze`] and [`analyze_holding`]: an ordering, and the factor under it |
+//! | `laws` | Laws of the factor and on the contracts above |
 #![tactic(auto)]
-
-ghost use Rattle.amd_symbolic.specs.Trees.{ColumnsByChildren, RowsAreSubtrees};
 
 pub mod analysis;
 pub mod arcs;
+pub mod children;
 pub mod column;
-pub mod column_sizes;
-pub mod count_counting;
-pub mod count_ranks;
-pub mod count_tree;
+pub mod counted;
 pub mod counting;
 pub mod factor;
 pub mod fill;
 pub mod gathering;
 pub mod laws;
-pub mod links;
-pub mod lists;
 pub mod meeting;
 pub mod merge;
-pub mod mirroring;
 pub mod needs;
+pub mod neighbours;
 pub mod places;
+pub mod ranks;
+pub mod sizes;
 pub mod sweep;
+pub mod tree;
 
 pub use analysis::{analyze, analyze_holding};
-pub use column_sizes::Counts;
-pub use counting::{analyze_counts, counts};
+pub use counted::Counts;
+pub use counting::{analyze_counts, analyze_counts_holding, counts};
 pub use factor::{Factor, Fault, columns};
-
-/// A place is an entry of exactly those columns that lie in its subtree of the elimination tree.
-pub fn law_rows_are_subtrees()
-    ensures { RowsAreSubtrees }
-{}
-
-/// A place is an entry of the column of an earlier place exactly where an edge joins their rows, or where it is an
-/// entry of the column of a child.
-pub fn law_columns_by_children()
-    ensures { ColumnsByChildren }
-{}

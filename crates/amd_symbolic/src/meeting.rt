@@ -3,7 +3,8 @@
 // `sweep`.
 
 ghost use Rattle.std.specs.Prelude.{ℕ, List, ◌≡◌, ◌<◌, ◌≤◌, ◌+◌, ◌^◌, length, slice_index};
-ghost use Rattle.amd_symbolic.specs.Meetings.{AreLater, IsLowest, IsScene, Links, Met, Scene, Taken, sum_to};
+ghost use Rattle.amd_symbolic.specs.Meetings.{IsLowest, IsScene, Links, Met, Scene, Taken, sum_to};
+ghost use Rattle.amd_symbolic.specs.Neighbours.{AreLater};
 
 /// The lowest place over `start`, or `start`, that is not linked yet. Links on the way are drawn up.
 fn find(start: usize, link: &mut [usize]) -> usize
@@ -23,7 +24,7 @@ fn find(start: usize, link: &mut [usize]) -> usize
     x
 }
 
-/// Takes the arcs from place `j`, which lead to the places of `later`, each counted from the last place on.
+/// Takes the arcs from place `j`, which lead to the places of `later`.
 pub fn take_arcs(
     j: usize,
     later: &[usize],
@@ -38,7 +39,7 @@ pub fn take_arcs(
     requires ranks { rank.now ≡ at.0.rank }
     requires place { j < length at.0.up }
     requires here { slice_index at.0.rank j ≡ at.1 }
-    requires later { AreLater at.0 j later.now }
+    requires later { AreLater at.0.order j later.now }
     requires links { Links at.0 at.1 link.old }
     requires met { Met at.0 (Taken at.0 at.1) last.old plus.old minus.old }
     requires room { sum_to plus.old (length at.0.up + 1) + length later.now < 2 ^ 64 }
@@ -48,8 +49,7 @@ pub fn take_arcs(
 {
     let n = last.len();
     let here = rank[j];
-    'arcs: for &mirrored in later {
-        let i = n - 1 - mirrored;
+    'arcs: for &i in later {
         let before = last[i];
         let meeting = if before == n { i } else { find(before, link) };
         let there = rank[meeting];

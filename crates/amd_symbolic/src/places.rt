@@ -2,7 +2,7 @@
 // `columns` of the crate `amd_symbolic`.
 
 ghost use Rattle.std.specs.Prelude.{◌≡◌, ℕ, List, map, IfOk, MatchOption};
-ghost use Rattle.amd_symbolic.specs.Earlier.{Permutes};
+ghost use Rattle.amd_symbolic.specs.Orders.{Permutes};
 ghost use Rattle.amd_types.specs.Counts.{counts};
 ghost use Rattle.amd_symbolic.specs.Places.{ArePlaces};
 

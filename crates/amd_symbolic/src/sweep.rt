@@ -2,7 +2,8 @@
 // and Peyton 1994. Called by `counting`.
 
 ghost use Rattle.std.specs.Prelude.{ℕ, List, ◌≡◌, ◌<◌, ◌≤◌, ◌+◌, ◌-◌, ◌^◌, length, slice_index};
-ghost use Rattle.amd_symbolic.specs.Meetings.{HasLater, IsByRank, IsScene, Marks, Met, Scene, Taken, sum_before, sum_to};
+ghost use Rattle.amd_symbolic.specs.Meetings.{CountsTargets, IsByRank, IsScene, Met, Scene, Taken, sum_before, sum_to};
+ghost use Rattle.amd_symbolic.specs.Neighbours.{HasLater};
 
 use crate::meeting::take_arcs;
 
@@ -21,8 +22,8 @@ pub fn place_by_rank(rank: &[usize], order: &mut [usize])
 
 /// Writes by ranks how much the arcs from each place add, and how much their meetings take.
 ///
-/// `order` holds the places by their ranks, and `later[starts[n - 1 - j]..starts[n - j]]` names the later neighbours of
-/// place `j`, each counted from the last place on. `link` and `last` are for the work alone.
+/// `order` holds the places by their ranks, and `later[starts[j]..starts[j + 1]]` names the later neighbours of place
+/// `j`. `link` and `last` are for the work alone.
 pub fn meet_arcs(
     starts: &[usize],
     later: &[usize],
@@ -36,7 +37,7 @@ pub fn meet_arcs(
 )
     ghost s: { Scene }
     requires scene { IsScene s }
-    requires later { HasLater s starts.now later.now }
+    requires later { HasLater s.order starts.now later.now }
     requires ups { up.now ≡ s.up }
     requires ranks { rank.now ≡ s.rank }
     requires order { IsByRank s order.now }
@@ -56,7 +57,7 @@ pub fn meet_arcs(
     }
     'ranks: for t in 0..order.len() {
         let j = order[t];
-        let list = &later[starts[n - 1 - j]..starts[n - j]];
+        let list = &later[starts[j]..starts[j + 1]];
         take_arcs(j, list, rank, link, last, plus, minus);
         link[j] = up[j];
     }
@@ -103,7 +104,7 @@ pub fn tell_counts(
     requires met { (last : List ℕ) × Met s (Taken s (length s.up)) last plus.old minus.old }
     requires room { sum_to plus.old (length s.up + 1) < 2 ^ 64 }
     requires counts { length counts.old ≡ length s.up }
-    ensures { (k : ℕ) → k < length s.up → Marks s (Taken s (length s.up)) k (slice_index counts.new k) }
+    ensures { (k : ℕ) → k < length s.up → CountsTargets s (Taken s (length s.up)) k (slice_index counts.new k) }
 {
     add_up(plus);
     add_up(minus);
@@ -132,7 +133,7 @@ pub fn sweep(
 )
     ghost s: { Scene }
     requires scene { IsScene s }
-    requires later { HasLater s starts.now later.now }
+    requires later { HasLater s.order starts.now later.now }
     requires ups { up.now ≡ s.up }
     requires sizes { size.now ≡ s.size }
     requires ranks { rank.now ≡ s.rank }
@@ -142,7 +143,7 @@ pub fn sweep(
     requires plus { length plus.old ≡ length s.up + 1 }
     requires minus { length minus.old ≡ length s.up + 1 }
     requires counts { length counts.old ≡ length s.up }
-    ensures { (k : ℕ) → k < length s.up → Marks s (Taken s (length s.up)) k (slice_index counts.new k) }
+    ensures { (k : ℕ) → k < length s.up → CountsTargets s (Taken s (length s.up)) k (slice_index counts.new k) }
 {
     place_by_rank(rank, order);
     meet_arcs(starts, later, up, rank, order, link, last, plus, minus);

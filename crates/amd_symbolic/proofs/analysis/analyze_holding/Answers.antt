@@ -1,4 +1,4 @@
-use Rattle.std.proofs.Common.{ℤ, List, Option, None, Some, ◌≡◌, map, rules}
+use Rattle.std.proofs.Common.{ℤ, List, Some, ◌≡◌, map, rules}
 use Rattle.std.specs.Prelude.{IfErr}
 use Rattle.amd.specs.Answers.{IsOrderingHolding}
 use Rattle.amd_symbolic.specs.declared.factor.Fault.TheVariants.{OutOfMemory}

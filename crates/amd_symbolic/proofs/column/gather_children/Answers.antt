@@ -3,7 +3,7 @@ use Rattle.std.specs.Prelude.{slice_index_or, None}
 use Rattle.std.proofs.lemmas.Bool.{cases_eq}
 use Rattle.amd_symbolic.specs.Trees.{Entry}
 use Rattle.amd_symbolic.specs.Gathering.{IsChild, IsLastChild}
-use Rattle.amd_symbolic.proofs.Children.{entry_by_child}
+use Rattle.amd_symbolic.proofs.ByChildren.{entry_by_child}
 use Rattle.amd_symbolic.proofs.Descent.{IsAhead, LeadsTo, ahead_past, leads}
 use Rattle.amd_symbolic.proofs.column.gather_children.Goals as goal
 use Rattle.amd_symbolic.proofs.column.gather_children.Goals.{then-child-base, else-child-base}

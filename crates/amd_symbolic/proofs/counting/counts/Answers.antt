@@ -2,12 +2,12 @@ use Rattle.std.proofs.Common.{ℤ, List, pos, ◌≡◌, ◌≢◌, [], map, len
 use Rattle.std.specs.Prelude.{IfOk, IfErr, ◌==◌, unsigned_abs}
 use Rattle.std.proofs.lemmas.List.{length-map}
 use Rattle.amd_model.specs.Input.Columns.{IsInput}
-use Rattle.amd_symbolic.specs.Earlier.{Permutes}
+use Rattle.amd_symbolic.specs.Orders.{Permutes}
 use Rattle.amd_types.specs.Statuses.{IsStatusOf}
 use Rattle.amd_types.specs.declared.amd.Status.TheVariants.{Invalid}
 use Rattle.amd_symbolic.specs.Counted.{IsCountsOf, IsCountsFault}
-use Rattle.amd_symbolic.proofs.CountForms.{no_counts}
-use Rattle.amd_symbolic.proofs.Forms.{no_items, some_items, empty_order, form_by, no_count}
+use Rattle.amd_symbolic.proofs.CountParts.{no_counts}
+use Rattle.amd_symbolic.proofs.ColumnParts.{no_items, some_items, empty_order, form_by, no_count}
 use Rattle.amd_symbolic.proofs.counting.counts.Goals as goal
 
 pub returns-in_default-clause-fault : goal.returns-in_default-clause-fault

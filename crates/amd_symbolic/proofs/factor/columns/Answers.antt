@@ -1,14 +1,13 @@
-use Rattle.std.proofs.Common.{ℕ, ℤ, List, Option, pos, ◌≡◌, ◌≢◌, ◌≤◌, [], ◌∷◌, map, length, refl, sym, ap, subst, ◌∙◌, arith, rules}
+use Rattle.std.proofs.Common.{ℤ, List, pos, ◌≡◌, ◌≢◌, ◌≤◌, [], ◌∷◌, map, length, refl, sym, ap, subst, ◌∙◌, arith, rules}
 use Rattle.std.specs.Prelude.{IfOk, IfErr, ◌==◌, unsigned_abs}
 use Rattle.std.proofs.lemmas.List.{length-map}
 use Rattle.amd_model.specs.Input.Columns.{IsInput}
-use Rattle.amd_symbolic.specs.Earlier.{Permutes}
+use Rattle.amd_symbolic.specs.Orders.{Permutes}
 use Rattle.amd_types.specs.Statuses.{IsStatusOf}
 use Rattle.amd_types.specs.declared.amd.Status.TheVariants.{Invalid}
 use Rattle.amd_symbolic.specs.Factors.{IsFactorOf, IsFault}
-use Rattle.amd_symbolic.specs.declared.factor.Fault.TheVariants.{OutOfMemory}
 use Rattle.amd_symbolic.proofs.Faults.{memory_of, all_of, answer_of}
-use Rattle.amd_symbolic.proofs.Forms.{no_rows, no_items, some_items, empty_order, form_by, no_count}
+use Rattle.amd_symbolic.proofs.ColumnParts.{no_rows, no_items, some_items, empty_order, form_by, no_count}
 use Rattle.amd_symbolic.proofs.factor.columns.Goals as goal
 
 pub returns-in_default-clause-fault : goal.returns-in_default-clause-fault

@@ -1,10 +1,10 @@
-use Rattle.std.proofs.Common.{ℕ, ℤ, pos, ◌≡◌, List, map, rules}
+use Rattle.std.proofs.Common.{ℤ, pos, ◌≡◌, List, map, rules}
 use Rattle.std.specs.Prelude.{IfErr}
 use Rattle.amd_types.specs.Counts.{counts}
 use Rattle.amd_symbolic.specs.declared.factor.Fault.TheVariants.{OutOfMemory}
 use Rattle.amd_symbolic.specs.Factors.{IsFault}
 use Rattle.amd_symbolic.proofs.Faults.{memory_of}
-use Rattle.amd_symbolic.proofs.Forms.{laws, later_of, factor_of, too_many}
+use Rattle.amd_symbolic.proofs.ColumnParts.{laws, later_of, factor_of, too_many}
 use Rattle.amd_symbolic.proofs.factor.form_columns.Goals as goal
 
 pub returns-in_err-places-clause-fault : goal.returns-in_err-places-clause-fault

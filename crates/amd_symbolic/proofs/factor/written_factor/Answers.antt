@@ -1,6 +1,6 @@
-use Rattle.std.proofs.Common.{◌≡◌, ◌+◌, ◌-◌, ◌≤◌, length, take, arith, rules, ap, sym, ◌∙◌, subst}
+use Rattle.std.proofs.Common.{◌≡◌, ◌-◌, length, take, arith, rules, ap, ◌∙◌, subst}
 use Rattle.std.proofs.lemmas.List.{take_at}
-use Rattle.amd_symbolic.specs.Columns.{HoldFactor, PassesRoom}
+use Rattle.amd_symbolic.specs.Columns.{PassesRoom}
 use Rattle.amd_symbolic.proofs.factor.written_factor.Goals as goal
 
 pub overflow_sub-columns : goal.overflow_sub-columns

@@ -1,4 +1,4 @@
-use Rattle.amd_symbolic.proofs.CountForms.{counts_reserve}
+use Rattle.amd_symbolic.proofs.CountParts.{counts_reserve}
 use Rattle.amd_symbolic.proofs.laws.law_counts_reserve.Goals as goal
 
 pub returns : goal.returns

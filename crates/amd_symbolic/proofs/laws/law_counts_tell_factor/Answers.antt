@@ -1,4 +1,4 @@
-use Rattle.amd_symbolic.proofs.CountForms.{counts_tell_factor}
+use Rattle.amd_symbolic.proofs.CountParts.{counts_tell_factor}
 use Rattle.amd_symbolic.proofs.laws.law_counts_tell_factor.Goals as goal
 
 pub returns : goal.returns

@@ -1,7 +1,7 @@
-use Rattle.std.proofs.Common.{◌-◌, sym, subst, length, arith}
+use Rattle.std.proofs.Common.{◌<◌, sym, subst, length, arith}
 use Rattle.std.specs.Prelude.{slice_index}
 use Rattle.amd_symbolic.specs.Meetings.{IsLowest, Links}
-use Rattle.amd_symbolic.proofs.Lists.{item, taken-none, taken-all, After, first-arc, next-arc, plus-more, minus-low, minus-more, sum-more}
+use Rattle.amd_symbolic.proofs.PlaceArcs.{item, taken-none, taken-all, After, first-arc, next-arc, plus-more, minus-low, minus-more, sum-more}
 use Rattle.amd_symbolic.proofs.meeting.take_arcs.Goals as goal
 use Rattle.amd_symbolic.proofs.meeting.take_arcs.Goals.{then-before-n, else-before-n}
 
@@ -13,16 +13,36 @@ arcs-init g c =
       sum = omega arith;
     }
 
-pub overflow_sub-i-in-arcs : goal.overflow_sub-i-in-arcs
-overflow_sub-i-in-arcs g c =
+pub bounds-last-i : goal.bounds-last-i
+bounds-last-i g c =
     let q = c.requires.1.1.1 in
-    let i = item g.at.0 c.requires.0 g.at.1 c.args.j c.args.later.now c.requires.1.1.0 q.0 q.1.0 c.arcs.mirrored-index c.arcs-test.true in
-    let i0 = i.0 in let room = q.1.1.1.0.last_room in omega (arith, i0, room)
+    let i = item g.at.0 c.requires.0 g.at.1 c.args.j c.args.later.now c.requires.1.1.0 q.0 q.1.0 c.arcs.i-index c.arcs-test.true in
+    let most = i.most in let room = c.arcs.invariant.met.last_room in omega (arith, most, room)
+
+pub offset_bounds-last-i : goal.offset_bounds-last-i
+offset_bounds-last-i g c =
+    let q = c.requires.1.1.1 in
+    let i = item g.at.0 c.requires.0 g.at.1 c.args.j c.args.later.now c.requires.1.1.0 q.0 q.1.0 c.arcs.i-index c.arcs-test.true in
+    let most = i.most in let room = c.arcs.invariant.met.last_room in
+    let low : slice_index c.args.later.now c.arcs.i-index < length c.arcs.last = omega (arith, most, room) in omega (arith, low)
+
+pub bounds-last-i-in-arcs : goal.bounds-last-i-in-arcs
+bounds-last-i-in-arcs g c =
+    let q = c.requires.1.1.1 in
+    let i = item g.at.0 c.requires.0 g.at.1 c.args.j c.args.later.now c.requires.1.1.0 q.0 q.1.0 c.arcs.i-index c.arcs-test.true in
+    let most = i.most in let room = c.arcs.invariant.met.last_room in omega (arith, most, room)
+
+pub offset_bounds-last-i-in-arcs : goal.offset_bounds-last-i-in-arcs
+offset_bounds-last-i-in-arcs g c =
+    let q = c.requires.1.1.1 in
+    let i = item g.at.0 c.requires.0 g.at.1 c.args.j c.args.later.now c.requires.1.1.0 q.0 q.1.0 c.arcs.i-index c.arcs-test.true in
+    let most = i.most in let room = c.arcs.invariant.met.last_room in
+    let low : slice_index c.args.later.now c.arcs.i-index < length c.arcs.last = omega (arith, most, room) in omega (arith, low)
 
 pub overflow_add-plus : goal.overflow_add-plus
 overflow_add-plus g c =
     let q = c.requires.1.1.1 in
-    let a = plus-more g.at.0 c.requires.0 g.at.1 c.args.j c.args.later.now c.requires.1.1.0 q.0 q.1.0 c.arcs.mirrored-index c.arcs-test.true
+    let a = plus-more g.at.0 c.requires.0 g.at.1 c.args.j c.args.later.now c.requires.1.1.0 q.0 q.1.0 c.arcs.i-index c.arcs-test.true
     c.arcs.last c.arcs.plus c.arcs.minus c.arcs.invariant.met c.if-before-n.meeting c.args.rank.now c.requires.1.0 in
     let sum = c.arcs.invariant.sum in let room = q.1.1.1.1 in let t = c.arcs-test.true in omega (arith, a, sum, room, t)
 
@@ -31,18 +51,17 @@ bounds-minus-there g c =
     let q = c.requires.1.1.1 in
     let room = q.1.1.1.0.last_room in
     let met = c.arcs.invariant.met in
-    let after : After g.at.0 c.requires.0 g.at.1 c.args.j c.args.later.now c.requires.1.1.0 q.0 q.1.0 c.arcs.mirrored-index c.arcs-test.true
-    c.arcs.last c.arcs.plus c.arcs.minus met c.if-before-n.meeting (length c.args.last.now) c.args.rank.now =
+    let after : After g.at.0 c.requires.0 g.at.1 c.args.j c.args.later.now c.requires.1.1.0 q.0 q.1.0 c.arcs.i-index c.arcs-test.true
+    c.arcs.last c.arcs.plus c.arcs.minus met c.if-before-n.meeting c.args.rank.now =
     elim c.if-before-n.branch [
-      | then-before-n w ↦ first-arc g.at.0 c.requires.0 g.at.1 c.args.j c.args.later.now c.requires.1.1.0 q.0 q.1.0 c.arcs.mirrored-index
+      | then-before-n w ↦ first-arc g.at.0 c.requires.0 g.at.1 c.args.j c.args.later.now c.requires.1.1.0 q.0 q.1.0 c.arcs.i-index
           c.arcs-test.true c.arcs.last c.arcs.plus c.arcs.minus met c.if-before-n.meeting (length c.args.last.now) c.args.rank.now room
           c.requires.1.0 w.if-before-n.true w.meeting-is
-      | else-before-n w ↦ next-arc g.at.0 c.requires.0 g.at.1 c.args.j c.args.later.now c.requires.1.1.0 q.0 q.1.0 c.arcs.mirrored-index
+      | else-before-n w ↦ next-arc g.at.0 c.requires.0 g.at.1 c.args.j c.args.later.now c.requires.1.1.0 q.0 q.1.0 c.arcs.i-index
           c.arcs-test.true c.arcs.last c.arcs.plus c.arcs.minus met c.if-before-n.meeting (length c.args.last.now) c.args.rank.now room
-          c.requires.1.0 w.if-before-n.false (subst (λ v. IsLowest g.at.0 g.at.1 (slice_index c.arcs.last (length c.args.last.now - 1
-          - slice_index c.args.later.now c.arcs.mirrored-index)) v) (sym w.meeting-is) w.find-meeting.ensures.lowest)
+          c.requires.1.0 w.if-before-n.false (subst (λ v. IsLowest g.at.0 g.at.1 (slice_index c.arcs.last (slice_index c.args.later.now c.arcs.i-index)) v) (sym w.meeting-is) w.find-meeting.ensures.lowest)
     ] in
-    minus-low g.at.0 c.requires.0 g.at.1 c.args.j c.args.later.now c.requires.1.1.0 q.0 q.1.0 c.arcs.mirrored-index c.arcs-test.true
+    minus-low g.at.0 c.requires.0 g.at.1 c.args.j c.args.later.now c.requires.1.1.0 q.0 q.1.0 c.arcs.i-index c.arcs-test.true
     c.arcs.last c.arcs.plus c.arcs.minus met c.if-before-n.meeting c.args.rank.now c.requires.1.0 after.0
 
 pub bounds-minus-there-in-arcs : goal.bounds-minus-there-in-arcs
@@ -50,18 +69,17 @@ bounds-minus-there-in-arcs g c =
     let q = c.requires.1.1.1 in
     let room = q.1.1.1.0.last_room in
     let met = c.arcs.invariant.met in
-    let after : After g.at.0 c.requires.0 g.at.1 c.args.j c.args.later.now c.requires.1.1.0 q.0 q.1.0 c.arcs.mirrored-index c.arcs-test.true
-    c.arcs.last c.arcs.plus c.arcs.minus met c.if-before-n.meeting (length c.args.last.now) c.args.rank.now =
+    let after : After g.at.0 c.requires.0 g.at.1 c.args.j c.args.later.now c.requires.1.1.0 q.0 q.1.0 c.arcs.i-index c.arcs-test.true
+    c.arcs.last c.arcs.plus c.arcs.minus met c.if-before-n.meeting c.args.rank.now =
     elim c.if-before-n.branch [
-      | then-before-n w ↦ first-arc g.at.0 c.requires.0 g.at.1 c.args.j c.args.later.now c.requires.1.1.0 q.0 q.1.0 c.arcs.mirrored-index
+      | then-before-n w ↦ first-arc g.at.0 c.requires.0 g.at.1 c.args.j c.args.later.now c.requires.1.1.0 q.0 q.1.0 c.arcs.i-index
           c.arcs-test.true c.arcs.last c.arcs.plus c.arcs.minus met c.if-before-n.meeting (length c.args.last.now) c.args.rank.now room
           c.requires.1.0 w.if-before-n.true w.meeting-is
-      | else-before-n w ↦ next-arc g.at.0 c.requires.0 g.at.1 c.args.j c.args.later.now c.requires.1.1.0 q.0 q.1.0 c.arcs.mirrored-index
+      | else-before-n w ↦ next-arc g.at.0 c.requires.0 g.at.1 c.args.j c.args.later.now c.requires.1.1.0 q.0 q.1.0 c.arcs.i-index
           c.arcs-test.true c.arcs.last c.arcs.plus c.arcs.minus met c.if-before-n.meeting (length c.args.last.now) c.args.rank.now room
-          c.requires.1.0 w.if-before-n.false (subst (λ v. IsLowest g.at.0 g.at.1 (slice_index c.arcs.last (length c.args.last.now - 1
-          - slice_index c.args.later.now c.arcs.mirrored-index)) v) (sym w.meeting-is) w.find-meeting.ensures.lowest)
+          c.requires.1.0 w.if-before-n.false (subst (λ v. IsLowest g.at.0 g.at.1 (slice_index c.arcs.last (slice_index c.args.later.now c.arcs.i-index)) v) (sym w.meeting-is) w.find-meeting.ensures.lowest)
     ] in
-    minus-low g.at.0 c.requires.0 g.at.1 c.args.j c.args.later.now c.requires.1.1.0 q.0 q.1.0 c.arcs.mirrored-index c.arcs-test.true
+    minus-low g.at.0 c.requires.0 g.at.1 c.args.j c.args.later.now c.requires.1.1.0 q.0 q.1.0 c.arcs.i-index c.arcs-test.true
     c.arcs.last c.arcs.plus c.arcs.minus met c.if-before-n.meeting c.args.rank.now c.requires.1.0 after.0
 
 pub offset_bounds-minus-there : goal.offset_bounds-minus-there
@@ -69,18 +87,17 @@ offset_bounds-minus-there g c =
     let q = c.requires.1.1.1 in
     let room = q.1.1.1.0.last_room in
     let met = c.arcs.invariant.met in
-    let after : After g.at.0 c.requires.0 g.at.1 c.args.j c.args.later.now c.requires.1.1.0 q.0 q.1.0 c.arcs.mirrored-index c.arcs-test.true
-    c.arcs.last c.arcs.plus c.arcs.minus met c.if-before-n.meeting (length c.args.last.now) c.args.rank.now =
+    let after : After g.at.0 c.requires.0 g.at.1 c.args.j c.args.later.now c.requires.1.1.0 q.0 q.1.0 c.arcs.i-index c.arcs-test.true
+    c.arcs.last c.arcs.plus c.arcs.minus met c.if-before-n.meeting c.args.rank.now =
     elim c.if-before-n.branch [
-      | then-before-n w ↦ first-arc g.at.0 c.requires.0 g.at.1 c.args.j c.args.later.now c.requires.1.1.0 q.0 q.1.0 c.arcs.mirrored-index
+      | then-before-n w ↦ first-arc g.at.0 c.requires.0 g.at.1 c.args.j c.args.later.now c.requires.1.1.0 q.0 q.1.0 c.arcs.i-index
           c.arcs-test.true c.arcs.last c.arcs.plus c.arcs.minus met c.if-before-n.meeting (length c.args.last.now) c.args.rank.now room
           c.requires.1.0 w.if-before-n.true w.meeting-is
-      | else-before-n w ↦ next-arc g.at.0 c.requires.0 g.at.1 c.args.j c.args.later.now c.requires.1.1.0 q.0 q.1.0 c.arcs.mirrored-index
+      | else-before-n w ↦ next-arc g.at.0 c.requires.0 g.at.1 c.args.j c.args.later.now c.requires.1.1.0 q.0 q.1.0 c.arcs.i-index
           c.arcs-test.true c.arcs.last c.arcs.plus c.arcs.minus met c.if-before-n.meeting (length c.args.last.now) c.args.rank.now room
-          c.requires.1.0 w.if-before-n.false (subst (λ v. IsLowest g.at.0 g.at.1 (slice_index c.arcs.last (length c.args.last.now - 1
-          - slice_index c.args.later.now c.arcs.mirrored-index)) v) (sym w.meeting-is) w.find-meeting.ensures.lowest)
+          c.requires.1.0 w.if-before-n.false (subst (λ v. IsLowest g.at.0 g.at.1 (slice_index c.arcs.last (slice_index c.args.later.now c.arcs.i-index)) v) (sym w.meeting-is) w.find-meeting.ensures.lowest)
     ] in
-    let l = minus-low g.at.0 c.requires.0 g.at.1 c.args.j c.args.later.now c.requires.1.1.0 q.0 q.1.0 c.arcs.mirrored-index c.arcs-test.true
+    let l = minus-low g.at.0 c.requires.0 g.at.1 c.args.j c.args.later.now c.requires.1.1.0 q.0 q.1.0 c.arcs.i-index c.arcs-test.true
     c.arcs.last c.arcs.plus c.arcs.minus met c.if-before-n.meeting c.args.rank.now c.requires.1.0 after.0 in omega (arith, l)
 
 pub overflow_add-minus : goal.overflow_add-minus
@@ -88,18 +105,17 @@ overflow_add-minus g c =
     let q = c.requires.1.1.1 in
     let room = q.1.1.1.0.last_room in
     let met = c.arcs.invariant.met in
-    let after : After g.at.0 c.requires.0 g.at.1 c.args.j c.args.later.now c.requires.1.1.0 q.0 q.1.0 c.arcs.mirrored-index c.arcs-test.true
-    c.arcs.last c.arcs.plus c.arcs.minus met c.if-before-n.meeting (length c.args.last.now) c.args.rank.now =
+    let after : After g.at.0 c.requires.0 g.at.1 c.args.j c.args.later.now c.requires.1.1.0 q.0 q.1.0 c.arcs.i-index c.arcs-test.true
+    c.arcs.last c.arcs.plus c.arcs.minus met c.if-before-n.meeting c.args.rank.now =
     elim c.if-before-n.branch [
-      | then-before-n w ↦ first-arc g.at.0 c.requires.0 g.at.1 c.args.j c.args.later.now c.requires.1.1.0 q.0 q.1.0 c.arcs.mirrored-index
+      | then-before-n w ↦ first-arc g.at.0 c.requires.0 g.at.1 c.args.j c.args.later.now c.requires.1.1.0 q.0 q.1.0 c.arcs.i-index
           c.arcs-test.true c.arcs.last c.arcs.plus c.arcs.minus met c.if-before-n.meeting (length c.args.last.now) c.args.rank.now room
           c.requires.1.0 w.if-before-n.true w.meeting-is
-      | else-before-n w ↦ next-arc g.at.0 c.requires.0 g.at.1 c.args.j c.args.later.now c.requires.1.1.0 q.0 q.1.0 c.arcs.mirrored-index
+      | else-before-n w ↦ next-arc g.at.0 c.requires.0 g.at.1 c.args.j c.args.later.now c.requires.1.1.0 q.0 q.1.0 c.arcs.i-index
           c.arcs-test.true c.arcs.last c.arcs.plus c.arcs.minus met c.if-before-n.meeting (length c.args.last.now) c.args.rank.now room
-          c.requires.1.0 w.if-before-n.false (subst (λ v. IsLowest g.at.0 g.at.1 (slice_index c.arcs.last (length c.args.last.now - 1
-          - slice_index c.args.later.now c.arcs.mirrored-index)) v) (sym w.meeting-is) w.find-meeting.ensures.lowest)
+          c.requires.1.0 w.if-before-n.false (subst (λ v. IsLowest g.at.0 g.at.1 (slice_index c.arcs.last (slice_index c.args.later.now c.arcs.i-index)) v) (sym w.meeting-is) w.find-meeting.ensures.lowest)
     ] in
-    let m = minus-more g.at.0 c.requires.0 g.at.1 c.args.j c.args.later.now c.requires.1.1.0 q.0 q.1.0 c.arcs.mirrored-index
+    let m = minus-more g.at.0 c.requires.0 g.at.1 c.args.j c.args.later.now c.requires.1.1.0 q.0 q.1.0 c.arcs.i-index
     c.arcs-test.true
     c.arcs.last c.arcs.plus c.arcs.minus met c.if-before-n.meeting c.args.rank.now c.requires.1.0 after.0 in
     let sum = c.arcs.invariant.sum in let enough = q.1.1.1.1 in let t = c.arcs-test.true in omega (arith, m, sum, enough, t)
@@ -109,16 +125,15 @@ arcs-preserved g c =
     let q = c.requires.1.1.1 in
     let room = q.1.1.1.0.last_room in
     let met = c.arcs.invariant.met in
-    let after : After g.at.0 c.requires.0 g.at.1 c.args.j c.args.later.now c.requires.1.1.0 q.0 q.1.0 c.arcs.mirrored-index c.arcs-test.true
-    c.arcs.last c.arcs.plus c.arcs.minus met c.if-before-n.meeting (length c.args.last.now) c.args.rank.now =
+    let after : After g.at.0 c.requires.0 g.at.1 c.args.j c.args.later.now c.requires.1.1.0 q.0 q.1.0 c.arcs.i-index c.arcs-test.true
+    c.arcs.last c.arcs.plus c.arcs.minus met c.if-before-n.meeting c.args.rank.now =
     elim c.if-before-n.branch [
-      | then-before-n w ↦ first-arc g.at.0 c.requires.0 g.at.1 c.args.j c.args.later.now c.requires.1.1.0 q.0 q.1.0 c.arcs.mirrored-index
+      | then-before-n w ↦ first-arc g.at.0 c.requires.0 g.at.1 c.args.j c.args.later.now c.requires.1.1.0 q.0 q.1.0 c.arcs.i-index
           c.arcs-test.true c.arcs.last c.arcs.plus c.arcs.minus met c.if-before-n.meeting (length c.args.last.now) c.args.rank.now room
           c.requires.1.0 w.if-before-n.true w.meeting-is
-      | else-before-n w ↦ next-arc g.at.0 c.requires.0 g.at.1 c.args.j c.args.later.now c.requires.1.1.0 q.0 q.1.0 c.arcs.mirrored-index
+      | else-before-n w ↦ next-arc g.at.0 c.requires.0 g.at.1 c.args.j c.args.later.now c.requires.1.1.0 q.0 q.1.0 c.arcs.i-index
           c.arcs-test.true c.arcs.last c.arcs.plus c.arcs.minus met c.if-before-n.meeting (length c.args.last.now) c.args.rank.now room
-          c.requires.1.0 w.if-before-n.false (subst (λ v. IsLowest g.at.0 g.at.1 (slice_index c.arcs.last (length c.args.last.now - 1
-          - slice_index c.args.later.now c.arcs.mirrored-index)) v) (sym w.meeting-is) w.find-meeting.ensures.lowest)
+          c.requires.1.0 w.if-before-n.false (subst (λ v. IsLowest g.at.0 g.at.1 (slice_index c.arcs.last (slice_index c.args.later.now c.arcs.i-index)) v) (sym w.meeting-is) w.find-meeting.ensures.lowest)
     ] in
     record {
       links = elim c.if-before-n.branch [
@@ -126,7 +141,7 @@ arcs-preserved g c =
         | else-before-n w ↦ subst (Links g.at.0 g.at.1) (sym w.link-is) w.find-meeting.ensures.links
       ];
       met = after.1;
-      sum = (let m = sum-more g.at.0 c.requires.0 g.at.1 c.args.j c.args.later.now c.requires.1.1.0 q.0 q.1.0 c.arcs.mirrored-index
+      sum = (let m = sum-more g.at.0 c.requires.0 g.at.1 c.args.j c.args.later.now c.requires.1.1.0 q.0 q.1.0 c.arcs.i-index
           c.arcs-test.true
           c.arcs.last c.arcs.plus c.arcs.minus met c.if-before-n.meeting c.args.rank.now c.requires.1.0 in
           let sum = c.arcs.invariant.sum in omega (arith, m, sum));
@@ -135,5 +150,5 @@ arcs-preserved g c =
 pub returns-clause-met : goal.returns-clause-met
 returns-clause-met g c =
     let q = c.requires.1.1.1 in
-    taken-all g.at.0 c.requires.0 g.at.1 c.args.j c.args.later.now c.requires.1.1.0 q.0 q.1.0 c.arcs.mirrored-index c.arcs-test.false _ _ _
+    taken-all g.at.0 c.requires.0 g.at.1 c.args.j c.args.later.now c.requires.1.1.0 q.0 q.1.0 c.arcs.i-index c.arcs-test.false _ _ _
     c.arcs.invariant.met

@@ -8,6 +8,6 @@ ghost-find g a = g.at
 abbrev pub invariant-arcs : goal.invariant-arcs
 invariant-arcs g l = record {
   links : Links g.at.0 g.at.1 l.link;
-  met : Met g.at.0 (TakenSome g.at.0 g.at.1 l.j l.later l.mirrored-index) l.last l.plus l.minus;
-  sum : sum_to l.plus (length g.at.0.up + 1) ≡ sum_to l.initial.plus (length g.at.0.up + 1) + l.mirrored-index;
+  met : Met g.at.0 (TakenSome g.at.0 g.at.1 l.j l.later l.i-index) l.last l.plus l.minus;
+  sum : sum_to l.plus (length g.at.0.up + 1) ≡ sum_to l.initial.plus (length g.at.0.up + 1) + l.i-index;
 }

@@ -1,7 +1,7 @@
 -- The needs of the columns so far.
 use Rattle.std.proofs.Common.{arith, sym, subst}
 use Rattle.amd_symbolic.specs.Needs.{IsNeed}
-use Rattle.amd_symbolic.proofs.Sizes.{all-columns, need-next, need-none, sizes-ascend}
+use Rattle.amd_symbolic.proofs.ColumnSizes.{all-columns, need-next, need-none, sizes-ascend}
 use Rattle.amd_symbolic.proofs.needs.need_of.Goals as goal
 
 pub columns-init : goal.columns-init

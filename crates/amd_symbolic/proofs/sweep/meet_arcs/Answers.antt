@@ -1,6 +1,6 @@
-use Rattle.std.proofs.Common.{◌≡◌, ◌+◌, ◌-◌, ◌∙◌, sym, subst, length, arith, set, ap, refl}
-use Rattle.std.specs.Prelude.{slice_index, slice_range, replicate}
-use Rattle.amd_symbolic.specs.Meetings.{AreLater, Links, Met, Taken}
+use Rattle.std.proofs.Common.{◌≡◌, ◌+◌, ◌∙◌, sym, subst, length, arith, set, ap, refl}
+use Rattle.std.specs.Prelude.{slice_index, replicate}
+use Rattle.amd_symbolic.specs.Meetings.{Links, Met, Taken}
 use Rattle.amd_symbolic.proofs.Linking.{linked, unlinked}
 use Rattle.amd_symbolic.proofs.Onto.{rank-inside}
 use Rattle.amd_symbolic.proofs.Rounds.{list-long, met-none, remaining-first, remaining-next, zeros-sum}
@@ -40,13 +40,12 @@ take_arcs-requires g c =
           (
             refl,
             (
-              subst (λ v. AreLater g.s j (slice_range c.args.later.now (slice_index c.args.starts.now (length v - 1 - j))
-                  (slice_index c.args.starts.now (length v - j)))) (sym ups) (has.each j o.0),
+              has.each j (let low = o.0 in let places = c.requires.0.places in omega (arith, low, places)),
               (
                 subst (λ v. Links g.s v c.ranks.link) (sym o.1) i.links,
                 (
                   subst (λ v. Met g.s (Taken g.s v) c.ranks.last c.ranks.plus c.ranks.minus) (sym o.1) i.met,
-                  (let a = list-long g.s c.requires.0 c.args.starts.now c.args.later.now has j o.0 c.args.up.now ups in
+                  (let a = list-long g.s c.requires.0 c.args.starts.now c.args.later.now has j o.0 in
                       let b = remaining-next g.s c.requires.0 c.args.starts.now c.args.later.now has c.ranks.t j o.0 o.1 in
                       let d = i.room in omega (arith, a, b, d)),
                 ),
@@ -67,7 +66,7 @@ ranks-preserved g c =
       links = subst (λ v. Links g.s (c.ranks.t + 1) (set c.take_arcs.new.link j (slice_index v j))) (sym ups)
           (linked g.s c.requires.0 c.ranks.t c.take_arcs.new.link (subst (λ v. Links g.s v c.take_arcs.new.link) o.1 e.links) j o.0 o.1);
       met = subst (λ v. Met g.s (Taken g.s (v + 1)) c.take_arcs.new.last c.take_arcs.new.plus c.take_arcs.new.minus) o.1 e.met;
-      room = (let a = list-long g.s c.requires.0 c.args.starts.now c.args.later.now has j o.0 c.args.up.now ups in
+      room = (let a = list-long g.s c.requires.0 c.args.starts.now c.args.later.now has j o.0 in
           let b = remaining-next g.s c.requires.0 c.args.starts.now c.args.later.now has c.ranks.t j o.0 o.1 in
           let d = i.room in let sum = e.sum in omega (arith, a, b, d, sum));
     }

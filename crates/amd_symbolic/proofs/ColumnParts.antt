@@ -1,0 +1,101 @@
+-- What the parts of `columns` owe each other, said of the graph of a column form and the rows of an order.
+use Rattle.std.proofs.Common.{ℕ, ℤ, pos, negsuc, ◌≡◌, ◌≢◌, ◌<◌, ◌^◌, List, [], ◌∷◌, Option, length, refl, sym, ap, subst, ◌∙◌, arith}
+use Rattle.std.specs.Prelude.{true, false, ◌==◌}
+use Rattle.std.specs.Int.{FitsUnsignedBits}
+use Rattle.std.proofs.lemmas.Bool.{ne_eqb}
+use Rattle.std.proofs.lemmas.List.{length-map}
+use Rattle.amd_model.specs.Graph.{IsGraph}
+use Rattle.amd_model.specs.Input.Columns.{IsColumnForm, IsInput}
+use Rattle.amd_model.specs.Input.Pattern.{graph_of}
+use Rattle.amd_model.proofs.Patterns.DegreeSums.{pattern_graph}
+use Rattle.amd_symbolic.specs.Columns.{HoldFactor, PassesRoom}
+use Rattle.amd_symbolic.specs.Neighbours.{HasEarlier}
+use Rattle.amd_symbolic.specs.Orders.{Order, Permutes}
+use Rattle.amd_symbolic.specs.Neighbours.{HasLater}
+use Rattle.amd_types.specs.Counts.{counts}
+use Rattle.amd_types.specs.Statuses.{IsStatusOf}
+use Rattle.amd_types.specs.declared.amd.Status.{Status}
+use Rattle.amd_types.specs.declared.amd.Status.TheVariants.{OK, Invalid, OkButJumbled, OutOfMemory}
+use Rattle.amd_symbolic.specs.Factors.{IsFactorOf, IsFault}
+use Rattle.amd_symbolic.specs.declared.factor.Fault.TheVariants.{RoomTooSmall}
+
+module _ (n : ℕ) (ap' ai p : List ℤ) (o : Order) (graph : o.graph ≡ graph_of n ap' ai) (rows : o.rows ≡ counts p) where
+  pub laws : IsGraph o.graph
+  laws = subst IsGraph (sym graph) (pattern_graph n ap' ai)
+
+  pub earlier_of : (starts earlier : List ℕ) → HasEarlier (record { graph = graph_of n ap' ai; rows = counts p }) starts earlier →
+      HasEarlier o starts earlier
+  earlier_of starts earlier h =
+      subst (λ g. HasEarlier (record { graph = g; rows = o.rows }) starts earlier) (sym graph)
+      (subst (λ r. HasEarlier (record { graph = graph_of n ap' ai; rows = r }) starts earlier) (sym rows) h)
+
+  pub later_of : (starts later : List ℕ) → HasLater (record { graph = graph_of n ap' ai; rows = counts p }) starts later →
+      HasLater o starts later
+  later_of starts later h =
+      subst (λ g. HasLater (record { graph = g; rows = o.rows }) starts later) (sym graph)
+      (subst (λ r. HasLater (record { graph = graph_of n ap' ai; rows = r }) starts later) (sym rows) h)
+
+  pub factor_of : IsColumnForm (pos n) n ap' ai → Permutes n p (counts p) → (ptr entries : List ℕ) (parent : List (Option ℕ)) →
+      HoldFactor o.graph o.rows ptr entries parent →
+      IsFactorOf (pos n) ap' ai p ptr entries parent
+  factor_of form permutes ptr entries parent h = record {
+    form = λ _. form;
+    order = counts p;
+    permutes = permutes;
+    holds = subst (λ g. HoldFactor g (counts p) ptr entries parent) graph (subst (λ r. HoldFactor o.graph r ptr entries parent) rows h);
+  }
+
+  pub too_many : IsColumnForm (pos n) n ap' ai → Permutes n p (counts p) → (room : ℕ) → PassesRoom o.graph o.rows room →
+      IsFault (pos n) ap' ai p room RoomTooSmall
+  too_many form permutes room h =
+      ((λ _. form), counts p, permutes, subst (λ g. PassesRoom g (counts p) room) graph (subst (λ r. PassesRoom o.graph r room) rows h))
+
+-- a matrix without rows has the factor without columns
+pub no_rows : (ap' ai p : List ℤ) (ptr entries : List ℕ) (parent : List (Option ℕ)) → p ≡ [] → ptr ≡ 0 ∷ [] → entries ≡ [] →
+    parent ≡ [] → IsFactorOf (pos 0) ap' ai p ptr entries parent
+no_rows ap' ai p ptr entries parent none pointers no_entries no_parents = record {
+  form = λ some. absurd (some refl);
+  order = [];
+  permutes = record { listed = none; each = record { places = refl; all = λ v l. absurd (omega arith) } };
+  holds = record {
+    columns = [];
+    factor = record { places = refl; each = λ k d l. absurd (omega arith) };
+    holds = record {
+      pointers = rw pointers refl;
+      first = rw pointers refl;
+      ends = λ k d l. absurd (omega arith);
+      total = rw (pointers, no_entries) refl;
+      each = λ k d l. absurd (omega arith);
+      parents = no_parents;
+    };
+  };
+}
+
+-- an order of no rows is empty
+pub empty_order : (p : List ℤ) (order : List ℕ) → Permutes 0 p order → length p ≡ 0
+empty_order p order h = ap length h.listed ∙ length-map order pos ∙ h.each.places
+
+-- a status of an input tells its form, unless it is invalid
+pub form_by : (z : ℤ) (ap' ai : List ℤ) (status : Status) → IsStatusOf z z ap' ai status → status ≢ Invalid → IsInput z z ap' ai
+form_by z ap' ai OK h ok = h.0
+form_by z ap' ai Invalid h ok = absurd (ok refl)
+form_by z ap' ai OkButJumbled h ok = h.0
+form_by z ap' ai OutOfMemory h ok = absurd h
+
+-- a number that is no count is not 0, and has no column form
+pub no_count : (z : ℤ) (ap' ai : List ℤ) → (FitsUnsignedBits 64 z → ⊥) → length ap' < 2 ^ 64 → (z ≢ pos 0) × (IsInput z z ap' ai → ⊥)
+no_count (pos n) ap' ai h short = (
+  (λ e. h (let zero : n ≡ 0 = cc in omega (arith, zero))),
+  (λ form. h (let enough = form.enough in omega (arith, enough, short))),
+)
+no_count (negsuc n) ap' ai h short = ((λ e. cc), (λ form. form))
+
+-- whether a list is empty, by its length
+pub no_items : (xs : List ℤ) → true ≡ (length xs == 0) → xs ≡ []
+no_items [] e = refl
+no_items (x ∷ xs) e = let some : length (x ∷ xs) ≢ 0 = (λ none. omega (arith, none)) in let clash : true ≡ false =
+    e ∙ ne_eqb (length (x ∷ xs)) 0 some in absurd (cc)
+
+pub some_items : (xs : List ℤ) → false ≡ (length xs == 0) → length xs ≢ 0
+some_items [] e = absurd (cc)
+some_items (x ∷ xs) e = λ none. absurd (omega (arith, none))

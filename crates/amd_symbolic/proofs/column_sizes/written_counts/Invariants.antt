@@ -1,4 +1,0 @@
-use Rattle.amd_symbolic.proofs.column_sizes.written_counts.Given as goal
-
-abbrev pub ghost-count_by_meetings : goal.ghost-count_by_meetings
-ghost-count_by_meetings g a = g.o

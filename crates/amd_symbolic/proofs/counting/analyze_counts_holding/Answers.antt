@@ -1,0 +1,38 @@
+use Rattle.std.proofs.Common.{ℤ, List, Some, ◌≡◌, map, rules}
+use Rattle.std.specs.Prelude.{IfErr}
+use Rattle.amd.specs.Answers.{IsOrderingHolding}
+use Rattle.amd_symbolic.specs.declared.factor.Fault.TheVariants.{OutOfMemory}
+use Rattle.amd_symbolic.specs.Factors.{IsFaultHolding}
+use Rattle.amd_symbolic.proofs.Faults.{memory_of}
+use Rattle.amd_symbolic.proofs.Reserved.{fault_for, input_of}
+use Rattle.amd_symbolic.proofs.counting.analyze_counts_holding.Goals as goal
+
+pub returns-in-Err-clause-fault : goal.returns-in-Err-clause-fault
+returns-in-Err-clause-fault g c =
+    let z : ℤ = g.I.Number.value c.args.n in
+    let a_p : List ℤ = map g.I.Number.value c.args.a_p.now in
+    let a_i : List ℤ = map g.I.Number.value c.args.a_i.now in
+    fault_for (Some c.args.hold.now) z a_p a_i c.in-Err.refusal c.fault_of.result c.in-Err.ensures.refusal c.fault_of.ensures.form c.fault_of.ensures.memory
+
+pub ordered_counts-requires-clause-ordering : goal.ordered_counts-requires-clause-ordering
+ordered_counts-requires-clause-ordering g c =
+    let z : ℤ = g.I.Number.value c.args.n in
+    let a_p : List ℤ = map g.I.Number.value c.args.a_p.now in
+    let a_i : List ℤ = map g.I.Number.value c.args.a_i.now in
+    let o : IsOrderingHolding (Some c.args.hold.now) z c.args.control.now.dense c.args.control.now.aggressive a_p a_i
+    (map g.I.Number.value c.deref.result.now) (map g.I.Number.value c.in-Ok.answer.1.items) c.in-Ok.answer.2 =
+    rw c.deref.ensures.value c.in-Ok.ensures.ordering in
+    ((Some c.args.hold.now), c.args.control.now.dense, c.args.control.now.aggressive, map g.I.Number.value c.in-Ok.answer.1.items, o)
+
+pub returns-in_err-counted-clause-fault : goal.returns-in_err-counted-clause-fault
+returns-in_err-counted-clause-fault g c =
+    let z : ℤ = g.I.Number.value c.args.n in
+    let a_p : List ℤ = map g.I.Number.value c.args.a_p.now in
+    let a_i : List ℤ = map g.I.Number.value c.args.a_i.now in
+    let memory : IfErr c.from_residual.result (λ e. e ≡ OutOfMemory) = search rules in
+    memory_of c.from_residual.result (IsFaultHolding (Some c.args.hold.now) z a_p a_i) memory
+    (λ some. input_of (Some c.args.hold.now) z _ _ _ _ _ _ _ c.in-Ok.ensures.ordering some)
+
+pub returns-clause-counts : goal.returns-clause-counts
+returns-clause-counts g c =
+    rw c.deref.ensures.value at c.in_ok-counted.ensures.counts

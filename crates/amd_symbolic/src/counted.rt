@@ -1,0 +1,130 @@
+// What is counted of the columns of a factor: the number of entries of each, the parents, and the figures of the AMD
+// user guide, summed over the columns. Source: Liu 1986 and 1990; AMD user guide (the figures of `Info`). Called by
+// `counting`.
+
+ghost use Rattle.std.specs.Prelude.{◌≡◌, ◌+◌, ◌*◌, ◌/◌, [], length, map, max, List, ℕ, IfOk};
+ghost use Rattle.amd_model.specs.Graph.{IsGraph};
+ghost use Rattle.amd_symbolic.specs.Neighbours.{HasEarlier, HasLater};
+ghost use Rattle.amd_symbolic.specs.Orders.{Order};
+ghost use Rattle.amd_symbolic.specs.Counted.{IsCutNeed, TellCounts, wide_cut};
+
+use crate::needs::Need;
+use crate::sizes::count_by_meetings;
+use std::alloc::{AllocError, Allocator};
+
+/// How many entries the columns of a factor have below its diagonal, and what the factor needs.
+///
+/// A place is that of a row in the order, from 0 on. In the fields, `n` is the number of columns.
+#[derive(Drop)]
+pub struct Counts<A: Allocator> {
+    /// The number of entries of each of the `n` columns.
+    pub sizes: Vec<usize, A>,
+    /// The parent of each of the `n` columns in the elimination tree: the place of its first entry, or `None` where it
+    /// has none.
+    pub parent: Vec<Option<usize>, A>,
+    /// What the factor needs: exact sums over its columns, each cut at `u128::MAX`.
+    pub need: Need,
+}
+
+/// What a factor with one column more needs.
+fn with_size(need: Need, size: usize) -> Need
+    ensures lnz { result.lnz ≡ wide_cut (need.lnz + size) }
+    ensures ldl { result.n_mult_subs_ldl ≡ wide_cut (need.n_mult_subs_ldl + size * (size + 1) / 2) }
+    ensures lu { result.n_mult_subs_lu ≡ wide_cut (need.n_mult_subs_lu + size * size) }
+    ensures greatest { result.d_max ≡ max need.d_max (size + 1) }
+{
+    let size = size as u128;
+    Need {
+        lnz: need.lnz.saturating_add(size),
+        n_mult_subs_ldl: need.n_mult_subs_ldl.saturating_add(size * (size + 1) / 2),
+        n_mult_subs_lu: need.n_mult_subs_lu.saturating_add(size * size),
+        d_max: need.d_max.max(size + 1),
+    }
+}
+
+/// What a factor needs, by how many entries each of its columns has. Each sum is cut at `u128::MAX`; none reaches that
+/// where there are fewer than `2^42` columns.
+///
+/// Source: AMD user guide (the figures of `Info`).
+pub fn need_of_sizes(sizes: &[usize]) -> Need
+    ensures { (columns : List (List ℕ)) → sizes.now ≡ map length columns → IsCutNeed columns result }
+{
+    let mut need = Need {
+        lnz: 0,
+        n_mult_subs_ldl: 0,
+        n_mult_subs_lu: 0,
+        d_max: 0,
+    };
+    'columns: for &size in sizes {
+        need = with_size(need, size);
+    }
+    need
+}
+
+/// The counts of a matrix without rows.
+pub fn empty_counts<A: Allocator + Copy>(alloc: A) -> Counts<A>
+    ensures sizes { result.sizes.items ≡ [] }
+    ensures parents { result.parent.items ≡ [] }
+    ensures needs { IsCutNeed [] result.need }
+{
+    let sizes = Vec::new(alloc);
+    let need = need_of_sizes(&sizes);
+    Counts {
+        sizes,
+        parent: Vec::new(alloc),
+        need,
+    }
+}
+
+/// Takes all memory, and counts by the lists of earlier and of later neighbours.
+///
+/// # Errors
+///
+/// A refused request for memory.
+pub fn written_counts<A: Allocator + Copy>(
+    alloc: A,
+    starts: &[usize],
+    earlier: &[usize],
+    later_starts: &[usize],
+    later: &[usize],
+) -> Result<Counts<A>, AllocError>
+    ghost o: { Order }
+    requires laws { IsGraph o.graph }
+    requires earlier { HasEarlier o starts.now earlier.now }
+    requires later { HasLater o later_starts.now later.now }
+    ensures { IfOk result (λ c. TellCounts o.graph o.rows c.sizes.items c.parent.items c.need) }
+{
+    let columns = starts.len() - 1;
+    let mut sizes = vec![in alloc; 0; columns]?;
+    let mut parent = vec![in alloc; None; columns]?;
+    let mut order = vec![in alloc; 0; columns]?;
+    let mut up = vec![in alloc; 0; columns]?;
+    let mut last = vec![in alloc; 0; columns]?;
+    let mut subtree = vec![in alloc; 0; starts.len()]?;
+    let mut link = vec![in alloc; 0; starts.len()]?;
+    let mut rank = vec![in alloc; 0; starts.len()]?;
+    let mut plus = vec![in alloc; 0; starts.len()]?;
+    let mut minus = vec![in alloc; 0; starts.len()]?;
+    count_by_meetings(
+        starts,
+        earlier,
+        later_starts,
+        later,
+        &mut parent,
+        &mut sizes,
+        &mut order,
+        &mut up,
+        &mut last,
+        &mut subtree,
+        &mut link,
+        &mut rank,
+        &mut plus,
+        &mut minus,
+    );
+    let need = need_of_sizes(&sizes);
+    Ok(Counts {
+        sizes,
+        parent,
+        need,
+    })
+}
