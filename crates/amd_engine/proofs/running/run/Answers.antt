@@ -1,17 +1,52 @@
-use Rattle.std.proofs.Common.{length, refl, sym, subst, ◌∙◌}
+use Rattle.std.proofs.Common.{ℕ, ℤ, Bool, List, ◌≡◌, ◌<◌, ◌≤◌, ◌+◌, length, refl, reverse, sym, subst, ◌∙◌}
 use Rattle.std.specs.Option.{option_copied}
 use Rattle.amd_words.specs.Sides.{nexts, lasts}
+use Rattle.amd_words.specs.Words.{num}
+use Rattle.amd_lists.specs.Chains.{DegreeLists}
+use Rattle.amd_model.specs.Below.{count_below}
 use Rattle.amd_model.specs.Input.Held.{is_held_last}
 use Rattle.amd_model.specs.Quotient.{start_quotient}
 use Rattle.amd_model.proofs.States.RunsExist.{first_state}
 use Rattle.amd_types.specs.declared.figures.Figures.{Figures}
 use Rattle.amd_rounds.specs.Workspaces.{Workspace, workspace_of}
 use Rattle.amd_rounds.specs.Keeps.{AreRounds}
-use Rattle.amd_workspace.specs.Starting.{Rows, held_in}
-use Rattle.amd_engine.specs.InPlace.{starting_workspace}
+use Rattle.amd_workspace.specs.Starting.{Rows, held_in, begins_class, classes_of}
+use Rattle.amd_engine.specs.InPlace.{first_sums, starting_workspace}
 use Rattle.amd_engine.proofs.InPlaceLaw.{IsFresh, degrees_small, stands_first, ends_rounds}
 use Rattle.amd_engine.proofs.EndingLaw.{is_over}
 use Rattle.amd_engine.proofs.running.run.Goals as goal
+
+-- the rows that the lists of a workspace hold
+abbrev rows_in : List ℤ → List ℤ → List ℤ → List ℕ → List ℕ → List ℕ → Rows
+rows_in pe e_len nv len degree w = record {
+  pe = pe;
+  e_len = e_len;
+  nv = nv;
+  len = len;
+  degree = degree;
+  w = w;
+}
+
+-- what its other lists say
+fresh_at_start : {n : ℕ} {held : ℕ → Bool} {degrees : List ℕ} (v : Workspace) →
+    (length v.head ≡ n) × (length v.next ≡ n) × (length v.last ≡ n) × (length v.hash ≡ n) →
+    DegreeLists n v.head v.next v.last v.degree (λ b. reverse (classes_of held degrees n b)) →
+    ((b : ℕ) → b < n → n ≤ num v.hash b) → v.live ≡ count_below n (begins_class held degrees) → v.n_dense ≡ count_below n held →
+    v.figures ≡ first_sums v.n_dense → v.least ≡ 0 → v.most ≡ 0 → v.n_cmp_a ≡ 0 → 2 ≤ v.flag → v.free + n ≤ length v.iw →
+    IsFresh n held degrees v
+fresh_at_start v sized linked empty live dense sums least most packs two room = record {
+  sized = sized;
+  linked = linked;
+  empty = empty;
+  live = live;
+  dense = dense;
+  sums = sums;
+  least = least;
+  most = most;
+  packs = packs;
+  two = two;
+  room = room;
+}
 
 pub begin-live-requires-clause-degrees : goal.begin-live-requires-clause-degrees
 begin-live-requires-clause-degrees g c = let w = c.requires.graph in degrees_small w.0 w.1 c.args.iw.now c.args.pe.now c.args.len.now w.2
@@ -19,29 +54,13 @@ begin-live-requires-clause-degrees g c = let w = c.requires.graph in degrees_sma
 pub eliminate-requires-clause-stands : goal.eliminate-requires-clause-stands
 eliminate-requires-clause-stands g c =
     let a = c.args in let r = c.requires in let b = c.begin-live in let e = b.ensures in let w = r.graph in
-    let p : Rows = record {
-      pe = a.pe.now;
-      e_len = a.e_len.now;
-      nv = a.nv.now;
-      len = a.len.now;
-      degree = a.degree.now;
-      w = a.w.now;
-    } in
+    let p : Rows = rows_in a.pe.now a.e_len.now a.nv.now a.len.now a.degree.now a.w.now in
     let v : Workspace = starting_workspace a.iw.now b.new.pe b.new.e_len b.new.nv b.new.len b.new.degree b.new.w b.new.head
     (nexts b.new.sides) (lasts b.new.sides) a.hash.now a.free b.result.0 a.flag b.result.1 in
-    let fresh : IsFresh (length a.len.now) (held_in (option_copied a.hold) a.threshold a.len.now) a.len.now v = record {
-      sized = (e.lengths.0, e.lengths.1, e.lengths.2, r.empty.links.3);
-      linked = e.linked;
-      empty = λ k l. (r.empty.heads k l).1;
-      live = e.live;
-      dense = e.dense;
-      sums = refl;
-      least = refl;
-      most = refl;
-      packs = refl;
-      two = r.flag;
-      room = r.room;
-    } in rw c.first_figures.ensures (
+    let fresh : IsFresh (length a.len.now) (held_in (option_copied a.hold) a.threshold a.len.now) a.len.now v =
+    fresh_at_start v (e.lengths.0, e.lengths.1, e.lengths.2, r.empty.links.3) e.linked (λ k l. (r.empty.heads k l).1) e.live e.dense
+    refl refl refl refl r.flag r.room in
+    rw c.first_figures.ensures (
       w.0,
       is_held_last (option_copied a.hold) w.0 a.threshold,
       a.free,
@@ -53,29 +72,12 @@ eliminate-requires-clause-stands g c =
 pub returns-clause-runs : goal.returns-clause-runs
 returns-clause-runs g c = λ gr lists lays.
     let a = c.args in let r = c.requires in let b = c.begin-live in let e = b.ensures in
-    let p : Rows = record {
-      pe = a.pe.now;
-      e_len = a.e_len.now;
-      nv = a.nv.now;
-      len = a.len.now;
-      degree = a.degree.now;
-      w = a.w.now;
-    } in
+    let p : Rows = rows_in a.pe.now a.e_len.now a.nv.now a.len.now a.degree.now a.w.now in
     let v : Workspace = starting_workspace a.iw.now b.new.pe b.new.e_len b.new.nv b.new.len b.new.degree b.new.w b.new.head
     (nexts b.new.sides) (lasts b.new.sides) a.hash.now a.free b.result.0 a.flag b.result.1 in
-    let fresh : IsFresh (length a.len.now) (held_in (option_copied a.hold) a.threshold a.len.now) a.len.now v = record {
-      sized = (e.lengths.0, e.lengths.1, e.lengths.2, r.empty.links.3);
-      linked = e.linked;
-      empty = λ k l. (r.empty.heads k l).1;
-      live = e.live;
-      dense = e.dense;
-      sums = refl;
-      least = refl;
-      most = refl;
-      packs = refl;
-      two = r.flag;
-      room = r.room;
-    } in
+    let fresh : IsFresh (length a.len.now) (held_in (option_copied a.hold) a.threshold a.len.now) a.len.now v =
+    fresh_at_start v (e.lengths.0, e.lengths.1, e.lengths.2, r.empty.links.3) e.linked (λ k l. (r.empty.heads k l).1) e.live e.dense
+    refl refl refl refl r.flag r.room in
     let el = c.eliminate.ensures in
     let before : Figures → Workspace = λ f. record v { figures = f } in
     ends_rounds (option_copied a.hold) a.threshold p v e.begins fresh r.laid gr lists lays a.control.now.aggressive c.pe-2-1.given.0
