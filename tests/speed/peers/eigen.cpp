@@ -1,5 +1,5 @@
-/* Eigen's ordering by A + A' (`AMDOrdering`, which forms that pattern too). It takes rows without a diagonal entry for dense ones, so each
-   column gets one here. */
+/* Eigen's ordering by A + A' (`AMDOrdering`, which forms that pattern too). It takes rows without a diagonal entry for
+   dense ones, so each column gets one here. */
 #include "peer.h"
 #include <Eigen/OrderingMethods>
 #include <Eigen/SparseCore>

@@ -1,7 +1,8 @@
-/* What the drivers of the other programs share: the matrix of a file of matrices.py, and the line that is printed. A driver is called as
+/* What the drivers of the other programs share: the matrix of a file of matrices.py, and the line that is printed. A
+   driver is called as
      DRIVER MATRIX i32|i64 CALLS
-   and defines `order`, which orders a matrix once, into `p`, in numbers of the type that it is given, and tells how many nanoseconds the
-   ordering alone took. */
+   and defines `order`, which orders a matrix once, into `p`, in numbers of the type that it is given, and tells how
+   many nanoseconds the ordering alone took. */
 #ifndef PEER_H
 #define PEER_H
 #include <stdint.h>
@@ -50,8 +51,8 @@ static int by_size(const void *a, const void *b) {
     return x < y ? -1 : x > y;
 }
 
-/* Times the orderings of the matrix that the words name, and prints the line; `hash_word` says what the hash of the permutation is called:
-   `phash` where it has to be that of this library. */
+/* Times the orderings of the matrix that the words name, and prints the line; `hash_word` says what the hash of the
+   permutation is called: `phash` where it has to be that of this library. */
 static int time_orderings(const char *name, const char *hash_word, int count, char **words,
                           uint64_t (*order)(const struct matrix *, const char *, int64_t *)) {
     if (count != 4 || (strcmp(words[2], "i32") && strcmp(words[2], "i64")) || atoi(words[3]) < 1) {
@@ -66,8 +67,9 @@ static int time_orderings(const char *name, const char *hash_word, int count, ch
     for (int64_t k = 0; k < m.n; k++) hash = (hash ^ (uint64_t)p[k]) * 1099511628211u;
     qsort(times, calls, 8, by_size);
     const char *file = strrchr(words[1], '/');
-    printf("%s %s %s n=%lld %s=%016llx min_ns=%llu med_ns=%llu\n", name, words[2], file ? file + 1 : words[1], (long long)m.n, hash_word,
-           (unsigned long long)hash, (unsigned long long)times[0], (unsigned long long)times[calls / 2]);
+    printf("%s %s %s n=%lld %s=%016llx ", name, words[2], file ? file + 1 : words[1], (long long)m.n, hash_word,
+           (unsigned long long)hash);
+    printf("min_ns=%llu med_ns=%llu\n", (unsigned long long)times[0], (unsigned long long)times[calls / 2]);
     return 0;
 }
 #endif
