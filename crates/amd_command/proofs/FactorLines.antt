@@ -5,13 +5,13 @@ use Rattle.std.specs.Io.KnownBytes.{Appends}
 use Rattle.amd_texts.proofs.Padding.{labelled-from_format}
 use Rattle.amd_texts.proofs.Written.{Appends-then}
 use Rattle.amd_symbolic.specs.Laws.{column_size}
-use Rattle.amd_command.specs.Analyses.{beside_line, column_line, column_lines, parent_number}
+use Rattle.amd_command.specs.Analyses.{bound_line, column_line, column_lines, row_at_parent}
 
 -- the line of a figure and its bound, as the format writes it
 pub beside-from_format : (label shown : List ℕ) (exact bound : ℕ) (old new : Option (List ℕ)) →
     shown ≡ label ++ replicate (52 - length label) 32
     → Appends old new (codes "    " ++ (shown ++ (decimal exact ++ (codes ", at most " ++ (decimal bound ++ codes "\n")))))
-    → Appends old new (beside_line label exact bound)
+    → Appends old new (bound_line label exact bound)
 beside-from_format label shown exact bound old new same h =
     let text : List ℕ = decimal exact ++ codes ", at most " ++ decimal bound in
     let line : text ++ codes "\n" ≡ decimal exact ++ (codes ", at most " ++ (decimal bound ++ codes "\n")) =
@@ -28,7 +28,7 @@ six-texts a b c d e f =
 
 -- a writer that took the lines of the first k columns, and then the next one
 pub columns-next : (p ptr : List ℕ) (parent : List (Option ℕ)) (k row above size : ℕ) (a b c : Option (List ℕ)) →
-    row ≡ slice_index p k + 1 → above ≡ parent_number p (slice_index_or parent k None) → size ≡ column_size ptr k
+    row ≡ slice_index p k + 1 → above ≡ row_at_parent p (slice_index_or parent k None) → size ≡ column_size ptr k
     → Appends a b (column_lines p ptr parent k)
     → Appends b c (decimal row ++ (codes " " ++ (decimal above ++ (codes " " ++ (decimal size ++ codes "\n")))))
     → Appends a c (column_lines p ptr parent (k + 1))

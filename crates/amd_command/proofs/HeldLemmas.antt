@@ -20,12 +20,12 @@ pub record HeldSoFar {R Z : Type 0} (remaining : R → Option (List ℕ)) (old n
   pub spells : SpellsRows n (telling lines) rows
   pub marked : AreMarks n rows marks
 
-rows-more : (n : ℕ) (ls : List (List ℕ)) (rs : List ℕ) (l : List ℕ) (r : ℕ) → SpellsRows n ls rs → SpellsRow n l r →
+pub spells-more : (n : ℕ) (ls : List (List ℕ)) (rs : List ℕ) (l : List ℕ) (r : ℕ) → SpellsRows n ls rs → SpellsRow n l r →
     SpellsRows n (ls ++ l ∷ []) (rs ++ r ∷ [])
-rows-more n [] [] l r h one = (one, tt)
-rows-more n [] (s ∷ rs) l r h one = absurd h
-rows-more n (k ∷ ls) [] l r h one = absurd h
-rows-more n (k ∷ ls) (s ∷ rs) l r h one = (h.0, rows-more n ls rs l r h.1 one)
+spells-more n [] [] l r h one = (one, tt)
+spells-more n [] (s ∷ rs) l r h one = absurd h
+spells-more n (k ∷ ls) [] l r h one = absurd h
+spells-more n (k ∷ ls) (s ∷ rs) l r h one = (h.0, spells-more n ls rs l r h.1 one)
 
 none-held : (n v : ℕ) → slice_index_or (replicate n false) v false ≡ true → Contains {X = ℕ} [] v
 none-held n v h = at (cases_lt v n)
@@ -91,7 +91,7 @@ held-next remaining a b c n marks line row h t one = record {
   rows = h.rows ++ row ∷ [];
   spells = subst (λ ls. SpellsRows n ls (h.rows ++ row ∷ []))
       (sym (telling-both h.lines t.lines (telling h.lines) (line ∷ []) refl t.tells))
-      (rows-more n (telling h.lines) h.rows line row h.spells one);
+      (spells-more n (telling h.lines) h.rows line row h.spells one);
   marked = record {
     size = length-set marks row true ∙ h.marked.size;
     each = λ v. one-marked h.rows marks row v (let l = one.index.0 in let s = h.marked.size in omega (arith, l, s)) (h.marked.each v);

@@ -1,3 +1,7 @@
 pub mod HeldLemmas
-pub mod RowLines
+pub mod Pieces
+pub mod Members
+pub mod Placing
+pub mod Items
+pub mod ListedRows
 pub mod FactorLines

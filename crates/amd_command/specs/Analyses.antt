@@ -8,14 +8,14 @@ use Rattle.amd_symbolic.specs.declared.needs.Need.{Need}
 use Rattle.amd_command.specs.Texts.{matrix_figures}
 
 -- the number of the row of a parent under the rows p, from 1 on; 0 where there is none
-abbrev pub parent_number : List ℕ → Option ℕ → ℕ
-parent_number p None = 0
-parent_number p (Some j) = slice_index p j + 1
+abbrev pub row_at_parent : List ℕ → Option ℕ → ℕ
+row_at_parent p None = 0
+row_at_parent p (Some j) = slice_index p j + 1
 
 -- the line of column k: its row, the row of its parent, and the number of its entries
 abbrev pub column_line : List ℕ → List ℕ → List (Option ℕ) → ℕ → List ℕ
 column_line p ptr parent k =
-    decimal (slice_index p k + 1) ++ codes " " ++ decimal (parent_number p (slice_index_or parent k None))
+    decimal (slice_index p k + 1) ++ codes " " ++ decimal (row_at_parent p (slice_index_or parent k None))
     ++ codes " " ++ decimal (column_size ptr k) ++ codes "\n"
 
 -- the lines of the first k columns
@@ -24,17 +24,17 @@ column_lines p ptr parent zero = []
 column_lines p ptr parent (suc k) = column_lines p ptr parent k ++ column_line p ptr parent k
 
 -- a line of what a factor needs, and of the bound
-abbrev pub beside_line : List ℕ → ℕ → ℕ → List ℕ
-beside_line label exact bound = labelled label (decimal exact ++ codes ", at most " ++ decimal bound)
+abbrev pub bound_line : List ℕ → ℕ → ℕ → List ℕ
+bound_line label exact bound = labelled label (decimal exact ++ codes ", at most " ++ decimal bound)
 
 -- the lines on the factor
 abbrev pub need_figures : Need → Info → List ℕ
 need_figures need i =
-    beside_line (codes "entries of L below the diagonal") need.lnz i.lnz
-    ++ beside_line (codes "divisions") need.lnz i.n_div
-    ++ beside_line (codes "multiply-subtracts for LDL'") need.n_mult_subs_ldl i.n_mult_subs_ldl
-    ++ beside_line (codes "multiply-subtracts for LU") need.n_mult_subs_lu i.n_mult_subs_lu
-    ++ beside_line (codes "largest column, with its diagonal") need.d_max i.d_max
+    bound_line (codes "entries of L below the diagonal") need.lnz i.lnz
+    ++ bound_line (codes "divisions") need.lnz i.n_div
+    ++ bound_line (codes "multiply-subtracts for LDL'") need.n_mult_subs_ldl i.n_mult_subs_ldl
+    ++ bound_line (codes "multiply-subtracts for LU") need.n_mult_subs_lu i.n_mult_subs_lu
+    ++ bound_line (codes "largest column, with its diagonal") need.d_max i.d_max
 
 -- the table of what an ordering tells, with what the factor needs beside each bound
 abbrev pub comparison_text : Need → Info → List ℕ

@@ -5,7 +5,8 @@ use Rattle.amd_market.specs.declared.faults.Fault.TheVariants as fault
 use Rattle.amd_market.specs.declared.faults.ReadError.{ReadError}
 use Rattle.amd_market.specs.declared.faults.ReadError.TheVariants.{Line, Input}
 use Rattle.amd_command.specs.declared.causes.Cause.{Cause}
-use Rattle.amd_command.specs.declared.causes.Cause.TheVariants.{Dense, Open, Twice, Text, Form, Memory, Write, Picture}
+use Rattle.amd_command.specs.declared.causes.Cause.TheVariants.{Dense, Open, Twice, Text, Form, Order}
+use Rattle.amd_command.specs.declared.causes.Cause.TheVariants.{Memory, Write, Picture}
 
 -- the exit status after a fault of a line: 1 where memory was refused, else 2
 abbrev pub fault_status : Fault → ℕ
@@ -45,6 +46,7 @@ exit_status (Open e) = 2
 exit_status Twice = 2
 exit_status (Text e) = read_status e
 exit_status Form = 2
+exit_status Order = 2
 exit_status Memory = 1
 exit_status (Write e) = 1
 exit_status (Picture e) = 3

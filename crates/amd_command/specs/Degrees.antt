@@ -1,5 +1,5 @@
 -- What is told of a matrix.
-use Rattle.std.specs.Prelude.{◌≡◌, ◌+◌, ℕ, ℤ, List, max, fold, count_by, length, nat_lt}
+use Rattle.std.specs.Prelude.{◌≡◌, ◌+◌, ◌*◌, ◌/◌, ℕ, ℤ, List, max, fold, count_by, length, nat_lt}
 use Rattle.amd_model.specs.Input.Dense.{IsThreshold}
 use Rattle.amd_input.specs.Degrees.{AreDegrees}
 use Rattle.amd_input.specs.PatternFigures.{HasPatternFigures}
@@ -19,3 +19,7 @@ pub record IsFacts (n : ℕ) (t : ℤ) (ap ai : List ℤ) (f : Facts) : Type 0 w
   pub degrees : List ℕ
   pub are_degrees : AreDegrees n ap ai f.degrees.sum degrees
   pub told : AreDegreeFigures f.threshold degrees f.degrees
+
+-- the mean degree in hundredths, cut to a whole number; 0 where there are no rows
+abbrev pub mean_degree : Facts → ℕ
+mean_degree f = f.degrees.sum * 100 / max f.info.n 1

@@ -3,4 +3,11 @@ pub mod Causes
 pub mod Texts
 pub mod Held
 pub mod Degrees
+pub mod Descriptions
+pub mod Json
+pub mod FactorJson
+pub mod Comparisons
+pub mod Permuted
+pub mod Pictures
+pub mod Watched
 pub mod Analyses

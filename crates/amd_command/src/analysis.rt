@@ -11,7 +11,7 @@ ghost use Rattle.amd.specs.Answers.{IsOrderingHolding};
 ghost use Rattle.amd_symbolic.specs.Factors.{IsFactorOf, IsFaultHolding};
 ghost use Rattle.amd_symbolic.specs.Laws.{column_size};
 ghost use Rattle.amd_symbolic.specs.Needs.{IsNeed, TellSizes};
-ghost use Rattle.amd_command.specs.Analyses.{beside_line, comparison_text, column_lines, need_figures, parent_number};
+ghost use Rattle.amd_command.specs.Analyses.{bound_line, comparison_text, column_lines, need_figures, row_at_parent};
 
 use crate::figures::write_matrix_figures;
 use amd::{Control, Info};
@@ -92,8 +92,8 @@ fn number_at(p: &[usize], place: usize) -> u128
 }
 
 /// The number of the row of a parent, from 1 on; 0 where there is none.
-fn parent_number(p: &[usize], parent: Option<usize>) -> u128
-    ensures { result ≡ parent_number p.now parent }
+fn row_at_parent(p: &[usize], parent: Option<usize>) -> u128
+    ensures { result ≡ row_at_parent p.now parent }
 {
     match parent {
         Some(place) => number_at(p, place),
@@ -135,7 +135,7 @@ pub fn write_columns<W: Write, A: Allocator>(
     'columns: for k in 0..p.len() {
         let row = number_at(p, k);
         let parent = parent_at(&factor.parent, k);
-        let above = parent_number(p, parent);
+        let above = row_at_parent(p, parent);
         let size = size_at(&factor.ptr, k);
         writeln!(out, "{row} {above} {size}")?;
     }
@@ -145,7 +145,7 @@ pub fn write_columns<W: Write, A: Allocator>(
 /// Writes a line with what a factor needs, and the bound. The label is of ASCII characters.
 fn write_beside<W: Write>(label: &str, exact: u128, bound: usize, out: &mut W) -> io::Result<()>
     requires { IsTrue (list_all is_ascii label.now) }
-    ensures { OnOk result (Appends (W.contents out.old) (W.contents out.new) (beside_line label.now exact bound)) }
+    ensures { OnOk result (Appends (W.contents out.old) (W.contents out.new) (bound_line label.now exact bound)) }
 {
     writeln!(out, "    {label:<52}{exact}, at most {bound}")?;
     Ok(())

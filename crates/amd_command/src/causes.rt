@@ -28,6 +28,9 @@ pub enum Cause {
     /// The pattern is no column form.
     #[error("no column form")]
     Form,
+    /// A list of rows is no order of them.
+    #[error("no order of the rows: each of them must stand there once")]
+    Order,
     /// Memory was refused.
     #[error("out of memory")]
     Memory,
@@ -46,7 +49,7 @@ impl Cause {
         ensures { result ≡ exit_status self.now }
     {
         match self {
-            Cause::Dense | Cause::Open(_) | Cause::Twice | Cause::Form => 2,
+            Cause::Dense | Cause::Open(_) | Cause::Twice | Cause::Form | Cause::Order => 2,
             Cause::Text(ReadError::Line { fault, .. }) => {
                 if matches!(fault, Fault::OutOfMemory) {
                     1
@@ -77,7 +80,7 @@ impl Cause {
                 Cause::Picture(error)
             }
             Cause::Memory => Cause::Picture(io::Error::from(io::ErrorKind::OutOfMemory)),
-            Cause::Dense | Cause::Twice | Cause::Text(_) | Cause::Form => {
+            Cause::Dense | Cause::Twice | Cause::Text(_) | Cause::Form | Cause::Order => {
                 Cause::Picture(io::Error::from(io::ErrorKind::InvalidInput))
             }
         }

@@ -1,19 +1,17 @@
-// What a matrix is: its figures, the degrees of its rows, and how its columns stand in the file. Called by `program`.
+// What a matrix is: its figures, the degrees of its rows, and how its columns stand in the file. Called by `program`,
+// by `description` and by `json`.
 
 ghost use Rattle.std.specs.Prelude.{◌≡◌, ◌-◌, ℕ, List, pos, map, max, fold, count_by, nat_lt, length, IfOk};
 ghost use Rattle.amd_model.specs.Input.Columns.{IsInput, IsSortedInput};
-ghost use Rattle.amd_command.specs.Degrees.{IsFacts};
+ghost use Rattle.amd_command.specs.Degrees.{IsFacts, mean_degree};
 
 use amd::aat::aat;
 use amd::preprocess::preprocess;
 use amd::valid::valid;
 use amd::{Control, Info, Status};
 use amd_market::reader::Matrix;
-use amd_texts::write_labelled;
 use amd_types::dense::dense_threshold;
 use std::alloc::Allocator;
-use std::io::Write;
-use std::{fmt, io};
 
 /// The degrees of the rows of a matrix: how many other rows each has an edge with.
 #[derive(Clone, Copy)]
@@ -37,18 +35,6 @@ pub struct Facts {
     pub threshold: usize,
     /// The degrees of the rows.
     pub degrees: Degrees,
-}
-
-/// A number of hundredths, which is shown as a decimal fraction.
-#[derive(Drop)]
-struct Hundredths(u128);
-
-impl fmt::Display for Hundredths {
-    fn fmt<W: fmt::Write>(&self, f: &mut fmt::Formatter<W>) -> fmt::Result {
-        let whole = self.0 / 100;
-        let rest = self.0 % 100;
-        write!(f, "{whole}.{rest:02}")
-    }
 }
 
 /// The greatest one of some numbers; 0 where there are none.
@@ -131,46 +117,9 @@ pub fn facts_of<A: Allocator + Copy>(
     }
 }
 
-/// The word for a yes or a no.
-fn answer_word(holds: bool) -> &'static str {
-    if holds { "yes" } else { "no" }
-}
-
-/// Writes the lines on the pattern.
-fn write_pattern<W: Write>(info: &Info, out: &mut W) -> io::Result<()> {
-    let sorted = answer_word(info.status == Status::OK);
-    write_labelled("rows", &info.n, out)?;
-    write_labelled("entries, repeats dropped", &info.nz, out)?;
-    write_labelled("symmetric pattern", &answer_word(info.symmetry), out)?;
-    write_labelled("entries on the diagonal", &info.nz_diag, out)?;
-    write_labelled("edges", &(info.nz_a_plus_at / 2), out)?;
-    write_labelled("columns sorted, no repeats", &sorted, out)?;
-    Ok(())
-}
-
-/// The mean degree, cut to two places; 0 where there are no rows.
-fn mean_of(facts: &Facts) -> Hundredths {
-    let rows = facts.info.n.max(1) as u128;
-    Hundredths(facts.degrees.sum as u128 * 100 / rows)
-}
-
-/// Writes the lines on the degrees.
-fn write_degrees<W: Write>(facts: &Facts, out: &mut W) -> io::Result<()> {
-    write_labelled("greatest degree", &facts.degrees.greatest, out)?;
-    write_labelled("mean degree", &mean_of(facts), out)?;
-    write_labelled("rows of degree 0", &facts.degrees.none, out)?;
-    write_labelled("dense threshold", &facts.threshold, out)?;
-    write_labelled("rows above the threshold", &facts.degrees.above, out)?;
-    Ok(())
-}
-
-/// Writes what a matrix is, a label and a value a line.
-///
-/// # Errors
-///
-/// The writer's, of the first write that fails. What was written before stays written.
-pub fn write_facts<W: Write>(facts: &Facts, out: &mut W) -> io::Result<()> {
-    write_pattern(&facts.info, out)?;
-    write_degrees(facts, out)?;
-    Ok(())
+/// The mean degree in hundredths, cut to a whole number; 0 where there are no rows.
+pub fn mean_degree(facts: &Facts) -> u128
+    ensures { result ≡ mean_degree facts.now }
+{
+    facts.degrees.sum as u128 * 100 / facts.info.n.max(1) as u128
 }

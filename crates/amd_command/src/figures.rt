@@ -1,8 +1,8 @@
-// The table of what an ordering tells, a label and a value a line. Called by `program` and by `analysis`.
+// The table of what an ordering tells, a label and a value a line. Called by `program`, by `analysis` and by `json`.
 
 ghost use Rattle.std.specs.Prelude.{◌≡◌, OnOk};
 ghost use Rattle.std.specs.Io.KnownBytes.{Appends};
-ghost use Rattle.amd_command.specs.Texts.{status_word, matrix_figures, factor_figures, figures_text};
+ghost use Rattle.amd_command.specs.Texts.{status_phrase, matrix_figures, factor_figures, figures_text};
 
 use amd::{Info, Status};
 use amd_texts::write_labelled;
@@ -10,8 +10,8 @@ use std::io;
 use std::io::Write;
 
 /// What a status says of the columns of the file.
-fn status_word(status: &Status) -> &'static str
-    ensures { result.now ≡ status_word status.now }
+pub fn status_phrase(status: &Status) -> &'static str
+    ensures { result.now ≡ status_phrase status.now }
 {
     match status {
         Status::OK => "OK",
@@ -29,7 +29,7 @@ fn status_word(status: &Status) -> &'static str
 pub fn write_matrix_figures<W: Write>(info: &Info, out: &mut W) -> io::Result<()>
     ensures { OnOk result (Appends (W.contents out.old) (W.contents out.new) (matrix_figures info.now)) }
 {
-    let status = status_word(&info.status);
+    let status = status_phrase(&info.status);
     write_labelled("rows", &info.n, out)?;
     write_labelled("entries", &info.nz, out)?;
     write_labelled("status", &status, out)?;
@@ -54,7 +54,11 @@ fn write_factor_figures<W: Write>(info: &Info, out: &mut W) -> io::Result<()>
         &info.n_mult_subs_lu,
         out,
     )?;
-    write_labelled("greatest front, at most", &info.d_max, out)?;
+    write_labelled(
+        "largest column, with its diagonal, at most",
+        &info.d_max,
+        out,
+    )?;
     Ok(())
 }
 

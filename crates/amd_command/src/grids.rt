@@ -54,11 +54,6 @@ impl<A: Allocator> Grid<A> {
         self.mark(column, row);
     }
 
-    /// The marks of a cell.
-    fn count(&self, cell: usize) -> u64 {
-        self.counts.get(cell).copied().unwrap_or(0)
-    }
-
     /// How full so many marks make a cell: 0 for none, and else from 1 up to `LEVELS`, by the logarithm of their
     /// number.
     fn level(&self, marks: u64) -> u8 {
@@ -79,19 +74,6 @@ impl<A: Allocator> Grid<A> {
         let mut levels = Vec::with_capacity(alloc, self.counts.len())?;
         'cells: for &marks in &self.counts {
             levels.push(self.level(marks))?;
-        }
-        Ok(levels)
-    }
-
-    /// How full each cell is with marks beyond those of another square.
-    pub fn levels_beyond<B: Allocator>(
-        &self,
-        alloc: B,
-        other: &Grid<A>,
-    ) -> Result<Vec<u8, B>, AllocError> {
-        let mut levels = Vec::with_capacity(alloc, self.counts.len())?;
-        'cells: for (cell, &marks) in self.counts.iter().enumerate() {
-            levels.push(self.level(marks.saturating_sub(other.count(cell))))?;
         }
         Ok(levels)
     }

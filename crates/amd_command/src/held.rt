@@ -1,6 +1,6 @@
 // The rows that a caller wants last, from a text with the number of one row a line. Rows count from 1; lines without a
 // word, and lines whose first word begins with `%`, are passed over. A row may stand there more than once. Called by
-// `program`.
+// `program`; `compare` reads its lines in the same way.
 
 ghost use Rattle.std.specs.Prelude.{◌≡◌, ℕ, length, IfOk, IfErr, IfSome, MatchOption};
 ghost use Rattle.amd_market.specs.Files.{NamesLine};
@@ -14,7 +14,7 @@ use std::alloc::Allocator;
 use std::io::Read;
 
 /// The row of `n`, from 0 on, whose number stands alone in a line.
-fn row_of(line: &[u8], n: usize) -> Option<usize>
+pub fn row_of(line: &[u8], n: usize) -> Option<usize>
     ensures { MatchOption result ((i : ℕ) → SpellsRow n line.now i → ⊥) (SpellsRow n line.now) }
 {
     let (word, rest) = first_word(line)?;
@@ -25,7 +25,7 @@ fn row_of(line: &[u8], n: usize) -> Option<usize>
 }
 
 /// What is wrong with a line that is no row of `n`.
-fn held_fault(line: &[u8], n: usize) -> Fault {
+pub fn held_fault(line: &[u8], n: usize) -> Fault {
     match first_word(line) {
         Some((word, rest)) if first_word(rest).is_none() => row_fault(word, n),
         _ => Fault::Held,

@@ -1,20 +1,22 @@
-// A picture of a matrix before and after its ordering, side by side, as SVG: the entries of the pattern of A + A' with
-// the diagonal, and in another colour the fill, which are the entries of the factor that are no entries of that
-// pattern. Called by `program`. The factor that is drawn is that of `amd_symbolic::columns`, exact by its contract;
-// what is drawn of it is tested alone.
+// A picture of a matrix before and after its ordering, side by side, as SVG. Before stands the pattern of the file, or
+// that of A + A'; after, that of A + A' in the new order, the diagonal where the file has it, and in another colour the
+// fill: the entries of the factor that are no edges. Called by `program`. The entries of a row of the factor are met by
+// climbing the elimination tree from its earlier neighbours, so that no factor is held, and each falls into a cell of a
+// square of counts. Source: Liu 1986. What is drawn is tested alone.
 
-ghost use Rattle.std.specs.Prelude.{pos, map, IfOk};
+ghost use Rattle.std.specs.Prelude.{◌-◌, pos, map, OnOk};
+ghost use Rattle.std.specs.Io.KnownBytes.{Appends};
 ghost use Rattle.amd_model.specs.Input.Columns.{IsInput};
-ghost use Rattle.amd_symbolic.specs.Factors.{IsFactorOf};
+ghost use Rattle.amd_command.specs.Pictures.{run_path};
 
 use crate::causes::Cause;
 use crate::grids::{Grid, LEVELS, SIDE};
 use amd::Status;
 use amd::valid::valid;
+use amd_market::reader::Matrix;
+use amd_symbolic::counts;
 use amd_symbolic::neighbours::{Lists, earlier_lists};
 use amd_symbolic::places::places;
-use amd_market::reader::Matrix;
-use amd_symbolic::{Factor, columns};
 use std::alloc::{AllocError, Allocator};
 use std::io;
 use std::io::Write;
@@ -30,79 +32,152 @@ const FILL_COLOUR: &str = "#e07b39";
 pub struct Picture<A: Allocator> {
     /// The entries at the places of the file.
     before: Grid<A>,
-    /// The entries at the places of the ordering.
+    /// The edges at the places of the ordering, and the entries of the diagonal.
     after: Grid<A>,
-    /// The entries of the factor and their mirrors.
-    factor: Grid<A>,
+    /// The entries of the factor that are no edges, and their mirrors.
+    fill: Grid<A>,
     /// The number of edges.
     edges: u64,
-    /// The number of entries of the factor below the diagonal.
-    entries: u64,
+    /// The number of entries of the factor that are no edges.
+    fill_entries: u64,
 }
 
-/// Marks the diagonal.
-fn mark_diagonal<A: Allocator>(n: usize, picture: &mut Picture<A>) {
-    'rows: for k in 0..n {
-        picture.before.mark(k, k);
-        picture.after.mark(k, k);
-        picture.factor.mark(k, k);
+/// What the walk over the rows of the factor needs.
+#[derive(Drop)]
+struct Walk<'a, A: Allocator> {
+    /// The order of the rows.
+    p: &'a [usize],
+    /// The parents in the elimination tree.
+    parents: &'a [Option<usize>],
+    /// For each place one more than the last row that had an edge with it.
+    edge: Vec<usize, A>,
+    /// For each place one more than the last row whose climb passed it.
+    passed: Vec<usize, A>,
+}
+
+/// Marks an entry of the file.
+fn mark_entry<A: Allocator>(
+    row: usize,
+    column: usize,
+    place: usize,
+    symmetric: bool,
+    picture: &mut Picture<A>,
+) {
+    if row == column {
+        picture.before.mark(row, row);
+        picture.after.mark(place, place);
+    } else if !symmetric {
+        picture.before.mark(row, column);
     }
 }
 
-/// Marks the edges of the row at place `j` with earlier ones, each once. `last` holds for each place one more than the
-/// last place that it was met from.
-fn mark_row<A: Allocator>(
+/// Marks the entries of the rows of a column, which stands at a place.
+fn mark_column<A: Allocator>(
+    rows: &[usize],
+    column: usize,
+    place: usize,
+    symmetric: bool,
+    picture: &mut Picture<A>,
+) {
+    'rows: for &row in rows {
+        mark_entry(row, column, place, symmetric, picture);
+    }
+}
+
+/// Marks the entries of the file: but for the diagonal, none where the pattern of A + A' is drawn.
+fn mark_entries<A: Allocator>(
+    matrix: &Matrix<A>,
+    places: &[usize],
+    symmetric: bool,
+    picture: &mut Picture<A>,
+) {
+    'columns: for column in 0..matrix.n {
+        let begin = matrix.a_p.get(column).copied().unwrap_or(0);
+        let next = matrix.a_p.get(column.saturating_add(1)).copied();
+        let place = places.get(column).copied().unwrap_or(0);
+        if let Some(rows) = matrix.a_i.get(begin..next.unwrap_or(begin)) {
+            mark_column(rows, column, place, symmetric, picture);
+        }
+    }
+}
+
+/// Marks the edges of the row at place `j` with earlier ones, each once.
+fn mark_edges<A: Allocator>(
     j: usize,
     earlier: &[usize],
-    p: &[usize],
-    last: &mut [usize],
+    symmetric: bool,
+    walk: &mut Walk<'_, A>,
     picture: &mut Picture<A>,
 ) {
     let stamp = j.saturating_add(1);
     'earlier: for &k in earlier {
-        let (Some(seen), Some(row), Some(column)) = (last.get_mut(k), p.get(j), p.get(k)) else {
+        let (Some(seen), Some(row), Some(column)) = (
+            walk.edge.get_mut(k),
+            walk.p.get(j),
+            walk.p.get(k),
+        ) else {
             continue;
         };
         if *seen != stamp {
             *seen = stamp;
-            picture.after.mark_both(j, k);
-            picture.before.mark_both(*row, *column);
             picture.edges = picture.edges.saturating_add(1);
+            picture.after.mark_both(j, k);
+            if symmetric {
+                picture.before.mark_both(*row, *column);
+            }
         }
     }
 }
 
-/// Marks the edges, row by row. `last` is for the work alone: as many zeros as there are rows.
-fn mark_rows<A: Allocator>(
-    lists: &Lists<A>,
-    p: &[usize],
-    last: &mut [usize],
+/// Marks the fill of row `j` at the places from `from` on up the elimination tree, as far as no climb of this row has
+/// passed.
+fn climb<A: Allocator>(j: usize, from: usize, walk: &mut Walk<'_, A>, picture: &mut Picture<A>) {
+    let stamp = j.saturating_add(1);
+    let mut place = from;
+    'climb: for _ in 0..j {
+        let Some(seen) = walk.passed.get_mut(place) else {
+            break 'climb;
+        };
+        if *seen == stamp || place >= j {
+            break 'climb;
+        }
+        *seen = stamp;
+        if walk.edge.get(place).copied() != Some(stamp) {
+            picture.fill.mark_both(j, place);
+            picture.fill_entries = picture.fill_entries.saturating_add(1);
+        }
+        let Some(Some(parent)) = walk.parents.get(place).copied() else {
+            break 'climb;
+        };
+        place = parent;
+    }
+}
+
+/// Marks the fill of row `j`.
+fn mark_fill<A: Allocator>(
+    j: usize,
+    earlier: &[usize],
+    walk: &mut Walk<'_, A>,
     picture: &mut Picture<A>,
 ) {
-    'rows: for j in 0..p.len() {
+    'earlier: for &k in earlier {
+        climb(j, k, walk, picture);
+    }
+}
+
+/// Marks the edges and the fill, row by row.
+fn mark_rows<A: Allocator>(
+    lists: &Lists<A>,
+    symmetric: bool,
+    walk: &mut Walk<'_, A>,
+    picture: &mut Picture<A>,
+) {
+    'rows: for j in 0..walk.p.len() {
         let begin = lists.starts.get(j).copied().unwrap_or(0);
         let end = lists.starts.get(j.saturating_add(1)).copied().unwrap_or(0);
         if let Some(earlier) = lists.neighbours.get(begin..end) {
-            mark_row(j, earlier, p, last, picture);
-        }
-    }
-}
-
-/// Marks the entries of column `k` of the factor.
-fn mark_column<A: Allocator>(k: usize, rows: &[usize], picture: &mut Picture<A>) {
-    'entries: for &j in rows {
-        picture.factor.mark_both(j, k);
-        picture.entries = picture.entries.saturating_add(1);
-    }
-}
-
-/// Marks the entries of a factor with `n` columns.
-fn mark_factor<A: Allocator>(n: usize, factor: &Factor<A>, picture: &mut Picture<A>) {
-    'columns: for k in 0..n {
-        let begin = factor.ptr.get(k).copied().unwrap_or(0);
-        let end = factor.ptr.get(k.saturating_add(1)).copied().unwrap_or(0);
-        if let Some(rows) = factor.rows.get(begin..end) {
-            mark_column(k, rows, picture);
+            mark_edges(j, earlier, symmetric, walk, picture);
+            mark_fill(j, earlier, walk, picture);
         }
     }
 }
@@ -112,56 +187,41 @@ fn empty_picture<A: Allocator + Copy>(alloc: A, n: usize) -> Result<Picture<A>, 
     Ok(Picture {
         before: Grid::new(alloc, n)?,
         after: Grid::new(alloc, n)?,
-        factor: Grid::new(alloc, n)?,
+        fill: Grid::new(alloc, n)?,
         edges: 0,
-        entries: 0,
+        fill_entries: 0,
     })
 }
 
-/// The lists of the earlier neighbours of each place, of a matrix that is a column form.
-fn form_lists<A: Allocator + Copy>(
+/// Marks a matrix that is a column form.
+fn form_picture<A: Allocator + Copy>(
     alloc: A,
     matrix: &Matrix<A>,
     p: &[usize],
-) -> Result<Lists<A>, Cause>
+    symmetric: bool,
+) -> Result<Picture<A>, Cause>
     requires { IsInput (pos matrix.now.n) (pos matrix.now.n) (map pos matrix.now.a_p.items)
         (map pos matrix.now.a_i.items) }
 {
-    let Some(places) = places(alloc, matrix.n, p)? else {
+    let n = matrix.n;
+    let Some(places) = places(alloc, n, p)? else {
         return Err(Cause::Form);
     };
-    Ok(earlier_lists(alloc, matrix.n, &matrix.a_p, &matrix.a_i, &places)?)
+    let lists = earlier_lists(alloc, n, &matrix.a_p, &matrix.a_i, &places)?;
+    let counted = counts(alloc, n, &matrix.a_p, &matrix.a_i, p)?;
+    let mut walk = Walk {
+        p,
+        parents: &counted.parent,
+        edge: vec![in alloc; 0; n]?,
+        passed: vec![in alloc; 0; n]?,
+    };
+    let mut picture = empty_picture(alloc, n)?;
+    mark_entries(matrix, &places, symmetric, &mut picture);
+    mark_rows(&lists, symmetric, &mut walk, &mut picture);
+    Ok(picture)
 }
 
-/// The lists of the earlier neighbours of each place.
-fn lists_of<A: Allocator + Copy>(
-    alloc: A,
-    matrix: &Matrix<A>,
-    p: &[usize],
-) -> Result<Lists<A>, Cause> {
-    match valid(matrix.n, matrix.n, &matrix.a_p, &matrix.a_i) {
-        Status::OK => form_lists(alloc, matrix, p),
-        Status::OkButJumbled => form_lists(alloc, matrix, p),
-        _ => Err(Cause::Form),
-    }
-}
-
-/// The factor of a matrix under an order of its rows: what is drawn as fill is taken from this.
-fn factor_of<A: Allocator + Copy>(
-    alloc: A,
-    matrix: &Matrix<A>,
-    p: &[usize],
-    room: usize,
-) -> Result<Factor<A>, Cause>
-    ensures { IfOk result (λ f. IsFactorOf (pos matrix.now.n) (map pos matrix.now.a_p.items)
-        (map pos matrix.now.a_i.items) (map pos p.now) f.ptr.items f.rows.items f.parent.items) }
-{
-    let factor = columns(alloc, matrix.n, &matrix.a_p, &matrix.a_i, p, room)?;
-    Ok(factor)
-}
-
-/// The marks of a matrix and an order of its rows: row `p[k]` stands at place `k`, and the factor has at most `room`
-/// entries.
+/// The marks of a matrix and an order of its rows: row `p[k]` stands at place `k`.
 ///
 /// # Errors
 ///
@@ -170,24 +230,22 @@ fn picture_of<A: Allocator + Copy>(
     alloc: A,
     matrix: &Matrix<A>,
     p: &[usize],
-    room: usize,
+    symmetric: bool,
 ) -> Result<Picture<A>, Cause> {
-    let n = matrix.n;
-    let mut picture = empty_picture(alloc, n)?;
-    let factor = factor_of(alloc, matrix, p, room)?;
-    mark_factor(n, &factor, &mut picture);
-    drop(factor);
-    let lists = lists_of(alloc, matrix, p)?;
-    let mut last = vec![in alloc; 0; n]?;
-    mark_diagonal(n, &mut picture);
-    mark_rows(&lists, p, &mut last, &mut picture);
-    Ok(picture)
+    match valid(matrix.n, matrix.n, &matrix.a_p, &matrix.a_i) {
+        Status::OK => form_picture(alloc, matrix, p, symmetric),
+        Status::OkButJumbled => form_picture(alloc, matrix, p, symmetric),
+        _ => Err(Cause::Form),
+    }
 }
 
-/// Writes a rectangle of one line of cells.
-fn write_run<W: Write>(line: usize, from: usize, to: usize, out: &mut W) -> io::Result<()> {
+/// Writes a rectangle of one line of cells, from a cell up to another one.
+fn write_run<W: Write>(line: usize, from: usize, to: usize, out: &mut W) -> io::Result<()>
+    ensures { OnOk result (Appends (W.contents out.old) (W.contents out.new) (run_path line from (to - from))) }
+{
     let width = to.saturating_sub(from);
-    write!(out, "M{from} {line}h{width}v1h-{width}z")
+    write!(out, "M{from} {line}h{width}v1h-{width}z")?;
+    Ok(())
 }
 
 /// Writes the rectangles of the cells of a line that have this level.
@@ -269,20 +327,19 @@ fn write_head<W: Write>(out: &mut W) -> io::Result<()> {
     writeln!(out, "<rect width=\"860\" height=\"472\" fill=\"#ffffff\"/>")
 }
 
-/// Writes both panels, from the levels of their cells: of the entries before and after, and of the fill, which is
-/// beyond the entries after.
+/// Writes both panels, from the levels of their cells: of the entries before and after, and of the fill.
 fn write_panels<W: Write>(
     side: usize,
     before: &[u8],
     after: &[u8],
-    beyond: &[u8],
+    fill: &[u8],
     out: &mut W,
 ) -> io::Result<()> {
     begin_panel(20, side, "before", out)?;
     write_cells(side, before, ENTRY_COLOUR, out)?;
     writeln!(out, "</svg>")?;
     begin_panel(440, side, "after", out)?;
-    write_cells(side, beyond, FILL_COLOUR, out)?;
+    write_cells(side, fill, FILL_COLOUR, out)?;
     write_cells(side, after, ENTRY_COLOUR, out)?;
     writeln!(out, "</svg>")
 }
@@ -304,29 +361,28 @@ fn write_foot<W: Write>(n: usize, edges: u64, fill: u64, out: &mut W) -> io::Res
     writeln!(out, "</svg>")
 }
 
-/// Draws a matrix at the places of the file and, beside it, at those of an order of its rows: row `p[k]` stands at
-/// place `k`. The fill is that of the exact factor under this order, for which memory is asked for `room` entries.
+/// Draws a matrix at the places of the file, or `A + A'` where it is `symmetric`, and, beside it, at those of an order
+/// of its rows: row `p[k]` stands at place `k`. The fill is that of the exact factor under this order.
 ///
 /// # Errors
 ///
-/// `Form` where the matrix is no column form, `p` is no permutation of its rows, or the factor has more than `room`
-/// entries; `Memory` where memory was refused; and `Write` where the writer failed. Before a fault of the first two
-/// kinds nothing is written, but where memory was refused to the writer.
+/// `Form` where the matrix is no column form, or `p` is no permutation of its rows; `Memory` where memory was refused;
+/// and `Write` where the writer failed. Before a fault of the first two kinds nothing is written, but where memory was
+/// refused to the writer.
 pub fn write_picture<W: Write, A: Allocator + Copy>(
     alloc: A,
     matrix: &Matrix<A>,
     p: &[usize],
-    room: usize,
+    symmetric: bool,
     out: &mut W,
 ) -> Result<(), Cause> {
-    let picture = picture_of(alloc, matrix, p, room)?;
+    let picture = picture_of(alloc, matrix, p, symmetric)?;
     let side = picture.before.side();
     let before = picture.before.levels(alloc)?;
     let after = picture.after.levels(alloc)?;
-    let beyond = picture.factor.levels_beyond(alloc, &picture.after)?;
-    let fill = picture.entries.saturating_sub(picture.edges);
+    let fill = picture.fill.levels(alloc)?;
     write_head(out)?;
-    write_panels(side, &before, &after, &beyond, out)?;
-    write_foot(matrix.n, picture.edges, fill, out)?;
+    write_panels(side, &before, &after, &fill, out)?;
+    write_foot(matrix.n, picture.edges, picture.fill_entries, out)?;
     Ok(())
 }

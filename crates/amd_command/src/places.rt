@@ -1,6 +1,6 @@
-// The files that outputs go to. An output is written beside its place first and takes the place once it is whole, so that
-// nothing half written stands there; and it is no file that the run reads or writes besides. Called by `program`. Files
-// are tested alone: no contract can speak of them.
+// The files that outputs go to. An output is written beside its place first and takes the place once it is whole, so
+// that nothing half written stands there; and it is no file that the run reads or writes besides. Called by `program`.
+// Files are tested alone: no contract can speak of them.
 
 use crate::causes::Cause;
 use std::fs;

@@ -1,151 +1,77 @@
 // Runs what the words of a command line ask for: opens the files, and writes what comes of them. Called by the program
 // `rimopaku`. What the functions that it calls read and write is told by their contracts; files and messages are tested
-// alone. Each text is made in memory first, so that nothing is left half written where memory is refused. The picture
-// comes last, since it may want more memory than all before it: where it fails, all else is written.
+// alone. Each text is made in memory first, so that nothing is left half written where memory is refused. The pictures
+// come last, since they may want more memory than all before them: where one fails, all else is written.
 
-use crate::analysis::{analyze_matrix, write_columns, write_comparison};
+use crate::answers::{
+    Ordered, Texts, analysis_json, analysis_texts, facts_text, order_task, order_texts, two_needs,
+};
 use crate::causes::Cause;
-use crate::facts::{facts_of, write_facts};
-use crate::figures::write_figures;
-use crate::held::read_held;
+use crate::compare::{Comparison, need_under};
+use crate::inputs::{Complaint, Task, about, control_of, read_file, read_order, read_task};
 use crate::ordering::order_matrix;
 use crate::picture::write_picture;
-use crate::places::{name_one_file, put_file};
+use crate::places::put_file;
 use crate::progress::Progress;
 use crate::request::{Options, Request, request_of};
-use crate::rows::write_rows;
+use crate::tree_picture::write_tree_picture;
 use amd::{Control, Info};
-use amd_market::reader::{Matrix, read_matrix};
+use amd_market::reader::Matrix;
+use amd_symbolic::needs::Need;
+use amd_symbolic::{Fault, counts};
 use clap::Error;
 use clap::error::ErrorKind;
 use std::alloc::Global;
-use std::fs::OpenFile;
+use std::io;
 use std::io::Write;
 use std::rt::Runtime;
-use std::{fs, io};
-use thiserror::Error;
-
-/// A file of so many bytes takes some seconds to read.
-const LONG_FILE: u64 = 1 << 26;
-
-/// A matrix with so many entries takes some seconds to order.
-const MANY_ENTRIES: usize = 1 << 20;
 
 /// A factor with so many entries takes some seconds to draw.
 const LARGE_FACTOR: usize = 1 << 26;
-
-/// What is ordered, and how.
-#[derive(Drop)]
-struct Task {
-    progress: Progress,
-    control: Control,
-    matrix: Matrix<Global>,
-    /// The rows to hold last, where there is a file of them.
-    hold: Option<Vec<bool>>,
-}
-
-/// What an ordering, or an analysis, writes beside the picture.
-#[derive(Drop)]
-struct Texts {
-    /// The permutation, or the columns of the factor.
-    lines: Vec<u8>,
-    /// The figures.
-    figures: String,
-}
-
-/// Why a run ended early, and with which file or word.
-#[derive(Debug, Drop, Error)]
-#[error("rimopaku: {subject}: {cause}")]
-struct Complaint<'a> {
-    subject: &'a str,
-    cause: Cause,
-}
 
 /// The name for messages of what was written to.
 fn output_name<'a>(path: Option<&'a str>) -> &'a str {
     path.unwrap_or("standard output")
 }
 
-/// Says which file or word a result is about.
-fn about<'a, T: Drop>(subject: &'a str, outcome: Result<T, Cause>) -> Result<T, Complaint<'a>> {
-    match outcome {
-        Ok(value) => Ok(value),
-        Err(cause) => Err(Complaint { subject, cause }),
+/// What the factor needs under the order of a file.
+fn other_need<R: Runtime + AllocGlobal>(
+    rt: &R,
+    progress: &Progress,
+    matrix: &Matrix<Global>,
+    path: &str,
+) -> Result<Need, Cause> {
+    let rows = read_order(rt, progress, matrix.n, path)?;
+    match need_under(rt.alloc(), matrix, &rows) {
+        Ok(need) => Ok(need),
+        Err(Fault::NotPermutation) => Err(Cause::Order),
+        Err(fault) => Err(Cause::from(fault)),
     }
 }
 
-/// Opens a file to read, and says so where it is long.
-fn open_file<R: Runtime + AllocGlobal>(
+/// What the factor needs under each order, where that is asked for.
+fn compare_orders<'a, R: Runtime + AllocGlobal>(
     rt: &R,
     progress: &Progress,
-    path: &str,
-) -> Result<R::File, Cause> {
-    let file = fs::open(rt, path).map_err(Cause::Open)?;
-    let size = file.metadata().map_err(Cause::Open)?.len();
-    let megabytes = size >> 20;
-    let stage = format_args!("rimopaku: reading {path}, {megabytes} MiB");
-    progress.tell(rt, size >= LONG_FILE, stage);
-    Ok(file)
-}
-
-/// Reads the matrix of a file, or of standard input for `-`.
-fn read_file<R: Runtime + AllocGlobal>(
-    rt: &R,
-    progress: &Progress,
-    path: &str,
-) -> Result<Matrix<Global>, Cause> {
-    if path == "-" {
-        return read_matrix(rt.alloc(), rt.reader()).map_err(Cause::Text);
+    options: &Options<'a>,
+    matrix: &Matrix<Global>,
+    p: &[usize],
+    info: &Info,
+) -> Result<Option<Comparison>, Complaint<'a>> {
+    if !options.compare {
+        return Ok(None);
     }
-    let input = open_file(rt, progress, path)?;
-    read_matrix(rt.alloc(), input).map_err(Cause::Text)
-}
-
-/// Reads the rows to hold last, where there is a file of them.
-fn read_marks<R: Runtime + AllocGlobal>(
-    rt: &R,
-    progress: &Progress,
-    n: usize,
-    path: &str,
-) -> Result<Vec<bool>, Cause> {
-    let input = open_file(rt, progress, path)?;
-    read_held(rt.alloc(), n, input).map_err(Cause::Text)
-}
-
-/// Says that a matrix is ordered, where it is large.
-fn tell_ordering<R: Runtime>(rt: &R, progress: &Progress, matrix: &Matrix<Global>) {
-    let rows = matrix.n;
-    let entries = matrix.a_i.len();
-    let stage = format_args!("rimopaku: ordering {rows} rows, {entries} entries");
-    progress.tell(rt, entries >= MANY_ENTRIES, stage);
-}
-
-/// Orders what a task has.
-fn order_task(alloc: Global, task: &Task) -> Result<(Vec<usize>, Info), Cause> {
-    let marks = task.hold.as_deref();
-    Ok(order_matrix(alloc, &task.matrix, &task.control, marks)?)
-}
-
-/// The texts of an ordering.
-fn order_texts(alloc: Global, p: &[usize], info: &Info) -> Result<Texts, Cause> {
-    let mut lines = Vec::new(alloc);
-    let mut figures = Vec::new(alloc);
-    write_rows(p, &mut lines)?;
-    write_figures(info, &mut figures)?;
-    let figures = String::from_utf8_lossy(alloc, &figures)?;
-    Ok(Texts { lines, figures })
-}
-
-/// Orders what a task has, works out the factor under the ordering, and makes the texts of that.
-fn analysis_texts(alloc: Global, task: &Task) -> Result<Texts, Cause> {
-    let marks = task.hold.as_deref();
-    let analysis = analyze_matrix(alloc, &task.matrix, &task.control, marks)?;
-    let mut lines = Vec::new(alloc);
-    let mut figures = Vec::new(alloc);
-    write_columns(&analysis.p, &analysis.factor, &mut lines)?;
-    write_comparison(&analysis.need, &analysis.info, &mut figures)?;
-    let figures = String::from_utf8_lossy(alloc, &figures)?;
-    Ok(Texts { lines, figures })
+    let other = match options.with {
+        Some(path) => Some(about(path, other_need(rt, progress, matrix, path))?),
+        None => None,
+    };
+    let (stands, ordered) = about(options.file, two_needs(rt.alloc(), matrix, p))?;
+    Ok(Some(Comparison {
+        edges: info.nz_a_plus_at / 2,
+        stands,
+        ordered,
+        other,
+    }))
 }
 
 /// Writes a text to a file, or to standard output where none is named.
@@ -160,12 +86,26 @@ fn put_text<R: Runtime + AllocGlobal>(
     }
 }
 
+/// Writes a text to a file where both are there.
+fn put_where_asked<'a, R: Runtime + AllocGlobal>(
+    rt: &R,
+    path: Option<&'a str>,
+    text: &Option<Vec<u8>>,
+) -> Result<(), Complaint<'a>> {
+    match (path, text) {
+        (Some(path), Some(text)) => about(path, put_file(rt, path, text)),
+        _ => Ok(()),
+    }
+}
+
 /// Writes the texts on a file to where they belong. No memory is asked for once a byte is written.
 fn put_texts<'a, R: Runtime + AllocGlobal>(
     rt: &R,
     options: &Options<'a>,
     texts: Texts,
 ) -> Result<(), Complaint<'a>> {
+    put_where_asked(rt, options.permuted, &texts.permuted)?;
+    put_where_asked(rt, options.tree, &texts.tree)?;
     let lines = put_text(rt, options.out, &texts.lines);
     about(output_name(options.out), lines)?;
     let told = rt.eprint(texts.figures).map_err(Cause::from);
@@ -177,107 +117,60 @@ fn draw_file<R: Runtime + AllocGlobal>(
     rt: &R,
     path: &str,
     task: &Task,
-    p: &[usize],
-    lnz: usize,
+    ordered: &Ordered,
+    symmetric: bool,
 ) -> Result<(), Cause> {
+    let lnz = ordered.info.lnz;
     let stage = format_args!("rimopaku: drawing up to {lnz} entries of L");
     task.progress.tell(rt, lnz >= LARGE_FACTOR, stage);
     let mut text = Vec::new(rt.alloc());
-    write_picture(rt.alloc(), &task.matrix, p, lnz, &mut text)?;
+    write_picture(rt.alloc(), &task.matrix, &ordered.p, symmetric, &mut text)?;
     put_file(rt, path, &text)
 }
 
-/// Draws what a task has and its ordering, where a file is named for the picture.
-fn put_picture<'a, R: Runtime + AllocGlobal>(
+/// Draws the assembly tree of what a task has and its ordering, to a file.
+fn draw_tree<R: Runtime + AllocGlobal>(
+    rt: &R,
+    path: &str,
+    matrix: &Matrix<Global>,
+    p: &[usize],
+) -> Result<(), Cause> {
+    let counted = counts(rt.alloc(), matrix.n, &matrix.a_p, &matrix.a_i, p)?;
+    let mut text = Vec::new(rt.alloc());
+    write_tree_picture(rt.alloc(), &counted.parent, &counted.sizes, &mut text)?;
+    put_file(rt, path, &text)
+}
+
+/// Draws what a task has and its ordering, where files are named for the pictures.
+fn put_pictures<'a, R: Runtime + AllocGlobal>(
     rt: &R,
     options: &Options<'a>,
     task: &Task,
-    p: &[usize],
-    lnz: usize,
+    ordered: &Ordered,
 ) -> Result<(), Complaint<'a>> {
-    match options.picture {
-        Some(path) => {
-            let drawn = draw_file(rt, path, task, p, lnz);
-            about(path, drawn.map_err(Cause::at_picture))
-        }
-        None => Ok(()),
+    if let Some(path) = options.picture {
+        let drawn = draw_file(rt, path, task, ordered, options.symmetric);
+        about(path, drawn.map_err(Cause::at_picture))?;
     }
-}
-
-/// What the words of a subcommand choose.
-fn control_of<'a>(options: &Options<'a>) -> Result<Control, Complaint<'a>> {
-    about("--dense", options.control().ok_or(Cause::Dense))
-}
-
-/// Reads the rows to hold last, where a file of them is named.
-fn read_hold<'a, R: Runtime + AllocGlobal>(
-    rt: &R,
-    progress: &Progress,
-    options: &Options<'a>,
-    n: usize,
-) -> Result<Option<Vec<bool>>, Complaint<'a>> {
-    match options.hold {
-        Some(path) => Ok(Some(about(path, read_marks(rt, progress, n, path))?)),
-        None => Ok(None),
-    }
-}
-
-/// Refuses an output that is a file that the run reads or writes besides.
-fn check_output<'a, R: Runtime>(
-    rt: &R,
-    output: Option<&'a str>,
-    others: &[Option<&str>],
-) -> Result<(), Complaint<'a>> {
-    let Some(path) = output else {
-        return Ok(());
-    };
-    'others: for other in others {
-        if let Some(other) = *other {
-            if name_one_file(rt, path, other) {
-                return about(path, Err(Cause::Twice));
-            }
-        }
+    if let Some(path) = options.tree_picture {
+        let drawn = draw_tree(rt, path, &task.matrix, &ordered.p);
+        about(path, drawn.map_err(Cause::at_picture))?;
     }
     Ok(())
 }
 
-/// Refuses outputs that are one file with another output or an input.
-fn check_outputs<'a, R: Runtime>(rt: &R, options: &Options<'a>) -> Result<(), Complaint<'a>> {
-    let inputs = [Some(options.file), options.hold];
-    check_output(rt, options.out, &inputs)?;
-    check_output(rt, options.picture, &inputs)?;
-    check_output(rt, options.picture, &[options.out])
-}
-
-/// Reads what is to be ordered, and says so where it is large.
-fn read_task<'a, R: Runtime + AllocGlobal>(
-    rt: &R,
-    options: &Options<'a>,
-) -> Result<Task, Complaint<'a>> {
-    let control = control_of(options)?;
-    check_outputs(rt, options)?;
-    let progress = Progress::begin(rt);
-    let matrix = about(options.file, read_file(rt, &progress, options.file))?;
-    let hold = read_hold(rt, &progress, options, matrix.n)?;
-    tell_ordering(rt, &progress, &matrix);
-    Ok(Task {
-        progress,
-        control,
-        matrix,
-        hold,
-    })
-}
-
-/// Orders a file. All memory is taken before an output is written, but that for the picture, which comes last.
+/// Orders a file. All memory is taken before an output is written, but that for the pictures, which come last.
 fn order_file<'a, R: Runtime + AllocGlobal>(
     rt: &R,
     options: &Options<'a>,
 ) -> Result<(), Complaint<'a>> {
     let task = read_task(rt, options)?;
     let (p, info) = about(options.file, order_task(rt.alloc(), &task))?;
-    let texts = about(options.file, order_texts(rt.alloc(), &p, &info))?;
-    put_texts(rt, options, texts)?;
-    put_picture(rt, options, &task, &p, info.lnz)
+    let compared = compare_orders(rt, &task.progress, options, &task.matrix, &p, &info)?;
+    let ordered = Ordered { p, info, compared };
+    let texts = order_texts(rt.alloc(), options, &task.matrix, &ordered);
+    put_texts(rt, options, about(options.file, texts)?)?;
+    put_pictures(rt, options, &task, &ordered)
 }
 
 /// Orders a file, and works out its factor. All memory is taken before an output is written.
@@ -286,16 +179,29 @@ fn analyze_file<'a, R: Runtime + AllocGlobal>(
     options: &Options<'a>,
 ) -> Result<(), Complaint<'a>> {
     let task = read_task(rt, options)?;
-    let texts = about(options.file, analysis_texts(rt.alloc(), &task))?;
-    put_texts(rt, options, texts)
+    let texts = if options.json {
+        analysis_json(rt.alloc(), &task)
+    } else {
+        analysis_texts(rt.alloc(), &task)
+    };
+    put_texts(rt, options, about(options.file, texts)?)
 }
 
-/// The text of what a matrix is.
-fn facts_text(alloc: Global, matrix: &Matrix<Global>, control: &Control) -> Result<Vec<u8>, Cause> {
-    let facts = facts_of(alloc, matrix, control)?;
-    let mut text = Vec::new(alloc);
-    write_facts(&facts, &mut text)?;
-    Ok(text)
+/// What the factor of a matrix needs as its rows stand, as they are ordered and as a file lists them, where that is
+/// asked for.
+fn exact_needs<'a, R: Runtime + AllocGlobal>(
+    rt: &R,
+    progress: &Progress,
+    options: &Options<'a>,
+    matrix: &Matrix<Global>,
+    control: &Control,
+) -> Result<Option<Comparison>, Complaint<'a>> {
+    if !options.compare {
+        return Ok(None);
+    }
+    let ordered = order_matrix(rt.alloc(), matrix, control, None).map_err(Cause::from);
+    let (p, info) = about(options.file, ordered)?;
+    compare_orders(rt, progress, options, matrix, &p, &info)
 }
 
 /// Tells what a file is.
@@ -304,9 +210,11 @@ fn describe_file<'a, R: Runtime + AllocGlobal>(
     options: &Options<'a>,
 ) -> Result<(), Complaint<'a>> {
     let control = control_of(options)?;
-    let progress = Progress::begin(rt);
+    let progress = Progress::begin(rt, options.progress);
     let matrix = about(options.file, read_file(rt, &progress, options.file))?;
-    let text = about(options.file, facts_text(rt.alloc(), &matrix, &control))?;
+    let compared = exact_needs(rt, &progress, options, &matrix, &control)?;
+    let text = facts_text(rt.alloc(), options.json, &matrix, &control, compared);
+    let text = about(options.file, text)?;
     about(output_name(None), put_text(rt, None, &text))
 }
 

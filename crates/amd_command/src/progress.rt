@@ -13,13 +13,16 @@ const SOME_SECONDS: u64 = 2;
 #[derive(Drop)]
 pub struct Progress {
     start: Option<Instant>,
+    /// Whether the reading of a file is told in percent.
+    pub percent: bool,
 }
 
 impl Progress {
-    /// The progress of a run that begins now.
-    pub fn begin<R: Runtime>(rt: &R) -> Progress {
+    /// The progress of a run that begins now, with percent or without.
+    pub fn begin<R: Runtime>(rt: &R, percent: bool) -> Progress {
         Progress {
             start: Instant::now(rt).ok(),
+            percent,
         }
     }
 

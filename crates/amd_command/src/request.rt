@@ -21,8 +21,24 @@ pub struct Options<'a> {
     pub hold: Option<&'a str>,
     /// The file to write to; none is standard output.
     pub out: Option<&'a str>,
+    /// Whether the answer is one object of JSON.
+    pub json: bool,
+    /// Whether the reading of a file is told in percent.
+    pub progress: bool,
+    /// Whether what the factor needs is told for other orders too.
+    pub compare: bool,
+    /// The file with another order.
+    pub with: Option<&'a str>,
+    /// The file for the permuted matrix.
+    pub permuted: Option<&'a str>,
+    /// The file for the elimination tree.
+    pub tree: Option<&'a str>,
     /// The file for the picture.
     pub picture: Option<&'a str>,
+    /// Whether the pattern before is that of `A + A'`.
+    pub symmetric: bool,
+    /// The file for the picture of the assembly tree.
+    pub tree_picture: Option<&'a str>,
 }
 
 /// What is asked for.
@@ -62,12 +78,22 @@ fn path_argument<'a>(alloc: Global, name: &'a str, help: &'a str) -> Arg<'a> {
         .help(help)
 }
 
-/// The option that turns aggressive absorption off.
-fn plain_argument<'a>(alloc: Global) -> Arg<'a> {
-    Arg::new(alloc, "no-aggressive")
-        .long("no-aggressive")
+/// An option without a value.
+fn flag_argument<'a>(alloc: Global, name: &'a str, help: &'a str) -> Arg<'a> {
+    Arg::new(alloc, name)
+        .long(name)
         .action(ArgAction::SetTrue)
-        .help("Do not absorb elements aggressively")
+        .help(help)
+}
+
+/// The option with another order, beside the one that asks for the figures under it.
+fn with_argument<'a>(alloc: Global, beside: &'a str) -> Result<Arg<'a>, AllocError> {
+    path_argument(
+        alloc,
+        "with",
+        "Tell them under the order of PATH too, one row a line, from 1",
+    )
+    .requires_all(&[beside])
 }
 
 /// A subcommand that reads a matrix, with the arguments that all of them have.
@@ -79,7 +105,13 @@ fn matrix_command<'a>(
     Command::new(alloc, name)
         .about(about)
         .arg(file_argument(alloc))?
-        .arg(dense_argument(alloc))
+        .arg(dense_argument(alloc))?
+        .arg(flag_argument(alloc, "json", "Write one object of JSON"))?
+        .arg(flag_argument(
+            alloc,
+            "progress",
+            "Tell in percent how much of FILE was read",
+        ))
 }
 
 /// A subcommand that orders the rows of a file, with the arguments that all of them have.
@@ -90,26 +122,50 @@ fn ordering_command<'a>(
     out: &'a str,
 ) -> Result<Command<'a>, AllocError> {
     let hold = "Hold the rows last whose numbers PATH lists, one a line";
+    let plain = "Do not absorb elements aggressively";
     matrix_command(alloc, name, about)?
-        .arg(plain_argument(alloc))?
+        .arg(flag_argument(alloc, "no-aggressive", plain))?
         .arg(path_argument(alloc, "hold", hold))?
         .arg(path_argument(alloc, "out", out))
 }
 
+/// A subcommand with the options that compare orders.
+fn comparing_command<'a>(
+    alloc: Global,
+    command: Command<'a>,
+    name: &'a str,
+) -> Result<Command<'a>, AllocError> {
+    let help = "Count what the factor needs as the rows stand, and as they are ordered";
+    command
+        .arg(flag_argument(alloc, name, help))?
+        .arg(with_argument(alloc, name)?)
+}
+
+/// A subcommand with the options of what is drawn.
+fn drawing_command<'a>(alloc: Global, command: Command<'a>) -> Result<Command<'a>, AllocError> {
+    let picture = "Draw the pattern before and after to PATH, as SVG";
+    let symmetric = "Draw the pattern of A + A' before, and not that of A";
+    let tree = "Draw the assembly tree to PATH, as SVG";
+    command
+        .arg(path_argument(alloc, "picture", picture))?
+        .arg(flag_argument(alloc, "symmetric", symmetric))?
+        .arg(path_argument(alloc, "tree-picture", tree))
+}
+
 /// The subcommand `order`.
 fn order_command<'a>(alloc: Global) -> Result<Command<'a>, AllocError> {
-    let picture = path_argument(
-        alloc,
-        "picture",
-        "Draw the pattern before and after to PATH, as SVG",
-    );
-    ordering_command(
+    let command = ordering_command(
         alloc,
         "order",
         "Order the rows and write the permutation, one row a line, counted from 1",
         "Write the permutation to PATH and not to standard output",
-    )?
-    .arg(picture)
+    )?;
+    let permuted = "Write the matrix in the new order to PATH, as a pattern";
+    let tree = "Write the parent of each column in the elimination tree to PATH, 0 for a root";
+    let command = command
+        .arg(path_argument(alloc, "permuted", permuted))?
+        .arg(path_argument(alloc, "tree", tree))?;
+    drawing_command(alloc, comparing_command(alloc, command, "compare")?)
 }
 
 /// The subcommand `analyze`.
@@ -124,7 +180,8 @@ fn analyze_command<'a>(alloc: Global) -> Result<Command<'a>, AllocError> {
 
 /// The subcommand `info`.
 fn info_command<'a>(alloc: Global) -> Result<Command<'a>, AllocError> {
-    matrix_command(alloc, "info", "Tell what the matrix is")
+    let command = matrix_command(alloc, "info", "Tell what the matrix is")?;
+    comparing_command(alloc, command, "exact")
 }
 
 /// A command with one more subcommand.
@@ -155,7 +212,15 @@ fn options_of<'a>(matches: &ArgMatches<'a>) -> Options<'a> {
         aggressive: !matches.get_flag("no-aggressive"),
         hold: matches.get_str("hold"),
         out: matches.get_str("out"),
+        json: matches.get_flag("json"),
+        progress: matches.get_flag("progress"),
+        compare: matches.get_flag("compare") || matches.get_flag("exact"),
+        with: matches.get_str("with"),
+        permuted: matches.get_str("permuted"),
+        tree: matches.get_str("tree"),
         picture: matches.get_str("picture"),
+        symmetric: matches.get_flag("symmetric"),
+        tree_picture: matches.get_str("tree-picture"),
     }
 }
 

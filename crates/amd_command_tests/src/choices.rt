@@ -40,7 +40,7 @@ const FIGURES: &str = "    rows                                                2
     divisions, at most                                  20
     multiply-subtracts for LDL', at most                21
     multiply-subtracts for LU, at most                  22
-    greatest front, at most                             3
+    largest column, with its diagonal, at most          3
     rows                                                20
     entries                                             18
     status                                              OK

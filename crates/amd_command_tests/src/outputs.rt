@@ -4,10 +4,12 @@
 use amd::{Control, Info};
 use amd_command::analysis::{analyze_matrix, write_columns, write_comparison};
 use amd_command::causes::Cause;
-use amd_command::facts::{facts_of, write_facts};
+use amd_command::description::write_facts;
+use amd_command::facts::facts_of;
 use amd_command::figures::write_figures;
 use amd_command::held::read_held;
 use amd_command::ordering::order_matrix;
+use amd_command::permuted::{permuted, write_matrix};
 use amd_command::picture::write_picture;
 use amd_command::request::{Request, request_of, thousandths_of};
 use amd_command::rows::write_rows;
@@ -24,7 +26,7 @@ pub const PATH: &str = "%%MatrixMarket matrix coordinate pattern symmetric\n3 3 
 
 /// What `info` tells of it.
 pub const PATH_FACTS: &str = "    rows                                                3
-    entries, repeats dropped                            5
+    entries                                             5
     symmetric pattern                                   yes
     entries on the diagonal                             1
     edges                                               2
@@ -84,7 +86,8 @@ fn write_all_of<W: Write, A: Allocator + Copy>(alloc: A, out: &mut W) -> Result<
     let analysis = analyze_matrix(alloc, &matrix, &control, Some(&marks))?;
     write_columns(&analysis.p, &analysis.factor, out)?;
     write_comparison(&analysis.need, &analysis.info, out)?;
-    write_picture(alloc, &matrix, &p, info.lnz, out)
+    write_matrix(&permuted(alloc, &matrix, &p)?, out)?;
+    write_picture(alloc, &matrix, &p, false, out)
 }
 
 #[test]
@@ -176,10 +179,12 @@ fn subcommands(rt: HostRuntime) -> Result<(), Fail> {
     Ok(())
 }
 
+/// The first call of a writer fails, the fourth, the seventh, and so on, in a run each.
 #[test]
 fn writers_with_faults(rt: HostRuntime) {
     let mut calls = 0;
-    'faults: for fault_at in 1..1000u64 {
+    'faults: for third in 0..333u64 {
+        let fault_at = 3 * third + 1;
         let mut out = Faulty::new(Vec::new(rt.alloc()), Fault::Fails, fault_at);
         let answer = write_all_of(rt.alloc(), &mut out);
         if out.faults() == 0 {
@@ -190,7 +195,7 @@ fn writers_with_faults(rt: HostRuntime) {
         calls = fault_at;
     }
     assert!(&rt; 20 < calls);
-    assert!(&rt; calls < 999);
+    assert!(&rt; calls < 996);
 }
 
 /// Whether all was written; where not, that was for want of memory.

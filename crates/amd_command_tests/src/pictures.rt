@@ -43,19 +43,19 @@ const DENSE_ORDER: [i32; 20] = [
     1, 2, 3, 4, 5, 6, 7, 8, 9, 10, 11, 12, 13, 14, 15, 16, 17, 18, 19, 0,
 ];
 
-/// The factor has the 18 edges alone, though up to 20 entries are allowed for; in less room than 18 it is not drawn.
+/// The factor has the 18 edges alone, though the bound is 20 entries; what is no order of the rows is not drawn.
 #[test]
 fn no_fill_where_the_bound_has_some(rt: HostRuntime) -> Result<(), Fail> {
     let alloc = rt.alloc();
     let matrix = matrix_of(alloc, &DENSE_POINTERS, &DENSE_ROWS)?;
     let p = sizes_of(alloc, &DENSE_ORDER)?;
     let mut out = Vec::new(alloc);
-    assert!(&rt; write_picture(alloc, &matrix, &p, 20, &mut out).is_ok());
+    assert!(&rt; write_picture(alloc, &matrix, &p, true, &mut out).is_ok());
     let text = String::from_utf8_lossy(alloc, &out)?;
     assert!(&rt; text.contains(">20 rows, 18 edges<"));
     assert!(&rt; text.ends_with("fill: 0 entries of L</text>\n</svg>\n"));
     let mut none = Vec::new(alloc);
-    let outcome = write_picture(alloc, &matrix, &p, 17, &mut none);
+    let outcome = write_picture(alloc, &matrix, &[0; 20], true, &mut none);
     assert!(&rt; matches!(outcome, Err(Cause::Form)) && none.is_empty());
     Ok(())
 }
@@ -100,11 +100,11 @@ fn count_cells(text: &str, sizes: &mut [usize]) {
 fn fill_of_can_24(rt: HostRuntime) -> Result<(), Fail> {
     let alloc = rt.alloc();
     let matrix = matrix_of(alloc, &POINTERS, &ROWS)?;
-    let Ok((p, info)) = order_matrix(alloc, &matrix, &Default::default(), None) else {
+    let Ok((p, _)) = order_matrix(alloc, &matrix, &Default::default(), None) else {
         panic!(&rt; "no ordering");
     };
     let mut out = Vec::new(alloc);
-    assert!(&rt; write_picture(alloc, &matrix, &p, info.lnz, &mut out).is_ok());
+    assert!(&rt; write_picture(alloc, &matrix, &p, true, &mut out).is_ok());
     let text = String::from_utf8_lossy(alloc, &out)?;
     assert!(&rt; text.contains(">24 rows, 68 edges<"));
     assert!(&rt; text.ends_with("fill: 28 entries of L</text>\n</svg>\n"));

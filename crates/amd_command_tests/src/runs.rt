@@ -18,6 +18,22 @@ const PATH_FIGURES: &str = "    rows                                            
 /// What is shown of it then, by the independent program: row 2 comes first, then 1 and 3.
 const PATH_ORDER: &str = "2\n1\n3\n";
 
+/// The same as JSON.
+const PATH_JSON: &str = concat!(
+    "{\"rows\":3,\"entries\":5,\"status\":\"OK\",\"rows_placed_last\":0,\"workspace_compactions\":0,",
+    "\"at_most\":{\"entries_of_l\":2,\"divisions\":2,\"multiply_subtracts_ldl\":2,\"multiply_subtracts_lu\":2,",
+    "\"largest_column\":2},\"permutation\":[2,1,3]}\n"
+);
+
+/// What `analyze` shows of it as JSON: row 3 is the parent of both others.
+const PATH_FACTOR_JSON: &str = concat!(
+    "{\"rows\":3,\"entries\":5,\"status\":\"OK\",\"rows_placed_last\":0,\"workspace_compactions\":0,",
+    "\"at_most\":{\"entries_of_l\":2,\"divisions\":2,\"multiply_subtracts_ldl\":2,\"multiply_subtracts_lu\":2,",
+    "\"largest_column\":2},\"factor\":{\"entries_of_l\":2,\"fill\":0,\"divisions\":2,",
+    "\"multiply_subtracts_ldl\":2,\"multiply_subtracts_lu\":2,\"largest_column\":2},",
+    "\"columns\":[[2,3,1],[1,3,1],[3,0,0]]}\n"
+);
+
 /// A file whose third line has a row that there is not.
 const BAD: &str = "%%MatrixMarket matrix coordinate pattern general\n2 2 2\n3 1\n1 1\n";
 
@@ -81,7 +97,7 @@ fn run_at_desk(
 type Refused = (&'static [&'static str], &'static str, u8, &'static str);
 
 /// Words and files at fault: status 2. Outputs that cannot be opened: status 1.
-const REFUSED: [Refused; 18] = [
+const REFUSED: [Refused; 22] = [
     (&[], "", 2, "Usage: rimopaku"),
     (&["sort", "-"], PATH, 2, "sort"),
     (&["order"], PATH, 2, "FILE"),
@@ -157,6 +173,32 @@ const REFUSED: [Refused; 18] = [
         "rimopaku: /tmp/no-such-file: is named twice: an output must be a file of its own\n",
     ),
     (
+        &[
+            "order",
+            "-",
+            "--permuted",
+            "/tmp/no-such-file",
+            "--tree",
+            "/tmp/no-such-file",
+        ],
+        PATH,
+        2,
+        "rimopaku: /tmp/no-such-file: is named twice: an output must be a file of its own\n",
+    ),
+    (&["order", "-", "--with", "/dev/null"], PATH, 2, "--compare"),
+    (
+        &["info", "-", "--exact", "--with", "/dev/null"],
+        PATH,
+        2,
+        "rimopaku: /dev/null: no order of the rows: each of them must stand there once\n",
+    ),
+    (
+        &["order", "-", "--permuted", NOWHERE],
+        PATH,
+        1,
+        "rimopaku: /no/such/folder/file: cannot be written: ",
+    ),
+    (
         &["order", "-", "--hold", NOWHERE],
         PATH,
         2,
@@ -204,6 +246,21 @@ fn runs_that_end_well(rt: HostRuntime) -> Result<(), Fail> {
             &["order", "-", "--picture", "/dev/null", "--out", "/dev/null"],
             "",
         ),
+        (
+            &[
+                "order",
+                "-",
+                "--tree-picture",
+                "/dev/null",
+                "--permuted",
+                "/dev/null",
+                "--tree",
+                "/dev/null",
+                "--json",
+            ],
+            PATH_JSON,
+        ),
+        (&["analyze", "-", "--json"], PATH_FACTOR_JSON),
     ] {
         let end = run_at_desk(&rt, words, PATH, 0, false)?;
         assert!(&rt; end.status == 0 && end.shown.as_str() == shown, "{words:?}");

@@ -1,19 +1,23 @@
 //! Orders the rows of a sparse matrix in a file of the Matrix Market, works out the exact factor, or tells what the
 //! matrix is.
 //!
-//!     rimopaku order FILE.mtx [--dense T] [--no-aggressive] [--hold PATH] [--out PATH] [--picture PATH]
-//!     rimopaku analyze FILE.mtx [--dense T] [--no-aggressive] [--hold PATH] [--out PATH]
-//!     rimopaku info FILE.mtx [--dense T]
+//!     rimopaku order FILE.mtx [--dense T] [--no-aggressive] [--hold PATH] [--out PATH] [--json] [--progress]
+//!         [--compare [--with PATH]] [--permuted PATH] [--tree PATH]
+//!         [--picture PATH [--symmetric]] [--tree-picture PATH]
+//!     rimopaku analyze FILE.mtx [--dense T] [--no-aggressive] [--hold PATH] [--out PATH] [--json] [--progress]
+//!     rimopaku info FILE.mtx [--dense T] [--json] [--progress] [--exact [--with PATH]]
 //!
 //! `-` in place of a file is standard input. `order` writes the permutation to standard output or to the file of
 //! `--out`, the number of a row a line. `analyze` writes there a line for each column of the factor, in the order of
 //! the elimination: three numbers with a space between them, which are the row of the column, the row of its parent in
 //! the elimination tree, or 0 where it has none, and how many entries the column has below the diagonal. Rows count
-//! from 1. Figures and messages go to standard error. An output is written beside its place and moved there once it is
-//! whole; one that is also an input, or another output, is refused.
+//! from 1. Figures and messages go to standard error; with `--json` the figures stand in one object beside the
+//! permutation. `--compare` and `--exact` count what the factor needs as the rows stand, as they are ordered, and in
+//! the order that the file of `--with` lists. An output is written beside its place and moved there once it is whole;
+//! one that is also an input, or another output, is refused.
 //!
 //! The exit status is 0 where all was done, 1 where memory was refused or an output failed, 2 where an argument or an
-//! input is wrong, and 3 where the picture could not be drawn or written, but all else is. With a status of 2, and
+//! input is wrong, and 3 where a picture could not be drawn or written, but all else is. With a status of 2, and
 //! where memory was refused with a status of 1, no output is written.
 #![tactic(auto)]
 

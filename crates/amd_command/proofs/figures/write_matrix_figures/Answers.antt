@@ -10,7 +10,7 @@ pub returns : goal.returns
 returns g c =
     let status = subst (λ (z : List ℕ). Appends (g.W.Write.contents c.write_labelled-2.new.out)
     (g.W.Write.contents c.write_labelled-3.new.out) (labelled (codes "status") z))
-    c.status_word-status.ensures c.in_ok-write_labelled-3.ensures in
+    c.status_phrase-status.ensures c.in_ok-write_labelled-3.ensures in
     let up_to_2 = Appends-then _ _ _ _ _ c.in_ok-write_labelled.ensures c.in_ok-write_labelled-2.ensures in
     let up_to_3 = Appends-then _ _ _ _ _ up_to_2 status in
     let up_to_4 = Appends-then _ _ _ _ _ up_to_3 c.in_ok-write_labelled-4.ensures in

@@ -1,14 +1,15 @@
 -- Each turn writes one line more.
 use Rattle.std.proofs.Common.{arith}
 use Rattle.std.proofs.KnownBytes.{Appends-nil}
-use Rattle.amd_command.proofs.RowLines.{rows-next, rows-whole}
+use Rattle.amd_command.specs.Texts.{row_line}
+use Rattle.amd_command.proofs.Pieces.{pieces-next, pieces-whole}
 use Rattle.amd_command.proofs.rows.write_rows.Goals as goal
 
 pub places-init : goal.places-init
 places-init g c = Appends-nil _
 
 pub places-preserved : goal.places-preserved
-places-preserved g c = rows-next _ _ _ _ _ _ (omega arith) c.places.invariant c.in_ok-writeln.ensures.bytes
+places-preserved g c = pieces-next row_line _ _ _ _ _ _ (omega arith) c.places.invariant c.in_ok-writeln.ensures.bytes
 
 pub returns : goal.returns
-returns g c = rows-whole _ _ _ _ (omega arith) c.places.invariant
+returns g c = pieces-whole row_line _ _ _ _ (omega arith) c.places.invariant

@@ -1,7 +1,7 @@
 -- The places are those of the order that was handed in.
 use Rattle.std.proofs.Common.{pos, map}
 use Rattle.amd_types.specs.Counts.{counts}
-use Rattle.amd_command.proofs.picture.form_lists.Goals as goal
+use Rattle.amd_command.proofs.picture.form_picture.Goals as goal
 
 pub earlier_lists-requires-clause-places : goal.earlier_lists-requires-clause-places
 earlier_lists-requires-clause-places g c =

@@ -1,0 +1,64 @@
+-- What the factor needs under several orders, and its text.
+use Rattle.std.specs.Prelude.{◌-◌, ℕ, zero, suc, Some, None, Option, List, [], ◌∷◌, ◌++◌, map, pos, codes, decimal}
+use Rattle.amd_texts.specs.Texts.{labelled}
+use Rattle.amd_cases.specs.Reading.{BeginsWith}
+use Rattle.amd_market.specs.Lines.{telling}
+use Rattle.amd_symbolic.specs.Counted.{IsCountsOf}
+use Rattle.amd_symbolic.specs.declared.needs.Need.{Need}
+use Rattle.amd_command.specs.Held.{SpellsRows}
+use Rattle.amd_command.specs.declared.compare.Comparison.{Comparison}
+use Rattle.amd_command.specs.declared.compare.Figure.{Figure}
+use Rattle.amd_command.specs.declared.compare.Figure.TheVariants.{Entries, Fill, StepsLdl, StepsLu, LargestColumn}
+
+-- what the factor of a matrix needs under the order p
+pub record IsNeedUnder (n : ℕ) (ap ai p : List ℕ) (need : Need) : Type 0 where
+  pub sizes : List ℕ
+  pub parent : List (Option ℕ)
+  pub counted : IsCountsOf (pos n) (map pos ap) (map pos ai) (map pos p) sizes parent need
+
+-- the rows below n, as they stand
+abbrev pub rows_below : ℕ → List ℕ
+rows_below zero = []
+rows_below (suc k) = rows_below k ++ k ∷ []
+
+-- the lines of the text that say something are these rows of n, one by one
+pub record ListsRows (bytes : List ℕ) (n : ℕ) (rows : List ℕ) : Type 0 where
+  pub lines : List (List ℕ)
+  pub all : BeginsWith lines bytes (Some [])
+  pub spells : SpellsRows n (telling lines) rows
+
+-- a figure of what a factor needs
+abbrev pub figure_of : Figure → ℕ → Need → ℕ
+figure_of Entries edges need = need.lnz
+figure_of Fill edges need = need.lnz - edges
+figure_of StepsLdl edges need = need.n_mult_subs_ldl
+figure_of StepsLu edges need = need.n_mult_subs_lu
+figure_of LargestColumn edges need = need.d_max
+
+-- a figure under two orders, and under three
+abbrev pub two_figures : ℕ → ℕ → List ℕ
+two_figures stands ordered = decimal stands ++ (codes " as it stands, " ++ (decimal ordered ++ codes " ordered"))
+
+abbrev pub three_figures : ℕ → ℕ → ℕ → List ℕ
+three_figures stands ordered other =
+    decimal stands ++ (codes " as it stands, " ++ (decimal ordered ++ (codes " ordered, " ++ (decimal other
+    ++ codes " by --with"))))
+
+-- a figure under each order
+abbrev pub figures_under : Figure → ℕ → Need → Need → Option Need → List ℕ
+figures_under f edges stands ordered None = two_figures (figure_of f edges stands) (figure_of f edges ordered)
+figures_under f edges stands ordered (Some other) =
+    three_figures (figure_of f edges stands) (figure_of f edges ordered) (figure_of f edges other)
+
+-- the line of a figure
+abbrev pub compared_line : List ℕ → Figure → Comparison → List ℕ
+compared_line label f c = labelled label (figures_under f c.edges c.stands c.ordered c.other)
+
+-- the lines on the orders
+abbrev pub comparison_lines : Comparison → List ℕ
+comparison_lines c =
+    compared_line (codes "entries of L below the diagonal") Entries c
+    ++ compared_line (codes "fill") Fill c
+    ++ compared_line (codes "multiply-subtracts for LDL'") StepsLdl c
+    ++ compared_line (codes "multiply-subtracts for LU") StepsLu c
+    ++ compared_line (codes "largest column, with its diagonal") LargestColumn c

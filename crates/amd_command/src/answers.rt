@@ -1,0 +1,188 @@
+// The texts of the answers, made in memory before an output is written. Called by `program`, which says where they go.
+// What each function that writes a part writes is told by its contract; which parts an answer has is tested.
+
+use crate::analysis::{analyze_matrix, write_columns, write_comparison};
+use crate::causes::Cause;
+use crate::compare::{Comparison, need_under, standing_order, write_comparison_lines};
+use crate::description::write_facts;
+use crate::factor_json::write_analysis_json;
+use crate::facts::facts_of;
+use crate::figures::write_figures;
+use crate::inputs::Task;
+use crate::json::{write_facts_json, write_order_json};
+use crate::ordering::order_matrix;
+use crate::permuted::{permuted, write_matrix};
+use crate::request::Options;
+use crate::rows::write_rows;
+use crate::tree::write_tree;
+use amd::{Control, Info};
+use amd_market::reader::Matrix;
+use amd_symbolic::counts;
+use amd_symbolic::needs::Need;
+use std::alloc::Global;
+
+/// What an ordering, or an analysis, writes beside the pictures.
+#[derive(Drop)]
+pub struct Texts {
+    /// The permutation, or the columns of the factor.
+    pub lines: Vec<u8>,
+    /// The figures.
+    pub figures: String,
+    /// The permuted matrix, where it is asked for.
+    pub permuted: Option<Vec<u8>>,
+    /// The elimination tree, where it is asked for.
+    pub tree: Option<Vec<u8>>,
+}
+
+/// An ordering, and what the factor needs under each order, where that is asked for.
+#[derive(Drop)]
+pub struct Ordered {
+    /// The permutation.
+    pub p: Vec<usize>,
+    /// What the ordering tells.
+    pub info: Info,
+    /// The needs.
+    pub compared: Option<Comparison>,
+}
+
+/// What the factor needs as the rows stand, and in an order of them.
+pub fn two_needs(
+    alloc: Global,
+    matrix: &Matrix<Global>,
+    p: &[usize],
+) -> Result<(Need, Need), Cause> {
+    let standing = standing_order(alloc, matrix.n)?;
+    let stands = need_under(alloc, matrix, &standing)?;
+    Ok((stands, need_under(alloc, matrix, p)?))
+}
+
+/// Orders what a task has.
+pub fn order_task(alloc: Global, task: &Task) -> Result<(Vec<usize>, Info), Cause> {
+    let marks = task.hold.as_deref();
+    Ok(order_matrix(alloc, &task.matrix, &task.control, marks)?)
+}
+
+/// The text of the permuted matrix, where it is asked for.
+fn permuted_text(
+    alloc: Global,
+    options: &Options<'_>,
+    matrix: &Matrix<Global>,
+    p: &[usize],
+) -> Result<Option<Vec<u8>>, Cause> {
+    if options.permuted.is_none() {
+        return Ok(None);
+    }
+    let matrix = permuted(alloc, matrix, p)?;
+    let mut text = Vec::new(alloc);
+    write_matrix(&matrix, &mut text)?;
+    Ok(Some(text))
+}
+
+/// The text of the elimination tree, where it is asked for.
+fn tree_text(
+    alloc: Global,
+    options: &Options<'_>,
+    matrix: &Matrix<Global>,
+    p: &[usize],
+) -> Result<Option<Vec<u8>>, Cause> {
+    if options.tree.is_none() {
+        return Ok(None);
+    }
+    let counted = counts(alloc, matrix.n, &matrix.a_p, &matrix.a_i, p)?;
+    let mut text = Vec::new(alloc);
+    write_tree(&counted.parent, &mut text)?;
+    Ok(Some(text))
+}
+
+/// The figures of an ordering.
+fn figures_text(alloc: Global, ordered: &Ordered) -> Result<String, Cause> {
+    let mut figures = Vec::new(alloc);
+    write_figures(&ordered.info, &mut figures)?;
+    if let Some(compared) = ordered.compared {
+        write_comparison_lines(compared, &mut figures)?;
+    }
+    Ok(String::from_utf8_lossy(alloc, &figures)?)
+}
+
+/// The texts of an ordering.
+pub fn order_texts(
+    alloc: Global,
+    options: &Options<'_>,
+    matrix: &Matrix<Global>,
+    ordered: &Ordered,
+) -> Result<Texts, Cause> {
+    let mut lines = Vec::new(alloc);
+    let mut figures = String::new(alloc);
+    if options.json {
+        write_order_json(&ordered.info, ordered.compared, &ordered.p, &mut lines)?;
+    } else {
+        write_rows(&ordered.p, &mut lines)?;
+        figures = figures_text(alloc, ordered)?;
+    }
+    Ok(Texts {
+        lines,
+        figures,
+        permuted: permuted_text(alloc, options, matrix, &ordered.p)?,
+        tree: tree_text(alloc, options, matrix, &ordered.p)?,
+    })
+}
+
+/// Orders what a task has, works out the factor under the ordering, and makes the texts of that.
+pub fn analysis_texts(alloc: Global, task: &Task) -> Result<Texts, Cause> {
+    let marks = task.hold.as_deref();
+    let analysis = analyze_matrix(alloc, &task.matrix, &task.control, marks)?;
+    let mut lines = Vec::new(alloc);
+    let mut figures = Vec::new(alloc);
+    write_columns(&analysis.p, &analysis.factor, &mut lines)?;
+    write_comparison(&analysis.need, &analysis.info, &mut figures)?;
+    let figures = String::from_utf8_lossy(alloc, &figures)?;
+    Ok(Texts {
+        lines,
+        figures,
+        permuted: None,
+        tree: None,
+    })
+}
+
+/// Orders what a task has, counts the columns of the factor, and makes the text of that as JSON.
+pub fn analysis_json(alloc: Global, task: &Task) -> Result<Texts, Cause> {
+    let (p, info) = order_task(alloc, task)?;
+    let matrix = &task.matrix;
+    let counted = counts(alloc, matrix.n, &matrix.a_p, &matrix.a_i, &p)?;
+    let mut lines = Vec::new(alloc);
+    write_analysis_json(
+        &info,
+        &counted.need,
+        &p,
+        &counted.parent,
+        &counted.sizes,
+        &mut lines,
+    )?;
+    Ok(Texts {
+        lines,
+        figures: String::new(alloc),
+        permuted: None,
+        tree: None,
+    })
+}
+
+/// The text of what a matrix is.
+pub fn facts_text(
+    alloc: Global,
+    json: bool,
+    matrix: &Matrix<Global>,
+    control: &Control,
+    compared: Option<Comparison>,
+) -> Result<Vec<u8>, Cause> {
+    let facts = facts_of(alloc, matrix, control)?;
+    let mut text = Vec::new(alloc);
+    if json {
+        write_facts_json(&facts, compared, &mut text)?;
+        return Ok(text);
+    }
+    write_facts(&facts, &mut text)?;
+    if let Some(compared) = compared {
+        write_comparison_lines(compared, &mut text)?;
+    }
+    Ok(text)
+}
