@@ -4,7 +4,7 @@ use Rattle.std.proofs.lemmas.Bool.{cases_Bool, cond-true, cond-false}
 use Rattle.std.proofs.lemmas.List.{get_or-map, length-map}
 use Rattle.amd_model.specs.Below.{count_below}
 use Rattle.amd_model.specs.Graph.{Graph, degree}
-use Rattle.amd_model.specs.State.{State, is_element, in_block}
+use Rattle.amd_model.specs.State.{State, is_element, in_block, block_at}
 use Rattle.amd_model.specs.Run.{Run, last_state}
 use Rattle.amd_model.specs.Listing.{IsPostorder, weight}
 use Rattle.amd_model.specs.Quotient.{starting_list}
@@ -19,12 +19,15 @@ use Rattle.amd_types.specs.declared.amd.Info.{Info}
 use Rattle.amd_types.specs.declared.figures.Figures.{Figures}
 use Rattle.amd_edges.specs.Visits.{AreCounts}
 use Rattle.amd_lists.specs.Layout.{list_in}
-use Rattle.amd_words.specs.Words.{num}
-use Rattle.amd_listing.specs.Ended.{IsEnded, HasEnded, ListsEnded}
+use Rattle.amd_words.specs.Words.{num, word, size_of, rows_in}
+use Rattle.amd_listing.specs.Ended.{IsEnded, HasEnded, LinksAre, ListsEnded, Shortens}
+use Rattle.amd_listing.proofs.LinkSteps.{cases_link}
+use Rattle.amd_postorder.proofs.Links.{names_some}
+use Rattle.amd_model.proofs.Counting.Below.{count_pos}
 use Rattle.amd_workspace.specs.Ending.{EndsRows}
 use Rattle.amd_workspace.specs.Laying.{IsLaidOut}
 use Rattle.amd_engine_law.specs.Engine.{TellsElements}
-use Rattle.amd_engine.specs.InPlace.{AnswersInPlace, EndsRounds, LaysGraph, RunsInPlace}
+use Rattle.amd_engine.specs.InPlace.{AnswersInPlace, EndsRounds, LaysGraph, RunsInPlace, TellsTree, parent_word}
 use Rattle.amd_engine_law.proofs.EngineLaw.{told_by, run, answer_of}
 use Rattle.amd_workspace.proofs.Ended.{ended}
 
@@ -81,6 +84,21 @@ module _ (g : Graph) (dense : ℕ → Bool) (aggressive : Bool) (lists : ℕ →
     ];
   }
 
+  -- links that were shortened tell the tree still
+  tree : (pe'' : List ℤ) → Shortens nv' pe' pe'' → TellsTree g last nv' pe''
+  unfolding block_at rows_in
+  tree pe'' sh = record {
+    leads = subst (λ k. LinksAre k pe'' nv' last.home) nv_long
+        (sh.led last.home (subst (λ k. LinksAre k pe' nv' last.home) (sym nv_long) is_ended.links));
+    parents = λ e l y.
+        let some : 0 < size_of nv' e = subst (λ z. 0 < rows_in z) (sym (is_ended.blocks e y))
+        (count_pos g.size (in_block last e) e l y) in
+        sh.parents e some ∙ elim (cases_link (last.parent e)) [
+          | inl q ↦ is_ended.tops e y q ∙ sym (ap parent_word q)
+          | inr w ↦ names_some (word pe' e) w.0 (sym (is_ended.parents e y ∙ w.1)) ∙ sym (ap parent_word w.1)
+        ];
+  }
+
 -- ---- whatever graph is laid
 
 module _ (hold : Option (List Bool)) (threshold : ℕ) (aggressive : Bool) (iw pe : List ℤ) (len : List ℕ) (n_dense : ℕ) (figures : Figures)
@@ -106,10 +124,10 @@ module _ (hold : Option (List Bool)) (threshold : ℕ) (aggressive : Bool) (iw p
     -- the listing is an answer
     pub answers : (rows : List ℕ) → ListsEnded pe2 nv2 e_len2 rows → (t : ℤ) → 0 < length len → IsThreshold (length len) t threshold →
         (p q : List ℤ) → p ≡ map pos rows → AreInverse (length len) p q → (compactions : ℕ) (before after : Info) →
-        after ≡ told_by n_dense figures compactions before →
-        AnswersInPlace g lists hold (length len) t aggressive p q nv2 e_len2 before after
+        after ≡ told_by n_dense figures compactions before → (links : List ℤ) → Shortens nv2 pe2 links →
+        AnswersInPlace g lists hold (length len) t aggressive p q nv2 e_len2 links before after
     unfolding answer_of
-    answers rows all t some is_threshold p q is inverse compactions before after told =
+    answers rows all t some is_threshold p q is inverse compactions before after told links shortened =
         let e = runs g lists lays in
         let order : IsPostorder g dense (last_state e.first e.reaches.states) rows =
         listed g dense aggressive lists n_dense figures pe1 e_len1 nv1 degree1 e pe2 e_len2 nv2 ends_here
@@ -120,6 +138,8 @@ module _ (hold : Option (List Bool)) (threshold : ℕ) (aggressive : Bool) (iw p
               is_threshold p q is inverse compactions before after told;
           elements = tells g dense aggressive lists n_dense figures pe1 e_len1 nv1 degree1 e pe2 e_len2 nv2 ends_here
               (pe_long ∙ size_is) (e_len_long ∙ size_is) (nv_long ∙ size_is);
+          tree = tree g dense aggressive lists n_dense figures pe1 e_len1 nv1 degree1 e pe2 e_len2 nv2 ends_here
+              (pe_long ∙ size_is) (e_len_long ∙ size_is) (nv_long ∙ size_is) links shortened;
         }
 
 -- ---- the same lists under other names

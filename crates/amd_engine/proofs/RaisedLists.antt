@@ -1,6 +1,6 @@
 -- A workspace whose numbers were raised: only what names no row was, so its lists read the same.
 use Rattle.std.proofs.Common.{ℕ, ℤ, pos, negsuc, zero, suc, Bool, true, false, List, [], ◌∷◌, ◌++◌, ◌≡◌, ◌<◌, ◌≤◌, ◌+◌, ◌&&◌, ◌⊎◌, ◌∙◌}
-use Rattle.std.proofs.Common.{refl, sym, ap, subst, length, map, cond, arith, Option}
+use Rattle.std.proofs.Common.{refl, sym, ap, subst, map, cond, arith, Option}
 use Rattle.std.specs.Prelude.{nat_lt}
 use Rattle.std.specs.Prelude.{int_lt}
 use Rattle.std.proofs.lemmas.List.{length-map}
@@ -9,7 +9,7 @@ use Rattle.amd_model.specs.Below.{sum_below}
 use Rattle.amd_model.specs.Graph.{Graph}
 use Rattle.amd_words.specs.Words.{num, word, place, is_place, start, rows}
 use Rattle.amd_views.specs.Views.{raised}
-use Rattle.amd_lists.specs.Layout.{Layout, has_list, end_of, list_in}
+use Rattle.amd_lists.specs.Layout.{has_list, end_of}
 use Rattle.amd_workspace.specs.Laying.{IsLaidOut}
 use Rattle.amd_model.specs.Below.{count_below}
 use Rattle.amd_model.specs.State.{State, is_element, in_block}
@@ -17,6 +17,7 @@ use Rattle.amd_model.proofs.Counting.Below.{count_most}
 use Rattle.amd_types.specs.declared.amd.Info.{Info}
 use Rattle.amd_engine_law.specs.Engine.{TellsElements}
 use Rattle.amd_engine.specs.InPlace.{AnswersInPlace, LaysGraph}
+use Rattle.amd_engine.proofs.EndingLaw.{lays_same}
 
 -- ---- one number
 either_place : (b : Bool) (n m : ℕ) → place (cond b (negsuc n) (negsuc m)) ≡ 0
@@ -112,9 +113,16 @@ module _ (g : Graph) (s : State) (nv e_len : List ℤ) (tells : TellsElements g 
 
 -- an answer of the engine in place, under other names
 pub answers_same : (g : Graph) (lists : ℕ → List ℕ) (hold : Option (List Bool)) (n m : ℕ) (t : ℤ) (aggressive : Bool)
-    (p q nv nv' e_len e_len' : List ℤ) (old new : Info) → AnswersInPlace g lists hold n t aggressive p q nv e_len old new → n ≡ m →
-    nv ≡ nv' → e_len ≡ e_len' → AnswersInPlace g lists hold m t aggressive p q nv' e_len' old new
-answers_same g lists hold n m t aggressive p q nv nv' e_len e_len' old new answer size a b =
-    subst (λ k. AnswersInPlace g lists hold k t aggressive p q nv' e_len' old new) size
-    (subst (λ xs. AnswersInPlace g lists hold n t aggressive p q xs e_len' old new) a
-    (subst (λ xs. AnswersInPlace g lists hold n t aggressive p q nv xs old new) b answer))
+    (p q nv nv' e_len e_len' pe pe' : List ℤ) (old new : Info) → AnswersInPlace g lists hold n t aggressive p q nv e_len pe old new →
+    n ≡ m → nv ≡ nv' → e_len ≡ e_len' → pe ≡ pe' → AnswersInPlace g lists hold m t aggressive p q nv' e_len' pe' old new
+answers_same g lists hold n m t aggressive p q nv nv' e_len e_len' pe pe' old new answer size a b d =
+    subst (λ k. AnswersInPlace g lists hold k t aggressive p q nv' e_len' pe' old new) size
+    (subst (λ xs. AnswersInPlace g lists hold n t aggressive p q xs e_len' pe' old new) a
+    (subst (λ xs. AnswersInPlace g lists hold n t aggressive p q nv xs pe' old new) b
+    (subst (λ xs. AnswersInPlace g lists hold n t aggressive p q nv e_len xs old new) d answer)))
+
+-- the same lists in words
+pub lays_over : (g : Graph) (lists : ℕ → List ℕ) (iw pe iw' pe' : List ℤ) (len len' : List ℕ) → LaysGraph g lists iw pe len →
+    iw' ≡ map raised iw → pe' ≡ map raised pe → len' ≡ len → LaysGraph g lists iw' pe' len'
+lays_over g lists iw pe iw' pe' len len' lays a b d =
+    lays_same g lists (map raised iw) iw' (map raised pe) pe' len len' (lays_raised g lists iw pe len lays) (sym a) (sym b) (sym d)

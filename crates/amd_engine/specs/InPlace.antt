@@ -1,18 +1,19 @@
 -- The run of the engine in place: the workspace before its first round, and what its rounds promise.
-use Rattle.std.specs.Prelude.{ℕ, ℤ, Bool, Option, List, ◌≡◌, ◌<◌, ◌≤◌, ◌+◌, length, max, pos, map, replicate}
+use Rattle.std.specs.Prelude.{ℕ, ℤ, Bool, true, Option, None, Some, List, ◌≡◌, ◌<◌, ◌≤◌, ◌+◌, length, max, pos, negsuc}
+use Rattle.std.specs.Prelude.{map, replicate}
 use Rattle.amd_model.specs.Graph.{Graph}
-use Rattle.amd_model.specs.State.{State}
+use Rattle.amd_model.specs.State.{State, is_element}
 use Rattle.amd_model.specs.Run.{last_state}
 use Rattle.amd_model.specs.Figures.{front_sum, entries, ldl_steps, lu_steps, cut}
 use Rattle.amd_model.specs.Input.Held.{is_held_last}
 use Rattle.amd_types.specs.Permutations.{AreInverse}
 use Rattle.amd_types.specs.declared.amd.Info.{Info}
 use Rattle.amd_types.specs.declared.figures.Figures.{Figures}
-use Rattle.amd_words.specs.Words.{num}
+use Rattle.amd_words.specs.Words.{num, word}
 use Rattle.amd_lists.specs.Layout.{list_in}
 use Rattle.amd_rounds.specs.Workspaces.{Workspace}
 use Rattle.amd_rounds.specs.Keeps.{Stands, AreRounds, NoRowIsLive}
-use Rattle.amd_listing.specs.Ended.{HasEnded, ListsEnded}
+use Rattle.amd_listing.specs.Ended.{HasEnded, LinksAre, ListsEnded, Shortens}
 use Rattle.amd_workspace.specs.Ending.{EndsRows}
 use Rattle.amd_engine_law.specs.Engine.{AreNeighbours, IsAnswerOf, Reaches, TellsElements}
 
@@ -114,8 +115,9 @@ pub record AreOver (n : ℕ) (pe e_len nv : List ℤ) (degree w head hash : List
   pub ends : (link f_size blocks : List ℤ) → EndsRows n pe e_len degree link f_size blocks → length link ≡ n →
       length f_size ≡ n → length blocks ≡ n → HasEnded link blocks f_size
 
--- rows that were so made into links and numbers of rows were listed: p lists them, and q is its inverse
-pub record AreListed (n : ℕ) (pe e_len : List ℤ) (degree : List ℕ) (f_size blocks p q : List ℤ) : Type 0 where
+-- rows that were so made into links and numbers of rows were listed: p lists them, and q is its inverse; the links were
+-- shortened
+pub record AreListed (n : ℕ) (pe e_len : List ℤ) (degree : List ℕ) (f_size blocks p q links : List ℤ) : Type 0 where
   pub link : List ℤ
   pub ends : EndsRows n pe e_len degree link f_size blocks
   pub long : (length link ≡ n) × (length f_size ≡ n) × (length blocks ≡ n)
@@ -123,10 +125,22 @@ pub record AreListed (n : ℕ) (pe e_len : List ℤ) (degree : List ℕ) (f_size
   pub listed : p ≡ map pos rows
   pub lists : ListsEnded link blocks f_size rows
   pub inverse : AreInverse n p q
+  pub shortens : Shortens blocks link links
+
+-- the word of a parent: -1 for none
+abbrev pub parent_word : Option ℕ → ℤ
+parent_word None = negsuc 0
+parent_word (Some e) = pos e
+
+-- the assembly tree: of each element its parent, and links that lead each other eliminated row to its element
+pub record TellsTree (g : Graph) (s : State) (nv pe : List ℤ) : Type 0 where
+  pub parents : (e : ℕ) → e < g.size → is_element s e ≡ true → word pe e ≡ parent_word (s.parent e)
+  pub leads : LinksAre g.size pe nv s.home
 
 -- of whatever graph is laid the engine answers an ordering, and tells its elements
 pub record AnswersInPlace (g : Graph) (lists : ℕ → List ℕ) (hold : Option (List Bool)) (n : ℕ) (t : ℤ)
     (aggressive : Bool)
-    (p q nv e_len : List ℤ) (old new : Info) : Type 0 where
+    (p q nv e_len pe : List ℤ) (old new : Info) : Type 0 where
   pub answer : IsAnswerOf g lists hold n t aggressive p q old new
   pub elements : TellsElements g (last_state answer.first answer.states) nv e_len
+  pub tree : TellsTree g (last_state answer.first answer.states) nv pe

@@ -6,6 +6,7 @@ ghost use Rattle.std.specs.Prelude.{◌≡◌, ◌<◌, ◌≤◌, ◌+◌, ℕ,
 ghost use Rattle.std.specs.Option.{option_copied};
 ghost use Rattle.amd_model.specs.Graph.{Graph};
 ghost use Rattle.amd_model.specs.Input.Held.{HasMarks};
+ghost use Rattle.amd_views.specs.Views.{raised};
 ghost use Rattle.amd_words.specs.Words.{is_place, word};
 ghost use Rattle.amd_workspace.specs.Laying.{IsLaidOut};
 ghost use Rattle.amd_engine.specs.InPlace.{AnswersInPlace, LaysGraph};
@@ -17,7 +18,8 @@ use amd_types::amd::{Control, Info, Status};
 use amd_types::dense::dense_threshold;
 use amd_types::internal::from_count;
 use amd_views::{lend_cells, lend_words, raise};
-use amd_words::{Cell, Signed, Unsigned, Word, row_at, word_at};
+use amd_words::{Cell, Signed, Unsigned, Word, put_word, row_at, word_at};
+use amd_workspace::filling::words;
 use num_traits::PrimInt;
 use std::alloc::{AllocError, Allocator};
 
@@ -41,9 +43,9 @@ fn tell(told: &Told, info: &mut Info)
 /// As `amd_2`, in words of a width, with marks, and with a first flag of 2 or more: the result is the same with each.
 /// `amd_1` calls it, and `amd_2`.
 ///
-/// The arguments and results have the shapes that `amd_2` says, where `iwlen` is the length of `iw`. Both widths of word
-/// hold `n + 2` and `iwlen`. `hold`, where it is given, has one mark for each of the `n` rows: those marked are held
-/// last beside the dense ones.
+/// The arguments and results have the shapes that `amd_2` says, where `iwlen` is the length of `iw`. Both widths hold
+/// `n + 2` and `iwlen`. `hold`, where it is given, has one mark for each of the `n` rows: those marked are held last
+/// beside the dense ones.
 ///
 /// # Errors
 ///
@@ -74,7 +76,7 @@ pub fn amd_2_from<I: PrimInt, S: Signed, U: Unsigned, A: Allocator + Copy>(
     requires marks { HasMarks (option_copied hold) (length len.old) }
     ensures orders { IfOk result (λ a. (g : Graph) (lists : ℕ → List ℕ) → LaysGraph g lists iw.old pe.old len.old →
         AnswersInPlace g lists (option_copied hold.entry) (length len.old) control.now.dense control.now.aggressive
-        (map I.value a.2.items) (map I.value a.1.items) a.0.items a.3.items info.old info.new) }
+        (map I.value a.2.items) (map I.value a.1.items) a.0.items a.3.items pe.new info.old info.new) }
     ensures compactions { OnOk result (info.new.n_cmp_a ≤ length len.old) }
     ensures refused { IfErr result (λ e. e ≡ Status.OutOfMemory) }
 {
@@ -133,6 +135,17 @@ fn write_words(words: &[Word<isize>], numbers: &mut [isize])
     }
 }
 
+/// Copies numbers into words, the least `isize` raised by 1, since no word holds it.
+fn copy_raised(numbers: &[isize], words: &mut [Word<isize>])
+    requires room { length words.old ≡ length numbers.now }
+    ensures { words.new ≡ map raised numbers.now }
+{
+    'words: for k in 0..numbers.len() {
+        let number = numbers[k].max(-isize::MAX);
+        put_word(words, k, number);
+    }
+}
+
 /// Writes counts of rows as numbers of the caller's type.
 fn write_counts<I: PrimInt>(words: &[Word<isize>], numbers: &mut [I])
     requires room { length numbers.old ≡ length words.now }
@@ -152,7 +165,8 @@ fn write_counts<I: PrimInt>(words: &[Word<isize>], numbers: &mut [I])
 ///
 /// `pe` and `len` have `n` places, at least one, and `iw` has `iwlen` words. The list of row `i` has `len[i]` words
 /// from `pe[i]` on: its neighbours. The lists fill the first `pfree` words of `iw`, and `pfree + n <= iwlen`; behind
-/// them any numbers are allowed. What `pe`, `iw` and `len` hold afterwards is not said.
+/// them any numbers are allowed. What `iw` and `len` hold afterwards is not said. `pe` then has the parent of each
+/// element in the assembly tree, or -1, and links that lead each other eliminated row to its element.
 ///
 /// Returns four lists of `n` numbers: the number of rows of the block of each element, and 0 for what is none; the
 /// inverse of the permutation; the permutation; and the number of rows of the front of each element, and -1 for what is
@@ -184,20 +198,21 @@ pub fn amd_2<I: PrimInt, A: Allocator + Copy>(
     requires room { pfree + length len.old ≤ iwlen }
     ensures orders { IfOk result (λ a. (g : Graph) (lists : ℕ → List ℕ) → LaysGraph g lists iw.old pe.old len.old →
         AnswersInPlace g lists None (length len.old) control.now.dense control.now.aggressive
-        (map I.value a.2.items) (map I.value a.1.items) (map I.value a.0.items) a.3.items info.old info.new) }
+        (map I.value a.2.items) (map I.value a.1.items) (map I.value a.0.items) a.3.items pe.new info.old info.new) }
     ensures compactions { OnOk result (info.new.n_cmp_a ≤ length len.old) }
     ensures refused { IfErr result (λ e. e ≡ Status.OutOfMemory) }
 {
     let size = len.len();
     let mut nv = room_for(alloc, size)?;
     let mut e_len = numbers_for(alloc, size)?;
-    raise(pe);
+    let mut links = words(alloc, size, 0)?;
+    copy_raised(pe, &mut links);
     raise(iw);
     let (blocks, p_inv, p, fronts) = amd_2_from(
         alloc,
         2,
         n,
-        lend_words(pe),
+        &mut links,
         lend_words(iw),
         lend_cells(len),
         pfree,
@@ -207,5 +222,6 @@ pub fn amd_2<I: PrimInt, A: Allocator + Copy>(
     )?;
     write_counts(&blocks, &mut nv);
     write_words(&fronts, &mut e_len);
+    write_words(&links, pe);
     Ok((nv, p_inv, p, e_len))
 }

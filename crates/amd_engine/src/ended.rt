@@ -32,7 +32,8 @@ fn write_numbers<I: PrimInt, U: Unsigned>(figures: &[Cell<U>], numbers: &mut [I]
 ///
 /// Each list has `n` places. All but `p` and `p_inv`, in which any numbers are allowed, hold what `run` left. The
 /// caller's type has each number below `n`, and both widths of word hold `n + 2`. For each element, `nv` then has the
-/// number of rows of its block, and `e_len` that of its front; for what is none, 0 and -1.
+/// number of rows of its block, and `e_len` that of its front; for what is none, 0 and -1. `pe` has the parent of each
+/// element, or -1.
 ///
 /// Source: Amestoy, Davis and Duff 2004.
 pub fn list_rows<I: PrimInt, S: Signed, U: Unsigned>(
@@ -51,7 +52,7 @@ pub fn list_rows<I: PrimInt, S: Signed, U: Unsigned>(
     requires narrow { (length pe.old + 2 ≤ S.MOST) × (length pe.old + 2 ≤ U.MOST) }
     requires fits { (k : ℕ) → k < length pe.old → I.fits (pos k) }
     ensures { AreListed (length pe.old) pe.old e_len.old degree.old e_len.new nv.new (map I.value p.new)
-        (map I.value p_inv.new) }
+        (map I.value p_inv.new) pe.new }
 {
     end_rows(pe, e_len, nv, degree);
     listing(pe, nv, e_len, head, hash, degree, w);

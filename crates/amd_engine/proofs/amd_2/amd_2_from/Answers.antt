@@ -51,4 +51,5 @@ returns-clause-orders g c = λ graph lists lays.
     c.args.iw.now c.args.pe.now c.args.len.now told.result.n_dense told.result.figures told.new.pe told.new.e_len told.new.nv
     told.new.degree told.ensures.runs listed.link new.e_len new.nv ends (listed.long.0 ∙ rows) (listed.long.1 ∙ rows)
     (listed.long.2 ∙ rows) graph lists lays listed.rows listed.lists c.args.control.now.dense c.requires.some
-    c.dense_threshold-threshold.ensures p q listed.listed inverse told.result.n_cmp_a c.args.info.now c.tell.new.info c.tell.ensures)
+    c.dense_threshold-threshold.ensures p q listed.listed inverse told.result.n_cmp_a
+    c.args.info.now c.tell.new.info c.tell.ensures new.pe listed.shortens)

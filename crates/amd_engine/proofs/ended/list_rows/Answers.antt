@@ -41,4 +41,5 @@ returns g c =
       inverse = inverse_same (length c.end_rows.new.nv) n (map pos c.listing.new.p) (map pos c.listing.new.p_inv)
           (map value c.write_numbers.new.numbers) (map value c.write_numbers-2.new.numbers) c.listing.ensures.inverse rows
           c.write_numbers.ensures c.write_numbers-2.ensures;
+      shortens = c.listing.ensures.shortens;
     }
