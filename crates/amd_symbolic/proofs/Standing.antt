@@ -79,7 +79,7 @@ first_get (x ∷ xs) = refl
 
 -- what stands before a place that is written stays
 module _ (o : Order) (k : ℕ) (ptr rows rows' : List ℕ) (h : HoldBefore o k ptr rows)
-    (same : take (slice_index ptr k) rows' ≡ take (slice_index ptr k) rows) (size : length rows' ≡ length rows) where
+    (same : take (slice_index ptr k) rows' ≡ take (slice_index ptr k) rows) (size : length rows ≤ length rows') where
   part_same : (m : ℕ) → m < k → slice_range rows (slice_index ptr m) (slice_index ptr (m + 1)) ≡
       slice_range rows' (slice_index ptr m) (slice_index ptr (m + 1))
   part_same m l = range_same rows rows' (slice_index ptr k) (slice_index ptr m) (slice_index ptr (m + 1))

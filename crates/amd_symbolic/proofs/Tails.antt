@@ -1,10 +1,10 @@
 -- What a column hands on: the entries of a child behind its first one. And parts of a list.
-use Rattle.std.proofs.Common.{ℕ, suc, ◌≡◌, ◌<◌, ◌≤◌, ◌+◌, ◌-◌, ◌⊎◌, inl, inr, refl, sym, ◌∙◌, ap, subst, arith, List, [], ◌∷◌}
-use Rattle.std.proofs.Common.{◌++◌, length, take, drop}
+use Rattle.std.proofs.Common.{ℕ, suc, ◌≡◌, ◌<◌, ◌≤◌, ◌+◌, ◌-◌, ◌⊎◌, inl, inr, refl, sym, ◌∙◌, subst, arith, List, [], ◌∷◌}
+use Rattle.std.proofs.Common.{◌++◌, ap, length, take, take_all, drop}
 use Rattle.std.specs.Prelude.{slice_index, slice_range, Contains, Option, None, Some, ◌↔◌}
 use Rattle.std.specs.List.Sorted.{IsStrictlyIncreasing}
 use Rattle.std.proofs.lemmas.Bool.{cases_Bool}
-use Rattle.std.proofs.lemmas.List.{drop_more, drop_at, take_at, take-take}
+use Rattle.std.proofs.lemmas.List.{drop_more, drop_at, take_at, take-take, take-append-le, length-append}
 use Rattle.std.proofs.lemmas.List.Edits.{length-between}
 use Rattle.std.proofs.lemmas.Slice.{between_is}
 use Rattle.amd_model.specs.Quotient.{has}
@@ -28,6 +28,16 @@ pub range_middle : (xs ys zs : List ℕ) (i n : ℕ) → length xs ≡ i → len
 range_middle xs ys zs i n a b =
     let size : i + n - i ≡ n = omega arith in
     ap (λ m. take m (drop i (xs ++ (ys ++ zs)))) size ∙ ap (take n) (drop_at xs (ys ++ zs) i a) ∙ take_at ys zs n b
+
+-- what was appended
+pub range_last : (xs ys zs : List ℕ) (i j : ℕ) → zs ≡ xs ++ ys → i ≡ length xs → j ≡ length zs → slice_range zs i j ≡ ys
+range_last xs ys zs i j e a b =
+    let n : length ys ≤ j - i = (let s = ap length e in let t = length-append xs ys in omega (arith, s, t, a, b)) in
+    ap (λ m. take (j - i) (drop i m)) e ∙ ap (take (j - i)) (drop_at xs ys i (sym a)) ∙ take_all (j - i) ys n
+
+-- and what stood before it
+pub range_before : (xs ys zs : List ℕ) (i : ℕ) → zs ≡ xs ++ ys → i ≡ length xs → take i zs ≡ take i xs
+range_before xs ys zs i e a = ap (take i) e ∙ take-append-le i xs ys (omega (arith, a))
 
 -- a part of the first elements
 pub range_take : (xs : List ℕ) (m i j : ℕ) → j ≤ m → slice_range (take m xs) i j ≡ slice_range xs i j

@@ -3,7 +3,8 @@
 // 1981; Liu 1990. Called by `fill`.
 
 ghost use Rattle.std.specs.Prelude.{ℕ, List, ◌≡◌, ◌<◌, ◌≤◌, ◌+◌, ◌-◌, [], true, Some, length, slice_index, slice_range, take};
-ghost use Rattle.std.specs.Prelude.{MatchOption};
+ghost use Rattle.std.specs.Prelude.{◌++◌, MatchOption};
+ghost use Rattle.std.specs.Vec.{vec_capacity};
 ghost use Rattle.std.specs.List.Sorted.{IsStrictlyIncreasing};
 ghost use Rattle.amd_model.specs.Factor.{IsColumn};
 ghost use Rattle.amd_model.specs.Graph.{IsGraph};
@@ -18,6 +19,7 @@ ghost use Rattle.amd_symbolic.specs.Trees.{Entry};
 use crate::children::{greatest_child, has_only_child, link_child};
 use crate::gathering::{gather, mark_rows};
 use crate::merge::merge;
+use std::alloc::Allocator;
 
 /// A column, if there is one, and the mark of its entries: those of the rows behind it that have the mark.
 #[derive(Clone, Copy)]
@@ -164,30 +166,37 @@ pub fn new_rows(
     (count, Marked { column, stamp })
 }
 
-/// Writes a column from place `begin` of `rows` on: the rows from place `from` on, before `to`, and those that are new,
-/// merged. Returns where it ends; none, exactly where it does not fit.
-pub fn write_column(
-    begin: usize,
+/// Writes a column behind the last one of `rows`: the rows from place `from` on, before `to`, and those that are new,
+/// merged. Returns where it ends; none, exactly where that is behind `room`. No memory is asked for.
+pub fn write_column<A: Allocator>(
     from: usize,
     to: usize,
     fresh: &[usize],
-    rows: &mut [usize],
+    room: usize,
+    rows: &mut Vec<usize, A>,
 ) -> Option<usize>
     requires range { from ≤ to }
-    requires behind { to ≤ begin }
-    requires within { begin ≤ length rows.old }
-    ensures none { MatchOption result (length rows.old < begin + (to - from + length fresh.now))
-        (λ end. (end ≡ begin + (to - from + length fresh.now)) × (end ≤ length rows.old)) }
-    ensures before { take begin rows.new ≡ take begin rows.old }
-    ensures column { MatchOption result (Unit {0}) (λ end. slice_range rows.new begin end ≡
-        merged (slice_range rows.old from to) fresh.now) }
+    requires behind { to ≤ length rows.old.items }
+    requires within { length rows.old.items ≤ room }
+    requires capacity { room ≤ vec_capacity rows.old }
+    ensures none { MatchOption result (room < length rows.old.items + (to - from + length fresh.now))
+        (λ end. (end ≡ length rows.new.items) × (end ≡ length rows.old.items + (to - from + length fresh.now))) }
+    ensures column { MatchOption result (rows.new.items ≡ rows.old.items)
+        (λ end. rows.new.items ≡ rows.old.items ++ merged (slice_range rows.old.items from to) fresh.now) }
+    ensures within { length rows.new.items ≤ room }
+    ensures capacity { room ≤ vec_capacity rows.new }
 {
+    let begin = rows.len();
     let size = to - from + fresh.len();
-    if rows.len() - begin < size {
+    if room - begin < size {
         return None;
     }
+    // The room is there, so nothing is asked for. The zeros of a column are still at hand when it is written over them.
+    let Ok(()) = rows.resize(begin + size, 0) else {
+        unreachable!()
+    };
     let (done, free) = rows.split_at_mut(begin);
-    merge(&done[from..to], fresh, &mut free[..size]);
+    merge(&done[from..to], fresh, free);
     Some(begin + size)
 }
 
@@ -224,12 +233,13 @@ fn close_column(
 
 /// Writes column `k` behind those before it, and returns the column that the marks then tell; none, exactly where it
 /// does not fit.
-pub fn add_column(
+pub fn add_column<A: Allocator>(
     k: usize,
     neighbours: &[usize],
     marked: Marked,
+    room: usize,
     ptr: &mut [usize],
-    rows: &mut [usize],
+    rows: &mut Vec<usize, A>,
     parent: &mut [Option<usize>],
     mark: &mut [usize],
     link: &mut [Option<usize>],
@@ -239,17 +249,23 @@ pub fn add_column(
     requires laws { IsGraph o.graph }
     requires place { k < length o.rows }
     requires neighbours { AreLater o k neighbours.now }
-    requires filled { Filled o k ptr.old rows.old parent.old link.old marked.column marked.stamp mark.old }
-    requires room { length fresh.old ≡ length o.rows }
-    ensures filled { MatchOption result (PassesRoom o.graph o.rows (length rows.old))
-        (λ now. Filled o (k + 1) ptr.new rows.new parent.new link.new now.column now.stamp mark.new) }
+    requires filled { Filled o k ptr.old rows.old.items parent.old link.old marked.column marked.stamp mark.old }
+    requires fresh { length fresh.old ≡ length o.rows }
+    requires full { slice_index ptr.old k ≡ length rows.old.items }
+    requires within { length rows.old.items ≤ room }
+    requires capacity { room ≤ vec_capacity rows.old }
+    ensures filled { MatchOption result (PassesRoom o.graph o.rows room)
+        (λ now. Filled o (k + 1) ptr.new rows.new.items parent.new link.new now.column now.stamp mark.new) }
+    ensures full { MatchOption result (Unit {0}) (λ now. slice_index ptr.new (k + 1) ≡ length rows.new.items) }
+    ensures within { length rows.new.items ≤ room }
+    ensures capacity { room ≤ vec_capacity rows.new }
 {
     let base = greatest_child(k, link, ptr);
     let (from, to) = inherited(k, base, ptr);
     let (count, now) = new_rows(
         k, base, from, to, neighbours, marked, link, ptr, rows, mark, fresh,
     );
-    let Some(end) = write_column(ptr[k], from, to, &fresh[..count], rows) else {
+    let Some(end) = write_column(from, to, &fresh[..count], room, rows) else {
         return None;
     };
     close_column(k, end, ptr, rows, parent, link);

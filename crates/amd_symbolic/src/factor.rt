@@ -106,14 +106,15 @@ fn written_factor<A: Allocator + Copy>(
 {
     let columns = starts.len() - 1;
     let mut ptr = vec![in alloc; 0; starts.len()]?;
-    let mut rows = vec![in alloc; 0; room]?;
+    let mut rows = Vec::with_capacity(alloc, room)?;
     let mut parent = vec![in alloc; None; columns]?;
     let mut mark = vec![in alloc; 0; columns]?;
     let mut link = vec![in alloc; None; columns]?;
     let mut fresh = vec![in alloc; 0; columns]?;
-    let Some(total) = fill(
+    let Some(_) = fill(
         starts,
         later,
+        room,
         &mut ptr,
         &mut rows,
         &mut parent,
@@ -123,7 +124,6 @@ fn written_factor<A: Allocator + Copy>(
     ) else {
         return Ok(None);
     };
-    rows.truncate(total);
     Ok(Some(Factor { ptr, rows, parent }))
 }
 
@@ -169,7 +169,7 @@ fn form_columns<I: PrimInt, A: Allocator + Copy>(
 /// at, `p` must be empty, and `ptr` is `[0]`.
 ///
 /// Memory is asked for `room` entries, whatever the factor needs, and all of it before the first entry is written. The
-/// steps are as many as there are rows, entries of the matrix, entries of the factor, and `room`.
+/// steps are as many as there are rows, entries of the matrix and entries of the factor.
 ///
 /// # Errors
 ///
