@@ -11,27 +11,7 @@ use Rattle.amd_command.specs.declared.causes.Cause.TheVariants.{Memory, Write, P
 -- the exit status after a fault of a line: 1 where memory was refused, else 2
 abbrev pub fault_status : Fault → ℕ
 fault_status fault.OutOfMemory = 1
-fault_status fault.Empty = 2
-fault_status fault.Gzip = 2
-fault_status fault.Banner = 2
-fault_status fault.Object = 2
-fault_status fault.Dense = 2
-fault_status fault.Format = 2
-fault_status fault.Field = 2
-fault_status fault.Symmetry = 2
-fault_status fault.Size = 2
-fault_status (fault.NotSquare rows columns) = 2
-fault_status fault.Entry = 2
-fault_status (fault.Row number rows) = 2
-fault_status (fault.Column number columns) = 2
-fault_status fault.NoValue = 2
-fault_status fault.Words = 2
-fault_status fault.Value = 2
-fault_status fault.Held = 2
-fault_status (fault.Missing found told) = 2
-fault_status (fault.More told) = 2
-fault_status fault.Long = 2
-fault_status fault.Lines = 2
+fault_status f = 2
 
 -- the exit status after a text that was not read
 abbrev pub read_status : ReadError → ℕ

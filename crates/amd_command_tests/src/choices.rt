@@ -22,7 +22,12 @@ fn twenty_rows(alloc: Global) -> Result<Matrix<Global>, AllocError> {
         a_i.push(row)?;
     }
     a_i.push(19)?;
-    Ok(Matrix { n: 20, a_p, a_i })
+    Ok(Matrix {
+        n: 20,
+        a_p,
+        a_i,
+        repeats: 0,
+    })
 }
 
 /// Their order where the first row is dense.

@@ -60,6 +60,10 @@ const ENTRY: &str = "here must stand the numbers of a row and a column";
 const SYMMETRY: &str =
     "the last word is none of general, symmetric, skew-symmetric, hermitian, or not the fifth";
 
+/// What is wrong with an entry that lacks a value.
+const NO_VALUE: &str =
+    "the value is missing: write it, or pattern in the first line if no entry has one";
+
 /// A kind, what stands behind the header, and the line at fault and what is wrong with it.
 const FAULTS: [(&str, &str, u64, &str); 20] = [
     ("real", "", 1, SYMMETRY),
@@ -90,7 +94,7 @@ const FAULTS: [(&str, &str, u64, &str); 20] = [
         "real general",
         "2 2 1\n0 1 1\n",
         3,
-        "the row is out of range: 0, of rows 1 to 2",
+        "the row is out of range: 0, of rows 1 to 2; they count from 1",
     ),
     (
         "real general",
@@ -102,19 +106,19 @@ const FAULTS: [(&str, &str, u64, &str); 20] = [
         "real general",
         "2 2 1\n1 1\n",
         3,
-        "the value is missing that the header tells of",
+        NO_VALUE,
     ),
     (
         "complex general",
         "2 2 1\n1 1 1\n",
         3,
-        "the value is missing that the header tells of",
+        NO_VALUE,
     ),
     (
         "pattern general",
         "2 2 1\n1 1 1\n",
         3,
-        "more words than the header tells of",
+        "more words than the header tells of: a pattern has no values, and a comment a line of its own",
     ),
     (
         "real general",
@@ -157,8 +161,11 @@ fn files_at_fault(rt: HostRuntime) -> Result<(), Fail> {
     Ok(())
 }
 
+/// What is told of a file of no kind.
+const UNKNOWN: &str = "line 1: this is neither a Matrix Market file, which begins with %%MatrixMarket, nor a Harwell-Boeing file";
+
 /// Files whose first line is at fault, and what is told of them.
-const NO_HEADERS: [(&[u8], &str); 7] = [
+const NO_HEADERS: [(&[u8], &str); 8] = [
     (b"", "the file is empty"),
     (
         b"\x1f\x8b\x08\x00",
@@ -166,23 +173,27 @@ const NO_HEADERS: [(&[u8], &str); 7] = [
     ),
     (
         b"3 3 3\n",
-        "line 1: this is no Matrix Market file: its first line must begin with %%MatrixMarket",
+        UNKNOWN,
     ),
     (
         b"\n%%MatrixMarket matrix coordinate real general\n",
-        "line 1: this is no Matrix Market file: its first line must begin with %%MatrixMarket",
+        UNKNOWN,
     ),
     (
         b"%%MatrixMarket vector coordinate real general\n",
         "line 1: the second word of the first line is not matrix",
     ),
     (
-        b"%%MatrixMarket matrix array real general\n",
-        "line 1: the matrix is dense (array), and only a sparse one (coordinate) is read",
+        b"% a note\n%%MatrixMarket matrix coordinate real general\n",
+        UNKNOWN,
+    ),
+    (
+        b"%%MatrixMarket matrix array pattern general\n",
+        "line 1: an array has values, and cannot be of pattern: write the field of its values",
     ),
     (
         b"%%MatrixMarket matrix table real general\n",
-        "line 1: the third word of the first line is not coordinate",
+        "line 1: the third word of the first line is not coordinate or array",
     ),
 ];
 
@@ -209,6 +220,182 @@ fn headers_of_any_case(rt: HostRuntime) -> Result<(), Fail> {
     ] {
         let shown = told(rt.alloc(), file)?;
         assert!(&rt; shown.as_str() == "[0, 1, 2] [1, 0]", "{file}");
+    }
+    Ok(())
+}
+
+/// Arrays: those that are not zero of the values of all places, column by column. The last two are those that scipy's
+/// `mmwrite` made of `[[4, 0, 1], [0, 0, 0], [1, 0, 3]]` and of a skew-symmetric matrix.
+const ARRAYS: [(&str, &str); 7] = [
+    ("real general\n2 2\n1\n0\n-0.0e7\n2.5", "[0, 1, 2] [0, 1]"),
+    (
+        "complex GENERAL\n2 2\n% a note\n0 0\n\n0 -1\n1e-400 0\n+0 .0\n",
+        "[0, 1, 2] [1, 0]",
+    ),
+    ("integer general\n0 0\n", "[0] []"),
+    ("double hermitian\n2 2\nnan\n3\n0\n", "[0, 2, 3] [0, 1, 0]"),
+    (
+        "integer skew-symmetric\n3 3\n0\n7\n-7\n",
+        "[0, 1, 2, 4] [2, 2, 0, 1]",
+    ),
+    (
+        "integer symmetric\n%\n3 3\n4\n0\n1\n0\n0\n3\n",
+        "[0, 2, 2, 4] [0, 2, 0, 2]",
+    ),
+    (
+        "real skew-symmetric\n%\n3 3\n-1.0000000000000000e+00\n0.0000000000000000e+00\n2.0000000000000000e+00\n",
+        "[0, 1, 3, 4] [1, 0, 2, 1]",
+    ),
+];
+
+/// Arrays at fault.
+const NO_ARRAYS: [(&str, &str); 7] = [
+    (
+        "real general\n",
+        "line 1: here must stand the numbers of rows and columns of the array",
+    ),
+    (
+        "real general\n2 2 4\n",
+        "line 2: here must stand the numbers of rows and columns of the array",
+    ),
+    (
+        "real general\n2 3\n",
+        "line 2: the matrix is not square: 2 rows, 3 columns",
+    ),
+    (
+        "real general\n2 2\n1\n2\n3\n",
+        "line 5: the file ends too early: the next value would be that of row 2, column 2",
+    ),
+    (
+        "real symmetric\n2 2\n1\n2\n3\n%\n4\n",
+        "line 7: more values than the array has places",
+    ),
+    ("real general\n2 2\n1 2\n3 4\n", WORDS),
+    ("real general\n2 2\none\n", "line 3: the value is no number"),
+];
+
+/// What is wrong with a line that has more words than it must have.
+const WORDS: &str = "line 3: more words than the header tells of: a pattern has no values, and a comment a line of its own";
+
+#[test]
+fn arrays(rt: HostRuntime) -> Result<(), Fail> {
+    for (rest, wanted) in ARRAYS {
+        let file = format!(in rt.alloc(); "%%MatrixMarket matrix array {rest}")?;
+        assert!(&rt; told(rt.alloc(), &file)?.as_str() == wanted, "{file}");
+    }
+    for (rest, wanted) in NO_ARRAYS {
+        let file = format!(in rt.alloc(); "%%MatrixMarket matrix array {rest}")?;
+        assert!(&rt; told(rt.alloc(), &file)?.as_str() == wanted, "{file}");
+    }
+    Ok(())
+}
+
+/// Harwell-Boeing and Rutherford-Boeing files. scipy's `hb_write` wrote the first one, SuiteSparse's `RBwrite` the
+/// second; the others were worked by hand.
+const BOEINGS: [(&str, &str); 5] = [
+    (
+        "Default title                                                           0       
+             5             1             1             3
+RUA                        4             4             7             0
+(40I2)          (40I2)          (3E25.16)           
+ 1 3 4 6 8
+ 1 3 4 1 3 2 4
+  4.0000000000000000E+00  1.0000000000000000E+00  7.0000000000000000E+00
+  1.0000000000000000E+00  3.0000000000000000E+00  2.5000000000000000E+00
+ -1.0000000000000000E+00
+",
+        "[0, 2, 3, 5, 7] [0, 2, 3, 0, 2, 1, 3]",
+    ),
+    (
+        "a tiny symmetric matrix                                                |tiny    
+             3             1             1             1
+isa                        3             3             4             0
+(40I2)          (40I2)          (40I2)              
+ 1 3 4 5
+ 1 3 2 3
+ 4 1 5 3
+",
+        "[0, 2, 3, 5] [0, 2, 1, 0, 2]",
+    ),
+    // rows out of order, one of them twice, in fields of one byte without space between them; right-hand sides
+    (
+        "title\n4 1 2 0 1\npsa 3 3 4\n(4i1)(I1) none\nF 1 0\n1355\n321\n2\n",
+        "line 4: in a Harwell-Boeing file here must stand the formats of pointers and rows, such as (16I5)",
+    ),
+    (
+        "title\n4 1 2 0 1\npsa 3 3 4\n(4i1) (3I1) none\nF 1 0\n1355\n321\n2\n",
+        "[0, 2, 4, 5] [1, 2, 0, 1, 0]",
+    ),
+    ("\r\n1 1 0 0\r\nPUA 0 0 0\r\n(I8) (I8)\r\n       1\r\n", "[0] []"),
+];
+
+/// The lines behind the title of a Harwell-Boeing file at fault, and what is told of it.
+const NO_BOEINGS: [(&str, &str); 14] = [
+    ("1 1 0 none\n", UNKNOWN),
+    ("1 1 0\n", UNKNOWN),
+    ("", UNKNOWN),
+    ("2 1 1 0\n", "line 2: the file ends before its last row"),
+    ("2 1 1 0\nRXA 1 1 1\n", KIND),
+    ("2 1 1 0\nRUA 1 1\n", KIND),
+    (
+        "2 1 1 0\nRSE 1 1 1 1\n",
+        "line 3: the matrix is not assembled (its type ends in E): assemble it first",
+    ),
+    (
+        "2 1 1 0\nrra 2 1 1\n",
+        "line 3: the matrix is not square: 2 rows, 1 columns",
+    ),
+    (
+        "2 1 1 0\nRUA 1 1 1\n(I4) (F8.2)\n",
+        "line 4: in a Harwell-Boeing file here must stand the formats of pointers and rows, such as (16I5)",
+    ),
+    (
+        "2 1 1 0\nRUA 1 1 1\n(2I4) (I4)\n   1   x\n",
+        "line 5: here must stand numbers, as the formats of the fourth line tell",
+    ),
+    (
+        "2 1 1 0\nRUA 1 1 1\n(2I4) (I4)\n   1   3\n",
+        "line 5: the pointer is out of range: 3, of pointers 1 to 2",
+    ),
+    (
+        "2 1 1 0\nRUA 2 2 2\n(3I4) (I4)\n   1   3   2\n",
+        "line 5: the pointers do not rise from 1 to one more than the number of entries",
+    ),
+    (
+        "2 1 1 0\nRUA 1 1 1\n(2I4) (I4)\n   1   2\n   0\n",
+        "line 6: the row is out of range: 0, of rows 1 to 1; they count from 1",
+    ),
+    (
+        "2 1 1 0\nRUA 1 1 1\n(2I4) (I4)\n   1   2\n",
+        "line 5: the file ends before its last row",
+    ),
+];
+
+/// What is wrong with a third line.
+const KIND: &str = "line 3: in a Harwell-Boeing file here must stand a type such as RUA, and the numbers of rows, columns and entries";
+
+#[test]
+fn boeings(rt: HostRuntime) -> Result<(), Fail> {
+    for (file, wanted) in BOEINGS {
+        assert!(&rt; told(rt.alloc(), file)?.as_str() == wanted, "{file}");
+    }
+    for (rest, wanted) in NO_BOEINGS {
+        let file = format!(in rt.alloc(); "title\n{rest}")?;
+        assert!(&rt; told(rt.alloc(), &file)?.as_str() == wanted, "{file}");
+    }
+    Ok(())
+}
+
+#[test]
+fn repeats(rt: HostRuntime) -> Result<(), Fail> {
+    for (kind, rest, wanted) in [
+        ("pattern general", "3 3 3\n1 2\n2 1\n3 3\n", 0usize),
+        ("pattern general", "3 3 4\n1 2\n1 2\n3 3\n1 2\n", 2),
+        ("pattern symmetric", "3 3 3\n1 2\n2 1\n3 3\n", 2),
+    ] {
+        let file = file_of(rt.alloc(), kind, rest)?;
+        let matrix = read_matrix(rt.alloc(), file.as_bytes());
+        assert!(&rt; matrix.is_ok_and(|matrix| matrix.repeats == wanted), "{kind}");
     }
     Ok(())
 }
@@ -245,7 +432,10 @@ fn rows_to_hold(rt: HostRuntime) -> Result<(), Fail> {
             "2\n4\n",
             "line 2: the row is out of range: 4, of rows 1 to 3",
         ),
-        ("0\n", "line 1: the row is out of range: 0, of rows 1 to 3"),
+        (
+            "0\n",
+            "line 1: the row is out of range: 0, of rows 1 to 3; they count from 1",
+        ),
         (
             "1 2\n",
             "line 1: here must stand the number of a row, alone",

@@ -24,6 +24,7 @@ fn matrix_of(alloc: Global, a_p: &[i32], a_i: &[i32]) -> Result<Matrix<Global>, 
         n: a_p.len().saturating_sub(1),
         a_p: sizes_of(alloc, a_p)?,
         a_i: sizes_of(alloc, a_i)?,
+        repeats: 0,
     })
 }
 

@@ -1,7 +1,7 @@
 -- Bytes that were read behind others, and the first line of bytes of which the front is held.
-use Rattle.std.proofs.Common.{◌≡◌, ◌≢◌, ◌+◌, ◌-◌, ◌<◌, ◌≤◌, ℕ, zero, suc, Bool, true, false, Option, Some, None, List, [], ◌∷◌, ◌++◌}
+use Rattle.std.proofs.Common.{◌≡◌, ◌≢◌, ◌+◌, ◌<◌, ◌≤◌, ℕ, zero, suc, false, List, [], ◌∷◌, ◌++◌}
 use Rattle.std.proofs.Common.{length, get_or, take, drop}
-use Rattle.std.proofs.Common.{arith, refl, ap, sym, ◌∙◌, subst, eqb, add-one, append_assoc, append-nil, length-drop, length-take-le}
+use Rattle.std.proofs.Common.{arith, refl, ap, ◌∙◌, eqb, length-drop, length-take-le}
 use Rattle.std.proofs.Math.Seq.{take-add, take-append_seam}
 use Rattle.std.proofs.lemmas.List.{take_all}
 use Rattle.std.proofs.lemmas.Bool.{ne_eqb}

@@ -1,11 +1,12 @@
 -- The words of a size and of an entry, one by one.
-use Rattle.std.proofs.Common.{◌≡◌, ◌<◌, ℕ, zero, suc, pos, arith, Bool, true, false, List, [], ◌∷◌, ◌++◌, length, cond, sym, ap}
+use Rattle.std.proofs.Common.{◌≡◌, ◌<◌, ℕ, zero, suc, pos, arith, Bool, true, false, List, [], ◌∷◌, ◌++◌, cond, sym, ap}
 use Rattle.std.proofs.Common.{◌∙◌, subst}
 use Rattle.std.specs.Prelude.{All, flat_map, ◌==◌, ◌&&◌, not}
 use Rattle.std.proofs.lemmas.List.Elements.{All-append}
 use Rattle.amd_cases.specs.Words.{words, SpellsNumber}
 use Rattle.amd_market.specs.Headers.{value_words, pairs_of, is_mirrored}
 use Rattle.amd_market.specs.Entries.{SpellsSize, SpellsIndex, SpellsEntry, SpellsEntries, AreValues}
+use Rattle.amd_market.specs.Arrays.{SpellsShape}
 use Rattle.amd_market.specs.declared.headers.Field.{Field}
 use Rattle.amd_market.specs.declared.headers.Symmetry.{Symmetry}
 
@@ -20,6 +21,14 @@ size-words line f s t are r c e h =
       subst (λ w. SpellsNumber w (pos r)) one h.has_rows,
       (subst (λ w. SpellsNumber w (pos c)) two h.has_columns, subst (λ w. SpellsNumber w (pos e)) three h.has_entries),
     )
+
+-- the same of the two words of an array's size
+pub shape-words : (line f s : List ℕ) → words line ≡ f ∷ (s ∷ []) → (r c : ℕ) → SpellsShape line r c →
+    SpellsNumber f (pos r) × SpellsNumber s (pos c)
+shape-words line f s are r c h =
+    let all : h.first ∷ (h.second ∷ []) ≡ f ∷ (s ∷ []) = sym h.parts ∙ are in
+    let one : h.first ≡ f = cc in
+    let two : h.second ≡ s = cc in (subst (λ w. SpellsNumber w (pos r)) one h.has_rows, subst (λ w. SpellsNumber w (pos c)) two h.has_columns)
 
 -- the words of a line that was taken apart spell the numbers of any entry that it spells
 pub entry-words : (field : Field) (n : ℕ) (line f s : List ℕ) (a b : List (List ℕ)) → words line ≡ f ∷ a → a ≡ s ∷ b → (e : ℕ × ℕ) →
@@ -46,7 +55,7 @@ entries-more field n (m ∷ ls) (d ∷ es) l e h k = (h.0, entries-more field n 
 abbrev pub Inside : ℕ → ℕ × ℕ → Type 0
 Inside n p = (p.0 < n) × (p.1 < n)
 
-all-one : (n : ℕ) (p : ℕ × ℕ) → Inside n p → All {X = ℕ × ℕ} (Inside n) (p ∷ [])
+pub all-one : (n : ℕ) (p : ℕ × ℕ) → Inside n p → All {X = ℕ × ℕ} (Inside n) (p ∷ [])
 all-one n p h zero d k = h
 all-one n p h (suc i) d k = absurd (omega arith)
 
@@ -59,14 +68,35 @@ pairs-inside n s e h k = at (is_mirrored s && not (e.0 == e.1))
         (all-one n (e.1, e.0) (k, h))
     at false = all-one n (e.0, e.1) (h, k)
 
+-- the entries lie in the matrix
+listed-inside : (field : Field) (n : ℕ) (ls : List (List ℕ)) (es : List (ℕ × ℕ)) → SpellsEntries field n ls es →
+    All {X = ℕ × ℕ} (Inside n) es
+listed-inside field n [] [] h = λ k d x. absurd (omega arith)
+listed-inside field n [] (e ∷ es) h = elim h [ ]
+listed-inside field n (l ∷ ls) [] h = elim h [ ]
+listed-inside field n (l ∷ ls) (e ∷ es) h = All-append {X = ℕ × ℕ} (Inside n) (e ∷ []) es
+    (all-one n e (h.0.row.0, h.0.column.0)) (listed-inside field n ls es h.1)
+
+-- what holds of all elements holds of the first and of the others
+all-first : (n : ℕ) (e : ℕ × ℕ) (es : List (ℕ × ℕ)) → All {X = ℕ × ℕ} (Inside n) (e ∷ es) → Inside n e
+all-first n e es h = h zero e (omega arith)
+
+pub all-others : (n : ℕ) (e : ℕ × ℕ) (es : List (ℕ × ℕ)) → All {X = ℕ × ℕ} (Inside n) (e ∷ es) → All {X = ℕ × ℕ} (Inside n) es
+all-others n e es h i d l = h (suc i) d (omega arith)
+
+-- the pairs of entries that lie in the matrix
+pub entries-inside : (n : ℕ) (s : Symmetry) (es : List (ℕ × ℕ)) → All {X = ℕ × ℕ} (Inside n) es →
+    All {X = ℕ × ℕ} (Inside n) (flat_map (pairs_of s) es)
+entries-inside n s [] h = λ k d x. absurd (omega arith)
+entries-inside n s (e ∷ es) h =
+    let here = all-first n e es h in
+    All-append {X = ℕ × ℕ} (Inside n) (pairs_of s e) (flat_map (pairs_of s) es)
+    (pairs-inside n s e here.0 here.1) (entries-inside n s es (all-others n e es h))
+
 -- the pairs of all entries lie in the matrix
 pub all-inside : (field : Field) (n : ℕ) (s : Symmetry) (ls : List (List ℕ)) (es : List (ℕ × ℕ)) → SpellsEntries field n ls es
     → All {X = ℕ × ℕ} (Inside n) (flat_map (pairs_of s) es)
-all-inside field n s [] [] h = λ k d x. absurd (omega arith)
-all-inside field n s [] (e ∷ es) h = elim h [ ]
-all-inside field n s (l ∷ ls) [] h = elim h [ ]
-all-inside field n s (l ∷ ls) (e ∷ es) h = All-append {X = ℕ × ℕ} (Inside n) (pairs_of s e) (flat_map (pairs_of s) es)
-    (pairs-inside n s e h.0.row.0 h.0.column.0) (all-inside field n s ls es h.1)
+all-inside field n s ls es h = entries-inside n s es (listed-inside field n ls es h)
 
 -- what stands behind the first two words
 pub second-rest : {X : Type 0} (l t u ws : List X) (x y p q : X) → l ≡ x ∷ t → t ≡ y ∷ u → l ≡ p ∷ (q ∷ ws) → u ≡ ws

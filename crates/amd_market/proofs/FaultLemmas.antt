@@ -1,21 +1,20 @@
 -- What the error of a reader says of the lines that it read.
-use Rattle.std.proofs.Common.{◌≡◌, ◌≢◌, ◌+◌, ℕ, List, [], ◌∷◌, ◌++◌, sym, ap, ◌∙◌, subst}
+use Rattle.std.proofs.Common.{◌≡◌, ◌≢◌, ℕ, List, [], ◌∷◌, ◌++◌, sym, ap, ◌∙◌, subst}
 use Rattle.std.proofs.Common.{Option, Some, None, append-nil, append_assoc}
-use Rattle.std.specs.Prelude.{IfSome, IfErr, Result, Ok, Err}
+use Rattle.std.specs.Prelude.{IfSome}
 use Rattle.amd_cases.specs.Reading.{BeginsWith, line_number}
 use Rattle.amd_cases.proofs.ReadingLemmas.{known-append, number-append}
 use Rattle.amd_market.specs.Lines.{TakesLines, TakesTelling, TakesNotes, FailsAt, named_line, rest_of}
 use Rattle.amd_market.specs.Faults.{IsBehind, last, end, reading, IsUnread, Blames}
-use Rattle.amd_market.specs.Faults.{HasBannerFault, HasFormatFault, HasKindFault, HasWordFault, header_words, banner_word}
-use Rattle.amd_market.specs.Faults.{object_word, format_word}
+use Rattle.amd_market.specs.Faults.{HasBannerFault, HasKindFault, HasWordFault, header_words, banner_word, object_word, low}
+use Rattle.amd_market.specs.Headers.{format_text}
 use Rattle.amd_market.specs.Files.{FailsFor, NamesFault}
 use Rattle.amd_market.specs.declared.lines.LineReader.{LineReader}
 use Rattle.amd_market.specs.declared.faults.Fault.TheVariants as fault
 use Rattle.amd_market.specs.declared.faults.ReadError.{ReadError}
 use Rattle.amd_market.specs.declared.faults.ReadError.TheVariants as error
-use Rattle.amd_market.specs.declared.headers.Header.{Header}
+use Rattle.amd_market.specs.declared.headers.Format.{Format}
 use Rattle.amd_market.specs.declared.faults.Fault.{Fault}
-use Rattle.amd_market.specs.declared.faults.Fault.TheVariants as fault
 
 -- a fault behind more lines
 behind-more : (f : Fault) (is js : List (List ℕ)) (rest : Option (List ℕ)) → IsBehind f js rest → IsBehind f (is ++ js) rest
@@ -111,21 +110,9 @@ no-banner fault.Gzip line h none = h
 no-banner fault.Banner line h none = none
 no-banner f line h none = absurd h
 
--- a first line of another format
-pub no-format : (f : Fault) (line : List ℕ) (ws us : List (List ℕ)) → header_words line ≡ banner_word ∷ us → us ≡ object_word ∷ ws →
-    HasFormatFault f ws → ((vs : List (List ℕ)) → ws ≢ format_word ∷ vs) → HasWordFault f line
-no-format fault.Dense line ws us h k g none = (ws, (h ∙ ap (λ z. banner_word ∷ z) k, g))
-no-format fault.Format line ws us h k g none = (ws, (h ∙ ap (λ z. banner_word ∷ z) k, (none, g)))
-no-format f line ws us h k g none = absurd g
-
 -- a first line with another field or symmetry
-no-kind : (f : Fault) (line : List ℕ) (ws us ts : List (List ℕ)) → header_words line ≡ banner_word ∷ us → us ≡ object_word ∷ ts →
-    ts ≡ format_word ∷ ws → HasKindFault f ws → HasWordFault f line
-no-kind fault.Field line ws us ts h k m g = (ws, (h ∙ ap (λ z. banner_word ∷ z) (k ∙ ap (λ z. object_word ∷ z) m), g))
-no-kind fault.Symmetry line ws us ts h k m g = (ws, (h ∙ ap (λ z. banner_word ∷ z) (k ∙ ap (λ z. object_word ∷ z) m), g))
-no-kind f line ws us ts h k m g = absurd g
-
-pub kind-fails : (r : Result Header Fault) (line : List ℕ) (ws us ts : List (List ℕ)) → header_words line ≡ banner_word ∷ us →
-    us ≡ object_word ∷ ts → ts ≡ format_word ∷ ws → IfErr r (λ f. HasKindFault f ws) → IfErr r (λ f. HasWordFault f line)
-kind-fails (Ok x) line ws us ts h k m g = tt
-kind-fails (Err f) line ws us ts h k m g = no-kind f line ws us ts h k m g
+pub no-kind : (f : Fault) (line : List ℕ) (ws us ts : List (List ℕ)) (g : Format) → header_words line ≡ banner_word ∷ us →
+    us ≡ object_word ∷ ts → ts ≡ low (format_text g) ∷ ws → HasKindFault f ws → HasWordFault f line
+no-kind fault.Field line ws us ts g h k m bad = (g, (ws, (h ∙ ap (λ z. banner_word ∷ z) (k ∙ ap (λ z. object_word ∷ z) m), bad)))
+no-kind fault.Symmetry line ws us ts g h k m bad = (g, (ws, (h ∙ ap (λ z. banner_word ∷ z) (k ∙ ap (λ z. object_word ∷ z) m), bad)))
+no-kind f line ws us ts g h k m bad = absurd bad

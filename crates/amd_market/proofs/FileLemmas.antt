@@ -1,18 +1,25 @@
 -- The parts of a file, read one after another.
-use Rattle.std.proofs.Common.{◌≡◌, ◌+◌, ℕ, Option, Some, None, List, [], ◌∷◌, ◌++◌, length, length-append, refl, sym, ap, ◌∙◌, subst}
-use Rattle.std.proofs.Common.{append-nil, arith}
+use Rattle.std.proofs.Common.{◌≡◌, ◌+◌, ℕ, true, false, Option, Some, None, List, [], ◌∷◌, ◌++◌, length, length-append, refl, sym, ap, ◌∙◌, subst}
+use Rattle.std.proofs.Common.{append-nil}
 use Rattle.std.specs.Prelude.{IfSome, flat_map, All}
 use Rattle.std.proofs.lemmas.Grind.{flat_map-append}
 use Rattle.amd_market.specs.Headers.{SpellsHeader, pairs_of}
 use Rattle.amd_market.specs.Entries.{SpellsSize, SpellsEntry, SpellsEntries}
+use Rattle.amd_market.specs.Headers.{is_array}
+use Rattle.amd_market.specs.Arrays.{SpellsShape, SpellsArray}
+use Rattle.amd_market.specs.Boeing.{SpellsBoeing}
+use Rattle.amd_market.specs.Faults.{HasHeaderFault}
 use Rattle.amd_cases.specs.Reading.{BeginsWith, line_number}
 use Rattle.amd_cases.proofs.ReadingLemmas.{end-append}
-use Rattle.amd_market.specs.Lines.{TakesLines, TakesTelling, TakesNotes, FailsAt, telling, named_line, rest_of}
-use Rattle.amd_market.specs.Columns.{HoldsPairs}
-use Rattle.amd_market.specs.Files.{TakesEntries, SpellsMatrix, NamesLine}
+use Rattle.amd_market.specs.Lines.{TakesLines, TakesTelling, TakesNotes, FailsAt, telling, rest_of}
+use Rattle.amd_market.specs.Columns.{HoldsOnce}
+use Rattle.amd_market.specs.Files.{TakesEntries, TakesBody, SpellsBody, SpellsFile, market, boeing, NamesLine}
 use Rattle.amd_market.proofs.LineLemmas.{takes-append, takes-none, telling-both}
 use Rattle.amd_market.proofs.EntryLemmas.{Inside, entries-more, all-inside}
+use Rattle.amd_market.specs.declared.headers.Format.{Format}
+use Rattle.amd_market.specs.declared.headers.Format.TheVariants.{Coordinate, Array}
 use Rattle.amd_market.specs.declared.headers.Header.{Header}
+use Rattle.amd_market.specs.declared.faults.Fault.TheVariants as fault
 use Rattle.amd_market.specs.declared.lines.LineReader.{LineReader}
 use Rattle.amd_market.specs.declared.faults.ReadError.{ReadError}
 
@@ -56,52 +63,79 @@ pairs-inside remaining a b header n k ps h =
     let P : List (ℕ × ℕ) → Type 0 = λ z. All {X = ℕ × ℕ} (Inside n) z in
     subst P (sym h.pairs_are) (all-inside header.field n header.symmetry (telling h.lines) h.entries h.spells)
 
--- all parts of a file
-pub file-whole : {R Z : Type 0} (remaining : R → Option (List ℕ)) (a b c d e : LineReader R Z) (input : R) (line size_line : List ℕ)
-    (header : Header) (n k : ℕ)
-    (ps : List (ℕ × ℕ)) (ap' ai : List ℕ) → rest_of remaining a ≡ remaining input → TakesLines remaining a b (line ∷ []) →
-    SpellsHeader line header →
-    TakesTelling remaining b c size_line
-    → SpellsSize size_line n n k → TakesEntries remaining c d header n k ps → TakesNotes remaining d e →
-    HoldsPairs n ps ap' ai
-    → IfSome (remaining input) (λ bytes. SpellsMatrix bytes n ap' ai)
-file-whole remaining a b c d e input line size_line header n k ps ap' ai same first head second size third end columns =
-    let all = takes-append remaining a b d (line ∷ []) (second.lines ++ third.lines) first
-    (takes-append remaining b c d second.lines third.lines second.takes third.takes) in
-    let whole = takes-append remaining a d e ((line ∷ []) ++ (second.lines ++ third.lines)) end.lines all end.takes in
-    rw (← same) (known (rest_of remaining a) (rest_of remaining d) (rest_of remaining e) all.took whole.took end.end)
+-- the lines of a size, of the entries, and of notes up to the end
+pub body-whole : {R Z : Type 0} (remaining : R → Option (List ℕ)) (a b c d : LineReader R Z) (size_line : List ℕ) (ls : List (List ℕ))
+    (header : Header) (n : ℕ) (pairs entries : List (ℕ × ℕ)) → TakesTelling remaining a b size_line → TakesLines remaining b c ls →
+    TakesNotes remaining c d → SpellsBody header.format header n size_line (telling ls) entries →
+    pairs ≡ flat_map (pairs_of header.symmetry) entries → TakesBody remaining a d header n pairs
+body-whole remaining a b c d size_line ls header n pairs entries first second third spells are =
+    let both = takes-append remaining a b c first.lines ls first.takes second in record {
+      lines = (first.lines ++ ls) ++ third.lines;
+      takes = takes-append remaining a c d (first.lines ++ ls) third.lines both third.takes;
+      end = end-append (first.lines ++ ls) _ _ _ both.took third.end;
+      size_line = size_line;
+      entry_lines = telling ls;
+      parts = telling-both (first.lines ++ ls) third.lines (size_line ∷ telling ls) []
+          (telling-both first.lines ls (size_line ∷ []) (telling ls) first.tells refl) third.tells ∙
+          append-nil (size_line ∷ telling ls);
+      entries = entries;
+      has_body = spells;
+      pairs_are = are;
+    }
+
+-- the body of a format that lists entries, and of one that lists places
+pub listed-body : (f : Format) (h : Header) (n : ℕ) (size_line : List ℕ) (ls : List (List ℕ)) (es : List (ℕ × ℕ)) → is_array f ≡ false →
+    SpellsSize size_line n n (length es) → SpellsEntries h.field n ls es → SpellsBody f h n size_line ls es
+listed-body Coordinate h n size_line ls es is size spells = (size, spells)
+listed-body Array h n size_line ls es is size spells = cc
+
+pub array-body : (f : Format) (h : Header) (n : ℕ) (size_line : List ℕ) (ls : List (List ℕ)) (es : List (ℕ × ℕ)) → is_array f ≡ true →
+    SpellsShape size_line n n → SpellsArray h.field h.symmetry n ls es → SpellsBody f h n size_line ls es
+array-body Array h n size_line ls es is size spells = (size, spells)
+array-body Coordinate h n size_line ls es is size spells = cc
+
+-- all lines of a file of the Matrix Market
+pub market-whole : {R Z : Type 0} (remaining : R → Option (List ℕ)) (a b c : LineReader R Z) (input : R) (line : List ℕ) (header : Header)
+    (n : ℕ) (ps : List (ℕ × ℕ)) (ap' ai : List ℕ) (repeats : ℕ) → rest_of remaining a ≡ remaining input →
+    TakesLines remaining a b (line ∷ []) → SpellsHeader line header → TakesBody remaining b c header n ps →
+    HoldsOnce n ps ap' ai repeats → IfSome (remaining input) (λ bytes. SpellsFile bytes n ap' ai repeats)
+market-whole remaining a b c input line header n ps ap' ai repeats same first head body holds =
+    let whole = takes-append remaining a b c (line ∷ []) body.lines first body.takes in
+    rw (← same) (known (rest_of remaining a) (rest_of remaining c) whole.took (end-append (line ∷ []) _ _ _ first.took body.end))
   where
-    others : List (List ℕ)
-    others = (second.lines ++ third.lines) ++ end.lines
-
-    tell : telling others ≡ size_line ∷ telling third.lines
-    tell = telling-both (second.lines ++ third.lines) end.lines (size_line ∷ telling third.lines) []
-        (telling-both second.lines third.lines (size_line ∷ []) (telling third.lines) second.tells refl) end.tells ∙
-        append-nil (size_line ∷ telling third.lines)
-
-    made : (bytes : List ℕ) → BeginsWith (line ∷ others) bytes (Some []) → SpellsMatrix bytes n ap' ai
-    made bytes h = record {
+    made : (bytes : List ℕ) → BeginsWith (line ∷ body.lines) bytes (Some []) → SpellsFile bytes n ap' ai repeats
+    made bytes h = market (record {
       first = line;
-      others = others;
+      others = body.lines;
       lines = h;
       header = header;
       has_header = head;
-      size_line = size_line;
-      entry_lines = telling third.lines;
-      parts = tell;
-      entries = third.entries;
-      has_size = subst (SpellsSize size_line n n) (sym third.counted) size;
-      has_entries = third.spells;
-      columns = subst (λ z. HoldsPairs n z ap' ai) third.pairs_are columns;
-    }
+      size_line = body.size_line;
+      entry_lines = body.entry_lines;
+      parts = body.parts;
+      entries = body.entries;
+      has_body = body.has_body;
+      matrix = subst (λ z. HoldsOnce n z ap' ai repeats) body.pairs_are holds;
+    })
 
-    known : (first' mid last : Option (List ℕ)) → IfSome first' (λ bs. BeginsWith ((line ∷ []) ++ (second.lines ++ third.lines)) bs mid)
-        → IfSome first' (λ bs. BeginsWith (line ∷ others) bs last) → IfSome mid (λ bs. last ≡ Some []) →
-        IfSome first' (λ bytes. SpellsMatrix bytes n ap' ai)
-    known None mid last h w z = tt
-    known (Some bytes) mid last h w z =
-        made bytes (subst (BeginsWith (line ∷ others) bytes)
-        (end-append ((line ∷ []) ++ (second.lines ++ third.lines)) (Some bytes) mid last h z) w)
+    known : (first' last : Option (List ℕ)) → IfSome first' (λ bs. BeginsWith (line ∷ body.lines) bs last) →
+        IfSome first' (λ bs. last ≡ Some []) → IfSome first' (λ bytes. SpellsFile bytes n ap' ai repeats)
+    known None last w z = tt
+    known (Some bytes) last w z = made bytes (subst (BeginsWith (line ∷ body.lines) bytes) z w)
+
+-- the lines of a Harwell-Boeing file that are read
+pub boeing-whole : {R Z : Type 0} (remaining : R → Option (List ℕ)) (a b c : LineReader R Z) (input : R) (line : List ℕ)
+    (ls : List (List ℕ)) (n : ℕ) (ap' ai : List ℕ) (repeats : ℕ) → rest_of remaining a ≡ remaining input →
+    TakesLines remaining a b (line ∷ []) → HasHeaderFault fault.Banner line → TakesLines remaining b c ls →
+    SpellsBoeing ls n ap' ai repeats → IfSome (remaining input) (λ bytes. SpellsFile bytes n ap' ai repeats)
+boeing-whole remaining a b c input line ls n ap' ai repeats same first none behind spells =
+    let whole = takes-append remaining a b c (line ∷ []) ls first behind in
+    rw (← same) (known (rest_of remaining a) (rest_of remaining c) whole.took)
+  where
+    known : (first' last : Option (List ℕ)) → IfSome first' (λ bs. BeginsWith (line ∷ ls) bs last) →
+        IfSome first' (λ bytes. SpellsFile bytes n ap' ai repeats)
+    known None last w = tt
+    known (Some bytes) last w = boeing line ls last none w spells
 
 -- an error of a reader that began at the start of a text
 pub names-line : {R Z : Type 0} (remaining : R → Option (List ℕ)) (a : LineReader R Z) (input : R) (e : ReadError) → rest_of remaining a

@@ -1,5 +1,7 @@
 pub mod LineLemmas
 pub mod EntryLemmas
+pub mod ArrayLemmas
+pub mod BoeingLemmas
 pub mod FaultLemmas
 pub mod FileLemmas
 pub mod WrittenLists

@@ -1,12 +1,14 @@
 -- Which fault a line has.
-use Rattle.std.specs.Prelude.{◌≡◌, ◌≢◌, ◌<◌, ◌+◌, ℕ, ℤ, false, List, [], ◌∷◌, ◌++◌, Option, Some, length, drop, map, codes, slice_index}
+use Rattle.std.specs.Prelude.{◌≡◌, ◌≢◌, ◌<◌, ◌+◌, ℕ, ℤ, true, false, List, [], ◌∷◌, ◌++◌, Option, Some, length, drop, map, codes, slice_index}
 use Rattle.std.specs.List.{list_all}
 use Rattle.std.specs.Char.{to_ascii_lowercase}
 use Rattle.std.specs.Float.Parse.{is_float_text}
 use Rattle.amd_cases.specs.Words.{words, SpellsNumber}
-use Rattle.amd_market.specs.Headers.{value_words, SpellsHeader, lowered, without_mark, field_text}
+use Rattle.amd_market.specs.Headers.{value_words, SpellsHeader, lowered, without_mark, format_text, field_text, is_void}
+use Rattle.amd_market.specs.Arrays.{HasShapeFault}
 use Rattle.amd_market.specs.Entries.{SpellsSize, SpellsIndex}
 use Rattle.amd_market.specs.Lines.{is_note}
+use Rattle.amd_market.specs.declared.headers.Format.{Format}
 use Rattle.amd_market.specs.declared.headers.Field.{Field}
 use Rattle.amd_market.specs.declared.headers.Header.{Header}
 use Rattle.amd_market.specs.declared.faults.Fault.{Fault}
@@ -71,13 +73,7 @@ HasBannerFault fault.Gzip line = (slice_index line 0 ≡ 31) × (slice_index lin
 HasBannerFault fault.Banner line = Unit {0}
 HasBannerFault f line = ⊥
 
--- a format that is not that of sparse matrices: it is that of dense ones, or not
-abbrev pub HasFormatFault : Fault → List (List ℕ) → Type 0
-HasFormatFault fault.Dense ws = (vs : List (List ℕ)) × (ws ≡ low (codes "array") ∷ vs)
-HasFormatFault fault.Format ws = (vs : List (List ℕ)) → ws ≢ low (codes "array") ∷ vs
-HasFormatFault f ws = ⊥
-
--- the words of a first line, but for the case of their letters, and the three that it must begin with
+-- the words of a first line, but for the case of their letters, and the two that it must begin with
 abbrev pub header_words : List ℕ → List (List ℕ)
 header_words line = lowered (words (without_mark line))
 
@@ -87,8 +83,9 @@ banner_word = low (codes "%%MatrixMarket")
 abbrev pub object_word : List ℕ
 object_word = low (codes "matrix")
 
-abbrev pub format_word : List ℕ
-format_word = low (codes "coordinate")
+-- the first line begins as it must, and these words stand behind
+abbrev pub BeginsHeader : List ℕ → List (List ℕ) → Type 0
+BeginsHeader line ws = header_words line ≡ banner_word ∷ (object_word ∷ ws)
 
 -- which word of a first line is wrong, where those before it are right
 abbrev pub HasWordFault : Fault → List ℕ → Type 0
@@ -96,37 +93,71 @@ HasWordFault fault.Gzip line = (slice_index line 0 ≡ 31) × (slice_index line 
 HasWordFault fault.Banner line = (vs : List (List ℕ)) → header_words line ≢ banner_word ∷ vs
 HasWordFault fault.Object line = (ws : List (List ℕ)) × ((header_words line ≡ banner_word ∷ ws) ×
     ((vs : List (List ℕ)) → ws ≢ object_word ∷ vs))
-HasWordFault fault.Dense line = (ws : List (List ℕ)) × ((header_words line ≡ banner_word ∷ (object_word ∷ ws)) ×
-    HasFormatFault fault.Dense ws)
-HasWordFault fault.Format line = (ws : List (List ℕ)) × ((header_words line ≡ banner_word ∷ (object_word ∷ ws)) ×
-    (((vs : List (List ℕ)) → ws ≢ format_word ∷ vs) × HasFormatFault fault.Format ws))
-HasWordFault fault.Field line = (ws : List (List ℕ)) × ((header_words line ≡ banner_word ∷ (object_word ∷ (format_word ∷ ws)))
-    × HasKindFault fault.Field ws)
-HasWordFault fault.Symmetry line = (ws : List (List ℕ)) ×
-    ((header_words line ≡ banner_word ∷ (object_word ∷ (format_word ∷ ws))) × HasKindFault fault.Symmetry ws)
+HasWordFault fault.Format line = (ws : List (List ℕ)) × (BeginsHeader line ws ×
+    ((g : Format) → (vs : List (List ℕ)) → ws ≢ low (format_text g) ∷ vs))
+HasWordFault fault.Field line = (g : Format) × ((ws : List (List ℕ)) × (BeginsHeader line (low (format_text g) ∷ ws) ×
+    HasKindFault fault.Field ws))
+HasWordFault fault.Symmetry line = (g : Format) × ((ws : List (List ℕ)) × (BeginsHeader line (low (format_text g) ∷ ws) ×
+    HasKindFault fault.Symmetry ws))
 HasWordFault f line = ⊥
 
 -- the fault of a first line that is no header
 abbrev pub HasHeaderFault : Fault → List ℕ → Type 0
 HasHeaderFault f line = HasWordFault f line × ((h : Header) → SpellsHeader line h → ⊥)
 
--- the fault of a line that is read where none may stand but notes
-abbrev pub HasMoreFault : Fault → List ℕ → Type 0
-HasMoreFault (fault.More told) line = is_note (words line) ≡ false
-HasMoreFault f line = ⊥
+-- the faults of a line that is read where none may stand but notes
+abbrev pub IsMore : Fault → Type 0
+IsMore (fault.More told) = Unit {0}
+IsMore fault.MorePlaces = Unit {0}
+IsMore f = ⊥
 
--- what is wrong with a line: it is no header, no size, no entry for some field and number of rows, or one too many
+-- such a line: it says something
+abbrev pub HasMoreFault : Fault → List ℕ → Type 0
+HasMoreFault f line = IsMore f × (is_note (words line) ≡ false)
+
+-- the line is a header, but an array of this kind has no lines
+abbrev pub HasVoidFault : Fault → List ℕ → Type 0
+HasVoidFault fault.Void line = (h : Header) × (SpellsHeader line h × (is_void h ≡ true))
+HasVoidFault f line = ⊥
+
+-- the faults of a line of a Harwell-Boeing file; of what is wrong with the line they say nothing here
+abbrev pub IsOfBoeing : Fault → Type 0
+IsOfBoeing fault.Kind = Unit {0}
+IsOfBoeing fault.Elemental = Unit {0}
+IsOfBoeing (fault.NotSquare rows columns) = Unit {0}
+IsOfBoeing fault.Layout = Unit {0}
+IsOfBoeing fault.Number = Unit {0}
+IsOfBoeing (fault.Row number rows) = Unit {0}
+IsOfBoeing (fault.Pointer number last) = Unit {0}
+IsOfBoeing fault.Pointers = Unit {0}
+IsOfBoeing f = ⊥
+
+-- the faults of adding the numbers of a line to a list: one of these, or memory was refused
+abbrev pub IsOfList : Fault → Type 0
+IsOfList fault.OutOfMemory = Unit {0}
+IsOfList f = IsOfBoeing f
+
+-- what is wrong with a line: it is no header, or one of an array without values, no size of a sparse matrix or of an
+-- array, no entry for some field and number of rows, no value of some field, one too many, or one of a Harwell-Boeing
+-- file
 pub data LineHas (f : Fault) (line : List ℕ) : Type 0 where
   in_header : HasHeaderFault f line → LineHas f line
+  in_void : HasVoidFault f line → LineHas f line
   in_size : HasSizeFault f line → LineHas f line
+  in_shape : HasShapeFault f line → LineHas f line
   in_entry : (field : Field) → (n : ℕ) → HasEntryFault field n f line → LineHas f line
+  in_value : (field : Field) → HasValueFault f (value_words field) (words line) → LineHas f line
   in_more : HasMoreFault f line → LineHas f line
+  in_boeing : IsOfBoeing f → LineHas f line
 
 -- the faults of an input that ends too early
 abbrev pub EndHas : Fault → Type 0
 EndHas fault.Empty = Unit {0}
 EndHas fault.Size = Unit {0}
+EndHas fault.Shape = Unit {0}
 EndHas (fault.Missing found told) = Unit {0}
+EndHas (fault.NoPlace row column) = Unit {0}
+EndHas fault.Short = Unit {0}
 EndHas f = ⊥
 
 -- the faults that no text spells: there is no room for a line, for what was read, or for the count of lines

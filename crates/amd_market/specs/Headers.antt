@@ -2,11 +2,23 @@
 use Rattle.std.specs.Prelude.{◌≡◌, ◌==◌, ◌&&◌, not, ℕ, Bool, true, false, List, [], ◌∷◌, codes, cond, map, drop, slice_index}
 use Rattle.std.specs.Char.{to_ascii_lowercase}
 use Rattle.amd_cases.specs.Words.{words}
+use Rattle.amd_market.specs.declared.headers.Format.{Format}
+use Rattle.amd_market.specs.declared.headers.Format.TheVariants.{Coordinate, Array}
 use Rattle.amd_market.specs.declared.headers.Field.{Field}
 use Rattle.amd_market.specs.declared.headers.Field.TheVariants.{Real, Double, Integer, Unsigned, Complex, Pattern}
 use Rattle.amd_market.specs.declared.headers.Symmetry.{Symmetry}
 use Rattle.amd_market.specs.declared.headers.Symmetry.TheVariants as kind
 use Rattle.amd_market.specs.declared.headers.Header.{Header}
+
+-- the word of a format
+abbrev pub format_text : Format → List ℕ
+format_text Coordinate = codes "coordinate"
+format_text Array = codes "array"
+
+-- whether a format lists every place
+abbrev pub is_array : Format → Bool
+is_array Coordinate = false
+is_array Array = true
 
 -- the word of a field
 abbrev pub field_text : Field → List ℕ
@@ -25,6 +37,10 @@ value_words Integer = 1
 value_words Unsigned = 1
 value_words Complex = 2
 value_words Pattern = 0
+
+-- whether there is a line for each place, but no value
+abbrev pub is_void : Header → Bool
+is_void h = is_array h.format && (value_words h.field == 0)
 
 -- the word of a symmetry
 abbrev pub symmetry_text : Symmetry → List ℕ
@@ -49,11 +65,11 @@ without_mark line =
 abbrev pub lowered : List (List ℕ) → List (List ℕ)
 lowered ws = map (λ w. map to_ascii_lowercase w) ws
 
--- the line is that of a sparse matrix with this field and this symmetry, in letters of any case
+-- the line is that of a matrix with this format, this field and this symmetry, in letters of any case
 abbrev pub SpellsHeader : List ℕ → Header → Type 0
 SpellsHeader line h =
     lowered (words (without_mark line)) ≡ lowered (codes "%%MatrixMarket" ∷ (codes "matrix" ∷
-    (codes "coordinate" ∷ (field_text h.field ∷ (symmetry_text h.symmetry ∷ [])))))
+    (format_text h.format ∷ (field_text h.field ∷ (symmetry_text h.symmetry ∷ [])))))
 
 -- the pairs of a row and a column that an entry stands for: its own, and off the diagonal, where there is a symmetry,
 -- the mirror image

@@ -1,6 +1,8 @@
 -- What the lines of a Matrix Market file spell.
 pub mod Headers
 pub mod Entries
+pub mod Arrays
+pub mod Boeing
 pub mod Blocks
 pub mod Lines
 pub mod Faults

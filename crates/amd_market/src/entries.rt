@@ -22,7 +22,7 @@ pub struct Size {
 }
 
 /// The number of things that a word spells.
-fn count_of(word: &[u8]) -> Option<usize>
+pub(crate) fn count_of(word: &[u8]) -> Option<usize>
     ensures { MatchOption result ((k : ℕ) → SpellsNumber word.now (pos k) → ⊥) (λ k. SpellsNumber word.now (pos k)) }
 {
     usize::try_from(number_of(word)?).ok()
@@ -44,7 +44,7 @@ fn is_number(word: &[u8]) -> bool
 }
 
 /// Whether a text is so many numbers.
-fn has_values(text: &[u8], count: usize) -> bool
+pub(crate) fn has_values(text: &[u8], count: usize) -> bool
     ensures { IsTrue result ↔ AreValues count (words text.now) }
 {
     let mut left = text;
@@ -129,7 +129,7 @@ fn column_fault(word: &[u8], columns: usize) -> Fault
 }
 
 /// What is wrong with a text that is not so many numbers.
-fn value_fault(text: &[u8], count: usize) -> Fault
+pub(crate) fn value_fault(text: &[u8], count: usize) -> Fault
     ensures { HasValueFault result count (words text.now) }
 {
     let mut left = text;

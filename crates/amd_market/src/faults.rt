@@ -14,20 +14,22 @@ pub enum Fault {
     Empty,
     /// The file is compressed by gzip.
     Gzip,
-    /// The first line does not begin with `%%MatrixMarket`.
+    /// The first line does not begin with `%%MatrixMarket`, and the second one is not that of a Harwell-Boeing file.
     Banner,
     /// The second word of the first line is not `matrix`.
     Object,
-    /// The third word of the first line is `array`: the matrix is dense.
-    Dense,
     /// The third word of the first line is no format.
     Format,
     /// The fourth word of the first line is no field.
     Field,
     /// The fifth word of the first line is no symmetry, or there is a sixth.
     Symmetry,
+    /// An array has the field `pattern`: no line would have a word.
+    Void,
     /// The line of the size is not three numbers, or there is none.
     Size,
+    /// The line of an array's size is not two numbers, or there is none.
+    Shape,
     /// There are not as many rows as columns.
     NotSquare {
         /// The number of rows.
@@ -71,6 +73,34 @@ pub enum Fault {
         /// The entries that the size tells.
         told: usize,
     },
+    /// The input ends before the value at a place of an array.
+    NoPlace {
+        /// The row of the place, from 1 on.
+        row: usize,
+        /// The column of the place, from 1 on.
+        column: usize,
+    },
+    /// A value stands behind the last place of an array.
+    MorePlaces,
+    /// The third line of a Harwell-Boeing file has no type, or no numbers of rows, columns and entries behind it.
+    Kind,
+    /// The matrix of a Harwell-Boeing file is not assembled.
+    Elemental,
+    /// The fourth line of a Harwell-Boeing file does not begin with two formats of whole numbers.
+    Layout,
+    /// A field of a line of pointers or of rows has no number, or more than one word.
+    Number,
+    /// A pointer is out of range.
+    Pointer {
+        /// The number.
+        number: i64,
+        /// The greatest pointer that the third line allows.
+        last: usize,
+    },
+    /// The pointers do not rise from 1 to one more than the number of entries.
+    Pointers,
+    /// A Harwell-Boeing file ends before its last row.
+    Short,
     /// The line has more bytes than a line may have.
     Long,
     /// There are more lines than 64 bits count.
@@ -80,40 +110,100 @@ pub enum Fault {
 }
 
 impl Fault {
-    /// The fault in words, without its numbers.
-    fn text(self) -> &'static str {
+    /// The fault in words, without its numbers, where it is one of a first line.
+    fn header_text(self) -> Option<&'static str> {
         match self {
-            Fault::Empty => "the file is empty",
-            Fault::Gzip => "the file is compressed: use zcat FILE | rimopaku order -",
-            Fault::Banner => {
-                "this is no Matrix Market file: its first line must begin with %%MatrixMarket"
+            Fault::Empty => Some("the file is empty"),
+            Fault::Gzip => Some("the file is compressed: use zcat FILE | rimopaku order -"),
+            Fault::Banner => Some(
+                "this is neither a Matrix Market file, which begins with %%MatrixMarket, nor a Harwell-Boeing file",
+            ),
+            Fault::Object => Some("the second word of the first line is not matrix"),
+            Fault::Format => Some("the third word of the first line is not coordinate or array"),
+            Fault::Field => Some(
+                "the fourth word is none of real, double, integer, unsigned-integer, complex, pattern",
+            ),
+            Fault::Symmetry => Some(
+                "the last word is none of general, symmetric, skew-symmetric, hermitian, or not the fifth",
+            ),
+            Fault::Void => {
+                Some("an array has values, and cannot be of pattern: write the field of its values")
             }
-            Fault::Object => "the second word of the first line is not matrix",
-            Fault::Dense => {
-                "the matrix is dense (array), and only a sparse one (coordinate) is read"
+            _ => None,
+        }
+    }
+
+    /// The fault in words, without its numbers, where it is one of a Harwell-Boeing file.
+    fn boeing_text(self) -> Option<&'static str> {
+        match self {
+            Fault::Kind => Some(
+                "in a Harwell-Boeing file here must stand a type such as RUA, and the numbers of rows, columns and entries",
+            ),
+            Fault::Elemental => {
+                Some("the matrix is not assembled (its type ends in E): assemble it first")
             }
-            Fault::Format => "the third word of the first line is not coordinate",
-            Fault::Field => {
-                "the fourth word is none of real, double, integer, unsigned-integer, complex, pattern"
+            Fault::Layout => Some(
+                "in a Harwell-Boeing file here must stand the formats of pointers and rows, such as (16I5)",
+            ),
+            Fault::Number => Some(
+                "here must stand numbers, as the formats of the fourth line tell",
+            ),
+            Fault::Pointer { .. } => Some("the pointer is out of range"),
+            Fault::Pointers => {
+                Some("the pointers do not rise from 1 to one more than the number of entries")
             }
-            Fault::Symmetry => {
-                "the last word is none of general, symmetric, skew-symmetric, hermitian, or not the fifth"
-            }
+            Fault::Short => Some("the file ends before its last row"),
+            _ => None,
+        }
+    }
+
+    /// The fault in words, without its numbers, where it is one of any other line.
+    fn entry_text(self) -> &'static str {
+        match self {
             Fault::Size => "here must stand the numbers of rows, columns and entries",
+            Fault::Shape => "here must stand the numbers of rows and columns of the array",
             Fault::NotSquare { .. } => "the matrix is not square",
             Fault::Entry => "here must stand the numbers of a row and a column",
             Fault::Row { .. } => "the row is out of range",
             Fault::Column { .. } => "the column is out of range",
-            Fault::NoValue => "the value is missing that the header tells of",
-            Fault::Words => "more words than the header tells of",
+            Fault::NoValue => {
+                "the value is missing: write it, or pattern in the first line if no entry has one"
+            }
+            Fault::Words => {
+                "more words than the header tells of: a pattern has no values, and a comment a line of its own"
+            }
             Fault::Value => "the value is no number",
             Fault::Held => "here must stand the number of a row, alone",
             Fault::Missing { .. } => "the file ends too early",
             Fault::More { .. } => "more entries than the size tells",
+            Fault::NoPlace { .. } => "the file ends too early: the next value would be that",
+            Fault::MorePlaces => "more values than the array has places",
             Fault::Long => "the line has more than 65536 bytes",
             Fault::Lines => "too many lines",
-            Fault::OutOfMemory => "out of memory",
+            _ => "out of memory",
         }
+    }
+
+    /// The fault in words, without its numbers.
+    fn text(self) -> &'static str {
+        match self.header_text() {
+            Some(text) => text,
+            None => self.boeing_text().unwrap_or(self.entry_text()),
+        }
+    }
+}
+
+/// Writes a number that is out of range, and the range.
+fn write_range<W: fmt::Write>(
+    f: &mut fmt::Formatter<W>,
+    number: i64,
+    what: &str,
+    last: usize,
+) -> fmt::Result {
+    if number == 0 && last > 0 {
+        write!(f, ": 0, of {what} 1 to {last}; they count from 1")
+    } else {
+        write!(f, ": {number}, of {what} 1 to {last}")
     }
 }
 
@@ -122,12 +212,12 @@ impl fmt::Display for Fault {
         f.write_str(self.text())?;
         match self {
             Fault::NotSquare { rows, columns } => write!(f, ": {rows} rows, {columns} columns"),
-            Fault::Row { number, rows } => write!(f, ": {number}, of rows 1 to {rows}"),
-            Fault::Column { number, columns } => {
-                write!(f, ": {number}, of columns 1 to {columns}")
-            }
+            Fault::Row { number, rows } => write_range(f, *number, "rows", *rows),
+            Fault::Column { number, columns } => write_range(f, *number, "columns", *columns),
+            Fault::Pointer { number, last } => write_range(f, *number, "pointers", *last),
             Fault::Missing { found, told } => write!(f, ": {found} entries of {told}"),
             Fault::More { told } => write!(f, ": {told}"),
+            Fault::NoPlace { row, column } => write!(f, " of row {row}, column {column}"),
             _ => Ok(()),
         }
     }

@@ -1,15 +1,24 @@
-// The first line of a file, and what it says of the entries. Called by `reader`. Source: the Matrix Market exchange
-// formats.
+// The first line of a file of the Matrix Market, and what it says of the entries. Called by `reader`. Source: the Matrix
+// Market exchange formats.
 
 ghost use Rattle.std.specs.Prelude.{◌≡◌, ◌≢◌, ◌∷◌, [], List, ℕ, map, IfErr, MatchOption, MatchResult};
 ghost use Rattle.std.specs.Char.{to_ascii_lowercase};
 ghost use Rattle.amd_cases.specs.Words.{words};
-ghost use Rattle.amd_market.specs.Headers.{field_text, symmetry_text, value_words, is_mirrored, SpellsHeader};
-ghost use Rattle.amd_market.specs.Faults.{HasBannerFault, HasFormatFault, HasKindFault, HasWordFault};
-ghost use Rattle.amd_market.specs.Headers.{lowered, without_mark};
+ghost use Rattle.amd_market.specs.Headers.{format_text, field_text, symmetry_text, value_words, is_mirrored};
+ghost use Rattle.amd_market.specs.Headers.{SpellsHeader, lowered, without_mark, is_void};
+ghost use Rattle.amd_market.specs.Faults.{HasBannerFault, HasKindFault, HasWordFault};
 
 use crate::faults::Fault;
 use amd_cases::words::first_word;
+
+/// Which entries a file lists.
+#[derive(Clone, Copy)]
+pub enum Format {
+    /// `coordinate`: a line for each entry, with its row and its column.
+    Coordinate,
+    /// `array`: a line for each place, column by column.
+    Array,
+}
 
 /// What a value is.
 #[derive(Clone, Copy)]
@@ -44,6 +53,8 @@ pub enum Symmetry {
 /// What the first line says.
 #[derive(Clone, Copy)]
 pub struct Header {
+    /// Which entries are listed.
+    pub format: Format,
     /// What a value is.
     pub field: Field,
     /// What an entry says of its mirror image.
@@ -74,6 +85,20 @@ impl Symmetry {
         }
     }
 }
+
+impl Header {
+    /// Whether the lines behind it would have no word: there is one for each place, and it has no value.
+    pub fn is_void(self) -> bool
+        ensures { result ≡ is_void self }
+    {
+        matches!(self.format, Format::Array) && matches!(self.field, Field::Pattern)
+    }
+}
+
+// The words of the formats.
+const COORDINATE: &[u8] = b"coordinate";
+
+const ARRAY: &[u8] = b"array";
 
 // The words of the fields.
 const REAL: &[u8] = b"real";
@@ -164,13 +189,29 @@ fn without_mark(line: &[u8]) -> &[u8]
     }
 }
 
+/// The format that the first word of a text is, and what stands behind it.
+fn format_of(text: &[u8]) -> Option<(Format, &[u8])>
+    ensures { MatchOption result
+        ((f : Format) → (ws : List (List ℕ)) → lowered (words text.now) ≢ map to_ascii_lowercase (format_text f) ∷ ws)
+        (λ p. lowered (words text.now) ≡ map to_ascii_lowercase (format_text p.0) ∷ lowered (words p.1.now)) }
+{
+    let (first, rest) = first_word(text)?;
+    if first.eq_ignore_ascii_case(COORDINATE) {
+        Some((Format::Coordinate, rest))
+    } else if first.eq_ignore_ascii_case(ARRAY) {
+        Some((Format::Array, rest))
+    } else {
+        None
+    }
+}
+
 /// The field and the symmetry that a text spells.
-fn kind_of(text: &[u8]) -> Result<Header, Fault>
+fn kind_of(text: &[u8]) -> Result<(Field, Symmetry), Fault>
     ensures fault { IfErr result (λ f. HasKindFault f (lowered (words text.now))) }
     ensures kind { MatchResult result
-        (λ h. lowered (words text.now) ≡ lowered (field_text h.field ∷ (symmetry_text h.symmetry ∷ [])))
-        (λ _. (h : Header) →
-        lowered (words text.now) ≢ lowered (field_text h.field ∷ (symmetry_text h.symmetry ∷ []))) }
+        (λ k. lowered (words text.now) ≡ lowered (field_text k.0 ∷ (symmetry_text k.1 ∷ [])))
+        (λ _. (f : Field) → (s : Symmetry) →
+        lowered (words text.now) ≢ lowered (field_text f ∷ (symmetry_text s ∷ []))) }
 {
     let Some((first, rest)) = first_word(text) else {
         return Err(Fault::Field);
@@ -187,7 +228,7 @@ fn kind_of(text: &[u8]) -> Result<Header, Fault>
     if first_word(rest).is_some() {
         return Err(Fault::Symmetry);
     }
-    Ok(Header { field, symmetry })
+    Ok((field, symmetry))
 }
 
 /// What is wrong with a first line that lacks the banner.
@@ -198,17 +239,6 @@ fn banner_fault(line: &[u8]) -> Fault
         Fault::Gzip
     } else {
         Fault::Banner
-    }
-}
-
-/// What is wrong with a header whose format, at the beginning of a text, is not that of sparse matrices.
-fn format_fault(text: &[u8]) -> Fault
-    ensures { HasFormatFault result (lowered (words text.now)) }
-{
-    if behind(text, b"array").is_some() {
-        Fault::Dense
-    } else {
-        Fault::Format
     }
 }
 
@@ -223,8 +253,13 @@ pub fn header_of(line: &[u8]) -> Result<Header, Fault>
     let Some(text) = behind(text, b"matrix") else {
         return Err(Fault::Object);
     };
-    let Some(kind) = behind(text, b"coordinate") else {
-        return Err(format_fault(text));
+    let Some((format, kind)) = format_of(text) else {
+        return Err(Fault::Format);
     };
-    kind_of(kind)
+    let (field, symmetry) = kind_of(kind)?;
+    Ok(Header {
+        format,
+        field,
+        symmetry,
+    })
 }

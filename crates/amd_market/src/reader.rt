@@ -1,44 +1,46 @@
 // The matrix that a file holds. Called by programs that order matrices.
-// The parts of the file are read one after another: the header, the size, the entries, and what stands behind them.
+// The parts of a file are read one after another: the header, the size, the entries, and what stands behind them. The
+// reading of an array is in `dense`, and that of a Harwell-Boeing file in `boeing`.
 
-ghost use Rattle.std.specs.Prelude.{◌≡◌, ◌++◌, ◌∷◌, [], ℕ, List, All, IfOk, IfErr, IfSome, OnOk};
-ghost use Rattle.amd_market.specs.Headers.{SpellsHeader, pairs_of};
+ghost use Rattle.std.specs.Prelude.{◌≡◌, ◌<◌, ◌∷◌, [], ℕ, List, All, true, false, IfOk, IfErr, IfSome, MatchOption, OnOk};
+ghost use Rattle.amd_market.specs.Headers.{SpellsHeader, is_array};
 ghost use Rattle.amd_market.specs.Entries.{SpellsSize, SpellsEntry};
 ghost use Rattle.amd_market.specs.Lines.{TakesLines, TakesTelling, TakesNotes};
-ghost use Rattle.amd_market.specs.Files.{TakesEntries, FailsFor, SpellsMatrix, NamesFault};
+ghost use Rattle.amd_market.specs.Files.{TakesEntries, TakesBody, FailsFor, SpellsFile, NamesFault};
+ghost use Rattle.amd_market.specs.Columns.{HoldsOnce};
+ghost use Rattle.amd_market.specs.Faults.{HasHeaderFault, IsMore};
+ghost use Rattle.amd_market.specs.declared.faults.Fault.TheVariants as fault;
 
-use crate::columns::columns_of;
+use crate::boeing::take_boeing;
+use crate::dense::{take_shape, take_values};
 use crate::entries::{Size, entry_of, size_of};
 use crate::faults::{Fault, ReadError};
-use crate::headers::{Header, Symmetry, header_of};
+use crate::headers::{Format, Header, header_of};
 use crate::lines::LineReader;
-use std::alloc::{AllocError, Allocator};
+pub use crate::matrices::Matrix;
+use crate::matrices::{add_pairs, matrix_of, pairs_for};
+use std::alloc::Allocator;
 use std::io::Read;
 
-/// The pattern of a square matrix in column form.
-#[derive(Drop)]
-pub struct Matrix<A: Allocator> {
-    /// The number of rows and columns.
-    pub n: usize,
-    /// Where each column begins, and where the last one ends.
-    pub a_p: Vec<usize, A>,
-    /// The rows of the columns, one column after the other.
-    pub a_i: Vec<usize, A>,
-}
-
-/// Reads the header.
+/// Reads the header; `None` where the first line is none of the Matrix Market.
 fn take_header<R: Read + Drop, A: Allocator>(
     lines: &mut LineReader<R, A>,
-) -> Result<Header, ReadError>
-    ensures takes { IfOk result (λ h. (line : List ℕ) × TakesLines R.remaining lines.old lines.new (line ∷ []) ×
-        SpellsHeader line h) }
+) -> Result<Option<Header>, ReadError>
+    ensures takes { IfOk result (λ o. (line : List ℕ) × TakesLines R.remaining lines.old lines.new (line ∷ []) ×
+        MatchOption o (HasHeaderFault fault.Banner line) (SpellsHeader line)) }
     ensures fails { IfErr result (FailsFor R.remaining lines.old) }
 {
     if !lines.take_line()? {
         return Err(lines.at_line(Fault::Empty));
     }
     match header_of(lines.line()) {
-        Ok(header) => Ok(header),
+        Ok(header) => {
+            if header.is_void() {
+                return Err(lines.at_line(Fault::Void));
+            }
+            Ok(Some(header))
+        }
+        Err(Fault::Banner) => Ok(None),
         Err(fault) => Err(lines.at_line(fault)),
     }
 }
@@ -81,23 +83,7 @@ fn take_entry<R: Read + Drop, A: Allocator>(
     }
 }
 
-/// Adds the pairs that an entry stands for.
-fn add_pairs<A: Allocator>(
-    pairs: &mut Vec<(usize, usize), A>,
-    symmetry: Symmetry,
-    entry: (usize, usize),
-) -> Result<(), AllocError>
-    ensures { OnOk result (pairs.new.items ≡ pairs.old.items ++ pairs_of symmetry entry) }
-{
-    let (row, column) = entry;
-    pairs.push((row, column))?;
-    if symmetry.is_mirrored() && row != column {
-        pairs.push((column, row))?;
-    }
-    Ok(())
-}
-
-/// Reads the entries, and answers the pairs that they stand for.
+/// Reads the entries, and returns the pairs that they stand for.
 fn take_pairs<R: Read + Drop, A: Allocator + Copy>(
     alloc: A,
     lines: &mut LineReader<R, A>,
@@ -108,7 +94,7 @@ fn take_pairs<R: Read + Drop, A: Allocator + Copy>(
         v.items) }
     ensures fails { IfErr result (FailsFor R.remaining lines.old) }
 {
-    let mut pairs = Vec::new(alloc);
+    let mut pairs = pairs_for(alloc, header.symmetry, size.entries);
     'entries: for done in 0..size.entries {
         let entry = take_entry(lines, header, size, done)?;
         let Ok(()) = add_pairs(&mut pairs, header.symmetry, entry) else {
@@ -121,18 +107,88 @@ fn take_pairs<R: Read + Drop, A: Allocator + Copy>(
 /// Reads what stands behind the entries, where nothing may stand but notes.
 fn take_end<R: Read + Drop, A: Allocator>(
     lines: &mut LineReader<R, A>,
-    told: usize,
+    more: Fault,
 ) -> Result<(), ReadError>
+    requires { IsMore more }
     ensures takes { OnOk result (TakesNotes R.remaining lines.old lines.new) }
     ensures fails { IfErr result (FailsFor R.remaining lines.old) }
 {
     if lines.take_telling()? {
-        return Err(lines.at_line(Fault::More { told }));
+        return Err(lines.at_line(more));
     }
     Ok(())
 }
 
-/// Reads the matrix that a text in the coordinate format of the Matrix Market spells, up to the end of the input.
+/// Reads the size and the entries, and returns the number of rows and the pairs that the entries stand for.
+fn take_listed<R: Read + Drop, A: Allocator + Copy>(
+    alloc: A,
+    lines: &mut LineReader<R, A>,
+    header: Header,
+) -> Result<(usize, Vec<(usize, usize), A>), ReadError>
+    requires { is_array header.format ≡ false }
+    ensures takes { IfOk result (λ r. TakesBody R.remaining lines.old lines.new header r.0 r.1.items) }
+    ensures inside { IfOk result (λ r. All (λ p. (p.0 < r.0) × (p.1 < r.0)) r.1.items) }
+    ensures fails { IfErr result (FailsFor R.remaining lines.old) }
+{
+    let size = take_size(lines)?;
+    let pairs = take_pairs(alloc, lines, header, size)?;
+    take_end(lines, Fault::More { told: size.entries })?;
+    Ok((size.rows, pairs))
+}
+
+/// Reads the size and the values of an array, and returns the number of rows and the pairs that the values that are not
+/// zero stand for.
+fn take_array<R: Read + Drop, A: Allocator + Copy>(
+    alloc: A,
+    lines: &mut LineReader<R, A>,
+    header: Header,
+) -> Result<(usize, Vec<(usize, usize), A>), ReadError>
+    requires { is_array header.format ≡ true }
+    ensures takes { IfOk result (λ r. TakesBody R.remaining lines.old lines.new header r.0 r.1.items) }
+    ensures inside { IfOk result (λ r. All (λ p. (p.0 < r.0) × (p.1 < r.0)) r.1.items) }
+    ensures fails { IfErr result (FailsFor R.remaining lines.old) }
+{
+    let n = take_shape(lines)?;
+    let pairs = take_values(alloc, lines, header, n)?;
+    take_end(lines, Fault::MorePlaces)?;
+    Ok((n, pairs))
+}
+
+/// Reads what stands behind a header, and returns the number of rows and the pairs that the entries stand for.
+fn take_body<R: Read + Drop, A: Allocator + Copy>(
+    alloc: A,
+    lines: &mut LineReader<R, A>,
+    header: Header,
+) -> Result<(usize, Vec<(usize, usize), A>), ReadError>
+    ensures takes { IfOk result (λ r. TakesBody R.remaining lines.old lines.new header r.0 r.1.items) }
+    ensures inside { IfOk result (λ r. All (λ p. (p.0 < r.0) × (p.1 < r.0)) r.1.items) }
+    ensures fails { IfErr result (FailsFor R.remaining lines.old) }
+{
+    match header.format {
+        Format::Coordinate => take_listed(alloc, lines, header),
+        Format::Array => take_array(alloc, lines, header),
+    }
+}
+
+/// Reads the matrix behind a header.
+fn take_market<R: Read + Drop, A: Allocator + Copy>(
+    alloc: A,
+    lines: &mut LineReader<R, A>,
+    header: Header,
+) -> Result<Matrix<A>, ReadError>
+    ensures takes { IfOk result (λ m. (pairs : List (ℕ × ℕ)) × TakesBody R.remaining lines.old lines.new header m.n pairs ×
+        HoldsOnce m.n pairs m.a_p.items m.a_i.items m.repeats) }
+    ensures fails { IfErr result (FailsFor R.remaining lines.old) }
+{
+    let (n, pairs) = take_body(alloc, lines, header)?;
+    match matrix_of(alloc, n, pairs) {
+        Ok(matrix) => Ok(matrix),
+        Err(_) => Err(lines.at_line(Fault::OutOfMemory)),
+    }
+}
+
+/// Reads the matrix that a file of the Matrix Market spells, up to the end of the input, or that a Harwell-Boeing or a
+/// Rutherford-Boeing file spells, up to its last row. Which of them it is its first lines tell.
 ///
 /// The rows of each column rise, and a pair that the text spells more than once stands there once. Memory is asked for
 /// as entries are read, and for the columns when all of them were.
@@ -140,26 +196,24 @@ fn take_end<R: Read + Drop, A: Allocator>(
 /// # Errors
 ///
 /// `Line` for a line at fault, an input that ends too early, or refused memory; `Input` where the input cannot be read.
-/// Each names the line that was read last; a fault is one that this line has, or that of a text that ends behind it.
+/// Each names the line that was read last, or the first one where the second shows that it is no matrix file; a fault is
+/// one that this line has, or that of a text that ends behind it.
 pub fn read_matrix<R: Read + Drop, A: Allocator + Copy>(
     alloc: A,
     input: R,
 ) -> Result<Matrix<A>, ReadError>
     ensures spells { IfOk result (λ m. IfSome (R.remaining input)
-        (λ bytes. SpellsMatrix bytes m.n m.a_p.items m.a_i.items)) }
+        (λ bytes. SpellsFile bytes m.n m.a_p.items m.a_i.items m.repeats)) }
     ensures line { IfErr result (λ e. IfSome (R.remaining input) (λ bytes. NamesFault bytes e)) }
 {
     let mut lines = LineReader::new(alloc, input);
     let header = take_header(&mut lines)?;
-    let size = take_size(&mut lines)?;
-    let pairs = take_pairs(alloc, &mut lines, header, size)?;
-    take_end(&mut lines, size.entries)?;
-    match columns_of(alloc, size.rows, pairs) {
-        Ok((a_p, a_i)) => Ok(Matrix {
-            n: size.rows,
-            a_p,
-            a_i,
-        }),
-        Err(_) => Err(lines.at_line(Fault::OutOfMemory)),
+    let unknown = lines.at_line(Fault::Banner);
+    match header {
+        Some(header) => take_market(alloc, &mut lines, header),
+        None => match take_boeing(alloc, &mut lines)? {
+            Some(matrix) => Ok(matrix),
+            None => Err(unknown),
+        },
     }
 }

@@ -1,5 +1,5 @@
 -- What was read stands behind the bytes that were there.
-use Rattle.std.proofs.Common.{◌≡◌, ◌∙◌, ◌++◌, ℕ, List, length, take, drop, refl}
+use Rattle.std.proofs.Common.{◌∙◌, ◌++◌, ℕ, List, length, take, drop, refl}
 use Rattle.amd_market.proofs.WrittenLists.{written}
 use Rattle.amd_market.proofs.BlockLemmas.{appended}
 use Rattle.amd_market.proofs.blocks.append_from.Goals as goal

@@ -14,4 +14,4 @@ returns-in_err-take_telling-clause-fails g c =
 pub returns-then-branch-clause-fails : goal.returns-then-branch-clause-fails
 returns-then-branch-clause-fails g c =
     let read = rw c.if-branch.true at c.in_ok-take_telling.ensures.takes in
-    for-telling _ _ _ _ _ _ read c.at_line.ensures (last [] (line_of c.take_telling.new.self) refl (in_more read.says))
+    for-telling _ _ _ _ _ _ read c.at_line.ensures (last [] (line_of c.take_telling.new.self) refl (in_more (c.requires, read.says)))

@@ -6,7 +6,7 @@ use Rattle.amd_market.proofs.FileLemmas.{entries-none, entries-next}
 use Rattle.amd_market.proofs.reader.take_pairs.Goals as goal
 
 pub entries-init : goal.entries-init
-entries-init g c = entries-none _ _ _ _ _ c.new-pairs.ensures.items
+entries-init g c = entries-none _ _ _ _ _ c.pairs_for-pairs.ensures
 
 pub returns-in_err-entry-clause-fails : goal.returns-in_err-entry-clause-fails
 returns-in_err-entry-clause-fails g c =

@@ -1,7 +1,6 @@
 -- What is held at the end of the input is the last line.
-use Rattle.std.proofs.Common.{◌<◌, length, arith, sym, ap, ◌∙◌, refl}
-use Rattle.amd_market.specs.Blocks.{held_of}
-use Rattle.amd_market.proofs.LineLemmas.{ends-all, none-left}
+use Rattle.std.proofs.Common.{length, arith, ap}
+use Rattle.amd_market.proofs.LineLemmas.{ends-all}
 use Rattle.amd_market.proofs.lines.LineReader.pass_last.Goals as goal
 
 pub pass_line-requires : goal.pass_line-requires

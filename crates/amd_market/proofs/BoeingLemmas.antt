@@ -1,0 +1,194 @@
+-- The numbers on the lines of a Harwell-Boeing file, and the entries that they stand for.
+use Rattle.std.proofs.Common.{◌≡◌, ◌+◌, ◌-◌, ◌<◌, ◌≤◌, ℕ, zero, suc, List, [], ◌∷◌, ◌++◌, length, take, drop, get_or}
+use Rattle.std.proofs.Common.{length-append, append-nil, append_assoc, refl, sym, ap, ◌∙◌, subst, arith}
+use Rattle.std.specs.Prelude.{◌==◌, ◌||◌, Bool, true, false, flat_map, All, slice_range, min, Option, Some, None, IfSome}
+use Rattle.std.specs.Char.{to_ascii_lowercase}
+use Rattle.std.proofs.lemmas.Bool.{eqb-true}
+use Rattle.amd_cases.specs.Words.{words}
+use Rattle.std.proofs.lemmas.Grind.{flat_map-append}
+use Rattle.std.proofs.lemmas.List.Elements.{All-append, All-take, All-drop, All-map, All-cons, All-weaker}
+use Rattle.amd_market.specs.Headers.{pairs_of}
+use Rattle.amd_market.specs.Boeing.{is_whole_letter, SpellsCounts, SpellsField, SpellsFields, SpellsTable, ArePointers, listed_entries, column_entries}
+use Rattle.amd_market.proofs.EntryLemmas.{Inside, entries-inside}
+use Rattle.amd_market.specs.declared.headers.Symmetry.{Symmetry}
+use Rattle.amd_market.specs.Lines.{TakesLines, line_of}
+use Rattle.amd_market.specs.Faults.{IsOfList, IsBehind, last, reading, in_boeing}
+use Rattle.amd_market.specs.declared.faults.Fault.{Fault}
+use Rattle.amd_market.specs.declared.faults.Fault.TheVariants as fault
+use Rattle.amd_market.specs.declared.lines.LineReader.{LineReader}
+
+-- a front or a back of a list whose length may be less
+pub take-least : (w : ℕ) (xs : List ℕ) → take (min w (length xs)) xs ≡ take w xs
+take-least zero xs = let e : min 0 (length xs) ≡ 0 = omega arith in rw e refl
+take-least (suc w) [] = let e : min (suc w) 0 ≡ 0 = omega arith in rw e refl
+take-least (suc w) (x ∷ xs) =
+    let e : min (suc w) (suc (length xs)) ≡ suc (min w (length xs)) = omega arith in rw e (ap (λ z. x ∷ z) (take-least w xs))
+
+pub drop-least : (w : ℕ) (xs : List ℕ) → drop (min w (length xs)) xs ≡ drop w xs
+drop-least zero xs = let e : min 0 (length xs) ≡ 0 = omega arith in rw e refl
+drop-least (suc w) [] = let e : min (suc w) 0 ≡ 0 = omega arith in rw e refl
+drop-least (suc w) (x ∷ xs) =
+    let e : min (suc w) (suc (length xs)) ≡ suc (min w (length xs)) = omega arith in rw e (drop-least w xs)
+
+-- the letter of a format, and what stands on both sides of a place
+pub low-letter : (b : ℕ) → is_whole_letter b ≡ true → to_ascii_lowercase b ≡ 105
+low-letter b h = at (b == 105) (b == 73) refl refl h
+  where
+    at : (x y : Bool) → (b == 105) ≡ x → (b == 73) ≡ y → (x || y) ≡ true → to_ascii_lowercase b ≡ 105
+    at true y p q r = let e : b ≡ 105 = eqb-true b 105 p in rw e refl
+    at false true p q r = let e : b ≡ 73 = eqb-true b 73 q in rw e refl
+    at false false p q r = cc
+
+pub split-at : (xs : List ℕ) (k d : ℕ) → k < length xs → xs ≡ take k xs ++ get_or xs k d ∷ drop (k + 1) xs
+split-at [] k d h = absurd (omega arith)
+split-at (x ∷ xs) zero d h = refl
+split-at (x ∷ xs) (suc k) d h = let e : suc k + 1 ≡ suc (k + 1) = omega arith in rw e (ap (λ z. x ∷ z) (split-at xs k d (omega arith)))
+
+-- one field more
+pub fields-turn : (width bound : ℕ) (line left field rest more ks : List ℕ) (k : ℕ) → field ≡ take width left → rest ≡ drop width left →
+    ((js : List ℕ) → SpellsFields width bound left js → SpellsFields width bound line (more ++ js)) → SpellsField field bound k →
+    SpellsFields width bound rest ks → SpellsFields width bound line ((more ++ k ∷ []) ++ ks)
+fields-turn width bound line left field rest more ks k front back so_far one h =
+    rw append_assoc (so_far (k ∷ ks) (subst (λ z. SpellsField z bound k) front one, subst (λ z. SpellsFields width bound z ks) back h))
+
+-- one line more
+pub table-turn : (per_line width bound count : ℕ) (ls ms : List (List ℕ)) (line : List ℕ) (numbers more ks : List ℕ) →
+    length numbers < count →
+    ((ns : List (List ℕ)) → (js : List ℕ) → SpellsTable per_line width bound (count - length numbers) ns js →
+    SpellsTable per_line width bound count (ls ++ ns) (numbers ++ js)) →
+    length more ≡ min per_line (count - length numbers) → SpellsFields width bound line more →
+    SpellsTable per_line width bound (count - length (numbers ++ more)) ms ks →
+    SpellsTable per_line width bound count ((ls ++ line ∷ []) ++ ms) ((numbers ++ more) ++ ks)
+table-turn per_line width bound count ls ms line numbers more ks room so_far size fields h =
+    let l = length-append numbers more in
+    let left : count - length (numbers ++ more) ≡ (count - length numbers) - min per_line (count - length numbers) = omega (arith, l, size) in
+    let table = subst (λ z. SpellsTable per_line width bound z ms ks) left h in
+    rw (append_assoc ls (line ∷ []) ms, append_assoc numbers more ks)
+    (so_far (line ∷ ms) (more ++ ks) (omega arith, (more, (ks, (refl, (size, (fields, table)))))))
+
+-- all lines
+pub table-whole : (per_line width bound count : ℕ) (ls : List (List ℕ)) (numbers : List ℕ) → count - length numbers ≡ 0 →
+    ((ns : List (List ℕ)) → (js : List ℕ) → SpellsTable per_line width bound (count - length numbers) ns js →
+    SpellsTable per_line width bound count (ls ++ ns) (numbers ++ js)) → SpellsTable per_line width bound count ls numbers
+table-whole per_line width bound count ls numbers none so_far =
+    let P : List (List ℕ) → Type 0 = λ z. SpellsTable per_line width bound count z (numbers ++ []) in
+    subst (λ z. SpellsTable per_line width bound count ls z) (append-nil numbers) (subst P (append-nil ls) (so_far [] [] (none, refl)))
+
+-- how many numbers stand on the lines, and that none is too large
+pub table-size : (per_line width bound count : ℕ) (ls : List (List ℕ)) (ks : List ℕ) → SpellsTable per_line width bound count ls ks →
+    length ks ≡ count
+table-size per_line width bound count [] ks h = ap length h.1 ∙ sym h.0
+table-size per_line width bound count (l ∷ ls) ks h =
+    let here = h.1.0 in
+    let behind = h.1.1.0 in
+    let are = h.1.1.1.0 in
+    let size = h.1.1.1.1.0 in
+    let rest = table-size per_line width bound (count - min per_line count) ls behind h.1.1.1.1.1.1 in
+    let both = length-append here behind in
+    ap length are ∙ omega (arith, both, size, rest)
+
+fields-within : (width bound : ℕ) (text ks : List ℕ) → SpellsFields width bound text ks → All (λ k. k < bound) ks
+fields-within width bound text [] h = λ i d x. absurd (omega arith)
+fields-within width bound text (k ∷ ks) h =
+    All-cons (λ k. k < bound) k ks h.0.1.1.0 (fields-within width bound (drop width text) ks h.1)
+
+pub table-within : (per_line width bound count : ℕ) (ls : List (List ℕ)) (ks : List ℕ) → SpellsTable per_line width bound count ls ks →
+    All (λ k. k < bound) ks
+table-within per_line width bound count [] ks h = subst (λ z. All (λ k. k < bound) z) (sym h.1) (λ i d x. absurd (omega arith))
+table-within per_line width bound count (l ∷ ls) ks h =
+    let here = h.1.0 in
+    let behind = h.1.1.0 in
+    let are = h.1.1.1.0 in
+    subst (λ z. All (λ k. k < bound) z) (sym are) (All-append (λ k. k < bound) here behind
+    (fields-within width bound l here h.1.1.1.1.1.0)
+    (table-within per_line width bound (count - min per_line count) ls behind h.1.1.1.1.1.1))
+
+-- the rows of one column more
+pub column-more : (s : Symmetry) (rows : List ℕ) (i j d : ℕ) → i < length rows →
+    flat_map (pairs_of s) (column_entries (take (i + 1) rows) j) ≡
+    flat_map (pairs_of s) (column_entries (take i rows) j) ++ pairs_of s (get_or rows i d, j)
+column-more s [] i j d h = absurd (omega arith)
+column-more s (r ∷ rows) zero j d h = append-nil (pairs_of s (r, j))
+column-more s (r ∷ rows) (suc i) j d h =
+    let e : suc i + 1 ≡ suc (i + 1) = omega arith in rw e (ap (λ z. pairs_of s (r, j) ++ z) (column-more s rows i j d (omega arith)) ∙
+    sym (append_assoc (pairs_of s (r, j)) (flat_map (pairs_of s) (column_entries (take i rows) j)) (pairs_of s (get_or rows i d, j))))
+
+-- pointers rise up to the last one
+pub pointers-rise : (n entries : ℕ) (ps : List ℕ) (j k : ℕ) → ArePointers n entries ps → j + k ≤ n →
+    get_or ps j 0 ≤ get_or ps (j + k) 0
+pointers-rise n entries ps j zero h l = let e : j + 0 ≡ j = omega arith in rw e (omega arith)
+pointers-rise n entries ps j (suc k) h l =
+    let so_far = pointers-rise n entries ps j k h (omega arith) in
+    let next = h.rising (j + k) (omega arith) in
+    let e : j + suc k ≡ (j + k) + 1 = omega arith in
+    rw e (omega (arith, so_far, next))
+
+pub pointer-within : (n entries : ℕ) (ps : List ℕ) (j : ℕ) → ArePointers n entries ps → j ≤ n → get_or ps j 0 ≤ entries
+pointer-within n entries ps j h l =
+    let e : j + (n - j) ≡ n = omega arith in
+    let up = pointers-rise n entries ps j (n - j) h (omega arith) in
+    let top = rw e at up in omega (arith, top, h.last)
+
+-- the entries lie in the matrix
+listed-inside : (n : ℕ) (ps rows : List ℕ) (k : ℕ) → All (λ i. i < n) rows → k ≤ n → All {X = ℕ × ℕ} (Inside n) (listed_entries ps rows k)
+listed-inside n ps rows zero h l = λ i d x. absurd (omega arith)
+listed-inside n ps rows (suc j) h l =
+    let own = slice_range rows (get_or ps j 0) (get_or ps (j + 1) 0) in
+    All-append {X = ℕ × ℕ} (Inside n) (listed_entries ps rows j) (column_entries own j)
+    (listed-inside n ps rows j h (omega arith))
+    (All-map {X = ℕ × ℕ} (Inside n) (λ i. (i, j)) own (All-weaker (λ i. i < n) (λ i. Inside n (i, j)) (λ i x. (x, omega arith)) own
+    (All-take (λ i. i < n) (get_or ps (j + 1) 0 - get_or ps j 0) (drop (get_or ps j 0) rows)
+    (All-drop (λ i. i < n) (get_or ps j 0) rows h))))
+
+pub boeing-inside : (n : ℕ) (s : Symmetry) (ps rows : List ℕ) → All (λ i. i < n) rows →
+    All {X = ℕ × ℕ} (Inside n) (flat_map (pairs_of s) (listed_entries ps rows n))
+boeing-inside n s ps rows h = entries-inside n s (listed_entries ps rows n) (listed-inside n ps rows n h (omega arith))
+
+-- what the second line spells, where it spells anything
+pub sides-line : {R Z : Type 0} (remaining : R → Option (List ℕ)) (a b : LineReader R Z) (o : Option ℕ) →
+    TakesLines remaining a b (line_of b ∷ []) → IfSome o (SpellsCounts (words (line_of b))) →
+    IfSome o (λ sides. (line : List ℕ) × TakesLines remaining a b (line ∷ []) × SpellsCounts (words line) sides)
+sides-line remaining a b None h k = tt
+sides-line remaining a b (Some sides) h k = (line_of b, h, k)
+
+-- a fault of the numbers of a line
+pub list-behind : (f : Fault) (line : List ℕ) (rest : Option (List ℕ)) → IsOfList f → IsBehind f (line ∷ []) rest
+list-behind fault.OutOfMemory line rest h = reading tt
+list-behind fault.Kind line rest h = last [] line refl (in_boeing tt)
+list-behind fault.Elemental line rest h = last [] line refl (in_boeing tt)
+list-behind (fault.NotSquare r k) line rest h = last [] line refl (in_boeing tt)
+list-behind fault.Layout line rest h = last [] line refl (in_boeing tt)
+list-behind fault.Number line rest h = last [] line refl (in_boeing tt)
+list-behind (fault.Row n r) line rest h = last [] line refl (in_boeing tt)
+list-behind (fault.Pointer n r) line rest h = last [] line refl (in_boeing tt)
+list-behind fault.Pointers line rest h = last [] line refl (in_boeing tt)
+list-behind f line rest h = absurd h
+
+-- no number was read
+pub table-none : (per_line width bound count : ℕ) (numbers js : List ℕ) (ns : List (List ℕ)) → numbers ≡ [] →
+    SpellsTable per_line width bound (count - length numbers) ns js → SpellsTable per_line width bound count ns (numbers ++ js)
+table-none per_line width bound count [] js ns e h =
+    let same : count - 0 ≡ count = omega arith in subst (λ z. SpellsTable per_line width bound z ns js) same h
+table-none per_line width bound count (x ∷ xs) js ns e h = cc
+
+-- the pairs of one column more
+pub listed-more : (s : Symmetry) (ps rows own : List ℕ) (old new : List (ℕ × ℕ)) (j : ℕ) →
+    old ≡ flat_map (pairs_of s) (listed_entries ps rows j) → own ≡ slice_range rows (get_or ps j 0) (get_or ps (j + 1) 0) →
+    new ≡ old ++ flat_map (pairs_of s) (column_entries own j) → new ≡ flat_map (pairs_of s) (listed_entries ps rows (suc j))
+listed-more s ps rows own old new j so_far are more =
+    let part = slice_range rows (get_or ps j 0) (get_or ps (j + 1) 0) in
+    more ∙ ap (λ z. z ++ flat_map (pairs_of s) (column_entries own j)) so_far ∙
+    ap (λ z. flat_map (pairs_of s) (listed_entries ps rows j) ++ flat_map (pairs_of s) (column_entries z j)) are ∙
+    sym (flat_map-append (pairs_of s) (listed_entries ps rows j) (column_entries part j))
+
+-- a list that has an element has a last one
+last-of : (l : List ℕ) (ls : List (List ℕ)) → (before : List (List ℕ)) × (line : List ℕ) × (l ∷ ls ≡ before ++ line ∷ [])
+last-of l [] = ([], l, refl)
+last-of l (m ∷ ls) = let rest = last-of m ls in (l ∷ rest.0, rest.1, ap (λ z. l ∷ z) rest.2)
+
+-- pointers that do not rise are told at the last of their lines
+pub pointers-behind : (per_line width bound count : ℕ) (ls : List (List ℕ)) (ks : List ℕ) (rest : Option (List ℕ)) → 0 < count →
+    SpellsTable per_line width bound count ls ks → IsBehind fault.Pointers ls rest
+pointers-behind per_line width bound count [] ks rest some h = let none = h.0 in absurd (omega (arith, none))
+pointers-behind per_line width bound count (l ∷ ls) ks rest some h =
+    let at = last-of l ls in last at.0 at.1 at.2 (in_boeing tt)

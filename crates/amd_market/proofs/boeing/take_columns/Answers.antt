@@ -1,0 +1,52 @@
+-- The parts were read one after another; an error of a part names its line behind those of the parts before.
+use Rattle.std.proofs.Common.{◌++◌, refl}
+use Rattle.std.proofs.lemmas.Result.{err_from_is_err_and}
+use Rattle.amd_market.specs.Faults.{reading}
+use Rattle.amd_market.proofs.LineLemmas.{takes-append}
+use Rattle.amd_market.proofs.FaultLemmas.{for-behind, for-here}
+use Rattle.amd_market.proofs.BoeingLemmas.{boeing-inside, table-within, table-size}
+use Rattle.amd_market.proofs.boeing.take_columns.Goals as goal
+
+pub returns-in_err-rows-clause-fails : goal.returns-in_err-rows-clause-fails
+returns-in_err-rows-clause-fails g c =
+    let first = c.in_ok-pointers.ensures.takes in
+    let p = err_from_is_err_and c.from_residual-in_err-rows.result c.from_residual-in_err-rows.ensures.1 in
+    rw (p.1, p.2) (for-behind _ _ _ first.0 _ first.1 c.in_err-rows.ensures.fails)
+
+pub listed_pairs-requires : goal.listed_pairs-requires
+listed_pairs-requires g c =
+    let second = c.in_ok-rows.ensures.takes in
+    let size = table-size _ _ _ _ second.0 c.in_ok-rows.rows.items second.2 in
+    rw (c.deref.ensures.value, c.deref-2.ensures.value, size) c.in_ok-pointers.ensures.pointers
+
+pub returns-in-Ok-clause-takes : goal.returns-in-Ok-clause-takes
+returns-in-Ok-clause-takes g c =
+    let first = c.in_ok-pointers.ensures.takes in
+    let second = c.in_ok-rows.ensures.takes in (
+      first.0 ++ second.0,
+      takes-append _ _ _ _ first.0 second.0 first.1 second.1,
+      record {
+        pointer_lines = first.0;
+        row_lines = second.0;
+        parts = refl;
+        pointers = c.in_ok-pointers.pointers.items;
+        rows = c.in_ok-rows.rows.items;
+        has_pointers = first.2;
+        has_rows = second.2;
+        are_pointers = c.in_ok-pointers.ensures.pointers;
+        pairs_are = (rw (c.deref.ensures.value, c.deref-2.ensures.value) at c.in-Ok.ensures);
+      },
+    )
+
+pub returns-in-Ok-clause-inside : goal.returns-in-Ok-clause-inside
+returns-in-Ok-clause-inside g c =
+    let second = c.in_ok-rows.ensures.takes in
+    let within = table-within _ _ _ _ second.0 c.in_ok-rows.rows.items second.2 in
+    let are = rw (c.deref.ensures.value, c.deref-2.ensures.value) at c.in-Ok.ensures in
+    rw are (boeing-inside c.args.kind.n c.args.kind.symmetry c.in_ok-pointers.pointers.items c.in_ok-rows.rows.items within)
+
+pub returns-clause-fails : goal.returns-clause-fails
+returns-clause-fails g c =
+    let first = c.in_ok-pointers.ensures.takes in
+    let second = c.in_ok-rows.ensures.takes in
+    for-here _ _ _ (first.0 ++ second.0) _ _ (takes-append _ _ _ _ first.0 second.0 first.1 second.1) c.at_line.ensures (reading tt)

@@ -1,0 +1,53 @@
+-- Each turn reads the numbers of one line more.
+use Rattle.std.proofs.Common.{◌-◌, ◌++◌, ◌∷◌, [], length, length-append, arith, ap, ◌∙◌}
+use Rattle.std.specs.Prelude.{min}
+use Rattle.std.proofs.lemmas.Result.{err_from_is_err_and}
+use Rattle.amd_market.specs.Lines.{line_of}
+use Rattle.amd_market.proofs.LineLemmas.{takes-none, takes-append}
+use Rattle.amd_market.proofs.FaultLemmas.{for-here, for-behind}
+use Rattle.amd_market.proofs.BoeingLemmas.{table-none, table-turn, table-whole, list-behind}
+use Rattle.amd_market.proofs.boeing.take_numbers.Goals as goal
+
+pub lines-init : goal.lines-init
+lines-init g c =
+    let none = ap length c.new-numbers.ensures.items in
+    ([], takes-none _ _, omega (arith, none), λ ns js h. table-none _ _ _ _ _ js ns c.new-numbers.ensures.items h)
+
+pub returns-in_err-take_some-clause-fails : goal.returns-in_err-take_some-clause-fails
+returns-in_err-take_some-clause-fails g c =
+    let inv = c.lines.invariant in
+    let p = err_from_is_err_and c.from_residual.result c.from_residual.ensures.1 in
+    rw (p.1, p.2) (for-behind _ _ _ inv.0 _ inv.1 c.in_err-take_some.ensures.fails)
+
+pub returns-in-Err-clause-fails : goal.returns-in-Err-clause-fails
+returns-in-Err-clause-fails g c =
+    let inv = c.lines.invariant in
+    let line = line_of c.take_some.new.lines in
+    for-behind _ _ _ inv.0 _ inv.1 (for-here _ _ _ (line ∷ []) _ _ c.in_ok-take_some.ensures.takes c.at_line.ensures
+    (list-behind _ line _ c.in-Err.ensures.fault))
+
+pub lines-preserved : goal.lines-preserved
+lines-preserved g c =
+    let inv = c.lines.invariant in
+    let line = line_of c.take_some.new.lines in
+    let numbers = c.lines.numbers.items in
+    let added = c.in_default.ensures.adds in
+    let fields = rw c.line.ensures at added.3 in
+    let size = added.1 ∙ c.min-here.ensures ∙ ap (λ z. min c.args.fields.per_line (c.args.count - z)) (c.len-in-lines.ensures ∙ c.lines.numbers.ok.0) in
+    let items = added.2 in
+    let long = ap length items ∙ length-append numbers added.0 in
+    let old = c.len.ensures ∙ c.lines.numbers.ok.0 in
+    let room = c.lines-test.true in (
+      inv.0 ++ line ∷ [],
+      takes-append _ _ _ _ inv.0 (line ∷ []) inv.1 c.in_ok-take_some.ensures.takes,
+      omega (arith, long, size, old, room),
+      (rw items (λ ns js h. table-turn c.args.fields.per_line c.args.fields.width c.args.bound c.args.count inv.0 ns line numbers added.0 js
+          (omega (arith, old, room)) inv.3 size fields h)),
+    )
+
+pub returns-clause-takes : goal.returns-clause-takes
+returns-clause-takes g c =
+    let inv = c.lines.invariant in
+    let old = c.len.ensures ∙ c.lines.numbers.ok.0 in
+    let done = c.lines-test.false in
+    (inv.0, inv.1, table-whole _ _ _ _ inv.0 c.lines.numbers.items (omega (arith, old, done)) inv.3)

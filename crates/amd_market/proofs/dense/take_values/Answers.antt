@@ -1,0 +1,26 @@
+-- Each turn reads one column more.
+use Rattle.std.proofs.Common.{[], add-one, arith}
+use Rattle.std.proofs.lemmas.Result.{err_from_is_err_and}
+use Rattle.amd_market.proofs.ArrayLemmas.{values-none, values-append, first-within}
+use Rattle.amd_market.proofs.FaultLemmas.{for-behind}
+use Rattle.amd_market.proofs.dense.take_values.Goals as goal
+
+pub columns-init : goal.columns-init
+columns-init g c = rw c.new-pairs.ensures.items (values-none _ _ _ [])
+
+pub take_column-requires : goal.take_column-requires
+take_column-requires g c =
+    let within = first-within c.args.header.symmetry c.columns.column in
+    let first = c.first_row-first.ensures in
+    omega (arith, within, first)
+
+pub returns-in_err-take_column-clause-fails : goal.returns-in_err-take_column-clause-fails
+returns-in_err-take_column-clause-fails g c =
+    let inv = c.columns.invariant in
+    let p = err_from_is_err_and c.from_residual.result c.from_residual.ensures.1 in
+    rw (p.1, p.2) (for-behind _ _ _ inv.lines _ inv.takes c.in_err-take_column.ensures.fails)
+
+pub columns-preserved : goal.columns-preserved
+columns-preserved g c =
+    let more = rw c.first_row-first.ensures at c.in_ok-take_column.ensures.takes in
+    rw add-one (values-append _ _ _ _ _ _ _ _ _ _ c.columns.invariant more)

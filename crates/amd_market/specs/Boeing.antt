@@ -1,0 +1,162 @@
+-- The lines of a Harwell-Boeing file, and the entries that its pointers and rows stand for.
+use Rattle.std.specs.Prelude.{◌≡◌, ◌<◌, ◌≤◌, ◌+◌, ◌-◌, ◌==◌, ◌||◌, cond, ℕ, pos, zero, suc, Bool, true, List, [], ◌∷◌, ◌++◌}
+use Rattle.std.specs.Prelude.{Option, Some, None, length, map, take, drop, min, slice_index, slice_range, flat_map}
+use Rattle.std.specs.Char.{to_ascii_lowercase}
+use Rattle.amd_cases.specs.Words.{words, SpellsNumber}
+use Rattle.amd_market.specs.Headers.{pairs_of}
+use Rattle.amd_market.specs.Entries.{SpellsIndex}
+use Rattle.amd_market.specs.Columns.{HoldsOnce}
+use Rattle.amd_market.specs.declared.headers.Symmetry.{Symmetry}
+use Rattle.amd_market.specs.declared.headers.Symmetry.TheVariants as kind
+use Rattle.amd_market.specs.declared.cards.Kind.{Kind}
+use Rattle.amd_market.specs.declared.formats.Layout.{Layout}
+
+-- 'i' and 'I'
+abbrev pub is_whole_letter : ℕ → Bool
+is_whole_letter b = b == 105 || b == 73
+
+-- how many numbers the front of a format says: it is empty, or their number
+abbrev pub SpellsRepeat : List ℕ → ℕ → Type 0
+SpellsRepeat [] k = k ≡ 1
+SpellsRepeat (b ∷ bs) k = SpellsNumber (b ∷ bs) (pos k)
+
+-- the word is a format of whole numbers, so many on a line and in fields of so many bytes, as (16I5)
+pub record SpellsFormat (word : List ℕ) (per_line width : ℕ) : Type 0 where
+  pub front : List ℕ
+  pub letter : ℕ
+  pub back : List ℕ
+  pub parts : word ≡ 40 ∷ ((front ++ letter ∷ back) ++ 41 ∷ [])
+  pub is_whole : to_ascii_lowercase letter ≡ 105
+  pub repeated : SpellsRepeat front per_line
+  pub wide : SpellsNumber back (pos width)
+
+-- the field has one word, the number of one of so many things, of which the first is 1
+abbrev pub SpellsField : List ℕ → ℕ → ℕ → Type 0
+SpellsField field bound k = (w : List ℕ) × ((words field ≡ w ∷ []) × SpellsIndex w bound k)
+
+-- the numbers stand in fields of one width, one behind another
+abbrev pub SpellsFields : ℕ → ℕ → List ℕ → List ℕ → Type 0
+SpellsFields width bound text [] = Unit {0}
+SpellsFields width bound text (k ∷ ks) = SpellsField (take width text) bound k × SpellsFields width bound (drop width text) ks
+
+-- so many numbers stand on the lines: each line has as many as it may, and the last one the rest
+abbrev pub SpellsTable : ℕ → ℕ → ℕ → ℕ → List (List ℕ) → List ℕ → Type 0
+SpellsTable per_line width bound count [] ks = (count ≡ 0) × (ks ≡ [])
+SpellsTable per_line width bound count (l ∷ ls) ks = (0 < count) × ((here : List ℕ) × ((behind : List ℕ) ×
+    ((ks ≡ here ++ behind) × ((length here ≡ min per_line count) × (SpellsFields width bound l here ×
+    SpellsTable per_line width bound (count - min per_line count) ls behind)))))
+
+-- what stands behind the first four words of the second line: nothing, or the number of lines of right-hand sides
+abbrev pub SpellsSides : List (List ℕ) → ℕ → Type 0
+SpellsSides [] sides = sides ≡ 0
+SpellsSides (w ∷ []) sides = SpellsNumber w (pos sides)
+SpellsSides (w ∷ v ∷ ws) sides = ⊥
+
+-- the words are four numbers of lines, and maybe a fifth, that of right-hand sides
+pub record SpellsCounts (ws : List (List ℕ)) (sides : ℕ) : Type 0 where
+  pub first : List ℕ
+  pub second : List ℕ
+  pub third : List ℕ
+  pub fourth : List ℕ
+  pub behind : List (List ℕ)
+  pub parts : ws ≡ first ∷ (second ∷ (third ∷ (fourth ∷ behind)))
+  pub has_sides : SpellsSides behind sides
+
+-- 'r', 'c', 'p', 'i' and 'q'
+abbrev pub is_value_letter : ℕ → Bool
+is_value_letter l = l == 114 || l == 99 || l == 112 || l == 105 || l == 113
+
+-- 'u' and 'r', 's', 'z', and 'h'
+abbrev pub letter_symmetry : ℕ → Option Symmetry
+letter_symmetry l = cond (l == 117 || l == 114) (Some kind.General) (cond (l == 115) (Some kind.Symmetric)
+    (cond (l == 122) (Some kind.SkewSymmetric) (cond (l == 104) (Some kind.Hermitian) None)))
+
+-- the word is the type of an assembled matrix with this symmetry, in letters of any case
+pub record SpellsType (word : List ℕ) (s : Symmetry) : Type 0 where
+  pub value : ℕ
+  pub shape : ℕ
+  pub letters : map to_ascii_lowercase word ≡ value ∷ (shape ∷ (97 ∷ []))
+  pub has_value : is_value_letter value ≡ true
+  pub has_shape : letter_symmetry shape ≡ Some s
+
+-- the words begin with the numbers of rows, of columns and of entries
+pub record SpellsSizes (ws : List (List ℕ)) (rows columns entries : ℕ) : Type 0 where
+  pub first : List ℕ
+  pub second : List ℕ
+  pub third : List ℕ
+  pub behind : List (List ℕ)
+  pub parts : ws ≡ first ∷ (second ∷ (third ∷ behind))
+  pub has_rows : SpellsNumber first (pos rows)
+  pub has_columns : SpellsNumber second (pos columns)
+  pub has_entries : SpellsNumber third (pos entries)
+
+-- the third line is a type, and the numbers of rows, of columns and of entries
+pub record SpellsKind (line : List ℕ) (s : Symmetry) (n entries : ℕ) : Type 0 where
+  pub word : List ℕ
+  pub behind : List (List ℕ)
+  pub parts : words line ≡ word ∷ behind
+  pub has_type : SpellsType word s
+  pub has_sizes : SpellsSizes behind n n entries
+
+-- the fourth line begins with the formats of pointers and of rows
+pub record SpellsLayout (line : List ℕ) (l : Layout) : Type 0 where
+  pub first : List ℕ
+  pub second : List ℕ
+  pub behind : List (List ℕ)
+  pub parts : words line ≡ first ∷ (second ∷ behind)
+  pub has_pointers : SpellsFormat first l.pointers.per_line l.pointers.width
+  pub has_rows : SpellsFormat second l.rows.per_line l.rows.width
+
+-- a pair for each of these rows, in one column
+abbrev pub column_entries : List ℕ → ℕ → List (ℕ × ℕ)
+column_entries rows j = map (λ i. (i, j)) rows
+
+-- the entries of the first columns: for each of them, the rows between its pointer and the next
+abbrev pub listed_entries : List ℕ → List ℕ → ℕ → List (ℕ × ℕ)
+listed_entries ps rows zero = []
+listed_entries ps rows (suc j) = listed_entries ps rows j ++ column_entries (slice_range rows (slice_index ps j) (slice_index ps (j + 1))) j
+
+-- there is one pointer more than columns, and they rise from 0 to the number of entries
+pub record ArePointers (n entries : ℕ) (ps : List ℕ) : Type 0 where
+  pub size : length ps ≡ n + 1
+  pub first : slice_index ps 0 ≡ 0
+  pub last : slice_index ps n ≡ entries
+  pub rising : (j : ℕ) → j < n → slice_index ps j ≤ slice_index ps (j + 1)
+
+-- the lines are the three behind the title, and a fifth one where there are right-hand sides
+pub record SpellsHead (lines : List (List ℕ)) (k : Kind) (l : Layout) : Type 0 where
+  pub counts : List ℕ
+  pub third : List ℕ
+  pub fourth : List ℕ
+  pub more : List (List ℕ)
+  pub parts : lines ≡ (counts ∷ []) ++ ((third ∷ []) ++ ((fourth ∷ []) ++ more))
+  pub sides : ℕ
+  pub has_counts : SpellsCounts (words counts) sides
+  pub has_kind : SpellsKind third k.symmetry k.n k.entries
+  pub has_layout : SpellsLayout fourth l
+  pub has_more : length more ≡ cond (sides == 0) 0 1
+
+-- the lines are those of the pointers and of the rows, and the pairs are those that the entries stand for
+pub record SpellsColumns (lines : List (List ℕ)) (k : Kind) (l : Layout) (pairs : List (ℕ × ℕ)) : Type 0 where
+  pub pointer_lines : List (List ℕ)
+  pub row_lines : List (List ℕ)
+  pub parts : lines ≡ pointer_lines ++ row_lines
+  pub pointers : List ℕ
+  pub rows : List ℕ
+  pub has_pointers : SpellsTable l.pointers.per_line l.pointers.width (k.entries + 1) (k.n + 1) pointer_lines pointers
+  pub has_rows : SpellsTable l.rows.per_line l.rows.width k.n k.entries row_lines rows
+  pub are_pointers : ArePointers k.n k.entries pointers
+  pub pairs_are : pairs ≡ flat_map (pairs_of k.symmetry) (listed_entries pointers rows k.n)
+
+-- the lines behind the title are those of a file, and the matrix is that of the pairs that the entries stand for
+pub record SpellsBoeing (lines : List (List ℕ)) (n : ℕ) (ap ai : List ℕ) (repeats : ℕ) : Type 0 where
+  pub head : List (List ℕ)
+  pub columns : List (List ℕ)
+  pub parts : lines ≡ head ++ columns
+  pub kind : Kind
+  pub layout : Layout
+  pub has_head : SpellsHead head kind layout
+  pub pairs : List (ℕ × ℕ)
+  pub has_columns : SpellsColumns columns kind layout pairs
+  pub size : n ≡ kind.n
+  pub matrix : HoldsOnce n pairs ap ai repeats

@@ -1,0 +1,136 @@
+// The lines at the head of a Harwell-Boeing or a Rutherford-Boeing file, behind its title. Called by `boeing`. Source:
+// the Harwell-Boeing and Rutherford-Boeing exchange formats.
+
+ghost use Rattle.std.specs.Prelude.{◌≡◌, ◌∷◌, ℕ, List, pos, IfOk, IfErr, IfSome};
+ghost use Rattle.amd_market.specs.Faults.{IsOfBoeing};
+ghost use Rattle.amd_cases.specs.Words.{words, SpellsNumber};
+ghost use Rattle.amd_market.specs.Boeing.{SpellsCounts, SpellsType, SpellsSizes, SpellsKind, SpellsLayout};
+ghost use Rattle.amd_market.specs.Boeing.{is_value_letter, letter_symmetry};
+
+use crate::entries::count_of;
+use crate::faults::Fault;
+use crate::fields::fields_of;
+use crate::formats::Layout;
+use crate::headers::Symmetry;
+use amd_cases::words::first_word;
+
+/// What the third line of a file says.
+#[derive(Clone, Copy)]
+pub(crate) struct Kind {
+    /// What an entry says of its mirror image.
+    pub(crate) symmetry: Symmetry,
+    /// The number of rows and columns.
+    pub(crate) n: usize,
+    /// The number of entries.
+    pub(crate) entries: usize,
+}
+
+/// The number at the beginning of a text, and what stands behind it.
+fn first_count(text: &[u8]) -> Option<(usize, &[u8])>
+    ensures { IfSome result (λ p. (w : List ℕ) × (words text.now ≡ w ∷ words p.1.now) × SpellsNumber w (pos p.0)) }
+{
+    let (word, rest) = first_word(text)?;
+    Some((count_of(word)?, rest))
+}
+
+/// How many lines of right-hand sides the second line of a file tells: its fifth number, 0 where it has four. They are
+/// the numbers of all lines behind the fourth, and of those of pointers, of rows, of values and of right-hand sides.
+pub(crate) fn sides_of(line: &[u8]) -> Option<usize>
+    ensures { IfSome result (SpellsCounts (words line.now)) }
+{
+    let (_, rest) = first_count(line)?;
+    let (_, rest) = first_count(rest)?;
+    let (_, rest) = first_count(rest)?;
+    let (_, rest) = first_count(rest)?;
+    match first_word(rest) {
+        None => Some(0),
+        Some((word, rest)) if first_word(rest).is_none() => count_of(word),
+        Some(_) => None,
+    }
+}
+
+/// Whether a lower-case letter says what values are: real, complex, none, whole numbers, or in another file.
+fn is_value_letter(letter: u8) -> bool
+    ensures { result ≡ is_value_letter letter }
+{
+    letter == b'r' || letter == b'c' || letter == b'p' || letter == b'i' || letter == b'q'
+}
+
+/// The symmetry that a lower-case letter says; `r` is that of a matrix that need not be square.
+fn letter_symmetry(letter: u8) -> Option<Symmetry>
+    ensures { result ≡ letter_symmetry letter }
+{
+    match letter {
+        b'u' | b'r' => Some(Symmetry::General),
+        b's' => Some(Symmetry::Symmetric),
+        b'z' => Some(Symmetry::SkewSymmetric),
+        b'h' => Some(Symmetry::Hermitian),
+        _ => None,
+    }
+}
+
+/// The symmetry of a type of an assembled matrix, which is three letters in any case: those of values, of symmetry, and
+/// `A`. An `E` in its place says that the matrix is not assembled.
+fn type_of(word: &[u8]) -> Result<Symmetry, Fault>
+    ensures type_is { IfOk result (SpellsType word.now) }
+    ensures fault { IfErr result IsOfBoeing }
+{
+    let [value, shape, storage] = word else {
+        return Err(Fault::Kind);
+    };
+    if !is_value_letter(value.to_ascii_lowercase()) {
+        return Err(Fault::Kind);
+    }
+    let Some(symmetry) = letter_symmetry(shape.to_ascii_lowercase()) else {
+        return Err(Fault::Kind);
+    };
+    match storage.to_ascii_lowercase() {
+        b'a' => Ok(symmetry),
+        b'e' => Err(Fault::Elemental),
+        _ => Err(Fault::Kind),
+    }
+}
+
+/// The numbers of rows, of columns and of entries at the beginning of a text.
+fn spelled_sizes(text: &[u8]) -> Option<(usize, usize, usize)>
+    ensures { IfSome result (λ s. SpellsSizes (words text.now) s.0 s.1 s.2) }
+{
+    let (rows, rest) = first_count(text)?;
+    let (columns, rest) = first_count(rest)?;
+    let (entries, _) = first_count(rest)?;
+    Some((rows, columns, entries))
+}
+
+/// What the third line of a file says, or what is wrong with it.
+pub(crate) fn kind_of(line: &[u8]) -> Result<Kind, Fault>
+    ensures kind { IfOk result (λ k. SpellsKind line.now k.symmetry k.n k.entries) }
+    ensures fault { IfErr result IsOfBoeing }
+{
+    let Some((word, rest)) = first_word(line) else {
+        return Err(Fault::Kind);
+    };
+    let symmetry = type_of(word)?;
+    let Some((rows, columns, entries)) = spelled_sizes(rest) else {
+        return Err(Fault::Kind);
+    };
+    if rows != columns {
+        return Err(Fault::NotSquare { rows, columns });
+    }
+    Ok(Kind {
+        symmetry,
+        n: rows,
+        entries,
+    })
+}
+
+/// The formats of pointers and of rows, with which the fourth line of a file begins.
+pub(crate) fn layout_of(line: &[u8]) -> Option<Layout>
+    ensures { IfSome result (λ l. SpellsLayout line.now l) }
+{
+    let (first, rest) = first_word(line)?;
+    let (second, _) = first_word(rest)?;
+    Some(Layout {
+        pointers: fields_of(first)?,
+        rows: fields_of(second)?,
+    })
+}
