@@ -1,6 +1,6 @@
 // Worked matrices through the engine in place, from first flags with and without a reset of the counters, in words of
 // both widths, with no word to spare and with those of `order`; through the plain engine; and through `amd_1` and
-// `amd_2` by themselves, the latter over lists that were laid. The answers were worked by hand, and come from the Rust
+// `amd_2_from` by themselves, the latter over lists that were laid. The answers were worked by hand, and come from the Rust
 // crate `amd` and from a plain program that follows the rules.
 
 use crate::in_place_matrices::{Case, MATRICES};
@@ -86,9 +86,9 @@ fn check_amd_1(rt: &impl Abort, alloc: Global, case: &Case) {
     check!(rt; is_answer(case, &p, &p_inv, &info), case.what);
 }
 
-/// Asserts that `amd_2` gives the answer of a case over lists that were laid in words of these widths, and tells its
-/// elements.
-fn check_amd_2<S: Signed, U: Unsigned>(rt: &impl Abort, alloc: Global, case: &Case) {
+/// Asserts that `amd_2_from` gives the answer of a case over lists that were laid in words of these widths, and tells
+/// its elements.
+fn check_amd_2_from<S: Signed, U: Unsigned>(rt: &impl Abort, alloc: Global, case: &Case) {
     let mut info = Info::new(0);
     let control = control_of(case);
     let (blocks, p_inv, p, fronts) = order_laid::<S, U>(
@@ -119,8 +119,8 @@ fn worked_matrices_through_each_call(rt: HostRuntime) {
     for case in &MATRICES {
         check_plainly(&rt, rt.alloc(), case);
         check_amd_1(&rt, rt.alloc(), case);
-        check_amd_2::<i32, u32>(&rt, rt.alloc(), case);
-        check_amd_2::<isize, usize>(&rt, rt.alloc(), case);
+        check_amd_2_from::<i32, u32>(&rt, rt.alloc(), case);
+        check_amd_2_from::<isize, usize>(&rt, rt.alloc(), case);
     }
 }
 
@@ -150,6 +150,6 @@ fn no_round(rt: HostRuntime) -> Result<(), Fail> {
     let (a_p, a_i) = complete(rt.alloc(), 18)?;
     let case = all_dense(&a_p, &a_i);
     check(&rt, rt.alloc(), &case, 0);
-    check_amd_2::<isize, usize>(&rt, rt.alloc(), &case);
+    check_amd_2_from::<isize, usize>(&rt, rt.alloc(), &case);
     Ok(())
 }

@@ -1,6 +1,6 @@
 // The workspace as it is laid: the lists of the neighbours one after another, where each starts, how long it is, and
-// where the first free word is, in both widths of words; the marks that stand there; and `amd_2` over such a workspace,
-// for other tests. The lists were worked by hand in the order in which the walk meets the edges.
+// where the first free word is, in both widths of words; the marks that stand there; and `amd_2_from` over such a
+// workspace, for other tests. The lists were worked by hand in the order in which the walk meets the edges.
 
 ghost use Rattle.std.specs.Prelude.{◌≡◌, ◌<◌, ◌≤◌, ◌+◌, ℕ, List, pos, length};
 ghost use Rattle.amd_model.specs.Graph.{Graph};
@@ -9,7 +9,7 @@ ghost use Rattle.amd_engine.specs.InPlace.{LaysGraph};
 
 use crate::sorted::{Sorted, check_marks, degrees_of};
 use amd_engine::amd_1::holds;
-use amd_engine::amd_2::amd_2;
+use amd_engine::amd_2::amd_2_from;
 use amd_types::amd::{Control, Info};
 use amd_types::internal::flip;
 use amd_words::{Cell, Signed, Unsigned, Word, cell_at, word_at};
@@ -162,7 +162,7 @@ fn laid_of<S: Signed, U: Unsigned>(
     laid
 }
 
-/// Orders by `amd_2` over lists that are laid in words of these widths, with no word to spare.
+/// Orders by `amd_2_from` over lists that are laid in words of these widths, with no word to spare.
 pub fn order_laid<S: Signed, U: Unsigned>(
     rt: &impl Abort,
     alloc: Global,
@@ -173,14 +173,13 @@ pub fn order_laid<S: Signed, U: Unsigned>(
     let (n, a_p, a_i) = (matrix.n, matrix.a_p, matrix.a_i);
     let mut laid = laid_of::<S, U>(rt, alloc, n, a_p, a_i, 0, info);
     check_marks(rt, matrix.hold, laid.len.len());
-    let room = laid.iw.len();
-    let Ok(answer) = amd_2(
+    let Ok(answer) = amd_2_from(
         alloc,
+        2,
         n,
         &mut laid.pe,
         &mut laid.iw,
         &mut laid.len,
-        room,
         laid.free,
         control,
         matrix.hold,
