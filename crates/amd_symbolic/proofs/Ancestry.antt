@@ -21,7 +21,7 @@ pub over-trans : (g : Graph) (p : List ℕ) {x y z : ℕ} → Over g p x y → O
 over-trans g p itself b = b
 over-trans g p (up h a) b = up h (over-trans g p a b)
 
-parents-same : (g : Graph) (p : List ℕ) (k q r : ℕ) → IsParent g p k q → IsParent g p k r → q ≡ r
+pub parents-same : (g : Graph) (p : List ℕ) (k q r : ℕ) → IsParent g p k q → IsParent g p k r → q ≡ r
 parents-same g p k q r a b = let x = a.first r b.entry in let y = b.first q a.entry in omega (arith, x, y)
 
 module _ (g : Graph) (p : List ℕ) (laws : IsGraph g) where

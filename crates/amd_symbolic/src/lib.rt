@@ -16,11 +16,14 @@
 //! | `tree`, `ranks`, `meeting`, `sweep`, `sizes` | How many entries the columns have, in slices: the elimination tree, its postorder, and a sweep over all arcs |
 //! | `needs`, `counted`, `counting` | What a factor needs; [`counts`], [`analyze_counts`] and [`analyze_counts_holding`] |
 //! | `analysis` | [`analyze`] and [`analyze_holding`]: an ordering, and the factor under it |
+//! | `partition`, `below`, `blocks` | A factor by supernodes: the places are cut into these by the counts, and the rows climb through them |
 //! | `laws` | Laws of the factor and on the contracts above |
 #![tactic(auto)]
 
 pub mod analysis;
 pub mod arcs;
+pub mod below;
+pub mod blocks;
 pub mod children;
 pub mod column;
 pub mod counted;
@@ -33,6 +36,7 @@ pub mod meeting;
 pub mod merge;
 pub mod needs;
 pub mod neighbours;
+pub mod partition;
 pub mod places;
 pub mod ranks;
 pub mod sizes;
@@ -40,6 +44,7 @@ pub mod sweep;
 pub mod tree;
 
 pub use analysis::{analyze, analyze_holding};
+pub use blocks::Supernodes;
 pub use counted::Counts;
 pub use counting::{analyze_counts, analyze_counts_holding, counts};
 pub use factor::{Factor, Fault, columns};

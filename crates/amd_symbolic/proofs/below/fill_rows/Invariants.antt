@@ -1,0 +1,11 @@
+use Rattle.amd_symbolic.specs.Partitions.{MarkedBefore, WrittenTo}
+use Rattle.amd_symbolic.proofs.below.fill_rows.Given as goal
+
+abbrev pub ghost-add_row : goal.ghost-add_row
+ghost-add_row g a = g.b
+
+abbrev pub invariant-rows : goal.invariant-rows
+invariant-rows g l = record {
+  written : WrittenTo g.b l.j l.next l.rows;
+  marks : MarkedBefore g.b l.j l.mark;
+}
