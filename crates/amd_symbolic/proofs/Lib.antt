@@ -45,7 +45,6 @@ pub mod Vectors
 pub mod TreeLaws
 pub mod Reserved
 pub mod Faults
-
 -- The columns by supernodes: runs of places, what the counts tell of them, and the climbs of the rows.
 pub mod Runs
 pub mod Cutting
@@ -53,3 +52,4 @@ pub mod Prefixes
 pub mod SupernodeTree
 pub mod RowClimbs
 pub mod SupernodeRows
+pub mod NoSupernodes

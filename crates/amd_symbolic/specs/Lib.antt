@@ -22,7 +22,6 @@ pub mod Walks
 pub mod Ancestors
 pub mod Ranks
 pub mod Meetings
-
 -- The columns by supernodes.
 pub mod Supernodes
 pub mod Partitions

@@ -5,6 +5,7 @@
 //! from [`amd::order`] and the room from its record, and [`analyze_holding`] does the same with rows that a caller
 //! wants last. [`counts`] counts the entries of the columns without writing them; [`analyze_counts`] does so under the
 //! order from [`amd::order`], and [`analyze_counts_holding`] with rows held last. [`needs::need_of`] sums what a factor needs.
+//! [`supernodes`] takes what `columns` takes but a room, and returns the columns by supernodes.
 //!
 //! The modules, each over those before it:
 //!
@@ -16,7 +17,7 @@
 //! | `tree`, `ranks`, `meeting`, `sweep`, `sizes` | How many entries the columns have, in slices: the elimination tree, its postorder, and a sweep over all arcs |
 //! | `needs`, `counted`, `counting` | What a factor needs; [`counts`], [`analyze_counts`] and [`analyze_counts_holding`] |
 //! | `analysis` | [`analyze`] and [`analyze_holding`]: an ordering, and the factor under it |
-//! | `partition`, `below`, `blocks` | A factor by supernodes: the places are cut into these by the counts, and the rows climb through them |
+//! | `partition`, `below`, `blocks`, `supernodal` | [`supernodes`]: the places are cut into supernodes by the counts, and the rows climb through these |
 //! | `laws` | Laws of the factor and on the contracts above |
 #![tactic(auto)]
 
@@ -40,6 +41,7 @@ pub mod partition;
 pub mod places;
 pub mod ranks;
 pub mod sizes;
+pub mod supernodal;
 pub mod sweep;
 pub mod tree;
 
@@ -48,3 +50,4 @@ pub use blocks::Supernodes;
 pub use counted::Counts;
 pub use counting::{analyze_counts, analyze_counts_holding, counts};
 pub use factor::{Factor, Fault, columns};
+pub use supernodal::supernodes;
