@@ -13,5 +13,6 @@ mod jumbled_texts;
 mod memory;
 mod numbers;
 mod refusals;
+mod supernodes;
 mod texts;
 mod worked;

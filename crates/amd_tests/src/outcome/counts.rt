@@ -52,7 +52,7 @@ fn check_order(
 }
 
 /// The rows, each changed for one that is drawn.
-fn shuffle(p: &mut [i64], seed: u64) {
+pub fn shuffle(p: &mut [i64], seed: u64) {
     let mut state = seed;
     for k in 0..p.len() {
         let other = usize::try_from(draw(&mut state, p.len() as u64)).unwrap_or(0);
