@@ -94,7 +94,12 @@ pub fn permuted<A: Allocator + Copy>(
         return Err(Cause::Form);
     }
     let (a_p, a_i) = columns_of(alloc, n, pairs)?;
-    Ok(Matrix { n, a_p, a_i })
+    Ok(Matrix {
+        n,
+        a_p,
+        a_i,
+        repeats: 0,
+    })
 }
 
 /// Writes a line for each of some rows of a column: the two numbers, from 1 on.

@@ -102,18 +102,8 @@ const FAULTS: [(&str, &str, u64, &str); 20] = [
         4,
         "the column is out of range: -7, of columns 1 to 2",
     ),
-    (
-        "real general",
-        "2 2 1\n1 1\n",
-        3,
-        NO_VALUE,
-    ),
-    (
-        "complex general",
-        "2 2 1\n1 1 1\n",
-        3,
-        NO_VALUE,
-    ),
+    ("real general", "2 2 1\n1 1\n", 3, NO_VALUE),
+    ("complex general", "2 2 1\n1 1 1\n", 3, NO_VALUE),
     (
         "pattern general",
         "2 2 1\n1 1 1\n",
@@ -162,7 +152,8 @@ fn files_at_fault(rt: HostRuntime) -> Result<(), Fail> {
 }
 
 /// What is told of a file of no kind.
-const UNKNOWN: &str = "line 1: this is neither a Matrix Market file, which begins with %%MatrixMarket, nor a Harwell-Boeing file";
+const UNKNOWN: &str =
+    "line 1: this is neither a Matrix Market file, which begins with %%MatrixMarket, nor a Harwell-Boeing file";
 
 /// Files whose first line is at fault, and what is told of them.
 const NO_HEADERS: [(&[u8], &str); 8] = [
@@ -171,10 +162,7 @@ const NO_HEADERS: [(&[u8], &str); 8] = [
         b"\x1f\x8b\x08\x00",
         "line 1: the file is compressed: use zcat FILE | rimopaku order -",
     ),
-    (
-        b"3 3 3\n",
-        UNKNOWN,
-    ),
+    (b"3 3 3\n", UNKNOWN),
     (
         b"\n%%MatrixMarket matrix coordinate real general\n",
         UNKNOWN,
@@ -275,7 +263,8 @@ const NO_ARRAYS: [(&str, &str); 7] = [
 ];
 
 /// What is wrong with a line that has more words than it must have.
-const WORDS: &str = "line 3: more words than the header tells of: a pattern has no values, and a comment a line of its own";
+const WORDS: &str =
+    "line 3: more words than the header tells of: a pattern has no values, and a comment a line of its own";
 
 #[test]
 fn arrays(rt: HostRuntime) -> Result<(), Fail> {
@@ -326,7 +315,10 @@ isa                        3             3             4             0
         "title\n4 1 2 0 1\npsa 3 3 4\n(4i1) (3I1) none\nF 1 0\n1355\n321\n2\n",
         "[0, 2, 4, 5] [1, 2, 0, 1, 0]",
     ),
-    ("\r\n1 1 0 0\r\nPUA 0 0 0\r\n(I8) (I8)\r\n       1\r\n", "[0] []"),
+    (
+        "\r\n1 1 0 0\r\nPUA 0 0 0\r\n(I8) (I8)\r\n       1\r\n",
+        "[0] []",
+    ),
 ];
 
 /// The lines behind the title of a Harwell-Boeing file at fault, and what is told of it.
@@ -372,7 +364,8 @@ const NO_BOEINGS: [(&str, &str); 14] = [
 ];
 
 /// What is wrong with a third line.
-const KIND: &str = "line 3: in a Harwell-Boeing file here must stand a type such as RUA, and the numbers of rows, columns and entries";
+const KIND: &str =
+    "line 3: in a Harwell-Boeing file here must stand a type such as RUA, and the numbers of rows, columns and entries";
 
 #[test]
 fn boeings(rt: HostRuntime) -> Result<(), Fail> {
@@ -395,7 +388,10 @@ fn repeats(rt: HostRuntime) -> Result<(), Fail> {
     ] {
         let file = file_of(rt.alloc(), kind, rest)?;
         let matrix = read_matrix(rt.alloc(), file.as_bytes());
-        assert!(&rt; matrix.is_ok_and(|matrix| matrix.repeats == wanted), "{kind}");
+        assert!(&rt;
+            matrix.is_ok_and(|matrix| matrix.repeats == wanted),
+            "{kind}"
+        );
     }
     Ok(())
 }

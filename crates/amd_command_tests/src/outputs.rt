@@ -17,6 +17,7 @@ use amd_market::reader::read_matrix;
 use amd_testing::refusing::{Refusing, each_refused};
 use amd_testing::writers::{Fault, Faulty};
 use std::alloc::{Allocator, Global};
+use std::cell::Cell;
 use std::io::Write;
 use std::process::Abort;
 use std::test::Fail;
@@ -198,11 +199,20 @@ fn writers_with_faults(rt: HostRuntime) {
     assert!(&rt; calls < 996);
 }
 
-/// Whether all was written; where not, that was for want of memory.
-fn is_written(rt: &impl Abort, heap: &Refusing<Global>, room: &Global) -> bool {
+/// Whether all was written, and no request refused; where it was not written, that was for want of memory. A run that
+/// writes all although a request was refused is counted.
+fn is_written(
+    rt: &impl Abort,
+    heap: &Refusing<Global>,
+    room: &Global,
+    written: &Cell<u64>,
+) -> bool {
     let mut out = Vec::new(*room);
     match write_all_of(heap, &mut out) {
-        Ok(()) => true,
+        Ok(()) => {
+            written.set(written.get().wrapping_add(1));
+            !heap.refused()
+        }
         Err(cause) => {
             assert!(rt; cause.exit_status() == 1);
             false
@@ -210,13 +220,17 @@ fn is_written(rt: &impl Abort, heap: &Refusing<Global>, room: &Global) -> bool {
     }
 }
 
+/// The reader asks for room for all entries at once, and does without where that is refused. So two runs write all: that
+/// one, and the last.
 #[test]
 fn refused_memory(rt: HostRuntime) {
     let room = rt.alloc();
-    match each_refused(rt.alloc(), |heap| is_written(&rt, heap, &room)) {
+    let written = Cell::new(0u64);
+    match each_refused(rt.alloc(), |heap| is_written(&rt, heap, &room, &written)) {
         Ok(count) => assert!(&rt; 20 < count),
         Err(slip) => panic!(&rt; "{slip:?}"),
     }
+    assert!(&rt; written.get() == 2);
 }
 
 #[test]
