@@ -6,7 +6,7 @@ use clap::{Arg, ArgAction, ArgMatches, Command, Error};
 use std::alloc::{AllocError, Global};
 
 /// The version of the project, and of the kit that it is proved with.
-const VERSION: &str = "1.0.0 (rattle-kit-13b logic dac8208d650f15bf)";
+const VERSION: &str = "1.0.0 (rattle-kit-13f logic dac8208d650f15bf)";
 
 /// The words of a subcommand. Those that it does not know are as where they are not given.
 #[derive(Clone, Copy)]
@@ -55,7 +55,7 @@ pub enum Request<'a> {
 /// The argument with the file.
 fn file_argument<'a>(alloc: Global) -> Arg<'a> {
     Arg::new(alloc, "FILE").required(true).help(
-        "A sparse matrix in the coordinate format of the Matrix Market; - is standard input",
+        "A sparse matrix in a file of the Matrix Market, Harwell-Boeing or Rutherford-Boeing; - is standard input",
     )
 }
 

@@ -1,4 +1,4 @@
-//! Orders the rows of a sparse matrix in a file of the Matrix Market, works out the exact factor, or tells what the
+//! Orders the rows of a sparse matrix in a file, works out the exact factor, or tells what the
 //! matrix is.
 //!
 //!     rimopaku order FILE.mtx [--dense T] [--no-aggressive] [--hold PATH] [--out PATH] [--json] [--progress]
