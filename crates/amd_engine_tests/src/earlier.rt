@@ -1,9 +1,9 @@
 // The place of each row in an order, and the lists of the earlier and of the later neighbours of each place: of
 // matrices with repeats, out of order and without mirrors, with orders that are none, and with refused memory. The lists were worked by hand.
 
+use amd_input::valid::valid;
 use amd_symbolic::neighbours::{Lists, earlier_lists, later_lists};
 use amd_symbolic::places::places;
-use amd_input::valid::valid;
 use amd_testing::check;
 use amd_testing::refusing::{Refusing, each_refused};
 use amd_types::amd::Status;

@@ -1,9 +1,10 @@
 // Families of graphs of several sizes and matrices drawn from seeds, each with every choice of a caller, through
-// three calls: `order`, `amd_1` with no word to spare, and the plain engine; and through the engine in place from each
+// four calls: `order`, `amd_1` and `amd_2` with no word to spare, and the plain engine; and through the engine from each
 // first flag, in words of both widths. There is one answer. In the crate `amd_tests` the answers of `order` over the
 // same families are compared with what the factor needs.
 
 use crate::in_place::check_flags;
+use crate::own_lists::order_numbers;
 use crate::sorted::{Sorted, first_flags, order_exactly, order_plainly, unmarked};
 use amd::{Control, Info, Status, order};
 use amd_input::preprocess::preprocess;
@@ -52,6 +53,22 @@ fn ordered_exactly(rt: &impl Abort, alloc: Global, matrix: &Sorted, control: &Co
     Answer { p, p_inv, info }
 }
 
+/// The answer of `amd_2` over lists of numbers, with no word to spare.
+fn ordered_over_numbers(
+    rt: &impl Abort,
+    alloc: Global,
+    matrix: &Sorted,
+    control: &Control,
+) -> Answer {
+    let mut info = Info::new(0);
+    let listed = order_numbers(rt, alloc, matrix, control, &mut info);
+    Answer {
+        p: listed.p,
+        p_inv: listed.p_inv,
+        info,
+    }
+}
+
 /// Asserts that lists were packed once for a row at most, and forgets how often.
 fn take_packings(rt: &impl Abort, answer: &mut Answer) -> usize {
     let packings = answer.info.n_cmp_a;
@@ -80,9 +97,12 @@ fn compare_choice(
 ) -> usize {
     let mut answer = ordered(rt, alloc, matrix.n, a_p, a_i, control);
     let mut exact = ordered_exactly(rt, alloc, matrix, control);
+    let mut over = ordered_over_numbers(rt, alloc, matrix, control);
     let plain = ordered_plainly(rt, alloc, matrix, control);
     take_packings(rt, &mut answer);
     let packings = take_packings(rt, &mut exact);
+    check!(rt; take_packings(rt, &mut over) == packings);
+    assert!(rt; are_same(&answer, &over), "{control:?} {a_p:?} {a_i:?}");
     assert!(rt; are_same(&answer, &exact), "{control:?} {a_p:?} {a_i:?}");
     assert!(rt; are_same(&answer, &plain), "{control:?} {a_p:?} {a_i:?}");
     let wanted = (answer.p.as_slice(), answer.p_inv.as_slice());

@@ -136,7 +136,7 @@ fn is_laid<S: Signed, U: Unsigned>(case: &Case, laid: &Laid<S, U, Global>, sum: 
 
 /// Lays the lists of a sorted matrix in words of these widths, where `more` of them are to spare. The record tells the
 /// pattern.
-fn laid_of<S: Signed, U: Unsigned>(
+pub fn laid_of<S: Signed, U: Unsigned>(
     rt: &impl Abort,
     alloc: Global,
     n: i64,

@@ -34,6 +34,8 @@ mod laid;
 #[cfg(test)]
 mod lists;
 #[cfg(test)]
+mod own_lists;
+#[cfg(test)]
 mod row_sides;
 #[cfg(test)]
 mod sorted;
