@@ -27,7 +27,7 @@ figure_lines columns info =
 
 -- the lines of the columns, and of the figures
 abbrev pub exact_lines : List (List ℕ) → Info → List ℕ
-exact_lines columns info = (codes "\nExact column column_counts of the factor:\n" ++ (column_counts columns ++ codes "\n")) ++
+exact_lines columns info = (codes "\nExact column counts of the factor:\n" ++ (column_counts columns ++ codes "\n")) ++
     figure_lines columns info
 
 -- a text tells the factor of a matrix with n rows under the order p, beside the bounds in a record
