@@ -192,7 +192,7 @@ fn files_without_a_header(rt: HostRuntime) -> Result<(), Fail> {
             Ok(_) => String::new(rt.alloc()),
             Err(error) => format!(in rt.alloc(); "{error}")?,
         };
-        assert!(&rt; shown.as_str() == wanted, "{wanted}");
+        assert!(&rt; shown.as_str() == wanted);
     }
     Ok(())
 }
