@@ -15,7 +15,7 @@ use amd_command::request::{Request, request_of, thousandths_of};
 use amd_command::rows::write_rows;
 use amd_market::reader::read_matrix;
 use amd_testing::refusing::{Refusing, each_refused};
-use amd_testing::writers::{Fault, Faulty};
+use amd_testing::writers::{Faulty, WriterFault};
 use std::alloc::{Allocator, Global};
 use std::cell::Cell;
 use std::io::Write;
@@ -186,7 +186,7 @@ fn writers_with_faults(rt: HostRuntime) {
     let mut calls = 0;
     'faults: for third in 0..333u64 {
         let fault_at = 3 * third + 1;
-        let mut out = Faulty::new(Vec::new(rt.alloc()), Fault::Fails, fault_at);
+        let mut out = Faulty::new(Vec::new(rt.alloc()), WriterFault::Fails, fault_at);
         let answer = write_all_of(rt.alloc(), &mut out);
         if out.faults() == 0 {
             assert!(&rt; answer.is_ok());

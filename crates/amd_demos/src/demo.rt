@@ -10,7 +10,7 @@ ghost use Rattle.amd_demos.specs.Demos.{EndsInFailure, Grows, HasDemo, HasEnd, w
 
 use crate::exact::print_exact;
 use crate::listing::write_listing;
-use crate::matrix::Matrix;
+use crate::matrix::DemoMatrix;
 use crate::numbers::write_vector;
 use crate::outcome::{status_name, write_failure};
 use crate::plot::{Marks, Plot, write_plot};
@@ -84,7 +84,7 @@ fn write_note<W: Write>(form: Form, out: &mut W) -> io::Result<()>
 }
 
 /// Writes the size of a matrix, and a note on it.
-fn write_size<W: Write>(form: Form, matrix: &Matrix, out: &mut W) -> io::Result<()>
+fn write_size<W: Write>(form: Form, matrix: &DemoMatrix, out: &mut W) -> io::Result<()>
     ensures { OnOk result (Grows (W.contents out.old) (W.contents out.new)) }
 {
     let n = matrix.n;
@@ -99,7 +99,7 @@ fn write_size<W: Write>(form: Form, matrix: &Matrix, out: &mut W) -> io::Result<
 }
 
 /// Writes the plots of a matrix before it is ordered.
-fn write_input_plots<W: Write>(form: Form, matrix: &Matrix, out: &mut W) -> io::Result<()>
+fn write_input_plots<W: Write>(form: Form, matrix: &DemoMatrix, out: &mut W) -> io::Result<()>
     ensures { OnOk result (Grows (W.contents out.old) (W.contents out.new)) }
 {
     let entries = Plot {
@@ -129,7 +129,7 @@ fn write_input_plots<W: Write>(form: Form, matrix: &Matrix, out: &mut W) -> io::
 }
 
 /// Writes what there is before the matrix is ordered. No memory is asked.
-fn write_input<W: Write>(form: Form, matrix: &Matrix, out: &mut W) -> io::Result<()>
+fn write_input<W: Write>(form: Form, matrix: &DemoMatrix, out: &mut W) -> io::Result<()>
     ensures { OnOk result (Grows (W.contents out.old) (W.contents out.new)) }
 {
     write_title(form, out)?;
@@ -167,7 +167,7 @@ fn write_permutations<W: Write>(p: &[i32], p_inv: &[i32], out: &mut W) -> io::Re
 /// Writes the plot of the matrix in the order of a permutation.
 fn write_permuted_plot<W: Write>(
     form: Form,
-    matrix: &Matrix,
+    matrix: &DemoMatrix,
     p: &[i32],
     out: &mut W,
 ) -> io::Result<()>
@@ -195,7 +195,7 @@ fn write_permuted_plot<W: Write>(
 fn print_end<W: Write, A: Allocator + Copy>(
     alloc: A,
     form: Form,
-    matrix: &Matrix,
+    matrix: &DemoMatrix,
     p: &[i32],
     told: &Info,
     out: &mut W,
@@ -217,7 +217,7 @@ fn print_end<W: Write, A: Allocator + Copy>(
 fn print_ordering<W: Write, A: Allocator + Copy>(
     alloc: A,
     form: Form,
-    matrix: &Matrix,
+    matrix: &DemoMatrix,
     p: &[i32],
     p_inv: &[i32],
     told: &Info,
@@ -244,7 +244,7 @@ fn print_ordering<W: Write, A: Allocator + Copy>(
 fn print_outcome<W: Write, A: Allocator + Copy>(
     alloc: A,
     form: Form,
-    matrix: &Matrix,
+    matrix: &DemoMatrix,
     out: &mut W,
 ) -> io::Result<bool>
     ensures ordered { IfOk result (λ ordered. ordered ≡ true →
@@ -266,7 +266,7 @@ fn print_outcome<W: Write, A: Allocator + Copy>(
 fn print_demo<W: Write, A: Allocator + Copy>(
     alloc: A,
     form: Form,
-    matrix: &Matrix,
+    matrix: &DemoMatrix,
     out: &mut W,
 ) -> io::Result<bool>
     ensures ordered { IfOk result (λ ordered. ordered ≡ true →
@@ -291,7 +291,7 @@ fn print_demo<W: Write, A: Allocator + Copy>(
 pub fn demo_to<W: Write, A: Allocator + Copy>(
     alloc: A,
     form: Form,
-    matrix: &Matrix,
+    matrix: &DemoMatrix,
     out: &mut W,
 ) -> u8
     ensures status { result ≤ 1 }

@@ -7,7 +7,7 @@ ghost use Rattle.amd_demos.specs.Exact.{exact_line, column_counts, exact_lines, 
 ghost use Rattle.amd_demos.specs.Lines.{failure_line};
 ghost use Rattle.amd_symbolic.specs.Needs.{IsNeed, TellSizes};
 
-use crate::matrix::Matrix;
+use crate::matrix::DemoMatrix;
 use crate::outcome::write_failure;
 use amd::Info;
 use amd_symbolic::columns;
@@ -85,7 +85,7 @@ fn write_exact<W: Write>(ptr: &[usize], told: &Info, out: &mut W) -> io::Result<
 /// line of failure where there is no factor. Answers whether it was the former.
 pub fn print_exact<W: Write, A: Allocator + Copy>(
     alloc: A,
-    matrix: &Matrix,
+    matrix: &DemoMatrix,
     p: &[i32],
     told: &Info,
     out: &mut W,

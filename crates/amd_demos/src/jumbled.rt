@@ -6,7 +6,7 @@ ghost use Rattle.amd_demos.specs.Demos.{HasDemo};
 
 use crate::can_24::{JUMBLED_POINTERS, JUMBLED_ROWS};
 use crate::demo::{Form, demo_to};
-use crate::matrix::Matrix;
+use crate::matrix::DemoMatrix;
 use std::alloc::Allocator;
 use std::io::Write;
 
@@ -19,7 +19,7 @@ pub fn jumbled_to<W: Write, A: Allocator + Copy>(alloc: A, out: &mut W) -> u8
     ensures written { result ≡ 0 → HasDemo Form.Jumbled (pos 24) JUMBLED_POINTERS JUMBLED_ROWS (W.contents out.old)
         (W.contents out.new) }
 {
-    let matrix = Matrix {
+    let matrix = DemoMatrix {
         n: 24,
         a_p: &JUMBLED_POINTERS,
         a_i: &JUMBLED_ROWS,

@@ -3,14 +3,14 @@
 ghost use Rattle.std.specs.Prelude.{OnOk};
 ghost use Rattle.amd_demos.specs.Demos.{Grows};
 
-use crate::matrix::Matrix;
+use crate::matrix::DemoMatrix;
 use crate::numbers::write_each;
 use std::io;
 use std::io::Write;
 
 /// Writes where column `j` stands and how many entries it has, and then its rows; nothing where there is no such
 /// column.
-fn write_column<W: Write>(matrix: &Matrix, j: i32, out: &mut W) -> io::Result<()>
+fn write_column<W: Write>(matrix: &DemoMatrix, j: i32, out: &mut W) -> io::Result<()>
     ensures { OnOk result (Grows (W.contents out.old) (W.contents out.new)) }
 {
     let (Some((begin, end)), Some(rows)) = (matrix.ends(j), matrix.column(j)) else {
@@ -30,7 +30,7 @@ fn write_column<W: Write>(matrix: &Matrix, j: i32, out: &mut W) -> io::Result<()
 }
 
 /// Writes each column of a matrix.
-pub fn write_listing<W: Write>(matrix: &Matrix, out: &mut W) -> io::Result<()>
+pub fn write_listing<W: Write>(matrix: &DemoMatrix, out: &mut W) -> io::Result<()>
     ensures { OnOk result (Grows (W.contents out.old) (W.contents out.new)) }
 {
     for j in 0..matrix.n {

@@ -4,7 +4,7 @@
 
 /// A square matrix with `n` columns, whose column `j` holds the rows `a_i[a_p[j]..a_p[j + 1]]`.
 #[derive(Clone, Copy)]
-pub struct Matrix<'a> {
+pub struct DemoMatrix<'a> {
     /// The number of rows and columns.
     pub n: i32,
     /// Where each column begins, and then where the last one ends.
@@ -13,7 +13,7 @@ pub struct Matrix<'a> {
     pub a_i: &'a [i32],
 }
 
-impl<'a> Matrix<'a> {
+impl<'a> DemoMatrix<'a> {
     /// The pointer at the place `j`.
     pub fn pointer(&self, j: i32) -> Option<i32> {
         let place = usize::try_from(j).ok()?;

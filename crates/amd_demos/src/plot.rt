@@ -4,7 +4,7 @@
 ghost use Rattle.std.specs.Prelude.{OnOk};
 ghost use Rattle.amd_demos.specs.Demos.{Grows};
 
-use crate::matrix::Matrix;
+use crate::matrix::DemoMatrix;
 use std::io;
 use std::io::Write;
 
@@ -22,7 +22,7 @@ pub enum Marks {
 #[derive(Clone, Copy)]
 pub struct Plot<'a> {
     /// The matrix.
-    pub matrix: &'a Matrix<'a>,
+    pub matrix: &'a DemoMatrix<'a>,
     /// What is marked.
     pub marks: Marks,
     /// The spaces before the heading.

@@ -1,5 +1,6 @@
 // The place of each row in an order, and the lists of the earlier and of the later neighbours of each place: of
-// matrices with repeats, out of order and without mirrors, with orders that are none, and with refused memory. The lists were worked by hand.
+// matrices with repeats, out of order and without mirrors, with orders that are none, and with refused memory. The
+// lists were worked by hand.
 
 use amd_input::valid::valid;
 use amd_symbolic::neighbours::{Lists, earlier_lists, later_lists};
@@ -12,10 +13,10 @@ use std::alloc::{AllocError, Allocator, Global};
 use std::process::Abort;
 use std::test::Fail;
 
-/// A matrix, an order of its rows, and the lists of each place, rising, in which a place stands once for each entry that
-/// joins the two: those of the earlier places, and those of the later ones.
+/// A matrix, an order of its rows, and the lists of each place, rising, in which a place stands once for each entry
+/// that joins the two: those of the earlier places, and those of the later ones.
 #[derive(Drop)]
-struct Case<'a> {
+struct NeighbourCase<'a> {
     what: &'a str,
     n: i64,
     a_p: &'a [i64],
@@ -26,8 +27,8 @@ struct Case<'a> {
 }
 
 /// Matrices with their lists.
-static MATRICES: [Case<'static>; 5] = [
-    Case {
+static MATRICES: [NeighbourCase<'static>; 5] = [
+    NeighbourCase {
         what: "a four-cycle by the entries below the diagonal",
         n: 4,
         a_p: &[0, 2, 3, 4, 4],
@@ -36,7 +37,7 @@ static MATRICES: [Case<'static>; 5] = [
         earlier: &[&[], &[0], &[1], &[0, 2]],
         later: &[&[1, 3], &[2], &[3], &[]],
     },
-    Case {
+    NeighbourCase {
         what: "the five-row matrix of the demo, one entry without its mirror",
         n: 5,
         a_p: &[0, 2, 6, 10, 12, 14],
@@ -45,7 +46,7 @@ static MATRICES: [Case<'static>; 5] = [
         earlier: &[&[], &[], &[1, 1], &[2], &[0, 0, 2, 2, 3, 3]],
         later: &[&[4, 4], &[2, 2], &[3, 4, 4], &[4, 4], &[]],
     },
-    Case {
+    NeighbourCase {
         what: "repeats above the diagonal",
         n: 2,
         a_p: &[0, 0, 3],
@@ -54,7 +55,7 @@ static MATRICES: [Case<'static>; 5] = [
         earlier: &[&[], &[0, 0]],
         later: &[&[1, 1], &[]],
     },
-    Case {
+    NeighbourCase {
         what: "a column that is out of order",
         n: 3,
         a_p: &[0, 3, 3, 3],
@@ -63,7 +64,7 @@ static MATRICES: [Case<'static>; 5] = [
         earlier: &[&[], &[], &[0, 1]],
         later: &[&[2], &[2], &[]],
     },
-    Case {
+    NeighbourCase {
         what: "one row, and numbers behind the end",
         n: 1,
         a_p: &[0, 1, 7],
@@ -78,7 +79,7 @@ static MATRICES: [Case<'static>; 5] = [
 fn lists_of<A: Allocator + Copy>(
     rt: &impl Abort,
     alloc: A,
-    case: &Case,
+    case: &NeighbourCase,
 ) -> Result<(Lists<A>, Lists<A>), AllocError> {
     let (n, a_p, a_i) = (case.n, case.a_p, case.a_i);
     let Some(size) = to_count(n) else {
@@ -114,7 +115,7 @@ fn are_lists<A: Allocator>(wanted: &[&[usize]], lists: &mut Lists<A>) -> bool {
 }
 
 /// Asserts that the lists are those of a case.
-fn check<A: Allocator>(rt: &impl Abort, case: &Case, lists: &mut (Lists<A>, Lists<A>)) {
+fn check<A: Allocator>(rt: &impl Abort, case: &NeighbourCase, lists: &mut (Lists<A>, Lists<A>)) {
     let (earlier, later) = lists;
     check!(rt; are_lists(case.earlier, earlier), case.what);
     check!(rt; are_lists(case.later, later), case.what);
@@ -130,7 +131,7 @@ fn lists_of_neighbours(rt: HostRuntime) -> Result<(), Fail> {
 }
 
 /// Makes the lists of a case, and says whether there was memory.
-fn makes(rt: &impl Abort, heap: &Refusing<Global>, case: &Case) -> bool {
+fn makes(rt: &impl Abort, heap: &Refusing<Global>, case: &NeighbourCase) -> bool {
     match lists_of(rt, heap, case) {
         Ok(mut lists) => {
             check(rt, case, &mut lists);

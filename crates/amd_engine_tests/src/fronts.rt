@@ -9,40 +9,40 @@ use amd_types::figures::Figures;
 
 /// A front, and its shares.
 #[derive(Drop)]
-struct Case {
+struct FrontCase {
     rows: usize,
     outside: usize,
     shares: [usize; 3],
 }
 
 /// Fronts with their shares: the last one's all pass the greatest count, and of the one before only the last does.
-static FRONTS: [Case; 6] = [
-    Case {
+static FRONTS: [FrontCase; 6] = [
+    FrontCase {
         rows: 0,
         outside: 5,
         shares: [0, 0, 0],
     },
-    Case {
+    FrontCase {
         rows: 1,
         outside: 2,
         shares: [2, 3, 4],
     },
-    Case {
+    FrontCase {
         rows: 3,
         outside: 0,
         shares: [3, 4, 5],
     },
-    Case {
+    FrontCase {
         rows: 18,
         outside: 0,
         shares: [153, 969, 1785],
     },
-    Case {
+    FrontCase {
         rows: 1,
         outside: 4294967296,
         shares: [4294967296, 9223372039002259456, usize::MAX],
     },
-    Case {
+    FrontCase {
         rows: 9223372036854775808,
         outside: 0,
         shares: [usize::MAX, usize::MAX, usize::MAX],

@@ -3,10 +3,10 @@
 // hand.
 
 use amd_testing::check;
-use amd_testing::factors::{Factor, Need, factor_of, fills_nothing, need_of};
+use amd_testing::factors::{SearchedFactor, SearchedNeed, factor_of, fills_nothing, need_of};
 use amd_testing::plain::{are_inverse, clean_transpose, is_column_form, is_jumbled, threshold};
 use amd_testing::refusing::{Refusing, Slip, each_refused};
-use amd_testing::writers::{Fault, Faulty, Slow};
+use amd_testing::writers::{Faulty, Slow, WriterFault};
 use std::alloc::{AllocError, Allocator, Global};
 use std::io;
 use std::io::Write;
@@ -15,7 +15,7 @@ use std::process::Abort;
 use std::test::Fail;
 
 /// Asserts that a factor has these columns.
-fn check_columns(rt: &impl Abort, factor: &Factor<Global>, columns: &[&[usize]]) {
+fn check_columns(rt: &impl Abort, factor: &SearchedFactor<Global>, columns: &[&[usize]]) {
     check!(rt; factor.columns.len() == columns.len());
     for (column, want) in factor.columns.iter().zip(columns) {
         check!(rt; column.as_slice() == *want);
@@ -27,7 +27,7 @@ fn a_four_cycle_fills_in(rt: HostRuntime) -> Result<(), Fail> {
     let factor = factor_of(rt.alloc(), &[0, 2, 3, 4, 4], &[1, 3, 2, 3], &[3, 0, 1, 2])?;
     check_columns(&rt, &factor, &[&[1, 3], &[2, 3], &[3], &[]]);
     check!(&rt; !fills_nothing(&factor));
-    let need = Need {
+    let need = SearchedNeed {
         lnz: 5,
         n_mult_subs_ldl: 7,
         n_mult_subs_lu: 9,
@@ -158,7 +158,7 @@ fn three_words<W: Write>(out: &mut W) -> io::Result<()> {
 fn check_fault(
     rt: &impl Abort,
     alloc: Global,
-    fault: Fault,
+    fault: WriterFault,
     fault_at: u64,
     calls: u64,
     text: &[u8],
@@ -170,7 +170,7 @@ fn check_fault(
 
 #[test]
 fn has_its_fault_at_the_chosen_call(rt: HostRuntime) {
-    for fault in [Fault::Fails, Fault::TakesNothing] {
+    for fault in [WriterFault::Fails, WriterFault::TakesNothing] {
         for (fault_at, calls, text) in [
             (0, 3, b"onetwothree".as_slice()),
             (1, 1, b""),
@@ -187,7 +187,7 @@ fn has_its_fault_at_the_chosen_call(rt: HostRuntime) {
 #[test]
 fn takes_one_byte_at_the_chosen_call(rt: HostRuntime) {
     for (fault_at, calls, faults) in [(0, 3, 0), (1, 4, 1), (2, 4, 1), (3, 4, 1), (4, 3, 0)] {
-        let mut out = Faulty::new(Vec::new(rt.alloc()), Fault::TakesOne, fault_at);
+        let mut out = Faulty::new(Vec::new(rt.alloc()), WriterFault::TakesOne, fault_at);
         let is_written = three_words(&mut out).is_ok();
         check!(&rt; is_written && out.bytes() == b"onetwothree".as_slice());
         check!(&rt; out.calls() == calls && out.faults() == faults);

@@ -4,7 +4,7 @@
 /// A sorted matrix, what a caller chooses, and the answer. The figures are the number of rows held last, `lnz`, those
 /// of `LDL'` and of `LU`, and `d_max`; the divisions are as many as `lnz`. An element stands at its pivot row.
 #[derive(Drop)]
-pub struct Case<'a> {
+pub struct EngineCase<'a> {
     pub what: &'a str,
     pub n: i64,
     pub a_p: &'a [i64],
@@ -23,8 +23,8 @@ pub struct Case<'a> {
 }
 
 /// Matrices with their answers.
-pub static MATRICES: [Case<'static>; 26] = [
-    Case {
+pub static MATRICES: [EngineCase<'static>; 26] = [
+    EngineCase {
         what: "one row without entries",
         n: 1,
         a_p: &[0, 0],
@@ -38,7 +38,7 @@ pub static MATRICES: [Case<'static>; 26] = [
         figures: [0, 0, 0, 0, 1],
         packs: false,
     },
-    Case {
+    EngineCase {
         what: "one row without entries, no dense rows",
         n: 1,
         a_p: &[0, 0],
@@ -52,7 +52,7 @@ pub static MATRICES: [Case<'static>; 26] = [
         figures: [0, 0, 0, 0, 1],
         packs: false,
     },
-    Case {
+    EngineCase {
         what: "one edge and an empty row",
         n: 3,
         a_p: &[0, 1, 1, 1],
@@ -66,7 +66,7 @@ pub static MATRICES: [Case<'static>; 26] = [
         figures: [0, 1, 1, 1, 2],
         packs: false,
     },
-    Case {
+    EngineCase {
         what: "one edge and an empty row that is held",
         n: 3,
         a_p: &[0, 1, 1, 1],
@@ -80,7 +80,7 @@ pub static MATRICES: [Case<'static>; 26] = [
         figures: [1, 3, 4, 5, 3],
         packs: false,
     },
-    Case {
+    EngineCase {
         what: "one edge",
         n: 2,
         a_p: &[0, 1, 1],
@@ -94,7 +94,7 @@ pub static MATRICES: [Case<'static>; 26] = [
         figures: [0, 1, 1, 1, 2],
         packs: false,
     },
-    Case {
+    EngineCase {
         what: "one edge, by its other entry",
         n: 2,
         a_p: &[0, 0, 1],
@@ -108,7 +108,7 @@ pub static MATRICES: [Case<'static>; 26] = [
         figures: [0, 1, 1, 1, 2],
         packs: false,
     },
-    Case {
+    EngineCase {
         what: "the five rows of the demo",
         n: 5,
         a_p: &[0, 2, 6, 10, 12, 14],
@@ -122,7 +122,7 @@ pub static MATRICES: [Case<'static>; 26] = [
         figures: [0, 5, 6, 7, 3],
         packs: false,
     },
-    Case {
+    EngineCase {
         what: "a path of three rows",
         n: 3,
         a_p: &[0, 1, 2, 2],
@@ -136,7 +136,7 @@ pub static MATRICES: [Case<'static>; 26] = [
         figures: [0, 2, 2, 2, 2],
         packs: false,
     },
-    Case {
+    EngineCase {
         what: "a path of three rows, the middle one held",
         n: 3,
         a_p: &[0, 1, 2, 2],
@@ -150,7 +150,7 @@ pub static MATRICES: [Case<'static>; 26] = [
         figures: [1, 2, 2, 2, 2],
         packs: false,
     },
-    Case {
+    EngineCase {
         what: "a four-cycle",
         n: 4,
         a_p: &[0, 2, 3, 4, 4],
@@ -164,7 +164,7 @@ pub static MATRICES: [Case<'static>; 26] = [
         figures: [0, 5, 7, 9, 3],
         packs: false,
     },
-    Case {
+    EngineCase {
         what: "a four-cycle with a held row",
         n: 4,
         a_p: &[0, 2, 3, 4, 4],
@@ -178,7 +178,7 @@ pub static MATRICES: [Case<'static>; 26] = [
         figures: [1, 5, 7, 9, 3],
         packs: false,
     },
-    Case {
+    EngineCase {
         what: "a four-cycle, all of it held",
         n: 4,
         a_p: &[0, 2, 3, 4, 4],
@@ -192,7 +192,7 @@ pub static MATRICES: [Case<'static>; 26] = [
         figures: [4, 6, 10, 14, 4],
         packs: false,
     },
-    Case {
+    EngineCase {
         what: "a star",
         n: 18,
         a_p: &[
@@ -208,7 +208,7 @@ pub static MATRICES: [Case<'static>; 26] = [
         figures: [0, 17, 17, 17, 2],
         packs: false,
     },
-    Case {
+    EngineCase {
         what: "a star without aggressive absorption",
         n: 18,
         a_p: &[
@@ -224,7 +224,7 @@ pub static MATRICES: [Case<'static>; 26] = [
         figures: [0, 17, 17, 17, 2],
         packs: false,
     },
-    Case {
+    EngineCase {
         what: "a star with a dense centre, by -1",
         n: 18,
         a_p: &[
@@ -240,7 +240,7 @@ pub static MATRICES: [Case<'static>; 26] = [
         figures: [1, 17, 17, 17, 2],
         packs: false,
     },
-    Case {
+    EngineCase {
         what: "a star with a dense centre, by 0",
         n: 18,
         a_p: &[
@@ -256,7 +256,7 @@ pub static MATRICES: [Case<'static>; 26] = [
         figures: [1, 17, 17, 17, 2],
         packs: false,
     },
-    Case {
+    EngineCase {
         what: "a star with a dense centre, by 4006",
         n: 18,
         a_p: &[
@@ -272,7 +272,7 @@ pub static MATRICES: [Case<'static>; 26] = [
         figures: [1, 17, 17, 17, 2],
         packs: false,
     },
-    Case {
+    EngineCase {
         what: "a star with a centre that is just not dense",
         n: 18,
         a_p: &[
@@ -288,7 +288,7 @@ pub static MATRICES: [Case<'static>; 26] = [
         figures: [0, 17, 17, 17, 2],
         packs: false,
     },
-    Case {
+    EngineCase {
         what: "a full matrix with three rows",
         n: 3,
         a_p: &[0, 3, 6, 9],
@@ -302,7 +302,7 @@ pub static MATRICES: [Case<'static>; 26] = [
         figures: [0, 3, 4, 5, 3],
         packs: false,
     },
-    Case {
+    EngineCase {
         what: "one entry on the diagonal, and numbers after the end",
         n: 1,
         a_p: &[0, 1, 7],
@@ -316,7 +316,7 @@ pub static MATRICES: [Case<'static>; 26] = [
         figures: [0, 0, 0, 0, 1],
         packs: false,
     },
-    Case {
+    EngineCase {
         what: "two rows whose variables differ and have the same sum, and three that merge",
         n: 7,
         a_p: &[0, 2, 6, 9, 11, 12, 12, 12],
@@ -330,7 +330,7 @@ pub static MATRICES: [Case<'static>; 26] = [
         figures: [0, 15, 29, 43, 5],
         packs: false,
     },
-    Case {
+    EngineCase {
         what: "an edge beside a star whose centre is dense",
         n: 20,
         a_p: &[
@@ -350,7 +350,7 @@ pub static MATRICES: [Case<'static>; 26] = [
         figures: [1, 20, 21, 22, 3],
         packs: false,
     },
-    Case {
+    EngineCase {
         what: "a cycle of fourteen rows",
         n: 14,
         a_p: &[0, 2, 3, 4, 5, 6, 7, 8, 9, 10, 11, 12, 13, 14, 14],
@@ -364,7 +364,7 @@ pub static MATRICES: [Case<'static>; 26] = [
         figures: [0, 25, 37, 49, 3],
         packs: true,
     },
-    Case {
+    EngineCase {
         what: "can_24",
         n: 24,
         a_p: &[
@@ -396,7 +396,7 @@ pub static MATRICES: [Case<'static>; 26] = [
         figures: [0, 97, 275, 453, 8],
         packs: false,
     },
-    Case {
+    EngineCase {
         what: "eleven rows with long lists and no entry above the diagonal, five pairs of them not joined",
         n: 11,
         a_p: &[0, 10, 18, 26, 33, 39, 43, 46, 49, 51, 52, 53],
@@ -413,7 +413,7 @@ pub static MATRICES: [Case<'static>; 26] = [
         figures: [0, 54, 210, 366, 10],
         packs: false,
     },
-    Case {
+    EngineCase {
         what: "the sorted transpose of can_24 with jumbled columns",
         n: 24,
         a_p: &[

@@ -2,7 +2,7 @@
 // widths, and nothing left behind; workspaces that no memory holds. How many requests there are does not depend on the
 // number of rounds.
 
-use crate::in_place_matrices::{Case, MATRICES};
+use crate::in_place_matrices::{EngineCase, MATRICES};
 use crate::in_place_rows::{control_of, is_answer, matrix_of};
 use crate::sorted::{order_in_place, unmarked};
 use amd_testing::check;
@@ -20,7 +20,7 @@ fn orders(
     heap: &Refusing<Global>,
     alloc: Global,
     (flag, more): (usize, usize),
-    case: &Case,
+    case: &EngineCase,
 ) -> bool {
     let mut info = Info::new(0);
     let (matrix, control) = (matrix_of(case), control_of(case));
@@ -37,7 +37,7 @@ fn orders(
 }
 
 /// Asserts that the engine in place answers, or is refused memory, whichever of its requests is refused.
-fn check_requests(rt: &impl Abort, heap: Global, flag: usize, case: &Case) {
+fn check_requests(rt: &impl Abort, heap: Global, flag: usize, case: &EngineCase) {
     let refusals = each_refused(heap, |refusing| orders(rt, refusing, heap, (flag, 0), case));
     check!(rt; 0 < refusals.unwrap_or(0), case.what);
 }
@@ -52,7 +52,7 @@ fn each_request_of_the_engine_in_place(rt: HostRuntime) {
 }
 
 /// Asserts that a workspace with so many words to spare is refused.
-fn check_workspace(rt: &impl Abort, alloc: Global, more: usize, case: &Case) {
+fn check_workspace(rt: &impl Abort, alloc: Global, more: usize, case: &EngineCase) {
     let heap = Refusing::new(alloc, 0);
     let answered = orders(rt, &heap, alloc, (2, more), case);
     check!(rt; !answered, case.what);

@@ -3,7 +3,7 @@
 // `amd_2_from` by themselves, the latter over lists that were laid. The answers were worked by hand, and come from the Rust
 // crate `amd` and from a plain program that follows the rules.
 
-use crate::in_place_matrices::{Case, MATRICES};
+use crate::in_place_matrices::{EngineCase, MATRICES};
 use crate::laid::{are_words, order_laid};
 use crate::sorted::{Sorted, first_flags, order_exactly, order_in_place, order_plainly};
 use amd_testing::check;
@@ -16,7 +16,7 @@ use std::process::Abort;
 use std::test::Fail;
 
 /// Whether figures are those of a case.
-fn are_figures(case: &Case, info: &Info) -> bool {
+fn are_figures(case: &EngineCase, info: &Info) -> bool {
     let figures = [
         info.n_dense,
         info.lnz,
@@ -28,18 +28,18 @@ fn are_figures(case: &Case, info: &Info) -> bool {
 }
 
 /// Whether permutations and figures are those of a case.
-fn is_ordered(case: &Case, p: &[i64], p_inv: &[i64], info: &Info) -> bool {
+fn is_ordered(case: &EngineCase, p: &[i64], p_inv: &[i64], info: &Info) -> bool {
     p == case.p && are_inverse(case.p.len(), p, p_inv) && are_figures(case, info)
 }
 
 /// Whether an answer of the engine in place is that of a case.
-pub fn is_answer(case: &Case, p: &[i64], p_inv: &[i64], info: &Info) -> bool {
+pub fn is_answer(case: &EngineCase, p: &[i64], p_inv: &[i64], info: &Info) -> bool {
     let is_packed = info.n_cmp_a <= case.p.len() && (!case.packs || info.n_cmp_a >= 1);
     is_packed && is_ordered(case, p, p_inv, info)
 }
 
 /// The matrix of a case.
-pub fn matrix_of<'a>(case: &Case<'a>) -> Sorted<'a> {
+pub fn matrix_of<'a>(case: &EngineCase<'a>) -> Sorted<'a> {
     Sorted {
         n: case.n,
         a_p: case.a_p,
@@ -49,7 +49,7 @@ pub fn matrix_of<'a>(case: &Case<'a>) -> Sorted<'a> {
 }
 
 /// What the caller of a case chooses.
-pub fn control_of(case: &Case) -> Control {
+pub fn control_of(case: &EngineCase) -> Control {
     Control {
         dense: case.dense,
         aggressive: case.aggressive,
@@ -57,7 +57,7 @@ pub fn control_of(case: &Case) -> Control {
 }
 
 /// Asserts that the engine in place gives the answer of a case from each first flag on, with so many words to spare.
-fn check(rt: &impl Abort, alloc: Global, case: &Case, more: usize) {
+fn check(rt: &impl Abort, alloc: Global, case: &EngineCase, more: usize) {
     let what = case.what;
     let matrix = matrix_of(case);
     let control = control_of(case);
@@ -73,14 +73,14 @@ fn check(rt: &impl Abort, alloc: Global, case: &Case, more: usize) {
 }
 
 /// Asserts that the plain engine gives the answer of a case, and packs nothing.
-fn check_plainly(rt: &impl Abort, alloc: Global, case: &Case) {
+fn check_plainly(rt: &impl Abort, alloc: Global, case: &EngineCase) {
     let mut info = Info::new(0);
     let (p, p_inv) = order_plainly(rt, alloc, &matrix_of(case), &control_of(case), &mut info);
     check!(rt; info.n_cmp_a == 0 && is_ordered(case, &p, &p_inv, &info), case.what);
 }
 
 /// Asserts that `amd_1` gives the answer of a case, with no word to spare.
-fn check_amd_1(rt: &impl Abort, alloc: Global, case: &Case) {
+fn check_amd_1(rt: &impl Abort, alloc: Global, case: &EngineCase) {
     let mut info = Info::new(0);
     let (p, p_inv) = order_exactly(rt, alloc, &matrix_of(case), &control_of(case), &mut info);
     check!(rt; is_answer(case, &p, &p_inv, &info), case.what);
@@ -88,7 +88,7 @@ fn check_amd_1(rt: &impl Abort, alloc: Global, case: &Case) {
 
 /// Asserts that `amd_2_from` gives the answer of a case over lists that were laid in words of these widths, and tells
 /// its elements.
-fn check_amd_2_from<S: Signed, U: Unsigned>(rt: &impl Abort, alloc: Global, case: &Case) {
+fn check_amd_2_from<S: Signed, U: Unsigned>(rt: &impl Abort, alloc: Global, case: &EngineCase) {
     let mut info = Info::new(0);
     let control = control_of(case);
     let (blocks, p_inv, p, fronts) = order_laid::<S, U>(
@@ -125,8 +125,8 @@ fn worked_matrices_through_each_call(rt: HostRuntime) {
 }
 
 /// Eighteen rows that are all dense.
-fn all_dense<'a>(a_p: &'a [i64], a_i: &'a [i64]) -> Case<'a> {
-    Case {
+fn all_dense<'a>(a_p: &'a [i64], a_i: &'a [i64]) -> EngineCase<'a> {
+    EngineCase {
         what: "a complete graph whose rows are dense",
         n: 18,
         a_p,

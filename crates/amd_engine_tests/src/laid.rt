@@ -20,7 +20,7 @@ use std::process::Abort;
 /// A sorted matrix, the words to spare in its workspace, how many it has, and what is laid there. Behind the lists the
 /// words are any.
 #[derive(Drop)]
-struct Case<'a> {
+struct WorkspaceCase<'a> {
     what: &'a str,
     n: i64,
     a_p: &'a [i64],
@@ -33,8 +33,8 @@ struct Case<'a> {
 }
 
 /// Matrices with their workspaces, of which `order` takes as many words as here.
-static MATRICES: [Case<'static>; 5] = [
-    Case {
+static MATRICES: [WorkspaceCase<'static>; 5] = [
+    WorkspaceCase {
         what: "a four-cycle",
         n: 4,
         a_p: &[0, 2, 3, 4, 4],
@@ -45,7 +45,7 @@ static MATRICES: [Case<'static>; 5] = [
         starts: &[0, 2, 4, 6],
         lengths: &[2, 2, 2, 2],
     },
-    Case {
+    WorkspaceCase {
         what: "the five-row matrix of the demo",
         n: 5,
         a_p: &[0, 2, 6, 10, 12, 14],
@@ -56,7 +56,7 @@ static MATRICES: [Case<'static>; 5] = [
         starts: &[0, 1, 4, 7, 8],
         lengths: &[1, 3, 3, 1, 2],
     },
-    Case {
+    WorkspaceCase {
         what: "five rows whose lists do not all rise",
         n: 5,
         a_p: &[0, 1, 2, 3, 3, 6],
@@ -67,7 +67,7 @@ static MATRICES: [Case<'static>; 5] = [
         starts: &[0, 1, 3, 5, 8],
         lengths: &[1, 2, 2, 3, 4],
     },
-    Case {
+    WorkspaceCase {
         what: "a path of three rows in both triangles, behind whose last list the last diagonal entry was copied",
         n: 3,
         a_p: &[0, 2, 5, 7],
@@ -78,7 +78,7 @@ static MATRICES: [Case<'static>; 5] = [
         starts: &[0, 1, 3],
         lengths: &[1, 2, 1],
     },
-    Case {
+    WorkspaceCase {
         what: "eleven rows with long lists and no entry above the diagonal, five pairs of them not joined",
         n: 11,
         a_p: &[0, 10, 18, 26, 33, 39, 43, 46, 49, 51, 52, 53],
@@ -125,7 +125,11 @@ fn are_figures<U: Unsigned>(figures: &[Cell<U>], wanted: &[usize]) -> bool {
 }
 
 /// Whether lists are laid as in a case, with so many words in use.
-fn is_laid<S: Signed, U: Unsigned>(case: &Case, laid: &Laid<S, U, Global>, sum: usize) -> bool {
+fn is_laid<S: Signed, U: Unsigned>(
+    case: &WorkspaceCase,
+    laid: &Laid<S, U, Global>,
+    sum: usize,
+) -> bool {
     laid.iw.len() == case.room
         && begin_with(&laid.iw, case.words)
         && case.words.len() == sum
@@ -191,7 +195,7 @@ pub fn order_laid<S: Signed, U: Unsigned>(
 }
 
 /// Asserts that the lists of a matrix, in words of these widths, are those of the case.
-fn check<S: Signed, U: Unsigned>(rt: &impl Abort, alloc: Global, case: &Case) {
+fn check<S: Signed, U: Unsigned>(rt: &impl Abort, alloc: Global, case: &WorkspaceCase) {
     let mut info = Info::new(0);
     let laid = laid_of::<S, U>(rt, alloc, case.n, case.a_p, case.a_i, case.more, &mut info);
     assert!(rt; is_laid(case, &laid, info.nz_a_plus_at), "{}", case.what);

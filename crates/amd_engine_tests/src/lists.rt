@@ -8,7 +8,7 @@ use std::process::Abort;
 
 /// A sorted matrix, and the list of each of its rows.
 #[derive(Drop)]
-struct Case<'a> {
+struct ListsCase<'a> {
     what: &'a str,
     n: i64,
     a_p: &'a [i64],
@@ -18,22 +18,22 @@ struct Case<'a> {
 
 /// Matrices with their lists, worked by hand in the order in which the walk meets the edges. Those of the last one do
 /// not all rise.
-static MATRICES: [Case<'static>; 3] = [
-    Case {
+static MATRICES: [ListsCase<'static>; 3] = [
+    ListsCase {
         what: "a four-cycle",
         n: 4,
         a_p: &[0, 2, 3, 4, 4],
         a_i: &[1, 3, 2, 3],
         lists: &[&[1, 3], &[0, 2], &[1, 3], &[0, 2]],
     },
-    Case {
+    ListsCase {
         what: "the five-row matrix of the demo",
         n: 5,
         a_p: &[0, 2, 6, 10, 12, 14],
         a_i: &[0, 1, 0, 1, 2, 4, 1, 2, 3, 4, 2, 3, 1, 4],
         lists: &[&[1], &[0, 2, 4], &[1, 3, 4], &[2], &[1, 2]],
     },
-    Case {
+    ListsCase {
         what: "five rows whose lists do not all rise",
         n: 5,
         a_p: &[0, 1, 2, 3, 3, 6],
@@ -53,7 +53,7 @@ fn lists_of(rt: &impl Abort, alloc: Global, n: i64, a_p: &[i64], a_i: &[i64]) ->
 }
 
 /// Whether lists are those of a case.
-fn are_lists(case: &Case, rows: &[Vec<usize>]) -> bool {
+fn are_lists(case: &ListsCase, rows: &[Vec<usize>]) -> bool {
     for (list, row) in case.lists.iter().zip(rows) {
         if row.as_slice() != *list {
             return false;
@@ -63,7 +63,7 @@ fn are_lists(case: &Case, rows: &[Vec<usize>]) -> bool {
 }
 
 /// Asserts that the lists of a matrix are those of the case.
-fn check(rt: &impl Abort, alloc: Global, case: &Case) {
+fn check(rt: &impl Abort, alloc: Global, case: &ListsCase) {
     let rows = lists_of(rt, alloc, case.n, case.a_p, case.a_i);
     assert!(rt; are_lists(case, &rows), "{}", case.what);
 }

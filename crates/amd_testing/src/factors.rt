@@ -7,7 +7,7 @@ use std::alloc::{AllocError, AllocFailed, Allocator};
 
 /// The pattern of a factor.
 #[derive(Drop)]
-pub struct Factor<A: Allocator> {
+pub struct SearchedFactor<A: Allocator> {
     /// For each place the places of the rows that an edge joins with its row, rising.
     pub edges: Vec<Vec<usize, A>, A>,
     /// For each place the entries of its column, without the diagonal, rising.
@@ -17,7 +17,7 @@ pub struct Factor<A: Allocator> {
 /// What a factor needs: the sums of `c`, of `c (c + 1) / 2` and of `c^2` over the sizes `c` of its columns, and the
 /// size of the largest column with its diagonal, 0 where there is no column.
 #[derive(Clone, Copy, PartialEq, Drop)]
-pub struct Need {
+pub struct SearchedNeed {
     /// The entries, and the divisions.
     pub lnz: usize,
     /// The products and differences of a factorization `LDL'`.
@@ -121,19 +121,19 @@ pub fn factor_of<A: Allocator + Copy>(
     a_p: &[i64],
     a_i: &[i64],
     p: &[i64],
-) -> Result<Factor<A>, AllocError> {
+) -> Result<SearchedFactor<A>, AllocError> {
     let edges = edges_by_place(alloc, a_p, a_i, p)?;
     let mut columns = Vec::new(alloc);
     for k in 0..p.len() {
         let column = column_of(alloc, &edges, k)?;
         columns.push(column)?;
     }
-    Ok(Factor { edges, columns })
+    Ok(SearchedFactor { edges, columns })
 }
 
 /// What a factor with these columns needs.
-pub fn need_of<A: Allocator>(columns: &[Vec<usize, A>]) -> Need {
-    let mut need = Need {
+pub fn need_of<A: Allocator>(columns: &[Vec<usize, A>]) -> SearchedNeed {
+    let mut need = SearchedNeed {
         lnz: 0,
         n_mult_subs_ldl: 0,
         n_mult_subs_lu: 0,
@@ -163,7 +163,7 @@ fn are_among(places: &[usize], others: &[usize]) -> bool {
 }
 
 /// Whether each entry of a factor is an edge, so that nothing fills in.
-pub fn fills_nothing<A: Allocator>(factor: &Factor<A>) -> bool {
+pub fn fills_nothing<A: Allocator>(factor: &SearchedFactor<A>) -> bool {
     for (column, places) in factor.columns.iter().zip(&factor.edges) {
         if !are_among(column, places) {
             return false;

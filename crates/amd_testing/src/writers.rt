@@ -9,7 +9,7 @@ use std::io::{ErrorKind, Write};
 
 /// What goes wrong at the chosen call.
 #[derive(Clone, Copy, Debug)]
-pub enum Fault {
+pub enum WriterFault {
     /// The call fails, with kind `Other`.
     Fails,
     /// The call takes no byte.
@@ -35,7 +35,7 @@ fn take_first(bytes: &mut Vec<u8>, buf: &[u8]) -> io::Result<usize>
 #[derive(Drop)]
 pub struct Faulty {
     bytes: Vec<u8>,
-    fault: Fault,
+    fault: WriterFault,
     fault_at: u64,
     calls: u64,
     faults: u64,
@@ -43,7 +43,7 @@ pub struct Faulty {
 
 impl Faulty {
     /// Appends to `bytes`, with a fault at the call `fault_at`, counted from 1, and none where that is 0.
-    pub fn new(bytes: Vec<u8>, fault: Fault, fault_at: u64) -> Faulty {
+    pub fn new(bytes: Vec<u8>, fault: WriterFault, fault_at: u64) -> Faulty {
         Faulty {
             bytes,
             fault,
@@ -75,10 +75,10 @@ impl Write for Faulty {
         if self.calls == self.fault_at {
             self.faults = self.faults.wrapping_add(1);
             return match self.fault {
-                Fault::Fails => Err(io::Error::from(ErrorKind::Other)),
-                Fault::TakesNothing => Ok(0),
-                Fault::TakesOne => take_first(&mut self.bytes, buf),
-                Fault::Interrupted => Err(io::Error::from(ErrorKind::Interrupted)),
+                WriterFault::Fails => Err(io::Error::from(ErrorKind::Other)),
+                WriterFault::TakesNothing => Ok(0),
+                WriterFault::TakesOne => take_first(&mut self.bytes, buf),
+                WriterFault::Interrupted => Err(io::Error::from(ErrorKind::Interrupted)),
             };
         }
         self.bytes.extend_from_slice(buf)?;

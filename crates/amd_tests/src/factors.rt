@@ -6,15 +6,15 @@ use crate::worked::widened;
 use amd::{Control, Info, order};
 use amd_demos::can_24::{POINTERS, ROWS};
 use amd_testing::check;
-use amd_testing::factors::{Factor, Need, factor_of, fills_nothing, need_of};
+use amd_testing::factors::{SearchedFactor, SearchedNeed, factor_of, fills_nothing, need_of};
 use amd_testing::inputs::star;
 use std::alloc::{AllocError, Global};
 use std::process::Abort;
 use std::test::Fail;
 
 /// The figures of a record that bound what a factor needs.
-fn bounds_in(info: &Info) -> Need {
-    Need {
+fn bounds_in(info: &Info) -> SearchedNeed {
+    SearchedNeed {
         lnz: info.lnz,
         n_mult_subs_ldl: info.n_mult_subs_ldl,
         n_mult_subs_lu: info.n_mult_subs_lu,
@@ -23,7 +23,7 @@ fn bounds_in(info: &Info) -> Need {
 }
 
 /// Whether no bound is below the need.
-fn covers(bounds: &Need, need: &Need) -> bool {
+fn covers(bounds: &SearchedNeed, need: &SearchedNeed) -> bool {
     need.lnz <= bounds.lnz
         && need.n_mult_subs_ldl <= bounds.n_mult_subs_ldl
         && need.n_mult_subs_lu <= bounds.n_mult_subs_lu
@@ -38,7 +38,7 @@ pub fn check_bounds(
     a_i: &[i64],
     p: &[i64],
     info: &Info,
-) -> Result<Factor<Global>, AllocError> {
+) -> Result<SearchedFactor<Global>, AllocError> {
     let factor = factor_of(alloc, a_p, a_i, p)?;
     let is_covered = covers(&bounds_in(info), &need_of(&factor.columns));
     assert!(rt; is_covered && info.n_div == info.lnz, "{a_p:?} {a_i:?}");
@@ -46,36 +46,36 @@ pub fn check_bounds(
 }
 
 /// Asserts that the factor of a forest without dense rows has its edges alone, and that the bounds say so.
-pub fn check_forest(rt: &impl Abort, factor: &Factor<Global>, info: &Info) {
+pub fn check_forest(rt: &impl Abort, factor: &SearchedFactor<Global>, info: &Info) {
     check!(rt; info.n_dense == 0 && info.lnz == info.nz_a_plus_at / 2);
     check!(rt; need_of(&factor.columns).lnz == info.lnz && fills_nothing(factor));
 }
 
 /// A matrix, an order of its rows, and what the factor under it needs.
 #[derive(Drop)]
-struct Case<'a> {
+struct NeedCase<'a> {
     what: &'a str,
     a_p: &'a [i64],
     a_i: &'a [i64],
     p: &'a [i64],
-    need: Need,
+    need: SearchedNeed,
 }
 
 /// Worked matrices with what their factors need.
-static FACTORS: [Case<'static>; 2] = [
-    Case {
+static FACTORS: [NeedCase<'static>; 2] = [
+    NeedCase {
         what: "seven rows, whose bounds are exact",
         a_p: &[0, 2, 6, 9, 11, 12, 12, 12],
         a_i: &[5, 6, 2, 3, 4, 5, 3, 4, 6, 4, 6, 5],
         p: &[0, 6, 1, 3, 4, 5, 2],
-        need: Need {
+        need: SearchedNeed {
             lnz: 15,
             n_mult_subs_ldl: 29,
             n_mult_subs_lu: 43,
             d_max: 5,
         },
     },
-    Case {
+    NeedCase {
         what: "twenty rows, whose bounds count a dense row that has few edges to the others",
         a_p: &[
             0, 17, 17, 17, 17, 17, 17, 17, 17, 17, 17, 17, 17, 17, 17, 17, 17, 17, 17, 18, 18,
@@ -86,7 +86,7 @@ static FACTORS: [Case<'static>; 2] = [
         p: &[
             1, 2, 3, 4, 5, 6, 7, 8, 9, 10, 11, 12, 13, 14, 15, 16, 17, 18, 19, 0,
         ],
-        need: Need {
+        need: SearchedNeed {
             lnz: 18,
             n_mult_subs_ldl: 18,
             n_mult_subs_lu: 18,
@@ -96,7 +96,7 @@ static FACTORS: [Case<'static>; 2] = [
 ];
 
 /// Asserts what the factor of a case needs.
-fn check_need(rt: &impl Abort, alloc: Global, case: &Case) -> Result<(), AllocError> {
+fn check_need(rt: &impl Abort, alloc: Global, case: &NeedCase) -> Result<(), AllocError> {
     let factor = factor_of(alloc, case.a_p, case.a_i, case.p)?;
     check!(rt; need_of(&factor.columns) == case.need, case.what);
     Ok(())
@@ -109,14 +109,14 @@ fn needs_of_factors(rt: HostRuntime) -> Result<(), Fail> {
     }
     let heap = rt.alloc();
     let (pointers, rows) = (widened(heap, &POINTERS)?, widened(heap, &ROWS)?);
-    let can_24 = Case {
+    let can_24 = NeedCase {
         what: "can_24, whose bounds are a little above",
         a_p: &pointers,
         a_i: &rows,
         p: &[
             22, 20, 10, 23, 12, 5, 16, 8, 14, 4, 15, 7, 1, 9, 13, 17, 0, 2, 3, 6, 11, 18, 21, 19,
         ],
-        need: Need {
+        need: SearchedNeed {
             lnz: 96,
             n_mult_subs_ldl: 268,
             n_mult_subs_lu: 440,

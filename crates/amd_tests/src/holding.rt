@@ -6,7 +6,7 @@ use crate::comparison::is_ordered;
 use crate::factors::check_bounds;
 use crate::memory::{check_refusals, is_answer};
 use crate::patterns::CHOICES;
-use crate::worked::{Case, check_nothing};
+use crate::worked::{OrderingCase, check_nothing};
 use amd::{Control, Info, Status, order, order_holding};
 use amd_testing::inputs::{draw, drawn, drawn_with_hub};
 use amd_testing::records::numbers_of;
@@ -20,14 +20,14 @@ use std::test::Fail;
 #[derive(Drop)]
 struct Held<'a> {
     hold: &'a [bool],
-    case: Case<'a>,
+    case: OrderingCase<'a>,
 }
 
 /// Worked matrices.
 static HELD: [Held<'static>; 5] = [
     Held {
         hold: &[false, true, false],
-        case: Case {
+        case: OrderingCase {
             what: "a path of three rows, an end held",
             n: 3,
             a_p: &[0, 1, 2, 2],
@@ -40,7 +40,7 @@ static HELD: [Held<'static>; 5] = [
     },
     Held {
         hold: &[true, false, false, false],
-        case: Case {
+        case: OrderingCase {
             what: "a four-cycle, one row held",
             n: 4,
             a_p: &[0, 2, 3, 4, 4],
@@ -53,7 +53,7 @@ static HELD: [Held<'static>; 5] = [
     },
     Held {
         hold: &[true, true, true, true],
-        case: Case {
+        case: OrderingCase {
             what: "a four-cycle, all rows held",
             n: 4,
             a_p: &[0, 2, 3, 4, 4],
@@ -66,7 +66,7 @@ static HELD: [Held<'static>; 5] = [
     },
     Held {
         hold: &[false, true, false],
-        case: Case {
+        case: OrderingCase {
             what: "one edge, and an empty row that is held",
             n: 3,
             a_p: &[0, 1, 1, 1],
@@ -79,7 +79,7 @@ static HELD: [Held<'static>; 5] = [
     },
     Held {
         hold: &[true, false, false],
-        case: Case {
+        case: OrderingCase {
             what: "three rows in which a held neighbour counts in a degree",
             n: 3,
             a_p: &[0, 1, 2, 2],

@@ -4,7 +4,7 @@
 
 use crate::patterns::CHOICES;
 use crate::small_matrices::SMALL_MATRICES;
-use crate::worked::{Case, DENSE_ROW, check_answer, with_dense};
+use crate::worked::{DENSE_ROW, OrderingCase, check_answer, with_dense};
 use amd::aat::aat;
 use amd::preprocess::preprocess;
 use amd::valid::valid;
@@ -28,7 +28,7 @@ pub fn check_refusals(rt: &impl Abort, what: &str, refusals: Result<u64, Slip>) 
 /// Asserts that an answer is that of a case, or that memory was refused, and says whether it is the former.
 pub fn is_answer<A: Allocator>(
     rt: &impl Abort,
-    case: &Case,
+    case: &OrderingCase,
     answer: Result<(Vec<i64, A>, Vec<i64, A>, Info), Status>,
 ) -> bool {
     match answer {
@@ -44,7 +44,12 @@ pub fn is_answer<A: Allocator>(
 }
 
 /// Orders, and says whether there was an answer, which must be that of the case.
-fn orders(rt: &impl Abort, heap: &Refusing<Global>, control: &Control, case: &Case) -> bool {
+fn orders(
+    rt: &impl Abort,
+    heap: &Refusing<Global>,
+    control: &Control,
+    case: &OrderingCase,
+) -> bool {
     let answer = order(heap, case.n, case.a_p, case.a_i, control);
     is_answer(rt, case, answer)
 }
@@ -57,7 +62,7 @@ fn orders_holding_none(
     rt: &impl Abort,
     heap: &Refusing<Global>,
     control: &Control,
-    case: &Case,
+    case: &OrderingCase,
 ) -> bool {
     let hold = NONE.get(..case.p.len()).unwrap_or(&[]);
     let answer = order_holding(heap, case.n, case.a_p, case.a_i, control, hold);
@@ -75,12 +80,12 @@ fn check_requests(rt: &impl Abort, what: &str, refusals: Result<u64, Slip>, want
 /// The number of requests of `order`: two lists for the degrees; a block that is given back at once; five lists to lay
 /// the neighbours, the words of the workspace among them; and nine lists for the rounds and the result. A jumbled
 /// matrix takes five more for its transpose.
-fn requests_of(case: &Case) -> u64 {
+fn requests_of(case: &OrderingCase) -> u64 {
     if case.jumbled { 22 } else { 17 }
 }
 
 /// Orders with each request refused in turn, and again with marks that hold no row.
-fn check_order(rt: &impl Abort, alloc: Global, control: &Control, case: &Case) {
+fn check_order(rt: &impl Abort, alloc: Global, control: &Control, case: &OrderingCase) {
     let wanted = requests_of(case);
     let refusals = each_refused(alloc, |heap| orders(rt, heap, control, case));
     check_requests(rt, case.what, refusals, wanted);

@@ -12,7 +12,7 @@ use std::process::Abort;
 
 /// An input, and its answer by the default.
 #[derive(Drop)]
-struct Case<'a, I> {
+struct NumberCase<'a, I> {
     n: I,
     a_p: &'a [I],
     a_i: &'a [I],
@@ -24,7 +24,7 @@ struct Case<'a, I> {
 }
 
 /// Asserts that `order` gives the answer of a case.
-fn check<I: PrimInt>(rt: &impl Abort, alloc: Global, case: &Case<I>)
+fn check<I: PrimInt>(rt: &impl Abort, alloc: Global, case: &NumberCase<I>)
     requires { I.fits (I.value case.now.n) }
 {
     let Ok((p, p_inv, info)) = order(alloc, case.n, case.a_p, case.a_i, &Control::default()) else {
@@ -223,7 +223,7 @@ fn inputs_past_the_ends(rt: HostRuntime) {
     check!(&rt; is_refused(heap, PAST, &[0], &[]));
     check!(&rt; is_refused(heap, 1u128, &[0, PAST], &[0]));
     check!(&rt; is_refused(heap, 1u128, &[0, 1], &[PAST]));
-    let ignored: Case<u128> = Case {
+    let ignored: NumberCase<u128> = NumberCase {
         n: 1,
         a_p: &[0, 0, PAST],
         a_i: &[],
@@ -239,7 +239,7 @@ fn inputs_past_the_ends(rt: HostRuntime) {
 /// As many entries as the greatest pointer of the type can say, all of them one.
 #[test]
 fn as_many_entries_as_a_pointer_says(rt: HostRuntime) {
-    let case: Case<u8> = Case {
+    let case: NumberCase<u8> = NumberCase {
         n: 2,
         a_p: &[0, 255, 255],
         a_i: &[1; 255],
@@ -258,7 +258,7 @@ fn as_many_rows_as_an_unsigned_type_has(rt: HostRuntime) {
     for k in 0..255u8 {
         rows[usize::from(k)] = k;
     }
-    let unsigned: Case<u8> = Case {
+    let unsigned: NumberCase<u8> = NumberCase {
         n: 255,
         a_p: &[0; 256],
         a_i: &[],
@@ -279,7 +279,7 @@ fn as_many_rows_as_a_signed_type_has(rt: HostRuntime) {
             few[place] = k;
         }
     }
-    let signed: Case<i8> = Case {
+    let signed: NumberCase<i8> = NumberCase {
         n: 127,
         a_p: &[0; 128],
         a_i: &[],

@@ -6,7 +6,7 @@ use crate::comparison::is_ordered;
 use crate::factors::{check_bounds, check_forest};
 use crate::holding::check_nothing_held;
 use amd::{Control, Info, order};
-use amd_testing::factors::Factor;
+use amd_testing::factors::SearchedFactor;
 use amd_testing::inputs::{
     complete_below, cycle, drawn, drawn_with_hub, grid, path, star, star_to_last,
 };
@@ -53,7 +53,7 @@ fn check_choice(
     a_p: &[i64],
     a_i: &[i64],
     control: &Control,
-) -> Result<(Factor<Global>, Info), AllocError> {
+) -> Result<(SearchedFactor<Global>, Info), AllocError> {
     let Ok((p, p_inv, info)) = order(alloc, n, a_p, a_i, control) else {
         panic!(rt; "no answer");
     };

@@ -1,11 +1,11 @@
 // Small matrices with their answers: the permutation and each figure. Where the answers come from is said in `worked`;
 // the tests of refused memory order each of them. They are stored cases of `amd_replay` too.
 
-use crate::worked::Case;
+use crate::worked::OrderingCase;
 
 /// Small matrices with their answers.
-pub static SMALL_MATRICES: [Case<'static>; 18] = [
-    Case {
+pub static SMALL_MATRICES: [OrderingCase<'static>; 18] = [
+    OrderingCase {
         what: "one row without entries",
         n: 1,
         a_p: &[0, 0],
@@ -15,7 +15,7 @@ pub static SMALL_MATRICES: [Case<'static>; 18] = [
         figures: [0, 0, 0, 0, 0, 0, 0, 1],
         symmetric: true,
     },
-    Case {
+    OrderingCase {
         what: "one entry on the diagonal, and numbers after the end that are ignored",
         n: 1,
         a_p: &[0, 1, 7],
@@ -25,7 +25,7 @@ pub static SMALL_MATRICES: [Case<'static>; 18] = [
         figures: [1, 1, 0, 0, 0, 0, 0, 1],
         symmetric: true,
     },
-    Case {
+    OrderingCase {
         what: "a diagonal",
         n: 2,
         a_p: &[0, 1, 2],
@@ -35,7 +35,7 @@ pub static SMALL_MATRICES: [Case<'static>; 18] = [
         figures: [2, 2, 0, 0, 0, 0, 0, 1],
         symmetric: true,
     },
-    Case {
+    OrderingCase {
         what: "one edge and an empty row",
         n: 3,
         a_p: &[0, 1, 1, 1],
@@ -45,7 +45,7 @@ pub static SMALL_MATRICES: [Case<'static>; 18] = [
         figures: [1, 0, 2, 0, 1, 1, 1, 2],
         symmetric: false,
     },
-    Case {
+    OrderingCase {
         what: "one edge",
         n: 2,
         a_p: &[0, 1, 1],
@@ -55,7 +55,7 @@ pub static SMALL_MATRICES: [Case<'static>; 18] = [
         figures: [1, 0, 2, 0, 1, 1, 1, 2],
         symmetric: false,
     },
-    Case {
+    OrderingCase {
         what: "one edge, whose entry is repeated",
         n: 2,
         a_p: &[0, 2, 2],
@@ -65,7 +65,7 @@ pub static SMALL_MATRICES: [Case<'static>; 18] = [
         figures: [1, 0, 2, 0, 1, 1, 1, 2],
         symmetric: false,
     },
-    Case {
+    OrderingCase {
         what: "the five-row matrix of the demo",
         n: 5,
         a_p: &[0, 2, 6, 10, 12, 14],
@@ -75,7 +75,7 @@ pub static SMALL_MATRICES: [Case<'static>; 18] = [
         figures: [14, 5, 10, 0, 5, 6, 7, 3],
         symmetric: false,
     },
-    Case {
+    OrderingCase {
         what: "a path of three rows",
         n: 3,
         a_p: &[0, 1, 2, 2],
@@ -85,7 +85,7 @@ pub static SMALL_MATRICES: [Case<'static>; 18] = [
         figures: [2, 0, 4, 0, 2, 2, 2, 2],
         symmetric: false,
     },
-    Case {
+    OrderingCase {
         what: "a path of three rows, jumbled with a repeat, and rows out of range after the end",
         n: 3,
         a_p: &[0, 3, 3, 4],
@@ -95,7 +95,7 @@ pub static SMALL_MATRICES: [Case<'static>; 18] = [
         figures: [3, 1, 4, 0, 2, 2, 2, 2],
         symmetric: false,
     },
-    Case {
+    OrderingCase {
         what: "a four-cycle",
         n: 4,
         a_p: &[0, 2, 3, 4, 4],
@@ -105,7 +105,7 @@ pub static SMALL_MATRICES: [Case<'static>; 18] = [
         figures: [4, 0, 8, 0, 5, 7, 9, 3],
         symmetric: false,
     },
-    Case {
+    OrderingCase {
         what: "a four-cycle, and rows out of range after the end",
         n: 4,
         a_p: &[0, 2, 3, 4, 4, -1],
@@ -115,7 +115,7 @@ pub static SMALL_MATRICES: [Case<'static>; 18] = [
         figures: [4, 0, 8, 0, 5, 7, 9, 3],
         symmetric: false,
     },
-    Case {
+    OrderingCase {
         what: "a full matrix with three rows",
         n: 3,
         a_p: &[0, 3, 6, 9],
@@ -125,7 +125,7 @@ pub static SMALL_MATRICES: [Case<'static>; 18] = [
         figures: [9, 3, 6, 0, 3, 4, 5, 3],
         symmetric: true,
     },
-    Case {
+    OrderingCase {
         what: "seven rows, four of which have degree 4",
         n: 7,
         a_p: &[0, 2, 6, 9, 11, 12, 12, 12],
@@ -135,7 +135,7 @@ pub static SMALL_MATRICES: [Case<'static>; 18] = [
         figures: [12, 0, 24, 0, 15, 29, 43, 5],
         symmetric: false,
     },
-    Case {
+    OrderingCase {
         what: "a cycle of fourteen rows",
         n: 14,
         a_p: &[0, 2, 3, 4, 5, 6, 7, 8, 9, 10, 11, 12, 13, 14, 14],
@@ -145,7 +145,7 @@ pub static SMALL_MATRICES: [Case<'static>; 18] = [
         figures: [14, 0, 28, 0, 25, 37, 49, 3],
         symmetric: false,
     },
-    Case {
+    OrderingCase {
         what: "eight rows in which the order of kept elements shows",
         n: 8,
         a_p: &[0, 2, 4, 7, 9, 10, 12, 12, 12],
@@ -155,7 +155,7 @@ pub static SMALL_MATRICES: [Case<'static>; 18] = [
         figures: [12, 0, 24, 0, 15, 25, 35, 4],
         symmetric: false,
     },
-    Case {
+    OrderingCase {
         what: "six rows in which the order of kept variables shows",
         n: 6,
         a_p: &[0, 1, 4, 4, 5, 6, 6],
@@ -165,7 +165,7 @@ pub static SMALL_MATRICES: [Case<'static>; 18] = [
         figures: [6, 0, 12, 0, 7, 9, 11, 3],
         symmetric: false,
     },
-    Case {
+    OrderingCase {
         what: "five rows whose starting lists do not rise",
         n: 5,
         a_p: &[0, 1, 2, 3, 3, 6],
@@ -175,7 +175,7 @@ pub static SMALL_MATRICES: [Case<'static>; 18] = [
         figures: [6, 0, 12, 0, 6, 8, 10, 3],
         symmetric: false,
     },
-    Case {
+    OrderingCase {
         what: "eight rows in which the rows left bound a degree",
         n: 8,
         a_p: &[0, 3, 7, 9, 10, 12, 13, 14, 14],

@@ -3,14 +3,14 @@
 // are those of `small_matrices`.
 
 use crate::small_matrices::SMALL_MATRICES;
-use crate::worked::Case;
+use crate::worked::OrderingCase;
 use amd::{Control, Status, order};
 use num_traits::PrimInt;
 use std::alloc::{AllocError, Global};
 use std::test::Fail;
 
 /// The numbers of pointers and of rows of a case, without those after the end.
-fn lengths_of(case: &Case) -> (usize, usize) {
+fn lengths_of(case: &OrderingCase) -> (usize, usize) {
     let n = case.p.len();
     let end = case.a_p.get(n).copied().unwrap_or(0);
     (n + 1, usize::try_from(end).unwrap_or(0))

@@ -18,7 +18,7 @@ use std::test::Fail;
 /// An input and its answer. The figures are `nz`, `nz_diag`, `nz_a_plus_at`, `n_dense`, `lnz`, those of `LDL'` and of
 /// `LU`, and `d_max`; the divisions are as many as `lnz`, and the compactions at most as many as the rows.
 #[derive(Drop)]
-pub struct Case<'a> {
+pub struct OrderingCase<'a> {
     pub what: &'a str,
     pub n: i64,
     pub a_p: &'a [i64],
@@ -30,7 +30,7 @@ pub struct Case<'a> {
 }
 
 /// Whether a record is that of a case.
-fn is_told(case: &Case, info: &Info) -> bool {
+fn is_told(case: &OrderingCase, info: &Info) -> bool {
     let status = if case.jumbled {
         Status::OkButJumbled
     } else {
@@ -59,14 +59,19 @@ fn is_told(case: &Case, info: &Info) -> bool {
 }
 
 /// Asserts that an answer is that of a case.
-pub fn check_answer(rt: &impl Abort, case: &Case, p: &[i64], p_inv: &[i64], info: &Info) {
+pub fn check_answer(rt: &impl Abort, case: &OrderingCase, p: &[i64], p_inv: &[i64], info: &Info) {
     let is_ordered = p == case.p && are_inverse(info.n, p, p_inv);
     check!(rt; is_ordered && is_told(case, info), case.what);
 }
 
 /// Asserts that `order` gives the answer of a case, also with nothing held, and that its figures bound what the factor
 /// needs.
-fn check(rt: &impl Abort, alloc: Global, control: &Control, case: &Case) -> Result<(), AllocError> {
+fn check(
+    rt: &impl Abort,
+    alloc: Global,
+    control: &Control,
+    case: &OrderingCase,
+) -> Result<(), AllocError> {
     let what = case.what;
     let Ok((p, p_inv, info)) = order(alloc, case.n, case.a_p, case.a_i, control) else {
         panic!(rt; "no answer for {what}");
@@ -110,7 +115,7 @@ fn matrices_without_rows(rt: HostRuntime) {
 }
 
 /// A matrix whose row 0 is dense where the parameter is 0.
-pub static DENSE_ROW: Case<'static> = Case {
+pub static DENSE_ROW: OrderingCase<'static> = OrderingCase {
     what: "twenty rows, of which one is dense and one stands apart",
     n: 20,
     a_p: &[
@@ -153,7 +158,7 @@ fn can_24_and_its_jumbled_form(rt: HostRuntime) -> Result<(), Fail> {
     let p = [
         22, 20, 10, 23, 12, 5, 16, 8, 14, 4, 15, 7, 1, 9, 13, 17, 0, 2, 3, 6, 11, 18, 21, 19,
     ];
-    let sorted = Case {
+    let sorted = OrderingCase {
         what: "the Harwell/Boeing matrix can_24",
         n: 24,
         a_p: &sorted_p,
@@ -164,7 +169,7 @@ fn can_24_and_its_jumbled_form(rt: HostRuntime) -> Result<(), Fail> {
         symmetric: true,
     };
     check(&rt, heap, &Control::default(), &sorted)?;
-    let jumbled = Case {
+    let jumbled = OrderingCase {
         what: "can_24 with jumbled columns, repeats and entries left out",
         n: 24,
         a_p: &jumbled_p,

@@ -5,7 +5,7 @@
 use amd::{Control, Info};
 use amd_symbolic::{Factor, Fault, analyze, columns};
 use amd_testing::check;
-use amd_testing::factors::{Factor as SlowFactor, Need, factor_of, need_of};
+use amd_testing::factors::{SearchedFactor, SearchedNeed, factor_of, need_of};
 use amd_testing::inputs::{
     complete, complete_below, cycle, draw, drawn, drawn_with_hub, grid, path, star, star_to_last,
 };
@@ -24,7 +24,7 @@ static CHOICES: [(i32, bool); 6] = [
 ];
 
 /// Whether a factor is the slow one: its columns, where they begin, and their first entries.
-fn is_same(factor: &Factor<Global>, slow: &SlowFactor<Global>) -> bool {
+fn is_same(factor: &Factor<Global>, slow: &SearchedFactor<Global>) -> bool {
     let count = slow.columns.len();
     if factor.ptr.len() != count.saturating_add(1) || factor.parent.len() != count {
         return false;
@@ -104,7 +104,7 @@ fn check_other_orders(
 }
 
 /// Whether no figure of a record is below what the factor needs.
-fn is_bounded(info: &Info, need: &Need) -> bool {
+fn is_bounded(info: &Info, need: &SearchedNeed) -> bool {
     need.lnz <= info.lnz
         && need.n_mult_subs_ldl <= info.n_mult_subs_ldl
         && need.n_mult_subs_lu <= info.n_mult_subs_lu

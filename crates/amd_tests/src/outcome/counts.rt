@@ -2,11 +2,11 @@
 // under the orders that are no orderings too; on worked matrices; with each request refused in turn; and where the
 // input or the order is none.
 
-use crate::outcome::worked::{Case, FOUR_CYCLE, WORKED};
+use crate::outcome::worked::{FOUR_CYCLE, FactorCase, WORKED};
 use amd::Control;
 use amd_symbolic::{Counts, Fault, analyze_counts, counts};
 use amd_testing::check;
-use amd_testing::factors::{Factor as SlowFactor, factor_of, need_of};
+use amd_testing::factors::{SearchedFactor, factor_of, need_of};
 use amd_testing::inputs::{
     complete, cycle, draw, drawn, drawn_with_hub, grid, path, star, star_to_last,
 };
@@ -16,7 +16,7 @@ use std::process::Abort;
 use std::test::Fail;
 
 /// Whether counts are those of the slow factor: the sizes of its columns, their first entries, and what they need.
-fn are_counts(counted: &Counts<Global>, slow: &SlowFactor<Global>) -> bool {
+fn are_counts(counted: &Counts<Global>, slow: &SearchedFactor<Global>) -> bool {
     if counted.sizes.len() != slow.columns.len() || counted.parent.len() != slow.columns.len() {
         return false;
     }
@@ -120,7 +120,7 @@ fn counts_of_drawn_matrices(rt: HostRuntime) -> Result<(), Fail> {
 }
 
 /// Asserts that counts are those of a case.
-fn check_counts<A: Allocator>(rt: &impl Abort, case: &Case, counted: &Counts<A>) {
+fn check_counts<A: Allocator>(rt: &impl Abort, case: &FactorCase, counted: &Counts<A>) {
     check!(rt; counted.parent.as_slice() == case.parent, case.what);
     let mut end = 0usize;
     for (k, &size) in counted.sizes.iter().enumerate() {
@@ -131,7 +131,7 @@ fn check_counts<A: Allocator>(rt: &impl Abort, case: &Case, counted: &Counts<A>)
 }
 
 /// Asks for the counts of a case, and says whether there was an answer.
-fn asks(rt: &impl Abort, heap: &Refusing<Global>, case: &Case) -> bool {
+fn asks(rt: &impl Abort, heap: &Refusing<Global>, case: &FactorCase) -> bool {
     match counts(heap, case.n, case.a_p, case.a_i, case.p) {
         Ok(counted) => {
             check_counts(rt, case, &counted);
@@ -156,7 +156,7 @@ fn each_request_of_counts(rt: HostRuntime) {
 }
 
 /// Asks for an ordering and its counts, and says whether there was an answer.
-fn analyzes(rt: &impl Abort, heap: &Refusing<Global>, case: &Case) -> bool {
+fn analyzes(rt: &impl Abort, heap: &Refusing<Global>, case: &FactorCase) -> bool {
     match analyze_counts(heap, case.n, case.a_p, case.a_i, &Control::default()) {
         Ok((p, _, _, counted)) => {
             check!(rt; p.as_slice() == case.p);

@@ -9,12 +9,12 @@ use amd::{Control, order};
 use amd_demos::can_24::{JUMBLED_POINTERS, JUMBLED_ROWS, POINTERS, ROWS};
 use amd_demos::demo::{Form, demo_to};
 use amd_demos::jumbled::jumbled_to;
-use amd_demos::matrix::Matrix;
+use amd_demos::matrix::DemoMatrix;
 use amd_demos::order::order_to;
 use amd_demos::simple::simple_to;
 use amd_testing::check;
 use amd_testing::refusing::Refusing;
-use amd_testing::writers::{Fault, Faulty, Slow};
+use amd_testing::writers::{Faulty, Slow, WriterFault};
 use std::alloc::{AllocError, Allocator, Global};
 use std::io::Write;
 use std::process::Abort;
@@ -195,12 +195,12 @@ fn each_request_of_ordering_and_factor(rt: HostRuntime) -> Result<(), Fail> {
 
 #[test]
 fn matrices_of_the_other_kind(rt: HostRuntime) -> Result<(), Fail> {
-    let sorted = Matrix {
+    let sorted = DemoMatrix {
         n: 24,
         a_p: &POINTERS,
         a_i: &ROWS,
     };
-    let jumbled = Matrix {
+    let jumbled = DemoMatrix {
         n: 24,
         a_p: &JUMBLED_POINTERS,
         a_i: &JUMBLED_ROWS,
@@ -245,7 +245,7 @@ fn matrices_that_are_none(rt: HostRuntime) {
         (1, &[i32::MIN, i32::MIN], &[]),
         (2, &[0, 1, 2], &[i32::MAX, i32::MIN]),
     ] {
-        let matrix = Matrix { n, a_p, a_i };
+        let matrix = DemoMatrix { n, a_p, a_i };
         for form in [Form::Sorted, Form::Jumbled] {
             let mut out = Vec::new(rt.alloc());
             let heap = Refusing::new(rt.alloc(), 1);
@@ -262,14 +262,14 @@ fn check_fault(
     rt: &impl Abort,
     alloc: Global,
     demo: Demo,
-    fault: Fault,
+    fault: WriterFault,
     fault_at: u64,
 ) -> Result<bool, AllocError> {
     let mut out = Faulty::new(Vec::new(alloc), fault, fault_at);
     let status = run(demo, alloc, &mut out);
     let text = text_of(alloc, demo)?;
     let is_made = out.faults() != 0;
-    let is_failure = matches!(fault, Fault::Fails | Fault::TakesNothing);
+    let is_failure = matches!(fault, WriterFault::Fails | WriterFault::TakesNothing);
     let is_told = if is_made && is_failure {
         status == 1 && out.calls() == fault_at && text.starts_with(out.bytes())
     } else {
@@ -281,7 +281,7 @@ fn check_fault(
 
 /// How many calls to its writer a demo makes.
 fn calls_of(alloc: Global, demo: Demo) -> u64 {
-    let mut out = Faulty::new(Vec::new(alloc), Fault::Fails, 0);
+    let mut out = Faulty::new(Vec::new(alloc), WriterFault::Fails, 0);
     run(demo, alloc, &mut out);
     out.calls()
 }
@@ -293,7 +293,11 @@ fn check_faults(rt: &impl Abort, alloc: Global, demo: Demo, step: usize) -> Resu
 {
     let calls = calls_of(alloc, demo);
     assert!(rt; 0 < calls && calls < MANY, "{demo:?}");
-    for fault in [Fault::Fails, Fault::TakesNothing, Fault::TakesOne] {
+    for fault in [
+        WriterFault::Fails,
+        WriterFault::TakesNothing,
+        WriterFault::TakesOne,
+    ] {
         for fault_at in (1..calls).step_by(step) {
             check!(rt; check_fault(rt, alloc, demo, fault, fault_at)?);
         }
@@ -319,7 +323,7 @@ fn calls_without_memory(
     rt: &impl Abort,
     alloc: Global,
     demo: Demo,
-    fault: Fault,
+    fault: WriterFault,
     fault_at: u64,
 ) -> u64 {
     let heap = Refusing::new(alloc, 1);
@@ -332,8 +336,8 @@ fn calls_without_memory(
 #[test]
 fn failures_that_cannot_be_told(rt: HostRuntime) {
     for demo in [Demo::Simple, Demo::Order, Demo::Jumbled] {
-        let last = calls_without_memory(&rt, rt.alloc(), demo, Fault::Fails, 0);
-        for fault in [Fault::Fails, Fault::TakesNothing] {
+        let last = calls_without_memory(&rt, rt.alloc(), demo, WriterFault::Fails, 0);
+        for fault in [WriterFault::Fails, WriterFault::TakesNothing] {
             check!(&rt; calls_without_memory(&rt, rt.alloc(), demo, fault, last) == last);
         }
     }

@@ -2,7 +2,7 @@
 // refusal answers `OutOfMemory`, and the first one without gives the answer. After each of them as many blocks came
 // back as were granted.
 
-use crate::outcome::worked::{Case, FOUR_CYCLE, WORKED, check_factor};
+use crate::outcome::worked::{FOUR_CYCLE, FactorCase, WORKED, check_factor};
 use amd::Control;
 use amd_symbolic::{Factor, Fault, analyze, analyze_holding, columns};
 use amd_testing::check;
@@ -19,7 +19,11 @@ fn check_refusals(rt: &impl Abort, what: &str, refusals: Result<u64, Slip>) {
 }
 
 /// Asserts that an answer is the factor of a case, or that memory was refused, and says whether it is the former.
-fn is_answer<A: Allocator>(rt: &impl Abort, case: &Case, answer: Result<Factor<A>, Fault>) -> bool {
+fn is_answer<A: Allocator>(
+    rt: &impl Abort,
+    case: &FactorCase,
+    answer: Result<Factor<A>, Fault>,
+) -> bool {
     match answer {
         Ok(factor) => {
             check_factor(rt, case, &factor);
@@ -33,7 +37,7 @@ fn is_answer<A: Allocator>(rt: &impl Abort, case: &Case, answer: Result<Factor<A
 }
 
 /// Asks for the columns of a case, and says whether there was an answer.
-fn asks(rt: &impl Abort, heap: &Refusing<Global>, case: &Case) -> bool {
+fn asks(rt: &impl Abort, heap: &Refusing<Global>, case: &FactorCase) -> bool {
     let answer = columns(heap, case.n, case.a_p, case.a_i, case.p, case.room);
     is_answer(rt, case, answer)
 }
@@ -87,7 +91,7 @@ fn analyzes(rt: &impl Abort, heap: &Refusing<Global>) -> bool {
 }
 
 /// A four-cycle with row 0 held last, and the factor under the order that it is given.
-static HELD: Case<'static> = Case {
+static HELD: FactorCase<'static> = FactorCase {
     what: "a four-cycle, one row held",
     n: 4,
     a_p: &[0, 2, 3, 4, 4],

@@ -4,7 +4,7 @@
 
 use amd::{Control, Info, Status, control, info};
 use amd_testing::check;
-use amd_testing::writers::{Fault, Faulty, Slow};
+use amd_testing::writers::{Faulty, Slow, WriterFault};
 use std::alloc::Global;
 use std::io;
 use std::io::{ErrorKind, Write};
@@ -341,7 +341,7 @@ fn both_with_fault(
     rt: &impl Abort,
     alloc: Global,
     written: &Written,
-    (fault, kind): (Fault, Option<ErrorKind>),
+    (fault, kind): (WriterFault, Option<ErrorKind>),
     fault_at: u64,
 ) -> bool {
     let mut out = Faulty::new(Vec::new(alloc), fault, fault_at);
@@ -361,7 +361,7 @@ fn check_each_call(
     rt: &impl Abort,
     alloc: Global,
     written: &Written,
-    fault: (Fault, Option<ErrorKind>),
+    fault: (WriterFault, Option<ErrorKind>),
 ) {
     let mut faults = 0;
     for fault_at in 1..MANY {
@@ -377,10 +377,10 @@ fn check_each_call(
 fn each_call_to_a_writer(rt: HostRuntime) {
     for written in &both_kinds() {
         for fault in [
-            (Fault::Fails, Some(ErrorKind::Other)),
-            (Fault::TakesNothing, Some(ErrorKind::WriteZero)),
-            (Fault::TakesOne, None),
-            (Fault::Interrupted, None),
+            (WriterFault::Fails, Some(ErrorKind::Other)),
+            (WriterFault::TakesNothing, Some(ErrorKind::WriteZero)),
+            (WriterFault::TakesOne, None),
+            (WriterFault::Interrupted, None),
         ] {
             check_each_call(&rt, rt.alloc(), written, fault);
         }

@@ -9,7 +9,7 @@ use std::process::Abort;
 
 /// A matrix, an order of its rows, a room, and the factor under that order.
 #[derive(Drop)]
-pub struct Case<'a> {
+pub struct FactorCase<'a> {
     pub what: &'a str,
     pub n: i64,
     pub a_p: &'a [i64],
@@ -22,7 +22,7 @@ pub struct Case<'a> {
 }
 
 /// A four-cycle under the order that the ordering gives it.
-pub static FOUR_CYCLE: Case<'static> = Case {
+pub static FOUR_CYCLE: FactorCase<'static> = FactorCase {
     what: "a four-cycle",
     n: 4,
     a_p: &[0, 2, 3, 4, 4],
@@ -35,8 +35,8 @@ pub static FOUR_CYCLE: Case<'static> = Case {
 };
 
 /// Worked matrices. In some of them the room is more than is needed.
-pub static WORKED: [Case<'static>; 8] = [
-    Case {
+pub static WORKED: [FactorCase<'static>; 8] = [
+    FactorCase {
         what: "five rows, one entry without its mirror",
         n: 5,
         a_p: &[0, 2, 6, 10, 12, 14],
@@ -47,7 +47,7 @@ pub static WORKED: [Case<'static>; 8] = [
         rows: &[4, 2, 3, 4, 4],
         parent: &[Some(4), Some(2), Some(3), Some(4), None],
     },
-    Case {
+    FactorCase {
         what: "no rows",
         n: 0,
         a_p: &[],
@@ -58,7 +58,7 @@ pub static WORKED: [Case<'static>; 8] = [
         rows: &[],
         parent: &[],
     },
-    Case {
+    FactorCase {
         what: "no rows, and pointers that are no column form",
         n: 0,
         a_p: &[7],
@@ -69,7 +69,7 @@ pub static WORKED: [Case<'static>; 8] = [
         rows: &[],
         parent: &[],
     },
-    Case {
+    FactorCase {
         what: "one row with an entry on its diagonal, and numbers behind the end",
         n: 1,
         a_p: &[0, 1, 7],
@@ -80,7 +80,7 @@ pub static WORKED: [Case<'static>; 8] = [
         rows: &[],
         parent: &[None],
     },
-    Case {
+    FactorCase {
         what: "one edge and an empty row, which stands first",
         n: 3,
         a_p: &[0, 1, 1, 1],
@@ -91,7 +91,7 @@ pub static WORKED: [Case<'static>; 8] = [
         rows: &[2],
         parent: &[None, Some(2), None],
     },
-    Case {
+    FactorCase {
         what: "one edge by repeated entries above the diagonal",
         n: 2,
         a_p: &[0, 0, 3],
@@ -102,7 +102,7 @@ pub static WORKED: [Case<'static>; 8] = [
         rows: &[1],
         parent: &[Some(1), None],
     },
-    Case {
+    FactorCase {
         what: "a path, whose middle row stands first and joins the ends",
         n: 3,
         a_p: &[0, 1, 2, 2],
@@ -113,7 +113,7 @@ pub static WORKED: [Case<'static>; 8] = [
         rows: &[1, 2, 2],
         parent: &[Some(1), Some(2), None],
     },
-    Case {
+    FactorCase {
         what: "a path, whose middle row stands last",
         n: 3,
         a_p: &[0, 1, 2, 2],
@@ -127,7 +127,7 @@ pub static WORKED: [Case<'static>; 8] = [
 ];
 
 /// Asserts that a factor is that of a case.
-pub fn check_factor<A: Allocator>(rt: &impl Abort, case: &Case, factor: &Factor<A>) {
+pub fn check_factor<A: Allocator>(rt: &impl Abort, case: &FactorCase, factor: &Factor<A>) {
     let lists_are = factor.ptr.as_slice() == case.ptr && factor.rows.as_slice() == case.rows;
     check!(rt; lists_are && factor.parent.as_slice() == case.parent, case.what);
 }
