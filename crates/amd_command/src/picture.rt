@@ -15,7 +15,7 @@ use amd::Status;
 use amd::valid::valid;
 use amd_market::reader::Matrix;
 use amd_symbolic::counts;
-use amd_symbolic::neighbours::{Lists, earlier_lists};
+use amd_symbolic::neighbours::{NeighbourLists, earlier_lists};
 use amd_symbolic::places::places;
 use std::alloc::{AllocError, Allocator};
 use std::io;
@@ -167,7 +167,7 @@ fn mark_fill<A: Allocator>(
 
 /// Marks the edges and the fill, row by row.
 fn mark_rows<A: Allocator>(
-    lists: &Lists<A>,
+    lists: &NeighbourLists<A>,
     symmetric: bool,
     walk: &mut Walk<'_, A>,
     picture: &mut Picture<A>,

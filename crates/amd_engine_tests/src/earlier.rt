@@ -3,7 +3,7 @@
 // lists were worked by hand.
 
 use amd_input::valid::valid;
-use amd_symbolic::neighbours::{Lists, earlier_lists, later_lists};
+use amd_symbolic::neighbours::{NeighbourLists, earlier_lists, later_lists};
 use amd_symbolic::places::places;
 use amd_testing::check;
 use amd_testing::refusing::{Refusing, each_refused};
@@ -80,7 +80,7 @@ fn lists_of<A: Allocator + Copy>(
     rt: &impl Abort,
     alloc: A,
     case: &NeighbourCase,
-) -> Result<(Lists<A>, Lists<A>), AllocError> {
+) -> Result<(NeighbourLists<A>, NeighbourLists<A>), AllocError> {
     let (n, a_p, a_i) = (case.n, case.a_p, case.a_i);
     let Some(size) = to_count(n) else {
         panic!(rt; "a negative number of rows");
@@ -95,7 +95,7 @@ fn lists_of<A: Allocator + Copy>(
 }
 
 /// Whether the lists are these. They are sorted to see it.
-fn are_lists<A: Allocator>(wanted: &[&[usize]], lists: &mut Lists<A>) -> bool {
+fn are_lists<A: Allocator>(wanted: &[&[usize]], lists: &mut NeighbourLists<A>) -> bool {
     let mut end = 0usize;
     for (k, want) in wanted.iter().enumerate() {
         let begin = end;
@@ -115,7 +115,7 @@ fn are_lists<A: Allocator>(wanted: &[&[usize]], lists: &mut Lists<A>) -> bool {
 }
 
 /// Asserts that the lists are those of a case.
-fn check<A: Allocator>(rt: &impl Abort, case: &NeighbourCase, lists: &mut (Lists<A>, Lists<A>)) {
+fn check<A: Allocator>(rt: &impl Abort, case: &NeighbourCase, lists: &mut (NeighbourLists<A>, NeighbourLists<A>)) {
     let (earlier, later) = lists;
     check!(rt; are_lists(case.earlier, earlier), case.what);
     check!(rt; are_lists(case.later, later), case.what);

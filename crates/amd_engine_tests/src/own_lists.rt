@@ -3,7 +3,7 @@
 
 ghost use Rattle.std.specs.Prelude.{◌≡◌};
 
-use crate::in_place_matrices::{Case, MATRICES};
+use crate::in_place_matrices::{EngineCase, MATRICES};
 use crate::in_place_rows::{control_of, is_answer, matrix_of};
 use crate::laid::laid_of;
 use crate::sorted::Sorted;
@@ -42,7 +42,7 @@ fn cells_of(rt: &impl Abort, alloc: Global, cells: &[Cell<usize>]) -> Vec<usize>
 
 /// What `amd_2` returns: numbers of rows, the permutation, and its inverse.
 #[derive(Drop)]
-pub struct Listed {
+pub struct ListedRows {
     pub blocks: Vec<i64>,
     pub p_inv: Vec<i64>,
     pub p: Vec<i64>,
@@ -56,7 +56,7 @@ pub fn order_numbers(
     matrix: &Sorted,
     control: &Control,
     info: &mut Info,
-) -> Listed {
+) -> ListedRows {
     let n = matrix.n;
     let laid = laid_of::<isize, usize>(rt, alloc, n, matrix.a_p, matrix.a_i, 0, info);
     let mut pe = words_of(rt, alloc, &laid.pe);
@@ -68,7 +68,7 @@ pub fn order_numbers(
     ) else {
         panic!(rt; "no answer over numbers");
     };
-    Listed {
+    ListedRows {
         blocks,
         p_inv,
         p,
@@ -87,7 +87,7 @@ fn are_counts(counts: &[i64], wanted: &[isize]) -> bool {
 }
 
 /// Asserts that `amd_2` gives the answer of a case.
-fn check_case(rt: &impl Abort, alloc: Global, case: &Case) {
+fn check_case(rt: &impl Abort, alloc: Global, case: &EngineCase) {
     let mut info = Info::new(0);
     let answer = order_numbers(rt, alloc, &matrix_of(case), &control_of(case), &mut info);
     check!(rt; is_answer(case, &answer.p, &answer.p_inv, &info), case.what);

@@ -18,11 +18,11 @@ use std::alloc::Allocator;
 
 /// The number of arcs of each row.
 #[derive(Drop)]
-struct Counts<A: Allocator> {
+struct DegreeCounter<A: Allocator> {
     degrees: Vec<usize, A>,
 }
 
-impl<A: Allocator> Visitor for Counts<A> {
+impl<A: Allocator> Visitor for DegreeCounter<A> {
     ghost holds = { λ g seen arcs v. AreCounts g seen v.degrees.items };
 
     ghost runs = { λ g seen arcs j mark v. AreCounts g seen (slice_set v.degrees.items j mark) };
@@ -102,7 +102,7 @@ pub fn aat<I: PrimInt, A: Allocator + Copy>(
     let entries = count_at(a_p, size);
     let mut next = Vec::with_capacity(alloc, size)?;
     let degrees = vec![in alloc; 0; size]?;
-    let mut counts = Counts { degrees };
+    let mut counts = DegreeCounter { degrees };
     let diagonals = walk(size, a_p, a_i, &mut next, &mut counts);
     let Some(sum) = total(&counts.degrees) else {
         return Err(Status::OutOfMemory);

@@ -12,7 +12,7 @@ use num_traits::PrimInt;
 
 /// What takes the arcs of an order of `n` rows, one at a time. What holds of it speaks of `n`, of all arcs that it is
 /// to take, and of those that it took, the last one first.
-pub trait Visitor {
+pub trait ArcVisitor {
     ghost holds: { ℕ → List (ℕ × ℕ) → List (ℕ × ℕ) → Self → Type 0 };
 
     /// Takes the arc from the place `later` to the place `earlier`.
@@ -24,7 +24,7 @@ pub trait Visitor {
 }
 
 /// Hands on the arcs of the entries of a column, one of `size`.
-fn column<I: PrimInt, V: Visitor>(
+fn column<I: PrimInt, V: ArcVisitor>(
     size: usize,
     column: usize,
     a_p: &[I],
@@ -56,7 +56,7 @@ fn column<I: PrimInt, V: Visitor>(
 
 /// Hands on the arcs of all entries of a matrix with `size` rows and columns, column by column. The matrix may have
 /// columns out of order and repeats; each repeat gives its arc again. `places` holds the place of each row.
-pub fn walk<I: PrimInt, V: Visitor>(
+pub fn walk<I: PrimInt, V: ArcVisitor>(
     size: usize,
     a_p: &[I],
     a_i: &[I],

@@ -3,7 +3,7 @@
 // input or the order is none.
 
 use crate::outcome::counts::shuffle;
-use crate::outcome::worked::{Case, FOUR_CYCLE, WORKED};
+use crate::outcome::worked::{FactorCase, FOUR_CYCLE, WORKED};
 use amd::{Control, order};
 use amd_symbolic::{Fault, Supernodes, supernodes};
 use amd_testing::check;
@@ -180,7 +180,7 @@ fn supernodes_of_drawn_matrices(rt: HostRuntime) -> Result<(), Fail> {
 fn are_those_of<A: Allocator>(
     alloc: Global,
     made: &Supernodes<A>,
-    case: &Case,
+    case: &FactorCase,
 ) -> Result<bool, AllocError> {
     let mut columns = Vec::new(alloc);
     for (k, &from) in case.ptr.iter().enumerate() {
@@ -195,7 +195,7 @@ fn are_those_of<A: Allocator>(
 }
 
 /// Asks for the supernodes of a case, and says whether there was an answer.
-fn asks(rt: &impl Abort, alloc: Global, heap: &Refusing<Global>, case: &Case) -> bool {
+fn asks(rt: &impl Abort, alloc: Global, heap: &Refusing<Global>, case: &FactorCase) -> bool {
     match supernodes(heap, case.n, case.a_p, case.a_i, case.p) {
         Ok(made) => {
             check!(rt; are_those_of(alloc, &made, case) == Ok(true), case.what);
