@@ -35,7 +35,7 @@ pub struct Analysis<A: Allocator> {
     pub need: Need,
 }
 
-/// Orders a matrix, with the marked rows held last where there are marks, and answers the factor under the ordering
+/// Orders a matrix, with the marked rows held last where there are marks, and returns the factor under the ordering
 /// with it.
 ///
 /// # Errors

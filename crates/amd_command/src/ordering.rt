@@ -8,7 +8,7 @@ use amd::{Control, Info, Status, order_marked};
 use amd_market::reader::Matrix;
 use std::alloc::Allocator;
 
-/// Orders a matrix, with the marked rows held last where there are marks, and answers the permutation and what it
+/// Orders a matrix, with the marked rows held last where there are marks, and returns the permutation and what it
 /// tells: row `p[k]` stands at place `k`.
 ///
 /// # Errors

@@ -239,7 +239,7 @@ fn exit_status_of(error: &Error) -> u8 {
     }
 }
 
-/// Runs a command line, the first word of which is the name of the program, and answers the exit status: 0 where all
+/// Runs a command line, the first word of which is the name of the program, and returns the exit status: 0 where all
 /// was done, 1 where memory was refused or an output failed, 2 where an argument or an input is wrong, and 3 where the
 /// picture could not be drawn or written, but all else is. A message on standard error tells why it is not 0, but for
 /// an output whose reader has gone. With a

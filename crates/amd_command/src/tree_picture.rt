@@ -146,7 +146,7 @@ fn write_block<W: Write, A: Allocator>(
 }
 
 /// The first column of the block of each last column is found by going on from the first column: writes each block, and
-/// answers how many there are.
+/// returns how many there are.
 fn write_blocks<W: Write, A: Allocator>(
     parents: &[Option<usize>],
     sizes: &[usize],

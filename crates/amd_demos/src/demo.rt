@@ -191,7 +191,7 @@ fn write_permuted_plot<W: Write>(
 }
 
 /// Writes what stands behind the plots: for a sorted matrix its exact factor under the ordering, or the line of failure
-/// where there is none, and nothing for a jumbled one. Answers whether there was no failure.
+/// where there is none, and nothing for a jumbled one. Returns whether there was no failure.
 fn print_end<W: Write, A: Allocator + Copy>(
     alloc: A,
     form: Form,
@@ -213,7 +213,7 @@ fn print_end<W: Write, A: Allocator + Copy>(
 }
 
 /// Writes the record of an ordering; and where its status is the wanted one, its permutations, the permuted matrix and
-/// what stands behind it, else the line of failure. Answers whether all was written.
+/// what stands behind it, else the line of failure. Returns whether all was written.
 fn print_ordering<W: Write, A: Allocator + Copy>(
     alloc: A,
     form: Form,
@@ -240,7 +240,7 @@ fn print_ordering<W: Write, A: Allocator + Copy>(
 }
 
 /// Orders a matrix, and writes the ordering, the permuted matrix and what stands behind it. The line of failure comes
-/// where there is no ordering, its status is another, or there is no exact factor. Answers whether all was written.
+/// where there is no ordering, its status is another, or there is no exact factor. Returns whether all was written.
 fn print_outcome<W: Write, A: Allocator + Copy>(
     alloc: A,
     form: Form,
@@ -262,7 +262,7 @@ fn print_outcome<W: Write, A: Allocator + Copy>(
     }
 }
 
-/// Writes a matrix, and then its ordering. Answers whether all was written.
+/// Writes a matrix, and then its ordering. Returns whether all was written.
 fn print_demo<W: Write, A: Allocator + Copy>(
     alloc: A,
     form: Form,
@@ -282,7 +282,7 @@ fn print_demo<W: Write, A: Allocator + Copy>(
 /// factor under the ordering beside the bounds in the record. No memory is asked before it is ordered. Where there is
 /// no ordering, the line `AMD failed` ends the text in place of the ordering; where the ordering has another status
 /// than this form of a matrix is to have, that line comes after the record; and where memory is refused for the factor,
-/// it comes in place of the factor. The answer is the exit status: 0 where all was written, else 1. After a fault of
+/// it comes in place of the factor. The result is the exit status: 0 where all was written, else 1. After a fault of
 /// the writer nothing more is written.
 ///
 /// The contract speaks of the status 0 alone: what a writer holds does not tell its faults. The contract of

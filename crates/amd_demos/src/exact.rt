@@ -82,7 +82,7 @@ fn write_exact<W: Write>(ptr: &[usize], told: &Info, out: &mut W) -> io::Result<
 }
 
 /// Works out the factor of a matrix under an ordering, and writes it beside the bounds in the ordering's record; or the
-/// line of failure where there is no factor. Answers whether it was the former.
+/// line of failure where there is no factor. Returns whether it was the former.
 pub fn print_exact<W: Write, A: Allocator + Copy>(
     alloc: A,
     matrix: &DemoMatrix,

@@ -1,4 +1,4 @@
-//! The demos of the ordering, each a core that writes to a writer and answers the exit status. A program over each of
+//! The demos of the ordering, each a core that writes to a writer and returns the exit status. A program over each of
 //! them hands in standard output.
 #![tactic(auto)]
 

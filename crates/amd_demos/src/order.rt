@@ -11,7 +11,7 @@ use std::alloc::Allocator;
 use std::io::Write;
 
 /// Writes the matrix can_24, orders it, and writes the ordering, the permuted matrix, and the exact factor under the
-/// ordering beside the bounds in its record. The answer is the exit status: 0 where all was written, and 1 where there
+/// ordering beside the bounds in its record. The result is the exit status: 0 where all was written, and 1 where there
 /// is no ordering or no factor, which the line `AMD failed` says, or after a fault of the writer, when nothing more is
 /// written. What stands before the record, and between the permutations and the factor, plots among it, is not said.
 pub fn order_to<W: Write, A: Allocator + Copy>(alloc: A, out: &mut W) -> u8

@@ -23,7 +23,7 @@ fn write_ordering<W: Write>(p: &[i32], p_inv: &[i32], told: &Info, out: &mut W) 
     Ok(())
 }
 
-/// Orders a matrix, and writes the ordering, or that there is none. Answers whether it was the former.
+/// Orders a matrix, and writes the ordering, or that there is none. Returns whether it was the former.
 fn print_outcome<W: Write, A: Allocator + Copy>(
     alloc: A,
     n: i32,
@@ -51,7 +51,7 @@ fn print_outcome<W: Write, A: Allocator + Copy>(
 
 /// Orders a matrix in column form with `n` rows and sorted columns, and writes the permutation, its inverse, and what
 /// the ordering tells. Where there is no ordering, or `n` is not 0 and the columns are not sorted, the one line `AMD
-/// failed` comes in their place. The answer is the exit status: 0 where an ordering was written, else 1. After a fault
+/// failed` comes in their place. The result is the exit status: 0 where an ordering was written, else 1. After a fault
 /// of the writer nothing more is written.
 ///
 /// The contract speaks of the status 0 alone: what a writer holds does not tell its faults. The contract of

@@ -86,7 +86,7 @@ fn are_same(one: &Answer, other: &Answer) -> bool {
 }
 
 /// Asserts that there is one answer for a matrix, of which a sorted form is given too, with one choice of a caller.
-/// Answers how often lists were packed with no word to spare.
+/// Returns how often lists were packed with no word to spare.
 fn compare_choice(
     rt: &impl Abort,
     alloc: Global,
@@ -119,7 +119,7 @@ fn compare_choice(
     packings
 }
 
-/// Asserts that there is one answer with each choice of a caller, and answers how often lists were packed at least.
+/// Asserts that there is one answer with each choice of a caller, and returns how often lists were packed at least.
 fn compare_choices(
     rt: &impl Abort,
     alloc: Global,
@@ -137,7 +137,7 @@ fn compare_choices(
     least
 }
 
-/// Asserts that there is one answer for a matrix, by the sorted form that `order` takes. Answers how often lists were
+/// Asserts that there is one answer for a matrix, by the sorted form that `order` takes. Returns how often lists were
 /// packed at least.
 fn compare(rt: &impl Abort, alloc: Global, n: i64, (a_p, a_i): (Vec<i64>, Vec<i64>)) -> usize {
     check!(rt; n > 0);

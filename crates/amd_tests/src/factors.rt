@@ -30,7 +30,7 @@ fn covers(bounds: &SearchedNeed, need: &SearchedNeed) -> bool {
         && need.d_max <= bounds.d_max
 }
 
-/// Asserts that no figure of an ordering is below what the factor under its permutation needs, and answers the factor.
+/// Asserts that no figure of an ordering is below what the factor under its permutation needs, and returns the factor.
 pub fn check_bounds(
     rt: &impl Abort,
     alloc: Global,

@@ -179,7 +179,7 @@ pub fn check_nothing_held(
     Ok(())
 }
 
-/// Adds to the rows that are chosen about a fifth of all, drawn from a seed, and answers the marks of those that were
+/// Adds to the rows that are chosen about a fifth of all, drawn from a seed, and returns the marks of those that were
 /// drawn.
 fn draw_marks(alloc: Global, seed: u64, chosen: &mut [bool]) -> Result<Vec<bool>, AllocError> {
     let mut marks = Vec::new(alloc);

@@ -45,7 +45,7 @@ pub static CHOICES: [Control; 6] = [
 ];
 
 /// Orders a matrix, and asserts that the two lists are inverse permutations with the dense rows last, and that the
-/// figures bound what the factor needs. Answers the factor and the record.
+/// figures bound what the factor needs. Returns the factor and the record.
 fn check_choice(
     rt: &impl Abort,
     alloc: Global,

@@ -108,7 +108,7 @@ fn no_rows(rt: HostRuntime) {
 }
 
 /// Runs a demo with a refused request and a writer over an array, and asserts that these parts alone are written, that
-/// the line of failure stands in the place of the others, and that nothing is left. Answers whether there was such a
+/// the line of failure stands in the place of the others, and that nothing is left. Returns whether there was such a
 /// request.
 fn check_refused(
     rt: &impl Abort,
@@ -137,7 +137,7 @@ fn check_refused(
 }
 
 /// Runs a demo with each request refused in turn, from the number `first` on and before `end`, until a run meets no
-/// refusal. Answers the number of the last request that was refused, or 0.
+/// refusal. Returns the number of the last request that was refused, or 0.
 fn check_requests(
     rt: &impl Abort,
     alloc: Global,
@@ -257,7 +257,7 @@ fn matrices_that_are_none(rt: HostRuntime) {
 }
 
 /// Runs a demo with a fault at one call to its writer, and asserts that nothing is written after it, or, where it is no
-/// failure, that all is written. Answers whether that call was made.
+/// failure, that all is written. Returns whether that call was made.
 fn check_fault(
     rt: &impl Abort,
     alloc: Global,
@@ -317,7 +317,7 @@ fn writers_with_faults(rt: HostRuntime) -> Result<(), Fail> {
     Ok(())
 }
 
-/// Runs a demo with its first request refused and a fault at one call to its writer, and answers how many calls it
+/// Runs a demo with its first request refused and a fault at one call to its writer, and returns how many calls it
 /// made.
 fn calls_without_memory(
     rt: &impl Abort,

@@ -2,7 +2,7 @@ use Rattle.std.proofs.Common.{◌<◌, ◌^◌, length, arith, rules}
 use Rattle.std.proofs.lemmas.Grind.{get_or_default_zero}
 use Rattle.amd_edges.proofs.Arcs.{count_room}
 use Rattle.amd_input.proofs.Counting.{long, other_count, run_more, mark_room}
-use Rattle.amd_input.proofs.aat.CountsVisitor.edge.Goals as goal
+use Rattle.amd_input.proofs.aat.DegreeCounterVisitor.edge.Goals as goal
 
 pub overflow_add-index_mut : goal.overflow_add-index_mut
 overflow_add-index_mut g c =

@@ -2,7 +2,7 @@ use Rattle.std.proofs.Common.{◌<◌, ◌^◌, length, arith, rules}
 use Rattle.std.proofs.lemmas.Grind.{get_or_default_zero}
 use Rattle.amd_edges.proofs.Arcs.{count_room}
 use Rattle.amd_input.proofs.Counting.{counts_more}
-use Rattle.amd_input.proofs.aat.CountsVisitor.arc.Goals as goal
+use Rattle.amd_input.proofs.aat.DegreeCounterVisitor.arc.Goals as goal
 
 pub overflow_add-index_mut : goal.overflow_add-index_mut
 overflow_add-index_mut g c =

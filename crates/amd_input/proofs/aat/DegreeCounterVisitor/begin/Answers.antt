@@ -1,7 +1,7 @@
 use Rattle.std.proofs.Common.{arith, ◌∙◌, sym, ap, set, subst}
 use Rattle.std.proofs.lemmas.List.{set-get_or}
 use Rattle.amd_edges.specs.Visits.{AreCounts}
-use Rattle.amd_input.proofs.aat.CountsVisitor.begin.Goals as goal
+use Rattle.amd_input.proofs.aat.DegreeCounterVisitor.begin.Goals as goal
 
 pub index-requires : goal.index-requires
 index-requires g c = let r = c.requires in let s = r.3.size in let j = r.4 in omega (arith, s, j)
