@@ -16,7 +16,7 @@ use std::alloc::{AllocError, Allocator};
 /// After the rounds `head` and `hash` are room for the listing, and `degree` and `w` for the permutation and its
 /// inverse as words.
 #[derive(Drop)]
-pub struct FreshLists<I: PrimInt, S: Signed, U: Unsigned, A: Allocator> {
+pub struct Lists<I: PrimInt, S: Signed, U: Unsigned, A: Allocator> {
     /// The number of rows of each class, and at the end that of each block.
     pub nv: Vec<Word<S>, A>,
     /// The number of elements of each class, and at the end the number of rows of each front.
@@ -60,13 +60,13 @@ pub fn room_for<I: PrimInt, A: Allocator>(alloc: A, count: usize) -> Result<Vec<
 pub fn fresh_lists<I: PrimInt, S: Signed, U: Unsigned, A: Allocator + Copy>(
     alloc: A,
     n: usize,
-) -> Result<FreshLists<I, S, U, A>, AllocError>
+) -> Result<Lists<I, S, U, A>, AllocError>
     requires narrow { (n ≤ S.MOST) × (n ≤ U.MOST) }
     ensures fresh { IfOk result (λ l. AreFresh n l.e_len.items l.nv.items l.degree.items l.w.items l.head.items
         (nexts l.sides.items) (lasts l.sides.items) l.hash.items) }
     ensures rows { IfOk result (λ l. (length l.p.items ≡ n) × (length l.p_inv.items ≡ n)) }
 {
-    Ok(FreshLists {
+    Ok(Lists {
         nv: words(alloc, n, n as isize)?,
         e_len: words(alloc, n, n as isize)?,
         degree: cells(alloc, n, n)?,
