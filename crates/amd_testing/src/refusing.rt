@@ -1,5 +1,6 @@
 // An allocator for tests that refuses one request for memory, and counts requests and releases. Code that answers want
-// of memory is run with each request refused in turn, and must leave nothing behind. Called by tests alone.
+// of memory is run with each request refused in turn, and must leave nothing behind. It also counts the requests of one
+// size, which tell how long a list is that nothing else shows. Called by tests alone.
 
 use std::alloc::{AllocError, Allocator, Global};
 use std::cell::Cell;
@@ -7,12 +8,22 @@ use std::cell::Cell;
 /// More requests than any call makes that a test runs with each of them refused.
 const MANY: u64 = 1000;
 
+/// The requests so far. Both counters wrap below 0.
+#[derive(Drop)]
+struct Requests {
+    // how many there are up to and with the one to refuse
+    left: Cell<u64>,
+    // the size of those that are counted apart, in bytes
+    size: usize,
+    // 0 less how many had that size
+    sized: Cell<u64>,
+}
+
 /// Hands each request on to the allocator inside, but for the one that has the chosen number. A `&` to it is an
 /// allocator that can be copied.
 pub struct Refusing<B: Allocator> {
     inner: B,
-    // how many requests there are up to and with the one to refuse; it wraps below 0
-    left: Cell<u64>,
+    requests: Requests,
     // 0 less the blocks that came back; it wraps below 0
     kept: Cell<u64>,
     refuse_at: u64,
@@ -21,9 +32,18 @@ pub struct Refusing<B: Allocator> {
 impl<B: Allocator> Refusing<B> {
     /// Refuses the request with the number `refuse_at`, counted from 1, and none where that is 0.
     pub fn new(inner: B, refuse_at: u64) -> Refusing<B> {
+        Refusing::counting(inner, refuse_at, 0)
+    }
+
+    /// As `new`, and counts the requests of exactly `size` bytes apart.
+    pub fn counting(inner: B, refuse_at: u64, size: usize) -> Refusing<B> {
         Refusing {
             inner,
-            left: Cell::new(refuse_at),
+            requests: Requests {
+                left: Cell::new(refuse_at),
+                size,
+                sized: Cell::new(0),
+            },
             kept: Cell::new(0),
             refuse_at,
         }
@@ -31,7 +51,12 @@ impl<B: Allocator> Refusing<B> {
 
     /// How many requests were made, the refused one among them.
     pub fn requests(&self) -> u64 {
-        self.refuse_at.wrapping_sub(self.left.get())
+        self.refuse_at.wrapping_sub(self.requests.left.get())
+    }
+
+    /// How many of them had the size that is counted apart.
+    pub fn of_size(&self) -> u64 {
+        0u64.wrapping_sub(self.requests.sized.get())
     }
 
     /// Whether a request was refused.
@@ -54,7 +79,7 @@ impl<B: Allocator> Drop for Refusing<B> {
     fn drop(self) {
         let Self {
             inner: _,
-            left: _,
+            requests: _,
             kept: _,
             refuse_at: _,
         } = self;
@@ -68,11 +93,19 @@ fn counts_down(counter: &Cell<u64>) -> bool {
     now != 0
 }
 
+/// Takes a request of `size` bytes, and says whether it is granted.
+fn grants(requests: &Requests, size: usize) -> bool {
+    if size == requests.size {
+        let _ = counts_down(&requests.sized);
+    }
+    counts_down(&requests.left)
+}
+
 unsafe impl<B: Allocator> Allocator for Refusing<B> {
     ghost dealloc_token = { λ heap ty ptr. B.dealloc_token heap.inner ty ptr };
 
     fn allocate(&self, size: usize, align: usize) -> Result<*mut u8, AllocError> {
-        if counts_down(&self.left) {
+        if grants(&self.requests, size) {
             return self.inner.allocate(size, align);
         }
         Err(AllocError)

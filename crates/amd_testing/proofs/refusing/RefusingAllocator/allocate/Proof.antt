@@ -38,9 +38,9 @@ use denote.Triple.Call.{calls_at}
 use Rattle.std.proofs.alloc.Shapes.{after}
 use Rattle.std.proofs.alloc.Calls.{Al, α, seen, Answer, answer_val, Answer-typed, Answer-Ok, Answer-err, takes_key, Takes, at_takes}
 use Rattle.std.proofs.alloc.Calls.{Answered, Takes-goes, Takes-gives, answers}
-use Rattle.amd_testing.proofs.Countdown.{CountsDown, at_counts_down, CountsDown-goes, CountsDown-gives}
-use Rattle.amd_testing.proofs.refusing.counts_down.Symbol as c_sym
-use Rattle.amd_testing.proofs.refusing.counts_down.Met as c_met
+use Rattle.amd_testing.proofs.Countdown.{Requests, Grants, at_grants, Grants-goes, Grants-gives}
+use Rattle.amd_testing.proofs.refusing.grants.Symbol as c_sym
+use Rattle.amd_testing.proofs.refusing.grants.Met as c_met
 use Rattle.amd_testing.specs.contracts.refusing.Refusing as wrapper
 use Rattle.amd_testing.specs.contracts.refusing.RefusingAllocator.allocate as F
 use Rattle.amd_testing.specs.contracts.refusing.RefusingAllocator.allocate.Key as key
@@ -64,7 +64,7 @@ module _ (Z : Al) where
   stayed = (stay_dropped self yes, (stay_dropped (plain (λ _. usize)) yes, (stay_dropped (plain (λ _. usize)) yes, tt)))
 
 module _ (Z : Al) {M : Type 1} {𝓤 : Ura M} (𝓛 : Logic 𝓤) (at_mem : Memory → SProp 𝓤) (run : Routine → Fun 𝓤) (𝓣 : Tables 𝓤 𝓛.H)
-    (tk : Triple 𝓤 (𝓣.C (takes_key Z)) (Takes Z 𝓛 at_mem run)) (kn : Triple 𝓤 (𝓣.C c_sym.name) (CountsDown 𝓛 at_mem run)) where
+    (tk : Triple 𝓤 (𝓣.C (takes_key Z)) (Takes Z 𝓛 at_mem run)) (kn : Triple 𝓤 (𝓣.C c_sym.name) (Grants 𝓛 at_mem run)) where
   open 𝓛 use {H}
 
   abbrev held : Clauses 𝓤 (ended Z)
@@ -86,6 +86,8 @@ module _ (Z : Al) {M : Type 1} {𝓤 : Ura M} (𝓛 : Logic 𝓤) (at_mem : Memo
         let h : Z.row.Denot = r.now.inner in
         let p : ℕ × ℕ = (r.ref_ptr.0, r.ref_ptr.1 + up (align (α Z)) 0) in
         let c : ℕ × ℕ = (r.ref_ptr.0, r.ref_ptr.1 + up 8 (up (align (α Z)) 0 + size (α Z))) in
+        let m : Requests.Denot = r.now.requests in
+        let g : (Grants 𝓛 at_mem run).Ghost = at_grants 𝓛 at_mem run κ₁ q₁ c m n in
         let y : (Takes Z 𝓛 at_mem run).Ghost = at_takes Z 𝓛 at_mem run κ₁ q₁ p h n a τ in
         let Said : Type 0 = (capped (size τ) ≡ n) × (capped (align τ) ≡ a) in
         qed 𝓛 (((‵ (flft κ₁ q₁) ⊛ ‵ (flft κ₂ q₂) ⊛ ‵ ftrue) ⊛ ‵ (owns (types_at (ended Z).signature.params bound.0.0) bound.0.3 bound.0.4))
@@ -96,11 +98,11 @@ module _ (Z : Al) {M : Type 1} {𝓤 : Ura M} (𝓛 : Logic 𝓤) (at_mem : Memo
         enter ! 𝓣.C 𝓣.Λ (here Z)
         vs _ $ alloc_all ! (λ l. pass_all ! refl ((tt, tt), ((tt, record { fits = fn }), ((tt, record { fits = fa }), tt))) $
         sets ! (addr ! (through ! refl (fld ! refl (stop !)))) refl (tt, tt) $
-        use2 𝓛 (raw ((CountsDown 𝓛 at_mem run).pre (at_counts_down 𝓛 at_mem run κ₁ q₁ c))) (CountsDown-goes 𝓛 at_mem run κ₁ q₁ c) $
-        calls_at ! (fm_of 𝓤 H 𝓛.laws 𝓣) (CountsDown 𝓛 at_mem run) kn (at_counts_down 𝓛 at_mem run κ₁ q₁ c)
-        (and_then ! (get ! refl) (no_more !)) (λ u.
+        use2 𝓛 (raw ((Grants 𝓛 at_mem run).pre g)) (Grants-goes 𝓛 at_mem run κ₁ q₁ c m n fn) $
+        calls_at ! (fm_of 𝓤 H 𝓛.laws 𝓣) (Grants 𝓛 at_mem run) kn g
+        (and_then ! (get ! refl) (and_then ! (get ! refl) (no_more !))) (λ u.
         use1 𝓛 (later (some (λ (y : Bool). given (u ≡ vbool y) (‵ (flft κ₁ q₁)))))
-        (CountsDown-gives 𝓛 at_mem run κ₁ q₁ c u) $ await ! tt $ pick !
+        (Grants-gives 𝓛 at_mem run κ₁ q₁ c m n u) $ await ! tt $ pick !
         (λ granted. learn ! (λ eu. lands_as ! eu refl (tt, tt) $ move ! (1 ∷ []) $
         let there : Env 𝓤 H = env (here Z).locals l in
         first ! $ branches ! (get ! refl)
@@ -152,5 +154,5 @@ allocate_spec 𝓤 𝓛 𝓜 𝓡 wired Y L g d d' met _ =
     (λ κs. ((λ r vs s. s.0), (uint_Tells w64, (uint_Tells w64, tt))))
     (λ κs qs bounds a τ are. walk Z 𝓛 𝓜.mem 𝓡.returns 𝓣 (met.allocate d')
     (cited 𝓤 𝓛.H _ 𝓜 𝓡 𝓡.env c_sym.name (𝓡.env c_sym.name) refl
-    (c_met.met 𝓤 𝓛 𝓜 𝓡 (code.calls-amd_testing::refusing::counts_down 𝓡.env wired))) κs.0 κs.1.0 qs.0 qs.1.0 bounds.0 a.0 a.1.0
+    (c_met.met 𝓤 𝓛 𝓜 𝓡 (code.calls-amd_testing::refusing::grants 𝓡.env wired))) κs.0 κs.1.0 qs.0 qs.1.0 bounds.0 a.0 a.1.0
     a.1.1.0 τ are.1.0.1 are.1.1.0.1)))

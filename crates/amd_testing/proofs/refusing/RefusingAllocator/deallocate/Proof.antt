@@ -109,7 +109,7 @@ module _ (Z : Al) {M : Type 1} {𝓤 : Ura M} (𝓛 : Logic 𝓤) (at_mem : Memo
     walk fn fa (block_ptr b o) =
         let h : Z.row.Denot = r.now.inner in
         let p : ℕ × ℕ = (r.ref_ptr.0, r.ref_ptr.1 + up (align (α Z)) 0) in
-        let c : ℕ × ℕ = (r.ref_ptr.0, r.ref_ptr.1 + up 8 (up 8 (up (align (α Z)) 0 + size (α Z)) + 8)) in
+        let c : ℕ × ℕ = (r.ref_ptr.0, r.ref_ptr.1 + up 8 (up 8 (up (align (α Z)) 0 + size (α Z)) + 24)) in
         let x : Ptr = block_ptr b o in
         let y : (Gives Z 𝓛 at_mem run).Ghost = at_gives Z 𝓛 at_mem run κ₁ q₁ p h b o n a τ in
         qed 𝓛 (entry x ∷ (raw (fact 𝓤 (κ₂ ⊑ Z.row.lives)) ⊛ raw (fact 𝓤 Said) ⊛ ‵ (fsep (froom τ b o) (token Z h τ x))) ∷ []) ∵
