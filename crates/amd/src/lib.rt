@@ -23,6 +23,8 @@ use amd_input::valid::valid;
 pub use amd_input::{aat, preprocess, valid};
 pub use amd_texts::{control, info};
 pub use amd_types::amd::{Control, Info, Status};
+/// Internal: how the crates over this one read a caller's numbers. It is no part of what the ordering promises.
+pub use amd_types::internal;
 use amd_types::internal::to_count;
 use num_traits::PrimInt;
 use std::alloc::Allocator;

@@ -7,7 +7,7 @@ ghost use Rattle.amd_types.specs.Counts.{counts};
 ghost use Rattle.amd_symbolic.specs.Arcs.{IsNext, arcs_before};
 ghost use Rattle.amd_symbolic.specs.Places.{ArePlaces};
 
-use amd_types::internal::count_at;
+use amd::internal::count_at;
 use num_traits::PrimInt;
 
 /// What takes the arcs of an order of `n` rows, one at a time. What holds of it speaks of `n`, of all arcs that it is

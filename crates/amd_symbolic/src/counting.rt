@@ -16,9 +16,9 @@ use crate::counted::{Counts, empty_counts, written_counts};
 use crate::factor::Fault;
 use crate::neighbours::{earlier_lists, later_lists};
 use crate::places::places;
+use amd::internal::to_count;
 use amd::valid::valid;
 use amd::{Control, Info, Status, order, order_holding};
-use amd_types::internal::to_count;
 use num_traits::PrimInt;
 use std::alloc::Allocator;
 

@@ -18,8 +18,8 @@ use crate::fill::fill;
 use crate::neighbours::later_lists;
 use crate::places::places;
 use amd::Status;
+use amd::internal::to_count;
 use amd::valid::valid;
-use amd_types::internal::to_count;
 use num_traits::PrimInt;
 use std::alloc::{AllocError, AllocFailed, Allocator};
 
@@ -169,7 +169,8 @@ fn form_columns<I: PrimInt, A: Allocator + Copy>(
 /// at, `p` must be empty, and `ptr` is `[0]`.
 ///
 /// Memory is asked for `room` entries, whatever the factor needs, and all of it before the first entry is written. The
-/// steps are as many as there are rows, entries of the matrix and entries of the factor.
+/// steps are as many as there are rows, entries of the matrix and entries of the factor, times at most the logarithm of
+/// the number of rows that are new in a column: those that it does not take over from its greatest child.
 ///
 /// # Errors
 ///

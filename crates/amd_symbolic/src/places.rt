@@ -6,7 +6,7 @@ ghost use Rattle.amd_symbolic.specs.Orders.{Permutes};
 ghost use Rattle.amd_types.specs.Counts.{counts};
 ghost use Rattle.amd_symbolic.specs.Places.{ArePlaces};
 
-use amd_types::internal::{to_count, value_at};
+use amd::internal::{to_count, value_at};
 use num_traits::PrimInt;
 use std::alloc::{AllocError, Allocator};
 

@@ -15,8 +15,8 @@ use crate::factor::Fault;
 use crate::neighbours::{earlier_lists, later_lists};
 use crate::places::places;
 use amd::Status;
+use amd::internal::to_count;
 use amd::valid::valid;
-use amd_types::internal::to_count;
 use num_traits::PrimInt;
 use std::alloc::Allocator;
 
