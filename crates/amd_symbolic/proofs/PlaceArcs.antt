@@ -119,13 +119,22 @@ module _ (s : Scene) (scene : IsScene s) (t j : ℕ) (later : List ℕ) (low : j
           (taken-keep u) (taken-new u l) (taken-split u) last plus minus met q some lowest,
     )
 
-    pub first-arc : (m : ℕ) (r : List ℕ) → m ≡ length s.up → r ≡ s.rank → slice_index last (slice_index later u) ≡ m →
-        q ≡ slice_index later u → After r
-    first-arc m r e f none is = subst After (sym f) (first (none ∙ e) is)
+    pub this-arc : (m : ℕ) (r : List ℕ) → m ≡ length s.up → r ≡ s.rank →
+        (slice_index last (slice_index later u) ≡ m → q ≡ slice_index later u) →
+        (slice_index last (slice_index later u) ≢ m → IsLowest s t (slice_index last (slice_index later u)) q) → After r
+    this-arc m r e f is lowest = elim (cases_eq (slice_index last (slice_index later u)) m) [
+      | inl none ↦ subst After (sym f) (first (none ∙ e) (is none))
+      | inr some ↦ subst After (sym f) (next (λ w. some (w ∙ sym e)) (lowest some))
+    ]
 
-    pub next-arc : (m : ℕ) (r : List ℕ) → m ≡ length s.up → r ≡ s.rank → slice_index last (slice_index later u) ≢ m →
-        IsLowest s t (slice_index last (slice_index later u)) q → After r
-    next-arc m r e f some lowest = subst After (sym f) (next (λ w. some (w ∙ sym e)) lowest)
+    -- the arc before it came from a place
+    pub before-most : slice_index last (slice_index later u) ≤ length s.up
+    before-most = elim (cases_eq (slice_index last i) (length s.up)) [
+      | inl none ↦ omega (arith, none)
+      | inr some ↦ (
+          let a = taken-arc u _ _ (met.some i (item u l).most some).0 in let low = a.later in let most = a.most in
+          omega (arith, low, most))
+    ]
 
     -- there is room for what it adds and takes
     pub plus-more : (r : List ℕ) → r ≡ s.rank → slice_index plus (slice_index r j) + 1 ≤ sum_to plus (length s.up + 1) + 1

@@ -2,7 +2,7 @@
 // the column where it meets the arc before it of the same row. Source: Gilbert, Ng and Peyton 1994. Called by
 // `sweep`.
 
-ghost use Rattle.std.specs.Prelude.{ℕ, List, ◌≡◌, ◌<◌, ◌≤◌, ◌+◌, ◌^◌, length, slice_index};
+ghost use Rattle.std.specs.Prelude.{ℕ, List, ◌≡◌, ◌≢◌, ◌<◌, ◌≤◌, ◌+◌, ◌^◌, length, slice_index};
 ghost use Rattle.amd_symbolic.specs.Meetings.{IsLowest, IsScene, Links, Met, Scene, Taken, sum_to};
 ghost use Rattle.amd_symbolic.specs.Neighbours.{AreLater};
 
@@ -22,6 +22,24 @@ fn find(start: usize, link: &mut [usize]) -> usize
         x = over;
     }
     x
+}
+
+/// Where an arc to place `i` meets the last one before it, which came from place `before`: at the lowest place over that
+/// one, or at it, that is not linked yet; or at `i` itself, where `before` is `none`, since there was no such arc.
+fn meet(i: usize, before: usize, none: usize, link: &mut [usize]) -> usize
+    ghost at: { Scene × ℕ }
+    requires scene { IsScene at.0 }
+    requires place { before ≤ length at.0.up }
+    requires links { Links at.0 at.1 link.old }
+    ensures links { Links at.0 at.1 link.new }
+    ensures first { before ≡ none → result ≡ i }
+    ensures lowest { before ≢ none → IsLowest at.0 at.1 before result }
+{
+    if before == none {
+        i
+    } else {
+        find(before, link)
+    }
 }
 
 /// Takes the arcs from place `j`, which lead to the places of `later`.
@@ -50,8 +68,7 @@ pub fn take_arcs(
     let n = last.len();
     let here = rank[j];
     'arcs: for &i in later {
-        let before = last[i];
-        let meeting = if before == n { i } else { find(before, link) };
+        let meeting = meet(i, last[i], n, link);
         let there = rank[meeting];
         plus[here] += 1;
         minus[there] += 1;

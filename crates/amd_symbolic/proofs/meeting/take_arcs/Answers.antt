@@ -1,9 +1,7 @@
-use Rattle.std.proofs.Common.{◌<◌, sym, subst, length, arith}
+use Rattle.std.proofs.Common.{◌<◌, length, arith}
 use Rattle.std.specs.Prelude.{slice_index}
-use Rattle.amd_symbolic.specs.Meetings.{IsLowest, Links}
-use Rattle.amd_symbolic.proofs.PlaceArcs.{item, taken-none, taken-all, After, first-arc, next-arc, plus-more, minus-low, minus-more, sum-more}
+use Rattle.amd_symbolic.proofs.PlaceArcs.{item, taken-none, taken-all, this-arc, plus-more, minus-low, minus-more, sum-more}
 use Rattle.amd_symbolic.proofs.meeting.take_arcs.Goals as goal
-use Rattle.amd_symbolic.proofs.meeting.take_arcs.Goals.{then-before-n, else-before-n}
 
 pub arcs-init : goal.arcs-init
 arcs-init g c =
@@ -43,7 +41,7 @@ pub overflow_add-plus : goal.overflow_add-plus
 overflow_add-plus g c =
     let q = c.requires.1.1.1 in
     let a = plus-more g.at.0 c.requires.0 g.at.1 c.args.j c.args.later.now c.requires.1.1.0 q.0 q.1.0 c.arcs.i-index c.arcs-test.true
-    c.arcs.last c.arcs.plus c.arcs.minus c.arcs.invariant.met c.if-before-n.meeting c.args.rank.now c.requires.1.0 in
+    c.arcs.last c.arcs.plus c.arcs.minus c.arcs.invariant.met c.meet-meeting.result c.args.rank.now c.requires.1.0 in
     let sum = c.arcs.invariant.sum in let room = q.1.1.1.1 in let t = c.arcs-test.true in omega (arith, a, sum, room, t)
 
 pub bounds-minus-there : goal.bounds-minus-there
@@ -51,73 +49,45 @@ bounds-minus-there g c =
     let q = c.requires.1.1.1 in
     let room = q.1.1.1.0.last_room in
     let met = c.arcs.invariant.met in
-    let after : After g.at.0 c.requires.0 g.at.1 c.args.j c.args.later.now c.requires.1.1.0 q.0 q.1.0 c.arcs.i-index c.arcs-test.true
-    c.arcs.last c.arcs.plus c.arcs.minus met c.if-before-n.meeting c.args.rank.now =
-    elim c.if-before-n.branch [
-      | then-before-n w ↦ first-arc g.at.0 c.requires.0 g.at.1 c.args.j c.args.later.now c.requires.1.1.0 q.0 q.1.0 c.arcs.i-index
-          c.arcs-test.true c.arcs.last c.arcs.plus c.arcs.minus met c.if-before-n.meeting (length c.args.last.now) c.args.rank.now room
-          c.requires.1.0 w.if-before-n.true w.meeting-is
-      | else-before-n w ↦ next-arc g.at.0 c.requires.0 g.at.1 c.args.j c.args.later.now c.requires.1.1.0 q.0 q.1.0 c.arcs.i-index
-          c.arcs-test.true c.arcs.last c.arcs.plus c.arcs.minus met c.if-before-n.meeting (length c.args.last.now) c.args.rank.now room
-          c.requires.1.0 w.if-before-n.false (subst (λ v. IsLowest g.at.0 g.at.1 (slice_index c.arcs.last (slice_index c.args.later.now c.arcs.i-index)) v) (sym w.meeting-is) w.find-meeting.ensures.lowest)
-    ] in
+    let after = this-arc g.at.0 c.requires.0 g.at.1 c.args.j c.args.later.now c.requires.1.1.0 q.0 q.1.0 c.arcs.i-index c.arcs-test.true
+    c.arcs.last c.arcs.plus c.arcs.minus met c.meet-meeting.result (length c.args.last.now) c.args.rank.now room c.requires.1.0
+    c.meet-meeting.ensures.first c.meet-meeting.ensures.lowest in
     minus-low g.at.0 c.requires.0 g.at.1 c.args.j c.args.later.now c.requires.1.1.0 q.0 q.1.0 c.arcs.i-index c.arcs-test.true
-    c.arcs.last c.arcs.plus c.arcs.minus met c.if-before-n.meeting c.args.rank.now c.requires.1.0 after.0
+    c.arcs.last c.arcs.plus c.arcs.minus met c.meet-meeting.result c.args.rank.now c.requires.1.0 after.0
 
 pub bounds-minus-there-in-arcs : goal.bounds-minus-there-in-arcs
 bounds-minus-there-in-arcs g c =
     let q = c.requires.1.1.1 in
     let room = q.1.1.1.0.last_room in
     let met = c.arcs.invariant.met in
-    let after : After g.at.0 c.requires.0 g.at.1 c.args.j c.args.later.now c.requires.1.1.0 q.0 q.1.0 c.arcs.i-index c.arcs-test.true
-    c.arcs.last c.arcs.plus c.arcs.minus met c.if-before-n.meeting c.args.rank.now =
-    elim c.if-before-n.branch [
-      | then-before-n w ↦ first-arc g.at.0 c.requires.0 g.at.1 c.args.j c.args.later.now c.requires.1.1.0 q.0 q.1.0 c.arcs.i-index
-          c.arcs-test.true c.arcs.last c.arcs.plus c.arcs.minus met c.if-before-n.meeting (length c.args.last.now) c.args.rank.now room
-          c.requires.1.0 w.if-before-n.true w.meeting-is
-      | else-before-n w ↦ next-arc g.at.0 c.requires.0 g.at.1 c.args.j c.args.later.now c.requires.1.1.0 q.0 q.1.0 c.arcs.i-index
-          c.arcs-test.true c.arcs.last c.arcs.plus c.arcs.minus met c.if-before-n.meeting (length c.args.last.now) c.args.rank.now room
-          c.requires.1.0 w.if-before-n.false (subst (λ v. IsLowest g.at.0 g.at.1 (slice_index c.arcs.last (slice_index c.args.later.now c.arcs.i-index)) v) (sym w.meeting-is) w.find-meeting.ensures.lowest)
-    ] in
+    let after = this-arc g.at.0 c.requires.0 g.at.1 c.args.j c.args.later.now c.requires.1.1.0 q.0 q.1.0 c.arcs.i-index c.arcs-test.true
+    c.arcs.last c.arcs.plus c.arcs.minus met c.meet-meeting.result (length c.args.last.now) c.args.rank.now room c.requires.1.0
+    c.meet-meeting.ensures.first c.meet-meeting.ensures.lowest in
     minus-low g.at.0 c.requires.0 g.at.1 c.args.j c.args.later.now c.requires.1.1.0 q.0 q.1.0 c.arcs.i-index c.arcs-test.true
-    c.arcs.last c.arcs.plus c.arcs.minus met c.if-before-n.meeting c.args.rank.now c.requires.1.0 after.0
+    c.arcs.last c.arcs.plus c.arcs.minus met c.meet-meeting.result c.args.rank.now c.requires.1.0 after.0
 
 pub offset_bounds-minus-there : goal.offset_bounds-minus-there
 offset_bounds-minus-there g c =
     let q = c.requires.1.1.1 in
     let room = q.1.1.1.0.last_room in
     let met = c.arcs.invariant.met in
-    let after : After g.at.0 c.requires.0 g.at.1 c.args.j c.args.later.now c.requires.1.1.0 q.0 q.1.0 c.arcs.i-index c.arcs-test.true
-    c.arcs.last c.arcs.plus c.arcs.minus met c.if-before-n.meeting c.args.rank.now =
-    elim c.if-before-n.branch [
-      | then-before-n w ↦ first-arc g.at.0 c.requires.0 g.at.1 c.args.j c.args.later.now c.requires.1.1.0 q.0 q.1.0 c.arcs.i-index
-          c.arcs-test.true c.arcs.last c.arcs.plus c.arcs.minus met c.if-before-n.meeting (length c.args.last.now) c.args.rank.now room
-          c.requires.1.0 w.if-before-n.true w.meeting-is
-      | else-before-n w ↦ next-arc g.at.0 c.requires.0 g.at.1 c.args.j c.args.later.now c.requires.1.1.0 q.0 q.1.0 c.arcs.i-index
-          c.arcs-test.true c.arcs.last c.arcs.plus c.arcs.minus met c.if-before-n.meeting (length c.args.last.now) c.args.rank.now room
-          c.requires.1.0 w.if-before-n.false (subst (λ v. IsLowest g.at.0 g.at.1 (slice_index c.arcs.last (slice_index c.args.later.now c.arcs.i-index)) v) (sym w.meeting-is) w.find-meeting.ensures.lowest)
-    ] in
+    let after = this-arc g.at.0 c.requires.0 g.at.1 c.args.j c.args.later.now c.requires.1.1.0 q.0 q.1.0 c.arcs.i-index c.arcs-test.true
+    c.arcs.last c.arcs.plus c.arcs.minus met c.meet-meeting.result (length c.args.last.now) c.args.rank.now room c.requires.1.0
+    c.meet-meeting.ensures.first c.meet-meeting.ensures.lowest in
     let l = minus-low g.at.0 c.requires.0 g.at.1 c.args.j c.args.later.now c.requires.1.1.0 q.0 q.1.0 c.arcs.i-index c.arcs-test.true
-    c.arcs.last c.arcs.plus c.arcs.minus met c.if-before-n.meeting c.args.rank.now c.requires.1.0 after.0 in omega (arith, l)
+    c.arcs.last c.arcs.plus c.arcs.minus met c.meet-meeting.result c.args.rank.now c.requires.1.0 after.0 in omega (arith, l)
 
 pub overflow_add-minus : goal.overflow_add-minus
 overflow_add-minus g c =
     let q = c.requires.1.1.1 in
     let room = q.1.1.1.0.last_room in
     let met = c.arcs.invariant.met in
-    let after : After g.at.0 c.requires.0 g.at.1 c.args.j c.args.later.now c.requires.1.1.0 q.0 q.1.0 c.arcs.i-index c.arcs-test.true
-    c.arcs.last c.arcs.plus c.arcs.minus met c.if-before-n.meeting c.args.rank.now =
-    elim c.if-before-n.branch [
-      | then-before-n w ↦ first-arc g.at.0 c.requires.0 g.at.1 c.args.j c.args.later.now c.requires.1.1.0 q.0 q.1.0 c.arcs.i-index
-          c.arcs-test.true c.arcs.last c.arcs.plus c.arcs.minus met c.if-before-n.meeting (length c.args.last.now) c.args.rank.now room
-          c.requires.1.0 w.if-before-n.true w.meeting-is
-      | else-before-n w ↦ next-arc g.at.0 c.requires.0 g.at.1 c.args.j c.args.later.now c.requires.1.1.0 q.0 q.1.0 c.arcs.i-index
-          c.arcs-test.true c.arcs.last c.arcs.plus c.arcs.minus met c.if-before-n.meeting (length c.args.last.now) c.args.rank.now room
-          c.requires.1.0 w.if-before-n.false (subst (λ v. IsLowest g.at.0 g.at.1 (slice_index c.arcs.last (slice_index c.args.later.now c.arcs.i-index)) v) (sym w.meeting-is) w.find-meeting.ensures.lowest)
-    ] in
+    let after = this-arc g.at.0 c.requires.0 g.at.1 c.args.j c.args.later.now c.requires.1.1.0 q.0 q.1.0 c.arcs.i-index c.arcs-test.true
+    c.arcs.last c.arcs.plus c.arcs.minus met c.meet-meeting.result (length c.args.last.now) c.args.rank.now room c.requires.1.0
+    c.meet-meeting.ensures.first c.meet-meeting.ensures.lowest in
     let m = minus-more g.at.0 c.requires.0 g.at.1 c.args.j c.args.later.now c.requires.1.1.0 q.0 q.1.0 c.arcs.i-index
     c.arcs-test.true
-    c.arcs.last c.arcs.plus c.arcs.minus met c.if-before-n.meeting c.args.rank.now c.requires.1.0 after.0 in
+    c.arcs.last c.arcs.plus c.arcs.minus met c.meet-meeting.result c.args.rank.now c.requires.1.0 after.0 in
     let sum = c.arcs.invariant.sum in let enough = q.1.1.1.1 in let t = c.arcs-test.true in omega (arith, m, sum, enough, t)
 
 pub arcs-preserved : goal.arcs-preserved
@@ -125,25 +95,15 @@ arcs-preserved g c =
     let q = c.requires.1.1.1 in
     let room = q.1.1.1.0.last_room in
     let met = c.arcs.invariant.met in
-    let after : After g.at.0 c.requires.0 g.at.1 c.args.j c.args.later.now c.requires.1.1.0 q.0 q.1.0 c.arcs.i-index c.arcs-test.true
-    c.arcs.last c.arcs.plus c.arcs.minus met c.if-before-n.meeting c.args.rank.now =
-    elim c.if-before-n.branch [
-      | then-before-n w ↦ first-arc g.at.0 c.requires.0 g.at.1 c.args.j c.args.later.now c.requires.1.1.0 q.0 q.1.0 c.arcs.i-index
-          c.arcs-test.true c.arcs.last c.arcs.plus c.arcs.minus met c.if-before-n.meeting (length c.args.last.now) c.args.rank.now room
-          c.requires.1.0 w.if-before-n.true w.meeting-is
-      | else-before-n w ↦ next-arc g.at.0 c.requires.0 g.at.1 c.args.j c.args.later.now c.requires.1.1.0 q.0 q.1.0 c.arcs.i-index
-          c.arcs-test.true c.arcs.last c.arcs.plus c.arcs.minus met c.if-before-n.meeting (length c.args.last.now) c.args.rank.now room
-          c.requires.1.0 w.if-before-n.false (subst (λ v. IsLowest g.at.0 g.at.1 (slice_index c.arcs.last (slice_index c.args.later.now c.arcs.i-index)) v) (sym w.meeting-is) w.find-meeting.ensures.lowest)
-    ] in
+    let after = this-arc g.at.0 c.requires.0 g.at.1 c.args.j c.args.later.now c.requires.1.1.0 q.0 q.1.0 c.arcs.i-index c.arcs-test.true
+    c.arcs.last c.arcs.plus c.arcs.minus met c.meet-meeting.result (length c.args.last.now) c.args.rank.now room c.requires.1.0
+    c.meet-meeting.ensures.first c.meet-meeting.ensures.lowest in
     record {
-      links = elim c.if-before-n.branch [
-        | then-before-n w ↦ subst (Links g.at.0 g.at.1) (sym w.link-is) c.arcs.invariant.links
-        | else-before-n w ↦ subst (Links g.at.0 g.at.1) (sym w.link-is) w.find-meeting.ensures.links
-      ];
+      links = c.meet-meeting.ensures.links;
       met = after.1;
       sum = (let m = sum-more g.at.0 c.requires.0 g.at.1 c.args.j c.args.later.now c.requires.1.1.0 q.0 q.1.0 c.arcs.i-index
           c.arcs-test.true
-          c.arcs.last c.arcs.plus c.arcs.minus met c.if-before-n.meeting c.args.rank.now c.requires.1.0 in
+          c.arcs.last c.arcs.plus c.arcs.minus met c.meet-meeting.result c.args.rank.now c.requires.1.0 in
           let sum = c.arcs.invariant.sum in omega (arith, m, sum));
     }
 

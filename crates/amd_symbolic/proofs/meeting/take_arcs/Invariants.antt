@@ -2,8 +2,8 @@ use Rattle.std.proofs.Common.{◌≡◌, ◌+◌, length}
 use Rattle.amd_symbolic.specs.Meetings.{Links, Met, TakenSome, sum_to}
 use Rattle.amd_symbolic.proofs.meeting.take_arcs.Given as goal
 
-abbrev pub ghost-find : goal.ghost-find
-ghost-find g a = g.at
+abbrev pub ghost-meet : goal.ghost-meet
+ghost-meet g a = g.at
 
 abbrev pub invariant-arcs : goal.invariant-arcs
 invariant-arcs g l = record {
