@@ -60,15 +60,6 @@ pub record Begun (owner : List ℕ) (k : ℕ) (first : List ℕ) : Type 0 where
   pub last : (i : ℕ) → i + 1 ≡ k → slice_index first (slice_index owner i + 1) ≡ k
   pub rises : (i s : ℕ) → i < k → s ≤ slice_index owner i → slice_index first s < slice_index first (s + 1)
 
-pub begun-none : (owner first : List ℕ) → slice_index first 0 ≡ 0 → Begun owner 0 first
-begun-none owner first e = record {
-  begin = e;
-  low = λ i l. absurd (omega (arith, l));
-  high = λ i l. absurd (omega (arith, l));
-  last = λ i q. absurd (omega (arith, q));
-  rises = λ i s l. absurd (omega (arith, l));
-}
-
 module _ (joined : ℕ → Type 0) (n : ℕ) (owner : List ℕ) (count : ℕ) (h : AreNumbered joined n owner count) (k : ℕ) (first : List ℕ)
     (b : Begun owner k first) (l : k < n) (room : length first ≡ count + 1) where
   pub first-in : slice_index owner k + 1 < length first

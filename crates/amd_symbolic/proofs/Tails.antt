@@ -4,7 +4,7 @@ use Rattle.std.proofs.Common.{◌++◌, ap, length, take, take_all, drop}
 use Rattle.std.specs.Prelude.{slice_index, slice_range, Contains, Option, None, Some, ◌↔◌}
 use Rattle.std.specs.List.Sorted.{IsStrictlyIncreasing}
 use Rattle.std.proofs.lemmas.Bool.{cases_Bool}
-use Rattle.std.proofs.lemmas.List.{drop_more, drop_at, take_at, take-take, take-append-le, length-append}
+use Rattle.std.proofs.lemmas.List.{drop_more, drop_at, take-take, take-append-le, length-append}
 use Rattle.std.proofs.lemmas.List.Edits.{length-between}
 use Rattle.std.proofs.lemmas.Slice.{between_is}
 use Rattle.amd_model.specs.Quotient.{has}
@@ -22,12 +22,6 @@ pub range_first : (xs : List ℕ) (i j : ℕ) → i < j → j ≤ length xs → 
 range_first xs i j low most =
     let long : j - i ≡ suc (j - (i + 1)) = omega (arith, low) in
     ap (λ n. take n (drop i xs)) long ∙ ap (λ ys. take (suc (j - (i + 1))) ys) (drop_more xs i 0 (omega (arith, low, most)))
-
--- a part in the middle
-pub range_middle : (xs ys zs : List ℕ) (i n : ℕ) → length xs ≡ i → length ys ≡ n → slice_range (xs ++ (ys ++ zs)) i (i + n) ≡ ys
-range_middle xs ys zs i n a b =
-    let size : i + n - i ≡ n = omega arith in
-    ap (λ m. take m (drop i (xs ++ (ys ++ zs)))) size ∙ ap (take n) (drop_at xs (ys ++ zs) i a) ∙ take_at ys zs n b
 
 -- what was appended
 pub range_last : (xs ys zs : List ℕ) (i j : ℕ) → zs ≡ xs ++ ys → i ≡ length xs → j ≡ length zs → slice_range zs i j ≡ ys
