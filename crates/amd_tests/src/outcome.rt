@@ -10,6 +10,7 @@ mod counts;
 mod demo_texts;
 mod demos;
 mod jumbled_texts;
+mod lengths;
 mod memory;
 mod numbers;
 mod refusals;
