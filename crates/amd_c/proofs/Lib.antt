@@ -10,3 +10,5 @@ pub mod PatternsLeft
 pub mod WalksUp
 -- What the postorder leaves, and the same in the numbers of C.
 pub mod ForestsLeft
+-- What the tests of the elimination in a caller's workspace begin with.
+mod Degrees

@@ -10,3 +10,5 @@ pub mod Counting
 pub mod Patterns
 -- What the calls for the postorder of a forest leave there.
 pub mod Forests
+-- What the call for lists in the caller's workspace leaves there.
+pub mod Laid

@@ -1,16 +1,21 @@
 // The exports for `int64_t`. Each is a thin call of `writing`, `factors` or the crate `amd`, and says its contract
 // again. Called by C.
 
-ghost use Rattle.std.specs.Prelude.{None, Some};
+ghost use Rattle.std.specs.Prelude.{◌≡◌, ◌<◌, ◌≤◌, ◌+◌, ℕ, pos, List, None, Some, length};
+ghost use Rattle.amd_model.specs.Graph.{Graph};
+ghost use Rattle.amd_workspace.specs.Laying.{IsLaidOut};
+ghost use Rattle.amd_engine.specs.InPlace.{LaysGraph};
 ghost use Rattle.amd_c.specs.Calls.{ClassifiesInput, OrdersInto, memory};
 ghost use Rattle.amd_c.specs.Columns.{ColumnsInto, arrays};
 ghost use Rattle.amd_c.specs.Counting.{CountsInto, tallies};
 ghost use Rattle.amd_c.specs.Forests.{PostorderInto};
+ghost use Rattle.amd_c.specs.Laid.{EliminatesInto, HasRowsPlaces, eliminated};
 ghost use Rattle.amd_c.specs.Patterns.{DegreesInto, RowFormInto, counted, row_arrays};
 
 use crate::counting::counts_into;
 use crate::factors::{columns_into, number_of_end};
 use crate::forests::postorder_into;
+use crate::laid::eliminate_into;
 use crate::patterns::{degrees_into, row_form_into};
 use crate::records::{Needs, Parameters, Statistics, number_of};
 use crate::writing::order_into;
@@ -247,5 +252,52 @@ pub extern "C" fn rimopaku_postorder_i64(
     ensures { PostorderInto n parent.now nv.now f_size.now order.old order.new result }
 {
     let status = postorder_into(alloc, n, parent, nv, f_size, order);
+    number_of(&status)
+}
+
+/// Eliminates the rows of lists that are laid in the caller's workspace, as `amd_2` of the crate `amd_engine`, and
+/// returns 0.
+///
+/// There is at least one row, and each array but `iw` has `n` places. The list of row `i` is the `len[i]` numbers from
+/// place `pe[i]` of `iw` on: the neighbours of the row, each once. The lists fill the first `pfree` places, and
+/// `pfree + n` is at most the length of `iw`; behind them any numbers are allowed. The number of rows of the block of
+/// each element is written into `nv`, the inverse of the permutation into `p_inv`, the permutation into `p`, the number
+/// of rows of the front of each element into `e_len`, with 0 and -1 for what is none, and the parent of each element
+/// into `pe`, with -1 for none, or else a link toward the element of the row. Of `statistics` the field `n` and those
+/// of the elimination are told, and the others are 0. See `include/rimopaku.h` for what a caller must uphold.
+///
+/// # Errors
+///
+/// -1, `OutOfMemory`, where a request for memory was refused; all but `pe`, `iw` and `len` stays as it was.
+///
+/// Source: Amestoy, Davis and Duff 1996 and 2004.
+#[unsafe(no_mangle)]
+pub extern "C" fn rimopaku_amd_2_i64(
+    alloc: Global,
+    n: i64,
+    pe: &mut [isize],
+    iw: &mut [isize],
+    len: &mut [usize],
+    pfree: usize,
+    parameters: &Parameters,
+    nv: &mut [i64],
+    p_inv: &mut [i64],
+    p: &mut [i64],
+    e_len: &mut [isize],
+    statistics: &mut Statistics,
+) -> i32
+    requires size { n ≡ pos (length len.old) }
+    requires some { 0 < length len.old }
+    requires laid { IsLaidOut (length len.old) iw.old pe.old len.old pfree }
+    requires graph { (g : Graph) × (lists : ℕ → List ℕ) × LaysGraph g lists iw.old pe.old len.old }
+    requires room { pfree + length len.old ≤ length iw.old }
+    requires places { HasRowsPlaces (length len.old) (eliminated nv.old p.old p_inv.old e_len.old statistics.old) }
+    ensures { EliminatesInto parameters.now iw.old pe.old len.old pe.new
+        (eliminated nv.old p.old p_inv.old e_len.old statistics.old)
+        (eliminated nv.new p.new p_inv.new e_len.new statistics.new) result }
+{
+    let status = eliminate_into(
+        alloc, n, pe, iw, len, pfree, parameters, nv, p_inv, p, e_len, statistics,
+    );
     number_of(&status)
 }

@@ -1,5 +1,6 @@
 //! The library as C calls it: `order`, `order_holding`, `valid`, `aat` and `preprocess` of the crate `amd`, and
-//! `columns` and `counts` of the crate `amd_symbolic`, for `int32_t` ([`int32`]) and `int64_t` ([`int64`]).
+//! `columns` and `counts` of the crate `amd_symbolic`, for `int32_t` ([`int32`]) and `int64_t` ([`int64`]); and `amd_2`
+//! of the crate `amd_engine` for `int64_t`.
 //!
 //! A slice crosses as a pointer and a length, and a record by its address. An ordering is written into the caller's
 //! arrays, and a call returns the number of a status. The header `include/rimopaku.h` says what a caller must uphold.
@@ -10,6 +11,7 @@ mod factors;
 mod forests;
 pub mod int32;
 pub mod int64;
+mod laid;
 mod patterns;
 pub mod records;
 mod writing;
@@ -31,5 +33,7 @@ pub extern "C" fn rimopaku_defaults(parameters: &mut Parameters)
     *parameters = Parameters { dense, aggressive };
 }
 
+#[cfg(test)]
+mod laid_tests;
 #[cfg(test)]
 mod tests;
