@@ -11,8 +11,8 @@
  *   - A `bool` is 0 or 1.
  *   - malloc, realloc and free belong to one allocator, as in the C library. No function is called from a signal handler.
  *
- * Everything else is checked: the arrays and `n` may have any values. No call ends the program. Each block of memory that a call takes is
- * freed before it returns; this is tested, and not proved.
+ * Everything else is checked, except by rimopaku_amd_2_i64: the arrays and `n` may have any values. No call ends the program. Each block of
+ * memory that a call takes is freed before it returns; this is tested, and not proved.
  *
  * A matrix with n rows and n columns is passed in compressed sparse columns, called a column form: `a_p` has n + 1 numbers or more; the
  * first is 0; they never descend up to a_p[n]; a_p[n] is at most a_i_len; and column j has the rows a_i[a_p[j]] to a_i[a_p[j + 1] - 1],
@@ -176,6 +176,23 @@ int32_t rimopaku_postorder_i32(int32_t n, const int32_t *parent, size_t parent_l
                                const int32_t *f_size, size_t f_size_len, int32_t *order, size_t order_len);
 int32_t rimopaku_postorder_i64(int64_t n, const int64_t *parent, size_t parent_len, const int64_t *nv, size_t nv_len,
                                const int64_t *f_size, size_t f_size_len, int64_t *order, size_t order_len);
+
+/* Eliminates the rows of a symmetric pattern in the caller's workspace, and lists them. List i is the len[i] rows from iw[pe[i]] on: the
+ * neighbours of row i. Of SuiteSparse's AMD this is amd_2, without an array for its own use, and what it takes is not tested. So the caller
+ * must uphold more than the head of this file says:
+ *
+ *   - n is at least 1; pe_len, len_len, nv_len, p_inv_len, p_len and e_len_len are n; and pfree + n is at most iw_len.
+ *   - Each pe[i] is at least 0, also where len[i] is 0. No two lists share a place, and together they fill the places of iw before pfree.
+ *   - In list i each row is from 0 to n - 1, none is there twice, none is i, and i is in the list of each.
+ *
+ * Returns RIMOPAKU_OK; or RIMOPAKU_OUT_OF_MEMORY, and then nv, p_inv, p, e_len and *statistics are unchanged. What iw and len then hold is
+ * not said. Row p[k] comes at place k, and p_inv[p[k]] is k. nv[i] is the number of rows that element i eliminated, and 0 if row i is no
+ * element; e_len[i] the number of rows of its front, and -1; and pe[i] its parent in the assembly tree, or -1 for a root. If row i is no
+ * element, pe[i] is a row toward the element with which it went, or -1 if it was placed last as dense. Of *statistics n and what follows
+ * nz_a_plus_at is told, and the others are 0. */
+int32_t rimopaku_amd_2_i64(int64_t n, int64_t *pe, size_t pe_len, int64_t *iw, size_t iw_len, size_t *len, size_t len_len, size_t pfree,
+                           const struct rimopaku_parameters *parameters, int64_t *nv, size_t nv_len, int64_t *p_inv, size_t p_inv_len,
+                           int64_t *p, size_t p_len, int64_t *e_len, size_t e_len_len, struct rimopaku_statistics *statistics);
 
 #ifdef __cplusplus
 }

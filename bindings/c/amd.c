@@ -46,16 +46,19 @@ static void tell_pattern(double Info[], double n, const struct rimopaku_statisti
 }
 
 #define INT int32_t
+#define WIDTH 32
 #define CALL(name) rimopaku_##name##_i32
 #define NAME(name) amd_##name
 #define SHORT_NAME(name) amd_##name
 #include "amd_width.h"
 #undef INT
+#undef WIDTH
 #undef CALL
 #undef NAME
 #undef SHORT_NAME
 
 #define INT SuiteSparse_long
+#define WIDTH 64
 #define CALL(name) rimopaku_##name##_i64
 #define NAME(name) amd_l_##name
 #define SHORT_NAME(name) amd_l##name

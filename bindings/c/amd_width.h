@@ -16,6 +16,15 @@ static INT *NAME(array)(size_t count)
     return (INT *)malloc((count > 0 ? count : 1) * sizeof(INT));
 }
 
+/* The identity, with a status. */
+static void NAME(refuse)(INT n, INT Last[], INT Next[], double Info[], int32_t status)
+{
+    for (INT i = 0; i < n; i++)
+        Last[i] = Next[i] = i;
+    if (Info != NULL)
+        Info[AMD_STATUS] = status;
+}
+
 /* Orders a matrix into P and Pinv, and writes what amd_2 writes into Info. After an error P and Pinv hold the identity: this is a
  * permutation, and the calls that use it have no other way to tell. */
 static void NAME(order_columns)(INT n, const INT Ap[], const INT Ai[], INT P[], INT Pinv[], const double Control[], double Info[])
@@ -29,61 +38,162 @@ static void NAME(order_columns)(INT n, const INT Ap[], const INT Ai[], INT P[], 
         tell_elimination(Info, &told);
         return;
     }
-    for (INT i = 0; i < n; i++)
-        P[i] = Pinv[i] = i;
-    if (Info != NULL)
-        Info[AMD_STATUS] = status;
+    NAME(refuse)(n, P, Pinv, Info, status);
 }
 
-/* Where the lists begin in Iw if they stand there one after another from its start on, else false. */
-static bool NAME(pack)(INT n, const INT Pe[], const INT Len[], INT begins[])
+/* Where each list begins if all stand one after another, from 0 on, and how long they are in all. Returns whether they are lists: none has
+ * a negative length or place, and their length is one that this width can count. */
+static bool NAME(count)(INT n, const INT Pe[], const INT Len[], INT begins[])
 {
-    bool packed = true;
-    INT next = 0;
+    const int64_t most = sizeof(INT) == sizeof(int32_t) ? INT32_MAX : (int64_t)1 << 56;
+    int64_t next = 0;
 
     for (INT i = 0; i < n; i++) {
-        begins[i] = next;
-        packed = packed && (Len[i] == 0 || Pe[i] == next);
+        if (Len[i] < 0 || (Len[i] > 0 && Pe[i] < 0) || Len[i] > most - next)
+            return false;
+        begins[i] = (INT)next;
         next += Len[i];
     }
-    begins[n] = next;
-    return packed;
+    begins[n] = (INT)next;
+    return true;
 }
 
-/* The identity, with a status. */
-static void NAME(refuse)(INT n, INT Last[], INT Next[], double Info[], int32_t status)
+/* The lists one after another, and how many places there are: those of Iw where they stand there so, and 64-bit integers have n places to
+ * spare; else a copy with the places that SuiteSparse's AMD asks for, which must be freed, or NULL. */
+static INT *NAME(lay)(INT n, const INT Pe[], INT Iw[], const INT Len[], INT iwlen, INT pfree, const INT begins[], size_t *places)
 {
+    bool stand = sizeof(INT) == sizeof(int32_t) || (pfree == begins[n] && iwlen >= n && iwlen - n >= pfree);
+    size_t words = (size_t)begins[n];
+    INT *copy;
+
     for (INT i = 0; i < n; i++)
-        Last[i] = Next[i] = i;
-    if (Info != NULL)
-        Info[AMD_STATUS] = status;
+        stand = stand && (Len[i] == 0 || Pe[i] == begins[i]);
+    *places = stand ? (size_t)iwlen : words + words / 5 + (size_t)n;
+    if (stand)
+        return Iw;
+    copy = NAME(array)(*places);
+    if (copy == NULL)
+        return NULL;
+    for (INT i = 0; i < n; i++)
+        if (Len[i] > 0)
+            memcpy(copy + begins[i], Iw + Pe[i], (size_t)Len[i] * sizeof(INT));
+    memset(copy + words, 0, (*places - words) * sizeof(INT));
+    return copy;
 }
 
-/* The lists are read as the columns of a matrix. Lists that stand one after another are read where they are, and others from a copy. */
+/* RIMOPAKU_OK where each list has all neighbours of its row in the pattern of all lists, each once. That is so where no row is in its own
+ * list, none is there twice, and each list is as long as its row has neighbours. `degrees` has n places. */
+static int32_t NAME(test)(INT n, const INT begins[], const INT lists[], const INT Len[], INT degrees[])
+{
+    size_t size = (size_t)n, entries = (size_t)begins[n];
+    int32_t status = CALL(valid)(n, n, begins, size + 1, lists, entries);
+    struct rimopaku_statistics told;
+    INT *rows = NULL;
+
+    if (status == RIMOPAKU_OK_BUT_JUMBLED) {
+        rows = NAME(array)(size + 1 + entries);
+        if (rows == NULL)
+            return RIMOPAKU_OUT_OF_MEMORY;
+        status = CALL(preprocess)(n, begins, size + 1, lists, entries, rows, size + 1, rows + size + 1, entries);
+        if (status == RIMOPAKU_OK && (size_t)rows[n] != entries)
+            status = RIMOPAKU_INVALID;
+        begins = rows;
+        lists = rows + size + 1;
+    }
+    if (status == RIMOPAKU_OK)
+        status = CALL(aat)(n, begins, size + 1, lists, entries, degrees, size, &told);
+    if (status == RIMOPAKU_OK && (told.nz_diag > 0 || memcmp(degrees, Len, size * sizeof(INT)) != 0))
+        status = RIMOPAKU_INVALID;
+    free(rows);
+    return status;
+}
+
+#if WIDTH == 64
+/* Eliminates the rows of lists that passed the test, in their own places. `begins` is used up. */
+static int32_t NAME(eliminate)(INT n, INT begins[], INT lists[], size_t places, INT Len[], INT Pe[], INT Nv[], INT Next[], INT Last[],
+                               INT Elen[], const struct rimopaku_parameters *parameters, struct rimopaku_statistics *told)
+{
+    size_t size = (size_t)n, words = (size_t)begins[n];
+    int32_t status = rimopaku_amd_2_i64(n, begins, size, lists, places, (size_t *)Len, size, words, parameters, Nv, size, Next, size, Last,
+                                        size, Elen, size, told);
+
+    memcpy(Pe, begins, size * sizeof(INT));
+    return status;
+}
+#else
+/* Eliminates the rows of lists that passed the test, in copies of 64 bits, which are one block. */
+static int32_t NAME(eliminate)(INT n, INT begins[], INT lists[], size_t places, INT Len[], INT Pe[], INT Nv[], INT Next[], INT Last[],
+                               INT Elen[], const struct rimopaku_parameters *parameters, struct rimopaku_statistics *told)
+{
+    size_t size = (size_t)n, words = (size_t)begins[n], room = words + words / 5 + size;
+    int64_t *pe = (int64_t *)calloc(6 * size + room, sizeof(int64_t));
+    int64_t *len = pe + size, *nv = len + size, *next = nv + size, *last = next + size, *e_len = last + size, *iw = e_len + size;
+    int32_t status;
+    (void)places;
+
+    if (pe == NULL)
+        return RIMOPAKU_OUT_OF_MEMORY;
+    for (INT i = 0; i < n; i++) {
+        pe[i] = begins[i];
+        len[i] = Len[i];
+    }
+    for (size_t k = 0; k < words; k++)
+        iw[k] = lists[k];
+    status = rimopaku_amd_2_i64(n, pe, size, iw, room, (size_t *)len, size, words, parameters, nv, size, next, size, last, size, e_len,
+                                size, told);
+    for (INT i = 0; i < n && status == RIMOPAKU_OK; i++) {
+        Pe[i] = (INT)pe[i];
+        Nv[i] = (INT)nv[i];
+        Next[i] = (INT)next[i];
+        Last[i] = (INT)last[i];
+        Elen[i] = (INT)e_len[i];
+    }
+    free(pe);
+    return status;
+}
+#endif
+
+/* The forest in which each row is an element by itself. */
+static void NAME(part)(INT n, INT Pe[], INT Nv[], INT Elen[])
+{
+    for (INT i = 0; i < n; i++) {
+        Pe[i] = EMPTY;
+        Nv[i] = Elen[i] = 1;
+    }
+}
+
+/* Orders the rows of lists. Lists that are no symmetric pattern without its diagonal are ordered as the columns of a matrix: SuiteSparse's
+ * AMD tests nothing. */
 void SHORT_NAME(2)(INT n, INT Pe[], INT Iw[], INT Len[], INT iwlen, INT pfree, INT Nv[], INT Next[], INT Last[], INT Head[],
                    INT Elen[], INT Degree[], INT W[], double Control[], double Info[])
 {
-    INT *begins, *copy = NULL;
-    (void)iwlen, (void)pfree, (void)Nv, (void)Head, (void)Elen, (void)Degree, (void)W;
+    struct rimopaku_parameters parameters = rimopaku_amd_parameters(Control, n);
+    struct rimopaku_statistics told;
+    int32_t status = RIMOPAKU_OUT_OF_MEMORY;
+    INT *begins, *lists = NULL;
+    size_t places = 0;
+    (void)Head, (void)Degree, (void)W;
 
     if (n <= 0)
         return;
-    begins = NAME(array)((size_t)n + 1);
-    if (begins != NULL && !NAME(pack)(n, Pe, Len, begins)) {
-        copy = NAME(array)((size_t)begins[n]);
-        if (copy == NULL) {
-            free(begins);
-            begins = NULL;
-        } else {
-            for (INT i = 0; i < n; i++)
-                memcpy(copy + begins[i], Iw + Pe[i], (size_t)Len[i] * sizeof(INT));
-        }
+    begins = NAME(array)(2 * (size_t)n + 1);
+    if (begins != NULL && !NAME(count)(n, Pe, Len, begins))
+        status = RIMOPAKU_INVALID;
+    else if (begins != NULL && (lists = NAME(lay)(n, Pe, Iw, Len, iwlen, pfree, begins, &places)) != NULL)
+        status = NAME(test)(n, begins, lists, Len, begins + n + 1);
+    if (status == RIMOPAKU_OK)
+        status = NAME(eliminate)(n, begins, lists, places, Len, Pe, Nv, Next, Last, Elen, &parameters, &told);
+    if (status == RIMOPAKU_OK) {
+        tell_elimination(Info, &told);
+    } else {
+        NAME(part)(n, Pe, Nv, Elen);
+        if (status == RIMOPAKU_INVALID && lists != NULL)
+            NAME(order_columns)(n, begins, lists, Last, Next, Control, Info);
+        else
+            NAME(refuse)(n, Last, Next, Info, status);
     }
-    if (begins == NULL)
-        NAME(refuse)(n, Last, Next, Info, AMD_OUT_OF_MEMORY);
-    else
-        NAME(order_columns)(n, begins, copy != NULL ? copy : Iw, Last, Next, Control, Info);
-    free(copy);
+    if (lists != Iw)
+        free(lists);
     free(begins);
 }
 

@@ -154,13 +154,15 @@ RIMOPAKU_AMD_LINKAGE RIMOPAKU_AMD_LONG_STATUS amd_l_order(SuiteSparse_long n, co
                                                           SuiteSparse_long P[], double Control[], double Info[]);
 
 /* Orders the rows of a symmetric pattern that is given as lists, and is without its diagonal: list i has the rows Iw [Pe [i]] to
- * Iw [Pe [i] + Len [i] - 1], and each pair of rows stands in both lists. Last gets the permutation, and Next its inverse. Of Info the
- * places AMD_STATUS, AMD_NDENSE, and AMD_NCMPA to AMD_DMAX are written.
+ * Iw [Pe [i] + Len [i] - 1], and each pair of rows stands in both lists. Last gets the permutation, Next its inverse, and Pe, Nv and Elen
+ * the assembly tree: of each element i its parent, or -1; the number of rows that it eliminated; and that of the rows of its front. If row
+ * i is no element, Nv [i] is 0, Elen [i] -1, and Pe [i] the element with which it went, or -1 for a dense row. Of Info the places
+ * AMD_STATUS, AMD_NDENSE, and AMD_NCMPA to AMD_DMAX are written. What Iw and Len hold afterwards is not said; Head, Degree and W stay as
+ * they are.
  *
- * As in SuiteSparse's AMD the call has no status. Where malloc refuses memory, or the lists are none, Last and Next get the identity, and
- * Info [AMD_STATUS] is AMD_OUT_OF_MEMORY or AMD_INVALID. Where each list is sorted, the permutation is that of SuiteSparse's AMD; else it
- * is another one of the same kind. Pe, Iw, Len, Nv, Head, Elen, Degree and W stay as they are: SuiteSparse's AMD leaves its tree in Pe, Nv
- * and Elen. */
+ * This is what SuiteSparse's AMD leaves, and as there the call has no status. Where malloc refuses memory, or Pe and Len are no lists of
+ * rows, Last and Next get the identity, and Info [AMD_STATUS] is AMD_OUT_OF_MEMORY or AMD_INVALID. Lists that are not as above are ordered
+ * as the columns of a matrix. In both cases each row is an element by itself in Pe, Nv and Elen. SuiteSparse's AMD tests nothing. */
 void amd_2(int32_t n, int32_t Pe[], int32_t Iw[], int32_t Len[], int32_t iwlen, int32_t pfree, int32_t Nv[], int32_t Next[],
            int32_t Last[], int32_t Head[], int32_t Elen[], int32_t Degree[], int32_t W[], double Control[], double Info[]);
 void amd_l2(SuiteSparse_long n, SuiteSparse_long Pe[], SuiteSparse_long Iw[], SuiteSparse_long Len[], SuiteSparse_long iwlen,

@@ -129,6 +129,15 @@ static int32_t postorder_64(struct answer *to)
     return rimopaku_postorder_i64(ROWS, parent_64, ROWS, nv_64, ROWS, f_size_64, ROWS, to->wide, ROWS);
 }
 
+/* The lists of the same matrix, in a workspace that is laid anew for each call. */
+static int32_t lists_64(struct answer *to)
+{
+    int64_t pe[] = {0, 1, 4, 7, 8}, iw[15] = {1, 0, 2, 4, 1, 3, 4, 2, 1, 2};
+    size_t len[] = {1, 3, 3, 1, 2};
+    return rimopaku_amd_2_i64(ROWS, pe, ROWS, iw, 15, len, ROWS, 10, &(struct rimopaku_parameters){10000, true}, to->wide, ROWS,
+                              to->wide + ROWS, ROWS, to->wide + 2 * ROWS, ROWS, to->wide + 3 * ROWS, ROWS, &to->statistics);
+}
+
 /* Fills everything that a call may write. */
 static void untouch(struct answer *answer)
 {
@@ -179,5 +188,6 @@ int main(void)
     refuse_each("preprocess, 64 bits", preprocess_64);
     refuse_each("postorder, 32 bits", postorder_32);
     refuse_each("postorder, 64 bits", postorder_64);
+    refuse_each("amd_2, 64 bits", lists_64);
     return 0;
 }

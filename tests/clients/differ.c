@@ -3,7 +3,6 @@
  * or 64. The status is 1 where a count that must be 0 is not. */
 #define _GNU_SOURCE
 #include <dlfcn.h>
-#include <math.h>
 #include <stdint.h>
 #include <stdio.h>
 #include <stdlib.h>
@@ -73,9 +72,8 @@ static uint32_t draw(uint32_t bound)
 }
 
 /* What is counted. */
-static long order_differs, order_info_differs, valid_differs, aat_differs, preprocess_differs, two_differs, two_info_differs, one_differs,
-    postorder_differs, tree_differs, defaults_differ, unsorted_differ, unsorted_cases, compactions_differ;
-static double unsorted_ratio;
+static long order_differs, order_info_differs, valid_differs, aat_differs, preprocess_differs, two_differs, two_tree_differs,
+    two_info_differs, one_differs, postorder_differs, tree_differs, defaults_differ, compactions_differ;
 
 /* The matrix that is drawn: sorted columns, and as a square of marks. */
 static INT n, pointers[ROWS + 1], rows[ENTRIES];
@@ -200,13 +198,13 @@ static void try_jumbled(double *control)
     }
 }
 
-/* The lists of A + A', sorted or shuffled, packed or with gaps, through amd_2. */
+/* The lists of A + A', sorted or shuffled, packed or with gaps, with places to spare or none, through amd_2. */
 static void try_lists(double *control, int shuffled, int gaps)
 {
-    static INT begins[2][ROWS + 1], lists[2][8 * ENTRIES], lengths[2][ROWS], p[2][ROWS], p_inv[2][ROWS], work[5][ROWS];
+    static INT begins[2][ROWS], lists[2][8 * ENTRIES], lengths[2][ROWS], p[2][ROWS], p_inv[2][ROWS], nv[2][ROWS], e_len[2][ROWS],
+        work[3][ROWS];
     double info[2][INFO];
-    INT next = 0;
-    int differs;
+    INT next = 0, places;
 
     for (INT j = 0; j < n; j++) {
         for (INT gap = gaps ? (INT)draw(3) : 0; gap > 0; gap--)
@@ -222,24 +220,19 @@ static void try_lists(double *control, int shuffled, int gaps)
             lists[0][y] = held;
         }
     }
+    places = next + (draw(2) ? next / 5 : 0) + n;
     memcpy(begins[1], begins[0], sizeof begins[0]);
     memcpy(lists[1], lists[0], sizeof lists[0]);
     memcpy(lengths[1], lengths[0], sizeof lengths[0]);
     for (int k = 0; k < 2; k++) {
         for (int q = 0; q < INFO; q++)
             info[k][q] = UNTOUCHED;
-        libraries[k].two(n, begins[k], lists[k], lengths[k], next + next / 5 + n, next, work[0], p_inv[k], p[k], work[1], work[2], work[3],
-                         work[4], control, info[k]);
+        libraries[k].two(n, begins[k], lists[k], lengths[k], places, next, nv[k], p_inv[k], p[k], work[0], e_len[k], work[1], work[2],
+                         control, info[k]);
     }
-    differs = different(p[0], p[1], n) || different(p_inv[0], p_inv[1], n);
-    if (shuffled) {
-        unsorted_differ += differs;
-        unsorted_ratio += log((info[1][9] + (double)n) / (info[0][9] + (double)n));
-        unsorted_cases++;
-    } else {
-        two_differs += differs;
-        two_info_differs += info_differs(info[0], info[1]);
-    }
+    two_differs += different(p[0], p[1], n) || different(p_inv[0], p_inv[1], n);
+    two_tree_differs += different(begins[0], begins[1], n) || different(nv[0], nv[1], n) || different(e_len[0], e_len[1], n);
+    two_info_differs += info_differs(info[0], info[1]);
 }
 
 /* A drawn forest through postorder, and one of its trees through post_tree. */
@@ -297,15 +290,14 @@ int main(int count, char **arguments)
         try_jumbled(chosen);
         try_lists(chosen, 0, 0);
         try_lists(chosen, 0, 1);
-        try_lists(chosen, 1, (int)draw(2));
+        try_lists(chosen, 1, 0);
+        try_lists(chosen, 1, 1);
         try_forest();
     }
     printf("%ld matrices in %d bits; what differs: order %ld, its info %ld, valid %ld, defaults %ld, aat %ld, preprocess %ld, amd_1 %ld, "
-           "amd_2 %ld, its info %ld, postorder %ld, post_tree %ld; compactions %ld\n",
+           "amd_2 %ld, its tree %ld, its info %ld, postorder %ld, post_tree %ld; compactions %ld\n",
            rounds, WIDTH, order_differs, order_info_differs, valid_differs, defaults_differ, aat_differs, preprocess_differs, one_differs,
-           two_differs, two_info_differs, postorder_differs, tree_differs, compactions_differ);
-    printf("unsorted lists through amd_2: %ld of %ld permutations differ; entries of L, the geometric mean of the ratios: %.4f\n",
-           unsorted_differ, unsorted_cases, exp(unsorted_ratio / (double)unsorted_cases));
+           two_differs, two_tree_differs, two_info_differs, postorder_differs, tree_differs, compactions_differ);
     return order_differs + order_info_differs + valid_differs + defaults_differ + aat_differs + preprocess_differs + one_differs +
-               two_differs + two_info_differs + postorder_differs + tree_differs != 0;
+               two_differs + two_tree_differs + two_info_differs + postorder_differs + tree_differs != 0;
 }
