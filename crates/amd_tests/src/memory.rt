@@ -70,7 +70,7 @@ fn orders_holding_none(
 }
 
 /// Asserts that so many requests were refused, and that no run did wrong.
-fn check_requests(rt: &impl Abort, what: &str, refusals: Result<u64, Slip>, wanted: u64) {
+pub fn check_requests(rt: &impl Abort, what: &str, refusals: Result<u64, Slip>, wanted: u64) {
     match refusals {
         Ok(count) => assert!(rt; count == wanted, "{what}: {count} requests"),
         Err(slip) => panic!(rt; "{what}: {slip:?}"),
@@ -100,6 +100,55 @@ fn each_request_of_order(rt: HostRuntime) {
         check_order(&rt, rt.alloc(), &Control::default(), case);
     }
     check_order(&rt, rt.alloc(), &with_dense(0), &DENSE_ROW);
+}
+
+/// A matrix, and how many requests of each size in bytes its ordering makes.
+#[derive(Drop)]
+struct Sizes<'a> {
+    n: i64,
+    a_p: &'a [i64],
+    a_i: &'a [i64],
+    sizes: [(usize, u64); 4],
+}
+
+/// Nine lists have 4 bytes for each row and six have 8, of which two are for the degrees, one for the walk, and three
+/// for the rounds and the result. The workspace has 4 bytes for each of its words, which are the sum of the degrees, a
+/// fifth of it, and the number of rows. The block that is given back at once has those words, and 12 for each row.
+static SIZES: [Sizes<'static>; 2] = [
+    // 8 + 1 + 4 words
+    Sizes {
+        n: 4,
+        a_p: &[0, 2, 3, 4, 4],
+        a_i: &[1, 3, 2, 3],
+        sizes: [(16, 9), (32, 6), (4 * 13, 1), (4 * (13 + 48), 1)],
+    },
+    // 10 + 2 + 5 words
+    Sizes {
+        n: 5,
+        a_p: &[0, 2, 6, 10, 12, 14],
+        a_i: &[0, 1, 0, 1, 2, 4, 1, 2, 3, 4, 2, 3, 1, 4],
+        sizes: [(20, 9), (40, 6), (4 * 17, 1), (4 * (17 + 60), 1)],
+    },
+];
+
+/// Asserts that so many requests of this size are made for a matrix.
+fn check_size(rt: &impl Abort, alloc: Global, matrix: &Sizes, size: usize, count: u64) {
+    let heap = Refusing::counting(alloc, 0, size);
+    let is_answered = order(&heap, matrix.n, matrix.a_p, matrix.a_i, &Control::default()).is_ok();
+    assert!(rt;
+        is_answered && heap.of_size() == count,
+        "{size} bytes: {}",
+        heap.of_size()
+    );
+}
+
+#[test]
+fn sizes_of_the_requests_of_order(rt: HostRuntime) {
+    for matrix in &SIZES {
+        for (size, count) in &matrix.sizes {
+            check_size(&rt, rt.alloc(), matrix, *size, *count);
+        }
+    }
 }
 
 /// The number of requests of `order` for a path, whose rounds are nearly as many as its rows.

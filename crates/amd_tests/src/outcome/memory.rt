@@ -2,6 +2,7 @@
 // refusal answers `OutOfMemory`, and the first one without gives the answer. After each of them as many blocks came
 // back as were granted.
 
+use crate::memory::check_requests;
 use crate::outcome::worked::{FOUR_CYCLE, FactorCase, WORKED, check_factor};
 use amd::Control;
 use amd_symbolic::{Factor, Fault, analyze, analyze_holding, columns};
@@ -42,11 +43,36 @@ fn asks(rt: &impl Abort, heap: &Refusing<Global>, case: &FactorCase) -> bool {
     is_answer(rt, case, answer)
 }
 
+/// The number of requests of `columns` for a matrix with entries: the place of each row, two lists for the neighbours,
+/// and six for the factor.
+const REQUESTS: u64 = 9;
+
 #[test]
 fn each_request_of_columns(rt: HostRuntime) {
-    for case in WORKED.iter().chain([&FOUR_CYCLE]) {
+    for case in &WORKED {
         let refusals = each_refused(rt.alloc(), |heap| asks(&rt, heap, case));
         check_refusals(&rt, case.what, refusals);
+    }
+    let refusals = each_refused(rt.alloc(), |heap| asks(&rt, heap, &FOUR_CYCLE));
+    check_requests(&rt, FOUR_CYCLE.what, refusals, REQUESTS);
+}
+
+/// How many requests of each size in bytes there are for the four-cycle with room for seven entries, which one list
+/// has: four lists have a number for each row, as there are four entries, two have one more, and two have for each row
+/// a parent or none.
+static SIZES: [(usize, u64); 4] = [(4 * 8, 4), (5 * 8, 2), (7 * 8, 1), (4 * 16, 2)];
+
+#[test]
+fn sizes_of_the_requests_of_columns(rt: HostRuntime) {
+    let case = &FOUR_CYCLE;
+    for (size, count) in &SIZES {
+        let heap = Refusing::counting(rt.alloc(), 0, *size);
+        let is_answered = columns(&heap, case.n, case.a_p, case.a_i, case.p, 7).is_ok();
+        assert!(rt;
+            is_answered && heap.of_size() == *count,
+            "{size} bytes: {}",
+            heap.of_size()
+        );
     }
 }
 
@@ -116,10 +142,11 @@ fn analyzes_holding(rt: &impl Abort, heap: &Refusing<Global>) -> bool {
     }
 }
 
+/// The 17 requests before those for the columns are those of `order`.
 #[test]
 fn each_request_of_the_analyses(rt: HostRuntime) {
     let analyzing = each_refused(rt.alloc(), |heap| analyzes(&rt, heap));
-    check_refusals(&rt, "analyze", analyzing);
+    check_requests(&rt, "analyze", analyzing, 17 + REQUESTS);
     let holding = each_refused(rt.alloc(), |heap| analyzes_holding(&rt, heap));
-    check_refusals(&rt, "analyze_holding", holding);
+    check_requests(&rt, "analyze_holding", holding, 17 + REQUESTS);
 }
