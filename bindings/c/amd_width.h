@@ -62,7 +62,7 @@ static bool NAME(count)(INT n, const INT Pe[], const INT Len[], INT begins[])
  * spare; else a copy with the places that SuiteSparse's AMD asks for, which must be freed, or NULL. */
 static INT *NAME(lay)(INT n, const INT Pe[], INT Iw[], const INT Len[], INT iwlen, INT pfree, const INT begins[], size_t *places)
 {
-    bool stand = sizeof(INT) == sizeof(int32_t) || (pfree == begins[n] && iwlen >= n && iwlen - n >= pfree);
+    bool stand = Iw != NULL && (sizeof(INT) == sizeof(int32_t) || (pfree == begins[n] && iwlen >= n && iwlen - n >= pfree));
     size_t words = (size_t)begins[n];
     INT *copy;
 
