@@ -126,19 +126,26 @@ static int32_t NAME(eliminate)(INT n, INT begins[], INT lists[], size_t places, 
                                INT Elen[], const struct rimopaku_parameters *parameters, struct rimopaku_statistics *told)
 {
     size_t size = (size_t)n, words = (size_t)begins[n], room = words + words / 5 + size;
-    int64_t *pe = (int64_t *)calloc(6 * size + room, sizeof(int64_t));
-    int64_t *len = pe + size, *nv = len + size, *next = nv + size, *last = next + size, *e_len = last + size, *iw = e_len + size;
+    int64_t *pe = (int64_t *)malloc((6 * size + room) * sizeof(int64_t));
+    int64_t *len, *nv, *next, *last, *e_len, *iw;
     int32_t status;
     (void)places;
 
     if (pe == NULL)
         return RIMOPAKU_OUT_OF_MEMORY;
+    len = pe + size;
+    nv = len + size;
+    next = nv + size;
+    last = next + size;
+    e_len = last + size;
+    iw = e_len + size;
     for (INT i = 0; i < n; i++) {
         pe[i] = begins[i];
         len[i] = Len[i];
     }
     for (size_t k = 0; k < words; k++)
         iw[k] = lists[k];
+    memset(iw + words, 0, (room - words) * sizeof(int64_t));
     status = rimopaku_amd_2_i64(n, pe, size, iw, room, (size_t *)len, size, words, parameters, nv, size, next, size, last, size, e_len,
                                 size, told);
     for (INT i = 0; i < n && status == RIMOPAKU_OK; i++) {
