@@ -86,22 +86,20 @@ static INT *NAME(lay)(INT n, const INT Pe[], INT Iw[], const INT Len[], INT iwle
 static int32_t NAME(test)(INT n, const INT begins[], const INT lists[], const INT Len[], INT degrees[])
 {
     size_t size = (size_t)n, entries = (size_t)begins[n];
-    int32_t status = CALL(valid)(n, n, begins, size + 1, lists, entries);
     struct rimopaku_statistics told;
     INT *rows = NULL;
+    int32_t status = CALL(aat)(n, begins, size + 1, lists, entries, degrees, size, &told);
 
-    if (status == RIMOPAKU_OK_BUT_JUMBLED) {
+    if (status == RIMOPAKU_INVALID && CALL(valid)(n, n, begins, size + 1, lists, entries) == RIMOPAKU_OK_BUT_JUMBLED) {
         rows = NAME(array)(size + 1 + entries);
         if (rows == NULL)
             return RIMOPAKU_OUT_OF_MEMORY;
         status = CALL(preprocess)(n, begins, size + 1, lists, entries, rows, size + 1, rows + size + 1, entries);
         if (status == RIMOPAKU_OK && (size_t)rows[n] != entries)
             status = RIMOPAKU_INVALID;
-        begins = rows;
-        lists = rows + size + 1;
+        if (status == RIMOPAKU_OK)
+            status = CALL(aat)(n, rows, size + 1, rows + size + 1, entries, degrees, size, &told);
     }
-    if (status == RIMOPAKU_OK)
-        status = CALL(aat)(n, begins, size + 1, lists, entries, degrees, size, &told);
     if (status == RIMOPAKU_OK && (told.nz_diag > 0 || memcmp(degrees, Len, size * sizeof(INT)) != 0))
         status = RIMOPAKU_INVALID;
     free(rows);
