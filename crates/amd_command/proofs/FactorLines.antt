@@ -4,7 +4,6 @@ use Rattle.std.specs.Prelude.{Option, Some, None, codes, decimal, slice_index, s
 use Rattle.std.specs.Io.KnownBytes.{Appends}
 use Rattle.amd_texts.proofs.Padding.{labelled-from_format}
 use Rattle.amd_texts.proofs.Written.{Appends-then}
-use Rattle.amd_symbolic.specs.Laws.{column_size}
 use Rattle.amd_command.specs.Analyses.{bound_line, column_line, column_lines, row_at_parent}
 
 -- the line of a figure and its bound, as the format writes it
@@ -27,14 +26,14 @@ six-texts a b c d e f =
     ∙ append_assoc (a ++ b) c (d ++ (e ++ f)) ∙ append_assoc a b (c ++ (d ++ (e ++ f)))
 
 -- a writer that took the lines of the first k columns, and then the next one
-pub columns-next : (p ptr : List ℕ) (parent : List (Option ℕ)) (k row above size : ℕ) (a b c : Option (List ℕ)) →
-    row ≡ slice_index p k + 1 → above ≡ row_at_parent p (slice_index_or parent k None) → size ≡ column_size ptr k
-    → Appends a b (column_lines p ptr parent k)
+pub columns-next : (p sizes : List ℕ) (parent : List (Option ℕ)) (k row above size : ℕ) (a b c : Option (List ℕ)) →
+    row ≡ slice_index p k + 1 → above ≡ row_at_parent p (slice_index_or parent k None) → size ≡ slice_index sizes k
+    → Appends a b (column_lines p sizes parent k)
     → Appends b c (decimal row ++ (codes " " ++ (decimal above ++ (codes " " ++ (decimal size ++ codes "\n")))))
-    → Appends a c (column_lines p ptr parent (k + 1))
-columns-next p ptr parent k row above size a b c r u s first next =
+    → Appends a c (column_lines p sizes parent (k + 1))
+columns-next p sizes parent k row above size a b c r u s first next =
     let step : k + 1 ≡ suc k = omega arith in
     let whole = subst (Appends b c)
     (sym (six-texts (decimal row) (codes " ") (decimal above) (codes " ") (decimal size) (codes "\n"))) next in
-    let line : Appends b c (column_line p ptr parent k) = rw (r, u, s) at whole in
-    subst (λ m. Appends a c (column_lines p ptr parent m)) (sym step) (Appends-then a b c (column_lines p ptr parent k) _ first line)
+    let line : Appends b c (column_line p sizes parent k) = rw (r, u, s) at whole in
+    subst (λ m. Appends a c (column_lines p sizes parent m)) (sym step) (Appends-then a b c (column_lines p sizes parent k) _ first line)

@@ -3,7 +3,6 @@ use Rattle.std.specs.Prelude.{ℕ, zero, suc, ◌+◌, List, [], ◌++◌, Optio
 use Rattle.std.specs.Prelude.{slice_index_or}
 use Rattle.amd_types.specs.declared.amd.Info.{Info}
 use Rattle.amd_texts.specs.Texts.{labelled}
-use Rattle.amd_symbolic.specs.Laws.{column_size}
 use Rattle.amd_symbolic.specs.declared.needs.Need.{Need}
 use Rattle.amd_command.specs.Texts.{matrix_figures}
 
@@ -14,14 +13,14 @@ row_at_parent p (Some j) = slice_index p j + 1
 
 -- the line of column k: its row, the row of its parent, and the number of its entries
 abbrev pub column_line : List ℕ → List ℕ → List (Option ℕ) → ℕ → List ℕ
-column_line p ptr parent k =
+column_line p sizes parent k =
     decimal (slice_index p k + 1) ++ codes " " ++ decimal (row_at_parent p (slice_index_or parent k None))
-    ++ codes " " ++ decimal (column_size ptr k) ++ codes "\n"
+    ++ codes " " ++ decimal (slice_index sizes k) ++ codes "\n"
 
 -- the lines of the first k columns
 abbrev pub column_lines : List ℕ → List ℕ → List (Option ℕ) → ℕ → List ℕ
-column_lines p ptr parent zero = []
-column_lines p ptr parent (suc k) = column_lines p ptr parent k ++ column_line p ptr parent k
+column_lines p sizes parent zero = []
+column_lines p sizes parent (suc k) = column_lines p sizes parent k ++ column_line p sizes parent k
 
 -- a line of what a factor needs, and of the bound
 abbrev pub bound_line : List ℕ → ℕ → ℕ → List ℕ

@@ -1,46 +1,43 @@
-// The ordering of a matrix with the exact factor under it, and the texts of the two: a line for each column, and what
-// the factor needs beside the bounds that the ordering tells. Called by `program`.
+// The ordering of a matrix with the counts of the exact factor under it, and the texts of the two: a line for each
+// column, and what the factor needs beside the bounds that the ordering tells. Called by `answers`.
 
-ghost use Rattle.std.specs.Prelude.{◌≡◌, ◌<◌, ◌+◌, ◌^◌, ℕ, ℤ, List, None, pos, map, length, slice_index};
+ghost use Rattle.std.specs.Prelude.{◌≡◌, ◌+◌, ℤ, List, None, pos, map, length, slice_index};
 ghost use Rattle.std.specs.Prelude.{slice_index_or, IfOk, IfErr, IsTrue, OnOk};
 ghost use Rattle.std.specs.Char.{is_ascii};
 ghost use Rattle.std.specs.List.{list_all};
 ghost use Rattle.std.specs.Io.KnownBytes.{Appends};
 ghost use Rattle.std.specs.Option.{option_copied};
 ghost use Rattle.amd.specs.Answers.{IsOrderingHolding};
-ghost use Rattle.amd_symbolic.specs.Factors.{IsFactorOf, IsFaultHolding};
-ghost use Rattle.amd_symbolic.specs.Laws.{column_size};
-ghost use Rattle.amd_symbolic.specs.Needs.{IsNeed, TellSizes};
+ghost use Rattle.amd_symbolic.specs.Counted.{IsCountsOf};
+ghost use Rattle.amd_symbolic.specs.Factors.{IsFaultHolding};
 ghost use Rattle.amd_command.specs.Analyses.{bound_line, comparison_text, column_lines, need_figures, row_at_parent};
 
 use crate::figures::write_matrix_figures;
 use amd::{Control, Info};
 use amd_market::reader::Matrix;
-use amd_symbolic::needs::{Need, need_of};
-use amd_symbolic::{Factor, Fault, analyze, analyze_holding};
+use amd_symbolic::needs::Need;
+use amd_symbolic::{Counts, Fault, analyze_counts, analyze_counts_holding};
 use std::alloc::Allocator;
 use std::io;
 use std::io::Write;
 
-/// An ordering, and the exact factor under it.
+/// An ordering, and the counts of the exact factor under it.
 #[derive(Drop)]
 pub struct Analysis<A: Allocator> {
     /// The permutation: row `p[k]` stands at place `k`.
     pub p: Vec<usize, A>,
     /// What the ordering tells.
     pub info: Info,
-    /// The factor under it.
-    pub factor: Factor<A>,
-    /// What the factor needs.
-    pub need: Need,
+    /// How many entries the columns of the factor under it have, the parents, and what the factor needs.
+    pub counts: Counts<A>,
 }
 
-/// Orders a matrix, with the marked rows held last where there are marks, and returns the factor under the ordering
-/// with it.
+/// Orders a matrix, with the marked rows held last where there are marks, and returns the counts of the factor under
+/// the ordering with it. No memory is asked for the entries of the factor.
 ///
 /// # Errors
 ///
-/// Those of `analyze` and `analyze_holding`.
+/// Those of `analyze_counts` and `analyze_counts_holding`.
 pub fn analyze_matrix<A: Allocator + Copy>(
     alloc: A,
     matrix: &Matrix<A>,
@@ -50,36 +47,29 @@ pub fn analyze_matrix<A: Allocator + Copy>(
     ensures ordering { IfOk result (λ a. (q : List ℤ) ×
         IsOrderingHolding (option_copied hold.entry) (pos matrix.now.n) control.now.dense control.now.aggressive
         (map pos matrix.now.a_p.items) (map pos matrix.now.a_i.items) (map pos a.p.items) q a.info) }
-    ensures factor { IfOk result (λ a. IsFactorOf (pos matrix.now.n) (map pos matrix.now.a_p.items)
-        (map pos matrix.now.a_i.items) (map pos a.p.items) a.factor.ptr.items a.factor.rows.items
-        a.factor.parent.items) }
-    ensures need { IfOk result (λ a. (columns : List (List ℕ)) → TellSizes columns a.factor.ptr.items →
-        IsNeed columns a.need) }
+    ensures counts { IfOk result (λ a. IsCountsOf (pos matrix.now.n) (map pos matrix.now.a_p.items)
+        (map pos matrix.now.a_i.items) (map pos a.p.items) a.counts.sizes.items a.counts.parent.items
+        a.counts.need) }
     ensures fault { IfErr result (λ e. IsFaultHolding (option_copied hold.entry) (pos matrix.now.n)
         (map pos matrix.now.a_p.items) (map pos matrix.now.a_i.items) e) }
 {
     match hold {
         Some(marks) => {
-            let answer = analyze_holding(alloc, matrix.n, &matrix.a_p, &matrix.a_i, control, marks);
-            let (p, _, info, factor) = answer?;
-            let need = need_of(&factor.ptr);
-            Ok(Analysis {
-                p,
-                info,
-                factor,
-                need,
-            })
+            let answer = analyze_counts_holding(
+                alloc,
+                matrix.n,
+                &matrix.a_p,
+                &matrix.a_i,
+                control,
+                marks,
+            );
+            let (p, _, info, counts) = answer?;
+            Ok(Analysis { p, info, counts })
         }
         None => {
-            let answer = analyze(alloc, matrix.n, &matrix.a_p, &matrix.a_i, control);
-            let (p, _, info, factor) = answer?;
-            let need = need_of(&factor.ptr);
-            Ok(Analysis {
-                p,
-                info,
-                factor,
-                need,
-            })
+            let answer = analyze_counts(alloc, matrix.n, &matrix.a_p, &matrix.a_i, control);
+            let (p, _, info, counts) = answer?;
+            Ok(Analysis { p, info, counts })
         }
     }
 }
@@ -108,14 +98,11 @@ fn parent_at(parents: &[Option<usize>], k: usize) -> Option<usize>
     parents.get(k).copied().unwrap_or(None)
 }
 
-/// How many entries column `k` has, by where the columns begin and end.
-fn size_at(ptr: &[usize], k: usize) -> usize
-    requires { k + 1 < 2 ^ 64 }
-    ensures { result ≡ column_size ptr.now k }
+/// How many entries column `k` has.
+fn size_at(sizes: &[usize], k: usize) -> usize
+    ensures { result ≡ slice_index sizes.now k }
 {
-    let begin = ptr.get(k).copied().unwrap_or(0);
-    let end = ptr.get(k + 1).copied().unwrap_or(0);
-    end.saturating_sub(begin)
+    sizes.get(k).copied().unwrap_or(0)
 }
 
 /// Writes a line for each column of a factor: the row of the column, the row of its parent in the elimination tree, or
@@ -126,17 +113,17 @@ fn size_at(ptr: &[usize], k: usize) -> usize
 /// The writer's, of the first write that fails. What was written before stays written.
 pub fn write_columns<W: Write, A: Allocator>(
     p: &[usize],
-    factor: &Factor<A>,
+    counts: &Counts<A>,
     out: &mut W,
 ) -> io::Result<()>
     ensures { OnOk result (Appends (W.contents out.old) (W.contents out.new)
-        (column_lines p.now factor.now.ptr.items factor.now.parent.items (length p.now))) }
+        (column_lines p.now counts.now.sizes.items counts.now.parent.items (length p.now))) }
 {
     'columns: for k in 0..p.len() {
         let row = number_at(p, k);
-        let parent = parent_at(&factor.parent, k);
+        let parent = parent_at(&counts.parent, k);
         let above = row_at_parent(p, parent);
-        let size = size_at(&factor.ptr, k);
+        let size = size_at(&counts.sizes, k);
         writeln!(out, "{row} {above} {size}")?;
     }
     Ok(())

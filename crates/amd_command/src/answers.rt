@@ -1,7 +1,7 @@
 // The texts of the answers, made in memory before an output is written. Called by `program`, which says where they go.
 // What each function that writes a part writes is told by its contract; which parts an answer has is tested.
 
-use crate::analysis::{analyze_matrix, write_columns, write_comparison};
+use crate::analysis::{Analysis, analyze_matrix, write_columns, write_comparison};
 use crate::causes::Cause;
 use crate::compare::{Comparison, need_under, standing_order, write_comparison_lines};
 use crate::description::write_facts;
@@ -127,40 +127,23 @@ pub fn order_texts(
     })
 }
 
-/// Orders what a task has, works out the factor under the ordering, and makes the texts of that.
-pub fn analysis_texts(alloc: Global, task: &Task) -> Result<Texts, Cause> {
-    let marks = task.hold.as_deref();
-    let analysis = analyze_matrix(alloc, &task.matrix, &task.control, marks)?;
+/// Orders what a task has, counts the columns of the factor under the ordering, and makes the texts of that.
+pub fn analysis_texts(alloc: Global, task: &Task, json: bool) -> Result<Texts, Cause> {
+    let (matrix, marks) = (&task.matrix, task.hold.as_deref());
+    let Analysis { p, info, counts } = analyze_matrix(alloc, matrix, &task.control, marks)?;
+    let need = &counts.need;
     let mut lines = Vec::new(alloc);
     let mut figures = Vec::new(alloc);
-    write_columns(&analysis.p, &analysis.factor, &mut lines)?;
-    write_comparison(&analysis.need, &analysis.info, &mut figures)?;
+    if json {
+        write_analysis_json(&info, need, &p, &counts.parent, &counts.sizes, &mut lines)?;
+    } else {
+        write_columns(&p, &counts, &mut lines)?;
+        write_comparison(need, &info, &mut figures)?;
+    }
     let figures = String::from_utf8_lossy(alloc, &figures)?;
     Ok(Texts {
         lines,
         figures,
-        permuted: None,
-        tree: None,
-    })
-}
-
-/// Orders what a task has, counts the columns of the factor, and makes the text of that as JSON.
-pub fn analysis_json(alloc: Global, task: &Task) -> Result<Texts, Cause> {
-    let (p, info) = order_task(alloc, task)?;
-    let matrix = &task.matrix;
-    let counted = counts(alloc, matrix.n, &matrix.a_p, &matrix.a_i, &p)?;
-    let mut lines = Vec::new(alloc);
-    write_analysis_json(
-        &info,
-        &counted.need,
-        &p,
-        &counted.parent,
-        &counted.sizes,
-        &mut lines,
-    )?;
-    Ok(Texts {
-        lines,
-        figures: String::new(alloc),
         permuted: None,
         tree: None,
     })

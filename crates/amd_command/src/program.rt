@@ -4,7 +4,7 @@
 // come last, since they may want more memory than all before them: where one fails, all else is written.
 
 use crate::answers::{
-    Ordered, Texts, analysis_json, analysis_texts, facts_text, order_task, order_texts, two_needs,
+    Ordered, Texts, analysis_texts, facts_text, order_task, order_texts, two_needs,
 };
 use crate::causes::Cause;
 use crate::compare::{Comparison, need_under};
@@ -173,17 +173,13 @@ fn order_file<'a, R: Runtime + AllocGlobal>(
     put_pictures(rt, options, &task, &ordered)
 }
 
-/// Orders a file, and works out its factor. All memory is taken before an output is written.
+/// Orders a file, and counts the columns of its factor. All memory is taken before an output is written.
 fn analyze_file<'a, R: Runtime + AllocGlobal>(
     rt: &R,
     options: &Options<'a>,
 ) -> Result<(), Complaint<'a>> {
     let task = read_task(rt, options)?;
-    let texts = if options.json {
-        analysis_json(rt.alloc(), &task)
-    } else {
-        analysis_texts(rt.alloc(), &task)
-    };
+    let texts = analysis_texts(rt.alloc(), &task, options.json);
     put_texts(rt, options, about(options.file, texts)?)
 }
 
@@ -242,9 +238,8 @@ fn exit_status_of(error: &Error) -> u8 {
 /// Runs a command line, the first word of which is the name of the program, and returns the exit status: 0 where all
 /// was done, 1 where memory was refused or an output failed, 2 where an argument or an input is wrong, and 3 where the
 /// picture could not be drawn or written, but all else is. A message on standard error tells why it is not 0, but for
-/// an output whose reader has gone. With a
-/// status of 2, and where memory was refused with a status of 1, no output is written; lines on standard error that
-/// tell of a long file or a large matrix may stand before the message.
+/// an output whose reader has gone. With a status of 2, and where memory was refused with a status of 1, no output is
+/// written; lines on standard error that tell of a long file or a large matrix may stand before the message.
 pub fn run<R: Runtime + AllocGlobal>(rt: &R, words: &[String]) -> u8 {
     match request_of(rt.alloc(), words) {
         Ok(request) => match answer(rt, &request) {

@@ -79,7 +79,9 @@ fn a_dense_row_by_choice(rt: HostRuntime) -> Result<(), Fail> {
     assert!(&rt; p.as_slice() == ORDER.as_slice() && analysis.p.as_slice() == ORDER.as_slice());
     let mut out = Vec::new(heap);
     let is_written = write_figures(&info, &mut out).is_ok();
-    assert!(&rt; is_written && write_comparison(&analysis.need, &analysis.info, &mut out).is_ok());
+    assert!(&rt;
+        is_written && write_comparison(&analysis.counts.need, &analysis.info, &mut out).is_ok()
+    );
     assert!(&rt; out.as_slice() == FIGURES.as_bytes());
     Ok(())
 }

@@ -85,8 +85,8 @@ fn write_all_of<W: Write, A: Allocator + Copy>(alloc: A, out: &mut W) -> Result<
     write_figures(&info, out)?;
     write_facts(&facts_of(alloc, &matrix, &control)?, out)?;
     let analysis = analyze_matrix(alloc, &matrix, &control, Some(&marks))?;
-    write_columns(&analysis.p, &analysis.factor, out)?;
-    write_comparison(&analysis.need, &analysis.info, out)?;
+    write_columns(&analysis.p, &analysis.counts, out)?;
+    write_comparison(&analysis.counts.need, &analysis.info, out)?;
     write_matrix(&permuted(alloc, &matrix, &p)?, out)?;
     write_picture(alloc, &matrix, &p, false, out)
 }
@@ -135,11 +135,12 @@ fn columns_worked_by_hand(rt: HostRuntime) -> Result<(), Fail> {
         panic!(&rt; "no factor");
     };
     assert!(&rt; analysis.p.as_slice() == [0, 3, 2, 4, 1].as_slice());
-    assert!(&rt; analysis.factor.rows.as_slice() == [4, 2, 3, 4, 4].as_slice());
+    assert!(&rt; analysis.counts.sizes.as_slice() == [1, 1, 2, 1, 0].as_slice());
     let mut columns = Vec::new(rt.alloc());
     let mut figures = Vec::new(rt.alloc());
-    assert!(&rt; write_columns(&analysis.p, &analysis.factor, &mut columns).is_ok());
-    assert!(&rt; write_comparison(&analysis.need, &analysis.info, &mut figures).is_ok());
+    assert!(&rt; write_columns(&analysis.p, &analysis.counts, &mut columns).is_ok());
+    let need = &analysis.counts.need;
+    assert!(&rt; write_comparison(need, &analysis.info, &mut figures).is_ok());
     let columns = String::from_utf8_lossy(rt.alloc(), &columns)?;
     let figures = String::from_utf8_lossy(rt.alloc(), &figures)?;
     assert!(&rt; columns.as_str() == FIVE_COLUMNS && figures.as_str() == FIVE_FIGURES);

@@ -5,4 +5,4 @@ use Rattle.amd_command.proofs.analysis.write_columns.Given as goal
 
 abbrev pub invariant-columns : goal.invariant-columns
 invariant-columns g l =
-    Appends (g.W.Write.contents l.fn.out) (g.W.Write.contents l.out) (column_lines l.p l.factor.ptr.items l.factor.parent.items l.k)
+    Appends (g.W.Write.contents l.fn.out) (g.W.Write.contents l.out) (column_lines l.p l.counts.sizes.items l.counts.parent.items l.k)
