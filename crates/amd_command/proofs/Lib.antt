@@ -5,3 +5,4 @@ pub mod Placing
 pub mod Items
 pub mod ListedRows
 pub mod FactorLines
+pub mod Cells

@@ -8,6 +8,7 @@ pub mod Json
 pub mod FactorJson
 pub mod Comparisons
 pub mod Permuted
+pub mod Grids
 pub mod Pictures
 pub mod Watched
 pub mod Analyses

@@ -1,5 +1,5 @@
 // The permuted matrix: row `p[k]` and column `p[k]` of the matrix stand at place `k`; and its text, a file of the
-// Matrix Market with every entry, the rows of each column rising. Called by `program`.
+// Matrix Market with every entry, the rows of each column rising. Called by `answers`.
 
 ghost use Rattle.std.specs.Prelude.{◌≡◌, ◌++◌, flat_map, slice_index, IfOk, OnOk};
 ghost use Rattle.std.specs.Io.KnownBytes.{Appends};
@@ -25,7 +25,7 @@ fn rows_between<'a>(a_p: &[usize], a_i: &'a [usize], j: usize) -> &'a [usize]
 }
 
 /// The rows of column `j` of a matrix.
-fn rows_of<A: Allocator>(matrix: &Matrix<A>, j: usize) -> &[usize]
+pub fn rows_of<A: Allocator>(matrix: &Matrix<A>, j: usize) -> &[usize]
     ensures { result.now ≡ column_rows matrix.now.a_p.items matrix.now.a_i.items j }
 {
     rows_between(&matrix.a_p, &matrix.a_i, j)

@@ -2,15 +2,18 @@
 // that of A + A'; after, that of A + A' in the new order, the diagonal where the file has it, and in another colour the
 // fill: the entries of the factor that are no edges. Called by `program`. The entries of a row of the factor are met by
 // climbing the elimination tree from its earlier neighbours, so that no factor is held, and each falls into a cell of a
-// square of counts. Source: Liu 1986. What is drawn is tested alone.
+// square of counts. Source: Liu 1986. Contracts tell which cells the pattern of the file fills; the rest of what is
+// drawn is tested.
 
-ghost use Rattle.std.specs.Prelude.{◌-◌, pos, map, OnOk};
+ghost use Rattle.std.specs.Prelude.{◌≡◌, ◌-◌, pos, map, false, IfOk, OnOk};
 ghost use Rattle.std.specs.Io.KnownBytes.{Appends};
 ghost use Rattle.amd_model.specs.Input.Columns.{IsInput};
+ghost use Rattle.amd_command.specs.Grids.{DrawsEntries};
 ghost use Rattle.amd_command.specs.Pictures.{run_path};
 
 use crate::causes::Cause;
-use crate::grids::{Grid, LEVELS, SIDE};
+use crate::grids::{Grid, LEVELS, SIDE, entry_levels};
+use crate::permuted::rows_of;
 use amd::Status;
 use amd::valid::valid;
 use amd_market::reader::Matrix;
@@ -30,8 +33,8 @@ const FILL_COLOUR: &str = "#e07b39";
 /// The marks of a picture.
 #[derive(Drop)]
 pub struct Picture<A: Allocator> {
-    /// The entries at the places of the file.
-    before: Grid<A>,
+    /// The edges at the places of the file, where they are asked for, and the entries of the diagonal.
+    mirrored: Grid<A>,
     /// The edges at the places of the ordering, and the entries of the diagonal.
     after: Grid<A>,
     /// The entries of the factor that are no edges, and their mirrors.
@@ -55,48 +58,13 @@ struct Walk<'a, A: Allocator> {
     passed: Vec<usize, A>,
 }
 
-/// Marks an entry of the file.
-fn mark_entry<A: Allocator>(
-    row: usize,
-    column: usize,
-    place: usize,
-    symmetric: bool,
-    picture: &mut Picture<A>,
-) {
-    if row == column {
-        picture.before.mark(row, row);
-        picture.after.mark(place, place);
-    } else if !symmetric {
-        picture.before.mark(row, column);
-    }
-}
-
-/// Marks the entries of the rows of a column, which stands at a place.
-fn mark_column<A: Allocator>(
-    rows: &[usize],
-    column: usize,
-    place: usize,
-    symmetric: bool,
-    picture: &mut Picture<A>,
-) {
-    'rows: for &row in rows {
-        mark_entry(row, column, place, symmetric, picture);
-    }
-}
-
-/// Marks the entries of the file: but for the diagonal, none where the pattern of A + A' is drawn.
-fn mark_entries<A: Allocator>(
-    matrix: &Matrix<A>,
-    places: &[usize],
-    symmetric: bool,
-    picture: &mut Picture<A>,
-) {
+/// Marks the entries of the diagonal.
+fn mark_diagonal<A: Allocator>(matrix: &Matrix<A>, places: &[usize], picture: &mut Picture<A>) {
     'columns: for column in 0..matrix.n {
-        let begin = matrix.a_p.get(column).copied().unwrap_or(0);
-        let next = matrix.a_p.get(column.saturating_add(1)).copied();
-        let place = places.get(column).copied().unwrap_or(0);
-        if let Some(rows) = matrix.a_i.get(begin..next.unwrap_or(begin)) {
-            mark_column(rows, column, place, symmetric, picture);
+        if rows_of(matrix, column).contains(&column) {
+            let place = places.get(column).copied().unwrap_or(0);
+            picture.mirrored.mark(column, column);
+            picture.after.mark(place, place);
         }
     }
 }
@@ -123,7 +91,7 @@ fn mark_edges<A: Allocator>(
             picture.edges = picture.edges.saturating_add(1);
             picture.after.mark_both(j, k);
             if symmetric {
-                picture.before.mark_both(*row, *column);
+                picture.mirrored.mark_both(*row, *column);
             }
         }
     }
@@ -185,7 +153,7 @@ fn mark_rows<A: Allocator>(
 /// A picture without marks, for a matrix with so many rows.
 fn empty_picture<A: Allocator + Copy>(alloc: A, n: usize) -> Result<Picture<A>, AllocError> {
     Ok(Picture {
-        before: Grid::new(alloc, n)?,
+        mirrored: Grid::new(alloc, n)?,
         after: Grid::new(alloc, n)?,
         fill: Grid::new(alloc, n)?,
         edges: 0,
@@ -216,7 +184,7 @@ fn form_picture<A: Allocator + Copy>(
         passed: vec![in alloc; 0; n]?,
     };
     let mut picture = empty_picture(alloc, n)?;
-    mark_entries(matrix, &places, symmetric, &mut picture);
+    mark_diagonal(matrix, &places, &mut picture);
     mark_rows(&lists, symmetric, &mut walk, &mut picture);
     Ok(picture)
 }
@@ -237,6 +205,23 @@ fn picture_of<A: Allocator + Copy>(
         Status::OkButJumbled => form_picture(alloc, matrix, p, symmetric),
         _ => Err(Cause::Form),
     }
+}
+
+/// How full the cells of the panel before are: of the entries of the file, or, where it is `symmetric`, of the edges and
+/// the diagonal.
+fn before_levels<A: Allocator + Copy>(
+    alloc: A,
+    matrix: &Matrix<A>,
+    picture: &Picture<A>,
+    symmetric: bool,
+) -> Result<Vec<u8, A>, AllocError>
+    ensures { symmetric ≡ false → IfOk result (λ v.
+        DrawsEntries A matrix.now.n matrix.now.a_p.items matrix.now.a_i.items v.items) }
+{
+    if symmetric {
+        return picture.mirrored.levels(alloc);
+    }
+    entry_levels(alloc, matrix)
 }
 
 /// Writes a rectangle of one line of cells, from a cell up to another one.
@@ -377,8 +362,8 @@ pub fn write_picture<W: Write, A: Allocator + Copy>(
     out: &mut W,
 ) -> Result<(), Cause> {
     let picture = picture_of(alloc, matrix, p, symmetric)?;
-    let side = picture.before.side();
-    let before = picture.before.levels(alloc)?;
+    let side = picture.mirrored.side();
+    let before = before_levels(alloc, matrix, &picture, symmetric)?;
     let after = picture.after.levels(alloc)?;
     let fill = picture.fill.levels(alloc)?;
     write_head(out)?;
