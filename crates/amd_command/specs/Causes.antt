@@ -5,7 +5,7 @@ use Rattle.amd_market.specs.declared.faults.Fault.TheVariants as fault
 use Rattle.amd_market.specs.declared.faults.ReadError.{ReadError}
 use Rattle.amd_market.specs.declared.faults.ReadError.TheVariants.{Line, Input}
 use Rattle.amd_command.specs.declared.causes.Cause.{Cause}
-use Rattle.amd_command.specs.declared.causes.Cause.TheVariants.{Dense, Open, Twice, Text, Form, Order}
+use Rattle.amd_command.specs.declared.causes.Cause.TheVariants.{Dense, Open, Folder, Twice, Text, Form, Order}
 use Rattle.amd_command.specs.declared.causes.Cause.TheVariants.{Memory, Write, Picture}
 
 -- the exit status after a fault of a line: 1 where memory was refused, else 2
@@ -23,6 +23,7 @@ read_status (Input line e) = 2
 abbrev pub exit_status : Cause → ℕ
 exit_status Dense = 2
 exit_status (Open e) = 2
+exit_status Folder = 2
 exit_status Twice = 2
 exit_status (Text e) = read_status e
 exit_status Form = 2

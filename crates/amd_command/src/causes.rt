@@ -14,11 +14,14 @@ use thiserror::Error;
 #[derive(Debug, Drop, Error)]
 pub enum Cause {
     /// The dense row parameter is wrong.
-    #[error("the dense row parameter is no decimal number with up to three places")]
+    #[error("the dense row parameter is no decimal number with up to three places, such as 10 or 2.5")]
     Dense,
     /// A file could not be opened.
     #[error("cannot be opened: {0}")]
     Open(io::Error),
+    /// A folder is named where a file must be.
+    #[error("is a folder: name a file")]
+    Folder,
     /// An output is a file that the run reads, or writes besides.
     #[error("is named twice: an output must be a file of its own")]
     Twice,
@@ -49,7 +52,8 @@ impl Cause {
         ensures { result ≡ exit_status self.now }
     {
         match self {
-            Cause::Dense | Cause::Open(_) | Cause::Twice | Cause::Form | Cause::Order => 2,
+            Cause::Dense | Cause::Open(_) | Cause::Folder | Cause::Twice => 2,
+            Cause::Form | Cause::Order => 2,
             Cause::Text(ReadError::Line { fault, .. }) => {
                 if matches!(fault, Fault::OutOfMemory) {
                     1
@@ -80,6 +84,7 @@ impl Cause {
                 Cause::Picture(error)
             }
             Cause::Memory => Cause::Picture(io::Error::from(io::ErrorKind::OutOfMemory)),
+            Cause::Folder => Cause::Picture(io::Error::from(io::ErrorKind::IsADirectory)),
             Cause::Dense | Cause::Twice | Cause::Text(_) | Cause::Form | Cause::Order => {
                 Cause::Picture(io::Error::from(io::ErrorKind::InvalidInput))
             }

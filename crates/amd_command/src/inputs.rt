@@ -4,7 +4,7 @@
 use crate::causes::Cause;
 use crate::compare::read_rows;
 use crate::held::read_held;
-use crate::places::name_one_file;
+use crate::places::{name_one_file, names_folder};
 use crate::progress::Progress;
 use crate::request::Options;
 use crate::watched::Watched;
@@ -60,7 +60,11 @@ fn open_file<R: Runtime + AllocGlobal>(
     path: &str,
 ) -> Result<R::File, Cause> {
     let file = fs::open(rt, path).map_err(Cause::Open)?;
-    let size = file.metadata().map_err(Cause::Open)?.len();
+    let found = file.metadata().map_err(Cause::Open)?;
+    if found.is_dir() {
+        return Err(Cause::Folder);
+    }
+    let size = found.len();
     let megabytes = size >> 20;
     let stage = format_args!("rimopaku: reading {path}, {megabytes} MiB");
     progress.tell(rt, size >= LONG_FILE, stage);
@@ -132,7 +136,7 @@ fn read_hold<'a, R: Runtime + AllocGlobal>(
     }
 }
 
-/// Refuses an output that is a file that the run reads or writes besides.
+/// Refuses an output that is a folder, or a file that the run reads or writes besides.
 fn check_output<'a, R: Runtime>(
     rt: &R,
     output: Option<&'a str>,
@@ -141,6 +145,9 @@ fn check_output<'a, R: Runtime>(
     let Some(path) = output else {
         return Ok(());
     };
+    if names_folder(rt, path) {
+        return about(path, Err(Cause::Folder));
+    }
     'others: for other in others {
         if let Some(other) = *other {
             if name_one_file(rt, path, other) {
@@ -151,7 +158,7 @@ fn check_output<'a, R: Runtime>(
     Ok(())
 }
 
-/// Refuses outputs that are one file with another output or an input.
+/// Refuses outputs that are folders, or one file with another output or an input.
 fn check_outputs<'a, R: Runtime>(rt: &R, options: &Options<'a>) -> Result<(), Complaint<'a>> {
     let inputs = [Some(options.file), options.hold, options.with];
     let outputs = [

@@ -26,11 +26,41 @@ fn is_plain<R: Files>(rt: &R, path: &str) -> bool {
     }
 }
 
-/// Whether two paths name one file that is no device.
+/// Whether a path names a folder.
+pub fn names_folder<R: Files>(rt: &R, path: &str) -> bool {
+    fs::metadata(rt, path).is_ok_and(|found| found.is_dir())
+}
+
+/// The folder that a path is in, and the name that it has there.
+fn folder_and_name(path: &str) -> (&str, &str) {
+    match path.rsplit_once('/') {
+        Some(("", name)) => ("/", name),
+        Some(parts) => parts,
+        None => (".", path),
+    }
+}
+
+/// Whether two folders are one.
+fn are_one_folder<R: Files>(rt: &R, first: &str, second: &str) -> bool {
+    match (fs::metadata(rt, first), fs::metadata(rt, second)) {
+        (Ok(one), Ok(other)) => one.dev() == other.dev() && one.ino() == other.ino(),
+        _ => first == second,
+    }
+}
+
+/// Whether two paths name one place in one folder.
+fn name_one_place<R: Files>(rt: &R, first: &str, second: &str) -> bool {
+    let (one, name) = folder_and_name(first);
+    let (other, other_name) = folder_and_name(second);
+    name == other_name && are_one_folder(rt, one, other)
+}
+
+/// Whether two paths name one file that is no device, or one place where nothing is yet.
 pub fn name_one_file<R: Files>(rt: &R, first: &str, second: &str) -> bool {
     match (number_of(rt, first), number_of(rt, second)) {
         (Some(one), Some(other)) => one == other,
-        _ => first == second && is_plain(rt, first),
+        (None, None) => is_plain(rt, first) && name_one_place(rt, first, second),
+        _ => false,
     }
 }
 
@@ -49,15 +79,25 @@ fn write_beside<R: Files>(rt: &R, beside: &str, path: &str, text: &[u8]) -> Resu
     Ok(())
 }
 
-/// Writes a text to a file, which has it whole or stays as it was. What is no regular file is written to as it is.
-pub fn put_file<R: Runtime + AllocGlobal>(rt: &R, path: &str, text: &[u8]) -> Result<(), Cause> {
-    if !is_plain(rt, path) {
-        return write_through(rt, path, text);
-    }
+/// Writes a text to a regular file or to a place with no file, which has it whole or stays as it was.
+fn put_whole<R: Runtime + AllocGlobal>(rt: &R, path: &str, text: &[u8]) -> Result<(), Cause> {
     let beside = format!(in rt.alloc(); "{path}.rimopaku-part")?;
     let outcome = write_beside(rt, beside.as_str(), path, text);
     if outcome.is_err() {
         let _ = fs::remove_file(rt, beside.as_str());
     }
     outcome
+}
+
+/// Writes a text to a file, which has it whole or stays as it was. A link to a file is followed. A device or a pipe,
+/// and a link to nothing, is written to as it is.
+pub fn put_file<R: Runtime + AllocGlobal>(rt: &R, path: &str, text: &[u8]) -> Result<(), Cause> {
+    if is_plain(rt, path) {
+        return put_whole(rt, path, text);
+    }
+    if number_of(rt, path).is_none() {
+        return write_through(rt, path, text);
+    }
+    let place = fs::canonicalize(rt, path)?;
+    put_whole(rt, place.as_str(), text)
 }

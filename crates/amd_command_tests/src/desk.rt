@@ -8,6 +8,7 @@ use std::fmt::Display;
 use std::fs::{Metadata, OpenOptions};
 use std::io;
 use std::io::{BufRead, ErrorKind, Lines};
+use std::path::PathBuf;
 use std::rt::{Clock, Env, Files, Runtime};
 use std::time::Duration;
 
@@ -178,6 +179,14 @@ impl Files for Desk<'_> {
 
     fn rename(&self, from: &str, to: &str) -> io::Result<()> {
         self.host.rename(from, to)
+    }
+
+    fn canonicalize<B: Allocator>(&self, alloc: B, path: &str) -> io::Result<PathBuf<B>> {
+        self.host.canonicalize(alloc, path)
+    }
+
+    fn symlink(&self, original: &str, link: &str) -> io::Result<()> {
+        self.host.symlink(original, link)
     }
 
     fn remove_file(&self, path: &str) -> io::Result<()> {

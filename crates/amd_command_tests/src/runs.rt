@@ -97,7 +97,7 @@ fn run_at_desk(
 type Refused = (&'static [&'static str], &'static str, u8, &'static str);
 
 /// Words and files at fault: status 2. Outputs that cannot be opened: status 1.
-const REFUSED: [Refused; 22] = [
+const REFUSED: [Refused; 24] = [
     (&[], "", 2, "Usage: rimopaku"),
     (&["sort", "-"], PATH, 2, "sort"),
     (&["order"], PATH, 2, "FILE"),
@@ -139,7 +139,24 @@ const REFUSED: [Refused; 22] = [
         2,
         "rimopaku: /no/such/folder/file: cannot be opened: ",
     ),
-    (&["info", "/"], "", 2, "rimopaku: /: "),
+    (
+        &["info", "/"],
+        "",
+        2,
+        "rimopaku: /: is a folder: name a file\n",
+    ),
+    (
+        &["order", "-", "--hold", "/tmp"],
+        PATH,
+        2,
+        "rimopaku: /tmp: is a folder: name a file\n",
+    ),
+    (
+        &["order", "-", "--picture", "/"],
+        PATH,
+        2,
+        "rimopaku: /: is a folder: name a file\n",
+    ),
     (
         &["order", "/etc/hostname", "--out", "/etc/hostname"],
         "",
@@ -179,11 +196,11 @@ const REFUSED: [Refused; 22] = [
             "--permuted",
             "/tmp/no-such-file",
             "--tree",
-            "/tmp/no-such-file",
+            "/tmp/../tmp/no-such-file",
         ],
         PATH,
         2,
-        "rimopaku: /tmp/no-such-file: is named twice: an output must be a file of its own\n",
+        "rimopaku: /tmp/../tmp/no-such-file: is named twice: an output must be a file of its own\n",
     ),
     (&["order", "-", "--with", "/dev/null"], PATH, 2, "--compare"),
     (
