@@ -35,6 +35,6 @@ need_figures need i =
     ++ bound_line (codes "multiply-subtracts for LU") need.n_mult_subs_lu i.n_mult_subs_lu
     ++ bound_line (codes "largest column, with its diagonal") need.d_max i.d_max
 
--- the table of what an ordering tells, with what the factor needs beside each bound
-abbrev pub comparison_text : Need → Info → List ℕ
-comparison_text need i = matrix_figures i ++ need_figures need i
+-- the table of what an ordering tells, how many duplicates were dropped, and what the factor needs beside each bound
+abbrev pub comparison_text : Need → Info → ℕ → List ℕ
+comparison_text need i d = matrix_figures i d ++ need_figures need i

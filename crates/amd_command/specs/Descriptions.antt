@@ -1,8 +1,6 @@
 -- The text of what a matrix is.
 use Rattle.std.specs.Prelude.{◌/◌, ◌%◌, ℕ, Bool, true, false, List, ◌++◌, codes, decimal}
 use Rattle.amd_types.specs.declared.amd.Info.{Info}
-use Rattle.amd_types.specs.declared.amd.Status.{Status}
-use Rattle.amd_types.specs.declared.amd.Status.TheVariants.{OK, Invalid, OkButJumbled, OutOfMemory}
 use Rattle.amd_texts.specs.Texts.{labelled}
 use Rattle.amd_command.specs.declared.facts.Facts.{Facts}
 use Rattle.amd_command.specs.Degrees.{mean_degree}
@@ -12,26 +10,19 @@ abbrev pub answer_word : Bool → List ℕ
 answer_word true = codes "yes"
 answer_word false = codes "no"
 
--- the columns are sorted, without repeats
-abbrev pub is_sorted : Status → Bool
-is_sorted OK = true
-is_sorted OkButJumbled = false
-is_sorted Invalid = false
-is_sorted OutOfMemory = false
-
 -- a number of hundredths as a decimal fraction
 abbrev pub hundredths : ℕ → List ℕ
 hundredths x = decimal (x / 100) ++ codes "." ++ decimal (x / 10 % 10) ++ decimal (x % 10)
 
--- the lines on the pattern
-abbrev pub pattern_lines : Info → List ℕ
-pattern_lines i =
+-- the lines on the pattern, from whose file so many duplicates were dropped
+abbrev pub pattern_lines : Info → ℕ → List ℕ
+pattern_lines i d =
     labelled (codes "rows") (decimal i.n)
     ++ labelled (codes "entries") (decimal i.nz)
+    ++ labelled (codes "duplicates dropped") (decimal d)
     ++ labelled (codes "symmetric pattern") (answer_word i.symmetry)
     ++ labelled (codes "entries on the diagonal") (decimal i.nz_diag)
     ++ labelled (codes "edges") (decimal (i.nz_a_plus_at / 2))
-    ++ labelled (codes "columns sorted, no repeats") (answer_word (is_sorted i.status))
 
 -- the line of a mean degree in hundredths
 abbrev pub mean_line : ℕ → List ℕ
@@ -48,4 +39,4 @@ degree_lines f =
 
 -- the text of what a matrix is
 abbrev pub facts_text : Facts → List ℕ
-facts_text f = pattern_lines f.info ++ degree_lines f
+facts_text f = pattern_lines f.info f.duplicates ++ degree_lines f

@@ -28,7 +28,7 @@ column_items p parents sizes (suc k) =
     ++ column_item k (slice_index p k) (row_of_parent p parents k) (slice_index sizes k)
 
 -- an ordering, what the factor needs, and its columns
-abbrev pub analysis_json : Info → Need → List ℕ → List (Option ℕ) → List ℕ → List ℕ
-analysis_json i need p parents sizes =
-    matrix_members i ++ bound_members i ++ need_members (codes "factor") (i.nz_a_plus_at / 2) need
+abbrev pub analysis_json : Info → ℕ → Need → List ℕ → List (Option ℕ) → List ℕ → List ℕ
+analysis_json i d need p parents sizes =
+    matrix_members i d ++ bound_members i ++ need_members (codes "ordered") (i.nz_a_plus_at / 2) need
     ++ codes ",\"columns\":[" ++ column_items p parents sizes (length p) ++ codes "]}\n"

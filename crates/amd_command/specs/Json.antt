@@ -6,7 +6,7 @@ use Rattle.amd_symbolic.specs.declared.needs.Need.{Need}
 use Rattle.amd_command.specs.declared.compare.Comparison.{Comparison}
 use Rattle.amd_command.specs.declared.facts.Facts.{Facts}
 use Rattle.amd_command.specs.Degrees.{mean_degree}
-use Rattle.amd_command.specs.Descriptions.{hundredths, is_sorted}
+use Rattle.amd_command.specs.Descriptions.{hundredths}
 use Rattle.amd_command.specs.Texts.{status_phrase}
 
 -- a name and its value, behind what stands before it
@@ -21,12 +21,13 @@ quoted text = codes "\"" ++ text ++ codes "\""
 abbrev pub truth : Bool → List ℕ
 truth b = if b then codes "true" else codes "false"
 
--- the members on the matrix
-abbrev pub matrix_members : Info → List ℕ
-matrix_members i =
+-- the members on the matrix, from whose file so many duplicates were dropped
+abbrev pub matrix_members : Info → ℕ → List ℕ
+matrix_members i d =
     member (codes "{") (codes "rows") (decimal i.n)
     ++ member (codes ",") (codes "entries") (decimal i.nz)
-    ++ member (codes ",") (codes "status") (quoted (status_phrase i.status))
+    ++ member (codes ",") (codes "duplicates_dropped") (decimal d)
+    ++ member (codes ",") (codes "status") (quoted (status_phrase i.status d))
     ++ member (codes ",") (codes "rows_placed_last") (decimal i.n_dense)
     ++ member (codes ",") (codes "workspace_compactions") (decimal i.n_cmp_a)
 
@@ -80,20 +81,20 @@ known_members None = []
 known_members (Some c) = comparison_members c
 
 -- an ordering
-abbrev pub order_json : Info → Option Comparison → List ℕ → List ℕ
-order_json i compared p =
-    matrix_members i ++ bound_members i ++ known_members compared ++ codes ",\"permutation\":" ++ row_list p
+abbrev pub order_json : Info → ℕ → Option Comparison → List ℕ → List ℕ
+order_json i d compared p =
+    matrix_members i d ++ bound_members i ++ known_members compared ++ codes ",\"permutation\":" ++ row_list p
     ++ codes "}\n"
 
--- the members on the pattern
-abbrev pub pattern_members : Info → List ℕ
-pattern_members i =
+-- the members on the pattern, from whose file so many duplicates were dropped
+abbrev pub pattern_members : Info → ℕ → List ℕ
+pattern_members i d =
     member (codes "{") (codes "rows") (decimal i.n)
     ++ member (codes ",") (codes "entries") (decimal i.nz)
+    ++ member (codes ",") (codes "duplicates_dropped") (decimal d)
     ++ member (codes ",") (codes "symmetric_pattern") (truth i.symmetry)
     ++ member (codes ",") (codes "entries_on_the_diagonal") (decimal i.nz_diag)
     ++ member (codes ",") (codes "edges") (decimal (i.nz_a_plus_at / 2))
-    ++ member (codes ",") (codes "columns_sorted") (truth (is_sorted i.status))
 
 -- the members on the degrees
 abbrev pub degree_members : Facts → List ℕ
@@ -106,4 +107,4 @@ degree_members f =
 
 -- what a matrix is, and what its factor needs under each order, where that is known
 abbrev pub facts_json : Facts → Option Comparison → List ℕ
-facts_json f compared = pattern_members f.info ++ degree_members f ++ known_members compared ++ codes "}\n"
+facts_json f compared = pattern_members f.info f.duplicates ++ degree_members f ++ known_members compared ++ codes "}\n"

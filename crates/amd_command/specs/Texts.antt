@@ -1,5 +1,5 @@
 -- The texts that the command writes.
-use Rattle.std.specs.Prelude.{◌+◌, ℕ, Option, None, Some, List, ◌++◌, codes, decimal, flat_map}
+use Rattle.std.specs.Prelude.{◌+◌, ℕ, zero, suc, Option, None, Some, List, ◌++◌, codes, decimal, flat_map}
 use Rattle.amd_types.specs.declared.amd.Info.{Info}
 use Rattle.amd_types.specs.declared.amd.Status.{Status}
 use Rattle.amd_types.specs.declared.amd.Status.TheVariants.{OK, Invalid, OkButJumbled, OutOfMemory}
@@ -12,19 +12,21 @@ row_line row = decimal (row + 1) ++ codes "\n"
 abbrev pub row_lines : List ℕ → List ℕ
 row_lines rows = flat_map row_line rows
 
--- what a status says of the columns of the file
-abbrev pub status_phrase : Status → List ℕ
-status_phrase OK = codes "OK"
-status_phrase OkButJumbled = codes "OK, but jumbled"
-status_phrase Invalid = codes "invalid"
-status_phrase OutOfMemory = codes "out of memory"
+-- what is said of an input: the status of its ordering, and whether so many duplicates are some
+abbrev pub status_phrase : Status → ℕ → List ℕ
+status_phrase OK zero = codes "OK"
+status_phrase OK (suc k) = codes "OK, but with duplicates"
+status_phrase OkButJumbled d = codes "OK, but jumbled"
+status_phrase Invalid d = codes "invalid"
+status_phrase OutOfMemory d = codes "out of memory"
 
--- the lines on the matrix
-abbrev pub matrix_figures : Info → List ℕ
-matrix_figures i =
+-- the lines on the matrix, from whose file so many duplicates were dropped
+abbrev pub matrix_figures : Info → ℕ → List ℕ
+matrix_figures i d =
     labelled (codes "rows") (decimal i.n)
     ++ labelled (codes "entries") (decimal i.nz)
-    ++ labelled (codes "status") (status_phrase i.status)
+    ++ labelled (codes "duplicates dropped") (decimal d)
+    ++ labelled (codes "status") (status_phrase i.status d)
     ++ labelled (codes "rows placed last (dense or held)") (decimal i.n_dense)
     ++ labelled (codes "workspace compactions") (decimal i.n_cmp_a)
 
@@ -38,8 +40,8 @@ factor_figures i =
     ++ labelled (codes "largest column, with its diagonal, at most") (decimal i.d_max)
 
 -- the table of what an ordering tells
-abbrev pub figures_text : Info → List ℕ
-figures_text i = matrix_figures i ++ factor_figures i
+abbrev pub figures_text : Info → ℕ → List ℕ
+figures_text i d = matrix_figures i d ++ factor_figures i
 
 -- the number of a parent, from 1 on; 0 where there is none
 abbrev pub tree_number : Option ℕ → ℕ

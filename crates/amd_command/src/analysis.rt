@@ -165,15 +165,22 @@ fn write_need<W: Write>(need: &Need, info: &Info, out: &mut W) -> io::Result<()>
     Ok(())
 }
 
-/// Writes the table of what an ordering tells, with what the factor needs beside each bound.
+/// Writes the table of what an ordering tells, how many duplicates were dropped from the file, and what the factor
+/// needs beside each bound.
 ///
 /// # Errors
 ///
 /// The writer's, of the first write that fails. What was written before stays written.
-pub fn write_comparison<W: Write>(need: &Need, info: &Info, out: &mut W) -> io::Result<()>
-    ensures { OnOk result (Appends (W.contents out.old) (W.contents out.new) (comparison_text need.now info.now)) }
+pub fn write_comparison<W: Write>(
+    need: &Need,
+    info: &Info,
+    duplicates: usize,
+    out: &mut W,
+) -> io::Result<()>
+    ensures { OnOk result (Appends (W.contents out.old) (W.contents out.new)
+        (comparison_text need.now info.now duplicates)) }
 {
-    write_matrix_figures(info, out)?;
+    write_matrix_figures(info, duplicates, out)?;
     write_need(need, info, out)?;
     Ok(())
 }

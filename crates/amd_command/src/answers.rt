@@ -94,10 +94,10 @@ fn tree_text(
     Ok(Some(text))
 }
 
-/// The figures of an ordering.
-fn figures_text(alloc: Global, ordered: &Ordered) -> Result<String, Cause> {
+/// The figures of an ordering, and how many duplicates were dropped from the file.
+fn figures_text(alloc: Global, ordered: &Ordered, duplicates: usize) -> Result<String, Cause> {
     let mut figures = Vec::new(alloc);
-    write_figures(&ordered.info, &mut figures)?;
+    write_figures(&ordered.info, duplicates, &mut figures)?;
     if let Some(compared) = ordered.compared {
         write_comparison_lines(compared, &mut figures)?;
     }
@@ -113,11 +113,13 @@ pub fn order_texts(
 ) -> Result<Texts, Cause> {
     let mut lines = Vec::new(alloc);
     let mut figures = String::new(alloc);
+    let repeats = matrix.repeats;
     if options.json {
-        write_order_json(&ordered.info, ordered.compared, &ordered.p, &mut lines)?;
+        let (info, p) = (&ordered.info, &ordered.p);
+        write_order_json(info, repeats, ordered.compared, p, &mut lines)?;
     } else {
         write_rows(&ordered.p, &mut lines)?;
-        figures = figures_text(alloc, ordered)?;
+        figures = figures_text(alloc, ordered, repeats)?;
     }
     Ok(Texts {
         lines,
@@ -131,14 +133,15 @@ pub fn order_texts(
 pub fn analysis_texts(alloc: Global, task: &Task, json: bool) -> Result<Texts, Cause> {
     let (matrix, marks) = (&task.matrix, task.hold.as_deref());
     let Analysis { p, info, counts } = analyze_matrix(alloc, matrix, &task.control, marks)?;
-    let need = &counts.need;
+    let (need, repeats) = (&counts.need, matrix.repeats);
     let mut lines = Vec::new(alloc);
     let mut figures = Vec::new(alloc);
     if json {
-        write_analysis_json(&info, need, &p, &counts.parent, &counts.sizes, &mut lines)?;
+        let (parents, sizes) = (&counts.parent, &counts.sizes);
+        write_analysis_json(&info, repeats, need, &p, parents, sizes, &mut lines)?;
     } else {
         write_columns(&p, &counts, &mut lines)?;
-        write_comparison(need, &info, &mut figures)?;
+        write_comparison(need, &info, repeats, &mut figures)?;
     }
     let figures = String::from_utf8_lossy(alloc, &figures)?;
     Ok(Texts {

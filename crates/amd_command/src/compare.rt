@@ -1,5 +1,5 @@
 // What the factor needs under several orders of the rows: as they stand in the file, as they were ordered, and as a
-// file lists them. The columns are counted and not written. Called by `program`.
+// file lists them. The columns are counted and not written. Called by `program` and by `answers`.
 
 ghost use Rattle.std.specs.Prelude.{◌≡◌, pos, map, IfOk, IfErr, IfSome, IsTrue, OnOk};
 ghost use Rattle.std.specs.Char.{is_ascii};

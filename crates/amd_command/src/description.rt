@@ -1,13 +1,11 @@
-// The text of what a matrix is, a label and a value a line. Called by `program`; `json`
-// writes the same as JSON.
+// The text of what a matrix is, a label and a value a line. Called by `answers`; `json` writes the same as JSON.
 
 ghost use Rattle.std.specs.Prelude.{◌≡◌, OnOk};
 ghost use Rattle.std.specs.Io.KnownBytes.{Appends};
-ghost use Rattle.amd_command.specs.Descriptions.{answer_word, degree_lines, facts_text, is_sorted, mean_line};
-ghost use Rattle.amd_command.specs.Descriptions.{pattern_lines};
+ghost use Rattle.amd_command.specs.Descriptions.{answer_word, degree_lines, facts_text, mean_line, pattern_lines};
 
 use crate::facts::{Facts, mean_degree};
-use amd::{Info, Status};
+use amd::Info;
 use amd_texts::write_labelled;
 use std::io;
 use std::io::Write;
@@ -19,29 +17,18 @@ fn answer_word(holds: bool) -> &'static str
     if holds { "yes" } else { "no" }
 }
 
-/// Whether the columns are sorted, without repeats.
-pub fn is_sorted(status: &Status) -> bool
-    ensures { result ≡ is_sorted status.now }
-{
-    match status {
-        Status::OK => true,
-        Status::OkButJumbled | Status::Invalid | Status::OutOfMemory => false,
-    }
-}
-
-/// Writes the lines on the pattern.
-fn write_pattern<W: Write>(info: &Info, out: &mut W) -> io::Result<()>
-    ensures { OnOk result (Appends (W.contents out.old) (W.contents out.new) (pattern_lines info.now)) }
+/// Writes the lines on the pattern, from whose file so many duplicates were dropped.
+fn write_pattern<W: Write>(info: &Info, duplicates: usize, out: &mut W) -> io::Result<()>
+    ensures { OnOk result (Appends (W.contents out.old) (W.contents out.new) (pattern_lines info.now duplicates)) }
 {
     let symmetric = answer_word(info.symmetry);
     let edges = info.nz_a_plus_at / 2;
-    let sorted = answer_word(is_sorted(&info.status));
     write_labelled("rows", &info.n, out)?;
     write_labelled("entries", &info.nz, out)?;
+    write_labelled("duplicates dropped", &duplicates, out)?;
     write_labelled("symmetric pattern", &symmetric, out)?;
     write_labelled("entries on the diagonal", &info.nz_diag, out)?;
     write_labelled("edges", &edges, out)?;
-    write_labelled("columns sorted, no repeats", &sorted, out)?;
     Ok(())
 }
 
@@ -77,7 +64,7 @@ fn write_degrees<W: Write>(facts: &Facts, out: &mut W) -> io::Result<()>
 pub fn write_facts<W: Write>(facts: &Facts, out: &mut W) -> io::Result<()>
     ensures { OnOk result (Appends (W.contents out.old) (W.contents out.new) (facts_text facts.now)) }
 {
-    write_pattern(&facts.info, out)?;
+    write_pattern(&facts.info, facts.duplicates, out)?;
     write_degrees(facts, out)?;
     Ok(())
 }

@@ -70,14 +70,16 @@ fn write_items<W: Write>(
     Ok(())
 }
 
-/// Writes what an ordering tells, what the factor needs under it, and its columns: the row of each, that of its parent,
-/// or 0 where it has none, and the number of its entries below the diagonal. Rows count from 1.
+/// Writes what an ordering tells, how many duplicates were dropped from the file, what the factor needs under it, and
+/// its columns: the row of each, that of its parent, or 0 where it has none, and the number of its entries below the
+/// diagonal. Rows count from 1.
 ///
 /// # Errors
 ///
 /// The writer's, of the first write that fails. What was written before stays written.
 pub fn write_analysis_json<W: Write>(
     info: &Info,
+    duplicates: usize,
     need: &Need,
     p: &[usize],
     parents: &[Option<usize>],
@@ -85,11 +87,11 @@ pub fn write_analysis_json<W: Write>(
     out: &mut W,
 ) -> io::Result<()>
     ensures { OnOk result (Appends (W.contents out.old) (W.contents out.new)
-        (analysis_json info.now need.now p.now parents.now sizes.now)) }
+        (analysis_json info.now duplicates need.now p.now parents.now sizes.now)) }
 {
-    write_matrix_members(info, out)?;
+    write_matrix_members(info, duplicates, out)?;
     write_bounds(info, out)?;
-    write_need("factor", info.nz_a_plus_at / 2, need, out)?;
+    write_need("ordered", info.nz_a_plus_at / 2, need, out)?;
     out.write_all(b",\"columns\":[")?;
     write_items(p, parents, sizes, out)?;
     out.write_all(b"]}\n")?;

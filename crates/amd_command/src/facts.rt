@@ -1,5 +1,5 @@
-// What a matrix is: its figures, the degrees of its rows, and how its columns stand in the file. Called by `program`,
-// by `description` and by `json`.
+// What a matrix is: its figures, the degrees of its rows, and how many duplicates its file had. Called by `answers`, by
+// `description` and by `json`.
 
 ghost use Rattle.std.specs.Prelude.{◌≡◌, ◌-◌, ℕ, List, pos, map, max, fold, count_by, nat_lt, length, IfOk};
 ghost use Rattle.amd_model.specs.Input.Columns.{IsInput, IsSortedInput};
@@ -29,12 +29,14 @@ pub struct Degrees {
 /// What a matrix is.
 #[derive(Drop)]
 pub struct Facts {
-    /// The figures of the pattern, and whether the columns are sorted.
+    /// The figures of the pattern.
     pub info: Info,
     /// The dense threshold: rows of a greater degree are held last.
     pub threshold: usize,
     /// The degrees of the rows.
     pub degrees: Degrees,
+    /// How many duplicates were dropped from the file.
+    pub duplicates: usize,
 }
 
 /// The greatest one of some numbers; 0 where there are none.
@@ -56,17 +58,19 @@ fn count_above(numbers: &[usize], limit: usize) -> usize
     numbers.iter().filter(|number| **number > limit).count()
 }
 
-/// What a matrix is whose columns are sorted.
+/// What a matrix is whose columns are sorted, and from whose file so many duplicates were dropped.
 fn facts_of_sorted<A: Allocator + Copy>(
     alloc: A,
     n: usize,
     a_p: &[usize],
     a_i: &[usize],
+    duplicates: usize,
     control: &Control,
 ) -> Result<Facts, Status>
     requires form { IsInput (pos n) (pos n) (map pos a_p.now) (map pos a_i.now) }
     requires sorted { IsSortedInput (pos n) (map pos a_p.now) (map pos a_i.now) }
-    ensures { IfOk result (IsFacts n control.now.dense (map pos a_p.now) (map pos a_i.now)) }
+    ensures facts { IfOk result (IsFacts n control.now.dense (map pos a_p.now) (map pos a_i.now)) }
+    ensures told { IfOk result (λ f. f.duplicates ≡ duplicates) }
 {
     let mut info = Info::new(n);
     let (sum, degrees) = aat(alloc, n, a_p, a_i, &mut info)?;
@@ -82,6 +86,7 @@ fn facts_of_sorted<A: Allocator + Copy>(
         info,
         threshold,
         degrees,
+        duplicates,
     })
 }
 
@@ -93,9 +98,10 @@ fn facts_of_jumbled<A: Allocator + Copy>(
 ) -> Result<Facts, Status>
     requires { IsInput (pos matrix.now.n) (pos matrix.now.n) (map pos matrix.now.a_p.items)
         (map pos matrix.now.a_i.items) }
+    ensures { IfOk result (λ f. f.duplicates ≡ matrix.now.repeats) }
 {
     let (c_p, c_i) = preprocess(alloc, matrix.n, &matrix.a_p, &matrix.a_i)?;
-    let mut facts = facts_of_sorted(alloc, matrix.n, &c_p, &c_i, control)?;
+    let mut facts = facts_of_sorted(alloc, matrix.n, &c_p, &c_i, matrix.repeats, control)?;
     facts.info.status = Status::OkButJumbled;
     Ok(facts)
 }
@@ -109,9 +115,18 @@ pub fn facts_of<A: Allocator + Copy>(
     alloc: A,
     matrix: &Matrix<A>,
     control: &Control,
-) -> Result<Facts, Status> {
+) -> Result<Facts, Status>
+    ensures { IfOk result (λ f. f.duplicates ≡ matrix.now.repeats) }
+{
     match valid(matrix.n, matrix.n, &matrix.a_p, &matrix.a_i) {
-        Status::OK => facts_of_sorted(alloc, matrix.n, &matrix.a_p, &matrix.a_i, control),
+        Status::OK => facts_of_sorted(
+            alloc,
+            matrix.n,
+            &matrix.a_p,
+            &matrix.a_i,
+            matrix.repeats,
+            control,
+        ),
         Status::OkButJumbled => facts_of_jumbled(alloc, matrix, control),
         status => Err(status),
     }

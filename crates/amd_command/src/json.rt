@@ -1,6 +1,7 @@
-// The answers as JSON, for programs: one object on one line. A number has the name that it has in the tables, in small
-// letters and with `_` between words. It is written in pieces and no memory is asked, so that no tree of values stands
-// beside a long permutation; the tests read it with the kit's JSON. Called by `program` and by `factor_json`.
+// The answers as JSON, for programs: one object on one line. A number has the name that it has in the tables, cut
+// short, in small letters and with `_` between words. It is written in pieces and no memory is asked, so that no tree
+// of values stands beside a long permutation; the tests read it with the kit's JSON. Called by `answers` and by
+// `factor_json`.
 
 ghost use Rattle.std.specs.Prelude.{codes, OnOk, IfSome};
 ghost use Rattle.std.specs.Io.KnownBytes.{Appends};
@@ -10,7 +11,6 @@ ghost use Rattle.amd_command.specs.Json.{pattern_members, quoted, row_list};
 ghost use Rattle.amd_command.specs.Descriptions.{hundredths};
 
 use crate::compare::{Comparison, Figure, figure_of};
-use crate::description::is_sorted;
 use crate::facts::{Facts, mean_degree};
 use crate::figures::status_phrase;
 use amd::Info;
@@ -42,13 +42,14 @@ fn write_text_member<W: Write>(name: &str, text: &str, out: &mut W) -> io::Resul
     Ok(())
 }
 
-/// Writes the members on the matrix.
-pub fn write_matrix_members<W: Write>(info: &Info, out: &mut W) -> io::Result<()>
-    ensures { OnOk result (Appends (W.contents out.old) (W.contents out.new) (matrix_members info.now)) }
+/// Writes the members on the matrix, from whose file so many duplicates were dropped.
+pub fn write_matrix_members<W: Write>(info: &Info, duplicates: usize, out: &mut W) -> io::Result<()>
+    ensures { OnOk result (Appends (W.contents out.old) (W.contents out.new) (matrix_members info.now duplicates)) }
 {
-    let status = status_phrase(&info.status);
+    let status = status_phrase(&info.status, duplicates);
     write_member("{", "rows", &info.n, out)?;
     write_member(",", "entries", &info.nz, out)?;
+    write_member(",", "duplicates_dropped", &duplicates, out)?;
     write_text_member("status", status, out)?;
     write_member(",", "rows_placed_last", &info.n_dense, out)?;
     write_member(",", "workspace_compactions", &info.n_cmp_a, out)?;
@@ -143,22 +144,23 @@ fn write_known_needs<W: Write>(compared: Option<Comparison>, out: &mut W) -> io:
     }
 }
 
-/// Writes an ordering: what it tells, what the factor needs under each order where that is known, and the permutation,
-/// whose rows count from 1.
+/// Writes an ordering: what it tells, how many duplicates were dropped from the file, what the factor needs under each
+/// order where that is known, and the permutation, whose rows count from 1.
 ///
 /// # Errors
 ///
 /// The writer's, of the first write that fails. What was written before stays written.
 pub fn write_order_json<W: Write>(
     info: &Info,
+    duplicates: usize,
     compared: Option<Comparison>,
     p: &[usize],
     out: &mut W,
 ) -> io::Result<()>
     ensures { OnOk result (Appends (W.contents out.old) (W.contents out.new)
-        (order_json info.now compared p.now)) }
+        (order_json info.now duplicates compared p.now)) }
 {
-    write_matrix_members(info, out)?;
+    write_matrix_members(info, duplicates, out)?;
     write_bounds(info, out)?;
     write_known_needs(compared, out)?;
     out.write_all(b",\"permutation\":")?;
@@ -167,18 +169,17 @@ pub fn write_order_json<W: Write>(
     Ok(())
 }
 
-/// Writes the members on the pattern.
-fn write_pattern_members<W: Write>(info: &Info, out: &mut W) -> io::Result<()>
-    ensures { OnOk result (Appends (W.contents out.old) (W.contents out.new) (pattern_members info.now)) }
+/// Writes the members on the pattern, from whose file so many duplicates were dropped.
+fn write_pattern_members<W: Write>(info: &Info, duplicates: usize, out: &mut W) -> io::Result<()>
+    ensures { OnOk result (Appends (W.contents out.old) (W.contents out.new) (pattern_members info.now duplicates)) }
 {
     let edges = info.nz_a_plus_at / 2;
-    let sorted = is_sorted(&info.status);
     write_member("{", "rows", &info.n, out)?;
     write_member(",", "entries", &info.nz, out)?;
+    write_member(",", "duplicates_dropped", &duplicates, out)?;
     write_member(",", "symmetric_pattern", &info.symmetry, out)?;
     write_member(",", "entries_on_the_diagonal", &info.nz_diag, out)?;
     write_member(",", "edges", &edges, out)?;
-    write_member(",", "columns_sorted", &sorted, out)?;
     Ok(())
 }
 
@@ -218,7 +219,7 @@ pub fn write_facts_json<W: Write>(
 ) -> io::Result<()>
     ensures { OnOk result (Appends (W.contents out.old) (W.contents out.new) (facts_json facts.now compared)) }
 {
-    write_pattern_members(&facts.info, out)?;
+    write_pattern_members(&facts.info, facts.duplicates, out)?;
     write_degree_members(facts, out)?;
     write_known_needs(compared, out)?;
     out.write_all(b"}\n")?;

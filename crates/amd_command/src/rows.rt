@@ -1,4 +1,4 @@
-// The text of a permutation: the number of a row in each line, from 1 on. Called by `program`.
+// The text of a permutation: the number of a row in each line, from 1 on. Called by `answers`.
 
 ghost use Rattle.std.specs.Prelude.{OnOk};
 ghost use Rattle.std.specs.Io.KnownBytes.{Appends};

@@ -1,5 +1,5 @@
 // The text of an elimination tree: the number of the parent of each column in a line, from 1 on, 0 for a root. Columns
-// are numbered as they are eliminated. Called by `program`.
+// are numbered as they are eliminated. Called by `answers`.
 
 ghost use Rattle.std.specs.Prelude.{◌≡◌, OnOk};
 ghost use Rattle.std.specs.Io.KnownBytes.{Appends};

@@ -181,7 +181,8 @@ pub fn write_tree_picture<W: Write, A: Allocator + Copy>(
     out: &mut W,
 ) -> Result<(), Cause> {
     let blocks = blocks_of(alloc, parents, sizes)?;
-    let most = sizes.iter().copied().max().unwrap_or(0).saturating_add(1);
+    let fronts = sizes.iter().map(|size| size.saturating_add(1));
+    let most = fronts.max().unwrap_or(0);
     let deepest = blocks.level.iter().copied().max().unwrap_or(0);
     let height = deepest.saturating_mul(HEIGHT).saturating_add(72);
     writeln!(
@@ -198,7 +199,7 @@ pub fn write_tree_picture<W: Write, A: Allocator + Copy>(
     writeln!(out, "</g>")?;
     writeln!(
         out,
-        "<text x=\"20\" y=\"24\">{count} blocks, the largest front has {most} rows</text>"
+        "<text x=\"20\" y=\"24\">{count} blocks; largest column, with its diagonal: {most}</text>"
     )?;
     writeln!(out, "</svg>")?;
     Ok(())

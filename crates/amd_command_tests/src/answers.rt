@@ -111,7 +111,7 @@ fn files_beside_the_permutation(rt: HostRuntime) -> Result<(), Fail> {
     let mut blocks = Vec::new(alloc);
     assert!(&rt; write_tree_picture(alloc, &counted.parent, &counted.sizes, &mut blocks).is_ok());
     let text = String::from_utf8_lossy(alloc, &blocks)?;
-    assert!(&rt; text.contains(">3 blocks, the largest front has 2 rows<"));
+    assert!(&rt; text.contains(">3 blocks; largest column, with its diagonal: 2<"));
     Ok(())
 }
 
@@ -135,11 +135,12 @@ fn answers_as_json(rt: HostRuntime) -> Result<(), Fail> {
         panic!(&rt; "no answer");
     };
     let mut order = Vec::new(alloc);
-    assert!(&rt; write_order_json(&info, Some(compared), &p, &mut order).is_ok());
+    assert!(&rt; write_order_json(&info, 4, Some(compared), &p, &mut order).is_ok());
     let mut matrix_facts = Vec::new(alloc);
     assert!(&rt; write_facts_json(&facts, Some(compared), &mut matrix_facts).is_ok());
     for (text, path, wanted) in [
         (&order, "/rows", 3),
+        (&order, "/duplicates_dropped", 4),
         (&order, "/at_most/largest_column", 2),
         (&order, "/as_it_stands/entries_of_l", 2),
         (&order, "/with/multiply_subtracts_lu", 5),

@@ -35,9 +35,10 @@ static ORDER: [usize; 20] = [
     1, 2, 3, 4, 5, 6, 7, 8, 9, 10, 11, 12, 13, 14, 15, 16, 17, 18, 19, 0,
 ];
 
-/// What `order` tells then, and behind it `analyze`.
+/// What `order` tells then, and behind it `analyze`, which is told that the file had three duplicates.
 const FIGURES: &str = "    rows                                                20
     entries                                             18
+    duplicates dropped                                  0
     status                                              OK
     rows placed last (dense or held)                    1
     workspace compactions                               0
@@ -48,7 +49,8 @@ const FIGURES: &str = "    rows                                                2
     largest column, with its diagonal, at most          3
     rows                                                20
     entries                                             18
-    status                                              OK
+    duplicates dropped                                  3
+    status                                              OK, but with duplicates
     rows placed last (dense or held)                    1
     workspace compactions                               0
     entries of L below the diagonal                     18, at most 20
@@ -78,10 +80,9 @@ fn a_dense_row_by_choice(rt: HostRuntime) -> Result<(), Fail> {
     };
     assert!(&rt; p.as_slice() == ORDER.as_slice() && analysis.p.as_slice() == ORDER.as_slice());
     let mut out = Vec::new(heap);
-    let is_written = write_figures(&info, &mut out).is_ok();
-    assert!(&rt;
-        is_written && write_comparison(&analysis.counts.need, &analysis.info, &mut out).is_ok()
-    );
+    let is_written = write_figures(&info, 0, &mut out).is_ok();
+    let is_compared = write_comparison(&analysis.counts.need, &analysis.info, 3, &mut out).is_ok();
+    assert!(&rt; is_written && is_compared);
     assert!(&rt; out.as_slice() == FIGURES.as_bytes());
     Ok(())
 }

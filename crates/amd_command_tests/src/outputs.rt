@@ -28,10 +28,10 @@ pub const PATH: &str = "%%MatrixMarket matrix coordinate pattern symmetric\n3 3 
 /// What `info` tells of it.
 pub const PATH_FACTS: &str = "    rows                                                3
     entries                                             5
+    duplicates dropped                                  0
     symmetric pattern                                   yes
     entries on the diagonal                             1
     edges                                               2
-    columns sorted, no repeats                          yes
     greatest degree                                     2
     mean degree                                         1.33
     rows of degree 0                                    0
@@ -65,6 +65,7 @@ const FIVE_COLUMNS: &str = "1 2 1\n4 3 1\n3 5 2\n5 2 1\n2 0 0\n";
 /// What it tells of them.
 const FIVE_FIGURES: &str = "    rows                                                5
     entries                                             14
+    duplicates dropped                                  0
     status                                              OK
     rows placed last (dense or held)                    0
     workspace compactions                               0
@@ -82,11 +83,11 @@ fn write_all_of<W: Write, A: Allocator + Copy>(alloc: A, out: &mut W) -> Result<
     let control = Control::default();
     let (p, info) = order_matrix(alloc, &matrix, &control, Some(&marks))?;
     write_rows(&p, out)?;
-    write_figures(&info, out)?;
+    write_figures(&info, matrix.repeats, out)?;
     write_facts(&facts_of(alloc, &matrix, &control)?, out)?;
     let analysis = analyze_matrix(alloc, &matrix, &control, Some(&marks))?;
     write_columns(&analysis.p, &analysis.counts, out)?;
-    write_comparison(&analysis.counts.need, &analysis.info, out)?;
+    write_comparison(&analysis.counts.need, &analysis.info, matrix.repeats, out)?;
     write_matrix(&permuted(alloc, &matrix, &p)?, out)?;
     write_picture(alloc, &matrix, &p, false, out)
 }
@@ -140,7 +141,7 @@ fn columns_worked_by_hand(rt: HostRuntime) -> Result<(), Fail> {
     let mut figures = Vec::new(rt.alloc());
     assert!(&rt; write_columns(&analysis.p, &analysis.counts, &mut columns).is_ok());
     let need = &analysis.counts.need;
-    assert!(&rt; write_comparison(need, &analysis.info, &mut figures).is_ok());
+    assert!(&rt; write_comparison(need, &analysis.info, 0, &mut figures).is_ok());
     let columns = String::from_utf8_lossy(rt.alloc(), &columns)?;
     let figures = String::from_utf8_lossy(rt.alloc(), &figures)?;
     assert!(&rt; columns.as_str() == FIVE_COLUMNS && figures.as_str() == FIVE_FIGURES);
@@ -240,6 +241,6 @@ fn empty_matrix(rt: HostRuntime) -> Result<(), Fail> {
     let info = Info::new(0);
     assert!(&rt; write_rows(&[], &mut out).is_ok());
     assert!(&rt; out.is_empty());
-    assert!(&rt; write_figures(&info, &mut out).is_ok());
+    assert!(&rt; write_figures(&info, 0, &mut out).is_ok());
     Ok(())
 }

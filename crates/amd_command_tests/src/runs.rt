@@ -20,16 +20,18 @@ const PATH_ORDER: &str = "2\n1\n3\n";
 
 /// The same as JSON.
 const PATH_JSON: &str = concat!(
-    "{\"rows\":3,\"entries\":5,\"status\":\"OK\",\"rows_placed_last\":0,\"workspace_compactions\":0,",
+    "{\"rows\":3,\"entries\":5,\"duplicates_dropped\":0,\"status\":\"OK\",",
+    "\"rows_placed_last\":0,\"workspace_compactions\":0,",
     "\"at_most\":{\"entries_of_l\":2,\"divisions\":2,\"multiply_subtracts_ldl\":2,\"multiply_subtracts_lu\":2,",
     "\"largest_column\":2},\"permutation\":[2,1,3]}\n"
 );
 
 /// What `analyze` shows of it as JSON: row 3 is the parent of both others.
 const PATH_FACTOR_JSON: &str = concat!(
-    "{\"rows\":3,\"entries\":5,\"status\":\"OK\",\"rows_placed_last\":0,\"workspace_compactions\":0,",
+    "{\"rows\":3,\"entries\":5,\"duplicates_dropped\":0,\"status\":\"OK\",",
+    "\"rows_placed_last\":0,\"workspace_compactions\":0,",
     "\"at_most\":{\"entries_of_l\":2,\"divisions\":2,\"multiply_subtracts_ldl\":2,\"multiply_subtracts_lu\":2,",
-    "\"largest_column\":2},\"factor\":{\"entries_of_l\":2,\"fill\":0,\"divisions\":2,",
+    "\"largest_column\":2},\"ordered\":{\"entries_of_l\":2,\"fill\":0,\"divisions\":2,",
     "\"multiply_subtracts_ldl\":2,\"multiply_subtracts_lu\":2,\"largest_column\":2},",
     "\"columns\":[[2,3,1],[1,3,1],[3,0,0]]}\n"
 );

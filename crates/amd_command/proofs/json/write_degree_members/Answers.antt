@@ -1,5 +1,5 @@
 -- The parts are written one after another.
-use Rattle.std.proofs.Common.{ℕ, List, subst}
+use Rattle.std.proofs.Common.{ℕ, subst}
 use Rattle.std.specs.Prelude.{codes}
 use Rattle.std.specs.Io.KnownBytes.{Appends}
 use Rattle.amd_command.specs.Descriptions.{hundredths}
