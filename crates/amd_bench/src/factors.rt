@@ -2,7 +2,7 @@
 // order too. Called by `main`.
 
 use amd::{Control, order};
-use amd_cases::matrix::Matrix;
+use amd_cases::matrix::BinaryMatrix;
 use amd_symbolic::{Factor, Fault, analyze, columns};
 use anyhow::{Context, Result, bail};
 use num_traits::PrimInt;
@@ -30,7 +30,7 @@ fn told(fault: Fault) -> &'static str {
 /// Makes the columns of a matrix under an order, with this room, and says how long that took.
 fn time_columns<R: Runtime + Alloc<A = Global>, I: PrimInt>(
     rt: &R,
-    matrix: &Matrix<I, Global>,
+    matrix: &BinaryMatrix<I, Global>,
     p: &[I],
     room: usize,
 ) -> Result<(Factor<Global>, Duration)>
@@ -48,7 +48,7 @@ fn time_columns<R: Runtime + Alloc<A = Global>, I: PrimInt>(
 /// Orders a matrix by the default control and makes the columns under this order, and says how long that took.
 fn time_analysis<R: Runtime + Alloc<A = Global>, I: PrimInt>(
     rt: &R,
-    matrix: &Matrix<I, Global>,
+    matrix: &BinaryMatrix<I, Global>,
 ) -> Result<(Factor<Global>, Duration)>
     requires { I.fits (I.value matrix.now.n) }
 {
@@ -66,7 +66,7 @@ fn time_analysis<R: Runtime + Alloc<A = Global>, I: PrimInt>(
 #[inline(never)]
 pub fn columns_often<R: Runtime + Alloc<A = Global>, I: PrimInt>(
     rt: &R,
-    matrix: &Matrix<I, Global>,
+    matrix: &BinaryMatrix<I, Global>,
     repeats: usize,
 ) -> Result<Factored>
     requires { I.fits (I.value matrix.now.n) }
@@ -93,7 +93,7 @@ pub fn columns_often<R: Runtime + Alloc<A = Global>, I: PrimInt>(
 #[inline(never)]
 pub fn analyze_often<R: Runtime + Alloc<A = Global>, I: PrimInt>(
     rt: &R,
-    matrix: &Matrix<I, Global>,
+    matrix: &BinaryMatrix<I, Global>,
     repeats: usize,
 ) -> Result<Factored>
     requires { I.fits (I.value matrix.now.n) }

@@ -19,7 +19,7 @@ use crate::factors::{Factored, analyze_often, columns_often};
 use crate::reading::read_file;
 use crate::stages::{Staged, stages_often};
 use amd::{Control, Info, Status, order};
-use amd_cases::matrix::Matrix;
+use amd_cases::matrix::BinaryMatrix;
 use anyhow::{Context, Result, bail};
 use num_traits::PrimInt;
 use std::alloc::Global;
@@ -41,7 +41,7 @@ struct Outcome<I: PrimInt> {
 #[inline(never)]
 fn order_often<R: Runtime + Alloc<A = Global>, I: PrimInt>(
     rt: &R,
-    matrix: &Matrix<I, Global>,
+    matrix: &BinaryMatrix<I, Global>,
     repeats: usize,
 ) -> Result<Outcome<I>>
     requires { I.fits (I.value matrix.now.n) }
@@ -189,7 +189,7 @@ fn time_file<R: Runtime + Alloc<A = Global>, I: PrimInt>(
     request: &Request<'_>,
 ) -> Result<()> {
     let (path, kind, repeats) = (request.path, request.kind, request.repeats);
-    let matrix: Matrix<I, Global> = read_file(rt, path)?;
+    let matrix: BinaryMatrix<I, Global> = read_file(rt, path)?;
     let name = path.rsplit('/').next().unwrap_or(path);
     match request.call {
         "columns" => {

@@ -3,7 +3,7 @@
 
 ghost use Rattle.std.specs.Prelude.{IfOk};
 
-use amd_cases::matrix::{Matrix, read_matrix};
+use amd_cases::matrix::{BinaryMatrix, read_matrix};
 use amd_market::reader::{Matrix as Listed, read_matrix as read_listed};
 use anyhow::{Context, Result};
 use num_traits::PrimInt;
@@ -29,11 +29,11 @@ fn converted<R: Runtime + Alloc<A = Global>, I: PrimInt>(
 fn narrowed<R: Runtime + Alloc<A = Global>, I: PrimInt>(
     rt: &R,
     matrix: &Listed<Global>,
-) -> Result<Matrix<I, Global>>
+) -> Result<BinaryMatrix<I, Global>>
     ensures { IfOk result (λ m. I.fits (I.value m.n)) }
 {
     let n = num_traits::cast::<usize, I>(matrix.n);
-    Ok(Matrix {
+    Ok(BinaryMatrix {
         n: n.context("a number does not fit")?,
         a_p: converted(rt, &matrix.a_p)?,
         a_i: converted(rt, &matrix.a_i)?,
@@ -44,7 +44,7 @@ fn narrowed<R: Runtime + Alloc<A = Global>, I: PrimInt>(
 pub fn read_file<R: Runtime + Alloc<A = Global>, I: PrimInt>(
     rt: &R,
     path: &str,
-) -> Result<Matrix<I, Global>>
+) -> Result<BinaryMatrix<I, Global>>
     ensures { IfOk result (λ m. I.fits (I.value m.n)) }
 {
     let mut file = BufReader::new(rt.alloc(), fs::open(rt, path)?)?;

@@ -16,7 +16,7 @@ use amd::aat::aat;
 use amd::preprocess::preprocess;
 use amd::valid::valid;
 use amd::{Control, Info, Status};
-use amd_cases::matrix::Matrix;
+use amd_cases::matrix::BinaryMatrix;
 use amd_engine::amd_1::holds;
 use amd_engine::ended::list_rows;
 use amd_engine::fresh::fresh_lists;
@@ -227,7 +227,7 @@ fn time_sorted<R: Runtime + Alloc<A = Global>, I: PrimInt>(
 fn time_call<R: Runtime + Alloc<A = Global>, I: PrimInt>(
     rt: &R,
     clock: &mut Clock,
-    matrix: &Matrix<I, Global>,
+    matrix: &BinaryMatrix<I, Global>,
 ) -> Result<Vec<I>>
     requires { I.fits (I.value matrix.now.n) }
 {
@@ -254,7 +254,7 @@ fn time_call<R: Runtime + Alloc<A = Global>, I: PrimInt>(
 /// Orders a matrix by the default control some times.
 pub fn stages_often<R: Runtime + Alloc<A = Global>, I: PrimInt>(
     rt: &R,
-    matrix: &Matrix<I, Global>,
+    matrix: &BinaryMatrix<I, Global>,
     repeats: usize,
 ) -> Result<Staged<I>>
     requires { I.fits (I.value matrix.now.n) }

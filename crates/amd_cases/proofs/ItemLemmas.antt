@@ -4,8 +4,8 @@ use Rattle.std.proofs.Common.{◌∙◌, subst}
 use Rattle.std.specs.Prelude.{MatchResult}
 use Rattle.amd_cases.specs.Words.{words, SpellsNumbers}
 use Rattle.amd_cases.specs.Items.{keyword_text, item_keyword, truth_number, item_numbers, FitsItem, SpellsItem}
-use Rattle.amd_cases.specs.declared.faults.Fault.{Fault}
-use Rattle.amd_cases.specs.declared.faults.Fault.TheVariants.{OutOfMemory}
+use Rattle.amd_cases.specs.declared.faults.CaseFault.{CaseFault}
+use Rattle.amd_cases.specs.declared.faults.CaseFault.TheVariants.{OutOfMemory}
 use Rattle.amd_cases.specs.declared.items.Keyword.{Keyword}
 use Rattle.amd_cases.specs.declared.items.Keyword.TheVariants.{Case, Size, Dense, Aggressive, Pointers, Rows, Hold, Permutation, Room, End}
 use Rattle.amd_cases.specs.declared.items.Item.{Item}
@@ -91,7 +91,7 @@ no-hold zs never (item.Room r) f h e = cc
 no-hold zs never item.End f h e = cc
 
 -- what was made of the numbers of a line of held rows is the item of the line, or there is none
-pub this-hold : {Z : Type 0} (line w : List ℕ) (ws : List (List ℕ)) (k : Keyword) (zs ys : List ℤ) (r : Result (Item Z) Fault) →
+pub this-hold : {Z : Type 0} (line w : List ℕ) (ws : List (List ℕ)) (k : Keyword) (zs ys : List ℤ) (r : Result (Item Z) CaseFault) →
     words line ≡ w ∷ ws → w ≡ keyword_text k → k ≡ Hold → SpellsNumbers ws zs → ys ≡ zs
     → MatchResult r (λ i. FitsItem i × (item_keyword i ≡ Hold) × (item_numbers i ≡ ys))
     (λ e. e ≢ OutOfMemory → (i : Item Z) → FitsItem i → item_keyword i ≡ Hold → item_numbers i ≢ ys)

@@ -10,8 +10,8 @@ use Rattle.amd_cases.specs.declared.items.Item.{Item}
 use Rattle.amd_cases.specs.declared.items.Item.TheVariants as item
 use Rattle.amd_cases.specs.Spelling.{SpellsCase}
 use Rattle.amd_cases.specs.declared.cases.Case.{Case}
-use Rattle.amd_cases.specs.declared.reader.ReadError.{ReadError}
-use Rattle.amd_cases.specs.declared.reader.ReadError.TheVariants.{Line, Input, Stopped}
+use Rattle.amd_cases.specs.declared.reader.CaseError.{CaseError}
+use Rattle.amd_cases.specs.declared.reader.CaseError.TheVariants.{Line, Input, Stopped}
 use Rattle.amd_cases.specs.declared.reader.CaseReader.{CaseReader}
 
 -- the bytes begin with these lines, each up to and with its line feed, or up to the end of the bytes; and this is left
@@ -121,7 +121,7 @@ pub record ReadsBody {R Z : Type 0} (remaining : R → Option (List ℕ)) (old n
   pub spells : SpellsCase (item.Case number ∷ items) case
 
 -- the error names the line that was read last
-abbrev pub NamesLine : ReadError → ℕ → Type 0
+abbrev pub NamesLine : CaseError → ℕ → Type 0
 NamesLine (Line line fault) lines = line ≡ lines
 NamesLine (Input line e) lines = line ≡ lines
 NamesLine Stopped lines = Unit {0}

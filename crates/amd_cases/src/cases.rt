@@ -5,9 +5,9 @@ ghost use Rattle.std.specs.Prelude.{◌≡◌, ◌≢◌, ◌+◌, false, None, 
 ghost use Rattle.amd_cases.specs.Items.{item_keyword};
 ghost use Rattle.amd_cases.specs.Drafts.{Adds, Finishes, is_complete, free_slots};
 ghost use Rattle.amd_cases.specs.declared.items.Keyword.TheVariants as key;
-ghost use Rattle.amd_cases.specs.declared.faults.Fault.TheVariants as fault;
+ghost use Rattle.amd_cases.specs.declared.faults.CaseFault.TheVariants as fault;
 
-use crate::faults::Fault;
+use crate::faults::CaseFault;
 use crate::items::Item;
 use std::alloc::Allocator;
 
@@ -52,12 +52,12 @@ pub(crate) struct Draft<A: Allocator> {
 }
 
 /// Fills a slot that is empty.
-fn fill<T: Drop>(slot: &mut Option<T>, value: T) -> Result<(), Fault>
+fn fill<T: Drop>(slot: &mut Option<T>, value: T) -> Result<(), CaseFault>
     ensures filled { OnOk result ((slot.old ≡ None) × (slot.new ≡ Some value)) }
     ensures taken { IfErr result (λ e. (e ≡ fault.Repeated) × IsSome slot.old) }
 {
     if slot.is_some() {
-        return Err(Fault::Repeated);
+        return Err(CaseFault::Repeated);
     }
     *slot = Some(value);
     Ok(())
@@ -93,13 +93,13 @@ impl<A: Allocator> Draft<A> {
 
     /// Takes an item in. `Repeated` comes exactly where an item of the same keyword was there, and `Inside` for a
     /// `CASE`. The contract says nothing of the fault.
-    pub(crate) fn add(&mut self, item: Item<A>) -> Result<(), Fault>
+    pub(crate) fn add(&mut self, item: Item<A>) -> Result<(), CaseFault>
         requires { item_keyword item ≢ key.End }
         ensures adds { OnOk result (Adds self.old self.new item) }
         ensures fewer { OnOk result (free_slots self.new + 1 ≡ free_slots self.old) }
     {
         match item {
-            Item::Case(_) => Err(Fault::Inside),
+            Item::Case(_) => Err(CaseFault::Inside),
             Item::Size(n) => fill(&mut self.n, n),
             Item::Dense(dense) => fill(&mut self.dense, dense),
             Item::Aggressive(aggressive) => fill(&mut self.aggressive, aggressive),
@@ -113,7 +113,7 @@ impl<A: Allocator> Draft<A> {
     }
 
     /// The case, where it has all that it must have.
-    pub(crate) fn finish(self) -> Result<Case<A>, Fault>
+    pub(crate) fn finish(self) -> Result<Case<A>, CaseFault>
         ensures { MatchResult result (Finishes self) (λ e. (e ≡ fault.Missing) × (is_complete self ≡ false)) }
     {
         let Draft {
@@ -128,13 +128,13 @@ impl<A: Allocator> Draft<A> {
             room,
         } = self;
         let Some(n) = n else {
-            return Err(Fault::Missing);
+            return Err(CaseFault::Missing);
         };
         let Some(a_p) = a_p else {
-            return Err(Fault::Missing);
+            return Err(CaseFault::Missing);
         };
         let Some(a_i) = a_i else {
-            return Err(Fault::Missing);
+            return Err(CaseFault::Missing);
         };
         Ok(Case {
             number,

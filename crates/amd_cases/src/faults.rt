@@ -1,14 +1,14 @@
 // What is wrong with a line of a case. Given by `items` and `cases`, and handed on with the line's number by `reader`.
 
 ghost use Rattle.std.specs.Prelude.{◌≡◌};
-ghost use Rattle.amd_cases.specs.declared.faults.Fault.TheVariants.{OutOfMemory};
+ghost use Rattle.amd_cases.specs.declared.faults.CaseFault.TheVariants.{OutOfMemory};
 
 use std::alloc::AllocFailed;
 use std::fmt;
 
 /// What is wrong with a line.
 #[derive(Clone, Copy, PartialEq, Debug, Drop)]
-pub enum Fault {
+pub enum CaseFault {
     /// The first word of the line is no keyword.
     Keyword,
     /// A word behind the keyword is no number or does not fit, or there are more or fewer than the keyword takes.
@@ -31,36 +31,36 @@ pub enum Fault {
     OutOfMemory,
 }
 
-impl Fault {
+impl CaseFault {
     /// The fault in words.
     fn text(self) -> &'static str {
         match self {
-            Fault::Keyword => "no keyword",
-            Fault::Numbers => "not the numbers that the keyword takes",
-            Fault::Outside => "an item outside of a case",
-            Fault::Inside => "CASE inside a case",
-            Fault::Repeated => "a repeated item",
-            Fault::Missing => "END without N, AP or AI",
-            Fault::Unfinished => "the input ends inside a case",
-            Fault::Long => "a line that is too long",
-            Fault::Lines => "too many lines",
-            Fault::OutOfMemory => "out of memory",
+            CaseFault::Keyword => "no keyword",
+            CaseFault::Numbers => "not the numbers that the keyword takes",
+            CaseFault::Outside => "an item outside of a case",
+            CaseFault::Inside => "CASE inside a case",
+            CaseFault::Repeated => "a repeated item",
+            CaseFault::Missing => "END without N, AP or AI",
+            CaseFault::Unfinished => "the input ends inside a case",
+            CaseFault::Long => "a line that is too long",
+            CaseFault::Lines => "too many lines",
+            CaseFault::OutOfMemory => "out of memory",
         }
     }
 }
 
-impl fmt::Display for Fault {
+impl fmt::Display for CaseFault {
     fn fmt<W: fmt::Write>(&self, f: &mut fmt::Formatter<W>) -> fmt::Result {
         f.write_str(self.text())
     }
 }
 
-impl std::error::Error for Fault {}
+impl std::error::Error for CaseFault {}
 
-impl<T: Drop> From<AllocFailed<T>> for Fault {
+impl<T: Drop> From<AllocFailed<T>> for CaseFault {
     ghost from_gives = { λ _ e. e ≡ OutOfMemory };
 
-    fn from(_: AllocFailed<T>) -> Fault {
-        Fault::OutOfMemory
+    fn from(_: AllocFailed<T>) -> CaseFault {
+        CaseFault::OutOfMemory
     }
 }

@@ -6,7 +6,7 @@ ghost use Rattle.amd_cases.specs.Words.{words, SpellsNumbers};
 ghost use Rattle.amd_cases.specs.Items.{keyword_text, item_keyword, truth_number, item_numbers, FitsItem, SpellsItem};
 ghost use Rattle.amd_cases.specs.declared.items.Keyword.TheVariants as key;
 
-use crate::faults::Fault;
+use crate::faults::CaseFault;
 use crate::words::{first_word, number_of};
 use std::alloc::Allocator;
 
@@ -80,15 +80,15 @@ pub fn keyword_of(word: &[u8]) -> Option<Keyword>
 }
 
 /// The numbers that the words of a text spell. Which fault comes is left open, and so is when memory is refused.
-pub fn numbers_of<A: Allocator + Copy>(alloc: A, text: &[u8]) -> Result<Vec<i64, A>, Fault>
+pub fn numbers_of<A: Allocator + Copy>(alloc: A, text: &[u8]) -> Result<Vec<i64, A>, CaseFault>
     ensures { MatchResult result (λ v. SpellsNumbers (words text.now) v.items)
-        (λ e. e ≢ Fault.OutOfMemory → (zs : List ℤ) → SpellsNumbers (words text.now) zs → ⊥) }
+        (λ e. e ≢ CaseFault.OutOfMemory → (zs : List ℤ) → SpellsNumbers (words text.now) zs → ⊥) }
 {
     let mut numbers = Vec::new(alloc);
     let mut left = text;
     'words: while let Some((word, behind)) = first_word(left) {
         let Some(number) = number_of(word) else {
-            return Err(Fault::Numbers);
+            return Err(CaseFault::Numbers);
         };
         numbers.push(number)?;
         left = behind;
@@ -118,15 +118,15 @@ fn truth_of(number: &i64) -> Option<bool>
 }
 
 /// The marks that numbers stand for, each of which is 1 for yes or 0 for no. Memory may be refused.
-fn marks_of<A: Allocator>(alloc: A, numbers: &[i64]) -> Result<Vec<bool, A>, Fault>
+fn marks_of<A: Allocator>(alloc: A, numbers: &[i64]) -> Result<Vec<bool, A>, CaseFault>
     ensures { MatchResult result (λ v. map truth_number v.items ≡ numbers.now)
-        (λ e. e ≢ Fault.OutOfMemory → (marks : List Bool) → map truth_number marks ≢ numbers.now) }
+        (λ e. e ≢ CaseFault.OutOfMemory → (marks : List Bool) → map truth_number marks ≢ numbers.now) }
 {
     let mut marks = Vec::new(alloc);
     let mut left = numbers;
     'numbers: while let Some((number, behind)) = left.split_first() {
         let Some(mark) = truth_of(number) else {
-            return Err(Fault::Numbers);
+            return Err(CaseFault::Numbers);
         };
         marks.push(mark)?;
         left = behind;
@@ -161,9 +161,9 @@ fn item_from<A: Allocator>(keyword: Keyword, numbers: Vec<i64, A>) -> Option<Ite
 }
 
 /// The item of the keyword `HOLD` with its numbers. Memory may be refused.
-fn hold_from<A: Allocator>(alloc: A, numbers: &[i64]) -> Result<Item<A>, Fault>
+fn hold_from<A: Allocator>(alloc: A, numbers: &[i64]) -> Result<Item<A>, CaseFault>
     ensures { MatchResult result (λ i. FitsItem i × (item_keyword i ≡ key.Hold) × (item_numbers i ≡ numbers.now))
-        (λ e. e ≢ Fault.OutOfMemory → (i : Item A) → FitsItem i → item_keyword i ≡ key.Hold →
+        (λ e. e ≢ CaseFault.OutOfMemory → (i : Item A) → FitsItem i → item_keyword i ≡ key.Hold →
         item_numbers i ≢ numbers.now) }
 {
     match marks_of(alloc, numbers) {
@@ -173,22 +173,22 @@ fn hold_from<A: Allocator>(alloc: A, numbers: &[i64]) -> Result<Item<A>, Fault>
 }
 
 /// The item that a line spells. Which fault comes is left open, and so is when memory is refused.
-pub fn item_of<A: Allocator + Copy>(alloc: A, line: &[u8]) -> Result<Item<A>, Fault>
+pub fn item_of<A: Allocator + Copy>(alloc: A, line: &[u8]) -> Result<Item<A>, CaseFault>
     ensures { MatchResult result (SpellsItem line.now)
-        (λ e. e ≢ Fault.OutOfMemory → (i : Item A) → SpellsItem line.now i → ⊥) }
+        (λ e. e ≢ CaseFault.OutOfMemory → (i : Item A) → SpellsItem line.now i → ⊥) }
 {
     let Some((word, text)) = first_word(line) else {
-        return Err(Fault::Keyword);
+        return Err(CaseFault::Keyword);
     };
     let Some(keyword) = keyword_of(word) else {
-        return Err(Fault::Keyword);
+        return Err(CaseFault::Keyword);
     };
     let numbers = numbers_of(alloc, text)?;
     if let Keyword::Hold = keyword {
         return hold_from(alloc, &numbers);
     }
     let Some(item) = item_from(keyword, numbers) else {
-        return Err(Fault::Numbers);
+        return Err(CaseFault::Numbers);
     };
     Ok(item)
 }

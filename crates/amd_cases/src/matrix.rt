@@ -14,7 +14,7 @@ use thiserror::Error;
 
 /// A square matrix in column form.
 #[derive(Drop)]
-pub struct Matrix<I: PrimInt, A: Allocator> {
+pub struct BinaryMatrix<I: PrimInt, A: Allocator> {
     /// The number of rows and columns.
     pub n: I,
     /// Where each column begins, and where the last one ends.
@@ -205,7 +205,7 @@ fn expect_end<R: Read>(input: &mut R) -> Result<(), MatrixError>
 pub fn read_matrix<I: PrimInt, R: Read, A: Allocator + Copy>(
     alloc: A,
     input: &mut R,
-) -> Result<Matrix<I, A>, MatrixError>
+) -> Result<BinaryMatrix<I, A>, MatrixError>
     ensures fits { IfOk result (λ m. I.fits (I.value m.n)) }
     ensures holds { IfOk result (λ m. IfSome (R.remaining input.old)
         (HoldsMatrix (I.value m.n) (map I.value m.a_p.items) (map I.value m.a_i.items))) }
@@ -215,5 +215,5 @@ pub fn read_matrix<I: PrimInt, R: Read, A: Allocator + Copy>(
     let a_p = pointers(alloc, input, columns, entries as i64)?;
     let a_i = narrow_numbers(alloc, input, entries)?;
     expect_end(input)?;
-    Ok(Matrix { n, a_p, a_i })
+    Ok(BinaryMatrix { n, a_p, a_i })
 }

@@ -7,10 +7,10 @@ ghost use Rattle.amd_cases.specs.Words.{words};
 ghost use Rattle.amd_cases.specs.Reading.{TakesLine, TakesNext, TakesItems, TakesBlanks, ReadsBody, ReadsCase};
 ghost use Rattle.amd_cases.specs.Reading.{NamesLine, lines_read, has_failed, source_of};
 ghost use Rattle.amd_cases.specs.Reading.{is_blank};
-ghost use Rattle.amd_cases.specs.declared.reader.ReadError.TheVariants as error;
+ghost use Rattle.amd_cases.specs.declared.reader.CaseError.TheVariants as error;
 
 use crate::cases::{Case, Draft};
-use crate::faults::Fault;
+use crate::faults::CaseFault;
 use crate::items::{Item, item_of};
 use crate::limits::Limited;
 use crate::words::first_word;
@@ -31,14 +31,14 @@ fn is_blank(line: &[u8]) -> bool
 
 /// Why there is no next case.
 #[derive(Debug, Drop, Error)]
-pub enum ReadError {
+pub enum CaseError {
     /// A line is at fault; lines count from 1.
     #[error("line {line}: {fault}")]
     Line {
         /// The number of the line; where the input ends inside a case, that of the last line.
         line: u64,
         /// What is wrong with it.
-        fault: Fault,
+        fault: CaseFault,
     },
     /// The input could not be read.
     #[error("behind line {line}: {error}")]
@@ -80,17 +80,17 @@ impl<R: BufRead + Drop, A: Allocator + Copy> CaseReader<R, A> {
     }
 
     /// A fault of the line that was read last.
-    fn at_line(&self, fault: Fault) -> ReadError
+    fn at_line(&self, fault: CaseFault) -> CaseError
         ensures { result ≡ error.Line (lines_read self.now) fault }
     {
-        ReadError::Line {
+        CaseError::Line {
             line: self.lines,
             fault,
         }
     }
 
     /// Reads a line, and says whether there was one.
-    fn take_line(&mut self) -> Result<bool, ReadError>
+    fn take_line(&mut self) -> Result<bool, CaseError>
         ensures takes { IfOk result (λ some. TakesLine R.remaining self.old self.new some) }
         ensures line { IfErr result (λ e. NamesLine e (lines_read self.new)) }
     {
@@ -99,7 +99,7 @@ impl<R: BufRead + Drop, A: Allocator + Copy> CaseReader<R, A> {
         let outcome = self.input.read_until(b'\n', &mut self.line);
         if self.line.len() > LONGEST_LINE {
             self.lines = self.lines.saturating_add(1);
-            return Err(self.at_line(Fault::Long));
+            return Err(self.at_line(CaseFault::Long));
         }
         match outcome {
             Ok(0) => Ok(false),
@@ -108,9 +108,9 @@ impl<R: BufRead + Drop, A: Allocator + Copy> CaseReader<R, A> {
                 Ok(true)
             }
             Err(error) if error.kind() == ErrorKind::OutOfMemory => {
-                Err(self.at_line(Fault::OutOfMemory))
+                Err(self.at_line(CaseFault::OutOfMemory))
             }
-            Err(error) => Err(ReadError::Input {
+            Err(error) => Err(CaseError::Input {
                 line: self.lines,
                 error,
             }),
@@ -118,7 +118,7 @@ impl<R: BufRead + Drop, A: Allocator + Copy> CaseReader<R, A> {
     }
 
     /// Reads lines up to the next one that has a word, and says whether there was one.
-    fn take_telling(&mut self) -> Result<bool, ReadError>
+    fn take_telling(&mut self) -> Result<bool, CaseError>
         ensures takes { IfOk result (TakesNext R.remaining self.old self.new) }
         ensures line { IfErr result (λ e. NamesLine e (lines_read self.new)) }
     {
@@ -131,11 +131,11 @@ impl<R: BufRead + Drop, A: Allocator + Copy> CaseReader<R, A> {
                 return Ok(true);
             }
         }
-        Err(self.at_line(Fault::Lines))
+        Err(self.at_line(CaseFault::Lines))
     }
 
     /// The item of the next line that has a word, if there is one.
-    fn take_item(&mut self) -> Result<Option<Item<A>>, ReadError>
+    fn take_item(&mut self) -> Result<Option<Item<A>>, CaseError>
         ensures takes { IfOk result (λ o. MatchOption o (TakesBlanks R.remaining self.old self.new)
             (λ i. TakesItems R.remaining self.old self.new (i ∷ []))) }
         ensures line { IfErr result (λ e. NamesLine e (lines_read self.new)) }
@@ -150,14 +150,14 @@ impl<R: BufRead + Drop, A: Allocator + Copy> CaseReader<R, A> {
     }
 
     /// The rest of a case behind its first line.
-    fn take_body(&mut self, number: i64) -> Result<Case<A>, ReadError>
+    fn take_body(&mut self, number: i64) -> Result<Case<A>, CaseError>
         ensures takes { IfOk result (ReadsBody R.remaining self.old self.new number) }
         ensures line { IfErr result (λ e. NamesLine e (lines_read self.new)) }
     {
         let mut draft = Draft::new(number);
         'items: loop {
             match self.take_item()? {
-                None => return Err(self.at_line(Fault::Unfinished)),
+                None => return Err(self.at_line(CaseFault::Unfinished)),
                 Some(Item::End) => match draft.finish() {
                     Ok(case) => return Ok(case),
                     Err(fault) => return Err(self.at_line(fault)),
@@ -172,7 +172,7 @@ impl<R: BufRead + Drop, A: Allocator + Copy> CaseReader<R, A> {
     }
 
     /// The next case, where no error came before.
-    fn take_case(&mut self) -> Result<Option<Case<A>>, ReadError>
+    fn take_case(&mut self) -> Result<Option<Case<A>>, CaseError>
         ensures takes { IfOk result (λ o. MatchOption o (TakesBlanks R.remaining self.old self.new)
             (ReadsCase R.remaining self.old self.new)) }
         ensures line { IfErr result (λ e. NamesLine e (lines_read self.new)) }
@@ -180,7 +180,7 @@ impl<R: BufRead + Drop, A: Allocator + Copy> CaseReader<R, A> {
         match self.take_item()? {
             None => Ok(None),
             Some(Item::Case(number)) => Ok(Some(self.take_body(number)?)),
-            Some(_) => Err(self.at_line(Fault::Outside)),
+            Some(_) => Err(self.at_line(CaseFault::Outside)),
         }
     }
 
@@ -191,7 +191,7 @@ impl<R: BufRead + Drop, A: Allocator + Copy> CaseReader<R, A> {
     /// `Line` for a line at fault, an input that ends inside a case or refused memory, `Input` where the input cannot
     /// be read, and `Stopped` after an error. But for `Stopped`, the contract does not say when an error comes, nor
     /// which fault it names.
-    pub fn next_case(&mut self) -> Result<Option<Case<A>>, ReadError>
+    pub fn next_case(&mut self) -> Result<Option<Case<A>>, CaseError>
         ensures takes { IfOk result (λ o. MatchOption o (TakesBlanks R.remaining self.old self.new)
             (ReadsCase R.remaining self.old self.new)) }
         ensures line { IfErr result (λ e. NamesLine e (lines_read self.new)) }
@@ -199,7 +199,7 @@ impl<R: BufRead + Drop, A: Allocator + Copy> CaseReader<R, A> {
         ensures fails { has_failed self.new ≡ is_err result }
     {
         if self.failed {
-            return Err(ReadError::Stopped);
+            return Err(CaseError::Stopped);
         }
         let outcome = self.take_case();
         self.failed = outcome.is_err();

@@ -1,7 +1,7 @@
 -- The exit statuses.
 use Rattle.std.specs.Prelude.{ℕ}
-use Rattle.amd_market.specs.declared.faults.Fault.{Fault}
-use Rattle.amd_market.specs.declared.faults.Fault.TheVariants as fault
+use Rattle.amd_market.specs.declared.faults.ReadFault.{ReadFault}
+use Rattle.amd_market.specs.declared.faults.ReadFault.TheVariants as fault
 use Rattle.amd_market.specs.declared.faults.ReadError.{ReadError}
 use Rattle.amd_market.specs.declared.faults.ReadError.TheVariants.{Line, Input}
 use Rattle.amd_command.specs.declared.causes.Cause.{Cause}
@@ -9,7 +9,7 @@ use Rattle.amd_command.specs.declared.causes.Cause.TheVariants.{Dense, Open, Fol
 use Rattle.amd_command.specs.declared.causes.Cause.TheVariants.{Memory, Write, Picture}
 
 -- the exit status after a fault of a line: 1 where memory was refused, else 2
-abbrev pub fault_status : Fault → ℕ
+abbrev pub fault_status : ReadFault → ℕ
 fault_status fault.OutOfMemory = 1
 fault_status f = 2
 

@@ -4,7 +4,7 @@ ghost use Rattle.amd_command.specs.Causes.{exit_status};
 ghost use Rattle.std.specs.Prelude.{◌≡◌};
 
 use amd::Status;
-use amd_market::faults::{Fault, ReadError};
+use amd_market::faults::{ReadError, ReadFault};
 use amd_symbolic::Fault as FactorFault;
 use std::alloc::{AllocError, AllocFailed};
 use std::io;
@@ -55,7 +55,7 @@ impl Cause {
             Cause::Dense | Cause::Open(_) | Cause::Folder | Cause::Twice => 2,
             Cause::Form | Cause::Order => 2,
             Cause::Text(ReadError::Line { fault, .. }) => {
-                if matches!(fault, Fault::OutOfMemory) {
+                if matches!(fault, ReadFault::OutOfMemory) {
                     1
                 } else {
                     2

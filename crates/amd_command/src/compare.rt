@@ -12,7 +12,7 @@ ghost use Rattle.amd_command.specs.Comparisons.{IsNeedUnder, ListsRows, compared
 ghost use Rattle.amd_command.specs.Comparisons.{rows_below, three_figures, two_figures};
 
 use crate::held::{held_fault, row_of};
-use amd_market::faults::{Fault as LineFault, ReadError};
+use amd_market::faults::{ReadError, ReadFault};
 use amd_market::lines::LineReader;
 use amd_market::reader::Matrix;
 use amd_symbolic::needs::Need;
@@ -87,10 +87,10 @@ pub fn read_rows<R: Read + Drop, A: Allocator + Copy>(
             return Err(lines.at_line(held_fault(lines.line(), n)));
         };
         let Ok(()) = rows.push(row) else {
-            return Err(lines.at_line(LineFault::OutOfMemory));
+            return Err(lines.at_line(ReadFault::OutOfMemory));
         };
     }
-    Err(lines.at_line(LineFault::Lines))
+    Err(lines.at_line(ReadFault::Lines))
 }
 
 /// A figure of what a factor needs.

@@ -8,7 +8,7 @@ ghost use Rattle.amd_command.specs.Held.{SpellsRow, MarksRows};
 
 use amd_cases::words::first_word;
 use amd_market::entries::{index_of, row_fault};
-use amd_market::faults::{Fault, ReadError};
+use amd_market::faults::{ReadError, ReadFault};
 use amd_market::lines::LineReader;
 use std::alloc::Allocator;
 use std::io::Read;
@@ -25,10 +25,10 @@ pub fn row_of(line: &[u8], n: usize) -> Option<usize>
 }
 
 /// What is wrong with a line that is no row of `n`.
-pub fn held_fault(line: &[u8], n: usize) -> Fault {
+pub fn held_fault(line: &[u8], n: usize) -> ReadFault {
     match first_word(line) {
         Some((word, rest)) if first_word(rest).is_none() => row_fault(word, n),
-        _ => Fault::Held,
+        _ => ReadFault::Held,
     }
 }
 
@@ -49,7 +49,7 @@ pub fn read_held<R: Read + Drop, A: Allocator + Copy>(
 {
     let mut lines = LineReader::new(alloc, input);
     let Ok(mut marks) = vec![in alloc; false; n] else {
-        return Err(lines.at_line(Fault::OutOfMemory));
+        return Err(lines.at_line(ReadFault::OutOfMemory));
     };
     'rows: for _ in 0..u64::MAX {
         if !lines.take_telling()? {
@@ -60,5 +60,5 @@ pub fn read_held<R: Read + Drop, A: Allocator + Copy>(
         };
         marks[row] = true;
     }
-    Err(lines.at_line(Fault::Lines))
+    Err(lines.at_line(ReadFault::Lines))
 }

@@ -1,8 +1,8 @@
 // The lines of a case file that are no items: lines without a word, which are passed over, and lines that are too long,
 // which are refused before they were read whole.
 
-use amd_cases::faults::Fault;
-use amd_cases::reader::{CaseReader, LONGEST_LINE, ReadError};
+use amd_cases::faults::CaseFault;
+use amd_cases::reader::{CaseError, CaseReader, LONGEST_LINE};
 use amd_testing::check;
 use std::alloc::{Allocator, Global};
 use std::io;
@@ -39,11 +39,11 @@ fn is_refused<R: BufRead + Drop>(
     alloc: Global,
     input: R,
     wanted: u64,
-    wanted_fault: Fault,
+    wanted_fault: CaseFault,
 ) -> bool {
     let mut cases = CaseReader::new(alloc, input);
     match cases.next_case() {
-        Err(ReadError::Line { line, fault }) => line == wanted && fault == wanted_fault,
+        Err(CaseError::Line { line, fault }) => line == wanted && fault == wanted_fault,
         _ => false,
     }
 }
@@ -52,9 +52,9 @@ fn is_refused<R: BufRead + Drop>(
 #[test]
 fn faults_behind_lines_without_a_word(rt: HostRuntime) {
     for (text, line, fault) in [
-        (b"\n \nN 1\n".as_slice(), 3, Fault::Outside),
-        (b"\nCASE 1\n\nN x\n".as_slice(), 4, Fault::Numbers),
-        (b"CASE 1\n\n\n".as_slice(), 3, Fault::Unfinished),
+        (b"\n \nN 1\n".as_slice(), 3, CaseFault::Outside),
+        (b"\nCASE 1\n\nN x\n".as_slice(), 4, CaseFault::Numbers),
+        (b"CASE 1\n\n\n".as_slice(), 3, CaseFault::Unfinished),
     ] {
         assert!(rt; is_refused(rt.alloc(), text, line, fault), "{text:?}");
     }
@@ -109,7 +109,7 @@ fn a_line_without_an_end(rt: HostRuntime) {
         let left = LONGEST_LINE + PIECE.len();
         let input = Endless { front, left };
         assert!(rt;
-            is_refused(rt.alloc(), input, line, Fault::Long),
+            is_refused(rt.alloc(), input, line, CaseFault::Long),
             "line {line}"
         );
     }
@@ -131,6 +131,6 @@ fn the_longest_line(rt: HostRuntime) -> Result<(), std::test::Fail> {
     let mut cases = CaseReader::new(rt.alloc(), text.as_slice());
     check!(&rt; next_of(&rt, &mut cases) == Some((1, 0)));
     let text = case_of(rt.alloc(), LONGEST_LINE + 1)?;
-    check!(&rt; is_refused(rt.alloc(), text.as_slice(), 1, Fault::Long));
+    check!(&rt; is_refused(rt.alloc(), text.as_slice(), 1, CaseFault::Long));
     Ok(())
 }

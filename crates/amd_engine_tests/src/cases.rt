@@ -1,9 +1,9 @@
 // The readers of cases and of matrix files, over texts and bytes that are written out here.
 
 use amd_cases::cases::Case;
-use amd_cases::faults::Fault;
-use amd_cases::matrix::{Matrix, MatrixError, read_matrix};
-use amd_cases::reader::{CaseReader, ReadError};
+use amd_cases::faults::CaseFault;
+use amd_cases::matrix::{BinaryMatrix, MatrixError, read_matrix};
+use amd_cases::reader::{CaseError, CaseReader};
 use amd_testing::check;
 use amd_testing::refusing::{Refusing, each_refused};
 use num_traits::PrimInt;
@@ -88,45 +88,49 @@ fn items_that_may_be_left_out(rt: HostRuntime) {
 }
 
 /// Checks that a text is refused for a line, and that nothing is read behind it.
-fn check_fault(rt: &impl Abort, alloc: Global, text: &[u8], wanted: u64, wanted_fault: Fault) {
+fn check_fault(rt: &impl Abort, alloc: Global, text: &[u8], wanted: u64, wanted_fault: CaseFault) {
     let mut cases = CaseReader::new(alloc, text);
     match cases.next_case() {
-        Err(ReadError::Line { line, fault }) => {
+        Err(CaseError::Line { line, fault }) => {
             assert!(rt; line == wanted && fault == wanted_fault, "{text:?}");
         }
         _ => panic!(rt; "not refused: {text:?}"),
     }
-    check!(rt; matches!(cases.next_case(), Err(ReadError::Stopped)));
+    check!(rt; matches!(cases.next_case(), Err(CaseError::Stopped)));
 }
 
 #[test]
 fn lines_that_spell_no_item(rt: HostRuntime) {
     for (text, line, fault) in [
-        (b"case 1\n".as_slice(), 1, Fault::Keyword),
-        (b"CASES 1\n".as_slice(), 1, Fault::Keyword),
-        (b"CASE 1\nM 2\n".as_slice(), 2, Fault::Keyword),
-        (b"CASE 1\n2\n".as_slice(), 2, Fault::Keyword),
-        (b"CASE\n".as_slice(), 1, Fault::Numbers),
-        (b"CASE 1 2\n".as_slice(), 1, Fault::Numbers),
-        (b"CASE 1\nN\n".as_slice(), 2, Fault::Numbers),
-        (b"CASE 1\nN x\n".as_slice(), 2, Fault::Numbers),
-        (b"CASE 1\nN 1.5\n".as_slice(), 2, Fault::Numbers),
+        (b"case 1\n".as_slice(), 1, CaseFault::Keyword),
+        (b"CASES 1\n".as_slice(), 1, CaseFault::Keyword),
+        (b"CASE 1\nM 2\n".as_slice(), 2, CaseFault::Keyword),
+        (b"CASE 1\n2\n".as_slice(), 2, CaseFault::Keyword),
+        (b"CASE\n".as_slice(), 1, CaseFault::Numbers),
+        (b"CASE 1 2\n".as_slice(), 1, CaseFault::Numbers),
+        (b"CASE 1\nN\n".as_slice(), 2, CaseFault::Numbers),
+        (b"CASE 1\nN x\n".as_slice(), 2, CaseFault::Numbers),
+        (b"CASE 1\nN 1.5\n".as_slice(), 2, CaseFault::Numbers),
         (
             b"CASE 1\nN 9223372036854775808\n".as_slice(),
             2,
-            Fault::Numbers,
+            CaseFault::Numbers,
         ),
-        (b"CASE 1\nT 2147483648\n".as_slice(), 2, Fault::Numbers),
-        (b"CASE 1\nAGG 2\n".as_slice(), 2, Fault::Numbers),
-        (b"CASE 1\nAP 0,1\n".as_slice(), 2, Fault::Numbers),
-        (b"CASE 1\nHOLD 0 2\n".as_slice(), 2, Fault::Numbers),
-        (b"CASE 1\nHOLD -1\n".as_slice(), 2, Fault::Numbers),
-        (b"CASE 1\nROOM\n".as_slice(), 2, Fault::Numbers),
-        (b"CASE 1\nN 1\nAI 0 \xff\n".as_slice(), 3, Fault::Numbers),
+        (b"CASE 1\nT 2147483648\n".as_slice(), 2, CaseFault::Numbers),
+        (b"CASE 1\nAGG 2\n".as_slice(), 2, CaseFault::Numbers),
+        (b"CASE 1\nAP 0,1\n".as_slice(), 2, CaseFault::Numbers),
+        (b"CASE 1\nHOLD 0 2\n".as_slice(), 2, CaseFault::Numbers),
+        (b"CASE 1\nHOLD -1\n".as_slice(), 2, CaseFault::Numbers),
+        (b"CASE 1\nROOM\n".as_slice(), 2, CaseFault::Numbers),
+        (
+            b"CASE 1\nN 1\nAI 0 \xff\n".as_slice(),
+            3,
+            CaseFault::Numbers,
+        ),
         (
             b"CASE 1\nN 1\nAP 0 0\nAI\nEND 1\n".as_slice(),
             5,
-            Fault::Numbers,
+            CaseFault::Numbers,
         ),
     ] {
         check_fault(&rt, rt.alloc(), text, line, fault);
@@ -136,22 +140,42 @@ fn lines_that_spell_no_item(rt: HostRuntime) {
 #[test]
 fn items_that_make_no_case(rt: HostRuntime) {
     for (text, line, fault) in [
-        (b"N 1\n".as_slice(), 1, Fault::Outside),
-        (b"END\n".as_slice(), 1, Fault::Outside),
-        (b"CASE 1\nN 1\nCASE 2\n".as_slice(), 3, Fault::Inside),
-        (b"CASE 1\nN 1\nN 1\n".as_slice(), 3, Fault::Repeated),
-        (b"CASE 1\nT 1\nT 2\n".as_slice(), 3, Fault::Repeated),
-        (b"CASE 1\nAGG 1\nAGG 0\n".as_slice(), 3, Fault::Repeated),
-        (b"CASE 1\nAP 0\nAP 0\n".as_slice(), 3, Fault::Repeated),
-        (b"CASE 1\nAI 0\nAI 0\n".as_slice(), 3, Fault::Repeated),
-        (b"CASE 1\nHOLD 0\nHOLD 0\n".as_slice(), 3, Fault::Repeated),
-        (b"CASE 1\nPERM 0\nPERM 0\n".as_slice(), 3, Fault::Repeated),
-        (b"CASE 1\nROOM 0\nROOM 0\n".as_slice(), 3, Fault::Repeated),
-        (b"CASE 1\nAP 0\nAI\nEND\n".as_slice(), 4, Fault::Missing),
-        (b"CASE 1\nN 0\nAI\nEND\n".as_slice(), 4, Fault::Missing),
-        (b"CASE 1\nN 0\nAP 0\nEND\n".as_slice(), 4, Fault::Missing),
-        (b"CASE 1\n".as_slice(), 1, Fault::Unfinished),
-        (b"CASE 1\nN 0\nAP 0\nAI".as_slice(), 4, Fault::Unfinished),
+        (b"N 1\n".as_slice(), 1, CaseFault::Outside),
+        (b"END\n".as_slice(), 1, CaseFault::Outside),
+        (b"CASE 1\nN 1\nCASE 2\n".as_slice(), 3, CaseFault::Inside),
+        (b"CASE 1\nN 1\nN 1\n".as_slice(), 3, CaseFault::Repeated),
+        (b"CASE 1\nT 1\nT 2\n".as_slice(), 3, CaseFault::Repeated),
+        (b"CASE 1\nAGG 1\nAGG 0\n".as_slice(), 3, CaseFault::Repeated),
+        (b"CASE 1\nAP 0\nAP 0\n".as_slice(), 3, CaseFault::Repeated),
+        (b"CASE 1\nAI 0\nAI 0\n".as_slice(), 3, CaseFault::Repeated),
+        (
+            b"CASE 1\nHOLD 0\nHOLD 0\n".as_slice(),
+            3,
+            CaseFault::Repeated,
+        ),
+        (
+            b"CASE 1\nPERM 0\nPERM 0\n".as_slice(),
+            3,
+            CaseFault::Repeated,
+        ),
+        (
+            b"CASE 1\nROOM 0\nROOM 0\n".as_slice(),
+            3,
+            CaseFault::Repeated,
+        ),
+        (b"CASE 1\nAP 0\nAI\nEND\n".as_slice(), 4, CaseFault::Missing),
+        (b"CASE 1\nN 0\nAI\nEND\n".as_slice(), 4, CaseFault::Missing),
+        (
+            b"CASE 1\nN 0\nAP 0\nEND\n".as_slice(),
+            4,
+            CaseFault::Missing,
+        ),
+        (b"CASE 1\n".as_slice(), 1, CaseFault::Unfinished),
+        (
+            b"CASE 1\nN 0\nAP 0\nAI".as_slice(),
+            4,
+            CaseFault::Unfinished,
+        ),
     ] {
         check_fault(&rt, rt.alloc(), text, line, fault);
     }
@@ -183,8 +207,8 @@ fn an_input_that_breaks_off(rt: HostRuntime) -> Result<(), Fail> {
         b"CASE 1\nN 0\nAP 0\nAI".as_slice(),
     ] {
         let mut cases = CaseReader::new(rt.alloc(), BufReader::new(rt.alloc(), Broken(text))?);
-        let is_told = matches!(cases.next_case(), Err(ReadError::Input { .. }));
-        let is_stopped = matches!(cases.next_case(), Err(ReadError::Stopped));
+        let is_told = matches!(cases.next_case(), Err(CaseError::Input { .. }));
+        let is_stopped = matches!(cases.next_case(), Err(CaseError::Stopped));
         assert!(rt; is_told && is_stopped, "{text:?}");
     }
     Ok(())
@@ -199,12 +223,12 @@ fn reads_cases(rt: &impl Abort, heap: &Refusing<Global>) -> bool {
             Ok(Some(case)) => sizes = sizes.wrapping_mul(10).wrapping_add(case.n),
             Ok(None) => return sizes == 30,
             Err(
-                ReadError::Line {
-                    fault: Fault::OutOfMemory,
+                CaseError::Line {
+                    fault: CaseFault::OutOfMemory,
                     ..
                 },
             )
-            | Err(ReadError::Stopped) => check!(rt; heap.refused()),
+            | Err(CaseError::Stopped) => check!(rt; heap.refused()),
             Err(_) => panic!(rt; "another error"),
         }
     }
@@ -239,8 +263,10 @@ fn fault_of<I: PrimInt, R: Read>(alloc: Global, input: &mut R) -> Option<MatrixE
 #[test]
 fn a_matrix_file(rt: HostRuntime) -> Result<(), Fail> {
     let bytes = file_of(rt.alloc(), &[2, 3, 0, 2, 3], &[0, 1, -300])?;
-    let Ok(Matrix { n, a_p, a_i }) = read_matrix::<i64, _, _>(rt.alloc(), &mut bytes.as_slice())
-    else {
+    let Ok(BinaryMatrix { n, a_p, a_i }) = read_matrix::<i64, _, _>(
+        rt.alloc(),
+        &mut bytes.as_slice(),
+    ) else {
         panic!(rt; "refused");
     };
     check!(&rt; n == 2 && a_p.as_slice() == [0, 2, 3].as_slice());

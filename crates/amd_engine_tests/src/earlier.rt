@@ -115,7 +115,11 @@ fn are_lists<A: Allocator>(wanted: &[&[usize]], lists: &mut NeighbourLists<A>) -
 }
 
 /// Asserts that the lists are those of a case.
-fn check<A: Allocator>(rt: &impl Abort, case: &NeighbourCase, lists: &mut (NeighbourLists<A>, NeighbourLists<A>)) {
+fn check<A: Allocator>(
+    rt: &impl Abort,
+    case: &NeighbourCase,
+    lists: &mut (NeighbourLists<A>, NeighbourLists<A>),
+) {
     let (earlier, later) = lists;
     check!(rt; are_lists(case.earlier, earlier), case.what);
     check!(rt; are_lists(case.later, later), case.what);

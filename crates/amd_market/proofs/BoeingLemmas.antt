@@ -12,9 +12,9 @@ use Rattle.amd_market.specs.Boeing.{is_whole_letter, SpellsCounts, SpellsField, 
 use Rattle.amd_market.proofs.EntryLemmas.{Inside, entries-inside}
 use Rattle.amd_market.specs.declared.headers.Symmetry.{Symmetry}
 use Rattle.amd_market.specs.Lines.{TakesLines, line_of}
-use Rattle.amd_market.specs.Faults.{IsOfList, IsBehind, last, reading, in_boeing}
-use Rattle.amd_market.specs.declared.faults.Fault.{Fault}
-use Rattle.amd_market.specs.declared.faults.Fault.TheVariants as fault
+use Rattle.amd_market.specs.Faults.{IsOfList, IsToldBehind, last, reading, in_boeing}
+use Rattle.amd_market.specs.declared.faults.ReadFault.{ReadFault}
+use Rattle.amd_market.specs.declared.faults.ReadFault.TheVariants as fault
 use Rattle.amd_market.specs.declared.lines.LineReader.{LineReader}
 
 -- a front or a back of a list whose length may be less
@@ -152,7 +152,7 @@ sides-line remaining a b None h k = tt
 sides-line remaining a b (Some sides) h k = (line_of b, h, k)
 
 -- a fault of the numbers of a line
-pub list-behind : (f : Fault) (line : List ℕ) (rest : Option (List ℕ)) → IsOfList f → IsBehind f (line ∷ []) rest
+pub list-behind : (f : ReadFault) (line : List ℕ) (rest : Option (List ℕ)) → IsOfList f → IsToldBehind f (line ∷ []) rest
 list-behind fault.OutOfMemory line rest h = reading tt
 list-behind fault.Kind line rest h = last [] line refl (in_boeing tt)
 list-behind fault.Elemental line rest h = last [] line refl (in_boeing tt)
@@ -188,7 +188,7 @@ last-of l (m ∷ ls) = let rest = last-of m ls in (l ∷ rest.0, rest.1, ap (λ 
 
 -- pointers that do not rise are told at the last of their lines
 pub pointers-behind : (per_line width bound count : ℕ) (ls : List (List ℕ)) (ks : List ℕ) (rest : Option (List ℕ)) → 0 < count →
-    SpellsTable per_line width bound count ls ks → IsBehind fault.Pointers ls rest
+    SpellsTable per_line width bound count ls ks → IsToldBehind fault.Pointers ls rest
 pointers-behind per_line width bound count [] ks rest some h = let none = h.0 in absurd (omega (arith, none))
 pointers-behind per_line width bound count (l ∷ ls) ks rest some h =
     let at = last-of l ls in last at.0 at.1 at.2 (in_boeing tt)

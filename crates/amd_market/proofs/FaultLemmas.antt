@@ -5,19 +5,19 @@ use Rattle.std.specs.Prelude.{IfSome}
 use Rattle.amd_cases.specs.Reading.{BeginsWith, line_number}
 use Rattle.amd_cases.proofs.ReadingLemmas.{known-append, number-append}
 use Rattle.amd_market.specs.Lines.{TakesLines, TakesTelling, TakesNotes, FailsAt, named_line, rest_of}
-use Rattle.amd_market.specs.Faults.{IsBehind, last, end, reading, IsUnread, Blames}
+use Rattle.amd_market.specs.Faults.{IsToldBehind, last, end, reading, IsUnread, Blames}
 use Rattle.amd_market.specs.Faults.{HasBannerFault, HasKindFault, HasWordFault, header_words, banner_word, object_word, low}
 use Rattle.amd_market.specs.Headers.{format_text}
 use Rattle.amd_market.specs.Files.{FailsFor, NamesFault}
 use Rattle.amd_market.specs.declared.lines.LineReader.{LineReader}
-use Rattle.amd_market.specs.declared.faults.Fault.TheVariants as fault
+use Rattle.amd_market.specs.declared.faults.ReadFault.TheVariants as fault
 use Rattle.amd_market.specs.declared.faults.ReadError.{ReadError}
 use Rattle.amd_market.specs.declared.faults.ReadError.TheVariants as error
 use Rattle.amd_market.specs.declared.headers.Format.{Format}
-use Rattle.amd_market.specs.declared.faults.Fault.{Fault}
+use Rattle.amd_market.specs.declared.faults.ReadFault.{ReadFault}
 
 -- a fault behind more lines
-behind-more : (f : Fault) (is js : List (List ℕ)) (rest : Option (List ℕ)) → IsBehind f js rest → IsBehind f (is ++ js) rest
+behind-more : (f : ReadFault) (is js : List (List ℕ)) (rest : Option (List ℕ)) → IsToldBehind f js rest → IsToldBehind f (is ++ js) rest
 behind-more f is js rest (last before line e h) =
     last (is ++ before) line (ap (λ z. is ++ z) e ∙ sym (append_assoc is before (line ∷ []))) h
 behind-more f is js rest (end h r) = end h r
@@ -43,8 +43,8 @@ for-unread remaining a e h u = record {
 }
 
 -- a fault of the lines that were read
-pub for-here : {R Z : Type 0} (remaining : R → Option (List ℕ)) (a b : LineReader R Z) (is : List (List ℕ)) (e : ReadError) (f : Fault) →
-    TakesLines remaining a b is → e ≡ error.Line b.lines f → IsBehind f is (rest_of remaining b) → FailsFor remaining a e
+pub for-here : {R Z : Type 0} (remaining : R → Option (List ℕ)) (a b : LineReader R Z) (is : List (List ℕ)) (e : ReadError) (f : ReadFault) →
+    TakesLines remaining a b is → e ≡ error.Line b.lines f → IsToldBehind f is (rest_of remaining b) → FailsFor remaining a e
 for-here remaining a b is e f h same k = record {
   lines = is;
   rest = rest_of remaining b;
@@ -54,10 +54,10 @@ for-here remaining a b is e f h same k = record {
 }
 
 -- a fault of the line that says something
-pub for-telling : {R Z : Type 0} (remaining : R → Option (List ℕ)) (a b : LineReader R Z) (line : List ℕ) (e : ReadError) (f : Fault) →
-    TakesTelling remaining a b line → e ≡ error.Line b.lines f → IsBehind f (line ∷ []) (rest_of remaining b) → FailsFor remaining a e
+pub for-telling : {R Z : Type 0} (remaining : R → Option (List ℕ)) (a b : LineReader R Z) (line : List ℕ) (e : ReadError) (f : ReadFault) →
+    TakesTelling remaining a b line → e ≡ error.Line b.lines f → IsToldBehind f (line ∷ []) (rest_of remaining b) → FailsFor remaining a e
 for-telling remaining a b line e f h same k = for-here remaining a b h.lines e f h.takes same
-    (subst (λ ls. IsBehind f ls (rest_of remaining b)) (sym h.parts) (behind-more f h.before (line ∷ []) (rest_of remaining b) k))
+    (subst (λ ls. IsToldBehind f ls (rest_of remaining b)) (sym h.parts) (behind-more f h.before (line ∷ []) (rest_of remaining b) k))
 
 at-end : (ls : List (List ℕ)) (first rest : Option (List ℕ)) → IfSome first (λ bytes. BeginsWith ls bytes rest) →
     IfSome first (λ bytes. rest ≡ Some []) → IfSome first (λ bytes. BeginsWith ls bytes (Some []))
@@ -65,15 +65,15 @@ at-end ls None rest h k = tt
 at-end ls (Some bytes) rest h k = subst (BeginsWith ls bytes) k h
 
 -- a fault of a text that ends
-pub for-notes : {R Z : Type 0} (remaining : R → Option (List ℕ)) (a b : LineReader R Z) (e : ReadError) (f : Fault) →
-    TakesNotes remaining a b → e ≡ error.Line b.lines f → IsBehind f [] (Some []) → FailsFor remaining a e
+pub for-notes : {R Z : Type 0} (remaining : R → Option (List ℕ)) (a b : LineReader R Z) (e : ReadError) (f : ReadFault) →
+    TakesNotes remaining a b → e ≡ error.Line b.lines f → IsToldBehind f [] (Some []) → FailsFor remaining a e
 for-notes remaining a b e f h same k = record {
   lines = h.lines;
   rest = Some [];
   named = ap named_line same ∙ h.takes.counted;
   took = at-end h.lines (rest_of remaining a) (rest_of remaining b) h.takes.took h.end;
   cause = subst (λ z. Blames z h.lines (Some [])) (sym same)
-      (subst (λ ls. IsBehind f ls (Some [])) (append-nil h.lines) (behind-more f h.lines [] (Some []) k));
+      (subst (λ ls. IsToldBehind f ls (Some [])) (append-nil h.lines) (behind-more f h.lines [] (Some []) k));
 }
 
 -- an error behind lines that were read
@@ -104,14 +104,14 @@ names-fault remaining a input e same none h = rw (← same) (known (rest_of rema
     }
 
 -- a first line that lacks the banner
-pub no-banner : (f : Fault) (line : List ℕ) → HasBannerFault f line →
+pub no-banner : (f : ReadFault) (line : List ℕ) → HasBannerFault f line →
     ((vs : List (List ℕ)) → header_words line ≢ banner_word ∷ vs) → HasWordFault f line
 no-banner fault.Gzip line h none = h
 no-banner fault.Banner line h none = none
 no-banner f line h none = absurd h
 
 -- a first line with another field or symmetry
-pub no-kind : (f : Fault) (line : List ℕ) (ws us ts : List (List ℕ)) (g : Format) → header_words line ≡ banner_word ∷ us →
+pub no-kind : (f : ReadFault) (line : List ℕ) (ws us ts : List (List ℕ)) (g : Format) → header_words line ≡ banner_word ∷ us →
     us ≡ object_word ∷ ts → ts ≡ low (format_text g) ∷ ws → HasKindFault f ws → HasWordFault f line
 no-kind fault.Field line ws us ts g h k m bad = (g, (ws, (h ∙ ap (λ z. banner_word ∷ z) (k ∙ ap (λ z. object_word ∷ z) m), bad)))
 no-kind fault.Symmetry line ws us ts g h k m bad = (g, (ws, (h ∙ ap (λ z. banner_word ∷ z) (k ∙ ap (λ z. object_word ∷ z) m), bad)))

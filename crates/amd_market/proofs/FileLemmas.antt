@@ -19,7 +19,7 @@ use Rattle.amd_market.proofs.EntryLemmas.{Inside, entries-more, all-inside}
 use Rattle.amd_market.specs.declared.headers.Format.{Format}
 use Rattle.amd_market.specs.declared.headers.Format.TheVariants.{Coordinate, Array}
 use Rattle.amd_market.specs.declared.headers.Header.{Header}
-use Rattle.amd_market.specs.declared.faults.Fault.TheVariants as fault
+use Rattle.amd_market.specs.declared.faults.ReadFault.TheVariants as fault
 use Rattle.amd_market.specs.declared.lines.LineReader.{LineReader}
 use Rattle.amd_market.specs.declared.faults.ReadError.{ReadError}
 

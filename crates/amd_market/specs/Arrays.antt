@@ -8,8 +8,8 @@ use Rattle.amd_market.specs.Entries.{AreValues}
 use Rattle.amd_market.specs.declared.headers.Field.{Field}
 use Rattle.amd_market.specs.declared.headers.Symmetry.{Symmetry}
 use Rattle.amd_market.specs.declared.headers.Symmetry.TheVariants as kind
-use Rattle.amd_market.specs.declared.faults.Fault.{Fault}
-use Rattle.amd_market.specs.declared.faults.Fault.TheVariants as fault
+use Rattle.amd_market.specs.declared.faults.ReadFault.{ReadFault}
+use Rattle.amd_market.specs.declared.faults.ReadFault.TheVariants as fault
 
 -- the line is the number of rows and of columns
 pub record SpellsShape (line : List ℕ) (rows columns : ℕ) : Type 0 where
@@ -20,7 +20,7 @@ pub record SpellsShape (line : List ℕ) (rows columns : ℕ) : Type 0 where
   pub has_columns : SpellsNumber second (pos columns)
 
 -- the fault of a line where the size of an array must stand: it is not two numbers, or they differ
-abbrev pub HasShapeFault : Fault → List ℕ → Type 0
+abbrev pub HasShapeFault : ReadFault → List ℕ → Type 0
 HasShapeFault fault.Shape line = (r c : ℕ) → SpellsShape line r c → ⊥
 HasShapeFault (fault.NotSquare rows columns) line = (rows ≢ columns) × SpellsShape line rows columns
 HasShapeFault f line = ⊥

@@ -11,31 +11,31 @@ use Rattle.amd_market.specs.Lines.{is_note}
 use Rattle.amd_market.specs.declared.headers.Format.{Format}
 use Rattle.amd_market.specs.declared.headers.Field.{Field}
 use Rattle.amd_market.specs.declared.headers.Header.{Header}
-use Rattle.amd_market.specs.declared.faults.Fault.{Fault}
-use Rattle.amd_market.specs.declared.faults.Fault.TheVariants as fault
+use Rattle.amd_market.specs.declared.faults.ReadFault.{ReadFault}
+use Rattle.amd_market.specs.declared.faults.ReadFault.TheVariants as fault
 use Rattle.amd_market.specs.declared.faults.ReadError.{ReadError}
 use Rattle.amd_market.specs.declared.faults.ReadError.TheVariants.{Line, Input}
 
 -- the fault of a line where the size must stand: it is not three numbers, or those of a matrix that is not square
-abbrev pub HasSizeFault : Fault → List ℕ → Type 0
+abbrev pub HasSizeFault : ReadFault → List ℕ → Type 0
 HasSizeFault fault.Size line = (r c k : ℕ) → SpellsSize line r c k → ⊥
 HasSizeFault (fault.NotSquare rows columns) line = (rows ≢ columns) × ((k : ℕ) × SpellsSize line rows columns k)
 HasSizeFault f line = ⊥
 
 -- the fault of a word where one of n rows must stand: it is a number out of range, or no number
-abbrev pub HasRowFault : Fault → List ℕ → ℕ → Type 0
+abbrev pub HasRowFault : ReadFault → List ℕ → ℕ → Type 0
 HasRowFault (fault.Row number rows) word n = (rows ≡ n) × SpellsNumber word number
 HasRowFault fault.Entry word n = (z : ℤ) → SpellsNumber word z → ⊥
 HasRowFault f word n = ⊥
 
 -- the same of one of n columns
-abbrev pub HasColumnFault : Fault → List ℕ → ℕ → Type 0
+abbrev pub HasColumnFault : ReadFault → List ℕ → ℕ → Type 0
 HasColumnFault (fault.Column number columns) word n = (columns ≡ n) × SpellsNumber word number
 HasColumnFault fault.Entry word n = (z : ℤ) → SpellsNumber word z → ⊥
 HasColumnFault f word n = ⊥
 
 -- the fault of words that are not so many numbers: they are fewer, or more, or one of them is no number
-abbrev pub HasValueFault : Fault → ℕ → List (List ℕ) → Type 0
+abbrev pub HasValueFault : ReadFault → ℕ → List (List ℕ) → Type 0
 HasValueFault fault.NoValue count ws = length ws < count
 HasValueFault fault.Words count ws = count < length ws
 HasValueFault fault.Value count ws = length ws ≡ count
@@ -43,7 +43,7 @@ HasValueFault f count ws = ⊥
 
 -- the fault of a line where an entry of a matrix with n rows and columns must stand: its first word is no row, its
 -- second one no column, there are not two numbers, or the words behind them are no value of the field
-abbrev pub HasEntryFault : Field → ℕ → Fault → List ℕ → Type 0
+abbrev pub HasEntryFault : Field → ℕ → ReadFault → List ℕ → Type 0
 HasEntryFault field n (fault.Row number rows) line = (rows ≡ n) × ((first : List ℕ) × ((behind : List (List ℕ)) ×
     ((words line ≡ first ∷ behind) × (SpellsNumber first number × ((i : ℕ) → SpellsIndex first n i → ⊥)))))
 HasEntryFault field n (fault.Column number columns) line = (columns ≡ n) × ((first : List ℕ) × ((second : List ℕ) ×
@@ -62,13 +62,13 @@ abbrev pub low : List ℕ → List ℕ
 low w = map to_ascii_lowercase w
 
 -- which words behind the format are wrong: the first is no field, or it is one, and what stands behind it is wrong
-abbrev pub HasKindFault : Fault → List (List ℕ) → Type 0
+abbrev pub HasKindFault : ReadFault → List (List ℕ) → Type 0
 HasKindFault fault.Field ws = (f : Field) → (vs : List (List ℕ)) → ws ≢ low (field_text f) ∷ vs
 HasKindFault fault.Symmetry ws = (f : Field) × ((vs : List (List ℕ)) × (ws ≡ low (field_text f) ∷ vs))
 HasKindFault f ws = ⊥
 
 -- a first line that lacks the banner: it begins as gzip writes, or not
-abbrev pub HasBannerFault : Fault → List ℕ → Type 0
+abbrev pub HasBannerFault : ReadFault → List ℕ → Type 0
 HasBannerFault fault.Gzip line = (slice_index line 0 ≡ 31) × (slice_index line 1 ≡ 139)
 HasBannerFault fault.Banner line = Unit {0}
 HasBannerFault f line = ⊥
@@ -88,7 +88,7 @@ abbrev pub BeginsHeader : List ℕ → List (List ℕ) → Type 0
 BeginsHeader line ws = header_words line ≡ banner_word ∷ (object_word ∷ ws)
 
 -- which word of a first line is wrong, where those before it are right
-abbrev pub HasWordFault : Fault → List ℕ → Type 0
+abbrev pub HasWordFault : ReadFault → List ℕ → Type 0
 HasWordFault fault.Gzip line = (slice_index line 0 ≡ 31) × (slice_index line 1 ≡ 139)
 HasWordFault fault.Banner line = (vs : List (List ℕ)) → header_words line ≢ banner_word ∷ vs
 HasWordFault fault.Object line = (ws : List (List ℕ)) × ((header_words line ≡ banner_word ∷ ws) ×
@@ -102,26 +102,26 @@ HasWordFault fault.Symmetry line = (g : Format) × ((ws : List (List ℕ)) × (B
 HasWordFault f line = ⊥
 
 -- the fault of a first line that is no header
-abbrev pub HasHeaderFault : Fault → List ℕ → Type 0
+abbrev pub HasHeaderFault : ReadFault → List ℕ → Type 0
 HasHeaderFault f line = HasWordFault f line × ((h : Header) → SpellsHeader line h → ⊥)
 
 -- the faults of a line that is read where none may stand but notes
-abbrev pub IsMore : Fault → Type 0
+abbrev pub IsMore : ReadFault → Type 0
 IsMore (fault.More told) = Unit {0}
 IsMore fault.MorePlaces = Unit {0}
 IsMore f = ⊥
 
 -- such a line: it says something
-abbrev pub HasMoreFault : Fault → List ℕ → Type 0
+abbrev pub HasMoreFault : ReadFault → List ℕ → Type 0
 HasMoreFault f line = IsMore f × (is_note (words line) ≡ false)
 
 -- the line is a header, but an array of this kind has no lines
-abbrev pub HasVoidFault : Fault → List ℕ → Type 0
+abbrev pub HasVoidFault : ReadFault → List ℕ → Type 0
 HasVoidFault fault.Void line = (h : Header) × (SpellsHeader line h × (is_void h ≡ true))
 HasVoidFault f line = ⊥
 
 -- the faults of a line of a Harwell-Boeing file; of what is wrong with the line they say nothing here
-abbrev pub IsOfBoeing : Fault → Type 0
+abbrev pub IsOfBoeing : ReadFault → Type 0
 IsOfBoeing fault.Kind = Unit {0}
 IsOfBoeing fault.Elemental = Unit {0}
 IsOfBoeing (fault.NotSquare rows columns) = Unit {0}
@@ -133,14 +133,14 @@ IsOfBoeing fault.Pointers = Unit {0}
 IsOfBoeing f = ⊥
 
 -- the faults of adding the numbers of a line to a list: one of these, or memory was refused
-abbrev pub IsOfList : Fault → Type 0
+abbrev pub IsOfList : ReadFault → Type 0
 IsOfList fault.OutOfMemory = Unit {0}
 IsOfList f = IsOfBoeing f
 
 -- what is wrong with a line: it is no header, or one of an array without values, no size of a sparse matrix or of an
 -- array, no entry for some field and number of rows, no value of some field, one too many, or one of a Harwell-Boeing
 -- file
-pub data LineHas (f : Fault) (line : List ℕ) : Type 0 where
+pub data LineHas (f : ReadFault) (line : List ℕ) : Type 0 where
   in_header : HasHeaderFault f line → LineHas f line
   in_void : HasVoidFault f line → LineHas f line
   in_size : HasSizeFault f line → LineHas f line
@@ -151,7 +151,7 @@ pub data LineHas (f : Fault) (line : List ℕ) : Type 0 where
   in_boeing : IsOfBoeing f → LineHas f line
 
 -- the faults of an input that ends too early
-abbrev pub EndHas : Fault → Type 0
+abbrev pub EndHas : ReadFault → Type 0
 EndHas fault.Empty = Unit {0}
 EndHas fault.Size = Unit {0}
 EndHas fault.Shape = Unit {0}
@@ -161,7 +161,7 @@ EndHas fault.Short = Unit {0}
 EndHas f = ⊥
 
 -- the faults that no text spells: there is no room for a line, for what was read, or for the count of lines
-abbrev pub IsOfReading : Fault → Type 0
+abbrev pub IsOfReading : ReadFault → Type 0
 IsOfReading fault.Long = Unit {0}
 IsOfReading fault.Lines = Unit {0}
 IsOfReading fault.OutOfMemory = Unit {0}
@@ -169,11 +169,11 @@ IsOfReading f = ⊥
 
 -- a fault that was told behind these lines: the last of them has it, or the text ends behind them, or it is one of
 -- reading
-pub data IsBehind (f : Fault) (lines : List (List ℕ)) (rest : Option (List ℕ)) : Type 0 where
+pub data IsToldBehind (f : ReadFault) (lines : List (List ℕ)) (rest : Option (List ℕ)) : Type 0 where
   last : (before : List (List ℕ)) → (line : List ℕ) → lines ≡ before ++ line ∷ [] → LineHas f line →
-      IsBehind f lines rest
-  end : EndHas f → rest ≡ Some [] → IsBehind f lines rest
-  reading : IsOfReading f → IsBehind f lines rest
+      IsToldBehind f lines rest
+  end : EndHas f → rest ≡ Some [] → IsToldBehind f lines rest
+  reading : IsOfReading f → IsToldBehind f lines rest
 
 -- an error of reading
 abbrev pub IsUnread : ReadError → Type 0
@@ -182,5 +182,5 @@ IsUnread (Input n error) = Unit {0}
 
 -- the same of an error; of an input that could not be read it says nothing
 abbrev pub Blames : ReadError → List (List ℕ) → Option (List ℕ) → Type 0
-Blames (Line n f) lines rest = IsBehind f lines rest
+Blames (Line n f) lines rest = IsToldBehind f lines rest
 Blames (Input n error) lines rest = Unit {0}

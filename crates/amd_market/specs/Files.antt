@@ -12,7 +12,7 @@ use Rattle.amd_market.specs.declared.headers.Format.{Format}
 use Rattle.amd_market.specs.declared.headers.Format.TheVariants.{Coordinate, Array}
 use Rattle.amd_market.specs.declared.headers.Header.{Header}
 use Rattle.amd_market.specs.declared.lines.LineReader.{LineReader}
-use Rattle.amd_market.specs.declared.faults.Fault.TheVariants as fault
+use Rattle.amd_market.specs.declared.faults.ReadFault.TheVariants as fault
 use Rattle.amd_market.specs.declared.faults.ReadError.{ReadError}
 
 -- lines were read whose telling ones are the entries, one by one, and the pairs are those that the entries stand for

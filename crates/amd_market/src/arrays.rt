@@ -11,7 +11,7 @@ ghost use Rattle.amd_market.specs.Faults.{HasValueFault};
 ghost use Rattle.amd_market.specs.Headers.{value_words};
 
 use crate::entries::{count_of, has_values, value_fault};
-use crate::faults::Fault;
+use crate::faults::ReadFault;
 use crate::headers::Field;
 use amd_cases::words::first_word;
 
@@ -38,15 +38,15 @@ fn spelled_shape(line: &[u8]) -> Option<(usize, usize)>
 }
 
 /// The number of rows and columns that a line spells: `Shape` where it spells none, and `NotSquare` where they differ.
-pub fn shape_of(line: &[u8]) -> Result<usize, Fault>
+pub fn shape_of(line: &[u8]) -> Result<usize, ReadFault>
     ensures shape { MatchResult result (λ n. SpellsShape line.now n n) (λ _. (n : ℕ) → SpellsShape line.now n n → ⊥) }
     ensures fault { IfErr result (λ f. HasShapeFault f line.now) }
 {
     let Some((rows, columns)) = spelled_shape(line) else {
-        return Err(Fault::Shape);
+        return Err(ReadFault::Shape);
     };
     if rows != columns {
-        return Err(Fault::NotSquare { rows, columns });
+        return Err(ReadFault::NotSquare { rows, columns });
     }
     Ok(rows)
 }
@@ -82,7 +82,7 @@ fn are_zeros(text: &[u8]) -> bool
 }
 
 /// Whether the value that a line spells is another one than zero, or what is wrong with the line.
-pub fn value_of(line: &[u8], field: Field) -> Result<bool, Fault>
+pub fn value_of(line: &[u8], field: Field) -> Result<bool, ReadFault>
     ensures value { MatchResult result (SpellsValue field line.now) (λ _. (b : Bool) → SpellsValue field line.now b → ⊥) }
     ensures fault { IfErr result (λ f. HasValueFault f (value_words field) (words line.now)) }
 {

@@ -13,7 +13,7 @@ ghost use Rattle.amd_market.specs.Lines.{TakesLines, line_of};
 ghost use Rattle.amd_market.specs.Files.{FailsFor};
 
 use crate::cards::{Kind, kind_of, layout_of, sides_of};
-use crate::faults::{Fault, ReadError};
+use crate::faults::{ReadError, ReadFault};
 use crate::fields::{Listed, add_numbers};
 use crate::formats::{Fields, Layout};
 use crate::headers::Symmetry;
@@ -30,7 +30,7 @@ fn take_some<R: Read + Drop, A: Allocator>(lines: &mut LineReader<R, A>) -> Resu
     if lines.take_line()? {
         Ok(())
     } else {
-        Err(lines.at_line(Fault::Short))
+        Err(lines.at_line(ReadFault::Short))
     }
 }
 
@@ -87,7 +87,7 @@ fn take_layout<R: Read + Drop, A: Allocator>(
     take_some(lines)?;
     match layout_of(lines.line()) {
         Some(layout) => Ok(layout),
-        None => Err(lines.at_line(Fault::Layout)),
+        None => Err(lines.at_line(ReadFault::Layout)),
     }
 }
 
@@ -203,16 +203,16 @@ fn take_pointers<R: Read + Drop, A: Allocator + Copy>(
     ensures fails { IfErr result (FailsFor R.remaining lines.old) }
 {
     let Some(count) = kind.n.checked_add(1) else {
-        return Err(lines.at_line(Fault::OutOfMemory));
+        return Err(lines.at_line(ReadFault::OutOfMemory));
     };
     let Some(bound) = kind.entries.checked_add(1) else {
-        return Err(lines.at_line(Fault::OutOfMemory));
+        return Err(lines.at_line(ReadFault::OutOfMemory));
     };
     let pointers = take_numbers(alloc, lines, fields, count, bound, Listed::Pointers)?;
     if are_pointers(&pointers, kind.n, kind.entries) {
         Ok(pointers)
     } else {
-        Err(lines.at_line(Fault::Pointers))
+        Err(lines.at_line(ReadFault::Pointers))
     }
 }
 
@@ -256,7 +256,7 @@ fn take_columns<R: Read + Drop, A: Allocator + Copy>(
     )?;
     match listed_pairs(alloc, kind, &pointers, &rows) {
         Ok(pairs) => Ok(pairs),
-        Err(_) => Err(lines.at_line(Fault::OutOfMemory)),
+        Err(_) => Err(lines.at_line(ReadFault::OutOfMemory)),
     }
 }
 
@@ -275,6 +275,6 @@ pub(crate) fn take_boeing<R: Read + Drop, A: Allocator + Copy>(
     let pairs = take_columns(alloc, lines, kind, layout)?;
     match matrix_of(alloc, kind.n, pairs) {
         Ok(matrix) => Ok(Some(matrix)),
-        Err(_) => Err(lines.at_line(Fault::OutOfMemory)),
+        Err(_) => Err(lines.at_line(ReadFault::OutOfMemory)),
     }
 }

@@ -8,7 +8,7 @@ ghost use Rattle.amd_market.specs.Boeing.{SpellsCounts, SpellsType, SpellsSizes,
 ghost use Rattle.amd_market.specs.Boeing.{is_value_letter, letter_symmetry};
 
 use crate::entries::count_of;
-use crate::faults::Fault;
+use crate::faults::ReadFault;
 use crate::fields::fields_of;
 use crate::formats::Layout;
 use crate::headers::Symmetry;
@@ -71,23 +71,23 @@ fn letter_symmetry(letter: u8) -> Option<Symmetry>
 
 /// The symmetry of a type of an assembled matrix, which is three letters in any case: those of values, of symmetry, and
 /// `A`. An `E` in its place says that the matrix is not assembled.
-fn type_of(word: &[u8]) -> Result<Symmetry, Fault>
+fn type_of(word: &[u8]) -> Result<Symmetry, ReadFault>
     ensures type_is { IfOk result (SpellsType word.now) }
     ensures fault { IfErr result IsOfBoeing }
 {
     let [value, shape, storage] = word else {
-        return Err(Fault::Kind);
+        return Err(ReadFault::Kind);
     };
     if !is_value_letter(value.to_ascii_lowercase()) {
-        return Err(Fault::Kind);
+        return Err(ReadFault::Kind);
     }
     let Some(symmetry) = letter_symmetry(shape.to_ascii_lowercase()) else {
-        return Err(Fault::Kind);
+        return Err(ReadFault::Kind);
     };
     match storage.to_ascii_lowercase() {
         b'a' => Ok(symmetry),
-        b'e' => Err(Fault::Elemental),
-        _ => Err(Fault::Kind),
+        b'e' => Err(ReadFault::Elemental),
+        _ => Err(ReadFault::Kind),
     }
 }
 
@@ -102,19 +102,19 @@ fn spelled_sizes(text: &[u8]) -> Option<(usize, usize, usize)>
 }
 
 /// What the third line of a file says, or what is wrong with it.
-pub(crate) fn kind_of(line: &[u8]) -> Result<Kind, Fault>
+pub(crate) fn kind_of(line: &[u8]) -> Result<Kind, ReadFault>
     ensures kind { IfOk result (λ k. SpellsKind line.now k.symmetry k.n k.entries) }
     ensures fault { IfErr result IsOfBoeing }
 {
     let Some((word, rest)) = first_word(line) else {
-        return Err(Fault::Kind);
+        return Err(ReadFault::Kind);
     };
     let symmetry = type_of(word)?;
     let Some((rows, columns, entries)) = spelled_sizes(rest) else {
-        return Err(Fault::Kind);
+        return Err(ReadFault::Kind);
     };
     if rows != columns {
-        return Err(Fault::NotSquare { rows, columns });
+        return Err(ReadFault::NotSquare { rows, columns });
     }
     Ok(Kind {
         symmetry,

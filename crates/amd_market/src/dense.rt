@@ -7,7 +7,7 @@ ghost use Rattle.amd_market.specs.Lines.{TakesTelling};
 ghost use Rattle.amd_market.specs.Files.{TakesValues, FailsFor};
 
 use crate::arrays::{shape_of, value_of};
-use crate::faults::{Fault, ReadError};
+use crate::faults::{ReadError, ReadFault};
 use crate::headers::{Field, Header, Symmetry};
 use crate::lines::LineReader;
 use crate::matrices::add_pairs;
@@ -23,7 +23,7 @@ pub(crate) fn take_shape<R: Read + Drop, A: Allocator>(
     ensures fails { IfErr result (FailsFor R.remaining lines.old) }
 {
     if !lines.take_telling()? {
-        return Err(lines.at_line(Fault::Shape));
+        return Err(lines.at_line(ReadFault::Shape));
     }
     match shape_of(lines.line()) {
         Ok(n) => Ok(n),
@@ -42,7 +42,7 @@ fn take_value<R: Read + Drop, A: Allocator>(
     ensures fails { IfErr result (FailsFor R.remaining lines.old) }
 {
     if !lines.take_telling()? {
-        return Err(lines.at_line(Fault::NoPlace {
+        return Err(lines.at_line(ReadFault::NoPlace {
             row: place.0.saturating_add(1),
             column: place.1.saturating_add(1),
         }));
@@ -82,7 +82,7 @@ fn take_place<R: Read + Drop, A: Allocator + Copy>(
     }
     match add_pairs(pairs, header.symmetry, place) {
         Ok(()) => Ok(()),
-        Err(_) => Err(lines.at_line(Fault::OutOfMemory)),
+        Err(_) => Err(lines.at_line(ReadFault::OutOfMemory)),
     }
 }
 

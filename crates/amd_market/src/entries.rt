@@ -6,7 +6,7 @@ ghost use Rattle.amd_cases.specs.Words.{words, SpellsNumber};
 ghost use Rattle.amd_market.specs.Entries.{SpellsSize, SpellsIndex, SpellsEntry, AreValues};
 ghost use Rattle.amd_market.specs.Faults.{HasSizeFault, HasRowFault, HasColumnFault, HasValueFault, HasEntryFault};
 
-use crate::faults::Fault;
+use crate::faults::ReadFault;
 use crate::headers::Field;
 use amd_cases::words::{first_word, number_of};
 
@@ -91,16 +91,16 @@ fn spelled_size(line: &[u8]) -> Option<Size>
 }
 
 /// The size that a line spells: `Size` where it spells none, and `NotSquare` where it is not square.
-pub fn size_of(line: &[u8]) -> Result<Size, Fault>
+pub fn size_of(line: &[u8]) -> Result<Size, ReadFault>
     ensures size { MatchResult result (λ s. (s.columns ≡ s.rows) × SpellsSize line.now s.rows s.rows s.entries)
         (λ _. (r k : ℕ) → SpellsSize line.now r r k → ⊥) }
     ensures fault { IfErr result (λ f. HasSizeFault f line.now) }
 {
     let Some(size) = spelled_size(line) else {
-        return Err(Fault::Size);
+        return Err(ReadFault::Size);
     };
     if size.rows != size.columns {
-        return Err(Fault::NotSquare {
+        return Err(ReadFault::NotSquare {
             rows: size.rows,
             columns: size.columns,
         });
@@ -109,54 +109,54 @@ pub fn size_of(line: &[u8]) -> Result<Size, Fault>
 }
 
 /// What is wrong with the word of a row, of so many.
-pub fn row_fault(word: &[u8], rows: usize) -> Fault
+pub fn row_fault(word: &[u8], rows: usize) -> ReadFault
     ensures { HasRowFault result word.now rows }
 {
     match number_of(word) {
-        Some(number) => Fault::Row { number, rows },
-        None => Fault::Entry,
+        Some(number) => ReadFault::Row { number, rows },
+        None => ReadFault::Entry,
     }
 }
 
 /// What is wrong with the word of a column, of so many.
-fn column_fault(word: &[u8], columns: usize) -> Fault
+fn column_fault(word: &[u8], columns: usize) -> ReadFault
     ensures { HasColumnFault result word.now columns }
 {
     match number_of(word) {
-        Some(number) => Fault::Column { number, columns },
-        None => Fault::Entry,
+        Some(number) => ReadFault::Column { number, columns },
+        None => ReadFault::Entry,
     }
 }
 
 /// What is wrong with a text that is not so many numbers.
-pub(crate) fn value_fault(text: &[u8], count: usize) -> Fault
+pub(crate) fn value_fault(text: &[u8], count: usize) -> ReadFault
     ensures { HasValueFault result count (words text.now) }
 {
     let mut left = text;
     'words: for _done in 0..count {
         match first_word(left) {
-            None => return Fault::NoValue,
+            None => return ReadFault::NoValue,
             Some((_, rest)) => left = rest,
         }
     }
     if first_word(left).is_some() {
-        Fault::Words
+        ReadFault::Words
     } else {
-        Fault::Value
+        ReadFault::Value
     }
 }
 
 /// The row and the column, from 0 on, of the entry that a line spells, or what is wrong with the line.
-pub fn entry_of(line: &[u8], field: Field, n: usize) -> Result<(usize, usize), Fault>
+pub fn entry_of(line: &[u8], field: Field, n: usize) -> Result<(usize, usize), ReadFault>
     ensures entry { MatchResult result (λ p. SpellsEntry field n line.now (p.0, p.1))
         (λ _. (e : ℕ × ℕ) → SpellsEntry field n line.now e → ⊥) }
     ensures fault { IfErr result (λ f. HasEntryFault field n f line.now) }
 {
     let Some((first, rest)) = first_word(line) else {
-        return Err(Fault::Entry);
+        return Err(ReadFault::Entry);
     };
     let Some((second, rest)) = first_word(rest) else {
-        return Err(Fault::Entry);
+        return Err(ReadFault::Entry);
     };
     let Some(row) = index_of(first, n) else {
         return Err(row_fault(first, n));

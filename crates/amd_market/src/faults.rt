@@ -2,14 +2,14 @@
 // number.
 
 ghost use Rattle.std.specs.Prelude.{◌≡◌};
-ghost use Rattle.amd_market.specs.declared.faults.Fault.TheVariants.{OutOfMemory};
+ghost use Rattle.amd_market.specs.declared.faults.ReadFault.TheVariants.{OutOfMemory};
 
 use std::alloc::AllocFailed;
 use std::{fmt, io};
 
 /// What is wrong with a line.
 #[derive(Clone, Copy, PartialEq, Debug, Drop)]
-pub enum Fault {
+pub enum ReadFault {
     /// The file is empty.
     Empty,
     /// The file is compressed by gzip.
@@ -109,24 +109,26 @@ pub enum Fault {
     OutOfMemory,
 }
 
-impl Fault {
+impl ReadFault {
     /// The fault in words, without its numbers, where it is one of a first line.
     fn header_text(self) -> Option<&'static str> {
         match self {
-            Fault::Empty => Some("the file is empty"),
-            Fault::Gzip => Some("the file is compressed: use zcat FILE | rimopaku order -"),
-            Fault::Banner => Some(
+            ReadFault::Empty => Some("the file is empty"),
+            ReadFault::Gzip => Some("the file is compressed: use zcat FILE | rimopaku order -"),
+            ReadFault::Banner => Some(
                 "this is neither a Matrix Market file, which begins with %%MatrixMarket, nor a Harwell-Boeing file",
             ),
-            Fault::Object => Some("the second word of the first line is not matrix"),
-            Fault::Format => Some("the third word of the first line is not coordinate or array"),
-            Fault::Field => Some(
+            ReadFault::Object => Some("the second word of the first line is not matrix"),
+            ReadFault::Format => Some(
+                "the third word of the first line is not coordinate or array",
+            ),
+            ReadFault::Field => Some(
                 "the fourth word is none of real, double, integer, unsigned-integer, complex, pattern",
             ),
-            Fault::Symmetry => Some(
+            ReadFault::Symmetry => Some(
                 "the last word is none of general, symmetric, skew-symmetric, hermitian, or not the fifth",
             ),
-            Fault::Void => {
+            ReadFault::Void => {
                 Some("an array has values, and cannot be of pattern: write the field of its values")
             }
             _ => None,
@@ -136,23 +138,23 @@ impl Fault {
     /// The fault in words, without its numbers, where it is one of a Harwell-Boeing file.
     fn boeing_text(self) -> Option<&'static str> {
         match self {
-            Fault::Kind => Some(
+            ReadFault::Kind => Some(
                 "in a Harwell-Boeing file here must stand a type such as RUA, and the numbers of rows, columns and entries",
             ),
-            Fault::Elemental => {
+            ReadFault::Elemental => {
                 Some("the matrix is not assembled (its type ends in E): assemble it first")
             }
-            Fault::Layout => Some(
+            ReadFault::Layout => Some(
                 "in a Harwell-Boeing file here must stand the formats of pointers and rows, such as (16I5)",
             ),
-            Fault::Number => Some(
+            ReadFault::Number => Some(
                 "here must stand numbers, as the formats of the fourth line tell",
             ),
-            Fault::Pointer { .. } => Some("the pointer is out of range"),
-            Fault::Pointers => {
+            ReadFault::Pointer { .. } => Some("the pointer is out of range"),
+            ReadFault::Pointers => {
                 Some("the pointers do not rise from 1 to one more than the number of entries")
             }
-            Fault::Short => Some("the file ends before its last row"),
+            ReadFault::Short => Some("the file ends before its last row"),
             _ => None,
         }
     }
@@ -160,26 +162,26 @@ impl Fault {
     /// The fault in words, without its numbers, where it is one of any other line.
     fn entry_text(self) -> &'static str {
         match self {
-            Fault::Size => "here must stand the numbers of rows, columns and entries",
-            Fault::Shape => "here must stand the numbers of rows and columns of the array",
-            Fault::NotSquare { .. } => "the matrix is not square",
-            Fault::Entry => "here must stand the numbers of a row and a column",
-            Fault::Row { .. } => "the row is out of range",
-            Fault::Column { .. } => "the column is out of range",
-            Fault::NoValue => {
+            ReadFault::Size => "here must stand the numbers of rows, columns and entries",
+            ReadFault::Shape => "here must stand the numbers of rows and columns of the array",
+            ReadFault::NotSquare { .. } => "the matrix is not square",
+            ReadFault::Entry => "here must stand the numbers of a row and a column",
+            ReadFault::Row { .. } => "the row is out of range",
+            ReadFault::Column { .. } => "the column is out of range",
+            ReadFault::NoValue => {
                 "the value is missing: write it, or pattern in the first line if no entry has one"
             }
-            Fault::Words => {
+            ReadFault::Words => {
                 "more words than the header tells of: a pattern has no values, and a comment a line of its own"
             }
-            Fault::Value => "the value is no number",
-            Fault::Held => "here must stand the number of a row, alone",
-            Fault::Missing { .. } => "the file ends too early",
-            Fault::More { .. } => "more entries than the size tells",
-            Fault::NoPlace { .. } => "the file ends too early: the next value would be that",
-            Fault::MorePlaces => "more values than the array has places",
-            Fault::Long => "the line has more than 65536 bytes",
-            Fault::Lines => "too many lines",
+            ReadFault::Value => "the value is no number",
+            ReadFault::Held => "here must stand the number of a row, alone",
+            ReadFault::Missing { .. } => "the file ends too early",
+            ReadFault::More { .. } => "more entries than the size tells",
+            ReadFault::NoPlace { .. } => "the file ends too early: the next value would be that",
+            ReadFault::MorePlaces => "more values than the array has places",
+            ReadFault::Long => "the line has more than 65536 bytes",
+            ReadFault::Lines => "too many lines",
             _ => "out of memory",
         }
     }
@@ -207,29 +209,29 @@ fn write_range<W: fmt::Write>(
     }
 }
 
-impl fmt::Display for Fault {
+impl fmt::Display for ReadFault {
     fn fmt<W: fmt::Write>(&self, f: &mut fmt::Formatter<W>) -> fmt::Result {
         f.write_str(self.text())?;
         match self {
-            Fault::NotSquare { rows, columns } => write!(f, ": {rows} rows, {columns} columns"),
-            Fault::Row { number, rows } => write_range(f, *number, "rows", *rows),
-            Fault::Column { number, columns } => write_range(f, *number, "columns", *columns),
-            Fault::Pointer { number, last } => write_range(f, *number, "pointers", *last),
-            Fault::Missing { found, told } => write!(f, ": {found} entries of {told}"),
-            Fault::More { told } => write!(f, ": {told}"),
-            Fault::NoPlace { row, column } => write!(f, " of row {row}, column {column}"),
+            ReadFault::NotSquare { rows, columns } => write!(f, ": {rows} rows, {columns} columns"),
+            ReadFault::Row { number, rows } => write_range(f, *number, "rows", *rows),
+            ReadFault::Column { number, columns } => write_range(f, *number, "columns", *columns),
+            ReadFault::Pointer { number, last } => write_range(f, *number, "pointers", *last),
+            ReadFault::Missing { found, told } => write!(f, ": {found} entries of {told}"),
+            ReadFault::More { told } => write!(f, ": {told}"),
+            ReadFault::NoPlace { row, column } => write!(f, " of row {row}, column {column}"),
             _ => Ok(()),
         }
     }
 }
 
-impl std::error::Error for Fault {}
+impl std::error::Error for ReadFault {}
 
-impl<T: Drop> From<AllocFailed<T>> for Fault {
+impl<T: Drop> From<AllocFailed<T>> for ReadFault {
     ghost from_gives = { λ _ e. e ≡ OutOfMemory };
 
-    fn from(_: AllocFailed<T>) -> Fault {
-        Fault::OutOfMemory
+    fn from(_: AllocFailed<T>) -> ReadFault {
+        ReadFault::OutOfMemory
     }
 }
 
@@ -241,7 +243,7 @@ pub enum ReadError {
         /// The number of the line; where the input ends too early, that of the last line.
         line: u64,
         /// What is wrong with it.
-        fault: Fault,
+        fault: ReadFault,
     },
     /// The input could not be read.
     Input {

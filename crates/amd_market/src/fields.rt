@@ -8,7 +8,7 @@ ghost use Rattle.std.specs.List.{position};
 ghost use Rattle.amd_market.specs.Boeing.{is_whole_letter, SpellsRepeat, SpellsFormat, SpellsField, SpellsFields};
 
 use crate::entries::{count_of, index_of};
-use crate::faults::Fault;
+use crate::faults::ReadFault;
 use crate::formats::Fields;
 use amd_cases::words::{first_word, number_of};
 use std::alloc::Allocator;
@@ -76,22 +76,22 @@ pub(crate) enum Listed {
 }
 
 /// What is wrong with a field that has no number from 1 to `bound`.
-fn field_fault(field: &[u8], bound: usize, listed: Listed) -> Fault
+fn field_fault(field: &[u8], bound: usize, listed: Listed) -> ReadFault
     ensures { IsOfBoeing result }
 {
     let Some((word, _)) = first_word(field) else {
-        return Fault::Number;
+        return ReadFault::Number;
     };
     match (number_of(word), listed) {
-        (Some(number), Listed::Pointers) => Fault::Pointer {
+        (Some(number), Listed::Pointers) => ReadFault::Pointer {
             number,
             last: bound,
         },
-        (Some(number), Listed::Rows) => Fault::Row {
+        (Some(number), Listed::Rows) => ReadFault::Row {
             number,
             rows: bound,
         },
-        (None, _) => Fault::Number,
+        (None, _) => ReadFault::Number,
     }
 }
 
@@ -114,7 +114,7 @@ pub(crate) fn add_numbers<A: Allocator>(
     count: usize,
     bound: usize,
     listed: Listed,
-) -> Result<(), Fault>
+) -> Result<(), ReadFault>
     ensures adds { OnOk result ((more : List ℕ) × (length more ≡ count) × (numbers.new.items ≡ numbers.old.items ++ more) ×
         SpellsFields width bound line.now more) }
     ensures fault { IfErr result IsOfList }

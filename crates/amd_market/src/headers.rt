@@ -8,7 +8,7 @@ ghost use Rattle.amd_market.specs.Headers.{format_text, field_text, symmetry_tex
 ghost use Rattle.amd_market.specs.Headers.{SpellsHeader, lowered, without_mark, is_void};
 ghost use Rattle.amd_market.specs.Faults.{HasBannerFault, HasKindFault, HasWordFault};
 
-use crate::faults::Fault;
+use crate::faults::ReadFault;
 use amd_cases::words::first_word;
 
 /// Which entries a file lists.
@@ -206,7 +206,7 @@ fn format_of(text: &[u8]) -> Option<(Format, &[u8])>
 }
 
 /// The field and the symmetry that a text spells.
-fn kind_of(text: &[u8]) -> Result<(Field, Symmetry), Fault>
+fn kind_of(text: &[u8]) -> Result<(Field, Symmetry), ReadFault>
     ensures fault { IfErr result (λ f. HasKindFault f (lowered (words text.now))) }
     ensures kind { MatchResult result
         (λ k. lowered (words text.now) ≡ lowered (field_text k.0 ∷ (symmetry_text k.1 ∷ [])))
@@ -214,36 +214,36 @@ fn kind_of(text: &[u8]) -> Result<(Field, Symmetry), Fault>
         lowered (words text.now) ≢ lowered (field_text f ∷ (symmetry_text s ∷ []))) }
 {
     let Some((first, rest)) = first_word(text) else {
-        return Err(Fault::Field);
+        return Err(ReadFault::Field);
     };
     let Some(field) = field_of(first) else {
-        return Err(Fault::Field);
+        return Err(ReadFault::Field);
     };
     let Some((second, rest)) = first_word(rest) else {
-        return Err(Fault::Symmetry);
+        return Err(ReadFault::Symmetry);
     };
     let Some(symmetry) = symmetry_of(second) else {
-        return Err(Fault::Symmetry);
+        return Err(ReadFault::Symmetry);
     };
     if first_word(rest).is_some() {
-        return Err(Fault::Symmetry);
+        return Err(ReadFault::Symmetry);
     }
     Ok((field, symmetry))
 }
 
 /// What is wrong with a first line that lacks the banner.
-fn banner_fault(line: &[u8]) -> Fault
+fn banner_fault(line: &[u8]) -> ReadFault
     ensures { HasBannerFault result line.now }
 {
     if line.len() >= 2 && line[0] == 0x1f && line[1] == 0x8b {
-        Fault::Gzip
+        ReadFault::Gzip
     } else {
-        Fault::Banner
+        ReadFault::Banner
     }
 }
 
 /// The header that the first line of a file spells, or what is wrong with the line.
-pub fn header_of(line: &[u8]) -> Result<Header, Fault>
+pub fn header_of(line: &[u8]) -> Result<Header, ReadFault>
     ensures fault { IfErr result (λ f. HasWordFault f line.now) }
     ensures header { MatchResult result (SpellsHeader line.now) (λ _. (h : Header) → SpellsHeader line.now h → ⊥) }
 {
@@ -251,10 +251,10 @@ pub fn header_of(line: &[u8]) -> Result<Header, Fault>
         return Err(banner_fault(line));
     };
     let Some(text) = behind(text, b"matrix") else {
-        return Err(Fault::Object);
+        return Err(ReadFault::Object);
     };
     let Some((format, kind)) = format_of(text) else {
-        return Err(Fault::Format);
+        return Err(ReadFault::Format);
     };
     let (field, symmetry) = kind_of(kind)?;
     Ok(Header {

@@ -14,7 +14,7 @@ ghost use Rattle.amd_market.specs.Faults.{IsUnread};
 ghost use Rattle.amd_market.specs.declared.faults.ReadError.TheVariants as error;
 
 use crate::blocks::Block;
-use crate::faults::{Fault, ReadError};
+use crate::faults::{ReadError, ReadFault};
 use amd_cases::words::first_letter;
 use memchr::memchr;
 use std::alloc::Allocator;
@@ -63,7 +63,7 @@ impl<R: Read + Drop, A: Allocator> LineReader<R, A> {
     }
 
     /// A fault of the line that was read last.
-    pub fn at_line(&self, fault: Fault) -> ReadError
+    pub fn at_line(&self, fault: ReadFault) -> ReadError
         ensures { result ≡ error.Line (lines_read self.now) fault }
     {
         ReadError::Line {
@@ -78,7 +78,7 @@ impl<R: Read + Drop, A: Allocator> LineReader<R, A> {
         ensures unread { IsUnread result }
     {
         if error.kind() == ErrorKind::OutOfMemory {
-            self.at_line(Fault::OutOfMemory)
+            self.at_line(ReadFault::OutOfMemory)
         } else {
             ReadError::Input {
                 line: self.lines,
@@ -94,7 +94,7 @@ impl<R: Read + Drop, A: Allocator> LineReader<R, A> {
     {
         ReadError::Line {
             line: self.lines.saturating_add(1),
-            fault: Fault::Long,
+            fault: ReadFault::Long,
         }
     }
 
@@ -148,7 +148,7 @@ impl<R: Read + Drop, A: Allocator> LineReader<R, A> {
                 Err(error) => return Err(self.at_input(error)),
             }
         }
-        Err(self.at_line(Fault::Lines))
+        Err(self.at_line(ReadFault::Lines))
     }
 
     /// Reads lines up to the next one that says something, and says whether there was one.
@@ -165,6 +165,6 @@ impl<R: Read + Drop, A: Allocator> LineReader<R, A> {
                 return Ok(true);
             }
         }
-        Err(self.at_line(Fault::Lines))
+        Err(self.at_line(ReadFault::Lines))
     }
 }

@@ -9,12 +9,12 @@ ghost use Rattle.amd_market.specs.Lines.{TakesLines, TakesTelling, TakesNotes};
 ghost use Rattle.amd_market.specs.Files.{TakesEntries, TakesBody, FailsFor, SpellsFile, NamesFault};
 ghost use Rattle.amd_market.specs.Columns.{HoldsOnce};
 ghost use Rattle.amd_market.specs.Faults.{HasHeaderFault, IsMore};
-ghost use Rattle.amd_market.specs.declared.faults.Fault.TheVariants as fault;
+ghost use Rattle.amd_market.specs.declared.faults.ReadFault.TheVariants as fault;
 
 use crate::boeing::take_boeing;
 use crate::dense::{take_shape, take_values};
 use crate::entries::{Size, entry_of, size_of};
-use crate::faults::{Fault, ReadError};
+use crate::faults::{ReadError, ReadFault};
 use crate::headers::{Format, Header, header_of};
 use crate::lines::LineReader;
 pub use crate::matrices::Matrix;
@@ -31,16 +31,16 @@ fn take_header<R: Read + Drop, A: Allocator>(
     ensures fails { IfErr result (FailsFor R.remaining lines.old) }
 {
     if !lines.take_line()? {
-        return Err(lines.at_line(Fault::Empty));
+        return Err(lines.at_line(ReadFault::Empty));
     }
     match header_of(lines.line()) {
         Ok(header) => {
             if header.is_void() {
-                return Err(lines.at_line(Fault::Void));
+                return Err(lines.at_line(ReadFault::Void));
             }
             Ok(Some(header))
         }
-        Err(Fault::Banner) => Ok(None),
+        Err(ReadFault::Banner) => Ok(None),
         Err(fault) => Err(lines.at_line(fault)),
     }
 }
@@ -52,7 +52,7 @@ fn take_size<R: Read + Drop, A: Allocator>(lines: &mut LineReader<R, A>) -> Resu
     ensures fails { IfErr result (FailsFor R.remaining lines.old) }
 {
     if !lines.take_telling()? {
-        return Err(lines.at_line(Fault::Size));
+        return Err(lines.at_line(ReadFault::Size));
     }
     match size_of(lines.line()) {
         Ok(size) => Ok(size),
@@ -72,7 +72,7 @@ fn take_entry<R: Read + Drop, A: Allocator>(
     ensures fails { IfErr result (FailsFor R.remaining lines.old) }
 {
     if !lines.take_telling()? {
-        return Err(lines.at_line(Fault::Missing {
+        return Err(lines.at_line(ReadFault::Missing {
             found: done,
             told: size.entries,
         }));
@@ -98,7 +98,7 @@ fn take_pairs<R: Read + Drop, A: Allocator + Copy>(
     'entries: for done in 0..size.entries {
         let entry = take_entry(lines, header, size, done)?;
         let Ok(()) = add_pairs(&mut pairs, header.symmetry, entry) else {
-            return Err(lines.at_line(Fault::OutOfMemory));
+            return Err(lines.at_line(ReadFault::OutOfMemory));
         };
     }
     Ok(pairs)
@@ -107,7 +107,7 @@ fn take_pairs<R: Read + Drop, A: Allocator + Copy>(
 /// Reads what stands behind the entries, where nothing may stand but notes.
 fn take_end<R: Read + Drop, A: Allocator>(
     lines: &mut LineReader<R, A>,
-    more: Fault,
+    more: ReadFault,
 ) -> Result<(), ReadError>
     requires { IsMore more }
     ensures takes { OnOk result (TakesNotes R.remaining lines.old lines.new) }
@@ -132,7 +132,7 @@ fn take_listed<R: Read + Drop, A: Allocator + Copy>(
 {
     let size = take_size(lines)?;
     let pairs = take_pairs(alloc, lines, header, size)?;
-    take_end(lines, Fault::More { told: size.entries })?;
+    take_end(lines, ReadFault::More { told: size.entries })?;
     Ok((size.rows, pairs))
 }
 
@@ -150,7 +150,7 @@ fn take_array<R: Read + Drop, A: Allocator + Copy>(
 {
     let n = take_shape(lines)?;
     let pairs = take_values(alloc, lines, header, n)?;
-    take_end(lines, Fault::MorePlaces)?;
+    take_end(lines, ReadFault::MorePlaces)?;
     Ok((n, pairs))
 }
 
@@ -183,7 +183,7 @@ fn take_market<R: Read + Drop, A: Allocator + Copy>(
     let (n, pairs) = take_body(alloc, lines, header)?;
     match matrix_of(alloc, n, pairs) {
         Ok(matrix) => Ok(matrix),
-        Err(_) => Err(lines.at_line(Fault::OutOfMemory)),
+        Err(_) => Err(lines.at_line(ReadFault::OutOfMemory)),
     }
 }
 
@@ -208,7 +208,7 @@ pub fn read_matrix<R: Read + Drop, A: Allocator + Copy>(
 {
     let mut lines = LineReader::new(alloc, input);
     let header = take_header(&mut lines)?;
-    let unknown = lines.at_line(Fault::Banner);
+    let unknown = lines.at_line(ReadFault::Banner);
     match header {
         Some(header) => take_market(alloc, &mut lines, header),
         None => match take_boeing(alloc, &mut lines)? {
