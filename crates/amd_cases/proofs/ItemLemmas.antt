@@ -2,7 +2,7 @@
 use Rattle.std.proofs.Common.{◌≡◌, ◌≢◌, ℕ, ℤ, pos, Bool, Result, Ok, Err, List, [], ◌∷◌, ◌++◌, map, cond, eqb, get_or, drop, refl, sym, ap}
 use Rattle.std.proofs.Common.{◌∙◌, subst}
 use Rattle.std.specs.Prelude.{MatchResult}
-use Rattle.amd_cases.specs.Words.{words, SpellsNumbers}
+use Rattle.amd_lines.specs.Words.{words, SpellsNumbers}
 use Rattle.amd_cases.specs.Items.{keyword_text, item_keyword, truth_number, item_numbers, FitsItem, SpellsItem}
 use Rattle.amd_cases.specs.declared.faults.CaseFault.{CaseFault}
 use Rattle.amd_cases.specs.declared.faults.CaseFault.TheVariants.{OutOfMemory}

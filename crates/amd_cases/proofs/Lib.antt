@@ -1,4 +1,3 @@
-pub mod WordLemmas
 pub mod NumberLemmas
 pub mod ItemLemmas
 pub mod ReadingLemmas

@@ -1,7 +1,7 @@
 -- Lists of words that spell numbers: they grow at the end.
 use Rattle.std.proofs.Common.{◌≡◌, ◌++◌, ℕ, ℤ, List, [], ◌∷◌, sym, ap, ◌∙◌, subst}
 use Rattle.std.proofs.Common.{append_assoc}
-use Rattle.amd_cases.specs.Words.{SpellsNumber, SpellsNumbers}
+use Rattle.amd_lines.specs.Words.{SpellsNumber, SpellsNumbers}
 
 -- two lists of words spell two lists of numbers
 pub spells-append : (ws vs : List (List ℕ)) (ys zs : List ℤ) → SpellsNumbers ws ys → SpellsNumbers vs zs →

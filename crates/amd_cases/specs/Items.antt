@@ -3,7 +3,7 @@ use Rattle.std.specs.Prelude.{◌≡◌, ℕ, ℤ, pos, Bool, true, false, Optio
 use Rattle.std.specs.Prelude.{FitsSigned}
 use Rattle.std.specs.Int.{w32}
 use Rattle.std.specs.declared.vec.Vec.{Vec}
-use Rattle.amd_cases.specs.Words.{words, SpellsNumbers}
+use Rattle.amd_lines.specs.Words.{words, SpellsNumbers}
 use Rattle.amd_cases.specs.declared.items.Keyword.{Keyword}
 use Rattle.amd_cases.specs.declared.items.Keyword.TheVariants as key
 use Rattle.amd_cases.specs.declared.items.Item.{Item}

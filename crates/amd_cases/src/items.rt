@@ -2,12 +2,12 @@
 // The format is that of cases; see the root.
 
 ghost use Rattle.std.specs.Prelude.{◌≡◌, ◌≢◌, ◌∷◌, Bool, List, [], map, ℤ, MatchOption, MatchResult};
-ghost use Rattle.amd_cases.specs.Words.{words, SpellsNumbers};
+ghost use Rattle.amd_lines.specs.Words.{words, SpellsNumbers};
 ghost use Rattle.amd_cases.specs.Items.{keyword_text, item_keyword, truth_number, item_numbers, FitsItem, SpellsItem};
 ghost use Rattle.amd_cases.specs.declared.items.Keyword.TheVariants as key;
 
 use crate::faults::CaseFault;
-use crate::words::{first_word, number_of};
+use amd_lines::words::{first_word, number_of};
 use std::alloc::Allocator;
 
 /// What a line begins with.

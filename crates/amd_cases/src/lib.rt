@@ -18,14 +18,12 @@
 //! Refused are: a first word that is no keyword; a number that is no number or does not fit, as a mark other than 0 and
 //! 1, and more or fewer numbers than the keyword takes; an item that was there already, and `CASE` inside a case; an
 //! item outside of a case; `END` where `N`, `AP` or `AI` is missing; an end of the input inside a case; and a line of
-//! more than 16,777,216 bytes, of which no more is read than that and what the input's buffer holds. That the lists are
-//! as long as the others say is not asked for.
+//! more than 16,777,216 bytes, of which no more is read than that and a block of 131,072. That the lists are as long as
+//! the others say is not asked for.
 #![tactic(auto)]
 
 pub mod cases;
 pub mod faults;
 pub mod items;
-mod limits;
 pub mod matrix;
 pub mod reader;
-pub mod words;

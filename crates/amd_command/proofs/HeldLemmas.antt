@@ -5,11 +5,11 @@ use Rattle.std.specs.Prelude.{IfSome, Contains, slice_index_or, ◌<◌, ◌↔�
 use Rattle.std.proofs.lemmas.Bool.{cases_lt, cases_eq}
 use Rattle.std.proofs.lemmas.List.{length-replicate, length-set, get_or-set_same, get_or-set_other, get_or-replicate, get_or_past}
 use Rattle.std.proofs.lemmas.List.Elements.{Contains-append_left, Contains-append_right, Contains-append_cases}
-use Rattle.amd_cases.specs.Reading.{BeginsWith}
-use Rattle.amd_cases.proofs.ReadingLemmas.{end-append}
-use Rattle.amd_market.specs.Lines.{TakesLines, TakesTelling, TakesNotes, telling, rest_of}
-use Rattle.amd_market.proofs.LineLemmas.{takes-append, takes-none, telling-both}
-use Rattle.amd_market.specs.declared.lines.LineReader.{LineReader}
+use Rattle.amd_lines.specs.Lines.{BeginsWith}
+use Rattle.amd_lines.proofs.LineLemmas.{end-append}
+use Rattle.amd_lines.specs.Lines.{TakesLines, TakesTelling, TakesNotes, telling, rest_of, percent}
+use Rattle.amd_lines.proofs.LineLemmas.{takes-append, takes-none, telling-both}
+use Rattle.amd_lines.specs.declared.lines.LineReader.{LineReader}
 use Rattle.amd_command.specs.Held.{SpellsRow, SpellsRows, AreMarks, MarksRows}
 
 -- lines were read whose telling ones are rows, and exactly these are marked
@@ -17,7 +17,7 @@ pub record HeldSoFar {R Z : Type 0} (remaining : R → Option (List ℕ)) (old n
   pub lines : List (List ℕ)
   pub takes : TakesLines remaining old new lines
   pub rows : List ℕ
-  pub spells : SpellsRows n (telling lines) rows
+  pub spells : SpellsRows n (telling percent lines) rows
   pub marked : AreMarks n rows marks
 
 pub spells-more : (n : ℕ) (ls : List (List ℕ)) (rs : List ℕ) (l : List ℕ) (r : ℕ) → SpellsRows n ls rs → SpellsRow n l r →
@@ -83,15 +83,15 @@ one-marked rows marks row v inside h = (there, back)
 -- one line more
 pub held-next : {R Z : Type 0} (remaining : R → Option (List ℕ)) (a b c : LineReader R Z) (n : ℕ) (marks : List Bool) (line : List ℕ)
     (row : ℕ)
-    → HeldSoFar remaining a b n marks → TakesTelling remaining b c line → SpellsRow n line row →
+    → HeldSoFar remaining a b n marks → TakesTelling percent remaining b c line → SpellsRow n line row →
     HeldSoFar remaining a c n (set marks row true)
 held-next remaining a b c n marks line row h t one = record {
   lines = h.lines ++ t.lines;
   takes = takes-append remaining a b c h.lines t.lines h.takes t.takes;
   rows = h.rows ++ row ∷ [];
   spells = subst (λ ls. SpellsRows n ls (h.rows ++ row ∷ []))
-      (sym (telling-both h.lines t.lines (telling h.lines) (line ∷ []) refl t.tells))
-      (spells-more n (telling h.lines) h.rows line row h.spells one);
+      (sym (telling-both percent h.lines t.lines (telling percent h.lines) (line ∷ []) refl t.tells))
+      (spells-more n (telling percent h.lines) h.rows line row h.spells one);
   marked = record {
     size = length-set marks row true ∙ h.marked.size;
     each = λ v. one-marked h.rows marks row v (let l = one.index.0 in let s = h.marked.size in omega (arith, l, s)) (h.marked.each v);
@@ -101,7 +101,7 @@ held-next remaining a b c n marks line row h t one = record {
 -- all lines were read
 pub held-whole : {R Z : Type 0} (remaining : R → Option (List ℕ)) (a b c : LineReader R Z) (input : R) (n : ℕ) (marks : List Bool) →
     rest_of remaining a ≡ remaining input
-    → HeldSoFar remaining a b n marks → TakesNotes remaining b c → IfSome (remaining input) (λ bytes. MarksRows bytes n marks)
+    → HeldSoFar remaining a b n marks → TakesNotes percent remaining b c → IfSome (remaining input) (λ bytes. MarksRows bytes n marks)
 held-whole remaining a b c input n marks same h end =
     let whole = takes-append remaining a b c h.lines end.lines h.takes end.takes in
     rw (← same) (known (rest_of remaining a) (rest_of remaining b) (rest_of remaining c) h.takes.took whole.took end.end)
@@ -112,7 +112,7 @@ held-whole remaining a b c input n marks same h end =
       all = k;
       rows = h.rows;
       spells = subst (λ ls. SpellsRows n ls h.rows)
-          (sym (telling-both h.lines end.lines (telling h.lines) [] refl end.tells ∙ append-nil (telling h.lines))) h.spells;
+          (sym (telling-both percent h.lines end.lines (telling percent h.lines) [] refl end.tells ∙ append-nil (telling percent h.lines))) h.spells;
       marked = h.marked;
     }
 

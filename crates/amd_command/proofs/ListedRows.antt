@@ -1,11 +1,11 @@
 -- The lines of a list of rows, read one after another.
 use Rattle.std.proofs.Common.{◌≡◌, ℕ, Option, Some, None, List, [], ◌∷◌, ◌++◌, refl, sym, ◌∙◌, subst, append-nil}
 use Rattle.std.specs.Prelude.{IfSome}
-use Rattle.amd_cases.specs.Reading.{BeginsWith}
-use Rattle.amd_cases.proofs.ReadingLemmas.{end-append}
-use Rattle.amd_market.specs.Lines.{TakesLines, TakesTelling, TakesNotes, telling, rest_of}
-use Rattle.amd_market.proofs.LineLemmas.{takes-append, takes-none, telling-both}
-use Rattle.amd_market.specs.declared.lines.LineReader.{LineReader}
+use Rattle.amd_lines.specs.Lines.{BeginsWith}
+use Rattle.amd_lines.proofs.LineLemmas.{end-append}
+use Rattle.amd_lines.specs.Lines.{TakesLines, TakesTelling, TakesNotes, telling, rest_of, percent}
+use Rattle.amd_lines.proofs.LineLemmas.{takes-append, takes-none, telling-both}
+use Rattle.amd_lines.specs.declared.lines.LineReader.{LineReader}
 use Rattle.amd_command.specs.Comparisons.{ListsRows}
 use Rattle.amd_command.specs.Held.{SpellsRow, SpellsRows}
 use Rattle.amd_command.proofs.HeldLemmas.{spells-more}
@@ -14,7 +14,7 @@ use Rattle.amd_command.proofs.HeldLemmas.{spells-more}
 pub record RowsSoFar {R Z : Type 0} (remaining : R → Option (List ℕ)) (old new : LineReader R Z) (n : ℕ) (rows : List ℕ) : Type 0 where
   pub lines : List (List ℕ)
   pub takes : TakesLines remaining old new lines
-  pub spells : SpellsRows n (telling lines) rows
+  pub spells : SpellsRows n (telling percent lines) rows
 
 -- no line was read yet
 pub rows-none : {R Z : Type 0} (remaining : R → Option (List ℕ)) (a : LineReader R Z) (n : ℕ) (rows : List ℕ) → rows ≡ [] →
@@ -27,21 +27,21 @@ rows-none remaining a n rows same = record {
 
 -- one line more
 pub rows-next : {R Z : Type 0} (remaining : R → Option (List ℕ)) (a b c : LineReader R Z) (n : ℕ) (old new line : List ℕ) (row : ℕ)
-    → RowsSoFar remaining a b n old → TakesTelling remaining b c line → SpellsRow n line row → new ≡ old ++ row ∷ []
+    → RowsSoFar remaining a b n old → TakesTelling percent remaining b c line → SpellsRow n line row → new ≡ old ++ row ∷ []
     → RowsSoFar remaining a c n new
 rows-next remaining a b c n old new line row h t one pushed = record {
   lines = h.lines ++ t.lines;
   takes = takes-append remaining a b c h.lines t.lines h.takes t.takes;
-  spells = subst (SpellsRows n (telling (h.lines ++ t.lines))) (sym pushed)
+  spells = subst (SpellsRows n (telling percent (h.lines ++ t.lines))) (sym pushed)
       (subst (λ ls. SpellsRows n ls (old ++ row ∷ []))
-      (sym (telling-both h.lines t.lines (telling h.lines) (line ∷ []) refl t.tells))
-      (spells-more n (telling h.lines) old line row h.spells one));
+      (sym (telling-both percent h.lines t.lines (telling percent h.lines) (line ∷ []) refl t.tells))
+      (spells-more n (telling percent h.lines) old line row h.spells one));
 }
 
 -- all lines were read
 pub rows-whole : {R Z : Type 0} (remaining : R → Option (List ℕ)) (a b c : LineReader R Z) (input : R) (n : ℕ) (rows : List ℕ) →
     rest_of remaining a ≡ remaining input
-    → RowsSoFar remaining a b n rows → TakesNotes remaining b c → IfSome (remaining input) (λ bytes. ListsRows bytes n rows)
+    → RowsSoFar remaining a b n rows → TakesNotes percent remaining b c → IfSome (remaining input) (λ bytes. ListsRows bytes n rows)
 rows-whole remaining a b c input n rows same h end =
     let whole = takes-append remaining a b c h.lines end.lines h.takes end.takes in
     rw (← same) (known (rest_of remaining a) (rest_of remaining b) (rest_of remaining c) h.takes.took whole.took end.end)
@@ -51,7 +51,7 @@ rows-whole remaining a b c input n rows same h end =
       lines = h.lines ++ end.lines;
       all = k;
       spells = subst (λ ls. SpellsRows n ls rows)
-          (sym (telling-both h.lines end.lines (telling h.lines) [] refl end.tells ∙ append-nil (telling h.lines))) h.spells;
+          (sym (telling-both percent h.lines end.lines (telling percent h.lines) [] refl end.tells ∙ append-nil (telling percent h.lines))) h.spells;
     }
 
     known : (first mid last : Option (List ℕ)) → IfSome first (λ bs. BeginsWith h.lines bs mid) →

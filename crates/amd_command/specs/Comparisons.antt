@@ -1,8 +1,8 @@
 -- What the factor needs under several orders, and its text.
 use Rattle.std.specs.Prelude.{◌-◌, ℕ, zero, suc, Some, None, Option, List, [], ◌∷◌, ◌++◌, map, pos, codes, decimal}
 use Rattle.amd_texts.specs.Texts.{labelled}
-use Rattle.amd_cases.specs.Reading.{BeginsWith}
-use Rattle.amd_market.specs.Lines.{telling}
+use Rattle.amd_lines.specs.Lines.{BeginsWith}
+use Rattle.amd_lines.specs.Lines.{telling, percent}
 use Rattle.amd_symbolic.specs.Counted.{IsCountsOf}
 use Rattle.amd_symbolic.specs.declared.needs.Need.{Need}
 use Rattle.amd_command.specs.Held.{SpellsRows}
@@ -25,7 +25,7 @@ rows_below (suc k) = rows_below k ++ k ∷ []
 pub record ListsRows (bytes : List ℕ) (n : ℕ) (rows : List ℕ) : Type 0 where
   pub lines : List (List ℕ)
   pub all : BeginsWith lines bytes (Some [])
-  pub spells : SpellsRows n (telling lines) rows
+  pub spells : SpellsRows n (telling percent lines) rows
 
 -- a figure of what a factor needs
 abbrev pub figure_of : Figure → ℕ → Need → ℕ

@@ -1,9 +1,9 @@
 -- The rows that a text lists.
 use Rattle.std.specs.Prelude.{◌≡◌, ◌↔◌, ℕ, Bool, true, false, Some, List, [], ◌∷◌, length, Contains, slice_index_or}
-use Rattle.amd_cases.specs.Words.{words}
+use Rattle.amd_lines.specs.Words.{words}
 use Rattle.amd_market.specs.Entries.{SpellsIndex}
-use Rattle.amd_cases.specs.Reading.{BeginsWith}
-use Rattle.amd_market.specs.Lines.{telling}
+use Rattle.amd_lines.specs.Lines.{BeginsWith}
+use Rattle.amd_lines.specs.Lines.{telling, percent}
 
 -- the line is the number of one of n rows, of which the first is 1
 pub record SpellsRow (n : ℕ) (line : List ℕ) (row : ℕ) : Type 0 where
@@ -28,5 +28,5 @@ pub record MarksRows (bytes : List ℕ) (n : ℕ) (marks : List Bool) : Type 0 w
   pub lines : List (List ℕ)
   pub all : BeginsWith lines bytes (Some [])
   pub rows : List ℕ
-  pub spells : SpellsRows n (telling lines) rows
+  pub spells : SpellsRows n (telling percent lines) rows
   pub marked : AreMarks n rows marks

@@ -12,8 +12,9 @@ ghost use Rattle.amd_command.specs.Comparisons.{IsNeedUnder, ListsRows, compared
 ghost use Rattle.amd_command.specs.Comparisons.{rows_below, three_figures, two_figures};
 
 use crate::held::{held_fault, row_of};
+use amd_lines::lines::LineReader;
 use amd_market::faults::{ReadError, ReadFault};
-use amd_market::lines::LineReader;
+use amd_market::lines::{LONGEST_LINE, at_line, take_telling};
 use amd_market::reader::Matrix;
 use amd_symbolic::needs::Need;
 use amd_symbolic::{Fault, counts};
@@ -77,20 +78,20 @@ pub fn read_rows<R: Read + Drop, A: Allocator + Copy>(
     ensures rows { IfOk result (λ v. IfSome (R.remaining input) (λ bytes. ListsRows bytes n v.items)) }
     ensures line { IfErr result (λ e. IfSome (R.remaining input) (λ bytes. NamesLine bytes e)) }
 {
-    let mut lines = LineReader::new(alloc, input);
+    let mut lines = LineReader::new(alloc, input, LONGEST_LINE);
     let mut rows = Vec::new(alloc);
     'rows: for _ in 0..u64::MAX {
-        if !lines.take_telling()? {
+        if !take_telling(&mut lines)? {
             return Ok(rows);
         }
         let Some(row) = row_of(lines.line(), n) else {
-            return Err(lines.at_line(held_fault(lines.line(), n)));
+            return Err(at_line(&lines, held_fault(lines.line(), n)));
         };
         let Ok(()) = rows.push(row) else {
-            return Err(lines.at_line(ReadFault::OutOfMemory));
+            return Err(at_line(&lines, ReadFault::OutOfMemory));
         };
     }
-    Err(lines.at_line(ReadFault::Lines))
+    Err(at_line(&lines, ReadFault::Lines))
 }
 
 /// A figure of what a factor needs.

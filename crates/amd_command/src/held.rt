@@ -6,10 +6,11 @@ ghost use Rattle.std.specs.Prelude.{◌≡◌, ℕ, length, IfOk, IfErr, IfSome,
 ghost use Rattle.amd_market.specs.Files.{NamesLine};
 ghost use Rattle.amd_command.specs.Held.{SpellsRow, MarksRows};
 
-use amd_cases::words::first_word;
+use amd_lines::lines::LineReader;
+use amd_lines::words::first_word;
 use amd_market::entries::{index_of, row_fault};
 use amd_market::faults::{ReadError, ReadFault};
-use amd_market::lines::LineReader;
+use amd_market::lines::{LONGEST_LINE, at_line, take_telling};
 use std::alloc::Allocator;
 use std::io::Read;
 
@@ -47,18 +48,18 @@ pub fn read_held<R: Read + Drop, A: Allocator + Copy>(
     ensures marks { IfOk result (λ v. IfSome (R.remaining input) (λ bytes. MarksRows bytes n v.items)) }
     ensures line { IfErr result (λ e. IfSome (R.remaining input) (λ bytes. NamesLine bytes e)) }
 {
-    let mut lines = LineReader::new(alloc, input);
+    let mut lines = LineReader::new(alloc, input, LONGEST_LINE);
     let Ok(mut marks) = vec![in alloc; false; n] else {
-        return Err(lines.at_line(ReadFault::OutOfMemory));
+        return Err(at_line(&lines, ReadFault::OutOfMemory));
     };
     'rows: for _ in 0..u64::MAX {
-        if !lines.take_telling()? {
+        if !take_telling(&mut lines)? {
             return Ok(marks);
         }
         let Some(row) = row_of(lines.line(), n) else {
-            return Err(lines.at_line(held_fault(lines.line(), n)));
+            return Err(at_line(&lines, held_fault(lines.line(), n)));
         };
         marks[row] = true;
     }
-    Err(lines.at_line(ReadFault::Lines))
+    Err(at_line(&lines, ReadFault::Lines))
 }

@@ -6,7 +6,7 @@ use amd_cases::reader::{CaseError, CaseReader, LONGEST_LINE};
 use amd_testing::check;
 use std::alloc::{Allocator, Global};
 use std::io;
-use std::io::{BufRead, Read};
+use std::io::Read;
 use std::process::Abort;
 
 /// Two cases with lines of white space before, within and behind them.
@@ -14,7 +14,7 @@ const SPACED: &[u8] =
     b"\n \t\r\nCASE 1\n\nN 1\n  \nAP 0 0\nAI\n\nEND\n\n\nCASE 2\nN 0\nAP\nAI\nEND\n\n ";
 
 /// The next case, by its number and its number of rows; `None` where there is none.
-fn next_of<R: BufRead + Drop, A: Allocator + Copy>(
+fn next_of<R: Read + Drop, A: Allocator + Copy>(
     rt: &impl Abort,
     cases: &mut CaseReader<R, A>,
 ) -> Option<(i64, i64)> {
@@ -35,7 +35,7 @@ fn lines_without_a_word(rt: HostRuntime) {
 }
 
 /// Whether a text is refused for this line.
-fn is_refused<R: BufRead + Drop>(
+fn is_refused<R: Read + Drop>(
     alloc: Global,
     input: R,
     wanted: u64,
@@ -60,8 +60,8 @@ fn faults_behind_lines_without_a_word(rt: HostRuntime) {
     }
 }
 
-/// What the endless line is made of.
-const PIECE: &[u8] = &[b' '; 4096];
+/// How many bytes a reader of lines reads in one go.
+const BLOCK: usize = 131072;
 
 /// A reader of a line that begins in some way and does not end, up to a number of bytes behind which it must not be
 /// read.
@@ -72,32 +72,21 @@ struct Endless<'a> {
 }
 
 impl Read for Endless<'_> {
-    fn read(&mut self, _buf: &mut [u8]) -> io::Result<usize> {
-        Ok(0)
-    }
-}
-
-impl BufRead for Endless<'_> {
-    fn fill_buf(&mut self) -> io::Result<&[u8]> {
+    fn read(&mut self, buf: &mut [u8]) -> io::Result<usize> {
         if !self.front.is_empty() {
-            return Ok(self.front);
+            return self.front.read(buf);
         }
-        if self.left < PIECE.len() {
+        if self.left == 0 {
             return Err(io::Error::from(io::ErrorKind::Other));
         }
-        Ok(PIECE)
-    }
-
-    fn consume(&mut self, amount: usize) {
-        if self.front.is_empty() {
-            self.left = self.left.saturating_sub(amount);
-        } else {
-            self.front = self.front.get(amount..).unwrap_or(&[]);
-        }
+        let count = buf.len().min(self.left);
+        buf[..count].fill(b' ');
+        self.left -= count;
+        Ok(count)
     }
 }
 
-/// Where the line goes on and on, no more is read of it than a line may have, and one piece.
+/// Where the line goes on and on, no more is read of it than a line may have, and one block.
 #[test]
 fn a_line_without_an_end(rt: HostRuntime) {
     for (front, line) in [
@@ -106,7 +95,7 @@ fn a_line_without_an_end(rt: HostRuntime) {
         (b"CASE 1\nAP 0".as_slice(), 2),
         (b"\n\nnothing".as_slice(), 3),
     ] {
-        let left = LONGEST_LINE + PIECE.len();
+        let left = LONGEST_LINE + BLOCK;
         let input = Endless { front, left };
         assert!(rt;
             is_refused(rt.alloc(), input, line, CaseFault::Long),

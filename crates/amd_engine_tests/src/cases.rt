@@ -9,7 +9,7 @@ use amd_testing::refusing::{Refusing, each_refused};
 use num_traits::PrimInt;
 use std::alloc::{AllocError, Allocator, Global};
 use std::io;
-use std::io::{BufRead, BufReader, ErrorKind, Read};
+use std::io::{BufReader, ErrorKind, Read};
 use std::process::Abort;
 use std::test::Fail;
 
@@ -19,7 +19,7 @@ const TWO_CASES: &[u8] =
     b"CASE 7\nN 3\nT -5\nAGG 0\nAP 0 1 +2 02\nAI 1  -2\r\nEND\nCASE -8\nAI\nAP \nN 0\nEND";
 
 /// Checks the next case.
-fn check_case<R: BufRead + Drop, A: Allocator + Copy>(
+fn check_case<R: Read + Drop, A: Allocator + Copy>(
     rt: &impl Abort,
     cases: &mut CaseReader<R, A>,
     scalars: (i64, i64, i32, bool),

@@ -6,15 +6,15 @@ use Rattle.std.proofs.lemmas.Grind.{flat_map-append}
 use Rattle.std.proofs.lemmas.List.Elements.{All-append}
 use Rattle.amd_market.specs.Headers.{pairs_of}
 use Rattle.amd_market.specs.Arrays.{SpellsValue, SpellsValues, kept, column_places, array_places, first_row}
-use Rattle.amd_market.specs.Lines.{TakesTelling, telling}
+use Rattle.amd_lines.specs.Lines.{TakesTelling, telling, percent}
 use Rattle.amd_market.specs.Files.{TakesValues}
-use Rattle.amd_market.proofs.LineLemmas.{takes-append, takes-none, telling-both}
+use Rattle.amd_lines.proofs.LineLemmas.{takes-append, takes-none, telling-both}
 use Rattle.amd_market.proofs.EntryLemmas.{Inside, all-one, all-others, entries-inside}
 use Rattle.amd_market.specs.declared.headers.Field.{Field}
 use Rattle.amd_market.specs.declared.headers.Header.{Header}
 use Rattle.amd_market.specs.declared.headers.Symmetry.{Symmetry}
 use Rattle.amd_market.specs.declared.headers.Symmetry.TheVariants as kind
-use Rattle.amd_market.specs.declared.lines.LineReader.{LineReader}
+use Rattle.amd_lines.specs.declared.lines.LineReader.{LineReader}
 
 kept-append : (bs cs : List Bool) (ps qs : List (ℕ × ℕ)) → length bs ≡ length ps → kept (bs ++ cs) (ps ++ qs) ≡ kept bs ps ++ kept cs qs
 kept-append [] cs [] qs h = refl
@@ -53,8 +53,8 @@ values-append remaining a b c header xs ys ps qs rs h k = record {
   counted = length-append h.flags k.flags ∙ ap (λ z. z + length k.flags) h.counted ∙ ap (λ z. length xs + z) k.counted ∙
       sym (length-append xs ys);
   spells = subst (λ ls. SpellsValues header.field ls (h.flags ++ k.flags))
-      (sym (telling-both h.lines k.lines (telling h.lines) (telling k.lines) refl refl))
-      (spells-append header.field (telling h.lines) (telling k.lines) h.flags k.flags h.spells k.spells);
+      (sym (telling-both percent h.lines k.lines (telling percent h.lines) (telling percent k.lines) refl refl))
+      (spells-append header.field (telling percent h.lines) (telling percent k.lines) h.flags k.flags h.spells k.spells);
   added = k.added ∙ ap (λ z. z ++ flat_map (pairs_of header.symmetry) (kept k.flags ys)) h.added ∙
       append_assoc ps (flat_map (pairs_of header.symmetry) (kept h.flags xs)) (flat_map (pairs_of header.symmetry) (kept k.flags ys)) ∙
       ap (λ z. ps ++ z) (sym (flat_map-append (pairs_of header.symmetry) (kept h.flags xs) (kept k.flags ys)) ∙
@@ -63,7 +63,7 @@ values-append remaining a b c header xs ys ps qs rs h k = record {
 
 -- one value was read: it is zero, or the pairs of its place were added
 pub value-zero : {R Z : Type 0} (remaining : R → Option (List ℕ)) (a b : LineReader R Z) (header : Header) (line : List ℕ)
-    (place : ℕ × ℕ) (ps : List (ℕ × ℕ)) → TakesTelling remaining a b line → SpellsValue header.field line false →
+    (place : ℕ × ℕ) (ps : List (ℕ × ℕ)) → TakesTelling percent remaining a b line → SpellsValue header.field line false →
     TakesValues remaining a b header (place ∷ []) ps ps
 value-zero remaining a b header line place ps h one = record {
   lines = h.lines;
@@ -75,7 +75,7 @@ value-zero remaining a b header line place ps h one = record {
 }
 
 pub value-other : {R Z : Type 0} (remaining : R → Option (List ℕ)) (a b : LineReader R Z) (header : Header) (line : List ℕ)
-    (place : ℕ × ℕ) (ps qs : List (ℕ × ℕ)) → TakesTelling remaining a b line → SpellsValue header.field line true →
+    (place : ℕ × ℕ) (ps qs : List (ℕ × ℕ)) → TakesTelling percent remaining a b line → SpellsValue header.field line true →
     qs ≡ ps ++ pairs_of header.symmetry place → TakesValues remaining a b header (place ∷ []) ps qs
 value-other remaining a b header line place ps qs h one more = record {
   lines = h.lines;

@@ -4,18 +4,18 @@ use Rattle.std.proofs.Common.{length-append, append-nil, append_assoc, refl, sym
 use Rattle.std.specs.Prelude.{◌==◌, ◌||◌, Bool, true, false, flat_map, All, slice_range, min, Option, Some, None, IfSome}
 use Rattle.std.specs.Char.{to_ascii_lowercase}
 use Rattle.std.proofs.lemmas.Bool.{eqb-true}
-use Rattle.amd_cases.specs.Words.{words}
+use Rattle.amd_lines.specs.Words.{words}
 use Rattle.std.proofs.lemmas.Grind.{flat_map-append}
 use Rattle.std.proofs.lemmas.List.Elements.{All-append, All-take, All-drop, All-map, All-cons, All-weaker}
 use Rattle.amd_market.specs.Headers.{pairs_of}
 use Rattle.amd_market.specs.Boeing.{is_whole_letter, SpellsCounts, SpellsField, SpellsFields, SpellsTable, ArePointers, listed_entries, column_entries}
 use Rattle.amd_market.proofs.EntryLemmas.{Inside, entries-inside}
 use Rattle.amd_market.specs.declared.headers.Symmetry.{Symmetry}
-use Rattle.amd_market.specs.Lines.{TakesLines, line_of}
+use Rattle.amd_lines.specs.Lines.{TakesLines, line_of}
 use Rattle.amd_market.specs.Faults.{IsOfList, IsToldBehind, last, reading, in_boeing}
 use Rattle.amd_market.specs.declared.faults.ReadFault.{ReadFault}
 use Rattle.amd_market.specs.declared.faults.ReadFault.TheVariants as fault
-use Rattle.amd_market.specs.declared.lines.LineReader.{LineReader}
+use Rattle.amd_lines.specs.declared.lines.LineReader.{LineReader}
 
 -- a front or a back of a list whose length may be less
 pub take-least : (w : ℕ) (xs : List ℕ) → take (min w (length xs)) xs ≡ take w xs

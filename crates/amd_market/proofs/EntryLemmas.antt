@@ -3,7 +3,7 @@ use Rattle.std.proofs.Common.{◌≡◌, ◌<◌, ℕ, zero, suc, pos, arith, Bo
 use Rattle.std.proofs.Common.{◌∙◌, subst}
 use Rattle.std.specs.Prelude.{All, flat_map, ◌==◌, ◌&&◌, not}
 use Rattle.std.proofs.lemmas.List.Elements.{All-append}
-use Rattle.amd_cases.specs.Words.{words, SpellsNumber}
+use Rattle.amd_lines.specs.Words.{words, SpellsNumber}
 use Rattle.amd_market.specs.Headers.{value_words, pairs_of, is_mirrored}
 use Rattle.amd_market.specs.Entries.{SpellsSize, SpellsIndex, SpellsEntry, SpellsEntries, AreValues}
 use Rattle.amd_market.specs.Arrays.{SpellsShape}

@@ -2,14 +2,15 @@
 use Rattle.std.proofs.Common.{◌≡◌, ◌≢◌, ℕ, List, [], ◌∷◌, ◌++◌, sym, ap, ◌∙◌, subst}
 use Rattle.std.proofs.Common.{Option, Some, None, append-nil, append_assoc}
 use Rattle.std.specs.Prelude.{IfSome}
-use Rattle.amd_cases.specs.Reading.{BeginsWith, line_number}
-use Rattle.amd_cases.proofs.ReadingLemmas.{known-append, number-append}
-use Rattle.amd_market.specs.Lines.{TakesLines, TakesTelling, TakesNotes, FailsAt, named_line, rest_of}
+use Rattle.amd_lines.specs.Lines.{BeginsWith, line_number}
+use Rattle.amd_lines.proofs.LineLemmas.{known-append, number-append}
+use Rattle.amd_lines.specs.Lines.{TakesLines, TakesTelling, TakesNotes, FailsAt, rest_of, percent}
+use Rattle.amd_market.specs.Faults.{named_line}
 use Rattle.amd_market.specs.Faults.{IsToldBehind, last, end, reading, IsUnread, Blames}
 use Rattle.amd_market.specs.Faults.{HasBannerFault, HasKindFault, HasWordFault, header_words, banner_word, object_word, low}
 use Rattle.amd_market.specs.Headers.{format_text}
 use Rattle.amd_market.specs.Files.{FailsFor, NamesFault}
-use Rattle.amd_market.specs.declared.lines.LineReader.{LineReader}
+use Rattle.amd_lines.specs.declared.lines.LineReader.{LineReader}
 use Rattle.amd_market.specs.declared.faults.ReadFault.TheVariants as fault
 use Rattle.amd_market.specs.declared.faults.ReadError.{ReadError}
 use Rattle.amd_market.specs.declared.faults.ReadError.TheVariants as error
@@ -32,7 +33,7 @@ blames-unread (error.Line n f) ls rest h = reading h
 blames-unread (error.Input n x) ls rest h = tt
 
 -- an error that no text spells
-pub for-unread : {R Z : Type 0} (remaining : R → Option (List ℕ)) (a : LineReader R Z) (e : ReadError) → FailsAt remaining a e →
+pub for-unread : {R Z : Type 0} (remaining : R → Option (List ℕ)) (a : LineReader R Z) (e : ReadError) → FailsAt remaining a (named_line e) →
     IsUnread e → FailsFor remaining a e
 for-unread remaining a e h u = record {
   lines = h.lines;
@@ -55,7 +56,7 @@ for-here remaining a b is e f h same k = record {
 
 -- a fault of the line that says something
 pub for-telling : {R Z : Type 0} (remaining : R → Option (List ℕ)) (a b : LineReader R Z) (line : List ℕ) (e : ReadError) (f : ReadFault) →
-    TakesTelling remaining a b line → e ≡ error.Line b.lines f → IsToldBehind f (line ∷ []) (rest_of remaining b) → FailsFor remaining a e
+    TakesTelling percent remaining a b line → e ≡ error.Line b.lines f → IsToldBehind f (line ∷ []) (rest_of remaining b) → FailsFor remaining a e
 for-telling remaining a b line e f h same k = for-here remaining a b h.lines e f h.takes same
     (subst (λ ls. IsToldBehind f ls (rest_of remaining b)) (sym h.parts) (behind-more f h.before (line ∷ []) (rest_of remaining b) k))
 
@@ -66,7 +67,7 @@ at-end ls (Some bytes) rest h k = subst (BeginsWith ls bytes) k h
 
 -- a fault of a text that ends
 pub for-notes : {R Z : Type 0} (remaining : R → Option (List ℕ)) (a b : LineReader R Z) (e : ReadError) (f : ReadFault) →
-    TakesNotes remaining a b → e ≡ error.Line b.lines f → IsToldBehind f [] (Some []) → FailsFor remaining a e
+    TakesNotes percent remaining a b → e ≡ error.Line b.lines f → IsToldBehind f [] (Some []) → FailsFor remaining a e
 for-notes remaining a b e f h same k = record {
   lines = h.lines;
   rest = Some [];

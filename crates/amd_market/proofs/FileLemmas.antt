@@ -9,18 +9,19 @@ use Rattle.amd_market.specs.Headers.{is_array}
 use Rattle.amd_market.specs.Arrays.{SpellsShape, SpellsArray}
 use Rattle.amd_market.specs.Boeing.{SpellsBoeing}
 use Rattle.amd_market.specs.Faults.{HasHeaderFault}
-use Rattle.amd_cases.specs.Reading.{BeginsWith, line_number}
-use Rattle.amd_cases.proofs.ReadingLemmas.{end-append}
-use Rattle.amd_market.specs.Lines.{TakesLines, TakesTelling, TakesNotes, FailsAt, telling, rest_of}
+use Rattle.amd_lines.specs.Lines.{BeginsWith, line_number}
+use Rattle.amd_lines.proofs.LineLemmas.{end-append}
+use Rattle.amd_lines.specs.Lines.{TakesLines, TakesTelling, TakesNotes, FailsAt, telling, rest_of, percent}
+use Rattle.amd_market.specs.Faults.{named_line}
 use Rattle.amd_market.specs.Columns.{HoldsOnce}
 use Rattle.amd_market.specs.Files.{TakesEntries, TakesBody, SpellsBody, SpellsFile, market, boeing, NamesLine}
-use Rattle.amd_market.proofs.LineLemmas.{takes-append, takes-none, telling-both}
+use Rattle.amd_lines.proofs.LineLemmas.{takes-append, takes-none, telling-both}
 use Rattle.amd_market.proofs.EntryLemmas.{Inside, entries-more, all-inside}
 use Rattle.amd_market.specs.declared.headers.Format.{Format}
 use Rattle.amd_market.specs.declared.headers.Format.TheVariants.{Coordinate, Array}
 use Rattle.amd_market.specs.declared.headers.Header.{Header}
 use Rattle.amd_market.specs.declared.faults.ReadFault.TheVariants as fault
-use Rattle.amd_market.specs.declared.lines.LineReader.{LineReader}
+use Rattle.amd_lines.specs.declared.lines.LineReader.{LineReader}
 use Rattle.amd_market.specs.declared.faults.ReadError.{ReadError}
 
 -- no entry was read yet
@@ -40,7 +41,7 @@ entries-none remaining a header n ps h = record {
 -- one entry more
 pub entries-next : {R Z : Type 0} (remaining : R → Option (List ℕ)) (a b c : LineReader R Z) (header : Header) (n k : ℕ)
     (ps qs : List (ℕ × ℕ))
-    (line : List ℕ) (e : ℕ × ℕ) → TakesEntries remaining a b header n k ps → TakesTelling remaining b c line →
+    (line : List ℕ) (e : ℕ × ℕ) → TakesEntries remaining a b header n k ps → TakesTelling percent remaining b c line →
     SpellsEntry header.field n line e
     → qs ≡ ps ++ pairs_of header.symmetry e → TakesEntries remaining a c header n (k + 1) qs
 entries-next remaining a b c header n k ps qs line e h t one more = record {
@@ -49,8 +50,8 @@ entries-next remaining a b c header n k ps qs line e h t one more = record {
   entries = h.entries ++ e ∷ [];
   counted = (let l = length-append h.entries (e ∷ []) in let m = h.counted in l ∙ ap (λ z. z + 1) m);
   spells = subst (λ ls. SpellsEntries header.field n ls (h.entries ++ e ∷ []))
-      (sym (telling-both h.lines t.lines (telling h.lines) (line ∷ []) refl t.tells))
-      (entries-more header.field n (telling h.lines) h.entries line e h.spells one);
+      (sym (telling-both percent h.lines t.lines (telling percent h.lines) (line ∷ []) refl t.tells))
+      (entries-more header.field n (telling percent h.lines) h.entries line e h.spells one);
   pairs_are = more ∙ ap (λ z. z ++ pairs_of header.symmetry e) h.pairs_are
       ∙ sym (flat_map-append (pairs_of header.symmetry) h.entries (e ∷ []) ∙
       ap (λ z. flat_map (pairs_of header.symmetry) h.entries ++ z) (append-nil (pairs_of header.symmetry e)));
@@ -61,12 +62,12 @@ pub pairs-inside : {R Z : Type 0} (remaining : R → Option (List ℕ)) (a b : L
     → TakesEntries remaining a b header n k ps → All {X = ℕ × ℕ} (Inside n) ps
 pairs-inside remaining a b header n k ps h =
     let P : List (ℕ × ℕ) → Type 0 = λ z. All {X = ℕ × ℕ} (Inside n) z in
-    subst P (sym h.pairs_are) (all-inside header.field n header.symmetry (telling h.lines) h.entries h.spells)
+    subst P (sym h.pairs_are) (all-inside header.field n header.symmetry (telling percent h.lines) h.entries h.spells)
 
 -- the lines of a size, of the entries, and of notes up to the end
 pub body-whole : {R Z : Type 0} (remaining : R → Option (List ℕ)) (a b c d : LineReader R Z) (size_line : List ℕ) (ls : List (List ℕ))
-    (header : Header) (n : ℕ) (pairs entries : List (ℕ × ℕ)) → TakesTelling remaining a b size_line → TakesLines remaining b c ls →
-    TakesNotes remaining c d → SpellsBody header.format header n size_line (telling ls) entries →
+    (header : Header) (n : ℕ) (pairs entries : List (ℕ × ℕ)) → TakesTelling percent remaining a b size_line → TakesLines remaining b c ls →
+    TakesNotes percent remaining c d → SpellsBody header.format header n size_line (telling percent ls) entries →
     pairs ≡ flat_map (pairs_of header.symmetry) entries → TakesBody remaining a d header n pairs
 body-whole remaining a b c d size_line ls header n pairs entries first second third spells are =
     let both = takes-append remaining a b c first.lines ls first.takes second in record {
@@ -74,10 +75,10 @@ body-whole remaining a b c d size_line ls header n pairs entries first second th
       takes = takes-append remaining a c d (first.lines ++ ls) third.lines both third.takes;
       end = end-append (first.lines ++ ls) _ _ _ both.took third.end;
       size_line = size_line;
-      entry_lines = telling ls;
-      parts = telling-both (first.lines ++ ls) third.lines (size_line ∷ telling ls) []
-          (telling-both first.lines ls (size_line ∷ []) (telling ls) first.tells refl) third.tells ∙
-          append-nil (size_line ∷ telling ls);
+      entry_lines = telling percent ls;
+      parts = telling-both percent (first.lines ++ ls) third.lines (size_line ∷ telling percent ls) []
+          (telling-both percent first.lines ls (size_line ∷ []) (telling percent ls) first.tells refl) third.tells ∙
+          append-nil (size_line ∷ telling percent ls);
       entries = entries;
       has_body = spells;
       pairs_are = are;
@@ -141,7 +142,7 @@ boeing-whole remaining a b c input line ls n ap' ai repeats same first none behi
 pub names-line : {R Z : Type 0} (remaining : R → Option (List ℕ)) (a : LineReader R Z) (input : R) (e : ReadError) → rest_of remaining a
     ≡ remaining input →
     a.lines ≡ 0
-    → FailsAt remaining a e → IfSome (remaining input) (λ bytes. NamesLine bytes e)
+    → FailsAt remaining a (named_line e) → IfSome (remaining input) (λ bytes. NamesLine bytes e)
 names-line remaining a input e same none h = rw (← same) (known (rest_of remaining a) h.took)
   where
     known : (first : Option (List ℕ)) → IfSome first (λ bytes. BeginsWith h.lines bytes h.rest) → IfSome first (λ bytes. NamesLine bytes e)

@@ -1,9 +1,6 @@
-pub mod LineLemmas
 pub mod EntryLemmas
 pub mod ArrayLemmas
 pub mod BoeingLemmas
 pub mod FaultLemmas
 pub mod FileLemmas
-pub mod WrittenLists
-pub mod BlockLemmas
 pub mod ColumnLemmas

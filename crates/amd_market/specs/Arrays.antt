@@ -2,7 +2,7 @@
 use Rattle.std.specs.Prelude.{◌≡◌, ◌≢◌, ◌==◌, ◌||◌, ◌&&◌, ◌+◌, ◌-◌, not, ℕ, pos, zero, suc, Bool, true, false, List, [], ◌∷◌, ◌++◌}
 use Rattle.std.specs.Prelude.{length}
 use Rattle.std.specs.List.{list_all, take_while}
-use Rattle.amd_cases.specs.Words.{words, SpellsNumber}
+use Rattle.amd_lines.specs.Words.{words, SpellsNumber}
 use Rattle.amd_market.specs.Headers.{value_words}
 use Rattle.amd_market.specs.Entries.{AreValues}
 use Rattle.amd_market.specs.declared.headers.Field.{Field}

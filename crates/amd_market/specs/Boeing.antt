@@ -2,7 +2,7 @@
 use Rattle.std.specs.Prelude.{◌≡◌, ◌<◌, ◌≤◌, ◌+◌, ◌-◌, ◌==◌, ◌||◌, cond, ℕ, pos, zero, suc, Bool, true, List, [], ◌∷◌, ◌++◌}
 use Rattle.std.specs.Prelude.{Option, Some, None, length, map, take, drop, min, slice_index, slice_range, flat_map}
 use Rattle.std.specs.Char.{to_ascii_lowercase}
-use Rattle.amd_cases.specs.Words.{words, SpellsNumber}
+use Rattle.amd_lines.specs.Words.{words, SpellsNumber}
 use Rattle.amd_market.specs.Headers.{pairs_of}
 use Rattle.amd_market.specs.Entries.{SpellsIndex}
 use Rattle.amd_market.specs.Columns.{HoldsOnce}

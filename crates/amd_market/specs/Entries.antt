@@ -2,7 +2,7 @@
 use Rattle.std.specs.Prelude.{◌≡◌, ◌<◌, ◌+◌, ℕ, pos, true, List, [], ◌∷◌, length}
 use Rattle.std.specs.List.{list_all}
 use Rattle.std.specs.Float.Parse.{is_float_text}
-use Rattle.amd_cases.specs.Words.{words, SpellsNumber}
+use Rattle.amd_lines.specs.Words.{words, SpellsNumber}
 use Rattle.amd_market.specs.Headers.{value_words}
 use Rattle.amd_market.specs.declared.headers.Field.{Field}
 

@@ -3,11 +3,11 @@ use Rattle.std.specs.Prelude.{◌≡◌, ◌≢◌, ◌<◌, ◌+◌, ℕ, ℤ, 
 use Rattle.std.specs.List.{list_all}
 use Rattle.std.specs.Char.{to_ascii_lowercase}
 use Rattle.std.specs.Float.Parse.{is_float_text}
-use Rattle.amd_cases.specs.Words.{words, SpellsNumber}
+use Rattle.amd_lines.specs.Words.{words, SpellsNumber}
 use Rattle.amd_market.specs.Headers.{value_words, SpellsHeader, lowered, without_mark, format_text, field_text, is_void}
 use Rattle.amd_market.specs.Arrays.{HasShapeFault}
 use Rattle.amd_market.specs.Entries.{SpellsSize, SpellsIndex}
-use Rattle.amd_market.specs.Lines.{is_note}
+use Rattle.amd_lines.specs.Lines.{is_note, percent}
 use Rattle.amd_market.specs.declared.headers.Format.{Format}
 use Rattle.amd_market.specs.declared.headers.Field.{Field}
 use Rattle.amd_market.specs.declared.headers.Header.{Header}
@@ -15,6 +15,8 @@ use Rattle.amd_market.specs.declared.faults.ReadFault.{ReadFault}
 use Rattle.amd_market.specs.declared.faults.ReadFault.TheVariants as fault
 use Rattle.amd_market.specs.declared.faults.ReadError.{ReadError}
 use Rattle.amd_market.specs.declared.faults.ReadError.TheVariants.{Line, Input}
+use Rattle.amd_lines.specs.declared.errors.LineCause.{LineCause}
+use Rattle.amd_lines.specs.declared.errors.LineCause.TheVariants as cause
 
 -- the fault of a line where the size must stand: it is not three numbers, or those of a matrix that is not square
 abbrev pub HasSizeFault : ReadFault → List ℕ → Type 0
@@ -113,7 +115,7 @@ IsMore f = ⊥
 
 -- such a line: it says something
 abbrev pub HasMoreFault : ReadFault → List ℕ → Type 0
-HasMoreFault f line = IsMore f × (is_note (words line) ≡ false)
+HasMoreFault f line = IsMore f × (is_note percent (words line) ≡ false)
 
 -- the line is a header, but an array of this kind has no lines
 abbrev pub HasVoidFault : ReadFault → List ℕ → Type 0
@@ -174,6 +176,18 @@ pub data IsToldBehind (f : ReadFault) (lines : List (List ℕ)) (rest : Option (
       IsToldBehind f lines rest
   end : EndHas f → rest ≡ Some [] → IsToldBehind f lines rest
   reading : IsOfReading f → IsToldBehind f lines rest
+
+-- the number of the line that an error names
+abbrev pub named_line : ReadError → ℕ
+named_line (Line line fault) = line
+named_line (Input line error) = line
+
+-- the error of a line that was not read, as an error of this reader
+abbrev pub read_error : ℕ → LineCause → ReadError
+read_error line cause.Long = Line line fault.Long
+read_error line cause.Lines = Line line fault.Lines
+read_error line cause.OutOfMemory = Line line fault.OutOfMemory
+read_error line (cause.Input error) = Input line error
 
 -- an error of reading
 abbrev pub IsUnread : ReadError → Type 0

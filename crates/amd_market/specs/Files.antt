@@ -2,16 +2,17 @@
 use Rattle.std.specs.Prelude.{◌≡◌, ◌++◌, ℕ, Bool, Some, IfSome, List, [], ◌∷◌, length, flat_map, Option}
 use Rattle.amd_market.specs.Headers.{SpellsHeader, pairs_of}
 use Rattle.amd_market.specs.Entries.{SpellsSize, SpellsEntries}
-use Rattle.amd_cases.specs.Reading.{BeginsWith, line_number}
+use Rattle.amd_lines.specs.Lines.{BeginsWith, line_number}
 use Rattle.amd_market.specs.Arrays.{SpellsShape, SpellsValues, SpellsArray, kept}
 use Rattle.amd_market.specs.Boeing.{SpellsBoeing}
-use Rattle.amd_market.specs.Lines.{TakesLines, telling, named_line, rest_of}
+use Rattle.amd_lines.specs.Lines.{TakesLines, telling, rest_of, percent}
+use Rattle.amd_market.specs.Faults.{named_line}
 use Rattle.amd_market.specs.Faults.{Blames, HasHeaderFault}
 use Rattle.amd_market.specs.Columns.{HoldsOnce}
 use Rattle.amd_market.specs.declared.headers.Format.{Format}
 use Rattle.amd_market.specs.declared.headers.Format.TheVariants.{Coordinate, Array}
 use Rattle.amd_market.specs.declared.headers.Header.{Header}
-use Rattle.amd_market.specs.declared.lines.LineReader.{LineReader}
+use Rattle.amd_lines.specs.declared.lines.LineReader.{LineReader}
 use Rattle.amd_market.specs.declared.faults.ReadFault.TheVariants as fault
 use Rattle.amd_market.specs.declared.faults.ReadError.{ReadError}
 
@@ -23,7 +24,7 @@ pub record TakesEntries {R Z : Type 0} (remaining : R → Option (List ℕ)) (ol
   pub takes : TakesLines remaining old new lines
   pub entries : List (ℕ × ℕ)
   pub counted : length entries ≡ count
-  pub spells : SpellsEntries header.field n (telling lines) entries
+  pub spells : SpellsEntries header.field n (telling percent lines) entries
   pub pairs_are : pairs ≡ flat_map (pairs_of header.symmetry) entries
 
 -- lines were read whose telling ones are the values at some places, one by one, and behind the pairs that were there
@@ -34,7 +35,7 @@ pub record TakesValues {R Z : Type 0} (remaining : R → Option (List ℕ)) (old
   pub takes : TakesLines remaining old new lines
   pub flags : List Bool
   pub counted : length flags ≡ length places
-  pub spells : SpellsValues header.field (telling lines) flags
+  pub spells : SpellsValues header.field (telling percent lines) flags
   pub added : after ≡ before ++ flat_map (pairs_of header.symmetry) (kept flags places)
 
 -- the lines behind a header are the line of the size and those of the entries, in one of two formats
@@ -52,7 +53,7 @@ pub record TakesBody {R Z : Type 0} (remaining : R → Option (List ℕ)) (old n
   pub end : IfSome (rest_of remaining old) (λ bytes. rest_of remaining new ≡ Some [])
   pub size_line : List ℕ
   pub entry_lines : List (List ℕ)
-  pub parts : telling lines ≡ size_line ∷ entry_lines
+  pub parts : telling percent lines ≡ size_line ∷ entry_lines
   pub entries : List (ℕ × ℕ)
   pub has_body : SpellsBody header.format header n size_line entry_lines entries
   pub pairs_are : pairs ≡ flat_map (pairs_of header.symmetry) entries
@@ -67,7 +68,7 @@ pub record SpellsMatrix (bytes : List ℕ) (n : ℕ) (ap ai : List ℕ) (repeats
   pub has_header : SpellsHeader first header
   pub size_line : List ℕ
   pub entry_lines : List (List ℕ)
-  pub parts : telling others ≡ size_line ∷ entry_lines
+  pub parts : telling percent others ≡ size_line ∷ entry_lines
   pub entries : List (ℕ × ℕ)
   pub has_body : SpellsBody header.format header n size_line entry_lines entries
   pub matrix : HoldsOnce n (flat_map (pairs_of header.symmetry) entries) ap ai repeats

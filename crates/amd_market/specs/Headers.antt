@@ -1,7 +1,7 @@
 -- The first line of a file, and what it says of the entries.
 use Rattle.std.specs.Prelude.{◌≡◌, ◌==◌, ◌&&◌, not, ℕ, Bool, true, false, List, [], ◌∷◌, codes, cond, map, drop, slice_index}
 use Rattle.std.specs.Char.{to_ascii_lowercase}
-use Rattle.amd_cases.specs.Words.{words}
+use Rattle.amd_lines.specs.Words.{words}
 use Rattle.amd_market.specs.declared.headers.Format.{Format}
 use Rattle.amd_market.specs.declared.headers.Format.TheVariants.{Coordinate, Array}
 use Rattle.amd_market.specs.declared.headers.Field.{Field}

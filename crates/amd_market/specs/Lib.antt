@@ -3,8 +3,6 @@ pub mod Headers
 pub mod Entries
 pub mod Arrays
 pub mod Boeing
-pub mod Blocks
-pub mod Lines
 pub mod Faults
 pub mod Columns
 pub mod Files

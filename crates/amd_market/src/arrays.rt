@@ -3,7 +3,7 @@
 
 ghost use Rattle.std.specs.Prelude.{◌≡◌, ◌≢◌, ◌∷◌, [], ℕ, List, Bool, not, IfErr, MatchOption, MatchResult};
 ghost use Rattle.std.specs.List.{list_all};
-ghost use Rattle.amd_cases.specs.Words.{words};
+ghost use Rattle.amd_lines.specs.Words.{words};
 ghost use Rattle.amd_market.specs.Entries.{AreValues};
 ghost use Rattle.amd_market.specs.Arrays.{is_zero_byte, is_zero, SpellsShape, SpellsValue};
 ghost use Rattle.amd_market.specs.Arrays.{HasShapeFault};
@@ -13,7 +13,7 @@ ghost use Rattle.amd_market.specs.Headers.{value_words};
 use crate::entries::{count_of, has_values, value_fault};
 use crate::faults::ReadFault;
 use crate::headers::Field;
-use amd_cases::words::first_word;
+use amd_lines::words::first_word;
 
 /// The words of a line that has two.
 fn two_words(line: &[u8]) -> Option<(&[u8], &[u8])>

@@ -4,12 +4,12 @@
 
 ghost use Rattle.std.specs.Prelude.{◌≡◌, ◌++◌, ◌∷◌, ◌≤◌, ◌+◌, ◌<◌, ◌==◌, [], ℕ, List, cond, length, slice_index, slice_range};
 ghost use Rattle.std.specs.Prelude.{OnOk, IfOk, IfErr, IfSome, IsTrue, All, flat_map};
-ghost use Rattle.amd_cases.specs.Words.{words};
+ghost use Rattle.amd_lines.specs.Words.{words};
 ghost use Rattle.amd_market.specs.Headers.{pairs_of};
 ghost use Rattle.amd_market.specs.Boeing.{SpellsCounts, SpellsKind, SpellsLayout, SpellsTable};
 ghost use Rattle.amd_market.specs.Boeing.{SpellsHead, SpellsColumns, SpellsBoeing};
 ghost use Rattle.amd_market.specs.Boeing.{column_entries, listed_entries, ArePointers};
-ghost use Rattle.amd_market.specs.Lines.{TakesLines, line_of};
+ghost use Rattle.amd_lines.specs.Lines.{TakesLines, line_of};
 ghost use Rattle.amd_market.specs.Files.{FailsFor};
 
 use crate::cards::{Kind, kind_of, layout_of, sides_of};
@@ -17,8 +17,9 @@ use crate::faults::{ReadError, ReadFault};
 use crate::fields::{Listed, add_numbers};
 use crate::formats::{Fields, Layout};
 use crate::headers::Symmetry;
-use crate::lines::LineReader;
+use crate::lines::{at_line, take_line};
 use crate::matrices::{Matrix, add_pairs, matrix_of, pairs_for};
+use amd_lines::lines::LineReader;
 use std::alloc::{AllocError, Allocator};
 use std::io::Read;
 
@@ -27,10 +28,10 @@ fn take_some<R: Read + Drop, A: Allocator>(lines: &mut LineReader<R, A>) -> Resu
     ensures takes { OnOk result (TakesLines R.remaining lines.old lines.new (line_of lines.new ∷ [])) }
     ensures fails { IfErr result (FailsFor R.remaining lines.old) }
 {
-    if lines.take_line()? {
+    if take_line(lines)? {
         Ok(())
     } else {
-        Err(lines.at_line(ReadFault::Short))
+        Err(at_line(lines, ReadFault::Short))
     }
 }
 
@@ -42,7 +43,7 @@ fn take_sides<R: Read + Drop, A: Allocator>(
         TakesLines R.remaining lines.old lines.new (line ∷ []) × SpellsCounts (words line) sides)) }
     ensures fails { IfErr result (FailsFor R.remaining lines.old) }
 {
-    if !lines.take_line()? {
+    if !take_line(lines)? {
         return Ok(None);
     }
     Ok(sides_of(lines.line()))
@@ -57,7 +58,7 @@ fn take_kind<R: Read + Drop, A: Allocator>(lines: &mut LineReader<R, A>) -> Resu
     take_some(lines)?;
     match kind_of(lines.line()) {
         Ok(kind) => Ok(kind),
-        Err(fault) => Err(lines.at_line(fault)),
+        Err(fault) => Err(at_line(lines, fault)),
     }
 }
 
@@ -87,7 +88,7 @@ fn take_layout<R: Read + Drop, A: Allocator>(
     take_some(lines)?;
     match layout_of(lines.line()) {
         Some(layout) => Ok(layout),
-        None => Err(lines.at_line(ReadFault::Layout)),
+        None => Err(at_line(lines, ReadFault::Layout)),
     }
 }
 
@@ -117,7 +118,7 @@ fn take_numbers<R: Read + Drop, A: Allocator + Copy>(
             listed,
         );
         if let Err(fault) = added {
-            return Err(lines.at_line(fault));
+            return Err(at_line(lines, fault));
         }
     }
     Ok(numbers)
@@ -203,16 +204,16 @@ fn take_pointers<R: Read + Drop, A: Allocator + Copy>(
     ensures fails { IfErr result (FailsFor R.remaining lines.old) }
 {
     let Some(count) = kind.n.checked_add(1) else {
-        return Err(lines.at_line(ReadFault::OutOfMemory));
+        return Err(at_line(lines, ReadFault::OutOfMemory));
     };
     let Some(bound) = kind.entries.checked_add(1) else {
-        return Err(lines.at_line(ReadFault::OutOfMemory));
+        return Err(at_line(lines, ReadFault::OutOfMemory));
     };
     let pointers = take_numbers(alloc, lines, fields, count, bound, Listed::Pointers)?;
     if are_pointers(&pointers, kind.n, kind.entries) {
         Ok(pointers)
     } else {
-        Err(lines.at_line(ReadFault::Pointers))
+        Err(at_line(lines, ReadFault::Pointers))
     }
 }
 
@@ -256,7 +257,7 @@ fn take_columns<R: Read + Drop, A: Allocator + Copy>(
     )?;
     match listed_pairs(alloc, kind, &pointers, &rows) {
         Ok(pairs) => Ok(pairs),
-        Err(_) => Err(lines.at_line(ReadFault::OutOfMemory)),
+        Err(_) => Err(at_line(lines, ReadFault::OutOfMemory)),
     }
 }
 
@@ -275,6 +276,6 @@ pub(crate) fn take_boeing<R: Read + Drop, A: Allocator + Copy>(
     let pairs = take_columns(alloc, lines, kind, layout)?;
     match matrix_of(alloc, kind.n, pairs) {
         Ok(matrix) => Ok(Some(matrix)),
-        Err(_) => Err(lines.at_line(ReadFault::OutOfMemory)),
+        Err(_) => Err(at_line(lines, ReadFault::OutOfMemory)),
     }
 }

@@ -3,7 +3,7 @@
 
 ghost use Rattle.std.specs.Prelude.{◌≡◌, ◌∷◌, ℕ, List, pos, IfOk, IfErr, IfSome};
 ghost use Rattle.amd_market.specs.Faults.{IsOfBoeing};
-ghost use Rattle.amd_cases.specs.Words.{words, SpellsNumber};
+ghost use Rattle.amd_lines.specs.Words.{words, SpellsNumber};
 ghost use Rattle.amd_market.specs.Boeing.{SpellsCounts, SpellsType, SpellsSizes, SpellsKind, SpellsLayout};
 ghost use Rattle.amd_market.specs.Boeing.{is_value_letter, letter_symmetry};
 
@@ -12,7 +12,7 @@ use crate::faults::ReadFault;
 use crate::fields::fields_of;
 use crate::formats::Layout;
 use crate::headers::Symmetry;
-use amd_cases::words::first_word;
+use amd_lines::words::first_word;
 
 /// What the third line of a file says.
 #[derive(Clone, Copy)]

@@ -3,14 +3,15 @@
 
 ghost use Rattle.std.specs.Prelude.{◌≡◌, ◌-◌, ◌<◌, ◌≤◌, ◌∷◌, [], ℕ, List, IfOk, IfErr, OnOk};
 ghost use Rattle.amd_market.specs.Arrays.{SpellsShape, SpellsValue, column_places, array_places, first_row};
-ghost use Rattle.amd_market.specs.Lines.{TakesTelling};
+ghost use Rattle.amd_lines.specs.Lines.{TakesTelling, percent};
 ghost use Rattle.amd_market.specs.Files.{TakesValues, FailsFor};
 
 use crate::arrays::{shape_of, value_of};
 use crate::faults::{ReadError, ReadFault};
 use crate::headers::{Field, Header, Symmetry};
-use crate::lines::LineReader;
+use crate::lines::{at_line, take_telling};
 use crate::matrices::add_pairs;
+use amd_lines::lines::LineReader;
 use std::alloc::Allocator;
 use std::io::Read;
 
@@ -18,16 +19,16 @@ use std::io::Read;
 pub(crate) fn take_shape<R: Read + Drop, A: Allocator>(
     lines: &mut LineReader<R, A>,
 ) -> Result<usize, ReadError>
-    ensures takes { IfOk result (λ n. (line : List ℕ) × TakesTelling R.remaining lines.old lines.new line ×
+    ensures takes { IfOk result (λ n. (line : List ℕ) × TakesTelling percent R.remaining lines.old lines.new line ×
         SpellsShape line n n) }
     ensures fails { IfErr result (FailsFor R.remaining lines.old) }
 {
-    if !lines.take_telling()? {
-        return Err(lines.at_line(ReadFault::Shape));
+    if !take_telling(lines)? {
+        return Err(at_line(lines, ReadFault::Shape));
     }
     match shape_of(lines.line()) {
         Ok(n) => Ok(n),
-        Err(fault) => Err(lines.at_line(fault)),
+        Err(fault) => Err(at_line(lines, fault)),
     }
 }
 
@@ -37,19 +38,22 @@ fn take_value<R: Read + Drop, A: Allocator>(
     field: Field,
     place: (usize, usize),
 ) -> Result<bool, ReadError>
-    ensures takes { IfOk result (λ b. (line : List ℕ) × TakesTelling R.remaining lines.old lines.new line ×
+    ensures takes { IfOk result (λ b. (line : List ℕ) × TakesTelling percent R.remaining lines.old lines.new line ×
         SpellsValue field line b) }
     ensures fails { IfErr result (FailsFor R.remaining lines.old) }
 {
-    if !lines.take_telling()? {
-        return Err(lines.at_line(ReadFault::NoPlace {
-            row: place.0.saturating_add(1),
-            column: place.1.saturating_add(1),
-        }));
+    if !take_telling(lines)? {
+        return Err(at_line(
+            lines,
+            ReadFault::NoPlace {
+                row: place.0.saturating_add(1),
+                column: place.1.saturating_add(1),
+            },
+        ));
     }
     match value_of(lines.line(), field) {
         Ok(other) => Ok(other),
-        Err(fault) => Err(lines.at_line(fault)),
+        Err(fault) => Err(at_line(lines, fault)),
     }
 }
 
@@ -82,7 +86,7 @@ fn take_place<R: Read + Drop, A: Allocator + Copy>(
     }
     match add_pairs(pairs, header.symmetry, place) {
         Ok(()) => Ok(()),
-        Err(_) => Err(lines.at_line(ReadFault::OutOfMemory)),
+        Err(_) => Err(at_line(lines, ReadFault::OutOfMemory)),
     }
 }
 

@@ -2,13 +2,13 @@
 
 ghost use Rattle.std.specs.Prelude.{◌≡◌, ◌≢◌, ◌∷◌, [], ℕ, List, pos, IsTrue, ◌↔◌, IfErr, MatchOption, MatchResult};
 ghost use Rattle.std.specs.Float.Parse.{is_float_text};
-ghost use Rattle.amd_cases.specs.Words.{words, SpellsNumber};
+ghost use Rattle.amd_lines.specs.Words.{words, SpellsNumber};
 ghost use Rattle.amd_market.specs.Entries.{SpellsSize, SpellsIndex, SpellsEntry, AreValues};
 ghost use Rattle.amd_market.specs.Faults.{HasSizeFault, HasRowFault, HasColumnFault, HasValueFault, HasEntryFault};
 
 use crate::faults::ReadFault;
 use crate::headers::Field;
-use amd_cases::words::{first_word, number_of};
+use amd_lines::words::{first_word, number_of};
 
 /// How large a matrix is.
 #[derive(Clone, Copy)]

@@ -2,8 +2,10 @@
 // number.
 
 ghost use Rattle.std.specs.Prelude.{◌≡◌};
+ghost use Rattle.amd_market.specs.Faults.{read_error};
 ghost use Rattle.amd_market.specs.declared.faults.ReadFault.TheVariants.{OutOfMemory};
 
+use amd_lines::errors::{LineCause, LineError};
 use std::alloc::AllocFailed;
 use std::{fmt, io};
 
@@ -252,6 +254,21 @@ pub enum ReadError {
         /// What the input answered.
         error: io::Error,
     },
+}
+
+impl From<LineError> for ReadError {
+    ghost from_gives = { λ unread e. e ≡ read_error unread.line unread.cause };
+
+    fn from(unread: LineError) -> ReadError {
+        let LineError { line, cause } = unread;
+        let fault = match cause {
+            LineCause::Input(error) => return ReadError::Input { line, error },
+            LineCause::Long => ReadFault::Long,
+            LineCause::Lines => ReadFault::Lines,
+            LineCause::OutOfMemory => ReadFault::OutOfMemory,
+        };
+        ReadError::Line { line, fault }
+    }
 }
 
 impl fmt::Display for ReadError {

@@ -10,7 +10,7 @@ ghost use Rattle.amd_market.specs.Boeing.{is_whole_letter, SpellsRepeat, SpellsF
 use crate::entries::{count_of, index_of};
 use crate::faults::ReadFault;
 use crate::formats::Fields;
-use amd_cases::words::{first_word, number_of};
+use amd_lines::words::{first_word, number_of};
 use std::alloc::Allocator;
 
 /// What a word has between parentheses.

@@ -3,13 +3,13 @@
 
 ghost use Rattle.std.specs.Prelude.{◌≡◌, ◌≢◌, ◌∷◌, [], List, ℕ, map, IfErr, MatchOption, MatchResult};
 ghost use Rattle.std.specs.Char.{to_ascii_lowercase};
-ghost use Rattle.amd_cases.specs.Words.{words};
+ghost use Rattle.amd_lines.specs.Words.{words};
 ghost use Rattle.amd_market.specs.Headers.{format_text, field_text, symmetry_text, value_words, is_mirrored};
 ghost use Rattle.amd_market.specs.Headers.{SpellsHeader, lowered, without_mark, is_void};
 ghost use Rattle.amd_market.specs.Faults.{HasBannerFault, HasKindFault, HasWordFault};
 
 use crate::faults::ReadFault;
-use amd_cases::words::first_word;
+use amd_lines::words::first_word;
 
 /// Which entries a file lists.
 #[derive(Clone, Copy)]

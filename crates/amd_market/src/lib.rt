@@ -43,7 +43,6 @@
 #![tactic(auto)]
 
 pub mod arrays;
-mod blocks;
 mod boeing;
 mod cards;
 pub mod columns;

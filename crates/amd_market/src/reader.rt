@@ -5,7 +5,7 @@
 ghost use Rattle.std.specs.Prelude.{◌≡◌, ◌<◌, ◌∷◌, [], ℕ, List, All, true, false, IfOk, IfErr, IfSome, MatchOption, OnOk};
 ghost use Rattle.amd_market.specs.Headers.{SpellsHeader, is_array};
 ghost use Rattle.amd_market.specs.Entries.{SpellsSize, SpellsEntry};
-ghost use Rattle.amd_market.specs.Lines.{TakesLines, TakesTelling, TakesNotes};
+ghost use Rattle.amd_lines.specs.Lines.{TakesLines, TakesTelling, TakesNotes, percent};
 ghost use Rattle.amd_market.specs.Files.{TakesEntries, TakesBody, FailsFor, SpellsFile, NamesFault};
 ghost use Rattle.amd_market.specs.Columns.{HoldsOnce};
 ghost use Rattle.amd_market.specs.Faults.{HasHeaderFault, IsMore};
@@ -16,9 +16,10 @@ use crate::dense::{take_shape, take_values};
 use crate::entries::{Size, entry_of, size_of};
 use crate::faults::{ReadError, ReadFault};
 use crate::headers::{Format, Header, header_of};
-use crate::lines::LineReader;
+use crate::lines::{LONGEST_LINE, at_line, take_line, take_telling};
 pub use crate::matrices::Matrix;
 use crate::matrices::{add_pairs, matrix_of, pairs_for};
+use amd_lines::lines::LineReader;
 use std::alloc::Allocator;
 use std::io::Read;
 
@@ -30,33 +31,33 @@ fn take_header<R: Read + Drop, A: Allocator>(
         MatchOption o (HasHeaderFault fault.Banner line) (SpellsHeader line)) }
     ensures fails { IfErr result (FailsFor R.remaining lines.old) }
 {
-    if !lines.take_line()? {
-        return Err(lines.at_line(ReadFault::Empty));
+    if !take_line(lines)? {
+        return Err(at_line(lines, ReadFault::Empty));
     }
     match header_of(lines.line()) {
         Ok(header) => {
             if header.is_void() {
-                return Err(lines.at_line(ReadFault::Void));
+                return Err(at_line(lines, ReadFault::Void));
             }
             Ok(Some(header))
         }
         Err(ReadFault::Banner) => Ok(None),
-        Err(fault) => Err(lines.at_line(fault)),
+        Err(fault) => Err(at_line(lines, fault)),
     }
 }
 
 /// Reads the size.
 fn take_size<R: Read + Drop, A: Allocator>(lines: &mut LineReader<R, A>) -> Result<Size, ReadError>
-    ensures takes { IfOk result (λ s. (line : List ℕ) × TakesTelling R.remaining lines.old lines.new line ×
+    ensures takes { IfOk result (λ s. (line : List ℕ) × TakesTelling percent R.remaining lines.old lines.new line ×
         SpellsSize line s.rows s.rows s.entries) }
     ensures fails { IfErr result (FailsFor R.remaining lines.old) }
 {
-    if !lines.take_telling()? {
-        return Err(lines.at_line(ReadFault::Size));
+    if !take_telling(lines)? {
+        return Err(at_line(lines, ReadFault::Size));
     }
     match size_of(lines.line()) {
         Ok(size) => Ok(size),
-        Err(fault) => Err(lines.at_line(fault)),
+        Err(fault) => Err(at_line(lines, fault)),
     }
 }
 
@@ -67,19 +68,22 @@ fn take_entry<R: Read + Drop, A: Allocator>(
     size: Size,
     done: usize,
 ) -> Result<(usize, usize), ReadError>
-    ensures takes { IfOk result (λ e. (line : List ℕ) × TakesTelling R.remaining lines.old lines.new line ×
+    ensures takes { IfOk result (λ e. (line : List ℕ) × TakesTelling percent R.remaining lines.old lines.new line ×
         SpellsEntry header.field size.rows line e) }
     ensures fails { IfErr result (FailsFor R.remaining lines.old) }
 {
-    if !lines.take_telling()? {
-        return Err(lines.at_line(ReadFault::Missing {
-            found: done,
-            told: size.entries,
-        }));
+    if !take_telling(lines)? {
+        return Err(at_line(
+            lines,
+            ReadFault::Missing {
+                found: done,
+                told: size.entries,
+            },
+        ));
     }
     match entry_of(lines.line(), header.field, size.rows) {
         Ok(entry) => Ok(entry),
-        Err(fault) => Err(lines.at_line(fault)),
+        Err(fault) => Err(at_line(lines, fault)),
     }
 }
 
@@ -98,7 +102,7 @@ fn take_pairs<R: Read + Drop, A: Allocator + Copy>(
     'entries: for done in 0..size.entries {
         let entry = take_entry(lines, header, size, done)?;
         let Ok(()) = add_pairs(&mut pairs, header.symmetry, entry) else {
-            return Err(lines.at_line(ReadFault::OutOfMemory));
+            return Err(at_line(lines, ReadFault::OutOfMemory));
         };
     }
     Ok(pairs)
@@ -110,11 +114,11 @@ fn take_end<R: Read + Drop, A: Allocator>(
     more: ReadFault,
 ) -> Result<(), ReadError>
     requires { IsMore more }
-    ensures takes { OnOk result (TakesNotes R.remaining lines.old lines.new) }
+    ensures takes { OnOk result (TakesNotes percent R.remaining lines.old lines.new) }
     ensures fails { IfErr result (FailsFor R.remaining lines.old) }
 {
-    if lines.take_telling()? {
-        return Err(lines.at_line(more));
+    if take_telling(lines)? {
+        return Err(at_line(lines, more));
     }
     Ok(())
 }
@@ -183,7 +187,7 @@ fn take_market<R: Read + Drop, A: Allocator + Copy>(
     let (n, pairs) = take_body(alloc, lines, header)?;
     match matrix_of(alloc, n, pairs) {
         Ok(matrix) => Ok(matrix),
-        Err(_) => Err(lines.at_line(ReadFault::OutOfMemory)),
+        Err(_) => Err(at_line(lines, ReadFault::OutOfMemory)),
     }
 }
 
@@ -206,9 +210,9 @@ pub fn read_matrix<R: Read + Drop, A: Allocator + Copy>(
         (λ bytes. SpellsFile bytes m.n m.a_p.items m.a_i.items m.repeats)) }
     ensures line { IfErr result (λ e. IfSome (R.remaining input) (λ bytes. NamesFault bytes e)) }
 {
-    let mut lines = LineReader::new(alloc, input);
+    let mut lines = LineReader::new(alloc, input, LONGEST_LINE);
     let header = take_header(&mut lines)?;
-    let unknown = lines.at_line(ReadFault::Banner);
+    let unknown = at_line(&lines, ReadFault::Banner);
     match header {
         Some(header) => take_market(alloc, &mut lines, header),
         None => match take_boeing(alloc, &mut lines)? {

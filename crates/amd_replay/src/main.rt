@@ -30,7 +30,7 @@ use anyhow::{Result, bail};
 use std::alloc::Allocator;
 use std::fmt::Display;
 use std::io;
-use std::io::{BufRead, BufReader, BufWriter, Write};
+use std::io::{BufWriter, Read, Write};
 
 /// Writes a keyword and numbers in one line.
 fn write_numbers<W: Write, N: Display>(
@@ -182,7 +182,7 @@ fn answer<W: Write, A: Allocator + Copy>(alloc: A, case: &Case<A>, out: &mut W) 
 }
 
 /// Writes the result of each case of an input.
-fn replay<R: BufRead + Drop, W: Write, A: Allocator + Copy>(
+fn replay<R: Read + Drop, W: Write, A: Allocator + Copy>(
     alloc: A,
     input: R,
     out: &mut W,
@@ -199,9 +199,8 @@ fn replay<R: BufRead + Drop, W: Write, A: Allocator + Copy>(
 }
 
 fn main(rt: HostRuntime) -> Result<()> {
-    let input = BufReader::new(rt.alloc(), rt.reader())?;
     let mut out = BufWriter::new(rt.alloc(), io::writer(&rt))?;
-    let outcome = replay(rt.alloc(), input, &mut out);
+    let outcome = replay(rt.alloc(), rt.reader(), &mut out);
     out.flush()?;
     outcome
 }

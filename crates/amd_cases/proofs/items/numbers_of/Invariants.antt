@@ -1,6 +1,6 @@
 -- The words before what is left spell the numbers.
 use Rattle.std.proofs.Common.{◌≡◌, ◌++◌, ℕ, List, length}
-use Rattle.amd_cases.specs.Words.{words, SpellsNumbers}
+use Rattle.amd_lines.specs.Words.{words, SpellsNumbers}
 use Rattle.amd_cases.proofs.items.numbers_of.Given as goal
 
 abbrev pub invariant-words : goal.invariant-words

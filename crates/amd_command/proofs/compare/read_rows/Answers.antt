@@ -1,8 +1,8 @@
 -- Each turn reads one line more.
 use Rattle.std.proofs.Common.{ap}
 use Rattle.std.proofs.lemmas.Result.{err_from_is_err_and}
-use Rattle.amd_market.specs.Lines.{named_line}
-use Rattle.amd_market.proofs.LineLemmas.{fails-behind, fails-still, fails-telling}
+use Rattle.amd_market.specs.Faults.{named_line}
+use Rattle.amd_lines.proofs.LineLemmas.{fails-behind, fails-still, fails-telling}
 use Rattle.amd_market.proofs.FileLemmas.{names-line}
 use Rattle.amd_command.proofs.ListedRows.{rows-next, rows-whole}
 use Rattle.amd_command.proofs.compare.read_rows.Goals as goal

@@ -1,7 +1,7 @@
 -- The words before what is left are zero.
 use Rattle.std.proofs.Common.{◌≡◌, length}
 use Rattle.std.specs.List.{list_all}
-use Rattle.amd_cases.specs.Words.{words}
+use Rattle.amd_lines.specs.Words.{words}
 use Rattle.amd_market.specs.Arrays.{is_zero}
 use Rattle.amd_market.proofs.arrays.are_zeros.Given as goal
 

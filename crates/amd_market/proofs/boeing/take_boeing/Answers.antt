@@ -2,7 +2,7 @@
 use Rattle.std.proofs.Common.{◌++◌, refl}
 use Rattle.std.proofs.lemmas.Result.{err_from_is_err_and}
 use Rattle.amd_market.specs.Faults.{reading}
-use Rattle.amd_market.proofs.LineLemmas.{takes-append}
+use Rattle.amd_lines.proofs.LineLemmas.{takes-append}
 use Rattle.amd_market.proofs.FaultLemmas.{for-behind, for-here}
 use Rattle.amd_market.proofs.boeing.take_boeing.Goals as goal
 

@@ -1,7 +1,7 @@
 -- The parts were read one after another; an error of a part names its line behind those of the parts before.
 use Rattle.std.proofs.Common.{[], ◌∷◌, ◌++◌, refl}
 use Rattle.std.proofs.lemmas.Result.{err_from_is_err_and}
-use Rattle.amd_market.proofs.LineLemmas.{takes-append}
+use Rattle.amd_lines.proofs.LineLemmas.{takes-append}
 use Rattle.amd_market.proofs.FaultLemmas.{for-behind}
 use Rattle.amd_market.proofs.boeing.take_head.Goals as goal
 

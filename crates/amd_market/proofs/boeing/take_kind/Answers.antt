@@ -1,7 +1,7 @@
 -- The next line was read, and it is at fault, or not.
 use Rattle.std.proofs.Common.{[], ◌∷◌, refl}
 use Rattle.std.proofs.lemmas.Result.{err_from_is_err_and}
-use Rattle.amd_market.specs.Lines.{line_of}
+use Rattle.amd_lines.specs.Lines.{line_of}
 use Rattle.amd_market.specs.Faults.{last, in_boeing}
 use Rattle.amd_market.proofs.FaultLemmas.{for-here}
 use Rattle.amd_market.proofs.boeing.take_kind.Goals as goal

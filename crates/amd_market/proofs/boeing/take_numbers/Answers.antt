@@ -2,8 +2,8 @@
 use Rattle.std.proofs.Common.{◌-◌, ◌++◌, ◌∷◌, [], length, length-append, arith, ap, ◌∙◌}
 use Rattle.std.specs.Prelude.{min}
 use Rattle.std.proofs.lemmas.Result.{err_from_is_err_and}
-use Rattle.amd_market.specs.Lines.{line_of}
-use Rattle.amd_market.proofs.LineLemmas.{takes-none, takes-append}
+use Rattle.amd_lines.specs.Lines.{line_of}
+use Rattle.amd_lines.proofs.LineLemmas.{takes-none, takes-append}
 use Rattle.amd_market.proofs.FaultLemmas.{for-here, for-behind}
 use Rattle.amd_market.proofs.BoeingLemmas.{table-none, table-turn, table-whole, list-behind}
 use Rattle.amd_market.proofs.boeing.take_numbers.Goals as goal

@@ -1,7 +1,7 @@
 -- The lines that were read spell the numbers so far.
 use Rattle.std.proofs.Common.{◌++◌, ◌-◌, ◌≤◌, ℕ, List, length}
 use Rattle.amd_market.specs.Boeing.{SpellsTable}
-use Rattle.amd_market.specs.Lines.{TakesLines}
+use Rattle.amd_lines.specs.Lines.{TakesLines}
 use Rattle.amd_market.proofs.boeing.take_numbers.Given as goal
 
 abbrev pub invariant-lines : goal.invariant-lines

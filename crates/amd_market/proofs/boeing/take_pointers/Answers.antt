@@ -1,7 +1,7 @@
 -- The pointers were read, and they rise, or no line was read.
 use Rattle.std.proofs.Common.{◌≡◌, [], ◌+◌, arith, ◌∙◌, rules}
 use Rattle.amd_market.specs.Faults.{reading}
-use Rattle.amd_market.proofs.LineLemmas.{takes-none}
+use Rattle.amd_lines.proofs.LineLemmas.{takes-none}
 use Rattle.amd_market.proofs.FaultLemmas.{for-here}
 use Rattle.amd_market.proofs.BoeingLemmas.{table-size, pointers-behind}
 use Rattle.amd_market.proofs.boeing.take_pointers.Goals as goal

@@ -2,7 +2,7 @@
 use Rattle.std.proofs.lemmas.Result.{err_from_is_err_and}
 use Rattle.amd_market.proofs.FaultLemmas.{for-unread}
 use Rattle.amd_market.proofs.BoeingLemmas.{sides-line}
-use Rattle.amd_market.proofs.LineLemmas.{takes-one}
+use Rattle.amd_lines.proofs.LineLemmas.{takes-one}
 use Rattle.amd_market.proofs.boeing.take_sides.Goals as goal
 
 pub returns-in_err-take_line-clause-fails : goal.returns-in_err-take_line-clause-fails

@@ -2,7 +2,7 @@
 use Rattle.std.proofs.Common.{refl}
 use Rattle.std.proofs.lemmas.Result.{err_from_is_err_and}
 use Rattle.amd_market.specs.Faults.{end}
-use Rattle.amd_market.proofs.LineLemmas.{takes-one, takes-end}
+use Rattle.amd_lines.proofs.LineLemmas.{takes-one, takes-end}
 use Rattle.amd_market.proofs.FaultLemmas.{for-unread, for-notes}
 use Rattle.amd_market.proofs.boeing.take_some.Goals as goal
 

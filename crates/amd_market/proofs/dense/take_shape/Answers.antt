@@ -1,7 +1,7 @@
 -- An error names the line that was read, or the last one.
 use Rattle.std.proofs.Common.{[], refl}
 use Rattle.std.proofs.lemmas.Result.{err_from_is_err_and}
-use Rattle.amd_market.specs.Lines.{line_of}
+use Rattle.amd_lines.specs.Lines.{line_of}
 use Rattle.amd_market.specs.Faults.{last, end, in_shape}
 use Rattle.amd_market.proofs.FaultLemmas.{for-unread, for-telling, for-notes}
 use Rattle.amd_market.proofs.dense.take_shape.Goals as goal
@@ -18,4 +18,4 @@ returns-then-not-branch-clause-fails g c =
 pub returns-in-Err-clause-fails : goal.returns-in-Err-clause-fails
 returns-in-Err-clause-fails g c =
     for-telling _ _ _ _ _ _ (rw c.if-not-branch.false at c.in_ok-take_telling.ensures.takes) c.at_line-in-Err.ensures
-    (last [] (line_of c.take_telling.new.self) refl (in_shape (rw c.line.ensures at c.in-Err.ensures.fault)))
+    (last [] (line_of c.take_telling.new.lines) refl (in_shape (rw c.line.ensures at c.in-Err.ensures.fault)))

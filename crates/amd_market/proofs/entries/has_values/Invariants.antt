@@ -2,7 +2,7 @@
 use Rattle.std.proofs.Common.{◌≡◌, ◌+◌, length}
 use Rattle.std.specs.List.{list_all}
 use Rattle.std.specs.Float.Parse.{is_float_text}
-use Rattle.amd_cases.specs.Words.{words}
+use Rattle.amd_lines.specs.Words.{words}
 use Rattle.amd_market.proofs.entries.has_values.Given as goal
 
 abbrev pub invariant-words : goal.invariant-words

@@ -1,5 +1,5 @@
 -- A line that lacks a word of the header spells none.
-use Rattle.amd_cases.specs.Words.{words}
+use Rattle.amd_lines.specs.Words.{words}
 use Rattle.amd_market.specs.Headers.{lowered, without_mark}
 use Rattle.std.proofs.Common.{◌∷◌, ap, ◌∙◌}
 use Rattle.amd_market.specs.Faults.{banner_word}

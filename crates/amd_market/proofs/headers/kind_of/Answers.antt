@@ -1,6 +1,6 @@
 -- Where the first word is a field, what stands behind it is at fault.
 use Rattle.std.proofs.Common.{◌∷◌, ap, ◌∙◌}
-use Rattle.amd_cases.specs.Words.{words}
+use Rattle.amd_lines.specs.Words.{words}
 use Rattle.amd_market.specs.Headers.{lowered}
 use Rattle.amd_market.proofs.headers.kind_of.Goals as goal
 

@@ -1,7 +1,7 @@
 -- An error names the line that was read.
 use Rattle.std.proofs.Common.{[], refl}
 use Rattle.std.proofs.lemmas.Result.{err_from_is_err_and}
-use Rattle.amd_market.specs.Lines.{line_of}
+use Rattle.amd_lines.specs.Lines.{line_of}
 use Rattle.amd_market.specs.Faults.{last, in_more}
 use Rattle.amd_market.proofs.FaultLemmas.{for-unread, for-telling}
 use Rattle.amd_market.proofs.reader.take_end.Goals as goal
@@ -14,4 +14,4 @@ returns-in_err-take_telling-clause-fails g c =
 pub returns-then-branch-clause-fails : goal.returns-then-branch-clause-fails
 returns-then-branch-clause-fails g c =
     let read = rw c.if-branch.true at c.in_ok-take_telling.ensures.takes in
-    for-telling _ _ _ _ _ _ read c.at_line.ensures (last [] (line_of c.take_telling.new.self) refl (in_more (c.requires, read.says)))
+    for-telling _ _ _ _ _ _ read c.at_line.ensures (last [] (line_of c.take_telling.new.lines) refl (in_more (c.requires, read.says)))

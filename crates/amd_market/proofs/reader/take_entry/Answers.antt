@@ -1,7 +1,7 @@
 -- An error names the line that was read, or the last one.
 use Rattle.std.proofs.Common.{[], refl}
 use Rattle.std.proofs.lemmas.Result.{err_from_is_err_and}
-use Rattle.amd_market.specs.Lines.{line_of}
+use Rattle.amd_lines.specs.Lines.{line_of}
 use Rattle.amd_market.specs.Faults.{last, end, in_entry}
 use Rattle.amd_market.proofs.FaultLemmas.{for-unread, for-telling, for-notes}
 use Rattle.amd_market.proofs.reader.take_entry.Goals as goal
@@ -18,5 +18,5 @@ returns-then-not-branch-clause-fails g c =
 pub returns-in-Err-clause-fails : goal.returns-in-Err-clause-fails
 returns-in-Err-clause-fails g c =
     for-telling _ _ _ _ _ _ (rw c.if-not-branch.false at c.in_ok-take_telling.ensures.takes) c.at_line-in-Err.ensures
-    (last [] (line_of c.take_telling.new.self) refl
+    (last [] (line_of c.take_telling.new.lines) refl
     (in_entry c.args.header.field c.args.size.rows (rw c.line.ensures at c.in-Err.ensures.fault)))

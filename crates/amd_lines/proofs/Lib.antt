@@ -1,0 +1,4 @@
+pub mod WordLemmas
+pub mod WrittenLists
+pub mod BlockLemmas
+pub mod LineLemmas

@@ -1,0 +1,205 @@
+// A reader of the lines of a text, which counts those that it read. A line is looked at where it stands in the block of
+// bytes that was read in one go. Called by the readers of formats: `amd_cases`, `amd_market`, and through the second
+// the lists of rows of `amd_command`.
+
+ghost use Rattle.std.specs.Prelude.{◌≡◌, ◌≢◌, ◌≤◌, ◌<◌, All, IfOk, IfErr, IsTrue, length};
+ghost use Rattle.std.specs.Io.KnownBytes.{IsAtEnd};
+ghost use Rattle.memchr.specs.Find.{IsFirstByte, is_byte};
+ghost use Rattle.amd_lines.specs.Words.{words};
+ghost use Rattle.amd_lines.specs.Blocks.{held_of};
+ghost use Rattle.amd_lines.specs.Lines.{TakesLine, TakesNext, FailsAt, EndsLine, HasNoFeed, is_note};
+ghost use Rattle.amd_lines.specs.Lines.{one_line_more, lines_read, line_of, rest_of, longest_of};
+
+use crate::blocks::Block;
+use crate::errors::{LineCause, LineError};
+use crate::words::first_letter;
+use memchr::memchr;
+use std::alloc::Allocator;
+use std::io;
+use std::io::{ErrorKind, Read};
+
+/// Whether a line says nothing: it has no word, or its first word begins with the byte that marks a note.
+fn is_note(line: &[u8], mark: Option<u8>) -> bool
+    ensures { result ≡ is_note mark (words line.now) }
+{
+    let Some(letter) = first_letter(line) else {
+        return true;
+    };
+    match mark {
+        None => false,
+        Some(byte) => letter == byte,
+    }
+}
+
+/// Where the first line feed stands in bytes of which the first `seen` are none.
+fn feed_behind(bytes: &[u8], seen: usize) -> Option<usize>
+    requires within { seen ≤ length bytes.now }
+    requires none { HasNoFeed seen bytes.now }
+    ensures { IsFirstByte (is_byte 10) bytes.now result }
+{
+    let (_, rest) = bytes.split_at(seen);
+    let place = memchr(b'\n', rest)?;
+    Some(seen + place)
+}
+
+/// A reader of lines.
+#[derive(Drop)]
+pub struct LineReader<R: Read + Drop, A: Allocator> {
+    input: R,
+    block: Block<A>,
+    lines: u64,
+    longest: usize,
+}
+
+impl<R: Read + Drop, A: Allocator> LineReader<R, A> {
+    /// A reader that stands before the first line. A line may have `longest` bytes, with its line feed.
+    pub fn new(alloc: A, input: R, longest: usize) -> LineReader<R, A>
+        ensures source { rest_of R.remaining result ≡ R.remaining input }
+        ensures lines { lines_read result ≡ 0 }
+        ensures longest { longest_of result ≡ longest }
+    {
+        LineReader {
+            input,
+            block: Block::new(alloc),
+            lines: 0,
+            longest,
+        }
+    }
+
+    /// The line that was read last.
+    pub fn line(&self) -> &[u8]
+        ensures { result.now ≡ line_of self.now }
+    {
+        self.block.passed()
+    }
+
+    /// The number of the line that was read last, 0 before the first.
+    pub fn number(&self) -> u64
+        ensures { result ≡ lines_read self.now }
+    {
+        self.lines
+    }
+
+    /// An error behind the line that was read last.
+    fn at_line(&self, cause: LineCause) -> LineError
+        ensures { result.line ≡ lines_read self.now }
+    {
+        LineError {
+            line: self.lines,
+            cause,
+        }
+    }
+
+    /// The error of a read that failed behind the line that was read last.
+    fn at_input(&self, error: io::Error) -> LineError
+        ensures { result.line ≡ lines_read self.now }
+    {
+        if error.kind() == ErrorKind::OutOfMemory {
+            self.at_line(LineCause::OutOfMemory)
+        } else {
+            self.at_line(LineCause::Input(error))
+        }
+    }
+
+    /// Counts the next line, which is too long, and returns the error that says so.
+    fn refuse_line(&mut self) -> LineError
+        ensures named { result.line ≡ one_line_more (lines_read self.old) }
+        ensures counted { result.line ≡ lines_read self.new }
+        ensures longest { longest_of self.new ≡ longest_of self.old }
+    {
+        let line = self.lines.saturating_add(1);
+        self.lines = line;
+        LineError {
+            line,
+            cause: LineCause::Long,
+        }
+    }
+
+    /// Passes the next line, which has so many bytes, where it is not too long.
+    fn pass_line(&mut self, count: usize) -> Result<bool, LineError>
+        requires { EndsLine R.remaining self.old count }
+        ensures takes { IfOk result (TakesLine R.remaining self.old self.new) }
+        ensures short { IfOk result (λ some. length (line_of self.new) ≤ longest_of self.old) }
+        ensures fails { IfErr result (λ e. FailsAt R.remaining self.old e.line) }
+        ensures counted { IfErr result (λ e. e.line ≡ lines_read self.new) }
+        ensures longest { longest_of self.new ≡ longest_of self.old }
+    {
+        if count > self.longest {
+            return Err(self.refuse_line());
+        }
+        self.block.pass(count);
+        self.lines = self.lines.saturating_add(1);
+        Ok(true)
+    }
+
+    /// Passes what is held at the end of the input, and says whether that is a line.
+    fn pass_last(&mut self) -> Result<bool, LineError>
+        requires input { IsAtEnd (R.remaining self.old.input) }
+        requires none { All (λ b. b ≢ 10) (held_of self.old.block) }
+        ensures takes { IfOk result (TakesLine R.remaining self.old self.new) }
+        ensures short { IfOk result (λ some. IsTrue some → length (line_of self.new) ≤ longest_of self.old) }
+        ensures fails { IfErr result (λ e. FailsAt R.remaining self.old e.line) }
+        ensures counted { IfErr result (λ e. e.line ≡ lines_read self.new) }
+        ensures longest { longest_of self.new ≡ longest_of self.old }
+    {
+        let count = self.block.held().len();
+        if count == 0 {
+            return Ok(false);
+        }
+        self.pass_line(count)
+    }
+
+    /// Reads the next line, and says whether there was one.
+    ///
+    /// # Errors
+    ///
+    /// `Long` where the line is too long, `OutOfMemory` where memory is refused, and `Input` where the input cannot be
+    /// read.
+    pub fn take_line(&mut self) -> Result<bool, LineError>
+        ensures takes { IfOk result (TakesLine R.remaining self.old self.new) }
+        ensures short { IfOk result (λ some. IsTrue some → length (line_of self.new) ≤ longest_of self.old) }
+        ensures fails { IfErr result (λ e. FailsAt R.remaining self.old e.line) }
+        ensures counted { IfErr result (λ e. e.line ≡ lines_read self.new) }
+        ensures longest { longest_of self.new ≡ longest_of self.old }
+    {
+        let mut seen = 0;
+        'chunks: for _ in 0..u64::MAX {
+            if let Some(place) = feed_behind(self.block.held(), seen) {
+                return self.pass_line(place + 1);
+            }
+            seen = self.block.held().len();
+            if seen > self.longest {
+                return Err(self.refuse_line());
+            }
+            match self.block.fill(&mut self.input) {
+                Ok(0) => return self.pass_last(),
+                Ok(_) => {}
+                Err(error) if error.kind() == ErrorKind::Interrupted => {}
+                Err(error) => return Err(self.at_input(error)),
+            }
+        }
+        Err(self.at_line(LineCause::Lines))
+    }
+
+    /// Reads lines up to the next one that says something, and says whether there was one. The byte that marks a note
+    /// may be left out: then a line with a word says something.
+    ///
+    /// # Errors
+    ///
+    /// Those of `take_line`, and `Lines` where there is no end of notes.
+    pub fn take_telling(&mut self, mark: Option<u8>) -> Result<bool, LineError>
+        ensures takes { IfOk result (TakesNext mark R.remaining self.old self.new) }
+        ensures fails { IfErr result (λ e. FailsAt R.remaining self.old e.line) }
+        ensures counted { IfErr result (λ e. e.line ≡ lines_read self.new) }
+    {
+        'lines: for _ in 0..u64::MAX {
+            if !self.take_line()? {
+                return Ok(false);
+            }
+            if !is_note(self.line(), mark) {
+                return Ok(true);
+            }
+        }
+        Err(self.at_line(LineCause::Lines))
+    }
+}

@@ -1,0 +1,48 @@
+// The words of a line and the number that a word spells. Called by the readers of formats: the crates `amd_cases` and
+// `amd_market`, and `held` of `amd_command`. Words are parted by ASCII white space, which takes in the line's end; a
+// number is what `parse` of the standard library takes.
+
+ghost use Rattle.std.specs.Prelude.{◌≡◌, ◌<◌, ◌∷◌, ℤ, [], length, not, IfSome, MatchOption};
+ghost use Rattle.std.specs.List.{position};
+ghost use Rattle.std.specs.Char.{is_ascii_whitespace};
+ghost use Rattle.amd_lines.specs.Words.{words, BeginsWithByte, SpellsNumber};
+
+/// Where the first byte stands that is no white space.
+fn word_start(line: &[u8]) -> Option<usize>
+    ensures { result ≡ position (λ b. not (is_ascii_whitespace b)) line.now }
+{
+    line.iter().position(|b| !b.is_ascii_whitespace())
+}
+
+/// Where the first white space stands.
+fn word_end(line: &[u8]) -> Option<usize>
+    ensures { result ≡ position is_ascii_whitespace line.now }
+{
+    line.iter().position(|b| b.is_ascii_whitespace())
+}
+
+/// The first word of a line, and what stands behind it; `None` where the line has no word. How much white space stands
+/// before the rest is not said.
+pub fn first_word(line: &[u8]) -> Option<(&[u8], &[u8])>
+    ensures words { MatchOption result (words line.now ≡ []) (λ p. words line.now ≡ p.0.now ∷ words p.1.now) }
+    ensures shorter { IfSome result (λ p. length p.1.now < length line.now) }
+{
+    let (_, text) = line.split_at(word_start(line)?);
+    let end = word_end(text).unwrap_or(text.len());
+    Some(text.split_at(end))
+}
+
+/// The first byte of the first word of a line; `None` where the line has no word.
+pub fn first_letter(line: &[u8]) -> Option<u8>
+    ensures { MatchOption result (words line.now ≡ []) (λ b. BeginsWithByte b (words line.now)) }
+{
+    let place = word_start(line)?;
+    Some(line[place])
+}
+
+/// The number that a word spells, where it spells one that fits.
+pub fn number_of(word: &[u8]) -> Option<i64>
+    ensures { MatchOption result ((z : ℤ) → SpellsNumber word.now z → ⊥) (SpellsNumber word.now) }
+{
+    fast_float::parse_i64(word).ok()
+}
