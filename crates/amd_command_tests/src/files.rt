@@ -173,7 +173,7 @@ const NO_HEADERS: [(&[u8], &str); 8] = [
     ),
     (
         b"% a note\n%%MatrixMarket matrix coordinate real general\n",
-        UNKNOWN,
+        "line 1: a comment stands before the first line, which must begin with %%MatrixMarket",
     ),
     (
         b"%%MatrixMarket matrix array pattern general\n",

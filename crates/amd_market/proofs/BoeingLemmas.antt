@@ -8,7 +8,8 @@ use Rattle.amd_lines.specs.Words.{words}
 use Rattle.std.proofs.lemmas.Grind.{flat_map-append}
 use Rattle.std.proofs.lemmas.List.Elements.{All-append, All-take, All-drop, All-map, All-cons, All-weaker}
 use Rattle.amd_market.specs.Headers.{pairs_of}
-use Rattle.amd_market.specs.Boeing.{is_whole_letter, SpellsCounts, SpellsField, SpellsFields, SpellsTable, ArePointers, listed_entries, column_entries}
+use Rattle.amd_market.specs.Boeing.{is_whole_letter, SpellsCounts, SpellsField, SpellsFields, SpellsTable, ArePointers}
+use Rattle.amd_market.specs.Boeing.{listed_entries, column_entries}
 use Rattle.amd_market.proofs.EntryLemmas.{Inside, entries-inside}
 use Rattle.amd_market.specs.declared.headers.Symmetry.{Symmetry}
 use Rattle.amd_lines.specs.Lines.{TakesLines, line_of}
@@ -61,7 +62,8 @@ pub table-turn : (per_line width bound count : ℕ) (ls ms : List (List ℕ)) (l
     SpellsTable per_line width bound count ((ls ++ line ∷ []) ++ ms) ((numbers ++ more) ++ ks)
 table-turn per_line width bound count ls ms line numbers more ks room so_far size fields h =
     let l = length-append numbers more in
-    let left : count - length (numbers ++ more) ≡ (count - length numbers) - min per_line (count - length numbers) = omega (arith, l, size) in
+    let left : count - length (numbers ++ more) ≡ (count - length numbers) - min per_line (count - length numbers) =
+    omega (arith, l, size) in
     let table = subst (λ z. SpellsTable per_line width bound z ms ks) left h in
     rw (append_assoc ls (line ∷ []) ms, append_assoc numbers more ks)
     (so_far (line ∷ ms) (more ++ ks) (omega arith, (more, (ks, (refl, (size, (fields, table)))))))

@@ -4,8 +4,8 @@ use Rattle.std.proofs.Common.{◌∙◌, subst}
 use Rattle.std.specs.Prelude.{All, flat_map, ◌==◌, ◌&&◌, not}
 use Rattle.std.proofs.lemmas.List.Elements.{All-append}
 use Rattle.amd_lines.specs.Words.{words, SpellsNumber}
-use Rattle.amd_market.specs.Headers.{value_words, pairs_of, is_mirrored}
-use Rattle.amd_market.specs.Entries.{SpellsSize, SpellsIndex, SpellsEntry, SpellsEntries, AreValues}
+use Rattle.amd_market.specs.Headers.{pairs_of, is_mirrored}
+use Rattle.amd_market.specs.Entries.{SpellsSize, SpellsEntry, SpellsEntries}
 use Rattle.amd_market.specs.Arrays.{SpellsShape}
 use Rattle.amd_market.specs.declared.headers.Field.{Field}
 use Rattle.amd_market.specs.declared.headers.Symmetry.{Symmetry}
@@ -28,19 +28,9 @@ pub shape-words : (line f s : List ℕ) → words line ≡ f ∷ (s ∷ []) → 
 shape-words line f s are r c h =
     let all : h.first ∷ (h.second ∷ []) ≡ f ∷ (s ∷ []) = sym h.parts ∙ are in
     let one : h.first ≡ f = cc in
-    let two : h.second ≡ s = cc in (subst (λ w. SpellsNumber w (pos r)) one h.has_rows, subst (λ w. SpellsNumber w (pos c)) two h.has_columns)
-
--- the words of a line that was taken apart spell the numbers of any entry that it spells
-pub entry-words : (field : Field) (n : ℕ) (line f s : List ℕ) (a b : List (List ℕ)) → words line ≡ f ∷ a → a ≡ s ∷ b → (e : ℕ × ℕ) →
-    SpellsEntry field n line e
-    → SpellsIndex f n e.0 × (SpellsIndex s n e.1 × AreValues (value_words field) b)
-entry-words field n line f s a b hf hs e h =
-    let all : h.first ∷ (h.second ∷ h.behind) ≡ f ∷ (s ∷ b) = sym h.parts ∙ hf ∙ ap (λ z. f ∷ z) hs in
-    let one : h.first ≡ f = cc in
-    let two : h.second ≡ s = cc in
-    let rest : h.behind ≡ b = cc in (
-      subst (λ w. SpellsIndex w n e.0) one h.row,
-      (subst (λ w. SpellsIndex w n e.1) two h.column, subst (AreValues (value_words field)) rest h.value),
+    let two : h.second ≡ s = cc in (
+      subst (λ w. SpellsNumber w (pos r)) one h.has_rows,
+      subst (λ w. SpellsNumber w (pos c)) two h.has_columns,
     )
 
 -- one entry more

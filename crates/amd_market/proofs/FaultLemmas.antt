@@ -2,11 +2,11 @@
 use Rattle.std.proofs.Common.{◌≡◌, ◌≢◌, ℕ, List, [], ◌∷◌, ◌++◌, sym, ap, ◌∙◌, subst}
 use Rattle.std.proofs.Common.{Option, Some, None, append-nil, append_assoc}
 use Rattle.std.specs.Prelude.{IfSome}
-use Rattle.amd_lines.specs.Lines.{BeginsWith, line_number}
+use Rattle.amd_lines.specs.Lines.{BeginsWith, line_number, TakesLines, TakesTelling, TakesNotes, FailsAt, rest_of, percent}
 use Rattle.amd_lines.proofs.LineLemmas.{known-append, number-append}
-use Rattle.amd_lines.specs.Lines.{TakesLines, TakesTelling, TakesNotes, FailsAt, rest_of, percent}
 use Rattle.amd_market.specs.Faults.{named_line}
 use Rattle.amd_market.specs.Faults.{IsToldBehind, last, end, reading, IsUnread, Blames}
+use Rattle.amd_market.specs.Faults.{HasHeaderFault, HasUnknownFault}
 use Rattle.amd_market.specs.Faults.{HasBannerFault, HasKindFault, HasWordFault, header_words, banner_word, object_word, low}
 use Rattle.amd_market.specs.Headers.{format_text}
 use Rattle.amd_market.specs.Files.{FailsFor, NamesFault}
@@ -33,8 +33,8 @@ blames-unread (error.Line n f) ls rest h = reading h
 blames-unread (error.Input n x) ls rest h = tt
 
 -- an error that no text spells
-pub for-unread : {R Z : Type 0} (remaining : R → Option (List ℕ)) (a : LineReader R Z) (e : ReadError) → FailsAt remaining a (named_line e) →
-    IsUnread e → FailsFor remaining a e
+pub for-unread : {R Z : Type 0} (remaining : R → Option (List ℕ)) (a : LineReader R Z) (e : ReadError) →
+    FailsAt remaining a (named_line e) → IsUnread e → FailsFor remaining a e
 for-unread remaining a e h u = record {
   lines = h.lines;
   rest = h.rest;
@@ -44,8 +44,8 @@ for-unread remaining a e h u = record {
 }
 
 -- a fault of the lines that were read
-pub for-here : {R Z : Type 0} (remaining : R → Option (List ℕ)) (a b : LineReader R Z) (is : List (List ℕ)) (e : ReadError) (f : ReadFault) →
-    TakesLines remaining a b is → e ≡ error.Line b.lines f → IsToldBehind f is (rest_of remaining b) → FailsFor remaining a e
+pub for-here : {R Z : Type 0} (remaining : R → Option (List ℕ)) (a b : LineReader R Z) (is : List (List ℕ)) (e : ReadError)
+    (f : ReadFault) → TakesLines remaining a b is → e ≡ error.Line b.lines f → IsToldBehind f is (rest_of remaining b) → FailsFor remaining a e
 for-here remaining a b is e f h same k = record {
   lines = is;
   rest = rest_of remaining b;
@@ -56,7 +56,8 @@ for-here remaining a b is e f h same k = record {
 
 -- a fault of the line that says something
 pub for-telling : {R Z : Type 0} (remaining : R → Option (List ℕ)) (a b : LineReader R Z) (line : List ℕ) (e : ReadError) (f : ReadFault) →
-    TakesTelling percent remaining a b line → e ≡ error.Line b.lines f → IsToldBehind f (line ∷ []) (rest_of remaining b) → FailsFor remaining a e
+    TakesTelling percent remaining a b line → e ≡ error.Line b.lines f → IsToldBehind f (line ∷ []) (rest_of remaining b) →
+    FailsFor remaining a e
 for-telling remaining a b line e f h same k = for-here remaining a b h.lines e f h.takes same
     (subst (λ ls. IsToldBehind f ls (rest_of remaining b)) (sym h.parts) (behind-more f h.before (line ∷ []) (rest_of remaining b) k))
 
@@ -110,6 +111,12 @@ pub no-banner : (f : ReadFault) (line : List ℕ) → HasBannerFault f line →
 no-banner fault.Gzip line h none = h
 no-banner fault.Banner line h none = none
 no-banner f line h none = absurd h
+
+-- a first line of no kind
+pub no-kind-at-all : (f : ReadFault) (line : List ℕ) → HasUnknownFault f line → HasHeaderFault fault.Banner line → HasHeaderFault f line
+no-kind-at-all fault.Comment line h none = ((none.0, h), none.1)
+no-kind-at-all fault.Banner line h none = none
+no-kind-at-all f line h none = absurd h
 
 -- a first line with another field or symmetry
 pub no-kind : (f : ReadFault) (line : List ℕ) (ws us ts : List (List ℕ)) (g : Format) → header_words line ≡ banner_word ∷ us →

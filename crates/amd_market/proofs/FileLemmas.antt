@@ -1,5 +1,6 @@
 -- The parts of a file, read one after another.
-use Rattle.std.proofs.Common.{◌≡◌, ◌+◌, ℕ, true, false, Option, Some, None, List, [], ◌∷◌, ◌++◌, length, length-append, refl, sym, ap, ◌∙◌, subst}
+use Rattle.std.proofs.Common.{◌≡◌, ◌+◌, ℕ, true, false, Option, Some, None, List, [], ◌∷◌, ◌++◌, length, length-append}
+use Rattle.std.proofs.Common.{refl, sym, ap, ◌∙◌, subst}
 use Rattle.std.proofs.Common.{append-nil}
 use Rattle.std.specs.Prelude.{IfSome, flat_map, All}
 use Rattle.std.proofs.lemmas.Grind.{flat_map-append}
@@ -9,13 +10,11 @@ use Rattle.amd_market.specs.Headers.{is_array}
 use Rattle.amd_market.specs.Arrays.{SpellsShape, SpellsArray}
 use Rattle.amd_market.specs.Boeing.{SpellsBoeing}
 use Rattle.amd_market.specs.Faults.{HasHeaderFault}
-use Rattle.amd_lines.specs.Lines.{BeginsWith, line_number}
-use Rattle.amd_lines.proofs.LineLemmas.{end-append}
-use Rattle.amd_lines.specs.Lines.{TakesLines, TakesTelling, TakesNotes, FailsAt, telling, rest_of, percent}
+use Rattle.amd_lines.specs.Lines.{BeginsWith, line_number, TakesLines, TakesTelling, TakesNotes, FailsAt, telling, rest_of, percent}
+use Rattle.amd_lines.proofs.LineLemmas.{end-append, takes-append, takes-none, telling-both}
 use Rattle.amd_market.specs.Faults.{named_line}
 use Rattle.amd_market.specs.Columns.{HoldsOnce}
 use Rattle.amd_market.specs.Files.{TakesEntries, TakesBody, SpellsBody, SpellsFile, market, boeing, NamesLine}
-use Rattle.amd_lines.proofs.LineLemmas.{takes-append, takes-none, telling-both}
 use Rattle.amd_market.proofs.EntryLemmas.{Inside, entries-more, all-inside}
 use Rattle.amd_market.specs.declared.headers.Format.{Format}
 use Rattle.amd_market.specs.declared.headers.Format.TheVariants.{Coordinate, Array}

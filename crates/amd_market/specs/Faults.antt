@@ -1,9 +1,10 @@
 -- Which fault a line has.
-use Rattle.std.specs.Prelude.{◌≡◌, ◌≢◌, ◌<◌, ◌+◌, ℕ, ℤ, true, false, List, [], ◌∷◌, ◌++◌, Option, Some, length, drop, map, codes, slice_index}
+use Rattle.std.specs.Prelude.{◌≡◌, ◌≢◌, ◌<◌, ◌+◌, ℕ, ℤ, true, false, List, [], ◌∷◌, ◌++◌, Option, Some}
+use Rattle.std.specs.Prelude.{length, drop, map, codes, slice_index}
 use Rattle.std.specs.List.{list_all}
 use Rattle.std.specs.Char.{to_ascii_lowercase}
 use Rattle.std.specs.Float.Parse.{is_float_text}
-use Rattle.amd_lines.specs.Words.{words, SpellsNumber}
+use Rattle.amd_lines.specs.Words.{words, BeginsWithByte, SpellsNumber}
 use Rattle.amd_market.specs.Headers.{value_words, SpellsHeader, lowered, without_mark, format_text, field_text, is_void}
 use Rattle.amd_market.specs.Arrays.{HasShapeFault}
 use Rattle.amd_market.specs.Entries.{SpellsSize, SpellsIndex}
@@ -75,6 +76,12 @@ HasBannerFault fault.Gzip line = (slice_index line 0 ≡ 31) × (slice_index lin
 HasBannerFault fault.Banner line = Unit {0}
 HasBannerFault f line = ⊥
 
+-- a first line that lacks the banner, in a file of no kind: its first word begins as a comment does, or not
+abbrev pub HasUnknownFault : ReadFault → List ℕ → Type 0
+HasUnknownFault fault.Comment line = BeginsWithByte 37 (words line)
+HasUnknownFault fault.Banner line = Unit {0}
+HasUnknownFault f line = ⊥
+
 -- the words of a first line, but for the case of their letters, and the two that it must begin with
 abbrev pub header_words : List ℕ → List (List ℕ)
 header_words line = lowered (words (without_mark line))
@@ -93,6 +100,8 @@ BeginsHeader line ws = header_words line ≡ banner_word ∷ (object_word ∷ ws
 abbrev pub HasWordFault : ReadFault → List ℕ → Type 0
 HasWordFault fault.Gzip line = (slice_index line 0 ≡ 31) × (slice_index line 1 ≡ 139)
 HasWordFault fault.Banner line = (vs : List (List ℕ)) → header_words line ≢ banner_word ∷ vs
+HasWordFault fault.Comment line = ((vs : List (List ℕ)) → header_words line ≢ banner_word ∷ vs) ×
+    BeginsWithByte 37 (words line)
 HasWordFault fault.Object line = (ws : List (List ℕ)) × ((header_words line ≡ banner_word ∷ ws) ×
     ((vs : List (List ℕ)) → ws ≢ object_word ∷ vs))
 HasWordFault fault.Format line = (ws : List (List ℕ)) × (BeginsHeader line ws ×

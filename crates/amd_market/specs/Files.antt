@@ -2,10 +2,9 @@
 use Rattle.std.specs.Prelude.{◌≡◌, ◌++◌, ℕ, Bool, Some, IfSome, List, [], ◌∷◌, length, flat_map, Option}
 use Rattle.amd_market.specs.Headers.{SpellsHeader, pairs_of}
 use Rattle.amd_market.specs.Entries.{SpellsSize, SpellsEntries}
-use Rattle.amd_lines.specs.Lines.{BeginsWith, line_number}
+use Rattle.amd_lines.specs.Lines.{BeginsWith, line_number, TakesLines, telling, rest_of, percent}
 use Rattle.amd_market.specs.Arrays.{SpellsShape, SpellsValues, SpellsArray, kept}
 use Rattle.amd_market.specs.Boeing.{SpellsBoeing}
-use Rattle.amd_lines.specs.Lines.{TakesLines, telling, rest_of, percent}
 use Rattle.amd_market.specs.Faults.{named_line}
 use Rattle.amd_market.specs.Faults.{Blames, HasHeaderFault}
 use Rattle.amd_market.specs.Columns.{HoldsOnce}

@@ -1,4 +1,4 @@
--- What the lines of a Matrix Market file spell.
+-- What the lines of a matrix file spell.
 pub mod Headers
 pub mod Entries
 pub mod Arrays

@@ -83,7 +83,8 @@ fn are_zeros(text: &[u8]) -> bool
 
 /// Whether the value that a line spells is another one than zero, or what is wrong with the line.
 pub fn value_of(line: &[u8], field: Field) -> Result<bool, ReadFault>
-    ensures value { MatchResult result (SpellsValue field line.now) (λ _. (b : Bool) → SpellsValue field line.now b → ⊥) }
+    ensures value { MatchResult result (SpellsValue field line.now)
+        (λ _. (b : Bool) → SpellsValue field line.now b → ⊥) }
     ensures fault { IfErr result (λ f. HasValueFault f (value_words field) (words line.now)) }
 {
     if has_values(line, field.words()) {

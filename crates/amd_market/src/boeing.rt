@@ -1,8 +1,9 @@
-// The matrix that a Harwell-Boeing or a Rutherford-Boeing file holds: in column form, its pointers and rows in fields of
-// fixed width. The values behind them are not read. Called by `reader`, where the first line was read already. Source:
-// the Harwell-Boeing and Rutherford-Boeing exchange formats.
+// The matrix that a Harwell-Boeing or a Rutherford-Boeing file holds: in column form, its pointers and rows in fields
+// of fixed width. The values behind them are not read. Called by `reader`, where the first line was read already.
+// Source: the Harwell-Boeing and Rutherford-Boeing exchange formats.
 
-ghost use Rattle.std.specs.Prelude.{◌≡◌, ◌++◌, ◌∷◌, ◌≤◌, ◌+◌, ◌<◌, ◌==◌, [], ℕ, List, cond, length, slice_index, slice_range};
+ghost use Rattle.std.specs.Prelude.{◌≡◌, ◌++◌, ◌∷◌, ◌≤◌, ◌+◌, ◌<◌, ◌==◌, [], ℕ, List, cond, length};
+ghost use Rattle.std.specs.Prelude.{slice_index, slice_range};
 ghost use Rattle.std.specs.Prelude.{OnOk, IfOk, IfErr, IfSome, IsTrue, All, flat_map};
 ghost use Rattle.amd_lines.specs.Words.{words};
 ghost use Rattle.amd_market.specs.Headers.{pairs_of};
@@ -131,7 +132,8 @@ fn add_column<A: Allocator>(
     column: usize,
     rows: &[usize],
 ) -> Result<(), AllocError>
-    ensures { OnOk result (pairs.new.items ≡ pairs.old.items ++ flat_map (pairs_of symmetry) (column_entries rows.now column)) }
+    ensures { OnOk result (pairs.new.items ≡
+        pairs.old.items ++ flat_map (pairs_of symmetry) (column_entries rows.now column)) }
 {
     'rows: for row in rows {
         add_pairs(pairs, symmetry, (*row, column))?;
@@ -266,8 +268,8 @@ pub(crate) fn take_boeing<R: Read + Drop, A: Allocator + Copy>(
     alloc: A,
     lines: &mut LineReader<R, A>,
 ) -> Result<Option<Matrix<A>>, ReadError>
-    ensures takes { IfOk result (λ o. IfSome o (λ m. (ls : List (List ℕ)) × TakesLines R.remaining lines.old lines.new ls ×
-        SpellsBoeing ls m.n m.a_p.items m.a_i.items m.repeats)) }
+    ensures takes { IfOk result (λ o. IfSome o (λ m. (ls : List (List ℕ)) ×
+        TakesLines R.remaining lines.old lines.new ls × SpellsBoeing ls m.n m.a_p.items m.a_i.items m.repeats)) }
     ensures fails { IfErr result (FailsFor R.remaining lines.old) }
 {
     let Some((kind, layout)) = take_head(lines)? else {

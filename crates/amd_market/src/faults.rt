@@ -1,5 +1,5 @@
-// What is wrong with a line of a file. Given by `headers`, `entries` and `reader`, which hands it on with the line's
-// number.
+// What is wrong with a line of a file. Given by the readers of one line (`headers`, `entries`, `arrays`, `cards`,
+// `fields`), and handed on with the line's number by those of a file (`reader`, `dense`, `boeing`).
 
 ghost use Rattle.std.specs.Prelude.{◌≡◌};
 ghost use Rattle.amd_market.specs.Faults.{read_error};
@@ -18,6 +18,8 @@ pub enum ReadFault {
     Gzip,
     /// The first line does not begin with `%%MatrixMarket`, and the second one is not that of a Harwell-Boeing file.
     Banner,
+    /// The first line is a comment, and the second one is not that of a Harwell-Boeing file.
+    Comment,
     /// The second word of the first line is not `matrix`.
     Object,
     /// The third word of the first line is no format.
@@ -120,6 +122,9 @@ impl ReadFault {
             ReadFault::Banner => Some(
                 "this is neither a Matrix Market file, which begins with %%MatrixMarket, nor a Harwell-Boeing file",
             ),
+            ReadFault::Comment => {
+                Some("a comment stands before the first line, which must begin with %%MatrixMarket")
+            }
             ReadFault::Object => Some("the second word of the first line is not matrix"),
             ReadFault::Format => Some(
                 "the third word of the first line is not coordinate or array",
@@ -141,7 +146,8 @@ impl ReadFault {
     fn boeing_text(self) -> Option<&'static str> {
         match self {
             ReadFault::Kind => Some(
-                "in a Harwell-Boeing file here must stand a type such as RUA, and the numbers of rows, columns and entries",
+                "in a Harwell-Boeing file here must stand a type such as RUA, and the numbers of \
+                rows, columns and entries",
             ),
             ReadFault::Elemental => {
                 Some("the matrix is not assembled (its type ends in E): assemble it first")

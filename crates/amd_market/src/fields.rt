@@ -1,5 +1,5 @@
-// Numbers in fields of one width, so many on a line, as Fortran writes them: a format such as `(16I5)`. Called by `cards`
-// and `boeing`. Source: the Harwell-Boeing and Rutherford-Boeing exchange formats.
+// Numbers in fields of one width, so many on a line, as Fortran writes them: a format such as `(16I5)`. Called by
+// `cards` and `boeing`. Source: the Harwell-Boeing and Rutherford-Boeing exchange formats.
 
 ghost use Rattle.std.specs.Prelude.{◌≡◌, ◌++◌, ◌∷◌, [], ℕ, List, length, IfSome, IfErr, OnOk};
 ghost use Rattle.amd_market.specs.Faults.{IsOfBoeing, IsOfList};
@@ -115,7 +115,8 @@ pub(crate) fn add_numbers<A: Allocator>(
     bound: usize,
     listed: Listed,
 ) -> Result<(), ReadFault>
-    ensures adds { OnOk result ((more : List ℕ) × (length more ≡ count) × (numbers.new.items ≡ numbers.old.items ++ more) ×
+    ensures adds { OnOk result ((more : List ℕ) × (length more ≡ count) ×
+        (numbers.new.items ≡ numbers.old.items ++ more) ×
         SpellsFields width bound line.now more) }
     ensures fault { IfErr result IsOfList }
 {

@@ -1,15 +1,15 @@
-// The first line of a file of the Matrix Market, and what it says of the entries. Called by `reader`. Source: the Matrix
-// Market exchange formats.
+// The first line of a file of the Matrix Market, what it says of the entries, and what is wrong with a first line of no
+// kind. Called by `reader`. Source: the Matrix Market exchange formats.
 
 ghost use Rattle.std.specs.Prelude.{◌≡◌, ◌≢◌, ◌∷◌, [], List, ℕ, map, IfErr, MatchOption, MatchResult};
 ghost use Rattle.std.specs.Char.{to_ascii_lowercase};
 ghost use Rattle.amd_lines.specs.Words.{words};
 ghost use Rattle.amd_market.specs.Headers.{format_text, field_text, symmetry_text, value_words, is_mirrored};
 ghost use Rattle.amd_market.specs.Headers.{SpellsHeader, lowered, without_mark, is_void};
-ghost use Rattle.amd_market.specs.Faults.{HasBannerFault, HasKindFault, HasWordFault};
+ghost use Rattle.amd_market.specs.Faults.{HasBannerFault, HasKindFault, HasUnknownFault, HasWordFault};
 
 use crate::faults::ReadFault;
-use amd_lines::words::first_word;
+use amd_lines::words::{first_letter, first_word};
 
 /// Which entries a file lists.
 #[derive(Clone, Copy)]
@@ -239,6 +239,16 @@ fn banner_fault(line: &[u8]) -> ReadFault
         ReadFault::Gzip
     } else {
         ReadFault::Banner
+    }
+}
+
+/// What is wrong with a first line that lacks the banner, in a file that is no Harwell-Boeing file either.
+pub(crate) fn unknown_fault(line: &[u8]) -> ReadFault
+    ensures { HasUnknownFault result line.now }
+{
+    match first_letter(line) {
+        Some(b'%') => ReadFault::Comment,
+        _ => ReadFault::Banner,
     }
 }
 

@@ -2,10 +2,11 @@
 // The parts of a file are read one after another: the header, the size, the entries, and what stands behind them. The
 // reading of an array is in `dense`, and that of a Harwell-Boeing file in `boeing`.
 
-ghost use Rattle.std.specs.Prelude.{◌≡◌, ◌<◌, ◌∷◌, [], ℕ, List, All, true, false, IfOk, IfErr, IfSome, MatchOption, OnOk};
+ghost use Rattle.std.specs.Prelude.{◌≡◌, ◌<◌, ◌∷◌, [], ℕ, List, All, true, false};
+ghost use Rattle.std.specs.Prelude.{IfOk, IfErr, IfSome, MatchOption, OnOk};
 ghost use Rattle.amd_market.specs.Headers.{SpellsHeader, is_array};
 ghost use Rattle.amd_market.specs.Entries.{SpellsSize, SpellsEntry};
-ghost use Rattle.amd_lines.specs.Lines.{TakesLines, TakesTelling, TakesNotes, percent};
+ghost use Rattle.amd_lines.specs.Lines.{TakesLines, TakesTelling, TakesNotes, line_of, percent};
 ghost use Rattle.amd_market.specs.Files.{TakesEntries, TakesBody, FailsFor, SpellsFile, NamesFault};
 ghost use Rattle.amd_market.specs.Columns.{HoldsOnce};
 ghost use Rattle.amd_market.specs.Faults.{HasHeaderFault, IsMore};
@@ -15,7 +16,7 @@ use crate::boeing::take_boeing;
 use crate::dense::{take_shape, take_values};
 use crate::entries::{Size, entry_of, size_of};
 use crate::faults::{ReadError, ReadFault};
-use crate::headers::{Format, Header, header_of};
+use crate::headers::{Format, Header, header_of, unknown_fault};
 use crate::lines::{LONGEST_LINE, at_line, take_line, take_telling};
 pub use crate::matrices::Matrix;
 use crate::matrices::{add_pairs, matrix_of, pairs_for};
@@ -27,8 +28,8 @@ use std::io::Read;
 fn take_header<R: Read + Drop, A: Allocator>(
     lines: &mut LineReader<R, A>,
 ) -> Result<Option<Header>, ReadError>
-    ensures takes { IfOk result (λ o. (line : List ℕ) × TakesLines R.remaining lines.old lines.new (line ∷ []) ×
-        MatchOption o (HasHeaderFault fault.Banner line) (SpellsHeader line)) }
+    ensures takes { IfOk result (λ o. TakesLines R.remaining lines.old lines.new (line_of lines.new ∷ []) ×
+        MatchOption o (HasHeaderFault fault.Banner (line_of lines.new)) (SpellsHeader (line_of lines.new))) }
     ensures fails { IfErr result (FailsFor R.remaining lines.old) }
 {
     if !take_line(lines)? {
@@ -180,7 +181,8 @@ fn take_market<R: Read + Drop, A: Allocator + Copy>(
     lines: &mut LineReader<R, A>,
     header: Header,
 ) -> Result<Matrix<A>, ReadError>
-    ensures takes { IfOk result (λ m. (pairs : List (ℕ × ℕ)) × TakesBody R.remaining lines.old lines.new header m.n pairs ×
+    ensures takes { IfOk result (λ m. (pairs : List (ℕ × ℕ)) ×
+        TakesBody R.remaining lines.old lines.new header m.n pairs ×
         HoldsOnce m.n pairs m.a_p.items m.a_i.items m.repeats) }
     ensures fails { IfErr result (FailsFor R.remaining lines.old) }
 {
@@ -200,8 +202,8 @@ fn take_market<R: Read + Drop, A: Allocator + Copy>(
 /// # Errors
 ///
 /// `Line` for a line at fault, an input that ends too early, or refused memory; `Input` where the input cannot be read.
-/// Each names the line that was read last, or the first one where the second shows that it is no matrix file; a fault is
-/// one that this line has, or that of a text that ends behind it.
+/// Each names the line that was read last, or the first one where the second shows that it is no matrix file; a fault
+/// is one that this line has, or that of a text that ends behind it.
 pub fn read_matrix<R: Read + Drop, A: Allocator + Copy>(
     alloc: A,
     input: R,
@@ -212,7 +214,7 @@ pub fn read_matrix<R: Read + Drop, A: Allocator + Copy>(
 {
     let mut lines = LineReader::new(alloc, input, LONGEST_LINE);
     let header = take_header(&mut lines)?;
-    let unknown = at_line(&lines, ReadFault::Banner);
+    let unknown = at_line(&lines, unknown_fault(lines.line()));
     match header {
         Some(header) => take_market(alloc, &mut lines, header),
         None => match take_boeing(alloc, &mut lines)? {

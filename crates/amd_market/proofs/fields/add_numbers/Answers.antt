@@ -8,7 +8,8 @@ pub returns-clause-adds : goal.returns-clause-adds
 returns-clause-adds g c =
     let inv = c.fields.invariant in
     let size = inv.1 in
-    (inv.0, omega (arith, size), inv.2, subst (λ z. SpellsFields c.args.width c.args.bound c.args.line.now z) (append-nil inv.0) (inv.3 [] tt))
+    let spelled = subst (λ z. SpellsFields c.args.width c.args.bound c.args.line.now z) (append-nil inv.0) (inv.3 [] tt) in
+    (inv.0, omega (arith, size), inv.2, spelled)
 
 pub fields-preserved : goal.fields-preserved
 fields-preserved g c =

@@ -32,7 +32,6 @@ returns-then-is_void-clause-fails g c =
 pub returns-in-Err-Banner-clause-takes : goal.returns-in-Err-Banner-clause-takes
 returns-in-Err-Banner-clause-takes g c =
     let bad = rw c.in-Err-Banner.field-0-is at c.in-Err-Banner.ensures.fault in (
-      line_of c.take_line.new.lines,
       takes-one _ _ _ (rw c.if-not-branch.false at c.in_ok-take_line.ensures.takes),
       ((rw c.line.ensures at bad), (rw c.line.ensures at c.in-Err-Banner.ensures.header)),
     )
