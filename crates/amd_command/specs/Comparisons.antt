@@ -17,9 +17,9 @@ pub record IsNeedUnder (n : ℕ) (ap ai p : List ℕ) (need : Need) : Type 0 whe
   pub counted : IsCountsOf (pos n) (map pos ap) (map pos ai) (map pos p) sizes parent need
 
 -- the rows below n, as they stand
-abbrev pub rows_below : ℕ → List ℕ
-rows_below zero = []
-rows_below (suc k) = rows_below k ++ k ∷ []
+abbrev pub standing_rows : ℕ → List ℕ
+standing_rows zero = []
+standing_rows (suc k) = standing_rows k ++ k ∷ []
 
 -- the lines of the text that say something are these rows of n, one by one
 pub record ListsRows (bytes : List ℕ) (n : ℕ) (rows : List ℕ) : Type 0 where

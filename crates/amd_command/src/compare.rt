@@ -9,7 +9,7 @@ ghost use Rattle.amd_market.specs.Files.{NamesLine};
 ghost use Rattle.amd_symbolic.specs.Counted.{IsCountsFault};
 ghost use Rattle.amd_texts.specs.Texts.{labelled};
 ghost use Rattle.amd_command.specs.Comparisons.{IsNeedUnder, ListsRows, compared_line, comparison_lines, figure_of};
-ghost use Rattle.amd_command.specs.Comparisons.{rows_below, three_figures, two_figures};
+ghost use Rattle.amd_command.specs.Comparisons.{standing_rows, three_figures, two_figures};
 
 use crate::held::{held_fault, row_of};
 use amd_lines::lines::LineReader;
@@ -55,7 +55,7 @@ pub fn need_under<A: Allocator + Copy>(
 
 /// The rows as they stand.
 pub fn standing_order<A: Allocator>(alloc: A, n: usize) -> Result<Vec<usize, A>, AllocError>
-    ensures { IfOk result (λ v. v.items ≡ rows_below n) }
+    ensures { IfOk result (λ v. v.items ≡ standing_rows n) }
 {
     let mut order = Vec::with_capacity(alloc, n)?;
     'rows: for row in 0..n {

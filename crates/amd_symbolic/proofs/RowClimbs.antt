@@ -6,7 +6,7 @@ use Rattle.std.specs.List.Sorted.{IsStrictlyIncreasing}
 use Rattle.std.proofs.lemmas.Bool.{cases_eq, cases_lt}
 use Rattle.std.proofs.lemmas.List.{length-set, get_or-set_same, get_or-set_other}
 use Rattle.amd_model.specs.Graph.{IsGraph}
-use Rattle.amd_symbolic.specs.Partitions.{Climbs, HasRow, IsMarked, IsPartition, MarkedBefore, Partition, Written, WrittenTo}
+use Rattle.amd_symbolic.specs.Partitions.{Climbs, HasRow, IsMarkedBy, IsPartition, MarkedBefore, Partition, Written, WrittenTo}
 use Rattle.amd_symbolic.specs.Partitions.{last_column, last_of}
 use Rattle.amd_symbolic.proofs.Prefixes.{room_at, written_next, written_other, written_skip}
 use Rattle.amd_symbolic.proofs.SupernodeTree.{OverIt, entry-of, goes-on, in-column, last-in, over-it, owned-by, owner-up, parent-of}
@@ -42,7 +42,7 @@ module _ (b : Partition) (j s : ℕ) (next mark rows : List ℕ) (laws : IsGraph
   own-in = h.own.inside j n
 
   below : (s < slice_index b.owner j) × Contains (last_column b c.cut.columns s) j
-  below = elim c.here [ inl e ↦ absurd (new (subst (λ t. IsMarked mark j t) (sym e) c.own)) | inr r ↦ r ]
+  below = elim c.here [ inl e ↦ absurd (new (subst (λ t. IsMarkedBy mark j t) (sym e) c.own)) | inr r ↦ r ]
 
   pub low : s < slice_index b.owner j
   low = below.0
@@ -98,7 +98,7 @@ module _ (b : Partition) (j s : ℕ) (next mark rows : List ℕ) (laws : IsGraph
   other : (t : ℕ) → t ≢ s → slice_index mark' t ≡ slice_index mark t
   other t ne = get_or-set_other mark s t (j + 1) 0 ne
 
-  kept : (t : ℕ) → IsMarked mark j t → IsMarked mark' j t
+  kept : (t : ℕ) → IsMarkedBy mark j t → IsMarkedBy mark' j t
   kept t e = elim (cases_eq t s) [ inl q ↦ ap (slice_index mark') q ∙ marked | inr ne ↦ other t ne ∙ e ]
 
   -- what is written elsewhere stays
@@ -230,20 +230,20 @@ module _ (b : Partition) (j : ℕ) (next rows : List ℕ) (n : j < length b.owne
   -- at the end of the row each of its supernodes has it
   module _ (laws : IsGraph b.order.graph) (mark : List ℕ) (c : Climbs b j (slice_index b.owner j) next mark rows) (earlier : List ℕ)
       (are : AreEarlier b.order j earlier)
-      (met : (s : ℕ) → s < length earlier → IsMarked mark j (slice_index b.owner (slice_index earlier s))) where
+      (met : (s : ℕ) → s < length earlier → IsMarkedBy mark j (slice_index b.owner (slice_index earlier s))) where
     abbrev cut-h : IsPartition b c.cut.columns
     cut-h = c.cut.partition
 
     -- the supernode of the parent of a place that has the mark has it too
-    step : (i q : ℕ) → IsParent b.order.graph b.order.rows i q → q < j → IsMarked mark j (slice_index b.owner i) →
-        IsMarked mark j (slice_index b.owner q)
+    step : (i q : ℕ) → IsParent b.order.graph b.order.rows i q → q < j → IsMarkedBy mark j (slice_index b.owner i) →
+        IsMarkedBy mark j (slice_index b.owner q)
     step i q parent l m =
         let up' : i < q = parent.entry.0 in
         let s = slice_index b.owner i in
         let inside = cut-h.own.inside i (omega (arith, up', l, n)) in
         let lo = cut-h.own.low i (omega (arith, up', l, n)) in let hi = cut-h.own.high i (omega (arith, up', l, n)) in
         elim (cases_lt q (slice_index b.first (s + 1))) [
-          | inl within ↦ subst (IsMarked mark j) (sym (owned-by b c.cut.columns cut-h s q inside (omega (arith, up', lo)) within)) m
+          | inl within ↦ subst (IsMarkedBy mark j) (sym (owned-by b c.cut.columns cut-h s q inside (omega (arith, up', lo)) within)) m
           | inr behind ↦ (
               let is-last : i ≡ last_of b.first s = elim (cases_lt (i + 1) (slice_index b.first (s + 1))) [
                 | inl l' ↦ absurd (
@@ -262,26 +262,26 @@ module _ (b : Partition) (j : ℕ) (next rows : List ℕ) (n : j < length b.owne
               omega (arith, a, u, owner)) in
               let r = c.onward s below m in
               let told : o.over ≡ r.0 = some-is o.over r.0 (sym o.told ∙ r.1) in
-              subst (IsMarked mark j) (sym (owner ∙ told)) (elim r.2 [ inl x ↦ x | inr x ↦ ap (slice_index mark) x ∙ c.own ]))
+              subst (IsMarkedBy mark j) (sym (owner ∙ told)) (elim r.2 [ inl x ↦ x | inr x ↦ ap (slice_index mark) x ∙ c.own ]))
         ]
       where
         some-is : (x y : ℕ) → Some x ≡ Some y → x ≡ y
         some-is x y e = cc
 
-    met-over : {i k : ℕ} → Over b.order.graph b.order.rows i k → k < j → IsMarked mark j (slice_index b.owner i) →
-        IsMarked mark j (slice_index b.owner k)
+    met-over : {i k : ℕ} → Over b.order.graph b.order.rows i k → k < j → IsMarkedBy mark j (slice_index b.owner i) →
+        IsMarkedBy mark j (slice_index b.owner k)
     met-over itself l m = m
     met-over {i} {k} (up {parent = q} p r) l m =
         let a = over_most b.order.graph b.order.rows laws r in met-over r l (step i q p (omega (arith, a, l)) m)
 
-    all-met : (t : ℕ) → t + 1 < length b.first → Contains (last_column b c.cut.columns t) j → IsMarked mark j t
+    all-met : (t : ℕ) → t + 1 < length b.first → Contains (last_column b c.cut.columns t) j → IsMarkedBy mark j t
     all-met t l has =
         let m = last-in b c.cut.columns cut-h t l in let m0 = m.0 in let m1 = m.1 in let m2 = m.2 in
         let e = entry-of b c.cut.columns cut-h (last_of b.first t) j (omega (arith, m1, m2)) has in
         let s = entry_in_subtree b.order.graph b.order.rows laws (last_of b.first t) j e in
         let at = place_in earlier s.0 ((are s.0).1 (s.1, s.2)) in
-        let first : IsMarked mark j (slice_index b.owner s.0) = subst (λ x. IsMarked mark j (slice_index b.owner x)) at.2 (met at.0 at.1) in
-        subst (IsMarked mark j) (owned-by b c.cut.columns cut-h t (last_of b.first t) l m0 (omega (arith, m1)))
+        let first : IsMarkedBy mark j (slice_index b.owner s.0) = subst (λ x. IsMarkedBy mark j (slice_index b.owner x)) at.2 (met at.0 at.1) in
+        subst (IsMarkedBy mark j) (owned-by b c.cut.columns cut-h t (last_of b.first t) l m0 (omega (arith, m1)))
         (met-over s.3 e.0 first)
 
     pub climbs-end : WrittenTo b (j + 1) next rows

@@ -4,7 +4,7 @@ use Rattle.std.proofs.Common.{List, length, set}
 use Rattle.std.specs.Prelude.{slice_index}
 use Rattle.std.proofs.lemmas.Bool.{cases_eq, cases_lt}
 use Rattle.std.proofs.lemmas.List.{get_or-set_same, get_or-set_other}
-use Rattle.amd_symbolic.specs.Partitions.{AreNumbered, AreSame, Follows, Own}
+use Rattle.amd_symbolic.specs.Partitions.{AreNumbered, AreSame, NumbersNext, Own}
 use Rattle.amd_symbolic.specs.Supernodes.{AreRuns}
 
 module _ (joined : ℕ → Type 0) (n : ℕ) (owner : List ℕ) (count : ℕ) (h : AreNumbered joined n owner count) where
@@ -82,7 +82,7 @@ module _ (joined : ℕ → Type 0) (n : ℕ) (owner : List ℕ) (count : ℕ) (h
         let e : slice_index first (slice_index owner k) ≡ 0 = ap (slice_index first) a ∙ b.begin in omega (arith, e))
     | inr ne ↦ (
         let e : k - 1 + 1 ≡ k = omega (arith, ne) in
-        elim (subst (λ m. Follows joined (k - 1) (slice_index owner (k - 1)) (slice_index owner m)) e (h.step (k - 1) (omega (arith, l, ne)))) [
+        elim (subst (λ m. NumbersNext joined (k - 1) (slice_index owner (k - 1)) (slice_index owner m)) e (h.step (k - 1) (omega (arith, l, ne)))) [
           | inl r ↦ (
               let q : slice_index first (slice_index owner k) ≡ slice_index first (slice_index owner (k - 1)) = ap (slice_index first) r.1 in
               let a = b.low (k - 1) (omega (arith, ne)) in omega (arith, q, a))

@@ -11,7 +11,7 @@ use Rattle.amd_symbolic.specs.Columns.{first_of, HoldFactor}
 use Rattle.amd_symbolic.specs.Trees.{InSubtree}
 use Rattle.amd_symbolic.proofs.FactorOnce.{first_least}
 use Rattle.amd_symbolic.proofs.TreePaths.{rows_are_subtrees}
-use Rattle.amd_symbolic.specs.Laws.{ParentsTellTree, RowsTellSubtrees, TellsTree, column_of}
+use Rattle.amd_symbolic.specs.Laws.{ParentsTellTree, RowsTellSubtrees, TellsParent, column_of}
 use Rattle.amd_symbolic.proofs.Once.{order_once}
 use Rattle.amd_symbolic.proofs.Vectors.{first_at, parent_at}
 
@@ -19,7 +19,7 @@ module _ (g : Graph) (order ptr rows : List ℕ) (parent : List (Option ℕ)) (f
   inside : (k : ℕ) → k < length order → k < length f.columns
   inside k l = let places = f.factor.places in omega (arith, l, places)
 
-  tells : (k : ℕ) (c : List ℕ) → k < length order → slice_index_or f.columns k [] ≡ c → TellsTree g order ptr rows k (first_of c)
+  tells : (k : ℕ) (c : List ℕ) → k < length order → slice_index_or f.columns k [] ≡ c → TellsParent g order ptr rows k (first_of c)
   tells k [] l is = let e = f.holds.ends k [] (inside k l) in let none : length (slice_index_or f.columns k []) ≡ 0 = ap length is in
       omega (arith, e, none)
   tells k (x ∷ xs) l is =
@@ -34,8 +34,8 @@ module _ (g : Graph) (order ptr rows : List ℕ) (parent : List (Option ℕ)) (f
         },
       )
 
-  pub parent_tells : (k : ℕ) → k < length order → TellsTree g order ptr rows k (slice_index_or parent k None)
-  parent_tells k l = subst (TellsTree g order ptr rows k) (sym (parent_at f.columns ptr rows parent f.holds k (inside k l)))
+  pub parent_tells : (k : ℕ) → k < length order → TellsParent g order ptr rows k (slice_index_or parent k None)
+  parent_tells k l = subst (TellsParent g order ptr rows k) (sym (parent_at f.columns ptr rows parent f.holds k (inside k l)))
       (tells k (slice_index_or f.columns k []) l refl)
 
   pub row_tells : IsGraph g → (k j : ℕ) → k < j → j < length order → Contains (column_of ptr rows k) j ↔ InSubtree g order j k

@@ -22,9 +22,9 @@ column_of ptr rows k = slice_range rows (slice_index ptr k) (slice_index ptr (k 
 
 -- what the parent of column k tells: none, that the column is empty; and some, that it is the first entry of the column
 -- and the parent in the elimination tree
-abbrev pub TellsTree : Graph → List ℕ → List ℕ → List ℕ → ℕ → Option ℕ → Type 0
-TellsTree g order ptr rows k None = slice_index ptr (k + 1) ≡ slice_index ptr k
-TellsTree g order ptr rows k (Some j) =
+abbrev pub TellsParent : Graph → List ℕ → List ℕ → List ℕ → ℕ → Option ℕ → Type 0
+TellsParent g order ptr rows k None = slice_index ptr (k + 1) ≡ slice_index ptr k
+TellsParent g order ptr rows k (Some j) =
     (slice_index ptr k < slice_index ptr (k + 1)) × (slice_index rows (slice_index ptr k) ≡ j) × IsParent g order k j
 
 -- the parents tell the elimination tree
@@ -33,7 +33,7 @@ ParentsTellTree =
     (n : ℤ) (ap ai p : List ℤ) (ptr rows order : List ℕ) (parent : List (Option ℕ)) →
     IsFactorOf n ap ai p ptr rows parent →
     Permutes (unsigned_abs n) p order → (k : ℕ) → k < unsigned_abs n →
-    TellsTree (graph_of (unsigned_abs n) ap ai) order ptr rows k (slice_index_or parent k None)
+    TellsParent (graph_of (unsigned_abs n) ap ai) order ptr rows k (slice_index_or parent k None)
 
 -- column k has the entry j exactly where k lies in the subtree of row j
 abbrev pub RowsTellSubtrees : Type 0

@@ -18,14 +18,14 @@ pub record IsJoined (sizes : List ℕ) (parent : List (Option ℕ)) (k : ℕ) : 
   pub count : slice_index sizes k ≡ slice_index sizes (k + 1) + 1
 
 -- what the number of place k tells of that of the next one: it is the same where k is joined to it, and else one more
-abbrev pub Follows : (ℕ → Type 0) → ℕ → ℕ → ℕ → Type 0
-Follows joined k number next = (joined k × (next ≡ number)) ⊎ ((¬ (joined k)) × (next ≡ number + 1))
+abbrev pub NumbersNext : (ℕ → Type 0) → ℕ → ℕ → ℕ → Type 0
+NumbersNext joined k number next = (joined k × (next ≡ number)) ⊎ ((¬ (joined k)) × (next ≡ number + 1))
 
 -- the runs of n places have numbers from 0 on, below count
 pub record AreNumbered (joined : ℕ → Type 0) (n : ℕ) (owner : List ℕ) (count : ℕ) : Type 0 where
   pub room : length owner ≡ n
   pub begin : 0 < n → slice_index owner 0 ≡ 0
-  pub step : (k : ℕ) → k + 1 < n → Follows joined k (slice_index owner k) (slice_index owner (k + 1))
+  pub step : (k : ℕ) → k + 1 < n → NumbersNext joined k (slice_index owner k) (slice_index owner (k + 1))
   pub none : n ≡ 0 → count ≡ 0
   pub end : (k : ℕ) → k + 1 ≡ n → count ≡ slice_index owner k + 1
 
@@ -114,8 +114,8 @@ pub record MarkedBefore (b : Partition) (j : ℕ) (mark : List ℕ) : Type 0 whe
   pub low : (s : ℕ) → s < length mark → slice_index mark s ≤ j
 
 -- supernode s has the mark of place j
-abbrev pub IsMarked : List ℕ → ℕ → ℕ → Type 0
-IsMarked mark j s = slice_index mark s ≡ j + 1
+abbrev pub IsMarkedBy : List ℕ → ℕ → ℕ → Type 0
+IsMarkedBy mark j s = slice_index mark s ≡ j + 1
 
 -- supernode s is that of place j, or stands before it and has the row j
 abbrev pub HasRow : Partition → List (List ℕ) → ℕ → ℕ → Type 0
@@ -129,11 +129,11 @@ pub record Climbs (b : Partition) (j s : ℕ) (next mark rows : List ℕ) : Type
   pub marks : length mark + 1 ≡ length b.first
   pub room : length rows ≡ slice_index b.ptr (length b.first - 1)
   pub low : (t : ℕ) → t < length mark → slice_index mark t ≤ j + 1
-  pub own : IsMarked mark j (slice_index b.owner j)
+  pub own : IsMarkedBy mark j (slice_index b.owner j)
   pub here : HasRow b cut.columns j s
-  pub done : (t : ℕ) → t + 1 < length b.first → IsMarked mark j t →
+  pub done : (t : ℕ) → t + 1 < length b.first → IsMarkedBy mark j t →
       Written (last_column b cut.columns t) (j + 1) (slice_index b.ptr t) (slice_index next t) rows
-  pub rest : (t : ℕ) → t + 1 < length b.first → ¬ (IsMarked mark j t) →
+  pub rest : (t : ℕ) → t + 1 < length b.first → ¬ (IsMarkedBy mark j t) →
       Written (last_column b cut.columns t) j (slice_index b.ptr t) (slice_index next t) rows
-  pub onward : (t : ℕ) → t < slice_index b.owner j → IsMarked mark j t →
-      (q : ℕ) × (slice_index_or b.parent t None ≡ Some q) × (IsMarked mark j q ⊎ (q ≡ s))
+  pub onward : (t : ℕ) → t < slice_index b.owner j → IsMarkedBy mark j t →
+      (q : ℕ) × (slice_index_or b.parent t None ≡ Some q) × (IsMarkedBy mark j q ⊎ (q ≡ s))

@@ -38,7 +38,7 @@ TellsOver first below (Some q) = (0 < length below) × (q + 1 < length first) ×
 
 -- the rows below the blocks stand in rows one after another, and nothing else; column k of supernode s has the places
 -- behind k in s, and then the rows below its block
-pub record HoldRows (columns : List (List ℕ)) (first ptr rows : List ℕ) (parent : List (Option ℕ)) : Type 0 where
+pub record HoldRowsBelow (columns : List (List ℕ)) (first ptr rows : List ℕ) (parent : List (Option ℕ)) : Type 0 where
   pub pointers : length ptr ≡ length first
   pub start : slice_index ptr 0 ≡ 0
   pub ascending : (s : ℕ) → s + 1 < length first → slice_index ptr s ≤ slice_index ptr (s + 1)
@@ -54,7 +54,7 @@ pub record HoldSupernodes (g : Graph) (p first ptr rows : List ℕ) (parent : Li
   pub columns : List (List ℕ)
   pub factor : IsFactor g p columns
   pub runs : AreRuns (Joined columns) (length columns) first
-  pub holds : HoldRows columns first ptr rows parent
+  pub holds : HoldRowsBelow columns first ptr rows parent
 
 -- and so of a matrix with n rows under the order p, which lists each row once; where n is not 0 the matrix is a column
 -- form

@@ -5,7 +5,7 @@
 ghost use Rattle.std.specs.Prelude.{ℕ, ◌≡◌, ◌<◌, ◌+◌, ◌-◌, length, slice_index};
 ghost use Rattle.amd_model.specs.Graph.{IsGraph};
 ghost use Rattle.amd_symbolic.specs.Neighbours.{AreEarlier, HasEarlier};
-ghost use Rattle.amd_symbolic.specs.Partitions.{Climbs, IsCut, IsMarked, MarkedBefore, Partition, WrittenTo};
+ghost use Rattle.amd_symbolic.specs.Partitions.{Climbs, IsCut, IsMarkedBy, MarkedBefore, Partition, WrittenTo};
 ghost use Rattle.amd_symbolic.specs.Supernodes.{HoldSupernodes};
 
 /// Puts the row `j` behind the rows of supernode `s`, marks that, and returns the parent of `s`.
@@ -22,10 +22,10 @@ fn put_row(
     requires place { j < length b.owner }
     requires parents { parent.now ≡ b.parent }
     requires climbs { Climbs b j s next.old mark.old rows.old }
-    requires new { ¬ (IsMarked mark.old j s) }
+    requires new { ¬ (IsMarkedBy mark.old j s) }
     ensures climbs { Climbs b j result next.new mark.new rows.new }
     ensures higher { s < result }
-    ensures marked { IsMarked mark.new j s }
+    ensures marked { IsMarkedBy mark.new j s }
     ensures others { (t : ℕ) → ¬ (t ≡ s) → slice_index mark.new t ≡ slice_index mark.old t }
 {
     mark[s] = j + 1;
@@ -49,8 +49,8 @@ fn climb(
     requires parents { parent.now ≡ b.parent }
     requires climbs { Climbs b j from next.old mark.old rows.old }
     ensures climbs { Climbs b j (slice_index b.owner j) next.new mark.new rows.new }
-    ensures marked { IsMarked mark.new j from }
-    ensures kept { (t : ℕ) → IsMarked mark.old j t → IsMarked mark.new j t }
+    ensures marked { IsMarkedBy mark.new j from }
+    ensures kept { (t : ℕ) → IsMarkedBy mark.old j t → IsMarkedBy mark.new j t }
 {
     let mut s = from;
     'up: while mark[s] != j + 1 {

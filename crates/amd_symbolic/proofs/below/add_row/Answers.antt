@@ -1,7 +1,7 @@
 use Rattle.std.proofs.Common.{◌+◌, inl, inr, ap, subst, sym, arith, length, set}
 use Rattle.std.specs.Prelude.{slice_index}
 use Rattle.std.proofs.lemmas.Bool.{cases_eq}
-use Rattle.amd_symbolic.specs.Partitions.{Climbs, IsMarked}
+use Rattle.amd_symbolic.specs.Partitions.{Climbs, IsMarkedBy}
 use Rattle.amd_symbolic.proofs.Ancestry.{neighbour}
 use Rattle.amd_symbolic.proofs.RowClimbs.{climbs-begin, climbs-end, climbs-from}
 use Rattle.amd_symbolic.proofs.SupernodeTree.{begins}
@@ -50,8 +50,8 @@ earlier-preserved g c =
     let r = c.requires in let e = c.climb.ensures in record {
       climbs = e.climbs;
       marked = λ s l. elim (cases_eq s c.earlier.i-index) [
-        | inl q ↦ subst (λ x. IsMarked c.climb.new.mark c.args.j (slice_index g.b.owner (slice_index c.args.earlier.now x))) (sym q)
-            (subst (λ xs. IsMarked c.climb.new.mark c.args.j (slice_index xs (slice_index c.args.earlier.now c.earlier.i-index))) r.1.1.0
+        | inl q ↦ subst (λ x. IsMarkedBy c.climb.new.mark c.args.j (slice_index g.b.owner (slice_index c.args.earlier.now x))) (sym q)
+            (subst (λ xs. IsMarkedBy c.climb.new.mark c.args.j (slice_index xs (slice_index c.args.earlier.now c.earlier.i-index))) r.1.1.0
             e.marked)
         | inr ne ↦ e.kept (slice_index g.b.owner (slice_index c.args.earlier.now s)) (c.earlier.invariant.marked s (omega (arith, l, ne)))
       ];

@@ -1,6 +1,6 @@
 use Rattle.std.proofs.Common.{ℕ, ◌≡◌, ◌-◌, ◌⊎◌}
 use Rattle.std.specs.Prelude.{slice_index}
-use Rattle.amd_symbolic.specs.Partitions.{Climbs, IsMarked}
+use Rattle.amd_symbolic.specs.Partitions.{Climbs, IsMarkedBy}
 use Rattle.amd_symbolic.proofs.below.climb.Given as goal
 
 abbrev pub ghost-put_row : goal.ghost-put_row
@@ -9,8 +9,8 @@ ghost-put_row g a = g.b
 abbrev pub invariant-up : goal.invariant-up
 invariant-up g l = record {
   climbs : Climbs g.b l.j l.s l.next l.mark l.rows;
-  marked : IsMarked l.mark l.j l.from ⊎ (l.from ≡ l.s);
-  kept : (t : ℕ) → IsMarked l.initial.mark l.j t → IsMarked l.mark l.j t;
+  marked : IsMarkedBy l.mark l.j l.from ⊎ (l.from ≡ l.s);
+  kept : (t : ℕ) → IsMarkedBy l.initial.mark l.j t → IsMarkedBy l.mark l.j t;
 }
 
 abbrev pub decreases-up : goal.decreases-up
