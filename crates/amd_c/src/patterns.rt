@@ -99,7 +99,8 @@ pub fn degrees_into<I: PrimInt>(
 /// # Errors
 ///
 /// All stays as it was. `NotColumnForm` exactly where `pointers` has not `n + 1` places, or the input is no column
-/// form. `RoomTooSmall` where `indices` has fewer places than the pattern has entries. `OutOfMemory` as `preprocess` says.
+/// form. `RoomTooSmall` where `indices` has fewer places than the pattern has entries. `OutOfMemory` as `preprocess`
+/// says.
 ///
 /// Source: AMD user guide.
 pub fn row_form_into<I: PrimInt>(

@@ -112,7 +112,8 @@ held-whole remaining a b c input n marks same h end =
       all = k;
       rows = h.rows;
       spells = subst (λ ls. SpellsRows n ls h.rows)
-          (sym (telling-both percent h.lines end.lines (telling percent h.lines) [] refl end.tells ∙ append-nil (telling percent h.lines))) h.spells;
+          (sym (telling-both percent h.lines end.lines (telling percent h.lines)
+          [] refl end.tells ∙ append-nil (telling percent h.lines))) h.spells;
       marked = h.marked;
     }
 

@@ -51,7 +51,8 @@ rows-whole remaining a b c input n rows same h end =
       lines = h.lines ++ end.lines;
       all = k;
       spells = subst (λ ls. SpellsRows n ls rows)
-          (sym (telling-both percent h.lines end.lines (telling percent h.lines) [] refl end.tells ∙ append-nil (telling percent h.lines))) h.spells;
+          (sym (telling-both percent h.lines end.lines (telling percent h.lines)
+          [] refl end.tells ∙ append-nil (telling percent h.lines))) h.spells;
     }
 
     known : (first mid last : Option (List ℕ)) → IfSome first (λ bs. BeginsWith h.lines bs mid) →

@@ -207,8 +207,8 @@ fn picture_of<A: Allocator + Copy>(
     }
 }
 
-/// How full the cells of the panel before are: of the entries of the file, or, where it is `symmetric`, of the edges and
-/// the diagonal.
+/// How full the cells of the panel before are: of the entries of the file, or, where it is `symmetric`, of the edges
+/// and the diagonal.
 fn before_levels<A: Allocator + Copy>(
     alloc: A,
     matrix: &Matrix<A>,

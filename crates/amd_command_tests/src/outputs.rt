@@ -222,8 +222,8 @@ fn is_written(
     }
 }
 
-/// The reader asks for room for all entries at once, and does without where that is refused. So two runs write all: that
-/// one, and the last.
+/// The reader asks for room for all entries at once, and does without where that is refused. So two runs write all:
+/// that one, and the last.
 #[test]
 fn refused_memory(rt: HostRuntime) {
     let room = rt.alloc();

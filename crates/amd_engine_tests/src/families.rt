@@ -1,5 +1,5 @@
-// Families of graphs of several sizes and matrices drawn from seeds, each with every choice of a caller, through
-// four calls: `order`, `amd_1` and `amd_2` with no word to spare, and the plain engine; and through the engine from each
+// Families of graphs of several sizes and matrices drawn from seeds, each with every choice of a caller, through four
+// calls: `order`, `amd_1` and `amd_2` with no word to spare, and the plain engine; and through the engine from each
 // first flag, in words of both widths. There is one answer. In the crate `amd_tests` the answers of `order` over the
 // same families are compared with what the factor needs.
 

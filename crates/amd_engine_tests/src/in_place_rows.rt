@@ -1,7 +1,7 @@
 // Worked matrices through the engine in place, from first flags with and without a reset of the counters, in words of
 // both widths, with no word to spare and with those of `order`; through the plain engine; and through `amd_1` and
-// `amd_2_from` by themselves, the latter over lists that were laid. The answers were worked by hand, and come from the Rust
-// crate `amd` and from a plain program that follows the rules.
+// `amd_2_from` by themselves, the latter over lists that were laid. The answers were worked by hand, and come from the
+// Rust crate `amd` and from a plain program that follows the rules.
 
 use crate::in_place_matrices::{EngineCase, MATRICES};
 use crate::laid::{are_words, order_laid};

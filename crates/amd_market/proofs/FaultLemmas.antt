@@ -45,7 +45,8 @@ for-unread remaining a e h u = record {
 
 -- a fault of the lines that were read
 pub for-here : {R Z : Type 0} (remaining : R → Option (List ℕ)) (a b : LineReader R Z) (is : List (List ℕ)) (e : ReadError)
-    (f : ReadFault) → TakesLines remaining a b is → e ≡ error.Line b.lines f → IsToldBehind f is (rest_of remaining b) → FailsFor remaining a e
+    (f : ReadFault) → TakesLines remaining a b is → e ≡ error.Line b.lines f → IsToldBehind f is (rest_of remaining b) →
+    FailsFor remaining a e
 for-here remaining a b is e f h same k = record {
   lines = is;
   rest = rest_of remaining b;

@@ -146,7 +146,8 @@ module _ (s : Scene) (scene : IsScene s) where
     }
 
     -- the arc marks place i
-    pub targets-more : (k a : ℕ) → (m : CountsTargets s seen k a) → k < i → Above s.up j k → (m.test i ≡ true → ⊥) → CountsTargets s seen' k (a + 1)
+    pub targets-more : (k a : ℕ) → (m : CountsTargets s seen k a) → k < i → Above s.up j k → (m.test i ≡ true → ⊥) →
+        CountsTargets s seen' k (a + 1)
     targets-more k a m after up no-mark =
         let before : m.test i ≡ false = elim (cases_Bool (m.test i)) [ inl yes' ↦ absurd (no-mark yes') | inr no' ↦ no' ] in
         let at : cond (i == i) true (m.test i) ≡ true = ap (λ b. cond b true (m.test i)) (eq-eqb i i refl) in

@@ -27,7 +27,8 @@ module _ (s : Scene) (scene : IsScene s) (starts later : List ℕ) (has : HasLat
   lists-sum (suc m) l =
       let r = lists-sum m (omega (arith, l)) in let places = scene.places in
       let a = has.ascending m (omega (arith, l, places)) in
-      let b : slice_index starts (m + 1) ≡ slice_index starts (suc m) = ap (slice_index starts) (let e : m + 1 ≡ suc m = omega arith in e) in
+      let b : slice_index starts (m + 1) ≡ slice_index starts (suc m) = ap (slice_index starts) (let e : m + 1 ≡ suc m = omega arith in
+      e) in
       omega (arith, r, a, b)
 
   last-start : (m : ℕ) → m + 1 ≡ length s.up → slice_index starts (length s.up) ≤ length later

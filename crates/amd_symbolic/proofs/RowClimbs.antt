@@ -258,7 +258,8 @@ module _ (b : Partition) (j : ℕ) (next rows : List ℕ) (n : j < length b.owne
               let same = parents-same b.order.graph b.order.rows i q o.place parent (subst (λ x. IsParent b.order.graph b.order.rows x
               o.place) (sym is-last) o.parent) in
               let owner : slice_index b.owner q ≡ o.over = ap (slice_index b.owner) same ∙ o.owner in
-              let below : s < slice_index b.owner j = (let a = o.higher in let u = owner-up b c.cut.columns cut-h q j (omega (arith, l)) n in
+              let below : s < slice_index b.owner j = (let a = o.higher in let u = owner-up b c.cut.columns cut-h q j (omega (arith, l))
+              n in
               omega (arith, a, u, owner)) in
               let r = c.onward s below m in
               let told : o.over ≡ r.0 = some-is o.over r.0 (sym o.told ∙ r.1) in
@@ -280,7 +281,8 @@ module _ (b : Partition) (j : ℕ) (next rows : List ℕ) (n : j < length b.owne
         let e = entry-of b c.cut.columns cut-h (last_of b.first t) j (omega (arith, m1, m2)) has in
         let s = entry_in_subtree b.order.graph b.order.rows laws (last_of b.first t) j e in
         let at = place_in earlier s.0 ((are s.0).1 (s.1, s.2)) in
-        let first : IsMarkedBy mark j (slice_index b.owner s.0) = subst (λ x. IsMarkedBy mark j (slice_index b.owner x)) at.2 (met at.0 at.1) in
+        let first : IsMarkedBy mark j (slice_index b.owner s.0) = subst (λ x. IsMarkedBy mark j (slice_index b.owner x))
+        at.2 (met at.0 at.1) in
         subst (IsMarkedBy mark j) (owned-by b c.cut.columns cut-h t (last_of b.first t) l m0 (omega (arith, m1)))
         (met-over s.3 e.0 first)
 

@@ -82,9 +82,11 @@ module _ (joined : ℕ → Type 0) (n : ℕ) (owner : List ℕ) (count : ℕ) (h
         let e : slice_index first (slice_index owner k) ≡ 0 = ap (slice_index first) a ∙ b.begin in omega (arith, e))
     | inr ne ↦ (
         let e : k - 1 + 1 ≡ k = omega (arith, ne) in
-        elim (subst (λ m. NumbersNext joined (k - 1) (slice_index owner (k - 1)) (slice_index owner m)) e (h.step (k - 1) (omega (arith, l, ne)))) [
+        elim (subst (λ m. NumbersNext joined (k - 1) (slice_index owner (k - 1)) (slice_index owner m)) e (h.step (k - 1)
+        (omega (arith, l, ne)))) [
           | inl r ↦ (
-              let q : slice_index first (slice_index owner k) ≡ slice_index first (slice_index owner (k - 1)) = ap (slice_index first) r.1 in
+              let q : slice_index first (slice_index owner k) ≡ slice_index first (slice_index owner (k - 1)) = ap (slice_index first)
+              r.1 in
               let a = b.low (k - 1) (omega (arith, ne)) in omega (arith, q, a))
           | inr r ↦ (
               let q : slice_index first (slice_index owner k) ≡ slice_index first (slice_index owner (k - 1) + 1) =
@@ -152,7 +154,8 @@ module _ (first : List ℕ) (rises : (s : ℕ) → s + 1 < length first → slic
   owner-is owner own s k l lo hi lk =
       let a = own.inside k lk in let b = own.low k lk in let c = own.high k lk in
       elim (cases_lt (slice_index owner k) s) [
-        | inl less ↦ absurd (let u = first-up (slice_index owner k + 1) s (omega (arith, less)) (omega (arith, l)) in omega (arith, u, lo, c))
+        | inl less ↦ absurd (let u = first-up (slice_index owner k + 1) s (omega (arith, less)) (omega (arith, l)) in
+            omega (arith, u, lo, c))
         | inr more ↦ elim (cases_eq (slice_index owner k) s) [
           | inl e ↦ e
           | inr ne ↦ absurd (let u = first-up (s + 1) (slice_index owner k) (omega (arith, more, ne)) (omega (arith, a)) in
@@ -215,7 +218,8 @@ module _ (joined : ℕ → Type 0) (n : ℕ) (owner : List ℕ) (count : ℕ) (h
           | inl t ↦ (
               let q : slice_index owner (k + 1) ≡ s = t.1 ∙ a in
               let c = own.high (k + 1) (omega (arith, less, r)) in
-              let e : slice_index first (slice_index owner (k + 1) + 1) ≡ slice_index first (s + 1) = ap (λ m. slice_index first (m + 1)) q in
+              let e : slice_index first (slice_index owner (k + 1) + 1) ≡ slice_index first (s + 1) = ap (λ m. slice_index first (m + 1))
+              q in
               omega (arith, c, e, is))
           | inr t ↦ t.0 j
         ]);

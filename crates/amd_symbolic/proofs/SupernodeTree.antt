@@ -53,13 +53,15 @@ module _ (b : Partition) (columns : List (List ℕ)) (h : IsPartition b columns)
   owner-up q j le l = elim (cases_lt (slice_index b.owner j) (slice_index b.owner q)) [
     | inl less ↦ absurd (
         let a = h.own.low q (omega (arith, le, l)) in let c = h.own.high j l in let i = h.own.inside q (omega (arith, le, l)) in
-        let u = first-up b.first h.runs.rises (slice_index b.owner j + 1) (slice_index b.owner q) (omega (arith, less)) (omega (arith, i)) in
+        let u = first-up b.first h.runs.rises (slice_index b.owner j + 1) (slice_index b.owner q) (omega (arith, less))
+        (omega (arith, i)) in
         omega (arith, a, c, u, le))
     | inr more ↦ more
   ]
 
   -- an entry behind the supernode is one of its last place
-  to-last : IsGraph b.order.graph → (d s k j : ℕ) → s + 1 < length b.first → slice_index b.first s ≤ k → k + 1 + d ≡ slice_index b.first (s + 1) →
+  to-last : IsGraph b.order.graph → (d s k j : ℕ) → s + 1 < length b.first → slice_index b.first s ≤ k →
+      k + 1 + d ≡ slice_index b.first (s + 1) →
       slice_index b.first (s + 1) ≤ j → Entry b.order.graph b.order.rows k j → Entry b.order.graph b.order.rows (last_of b.first s) j
   to-last laws zero s k j l lo is behind e =
       subst (λ m. Entry b.order.graph b.order.rows m j) (let q : k ≡ last_of b.first s = omega (arith, is) in q) e
@@ -71,7 +73,8 @@ module _ (b : Partition) (columns : List (List ℕ)) (h : IsPartition b columns)
       (entry_by_child b.order.graph b.order.rows laws (k + 1) j (omega (arith, is, behind)) e.1 k parent e)
 
   -- the supernode of an earlier entry has the row
-  pub has-row : IsGraph b.order.graph → (k j : ℕ) → k < j → j < length b.owner → Entry b.order.graph b.order.rows k j → HasRow b columns j (slice_index b.owner k)
+  pub has-row : IsGraph b.order.graph → (k j : ℕ) → k < j → j < length b.owner → Entry b.order.graph b.order.rows k j →
+      HasRow b columns j (slice_index b.owner k)
   has-row laws k j low n e =
       let s = slice_index b.owner k in
       let up' = owner-up k j (omega (arith, low)) n in
@@ -125,7 +128,8 @@ module _ (b : Partition) (columns : List (List ℕ)) (h : IsPartition b columns)
       }
 
   -- where a supernode has a row its parent has it too
-  pub goes-on : IsGraph b.order.graph → (s j : ℕ) → j < length b.owner → s + 1 < length b.first → Contains (last_column b columns s) j → (o : OverIt b s j) →
+  pub goes-on : IsGraph b.order.graph → (s j : ℕ) → j < length b.owner → s + 1 < length b.first → Contains (last_column b columns s) j →
+      (o : OverIt b s j) →
       HasRow b columns j o.over
   goes-on laws s j n l c o =
       let m = last-in s l in let m1 = m.1 in let m2 = m.2 in

@@ -4,8 +4,8 @@
 //! [`columns`] takes the pattern of a square matrix by columns and any order of its rows. [`analyze`] takes the order
 //! from [`amd::order`] and the room from its record, and [`analyze_holding`] does the same with rows that a caller
 //! wants last. [`counts`] counts the entries of the columns without writing them; [`analyze_counts`] does so under the
-//! order from [`amd::order`], and [`analyze_counts_holding`] with rows held last. [`needs::need_of`] sums what a factor needs.
-//! [`supernodes`] takes what `columns` takes but a room, and returns the columns by supernodes.
+//! order from [`amd::order`], and [`analyze_counts_holding`] with rows held last. [`needs::need_of`] sums what a factor
+//! needs. [`supernodes`] takes what `columns` takes but a room, and returns the columns by supernodes.
 //!
 //! The modules, each over those before it:
 //!

@@ -24,8 +24,8 @@ fn find(start: usize, link: &mut [usize]) -> usize
     x
 }
 
-/// Where an arc to place `i` meets the last one before it, which came from place `before`: at the lowest place over that
-/// one, or at it, that is not linked yet; or at `i` itself, where `before` is `none`, since there was no such arc.
+/// Where an arc to place `i` meets the last one before it, which came from place `before`: at the lowest place over
+/// that one, or at it, that is not linked yet; or at `i` itself, where `before` is `none`, since there was no such arc.
 fn meet(i: usize, before: usize, none: usize, link: &mut [usize]) -> usize
     ghost at: { Scene × ℕ }
     requires scene { IsScene at.0 }

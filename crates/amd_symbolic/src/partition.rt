@@ -102,8 +102,8 @@ fn write_parents(
     }
 }
 
-/// Writes where each supernode and its rows begin, and its parent, by the numbers of the supernodes; returns whether the
-/// number of rows below the blocks is one of 64 bits.
+/// Writes where each supernode and its rows begin, and its parent, by the numbers of the supernodes; returns whether
+/// the number of rows below the blocks is one of 64 bits.
 fn write_cut(
     sizes: &[usize],
     parent: &[Option<usize>],

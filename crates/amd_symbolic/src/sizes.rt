@@ -15,8 +15,9 @@ use crate::tree::elimination_tree;
 /// Writes the number of entries of each column of the factor of a graph under an order of its rows, and the parents.
 ///
 /// `earlier[starts[j]..starts[j + 1]]` names the places before `j` whose rows an edge joins with that at place `j`, and
-/// `later[later_starts[j]..later_starts[j + 1]]` those after it. `parent` and `counts` have `n` places each, for `n` rows. All others are for the work alone: `order`, `up` and `last` have
-/// `n` places, and `size`, `link`, `rank`, `plus` and `minus` have `n + 1`.
+/// `later[later_starts[j]..later_starts[j + 1]]` those after it. `parent` and `counts` have `n` places each, for `n`
+/// rows. All others are for the work alone: `order`, `up` and `last` have `n` places, and `size`, `link`, `rank`,
+/// `plus` and `minus` have `n + 1`.
 ///
 /// No memory is asked for. The steps are as many as there are neighbours and rows, times at most the logarithm of the
 /// number of rows.

@@ -63,10 +63,10 @@ fn form_supernodes<I: PrimInt, A: Allocator + Copy>(
 /// The columns of the factor of a square matrix under an order of its rows, by supernodes, by the pattern of `A + A'`.
 ///
 /// The columns are those of [`crate::columns`], and so are the input and the order. Column `k` of supernode `s` has the
-/// places behind `k` before `first[s + 1]`, and then the rows `rows[ptr[s]..ptr[s + 1]]`. The supernodes are the longest
-/// runs of places of which each but the last has the next one as its parent, and one entry more than that has; the next
-/// one may have other children too. For `n = 0` the pointers and row indices are not looked at, `p` must be empty, and
-/// `first` and `ptr` are `[0]`.
+/// places behind `k` before `first[s + 1]`, and then the rows `rows[ptr[s]..ptr[s + 1]]`. The supernodes are the
+/// longest runs of places of which each but the last has the next one as its parent, and one entry more than that has;
+/// the next one may have other children too. For `n = 0` the pointers and row indices are not looked at, `p` must be
+/// empty, and `first` and `ptr` are `[0]`.
 ///
 /// No room is asked for: the entries are counted first. Then all memory is taken, and as much for `rows` as the rows
 /// need, before the first of them is written. The steps are as many as there are rows and entries of the matrix, times
@@ -79,8 +79,8 @@ fn form_supernodes<I: PrimInt, A: Allocator + Copy>(
 /// * `NotColumnForm` exactly where `n` is not 0 and the input is no column form; no memory is asked before.
 /// * `NotPermutation` where `p` does not list each number below `n`, once.
 ///
-/// `OutOfMemory` where an allocation was refused, or there are more rows below the blocks than `usize::MAX`. It may come
-/// in place of the second. No other fault.
+/// `OutOfMemory` where an allocation was refused, or there are more rows below the blocks than `usize::MAX`. It may
+/// come in place of the second. No other fault.
 ///
 /// Source: Rose, Tarjan and Lueker 1976; Liu 1986 and 1990; Liu, Ng and Peyton 1993.
 pub fn supernodes<I: PrimInt, A: Allocator + Copy>(

@@ -7,8 +7,25 @@ use Rattle.amd_symbolic.proofs.below.fill_rows.Goals as goal
 pub add_row-requires : goal.add_row-requires
 add_row-requires g c =
     let r = c.requires in let i = c.rows.invariant in let t = c.rows-test.true in
-    let o = ap length r.1.1.1.0 in let p = places g.b r.1.0.columns r.1.0.partition in
-    (r.0, (omega (arith, t, o), (r.1.1.1.0, (r.1.1.1.1.1.0, (r.1.1.1.1.1.1.0.each c.rows.j (omega (arith, t, o, p)), (i.written, i.marks))))))
+    let o = ap length r.1.1.1.0 in let p = places g.b r.1.0.columns r.1.0.partition in (
+      r.0,
+      (
+        omega (arith, t, o),
+        (
+          r.1.1.1.0,
+          (
+            r.1.1.1.1.1.0,
+            (
+              r.1.1.1.1.1.1.0.each c.rows.j (omega (arith, t, o, p)),
+              (
+                i.written,
+                i.marks,
+              ),
+            ),
+          ),
+        ),
+      ),
+    )
 
 pub returns : goal.returns
 returns g c =

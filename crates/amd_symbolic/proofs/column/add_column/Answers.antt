@@ -41,7 +41,8 @@ close_column-requires g c =
     let fresh = take c.new_rows-count.result.0 c.new_rows-count.new.fresh in
     let e = c.inherited-from.ensures in
     let w = c.in-Some.ensures in
-    let is : new ≡ rows ++ merged part fresh = now' ∙ subst (λ xs. c.write_column.new.rows.items ≡ xs ++ merged (slice_range xs from to) fresh)
+    let is : new ≡ rows ++ merged part fresh = now' ∙ subst (λ xs. c.write_column.new.rows.items ≡ xs ++ merged (slice_range xs from to)
+    fresh)
     (sym same) w.column in
     let begin : slice_index c.args.ptr.now c.args.k ≡ length rows = full ∙ sym (ap length same) in
     let end = w.none.0 ∙ sym (ap length now') in

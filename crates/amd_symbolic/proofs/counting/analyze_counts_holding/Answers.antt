@@ -12,7 +12,8 @@ returns-in-Err-clause-fault g c =
     let z : ℤ = g.I.Number.value c.args.n in
     let a_p : List ℤ = map g.I.Number.value c.args.a_p.now in
     let a_i : List ℤ = map g.I.Number.value c.args.a_i.now in
-    fault_for (Some c.args.hold.now) z a_p a_i c.in-Err.refusal c.fault_of.result c.in-Err.ensures.refusal c.fault_of.ensures.form c.fault_of.ensures.memory
+    fault_for (Some c.args.hold.now) z a_p a_i c.in-Err.refusal c.fault_of.result c.in-Err.ensures.refusal c.fault_of.ensures.form
+    c.fault_of.ensures.memory
 
 pub ordered_counts-requires-clause-ordering : goal.ordered_counts-requires-clause-ordering
 ordered_counts-requires-clause-ordering g c =

@@ -33,14 +33,16 @@ places-preserved c =
 
 pub returns-clause-runs : goal.returns-clause-runs
 returns-clause-runs c =
-    let a = c.places.auto.first in let r = c.requires.room in let w = length-set c.args.first.now 0 0 in let t = c.places-test.false in let e = c.places.auto.k-end in
+    let a = c.places.auto.first in let r = c.requires.room in let w = length-set c.args.first.now 0 0 in let t = c.places-test.false in
+    let e = c.places.auto.k-end in
     let all : c.places.k ≡ length c.args.owner.now = omega (arith, t, e) in
     runs-same (length c.args.owner.now) c.args.owner.now (length c.args.first.now - 1) c.requires.numbered c.places.first
     (omega (arith, a, r, w)) (subst (λ m. Begun c.args.owner.now m c.places.first) all c.places.invariant.begun)
 
 pub returns-clause-own : goal.returns-clause-own
 returns-clause-own c =
-    let a = c.places.auto.first in let r = c.requires.room in let w = length-set c.args.first.now 0 0 in let t = c.places-test.false in let e = c.places.auto.k-end in
+    let a = c.places.auto.first in let r = c.requires.room in let w = length-set c.args.first.now 0 0 in let t = c.places-test.false in
+    let e = c.places.auto.k-end in
     let all : c.places.k ≡ length c.args.owner.now = omega (arith, t, e) in
     all-own (AreSame c.args.owner.now) (length c.args.owner.now) c.args.owner.now (length c.args.first.now - 1) c.requires.numbered
     c.places.first (omega (arith, a, r, w)) (subst (λ m. Begun c.args.owner.now m c.places.first) all c.places.invariant.begun)
