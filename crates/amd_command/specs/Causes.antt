@@ -15,7 +15,7 @@ fault_status f = 2
 
 -- the exit status after a text that was not read
 abbrev pub read_status : ReadError → ℕ
-read_status (Line line f) = fault_status f
+read_status (Line line f found) = fault_status f
 read_status (Input line e) = 2
 
 -- the exit status: 1 where memory was refused or an output failed, 2 where an argument or an input is wrong, and 3

@@ -64,85 +64,107 @@ const SYMMETRY: &str =
 const NO_VALUE: &str =
     "the value is missing: write it, or pattern in the first line if no entry has one";
 
-/// A kind, what stands behind the header, and the line at fault and what is wrong with it.
-const FAULTS: [(&str, &str, u64, &str); 20] = [
-    ("real", "", 1, SYMMETRY),
-    ("real general more", "", 1, SYMMETRY),
-    ("real banded", "", 1, SYMMETRY),
+/// A kind, what stands behind the header, and the line at fault, what is wrong with it, and what of it is shown.
+const FAULTS: [(&str, &str, u64, &str, &str); 20] = [
+    ("real", "", 1, SYMMETRY, ""),
+    (
+        "real general more",
+        "",
+        1,
+        SYMMETRY,
+        ", found: general more",
+    ),
+    ("real banded", "", 1, SYMMETRY, ", found: banded"),
     (
         "float general",
         "",
         1,
         "the fourth word is none of real, double, integer, unsigned-integer, complex, pattern",
+        ", found: float",
     ),
-    ("real general", "", 1, SIZE),
-    ("real general", "2 2\n", 2, SIZE),
-    ("real general", "2 2 -1\n", 2, SIZE),
+    ("real general", "", 1, SIZE, ""),
+    ("real general", "2 2\n", 2, SIZE, ", found: 2 2"),
+    ("real general", "2 2 -1\n", 2, SIZE, ", found: 2 2 -1"),
     (
         "real general",
         "%\n2 3 0\n",
         3,
         "the matrix is not square: 2 rows, 3 columns",
+        "",
     ),
     (
         "real general",
         "2 2 1\n3 1 1\n",
         3,
         "the row is out of range: 3, of rows 1 to 2",
+        "",
     ),
     (
         "real general",
         "2 2 1\n0 1 1\n",
         3,
         "the row is out of range: 0, of rows 1 to 2; they count from 1",
+        "",
     ),
     (
         "real general",
         "2 2 1\n\n1 -7 1\n",
         4,
         "the column is out of range: -7, of columns 1 to 2",
+        "",
     ),
-    ("real general", "2 2 1\n1 1\n", 3, NO_VALUE),
-    ("complex general", "2 2 1\n1 1 1\n", 3, NO_VALUE),
+    ("real general", "2 2 1\n1 1\n", 3, NO_VALUE, ", found: 1 1"),
+    (
+        "complex general",
+        "2 2 1\n1 1 1\n",
+        3,
+        NO_VALUE,
+        ", found: 1 1 1",
+    ),
     (
         "pattern general",
         "2 2 1\n1 1 1\n",
         3,
         "more words than the header tells of: a pattern has no values, and a comment a line of its own",
+        ", found: 1 1 1",
     ),
     (
         "real general",
-        "2 2 1\n1 1 abc\n",
+        "2 2 1\n 1 1 abc \r\n",
         3,
         "the value is no number",
+        ", found: 1 1 abc",
     ),
     (
         "complex general",
-        "2 2 1\n1 1 1 i\n",
+        "2 2 1\n1 1 1 \u{e9}123456789012345678901234567890123\n",
         3,
         "the value is no number",
+        ", found: 1 1 1 ??12345678901234567890123456789012...",
     ),
-    ("pattern general", "2 2 1\n1 x\n", 3, ENTRY),
-    ("pattern general", "2 2 1\n1\n", 3, ENTRY),
+    ("pattern general", "2 2 1\n1 x\n", 3, ENTRY, ", found: 1 x"),
+    ("pattern general", "2 2 1\n1\n", 3, ENTRY, ", found: 1"),
     (
         "pattern general",
         "2 2 2\n1 1\n",
         3,
         "the file ends too early: 1 entries of 2",
+        "",
     ),
     (
         "pattern general",
         "2 2 1\n1 1\n%\n2 2\n",
         5,
         "more entries than the size tells: 1",
+        ", found: 2 2",
     ),
 ];
 
 #[test]
 fn files_at_fault(rt: HostRuntime) -> Result<(), Fail> {
-    for (kind, rest, line, fault) in FAULTS {
+    for (kind, rest, line, fault, found) in FAULTS {
         let file = file_of(rt.alloc(), kind, rest)?;
-        let wanted = format!(in rt.alloc(); "line {line}: {fault}")?;
+        let wanted = format!(in rt.alloc(); "line {line}: {fault}{found}")?;
         assert!(&rt;
             told(rt.alloc(), &file)?.as_str() == wanted.as_str(),
             "{wanted}"
@@ -151,9 +173,14 @@ fn files_at_fault(rt: HostRuntime) -> Result<(), Fail> {
     Ok(())
 }
 
-/// What is told of a file of no kind.
+/// What is told of a file of no kind whose first line is blank.
 const UNKNOWN: &str =
     "line 1: this is neither a Matrix Market file, which begins with %%MatrixMarket, nor a Harwell-Boeing file";
+
+/// The same where the first line is `title`.
+const UNKNOWN_TITLE: &str =
+    "line 1: this is neither a Matrix Market file, which begins with %%MatrixMarket, nor a Harwell-Boeing file\
+    , found: title";
 
 /// Files whose first line is at fault, and what is told of them.
 const NO_HEADERS: [(&[u8], &str); 8] = [
@@ -162,18 +189,18 @@ const NO_HEADERS: [(&[u8], &str); 8] = [
         b"\x1f\x8b\x08\x00",
         "line 1: the file is compressed: use zcat FILE | rimopaku order -",
     ),
-    (b"3 3 3\n", UNKNOWN),
+    (b"title\n3 3 3\n", UNKNOWN_TITLE),
     (
         b"\n%%MatrixMarket matrix coordinate real general\n",
         UNKNOWN,
     ),
     (
         b"%%MatrixMarket vector coordinate real general\n",
-        "line 1: the second word of the first line is not matrix",
+        "line 1: the second word of the first line is not matrix, found: vector",
     ),
     (
         b"% a note\n%%MatrixMarket matrix coordinate real general\n",
-        "line 1: a comment stands before the first line, which must begin with %%MatrixMarket",
+        "line 1: a comment stands before the first line, which must begin with %%MatrixMarket, found: % a note",
     ),
     (
         b"%%MatrixMarket matrix array pattern general\n",
@@ -181,7 +208,7 @@ const NO_HEADERS: [(&[u8], &str); 8] = [
     ),
     (
         b"%%MatrixMarket matrix table real general\n",
-        "line 1: the third word of the first line is not coordinate or array",
+        "line 1: the third word of the first line is not coordinate or array, found: table",
     ),
 ];
 
@@ -244,7 +271,7 @@ const NO_ARRAYS: [(&str, &str); 7] = [
     ),
     (
         "real general\n2 2 4\n",
-        "line 2: here must stand the numbers of rows and columns of the array",
+        "line 2: here must stand the numbers of rows and columns of the array, found: 2 2 4",
     ),
     (
         "real general\n2 3\n",
@@ -256,15 +283,18 @@ const NO_ARRAYS: [(&str, &str); 7] = [
     ),
     (
         "real symmetric\n2 2\n1\n2\n3\n%\n4\n",
-        "line 7: more values than the array has places",
+        "line 7: more values than the array has places, found: 4",
     ),
     ("real general\n2 2\n1 2\n3 4\n", WORDS),
-    ("real general\n2 2\none\n", "line 3: the value is no number"),
+    (
+        "real general\n2 2\none\n",
+        "line 3: the value is no number, found: one",
+    ),
 ];
 
 /// What is wrong with a line that has more words than it must have.
 const WORDS: &str =
-    "line 3: more words than the header tells of: a pattern has no values, and a comment a line of its own";
+    "line 3: more words than the header tells of: a pattern has no values, and a comment a line of its own, found: 1 2";
 
 #[test]
 fn arrays(rt: HostRuntime) -> Result<(), Fail> {
@@ -309,7 +339,8 @@ isa                        3             3             4             0
     // rows out of order, one of them twice, in fields of one byte without space between them; right-hand sides
     (
         "title\n4 1 2 0 1\npsa 3 3 4\n(4i1)(I1) none\nF 1 0\n1355\n321\n2\n",
-        "line 4: in a Harwell-Boeing file here must stand the formats of pointers and rows, such as (16I5)",
+        "line 4: in a Harwell-Boeing file here must stand the formats of pointers and rows, such as (16I5)\
+        , found: (4i1)(I1) none",
     ),
     (
         "title\n4 1 2 0 1\npsa 3 3 4\n(4i1) (3I1) none\nF 1 0\n1355\n321\n2\n",
@@ -323,12 +354,20 @@ isa                        3             3             4             0
 
 /// The lines behind the title of a Harwell-Boeing file at fault, and what is told of it.
 const NO_BOEINGS: [(&str, &str); 14] = [
-    ("1 1 0 none\n", UNKNOWN),
-    ("1 1 0\n", UNKNOWN),
-    ("", UNKNOWN),
+    ("1 1 0 none\n", UNKNOWN_TITLE),
+    ("1 1 0\n", UNKNOWN_TITLE),
+    ("", UNKNOWN_TITLE),
     ("2 1 1 0\n", "line 2: the file ends before its last row"),
-    ("2 1 1 0\nRXA 1 1 1\n", KIND),
-    ("2 1 1 0\nRUA 1 1\n", KIND),
+    (
+        "2 1 1 0\nRXA 1 1 1\n",
+        "line 3: in a Harwell-Boeing file here must stand a type such as RUA, and the numbers of rows, \
+        columns and entries, found: RXA 1 1 1",
+    ),
+    (
+        "2 1 1 0\nRUA 1 1\n",
+        "line 3: in a Harwell-Boeing file here must stand a type such as RUA, and the numbers of rows, \
+        columns and entries, found: RUA 1 1",
+    ),
     (
         "2 1 1 0\nRSE 1 1 1 1\n",
         "line 3: the matrix is not assembled (its type ends in E): assemble it first",
@@ -339,11 +378,12 @@ const NO_BOEINGS: [(&str, &str); 14] = [
     ),
     (
         "2 1 1 0\nRUA 1 1 1\n(I4) (F8.2)\n",
-        "line 4: in a Harwell-Boeing file here must stand the formats of pointers and rows, such as (16I5)",
+        "line 4: in a Harwell-Boeing file here must stand the formats of pointers and rows, such as (16I5)\
+        , found: (I4) (F8.2)",
     ),
     (
         "2 1 1 0\nRUA 1 1 1\n(2I4) (I4)\n   1   x\n",
-        "line 5: here must stand numbers, as the formats of the fourth line tell",
+        "line 5: here must stand numbers, as the formats of the fourth line tell, found: 1   x",
     ),
     (
         "2 1 1 0\nRUA 1 1 1\n(2I4) (I4)\n   1   3\n",
@@ -362,10 +402,6 @@ const NO_BOEINGS: [(&str, &str); 14] = [
         "line 5: the file ends before its last row",
     ),
 ];
-
-/// What is wrong with a third line.
-const KIND: &str =
-    "line 3: in a Harwell-Boeing file here must stand a type such as RUA, and the numbers of rows, columns and entries";
 
 #[test]
 fn boeings(rt: HostRuntime) -> Result<(), Fail> {
@@ -434,7 +470,7 @@ fn rows_to_hold(rt: HostRuntime) -> Result<(), Fail> {
         ),
         (
             "1 2\n",
-            "line 1: here must stand the number of a row, alone",
+            "line 1: here must stand the number of a row, alone, found: 1 2",
         ),
     ] {
         let shown = match read_held(rt.alloc(), 3, text.as_bytes()) {

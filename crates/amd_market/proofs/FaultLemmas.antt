@@ -5,7 +5,7 @@ use Rattle.std.specs.Prelude.{IfSome}
 use Rattle.amd_lines.specs.Lines.{BeginsWith, line_number, TakesLines, TakesTelling, TakesNotes, FailsAt, rest_of, percent}
 use Rattle.amd_lines.proofs.LineLemmas.{known-append, number-append}
 use Rattle.amd_market.specs.Faults.{named_line}
-use Rattle.amd_market.specs.Faults.{IsToldBehind, last, end, reading, IsUnread, Blames}
+use Rattle.amd_market.specs.Faults.{IsToldBehind, last, end, reading, IsTold, IsUnread, Blames}
 use Rattle.amd_market.specs.Faults.{HasHeaderFault, HasUnknownFault}
 use Rattle.amd_market.specs.Faults.{HasBannerFault, HasKindFault, HasWordFault, header_words, banner_word, object_word, low}
 use Rattle.amd_market.specs.Headers.{format_text}
@@ -25,11 +25,11 @@ behind-more f is js rest (end h r) = end h r
 behind-more f is js rest (reading h) = reading h
 
 blames-more : (e : ReadError) (is js : List (List ℕ)) (rest : Option (List ℕ)) → Blames e js rest → Blames e (is ++ js) rest
-blames-more (error.Line n f) is js rest h = behind-more f is js rest h
+blames-more (error.Line n f found) is js rest h = behind-more f is js rest h
 blames-more (error.Input n x) is js rest h = tt
 
 blames-unread : (e : ReadError) (ls : List (List ℕ)) (rest : Option (List ℕ)) → IsUnread e → Blames e ls rest
-blames-unread (error.Line n f) ls rest h = reading h
+blames-unread (error.Line n f found) ls rest h = reading h
 blames-unread (error.Input n x) ls rest h = tt
 
 -- an error that no text spells
@@ -45,19 +45,18 @@ for-unread remaining a e h u = record {
 
 -- a fault of the lines that were read
 pub for-here : {R Z : Type 0} (remaining : R → Option (List ℕ)) (a b : LineReader R Z) (is : List (List ℕ)) (e : ReadError)
-    (f : ReadFault) → TakesLines remaining a b is → e ≡ error.Line b.lines f → IsToldBehind f is (rest_of remaining b) →
-    FailsFor remaining a e
+    (f : ReadFault) → TakesLines remaining a b is → IsTold b.lines f e → IsToldBehind f is (rest_of remaining b) → FailsFor remaining a e
 for-here remaining a b is e f h same k = record {
   lines = is;
   rest = rest_of remaining b;
-  named = ap named_line same ∙ h.counted;
+  named = ap named_line same.1 ∙ h.counted;
   took = h.took;
-  cause = subst (λ z. Blames z is (rest_of remaining b)) (sym same) k;
+  cause = subst (λ z. Blames z is (rest_of remaining b)) (sym same.1) k;
 }
 
 -- a fault of the line that says something
 pub for-telling : {R Z : Type 0} (remaining : R → Option (List ℕ)) (a b : LineReader R Z) (line : List ℕ) (e : ReadError) (f : ReadFault) →
-    TakesTelling percent remaining a b line → e ≡ error.Line b.lines f → IsToldBehind f (line ∷ []) (rest_of remaining b) →
+    TakesTelling percent remaining a b line → IsTold b.lines f e → IsToldBehind f (line ∷ []) (rest_of remaining b) →
     FailsFor remaining a e
 for-telling remaining a b line e f h same k = for-here remaining a b h.lines e f h.takes same
     (subst (λ ls. IsToldBehind f ls (rest_of remaining b)) (sym h.parts) (behind-more f h.before (line ∷ []) (rest_of remaining b) k))
@@ -69,13 +68,13 @@ at-end ls (Some bytes) rest h k = subst (BeginsWith ls bytes) k h
 
 -- a fault of a text that ends
 pub for-notes : {R Z : Type 0} (remaining : R → Option (List ℕ)) (a b : LineReader R Z) (e : ReadError) (f : ReadFault) →
-    TakesNotes percent remaining a b → e ≡ error.Line b.lines f → IsToldBehind f [] (Some []) → FailsFor remaining a e
+    TakesNotes percent remaining a b → IsTold b.lines f e → IsToldBehind f [] (Some []) → FailsFor remaining a e
 for-notes remaining a b e f h same k = record {
   lines = h.lines;
   rest = Some [];
-  named = ap named_line same ∙ h.takes.counted;
+  named = ap named_line same.1 ∙ h.takes.counted;
   took = at-end h.lines (rest_of remaining a) (rest_of remaining b) h.takes.took h.end;
-  cause = subst (λ z. Blames z h.lines (Some [])) (sym same)
+  cause = subst (λ z. Blames z h.lines (Some [])) (sym same.1)
       (subst (λ ls. IsToldBehind f ls (Some [])) (append-nil h.lines) (behind-more f h.lines [] (Some []) k));
 }
 

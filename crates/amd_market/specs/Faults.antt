@@ -1,5 +1,5 @@
 -- Which fault a line has.
-use Rattle.std.specs.Prelude.{◌≡◌, ◌≢◌, ◌<◌, ◌+◌, ℕ, ℤ, true, false, List, [], ◌∷◌, ◌++◌, Option, Some}
+use Rattle.std.specs.Prelude.{◌≡◌, ◌≢◌, ◌<◌, ◌+◌, ℕ, ℤ, true, false, List, [], ◌∷◌, ◌++◌, Option, Some, None}
 use Rattle.std.specs.Prelude.{length, drop, map, codes, slice_index}
 use Rattle.std.specs.List.{list_all}
 use Rattle.std.specs.Char.{to_ascii_lowercase}
@@ -12,6 +12,7 @@ use Rattle.amd_lines.specs.Lines.{is_note, percent}
 use Rattle.amd_market.specs.declared.headers.Format.{Format}
 use Rattle.amd_market.specs.declared.headers.Field.{Field}
 use Rattle.amd_market.specs.declared.headers.Header.{Header}
+use Rattle.amd_market.specs.declared.found.Found.{Found}
 use Rattle.amd_market.specs.declared.faults.ReadFault.{ReadFault}
 use Rattle.amd_market.specs.declared.faults.ReadFault.TheVariants as fault
 use Rattle.amd_market.specs.declared.faults.ReadError.{ReadError}
@@ -188,22 +189,26 @@ pub data IsToldBehind (f : ReadFault) (lines : List (List ℕ)) (rest : Option (
 
 -- the number of the line that an error names
 abbrev pub named_line : ReadError → ℕ
-named_line (Line line fault) = line
+named_line (Line line fault found) = line
 named_line (Input line error) = line
+
+-- the error tells this fault of this line; of what it shows of the line it says nothing here
+abbrev pub IsTold : ℕ → ReadFault → ReadError → Type 0
+IsTold n f e = (found : Option Found) × (e ≡ Line n f found)
 
 -- the error of a line that was not read, as an error of this reader
 abbrev pub read_error : ℕ → LineCause → ReadError
-read_error line cause.Long = Line line fault.Long
-read_error line cause.Lines = Line line fault.Lines
-read_error line cause.OutOfMemory = Line line fault.OutOfMemory
+read_error line cause.Long = Line line fault.Long None
+read_error line cause.Lines = Line line fault.Lines None
+read_error line cause.OutOfMemory = Line line fault.OutOfMemory None
 read_error line (cause.Input error) = Input line error
 
 -- an error of reading
 abbrev pub IsUnread : ReadError → Type 0
-IsUnread (Line n f) = IsOfReading f
+IsUnread (Line n f found) = IsOfReading f
 IsUnread (Input n error) = Unit {0}
 
 -- the same of an error; of an input that could not be read it says nothing
 abbrev pub Blames : ReadError → List (List ℕ) → Option (List ℕ) → Type 0
-Blames (Line n f) lines rest = IsToldBehind f lines rest
+Blames (Line n f found) lines rest = IsToldBehind f lines rest
 Blames (Input n error) lines rest = Unit {0}

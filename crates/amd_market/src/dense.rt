@@ -9,7 +9,7 @@ ghost use Rattle.amd_market.specs.Files.{TakesValues, FailsFor};
 use crate::arrays::{shape_of, value_of};
 use crate::faults::{ReadError, ReadFault};
 use crate::headers::{Field, Header, Symmetry};
-use crate::lines::{at_line, take_telling};
+use crate::lines::{at_end, at_line, take_telling};
 use crate::matrices::add_pairs;
 use amd_lines::lines::LineReader;
 use std::alloc::Allocator;
@@ -24,7 +24,7 @@ pub(crate) fn take_shape<R: Read + Drop, A: Allocator>(
     ensures fails { IfErr result (FailsFor R.remaining lines.old) }
 {
     if !take_telling(lines)? {
-        return Err(at_line(lines, ReadFault::Shape));
+        return Err(at_end(lines, ReadFault::Shape));
     }
     match shape_of(lines.line()) {
         Ok(n) => Ok(n),

@@ -5,6 +5,7 @@ ghost use Rattle.std.specs.Prelude.{◌≡◌};
 ghost use Rattle.amd_market.specs.Faults.{read_error};
 ghost use Rattle.amd_market.specs.declared.faults.ReadFault.TheVariants.{OutOfMemory};
 
+use crate::found::Found;
 use amd_lines::errors::{LineCause, LineError};
 use std::alloc::AllocFailed;
 use std::{fmt, io};
@@ -252,6 +253,8 @@ pub enum ReadError {
         line: u64,
         /// What is wrong with it.
         fault: ReadFault,
+        /// What stands in the line, where the fault does not tell.
+        found: Option<Found>,
     },
     /// The input could not be read.
     Input {
@@ -273,15 +276,28 @@ impl From<LineError> for ReadError {
             LineCause::Lines => ReadFault::Lines,
             LineCause::OutOfMemory => ReadFault::OutOfMemory,
         };
-        ReadError::Line { line, fault }
+        ReadError::Line {
+            line,
+            fault,
+            found: None,
+        }
     }
 }
 
 impl fmt::Display for ReadError {
     fn fmt<W: fmt::Write>(&self, f: &mut fmt::Formatter<W>) -> fmt::Result {
         match self {
-            ReadError::Line { line: 0, fault } => write!(f, "{fault}"),
-            ReadError::Line { line, fault } => write!(f, "line {line}: {fault}"),
+            ReadError::Line { line: 0, fault, .. } => write!(f, "{fault}"),
+            ReadError::Line {
+                line,
+                fault,
+                found: None,
+            } => write!(f, "line {line}: {fault}"),
+            ReadError::Line {
+                line,
+                fault,
+                found: Some(found),
+            } => write!(f, "line {line}: {fault}, found: {found}"),
             ReadError::Input { line: 0, error } => write!(f, "{error}"),
             ReadError::Input { line, error } => write!(f, "behind line {line}: {error}"),
         }

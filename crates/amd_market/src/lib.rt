@@ -51,6 +51,7 @@ pub mod entries;
 pub mod faults;
 mod fields;
 mod formats;
+pub mod found;
 pub mod headers;
 pub mod lines;
 pub mod matrices;

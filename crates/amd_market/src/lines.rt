@@ -4,10 +4,10 @@
 
 ghost use Rattle.std.specs.Prelude.{◌≡◌, IfOk, IfErr};
 ghost use Rattle.amd_lines.specs.Lines.{TakesLine, TakesNext, FailsAt, lines_read, percent};
-ghost use Rattle.amd_market.specs.Faults.{IsUnread, named_line};
-ghost use Rattle.amd_market.specs.declared.faults.ReadError.TheVariants as error;
+ghost use Rattle.amd_market.specs.Faults.{IsTold, IsUnread, named_line};
 
 use crate::faults::{ReadError, ReadFault};
+use crate::found::found_in;
 use amd_lines::lines::LineReader;
 use std::alloc::Allocator;
 use std::io::Read;
@@ -15,16 +15,31 @@ use std::io::Read;
 /// The most bytes that a line may have, with its line feed.
 pub const LONGEST_LINE: usize = 1 << 16;
 
-/// A fault of the line that was read last.
+/// A fault of the line that was read last, with what is wrong there.
 pub fn at_line<R: Read + Drop, A: Allocator>(
     lines: &LineReader<R, A>,
     fault: ReadFault,
 ) -> ReadError
-    ensures { result ≡ error.Line (lines_read lines.now) fault }
+    ensures { IsTold (lines_read lines.now) fault result }
 {
     ReadError::Line {
         line: lines.number(),
         fault,
+        found: found_in(lines.line(), fault),
+    }
+}
+
+/// A fault of a text that ends behind the line that was read last, where at that line it would be about its words.
+pub(crate) fn at_end<R: Read + Drop, A: Allocator>(
+    lines: &LineReader<R, A>,
+    fault: ReadFault,
+) -> ReadError
+    ensures { IsTold (lines_read lines.now) fault result }
+{
+    ReadError::Line {
+        line: lines.number(),
+        fault,
+        found: None,
     }
 }
 

@@ -17,7 +17,7 @@ use crate::dense::{take_shape, take_values};
 use crate::entries::{Size, entry_of, size_of};
 use crate::faults::{ReadError, ReadFault};
 use crate::headers::{Format, Header, header_of, unknown_fault};
-use crate::lines::{LONGEST_LINE, at_line, take_line, take_telling};
+use crate::lines::{LONGEST_LINE, at_end, at_line, take_line, take_telling};
 pub use crate::matrices::Matrix;
 use crate::matrices::{add_pairs, matrix_of, pairs_for};
 use amd_lines::lines::LineReader;
@@ -54,7 +54,7 @@ fn take_size<R: Read + Drop, A: Allocator>(lines: &mut LineReader<R, A>) -> Resu
     ensures fails { IfErr result (FailsFor R.remaining lines.old) }
 {
     if !take_telling(lines)? {
-        return Err(at_line(lines, ReadFault::Size));
+        return Err(at_end(lines, ReadFault::Size));
     }
     match size_of(lines.line()) {
         Ok(size) => Ok(size),

@@ -24,7 +24,7 @@ returns-in_default-clause-line g c =
     let inv = c.rows.invariant in
     names-line _ c.new-lines.result _ _ c.new-lines.ensures.source c.new-lines.ensures.lines
     (fails-behind _ _ _ inv.lines _ inv.takes
-    (fails-telling _ _ _ _ _ (rw c.if-not-branch.false at c.in_ok-take_telling.ensures.takes) (ap named_line c.at_line.ensures)))
+    (fails-telling _ _ _ _ _ (rw c.if-not-branch.false at c.in_ok-take_telling.ensures.takes) (ap named_line c.at_line.ensures.1)))
 
 pub returns-in_default-push-clause-line : goal.returns-in_default-push-clause-line
 returns-in_default-push-clause-line g c =
@@ -32,7 +32,7 @@ returns-in_default-push-clause-line g c =
     names-line _ c.new-lines.result _ _ c.new-lines.ensures.source c.new-lines.ensures.lines
     (fails-behind _ _ _ inv.lines _ inv.takes
     (fails-telling _ _ _ _ _ (rw c.if-not-branch.false at c.in_ok-take_telling.ensures.takes)
-    (ap named_line c.at_line-in_default-push.ensures)))
+    (ap named_line c.at_line-in_default-push.ensures.1)))
 
 pub rows-preserved : goal.rows-preserved
 rows-preserved g c =
@@ -43,4 +43,4 @@ pub returns-clause-line : goal.returns-clause-line
 returns-clause-line g c =
     let inv = c.rows.invariant in
     names-line _ c.new-lines.result _ _ c.new-lines.ensures.source c.new-lines.ensures.lines
-    (fails-behind _ _ _ inv.lines _ inv.takes (fails-still _ _ _ (ap named_line c.at_line-2.ensures)))
+    (fails-behind _ _ _ inv.lines _ inv.takes (fails-still _ _ _ (ap named_line c.at_line-2.ensures.1)))

@@ -30,7 +30,7 @@ returns-in_default-row_of-clause-line g c =
     names-line _ c.new-lines.result _ _ c.new-lines.ensures.source c.new-lines.ensures.lines
     (fails-behind _ _ _ inv.lines _ inv.takes
     (fails-telling _ _ _ _ _ (rw c.if-not-branch.false at c.in_ok-take_telling.ensures.takes)
-    (ap named_line c.at_line-in_default-row_of.ensures)))
+    (ap named_line c.at_line-in_default-row_of.ensures.1)))
 
 pub rows-preserved : goal.rows-preserved
 rows-preserved g c =

@@ -13,9 +13,9 @@ returns-in_err-take_telling-clause-fails g c =
 
 pub returns-then-not-branch-clause-fails : goal.returns-then-not-branch-clause-fails
 returns-then-not-branch-clause-fails g c =
-    for-notes _ _ _ _ _ (rw c.if-not-branch.true at c.in_ok-take_telling.ensures.takes) c.at_line.ensures (end tt refl)
+    for-notes _ _ _ _ _ (rw c.if-not-branch.true at c.in_ok-take_telling.ensures.takes) c.at_end.ensures (end tt refl)
 
 pub returns-in-Err-clause-fails : goal.returns-in-Err-clause-fails
 returns-in-Err-clause-fails g c =
-    for-telling _ _ _ _ _ _ (rw c.if-not-branch.false at c.in_ok-take_telling.ensures.takes) c.at_line-in-Err.ensures
+    for-telling _ _ _ _ _ _ (rw c.if-not-branch.false at c.in_ok-take_telling.ensures.takes) c.at_line.ensures
     (last [] (line_of c.take_telling.new.lines) refl (in_size (rw c.line.ensures at c.in-Err.ensures.fault)))
