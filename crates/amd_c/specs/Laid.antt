@@ -24,20 +24,22 @@ abbrev pub eliminated : List ℤ → List ℤ → List ℤ → List ℤ → Stat
 eliminated nv p q e_len statistics = record { nv = nv; p = p; q = q; e_len = e_len; statistics = statistics }
 
 -- there is a place for each of n rows
-abbrev pub HasRowsPlaces : ℕ → Eliminated → Type 0
-HasRowsPlaces n m = (length m.nv ≡ n) × (length m.p ≡ n) × (length m.q ≡ n) × (length m.e_len ≡ n)
+abbrev pub HasPlacesFor : ℕ → Eliminated → Type 0
+HasPlacesFor n m = (length m.nv ≡ n) × (length m.p ≡ n) × (length m.q ≡ n) × (length m.e_len ≡ n)
 
 -- the elimination of the lists that stood in iw stands in the arrays, and in pe
-pub record HoldsElimination (choice : Parameters) (iw pe : List ℤ) (len : List ℕ) (links : List ℤ) (m : Eliminated) :
-    Type 0 where
+pub record HoldsElimination (choice : Parameters) (iw pe : List ℤ) (len : List ℕ) (links : List ℤ)
+    (m : Eliminated) : Type 0 where
   pub info : Info
-  pub answers : (g : Graph) (lists : ℕ → List ℕ) → LaysGraph g lists iw pe len → AnswersInPlace g lists None (length len)
-      choice.dense choice.aggressive m.p m.q m.nv m.e_len links (fresh_info (length len)) info
+  pub answers : (g : Graph) (lists : ℕ → List ℕ) → LaysGraph g lists iw pe len →
+      AnswersInPlace g lists None (length len) choice.dense choice.aggressive m.p m.q m.nv m.e_len links
+      (fresh_info (length len)) info
   pub compactions : info.n_cmp_a ≤ length len
   pub told : m.statistics ≡ statistics_of info
 
 -- what a call with this status leaves: the elimination, or after a refusal all as it was
-abbrev pub LeavesElimination : Parameters → List ℤ → List ℤ → List ℕ → List ℤ → Eliminated → Eliminated → Status → Type 0
+abbrev pub LeavesElimination : Parameters → List ℤ → List ℤ → List ℕ → List ℤ → Eliminated → Eliminated → Status →
+    Type 0
 LeavesElimination choice iw pe len links old new OK = HoldsElimination choice iw pe len links new
 LeavesElimination choice iw pe len links old new OutOfMemory = new ≡ old
 LeavesElimination choice iw pe len links old new Invalid = ⊥
