@@ -53,3 +53,7 @@ pub mod SupernodeTree
 pub mod RowClimbs
 pub mod SupernodeRows
 pub mod NoSupernodes
+-- The columns that they stand for, and their laws.
+pub mod Appending
+pub mod SupernodeFigures
+pub mod BlocksInside

@@ -25,3 +25,4 @@ pub mod Meetings
 -- The columns by supernodes.
 pub mod Supernodes
 pub mod Partitions
+pub mod SupernodeLaws

@@ -18,6 +18,8 @@
 //! | `needs`, `counted`, `counting` | What a factor needs; [`counts`], [`analyze_counts`] and [`analyze_counts_holding`] |
 //! | `analysis` | [`analyze`] and [`analyze_holding`]: an ordering, and the factor under it |
 //! | `partition`, `below`, `blocks`, `supernodal` | [`supernodes`]: the places are cut into supernodes by the counts, and the rows climb through these |
+//! | `expanding` | [`expand`]: the columns of supernodes |
+//! | `supernode_laws` | Laws of the supernodes |
 //! | `laws` | Laws of the factor and on the contracts above |
 #![tactic(auto)]
 
@@ -29,6 +31,7 @@ pub mod children;
 pub mod column;
 pub mod counted;
 pub mod counting;
+pub mod expanding;
 pub mod factor;
 pub mod fill;
 pub mod gathering;
@@ -42,6 +45,7 @@ pub mod places;
 pub mod ranks;
 pub mod sizes;
 pub mod supernodal;
+pub mod supernode_laws;
 pub mod sweep;
 pub mod tree;
 
@@ -49,5 +53,6 @@ pub use analysis::{analyze, analyze_holding};
 pub use blocks::Supernodes;
 pub use counted::Counts;
 pub use counting::{analyze_counts, analyze_counts_holding, counts};
+pub use expanding::expand;
 pub use factor::{Factor, Fault, columns};
 pub use supernodal::supernodes;
