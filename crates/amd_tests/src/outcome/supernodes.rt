@@ -3,7 +3,7 @@
 // input or the order is none.
 
 use crate::outcome::counts::shuffle;
-use crate::outcome::worked::{FactorCase, FOUR_CYCLE, WORKED};
+use crate::outcome::worked::{FOUR_CYCLE, FactorCase, WORKED};
 use amd::{Control, order};
 use amd_symbolic::{Fault, Supernodes, supernodes};
 use amd_testing::check;
