@@ -112,9 +112,11 @@ static int32_t NAME(eliminate)(INT n, INT begins[], INT lists[], size_t places, 
                                INT Elen[], const struct rimopaku_parameters *parameters, struct rimopaku_statistics *told)
 {
     size_t size = (size_t)n, words = (size_t)begins[n];
-    int32_t status = rimopaku_amd_2_i64(n, begins, size, lists, places, (size_t *)Len, size, words, parameters, Nv, size, Next, size, Last,
-                                        size, Elen, size, told);
+    int32_t status = RIMOPAKU_OUT_OF_MEMORY;
 
+    if (has_memory(size, 0))
+        status = rimopaku_amd_2_i64(n, begins, size, lists, places, (size_t *)Len, size, words, parameters, Nv, size, Next, size, Last,
+                                    size, Elen, size, told);
     memcpy(Pe, begins, size * sizeof(INT));
     return status;
 }
@@ -123,8 +125,8 @@ static int32_t NAME(eliminate)(INT n, INT begins[], INT lists[], size_t places, 
 static int32_t NAME(eliminate)(INT n, INT begins[], INT lists[], size_t places, INT Len[], INT Pe[], INT Nv[], INT Next[], INT Last[],
                                INT Elen[], const struct rimopaku_parameters *parameters, struct rimopaku_statistics *told)
 {
-    size_t size = (size_t)n, words = (size_t)begins[n], room = words + words / 5 + size;
-    int64_t *pe = (int64_t *)malloc((6 * size + room) * sizeof(int64_t));
+    size_t size = (size_t)n, words = (size_t)begins[n], room = words + words / 5 + size, bytes = (6 * size + room) * sizeof(int64_t);
+    int64_t *pe = has_memory(size, bytes) ? (int64_t *)malloc(bytes) : NULL;
     int64_t *len, *nv, *next, *last, *e_len, *iw;
     int32_t status;
     (void)places;
