@@ -1,4 +1,5 @@
 pub mod HeldLemmas
+pub mod RowFaults
 pub mod Pieces
 pub mod Members
 pub mod Placing

@@ -5,9 +5,9 @@ ghost use Rattle.std.specs.Prelude.{◌≡◌, pos, map, IfOk, IfErr, IfSome, Is
 ghost use Rattle.std.specs.Char.{is_ascii};
 ghost use Rattle.std.specs.List.{list_all};
 ghost use Rattle.std.specs.Io.KnownBytes.{Appends};
-ghost use Rattle.amd_market.specs.Files.{NamesLine};
 ghost use Rattle.amd_symbolic.specs.Counted.{IsCountsFault};
 ghost use Rattle.amd_texts.specs.Texts.{labelled};
+ghost use Rattle.amd_command.specs.Held.{NamesNoRow};
 ghost use Rattle.amd_command.specs.Comparisons.{IsNeedUnder, ListsRows, compared_line, comparison_lines, figure_of};
 ghost use Rattle.amd_command.specs.Comparisons.{standing_rows, three_figures, two_figures};
 
@@ -68,15 +68,15 @@ pub fn standing_order<A: Allocator>(alloc: A, n: usize) -> Result<Vec<usize, A>,
 ///
 /// # Errors
 ///
-/// `Line` for a line at fault or refused memory; `Input` where the input cannot be read. Each names the line that was
-/// read last.
+/// `Line` for the first line that says something but is no row, for one that is too long, and where memory was refused;
+/// `Input` where the input cannot be read. Each names the line that was read last.
 pub fn read_rows<R: Read + Drop, A: Allocator + Copy>(
     alloc: A,
     n: usize,
     input: R,
 ) -> Result<Vec<usize, A>, ReadError>
     ensures rows { IfOk result (λ v. IfSome (R.remaining input) (λ bytes. ListsRows bytes n v.items)) }
-    ensures line { IfErr result (λ e. IfSome (R.remaining input) (λ bytes. NamesLine bytes e)) }
+    ensures line { IfErr result (λ e. IfSome (R.remaining input) (λ bytes. NamesNoRow bytes n e)) }
 {
     let mut lines = LineReader::new(alloc, input, LONGEST_LINE);
     let mut rows = Vec::new(alloc);

@@ -3,8 +3,7 @@
 // `program`; `compare` reads its lines in the same way.
 
 ghost use Rattle.std.specs.Prelude.{◌≡◌, ℕ, length, IfOk, IfErr, IfSome, MatchOption};
-ghost use Rattle.amd_market.specs.Files.{NamesLine};
-ghost use Rattle.amd_command.specs.Held.{SpellsRow, MarksRows};
+ghost use Rattle.amd_command.specs.Held.{SpellsRow, MarksRows, NamesNoRow};
 
 use amd_lines::lines::LineReader;
 use amd_lines::words::first_word;
@@ -37,8 +36,8 @@ pub fn held_fault(line: &[u8], n: usize) -> ReadFault {
 ///
 /// # Errors
 ///
-/// `Line` for a line at fault or refused memory; `Input` where the input cannot be read. Each names the line that was
-/// read last.
+/// `Line` for the first line that says something but is no row, for one that is too long, and where memory was refused;
+/// `Input` where the input cannot be read. Each names the line that was read last.
 pub fn read_held<R: Read + Drop, A: Allocator + Copy>(
     alloc: A,
     n: usize,
@@ -46,7 +45,7 @@ pub fn read_held<R: Read + Drop, A: Allocator + Copy>(
 ) -> Result<Vec<bool, A>, ReadError>
     ensures size { IfOk result (λ v. length v.items ≡ n) }
     ensures marks { IfOk result (λ v. IfSome (R.remaining input) (λ bytes. MarksRows bytes n v.items)) }
-    ensures line { IfErr result (λ e. IfSome (R.remaining input) (λ bytes. NamesLine bytes e)) }
+    ensures line { IfErr result (λ e. IfSome (R.remaining input) (λ bytes. NamesNoRow bytes n e)) }
 {
     let mut lines = LineReader::new(alloc, input, LONGEST_LINE);
     let Ok(mut marks) = vec![in alloc; false; n] else {
