@@ -1,5 +1,5 @@
--- Numbers of words: of a walk over the words of a list, of the rest of a list, and of what words can count.
-use Rattle.std.proofs.Common.{ℕ, ◌≡◌, ◌<◌, ◌≤◌, ◌+◌, ◌-◌, ◌^◌, arith}
+-- Numbers of words: of a walk over the words of a list, and of the rest of a list.
+use Rattle.std.proofs.Common.{ℕ, ◌≡◌, ◌<◌, ◌≤◌, ◌+◌, ◌-◌, arith}
 
 -- a walk over count words from a place on has passed all of them at its end, fewer before, and none at first
 pub all_passed : (p from count : ℕ) → from ≤ p → p ≤ from + count → from + count ≤ p → p - from ≡ count
@@ -17,7 +17,3 @@ none_passed from = omega arith
 -- the words behind the first few are among those of the list
 pub rest_within : (from few count long : ℕ) → few ≤ count → from + count ≤ long → (from + few) + (count - few) ≤ long
 rest_within from few count long parts within = omega arith
-
--- the place of a list's last word is of the type
-pub before_fits : (from left count long : ℕ) → left ≤ count → from + count ≤ long → long < 2 ^ 63 → from + (left - 1) < 2 ^ 64
-before_fits from left count long within inside short = omega arith
