@@ -14,7 +14,7 @@ pub record Meets (nv : List ℤ) (xs : List ℕ) (left : ℕ) (nv' : List ℤ) (
   pub front : (j : ℕ) → in_front nv' j ≡ (in_front nv j || has xs j)
   pub left_is : left' ≡ left - length (firsts (in_front nv) xs)
 
--- some rows are not in the front any more
+-- some rows have left the front
 pub record Unmarks (nv : List ℤ) (xs : List ℕ) (nv' : List ℤ) : Type 0 where
   pub wide : length nv' ≡ length nv
   pub sizes : (j : ℕ) → size_of nv' j ≡ size_of nv j

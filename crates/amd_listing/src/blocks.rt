@@ -14,7 +14,7 @@ use crate::rows::put_listed;
 use amd_postorder::link::Link;
 use amd_words::{Cell, Signed, Unsigned, Word, cell_at, put_cell, row_at};
 
-/// Writes the element of each place of a listing, and answers how many there are.
+/// Writes the element of each place of a listing. Returns how many elements there are.
 pub fn by_place<U: Unsigned>(order: &[Cell<U>], elements: &mut [Cell<U>]) -> usize
     requires room { length elements.old ≡ length order.now }
     requires narrow { length order.now ≤ U.MOST }

@@ -42,7 +42,7 @@ fn shortcut<S: Signed>(link: &mut [Word<S>], nv: &[Word<S>], v: usize, root: usi
     }
 }
 
-/// The element to which the links from a row lead that is none itself. They are shortened where there is more than one.
+/// The element to which the links from a row lead, where the row is no element. Two or more links are shortened.
 fn element_of<S: Signed>(link: &mut [Word<S>], nv: &[Word<S>], v: usize) -> usize
     requires led { (home : ℕ → Home) × LinksAre (length nv.now) link.old nv.now home × (gone_at (home v) ≡ true) }
     requires apart { size_of nv.now v ≡ 0 }

@@ -22,7 +22,7 @@ pub record View : Type 0 where
   pub least : ℕ
   -- the number of live rows
   pub live : ℕ
-  -- where a row went that represents no class any more, and the parent of an element
+  -- where a row went that no longer represents a class, and the parent of an element
   pub link : ℕ → Option ℕ
   pub parent : ℕ → Option ℕ
   -- the number of rows of the block of each element, 0 for what is no element; and that of block and border

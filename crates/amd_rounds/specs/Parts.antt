@@ -108,7 +108,7 @@ pub record RaisesFlag (me border most_cell : ℕ) (p v : Workspace) : Type 0 whe
   pub renewed : KeepsOrResets most_cell (p.flag + max p.most border) p.w first flag
   pub rises : (flag ≤ v.flag) × (v.flag ≤ flag + num p.len me)
 
--- the rows of the block are not live any more, and the classes of the front that are alike were merged
+-- the rows of the block are no longer live, and the classes of the front that are alike were merged
 pub record MergesFront (n me block border : ℕ) (p v : Workspace) : Type 0 where
   pub merged : MergesAll (classes p.nv (front_at p me))
       (represents_in p.iw p.pe p.e_len p.len (classes p.nv (front_at p me))) p.pe p.e_len

@@ -101,12 +101,12 @@ fn copy_column<I: PrimInt, S: Signed>(
     iw: &mut [Word<S>],
     free: usize,
 ) -> usize
+    requires row { i < size }
+    requires fits { size ≤ S.MOST }
     requires form { IsColumnForm (pos size) size (map I.value a_p.now) (map I.value a_i.now) }
     requires sorted { IsSorted size (map I.value a_p.now) (map I.value a_i.now) }
-    requires row { i < size }
     requires room { free + count_below size (is_other size (map I.value a_p.now) (map I.value a_i.now) i) <
         length iw.old }
-    requires fits { size ≤ S.MOST }
     ensures copies { Copies size free
         (list_below size (is_other size (map I.value a_p.now) (map I.value a_i.now) i)) iw.old iw.new result }
 {
