@@ -53,7 +53,8 @@ pub mod SupernodeTree
 pub mod RowClimbs
 pub mod SupernodeRows
 pub mod NoSupernodes
--- The columns that they stand for, and their laws.
+-- Their sizes, the columns that they stand for, and their laws.
+pub mod SupernodeRoom
 pub mod Appending
 pub mod SupernodeFigures
 pub mod BlocksInside

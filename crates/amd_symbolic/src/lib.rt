@@ -5,7 +5,8 @@
 //! from [`amd::order`] and the room from its record, and [`analyze_holding`] does the same with rows that a caller
 //! wants last. [`counts`] counts the entries of the columns without writing them; [`analyze_counts`] does so under the
 //! order from [`amd::order`], and [`analyze_counts_holding`] with rows held last. [`needs::need_of`] sums what a factor
-//! needs. [`supernodes`] takes what `columns` takes but a room, and returns the columns by supernodes.
+//! needs. [`supernodes`] takes what `columns` takes but a room, and returns the columns by supernodes; [`expand`] makes
+//! these columns from them.
 //!
 //! The modules, each over those before it:
 //!
@@ -18,7 +19,7 @@
 //! | `needs`, `counted`, `counting` | What a factor needs; [`counts`], [`analyze_counts`] and [`analyze_counts_holding`] |
 //! | `analysis` | [`analyze`] and [`analyze_holding`]: an ordering, and the factor under it |
 //! | `partition`, `below`, `blocks`, `supernodal` | [`supernodes`]: the places are cut into supernodes by the counts, and the rows climb through these |
-//! | `expanding` | [`expand`]: the columns of supernodes |
+//! | `room`, `expanding` | [`supernode_sizes`]: how much room they need; [`expand`]: their columns |
 //! | `supernode_laws` | Laws of the supernodes |
 //! | `laws` | Laws of the factor and on the contracts above |
 #![tactic(auto)]
@@ -43,6 +44,7 @@ pub mod neighbours;
 pub mod partition;
 pub mod places;
 pub mod ranks;
+pub mod room;
 pub mod sizes;
 pub mod supernodal;
 pub mod supernode_laws;
@@ -55,4 +57,5 @@ pub use counted::Counts;
 pub use counting::{analyze_counts, analyze_counts_holding, counts};
 pub use expanding::expand;
 pub use factor::{Factor, Fault, columns};
+pub use room::{SupernodeSizes, supernode_sizes};
 pub use supernodal::supernodes;
