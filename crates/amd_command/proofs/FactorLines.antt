@@ -5,6 +5,7 @@ use Rattle.std.specs.Io.KnownBytes.{Appends}
 use Rattle.amd_texts.proofs.Padding.{labelled-from_format}
 use Rattle.amd_texts.proofs.Written.{Appends-then}
 use Rattle.amd_command.specs.Analyses.{bound_line, column_line, column_lines, row_at_parent}
+use Rattle.amd_command.specs.Texts.{supernode_line, supernode_lines, tree_number}
 
 -- the line of a figure and its bound, as the format writes it
 pub beside-from_format : (label shown : List ℕ) (exact bound : ℕ) (old new : Option (List ℕ)) →
@@ -37,3 +38,19 @@ columns-next p sizes parent k row above size a b c r u s first next =
     (sym (six-texts (decimal row) (codes " ") (decimal above) (codes " ") (decimal size) (codes "\n"))) next in
     let line : Appends b c (column_line p sizes parent k) = rw (r, u, s) at whole in
     subst (λ m. Appends a c (column_lines p sizes parent m)) (sym step) (Appends-then a b c (column_lines p sizes parent k) _ first line)
+
+-- a writer that took the lines of the first k supernodes, and then the next one
+pub supernodes-next : (first ptr : List ℕ) (parent : List (Option ℕ)) (k begin end above below : ℕ) (a b c : Option (List ℕ)) →
+    begin ≡ slice_index first k + 1 → end ≡ slice_index first (k + 1) → above ≡ tree_number (slice_index_or parent k None)
+    → below ≡ slice_index ptr (k + 1) - slice_index ptr k → Appends a b (supernode_lines first ptr parent k)
+    → Appends b c (decimal begin ++ (codes " " ++ (decimal end ++ (codes " " ++ (decimal above ++ (codes " "
+    ++ (decimal below ++ codes "\n")))))))
+    → Appends a c (supernode_lines first ptr parent (k + 1))
+supernodes-next first ptr parent k begin end above below a b c f l u n before next =
+    let step : k + 1 ≡ suc k = omega arith in
+    let whole : decimal begin ++ codes " " ++ decimal end ++ codes " " ++ decimal above ++ codes " " ++ decimal below ++ codes "\n"
+    ≡ decimal begin ++ (codes " " ++ (decimal end ++ (codes " " ++ (decimal above ++ (codes " " ++ (decimal below ++ codes "\n")))))) =
+    simp append_assoc in
+    let line : Appends b c (supernode_line first ptr parent k) = rw (f, l, u, n) at (subst (Appends b c) (sym whole) next) in
+    subst (λ m. Appends a c (supernode_lines first ptr parent m)) (sym step)
+    (Appends-then a b c (supernode_lines first ptr parent k) _ before line)

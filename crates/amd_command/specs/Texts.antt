@@ -1,5 +1,6 @@
 -- The texts that the command writes.
-use Rattle.std.specs.Prelude.{◌+◌, ℕ, zero, suc, Option, None, Some, List, ◌++◌, codes, decimal, flat_map}
+use Rattle.std.specs.Prelude.{◌+◌, ◌-◌, ℕ, zero, suc, Option, None, Some, List, [], ◌++◌, codes, decimal, flat_map}
+use Rattle.std.specs.Prelude.{slice_index, slice_index_or}
 use Rattle.amd_types.specs.declared.amd.Info.{Info}
 use Rattle.amd_types.specs.declared.amd.Status.{Status}
 use Rattle.amd_types.specs.declared.amd.Status.TheVariants.{OK, Invalid, OkButJumbled, OutOfMemory}
@@ -54,3 +55,15 @@ tree_line parent = decimal (tree_number parent) ++ codes "\n"
 
 abbrev pub tree_lines : List (Option ℕ) → List ℕ
 tree_lines parents = flat_map tree_line parents
+
+-- the line of supernode s: its first and its last column, the number of its parent, and that of the rows below its block
+abbrev pub supernode_line : List ℕ → List ℕ → List (Option ℕ) → ℕ → List ℕ
+supernode_line first ptr parent s =
+    decimal (slice_index first s + 1) ++ codes " " ++ decimal (slice_index first (s + 1)) ++ codes " "
+    ++ decimal (tree_number (slice_index_or parent s None)) ++ codes " "
+    ++ decimal (slice_index ptr (s + 1) - slice_index ptr s) ++ codes "\n"
+
+-- the lines of the first k supernodes
+abbrev pub supernode_lines : List ℕ → List ℕ → List (Option ℕ) → ℕ → List ℕ
+supernode_lines first ptr parent zero = []
+supernode_lines first ptr parent (suc k) = supernode_lines first ptr parent k ++ supernode_line first ptr parent k

@@ -91,8 +91,8 @@ fn row_at_parent(p: &[usize], parent: Option<usize>) -> u128
     }
 }
 
-/// The parent of column `k`.
-fn parent_at(parents: &[Option<usize>], k: usize) -> Option<usize>
+/// The parent of column, or supernode, `k`.
+pub fn parent_at(parents: &[Option<usize>], k: usize) -> Option<usize>
     ensures { result ≡ slice_index_or parents.now k None }
 {
     parents.get(k).copied().unwrap_or(None)

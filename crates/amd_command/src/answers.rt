@@ -14,11 +14,11 @@ use crate::ordering::order_matrix;
 use crate::permuted::{permuted, write_matrix};
 use crate::request::Options;
 use crate::rows::write_rows;
-use crate::tree::write_tree;
+use crate::tree::{write_supernodes, write_tree};
 use amd::{Control, Info};
 use amd_market::reader::Matrix;
-use amd_symbolic::counts;
 use amd_symbolic::needs::Need;
+use amd_symbolic::{counts, supernodes};
 use std::alloc::Global;
 
 /// What an ordering, or an analysis, writes beside the pictures.
@@ -30,7 +30,7 @@ pub struct Texts {
     pub figures: String,
     /// The permuted matrix, where it is asked for.
     pub permuted: Option<Vec<u8>>,
-    /// The elimination tree, where it is asked for.
+    /// The elimination tree and its supernodes, where they are asked for.
     pub tree: Option<Vec<u8>>,
 }
 
@@ -78,7 +78,7 @@ fn permuted_text(
     Ok(Some(text))
 }
 
-/// The text of the elimination tree, where it is asked for.
+/// The text of the elimination tree and of its supernodes, where it is asked for.
 fn tree_text(
     alloc: Global,
     options: &Options<'_>,
@@ -91,6 +91,8 @@ fn tree_text(
     let counted = counts(alloc, matrix.n, &matrix.a_p, &matrix.a_i, p)?;
     let mut text = Vec::new(alloc);
     write_tree(&counted.parent, &mut text)?;
+    let made = supernodes(alloc, matrix.n, &matrix.a_p, &matrix.a_i, p)?;
+    write_supernodes(&made, &mut text)?;
     Ok(Some(text))
 }
 

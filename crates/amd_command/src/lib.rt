@@ -1,6 +1,6 @@
 //! The command `rimopaku`: it reads a matrix from a file of the Matrix Market, orders it, works out its exact factor or
-//! tells what it is, and writes the permutation or the columns, figures, the permuted matrix, the elimination tree and
-//! pictures, as text or JSON. The program `rimopaku` hands in its arguments.
+//! tells what it is, and writes the permutation or the columns, figures, the permuted matrix, the elimination tree, the
+//! supernodes and pictures, as text or JSON. The program `rimopaku` hands in its arguments.
 //!
 //! What is read, ordered and written stands in functions over readers and writers, with contracts. What is tested
 //! alone: the words of the command line (`request`), which parts an answer has (`answers`), the files that are opened

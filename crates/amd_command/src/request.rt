@@ -31,7 +31,7 @@ pub struct Options<'a> {
     pub with: Option<&'a str>,
     /// The file for the permuted matrix.
     pub permuted: Option<&'a str>,
-    /// The file for the elimination tree.
+    /// The file for the elimination tree and its supernodes.
     pub tree: Option<&'a str>,
     /// The file for the picture.
     pub picture: Option<&'a str>,
@@ -161,7 +161,8 @@ fn order_command<'a>(alloc: Global) -> Result<Command<'a>, AllocError> {
         "Write the permutation to PATH and not to standard output",
     )?;
     let permuted = "Write the matrix in the new order to PATH, as a pattern";
-    let tree = "Write the parent of each column in the elimination tree to PATH, 0 for a root";
+    let tree =
+        "Write the elimination tree to PATH: the parent of each column, 0 for a root; and then the supernodes";
     let command = command
         .arg(path_argument(alloc, "permuted", permuted))?
         .arg(path_argument(alloc, "tree", tree))?;

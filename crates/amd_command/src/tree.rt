@@ -1,10 +1,13 @@
 // The text of an elimination tree: the number of the parent of each column in a line, from 1 on, 0 for a root. Columns
-// are numbered as they are eliminated. Called by `answers`.
+// are numbered as they are eliminated. And the lines of the supernodes that the tree is cut into. Called by `answers`.
 
-ghost use Rattle.std.specs.Prelude.{◌≡◌, OnOk};
+ghost use Rattle.std.specs.Prelude.{◌≡◌, OnOk, length, slice_index};
 ghost use Rattle.std.specs.Io.KnownBytes.{Appends};
-ghost use Rattle.amd_command.specs.Texts.{tree_lines, tree_number};
+ghost use Rattle.amd_command.specs.Texts.{supernode_lines, tree_lines, tree_number};
 
+use crate::analysis::parent_at;
+use amd_symbolic::Supernodes;
+use std::alloc::Allocator;
 use std::io;
 use std::io::Write;
 
@@ -29,6 +32,34 @@ pub fn write_tree<W: Write>(parents: &[Option<usize>], out: &mut W) -> io::Resul
     'columns: for &parent in parents {
         let number = tree_number(parent);
         writeln!(out, "{number}")?;
+    }
+    Ok(())
+}
+
+/// What a list has at place `k`; 0 where it has nothing there.
+fn number_at(list: &[usize], k: usize) -> usize
+    ensures { result ≡ slice_index list.now k }
+{
+    list.get(k).copied().unwrap_or(0)
+}
+
+/// Writes a line for each supernode: its first and its last column, the number of its parent, or 0 where it has none,
+/// and how many rows its columns have below its block. Columns and supernodes count from 1.
+///
+/// # Errors
+///
+/// The writer's, of the first write that fails. What was written before stays written.
+pub fn write_supernodes<W: Write, A: Allocator>(made: &Supernodes<A>, out: &mut W) -> io::Result<()>
+    ensures { OnOk result (Appends (W.contents out.old) (W.contents out.new)
+        (supernode_lines made.now.first.items made.now.ptr.items made.now.parent.items
+        (length made.now.parent.items))) }
+{
+    'supernodes: for s in 0..made.parent.len() {
+        let first = number_at(&made.first, s) as u128 + 1;
+        let last = number_at(&made.first, s + 1);
+        let parent = tree_number(parent_at(&made.parent, s));
+        let rows = number_at(&made.ptr, s + 1).saturating_sub(number_at(&made.ptr, s));
+        writeln!(out, "{first} {last} {parent} {rows}")?;
     }
     Ok(())
 }

@@ -1,6 +1,6 @@
 // What is written beside the permutation and the figures: what the factor needs under several orders, the permuted
-// matrix, the elimination tree, both pictures whole, and the answers as JSON, read with the kit's reader. The matrix is
-// the path of three rows, the orders and what they need were worked by hand.
+// matrix, the elimination tree and its supernodes, both pictures whole, and the answers as JSON, read with the kit's
+// reader. The matrix is the path of three rows, the orders and what they need were worked by hand.
 
 use crate::outputs::PATH;
 use amd_command::compare::{
@@ -11,10 +11,10 @@ use amd_command::json::{write_facts_json, write_order_json};
 use amd_command::ordering::order_matrix;
 use amd_command::permuted::{permuted, write_matrix};
 use amd_command::picture::write_picture;
-use amd_command::tree::write_tree;
+use amd_command::tree::{write_supernodes, write_tree};
 use amd_command::tree_picture::write_tree_picture;
 use amd_market::reader::{Matrix, read_matrix};
-use amd_symbolic::{Fault, counts};
+use amd_symbolic::{Fault, counts, supernodes};
 use serde_json::Value;
 use std::alloc::Global;
 use std::test::Fail;
@@ -58,6 +58,20 @@ const PICTURE: &str = "<svg xmlns=\"http://www.w3.org/2000/svg\" width=\"860\" h
 /// The path.
 fn path(alloc: Global) -> Result<Matrix<Global>, Fail> {
     Ok(read_matrix(alloc, PATH.as_bytes())?)
+}
+
+/// The first column of the path in its order is a supernode with the row 3, and the other two are its parent.
+#[test]
+fn supernodes_of_the_path(rt: HostRuntime) -> Result<(), Fail> {
+    let alloc = rt.alloc();
+    let matrix = path(alloc)?;
+    let Ok(made) = supernodes(alloc, 3, &matrix.a_p, &matrix.a_i, &ORDER) else {
+        panic!(&rt; "no supernodes");
+    };
+    let mut lines = Vec::new(alloc);
+    assert!(&rt; write_supernodes(&made, &mut lines).is_ok());
+    assert!(&rt; lines.as_slice() == b"1 1 2 1\n2 3 0 0\n".as_slice());
+    Ok(())
 }
 
 /// What the factor of the path needs under three orders.

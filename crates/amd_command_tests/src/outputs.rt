@@ -13,7 +13,9 @@ use amd_command::permuted::{permuted, write_matrix};
 use amd_command::picture::write_picture;
 use amd_command::request::{Request, request_of, thousandths_of};
 use amd_command::rows::write_rows;
+use amd_command::tree::{write_supernodes, write_tree};
 use amd_market::reader::read_matrix;
+use amd_symbolic::supernodes;
 use amd_testing::refusing::{Refusing, each_refused};
 use amd_testing::writers::{Faulty, WriterFault};
 use std::alloc::{Allocator, Global};
@@ -76,7 +78,8 @@ const FIVE_FIGURES: &str = "    rows                                            
     largest column, with its diagonal                   3, at most 3
 ";
 
-/// Reads the path, orders it with the second row held last, tells what it is, works out the factor, and draws it.
+/// Reads the path, orders it with the second row held last, tells what it is, works out the factor and its supernodes,
+/// and draws it.
 fn write_all_of<W: Write, A: Allocator + Copy>(alloc: A, out: &mut W) -> Result<(), Cause> {
     let matrix = read_matrix(alloc, PATH.as_bytes()).map_err(Cause::Text)?;
     let marks = read_held(alloc, matrix.n, "2\n".as_bytes()).map_err(Cause::Text)?;
@@ -89,6 +92,9 @@ fn write_all_of<W: Write, A: Allocator + Copy>(alloc: A, out: &mut W) -> Result<
     write_columns(&analysis.p, &analysis.counts, out)?;
     write_comparison(&analysis.counts.need, &analysis.info, matrix.repeats, out)?;
     write_matrix(&permuted(alloc, &matrix, &p)?, out)?;
+    write_tree(&analysis.counts.parent, out)?;
+    let made = supernodes(alloc, matrix.n, &matrix.a_p, &matrix.a_i, &p)?;
+    write_supernodes(&made, out)?;
     write_picture(alloc, &matrix, &p, false, out)
 }
 
@@ -113,7 +119,8 @@ fn decimal_parameters(rt: HostRuntime) {
     }
 }
 
-/// Row 2 is held last. Row 3 comes first and joins the rows 1 and 2, so that there is one entry of fill.
+/// Row 2 is held last. Row 3 comes first and joins the rows 1 and 2, so that there is one entry of fill, and one
+/// supernode.
 #[test]
 fn what_is_written(rt: HostRuntime) -> Result<(), Fail> {
     let mut out = Vec::new(rt.alloc());
@@ -123,6 +130,7 @@ fn what_is_written(rt: HostRuntime) -> Result<(), Fail> {
     assert!(&rt; text.starts_with("3\n1\n2\n    rows "));
     assert!(&rt; text.contains(PATH_FACTS));
     assert!(&rt; text.contains("\n3 1 2\n1 2 1\n2 0 0\n    rows "));
+    assert!(&rt; text.contains("\n2\n3\n0\n1 3 0 0\n<svg "));
     assert!(&rt; text.ends_with("fill: 1 entries of L</text>\n</svg>\n"));
     Ok(())
 }
