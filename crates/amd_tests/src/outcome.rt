@@ -9,6 +9,7 @@ mod comparison;
 mod counts;
 mod demo_texts;
 mod demos;
+mod expansion;
 mod jumbled_texts;
 mod lengths;
 mod memory;
