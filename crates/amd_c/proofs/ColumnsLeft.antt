@@ -1,18 +1,11 @@
 -- What the columns of a factor leave in a caller's arrays, and the same for the integers of C, whose values are themselves.
-use Rattle.std.proofs.Common.{ℕ, ℤ, List, ◌≡◌, map, length, refl, ◌∙◌, ap, subst, to_z, of_z, w32}
-use Rattle.std.specs.Prelude.{Option, Result, Ok, Err, unsigned_abs}
-use Rattle.std.proofs.lemmas.List.{map-id, length-map}
-use Rattle.amd_symbolic.specs.Factors.{IsFactorOf}
+use Rattle.std.proofs.Common.{ℕ, ℤ, List, ◌≡◌, ◌++◌, map, drop, length, refl, sym, ◌∙◌, ap, subst, to_z, of_z, w32}
+use Rattle.std.specs.Prelude.{Result, Ok, Err}
+use Rattle.std.proofs.lemmas.List.{drop-map, map-append, map-id}
 use Rattle.amd_symbolic.specs.declared.factor.Fault.{Fault}
 use Rattle.amd_symbolic.specs.declared.factor.Fault.TheVariants.{NotColumnForm, NotPermutation, RoomTooSmall, OutOfMemory}
 use Rattle.amd_c.specs.Columns.{Arrays, arrays, number_of_end, LeavesColumns, ColumnsInto}
 use Rattle.amd_c.proofs.Leaving.{values}
-
--- and a parent for each row
-pub parents_are : (n : ℤ) (a_p a_i p : List ℤ) (ptr rows : List ℕ) (parent : List (Option ℕ)) → IsFactorOf n a_p a_i p ptr rows parent →
-    length parent ≡ unsigned_abs n
-parents_are n a_p a_i p ptr rows parent f =
-    ap length f.holds.holds.parents ∙ length-map f.holds.columns _ ∙ f.holds.factor.places ∙ f.permutes.each.places
 
 -- the number of an outcome has 32 bits
 pub number_comes_back : (outcome : Result (Unit {0}) Fault) → to_z w32 (of_z w32 (number_of_end outcome)) ≡ number_of_end outcome
@@ -43,7 +36,11 @@ columns_into m n a_p a_i p ptr rows parent qtr sows qarent outcome number same l
     let six = subst (λ x. LeavesColumns n a_p a_i p (arrays ptr rows parent) x outcome) (arrays_of_values qtr sows qarent) five in
     record { outcome = outcome; answer = ap (λ x. to_z w32 (of_z w32 x)) is ∙ number_comes_back outcome; left = six }
 
--- lists with values that are those of another list are as long
-pub same_length : {X Y : Type 0} (value : X → ℤ) (number : Y → ℤ) (xs : List X) (ys : List Y) → map value xs ≡ map number ys →
-    length xs ≡ length ys
-same_length value number xs ys e = simp length-map at (ap length e)
+-- numbers that were written to the front of an array
+pub front_values : {X Y : Type 0} (value : X → ℤ) (number : Y → ℤ) (xs old : List X) (ys : List Y) (k : ℕ) →
+    map value xs ≡ map number ys → k ≡ length ys → map value (xs ++ drop k old) ≡ map number ys ++ drop (length ys) (map value old)
+front_values value number xs old ys k same size =
+    map-append value xs (drop k old)
+    ∙ ap (λ zs. zs ++ map value (drop k old)) same
+    ∙ ap (λ zs. map number ys ++ zs) (sym (drop-map value k old))
+    ∙ ap (λ j. map number ys ++ drop j (map value old)) size

@@ -1,27 +1,13 @@
 -- What the counts of a factor's columns leave in a caller's arrays, and the same for the integers of C, whose values are themselves.
-use Rattle.std.proofs.Common.{ℕ, ℤ, List, ◌≡◌, length, ◌∙◌, ap, subst, to_z, of_z, w32}
-use Rattle.std.specs.Prelude.{Option, Result, unsigned_abs}
-use Rattle.std.proofs.lemmas.List.{map-id, length-map}
-use Rattle.amd_symbolic.specs.Counted.{IsCountsOf}
+use Rattle.std.proofs.Common.{ℤ, List, ◌≡◌, ◌∙◌, ap, subst, to_z, of_z, w32}
+use Rattle.std.specs.Prelude.{Result}
+use Rattle.std.proofs.lemmas.List.{map-id}
 use Rattle.amd_symbolic.specs.declared.factor.Fault.{Fault}
-use Rattle.amd_symbolic.specs.declared.needs.Need.{Need}
 use Rattle.amd_c.specs.Columns.{number_of_end}
 use Rattle.amd_c.specs.Counting.{Tallies, tallies, LeavesCounts, CountsInto}
 use Rattle.amd_c.specs.declared.records.Needs.{Needs}
 use Rattle.amd_c.proofs.ColumnsLeft.{number_comes_back}
 use Rattle.amd_c.proofs.Leaving.{values}
-
--- there is a size for each row
-pub sizes_are : (n : ℤ) (a_p a_i p : List ℤ) (sizes : List ℕ) (parent : List (Option ℕ)) (need : Need) →
-    IsCountsOf n a_p a_i p sizes parent need → length sizes ≡ unsigned_abs n
-sizes_are n a_p a_i p sizes parent need c =
-    ap length c.tells.holds.sizes_are ∙ length-map c.tells.holds.columns _ ∙ c.tells.holds.factor.places ∙ c.permutes.each.places
-
--- and a parent
-pub parents_are : (n : ℤ) (a_p a_i p : List ℤ) (sizes : List ℕ) (parent : List (Option ℕ)) (need : Need) →
-    IsCountsOf n a_p a_i p sizes parent need → length parent ≡ unsigned_abs n
-parents_are n a_p a_i p sizes parent need c =
-    ap length c.tells.holds.parents ∙ length-map c.tells.holds.columns _ ∙ c.tells.holds.factor.places ∙ c.permutes.each.places
 
 tallies_of_values : (sizes parent : List ℤ) (needs : Needs) → tallies (values sizes) (values parent) needs ≡ tallies sizes parent needs
 tallies_of_values sizes parent needs =

@@ -6,7 +6,7 @@ ghost use Rattle.std.specs.Prelude.{◌≡◌, map};
 ghost use Rattle.amd_model.specs.Figures.{cut};
 ghost use Rattle.amd_c.specs.Counting.{LeavesCounts, needs_of, tallies};
 
-use crate::factors::{numbers_of, parents_of};
+use crate::factors::{has_numbers, has_parents, write_numbers, write_parents};
 use crate::records::Needs;
 use crate::writing::have_places;
 use amd_symbolic::needs::Need;
@@ -65,10 +65,11 @@ pub fn counts_into<I: PrimInt>(
         return Err(Fault::NotColumnForm);
     }
     let counted = counts(alloc, n, a_p, a_i, p)?;
-    let numbers = numbers_of(alloc, &counted.sizes)?;
-    let parents = parents_of(alloc, &counted.parent)?;
-    sizes.copy_from_slice(&numbers);
-    parent.copy_from_slice(&parents);
+    if !has_numbers::<I>(&counted.sizes) || !has_parents::<I>(&counted.parent) {
+        return Err(Fault::OutOfMemory);
+    }
+    write_numbers(&counted.sizes, sizes);
+    write_parents(&counted.parent, parent);
     *needs = needs_of(&counted.need);
     Ok(())
 }

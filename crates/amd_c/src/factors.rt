@@ -1,7 +1,7 @@
 // Writes the columns of a factor into a caller's arrays: the body of the exported functions, for any integer type. The
 // arrays are written last, so they stay as they were where there is a fault. Called by `int32` and `int64`.
 
-ghost use Rattle.std.specs.Prelude.{◌≡◌, ◌↔◌, IfErr, IfOk, IsTrue, map, pos};
+ghost use Rattle.std.specs.Prelude.{ℕ, ◌≡◌, ◌<◌, ◌↔◌, IsTrue, None, length, map, pos, slice_index, slice_index_or, true};
 ghost use Rattle.num_traits.specs.Laws.{Checks};
 ghost use Rattle.amd_c.specs.Columns.{HasColumnPlaces, LeavesColumns, arrays, number_of_end, parent_number};
 
@@ -34,23 +34,30 @@ fn have_column_places<I: PrimInt>(n: I, ptr: &[I], parent: &[I]) -> bool
     }
 }
 
-/// The counts as numbers of the caller's type.
-///
-/// # Errors
-///
-/// `OutOfMemory` where a request was refused, or a count is too large for the type.
-pub fn numbers_of<I: PrimInt>(alloc: Global, counts: &[usize]) -> Result<Vec<I, Global>, Fault>
-    ensures numbers { IfOk result (λ v. map I.value v.items ≡ map pos counts.now) }
-    ensures fault { IfErr result (λ e. e ≡ Fault.OutOfMemory) }
+/// Whether the caller's type has each of the counts.
+pub fn has_numbers<I: PrimInt>(counts: &[usize]) -> bool
+    ensures { result ≡ true → (k : ℕ) → k < length counts.now → I.fits (pos (slice_index counts.now k)) }
 {
-    let mut numbers = Vec::with_capacity(alloc, counts.len())?;
-    'rows: for k in 0..counts.len() {
-        let Some(number) = from_count(counts[k]) else {
-            return Err(Fault::OutOfMemory);
-        };
-        numbers.push(number)?;
+    'counts: for k in 0..counts.len() {
+        if from_count::<I>(counts[k]).is_none() {
+            return false;
+        }
     }
-    Ok(numbers)
+    true
+}
+
+/// Writes counts, which the caller's type has, as numbers of it.
+pub fn write_numbers<I: PrimInt>(counts: &[usize], numbers: &mut [I])
+    requires room { length numbers.old ≡ length counts.now }
+    requires fits { (k : ℕ) → k < length counts.now → I.fits (pos (slice_index counts.now k)) }
+    ensures { map I.value numbers.new ≡ map pos counts.now }
+{
+    'counts: for k in 0..counts.len() {
+        let Some(number) = from_count(counts[k]) else {
+            unreachable!()
+        };
+        numbers[k] = number;
+    }
 }
 
 /// The number of a parent, -1 for none, where the type has it.
@@ -63,26 +70,31 @@ fn number_of_parent<I: PrimInt>(parent: Option<usize>) -> Option<I>
     }
 }
 
-/// The numbers of the parents.
-///
-/// # Errors
-///
-/// `OutOfMemory` where a request was refused, or a number is too large for the type.
-pub fn parents_of<I: PrimInt>(
-    alloc: Global,
-    parents: &[Option<usize>],
-) -> Result<Vec<I, Global>, Fault>
-    ensures numbers { IfOk result (λ v. map I.value v.items ≡ map parent_number parents.now) }
-    ensures fault { IfErr result (λ e. e ≡ Fault.OutOfMemory) }
+/// Whether the caller's type has the number of each of the parents.
+pub fn has_parents<I: PrimInt>(parents: &[Option<usize>]) -> bool
+    ensures { result ≡ true → (k : ℕ) → k < length parents.now →
+        I.fits (parent_number (slice_index_or parents.now k None)) }
 {
-    let mut numbers = Vec::with_capacity(alloc, parents.len())?;
-    'rows: for k in 0..parents.len() {
-        let Some(number) = number_of_parent(parents[k]) else {
-            return Err(Fault::OutOfMemory);
-        };
-        numbers.push(number)?;
+    'parents: for k in 0..parents.len() {
+        if number_of_parent::<I>(parents[k]).is_none() {
+            return false;
+        }
     }
-    Ok(numbers)
+    true
+}
+
+/// Writes the numbers of parents, which the caller's type has.
+pub fn write_parents<I: PrimInt>(parents: &[Option<usize>], numbers: &mut [I])
+    requires room { length numbers.old ≡ length parents.now }
+    requires fits { (k : ℕ) → k < length parents.now → I.fits (parent_number (slice_index_or parents.now k None)) }
+    ensures { map I.value numbers.new ≡ map parent_number parents.now }
+{
+    'parents: for k in 0..parents.len() {
+        let Some(number) = number_of_parent(parents[k]) else {
+            unreachable!()
+        };
+        numbers[k] = number;
+    }
 }
 
 /// Writes the columns of the factor of a matrix under the order `p` into the caller's arrays.
@@ -118,11 +130,14 @@ pub fn columns_into<I: PrimInt>(
         return Err(Fault::NotColumnForm);
     }
     let factor = columns(alloc, n, a_p, a_i, p, rows.len())?;
-    let pointers = numbers_of(alloc, &factor.ptr)?;
-    let entries = numbers_of(alloc, &factor.rows)?;
-    let parents = parents_of(alloc, &factor.parent)?;
-    ptr.copy_from_slice(&pointers);
-    rows[..entries.len()].copy_from_slice(&entries);
-    parent.copy_from_slice(&parents);
+    if !has_numbers::<I>(&factor.ptr)
+        || !has_numbers::<I>(&factor.rows)
+        || !has_parents::<I>(&factor.parent)
+    {
+        return Err(Fault::OutOfMemory);
+    }
+    write_numbers(&factor.ptr, ptr);
+    write_numbers(&factor.rows, &mut rows[..factor.rows.len()]);
+    write_parents(&factor.parent, parent);
     Ok(())
 }

@@ -7,7 +7,7 @@ ghost use Rattle.amd_c.specs.Patterns.{HasPointerPlaces, HasRowPlaces, IsSortedF
 ghost use Rattle.amd_c.specs.Patterns.{counted, row_arrays};
 ghost use Rattle.amd_model.specs.Input.Columns.{IsInput};
 
-use crate::factors::numbers_of;
+use crate::factors::{has_numbers, write_numbers};
 use crate::records::{Statistics, statistics_of};
 use amd_input::aat::aat;
 use amd_input::preprocess::preprocess;
@@ -84,8 +84,10 @@ pub fn degrees_into<I: PrimInt>(
     let Ok((_, counts)) = aat(alloc, n, a_p, a_i, &mut info) else {
         return Err(Fault::OutOfMemory);
     };
-    let numbers = numbers_of(alloc, &counts)?;
-    degrees.copy_from_slice(&numbers);
+    if !has_numbers::<I>(&counts) {
+        return Err(Fault::OutOfMemory);
+    }
+    write_numbers(&counts, degrees);
     *statistics = statistics_of(&info);
     Ok(())
 }

@@ -1,5 +1,0 @@
-use Rattle.std.proofs.Common.{◌≡◌, map, pos, take}
-use Rattle.amd_c.proofs.factors.numbers_of.Given as goal
-
-abbrev pub invariant-rows : goal.invariant-rows
-invariant-rows g l = map g.I.Number.value l.numbers.items ≡ map pos (take l.k l.counts)
