@@ -23,30 +23,30 @@ pub struct Parameters {
 #[derive(Drop)]
 #[repr(C)]
 pub struct Statistics {
-    /// The number of rows and columns.
+    /// Rows and columns.
     pub n: usize,
-    /// The number of entries of the pattern, without duplicates.
+    /// Entries of the pattern, without duplicates.
     pub nz: usize,
-    /// Whether the pattern is its own transpose.
+    /// Whether the pattern is symmetric.
     pub symmetry: bool,
-    /// The number of entries on the diagonal.
+    /// Entries on the diagonal.
     pub nz_diag: usize,
-    /// The entries of the pattern of `A + A'` off the diagonal.
+    /// Entries of `A + A'` off the diagonal.
     pub nz_a_plus_at: usize,
-    /// The number of rows held last: the dense ones, and those that a caller marks.
+    /// Rows held last, the dense and the marked ones.
     pub n_dense: usize,
-    /// How often the workspace was compacted: at most `n` times.
+    /// Compactions of the workspace.
     pub n_cmp_a: usize,
-    /// An upper bound on the entries of the factor `L` below the diagonal. It and the next three fields saturate: one
-    /// that is `usize::MAX` may be too small.
+    /// A bound on the entries of `L` below the diagonal. It and the next three bounds saturate: one that is
+    /// `usize::MAX` may be too small.
     pub lnz: usize,
-    /// An upper bound on the divisions of a factorization, equal to `lnz`.
+    /// A bound on the divisions.
     pub n_div: usize,
-    /// An upper bound on the multiply-subtract steps of a factorization `LDL'`.
+    /// A bound on the multiply-subtract steps of `LDL'`.
     pub n_mult_subs_ldl: usize,
-    /// An upper bound on the multiply-subtract steps of a factorization `LU`.
+    /// A bound on those of `LU`.
     pub n_mult_subs_lu: usize,
-    /// An upper bound on the entries of a column of the factor `L`, with its diagonal: at most `n`.
+    /// A bound on the entries of a column of `L`, with its diagonal.
     pub d_max: usize,
 }
 
