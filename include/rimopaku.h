@@ -99,10 +99,10 @@ int32_t rimopaku_order_holding_i64(int64_t n, const int64_t *a_p, size_t a_p_len
 int32_t rimopaku_valid_i32(int32_t n_row, int32_t n_col, const int32_t *a_p, size_t a_p_len, const int32_t *a_i, size_t a_i_len);
 int32_t rimopaku_valid_i64(int64_t n_row, int64_t n_col, const int64_t *a_p, size_t a_p_len, const int64_t *a_i, size_t a_i_len);
 
-/* What rimopaku_columns, rimopaku_counts and rimopaku_preprocess return besides 0, RIMOPAKU_OUT_OF_MEMORY and RIMOPAKU_INVALID. */
+/* What the calls below return besides 0, RIMOPAKU_OUT_OF_MEMORY and RIMOPAKU_INVALID. */
 enum {
     RIMOPAKU_NOT_PERMUTATION = -3, /* p does not list each row exactly once */
-    RIMOPAKU_ROOM_TOO_SMALL = -4   /* there are more entries than the array for them has places */
+    RIMOPAKU_ROOM_TOO_SMALL = -4   /* there are more entries than an array has places for */
 };
 
 /* Writes the pattern of the factor L of the matrix in the order p: row p[k] is at place k. p is any permutation of the rows, such as one
@@ -142,6 +142,36 @@ int32_t rimopaku_counts_i32(int32_t n, const int32_t *a_p, size_t a_p_len, const
 int32_t rimopaku_counts_i64(int64_t n, const int64_t *a_p, size_t a_p_len, const int64_t *a_i, size_t a_i_len, const int64_t *p,
                             size_t p_len, int64_t *sizes, size_t sizes_len, int64_t *parent, size_t parent_len,
                             struct rimopaku_needs *needs);
+
+/* How much room the supernodes of a factor need. */
+struct rimopaku_supernode_sizes {
+    size_t supernodes; /* their number */
+    size_t rows;       /* the rows below their blocks */
+};
+
+/* The factor that rimopaku_columns writes, by supernodes: runs of places of which each but the last has the next one as its parent, and one
+ * entry more than that has. Supernode s has the places first[s] to first[s + 1] - 1. Column k of it has the places behind k in it, and then
+ * the rows rows[ptr[s]] to rows[ptr[s + 1] - 1], in ascending order. parent[s] is the supernode in which the first of its rows lies, or -1
+ * if it has none. With m supernodes first[m] is n, and ptr[m] the number of rows.
+ *
+ * Two calls. rimopaku_supernode_sizes tells how much room is needed; the memory that it takes does not grow with the factor.
+ * rimopaku_supernodes then writes m places of parent, one more of first and ptr, and the rows. The arrays may be longer, if first and ptr
+ * still have one place more than parent; what follows in each is unchanged. With n places of parent, and as many of rows as
+ * rimopaku_columns needs, there is always room, and the first call may be left out. The second takes memory for the rows, too.
+ *
+ * Both return RIMOPAKU_NOT_PERMUTATION if p is no permutation of the rows. The second returns RIMOPAKU_INVALID also if first_len or ptr_len
+ * is not parent_len + 1; RIMOPAKU_ROOM_TOO_SMALL if parent has fewer places than there are supernodes, or rows than there are rows below
+ * the blocks; and RIMOPAKU_OUT_OF_MEMORY also if the integer type cannot count the rows. After an error all is unchanged. */
+int32_t rimopaku_supernode_sizes_i32(int32_t n, const int32_t *a_p, size_t a_p_len, const int32_t *a_i, size_t a_i_len, const int32_t *p,
+                                     size_t p_len, struct rimopaku_supernode_sizes *sizes);
+int32_t rimopaku_supernode_sizes_i64(int64_t n, const int64_t *a_p, size_t a_p_len, const int64_t *a_i, size_t a_i_len, const int64_t *p,
+                                     size_t p_len, struct rimopaku_supernode_sizes *sizes);
+int32_t rimopaku_supernodes_i32(int32_t n, const int32_t *a_p, size_t a_p_len, const int32_t *a_i, size_t a_i_len, const int32_t *p,
+                                size_t p_len, int32_t *first, size_t first_len, int32_t *ptr, size_t ptr_len, int32_t *rows,
+                                size_t rows_len, int32_t *parent, size_t parent_len);
+int32_t rimopaku_supernodes_i64(int64_t n, const int64_t *a_p, size_t a_p_len, const int64_t *a_i, size_t a_i_len, const int64_t *p,
+                                size_t p_len, int64_t *first, size_t first_len, int64_t *ptr, size_t ptr_len, int64_t *rows,
+                                size_t rows_len, int64_t *parent, size_t parent_len);
 
 /* Writes the degrees of the rows by the pattern of A + A', without its diagonal: degrees[i] is the number of its entries in row i. The
  * columns of the matrix must be sorted and have no duplicates. Of *statistics the fields n, nz, symmetry, nz_diag and nz_a_plus_at tell the

@@ -93,6 +93,12 @@ template <typename Integer> struct Counts {
     rimopaku_needs needs;
 };
 
+/* The columns of a factor by supernodes, m of them: supernode s has the places first[s] to first[s + 1] - 1, below them the rows
+ * rows[ptr[s]] to rows[ptr[s + 1] - 1], and the parent parent[s], -1 for none. first[m] is the number of columns. */
+template <typename Integer> struct Supernodes {
+    std::vector<Integer> first, ptr, rows, parent;
+};
+
 /* The degrees of the rows by the pattern of A + A', and the statistics of the pattern. */
 template <typename Integer> struct Degrees {
     std::vector<Integer> degrees;
@@ -139,6 +145,15 @@ template <> struct Calls<4> {
         return rimopaku_counts_i32(n, a_p.data(), a_p.size(), a_i.data(), a_i.size(), p.data(), p.size(), sizes.data(), sizes.size() - 1,
                                    parent.data(), parent.size() - 1, &needs);
     }
+    static std::int32_t supernode_sizes(Integer n, Numbers a_p, Numbers a_i, Numbers p, rimopaku_supernode_sizes &sizes)
+    {
+        return rimopaku_supernode_sizes_i32(n, a_p.data(), a_p.size(), a_i.data(), a_i.size(), p.data(), p.size(), &sizes);
+    }
+    static std::int32_t supernodes(Integer n, Numbers a_p, Numbers a_i, Numbers p, List &first, List &ptr, List &rows, List &parent)
+    {
+        return rimopaku_supernodes_i32(n, a_p.data(), a_p.size(), a_i.data(), a_i.size(), p.data(), p.size(), first.data(), first.size(),
+                                       ptr.data(), ptr.size(), rows.data(), rows.size() - 1, parent.data(), parent.size() - 1);
+    }
     static std::int32_t aat(Integer n, Numbers a_p, Numbers a_i, List &degrees, rimopaku_statistics &statistics)
     {
         return rimopaku_aat_i32(n, a_p.data(), a_p.size(), a_i.data(), a_i.size(), degrees.data(), degrees.size() - 1, &statistics);
@@ -184,6 +199,15 @@ template <> struct Calls<8> {
     {
         return rimopaku_counts_i64(n, a_p.data(), a_p.size(), a_i.data(), a_i.size(), p.data(), p.size(), sizes.data(), sizes.size() - 1,
                                    parent.data(), parent.size() - 1, &needs);
+    }
+    static std::int32_t supernode_sizes(Integer n, Numbers a_p, Numbers a_i, Numbers p, rimopaku_supernode_sizes &sizes)
+    {
+        return rimopaku_supernode_sizes_i64(n, a_p.data(), a_p.size(), a_i.data(), a_i.size(), p.data(), p.size(), &sizes);
+    }
+    static std::int32_t supernodes(Integer n, Numbers a_p, Numbers a_i, Numbers p, List &first, List &ptr, List &rows, List &parent)
+    {
+        return rimopaku_supernodes_i64(n, a_p.data(), a_p.size(), a_i.data(), a_i.size(), p.data(), p.size(), first.data(), first.size(),
+                                       ptr.data(), ptr.size(), rows.data(), rows.size() - 1, parent.data(), parent.size() - 1);
     }
     static std::int32_t aat(Integer n, Numbers a_p, Numbers a_i, List &degrees, rimopaku_statistics &statistics)
     {
@@ -314,6 +338,25 @@ template <typename Integer> Counts<Integer> counts(Integer n, View<Integer> a_p,
     detail::checked(As::Call::counts(static_cast<Number>(n), As::view(a_p), As::view(a_i), As::view(p), sizes, parent, result.needs));
     result.sizes = detail::cut<Integer>(sizes, size);
     result.parent = detail::cut<Integer>(parent, size);
+    return result;
+}
+
+/* The columns of that factor by supernodes. */
+template <typename Integer> Supernodes<Integer> supernodes(Integer n, View<Integer> a_p, View<Integer> a_i, View<Integer> p)
+{
+    typedef detail::As<Integer> As;
+    typedef typename As::Number Number;
+    rimopaku_supernode_sizes sizes;
+    detail::count(n);
+    detail::checked(As::Call::supernode_sizes(static_cast<Number>(n), As::view(a_p), As::view(a_i), As::view(p), sizes));
+    std::vector<Number> first = detail::room<Number>(sizes.supernodes), ptr = detail::room<Number>(sizes.supernodes),
+                        rows = detail::room<Number>(sizes.rows), parent = detail::room<Number>(sizes.supernodes);
+    Supernodes<Integer> result;
+    detail::checked(As::Call::supernodes(static_cast<Number>(n), As::view(a_p), As::view(a_i), As::view(p), first, ptr, rows, parent));
+    result.first = detail::cut<Integer>(first, sizes.supernodes + 1);
+    result.ptr = detail::cut<Integer>(ptr, sizes.supernodes + 1);
+    result.rows = detail::cut<Integer>(rows, sizes.rows);
+    result.parent = detail::cut<Integer>(parent, sizes.supernodes);
     return result;
 }
 

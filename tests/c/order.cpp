@@ -34,6 +34,11 @@ template <typename Integer> void five_rows()
     print("parent", counts.parent);
     std::cout << "needs " << counts.needs.lnz << ' ' << counts.needs.n_mult_subs_ldl << ' ' << counts.needs.n_mult_subs_lu << ' '
               << counts.needs.d_max << '\n';
+    const auto supernodes = Rimopaku::supernodes<Integer>(5, a_p, a_i, found.p);
+    print("first", supernodes.first);
+    print("ptr", supernodes.ptr);
+    print("rows", supernodes.rows);
+    print("parent", supernodes.parent);
     const auto degrees = Rimopaku::degrees<Integer>(5, a_p, a_i);
     print("degrees", degrees.degrees);
     const auto rows = Rimopaku::row_form<Integer>(5, a_p, a_i);
@@ -78,10 +83,12 @@ int main()
     held_row();
     forest();
     print("no rows", Rimopaku::order<int>(0, none, none).p);
+    print("no supernodes", Rimopaku::supernodes<int>(0, none, none, none).first);
     thrown("negative", [&] { Rimopaku::order<int>(-1, a_p, a_i); });
     thrown("no pointers", [&] { Rimopaku::order<int>(3, none, a_i); });
     thrown("no order", [&] { Rimopaku::columns<int>(3, a_p, a_i, ones, 9); });
     thrown("no order to count", [&] { Rimopaku::counts<int>(3, a_p, a_i, ones); });
+    thrown("no order for supernodes", [&] { Rimopaku::supernodes<int>(3, a_p, a_i, ones); });
     thrown("no room", [&] { Rimopaku::columns<int>(3, a_p, a_i, std::vector<int>{0, 1, 2}, 1); });
     thrown("a cycle", [&] { Rimopaku::postorder<int>(3, cycle, ones, ones); });
     return 0;

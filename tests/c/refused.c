@@ -43,6 +43,7 @@ struct answer {
     int64_t wide[ROWS + ROWS + ROWS + 1 + ROOM];
     struct rimopaku_statistics statistics;
     struct rimopaku_needs needs;
+    struct rimopaku_supernode_sizes sizes;
 };
 
 static const int32_t a_p_32[] = {0, 2, 6, 10, 12, 14}, a_i_32[] = {0, 1, 0, 1, 2, 4, 1, 2, 3, 4, 2, 3, 1, 4}, p_32[] = {0, 3, 2, 4, 1};
@@ -95,6 +96,30 @@ static int32_t counts_64(struct answer *to)
     return rimopaku_counts_i64(ROWS, a_p_64, ROWS + 1, a_i_64, 14, p_64, ROWS, to->wide, ROWS, to->wide + ROWS, ROWS, &to->needs);
 }
 
+static int32_t supernode_sizes_32(struct answer *to)
+{
+    return rimopaku_supernode_sizes_i32(ROWS, a_p_32, ROWS + 1, a_i_32, 14, p_32, ROWS, &to->sizes);
+}
+
+static int32_t supernode_sizes_64(struct answer *to)
+{
+    return rimopaku_supernode_sizes_i64(ROWS, a_p_64, ROWS + 1, a_i_64, 14, p_64, ROWS, &to->sizes);
+}
+
+static int32_t supernodes_32(struct answer *to)
+{
+    int32_t *ptr = to->narrow + ROWS + 1, *parent = ptr + ROWS + 1, *rows = parent + ROWS;
+    return rimopaku_supernodes_i32(ROWS, a_p_32, ROWS + 1, a_i_32, 14, p_32, ROWS, to->narrow, ROWS + 1, ptr, ROWS + 1, rows, 5, parent,
+                                   ROWS);
+}
+
+static int32_t supernodes_64(struct answer *to)
+{
+    int64_t *ptr = to->wide + ROWS + 1, *parent = ptr + ROWS + 1, *rows = parent + ROWS;
+    return rimopaku_supernodes_i64(ROWS, a_p_64, ROWS + 1, a_i_64, 14, p_64, ROWS, to->wide, ROWS + 1, ptr, ROWS + 1, rows, 5, parent,
+                                   ROWS);
+}
+
 static int32_t aat_32(struct answer *to)
 {
     return rimopaku_aat_i32(ROWS, a_p_32, ROWS + 1, a_i_32, 14, to->narrow, ROWS, &to->statistics);
@@ -145,7 +170,7 @@ static void untouch(struct answer *answer)
     memset(answer, 0, sizeof *answer);
     for (k = 0; k < sizeof answer->narrow / sizeof *answer->narrow; k++)
         answer->narrow[k] = answer->wide[k] = UNTOUCHED;
-    answer->statistics.lnz = answer->needs.lnz = 77;
+    answer->statistics.lnz = answer->needs.lnz = answer->sizes.rows = 77;
 }
 
 /* Refuses each request of a call in turn, and tells what went wrong, or how the last call ended. */
@@ -182,6 +207,10 @@ int main(void)
     refuse_each("columns, 64 bits", columns_64);
     refuse_each("counts, 32 bits", counts_32);
     refuse_each("counts, 64 bits", counts_64);
+    refuse_each("sizes of supernodes, 32 bits", supernode_sizes_32);
+    refuse_each("sizes of supernodes, 64 bits", supernode_sizes_64);
+    refuse_each("supernodes, 32 bits", supernodes_32);
+    refuse_each("supernodes, 64 bits", supernodes_64);
     refuse_each("aat, 32 bits", aat_32);
     refuse_each("aat, 64 bits", aat_64);
     refuse_each("preprocess, 32 bits", preprocess_32);

@@ -12,3 +12,5 @@ pub mod WalksUp
 pub mod ForestsLeft
 -- What the tests of the elimination in a caller's workspace begin with.
 mod Degrees
+-- What the supernodes of a factor leave, and the same in the numbers of C.
+pub mod SupernodesLeft

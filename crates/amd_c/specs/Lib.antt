@@ -12,3 +12,5 @@ pub mod Patterns
 pub mod Forests
 -- What the call for lists in the caller's workspace leaves there.
 pub mod Laid
+-- What the calls for the supernodes of a factor leave there.
+pub mod Supernodal

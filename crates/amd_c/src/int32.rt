@@ -7,12 +7,14 @@ ghost use Rattle.amd_c.specs.Columns.{ColumnsInto, arrays};
 ghost use Rattle.amd_c.specs.Counting.{CountsInto, tallies};
 ghost use Rattle.amd_c.specs.Forests.{PostorderInto};
 ghost use Rattle.amd_c.specs.Patterns.{DegreesInto, RowFormInto, counted, row_arrays};
+ghost use Rattle.amd_c.specs.Supernodal.{SizesInto, SupernodesInto, blocks};
 
 use crate::counting::counts_into;
 use crate::factors::{columns_into, number_of_end};
 use crate::forests::postorder_into;
 use crate::patterns::{degrees_into, row_form_into};
-use crate::records::{Needs, Parameters, Statistics, number_of};
+use crate::records::{Needs, Parameters, Statistics, SupernodeSizes, number_of};
+use crate::supernodal::{supernode_sizes_into, supernodes_into};
 use crate::writing::order_into;
 use amd::valid::valid;
 use std::alloc::Global;
@@ -162,6 +164,71 @@ pub extern "C" fn rimopaku_counts_i32(
         (tallies sizes.new parent.new needs.new) result }
 {
     let outcome = counts_into(alloc, n, a_p, a_i, p, sizes, parent, needs);
+    number_of_end(&outcome)
+}
+
+/// Writes how much room the supernodes of a factor need, as `supernode_sizes` of the crate `amd_symbolic` returns it,
+/// and returns 0.
+///
+/// `rimopaku_supernodes_i32` then needs `supernodes` places in `parent`, one more in `first` and in `ptr`, and `rows`
+/// places in `rows`. No row is written, and the memory that is taken does not grow with the factor. See
+/// `include/rimopaku.h` for what a caller must uphold.
+///
+/// # Errors
+///
+/// A negative number; `sizes` stays as it was. It is -2, `NotColumnForm`, exactly where `n` is not 0 and the input is
+/// no column form. It is -3, `NotPermutation`, where `p` does not list each number below `n`, once; and -1,
+/// `OutOfMemory`, where a request for memory was refused, which may come in place of the one before it.
+///
+/// Source: Liu 1986; Gilbert, Ng and Peyton 1994; Liu, Ng and Peyton 1993.
+#[unsafe(no_mangle)]
+pub extern "C" fn rimopaku_supernode_sizes_i32(
+    alloc: Global,
+    n: i32,
+    a_p: &[i32],
+    a_i: &[i32],
+    p: &[i32],
+    sizes: &mut SupernodeSizes,
+) -> i32
+    ensures { SizesInto n a_p.now a_i.now p.now sizes.old sizes.new result }
+{
+    let outcome = supernode_sizes_into(alloc, n, a_p, a_i, p, sizes);
+    number_of_end(&outcome)
+}
+
+/// Writes the supernodes of a factor, as `supernodes` of the crate `amd_symbolic` returns them, and returns 0.
+///
+/// Where each supernode begins, and behind them `n`, is written into `first`; where the rows of each begin, and the end
+/// of the last ones, into `ptr`; the rows below the blocks into `rows`; and the parents into `parent`, with -1 for
+/// none. `first` and `ptr` have one place more than `parent`. There may be more places than
+/// `rimopaku_supernode_sizes_i32` says: what follows in each array stays. See `include/rimopaku.h` for what a caller
+/// must uphold.
+///
+/// # Errors
+///
+/// A negative number; the arrays stay as they were. It is -2, `NotColumnForm`, exactly where `first` or `ptr` has not
+/// one place more than `parent`, or `n` is not 0 and the input is no column form. It is -3, `NotPermutation`, where `p`
+/// does not list each number below `n`, once; -4, `RoomTooSmall`, where there are more supernodes than `parent` has
+/// places, or more rows below the blocks than `rows` has; and -1, `OutOfMemory`, where a request for memory was
+/// refused, or a number is too large for the type. The last may come in place of the two before it.
+///
+/// Source: Rose, Tarjan and Lueker 1976; Liu 1990; Liu, Ng and Peyton 1993.
+#[unsafe(no_mangle)]
+pub extern "C" fn rimopaku_supernodes_i32(
+    alloc: Global,
+    n: i32,
+    a_p: &[i32],
+    a_i: &[i32],
+    p: &[i32],
+    first: &mut [i32],
+    ptr: &mut [i32],
+    rows: &mut [i32],
+    parent: &mut [i32],
+) -> i32
+    ensures { SupernodesInto n a_p.now a_i.now p.now (blocks first.old ptr.old rows.old parent.old)
+        (blocks first.new ptr.new rows.new parent.new) result }
+{
+    let outcome = supernodes_into(alloc, n, a_p, a_i, p, first, ptr, rows, parent);
     number_of_end(&outcome)
 }
 

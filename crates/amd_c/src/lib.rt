@@ -1,6 +1,6 @@
 //! The library as C calls it: `order`, `order_holding`, `valid`, `aat` and `preprocess` of the crate `amd`, and
-//! `columns` and `counts` of the crate `amd_symbolic`, for `int32_t` ([`int32`]) and `int64_t` ([`int64`]); and `amd_2`
-//! of the crate `amd_engine` for `int64_t`.
+//! `columns`, `counts` and `supernodes` of the crate `amd_symbolic`, for `int32_t` ([`int32`]) and `int64_t`
+//! ([`int64`]); and `amd_2` of the crate `amd_engine` for `int64_t`.
 //!
 //! A slice crosses as a pointer and a length, and a record by its address. An ordering is written into the caller's
 //! arrays, and a call returns the number of a status. The header `include/rimopaku.h` says what a caller must uphold.
@@ -14,6 +14,7 @@ pub mod int64;
 mod laid;
 mod patterns;
 pub mod records;
+mod supernodal;
 mod writing;
 
 ghost use Rattle.std.specs.Prelude.{◌≡◌, pos, true};
@@ -35,5 +36,7 @@ pub extern "C" fn rimopaku_defaults(parameters: &mut Parameters)
 
 #[cfg(test)]
 mod laid_tests;
+#[cfg(test)]
+mod supernode_tests;
 #[cfg(test)]
 mod tests;

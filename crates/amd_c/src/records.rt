@@ -67,6 +67,16 @@ pub struct Needs {
     pub d_max: usize,
 }
 
+/// How much room the supernodes of a factor need.
+#[derive(Drop)]
+#[repr(C)]
+pub struct SupernodeSizes {
+    /// The number of supernodes.
+    pub supernodes: usize,
+    /// The number of rows below their blocks.
+    pub rows: usize,
+}
+
 /// The statistics of a record: its fields but for the status.
 pub fn statistics_of(info: &Info) -> Statistics
     ensures { result ≡ statistics_of info.now }

@@ -1,0 +1,102 @@
+// Writes the supernodes of a factor into a caller's arrays, and how much room they need into a record: the bodies of the
+// exported functions, for any integer type. The arrays and the record are written last, so they stay as they were where
+// there is a fault. Called by `int32` and `int64`.
+
+ghost use Rattle.std.specs.Prelude.{◌↔◌, IsTrue, map};
+ghost use Rattle.amd_c.specs.Supernodal.{HasBlockPlaces, LeavesSizes, LeavesSupernodes, blocks};
+
+use crate::factors::{has_numbers, has_parents, write_numbers, write_parents};
+use crate::records::SupernodeSizes;
+use amd_symbolic::{Fault, supernode_sizes, supernodes};
+use num_traits::PrimInt;
+use std::alloc::Global;
+
+/// Writes how much room the supernodes of the factor of a matrix under the order `p` need.
+///
+/// The input is as that of `supernode_sizes` of the crate `amd_symbolic`.
+///
+/// # Errors
+///
+/// Those of `supernode_sizes`; `sizes` stays as it was.
+///
+/// Source: Liu, Ng and Peyton 1993.
+pub fn supernode_sizes_into<I: PrimInt>(
+    alloc: Global,
+    n: I,
+    a_p: &[I],
+    a_i: &[I],
+    p: &[I],
+    sizes: &mut SupernodeSizes,
+) -> Result<(), Fault>
+    // A number of a primitive type is always in range.
+    requires fits { I.fits (I.value n) }
+    ensures { LeavesSizes (I.value n) (map I.value a_p.now) (map I.value a_i.now) (map I.value p.now) sizes.old
+        sizes.new result }
+{
+    let found = supernode_sizes(alloc, n, a_p, a_i, p)?;
+    *sizes = SupernodeSizes {
+        supernodes: found.supernodes,
+        rows: found.rows,
+    };
+    Ok(())
+}
+
+/// Whether two arrays have one place more than a third.
+fn have_block_places<I: PrimInt>(first: &[I], ptr: &[I], parent: &[I]) -> bool
+    ensures { IsTrue result ↔ HasBlockPlaces (map I.value first.now) (map I.value ptr.now) (map I.value parent.now) }
+{
+    first.len().checked_sub(1) == Some(parent.len())
+        && ptr.len().checked_sub(1) == Some(parent.len())
+}
+
+/// Writes the supernodes of the factor of a matrix under the order `p` into the caller's arrays.
+///
+/// The input is as that of `supernodes` of the crate `amd_symbolic`. Where each supernode begins, and behind them `n`,
+/// is written into `first`; where the rows of each begin, and the end of the last ones, into `ptr`; the rows below the
+/// blocks into `rows`; and the parents into `parent`, with -1 for none. `first` and `ptr` have one place more than
+/// `parent`. What follows in each array stays.
+///
+/// # Errors
+///
+/// Those of `supernodes`; all stays as it was. `NotColumnForm` also where `first` or `ptr` has not one place more than
+/// `parent`, `RoomTooSmall` where there are more supernodes than `parent` has places, or more rows than `rows` has, and
+/// `OutOfMemory` also where a number is too large for the type.
+///
+/// Source: Rose, Tarjan and Lueker 1976; Liu 1990; Liu, Ng and Peyton 1993.
+pub fn supernodes_into<I: PrimInt>(
+    alloc: Global,
+    n: I,
+    a_p: &[I],
+    a_i: &[I],
+    p: &[I],
+    first: &mut [I],
+    ptr: &mut [I],
+    rows: &mut [I],
+    parent: &mut [I],
+) -> Result<(), Fault>
+    // A number of a primitive type is always in range.
+    requires fits { I.fits (I.value n) }
+    ensures { LeavesSupernodes (I.value n) (map I.value a_p.now) (map I.value a_i.now) (map I.value p.now)
+        (blocks (map I.value first.old) (map I.value ptr.old) (map I.value rows.old) (map I.value parent.old))
+        (blocks (map I.value first.new) (map I.value ptr.new) (map I.value rows.new) (map I.value parent.new)) result }
+{
+    if !have_block_places(first, ptr, parent) {
+        return Err(Fault::NotColumnForm);
+    }
+    let found = supernodes(alloc, n, a_p, a_i, p)?;
+    if found.parent.len() > parent.len() || found.rows.len() > rows.len() {
+        return Err(Fault::RoomTooSmall);
+    }
+    if !has_numbers::<I>(&found.first)
+        || !has_numbers::<I>(&found.ptr)
+        || !has_numbers::<I>(&found.rows)
+        || !has_parents::<I>(&found.parent)
+    {
+        return Err(Fault::OutOfMemory);
+    }
+    write_numbers(&found.first, &mut first[..found.first.len()]);
+    write_numbers(&found.ptr, &mut ptr[..found.ptr.len()]);
+    write_numbers(&found.rows, &mut rows[..found.rows.len()]);
+    write_parents(&found.parent, &mut parent[..found.parent.len()]);
+    Ok(())
+}
