@@ -35,7 +35,8 @@ if TYPE_CHECKING:
 
     from ._library import Numbers
 
-__all__ = ["amd", "analyze", "counts", "spy", "Analysis", "Counts", "Info", "Need", "__version__"]
+__all__ = ["amd", "analyze", "counts", "spy", "supernodes"]
+__all__ += ["Analysis", "Counts", "Info", "Need", "Supernodes", "__version__"]
 
 
 class Info(NamedTuple):
@@ -138,6 +139,27 @@ class Counts(NamedTuple):
         sizes = self.sizes.tolist()
         squares = sum(it * it for it in sizes)
         return Need(sum(sizes), (squares + sum(sizes)) // 2, squares, max(sizes) + 1 if sizes else 0)
+
+
+class Supernodes(NamedTuple):
+    """The pattern of a factor L below its diagonal, by supernodes.
+
+    A supernode is a longest run of places of which each but the last has the next one as its parent, and one entry more
+    than that has. Column k of supernode s has the places behind k before first[s + 1], and then the rows of s.
+    """
+
+    #: The order: row p[k] is at place k.
+    p: Numbers
+    #: The parent of each supernode, in which the first of its rows lies, or -1 where it has no rows.
+    parent: Numbers
+    #: Where each supernode begins, and behind them the number of columns.
+    first: Numbers
+    #: Where the rows of each supernode begin, and the end of the last ones.
+    indptr: Numbers
+    #: The rows below the blocks: places, ascending in each supernode.
+    indices: Numbers
+    #: What the ordering told, or None where p was given.
+    info: Optional[Info]
 
 
 def _columns(A: Any) -> _library.Columns:
@@ -333,6 +355,27 @@ def counts(
     order, info = _chosen(matrix, p, dense, aggressive, hold)
     sizes, parent = _library.counts(matrix, order)
     return Counts(order, parent, sizes, info)
+
+
+def supernodes(
+    A: Any, p: Any = None, *, dense: float = 10.0, aggressive: bool = True, hold: Any = None
+) -> Supernodes:
+    """Returns the pattern of the factor by supernodes: the rows below each block once.
+
+    The arguments and errors are those of ``analyze``.
+
+    >>> import scipy.sparse as sp
+    >>> cycle = sp.csc_matrix([[1, 1, 0, 1], [1, 1, 1, 0], [0, 1, 1, 1], [1, 0, 1, 1]])
+    >>> told = supernodes(cycle, p=[0, 1, 2, 3])
+    >>> told.first, told.indptr
+    (array([0, 1, 4], dtype=int32), array([0, 2, 2], dtype=int32))
+    >>> told.indices, told.parent
+    (array([1, 3], dtype=int32), array([ 1, -1], dtype=int32))
+    """
+    matrix = _columns(A)
+    order, info = _chosen(matrix, p, dense, aggressive, hold)
+    first, ptr, rows, parent = _library.supernodes(matrix, order)
+    return Supernodes(order, parent, first, ptr, rows, info)
 
 
 def spy(A: Any, p: Any = None, *, axes: Any = None, markersize: Optional[float] = None, **choice: Any) -> Any:

@@ -55,6 +55,12 @@ class Needs(ctypes.Structure):
     _fields_ = [("lnz", c_size_t), ("n_mult_subs_ldl", c_size_t), ("n_mult_subs_lu", c_size_t), ("d_max", c_size_t)]
 
 
+class SupernodeSizes(ctypes.Structure):
+    """struct rimopaku_supernode_sizes."""
+
+    _fields_ = [("supernodes", c_size_t), ("rows", c_size_t)]
+
+
 class RoomTooSmall(Exception):
     """The factor has more entries than there is room for."""
 
@@ -70,6 +76,8 @@ def _load() -> ctypes.CDLL:
             "order_holding": [*array, *array, POINTER(Parameters), *array, *array, *array, POINTER(Statistics)],
             "columns": [*array, *array, *array, *array, *array, *array],
             "counts": [*array, *array, *array, *array, *array, POINTER(Needs)],
+            "supernode_sizes": [*array, *array, *array, POINTER(SupernodeSizes)],
+            "supernodes": [*array, *array, *array, *array, *array, *array, *array],
         }
         for name, types in arguments.items():
             function = getattr(library, f"rimopaku_{name}_{suffix}")
@@ -153,3 +161,15 @@ def counts(matrix: Columns, p: Numbers) -> Tuple[Numbers, Numbers]:
     sizes, parent = np.empty(matrix.n, kind), np.empty(matrix.n, kind)
     _call("counts", matrix, p, sizes, parent, Needs())
     return sizes, parent
+
+
+def supernodes(matrix: Columns, p: Numbers) -> Tuple[Numbers, Numbers, Numbers, Numbers]:
+    """Where the supernodes of that factor begin, where the rows of each begin, these rows, and the parents."""
+    kind, sizes = matrix.a_p.dtype, SupernodeSizes()
+    _call("supernode_sizes", matrix, p, sizes)
+    if sizes.rows > np.iinfo(kind).max:
+        return supernodes(matrix.widened(), p.astype(np.int64))
+    first, ptr = np.empty(sizes.supernodes + 1, kind), np.empty(sizes.supernodes + 1, kind)
+    rows, parent = np.empty(sizes.rows, kind), np.empty(sizes.supernodes, kind)
+    _call("supernodes", matrix, p, first, ptr, rows, parent)
+    return first, ptr, rows, parent

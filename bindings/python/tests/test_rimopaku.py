@@ -11,7 +11,7 @@ import scipy.sparse as sp
 from scipy.sparse.linalg import splu
 
 import rimopaku
-from rimopaku import _library, amd, analyze, counts
+from rimopaku import _library, amd, analyze, counts, supernodes
 
 try:
     import matplotlib
@@ -162,6 +162,26 @@ class Factors(unittest.TestCase):
                     self.assertEqual((told.parent.tolist(), told.nnz), (parents, analysis.nnz))
                     if p is None:
                         self.assertLessEqual(analysis.nnz, analysis.info.lnz)
+
+    def test_supernodes(self):
+        """The columns of each supernode, beside those of `analyze`; and no longer runs could be."""
+        empty, apart = sp.csc_matrix((0, 0)), sp.identity(3, format="csc")
+        for A in (FIVE, grid(9), drawn(60, 0.05, 1), drawn(60, 0.2, 2), empty, apart):
+            told, factor = supernodes(A), analyze(A)
+            self.assertEqual(told.p.tolist(), factor.p.tolist())
+            column = [factor.indices[i:j].tolist() for i, j in zip(factor.indptr, factor.indptr[1:])]
+            joined = [bool(c) and c[0] == k + 1 and len(c) == len(column[k + 1]) + 1 for k, c in enumerate(column)]
+            begins = [k for k in range(len(column)) if k == 0 or not joined[k - 1]]
+            self.assertEqual(told.first.tolist(), [*begins, len(column)])
+            for s, (low, high) in enumerate(zip(told.first, told.first[1:])):
+                below = told.indices[told.indptr[s] : told.indptr[s + 1]].tolist()
+                for k in range(low, high):
+                    self.assertEqual(column[k], [*range(k + 1, high), *below])
+                over = told.parent[s]
+                self.assertEqual(over >= 0, bool(below))
+                if below:
+                    self.assertTrue(told.first[over] <= below[0] < told.first[over + 1])
+        self.assertRaises(ValueError, supernodes, FIVE, p=[0, 0, 1, 2, 3])
 
     def test_a_full_factor(self):
         star = sp.csc_matrix((np.ones(99), np.arange(1, 100), [0] + [99] * 100), shape=(100, 100))

@@ -5,7 +5,7 @@ use crate::order::{order_matrix, Control, Fault, Info};
 use crate::raw::{Entries, Needs, Tallies, Word};
 use alloc::vec;
 use alloc::vec::Vec;
-use num_traits::{cast, PrimInt};
+use num_traits::{cast, NumCast, PrimInt};
 
 /// The entries of a factor `L` below its diagonal, column by column. A place is that of a row in the order, from 0
 /// on.
@@ -86,7 +86,7 @@ impl Need {
 }
 
 /// The parents in the caller's numbers. -1 is the parent of an empty column.
-fn parents_of<I: PrimInt, T: Word>(parent: &[T]) -> Result<Vec<Option<I>>, Fault> {
+pub(crate) fn parents_of<I: NumCast, T: Word>(parent: &[T]) -> Result<Vec<Option<I>>, Fault> {
     let mut parents = room(parent.len())?;
     parents.extend(parent.iter().map(|&place| if place < T::zero() { None } else { cast(place) }));
     Ok(parents)

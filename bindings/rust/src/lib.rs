@@ -13,6 +13,7 @@
 //! - [`order_holding`] places rows that the caller marks last;
 //! - [`columns`] returns the exact pattern of the factor in any order of the rows, with the elimination tree, and
 //!   [`counts`] how many entries its columns have and what it needs;
+//! - [`supernodes`] returns these columns by supernodes;
 //! - [`analyze`] does both, an ordering and the factor under it.
 //!
 //! ```
@@ -45,9 +46,11 @@ mod factor;
 mod numbers;
 mod order;
 mod raw;
+mod supernodal;
 mod text;
 
 pub use factor::{analyze, analyze_holding, columns, columns_within, counts, Analysis, Counts, Factor, Need};
 pub use order::{order, order_holding, try_order, Control, Fault, Info, Ordering, Status};
+pub use supernodal::{supernodes, Supernodes};
 #[cfg(feature = "std")]
 pub use text::{control, info};

@@ -1,4 +1,5 @@
-//! The calls of `include/rimopaku.h`, and a safe function for each of them. Called by `order` and `factor`.
+//! The calls of `include/rimopaku.h`, and a safe function for each of them. Called by `order`, `factor`
+//! and `supernodal`.
 
 use num_traits::PrimInt;
 
@@ -42,6 +43,14 @@ pub(crate) struct Needs {
     pub d_max: usize,
 }
 
+/// `struct rimopaku_supernode_sizes`.
+#[repr(C)]
+#[derive(Default)]
+pub(crate) struct Sizes {
+    pub supernodes: usize,
+    pub rows: usize,
+}
+
 /// A type of numbers that the library has calls for.
 pub(crate) trait Word: PrimInt {
     /// A number that no column form has, in place of one that the type does not have.
@@ -55,6 +64,12 @@ pub(crate) trait Word: PrimInt {
 
     /// Calls `rimopaku_counts`, and returns the status.
     fn counts(input: Columns<Self>, p: &[Self], output: Tallies<Self>) -> i32;
+
+    /// Calls `rimopaku_supernode_sizes`, and returns the status.
+    fn supernode_sizes(input: Columns<Self>, p: &[Self], output: &mut Sizes) -> i32;
+
+    /// Calls `rimopaku_supernodes`, and returns the status.
+    fn supernodes(input: Columns<Self>, p: &[Self], output: Blocks<Self>) -> i32;
 }
 
 /// A matrix in compressed sparse columns.
@@ -86,8 +101,24 @@ pub(crate) struct Tallies<'a, T> {
     pub needs: &'a mut Needs,
 }
 
+/// Where the supernodes of a factor are written.
+pub(crate) struct Blocks<'a, T> {
+    pub first: &'a mut [T],
+    pub ptr: &'a mut [T],
+    pub rows: &'a mut [T],
+    pub parent: &'a mut [T],
+}
+
 macro_rules! word {
-    ($word:ty, $order:ident, $order_holding:ident, $columns:ident, $counts:ident) => {
+    (
+        $word:ty,
+        $order:ident,
+        $order_holding:ident,
+        $columns:ident,
+        $counts:ident,
+        $supernode_sizes:ident,
+        $supernodes:ident
+    ) => {
         extern "C" {
             fn $order(
                 n: $word,
@@ -145,6 +176,33 @@ macro_rules! word {
                 parent: *mut $word,
                 parent_len: usize,
                 needs: *mut Needs,
+            ) -> i32;
+            fn $supernode_sizes(
+                n: $word,
+                a_p: *const $word,
+                a_p_len: usize,
+                a_i: *const $word,
+                a_i_len: usize,
+                p: *const $word,
+                p_len: usize,
+                sizes: *mut Sizes,
+            ) -> i32;
+            fn $supernodes(
+                n: $word,
+                a_p: *const $word,
+                a_p_len: usize,
+                a_i: *const $word,
+                a_i_len: usize,
+                p: *const $word,
+                p_len: usize,
+                first: *mut $word,
+                first_len: usize,
+                ptr: *mut $word,
+                ptr_len: usize,
+                rows: *mut $word,
+                rows_len: usize,
+                parent: *mut $word,
+                parent_len: usize,
             ) -> i32;
         }
 
@@ -239,9 +297,58 @@ macro_rules! word {
                     )
                 }
             }
+
+            fn supernode_sizes(input: Columns<$word>, p: &[$word], output: &mut Sizes) -> i32 {
+                let Columns { n, a_p, a_i } = input;
+                // SAFETY: as in `order`.
+                unsafe {
+                    $supernode_sizes(n, a_p.as_ptr(), a_p.len(), a_i.as_ptr(), a_i.len(), p.as_ptr(), p.len(), output)
+                }
+            }
+
+            fn supernodes(input: Columns<$word>, p: &[$word], output: Blocks<$word>) -> i32 {
+                let Columns { n, a_p, a_i } = input;
+                let Blocks { first, ptr, rows, parent } = output;
+                // SAFETY: as in `order`.
+                unsafe {
+                    $supernodes(
+                        n,
+                        a_p.as_ptr(),
+                        a_p.len(),
+                        a_i.as_ptr(),
+                        a_i.len(),
+                        p.as_ptr(),
+                        p.len(),
+                        first.as_mut_ptr(),
+                        first.len(),
+                        ptr.as_mut_ptr(),
+                        ptr.len(),
+                        rows.as_mut_ptr(),
+                        rows.len(),
+                        parent.as_mut_ptr(),
+                        parent.len(),
+                    )
+                }
+            }
         }
     };
 }
 
-word!(i32, rimopaku_order_i32, rimopaku_order_holding_i32, rimopaku_columns_i32, rimopaku_counts_i32);
-word!(i64, rimopaku_order_i64, rimopaku_order_holding_i64, rimopaku_columns_i64, rimopaku_counts_i64);
+word!(
+    i32,
+    rimopaku_order_i32,
+    rimopaku_order_holding_i32,
+    rimopaku_columns_i32,
+    rimopaku_counts_i32,
+    rimopaku_supernode_sizes_i32,
+    rimopaku_supernodes_i32
+);
+word!(
+    i64,
+    rimopaku_order_i64,
+    rimopaku_order_holding_i64,
+    rimopaku_columns_i64,
+    rimopaku_counts_i64,
+    rimopaku_supernode_sizes_i64,
+    rimopaku_supernodes_i64
+);

@@ -2,8 +2,8 @@
 
 use num_traits::{cast, NumAssignOps, PrimInt};
 use rimopaku_amd::{
-    analyze, analyze_holding, columns, columns_within, counts, order, order_holding, try_order, Control, Fault, Info,
-    Status,
+    analyze, analyze_holding, columns, columns_within, counts, order, order_holding, supernodes, try_order, Control,
+    Fault, Info, Status,
 };
 use std::fmt::{Debug, Display};
 
@@ -138,6 +138,20 @@ fn a_factor() {
     assert_eq!(counts(4, &a_p[1..], &a_i, &[0, 1, 2, 3]).err(), Some(Fault::Invalid));
     assert_eq!(columns_within(4, &a_p, &a_i, &[0, 1, 2, 3], 4).err(), Some(Fault::RoomTooSmall));
     assert_eq!(columns_within(4, &a_p, &a_i, &[0, 1, 2, 3], 5).expect("a factor"), factor);
+}
+
+/// A cycle of four rows, whose columns are {1, 3}, {2, 3}, {3} and {}.
+#[test]
+fn supernodes_of_a_cycle() {
+    let (a_p, a_i) = ([0, 2, 3, 4, 4], [1, 3, 2, 3]);
+    let told = supernodes(4_i32, &a_p, &a_i, &[0, 1, 2, 3]).expect("supernodes");
+    assert_eq!((&told.first[..], &told.ptr[..]), (&[0, 1, 4][..], &[0, 2, 2][..]));
+    assert_eq!((&told.rows[..], &told.parent[..]), (&[1, 3][..], &[Some(1), None][..]));
+    assert_eq!((told.len(), told.below(0), told.below(1).len()), (2, &[1, 3][..], 0));
+    assert_eq!(supernodes(4, &a_p, &a_i, &[0, 0, 2, 3]).err(), Some(Fault::NotPermutation));
+    assert_eq!(supernodes(4, &a_p[1..], &a_i, &[0, 1, 2, 3]).err(), Some(Fault::Invalid));
+    assert!(supernodes::<u8>(0, &[], &[], &[]).expect("supernodes").is_empty());
+    assert_eq!(supernodes::<u8>(0, &[], &[], &[0]).err(), Some(Fault::NotPermutation));
 }
 
 /// A factor of more entries than twice those of the matrix: the hub of a star comes first.
