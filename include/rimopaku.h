@@ -11,8 +11,8 @@
  *   - A `bool` is 0 or 1.
  *   - malloc, realloc and free belong to one allocator, as in the C library. No function is called from a signal handler.
  *
- * Everything else is checked, except by rimopaku_amd_2_i64: the arrays and `n` may have any values. No call ends the program. Each block of
- * memory that a call takes is freed before it returns; this is tested, and not proved.
+ * Everything else is checked, except by rimopaku_amd_2_i32 and rimopaku_amd_2_i64: the arrays and `n` may have any values. No call ends the
+ * program. Each block of memory that a call takes is freed before it returns; this is tested, and not proved.
  *
  * A matrix with n rows and n columns is passed in compressed sparse columns, called a column form: `a_p` has n + 1 numbers or more; the
  * first is 0; they never descend up to a_p[n]; a_p[n] is at most a_i_len; and column j has the rows a_i[a_p[j]] to a_i[a_p[j + 1] - 1],
@@ -223,6 +223,13 @@ int32_t rimopaku_postorder_i64(int64_t n, const int64_t *parent, size_t parent_l
 int32_t rimopaku_amd_2_i64(int64_t n, int64_t *pe, size_t pe_len, int64_t *iw, size_t iw_len, size_t *len, size_t len_len, size_t pfree,
                            const struct rimopaku_parameters *parameters, int64_t *nv, size_t nv_len, int64_t *p_inv, size_t p_inv_len,
                            int64_t *p, size_t p_len, int64_t *e_len, size_t e_len_len, struct rimopaku_statistics *statistics);
+
+/* The same in 32 bits, in copies of the lists: iw and len stay as they are, and after RIMOPAKU_OUT_OF_MEMORY pe does too. The caller must
+ * uphold the same, with iw_len in the place of pfree: the lists fill iw, and no room is needed behind them. Besides, n + 2 and iw_len + n
+ * are at most INT32_MAX. */
+int32_t rimopaku_amd_2_i32(int32_t n, int32_t *pe, size_t pe_len, const int32_t *iw, size_t iw_len, const uint32_t *len, size_t len_len,
+                           const struct rimopaku_parameters *parameters, int32_t *nv, size_t nv_len, int32_t *p_inv, size_t p_inv_len,
+                           int32_t *p, size_t p_len, int32_t *e_len, size_t e_len_len, struct rimopaku_statistics *statistics);
 
 #ifdef __cplusplus
 }

@@ -163,6 +163,20 @@ static int32_t lists_64(struct answer *to)
                               to->wide + ROWS, ROWS, to->wide + 2 * ROWS, ROWS, to->wide + 3 * ROWS, ROWS, &to->statistics);
 }
 
+/* The same in 32 bits, where `pe` too must stay as it is if a request is refused. */
+static int32_t lists_32(struct answer *to)
+{
+    static const int32_t begins[] = {0, 1, 4, 7, 8}, iw[] = {1, 0, 2, 4, 1, 3, 4, 2, 1, 2};
+    static const uint32_t len[] = {1, 3, 3, 1, 2};
+    int32_t pe[ROWS], status;
+    memcpy(pe, begins, sizeof pe);
+    status = rimopaku_amd_2_i32(ROWS, pe, ROWS, iw, 10, len, ROWS, &(struct rimopaku_parameters){10000, true}, to->narrow, ROWS,
+                                to->narrow + ROWS, ROWS, to->narrow + 2 * ROWS, ROWS, to->narrow + 3 * ROWS, ROWS, &to->statistics);
+    if (status != RIMOPAKU_OK && memcmp(pe, begins, sizeof pe) != 0)
+        printf("amd_2, 32 bits: pe was written where a request was refused\n");
+    return status;
+}
+
 /* Fills everything that a call may write. */
 static void untouch(struct answer *answer)
 {
@@ -217,6 +231,7 @@ int main(void)
     refuse_each("preprocess, 64 bits", preprocess_64);
     refuse_each("postorder, 32 bits", postorder_32);
     refuse_each("postorder, 64 bits", postorder_64);
+    refuse_each("amd_2, 32 bits", lists_32);
     refuse_each("amd_2, 64 bits", lists_64);
     return 0;
 }

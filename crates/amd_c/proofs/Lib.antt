@@ -14,3 +14,7 @@ pub mod ForestsLeft
 mod Degrees
 -- What the supernodes of a factor leave, and the same in the numbers of C.
 pub mod SupernodesLeft
+-- Lists that are laid, and copies of them.
+pub mod SameLists
+-- What the elimination of lists leaves.
+pub mod Eliminated

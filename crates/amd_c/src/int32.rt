@@ -1,17 +1,22 @@
 // The exports for `int32_t`. Each is a thin call of `writing`, `factors` or the crate `amd`, and says its contract
 // again. Called by C.
 
-ghost use Rattle.std.specs.Prelude.{None, Some};
+ghost use Rattle.std.specs.Prelude.{◌≡◌, ◌<◌, ◌+◌, ◌^◌, ℕ, negsuc, pos, List, None, Some, length};
+ghost use Rattle.amd_model.specs.Graph.{Graph};
+ghost use Rattle.amd_workspace.specs.Laying.{IsLaidOut};
+ghost use Rattle.amd_engine.specs.InPlace.{LaysGraph};
 ghost use Rattle.amd_c.specs.Calls.{ClassifiesInput, OrdersInto, memory};
 ghost use Rattle.amd_c.specs.Columns.{ColumnsInto, arrays};
 ghost use Rattle.amd_c.specs.Counting.{CountsInto, tallies};
 ghost use Rattle.amd_c.specs.Forests.{PostorderInto};
+ghost use Rattle.amd_c.specs.Laid.{EliminatesInto, HasPlacesFor, eliminated};
 ghost use Rattle.amd_c.specs.Patterns.{DegreesInto, RowFormInto, counted, row_arrays};
 ghost use Rattle.amd_c.specs.Supernodal.{SizesInto, SupernodesInto, blocks};
 
 use crate::counting::counts_into;
 use crate::factors::{columns_into, number_of_end};
 use crate::forests::postorder_into;
+use crate::narrow::eliminate_narrow;
 use crate::patterns::{degrees_into, row_form_into};
 use crate::records::{Needs, Parameters, Statistics, SupernodeSizes, number_of};
 use crate::supernodal::{supernode_sizes_into, supernodes_into};
@@ -314,5 +319,52 @@ pub extern "C" fn rimopaku_postorder_i32(
     ensures { PostorderInto n parent.now nv.now f_size.now order.old order.new result }
 {
     let status = postorder_into(alloc, n, parent, nv, f_size, order);
+    number_of(&status)
+}
+
+/// Eliminates the rows of lists that are laid, as `amd_2` of the crate `amd_engine`, in copies of 32 bits, and returns
+/// 0.
+///
+/// There is at least one row, and each array but `iw` has `n` places; `n + 2` and the length of `iw` plus `n` are below
+/// 2^31. The list of row `i` is the `len[i]` numbers from place `pe[i]` of `iw` on: the neighbours of the row, each
+/// once; and the lists fill `iw`. The number of rows of the block of each element is written into `nv`, the inverse of
+/// the permutation into `p_inv`, the permutation into `p`, the number of rows of the front of each element into
+/// `e_len`, with 0 and -1 for what is none, and the parent of each element into `pe`, with -1 for none, or else a link
+/// toward the element of the row. Of `statistics` the field `n` and those of the elimination are told, and the others
+/// are 0. See `include/rimopaku.h` for what a caller must uphold.
+///
+/// # Errors
+///
+/// -1, `OutOfMemory`, where a request for memory was refused; all stays as it was.
+///
+/// Source: Amestoy, Davis and Duff 1996 and 2004.
+#[unsafe(no_mangle)]
+pub extern "C" fn rimopaku_amd_2_i32(
+    alloc: Global,
+    n: i32,
+    pe: &mut [i32],
+    iw: &[i32],
+    len: &[u32],
+    parameters: &Parameters,
+    nv: &mut [i32],
+    p_inv: &mut [i32],
+    p: &mut [i32],
+    e_len: &mut [i32],
+    statistics: &mut Statistics,
+) -> i32
+    requires size { n ≡ pos (length len.now) }
+    requires some { 0 < length len.now }
+    requires narrow { (length len.now + 2 < 2 ^ 31) × (length iw.now + length len.now < 2 ^ 31) }
+    requires laid { IsLaidOut (length len.now) iw.now pe.old len.now (length iw.now) }
+    requires graph { (g : Graph) × (lists : ℕ → List ℕ) × LaysGraph g lists iw.now pe.old len.now }
+    requires places { HasPlacesFor (length len.now) (eliminated nv.old p.old p_inv.old e_len.old statistics.old) }
+    ensures leaves { EliminatesInto parameters.now iw.now pe.old len.now pe.new
+        (eliminated nv.old p.old p_inv.old e_len.old statistics.old)
+        (eliminated nv.new p.new p_inv.new e_len.new statistics.new) result }
+    ensures kept { result ≡ negsuc 0 → pe.new ≡ pe.old }
+{
+    let status = eliminate_narrow(
+        alloc, n, pe, iw, len, parameters, nv, p_inv, p, e_len, statistics,
+    );
     number_of(&status)
 }

@@ -10,12 +10,12 @@ ghost use Rattle.amd_workspace.specs.Laying.{IsLaidOut};
 ghost use Rattle.amd_engine.specs.InPlace.{LaysGraph};
 
 use crate::int64::rimopaku_amd_2_i64;
-use crate::records::{Parameters, statistics_of};
+use crate::records::{Parameters, Statistics, statistics_of};
 use amd::valid::valid;
 use amd::{Info, Status};
 use amd_engine::amd_1::holds;
 use amd_input::aat::aat;
-use amd_words::{Cell, Word, cell_at, word_at};
+use amd_words::{Cell, Signed, Unsigned, Word, cell_at, word_at};
 use amd_workspace::laying::{Laid, lay};
 use num_traits::PrimInt;
 use std::alloc::Global;
@@ -51,14 +51,14 @@ fn degrees_of<I: PrimInt>(
 }
 
 /// The lists of a sorted matrix, laid with no word to spare.
-fn laid_of(
+pub fn laid_of<I: PrimInt, S: Signed, U: Unsigned>(
     rt: &impl Abort,
     alloc: Global,
-    n: i64,
-    a_p: &[i64],
-    a_i: &[i64],
-) -> Laid<isize, usize, Global>
-    ensures size { (n ≡ pos (length result.len.items)) × (0 < length result.len.items) }
+    n: I,
+    a_p: &[I],
+    a_i: &[I],
+) -> Laid<S, U, Global>
+    ensures size { (I.value n ≡ pos (length result.len.items)) × (0 < length result.len.items) }
     ensures laid { IsLaidOut (length result.len.items) result.iw.items result.pe.items result.len.items result.free }
     ensures graph { (g : Graph) × (lists : ℕ → List ℕ) ×
         LaysGraph g lists result.iw.items result.pe.items result.len.items }
@@ -66,7 +66,7 @@ fn laid_of(
 {
     let (degrees, room) = degrees_of(rt, alloc, n, a_p, a_i);
     let size = degrees.len();
-    assert!(rt; size < 1 << 60 && holds::<isize, usize>(size, room, 2));
+    assert!(rt; size < 1 << 60 && holds::<S, U>(size, room, 2));
     let Ok(laid) = lay(alloc, size, a_p, a_i, &degrees, room) else {
         panic!(rt; "not laid");
     };
@@ -111,6 +111,19 @@ struct Left<'a> {
     figures: [usize; 7],
 }
 
+/// The figures of an elimination, in the order of the fields.
+pub fn figures_of(told: &Statistics) -> [usize; 7] {
+    [
+        told.n_dense,
+        told.n_cmp_a,
+        told.lnz,
+        told.n_div,
+        told.n_mult_subs_ldl,
+        told.n_mult_subs_lu,
+        told.d_max,
+    ]
+}
+
 /// Asserts what an elimination of `R` rows leaves of the lists of a sorted matrix.
 fn check<const R: usize>(rt: &impl Abort, alloc: Global, a_p: &[i64], a_i: &[i64], left: &Left) {
     assert!(rt; R < 1 << 60);
@@ -145,16 +158,7 @@ fn check<const R: usize>(rt: &impl Abort, alloc: Global, a_p: &[i64], a_i: &[i64
     assert!(rt; p.as_slice() == left.p && p_inv.as_slice() == left.p_inv);
     assert!(rt; nv.as_slice() == left.nv && e_len.as_slice() == left.e_len);
     assert!(rt; pe.as_slice() == left.pe);
-    let figures = [
-        told.n_dense,
-        told.n_cmp_a,
-        told.lnz,
-        told.n_div,
-        told.n_mult_subs_ldl,
-        told.n_mult_subs_lu,
-        told.d_max,
-    ];
-    assert!(rt; figures == left.figures);
+    assert!(rt; figures_of(&told) == left.figures);
 }
 
 #[test]

@@ -1,6 +1,6 @@
-//! The library as C calls it: `order`, `order_holding`, `valid`, `aat` and `preprocess` of the crate `amd`, and
-//! `columns`, `counts` and `supernodes` of the crate `amd_symbolic`, for `int32_t` ([`int32`]) and `int64_t`
-//! ([`int64`]); and `amd_2` of the crate `amd_engine` for `int64_t`.
+//! The library as C calls it: `order`, `order_holding`, `valid`, `aat` and `preprocess` of the crate `amd`, `columns`,
+//! `counts` and `supernodes` of the crate `amd_symbolic`, and `amd_2` of the crate `amd_engine`, for `int32_t`
+//! ([`int32`]) and `int64_t` ([`int64`]).
 //!
 //! A slice crosses as a pointer and a length, and a record by its address. An ordering is written into the caller's
 //! arrays, and a call returns the number of a status. The header `include/rimopaku.h` says what a caller must uphold.
@@ -12,6 +12,7 @@ mod forests;
 pub mod int32;
 pub mod int64;
 mod laid;
+mod narrow;
 mod patterns;
 pub mod records;
 mod supernodal;
@@ -36,6 +37,8 @@ pub extern "C" fn rimopaku_defaults(parameters: &mut Parameters)
 
 #[cfg(test)]
 mod laid_tests;
+#[cfg(test)]
+mod narrow_tests;
 #[cfg(test)]
 mod supernode_tests;
 #[cfg(test)]
