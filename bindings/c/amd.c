@@ -45,13 +45,13 @@ static void tell_pattern(double Info[], double n, const struct rimopaku_statisti
     Info[AMD_NZ_A_PLUS_AT] = (double)told->nz_a_plus_at;
 }
 
-/* Asks for as much memory as an elimination of n rows takes beside `more` bytes, up to 32 MB, and gives it back at once: an allocator keeps
- * as much for later, and need not take each page from the system anew. The proved call that orders a matrix does so too. Returns false if
- * malloc refuses it. */
-static bool has_memory(size_t n, size_t more)
+/* Asks for as much memory as an elimination of n rows takes, `each` bytes for a row and `more` bytes, up to 32 MB, and gives it back at
+ * once: an allocator keeps as much for later, and need not take each page from the system anew. The proved call that orders a matrix does
+ * so too. Returns false if malloc refuses it. */
+static bool has_memory(size_t n, size_t each, size_t more)
 {
     const size_t most = 33500000;
-    void *volatile block = malloc(n < most / 104 && 104 * n + more < most ? 104 * n + more : most);
+    void *volatile block = malloc(n < most / each && each * n + more < most ? each * n + more : most);
     bool has = block != NULL;
 
     free(block);

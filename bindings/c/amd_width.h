@@ -114,7 +114,7 @@ static int32_t NAME(eliminate)(INT n, INT begins[], INT lists[], size_t places, 
     size_t size = (size_t)n, words = (size_t)begins[n];
     int32_t status = RIMOPAKU_OUT_OF_MEMORY;
 
-    if (has_memory(size, 0))
+    if (has_memory(size, 104, 0))
         status = rimopaku_amd_2_i64(n, begins, size, lists, places, (size_t *)Len, size, words, parameters, Nv, size, Next, size, Last,
                                     size, Elen, size, told);
     memcpy(Pe, begins, size * sizeof(INT));
@@ -122,14 +122,13 @@ static int32_t NAME(eliminate)(INT n, INT begins[], INT lists[], size_t places, 
 }
 #else
 /* Eliminates the rows of lists that passed the test, in copies of 64 bits, which are one block. */
-static int32_t NAME(eliminate)(INT n, INT begins[], INT lists[], size_t places, INT Len[], INT Pe[], INT Nv[], INT Next[], INT Last[],
-                               INT Elen[], const struct rimopaku_parameters *parameters, struct rimopaku_statistics *told)
+static int32_t NAME(eliminate_wide)(INT n, const INT begins[], const INT lists[], const INT Len[], INT Pe[], INT Nv[], INT Next[],
+                                    INT Last[], INT Elen[], const struct rimopaku_parameters *parameters, struct rimopaku_statistics *told)
 {
     size_t size = (size_t)n, words = (size_t)begins[n], room = words + words / 5 + size, bytes = (6 * size + room) * sizeof(int64_t);
-    int64_t *pe = has_memory(size, bytes) ? (int64_t *)malloc(bytes) : NULL;
+    int64_t *pe = has_memory(size, 104, bytes) ? (int64_t *)malloc(bytes) : NULL;
     int64_t *len, *nv, *next, *last, *e_len, *iw;
     int32_t status;
-    (void)places;
 
     if (pe == NULL)
         return RIMOPAKU_OUT_OF_MEMORY;
@@ -156,6 +155,24 @@ static int32_t NAME(eliminate)(INT n, INT begins[], INT lists[], size_t places, 
         Elen[i] = (INT)e_len[i];
     }
     free(pe);
+    return status;
+}
+
+/* Eliminates the rows of lists that passed the test, in copies of 32 bits, or of 64 where 32 do not count a word for each row beside those
+ * of the lists. `begins` is used up. */
+static int32_t NAME(eliminate)(INT n, INT begins[], INT lists[], size_t places, INT Len[], INT Pe[], INT Nv[], INT Next[], INT Last[],
+                               INT Elen[], const struct rimopaku_parameters *parameters, struct rimopaku_statistics *told)
+{
+    size_t size = (size_t)n, words = (size_t)begins[n];
+    int32_t status = RIMOPAKU_OUT_OF_MEMORY;
+    (void)places;
+
+    if (size + 2 > INT32_MAX || words + size > INT32_MAX)
+        return NAME(eliminate_wide)(n, begins, lists, Len, Pe, Nv, Next, Last, Elen, parameters, told);
+    if (has_memory(size, 48, (words + words / 5 + size) * sizeof(INT)))
+        status = rimopaku_amd_2_i32(n, begins, size, lists, words, (const uint32_t *)Len, size, parameters, Nv, size, Next, size, Last,
+                                    size, Elen, size, told);
+    memcpy(Pe, begins, size * sizeof(INT));
     return status;
 }
 #endif
