@@ -4,3 +4,4 @@ pub mod BoeingLemmas
 pub mod FaultLemmas
 pub mod FileLemmas
 pub mod ColumnLemmas
+pub mod KeyLemmas

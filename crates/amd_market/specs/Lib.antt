@@ -5,4 +5,5 @@ pub mod Arrays
 pub mod Boeing
 pub mod Faults
 pub mod Columns
+pub mod Keys
 pub mod Files

@@ -53,6 +53,7 @@ mod fields;
 mod formats;
 pub mod found;
 pub mod headers;
+mod keys;
 pub mod lines;
 pub mod matrices;
 pub mod reader;
