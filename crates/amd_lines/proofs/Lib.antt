@@ -2,3 +2,5 @@ pub mod WordLemmas
 pub mod WrittenLists
 pub mod BlockLemmas
 pub mod LineLemmas
+pub mod NumberLemmas
+pub mod FloatLemmas

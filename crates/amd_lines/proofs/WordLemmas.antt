@@ -11,7 +11,7 @@ use Rattle.std.specs.List.{slice_split, position, position_or_len}
 use Rattle.amd_lines.specs.Words.{has_bytes}
 
 -- the parts of a list between elements that pass, but for empty ones
-abbrev parts : (ℕ → Bool) → List ℕ → List (List ℕ)
+abbrev pub parts : (ℕ → Bool) → List ℕ → List (List ℕ)
 parts p xs = filter has_bytes (slice_split p xs)
 
 one-plus : (n : ℕ) → 1 + n ≡ suc n
@@ -66,7 +66,7 @@ no-parts p xs h = at (ltb (position_or_len (λ x. not (p x)) xs) (length xs)) re
     at false e h = sym (parts-skip p xs) ∙ ap (parts p) (drop_all (position_or_len (λ x. not (p x)) xs) xs (ltb-false _ _ e))
 
 -- the place is that of the search by length
-place-is : (p : ℕ → Bool) (xs : List ℕ) (i : ℕ) → position p xs ≡ Some i → position_or_len p xs ≡ i
+pub place-is : (p : ℕ → Bool) (xs : List ℕ) (i : ℕ) → position p xs ≡ Some i → position_or_len p xs ≡ i
 place-is p xs i h = at (ltb (position_or_len p xs) (length xs)) h
   where
     at : (b : Bool) → cond b (Some (position_or_len p xs)) None ≡ Some i → position_or_len p xs ≡ i

@@ -1,9 +1,10 @@
 -- The words of a line, and the numbers that words spell.
-use Rattle.std.specs.Prelude.{◌≡◌, ℕ, ℤ, Bool, List, [], ◌∷◌, length, nat_lt, filter, FitsSigned}
-use Rattle.std.specs.Int.{w64}
+use Rattle.std.specs.Prelude.{◌≡◌, ◌<◌, ◌≤◌, ◌^◌, ℕ, ℤ, Bool, false, List, [], ◌∷◌, ◌++◌, length, take, slice_index, nat_lt, filter, FitsSigned}
+use Rattle.std.specs.Int.{w64, IsInRange}
 use Rattle.std.specs.Char.{is_ascii_whitespace}
+use Rattle.std.specs.Float.Parse.{completes_number}
 use Rattle.std.specs.List.{slice_split}
-use Rattle.std.specs.Str.Parse.{IsNumeral, without_leading_sign, signed_digits_value}
+use Rattle.std.specs.Str.Parse.{IsNumeral, digits_value, without_leading_sign, signed_digits_value}
 
 -- whether a part of a line has a byte
 abbrev pub has_bytes : List ℕ → Bool
@@ -29,3 +30,16 @@ SpellsNumbers [] [] = Unit {0}
 SpellsNumbers (w ∷ ws) (z ∷ zs) = SpellsNumber w z × SpellsNumbers ws zs
 SpellsNumbers [] (z ∷ zs) = ⊥
 SpellsNumbers (w ∷ ws) [] = ⊥
+
+-- the first k bytes of a text are digits, and write the number
+pub record LeadsNumber (text : List ℕ) (k number : ℕ) : Type 0 where
+  pub within : k ≤ length text
+  pub digits : (i : ℕ) → i < k → IsInRange 48 57 (slice_index text i)
+  pub value : number ≡ digits_value 10 (take k text)
+  pub small : number < 2 ^ 63
+
+-- the first k bytes of a text are no white space, and a reader of a float has come to the state behind them
+pub record Scanned (text : List ℕ) (k state : ℕ) : Type 0 where
+  pub within : k ≤ length text
+  pub parted : (i : ℕ) → i < k → is_ascii_whitespace (slice_index text i) ≡ false
+  pub reads : (tail : List ℕ) → completes_number 0 (take k text ++ tail) ≡ completes_number state tail

@@ -12,4 +12,5 @@
 mod blocks;
 pub mod errors;
 pub mod lines;
+pub mod values;
 pub mod words;

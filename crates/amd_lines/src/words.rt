@@ -2,13 +2,16 @@
 // `amd_market`, and `held` of `amd_command`. Words are parted by ASCII white space, which takes in the line's end; a
 // number is what `parse` of the standard library takes.
 
-ghost use Rattle.std.specs.Prelude.{◌≡◌, ◌<◌, ◌∷◌, ℤ, [], length, not, IfSome, MatchOption};
-ghost use Rattle.std.specs.List.{position};
+ghost use Rattle.std.specs.Prelude.{◌≡◌, ◌<◌, ◌∷◌, ℕ, ℤ, pos, List, [], length, take, not, IfSome, MatchOption};
+ghost use Rattle.std.specs.List.{position, position_or_len};
 ghost use Rattle.std.specs.Char.{is_ascii_whitespace};
 ghost use Rattle.amd_lines.specs.Words.{words, BeginsWithByte, SpellsNumber};
 
+/// The greatest number to whose digits one more is added.
+const MOST: usize = 1 << 59;
+
 /// Where the first byte stands that is no white space.
-fn word_start(line: &[u8]) -> Option<usize>
+pub(crate) fn word_start(line: &[u8]) -> Option<usize>
     ensures { result ≡ position (λ b. not (is_ascii_whitespace b)) line.now }
 {
     line.iter().position(|b| !b.is_ascii_whitespace())
@@ -45,4 +48,40 @@ pub fn number_of(word: &[u8]) -> Option<i64>
     ensures { MatchOption result ((z : ℤ) → SpellsNumber word.now z → ⊥) (SpellsNumber word.now) }
 {
     fast_float::parse_i64(word).ok()
+}
+
+/// The number that the digits at the front of a text write, and how many they are; `None` where there are none, where
+/// they are many, and where no white space follows them.
+#[inline]
+fn leading_number(text: &[u8]) -> Option<(usize, usize)>
+    ensures some { IfSome result (λ p. 0 < p.1) }
+    ensures ends { IfSome result (λ p. position_or_len is_ascii_whitespace text.now ≡ p.1) }
+    ensures spells { IfSome result (λ p. SpellsNumber (take p.1 text.now) (pos p.0)) }
+{
+    let mut number = 0;
+    'digits: for (place, &byte) in text.iter().enumerate() {
+        if !byte.is_ascii_digit() {
+            if place == 0 || !byte.is_ascii_whitespace() {
+                return None;
+            }
+            return Some((number, place));
+        }
+        if number > MOST {
+            return None;
+        }
+        number = number * 10 + (byte - b'0') as usize;
+    }
+    None
+}
+
+/// The number that the first word of a line spells, and what stands behind that word, where the word is at most 18
+/// digits and white space follows it. `None` says nothing of the line: it may have a longer number, or one with a sign.
+#[inline]
+pub fn first_number(line: &[u8]) -> Option<(usize, &[u8])>
+    ensures { IfSome result (λ p. (w : List ℕ) × (words line.now ≡ w ∷ words p.1.now) × SpellsNumber w (pos p.0)) }
+{
+    let (_, text) = line.split_at(word_start(line)?);
+    let (number, end) = leading_number(text)?;
+    let (_, rest) = text.split_at(end);
+    Some((number, rest))
 }

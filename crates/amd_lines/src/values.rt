@@ -1,0 +1,95 @@
+// A float at the front of a line that is written in digits, looked at byte by byte. Called by `amd_market`.
+
+ghost use Rattle.std.specs.Prelude.{◌≡◌, ◌<◌, ◌∷◌, ◌||◌, ◌==◌, true, cond, [], List, ℕ, take, slice_index, IfSome};
+ghost use Rattle.std.specs.Char.{is_ascii_whitespace};
+ghost use Rattle.std.specs.Float.Parse.{completes_number, float_scan_step, is_float_text};
+ghost use Rattle.std.specs.List.{position_or_len};
+ghost use Rattle.amd_lines.specs.Words.{words};
+
+use crate::words::word_start;
+
+/// How far a reader of a float has come behind one more byte: 1 in the whole part, 2 behind a point with no digit
+/// before it, 3 in the fraction, 4 behind `e`, 5 behind its sign, 6 in the exponent, 7 where it is no float.
+#[inline]
+fn next_state(state: u8, byte: u8) -> u8
+    ensures { result ≡ float_scan_step state byte }
+{
+    if byte.is_ascii_digit() {
+        return if state < 2 {
+            1
+        } else if state < 4 {
+            3
+        } else if state < 7 {
+            6
+        } else {
+            7
+        };
+    }
+    if byte == b'.' {
+        return if state >= 2 {
+            7
+        } else if state == 0 {
+            2
+        } else {
+            3
+        };
+    }
+    if byte == b'e' || byte == b'E' {
+        return if state == 1 || state == 3 { 4 } else { 7 };
+    }
+    if (byte == b'+' || byte == b'-') && state == 4 {
+        5
+    } else {
+        7
+    }
+}
+
+/// Whether a reader of a float may stop.
+#[inline]
+fn completes(state: u8) -> bool
+    ensures { result ≡ completes_number state [] }
+{
+    state == 1 || state == 3 || state == 6
+}
+
+/// How many bytes a float takes that stands at the front of a text, without a sign; `None` where there is none, and
+/// where no white space follows it.
+#[inline]
+fn float_len(text: &[u8]) -> Option<usize>
+    ensures some { IfSome result (λ k. 0 < k) }
+    ensures ends { IfSome result (λ k. position_or_len is_ascii_whitespace text.now ≡ k) }
+    ensures float { IfSome result (λ k. completes_number 0 (take k text.now) ≡ true) }
+{
+    let mut state = 0u8;
+    'bytes: for (place, &byte) in text.iter().enumerate() {
+        if byte.is_ascii_whitespace() {
+            return if completes(state) { Some(place) } else { None };
+        }
+        state = next_state(state, byte);
+    }
+    None
+}
+
+/// How many bytes the sign takes that leads a text: one, or none.
+#[inline]
+fn sign_len(text: &[u8]) -> usize
+    ensures { result ≡ cond (slice_index text.now 0 == 43 || slice_index text.now 0 == 45) 1 0 }
+{
+    if text.is_empty() {
+        return 0;
+    }
+    let first = text[0];
+    if first == b'+' || first == b'-' { 1 } else { 0 }
+}
+
+/// What stands behind the first word of a line, where that word is a float in digits and white space follows it. `None`
+/// says nothing of the line: its first word may be `inf`, or the last one.
+#[inline]
+pub fn behind_float(line: &[u8]) -> Option<&[u8]>
+    ensures { IfSome result (λ r. (w : List ℕ) × (words line.now ≡ w ∷ words r.now) × (is_float_text w ≡ true)) }
+{
+    let (_, text) = line.split_at(word_start(line)?);
+    let (_, body) = text.split_at(sign_len(text));
+    let (_, rest) = body.split_at(float_len(body)?);
+    Some(rest)
+}
