@@ -36,6 +36,14 @@ pub record SpellsEntry (field : Field) (n : ℕ) (line : List ℕ) (e : ℕ × �
   pub column : SpellsIndex second n (e.1)
   pub value : AreValues (value_words field) behind
 
+-- the line begins with the numbers of a row and of a column, and has the words of a text behind them
+pub record BeginsEntry (n : ℕ) (line : List ℕ) (row column : ℕ) (rest : List ℕ) : Type 0 where
+  pub first : List ℕ
+  pub second : List ℕ
+  pub parts : words line ≡ first ∷ (second ∷ words rest)
+  pub has_row : SpellsIndex first n row
+  pub has_column : SpellsIndex second n column
+
 -- the lines are the entries, one by one
 abbrev pub SpellsEntries : Field → ℕ → List (List ℕ) → List (ℕ × ℕ) → Type 0
 SpellsEntries field n [] [] = Unit {0}

@@ -1,14 +1,15 @@
 // The line of the size, and the lines of the entries. Called by `reader`, and by `held` of the crate `amd_command`.
 
-ghost use Rattle.std.specs.Prelude.{◌≡◌, ◌≢◌, ◌∷◌, [], ℕ, List, pos, IsTrue, ◌↔◌, IfErr, MatchOption, MatchResult};
+ghost use Rattle.std.specs.Prelude.{◌≡◌, ◌≢◌, ◌∷◌, [], ℕ, List, pos, IsTrue, ◌↔◌, IfErr, IfSome, MatchOption, MatchResult};
 ghost use Rattle.std.specs.Float.Parse.{is_float_text};
 ghost use Rattle.amd_lines.specs.Words.{words, SpellsNumber};
-ghost use Rattle.amd_market.specs.Entries.{SpellsSize, SpellsIndex, SpellsEntry, AreValues};
+ghost use Rattle.amd_market.specs.Entries.{SpellsSize, SpellsIndex, SpellsEntry, AreValues, BeginsEntry};
 ghost use Rattle.amd_market.specs.Faults.{HasSizeFault, HasRowFault, HasColumnFault, HasValueFault, HasEntryFault};
 
 use crate::faults::ReadFault;
 use crate::headers::Field;
-use amd_lines::words::{first_word, number_of};
+use amd_lines::values::behind_float;
+use amd_lines::words::{first_number, first_word, number_of};
 
 /// How large a matrix is.
 #[derive(Clone, Copy)]
@@ -146,8 +147,44 @@ pub(crate) fn value_fault(text: &[u8], count: usize) -> ReadFault
     }
 }
 
-/// The row and the column, from 0 on, of the entry that a line spells, or what is wrong with the line.
-pub fn entry_of(line: &[u8], field: Field, n: usize) -> Result<(usize, usize), ReadFault>
+/// The row or column of `n` that the first word of a line spells, from 0 on, and what stands behind that word. `None`
+/// says nothing of the line.
+#[inline]
+fn plain_index(line: &[u8], n: usize) -> Option<(usize, &[u8])>
+    ensures { IfSome result (λ p. (w : List ℕ) × (words line.now ≡ w ∷ words p.1.now) × SpellsIndex w n p.0) }
+{
+    let (number, rest) = first_number(line)?;
+    let place = number.checked_sub(1)?;
+    if place < n { Some((place, rest)) } else { None }
+}
+
+/// The row and the column, from 0 on, of an entry that is written in digits, and what stands behind them. `None` says
+/// nothing of the line.
+#[inline]
+fn plain_entry(line: &[u8], n: usize) -> Option<(usize, usize, &[u8])>
+    ensures { IfSome result (λ p. BeginsEntry n line.now p.0 p.1 p.2.now) }
+{
+    let (row, rest) = plain_index(line, n)?;
+    let (column, rest) = plain_index(rest, n)?;
+    Some((row, column, rest))
+}
+
+/// Whether a text is one number in digits, where one is asked for; a `false` says nothing of the text.
+#[inline]
+fn has_plain_value(text: &[u8], count: usize) -> bool
+    ensures { IsTrue result → AreValues count (words text.now) }
+{
+    if count != 1 {
+        return false;
+    }
+    match behind_float(text) {
+        Some(rest) => first_word(rest).is_none(),
+        None => false,
+    }
+}
+
+/// The row and the column, from 0 on, of the entry that a line spells in any way, or what is wrong with the line.
+fn any_entry(line: &[u8], field: Field, n: usize) -> Result<(usize, usize), ReadFault>
     ensures entry { MatchResult result (λ p. SpellsEntry field n line.now (p.0, p.1))
         (λ _. (e : ℕ × ℕ) → SpellsEntry field n line.now e → ⊥) }
     ensures fault { IfErr result (λ f. HasEntryFault field n f line.now) }
@@ -169,4 +206,19 @@ pub fn entry_of(line: &[u8], field: Field, n: usize) -> Result<(usize, usize), R
     } else {
         Err(value_fault(rest, field.words()))
     }
+}
+
+/// The row and the column, from 0 on, of the entry that a line spells, or what is wrong with the line.
+pub fn entry_of(line: &[u8], field: Field, n: usize) -> Result<(usize, usize), ReadFault>
+    ensures entry { MatchResult result (λ p. SpellsEntry field n line.now (p.0, p.1))
+        (λ _. (e : ℕ × ℕ) → SpellsEntry field n line.now e → ⊥) }
+    ensures fault { IfErr result (λ f. HasEntryFault field n f line.now) }
+{
+    if let Some((row, column, rest)) = plain_entry(line, n) {
+        let count = field.words();
+        if has_plain_value(rest, count) || has_values(rest, count) {
+            return Ok((row, column));
+        }
+    }
+    any_entry(line, field, n)
 }
