@@ -2,6 +2,7 @@
 pub mod Causes
 pub mod Texts
 pub mod Held
+pub mod Orders
 pub mod Degrees
 pub mod Descriptions
 pub mod Json

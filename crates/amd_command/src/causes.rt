@@ -3,6 +3,7 @@
 ghost use Rattle.amd_command.specs.Causes.{exit_status};
 ghost use Rattle.std.specs.Prelude.{◌≡◌};
 
+use crate::order_faults::OrderFault;
 use amd::Status;
 use amd_market::faults::{ReadError, ReadFault};
 use amd_symbolic::Fault as FactorFault;
@@ -32,8 +33,8 @@ pub enum Cause {
     #[error("no column form")]
     Form,
     /// A list of rows is no order of them.
-    #[error("no order of the rows: each of them must stand there once")]
-    Order,
+    #[error("no order of the rows: {0}")]
+    Order(OrderFault),
     /// Memory was refused.
     #[error("out of memory")]
     Memory,
@@ -53,7 +54,7 @@ impl Cause {
     {
         match self {
             Cause::Dense | Cause::Open(_) | Cause::Folder | Cause::Twice => 2,
-            Cause::Form | Cause::Order => 2,
+            Cause::Form | Cause::Order(_) => 2,
             Cause::Text(ReadError::Line { fault, .. }) => {
                 if matches!(fault, ReadFault::OutOfMemory) {
                     1
@@ -85,7 +86,7 @@ impl Cause {
             }
             Cause::Memory => Cause::Picture(io::Error::from(io::ErrorKind::OutOfMemory)),
             Cause::Folder => Cause::Picture(io::Error::from(io::ErrorKind::IsADirectory)),
-            Cause::Dense | Cause::Twice | Cause::Text(_) | Cause::Form | Cause::Order => {
+            Cause::Dense | Cause::Twice | Cause::Text(_) | Cause::Form | Cause::Order(_) => {
                 Cause::Picture(io::Error::from(io::ErrorKind::InvalidInput))
             }
         }

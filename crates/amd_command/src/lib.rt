@@ -19,6 +19,7 @@ pub mod grids;
 pub mod held;
 pub mod inputs;
 pub mod json;
+pub mod order_faults;
 pub mod ordering;
 pub mod permuted;
 pub mod picture;

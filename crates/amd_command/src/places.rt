@@ -3,10 +3,14 @@
 // Files are tested alone: no contract can speak of them.
 
 use crate::causes::Cause;
-use std::fs;
+use std::fs::OpenOptions;
 use std::io::{ErrorKind, Write};
 use std::os::unix::fs::MetadataExt;
 use std::rt::{Files, Runtime};
+use std::{fs, io};
+
+/// How many names are tried for a file beside an output; a run that was killed may have left some of them.
+const NAMES: u32 = 1000;
 
 /// The device and the number of the regular file that a path names, if it names one.
 fn number_of<R: Files>(rt: &R, path: &str) -> Option<(u64, u64)> {
@@ -72,17 +76,46 @@ fn write_through<R: Files>(rt: &R, path: &str, text: &[u8]) -> Result<(), Cause>
     Ok(())
 }
 
-/// Writes a text beside a place, and moves it there.
-fn write_beside<R: Files>(rt: &R, beside: &str, path: &str, text: &[u8]) -> Result<(), Cause> {
-    write_through(rt, beside, text)?;
+/// Opens a file to write that was not there.
+fn open_new<R: Files>(rt: &R, path: &str) -> io::Result<R::File> {
+    let mut options = OpenOptions::new();
+    options.write(true);
+    options.create_new(true);
+    options.open(rt, path)
+}
+
+/// Makes a file beside a place, with the first of some names that is free: a run beside this one takes another.
+fn make_beside<R: Runtime + AllocGlobal>(rt: &R, path: &str) -> Result<(String, R::File), Cause> {
+    'names: for count in 0..NAMES {
+        let beside = format!(in rt.alloc(); "{path}.rimopaku-part-{count}")?;
+        match open_new(rt, beside.as_str()) {
+            Ok(file) => return Ok((beside, file)),
+            Err(error) if error.kind() == ErrorKind::AlreadyExists => {}
+            Err(error) => return Err(Cause::from(error)),
+        }
+    }
+    Err(Cause::Write(io::Error::from(ErrorKind::AlreadyExists)))
+}
+
+/// Writes a text to a file, and moves it from beside a place to there.
+fn move_whole<R: Files>(
+    rt: &R,
+    mut file: R::File,
+    beside: &str,
+    path: &str,
+    text: &[u8],
+) -> Result<(), Cause> {
+    file.write_all(text)?;
+    file.flush()?;
+    drop(file);
     fs::rename(rt, beside, path)?;
     Ok(())
 }
 
 /// Writes a text to a regular file or to a place with no file, which has it whole or stays as it was.
 fn put_whole<R: Runtime + AllocGlobal>(rt: &R, path: &str, text: &[u8]) -> Result<(), Cause> {
-    let beside = format!(in rt.alloc(); "{path}.rimopaku-part")?;
-    let outcome = write_beside(rt, beside.as_str(), path, text);
+    let (beside, file) = make_beside(rt, path)?;
+    let outcome = move_whole(rt, file, beside.as_str(), path, text);
     if outcome.is_err() {
         let _ = fs::remove_file(rt, beside.as_str());
     }

@@ -9,6 +9,7 @@ use crate::answers::{
 use crate::causes::Cause;
 use crate::compare::{Comparison, need_under};
 use crate::inputs::{Complaint, Task, about, control_of, read_file, read_order, read_task};
+use crate::order_faults::order_fault;
 use crate::ordering::order_matrix;
 use crate::picture::write_picture;
 use crate::places::put_file;
@@ -44,7 +45,10 @@ fn other_need<R: Runtime + AllocGlobal>(
     let rows = read_order(rt, progress, matrix.n, path)?;
     match need_under(rt.alloc(), matrix, &rows) {
         Ok(need) => Ok(need),
-        Err(Fault::NotPermutation) => Err(Cause::Order),
+        Err(Fault::NotPermutation) => match order_fault(rt.alloc(), matrix.n, &rows)? {
+            Some(fault) => Err(Cause::Order(fault)),
+            None => Err(Cause::Form),
+        },
         Err(fault) => Err(Cause::from(fault)),
     }
 }

@@ -209,7 +209,7 @@ const REFUSED: [Refused; 24] = [
         &["info", "-", "--exact", "--with", "/dev/null"],
         PATH,
         2,
-        "rimopaku: /dev/null: no order of the rows: each of them must stand there once\n",
+        "rimopaku: /dev/null: no order of the rows: row 1 does not stand there\n",
     ),
     (
         &["order", "-", "--permuted", NOWHERE],
