@@ -1,37 +1,26 @@
 // The lines of a case file that are no items: lines without a word, which are passed over, and lines that are too long,
 // which are refused before they were read whole.
 
+use crate::readings::{Reading, reading_of};
 use amd_cases::faults::CaseFault;
-use amd_cases::reader::{CaseError, CaseReader, LONGEST_LINE};
+use amd_cases::reader::{CaseReader, LONGEST_LINE};
 use amd_testing::check;
-use std::alloc::{Allocator, Global};
+use std::alloc::Global;
 use std::io;
 use std::io::Read;
-use std::process::Abort;
 
 /// Two cases with lines of white space before, within and behind them.
 const SPACED: &[u8] =
     b"\n \t\r\nCASE 1\n\nN 1\n  \nAP 0 0\nAI\n\nEND\n\n\nCASE 2\nN 0\nAP\nAI\nEND\n\n ";
 
-/// The next case, by its number and its number of rows; `None` where there is none.
-fn next_of<R: Read + Drop, A: Allocator + Copy>(
-    rt: &impl Abort,
-    cases: &mut CaseReader<R, A>,
-) -> Option<(i64, i64)> {
-    match cases.next_case() {
-        Ok(case) => case.map(|case| (case.number, case.n)),
-        Err(_) => panic!(rt; "refused"),
-    }
-}
-
 #[test]
 fn lines_without_a_word(rt: HostRuntime) {
     let mut cases = CaseReader::new(rt.alloc(), SPACED);
-    check!(&rt; next_of(&rt, &mut cases) == Some((1, 1)));
-    check!(&rt; next_of(&rt, &mut cases) == Some((2, 0)));
-    check!(&rt; next_of(&rt, &mut cases).is_none());
+    check!(&rt; reading_of(&mut cases) == Reading::Case(1, 1));
+    check!(&rt; reading_of(&mut cases) == Reading::Case(2, 0));
+    check!(&rt; reading_of(&mut cases) == Reading::End);
     let mut blank = CaseReader::new(rt.alloc(), b"\n\n \t".as_slice());
-    check!(&rt; next_of(&rt, &mut blank).is_none());
+    check!(&rt; reading_of(&mut blank) == Reading::End);
 }
 
 /// Whether a text is refused for this line.
@@ -42,21 +31,20 @@ fn is_refused<R: Read + Drop>(
     wanted_fault: CaseFault,
 ) -> bool {
     let mut cases = CaseReader::new(alloc, input);
-    match cases.next_case() {
-        Err(CaseError::Line { line, fault }) => line == wanted && fault == wanted_fault,
-        _ => false,
-    }
+    reading_of(&mut cases) == Reading::Fault(wanted, wanted_fault)
 }
 
-/// The lines without a word count as the others do.
+/// Texts with lines without a word, which count as the others do, each with the line at fault.
+static FAULTS: [(&[u8], u64, CaseFault); 3] = [
+    (b"\n \nN 1\n", 3, CaseFault::Outside),
+    (b"\nCASE 1\n\nN x\n", 4, CaseFault::Numbers),
+    (b"CASE 1\n\n\n", 3, CaseFault::Unfinished),
+];
+
 #[test]
 fn faults_behind_lines_without_a_word(rt: HostRuntime) {
-    for (text, line, fault) in [
-        (b"\n \nN 1\n".as_slice(), 3, CaseFault::Outside),
-        (b"\nCASE 1\n\nN x\n".as_slice(), 4, CaseFault::Numbers),
-        (b"CASE 1\n\n\n".as_slice(), 3, CaseFault::Unfinished),
-    ] {
-        assert!(rt; is_refused(rt.alloc(), text, line, fault), "{text:?}");
+    for (text, line, fault) in &FAULTS {
+        check!(&rt; is_refused(rt.alloc(), *text, *line, *fault));
     }
 }
 
@@ -86,21 +74,24 @@ impl Read for Endless<'_> {
     }
 }
 
+/// What stands before a line goes on, and the number of that line.
+static FRONTS: [(&[u8], u64); 4] = [
+    (b"CASE 1", 1),
+    (b"", 1),
+    (b"CASE 1\nAP 0", 2),
+    (b"\n\nnothing", 3),
+];
+
 /// Where the line goes on and on, no more is read of it than a line may have, and one block.
 #[test]
 fn a_line_without_an_end(rt: HostRuntime) {
-    for (front, line) in [
-        (b"CASE 1".as_slice(), 1),
-        (b"".as_slice(), 1),
-        (b"CASE 1\nAP 0".as_slice(), 2),
-        (b"\n\nnothing".as_slice(), 3),
-    ] {
+    for (front, line) in &FRONTS {
         let left = LONGEST_LINE + BLOCK;
-        let input = Endless { front, left };
-        assert!(rt;
-            is_refused(rt.alloc(), input, line, CaseFault::Long),
-            "line {line}"
-        );
+        let input = Endless {
+            front: *front,
+            left,
+        };
+        check!(&rt; is_refused(rt.alloc(), input, *line, CaseFault::Long));
     }
 }
 
@@ -118,7 +109,7 @@ fn case_of(alloc: Global, bytes: usize) -> Result<Vec<u8>, std::alloc::AllocErro
 fn the_longest_line(rt: HostRuntime) -> Result<(), std::test::Fail> {
     let text = case_of(rt.alloc(), LONGEST_LINE)?;
     let mut cases = CaseReader::new(rt.alloc(), text.as_slice());
-    check!(&rt; next_of(&rt, &mut cases) == Some((1, 0)));
+    check!(&rt; reading_of(&mut cases) == Reading::Case(1, 0));
     let text = case_of(rt.alloc(), LONGEST_LINE + 1)?;
     check!(&rt; is_refused(rt.alloc(), text.as_slice(), 1, CaseFault::Long));
     Ok(())

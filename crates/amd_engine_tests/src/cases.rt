@@ -1,9 +1,10 @@
 // The readers of cases and of matrix files, over texts and bytes that are written out here.
 
+use crate::readings::{Reading, reading_of};
 use amd_cases::cases::Case;
 use amd_cases::faults::CaseFault;
 use amd_cases::matrix::{BinaryMatrix, MatrixError, read_matrix};
-use amd_cases::reader::{CaseError, CaseReader};
+use amd_cases::reader::CaseReader;
 use amd_testing::check;
 use amd_testing::refusing::{Refusing, each_refused};
 use num_traits::PrimInt;
@@ -39,7 +40,7 @@ fn two_cases_and_the_end(rt: HostRuntime) {
     check_case(&rt, &mut cases, (7, 3, -5, false), &[0, 1, 2, 2], &[1, -2]);
     check_case(&rt, &mut cases, (-8, 0, 10000, true), &[], &[]);
     for _ in 0..2 {
-        check!(&rt; matches!(cases.next_case(), Ok(None)));
+        check!(&rt; reading_of(&mut cases) == Reading::End);
     }
 }
 
@@ -49,16 +50,16 @@ const ONE_CASE: &[u8] = b"CASE 1\nN 2\nAP 0 1 2\nAI 0 1\nEND";
 /// What is cut off it at any place makes it no case; without a byte left the input is empty.
 #[test]
 fn a_case_that_is_cut_off(rt: HostRuntime) {
-    check!(&rt; matches!(
-            CaseReader::new(rt.alloc(), ONE_CASE).next_case(),
-            Ok(Some(_))
-        ));
+    let mut whole = CaseReader::new(rt.alloc(), ONE_CASE);
+    check!(&rt; reading_of(&mut whole) == Reading::Case(1, 2));
     for (length, _) in ONE_CASE.iter().enumerate() {
         let front = ONE_CASE.get(..length).unwrap_or(ONE_CASE);
-        match CaseReader::new(rt.alloc(), front).next_case() {
-            Ok(case) => check!(&rt; length == 0 && case.is_none()),
-            Err(_) => check!(&rt; 0 < length),
-        }
+        let is_cut = match reading_of(&mut CaseReader::new(rt.alloc(), front)) {
+            Reading::Case(..) => false,
+            Reading::End => length == 0,
+            _ => 0 < length,
+        };
+        check!(&rt; is_cut);
     }
 }
 
@@ -66,118 +67,103 @@ fn a_case_that_is_cut_off(rt: HostRuntime) {
 const MORE_ITEMS: &[u8] =
     b"CASE 1\nHOLD 0 1 01\nN 3\nAP 0\nAI\nEND\nCASE 2\nN 2\nPERM 1 0\nAP 0\nAI\nROOM -7\nHOLD\nEND\n";
 
+/// Whether a case has these marks, this permutation and this room.
+fn has_items(
+    case: &Case<Global>,
+    hold: Option<&[bool]>,
+    permutation: Option<&[i64]>,
+    room: Option<i64>,
+) -> bool {
+    case.hold.as_deref() == hold && case.permutation.as_deref() == permutation && case.room == room
+}
+
+/// Whether the next case has these.
+fn next_has_items(
+    cases: &mut CaseReader<&[u8], Global>,
+    hold: Option<&[bool]>,
+    permutation: Option<&[i64]>,
+    room: Option<i64>,
+) -> bool {
+    match cases.next_case() {
+        Ok(Some(case)) => has_items(&case, hold, permutation, room),
+        _ => false,
+    }
+}
+
 #[test]
 fn items_that_may_be_left_out(rt: HostRuntime) {
     let mut cases = CaseReader::new(rt.alloc(), MORE_ITEMS);
-    let Ok(Some(held)) = cases.next_case() else {
-        panic!(rt; "no case");
-    };
-    check!(&rt; held.hold.as_deref() == Some([false, true, true].as_slice()));
-    check!(&rt; held.permutation.is_none() && held.room.is_none());
-    let Ok(Some(columns)) = cases.next_case() else {
-        panic!(rt; "no second case");
-    };
-    check!(&rt; columns.hold.as_deref() == Some([].as_slice()));
-    check!(&rt; columns.permutation.as_deref() == Some([1, 0].as_slice()));
-    check!(&rt; columns.room == Some(-7) && columns.n == 2 && columns.a_p.len() == 1);
+    let marks = [false, true, true].as_slice();
+    check!(&rt; next_has_items(&mut cases, Some(marks), None, None));
+    check!(&rt; next_has_items(&mut cases, Some(&[]), Some(&[1, 0]), Some(-7)));
+    let mut again = CaseReader::new(rt.alloc(), MORE_ITEMS);
+    check!(&rt; reading_of(&mut again) == Reading::Case(1, 3));
+    check_case(&rt, &mut again, (2, 2, 10000, true), &[0], &[]);
     let mut cases = CaseReader::new(rt.alloc(), TWO_CASES);
-    let Ok(Some(plain)) = cases.next_case() else {
-        panic!(rt; "no case");
-    };
-    check!(&rt; plain.hold.is_none() && plain.permutation.is_none() && plain.room.is_none());
+    check!(&rt; next_has_items(&mut cases, None, None, None));
 }
 
 /// Checks that a text is refused for a line, and that nothing is read behind it.
-fn check_fault(rt: &impl Abort, alloc: Global, text: &[u8], wanted: u64, wanted_fault: CaseFault) {
+fn check_fault(rt: &impl Abort, alloc: Global, text: &[u8], wanted: u64, fault: CaseFault) {
     let mut cases = CaseReader::new(alloc, text);
-    match cases.next_case() {
-        Err(CaseError::Line { line, fault }) => {
-            assert!(rt; line == wanted && fault == wanted_fault, "{text:?}");
-        }
-        _ => panic!(rt; "not refused: {text:?}"),
-    }
-    check!(rt; matches!(cases.next_case(), Err(CaseError::Stopped)));
+    let is_refused = reading_of(&mut cases) == Reading::Fault(wanted, fault);
+    assert!(rt; is_refused, "{text:?}");
+    check!(rt; reading_of(&mut cases) == Reading::Stopped);
 }
+
+/// Lines that spell no item, each with its number and its fault.
+static NO_ITEMS: [(&[u8], u64, CaseFault); 18] = [
+    (b"case 1\n", 1, CaseFault::Keyword),
+    (b"CASES 1\n", 1, CaseFault::Keyword),
+    (b"CASE 1\nM 2\n", 2, CaseFault::Keyword),
+    (b"CASE 1\n2\n", 2, CaseFault::Keyword),
+    (b"CASE\n", 1, CaseFault::Numbers),
+    (b"CASE 1 2\n", 1, CaseFault::Numbers),
+    (b"CASE 1\nN\n", 2, CaseFault::Numbers),
+    (b"CASE 1\nN x\n", 2, CaseFault::Numbers),
+    (b"CASE 1\nN 1.5\n", 2, CaseFault::Numbers),
+    (b"CASE 1\nN 9223372036854775808\n", 2, CaseFault::Numbers),
+    (b"CASE 1\nT 2147483648\n", 2, CaseFault::Numbers),
+    (b"CASE 1\nAGG 2\n", 2, CaseFault::Numbers),
+    (b"CASE 1\nAP 0,1\n", 2, CaseFault::Numbers),
+    (b"CASE 1\nHOLD 0 2\n", 2, CaseFault::Numbers),
+    (b"CASE 1\nHOLD -1\n", 2, CaseFault::Numbers),
+    (b"CASE 1\nROOM\n", 2, CaseFault::Numbers),
+    (b"CASE 1\nN 1\nAI 0 \xff\n", 3, CaseFault::Numbers),
+    (b"CASE 1\nN 1\nAP 0 0\nAI\nEND 1\n", 5, CaseFault::Numbers),
+];
 
 #[test]
 fn lines_that_spell_no_item(rt: HostRuntime) {
-    for (text, line, fault) in [
-        (b"case 1\n".as_slice(), 1, CaseFault::Keyword),
-        (b"CASES 1\n".as_slice(), 1, CaseFault::Keyword),
-        (b"CASE 1\nM 2\n".as_slice(), 2, CaseFault::Keyword),
-        (b"CASE 1\n2\n".as_slice(), 2, CaseFault::Keyword),
-        (b"CASE\n".as_slice(), 1, CaseFault::Numbers),
-        (b"CASE 1 2\n".as_slice(), 1, CaseFault::Numbers),
-        (b"CASE 1\nN\n".as_slice(), 2, CaseFault::Numbers),
-        (b"CASE 1\nN x\n".as_slice(), 2, CaseFault::Numbers),
-        (b"CASE 1\nN 1.5\n".as_slice(), 2, CaseFault::Numbers),
-        (
-            b"CASE 1\nN 9223372036854775808\n".as_slice(),
-            2,
-            CaseFault::Numbers,
-        ),
-        (b"CASE 1\nT 2147483648\n".as_slice(), 2, CaseFault::Numbers),
-        (b"CASE 1\nAGG 2\n".as_slice(), 2, CaseFault::Numbers),
-        (b"CASE 1\nAP 0,1\n".as_slice(), 2, CaseFault::Numbers),
-        (b"CASE 1\nHOLD 0 2\n".as_slice(), 2, CaseFault::Numbers),
-        (b"CASE 1\nHOLD -1\n".as_slice(), 2, CaseFault::Numbers),
-        (b"CASE 1\nROOM\n".as_slice(), 2, CaseFault::Numbers),
-        (
-            b"CASE 1\nN 1\nAI 0 \xff\n".as_slice(),
-            3,
-            CaseFault::Numbers,
-        ),
-        (
-            b"CASE 1\nN 1\nAP 0 0\nAI\nEND 1\n".as_slice(),
-            5,
-            CaseFault::Numbers,
-        ),
-    ] {
-        check_fault(&rt, rt.alloc(), text, line, fault);
+    for (text, line, fault) in &NO_ITEMS {
+        check_fault(&rt, rt.alloc(), text, *line, *fault);
     }
 }
 
+/// Items that make no case, each with the line at fault.
+static NO_CASES: [(&[u8], u64, CaseFault); 16] = [
+    (b"N 1\n", 1, CaseFault::Outside),
+    (b"END\n", 1, CaseFault::Outside),
+    (b"CASE 1\nN 1\nCASE 2\n", 3, CaseFault::Inside),
+    (b"CASE 1\nN 1\nN 1\n", 3, CaseFault::Repeated),
+    (b"CASE 1\nT 1\nT 2\n", 3, CaseFault::Repeated),
+    (b"CASE 1\nAGG 1\nAGG 0\n", 3, CaseFault::Repeated),
+    (b"CASE 1\nAP 0\nAP 0\n", 3, CaseFault::Repeated),
+    (b"CASE 1\nAI 0\nAI 0\n", 3, CaseFault::Repeated),
+    (b"CASE 1\nHOLD 0\nHOLD 0\n", 3, CaseFault::Repeated),
+    (b"CASE 1\nPERM 0\nPERM 0\n", 3, CaseFault::Repeated),
+    (b"CASE 1\nROOM 0\nROOM 0\n", 3, CaseFault::Repeated),
+    (b"CASE 1\nAP 0\nAI\nEND\n", 4, CaseFault::Missing),
+    (b"CASE 1\nN 0\nAI\nEND\n", 4, CaseFault::Missing),
+    (b"CASE 1\nN 0\nAP 0\nEND\n", 4, CaseFault::Missing),
+    (b"CASE 1\n", 1, CaseFault::Unfinished),
+    (b"CASE 1\nN 0\nAP 0\nAI", 4, CaseFault::Unfinished),
+];
+
 #[test]
 fn items_that_make_no_case(rt: HostRuntime) {
-    for (text, line, fault) in [
-        (b"N 1\n".as_slice(), 1, CaseFault::Outside),
-        (b"END\n".as_slice(), 1, CaseFault::Outside),
-        (b"CASE 1\nN 1\nCASE 2\n".as_slice(), 3, CaseFault::Inside),
-        (b"CASE 1\nN 1\nN 1\n".as_slice(), 3, CaseFault::Repeated),
-        (b"CASE 1\nT 1\nT 2\n".as_slice(), 3, CaseFault::Repeated),
-        (b"CASE 1\nAGG 1\nAGG 0\n".as_slice(), 3, CaseFault::Repeated),
-        (b"CASE 1\nAP 0\nAP 0\n".as_slice(), 3, CaseFault::Repeated),
-        (b"CASE 1\nAI 0\nAI 0\n".as_slice(), 3, CaseFault::Repeated),
-        (
-            b"CASE 1\nHOLD 0\nHOLD 0\n".as_slice(),
-            3,
-            CaseFault::Repeated,
-        ),
-        (
-            b"CASE 1\nPERM 0\nPERM 0\n".as_slice(),
-            3,
-            CaseFault::Repeated,
-        ),
-        (
-            b"CASE 1\nROOM 0\nROOM 0\n".as_slice(),
-            3,
-            CaseFault::Repeated,
-        ),
-        (b"CASE 1\nAP 0\nAI\nEND\n".as_slice(), 4, CaseFault::Missing),
-        (b"CASE 1\nN 0\nAI\nEND\n".as_slice(), 4, CaseFault::Missing),
-        (
-            b"CASE 1\nN 0\nAP 0\nEND\n".as_slice(),
-            4,
-            CaseFault::Missing,
-        ),
-        (b"CASE 1\n".as_slice(), 1, CaseFault::Unfinished),
-        (
-            b"CASE 1\nN 0\nAP 0\nAI".as_slice(),
-            4,
-            CaseFault::Unfinished,
-        ),
-    ] {
-        check_fault(&rt, rt.alloc(), text, line, fault);
+    for (text, line, fault) in &NO_CASES {
+        check_fault(&rt, rt.alloc(), text, *line, *fault);
     }
 }
 
@@ -207,9 +193,8 @@ fn an_input_that_breaks_off(rt: HostRuntime) -> Result<(), Fail> {
         b"CASE 1\nN 0\nAP 0\nAI".as_slice(),
     ] {
         let mut cases = CaseReader::new(rt.alloc(), BufReader::new(rt.alloc(), Broken(text))?);
-        let is_told = matches!(cases.next_case(), Err(CaseError::Input { .. }));
-        let is_stopped = matches!(cases.next_case(), Err(CaseError::Stopped));
-        assert!(rt; is_told && is_stopped, "{text:?}");
+        check!(&rt; reading_of(&mut cases) == Reading::Broken);
+        check!(&rt; reading_of(&mut cases) == Reading::Stopped);
     }
     Ok(())
 }
@@ -219,17 +204,12 @@ fn reads_cases(rt: &impl Abort, heap: &Refusing<Global>) -> bool {
     let mut cases = CaseReader::new(heap, TWO_CASES);
     let mut sizes: i64 = 0;
     for _ in 0..3 {
-        match cases.next_case() {
-            Ok(Some(case)) => sizes = sizes.wrapping_mul(10).wrapping_add(case.n),
-            Ok(None) => return sizes == 30,
-            Err(
-                CaseError::Line {
-                    fault: CaseFault::OutOfMemory,
-                    ..
-                },
-            )
-            | Err(CaseError::Stopped) => check!(rt; heap.refused()),
-            Err(_) => panic!(rt; "another error"),
+        match reading_of(&mut cases) {
+            Reading::Case(_, n) => sizes = sizes.wrapping_mul(10).wrapping_add(n),
+            Reading::End => return sizes == 30,
+            Reading::Fault(_, CaseFault::OutOfMemory) => check!(rt; heap.refused()),
+            Reading::Stopped => check!(rt; heap.refused()),
+            _ => panic!(rt; "another error"),
         }
     }
     false

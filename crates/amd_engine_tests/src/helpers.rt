@@ -125,25 +125,45 @@ fn refuses_the_chosen_request(rt: HostRuntime) {
     }
 }
 
+/// What a call does: all that it should, or it hides that a request was refused, gives up, or forgets a list.
+#[derive(Clone, Copy, Drop)]
+enum Deed {
+    Fair,
+    Hides,
+    GivesUp,
+    Forgets,
+}
+
+/// Makes one list that is never given back.
+fn forget_list(heap: &Refusing<Global>) -> bool {
+    let Ok(list) = Vec::<u8, _>::with_capacity(heap, 1) else {
+        return false;
+    };
+    forget(list);
+    true
+}
+
+/// Makes three lists, and says whether there was a result.
+fn has_result(deed: Deed, heap: &Refusing<Global>) -> bool {
+    match deed {
+        Deed::Fair => three_lists(heap).is_ok(),
+        Deed::Hides => three_lists(heap).is_ok() || heap.refused(),
+        Deed::GivesUp => false,
+        Deed::Forgets => forget_list(heap) && three_lists(heap).is_ok(),
+    }
+}
+
+/// What is noticed of a call with each of its requests refused in turn.
+fn noticed(alloc: Global, deed: Deed) -> Result<u64, Slip> {
+    each_refused(alloc, |heap| has_result(deed, heap))
+}
+
 #[test]
 fn notices_what_a_call_does_wrong(rt: HostRuntime) {
-    let fair = each_refused(rt.alloc(), |heap| three_lists(heap).is_ok());
-    check!(&rt; fair == Ok(3));
-    let hides = each_refused(
-        rt.alloc(),
-        |heap| three_lists(heap).is_ok() || heap.refused(),
-    );
-    check!(&rt; hides == Err(Slip::Answered(1)));
-    let gives_up = each_refused(rt.alloc(), |_| false);
-    check!(&rt; gives_up == Err(Slip::Unanswered(1)));
-    let forgets = each_refused(rt.alloc(), |heap| {
-        let Ok(list) = Vec::<u8, _>::with_capacity(heap, 1) else {
-            return false;
-        };
-        forget(list);
-        three_lists(heap).is_ok()
-    });
-    check!(&rt; forgets == Err(Slip::Unbalanced(2)));
+    check!(&rt; noticed(rt.alloc(), Deed::Fair) == Ok(3));
+    check!(&rt; noticed(rt.alloc(), Deed::Hides) == Err(Slip::Answered(1)));
+    check!(&rt; noticed(rt.alloc(), Deed::GivesUp) == Err(Slip::Unanswered(1)));
+    check!(&rt; noticed(rt.alloc(), Deed::Forgets) == Err(Slip::Unbalanced(2)));
 }
 
 /// Writes three words.

@@ -36,6 +36,8 @@ mod lists;
 #[cfg(test)]
 mod own_lists;
 #[cfg(test)]
+mod readings;
+#[cfg(test)]
 mod row_sides;
 #[cfg(test)]
 mod sorted;
