@@ -5,6 +5,7 @@
 
 pub mod checks;
 pub mod factors;
+pub mod families;
 pub mod forests;
 pub mod inputs;
 pub mod plain;

@@ -1,11 +1,12 @@
 // The calls beside the definitions in their plain form, on matrices drawn from seeds, jumbled and sorted, with and
 // without a row that has an edge to each other one.
 
+use crate::checks::{check_chosen, check_matrix};
 use amd::aat::aat;
 use amd::preprocess::preprocess;
 use amd::valid::valid;
 use amd::{Control, Info, Status, order};
-use amd_testing::inputs::{drawn, drawn_with_hub};
+use amd_testing::families::{Family, member};
 use amd_testing::{check, plain};
 use std::alloc::{AllocError, Global};
 use std::process::Abort;
@@ -81,10 +82,8 @@ fn compare_order(
     };
     let size = usize::try_from(n).unwrap_or(0);
     let chosen = plain::dense_rows(alloc, dense, size, a_p, a_i)?;
-    assert!(rt;
-        is_answered(alloc, &control, n, a_p, a_i, &chosen),
-        "{dense} {n} {a_p:?} {a_i:?}"
-    );
+    let holds = is_answered(alloc, &control, n, a_p, a_i, &chosen);
+    check_chosen(rt, holds, &control, a_p, a_i);
     Ok(())
 }
 
@@ -101,13 +100,13 @@ fn compare_preprocess(
     match valid(n, n, a_p, a_i) {
         Status::OK => {}
         Status::OkButJumbled => {}
-        _ => panic!(rt; "no column form: {a_p:?} {a_i:?}"),
+        _ => panic!(rt; "no column form"),
     }
     let Ok((pointers, columns)) = preprocess(alloc, n, a_p, a_i) else {
         panic!(rt; "no answer");
     };
     let is_same = pointers.as_slice() == b_p && columns.as_slice() == b_i;
-    assert!(rt; is_same, "{a_p:?} {a_i:?}");
+    check_matrix(rt, is_same, a_p, a_i);
 }
 
 /// Whether these are the degrees of all rows.
@@ -123,7 +122,7 @@ fn are_degrees(n: usize, a_p: &[i64], a_i: &[i64], degrees: &[usize]) -> bool {
 /// Asserts that `aat` answers the degrees and figures of a sorted column form.
 fn compare_aat(rt: &impl Abort, alloc: Global, n: i64, a_p: &[i64], a_i: &[i64]) {
     let Status::OK = valid(n, n, a_p, a_i) else {
-        panic!(rt; "not sorted: {a_p:?} {a_i:?}");
+        panic!(rt; "not sorted");
     };
     let mut info = Info::new(0);
     let Ok((total, degrees)) = aat(alloc, n, a_p, a_i, &mut info) else {
@@ -131,10 +130,8 @@ fn compare_aat(rt: &impl Abort, alloc: Global, n: i64, a_p: &[i64], a_i: &[i64])
     };
     let size = usize::try_from(n).unwrap_or(0);
     let is_counted = total == info.nz_a_plus_at && are_degrees(size, a_p, a_i, &degrees);
-    assert!(rt;
-        is_counted && has_figures(size, a_p, a_i, &info),
-        "{a_p:?} {a_i:?}"
-    );
+    let holds = is_counted && has_figures(size, a_p, a_i, &info);
+    check_matrix(rt, holds, a_p, a_i);
 }
 
 /// Compares each call on a matrix and on its transpose, which is sorted.
@@ -156,22 +153,21 @@ fn compare(
     Ok(())
 }
 
-#[test]
-fn calls_agree_with_the_definitions(rt: HostRuntime) -> Result<(), Fail> {
-    let heap = rt.alloc();
+/// Compares each call on the matrices of a family.
+fn compare_drawn(rt: &impl Abort, alloc: Global, family: Family) -> Result<(), AllocError> {
     for seed in 1..=64 {
-        let (n, a_p, a_i) = drawn(heap, seed)?;
-        compare(&rt, heap, n, &a_p, &a_i)?;
+        let (n, a_p, a_i) = member(alloc, family, seed)?;
+        compare(rt, alloc, n, &a_p, &a_i)?;
     }
     Ok(())
 }
 
 #[test]
+fn calls_agree_with_the_definitions(rt: HostRuntime) -> Result<(), Fail> {
+    Ok(compare_drawn(&rt, rt.alloc(), Family::Drawn)?)
+}
+
+#[test]
 fn calls_agree_with_the_definitions_on_a_hub(rt: HostRuntime) -> Result<(), Fail> {
-    let heap = rt.alloc();
-    for seed in 1..=64 {
-        let (n, a_p, a_i) = drawn_with_hub(heap, seed)?;
-        compare(&rt, heap, n, &a_p, &a_i)?;
-    }
-    Ok(())
+    Ok(compare_drawn(&rt, rt.alloc(), Family::DrawnWithHub)?)
 }

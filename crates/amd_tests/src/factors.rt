@@ -2,6 +2,7 @@
 // The expected needs come from worked examples and from an independent program that follows the rules, which is no part
 // of this repository.
 
+use crate::checks::check_matrix;
 use crate::worked::widened;
 use amd::{Control, Info, order};
 use amd_demos::can_24::{POINTERS, ROWS};
@@ -41,7 +42,7 @@ pub fn check_bounds(
 ) -> Result<SearchedFactor<Global>, AllocError> {
     let factor = factor_of(alloc, a_p, a_i, p)?;
     let is_covered = covers(&bounds_in(info), &need_of(&factor.columns));
-    assert!(rt; is_covered && info.n_div == info.lnz, "{a_p:?} {a_i:?}");
+    check_matrix(rt, is_covered && info.n_div == info.lnz, a_p, a_i);
     Ok(factor)
 }
 
@@ -136,7 +137,7 @@ fn order_forest(
     a_i: &[i64],
 ) -> Result<(), AllocError> {
     let Ok((p, _p_inv, info)) = order(alloc, n, a_p, a_i, &Control::default()) else {
-        panic!(rt; "no answer for {a_p:?} {a_i:?}");
+        panic!(rt; "no answer");
     };
     let factor = check_bounds(rt, alloc, a_p, a_i, &p, &info)?;
     check_forest(rt, &factor, &info);

@@ -2,13 +2,15 @@
 // memory, answers with nothing held, and matrices drawn from seeds with rows drawn to be held. The worked answers are
 // from a plain program that follows the rules; where nothing is held, the answer must be that of `order`.
 
+use crate::checks::check_chosen;
 use crate::comparison::is_ordered;
 use crate::factors::check_bounds;
 use crate::memory::{check_refusals, is_answer};
 use crate::patterns::CHOICES;
 use crate::worked::{OrderingCase, check_nothing};
 use amd::{Control, Info, Status, order, order_holding};
-use amd_testing::inputs::{draw, drawn, drawn_with_hub};
+use amd_testing::families::{Family, member};
+use amd_testing::inputs::draw;
 use amd_testing::records::numbers_of;
 use amd_testing::refusing::{Refusing, each_refused};
 use amd_testing::{check, plain};
@@ -108,24 +110,26 @@ fn worked_matrices_and_each_request(rt: HostRuntime) {
     }
 }
 
-/// Marks of another length than the matrix, and a matrix that is no column form: no memory is asked before these
-/// answers.
+/// Marks of another length than the matrix, and a matrix that is no column form: the number of rows, the pointers, the
+/// rows and the marks.
+static MISMATCHED: [(i64, &[i64], &[i64], &[bool]); 7] = [
+    (3, &[0, 1, 2, 2], &[1, 2], &[true]),
+    (3, &[0, 1, 2, 2], &[1, 2], &[]),
+    (3, &[0, 1, 2, 2], &[1, 2], &[false; 4]),
+    (3, &[0, 1, 2, 2], &[2, 1, 9], &[false; 2]),
+    (3, &[0, 1, 2, 2], &[1, 3], &[true; 3]),
+    (-1, &[0], &[], &[]),
+    (-1, &[0], &[], &[true]),
+];
+
+/// No memory is asked before these answers.
 #[test]
 fn marks_that_are_not_one_for_each_row(rt: HostRuntime) {
     let heap = Refusing::new(rt.alloc(), 1);
     let control = Control::default();
-    let pointers = [0i64, 1, 2, 2].as_slice();
-    for (n, a_p, a_i, hold) in [
-        (3, pointers, [1, 2].as_slice(), [true].as_slice()),
-        (3, pointers, [1, 2].as_slice(), [].as_slice()),
-        (3, pointers, [1, 2].as_slice(), [false; 4].as_slice()),
-        (3, pointers, [2, 1, 9].as_slice(), [false; 2].as_slice()),
-        (3, pointers, [1, 3].as_slice(), [true; 3].as_slice()),
-        (-1, [0].as_slice(), [].as_slice(), [].as_slice()),
-        (-1, [0].as_slice(), [].as_slice(), [true].as_slice()),
-    ] {
+    for &(n, a_p, a_i, hold) in &MISMATCHED {
         let status = order_holding(&heap, n, a_p, a_i, &control, hold).err();
-        assert!(rt; status == Some(Status::Invalid), "{n} {a_i:?} {hold:?}");
+        check!(&rt; status == Some(Status::Invalid));
     }
     check!(&rt; heap.requests() == 0);
 }
@@ -172,10 +176,8 @@ pub fn check_nothing_held(
         panic!(rt; "no answer with marks");
     };
     let is_ordered = r.as_slice() == p.as_slice() && r_inv.as_slice() == p_inv.as_slice();
-    assert!(rt;
-        is_ordered && is_same_record(&other, &info),
-        "{control:?} {a_p:?} {a_i:?}"
-    );
+    let is_same = is_ordered && is_same_record(&other, &info);
+    check_chosen(rt, is_same, control, a_p, a_i);
     Ok(())
 }
 
@@ -199,7 +201,9 @@ fn check_drawn(
     alloc: Global,
     seed: u64,
     control: &Control,
-    (n, a_p, a_i): (i64, &[i64], &[i64]),
+    n: i64,
+    a_p: &[i64],
+    a_i: &[i64],
 ) -> Result<(), AllocError> {
     let size = usize::try_from(n).unwrap_or(0);
     let mut last = plain::dense_rows(alloc, control.dense, size, a_p, a_i)?;
@@ -207,24 +211,26 @@ fn check_drawn(
     let Ok((p, p_inv, info)) = order_holding(alloc, n, a_p, a_i, control, &hold) else {
         panic!(rt; "no answer");
     };
-    assert!(rt;
-        is_ordered(size, &last, info.n_dense, &p, &p_inv),
-        "{control:?} {hold:?} {a_p:?} {a_i:?}"
-    );
+    let holds = is_ordered(size, &last, info.n_dense, &p, &p_inv);
+    check_chosen(rt, holds, control, a_p, a_i);
     check_bounds(rt, alloc, a_p, a_i, &p, &info)?;
+    Ok(())
+}
+
+/// Orders a drawn matrix of a family with drawn rows held, with each choice.
+fn check_seed(rt: &impl Abort, alloc: Global, family: Family, seed: u64) -> Result<(), AllocError> {
+    let (n, a_p, a_i) = member(alloc, family, i64::try_from(seed).unwrap_or(0))?;
+    for control in &CHOICES {
+        check_drawn(rt, alloc, seed, control, n, &a_p, &a_i)?;
+    }
     Ok(())
 }
 
 #[test]
 fn drawn_matrices_with_held_rows(rt: HostRuntime) -> Result<(), Fail> {
-    let heap = rt.alloc();
     for seed in 1..=64 {
-        let (n, a_p, a_i) = drawn(heap, seed)?;
-        let (m, b_p, b_i) = drawn_with_hub(heap, seed)?;
-        for control in &CHOICES {
-            check_drawn(&rt, heap, seed, control, (n, &a_p, &a_i))?;
-            check_drawn(&rt, heap, seed, control, (m, &b_p, &b_i))?;
-        }
+        check_seed(&rt, rt.alloc(), Family::Drawn, seed)?;
+        check_seed(&rt, rt.alloc(), Family::DrawnWithHub, seed)?;
     }
     Ok(())
 }

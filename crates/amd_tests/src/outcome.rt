@@ -14,6 +14,7 @@ mod jumbled_texts;
 mod lengths;
 mod memory;
 mod numbers;
+mod orders;
 mod refusals;
 mod supernodes;
 mod texts;

@@ -2,14 +2,14 @@
 // below what the factor needs, nothing fills in where the graph is a forest without dense rows, and with nothing held
 // the answer is the same. For cycles and for complete graphs the bound on the entries is known, and compared.
 
+use crate::checks::check_chosen;
 use crate::comparison::is_ordered;
 use crate::factors::{check_bounds, check_forest};
 use crate::holding::check_nothing_held;
 use amd::{Control, Info, order};
 use amd_testing::factors::SearchedFactor;
-use amd_testing::inputs::{
-    complete_below, cycle, drawn, drawn_with_hub, grid, path, star, star_to_last,
-};
+use amd_testing::families::{Family, member};
+use amd_testing::inputs::complete_below;
 use amd_testing::records::numbers_of;
 use amd_testing::{check, plain};
 use std::alloc::{AllocError, Global};
@@ -59,108 +59,107 @@ fn check_choice(
     };
     let size = usize::try_from(n).unwrap_or(0);
     let dense = plain::dense_rows(alloc, control.dense, size, a_p, a_i)?;
-    assert!(rt;
-        is_ordered(size, &dense, info.n_dense, &p, &p_inv),
-        "{control:?} {a_p:?} {a_i:?}"
-    );
+    let holds = is_ordered(size, &dense, info.n_dense, &p, &p_inv);
+    check_chosen(rt, holds, control, a_p, a_i);
     check_nothing_held(rt, alloc, n, a_p, a_i, control)?;
     let factor = check_bounds(rt, alloc, a_p, a_i, &p, &info)?;
     Ok((factor, info))
 }
 
-/// Orders a matrix with each choice.
-fn check(
-    rt: &impl Abort,
-    alloc: Global,
-    n: i64,
-    (a_p, a_i): (Vec<i64>, Vec<i64>),
-) -> Result<(), AllocError> {
-    for control in &CHOICES {
-        check_choice(rt, alloc, n, &a_p, &a_i, control)?;
+/// The bound on the entries of a factor that is known for a family. A cycle of `n` rows has `2 n - 3` entries in its
+/// factor: each of the first `n - 2` columns has two, and the next one has one. A complete graph has all
+/// `n (n - 1) / 2` entries below the diagonal, also where all its rows are dense.
+fn entries_of(family: Family, n: i64) -> Option<i64> {
+    match family {
+        Family::Cycle => Some(n.saturating_mul(2).saturating_sub(3)),
+        Family::CompleteBelow => Some(n.saturating_mul(n.saturating_sub(1)) / 2),
+        _ => None,
     }
-    Ok(())
 }
 
-/// Orders a matrix with each choice, and asserts that the record bounds the entries of the factor by exactly `lnz`.
-fn check_entries(
-    rt: &impl Abort,
-    alloc: Global,
-    n: i64,
-    (a_p, a_i): (Vec<i64>, Vec<i64>),
-    lnz: i64,
-) -> Result<(), AllocError> {
-    let entries = usize::try_from(lnz).unwrap_or(0);
-    for control in &CHOICES {
-        let (_, info) = check_choice(rt, alloc, n, &a_p, &a_i, control)?;
-        assert!(rt; info.lnz == entries, "{control:?} {a_p:?} {a_i:?}");
-    }
-    Ok(())
+/// Whether the graphs of a family are forests.
+fn are_forests(family: Family) -> bool {
+    matches!(
+        family,
+        Family::Empty | Family::Path | Family::Star | Family::StarToLast
+    )
 }
 
-/// Orders a forest with each choice.
-fn check_tree(
+/// Asserts that a record bounds the entries of the factor by exactly what is known for the family, and that nothing
+/// fills in where the graph is a forest without dense rows.
+fn check_known(
+    rt: &impl Abort,
+    family: Family,
+    n: i64,
+    factor: &SearchedFactor<Global>,
+    info: &Info,
+) {
+    if let Some(entries) = entries_of(family, n) {
+        check!(rt; info.lnz == usize::try_from(entries).unwrap_or(0));
+    }
+    if are_forests(family) && info.n_dense == 0 {
+        check_forest(rt, factor, info);
+    }
+}
+
+/// Orders the matrix of a family at some size with each choice.
+fn check_member(
     rt: &impl Abort,
     alloc: Global,
-    n: i64,
-    (a_p, a_i): (Vec<i64>, Vec<i64>),
+    family: Family,
+    size: i64,
 ) -> Result<(), AllocError> {
+    let (n, a_p, a_i) = member(alloc, family, size)?;
     for control in &CHOICES {
         let (factor, info) = check_choice(rt, alloc, n, &a_p, &a_i, control)?;
-        if info.n_dense == 0 {
-            check_forest(rt, &factor, &info);
-        }
+        check_known(rt, family, n, &factor, &info);
+    }
+    Ok(())
+}
+
+/// Orders the matrices of a family at these sizes.
+fn check_sizes(
+    rt: &impl Abort,
+    alloc: Global,
+    family: Family,
+    first: i64,
+    last: i64,
+) -> Result<(), AllocError> {
+    for size in first..=last {
+        check_member(rt, alloc, family, size)?;
     }
     Ok(())
 }
 
 #[test]
 fn rows_without_edges(rt: HostRuntime) -> Result<(), Fail> {
-    let heap = rt.alloc();
-    check_tree(&rt, heap, 255, (vec![in heap; 0; 256]?, Vec::new(heap)))?;
-    Ok(())
+    Ok(check_sizes(&rt, rt.alloc(), Family::Empty, 255, 255)?)
 }
 
 #[test]
 fn paths(rt: HostRuntime) -> Result<(), Fail> {
-    let heap = rt.alloc();
-    for n in 1..=30 {
-        check_tree(&rt, heap, n, path(heap, n)?)?;
-    }
-    Ok(())
+    Ok(check_sizes(&rt, rt.alloc(), Family::Path, 1, 30)?)
 }
 
-/// A cycle of `n` rows has `2 n - 3` entries in its factor: each of the first `n - 2` columns has two, and the next one
-/// has one.
 #[test]
 fn cycles(rt: HostRuntime) -> Result<(), Fail> {
-    let heap = rt.alloc();
-    for n in 3..=40i64 {
-        let lnz = n.saturating_mul(2).saturating_sub(3);
-        check_entries(&rt, heap, n, cycle(heap, n)?, lnz)?;
-    }
-    Ok(())
+    Ok(check_sizes(&rt, rt.alloc(), Family::Cycle, 3, 40)?)
 }
 
 #[test]
 fn stars(rt: HostRuntime) -> Result<(), Fail> {
-    let heap = rt.alloc();
-    for n in 2..=20 {
-        check_tree(&rt, heap, n, star(heap, n)?)?;
-        check_tree(&rt, heap, n, star_to_last(heap, n)?)?;
-    }
-    Ok(())
+    check_sizes(&rt, rt.alloc(), Family::Star, 2, 20)?;
+    Ok(check_sizes(&rt, rt.alloc(), Family::StarToLast, 2, 20)?)
 }
 
-/// A complete graph of `n` rows has all `n (n - 1) / 2` entries below the diagonal in its factor, also where all its
-/// rows are dense.
 #[test]
 fn complete_graphs(rt: HostRuntime) -> Result<(), Fail> {
-    let heap = rt.alloc();
-    for n in 1..=20i64 {
-        let lnz = n.saturating_mul(n.saturating_sub(1)) / 2;
-        check_entries(&rt, heap, n, complete_below(heap, n)?, lnz)?;
-    }
-    Ok(())
+    Ok(check_sizes(&rt, rt.alloc(), Family::CompleteBelow, 1, 20)?)
+}
+
+#[test]
+fn grids(rt: HostRuntime) -> Result<(), Fail> {
+    Ok(check_sizes(&rt, rt.alloc(), Family::Grid, 1, 12)?)
 }
 
 /// A complete graph with more entries than 16 bits count. One step eliminates all rows, and the figures are sums over
@@ -187,30 +186,11 @@ fn a_complete_graph_with_many_entries(rt: HostRuntime) -> Result<(), Fail> {
 }
 
 #[test]
-fn grids(rt: HostRuntime) -> Result<(), Fail> {
-    let heap = rt.alloc();
-    for side in 1..=12i64 {
-        check(&rt, heap, side.saturating_mul(side), grid(heap, side)?)?;
-    }
-    Ok(())
-}
-
-#[test]
 fn drawn_matrices(rt: HostRuntime) -> Result<(), Fail> {
-    let heap = rt.alloc();
-    for seed in 1..=64 {
-        let (n, a_p, a_i) = drawn(heap, seed)?;
-        check(&rt, heap, n, (a_p, a_i))?;
-    }
-    Ok(())
+    Ok(check_sizes(&rt, rt.alloc(), Family::Drawn, 1, 64)?)
 }
 
 #[test]
 fn drawn_matrices_with_a_hub(rt: HostRuntime) -> Result<(), Fail> {
-    let heap = rt.alloc();
-    for seed in 1..=64 {
-        let (n, a_p, a_i) = drawn_with_hub(heap, seed)?;
-        check(&rt, heap, n, (a_p, a_i))?;
-    }
-    Ok(())
+    Ok(check_sizes(&rt, rt.alloc(), Family::DrawnWithHub, 1, 64)?)
 }

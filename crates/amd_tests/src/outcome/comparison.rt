@@ -2,26 +2,17 @@
 // caller, and that under orders by other rules, each beside the factor that searches for paths find, which is slow. No
 // room is smaller than that, and no figure of the ordering is below what it needs.
 
+use crate::checks::{check_chosen, check_under};
+use crate::outcome::orders::{rows_of, shuffle};
+use crate::patterns::CHOICES;
 use amd::{Control, Info};
 use amd_symbolic::{Factor, Fault, analyze, columns};
 use amd_testing::check;
 use amd_testing::factors::{SearchedFactor, SearchedNeed, factor_of, need_of};
-use amd_testing::inputs::{
-    complete, complete_below, cycle, draw, drawn, drawn_with_hub, grid, path, star, star_to_last,
-};
+use amd_testing::families::{Family, member};
 use std::alloc::{AllocError, Global};
 use std::process::Abort;
 use std::test::Fail;
-
-/// The choices of a caller that are tried: the dense row parameter, and whether absorption is aggressive.
-static CHOICES: [(i32, bool); 6] = [
-    (10000, true),
-    (10000, false),
-    (0, true),
-    (0, false),
-    (-1, true),
-    (-1, false),
-];
 
 /// Whether a factor is the slow one: its columns, where they begin, and their first entries.
 fn is_same(factor: &Factor<Global>, slow: &SearchedFactor<Global>) -> bool {
@@ -58,7 +49,7 @@ fn check_order(
     let Ok(factor) = columns(alloc, n, a_p, a_i, p, room) else {
         panic!(rt; "no factor");
     };
-    assert!(rt; is_same(&factor, &slow), "{a_p:?} {a_i:?} {p:?}");
+    check_under(rt, is_same(&factor, &slow), p, a_p, a_i);
     if 0 < room {
         let fault = columns(alloc, n, a_p, a_i, p, room - 1).err();
         check!(rt; fault == Some(Fault::RoomTooSmall));
@@ -68,17 +59,8 @@ fn check_order(
 
 /// An order of rows drawn from a seed: the rows as they stand, each changed for one that is drawn.
 fn drawn_order(alloc: Global, n: i64, seed: u64) -> Result<Vec<i64>, AllocError> {
-    let mut p = Vec::new(alloc);
-    for row in 0..n {
-        p.push(row)?;
-    }
-    let mut state = seed;
-    for k in 0..p.len() {
-        let other = usize::try_from(draw(&mut state, p.len() as u64)).unwrap_or(0);
-        if other < p.len() {
-            p.swap(k, other);
-        }
-    }
+    let mut p = rows_of(alloc, n)?;
+    shuffle(&mut p, seed);
     Ok(p)
 }
 
@@ -90,10 +72,7 @@ fn check_other_orders(
     a_p: &[i64],
     a_i: &[i64],
 ) -> Result<(), AllocError> {
-    let mut p = Vec::new(alloc);
-    for row in 0..n {
-        p.push(row)?;
-    }
+    let mut p = rows_of(alloc, n)?;
     check_order(rt, alloc, n, a_p, a_i, &p)?;
     p.reverse();
     check_order(rt, alloc, n, a_p, a_i, &p)?;
@@ -111,94 +90,93 @@ fn is_bounded(info: &Info, need: &SearchedNeed) -> bool {
         && need.d_max <= info.d_max
 }
 
-/// Analyzes a matrix with each choice, and asks for its columns under other orders.
-fn check(
+/// Analyzes a matrix with a choice.
+fn check_choice(
     rt: &impl Abort,
     alloc: Global,
     n: i64,
-    (a_p, a_i): (Vec<i64>, Vec<i64>),
+    a_p: &[i64],
+    a_i: &[i64],
+    control: &Control,
 ) -> Result<(), AllocError> {
-    for &(dense, aggressive) in &CHOICES {
-        let control = Control { dense, aggressive };
-        let Ok((p, _, info, factor)) = analyze(alloc, n, &a_p, &a_i, &control) else {
-            panic!(rt; "no answer");
-        };
-        let slow = factor_of(alloc, &a_p, &a_i, &p)?;
-        assert!(rt;
-            is_bounded(&info, &need_of(&slow.columns)) && is_same(&factor, &slow),
-            "{control:?} {a_p:?} {a_i:?}"
-        );
+    let Ok((p, _, info, factor)) = analyze(alloc, n, a_p, a_i, control) else {
+        panic!(rt; "no answer");
+    };
+    let slow = factor_of(alloc, a_p, a_i, &p)?;
+    let holds = is_bounded(&info, &need_of(&slow.columns)) && is_same(&factor, &slow);
+    check_chosen(rt, holds, control, a_p, a_i);
+    Ok(())
+}
+
+/// Analyzes the matrix of a family at some size with each choice, and asks for its columns under other orders.
+fn check_member(
+    rt: &impl Abort,
+    alloc: Global,
+    family: Family,
+    size: i64,
+) -> Result<(), AllocError> {
+    let (n, a_p, a_i) = member(alloc, family, size)?;
+    for control in &CHOICES {
+        check_choice(rt, alloc, n, &a_p, &a_i, control)?;
     }
     check_other_orders(rt, alloc, n, &a_p, &a_i)
 }
 
+/// The same of a family at these sizes.
+fn check_sizes(
+    rt: &impl Abort,
+    alloc: Global,
+    family: Family,
+    first: i64,
+    last: i64,
+) -> Result<(), AllocError> {
+    for size in first..=last {
+        check_member(rt, alloc, family, size)?;
+    }
+    Ok(())
+}
+
 #[test]
 fn rows_without_edges(rt: HostRuntime) -> Result<(), Fail> {
-    let heap = rt.alloc();
-    check(&rt, heap, 40, (vec![in heap; 0; 41]?, Vec::new(heap)))?;
-    Ok(())
+    Ok(check_sizes(&rt, rt.alloc(), Family::Empty, 40, 40)?)
 }
 
 #[test]
 fn paths(rt: HostRuntime) -> Result<(), Fail> {
-    for n in 1..=30 {
-        check(&rt, rt.alloc(), n, path(rt.alloc(), n)?)?;
-    }
-    Ok(())
+    Ok(check_sizes(&rt, rt.alloc(), Family::Path, 1, 30)?)
 }
 
 #[test]
 fn cycles(rt: HostRuntime) -> Result<(), Fail> {
-    for n in 3..=40 {
-        check(&rt, rt.alloc(), n, cycle(rt.alloc(), n)?)?;
-    }
-    Ok(())
+    Ok(check_sizes(&rt, rt.alloc(), Family::Cycle, 3, 40)?)
 }
 
 /// Under the rows as they stand the first of each two is eliminated from its centre.
 #[test]
 fn stars(rt: HostRuntime) -> Result<(), Fail> {
-    for n in 2..=20 {
-        check(&rt, rt.alloc(), n, star(rt.alloc(), n)?)?;
-        check(&rt, rt.alloc(), n, star_to_last(rt.alloc(), n)?)?;
-    }
-    Ok(())
+    check_sizes(&rt, rt.alloc(), Family::Star, 2, 20)?;
+    Ok(check_sizes(&rt, rt.alloc(), Family::StarToLast, 2, 20)?)
 }
 
 /// Complete graphs by the entries below the diagonal alone, and by both mirrors.
 #[test]
 fn complete_graphs(rt: HostRuntime) -> Result<(), Fail> {
-    for n in 1..=20 {
-        check(&rt, rt.alloc(), n, complete_below(rt.alloc(), n)?)?;
-        check(&rt, rt.alloc(), n, complete(rt.alloc(), n)?)?;
-    }
-    Ok(())
+    check_sizes(&rt, rt.alloc(), Family::CompleteBelow, 1, 20)?;
+    Ok(check_sizes(&rt, rt.alloc(), Family::Complete, 1, 20)?)
 }
 
 #[test]
 fn grids(rt: HostRuntime) -> Result<(), Fail> {
-    for side in 1..=12i64 {
-        let n = side.saturating_mul(side);
-        check(&rt, rt.alloc(), n, grid(rt.alloc(), side)?)?;
-    }
-    Ok(())
+    Ok(check_sizes(&rt, rt.alloc(), Family::Grid, 1, 12)?)
 }
 
 /// Most of these are jumbled, with repeats, and none is symmetric but by chance.
 #[test]
 fn drawn_matrices(rt: HostRuntime) -> Result<(), Fail> {
-    for seed in 1..=64 {
-        let (n, a_p, a_i) = drawn(rt.alloc(), seed)?;
-        check(&rt, rt.alloc(), n, (a_p, a_i))?;
-    }
-    Ok(())
+    Ok(check_sizes(&rt, rt.alloc(), Family::Drawn, 1, 64)?)
 }
 
 #[test]
 fn drawn_matrices_with_a_hub(rt: HostRuntime) -> Result<(), Fail> {
-    for seed in 1..=64 {
-        let (n, a_p, a_i) = drawn_with_hub(rt.alloc(), seed)?;
-        check(&rt, rt.alloc(), n, (a_p, a_i))?;
-    }
-    Ok(())
+    Ok(check_sizes(&rt, rt.alloc(), Family::DrawnWithHub, 1, 64)?)
 }

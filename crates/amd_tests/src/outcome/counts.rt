@@ -2,14 +2,15 @@
 // under the orders that are no orderings too; on worked matrices; with each request refused in turn; and where the
 // input or the order is none.
 
+use crate::checks::{check_matrix, check_under};
+use crate::outcome::orders::{GRAPHS, NO_ORDERS, other_orders};
+use crate::outcome::refusals::NO_FORMS;
 use crate::outcome::worked::{FOUR_CYCLE, FactorCase, WORKED};
 use amd::Control;
 use amd_symbolic::{Counts, Fault, analyze_counts, counts};
 use amd_testing::check;
 use amd_testing::factors::{SearchedFactor, factor_of, need_of};
-use amd_testing::inputs::{
-    complete, cycle, draw, drawn, drawn_with_hub, grid, path, star, star_to_last,
-};
+use amd_testing::families::{Family, member};
 use amd_testing::refusing::{Refusing, each_refused};
 use std::alloc::{AllocError, Allocator, Global};
 use std::process::Abort;
@@ -47,19 +48,24 @@ fn check_order(
     let Ok(counted) = counts(alloc, n, a_p, a_i, p) else {
         panic!(rt; "no counts");
     };
-    assert!(rt; are_counts(&counted, &slow), "{a_p:?} {a_i:?} {p:?}");
+    check_under(rt, are_counts(&counted, &slow), p, a_p, a_i);
     Ok(())
 }
 
-/// The rows, each changed for one that is drawn.
-pub fn shuffle(p: &mut [i64], seed: u64) {
-    let mut state = seed;
-    for k in 0..p.len() {
-        let other = usize::try_from(draw(&mut state, p.len() as u64)).unwrap_or(0);
-        if other < p.len() {
-            p.swap(k, other);
-        }
-    }
+/// Asks for the counts under the order of an ordering.
+fn check_ordering(
+    rt: &impl Abort,
+    alloc: Global,
+    n: i64,
+    a_p: &[i64],
+    a_i: &[i64],
+) -> Result<(), AllocError> {
+    let Ok((p, _, _, counted)) = analyze_counts(alloc, n, a_p, a_i, &Control::default()) else {
+        panic!(rt; "no answer");
+    };
+    let slow = factor_of(alloc, a_p, a_i, &p)?;
+    check_matrix(rt, are_counts(&counted, &slow), a_p, a_i);
+    Ok(())
 }
 
 /// Asks for the counts under the order of an ordering, the rows as they stand, reversed, and as they are drawn.
@@ -67,23 +73,27 @@ fn check_orders(
     rt: &impl Abort,
     alloc: Global,
     n: i64,
-    (a_p, a_i): (Vec<i64>, Vec<i64>),
+    a_p: &[i64],
+    a_i: &[i64],
 ) -> Result<(), AllocError> {
-    let Ok((p, _, _, counted)) = analyze_counts(alloc, n, &a_p, &a_i, &Control::default()) else {
-        panic!(rt; "no answer");
-    };
-    let slow = factor_of(alloc, &a_p, &a_i, &p)?;
-    assert!(rt; are_counts(&counted, &slow), "{a_p:?} {a_i:?}");
-    let mut order = Vec::new(alloc);
-    for row in 0..n {
-        order.push(row)?;
+    check_ordering(rt, alloc, n, a_p, a_i)?;
+    for p in &other_orders(alloc, n, 5)? {
+        check_order(rt, alloc, n, a_p, a_i, p)?;
     }
-    check_order(rt, alloc, n, &a_p, &a_i, &order)?;
-    order.reverse();
-    check_order(rt, alloc, n, &a_p, &a_i, &order)?;
-    for seed in 1..6 {
-        shuffle(&mut order, seed);
-        check_order(rt, alloc, n, &a_p, &a_i, &order)?;
+    Ok(())
+}
+
+/// Asks for the counts of a family at these sizes.
+fn check_sizes(
+    rt: &impl Abort,
+    alloc: Global,
+    family: Family,
+    first: i64,
+    last: i64,
+) -> Result<(), AllocError> {
+    for size in first..=last {
+        let (n, a_p, a_i) = member(alloc, family, size)?;
+        check_orders(rt, alloc, n, &a_p, &a_i)?;
     }
     Ok(())
 }
@@ -91,17 +101,8 @@ fn check_orders(
 /// Stars from the centre on have one column of all rows, and each row is a child of the one behind it.
 #[test]
 fn counts_of_families(rt: HostRuntime) -> Result<(), Fail> {
-    let heap = rt.alloc();
-    for n in 3..=16 {
-        check_orders(&rt, heap, n, path(heap, n)?)?;
-        check_orders(&rt, heap, n, cycle(heap, n)?)?;
-        check_orders(&rt, heap, n, star(heap, n)?)?;
-        check_orders(&rt, heap, n, star_to_last(heap, n)?)?;
-        check_orders(&rt, heap, n, complete(heap, n)?)?;
-    }
-    for side in 1..=7i64 {
-        let n = side.saturating_mul(side);
-        check_orders(&rt, heap, n, grid(heap, side)?)?;
+    for &(family, first, last) in &GRAPHS {
+        check_sizes(&rt, rt.alloc(), family, first, last)?;
     }
     Ok(())
 }
@@ -109,14 +110,8 @@ fn counts_of_families(rt: HostRuntime) -> Result<(), Fail> {
 /// Most of these are jumbled, with repeats, and none is symmetric but by chance.
 #[test]
 fn counts_of_drawn_matrices(rt: HostRuntime) -> Result<(), Fail> {
-    let heap = rt.alloc();
-    for seed in 1..=32 {
-        let (n, a_p, a_i) = drawn(heap, seed)?;
-        check_orders(&rt, heap, n, (a_p, a_i))?;
-        let (n, a_p, a_i) = drawn_with_hub(heap, seed)?;
-        check_orders(&rt, heap, n, (a_p, a_i))?;
-    }
-    Ok(())
+    check_sizes(&rt, rt.alloc(), Family::Drawn, 1, 32)?;
+    Ok(check_sizes(&rt, rt.alloc(), Family::DrawnWithHub, 1, 32)?)
 }
 
 /// Asserts that counts are those of a case.
@@ -178,16 +173,11 @@ fn each_request_of_analyze_counts(rt: HostRuntime) {
     }
 }
 
-/// Inputs that are no column form make no request; orders that do not list each row once are told as such.
+/// Inputs that are no column form make no request, and neither do no rows.
 #[test]
 fn inputs_that_have_no_counts(rt: HostRuntime) {
     let heap = Refusing::new(rt.alloc(), 1);
-    for (n, a_p, a_i) in [
-        (2i64, [0i64, 2, 1].as_slice(), [0i64, 1].as_slice()),
-        (1, &[0, 1], &[-1]),
-        (-1, &[0], &[]),
-        (2, &[0, 1, 3], &[0, 1]),
-    ] {
+    for &(n, a_p, a_i) in &NO_FORMS {
         let fault = counts(&heap, n, a_p, a_i, &[0, 1]).err();
         check!(&rt; fault == Some(Fault::NotColumnForm));
         let fault = analyze_counts(&heap, n, a_p, a_i, &Control::default()).err();
@@ -196,15 +186,13 @@ fn inputs_that_have_no_counts(rt: HostRuntime) {
     let fault = counts(&heap, 0i64, &[], &[], &[0]).err();
     check!(&rt; fault == Some(Fault::NotPermutation));
     check!(&rt; heap.requests() == 0);
+}
+
+/// Orders that do not list each row once are told as such.
+#[test]
+fn orders_that_have_no_counts(rt: HostRuntime) {
     let case = &FOUR_CYCLE;
-    for p in [
-        [].as_slice(),
-        &[0, 1, 2],
-        &[0, 1, 2, 2],
-        &[0, 1, 2, 4],
-        &[0, 1, 2, -1],
-        &[0, 1, 2, 3, 0],
-    ] {
+    for &p in &NO_ORDERS {
         let fault = counts(rt.alloc(), case.n, case.a_p, case.a_i, p).err();
         check!(&rt; fault == Some(Fault::NotPermutation));
     }

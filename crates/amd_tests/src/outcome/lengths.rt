@@ -1,13 +1,13 @@
 // The counts beside the columns themselves, on graphs that are larger than those that searches for paths follow, under
 // orders that fill in much: the rows as they stand, reversed, and as they are drawn. And stars from their centre on.
 
-use crate::outcome::counts::shuffle;
+use crate::checks::check_under;
+use crate::outcome::orders::{other_orders, rows_of};
 use amd::{Control, order};
 use amd_symbolic::{Counts, Factor, columns, counts};
 use amd_testing::check;
-use amd_testing::inputs::{
-    complete, complete_below, cycle, drawn, drawn_with_hub, grid, path, star, star_to_last,
-};
+use amd_testing::families::{Family, member};
+use amd_testing::inputs::{star, star_to_last};
 use std::alloc::{AllocError, Global};
 use std::process::Abort;
 use std::test::Fail;
@@ -44,16 +44,7 @@ fn check_order(rt: &impl Abort, alloc: Global, n: i64, a_p: &[i64], a_i: &[i64],
     let Ok(factor) = columns(alloc, n, a_p, a_i, p, room_of(&counted)) else {
         panic!(rt; "no columns");
     };
-    assert!(rt; are_lengths(&counted, &factor), "{a_p:?} {a_i:?} {p:?}");
-}
-
-/// The rows as they stand.
-fn rows_of(alloc: Global, n: i64) -> Result<Vec<i64>, AllocError> {
-    let mut p = Vec::new(alloc);
-    for row in 0..n {
-        p.push(row)?;
-    }
-    Ok(p)
+    check_under(rt, are_lengths(&counted, &factor), p, a_p, a_i);
 }
 
 /// Compares under the order of an ordering, and under five that are none.
@@ -61,52 +52,72 @@ fn check_orders(
     rt: &impl Abort,
     alloc: Global,
     n: i64,
-    (a_p, a_i): (Vec<i64>, Vec<i64>),
+    a_p: &[i64],
+    a_i: &[i64],
 ) -> Result<(), AllocError> {
-    let Ok((p, _, _)) = order(alloc, n, &a_p, &a_i, &Control::default()) else {
+    let Ok((p, _, _)) = order(alloc, n, a_p, a_i, &Control::default()) else {
         panic!(rt; "no ordering");
     };
-    check_order(rt, alloc, n, &a_p, &a_i, &p);
-    let mut p = rows_of(alloc, n)?;
-    check_order(rt, alloc, n, &a_p, &a_i, &p);
-    p.reverse();
-    check_order(rt, alloc, n, &a_p, &a_i, &p);
-    for seed in 1..4 {
-        shuffle(&mut p, seed);
-        check_order(rt, alloc, n, &a_p, &a_i, &p);
+    check_order(rt, alloc, n, a_p, a_i, &p);
+    for rows in &other_orders(alloc, n, 3)? {
+        check_order(rt, alloc, n, a_p, a_i, rows);
     }
     Ok(())
 }
 
+/// Compares the matrices of a family at these sizes.
+fn check_sizes(
+    rt: &impl Abort,
+    alloc: Global,
+    family: Family,
+    first: i64,
+    last: i64,
+) -> Result<(), AllocError> {
+    for size in first..=last {
+        let (n, a_p, a_i) = member(alloc, family, size)?;
+        check_orders(rt, alloc, n, &a_p, &a_i)?;
+    }
+    Ok(())
+}
+
+/// Families of graphs, and some of their sizes.
+static GRAPHS: [(Family, i64); 22] = [
+    (Family::Empty, 90),
+    (Family::Path, 3),
+    (Family::Path, 60),
+    (Family::Path, 90),
+    (Family::Cycle, 3),
+    (Family::Cycle, 60),
+    (Family::Cycle, 90),
+    (Family::Star, 3),
+    (Family::Star, 60),
+    (Family::Star, 90),
+    (Family::StarToLast, 3),
+    (Family::StarToLast, 60),
+    (Family::StarToLast, 90),
+    (Family::CompleteBelow, 3),
+    (Family::CompleteBelow, 60),
+    (Family::CompleteBelow, 90),
+    (Family::Complete, 3),
+    (Family::Complete, 60),
+    (Family::Complete, 90),
+    (Family::Grid, 1),
+    (Family::Grid, 8),
+    (Family::Grid, 15),
+];
+
 #[test]
 fn lengths_of_families(rt: HostRuntime) -> Result<(), Fail> {
-    let heap = rt.alloc();
-    check_orders(&rt, heap, 90, (vec![in heap; 0; 91]?, Vec::new(heap)))?;
-    for n in [3, 60, 90] {
-        check_orders(&rt, heap, n, path(heap, n)?)?;
-        check_orders(&rt, heap, n, cycle(heap, n)?)?;
-        check_orders(&rt, heap, n, star(heap, n)?)?;
-        check_orders(&rt, heap, n, star_to_last(heap, n)?)?;
-        check_orders(&rt, heap, n, complete_below(heap, n)?)?;
-        check_orders(&rt, heap, n, complete(heap, n)?)?;
-    }
-    for side in [1i64, 8, 15] {
-        let n = side.saturating_mul(side);
-        check_orders(&rt, heap, n, grid(heap, side)?)?;
+    for &(family, size) in &GRAPHS {
+        check_sizes(&rt, rt.alloc(), family, size, size)?;
     }
     Ok(())
 }
 
 #[test]
 fn lengths_of_drawn_matrices(rt: HostRuntime) -> Result<(), Fail> {
-    let heap = rt.alloc();
-    for seed in 1..=120 {
-        let (n, a_p, a_i) = drawn(heap, seed)?;
-        check_orders(&rt, heap, n, (a_p, a_i))?;
-        let (n, a_p, a_i) = drawn_with_hub(heap, seed)?;
-        check_orders(&rt, heap, n, (a_p, a_i))?;
-    }
-    Ok(())
+    check_sizes(&rt, rt.alloc(), Family::Drawn, 1, 120)?;
+    Ok(check_sizes(&rt, rt.alloc(), Family::DrawnWithHub, 1, 120)?)
 }
 
 /// Whether each column has all rows behind it, and the next one is its parent.
@@ -123,25 +134,31 @@ fn is_full(counted: &Counts<Global>) -> bool {
     counted.parent.len() == counted.sizes.len()
 }
 
+/// Asserts that under an order each column of a star has all rows behind it.
+fn check_full(rt: &impl Abort, alloc: Global, n: i64, a_p: &[i64], a_i: &[i64], p: &[i64]) {
+    let Ok(counted) = counts(alloc, n, a_p, a_i, p) else {
+        panic!(rt; "no counts");
+    };
+    check!(rt; is_full(&counted));
+    check_order(rt, alloc, n, a_p, a_i, p);
+}
+
+/// Asserts the same of both stars of so many rows, each from its centre on.
+fn check_stars(rt: &impl Abort, alloc: Global, n: i64) -> Result<(), AllocError> {
+    let mut p = rows_of(alloc, n)?;
+    let (a_p, a_i) = star(alloc, n)?;
+    check_full(rt, alloc, n, &a_p, &a_i, &p);
+    let (b_p, b_i) = star_to_last(alloc, n)?;
+    p.reverse();
+    check_full(rt, alloc, n, &b_p, &b_i, &p);
+    Ok(())
+}
+
 /// The rows around the centre are all joined by it, so that nothing stays empty below the diagonal.
 #[test]
 fn stars_from_their_centre_on(rt: HostRuntime) -> Result<(), Fail> {
-    let heap = rt.alloc();
     for n in 2..=40 {
-        let (a_p, a_i) = star(heap, n)?;
-        let mut p = rows_of(heap, n)?;
-        let Ok(counted) = counts(heap, n, &a_p, &a_i, &p) else {
-            panic!(&rt; "no counts");
-        };
-        check!(&rt; is_full(&counted));
-        check_order(&rt, heap, n, &a_p, &a_i, &p);
-        let (a_p, a_i) = star_to_last(heap, n)?;
-        p.reverse();
-        let Ok(counted) = counts(heap, n, &a_p, &a_i, &p) else {
-            panic!(&rt; "no counts");
-        };
-        check!(&rt; is_full(&counted));
-        check_order(&rt, heap, n, &a_p, &a_i, &p);
+        check_stars(&rt, rt.alloc(), n)?;
     }
     Ok(())
 }

@@ -2,22 +2,14 @@
 // refusal answers `OutOfMemory`, and the first one without gives the answer. After each of them as many blocks came
 // back as were granted.
 
-use crate::memory::check_requests;
+use crate::memory::{check_refusals, check_requests};
 use crate::outcome::worked::{FOUR_CYCLE, FactorCase, WORKED, check_factor};
 use amd::Control;
 use amd_symbolic::{Factor, Fault, analyze, analyze_holding, columns};
 use amd_testing::check;
-use amd_testing::refusing::{Refusing, Slip, each_refused};
+use amd_testing::refusing::{Refusing, each_refused};
 use std::alloc::{Allocator, Global};
 use std::process::Abort;
-
-/// Asserts that some requests were refused, and that no run did wrong.
-fn check_refusals(rt: &impl Abort, what: &str, refusals: Result<u64, Slip>) {
-    match refusals {
-        Ok(count) => check!(rt; 0 < count, what),
-        Err(_) => panic!(rt; "{what}"),
-    }
-}
 
 /// Asserts that an answer is the factor of a case, or that memory was refused, and says whether it is the former.
 fn is_answer<A: Allocator>(

@@ -11,7 +11,7 @@ use std::alloc::Global;
 use std::process::Abort;
 
 /// Inputs that are no column form: the number of rows, the pointers, and the row indices.
-static NO_FORMS: [(i64, &[i64], &[i64]); 9] = [
+pub static NO_FORMS: [(i64, &[i64], &[i64]); 9] = [
     (2, &[0, 2, 1], &[0, 1]),
     (1, &[1, 1], &[0]),
     (1, &[0, 1], &[1]),

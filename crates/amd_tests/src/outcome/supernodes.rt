@@ -2,13 +2,15 @@
 // under the orders that are no orderings too; on worked matrices; with each request refused in turn; and where the
 // input or the order is none.
 
-use crate::outcome::counts::shuffle;
+use crate::checks::check_under;
+use crate::outcome::orders::{GRAPHS, NO_ORDERS, other_orders};
+use crate::outcome::refusals::NO_FORMS;
 use crate::outcome::worked::{FOUR_CYCLE, FactorCase, WORKED};
 use amd::{Control, order};
 use amd_symbolic::{Fault, Supernodes, supernodes};
 use amd_testing::check;
 use amd_testing::factors::factor_of;
-use amd_testing::inputs::{complete, cycle, drawn, drawn_with_hub, grid, path, star, star_to_last};
+use amd_testing::families::{Family, member};
 use amd_testing::refusing::{Refusing, each_refused};
 use std::alloc::{AllocError, Allocator, Global};
 use std::process::Abort;
@@ -113,10 +115,7 @@ fn check_order(
     let Ok(made) = supernodes(alloc, n, a_p, a_i, p) else {
         panic!(rt; "no supernodes");
     };
-    assert!(rt;
-        are_supernodes(&made, &slow.columns),
-        "{a_p:?} {a_i:?} {p:?}"
-    );
+    check_under(rt, are_supernodes(&made, &slow.columns), p, a_p, a_i);
     Ok(())
 }
 
@@ -125,22 +124,30 @@ fn check_orders(
     rt: &impl Abort,
     alloc: Global,
     n: i64,
-    (a_p, a_i): (Vec<i64>, Vec<i64>),
+    a_p: &[i64],
+    a_i: &[i64],
 ) -> Result<(), AllocError> {
-    let Ok((p, _, _)) = order(alloc, n, &a_p, &a_i, &Control::default()) else {
+    let Ok((p, _, _)) = order(alloc, n, a_p, a_i, &Control::default()) else {
         panic!(rt; "no answer");
     };
-    check_order(rt, alloc, n, &a_p, &a_i, &p)?;
-    let mut rows = Vec::new(alloc);
-    for row in 0..n {
-        rows.push(row)?;
+    check_order(rt, alloc, n, a_p, a_i, &p)?;
+    for rows in &other_orders(alloc, n, 5)? {
+        check_order(rt, alloc, n, a_p, a_i, rows)?;
     }
-    check_order(rt, alloc, n, &a_p, &a_i, &rows)?;
-    rows.reverse();
-    check_order(rt, alloc, n, &a_p, &a_i, &rows)?;
-    for seed in 1..6 {
-        shuffle(&mut rows, seed);
-        check_order(rt, alloc, n, &a_p, &a_i, &rows)?;
+    Ok(())
+}
+
+/// Asks for the supernodes of a family at these sizes.
+fn check_sizes(
+    rt: &impl Abort,
+    alloc: Global,
+    family: Family,
+    first: i64,
+    last: i64,
+) -> Result<(), AllocError> {
+    for size in first..=last {
+        let (n, a_p, a_i) = member(alloc, family, size)?;
+        check_orders(rt, alloc, n, &a_p, &a_i)?;
     }
     Ok(())
 }
@@ -148,17 +155,8 @@ fn check_orders(
 /// A complete graph has one supernode, and a path under the order of its rows one for each row but the last two.
 #[test]
 fn supernodes_of_families(rt: HostRuntime) -> Result<(), Fail> {
-    let heap = rt.alloc();
-    for n in 3..=16 {
-        check_orders(&rt, heap, n, path(heap, n)?)?;
-        check_orders(&rt, heap, n, cycle(heap, n)?)?;
-        check_orders(&rt, heap, n, star(heap, n)?)?;
-        check_orders(&rt, heap, n, star_to_last(heap, n)?)?;
-        check_orders(&rt, heap, n, complete(heap, n)?)?;
-    }
-    for side in 1..=7i64 {
-        let n = side.saturating_mul(side);
-        check_orders(&rt, heap, n, grid(heap, side)?)?;
+    for &(family, first, last) in &GRAPHS {
+        check_sizes(&rt, rt.alloc(), family, first, last)?;
     }
     Ok(())
 }
@@ -166,14 +164,8 @@ fn supernodes_of_families(rt: HostRuntime) -> Result<(), Fail> {
 /// Most of these are jumbled, with repeats, and none is symmetric but by chance.
 #[test]
 fn supernodes_of_drawn_matrices(rt: HostRuntime) -> Result<(), Fail> {
-    let heap = rt.alloc();
-    for seed in 1..=32 {
-        let (n, a_p, a_i) = drawn(heap, seed)?;
-        check_orders(&rt, heap, n, (a_p, a_i))?;
-        let (n, a_p, a_i) = drawn_with_hub(heap, seed)?;
-        check_orders(&rt, heap, n, (a_p, a_i))?;
-    }
-    Ok(())
+    check_sizes(&rt, rt.alloc(), Family::Drawn, 1, 32)?;
+    Ok(check_sizes(&rt, rt.alloc(), Family::DrawnWithHub, 1, 32)?)
 }
 
 /// Whether supernodes are those of the columns of a case.
@@ -218,31 +210,24 @@ fn each_request_of_supernodes(rt: HostRuntime) {
     }
 }
 
-/// Inputs that are no column form make no request; orders that do not list each row once are told as such.
+/// Inputs that are no column form make no request, and neither do no rows.
 #[test]
 fn inputs_that_have_no_supernodes(rt: HostRuntime) {
     let heap = Refusing::new(rt.alloc(), 1);
-    for (n, a_p, a_i) in [
-        (2i64, [0i64, 2, 1].as_slice(), [0i64, 1].as_slice()),
-        (1, &[0, 1], &[-1]),
-        (-1, &[0], &[]),
-        (2, &[0, 1, 3], &[0, 1]),
-    ] {
+    for &(n, a_p, a_i) in &NO_FORMS {
         let fault = supernodes(&heap, n, a_p, a_i, &[0, 1]).err();
         check!(&rt; fault == Some(Fault::NotColumnForm));
     }
     let fault = supernodes(&heap, 0i64, &[], &[], &[0]).err();
     check!(&rt; fault == Some(Fault::NotPermutation));
     check!(&rt; heap.requests() == 0);
+}
+
+/// Orders that do not list each row once are told as such.
+#[test]
+fn orders_that_have_no_supernodes(rt: HostRuntime) {
     let case = &FOUR_CYCLE;
-    for p in [
-        [].as_slice(),
-        &[0, 1, 2],
-        &[0, 1, 2, 2],
-        &[0, 1, 2, 4],
-        &[0, 1, 2, -1],
-        &[0, 1, 2, 3, 0],
-    ] {
+    for &p in &NO_ORDERS {
         let fault = supernodes(rt.alloc(), case.n, case.a_p, case.a_i, p).err();
         check!(&rt; fault == Some(Fault::NotPermutation));
     }
