@@ -1,12 +1,8 @@
 // What the demos write, in parts. The texts are those of the Rust crate's demos, but for the line on symmetry, which
 // follows the definition, and the exact factor, which the Rust crate's demos have not.
 
-/// The demo of a small matrix: the permutations, and the record.
-pub const SIMPLE: [&str; 2] = [
-    "P = [0, 3, 2, 4, 1]
-PInv = [0, 4, 2, 1, 3]
-",
-    "
+/// The record of the small matrix.
+pub const FIVE_ROWS: &str = "
 AMD results:
     status:                                             OK
     n, dimension of A:                                  5
@@ -35,12 +31,109 @@ AMD results:
     LU flop count for real A (with no pivoting):        19
     LU flop count for complex A (with no pivoting):     101
 
+";
+
+/// The demo of a small matrix: the permutations, and the record.
+pub const SIMPLE: [&str; 2] = [
+    "P = [0, 3, 2, 4, 1]
+PInv = [0, 4, 2, 1, 3]
 ",
+    FIVE_ROWS,
 ];
+
+/// The plot of the matrix can_24.
+pub const PLOT: &str = "    0 1 2 3 4 5 6 7 8 9 0 1 2 3 4 5 6 7 8 9 0 1 2 3
+0:  X . . . . X X . . . . . X X . . . X X X . X . .
+1:  . X . . . . . . X X . . . X X . . X . . . . . .
+2:  . . X . . . X . . . . X . . . . . . . . X X X .
+3:  . . . X . . . X . . X . . . . X . . X X . . . .
+4:  . . . . X . . X . X . . . . X X X . . . . . . .
+5:  X . . . . X X . . . . . X X . . . X . . . . . .
+6:  X . X . . X X . . . . X X . . . . . . X . X . X
+7:  . . . X X . . X . X . . . . X X X X X . . . . .
+8:  . X . . . . . . X X . . . . X . . . . . . . . .
+9:  . X . . X . . X X X . . . X X . . X X . . . . .
+10:  . . . X . . . . . . X . . . . . . . X X X X . .
+11:  . . X . . . X . . . . X X . . . . . . . . X . X
+12:  X . . . . X X . . . . X X . . . . . . . . . . X
+13:  X X . . . X . . . X . . . X . . . X . . . . . .
+14:  . X . . X . . X X X . . . . X . . . . . . . . .
+15:  . . . X X . . X . . . . . . . X X . X . . . . .
+16:  . . . . X . . X . . . . . . . X X . . . . . . .
+17:  X X . . . X . X . X . . . X . . . X X X . . . .
+18:  X . . X . . . X . X X . . . . X . X X X . . . .
+19:  X . . X . . X . . . X . . . . . . X X X X X . .
+20:  . . X . . . . . . . X . . . . . . . . X X X X .
+21:  X . X . . . X . . . X X . . . . . . . X X X X .
+22:  . . X . . . . . . . . . . . . . . . . . X X X .
+23:  . . . . . . X . . . . X X . . . . . . . . . . X
+";
+
+/// The last part of its record, which its jumbled form has too.
+pub const STATISTICS: &str = "    nonzeros in pattern of A+A' (excl. diagonal):       136
+    # dense rows/columns of A+A':                       0
+    # of memory compactions:                            0
+
+    The following approximate statistics are for a subsequent
+    factorization of A(P,P) + A(P,P)'.  They are slight upper
+    bounds if there are no dense rows/columns in A+A', and become
+    looser if dense rows/columns exist.
+
+    nonzeros in L (excluding diagonal):                 97
+    nonzeros in L (including diagonal):                 121
+    # divide operations for LDL' or LU:                 97
+    # multiply-subtract operations for LDL':            275
+    # multiply-subtract operations for LU:              453
+    max nz. in any column of L (incl. diagonal):        8
+
+    chol flop count for real A, sqrt counted as 1 flop: 671
+    LDL' flop count for real A:                         647
+    LDL' flop count for complex A:                      3073
+    LU flop count for real A (with no pivoting):        1003
+    LU flop count for complex A (with no pivoting):     4497
+
+";
+
+/// Its permutations.
+pub const PERMUTATIONS: &str = "Permutation vector:
+ 22 20 10 23 12 5 16 8 14 4 15 7 1 9 13 17 0 2 3 6 11 18 21 19
+
+Inverse permutation vector:
+ 16 12 17 18 9 5 19 11 7 13 2 20 4 14 8 10 6 15 21 23 1 22 0 3
+
+";
+
+/// The plot of the permuted matrix.
+pub const PERMUTED_PLOT: &str = "    0 1 2 3 4 5 6 7 8 9 0 1 2 3 4 5 6 7 8 9 0 1 2 3
+0:  X X . . . . . . . . . . . . . . . X . . . . X .
+1:  X X X . . . . . . . . . . . . . . X . . . . X X
+2:  . X X . . . . . . . . . . . . . . . X . . X X X
+3:  . . . X X . . . . . . . . . . . . . . X X . . .
+4:  . . . X X X . . . . . . . . . . X . . X X . . .
+5:  . . . . X X . . . . . . . . X X X . . X . . . .
+6:  . . . . . . X . . X X X . . . . . . . . . . . .
+7:  . . . . . . . X X . . . X X . . . . . . . . . .
+8:  . . . . . . . X X X . X X X . . . . . . . . . .
+9:  . . . . . . X . X X X X . X . . . . . . . . . .
+10:  . . . . . . X . . X X X . . . . . . X . . X . .
+11:  . . . . . . X . X X X X . X . X . . X . . X . .
+12:  . . . . . . . X X . . . X X X X . . . . . . . .
+13:  . . . . . . . X X X . X X X X X . . . . . X . .
+14:  . . . . . X . . . . . . X X X X X . . . . . . .
+15:  . . . . . X . . . . . X X X X X X . . . . X . X
+16:  . . . . X X . . . . . . . . X X X . . X . X X X
+17:  X X . . . . . . . . . . . . . . . X . X X . X .
+18:  . . X . . . . . . . X X . . . . . . X . . X . X
+19:  . . . X X X . . . . . . . . . . X X . X X . X X
+20:  . . . X X . . . . . . . . . . . . X . X X . X .
+21:  . . X . . . . . . . X X . X . X X . X . . X . X
+22:  X X X . . . . . . . . . . . . . X X . X X . X X
+23:  . X X . . . . . . . . . . . . X X . X X . X X X
+";
 
 /// The demo of the matrix can_24: its size, its columns, and its plot; the record, the permutations, and the plot of
 /// the permuted matrix; and the exact factor, whose figures were found by searches for paths.
-pub const ORDER: [&str; 7] = [
+pub const ORDER: [&str; 10] = [
     "AMD demo, with the 24-by-24 Harwell/Boeing matrix, can_24:
 
 AMD: approximate minimum degree ordering
@@ -156,32 +249,8 @@ Column: 23, number of entries: 4, with row indices in
 ",
     "
 Plot of input matrix pattern:
-     0 1 2 3 4 5 6 7 8 9 0 1 2 3 4 5 6 7 8 9 0 1 2 3
-0:  X . . . . X X . . . . . X X . . . X X X . X . .
-1:  . X . . . . . . X X . . . X X . . X . . . . . .
-2:  . . X . . . X . . . . X . . . . . . . . X X X .
-3:  . . . X . . . X . . X . . . . X . . X X . . . .
-4:  . . . . X . . X . X . . . . X X X . . . . . . .
-5:  X . . . . X X . . . . . X X . . . X . . . . . .
-6:  X . X . . X X . . . . X X . . . . . . X . X . X
-7:  . . . X X . . X . X . . . . X X X X X . . . . .
-8:  . X . . . . . . X X . . . . X . . . . . . . . .
-9:  . X . . X . . X X X . . . X X . . X X . . . . .
-10:  . . . X . . . . . . X . . . . . . . X X X X . .
-11:  . . X . . . X . . . . X X . . . . . . . . X . X
-12:  X . . . . X X . . . . X X . . . . . . . . . . X
-13:  X X . . . X . . . X . . . X . . . X . . . . . .
-14:  . X . . X . . X X X . . . . X . . . . . . . . .
-15:  . . . X X . . X . . . . . . . X X . X . . . . .
-16:  . . . . X . . X . . . . . . . X X . . . . . . .
-17:  X X . . . X . X . X . . . X . . . X X X . . . .
-18:  X . . X . . . X . X X . . . . X . X X X . . . .
-19:  X . . X . . X . . . X . . . . . . X X X X X . .
-20:  . . X . . . . . . . X . . . . . . . . X X X X .
-21:  X . X . . . X . . . X X . . . . . . . X X X X .
-22:  . . X . . . . . . . . . . . . . . . . . X X X .
-23:  . . . . . . X . . . . X X . . . . . . . . . . X
-",
+ ",
+    PLOT,
     "return value from amd::order: OK (should be OK)
 
 AMD results:
@@ -190,64 +259,13 @@ AMD results:
     nz, number of nonzeros in A:                        160
     symmetry of A:                                      true
     number of nonzeros on diagonal:                     24
-    nonzeros in pattern of A+A' (excl. diagonal):       136
-    # dense rows/columns of A+A':                       0
-    # of memory compactions:                            0
-
-    The following approximate statistics are for a subsequent
-    factorization of A(P,P) + A(P,P)'.  They are slight upper
-    bounds if there are no dense rows/columns in A+A', and become
-    looser if dense rows/columns exist.
-
-    nonzeros in L (excluding diagonal):                 97
-    nonzeros in L (including diagonal):                 121
-    # divide operations for LDL' or LU:                 97
-    # multiply-subtract operations for LDL':            275
-    # multiply-subtract operations for LU:              453
-    max nz. in any column of L (incl. diagonal):        8
-
-    chol flop count for real A, sqrt counted as 1 flop: 671
-    LDL' flop count for real A:                         647
-    LDL' flop count for complex A:                      3073
-    LU flop count for real A (with no pivoting):        1003
-    LU flop count for complex A (with no pivoting):     4497
-
 ",
-    "Permutation vector:
- 22 20 10 23 12 5 16 8 14 4 15 7 1 9 13 17 0 2 3 6 11 18 21 19
-
-Inverse permutation vector:
- 16 12 17 18 9 5 19 11 7 13 2 20 4 14 8 10 6 15 21 23 1 22 0 3
-
-",
+    STATISTICS,
+    PERMUTATIONS,
     "
 Plot of permuted matrix pattern:
-     0 1 2 3 4 5 6 7 8 9 0 1 2 3 4 5 6 7 8 9 0 1 2 3
-0:  X X . . . . . . . . . . . . . . . X . . . . X .
-1:  X X X . . . . . . . . . . . . . . X . . . . X X
-2:  . X X . . . . . . . . . . . . . . . X . . X X X
-3:  . . . X X . . . . . . . . . . . . . . X X . . .
-4:  . . . X X X . . . . . . . . . . X . . X X . . .
-5:  . . . . X X . . . . . . . . X X X . . X . . . .
-6:  . . . . . . X . . X X X . . . . . . . . . . . .
-7:  . . . . . . . X X . . . X X . . . . . . . . . .
-8:  . . . . . . . X X X . X X X . . . . . . . . . .
-9:  . . . . . . X . X X X X . X . . . . . . . . . .
-10:  . . . . . . X . . X X X . . . . . . X . . X . .
-11:  . . . . . . X . X X X X . X . X . . X . . X . .
-12:  . . . . . . . X X . . . X X X X . . . . . . . .
-13:  . . . . . . . X X X . X X X X X . . . . . X . .
-14:  . . . . . X . . . . . . X X X X X . . . . . . .
-15:  . . . . . X . . . . . X X X X X X . . . . X . X
-16:  . . . . X X . . . . . . . . X X X . . X . X X X
-17:  X X . . . . . . . . . . . . . . . X . X X . X .
-18:  . . X . . . . . . . X X . . . . . . X . . X . X
-19:  . . . X X X . . . . . . . . . . X X . X X . X X
-20:  . . . X X . . . . . . . . . . . . X . X X . X .
-21:  . . X . . . . . . . X X . X . X X . X . . X . X
-22:  X X X . . . . . . . . . . . . . X X . X X . X X
-23:  . X X . . . . . . . . . . . . X X . X X . X X X
-",
+ ",
+    PERMUTED_PLOT,
     "
 Exact column counts of the factor:
  3 4 5 3 4 5 3 3 4 4 5 5 5 4 6 6 6 6 5 4 3 2 1 0

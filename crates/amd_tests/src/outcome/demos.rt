@@ -3,7 +3,7 @@
 
 ghost use Rattle.std.specs.Prelude.{◌<◌};
 
-use crate::outcome::demo_texts::{ORDER, SIMPLE};
+use crate::outcome::demo_texts::{ORDER, SIMPLE, STATISTICS};
 use crate::outcome::jumbled_texts::JUMBLED;
 use amd::{Control, order};
 use amd_demos::can_24::{JUMBLED_POINTERS, JUMBLED_ROWS, POINTERS, ROWS};
@@ -158,10 +158,10 @@ fn check_requests(
 
 #[test]
 fn each_request(rt: HostRuntime) -> Result<(), Fail> {
-    let [size, columns, plot, ..] = JUMBLED;
+    let [size, columns, heading, plot, ..] = JUMBLED;
     for (demo, input) in [
         (Demo::Simple, [].as_slice()),
-        (Demo::Jumbled, &[size, columns, plot]),
+        (Demo::Jumbled, &[size, columns, heading, plot]),
     ] {
         let refused = check_requests(&rt, rt.alloc(), demo, input, 1, MANY)?;
         assert!(rt; 0 < refused && refused < MANY - 1, "{demo:?}");
@@ -181,13 +181,34 @@ fn requests_of_ordering(rt: &impl Abort, alloc: Global) -> u64 {
 /// the factor.
 #[test]
 fn each_request_of_ordering_and_factor(rt: HostRuntime) -> Result<(), Fail> {
-    let [size, columns, plot, record, permutations, permuted_plot, _] = ORDER;
-    let input = [size, columns, plot];
+    let [
+        size,
+        columns,
+        heading,
+        plot,
+        record,
+        statistics,
+        lists,
+        last_heading,
+        last_plot,
+        _,
+    ] = ORDER;
+    let input = [size, columns, heading, plot];
     let ordering = requests_of_ordering(&rt, rt.alloc());
     let behind = ordering.saturating_add(1);
     let refused = check_requests(&rt, rt.alloc(), Demo::Order, &input, 1, behind)?;
     check!(&rt; refused == ordering);
-    let all_but_factor = [size, columns, plot, record, permutations, permuted_plot];
+    let all_but_factor = [
+        size,
+        columns,
+        heading,
+        plot,
+        record,
+        statistics,
+        lists,
+        last_heading,
+        last_plot,
+    ];
     let refused = check_requests(&rt, rt.alloc(), Demo::Order, &all_but_factor, behind, MANY)?;
     check!(&rt; ordering < refused && refused < MANY - 1);
     Ok(())
@@ -205,8 +226,8 @@ fn matrices_of_the_other_kind(rt: HostRuntime) -> Result<(), Fail> {
         a_p: &JUMBLED_POINTERS,
         a_i: &JUMBLED_ROWS,
     };
-    let [_, _, _, sorted_record, ..] = ORDER;
-    let [_, _, _, jumbled_record, ..] = JUMBLED;
+    let [_, _, _, _, sorted_record, ..] = ORDER;
+    let [_, _, _, _, jumbled_record, ..] = JUMBLED;
     for (form, matrix, line, record) in [
         (
             Form::Sorted,
@@ -226,7 +247,7 @@ fn matrices_of_the_other_kind(rt: HostRuntime) -> Result<(), Fail> {
         let Some((_, results)) = record.split_once('\n') else {
             panic!(rt; "no line");
         };
-        let end = joined(rt.alloc(), &[line, results, FAILED])?;
+        let end = joined(rt.alloc(), &[line, results, STATISTICS, FAILED])?;
         assert!(rt; status == 1 && out.ends_with(&end), "{line}");
     }
     Ok(())

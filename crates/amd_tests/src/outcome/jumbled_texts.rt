@@ -1,8 +1,10 @@
 // What the demo of the jumbled matrix writes, in parts, beside `demo_texts`: its size, its columns, and its plot; the
 // record, the permutations, and the plot of the permuted matrix.
 
+use crate::outcome::demo_texts::{PERMUTATIONS, PERMUTED_PLOT, PLOT, STATISTICS};
+
 /// The same of the demo of its jumbled form, which has no exact factor.
-pub const JUMBLED: [&str; 6] = [
+pub const JUMBLED: [&str; 9] = [
     "AMD demo, with a jumbled version of the 24-by-24
 Harwell/Boeing matrix, can_24:
 
@@ -148,32 +150,8 @@ Plot of (jumbled) input matrix pattern:
 23:  . . . . . . X . . . . X . . . . . . . . . . . X
 
 Plot of symmetric matrix to be ordered by amd::order:
-    0 1 2 3 4 5 6 7 8 9 0 1 2 3 4 5 6 7 8 9 0 1 2 3
-0:  X . . . . X X . . . . . X X . . . X X X . X . .
-1:  . X . . . . . . X X . . . X X . . X . . . . . .
-2:  . . X . . . X . . . . X . . . . . . . . X X X .
-3:  . . . X . . . X . . X . . . . X . . X X . . . .
-4:  . . . . X . . X . X . . . . X X X . . . . . . .
-5:  X . . . . X X . . . . . X X . . . X . . . . . .
-6:  X . X . . X X . . . . X X . . . . . . X . X . X
-7:  . . . X X . . X . X . . . . X X X X X . . . . .
-8:  . X . . . . . . X X . . . . X . . . . . . . . .
-9:  . X . . X . . X X X . . . X X . . X X . . . . .
-10:  . . . X . . . . . . X . . . . . . . X X X X . .
-11:  . . X . . . X . . . . X X . . . . . . . . X . X
-12:  X . . . . X X . . . . X X . . . . . . . . . . X
-13:  X X . . . X . . . X . . . X . . . X . . . . . .
-14:  . X . . X . . X X X . . . . X . . . . . . . . .
-15:  . . . X X . . X . . . . . . . X X . X . . . . .
-16:  . . . . X . . X . . . . . . . X X . . . . . . .
-17:  X X . . . X . X . X . . . X . . . X X X . . . .
-18:  X . . X . . . X . X X . . . . X . X X X . . . .
-19:  X . . X . . X . . . X . . . . . . X X X X X . .
-20:  . . X . . . . . . . X . . . . . . . . X X X X .
-21:  X . X . . . X . . . X X . . . . . . . X X X X .
-22:  . . X . . . . . . . . . . . . . . . . . X X X .
-23:  . . . . . . X . . . . X X . . . . . . . . . . X
 ",
+    PLOT,
     "return value from amd::order: OkButJumbled (should be OkButJumbled)
 
 AMD results:
@@ -182,62 +160,11 @@ AMD results:
     nz, number of nonzeros in A:                        102
     symmetry of A:                                      false
     number of nonzeros on diagonal:                     17
-    nonzeros in pattern of A+A' (excl. diagonal):       136
-    # dense rows/columns of A+A':                       0
-    # of memory compactions:                            0
-
-    The following approximate statistics are for a subsequent
-    factorization of A(P,P) + A(P,P)'.  They are slight upper
-    bounds if there are no dense rows/columns in A+A', and become
-    looser if dense rows/columns exist.
-
-    nonzeros in L (excluding diagonal):                 97
-    nonzeros in L (including diagonal):                 121
-    # divide operations for LDL' or LU:                 97
-    # multiply-subtract operations for LDL':            275
-    # multiply-subtract operations for LU:              453
-    max nz. in any column of L (incl. diagonal):        8
-
-    chol flop count for real A, sqrt counted as 1 flop: 671
-    LDL' flop count for real A:                         647
-    LDL' flop count for complex A:                      3073
-    LU flop count for real A (with no pivoting):        1003
-    LU flop count for complex A (with no pivoting):     4497
-
 ",
-    "Permutation vector:
- 22 20 10 23 12 5 16 8 14 4 15 7 1 9 13 17 0 2 3 6 11 18 21 19
-
-Inverse permutation vector:
- 16 12 17 18 9 5 19 11 7 13 2 20 4 14 8 10 6 15 21 23 1 22 0 3
-
-",
+    STATISTICS,
+    PERMUTATIONS,
     "
 Plot of (symmetrized) permuted matrix pattern:
-    0 1 2 3 4 5 6 7 8 9 0 1 2 3 4 5 6 7 8 9 0 1 2 3
-0:  X X . . . . . . . . . . . . . . . X . . . . X .
-1:  X X X . . . . . . . . . . . . . . X . . . . X X
-2:  . X X . . . . . . . . . . . . . . . X . . X X X
-3:  . . . X X . . . . . . . . . . . . . . X X . . .
-4:  . . . X X X . . . . . . . . . . X . . X X . . .
-5:  . . . . X X . . . . . . . . X X X . . X . . . .
-6:  . . . . . . X . . X X X . . . . . . . . . . . .
-7:  . . . . . . . X X . . . X X . . . . . . . . . .
-8:  . . . . . . . X X X . X X X . . . . . . . . . .
-9:  . . . . . . X . X X X X . X . . . . . . . . . .
-10:  . . . . . . X . . X X X . . . . . . X . . X . .
-11:  . . . . . . X . X X X X . X . X . . X . . X . .
-12:  . . . . . . . X X . . . X X X X . . . . . . . .
-13:  . . . . . . . X X X . X X X X X . . . . . X . .
-14:  . . . . . X . . . . . . X X X X X . . . . . . .
-15:  . . . . . X . . . . . X X X X X X . . . . X . X
-16:  . . . . X X . . . . . . . . X X X . . X . X X X
-17:  X X . . . . . . . . . . . . . . . X . X X . X .
-18:  . . X . . . . . . . X X . . . . . . X . . X . X
-19:  . . . X X X . . . . . . . . . . X X . X X . X X
-20:  . . . X X . . . . . . . . . . . . X . X X . X .
-21:  . . X . . . . . . . X X . X . X X . X . . X . X
-22:  X X X . . . . . . . . . . . . . X X . X X . X X
-23:  . X X . . . . . . . . . . . . X X . X X . X X X
 ",
+    PERMUTED_PLOT,
 ];

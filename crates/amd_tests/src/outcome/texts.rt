@@ -2,6 +2,7 @@
 // texts of the demos are those of the Rust crate's demos, but for the line on symmetry, which follows the definition;
 // the others have the same form, with sums worked by hand.
 
+use crate::outcome::demo_texts::{FIVE_ROWS, STATISTICS};
 use amd::{Control, Info, Status, control, info};
 use amd_testing::check;
 use amd_testing::writers::{Faulty, Slow, WriterFault};
@@ -43,38 +44,6 @@ AMD: approximate minimum degree ordering
     no rows treated as dense
     aggressive absorption:  no
     size of AMD integer: 8
-
-";
-
-/// The text for the five-row matrix of the demo.
-const FIVE_ROWS_TEXT: &str = "
-AMD results:
-    status:                                             OK
-    n, dimension of A:                                  5
-    nz, number of nonzeros in A:                        14
-    symmetry of A:                                      false
-    number of nonzeros on diagonal:                     5
-    nonzeros in pattern of A+A' (excl. diagonal):       10
-    # dense rows/columns of A+A':                       0
-    # of memory compactions:                            0
-
-    The following approximate statistics are for a subsequent
-    factorization of A(P,P) + A(P,P)'.  They are slight upper
-    bounds if there are no dense rows/columns in A+A', and become
-    looser if dense rows/columns exist.
-
-    nonzeros in L (excluding diagonal):                 5
-    nonzeros in L (including diagonal):                 10
-    # divide operations for LDL' or LU:                 5
-    # multiply-subtract operations for LDL':            6
-    # multiply-subtract operations for LU:              7
-    max nz. in any column of L (incl. diagonal):        3
-
-    chol flop count for real A, sqrt counted as 1 flop: 22
-    LDL' flop count for real A:                         17
-    LDL' flop count for complex A:                      93
-    LU flop count for real A (with no pivoting):        19
-    LU flop count for complex A (with no pivoting):     101
 
 ";
 
@@ -245,7 +214,7 @@ AMD: approximate minimum degree ordering
 
 #[test]
 fn whole_texts_of_info(rt: HostRuntime) {
-    check_info(&rt, rt.alloc(), &five_rows(), FIVE_ROWS_TEXT);
+    check_info(&rt, rt.alloc(), &five_rows(), FIVE_ROWS);
     check_info(&rt, rt.alloc(), &greatest(), GREATEST_TEXT);
 }
 
@@ -265,29 +234,7 @@ AMD results:
     nz, number of nonzeros in A:                        160
     symmetry of A:                                      true
     number of nonzeros on diagonal:                     24
-    nonzeros in pattern of A+A' (excl. diagonal):       136
-    # dense rows/columns of A+A':                       0
-    # of memory compactions:                            0
-
-    The following approximate statistics are for a subsequent
-    factorization of A(P,P) + A(P,P)'.  They are slight upper
-    bounds if there are no dense rows/columns in A+A', and become
-    looser if dense rows/columns exist.
-
-    nonzeros in L (excluding diagonal):                 97
-    nonzeros in L (including diagonal):                 121
-    # divide operations for LDL' or LU:                 97
-    # multiply-subtract operations for LDL':            275
-    # multiply-subtract operations for LU:              453
-    max nz. in any column of L (incl. diagonal):        8
-
-    chol flop count for real A, sqrt counted as 1 flop: 671
-    LDL' flop count for real A:                         647
-    LDL' flop count for complex A:                      3073
-    LU flop count for real A (with no pivoting):        1003
-    LU flop count for complex A (with no pivoting):     4497
-
-"
+{STATISTICS}"
         )?;
         check_info(&rt, rt.alloc(), &can_24(status), &text);
     }
@@ -308,7 +255,7 @@ fn both_kinds() -> [Written; 2] {
         Written {
             choice: Control::default(),
             record: five_rows(),
-            texts: (DEFAULT_TEXT.as_bytes(), FIVE_ROWS_TEXT.as_bytes()),
+            texts: (DEFAULT_TEXT.as_bytes(), FIVE_ROWS.as_bytes()),
         },
         Written {
             choice: Control {
