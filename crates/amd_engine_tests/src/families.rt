@@ -10,9 +10,9 @@ use amd::{Control, Info, Status, order};
 use amd_input::preprocess::preprocess;
 use amd_input::valid::valid;
 use amd_testing::check;
-use amd_testing::inputs::{complete_below, cycle, drawn, grid, path, star, star_to_last};
+use amd_testing::families::{Family, member};
 use amd_testing::records::numbers_of;
-use std::alloc::Global;
+use std::alloc::{AllocError, Global};
 use std::process::Abort;
 use std::test::Fail;
 
@@ -102,9 +102,10 @@ fn compare_choice(
     take_packings(rt, &mut answer);
     let packings = take_packings(rt, &mut exact);
     check!(rt; take_packings(rt, &mut over) == packings);
-    assert!(rt; are_same(&answer, &over), "{control:?} {a_p:?} {a_i:?}");
-    assert!(rt; are_same(&answer, &exact), "{control:?} {a_p:?} {a_i:?}");
-    assert!(rt; are_same(&answer, &plain), "{control:?} {a_p:?} {a_i:?}");
+    let are_one = are_same(&answer, &over)
+        && are_same(&answer, &exact)
+        && are_same(&answer, &plain);
+    assert!(rt; are_one, "{control:?} {a_p:?} {a_i:?}");
     let wanted = (answer.p.as_slice(), answer.p_inv.as_slice());
     check_flags(
         rt,
@@ -153,60 +154,58 @@ fn compare(rt: &impl Abort, alloc: Global, n: i64, (a_p, a_i): (Vec<i64>, Vec<i6
     }
 }
 
-#[test]
-fn paths(rt: HostRuntime) -> Result<(), Fail> {
-    let heap = rt.alloc();
-    for n in 1..=30 {
-        compare(&rt, heap, n, path(heap, n)?);
+/// The least size from which on the elements of a family do not fit where there is no word to spare: those of a cycle
+/// of nine rows or more.
+fn packed_from(family: Family) -> i64 {
+    match family {
+        Family::Cycle => 9,
+        _ => i64::MAX,
+    }
+}
+
+/// Asserts that there is one answer for each matrix of a family at these sizes.
+fn compare_sizes(
+    rt: &impl Abort,
+    alloc: Global,
+    family: Family,
+    first: i64,
+    last: i64,
+) -> Result<(), AllocError> {
+    for size in first..=last {
+        let (n, a_p, a_i) = member(alloc, family, size)?;
+        let packings = compare(rt, alloc, n, (a_p, a_i));
+        check!(rt; size < packed_from(family) || packings >= 1);
     }
     Ok(())
 }
 
-/// The elements of a cycle of nine rows or more do not fit where there is no word to spare.
+#[test]
+fn paths(rt: HostRuntime) -> Result<(), Fail> {
+    Ok(compare_sizes(&rt, rt.alloc(), Family::Path, 1, 30)?)
+}
+
 #[test]
 fn cycles(rt: HostRuntime) -> Result<(), Fail> {
-    let heap = rt.alloc();
-    for n in 3..=40 {
-        let packings = compare(&rt, heap, n, cycle(heap, n)?);
-        assert!(rt; n < 9 || packings >= 1, "{n} rows");
-    }
-    Ok(())
+    Ok(compare_sizes(&rt, rt.alloc(), Family::Cycle, 3, 40)?)
 }
 
 #[test]
 fn stars(rt: HostRuntime) -> Result<(), Fail> {
-    let heap = rt.alloc();
-    for n in 2..=20 {
-        compare(&rt, heap, n, star(heap, n)?);
-        compare(&rt, heap, n, star_to_last(heap, n)?);
-    }
-    Ok(())
+    compare_sizes(&rt, rt.alloc(), Family::Star, 2, 20)?;
+    Ok(compare_sizes(&rt, rt.alloc(), Family::StarToLast, 2, 20)?)
 }
 
 #[test]
 fn complete_graphs(rt: HostRuntime) -> Result<(), Fail> {
-    let heap = rt.alloc();
-    for n in 1..=20 {
-        compare(&rt, heap, n, complete_below(heap, n)?);
-    }
-    Ok(())
+    Ok(compare_sizes(&rt, rt.alloc(), Family::CompleteBelow, 1, 20)?)
 }
 
 #[test]
 fn grids(rt: HostRuntime) -> Result<(), Fail> {
-    let heap = rt.alloc();
-    for side in 1..=12i64 {
-        compare(&rt, heap, side.saturating_mul(side), grid(heap, side)?);
-    }
-    Ok(())
+    Ok(compare_sizes(&rt, rt.alloc(), Family::Grid, 1, 12)?)
 }
 
 #[test]
 fn drawn_matrices(rt: HostRuntime) -> Result<(), Fail> {
-    let heap = rt.alloc();
-    for seed in 1..=64 {
-        let (n, a_p, a_i) = drawn(heap, seed)?;
-        compare(&rt, heap, n, (a_p, a_i));
-    }
-    Ok(())
+    Ok(compare_sizes(&rt, rt.alloc(), Family::Drawn, 1, 64)?)
 }
