@@ -1,4 +1,6 @@
-//! From Rust: a matrix with six rows.
+//! From Rust: a matrix with six rows. With the two archives in the current folder:
+//!
+//!     rustc --edition 2024 -O tests/c/client.rs -L . -l static=amd_c -l static=libc_c -o client && ./client
 
 #[repr(C)]
 #[derive(Default)]
