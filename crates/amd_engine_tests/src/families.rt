@@ -10,7 +10,7 @@ use amd::{Control, Info, Status, order};
 use amd_input::preprocess::preprocess;
 use amd_input::valid::valid;
 use amd_testing::check;
-use amd_testing::families::{Family, member};
+use amd_testing::families::{Family, each_member};
 use amd_testing::records::numbers_of;
 use std::alloc::{AllocError, Global};
 use std::process::Abort;
@@ -140,15 +140,15 @@ fn compare_choices(
 
 /// Asserts that there is one answer for a matrix, by the sorted form that `order` takes. Returns how often lists were
 /// packed at least.
-fn compare(rt: &impl Abort, alloc: Global, n: i64, (a_p, a_i): (Vec<i64>, Vec<i64>)) -> usize {
+fn compare(rt: &impl Abort, alloc: Global, n: i64, a_p: &[i64], a_i: &[i64]) -> usize {
     check!(rt; n > 0);
-    match valid(n, n, &a_p, &a_i) {
-        Status::OK => compare_choices(rt, alloc, &a_p, &a_i, &unmarked(n, &a_p, &a_i)),
+    match valid(n, n, a_p, a_i) {
+        Status::OK => compare_choices(rt, alloc, a_p, a_i, &unmarked(n, a_p, a_i)),
         Status::OkButJumbled => {
-            let Ok((c_p, c_i)) = preprocess(alloc, n, &a_p, &a_i) else {
+            let Ok((c_p, c_i)) = preprocess(alloc, n, a_p, a_i) else {
                 panic!(rt; "no transpose");
             };
-            compare_choices(rt, alloc, &a_p, &a_i, &unmarked(n, &c_p, &c_i))
+            compare_choices(rt, alloc, a_p, a_i, &unmarked(n, &c_p, &c_i))
         }
         _ => panic!(rt; "no column form"),
     }
@@ -163,49 +163,26 @@ fn packed_from(family: Family) -> i64 {
     }
 }
 
-/// Asserts that there is one answer for each matrix of a family at these sizes.
-fn compare_sizes(
-    rt: &impl Abort,
-    alloc: Global,
-    family: Family,
-    first: i64,
-    last: i64,
-) -> Result<(), AllocError> {
-    for size in first..=last {
-        let (n, a_p, a_i) = member(alloc, family, size)?;
-        let packings = compare(rt, alloc, n, (a_p, a_i));
-        check!(rt; size < packed_from(family) || packings >= 1);
+/// Families of graphs and of drawn matrices, with the first and the last of their sizes or seeds.
+static FAMILIES: [(Family, i64, i64); 7] = [
+    (Family::Path, 1, 30),
+    (Family::Cycle, 3, 40),
+    (Family::Star, 2, 20),
+    (Family::StarToLast, 2, 20),
+    (Family::CompleteBelow, 1, 20),
+    (Family::Grid, 1, 12),
+    (Family::Drawn, 1, 64),
+];
+
+#[test]
+fn engines_of_families(rt: HostRuntime) -> Result<(), Fail> {
+    let alloc = rt.alloc();
+    for &(family, first, last) in &FAMILIES {
+        each_member(alloc, family, first, last, |n, a_p, a_i| {
+            let packings = compare(&rt, alloc, n, a_p, a_i);
+            check!(&rt; n < packed_from(family) || packings >= 1);
+            Ok(())
+        })?;
     }
     Ok(())
-}
-
-#[test]
-fn paths(rt: HostRuntime) -> Result<(), Fail> {
-    Ok(compare_sizes(&rt, rt.alloc(), Family::Path, 1, 30)?)
-}
-
-#[test]
-fn cycles(rt: HostRuntime) -> Result<(), Fail> {
-    Ok(compare_sizes(&rt, rt.alloc(), Family::Cycle, 3, 40)?)
-}
-
-#[test]
-fn stars(rt: HostRuntime) -> Result<(), Fail> {
-    compare_sizes(&rt, rt.alloc(), Family::Star, 2, 20)?;
-    Ok(compare_sizes(&rt, rt.alloc(), Family::StarToLast, 2, 20)?)
-}
-
-#[test]
-fn complete_graphs(rt: HostRuntime) -> Result<(), Fail> {
-    Ok(compare_sizes(&rt, rt.alloc(), Family::CompleteBelow, 1, 20)?)
-}
-
-#[test]
-fn grids(rt: HostRuntime) -> Result<(), Fail> {
-    Ok(compare_sizes(&rt, rt.alloc(), Family::Grid, 1, 12)?)
-}
-
-#[test]
-fn drawn_matrices(rt: HostRuntime) -> Result<(), Fail> {
-    Ok(compare_sizes(&rt, rt.alloc(), Family::Drawn, 1, 64)?)
 }

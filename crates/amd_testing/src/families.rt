@@ -3,7 +3,7 @@
 use crate::inputs::{
     complete, complete_below, cycle, drawn, drawn_with_hub, grid, path, star, star_to_last,
 };
-use std::alloc::{AllocError, Allocator};
+use std::alloc::{AllocError, Allocator, Global};
 
 /// A family of inputs: those of `inputs`, each under its name there, and matrices without entries.
 #[derive(Clone, Copy, Debug, Drop)]
@@ -75,4 +75,25 @@ pub fn member<A: Allocator + Copy>(
             Ok((rows_of(family, size), a_p, a_i))
         }
     }
+}
+
+/// Hands the matrix of a family at each of these sizes to a test: the number of rows, the pointers and the rows.
+///
+/// # Errors
+///
+/// A refused request for memory, also that of the test, which ends the walk.
+pub fn each_member<F: Fn(i64, &[i64], &[i64]) -> Result<(), AllocError>>(
+    alloc: Global,
+    family: Family,
+    first: i64,
+    last: i64,
+    test: F,
+) -> Result<(), AllocError>
+    requires { F.IsAlwaysCallable test }
+{
+    for size in first..=last {
+        let (n, a_p, a_i) = member(alloc, family, size)?;
+        test(n, &a_p, &a_i)?;
+    }
+    Ok(())
 }

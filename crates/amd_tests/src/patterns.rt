@@ -8,7 +8,7 @@ use crate::factors::{check_bounds, check_forest};
 use crate::holding::check_nothing_held;
 use amd::{Control, Info, order};
 use amd_testing::factors::SearchedFactor;
-use amd_testing::families::{Family, member};
+use amd_testing::families::{Family, each_member};
 use amd_testing::inputs::complete_below;
 use amd_testing::records::numbers_of;
 use amd_testing::{check, plain};
@@ -102,64 +102,44 @@ fn check_known(
     }
 }
 
-/// Orders the matrix of a family at some size with each choice.
-fn check_member(
+/// Orders a matrix of a family with each choice.
+fn check_choices(
     rt: &impl Abort,
     alloc: Global,
     family: Family,
-    size: i64,
+    n: i64,
+    a_p: &[i64],
+    a_i: &[i64],
 ) -> Result<(), AllocError> {
-    let (n, a_p, a_i) = member(alloc, family, size)?;
     for control in &CHOICES {
-        let (factor, info) = check_choice(rt, alloc, n, &a_p, &a_i, control)?;
+        let (factor, info) = check_choice(rt, alloc, n, a_p, a_i, control)?;
         check_known(rt, family, n, &factor, &info);
     }
     Ok(())
 }
 
-/// Orders the matrices of a family at these sizes.
-fn check_sizes(
-    rt: &impl Abort,
-    alloc: Global,
-    family: Family,
-    first: i64,
-    last: i64,
-) -> Result<(), AllocError> {
-    for size in first..=last {
-        check_member(rt, alloc, family, size)?;
+/// Families of graphs and of drawn matrices, with the first and the last of their sizes or seeds.
+static FAMILIES: [(Family, i64, i64); 9] = [
+    (Family::Empty, 255, 255),
+    (Family::Path, 1, 30),
+    (Family::Cycle, 3, 40),
+    (Family::Star, 2, 20),
+    (Family::StarToLast, 2, 20),
+    (Family::CompleteBelow, 1, 20),
+    (Family::Grid, 1, 12),
+    (Family::Drawn, 1, 64),
+    (Family::DrawnWithHub, 1, 64),
+];
+
+#[test]
+fn orderings_of_families(rt: HostRuntime) -> Result<(), Fail> {
+    let alloc = rt.alloc();
+    for &(family, first, last) in &FAMILIES {
+        each_member(alloc, family, first, last, |n, a_p, a_i| {
+            check_choices(&rt, alloc, family, n, a_p, a_i)
+        })?;
     }
     Ok(())
-}
-
-#[test]
-fn rows_without_edges(rt: HostRuntime) -> Result<(), Fail> {
-    Ok(check_sizes(&rt, rt.alloc(), Family::Empty, 255, 255)?)
-}
-
-#[test]
-fn paths(rt: HostRuntime) -> Result<(), Fail> {
-    Ok(check_sizes(&rt, rt.alloc(), Family::Path, 1, 30)?)
-}
-
-#[test]
-fn cycles(rt: HostRuntime) -> Result<(), Fail> {
-    Ok(check_sizes(&rt, rt.alloc(), Family::Cycle, 3, 40)?)
-}
-
-#[test]
-fn stars(rt: HostRuntime) -> Result<(), Fail> {
-    check_sizes(&rt, rt.alloc(), Family::Star, 2, 20)?;
-    Ok(check_sizes(&rt, rt.alloc(), Family::StarToLast, 2, 20)?)
-}
-
-#[test]
-fn complete_graphs(rt: HostRuntime) -> Result<(), Fail> {
-    Ok(check_sizes(&rt, rt.alloc(), Family::CompleteBelow, 1, 20)?)
-}
-
-#[test]
-fn grids(rt: HostRuntime) -> Result<(), Fail> {
-    Ok(check_sizes(&rt, rt.alloc(), Family::Grid, 1, 12)?)
 }
 
 /// A complete graph with more entries than 16 bits count. One step eliminates all rows, and the figures are sums over
@@ -183,14 +163,4 @@ fn a_complete_graph_with_many_entries(rt: HostRuntime) -> Result<(), Fail> {
     ];
     check!(&rt; numbers_of(&info) == numbers);
     Ok(())
-}
-
-#[test]
-fn drawn_matrices(rt: HostRuntime) -> Result<(), Fail> {
-    Ok(check_sizes(&rt, rt.alloc(), Family::Drawn, 1, 64)?)
-}
-
-#[test]
-fn drawn_matrices_with_a_hub(rt: HostRuntime) -> Result<(), Fail> {
-    Ok(check_sizes(&rt, rt.alloc(), Family::DrawnWithHub, 1, 64)?)
 }

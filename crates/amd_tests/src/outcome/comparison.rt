@@ -1,15 +1,18 @@
 // Families of graphs of several sizes, and matrices drawn from seeds: the factor of an analysis with each choice of a
-// caller, and that under orders by other rules, each beside the factor that searches for paths find, which is slow. No
-// room is smaller than that, and no figure of the ordering is below what it needs.
+// caller, and under orders by other rules the columns, their counts and their supernodes, each beside the factor that
+// searches for paths find, which is slow. No room is smaller than that, and no figure of the ordering is below what it
+// needs.
 
-use crate::checks::{check_chosen, check_under};
-use crate::outcome::orders::{rows_of, shuffle};
+use crate::checks::{check_chosen, check_matrix, check_under};
+use crate::outcome::counts::are_counts;
+use crate::outcome::orders::other_orders;
+use crate::outcome::supernodes::are_supernodes;
 use crate::patterns::CHOICES;
 use amd::{Control, Info};
-use amd_symbolic::{Factor, Fault, analyze, columns};
+use amd_symbolic::{Factor, Fault, analyze, analyze_counts, columns, counts, supernodes};
 use amd_testing::check;
 use amd_testing::factors::{SearchedFactor, SearchedNeed, factor_of, need_of};
-use amd_testing::families::{Family, member};
+use amd_testing::families::{Family, each_member};
 use std::alloc::{AllocError, Global};
 use std::process::Abort;
 use std::test::Fail;
@@ -36,6 +39,27 @@ fn is_same(factor: &Factor<Global>, slow: &SearchedFactor<Global>) -> bool {
 
 /// Asserts that the columns under an order are the slow ones, in exactly the room that they need, and that with one
 /// place less there is no room.
+fn check_columns(
+    rt: &impl Abort,
+    alloc: Global,
+    n: i64,
+    a_p: &[i64],
+    a_i: &[i64],
+    p: &[i64],
+    slow: &SearchedFactor<Global>,
+) {
+    let room = need_of(&slow.columns).lnz;
+    let Ok(factor) = columns(alloc, n, a_p, a_i, p, room) else {
+        panic!(rt; "no factor");
+    };
+    check_under(rt, is_same(&factor, slow), p, a_p, a_i);
+    if 0 < room {
+        let fault = columns(alloc, n, a_p, a_i, p, room - 1).err();
+        check!(rt; fault == Some(Fault::RoomTooSmall));
+    }
+}
+
+/// Asserts that under an order the columns, the counts and the supernodes are those of the slow factor.
 fn check_order(
     rt: &impl Abort,
     alloc: Global,
@@ -45,40 +69,15 @@ fn check_order(
     p: &[i64],
 ) -> Result<(), AllocError> {
     let slow = factor_of(alloc, a_p, a_i, p)?;
-    let room = need_of(&slow.columns).lnz;
-    let Ok(factor) = columns(alloc, n, a_p, a_i, p, room) else {
-        panic!(rt; "no factor");
+    check_columns(rt, alloc, n, a_p, a_i, p, &slow);
+    let (Ok(counted), Ok(made)) = (
+        counts(alloc, n, a_p, a_i, p),
+        supernodes(alloc, n, a_p, a_i, p),
+    ) else {
+        panic!(rt; "no counts, or no supernodes");
     };
-    check_under(rt, is_same(&factor, &slow), p, a_p, a_i);
-    if 0 < room {
-        let fault = columns(alloc, n, a_p, a_i, p, room - 1).err();
-        check!(rt; fault == Some(Fault::RoomTooSmall));
-    }
-    Ok(())
-}
-
-/// An order of rows drawn from a seed: the rows as they stand, each changed for one that is drawn.
-fn drawn_order(alloc: Global, n: i64, seed: u64) -> Result<Vec<i64>, AllocError> {
-    let mut p = rows_of(alloc, n)?;
-    shuffle(&mut p, seed);
-    Ok(p)
-}
-
-/// Asks for the columns under the rows as they stand, reversed, and as they are drawn.
-fn check_other_orders(
-    rt: &impl Abort,
-    alloc: Global,
-    n: i64,
-    a_p: &[i64],
-    a_i: &[i64],
-) -> Result<(), AllocError> {
-    let mut p = rows_of(alloc, n)?;
-    check_order(rt, alloc, n, a_p, a_i, &p)?;
-    p.reverse();
-    check_order(rt, alloc, n, a_p, a_i, &p)?;
-    for seed in 1..4 {
-        check_order(rt, alloc, n, a_p, a_i, &drawn_order(alloc, n, seed)?)?;
-    }
+    check_under(rt, are_counts(&counted, &slow), p, a_p, a_i);
+    check_under(rt, are_supernodes(&made, &slow.columns), p, a_p, a_i);
     Ok(())
 }
 
@@ -108,75 +107,86 @@ fn check_choice(
     Ok(())
 }
 
-/// Analyzes the matrix of a family at some size with each choice, and asks for its columns under other orders.
-fn check_member(
+/// Asks for the counts under the order of an ordering, and for all under that order, the rows as they stand, reversed,
+/// and as they are drawn.
+fn check_orders(
     rt: &impl Abort,
     alloc: Global,
-    family: Family,
-    size: i64,
+    n: i64,
+    a_p: &[i64],
+    a_i: &[i64],
 ) -> Result<(), AllocError> {
-    let (n, a_p, a_i) = member(alloc, family, size)?;
-    for control in &CHOICES {
-        check_choice(rt, alloc, n, &a_p, &a_i, control)?;
-    }
-    check_other_orders(rt, alloc, n, &a_p, &a_i)
-}
-
-/// The same of a family at these sizes.
-fn check_sizes(
-    rt: &impl Abort,
-    alloc: Global,
-    family: Family,
-    first: i64,
-    last: i64,
-) -> Result<(), AllocError> {
-    for size in first..=last {
-        check_member(rt, alloc, family, size)?;
+    let Ok((p, _, _, counted)) = analyze_counts(alloc, n, a_p, a_i, &Control::default()) else {
+        panic!(rt; "no answer");
+    };
+    check_matrix(
+        rt,
+        are_counts(&counted, &factor_of(alloc, a_p, a_i, &p)?),
+        a_p,
+        a_i,
+    );
+    check_order(rt, alloc, n, a_p, a_i, &p)?;
+    for rows in &other_orders(alloc, n, 3)? {
+        check_order(rt, alloc, n, a_p, a_i, rows)?;
     }
     Ok(())
 }
 
-#[test]
-fn rows_without_edges(rt: HostRuntime) -> Result<(), Fail> {
-    Ok(check_sizes(&rt, rt.alloc(), Family::Empty, 40, 40)?)
+/// Analyzes a matrix with each choice, and asks for its factor under other orders.
+fn check_factors(
+    rt: &impl Abort,
+    alloc: Global,
+    n: i64,
+    a_p: &[i64],
+    a_i: &[i64],
+) -> Result<(), AllocError> {
+    for control in &CHOICES {
+        check_choice(rt, alloc, n, a_p, a_i, control)?;
+    }
+    check_orders(rt, alloc, n, a_p, a_i)
 }
 
-#[test]
-fn paths(rt: HostRuntime) -> Result<(), Fail> {
-    Ok(check_sizes(&rt, rt.alloc(), Family::Path, 1, 30)?)
-}
+/// Families of graphs, with the first and the last of their sizes: rows without edges; paths; cycles; stars, of which
+/// the first of each two is eliminated from its centre under the rows as they stand; complete graphs by the entries
+/// below the diagonal alone, and by both mirrors; and grids.
+static GRAPHS: [(Family, i64, i64); 8] = [
+    (Family::Empty, 40, 40),
+    (Family::Path, 1, 30),
+    (Family::Cycle, 3, 40),
+    (Family::Star, 2, 20),
+    (Family::StarToLast, 2, 20),
+    (Family::CompleteBelow, 1, 20),
+    (Family::Complete, 1, 20),
+    (Family::Grid, 1, 12),
+];
 
 #[test]
-fn cycles(rt: HostRuntime) -> Result<(), Fail> {
-    Ok(check_sizes(&rt, rt.alloc(), Family::Cycle, 3, 40)?)
-}
-
-/// Under the rows as they stand the first of each two is eliminated from its centre.
-#[test]
-fn stars(rt: HostRuntime) -> Result<(), Fail> {
-    check_sizes(&rt, rt.alloc(), Family::Star, 2, 20)?;
-    Ok(check_sizes(&rt, rt.alloc(), Family::StarToLast, 2, 20)?)
-}
-
-/// Complete graphs by the entries below the diagonal alone, and by both mirrors.
-#[test]
-fn complete_graphs(rt: HostRuntime) -> Result<(), Fail> {
-    check_sizes(&rt, rt.alloc(), Family::CompleteBelow, 1, 20)?;
-    Ok(check_sizes(&rt, rt.alloc(), Family::Complete, 1, 20)?)
-}
-
-#[test]
-fn grids(rt: HostRuntime) -> Result<(), Fail> {
-    Ok(check_sizes(&rt, rt.alloc(), Family::Grid, 1, 12)?)
+fn factors_of_families(rt: HostRuntime) -> Result<(), Fail> {
+    let alloc = rt.alloc();
+    for &(family, first, last) in &GRAPHS {
+        each_member(
+            alloc,
+            family,
+            first,
+            last,
+            |n, a_p, a_i| check_factors(&rt, alloc, n, a_p, a_i),
+        )?;
+    }
+    Ok(())
 }
 
 /// Most of these are jumbled, with repeats, and none is symmetric but by chance.
 #[test]
-fn drawn_matrices(rt: HostRuntime) -> Result<(), Fail> {
-    Ok(check_sizes(&rt, rt.alloc(), Family::Drawn, 1, 64)?)
-}
-
-#[test]
-fn drawn_matrices_with_a_hub(rt: HostRuntime) -> Result<(), Fail> {
-    Ok(check_sizes(&rt, rt.alloc(), Family::DrawnWithHub, 1, 64)?)
+fn factors_of_drawn_matrices(rt: HostRuntime) -> Result<(), Fail> {
+    let alloc = rt.alloc();
+    for family in [Family::Drawn, Family::DrawnWithHub] {
+        each_member(
+            alloc,
+            family,
+            1,
+            64,
+            |n, a_p, a_i| check_factors(&rt, alloc, n, a_p, a_i),
+        )?;
+    }
+    Ok(())
 }

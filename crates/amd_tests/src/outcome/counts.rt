@@ -1,23 +1,19 @@
-// The counts of the columns: beside the factor that searches for paths find, on families of graphs and drawn matrices,
-// under the orders that are no orderings too; on worked matrices; with each request refused in turn; and where the
-// input or the order is none.
+// The counts of the columns: on worked matrices, with each request refused in turn, and where the input or the order is
+// none. And whether counts are those of a factor that searches for paths find; called by `comparison`.
 
-use crate::checks::{check_matrix, check_under};
-use crate::outcome::orders::{GRAPHS, NO_ORDERS, other_orders};
+use crate::outcome::orders::NO_ORDERS;
 use crate::outcome::refusals::NO_FORMS;
 use crate::outcome::worked::{FOUR_CYCLE, FactorCase, WORKED};
 use amd::Control;
 use amd_symbolic::{Counts, Fault, analyze_counts, counts};
 use amd_testing::check;
-use amd_testing::factors::{SearchedFactor, factor_of, need_of};
-use amd_testing::families::{Family, member};
+use amd_testing::factors::{SearchedFactor, need_of};
 use amd_testing::refusing::{Refusing, each_refused};
-use std::alloc::{AllocError, Allocator, Global};
+use std::alloc::{Allocator, Global};
 use std::process::Abort;
-use std::test::Fail;
 
 /// Whether counts are those of the slow factor: the sizes of its columns, their first entries, and what they need.
-fn are_counts(counted: &Counts<Global>, slow: &SearchedFactor<Global>) -> bool {
+pub fn are_counts(counted: &Counts<Global>, slow: &SearchedFactor<Global>) -> bool {
     if counted.sizes.len() != slow.columns.len() || counted.parent.len() != slow.columns.len() {
         return false;
     }
@@ -33,85 +29,6 @@ fn are_counts(counted: &Counts<Global>, slow: &SearchedFactor<Global>) -> bool {
         && counted.need.n_mult_subs_ldl == need.n_mult_subs_ldl as u128
         && counted.need.n_mult_subs_lu == need.n_mult_subs_lu as u128
         && counted.need.d_max == need.d_max as u128
-}
-
-/// Asserts that the counts under an order are those of the slow factor.
-fn check_order(
-    rt: &impl Abort,
-    alloc: Global,
-    n: i64,
-    a_p: &[i64],
-    a_i: &[i64],
-    p: &[i64],
-) -> Result<(), AllocError> {
-    let slow = factor_of(alloc, a_p, a_i, p)?;
-    let Ok(counted) = counts(alloc, n, a_p, a_i, p) else {
-        panic!(rt; "no counts");
-    };
-    check_under(rt, are_counts(&counted, &slow), p, a_p, a_i);
-    Ok(())
-}
-
-/// Asks for the counts under the order of an ordering.
-fn check_ordering(
-    rt: &impl Abort,
-    alloc: Global,
-    n: i64,
-    a_p: &[i64],
-    a_i: &[i64],
-) -> Result<(), AllocError> {
-    let Ok((p, _, _, counted)) = analyze_counts(alloc, n, a_p, a_i, &Control::default()) else {
-        panic!(rt; "no answer");
-    };
-    let slow = factor_of(alloc, a_p, a_i, &p)?;
-    check_matrix(rt, are_counts(&counted, &slow), a_p, a_i);
-    Ok(())
-}
-
-/// Asks for the counts under the order of an ordering, the rows as they stand, reversed, and as they are drawn.
-fn check_orders(
-    rt: &impl Abort,
-    alloc: Global,
-    n: i64,
-    a_p: &[i64],
-    a_i: &[i64],
-) -> Result<(), AllocError> {
-    check_ordering(rt, alloc, n, a_p, a_i)?;
-    for p in &other_orders(alloc, n, 5)? {
-        check_order(rt, alloc, n, a_p, a_i, p)?;
-    }
-    Ok(())
-}
-
-/// Asks for the counts of a family at these sizes.
-fn check_sizes(
-    rt: &impl Abort,
-    alloc: Global,
-    family: Family,
-    first: i64,
-    last: i64,
-) -> Result<(), AllocError> {
-    for size in first..=last {
-        let (n, a_p, a_i) = member(alloc, family, size)?;
-        check_orders(rt, alloc, n, &a_p, &a_i)?;
-    }
-    Ok(())
-}
-
-/// Stars from the centre on have one column of all rows, and each row is a child of the one behind it.
-#[test]
-fn counts_of_families(rt: HostRuntime) -> Result<(), Fail> {
-    for &(family, first, last) in &GRAPHS {
-        check_sizes(&rt, rt.alloc(), family, first, last)?;
-    }
-    Ok(())
-}
-
-/// Most of these are jumbled, with repeats, and none is symmetric but by chance.
-#[test]
-fn counts_of_drawn_matrices(rt: HostRuntime) -> Result<(), Fail> {
-    check_sizes(&rt, rt.alloc(), Family::Drawn, 1, 32)?;
-    Ok(check_sizes(&rt, rt.alloc(), Family::DrawnWithHub, 1, 32)?)
 }
 
 /// Asserts that counts are those of a case.

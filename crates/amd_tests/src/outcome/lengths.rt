@@ -6,7 +6,7 @@ use crate::outcome::orders::{other_orders, rows_of};
 use amd::{Control, order};
 use amd_symbolic::{Counts, Factor, columns, counts};
 use amd_testing::check;
-use amd_testing::families::{Family, member};
+use amd_testing::families::{Family, each_member};
 use amd_testing::inputs::{star, star_to_last};
 use std::alloc::{AllocError, Global};
 use std::process::Abort;
@@ -65,21 +65,6 @@ fn check_orders(
     Ok(())
 }
 
-/// Compares the matrices of a family at these sizes.
-fn check_sizes(
-    rt: &impl Abort,
-    alloc: Global,
-    family: Family,
-    first: i64,
-    last: i64,
-) -> Result<(), AllocError> {
-    for size in first..=last {
-        let (n, a_p, a_i) = member(alloc, family, size)?;
-        check_orders(rt, alloc, n, &a_p, &a_i)?;
-    }
-    Ok(())
-}
-
 /// Families of graphs, and some of their sizes.
 static GRAPHS: [(Family, i64); 22] = [
     (Family::Empty, 90),
@@ -108,16 +93,32 @@ static GRAPHS: [(Family, i64); 22] = [
 
 #[test]
 fn lengths_of_families(rt: HostRuntime) -> Result<(), Fail> {
+    let alloc = rt.alloc();
     for &(family, size) in &GRAPHS {
-        check_sizes(&rt, rt.alloc(), family, size, size)?;
+        each_member(
+            alloc,
+            family,
+            size,
+            size,
+            |n, a_p, a_i| check_orders(&rt, alloc, n, a_p, a_i),
+        )?;
     }
     Ok(())
 }
 
 #[test]
 fn lengths_of_drawn_matrices(rt: HostRuntime) -> Result<(), Fail> {
-    check_sizes(&rt, rt.alloc(), Family::Drawn, 1, 120)?;
-    Ok(check_sizes(&rt, rt.alloc(), Family::DrawnWithHub, 1, 120)?)
+    let alloc = rt.alloc();
+    for family in [Family::Drawn, Family::DrawnWithHub] {
+        each_member(
+            alloc,
+            family,
+            1,
+            120,
+            |n, a_p, a_i| check_orders(&rt, alloc, n, a_p, a_i),
+        )?;
+    }
+    Ok(())
 }
 
 /// Whether each column has all rows behind it, and the next one is its parent.

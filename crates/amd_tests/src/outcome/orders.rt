@@ -1,19 +1,7 @@
-// Orders of rows that no ordering gives, and graphs of which the factor under such orders is asked for. Called by the
-// tests of counts, of supernodes and of columns.
+// Orders of rows that no ordering gives. Called by the tests of counts, of supernodes and of columns.
 
-use amd_testing::families::Family;
 use amd_testing::inputs::draw;
 use std::alloc::{AllocError, Global};
-
-/// Families of graphs, with the first and the last of their sizes.
-pub static GRAPHS: [(Family, i64, i64); 6] = [
-    (Family::Path, 3, 16),
-    (Family::Cycle, 3, 16),
-    (Family::Star, 3, 16),
-    (Family::StarToLast, 3, 16),
-    (Family::Complete, 3, 16),
-    (Family::Grid, 1, 7),
-];
 
 /// Lists that are no order of four rows.
 pub static NO_ORDERS: [&[i64]; 6] = [

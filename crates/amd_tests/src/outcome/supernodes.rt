@@ -1,20 +1,14 @@
-// The columns by supernodes: beside the factor that searches for paths find, on families of graphs and drawn matrices,
-// under the orders that are no orderings too; on worked matrices; with each request refused in turn; and where the
-// input or the order is none.
+// The columns by supernodes: on worked matrices, with each request refused in turn, and where the input or the order is
+// none. And whether supernodes are those of columns that searches for paths find; called by `comparison`.
 
-use crate::checks::check_under;
-use crate::outcome::orders::{GRAPHS, NO_ORDERS, other_orders};
+use crate::outcome::orders::NO_ORDERS;
 use crate::outcome::refusals::NO_FORMS;
 use crate::outcome::worked::{FOUR_CYCLE, FactorCase, WORKED};
-use amd::{Control, order};
 use amd_symbolic::{Fault, Supernodes, supernodes};
 use amd_testing::check;
-use amd_testing::factors::factor_of;
-use amd_testing::families::{Family, member};
 use amd_testing::refusing::{Refusing, each_refused};
 use std::alloc::{AllocError, Allocator, Global};
 use std::process::Abort;
-use std::test::Fail;
 
 /// Whether the first entry of column `k` is the next place, and it has one entry more than the next column.
 fn joins<A: Allocator>(columns: &[Vec<usize, A>], k: usize) -> bool {
@@ -70,7 +64,7 @@ fn has_parent<A: Allocator>(made: &Supernodes<A>, s: usize, rows: &[usize]) -> b
 }
 
 /// Whether supernodes are those of these columns.
-fn are_supernodes<A: Allocator, B: Allocator>(
+pub fn are_supernodes<A: Allocator, B: Allocator>(
     made: &Supernodes<A>,
     columns: &[Vec<usize, B>],
 ) -> bool {
@@ -100,72 +94,6 @@ fn are_supernodes<A: Allocator, B: Allocator>(
         && made.parent.len() == s
         && made.first.last() == Some(&columns.len())
         && made.ptr.last() == Some(&made.rows.len())
-}
-
-/// Asserts that the supernodes under an order are those of the slow factor.
-fn check_order(
-    rt: &impl Abort,
-    alloc: Global,
-    n: i64,
-    a_p: &[i64],
-    a_i: &[i64],
-    p: &[i64],
-) -> Result<(), AllocError> {
-    let slow = factor_of(alloc, a_p, a_i, p)?;
-    let Ok(made) = supernodes(alloc, n, a_p, a_i, p) else {
-        panic!(rt; "no supernodes");
-    };
-    check_under(rt, are_supernodes(&made, &slow.columns), p, a_p, a_i);
-    Ok(())
-}
-
-/// Asks for the supernodes under the order of an ordering, the rows as they stand, reversed, and as they are drawn.
-fn check_orders(
-    rt: &impl Abort,
-    alloc: Global,
-    n: i64,
-    a_p: &[i64],
-    a_i: &[i64],
-) -> Result<(), AllocError> {
-    let Ok((p, _, _)) = order(alloc, n, a_p, a_i, &Control::default()) else {
-        panic!(rt; "no answer");
-    };
-    check_order(rt, alloc, n, a_p, a_i, &p)?;
-    for rows in &other_orders(alloc, n, 5)? {
-        check_order(rt, alloc, n, a_p, a_i, rows)?;
-    }
-    Ok(())
-}
-
-/// Asks for the supernodes of a family at these sizes.
-fn check_sizes(
-    rt: &impl Abort,
-    alloc: Global,
-    family: Family,
-    first: i64,
-    last: i64,
-) -> Result<(), AllocError> {
-    for size in first..=last {
-        let (n, a_p, a_i) = member(alloc, family, size)?;
-        check_orders(rt, alloc, n, &a_p, &a_i)?;
-    }
-    Ok(())
-}
-
-/// A complete graph has one supernode, and a path under the order of its rows one for each row but the last two.
-#[test]
-fn supernodes_of_families(rt: HostRuntime) -> Result<(), Fail> {
-    for &(family, first, last) in &GRAPHS {
-        check_sizes(&rt, rt.alloc(), family, first, last)?;
-    }
-    Ok(())
-}
-
-/// Most of these are jumbled, with repeats, and none is symmetric but by chance.
-#[test]
-fn supernodes_of_drawn_matrices(rt: HostRuntime) -> Result<(), Fail> {
-    check_sizes(&rt, rt.alloc(), Family::Drawn, 1, 32)?;
-    Ok(check_sizes(&rt, rt.alloc(), Family::DrawnWithHub, 1, 32)?)
 }
 
 /// Whether supernodes are those of the columns of a case.
