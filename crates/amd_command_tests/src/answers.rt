@@ -15,8 +15,10 @@ use amd_command::tree::{write_supernodes, write_tree};
 use amd_command::tree_picture::write_tree_picture;
 use amd_market::reader::{Matrix, read_matrix};
 use amd_symbolic::{Fault, counts, supernodes};
+use amd_testing::check;
 use serde_json::Value;
 use std::alloc::Global;
+use std::process::Abort;
 use std::test::Fail;
 
 /// The order of the rows of the path.
@@ -69,8 +71,8 @@ fn supernodes_of_the_path(rt: HostRuntime) -> Result<(), Fail> {
         panic!(&rt; "no supernodes");
     };
     let mut lines = Vec::new(alloc);
-    assert!(&rt; write_supernodes(&made, &mut lines).is_ok());
-    assert!(&rt; lines.as_slice() == b"1 1 2 1\n2 3 0 0\n".as_slice());
+    check!(&rt; write_supernodes(&made, &mut lines).is_ok());
+    check!(&rt; lines.as_slice() == b"1 1 2 1\n2 3 0 0\n".as_slice());
     Ok(())
 }
 
@@ -90,16 +92,16 @@ fn needs_under_orders(rt: HostRuntime) -> Result<(), Fail> {
     let alloc = rt.alloc();
     let matrix = path(alloc)?;
     let rows = read_rows(alloc, 3, "3\n% a note\n1\n2\n".as_bytes())?;
-    assert!(&rt; rows.as_slice() == [2, 0, 1].as_slice());
-    assert!(&rt; read_rows(alloc, 3, "0\n".as_bytes()).is_err());
+    check!(&rt; rows.as_slice() == [2, 0, 1].as_slice());
+    check!(&rt; read_rows(alloc, 3, "0\n".as_bytes()).is_err());
     let Ok(compared) = three_needs(alloc, &matrix) else {
         panic!(&rt; "no needs");
     };
     let mut out = Vec::new(alloc);
-    assert!(&rt; write_comparison_lines(compared, &mut out).is_ok());
-    assert!(&rt; out.as_slice() == NEEDS.as_bytes());
+    check!(&rt; write_comparison_lines(compared, &mut out).is_ok());
+    check!(&rt; out.as_slice() == NEEDS.as_bytes());
     let repeated = need_under(alloc, &matrix, &[0, 0, 1]);
-    assert!(&rt; matches!(repeated, Err(Fault::NotPermutation)));
+    check!(&rt; matches!(repeated, Err(Fault::NotPermutation)));
     Ok(())
 }
 
@@ -114,18 +116,18 @@ fn files_beside_the_permutation(rt: HostRuntime) -> Result<(), Fail> {
         panic!(&rt; "no order");
     };
     let mut out = Vec::new(alloc);
-    assert!(&rt; write_matrix(&other, &mut out).is_ok());
-    assert!(&rt; out.as_slice() == PERMUTED.as_bytes());
+    check!(&rt; write_matrix(&other, &mut out).is_ok());
+    check!(&rt; out.as_slice() == PERMUTED.as_bytes());
     let mut tree = Vec::new(alloc);
-    assert!(&rt; write_tree(&counted.parent, &mut tree).is_ok());
-    assert!(&rt; tree.as_slice() == b"3\n3\n0\n".as_slice());
+    check!(&rt; write_tree(&counted.parent, &mut tree).is_ok());
+    check!(&rt; tree.as_slice() == b"3\n3\n0\n".as_slice());
     let mut drawn = Vec::new(alloc);
-    assert!(&rt; write_picture(alloc, &matrix, &ORDER, false, &mut drawn).is_ok());
-    assert!(&rt; drawn.as_slice() == PICTURE.as_bytes());
+    check!(&rt; write_picture(alloc, &matrix, &ORDER, false, &mut drawn).is_ok());
+    check!(&rt; drawn.as_slice() == PICTURE.as_bytes());
     let mut blocks = Vec::new(alloc);
-    assert!(&rt; write_tree_picture(alloc, &counted.parent, &counted.sizes, &mut blocks).is_ok());
+    check!(&rt; write_tree_picture(alloc, &counted.parent, &counted.sizes, &mut blocks).is_ok());
     let text = String::from_utf8_lossy(alloc, &blocks)?;
-    assert!(&rt; text.contains(">3 blocks; largest column, with its diagonal: 2<"));
+    check!(&rt; text.contains(">3 blocks; largest column, with its diagonal: 2<"));
     Ok(())
 }
 
@@ -134,6 +136,38 @@ fn number_at(alloc: Global, text: &[u8], path: &str) -> Result<Option<u64>, Fail
     let text = String::from_utf8_lossy(alloc, text)?;
     let value = Value::from_str(alloc, &text)?;
     Ok(value.pointer(path).and_then(Value::as_u64))
+}
+
+/// Numbers in the answer of `order`, each under a path of names.
+static ORDER_NUMBERS: [(&str, u64); 7] = [
+    ("/rows", 3),
+    ("/duplicates_dropped", 4),
+    ("/at_most/largest_column", 2),
+    ("/as_it_stands/entries_of_l", 2),
+    ("/with/multiply_subtracts_lu", 5),
+    ("/permutation/0", 2),
+    ("/permutation/2", 3),
+];
+
+/// Numbers in the answer of `info`.
+static FACT_NUMBERS: [(&str, u64); 3] = [
+    ("/entries_on_the_diagonal", 1),
+    ("/greatest_degree", 2),
+    ("/with/fill", 1),
+];
+
+/// Asserts that these numbers stand in a text of JSON.
+fn check_numbers(
+    rt: &impl Abort,
+    alloc: Global,
+    text: &[u8],
+    numbers: &[(&str, u64)],
+) -> Result<(), Fail> {
+    for (path, wanted) in numbers {
+        let number = number_at(alloc, text, path)?;
+        check!(rt; number == Some(*wanted), path);
+    }
+    Ok(())
 }
 
 #[test]
@@ -149,22 +183,9 @@ fn answers_as_json(rt: HostRuntime) -> Result<(), Fail> {
         panic!(&rt; "no answer");
     };
     let mut order = Vec::new(alloc);
-    assert!(&rt; write_order_json(&info, 4, Some(compared), &p, &mut order).is_ok());
+    check!(&rt; write_order_json(&info, 4, Some(compared), &p, &mut order).is_ok());
     let mut matrix_facts = Vec::new(alloc);
-    assert!(&rt; write_facts_json(&facts, Some(compared), &mut matrix_facts).is_ok());
-    for (text, path, wanted) in [
-        (&order, "/rows", 3),
-        (&order, "/duplicates_dropped", 4),
-        (&order, "/at_most/largest_column", 2),
-        (&order, "/as_it_stands/entries_of_l", 2),
-        (&order, "/with/multiply_subtracts_lu", 5),
-        (&order, "/permutation/0", 2),
-        (&order, "/permutation/2", 3),
-        (&matrix_facts, "/entries_on_the_diagonal", 1),
-        (&matrix_facts, "/greatest_degree", 2),
-        (&matrix_facts, "/with/fill", 1),
-    ] {
-        assert!(&rt; number_at(alloc, text, path)? == Some(wanted), "{path}");
-    }
-    Ok(())
+    check!(&rt; write_facts_json(&facts, Some(compared), &mut matrix_facts).is_ok());
+    check_numbers(&rt, alloc, &order, &ORDER_NUMBERS)?;
+    check_numbers(&rt, alloc, &matrix_facts, &FACT_NUMBERS)
 }

@@ -8,6 +8,7 @@ use amd_command::facts::facts_of;
 use amd_command::figures::write_figures;
 use amd_command::ordering::order_matrix;
 use amd_market::reader::Matrix;
+use amd_testing::check;
 use std::alloc::{AllocError, Global};
 use std::test::Fail;
 
@@ -78,12 +79,12 @@ fn a_dense_row_by_choice(rt: HostRuntime) -> Result<(), Fail> {
     let Ok(analysis) = analyze_matrix(heap, &matrix, &with_dense(0), None) else {
         panic!(&rt; "no factor");
     };
-    assert!(&rt; p.as_slice() == ORDER.as_slice() && analysis.p.as_slice() == ORDER.as_slice());
+    check!(&rt; p.as_slice() == ORDER.as_slice() && analysis.p.as_slice() == ORDER.as_slice());
     let mut out = Vec::new(heap);
     let is_written = write_figures(&info, 0, &mut out).is_ok();
     let is_compared = write_comparison(&analysis.counts.need, &analysis.info, 3, &mut out).is_ok();
-    assert!(&rt; is_written && is_compared);
-    assert!(&rt; out.as_slice() == FIGURES.as_bytes());
+    check!(&rt; is_written && is_compared);
+    check!(&rt; out.as_slice() == FIGURES.as_bytes());
     Ok(())
 }
 
@@ -96,7 +97,7 @@ fn a_degree_at_the_threshold(rt: HostRuntime) -> Result<(), Fail> {
             panic!(&rt; "no facts");
         };
         let is_told = facts.threshold == threshold && facts.degrees.above == above;
-        assert!(&rt; is_told, "{dense}");
+        check!(&rt; is_told);
     }
     Ok(())
 }

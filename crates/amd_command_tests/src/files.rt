@@ -3,7 +3,9 @@
 
 use amd_command::held::read_held;
 use amd_market::reader::read_matrix;
-use std::alloc::Global;
+use amd_testing::check;
+use std::alloc::{AllocError, Global};
+use std::process::Abort;
 use std::test::Fail;
 
 /// The column form of a file, or why there is none, as text.
@@ -23,29 +25,62 @@ fn file_of(alloc: Global, kind: &str, rest: &str) -> Result<String, Fail> {
     Ok(format!(in alloc; "%%MatrixMarket matrix coordinate {kind}\n{rest}")?)
 }
 
+/// Asserts what is told of a file.
+fn check_file(rt: &impl Abort, alloc: Global, file: &str, wanted: &str) -> Result<(), Fail> {
+    let shown = told(alloc, file)?;
+    assert!(rt; shown.as_str() == wanted, "{file}");
+    Ok(())
+}
+
+/// Asserts what is told of a header of this kind with this behind it.
+fn check_kind(
+    rt: &impl Abort,
+    alloc: Global,
+    kind: &str,
+    rest: &str,
+    wanted: &str,
+) -> Result<(), Fail> {
+    let file = file_of(alloc, kind, rest)?;
+    check_file(rt, alloc, &file, wanted)
+}
+
+/// Three entries with values.
+const TWO: &str = "% a note\n\n3 3 3\n1 1 0.5\n 3\t1 -2e3\n2 3 7\n";
+
+/// The same without values.
+const BARE: &str = "3 3 3\n1 1\n3 1\n%\n2 3";
+
+/// The same with values of two numbers.
+const PAIRS: &str = "3 3 3\n1 1 0 1\n3 1 1 0\n2 3 0.5 0.5\n\n% end\n";
+
+/// The same without values in another order, two of them twice.
+const JUMBLED: &str = "3 3 5\n2 3\n3 1\n1 1\n3 1\n2 3\n";
+
+/// Their column form.
+const GENERAL: &str = "[0, 2, 2, 3] [0, 2, 1]";
+
+/// The same with their mirror images.
+const MIRRORED: &str = "[0, 2, 3, 5] [0, 2, 2, 0, 1]";
+
+/// Kinds, what stands behind the header, and the column form.
+static KINDS: [(&str, &str, &str); 11] = [
+    ("real general", TWO, GENERAL),
+    ("integer general", TWO, GENERAL),
+    ("complex general", PAIRS, GENERAL),
+    ("pattern general", BARE, GENERAL),
+    ("pattern general", JUMBLED, GENERAL),
+    ("real symmetric", TWO, MIRRORED),
+    ("integer skew-symmetric", TWO, MIRRORED),
+    ("complex hermitian", PAIRS, MIRRORED),
+    ("pattern symmetric", BARE, MIRRORED),
+    ("pattern symmetric", JUMBLED, MIRRORED),
+    ("pattern general", "0 0 0\n", "[0] []"),
+];
+
 #[test]
 fn kinds_of_files(rt: HostRuntime) -> Result<(), Fail> {
-    let two = "% a note\n\n3 3 3\n1 1 0.5\n 3\t1 -2e3\n2 3 7\n";
-    let bare = "3 3 3\n1 1\n3 1\n%\n2 3";
-    let pairs = "3 3 3\n1 1 0 1\n3 1 1 0\n2 3 0.5 0.5\n\n% end\n";
-    let jumbled = "3 3 5\n2 3\n3 1\n1 1\n3 1\n2 3\n";
-    let general = "[0, 2, 2, 3] [0, 2, 1]";
-    let mirrored = "[0, 2, 3, 5] [0, 2, 2, 0, 1]";
-    for (kind, rest, wanted) in [
-        ("real general", two, general),
-        ("integer general", two, general),
-        ("complex general", pairs, general),
-        ("pattern general", bare, general),
-        ("pattern general", jumbled, general),
-        ("real symmetric", two, mirrored),
-        ("integer skew-symmetric", two, mirrored),
-        ("complex hermitian", pairs, mirrored),
-        ("pattern symmetric", bare, mirrored),
-        ("pattern symmetric", jumbled, mirrored),
-        ("pattern general", "0 0 0\n", "[0] []"),
-    ] {
-        let file = file_of(rt.alloc(), kind, rest)?;
-        assert!(&rt; told(rt.alloc(), &file)?.as_str() == wanted, "{kind}");
+    for (kind, rest, wanted) in &KINDS {
+        check_kind(&rt, rt.alloc(), kind, rest, wanted)?;
     }
     Ok(())
 }
@@ -65,7 +100,7 @@ const NO_VALUE: &str =
     "the value is missing: write it, or pattern in the first line if no entry has one";
 
 /// A kind, what stands behind the header, and the line at fault, what is wrong with it, and what of it is shown.
-const FAULTS: [(&str, &str, u64, &str, &str); 20] = [
+static FAULTS: [(&str, &str, u64, &str, &str); 20] = [
     ("real", "", 1, SYMMETRY, ""),
     (
         "real general more",
@@ -162,13 +197,9 @@ const FAULTS: [(&str, &str, u64, &str, &str); 20] = [
 
 #[test]
 fn files_at_fault(rt: HostRuntime) -> Result<(), Fail> {
-    for (kind, rest, line, fault, found) in FAULTS {
-        let file = file_of(rt.alloc(), kind, rest)?;
+    for (kind, rest, line, fault, found) in &FAULTS {
         let wanted = format!(in rt.alloc(); "line {line}: {fault}{found}")?;
-        assert!(&rt;
-            told(rt.alloc(), &file)?.as_str() == wanted.as_str(),
-            "{wanted}"
-        );
+        check_kind(&rt, rt.alloc(), kind, rest, &wanted)?;
     }
     Ok(())
 }
@@ -183,7 +214,7 @@ const UNKNOWN_TITLE: &str =
     , found: title";
 
 /// Files whose first line is at fault, and what is told of them.
-const NO_HEADERS: [(&[u8], &str); 8] = [
+static NO_HEADERS: [(&[u8], &str); 8] = [
     (b"", "the file is empty"),
     (
         b"\x1f\x8b\x08\x00",
@@ -212,36 +243,42 @@ const NO_HEADERS: [(&[u8], &str); 8] = [
     ),
 ];
 
+/// Why there is no column form of a file, as text.
+fn fault_of(alloc: Global, file: &[u8]) -> Result<String, Fail> {
+    match read_matrix(alloc, file) {
+        Ok(_) => Ok(String::new(alloc)),
+        Err(error) => Ok(format!(in alloc; "{error}")?),
+    }
+}
+
 #[test]
 fn files_without_a_header(rt: HostRuntime) -> Result<(), Fail> {
-    for (file, wanted) in NO_HEADERS {
-        let shown = match read_matrix(rt.alloc(), file) {
-            Ok(_) => String::new(rt.alloc()),
-            Err(error) => format!(in rt.alloc(); "{error}")?,
-        };
-        assert!(&rt; shown.as_str() == wanted);
+    for (file, wanted) in &NO_HEADERS {
+        let shown = fault_of(rt.alloc(), file)?;
+        check!(&rt; shown.as_str() == *wanted, wanted);
     }
     Ok(())
 }
 
 /// First lines in letters of any case, behind a byte-order mark, and with line ends of two bytes.
+static HEADERS: [&str; 4] = [
+    "%%MATRIXMARKET MATRIX COORDINATE REAL GENERAL\n2 2 2\n2 1 1\n1 2 -.5e-3\n",
+    "%%MatrixMarket matrix coordinate Double Skew-Symmetric\n2 2 1\n2 1 1\n",
+    "\u{feff}%%MatrixMarket matrix coordinate unsigned-integer general\r\n2 2 2\r\n2 1 1\r\n1 2 3\r\n",
+    "%%MatrixMarket matrix coordinate complex Hermitian\n% note\n\n2 2 1\n\t2 1 nan inf",
+];
+
 #[test]
 fn headers_of_any_case(rt: HostRuntime) -> Result<(), Fail> {
-    for file in [
-        "%%MATRIXMARKET MATRIX COORDINATE REAL GENERAL\n2 2 2\n2 1 1\n1 2 -.5e-3\n",
-        "%%MatrixMarket matrix coordinate Double Skew-Symmetric\n2 2 1\n2 1 1\n",
-        "\u{feff}%%MatrixMarket matrix coordinate unsigned-integer general\r\n2 2 2\r\n2 1 1\r\n1 2 3\r\n",
-        "%%MatrixMarket matrix coordinate complex Hermitian\n% note\n\n2 2 1\n\t2 1 nan inf",
-    ] {
-        let shown = told(rt.alloc(), file)?;
-        assert!(&rt; shown.as_str() == "[0, 1, 2] [1, 0]", "{file}");
+    for file in &HEADERS {
+        check_file(&rt, rt.alloc(), file, "[0, 1, 2] [1, 0]")?;
     }
     Ok(())
 }
 
 /// Arrays: those that are not zero of the values of all places, column by column. The last two are those that scipy's
 /// `mmwrite` made of `[[4, 0, 1], [0, 0, 0], [1, 0, 3]]` and of a skew-symmetric matrix.
-const ARRAYS: [(&str, &str); 7] = [
+static ARRAYS: [(&str, &str); 7] = [
     ("real general\n2 2\n1\n0\n-0.0e7\n2.5", "[0, 1, 2] [0, 1]"),
     (
         "complex GENERAL\n2 2\n% a note\n0 0\n\n0 -1\n1e-400 0\n+0 .0\n",
@@ -264,7 +301,7 @@ const ARRAYS: [(&str, &str); 7] = [
 ];
 
 /// Arrays at fault.
-const NO_ARRAYS: [(&str, &str); 7] = [
+static NO_ARRAYS: [(&str, &str); 7] = [
     (
         "real general\n",
         "line 1: here must stand the numbers of rows and columns of the array",
@@ -296,22 +333,30 @@ const NO_ARRAYS: [(&str, &str); 7] = [
 const WORDS: &str =
     "line 3: more words than the header tells of: a pattern has no values, and a comment a line of its own, found: 1 2";
 
-#[test]
-fn arrays(rt: HostRuntime) -> Result<(), Fail> {
-    for (rest, wanted) in ARRAYS {
-        let file = format!(in rt.alloc(); "%%MatrixMarket matrix array {rest}")?;
-        assert!(&rt; told(rt.alloc(), &file)?.as_str() == wanted, "{file}");
-    }
-    for (rest, wanted) in NO_ARRAYS {
-        let file = format!(in rt.alloc(); "%%MatrixMarket matrix array {rest}")?;
-        assert!(&rt; told(rt.alloc(), &file)?.as_str() == wanted, "{file}");
+/// Asserts what is told of files that begin alike.
+fn check_rests(
+    rt: &impl Abort,
+    alloc: Global,
+    start: &str,
+    rests: &[(&str, &str)],
+) -> Result<(), Fail> {
+    for (rest, wanted) in rests {
+        let file = format!(in alloc; "{start}{rest}")?;
+        check_file(rt, alloc, &file, wanted)?;
     }
     Ok(())
 }
 
+#[test]
+fn arrays(rt: HostRuntime) -> Result<(), Fail> {
+    let start = "%%MatrixMarket matrix array ";
+    check_rests(&rt, rt.alloc(), start, &ARRAYS)?;
+    check_rests(&rt, rt.alloc(), start, &NO_ARRAYS)
+}
+
 /// Harwell-Boeing and Rutherford-Boeing files. scipy's `hb_write` wrote the first one, SuiteSparse's `RBwrite` the
 /// second; the others were worked by hand.
-const BOEINGS: [(&str, &str); 5] = [
+static BOEINGS: [(&str, &str); 5] = [
     (
         "Default title                                                           0       
              5             1             1             3
@@ -353,7 +398,7 @@ isa                        3             3             4             0
 ];
 
 /// The lines behind the title of a Harwell-Boeing file at fault, and what is told of it.
-const NO_BOEINGS: [(&str, &str); 14] = [
+static NO_BOEINGS: [(&str, &str); 14] = [
     ("1 1 0 none\n", UNKNOWN_TITLE),
     ("1 1 0\n", UNKNOWN_TITLE),
     ("", UNKNOWN_TITLE),
@@ -405,82 +450,99 @@ const NO_BOEINGS: [(&str, &str); 14] = [
 
 #[test]
 fn boeings(rt: HostRuntime) -> Result<(), Fail> {
-    for (file, wanted) in BOEINGS {
-        assert!(&rt; told(rt.alloc(), file)?.as_str() == wanted, "{file}");
+    check_rests(&rt, rt.alloc(), "", &BOEINGS)?;
+    check_rests(&rt, rt.alloc(), "title\n", &NO_BOEINGS)
+}
+
+/// Kinds, what stands behind the header, and how many entries are repeats.
+static REPEATS: [(&str, &str, usize); 3] = [
+    ("pattern general", "3 3 3\n1 2\n2 1\n3 3\n", 0),
+    ("pattern general", "3 3 4\n1 2\n1 2\n3 3\n1 2\n", 2),
+    ("pattern symmetric", "3 3 3\n1 2\n2 1\n3 3\n", 2),
+];
+
+/// How many entries of a file are repeats, where it is one.
+fn repeats_of(alloc: Global, file: &str) -> Option<usize> {
+    match read_matrix(alloc, file.as_bytes()) {
+        Ok(matrix) => Some(matrix.repeats),
+        Err(_) => None,
     }
-    for (rest, wanted) in NO_BOEINGS {
-        let file = format!(in rt.alloc(); "title\n{rest}")?;
-        assert!(&rt; told(rt.alloc(), &file)?.as_str() == wanted, "{file}");
-    }
-    Ok(())
 }
 
 #[test]
 fn repeats(rt: HostRuntime) -> Result<(), Fail> {
-    for (kind, rest, wanted) in [
-        ("pattern general", "3 3 3\n1 2\n2 1\n3 3\n", 0usize),
-        ("pattern general", "3 3 4\n1 2\n1 2\n3 3\n1 2\n", 2),
-        ("pattern symmetric", "3 3 3\n1 2\n2 1\n3 3\n", 2),
-    ] {
+    for (kind, rest, wanted) in &REPEATS {
         let file = file_of(rt.alloc(), kind, rest)?;
-        let matrix = read_matrix(rt.alloc(), file.as_bytes());
-        assert!(&rt;
-            matrix.is_ok_and(|matrix| matrix.repeats == wanted),
-            "{kind}"
-        );
+        check!(&rt; repeats_of(rt.alloc(), &file) == Some(*wanted), kind);
     }
     Ok(())
 }
+
+/// A file whose third line has so many spaces between two words.
+fn spaced(alloc: Global, spaces: usize) -> Result<String, AllocError> {
+    let mut file = String::from_str(
+        alloc,
+        "%%MatrixMarket matrix coordinate pattern general\n2 2 1\n2",
+    )?;
+    for _ in 0..spaces {
+        file.push_str(" ")?;
+    }
+    file.push_str("1\n")?;
+    Ok(file)
+}
+
+/// How many spaces a line has, and what is told of its file.
+static SPACES: [(usize, &str); 3] = [
+    (65533, "[0, 1, 1] [1]"),
+    (65534, "line 3: the line has more than 65536 bytes"),
+    (1 << 20, "line 3: the line has more than 65536 bytes"),
+];
 
 /// A line may have 65,536 bytes with its line feed, and no more; a longer one is not read whole.
 #[test]
 fn long_lines(rt: HostRuntime) -> Result<(), Fail> {
-    let alloc = rt.alloc();
-    for (spaces, wanted) in [
-        (65533usize, "[0, 1, 1] [1]"),
-        (65534, "line 3: the line has more than 65536 bytes"),
-        (1 << 20, "line 3: the line has more than 65536 bytes"),
-    ] {
-        let mut file = String::from_str(
-            alloc,
-            "%%MatrixMarket matrix coordinate pattern general\n2 2 1\n2",
-        )?;
-        for _ in 0..spaces {
-            file.push_str(" ")?;
-        }
-        file.push_str("1\n")?;
-        let shown = told(alloc, &file)?;
-        assert!(&rt; shown.as_str() == wanted, "{spaces}");
+    for (spaces, wanted) in &SPACES {
+        let file = spaced(rt.alloc(), *spaces)?;
+        let shown = told(rt.alloc(), &file)?;
+        check!(&rt; shown.as_str() == *wanted, wanted);
     }
     Ok(())
 }
 
+/// Texts that name rows to hold last, and what is told of each: the marks, or why there are none.
+static HELD: [(&str, &str); 5] = [
+    ("", "[false, false, false]"),
+    ("% last\n3\n\n 1 \n3", "[true, false, true]"),
+    (
+        "2\n4\n",
+        "line 2: the row is out of range: 4, of rows 1 to 3",
+    ),
+    (
+        "0\n",
+        "line 1: the row is out of range: 0, of rows 1 to 3; they count from 1",
+    ),
+    (
+        "1 2\n",
+        "line 1: here must stand the number of a row, alone, found: 1 2",
+    ),
+];
+
+/// The marks that a text gives to three rows, or why there are none, as text.
+fn marks_told(alloc: Global, text: &str) -> Result<String, Fail> {
+    match read_held(alloc, 3, text.as_bytes()) {
+        Ok(marks) => {
+            let marks = marks.as_slice();
+            Ok(format!(in alloc; "{marks:?}")?)
+        }
+        Err(error) => Ok(format!(in alloc; "{error}")?),
+    }
+}
+
 #[test]
 fn rows_to_hold(rt: HostRuntime) -> Result<(), Fail> {
-    for (text, wanted) in [
-        ("", "[false, false, false]"),
-        ("% last\n3\n\n 1 \n3", "[true, false, true]"),
-        (
-            "2\n4\n",
-            "line 2: the row is out of range: 4, of rows 1 to 3",
-        ),
-        (
-            "0\n",
-            "line 1: the row is out of range: 0, of rows 1 to 3; they count from 1",
-        ),
-        (
-            "1 2\n",
-            "line 1: here must stand the number of a row, alone, found: 1 2",
-        ),
-    ] {
-        let shown = match read_held(rt.alloc(), 3, text.as_bytes()) {
-            Ok(marks) => {
-                let marks = marks.as_slice();
-                format!(in rt.alloc(); "{marks:?}")?
-            }
-            Err(error) => format!(in rt.alloc(); "{error}")?,
-        };
-        assert!(&rt; shown.as_str() == wanted, "{text}");
+    for (text, wanted) in &HELD {
+        let shown = marks_told(rt.alloc(), text)?;
+        check!(&rt; shown.as_str() == *wanted, text);
     }
     Ok(())
 }

@@ -5,6 +5,8 @@
 #[cfg(test)]
 mod answers;
 #[cfg(test)]
+mod checks;
+#[cfg(test)]
 mod choices;
 #[cfg(test)]
 mod desk;

@@ -16,6 +16,7 @@ use amd_command::rows::write_rows;
 use amd_command::tree::{write_supernodes, write_tree};
 use amd_market::reader::read_matrix;
 use amd_symbolic::supernodes;
+use amd_testing::check;
 use amd_testing::refusing::{Refusing, each_refused};
 use amd_testing::writers::{Faulty, WriterFault};
 use std::alloc::{Allocator, Global};
@@ -98,24 +99,27 @@ fn write_all_of<W: Write, A: Allocator + Copy>(alloc: A, out: &mut W) -> Result<
     write_picture(alloc, &matrix, &p, false, out)
 }
 
+/// Texts of dense row parameters, and thousandths.
+static PARAMETERS: [(&str, Option<i32>); 13] = [
+    ("10", Some(10000)),
+    ("0", Some(0)),
+    ("2.5", Some(2500)),
+    ("0.05", Some(50)),
+    ("-1", Some(-1000)),
+    ("-0.125", Some(-125)),
+    ("7.", Some(7000)),
+    ("1.2345", None),
+    ("1.-5", None),
+    ("", None),
+    (".5", None),
+    ("ten", None),
+    ("2147484", None),
+];
+
 #[test]
 fn decimal_parameters(rt: HostRuntime) {
-    for (text, wanted) in [
-        ("10", Some(10000)),
-        ("0", Some(0)),
-        ("2.5", Some(2500)),
-        ("0.05", Some(50)),
-        ("-1", Some(-1000)),
-        ("-0.125", Some(-125)),
-        ("7.", Some(7000)),
-        ("1.2345", None),
-        ("1.-5", None),
-        ("", None),
-        (".5", None),
-        ("ten", None),
-        ("2147484", None),
-    ] {
-        assert!(&rt; thousandths_of(text) == wanted, "{text}");
+    for (text, wanted) in &PARAMETERS {
+        check!(&rt; thousandths_of(text) == *wanted, text);
     }
 }
 
@@ -124,14 +128,14 @@ fn decimal_parameters(rt: HostRuntime) {
 #[test]
 fn what_is_written(rt: HostRuntime) -> Result<(), Fail> {
     let mut out = Vec::new(rt.alloc());
-    assert!(&rt; write_all_of(rt.alloc(), &mut out).is_ok());
+    check!(&rt; write_all_of(rt.alloc(), &mut out).is_ok());
     let text = String::from_utf8_lossy(rt.alloc(), &out)?;
     let text = text.as_str();
-    assert!(&rt; text.starts_with("3\n1\n2\n    rows "));
-    assert!(&rt; text.contains(PATH_FACTS));
-    assert!(&rt; text.contains("\n3 1 2\n1 2 1\n2 0 0\n    rows "));
-    assert!(&rt; text.contains("\n2\n3\n0\n1 3 0 0\n<svg "));
-    assert!(&rt; text.ends_with("fill: 1 entries of L</text>\n</svg>\n"));
+    check!(&rt; text.starts_with("3\n1\n2\n    rows "));
+    check!(&rt; text.contains(PATH_FACTS));
+    check!(&rt; text.contains("\n3 1 2\n1 2 1\n2 0 0\n    rows "));
+    check!(&rt; text.contains("\n2\n3\n0\n1 3 0 0\n<svg "));
+    check!(&rt; text.ends_with("fill: 1 entries of L</text>\n</svg>\n"));
     Ok(())
 }
 
@@ -143,16 +147,16 @@ fn columns_worked_by_hand(rt: HostRuntime) -> Result<(), Fail> {
     let Ok(analysis) = analyze_matrix(rt.alloc(), &matrix, &Control::default(), None) else {
         panic!(&rt; "no factor");
     };
-    assert!(&rt; analysis.p.as_slice() == [0, 3, 2, 4, 1].as_slice());
-    assert!(&rt; analysis.counts.sizes.as_slice() == [1, 1, 2, 1, 0].as_slice());
+    check!(&rt; analysis.p.as_slice() == [0, 3, 2, 4, 1].as_slice());
+    check!(&rt; analysis.counts.sizes.as_slice() == [1, 1, 2, 1, 0].as_slice());
     let mut columns = Vec::new(rt.alloc());
     let mut figures = Vec::new(rt.alloc());
-    assert!(&rt; write_columns(&analysis.p, &analysis.counts, &mut columns).is_ok());
+    check!(&rt; write_columns(&analysis.p, &analysis.counts, &mut columns).is_ok());
     let need = &analysis.counts.need;
-    assert!(&rt; write_comparison(need, &analysis.info, 0, &mut figures).is_ok());
+    check!(&rt; write_comparison(need, &analysis.info, 0, &mut figures).is_ok());
     let columns = String::from_utf8_lossy(rt.alloc(), &columns)?;
     let figures = String::from_utf8_lossy(rt.alloc(), &figures)?;
-    assert!(&rt; columns.as_str() == FIVE_COLUMNS && figures.as_str() == FIVE_FIGURES);
+    check!(&rt; columns.as_str() == FIVE_COLUMNS && figures.as_str() == FIVE_FIGURES);
     Ok(())
 }
 
@@ -175,17 +179,20 @@ fn asked(alloc: Global, words: &[&str]) -> Result<String, Fail> {
     Ok(format!(in alloc; "{name} {file} {hold:?} {out:?} {picture:?}")?)
 }
 
+/// Subcommands, an option, and what is asked for by both.
+static SUBCOMMANDS: [(&str, &str, &str); 4] = [
+    ("order", "--picture", "order a Some(\"h\") None Some(\"o\")"),
+    ("analyze", "--out", "analyze a Some(\"h\") Some(\"o\") None"),
+    ("analyze", "--picture", "none"),
+    ("analyse", "--out", "none"),
+];
+
 #[test]
 fn subcommands(rt: HostRuntime) -> Result<(), Fail> {
-    let analyzed = "analyze a Some(\"h\") Some(\"o\") None";
-    for (name, option, wanted) in [
-        ("order", "--picture", "order a Some(\"h\") None Some(\"o\")"),
-        ("analyze", "--out", analyzed),
-        ("analyze", "--picture", "none"),
-        ("analyse", "--out", "none"),
-    ] {
-        let words = ["rimopaku", name, "a", "--hold", "h", option, "o"];
-        assert!(&rt; asked(rt.alloc(), &words)?.as_str() == wanted);
+    for (name, option, wanted) in &SUBCOMMANDS {
+        let words = ["rimopaku", *name, "a", "--hold", "h", *option, "o"];
+        let shown = asked(rt.alloc(), &words)?;
+        check!(&rt; shown.as_str() == *wanted, wanted);
     }
     Ok(())
 }
@@ -199,14 +206,14 @@ fn writers_with_faults(rt: HostRuntime) {
         let mut out = Faulty::new(Vec::new(rt.alloc()), WriterFault::Fails, fault_at);
         let answer = write_all_of(rt.alloc(), &mut out);
         if out.faults() == 0 {
-            assert!(&rt; answer.is_ok());
+            check!(&rt; answer.is_ok());
             break 'faults;
         }
-        assert!(&rt; out.calls() == fault_at && matches!(&answer, Err(Cause::Write(_))));
+        check!(&rt; out.calls() == fault_at && matches!(&answer, Err(Cause::Write(_))));
         calls = fault_at;
     }
-    assert!(&rt; 20 < calls);
-    assert!(&rt; calls < 996);
+    check!(&rt; 20 < calls);
+    check!(&rt; calls < 996);
 }
 
 /// Whether all was written, and no request refused; where it was not written, that was for want of memory. A run that
@@ -224,7 +231,7 @@ fn is_written(
             !heap.refused()
         }
         Err(cause) => {
-            assert!(rt; cause.exit_status() == 1);
+            check!(rt; cause.exit_status() == 1);
             false
         }
     }
@@ -237,18 +244,18 @@ fn refused_memory(rt: HostRuntime) {
     let room = rt.alloc();
     let written = Cell::new(0u64);
     match each_refused(rt.alloc(), |heap| is_written(&rt, heap, &room, &written)) {
-        Ok(count) => assert!(&rt; 20 < count),
+        Ok(count) => check!(&rt; 20 < count),
         Err(slip) => panic!(&rt; "{slip:?}"),
     }
-    assert!(&rt; written.get() == 2);
+    check!(&rt; written.get() == 2);
 }
 
 #[test]
 fn empty_matrix(rt: HostRuntime) -> Result<(), Fail> {
     let mut out = Vec::new(rt.alloc());
     let info = Info::new(0);
-    assert!(&rt; write_rows(&[], &mut out).is_ok());
-    assert!(&rt; out.is_empty());
-    assert!(&rt; write_figures(&info, 0, &mut out).is_ok());
+    check!(&rt; write_rows(&[], &mut out).is_ok());
+    check!(&rt; out.is_empty());
+    check!(&rt; write_figures(&info, 0, &mut out).is_ok());
     Ok(())
 }

@@ -6,6 +6,7 @@ use amd_command::ordering::order_matrix;
 use amd_command::picture::write_picture;
 use amd_demos::can_24::{POINTERS, ROWS};
 use amd_market::reader::Matrix;
+use amd_testing::check;
 use std::alloc::{AllocError, Global};
 use std::test::Fail;
 
@@ -51,13 +52,13 @@ fn no_fill_where_the_bound_has_some(rt: HostRuntime) -> Result<(), Fail> {
     let matrix = matrix_of(alloc, &DENSE_POINTERS, &DENSE_ROWS)?;
     let p = sizes_of(alloc, &DENSE_ORDER)?;
     let mut out = Vec::new(alloc);
-    assert!(&rt; write_picture(alloc, &matrix, &p, true, &mut out).is_ok());
+    check!(&rt; write_picture(alloc, &matrix, &p, true, &mut out).is_ok());
     let text = String::from_utf8_lossy(alloc, &out)?;
-    assert!(&rt; text.contains(">20 rows, 18 edges<"));
-    assert!(&rt; text.ends_with("fill: 0 entries of L</text>\n</svg>\n"));
+    check!(&rt; text.contains(">20 rows, 18 edges<"));
+    check!(&rt; text.ends_with("fill: 0 entries of L</text>\n</svg>\n"));
     let mut none = Vec::new(alloc);
     let outcome = write_picture(alloc, &matrix, &[0; 20], true, &mut none);
-    assert!(&rt; matches!(outcome, Err(Cause::Form)) && none.is_empty());
+    check!(&rt; matches!(outcome, Err(Cause::Form)) && none.is_empty());
     Ok(())
 }
 
@@ -105,15 +106,15 @@ fn fill_of_can_24(rt: HostRuntime) -> Result<(), Fail> {
         panic!(&rt; "no ordering");
     };
     let mut out = Vec::new(alloc);
-    assert!(&rt; write_picture(alloc, &matrix, &p, true, &mut out).is_ok());
+    check!(&rt; write_picture(alloc, &matrix, &p, true, &mut out).is_ok());
     let text = String::from_utf8_lossy(alloc, &out)?;
-    assert!(&rt; text.contains(">24 rows, 68 edges<"));
-    assert!(&rt; text.ends_with("fill: 28 entries of L</text>\n</svg>\n"));
+    check!(&rt; text.contains(">24 rows, 68 edges<"));
+    check!(&rt; text.ends_with("fill: 28 entries of L</text>\n</svg>\n"));
     let Some((_, after)) = text.as_str().split_once(">after<") else {
         panic!(&rt; "no panel");
     };
     let mut sizes = [0; 24];
     count_cells(after, &mut sizes);
-    assert!(&rt; sizes == COLUMN_SIZES);
+    check!(&rt; sizes == COLUMN_SIZES);
     Ok(())
 }

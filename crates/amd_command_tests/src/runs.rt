@@ -5,6 +5,7 @@ use crate::desk::{Desk, Pages};
 use crate::outputs::{PATH, PATH_FACTS};
 use amd_command::causes::Cause;
 use amd_command::program::run;
+use amd_testing::check;
 use std::alloc::{AllocError, Global};
 use std::cell::RefCell;
 use std::io;
@@ -99,7 +100,7 @@ fn run_at_desk(
 type Refused = (&'static [&'static str], &'static str, u8, &'static str);
 
 /// Words and files at fault: status 2. Outputs that cannot be opened: status 1.
-const REFUSED: [Refused; 24] = [
+static REFUSED: [Refused; 24] = [
     (&[], "", 2, "Usage: rimopaku"),
     (&["sort", "-"], PATH, 2, "sort"),
     (&["order"], PATH, 2, "FILE"),
@@ -240,60 +241,61 @@ const REFUSED: [Refused; 24] = [
 /// Nothing is shown where something is at fault, and a message tells what.
 #[test]
 fn runs_that_are_refused(rt: HostRuntime) -> Result<(), Fail> {
-    for (words, input, status, told) in REFUSED {
+    for (words, input, status, told) in &REFUSED {
         let end = run_at_desk(&rt, words, input, 0, false)?;
-        assert!(&rt; end.status == status, "{words:?}");
-        assert!(&rt;
-            end.shown.is_empty() && end.told.contains(told),
-            "{words:?}"
-        );
+        let is_refused = end.status == *status && end.shown.is_empty() && end.told.contains(*told);
+        check!(&rt; is_refused, told);
     }
     Ok(())
 }
 
-/// Runs that do what is asked for, and what they show.
+/// Words of runs that do what is asked for, and what they show.
+static ANSWERED: [(&[&str], &str); 6] = [
+    (&["info", "-"], PATH_FACTS),
+    (&["order", "-", "--out", "/dev/null"], ""),
+    (
+        &["analyze", "-", "--hold", "/dev/null", "--out", "/dev/null"],
+        "",
+    ),
+    (
+        &["order", "-", "--picture", "/dev/null", "--out", "/dev/null"],
+        "",
+    ),
+    (
+        &[
+            "order",
+            "-",
+            "--tree-picture",
+            "/dev/null",
+            "--permuted",
+            "/dev/null",
+            "--tree",
+            "/dev/null",
+            "--json",
+        ],
+        PATH_JSON,
+    ),
+    (&["analyze", "-", "--json"], PATH_FACTOR_JSON),
+];
+
 #[test]
 fn runs_that_end_well(rt: HostRuntime) -> Result<(), Fail> {
-    for (words, shown) in [
-        (["info", "-"].as_slice(), PATH_FACTS),
-        (&["order", "-", "--out", "/dev/null"], ""),
-        (
-            &["analyze", "-", "--hold", "/dev/null", "--out", "/dev/null"],
-            "",
-        ),
-        (
-            &["order", "-", "--picture", "/dev/null", "--out", "/dev/null"],
-            "",
-        ),
-        (
-            &[
-                "order",
-                "-",
-                "--tree-picture",
-                "/dev/null",
-                "--permuted",
-                "/dev/null",
-                "--tree",
-                "/dev/null",
-                "--json",
-            ],
-            PATH_JSON,
-        ),
-        (&["analyze", "-", "--json"], PATH_FACTOR_JSON),
-    ] {
+    for (words, shown) in &ANSWERED {
         let end = run_at_desk(&rt, words, PATH, 0, false)?;
-        assert!(&rt; end.status == 0 && end.shown.as_str() == shown, "{words:?}");
-        assert!(&rt;
-            end.told.is_empty() || end.told.starts_with(PATH_FIGURES),
-            "{words:?}"
-        );
+        let is_told = end.told.is_empty() || end.told.starts_with(PATH_FIGURES);
+        let name = words.first().copied().unwrap_or("");
+        check!(&rt; end.status == 0 && end.shown.as_str() == *shown && is_told, name);
     }
+    Ok(())
+}
+
+/// Runs that tell of the command itself.
+#[test]
+fn runs_without_a_file(rt: HostRuntime) -> Result<(), Fail> {
     for word in ["--help", "--version"] {
         let end = run_at_desk(&rt, &[word], "", 0, false)?;
-        assert!(&rt;
-            end.status == 0 && end.shown.contains("rimopaku") && end.told.is_empty(),
-            "{word}"
-        );
+        let is_shown = end.shown.contains("rimopaku") && end.told.is_empty();
+        check!(&rt; end.status == 0 && is_shown, word);
     }
     Ok(())
 }
@@ -303,7 +305,7 @@ fn an_output_that_takes_nothing(rt: HostRuntime) -> Result<(), Fail> {
     for name in ["order", "analyze", "info"] {
         let end = run_at_desk(&rt, &[name, "-"], PATH, 0, true)?;
         let wanted = "rimopaku: standard output: cannot be written: ";
-        assert!(&rt; end.status == 1 && end.told.starts_with(wanted), "{name}");
+        check!(&rt; end.status == 1 && end.told.starts_with(wanted), name);
     }
     Ok(())
 }
@@ -312,21 +314,24 @@ fn an_output_that_takes_nothing(rt: HostRuntime) -> Result<(), Fail> {
 #[test]
 fn a_picture_that_fails(rt: HostRuntime) -> Result<(), Fail> {
     let end = run_at_desk(&rt, &["order", "-", "--picture", NOWHERE], PATH, 0, false)?;
-    assert!(&rt; end.status == 3 && end.shown.as_str() == PATH_ORDER);
+    check!(&rt; end.status == 3 && end.shown.as_str() == PATH_ORDER);
     let message = "\nrimopaku: /no/such/folder/file: the picture cannot be written: ";
-    assert!(&rt; end.told.starts_with(PATH_FIGURES) && end.told.contains(message));
+    check!(&rt; end.told.starts_with(PATH_FIGURES) && end.told.contains(message));
     let words = ["order", "-", "--out", "/dev/null", "--picture", "/dev/full"];
     let full = run_at_desk(&rt, &words, PATH, 0, false)?;
-    assert!(&rt; full.status == 3 && full.told.starts_with(PATH_FIGURES));
-    assert!(&rt;
-        full.told
-            .contains("rimopaku: /dev/full: the picture cannot be written: ")
-    );
+    check!(&rt; full.status == 3 && full.told.starts_with(PATH_FIGURES));
+    check!(&rt; full.told
+            .contains("rimopaku: /dev/full: the picture cannot be written: "));
+    Ok(())
+}
+
+#[test]
+fn causes_that_are_told(rt: HostRuntime) -> Result<(), Fail> {
     let alloc = rt.alloc();
-    assert!(&rt; Cause::Write(io::Error::from(ErrorKind::BrokenPipe)).is_quiet());
-    assert!(&rt; !Cause::Write(io::Error::from(ErrorKind::WriteZero)).is_quiet());
+    check!(&rt; Cause::Write(io::Error::from(ErrorKind::BrokenPipe)).is_quiet());
+    check!(&rt; !Cause::Write(io::Error::from(ErrorKind::WriteZero)).is_quiet());
     let told = format!(in alloc; "{}", Cause::Memory.at_picture())?;
-    assert!(&rt; told.as_str() == "the picture cannot be written: out of memory");
+    check!(&rt; told.as_str() == "the picture cannot be written: out of memory");
     Ok(())
 }
 
@@ -345,11 +350,11 @@ fn stages_of_long_runs(rt: HostRuntime) -> Result<(), Fail> {
     let stages = "rimopaku: reading /dev/null, 0 MiB
 rimopaku: ordering 3 rows, 5 entries
 ";
-    assert!(&rt; slow.status == 0 && slow.told.starts_with(stages));
+    check!(&rt; slow.status == 0 && slow.told.starts_with(stages));
     let last = "\nrimopaku: drawing up to 2 entries of L\n";
-    assert!(&rt; slow.told.contains(PATH_FIGURES) && slow.told.ends_with(last));
+    check!(&rt; slow.told.contains(PATH_FIGURES) && slow.told.ends_with(last));
     let fast = run_at_desk(&rt, &words, PATH, 0, false)?;
-    assert!(&rt; fast.status == 0 && fast.told.starts_with(PATH_FIGURES));
-    assert!(&rt; slow.shown.as_str() == fast.shown.as_str());
+    check!(&rt; fast.status == 0 && fast.told.starts_with(PATH_FIGURES));
+    check!(&rt; slow.shown.as_str() == fast.shown.as_str());
     Ok(())
 }
