@@ -10,8 +10,6 @@ pub mod PatternsLeft
 pub mod WalksUp
 -- What the postorder leaves, and the same in the numbers of C.
 pub mod ForestsLeft
--- What the tests of the elimination in a caller's workspace begin with.
-mod Degrees
 -- What the supernodes of a factor leave, and the same in the numbers of C.
 pub mod SupernodesLeft
 -- Lists that are laid, and copies of them.

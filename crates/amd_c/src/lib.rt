@@ -36,10 +36,6 @@ pub extern "C" fn rimopaku_defaults(parameters: &mut Parameters)
 }
 
 #[cfg(test)]
-mod laid_tests;
-#[cfg(test)]
-mod narrow_tests;
-#[cfg(test)]
 mod supernode_tests;
 #[cfg(test)]
 mod tests;
