@@ -20,13 +20,6 @@ pub fn check_matrix(rt: &impl Abort, holds: bool, a_p: &[i64], a_i: &[i64])
     assert!(rt; holds, "{a_p:?} {a_i:?}");
 }
 
-/// Ends the run with a matrix and an order of its rows unless something holds.
-pub fn check_under(rt: &impl Abort, holds: bool, p: &[i64], a_p: &[i64], a_i: &[i64])
-    ensures { IsTrue holds }
-{
-    assert!(rt; holds, "{p:?} {a_p:?} {a_i:?}");
-}
-
 /// Ends the run with a matrix and a choice of a caller unless something holds.
 pub fn check_chosen(rt: &impl Abort, holds: bool, control: &Control, a_p: &[i64], a_i: &[i64])
     ensures { IsTrue holds }

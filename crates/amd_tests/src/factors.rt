@@ -2,10 +2,9 @@
 // The expected needs come from worked examples and from an independent program that follows the rules, which is no part
 // of this repository.
 
+use crate::can_24::{POINTERS, ROWS};
 use crate::checks::check_matrix;
-use crate::worked::widened;
 use amd::{Control, Info, order};
-use amd_demos::can_24::{POINTERS, ROWS};
 use amd_testing::check;
 use amd_testing::factors::{SearchedFactor, SearchedNeed, factor_of, fills_nothing, need_of};
 use amd_testing::inputs::star;
@@ -108,12 +107,10 @@ fn needs_of_factors(rt: HostRuntime) -> Result<(), Fail> {
     for case in &FACTORS {
         check_need(&rt, rt.alloc(), case)?;
     }
-    let heap = rt.alloc();
-    let (pointers, rows) = (widened(heap, &POINTERS)?, widened(heap, &ROWS)?);
     let can_24 = NeedCase {
         what: "can_24, whose bounds are a little above",
-        a_p: &pointers,
-        a_i: &rows,
+        a_p: &POINTERS,
+        a_i: &ROWS,
         p: &[
             22, 20, 10, 23, 12, 5, 16, 8, 14, 4, 15, 7, 1, 9, 13, 17, 0, 2, 3, 6, 11, 18, 21, 19,
         ],
@@ -124,8 +121,7 @@ fn needs_of_factors(rt: HostRuntime) -> Result<(), Fail> {
             d_max: 7,
         },
     };
-    check_need(&rt, heap, &can_24)?;
-    Ok(())
+    Ok(check_need(&rt, rt.alloc(), &can_24)?)
 }
 
 /// Orders a forest, and asserts that nothing fills in.

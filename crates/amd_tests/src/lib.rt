@@ -1,9 +1,11 @@
 //! Tests of the ordering through its calls: worked inputs with their answers, hostile inputs, refused memory, rows held
 //! last, and a comparison with the definitions in a plain form. The answers come from outside: worked by hand, from the
 //! Rust crate's demos, or from the Rust crate `amd` and an independent program that follows the rules, which is no part
-//! of this repository. And tests of what comes of an ordering (`outcome`): the exact factor, and what is printed.
+//! of this repository. Tests of what comes of an ordering are in the crate `amd_outcome_tests`.
 #![tactic(auto)]
 
+#[cfg(test)]
+mod can_24;
 #[cfg(test)]
 mod checks;
 #[cfg(test)]
@@ -18,8 +20,6 @@ mod input;
 mod memory;
 #[cfg(test)]
 mod numbers;
-#[cfg(test)]
-mod outcome;
 #[cfg(test)]
 mod patterns;
 #[cfg(test)]

@@ -2,7 +2,6 @@
 // refusal answers `OutOfMemory`, and the first one without gives the answer. After each of them as many blocks came
 // back as were granted. How many requests there are does not depend on the number of rounds.
 
-use crate::patterns::CHOICES;
 use crate::small_matrices::SMALL_MATRICES;
 use crate::worked::{DENSE_ROW, OrderingCase, check_answer, with_dense};
 use amd::aat::aat;
@@ -10,6 +9,7 @@ use amd::preprocess::preprocess;
 use amd::valid::valid;
 use amd::{Control, Info, Status, order, order_holding};
 use amd_testing::check;
+use amd_testing::choices::CHOICES;
 use amd_testing::inputs::path;
 use amd_testing::records::numbers_of;
 use amd_testing::refusing::{Refusing, Slip, each_refused};

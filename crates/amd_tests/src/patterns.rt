@@ -7,6 +7,7 @@ use crate::comparison::is_ordered;
 use crate::factors::{check_bounds, check_forest};
 use crate::holding::check_nothing_held;
 use amd::{Control, Info, order};
+use amd_testing::choices::CHOICES;
 use amd_testing::factors::SearchedFactor;
 use amd_testing::families::{Family, each_member};
 use amd_testing::inputs::complete_below;
@@ -15,34 +16,6 @@ use amd_testing::{check, plain};
 use std::alloc::{AllocError, Global};
 use std::process::Abort;
 use std::test::Fail;
-
-/// The choices of a caller that are tried: the dense row parameter, and whether absorption is aggressive.
-pub static CHOICES: [Control; 6] = [
-    Control {
-        dense: 10000,
-        aggressive: true,
-    },
-    Control {
-        dense: 10000,
-        aggressive: false,
-    },
-    Control {
-        dense: 0,
-        aggressive: true,
-    },
-    Control {
-        dense: 0,
-        aggressive: false,
-    },
-    Control {
-        dense: -1,
-        aggressive: true,
-    },
-    Control {
-        dense: -1,
-        aggressive: false,
-    },
-];
 
 /// Orders a matrix, and asserts that the two lists are inverse permutations with the dense rows last, and that the
 /// figures bound what the factor needs. Returns the factor and the record.

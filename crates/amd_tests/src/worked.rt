@@ -2,11 +2,11 @@
 // the Rust crate `amd`, and from a plain program that follows the rules. The stored cases of `amd_replay` have these
 // and more; here each is also ordered with nothing held, and compared with what its factor needs.
 
+use crate::can_24::{JUMBLED_POINTERS, JUMBLED_ROWS, POINTERS, ROWS};
 use crate::factors::check_bounds;
 use crate::holding::check_nothing_held;
 use crate::small_matrices::SMALL_MATRICES;
 use amd::{Control, Info, Status, order};
-use amd_demos::can_24::{JUMBLED_POINTERS, JUMBLED_ROWS, POINTERS, ROWS};
 use amd_testing::check;
 use amd_testing::inputs::cycle;
 use amd_testing::plain::are_inverse;
@@ -138,31 +138,17 @@ fn a_dense_row_beside_others(rt: HostRuntime) -> Result<(), Fail> {
     Ok(())
 }
 
-/// The same numbers in a wider type.
-pub fn widened(alloc: Global, numbers: &[i32]) -> Result<Vec<i64>, AllocError> {
-    let mut wide = Vec::new(alloc);
-    for &number in numbers {
-        wide.push(i64::from(number))?;
-    }
-    Ok(wide)
-}
-
 #[test]
 fn can_24_and_its_jumbled_form(rt: HostRuntime) -> Result<(), Fail> {
     let heap = rt.alloc();
-    let (sorted_p, sorted_i) = (widened(heap, &POINTERS)?, widened(heap, &ROWS)?);
-    let (jumbled_p, jumbled_i) = (
-        widened(heap, &JUMBLED_POINTERS)?,
-        widened(heap, &JUMBLED_ROWS)?,
-    );
     let p = [
         22, 20, 10, 23, 12, 5, 16, 8, 14, 4, 15, 7, 1, 9, 13, 17, 0, 2, 3, 6, 11, 18, 21, 19,
     ];
     let sorted = OrderingCase {
         what: "the Harwell/Boeing matrix can_24",
         n: 24,
-        a_p: &sorted_p,
-        a_i: &sorted_i,
+        a_p: &POINTERS,
+        a_i: &ROWS,
         jumbled: false,
         p: &p,
         figures: [160, 24, 136, 0, 97, 275, 453, 8],
@@ -172,8 +158,8 @@ fn can_24_and_its_jumbled_form(rt: HostRuntime) -> Result<(), Fail> {
     let jumbled = OrderingCase {
         what: "can_24 with jumbled columns, repeats and entries left out",
         n: 24,
-        a_p: &jumbled_p,
-        a_i: &jumbled_i,
+        a_p: &JUMBLED_POINTERS,
+        a_i: &JUMBLED_ROWS,
         jumbled: true,
         p: &p,
         figures: [102, 17, 136, 0, 97, 275, 453, 8],

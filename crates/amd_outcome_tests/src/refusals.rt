@@ -2,7 +2,7 @@
 // definitions: the first of them, in that order. More orders that do not list each row once, and rooms that are too
 // small, are stored cases of `amd_replay`.
 
-use crate::outcome::worked::FOUR_CYCLE;
+use crate::worked::FOUR_CYCLE;
 use amd::Control;
 use amd_symbolic::{Fault, analyze, analyze_holding, columns};
 use amd_testing::check;

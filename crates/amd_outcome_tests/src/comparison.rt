@@ -4,13 +4,13 @@
 // needs.
 
 use crate::checks::{check_chosen, check_matrix, check_under};
-use crate::outcome::counts::are_counts;
-use crate::outcome::orders::other_orders;
-use crate::outcome::supernodes::are_supernodes;
-use crate::patterns::CHOICES;
+use crate::counts::are_counts;
+use crate::orders::other_orders;
+use crate::supernodes::are_supernodes;
 use amd::{Control, Info};
 use amd_symbolic::{Factor, Fault, analyze, analyze_counts, columns, counts, supernodes};
 use amd_testing::check;
+use amd_testing::choices::CHOICES;
 use amd_testing::factors::{SearchedFactor, SearchedNeed, factor_of, need_of};
 use amd_testing::families::{Family, each_member};
 use std::alloc::{AllocError, Global};

@@ -3,8 +3,8 @@
 
 ghost use Rattle.std.specs.Prelude.{◌<◌};
 
-use crate::outcome::demo_texts::{ORDER, SIMPLE, STATISTICS};
-use crate::outcome::jumbled_texts::JUMBLED;
+use crate::demo_texts::{ORDER, SIMPLE, STATISTICS};
+use crate::jumbled_texts::JUMBLED;
 use amd::{Control, order};
 use amd_demos::can_24::{JUMBLED_POINTERS, JUMBLED_ROWS, POINTERS, ROWS};
 use amd_demos::demo::{Form, demo_to};

@@ -1,9 +1,9 @@
 // The columns by supernodes: on worked matrices, with each request refused in turn, and where the input or the order is
 // none. And whether supernodes are those of columns that searches for paths find; called by `comparison`.
 
-use crate::outcome::orders::NO_ORDERS;
-use crate::outcome::refusals::NO_FORMS;
-use crate::outcome::worked::{FOUR_CYCLE, FactorCase, WORKED};
+use crate::orders::NO_ORDERS;
+use crate::refusals::NO_FORMS;
+use crate::worked::{FOUR_CYCLE, FactorCase, WORKED};
 use amd_symbolic::{Fault, Supernodes, supernodes};
 use amd_testing::check;
 use amd_testing::refusing::{Refusing, each_refused};

@@ -2,13 +2,13 @@
 // matrices with repeats, out of order and without mirrors, with orders that are none, and with refused memory. The
 // lists were worked by hand.
 
-use amd_input::valid::valid;
+use amd::Status;
+use amd::internal::to_count;
+use amd::valid::valid;
 use amd_symbolic::neighbours::{NeighbourLists, earlier_lists, later_lists};
 use amd_symbolic::places::places;
 use amd_testing::check;
 use amd_testing::refusing::{Refusing, each_refused};
-use amd_types::amd::Status;
-use amd_types::internal::to_count;
 use std::alloc::{AllocError, Allocator, Global};
 use std::process::Abort;
 use std::test::Fail;

@@ -2,7 +2,7 @@
 // orders that fill in much: the rows as they stand, reversed, and as they are drawn. And stars from their centre on.
 
 use crate::checks::check_under;
-use crate::outcome::orders::{other_orders, rows_of};
+use crate::orders::{other_orders, rows_of};
 use amd::{Control, order};
 use amd_symbolic::{Counts, Factor, columns, counts};
 use amd_testing::check;

@@ -2,7 +2,7 @@
 // texts of the demos are those of the Rust crate's demos, but for the line on symmetry, which follows the definition;
 // the others have the same form, with sums worked by hand.
 
-use crate::outcome::demo_texts::{FIVE_ROWS, STATISTICS};
+use crate::demo_texts::{FIVE_ROWS, STATISTICS};
 use amd::{Control, Info, Status, control, info};
 use amd_testing::check;
 use amd_testing::writers::{Faulty, Slow, WriterFault};

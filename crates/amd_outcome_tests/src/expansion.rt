@@ -3,7 +3,7 @@
 // supernodes. The answers were worked by hand, or come from an independent program that follows the definitions, which
 // is no part of this repository.
 
-use crate::outcome::worked::{FOUR_CYCLE, FactorCase, WORKED, check_factor};
+use crate::worked::{FOUR_CYCLE, FactorCase, WORKED, check_factor};
 use amd::{Control, order};
 use amd_symbolic::{Fault, expand, supernode_sizes, supernodes};
 use amd_testing::check;

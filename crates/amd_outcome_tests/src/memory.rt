@@ -2,8 +2,7 @@
 // refusal answers `OutOfMemory`, and the first one without gives the answer. After each of them as many blocks came
 // back as were granted.
 
-use crate::memory::{check_refusals, check_requests};
-use crate::outcome::worked::{FOUR_CYCLE, FactorCase, WORKED, check_factor};
+use crate::worked::{FOUR_CYCLE, FactorCase, WORKED, check_factor};
 use amd::Control;
 use amd_symbolic::{Factor, Fault, analyze, analyze_holding, columns};
 use amd_testing::check;
@@ -43,10 +42,10 @@ const REQUESTS: u64 = 9;
 fn each_request_of_columns(rt: HostRuntime) {
     for case in &WORKED {
         let refusals = each_refused(rt.alloc(), |heap| asks(&rt, heap, case));
-        check_refusals(&rt, case.what, refusals);
+        check!(&rt; matches!(refusals, Ok(1..)), case.what);
     }
     let refusals = each_refused(rt.alloc(), |heap| asks(&rt, heap, &FOUR_CYCLE));
-    check_requests(&rt, FOUR_CYCLE.what, refusals, REQUESTS);
+    check!(&rt; refusals == Ok(REQUESTS), FOUR_CYCLE.what);
 }
 
 /// How many requests of each size in bytes there are for the four-cycle with room for seven entries, which one list
@@ -92,7 +91,7 @@ fn each_request_before_a_fault(rt: HostRuntime) {
         ([3, 0, 1, 2], 4, Fault::RoomTooSmall),
     ] {
         let refusals = each_refused(rt.alloc(), |heap| meets_fault(&rt, heap, &p, room, &want));
-        check_refusals(&rt, "a fault", refusals);
+        check!(&rt; matches!(refusals, Ok(1..)), "a fault");
     }
 }
 
@@ -138,7 +137,7 @@ fn analyzes_holding(rt: &impl Abort, heap: &Refusing<Global>) -> bool {
 #[test]
 fn each_request_of_the_analyses(rt: HostRuntime) {
     let analyzing = each_refused(rt.alloc(), |heap| analyzes(&rt, heap));
-    check_requests(&rt, "analyze", analyzing, 17 + REQUESTS);
+    check!(&rt; analyzing == Ok(17 + REQUESTS));
     let holding = each_refused(rt.alloc(), |heap| analyzes_holding(&rt, heap));
-    check_requests(&rt, "analyze_holding", holding, 17 + REQUESTS);
+    check!(&rt; holding == Ok(17 + REQUESTS));
 }

@@ -1,7 +1,7 @@
 // What the demo of the jumbled matrix writes, in parts, beside `demo_texts`: its size, its columns, and its plot; the
 // record, the permutations, and the plot of the permuted matrix.
 
-use crate::outcome::demo_texts::{PERMUTATIONS, PERMUTED_PLOT, PLOT, STATISTICS};
+use crate::demo_texts::{PERMUTATIONS, PERMUTED_PLOT, PLOT, STATISTICS};
 
 /// The same of the demo of its jumbled form, which has no exact factor.
 pub const JUMBLED: [&str; 9] = [

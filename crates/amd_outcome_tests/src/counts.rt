@@ -1,9 +1,9 @@
 // The counts of the columns: on worked matrices, with each request refused in turn, and where the input or the order is
 // none. And whether counts are those of a factor that searches for paths find; called by `comparison`.
 
-use crate::outcome::orders::NO_ORDERS;
-use crate::outcome::refusals::NO_FORMS;
-use crate::outcome::worked::{FOUR_CYCLE, FactorCase, WORKED};
+use crate::orders::NO_ORDERS;
+use crate::refusals::NO_FORMS;
+use crate::worked::{FOUR_CYCLE, FactorCase, WORKED};
 use amd::Control;
 use amd_symbolic::{Counts, Fault, analyze_counts, counts};
 use amd_testing::check;
