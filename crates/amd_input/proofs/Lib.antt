@@ -8,3 +8,4 @@ pub mod ColumnCounts
 pub mod PrefixSums
 pub mod ColumnLists
 pub mod RowForms
+pub mod MirroredRows

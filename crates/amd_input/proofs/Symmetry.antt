@@ -16,7 +16,7 @@ use Rattle.amd_edges.proofs.Forms.{IsSortedForm, sorted_form, same_pair, pointer
 use Rattle.amd_edges.proofs.Places.{before_none, before_more}
 use Rattle.amd_edges.proofs.Arcs.{count_more}
 
-abbrev one_if : Bool → ℕ
+abbrev pub one_if : Bool → ℕ
 one_if b = cond b 1 0
 
 -- sums of terms that are at most others, and no less in all, are term by term the same
@@ -48,7 +48,7 @@ module _ (n : ℕ) (ap' ai : List ℕ) (form : IsSortedForm n ap' ai) where
       rw e (omega (arith, more, before))
 
   -- a column has as many rows as places
-  column_count : (j : ℕ) → j < n → get_or ap' j 0 + count_below n (λ i. is_entry n ap' ai i j) ≡ get_or ap' (j + 1) 0
+  pub column_count : (j : ℕ) → j < n → get_or ap' j 0 + count_below n (λ i. is_entry n ap' ai i j) ≡ get_or ap' (j + 1) 0
   unfolding is_entry
   column_count j h =
       let up = form.rising j h in
@@ -71,11 +71,11 @@ module _ (n : ℕ) (pair : ℕ → ℕ → Bool) where
   arc i j = not (eqb i j) && (pair i j || pair j i)
 
   -- the pairs off the diagonal, seen from the column
-  off : ℕ → ℕ → Bool
+  unfoldable pub off : ℕ → ℕ → Bool
   off j i = not (eqb j i) && pair i j
 
   -- the rows of a column off the diagonal, with the one on it
-  off_count : (j : ℕ) → j < n → count_below n (λ i. pair i j) ≡ count_below n (off j) + one_if (pair j j)
+  pub off_count : (j : ℕ) → j < n → count_below n (λ i. pair i j) ≡ count_below n (off j) + one_if (pair j j)
   unfolding off
   off_count j h = elim (cases_Bool (pair j j)) [
     | inl yes' ↦ rw yes' (count_more n (λ i. not (eqb j i) && pair i j) (λ i. pair i j) j h (rw (eq-eqb j j refl) refl)

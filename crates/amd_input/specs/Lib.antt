@@ -3,3 +3,4 @@ pub mod Scans
 pub mod PatternFigures
 pub mod Transposes
 pub mod Degrees
+pub mod Mirrors

@@ -2,19 +2,22 @@
 // and Duff 2004). Called by `order`, and by `facts` of the crate `amd_command`.
 
 ghost use Rattle.std.specs.Prelude.{◌≡◌, ◌<◌, ◌^◌, map, length, slice_index, slice_set, unsigned_abs, IfOk, IfErr};
-ghost use Rattle.std.specs.Prelude.{OnOk, OnErr, SomeIff};
+ghost use Rattle.std.specs.Prelude.{◌≤◌, OnOk, OnErr, SomeIff, pos, replicate};
+ghost use Rattle.std.specs.Vec.{vec_capacity};
 ghost use Rattle.amd_model.specs.Below.{sum_below};
-ghost use Rattle.amd_model.specs.Input.Columns.{IsInput, IsSortedInput};
+ghost use Rattle.amd_model.specs.Input.Columns.{IsColumnForm, IsInput, IsSorted, IsSortedInput};
+ghost use Rattle.amd_model.specs.Input.Pattern.{graph_of, diagonal_count};
 ghost use Rattle.amd_edges.specs.Visits.{AreCounts};
 ghost use Rattle.amd_input.specs.Degrees.{AreDegrees};
 ghost use Rattle.amd_input.specs.PatternFigures.{HasPatternFigures};
 ghost use Rattle.amd_types.specs.declared.amd.Status.TheVariants.{OutOfMemory};
 
+use crate::mirrors::mirrored_degrees;
 use amd_edges::walk::{Visitor, walk};
 use amd_types::amd::{Info, Status};
 use amd_types::internal::{count_at, known_count};
 use num_traits::PrimInt;
-use std::alloc::Allocator;
+use std::alloc::{AllocError, Allocator};
 
 /// The number of arcs of each row.
 #[derive(Drop)]
@@ -45,6 +48,47 @@ impl<A: Allocator> Visitor for DegreeCounter<A> {
     fn end(&mut self, j: usize, mark: usize) {
         self.degrees[j] = mark;
     }
+}
+
+/// Puts `size` zeros in the place of the numbers.
+fn zeros<A: Allocator>(numbers: &mut Vec<usize, A>, size: usize)
+    requires { size ≤ vec_capacity numbers.old }
+    ensures { numbers.new.items ≡ replicate size 0 }
+{
+    numbers.clear();
+    'numbers: for _ in 0..size {
+        numbers.push_reserved(0);
+    }
+}
+
+/// The number of diagonal entries, and the degree of each of `size` rows: from the columns alone where the pattern is
+/// found to be symmetric, and else by a walk over the edges.
+///
+/// # Errors
+///
+/// A refused request for memory.
+fn degrees_of<I: PrimInt, A: Allocator + Copy>(
+    alloc: A,
+    size: usize,
+    a_p: &[I],
+    a_i: &[I],
+) -> Result<(usize, Vec<usize, A>), AllocError>
+    requires form { IsColumnForm (pos size) size (map I.value a_p.now) (map I.value a_i.now) }
+    requires sorted { IsSorted size (map I.value a_p.now) (map I.value a_i.now) }
+    ensures diagonals { IfOk result (λ r. r.0 ≡ diagonal_count size (map I.value a_p.now) (map I.value a_i.now)) }
+    ensures degrees { IfOk result (λ r. AreCounts (graph_of size (map I.value a_p.now) (map I.value a_i.now))
+        ((graph_of size (map I.value a_p.now) (map I.value a_i.now)).edge) r.1.items) }
+{
+    let mut next = Vec::with_capacity(alloc, size)?;
+    let mut degrees = Vec::with_capacity(alloc, size)?;
+    if let Some(diagonals) = mirrored_degrees(size, a_p, a_i, &mut next, &mut degrees) {
+        return Ok((diagonals, degrees));
+    }
+    next.clear();
+    zeros(&mut degrees, size);
+    let mut counts = DegreeCounter { degrees };
+    let diagonals = walk(size, a_p, a_i, &mut next, &mut counts);
+    Ok((diagonals, counts.degrees))
 }
 
 /// The sum of the numbers, where it is at most the greatest `usize`.
@@ -100,11 +144,8 @@ pub fn aat<I: PrimInt, A: Allocator + Copy>(
 {
     let size = known_count(n);
     let entries = count_at(a_p, size);
-    let mut next = Vec::with_capacity(alloc, size)?;
-    let degrees = vec![in alloc; 0; size]?;
-    let mut counts = DegreeCounter { degrees };
-    let diagonals = walk(size, a_p, a_i, &mut next, &mut counts);
-    let Some(sum) = total(&counts.degrees) else {
+    let (diagonals, degrees) = degrees_of(alloc, size, a_p, a_i)?;
+    let Some(sum) = total(&degrees) else {
         return Err(Status::OutOfMemory);
     };
     info.n = size;
@@ -112,5 +153,5 @@ pub fn aat<I: PrimInt, A: Allocator + Copy>(
     info.nz_diag = diagonals;
     info.nz_a_plus_at = sum;
     info.symmetry = sum == entries - diagonals;
-    Ok((sum, counts.degrees))
+    Ok((sum, degrees))
 }

@@ -3,5 +3,6 @@
 #![tactic(auto)]
 
 pub mod aat;
+mod mirrors;
 pub mod preprocess;
 pub mod valid;

@@ -7,7 +7,6 @@ use Rattle.amd_model.specs.Input.Pattern.{graph_of, diagonal_count}
 use Rattle.amd_types.specs.Counts.{counts}
 use Rattle.amd_edges.proofs.Forms.{pointer_fits}
 use Rattle.amd_edges.specs.Visits.{AreCounts}
-use Rattle.amd_input.proofs.Counting.{zeros_of, counts_none}
 use Rattle.amd_input.proofs.PatternLemmas.{input_form, input_sorted, input_fits, degrees_are, figures_are, diagonal_within}
 use Rattle.amd_input.proofs.aat.aat.Goals as goal
 
@@ -15,24 +14,16 @@ pub known_count-size-requires : goal.known_count-size-requires
 known_count-size-requires g c = input_fits (g.I.Number.value c.args.n) (map g.I.Number.value c.args.a_p.now)
     (map g.I.Number.value c.args.a_i.now) c.requires.form (simp length-map (omega arith))
 
-pub walk-diagonals-requires-clause-form : goal.walk-diagonals-requires-clause-form
-walk-diagonals-requires-clause-form g c =
+pub degrees_of-requires-clause-form : goal.degrees_of-requires-clause-form
+degrees_of-requires-clause-form g c =
     let ap' : List ℤ = map g.I.Number.value c.args.a_p.now in let ai : List ℤ = map g.I.Number.value c.args.a_i.now in
     subst (λ k. IsColumnForm (pos k) k ap' ai) (sym c.known_count-size.ensures)
     (input_form (g.I.Number.value c.args.n) ap' ai c.requires.form)
 
-pub walk-diagonals-requires-clause-sorted : goal.walk-diagonals-requires-clause-sorted
-walk-diagonals-requires-clause-sorted g c =
+pub degrees_of-requires-clause-sorted : goal.degrees_of-requires-clause-sorted
+degrees_of-requires-clause-sorted g c =
     let ap' : List ℤ = map g.I.Number.value c.args.a_p.now in let ai : List ℤ = map g.I.Number.value c.args.a_i.now in
     subst (λ k. IsSorted k ap' ai) (sym c.known_count-size.ensures) (input_sorted (g.I.Number.value c.args.n) ap' ai c.requires.sorted)
-
-pub walk-diagonals-requires-clause-held : goal.walk-diagonals-requires-clause-held
-unfolding graph_of
-walk-diagonals-requires-clause-held g c =
-    let none = zeros_of c.known_count-size.result c.in_ok-degrees.degrees.items (c.in_ok-degrees.ensures.items_if_clones_equal (λ y h. h))
-    in
-    counts_none (graph_of c.known_count-size.result (map g.I.Number.value c.args.a_p.now) (map g.I.Number.value c.args.a_i.now))
-    c.in_ok-degrees.degrees.items none.0 none.1
 
 pub count_at-entries-requires : goal.count_at-entries-requires
 count_at-entries-requires g c =
@@ -53,8 +44,8 @@ overflow_sub-info g c =
     let ap' : List ℤ = map g.I.Number.value c.args.a_p.now in let ai : List ℤ = map g.I.Number.value c.args.a_i.now in
     let size = c.known_count-size.ensures in
     diagonal_within n ap' ai (input_form (g.I.Number.value c.args.n) ap' ai c.requires.form)
-    (input_sorted (g.I.Number.value c.args.n) ap' ai c.requires.sorted) c.walk-diagonals.result c.count_at-entries.result
-    (subst (λ k. c.walk-diagonals.result ≡ diagonal_count k ap' ai) size c.walk-diagonals.ensures.diagonals)
+    (input_sorted (g.I.Number.value c.args.n) ap' ai c.requires.sorted) c.in_ok-diagonals.diagonals c.count_at-entries.result
+    (subst (λ k. c.in_ok-diagonals.diagonals ≡ diagonal_count k ap' ai) size c.in_ok-diagonals.ensures.diagonals)
     (subst (λ k. c.count_at-entries.result ≡ get_or (counts ap') k 0) size c.count_at-entries.ensures.count)
 
 pub returns : goal.returns
@@ -62,8 +53,8 @@ returns g c =
     let n : ℕ = unsigned_abs (g.I.Number.value c.args.n) in
     let ap' : List ℤ = map g.I.Number.value c.args.a_p.now in let ai : List ℤ = map g.I.Number.value c.args.a_i.now in
     let size = c.known_count-size.ensures in
-    let numbers : List ℕ = c.walk-diagonals.new.visitor.degrees.items in
-    let held = subst (λ k. AreCounts (graph_of k ap' ai) ((graph_of k ap' ai).edge) numbers) size c.walk-diagonals.ensures.held in
+    let numbers : List ℕ = c.in_ok-diagonals.degrees.items in
+    let held = subst (λ k. AreCounts (graph_of k ap' ai) ((graph_of k ap' ai).edge) numbers) size c.in_ok-diagonals.ensures.degrees in
     let degrees = degrees_are n ap' ai numbers c.in-Some.sum held
     (subst (λ l. c.in-Some.sum ≡ sum_below (length l) (λ k. get_or l k 0)) c.deref.ensures.value c.in-Some.ensures.1) in
     record {
@@ -71,7 +62,7 @@ returns g c =
       figures = figures_are n ap' ai (input_form (g.I.Number.value c.args.n) ap' ai c.requires.form)
           (input_sorted (g.I.Number.value c.args.n) ap' ai c.requires.sorted) _ size
           (subst (λ k. c.count_at-entries.result ≡ get_or (counts ap') k 0) size c.count_at-entries.ensures.count)
-          (subst (λ k. c.walk-diagonals.result ≡ diagonal_count k ap' ai) size c.walk-diagonals.ensures.diagonals) degrees.sum refl;
+          (subst (λ k. c.in_ok-diagonals.diagonals ≡ diagonal_count k ap' ai) size c.in_ok-diagonals.ensures.diagonals) degrees.sum refl;
       others = refl;
       refused = tt;
       unchanged = tt;

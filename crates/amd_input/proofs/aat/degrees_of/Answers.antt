@@ -1,0 +1,12 @@
+-- the goals of aat::degrees_of.
+use Rattle.std.proofs.Common.{map}
+use Rattle.amd_model.specs.Input.Pattern.{graph_of}
+use Rattle.amd_input.proofs.Counting.{zeros_of, counts_none}
+use Rattle.amd_input.proofs.aat.degrees_of.Goals as goal
+
+pub walk-diagonals-requires-clause-held : goal.walk-diagonals-requires-clause-held
+unfolding graph_of
+walk-diagonals-requires-clause-held g c =
+    let none = zeros_of c.args.size c.zeros.new.numbers.items c.zeros.ensures in
+    counts_none (graph_of c.args.size (map g.I.Number.value c.args.a_p.now) (map g.I.Number.value c.args.a_i.now))
+    c.zeros.new.numbers.items none.0 none.1

@@ -1,0 +1,67 @@
+-- the goals of mirrors::mirrored_degrees.
+use Rattle.std.proofs.Common.{◌≡◌, ◌+◌, suc, map, get_or, arith, ap, sym, refl, ◌∙◌, subst, add-one}
+use Rattle.amd_model.specs.Below.{sum_below, count_below}
+use Rattle.amd_types.specs.Counts.{counts, is_entry}
+use Rattle.amd_edges.specs.Visits.{AreCounts}
+use Rattle.amd_edges.proofs.Forms.{sorted_form, same_graph, same_diagonals}
+use Rattle.amd_input.specs.Mirrors.{HaveMirrors, CountOthers}
+use Rattle.amd_input.proofs.Symmetry.{one_if}
+use Rattle.amd_input.proofs.MirroredRows.{mirrors_none, others_none, mirrors_all, others_are}
+use Rattle.amd_input.proofs.mirrors.mirrored_degrees.Goals as goal
+use Rattle.amd_input.proofs.mirrors.mirrored_degrees.Goals.{then-diagonal, else-diagonal}
+
+pub columns-init : goal.columns-init
+unfolding count_below sum_below
+columns-init g c =
+    let ap' = counts (map g.I.Number.value c.args.a_p.now) in let ai = counts (map g.I.Number.value c.args.a_i.now) in record {
+      count = refl;
+      small = omega arith;
+      next = refl;
+      degrees = refl;
+      read = mirrors_none c.args.size ap' ai c.args.next.now.items c.requires.empty.0;
+      others = others_none c.args.size ap' ai c.args.degrees.now.items c.requires.empty.1;
+    }
+
+pub columns-preserved : goal.columns-preserved
+unfolding count_below sum_below
+columns-preserved g c =
+    let i = c.columns.invariant in let e = c.in-Some.ensures in let n = c.args.size in let k = c.columns.k in
+    let ap' = counts (map g.I.Number.value c.args.a_p.now) in let ai = counts (map g.I.Number.value c.args.a_i.now) in
+    let last : count_below (suc k) (λ j. is_entry n ap' ai j j) ≡ one_if (is_entry n ap' ai k k) + count_below k (λ j. is_entry n ap' ai j j)
+    = refl in
+    let here : one_if c.in-Some.diagonal ≡ one_if (is_entry n ap' ai k k) = ap one_if e.diagonal in
+    let plus : c.if-diagonal.diagonals ≡ c.columns.diagonals + one_if c.in-Some.diagonal = elim c.if-diagonal.branch [
+      | then-diagonal w ↦ (let d = w.diagonals-is in let b = ap one_if w.if-diagonal.true in omega (arith, d, b))
+      | else-diagonal w ↦ (let d = w.diagonals-is in let b = ap one_if w.if-diagonal.false in omega (arith, d, b))
+    ] in
+    record {
+      count = (let x = i.count in rw add-one (omega (arith, last, here, plus, x)));
+      small = elim c.if-diagonal.branch [
+        | then-diagonal w ↦ (let y = w.diagonals-is in let x = i.small in omega (arith, x, y))
+        | else-diagonal w ↦ (let y = w.diagonals-is in let x = i.small in omega (arith, x, y))
+      ];
+      next = e.room.0 ∙ i.next;
+      degrees = e.room.1 ∙ i.degrees;
+      read = e.read;
+      others = e.others;
+    }
+
+pub returns-then-all_read-clause-degrees : goal.returns-then-all_read-clause-degrees
+returns-then-all_read-clause-degrees g c =
+    let n = c.args.size in let i = c.columns.invariant in let r = c.requires in
+    let az = map g.I.Number.value c.args.a_p.now in let bz = map g.I.Number.value c.args.a_i.now in
+    let ap' = counts az in let ai = counts bz in let form = sorted_form n az bz r.form r.sorted in
+    let end : c.columns.k ≡ n = (let x = c.columns-test.false in let y = c.columns.auto.k-end in omega (arith, x, y)) in
+    let t = c.columns.next.items in let numbers = c.columns.degrees.items in
+    let mirror = mirrors_all n ap' ai form t (subst (λ z. HaveMirrors n ap' ai t z 0) end i.read)
+    (λ j l. ap (λ xs. get_or xs j 0) (sym c.deref.ensures.value) ∙ c.all_read.ensures c.if-all_read.true j l) in
+    subst (λ h. AreCounts h h.edge numbers) (sym (same_graph n az bz r.form))
+    (others_are n ap' ai mirror numbers (subst (λ z. CountOthers n ap' ai z numbers) end i.others))
+
+pub returns-then-all_read-clause-diagonals : goal.returns-then-all_read-clause-diagonals
+returns-then-all_read-clause-diagonals g c =
+    let n = c.args.size in
+    let az = map g.I.Number.value c.args.a_p.now in let bz = map g.I.Number.value c.args.a_i.now in
+    let end : c.columns.k ≡ n = (let x = c.columns-test.false in let y = c.columns.auto.k-end in omega (arith, x, y)) in
+    subst (λ z. c.columns.diagonals ≡ count_below z (λ j. is_entry n (counts az) (counts bz) j j)) end c.columns.invariant.count
+    ∙ sym (same_diagonals n az bz c.requires.form)
