@@ -22,7 +22,7 @@ use Rattle.amd_workspace.proofs.Layings.{words_next}
 use Rattle.amd_workspace.proofs.SymmetricLists.{own}
 
 module _ (n : ℕ) (ap' ai : List ℕ) (form : IsSortedForm n ap' ai) (i stop : ℕ) (i_in : i < n) (stop_is : stop ≡ get_or ap' (i + 1) 0) where
-  own_rest : (d m p : ℕ) → stop ≡ p + d → i < m → IsReading ai (get_or ap' i 0) stop n m p →
+  pub own_rest : (d m p : ℕ) → stop ≡ p + d → i < m → IsReading ai (get_or ap' i 0) stop n m p →
       list_below n (own (is_entry n ap' ai) i) ≡ list_below m (own (is_entry n ap' ai) i) ++ take d (drop p ai)
   own_rest zero m p e above so = others_end n ap' ai form i stop m p i_in stop_is so (omega (arith, e)) ∙ sym (append-nil _)
   own_rest (suc d) m p e above so =

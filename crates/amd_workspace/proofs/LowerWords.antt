@@ -59,7 +59,7 @@ replicate_rows n j count j_in k = elim (cases_lt k count) [
       (let size = length-replicate count (pos j) in omega (arith, size, l))) (omega (arith, j_in))
 ]
 
-column_rows : (n : ℕ) (p : ℕ → Bool) → 0 < n → HoldRows n (map pos (list_below n p))
+pub column_rows : (n : ℕ) (p : ℕ → Bool) → 0 < n → HoldRows n (map pos (list_below n p))
 column_rows n p some k = elim (cases_lt k (length (list_below n p))) [
   | inl l ↦ row_word n _ (get_or (list_below n p) k 0) (get_or-map pos (list_below n p) k 0 (pos 0) l) (nth_below n p k l).small
   | inr l ↦ row_word n _ 0 (get_or_past (map pos (list_below n p)) k (pos 0)
@@ -77,7 +77,7 @@ rows_behind_part xs ys (suc c) l =
     ap (λ zs. zs ++ place (word (xs ++ map pos ys) (length xs + c)) ∷ []) (rows_behind_part xs ys c (omega (arith, l)))
     ∙ ap (λ z. take c ys ++ z ∷ []) here ∙ sym (take_more ys c 0 (omega (arith, l))) ∙ ap (λ k. take k ys) (sym e)
 
-rows_behind : (xs : List ℤ) (ys : List ℕ) → rows (xs ++ map pos ys) (length xs) (length ys) ≡ ys
+pub rows_behind : (xs : List ℤ) (ys : List ℕ) → rows (xs ++ map pos ys) (length xs) (length ys) ≡ ys
 rows_behind xs ys = rows_behind_part xs ys (length ys) (omega arith) ∙ take_all (length ys) ys (omega arith)
 
 -- row j is written behind the earlier neighbours of the first k rows of its own column

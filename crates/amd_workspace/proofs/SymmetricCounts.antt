@@ -62,11 +62,10 @@ module _ (n : ℕ) (ap' ai : List ℤ) where
         ])
   ]
 
-  pub others_room : (i free long : ℕ) → i < n → free ≡ start_of (graph_of n ap' ai) i → start_of (graph_of n ap' ai) n < long →
-      free + count_below n (is_other n ap' ai i) < long
+  pub others_room : (i free : ℕ) → i < n → free ≡ start_of (graph_of n ap' ai) i →
+      free + count_below n (is_other n ap' ai i) ≤ start_of (graph_of n ap' ai) n
   unfolding edge graph_of
-  others_room i free long l is room = let few = others_few i in let later = start_later (graph_of n ap' ai) i n l in
-      omega (arith, is, room, few, later)
+  others_room i free l is = let few = others_few i in let later = start_later (graph_of n ap' ai) i n l in omega (arith, is, few, later)
 
   -- where the next list starts
   pub next_start : (i : ℕ) → start_of (graph_of n ap' ai) (i + 1) ≡ start_of (graph_of n ap' ai) i + count_below n ((graph_of n ap'

@@ -1,9 +1,10 @@
 // The lists of a symmetric pattern. In the order in which the walk over the edges meets its neighbours, the list of a
-// row is its column in ascending order without the diagonal entry, so all lists can be copied one after another. The
+// row is its column in ascending order without the diagonal entry, so all lists can be appended one after another. The
 // degrees say whether a pattern is symmetric: it is where no row has more neighbours than its column says. Source:
 // Amestoy, Davis and Duff 2004 (the forming of A + A'). Called by `laying`.
 
-ghost use Rattle.std.specs.Prelude.{◌≡◌, ◌<◌, ◌≤◌, ◌+◌, ◌-◌, ℕ, ℤ, List, true, map, length, pos, slice_index};
+ghost use Rattle.std.specs.Prelude.{◌≡◌, ◌<◌, ◌≤◌, ◌+◌, ◌++◌, ℕ, true, map, length, pos, slice_index};
+ghost use Rattle.std.specs.Vec.{vec_capacity};
 ghost use Rattle.amd_model.specs.Below.{count_below, list_below};
 ghost use Rattle.amd_model.specs.Input.Columns.{IsColumnForm, IsSorted};
 ghost use Rattle.amd_model.specs.Input.Pattern.{graph_of, is_pair, IsSymmetric};
@@ -11,28 +12,28 @@ ghost use Rattle.amd_model.specs.Quotient.{starting_list};
 ghost use Rattle.amd_types.specs.Counts.{counts};
 ghost use Rattle.amd_edges.specs.Visits.{AreCounts, start_of};
 ghost use Rattle.amd_words.specs.Words.{num, rows};
-ghost use Rattle.amd_workspace.specs.Copying.{is_other, HoldRows, Copies};
+ghost use Rattle.amd_workspace.specs.Copying.{is_other, HoldRows};
 
+use crate::lower::push_column;
 use amd_types::internal::count_at;
-use amd_words::words::put_row;
-use amd_words::{Signed, Word};
+use amd_words::{Signed, Word, word_of};
 use num_traits::PrimInt;
+use std::alloc::Allocator;
 
-/// Copies the rows of column `i`, one of `size`, that are before `i`, to the words from `free` on. Returns the place in
-/// `a_i` of the first row of that column that is not, or the end of the column.
-fn copy_before<I: PrimInt, S: Signed>(
+/// Appends the rows of column `i`, one of `size`, that are before `i`. Returns the place in `a_i` of the first row of
+/// that column that is not, or the end of the column.
+fn push_before<I: PrimInt, S: Signed, A: Allocator>(
     size: usize,
     i: usize,
     a_p: &[I],
     a_i: &[I],
-    iw: &mut [Word<S>],
-    free: usize,
+    iw: &mut Vec<Word<S>, A>,
 ) -> usize
     requires form { IsColumnForm (pos size) size (map I.value a_p.now) (map I.value a_i.now) }
     requires sorted { IsSorted size (map I.value a_p.now) (map I.value a_i.now) }
     requires row { i < size }
-    requires room { free + count_below size (is_other size (map I.value a_p.now) (map I.value a_i.now) i) <
-        length iw.old }
+    requires room { length iw.old.items + count_below size (is_other size (map I.value a_p.now) (map I.value a_i.now) i)
+        ≤ vec_capacity iw.old }
     requires fits { size ≤ S.MOST }
     ensures from { slice_index (counts (map I.value a_p.now)) i ≤ result }
     ensures to { result ≤ slice_index (counts (map I.value a_p.now)) (i + 1) }
@@ -40,112 +41,77 @@ fn copy_before<I: PrimInt, S: Signed>(
         slice_index (counts (map I.value a_i.now)) r < i }
     ensures behind { (r : ℕ) → result ≤ r → r < slice_index (counts (map I.value a_p.now)) (i + 1) →
         i ≤ slice_index (counts (map I.value a_i.now)) r }
-    ensures copies { Copies size free (list_below i (is_other size (map I.value a_p.now) (map I.value a_i.now) i))
-        iw.old iw.new (free + (result - slice_index (counts (map I.value a_p.now)) i)) }
+    ensures items { iw.new.items ≡
+        iw.old.items ++ map pos (list_below i (is_other size (map I.value a_p.now) (map I.value a_i.now) i)) }
+    ensures capacity { vec_capacity iw.old ≤ vec_capacity iw.new }
 {
     let stop = count_at(a_p, i + 1);
     let mut place = count_at(a_p, i);
-    let mut end = free;
     'rows: while place < stop && count_at(a_i, place) < i {
-        put_row(iw, end, count_at(a_i, place));
-        end += 1;
+        iw.push_reserved(word_of(count_at(a_i, place) as isize));
         place += 1;
     }
     place
 }
 
-/// Copies the rows of column `i`, one of `size`, that are behind `i`, which are those at the places from `first` on, to
-/// the words from `free` on, where those before `i` end. Returns where they end.
-fn copy_behind<I: PrimInt, S: Signed>(
+/// Appends the rows of column `i`, one of `size`, but `i` itself.
+fn push_others<I: PrimInt, S: Signed, A: Allocator>(
     size: usize,
     i: usize,
     a_p: &[I],
     a_i: &[I],
-    first: usize,
-    iw: &mut [Word<S>],
-    free: usize,
-) -> usize
-    requires form { IsColumnForm (pos size) size (map I.value a_p.now) (map I.value a_i.now) }
-    requires sorted { IsSorted size (map I.value a_p.now) (map I.value a_i.now) }
-    requires row { i < size }
-    requires from { slice_index (counts (map I.value a_p.now)) i ≤ first }
-    requires to { first ≤ slice_index (counts (map I.value a_p.now)) (i + 1) }
-    requires before { (r : ℕ) → slice_index (counts (map I.value a_p.now)) i ≤ r → r < first →
-        slice_index (counts (map I.value a_i.now)) r ≤ i }
-    requires behind { (r : ℕ) → first ≤ r → r < slice_index (counts (map I.value a_p.now)) (i + 1) →
-        i < slice_index (counts (map I.value a_i.now)) r }
-    requires copied { (from : ℕ) × (old : List ℤ) ×
-        Copies size from (list_below i (is_other size (map I.value a_p.now) (map I.value a_i.now) i)) old iw.old free ×
-        (from + count_below size (is_other size (map I.value a_p.now) (map I.value a_i.now) i) < length old) }
-    requires fits { size ≤ S.MOST }
-    ensures copies { (from : ℕ) (old : List ℤ) →
-        Copies size from (list_below i (is_other size (map I.value a_p.now) (map I.value a_i.now) i)) old iw.old free →
-        Copies size from (list_below size (is_other size (map I.value a_p.now) (map I.value a_i.now) i)) old iw.new
-        result }
-{
-    let stop = count_at(a_p, i + 1);
-    let mut end = free;
-    'rows: for place in first..stop {
-        put_row(iw, end, count_at(a_i, place));
-        end += 1;
-    }
-    end
-}
-
-/// Copies the rows of column `i`, one of `size`, but `i` itself, to the words from `free` on. Returns where they end.
-fn copy_column<I: PrimInt, S: Signed>(
-    size: usize,
-    i: usize,
-    a_p: &[I],
-    a_i: &[I],
-    iw: &mut [Word<S>],
-    free: usize,
-) -> usize
+    iw: &mut Vec<Word<S>, A>,
+)
     requires row { i < size }
     requires fits { size ≤ S.MOST }
     requires form { IsColumnForm (pos size) size (map I.value a_p.now) (map I.value a_i.now) }
     requires sorted { IsSorted size (map I.value a_p.now) (map I.value a_i.now) }
-    requires room { free + count_below size (is_other size (map I.value a_p.now) (map I.value a_i.now) i) <
-        length iw.old }
-    ensures copies { Copies size free
-        (list_below size (is_other size (map I.value a_p.now) (map I.value a_i.now) i)) iw.old iw.new result }
+    requires room { length iw.old.items + count_below size (is_other size (map I.value a_p.now) (map I.value a_i.now) i)
+        ≤ vec_capacity iw.old }
+    ensures items { iw.new.items ≡
+        iw.old.items ++ map pos (list_below size (is_other size (map I.value a_p.now) (map I.value a_i.now) i)) }
+    ensures capacity { vec_capacity iw.old ≤ vec_capacity iw.new }
 {
-    let place = copy_before(size, i, a_p, a_i, iw, free);
-    let end = free + (place - count_at(a_p, i));
+    let place = push_before(size, i, a_p, a_i, iw);
     let stop = count_at(a_p, i + 1);
     let mut first = place;
     if place < stop && count_at(a_i, place) == i {
         first += 1;
     }
-    copy_behind(size, i, a_p, a_i, first, iw, end)
+    push_column(size, a_p, a_i, i, first, iw);
 }
 
-/// Copies the columns of a symmetric pattern of `size` rows to the words, one after another, each without its diagonal
-/// entry, and says whether the pattern is symmetric. If it is not, the words name some rows.
-pub fn copy_symmetric<I: PrimInt, S: Signed>(
+/// Appends the columns of a symmetric pattern of `size` rows to an empty list of words, each without its diagonal entry,
+/// and says whether the pattern is symmetric. If it is not, the words name some rows.
+pub fn copy_symmetric<I: PrimInt, S: Signed, A: Allocator>(
     size: usize,
     a_p: &[I],
     a_i: &[I],
     degrees: &[usize],
-    iw: &mut [Word<S>],
+    iw: &mut Vec<Word<S>, A>,
 ) -> bool
     requires form { IsColumnForm (pos size) size (map I.value a_p.now) (map I.value a_i.now) }
     requires sorted { IsSorted size (map I.value a_p.now) (map I.value a_i.now) }
     requires degrees { AreCounts (graph_of size (map I.value a_p.now) (map I.value a_i.now))
         ((graph_of size (map I.value a_p.now) (map I.value a_i.now)).edge) degrees.now }
-    requires room { start_of (graph_of size (map I.value a_p.now) (map I.value a_i.now)) size < length iw.old }
+    requires empty { length iw.old.items ≡ 0 }
+    requires room { start_of (graph_of size (map I.value a_p.now) (map I.value a_i.now)) size ≤ vec_capacity iw.old }
     requires fits { size ≤ S.MOST }
-    ensures long { length iw.new ≡ length iw.old }
-    ensures words { HoldRows size iw.old → HoldRows size iw.new }
+    ensures long { length iw.new.items ≤ start_of (graph_of size (map I.value a_p.now) (map I.value a_i.now)) size }
+    ensures words { HoldRows size iw.old.items → HoldRows size iw.new.items }
+    ensures capacity { vec_capacity iw.old ≤ vec_capacity iw.new }
     ensures symmetric { (result ≡ true → IsSymmetric size (map I.value a_p.now) (map I.value a_i.now)) ×
         (IsSymmetric size (map I.value a_p.now) (map I.value a_i.now) → result ≡ true) }
+    ensures all { result ≡ true →
+        start_of (graph_of size (map I.value a_p.now) (map I.value a_i.now)) size ≤ length iw.new.items }
     ensures lists { result ≡ true → (i : ℕ) → i < size →
-        rows iw.new (start_of (graph_of size (map I.value a_p.now) (map I.value a_i.now)) i) (num degrees.now i) ≡
+        rows iw.new.items (start_of (graph_of size (map I.value a_p.now) (map I.value a_i.now)) i) (num degrees.now i) ≡
         starting_list size (is_pair size (map I.value a_p.now) (map I.value a_i.now)) i }
 {
     let mut free = 0;
     'columns: for i in 0..size {
-        let end = copy_column(size, i, a_p, a_i, iw, free);
+        push_others(size, i, a_p, a_i, iw);
+        let end = iw.len();
         if end - free != degrees[i] {
             return false;
         }

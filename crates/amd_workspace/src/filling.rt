@@ -1,4 +1,4 @@
-// Fresh lists of a workspace, filled with one number. Called by `laying`, and by `fresh` of the crate `amd_engine`.
+// Fresh lists of a workspace, filled with one number. Called by `fresh` of the crate `amd_engine`.
 
 ghost use Rattle.std.specs.Prelude.{◌≡◌, ◌≤◌, ℕ, replicate, unsigned_abs, IfOk};
 

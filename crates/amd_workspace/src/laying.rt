@@ -16,8 +16,7 @@ ghost use Rattle.amd_workspace.specs.Laying.{IsLaidOut, Lays, Starts};
 ghost use Rattle.amd_workspace.specs.Lower.{own_start};
 
 use crate::copying::copy_symmetric;
-use crate::filling::words;
-use crate::lower::{has_long_lower, lower_lists};
+use crate::lower::{has_long_lower, lower_lists, push_rows};
 use amd_edges::walk::{Visitor, walk};
 use amd_words::words::put_row;
 use amd_words::{Cell, Signed, Unsigned, Word, cell_at, cell_of, put_cell, word_of};
@@ -148,9 +147,12 @@ fn general_lists<I: PrimInt, S: Signed, U: Unsigned, A: Allocator>(
         rows v.items (own_start size (map I.value a_p.now) (map I.value a_i.now) i) (num degrees.now i) ≡
         starting_list size (is_pair size (map I.value a_p.now) (map I.value a_i.now)) i) }
 {
+    let mut iw = Vec::with_capacity(alloc, room)?;
+    let copied = copy_symmetric(size, a_p, a_i, degrees, &mut iw);
     // Each word names a row. It is not 0: a loop of stores is faster here than the `memset` that zeros would become.
-    let mut iw = words(alloc, room, (size - 1) as isize)?;
-    if copy_symmetric(size, a_p, a_i, degrees, &mut iw) {
+    let rest = room - iw.len();
+    push_rows(&mut iw, size - 1, rest);
+    if copied {
         return Ok(iw);
     }
     let mut list = Words { next, iw };

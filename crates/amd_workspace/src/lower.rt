@@ -94,7 +94,7 @@ fn own_first<I: PrimInt>(size: usize, a_p: &[I], a_i: &[I], j: usize) -> usize
 }
 
 /// Appends a row to the words, `count` times.
-fn push_rows<S: Signed, A: Allocator>(iw: &mut Vec<Word<S>, A>, row: usize, count: usize)
+pub fn push_rows<S: Signed, A: Allocator>(iw: &mut Vec<Word<S>, A>, row: usize, count: usize)
     requires room { length iw.old.items + count ≤ vec_capacity iw.old }
     requires small { row ≤ S.MOST }
     ensures items { iw.new.items ≡ iw.old.items ++ replicate count (pos row) }
@@ -106,7 +106,7 @@ fn push_rows<S: Signed, A: Allocator>(iw: &mut Vec<Word<S>, A>, row: usize, coun
 }
 
 /// Appends the rows of column `j`, one of `size`, from the place `first` of `a_i` on.
-fn push_column<I: PrimInt, S: Signed, A: Allocator>(
+pub fn push_column<I: PrimInt, S: Signed, A: Allocator>(
     size: usize,
     a_p: &[I],
     a_i: &[I],

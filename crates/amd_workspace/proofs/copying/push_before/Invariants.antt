@@ -1,19 +1,18 @@
-use Rattle.std.proofs.Common.{◌≡◌, ◌+◌, ◌-◌, ◌≤◌, ℕ, map, get_or}
+use Rattle.std.proofs.Common.{◌≡◌, ◌≤◌, ◌-◌, ◌++◌, ℕ, map, pos, get_or}
+use Rattle.std.specs.Vec.{vec_capacity}
 use Rattle.amd_model.specs.Below.{list_below}
 use Rattle.amd_types.specs.Counts.{counts, is_entry}
 use Rattle.amd_edges.proofs.Reading.{IsReading}
-use Rattle.amd_workspace.specs.Copying.{Copies}
 use Rattle.amd_workspace.proofs.SymmetricLists.{own}
-use Rattle.amd_workspace.proofs.copying.copy_before.Given as goal
+use Rattle.amd_workspace.proofs.copying.push_before.Given as goal
 
 abbrev pub invariant-rows : goal.invariant-rows
 invariant-rows g l = (m : ℕ) × record {
   place : IsReading (counts (map g.I.Number.value l.a_i)) (get_or (counts (map g.I.Number.value l.a_p)) l.i 0) l.stop l.size m l.place;
-  copied : Copies l.size l.free
-      (list_below m (own (is_entry l.size (counts (map g.I.Number.value l.a_p)) (counts (map g.I.Number.value l.a_i))) l.i)) l.fn.iw l.iw
-      l.end;
   low : m ≤ l.i;
-  end : l.end + get_or (counts (map g.I.Number.value l.a_p)) l.i 0 ≡ l.free + l.place;
+  capacity : vec_capacity l.fn.iw ≤ vec_capacity l.iw;
+  items : l.iw.items ≡ l.fn.iw.items
+      ++ map pos (list_below m (own (is_entry l.size (counts (map g.I.Number.value l.a_p)) (counts (map g.I.Number.value l.a_i))) l.i));
 }
 
 abbrev pub decreases-rows : goal.decreases-rows

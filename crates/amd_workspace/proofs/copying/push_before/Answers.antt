@@ -1,15 +1,16 @@
 -- The rows before the diagonal, one after another.
-use Rattle.std.proofs.Common.{◌+◌, ◌<◌, ◌^◌, ℕ, ℤ, List, arith, map, get_or, set, pos, sym, subst, le_refl}
-use Rattle.std.proofs.lemmas.List.{length-map}
-use Rattle.amd_model.specs.Below.{list_below}
+use Rattle.std.proofs.Common.{◌+◌, ◌<◌, ◌^◌, ◌++◌, ◌∷◌, [], arith, rules, map, get_or, pos, ap, sym, ◌∙◌, refl, subst}
+use Rattle.std.proofs.Common.{le_refl, length, append_assoc, w64}
+use Rattle.std.proofs.lemmas.Int.{to_z_pos}
+use Rattle.std.proofs.lemmas.List.{length-map, length-append, append-nil}
+use Rattle.amd_model.specs.Below.{count_below, list_below}
 use Rattle.amd_types.specs.Counts.{counts, is_entry}
 use Rattle.amd_edges.proofs.Forms.{pointer_fits, row_fits, place_in, sorted_form}
 use Rattle.amd_edges.proofs.Reading.{reading_start, reading_next, row_below, before_end}
-use Rattle.amd_workspace.specs.Copying.{Copies}
 use Rattle.amd_workspace.proofs.SymmetricLists.{own}
-use Rattle.amd_workspace.proofs.Copied.{copied_none, copied_more, copied_before, end_inside, left_of, others_more}
-use Rattle.amd_workspace.proofs.Copied.{row_small}
-use Rattle.amd_workspace.proofs.copying.copy_before.Goals as goal
+use Rattle.amd_workspace.proofs.Copied.{left_of, others_before, others_more, others_room, row_small, same_other}
+use Rattle.amd_workspace.proofs.Layings.{words_next}
+use Rattle.amd_workspace.proofs.copying.push_before.Goals as goal
 
 pub count_at-stop-requires-clause-fits : goal.count_at-stop-requires-clause-fits
 count_at-stop-requires-clause-fits g c = pointer_fits c.args.size (map g.I.Number.value c.args.a_p.now)
@@ -22,6 +23,7 @@ count_at-place-requires-clause-fits g c = pointer_fits c.args.size (map g.I.Numb
     (subst (λ x. x < 2 ^ 64) (sym (length-map c.args.a_i.now g.I.Number.value)) (omega (arith, c.well_formed)))
 
 pub rows-init : goal.rows-init
+unfolding list_below
 rows-init g c =
     let ap' = map g.I.Number.value c.args.a_p.now in let ai = map g.I.Number.value c.args.a_i.now in let i = c.args.i in
     let form = sorted_form c.args.size ap' ai c.requires.form c.requires.sorted in
@@ -30,9 +32,9 @@ rows-init g c =
       record {
         place = reading_start (counts ai) (get_or (counts ap') i 0) c.count_at-stop.result c.args.size c.count_at-place.result a
             (omega (arith, b, rising));
-        copied = copied_none c.args.size c.args.free (own (is_entry c.args.size (counts ap') (counts ai)) i) c.args.iw.now;
         low = omega arith;
-        end = omega (arith, a);
+        capacity = omega arith;
+        items = sym (append-nil c.args.iw.now.items);
       },
     )
 
@@ -54,25 +56,32 @@ count_at-requires-in-rows-clause-fits g c = row_fits c.args.size (map g.I.Number
     (map g.I.Number.value c.args.a_i.now) c.requires.form c.args.i c.rows.place c.requires.row
     (before_end c.count_at-stop.ensures.count c.rows-test.true) c.ranges.size.fits
 
-pub put_row-requires-clause-inside : goal.put_row-requires-clause-inside
-put_row-requires-clause-inside g c = end_inside c.args.size (map g.I.Number.value c.args.a_p.now) (map g.I.Number.value c.args.a_i.now)
-    c.requires.form c.args.i c.rows.invariant.0 c.args.free c.args.iw.now c.rows.iw c.rows.end c.rows.invariant.1.place.low
-    c.requires.room c.rows.invariant.1.copied
+-- the row that is read, which is before the diagonal
+pub overflow_cast-count_at : goal.overflow_cast-count_at
+overflow_cast-count_at g c =
+    let below = row_below c.count_at.ensures.count c.count_at-in-rows.ensures.count c.if-count_at-i.true in
+    let r = c.requires.row in let fits = c.requires.fits in let n = g.met.S.Signed.narrow in
+    let low : c.count_at-in-rows.result < 2 ^ 63 = omega (arith, below, r, fits, n) in search rules
 
-pub put_row-requires-clause-small : goal.put_row-requires-clause-small
-put_row-requires-clause-small g c =
+pub word_of-requires : goal.word_of-requires
+word_of-requires g c =
+    let below = row_below c.count_at.ensures.count c.count_at-in-rows.ensures.count c.if-count_at-i.true in
+    let r = c.requires.row in let fits = c.requires.fits in let n = g.met.S.Signed.narrow in
+    let low : c.count_at-in-rows.result < 2 ^ 63 = omega (arith, below, r, fits, n) in
+    let is = ap lib.IntN.nat_abs (to_z_pos w64 c.count_at-in-rows.result low) in omega (arith, is, below, r, fits)
+
+pub push_reserved-requires : goal.push_reserved-requires
+push_reserved-requires g c =
     let ap' = map g.I.Number.value c.args.a_p.now in let ai = map g.I.Number.value c.args.a_i.now in
     let form = sorted_form c.args.size ap' ai c.requires.form c.requires.sorted in
-    let small = row_small c.args.size (counts ap') (counts ai) form c.args.i c.count_at-stop.result c.rows.invariant.0 c.rows.place
-    c.requires.row c.count_at-stop.ensures.count c.rows.invariant.1.place c.count_at-in-rows.result c.count_at-in-rows.ensures.count
-    c.rows-test.true in
-    let fits = c.requires.fits in omega (arith, small, fits)
-
-pub overflow_add-end : goal.overflow_add-end
-overflow_add-end g c =
-    let inside = end_inside c.args.size (map g.I.Number.value c.args.a_p.now) (map g.I.Number.value c.args.a_i.now)
-    c.requires.form c.args.i c.rows.invariant.0 c.args.free c.args.iw.now c.rows.iw c.rows.end c.rows.invariant.1.place.low
-    c.requires.room c.rows.invariant.1.copied in let long = c.rows.invariant.1.copied.long in omega (arith, inside, long, c.well_formed)
+    let n = c.args.size in let i = c.args.i in let m = c.rows.invariant.0 in let v = c.rows.invariant.1 in
+    let is = c.count_at-in-rows.ensures.count in let below = row_below c.count_at.ensures.count is c.if-count_at-i.true in
+    let part = list_below m (own (is_entry n (counts ap') (counts ai)) i) in
+    let more = others_room n (counts ap') (counts ai) form i c.count_at-stop.result m c.rows.place c.requires.row
+    c.count_at-stop.ensures.count v.place c.count_at-in-rows.result is c.rows-test.true (λ e. omega (arith, e, below)) in
+    let same = ap (count_below n) (same_other n ap' ai c.requires.form i) in let room = c.requires.room in
+    let whole = ap length v.items in let both = length-append c.args.iw.now.items (map pos part) in let long = length-map part pos in
+    let len = c.rows.iw.ok.0 in let wide = v.capacity in omega (arith, more, same, room, whole, both, long, len, wide)
 
 pub rows-preserved : goal.rows-preserved
 rows-preserved g c =
@@ -80,25 +89,24 @@ rows-preserved g c =
     let form = sorted_form c.args.size ap' ai c.requires.form c.requires.sorted in
     let n = c.args.size in let i = c.args.i in let m = c.rows.invariant.0 in let v = c.rows.invariant.1 in
     let row = c.count_at-in-rows.result in let is = c.count_at-in-rows.ensures.count in let stop = c.count_at-stop.ensures.count in
-    let p = own (is_entry n (counts ap') (counts ai)) i in
     let below = row_below c.count_at.ensures.count is c.if-count_at-i.true in
     let small = row_small n (counts ap') (counts ai) form i c.count_at-stop.result m c.rows.place c.requires.row stop v.place row is
     c.rows-test.true in
-    let inside = end_inside n ap' ai c.requires.form i m c.args.free c.args.iw.now c.rows.iw c.rows.end v.place.low c.requires.room
-    v.copied in
-    let P : List ℕ → List ℤ → ℕ → Type 0 = λ xs iw end. Copies n c.args.free xs c.args.iw.now iw end in
-    let end = v.end in (
+    let r = c.requires.row in let fits = c.requires.fits in let narrow = g.met.S.Signed.narrow in
+    let low : row < 2 ^ 63 = omega (arith, below, r, fits, narrow) in
+    let part = list_below m (own (is_entry n (counts ap') (counts ai)) i) in
+    let e = c.push_reserved.ensures in let old = c.args.iw.now.items in (
       row + 1,
       record {
         place = reading_next n (counts ap') (counts ai) form i (get_or (counts ap') i 0) c.count_at-stop.result n m c.rows.place row
             c.requires.row (le_refl (get_or (counts ap') i 0)) stop v.place is c.rows-test.true small;
-        copied = subst (λ iw. P (list_below (row + 1) p) iw (c.rows.end + 1)) (sym c.put_row.ensures)
-            (subst (λ xs. P xs (set c.rows.iw c.rows.end (pos row)) (c.rows.end + 1))
-            (sym (others_more n (counts ap') (counts ai) form i c.count_at-stop.result m c.rows.place c.requires.row stop v.place row is
-            c.rows-test.true (λ e. omega (arith, e, below))))
-            (copied_more n c.args.free (list_below m p) c.args.iw.now c.rows.iw c.rows.end v.copied row inside small));
         low = omega (arith, below);
-        end = omega (arith, end);
+        capacity = (let x = v.capacity in let y = e.capacity in omega (arith, x, y));
+        items = e.items ∙ ap (λ x. c.rows.iw.items ++ x ∷ []) (c.word_of.ensures ∙ to_z_pos w64 row low)
+            ∙ ap (λ xs. xs ++ pos row ∷ []) v.items ∙ append_assoc old (map pos part) (pos row ∷ [])
+            ∙ ap (λ xs. old ++ xs) (words_next (map pos part) part row refl)
+            ∙ ap (λ xs. old ++ map pos xs) (sym (others_more n (counts ap') (counts ai) form i c.count_at-stop.result m c.rows.place
+            c.requires.row stop v.place row is c.rows-test.true (λ s. omega (arith, s, below))));
       },
     )
 
@@ -111,21 +119,22 @@ returns-else-count_at-i-clause-behind g c =
     c.requires.row ends c.rows.invariant.1.place c.count_at.result c.count_at.ensures.count c.rows-test.true r a
     (omega (arith, b, ends)) in omega (arith, least, past))
 
-pub returns-else-count_at-i-clause-copies : goal.returns-else-count_at-i-clause-copies
-returns-else-count_at-i-clause-copies g c =
+pub returns-else-count_at-i-clause-items : goal.returns-else-count_at-i-clause-items
+returns-else-count_at-i-clause-items g c =
     let ap' = map g.I.Number.value c.args.a_p.now in let ai = map g.I.Number.value c.args.a_i.now in
     let form = sorted_form c.args.size ap' ai c.requires.form c.requires.sorted in
     let v = c.rows.invariant.1 in let ends = c.count_at-stop.ensures.count in let past = c.if-count_at-i.false in
-    copied_before c.args.size ap' ai c.requires.form form c.args.i c.rows.invariant.0 c.count_at-stop.result c.rows.place c.args.free
-    c.args.iw.now c.rows.iw c.rows.end c.requires.row ends v.place v.copied v.low v.end (λ r a b.
+    v.items ∙ ap (λ xs. c.args.iw.now.items ++ map pos xs)
+    (others_before c.args.size ap' ai c.requires.form form c.args.i c.rows.invariant.0 c.count_at-stop.result c.rows.place
+    c.requires.row ends v.place v.low (λ r a b.
     let least = left_of c.args.size (counts ap') (counts ai) form c.args.i c.count_at-stop.result c.rows.invariant.0 c.rows.place
-    c.requires.row ends v.place c.count_at.result c.count_at.ensures.count c.rows-test.true r a b in omega (arith, least, past))
+    c.requires.row ends v.place c.count_at.result c.count_at.ensures.count c.rows-test.true r a b in omega (arith, least, past)))
 
-pub returns-after-rows-clause-copies : goal.returns-after-rows-clause-copies
-returns-after-rows-clause-copies g c =
+pub returns-after-rows-clause-items : goal.returns-after-rows-clause-items
+returns-after-rows-clause-items g c =
     let ap' = map g.I.Number.value c.args.a_p.now in let ai = map g.I.Number.value c.args.a_i.now in
     let form = sorted_form c.args.size ap' ai c.requires.form c.requires.sorted in
     let v = c.rows.invariant.1 in let past = c.rows-test.false in
-    copied_before c.args.size ap' ai c.requires.form form c.args.i c.rows.invariant.0 c.count_at-stop.result c.rows.place c.args.free
-    c.args.iw.now c.rows.iw c.rows.end c.requires.row c.count_at-stop.ensures.count v.place v.copied v.low v.end
-    (λ r a b. absurd (omega (arith, past, a, b)))
+    v.items ∙ ap (λ xs. c.args.iw.now.items ++ map pos xs)
+    (others_before c.args.size ap' ai c.requires.form form c.args.i c.rows.invariant.0 c.count_at-stop.result c.rows.place
+    c.requires.row c.count_at-stop.ensures.count v.place v.low (λ r a b. absurd (omega (arith, past, a, b))))
