@@ -1,5 +1,5 @@
 -- A float at the front of a line, one byte more, and the word that it is.
-use Rattle.std.proofs.Common.{◌≡◌, ◌<◌, ◌+◌, ℕ, zero, suc, Bool, true, false, List, [], ◌∷◌, ◌++◌, length, take, drop}
+use Rattle.std.proofs.Common.{◌≡◌, ◌<◌, ◌≤◌, ◌+◌, ◌-◌, ℕ, zero, suc, Bool, true, false, List, [], ◌∷◌, ◌++◌, length, take, drop}
 use Rattle.std.proofs.Common.{get_or, not, cond, eqb, ◌||◌, refl, sym, ap, ◌∙◌, subst, arith, Some, append_assoc, append-nil}
 use Rattle.std.proofs.Common.{◌⊎◌, inl, inr}
 use Rattle.std.proofs.lemmas.Bool.{eqb-true, or_cases}
@@ -8,7 +8,9 @@ use Rattle.std.proofs.lemmas.List.Sums.{prefix_len_is}
 use Rattle.std.specs.Char.{is_ascii_whitespace}
 use Rattle.std.specs.Float.Parse.{completes_number, float_scan_step, is_float_text, without_sign}
 use Rattle.std.specs.List.{position, position_or_len}
-use Rattle.amd_lines.specs.Words.{words, Scanned}
+use Rattle.std.specs.Char.{is_ascii_digit}
+use Rattle.std.specs.Int.{IsInRange}
+use Rattle.amd_lines.specs.Words.{words, Scanned, HasDigits}
 use Rattle.amd_lines.proofs.NumberLemmas.{word_off}
 
 pub scanned_none : (text : List ℕ) → Scanned text 0 0
@@ -26,6 +28,54 @@ scanned_more text k state here part h =
   where
     cases : (i k : ℕ) → i < k + 1 → (i < k) ⊎ (i ≡ k)
     cases i k l = grind arith
+
+-- digits, one by one, where a digit leaves the state as it is
+digit_passes : (c : ℕ) → IsInRange 48 57 c → is_ascii_digit c ≡ true
+digit_passes c h = let low = h.0 in let high = h.1 in grind arith
+
+digit_stays : (c : ℕ) → IsInRange 48 57 c → is_ascii_whitespace c ≡ false
+digit_stays c h = let low = h.0 in let high = h.1 in grind arith
+
+step_start : (c : ℕ) → IsInRange 48 57 c → float_scan_step 0 c ≡ 1
+step_start c h = rw (digit_passes c h) refl
+
+step_whole : (c : ℕ) → IsInRange 48 57 c → float_scan_step 1 c ≡ 1
+step_whole c h = rw (digit_passes c h) refl
+
+step_fraction : (c : ℕ) → IsInRange 48 57 c → float_scan_step 3 c ≡ 3
+step_fraction c h = rw (digit_passes c h) refl
+
+scanned_run : (text : List ℕ) (k d state : ℕ) → ((c : ℕ) → IsInRange 48 57 c → float_scan_step state c ≡ state) →
+    k + d ≤ length text → ((i : ℕ) → k ≤ i → i < k + d → IsInRange 48 57 (get_or text i 0)) → Scanned text k state →
+    Scanned text (k + d) state
+scanned_run text k zero state same within digits h = let e : k + 0 ≡ k = omega arith in rw e h
+scanned_run text k (suc d) state same within digits h =
+    let before = scanned_run text k d state same (omega arith) (λ i l u. digits i l (omega arith)) h in
+    let here = digits (k + d) (omega arith) (omega arith) in
+    let e : k + suc d ≡ k + d + 1 = omega arith in
+    rw e (subst (Scanned text (k + d + 1)) (same _ here) (scanned_more text (k + d) state (omega arith) (digit_stays _ here) before))
+
+scanned_to : (text : List ℕ) (k e state : ℕ) → ((c : ℕ) → IsInRange 48 57 c → float_scan_step state c ≡ state) →
+    k ≤ e → e ≤ length text → ((i : ℕ) → k ≤ i → i < e → IsInRange 48 57 (get_or text i 0)) → Scanned text k state → Scanned text e state
+scanned_to text k e state same up within digits h =
+    let is : k + (e - k) ≡ e = omega arith in
+    subst (λ z. Scanned text z state) is (scanned_run text k (e - k) state same (omega arith) (λ i l u. digits i l (omega arith)) h)
+
+-- the digits at the front, and those behind a point
+pub scanned_whole : (text : List ℕ) (e : ℕ) → 0 < e → HasDigits text 0 e → Scanned text e 1
+scanned_whole text e some d =
+    let within = d.within in
+    let first = d.digits 0 (omega arith) some in
+    scanned_to text 1 e 1 step_whole (omega arith) within (λ i l u. d.digits i (omega arith) u)
+    (subst (Scanned text 1) (step_start _ first) (scanned_more text 0 0 (omega arith) (digit_stays _ first) (scanned_none text)))
+
+pub scanned_fraction : (text : List ℕ) (k e : ℕ) → k < length text → get_or text k 0 ≡ 46 → Scanned text k 1 → HasDigits text (k + 1) e →
+    Scanned text e 3
+scanned_fraction text k e here point h d =
+    let blank : is_ascii_whitespace (get_or text k 0) ≡ false = rw point refl in
+    let step : float_scan_step 1 (get_or text k 0) ≡ 3 = rw point refl in
+    scanned_to text (k + 1) e 3 step_fraction d.ordered d.within d.digits
+    (subst (Scanned text (k + 1)) step (scanned_more text k 1 here blank h))
 
 pub scanned_ends : (text : List ℕ) (k state : ℕ) → k < length text → is_ascii_whitespace (get_or text k 0) ≡ true →
     completes_number state [] ≡ true → Scanned text k state →

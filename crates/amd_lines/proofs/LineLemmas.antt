@@ -2,7 +2,7 @@
 use Rattle.std.proofs.Common.{◌≡◌, ◌≢◌, ◌+◌, ◌<◌, ◌≤◌, ℕ, Bool, true, false, Option, Some, None, List, [], ◌∷◌, ◌++◌, cond, refl, sym}
 use Rattle.std.proofs.Common.{ap, ◌∙◌, subst}
 use Rattle.std.proofs.Common.{append-nil, append_assoc, arith, length, length-append, get_or, take, drop, zero, suc}
-use Rattle.std.proofs.Common.{◌-◌, ◌⊎◌, inl, inr, eqb, length-drop}
+use Rattle.std.proofs.Common.{◌-◌, ◌⊎◌, inl, inr, eqb, length-drop, length-take-le}
 use Rattle.std.proofs.lemmas.Bool.{eq-eqb, eqb-true}
 use Rattle.std.specs.Prelude.{All, IfSome}
 use Rattle.std.specs.Io.BufRead.{take_through, drop_through}
@@ -15,7 +15,7 @@ use Rattle.std.proofs.lemmas.List.Elements.{filter-append}
 use Rattle.amd_lines.specs.Words.{words}
 use Rattle.amd_lines.specs.Lines.{BeginsWith, TookLine, line_number, one_line_more}
 use Rattle.amd_lines.specs.Lines.{TakesLine, TakesLines, TakesTelling, TakesNotes, FailsAt, is_note}
-use Rattle.amd_lines.specs.Lines.{tells, telling, rest_of, line_of, EndsLine, HasNoFeed, KeepsRest}
+use Rattle.amd_lines.specs.Lines.{tells, telling, rest_of, line_of, EndsLine, StandsNext, HasNoFeed, KeepsRest}
 use Rattle.amd_lines.specs.Blocks.{held_of}
 use Rattle.amd_lines.proofs.BlockLemmas.{line-held, line-last}
 use Rattle.amd_lines.specs.declared.lines.LineReader.{LineReader}
@@ -129,6 +129,11 @@ notes-telling {mark} remaining a b c is h tell k says = record {
   says = says;
 }
 
+-- a line that says something was passed
+pub line-telling : {R Z : Type 0} {mark : Option ℕ} (remaining : R → Option (List ℕ)) (a c : LineReader R Z) →
+    TakesLine remaining a c true → is_note mark (words (line_of c)) ≡ false → TakesTelling mark remaining a c (line_of c)
+line-telling {mark} remaining a c k says = notes-telling {mark = mark} remaining a a c [] (takes-none remaining a) refl k says
+
 -- the line that was read last
 pub fails-here : {R Z : Type 0} (remaining : R → Option (List ℕ)) (a b : LineReader R Z) (is : List (List ℕ)) (n : ℕ)
     → TakesLines remaining a b is → n ≡ b.lines → FailsAt remaining a n
@@ -221,6 +226,19 @@ ends-here remaining a k none here = record {
     parts (Some xs) =
         let both = line-held (held_of a.block) xs k none.high (λ j l e. none.before j (omega arith) l (eq-eqb _ _ e)) (eqb-true _ _ here) in
         (both.0, ap Some (sym both.1))
+
+-- the same, where it is not too long
+pub stands-here : {R Z : Type 0} (remaining : R → Option (List ℕ)) (a : LineReader R Z) (k : ℕ) (line : List ℕ) →
+    NoneBefore (Passes (is_byte 10) (held_of a.block)) 0 (length (held_of a.block)) k →
+    Passes (is_byte 10) (held_of a.block) k → k < a.longest → line ≡ take (k + 1) (held_of a.block) → StandsNext remaining a line
+stands-here remaining a k line none here short is =
+    let ends = ends-here remaining a k none here in
+    let within = ends.within in
+    let size : length line ≡ k + 1 = ap length is ∙ length-take-le (k + 1) (held_of a.block) within in record {
+      ends = subst (EndsLine remaining a) (sym size) ends;
+      is = is ∙ ap (λ n. take n (held_of a.block)) (sym size);
+      short = omega (arith, size, short);
+    }
 
 -- bytes without a line feed at the end of the input are the last line
 pub ends-all : {R Z : Type 0} (remaining : R → Option (List ℕ)) (a : LineReader R Z) (k : ℕ) → k ≡ length (held_of a.block) → 0 < k →

@@ -1,7 +1,8 @@
 -- A number at the front of a line, one digit more, and the word that it makes.
 use Rattle.std.proofs.Common.{◌≡◌, ◌<◌, ◌≤◌, ◌+◌, ◌-◌, ◌*◌, ◌^◌, ℕ, pos, true, false, List, [], ◌∷◌, ◌++◌, length, take, drop}
-use Rattle.std.proofs.Common.{get_or, not, ltb, refl, sym, ap, ◌∙◌, subst, arith, Some, ◌⊎◌, inl, inr, eqb}
+use Rattle.std.proofs.Common.{get_or, add-one, pow-suc, not, ltb, refl, sym, ap, ◌∙◌, subst, arith, Some, ◌⊎◌, inl, inr, eqb}
 use Rattle.std.proofs.lemmas.Bool.{lt-ltb, le-ltb, ne_eqb}
+use Rattle.std.proofs.Math.Nat.{pow-le-pow_right}
 use Rattle.std.proofs.lemmas.List.{take_more, get_or-take, length-take}
 use Rattle.std.proofs.lemmas.List.Sums.{prefix_len_is}
 use Rattle.std.proofs.lemmas.Str.Parse.{numerals_by_value, tells_by_index, without_leading_plus_none}
@@ -29,19 +30,27 @@ digits_push n (x ∷ xs) c = digits_push (n * 10 + digit_value x) xs c
 pub number_none : (text : List ℕ) → LeadsNumber text 0 0
 number_none text = record { within = omega arith; digits = λ i h. absurd (omega arith); value = refl; small = omega arith }
 
-pub number_more : (text : List ℕ) (k number : ℕ) → k < length text → IsInRange 48 57 (get_or text k 0) → number ≤ 2 ^ 59 →
+-- a number of few digits
+pub few_digits : (k number : ℕ) → k ≤ 18 → number < 10 ^ k → number < 1000000000000000000
+few_digits k number few small =
+    let most : 10 ^ k ≤ 10 ^ 18 = pow-le-pow_right (omega arith) few in
+    let is : 10 ^ 18 ≡ 1000000000000000000 = refl in
+    omega (arith, most, is, small)
+
+pub number_more : (text : List ℕ) (k number : ℕ) → k < length text → IsInRange 48 57 (get_or text k 0) →
     LeadsNumber text k number → LeadsNumber text (k + 1) (number * 10 + (get_or text k 0 - 48))
-number_more text k number here digit few h =
+number_more text k number here digit h =
     let c = get_or text k 0 in
     let is = digit_is c digit in
     let low = digit.0 in let high = digit.1 in
+    let small = h.small in
     let value : digits_value 10 (take (k + 1) text) ≡ digits_value 10 (take k text) * 10 + digit_value c
     = ap (digits_value 10) (take_more text k 0 here) ∙ digits_push 0 (take k text) c in
     let before = h.value in record {
       within = omega (arith, here);
       digits = λ i l. elim (cases i k l) [ inl x ↦ h.digits i x | inr e ↦ subst (λ z. IsInRange 48 57 (get_or text z 0)) (sym e) digit ];
       value = omega (arith, value, before, is);
-      small = omega (arith, few, low, high);
+      small = (let wide : 10 ^ (k + 1) ≡ 10 ^ k * 10 = rw add-one (pow-suc 10 k) in omega (arith, small, wide, low, high));
     }
   where
     cases : (i k : ℕ) → i < k + 1 → (i < k) ⊎ (i ≡ k)
@@ -67,9 +76,10 @@ spells w number some digits value small =
         let plus = without_leading_plus_none w (λ s. omega (arith, s, low)) in
         rw (minus, plus) (ap pos e)
 
-pub number_ends : (text : List ℕ) (k number : ℕ) → 0 < k → k < length text → is_ascii_whitespace (get_or text k 0) ≡ true →
+pub number_ends : (text : List ℕ) (k number : ℕ) → 0 < k → k ≤ 18 → k < length text → is_ascii_whitespace (get_or text k 0) ≡ true →
     LeadsNumber text k number → (position_or_len is_ascii_whitespace text ≡ k) × SpellsNumber (take k text) (pos number)
-number_ends text k number some here ends h =
+number_ends text k number some few here ends h =
+    let small = few_digits k number few h.small in
     let long = length-take k text in
     let within = h.within in
     let size : length (take k text) ≡ k = omega (arith, long, within) in (
@@ -77,7 +87,7 @@ number_ends text k number some here ends h =
           (λ l. ap not ends),
       spells (take k text) number (omega (arith, size, some))
           (λ i l. subst (IsInRange 48 57) (sym (get_or-take k text i 0 (omega (arith, size, l)))) (h.digits i (omega (arith, size, l))))
-          h.value h.small,
+          h.value (omega (arith, small)),
     )
 
 -- the words of a line whose first word begins at a place, and ends so many bytes behind it

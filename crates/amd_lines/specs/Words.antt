@@ -36,10 +36,16 @@ pub record LeadsNumber (text : List ℕ) (k number : ℕ) : Type 0 where
   pub within : k ≤ length text
   pub digits : (i : ℕ) → i < k → IsInRange 48 57 (slice_index text i)
   pub value : number ≡ digits_value 10 (take k text)
-  pub small : number < 2 ^ 63
+  pub small : number < 10 ^ k
 
 -- the first k bytes of a text are no white space, and a reader of a float has come to the state behind them
 pub record Scanned (text : List ℕ) (k state : ℕ) : Type 0 where
   pub within : k ≤ length text
   pub parted : (i : ℕ) → i < k → is_ascii_whitespace (slice_index text i) ≡ false
   pub reads : (tail : List ℕ) → completes_number 0 (take k text ++ tail) ≡ completes_number state tail
+
+-- the bytes of a text from one place to another are digits
+pub record HasDigits (text : List ℕ) (begin end : ℕ) : Type 0 where
+  pub ordered : begin ≤ end
+  pub within : end ≤ length text
+  pub digits : (i : ℕ) → begin ≤ i → i < end → IsInRange 48 57 (slice_index text i)

@@ -2,12 +2,12 @@
 // bytes that was read in one go. Called by the readers of formats: `amd_cases`, `amd_market`, and through the second
 // the lists of rows of `amd_command`.
 
-ghost use Rattle.std.specs.Prelude.{◌≡◌, ◌≢◌, ◌≤◌, ◌<◌, All, IfOk, IfErr, IsTrue, length};
+ghost use Rattle.std.specs.Prelude.{◌≡◌, ◌≢◌, ◌≤◌, ◌<◌, All, IfOk, IfErr, IfSome, IsTrue, length, take, true};
 ghost use Rattle.std.specs.Io.KnownBytes.{IsAtEnd};
 ghost use Rattle.memchr.specs.Find.{IsFirstByte, is_byte};
 ghost use Rattle.amd_lines.specs.Words.{words};
 ghost use Rattle.amd_lines.specs.Blocks.{held_of};
-ghost use Rattle.amd_lines.specs.Lines.{TakesLine, TakesNext, FailsAt, EndsLine, HasNoFeed, is_note};
+ghost use Rattle.amd_lines.specs.Lines.{TakesLine, TakesNext, FailsAt, EndsLine, StandsNext, HasNoFeed, is_note};
 ghost use Rattle.amd_lines.specs.Lines.{one_line_more, lines_read, line_of, rest_of, longest_of};
 
 use crate::blocks::Block;
@@ -147,6 +147,33 @@ impl<R: Read + Drop, A: Allocator> LineReader<R, A> {
             return Ok(false);
         }
         self.pass_line(count)
+    }
+
+    /// The next line, where it stands whole in the block and is not too long; it is not passed. `None` says nothing of
+    /// the line.
+    #[inline]
+    pub fn next_line(&self) -> Option<&[u8]>
+        ensures { IfSome result (λ line. StandsNext R.remaining self.now line.now) }
+    {
+        let held = self.block.held();
+        let place = memchr(b'\n', held)?;
+        if place >= self.longest {
+            return None;
+        }
+        let (line, _) = held.split_at(place + 1);
+        Some(line)
+    }
+
+    /// Passes the next line, which stands whole in the block and has so many bytes.
+    #[inline]
+    pub fn pass_next(&mut self, count: usize)
+        requires { EndsLine R.remaining self.old count }
+        ensures takes { TakesLine R.remaining self.old self.new true }
+        ensures line { line_of self.new ≡ take count (held_of self.old.block) }
+        ensures longest { longest_of self.new ≡ longest_of self.old }
+    {
+        self.block.pass(count);
+        self.lines = self.lines.saturating_add(1);
     }
 
     /// Reads the next line, and says whether there was one.

@@ -1,10 +1,10 @@
 // A float at the front of a line that is written in digits, looked at byte by byte. Called by `amd_market`.
 
-ghost use Rattle.std.specs.Prelude.{◌≡◌, ◌<◌, ◌∷◌, ◌||◌, ◌==◌, true, cond, [], List, ℕ, take, slice_index, IfSome};
+ghost use Rattle.std.specs.Prelude.{◌≡◌, ◌<◌, ◌≤◌, ◌∷◌, ◌||◌, ◌==◌, true, cond, [], List, ℕ, length, take, slice_index, IfSome};
 ghost use Rattle.std.specs.Char.{is_ascii_whitespace};
 ghost use Rattle.std.specs.Float.Parse.{completes_number, float_scan_step, is_float_text};
 ghost use Rattle.std.specs.List.{position_or_len};
-ghost use Rattle.amd_lines.specs.Words.{words};
+ghost use Rattle.amd_lines.specs.Words.{words, HasDigits, Scanned};
 
 use crate::words::word_start;
 
@@ -52,22 +52,70 @@ fn completes(state: u8) -> bool
     state == 1 || state == 3 || state == 6
 }
 
-/// How many bytes a float takes that stands at the front of a text, without a sign; `None` where there is none, and
-/// where no white space follows it.
+/// Where the first byte stands, from a place on, that is no digit; the end of the text where there is none.
 #[inline]
-fn float_len(text: &[u8]) -> Option<usize>
+fn digits_end(text: &[u8], begin: usize) -> usize
+    requires { begin ≤ length text.now }
+    ensures { HasDigits text.now begin result }
+{
+    let (_, rest) = text.split_at(begin);
+    'digits: for (place, &byte) in rest.iter().enumerate() {
+        if !byte.is_ascii_digit() {
+            return begin + place;
+        }
+    }
+    text.len()
+}
+
+/// How far a reader of a float has come behind the digits, the point and the digits at the front of a text, and its
+/// state there. Here no state is kept from byte to byte.
+#[inline]
+fn float_front(text: &[u8]) -> (usize, u8)
+    ensures { Scanned text.now result.0 result.1 }
+{
+    let whole = digits_end(text, 0);
+    if whole == 0 {
+        return (0, 0);
+    }
+    if whole == text.len() || text[whole] != b'.' {
+        return (whole, 1);
+    }
+    (digits_end(text, whole + 1), 3)
+}
+
+/// How many bytes a float takes that stands at the front of a text, without a sign, where a reader of it has come so far
+/// and to this state; `None` where it is none, and where no white space follows it.
+#[inline(never)]
+fn float_end(text: &[u8], begin: usize, start: u8) -> Option<usize>
+    requires { Scanned text.now begin start }
     ensures some { IfSome result (λ k. 0 < k) }
     ensures ends { IfSome result (λ k. position_or_len is_ascii_whitespace text.now ≡ k) }
     ensures float { IfSome result (λ k. completes_number 0 (take k text.now) ≡ true) }
 {
-    let mut state = 0u8;
-    'bytes: for (place, &byte) in text.iter().enumerate() {
+    let mut state = start;
+    'bytes: for place in begin..text.len() {
+        let byte = text[place];
         if byte.is_ascii_whitespace() {
             return if completes(state) { Some(place) } else { None };
         }
         state = next_state(state, byte);
     }
     None
+}
+
+/// How many bytes a float takes that stands at the front of a text, without a sign; `None` where there is none, and
+/// where no white space follows it.
+#[inline(never)]
+fn float_len(text: &[u8]) -> Option<usize>
+    ensures some { IfSome result (λ k. 0 < k) }
+    ensures ends { IfSome result (λ k. position_or_len is_ascii_whitespace text.now ≡ k) }
+    ensures float { IfSome result (λ k. completes_number 0 (take k text.now) ≡ true) }
+{
+    let (front, state) = float_front(text);
+    if front < text.len() && completes(state) && text[front].is_ascii_whitespace() {
+        return Some(front);
+    }
+    float_end(text, front, state)
 }
 
 /// How many bytes the sign takes that leads a text: one, or none.

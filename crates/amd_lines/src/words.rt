@@ -7,8 +7,8 @@ ghost use Rattle.std.specs.List.{position, position_or_len};
 ghost use Rattle.std.specs.Char.{is_ascii_whitespace};
 ghost use Rattle.amd_lines.specs.Words.{words, BeginsWithByte, SpellsNumber};
 
-/// The greatest number to whose digits one more is added.
-const MOST: usize = 1 << 59;
+/// How many bytes are looked at for the digits of a number and the white space behind them.
+const MOST: usize = 19;
 
 /// Where the first byte stands that is no white space.
 pub(crate) fn word_start(line: &[u8]) -> Option<usize>
@@ -58,16 +58,15 @@ fn leading_number(text: &[u8]) -> Option<(usize, usize)>
     ensures ends { IfSome result (λ p. position_or_len is_ascii_whitespace text.now ≡ p.1) }
     ensures spells { IfSome result (λ p. SpellsNumber (take p.1 text.now) (pos p.0)) }
 {
+    let end = text.len().min(MOST);
     let mut number = 0;
-    'digits: for (place, &byte) in text.iter().enumerate() {
+    'digits: for place in 0..end {
+        let byte = text[place];
         if !byte.is_ascii_digit() {
             if place == 0 || !byte.is_ascii_whitespace() {
                 return None;
             }
             return Some((number, place));
-        }
-        if number > MOST {
-            return None;
         }
         number = number * 10 + (byte - b'0') as usize;
     }

@@ -1,6 +1,8 @@
 -- The words of a size and of an entry, one by one.
 use Rattle.std.proofs.Common.{◌≡◌, ◌<◌, ℕ, zero, suc, pos, arith, Bool, true, false, List, [], ◌∷◌, ◌++◌, cond, sym, ap}
-use Rattle.std.proofs.Common.{◌∙◌, subst}
+use Rattle.std.proofs.Common.{◌∙◌, subst, eqb, refl, ℤ}
+use Rattle.std.proofs.lemmas.Bool.{eqb-true}
+use Rattle.amd_lines.specs.Lines.{is_note, percent}
 use Rattle.std.specs.Prelude.{All, flat_map, ◌==◌, ◌&&◌, not}
 use Rattle.std.proofs.lemmas.List.Elements.{All-append}
 use Rattle.amd_lines.specs.Words.{words, SpellsNumber}
@@ -91,3 +93,18 @@ all-inside field n s ls es h = entries-inside n s es (listed-inside field n ls e
 -- what stands behind the first two words
 pub second-rest : {X : Type 0} (l t u ws : List X) (x y p q : X) → l ≡ x ∷ t → t ≡ y ∷ u → l ≡ p ∷ (q ∷ ws) → u ≡ ws
 second-rest l t u ws x y p q h k e = let all : x ∷ (y ∷ u) ≡ p ∷ (q ∷ ws) = ap (λ z. x ∷ z) (sym k) ∙ sym h ∙ e in cc
+
+-- a line whose first word is a number is no note
+not_percent : (cs : List ℕ) (z : ℤ) → SpellsNumber (37 ∷ cs) z → ⊥
+not_percent cs z h = let d = h.numeral.1.0 in omega (arith, d)
+
+pub number_says : (first : List ℕ) (behind : List (List ℕ)) (z : ℤ) → SpellsNumber first z → is_note percent (first ∷ behind) ≡ false
+number_says [] behind z h = let some = h.numeral.0 in absurd (omega (arith, some))
+number_says (c ∷ cs) behind z h = at (eqb c 37) refl
+  where
+    at : (b : Bool) → eqb c 37 ≡ b → is_note percent ((c ∷ cs) ∷ behind) ≡ false
+    at true e = absurd (not_percent cs z (subst (λ x. SpellsNumber (x ∷ cs) z) (eqb-true c 37 e) h))
+    at false e = e
+
+pub entry_says : (field : Field) (n : ℕ) (line : List ℕ) (e : ℕ × ℕ) → SpellsEntry field n line e → is_note percent (words line) ≡ false
+entry_says field n line e h = rw h.parts (number_says h.first (h.second ∷ h.behind) _ h.row.1)

@@ -161,7 +161,7 @@ fn plain_index(line: &[u8], n: usize) -> Option<(usize, &[u8])>
 /// The row and the column, from 0 on, of an entry that is written in digits, and what stands behind them. `None` says
 /// nothing of the line.
 #[inline]
-fn plain_entry(line: &[u8], n: usize) -> Option<(usize, usize, &[u8])>
+fn plain_front(line: &[u8], n: usize) -> Option<(usize, usize, &[u8])>
     ensures { IfSome result (λ p. BeginsEntry n line.now p.0 p.1 p.2.now) }
 {
     let (row, rest) = plain_index(line, n)?;
@@ -169,17 +169,31 @@ fn plain_entry(line: &[u8], n: usize) -> Option<(usize, usize, &[u8])>
     Some((row, column, rest))
 }
 
-/// Whether a text is one number in digits, where one is asked for; a `false` says nothing of the text.
+/// Whether a text is so many numbers in digits; a `false` says nothing of the text.
 #[inline]
-fn has_plain_value(text: &[u8], count: usize) -> bool
+fn has_plain_values(text: &[u8], count: usize) -> bool
     ensures { IsTrue result → AreValues count (words text.now) }
 {
-    if count != 1 {
-        return false;
+    let mut left = text;
+    'words: for _done in 0..count {
+        match behind_float(left) {
+            None => return false,
+            Some(rest) => left = rest,
+        }
     }
-    match behind_float(text) {
-        Some(rest) => first_word(rest).is_none(),
-        None => false,
+    first_word(left).is_none()
+}
+
+/// The row and the column, from 0 on, of the entry that a line spells in digits. `None` says nothing of the line.
+#[inline]
+pub(crate) fn plain_entry(line: &[u8], field: Field, n: usize) -> Option<(usize, usize)>
+    ensures { IfSome result (λ p. SpellsEntry field n line.now (p.0, p.1)) }
+{
+    let (row, column, rest) = plain_front(line, n)?;
+    if has_plain_values(rest, field.words()) {
+        Some((row, column))
+    } else {
+        None
     }
 }
 
@@ -214,11 +228,8 @@ pub fn entry_of(line: &[u8], field: Field, n: usize) -> Result<(usize, usize), R
         (λ _. (e : ℕ × ℕ) → SpellsEntry field n line.now e → ⊥) }
     ensures fault { IfErr result (λ f. HasEntryFault field n f line.now) }
 {
-    if let Some((row, column, rest)) = plain_entry(line, n) {
-        let count = field.words();
-        if has_plain_value(rest, count) || has_values(rest, count) {
-            return Ok((row, column));
-        }
+    match plain_entry(line, field, n) {
+        Some(entry) => Ok(entry),
+        None => any_entry(line, field, n),
     }
-    any_entry(line, field, n)
 }

@@ -14,9 +14,9 @@ ghost use Rattle.amd_market.specs.declared.faults.ReadFault.TheVariants as fault
 
 use crate::boeing::take_boeing;
 use crate::dense::{take_shape, take_values};
-use crate::entries::{Size, entry_of, size_of};
+use crate::entries::{Size, entry_of, plain_entry, size_of};
 use crate::faults::{ReadError, ReadFault};
-use crate::headers::{Format, Header, header_of, unknown_fault};
+use crate::headers::{Field, Format, Header, header_of, unknown_fault};
 use crate::lines::{LONGEST_LINE, at_end, at_line, take_line, take_telling};
 pub use crate::matrices::Matrix;
 use crate::matrices::{add_pairs, matrix_of, pairs_for};
@@ -62,7 +62,7 @@ fn take_size<R: Read + Drop, A: Allocator>(lines: &mut LineReader<R, A>) -> Resu
     }
 }
 
-/// Reads the next entry of a matrix with `n` rows and columns.
+/// Reads the next entry of a matrix with `n` rows and columns, on a line of any kind.
 fn take_entry<R: Read + Drop, A: Allocator>(
     lines: &mut LineReader<R, A>,
     header: Header,
@@ -88,6 +88,43 @@ fn take_entry<R: Read + Drop, A: Allocator>(
     }
 }
 
+/// Reads the next entry of a matrix with `n` rows and columns, where it is written in digits on a line that stands whole
+/// before the reader. Else nothing is read, and `None` says nothing of the line.
+#[inline]
+fn take_plain<R: Read + Drop, A: Allocator>(
+    lines: &mut LineReader<R, A>,
+    field: Field,
+    n: usize,
+) -> Option<(usize, usize)>
+    ensures { MatchOption result (lines.new ≡ lines.old)
+        (λ e. TakesTelling percent R.remaining lines.old lines.new (line_of lines.new) ×
+        SpellsEntry field n (line_of lines.new) (e.0, e.1)) }
+{
+    let line = lines.next_line()?;
+    let entry = plain_entry(line, field, n)?;
+    let count = line.len();
+    lines.pass_next(count);
+    Some(entry)
+}
+
+/// Reads the next entry of a matrix with `n` rows and columns.
+#[inline]
+fn next_entry<R: Read + Drop, A: Allocator>(
+    lines: &mut LineReader<R, A>,
+    header: Header,
+    size: Size,
+    done: usize,
+) -> Result<(usize, usize), ReadError>
+    ensures takes { IfOk result (λ e. (line : List ℕ) × TakesTelling percent R.remaining lines.old lines.new line ×
+        SpellsEntry header.field size.rows line e) }
+    ensures fails { IfErr result (FailsFor R.remaining lines.old) }
+{
+    match take_plain(lines, header.field, size.rows) {
+        Some(entry) => Ok(entry),
+        None => take_entry(lines, header, size, done),
+    }
+}
+
 /// Reads the entries, and returns the pairs that they stand for.
 fn take_pairs<R: Read + Drop, A: Allocator + Copy>(
     alloc: A,
@@ -101,7 +138,7 @@ fn take_pairs<R: Read + Drop, A: Allocator + Copy>(
 {
     let mut pairs = pairs_for(alloc, header.symmetry, size.entries);
     'entries: for done in 0..size.entries {
-        let entry = take_entry(lines, header, size, done)?;
+        let entry = next_entry(lines, header, size, done)?;
         let Ok(()) = add_pairs(&mut pairs, header.symmetry, entry) else {
             return Err(at_line(lines, ReadFault::OutOfMemory));
         };
