@@ -1,6 +1,7 @@
 // A float at the front of a line that is written in digits, looked at byte by byte. Called by `amd_market`.
 
-ghost use Rattle.std.specs.Prelude.{◌≡◌, ◌<◌, ◌≤◌, ◌∷◌, ◌||◌, ◌==◌, true, cond, [], List, ℕ, length, take, slice_index, IfSome};
+ghost use Rattle.std.specs.Prelude.{◌≡◌, ◌<◌, ◌≤◌, ◌∷◌, ◌||◌, ◌==◌, true, cond, [], List, ℕ};
+ghost use Rattle.std.specs.Prelude.{length, take, slice_index, IfSome};
 ghost use Rattle.std.specs.Char.{is_ascii_whitespace};
 ghost use Rattle.std.specs.Float.Parse.{completes_number, float_scan_step, is_float_text};
 ghost use Rattle.std.specs.List.{position_or_len};
@@ -83,8 +84,8 @@ fn float_front(text: &[u8]) -> (usize, u8)
     (digits_end(text, whole + 1), 3)
 }
 
-/// How many bytes a float takes that stands at the front of a text, without a sign, where a reader of it has come so far
-/// and to this state; `None` where it is none, and where no white space follows it.
+/// How many bytes a float takes that stands at the front of a text, without a sign, where a reader of it has come so
+/// far and to this state; `None` where it is none, and where no white space follows it.
 #[inline(never)]
 fn float_end(text: &[u8], begin: usize, start: u8) -> Option<usize>
     requires { Scanned text.now begin start }

@@ -8,16 +8,16 @@ returns-then-not-is_ascii_digit-clause-ends c =
     let some = c.if-place-eq0.false in
     let inside = c.digits-test.true in
     let least = c.min-end.ensures in
-    (number_ends c.args.text.now c.digits.place c.digits.number (omega (arith, some)) (omega (arith, inside, least)) (omega (arith, inside, least))
-    (sym c.if-not-is_ascii_whitespace.ensures.value) c.digits.invariant).0
+    (number_ends c.args.text.now c.digits.place c.digits.number (omega (arith, some)) (omega (arith, inside, least))
+    (omega (arith, inside, least)) (sym c.if-not-is_ascii_whitespace.ensures.value) c.digits.invariant).0
 
 pub returns-then-not-is_ascii_digit-clause-spells : goal.returns-then-not-is_ascii_digit-clause-spells
 returns-then-not-is_ascii_digit-clause-spells c =
     let some = c.if-place-eq0.false in
     let inside = c.digits-test.true in
     let least = c.min-end.ensures in
-    (number_ends c.args.text.now c.digits.place c.digits.number (omega (arith, some)) (omega (arith, inside, least)) (omega (arith, inside, least))
-    (sym c.if-not-is_ascii_whitespace.ensures.value) c.digits.invariant).1
+    (number_ends c.args.text.now c.digits.place c.digits.number (omega (arith, some)) (omega (arith, inside, least))
+    (omega (arith, inside, least)) (sym c.if-not-is_ascii_whitespace.ensures.value) c.digits.invariant).1
 
 pub digits-preserved : goal.digits-preserved
 digits-preserved c =
