@@ -6,4 +6,5 @@ pub mod Boeing
 pub mod Faults
 pub mod Columns
 pub mod Keys
+pub mod Pairs
 pub mod Files

@@ -19,7 +19,7 @@ use crate::fields::{Listed, add_numbers};
 use crate::formats::{Fields, Layout};
 use crate::headers::Symmetry;
 use crate::lines::{at_line, take_line};
-use crate::matrices::{Matrix, add_pairs, matrix_of, pairs_for};
+use crate::matrices::{Matrix, Pairs, add_pairs, matrix_of, pairs_for};
 use amd_lines::lines::LineReader;
 use std::alloc::{AllocError, Allocator};
 use std::io::Read;
@@ -276,7 +276,7 @@ pub(crate) fn take_boeing<R: Read + Drop, A: Allocator + Copy>(
         return Ok(None);
     };
     let pairs = take_columns(alloc, lines, kind, layout)?;
-    match matrix_of(alloc, kind.n, pairs) {
+    match matrix_of(alloc, kind.n, Pairs::Listed(pairs)) {
         Ok(matrix) => Ok(Some(matrix)),
         Err(_) => Err(at_line(lines, ReadFault::OutOfMemory)),
     }

@@ -2,24 +2,27 @@
 // The parts of a file are read one after another: the header, the size, the entries, and what stands behind them. The
 // reading of an array is in `dense`, and that of a Harwell-Boeing file in `boeing`.
 
-ghost use Rattle.std.specs.Prelude.{◌≡◌, ◌<◌, ◌∷◌, [], ℕ, List, All, true, false};
+ghost use Rattle.std.specs.Prelude.{◌≡◌, ◌<◌, ◌≤◌, ◌^◌, ◌∷◌, [], ℕ, List, All, true, false};
 ghost use Rattle.std.specs.Prelude.{IfOk, IfErr, IfSome, MatchOption, OnOk};
 ghost use Rattle.amd_market.specs.Headers.{SpellsHeader, is_array};
 ghost use Rattle.amd_market.specs.Entries.{SpellsSize, SpellsEntry};
 ghost use Rattle.amd_lines.specs.Lines.{TakesLines, TakesTelling, TakesNotes, line_of, percent};
 ghost use Rattle.amd_market.specs.Files.{TakesEntries, TakesBody, FailsFor, SpellsFile, NamesFault};
 ghost use Rattle.amd_market.specs.Columns.{HoldsOnce};
+ghost use Rattle.amd_market.specs.Keys.{pairs_of_keys};
+ghost use Rattle.amd_market.specs.Pairs.{pairs_in, AreFor};
 ghost use Rattle.amd_market.specs.Faults.{HasHeaderFault, IsMore};
 ghost use Rattle.amd_market.specs.declared.faults.ReadFault.TheVariants as fault;
 
 use crate::boeing::take_boeing;
+use crate::columns::MOST_SORTED;
 use crate::dense::{take_shape, take_values};
 use crate::entries::{Size, entry_of, plain_entry, size_of};
 use crate::faults::{ReadError, ReadFault};
 use crate::headers::{Field, Format, Header, header_of, unknown_fault};
 use crate::lines::{LONGEST_LINE, at_end, at_line, take_line, take_telling};
 pub use crate::matrices::Matrix;
-use crate::matrices::{add_pairs, matrix_of, pairs_for};
+use crate::matrices::{Pairs, add_keys, add_pairs, keys_for, matrix_of, pairs_for};
 use amd_lines::lines::LineReader;
 use std::alloc::Allocator;
 use std::io::Read;
@@ -125,7 +128,29 @@ fn next_entry<R: Read + Drop, A: Allocator>(
     }
 }
 
-/// Reads the entries, and returns the pairs that they stand for.
+/// Reads the entries, and returns the keys of the pairs that they stand for.
+fn take_keys<R: Read + Drop, A: Allocator + Copy>(
+    alloc: A,
+    lines: &mut LineReader<R, A>,
+    header: Header,
+    size: Size,
+) -> Result<Vec<usize, A>, ReadError>
+    requires { size.rows ≤ 2 ^ 32 }
+    ensures takes { IfOk result (λ v. TakesEntries R.remaining lines.old lines.new header size.rows size.entries
+        (pairs_of_keys v.items)) }
+    ensures fails { IfErr result (FailsFor R.remaining lines.old) }
+{
+    let mut keys = keys_for(alloc, header.symmetry, size.entries);
+    'entries: for done in 0..size.entries {
+        let entry = next_entry(lines, header, size, done)?;
+        let Ok(()) = add_keys(&mut keys, header.symmetry, entry) else {
+            return Err(at_line(lines, ReadFault::OutOfMemory));
+        };
+    }
+    Ok(keys)
+}
+
+/// Reads the entries of a matrix of any size, and returns the pairs that they stand for.
 fn take_pairs<R: Read + Drop, A: Allocator + Copy>(
     alloc: A,
     lines: &mut LineReader<R, A>,
@@ -144,6 +169,30 @@ fn take_pairs<R: Read + Drop, A: Allocator + Copy>(
         };
     }
     Ok(pairs)
+}
+
+/// Reads the entries, and returns the pairs that they stand for, as keys where they have some.
+fn take_entries<R: Read + Drop, A: Allocator + Copy>(
+    alloc: A,
+    lines: &mut LineReader<R, A>,
+    header: Header,
+    size: Size,
+) -> Result<Pairs<A>, ReadError>
+    ensures takes { IfOk result (λ p. TakesEntries R.remaining lines.old lines.new header size.rows size.entries
+        (pairs_in p)) }
+    ensures kind { IfOk result (AreFor size.rows) }
+    ensures fails { IfErr result (FailsFor R.remaining lines.old) }
+{
+    if size.rows > MOST_SORTED {
+        return match take_pairs(alloc, lines, header, size) {
+            Ok(pairs) => Ok(Pairs::Listed(pairs)),
+            Err(error) => Err(error),
+        };
+    }
+    match take_keys(alloc, lines, header, size) {
+        Ok(keys) => Ok(Pairs::Keys(keys)),
+        Err(error) => Err(error),
+    }
 }
 
 /// Reads what stands behind the entries, where nothing may stand but notes.
@@ -166,14 +215,15 @@ fn take_listed<R: Read + Drop, A: Allocator + Copy>(
     alloc: A,
     lines: &mut LineReader<R, A>,
     header: Header,
-) -> Result<(usize, Vec<(usize, usize), A>), ReadError>
+) -> Result<(usize, Pairs<A>), ReadError>
     requires { is_array header.format ≡ false }
-    ensures takes { IfOk result (λ r. TakesBody R.remaining lines.old lines.new header r.0 r.1.items) }
-    ensures inside { IfOk result (λ r. All (λ p. (p.0 < r.0) × (p.1 < r.0)) r.1.items) }
+    ensures takes { IfOk result (λ r. TakesBody R.remaining lines.old lines.new header r.0 (pairs_in r.1)) }
+    ensures kind { IfOk result (λ r. AreFor r.0 r.1) }
+    ensures inside { IfOk result (λ r. All (λ p. (p.0 < r.0) × (p.1 < r.0)) (pairs_in r.1)) }
     ensures fails { IfErr result (FailsFor R.remaining lines.old) }
 {
     let size = take_size(lines)?;
-    let pairs = take_pairs(alloc, lines, header, size)?;
+    let pairs = take_entries(alloc, lines, header, size)?;
     take_end(lines, ReadFault::More { told: size.entries })?;
     Ok((size.rows, pairs))
 }
@@ -184,16 +234,17 @@ fn take_array<R: Read + Drop, A: Allocator + Copy>(
     alloc: A,
     lines: &mut LineReader<R, A>,
     header: Header,
-) -> Result<(usize, Vec<(usize, usize), A>), ReadError>
+) -> Result<(usize, Pairs<A>), ReadError>
     requires { is_array header.format ≡ true }
-    ensures takes { IfOk result (λ r. TakesBody R.remaining lines.old lines.new header r.0 r.1.items) }
-    ensures inside { IfOk result (λ r. All (λ p. (p.0 < r.0) × (p.1 < r.0)) r.1.items) }
+    ensures takes { IfOk result (λ r. TakesBody R.remaining lines.old lines.new header r.0 (pairs_in r.1)) }
+    ensures kind { IfOk result (λ r. AreFor r.0 r.1) }
+    ensures inside { IfOk result (λ r. All (λ p. (p.0 < r.0) × (p.1 < r.0)) (pairs_in r.1)) }
     ensures fails { IfErr result (FailsFor R.remaining lines.old) }
 {
     let n = take_shape(lines)?;
     let pairs = take_values(alloc, lines, header, n)?;
     take_end(lines, ReadFault::MorePlaces)?;
-    Ok((n, pairs))
+    Ok((n, Pairs::Listed(pairs)))
 }
 
 /// Reads what stands behind a header, and returns the number of rows and the pairs that the entries stand for.
@@ -201,9 +252,10 @@ fn take_body<R: Read + Drop, A: Allocator + Copy>(
     alloc: A,
     lines: &mut LineReader<R, A>,
     header: Header,
-) -> Result<(usize, Vec<(usize, usize), A>), ReadError>
-    ensures takes { IfOk result (λ r. TakesBody R.remaining lines.old lines.new header r.0 r.1.items) }
-    ensures inside { IfOk result (λ r. All (λ p. (p.0 < r.0) × (p.1 < r.0)) r.1.items) }
+) -> Result<(usize, Pairs<A>), ReadError>
+    ensures takes { IfOk result (λ r. TakesBody R.remaining lines.old lines.new header r.0 (pairs_in r.1)) }
+    ensures kind { IfOk result (λ r. AreFor r.0 r.1) }
+    ensures inside { IfOk result (λ r. All (λ p. (p.0 < r.0) × (p.1 < r.0)) (pairs_in r.1)) }
     ensures fails { IfErr result (FailsFor R.remaining lines.old) }
 {
     match header.format {
