@@ -38,6 +38,7 @@ pub mod EntryTests
 pub mod Sizing
 pub mod Assembling
 pub mod CountParts
+pub mod TurnedArcs
 -- What a factor needs, and the laws.
 pub mod ColumnSizes
 pub mod CountNeeds
@@ -51,6 +52,7 @@ pub mod Cutting
 pub mod Prefixes
 pub mod SupernodeTree
 pub mod RowClimbs
+pub mod TypedRows
 pub mod SupernodeRows
 pub mod NoSupernodes
 -- Their sizes, the columns that they stand for, and their laws.

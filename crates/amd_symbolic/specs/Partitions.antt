@@ -1,9 +1,13 @@
 -- The supernodes of a factor under work: where each begins, the supernode of each place, and the rows below the blocks
 -- as far as they are written. Source: Liu, Ng and Peyton 1993; Liu 1990.
-use Rattle.std.specs.Prelude.{ℕ, ◌≡◌, ◌<◌, ◌≤◌, ◌+◌, ◌-◌, ◌⊎◌, List, [], Contains, Option, None, Some, length}
-use Rattle.std.specs.Prelude.{slice_index, slice_index_or}
+use Rattle.std.specs.Prelude.{ℕ, ℤ, pos, ◌≡◌, ◌<◌, ◌≤◌, ◌+◌, ◌-◌, ◌⊎◌, List, [], Contains, Option, None, Some, length}
+use Rattle.std.specs.Prelude.{◌≢◌, map, slice_index, slice_index_or, unsigned_abs}
 use Rattle.amd_model.specs.Factor.{IsFactor}
-use Rattle.amd_symbolic.specs.Orders.{Order}
+use Rattle.amd_model.specs.Input.Columns.{IsInput}
+use Rattle.amd_model.specs.Input.Pattern.{graph_of}
+use Rattle.amd_types.specs.Counts.{counts}
+use Rattle.amd_symbolic.specs.Neighbours.{HasEarlier}
+use Rattle.amd_symbolic.specs.Orders.{Order, Permutes}
 use Rattle.amd_symbolic.specs.Supernodes.{AreRuns, Joined, TellsOver}
 
 -- the numbers of entries of columns, and their parents: a column that has one has an entry, and its parent is behind it
@@ -121,6 +125,10 @@ IsMarkedBy mark j s = slice_index mark s ≡ j + 1
 abbrev pub HasRow : Partition → List (List ℕ) → ℕ → ℕ → Type 0
 HasRow b columns j s = (s ≡ slice_index b.owner j) ⊎ ((s < slice_index b.owner j) × Contains (last_column b columns s) j)
 
+-- the integers are counts
+abbrev pub AreCounts : List ℤ → Type 0
+AreCounts numbers = map pos (counts numbers) ≡ numbers
+
 -- row j climbs, and has come to supernode s, that of its own place where no climb is under way: what has its mark has
 -- the row written, and so have all that stand over it, but for what is to come
 pub record Climbs (b : Partition) (j s : ℕ) (next mark rows : List ℕ) : Type 0 where
@@ -137,3 +145,27 @@ pub record Climbs (b : Partition) (j s : ℕ) (next mark rows : List ℕ) : Type
       Written (last_column b cut.columns t) j (slice_index b.ptr t) (slice_index next t) rows
   pub onward : (t : ℕ) → t < slice_index b.owner j → IsMarkedBy mark j t →
       (q : ℕ) × (slice_index_or b.parent t None ≡ Some q) × (IsMarkedBy mark j q ⊎ (q ≡ s))
+
+-- a matrix with as many rows and columns, its pointers and its row indices, and a list of its rows
+pub record Matrix : Type 0 where
+  pub size : ℤ
+  pub pointers : List ℤ
+  pub indices : List ℤ
+  pub list : List ℤ
+
+abbrev pub matrix : ℤ → List ℤ → List ℤ → List ℤ → Matrix
+matrix size pointers indices list = record { size = size; pointers = pointers; indices = indices; list = list }
+
+-- its graph, and the order that the list tells
+abbrev pub order_of : Matrix → Order
+order_of m = record { graph = graph_of (unsigned_abs m.size) m.pointers m.indices; rows = counts m.list }
+
+-- the supernodes of the factor of a matrix under the order that its list tells, but for the rows below the blocks, and
+-- the lists of the earlier neighbours; where there are rows the matrix is a column form
+pub record IsPartitionOf (m : Matrix) (first owner ptr : List ℕ) (parent : List (Option ℕ))
+    (starts earlier : List ℕ) : Type 0 where
+  pub form : m.size ≢ pos 0 → IsInput m.size m.size m.pointers m.indices
+  pub size : m.size ≡ pos (length owner)
+  pub permutes : Permutes (unsigned_abs m.size) m.list (counts m.list)
+  pub near : HasEarlier (order_of m) starts earlier
+  pub cut : IsCut (record { order = order_of m; first = first; owner = owner; ptr = ptr; parent = parent })

@@ -1,16 +1,17 @@
-// A factor by supernodes: runs of places whose columns differ in their own places alone. All memory is taken, and then
-// the rows below the blocks are written without any. Source: Liu, Ng and Peyton 1993. Called by `supernodal`.
+// A factor by supernodes: runs of places whose columns differ in their own places alone. The rows below the blocks are
+// written into memory that the caller lends, when all else is known. Source: Liu, Ng and Peyton 1993. Called by
+// `supernodal` and by the crate `amd_c`.
 
-ghost use Rattle.std.specs.Prelude.{◌≡◌, ◌∷◌, [], IfOk};
-ghost use Rattle.amd_model.specs.Graph.{IsGraph};
-ghost use Rattle.amd_symbolic.specs.Neighbours.{HasEarlier};
-ghost use Rattle.amd_symbolic.specs.Orders.{Order};
-ghost use Rattle.amd_symbolic.specs.Sizes.{HoldSizes};
-ghost use Rattle.amd_symbolic.specs.Supernodes.{HoldSupernodes};
+ghost use Rattle.std.specs.Prelude.{◌≡◌, ◌+◌, ◌-◌, length, map, slice_index};
+ghost use Rattle.amd_types.specs.Counts.{counts};
+ghost use Rattle.amd_symbolic.specs.Partitions.{AreCounts, IsPartitionOf, Matrix};
+ghost use Rattle.amd_symbolic.specs.Supernodes.{IsSupernodesOf};
 
 use crate::below::fill_rows;
-use crate::partition::cut_places;
-use std::alloc::{AllocError, Allocator};
+use crate::neighbours::NeighbourLists;
+use crate::partition::Cut;
+use num_traits::PrimInt;
+use std::alloc::Allocator;
 
 /// The columns of a factor below its diagonal, by supernodes.
 ///
@@ -33,61 +34,50 @@ pub struct Supernodes<A: Allocator> {
     pub parent: Vec<Option<usize>, A>,
 }
 
-/// The supernodes of a matrix without rows: none.
-pub fn no_supernodes<A: Allocator + Copy>(alloc: A) -> Result<Supernodes<A>, AllocError>
-    ensures first { IfOk result (λ s. s.first.items ≡ 0 ∷ []) }
-    ensures pointers { IfOk result (λ s. s.ptr.items ≡ 0 ∷ []) }
-    ensures rows { IfOk result (λ s. s.rows.items ≡ []) }
-    ensures parents { IfOk result (λ s. s.parent.items ≡ []) }
-{
-    let first = vec![in alloc; 0; 1]?;
-    let ptr = vec![in alloc; 0; 1]?;
-    Ok(Supernodes {
-        first,
-        ptr,
-        rows: Vec::new(alloc),
-        parent: Vec::new(alloc),
-    })
+/// A factor by supernodes, but for the rows below the blocks, and what it takes to write these.
+#[derive(Drop)]
+pub struct Partitioned<A: Allocator> {
+    /// Where each supernode and its rows begin, and its parent, as in [`Supernodes`]; and the supernode of each place.
+    pub cut: Cut<A>,
+    /// The earlier neighbours of each place.
+    pub lists: NeighbourLists<A>,
+    /// For the work alone: a place for each supernode.
+    pub next: Vec<usize, A>,
+    /// For the work alone: a place for each supernode.
+    pub mark: Vec<usize, A>,
 }
 
-/// Takes all memory, and writes the supernodes by the counts, the parents and the lists of earlier neighbours.
+/// Writes the rows below the blocks into `rows`, which has as many places as the last pointer says. The type of its
+/// numbers has the number of rows of the matrix. No memory is asked for; what the work took is given back.
 ///
-/// # Errors
-///
-/// A refused request for memory.
-pub fn written_supernodes<A: Allocator + Copy>(
-    alloc: A,
-    starts: &[usize],
-    earlier: &[usize],
-    sizes: &[usize],
-    parent: &[Option<usize>],
-) -> Result<Supernodes<A>, AllocError>
-    ghost o: { Order }
-    requires laws { IsGraph o.graph }
-    requires earlier { HasEarlier o starts.now earlier.now }
-    requires counts { HoldSizes o.graph o.rows sizes.now parent.now }
-    ensures { IfOk result (λ s. HoldSupernodes o.graph o.rows s.first.items s.ptr.items s.rows.items s.parent.items) }
+/// Source: Liu 1990; Liu, Ng and Peyton 1993.
+pub fn write_rows<I: PrimInt, A: Allocator>(partition: Partitioned<A>, rows: &mut [I]) -> Cut<A>
+    ghost m: { Matrix }
+    requires partition { IsPartitionOf m partition.cut.first.items partition.cut.owner.items partition.cut.ptr.items
+        partition.cut.parent.items partition.lists.starts.items partition.lists.neighbours.items }
+    requires next { length partition.next.items + 1 ≡ length partition.cut.first.items }
+    requires mark { length partition.mark.items + 1 ≡ length partition.cut.first.items }
+    requires room { length rows.old ≡
+        slice_index partition.cut.ptr.items (length partition.cut.first.items - 1) }
+    requires fits { I.fits m.size }
+    ensures same { result ≡ partition.cut }
+    ensures told { AreCounts (map I.value rows.new) }
+    ensures supernodes { IsSupernodesOf m.size m.pointers m.indices m.list partition.cut.first.items
+        partition.cut.ptr.items (counts (map I.value rows.new)) partition.cut.parent.items }
 {
-    let cut = cut_places(alloc, sizes, parent)?;
-    let count = cut.parent.len();
-    let mut next = vec![in alloc; 0; count]?;
-    let mut mark = vec![in alloc; 0; count]?;
-    let mut rows = vec![in alloc; 0; cut.ptr[count]]?;
+    let mut next = partition.next;
+    let mut mark = partition.mark;
+    let cut = partition.cut;
     fill_rows(
-        starts,
-        earlier,
+        &partition.lists.starts,
+        &partition.lists.neighbours,
         &cut.first,
         &cut.owner,
         &cut.ptr,
         &cut.parent,
         &mut next,
         &mut mark,
-        &mut rows,
-    );
-    Ok(Supernodes {
-        first: cut.first,
-        ptr: cut.ptr,
         rows,
-        parent: cut.parent,
-    })
+    );
+    cut
 }

@@ -4,11 +4,13 @@
 
 ghost use Rattle.std.specs.Prelude.{◌≡◌, ◌+◌, ◌*◌, ◌/◌, [], length, map, max, List, ℕ, IfOk};
 ghost use Rattle.amd_model.specs.Graph.{IsGraph};
-ghost use Rattle.amd_symbolic.specs.Neighbours.{HasEarlier, HasLater};
+ghost use Rattle.amd_symbolic.specs.Neighbours.{HasEarlier};
 ghost use Rattle.amd_symbolic.specs.Orders.{Order};
 ghost use Rattle.amd_symbolic.specs.Counted.{IsCutNeed, TellCounts, wide_cut};
+ghost use Rattle.amd_symbolic.specs.Sizes.{HoldSizes};
 
 use crate::needs::Need;
+use crate::neighbours::turned_lists;
 use crate::sizes::count_by_meetings;
 use std::alloc::{AllocError, Allocator};
 
@@ -76,24 +78,29 @@ pub fn empty_counts<A: Allocator + Copy>(alloc: A) -> Counts<A>
     }
 }
 
-/// Takes all memory, and counts by the lists of earlier and of later neighbours.
+/// How many entries the columns of a factor have, and the parents.
+#[derive(Drop)]
+pub struct Sized<A: Allocator> {
+    pub sizes: Vec<usize, A>,
+    pub parent: Vec<Option<usize>, A>,
+}
+
+/// Takes all memory, and counts by the lists of earlier neighbours.
 ///
 /// # Errors
 ///
 /// A refused request for memory.
-pub fn written_counts<A: Allocator + Copy>(
+pub fn written_sizes<A: Allocator + Copy>(
     alloc: A,
     starts: &[usize],
     earlier: &[usize],
-    later_starts: &[usize],
-    later: &[usize],
-) -> Result<Counts<A>, AllocError>
+) -> Result<Sized<A>, AllocError>
     ghost o: { Order }
     requires laws { IsGraph o.graph }
     requires earlier { HasEarlier o starts.now earlier.now }
-    requires later { HasLater o later_starts.now later.now }
-    ensures { IfOk result (λ c. TellCounts o.graph o.rows c.sizes.items c.parent.items c.need) }
+    ensures { IfOk result (λ c. HoldSizes o.graph o.rows c.sizes.items c.parent.items) }
 {
+    let later = turned_lists(alloc, starts, earlier)?;
     let columns = starts.len() - 1;
     let mut sizes = vec![in alloc; 0; columns]?;
     let mut parent = vec![in alloc; None; columns]?;
@@ -108,8 +115,8 @@ pub fn written_counts<A: Allocator + Copy>(
     count_by_meetings(
         starts,
         earlier,
-        later_starts,
-        later,
+        &later.starts,
+        &later.neighbours,
         &mut parent,
         &mut sizes,
         &mut order,
@@ -121,10 +128,29 @@ pub fn written_counts<A: Allocator + Copy>(
         &mut plus,
         &mut minus,
     );
-    let need = need_of_sizes(&sizes);
+    Ok(Sized { sizes, parent })
+}
+
+/// Takes all memory, counts by the lists of earlier neighbours, and sums up what the factor needs.
+///
+/// # Errors
+///
+/// A refused request for memory.
+pub fn written_counts<A: Allocator + Copy>(
+    alloc: A,
+    starts: &[usize],
+    earlier: &[usize],
+) -> Result<Counts<A>, AllocError>
+    ghost o: { Order }
+    requires laws { IsGraph o.graph }
+    requires earlier { HasEarlier o starts.now earlier.now }
+    ensures { IfOk result (λ c. TellCounts o.graph o.rows c.sizes.items c.parent.items c.need) }
+{
+    let sized = written_sizes(alloc, starts, earlier)?;
+    let need = need_of_sizes(&sized.sizes);
     Ok(Counts {
-        sizes,
-        parent,
+        sizes: sized.sizes,
+        parent: sized.parent,
         need,
     })
 }

@@ -15,8 +15,7 @@ ghost use Rattle.amd_symbolic.specs.Factors.{IsAnalysisFault, IsFaultHolding};
 use crate::analysis::fault_of;
 use crate::counted::{Counts, empty_counts, written_counts};
 use crate::factor::Fault;
-use crate::neighbours::{earlier_lists, later_lists};
-use crate::places::places;
+use crate::ordering::ordered_lists;
 use amd::internal::to_count;
 use amd::valid::valid;
 use amd::{Control, Info, Status, order, order_holding};
@@ -40,18 +39,8 @@ fn form_counts<I: PrimInt, A: Allocator + Copy>(
     ensures fault { IfErr result (λ e. IsCountsFault (pos size) (map I.value a_p.now) (map I.value a_i.now)
         (map I.value p.now) e) }
 {
-    let Some(places) = places(alloc, size, p)? else {
-        return Err(Fault::NotPermutation);
-    };
-    let before = earlier_lists(alloc, size, a_p, a_i, &places)?;
-    let behind = later_lists(alloc, size, a_p, a_i, &places)?;
-    Ok(written_counts(
-        alloc,
-        &before.starts,
-        &before.neighbours,
-        &behind.starts,
-        &behind.neighbours,
-    )?)
+    let lists = ordered_lists(alloc, size, a_p, a_i, p)?;
+    Ok(written_counts(alloc, &lists.starts, &lists.neighbours)?)
 }
 
 /// How many entries each column of the factor of a square matrix has under an order of its rows, by the pattern of

@@ -1,63 +1,161 @@
 // The columns of a factor by supernodes: the input is tested as for `columns`, the columns are counted, and what the
 // counts tell is written. Source: Rose, Tarjan and Lueker 1976; Liu, Ng and Peyton 1993. Called by users.
 
-ghost use Rattle.std.specs.Prelude.{◌≡◌, pos, map, IfOk, IfErr};
+ghost use Rattle.std.specs.Prelude.{◌≡◌, ◌+◌, ◌∷◌, [], length, pos, map, IfOk, IfErr};
 ghost use Rattle.amd_model.specs.Input.Columns.{IsColumnForm};
 ghost use Rattle.amd_model.specs.Input.Pattern.{graph_of};
 ghost use Rattle.amd_types.specs.Counts.{counts as counts_of};
 ghost use Rattle.amd_symbolic.specs.Counted.{IsCountsFault};
 ghost use Rattle.amd_symbolic.specs.Orders.{Order};
+ghost use Rattle.amd_symbolic.specs.Partitions.{IsPartitionOf, Matrix, matrix};
 ghost use Rattle.amd_symbolic.specs.Supernodes.{IsSupernodesOf};
 
-use crate::blocks::{Supernodes, no_supernodes, written_supernodes};
-use crate::counted::written_counts;
+use crate::blocks::{Partitioned, Supernodes, write_rows};
+use crate::counted::written_sizes;
 use crate::factor::Fault;
-use crate::neighbours::{earlier_lists, later_lists};
-use crate::places::places;
+use crate::neighbours::NeighbourLists;
+use crate::ordering::ordered_lists;
+use crate::partition::{Cut, cut_places};
 use amd::Status;
 use amd::internal::to_count;
 use amd::valid::valid;
 use num_traits::PrimInt;
-use std::alloc::Allocator;
+use std::alloc::{AllocError, Allocator};
 
-/// The supernodes of a column form with `size` rows and columns.
-fn form_supernodes<I: PrimInt, A: Allocator + Copy>(
+/// The supernodes of a column form with `size` rows and columns, but for the rows below the blocks.
+fn form_partition<I: PrimInt, A: Allocator + Copy>(
     alloc: A,
     size: usize,
     a_p: &[I],
     a_i: &[I],
     p: &[I],
-) -> Result<Supernodes<A>, Fault>
+) -> Result<Partitioned<A>, Fault>
     ghost o: { Order }
     requires form { IsColumnForm (pos size) size (map I.value a_p.now) (map I.value a_i.now) }
     requires graph { o.graph ≡ graph_of size (map I.value a_p.now) (map I.value a_i.now) }
     requires rows { o.rows ≡ counts_of (map I.value p.now) }
-    ensures supernodes { IfOk result (λ s. IsSupernodesOf (pos size) (map I.value a_p.now) (map I.value a_i.now)
-        (map I.value p.now) s.first.items s.ptr.items s.rows.items s.parent.items) }
+    ensures partition { IfOk result (λ b. IsPartitionOf (matrix (pos size) (map I.value a_p.now) (map I.value a_i.now)
+        (map I.value p.now)) b.cut.first.items b.cut.owner.items b.cut.ptr.items b.cut.parent.items
+        b.lists.starts.items b.lists.neighbours.items) }
+    ensures next { IfOk result (λ b. length b.next.items + 1 ≡ length b.cut.first.items) }
+    ensures mark { IfOk result (λ b. length b.mark.items + 1 ≡ length b.cut.first.items) }
     ensures fault { IfErr result (λ e. IsCountsFault (pos size) (map I.value a_p.now) (map I.value a_i.now)
         (map I.value p.now) e) }
 {
-    let Some(places) = places(alloc, size, p)? else {
-        return Err(Fault::NotPermutation);
+    let lists = ordered_lists(alloc, size, a_p, a_i, p)?;
+    let cut = {
+        let sized = written_sizes(alloc, &lists.starts, &lists.neighbours)?;
+        cut_places(alloc, &sized.sizes, &sized.parent)?
     };
-    let before = earlier_lists(alloc, size, a_p, a_i, &places)?;
-    let counted = {
-        let behind = later_lists(alloc, size, a_p, a_i, &places)?;
-        written_counts(
-            alloc,
-            &before.starts,
-            &before.neighbours,
-            &behind.starts,
-            &behind.neighbours,
-        )?
+    let next = vec![in alloc; 0; cut.parent.len()]?;
+    let mark = vec![in alloc; 0; cut.parent.len()]?;
+    Ok(Partitioned {
+        cut,
+        lists,
+        next,
+        mark,
+    })
+}
+
+/// The supernodes of a matrix without rows: none.
+fn no_partition<A: Allocator + Copy>(alloc: A) -> Result<Partitioned<A>, AllocError>
+    ensures first { IfOk result (λ b. b.cut.first.items ≡ 0 ∷ []) }
+    ensures owner { IfOk result (λ b. b.cut.owner.items ≡ []) }
+    ensures pointers { IfOk result (λ b. b.cut.ptr.items ≡ 0 ∷ []) }
+    ensures parents { IfOk result (λ b. b.cut.parent.items ≡ []) }
+    ensures starts { IfOk result (λ b. b.lists.starts.items ≡ 0 ∷ []) }
+    ensures neighbours { IfOk result (λ b. b.lists.neighbours.items ≡ []) }
+    ensures next { IfOk result (λ b. b.next.items ≡ []) }
+    ensures mark { IfOk result (λ b. b.mark.items ≡ []) }
+{
+    let first = vec![in alloc; 0; 1]?;
+    let ptr = vec![in alloc; 0; 1]?;
+    let starts = vec![in alloc; 0; 1]?;
+    let cut = Cut {
+        first,
+        owner: Vec::new(alloc),
+        ptr,
+        parent: Vec::new(alloc),
     };
-    Ok(written_supernodes(
-        alloc,
-        &before.starts,
-        &before.neighbours,
-        &counted.sizes,
-        &counted.parent,
-    )?)
+    let lists = NeighbourLists {
+        starts,
+        neighbours: Vec::new(alloc),
+    };
+    Ok(Partitioned {
+        cut,
+        lists,
+        next: Vec::new(alloc),
+        mark: Vec::new(alloc),
+    })
+}
+
+/// The supernodes of the factor of a square matrix under an order of its rows, but for the rows below the blocks; these
+/// are written by [`crate::blocks::write_rows`], which asks for no memory, when the caller has a place for them.
+///
+/// The input, the order and the supernodes are those of [`supernodes`].
+///
+/// # Errors
+///
+/// Those of [`supernodes`], in its order.
+///
+/// Source: Rose, Tarjan and Lueker 1976; Liu 1986; Liu, Ng and Peyton 1993.
+pub fn supernode_partition<I: PrimInt, A: Allocator + Copy>(
+    alloc: A,
+    n: I,
+    a_p: &[I],
+    a_i: &[I],
+    p: &[I],
+) -> Result<Partitioned<A>, Fault>
+    // A number of a primitive type is always in range.
+    requires fits { I.fits (I.value n) }
+    ensures partition { IfOk result (λ b. IsPartitionOf (matrix (I.value n) (map I.value a_p.now) (map I.value a_i.now)
+        (map I.value p.now)) b.cut.first.items b.cut.owner.items b.cut.ptr.items b.cut.parent.items
+        b.lists.starts.items b.lists.neighbours.items) }
+    ensures next { IfOk result (λ b. length b.next.items + 1 ≡ length b.cut.first.items) }
+    ensures mark { IfOk result (λ b. length b.mark.items + 1 ≡ length b.cut.first.items) }
+    ensures fault { IfErr result (λ e. IsCountsFault (I.value n) (map I.value a_p.now) (map I.value a_i.now)
+        (map I.value p.now) e) }
+{
+    let Some(size) = to_count(n) else {
+        return Err(Fault::NotColumnForm);
+    };
+    if size == 0 {
+        return if p.is_empty() {
+            Ok(no_partition(alloc)?)
+        } else {
+            Err(Fault::NotPermutation)
+        };
+    }
+    if valid(n, n, a_p, a_i) == Status::Invalid {
+        return Err(Fault::NotColumnForm);
+    }
+    form_partition(alloc, size, a_p, a_i, p)
+}
+
+/// The supernodes of the matrix `m`, which has `n` rows.
+fn matrix_supernodes<I: PrimInt, A: Allocator + Copy>(
+    alloc: A,
+    n: I,
+    a_p: &[I],
+    a_i: &[I],
+    p: &[I],
+) -> Result<Supernodes<A>, Fault>
+    ghost m: { Matrix }
+    requires fits { I.fits (I.value n) }
+    requires matrix { m ≡ matrix (I.value n) (map I.value a_p.now) (map I.value a_i.now) (map I.value p.now) }
+    ensures supernodes { IfOk result (λ s. IsSupernodesOf m.size m.pointers m.indices m.list s.first.items s.ptr.items
+        s.rows.items s.parent.items) }
+    ensures fault { IfErr result (λ e. IsCountsFault m.size m.pointers m.indices m.list e) }
+{
+    let found = supernode_partition(alloc, n, a_p, a_i, p)?;
+    let mut rows = vec![in alloc; 0; found.cut.ptr[found.cut.parent.len()]]?;
+    let cut = write_rows(found, &mut rows);
+    Ok(Supernodes {
+        first: cut.first,
+        ptr: cut.ptr,
+        rows,
+        parent: cut.parent,
+    })
 }
 
 /// The columns of the factor of a square matrix under an order of its rows, by supernodes, by the pattern of `A + A'`.
@@ -97,18 +195,5 @@ pub fn supernodes<I: PrimInt, A: Allocator + Copy>(
     ensures fault { IfErr result (λ e. IsCountsFault (I.value n) (map I.value a_p.now) (map I.value a_i.now)
         (map I.value p.now) e) }
 {
-    let Some(size) = to_count(n) else {
-        return Err(Fault::NotColumnForm);
-    };
-    if size == 0 {
-        return if p.is_empty() {
-            Ok(no_supernodes(alloc)?)
-        } else {
-            Err(Fault::NotPermutation)
-        };
-    }
-    if valid(n, n, a_p, a_i) == Status::Invalid {
-        return Err(Fault::NotColumnForm);
-    }
-    form_supernodes(alloc, size, a_p, a_i, p)
+    matrix_supernodes(alloc, n, a_p, a_i, p)
 }

@@ -1,5 +1,6 @@
-use Rattle.std.proofs.Common.{ℕ, inl, inr, ◌∙◌, subst, sym}
+use Rattle.std.proofs.Common.{ℕ, inl, inr, ◌∙◌, subst, sym, map}
 use Rattle.std.proofs.lemmas.Bool.{cases_eq}
+use Rattle.amd_types.specs.Counts.{counts}
 use Rattle.amd_symbolic.specs.Partitions.{IsMarkedBy}
 use Rattle.amd_symbolic.proofs.RowClimbs.{climbs-over}
 use Rattle.amd_symbolic.proofs.below.climb.Goals as goal
@@ -13,6 +14,7 @@ up-preserved g c =
       | inr ne ↦ e.others t ne ∙ m
     ]) in record {
       climbs = e.climbs;
+      told = e.told;
       marked = elim i.marked [
         | inl m ↦ inl (kept c.args.from m)
         | inr q ↦ inl (subst (IsMarkedBy c.put_row-s.new.mark c.args.j) (sym q) e.marked)
@@ -21,4 +23,4 @@ up-preserved g c =
     }
 
 pub returns-clause-climbs : goal.returns-clause-climbs
-returns-clause-climbs g c = climbs-over g.b c.args.j c.up.s c.up.next c.up.mark c.up.rows c.up.invariant.climbs c.up-test.false
+returns-clause-climbs g c = climbs-over g.b c.args.j c.up.s c.up.next c.up.mark (counts (map g.I.Number.value c.up.rows)) c.up.invariant.climbs c.up-test.false

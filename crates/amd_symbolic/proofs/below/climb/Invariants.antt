@@ -1,6 +1,7 @@
-use Rattle.std.proofs.Common.{ℕ, ◌≡◌, ◌-◌, ◌⊎◌}
+use Rattle.std.proofs.Common.{ℕ, ◌≡◌, ◌-◌, ◌⊎◌, map}
 use Rattle.std.specs.Prelude.{slice_index}
-use Rattle.amd_symbolic.specs.Partitions.{Climbs, IsMarkedBy}
+use Rattle.amd_types.specs.Counts.{counts}
+use Rattle.amd_symbolic.specs.Partitions.{AreCounts, Climbs, IsMarkedBy}
 use Rattle.amd_symbolic.proofs.below.climb.Given as goal
 
 abbrev pub ghost-put_row : goal.ghost-put_row
@@ -8,7 +9,8 @@ ghost-put_row g a = g.b
 
 abbrev pub invariant-up : goal.invariant-up
 invariant-up g l = record {
-  climbs : Climbs g.b l.j l.s l.next l.mark l.rows;
+  climbs : Climbs g.b l.j l.s l.next l.mark (counts (map g.I.Number.value l.rows));
+  told : AreCounts (map g.I.Number.value l.rows);
   marked : IsMarkedBy l.mark l.j l.from ⊎ (l.from ≡ l.s);
   kept : (t : ℕ) → IsMarkedBy l.initial.mark l.j t → IsMarkedBy l.mark l.j t;
 }

@@ -1,4 +1,4 @@
 use Rattle.amd_symbolic.proofs.counted.written_counts.Given as goal
 
-abbrev pub ghost-count_by_meetings : goal.ghost-count_by_meetings
-ghost-count_by_meetings g a = g.o
+abbrev pub ghost-written_sizes : goal.ghost-written_sizes
+ghost-written_sizes g a = g.o

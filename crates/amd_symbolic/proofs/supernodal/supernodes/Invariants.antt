@@ -1,10 +1,7 @@
 use Rattle.std.proofs.Common.{map}
-use Rattle.amd_model.specs.Input.Pattern.{graph_of}
-use Rattle.amd_types.specs.Counts.{counts}
+use Rattle.amd_symbolic.specs.Partitions.{matrix}
 use Rattle.amd_symbolic.proofs.supernodal.supernodes.Given as goal
 
-abbrev pub ghost-form_supernodes : goal.ghost-form_supernodes
-ghost-form_supernodes g a = record {
-  graph = graph_of a.size (map g.I.Number.value a.a_p.now) (map g.I.Number.value a.a_i.now);
-  rows = counts (map g.I.Number.value a.p.now);
-}
+abbrev pub ghost-matrix_supernodes : goal.ghost-matrix_supernodes
+ghost-matrix_supernodes g a = matrix (g.I.Number.value a.n) (map g.I.Number.value a.a_p.now) (map g.I.Number.value a.a_i.now)
+    (map g.I.Number.value a.p.now)

@@ -6,10 +6,10 @@ use Rattle.amd_symbolic.specs.Orders.{Permutes}
 use Rattle.amd_types.specs.Statuses.{IsStatusOf}
 use Rattle.amd_types.specs.declared.amd.Status.TheVariants.{Invalid}
 use Rattle.amd_symbolic.specs.Counted.{IsCountsFault}
-use Rattle.amd_symbolic.specs.Supernodes.{IsSupernodesOf}
+use Rattle.amd_symbolic.specs.Partitions.{IsPartitionOf, matrix}
 use Rattle.amd_symbolic.proofs.ColumnParts.{no_items, some_items, empty_order, form_by, no_count}
-use Rattle.amd_symbolic.proofs.NoSupernodes.{no-supernodes}
-use Rattle.amd_symbolic.proofs.supernodal.supernodes.Goals as goal
+use Rattle.amd_symbolic.proofs.NoSupernodes.{no-partition}
+use Rattle.amd_symbolic.proofs.supernodal.supernode_partition.Goals as goal
 
 pub returns-in_default-clause-fault : goal.returns-in_default-clause-fault
 returns-in_default-clause-fault g c = no_count (g.I.Number.value c.args.n) _ _ c.in_default.ensures (simp length-map (omega arith))
@@ -31,8 +31,8 @@ returns-then-eq-clause-fault g c =
       subst (IsStatusOf z z a_p a_i) invalid c.valid.ensures,
     )
 
-pub form_supernodes-requires : goal.form_supernodes-requires
-form_supernodes-requires g c κs within =
+pub form_partition-requires : goal.form_partition-requires
+form_partition-requires g c κs within =
     let z : ℤ = g.I.Number.value c.args.n in
     let a_p : List ℤ = map g.I.Number.value c.args.a_p.now in
     let a_i : List ℤ = map g.I.Number.value c.args.a_i.now in
@@ -40,28 +40,29 @@ form_supernodes-requires g c κs within =
     let form = subst (λ x. IsInput x x a_p a_i) (sym c.in-Some.ensures.1) (form_by z a_p a_i c.valid.result c.valid.ensures sound) in
     (within.0, (within.1.0, (within.1.1, (form, (refl, refl)))))
 
-pub returns-clause-supernodes : goal.returns-clause-supernodes
-returns-clause-supernodes g c =
+pub returns-clause-partition : goal.returns-clause-partition
+returns-clause-partition g c =
     let a_p : List ℤ = map g.I.Number.value c.args.a_p.now in
     let a_i : List ℤ = map g.I.Number.value c.args.a_i.now in
     let p : List ℤ = map g.I.Number.value c.args.p.now in
-    subst (λ z. IfOk c.form_supernodes.result (λ s. IsSupernodesOf z a_p a_i p s.first.items s.ptr.items s.rows.items s.parent.items))
-    c.in-Some.ensures.1 c.form_supernodes.ensures.supernodes
+    subst (λ z. IfOk c.form_partition.result (λ b. IsPartitionOf (matrix z a_p a_i p) b.cut.first.items b.cut.owner.items b.cut.ptr.items
+    b.cut.parent.items b.lists.starts.items b.lists.neighbours.items)) c.in-Some.ensures.1 c.form_partition.ensures.partition
 
 pub returns-clause-fault : goal.returns-clause-fault
 returns-clause-fault g c =
     let a_p : List ℤ = map g.I.Number.value c.args.a_p.now in
     let a_i : List ℤ = map g.I.Number.value c.args.a_i.now in
     let p : List ℤ = map g.I.Number.value c.args.p.now in
-    subst (λ z. IfErr c.form_supernodes.result (IsCountsFault z a_p a_i p)) c.in-Some.ensures.1 c.form_supernodes.ensures.fault
+    subst (λ z. IfErr c.form_partition.result (IsCountsFault z a_p a_i p)) c.in-Some.ensures.1 c.form_partition.ensures.fault
 
-pub returns-in_ok-no_supernodes-clause-supernodes : goal.returns-in_ok-no_supernodes-clause-supernodes
-returns-in_ok-no_supernodes-clause-supernodes g c =
+pub returns-in_ok-no_partition-clause-partition : goal.returns-in_ok-no_partition-clause-partition
+returns-in_ok-no_partition-clause-partition g c =
     let a_p : List ℤ = map g.I.Number.value c.args.a_p.now in
     let a_i : List ℤ = map g.I.Number.value c.args.a_i.now in
     let p : List ℤ = map g.I.Number.value c.args.p.now in
     let zero : pos 0 ≡ g.I.Number.value c.args.n = sym (ap pos c.if-size-eq0.true) ∙ c.in-Some.ensures.1 in
     let empty : p ≡ [] = no_items p (c.if-is_empty.ensures ∙ ap (λ l. l == 0) (sym (length-map c.args.p.now g.I.Number.value))) in
-    let s = c.in_ok-no_supernodes.field-0 in let e = c.in_ok-no_supernodes.ensures in
-    subst (λ z. IsSupernodesOf z a_p a_i p s.first.items s.ptr.items s.rows.items s.parent.items) zero
-    (no-supernodes a_p a_i p _ _ _ _ empty e.first e.pointers e.rows e.parents)
+    let b = c.in_ok-no_partition.field-0 in let e = c.in_ok-no_partition.ensures in
+    subst (λ z. IsPartitionOf (matrix z a_p a_i p) b.cut.first.items b.cut.owner.items b.cut.ptr.items b.cut.parent.items
+    b.lists.starts.items b.lists.neighbours.items) zero
+    (no-partition a_p a_i p _ _ _ _ _ _ empty e.first e.owner e.pointers e.parents e.starts e.neighbours)
