@@ -154,8 +154,10 @@ fn plain_index(line: &[u8], n: usize) -> Option<(usize, &[u8])>
     ensures { IfSome result (λ p. (w : List ℕ) × (words line.now ≡ w ∷ words p.1.now) × SpellsIndex w n p.0) }
 {
     let (number, rest) = first_number(line)?;
-    let place = number.checked_sub(1)?;
-    if place < n { Some((place, rest)) } else { None }
+    if number == 0 || number > n {
+        return None;
+    }
+    Some((number - 1, rest))
 }
 
 /// The row and the column, from 0 on, of an entry that is written in digits, and what stands behind them. `None` says
@@ -169,32 +171,31 @@ fn plain_front(line: &[u8], n: usize) -> Option<(usize, usize, &[u8])>
     Some((row, column, rest))
 }
 
-/// Whether a text is so many numbers in digits; a `false` says nothing of the text.
+/// Whether a text is one number in digits; a `false` says nothing of the text.
 #[inline]
-fn has_plain_values(text: &[u8], count: usize) -> bool
-    ensures { IsTrue result → AreValues count (words text.now) }
+fn has_plain_value(text: &[u8]) -> bool
+    ensures { IsTrue result → AreValues 1 (words text.now) }
 {
-    let mut left = text;
-    'words: for _done in 0..count {
-        match behind_float(left) {
-            None => return false,
-            Some(rest) => left = rest,
-        }
+    match behind_float(text) {
+        Some(rest) => first_word(rest).is_none(),
+        None => false,
     }
-    first_word(left).is_none()
 }
 
-/// The row and the column, from 0 on, of the entry that a line spells in digits. `None` says nothing of the line.
+/// The row and the column, from 0 on, of the entry that a line spells, where these and a single value are in digits.
+/// `None` says nothing of the line.
 #[inline]
 pub(crate) fn plain_entry(line: &[u8], field: Field, n: usize) -> Option<(usize, usize)>
     ensures { IfSome result (λ p. SpellsEntry field n line.now (p.0, p.1)) }
 {
     let (row, column, rest) = plain_front(line, n)?;
-    if has_plain_values(rest, field.words()) {
-        Some((row, column))
+    let count = field.words();
+    let holds = if count == 1 {
+        has_plain_value(rest)
     } else {
-        None
-    }
+        has_values(rest, count)
+    };
+    if holds { Some((row, column)) } else { None }
 }
 
 /// The row and the column, from 0 on, of the entry that a line spells in any way, or what is wrong with the line.

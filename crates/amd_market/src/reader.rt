@@ -66,6 +66,7 @@ fn take_size<R: Read + Drop, A: Allocator>(lines: &mut LineReader<R, A>) -> Resu
 }
 
 /// Reads the next entry of a matrix with `n` rows and columns, on a line of any kind.
+#[cold]
 fn take_entry<R: Read + Drop, A: Allocator>(
     lines: &mut LineReader<R, A>,
     header: Header,
@@ -91,9 +92,9 @@ fn take_entry<R: Read + Drop, A: Allocator>(
     }
 }
 
-/// Reads the next entry of a matrix with `n` rows and columns, where it is written in digits on a line that stands whole
-/// before the reader. Else nothing is read, and `None` says nothing of the line.
-#[inline]
+/// Reads the next entry of a matrix with `n` rows and columns, where it is written in digits on a line that stands
+/// whole before the reader. Else nothing is read, and `None` says nothing of the line.
+#[inline(always)]
 fn take_plain<R: Read + Drop, A: Allocator>(
     lines: &mut LineReader<R, A>,
     field: Field,
@@ -111,7 +112,7 @@ fn take_plain<R: Read + Drop, A: Allocator>(
 }
 
 /// Reads the next entry of a matrix with `n` rows and columns.
-#[inline]
+#[inline(always)]
 fn next_entry<R: Read + Drop, A: Allocator>(
     lines: &mut LineReader<R, A>,
     header: Header,
