@@ -20,7 +20,9 @@ pub mod Tails
 pub mod NewRows
 pub mod Completing
 pub mod Merging
+pub mod PlaceNumbers
 pub mod Standing
+pub mod Fronts
 pub mod ColumnParts
 -- The counts: the tree by links, ranks, meetings, and from counted entries to columns.
 pub mod Clearing

@@ -31,7 +31,7 @@ use Rattle.amd_symbolic.specs.Gathering.{Column, Completes, HoldBefore, TellFirs
 use Rattle.amd_symbolic.proofs.FactorOnce.{column_once, first_least}
 use Rattle.amd_symbolic.proofs.Merging.{merged_is}
 use Rattle.amd_symbolic.proofs.PlaceSums.{sum_places}
-use Rattle.amd_symbolic.proofs.Tails.{range_same, range_take}
+use Rattle.amd_symbolic.proofs.Tails.{range_first, range_same, range_take}
 
 -- what a column takes over and what is new in it, merged
 pub merged_column : (c : Column) (fresh : List ℕ) → IsStrictlyIncreasing c.inherited → Completes c fresh →
@@ -76,6 +76,10 @@ no_parent o k (x ∷ xs) c e q p = absurd (cc)
 pub first_get : (xs : List ℕ) → slice_get xs 0 ≡ first_of xs
 first_get [] = refl
 first_get (x ∷ xs) = refl
+
+-- the first element of a part, and of a part without elements
+pub first_at : (xs : List ℕ) (i j : ℕ) → i < j → j ≤ length xs → first_of (slice_range xs i j) ≡ Some (slice_index xs i)
+first_at xs i j low most = ap first_of (range_first xs i j low most)
 
 -- what stands before a place that is written stays
 module _ (o : Order) (k : ℕ) (ptr rows rows' : List ℕ) (h : HoldBefore o k ptr rows)

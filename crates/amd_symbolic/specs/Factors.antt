@@ -1,5 +1,5 @@
--- What `columns`, `analyze` and `analyze_holding` answer.
-use Rattle.std.specs.Prelude.{ℕ, ℤ, pos, ◌≢◌, Bool, List, Option, None, unsigned_abs}
+-- What `columns`, `columns_into`, `analyze` and `analyze_holding` answer.
+use Rattle.std.specs.Prelude.{ℕ, ℤ, pos, ◌≡◌, ◌≢◌, ◌++◌, Bool, List, Option, None, drop, length, map, unsigned_abs}
 use Rattle.amd_model.specs.Input.Columns.{IsInput}
 use Rattle.amd_model.specs.Input.Pattern.{graph_of}
 use Rattle.amd_symbolic.specs.Columns.{HoldFactor, PassesRoom}
@@ -16,6 +16,12 @@ pub record IsFactorOf (n : ℤ) (ap ai p : List ℤ) (ptr rows : List ℕ) (pare
   pub order : List ℕ
   pub permutes : Permutes (unsigned_abs n) p order
   pub holds : HoldFactor (graph_of (unsigned_abs n) ap ai) order ptr rows parent
+
+-- the numbers begin with the entries of the factor, and behind them stand the old ones
+pub record WritesFactor (n : ℤ) (ap ai p old new : List ℤ) (ptr : List ℕ) (parent : List (Option ℕ)) : Type 0 where
+  pub entries : List ℕ
+  pub factor : IsFactorOf n ap ai p ptr entries parent
+  pub written : new ≡ map pos entries ++ drop (length entries) old
 
 -- a fault of `columns`: the first that there is, in the order of the variants, but for want of memory, which may come
 -- before the two in the middle are decided

@@ -17,6 +17,7 @@ pub mod Trees
 -- The columns, made by children.
 pub mod Gathering
 pub mod Merging
+pub mod Numbers
 -- The counts, by the tree and the meetings of arcs.
 pub mod Walks
 pub mod Ancestors

@@ -1,31 +1,42 @@
 // One column of a factor, from its later neighbours and the columns of its children: the greatest child hands on its
-// entries behind the first one, and what it lacks is found by marks, sorted and merged in. Source: George and Liu
+// entries behind the first one, and what it lacks is found by marks, sorted and merged in. It is planned first, so that
+// there is room for it before it is written. Source: George and Liu
 // 1981; Liu 1990. Called by `fill`.
 
-ghost use Rattle.std.specs.Prelude.{ℕ, List, ◌≡◌, ◌<◌, ◌≤◌, ◌+◌, ◌-◌, [], true, Some, length, slice_index, slice_range, take};
-ghost use Rattle.std.specs.Prelude.{◌++◌, MatchOption};
-ghost use Rattle.std.specs.Vec.{vec_capacity};
+ghost use Rattle.std.specs.Prelude.{ℕ, List, ◌≡◌, ◌<◌, ◌≤◌, ◌+◌, ◌-◌, [], true, Some, length, slice_index, slice_range};
+ghost use Rattle.std.specs.Prelude.{MatchOption, map, pos, take};
 ghost use Rattle.std.specs.List.Sorted.{IsStrictlyIncreasing};
 ghost use Rattle.amd_model.specs.Factor.{IsColumn};
 ghost use Rattle.amd_model.specs.Graph.{IsGraph};
-ghost use Rattle.amd_symbolic.specs.Columns.{PassesRoom};
 ghost use Rattle.amd_symbolic.specs.Orders.{Order};
-ghost use Rattle.amd_symbolic.specs.Gathering.{Column, Completes, Filled, HoldBefore, Inherits, IsChild, LinkChildren};
+ghost use Rattle.amd_symbolic.specs.Gathering.{Column, Completes, HoldBefore, Inherits, IsChild, LinkChildren};
 ghost use Rattle.amd_symbolic.specs.Gathering.{Marks, MarksTell, TellFirst};
 ghost use Rattle.amd_symbolic.specs.Neighbours.{AreLater};
-ghost use Rattle.amd_symbolic.specs.Merging.{merged};
+ghost use Rattle.amd_symbolic.specs.Numbers.{AreCounts, Plans};
 ghost use Rattle.amd_symbolic.specs.Trees.{Entry};
+ghost use Rattle.amd_types.specs.Counts.{counts};
 
 use crate::children::{greatest_child, has_only_child, link_child};
-use crate::gathering::{gather, mark_rows};
+use crate::gathering::{gather, gather_places, mark_rows};
 use crate::merge::merge;
-use std::alloc::Allocator;
+use crate::numbers::place_at;
+use num_traits::PrimInt;
 
 /// A column, if there is one, and the mark of its entries: those of the rows behind it that have the mark.
 #[derive(Clone, Copy)]
 pub struct Marked {
     pub column: Option<usize>,
     pub stamp: usize,
+}
+
+/// A column that is planned: it takes over the rows from place `from` on, before `to`, and `count` are new in it. The
+/// marks then tell a column.
+#[derive(Clone, Copy)]
+pub struct Plan {
+    pub from: usize,
+    pub to: usize,
+    pub count: usize,
+    pub marked: Marked,
 }
 
 /// Where the rows begin and end that column `k` takes over from a child: all but the first of its entries.
@@ -50,13 +61,13 @@ pub fn inherited(k: usize, base: Option<usize>, ptr: &[usize]) -> (usize, usize)
 }
 
 /// Lists the rows of the children of column `k` but `base` that have no mark, marks them, and returns how many.
-pub fn gather_children(
+pub fn gather_children<N: PrimInt>(
     k: usize,
     base: usize,
     stamp: usize,
     link: &[Option<usize>],
     ptr: &[usize],
-    rows: &[usize],
+    rows: &[N],
     mark: &mut [usize],
     fresh: &mut [usize],
 ) -> usize
@@ -65,7 +76,8 @@ pub fn gather_children(
     requires place { c.place ≡ k }
     requires inside { c.place < length c.order.rows }
     requires links { LinkChildren c.order c.place link.now }
-    requires columns { HoldBefore c.order c.place ptr.now rows.now }
+    requires numbers { AreCounts (map N.value rows.now) }
+    requires columns { HoldBefore c.order c.place ptr.now (counts (map N.value rows.now)) }
     requires base { IsChild c base → (j : ℕ) → c.place < j → Entry c.order.graph c.order.rows base j →
         slice_index mark.old j ≡ stamp }
     requires room { length fresh.old ≡ length c.order.rows }
@@ -98,17 +110,18 @@ fn tells(marked: Marked, base: Option<usize>) -> bool
 }
 
 /// Gives the rows that column `k` takes over a mark, where they have none yet, and returns it.
-fn mark_base(
+fn mark_base<N: PrimInt>(
     k: usize,
     base: Option<usize>,
-    rows: &[usize],
+    rows: &[N],
     marked: Marked,
     mark: &mut [usize],
 ) -> usize
     ghost c: { Column }
     requires place { c.place ≡ k }
     requires inside { c.place < length c.order.rows }
-    requires rows { c.inherited ≡ rows.now }
+    requires numbers { AreCounts (map N.value rows.now) }
+    requires rows { c.inherited ≡ counts (map N.value rows.now) }
     requires inherits { Inherits c base }
     requires marks { MarksTell c.order c.place marked.column marked.stamp mark.old }
     ensures { Marks c result [] mark.new }
@@ -124,7 +137,7 @@ fn mark_base(
 /// the marks then tell. `base` is a child, if there is any, and `rows[from..to]` are its entries behind place `k`.
 ///
 /// Where it is the only child and there is no later neighbour, nothing is new, and no mark is written for it.
-pub fn new_rows(
+pub fn new_rows<N: PrimInt>(
     k: usize,
     base: Option<usize>,
     from: usize,
@@ -133,7 +146,7 @@ pub fn new_rows(
     marked: Marked,
     link: &[Option<usize>],
     ptr: &[usize],
-    rows: &[usize],
+    rows: &[N],
     mark: &mut [usize],
     fresh: &mut [usize],
 ) -> (usize, Marked)
@@ -142,9 +155,10 @@ pub fn new_rows(
     requires place { c.place ≡ k }
     requires inside { c.place < length c.order.rows }
     requires links { LinkChildren c.order c.place link.now }
-    requires columns { HoldBefore c.order c.place ptr.now rows.now }
+    requires numbers { AreCounts (map N.value rows.now) }
+    requires columns { HoldBefore c.order c.place ptr.now (counts (map N.value rows.now)) }
     requires base { MatchOption base ((m : ℕ) → ¬ (IsChild c m)) (λ child. IsChild c child) }
-    requires taken { c.inherited ≡ slice_range rows.now from to }
+    requires taken { c.inherited ≡ slice_range (counts (map N.value rows.now)) from to }
     requires range { from ≤ to }
     requires within { to ≤ length rows.now }
     requires inherits { Inherits c base }
@@ -160,114 +174,115 @@ pub fn new_rows(
     }
     let stamp = mark_base(k, base, &rows[from..to], marked, mark);
     let count = gather_children(k, base.unwrap_or(k), stamp, link, ptr, rows, mark, fresh);
-    let count = gather(neighbours, stamp, count, mark, fresh);
+    let count = gather_places(neighbours, stamp, count, mark, fresh);
     fresh[..count].sort_unstable();
     let column = Some(k);
     (count, Marked { column, stamp })
 }
 
-/// Writes a column behind the last one of `rows`: the rows from place `from` on, before `to`, and those that are new,
-/// merged. Returns where it ends; none, exactly where that is behind `room`. No memory is asked for.
-pub fn write_column<A: Allocator>(
-    from: usize,
-    to: usize,
-    fresh: &[usize],
-    room: usize,
-    rows: &mut Vec<usize, A>,
-) -> Option<usize>
-    requires range { from ≤ to }
-    requires behind { to ≤ length rows.old.items }
-    requires within { length rows.old.items ≤ room }
-    requires capacity { room ≤ vec_capacity rows.old }
-    ensures none { MatchOption result (room < length rows.old.items + (to - from + length fresh.now))
-        (λ end. (end ≡ length rows.new.items) × (end ≡ length rows.old.items + (to - from + length fresh.now))) }
-    ensures column { MatchOption result (rows.new.items ≡ rows.old.items)
-        (λ end. rows.new.items ≡ rows.old.items ++ merged (slice_range rows.old.items from to) fresh.now) }
-    ensures within { length rows.new.items ≤ room }
-    ensures capacity { room ≤ vec_capacity rows.new }
+/// Plans column `k`: lists its new rows, rising, in `fresh`.
+pub fn plan_column<N: PrimInt>(
+    k: usize,
+    neighbours: &[usize],
+    marked: Marked,
+    link: &[Option<usize>],
+    ptr: &[usize],
+    rows: &[N],
+    mark: &mut [usize],
+    fresh: &mut [usize],
+) -> Plan
+    ghost o: { Order }
+    requires laws { IsGraph o.graph }
+    requires place { k < length o.rows }
+    requires neighbours { AreLater o k neighbours.now }
+    requires links { LinkChildren o k link.now }
+    requires numbers { AreCounts (map N.value rows.now) }
+    requires columns { HoldBefore o k ptr.now (counts (map N.value rows.now)) }
+    requires marks { MarksTell o k marked.column marked.stamp mark.old }
+    requires fresh { length fresh.old ≡ length o.rows }
+    ensures count { result.count ≤ length fresh.new }
+    ensures plans { Plans o k ptr.now (counts (map N.value rows.now)) result.from result.to
+        (take result.count fresh.new) }
+    ensures marks { MarksTell o (k + 1) result.marked.column result.marked.stamp mark.new }
 {
-    let begin = rows.len();
-    let size = to - from + fresh.len();
-    if room - begin < size {
-        return None;
+    let base = greatest_child(k, link, ptr);
+    let (from, to) = inherited(k, base, ptr);
+    let (count, marked) = new_rows(
+        k, base, from, to, neighbours, marked, link, ptr, rows, mark, fresh,
+    );
+    Plan {
+        from,
+        to,
+        count,
+        marked,
     }
-    // The room is there, so nothing is asked for. The zeros of a column are still at hand when it is written over them.
-    let Ok(()) = rows.resize(begin + size, 0) else {
-        unreachable!()
-    };
-    let (done, free) = rows.split_at_mut(begin);
-    merge(&done[from..to], fresh, free);
-    Some(begin + size)
 }
 
 /// Closes column `k`, whose entries end before place `end`: its pointer, its parent, and its link as a child.
-fn close_column(
+fn close_column<N: PrimInt>(
     k: usize,
     end: usize,
     ptr: &mut [usize],
-    rows: &[usize],
+    rows: &[N],
     parent: &mut [Option<usize>],
     link: &mut [Option<usize>],
 )
     ghost o: { Order }
     requires laws { IsGraph o.graph }
     requires place { k < length o.rows }
-    requires columns { HoldBefore o k ptr.old rows.now }
-    requires parents { TellFirst o k ptr.old rows.now parent.old }
+    requires numbers { AreCounts (map N.value rows.now) }
+    requires columns { HoldBefore o k ptr.old (counts (map N.value rows.now)) }
+    requires parents { TellFirst o k ptr.old (counts (map N.value rows.now)) parent.old }
     requires links { LinkChildren o k link.old }
     requires range { slice_index ptr.old k ≤ end }
     requires within { end ≤ length rows.now }
-    requires column { IsColumn o.graph o.rows k (slice_range rows.now (slice_index ptr.old k) end) }
-    ensures columns { HoldBefore o (k + 1) ptr.new rows.now }
-    ensures parents { TellFirst o (k + 1) ptr.new rows.now parent.new }
+    requires column { IsColumn o.graph o.rows k
+        (slice_range (counts (map N.value rows.now)) (slice_index ptr.old k) end) }
+    ensures columns { HoldBefore o (k + 1) ptr.new (counts (map N.value rows.now)) }
+    ensures parents { TellFirst o (k + 1) ptr.new (counts (map N.value rows.now)) parent.new }
     ensures links { LinkChildren o (k + 1) link.new }
     ensures end { slice_index ptr.new (k + 1) ≡ end }
 {
-    let first = rows[ptr[k]..end].first().copied();
+    let begin = ptr[k];
     ptr[k + 1] = end;
-    parent[k] = first;
-    if let Some(q) = first {
-        link_child(k, q, link);
+    if begin == end {
+        parent[k] = None;
+        return;
     }
+    let first = place_at(rows, begin);
+    parent[k] = Some(first);
+    link_child(k, first, link);
 }
 
-/// Writes column `k` behind those before it, and returns the column that the marks then tell; none, exactly where it
-/// does not fit.
-pub fn add_column<A: Allocator>(
+/// Writes column `k`, as it is planned, behind those before it and up to the end of `rows`, and closes it.
+pub fn finish_column<N: PrimInt>(
     k: usize,
-    neighbours: &[usize],
-    marked: Marked,
-    room: usize,
+    from: usize,
+    to: usize,
+    fresh: &[usize],
     ptr: &mut [usize],
-    rows: &mut Vec<usize, A>,
+    rows: &mut [N],
     parent: &mut [Option<usize>],
-    mark: &mut [usize],
     link: &mut [Option<usize>],
-    fresh: &mut [usize],
-) -> Option<Marked>
+)
     ghost o: { Order }
     requires laws { IsGraph o.graph }
     requires place { k < length o.rows }
-    requires neighbours { AreLater o k neighbours.now }
-    requires filled { Filled o k ptr.old rows.old.items parent.old link.old marked.column marked.stamp mark.old }
-    requires fresh { length fresh.old ≡ length o.rows }
-    requires full { slice_index ptr.old k ≡ length rows.old.items }
-    requires within { length rows.old.items ≤ room }
-    requires capacity { room ≤ vec_capacity rows.old }
-    ensures filled { MatchOption result (PassesRoom o.graph o.rows room)
-        (λ now. Filled o (k + 1) ptr.new rows.new.items parent.new link.new now.column now.stamp mark.new) }
-    ensures full { MatchOption result (Unit {0}) (λ now. slice_index ptr.new (k + 1) ≡ length rows.new.items) }
-    ensures within { length rows.new.items ≤ room }
-    ensures capacity { room ≤ vec_capacity rows.new }
+    requires fits { (j : ℕ) → j < length o.rows → N.fits (pos j) }
+    requires plans { Plans o k ptr.old (counts (map N.value (take (slice_index ptr.old k) rows.old))) from to
+        fresh.now }
+    requires size { length rows.old ≡ slice_index ptr.old k + (to - from + length fresh.now) }
+    requires numbers { AreCounts (map N.value (take (slice_index ptr.old k) rows.old)) }
+    requires columns { HoldBefore o k ptr.old (counts (map N.value (take (slice_index ptr.old k) rows.old))) }
+    requires parents { TellFirst o k ptr.old (counts (map N.value (take (slice_index ptr.old k) rows.old))) parent.old }
+    requires links { LinkChildren o k link.old }
+    ensures numbers { AreCounts (map N.value rows.new) }
+    ensures columns { HoldBefore o (k + 1) ptr.new (counts (map N.value rows.new)) }
+    ensures parents { TellFirst o (k + 1) ptr.new (counts (map N.value rows.new)) parent.new }
+    ensures links { LinkChildren o (k + 1) link.new }
+    ensures end { slice_index ptr.new (k + 1) ≡ length rows.new }
 {
-    let base = greatest_child(k, link, ptr);
-    let (from, to) = inherited(k, base, ptr);
-    let (count, now) = new_rows(
-        k, base, from, to, neighbours, marked, link, ptr, rows, mark, fresh,
-    );
-    let Some(end) = write_column(from, to, &fresh[..count], room, rows) else {
-        return None;
-    };
-    close_column(k, end, ptr, rows, parent, link);
-    Some(now)
+    let (done, free) = rows.split_at_mut(ptr[k]);
+    merge(&done[from..to], fresh, free);
+    close_column(k, rows.len(), ptr, rows, parent, link);
 }

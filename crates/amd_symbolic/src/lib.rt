@@ -1,7 +1,8 @@
 //! The exact columns of the factor of a sparse matrix: where its entries below the diagonal stand, and the elimination
 //! tree.
 //!
-//! [`columns`] takes the pattern of a square matrix by columns and any order of its rows. [`analyze`] takes the order
+//! [`columns`] takes the pattern of a square matrix by columns and any order of its rows; [`columns_into`] writes the
+//! entries into numbers of the caller. [`analyze`] takes the order
 //! from [`amd::order`] and the room from its record, and [`analyze_holding`] does the same with rows that a caller
 //! wants last. [`counts`] counts the entries of the columns without writing them; [`analyze_counts`] does so under the
 //! order from [`amd::order`], and [`analyze_counts_holding`] with rows held last. [`needs::need_of`] sums what a factor
@@ -13,8 +14,8 @@
 //! | Modules | What they do |
 //! |---|---|
 //! | `places`, `arcs`, `neighbours` | The place of each row in an order; the lists of the earlier and of the later neighbours of each place |
-//! | `children`, `gathering`, `merge`, `column`, `fill` | The columns in slices, each from those of its children |
-//! | `factor` | [`columns`]: the input is tested, the lists are made, memory is taken, and `fill` writes |
+//! | `numbers`, `children`, `gathering`, `merge`, `column`, `fill` | The columns in slices, each from those of its children |
+//! | `factor`, `into` | [`columns`], [`columns_into`]: the input is tested, the lists are made, memory is taken, and `fill` writes |
 //! | `tree`, `ranks`, `meeting`, `sweep`, `sizes` | How many entries the columns have, in slices: the elimination tree, its postorder, and a sweep over all arcs |
 //! | `needs`, `counted`, `counting` | What a factor needs; [`counts`], [`analyze_counts`] and [`analyze_counts_holding`] |
 //! | `analysis` | [`analyze`] and [`analyze_holding`]: an ordering, and the factor under it |
@@ -36,11 +37,13 @@ pub mod expanding;
 pub mod factor;
 pub mod fill;
 pub mod gathering;
+pub mod into;
 pub mod laws;
 pub mod meeting;
 pub mod merge;
 pub mod needs;
 pub mod neighbours;
+pub mod numbers;
 pub mod ordering;
 pub mod partition;
 pub mod places;
@@ -59,5 +62,6 @@ pub use counted::Counts;
 pub use counting::{analyze_counts, analyze_counts_holding, counts};
 pub use expanding::expand;
 pub use factor::{Factor, Fault, columns};
+pub use into::{Frame, columns_into};
 pub use room::{SupernodeSizes, supernode_sizes};
 pub use supernodal::{supernode_partition, supernodes};

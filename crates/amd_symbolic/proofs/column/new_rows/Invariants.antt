@@ -9,5 +9,5 @@ ghost-mark_base g a = g.c
 abbrev pub ghost-gather_children : goal.ghost-gather_children
 ghost-gather_children g a = g.c
 
-abbrev pub ghost-gather : goal.ghost-gather
-ghost-gather g a = g.c
+abbrev pub ghost-gather_places : goal.ghost-gather_places
+ghost-gather_places g a = g.c

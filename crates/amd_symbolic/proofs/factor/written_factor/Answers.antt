@@ -1,5 +1,7 @@
-use Rattle.std.proofs.Common.{◌≡◌, ◌-◌, length, arith, rules, ◌∙◌}
+use Rattle.std.proofs.Common.{◌≡◌, ◌-◌, length, arith, rules, subst, sym, ◌∙◌}
 use Rattle.std.proofs.lemmas.List.{take_at}
+use Rattle.amd_types.proofs.SignedCounts.{same_counts}
+use Rattle.amd_symbolic.specs.Columns.{HoldFactor}
 use Rattle.amd_symbolic.proofs.factor.written_factor.Goals as goal
 
 pub overflow_sub-columns : goal.overflow_sub-columns
@@ -14,22 +16,31 @@ fill-requires g c κs inside =
     let mark : length c.deref_mut-3.result.now ≡ length c.args.starts.now - 1 = search rules in
     let link : length c.deref_mut-4.result.now ≡ length c.args.starts.now - 1 = search rules in
     let fresh : length c.deref_mut-5.result.now ≡ length c.args.starts.now - 1 = search rules in (
-      inside,
+      search rules,
       (
-        c.requires.1.0,
+        inside,
         (
-          h,
+          search rules,
           (
-            ptr ∙ h.room,
+            c.requires.1.0,
             (
-              parent ∙ columns,
+              (λ j l. let room = h.room in omega (arith, l, room)),
               (
-                mark ∙ columns,
+                h,
                 (
-                  link ∙ columns,
+                  ptr ∙ h.room,
                   (
-                    fresh ∙ columns,
-                    (c.in_ok-rows.ensures.items, (let e = c.in_ok-rows.ensures.exact in omega (arith, e))),
+                    parent ∙ columns,
+                    (
+                      mark ∙ columns,
+                      (
+                        link ∙ columns,
+                        (
+                          fresh ∙ columns,
+                          (c.in_ok-rows.ensures.items, (let e = c.in_ok-rows.ensures.exact in omega (arith, e))),
+                        ),
+                      ),
+                    ),
                   ),
                 ),
               ),
@@ -43,4 +54,6 @@ pub returns-clause-factor : goal.returns-clause-factor
 returns-clause-factor g c =
     let ptr : length c.fill.new.ptr ≡ c.in_ok-ptr.ptr.len = search rules in
     let parent : length c.fill.new.parent ≡ c.in_ok-parent.parent.len = search rules in
-    rw (take_at c.fill.new.ptr _ _ ptr, take_at c.fill.new.parent _ _ parent) c.in-Some.ensures.factor.1
+    let f = c.in-Some.ensures.factor in
+    rw (take_at c.fill.new.ptr _ _ ptr, take_at c.fill.new.parent _ _ parent)
+    (subst (λ xs. HoldFactor g.o.graph g.o.rows c.fill.new.ptr xs c.fill.new.parent) (sym (same_counts c.fill.new.rows.items f.1 f.2)) f.3)

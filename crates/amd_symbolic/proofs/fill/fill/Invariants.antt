@@ -1,7 +1,7 @@
 use Rattle.std.proofs.Common.{◌≡◌, ◌≤◌, length}
 use Rattle.std.specs.Prelude.{slice_index}
 use Rattle.std.specs.Vec.{vec_capacity}
-use Rattle.amd_symbolic.specs.Gathering.{Filled}
+use Rattle.amd_symbolic.specs.Numbers.{FillsFront}
 use Rattle.amd_symbolic.proofs.fill.fill.Given as goal
 
 abbrev pub ghost-add_column : goal.ghost-add_column
@@ -9,7 +9,7 @@ ghost-add_column g a = g.o
 
 abbrev pub invariant-columns : goal.invariant-columns
 invariant-columns g l = record {
-  filled : Filled g.o l.k l.ptr l.rows.items l.parent l.link l.marked.column l.marked.stamp l.mark;
+  filled : FillsFront g.N.Number.value g.o l.k l.ptr l.rows.items l.parent l.link l.marked.column l.marked.stamp l.mark;
   full : slice_index l.ptr l.k ≡ length l.rows.items;
   within : length l.rows.items ≤ l.room;
   capacity : l.room ≤ vec_capacity l.rows;

@@ -1,9 +1,11 @@
-use Rattle.std.proofs.Common.{ℕ, ◌≡◌, ◌≢◌, ◌<◌}
+use Rattle.std.proofs.Common.{ℕ, ◌≡◌, ◌≢◌, ◌<◌, map}
 use Rattle.std.specs.Prelude.{slice_index}
+use Rattle.amd_types.specs.Counts.{counts}
 use Rattle.amd_symbolic.proofs.gathering.mark_rows.Given as goal
 
 abbrev pub invariant-rows : goal.invariant-rows
-invariant-rows l = record {
-  marked : (k : ℕ) → k < l.row-index → slice_index l.mark (slice_index l.rows k) ≡ l.stamp;
-  others : (j : ℕ) → ((k : ℕ) → k < l.row-index → slice_index l.rows k ≢ j) → slice_index l.mark j ≡ slice_index l.initial.mark j;
+invariant-rows g l = record {
+  marked : (i : ℕ) → i < l.k → slice_index l.mark (slice_index (counts (map g.N.Number.value l.rows)) i) ≡ l.stamp;
+  others : (j : ℕ) → ((i : ℕ) → i < l.k → slice_index (counts (map g.N.Number.value l.rows)) i ≢ j) →
+      slice_index l.mark j ≡ slice_index l.initial.mark j;
 }

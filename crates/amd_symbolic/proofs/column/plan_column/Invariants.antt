@@ -1,6 +1,7 @@
 use Rattle.std.specs.Prelude.{slice_range}
-use Rattle.std.proofs.Common.{[]}
-use Rattle.amd_symbolic.proofs.column.add_column.Given as goal
+use Rattle.std.proofs.Common.{[], map}
+use Rattle.amd_types.specs.Counts.{counts}
+use Rattle.amd_symbolic.proofs.column.plan_column.Given as goal
 
 abbrev pub ghost-greatest_child : goal.ghost-greatest_child
 ghost-greatest_child g a = record { order = g.o; place = a.k; inherited = [] }
@@ -9,7 +10,8 @@ abbrev pub ghost-inherited : goal.ghost-inherited
 ghost-inherited g a = record { order = g.o; place = a.k; inherited = [] }
 
 abbrev pub ghost-new_rows : goal.ghost-new_rows
-ghost-new_rows g a = record { order = g.o; place = a.k; inherited = slice_range a.rows.now a.from a.to }
-
-abbrev pub ghost-close_column : goal.ghost-close_column
-ghost-close_column g a = g.o
+ghost-new_rows g a = record {
+  order = g.o;
+  place = a.k;
+  inherited = slice_range (counts (map g.N.Number.value a.rows.now)) a.from a.to;
+}

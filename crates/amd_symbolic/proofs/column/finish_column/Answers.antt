@@ -1,0 +1,102 @@
+use Rattle.std.proofs.Common.{◌≡◌, ◌≤◌, ◌++◌, ◌∙◌, ap, arith, inl, inr, length, map, pos, subst, sym}
+use Rattle.std.specs.Prelude.{Contains, slice_index, slice_range}
+use Rattle.std.proofs.lemmas.List.{length-append}
+use Rattle.std.proofs.lemmas.List.Elements.{Contains-get_or}
+use Rattle.amd_model.specs.Factor.{IsColumn}
+use Rattle.amd_symbolic.specs.Gathering.{HoldBefore, TellFirst}
+use Rattle.amd_symbolic.specs.Merging.{merged}
+use Rattle.amd_symbolic.specs.Numbers.{AreCounts, Plans}
+use Rattle.amd_symbolic.proofs.PlaceNumbers.{are_append, are_range, counts_append, counts_long, counts_range, place_of}
+use Rattle.amd_symbolic.proofs.Standing.{merged_column, hold_same, tell_same}
+use Rattle.amd_symbolic.proofs.Tails.{range_before, range_last}
+use Rattle.amd_symbolic.proofs.column.finish_column.Goals as goal
+use Rattle.amd_types.specs.Counts.{counts}
+
+pub merge-requires-clause-numbers : goal.merge-requires-clause-numbers
+merge-requires-clause-numbers g c =
+    let value = g.N.Number.value in let r = c.requires.1.1 in
+    let done = c.split_at_mut-done.result.0.now in
+    are_range value done c.args.from c.args.to
+    (subst (λ ys. AreCounts (map value ys)) (sym c.split_at_mut-done.ensures.front) r.1.1.1.1.1.0)
+
+pub merge-requires-clause-small : goal.merge-requires-clause-small
+merge-requires-clause-small g c =
+    let value = g.N.Number.value in let r = c.requires.1.1 in
+    let done = c.split_at_mut-done.result.0.now in
+    let plans = subst (λ ys. Plans g.o c.args.k c.args.ptr.now (counts (map value ys)) c.args.from c.args.to c.args.fresh.now)
+    (sym c.split_at_mut-done.ensures.front) r.1.1.1.0 in λ k l. (
+    let part = slice_range done c.args.from c.args.to in
+    let x = slice_index (counts (map value part)) k in
+    let entry = (plans.completes.members x).0 (inl (subst (λ ys. Contains ys x) (counts_range value done c.args.from c.args.to)
+    (place_of value part k l))) in
+    let low = entry.1 in let room = r.1.1.1.1.1.1.1.0.room in omega (arith, low, room))
+
+pub merge-requires-clause-fits : goal.merge-requires-clause-fits
+merge-requires-clause-fits g c =
+    let r = c.requires.1.1 in λ k l. (
+    let entry = (r.1.1.1.0.completes.members (slice_index c.args.fresh.now k)).0 (inr (Contains-get_or c.args.fresh.now k 0 l)) in
+    r.1.1.0 (slice_index c.args.fresh.now k) entry.1)
+
+pub close_column-requires : goal.close_column-requires
+close_column-requires g c κs inside =
+    let value = g.N.Number.value in let r = c.requires.1.1 in
+    let done = c.split_at_mut-done.result.0.now in
+    let front = sym c.split_at_mut-done.ensures.front in
+    let plans = subst (λ ys. Plans g.o c.args.k c.args.ptr.now (counts (map value ys)) c.args.from c.args.to c.args.fresh.now) front
+    r.1.1.1.0 in
+    let numbers = subst (λ ys. AreCounts (map value ys)) front r.1.1.1.1.1.0 in
+    let columns = subst (λ ys. HoldBefore g.o c.args.k c.args.ptr.now (counts (map value ys))) front r.1.1.1.1.1.1.0 in
+    let parents = subst (λ ys. TellFirst g.o c.args.k c.args.ptr.now (counts (map value ys)) c.args.parent.now) front r.1.1.1.1.1.1.1.0 in
+    let rows = counts (map value done) in
+    let fresh = c.args.fresh.now in
+    let part = slice_range rows c.args.from c.args.to in
+    let out = c.merge.new.out in
+    let written : map value out ≡ map pos (merged part fresh) =
+    c.merge.ensures ∙ ap (λ zs. map pos (merged zs fresh)) (counts_range value done c.args.from c.args.to) in
+    let new = counts (map value (done ++ out)) in
+    let is : new ≡ rows ++ merged part fresh = counts_append value done out (merged part fresh) written in
+    let begin : slice_index c.args.ptr.now c.args.k ≡ length rows =
+    sym c.split_at_mut-done.ensures.front_len ∙ sym (counts_long value done) in
+    let size : length (done ++ out) ≡ length new = sym (counts_long value (done ++ out)) in
+    let all = ap length is in let sum = length-append rows (merged part fresh) in
+    let kept = range_before rows (merged part fresh) new _ is begin in (
+      inside.0,
+      (
+        inside.1,
+        (
+          r.0,
+          (
+            r.1.0,
+            (
+              are_append value done out (merged part fresh) numbers written,
+              (
+                hold_same g.o c.args.k c.args.ptr.now rows new columns kept (omega (arith, all, sum)),
+                (
+                  tell_same g.o c.args.k c.args.ptr.now rows new columns kept (omega (arith, all, sum)) c.args.parent.now parents,
+                  (
+                    r.1.1.1.1.1.1.1.1,
+                    (
+                      omega (arith, size, begin, all, sum),
+                      (
+                        omega arith,
+                        subst (IsColumn g.o.graph g.o.rows c.args.k)
+                            (sym (range_last rows (merged part fresh) new _ _ is begin size))
+                            (merged_column (record { order = g.o; place = c.args.k; inherited = part }) fresh plans.rising plans.completes),
+                      ),
+                    ),
+                  ),
+                ),
+              ),
+            ),
+          ),
+        ),
+      ),
+    )
+
+pub returns-clause-numbers : goal.returns-clause-numbers
+returns-clause-numbers g c =
+    let value = g.N.Number.value in let r = c.requires.1.1 in
+    let done = c.split_at_mut-done.result.0.now in
+    are_append value done c.merge.new.out
+    (merged (counts (map value (slice_range done c.args.from c.args.to))) c.args.fresh.now)
+    (subst (λ ys. AreCounts (map value ys)) (sym c.split_at_mut-done.ensures.front) r.1.1.1.1.1.0) c.merge.ensures

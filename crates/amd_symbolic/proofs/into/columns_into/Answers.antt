@@ -1,0 +1,90 @@
+use Rattle.std.proofs.Common.{ℕ, ◌<◌, ℤ, List, pos, ◌≡◌, ◌≢◌, [], ◌∷◌, map, length, refl, sym, ap, subst, ◌∙◌, arith, rules}
+use Rattle.std.specs.Prelude.{IfOk, IfErr, ◌==◌, ◌≤ℤ◌, unsigned_abs}
+use Rattle.std.proofs.lemmas.Int.{ints}
+use Rattle.std.proofs.lemmas.List.{length-map}
+use Rattle.amd_model.specs.Input.Columns.{IsInput}
+use Rattle.amd_symbolic.specs.Orders.{Permutes}
+use Rattle.amd_types.specs.Statuses.{IsStatusOf}
+use Rattle.amd_types.specs.declared.amd.Status.TheVariants.{Invalid}
+use Rattle.amd_symbolic.specs.Factors.{IsFault, WritesFactor}
+use Rattle.amd_symbolic.proofs.Faults.{memory_of, all_of}
+use Rattle.amd_symbolic.proofs.ColumnParts.{no_rows, no_items, some_items, empty_order, form_by, no_count}
+use Rattle.amd_symbolic.proofs.into.columns_into.Goals as goal
+
+pub returns-in_default-clause-fault : goal.returns-in_default-clause-fault
+returns-in_default-clause-fault g c = no_count (g.I.Number.value c.args.n) _ _ c.in_default.ensures (simp length-map (omega arith))
+
+pub returns-then-is_empty-clause-factor : goal.returns-then-is_empty-clause-factor
+returns-then-is_empty-clause-factor g c =
+    let a_p : List ℤ = map g.I.Number.value c.args.a_p.now in
+    let a_i : List ℤ = map g.I.Number.value c.args.a_i.now in
+    let p : List ℤ = map g.I.Number.value c.args.p.now in
+    let rows : List ℤ = map g.I.Number.value c.args.rows.now in
+    let zero : pos 0 ≡ g.I.Number.value c.args.n = sym (ap pos c.if-size-eq0.true) ∙ c.in-Some.ensures.1 in
+    let empty : p ≡ [] = no_items p (c.if-is_empty.ensures ∙ ap (λ l. l == 0) (sym (length-map c.args.p.now g.I.Number.value))) in
+    subst (λ z. IfOk c.empty_frame.result (λ f. WritesFactor z a_p a_i p rows rows f.ptr.items f.parent.items)) zero
+    (all_of c.empty_frame.result (λ f. f.ptr.items ≡ 0 ∷ []) (λ f. f.parent.items ≡ []) (λ f. f.parent.items ≡ [])
+    (λ f. WritesFactor (pos 0) a_p a_i p rows rows f.ptr.items f.parent.items) c.empty_frame.ensures.pointers
+    c.empty_frame.ensures.parents c.empty_frame.ensures.parents
+    (λ f pointers parents _. record {
+      entries = [];
+      factor = no_rows a_p a_i p f.ptr.items [] f.parent.items empty pointers refl parents;
+      written = refl;
+    }))
+
+pub returns-then-is_empty-clause-fault : goal.returns-then-is_empty-clause-fault
+returns-then-is_empty-clause-fault g c =
+    let zero : g.I.Number.value c.args.n ≡ pos 0 = sym c.in-Some.ensures.1 ∙ ap pos c.if-size-eq0.true in
+    memory_of c.empty_frame.result (IsFault (g.I.Number.value c.args.n) (map g.I.Number.value c.args.a_p.now)
+    (map g.I.Number.value c.args.a_i.now) (map g.I.Number.value c.args.p.now) (length c.args.rows.now))
+    c.empty_frame.ensures.fault (λ some. absurd (some zero))
+
+pub returns-else-is_empty-clause-fault : goal.returns-else-is_empty-clause-fault
+returns-else-is_empty-clause-fault g c =
+    let p : List ℤ = map g.I.Number.value c.args.p.now in
+    let zero : g.I.Number.value c.args.n ≡ pos 0 = sym c.in-Some.ensures.1 ∙ ap pos c.if-size-eq0.true in
+    let some : length p ≢ 0 = some_items p (c.if-is_empty.ensures ∙ ap (λ l. l == 0) (sym (length-map c.args.p.now g.I.Number.value))) in
+    ((λ not. absurd (not zero)), (λ order h. some (empty_order p order (subst (λ z. Permutes (unsigned_abs z) p order) zero h))))
+
+pub returns-then-eq-clause-fault : goal.returns-then-eq-clause-fault
+returns-then-eq-clause-fault g c =
+    let z : ℤ = g.I.Number.value c.args.n in
+    let a_p : List ℤ = map g.I.Number.value c.args.a_p.now in
+    let a_i : List ℤ = map g.I.Number.value c.args.a_i.now in
+    let invalid : c.valid.result ≡ Invalid = search rules in (
+      (λ zero. c.if-size-eq0.false (let same : pos c.in-Some.size ≡ pos 0 = c.in-Some.ensures.1 ∙ zero in cc)),
+      subst (IsStatusOf z z a_p a_i) invalid c.valid.ensures,
+    )
+
+pub form_columns_into-requires : goal.form_columns_into-requires
+form_columns_into-requires g c κs within =
+    let z : ℤ = g.I.Number.value c.args.n in
+    let a_p : List ℤ = map g.I.Number.value c.args.a_p.now in
+    let a_i : List ℤ = map g.I.Number.value c.args.a_i.now in
+    let sound : c.valid.result ≢ Invalid = search rules in
+    let exact = g.met.I.Integral.exact_law in
+    let form = subst (λ x. IsInput x x a_p a_i) (sym c.in-Some.ensures.1) (form_by z a_p a_i c.valid.result c.valid.ensures sound) in
+    let fits : (j : ℕ) → j < c.in-Some.size → g.I.Number.fits (pos j) = λ j l. (
+    let size = c.in-Some.ensures.1 in
+    let low : pos 0 ≤ℤ pos j = omega (arith, ints) in
+    let most : pos j ≤ℤ z = omega (arith, ints, l, size) in
+    g.I.Number.between_law (pos 0) (pos j) z exact (g.met.I.Zero.zero_fits_law exact) c.requires.fits low most) in
+    (within.0, (within.1.0, (within.1.1, (form, (refl, (refl, fits))))))
+
+pub returns-clause-factor : goal.returns-clause-factor
+returns-clause-factor g c =
+    let a_p : List ℤ = map g.I.Number.value c.args.a_p.now in
+    let a_i : List ℤ = map g.I.Number.value c.args.a_i.now in
+    let p : List ℤ = map g.I.Number.value c.args.p.now in
+    let old : List ℤ = map g.I.Number.value c.args.rows.now in
+    let new : List ℤ = map g.I.Number.value c.form_columns_into.new.rows in
+    subst (λ z. IfOk c.form_columns_into.result (λ f. WritesFactor z a_p a_i p old new f.ptr.items f.parent.items)) c.in-Some.ensures.1
+    c.form_columns_into.ensures.factor
+
+pub returns-clause-fault : goal.returns-clause-fault
+returns-clause-fault g c =
+    let a_p : List ℤ = map g.I.Number.value c.args.a_p.now in
+    let a_i : List ℤ = map g.I.Number.value c.args.a_i.now in
+    let p : List ℤ = map g.I.Number.value c.args.p.now in
+    subst (λ z. IfErr c.form_columns_into.result (IsFault z a_p a_i p (length c.args.rows.now))) c.in-Some.ensures.1
+    c.form_columns_into.ensures.fault

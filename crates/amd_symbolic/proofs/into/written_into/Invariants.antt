@@ -1,0 +1,4 @@
+use Rattle.amd_symbolic.proofs.into.written_into.Given as goal
+
+abbrev pub ghost-fill_into : goal.ghost-fill_into
+ghost-fill_into g a = g.o

@@ -1,0 +1,42 @@
+// Places as numbers of an integer type: reading them, and writing them. Called by `gathering`, `merge` and `column`.
+
+ghost use Rattle.std.specs.Prelude.{ℕ, ◌≡◌, ◌<◌, ◌^◌, length, map, pos, slice_index};
+ghost use Rattle.amd_types.specs.Counts.{counts};
+ghost use Rattle.amd_symbolic.specs.Numbers.{AreCounts};
+
+use amd::internal::{count_at, from_count};
+use num_traits::PrimInt;
+
+/// The place that the number at `k` is, which is below the length of `numbers`.
+#[inline]
+pub fn place_at<N: PrimInt>(numbers: &[N], k: usize) -> usize
+    requires numbers { AreCounts (map N.value numbers.now) }
+    requires within { k < length numbers.now }
+    requires small { slice_index (counts (map N.value numbers.now)) k < 2 ^ 64 }
+    ensures { result ≡ slice_index (counts (map N.value numbers.now)) k }
+{
+    count_at(numbers, k)
+}
+
+/// The number that a place is, which the type has.
+#[inline]
+pub fn number_of<N: PrimInt>(place: usize) -> N
+    requires { N.fits (pos place) }
+    ensures { N.value result ≡ pos place }
+{
+    let Some(number) = from_count(place) else {
+        unreachable!()
+    };
+    number
+}
+
+/// Writes places, which the type has, as numbers of it.
+pub fn write_places<N: PrimInt>(places: &[usize], numbers: &mut [N])
+    requires room { length numbers.old ≡ length places.now }
+    requires fits { (k : ℕ) → k < length places.now → N.fits (pos (slice_index places.now k)) }
+    ensures { map N.value numbers.new ≡ map pos places.now }
+{
+    'places: for k in 0..places.len() {
+        numbers[k] = number_of(places[k]);
+    }
+}
