@@ -8,7 +8,9 @@ use crate::counts::are_counts;
 use crate::orders::other_orders;
 use crate::supernodes::are_supernodes;
 use amd::{Control, Info};
-use amd_symbolic::{Factor, Fault, analyze, analyze_counts, columns, counts, supernodes};
+use amd_symbolic::{
+    Factor, Fault, analyze, analyze_counts, columns, columns_into, counts, supernodes,
+};
 use amd_testing::check;
 use amd_testing::choices::CHOICES;
 use amd_testing::factors::{SearchedFactor, SearchedNeed, factor_of, need_of};
@@ -37,6 +39,52 @@ fn is_same(factor: &Factor<Global>, slow: &SearchedFactor<Global>) -> bool {
     factor.ptr.last() == Some(&end) && factor.rows.len() == end
 }
 
+/// What stands in numbers before columns are written into them.
+pub const UNTOUCHED: i64 = -5;
+
+/// Whether rows were written into numbers, and what stands behind them stayed.
+pub fn are_written(numbers: &[i64], rows: &[usize]) -> bool {
+    for (k, &number) in numbers.iter().enumerate() {
+        let wanted = match rows.get(k) {
+            Some(&row) => i64::try_from(row).unwrap_or(UNTOUCHED),
+            None => UNTOUCHED,
+        };
+        if number != wanted {
+            return false;
+        }
+    }
+    rows.len() <= numbers.len()
+}
+
+/// Asserts that the columns written into numbers under an order are those of a factor; and that there is no room for
+/// them where there is no number.
+fn check_into(
+    rt: &impl Abort,
+    alloc: Global,
+    n: i64,
+    a_p: &[i64],
+    a_i: &[i64],
+    p: &[i64],
+    factor: &Factor<Global>,
+) -> Result<(), AllocError> {
+    let mut rows = vec![in alloc; UNTOUCHED; factor.rows.len().saturating_add(1)]?;
+    let Ok(frame) = columns_into(alloc, n, a_p, a_i, p, &mut rows) else {
+        panic!(rt; "no columns");
+    };
+    let is_frame = frame.ptr.as_slice() == factor.ptr.as_slice()
+        && frame.parent.as_slice() == factor.parent.as_slice();
+    check_under(
+        rt,
+        is_frame && are_written(&rows, &factor.rows),
+        p,
+        a_p,
+        a_i,
+    );
+    let fault = columns_into(alloc, n, a_p, a_i, p, &mut []).err();
+    check!(rt; fault.is_none() == factor.rows.is_empty());
+    Ok(())
+}
+
 /// Asserts that the columns under an order are the slow ones, in exactly the room that they need, and that with one
 /// place less there is no room.
 fn check_columns(
@@ -47,7 +95,7 @@ fn check_columns(
     a_i: &[i64],
     p: &[i64],
     slow: &SearchedFactor<Global>,
-) {
+) -> Result<(), AllocError> {
     let room = need_of(&slow.columns).lnz;
     let Ok(factor) = columns(alloc, n, a_p, a_i, p, room) else {
         panic!(rt; "no factor");
@@ -57,6 +105,7 @@ fn check_columns(
         let fault = columns(alloc, n, a_p, a_i, p, room - 1).err();
         check!(rt; fault == Some(Fault::RoomTooSmall));
     }
+    check_into(rt, alloc, n, a_p, a_i, p, &factor)
 }
 
 /// Asserts that under an order the columns, the counts and the supernodes are those of the slow factor.
@@ -69,7 +118,7 @@ fn check_order(
     p: &[i64],
 ) -> Result<(), AllocError> {
     let slow = factor_of(alloc, a_p, a_i, p)?;
-    check_columns(rt, alloc, n, a_p, a_i, p, &slow);
+    check_columns(rt, alloc, n, a_p, a_i, p, &slow)?;
     let (Ok(counted), Ok(made)) = (
         counts(alloc, n, a_p, a_i, p),
         supernodes(alloc, n, a_p, a_i, p),

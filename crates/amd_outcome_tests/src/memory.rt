@@ -2,9 +2,10 @@
 // refusal answers `OutOfMemory`, and the first one without gives the answer. After each of them as many blocks came
 // back as were granted.
 
+use crate::comparison::{UNTOUCHED, are_written};
 use crate::worked::{FOUR_CYCLE, FactorCase, WORKED, check_factor};
 use amd::Control;
-use amd_symbolic::{Factor, Fault, analyze, analyze_holding, columns};
+use amd_symbolic::{Factor, Fault, analyze, analyze_holding, columns, columns_into};
 use amd_testing::check;
 use amd_testing::refusing::{Refusing, each_refused};
 use std::alloc::{Allocator, Global};
@@ -46,6 +47,34 @@ fn each_request_of_columns(rt: HostRuntime) {
     }
     let refusals = each_refused(rt.alloc(), |heap| asks(&rt, heap, &FOUR_CYCLE));
     check!(&rt; refusals == Ok(REQUESTS), FOUR_CYCLE.what);
+}
+
+/// Asks for the columns of a case in numbers, and says whether there was an answer.
+fn asks_into(rt: &impl Abort, heap: &Refusing<Global>, case: &FactorCase) -> bool {
+    let mut rows = [UNTOUCHED; 9];
+    match columns_into(heap, case.n, case.a_p, case.a_i, case.p, &mut rows) {
+        Ok(frame) => {
+            let is_frame = frame.ptr.as_slice() == case.ptr
+                && frame.parent.as_slice() == case.parent;
+            check!(rt; is_frame && are_written(&rows, case.rows), case.what);
+            true
+        }
+        Err(fault) => {
+            check!(rt; fault == Fault::OutOfMemory && are_written(&rows, &[]), case.what);
+            false
+        }
+    }
+}
+
+/// All requests of `columns` but that for the entries.
+#[test]
+fn each_request_of_columns_into(rt: HostRuntime) {
+    for case in &WORKED {
+        let refusals = each_refused(rt.alloc(), |heap| asks_into(&rt, heap, case));
+        check!(&rt; matches!(refusals, Ok(1..)), case.what);
+    }
+    let refusals = each_refused(rt.alloc(), |heap| asks_into(&rt, heap, &FOUR_CYCLE));
+    check!(&rt; refusals == Ok(REQUESTS - 1), FOUR_CYCLE.what);
 }
 
 /// How many requests of each size in bytes there are for the four-cycle with room for seven entries, which one list
