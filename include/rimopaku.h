@@ -157,7 +157,7 @@ struct rimopaku_supernode_sizes {
  * Two calls. rimopaku_supernode_sizes tells how much room is needed; the memory that it takes does not grow with the factor.
  * rimopaku_supernodes then writes m places of parent, one more of first and ptr, and the rows. The arrays may be longer, if first and ptr
  * still have one place more than parent; what follows in each is unchanged. With n places of parent, and as many of rows as
- * rimopaku_columns needs, there is always room, and the first call may be left out. The second takes memory for the rows, too.
+ * rimopaku_columns needs, there is always room, and the first call may be left out. The second writes the rows in their place at once.
  *
  * Both return RIMOPAKU_NOT_PERMUTATION if p is no permutation of the rows. The second returns RIMOPAKU_INVALID also if first_len or ptr_len
  * is not parent_len + 1; RIMOPAKU_ROOM_TOO_SMALL if parent has fewer places than there are supernodes, or rows than there are rows below

@@ -12,6 +12,7 @@ pub mod WalksUp
 pub mod ForestsLeft
 -- What the supernodes of a factor leave, and the same in the numbers of C.
 pub mod SupernodesLeft
+pub mod Parted
 -- Lists that are laid, and copies of them.
 pub mod SameLists
 -- What the elimination of lists leaves.

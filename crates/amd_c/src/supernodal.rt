@@ -2,12 +2,13 @@
 // exported functions, for any integer type. The arrays and the record are written last, so they stay as they were where
 // there is a fault. Called by `int32` and `int64`.
 
-ghost use Rattle.std.specs.Prelude.{◌↔◌, IsTrue, map};
+ghost use Rattle.std.specs.Prelude.{◌≡◌, ◌↔◌, IsTrue, map};
+ghost use Rattle.amd_symbolic.specs.Partitions.{Matrix, matrix};
 ghost use Rattle.amd_c.specs.Supernodal.{HasBlockPlaces, LeavesSizes, LeavesSupernodes, blocks};
 
 use crate::factors::{has_numbers, has_parents, write_numbers, write_parents};
 use crate::records::SupernodeSizes;
-use amd_symbolic::{Fault, supernode_sizes, supernodes};
+use amd_symbolic::{Fault, supernode_partition, supernode_sizes, write_rows};
 use num_traits::PrimInt;
 use std::alloc::Global;
 
@@ -49,6 +50,46 @@ fn have_block_places<I: PrimInt>(first: &[I], ptr: &[I], parent: &[I]) -> bool
         && ptr.len().checked_sub(1) == Some(parent.len())
 }
 
+/// Writes the supernodes of the matrix `m`, which has `n` rows.
+fn matrix_supernodes_into<I: PrimInt>(
+    alloc: Global,
+    n: I,
+    a_p: &[I],
+    a_i: &[I],
+    p: &[I],
+    first: &mut [I],
+    ptr: &mut [I],
+    rows: &mut [I],
+    parent: &mut [I],
+) -> Result<(), Fault>
+    ghost m: { Matrix }
+    requires fits { I.fits (I.value n) }
+    requires matrix { m ≡ matrix (I.value n) (map I.value a_p.now) (map I.value a_i.now) (map I.value p.now) }
+    ensures { LeavesSupernodes m.size m.pointers m.indices m.list
+        (blocks (map I.value first.old) (map I.value ptr.old) (map I.value rows.old) (map I.value parent.old))
+        (blocks (map I.value first.new) (map I.value ptr.new) (map I.value rows.new) (map I.value parent.new)) result }
+{
+    if !have_block_places(first, ptr, parent) {
+        return Err(Fault::NotColumnForm);
+    }
+    let found = supernode_partition(alloc, n, a_p, a_i, p)?;
+    let below = found.cut.ptr[found.cut.parent.len()];
+    if found.cut.parent.len() > parent.len() || below > rows.len() {
+        return Err(Fault::RoomTooSmall);
+    }
+    if !has_numbers::<I>(&found.cut.first)
+        || !has_numbers::<I>(&found.cut.ptr)
+        || !has_parents::<I>(&found.cut.parent)
+    {
+        return Err(Fault::OutOfMemory);
+    }
+    let cut = write_rows(found, &mut rows[..below]);
+    write_numbers(&cut.first, &mut first[..cut.first.len()]);
+    write_numbers(&cut.ptr, &mut ptr[..cut.ptr.len()]);
+    write_parents(&cut.parent, &mut parent[..cut.parent.len()]);
+    Ok(())
+}
+
 /// Writes the supernodes of the factor of a matrix under the order `p` into the caller's arrays.
 ///
 /// The input is as that of `supernodes` of the crate `amd_symbolic`. Where each supernode begins, and behind them `n`,
@@ -80,23 +121,5 @@ pub fn supernodes_into<I: PrimInt>(
         (blocks (map I.value first.old) (map I.value ptr.old) (map I.value rows.old) (map I.value parent.old))
         (blocks (map I.value first.new) (map I.value ptr.new) (map I.value rows.new) (map I.value parent.new)) result }
 {
-    if !have_block_places(first, ptr, parent) {
-        return Err(Fault::NotColumnForm);
-    }
-    let found = supernodes(alloc, n, a_p, a_i, p)?;
-    if found.parent.len() > parent.len() || found.rows.len() > rows.len() {
-        return Err(Fault::RoomTooSmall);
-    }
-    if !has_numbers::<I>(&found.first)
-        || !has_numbers::<I>(&found.ptr)
-        || !has_numbers::<I>(&found.rows)
-        || !has_parents::<I>(&found.parent)
-    {
-        return Err(Fault::OutOfMemory);
-    }
-    write_numbers(&found.first, &mut first[..found.first.len()]);
-    write_numbers(&found.ptr, &mut ptr[..found.ptr.len()]);
-    write_numbers(&found.rows, &mut rows[..found.rows.len()]);
-    write_parents(&found.parent, &mut parent[..found.parent.len()]);
-    Ok(())
+    matrix_supernodes_into(alloc, n, a_p, a_i, p, first, ptr, rows, parent)
 }

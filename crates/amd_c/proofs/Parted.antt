@@ -1,0 +1,23 @@
+-- What a partition into supernodes tells: there are supernodes, and how many.
+use Rattle.std.proofs.Common.{ℕ, ℤ, ◌≡◌, ◌<◌, ◌⊎◌, inl, inr, arith, List, length}
+use Rattle.std.specs.Prelude.{slice_index, unsigned_abs, Option}
+use Rattle.amd_model.proofs.Patterns.DegreeSums.{pattern_graph}
+use Rattle.amd_symbolic.specs.Partitions.{IsPartitionOf, Matrix, order_of}
+use Rattle.amd_symbolic.proofs.SupernodeRoom.{room-of}
+use Rattle.amd_c.specs.Supernodal.{Blocks, PassesPlaces}
+
+pub passes : (m : Matrix) (first owner ptr : List ℕ) (parent : List (Option ℕ)) (starts earlier : List ℕ) →
+    IsPartitionOf m first owner ptr parent starts earlier → (a : Blocks) →
+    (length a.parent < length parent) ⊎ (length a.rows < slice_index ptr (length parent)) →
+    PassesPlaces m.size m.pointers m.indices m.list a
+passes m first owner ptr parent starts earlier p a more =
+    let t = room-of (order_of m) (pattern_graph (unsigned_abs m.size) m.pointers m.indices) first owner ptr parent p.cut in
+    let count = t.count in let entries = t.entries in
+    record {
+      first = t.first;
+      ptr = t.ptr;
+      rows = t.rows;
+      parent = t.parent;
+      supernodes = record { form = p.form; order = (order_of m).rows; permutes = p.permutes; holds = t.hold };
+      more = elim more [ inl x ↦ inl (omega (arith, x, count)) | inr x ↦ inr (omega (arith, x, entries)) ];
+    }

@@ -1,0 +1,67 @@
+-- What was written to the front of each array are the numbers of the supernodes; where there was no place, they are more.
+use Rattle.std.proofs.Common.{◌≡◌, ◌<◌, ◌+◌, ◌-◌, ◌⊎◌, inl, inr, map, pos, length, refl, sym, ◌∙◌, ap, subst, arith, rules}
+use Rattle.std.specs.Prelude.{slice_index}
+use Rattle.std.proofs.lemmas.List.{get_or_read, length-map}
+use Rattle.amd_types.specs.Counts.{counts}
+use Rattle.amd_symbolic.specs.Partitions.{IsPartitionOf}
+use Rattle.amd_symbolic.proofs.TypedRows.{count-length}
+use Rattle.amd_c.specs.Columns.{parent_number}
+use Rattle.amd_c.specs.Supernodal.{HasBlockPlaces, blocks}
+use Rattle.amd_c.proofs.ColumnsLeft.{front_values}
+use Rattle.amd_c.proofs.Parted.{passes}
+use Rattle.amd_c.proofs.supernodal.matrix_supernodes_into.Goals as goal
+use Rattle.amd_c.proofs.supernodal.matrix_supernodes_into.Goals.{then-len-parent-via-then-len-parent}
+use Rattle.amd_c.proofs.supernodal.matrix_supernodes_into.Goals.{then-len-parent-via-else-len-parent+then-below-rows}
+
+pub returns-then-len-parent : goal.returns-then-len-parent
+returns-then-len-parent g c =
+    let value = g.I.Number.value in
+    let cut = c.in_ok-found.found.cut in
+    let p = subst (λ x. IsPartitionOf x cut.first.items cut.owner.items cut.ptr.items cut.parent.items
+    c.in_ok-found.found.lists.starts.items c.in_ok-found.found.lists.neighbours.items) (sym c.requires.1.1.1)
+    c.in_ok-found.ensures.partition in
+    let pointers = p.cut.partition.pointers in let parents = p.cut.partition.parents in
+    let many : c.len.result ≡ length cut.parent.items = omega arith in
+    let read : c.index-below.result.now ≡ slice_index cut.ptr.items c.len.result =
+    get_or_read cut.ptr.items c.len.result c.index-below.result.now (omega (arith, pointers, parents, many)) c.index-below.ensures 0 in
+    let last = ap (slice_index cut.ptr.items) many in
+    let places : HasBlockPlaces (map value c.args.first.now) (map value c.args.ptr.now) (map value c.args.parent.now) = search rules in
+    let wide = length-map c.args.parent.now value in let long = length-map c.args.rows.now value in
+    let more : (length (map value c.args.parent.now) < length cut.parent.items) ⊎ (length (map value c.args.rows.now) < slice_index
+    cut.ptr.items (length cut.parent.items)) = elim c.then-len-parent.branch [
+      | then-len-parent-via-then-len-parent w ↦ inl (let t = w.if-len-parent.true in omega (arith, t, wide))
+      | then-len-parent-via-else-len-parent+then-below-rows w ↦ inr (let t = w.if-below-rows.true in omega (arith, t, long, read, last))
+    ] in (
+      (
+        (λ has. passes g.m cut.first.items cut.owner.items cut.ptr.items cut.parent.items c.in_ok-found.found.lists.starts.items
+            c.in_ok-found.found.lists.neighbours.items p _ more),
+        (λ ne. places),
+      ),
+      refl,
+    )
+
+pub returns : goal.returns
+returns g c =
+    let value = g.I.Number.value in
+    let e = c.write_rows-cut.ensures in
+    let cut = c.write_rows-cut.result in
+    let rows = c.write_rows-cut.new.rows in
+    let firsts : c.len-3.result ≡ length cut.first.items = (let l = c.len-3.ensures in omega (arith, l)) in
+    let ptrs : c.len-4.result ≡ length cut.ptr.items = (let l = c.len-4.ensures in omega (arith, l)) in
+    let over : c.len-5.result ≡ length cut.parent.items = (let l = c.len-5.ensures in omega (arith, l)) in
+    let long : length rows ≡ c.index-below.result.now = search rules in
+    record {
+      first = cut.first.items;
+      ptr = cut.ptr.items;
+      rows = counts (map value rows);
+      parent = cut.parent.items;
+      supernodes = rw e.same e.supernodes;
+      begin = front_values value pos c.write_numbers.new.numbers c.args.first.now cut.first.items c.len-3.result
+          (c.write_numbers.ensures ∙ ap (map pos) c.deref-2.ensures.value) firsts;
+      pointers = front_values value pos c.write_numbers-2.new.numbers c.args.ptr.now cut.ptr.items c.len-4.result
+          (c.write_numbers-2.ensures ∙ ap (map pos) c.deref-3.ensures.value) ptrs;
+      entries = front_values value pos rows c.args.rows.now (counts (map value rows)) c.index-below.result.now (sym e.told)
+          (sym (count-length value rows ∙ long));
+      parents = front_values value parent_number c.write_parents.new.numbers c.args.parent.now cut.parent.items c.len-5.result
+          (c.write_parents.ensures ∙ ap (map parent_number) c.deref-4.ensures.value) over;
+    }
