@@ -113,8 +113,9 @@ enum {
  * column is empty. With p from rimopaku_order, rows_len = statistics.lnz is enough, unless lnz is SIZE_MAX.
  *
  * ptr_len must be n + 1 and parent_len n; otherwise the call returns RIMOPAKU_INVALID. It returns RIMOPAKU_OUT_OF_MEMORY also if the
- * integer type cannot count the entries. After an error the arrays are unchanged. The call takes memory for rows_len entries, whatever the
- * factor needs. */
+ * integer type cannot count the entries. After an error ptr and parent are unchanged, and so is rows, except that after
+ * RIMOPAKU_OUT_OF_MEMORY and RIMOPAKU_ROOM_TOO_SMALL it may hold some of the entries. The memory that the call takes does not grow with
+ * the factor. */
 int32_t rimopaku_columns_i32(int32_t n, const int32_t *a_p, size_t a_p_len, const int32_t *a_i, size_t a_i_len, const int32_t *p,
                              size_t p_len, int32_t *ptr, size_t ptr_len, int32_t *rows, size_t rows_len, int32_t *parent,
                              size_t parent_len);

@@ -206,7 +206,7 @@ static void answer_columns(int width, int64_t n, struct list a_p, struct list a_
         entries = (size_t)factor.ptr.numbers[len];
     else if (!is_untouched(factor.ptr, 0) || !is_untouched(factor.parent, 0))
         fail("an array was written beside an error");
-    if (entries > most || !is_untouched(factor.rows, entries))
+    if (status != RIMOPAKU_ROOM_TOO_SMALL && (entries > most || !is_untouched(factor.rows, entries)))
         fail("an array was written behind the entries");
     write_list("PTR", factor.ptr.numbers, status == RIMOPAKU_OK ? len + 1 : 0);
     write_list("ROWS", factor.rows.numbers, entries);

@@ -49,10 +49,17 @@ RefusesColumns n ap ai p a e =
     (HasColumnPlaces n a.ptr a.parent → IsFault n ap ai p (length a.rows) e) ×
     (e ≢ NotColumnForm → HasColumnPlaces n a.ptr a.parent)
 
--- what a call with this outcome leaves: the columns, or after a fault all as it was
+-- after a fault the arrays are as they were, but that some entries may stand where they pass the room, or where memory
+-- or the type has not enough
+pub record KeepsArrays (old new : Arrays) (e : Fault) : Type 0 where
+  pub pointers : new.ptr ≡ old.ptr
+  pub parents : new.parent ≡ old.parent
+  pub entries : e ≢ RoomTooSmall → e ≢ OutOfMemory → new.rows ≡ old.rows
+
+-- what a call with this outcome leaves: the columns, or what stays after a fault
 abbrev pub LeavesColumns : ℤ → List ℤ → List ℤ → List ℤ → Arrays → Arrays → Result (Unit {0}) Fault → Type 0
 LeavesColumns n ap ai p old new (Ok _) = HoldsColumns n ap ai p old new
-LeavesColumns n ap ai p old new (Err e) = RefusesColumns n ap ai p old e × (new ≡ old)
+LeavesColumns n ap ai p old new (Err e) = RefusesColumns n ap ai p old e × KeepsArrays old new e
 
 -- the number is that of an outcome, and the call leaves what this says
 pub record ColumnsInto (n : ℤ) (ap ai p : List ℤ) (old new : Arrays) (number : ℤ) : Type 0 where

@@ -1,11 +1,12 @@
 // Writes the columns of a factor into a caller's arrays: the body of the exported functions, for any integer type. The
-// arrays are written last, so they stay as they were where there is a fault. Called by `int32` and `int64`.
+// entries are written in place, and the short arrays last, so those stay as they were where there is a fault. Called by
+// `int32` and `int64`.
 
 ghost use Rattle.std.specs.Prelude.{ℕ, ◌≡◌, ◌<◌, ◌↔◌, IsTrue, None, length, map, pos, slice_index, slice_index_or, true};
 ghost use Rattle.num_traits.specs.Laws.{Checks};
 ghost use Rattle.amd_c.specs.Columns.{HasColumnPlaces, LeavesColumns, arrays, number_of_end, parent_number};
 
-use amd_symbolic::{Fault, columns};
+use amd_symbolic::Fault;
 use amd_types::internal::{from_count, to_count};
 use num_traits::PrimInt;
 use std::alloc::Global;
@@ -106,8 +107,9 @@ pub fn write_parents<I: PrimInt>(parents: &[Option<usize>], numbers: &mut [I])
 ///
 /// # Errors
 ///
-/// Those of `columns`; all stays as it was. `NotColumnForm` also where `ptr` or `parent` has not that many places, and
-/// `OutOfMemory` also where a number is too large for the type.
+/// Those of `columns`; `ptr` and `parent` stay as they were, and so does `rows`, but that after `RoomTooSmall` and
+/// `OutOfMemory` some of the entries may stand there. `NotColumnForm` also where `ptr` or `parent` has not that many
+/// places, and `OutOfMemory` also where a number is too large for the type.
 ///
 /// Source: Rose, Tarjan and Lueker 1976; Liu 1990; Davis 2005.
 pub fn columns_into<I: PrimInt>(
@@ -129,15 +131,11 @@ pub fn columns_into<I: PrimInt>(
     if !have_column_places(n, ptr, parent) {
         return Err(Fault::NotColumnForm);
     }
-    let factor = columns(alloc, n, a_p, a_i, p, rows.len())?;
-    if !has_numbers::<I>(&factor.ptr)
-        || !has_numbers::<I>(&factor.rows)
-        || !has_parents::<I>(&factor.parent)
-    {
+    let frame = amd_symbolic::columns_into(alloc, n, a_p, a_i, p, rows)?;
+    if !has_numbers::<I>(&frame.ptr) || !has_parents::<I>(&frame.parent) {
         return Err(Fault::OutOfMemory);
     }
-    write_numbers(&factor.ptr, ptr);
-    write_numbers(&factor.rows, &mut rows[..factor.rows.len()]);
-    write_parents(&factor.parent, parent);
+    write_numbers(&frame.ptr, ptr);
+    write_parents(&frame.parent, parent);
     Ok(())
 }
