@@ -1,6 +1,6 @@
 // Writes the columns of a factor into a caller's arrays: the body of the exported functions, for any integer type. The
-// entries are written in place, and the short arrays last, so those stay as they were where there is a fault. Called by
-// `int32` and `int64`.
+// entries are written in place, and the short arrays last, so those stay as they were where there is a fault. Called
+// by `int32` and `int64`.
 
 ghost use Rattle.std.specs.Prelude.{ℕ, ◌≡◌, ◌<◌, ◌↔◌, IsTrue, None, length, map, pos, slice_index, slice_index_or, true};
 ghost use Rattle.num_traits.specs.Laws.{Checks};

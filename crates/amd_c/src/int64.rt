@@ -112,8 +112,8 @@ pub extern "C" fn rimopaku_valid_i64(n_row: i64, n_col: i64, a_p: &[i64], a_i: &
 ///
 /// # Errors
 ///
-/// A negative number; the arrays stay as they were, but that after -4 and -1 some of the entries may stand in `rows`. It
-/// is -2, `NotColumnForm`, exactly where `ptr` or `parent` has not that many places, or `n` is not 0 and the input is no
+/// A negative number; the arrays stay as they were, but that after -4 and -1 `rows` may have some of the entries. It is
+/// -2, `NotColumnForm`, exactly where `ptr` or `parent` has not that many places, or `n` is not 0 and the input is no
 /// column form. It is -3, `NotPermutation`, where `p` does not list each number below `n`, once; -4, `RoomTooSmall`,
 /// where the factor has more entries than `rows` has places; and -1, `OutOfMemory`, where a request for memory was
 /// refused, or a number is too large for the type. The last may come in place of the two before it.
