@@ -59,6 +59,7 @@ pub mod SupernodeRows
 pub mod NoSupernodes
 -- Their sizes, the columns that they stand for, and their laws.
 pub mod SupernodeRoom
+pub mod CutSizes
 pub mod Appending
 pub mod SupernodeFigures
 pub mod BlocksInside

@@ -43,6 +43,13 @@ pub record Own (first owner : List ℕ) : Type 0 where
   pub low : (k : ℕ) → k < length owner → slice_index first (slice_index owner k) ≤ k
   pub high : (k : ℕ) → k < length owner → k < slice_index first (slice_index owner k + 1)
 
+-- the last places of the runs before place k have that many entries together
+pub data SumEnds (owner sizes : List ℕ) : ℕ → ℕ → Type 0 where
+  nothing : SumEnds owner sizes 0 0
+  within : {k total : ℕ} → AreSame owner k → SumEnds owner sizes k total → SumEnds owner sizes (k + 1) total
+  ends : {k total : ℕ} → ¬ (AreSame owner k) → SumEnds owner sizes k total → SumEnds owner sizes (k + 1)
+      (total + slice_index sizes k)
+
 -- the last place of run s
 abbrev pub last_of : List ℕ → ℕ → ℕ
 last_of first s = slice_index first (s + 1) - 1

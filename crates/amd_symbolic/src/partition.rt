@@ -6,7 +6,7 @@ ghost use Rattle.std.specs.Prelude.{ℕ, ◌≡◌, ◌↔◌, ◌<◌, ◌≤�
 ghost use Rattle.std.specs.Prelude.{slice_index, slice_index_or};
 ghost use Rattle.amd_symbolic.specs.Orders.{Order};
 ghost use Rattle.amd_symbolic.specs.Partitions.{AreNumbered, AreSame, GoOver, HaveParents, HaveRoom, IsCut};
-ghost use Rattle.amd_symbolic.specs.Partitions.{IsJoined, Own, owner_at};
+ghost use Rattle.amd_symbolic.specs.Partitions.{IsJoined, Own, SumEnds, owner_at};
 ghost use Rattle.amd_symbolic.specs.Sizes.{HoldSizes};
 ghost use Rattle.amd_symbolic.specs.Supernodes.{AreRuns};
 
@@ -25,7 +25,7 @@ fn is_joined(k: usize, sizes: &[usize], parent: &[Option<usize>]) -> bool
 }
 
 /// Writes the number of the supernode of each place, and returns how many there are.
-fn number_places(sizes: &[usize], parent: &[Option<usize>], owner: &mut [usize]) -> usize
+pub fn number_places(sizes: &[usize], parent: &[Option<usize>], owner: &mut [usize]) -> usize
     requires parents { HaveParents sizes.now parent.now }
     requires room { length owner.old ≡ length sizes.now }
     ensures { AreNumbered (IsJoined sizes.now parent.now) (length sizes.now) owner.new result }
@@ -38,6 +38,32 @@ fn number_places(sizes: &[usize], parent: &[Option<usize>], owner: &mut [usize])
         }
     }
     count
+}
+
+/// Whether place `k` and the next one have one number.
+fn is_same(k: usize, owner: &[usize]) -> bool
+    requires { k < length owner.now }
+    ensures { (result ≡ true) ↔ AreSame owner.now k }
+{
+    k + 1 < owner.len() && owner[k + 1] == owner[k]
+}
+
+/// How many entries the last places of all supernodes have, by the number of each place; `None` where that is no number
+/// of 64 bits.
+pub fn sum_ends(sizes: &[usize], owner: &[usize]) -> Option<usize>
+    requires { length sizes.now ≡ length owner.now }
+    ensures { MatchOption result (Unit {0}) (λ total. SumEnds owner.now sizes.now (length owner.now) total) }
+{
+    let mut total = 0usize;
+    'places: for k in 0..owner.len() {
+        if !is_same(k, owner) {
+            let Some(sum) = total.checked_add(sizes[k]) else {
+                return None;
+            };
+            total = sum;
+        }
+    }
+    Some(total)
 }
 
 /// Writes where each supernode begins, and behind them the number of places.

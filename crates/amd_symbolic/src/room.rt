@@ -1,7 +1,7 @@
-// How many supernodes a factor has, and how many rows below their blocks: the columns are counted and the places cut as
-// for `supernodes`, and no row is written. Source: Liu, Ng and Peyton 1993. Called by users.
+// How many supernodes a factor has, and how many rows below their blocks: the columns are counted and the places
+// numbered as for `supernodes`, and no row is written. Source: Liu, Ng and Peyton 1993. Called by users.
 
-ghost use Rattle.std.specs.Prelude.{◌≡◌, map, unsigned_abs, IfOk, IfErr};
+ghost use Rattle.std.specs.Prelude.{◌≡◌, length, map, unsigned_abs, IfOk, IfErr, MatchOption};
 ghost use Rattle.amd_model.specs.Graph.{IsGraph};
 ghost use Rattle.amd_model.specs.Input.Pattern.{graph_of};
 ghost use Rattle.amd_types.specs.Counts.{counts as counts_of};
@@ -12,9 +12,9 @@ ghost use Rattle.amd_symbolic.specs.SupernodeLaws.{AreSizesOf, TellSizesOf};
 
 use crate::counting::counts;
 use crate::factor::Fault;
-use crate::partition::cut_places;
+use crate::partition::{number_places, sum_ends};
 use num_traits::PrimInt;
-use std::alloc::{AllocError, Allocator};
+use std::alloc::Allocator;
 
 /// How much room the supernodes of a factor need.
 #[derive(Clone, Copy)]
@@ -25,27 +25,24 @@ pub struct SupernodeSizes {
     pub rows: usize,
 }
 
-/// Cuts the places, and tells how many supernodes and rows below the blocks there are.
-///
-/// # Errors
-///
-/// A refused request for memory, or more rows than a number of 64 bits can say.
-fn cut_sizes<A: Allocator + Copy>(
-    alloc: A,
+/// Numbers the places, and tells how many supernodes and rows below the blocks there are; `None` where there are more
+/// rows than a number of 64 bits can say. `owner`, which has a place for each, is for the work alone.
+fn cut_sizes(
     sizes: &[usize],
     parent: &[Option<usize>],
-) -> Result<SupernodeSizes, AllocError>
+    owner: &mut [usize],
+) -> Option<SupernodeSizes>
     ghost o: { Order }
     requires laws { IsGraph o.graph }
     requires counts { HoldSizes o.graph o.rows sizes.now parent.now }
-    ensures { IfOk result (λ s. TellSizesOf o.graph o.rows s.supernodes s.rows) }
+    requires room { length owner.old ≡ length sizes.now }
+    ensures { MatchOption result (Unit {0}) (λ s. TellSizesOf o.graph o.rows s.supernodes s.rows) }
 {
-    let cut = cut_places(alloc, sizes, parent)?;
-    let supernodes = cut.parent.len();
-    Ok(SupernodeSizes {
-        supernodes,
-        rows: cut.ptr[supernodes],
-    })
+    let supernodes = number_places(sizes, parent, owner);
+    let Some(rows) = sum_ends(sizes, owner) else {
+        return None;
+    };
+    Some(SupernodeSizes { supernodes, rows })
 }
 
 /// The sizes of the supernodes of a matrix with `n` rows.
@@ -66,15 +63,18 @@ fn matrix_sizes<I: PrimInt, A: Allocator + Copy>(
         (map I.value p.now) e) }
 {
     let counted = counts(alloc, n, a_p, a_i, p)?;
-    Ok(cut_sizes(alloc, &counted.sizes, &counted.parent)?)
+    let mut owner = vec![in alloc; 0; counted.sizes.len()]?;
+    match cut_sizes(&counted.sizes, &counted.parent, &mut owner) {
+        Some(sizes) => Ok(sizes),
+        None => Err(Fault::OutOfMemory),
+    }
 }
 
 /// How much room [`crate::supernodes`] needs for the same matrix and order: how many supernodes there are, and how many
 /// rows below their blocks.
 ///
 /// The input and the order are those of `supernodes`. For `n = 0` the pointers and row indices are not looked at, `p`
-/// must be empty, and both numbers are 0. No row is written: beyond the counts a number a row is taken, and three
-/// a supernode.
+/// must be empty, and both numbers are 0. No row is written: beyond the counts a number a row is taken.
 ///
 /// # Errors
 ///
