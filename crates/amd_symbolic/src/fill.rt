@@ -7,7 +7,6 @@ ghost use Rattle.std.specs.Prelude.{List, take};
 ghost use Rattle.std.specs.Vec.{vec_capacity};
 ghost use Rattle.amd_model.specs.Graph.{IsGraph};
 ghost use Rattle.amd_symbolic.specs.Columns.{HoldFactor, PassesRoom};
-ghost use Rattle.amd_symbolic.specs.Gathering.{Filled};
 ghost use Rattle.amd_symbolic.specs.Orders.{Order};
 ghost use Rattle.amd_symbolic.specs.Neighbours.{AreLater, HasLater};
 ghost use Rattle.amd_symbolic.specs.Numbers.{FillsFront};

@@ -1,6 +1,6 @@
 // The rows that are new in a column, each found once by its mark. Called by `column`.
 
-ghost use Rattle.std.specs.Prelude.{ℕ, List, ◌≡◌, ◌<◌, ◌≤◌, ◌+◌, Contains, length, map, slice_index, take};
+ghost use Rattle.std.specs.Prelude.{ℕ, ◌≡◌, ◌<◌, ◌≤◌, ◌+◌, Contains, length, map, slice_index, take};
 ghost use Rattle.amd_types.specs.Counts.{counts};
 ghost use Rattle.amd_symbolic.specs.Gathering.{Column, EntryOf, Marks};
 ghost use Rattle.amd_symbolic.specs.Numbers.{AreCounts};

@@ -1,5 +1,5 @@
 -- What was written are the numbers of the factor.
-use Rattle.std.proofs.Common.{◌≡◌, map, pos, ap, ◌∙◌}
+use Rattle.std.proofs.Common.{map, pos, ap, ◌∙◌}
 use Rattle.amd_c.specs.Columns.{parent_number}
 use Rattle.amd_c.proofs.factors.columns_into.Goals as goal
 

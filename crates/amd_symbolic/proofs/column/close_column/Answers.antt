@@ -1,7 +1,5 @@
-use Rattle.std.proofs.Common.{◌≡◌, ◌<◌, ◌≤◌, ◌∙◌, ap, arith, length, map, subst, sym}
+use Rattle.std.proofs.Common.{◌<◌, ◌≤◌, ◌∙◌, ap, arith, length, map, sym}
 use Rattle.std.specs.Prelude.{Some, slice_index, slice_range}
-use Rattle.amd_symbolic.specs.Columns.{first_of}
-use Rattle.amd_symbolic.specs.Trees.{IsParent}
 use Rattle.amd_symbolic.proofs.PlaceNumbers.{counts_long}
 use Rattle.amd_symbolic.proofs.Standing.{hold_next, tell_first_next, first_at, first_parent}
 use Rattle.amd_symbolic.proofs.column.close_column.Goals as goal

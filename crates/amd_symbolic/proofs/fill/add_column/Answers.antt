@@ -1,4 +1,4 @@
-use Rattle.std.proofs.Common.{◌≡◌, ◌∙◌, sym, subst, arith, length, map, take, take_all}
+use Rattle.std.proofs.Common.{◌≡◌, ◌∙◌, sym, subst, arith, map, take, take_all}
 use Rattle.std.specs.Prelude.{slice_index}
 use Rattle.std.proofs.lemmas.List.{length-take-le}
 use Rattle.amd_types.specs.Counts.{counts}
