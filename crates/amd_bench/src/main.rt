@@ -1,21 +1,25 @@
 //! Times `order` on a matrix file: `amd_bench FILE i32|i64|isize REPEATS`. A file whose name ends in `.mtx` is a text
 //! of the Matrix Market, and any other one has the binary format of `amd_cases`. With a fourth word, `columns` or
 //! `analyze`, it times that call of `amd_symbolic`, `columns` under the order that `order` gives; with `stages` it
-//! times the stages of a call of `order`.
+//! times the stages of a call of `order`, and with `peak` it tells the memory of a call.
 //!
 //! It prints one line: the type of numbers, the name of the file, the figures of the ordering and a hash of the
 //! permutation, or the number of the factor's entries and a hash of them, and the least and the median time of a call
 //! in nanoseconds. For `stages` it prints a line for each stage, and one for a whole call, with the hash of the
-//! permutation. Reading the file is not timed. With other arguments it says on standard error how it is called, and
+//! permutation; for `peak`, in place of times, the most bytes that stood at once beside the input, and the number of
+//! requests for memory. Reading the file is not timed. With other arguments it says on standard error how it is called, and
 //! ends with status 2. Where the file cannot be read or holds no matrix, and where memory is refused, a message names
 //! the file, and the status is 1.
 #![tactic(auto)]
 
+mod counting;
 mod factors;
+mod memory;
 mod reading;
 mod stages;
 
 use crate::factors::{Factored, analyze_often, columns_often};
+use crate::memory::{Taken, most_taken};
 use crate::reading::read_file;
 use crate::stages::{Staged, stages_often};
 use amd::{Control, Info, Status, order};
@@ -84,6 +88,33 @@ fn print_times<R: Runtime>(rt: &R, mut times: Vec<Duration>) -> Result<()> {
     Ok(())
 }
 
+/// Prints the figures of an ordering.
+fn print_figures<R: Runtime>(rt: &R, info: &Info) -> Result<()> {
+    print!(rt; " n={} nz={}", info.n, info.nz)?;
+    print!(rt; " nzaat={} lnz={}", info.nz_a_plus_at, info.lnz)?;
+    print!(rt; " ldl={} lu={}", info.n_mult_subs_ldl, info.n_mult_subs_lu)?;
+    print!(rt;
+        " dmax={} ndense={} ncmpa={}",
+        info.d_max, info.n_dense, info.n_cmp_a
+    )?;
+    Ok(())
+}
+
+/// Begins a line with what `order` returned.
+fn print_ordering<R: Runtime, I: PrimInt>(
+    rt: &R,
+    kind: &str,
+    name: &str,
+    p: &[I],
+    info: &Info,
+) -> Result<()> {
+    let hash = hash_of(p)?;
+    print!(rt; "rattle {kind} {name}")?;
+    print_figures(rt, info)?;
+    print!(rt; " phash={hash:016x}")?;
+    Ok(())
+}
+
 /// Prints what the calls of `order` returned, and their times.
 fn print_outcome<R: Runtime, I: PrimInt>(
     rt: &R,
@@ -91,17 +122,20 @@ fn print_outcome<R: Runtime, I: PrimInt>(
     name: &str,
     outcome: Outcome<I>,
 ) -> Result<()> {
-    let hash = hash_of(&outcome.p)?;
-    let info = outcome.info;
-    print!(rt; "rattle {kind} {name} n={} nz={}", info.n, info.nz)?;
-    print!(rt; " nzaat={} lnz={}", info.nz_a_plus_at, info.lnz)?;
-    print!(rt; " ldl={} lu={}", info.n_mult_subs_ldl, info.n_mult_subs_lu)?;
-    print!(rt;
-        " dmax={} ndense={} ncmpa={}",
-        info.d_max, info.n_dense, info.n_cmp_a
-    )?;
-    print!(rt; " phash={hash:016x}")?;
+    print_ordering(rt, kind, name, &outcome.p, &outcome.info)?;
     print_times(rt, outcome.times)
+}
+
+/// Prints what the calls of `order` returned, and the memory of one.
+fn print_taken<R: Runtime, I: PrimInt>(
+    rt: &R,
+    kind: &str,
+    name: &str,
+    taken: &Taken<I>,
+) -> Result<()> {
+    print_ordering(rt, kind, name, &taken.p, &taken.info)?;
+    println!(rt; " peak={} requests={}", taken.peak, taken.requests)?;
+    Ok(())
 }
 
 /// Prints what the calls of `columns` or `analyze` returned, and their times.
@@ -113,9 +147,8 @@ fn print_factored<R: Runtime>(
     factored: Factored,
 ) -> Result<()> {
     let hash = hash_of(&factored.factor.rows)?;
-    print!(rt; "rattle {kind} {name} {what}")?;
-    print!(rt; " entries={}", factored.factor.rows.len())?;
-    print!(rt; " hash={hash:016x}")?;
+    let entries = factored.factor.rows.len();
+    print!(rt; "rattle {kind} {name} {what} entries={entries} hash={hash:016x}")?;
     print_times(rt, factored.times)
 }
 
@@ -171,7 +204,7 @@ fn request_of(words: &[String]) -> Option<Request<'_>> {
     };
     let repeats: usize = repeats.parse().ok()?;
     let is_kind = matches!(kind, "i32" | "i64" | "isize");
-    let is_call = matches!(call, "order" | "columns" | "analyze" | "stages");
+    let is_call = matches!(call, "order" | "columns" | "analyze" | "stages" | "peak");
     if !is_kind || !is_call || repeats == 0 {
         return None;
     }
@@ -204,6 +237,10 @@ fn time_file<R: Runtime + Alloc<A = Global>, I: PrimInt>(
             let staged = stages_often(rt, &matrix, repeats)?;
             print_staged(rt, kind, name, &staged)
         }
+        "peak" => {
+            let taken = most_taken(rt, &matrix, repeats)?;
+            print_taken(rt, kind, name, &taken)
+        }
         _ => {
             let outcome = order_often(rt, &matrix, repeats)?;
             print_outcome(rt, kind, name, outcome)
@@ -224,7 +261,7 @@ fn main(rt: HostRuntime) -> Result<ExitCode> {
     let words: Vec<String> = env::args(&rt)?.collect(rt.alloc())?;
     let Some(request) = request_of(&words) else {
         eprintln!(rt;
-            "usage: amd_bench FILE i32|i64|isize REPEATS [order|columns|analyze|stages]"
+            "usage: amd_bench FILE i32|i64|isize REPEATS [order|columns|analyze|stages|peak]"
         )?;
         return Ok(ExitCode::from(2));
     };
