@@ -72,13 +72,13 @@ fn asks_sizes(
     }
 }
 
-/// A four-cycle has the supernodes {0}, with two rows, and {1, 2, 3}.
+/// A four-cycle has the supernodes {0}, with two rows, and {1, 2, 3}. No rows need no memory.
 #[test]
 fn each_request_of_sizes(rt: HostRuntime) {
     let cases = WORKED.iter().zip(&SIZES).chain([(&FOUR_CYCLE, &(2, 2))]);
     for (case, &wanted) in cases {
         match each_refused(rt.alloc(), |heap| asks_sizes(&rt, heap, case, wanted)) {
-            Ok(count) => check!(&rt; 0 < count, case.what),
+            Ok(count) => check!(&rt; (0 < count) == (0 < case.n), case.what),
             Err(_) => panic!(&rt; "{}", case.what),
         }
     }
