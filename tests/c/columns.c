@@ -53,11 +53,16 @@ static void nine_rows(size_t room)
     const int64_t a_i[] = {1, 0, 1, 2, 1, 2, 3, 2, 3, 4, 3, 5, 4, 5, 6, 5, 7, 6, 7, 8, 7, 8};
     int64_t ptr[10] = {-9, -9, -9, -9, -9, -9, -9, -9, -9, -9}, rows[14] = {-9}, parent[9] = {-9}, sizes[9], up[9];
     struct rimopaku_needs needs;
+    int32_t status;
 
     rows[13] = -7;
-    printf("room %zu, status %d\n", room, (int)rimopaku_columns_i64(9, a_p, 10, a_i, 22, p, 9, ptr, 10, rows, room, parent, 9));
+    status = rimopaku_columns_i64(9, a_p, 10, a_i, 22, p, 9, ptr, 10, rows, room, parent, 9);
+    printf("room %zu, status %d\n", room, (int)status);
     print("PTR", ptr, 10);
-    print("ROWS", rows, 14);
+    if (status == 0)
+        print("ROWS", rows, 14);
+    else
+        printf("the last row %lld\n", (long long)rows[13]);
     print("PARENT", parent, 9);
     printf("counts, status %d\n", (int)rimopaku_counts_i64(9, a_p, 10, a_i, 22, p, 9, sizes, 9, up, 9, &needs));
     print("SIZES", sizes, 9);
