@@ -1,9 +1,1 @@
-pub mod HeldLemmas
-pub mod RowFaults
-pub mod Pieces
-pub mod Members
 pub mod Placing
-pub mod Items
-pub mod ListedRows
-pub mod FactorLines
-pub mod Cells

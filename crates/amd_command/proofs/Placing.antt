@@ -1,11 +1,10 @@
--- The pairs of the places of entries, and the lines of entries, column by column.
+-- The pairs of the places of entries, column by column.
 use Rattle.std.proofs.Common.{◌≡◌, ◌++◌, ◌+◌, ◌<◌, ◌∙◌, ℕ, suc, List, [], ◌∷◌}
 use Rattle.std.proofs.Common.{ap, append_assoc, arith, get_or, length, refl, subst, sym, take}
 use Rattle.std.proofs.lemmas.List.{take_more}
-use Rattle.std.specs.Prelude.{Option, flat_map, slice_index}
-use Rattle.std.specs.Io.KnownBytes.{Appends}
-use Rattle.amd_texts.proofs.Written.{Appends-then}
-use Rattle.amd_command.specs.Permuted.{column_rows, entry_line, matrix_entries, pairs_up_to, placed_pairs}
+use Rattle.std.specs.Prelude.{slice_index}
+use Rattle.amd_report.specs.Patterns.{column_rows}
+use Rattle.amd_command.specs.Permuted.{pairs_up_to, placed_pairs}
 
 -- one row more
 placed-more : (places : List ℕ) (column : ℕ) (xs : List ℕ) (x : ℕ) →
@@ -34,11 +33,3 @@ pairs-next places ap_ ai rows k column old new r s same h =
     subst (λ m. new ≡ pairs_up_to places ap_ ai m) (sym step)
     (h ∙ ap (λ z. old ++ placed_pairs places z rows) s ∙ ap (λ z. old ++ placed_pairs places (slice_index places k) z) r
     ∙ ap (λ z. z ++ placed_pairs places (slice_index places k) (column_rows ap_ ai k)) same)
-
-pub entries-next : (ap_ ai rows : List ℕ) (k : ℕ) (a b c : Option (List ℕ)) → rows ≡ column_rows ap_ ai k →
-    Appends a b (matrix_entries ap_ ai k) → Appends b c (flat_map (entry_line k) rows) →
-    Appends a c (matrix_entries ap_ ai (k + 1))
-entries-next ap_ ai rows k a b c r first next =
-    let step : k + 1 ≡ suc k = omega arith in
-    subst (λ m. Appends a c (matrix_entries ap_ ai m)) (sym step)
-    (Appends-then a b c (matrix_entries ap_ ai k) _ first (subst (λ z. Appends b c (flat_map (entry_line k) z)) r next))

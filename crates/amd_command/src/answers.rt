@@ -1,23 +1,26 @@
 // The texts of the answers, made in memory before an output is written. Called by `program`, which says where they go.
 // What each function that writes a part writes is told by its contract; which parts an answer has is tested.
 
-use crate::analysis::{Analysis, analyze_matrix, write_columns, write_comparison};
-use crate::causes::Cause;
-use crate::compare::{Comparison, need_under, standing_order, write_comparison_lines};
-use crate::description::write_facts;
-use crate::factor_json::write_analysis_json;
-use crate::facts::facts_of;
-use crate::figures::write_figures;
-use crate::inputs::Task;
-use crate::json::{write_facts_json, write_order_json};
+use crate::analysis::{Analysis, analyze_matrix};
+use crate::faults::cause_of;
+use crate::needs::{need_under, standing_order, told};
 use crate::ordering::order_matrix;
-use crate::permuted::{permuted, write_matrix};
-use crate::request::Options;
-use crate::rows::write_rows;
-use crate::tree::{write_supernodes, write_tree};
+use crate::permuted::permuted;
 use amd::{Control, Info};
 use amd_market::reader::Matrix;
-use amd_symbolic::needs::Need;
+use amd_report::compare::{Comparison, Needs, write_comparison_lines};
+use amd_report::description::write_facts;
+use amd_report::factor_json::write_analysis_json;
+use amd_report::factor_text::{write_columns, write_comparison};
+use amd_report::facts::facts_of;
+use amd_report::figures::write_figures;
+use amd_report::json::{write_facts_json, write_order_json};
+use amd_report::pattern::write_matrix;
+use amd_report::rows::write_rows;
+use amd_report::tree::{write_supernodes, write_tree};
+use amd_request::causes::Cause;
+use amd_request::inputs::Task;
+use amd_request::request::Options;
 use amd_symbolic::{counts, supernodes};
 use std::alloc::Global;
 
@@ -50,10 +53,11 @@ pub fn two_needs(
     alloc: Global,
     matrix: &Matrix<Global>,
     p: &[usize],
-) -> Result<(Need, Need), Cause> {
+) -> Result<(Needs, Needs), Cause> {
     let standing = standing_order(alloc, matrix.n)?;
-    let stands = need_under(alloc, matrix, &standing)?;
-    Ok((stands, need_under(alloc, matrix, p)?))
+    let stands = need_under(alloc, matrix, &standing).map_err(cause_of)?;
+    let ordered = need_under(alloc, matrix, p).map_err(cause_of)?;
+    Ok((told(&stands), told(&ordered)))
 }
 
 /// Orders what a task has.
@@ -88,11 +92,11 @@ fn tree_text(
     if options.tree.is_none() {
         return Ok(None);
     }
-    let counted = counts(alloc, matrix.n, &matrix.a_p, &matrix.a_i, p)?;
+    let counted = counts(alloc, matrix.n, &matrix.a_p, &matrix.a_i, p).map_err(cause_of)?;
     let mut text = Vec::new(alloc);
     write_tree(&counted.parent, &mut text)?;
-    let made = supernodes(alloc, matrix.n, &matrix.a_p, &matrix.a_i, p)?;
-    write_supernodes(&made, &mut text)?;
+    let made = supernodes(alloc, matrix.n, &matrix.a_p, &matrix.a_i, p).map_err(cause_of)?;
+    write_supernodes(&made.first, &made.ptr, &made.parent, &mut text)?;
     Ok(Some(text))
 }
 
@@ -134,16 +138,17 @@ pub fn order_texts(
 /// Orders what a task has, counts the columns of the factor under the ordering, and makes the texts of that.
 pub fn analysis_texts(alloc: Global, task: &Task, json: bool) -> Result<Texts, Cause> {
     let (matrix, marks) = (&task.matrix, task.hold.as_deref());
-    let Analysis { p, info, counts } = analyze_matrix(alloc, matrix, &task.control, marks)?;
-    let (need, repeats) = (&counts.need, matrix.repeats);
+    let analysis = analyze_matrix(alloc, matrix, &task.control, marks).map_err(cause_of)?;
+    let Analysis { p, info, counts } = analysis;
+    let (need, repeats) = (told(&counts.need), matrix.repeats);
+    let (parents, sizes) = (&counts.parent, &counts.sizes);
     let mut lines = Vec::new(alloc);
     let mut figures = Vec::new(alloc);
     if json {
-        let (parents, sizes) = (&counts.parent, &counts.sizes);
-        write_analysis_json(&info, repeats, need, &p, parents, sizes, &mut lines)?;
+        write_analysis_json(&info, repeats, &need, &p, parents, sizes, &mut lines)?;
     } else {
-        write_columns(&p, &counts, &mut lines)?;
-        write_comparison(need, &info, repeats, &mut figures)?;
+        write_columns(&p, parents, sizes, &mut lines)?;
+        write_comparison(&need, &info, repeats, &mut figures)?;
     }
     let figures = String::from_utf8_lossy(alloc, &figures)?;
     Ok(Texts {

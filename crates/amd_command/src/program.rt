@@ -6,19 +6,20 @@
 use crate::answers::{
     Ordered, Texts, analysis_texts, facts_text, order_task, order_texts, two_needs,
 };
-use crate::causes::Cause;
-use crate::compare::{Comparison, need_under};
-use crate::inputs::{Complaint, Task, about, control_of, read_file, read_order, read_task};
-use crate::order_faults::order_fault;
+use crate::faults::cause_of;
+use crate::needs::{need_under, told};
 use crate::ordering::order_matrix;
 use crate::picture::write_picture;
-use crate::places::put_file;
-use crate::progress::Progress;
-use crate::request::{Options, Request, request_of};
-use crate::tree_picture::write_tree_picture;
 use amd::{Control, Info};
 use amd_market::reader::Matrix;
-use amd_symbolic::needs::Need;
+use amd_report::compare::{Comparison, Needs};
+use amd_report::tree_picture::write_tree_picture;
+use amd_request::causes::Cause;
+use amd_request::inputs::{Complaint, Task, about, control_of, read_file, read_order, read_task};
+use amd_request::order_faults::order_fault;
+use amd_request::places::put_file;
+use amd_request::progress::Progress;
+use amd_request::request::{Options, Request, request_of};
 use amd_symbolic::{Fault, counts};
 use clap::Error;
 use clap::error::ErrorKind;
@@ -41,15 +42,15 @@ fn other_need<R: Runtime + AllocGlobal>(
     progress: &Progress,
     matrix: &Matrix<Global>,
     path: &str,
-) -> Result<Need, Cause> {
+) -> Result<Needs, Cause> {
     let rows = read_order(rt, progress, matrix.n, path)?;
     match need_under(rt.alloc(), matrix, &rows) {
-        Ok(need) => Ok(need),
+        Ok(need) => Ok(told(&need)),
         Err(Fault::NotPermutation) => match order_fault(rt.alloc(), matrix.n, &rows)? {
             Some(fault) => Err(Cause::Order(fault)),
             None => Err(Cause::Form),
         },
-        Err(fault) => Err(Cause::from(fault)),
+        Err(fault) => Err(cause_of(fault)),
     }
 }
 
@@ -139,7 +140,7 @@ fn draw_tree<R: Runtime + AllocGlobal>(
     matrix: &Matrix<Global>,
     p: &[usize],
 ) -> Result<(), Cause> {
-    let counted = counts(rt.alloc(), matrix.n, &matrix.a_p, &matrix.a_i, p)?;
+    let counted = counts(rt.alloc(), matrix.n, &matrix.a_p, &matrix.a_i, p).map_err(cause_of)?;
     let mut text = Vec::new(rt.alloc());
     write_tree_picture(rt.alloc(), &counted.parent, &counted.sizes, &mut text)?;
     put_file(rt, path, &text)

@@ -3,17 +3,18 @@
 // reader. The matrix is the path of three rows, the orders and what they need were worked by hand.
 
 use crate::outputs::PATH;
-use amd_command::compare::{
-    Comparison, need_under, read_rows, standing_order, write_comparison_lines,
-};
-use amd_command::facts::facts_of;
-use amd_command::json::{write_facts_json, write_order_json};
+use amd_command::needs::{need_under, standing_order, told};
 use amd_command::ordering::order_matrix;
-use amd_command::permuted::{permuted, write_matrix};
+use amd_command::permuted::permuted;
 use amd_command::picture::write_picture;
-use amd_command::tree::{write_supernodes, write_tree};
-use amd_command::tree_picture::write_tree_picture;
 use amd_market::reader::{Matrix, read_matrix};
+use amd_report::compare::{Comparison, write_comparison_lines};
+use amd_report::facts::facts_of;
+use amd_report::json::{write_facts_json, write_order_json};
+use amd_report::pattern::write_matrix;
+use amd_report::tree::{write_supernodes, write_tree};
+use amd_report::tree_picture::write_tree_picture;
+use amd_request::listed::read_rows;
 use amd_symbolic::{Fault, counts, supernodes};
 use amd_testing::check;
 use serde_json::Value;
@@ -71,7 +72,7 @@ fn supernodes_of_the_path(rt: HostRuntime) -> Result<(), Fail> {
         panic!(&rt; "no supernodes");
     };
     let mut lines = Vec::new(alloc);
-    check!(&rt; write_supernodes(&made, &mut lines).is_ok());
+    check!(&rt; write_supernodes(&made.first, &made.ptr, &made.parent, &mut lines).is_ok());
     check!(&rt; lines.as_slice() == b"1 1 2 1\n2 3 0 0\n".as_slice());
     Ok(())
 }
@@ -81,9 +82,9 @@ fn three_needs(alloc: Global, matrix: &Matrix<Global>) -> Result<Comparison, Fau
     let standing = standing_order(alloc, 3)?;
     Ok(Comparison {
         edges: 2,
-        stands: need_under(alloc, matrix, &standing)?,
-        ordered: need_under(alloc, matrix, &ORDER)?,
-        other: Some(need_under(alloc, matrix, &[2, 0, 1])?),
+        stands: told(&need_under(alloc, matrix, &standing)?),
+        ordered: told(&need_under(alloc, matrix, &ORDER)?),
+        other: Some(told(&need_under(alloc, matrix, &[2, 0, 1])?)),
     })
 }
 

@@ -3,11 +3,13 @@
 // an independent program that follows the rules; the thresholds follow from their definition.
 
 use amd::Control;
-use amd_command::analysis::{analyze_matrix, write_comparison};
-use amd_command::facts::facts_of;
-use amd_command::figures::write_figures;
+use amd_command::analysis::analyze_matrix;
+use amd_command::needs::told;
 use amd_command::ordering::order_matrix;
 use amd_market::reader::Matrix;
+use amd_report::factor_text::write_comparison;
+use amd_report::facts::facts_of;
+use amd_report::figures::write_figures;
 use amd_testing::check;
 use std::alloc::{AllocError, Global};
 use std::test::Fail;
@@ -82,7 +84,12 @@ fn a_dense_row_by_choice(rt: HostRuntime) -> Result<(), Fail> {
     check!(&rt; p.as_slice() == ORDER.as_slice() && analysis.p.as_slice() == ORDER.as_slice());
     let mut out = Vec::new(heap);
     let is_written = write_figures(&info, 0, &mut out).is_ok();
-    let is_compared = write_comparison(&analysis.counts.need, &analysis.info, 3, &mut out).is_ok();
+    let is_compared = write_comparison(
+        &told(&analysis.counts.need),
+        &analysis.info,
+        3,
+        &mut out,
+    ).is_ok();
     check!(&rt; is_written && is_compared);
     check!(&rt; out.as_slice() == FIGURES.as_bytes());
     Ok(())

@@ -1,5 +1,5 @@
-//! Tests of the reader of Matrix Market files and of the command `rimopaku`: files of each kind, files at fault, words
-//! of the command line, choices that are heard, what is written, writers with faults, and refused memory.
+//! Tests of the command `rimopaku`: choices that are heard, what is written, writers with faults, refused memory, and
+//! whole runs.
 #![tactic(auto)]
 
 #[cfg(test)]
@@ -10,8 +10,6 @@ mod checks;
 mod choices;
 #[cfg(test)]
 mod desk;
-#[cfg(test)]
-mod files;
 #[cfg(test)]
 mod outputs;
 #[cfg(test)]

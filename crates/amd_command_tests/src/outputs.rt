@@ -1,20 +1,22 @@
-// The words of a command line, what is written, writers with a fault at each call, and each request for memory refused
-// in turn.
+// What is written, writers with a fault at each call, and each request for memory refused in turn.
 
 use amd::{Control, Info};
-use amd_command::analysis::{analyze_matrix, write_columns, write_comparison};
-use amd_command::causes::Cause;
-use amd_command::description::write_facts;
-use amd_command::facts::facts_of;
-use amd_command::figures::write_figures;
-use amd_command::held::read_held;
+use amd_command::analysis::analyze_matrix;
+use amd_command::faults::cause_of;
+use amd_command::needs::told;
 use amd_command::ordering::order_matrix;
-use amd_command::permuted::{permuted, write_matrix};
+use amd_command::permuted::permuted;
 use amd_command::picture::write_picture;
-use amd_command::request::{Request, request_of, thousandths_of};
-use amd_command::rows::write_rows;
-use amd_command::tree::{write_supernodes, write_tree};
 use amd_market::reader::read_matrix;
+use amd_report::description::write_facts;
+use amd_report::factor_text::{write_columns, write_comparison};
+use amd_report::facts::facts_of;
+use amd_report::figures::write_figures;
+use amd_report::pattern::write_matrix;
+use amd_report::rows::write_rows;
+use amd_report::tree::{write_supernodes, write_tree};
+use amd_request::causes::Cause;
+use amd_request::held::read_held;
 use amd_symbolic::supernodes;
 use amd_testing::check;
 use amd_testing::refusing::{Refusing, each_refused};
@@ -89,38 +91,15 @@ fn write_all_of<W: Write, A: Allocator + Copy>(alloc: A, out: &mut W) -> Result<
     write_rows(&p, out)?;
     write_figures(&info, matrix.repeats, out)?;
     write_facts(&facts_of(alloc, &matrix, &control)?, out)?;
-    let analysis = analyze_matrix(alloc, &matrix, &control, Some(&marks))?;
-    write_columns(&analysis.p, &analysis.counts, out)?;
-    write_comparison(&analysis.counts.need, &analysis.info, matrix.repeats, out)?;
+    let analysis = analyze_matrix(alloc, &matrix, &control, Some(&marks)).map_err(cause_of)?;
+    let counts = &analysis.counts;
+    write_columns(&analysis.p, &counts.parent, &counts.sizes, out)?;
+    write_comparison(&told(&counts.need), &analysis.info, matrix.repeats, out)?;
     write_matrix(&permuted(alloc, &matrix, &p)?, out)?;
-    write_tree(&analysis.counts.parent, out)?;
-    let made = supernodes(alloc, matrix.n, &matrix.a_p, &matrix.a_i, &p)?;
-    write_supernodes(&made, out)?;
+    write_tree(&counts.parent, out)?;
+    let made = supernodes(alloc, matrix.n, &matrix.a_p, &matrix.a_i, &p).map_err(cause_of)?;
+    write_supernodes(&made.first, &made.ptr, &made.parent, out)?;
     write_picture(alloc, &matrix, &p, false, out)
-}
-
-/// Texts of dense row parameters, and thousandths.
-static PARAMETERS: [(&str, Option<i32>); 13] = [
-    ("10", Some(10000)),
-    ("0", Some(0)),
-    ("2.5", Some(2500)),
-    ("0.05", Some(50)),
-    ("-1", Some(-1000)),
-    ("-0.125", Some(-125)),
-    ("7.", Some(7000)),
-    ("1.2345", None),
-    ("1.-5", None),
-    ("", None),
-    (".5", None),
-    ("ten", None),
-    ("2147484", None),
-];
-
-#[test]
-fn decimal_parameters(rt: HostRuntime) {
-    for (text, wanted) in &PARAMETERS {
-        check!(&rt; thousandths_of(text) == *wanted, text);
-    }
 }
 
 /// Row 2 is held last. Row 3 comes first and joins the rows 1 and 2, so that there is one entry of fill, and one
@@ -151,49 +130,13 @@ fn columns_worked_by_hand(rt: HostRuntime) -> Result<(), Fail> {
     check!(&rt; analysis.counts.sizes.as_slice() == [1, 1, 2, 1, 0].as_slice());
     let mut columns = Vec::new(rt.alloc());
     let mut figures = Vec::new(rt.alloc());
-    check!(&rt; write_columns(&analysis.p, &analysis.counts, &mut columns).is_ok());
-    let need = &analysis.counts.need;
-    check!(&rt; write_comparison(need, &analysis.info, 0, &mut figures).is_ok());
+    let counts = &analysis.counts;
+    check!(&rt; write_columns(&analysis.p, &counts.parent, &counts.sizes, &mut columns).is_ok());
+    let need = told(&counts.need);
+    check!(&rt; write_comparison(&need, &analysis.info, 0, &mut figures).is_ok());
     let columns = String::from_utf8_lossy(rt.alloc(), &columns)?;
     let figures = String::from_utf8_lossy(rt.alloc(), &figures)?;
     check!(&rt; columns.as_str() == FIVE_COLUMNS && figures.as_str() == FIVE_FIGURES);
-    Ok(())
-}
-
-/// What is asked for, in short: the subcommand, and the files that are named.
-fn asked(alloc: Global, words: &[&str]) -> Result<String, Fail> {
-    let mut owned = Vec::new(alloc);
-    for word in words {
-        owned.push(String::from_str(alloc, word)?)?;
-    }
-    let (name, options) = match request_of(alloc, &owned) {
-        Ok(Request::Order(options)) => ("order", options),
-        Ok(Request::Analyze(options)) => ("analyze", options),
-        Ok(Request::Info(options)) => ("info", options),
-        Err(_) => return Ok(String::from_str(alloc, "none")?),
-    };
-    let file = options.file;
-    let hold = options.hold;
-    let out = options.out;
-    let picture = options.picture;
-    Ok(format!(in alloc; "{name} {file} {hold:?} {out:?} {picture:?}")?)
-}
-
-/// Subcommands, an option, and what is asked for by both.
-static SUBCOMMANDS: [(&str, &str, &str); 4] = [
-    ("order", "--picture", "order a Some(\"h\") None Some(\"o\")"),
-    ("analyze", "--out", "analyze a Some(\"h\") Some(\"o\") None"),
-    ("analyze", "--picture", "none"),
-    ("analyse", "--out", "none"),
-];
-
-#[test]
-fn subcommands(rt: HostRuntime) -> Result<(), Fail> {
-    for (name, option, wanted) in &SUBCOMMANDS {
-        let words = ["rimopaku", *name, "a", "--hold", "h", *option, "o"];
-        let shown = asked(rt.alloc(), &words)?;
-        check!(&rt; shown.as_str() == *wanted, wanted);
-    }
     Ok(())
 }
 

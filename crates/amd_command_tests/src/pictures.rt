@@ -1,11 +1,11 @@
 // What is drawn of the fill: the entries of the exact factor, and not those that the ordering bounds. The matrices and
 // the figures of their factors are worked examples and the one of the demos.
 
-use amd_command::causes::Cause;
 use amd_command::ordering::order_matrix;
 use amd_command::picture::write_picture;
 use amd_demos::can_24::{POINTERS, ROWS};
 use amd_market::reader::Matrix;
+use amd_request::causes::Cause;
 use amd_testing::check;
 use std::alloc::{AllocError, Global};
 use std::test::Fail;

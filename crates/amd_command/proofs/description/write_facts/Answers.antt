@@ -1,7 +1,0 @@
--- The parts are written one after another.
-use Rattle.amd_texts.proofs.Written.{Appends-then}
-use Rattle.amd_command.proofs.description.write_facts.Goals as goal
-
-pub returns : goal.returns
-returns g c =
-    Appends-then _ _ _ _ _ c.in_ok-write_pattern.ensures c.in_ok-write_degrees.ensures

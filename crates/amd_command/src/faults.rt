@@ -1,0 +1,12 @@
+// Why a run ends early after a fault of the exact factor. Called by `answers`, `picture` and `program`.
+
+use amd_request::causes::Cause;
+use amd_symbolic::Fault;
+
+/// The cause that a fault of the exact factor is.
+pub fn cause_of(fault: Fault) -> Cause {
+    match fault {
+        Fault::OutOfMemory => Cause::Memory,
+        Fault::NotColumnForm | Fault::NotPermutation | Fault::RoomTooSmall => Cause::Form,
+    }
+}

@@ -1,0 +1,7 @@
+-- The parts are written one after another.
+use Rattle.amd_texts.proofs.Written.{Appends-then}
+use Rattle.amd_report.proofs.description.write_facts.Goals as goal
+
+pub returns : goal.returns
+returns g c =
+    Appends-then _ _ _ _ _ c.in_ok-write_pattern.ensures c.in_ok-write_degrees.ensures

@@ -1,0 +1,11 @@
+-- The line is what the format writes, as the label is ASCII.
+use Rattle.std.proofs.Common.{◌∙◌, ap, arith}
+use Rattle.std.specs.Fmt.{styled_text}
+use Rattle.amd_texts.proofs.Padding.{padded-label}
+use Rattle.amd_report.proofs.FactorLines.{beside-from_format}
+use Rattle.amd_report.proofs.factor_text.write_beside.Goals as goal
+
+pub returns : goal.returns
+returns g c =
+    let shown = ap (λ s. styled_text s c.args.label.now) c.laid_out.ensures ∙ padded-label c.args.label.now c.requires (omega arith) in
+    beside-from_format c.args.label.now _ _ _ _ _ shown c.in_ok-writeln.ensures.bytes

@@ -1,0 +1,6 @@
+-- The parts are written one after another.
+use Rattle.amd_texts.proofs.Written.{Appends-then}
+use Rattle.amd_report.proofs.figures.write_figures.Goals as goal
+
+pub returns : goal.returns
+returns g c = Appends-then _ _ _ _ _ c.in_ok-write_matrix_figures.ensures c.in_ok-write_factor_figures.ensures

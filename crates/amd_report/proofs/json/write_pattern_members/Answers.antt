@@ -1,0 +1,11 @@
+-- The parts are written one after another.
+use Rattle.amd_texts.proofs.Written.{Appends-then}
+use Rattle.amd_report.proofs.json.write_pattern_members.Goals as goal
+
+pub returns : goal.returns
+returns g c =
+    let up_to_2 = Appends-then _ _ _ _ _ c.in_ok-write_member.ensures c.in_ok-write_member-2.ensures in
+    let up_to_3 = Appends-then _ _ _ _ _ up_to_2 c.in_ok-write_member-3.ensures in
+    let up_to_4 = Appends-then _ _ _ _ _ up_to_3 c.in_ok-write_member-4.ensures in
+    let up_to_5 = Appends-then _ _ _ _ _ up_to_4 c.in_ok-write_member-5.ensures in
+    Appends-then _ _ _ _ _ up_to_5 c.in_ok-write_member-6.ensures

@@ -1,0 +1,42 @@
+-- The text of what a matrix is.
+use Rattle.std.specs.Prelude.{◌/◌, ◌%◌, ℕ, Bool, true, false, List, ◌++◌, codes, decimal}
+use Rattle.amd_types.specs.declared.amd.Info.{Info}
+use Rattle.amd_texts.specs.Texts.{labelled}
+use Rattle.amd_report.specs.declared.facts.Facts.{Facts}
+use Rattle.amd_report.specs.Degrees.{mean_degree}
+
+-- the word for a yes or a no
+abbrev pub answer_word : Bool → List ℕ
+answer_word true = codes "yes"
+answer_word false = codes "no"
+
+-- a number of hundredths as a decimal fraction
+abbrev pub hundredths : ℕ → List ℕ
+hundredths x = decimal (x / 100) ++ codes "." ++ decimal (x / 10 % 10) ++ decimal (x % 10)
+
+-- the lines on the pattern, from whose file so many duplicates were dropped
+abbrev pub pattern_lines : Info → ℕ → List ℕ
+pattern_lines i d =
+    labelled (codes "rows") (decimal i.n)
+    ++ labelled (codes "entries") (decimal i.nz)
+    ++ labelled (codes "duplicates dropped") (decimal d)
+    ++ labelled (codes "symmetric pattern") (answer_word i.symmetry)
+    ++ labelled (codes "entries on the diagonal") (decimal i.nz_diag)
+    ++ labelled (codes "edges") (decimal (i.nz_a_plus_at / 2))
+
+-- the line of a mean degree in hundredths
+abbrev pub mean_line : ℕ → List ℕ
+mean_line mean = labelled (codes "mean degree") (hundredths mean)
+
+-- the lines on the degrees
+abbrev pub degree_lines : Facts → List ℕ
+degree_lines f =
+    labelled (codes "greatest degree") (decimal f.degrees.greatest)
+    ++ mean_line (mean_degree f)
+    ++ labelled (codes "rows of degree 0") (decimal f.degrees.none)
+    ++ labelled (codes "dense threshold") (decimal f.threshold)
+    ++ labelled (codes "rows above the threshold") (decimal f.degrees.above)
+
+-- the text of what a matrix is
+abbrev pub facts_text : Facts → List ℕ
+facts_text f = pattern_lines f.info f.duplicates ++ degree_lines f

@@ -1,0 +1,11 @@
+-- What the command promises to tell.
+pub mod Texts
+pub mod Degrees
+pub mod Descriptions
+pub mod Json
+pub mod FactorTexts
+pub mod FactorJson
+pub mod Comparisons
+pub mod Patterns
+pub mod Grids
+pub mod Pictures

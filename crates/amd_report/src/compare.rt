@@ -1,0 +1,151 @@
+// What the factor needs under several orders of the rows: as they stand in the file, as they were ordered, and as a
+// file lists them. The numbers come from `needs` of the crate `amd_command`. Called by its `answers`, and by `json`.
+
+ghost use Rattle.std.specs.Prelude.{◌≡◌, IsTrue, OnOk};
+ghost use Rattle.std.specs.Char.{is_ascii};
+ghost use Rattle.std.specs.List.{list_all};
+ghost use Rattle.std.specs.Io.KnownBytes.{Appends};
+ghost use Rattle.amd_texts.specs.Texts.{labelled};
+ghost use Rattle.amd_report.specs.Comparisons.{compared_line, comparison_lines, figure_of, three_figures, two_figures};
+
+use std::io;
+use std::io::Write;
+
+/// What the factor needs under an order: sums over its columns, and the largest of them.
+#[derive(Clone, Copy)]
+pub struct Needs {
+    /// The entries below the diagonal.
+    pub lnz: u128,
+    /// The multiply-subtract steps of a factorization `LDL'`.
+    pub n_mult_subs_ldl: u128,
+    /// The multiply-subtract steps of a factorization `LU`.
+    pub n_mult_subs_lu: u128,
+    /// The entries of the largest column, with that on the diagonal; 0 where there are no columns.
+    pub d_max: u128,
+}
+
+/// What the factor needs under each order.
+#[derive(Clone, Copy)]
+pub struct Comparison {
+    /// The edges of the matrix, which are entries under every order.
+    pub edges: usize,
+    /// As the rows stand in the file.
+    pub stands: Needs,
+    /// As they were ordered.
+    pub ordered: Needs,
+    /// As another file lists them, where there is one.
+    pub other: Option<Needs>,
+}
+
+/// A figure of what a factor needs.
+#[derive(Clone, Copy)]
+pub enum Figure {
+    /// The entries below the diagonal, and the divisions.
+    Entries,
+    /// Those of them that are no edges.
+    Fill,
+    /// The multiply-subtract steps of a factorization `LDL'`.
+    StepsLdl,
+    /// Those of a factorization `LU`.
+    StepsLu,
+    /// The entries of the largest column, with its diagonal.
+    LargestColumn,
+}
+
+/// A figure of what a factor needs.
+pub fn figure_of(figure: Figure, edges: usize, need: &Needs) -> u128
+    ensures { result ≡ figure_of figure edges need.now }
+{
+    match figure {
+        Figure::Entries => need.lnz,
+        Figure::Fill => need.lnz.saturating_sub(edges as u128),
+        Figure::StepsLdl => need.n_mult_subs_ldl,
+        Figure::StepsLu => need.n_mult_subs_lu,
+        Figure::LargestColumn => need.d_max,
+    }
+}
+
+/// Writes a line with a figure under two orders. The label is of ASCII characters.
+fn write_two<W: Write>(label: &str, stands: u128, ordered: u128, out: &mut W) -> io::Result<()>
+    requires { IsTrue (list_all is_ascii label.now) }
+    ensures { OnOk result (Appends (W.contents out.old) (W.contents out.new)
+        (labelled label.now (two_figures stands ordered))) }
+{
+    writeln!(
+        out,
+        "    {label:<52}{stands} as it stands, {ordered} ordered"
+    )?;
+    Ok(())
+}
+
+/// Writes a line with a figure under three orders. The label is of ASCII characters.
+fn write_three<W: Write>(
+    label: &str,
+    stands: u128,
+    ordered: u128,
+    other: u128,
+    out: &mut W,
+) -> io::Result<()>
+    requires { IsTrue (list_all is_ascii label.now) }
+    ensures { OnOk result (Appends (W.contents out.old) (W.contents out.new)
+        (labelled label.now (three_figures stands ordered other))) }
+{
+    writeln!(
+        out,
+        "    {label:<52}{stands} as it stands, {ordered} ordered, {other} by --with"
+    )?;
+    Ok(())
+}
+
+/// Writes a line with a figure under each order. The label is of ASCII characters.
+fn write_compared<W: Write>(
+    label: &str,
+    figure: Figure,
+    compared: Comparison,
+    out: &mut W,
+) -> io::Result<()>
+    requires { IsTrue (list_all is_ascii label.now) }
+    ensures { OnOk result (Appends (W.contents out.old) (W.contents out.new)
+        (compared_line label.now figure compared)) }
+{
+    let stands = figure_of(figure, compared.edges, &compared.stands);
+    let ordered = figure_of(figure, compared.edges, &compared.ordered);
+    match compared.other {
+        Some(need) => {
+            let other = figure_of(figure, compared.edges, &need);
+            write_three(label, stands, ordered, other, out)
+        }
+        None => write_two(label, stands, ordered, out),
+    }
+}
+
+/// Writes what the factor needs under each order.
+///
+/// # Errors
+///
+/// The writer's, of the first write that fails. What was written before stays written.
+pub fn write_comparison_lines<W: Write>(compared: Comparison, out: &mut W) -> io::Result<()>
+    ensures { OnOk result (Appends (W.contents out.old) (W.contents out.new) (comparison_lines compared)) }
+{
+    write_compared(
+        "entries of L below the diagonal",
+        Figure::Entries,
+        compared,
+        out,
+    )?;
+    write_compared("fill", Figure::Fill, compared, out)?;
+    write_compared(
+        "multiply-subtracts for LDL'",
+        Figure::StepsLdl,
+        compared,
+        out,
+    )?;
+    write_compared("multiply-subtracts for LU", Figure::StepsLu, compared, out)?;
+    write_compared(
+        "largest column, with its diagonal",
+        Figure::LargestColumn,
+        compared,
+        out,
+    )?;
+    Ok(())
+}

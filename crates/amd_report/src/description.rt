@@ -1,0 +1,70 @@
+// The text of what a matrix is, a label and a value a line. Called by `answers` of the crate `amd_command`; `json` writes the same as JSON.
+
+ghost use Rattle.std.specs.Prelude.{◌≡◌, OnOk};
+ghost use Rattle.std.specs.Io.KnownBytes.{Appends};
+ghost use Rattle.amd_report.specs.Descriptions.{answer_word, degree_lines, facts_text, mean_line, pattern_lines};
+
+use crate::facts::{Facts, mean_degree};
+use amd_texts::write_labelled;
+use amd_types::amd::Info;
+use std::io;
+use std::io::Write;
+
+/// The word for a yes or a no.
+fn answer_word(holds: bool) -> &'static str
+    ensures { result.now ≡ answer_word holds }
+{
+    if holds { "yes" } else { "no" }
+}
+
+/// Writes the lines on the pattern, from whose file so many duplicates were dropped.
+fn write_pattern<W: Write>(info: &Info, duplicates: usize, out: &mut W) -> io::Result<()>
+    ensures { OnOk result (Appends (W.contents out.old) (W.contents out.new) (pattern_lines info.now duplicates)) }
+{
+    let symmetric = answer_word(info.symmetry);
+    let edges = info.nz_a_plus_at / 2;
+    write_labelled("rows", &info.n, out)?;
+    write_labelled("entries", &info.nz, out)?;
+    write_labelled("duplicates dropped", &duplicates, out)?;
+    write_labelled("symmetric pattern", &symmetric, out)?;
+    write_labelled("entries on the diagonal", &info.nz_diag, out)?;
+    write_labelled("edges", &edges, out)?;
+    Ok(())
+}
+
+/// Writes the line of the mean degree, with two places.
+fn write_mean<W: Write>(mean: u128, out: &mut W) -> io::Result<()>
+    ensures { OnOk result (Appends (W.contents out.old) (W.contents out.new) (mean_line mean)) }
+{
+    let whole = mean / 100;
+    let tenths = mean / 10 % 10;
+    let hundredths = mean % 10;
+    let label = "mean degree";
+    writeln!(out, "    {label:<52}{whole}.{tenths}{hundredths}")?;
+    Ok(())
+}
+
+/// Writes the lines on the degrees.
+fn write_degrees<W: Write>(facts: &Facts, out: &mut W) -> io::Result<()>
+    ensures { OnOk result (Appends (W.contents out.old) (W.contents out.new) (degree_lines facts.now)) }
+{
+    write_labelled("greatest degree", &facts.degrees.greatest, out)?;
+    write_mean(mean_degree(facts), out)?;
+    write_labelled("rows of degree 0", &facts.degrees.none, out)?;
+    write_labelled("dense threshold", &facts.threshold, out)?;
+    write_labelled("rows above the threshold", &facts.degrees.above, out)?;
+    Ok(())
+}
+
+/// Writes what a matrix is, a label and a value a line.
+///
+/// # Errors
+///
+/// The writer's, of the first write that fails. What was written before stays written.
+pub fn write_facts<W: Write>(facts: &Facts, out: &mut W) -> io::Result<()>
+    ensures { OnOk result (Appends (W.contents out.old) (W.contents out.new) (facts_text facts.now)) }
+{
+    write_pattern(&facts.info, facts.duplicates, out)?;
+    write_degrees(facts, out)?;
+    Ok(())
+}

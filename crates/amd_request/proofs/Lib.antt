@@ -1,0 +1,3 @@
+pub mod HeldLemmas
+pub mod RowFaults
+pub mod ListedRows

@@ -1,0 +1,126 @@
+// Why a run ends early, and the exit status of that. Given by the modules of this crate
+// and of `amd_command`, and told by `program` of the latter.
+
+ghost use Rattle.amd_request.specs.Causes.{exit_status};
+ghost use Rattle.std.specs.Prelude.{◌≡◌};
+
+use crate::order_faults::OrderFault;
+use amd_market::faults::{ReadError, ReadFault};
+use amd_types::amd::Status;
+use std::alloc::{AllocError, AllocFailed};
+use std::io;
+use thiserror::Error;
+
+/// Why a run ends early.
+#[derive(Debug, Drop, Error)]
+pub enum Cause {
+    /// The dense row parameter is wrong.
+    #[error("the dense row parameter is no decimal number with up to three places, such as 10 or 2.5")]
+    Dense,
+    /// A file could not be opened.
+    #[error("cannot be opened: {0}")]
+    Open(io::Error),
+    /// A folder is named where a file must be.
+    #[error("is a folder: name a file")]
+    Folder,
+    /// An output is a file that the run reads, or writes besides.
+    #[error("is named twice: an output must be a file of its own")]
+    Twice,
+    /// A text is wrong, or could not be read.
+    #[error("{0}")]
+    Text(ReadError),
+    /// The pattern is no column form.
+    #[error("no column form")]
+    Form,
+    /// A list of rows is no order of them.
+    #[error("no order of the rows: {0}")]
+    Order(OrderFault),
+    /// Memory was refused.
+    #[error("out of memory")]
+    Memory,
+    /// Something could not be written.
+    #[error("cannot be written: {0}")]
+    Write(io::Error),
+    /// The picture could not be drawn or written, though all else was.
+    #[error("the picture cannot be written: {0}")]
+    Picture(io::Error),
+}
+
+impl Cause {
+    /// The exit status: 1 where memory was refused or an output failed, 2 where an argument or an input is wrong, and 3
+    /// where the picture alone failed.
+    pub fn exit_status(&self) -> u8
+        ensures { result ≡ exit_status self.now }
+    {
+        match self {
+            Cause::Dense | Cause::Open(_) | Cause::Folder | Cause::Twice => 2,
+            Cause::Form | Cause::Order(_) => 2,
+            Cause::Text(ReadError::Line { fault, .. }) => {
+                if matches!(fault, ReadFault::OutOfMemory) {
+                    1
+                } else {
+                    2
+                }
+            }
+            Cause::Text(ReadError::Input { .. }) => 2,
+            Cause::Memory | Cause::Write(_) => 1,
+            Cause::Picture(_) => 3,
+        }
+    }
+
+    /// Whether the run ends without a message: what reads its output has gone.
+    pub fn is_quiet(&self) -> bool {
+        match self {
+            Cause::Write(error) => error.kind() == io::ErrorKind::BrokenPipe,
+            _ => false,
+        }
+    }
+
+    /// The cause where it was the picture that failed for this one.
+    pub fn at_picture(self) -> Cause
+        ensures { exit_status result ≡ 3 }
+    {
+        match self {
+            Cause::Write(error) | Cause::Open(error) | Cause::Picture(error) => {
+                Cause::Picture(error)
+            }
+            Cause::Memory => Cause::Picture(io::Error::from(io::ErrorKind::OutOfMemory)),
+            Cause::Folder => Cause::Picture(io::Error::from(io::ErrorKind::IsADirectory)),
+            Cause::Dense | Cause::Twice | Cause::Text(_) | Cause::Form | Cause::Order(_) => {
+                Cause::Picture(io::Error::from(io::ErrorKind::InvalidInput))
+            }
+        }
+    }
+}
+
+impl From<Status> for Cause {
+    fn from(status: Status) -> Cause {
+        match status {
+            Status::OutOfMemory => Cause::Memory,
+            Status::Invalid | Status::OK | Status::OkButJumbled => Cause::Form,
+        }
+    }
+}
+
+impl From<AllocError> for Cause {
+    fn from(_: AllocError) -> Cause {
+        Cause::Memory
+    }
+}
+
+impl<T: Drop> From<AllocFailed<T>> for Cause {
+    fn from(_: AllocFailed<T>) -> Cause {
+        Cause::Memory
+    }
+}
+
+// What a refused buffer, or an output that failed, gives.
+impl From<io::Error> for Cause {
+    fn from(error: io::Error) -> Cause {
+        if error.kind() == io::ErrorKind::OutOfMemory {
+            Cause::Memory
+        } else {
+            Cause::Write(error)
+        }
+    }
+}

@@ -1,0 +1,61 @@
+// What is wrong with rows that are no order of all rows. Called by `program`.
+
+ghost use Rattle.std.specs.Prelude.{◌≡◌, ◌≢◌, ◌<◌, ℕ, false, true, length, slice_index, slice_index_or, IfOk, IfSome, MatchOption};
+ghost use Rattle.amd_request.specs.Orders.{AreSeen, IsBadPlace, IsOrderFault};
+
+use std::alloc::{AllocError, Allocator};
+use thiserror::Error;
+
+/// What is wrong with rows that are no order of all rows; it names a row by its number, from 1 on.
+#[derive(Clone, Copy, Debug, Drop, Error)]
+pub enum OrderFault {
+    /// This row stands there more than once.
+    #[error("row {0} stands there more than once")]
+    Twice(u128),
+    /// This row does not stand there.
+    #[error("row {0} does not stand there")]
+    Missing(u128),
+}
+
+/// The first place of a row that stands before it too, or that has no mark. The rows before that place are marked.
+fn bad_place(rows: &[usize], seen: &mut [bool]) -> Option<usize>
+    requires { (i : ℕ) → slice_index_or seen.old i false ≡ false }
+    ensures size { length seen.new ≡ length seen.old }
+    ensures found { MatchOption result (AreSeen rows.now (length rows.now) seen.new)
+        (IsBadPlace rows.now (length seen.old)) }
+{
+    'rows: for (place, &row) in rows.iter().enumerate() {
+        if row >= seen.len() || seen[row] {
+            return Some(place);
+        }
+        seen[row] = true;
+    }
+    None
+}
+
+/// What is wrong with rows, of `n`, that are no order of them; `None` where nothing is found, or a row is none.
+///
+/// # Errors
+///
+/// Memory was refused.
+pub fn order_fault<A: Allocator>(
+    alloc: A,
+    n: usize,
+    rows: &[usize],
+) -> Result<Option<OrderFault>, AllocError>
+    ensures { IfOk result (λ o. IfSome o (IsOrderFault n rows.now)) }
+{
+    let mut seen = vec![in alloc; false; n]?;
+    if let Some(place) = bad_place(rows, &mut seen) {
+        let row = rows[place];
+        return Ok(if row < n {
+            Some(OrderFault::Twice(row as u128 + 1))
+        } else {
+            None
+        });
+    }
+    match seen.iter().position(|was| !*was) {
+        Some(row) => Ok(Some(OrderFault::Missing(row as u128 + 1))),
+        None => Ok(None),
+    }
+}

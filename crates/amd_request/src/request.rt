@@ -1,0 +1,280 @@
+// The words of the command line, and what they ask for. Called by `program`. No contract says what they ask for; tests
+// do.
+
+use amd_types::amd::Control;
+use clap::{Arg, ArgAction, ArgMatches, Command, Error};
+use std::alloc::{AllocError, Global};
+
+/// The version of the project, and of the kit that it is proved with.
+const VERSION: &str = "1.0.0 (rattle-kit-13f logic dac8208d650f15bf)";
+
+/// The words of a subcommand. Those that it does not know are as where they are not given.
+#[derive(Clone, Copy)]
+pub struct Options<'a> {
+    /// The file with the matrix; `-` is standard input.
+    pub file: &'a str,
+    /// The dense row parameter, as text.
+    pub dense: Option<&'a str>,
+    /// Whether elements are absorbed aggressively.
+    pub aggressive: bool,
+    /// The file with the rows to hold last.
+    pub hold: Option<&'a str>,
+    /// The file to write to; none is standard output.
+    pub out: Option<&'a str>,
+    /// Whether the answer is one object of JSON.
+    pub json: bool,
+    /// Whether the reading of a file is told in percent.
+    pub progress: bool,
+    /// Whether what the factor needs is told for other orders too.
+    pub compare: bool,
+    /// The file with another order.
+    pub with: Option<&'a str>,
+    /// The file for the permuted matrix.
+    pub permuted: Option<&'a str>,
+    /// The file for the elimination tree and its supernodes.
+    pub tree: Option<&'a str>,
+    /// The file for the picture.
+    pub picture: Option<&'a str>,
+    /// Whether the pattern before is that of `A + A'`.
+    pub symmetric: bool,
+    /// The file for the picture of the assembly tree.
+    pub tree_picture: Option<&'a str>,
+}
+
+/// What is asked for.
+#[derive(Clone, Copy)]
+pub enum Request<'a> {
+    /// To order a file.
+    Order(Options<'a>),
+    /// To order a file, and to tell the columns of the exact factor.
+    Analyze(Options<'a>),
+    /// To tell what a file is.
+    Info(Options<'a>),
+}
+
+/// The argument with the file.
+fn file_argument<'a>(alloc: Global) -> Arg<'a> {
+    Arg::new(alloc, "FILE").required(true).help(
+        "A sparse matrix in a file of the Matrix Market, Harwell-Boeing or Rutherford-Boeing; - is standard input",
+    )
+}
+
+/// The option with the dense row parameter.
+fn dense_argument<'a>(alloc: Global) -> Arg<'a> {
+    Arg::new(alloc, "dense")
+        .long("dense")
+        .value_name("T")
+        .allow_hyphen_values(true)
+        .help(
+            "Hold rows with more than max(16, T * sqrt(rows)) edges last; 10 where it is not given",
+        )
+}
+
+/// An option with the name of a file.
+fn path_argument<'a>(alloc: Global, name: &'a str, help: &'a str) -> Arg<'a> {
+    Arg::new(alloc, name)
+        .long(name)
+        .value_name("PATH")
+        .help(help)
+}
+
+/// An option without a value.
+fn flag_argument<'a>(alloc: Global, name: &'a str, help: &'a str) -> Arg<'a> {
+    Arg::new(alloc, name)
+        .long(name)
+        .action(ArgAction::SetTrue)
+        .help(help)
+}
+
+/// The option with another order, beside the one that asks for the figures under it.
+fn with_argument<'a>(alloc: Global, beside: &'a str) -> Result<Arg<'a>, AllocError> {
+    path_argument(
+        alloc,
+        "with",
+        "Tell them under the order of PATH too, one row a line, from 1",
+    )
+    .requires_all(&[beside])
+}
+
+/// A subcommand that reads a matrix, with the arguments that all of them have.
+fn matrix_command<'a>(
+    alloc: Global,
+    name: &'a str,
+    about: &'a str,
+) -> Result<Command<'a>, AllocError> {
+    Command::new(alloc, name)
+        .about(about)
+        .arg(file_argument(alloc))?
+        .arg(dense_argument(alloc))?
+        .arg(flag_argument(alloc, "json", "Write one object of JSON"))?
+        .arg(flag_argument(
+            alloc,
+            "progress",
+            "Tell in percent how much of FILE was read",
+        ))
+}
+
+/// A subcommand that orders the rows of a file, with the arguments that all of them have.
+fn ordering_command<'a>(
+    alloc: Global,
+    name: &'a str,
+    about: &'a str,
+    out: &'a str,
+) -> Result<Command<'a>, AllocError> {
+    let hold = "Hold the rows last whose numbers PATH lists, one a line";
+    let plain = "Do not absorb elements aggressively";
+    matrix_command(alloc, name, about)?
+        .arg(flag_argument(alloc, "no-aggressive", plain))?
+        .arg(path_argument(alloc, "hold", hold))?
+        .arg(path_argument(alloc, "out", out))
+}
+
+/// A subcommand with the options that compare orders.
+fn comparing_command<'a>(
+    alloc: Global,
+    command: Command<'a>,
+    name: &'a str,
+) -> Result<Command<'a>, AllocError> {
+    let help = "Count what the factor needs as the rows stand, and as they are ordered";
+    command
+        .arg(flag_argument(alloc, name, help))?
+        .arg(with_argument(alloc, name)?)
+}
+
+/// A subcommand with the options of what is drawn.
+fn drawing_command<'a>(alloc: Global, command: Command<'a>) -> Result<Command<'a>, AllocError> {
+    let picture = "Draw the pattern before and after to PATH, as SVG";
+    let symmetric = "Draw the pattern of A + A' before, and not that of A";
+    let tree = "Draw the assembly tree to PATH, as SVG";
+    command
+        .arg(path_argument(alloc, "picture", picture))?
+        .arg(flag_argument(alloc, "symmetric", symmetric))?
+        .arg(path_argument(alloc, "tree-picture", tree))
+}
+
+/// The subcommand `order`.
+fn order_command<'a>(alloc: Global) -> Result<Command<'a>, AllocError> {
+    let command = ordering_command(
+        alloc,
+        "order",
+        "Order the rows and write the permutation, one row a line, counted from 1",
+        "Write the permutation to PATH and not to standard output",
+    )?;
+    let permuted = "Write the matrix in the new order to PATH, as a pattern";
+    let tree =
+        "Write the elimination tree to PATH: the parent of each column, 0 for a root; and then the supernodes";
+    let command = command
+        .arg(path_argument(alloc, "permuted", permuted))?
+        .arg(path_argument(alloc, "tree", tree))?;
+    drawing_command(alloc, comparing_command(alloc, command, "compare")?)
+}
+
+/// The subcommand `analyze`.
+fn analyze_command<'a>(alloc: Global) -> Result<Command<'a>, AllocError> {
+    ordering_command(
+        alloc,
+        "analyze",
+        "Order the rows and write the factor's columns: row, parent's row (0: none), entries below the diagonal",
+        "Write the columns to PATH and not to standard output",
+    )
+}
+
+/// The subcommand `info`.
+fn info_command<'a>(alloc: Global) -> Result<Command<'a>, AllocError> {
+    let command = matrix_command(alloc, "info", "Tell what the matrix is")?;
+    comparing_command(alloc, command, "exact")
+}
+
+/// A command with one more subcommand.
+fn with_subcommand<'a>(
+    command: Command<'a>,
+    subcommand: Result<Command<'a>, AllocError>,
+) -> Result<Command<'a>, AllocError> {
+    command.subcommand(subcommand?)
+}
+
+/// The whole command.
+fn whole_command<'a>(alloc: Global) -> Result<Command<'a>, AllocError> {
+    let command = Command::new(alloc, "rimopaku")
+        .version(VERSION)
+        .about("Approximate minimum degree orderings of sparse matrices")
+        .subcommand_required(true)
+        .arg_required_else_help(true);
+    let command = with_subcommand(command, order_command(alloc))?;
+    let command = with_subcommand(command, analyze_command(alloc))?;
+    with_subcommand(command, info_command(alloc))
+}
+
+/// The words of a subcommand.
+fn options_of<'a>(matches: &ArgMatches<'a>) -> Options<'a> {
+    Options {
+        file: matches.get_str("FILE").unwrap_or("-"),
+        dense: matches.get_str("dense"),
+        aggressive: !matches.get_flag("no-aggressive"),
+        hold: matches.get_str("hold"),
+        out: matches.get_str("out"),
+        json: matches.get_flag("json"),
+        progress: matches.get_flag("progress"),
+        compare: matches.get_flag("compare") || matches.get_flag("exact"),
+        with: matches.get_str("with"),
+        permuted: matches.get_str("permuted"),
+        tree: matches.get_str("tree"),
+        picture: matches.get_str("picture"),
+        symmetric: matches.get_flag("symmetric"),
+        tree_picture: matches.get_str("tree-picture"),
+    }
+}
+
+/// What the words of a command line ask for, the first of which is the name of the program.
+///
+/// # Errors
+///
+/// An error with the text to show: for words that are wrong, and for those that ask for help or the version.
+pub fn request_of<'a>(alloc: Global, words: &'a [String]) -> Result<Request<'a>, Error> {
+    let matches = whole_command(alloc)?.try_get_matches_from(words)?;
+    match matches.subcommand() {
+        Some(("order", found)) => Ok(Request::Order(options_of(found))),
+        Some(("analyze", found)) => Ok(Request::Analyze(options_of(found))),
+        Some((_, found)) => Ok(Request::Info(options_of(found))),
+        None => Ok(Request::Info(options_of(&matches))),
+    }
+}
+
+/// The thousandths that the places behind the point spell: none, or up to three digits.
+fn fraction_of(places: &str) -> Option<i32> {
+    if !places.bytes().all(|byte| byte.is_ascii_digit()) {
+        return None;
+    }
+    let unit = match places.len() {
+        0 => return Some(0),
+        1 => 100,
+        2 => 10,
+        3 => 1,
+        _ => return None,
+    };
+    places.parse::<i32>().ok()?.checked_mul(unit)
+}
+
+/// The thousandths that a decimal number with up to three places spells, where 32 bits hold them.
+pub fn thousandths_of(text: &str) -> Option<i32> {
+    let (whole, places) = text.split_once('.').unwrap_or((text, ""));
+    let size = whole.parse::<i32>().ok()?.checked_mul(1000)?;
+    let rest = fraction_of(places)?;
+    if text.starts_with('-') {
+        size.checked_sub(rest)
+    } else {
+        size.checked_add(rest)
+    }
+}
+
+impl<'a> Options<'a> {
+    /// What the words choose, where the dense row parameter is a decimal number with up to three places.
+    pub fn control(&self) -> Option<Control> {
+        let mut control = Control::default();
+        control.aggressive = self.aggressive;
+        if let Some(text) = self.dense {
+            control.dense = thousandths_of(text)?;
+        }
+        Some(control)
+    }
+}
