@@ -1,5 +1,5 @@
 // The degrees of the rows of a matrix, and the figures of its pattern: those of the pattern of A + A' (Amestoy, Davis
-// and Duff 2004). Called by `order`, and by `facts` of the crate `amd_command`.
+// and Duff 2004). Called by `order`, and by `facts` of the crate `amd_report`.
 
 ghost use Rattle.std.specs.Prelude.{◌≡◌, ◌<◌, ◌^◌, map, length, slice_index, slice_set, unsigned_abs, IfOk, IfErr};
 ghost use Rattle.std.specs.Prelude.{◌≤◌, OnOk, OnErr, SomeIff, pos, replicate};

@@ -1,6 +1,6 @@
 // A reader of the lines of a text, which counts those that it read. A line is looked at where it stands in the block of
 // bytes that was read in one go. Called by the readers of formats: `amd_cases`, `amd_market`, and through the second
-// the lists of rows of `amd_command`.
+// the lists of rows of `amd_request`.
 
 ghost use Rattle.std.specs.Prelude.{◌≡◌, ◌≢◌, ◌≤◌, ◌<◌, All, IfOk, IfErr, IfSome, IsTrue, length, take, true};
 ghost use Rattle.std.specs.Io.KnownBytes.{IsAtEnd};

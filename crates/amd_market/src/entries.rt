@@ -1,4 +1,4 @@
-// The line of the size, and the lines of the entries. Called by `reader`, and by `held` of the crate `amd_command`.
+// The line of the size, and the lines of the entries. Called by `reader`, and by `held` of the crate `amd_request`.
 
 ghost use Rattle.std.specs.Prelude.{◌≡◌, ◌≢◌, ◌∷◌, [], ℕ, List, pos, IsTrue, ◌↔◌, IfErr, IfSome, MatchOption, MatchResult};
 ghost use Rattle.std.specs.Float.Parse.{is_float_text};

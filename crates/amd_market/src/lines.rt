@@ -1,5 +1,5 @@
 // The lines of a matrix file: how long they may be, which of them are notes, and the error that names one. Called by
-// `reader`, `dense` and `boeing`, and by the lists of rows of the crate `amd_command`. The reader of lines is that of
+// `reader`, `dense` and `boeing`, and by the lists of rows of the crate `amd_request`. The reader of lines is that of
 // the crate `amd_lines`; no more is read of a line that is too long than a block.
 
 ghost use Rattle.std.specs.Prelude.{◌≡◌, IfOk, IfErr};
