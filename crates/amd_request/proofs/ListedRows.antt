@@ -6,8 +6,7 @@ use Rattle.amd_lines.proofs.LineLemmas.{end-append}
 use Rattle.amd_lines.specs.Lines.{TakesLines, TakesTelling, TakesNotes, telling, rest_of, percent}
 use Rattle.amd_lines.proofs.LineLemmas.{takes-append, takes-none, telling-both}
 use Rattle.amd_lines.specs.declared.lines.LineReader.{LineReader}
-use Rattle.amd_request.specs.Comparisons.{ListsRows}
-use Rattle.amd_request.specs.Held.{SpellsRow, SpellsRows}
+use Rattle.amd_request.specs.Held.{ListsRows, SpellsRow, SpellsRows}
 use Rattle.amd_request.proofs.HeldLemmas.{spells-more}
 
 -- lines were read whose telling ones are the rows
