@@ -7,11 +7,11 @@ use Rattle.std.proofs.lemmas.List.{take_more, drop-drop}
 use Rattle.std.proofs.lemmas.List.Sums.{prefix_len_is}
 use Rattle.std.specs.Char.{is_ascii_whitespace}
 use Rattle.std.specs.Float.Parse.{completes_number, float_scan_step, is_float_text, without_sign}
-use Rattle.std.specs.List.{position, position_or_len}
+use Rattle.std.specs.List.{position_or_len}
 use Rattle.std.specs.Char.{is_ascii_digit}
 use Rattle.std.specs.Int.{IsInRange}
-use Rattle.amd_lines.specs.Words.{words, Scanned, HasDigits}
-use Rattle.amd_lines.proofs.NumberLemmas.{word_off}
+use Rattle.amd_lines.specs.Words.{words, Scanned, HasDigits, AreBlanks, StaysInLine}
+use Rattle.amd_lines.proofs.FrontLemmas.{word_off, word_stays}
 
 pub scanned_none : (text : List ℕ) → Scanned text 0 0
 scanned_none text = record { within = omega arith; parted = λ i h. absurd (omega arith); reads = λ tail. refl }
@@ -124,18 +124,22 @@ float_word (x ∷ xs) (suc e) false is some ends float =
     let none : 0 + suc e ≡ suc e = omega arith in
     rw none (ends, float_from (x ∷ take e xs) (rw is float))
 
-pub float_off : (line text body rest : List ℕ) (i d e : ℕ) → position (λ b. not (is_ascii_whitespace b)) line ≡ Some i → text ≡ drop i line →
+pub float_off : (line text body rest : List ℕ) (i d e : ℕ) → AreBlanks line i → text ≡ drop i line →
     d ≡ cond (sign text) 1 0 → body ≡ drop d text → rest ≡ drop e body → 0 < e → position_or_len is_ascii_whitespace body ≡ e →
-    completes_number 0 (take e body) ≡ true → (w : List ℕ) × (words line ≡ w ∷ words rest) × (is_float_text w ≡ true)
-float_off line text body rest i d e at is sign_is body_is rest_is some ends float =
+    completes_number 0 (take e body) ≡ true →
+    StaysInLine line rest × ((w : List ℕ) × (words line ≡ w ∷ words rest) × (is_float_text w ≡ true))
+float_off line text body rest i d e blanks is sign_is body_is rest_is some ends float =
     let behind : body ≡ drop (cond (sign text) 1 0) text = body_is ∙ ap (λ z. drop z text) sign_is in
     let word = float_word text e (sign text) refl some (ap (position_or_len is_ascii_whitespace) (sym behind) ∙ ends)
     (ap (λ z. completes_number 0 (take e z)) (sym behind) ∙ float) in
     let k : ℕ = cond (sign text) 1 0 + e in
     let left : rest ≡ drop k text = rest_is ∙ ap (drop e) behind ∙ after (cond (sign text) 1 0) in (
-      take k text,
-      word_off line text i k at is (omega (arith, some)) word.0 ∙ ap (λ z. take k text ∷ words z) (sym left),
-      word.1,
+      word_stays line text rest i k blanks is left word.0,
+      (
+        take k text,
+        word_off line text i k blanks is (omega (arith, some)) word.0 ∙ ap (λ z. take k text ∷ words z) (sym left),
+        word.1,
+      ),
     )
   where
     after : (d : ℕ) → drop e (drop d text) ≡ drop (d + e) text

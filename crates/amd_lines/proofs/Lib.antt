@@ -2,5 +2,6 @@ pub mod WordLemmas
 pub mod WrittenLists
 pub mod BlockLemmas
 pub mod LineLemmas
+pub mod FrontLemmas
 pub mod NumberLemmas
 pub mod FloatLemmas

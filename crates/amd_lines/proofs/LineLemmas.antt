@@ -4,18 +4,18 @@ use Rattle.std.proofs.Common.{ap, ◌∙◌, subst}
 use Rattle.std.proofs.Common.{append-nil, append_assoc, arith, length, length-append, get_or, take, drop, zero, suc}
 use Rattle.std.proofs.Common.{◌-◌, ◌⊎◌, inl, inr, eqb, length-drop, length-take-le}
 use Rattle.std.proofs.lemmas.Bool.{eq-eqb, eqb-true}
-use Rattle.std.specs.Prelude.{All, IfSome}
+use Rattle.std.specs.Prelude.{All, IfSome, min}
 use Rattle.std.specs.Io.BufRead.{take_through, drop_through}
 use Rattle.std.specs.Io.KnownBytes.{IsAtEnd, prepend_known}
 use Rattle.std.proofs.lemmas.Bool.{cases_lt}
-use Rattle.std.proofs.lemmas.List.{take_all, drop_all, get_or-drop}
+use Rattle.std.proofs.lemmas.List.{take_all, drop_all, get_or-drop, get_or-take, length-take, take-take}
 use Rattle.std.proofs.Math.ListN.{get_or-append}
 use Rattle.memchr.specs.Find.{Passes, Nowhere, NoneBefore, is_byte}
 use Rattle.std.proofs.lemmas.List.Elements.{filter-append}
-use Rattle.amd_lines.specs.Words.{words}
+use Rattle.amd_lines.specs.Words.{words, EndsAt}
 use Rattle.amd_lines.specs.Lines.{BeginsWith, TookLine, line_number, one_line_more}
 use Rattle.amd_lines.specs.Lines.{TakesLine, TakesLines, TakesTelling, TakesNotes, FailsAt, is_note}
-use Rattle.amd_lines.specs.Lines.{tells, telling, rest_of, line_of, EndsLine, StandsNext, HasNoFeed, KeepsRest}
+use Rattle.amd_lines.specs.Lines.{tells, telling, rest_of, line_of, EndsLine, HasNoFeed, KeepsRest}
 use Rattle.amd_lines.specs.Blocks.{held_of}
 use Rattle.amd_lines.proofs.BlockLemmas.{line-held, line-last}
 use Rattle.amd_lines.specs.declared.lines.LineReader.{LineReader}
@@ -227,18 +227,27 @@ ends-here remaining a k none here = record {
         let both = line-held (held_of a.block) xs k none.high (λ j l e. none.before j (omega arith) l (eq-eqb _ _ e)) (eqb-true _ _ here) in
         (both.0, ap Some (sym both.1))
 
--- the same, where it is not too long
-pub stands-here : {R Z : Type 0} (remaining : R → Option (List ℕ)) (a : LineReader R Z) (k : ℕ) (line : List ℕ) →
-    NoneBefore (Passes (is_byte 10) (held_of a.block)) 0 (length (held_of a.block)) k →
-    Passes (is_byte 10) (held_of a.block) k → k < a.longest → line ≡ take (k + 1) (held_of a.block) → StandsNext remaining a line
-stands-here remaining a k line none here short is =
-    let ends = ends-here remaining a k none here in
-    let within = ends.within in
-    let size : length line ≡ k + 1 = ap length is ∙ length-take-le (k + 1) (held_of a.block) within in record {
-      ends = subst (EndsLine remaining a) (sym size) ends;
-      is = is ∙ ap (λ n. take n (held_of a.block)) (sym size);
-      short = omega (arith, size, short);
-    }
+-- the same of the first line feed of a front of the bytes that are held
+pub ends-ahead : {R Z : Type 0} (remaining : R → Option (List ℕ)) (a : LineReader R Z) (most k : ℕ) →
+    EndsAt (take most (held_of a.block)) k → EndsLine remaining a (k + 1) × (take (k + 1) (held_of a.block) ≡ take (k + 1) (take most (held_of a.block)))
+ends-ahead remaining a most k h =
+    let held = held_of a.block in
+    let size = length-take most held in
+    let within = h.within in
+    let short : k < most = omega (arith, size, within) in
+    let here : get_or held k 0 ≡ 10 = sym (get_or-take most held k 0 short) ∙ h.feed in
+    let none : Nowhere (Passes (is_byte 10) held) 0 k
+    = λ j l m e. h.none j m (get_or-take most held j 0 (omega (arith, m, short)) ∙ eqb-true _ _ e) in (
+      ends-here remaining a k (record { low = omega arith; high = omega (arith, size, within); before = none }) (eq-eqb _ _ here),
+      sym (take-take (k + 1) most held (omega (arith, short))),
+    )
+
+-- no more is taken than there is
+pub take-least : (most n : ℕ) (xs : List ℕ) → n ≡ min (length xs) most → take n xs ≡ take most xs
+take-least most n xs is = elim (cases_lt most (length xs)) [
+  | inl x ↦ ap (λ z. take z xs) (omega (arith, is, x))
+  | inr x ↦ take_all n xs (omega (arith, is, x)) ∙ sym (take_all most xs x)
+]
 
 -- bytes without a line feed at the end of the input are the last line
 pub ends-all : {R Z : Type 0} (remaining : R → Option (List ℕ)) (a : LineReader R Z) (k : ℕ) → k ≡ length (held_of a.block) → 0 < k →

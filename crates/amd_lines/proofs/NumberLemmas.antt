@@ -8,10 +8,9 @@ use Rattle.std.proofs.lemmas.List.Sums.{prefix_len_is}
 use Rattle.std.proofs.lemmas.Str.Parse.{numerals_by_value, tells_by_index, without_leading_plus_none}
 use Rattle.std.specs.Char.{is_ascii_whitespace, digit_value}
 use Rattle.std.specs.Int.{IsInRange}
-use Rattle.std.specs.List.{position, position_or_len}
+use Rattle.std.specs.List.{position_or_len}
 use Rattle.std.specs.Str.Parse.{digits_value, digits_value_after, IsNumeral, AllDigits, without_leading_sign, signed_digits_value}
-use Rattle.amd_lines.specs.Words.{words, SpellsNumber, LeadsNumber}
-use Rattle.amd_lines.proofs.WordLemmas.{parts-skip, parts-take, place-is}
+use Rattle.amd_lines.specs.Words.{SpellsNumber, LeadsNumber}
 
 -- a digit is worth its place behind '0', and is no white space
 digit_is : (c : ℕ) → IsInRange 48 57 c → digit_value c ≡ c - 48
@@ -89,11 +88,3 @@ number_ends text k number some few here ends h =
           (λ i l. subst (IsInRange 48 57) (sym (get_or-take k text i 0 (omega (arith, size, l)))) (h.digits i (omega (arith, size, l))))
           h.value (omega (arith, small)),
     )
-
--- the words of a line whose first word begins at a place, and ends so many bytes behind it
-pub word_off : (line text : List ℕ) (i k : ℕ) → position (λ b. not (is_ascii_whitespace b)) line ≡ Some i → text ≡ drop i line → 0 < k →
-    position_or_len is_ascii_whitespace text ≡ k → words line ≡ take k text ∷ words (drop k text)
-word_off line text i k at is some ends =
-    let begin : words text ≡ words line = rw is (subst (λ n. words (drop n line) ≡ words line)
-    (place-is (λ b. not (is_ascii_whitespace b)) line i at) (parts-skip is_ascii_whitespace line)) in
-    sym begin ∙ rw (sym ends) (parts-take is_ascii_whitespace text (rw ends some))

@@ -1,5 +1,5 @@
 -- The words of a line, taken off its front one by one.
-use Rattle.std.proofs.Common.{◌≡◌, ◌<◌, ◌+◌, ℕ, suc, Bool, true, false, List, [], ◌∷◌, length, take, drop, get_or, not, cond, ltb, refl}
+use Rattle.std.proofs.Common.{◌≡◌, ◌<◌, ◌≤◌, ◌+◌, ℕ, zero, suc, Bool, true, false, List, [], ◌∷◌, ◌++◌, append-nil, length, take, drop, get_or, not, cond, ltb, refl}
 use Rattle.std.proofs.Common.{sym, ap, ◌∙◌, subst, length-drop, drop-cons, arith, Option, Some, None}
 use Rattle.std.specs.Prelude.{filter, unwrap_or}
 use Rattle.std.proofs.lemmas.Bool.{lt-ltb, ltb-false}
@@ -7,7 +7,8 @@ use Rattle.std.proofs.lemmas.List.{drop_all}
 use Rattle.std.proofs.lemmas.List.Sums.{prefix_len-le-length}
 use Rattle.std.proofs.lemmas.List.Folds.{length-prefix_len}
 use Rattle.std.proofs.lemmas.List.Quantifiers.{position-Some}
-use Rattle.std.specs.List.{slice_split, position, position_or_len}
+use Rattle.std.proofs.lemmas.List.Elements.{filter-append}
+use Rattle.std.specs.List.{slice_split, onto_first, position, position_or_len}
 use Rattle.amd_lines.specs.Words.{has_bytes}
 
 -- the parts of a list between elements that pass, but for empty ones
@@ -26,6 +27,50 @@ parts-skip p (x ∷ xs) = at (parts-skip p xs) (p x) refl
         parts p (drop (position_or_len (λ y. not (p y)) (x ∷ xs)) (x ∷ xs)) ≡ parts p (x ∷ xs)
     at h true e = rw (e, one-plus) h
     at h false e = rw (e, e) refl
+
+-- as many elements of the front as pass, one by one
+pub parts-blank : (p : ℕ → Bool) (xs : List ℕ) (i : ℕ) → i ≤ length xs → ((j : ℕ) → j < i → p (get_or xs j 0) ≡ true) →
+    parts p (drop i xs) ≡ parts p xs
+parts-blank p xs zero within blank = refl
+parts-blank p [] (suc i) within blank = absurd (omega (arith, within))
+parts-blank p (x ∷ xs) (suc i) within blank =
+    rw (blank 0 (omega arith)) (parts-blank p xs i (omega (arith, within)) (λ j l. blank (suc j) (omega (arith, l))))
+
+-- a list cut behind an element that passes
+onto-append : (x : ℕ) (t s : List (List ℕ)) → 0 < length t → onto_first x (t ++ s) ≡ onto_first x t ++ s
+onto-append x [] s h = absurd (omega (arith, h))
+onto-append x (w ∷ t) s h = refl
+
+onto-some : (x : ℕ) (t : List (List ℕ)) → 0 < length (onto_first x t)
+onto-some x [] = omega arith
+onto-some x (w ∷ t) = omega arith
+
+abbrev Cut : (ℕ → Bool) → List ℕ → ℕ → Type 0
+Cut p xs k = (t : List (List ℕ)) × (slice_split p (take (suc k) xs) ≡ t ++ [] ∷ [])
+    × (slice_split p xs ≡ t ++ slice_split p (drop (suc k) xs)) × (0 < length t)
+
+cut : (p : ℕ → Bool) (xs : List ℕ) (k : ℕ) → k < length xs → p (get_or xs k 0) ≡ true → Cut p xs k
+cut p [] k within e = absurd (omega (arith, within))
+cut p (x ∷ xs) zero within e = ([] ∷ [], rw e refl, rw e refl, omega arith)
+cut p (x ∷ xs) (suc k) within e = at (cut p xs k (omega (arith, within)) e) (p x) refl
+  where
+    at : Cut p xs k → (b : Bool) → p x ≡ b → Cut p (x ∷ xs) (suc k)
+    at r true is = ([] ∷ r.0, rw is (ap (λ z. [] ∷ z) r.1), rw is (ap (λ z. [] ∷ z) r.2), omega arith)
+    at r false is = (
+      onto_first x r.0,
+      rw is (ap (onto_first x) r.1 ∙ onto-append x r.0 ([] ∷ []) r.3),
+      rw is (ap (onto_first x) r.2 ∙ onto-append x r.0 (slice_split p (drop (suc k) xs)) r.3),
+      onto-some x r.0,
+    )
+
+pub parts-cut : (p : ℕ → Bool) (xs : List ℕ) (k : ℕ) → k < length xs → p (get_or xs k 0) ≡ true →
+    parts p xs ≡ parts p (take (suc k) xs) ++ parts p (drop (suc k) xs)
+parts-cut p xs k within e =
+    let c = cut p xs k within e in
+    let front : parts p (take (suc k) xs) ≡ filter has_bytes c.0
+    = ap (filter has_bytes) c.1 ∙ filter-append has_bytes c.0 ([] ∷ []) ∙ append-nil (filter has_bytes c.0) in
+    ap (filter has_bytes) c.2 ∙ filter-append has_bytes c.0 (slice_split p (drop (suc k) xs))
+    ∙ ap (λ z. z ++ parts p (drop (suc k) xs)) (sym front)
 
 -- the parts of a list from its first one on, which may be empty and ends at the first element that passes
 abbrev Parted : (ℕ → Bool) → List ℕ → Type 0

@@ -74,12 +74,6 @@ pub record EndsLine {R Z : Type 0} (remaining : R → Option (List ℕ)) (old : 
   pub rest : IfSome (rest_of remaining old) (λ bytes.
       prepend_known (drop count (held_of old.block)) (remaining old.input) ≡ Some (drop_through 10 bytes))
 
--- the next line stands whole in the block, and is not too long
-pub record StandsNext {R Z : Type 0} (remaining : R → Option (List ℕ)) (old : LineReader R Z) (line : List ℕ) : Type 0 where
-  pub ends : EndsLine remaining old (length line)
-  pub is : line ≡ take (length line) (held_of old.block)
-  pub short : length line ≤ old.longest
-
 -- no line was read, and the bytes before the reader are the same
 pub record KeepsRest {R Z : Type 0} (remaining : R → Option (List ℕ)) (old new : LineReader R Z) : Type 0 where
   pub counted : new.lines ≡ old.lines

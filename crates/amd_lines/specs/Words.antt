@@ -1,5 +1,5 @@
 -- The words of a line, and the numbers that words spell.
-use Rattle.std.specs.Prelude.{◌≡◌, ◌<◌, ◌≤◌, ◌^◌, ℕ, ℤ, Bool, false, List, [], ◌∷◌, ◌++◌, length, take, slice_index, nat_lt, filter, FitsSigned}
+use Rattle.std.specs.Prelude.{◌≡◌, ◌≢◌, ◌<◌, ◌≤◌, ◌^◌, ℕ, ℤ, Bool, true, false, List, [], ◌∷◌, ◌++◌, length, take, drop, slice_index, nat_lt, filter, FitsSigned}
 use Rattle.std.specs.Int.{w64, IsInRange}
 use Rattle.std.specs.Char.{is_ascii_whitespace}
 use Rattle.std.specs.Float.Parse.{completes_number}
@@ -49,3 +49,22 @@ pub record HasDigits (text : List ℕ) (begin end : ℕ) : Type 0 where
   pub ordered : begin ≤ end
   pub within : end ≤ length text
   pub digits : (i : ℕ) → begin ≤ i → i < end → IsInRange 48 57 (slice_index text i)
+
+-- the first k bytes of a text are white space, and none of them is a line feed
+pub record AreBlanks (text : List ℕ) (k : ℕ) : Type 0 where
+  pub within : k ≤ length text
+  pub blank : (i : ℕ) → i < k → is_ascii_whitespace (slice_index text i) ≡ true
+  pub none : (i : ℕ) → i < k → slice_index text i ≢ 10
+
+-- a text ends another one, and none of the bytes before it there is a line feed
+pub record StaysInLine (text rest : List ℕ) : Type 0 where
+  pub passed : ℕ
+  pub within : passed ≤ length text
+  pub is : rest ≡ drop passed text
+  pub none : (i : ℕ) → i < passed → slice_index text i ≢ 10
+
+-- the first line feed of a text stands at place k
+pub record EndsAt (text : List ℕ) (k : ℕ) : Type 0 where
+  pub within : k < length text
+  pub feed : slice_index text k ≡ 10
+  pub none : (i : ℕ) → i < k → slice_index text i ≢ 10

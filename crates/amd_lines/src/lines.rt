@@ -7,7 +7,7 @@ ghost use Rattle.std.specs.Io.KnownBytes.{IsAtEnd};
 ghost use Rattle.memchr.specs.Find.{IsFirstByte, is_byte};
 ghost use Rattle.amd_lines.specs.Words.{words};
 ghost use Rattle.amd_lines.specs.Blocks.{held_of};
-ghost use Rattle.amd_lines.specs.Lines.{TakesLine, TakesNext, FailsAt, EndsLine, StandsNext, HasNoFeed, is_note};
+ghost use Rattle.amd_lines.specs.Lines.{TakesLine, TakesNext, FailsAt, EndsLine, HasNoFeed, is_note};
 ghost use Rattle.amd_lines.specs.Lines.{one_line_more, lines_read, line_of, rest_of, longest_of};
 
 use crate::blocks::Block;
@@ -149,19 +149,14 @@ impl<R: Read + Drop, A: Allocator> LineReader<R, A> {
         self.pass_line(count)
     }
 
-    /// The next line, where it stands whole in the block and is not too long; it is not passed. `None` says nothing of
-    /// the line.
+    /// The bytes that were read and not passed, as far as a line that begins there may reach.
     #[inline]
-    pub fn next_line(&self) -> Option<&[u8]>
-        ensures { IfSome result (λ line. StandsNext R.remaining self.now line.now) }
+    pub fn ahead(&self) -> &[u8]
+        ensures { result.now ≡ take (longest_of self.now) (held_of self.now.block) }
     {
         let held = self.block.held();
-        let place = memchr(b'\n', held)?;
-        if place >= self.longest {
-            return None;
-        }
-        let (line, _) = held.split_at(place + 1);
-        Some(line)
+        let (front, _) = held.split_at(held.len().min(self.longest));
+        front
     }
 
     /// Passes the next line, which stands whole in the block and has so many bytes.

@@ -5,9 +5,9 @@ ghost use Rattle.std.specs.Prelude.{length, take, slice_index, IfSome};
 ghost use Rattle.std.specs.Char.{is_ascii_whitespace};
 ghost use Rattle.std.specs.Float.Parse.{completes_number, float_scan_step, is_float_text};
 ghost use Rattle.std.specs.List.{position_or_len};
-ghost use Rattle.amd_lines.specs.Words.{words, HasDigits, Scanned};
+ghost use Rattle.amd_lines.specs.Words.{words, HasDigits, Scanned, StaysInLine};
 
-use crate::words::word_start;
+use crate::words::blanks_end;
 
 /// How far a reader of a float has come behind one more byte: 1 in the whole part, 2 behind a point with no digit
 /// before it, 3 in the fraction, 4 behind `e`, 5 behind its sign, 6 in the exponent, 7 where it is no float.
@@ -131,13 +131,14 @@ fn sign_len(text: &[u8]) -> usize
     if first == b'+' || first == b'-' { 1 } else { 0 }
 }
 
-/// What stands behind the first word of a line, where that word is a float in digits and white space follows it. `None`
-/// says nothing of the line: its first word may be `inf`, or the last one.
+/// What stands behind the first word of a text, where that word is a float in digits on the first line and white space
+/// follows it. `None` says nothing of the text: its first word may be `inf`, or the last one.
 #[inline]
 pub fn behind_float(line: &[u8]) -> Option<&[u8]>
-    ensures { IfSome result (λ r. (w : List ℕ) × (words line.now ≡ w ∷ words r.now) × (is_float_text w ≡ true)) }
+    ensures word { IfSome result (λ r. (w : List ℕ) × (words line.now ≡ w ∷ words r.now) × (is_float_text w ≡ true)) }
+    ensures line { IfSome result (λ r. StaysInLine line.now r.now) }
 {
-    let (_, text) = line.split_at(word_start(line)?);
+    let (_, text) = line.split_at(blanks_end(line));
     let (_, body) = text.split_at(sign_len(text));
     let (_, rest) = body.split_at(float_len(body)?);
     Some(rest)

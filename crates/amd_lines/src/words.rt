@@ -2,10 +2,10 @@
 // `amd_market`, and `held` of `amd_request`. Words are parted by ASCII white space, which takes in the line's end; a
 // number is what `parse` of the standard library takes.
 
-ghost use Rattle.std.specs.Prelude.{◌≡◌, ◌<◌, ◌∷◌, ℕ, ℤ, pos, List, [], length, take, not, IfSome, MatchOption};
+ghost use Rattle.std.specs.Prelude.{◌≡◌, ◌<◌, ◌+◌, ◌∷◌, ℕ, ℤ, pos, List, [], length, take, drop, not, IfSome, MatchOption};
 ghost use Rattle.std.specs.List.{position, position_or_len};
 ghost use Rattle.std.specs.Char.{is_ascii_whitespace};
-ghost use Rattle.amd_lines.specs.Words.{words, BeginsWithByte, SpellsNumber};
+ghost use Rattle.amd_lines.specs.Words.{words, BeginsWithByte, SpellsNumber, AreBlanks, StaysInLine, EndsAt};
 
 /// How many bytes are looked at for the digits of a number and the white space behind them.
 const MOST: usize = 19;
@@ -15,6 +15,19 @@ pub(crate) fn word_start(line: &[u8]) -> Option<usize>
     ensures { result ≡ position (λ b. not (is_ascii_whitespace b)) line.now }
 {
     line.iter().position(|b| !b.is_ascii_whitespace())
+}
+
+/// Where the first byte stands that is a line feed or no white space; the end of the text where there is none.
+#[inline]
+pub(crate) fn blanks_end(text: &[u8]) -> usize
+    ensures { AreBlanks text.now result }
+{
+    'bytes: for (place, &byte) in text.iter().enumerate() {
+        if byte == b'\n' || !byte.is_ascii_whitespace() {
+            return place;
+        }
+    }
+    text.len()
 }
 
 /// Where the first white space stands.
@@ -73,14 +86,30 @@ fn leading_number(text: &[u8]) -> Option<(usize, usize)>
     None
 }
 
-/// The number that the first word of a line spells, and what stands behind that word, where the word is at most 18
-/// digits and white space follows it. `None` says nothing of the line: it may have a longer number, or one with a sign.
+/// The number that the first word of a text spells, and what stands behind that word, where the word is at most 18
+/// digits of the first line, and white space follows it. `None` says nothing of the text: it may have a longer number,
+/// or one with a sign.
 #[inline]
 pub fn first_number(line: &[u8]) -> Option<(usize, &[u8])>
-    ensures { IfSome result (λ p. (w : List ℕ) × (words line.now ≡ w ∷ words p.1.now) × SpellsNumber w (pos p.0)) }
+    ensures word { IfSome result (λ p. (w : List ℕ) × (words line.now ≡ w ∷ words p.1.now) × SpellsNumber w (pos p.0)) }
+    ensures line { IfSome result (λ p. StaysInLine line.now p.1.now) }
 {
-    let (_, text) = line.split_at(word_start(line)?);
+    let (_, text) = line.split_at(blanks_end(line));
     let (number, end) = leading_number(text)?;
     let (_, rest) = text.split_at(end);
     Some((number, rest))
+}
+
+/// Where the line feed stands that ends the first line of a text, where no word stands before it. `None` says that a
+/// word does, or that the text has no line feed.
+#[inline]
+pub fn bare_end(text: &[u8]) -> Option<usize>
+    ensures end { IfSome result (EndsAt text.now) }
+    ensures words { IfSome result (λ k. words text.now ≡ words (drop (k + 1) text.now)) }
+{
+    let place = blanks_end(text);
+    if place == text.len() || text[place] != b'\n' {
+        return None;
+    }
+    Some(place)
 }

@@ -1,13 +1,16 @@
 -- The words of a size and of an entry, one by one.
 use Rattle.std.proofs.Common.{◌≡◌, ◌<◌, ℕ, zero, suc, pos, arith, Bool, true, false, List, [], ◌∷◌, ◌++◌, cond, sym, ap}
-use Rattle.std.proofs.Common.{◌∙◌, subst, eqb, refl, ℤ}
+use Rattle.std.proofs.Common.{◌∙◌, ◌+◌, ◌-◌, length, length-append, append_assoc, take, drop, subst, eqb, refl, ℤ}
 use Rattle.std.proofs.lemmas.Bool.{eqb-true}
 use Rattle.amd_lines.specs.Lines.{is_note, percent}
 use Rattle.std.specs.Prelude.{All, flat_map, ◌==◌, ◌&&◌, not}
 use Rattle.std.proofs.lemmas.List.Elements.{All-append}
-use Rattle.amd_lines.specs.Words.{words, SpellsNumber}
-use Rattle.amd_market.specs.Headers.{pairs_of, is_mirrored}
-use Rattle.amd_market.specs.Entries.{SpellsSize, SpellsEntry, SpellsEntries}
+use Rattle.std.proofs.lemmas.List.Folds.{list_all-append}
+use Rattle.amd_lines.specs.Words.{words, SpellsNumber, StaysInLine, EndsAt}
+use Rattle.amd_lines.proofs.FrontLemmas.{stays_both, line_words}
+use Rattle.std.specs.Float.Parse.{is_float_text}
+use Rattle.amd_market.specs.Headers.{pairs_of, is_mirrored, value_words}
+use Rattle.amd_market.specs.Entries.{SpellsSize, SpellsEntry, SpellsEntries, BeginsEntry, BeginsValues}
 use Rattle.amd_market.specs.Arrays.{SpellsShape}
 use Rattle.amd_market.specs.declared.headers.Field.{Field}
 use Rattle.amd_market.specs.declared.headers.Symmetry.{Symmetry}
@@ -105,6 +108,44 @@ number_says (c ∷ cs) behind z h = at (eqb c 37) refl
     at : (b : Bool) → eqb c 37 ≡ b → is_note percent ((c ∷ cs) ∷ behind) ≡ false
     at true e = absurd (not_percent cs z (subst (λ x. SpellsNumber (x ∷ cs) z) (eqb-true c 37 e) h))
     at false e = e
+
+-- no number, and one more
+pub values_none : (text : List ℕ) → BeginsValues 0 text text
+values_none text = record { values = []; parts = refl; are = record { counted = refl; numbers = refl } }
+
+pub values_more : (count : ℕ) (text left rest w : List ℕ) → BeginsValues count text left → words left ≡ w ∷ words rest →
+    is_float_text w ≡ true → BeginsValues (count + 1) text rest
+values_more count text left rest w h are is =
+    let long = length-append h.values (w ∷ []) in
+    let counted = h.are.counted in record {
+      values = h.values ++ w ∷ [];
+      parts = h.parts ∙ ap (λ z. h.values ++ z) are ∙ sym (append_assoc h.values (w ∷ []) (words rest));
+      are = record {
+        counted = omega (arith, long, counted);
+        numbers = list_all-append is_float_text h.values (w ∷ []) ∙ rw (h.are.numbers, is) refl;
+      };
+    }
+
+-- the first line of a text is an entry
+pub entry_ends : (field : Field) (n row column : ℕ) (text behind rest : List ℕ) (place d : ℕ) → BeginsEntry n text row column behind →
+    StaysInLine text behind → BeginsValues (value_words field) behind rest → StaysInLine behind rest → EndsAt rest place →
+    words rest ≡ words (drop (place + 1) rest) → d ≡ length text - length rest + place →
+    EndsAt text d × SpellsEntry field n (take (d + 1) text) (row, column)
+entry_ends field n row column text behind rest place d h stays v rests end none is =
+    let are : words text ≡ (h.first ∷ (h.second ∷ v.values)) ++ words rest
+    = h.parts ∙ ap (λ z. h.first ∷ (h.second ∷ z)) v.parts in
+    let line = line_words text rest (h.first ∷ (h.second ∷ v.values)) place d (stays_both text behind rest stays rests) end is are none in (
+      line.0,
+      record {
+        first = h.first;
+        second = h.second;
+        behind = v.values;
+        parts = line.1;
+        row = h.has_row;
+        column = h.has_column;
+        value = v.are;
+      },
+    )
 
 pub entry_says : (field : Field) (n : ℕ) (line : List ℕ) (e : ℕ × ℕ) → SpellsEntry field n line e → is_note percent (words line) ≡ false
 entry_says field n line e h = rw h.parts (number_says h.first (h.second ∷ h.behind) _ h.row.1)

@@ -1,5 +1,5 @@
 -- The line of the size, and the lines of the entries.
-use Rattle.std.specs.Prelude.{◌≡◌, ◌<◌, ◌+◌, ℕ, pos, true, List, [], ◌∷◌, length}
+use Rattle.std.specs.Prelude.{◌≡◌, ◌<◌, ◌+◌, ℕ, pos, true, List, [], ◌∷◌, ◌++◌, length}
 use Rattle.std.specs.List.{list_all}
 use Rattle.std.specs.Float.Parse.{is_float_text}
 use Rattle.amd_lines.specs.Words.{words, SpellsNumber}
@@ -43,6 +43,12 @@ pub record BeginsEntry (n : ℕ) (line : List ℕ) (row column : ℕ) (rest : Li
   pub parts : words line ≡ first ∷ (second ∷ words rest)
   pub has_row : SpellsIndex first n row
   pub has_column : SpellsIndex second n column
+
+-- a text begins with so many numbers, and has the words of a text behind them
+pub record BeginsValues (count : ℕ) (text rest : List ℕ) : Type 0 where
+  pub values : List (List ℕ)
+  pub parts : words text ≡ values ++ words rest
+  pub are : AreValues count values
 
 -- the lines are the entries, one by one
 abbrev pub SpellsEntries : Field → ℕ → List (List ℕ) → List (ℕ × ℕ) → Type 0

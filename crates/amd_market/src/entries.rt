@@ -1,15 +1,15 @@
 // The line of the size, and the lines of the entries. Called by `reader`, and by `held` of the crate `amd_request`.
 
-ghost use Rattle.std.specs.Prelude.{◌≡◌, ◌≢◌, ◌∷◌, [], ℕ, List, pos, IsTrue, ◌↔◌, IfErr, IfSome, MatchOption, MatchResult};
+ghost use Rattle.std.specs.Prelude.{◌≡◌, ◌≢◌, ◌+◌, ◌∷◌, [], ℕ, take, List, pos, IsTrue, ◌↔◌, IfErr, IfSome, MatchOption, MatchResult};
 ghost use Rattle.std.specs.Float.Parse.{is_float_text};
-ghost use Rattle.amd_lines.specs.Words.{words, SpellsNumber};
-ghost use Rattle.amd_market.specs.Entries.{SpellsSize, SpellsIndex, SpellsEntry, AreValues, BeginsEntry};
+ghost use Rattle.amd_lines.specs.Words.{words, SpellsNumber, StaysInLine, EndsAt};
+ghost use Rattle.amd_market.specs.Entries.{SpellsSize, SpellsIndex, SpellsEntry, AreValues, BeginsEntry, BeginsValues};
 ghost use Rattle.amd_market.specs.Faults.{HasSizeFault, HasRowFault, HasColumnFault, HasValueFault, HasEntryFault};
 
 use crate::faults::ReadFault;
 use crate::headers::Field;
 use amd_lines::values::behind_float;
-use amd_lines::words::{first_number, first_word, number_of};
+use amd_lines::words::{bare_end, first_number, first_word, number_of};
 
 /// How large a matrix is.
 #[derive(Clone, Copy)]
@@ -147,59 +147,61 @@ pub(crate) fn value_fault(text: &[u8], count: usize) -> ReadFault
     }
 }
 
-/// The row or column of `n` that the first word of a line spells, from 0 on, and what stands behind that word. `None`
-/// says nothing of the line.
+/// The row or column of `n` that the first word of a text spells, from 0 on, and what stands behind that word, where it
+/// is on the first line. `None` says nothing of the text.
 #[inline]
-fn plain_index(line: &[u8], n: usize) -> Option<(usize, &[u8])>
-    ensures { IfSome result (λ p. (w : List ℕ) × (words line.now ≡ w ∷ words p.1.now) × SpellsIndex w n p.0) }
+fn plain_index(text: &[u8], n: usize) -> Option<(usize, &[u8])>
+    ensures word { IfSome result (λ p. (w : List ℕ) × (words text.now ≡ w ∷ words p.1.now) × SpellsIndex w n p.0) }
+    ensures line { IfSome result (λ p. StaysInLine text.now p.1.now) }
 {
-    let (number, rest) = first_number(line)?;
+    let (number, rest) = first_number(text)?;
     if number == 0 || number > n {
         return None;
     }
     Some((number - 1, rest))
 }
 
-/// The row and the column, from 0 on, of an entry that is written in digits, and what stands behind them. `None` says
-/// nothing of the line.
+/// The row and the column, from 0 on, of an entry that is written in digits at the front of a text, and what stands
+/// behind them, where they are on the first line. `None` says nothing of the text.
 #[inline]
-fn plain_front(line: &[u8], n: usize) -> Option<(usize, usize, &[u8])>
-    ensures { IfSome result (λ p. BeginsEntry n line.now p.0 p.1 p.2.now) }
+fn plain_front(text: &[u8], n: usize) -> Option<(usize, usize, &[u8])>
+    ensures entry { IfSome result (λ p. BeginsEntry n text.now p.0 p.1 p.2.now) }
+    ensures line { IfSome result (λ p. StaysInLine text.now p.2.now) }
 {
-    let (row, rest) = plain_index(line, n)?;
+    let (row, rest) = plain_index(text, n)?;
     let (column, rest) = plain_index(rest, n)?;
     Some((row, column, rest))
 }
 
-/// Whether a text is one number in digits; a `false` says nothing of the text.
+/// What stands behind so many numbers at the front of a text, where they are in digits on the first line. `None` says
+/// nothing of the text.
 #[inline]
-fn has_plain_value(text: &[u8]) -> bool
-    ensures { IsTrue result → AreValues 1 (words text.now) }
+fn behind_values(text: &[u8], count: usize) -> Option<&[u8]>
+    ensures values { IfSome result (λ r. BeginsValues count text.now r.now) }
+    ensures line { IfSome result (λ r. StaysInLine text.now r.now) }
 {
-    match behind_float(text) {
-        Some(rest) => first_word(rest).is_none(),
-        None => false,
+    let mut left = text;
+    'words: for _done in 0..count {
+        left = behind_float(left)?;
     }
+    Some(left)
 }
 
-/// The row and the column, from 0 on, of the entry that a line spells, where these and a single value are in digits.
-/// `None` says nothing of the line.
+/// The row and the column, from 0 on, of the entry that the first line of a text spells, where these and the value are
+/// in digits, and the place of the line feed that ends this line. `None` says nothing of the text.
 #[inline]
-pub(crate) fn plain_entry(line: &[u8], field: Field, n: usize) -> Option<(usize, usize)>
-    ensures { IfSome result (λ p. SpellsEntry field n line.now (p.0, p.1)) }
+pub(crate) fn plain_entry(text: &[u8], field: Field, n: usize) -> Option<(usize, usize, usize)>
+    ensures ends { IfSome result (λ p. EndsAt text.now p.2) }
+    ensures entry { IfSome result (λ p. SpellsEntry field n (take (p.2 + 1) text.now) (p.0, p.1)) }
 {
-    let (row, column, rest) = plain_front(line, n)?;
-    let count = field.words();
-    let holds = if count == 1 {
-        has_plain_value(rest)
-    } else {
-        has_values(rest, count)
-    };
-    if holds { Some((row, column)) } else { None }
+    let (row, column, behind) = plain_front(text, n)?;
+    let rest = behind_values(behind, field.words())?;
+    let place = bare_end(rest)?;
+    Some((row, column, text.len() - rest.len() + place))
 }
 
-/// The row and the column, from 0 on, of the entry that a line spells in any way, or what is wrong with the line.
-fn any_entry(line: &[u8], field: Field, n: usize) -> Result<(usize, usize), ReadFault>
+/// The row and the column, from 0 on, of the entry that a line spells, or what is wrong with the line.
+pub fn entry_of(line: &[u8], field: Field, n: usize) -> Result<(usize, usize), ReadFault>
     ensures entry { MatchResult result (λ p. SpellsEntry field n line.now (p.0, p.1))
         (λ _. (e : ℕ × ℕ) → SpellsEntry field n line.now e → ⊥) }
     ensures fault { IfErr result (λ f. HasEntryFault field n f line.now) }
@@ -220,17 +222,5 @@ fn any_entry(line: &[u8], field: Field, n: usize) -> Result<(usize, usize), Read
         Ok((row, column))
     } else {
         Err(value_fault(rest, field.words()))
-    }
-}
-
-/// The row and the column, from 0 on, of the entry that a line spells, or what is wrong with the line.
-pub fn entry_of(line: &[u8], field: Field, n: usize) -> Result<(usize, usize), ReadFault>
-    ensures entry { MatchResult result (λ p. SpellsEntry field n line.now (p.0, p.1))
-        (λ _. (e : ℕ × ℕ) → SpellsEntry field n line.now e → ⊥) }
-    ensures fault { IfErr result (λ f. HasEntryFault field n f line.now) }
-{
-    match plain_entry(line, field, n) {
-        Some(entry) => Ok(entry),
-        None => any_entry(line, field, n),
     }
 }

@@ -104,11 +104,9 @@ fn take_plain<R: Read + Drop, A: Allocator>(
         (λ e. TakesTelling percent R.remaining lines.old lines.new (line_of lines.new) ×
         SpellsEntry field n (line_of lines.new) (e.0, e.1)) }
 {
-    let line = lines.next_line()?;
-    let entry = plain_entry(line, field, n)?;
-    let count = line.len();
-    lines.pass_next(count);
-    Some(entry)
+    let (row, column, place) = plain_entry(lines.ahead(), field, n)?;
+    lines.pass_next(place + 1);
+    Some((row, column))
 }
 
 /// Reads the next entry of a matrix with `n` rows and columns.
