@@ -1,6 +1,6 @@
 -- A float at the front of a line, one byte more, and the word that it is.
 use Rattle.std.proofs.Common.{◌≡◌, ◌<◌, ◌≤◌, ◌+◌, ◌-◌, ℕ, zero, suc, Bool, true, false, List, [], ◌∷◌, ◌++◌, length, take, drop}
-use Rattle.std.proofs.Common.{get_or, not, cond, eqb, ◌||◌, refl, sym, ap, ◌∙◌, subst, arith, Some, append_assoc, append-nil}
+use Rattle.std.proofs.Common.{get_or, not, cond, eqb, ◌||◌, refl, sym, ap, ◌∙◌, subst, arith, append_assoc, append-nil}
 use Rattle.std.proofs.Common.{◌⊎◌, inl, inr}
 use Rattle.std.proofs.lemmas.Bool.{eqb-true, or_cases}
 use Rattle.std.proofs.lemmas.List.{take_more, drop-drop}

@@ -1,8 +1,8 @@
 -- Lines that were read one after another.
 use Rattle.std.proofs.Common.{◌≡◌, ◌≢◌, ◌+◌, ◌<◌, ◌≤◌, ℕ, Bool, true, false, Option, Some, None, List, [], ◌∷◌, ◌++◌, cond, refl, sym}
 use Rattle.std.proofs.Common.{ap, ◌∙◌, subst}
-use Rattle.std.proofs.Common.{append-nil, append_assoc, arith, length, length-append, get_or, take, drop, zero, suc}
-use Rattle.std.proofs.Common.{◌-◌, ◌⊎◌, inl, inr, eqb, length-drop, length-take-le}
+use Rattle.std.proofs.Common.{append-nil, arith, length, length-append, get_or, take, drop, zero, suc}
+use Rattle.std.proofs.Common.{◌-◌, ◌⊎◌, inl, inr, eqb, length-drop}
 use Rattle.std.proofs.lemmas.Bool.{eq-eqb, eqb-true}
 use Rattle.std.specs.Prelude.{All, IfSome, min}
 use Rattle.std.specs.Io.BufRead.{take_through, drop_through}

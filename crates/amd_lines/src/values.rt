@@ -106,7 +106,7 @@ fn float_end(text: &[u8], begin: usize, start: u8) -> Option<usize>
 
 /// How many bytes a float takes that stands at the front of a text, without a sign; `None` where there is none, and
 /// where no white space follows it.
-#[inline(never)]
+#[inline(always)]
 fn float_len(text: &[u8]) -> Option<usize>
     ensures some { IfSome result (λ k. 0 < k) }
     ensures ends { IfSome result (λ k. position_or_len is_ascii_whitespace text.now ≡ k) }

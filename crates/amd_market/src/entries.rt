@@ -189,7 +189,7 @@ fn behind_values(text: &[u8], count: usize) -> Option<&[u8]>
 
 /// The row and the column, from 0 on, of the entry that the first line of a text spells, where these and the value are
 /// in digits, and the place of the line feed that ends this line. `None` says nothing of the text.
-#[inline]
+#[inline(always)]
 pub(crate) fn plain_entry(text: &[u8], field: Field, n: usize) -> Option<(usize, usize, usize)>
     ensures ends { IfSome result (λ p. EndsAt text.now p.2) }
     ensures entry { IfSome result (λ p. SpellsEntry field n (take (p.2 + 1) text.now) (p.0, p.1)) }
