@@ -1,6 +1,7 @@
 // The line of the size, and the lines of the entries. Called by `reader`, and by `held` of the crate `amd_request`.
 
-ghost use Rattle.std.specs.Prelude.{◌≡◌, ◌≢◌, ◌+◌, ◌∷◌, [], ℕ, take, List, pos, IsTrue, ◌↔◌, IfErr, IfSome, MatchOption, MatchResult};
+ghost use Rattle.std.specs.Prelude.{◌≡◌, ◌≢◌, ◌+◌, ◌∷◌, [], ℕ, take, List, pos, IsTrue, ◌↔◌};
+ghost use Rattle.std.specs.Prelude.{IfErr, IfSome, MatchOption, MatchResult};
 ghost use Rattle.std.specs.Float.Parse.{is_float_text};
 ghost use Rattle.amd_lines.specs.Words.{words, SpellsNumber, StaysInLine, EndsAt};
 ghost use Rattle.amd_market.specs.Entries.{SpellsSize, SpellsIndex, SpellsEntry, AreValues, BeginsEntry, BeginsValues};
