@@ -229,7 +229,8 @@ ends-here remaining a k none here = record {
 
 -- the same of the first line feed of a front of the bytes that are held
 pub ends-ahead : {R Z : Type 0} (remaining : R → Option (List ℕ)) (a : LineReader R Z) (most k : ℕ) →
-    EndsAt (take most (held_of a.block)) k → EndsLine remaining a (k + 1) × (take (k + 1) (held_of a.block) ≡ take (k + 1) (take most (held_of a.block)))
+    EndsAt (take most (held_of a.block)) k →
+    EndsLine remaining a (k + 1) × (take (k + 1) (held_of a.block) ≡ take (k + 1) (take most (held_of a.block)))
 ends-ahead remaining a most k h =
     let held = held_of a.block in
     let size = length-take most held in

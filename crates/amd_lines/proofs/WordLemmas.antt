@@ -1,5 +1,6 @@
 -- The words of a line, taken off its front one by one.
-use Rattle.std.proofs.Common.{◌≡◌, ◌<◌, ◌≤◌, ◌+◌, ℕ, zero, suc, Bool, true, false, List, [], ◌∷◌, ◌++◌, append-nil, length, take, drop, get_or, not, cond, ltb, refl}
+use Rattle.std.proofs.Common.{◌≡◌, ◌<◌, ◌≤◌, ◌+◌, ℕ, zero, suc, Bool, true, false, List, [], ◌∷◌}
+use Rattle.std.proofs.Common.{◌++◌, append-nil, length, take, drop, get_or, not, cond, ltb, refl}
 use Rattle.std.proofs.Common.{sym, ap, ◌∙◌, subst, length-drop, drop-cons, arith, Option, Some, None}
 use Rattle.std.specs.Prelude.{filter, unwrap_or}
 use Rattle.std.proofs.lemmas.Bool.{lt-ltb, ltb-false}

@@ -1,5 +1,6 @@
 -- The words of a line, and the numbers that words spell.
-use Rattle.std.specs.Prelude.{◌≡◌, ◌≢◌, ◌<◌, ◌≤◌, ◌^◌, ℕ, ℤ, Bool, true, false, List, [], ◌∷◌, ◌++◌, length, take, drop, slice_index, nat_lt, filter, FitsSigned}
+use Rattle.std.specs.Prelude.{◌≡◌, ◌≢◌, ◌<◌, ◌≤◌, ◌^◌, ℕ, ℤ, Bool, true, false, List, [], ◌∷◌, ◌++◌, length}
+use Rattle.std.specs.Prelude.{take, drop, slice_index, nat_lt, filter, FitsSigned}
 use Rattle.std.specs.Int.{w64, IsInRange}
 use Rattle.std.specs.Char.{is_ascii_whitespace}
 use Rattle.std.specs.Float.Parse.{completes_number}

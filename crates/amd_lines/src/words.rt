@@ -2,7 +2,8 @@
 // `amd_market`, and `held` of `amd_request`. Words are parted by ASCII white space, which takes in the line's end; a
 // number is what `parse` of the standard library takes.
 
-ghost use Rattle.std.specs.Prelude.{◌≡◌, ◌<◌, ◌+◌, ◌∷◌, ℕ, ℤ, pos, List, [], length, take, drop, not, IfSome, MatchOption};
+ghost use Rattle.std.specs.Prelude.{◌≡◌, ◌<◌, ◌+◌, ◌∷◌, ℕ, ℤ, pos, List, [], length, take, drop};
+ghost use Rattle.std.specs.Prelude.{not, IfSome, MatchOption};
 ghost use Rattle.std.specs.List.{position, position_or_len};
 ghost use Rattle.std.specs.Char.{is_ascii_whitespace};
 ghost use Rattle.amd_lines.specs.Words.{words, BeginsWithByte, SpellsNumber, AreBlanks, StaysInLine, EndsAt};
