@@ -10,7 +10,8 @@ use Rattle.amd_lines.specs.Words.{words, AreBlanks, StaysInLine, EndsAt}
 use Rattle.amd_lines.proofs.WordLemmas.{parts-take, parts-blank, parts-cut}
 
 -- the words of a text whose first word stands behind blanks, and ends so many bytes behind them
-pub word_off : (line text : List ℕ) (i k : ℕ) → AreBlanks line i → text ≡ drop i line → 0 < k → position_or_len is_ascii_whitespace text ≡ k →
+pub word_off : (line text : List ℕ) (i k : ℕ) → AreBlanks line i → text ≡ drop i line → 0 < k →
+    position_or_len is_ascii_whitespace text ≡ k →
     words line ≡ take k text ∷ words (drop k text)
 word_off line text i k h is some ends =
     let begin : words text ≡ words line = rw is (parts-blank is_ascii_whitespace line i h.within h.blank) in
@@ -52,7 +53,10 @@ pub blanks_more : (text : List ℕ) (k : ℕ) → k < length text → is_ascii_w
     AreBlanks text k → AreBlanks text (k + 1)
 blanks_more text k here blank other h = record {
   within = omega (arith, here);
-  blank = λ i l. elim (cases i k l) [ inl x ↦ h.blank i x | inr e ↦ subst (λ z. is_ascii_whitespace (get_or text z 0) ≡ true) (sym e) blank ];
+  blank = λ i l. elim (cases i k l) [
+    | inl x ↦ h.blank i x
+    | inr e ↦ subst (λ z. is_ascii_whitespace (get_or text z 0) ≡ true) (sym e) blank
+  ];
   none = λ i l. elim (cases i k l) [ inl x ↦ h.none i x | inr e ↦ subst (λ z. get_or text z 0 ≢ 10) (sym e) other ];
 }
   where
